@@ -1,0 +1,3 @@
+pub use Rattle.arrayvec.specs.ArrayVec
+pub mod Word
+pub mod Core

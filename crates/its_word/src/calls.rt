@@ -1,0 +1,84 @@
+use super::word::Word;
+use arrayvec::ArrayVec;
+
+/// An input argument of a call: its value, and the address of its word where it is no immediate.
+#[derive(Clone, Copy, Debug, PartialEq, Eq)]
+pub struct Operand {
+    pub value: Word,
+    pub place: Option<u32>,
+}
+
+impl Default for Operand {
+    fn default() -> Operand {
+        Operand {
+            value: Word::ZERO,
+            place: None,
+        }
+    }
+}
+
+/// A decoded call: its name, 0 or the number 1 to 3 of an error of its decoding, its arguments, the
+/// places of its decode words in the order of reading, and the places of its input and control words.
+#[derive(Debug, PartialEq, Eq, Drop)]
+pub struct Ask {
+    pub name: Word,
+    pub fail: u8,
+    pub inputs: ArrayVec<Operand, 8>,
+    pub outputs: ArrayVec<u32, 8>,
+    pub error: Option<u32>,
+    pub control: Option<Word>,
+    pub decode: ArrayVec<u32, 160>,
+    pub operand: ArrayVec<u32, 16>,
+}
+
+/// Where a job enters the monitor: the PC of the call or of the XCT that began the chain, the
+/// effective address, the channel of `.IOT`, the budget of indirect words that is used, and the
+/// places of the decode words so far.
+#[derive(Debug, PartialEq, Eq, Drop)]
+pub struct Site {
+    pub pc: u32,
+    pub e: u32,
+    pub channel: Option<u8>,
+    pub used: u32,
+    pub decode: ArrayVec<u32, 160>,
+}
+
+/// The registers that a job leaves a call with.
+#[derive(Clone, Copy, Debug, PartialEq, Eq)]
+pub struct Exit {
+    pub pc: u32,
+    pub flags: u32,
+    pub pend1: Word,
+    pub pend2: Word,
+    pub mask1: Word,
+    pub mask2: Word,
+    pub defer1: Word,
+    pub defer2: Word,
+}
+
+/// A step that a call owes after its commit.
+#[derive(Clone, Copy, Debug, PartialEq, Eq)]
+pub enum Owed {
+    Store(u32, Word),
+    GiveBack,
+    Unlink,
+    Link,
+    Free,
+    Leave(Exit),
+}
+
+impl Default for Owed {
+    fn default() -> Owed {
+        Owed::GiveBack
+    }
+}
+
+/// What a tick of a job did: a step of the plain machine (`*`), work that the plain machine does not
+/// see (`.`), a wait (`w`), or nothing, as the slot is empty or its job is stopped (`-`).
+#[derive(Clone, Copy, Debug, PartialEq, Eq)]
+pub enum Pace {
+    Step,
+    Work,
+    Wait,
+    Off,
+}

@@ -1,0 +1,16 @@
+//! The flags of a PC word, as bits of its left half (processor reference manual, "Program control").
+
+/// Overflow.
+pub const OVERFLOW: u32 = 0o400000;
+/// A carry out of bit 0.
+pub const CARRY_0: u32 = 0o200000;
+/// A carry out of bit 1.
+pub const CARRY_1: u32 = 0o100000;
+/// Floating overflow.
+pub const FLOATING_OVERFLOW: u32 = 0o040000;
+/// First part done: the byte pointer of ILDB or IDPB is incremented already.
+pub const BYTE_HALF: u32 = 0o020000;
+/// User mode; on in each PC word that is saved.
+pub const USER: u32 = 0o010000;
+/// No divide.
+pub const NO_DIVIDE: u32 = 0o000040;

@@ -1,0 +1,21 @@
+//! Words of 36 bits, the text of numbers and names, the records that the other crates share, and
+//! the definitions of the instruction tables (in `specs/`).
+#![tactic(auto)]
+
+mod calls;
+mod core;
+mod flags;
+mod jobs;
+mod result2;
+mod session;
+mod show;
+mod word;
+
+pub use calls::{Ask, Exit, Operand, Owed, Pace, Site};
+pub use core::{Address, Fault, NoAccess};
+pub use flags::{BYTE_HALF, CARRY_0, CARRY_1, FLOATING_OVERFLOW, NO_DIVIDE, OVERFLOW, USER};
+pub use jobs::{Channel, Job};
+pub use result2::Result2;
+pub use session::{Bad, Event, Place, Reason, Refusal};
+pub use show::{FileShow, JobShow, Peek, PeekState};
+pub use word::Word;

@@ -1,0 +1,130 @@
+use super::word::Word;
+use arrayvec::ArrayVec;
+
+/// A line of a session, read. Addresses `a` are below 2^18 (but for an empty end), slots `s` are
+/// below 64, consoles `c` are below 8; docs/SESSION.md has the numbers of each line.
+#[derive(Debug, PartialEq, Eq, Drop)]
+pub enum Event {
+    Nothing,
+    Load {
+        u: Word,
+        j: Word,
+        console: Option<u8>,
+    },
+    Words {
+        a: u32,
+        words: ArrayVec<Word, 16>,
+    },
+    Go {
+        a: u32,
+    },
+    File {
+        d: Word,
+        x: Word,
+        y: Word,
+    },
+    Append {
+        words: ArrayVec<Word, 16>,
+    },
+    EndFile,
+    Tick {
+        s: u8,
+        n: u32,
+    },
+    TypeIn {
+        c: u8,
+        bytes: ArrayVec<u8, 32>,
+    },
+    Drain {
+        c: u8,
+        n: u32,
+    },
+    Clock {
+        n: u64,
+    },
+    Int {
+        s: u8,
+        v: Word,
+        w: Word,
+    },
+    Exam {
+        s: u8,
+        a: u32,
+        n: u32,
+    },
+    State {
+        s: u8,
+    },
+    Deposit {
+        s: u8,
+        a: u32,
+        w: Word,
+    },
+    Stop {
+        s: u8,
+    },
+    Cont {
+        s: u8,
+    },
+    Peek {
+        s: u8,
+    },
+    Dir {
+        d: Word,
+    },
+    Show {
+        d: Word,
+        x: Word,
+        y: Word,
+    },
+    End,
+}
+
+/// Where a line of a session stands: outside any block, after LOAD and before its GO, or after FILE
+/// and before its EOF.
+#[derive(Clone, Copy, Debug, PartialEq, Eq)]
+pub enum Place {
+    Plain,
+    Load,
+    File,
+}
+
+/// Why a line is no event: it has more than 255 bytes, it is no line of the table or none that may
+/// stand at its place, one of its numbers is outside its range, or its console is above 7.
+#[derive(Clone, Copy, Debug, PartialEq, Eq)]
+pub enum Bad {
+    Long,
+    Syntax,
+    Range,
+    NoConsole,
+}
+
+/// Why a session ends early, as its `?` line says it.
+#[derive(Clone, Copy, Debug, PartialEq, Eq)]
+pub enum Reason {
+    Long,
+    Syntax,
+    Range,
+    NoCons,
+    NoJob,
+    NoPage,
+    ReadOnly,
+    NoFile,
+    Exists,
+    Full,
+    Cut,
+    Unbuilt,
+}
+
+/// Why a call of the monitor is refused.
+#[derive(Clone, Copy, Debug, PartialEq, Eq)]
+pub enum Refusal {
+    NoJob,
+    NoConsole,
+    NoPage,
+    ReadOnly,
+    NoFile,
+    Exists,
+    Full,
+    Range,
+}
