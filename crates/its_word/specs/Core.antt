@@ -1,8 +1,10 @@
 -- A job's core: sixteen accumulators, at addresses 0 to 17 (octal), and 256 possible pages of 1024
 -- words (docs/MACHINE.md, "Core"). Addresses are below 2 ^ 18; past that nothing is there.
-use Rattle.std.specs.Prelude.{if◌then◌else◌, ℕ, ◌/◌, ◌%◌, ◌^◌, Bool, true, false, Option, Some, None, List, nat_lt, replicate, slice_get, slice_set, is_some, Result, Ok, Err}
-use Rattle.its_word.specs.declared.core.NoAccess.{NoAccess}
-use Rattle.its_word.specs.declared.core.NoAccess.TheVariants.{Absent, ReadOnly}
+use Rattle.std.specs.Prelude.{if◌then◌else◌, ℕ, ◌/◌, ◌%◌, Bool, true, false, Option, Some, None, List, nat_lt, replicate, sum_by, count_by, slice_get, slice_set, is_some, Result, Ok, Err}
+use Rattle.std.specs.List.{range_with_len}
+use Rattle.its_word.specs.Limits.{slots}
+use Rattle.its_word.specs.declared.access.NoAccess.{NoAccess}
+use Rattle.its_word.specs.declared.access.NoAccess.TheVariants.{Absent, ReadOnly}
 
 -- a page: its words, and whether they may be stored to
 pub record Page : Type 0 where
@@ -68,3 +70,11 @@ putting c a w false None = Err Absent
 
 abbrev pub put : Core → ℕ → ℕ → Result Core NoAccess
 put c a w = putting c a w (can_store c a) (word_at c a)
+
+-- how many pages are present
+unfoldable pub pages_present : Core → ℕ
+pages_present c = count_by is_some c.pages
+
+-- how many pages the cores of all slots have together
+unfoldable pub pages_mapped : (ℕ → Core) → ℕ
+pages_mapped cores = sum_by (λ k. pages_present (cores k)) (range_with_len 0 slots)

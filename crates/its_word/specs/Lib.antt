@@ -1,3 +1,6 @@
 pub use Rattle.arrayvec.specs.ArrayVec
 pub mod Word
+pub mod Text
+pub mod Limits
+pub mod Only
 pub mod Core

@@ -2,19 +2,21 @@
 //! the definitions of the instruction tables (in `specs/`).
 #![tactic(auto)]
 
+mod access;
 mod calls;
-mod core;
 mod flags;
 mod jobs;
+mod limits;
 mod result2;
 mod session;
 mod show;
 mod word;
 
+pub use access::{Address, Fault, NoAccess};
 pub use calls::{Ask, Exit, Operand, Owed, Pace, Site};
-pub use core::{Address, Fault, NoAccess};
 pub use flags::{BYTE_HALF, CARRY_0, CARRY_1, FLOATING_OVERFLOW, NO_DIVIDE, OVERFLOW, USER};
 pub use jobs::{Channel, Job};
+pub use limits::{MAPPED_PAGES, SLOTS};
 pub use result2::Result2;
 pub use session::{Bad, Event, Place, Reason, Refusal};
 pub use show::{FileShow, JobShow, Peek, PeekState};

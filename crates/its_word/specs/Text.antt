@@ -1,0 +1,33 @@
+-- Numbers and names as text (docs/SESSION.md, "Numbers and names"). Characters are their ASCII codes.
+use Rattle.std.specs.Prelude.{ℕ, ◌+◌, ◌-◌, ◌*◌, ◌/◌, ◌%◌, ◌^◌, Bool, ◌&&◌, List, length, map, fold, nat_le}
+use Rattle.std.specs.List.{range_with_len, list_all}
+
+-- the twelve octal digits of a word
+unfoldable pub octal12_of : ℕ → List ℕ
+octal12_of w = map (λ k. 48 + w / 2 ^ (33 - 3 * k) % 8) (range_with_len 0 12)
+
+-- the number that digits of a base are, the code of whose 0 is given
+abbrev pub number_of : ℕ → ℕ → List ℕ → ℕ
+number_of base zero_code codes = fold (λ n c. n * base + (c - zero_code)) 0 codes
+
+abbrev pub is_code : ℕ → ℕ → ℕ → Bool
+is_code low high c = nat_le low c && nat_le c high
+
+-- from one to `most` characters from `low` to `high`
+abbrev pub is_text : ℕ → ℕ → ℕ → List ℕ → Bool
+is_text most low high text = nat_le 1 (length text) && nat_le (length text) most && list_all (is_code low high) text
+
+-- a number is 1 to 12 octal digits
+unfoldable pub is_octal : List ℕ → Bool
+is_octal text = is_text 12 48 55 text
+
+unfoldable pub octal_value : List ℕ → ℕ
+octal_value text = number_of 8 48 text
+
+-- a name is 1 to 6 characters from 41 to 137 (octal)
+unfoldable pub is_name : List ℕ → Bool
+is_name text = is_text 6 33 95 text
+
+-- its SIXBIT word: six bits a character, its code less 40 (octal), from the left, zeros after the end
+unfoldable pub sixbit_of : List ℕ → ℕ
+sixbit_of text = number_of 64 32 text * 2 ^ (6 * (6 - length text))
