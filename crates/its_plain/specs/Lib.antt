@@ -1,3 +1,5 @@
 pub mod Job
 pub mod Machine
 pub mod Unit
+pub mod Interrupt
+pub mod Step

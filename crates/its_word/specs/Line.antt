@@ -16,13 +16,13 @@ pub data Line : Type 0 where
   -- D c and bytes
   Drained : ℕ → List ℕ → Line
   -- E s a and words
-  Words : ℕ → ℕ → List ℕ → Line
+  Examined : ℕ → ℕ → List ℕ → Line
   -- S s and what is shown of the job
-  State : ℕ → JobShow → Line
+  Stated : ℕ → JobShow → Line
   -- P s and how far the job is inside a call
   Peeked : ℕ → Peek → Line
   -- R d n
-  Directory : ℕ → ℕ → Line
+  Listed : ℕ → ℕ → Line
   -- F x y k
   Filed : FileShow → Line
   -- W d x y k
