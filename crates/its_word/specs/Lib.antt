@@ -4,3 +4,4 @@ pub mod Text
 pub mod Limits
 pub mod Only
 pub mod Core
+pub mod Address
