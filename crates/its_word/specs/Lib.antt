@@ -6,3 +6,4 @@ pub mod Limits
 pub mod Only
 pub mod Core
 pub mod Tree
+pub mod Address
