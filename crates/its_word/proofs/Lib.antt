@@ -1,2 +1,4 @@
 mod WordLaws
 pub mod CoreLaws
+pub mod TextLaws
+pub mod WordLaws

@@ -1,7 +1,6 @@
 pub use Rattle.arrayvec.specs.ArrayVec
 pub mod Word
 pub mod Text
-pub mod Line
 pub mod Item
 pub mod Limits
 pub mod Only
