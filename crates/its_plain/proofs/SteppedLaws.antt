@@ -1,17 +1,16 @@
 -- The lines that the monitor writes are a transcript.
-use Rattle.std.specs.Prelude.{◌≡◌, ◌≢◌, ℕ, zero, suc, ◌+◌, Bool, true, false, Option, Some, None, List, [], ◌∷◌, ◌++◌, length, refl}
-use Rattle.std.proofs.Common.{sym, ◌∙◌, ap, arith, subst}
+use Rattle.std.specs.Prelude.{◌≡◌, ◌≢◌, ℕ, zero, suc, ◌+◌, Bool, true, false, Option, Some, None, List, [], ◌∷◌, length, refl}
+use Rattle.std.proofs.Common.{ap}
 use Rattle.its_word.specs.Core.{Core}
 use Rattle.its_word.specs.Item.{Item, Read, Unread, Beyond}
 use Rattle.its_word.specs.declared.jobs.Job.{Job}
-use Rattle.its_word.specs.declared.calls.Pace.{Pace}
 use Rattle.its_plain.specs.Machine.{Whole, Machine, no_machine}
-use Rattle.its_plain.specs.Interrupt.{deliverable, delivered}
+use Rattle.its_plain.specs.Interrupt.{deliverable}
 use Rattle.its_plain.specs.Unit.{Outcome, Changed, Faulted, Called, unit}
 use Rattle.its_plain.specs.Step.{Taken, by_unit, taken_by, taken_unless, taken, step_by, step_of, step}
 use Rattle.its_plain.specs.Operator.{Block, no_block, Operated, Refuses, Does, Ticks, Ends, operate}
-use Rattle.its_plain.specs.Transcript.{IsOff, Dots, Licensed, dots_after, settled, TicksRun, Fate, Goes, Run, Transcript}
-use Rattle.its_plain.specs.Stepped.{Tocked, tocked, tick, paces_of, ticked, Told, told_by, told, stepped}
+use Rattle.its_plain.specs.Transcript.{IsOff, Dots, Licensed, dots_after, settled, TicksRun, Goes, Run, Transcript}
+use Rattle.its_plain.specs.Stepped.{tocked, tick, paces_of, ticked, told_by, told, stepped}
 use Rattle.its_plain.proofs.UnitLaws.{never_called}
 
 -- a job that has no step is stopped

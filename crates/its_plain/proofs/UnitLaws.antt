@@ -1,9 +1,9 @@
 -- Laws of the unit.
-use Rattle.std.specs.Prelude.{◌≡◌, ◌≢◌, ℕ, Option, Some, None}
+use Rattle.std.specs.Prelude.{◌≢◌}
 use Rattle.its_word.specs.Core.{Core, word_at}
 use Rattle.its_word.specs.declared.jobs.Job.{Job}
 use Rattle.its_word.specs.declared.calls.Site.{Site}
-use Rattle.its_plain.specs.Unit.{Row, Did, Faults, Outcome, Called, outcome_of, fetched, unit}
+use Rattle.its_plain.specs.Unit.{Row, Did, Faults, Called, outcome_of, fetched, unit}
 
 row_no_call : (r : Row) (s : Site) → outcome_of r ≢ Called s
 row_no_call (Did c j) s e = cc

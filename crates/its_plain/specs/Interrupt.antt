@@ -1,5 +1,5 @@
 -- Software interrupts and their delivery (docs/MACHINE.md, "Interrupts").
-use Rattle.std.specs.Prelude.{if◌then◌else◌, ◌==◌, ℕ, zero, suc, ◌+◌, ◌-◌, ◌*◌, ◌/◌, ◌%◌, ◌^◌, Bool, true, false, not, ◌&&◌, ◌||◌, Option, Some, None, List, [], ◌∷◌, Result, Ok, Err, nat_le, bit_and, bit_or}
+use Rattle.std.specs.Prelude.{if◌then◌else◌, ◌==◌, ℕ, zero, suc, ◌+◌, ◌-◌, ◌/◌, ◌%◌, ◌^◌, Bool, true, false, not, ◌&&◌, ◌||◌, Option, Some, None, List, [], ◌∷◌, Result, Ok, Err, nat_le, bit_and, bit_or}
 use Rattle.its_word.specs.Word.{left_of, right_of, pair_of, complement_of}
 use Rattle.its_word.specs.Core.{Core, word_at, can_store, store}
 use Rattle.its_word.specs.declared.jobs.Job.{Job}

@@ -1,5 +1,5 @@
 -- A job's registers: the PC word, and the bits of pending word 1 (docs/MACHINE.md, "Interrupts").
-use Rattle.std.specs.Prelude.{ℕ, ◌+◌, ◌^◌, bit_and, bit_or}
+use Rattle.std.specs.Prelude.{ℕ, bit_and, bit_or}
 use Rattle.its_word.specs.Word.{left_of, pair_of}
 use Rattle.its_word.specs.declared.jobs.Job.{Job}
 use Rattle.its_word.specs.declared.access.Fault.{Fault}

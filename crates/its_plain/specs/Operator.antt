@@ -5,7 +5,7 @@ use Rattle.its_word.specs.Limits.{most_pages}
 use Rattle.its_word.specs.Core.{Core, no_core, word_at, can_store, store, with_page, zero_page}
 use Rattle.its_word.specs.Tree.{least_free, fresh_job}
 use Rattle.its_print.specs.Printing.{Line}
-use Rattle.its_print.specs.Printing as lines
+use Rattle.its_print.specs.Printing as printed
 use Rattle.its_word.specs.declared.jobs.Job.{Job}
 use Rattle.its_word.specs.declared.show.JobShow.{JobShow}
 use Rattle.its_word.specs.declared.session.Event.{Event}
@@ -154,15 +154,15 @@ quietly b (Ok m) = Does m [] nobody b
 quietly b (Err r) = Refuses r
 
 abbrev pub by_load : Result (Machine × ℕ) Reason → Operated
-by_load (Ok (m, s)) = Does m (lines.Loaded s ∷ []) (only s) (record { slot = s })
+by_load (Ok (m, s)) = Does m (printed.Loaded s ∷ []) (only s) (record { slot = s })
 by_load (Err r) = Refuses r
 
 abbrev pub by_exam : Machine → Block → ℕ → ℕ → Result (List ℕ) Reason → Operated
-by_exam m b s a (Ok ws) = Does m (lines.Words s a ws ∷ []) (only s) b
+by_exam m b s a (Ok ws) = Does m (printed.Words s a ws ∷ []) (only s) b
 by_exam m b s a (Err r) = Refuses r
 
 abbrev pub by_state : Machine → Block → ℕ → Result JobShow Reason → Operated
-by_state m b s (Ok show) = Does m (lines.State s show ∷ []) (only s) b
+by_state m b s (Ok show) = Does m (printed.State s show ∷ []) (only s) b
 by_state m b s (Err r) = Refuses r
 
 -- what each line comes to; the lines of consoles, files and the clock, and PEEK, are not built

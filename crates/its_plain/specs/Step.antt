@@ -1,5 +1,5 @@
 -- One step of one job: the delivery of an interrupt where one is deliverable, else a unit.
-use Rattle.std.specs.Prelude.{if◌then◌else◌, ◌==◌, ◌≡◌, ℕ, Bool, true, false, Option, Some, None}
+use Rattle.std.specs.Prelude.{if◌then◌else◌, ◌==◌, ℕ, Bool, true, false, Option, Some, None}
 use Rattle.its_word.specs.Core.{Core}
 use Rattle.its_word.specs.declared.jobs.Job.{Job}
 use Rattle.its_plain.specs.Job.{with_pending, bit_of, INF}

@@ -2,7 +2,7 @@
 use Rattle.std.specs.Prelude.{ℕ, zero, suc, ◌+◌, Option, Some, None, List, [], ◌∷◌, ◌++◌}
 use Rattle.its_word.specs.Item.{Item, Read, Unread, Beyond}
 use Rattle.its_print.specs.Printing.{Line, Refused}
-use Rattle.its_print.specs.Printing as lines
+use Rattle.its_print.specs.Printing as printed
 use Rattle.its_word.specs.declared.calls.Pace.{Pace}
 use Rattle.its_word.specs.declared.calls.Pace.TheVariants.{Step, Off}
 use Rattle.its_plain.specs.Machine.{Machine, no_machine}
@@ -42,7 +42,7 @@ telling out t = record { lines = out ++ t.lines; fate = t.fate }
 abbrev pub told_by : ℕ → Machine → Block → Operated → (Machine → Block → Told) → Told
 told_by n m b (Refuses r) next = record { lines = Refused n r ∷ []; fate = Lost }
 told_by n m b (Does m' out touched b') next = telling out (next m' b')
-told_by n m b (Ticks s k) next = telling (lines.Ticks s (paces_of m s k) ∷ []) (next (ticked m s k) b)
+told_by n m b (Ticks s k) next = telling (printed.Ticks s (paces_of m s k) ∷ []) (next (ticked m s k) b)
 told_by n m b Ends next = record { lines = []; fate = Ended }
 
 -- the same, from line number n on

@@ -2,7 +2,7 @@
 use Rattle.std.specs.Prelude.{if◌then◌else◌, ◌≡◌, ◌==◌, ℕ, ◌+◌, ◌<◌, Bool, true, false, ◌||◌, Option, Some, None, List, [], ◌∷◌, ◌++◌, length}
 use Rattle.its_word.specs.Item.{Item, Read, Unread, Beyond}
 use Rattle.its_print.specs.Printing.{Line, Refused}
-use Rattle.its_print.specs.Printing as lines
+use Rattle.its_print.specs.Printing as printed
 use Rattle.its_word.specs.declared.calls.Pace.{Pace}
 use Rattle.its_word.specs.declared.calls.Pace.TheVariants.{Step, Work, Wait, Off}
 use Rattle.its_plain.specs.Machine.{Whole, Machine, no_machine}
@@ -63,7 +63,7 @@ abbrev pub Goes : ℕ → Machine → Dots → Block → Operated → (Machine �
 Goes n m d b (Refuses r) next lines fate = (lines ≡ Refused n r ∷ []) × (fate ≡ Lost)
 Goes n m d b (Does m' out touched b') next lines fate = (rest : List Line) × (lines ≡ out ++ rest) × next m' (settled d touched) b' rest
 Goes n m d b (Ticks s k) next lines fate =
-    (paces : List Pace) × (rest : List Line) × (lines ≡ lines.Ticks s paces ∷ rest) × (length paces ≡ k) × TicksRun m d s paces (λ m' d'. next m' d' b rest)
+    (paces : List Pace) × (rest : List Line) × (lines ≡ printed.Ticks s paces ∷ rest) × (length paces ≡ k) × TicksRun m d s paces (λ m' d'. next m' d' b rest)
 Goes n m d b Ends next lines fate = (lines ≡ []) × (fate ≡ Ended)
 
 -- the events from line number n on, with these lines written from there on and no line left over

@@ -1,11 +1,11 @@
 -- The unit: one instruction, one word of BLT, or one half of ILDB or IDPB (processor reference
 -- manual, "User operations"; docs/MACHINE.md, "Instructions").
-use Rattle.std.specs.Prelude.{if◌then◌else◌, ◌==◌, ℕ, ◌+◌, ◌/◌, ◌%◌, ◌^◌, Option, Some, None}
+use Rattle.std.specs.Prelude.{ℕ, Option, Some, None}
 use Rattle.its_word.specs.Core.{Core, word_at}
 use Rattle.its_word.specs.declared.jobs.Job.{Job}
 use Rattle.its_word.specs.declared.calls.Site.{Site}
 use Rattle.its_word.specs.declared.access.Fault.{Fault}
-use Rattle.its_word.specs.declared.access.Fault.TheVariants.{Mpv, Wro, Ilo}
+use Rattle.its_word.specs.declared.access.Fault.TheVariants.{Mpv, Ilo}
 
 -- what an instruction comes to: the core and the registers after it, or a fault, at which nothing of
 -- it is done

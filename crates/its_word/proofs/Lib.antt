@@ -1,4 +1,3 @@
-mod WordLaws
 pub mod CoreLaws
 pub mod TextLaws
 pub mod WordLaws
