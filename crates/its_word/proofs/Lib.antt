@@ -1,4 +1,5 @@
 pub mod CoreLaws
 pub mod PageLaws
 pub mod TextLaws
+pub mod TreeLaws
 pub mod WordLaws

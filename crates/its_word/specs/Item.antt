@@ -1,5 +1,4 @@
 -- What the lines of a session come to, in their order.
-use Rattle.std.specs.Prelude.{ℕ}
 use Rattle.its_word.specs.declared.session.Event.{Event}
 use Rattle.its_word.specs.declared.session.Reason.{Reason}
 

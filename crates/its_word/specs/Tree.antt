@@ -1,12 +1,11 @@
 -- Slots, and the tree of jobs.
-use Rattle.std.specs.Prelude.{if◌then◌else◌, ◌==◌, ℕ, zero, suc, ◌+◌, Bool, true, false, Option, Some, None, List, replicate, is_some, cond}
+use Rattle.std.specs.Prelude.{ℕ, zero, suc, ◌+◌, true, Option, Some, None, replicate, is_some, cond}
 use Rattle.its_word.specs.Limits.{slots}
 use Rattle.its_word.specs.declared.jobs.Job.{Job}
-use Rattle.its_word.specs.declared.jobs.Channel.{Channel}
 use Rattle.its_word.specs.declared.jobs.Channel.TheVariants.{Closed}
 
 -- the first of n slots from k on that is empty
-abbrev pub free_from : {X : Type 0} → (ℕ → Option X) → ℕ → ℕ → Option ℕ
+unfoldable pub free_from : {X : Type 0} → (ℕ → Option X) → ℕ → ℕ → Option ℕ
 free_from jobs zero k = None
 free_from jobs (suc n) k = cond (is_some (jobs k)) (free_from jobs n (k + 1)) (Some k)
 

@@ -1,0 +1,29 @@
+-- What contracts see of the jobs: for each slot a job, where it has one, and its superior.
+use Rattle.std.specs.Prelude.{◌≡◌, ◌<◌, ℕ, true, Option, None, List, length, slice_index_or, is_some, IfSome}
+use Rattle.its_word.specs.Limits.{slots}
+use Rattle.its_word.specs.declared.jobs.Job.{Job}
+
+pub record Table : Type 0 where
+  pub jobs : List (Option Job)
+  pub superiors : List (Option ℕ)
+
+-- the job of a slot
+abbrev pub job_at : Table → ℕ → Option Job
+job_at t k = slice_index_or t.jobs k None
+
+-- the slot of the superior of a slot's job
+abbrev pub superior_at : Table → ℕ → Option ℕ
+superior_at t k = slice_index_or t.superiors k None
+
+-- a superior is a slot that has a job, and only a slot with a job has one
+pub record IsTree (jobs : List (Option Job)) (superiors : List (Option ℕ)) : Type 0 where
+  pub job_count : length jobs ≡ slots
+  pub superior_count : length superiors ≡ slots
+  pub below : (k : ℕ) → IfSome (slice_index_or superiors k None) (λ s. s < slots)
+  pub standing : (k : ℕ) → IfSome (slice_index_or superiors k None) (λ s. is_some (slice_index_or jobs s None) ≡ true)
+  pub owned : (k : ℕ) → slice_index_or jobs k None ≡ None → slice_index_or superiors k None ≡ None
+
+-- no slot has a job
+pub record NoJobs (t : Table) : Type 0 where
+  pub jobs : (k : ℕ) → job_at t k ≡ None
+  pub superiors : (k : ℕ) → superior_at t k ≡ None

@@ -1,0 +1,7 @@
+//! The jobs by slot, and the tree that their superiors make.
+#![tactic(auto)]
+
+mod table;
+
+pub use its_word::{Channel, Job, NoMemory};
+pub use table::{Jobs, NoSlot};

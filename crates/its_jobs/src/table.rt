@@ -1,0 +1,130 @@
+ghost use Rattle.std.specs.Prelude.{◌≡◌, ◌≢◌, ◌≤◌, ◌<◌, ◌↔◌, ℕ, true, Some, None, IfOk, OnOk, OnErr, IfSome, IsErr, is_some, length, slice_set, slice_index_or, false, option_copied};
+ghost use Rattle.std.specs.Option.{option_copied_mut};
+ghost use Rattle.std.specs.Borrow.{LendsIf, sem};
+ghost use Rattle.its_word.specs.contracts.jobs.Job.{the_row as job_row};
+ghost use Rattle.its_jobs.specs.contracts.table.Jobs.{the_row};
+ghost use Rattle.its_word.specs.Limits.{slots};
+ghost use Rattle.its_word.specs.Only.{Only};
+ghost use Rattle.its_word.specs.Tree.{least_free, fresh_job};
+ghost use Rattle.its_jobs.specs.Table.{job_at, superior_at, NoJobs};
+
+use its_word::{Channel, Job, NoMemory, SLOTS, Word};
+use std::alloc::Global;
+use std::marker::Model;
+
+/// All 64 slots have a job.
+#[derive(Clone, Copy, Debug, PartialEq, Eq)]
+pub struct NoSlot;
+
+/// The jobs of 64 slots, each with its superior where it has one.
+#[derive(Drop)]
+pub struct Jobs {
+    jobs: Vec<Option<Job>>,
+    superiors: Vec<Option<u8>>,
+}
+
+impl Model for Jobs {
+    ghost use Rattle.its_jobs.specs.Table.{Table, IsTree};
+
+    ghost Value = { Table };
+
+    ghost view = { λ a. record { jobs = a.jobs.items; superiors = a.superiors.items } };
+
+    ghost invariant = { λ a. IsTree a.jobs.items a.superiors.items };
+}
+
+impl Jobs {
+    /// No slot has a job. Takes the memory of all of them.
+    pub fn open(alloc: Global) -> Result<Jobs, NoMemory>
+        ensures { IfOk result NoJobs }
+    {
+        let jobs = vec![in alloc; None; SLOTS].map_err(|_| NoMemory)?;
+        let superiors = vec![in alloc; None; SLOTS].map_err(|_| NoMemory)?;
+        Ok(Jobs { jobs, superiors })
+    }
+
+    /// Makes a job in the least free slot: stopped, with closed channels, its other registers 0.
+    pub fn create(
+        &mut self,
+        uname: Word,
+        jname: Word,
+        superior: Option<u8>,
+        console: Option<u8>,
+    ) -> Result<u8, NoSlot>
+        requires standing { IfSome superior (λ s. (s < slots) × (is_some (job_at self.old s) ≡ true)) }
+        ensures slot { IfOk result (λ s. least_free (job_at self.old) ≡ Some s) }
+        ensures below { IfOk result (λ s. s < slots) }
+        ensures job { IfOk result (λ s. Only (job_at self.old) (job_at self.new) s (Some (fresh_job uname jname console))) }
+        ensures superior { IfOk result (λ s. Only (superior_at self.old) (superior_at self.new) s superior) }
+        ensures full { OnErr result (least_free (job_at self.old) ≡ None) }
+        ensures same { OnErr result (self.new ≡ self.old) }
+    {
+        let slot = free_slot(&self.jobs).ok_or(NoSlot)?;
+        self.jobs[slot as usize] = Some(fresh_job(uname, jname, console));
+        self.superiors[slot as usize] = superior;
+        Ok(slot)
+    }
+
+    /// The job of a slot.
+    pub fn job(&self, slot: u8) -> Option<&Job>
+        requires { slot < slots }
+        ensures { option_copied result ≡ job_at self.now slot }
+    {
+        self.jobs[slot as usize].as_ref()
+    }
+
+    /// The job of a slot, to be changed; its superior stays.
+    pub fn job_mut(&mut self, slot: u8) -> Option<&mut Job>
+        requires { slot < slots }
+        ensures* writes_back { sem 𝓛 (LendsIf the_row job_row self.entry result (λ w. record (self.entry.now) { jobs = slice_set self.entry.now.jobs slot (Some w) }) self.entry.now) }
+        ensures value { option_copied_mut result ≡ job_at self.old slot }
+    {
+        self.jobs[slot as usize].as_mut()
+    }
+
+    /// The superior of a slot's job; None where the slot is empty or its job has none.
+    pub fn superior(&self, slot: u8) -> Option<u8>
+        requires { slot < slots }
+        ensures value { result ≡ superior_at self.now slot }
+        ensures standing { IfSome result (λ s. (s < slots) × (is_some (job_at self.now s) ≡ true)) }
+    {
+        self.superiors[slot as usize]
+    }
+}
+
+/// The least slot that is empty.
+#[tactic(auto, using(its_word::proofs::TreeLaws::least_start, its_word::proofs::TreeLaws::least_next, its_word::proofs::TreeLaws::least_found, its_word::proofs::TreeLaws::least_end))]
+fn free_slot(jobs: &[Option<Job>]) -> Option<u8>
+    requires { length jobs.now ≡ slots }
+    ensures slot { result ≡ least_free (λ k. slice_index_or jobs.now k None) }
+    ensures below { IfSome result (λ s. (s < slots) × (is_some (slice_index_or jobs.now s None) ≡ false)) }
+{
+    for slot in 0..64u8 {
+        if jobs[slot as usize].is_none() {
+            return Some(slot);
+        }
+    }
+    None
+}
+
+/// A job as it is made.
+#[tactic(auto, unfolding(its_word::specs::Tree::fresh_job))]
+fn fresh_job(uname: Word, jname: Word, console: Option<u8>) -> Job
+    ensures { result ≡ fresh_job uname jname console }
+{
+    Job {
+        pc: 0,
+        flags: 0,
+        stopped: true,
+        pend1: Word::ZERO,
+        pend2: Word::ZERO,
+        mask1: Word::ZERO,
+        mask2: Word::ZERO,
+        defer1: Word::ZERO,
+        defer2: Word::ZERO,
+        uname,
+        jname,
+        console,
+        channels: [Channel::Closed; 16],
+    }
+}
