@@ -113,6 +113,14 @@ abbrev pub seen : Option (List ℕ) → Result (List ℕ) Reason
 seen (Some ws) = Ok ws
 seen None = Err NoPage
 
+-- one word of it
+abbrev pub seen_word : Option ℕ → Result ℕ Reason
+seen_word (Some w) = Ok w
+seen_word None = Err NoPage
+
+unfoldable pub word_seen : Machine → ℕ → ℕ → Result ℕ Reason
+word_seen m s a = on_job m s (λ q. seen_word (word_at q.core a)) (m.jobs s)
+
 unfoldable pub examined : Machine → ℕ → ℕ → ℕ → Result (List ℕ) Reason
 examined m s a n = on_job m s (λ q. seen (words_at q.core a n)) (m.jobs s)
 
