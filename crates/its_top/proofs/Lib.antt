@@ -1,3 +1,4 @@
 pub mod EventLaws
 pub mod LineLaws
 pub mod ByteLaws
+pub mod ConclusionLaws
