@@ -4,3 +4,8 @@ pub mod Text
 pub mod Limits
 pub mod Only
 pub mod Core
+pub mod Result2
+pub mod Arith
+pub mod Logic
+pub mod Shift
+pub mod Byte
