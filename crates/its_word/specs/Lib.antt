@@ -7,3 +7,8 @@ pub mod Only
 pub mod Core
 pub mod Tree
 pub mod Address
+pub mod Result2
+pub mod Arith
+pub mod Logic
+pub mod Shift
+pub mod Byte
