@@ -1,6 +1,9 @@
 pub use Rattle.arrayvec.specs.ArrayVec
 pub mod Word
 pub mod Text
+pub mod Item
 pub mod Limits
 pub mod Only
 pub mod Core
+pub mod Tree
+pub mod Address

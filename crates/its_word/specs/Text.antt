@@ -1,6 +1,7 @@
 -- Numbers and names as text (docs/SESSION.md, "Numbers and names"). Characters are their ASCII codes.
-use Rattle.std.specs.Prelude.{ℕ, ◌+◌, ◌-◌, ◌*◌, ◌/◌, ◌%◌, ◌^◌, Bool, ◌&&◌, List, length, map, fold, nat_le}
+use Rattle.std.specs.Prelude.{if◌then◌else◌, ℕ, ◌+◌, ◌-◌, ◌*◌, ◌/◌, ◌%◌, ◌^◌, Bool, ◌&&◌, List, [], ◌∷◌, ◌++◌, length, map, fold, nat_le, nat_lt}
 use Rattle.std.specs.List.{range_with_len, list_all}
+use Rattle.std.specs.Int.Digits as base
 
 -- the twelve octal digits of a word
 unfoldable pub octal12_of : ℕ → List ℕ
@@ -31,3 +32,15 @@ is_name text = is_text 6 33 95 text
 -- its SIXBIT word: six bits a character, its code less 40 (octal), from the left, zeros after the end
 unfoldable pub sixbit_of : List ℕ → ℕ
 sixbit_of text = number_of 64 32 text * 2 ^ (6 * (6 - length text))
+
+-- the six octal digits of an address
+unfoldable pub octal6_of : ℕ → List ℕ
+octal6_of a = map (λ k. 48 + a / 2 ^ (15 - 3 * k) % 8) (range_with_len 0 6)
+
+-- the octal digits of a number without leading zeros; 0 is one digit
+unfoldable pub digits_of : ℕ → List ℕ
+digits_of n = if nat_lt n 8 then (48 + n) ∷ [] else map (λ d. 48 + d) (base.digits_of 8 n)
+
+-- a first word and others, with one space between two words
+unfoldable pub spaced : List ℕ → List (List ℕ) → List ℕ
+spaced first others = fold (λ text word. text ++ 32 ∷ word) first others

@@ -1,0 +1,153 @@
+-- The lines of a transcript and their text (docs/SESSION.md). Characters are their ASCII codes.
+use Rattle.std.specs.Prelude.{if◌then◌else◌, ℕ, ◌+◌, Bool, true, false, Option, Some, None, List, [], ◌∷◌, ◌++◌, map, flat_map, codes}
+use Rattle.its_word.specs.Text.{octal12_of, octal6_of, digits_of, spaced}
+use Rattle.its_word.specs.declared.calls.Pace.{Pace}
+use Rattle.its_word.specs.declared.calls.Pace.TheVariants.{Step, Work, Wait, Off}
+use Rattle.its_word.specs.declared.session.Reason.{Reason}
+use Rattle.its_word.specs.declared.session.Reason.TheVariants as reasons
+use Rattle.its_word.specs.declared.show.FileShow.{FileShow}
+use Rattle.its_word.specs.declared.show.JobShow.{JobShow}
+use Rattle.its_word.specs.declared.show.Peek.{Peek}
+use Rattle.its_word.specs.declared.show.PeekState.{PeekState}
+use Rattle.its_word.specs.declared.show.PeekState.TheVariants.{User, Entered, Parsed, Asked, Holding, Waiting, Moving, Ending}
+
+-- a line of a transcript
+pub data Line : Type 0 where
+  -- LOAD made a job in slot s
+  Loaded : (s : ℕ) → Line
+  -- what each tick of slot s did
+  Ticks : (s : ℕ) (paces : List Pace) → Line
+  -- TYPE on console c, where some bytes were dropped
+  Typed : (c dropped : ℕ) → Line
+  -- the bytes that DRAIN took from console c
+  Drained : (c : ℕ) (bytes : List ℕ) → Line
+  -- the words that EXAM found in slot s from address a on
+  Words : (s a : ℕ) (words : List ℕ) → Line
+  -- what STATE shows of slot s
+  State : (s : ℕ) (show : JobShow) → Line
+  -- what PEEK shows of slot s
+  Peeked : (s : ℕ) (peek : Peek) → Line
+  -- DIR found n files in directory d
+  Dir : (d n : ℕ) → Line
+  -- one of these files
+  Filed : (show : FileShow) → Line
+  -- SHOW found the file d x y, of k words
+  Shown : (d x y k : ℕ) → Line
+  -- up to eight of its words
+  Row : (words : List ℕ) → Line
+  -- line number n of the session is refused
+  Refused : (n : ℕ) (reason : Reason) → Line
+
+abbrev pub letter_of : Pace → ℕ
+letter_of Step = 42
+letter_of Work = 46
+letter_of Wait = 119
+letter_of Off = 45
+
+abbrev pub is_same : Pace → Pace → Bool
+is_same Step Step = true
+is_same Work Work = true
+is_same Wait Wait = true
+is_same Off Off = true
+is_same _ _ = false
+
+-- a run of so many letters of one pace
+abbrev pub run_of : ℕ → Pace → List ℕ
+run_of n p = digits_of n ++ letter_of p ∷ []
+
+-- the runs of some paces, where n of pace p came just before
+abbrev pub runs_from : ℕ → Pace → List Pace → List (List ℕ)
+runs_from n p [] = run_of n p ∷ []
+runs_from n p (q ∷ qs) = if is_same p q then runs_from (n + 1) p qs else run_of n p ∷ runs_from 1 q qs
+
+-- the runs of equal paces
+unfoldable pub runs_of : List Pace → List (List ℕ)
+runs_of [] = []
+runs_of (p ∷ ps) = runs_from 1 p ps
+
+-- a word of 12 digits, or `-`
+abbrev pub word_or_dash : Option ℕ → List ℕ
+word_or_dash (Some w) = octal12_of w
+word_or_dash None = codes "-"
+
+-- a slot or a console, or `-`
+abbrev pub number_or_dash : Option ℕ → List ℕ
+number_or_dash (Some n) = digits_of n
+number_or_dash None = codes "-"
+
+abbrev pub run_or_stop : Bool → List ℕ
+run_or_stop true = codes "RUN"
+run_or_stop false = codes "STOP"
+
+abbrev pub state_name : PeekState → List ℕ
+state_name User = codes "USER"
+state_name Entered = codes "ENTERED"
+state_name Parsed = codes "PARSED"
+state_name Asked = codes "ASKED"
+state_name Holding = codes "HOLDING"
+state_name Waiting = codes "WAITING"
+state_name Moving = codes "MOVING"
+state_name Ending = codes "ENDING"
+
+abbrev pub reason_name : Reason → List ℕ
+reason_name reasons.Long = codes "LONG"
+reason_name reasons.Syntax = codes "SYNTAX"
+reason_name reasons.Range = codes "RANGE"
+reason_name reasons.NoCons = codes "NOCONS"
+reason_name reasons.NoJob = codes "NOJOB"
+reason_name reasons.NoPage = codes "NOPAGE"
+reason_name reasons.ReadOnly = codes "READONLY"
+reason_name reasons.NoFile = codes "NOFILE"
+reason_name reasons.Exists = codes "EXISTS"
+reason_name reasons.Full = codes "FULL"
+reason_name reasons.Cut = codes "CUT"
+reason_name reasons.Unbuilt = codes "UNBUILT"
+
+-- the fields of a job after its slot: names, superior, console, RUN or STOP, PC word, pending words,
+-- masks and deferrals
+abbrev pub job_fields : JobShow → List (List ℕ)
+job_fields j =
+    octal12_of j.u ∷ octal12_of j.j ∷ number_or_dash j.sup ∷ number_or_dash j.con ∷ run_or_stop j.run ∷ octal12_of j.pc
+    ∷ octal12_of j.p1 ∷ octal12_of j.p2 ∷ octal12_of j.m1 ∷ octal12_of j.m2 ∷ octal12_of j.d1 ∷ octal12_of j.d2 ∷ []
+
+-- the fields of a peek after its slot: state, call, unwinding steps, two words at arguments and the held byte
+abbrev pub peek_fields : Peek → List (List ℕ)
+peek_fields p = state_name p.state ∷ word_or_dash p.name ∷ digits_of p.left ∷ word_or_dash p.a ∷ word_or_dash p.b ∷ word_or_dash p.h ∷ []
+
+-- the words of a line after the first
+abbrev pub fields_of : Line → List (List ℕ)
+fields_of (Loaded s) = digits_of s ∷ []
+fields_of (Ticks s paces) = digits_of s ∷ runs_of paces
+fields_of (Typed c dropped) = digits_of c ∷ digits_of dropped ∷ []
+fields_of (Drained c bytes) = digits_of c ∷ map digits_of bytes
+fields_of (Words s a words) = digits_of s ∷ octal6_of a ∷ map octal12_of words
+fields_of (State s show) = digits_of s ∷ job_fields show
+fields_of (Peeked s peek) = digits_of s ∷ peek_fields peek
+fields_of (Dir d n) = octal12_of d ∷ digits_of n ∷ []
+fields_of (Filed show) = octal12_of show.x ∷ octal12_of show.y ∷ digits_of show.length ∷ []
+fields_of (Shown d x y k) = octal12_of d ∷ octal12_of x ∷ octal12_of y ∷ digits_of k ∷ []
+fields_of (Row words) = map octal12_of words
+fields_of (Refused n reason) = digits_of n ∷ reason_name reason ∷ []
+
+-- its first word
+abbrev pub first_of : Line → List ℕ
+first_of (Loaded s) = codes "J"
+first_of (Ticks s paces) = codes "T"
+first_of (Typed c dropped) = codes "Y"
+first_of (Drained c bytes) = codes "D"
+first_of (Words s a words) = codes "E"
+first_of (State s show) = codes "S"
+first_of (Peeked s peek) = codes "P"
+first_of (Dir d n) = codes "R"
+first_of (Filed show) = codes "F"
+first_of (Shown d x y k) = codes "W"
+first_of (Row words) = codes "/"
+first_of (Refused n reason) = codes "?"
+
+-- a line's words with one space between two, and LF
+unfoldable pub text_of_line : Line → List ℕ
+text_of_line line = spaced (first_of line) (fields_of line) ++ 10 ∷ []
+
+-- the text of a transcript
+unfoldable pub text : List Line → List ℕ
+text lines = flat_map text_of_line lines

@@ -1,0 +1,247 @@
+-- The lines of a session: which event each is at its place, or the first reason why it is none
+-- (docs/SESSION.md). Characters are their ASCII codes, numbers of the text are octal.
+use Rattle.std.specs.Prelude.{if◌then◌else◌, ℕ, ◌-◌, ◌^◌, Bool, true, false, not, ◌&&◌, Option, Some, None, Result, Ok, Err, List, [], ◌∷◌, length, map, filter, take, slice_index, nat_le, ◌==◌, bytes_eq, codes}
+use Rattle.std.specs.List.{list_all, slice_split}
+use Rattle.its_word.specs.Text.{is_code, is_octal, octal_value, is_name, sixbit_of}
+use Rattle.its_word.specs.declared.session.Event.{Event}
+use Rattle.its_word.specs.declared.session.Event.TheVariants as events
+use Rattle.its_word.specs.declared.session.Place.{Place}
+use Rattle.its_word.specs.declared.session.Place.TheVariants as places
+use Rattle.its_word.specs.declared.session.Bad.{Bad}
+use Rattle.its_word.specs.declared.session.Bad.TheVariants.{Long, Syntax, Range, NoConsole}
+use Rattle.its_session.specs.declared.kind.Kind.{Kind}
+use Rattle.its_session.specs.declared.kind.Kind.TheVariants as kinds
+
+-- a line's words are its runs of bytes other than space
+unfoldable pub words_of : List ℕ → List (List ℕ)
+words_of line = filter (λ run. not (length run == 0)) (slice_split (λ b. b == 32) line)
+
+-- a word in a field of a line: whether it is a number or a name as the field wants one, whether a
+-- number other than a console lies in the field's range, and whether there is such a console
+pub record Field : Type 0 where
+  pub formed : Bool
+  pub ranged : Bool
+  pub console : Bool
+
+-- the event of a line with these fields, or the first reason against it
+abbrev pub with_fields : List Field → Event → Result Event Bad
+with_fields fields e =
+    if list_all (λ f. f.formed) fields then
+      (if list_all (λ f. f.ranged) fields then
+        (if list_all (λ f. f.console) fields then Ok e else Err NoConsole)
+      else Err Range)
+    else Err Syntax
+
+-- any number
+abbrev pub number : List ℕ → Field
+number w = record { formed = is_octal w; ranged = true; console = true }
+
+-- a number of at most this much
+abbrev pub number_to : ℕ → List ℕ → Field
+number_to most w = record (number w) { ranged = nat_le (octal_value w) most }
+
+-- a number from 1 to this much
+abbrev pub count_to : ℕ → List ℕ → Field
+count_to most w = record (number w) { ranged = nat_le 1 (octal_value w) && nat_le (octal_value w) most }
+
+-- a name
+abbrev pub name : List ℕ → Field
+name w = record { formed = is_name w; ranged = true; console = true }
+
+-- a slot, 0 to 77
+abbrev pub slot : List ℕ → Field
+slot w = number_to 63 w
+
+-- an address, 0 to 777777
+abbrev pub address : List ℕ → Field
+address w = number_to (2 ^ 18 - 1) w
+
+-- a console, 0 to 7
+abbrev pub console : List ℕ → Field
+console w = record (number w) { console = nat_le (octal_value w) 7 }
+
+-- `-` for no console
+abbrev pub is_dash : List ℕ → Bool
+is_dash w = bytes_eq w (codes "-")
+
+-- a console, or none
+abbrev pub console_or_dash : List ℕ → Field
+console_or_dash w = if is_dash w then record { formed = true; ranged = true; console = true } else console w
+
+abbrev pub console_of : List ℕ → Option ℕ
+console_of w = if is_dash w then None else Some (octal_value w)
+
+-- a line of 1 to so many words
+abbrev pub with_count : ℕ → List (List ℕ) → Result Event Bad → Result Event Bad
+with_count most ws line = if nat_le 1 (length ws) && nat_le (length ws) most then line else Err Syntax
+
+-- The table: the words that may follow each first word. Each row has its line with no other words.
+
+-- `LOAD u j c`
+unfoldable pub load_line : List (List ℕ) → Result Event Bad
+load_line (u ∷ j ∷ c ∷ []) = with_fields (name u ∷ name j ∷ console_or_dash c ∷ []) (events.Load (sixbit_of u) (sixbit_of j) (console_of c))
+load_line _ = Err Syntax
+
+-- `a/` and 1 to 16 words, which end at the last address
+unfoldable pub words_line : List ℕ → List (List ℕ) → Result Event Bad
+words_line a ws = with_count 16 ws (with_fields (number_to (2 ^ 18 - length ws) a ∷ map number ws) (events.Words (octal_value a) (record { items = map octal_value ws })))
+
+-- `GO a`
+unfoldable pub go_line : List (List ℕ) → Result Event Bad
+go_line (a ∷ []) = with_fields (address a ∷ []) (events.Go (octal_value a))
+go_line _ = Err Syntax
+
+-- `FILE d x y`
+unfoldable pub file_line : List (List ℕ) → Result Event Bad
+file_line (d ∷ x ∷ y ∷ []) = with_fields (name d ∷ name x ∷ name y ∷ []) (events.File (sixbit_of d) (sixbit_of x) (sixbit_of y))
+file_line _ = Err Syntax
+
+-- `/` and 1 to 16 words
+unfoldable pub append_line : List (List ℕ) → Result Event Bad
+append_line ws = with_count 16 ws (with_fields (map number ws) (events.Append (record { items = map octal_value ws })))
+
+-- `EOF`, `END`
+unfoldable pub bare_line : Event → List (List ℕ) → Result Event Bad
+bare_line e [] = Ok e
+bare_line e _ = Err Syntax
+
+-- `TICK s n`
+unfoldable pub tick_line : List (List ℕ) → Result Event Bad
+tick_line (s ∷ n ∷ []) = with_fields (slot s ∷ count_to 512 n ∷ []) (events.Tick (octal_value s) (octal_value n))
+tick_line _ = Err Syntax
+
+-- `TYPE c` and 1 to 32 bytes
+unfoldable pub type_line : List (List ℕ) → Result Event Bad
+type_line (c ∷ bs) = with_count 32 bs (with_fields (console c ∷ map (number_to 127) bs) (events.TypeIn (octal_value c) (record { items = map octal_value bs })))
+type_line [] = Err Syntax
+
+-- `DRAIN c n`
+unfoldable pub drain_line : List (List ℕ) → Result Event Bad
+drain_line (c ∷ n ∷ []) = with_fields (console c ∷ count_to 64 n ∷ []) (events.Drain (octal_value c) (octal_value n))
+drain_line _ = Err Syntax
+
+-- `CLOCK n`
+unfoldable pub clock_line : List (List ℕ) → Result Event Bad
+clock_line (n ∷ []) = with_fields (number n ∷ []) (events.Clock (octal_value n))
+clock_line _ = Err Syntax
+
+-- `INT s v w`
+unfoldable pub int_line : List (List ℕ) → Result Event Bad
+int_line (s ∷ v ∷ w ∷ []) = with_fields (slot s ∷ number v ∷ number w ∷ []) (events.Int (octal_value s) (octal_value v) (octal_value w))
+int_line _ = Err Syntax
+
+-- `EXAM s a n`, whose words end at the last address
+unfoldable pub exam_line : List (List ℕ) → Result Event Bad
+exam_line (s ∷ a ∷ n ∷ []) = with_fields (slot s ∷ number_to (2 ^ 18 - octal_value n) a ∷ count_to 8 n ∷ []) (events.Exam (octal_value s) (octal_value a) (octal_value n))
+exam_line _ = Err Syntax
+
+-- `DEPOSIT s a w`
+unfoldable pub deposit_line : List (List ℕ) → Result Event Bad
+deposit_line (s ∷ a ∷ w ∷ []) = with_fields (slot s ∷ address a ∷ number w ∷ []) (events.Deposit (octal_value s) (octal_value a) (octal_value w))
+deposit_line _ = Err Syntax
+
+-- `STATE s`, `STOP s`, `CONT s`, `PEEK s`
+unfoldable pub slot_line : (ℕ → Event) → List (List ℕ) → Result Event Bad
+slot_line event (s ∷ []) = with_fields (slot s ∷ []) (event (octal_value s))
+slot_line event _ = Err Syntax
+
+-- `DIR d`
+unfoldable pub dir_line : List (List ℕ) → Result Event Bad
+dir_line (d ∷ []) = with_fields (name d ∷ []) (events.Dir (sixbit_of d))
+dir_line _ = Err Syntax
+
+-- `SHOW d x y`
+unfoldable pub show_line : List (List ℕ) → Result Event Bad
+show_line (d ∷ x ∷ y ∷ []) = with_fields (name d ∷ name x ∷ name y ∷ []) (events.Show (sixbit_of d) (sixbit_of x) (sixbit_of y))
+show_line _ = Err Syntax
+
+-- the digits before the `/` of a first word
+abbrev pub before_slash : List ℕ → List ℕ
+before_slash w = take (length w - 1) w
+
+-- a number directly followed by `/`
+abbrev pub is_place : List ℕ → Bool
+is_place w = is_octal (before_slash w) && slice_index w (length w - 1) == 47
+
+-- which kind of line a first word begins, if any
+unfoldable pub kind_of : List ℕ → Option Kind
+kind_of w =
+    if bytes_eq w (codes "LOAD") then Some kinds.Load
+    else (if bytes_eq w (codes "GO") then Some kinds.Go
+    else (if bytes_eq w (codes "FILE") then Some kinds.File
+    else (if bytes_eq w (codes "/") then Some kinds.Append
+    else (if bytes_eq w (codes "EOF") then Some kinds.EndFile
+    else (if bytes_eq w (codes "TICK") then Some kinds.Tick
+    else (if bytes_eq w (codes "TYPE") then Some kinds.TypeIn
+    else (if bytes_eq w (codes "DRAIN") then Some kinds.Drain
+    else (if bytes_eq w (codes "CLOCK") then Some kinds.Clock
+    else (if bytes_eq w (codes "INT") then Some kinds.Int
+    else (if bytes_eq w (codes "EXAM") then Some kinds.Exam
+    else (if bytes_eq w (codes "STATE") then Some kinds.State
+    else (if bytes_eq w (codes "DEPOSIT") then Some kinds.Deposit
+    else (if bytes_eq w (codes "STOP") then Some kinds.Stop
+    else (if bytes_eq w (codes "CONT") then Some kinds.Cont
+    else (if bytes_eq w (codes "PEEK") then Some kinds.Peek
+    else (if bytes_eq w (codes "DIR") then Some kinds.Dir
+    else (if bytes_eq w (codes "SHOW") then Some kinds.Show
+    else (if bytes_eq w (codes "END") then Some kinds.End
+    else (if is_place w then Some kinds.Words
+    else None)))))))))))))))))))
+
+-- where each kind of line may stand: after LOAD until GO, after FILE until EOF, or elsewhere
+abbrev pub place_of_kind : Kind → Place
+place_of_kind kinds.Words = places.Load
+place_of_kind kinds.Go = places.Load
+place_of_kind kinds.Append = places.File
+place_of_kind kinds.EndFile = places.File
+place_of_kind _ = places.Plain
+
+abbrev pub is_at : Place → Place → Bool
+is_at places.Plain places.Plain = true
+is_at places.Load places.Load = true
+is_at places.File places.File = true
+is_at _ _ = false
+
+-- the line of a kind with its first word and the words that follow
+abbrev pub line_of_kind : Kind → List ℕ → List (List ℕ) → Result Event Bad
+line_of_kind kinds.Load first ws = load_line ws
+line_of_kind kinds.Words first ws = words_line (before_slash first) ws
+line_of_kind kinds.Go first ws = go_line ws
+line_of_kind kinds.File first ws = file_line ws
+line_of_kind kinds.Append first ws = append_line ws
+line_of_kind kinds.EndFile first ws = bare_line events.EndFile ws
+line_of_kind kinds.Tick first ws = tick_line ws
+line_of_kind kinds.TypeIn first ws = type_line ws
+line_of_kind kinds.Drain first ws = drain_line ws
+line_of_kind kinds.Clock first ws = clock_line ws
+line_of_kind kinds.Int first ws = int_line ws
+line_of_kind kinds.Exam first ws = exam_line ws
+line_of_kind kinds.State first ws = slot_line events.State ws
+line_of_kind kinds.Deposit first ws = deposit_line ws
+line_of_kind kinds.Stop first ws = slot_line events.Stop ws
+line_of_kind kinds.Cont first ws = slot_line events.Cont ws
+line_of_kind kinds.Peek first ws = slot_line events.Peek ws
+line_of_kind kinds.Dir first ws = dir_line ws
+line_of_kind kinds.Show first ws = show_line ws
+line_of_kind kinds.End first ws = bare_line events.End ws
+
+-- the line of a first word of this kind, where that kind may stand
+abbrev pub line_of_first : Place → Option Kind → List ℕ → List (List ℕ) → Result Event Bad
+line_of_first place None first ws = Err Syntax
+line_of_first place (Some kind) first ws = if is_at place (place_of_kind kind) then line_of_kind kind first ws else Err Syntax
+
+-- a first word that begins with `;` makes the line a comment
+abbrev pub is_comment : List ℕ → Bool
+is_comment w = slice_index w 0 == 59
+
+-- a line without words is empty, as a comment is; either may stand anywhere
+unfoldable pub event_of_words : Place → List (List ℕ) → Result Event Bad
+event_of_words place [] = Ok events.Nothing
+event_of_words place (first ∷ ws) = if is_comment first then Ok events.Nothing else line_of_first place (kind_of first) first ws
+
+-- a line: at most 255 bytes, all from 40 to 176
+unfoldable pub line_event : Place → List ℕ → Result Event Bad
+line_event place line =
+    if nat_le (length line) 255 then
+      (if list_all (is_code 32 126) line then event_of_words place (words_of line) else Err Syntax)
+    else Err Long

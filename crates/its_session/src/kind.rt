@@ -1,0 +1,25 @@
+/// The kinds of line, by their first word: an address and `/` for `Words`, `/` alone for `Append`,
+/// and for the others a name of their own.
+#[derive(Clone, Copy, Debug, PartialEq, Eq)]
+pub enum Kind {
+    Load,
+    Words,
+    Go,
+    File,
+    Append,
+    EndFile,
+    Tick,
+    TypeIn,
+    Drain,
+    Clock,
+    Int,
+    Exam,
+    State,
+    Deposit,
+    Stop,
+    Cont,
+    Peek,
+    Dir,
+    Show,
+    End,
+}
