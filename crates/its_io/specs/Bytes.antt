@@ -1,0 +1,22 @@
+-- What a source gives and a sink takes, and when they fail.
+use Rattle.std.specs.Prelude.{◌≡◌, ◌≤◌, ◌+◌, ◌-◌, ◌^◌, ℕ, min, List, ◌++◌, Result, OnErr}
+use Rattle.std.specs.declared.option.Option.{Option}
+use Rattle.std.specs.Io.KnownBytes.{Appends}
+
+-- the count of faults after one more, which stays at its last value
+abbrev pub next_fault : ℕ → ℕ
+next_fault faults = min (faults + 1) (2 ^ 64 - 1)
+
+-- a count of faults went up, or stands at its last value
+abbrev pub Rose : ℕ → ℕ → Type 0
+Rose before now = next_fault before ≤ now
+
+-- a count of faults does not fall, and an error comes only where it rose
+pub record HasCause {T E : Type 0} (before now : ℕ) (result : Result T E) : Type 0 where
+  pub later : before ≤ now
+  pub failed : OnErr result (Rose before now)
+
+-- the bytes written are the first of these
+pub record Wrote (old new : Option (List ℕ)) (wrote bytes : List ℕ) : Type 0 where
+  pub appended : Appends old new wrote
+  pub rest : (more : List ℕ) × (bytes ≡ wrote ++ more)

@@ -1,0 +1,15 @@
+//! Sources and sinks of bytes that count their faults: the traits, those over memory that tests use,
+//! those that never fail, and those over standard input and output.
+#![tactic(auto)]
+
+mod memory;
+mod real;
+mod safe;
+mod stream;
+#[cfg(test)]
+mod tests;
+
+pub use memory::{MemSink, MemSource, NoMemory};
+pub use real::{RealSink, RealSource};
+pub use safe::{SafeSink, SafeSource};
+pub use stream::{Failed, Sink, Source, write_all};
