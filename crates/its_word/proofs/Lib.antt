@@ -1,2 +1,4 @@
+pub mod DigitLaws
+pub mod SpacedLaws
 pub mod TextLaws
 pub mod WordLaws
