@@ -18,7 +18,7 @@ fn prints_ticks(rt: HostRuntime) {
     prints!(rt; b"T 5 3-\n"; print_ticks(5, &[Pace::Off; 3]));
     prints!(rt; b"T 0 2. 1* 1. 1w\n"; print_ticks(0, &[Pace::Work, Pace::Work, Pace::Step, Pace::Work, Pace::Wait]));
     prints!(rt; b"T 0 10.\n"; print_ticks(0, &[Pace::Work; 8]));
-    prints!(rt; b"T 0 1000w\n"; print_ticks(0, &[Pace::Wait; 512]));
+    prints!(rt; b"T 0 100w\n"; print_ticks(0, &[Pace::Wait; 64]));
 }
 
 #[test]
