@@ -1,5 +1,5 @@
 -- The lines of a transcript and their text (docs/SESSION.md). Characters are their ASCII codes.
-use Rattle.std.specs.Prelude.{if◌then◌else◌, ℕ, ◌+◌, Bool, true, false, Option, Some, None, List, [], ◌∷◌, ◌++◌, map, flat_map, codes}
+use Rattle.std.specs.Prelude.{if◌then◌else◌, ℕ, ◌+◌, ◌==◌, Bool, true, false, Option, Some, None, List, [], ◌∷◌, ◌++◌, map, flat_map, codes}
 use Rattle.its_word.specs.Text.{octal12_of, octal6_of, digits_of, spaced}
 use Rattle.its_word.specs.declared.calls.Pace.{Pace}
 use Rattle.its_word.specs.declared.calls.Pace.TheVariants.{Step, Work, Wait, Off}
@@ -44,26 +44,21 @@ letter_of Work = 46
 letter_of Wait = 119
 letter_of Off = 45
 
-abbrev pub is_same : Pace → Pace → Bool
-is_same Step Step = true
-is_same Work Work = true
-is_same Wait Wait = true
-is_same Off Off = true
-is_same _ _ = false
+-- a run of so many of one letter
+abbrev pub run_of : ℕ → ℕ → List ℕ
+run_of n letter = digits_of n ++ letter ∷ []
 
--- a run of so many letters of one pace
-abbrev pub run_of : ℕ → Pace → List ℕ
-run_of n p = digits_of n ++ letter_of p ∷ []
+-- the runs of some paces, before which came n of one letter
+abbrev pub runs_from : ℕ → ℕ → List Pace → List (List ℕ)
+runs_from n letter [] = run_of n letter ∷ []
+runs_from n letter (p ∷ ps) =
+    if letter_of p == letter then runs_from (n + 1) letter ps
+    else run_of n letter ∷ runs_from 1 (letter_of p) ps
 
--- the runs of some paces, where n of pace p came just before
-abbrev pub runs_from : ℕ → Pace → List Pace → List (List ℕ)
-runs_from n p [] = run_of n p ∷ []
-runs_from n p (q ∷ qs) = if is_same p q then runs_from (n + 1) p qs else run_of n p ∷ runs_from 1 q qs
-
--- the runs of equal paces
+-- the runs of equal letters
 unfoldable pub runs_of : List Pace → List (List ℕ)
 runs_of [] = []
-runs_of (p ∷ ps) = runs_from 1 p ps
+runs_of (p ∷ ps) = runs_from 1 (letter_of p) ps
 
 -- a word of 12 digits, or `-`
 abbrev pub word_or_dash : Option ℕ → List ℕ

@@ -1,3 +1,14 @@
-//! The lines of a transcript (docs/SESSION.md): each call writes one line with its LF. None takes
-//! memory.
+//! The lines of a transcript (docs/SESSION.md): each call writes one line with its LF into an empty
+//! `out`, which always has room. None takes memory.
 #![tactic(auto)]
+
+mod lines;
+mod names;
+mod put;
+#[cfg(test)]
+mod tests;
+
+pub use lines::{
+    longest_line, print_dir, print_drained, print_file, print_loaded, print_peek, print_refusal,
+    print_row, print_show, print_state, print_ticks, print_typed, print_words,
+};

@@ -4,6 +4,7 @@
 
 mod access;
 mod calls;
+mod digits;
 mod flags;
 mod jobs;
 mod limits;
@@ -16,6 +17,7 @@ mod word;
 
 pub use access::{Address, Fault, NoAccess};
 pub use calls::{Ask, Exit, Operand, Owed, Pace, Site};
+pub use digits::{digits_read_back, octal, octal6};
 pub use flags::{BYTE_HALF, CARRY_0, CARRY_1, FLOATING_OVERFLOW, NO_DIVIDE, OVERFLOW, USER};
 pub use jobs::{Channel, Job};
 pub use limits::{MAPPED_PAGES, SLOTS};

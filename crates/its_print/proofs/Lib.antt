@@ -1,0 +1,3 @@
+pub mod LongestLine
+pub mod LineLaws
+pub mod PutLaws

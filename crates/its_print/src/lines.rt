@@ -1,0 +1,183 @@
+ghost use Rattle.std.specs.Prelude.{◌≡◌, ◌≤◌, [], length};
+ghost use Rattle.its_print.specs.Printing.{Dir, Drained, Filed, Line, Loaded, Peeked, Refused, Row, Shown, State, Ticks, Typed, Words, text_of_line};
+ghost use Rattle.its_print.specs.Sizes.{IsPrinted};
+
+use super::names::{reason_word, run_word, state_word};
+use super::put::{
+    put, put_address, put_bytes, put_number, put_number_or_dash, put_runs, put_word,
+    put_word_or_dash, put_words,
+};
+use arrayvec::ArrayVec;
+use its_word::{FileShow, JobShow, Pace, Peek, Reason, Word};
+
+/// `J s`: LOAD made a job in slot `s`.
+#[tactic(auto, unfolding(crate::specs::Printing::text_of_line, its_word::specs::Text::spaced))]
+pub fn print_loaded(s: u8, out: &mut ArrayVec<u8, 2048>)
+    requires { out.old.items ≡ [] }
+    ensures { out.new.items ≡ text_of_line (Loaded s) }
+{
+    out.push(b'J');
+    put_number(out, u64::from(s));
+    out.push(b'\n');
+}
+
+/// `T s` and the runs of equal letters of what at most 512 ticks of slot `s` did.
+#[tactic(auto, using(crate::proofs::LineLaws::after_field), unfolding(crate::specs::Printing::text_of_line))]
+pub fn print_ticks(s: u8, paces: &[Pace], out: &mut ArrayVec<u8, 2048>)
+    requires empty { out.old.items ≡ [] }
+    requires few { length paces.now ≤ 512 }
+    ensures { out.new.items ≡ text_of_line (Ticks s paces.now) }
+{
+    out.push(b'T');
+    put_number(out, u64::from(s));
+    put_runs(out, paces);
+    out.push(b'\n');
+}
+
+/// `Y c k`: TYPE on console `c`, where `dropped` bytes found no room.
+#[tactic(auto, unfolding(crate::specs::Printing::text_of_line, its_word::specs::Text::spaced))]
+pub fn print_typed(c: u8, dropped: u32, out: &mut ArrayVec<u8, 2048>)
+    requires { out.old.items ≡ [] }
+    ensures { out.new.items ≡ text_of_line (Typed c dropped) }
+{
+    out.push(b'Y');
+    put_number(out, u64::from(c));
+    put_number(out, u64::from(dropped));
+    out.push(b'\n');
+}
+
+/// `D c` and at most 64 bytes that DRAIN took from console `c`.
+#[tactic(auto, using(crate::proofs::LineLaws::after_field), unfolding(crate::specs::Printing::text_of_line))]
+pub fn print_drained(c: u8, bytes: &[u8], out: &mut ArrayVec<u8, 2048>)
+    requires empty { out.old.items ≡ [] }
+    requires few { length bytes.now ≤ 64 }
+    ensures { out.new.items ≡ text_of_line (Drained c bytes.now) }
+{
+    out.push(b'D');
+    put_number(out, u64::from(c));
+    put_bytes(out, bytes);
+    out.push(b'\n');
+}
+
+/// `E s a` and the words (1 to 8) of slot `s` from address `a` on.
+#[tactic(auto, using(crate::proofs::LineLaws::after_two_fields), unfolding(crate::specs::Printing::text_of_line))]
+pub fn print_words(s: u8, a: u32, words: &[Word], out: &mut ArrayVec<u8, 2048>)
+    requires empty { out.old.items ≡ [] }
+    requires few { length words.now ≤ 8 }
+    ensures { out.new.items ≡ text_of_line (Words s a words.now) }
+{
+    out.push(b'E');
+    put_number(out, u64::from(s));
+    put_address(out, a);
+    put_words(out, words);
+    out.push(b'\n');
+}
+
+/// `S s u j sup con run pc p1 p2 m1 m2 d1 d2`: what STATE shows of slot `s`.
+#[tactic(auto, unfolding(crate::specs::Printing::text_of_line, its_word::specs::Text::spaced))]
+pub fn print_state(s: u8, show: &JobShow, out: &mut ArrayVec<u8, 2048>)
+    requires { out.old.items ≡ [] }
+    ensures { out.new.items ≡ text_of_line (State s show.now) }
+{
+    out.push(b'S');
+    put_number(out, u64::from(s));
+    put_word(out, show.u);
+    put_word(out, show.j);
+    put_number_or_dash(out, show.sup);
+    put_number_or_dash(out, show.con);
+    put(out, run_word(show.run));
+    put_word(out, show.pc);
+    put_word(out, show.p1);
+    put_word(out, show.p2);
+    put_word(out, show.m1);
+    put_word(out, show.m2);
+    put_word(out, show.d1);
+    put_word(out, show.d2);
+    out.push(b'\n');
+}
+
+/// `P s state name left a b h`: what PEEK shows of slot `s`.
+#[tactic(auto, unfolding(crate::specs::Printing::text_of_line, its_word::specs::Text::spaced))]
+pub fn print_peek(s: u8, peek: &Peek, out: &mut ArrayVec<u8, 2048>)
+    requires { out.old.items ≡ [] }
+    ensures { out.new.items ≡ text_of_line (Peeked s peek.now) }
+{
+    out.push(b'P');
+    put_number(out, u64::from(s));
+    put(out, state_word(peek.state));
+    put_word_or_dash(out, peek.name);
+    put_number(out, u64::from(peek.left));
+    put_word_or_dash(out, peek.a);
+    put_word_or_dash(out, peek.b);
+    put_word_or_dash(out, peek.h);
+    out.push(b'\n');
+}
+
+/// `R d n`: directory `d` has `n` files.
+#[tactic(auto, unfolding(crate::specs::Printing::text_of_line, its_word::specs::Text::spaced))]
+pub fn print_dir(d: Word, n: u32, out: &mut ArrayVec<u8, 2048>)
+    requires { out.old.items ≡ [] }
+    ensures { out.new.items ≡ text_of_line (Dir d n) }
+{
+    out.push(b'R');
+    put_word(out, d);
+    put_number(out, u64::from(n));
+    out.push(b'\n');
+}
+
+/// `F x y k`: a file of DIR, with its names and its length in words.
+#[tactic(auto, unfolding(crate::specs::Printing::text_of_line, its_word::specs::Text::spaced))]
+pub fn print_file(show: &FileShow, out: &mut ArrayVec<u8, 2048>)
+    requires { out.old.items ≡ [] }
+    ensures { out.new.items ≡ text_of_line (Filed show.now) }
+{
+    out.push(b'F');
+    put_word(out, show.x);
+    put_word(out, show.y);
+    put_number(out, u64::from(show.length));
+    out.push(b'\n');
+}
+
+/// `W d x y k`: the file of SHOW has `k` words.
+#[tactic(auto, unfolding(crate::specs::Printing::text_of_line, its_word::specs::Text::spaced))]
+pub fn print_show(d: Word, x: Word, y: Word, k: u32, out: &mut ArrayVec<u8, 2048>)
+    requires { out.old.items ≡ [] }
+    ensures { out.new.items ≡ text_of_line (Shown d x y k) }
+{
+    out.push(b'W');
+    put_word(out, d);
+    put_word(out, x);
+    put_word(out, y);
+    put_number(out, u64::from(k));
+    out.push(b'\n');
+}
+
+/// `/` and 1 to 8 of the words of the file of SHOW.
+#[tactic(auto, unfolding(crate::specs::Printing::text_of_line))]
+pub fn print_row(words: &[Word], out: &mut ArrayVec<u8, 2048>)
+    requires empty { out.old.items ≡ [] }
+    requires few { length words.now ≤ 8 }
+    ensures { out.new.items ≡ text_of_line (Row words.now) }
+{
+    out.push(b'/');
+    put_words(out, words);
+    out.push(b'\n');
+}
+
+/// `? n reason`: line `n` of the session, from 1, is refused.
+#[tactic(auto, unfolding(crate::specs::Printing::text_of_line, its_word::specs::Text::spaced))]
+pub fn print_refusal(n: u32, reason: Reason, out: &mut ArrayVec<u8, 2048>)
+    requires { out.old.items ≡ [] }
+    ensures { out.new.items ≡ text_of_line (Refused n reason) }
+{
+    out.push(b'?');
+    put_number(out, u64::from(n));
+    put(out, reason_word(reason));
+    out.push(b'\n');
+}
+
+/// The longest line has 1543 bytes or fewer.
+#[tactic(auto, using(crate::proofs::LongestLine::longest))]
+pub fn longest_line()
+    ensures { (l : Line) → IsPrinted l → length (text_of_line l) ≤ 1543 }
+{}

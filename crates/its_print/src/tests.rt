@@ -1,0 +1,131 @@
+use super::*;
+use arrayvec::ArrayVec;
+use its_word::{FileShow, JobShow, Pace, Peek, PeekState, Reason, Word};
+
+macro_rules! prints {
+    ($rt:expr; $text:literal; $call:ident($($part:expr),*)) => {
+        let mut out = ArrayVec::new();
+        $call($($part,)* &mut out);
+        assert_eq!($rt; out.as_slice(), $text.as_slice());
+    };
+}
+
+#[test]
+fn prints_ticks(rt: HostRuntime) {
+    prints!(rt; b"J 0\n"; print_loaded(0));
+    prints!(rt; b"J 77\n"; print_loaded(0o77));
+    prints!(rt; b"T 0 2*\n"; print_ticks(0, &[Pace::Step, Pace::Step]));
+    prints!(rt; b"T 5 3-\n"; print_ticks(5, &[Pace::Off; 3]));
+    prints!(rt; b"T 0 2. 1* 1. 1w\n"; print_ticks(0, &[Pace::Work, Pace::Work, Pace::Step, Pace::Work, Pace::Wait]));
+    prints!(rt; b"T 0 10.\n"; print_ticks(0, &[Pace::Work; 8]));
+    prints!(rt; b"T 0 100w\n"; print_ticks(0, &[Pace::Wait; 64]));
+}
+
+#[test]
+fn prints_bytes_and_words(rt: HostRuntime) {
+    prints!(rt; b"Y 0 0\n"; print_typed(0, 0));
+    prints!(rt; b"Y 7 40\n"; print_typed(7, 32));
+    prints!(rt; b"D 0 101\n"; print_drained(0, &[0o101]));
+    prints!(rt; b"D 0\n"; print_drained(0, &[]));
+    prints!(rt; b"D 1 12 0 177\n"; print_drained(1, &[0o12, 0, 0o177]));
+    prints!(rt; b"E 0 000200 000000000005\n"; print_words(0, 0o200, &[Word::new(5)]));
+    prints!(rt; b"E 0 000200 350700001000 000000000004\n"; print_words(0, 0o200, &[Word::new(0o350700001000), Word::new(4)]));
+    prints!(rt; b"E 77 777777 777777777777\n"; print_words(0o77, 0o777777, &[Word::ONES]));
+    prints!(rt; b"/ 000000000123\n"; print_row(&[Word::new(0o123)]));
+}
+
+#[test]
+fn prints_jobs(rt: HostRuntime) {
+    let job = JobShow {
+        u: Word::new(0o650000000000),
+        j: Word::new(0o520000000000),
+        sup: None,
+        con: None,
+        run: true,
+        pc: Word::new(0o010000000102),
+        p1: Word::ZERO,
+        p2: Word::ZERO,
+        m1: Word::ZERO,
+        m2: Word::ZERO,
+        d1: Word::ZERO,
+        d2: Word::ZERO,
+    };
+    prints!(rt; b"S 0 650000000000 520000000000 - - RUN 010000000102 000000000000 000000000000 000000000000 000000000000 000000000000 000000000000\n"; print_state(0, &job));
+    let inferior = JobShow {
+        sup: Some(0),
+        con: Some(0),
+        run: false,
+        p1: Word::new(4),
+        p2: Word::new(1),
+        m1: Word::new(2),
+        m2: Word::new(3),
+        d1: Word::new(5),
+        d2: Word::new(6),
+        ..job
+    };
+    prints!(rt; b"S 1 650000000000 520000000000 0 0 STOP 010000000102 000000000004 000000000001 000000000002 000000000003 000000000005 000000000006\n"; print_state(1, &inferior));
+}
+
+#[test]
+fn prints_peeks(rt: HostRuntime) {
+    let user = Peek {
+        state: PeekState::User,
+        name: None,
+        left: 0,
+        a: None,
+        b: None,
+        h: None,
+    };
+    prints!(rt; b"P 0 USER - 0 - - -\n"; print_peek(0, &user));
+    let moving = Peek {
+        state: PeekState::Moving,
+        name: Some(Word::new(0o635157640000)),
+        left: 4,
+        a: Some(Word::new(0o440700001000)),
+        b: Some(Word::new(5)),
+        h: Some(Word::new(0o101)),
+    };
+    prints!(rt; b"P 0 MOVING 635157640000 4 440700001000 000000000005 000000000101\n"; print_peek(0, &moving));
+    for (state, text) in [
+        (PeekState::Entered, b"P 0 ENTERED - 0 - - -\n".as_slice()),
+        (PeekState::Parsed, b"P 0 PARSED - 0 - - -\n"),
+        (PeekState::Asked, b"P 0 ASKED - 0 - - -\n"),
+        (PeekState::Holding, b"P 0 HOLDING - 0 - - -\n"),
+        (PeekState::Waiting, b"P 0 WAITING - 0 - - -\n"),
+        (PeekState::Ending, b"P 0 ENDING - 0 - - -\n"),
+    ] {
+        let mut out = ArrayVec::new();
+        print_peek(0, &Peek { state, ..user }, &mut out);
+        assert_eq!(rt; out.as_slice(), text);
+    }
+}
+
+#[test]
+fn prints_files_and_refusals(rt: HostRuntime) {
+    let (d, x, y) = (
+        Word::new(0o440000000000),
+        Word::new(0o410000000000),
+        Word::new(0o420000000000),
+    );
+    prints!(rt; b"R 440000000000 1\n"; print_dir(d, 1));
+    prints!(rt; b"F 410000000000 420000000000 2\n"; print_file(&FileShow { x, y, length: 2 }));
+    prints!(rt; b"W 440000000000 410000000000 420000000000 1\n"; print_show(d, x, y, 1));
+    for (n, reason, text) in [
+        (3, Reason::Cut, b"? 3 CUT\n".as_slice()),
+        (1, Reason::Syntax, b"? 1 SYNTAX\n"),
+        (2, Reason::Range, b"? 2 RANGE\n"),
+        (0o201, Reason::Full, b"? 201 FULL\n"),
+        (5, Reason::NoPage, b"? 5 NOPAGE\n"),
+        (1, Reason::Long, b"? 1 LONG\n"),
+        (1, Reason::NoJob, b"? 1 NOJOB\n"),
+        (1, Reason::NoCons, b"? 1 NOCONS\n"),
+        (1, Reason::ReadOnly, b"? 1 READONLY\n"),
+        (1, Reason::NoFile, b"? 1 NOFILE\n"),
+        (1, Reason::Exists, b"? 1 EXISTS\n"),
+        (0o4000000, Reason::Unbuilt, b"? 4000000 UNBUILT\n"),
+    ] {
+        let mut out = ArrayVec::new();
+        print_refusal(n, reason, &mut out);
+        assert_eq!(rt; out.as_slice(), text);
+    }
+}
