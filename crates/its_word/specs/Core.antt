@@ -1,6 +1,6 @@
 -- A job's core: sixteen accumulators, at addresses 0 to 17 (octal), and 256 possible pages of 1024
 -- words (docs/MACHINE.md, "Core"). Addresses are below 2 ^ 18; past that nothing is there.
-use Rattle.std.specs.Prelude.{if◌then◌else◌, ℕ, ◌/◌, ◌%◌, Bool, true, false, Option, Some, None, List, nat_lt, replicate, sum_by, count_by, slice_get, slice_set, is_some, Result, Ok, Err}
+use Rattle.std.specs.Prelude.{if◌then◌else◌, ℕ, ◌/◌, ◌%◌, Bool, true, false, Option, Some, None, List, nat_lt, replicate, sum_by, count_by, slice_get, slice_set, is_some, unwrap_or, Result, Ok, Err}
 use Rattle.std.specs.List.{range_with_len}
 use Rattle.its_word.specs.Limits.{slots}
 use Rattle.its_word.specs.declared.access.NoAccess.{NoAccess}
@@ -41,6 +41,10 @@ page_stored None k w = None
 unfoldable pub word_at : Core → ℕ → Option ℕ
 word_at c a = if nat_lt a 16 then slice_get c.accs a else word_in (page_of c (a / 1024)) (a % 1024)
 
+-- an accumulator's word
+abbrev pub acc_at : Core → ℕ → ℕ
+acc_at c a = unwrap_or (word_at c a) 0
+
 -- whether a word can be stored at an address: its page is present and writable
 unfoldable pub can_store : Core → ℕ → Bool
 can_store c a = if nat_lt a 16 then is_some (slice_get c.accs a) else stores_in (page_of c (a / 1024)) (a % 1024)
@@ -50,6 +54,19 @@ unfoldable pub store : Core → ℕ → ℕ → Core
 store c a w =
     if nat_lt a 16 then record c { accs = slice_set c.accs a w }
     else record c { pages = slice_set c.pages (a / 1024) (page_stored (page_of c (a / 1024)) (a % 1024) w) }
+
+-- the core with another page, or none, as its page number k
+unfoldable pub with_page : Core → ℕ → Option Page → Core
+with_page c k p = record c { pages = slice_set c.pages k p }
+
+-- a page of zeros, which can be stored to
+unfoldable pub zero_page : Page
+zero_page = record { words = replicate 1024 0; writable = true }
+
+-- a page with its writable mark set or cleared
+abbrev pub marked : Option Page → Bool → Option Page
+marked (Some p) w = Some (record p { writable = w })
+marked None w = None
 
 -- the core that an empty slot has: accumulators of zeros and no page
 unfoldable pub no_core : Core

@@ -5,3 +5,4 @@ pub mod Line
 pub mod Limits
 pub mod Only
 pub mod Core
+pub mod Address
