@@ -1,2 +1,3 @@
-mod WordLaws
 pub mod CoreLaws
+pub mod TextLaws
+pub mod WordLaws

@@ -6,3 +6,8 @@ pub mod Limits
 pub mod Only
 pub mod Core
 pub mod Address
+pub mod Result2
+pub mod Arith
+pub mod Logic
+pub mod Shift
+pub mod Byte

@@ -10,6 +10,7 @@ mod limits;
 mod result2;
 mod session;
 mod show;
+mod text;
 mod word;
 
 pub use access::{Address, Fault, NoAccess};
@@ -20,4 +21,5 @@ pub use limits::{MAPPED_PAGES, SLOTS};
 pub use result2::Result2;
 pub use session::{Bad, Event, Place, Reason, Refusal};
 pub use show::{FileShow, JobShow, Peek, PeekState};
+pub use text::{BadName, BadOctal, read_octal, read_sixbit};
 pub use word::Word;
