@@ -1,3 +1,9 @@
 pub mod Job
 pub mod Machine
+pub mod UnitPlan
+pub mod UnitMoves
+pub mod UnitArith
+pub mod UnitJumps
+pub mod UnitTests
+pub mod UnitBytes
 pub mod Unit
