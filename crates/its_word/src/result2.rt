@@ -1,3 +1,6 @@
+ghost use Rattle.std.specs.Prelude.{◌≡◌};
+ghost use Rattle.its_word.specs.Result2.{one_word};
+
 use super::word::Word;
 
 /// What a row of the instruction tables gives: its first result, its second (0 where it has none)
@@ -7,4 +10,17 @@ pub struct Result2 {
     pub first: Word,
     pub second: Word,
     pub flags: u32,
+}
+
+impl Result2 {
+    /// One result, and flags.
+    pub fn one_word(first: Word, flags: u32) -> Result2
+        ensures { result ≡ one_word first flags }
+    {
+        Result2 {
+            first,
+            second: Word::ZERO,
+            flags,
+        }
+    }
 }

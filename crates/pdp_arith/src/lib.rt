@@ -1,0 +1,16 @@
+//! Integer arithmetic of the PDP-10, each family by its row of the instruction tables (processor
+//! reference manual, "Fixed point arithmetic" and "Arithmetic testing").
+#![tactic(auto)]
+
+mod compare;
+mod product;
+mod quotient;
+mod sums;
+
+pub use compare::compares;
+pub use product::{imul, mul};
+pub use quotient::{div, idiv};
+pub use sums::{add, magnitude, neg, sub};
+
+/// Bits 1 to 35 of a word.
+const LOW_35: u64 = 0o377777777777;

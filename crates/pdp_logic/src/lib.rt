@@ -1,0 +1,17 @@
+//! Boolean functions, half words, tests, shifts and rotations of the PDP-10, each family by its row of
+//! the instruction tables (processor reference manual, "Logic", "Half word data transmission",
+//! "Logical testing and modification" and "Fixed point arithmetic").
+#![tactic(auto)]
+
+mod arithmetic;
+mod booleans;
+mod count;
+mod halves;
+mod masked;
+mod shifts;
+
+pub use arithmetic::{ash, ashc};
+pub use booleans::boolean;
+pub use halves::half;
+pub use masked::{changed, tested};
+pub use shifts::{lsh, lshc, rot, rotc, zeros};
