@@ -6,26 +6,26 @@ use Rattle.std.proofs.lemmas.List.{set-set, set_comm}
 use Rattle.its_word.specs.Core.{Page, Core, present, page_of, word_in, stores_in, page_stored, word_at, can_store, store}
 
 -- a list, read by `slice_get`
-get_set : {X : Type 0} (xs : List X) (i : ℕ) (x : X) → is_some (slice_get xs i) ≡ true → slice_get (slice_set xs i x) i ≡ Some x
+pub get_set : {X : Type 0} (xs : List X) (i : ℕ) (x : X) → is_some (slice_get xs i) ≡ true → slice_get (slice_set xs i x) i ≡ Some x
 get_set [] i x h = cc
 get_set (y ∷ ys) zero x h = refl
 get_set (y ∷ ys) (suc i) x h = get_set ys i x h
 
-get_set_other : {X : Type 0} (xs : List X) (i j : ℕ) (x : X) → j ≢ i → slice_get (slice_set xs i x) j ≡ slice_get xs j
+pub get_set_other : {X : Type 0} (xs : List X) (i j : ℕ) (x : X) → j ≢ i → slice_get (slice_set xs i x) j ≡ slice_get xs j
 get_set_other [] i j x ne = refl
 get_set_other (y ∷ ys) zero zero x ne = absurd (ne refl)
 get_set_other (y ∷ ys) zero (suc j) x ne = refl
 get_set_other (y ∷ ys) (suc i) zero x ne = refl
 get_set_other (y ∷ ys) (suc i) (suc j) x ne = get_set_other ys i j x (λ e. ne (ap suc e))
 
-some_set : {X : Type 0} (xs : List X) (i j : ℕ) (x : X) → is_some (slice_get (slice_set xs i x) j) ≡ is_some (slice_get xs j)
+pub some_set : {X : Type 0} (xs : List X) (i j : ℕ) (x : X) → is_some (slice_get (slice_set xs i x) j) ≡ is_some (slice_get xs j)
 some_set [] i j x = refl
 some_set (y ∷ ys) zero zero x = refl
 some_set (y ∷ ys) zero (suc j) x = refl
 some_set (y ∷ ys) (suc i) zero x = refl
 some_set (y ∷ ys) (suc i) (suc j) x = some_set ys i j x
 
-set_same : {X : Type 0} (xs : List X) (i : ℕ) (x : X) → slice_get xs i ≡ Some x → slice_set xs i x ≡ xs
+pub set_same : {X : Type 0} (xs : List X) (i : ℕ) (x : X) → slice_get xs i ≡ Some x → slice_set xs i x ≡ xs
 set_same [] i x h = refl
 set_same (y ∷ ys) zero x h = let e : y ≡ x = cc in ap (λ z. z ∷ ys) (sym e)
 set_same (y ∷ ys) (suc i) x h = ap (λ z. y ∷ z) (set_same ys i x h)
@@ -78,28 +78,28 @@ stores_some (Some p) j h = go p.writable (is_some (slice_get p.words j)) h
     go true t h = h
     go false t h = cc
 
--- the two kinds of address
-in_accs : (c : Core) (a : ℕ) → nat_lt a 16 ≡ true → word_at c a ≡ slice_get c.accs a
+-- the two kinds of address, for those who keep cores in another form
+pub in_accs : (c : Core) (a : ℕ) → nat_lt a 16 ≡ true → word_at c a ≡ slice_get c.accs a
 unfolding word_at
 in_accs c a t = rw t refl
 
-in_page : (c : Core) (a : ℕ) → nat_lt a 16 ≡ false → word_at c a ≡ word_in (page_of c (a / 1024)) (a % 1024)
+pub in_page : (c : Core) (a : ℕ) → nat_lt a 16 ≡ false → word_at c a ≡ word_in (page_of c (a / 1024)) (a % 1024)
 unfolding word_at
 in_page c a t = rw t refl
 
-stores_acc : (c : Core) (a : ℕ) → nat_lt a 16 ≡ true → can_store c a ≡ is_some (slice_get c.accs a)
+pub stores_acc : (c : Core) (a : ℕ) → nat_lt a 16 ≡ true → can_store c a ≡ is_some (slice_get c.accs a)
 unfolding can_store
 stores_acc c a t = rw t refl
 
-stores_page : (c : Core) (a : ℕ) → nat_lt a 16 ≡ false → can_store c a ≡ stores_in (page_of c (a / 1024)) (a % 1024)
+pub stores_page : (c : Core) (a : ℕ) → nat_lt a 16 ≡ false → can_store c a ≡ stores_in (page_of c (a / 1024)) (a % 1024)
 unfolding can_store
 stores_page c a t = rw t refl
 
-store_acc : (c : Core) (a w : ℕ) → nat_lt a 16 ≡ true → store c a w ≡ record c { accs = slice_set c.accs a w }
+pub store_acc : (c : Core) (a w : ℕ) → nat_lt a 16 ≡ true → store c a w ≡ record c { accs = slice_set c.accs a w }
 unfolding store
 store_acc c a w t = rw t refl
 
-store_page : (c : Core) (a w : ℕ) → nat_lt a 16 ≡ false → store c a w ≡ record c { pages = slice_set c.pages (a / 1024) (page_stored (page_of c (a / 1024)) (a % 1024) w) }
+pub store_page : (c : Core) (a w : ℕ) → nat_lt a 16 ≡ false → store c a w ≡ record c { pages = slice_set c.pages (a / 1024) (page_stored (page_of c (a / 1024)) (a % 1024) w) }
 unfolding store
 store_page c a w t = rw t refl
 

@@ -1,3 +1,4 @@
 pub mod CoreLaws
+pub mod PageLaws
 pub mod TextLaws
 pub mod WordLaws

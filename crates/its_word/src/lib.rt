@@ -8,6 +8,7 @@ mod flags;
 mod instruction;
 mod jobs;
 mod limits;
+mod memory;
 mod opcode;
 mod plan;
 mod result2;
@@ -24,6 +25,7 @@ pub use instruction::{
 };
 pub use jobs::{Channel, Job};
 pub use limits::{MAPPED_PAGES, SLOTS};
+pub use memory::NoMemory;
 pub use opcode::decode;
 pub use plan::{Context, Plan, Store};
 pub use result2::Result2;
