@@ -1,5 +1,11 @@
 pub mod Job
 pub mod Machine
+pub mod UnitPlan
+pub mod UnitMoves
+pub mod UnitArith
+pub mod UnitJumps
+pub mod UnitTests
+pub mod UnitBytes
 pub mod Unit
 pub mod Interrupt
 pub mod Step

@@ -1,36 +1,146 @@
 -- The unit: one instruction, one word of BLT, or one half of ILDB or IDPB (processor reference
 -- manual, "User operations"; docs/MACHINE.md, "Instructions").
+<<<<<<< HEAD
 use Rattle.std.specs.Prelude.{ℕ, Option, Some, None}
 use Rattle.its_word.specs.Core.{Core, word_at}
 use Rattle.its_word.specs.declared.jobs.Job.{Job}
 use Rattle.its_word.specs.declared.calls.Site.{Site}
 use Rattle.its_word.specs.declared.access.Fault.{Fault}
 use Rattle.its_word.specs.declared.access.Fault.TheVariants.{Mpv, Ilo}
+=======
+use Rattle.std.specs.Prelude.{if◌then◌else◌, ◌==◌, ◌||◌, ℕ, zero, suc, ◌+◌, ◌%◌, ◌^◌, Bool, true, false, List, [], ◌∷◌, Option, Some, None, Result, Ok, Err, nat_lt}
+use Rattle.std.specs.Option.{option_or}
+use Rattle.its_word.specs.Core.{Core, word_at, can_store, store}
+use Rattle.its_word.specs.Limits.{budget}
+use Rattle.its_word.specs.Address.{Addressed, address}
+use Rattle.its_word.specs.Opcode.{opcode_of, ac_of, instruction_of}
+use Rattle.its_word.specs.declared.access.Address.{Address}
+use Rattle.its_word.specs.declared.access.Fault.{Fault}
+use Rattle.its_word.specs.declared.access.Fault.TheVariants.{Mpv, Wro, Ilo}
+use Rattle.its_word.specs.declared.calls.Site.{Site}
+use Rattle.its_word.specs.declared.jobs.Job.{Job}
+use Rattle.its_word.specs.declared.instruction.BranchOp.TheVariants.{Jrst}
+use Rattle.its_word.specs.declared.instruction.Instruction.{Instruction}
+use Rattle.its_word.specs.declared.instruction.Instruction.TheVariants.{Move, Exch, Arithmetic, Shift, Branch, Xct, Stack, Compare, Boolean, Half, Test, Byte, Iot, Call, Break, Illegal}
+use Rattle.its_word.specs.declared.plan.Context.{Context}
+use Rattle.its_word.specs.declared.plan.Plan.{Plan}
+use Rattle.its_word.specs.declared.plan.Store.{Store}
+use Rattle.its_plain.specs.Job.{BRK, named_flags, with_pending}
+use Rattle.its_plain.specs.UnitPlan.{Planned, given, read_of, next}
+use Rattle.its_plain.specs.UnitMoves.{move_row, exch_row, half_row}
+use Rattle.its_plain.specs.UnitArith.{arithmetic_row, shift_row, boolean_row}
+use Rattle.its_plain.specs.UnitJumps.{branch_row, stack_row}
+use Rattle.its_plain.specs.UnitTests.{compare_row, test_row}
+use Rattle.its_plain.specs.UnitBytes.{byte_row}
+>>>>>>> 21bffb6a10a500f313f8b636373e9f61ef08502a
 
--- what an instruction comes to: the core and the registers after it, or a fault, at which nothing of
--- it is done
-pub data Row : Type 0 where
-  Did : Core → Job → Row
-  Faults : Fault → Row
-
--- what a unit comes to: the same, or a call of the monitor
+-- what a unit comes to: the core and the registers after it; a fault, at which nothing of it is done; or
+-- a call of the monitor
 pub data Outcome : Type 0 where
   Changed : Core → Job → Outcome
   Faulted : Fault → Outcome
   Called : Site → Outcome
 
-abbrev pub outcome_of : Row → Outcome
-outcome_of (Did c j) = Changed c j
-outcome_of (Faults f) = Faulted f
+-- whether an instruction is in the tables with this A; any other is ILO, and its E is not looked at.
+-- `.IOT`, and `.CALL` with A = 0, have no row yet
+abbrev pub has_row : Instruction → ℕ → Bool
+has_row (Branch Jrst) a = a == 0 || a == 2
+has_row Iot a = false
+has_row Call a = false
+has_row Break a = a == 0o16
+has_row Illegal a = false
+has_row _ a = true
 
--- the row of an instruction word
-unfoldable pub row_of : Core → Job → ℕ → Row
-row_of c j w = Faults Ilo
+-- an instruction, and what its row finds
+abbrev pub Found : Type 0
+Found = Result (Instruction × Context) Fault
 
-abbrev pub fetched : Core → Job → Option ℕ → Row
-fetched c j None = Faults Mpv
-fetched c j (Some w) = row_of c j w
+abbrev pub context_of : Job → ℕ → ℕ → Address → Context
+context_of j w used e = record {
+  pc = j.pc;
+  flags = j.flags;
+  a = ac_of w;
+  e = e.e;
+  flags_word = e.flags_word;
+  used = used;
+}
 
--- the unit of a job, whose instruction is fetched at its PC
+-- the target of an XCT at e, which counts against the budget; where nothing is left of it, that is ILO
+abbrev pub target : (ℕ → ℕ → Found) → Core → ℕ → ℕ → Found
+target follow c used e = if nat_lt used budget then given (read_of c e) (λ v. follow v (used + 1)) else Err Ilo
+
+-- 256 XCT goes on with the word at E; A is not used. Any other instruction is found
+abbrev pub found_by : (ℕ → ℕ → Found) → Core → Job → ℕ → ℕ → Address → Instruction → Found
+found_by follow c j w used e Xct = target follow c used e.e
+found_by follow c j w used e i = Ok (i, context_of j w used e)
+
+abbrev pub addressed_by : (ℕ → ℕ → Found) → Core → Job → ℕ → Instruction → Addressed → Found
+addressed_by follow c j w i r = given r.answer (λ e. found_by follow c j w r.used e i)
+
+-- the instruction of a word, or at the end of its chain of at most n - 1 XCTs. PC is that of the first
+unfoldable pub chain : ℕ → Core → Job → ℕ → ℕ → Found
+chain zero c j w used = Err Ilo
+chain (suc n) c j w used =
+    if has_row (instruction_of (opcode_of w)) (ac_of w)
+    then addressed_by (λ v k. chain n c j v k) c j w (instruction_of (opcode_of w)) (address c w used)
+    else Err Ilo
+
+-- 045 .BREAK 16, sets BRK
+unfoldable pub break_row : Context → Planned
+break_row x = Ok (record (next x [] 0) { pending = BRK })
+
+-- the row of an instruction
+unfoldable pub row_of : Core → Context → Instruction → Planned
+row_of c x (Move op m) = move_row c x op m
+row_of c x Exch = exch_row c x
+row_of c x (Arithmetic op m) = arithmetic_row c x op m
+row_of c x (Shift op) = shift_row c x op
+row_of c x (Branch op) = branch_row c x op
+row_of c x (Stack op) = stack_row c x op
+row_of c x (Compare op k) = compare_row c x op k
+row_of c x (Boolean k m) = boolean_row c x k m
+row_of c x (Half k m) = half_row c x k m
+row_of c x (Test m k change) = test_row c x m k change
+row_of c x (Byte op) = byte_row c x op
+row_of c x Break = break_row x
+row_of c x Xct = Err Ilo
+row_of c x Iot = Err Ilo
+row_of c x Call = Err Ilo
+row_of c x Illegal = Err Ilo
+
+-- the plan of a job, whose instruction is fetched at its PC
+unfoldable pub planned : Core → Job → Planned
+planned c j = given (read_of c j.pc) (λ w. given (chain (budget + 1) c j w 0) (λ f. row_of c f.1 f.0))
+
+-- why a store cannot be made, where it cannot
+abbrev pub refusal : Bool → Option ℕ → Option Fault
+refusal true there = None
+refusal false None = Some Mpv
+refusal false (Some w) = Some Wro
+
+-- the fault of the first store that cannot be made
+unfoldable pub first_fault : Core → List Store → Option Fault
+first_fault c [] = None
+first_fault c (s ∷ ss) = option_or (refusal (can_store c s.at) (word_at c s.at)) (first_fault c ss)
+
+-- the core after stores in their order
+unfoldable pub stored : Core → List Store → Core
+stored c [] = c
+stored c (s ∷ ss) = stored (store c s.at s.word) ss
+
+-- the registers after a plan: PC has 18 bits, and of the flags only the named ones are kept
+abbrev pub left_by : Job → Plan → Job
+left_by j p = with_pending (record j { pc = p.pc % 2 ^ 18; flags = named_flags p.flags }) p.pending
+
+-- all stores are checked before any is made
+abbrev pub made : Core → Job → Plan → Option Fault → Outcome
+made c j p None = Changed (stored c p.stores.items) (left_by j p)
+made c j p (Some f) = Faulted f
+
+abbrev pub outcome_of : Core → Job → Planned → Outcome
+outcome_of c j (Ok p) = made c j p (first_fault c p.stores.items)
+outcome_of c j (Err f) = Faulted f
+
+-- the unit of a job
 unfoldable pub unit : Core → Job → Outcome
-unit c j = outcome_of (fetched c j (word_at c j.pc))
+unit c j = outcome_of c j (planned c j)

@@ -12,3 +12,4 @@ pub mod Arith
 pub mod Logic
 pub mod Shift
 pub mod Byte
+pub mod Opcode

@@ -6,9 +6,12 @@ mod access;
 mod calls;
 mod digits;
 mod flags;
+mod instruction;
 mod jobs;
 mod limits;
 mod memory;
+mod opcode;
+mod plan;
 mod result2;
 mod session;
 mod show;
@@ -19,9 +22,14 @@ pub use access::{Address, Fault, NoAccess};
 pub use calls::{Ask, Exit, Operand, Owed, Pace, Site};
 pub use digits::{digits_read_back, octal, octal6};
 pub use flags::{BYTE_HALF, CARRY_0, CARRY_1, FLOATING_OVERFLOW, NO_DIVIDE, OVERFLOW, USER};
+pub use instruction::{
+    ArithmeticOp, BranchOp, ByteOp, CompareOp, Instruction, MaskOp, Mode, MoveOp, ShiftOp, StackOp,
+};
 pub use jobs::{Channel, Job};
 pub use limits::{MAPPED_PAGES, SLOTS};
 pub use memory::NoMemory;
+pub use opcode::decode;
+pub use plan::{Context, Plan, Store};
 pub use result2::Result2;
 pub use session::{Bad, Event, Place, Reason, Refusal};
 pub use show::{FileShow, JobShow, Peek, PeekState};

@@ -1,0 +1,85 @@
+-- Integer arithmetic, shifts and Boolean functions (processor reference manual, "Fixed point
+-- arithmetic" and "Logic").
+use Rattle.std.specs.Prelude.{if◌then◌else◌, ◌==◌, ◌||◌, ◌&&◌, not, ℕ, ◌+◌, Bool, true, false, [], ◌∷◌, Option, Some, None, Ok}
+use Rattle.its_word.specs.Core.{Core}
+use Rattle.its_word.specs.Arith.{add_of, sub_of, imul_of, mul_of, idiv_of, div_of}
+use Rattle.its_word.specs.Shift.{ash_of, rot_of, lsh_of, ashc_of, rotc_of, lshc_of, zeros_of}
+use Rattle.its_word.specs.Logic.{boolean_of}
+use Rattle.its_word.specs.declared.flags.TheConstants.{OVERFLOW, NO_DIVIDE}
+use Rattle.its_word.specs.declared.result2.Result2.{Result2}
+use Rattle.its_word.specs.declared.instruction.Mode.{Mode}
+use Rattle.its_word.specs.declared.instruction.Mode.TheVariants.{Basic, Immediate, Memory, Both}
+use Rattle.its_word.specs.declared.instruction.ArithmeticOp.{ArithmeticOp}
+use Rattle.its_word.specs.declared.instruction.ArithmeticOp.TheVariants.{Add, Sub, Imul, Mul, Idiv, Div}
+use Rattle.its_word.specs.declared.instruction.ShiftOp.{ShiftOp}
+use Rattle.its_word.specs.declared.instruction.ShiftOp.TheVariants.{Ash, Rot, Lsh, Jffo, Ashc, Rotc, Lshc}
+use Rattle.its_word.specs.declared.plan.Context.{Context}
+use Rattle.its_word.specs.declared.plan.Plan.{Plan}
+use Rattle.its_word.specs.declared.plan.Store.{Store}
+use Rattle.std.specs.Prelude.{List}
+use Rattle.its_plain.specs.UnitPlan.{Planned, given, ac, next_ac, next_a, to, next, jump, worked_from, worked_to, two_to}
+
+-- one result, or two
+abbrev pub one_result : Context → Mode → Result2 → Plan
+one_result x m r = next x (worked_to x m r.first) r.flags
+
+abbrev pub two_results : Context → Mode → Result2 → Plan
+two_results x m r = next x (two_to x m r.first r.second) r.flags
+
+-- a refused division sets overflow and no divide and changes no operand. Where its mode stores in C(E),
+-- that reference is made all the same, and leaves C(E) as it is
+unfoldable pub refused_to : Context → Mode → ℕ → List Store
+refused_to x Basic s = []
+refused_to x Immediate s = []
+refused_to x Memory s = to x.e s ∷ []
+refused_to x Both s = to x.e s ∷ []
+
+unfoldable pub quotient : Context → Mode → ℕ → Option Result2 → Plan
+quotient x m s (Some r) = two_results x m r
+quotient x m s None = next x (refused_to x m s) (OVERFLOW + NO_DIVIDE)
+
+-- 270 ADD, 274 SUB, 220 IMUL, 224 MUL, 230 IDIV, 234 DIV
+unfoldable pub worked : Core → Context → ArithmeticOp → Mode → ℕ → Plan
+worked c x Add m s = one_result x m (add_of (ac c x) s)
+worked c x Sub m s = one_result x m (sub_of (ac c x) s)
+worked c x Imul m s = one_result x m (imul_of (ac c x) s)
+worked c x Mul m s = two_results x m (mul_of (ac c x) s)
+worked c x Idiv m s = quotient x m s (idiv_of (ac c x) s)
+worked c x Div m s = quotient x m s (div_of (ac c x) (next_ac c x) s)
+
+unfoldable pub arithmetic_row : Core → Context → ArithmeticOp → Mode → Planned
+arithmetic_row c x op m = given (worked_from c x m) (λ s. Ok (worked c x op m s))
+
+-- shifts, by the count E: of AC, or of AC and AC+1
+abbrev pub one_shifted : Context → Result2 → Plan
+one_shifted x r = next x (to x.a r.first ∷ []) r.flags
+
+abbrev pub two_shifted : Context → Result2 → Plan
+two_shifted x r = next x (to x.a r.first ∷ to (next_a x) r.second ∷ []) r.flags
+
+-- 240 ASH, 241 ROT, 242 LSH; 243 JFFO: the zeros before AC's first one to AC+1, and a jump where there
+-- is a one; 244 ASHC, 245 ROTC, 246 LSHC
+unfoldable pub shift_row : Core → Context → ShiftOp → Planned
+shift_row c x Ash = Ok (one_shifted x (ash_of x.e (ac c x)))
+shift_row c x Rot = Ok (one_shifted x (rot_of x.e (ac c x)))
+shift_row c x Lsh = Ok (one_shifted x (lsh_of x.e (ac c x)))
+shift_row c x Jffo = Ok (jump x (to (next_a x) (zeros_of (ac c x)) ∷ []) 0 (not (ac c x == 0)))
+shift_row c x Ashc = Ok (two_shifted x (ashc_of x.e (ac c x) (next_ac c x)))
+shift_row c x Rotc = Ok (two_shifted x (rotc_of x.e (ac c x) (next_ac c x)))
+shift_row c x Lshc = Ok (two_shifted x (lshc_of x.e (ac c x) (next_ac c x)))
+
+-- SETZ, SETA, SETCA and SETO, which do not use the source
+abbrev pub is_constant : ℕ → Bool
+is_constant k = k == 0 || k == 5 || k == 10 || k == 15
+
+-- 400 SETZ to 474 SETO; in mode Basic those four do not read C(E)
+unfoldable pub boolean_row : Core → Context → ℕ → Mode → Planned
+boolean_row c x k m =
+    if is_constant k && is_basic m then Ok (next x (worked_to x m (boolean_of k (ac c x) 0)) 0)
+    else given (worked_from c x m) (λ s. Ok (next x (worked_to x m (boolean_of k (ac c x) s)) 0))
+  where
+    is_basic : Mode → Bool
+    is_basic Basic = true
+    is_basic Immediate = false
+    is_basic Memory = false
+    is_basic Both = false

@@ -1,0 +1,126 @@
+-- The opcodes, bits 0 to 8 of an instruction word (processor reference manual, "User operations").
+use Rattle.std.specs.Prelude.{if◌then◌else◌, ◌==◌, ◌<◌, ℕ, ◌+◌, ◌*◌, ◌/◌, ◌%◌, ◌^◌, List, [], ◌∷◌, slice_get, unwrap_or}
+use Rattle.its_word.specs.declared.instruction.Instruction.{Instruction}
+use Rattle.its_word.specs.declared.instruction.Instruction.TheVariants.{Move, Exch, Arithmetic, Shift, Branch, Xct, Stack, Compare, Boolean, Half, Test, Byte, Iot, Call, Break, Illegal}
+use Rattle.its_word.specs.declared.instruction.Mode.{Mode}
+use Rattle.its_word.specs.declared.instruction.Mode.TheVariants.{Basic, Immediate, Memory, Both}
+use Rattle.its_word.specs.declared.instruction.MoveOp.TheVariants.{Plain, Swap, Negate, Magnitude}
+use Rattle.its_word.specs.declared.instruction.ArithmeticOp.TheVariants.{Add, Sub, Imul, Mul, Idiv, Div}
+use Rattle.its_word.specs.declared.instruction.ShiftOp.TheVariants.{Ash, Rot, Lsh, Jffo, Ashc, Rotc, Lshc}
+use Rattle.its_word.specs.declared.instruction.BranchOp.TheVariants.{Blt, Aobjp, Aobjn, Jrst, Jfcl}
+use Rattle.its_word.specs.declared.instruction.StackOp.TheVariants.{Pushj, Push, Pop, Popj, Jsr, Jsp, Jsa, Jra}
+use Rattle.its_word.specs.declared.instruction.CompareOp.{CompareOp}
+use Rattle.its_word.specs.declared.instruction.CompareOp.TheVariants.{Cai, Cam, Jump, Skip, Aoj, Aos, Soj, Sos}
+use Rattle.its_word.specs.declared.instruction.MaskOp.{MaskOp}
+use Rattle.its_word.specs.declared.instruction.MaskOp.TheVariants.{Tr, Tl, Td, Ts}
+use Rattle.its_word.specs.declared.instruction.ByteOp.TheVariants.{Ibp, Ildb, Ldb, Idpb, Dpb}
+
+-- the opcode, and A, bits 9 to 12
+abbrev pub opcode_of : ℕ → ℕ
+opcode_of w = w / 2 ^ 27
+
+abbrev pub ac_of : ℕ → ℕ
+ac_of w = w / 2 ^ 23 % 16
+
+-- the entry of a table at a place, or another past its end
+abbrev pub entry_or : {X : Type 0} → X → List X → ℕ → X
+entry_or other table k = unwrap_or (slice_get table k) other
+
+abbrev pub entry : List Instruction → ℕ → Instruction
+entry table k = entry_or Illegal table k
+
+-- the modes of four opcodes in a row
+unfoldable pub mode_of : ℕ → Mode
+mode_of op = entry_or Basic (Basic ∷ Immediate ∷ Memory ∷ Both ∷ []) (op % 4)
+
+-- 040 .IOT, 043 .CALL, 045 .BREAK
+unfoldable pub monitor_opcode : ℕ → Instruction
+monitor_opcode op = if op == 0o40 then Iot else (if op == 0o43 then Call else (if op == 0o45 then Break else Illegal))
+
+-- 133 IBP, 134 ILDB, 135 LDB, 136 IDPB, 137 DPB
+unfoldable pub byte_opcode : ℕ → Instruction
+byte_opcode op =
+    if op == 0o133 then Byte Ibp
+    else (if op == 0o134 then Byte Ildb
+    else (if op == 0o135 then Byte Ldb
+    else (if op == 0o136 then Byte Idpb
+    else (if op == 0o137 then Byte Dpb else Illegal))))
+
+-- 240 ASH, ROT, LSH, JFFO, ASHC, ROTC, LSHC
+unfoldable pub shift_opcode : ℕ → Instruction
+shift_opcode op =
+    entry
+    (Shift Ash ∷ Shift Rot ∷ Shift Lsh ∷ Shift Jffo ∷ Shift Ashc ∷ Shift Rotc ∷ Shift Lshc ∷ Illegal ∷ [])
+    (op % 8)
+
+-- 250 EXCH, BLT, AOBJP, AOBJN, JRST, JFCL, XCT
+unfoldable pub branch_opcode : ℕ → Instruction
+branch_opcode op =
+    entry
+    (Exch ∷ Branch Blt ∷ Branch Aobjp ∷ Branch Aobjn ∷ Branch Jrst ∷ Branch Jfcl ∷ Xct ∷ Illegal ∷ [])
+    (op % 8)
+
+-- 260 PUSHJ, PUSH, POP, POPJ, JSR, JSP, JSA, JRA
+unfoldable pub stack_opcode : ℕ → Instruction
+stack_opcode op =
+    entry
+    (Stack Pushj ∷ Stack Push ∷ Stack Pop ∷ Stack Popj ∷ Stack Jsr ∷ Stack Jsp ∷ Stack Jsa ∷ Stack Jra ∷ [])
+    (op % 8)
+
+-- 200 to 277, four opcodes a row: 200 MOVE, 204 MOVS, 210 MOVN, 214 MOVM, 220 IMUL, 224 MUL, 230 IDIV, 234 DIV, the three
+-- tables above, 270 ADD, 274 SUB
+unfoldable pub full_word_opcode : ℕ → Instruction
+full_word_opcode op =
+    entry
+    (Move Plain (mode_of op)
+    ∷ Move Swap (mode_of op)
+    ∷ Move Negate (mode_of op)
+    ∷ Move Magnitude (mode_of op)
+    ∷ Arithmetic Imul (mode_of op)
+    ∷ Arithmetic Mul (mode_of op)
+    ∷ Arithmetic Idiv (mode_of op)
+    ∷ Arithmetic Div (mode_of op)
+    ∷ shift_opcode op
+    ∷ shift_opcode op
+    ∷ branch_opcode op
+    ∷ branch_opcode op
+    ∷ stack_opcode op
+    ∷ stack_opcode op
+    ∷ Arithmetic Add (mode_of op)
+    ∷ Arithmetic Sub (mode_of op)
+    ∷ [])
+    (op / 4 % 16)
+
+-- 300 CAI, 310 CAM, 320 JUMP, 330 SKIP, 340 AOJ, 350 AOS, 360 SOJ, 370 SOS, with the condition in the low digit
+unfoldable pub compare_opcode : ℕ → Instruction
+compare_opcode op = Compare (entry_or Cai (Cai ∷ Cam ∷ Jump ∷ Skip ∷ Aoj ∷ Aos ∷ Soj ∷ Sos ∷ []) (op / 8 % 8)) (op % 8)
+
+-- 600 + 20c + 10g + 2k + h: g 0 h 0 TR, g 0 h 1 TL, g 1 h 0 TD, g 1 h 1 TS
+unfoldable pub mask_of : ℕ → MaskOp
+mask_of op = entry_or Tr (Tr ∷ Tl ∷ Td ∷ Ts ∷ []) (op / 8 % 2 * 2 + op % 2)
+
+unfoldable pub test_opcode : ℕ → Instruction
+test_opcode op = Test (mask_of op) (op / 2 % 4) (op / 16 % 4)
+
+-- all opcodes by their first digit. 100 to 177 have bytes alone; 400 SETZ to 474 SETO and 500 HLL to 574 HLRE four modes each
+unfoldable pub instruction_of : ℕ → Instruction
+instruction_of op =
+    entry
+    (monitor_opcode op
+    ∷ byte_opcode op
+    ∷ full_word_opcode op
+    ∷ compare_opcode op
+    ∷ Boolean (op / 4 % 16) (mode_of op)
+    ∷ Half (op / 4 % 16) (mode_of op)
+    ∷ test_opcode op
+    ∷ Illegal
+    ∷ [])
+    (op / 64)
+
+-- the numbers of an instruction are those of its tables
+abbrev pub IsRow : Instruction → Type 0
+IsRow (Boolean k m) = k < 16
+IsRow (Half k m) = k < 16
+IsRow (Compare o c) = c < 8
+IsRow (Test o k c) = (k < 4) × (c < 4)
+IsRow _ = Unit {0}
