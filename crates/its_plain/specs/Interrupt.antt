@@ -1,13 +1,15 @@
 -- Software interrupts and their delivery (docs/MACHINE.md, "Interrupts").
 use Rattle.std.specs.Prelude.{if◌then◌else◌, ◌==◌, ℕ, zero, suc, ◌+◌, ◌-◌, ◌/◌, ◌%◌, ◌^◌, Bool, true, false, not, ◌&&◌, ◌||◌, Option, Some, None, List, [], ◌∷◌, Result, Ok, Err, nat_le, bit_and, bit_or}
 use Rattle.its_word.specs.Word.{left_of, right_of, pair_of, complement_of}
-use Rattle.its_word.specs.Core.{Core, word_at, can_store, store}
+use Rattle.its_word.specs.Core.{Core, word_at, can_store}
 use Rattle.its_word.specs.declared.jobs.Job.{Job}
 use Rattle.its_word.specs.declared.calls.Exit.{Exit}
 use Rattle.its_word.specs.declared.access.Fault.{Fault}
 use Rattle.its_word.specs.declared.access.Fault.TheVariants.{Mpv, Wro}
 use Rattle.its_plain.specs.Job.{pc_word, flags_of, with_pending, TBL, FATAL}
+use Rattle.its_word.specs.declared.plan.Store.{Store}
 use Rattle.its_plain.specs.Machine.{words_at}
+use Rattle.its_plain.specs.Unit.{first_fault, stored}
 
 -- the pending bits that are enabled: their mask is on and their deferral is off; TBL never is
 unfoldable pub enabled_1 : Job → ℕ
@@ -68,21 +70,6 @@ entries_by n = if (n % 5 == 1) && (nat_le 6 n && nat_le n 241) then Some (n / 5)
 unfoldable pub entries_of : ℕ → Option ℕ
 entries_of w = entries_by (2 ^ 18 - left_of w)
 
--- a word to store, and where
-pub record Store : Type 0 where
-  pub place : ℕ
-  pub word : ℕ
-
--- each of these stores can be made
-abbrev pub all_can : Core → List Store → Bool
-all_can c [] = true
-all_can c (s ∷ ss) = can_store c s.place && all_can c ss
-
--- the core after these stores, in order
-abbrev pub all_made : Core → List Store → Core
-all_made c [] = c
-all_made c (s ∷ ss) = all_made (store c s.place s.word) ss
-
 -- the k-th place above a stack pointer word
 abbrev pub above : ℕ → ℕ → ℕ
 above s k = (right_of s + k) % 2 ^ 18
@@ -90,12 +77,12 @@ above s k = (right_of s + k) % 2 ^ 18
 -- the five words that a delivery pushes, and the stack pointer word, at p, that is stored last
 unfoldable pub pushed : Job → Entry → ℕ → ℕ → List Store
 pushed j e p s =
-    record { place = above s 1; word = taken_1 j e }
-    ∷ record { place = above s 2; word = taken_2 j e }
-    ∷ record { place = above s 3; word = j.defer1 }
-    ∷ record { place = above s 4; word = j.defer2 }
-    ∷ record { place = above s 5; word = pc_word j.flags j.pc }
-    ∷ record { place = p; word = pair_of (left_of s + 5) (right_of s + 5) }
+    record { at = above s 1; word = taken_1 j e }
+    ∷ record { at = above s 2; word = taken_2 j e }
+    ∷ record { at = above s 3; word = j.defer1 }
+    ∷ record { at = above s 4; word = j.defer2 }
+    ∷ record { at = above s 5; word = pc_word j.flags j.pc }
+    ∷ record { at = p; word = pair_of (left_of s + 5) (right_of s + 5) }
     ∷ []
 
 -- the registers at the handler
@@ -119,12 +106,12 @@ pub record Delivered : Type 0 where
 abbrev pub undelivered : Core → Job → Delivered
 undelivered c j = record { core = c; job = with_pending j TBL; stops = false }
 
-abbrev pub by_stores : Core → Job → Entry → List Store → Bool → Delivered
-by_stores c j e ss true = record { core = all_made c ss; job = at_handler j e; stops = false }
-by_stores c j e ss false = undelivered c j
+abbrev pub by_stores : Core → Job → Entry → List Store → Option Fault → Delivered
+by_stores c j e ss None = record { core = stored c ss; job = at_handler j e; stops = false }
+by_stores c j e ss (Some f) = undelivered c j
 
 abbrev pub by_pointer : Core → Job → Entry → ℕ → Option ℕ → Delivered
-by_pointer c j e p (Some s) = by_stores c j e (pushed j e p s) (all_can c (pushed j e p s))
+by_pointer c j e p (Some s) = by_stores c j e (pushed j e p s) (first_fault c (pushed j e p s))
 by_pointer c j e p None = undelivered c j
 
 abbrev pub by_entry : Core → Job → Option ℕ → Option Entry → Delivered

@@ -1,13 +1,5 @@
 -- The unit: one instruction, one word of BLT, or one half of ILDB or IDPB (processor reference
 -- manual, "User operations"; docs/MACHINE.md, "Instructions").
-<<<<<<< HEAD
-use Rattle.std.specs.Prelude.{ℕ, Option, Some, None}
-use Rattle.its_word.specs.Core.{Core, word_at}
-use Rattle.its_word.specs.declared.jobs.Job.{Job}
-use Rattle.its_word.specs.declared.calls.Site.{Site}
-use Rattle.its_word.specs.declared.access.Fault.{Fault}
-use Rattle.its_word.specs.declared.access.Fault.TheVariants.{Mpv, Ilo}
-=======
 use Rattle.std.specs.Prelude.{if◌then◌else◌, ◌==◌, ◌||◌, ℕ, zero, suc, ◌+◌, ◌%◌, ◌^◌, Bool, true, false, List, [], ◌∷◌, Option, Some, None, Result, Ok, Err, nat_lt}
 use Rattle.std.specs.Option.{option_or}
 use Rattle.its_word.specs.Core.{Core, word_at, can_store, store}
@@ -32,7 +24,6 @@ use Rattle.its_plain.specs.UnitArith.{arithmetic_row, shift_row, boolean_row}
 use Rattle.its_plain.specs.UnitJumps.{branch_row, stack_row}
 use Rattle.its_plain.specs.UnitTests.{compare_row, test_row}
 use Rattle.its_plain.specs.UnitBytes.{byte_row}
->>>>>>> 21bffb6a10a500f313f8b636373e9f61ef08502a
 
 -- what a unit comes to: the core and the registers after it; a fault, at which nothing of it is done; or
 -- a call of the monitor
