@@ -1,18 +1,18 @@
 -- The cores that a pool stands for, word by word and page by page.
-use Rattle.std.specs.Prelude.{if◌then◌else◌, ◌≡◌, ◌<◌, ◌≤◌, ◌^◌, ℕ, ◌+◌, ◌*◌, ◌/◌, ◌%◌, Bool, true, false, Option, Some, None, List, [], ◌∷◌, zero, suc, length, map, take, drop, slice_get, slice_index_or, option_map, is_some, Result, Ok, Err, refl}
+use Rattle.std.specs.Prelude.{if◌then◌else◌, ◌≡◌, ◌<◌, ◌≤◌, ◌^◌, ℕ, ◌+◌, ◌*◌, ◌/◌, ◌%◌, Bool, true, false, Option, Some, None, List, [], ◌∷◌, zero, suc, length, map, take, drop, slice_get, slice_index_or, is_some, refl}
 use Rattle.std.proofs.Common.{sym, ◌∙◌, ap, inl, inr, arith}
 use Rattle.std.proofs.lemmas.Bool.{cases_lt, lt-ltb, le-ltb}
 use Rattle.std.proofs.lemmas.List.{get_or-take, get_or-drop, length-take, length-drop, length-map, get_or_past, get_or_append_left, get_or-append_right}
 use Rattle.std.proofs.lemmas.Option.{slice_get-get_or}
-use Rattle.its_word.specs.Core.{Core, Page, present, page_of, word_in, stores_in, word_at, can_store, acc_at, get, no_core}
+use Rattle.its_word.specs.Core.{Page, present, page_of, word_in, stores_in, word_at, can_store, no_core}
 use Rattle.its_word.specs.Limits.{slots}
 use Rattle.its_word.proofs.CoreLaws.{in_accs, in_page, stores_acc, stores_page}
 use Rattle.its_word.proofs.PageLaws.{can_store-no_core}
 use Rattle.its_core.specs.declared.cores.Mapped.{Mapped}
 use Rattle.its_core.specs.declared.cores.Held.{Held}
-use Rattle.its_core.specs.Cores.{Cores, Reserved, core_at, reserved_at}
-use Rattle.its_core.specs.Pool.{frame_of, held_frame, frame_words, page_in, reserved_in, core_in, cores_in, frames_in, table, IsPool}
-use Rattle.its_core.proofs.ListLaws.{get-table, get_or-table, get_or-table_past, length-table, length-frame_words, get_or-frame_words}
+use Rattle.its_core.specs.Cores.{core_at, reserved_at}
+use Rattle.its_core.specs.Pool.{frame_of, held_frame, frame_words, page_in, reserved_in, core_in, cores_in, frames_in, IsPool}
+use Rattle.its_core.proofs.ListLaws.{get-table, get_or-table, get_or-table_past, length-frame_words, get_or-frame_words}
 
 -- the core and the reserved page of a slot
 pub core_at_is : (accs : List ℕ) (places : List (Option Mapped)) (held : List (Option Held)) (words : List ℕ) (s : ℕ) → s < slots → core_at (cores_in accs places held words) s ≡ core_in accs places words s
@@ -69,14 +69,13 @@ frame_at_held places held s h =
     ∙ ap (λ k. slice_index_or (map held_frame held) k None) (omega arith)
     ∙ get_or-map_none held_frame refl held s
 
-is_below : (used : List Bool) (f : ℕ) → slice_index_or used f false ≡ true → f < length used
+pub is_below : (used : List Bool) (f : ℕ) → slice_index_or used f false ≡ true → f < length used
 is_below used f h = elim (cases_lt f (length used)) [
-    inl lt ↦ lt
+  | inl lt ↦ lt
   | inr ge ↦ let e : slice_index_or used f false ≡ false = get_or_past used f false ge in cc
-  ]
+]
 
 module _ (accs : List ℕ) (places : List (Option Mapped)) (held : List (Option Held)) (words : List ℕ) (used : List Bool) (mapped : ℕ) (pool : IsPool accs places held words used mapped) where
-
   -- the accumulators
   pub word_at_acc : (s a d : ℕ) → s < slots → a < 16 → word_at (core_at (cores_in accs places held words) s) a ≡ Some (slice_index_or accs (16 * s + a) d)
   word_at_acc s a d lt h =
@@ -87,16 +86,16 @@ module _ (accs : List ℕ) (places : List (Option Mapped)) (held : List (Option 
 
   pub can_store_acc : (s a : ℕ) → a < 16 → can_store (core_at (cores_in accs places held words) s) a ≡ true
   can_store_acc s a h = elim (cases_lt s slots) [
-      inl lt ↦ let l = pool.accs_long in ap (λ c. can_store c a) (core_at_is accs places held words s lt) ∙ stores_acc (core_in accs places words s) a (lt-ltb a 16 h) ∙ ap is_some (accs_of_is accs places words s a 0 (omega arith) h)
+    | inl lt ↦ let l = pool.accs_long in ap (λ c. can_store c a) (core_at_is accs places held words s lt) ∙ stores_acc (core_in accs places words s) a (lt-ltb a 16 h) ∙ ap is_some (accs_of_is accs places words s a 0 (omega arith) h)
     | inr ge ↦ ap (λ c. can_store c a) (core_at_past accs places held words s ge) ∙ can_store-no_core a h
-    ]
+  ]
 
   -- the frame of a page of a slot
   pub place_below : (p : ℕ) (m : Mapped) → slice_index_or places p None ≡ Some m → p < 16384
   place_below p m e = elim (cases_lt p 16384) [
-      inl lt ↦ lt
+    | inl lt ↦ lt
     | inr ge ↦ let l = pool.places_long in let n : slice_index_or places p None ≡ None = get_or_past places p None (omega arith) in cc
-    ]
+  ]
 
   pub place_frame : (p : ℕ) (m : Mapped) → slice_index_or places p None ≡ Some m → slice_index_or (frames_in places held) p None ≡ Some m.frame
   place_frame p m e =
@@ -111,7 +110,7 @@ module _ (accs : List ℕ) (places : List (Option Mapped)) (held : List (Option 
 
   -- for `grind`, which needs the call to fit
   pub word_below : (p : ℕ) (m : Mapped) (k : ℕ) → slice_index_or places p None ≡ Some m → k < 1024
-    → (slice_index_or places p None ≡ slice_index_or places p None) × (1024 * m.frame + k < length words)
+      → (slice_index_or places p None ≡ slice_index_or places p None) × (1024 * m.frame + k < length words)
   word_below p m k e h = let b = frame_below p m e in let l = pool.words_long in (refl, omega arith)
 
   pub held_frame_at : (s : ℕ) (h : Held) → slice_index_or held s None ≡ Some h → slice_index_or (frames_in places held) (16384 + s) None ≡ Some h.frame

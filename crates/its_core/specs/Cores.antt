@@ -1,5 +1,5 @@
 -- What contracts see of the pages of all jobs: for each slot its core, and the page that it has reserved.
-use Rattle.std.specs.Prelude.{if◌then◌else◌, ◌≡◌, ◌<◌, ℕ, ◌+◌, ◌*◌, ◌==◌, Bool, true, Option, Some, None, List, ◌++◌, take, drop, replicate, slice_index_or, option_map}
+use Rattle.std.specs.Prelude.{if◌then◌else◌, ◌≡◌, ℕ, ◌+◌, ◌*◌, ◌==◌, Bool, Option, None, List, ◌++◌, take, drop, replicate, slice_index_or, option_map}
 use Rattle.its_word.specs.Core.{Core, Page, no_core}
 
 -- a reserved page: how many of its quarters are clear, from the first on, and its words

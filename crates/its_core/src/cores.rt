@@ -1,13 +1,11 @@
-ghost use Rattle.std.specs.Prelude.{◌≡◌, ◌<◌, ◌≤◌, ◌+◌, ◌-◌, ◌*◌, ◌^◌, ◌++◌, ℕ, List, length, true, false, Some, None, IsSome, IsErr, OnOk, OnErr, IfOk, IfErr, IsOk, Ok, Err, count_by, slice_index_or, option_map, ◌↔◌};
+ghost use Rattle.std.specs.Prelude.{◌≡◌, ◌≢◌, ◌<◌, ◌≤◌, ◌+◌, ◌-◌, ◌*◌, ◌^◌, ◌++◌, ℕ, List, length, true, false, Some, None, IsSome, IsErr, OnOk, OnErr, IfOk, IfErr, IsOk, Ok, Err, count_by, slice_index_or, option_map, ◌↔◌};
 ghost use Rattle.its_core.specs.Pool.{filled as copies};
-ghost use Rattle.its_word.specs.Address.{address as address_of, index_of};
 ghost use Rattle.its_word.specs.Core.{acc_at, get as got_at, put as put_at, can_store, store, page_of, with_page, zero_page, marked, no_core, pages_mapped};
-ghost use Rattle.its_word.specs.Limits.{slots, most_pages, budget};
+ghost use Rattle.its_word.specs.Limits.{slots, most_pages};
 ghost use Rattle.its_word.specs.Only.{Only};
 ghost use Rattle.its_core.specs.Cores.{core_at, reserved_at, clear_at, clear_with, cleared, zeroed, mark_of, IsEmpty};
 
-use arrayvec::ArrayVec;
-use its_word::{Address, Fault, MAPPED_PAGES, NoAccess, NoMemory, Word};
+use its_word::{MAPPED_PAGES, NoAccess, NoMemory, Word};
 use std::alloc::Global;
 use std::marker::Model;
 
@@ -70,12 +68,22 @@ fn mapped_in(places: &[Option<Mapped>], slot: u8, page: u8) -> Option<Mapped>
     places[place_index(slot, page)]
 }
 
-/// The page that a slot has reserved.
-fn held_in(held: &[Option<Held>], slot: u8) -> Option<Held>
-    requires { slot < length held.now }
-    ensures { result ≡ slice_index_or held.now slot None }
+/// A page of a slot that is present.
+fn present_in(places: &[Option<Mapped>], slot: u8, page: u8) -> Mapped
+    requires place { 256 * slot + page < length places.now }
+    requires present { IsSome (slice_index_or places.now (256 * slot + page) None) }
+    ensures { slice_index_or places.now (256 * slot + page) None ≡ Some result }
 {
-    held[usize::from(slot)]
+    mapped_in(places, slot, page).unwrap()
+}
+
+/// The page that a slot has reserved.
+fn held_in(held: &[Option<Held>], slot: u8) -> Held
+    requires slot { slot < length held.now }
+    requires some { IsSome (slice_index_or held.now slot None) }
+    ensures { slice_index_or held.now slot None ≡ Some result }
+{
+    held[usize::from(slot)].unwrap()
 }
 
 /// Where a word of a frame stands.
@@ -86,27 +94,35 @@ fn word_index(frame: u16, at: u32) -> usize
     usize::from(frame) * 1024 + at as usize
 }
 
-/// n copies of a value.
-fn filled<T: Copy>(alloc: Global, x: T, n: usize) -> Result<Vec<T>, NoMemory>
+/// n copies of a value, in one piece of memory.
+#[tactic(auto, using(crate::proofs::ListLaws::filled_none, crate::proofs::ListLaws::filled_more))]
+fn filled<T: Copy + Drop>(alloc: Global, x: T, n: usize) -> Result<Vec<T>, NoMemory>
     ensures { IfOk result (λ v. v.items ≡ copies n x) }
 {
-    vec![in alloc; x; n].map_err(|_| NoMemory)
+    let mut v = Vec::with_capacity(alloc, n).map_err(|_| NoMemory)?;
+    for _k in 0..n {
+        v.push(x).map_err(|_| NoMemory)?;
+    }
+    Ok(v)
 }
 
 /// Clears n words from one on.
-fn clear(words: &mut [Word], first: usize, n: usize)
-    requires { first + n ≤ length words.old }
-    ensures { words.new ≡ zeroed first n words.old }
+#[tactic(auto, using(crate::proofs::ListLaws::zeroed_none, crate::proofs::ListLaws::zeroed_more))]
+fn clear(words: &mut Vec<Word>, first: usize, n: usize)
+    requires { first + n ≤ length words.old.items }
+    ensures { words.new.items ≡ zeroed first n words.old.items }
 {
-    words[first..first + n].fill(Word::ZERO);
+    for k in 0..n {
+        words[first + k] = Word::ZERO;
+    }
 }
 
-/// The index register of an address word, or 0.
-fn index_number(w: Word) -> u32
-    ensures number { result ≡ index_of w }
-    ensures below { result < 16 }
+/// How many quarters are clear after quarter q was cleared.
+fn quarters_clear(q: u8, clear: u8) -> u8
+    requires { q < 4 }
+    ensures { result ≡ clear_with q clear }
 {
-    (w.value() >> 18 & 0o17) as u32
+    if q == clear { q + 1 } else { clear }
 }
 
 /// The first frame that is not in use.
@@ -129,7 +145,6 @@ pub struct Full;
 impl Core {
     /// No slot has a page or a reserved page, and all accumulators are 0. Takes all the memory that
     /// the pages of all slots need.
-    #[tactic(none)]
     pub fn open(alloc: Global) -> Result<Core, NoMemory>
         ensures { IfOk result IsEmpty }
     {
@@ -187,7 +202,7 @@ impl Core {
 
     /// The word of an accumulator of a slot.
     #[tactic(auto, using(crate::proofs::ReadLaws::word_at_acc))]
-    fn acc(&self, slot: u8, a: u32) -> Word
+    pub(crate) fn acc(&self, slot: u8, a: u32) -> Word
         requires slot { slot < slots }
         requires a { a < 16 }
         ensures { result ≡ acc_at (core_at self.now slot) a }
@@ -213,7 +228,6 @@ impl Core {
     }
 
     /// Reserves a page for a slot. None of its quarters counts as clear.
-    #[tactic(none)]
     pub fn reserve(&mut self, slot: u8)
         requires slot { slot < slots }
         requires none { reserved_at self.old slot ≡ None }
@@ -227,7 +241,6 @@ impl Core {
     }
 
     /// Clears words 256q to 256q+255 of the page that a slot has reserved, with q below 4.
-    #[tactic(none)]
     pub fn clear_quarter(&mut self, slot: u8, q: u8)
         requires slot { slot < slots }
         requires quarter { q < 4 }
@@ -236,20 +249,17 @@ impl Core {
         ensures quarters { Only (clear_at self.old) (clear_at self.new) slot (option_map (clear_with q) (clear_at self.old slot)) }
         ensures cores { self.new.cores ≡ self.old.cores }
     {
-        if let Some(h) = held_in(&self.held, slot) {
-            let first = usize::from(h.frame) * 1024 + usize::from(q) * 256;
-            clear(&mut self.words, first, 256);
-            let quarters = if q == h.clear { q + 1 } else { h.clear };
-            self.held[usize::from(slot)] = Some(Held {
-                frame: h.frame,
-                clear: quarters,
-            });
-        }
+        let h = held_in(&self.held, slot);
+        let first = usize::from(h.frame) * 1024 + usize::from(q) * 256;
+        clear(&mut self.words, first, 256);
+        self.held[usize::from(slot)] = Some(Held {
+            frame: h.frame,
+            clear: quarters_clear(q, h.clear),
+        });
     }
 
     /// Makes the page that a slot has reserved, whose four quarters are clear, a writable page of zeros
     /// of the target. Full where 1024 pages are mapped already; the reservation then stays.
-    #[tactic(none)]
     pub fn map(&mut self, slot: u8, target: u8, page: u8) -> Result<(), Full>
         requires slot { slot < slots }
         requires target { target < slots }
@@ -264,19 +274,17 @@ impl Core {
         if self.mapped == MAPPED_PAGES {
             return Err(Full);
         }
-        if let Some(h) = held_in(&self.held, slot) {
-            self.held[usize::from(slot)] = None;
-            self.places[place_index(target, page)] = Some(Mapped {
-                frame: h.frame,
-                writable: true,
-            });
-            self.mapped += 1;
-        }
+        let h = held_in(&self.held, slot);
+        self.held[usize::from(slot)] = None;
+        self.places[place_index(target, page)] = Some(Mapped {
+            frame: h.frame,
+            writable: true,
+        });
+        self.mapped += 1;
         Ok(())
     }
 
     /// Gives the page back that a slot has reserved.
-    #[tactic(none)]
     pub fn give_back(&mut self, slot: u8)
         requires slot { slot < slots }
         requires some { IsSome (reserved_at self.old slot) }
@@ -284,98 +292,70 @@ impl Core {
         ensures quarters { Only (clear_at self.old) (clear_at self.new) slot None }
         ensures cores { self.new.cores ≡ self.old.cores }
     {
-        if let Some(h) = held_in(&self.held, slot) {
-            self.held[usize::from(slot)] = None;
-            self.used[usize::from(h.frame)] = false;
-        }
+        let h = held_in(&self.held, slot);
+        self.held[usize::from(slot)] = None;
+        self.used[usize::from(h.frame)] = false;
     }
 
     /// Takes a page from a slot.
-    #[tactic(none)]
     pub fn unmap(&mut self, slot: u8, page: u8)
         requires slot { slot < slots }
         requires present { IsSome (page_of (core_at self.old slot) page) }
         ensures unmapped { Only (core_at self.old) (core_at self.new) slot (with_page (core_at self.old slot) page None) }
         ensures reserved { self.new.reserved ≡ self.old.reserved }
     {
-        if let Some(m) = mapped_in(&self.places, slot, page) {
-            self.places[place_index(slot, page)] = None;
-            self.used[usize::from(m.frame)] = false;
-            self.mapped -= 1;
-        }
+        let m = present_in(&self.places, slot, page);
+        self.places[place_index(slot, page)] = None;
+        self.used[usize::from(m.frame)] = false;
+        self.mapped -= 1;
     }
 
     /// Makes a page of a slot writable or read only.
-    #[tactic(none)]
     pub fn protect(&mut self, slot: u8, page: u8, writable: bool)
         requires slot { slot < slots }
         requires present { IsSome (page_of (core_at self.old slot) page) }
         ensures marked { Only (core_at self.old) (core_at self.new) slot (with_page (core_at self.old slot) page (marked (page_of (core_at self.old slot) page) writable)) }
         ensures reserved { self.new.reserved ≡ self.old.reserved }
     {
-        if let Some(m) = mapped_in(&self.places, slot, page) {
-            self.places[place_index(slot, page)] = Some(Mapped {
-                frame: m.frame,
-                writable,
-            });
+        let m = present_in(&self.places, slot, page);
+        self.places[place_index(slot, page)] = Some(Mapped {
+            frame: m.frame,
+            writable,
+        });
+    }
+
+    /// Takes a page from a slot, where it is present.
+    #[tactic(auto, using(its_word::proofs::PageLaws::paging))]
+    fn drop_page(&mut self, slot: u8, page: u8)
+        requires { slot < slots }
+        ensures dropped { Only (core_at self.old) (core_at self.new) slot (with_page (core_at self.old slot) page None) }
+        ensures reserved { self.new.reserved ≡ self.old.reserved }
+    {
+        if self.page(slot, page).is_some() {
+            self.unmap(slot, page);
+        }
+    }
+
+    /// Takes all pages from a slot.
+    #[tactic(auto, using(its_word::proofs::PageLaws::paging))]
+    fn unmap_all(&mut self, slot: u8)
+        requires { slot < slots }
+        ensures gone { (k : ℕ) → k < 256 → page_of (core_at self.new slot) k ≡ None }
+        ensures others { (k : ℕ) → k ≢ slot → core_at self.new k ≡ core_at self.old k }
+        ensures reserved { self.new.reserved ≡ self.old.reserved }
+    {
+        for page in 0..=255 {
+            self.drop_page(slot, page);
         }
     }
 
     /// Takes all pages from a slot and makes its accumulators 0.
-    #[tactic(none)]
     pub fn drop_all(&mut self, slot: u8)
         requires { slot < slots }
         ensures dropped { Only (core_at self.old) (core_at self.new) slot no_core }
         ensures reserved { self.new.reserved ≡ self.old.reserved }
     {
-        for page in 0..=255 {
-            if self.page(slot, page).is_some() {
-                self.unmap(slot, page);
-            }
-        }
+        self.unmap_all(slot);
         clear(&mut self.accs, acc_index(slot, 0), 16);
-    }
-
-    /// The effective address of an address word. `used` is how much of the budget of 64 indirect words
-    /// and XCT targets is used, and `reads` gets the places that are read, in their order. Mpv where an
-    /// indirect word is absent, Ilo where the budget is at its end before an indirect word, which is
-    /// then not read.
-    #[tactic(none)]
-    pub fn address(&self, slot: u8, w: Word, used: &mut u32, reads: &mut ArrayVec<u32, 160>) -> Result<Address, Fault>
-        requires slot { slot < slots }
-        requires used { used.old ≤ budget }
-        requires room { length reads.old.items + (129 - 2 * used.old) ≤ 160 }
-        ensures answer { result ≡ (address_of (core_at self.now slot) w used.old).answer }
-        ensures reads { reads.new.items ≡ reads.old.items ++ (address_of (core_at self.now slot) w used.old).reads }
-        ensures used { used.new ≡ (address_of (core_at self.now slot) w used.old).used }
-        ensures below { IfOk result (λ a. a.e < 2 ^ 18) }
-        ensures more { (used.old ≤ used.new) × (used.new ≤ budget) }
-        ensures few { length reads.new.items + 2 * used.old ≤ length reads.old.items + 2 * used.new + 1 }
-    {
-        let mut word = w;
-        let mut last = None;
-        loop {
-            let mut e = word.right();
-            let x = index_number(word);
-            if x != 0 {
-                let v = self.acc(slot, x);
-                reads.push(x);
-                e = (e + v.right()) & 0o777777;
-                last = Some(v);
-            }
-            if word.value() >> 22 & 1 == 0 {
-                return Ok(Address { e, flags_word: last });
-            }
-            if *used == 64 {
-                return Err(Fault::Ilo);
-            }
-            *used += 1;
-            reads.push(e);
-            let Ok(next) = self.get(slot, e) else {
-                return Err(Fault::Mpv);
-            };
-            word = next;
-            last = Some(next);
-        }
     }
 }

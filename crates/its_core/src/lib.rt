@@ -2,6 +2,7 @@
 //! slots, the page that a slot has reserved, and the effective address.
 #![tactic(auto)]
 
+mod address;
 mod cores;
 
 pub use cores::{Core, Full};

@@ -1,3 +1,4 @@
 mod WordLaws
 pub mod CoreLaws
 pub mod PageLaws
+pub mod AddressLaws

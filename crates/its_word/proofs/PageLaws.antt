@@ -180,3 +180,16 @@ sum_none f a (suc n) h =
 pub pages_mapped-none : (cores : ℕ → Core) → ((k : ℕ) → cores k ≡ no_core) → pages_mapped cores ≡ 0
 unfolding pages_mapped
 pages_mapped-none cores h = sum_none (λ k. pages_present (cores k)) 0 slots (λ k. ap pages_present (h k) ∙ pages_present-no_core)
+
+-- an absent page that is made absent
+set_absent : (ps : List (Option Page)) (k : ℕ) → slice_index_or ps k None ≡ None → slice_set ps k None ≡ ps
+set_absent [] k h = refl
+set_absent (p ∷ ps) zero h = let e : p ≡ None = h in ap (λ q. q ∷ ps) (sym e)
+set_absent (p ∷ ps) (suc k) h = ap (λ qs. p ∷ qs) (set_absent ps k h)
+
+pub with_page-absent : (c : Core) (k : ℕ) → page_of c k ≡ None → with_page c k None ≡ c
+unfolding with_page page_of
+with_page-absent c k h = ap (λ ps. record c { pages = ps }) (set_absent c.pages k (sym (present-slice_get c.pages k) ∙ h))
+
+-- for `using`
+pub ruleset paging = (page_of-with_page_none, page_of-with_page_other, with_page-absent)

@@ -1,4 +1,4 @@
-use Rattle.std.proofs.Common.{◌≡◌, ◌+◌, ◌*◌, ◌/◌, ◌%◌, Some, None, slice_index_or, arith, ap, sym, ◌∙◌}
+use Rattle.std.proofs.Common.{◌≡◌, ◌+◌, ◌*◌, ◌/◌, ◌%◌, Some, None, slice_index_or, arith}
 use Rattle.its_core.proofs.ReadLaws.{frame_below}
 use Rattle.its_core.proofs.StoreLaws.{acc_only, acc_pool, page_only, page_pool, page_reserved, acc_reserved, refused_read_only}
 use Rattle.its_core.proofs.cores.Core.put.Goals as goal
