@@ -1,2 +1,3 @@
 pub mod UnitLaws
 pub mod SteppedLaws
+pub mod TickLaws

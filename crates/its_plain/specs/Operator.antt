@@ -125,24 +125,24 @@ unfoldable pub examined : Machine → ℕ → ℕ → ℕ → Result (List ℕ) 
 examined m s a n = on_job m s (λ q. seen (words_at q.core a n)) (m.jobs s)
 
 -- STATE
-abbrev pub shown : Whole → JobShow
-shown q = record {
-  u = q.job.uname;
-  j = q.job.jname;
-  sup = q.superior;
-  con = q.job.console;
-  run = not q.job.stopped;
-  pc = pc_word q.job.flags q.job.pc;
-  p1 = q.job.pend1;
-  p2 = q.job.pend2;
-  m1 = q.job.mask1;
-  m2 = q.job.mask2;
-  d1 = q.job.defer1;
-  d2 = q.job.defer2;
+abbrev pub shown : Job → Option ℕ → JobShow
+shown j superior = record {
+  u = j.uname;
+  j = j.jname;
+  sup = superior;
+  con = j.console;
+  run = not j.stopped;
+  pc = pc_word j.flags j.pc;
+  p1 = j.pend1;
+  p2 = j.pend2;
+  m1 = j.mask1;
+  m2 = j.mask2;
+  d1 = j.defer1;
+  d2 = j.defer2;
 }
 
 unfoldable pub state_shown : Machine → ℕ → Result JobShow Reason
-state_shown m s = on_job m s (λ q. Ok (shown q)) (m.jobs s)
+state_shown m s = on_job m s (λ q. Ok (shown q.job q.superior)) (m.jobs s)
 
 -- DEPOSIT
 abbrev pub deposited_in : Core → ℕ → ℕ → Bool → Bool → Result Core Reason

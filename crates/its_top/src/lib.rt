@@ -1,8 +1,10 @@
 //! The program's loop over a session, and its top call.
 #![tactic(auto)]
 
+mod answer;
+mod progress;
 mod status;
 mod turn;
+mod writing;
 
 pub use status::Status;
-use turn::Turn;

@@ -14,3 +14,6 @@ pub const BYTE_HALF: u32 = 0o020000;
 pub const USER: u32 = 0o010000;
 /// No divide.
 pub const NO_DIVIDE: u32 = 0o000040;
+
+/// The flags that a PC word names, but for user.
+pub const NAMED_FLAGS: u32 = 0o760040;

@@ -11,6 +11,7 @@ mod jobs;
 mod limits;
 mod memory;
 mod opcode;
+mod pending;
 mod plan;
 mod result2;
 mod session;
@@ -21,7 +22,9 @@ mod word;
 pub use access::{Address, Fault, NoAccess};
 pub use calls::{Ask, Exit, Operand, Owed, Pace, Site};
 pub use digits::{digits_read_back, octal, octal6};
-pub use flags::{BYTE_HALF, CARRY_0, CARRY_1, FLOATING_OVERFLOW, NO_DIVIDE, OVERFLOW, USER};
+pub use flags::{
+    BYTE_HALF, CARRY_0, CARRY_1, FLOATING_OVERFLOW, NAMED_FLAGS, NO_DIVIDE, OVERFLOW, USER,
+};
 pub use instruction::{
     ArithmeticOp, BranchOp, ByteOp, CompareOp, Instruction, MaskOp, Mode, MoveOp, ShiftOp, StackOp,
 };
@@ -29,6 +32,7 @@ pub use jobs::{Channel, Job};
 pub use limits::{MAPPED_PAGES, SLOTS};
 pub use memory::NoMemory;
 pub use opcode::decode;
+pub use pending::{BRK, FATAL, ILO, INF, IOC, MPV, PDL, TBL, WRO};
 pub use plan::{Context, Plan, Store};
 pub use result2::Result2;
 pub use session::{Bad, Event, Place, Reason, Refusal};

@@ -1,0 +1,3 @@
+pub mod WorldLaws
+pub mod TurnLaws
+pub mod LoadLaws

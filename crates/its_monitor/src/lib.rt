@@ -1,0 +1,7 @@
+//! The monitor: ticks of jobs, and the operator's calls.
+#![tactic(auto)]
+
+mod monitor;
+
+pub use its_word::{JobShow, NoMemory, Pace, Refusal};
+pub use monitor::Monitor;

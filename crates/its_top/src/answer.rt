@@ -1,0 +1,105 @@
+ghost use Rattle.std.specs.Prelude.{◌≡◌, ◌≢◌, ◌≤◌, ◌<◌, ◌+◌, ◌-◌, ◌^◌, Ok, Err, IfOk, IfErr, OnOk, OnErr, length};
+ghost use Rattle.its_io.specs.Bytes.{Rose};
+ghost use Rattle.its_word.specs.Limits.{slots};
+ghost use Rattle.its_session.specs.Fits.{EventFits};
+ghost use Rattle.its_plain.specs.Operator.{words_loaded, examined};
+ghost use Rattle.its_monitor.specs.World.{machine_of, Sound, reason_of};
+ghost use Rattle.its_top.specs.Answer.{Answered, block_of};
+
+use super::progress::Progress;
+use super::turn::Turn;
+use super::writing::{refuse, refuse_by, settle, tell};
+use arrayvec::ArrayVec;
+use its_io::Sink;
+use its_monitor::Monitor;
+use its_print::{print_loaded, print_state, print_ticks, print_words};
+use its_word::{Event, Reason, Refusal, Word};
+
+/// LOAD: makes a job, and shows its slot, which is then the block's.
+#[tactic(auto, using(crate::proofs::AnswerLaws::load_answered, crate::proofs::AnswerLaws::load_refused))]
+fn load<K: Sink>(m: &mut Monitor, p: &mut Progress, u: Word, j: Word, console: Option<u8>, out: &mut K) -> Turn
+    requires sound { Sound m.old }
+    ensures answered { Answered result p.old.number (machine_of m.old) (block_of p.old.slot) (Event.Load u j console) (machine_of m.new) (block_of p.new.slot) (K.written out.old) (K.written out.new) }
+    ensures sound { Sound m.new }
+    ensures slot { p.old.slot < slots → p.new.slot < slots }
+    ensures kept { (p.new.number ≡ p.old.number) × (p.new.place ≡ p.old.place) }
+    ensures later { K.faults out.old ≤ K.faults out.new }
+    ensures fault { result ≡ Turn.Fault → Rose (K.faults out.old) (K.faults out.new) }
+{
+    match m.load_job(u, j, console) {
+        Ok(s) => {
+            p.slot = s;
+            let mut line = ArrayVec::new();
+            print_loaded(s, &mut line);
+            tell(out, &line, Turn::On)
+        }
+        Err(e) => refuse_by(out, p.number, e),
+    }
+}
+
+/// STATE: shows a job.
+#[tactic(auto, using(crate::proofs::AnswerLaws::state_answered, crate::proofs::AnswerLaws::state_refused))]
+fn state<K: Sink>(m: &mut Monitor, p: Progress, s: u8, out: &mut K) -> Turn
+    requires sound { Sound m.old }
+    requires slot { s < slots }
+    ensures answered { Answered result p.number (machine_of m.old) (block_of p.slot) (Event.State s) (machine_of m.new) (block_of p.slot) (K.written out.old) (K.written out.new) }
+    ensures sound { Sound m.new }
+    ensures later { K.faults out.old ≤ K.faults out.new }
+    ensures fault { result ≡ Turn.Fault → Rose (K.faults out.old) (K.faults out.new) }
+{
+    match m.state(s) {
+        Ok(show) => {
+            let mut line = ArrayVec::new();
+            print_state(s, &show, &mut line);
+            tell(out, &line, Turn::On)
+        }
+        Err(e) => refuse_by(out, p.number, e),
+    }
+}
+
+/// The n words of a slot from an address on, or the first refusal.
+#[tactic(auto, using(crate::proofs::ExamLaws::exam_start, crate::proofs::ExamLaws::exam_next, crate::proofs::ExamLaws::exam_fails, crate::proofs::ExamLaws::exam_end))]
+fn words_of(m: &mut Monitor, s: u8, a: u32, n: u32) -> Result<ArrayVec<Word, 8>, Refusal>
+    requires sound { Sound m.old }
+    requires slot { s < slots }
+    requires few { n ≤ 8 }
+    requires some { 1 ≤ n }
+    requires end { a + n ≤ 2 ^ 18 }
+    ensures words { IfOk result (λ ws. examined (machine_of m.old) s a n ≡ Ok ws.items) }
+    ensures few { IfOk result (λ ws. length ws.items ≤ 8) }
+    ensures refused { IfErr result (λ e. examined (machine_of m.old) s a n ≡ Err (reason_of e)) }
+    ensures same { machine_of m.new ≡ machine_of m.old }
+    ensures sound { Sound m.new }
+{
+    let mut words = ArrayVec::new();
+    for k in 0..n {
+        match m.exam(s, a + k) {
+            Ok(w) => words.push(w),
+            Err(e) => return Err(e),
+        }
+    }
+    Ok(words)
+}
+
+/// EXAM: shows words of a slot.
+#[tactic(auto, using(crate::proofs::AnswerLaws::exam_answered, crate::proofs::AnswerLaws::exam_refused))]
+fn examine<K: Sink>(m: &mut Monitor, p: Progress, s: u8, a: u32, n: u32, out: &mut K) -> Turn
+    requires sound { Sound m.old }
+    requires slot { s < slots }
+    requires few { n ≤ 8 }
+    requires some { 1 ≤ n }
+    requires end { a + n ≤ 2 ^ 18 }
+    ensures answered { Answered result p.number (machine_of m.old) (block_of p.slot) (Event.Exam s a n) (machine_of m.new) (block_of p.slot) (K.written out.old) (K.written out.new) }
+    ensures sound { Sound m.new }
+    ensures later { K.faults out.old ≤ K.faults out.new }
+    ensures fault { result ≡ Turn.Fault → Rose (K.faults out.old) (K.faults out.new) }
+{
+    match words_of(m, s, a, n) {
+        Ok(words) => {
+            let mut line = ArrayVec::new();
+            print_words(s, a, &words, &mut line);
+            tell(out, &line, Turn::On)
+        }
+        Err(e) => refuse_by(out, p.number, e),
+    }
+}

@@ -1,0 +1,72 @@
+ghost use Rattle.std.specs.Prelude.{◌≡◌, ◌≢◌, ◌≤◌, ◌+◌, ◌-◌, ◌^◌};
+ghost use Rattle.its_io.specs.Bytes.{Rose};
+ghost use Rattle.its_print.specs.Printing.{Refused, text_of_line};
+ghost use Rattle.its_monitor.specs.World.{reason_of};
+ghost use Rattle.its_top.specs.Answer.{Tells, Settled};
+
+use super::turn::Turn;
+use arrayvec::ArrayVec;
+use its_io::{Sink, write_all};
+use its_print::print_refusal;
+use its_word::{Reason, Refusal};
+
+/// Writes the bytes of a line, after which the turn is `good`.
+#[tactic(auto, using(crate::proofs::WritingLaws::told_all, crate::proofs::WritingLaws::told_begun))]
+pub fn tell<K: Sink>(out: &mut K, line: &ArrayVec<u8, 2048>, good: Turn) -> Turn
+    ensures told { Tells result good line.now.items (K.written out.old) (K.written out.new) }
+    ensures later { K.faults out.old ≤ K.faults out.new }
+    ensures fault { good ≢ Turn.Fault → result ≡ Turn.Fault → Rose (K.faults out.old) (K.faults out.new) }
+{
+    match write_all(out, line) {
+        Ok(()) => good,
+        Err(_) => Turn::Fault,
+    }
+}
+
+/// Writes the `?` line of a refusal.
+pub fn refuse<K: Sink>(out: &mut K, number: u32, reason: Reason) -> Turn
+    ensures told { Tells result Turn.Refused (text_of_line (Refused number reason)) (K.written out.old) (K.written out.new) }
+    ensures later { K.faults out.old ≤ K.faults out.new }
+    ensures fault { result ≡ Turn.Fault → Rose (K.faults out.old) (K.faults out.new) }
+{
+    let mut line = ArrayVec::new();
+    print_refusal(number, reason, &mut line);
+    tell(out, &line, Turn::Refused)
+}
+
+/// The reason of a refusal, as the session says it.
+fn reason_of(e: Refusal) -> Reason
+    ensures { result ≡ reason_of e }
+{
+    match e {
+        Refusal::NoJob => Reason::NoJob,
+        Refusal::NoConsole => Reason::NoCons,
+        Refusal::NoPage => Reason::NoPage,
+        Refusal::ReadOnly => Reason::ReadOnly,
+        Refusal::NoFile => Reason::NoFile,
+        Refusal::Exists => Reason::Exists,
+        Refusal::Full => Reason::Full,
+        Refusal::Range => Reason::Range,
+    }
+}
+
+/// Writes the `?` line of a refusal of the monitor.
+pub fn refuse_by<K: Sink>(out: &mut K, number: u32, e: Refusal) -> Turn
+    ensures told { Tells result Turn.Refused (text_of_line (Refused number (reason_of e))) (K.written out.old) (K.written out.new) }
+    ensures later { K.faults out.old ≤ K.faults out.new }
+    ensures fault { result ≡ Turn.Fault → Rose (K.faults out.old) (K.faults out.new) }
+{
+    refuse(out, number, reason_of(e))
+}
+
+/// The turn of a call of the monitor that shows nothing; its refusal is written.
+pub fn settle<K: Sink>(out: &mut K, number: u32, answer: Result<(), Refusal>) -> Turn
+    ensures settled { Settled answer result number (K.written out.old) (K.written out.new) }
+    ensures later { K.faults out.old ≤ K.faults out.new }
+    ensures fault { result ≡ Turn.Fault → Rose (K.faults out.old) (K.faults out.new) }
+{
+    match answer {
+        Ok(()) => Turn::On,
+        Err(e) => refuse_by(out, number, e),
+    }
+}
