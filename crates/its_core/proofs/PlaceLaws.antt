@@ -207,7 +207,7 @@ module _ (accs : List ℕ) (places : List (Option Mapped)) (held : List (Option 
 
   -- the page that was mapped is there
   pub mapped_there : (gelt : List (Option Held)) (t k : ℕ) (o : Option Mapped) → t < slots → k < 256
-    → page_of (core_at (cores_in accs (slice_set places (256 * t + k) o) gelt words) t) k ≡ page_in words o
+      → page_of (core_at (cores_in accs (slice_set places (256 * t + k) o) gelt words) t) k ≡ page_in words o
   mapped_there gelt t k o lt h =
       let pl = pool.places_long in
       ap (λ c. page_of c k) (core_at_is accs (slice_set places (256 * t + k) o) gelt words t lt)

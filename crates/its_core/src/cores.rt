@@ -11,7 +11,9 @@ use std::marker::Model;
 
 /// How many words a page has, pages a slot, and accumulators.
 const PAGE_WORDS: usize = 1024;
+
 const SLOT_PAGES: usize = 256;
+
 const SLOT_ACCS: usize = 16;
 
 /// How many page frames there are: one for each page that may be mapped, and one for each slot to

@@ -1,4 +1,4 @@
-ghost use Rattle.std.specs.Prelude.{◌≡◌, ◌<◌, Some, None};
+ghost use Rattle.std.specs.Prelude.{◌≡◌, ◌<◌, ℕ, Some, None};
 ghost use Rattle.its_core.specs.Cores.{core_at, reserved_at, clear_at};
 ghost use Rattle.its_word.specs.Core.{page_of};
 ghost use Rattle.its_word.specs.Limits.{slots};
@@ -10,11 +10,12 @@ use std::alloc::Global;
 use std::test::Fail;
 
 /// Reserves a page for a slot, and clears it.
+#[tactic(auto, using(crate::proofs::CoresLaws::same_core_at))]
 fn clear_page(core: &mut Core, slot: u8)
     requires slot { slot < slots }
     requires none { reserved_at core.old slot ≡ None }
     ensures clear { clear_at core.new slot ≡ Some 4 }
-    ensures cores { core.new.cores ≡ core.old.cores }
+    ensures cores { (k : ℕ) → core_at core.new k ≡ core_at core.old k }
 {
     core.reserve(slot);
     core.clear_quarter(slot, 0);
@@ -24,7 +25,7 @@ fn clear_page(core: &mut Core, slot: u8)
 }
 
 #[test]
-#[tactic(auto, using(crate::proofs::CoresLaws::same_core_at, its_word::proofs::PageLaws::empty_slot))]
+#[tactic(auto, using(its_word::proofs::PageLaws::empty_slot))]
 fn pages_come_and_go(rt: HostRuntime) -> Result<(), Fail> {
     let mut core = Core::open(rt.alloc())?;
     let w = Word::new(0o123456701234);
@@ -54,7 +55,7 @@ fn pages_come_and_go(rt: HostRuntime) -> Result<(), Fail> {
 }
 
 /// Core with page 0 of slot 0 present; accumulator 1 has -2, accumulator 2 has 5.
-#[tactic(auto, using(crate::proofs::CoresLaws::same_core_at, its_word::proofs::PageLaws::empty_slot))]
+#[tactic(auto, using(its_word::proofs::PageLaws::empty_slot))]
 fn small_core(alloc: Global) -> Result<Core, NoMemory> {
     let mut core = Core::open(alloc)?;
     clear_page(&mut core, 0);
@@ -75,28 +76,29 @@ fn small_core(alloc: Global) -> Result<Core, NoMemory> {
 fn address_words(rt: HostRuntime) -> Result<(), Fail> {
     let core = small_core(rt.alloc())?;
     let last = |w: u64| Some(Word::new(w));
-    let rows: [(u64, u32, Option<Word>, &[u32]); 8] = [
+    let rows: [(u64, u32, Option<Word>, &[u32], u32); 8] = [
         // direct
-        (0o123, 0o123, None, &[]),
+        (0o123, 0o123, None, &[], 0),
         // indexed by a negative index
-        (0o1000200, 0o176, last(0o777777777776), &[1]),
+        (0o1000200, 0o176, last(0o777777777776), &[1], 0),
         // indirect, through a page and through an accumulator
-        (0o20000300, 0o400, last(0o400), &[0o300]),
-        (0o20000002, 0o5, last(0o5), &[2]),
+        (0o20000300, 0o400, last(0o400), &[0o300], 1),
+        (0o20000002, 0o5, last(0o5), &[2], 1),
         // both, the indirect word direct and in turn both
-        (0o22000273, 0o400, last(0o400), &[2, 0o300]),
-        (0o20000301, 0o500, last(0o500), &[0o301, 2, 0o315]),
+        (0o22000273, 0o400, last(0o400), &[2, 0o300], 1),
+        (0o20000301, 0o500, last(0o500), &[0o301, 2, 0o315], 2),
         // wrapping at 1000000
-        (0o2777776, 0o3, last(0o5), &[2]),
+        (0o2777776, 0o3, last(0o5), &[2], 0),
         // opcode and accumulator of an instruction make no difference
-        (0o200042000300, 0o305, last(0o5), &[2]),
+        (0o200042000300, 0o305, last(0o5), &[2], 0),
     ];
-    for (w, e, flags_word, places) in rows {
+    for (w, e, flags_word, places, spent) in rows {
         let mut used = 3;
         let mut reads = ArrayVec::new();
         let got = core.address(0, Word::new(w), &mut used, &mut reads);
         assert_eq!(rt; got, Ok(Address { e, flags_word }), "at {w}");
         assert_eq!(rt; reads.as_slice(), places, "at {w}");
+        assert_eq!(rt; used, 3 + spent, "at {w}");
     }
     Ok(())
 }
@@ -105,11 +107,20 @@ fn address_words(rt: HostRuntime) -> Result<(), Fail> {
 fn chains(rt: HostRuntime) -> Result<(), Fail> {
     let mut core = small_core(rt.alloc())?;
     for a in 0o200..0o277 {
-        assert_eq!(rt; core.put(0, a, Word::new(0o20000001 + u64::from(a))), Ok(()));
+        assert_eq!(rt;
+            core.put(0, a, Word::new(0o20000001 + u64::from(a))),
+            Ok(())
+        );
     }
     let w = Word::new(0o20000200);
     for (end, want) in [
-        (0o300, Ok(Address { e: 0o300, flags_word: Some(Word::new(0o300)) })),
+        (
+            0o300,
+            Ok(Address {
+                e: 0o300,
+                flags_word: Some(Word::new(0o300)),
+            }),
+        ),
         (0o20000300, Err(Fault::Ilo)),
     ] {
         assert_eq!(rt; core.put(0, 0o277, Word::new(end)), Ok(()));
@@ -125,6 +136,9 @@ fn chains(rt: HostRuntime) -> Result<(), Fail> {
     assert!(rt; reads.is_empty());
     used = 5;
     let absent = Word::new(0o20002000);
-    assert_eq!(rt; core.address(0, absent, &mut used, &mut reads), Err(Fault::Mpv));
+    assert_eq!(rt;
+        core.address(0, absent, &mut used, &mut reads),
+        Err(Fault::Mpv)
+    );
     Ok(())
 }

@@ -39,4 +39,4 @@ returns-clause-there c =
     let four = clear_is _ _ _ _ _ _ c.self.invariant c.args.slot 4 c.held_in-h.result e (rw c.self.view_is c.requires.clear) in
     let zero = zero_page_is _ _ _ _ _ _ c.self.invariant c.args.slot c.held_in-h.result e four in
     rw (c.place_index.ensures, ← zero)
-        (mapped_there _ _ _ _ _ _ c.self.invariant _ c.args.target c.args.page (Some (record { frame = c.held_in-h.result.frame; writable = true })) c.requires.target (omega arith))
+    (mapped_there _ _ _ _ _ _ c.self.invariant _ c.args.target c.args.page (Some (record { frame = c.held_in-h.result.frame; writable = true })) c.requires.target (omega arith))
