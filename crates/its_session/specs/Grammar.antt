@@ -23,12 +23,12 @@ pub record Field : Type 0 where
   pub ranged : Bool
   pub console : Bool
 
--- the event of a line with these fields, or the first reason against it
-abbrev pub with_fields : List Field → Event → Result Event Bad
-with_fields fields e =
+-- what a line with these fields says, or the first reason against it
+abbrev pub with_fields : {A : Type 0} → List Field → A → Result A Bad
+with_fields fields x =
     if list_all (λ f. f.formed) fields then
       (if list_all (λ f. f.ranged) fields then
-        (if list_all (λ f. f.console) fields then Ok e else Err NoConsole)
+        (if list_all (λ f. f.console) fields then Ok x else Err NoConsole)
       else Err Range)
     else Err Syntax
 
@@ -141,9 +141,14 @@ deposit_line (s ∷ a ∷ w ∷ []) = with_fields (slot s ∷ address a ∷ numb
 deposit_line _ = Err Syntax
 
 -- `STATE s`, `STOP s`, `CONT s`, `PEEK s`
-unfoldable pub slot_line : (ℕ → Event) → List (List ℕ) → Result Event Bad
-slot_line event (s ∷ []) = with_fields (slot s ∷ []) (event (octal_value s))
-slot_line event _ = Err Syntax
+unfoldable pub slot_line : List (List ℕ) → Result ℕ Bad
+slot_line (s ∷ []) = with_fields (slot s ∷ []) (octal_value s)
+slot_line _ = Err Syntax
+
+-- the event of a slot
+abbrev pub of_slot : (ℕ → Event) → Result ℕ Bad → Result Event Bad
+of_slot event (Ok s) = Ok (event s)
+of_slot event (Err bad) = Err bad
 
 -- `DIR d`
 unfoldable pub dir_line : List (List ℕ) → Result Event Bad
@@ -216,11 +221,11 @@ line_of_kind kinds.Drain first ws = drain_line ws
 line_of_kind kinds.Clock first ws = clock_line ws
 line_of_kind kinds.Int first ws = int_line ws
 line_of_kind kinds.Exam first ws = exam_line ws
-line_of_kind kinds.State first ws = slot_line events.State ws
+line_of_kind kinds.State first ws = of_slot events.State (slot_line ws)
 line_of_kind kinds.Deposit first ws = deposit_line ws
-line_of_kind kinds.Stop first ws = slot_line events.Stop ws
-line_of_kind kinds.Cont first ws = slot_line events.Cont ws
-line_of_kind kinds.Peek first ws = slot_line events.Peek ws
+line_of_kind kinds.Stop first ws = of_slot events.Stop (slot_line ws)
+line_of_kind kinds.Cont first ws = of_slot events.Cont (slot_line ws)
+line_of_kind kinds.Peek first ws = of_slot events.Peek (slot_line ws)
 line_of_kind kinds.Dir first ws = dir_line ws
 line_of_kind kinds.Show first ws = show_line ws
 line_of_kind kinds.End first ws = bare_line events.End ws

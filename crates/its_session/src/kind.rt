@@ -1,3 +1,9 @@
+//! The kinds of line, and where each may stand.
+ghost use Rattle.std.specs.Prelude.{◌≡◌, bytes_eq};
+ghost use Rattle.its_session.specs.Grammar.{before_slash, is_at, is_place, kind_of, place_of_kind};
+
+use its_word::{Place, read_octal};
+
 /// The kinds of line, by their first word: an address and `/` for `Words`, `/` alone for `Append`,
 /// and for the others a name of their own.
 #[derive(Clone, Copy, Debug, PartialEq, Eq)]
@@ -22,4 +28,98 @@ pub enum Kind {
     Dir,
     Show,
     End,
+}
+
+/// The kind of line that a first word begins, if any.
+#[tactic(auto, unfolding(crate::specs::Grammar::kind_of))]
+pub fn kind_of(first: &[u8]) -> Option<Kind>
+    ensures { result ≡ kind_of first.now }
+{
+    if is(first, b"LOAD") {
+        Some(Kind::Load)
+    } else if is(first, b"GO") {
+        Some(Kind::Go)
+    } else if is(first, b"FILE") {
+        Some(Kind::File)
+    } else if is(first, b"/") {
+        Some(Kind::Append)
+    } else if is(first, b"EOF") {
+        Some(Kind::EndFile)
+    } else if is(first, b"TICK") {
+        Some(Kind::Tick)
+    } else if is(first, b"TYPE") {
+        Some(Kind::TypeIn)
+    } else if is(first, b"DRAIN") {
+        Some(Kind::Drain)
+    } else if is(first, b"CLOCK") {
+        Some(Kind::Clock)
+    } else if is(first, b"INT") {
+        Some(Kind::Int)
+    } else if is(first, b"EXAM") {
+        Some(Kind::Exam)
+    } else if is(first, b"STATE") {
+        Some(Kind::State)
+    } else if is(first, b"DEPOSIT") {
+        Some(Kind::Deposit)
+    } else if is(first, b"STOP") {
+        Some(Kind::Stop)
+    } else if is(first, b"CONT") {
+        Some(Kind::Cont)
+    } else if is(first, b"PEEK") {
+        Some(Kind::Peek)
+    } else if is(first, b"DIR") {
+        Some(Kind::Dir)
+    } else if is(first, b"SHOW") {
+        Some(Kind::Show)
+    } else if is(first, b"END") {
+        Some(Kind::End)
+    } else if is_place(first) {
+        Some(Kind::Words)
+    } else {
+        None
+    }
+}
+
+/// Whether a word is this one.
+fn is(word: &[u8], name: &[u8]) -> bool
+    ensures { result ≡ bytes_eq word.now name.now }
+{
+    word == name
+}
+
+/// Whether a first word is a number directly followed by `/`.
+fn is_place(first: &[u8]) -> bool
+    ensures { result ≡ is_place first.now }
+{
+    match first {
+        [digits @ .., b'/'] => read_octal(digits).is_ok(),
+        _ => false,
+    }
+}
+
+/// A first word without its last byte, the `/`.
+pub fn before_slash(first: &[u8]) -> &[u8]
+    ensures { result.now ≡ before_slash first.now }
+{
+    match first {
+        [digits @ .., _] => digits,
+        [] => first,
+    }
+}
+
+/// Whether a line of this kind may stand at this place.
+pub fn may_stand(kind: Kind, place: Place) -> bool
+    ensures { result ≡ is_at place (place_of_kind kind) }
+{
+    let at = match kind {
+        Kind::Words | Kind::Go => Place::Load,
+        Kind::Append | Kind::EndFile => Place::File,
+        _ => Place::Plain,
+    };
+    match (place, at) {
+        (Place::Plain, Place::Plain) => true,
+        (Place::Load, Place::Load) => true,
+        (Place::File, Place::File) => true,
+        _ => false,
+    }
 }

@@ -2,4 +2,10 @@
 //! one that is read as a given event. Neither takes memory.
 #![tactic(auto)]
 
+mod fields;
 mod kind;
+mod read;
+mod rows;
+mod words;
+
+pub use read::read_line;

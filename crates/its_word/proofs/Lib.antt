@@ -5,3 +5,4 @@ pub mod SpacedLaws
 pub mod TextLaws
 pub mod TreeLaws
 pub mod WordLaws
+pub mod AddressLaws

@@ -1,0 +1,9 @@
+use Rattle.std.proofs.Common.{arith}
+use Rattle.std.proofs.lemmas.Grind.{common_steps}
+use Rattle.its_session.specs.Grammar.{exam_line}
+use Rattle.its_session.proofs.RowLaws.{three_words}
+use Rattle.its_session.proofs.rows.exam.Goals as goal
+
+pub returns-in_err-n-2 : goal.returns-in_err-n-2
+unfolding exam_line
+returns-in_err-n-2 c = rw (three_words c.args.words.now (omega arith) (omega arith)) (grind (arith, common_steps))

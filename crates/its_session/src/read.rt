@@ -1,0 +1,89 @@
+//! Reading a line.
+ghost use Rattle.std.specs.Prelude.{◌≡◌, ◌==◌, map, slice_index};
+ghost use Rattle.std.specs.List.{list_all};
+ghost use Rattle.its_word.specs.Text.{is_code};
+ghost use Rattle.its_session.specs.Grammar.{event_of_words, is_comment, line_event, line_of_kind};
+
+use its_word::{Bad, Event, Place};
+
+use super::kind::{Kind, before_slash, kind_of, may_stand};
+use super::rows;
+use super::words::words;
+
+/// The event of a line (without its LF) at a place, or the first reason why it is none: `Long` for more
+/// than 255 bytes, `Syntax` for a line that may not stand there, `Range` for a number outside its
+/// range, `NoConsole` for a console above 7.
+#[tactic(auto, unfolding(crate::specs::Grammar::line_event))]
+pub fn read_line(line: &[u8], place: Place) -> Result<Event, Bad>
+    ensures { result ≡ line_event place line.now }
+{
+    if line.len() > 255 {
+        return Err(Bad::Long);
+    }
+    if !is_printable(line) {
+        return Err(Bad::Syntax);
+    }
+    event_of_words(place, words(line).as_slice())
+}
+
+/// Whether all bytes are from 40 to 176.
+fn is_printable(line: &[u8]) -> bool
+    ensures { result ≡ list_all (is_code 32 126) line.now }
+{
+    line.iter().all(|b| 0o40 <= *b && *b <= 0o176)
+}
+
+/// The event of a line's words.
+#[tactic(auto, unfolding(crate::specs::Grammar::event_of_words))]
+fn event_of_words(place: Place, words: &[&[u8]]) -> Result<Event, Bad>
+    ensures { result ≡ event_of_words place (map (λ w. w.now) words.now) }
+{
+    let [first, rest @ ..] = words else {
+        return Ok(Event::Nothing);
+    };
+    if is_comment(first) {
+        return Ok(Event::Nothing);
+    }
+    match kind_of(first) {
+        Some(kind) if may_stand(kind, place) => line_of_kind(kind, first, rest),
+        _ => Err(Bad::Syntax),
+    }
+}
+
+/// Whether a line's first word makes it a comment.
+fn is_comment(first: &[u8]) -> bool
+    ensures { result ≡ is_comment first.now }
+{
+    match first {
+        [b';', ..] => true,
+        _ => false,
+    }
+}
+
+/// The line of a kind, with its first word and those that follow.
+fn line_of_kind(kind: Kind, first: &[u8], words: &[&[u8]]) -> Result<Event, Bad>
+    ensures { result ≡ line_of_kind kind first.now (map (λ w. w.now) words.now) }
+{
+    match kind {
+        Kind::Load => rows::load(words),
+        Kind::Words => rows::words(before_slash(first), words),
+        Kind::Go => rows::go(words),
+        Kind::File => rows::file(words),
+        Kind::Append => rows::append(words),
+        Kind::EndFile => rows::bare(Event::EndFile, words),
+        Kind::Tick => rows::tick(words),
+        Kind::TypeIn => rows::type_in(words),
+        Kind::Drain => rows::drain(words),
+        Kind::Clock => rows::clock(words),
+        Kind::Int => rows::int(words),
+        Kind::Exam => rows::exam(words),
+        Kind::State => rows::only_slot(words).map(|s| Event::State { s }),
+        Kind::Deposit => rows::deposit(words),
+        Kind::Stop => rows::only_slot(words).map(|s| Event::Stop { s }),
+        Kind::Cont => rows::only_slot(words).map(|s| Event::Cont { s }),
+        Kind::Peek => rows::only_slot(words).map(|s| Event::Peek { s }),
+        Kind::Dir => rows::dir(words),
+        Kind::Show => rows::show(words),
+        Kind::End => rows::bare(Event::End, words),
+    }
+}

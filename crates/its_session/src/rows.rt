@@ -1,0 +1,215 @@
+//! The rows of the table of lines: each of these reads the words that follow a first word.
+ghost use Rattle.std.specs.Prelude.{◌≡◌, if◌then◌else◌, map};
+ghost use Rattle.its_session.specs.Grammar.{append_line, bare_line, clock_line, console_of, is_dash, deposit_line, dir_line, drain_line, exam_line, file_line, go_line, int_line, load_line, show_line, slot_line, tick_line, type_line, words_line};
+ghost use Rattle.its_session.specs.Reading.{console_in};
+
+use its_word::{Bad, Event};
+
+use super::fields::{at_most, bytes, console, count, name, number, numbers, slot};
+
+/// `LOAD u j c`
+#[tactic(auto, using(crate::proofs::RowLaws::three_words), unfolding(crate::specs::Grammar::load_line))]
+pub fn load(words: &[&[u8]]) -> Result<Event, Bad>
+    ensures { result ≡ load_line (map (λ w. w.now) words.now) }
+{
+    let [u, j, c] = words else {
+        return Err(Bad::Syntax);
+    };
+    let (u, j) = (name(u)?, name(j)?);
+    let console = console_or_dash(c)?;
+    Ok(Event::Load { u, j, console })
+}
+
+/// A console, or `-` for none.
+fn console_or_dash(word: &[u8]) -> Result<Option<u8>, Bad>
+    ensures { result ≡ console_in word.now }
+{
+    match word {
+        b"-" => Ok(None),
+        _ => Ok(Some(console(number(word)?)?)),
+    }
+}
+
+/// `GO a`
+#[tactic(auto, unfolding(crate::specs::Grammar::go_line))]
+pub fn go(words: &[&[u8]]) -> Result<Event, Bad>
+    ensures { result ≡ go_line (map (λ w. w.now) words.now) }
+{
+    let [a] = words else {
+        return Err(Bad::Syntax);
+    };
+    let a = at_most(0o777777, number(a)?)?;
+    Ok(Event::Go { a })
+}
+
+/// `FILE d x y`
+#[tactic(auto, unfolding(crate::specs::Grammar::file_line))]
+pub fn file(words: &[&[u8]]) -> Result<Event, Bad>
+    ensures { result ≡ file_line (map (λ w. w.now) words.now) }
+{
+    let [d, x, y] = words else {
+        return Err(Bad::Syntax);
+    };
+    let (d, x, y) = (name(d)?, name(x)?, name(y)?);
+    Ok(Event::File { d, x, y })
+}
+
+/// `TICK s n`
+#[tactic(auto, unfolding(crate::specs::Grammar::tick_line))]
+pub fn tick(words: &[&[u8]]) -> Result<Event, Bad>
+    ensures { result ≡ tick_line (map (λ w. w.now) words.now) }
+{
+    let [s, n] = words else {
+        return Err(Bad::Syntax);
+    };
+    let (s, n) = (number(s)?, number(n)?);
+    let (s, n) = (slot(s)?, count(0o1000, n)?);
+    Ok(Event::Tick { s, n })
+}
+
+/// `DRAIN c n`
+#[tactic(auto, unfolding(crate::specs::Grammar::drain_line))]
+pub fn drain(words: &[&[u8]]) -> Result<Event, Bad>
+    ensures { result ≡ drain_line (map (λ w. w.now) words.now) }
+{
+    let [c, n] = words else {
+        return Err(Bad::Syntax);
+    };
+    let (c, n) = (number(c)?, number(n)?);
+    let n = count(0o100, n)?;
+    let c = console(c)?;
+    Ok(Event::Drain { c, n })
+}
+
+/// `CLOCK n`
+#[tactic(auto, unfolding(crate::specs::Grammar::clock_line))]
+pub fn clock(words: &[&[u8]]) -> Result<Event, Bad>
+    ensures { result ≡ clock_line (map (λ w. w.now) words.now) }
+{
+    let [n] = words else {
+        return Err(Bad::Syntax);
+    };
+    let n = number(n)?.value();
+    Ok(Event::Clock { n })
+}
+
+/// `INT s v w`
+#[tactic(auto, using(crate::proofs::RowLaws::three_words), unfolding(crate::specs::Grammar::int_line))]
+pub fn int(words: &[&[u8]]) -> Result<Event, Bad>
+    ensures { result ≡ int_line (map (λ w. w.now) words.now) }
+{
+    let [s, v, w] = words else {
+        return Err(Bad::Syntax);
+    };
+    let (s, v, w) = (number(s)?, number(v)?, number(w)?);
+    let s = slot(s)?;
+    Ok(Event::Int { s, v, w })
+}
+
+/// `EXAM s a n`
+#[tactic(auto, using(crate::proofs::RowLaws::three_words), unfolding(crate::specs::Grammar::exam_line))]
+pub fn exam(words: &[&[u8]]) -> Result<Event, Bad>
+    ensures { result ≡ exam_line (map (λ w. w.now) words.now) }
+{
+    let [s, a, n] = words else {
+        return Err(Bad::Syntax);
+    };
+    let (s, a, n) = (number(s)?, number(a)?, number(n)?);
+    let (s, n) = (slot(s)?, count(0o10, n)?);
+    let a = at_most(0o1000000 - n, a)?;
+    Ok(Event::Exam { s, a, n })
+}
+
+/// `DEPOSIT s a w`
+#[tactic(auto, using(crate::proofs::RowLaws::three_words), unfolding(crate::specs::Grammar::deposit_line))]
+pub fn deposit(words: &[&[u8]]) -> Result<Event, Bad>
+    ensures { result ≡ deposit_line (map (λ w. w.now) words.now) }
+{
+    let [s, a, w] = words else {
+        return Err(Bad::Syntax);
+    };
+    let (s, a, w) = (number(s)?, number(a)?, number(w)?);
+    let (s, a) = (slot(s)?, at_most(0o777777, a)?);
+    Ok(Event::Deposit { s, a, w })
+}
+
+/// The slot of `STATE s`, `STOP s`, `CONT s` and `PEEK s`.
+#[tactic(auto, unfolding(crate::specs::Grammar::slot_line))]
+pub fn only_slot(words: &[&[u8]]) -> Result<u8, Bad>
+    ensures { result ≡ slot_line (map (λ w. w.now) words.now) }
+{
+    let [s] = words else {
+        return Err(Bad::Syntax);
+    };
+    slot(number(s)?)
+}
+
+/// `DIR d`
+#[tactic(auto, unfolding(crate::specs::Grammar::dir_line))]
+pub fn dir(words: &[&[u8]]) -> Result<Event, Bad>
+    ensures { result ≡ dir_line (map (λ w. w.now) words.now) }
+{
+    let [d] = words else {
+        return Err(Bad::Syntax);
+    };
+    let d = name(d)?;
+    Ok(Event::Dir { d })
+}
+
+/// `SHOW d x y`
+#[tactic(auto, using(crate::proofs::RowLaws::three_words), unfolding(crate::specs::Grammar::show_line))]
+pub fn show(words: &[&[u8]]) -> Result<Event, Bad>
+    ensures { result ≡ show_line (map (λ w. w.now) words.now) }
+{
+    let [d, x, y] = words else {
+        return Err(Bad::Syntax);
+    };
+    let (d, x, y) = (name(d)?, name(x)?, name(y)?);
+    Ok(Event::Show { d, x, y })
+}
+
+/// `EOF` or `END`
+#[tactic(auto, unfolding(crate::specs::Grammar::bare_line))]
+pub fn bare(event: Event, words: &[&[u8]]) -> Result<Event, Bad>
+    ensures { result ≡ bare_line event (map (λ w. w.now) words.now) }
+{
+    if words.is_empty() {
+        Ok(event)
+    } else {
+        Err(Bad::Syntax)
+    }
+}
+
+/// `a/` and 1 to 16 words
+#[tactic(auto, using(crate::proofs::RowLaws::numbers_formed, crate::proofs::RowLaws::numbers_ranged, crate::proofs::RowLaws::numbers_consoles, crate::proofs::RowLaws::count_of_words), unfolding(crate::specs::Grammar::words_line))]
+pub fn words(a: &[u8], words: &[&[u8]]) -> Result<Event, Bad>
+    ensures { result ≡ words_line a.now (map (λ w. w.now) words.now) }
+{
+    let a = number(a)?;
+    let values = numbers(words)?;
+    let a = at_most(0o1000000 - words.len() as u32, a)?;
+    Ok(Event::Words { a, words: values })
+}
+
+/// `/` and 1 to 16 words
+#[tactic(auto, using(crate::proofs::RowLaws::numbers_formed, crate::proofs::RowLaws::numbers_ranged, crate::proofs::RowLaws::numbers_consoles), unfolding(crate::specs::Grammar::append_line))]
+pub fn append(words: &[&[u8]]) -> Result<Event, Bad>
+    ensures { result ≡ append_line (map (λ w. w.now) words.now) }
+{
+    let words = numbers(words)?;
+    Ok(Event::Append { words })
+}
+
+/// `TYPE c` and 1 to 32 bytes
+#[tactic(auto, using(crate::proofs::RowLaws::first_word, crate::proofs::RowLaws::bytes_formed, crate::proofs::RowLaws::bytes_ranged, crate::proofs::RowLaws::bytes_consoles), unfolding(crate::specs::Grammar::type_line))]
+pub fn type_in(words: &[&[u8]]) -> Result<Event, Bad>
+    ensures { result ≡ type_line (map (λ w. w.now) words.now) }
+{
+    let [c, rest @ ..] = words else {
+        return Err(Bad::Syntax);
+    };
+    let c = number(c)?;
+    let bytes = bytes(rest)?;
+    let c = console(c)?;
+    Ok(Event::TypeIn { c, bytes })
+}
