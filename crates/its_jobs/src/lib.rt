@@ -2,6 +2,8 @@
 #![tactic(auto)]
 
 mod table;
+#[cfg(test)]
+mod tests;
 
 pub use its_word::{Channel, Job, NoMemory};
 pub use table::{Jobs, NoSlot};

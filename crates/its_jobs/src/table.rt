@@ -1,11 +1,11 @@
-ghost use Rattle.std.specs.Prelude.{◌≡◌, ◌≢◌, ◌≤◌, ◌<◌, ◌↔◌, ℕ, true, Some, None, IfOk, OnOk, OnErr, IfSome, IsErr, is_some, length, slice_set, slice_index_or, false, option_copied};
+ghost use Rattle.std.specs.Prelude.{◌≡◌, ◌≢◌, ◌≤◌, ◌<◌, ◌↔◌, ℕ, true, Some, None, IfOk, OnOk, OnErr, IfSome, IsErr, is_some, length, slice_set, slice_index_or, slice_get, false, option_copied};
 ghost use Rattle.std.specs.Option.{option_copied_mut};
 ghost use Rattle.std.specs.Borrow.{LendsIf, sem};
 ghost use Rattle.its_word.specs.contracts.jobs.Job.{the_row as job_row};
 ghost use Rattle.its_jobs.specs.contracts.table.Jobs.{the_row};
 ghost use Rattle.its_word.specs.Limits.{slots};
 ghost use Rattle.its_word.specs.Only.{Only};
-ghost use Rattle.its_word.specs.Tree.{least_free, fresh_job};
+ghost use Rattle.its_word.specs.Tree.{least_free, fresh_job, is_below, slots_below};
 ghost use Rattle.its_jobs.specs.Table.{job_at, superior_at, NoJobs};
 
 use its_word::{Channel, Job, NoMemory, SLOTS, Word};
@@ -82,6 +82,29 @@ impl Jobs {
         self.jobs[slot as usize].as_mut()
     }
 
+    /// Removes the job of a slot, which has no job below it. All others stay as they are.
+    pub fn remove(&mut self, slot: u8)
+        requires slot { slot < slots }
+        requires job { is_some (job_at self.old slot) ≡ true }
+        requires leaf { (k : ℕ) → is_below (superior_at self.old) slot k ≡ false }
+        ensures job { Only (job_at self.old) (job_at self.new) slot None }
+        ensures superior { Only (superior_at self.old) (superior_at self.new) slot None }
+    {
+        self.jobs[slot as usize] = None;
+        self.superiors[slot as usize] = None;
+    }
+
+    /// The k-th job below that of a slot, by slot number, from 0; None past the last.
+    pub fn below(&self, slot: u8, k: u32) -> Option<u8>
+        requires { slot < slots }
+        ensures job { result ≡ slice_get (slots_below (superior_at self.now) slot) k }
+        ensures within { IfSome result (λ b. b < slots) }
+        ensures some { IfSome result (λ b. is_below (superior_at self.now) slot b ≡ true) }
+        ensures none { k ≡ 0 → result ≡ None → (j : ℕ) → is_below (superior_at self.now) slot j ≡ false }
+    {
+        nth_below(&self.superiors, slot, k)
+    }
+
     /// The superior of a slot's job; None where the slot is empty or its job has none.
     pub fn superior(&self, slot: u8) -> Option<u8>
         requires { slot < slots }
@@ -102,6 +125,51 @@ fn free_slot(jobs: &[Option<Job>]) -> Option<u8>
     for slot in 0..64u8 {
         if jobs[slot as usize].is_none() {
             return Some(slot);
+        }
+    }
+    None
+}
+
+/// Whether the job of a slot is below that of another: it is climbed from job to superior, at most 64
+/// times.
+#[tactic(auto, using(its_word::proofs::TreeLaws::climb_spent, its_word::proofs::TreeLaws::climb_end, its_word::proofs::TreeLaws::climb_turn), unfolding(its_word::specs::Tree::is_below))]
+fn is_below(superiors: &[Option<u8>], slot: u8, job: u8) -> bool
+    requires job { job < slots }
+    requires length { length superiors.now ≡ slots }
+    requires slots { (k : ℕ) → IfSome (slice_index_or superiors.now k None) (λ s. s < slots) }
+    ensures { result ≡ is_below (λ k. slice_index_or superiors.now k None) slot job }
+{
+    if job == slot {
+        return false;
+    }
+    let mut superior = superiors[job as usize];
+    for _step in 0..SLOTS {
+        match superior {
+            Some(s) if s == slot => return true,
+            Some(s) => superior = superiors[s as usize],
+            None => return false,
+        }
+    }
+    false
+}
+
+/// The k-th slot, from 0, of those below another.
+#[tactic(auto, using(its_word::proofs::TreeLaws::rest_start, its_word::proofs::TreeLaws::nth_skip, its_word::proofs::TreeLaws::nth_here, its_word::proofs::TreeLaws::nth_next, its_word::proofs::TreeLaws::nth_end))]
+fn nth_below(superiors: &[Option<u8>], slot: u8, k: u32) -> Option<u8>
+    requires length { length superiors.now ≡ slots }
+    requires slots { (k : ℕ) → IfSome (slice_index_or superiors.now k None) (λ s. s < slots) }
+    ensures job { result ≡ slice_get (slots_below (λ k. slice_index_or superiors.now k None) slot) k }
+    ensures within { IfSome result (λ b. b < slots) }
+    ensures some { IfSome result (λ b. is_below (λ k. slice_index_or superiors.now k None) slot b ≡ true) }
+    ensures none { k ≡ 0 → result ≡ None → (j : ℕ) → is_below (λ k. slice_index_or superiors.now k None) slot j ≡ false }
+{
+    let mut left = k;
+    for other in 0..64u8 {
+        if is_below(superiors, slot, other) {
+            if left == 0 {
+                return Some(other);
+            }
+            left -= 1;
         }
     }
     None

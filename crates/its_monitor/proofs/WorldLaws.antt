@@ -11,7 +11,7 @@ use Rattle.its_word.specs.declared.jobs.Job.{Job}
 use Rattle.its_word.specs.declared.session.Reason.{Reason}
 use Rattle.its_word.specs.declared.session.Reason.TheVariants as reasons
 use Rattle.its_word.specs.Tree.{least_free, fresh_job}
-use Rattle.its_word.proofs.TreeLaws.{least_alike, least_empty}
+use Rattle.its_word.proofs.FreeLaws.{least_alike, least_empty}
 use Rattle.its_core.specs.Cores.{Cores, core_at, reserved_at}
 use Rattle.its_jobs.specs.Table.{Table, job_at, superior_at}
 use Rattle.its_plain.specs.Machine.{Whole, Machine, changed, with_job}

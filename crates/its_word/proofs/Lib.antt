@@ -6,3 +6,4 @@ pub mod TextLaws
 pub mod TreeLaws
 pub mod WordLaws
 pub mod AddressLaws
+pub mod FreeLaws

@@ -1,8 +1,9 @@
--- The least free slot, found by looking at one slot after another.
-use Rattle.std.specs.Prelude.{◌≡◌, ◌≤◌, ◌<◌, ◌+◌, ◌-◌, ℕ, zero, suc, true, false, Option, Some, None, is_some, cond, refl}
-use Rattle.std.proofs.Common.{sym, ◌∙◌, ap, arith}
-use Rattle.its_word.specs.Limits.{slots}
-use Rattle.its_word.specs.Tree.{free_from, least_free}
+-- The least free slot, and the jobs below a job, found by looking at one slot after another.
+use Rattle.std.specs.Prelude.{◌≡◌, ◌≢◌, ◌≤◌, ◌<◌, ◌+◌, ◌-◌, ◌==◌, ◌&&◌, ◌||◌, not, ℕ, zero, suc, Bool, true, false, Option, Some, None, List, ◌∷◌, is_some, cond, filter, slice_get, refl}
+use Rattle.std.specs.List.{range_with_len}
+use Rattle.std.proofs.Common.{◌∙◌, ap, arith, inl, inr, eq-eqb}
+use Rattle.std.proofs.lemmas.Bool.{cases_eq, ne_eqb}
+use Rattle.its_word.specs.Tree.{free_from, least_free, climbs_to, is_below, slots_below}
 
 -- before the first slot is looked at
 pub least_start : {X : Type 0} (jobs : ℕ → Option X) → free_from jobs (64 - 0) 0 ≡ least_free jobs
@@ -34,26 +35,94 @@ pub least_end : {X : Type 0} (jobs : ℕ → Option X) (k : ℕ) → 64 ≤ k �
 unfolding free_from
 least_end jobs k l = let e : 64 - k ≡ 0 = omega arith in ap (λ n. free_from jobs n k) e
 
--- only which slots are empty counts
-free_alike : {X Y : Type 0} (f : ℕ → Option X) (g : ℕ → Option Y) (n k : ℕ) → ((i : ℕ) → is_some (f i) ≡ is_some (g i)) → free_from f n k ≡ free_from g n k
-unfolding free_from
-free_alike f g zero k h = refl
-free_alike f g (suc n) k h = ap (λ b. cond b (free_from f n (k + 1)) (Some k)) (h k) ∙ ap (λ r. cond (is_some (g k)) r (Some k)) (free_alike f g n (k + 1) h)
+-- climbing from one job to its superior
+pub climb_spent : (superiors : ℕ → Option ℕ) (s n : ℕ) (o : Option ℕ) → n ≡ 0 → climbs_to superiors s n o ≡ false
+unfolding climbs_to
+climb_spent superiors s zero o e = refl
+climb_spent superiors s (suc n) o e = absurd (omega arith)
 
-pub least_alike : {X Y : Type 0} (f : ℕ → Option X) (g : ℕ → Option Y) → ((i : ℕ) → is_some (f i) ≡ is_some (g i)) → least_free f ≡ least_free g
-unfolding least_free
-least_alike f g h = free_alike f g slots 0 h
+pub climb_end : (superiors : ℕ → Option ℕ) (s n : ℕ) → climbs_to superiors s n None ≡ false
+unfolding climbs_to
+climb_end superiors s zero = refl
+climb_end superiors s (suc n) = refl
 
--- the least free slot is empty
-free_empty : {X : Type 0} (f : ℕ → Option X) (n k s : ℕ) → free_from f n k ≡ Some s → f s ≡ None
-unfolding free_from
-free_empty f zero k s h = cc
-free_empty {X = X} f (suc n) k s h = go (f k) refl (free_empty f n (k + 1) s) h
+climb : (superiors : ℕ → Option ℕ) (s n m k : ℕ) → n ≡ suc m → climbs_to superiors s n (Some k) ≡ ((k == s) || climbs_to superiors s m (superiors k))
+unfolding climbs_to
+climb superiors s zero m k e = absurd (omega arith)
+climb superiors s (suc n) m k e = let same : n ≡ m = omega arith in ap (λ x. (k == s) || climbs_to superiors s x (superiors k)) same
+
+-- after i of 64 steps
+pub climb_turn : (superiors : ℕ → Option ℕ) (s i k : ℕ) → i < 64
+    → climbs_to superiors s (64 - i) (Some k) ≡ ((k == s) || climbs_to superiors s (64 - (i + 1)) (superiors k))
+climb_turn superiors s i k l = let e : 64 - i ≡ suc (64 - (i + 1)) = omega arith in climb superiors s (64 - i) (64 - (i + 1)) k e
+
+and_false : (b : Bool) → (b && false) ≡ false
+and_false true = refl
+and_false false = refl
+
+-- a job whose superior is s is below s
+pub below_superior : (superiors : ℕ → Option ℕ) (s k : ℕ) → k ≢ s → superiors k ≡ Some s → is_below superiors s k ≡ true
+unfolding is_below climbs_to
+below_superior superiors s k ne e = rw (e, eq-eqb s s refl) (ap (λ b. not b && true) (ne_eqb k s ne))
+
+-- a job without superior is below none
+pub below_none : (superiors : ℕ → Option ℕ) (s k : ℕ) → superiors k ≡ None → is_below superiors s k ≡ false
+unfolding is_below climbs_to
+below_none superiors s k e = rw e (and_false (not (k == s)))
+
+-- the slots from i on that are below s
+unfoldable pub rest_below : (ℕ → Option ℕ) → ℕ → ℕ → List ℕ
+rest_below superiors s i = filter (is_below superiors s) (range_with_len i (64 - i))
+
+pub rest_start : (superiors : ℕ → Option ℕ) (s : ℕ) → rest_below superiors s 0 ≡ slots_below superiors s
+unfolding rest_below slots_below
+rest_start superiors s = refl
+
+rest_turn : (superiors : ℕ → Option ℕ) (s i : ℕ) → i < 64
+    → rest_below superiors s i ≡ cond (is_below superiors s i) (i ∷ rest_below superiors s (i + 1)) (rest_below superiors s (i + 1))
+unfolding rest_below
+rest_turn superiors s i l =
+    let e : 64 - i ≡ suc (64 - (i + 1)) = omega arith in
+    ap (λ n. filter (is_below superiors s) (range_with_len i n)) e
+
+skipped : (superiors : ℕ → Option ℕ) (s i : ℕ) → i < 64 → is_below superiors s i ≡ false → rest_below superiors s i ≡ rest_below superiors s (i + 1)
+skipped superiors s i l h = rest_turn superiors s i l ∙ ap (λ b. cond b (i ∷ rest_below superiors s (i + 1)) (rest_below superiors s (i + 1))) h
+
+taken : (superiors : ℕ → Option ℕ) (s i : ℕ) → i < 64 → is_below superiors s i ≡ true → rest_below superiors s i ≡ i ∷ rest_below superiors s (i + 1)
+taken superiors s i l h = rest_turn superiors s i l ∙ ap (λ b. cond b (i ∷ rest_below superiors s (i + 1)) (rest_below superiors s (i + 1))) h
+
+-- the n-th of them
+pub nth_skip : (superiors : ℕ → Option ℕ) (s i n : ℕ) → i < 64 → is_below superiors s i ≡ false
+    → slice_get (rest_below superiors s i) n ≡ slice_get (rest_below superiors s (i + 1)) n
+nth_skip superiors s i n l h = ap (λ xs. slice_get xs n) (skipped superiors s i l h)
+
+pub nth_here : (superiors : ℕ → Option ℕ) (s i n : ℕ) → i < 64 → is_below superiors s i ≡ true → n ≡ 0 → slice_get (rest_below superiors s i) n ≡ Some i
+nth_here superiors s i zero l h e = ap (λ xs. slice_get xs 0) (taken superiors s i l h)
+nth_here superiors s i (suc n) l h e = absurd (omega arith)
+
+pub nth_next : (superiors : ℕ → Option ℕ) (s i n : ℕ) → i < 64 → is_below superiors s i ≡ true → n ≢ 0
+    → slice_get (rest_below superiors s i) n ≡ slice_get (rest_below superiors s (i + 1)) (n - 1)
+nth_next superiors s i zero l h ne = absurd (ne refl)
+nth_next superiors s i (suc n) l h ne =
+    let e : n ≡ suc n - 1 = omega arith in
+    ap (λ xs. slice_get xs (suc n)) (taken superiors s i l h) ∙ ap (slice_get (rest_below superiors s (i + 1))) e
+
+pub nth_end : (superiors : ℕ → Option ℕ) (s i n : ℕ) → 64 ≤ i → slice_get (rest_below superiors s i) n ≡ None
+unfolding rest_below
+nth_end superiors s i n l = let e : 64 - i ≡ 0 = omega arith in ap (λ m. slice_get (filter (is_below superiors s) (range_with_len i m)) n) e
+
+-- none is below s where there is no first
+none_in : (p : ℕ → Bool) (a n j : ℕ) → slice_get (filter p (range_with_len a n)) 0 ≡ None → a ≤ j → j < a + n → p j ≡ false
+none_in p a zero j h l m = absurd (omega arith)
+none_in p a (suc n) j h l m =
+    let later : slice_get (filter p (range_with_len (a + 1) n)) 0 ≡ None → a + 1 ≤ j → p j ≡ false = λ g r. none_in p (a + 1) n j g r (omega arith) in
+    go (p a) refl h later
   where
-    go : (o : Option X) → f k ≡ o → (free_from f n (k + 1) ≡ Some s → f s ≡ None) → cond (is_some o) (free_from f n (k + 1)) (Some k) ≡ Some s → f s ≡ None
-    go (Some x) e later h = later h
-    go None e later h = let q : k ≡ s = cc in ap f (sym q) ∙ e
+    go : (b : Bool) → p a ≡ b → slice_get (cond b (a ∷ filter p (range_with_len (a + 1) n)) (filter p (range_with_len (a + 1) n))) 0 ≡ None
+        → (slice_get (filter p (range_with_len (a + 1) n)) 0 ≡ None → a + 1 ≤ j → p j ≡ false) → p j ≡ false
+    go true e h later = cc
+    go false e h later = elim (cases_eq j a) [ inl f ↦ rw f e | inr f ↦ later h (omega arith) ]
 
-pub least_empty : {X : Type 0} (f : ℕ → Option X) (s : ℕ) → least_free f ≡ Some s → f s ≡ None
-unfolding least_free
-least_empty f s h = free_empty f slots 0 s h
+pub none_below : (superiors : ℕ → Option ℕ) (s j : ℕ) → slice_get (slots_below superiors s) 0 ≡ None → j < 64 → is_below superiors s j ≡ false
+unfolding slots_below
+none_below superiors s j h l = none_in (is_below superiors s) 0 64 j h (omega arith) (omega arith)

@@ -1,5 +1,6 @@
 -- Slots, and the tree of jobs.
-use Rattle.std.specs.Prelude.{ℕ, zero, suc, ◌+◌, true, Option, Some, None, replicate, is_some, cond}
+use Rattle.std.specs.Prelude.{ℕ, zero, suc, ◌+◌, ◌==◌, Bool, true, false, not, ◌&&◌, ◌||◌, Option, Some, None, List, filter, replicate, is_some, cond}
+use Rattle.std.specs.List.{range_with_len}
 use Rattle.its_word.specs.Limits.{slots}
 use Rattle.its_word.specs.declared.jobs.Job.{Job}
 use Rattle.its_word.specs.declared.jobs.Channel.TheVariants.{Closed}
@@ -30,3 +31,17 @@ fresh_job u j console = record {
   console = console;
   channels = replicate 16 Closed;
 }
+
+-- one of the jobs that are reached from a slot in n steps or fewer, each from a job to its superior, is that of slot s
+unfoldable pub climbs_to : (ℕ → Option ℕ) → ℕ → ℕ → Option ℕ → Bool
+climbs_to superiors s zero o = false
+climbs_to superiors s (suc n) (Some k) = (k == s) || climbs_to superiors s n (superiors k)
+climbs_to superiors s (suc n) None = false
+
+-- the job of slot k is below that of slot s: that one is reached from k through superiors. No job is below itself
+unfoldable pub is_below : (ℕ → Option ℕ) → ℕ → ℕ → Bool
+is_below superiors s k = not (k == s) && climbs_to superiors s slots (superiors k)
+
+-- the slots of the jobs below that of slot s, in their order
+unfoldable pub slots_below : (ℕ → Option ℕ) → ℕ → List ℕ
+slots_below superiors s = filter (is_below superiors s) (range_with_len 0 slots)

@@ -1,0 +1,144 @@
+ghost use Rattle.std.specs.Prelude.{◌≡◌, ◌<◌, ◌≤◌, ◌^◌, true};
+ghost use Rattle.its_word.specs.Limits.{slots};
+ghost use Rattle.its_word.specs.Only.{Only};
+ghost use Rattle.its_core.specs.Cores.{core_at};
+ghost use Rattle.its_plain.specs.Job.{pc_word};
+ghost use Rattle.its_plain.specs.Interrupt.{unguarded, deliverable, pushed, at_handler, above, below, delivered, dismissed};
+
+use super::table::{Found, LAST, TBL, TableEntry, enabled_1, enabled_2, look_up};
+use super::words::{Push, all_can, is_storable, store_all, word};
+use its_core::Core;
+use its_word::{Exit, Fault, Job, USER, Word};
+
+/// The fatal bits of pending word 1.
+const FATAL: u64 = 0o77;
+
+/// The flags that a PC word keeps, user aside.
+const NAMED: u32 = 0o760040;
+
+/// The pending fatal bits that are not enabled.
+#[tactic(auto, unfolding(its_plain::specs::Interrupt::unguarded))]
+fn unguarded(job: &Job) -> Word
+    ensures { result ≡ unguarded job.now }
+{
+    job.pend1 & Word::new(FATAL) & !enabled_1(job)
+}
+
+/// Whether an interrupt of a job can be delivered: a fatal bit is pending that is not enabled, or an
+/// enabled bit is.
+#[tactic(auto, unfolding(its_plain::specs::Interrupt::deliverable))]
+pub fn deliverable(job: &Job) -> bool
+    ensures { result ≡ deliverable job.now }
+{
+    unguarded(job) != Word::ZERO || enabled_1(job) != Word::ZERO || enabled_2(job) != Word::ZERO
+}
+
+/// The k-th place above a stack pointer word.
+fn above(pointer: Word, k: u32) -> u32
+    requires { k < 2 ^ 18 }
+    ensures place { result ≡ above pointer k }
+    ensures below { result < 2 ^ 18 }
+{
+    pointer.right() + k & LAST
+}
+
+/// The words that a delivery stores, in order.
+#[tactic(auto, unfolding(its_plain::specs::Interrupt::pushed))]
+fn pushes(job: &Job, found: &Found) -> [Push; 6]
+    requires { found.now.place < 2 ^ 18 }
+    ensures { result ≡ pushed job.now found.now.entry found.now.place found.now.pointer }
+{
+    let pointer = found.pointer;
+    [
+        Push::new(above(pointer, 1), enabled_1(job) & found.entry.mask1()),
+        Push::new(above(pointer, 2), enabled_2(job) & found.entry.mask2()),
+        Push::new(above(pointer, 3), job.defer1),
+        Push::new(above(pointer, 4), job.defer2),
+        Push::new(
+            above(pointer, 5),
+            Word::pair(job.flags & NAMED | USER, job.pc),
+        ),
+        Push::new(
+            found.place,
+            Word::pair(pointer.left() + 5, pointer.right() + 5),
+        ),
+    ]
+}
+
+/// Takes the job to the handler of an entry.
+#[tactic(auto, unfolding(its_plain::specs::Interrupt::at_handler))]
+fn enter(job: &mut Job, entry: &TableEntry)
+    ensures { job.new ≡ at_handler job.old entry.now }
+{
+    let taken_1 = enabled_1(job) & entry.mask1();
+    let taken_2 = enabled_2(job) & entry.mask2();
+    job.pend1 = job.pend1 & !taken_1;
+    job.pend2 = job.pend2 & !taken_2;
+    job.defer1 = job.defer1 | entry.defer1();
+    job.defer2 = job.defer2 | entry.defer2();
+    job.pc = entry.handler().right();
+    job.flags = 0;
+}
+
+/// Delivers an interrupt to a job. Tells whether a fatal bit stopped the job; INF is then to be set in
+/// its superior, where it has one. A delivery that cannot be made sets TBL and changes nothing else.
+#[tactic(auto, unfolding(its_plain::specs::Interrupt::delivered))]
+pub fn deliver(core: &mut Core, slot: u8, job: &mut Job) -> bool
+    requires slot { slot < slots }
+    requires deliverable { deliverable job.old ≡ true }
+    ensures core { Only (core_at core.old) (core_at core.new) slot (delivered (core_at core.old slot) job.old).core }
+    ensures reserved { core.new.reserved ≡ core.old.reserved }
+    ensures job { job.new ≡ (delivered (core_at core.old slot) job.old).job }
+    ensures stops { result ≡ (delivered (core_at core.old slot) job.old).stops }
+{
+    if unguarded(job) != Word::ZERO {
+        job.stopped = true;
+        return true;
+    }
+    if let Some(found) = look_up(core, slot, job) {
+        let pushes = pushes(job, &found);
+        if all_can(core, slot, &pushes) {
+            store_all(core, slot, &pushes);
+            enter(job, &found.entry);
+            return false;
+        }
+    }
+    job.pend1 = job.pend1 | Word::new(TBL);
+    false
+}
+
+/// The registers that DISMIS leaves a job with, from the five words that a delivery pushed below the
+/// stack pointer word at p. Mpv where one of the words is absent, else Wro where p is read only.
+#[tactic(auto, unfolding(its_plain::specs::Interrupt::dismissed))]
+pub fn dismiss(core: &Core, job: &Job, slot: u8, p: u32) -> Result<Exit, Fault>
+    requires slot { slot < slots }
+    requires address { p < 2 ^ 18 }
+    ensures { result ≡ dismissed (core_at core.now slot) job.now p }
+{
+    let pointer = word(core, slot, p).ok_or(Fault::Mpv)?;
+    let pc_word = word(core, slot, pointer.right()).ok_or(Fault::Mpv)?;
+    let defer2 = word(core, slot, below(pointer, 1)).ok_or(Fault::Mpv)?;
+    let defer1 = word(core, slot, below(pointer, 2)).ok_or(Fault::Mpv)?;
+    if !is_storable(core, slot, p) {
+        return Err(Fault::Wro);
+    }
+    Ok(Exit {
+        pc: pc_word.right(),
+        flags: pc_word.left() & NAMED,
+        pend1: job.pend1,
+        pend2: job.pend2,
+        mask1: job.mask1,
+        mask2: job.mask2,
+        defer1,
+        defer2,
+    })
+}
+
+/// The k-th place below that of a stack pointer word.
+fn below(pointer: Word, k: u32) -> u32
+    requires { k ≤ 2 ^ 18 }
+    ensures place { result ≡ below pointer k }
+    ensures below { result < 2 ^ 18 }
+{
+    pointer.right() + (0o1000000 - k) & LAST
+}

@@ -1,0 +1,11 @@
+//! Software interrupts: whether one can be delivered, its delivery, and the return from its handler
+//! (docs/MACHINE.md, "Interrupts").
+#![tactic(auto)]
+
+mod delivery;
+mod table;
+#[cfg(test)]
+mod tests;
+mod words;
+
+pub use delivery::{deliver, deliverable, dismiss};

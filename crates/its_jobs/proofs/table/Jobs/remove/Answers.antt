@@ -1,0 +1,6 @@
+-- what is left is a tree
+use Rattle.its_jobs.proofs.TableLaws.{removed}
+use Rattle.its_jobs.proofs.table.Jobs.remove.Goals as goal
+
+pub invariant_of-self : goal.invariant_of-self
+invariant_of-self c = removed _ _ _ c.self.invariant c.requires.slot (rw (← c.self.view_is) at c.requires.leaf)

@@ -1,0 +1,73 @@
+use super::{Job, Jobs, NoSlot};
+use its_word::{Channel, Word};
+use std::process::Abort;
+use std::test::Fail;
+
+/// Makes a job, below another where one is given.
+fn made(rt: &impl Abort, jobs: &mut Jobs, superior: Option<u8>) -> Result<u8, NoSlot> {
+    if let Some(s) = superior {
+        assert!(rt; s < 64);
+        assert!(rt; jobs.job(s).is_some());
+    }
+    jobs.create(Word::new(7), Word::new(0o107), superior, Some(3))
+}
+
+/// The jobs of a tree are made in the least free slots, found by number, and removed from below.
+#[test]
+fn tree(rt: HostRuntime) -> Result<(), Fail> {
+    let mut jobs = Jobs::open(rt.alloc())?;
+    for (slot, superior) in [None, Some(0), Some(1), None, Some(0)]
+        .into_iter()
+        .enumerate()
+    {
+        assert_eq!(rt; made(&rt, &mut jobs, superior)?, slot as u8);
+        assert_eq!(rt; jobs.superior(slot as u8), superior);
+    }
+    for (slot, below) in [
+        (0, [Some(1), Some(2), Some(4), None]),
+        (1, [Some(2), None, None, None]),
+        (2, [None; 4]),
+        (3, [None; 4]),
+        (63, [None; 4]),
+    ] {
+        for (k, want) in below.into_iter().enumerate() {
+            assert_eq!(rt; jobs.below(slot, k as u32), want, "{k} below {slot}");
+        }
+    }
+
+    let want = Job {
+        pc: 0,
+        flags: 0,
+        stopped: true,
+        pend1: Word::ZERO,
+        pend2: Word::ZERO,
+        mask1: Word::ZERO,
+        mask2: Word::ZERO,
+        defer1: Word::ZERO,
+        defer2: Word::ZERO,
+        uname: Word::new(7),
+        jname: Word::new(0o107),
+        console: Some(3),
+        channels: [Channel::Closed; 16],
+    };
+    assert_eq!(rt; jobs.job(4).copied(), Some(want));
+    if let Some(job) = jobs.job_mut(4) {
+        job.stopped = false;
+    }
+    assert_eq!(rt; jobs.job(4).map(|job| job.stopped), Some(false));
+    assert_eq!(rt; jobs.superior(4), Some(0));
+
+    assert!(rt; jobs.job(1).is_some());
+    assert!(rt; jobs.below(2, 0).is_none());
+    assert!(rt; jobs.job(2).is_some());
+    jobs.remove(2);
+    assert!(rt; jobs.job(2).is_none());
+    assert_eq!(rt; jobs.superior(2), None);
+    assert_eq!(rt; jobs.below(0, 1), Some(4));
+    assert_eq!(rt; made(&rt, &mut jobs, Some(4))?, 2);
+    for slot in 5..64 {
+        assert_eq!(rt; made(&rt, &mut jobs, None)?, slot);
+    }
+    assert_eq!(rt; made(&rt, &mut jobs, None), Err(NoSlot));
+    Ok(())
+}
