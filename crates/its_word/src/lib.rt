@@ -27,7 +27,7 @@ pub use jobs::{Channel, Job};
 pub use limits::{MAPPED_PAGES, SLOTS};
 pub use memory::NoMemory;
 pub use opcode::decode;
-pub use plan::{Context, Plan, Store};
+pub use plan::{Context, Plan, Reached, Store, Turn};
 pub use result2::Result2;
 pub use session::{Bad, Event, Place, Reason, Refusal};
 pub use show::{FileShow, JobShow, Peek, PeekState};
