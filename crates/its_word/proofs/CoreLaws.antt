@@ -1,9 +1,10 @@
 -- The laws of reading and storing words of core. They close `word_at`, `can_store` and `store` off: no other proof opens these.
-use Rattle.std.specs.Prelude.{if◌then◌else◌, ◌≡◌, ◌≢◌, ℕ, zero, suc, ◌/◌, ◌%◌, Bool, true, false, Option, Some, None, List, [], ◌∷◌, nat_lt, slice_get, slice_set, is_some, refl}
+use Rattle.std.specs.Prelude.{if◌then◌else◌, ◌≡◌, ◌≢◌, ℕ, zero, suc, ◌/◌, ◌%◌, Bool, true, false, Option, Some, None, List, [], ◌∷◌, nat_lt, slice_get, slice_set, is_some, Ok, Err, refl}
 use Rattle.std.proofs.Common.{sym, ◌∙◌, ap, inl, inr, arith}
 use Rattle.std.proofs.lemmas.Bool.{cases_Bool, cases_eq}
 use Rattle.std.proofs.lemmas.List.{set-set, set_comm}
-use Rattle.its_word.specs.Core.{Page, Core, present, page_of, word_in, stores_in, page_stored, word_at, can_store, store}
+use Rattle.its_word.specs.declared.access.NoAccess.{NoAccess}
+use Rattle.its_word.specs.Core.{Page, Core, present, page_of, word_in, stores_in, page_stored, word_at, can_store, store, got}
 
 -- a list, read by `slice_get`
 pub get_set : {X : Type 0} (xs : List X) (i : ℕ) (x : X) → is_some (slice_get xs i) ≡ true → slice_get (slice_set xs i x) i ≡ Some x
@@ -275,3 +276,15 @@ store-word_at c a w h = stored_by_is c a w ∙ elim (cases_Bool (nat_lt a 16)) [
   | inl t ↦ rw t (stored_here_acc c a w (sym (in_accs c a t) ∙ h))
   | inr t ↦ rw t (stored_here_page c a w (sym (in_page c a t) ∙ h))
 ]
+
+-- what `get` answers, and the word that is there
+pub got_some : (o : Option ℕ) (w : ℕ) → got o ≡ Ok w → o ≡ Some w
+got_some (Some v) w h = cc
+got_some None w h = cc
+
+pub got_none : (o : Option ℕ) (e : NoAccess) → got o ≡ Err e → o ≡ None
+got_none (Some v) e h = cc
+got_none None e h = refl
+
+-- for `using`
+pub ruleset storing = (word_at-store_same, word_at-store_other, is_some-store, can_store-store, word_at-can_store, store-store)

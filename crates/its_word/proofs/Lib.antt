@@ -1,3 +1,4 @@
+pub mod AddressLaws
 pub mod CoreLaws
 pub mod PageLaws
 pub mod TextLaws

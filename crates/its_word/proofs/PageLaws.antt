@@ -3,16 +3,47 @@ use Rattle.std.specs.Prelude.{◌≡◌, ◌≢◌, ◌<◌, ◌≤◌, ℕ, zer
 use Rattle.std.specs.List.{range_with_len}
 use Rattle.std.proofs.Common.{sym, ◌∙◌, ap, inl, inr, arith}
 use Rattle.std.proofs.lemmas.Bool.{cases_Bool, cases_eq, lt-ltb, le-ltb}
+use Rattle.std.proofs.lemmas.List.{get_or-set_same}
 use Rattle.std.proofs.lemmas.List.Sums.{sum_by-set, sum_by-cons}
 use Rattle.its_word.specs.Core.{Page, Core, present, page_of, word_in, stores_in, page_stored, word_at, can_store, store, with_page, no_core, pages_present, pages_mapped}
 use Rattle.its_word.specs.Limits.{slots}
 use Rattle.its_word.specs.Only.{Only, Same}
 use Rattle.its_word.proofs.CoreLaws.{in_accs, in_page, stores_acc, stores_page, store_acc, store_page, get_set_other}
 
+pub present-slice_get : (ps : List (Option Page)) (k : ℕ) → present (slice_get ps k) ≡ slice_index_or ps k None
+present-slice_get [] k = refl
+present-slice_get (Some p ∷ ps) zero = refl
+present-slice_get (None ∷ ps) zero = refl
+present-slice_get (p ∷ ps) (suc k) = present-slice_get ps k
+
+within : (ps : List (Option Page)) (k : ℕ) → is_some (present (slice_get ps k)) ≡ true → k < length ps
+within [] k h = cc
+within (p ∷ ps) zero h = omega arith
+within (p ∷ ps) (suc k) h = let r = within ps k h in omega arith
+
+set_none : (ps : List (Option Page)) (k : ℕ) → slice_index_or (slice_set ps k None) k None ≡ None
+set_none [] k = refl
+set_none (p ∷ ps) zero = refl
+set_none (p ∷ ps) (suc k) = set_none ps k
+
 -- a core with another page
 pub page_of-with_page_other : (c : Core) (k j : ℕ) (p : Option Page) → j ≢ k → page_of (with_page c k p) j ≡ page_of c j
 unfolding page_of with_page
 page_of-with_page_other c k j p ne = ap present (get_set_other c.pages k j p ne)
+
+-- where there is a place for it
+pub page_of-with_page : (c : Core) (k : ℕ) (p : Option Page) → k < length c.pages → page_of (with_page c k p) k ≡ p
+unfolding page_of with_page
+page_of-with_page c k p h = present-slice_get (slice_set c.pages k p) k ∙ get_or-set_same c.pages k p None h
+
+-- and in any case where it is present before, or is to be absent
+pub page_of-with_page_present : (c : Core) (k : ℕ) (p : Option Page) → is_some (page_of c k) ≡ true → page_of (with_page c k p) k ≡ p
+unfolding page_of
+page_of-with_page_present c k p h = page_of-with_page c k p (within c.pages k h)
+
+pub page_of-with_page_none : (c : Core) (k : ℕ) → page_of (with_page c k None) k ≡ None
+unfolding page_of with_page
+page_of-with_page_none c k = present-slice_get (slice_set c.pages k None) k ∙ set_none c.pages k
 
 pub word_at-with_page_other : (c : Core) (k a : ℕ) (p : Option Page) → a / 1024 ≢ k → word_at (with_page c k p) a ≡ word_at c a
 unfolding with_page
@@ -40,12 +71,6 @@ can_store-with_page_acc c k a p h = let t = lt-ltb a 16 h in stores_acc (with_pa
 -- 1 where there is something
 abbrev pub one_if : {X : Type 0} → Option X → ℕ
 one_if p = cond (is_some p) 1 0
-
-pub present-slice_get : (ps : List (Option Page)) (k : ℕ) → present (slice_get ps k) ≡ slice_index_or ps k None
-present-slice_get [] k = refl
-present-slice_get (Some p ∷ ps) zero = refl
-present-slice_get (None ∷ ps) zero = refl
-present-slice_get (p ∷ ps) (suc k) = present-slice_get ps k
 
 -- one page more or less
 pub pages_present-with_page : (c : Core) (k : ℕ) (p : Option Page) → k < length c.pages → pages_present (with_page c k p) + one_if (page_of c k) ≡ pages_present c + one_if p
@@ -142,3 +167,29 @@ can_store-no_core a h = stores_acc no_core a (lt-ltb a 16 h) ∙ ap is_some (get
 pub pages_present-no_core : pages_present no_core ≡ 0
 unfolding pages_present no_core
 pages_present-no_core = count-copies 256
+
+sum_none : (f : ℕ → ℕ) (a n : ℕ) → ((k : ℕ) → f k ≡ 0) → sum_by f (range_with_len a n) ≡ 0
+sum_none f a zero h = refl
+sum_none f a (suc n) h =
+    let x = sum_by-cons f a (range_with_len (a + 1) n) in
+    let y = h a in
+    let z = sum_none f (a + 1) n h in
+    omega arith
+
+-- no core has a page
+pub pages_mapped-none : (cores : ℕ → Core) → ((k : ℕ) → cores k ≡ no_core) → pages_mapped cores ≡ 0
+unfolding pages_mapped
+pages_mapped-none cores h = sum_none (λ k. pages_present (cores k)) 0 slots (λ k. ap pages_present (h k) ∙ pages_present-no_core)
+
+-- an absent page that is made absent
+set_absent : (ps : List (Option Page)) (k : ℕ) → slice_index_or ps k None ≡ None → slice_set ps k None ≡ ps
+set_absent [] k h = refl
+set_absent (p ∷ ps) zero h = let e : p ≡ None = h in ap (λ q. q ∷ ps) (sym e)
+set_absent (p ∷ ps) (suc k) h = ap (λ qs. p ∷ qs) (set_absent ps k h)
+
+pub with_page-absent : (c : Core) (k : ℕ) → page_of c k ≡ None → with_page c k None ≡ c
+unfolding with_page page_of
+with_page-absent c k h = ap (λ ps. record c { pages = ps }) (set_absent c.pages k (sym (present-slice_get c.pages k) ∙ h))
+
+-- for `using`
+pub ruleset paging = (page_of-with_page_none, page_of-with_page_other, with_page-absent)

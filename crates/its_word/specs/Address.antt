@@ -24,15 +24,15 @@ abbrev pub index_of : ℕ → ℕ
 index_of w = w / 2 ^ 18 % 16
 
 -- Y, plus the right half of accumulator X where X is not 0, modulo 1000000 (octal)
-abbrev pub indexed : Core → ℕ → ℕ
+unfoldable pub indexed : Core → ℕ → ℕ
 indexed c w = if index_of w == 0 then right_of w else (right_of w + right_of (acc_at c (index_of w))) % 2 ^ 18
 
 -- the index register, where there is one
-abbrev pub index_places : ℕ → List ℕ
+unfoldable pub index_places : ℕ → List ℕ
 index_places w = if index_of w == 0 then [] else index_of w ∷ []
 
 -- the last word that was used, with the index register
-abbrev pub last_used : Core → ℕ → Option ℕ → Option ℕ
+unfoldable pub last_used : Core → ℕ → Option ℕ → Option ℕ
 last_used c w last = if index_of w == 0 then last else Some (acc_at c (index_of w))
 
 -- the same, after these places were read

@@ -1,0 +1,42 @@
+use Rattle.std.proofs.Common.{◌≡◌, ◌+◌, ◌*◌, Some, None, slice_index_or, arith, ap, ◌∙◌}
+use Rattle.its_core.specs.Cores.{zeroed, reserved_at}
+use Rattle.its_core.proofs.ReadLaws.{held_below}
+use Rattle.its_core.proofs.HeldLaws.{held_is_some, clear_quarter_only, clear_quarter_pool, clear_cores, clear_only, cleared_clear}
+use Rattle.its_core.proofs.cores.Core.clear_quarter.Goals as goal
+
+pub held_in-h-requires-clause-some : goal.held_in-h-requires-clause-some
+held_in-h-requires-clause-some c =
+    rw c.deref.ensures.value (held_is_some _ _ _ _ _ _ c.self.invariant c.args.slot (rw c.self.view_is c.requires.some))
+
+pub clear-requires : goal.clear-requires
+clear-requires c =
+    let e : slice_index_or c.self.inside.held.items c.args.slot None ≡ Some c.held_in-h.result = cc in
+    let below = held_below _ _ _ _ _ _ c.self.invariant c.args.slot c.held_in-h.result e in
+    let long = c.self.invariant.words_long in
+    omega arith
+
+pub invariant_of-self : goal.invariant_of-self
+invariant_of-self c =
+    let e : slice_index_or c.self.inside.held.items c.args.slot None ≡ Some c.held_in-h.result = cc in
+    let w : c.clear.new.words.items ≡ zeroed (1024 * c.held_in-h.result.frame + 256 * c.args.q) 256 c.self.inside.words.items =
+    c.clear.ensures ∙ ap (λ i. zeroed i 256 c.self.inside.words.items) (omega arith) in
+    rw (w, c.from-3.ensures, c.quarters_clear.ensures) (clear_quarter_pool _ _ _ _ _ _ c.self.invariant c.args.slot c.args.q c.held_in-h.result c.requires.slot c.requires.quarter e)
+
+pub returns-clause-reserved : goal.returns-clause-reserved
+returns-clause-reserved c =
+    let e : slice_index_or c.self.inside.held.items c.args.slot None ≡ Some c.held_in-h.result = cc in
+    let w : c.clear.new.words.items ≡ zeroed (1024 * c.held_in-h.result.frame + 256 * c.args.q) 256 c.self.inside.words.items =
+    c.clear.ensures ∙ ap (λ i. zeroed i 256 c.self.inside.words.items) (omega arith) in
+    rw (w, c.from-3.ensures, c.quarters_clear.ensures, ← c.self.view_is)
+    (clear_quarter_only _ _ _ _ _ _ c.self.invariant c.args.slot c.args.q c.held_in-h.result c.requires.slot c.requires.quarter e)
+
+pub returns-clause-quarters : goal.returns-clause-quarters
+returns-clause-quarters c =
+    rw (← cleared_clear c.args.q (reserved_at c.args.self.now c.args.slot)) (clear_only _ _ _ _ (returns-clause-reserved c))
+
+pub returns-clause-cores : goal.returns-clause-cores
+returns-clause-cores c =
+    let e : slice_index_or c.self.inside.held.items c.args.slot None ≡ Some c.held_in-h.result = cc in
+    let w : c.clear.new.words.items ≡ zeroed (1024 * c.held_in-h.result.frame + 256 * c.args.q) 256 c.self.inside.words.items =
+    c.clear.ensures ∙ ap (λ i. zeroed i 256 c.self.inside.words.items) (omega arith) in
+    rw (w, ← c.self.view_is) (clear_cores _ _ _ _ _ _ c.self.invariant _ c.args.slot (256 * c.args.q) c.held_in-h.result e (omega arith))

@@ -1,0 +1,34 @@
+use Rattle.std.proofs.Common.{◌≡◌, Some, None, true, slice_index_or, arith}
+use Rattle.its_core.proofs.HeldLaws.{held_only, held_is_some, clear_only}
+use Rattle.its_core.proofs.PlaceLaws.{map_pool, zero_page_is, clear_is, clear_is_some, place_none, place_only}
+use Rattle.its_core.proofs.cores.Core.map.Goals as goal
+
+pub held_in-h-requires-clause-some : goal.held_in-h-requires-clause-some
+held_in-h-requires-clause-some c =
+    rw c.deref.ensures.value (held_is_some _ _ _ _ _ _ c.self.invariant c.args.slot (clear_is_some _ _ _ _ _ _ c.self.invariant c.args.slot 4 (rw c.self.view_is c.requires.clear)))
+
+pub invariant_of-self : goal.invariant_of-self
+invariant_of-self c =
+    let e : slice_index_or c.self.inside.held.items c.args.slot None ≡ Some c.held_in-h.result = cc in
+    let most = c.self.invariant.most in
+    let none = place_none _ _ _ _ _ _ c.self.invariant c.args.target c.args.page c.requires.target (omega arith) (rw c.self.view_is c.requires.absent) in
+    rw (c.place_index.ensures, c.from.ensures) (map_pool _ _ _ _ _ _ c.self.invariant c.args.slot c.args.target c.args.page c.held_in-h.result c.requires.slot c.requires.target (omega arith) e none (omega arith))
+
+pub returns-clause-mapped : goal.returns-clause-mapped
+returns-clause-mapped c =
+    let e : slice_index_or c.self.inside.held.items c.args.slot None ≡ Some c.held_in-h.result = cc in
+    let long = c.self.invariant.places_long in
+    let four = clear_is _ _ _ _ _ _ c.self.invariant c.args.slot 4 c.held_in-h.result e (rw c.self.view_is c.requires.clear) in
+    let zero = zero_page_is _ _ _ _ _ _ c.self.invariant c.args.slot c.held_in-h.result e four in
+    rw (c.place_index.ensures, ← c.self.view_is, ← zero)
+    (place_only c.self.inside.accs.items c.self.inside.places.items c.self.inside.held.items _ c.self.inside.words.items c.args.target c.args.page (Some (record { frame = c.held_in-h.result.frame; writable = true })) c.requires.target (omega arith) (omega arith))
+
+pub returns-clause-taken : goal.returns-clause-taken
+returns-clause-taken c =
+    let long = c.self.invariant.held_long in
+    let lt = c.requires.slot in
+    rw (c.from.ensures, ← c.self.view_is)
+    (held_only c.self.inside.accs.items c.self.inside.places.items _ c.self.inside.held.items c.self.inside.words.items c.args.slot None (omega arith))
+
+pub returns-clause-quarters : goal.returns-clause-quarters
+returns-clause-quarters c = clear_only _ _ _ _ (returns-clause-taken c)

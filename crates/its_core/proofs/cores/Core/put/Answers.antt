@@ -1,0 +1,40 @@
+use Rattle.std.proofs.Common.{◌≡◌, ◌+◌, ◌*◌, ◌/◌, ◌%◌, Some, None, slice_index_or, arith}
+use Rattle.its_core.proofs.ReadLaws.{frame_below}
+use Rattle.its_core.proofs.StoreLaws.{acc_only, acc_pool, page_only, page_pool, page_reserved, acc_reserved, refused_read_only}
+use Rattle.its_core.proofs.cores.Core.put.Goals as goal
+
+pub invariant_of-self : goal.invariant_of-self
+invariant_of-self c = rw c.acc_index.ensures (acc_pool _ _ _ _ _ _ c.self.invariant c.args.slot c.args.a c.args.w c.requires.slot c.if-a-lt16.true)
+
+pub returns-then-a-lt16-clause-stored : goal.returns-then-a-lt16-clause-stored
+returns-then-a-lt16-clause-stored c = rw (c.acc_index.ensures, ← c.self.view_is) (acc_only _ _ _ _ _ _ c.self.invariant c.args.slot c.args.a c.args.w c.requires.slot c.if-a-lt16.true)
+
+pub returns-then-a-lt16-clause-reserved : goal.returns-then-a-lt16-clause-reserved
+returns-then-a-lt16-clause-reserved c = rw (← c.self.view_is) (acc_reserved _ _ _ _ _ _ c.self.invariant c.acc_index.result c.args.w)
+
+pub index_mut-requires-in-Some : goal.index_mut-requires-in-Some
+index_mut-requires-in-Some c =
+    let e : slice_index_or c.self.inside.places.items (256 * c.args.slot + c.args.a / 1024) None ≡ Some c.in-Some.m = cc in
+    let below = frame_below _ _ _ _ _ _ c.self.invariant _ _ e in
+    let long = c.self.invariant.words_long in
+    omega arith
+
+pub invariant_of-self-then-m : goal.invariant_of-self-then-m
+invariant_of-self-then-m c =
+    let e : slice_index_or c.self.inside.places.items (256 * c.args.slot + c.args.a / 1024) None ≡ Some c.in-Some.m = cc in
+    rw c.word_index.ensures (page_pool _ _ _ _ _ _ c.self.invariant c.args.slot c.args.a c.args.w c.in-Some.m c.requires.slot (omega arith) c.requires.address e)
+
+pub returns-in-Some-clause-stored : goal.returns-in-Some-clause-stored
+returns-in-Some-clause-stored c =
+    let e : slice_index_or c.self.inside.places.items (256 * c.args.slot + c.args.a / 1024) None ≡ Some c.in-Some.m = cc in
+    rw (c.word_index.ensures, ← c.self.view_is) (page_only _ _ _ _ _ _ c.self.invariant c.args.slot c.args.a c.args.w c.in-Some.m c.requires.slot (omega arith) c.requires.address e)
+
+pub returns-in-Some-clause-reserved : goal.returns-in-Some-clause-reserved
+returns-in-Some-clause-reserved c =
+    let e : slice_index_or c.self.inside.places.items (256 * c.args.slot + c.args.a / 1024) None ≡ Some c.in-Some.m = cc in
+    rw (c.word_index.ensures, ← c.self.view_is) (page_reserved _ _ _ _ _ _ c.self.invariant (256 * c.args.slot + c.args.a / 1024) (c.args.a % 1024) c.args.w c.in-Some.m e (omega arith))
+
+pub returns-in-Some-2-clause-refused : goal.returns-in-Some-2-clause-refused
+returns-in-Some-2-clause-refused c =
+    let e : slice_index_or c.self.inside.places.items (256 * c.args.slot + c.args.a / 1024) None ≡ Some c.in-Some.m = cc in
+    rw (← c.self.view_is) (refused_read_only _ _ _ _ _ _ c.self.invariant c.args.slot c.args.a c.args.w c.in-Some.m c.requires.slot (omega arith) c.requires.address e c.if-m.false)

@@ -1,0 +1,70 @@
+-- How the cores of all slots are kept: a pool of page frames of 1024 words, a map from each page of each slot to its
+-- frame, and the frames of reserved pages.
+use Rattle.std.specs.Prelude.{◌≡◌, ◌<◌, ◌≤◌, ℕ, ◌+◌, ◌*◌, Bool, true, false, Option, Some, None, List, ◌++◌, length, map, take, drop, replicate, slice_index_or, option_map, is_some, count_by}
+use Rattle.std.specs.List.{range_with_len}
+use Rattle.its_word.specs.Core.{Core, Page, pages_mapped}
+use Rattle.its_word.specs.Limits.{slots, most_pages}
+use Rattle.its_core.specs.Cores.{Cores, Reserved, core_at}
+use Rattle.its_core.specs.declared.cores.Mapped.{Mapped}
+use Rattle.its_core.specs.declared.cores.Held.{Held}
+
+-- n copies of x, and f at each number below n; opaque, as n may be large
+unfoldable pub filled : {X : Type 0} → ℕ → X → List X
+filled n x = replicate n x
+
+unfoldable pub table : {X : Type 0} → ℕ → (ℕ → X) → List X
+table n f = map f (range_with_len 0 n)
+
+-- the words of a frame
+unfoldable pub frame_words : List ℕ → ℕ → List ℕ
+frame_words words f = take 1024 (drop (1024 * f) words)
+
+abbrev pub page_in : List ℕ → Option Mapped → Option Page
+page_in words (Some m) = Some (record { words = frame_words words m.frame; writable = m.writable })
+page_in words None = None
+
+abbrev pub reserved_in : List ℕ → Option Held → Option Reserved
+reserved_in words (Some h) = Some (record { clear = h.clear; words = frame_words words h.frame })
+reserved_in words None = None
+
+-- the core of a slot
+unfoldable pub core_in : List ℕ → List (Option Mapped) → List ℕ → ℕ → Core
+core_in accs places words s = record {
+  accs = take 16 (drop (16 * s) accs);
+  pages = table 256 (λ k. page_in words (slice_index_or places (256 * s + k) None));
+}
+
+unfoldable pub cores_in : List ℕ → List (Option Mapped) → List (Option Held) → List ℕ → Cores
+cores_in accs places held words = record { cores = table slots (core_in accs places words); reserved = map (reserved_in words) held }
+
+-- the frame of each page of each slot, and then of each reserved page
+abbrev pub frame_of : Option Mapped → Option ℕ
+frame_of o = option_map (λ m. m.frame) o
+
+abbrev pub held_frame : Option Held → Option ℕ
+held_frame o = option_map (λ h. h.frame) o
+
+unfoldable pub frames_in : List (Option Mapped) → List (Option Held) → List (Option ℕ)
+frames_in places held = map frame_of places ++ map held_frame held
+
+-- the frames that stand in this list are in use, and each stands there once
+pub record Apart (frames : List (Option ℕ)) (used : List Bool) : Type 0 where
+  pub in_use : (p f : ℕ) → slice_index_or frames p None ≡ Some f → slice_index_or used f false ≡ true
+  pub once : (p q f : ℕ) → slice_index_or frames p None ≡ Some f → slice_index_or frames q None ≡ Some f → p ≡ q
+
+-- the first quarters of a reserved page are clear
+pub record IsClear (words : List ℕ) (h : Held) : Type 0 where
+  pub most : h.clear ≤ 4
+  pub zeros : (k : ℕ) → k < 256 * h.clear → slice_index_or words (1024 * h.frame + k) 0 ≡ 0
+
+pub record IsPool (accs : List ℕ) (places : List (Option Mapped)) (held : List (Option Held)) (words : List ℕ) (used : List Bool) (mapped : ℕ) : Type 0 where
+  pub accs_long : length accs ≡ 1024
+  pub places_long : length places ≡ 16384
+  pub held_long : length held ≡ 64
+  pub words_long : length words ≡ 1114112
+  pub used_long : length used ≡ 1088
+  pub apart : Apart (frames_in places held) used
+  pub clear : (s : ℕ) (h : Held) → slice_index_or held s None ≡ Some h → IsClear words h
+  pub number : mapped ≡ pages_mapped (core_at (cores_in accs places held words))
+  pub most : mapped ≤ most_pages
+  pub count : count_by (λ b. b) used ≡ mapped + count_by is_some held

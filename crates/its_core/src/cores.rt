@@ -1,0 +1,361 @@
+ghost use Rattle.std.specs.Prelude.{◌≡◌, ◌≢◌, ◌<◌, ◌≤◌, ◌+◌, ◌-◌, ◌*◌, ◌^◌, ◌++◌, ℕ, List, length, true, false, Some, None, IsSome, IsErr, OnOk, OnErr, IfOk, IfErr, IsOk, Ok, Err, count_by, slice_index_or, option_map, ◌↔◌};
+ghost use Rattle.its_core.specs.Pool.{filled as copies};
+ghost use Rattle.its_word.specs.Core.{acc_at, get as got_at, put as put_at, can_store, store, page_of, with_page, zero_page, marked, no_core, pages_mapped};
+ghost use Rattle.its_word.specs.Limits.{slots, most_pages};
+ghost use Rattle.its_word.specs.Only.{Only};
+ghost use Rattle.its_core.specs.Cores.{core_at, reserved_at, clear_at, clear_with, cleared, zeroed, mark_of, IsEmpty};
+
+use its_word::{MAPPED_PAGES, NoAccess, NoMemory, Word};
+use std::alloc::Global;
+use std::marker::Model;
+
+/// A page of a slot: its frame, and whether it can be stored to.
+#[derive(Clone, Copy)]
+struct Mapped {
+    frame: u16,
+    writable: bool,
+}
+
+/// A reserved page: its frame, and how many of its quarters are clear.
+#[derive(Clone, Copy)]
+struct Held {
+    frame: u16,
+    clear: u8,
+}
+
+/// The cores of all slots. Contracts see for each slot its core and its reserved page, and nothing
+/// of the frames that hold the pages.
+pub struct Core {
+    accs: Vec<Word>,
+    places: Vec<Option<Mapped>>,
+    held: Vec<Option<Held>>,
+    words: Vec<Word>,
+    used: Vec<bool>,
+    mapped: u32,
+}
+
+impl Model for Core {
+    ghost use Rattle.its_core.specs.Cores.{Cores};
+    ghost use Rattle.its_core.specs.Pool.{cores_in, IsPool};
+
+    ghost Value = { Cores };
+
+    ghost view = { λ c. cores_in c.accs.items c.places.items c.held.items c.words.items };
+
+    ghost invariant = { λ c. IsPool c.accs.items c.places.items c.held.items c.words.items c.used.items c.mapped };
+}
+
+/// Where an accumulator of a slot stands.
+fn acc_index(slot: u8, a: u32) -> usize
+    requires a { a < 16 }
+    ensures { result ≡ 16 * slot + a }
+{
+    usize::from(slot) * 16 + a as usize
+}
+
+/// Where a page of a slot stands in the map.
+fn place_index(slot: u8, page: u8) -> usize
+    ensures { result ≡ 256 * slot + page }
+{
+    usize::from(slot) * 256 + usize::from(page)
+}
+
+/// A page of a slot, where it is present.
+fn mapped_in(places: &[Option<Mapped>], slot: u8, page: u8) -> Option<Mapped>
+    requires { 256 * slot + page < length places.now }
+    ensures { result ≡ slice_index_or places.now (256 * slot + page) None }
+{
+    places[place_index(slot, page)]
+}
+
+/// A page of a slot that is present.
+fn present_in(places: &[Option<Mapped>], slot: u8, page: u8) -> Mapped
+    requires place { 256 * slot + page < length places.now }
+    requires present { IsSome (slice_index_or places.now (256 * slot + page) None) }
+    ensures { slice_index_or places.now (256 * slot + page) None ≡ Some result }
+{
+    mapped_in(places, slot, page).unwrap()
+}
+
+/// The page that a slot has reserved.
+fn held_in(held: &[Option<Held>], slot: u8) -> Held
+    requires slot { slot < length held.now }
+    requires some { IsSome (slice_index_or held.now slot None) }
+    ensures { slice_index_or held.now slot None ≡ Some result }
+{
+    held[usize::from(slot)].unwrap()
+}
+
+/// Where a word of a frame stands.
+fn word_index(frame: u16, at: u32) -> usize
+    requires { at < 1024 }
+    ensures { result ≡ 1024 * frame + at }
+{
+    usize::from(frame) * 1024 + at as usize
+}
+
+/// n copies of a value, in one piece of memory.
+#[tactic(auto, using(crate::proofs::ListLaws::filled_none, crate::proofs::ListLaws::filled_more))]
+fn filled<T: Copy + Drop>(alloc: Global, x: T, n: usize) -> Result<Vec<T>, NoMemory>
+    ensures { IfOk result (λ v. v.items ≡ copies n x) }
+{
+    let mut v = Vec::with_capacity(alloc, n).map_err(|_| NoMemory)?;
+    for _k in 0..n {
+        v.push(x).map_err(|_| NoMemory)?;
+    }
+    Ok(v)
+}
+
+/// Clears n words from one on.
+#[tactic(auto, using(crate::proofs::ListLaws::zeroed_none, crate::proofs::ListLaws::zeroed_more))]
+fn clear(words: &mut Vec<Word>, first: usize, n: usize)
+    requires { first + n ≤ length words.old.items }
+    ensures { words.new.items ≡ zeroed first n words.old.items }
+{
+    for k in 0..n {
+        words[first + k] = Word::ZERO;
+    }
+}
+
+/// How many quarters are clear after quarter q was cleared.
+fn quarters_clear(q: u8, clear: u8) -> u8
+    requires { q < 4 }
+    ensures { result ≡ clear_with q clear }
+{
+    if q == clear { q + 1 } else { clear }
+}
+
+/// The first frame that is not in use.
+fn free_frame(used: &[bool]) -> u16
+    requires some { count_by (λ b. b) used.now < length used.now }
+    requires few { length used.now < 65536 }
+    ensures free { (result < length used.now) × (slice_index_or used.now result false ≡ false) }
+{
+    let mut frame = 0;
+    while used[frame] {
+        frame += 1;
+    }
+    frame as u16
+}
+
+/// 1024 pages are mapped already.
+#[derive(Clone, Copy, Debug, PartialEq, Eq)]
+pub struct Full;
+
+impl Core {
+    /// No slot has a page or a reserved page, and all accumulators are 0. Takes all the memory that
+    /// the pages of all slots need.
+    pub fn open(alloc: Global) -> Result<Core, NoMemory>
+        ensures { IfOk result IsEmpty }
+    {
+        Ok(Core {
+            accs: filled(alloc, Word::ZERO, 64 * 16)?,
+            places: filled(alloc, None, 64 * 256)?,
+            held: filled(alloc, None, 64)?,
+            words: filled(alloc, Word::ZERO, 1088 * 1024)?,
+            used: filled(alloc, false, 1088)?,
+            mapped: 0,
+        })
+    }
+
+    /// The word at an address of a slot: of an accumulator, or of a page that is present.
+    #[tactic(auto, using(crate::proofs::ReadLaws::word_at_acc, crate::proofs::ReadLaws::word_at_page, crate::proofs::ReadLaws::word_at_absent, crate::proofs::ReadLaws::word_below, crate::proofs::ReadLaws::can_store_acc))]
+    pub fn get(&self, slot: u8, a: u32) -> Result<Word, NoAccess>
+        requires slot { slot < slots }
+        requires address { a < 2 ^ 18 }
+        ensures word { result ≡ got_at (core_at self.now slot) a }
+        ensures accumulators { (i : ℕ) → i < 16 → can_store (core_at self.now slot) i ≡ true }
+    {
+        if a < 16 {
+            return Ok(self.accs[acc_index(slot, a)]);
+        }
+        match mapped_in(&self.places, slot, (a / 1024) as u8) {
+            Some(m) => Ok(self.words[word_index(m.frame, a % 1024)]),
+            None => Err(NoAccess::Absent),
+        }
+    }
+
+    /// Stores a word, unless its page is absent or read only.
+    #[tactic(auto, using(crate::proofs::ReadLaws::can_store_acc, crate::proofs::ReadLaws::can_store_page, crate::proofs::ReadLaws::can_store_absent, crate::proofs::ReadLaws::word_at_page, crate::proofs::ReadLaws::word_at_absent))]
+    pub fn put(&mut self, slot: u8, a: u32, w: Word) -> Result<(), NoAccess>
+        requires slot { slot < slots }
+        requires address { a < 2 ^ 18 }
+        ensures stored { OnOk result (Only (core_at self.old) (core_at self.new) slot (store (core_at self.old slot) a w)) }
+        ensures reserved { self.new.reserved ≡ self.old.reserved }
+        ensures allowed { IsOk result ↔ (can_store (core_at self.old slot) a ≡ true) }
+        ensures refused { IfErr result (λ e. put_at (core_at self.old slot) a w ≡ Err e) }
+        ensures same { OnErr result (self.new ≡ self.old) }
+    {
+        if a < 16 {
+            self.accs[acc_index(slot, a)] = w;
+            return Ok(());
+        }
+        match mapped_in(&self.places, slot, (a / 1024) as u8) {
+            Some(m) if m.writable => {
+                self.words[word_index(m.frame, a % 1024)] = w;
+                Ok(())
+            }
+            Some(_) => Err(NoAccess::ReadOnly),
+            None => Err(NoAccess::Absent),
+        }
+    }
+
+    /// The word of an accumulator of a slot.
+    #[tactic(auto, using(crate::proofs::ReadLaws::word_at_acc))]
+    pub(crate) fn acc(&self, slot: u8, a: u32) -> Word
+        requires slot { slot < slots }
+        requires a { a < 16 }
+        ensures { result ≡ acc_at (core_at self.now slot) a }
+    {
+        self.accs[acc_index(slot, a)]
+    }
+
+    /// Whether a page of a slot is writable; None where it is absent.
+    #[tactic(auto, using(crate::proofs::ReadLaws::page_at))]
+    pub fn page(&self, slot: u8, page: u8) -> Option<bool>
+        requires { slot < slots }
+        ensures { result ≡ mark_of (page_of (core_at self.now slot) page) }
+    {
+        mapped_in(&self.places, slot, page).map(|m| m.writable)
+    }
+
+    /// How many pages all slots have together.
+    pub fn mapped(&self) -> u32
+        ensures number { result ≡ pages_mapped (core_at self.now) }
+        ensures most { result ≤ most_pages }
+    {
+        self.mapped
+    }
+
+    /// Reserves a page for a slot. None of its quarters counts as clear.
+    pub fn reserve(&mut self, slot: u8)
+        requires slot { slot < slots }
+        requires none { reserved_at self.old slot ≡ None }
+        ensures reserved { (words : List ℕ) × Only (reserved_at self.old) (reserved_at self.new) slot (Some (record { clear = 0; words = words })) }
+        ensures quarters { Only (clear_at self.old) (clear_at self.new) slot (Some 0) }
+        ensures cores { self.new.cores ≡ self.old.cores }
+    {
+        let frame = free_frame(&self.used);
+        self.used[usize::from(frame)] = true;
+        self.held[usize::from(slot)] = Some(Held { frame, clear: 0 });
+    }
+
+    /// Clears words 256q to 256q+255 of the page that a slot has reserved, with q below 4.
+    pub fn clear_quarter(&mut self, slot: u8, q: u8)
+        requires slot { slot < slots }
+        requires quarter { q < 4 }
+        requires some { IsSome (reserved_at self.old slot) }
+        ensures reserved { Only (reserved_at self.old) (reserved_at self.new) slot (option_map (cleared q) (reserved_at self.old slot)) }
+        ensures quarters { Only (clear_at self.old) (clear_at self.new) slot (option_map (clear_with q) (clear_at self.old slot)) }
+        ensures cores { self.new.cores ≡ self.old.cores }
+    {
+        let h = held_in(&self.held, slot);
+        let first = usize::from(h.frame) * 1024 + usize::from(q) * 256;
+        clear(&mut self.words, first, 256);
+        self.held[usize::from(slot)] = Some(Held {
+            frame: h.frame,
+            clear: quarters_clear(q, h.clear),
+        });
+    }
+
+    /// Makes the page that a slot has reserved, whose four quarters are clear, a writable page of zeros
+    /// of the target. Full where 1024 pages are mapped already; the reservation then stays.
+    pub fn map(&mut self, slot: u8, target: u8, page: u8) -> Result<(), Full>
+        requires slot { slot < slots }
+        requires target { target < slots }
+        requires clear { clear_at self.old slot ≡ Some 4 }
+        requires absent { page_of (core_at self.old target) page ≡ None }
+        ensures full { IsErr result ↔ (pages_mapped (core_at self.old) ≡ most_pages) }
+        ensures mapped { OnOk result (Only (core_at self.old) (core_at self.new) target (with_page (core_at self.old target) page (Some zero_page))) }
+        ensures taken { OnOk result (Only (reserved_at self.old) (reserved_at self.new) slot None) }
+        ensures quarters { OnOk result (Only (clear_at self.old) (clear_at self.new) slot None) }
+        ensures same { OnErr result (self.new ≡ self.old) }
+    {
+        if self.mapped == MAPPED_PAGES {
+            return Err(Full);
+        }
+        let h = held_in(&self.held, slot);
+        self.held[usize::from(slot)] = None;
+        self.places[place_index(target, page)] = Some(Mapped {
+            frame: h.frame,
+            writable: true,
+        });
+        self.mapped += 1;
+        Ok(())
+    }
+
+    /// Gives the page back that a slot has reserved.
+    pub fn give_back(&mut self, slot: u8)
+        requires slot { slot < slots }
+        requires some { IsSome (reserved_at self.old slot) }
+        ensures reserved { Only (reserved_at self.old) (reserved_at self.new) slot None }
+        ensures quarters { Only (clear_at self.old) (clear_at self.new) slot None }
+        ensures cores { self.new.cores ≡ self.old.cores }
+    {
+        let h = held_in(&self.held, slot);
+        self.held[usize::from(slot)] = None;
+        self.used[usize::from(h.frame)] = false;
+    }
+
+    /// Takes a page from a slot.
+    pub fn unmap(&mut self, slot: u8, page: u8)
+        requires slot { slot < slots }
+        requires present { IsSome (page_of (core_at self.old slot) page) }
+        ensures unmapped { Only (core_at self.old) (core_at self.new) slot (with_page (core_at self.old slot) page None) }
+        ensures reserved { self.new.reserved ≡ self.old.reserved }
+    {
+        let m = present_in(&self.places, slot, page);
+        self.places[place_index(slot, page)] = None;
+        self.used[usize::from(m.frame)] = false;
+        self.mapped -= 1;
+    }
+
+    /// Makes a page of a slot writable or read only.
+    pub fn protect(&mut self, slot: u8, page: u8, writable: bool)
+        requires slot { slot < slots }
+        requires present { IsSome (page_of (core_at self.old slot) page) }
+        ensures marked { Only (core_at self.old) (core_at self.new) slot (with_page (core_at self.old slot) page (marked (page_of (core_at self.old slot) page) writable)) }
+        ensures reserved { self.new.reserved ≡ self.old.reserved }
+    {
+        let m = present_in(&self.places, slot, page);
+        self.places[place_index(slot, page)] = Some(Mapped {
+            frame: m.frame,
+            writable,
+        });
+    }
+
+    /// Takes a page from a slot, where it is present.
+    #[tactic(auto, using(its_word::proofs::PageLaws::paging))]
+    fn drop_page(&mut self, slot: u8, page: u8)
+        requires { slot < slots }
+        ensures dropped { Only (core_at self.old) (core_at self.new) slot (with_page (core_at self.old slot) page None) }
+        ensures reserved { self.new.reserved ≡ self.old.reserved }
+    {
+        if self.page(slot, page).is_some() {
+            self.unmap(slot, page);
+        }
+    }
+
+    /// Takes all pages from a slot.
+    #[tactic(auto, using(its_word::proofs::PageLaws::paging))]
+    fn unmap_all(&mut self, slot: u8)
+        requires { slot < slots }
+        ensures gone { (k : ℕ) → k < 256 → page_of (core_at self.new slot) k ≡ None }
+        ensures others { (k : ℕ) → k ≢ slot → core_at self.new k ≡ core_at self.old k }
+        ensures reserved { self.new.reserved ≡ self.old.reserved }
+    {
+        for page in 0..=255 {
+            self.drop_page(slot, page);
+        }
+    }
+
+    /// Takes all pages from a slot and makes its accumulators 0.
+    pub fn drop_all(&mut self, slot: u8)
+        requires { slot < slots }
+        ensures dropped { Only (core_at self.old) (core_at self.new) slot no_core }
+        ensures reserved { self.new.reserved ≡ self.old.reserved }
+    {
+        self.unmap_all(slot);
+        clear(&mut self.accs, acc_index(slot, 0), 16);
+    }
+}

@@ -1,0 +1,9 @@
+//! The cores of all jobs: sixteen accumulators and up to 256 pages of 1024 words for each of 64
+//! slots, the page that a slot has reserved, and the effective address.
+#![tactic(auto)]
+
+mod address;
+mod cores;
+
+pub use cores::{Core, Full};
+pub use its_word::{Address, Fault, NoAccess, NoMemory};
