@@ -10,6 +10,8 @@ mod limits;
 mod result2;
 mod session;
 mod show;
+#[cfg(test)]
+mod tests;
 mod text;
 mod word;
 
