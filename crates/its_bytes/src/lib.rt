@@ -2,8 +2,11 @@
 //! (processor reference manual, "Byte manipulation").
 #![tactic(auto)]
 
-ghost use Rattle.std.specs.Prelude.{◌≡◌, ◌<◌, ◌≤◌, ◌+◌, ◌*◌, ◌/◌, ◌%◌, ◌^◌};
-ghost use Rattle.its_word.specs.Byte.{deposit_of, increment_of, load_of, position, size};
+ghost use Rattle.std.specs.Prelude.{◌≡◌, ◌<◌, ◌≤◌, ◌+◌, ◌*◌, ◌/◌, ◌%◌, ◌^◌, IsTrue};
+ghost use Rattle.its_word.specs.Byte.{deposit_of, has_size, increment_of, load_of, position, size};
+
+#[cfg(test)]
+mod tests;
 
 use its_word::Word;
 
@@ -23,28 +26,36 @@ fn size(p: Word) -> u32
     (p.value() >> 24) as u32 % 64
 }
 
+/// Whether S is from 1 to 36. A pointer with any other size is an illegal operation.
+pub fn has_size(p: Word) -> bool
+    ensures { result ≡ has_size p }
+{
+    (1..=36).contains(&size(p))
+}
+
 /// The pointer to the next byte, at the right in the same word, or leftmost in the next word, where Y
-/// wraps within 18 bits. None exactly where S is 0 or above 36, which is an illegal operation.
+/// wraps within 18 bits. None exactly where S is 0 or above 36.
 #[tactic(auto, unfolding(its_word::specs::Byte::increment_of))]
 pub fn increment(p: Word) -> Option<Word>
     ensures { result ≡ increment_of p }
 {
-    let (position, size) = (position(p), size(p));
-    if size == 0 || size > 36 {
-        None
-    } else if position >= size {
-        Some(Word::new(p.value() - (u64::from(size) << 30)))
-    } else {
-        Some(Word::pair((36 - size) << 12 | p.left() & 0o7777, p.right() + 1))
+    if !has_size(p) {
+        return None;
     }
+    let (position, size) = (position(p), size(p));
+    let next = if position >= size {
+        Word::new(p.value() - (u64::from(size) << 30))
+    } else {
+        Word::pair((36 - size) << 12 | p.left() & 0o7777, p.right() + 1)
+    };
+    Some(next)
 }
 
 /// The byte that the pointer shows in a word: S bits, of which the lowest has value 2^P. Bits left of
 /// bit 0 read as 0.
 #[tactic(auto, unfolding(its_word::specs::Byte::load_of))]
 pub fn load(p: Word, w: Word) -> u64
-    requires low { 1 ≤ size p }
-    requires high { size p ≤ 36 }
+    requires { IsTrue (has_size p) }
     ensures { result ≡ load_of p w }
 {
     (w.value() >> position(p)) % (1 << size(p))
@@ -66,8 +77,7 @@ fn splice(w: u128, position: u32, size: u32, byte: u128) -> u128
 /// stored.
 #[tactic(auto, unfolding(its_word::specs::Byte::deposit_of))]
 pub fn deposit(p: Word, w: Word, v: u64) -> Word
-    requires low { 1 ≤ size p }
-    requires high { size p ≤ 36 }
+    requires { IsTrue (has_size p) }
     ensures { result ≡ deposit_of p w v }
 {
     let size = size(p);

@@ -14,6 +14,8 @@ mod plan;
 mod result2;
 mod session;
 mod show;
+#[cfg(test)]
+mod tests;
 mod text;
 mod word;
 

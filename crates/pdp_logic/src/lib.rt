@@ -9,6 +9,8 @@ mod count;
 mod halves;
 mod masked;
 mod shifts;
+#[cfg(test)]
+mod tests;
 
 pub use arithmetic::{ash, ashc};
 pub use booleans::boolean;
