@@ -25,6 +25,7 @@ struct Held {
 
 /// The cores of all slots. Contracts see for each slot its core and its reserved page, and nothing
 /// of the frames that hold the pages.
+#[derive(Drop)]
 pub struct Core {
     accs: Vec<Word>,
     places: Vec<Option<Mapped>>,
