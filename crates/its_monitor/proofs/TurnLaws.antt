@@ -16,7 +16,8 @@ use Rattle.its_plain.specs.Interrupt.{Delivered, deliverable, delivered}
 use Rattle.its_plain.specs.Unit.{Outcome, Changed, Faulted, Called, unit}
 use Rattle.its_plain.specs.Step.{Taken, by_delivery, by_unit, informed, inform, after, step}
 use Rattle.its_plain.specs.Stepped.{tick}
-use Rattle.its_plain.proofs.UnitLaws.{never_called, unit_placed}
+use Rattle.its_plain.proofs.UnitLaws.{never_called, unit_keeps}
+use Rattle.its_plain.proofs.DeliveryLaws.{delivered_placed}
 use Rattle.its_plain.proofs.TickLaws.{tick_step, tick_off, none_empty, none_stopped, step_delivery, step_unit}
 use Rattle.its_monitor.specs.declared.monitor.Monitor.{Monitor}
 use Rattle.its_monitor.specs.World.{whole_of, whole_at, machine_of, SoundSlot, Sound, Registers, Carries, StepMade}
@@ -58,7 +59,7 @@ unit_done w mid new s i j h c r u = record {
 
 pub unit_done_sound : (w mid new : Monitor) (s : ℕ) (i j : Job) → Carries w mid s → Registers mid new s j
     → unit (core_at w.core s) i ≡ Changed (core_at mid.core s) j → Sound w → Sound new
-unit_done_sound w mid new s i j c r u sound = carried_sound w mid new s j c r (unit_placed (core_at w.core s) i (core_at mid.core s) j u) sound
+unit_done_sound w mid new s i j c r u sound = carried_sound w mid new s j c r (unit_keeps (core_at w.core s) i (core_at mid.core s) j u).pc sound
 
 -- a unit that faults
 pub unit_fault : (w mid new : Monitor) (s : ℕ) (i : Job) (f : Fault) → job_at w.jobs s ≡ Some i → Carries w mid s → mid.core ≡ w.core
@@ -137,3 +138,11 @@ pub tick_unit : (w new : Monitor) (s : ℕ) (j : Job) → job_at w.jobs s ≡ So
 tick_unit w new s j h t d m =
     tick_step (machine_of w) (machine_of new) s (step_unit (machine_of w) (machine_of new) s (record { core = core_at w.core s; job = j; superior = superior_at w.jobs s }) m.taken
       (jobs_of w s ∙ whole_some w s j h) t d m.is m.machine)
+
+-- what a delivery leaves of PC
+delivered_pc : (w : Monitor) (s : ℕ) (j : Job) → job_at w.jobs s ≡ Some j → Sound w → (delivered (core_at w.core s) j).job.pc < 2 ^ 18
+delivered_pc w s j h sound = delivered_placed (core_at w.core s) j (placed_at w s j h sound)
+
+pub delivery_sound : (w mid done : Monitor) (s : ℕ) (i j : Job) → job_at w.jobs s ≡ Some i → Carries w mid s → Registers mid done s j → j ≡ (delivered (core_at w.core s) i).job → Sound w → Sound done
+delivery_sound w mid done s i j h c r e sound =
+    carried_sound w mid done s j c r (subst (λ k. k.pc < 2 ^ 18) (sym e) (delivered_pc w s i h sound)) sound

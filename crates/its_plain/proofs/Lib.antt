@@ -1,3 +1,4 @@
 pub mod UnitLaws
 pub mod SteppedLaws
 pub mod TickLaws
+pub mod DeliveryLaws

@@ -4,7 +4,7 @@ use Rattle.std.specs.Prelude.{if◌then◌else◌, ◌==◌, ◌||◌, ℕ, zero
 use Rattle.std.specs.Option.{option_or}
 use Rattle.its_word.specs.Core.{Core, word_at, can_store, store}
 use Rattle.its_word.specs.Limits.{budget}
-use Rattle.its_word.specs.Address.{Addressed, address}
+use Rattle.its_word.specs.Address.{address}
 use Rattle.its_word.specs.Opcode.{opcode_of, ac_of, instruction_of}
 use Rattle.its_word.specs.declared.access.Address.{Address}
 use Rattle.its_word.specs.declared.access.Fault.{Fault}
@@ -17,6 +17,9 @@ use Rattle.its_word.specs.declared.instruction.Instruction.TheVariants.{Move, Ex
 use Rattle.its_word.specs.declared.plan.Context.{Context}
 use Rattle.its_word.specs.declared.plan.Plan.{Plan}
 use Rattle.its_word.specs.declared.plan.Store.{Store}
+use Rattle.its_word.specs.declared.plan.Reached.{Reached}
+use Rattle.its_word.specs.declared.plan.Turn.{Turn}
+use Rattle.its_word.specs.declared.plan.Turn.TheVariants.{Found, Target}
 use Rattle.its_plain.specs.Job.{BRK, named_flags, with_pending}
 use Rattle.its_plain.specs.UnitPlan.{Planned, given, read_of, next}
 use Rattle.its_plain.specs.UnitMoves.{move_row, exch_row, half_row}
@@ -42,12 +45,13 @@ has_row Break a = a == 0o16
 has_row Illegal a = false
 has_row _ a = true
 
--- an instruction, and what its row finds
-abbrev pub Found : Type 0
-Found = Result (Instruction × Context) Fault
+-- the instruction of a word
+unfoldable pub decoded : ℕ → Result Instruction Fault
+decoded w = if has_row (instruction_of (opcode_of w)) (ac_of w) then Ok (instruction_of (opcode_of w)) else Err Ilo
 
-abbrev pub context_of : Job → ℕ → ℕ → Address → Context
-context_of j w used e = record {
+-- what the row of an instruction word finds, with its address and so much of the budget used
+abbrev pub context_of : Job → ℕ → Address → ℕ → Context
+context_of j w e used = record {
   pc = j.pc;
   flags = j.flags;
   a = ac_of w;
@@ -56,25 +60,28 @@ context_of j w used e = record {
   used = used;
 }
 
--- the target of an XCT at e, which counts against the budget; where nothing is left of it, that is ILO
-abbrev pub target : (ℕ → ℕ → Found) → Core → ℕ → ℕ → Found
-target follow c used e = if nat_lt used budget then given (read_of c e) (λ v. follow v (used + 1)) else Err Ilo
+-- the target of an XCT, which counts against the budget; where nothing is left of it, that is ILO
+unfoldable pub target_of : Core → Context → Result Turn Fault
+target_of c x = if nat_lt x.used budget then given (read_of c x.e) (λ w. Ok (Target w (x.used + 1))) else Err Ilo
 
 -- 256 XCT goes on with the word at E; A is not used. Any other instruction is found
-abbrev pub found_by : (ℕ → ℕ → Found) → Core → Job → ℕ → ℕ → Address → Instruction → Found
-found_by follow c j w used e Xct = target follow c used e.e
-found_by follow c j w used e i = Ok (i, context_of j w used e)
+unfoldable pub turn_at : Core → Instruction → Context → Result Turn Fault
+turn_at c Xct x = target_of c x
+turn_at c i x = Ok (Found (record { instruction = i; context = x }))
 
-abbrev pub addressed_by : (ℕ → ℕ → Found) → Core → Job → ℕ → Instruction → Addressed → Found
-addressed_by follow c j w i r = given r.answer (λ e. found_by follow c j w r.used e i)
+-- an instruction word that is reached with so much of the budget used
+unfoldable pub turn : Core → Job → ℕ → ℕ → Result Turn Fault
+turn c j w used =
+    given (decoded w) (λ i. given (address c w used).answer (λ e. turn_at c i (context_of j w e (address c w used).used)))
 
--- the instruction of a word, or at the end of its chain of at most n - 1 XCTs. PC is that of the first
-unfoldable pub chain : ℕ → Core → Job → ℕ → ℕ → Found
+abbrev pub followed : (ℕ → ℕ → Result Reached Fault) → Turn → Result Reached Fault
+followed rest (Found r) = Ok r
+followed rest (Target w used) = rest w used
+
+-- the instruction of a word, or at the end of its chain of fewer than n XCTs. PC is that of the first
+unfoldable pub chain : ℕ → Core → Job → ℕ → ℕ → Result Reached Fault
 chain zero c j w used = Err Ilo
-chain (suc n) c j w used =
-    if has_row (instruction_of (opcode_of w)) (ac_of w)
-    then addressed_by (λ v k. chain n c j v k) c j w (instruction_of (opcode_of w)) (address c w used)
-    else Err Ilo
+chain (suc n) c j w used = given (turn c j w used) (λ t. followed (λ v k. chain n c j v k) t)
 
 -- 045 .BREAK 16, sets BRK
 unfoldable pub break_row : Context → Planned
@@ -101,7 +108,7 @@ row_of c x Illegal = Err Ilo
 
 -- the plan of a job, whose instruction is fetched at its PC
 unfoldable pub planned : Core → Job → Planned
-planned c j = given (read_of c j.pc) (λ w. given (chain (budget + 1) c j w 0) (λ f. row_of c f.1 f.0))
+planned c j = given (read_of c j.pc) (λ w. given (chain (budget + 1) c j w 0) (λ r. row_of c r.context r.instruction))
 
 -- why a store cannot be made, where it cannot
 abbrev pub refusal : Bool → Option ℕ → Option Fault
@@ -109,15 +116,19 @@ refusal true there = None
 refusal false None = Some Mpv
 refusal false (Some w) = Some Wro
 
+-- the place of a store; addresses have 18 bits
+abbrev pub place : Store → ℕ
+place s = s.at % 2 ^ 18
+
 -- the fault of the first store that cannot be made
 unfoldable pub first_fault : Core → List Store → Option Fault
 first_fault c [] = None
-first_fault c (s ∷ ss) = option_or (refusal (can_store c s.at) (word_at c s.at)) (first_fault c ss)
+first_fault c (s ∷ ss) = option_or (refusal (can_store c (place s)) (word_at c (place s))) (first_fault c ss)
 
 -- the core after stores in their order
 unfoldable pub stored : Core → List Store → Core
 stored c [] = c
-stored c (s ∷ ss) = stored (store c s.at s.word) ss
+stored c (s ∷ ss) = stored (store c (place s) s.word) ss
 
 -- the registers after a plan: PC has 18 bits, and of the flags only the named ones are kept
 abbrev pub left_by : Job → Plan → Job

@@ -3,7 +3,6 @@ use Rattle.std.specs.Prelude.{if◌then◌else◌, ℕ, ◌+◌, Bool, true, fal
 use Rattle.its_word.specs.Core.{Core}
 use Rattle.its_word.specs.Address.{address}
 use Rattle.its_word.specs.Byte.{has_size, increment_of, load_of, deposit_of}
-use Rattle.its_word.specs.declared.access.Address.{Address}
 use Rattle.its_word.specs.declared.access.Fault.{Fault}
 use Rattle.its_word.specs.declared.access.Fault.TheVariants.{Ilo}
 use Rattle.its_word.specs.declared.flags.TheConstants.{BYTE_HALF}
@@ -18,16 +17,16 @@ unfoldable pub incremented : ℕ → Result ℕ Fault
 incremented p = ok_or (increment_of p) Ilo
 
 -- the address of a pointer's word, under what is left of the budget; a size of 0 or above 36 is ILO before
-unfoldable pub pointed_to : Core → Context → ℕ → Result Address Fault
-pointed_to c x p = if has_size p then (address c p x.used).answer else Err Ilo
+unfoldable pub pointed_to : Core → Context → ℕ → Result ℕ Fault
+pointed_to c x p = if has_size p then given (address c p x.used).answer (λ b. Ok b.e) else Err Ilo
 
 -- LDB: the byte to AC; DPB: the low S bits of AC to the byte
 unfoldable pub loads : Core → Context → ℕ → Planned
-loads c x p = given (pointed_to c x p) (λ b. given (read_of c b.e) (λ w. Ok (next x (to x.a (load_of p w) ∷ []) 0)))
+loads c x p = given (pointed_to c x p) (λ b. given (read_of c b) (λ w. Ok (next x (to x.a (load_of p w) ∷ []) 0)))
 
 unfoldable pub deposits : Core → Context → ℕ → Planned
 deposits c x p =
-    given (pointed_to c x p) (λ b. given (read_of c b.e) (λ w. Ok (next x (to b.e (deposit_of p w (ac c x)) ∷ []) 0)))
+    given (pointed_to c x p) (λ b. given (read_of c b) (λ w. Ok (next x (to b (deposit_of p w (ac c x)) ∷ []) 0)))
 
 -- the first half of ILDB and IDPB: the pointer is incremented and first part done set; PC stays
 unfoldable pub first_half : Context → ℕ → Planned

@@ -1,3 +1,4 @@
+pub mod AddressLaws
 pub mod CoreLaws
 pub mod PageLaws
 pub mod DigitLaws
@@ -5,5 +6,4 @@ pub mod SpacedLaws
 pub mod TextLaws
 pub mod TreeLaws
 pub mod WordLaws
-pub mod AddressLaws
 pub mod FreeLaws

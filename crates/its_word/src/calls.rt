@@ -1,3 +1,6 @@
+ghost use Rattle.std.specs.Prelude.{◌≡◌, None};
+ghost use Rattle.its_word.specs.declared.calls.Owed.TheVariants.{GiveBack};
+
 use super::word::Word;
 use arrayvec::ArrayVec;
 
@@ -9,6 +12,8 @@ pub struct Operand {
 }
 
 impl Default for Operand {
+    ghost is_default = { λ o. o ≡ record { value = 0; place = None } };
+
     fn default() -> Operand {
         Operand {
             value: Word::ZERO,
@@ -68,6 +73,8 @@ pub enum Owed {
 }
 
 impl Default for Owed {
+    ghost is_default = { λ o. o ≡ GiveBack };
+
     fn default() -> Owed {
         Owed::GiveBack
     }

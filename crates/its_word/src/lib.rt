@@ -16,6 +16,8 @@ mod plan;
 mod result2;
 mod session;
 mod show;
+#[cfg(test)]
+mod tests;
 mod text;
 mod word;
 
@@ -33,7 +35,7 @@ pub use limits::{MAPPED_PAGES, SLOTS};
 pub use memory::NoMemory;
 pub use opcode::decode;
 pub use pending::{BRK, FATAL, ILO, INF, IOC, MPV, PDL, TBL, WRO};
-pub use plan::{Context, Plan, Store};
+pub use plan::{Context, Plan, Reached, Store, Turn};
 pub use result2::Result2;
 pub use session::{Bad, Event, Place, Reason, Refusal};
 pub use show::{FileShow, JobShow, Peek, PeekState};

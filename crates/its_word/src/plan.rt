@@ -1,3 +1,4 @@
+use super::instruction::Instruction;
 use super::word::Word;
 use arrayvec::ArrayVec;
 
@@ -13,6 +14,21 @@ pub struct Context {
     pub e: u32,
     pub flags_word: Option<Word>,
     pub used: u32,
+}
+
+/// An instruction, and what its row finds.
+#[derive(Clone, Copy, Debug, PartialEq, Eq)]
+pub struct Reached {
+    pub instruction: Instruction,
+    pub context: Context,
+}
+
+/// Where an instruction word leads: to its own instruction, or, where it is an XCT, to another word,
+/// with so much of the budget used.
+#[derive(Clone, Copy, Debug, PartialEq, Eq)]
+pub enum Turn {
+    Found(Reached),
+    Target { word: Word, used: u32 },
 }
 
 /// A store of a word at an address.

@@ -1,0 +1,4 @@
+pub mod ByteLaws
+pub mod ChainLaws
+pub mod RefusalLaws
+pub mod StoreLaws

@@ -1,0 +1,179 @@
+//! Block transfer, jumps, the stack and subroutines (processor reference manual, "Full word data
+//! transmission", "Program control" and "Pushdown list").
+ghost use Rattle.std.specs.Prelude.{◌≡◌, ◌<◌, ◌^◌, if◌then◌else◌, ◌==◌};
+ghost use Rattle.its_core.specs.Cores.{core_at};
+ghost use Rattle.its_word.specs.Limits.{slots};
+ghost use Rattle.its_plain.specs.Job.{flags_of, pc_word};
+ghost use Rattle.its_plain.specs.UnitPlan.{Fits, both_down, both_up};
+ghost use Rattle.its_plain.specs.UnitJumps.{branch_row, counted, is_negative, named_by, restored, stack_row, transferred};
+
+use super::plans::{NAMED, any_on, complete, jump, next, none, one, to, two, without};
+use super::reads::{ac_word, read};
+use its_core::Core;
+use its_word::{BYTE_HALF, BranchOp, Context, Fault, Plan, StackOp, USER, Word};
+
+/// Pending bit PDL: a pushdown count came to its end.
+const PDL: u64 = 0o100;
+
+/// A word with 1 added to each half.
+pub fn up(w: Word) -> Word
+    ensures { result ≡ both_up w }
+{
+    Word::pair(w.left() + 1, w.right() + 1)
+}
+
+/// A word with 1 taken from each half.
+pub fn down(w: Word) -> Word
+    ensures { result ≡ both_down w }
+{
+    Word::pair(w.left() + 0o777777, w.right() + 0o777777)
+}
+
+/// The PC word of flags and a PC.
+pub fn saved(flags: u32, pc: u32) -> Word
+    ensures { result ≡ pc_word flags pc }
+{
+    Word::pair(flags & NAMED | USER, pc)
+}
+
+/// The flags of a PC word.
+pub fn flags_in(w: Word) -> u32
+    ensures { result ≡ flags_of w }
+{
+    w.left() & NAMED
+}
+
+fn negative(w: Word) -> bool
+    ensures { result ≡ is_negative w }
+{
+    w.value() >= 1 << 35
+}
+
+/// One word of BLT.
+fn transfer(x: &Context, pointer: Word, w: Word) -> Plan
+    requires { Fits x.now }
+    ensures { result ≡ transferred x.now pointer w }
+{
+    let word = to(pointer.right(), w);
+    if x.e <= pointer.right() {
+        return next(x, one(word), 0);
+    }
+    Plan {
+        stores: two(word, to(x.a, up(pointer))),
+        pc: x.pc,
+        flags: x.flags,
+        pending: Word::ZERO,
+    }
+}
+
+/// The flags that JRST 2 takes.
+fn restore(x: &Context, w: Option<Word>) -> u32
+    ensures { result ≡ restored x.now w }
+{
+    match w {
+        Some(w) => flags_in(w),
+        None => without(x.flags, BYTE_HALF),
+    }
+}
+
+/// The flags that A names for JFCL.
+fn named(a: u32) -> u32
+    requires { a < 16 }
+    ensures value { result ≡ named_by a }
+    ensures below { result < 2 ^ 18 }
+{
+    a << 14
+}
+
+/// BLT, AOBJP, AOBJN, JRST, JFCL.
+#[tactic(auto, unfolding(its_plain::specs::UnitJumps::branch_row))]
+pub fn branches(core: &Core, slot: u8, x: &Context, op: BranchOp) -> Result<Plan, Fault>
+    requires slot { slot < slots }
+    requires fits { Fits x.now }
+    ensures { result ≡ branch_row (core_at core.now slot) x.now op }
+{
+    let a = ac_word(core, slot, x);
+    match op {
+        BranchOp::Blt => Ok(transfer(x, a, read(core, slot, a.left())?)),
+        BranchOp::Aobjp => Ok(jump(x, one(to(x.a, up(a))), 0, !negative(up(a)))),
+        BranchOp::Aobjn => Ok(jump(x, one(to(x.a, up(a))), 0, negative(up(a)))),
+        BranchOp::Jrst => {
+            let mut plan = complete(x, none(), 0, x.e);
+            plan.flags = if x.a == 2 {
+                restore(x, x.flags_word)
+            } else {
+                without(x.flags, BYTE_HALF)
+            };
+            Ok(plan)
+        }
+        BranchOp::Jfcl => {
+            let mask = named(x.a);
+            let mut plan = jump(x, none(), 0, any_on(x.flags, mask));
+            plan.flags = without(x.flags, mask + BYTE_HALF);
+            Ok(plan)
+        }
+    }
+}
+
+/// A plan with PDL set where the count in the left half of a stack pointer came to its end.
+fn count(end: u32, pointer: Word, plan: Plan) -> Plan
+    ensures { result ≡ counted end pointer plan }
+{
+    let mut plan = plan;
+    plan.pending = if pointer.left() == end {
+        Word::new(PDL)
+    } else {
+        Word::ZERO
+    };
+    plan
+}
+
+/// PUSHJ, PUSH, POP, POPJ, JSR, JSP, JSA, JRA.
+#[tactic(auto, unfolding(its_plain::specs::UnitJumps::stack_row))]
+pub fn stack(core: &Core, slot: u8, x: &Context, op: StackOp) -> Result<Plan, Fault>
+    requires slot { slot < slots }
+    requires fits { Fits x.now }
+    ensures { result ≡ stack_row (core_at core.now slot) x.now op }
+{
+    let a = ac_word(core, slot, x);
+    let after = x.pc + 1;
+    Ok(match op {
+        StackOp::Pushj => {
+            let stores = two(to(x.a, up(a)), to(up(a).right(), saved(x.flags, after)));
+            count(0, up(a), complete(x, stores, 0, x.e))
+        }
+        StackOp::Push => {
+            let w = read(core, slot, x.e)?;
+            count(
+                0,
+                up(a),
+                next(x, two(to(x.a, up(a)), to(up(a).right(), w)), 0),
+            )
+        }
+        StackOp::Pop => {
+            let w = read(core, slot, a.right())?;
+            count(
+                0o777777,
+                down(a),
+                next(x, two(to(x.a, down(a)), to(x.e, w)), 0),
+            )
+        }
+        StackOp::Popj => {
+            let w = read(core, slot, a.right())?;
+            count(
+                0o777777,
+                down(a),
+                complete(x, one(to(x.a, down(a))), 0, w.right()),
+            )
+        }
+        StackOp::Jsr => complete(x, one(to(x.e, saved(x.flags, after))), 0, x.e + 1),
+        StackOp::Jsp => complete(x, one(to(x.a, saved(x.flags, after))), 0, x.e),
+        StackOp::Jsa => complete(
+            x,
+            two(to(x.e, a), to(x.a, Word::pair(x.e, after))),
+            0,
+            x.e + 1,
+        ),
+        StackOp::Jra => complete(x, one(to(x.a, read(core, slot, a.left())?)), 0, x.e),
+    })
+}

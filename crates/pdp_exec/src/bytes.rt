@@ -1,0 +1,118 @@
+//! Byte instructions (processor reference manual, "Byte manipulation").
+ghost use Rattle.std.specs.Prelude.{◌≡◌, ◌<◌, ◌≤◌, ◌^◌, Ok, IfOk, OnOk};
+ghost use Rattle.its_core.specs.Cores.{core_at};
+ghost use Rattle.its_word.specs.Limits.{slots};
+ghost use Rattle.its_word.specs.Byte.{has_size, size};
+ghost use Rattle.its_plain.specs.UnitPlan.{Fits};
+ghost use Rattle.its_plain.specs.UnitBytes.{byte_by, byte_row, deposits, first_half, incremented, loads, pointed_to};
+
+use super::plans::{any_on, next, one, to};
+use super::reads::{ac_word, read};
+use arrayvec::ArrayVec;
+use its_bytes::{deposit, increment, load};
+use its_core::Core;
+use its_word::{Address, BYTE_HALF, ByteOp, Context, Fault, Plan, Word};
+
+/// Whether the size of a byte pointer is from 1 to 36.
+fn is_sized(p: Word) -> bool
+    ensures { result ≡ has_size p }
+{
+    (1..=36).contains(&(p.value() >> 24 & 0o77))
+}
+
+/// The pointer to the next byte; Ilo where its size is none of 1 to 36.
+#[tactic(auto, unfolding(its_plain::specs::UnitBytes::incremented))]
+fn step(p: Word) -> Result<Word, Fault>
+    ensures { result ≡ incremented p }
+{
+    increment(p).ok_or(Fault::Ilo)
+}
+
+/// The address of a pointer's word, under what is left of the budget; Ilo where its size is none of 1
+/// to 36.
+#[tactic(auto, unfolding(its_plain::specs::UnitBytes::pointed_to))]
+fn target(core: &Core, slot: u8, x: &Context, p: Word) -> Result<u32, Fault>
+    requires slot { slot < slots }
+    requires fits { Fits x.now }
+    ensures address { result ≡ pointed_to (core_at core.now slot) x.now p }
+    ensures below { IfOk result (λ b. b < 2 ^ 18) }
+    ensures low { OnOk result (1 ≤ size p) }
+    ensures high { OnOk result (size p ≤ 36) }
+{
+    if !is_sized(p) {
+        return Err(Fault::Ilo);
+    }
+    let mut used = x.used;
+    let mut reads = ArrayVec::new();
+    let Address {
+        e,
+        flags_word: _last,
+    } = core.address(slot, p, &mut used, &mut reads)?;
+    Ok(e)
+}
+
+/// The byte of a pointer to AC.
+#[tactic(auto, using(crate::proofs::ByteLaws::byte_is_word), unfolding(its_plain::specs::UnitBytes::loads))]
+fn loads_byte(core: &Core, slot: u8, x: &Context, p: Word) -> Result<Plan, Fault>
+    requires slot { slot < slots }
+    requires fits { Fits x.now }
+    ensures { result ≡ loads (core_at core.now slot) x.now p }
+{
+    let place = target(core, slot, x, p)?;
+    let w = read(core, slot, place)?;
+    Ok(next(x, one(to(x.a, Word::new(load(p, w)))), 0))
+}
+
+/// The low bits of AC to the byte of a pointer.
+#[tactic(auto, unfolding(its_plain::specs::UnitBytes::deposits))]
+fn deposits_byte(core: &Core, slot: u8, x: &Context, p: Word) -> Result<Plan, Fault>
+    requires slot { slot < slots }
+    requires fits { Fits x.now }
+    ensures { result ≡ deposits (core_at core.now slot) x.now p }
+{
+    let place = target(core, slot, x, p)?;
+    let w = read(core, slot, place)?;
+    let a = ac_word(core, slot, x);
+    Ok(next(x, one(to(place, deposit(p, w, a.value()))), 0))
+}
+
+/// The first half of ILDB and IDPB.
+#[tactic(auto, unfolding(its_plain::specs::UnitBytes::first_half))]
+fn first_part(x: &Context, p: Word) -> Result<Plan, Fault>
+    ensures { result ≡ first_half x.now p }
+{
+    Ok(Plan {
+        stores: one(to(x.e, step(p)?)),
+        pc: x.pc,
+        flags: x.flags | BYTE_HALF,
+        pending: Word::ZERO,
+    })
+}
+
+#[tactic(auto, unfolding(its_plain::specs::UnitBytes::byte_by))]
+fn by_pointer(core: &Core, slot: u8, x: &Context, op: ByteOp, p: Word) -> Result<Plan, Fault>
+    requires slot { slot < slots }
+    requires fits { Fits x.now }
+    ensures { result ≡ byte_by (core_at core.now slot) x.now op p }
+{
+    let second = any_on(x.flags, BYTE_HALF);
+    match op {
+        ByteOp::Ibp => Ok(next(x, one(to(x.e, step(p)?)), 0)),
+        ByteOp::Ildb if second => loads_byte(core, slot, x, p),
+        ByteOp::Idpb if second => deposits_byte(core, slot, x, p),
+        ByteOp::Ildb | ByteOp::Idpb => first_part(x, p),
+        ByteOp::Ldb => loads_byte(core, slot, x, p),
+        ByteOp::Dpb => deposits_byte(core, slot, x, p),
+    }
+}
+
+/// IBP, ILDB, LDB, IDPB, DPB.
+#[tactic(auto, unfolding(its_plain::specs::UnitBytes::byte_row))]
+pub fn bytes(core: &Core, slot: u8, x: &Context, op: ByteOp) -> Result<Plan, Fault>
+    requires slot { slot < slots }
+    requires fits { Fits x.now }
+    ensures { result ≡ byte_row (core_at core.now slot) x.now op }
+{
+    let p = read(core, slot, x.e)?;
+    by_pointer(core, slot, x, op, p)
+}

@@ -1,0 +1,16 @@
+//! The unit of a job: one instruction, one word of BLT, or one half of ILDB or IDPB (processor
+//! reference manual, "User operations").
+#![tactic(auto)]
+
+mod arithmetic;
+mod branches;
+mod bytes;
+mod chain;
+mod comparisons;
+mod making;
+mod moves;
+mod plans;
+mod reads;
+mod units;
+
+pub use units::{Outcome, unit};

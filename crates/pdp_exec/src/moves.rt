@@ -1,0 +1,115 @@
+//! Moves and half moves (processor reference manual, "Full word data transmission" and "Half word
+//! data transmission").
+ghost use Rattle.std.specs.Prelude.{◌≡◌, ◌<◌};
+ghost use Rattle.its_core.specs.Cores.{core_at};
+ghost use Rattle.its_word.specs.Limits.{slots};
+ghost use Rattle.its_plain.specs.UnitPlan.{Fits, moved_from, moved_to};
+ghost use Rattle.its_plain.specs.UnitMoves.{exch_row, half_row, half_to, move_row, moved, swapped};
+
+use super::plans::{Stores, next, none, one, to, two};
+use super::reads::{ac_word, read};
+use its_core::Core;
+use its_word::{Context, Fault, Mode, MoveOp, Plan, Result2, Word};
+use pdp_arith::{magnitude, neg};
+use pdp_logic::half;
+
+/// The source of a move or a half move.
+#[tactic(auto, unfolding(its_plain::specs::UnitPlan::moved_from))]
+fn source(core: &Core, slot: u8, x: &Context, mode: Mode) -> Result<Word, Fault>
+    requires slot { slot < slots }
+    requires fits { Fits x.now }
+    ensures { result ≡ moved_from (core_at core.now slot) x.now mode }
+{
+    match mode {
+        Mode::Basic => read(core, slot, x.e),
+        Mode::Immediate => Ok(Word::pair(0, x.e)),
+        Mode::Memory => Ok(ac_word(core, slot, x)),
+        Mode::Both => read(core, slot, x.e),
+    }
+}
+
+/// Where the result of a move or a half move goes.
+#[tactic(auto, unfolding(its_plain::specs::UnitPlan::moved_to))]
+fn stores(x: &Context, mode: Mode, w: Word) -> Stores
+    ensures { result.items ≡ moved_to x.now mode w }
+{
+    match mode {
+        Mode::Basic => one(to(x.a, w)),
+        Mode::Immediate => one(to(x.a, w)),
+        Mode::Memory => one(to(x.e, w)),
+        Mode::Both if x.a == 0 => one(to(x.e, w)),
+        Mode::Both => two(to(x.e, w), to(x.a, w)),
+    }
+}
+
+/// A word with its halves swapped.
+pub fn swap(w: Word) -> Word
+    ensures { result ≡ swapped w }
+{
+    Word::pair(w.right(), w.left())
+}
+
+#[tactic(auto, unfolding(its_plain::specs::UnitMoves::moved))]
+fn moved_by(op: MoveOp, s: Word) -> Result2
+    ensures { result ≡ moved op s }
+{
+    match op {
+        MoveOp::Plain => Result2::one_word(s, 0),
+        MoveOp::Swap => Result2::one_word(swap(s), 0),
+        MoveOp::Negate => neg(s),
+        MoveOp::Magnitude => magnitude(s),
+    }
+}
+
+/// MOVE, MOVS, MOVN, MOVM.
+#[tactic(auto, unfolding(its_plain::specs::UnitMoves::move_row))]
+pub fn moves(core: &Core, slot: u8, x: &Context, op: MoveOp, mode: Mode) -> Result<Plan, Fault>
+    requires slot { slot < slots }
+    requires fits { Fits x.now }
+    ensures { result ≡ move_row (core_at core.now slot) x.now op mode }
+{
+    let s = source(core, slot, x, mode)?;
+    let r = moved_by(op, s);
+    Ok(next(x, stores(x, mode, r.first), r.flags))
+}
+
+/// EXCH.
+#[tactic(auto, unfolding(its_plain::specs::UnitMoves::exch_row))]
+pub fn exchange(core: &Core, slot: u8, x: &Context) -> Result<Plan, Fault>
+    requires slot { slot < slots }
+    requires fits { Fits x.now }
+    ensures { result ≡ exch_row (core_at core.now slot) x.now }
+{
+    let w = read(core, slot, x.e)?;
+    let a = ac_word(core, slot, x);
+    Ok(next(x, two(to(x.e, a), to(x.a, w)), 0))
+}
+
+/// The destination of a half move, whose other half may stay.
+#[tactic(auto, unfolding(its_plain::specs::UnitMoves::half_to))]
+fn destination(core: &Core, slot: u8, x: &Context, mode: Mode) -> Result<Word, Fault>
+    requires slot { slot < slots }
+    requires fits { Fits x.now }
+    ensures { result ≡ half_to (core_at core.now slot) x.now mode }
+{
+    match mode {
+        Mode::Basic => Ok(ac_word(core, slot, x)),
+        Mode::Immediate => Ok(ac_word(core, slot, x)),
+        Mode::Memory => read(core, slot, x.e),
+        Mode::Both => read(core, slot, x.e),
+    }
+}
+
+/// HLL to HLRE, by their place in the order of the opcodes.
+#[tactic(auto, unfolding(its_plain::specs::UnitMoves::half_row))]
+pub fn halves(core: &Core, slot: u8, x: &Context, k: u32, mode: Mode) -> Result<Plan, Fault>
+    requires slot { slot < slots }
+    requires fits { Fits x.now }
+    requires k { k < 16 }
+    ensures { result ≡ half_row (core_at core.now slot) x.now k mode }
+{
+    let s = source(core, slot, x, mode)?;
+    let d = destination(core, slot, x, mode)?;
+    let r = half(k, s, d);
+    Ok(next(x, stores(x, mode, r.first), 0))
+}
