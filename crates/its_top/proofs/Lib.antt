@@ -4,4 +4,5 @@ pub mod ByteLaws
 pub mod ConclusionLaws
 pub mod AnswerLaws
 pub mod ExamLaws
+pub mod LoadingLaws
 pub mod WritingLaws

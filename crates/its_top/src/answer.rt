@@ -103,3 +103,24 @@ fn examine<K: Sink>(m: &mut Monitor, p: Progress, s: u8, a: u32, n: u32, out: &m
         Err(e) => refuse_by(out, p.number, e),
     }
 }
+
+/// Loads the words of an a/ line, in order.
+#[tactic(auto, using(crate::proofs::LoadingLaws::loading_next, crate::proofs::LoadingLaws::loading_fails))]
+fn load_words(m: &mut Monitor, slot: u8, a: u32, words: &[Word]) -> Result<(), Refusal>
+    requires sound { Sound m.old }
+    requires slot { slot < slots }
+    requires end { a + length words.now ≤ 2 ^ 18 }
+    ensures done { OnOk result (words_loaded (machine_of m.old) slot a words.now ≡ Ok (machine_of m.new)) }
+    ensures refused { IfErr result (λ e. words_loaded (machine_of m.old) slot a words.now ≡ Err (reason_of e)) }
+    ensures sound { Sound m.new }
+{
+    let mut at = a;
+    for w in words {
+        match m.load_word(slot, at, *w) {
+            Ok(()) => {}
+            Err(e) => return Err(e),
+        }
+        at += 1;
+    }
+    Ok(())
+}
