@@ -1,2 +1,2 @@
-pub mod StoreLaws
+pub mod StorableLaws
 pub mod TableLaws

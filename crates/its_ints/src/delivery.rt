@@ -5,10 +5,10 @@ ghost use Rattle.its_core.specs.Cores.{core_at};
 ghost use Rattle.its_plain.specs.Job.{pc_word};
 ghost use Rattle.its_plain.specs.Interrupt.{unguarded, deliverable, pushed, at_handler, above, below, delivered, dismissed};
 
-use super::table::{Found, LAST, TBL, TableEntry, enabled_1, enabled_2, look_up};
-use super::words::{Push, all_can, is_storable, store_all, word};
+use super::table::{Found, TBL, TableEntry, enabled_1, enabled_2, look_up};
+use super::words::{ADDRESSES, are_storable, is_storable, make_all, word};
 use its_core::Core;
-use its_word::{Exit, Fault, Job, USER, Word};
+use its_word::{Exit, Fault, Job, Store, USER, Word};
 
 /// The fatal bits of pending word 1.
 const FATAL: u64 = 0o77;
@@ -39,29 +39,31 @@ fn above(pointer: Word, k: u32) -> u32
     ensures place { result ≡ above pointer k }
     ensures below { result < 2 ^ 18 }
 {
-    pointer.right() + k & LAST
+    (pointer.right() + k) % ADDRESSES
 }
 
-/// The words that a delivery stores, in order.
+/// A store of a word at an address.
+fn store(at: u32, word: Word) -> Store
+    ensures { result ≡ record { at = at; word = word } }
+{
+    Store { at, word }
+}
+
+/// The stores of a delivery, in order.
 #[tactic(auto, unfolding(its_plain::specs::Interrupt::pushed))]
-fn pushes(job: &Job, found: &Found) -> [Push; 6]
-    requires { found.now.place < 2 ^ 18 }
+fn pushes(job: &Job, found: &Found) -> [Store; 6]
     ensures { result ≡ pushed job.now found.now.entry found.now.place found.now.pointer }
 {
     let pointer = found.pointer;
+    let pc_word = Word::pair(job.flags & NAMED | USER, job.pc);
+    let next = Word::pair(pointer.left() + 5, pointer.right() + 5);
     [
-        Push::new(above(pointer, 1), enabled_1(job) & found.entry.mask1()),
-        Push::new(above(pointer, 2), enabled_2(job) & found.entry.mask2()),
-        Push::new(above(pointer, 3), job.defer1),
-        Push::new(above(pointer, 4), job.defer2),
-        Push::new(
-            above(pointer, 5),
-            Word::pair(job.flags & NAMED | USER, job.pc),
-        ),
-        Push::new(
-            found.place,
-            Word::pair(pointer.left() + 5, pointer.right() + 5),
-        ),
+        store(above(pointer, 1), enabled_1(job) & found.entry.mask1()),
+        store(above(pointer, 2), enabled_2(job) & found.entry.mask2()),
+        store(above(pointer, 3), job.defer1),
+        store(above(pointer, 4), job.defer2),
+        store(above(pointer, 5), pc_word),
+        store(found.place, next),
     ]
 }
 
@@ -96,9 +98,9 @@ pub fn deliver(core: &mut Core, slot: u8, job: &mut Job) -> bool
         return true;
     }
     if let Some(found) = look_up(core, slot, job) {
-        let pushes = pushes(job, &found);
-        if all_can(core, slot, &pushes) {
-            store_all(core, slot, &pushes);
+        let stores = pushes(job, &found);
+        if are_storable(core, slot, &stores) {
+            make_all(core, slot, &stores);
             enter(job, &found.entry);
             return false;
         }
@@ -140,5 +142,5 @@ fn below(pointer: Word, k: u32) -> u32
     ensures place { result ≡ below pointer k }
     ensures below { result < 2 ^ 18 }
 {
-    pointer.right() + (0o1000000 - k) & LAST
+    (pointer.right() + (ADDRESSES - k)) % ADDRESSES
 }

@@ -2,18 +2,16 @@
 ghost use Rattle.std.specs.Prelude.{◌≡◌, ◌≤◌, ◌<◌, ◌+◌, ◌^◌, IfSome, MatchOption};
 ghost use Rattle.its_word.specs.Limits.{slots};
 ghost use Rattle.its_core.specs.Cores.{core_at};
-ghost use Rattle.its_plain.specs.Interrupt.{enabled_1, enabled_2, entry_at, meets, first_entry, entries_of, pushed, all_can, undelivered, by_stores, through_table};
+ghost use Rattle.its_plain.specs.Unit.{first_fault};
+ghost use Rattle.its_plain.specs.Interrupt.{enabled_1, enabled_2, entry_at, meets, first_entry, entries_of, pushed, undelivered, by_stores, through_table};
 
-use super::words::word;
+use super::words::{ADDRESSES, word};
 use its_core::Core;
 use its_word::{Job, Word};
 use std::marker::Model;
 
 /// TBL, the bit of pending word 1 for a delivery that cannot be made.
 pub(crate) const TBL: u64 = 0o40;
-
-/// The last address.
-pub(crate) const LAST: u32 = 0o777777;
 
 /// An entry of the interrupt table: the pending bits that it takes, the deferrals of its handler, and
 /// the address of that.
@@ -105,11 +103,11 @@ fn entry_at(core: &Core, slot: u8, a: u32) -> Option<TableEntry>
     ensures { result ≡ entry_at (core_at core.now slot) a }
 {
     Some(TableEntry {
-        mask1: word(core, slot, a & LAST)?,
-        mask2: word(core, slot, a + 1 & LAST)?,
-        defer1: word(core, slot, a + 2 & LAST)?,
-        defer2: word(core, slot, a + 3 & LAST)?,
-        handler: word(core, slot, a + 4 & LAST)?,
+        mask1: word(core, slot, a % ADDRESSES)?,
+        mask2: word(core, slot, (a + 1) % ADDRESSES)?,
+        defer1: word(core, slot, (a + 2) % ADDRESSES)?,
+        defer2: word(core, slot, (a + 3) % ADDRESSES)?,
+        handler: word(core, slot, (a + 4) % ADDRESSES)?,
     })
 }
 
@@ -120,7 +118,7 @@ fn entries(word: Word) -> Option<u32>
     ensures number { result ≡ entries_of word }
     ensures most { IfSome result (λ k. k ≤ 48) }
 {
-    let length = 0o1000000 - word.left();
+    let length = ADDRESSES - word.left();
     if length % 5 == 1 && length >= 6 && length <= 241 {
         Some(length / 5)
     } else {
@@ -162,7 +160,7 @@ pub(crate) fn look_up(core: &Core, slot: u8, job: &Job) -> Option<Found>
     ensures outcome { MatchOption result
         (through_table (core_at core.now slot) job.now ≡ undelivered (core_at core.now slot) job.now)
         (λ f. through_table (core_at core.now slot) job.now
-        ≡ (let ss = pushed job.now f.entry f.place f.pointer in by_stores (core_at core.now slot) job.now f.entry ss (all_can (core_at core.now slot) ss))) }
+        ≡ (let ss = pushed job.now f.entry f.place f.pointer in by_stores (core_at core.now slot) job.now f.entry ss (first_fault (core_at core.now slot) ss))) }
     ensures place { IfSome result (λ f. f.place < 2 ^ 18) }
 {
     let table = word(core, slot, 0o42)?;

@@ -1,44 +1,16 @@
 //! Words of a slot's core, by address.
-ghost use Rattle.std.specs.Prelude.{◌≡◌, ◌<◌, ◌^◌, true};
+ghost use Rattle.std.specs.Prelude.{◌≡◌, ◌<◌, ◌^◌, None, true, is_none};
 ghost use Rattle.its_word.specs.Core.{word_at, can_store, store};
 ghost use Rattle.its_word.specs.Limits.{slots};
 ghost use Rattle.its_word.specs.Only.{Only};
 ghost use Rattle.its_core.specs.Cores.{core_at};
-ghost use Rattle.its_plain.specs.Interrupt.{all_can, all_made};
+ghost use Rattle.its_plain.specs.Unit.{first_fault, place, stored};
 
 use its_core::Core;
-use its_word::Word;
-use std::marker::Model;
+use its_word::{Store, Word};
 
-/// A word to store, and its address.
-#[derive(Clone, Copy)]
-pub(crate) struct Push {
-    place: u32,
-    word: Word,
-}
-
-impl Model for Push {
-    ghost use Rattle.std.specs.Prelude.{◌<◌, ◌^◌};
-    ghost use Rattle.its_plain.specs.Interrupt.{Store};
-
-    ghost Value = { Store };
-
-    ghost view = { λ s. record { place = s.place; word = s.word } };
-
-    ghost invariant = { λ s. s.place < 2 ^ 18 };
-
-    ghost inverse = { λ s. record { place = s.place; word = s.word } };
-}
-
-impl Push {
-    /// A word to store at an address.
-    pub(crate) fn new(place: u32, word: Word) -> Push
-        requires { place < 2 ^ 18 }
-        ensures { result ≡ record { place = place; word = word } }
-    {
-        Push { place, word }
-    }
-}
+/// How many addresses there are; they are taken modulo it.
+pub(crate) const ADDRESSES: u32 = 0o1000000;
 
 /// The word at an address; None where its page is absent.
 pub(crate) fn word(core: &Core, slot: u8, a: u32) -> Option<Word>
@@ -50,7 +22,7 @@ pub(crate) fn word(core: &Core, slot: u8, a: u32) -> Option<Word>
 }
 
 /// Whether a word can be stored at an address.
-#[tactic(auto, using(crate::proofs::StoreLaws::can_by_mark))]
+#[tactic(auto, using(crate::proofs::StorableLaws::can_by_mark))]
 pub(crate) fn is_storable(core: &Core, slot: u8, a: u32) -> bool
     requires slot { slot < slots }
     requires address { a < 2 ^ 18 }
@@ -60,40 +32,39 @@ pub(crate) fn is_storable(core: &Core, slot: u8, a: u32) -> bool
     a < 16 || present && core.page(slot, (a / 1024) as u8) == Some(true)
 }
 
-/// Whether each of these words can be stored.
-#[tactic(auto, using(crate::proofs::StoreLaws::all_can_turn))]
-pub(crate) fn all_can(core: &Core, slot: u8, pushes: &[Push]) -> bool
+/// Whether each of these stores can be made.
+#[tactic(auto, using(crate::proofs::StorableLaws::storable_stops, crate::proofs::StorableLaws::storable_goes_on, crate::proofs::StorableLaws::storable_end))]
+pub(crate) fn are_storable(core: &Core, slot: u8, stores: &[Store]) -> bool
     requires slot { slot < slots }
-    ensures { result ≡ all_can (core_at core.now slot) pushes.now }
+    ensures { result ≡ is_none (first_fault (core_at core.now slot) stores.now) }
 {
-    for push in pushes {
-        if !is_storable(core, slot, push.place) {
+    for s in stores {
+        if !is_storable(core, slot, s.at % ADDRESSES) {
             return false;
         }
     }
     true
 }
 
-/// Stores a word where one can be stored.
-fn store_at(core: &mut Core, slot: u8, a: u32, w: Word)
+/// Makes a store that can be made.
+fn make(core: &mut Core, slot: u8, s: &Store)
     requires slot { slot < slots }
-    requires address { a < 2 ^ 18 }
-    requires can { can_store (core_at core.old slot) a ≡ true }
-    ensures stored { Only (core_at core.old) (core_at core.new) slot (store (core_at core.old slot) a w) }
+    requires can { can_store (core_at core.old slot) (place s.now) ≡ true }
+    ensures stored { Only (core_at core.old) (core_at core.new) slot (store (core_at core.old slot) (place s.now) s.now.word) }
     ensures reserved { core.new.reserved ≡ core.old.reserved }
 {
-    core.put(slot, a, w).unwrap();
+    core.put(slot, s.at % ADDRESSES, s.word).unwrap();
 }
 
-/// Stores these words, in order.
-#[tactic(auto, using(crate::proofs::StoreLaws::storing_can))]
-pub(crate) fn store_all(core: &mut Core, slot: u8, pushes: &[Push])
+/// Makes stores that can be made, in order.
+#[tactic(auto, using(its_plain::proofs::StoreLaws::making_begins, its_plain::proofs::StoreLaws::making_allows, its_plain::proofs::StoreLaws::making_ends))]
+pub(crate) fn make_all(core: &mut Core, slot: u8, stores: &[Store])
     requires slot { slot < slots }
-    requires can { all_can (core_at core.old slot) pushes.now ≡ true }
-    ensures stored { Only (core_at core.old) (core_at core.new) slot (all_made (core_at core.old slot) pushes.now) }
+    requires can { first_fault (core_at core.old slot) stores.now ≡ None }
+    ensures stored { Only (core_at core.old) (core_at core.new) slot (stored (core_at core.old slot) stores.now) }
     ensures reserved { core.new.reserved ≡ core.old.reserved }
 {
-    for push in pushes {
-        store_at(core, slot, push.place, push.word);
+    for s in stores {
+        make(core, slot, s);
     }
 }

@@ -2,3 +2,4 @@ pub mod UnitLaws
 pub mod SteppedLaws
 pub mod TickLaws
 pub mod DeliveryLaws
+pub mod StoreLaws

@@ -1,0 +1,10 @@
+-- each turn makes the first of the rest
+use Rattle.std.proofs.Common.{◌∙◌}
+use Rattle.its_plain.proofs.StoreLaws.{making_goes_on}
+use Rattle.its_ints.proofs.words.make_all.Goals as goal
+
+pub loop-s-preserved : goal.loop-s-preserved
+loop-s-preserved c = record {
+  making = making_goes_on _ _ _ _ _ _ _ c.s-item.is c.loop-s.invariant.making c.loop-s-test.true c.make.ensures.stored;
+  reserved = c.make.ensures.reserved ∙ c.loop-s.invariant.reserved;
+}
