@@ -1,3 +1,4 @@
 pub mod Grammar
 pub mod Fits
 pub mod Reading
+pub mod Writing

@@ -4,8 +4,11 @@
 
 mod fields;
 mod kind;
+mod print;
+mod put;
 mod read;
 mod rows;
 mod words;
 
+pub use print::print_event;
 pub use read::read_line;
