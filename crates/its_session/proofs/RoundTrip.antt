@@ -15,8 +15,8 @@ use Rattle.its_word.proofs.DigitLaws.{digits_are_codes, digits_are_octal, digits
 use Rattle.its_word.proofs.SpacedLaws.{room_of}
 use Rattle.its_session.specs.declared.kind.Kind.TheVariants as kinds
 use Rattle.its_session.specs.Grammar.{append_line, bare_line, before_slash, clock_line, deposit_line, dir_line, drain_line, event_of_words, exam_line, file_line, go_line, int_line, is_comment, is_place, kind_of, line_event, load_line, show_line, slot_line, tick_line, type_line, words_line, words_of}
-use Rattle.its_session.specs.Fits.{AreWords, EventFits, HasWords, IsNameWord, place_of}
-use Rattle.its_session.specs.Writing.{console_text, name_of, text_of_event}
+use Rattle.its_session.specs.Fits.{EventFits, IsNameWord, place_of}
+use Rattle.its_session.specs.Writing.{AreWords, HasWords, console_text, name_of, text_of_event}
 use Rattle.its_session.proofs.LineLaws.{AllRuns, IsRun, line_of_words}
 use Rattle.its_session.proofs.NameLaws.{both, name_reads}
 use Rattle.its_session.proofs.RowLaws.{bytes_consoles, bytes_formed, bytes_ranged, numbers_consoles, numbers_formed, numbers_ranged}

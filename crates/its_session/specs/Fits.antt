@@ -1,5 +1,5 @@
 -- The events that lines stand for: their fields meet the table of lines (docs/SESSION.md).
-use Rattle.std.specs.Prelude.{◌≡◌, ℕ, ◌+◌, ◌<◌, ◌≤◌, ◌^◌, List, length, IsTrue, IfSome, All, slice_index}
+use Rattle.std.specs.Prelude.{◌≡◌, ℕ, ◌+◌, ◌<◌, ◌≤◌, ◌^◌, List, length, IsTrue, IfSome, All}
 use Rattle.its_word.specs.Text.{is_name, sixbit_of}
 use Rattle.its_word.specs.declared.session.Event.{Event}
 use Rattle.its_word.specs.declared.session.Event.TheVariants as events
@@ -43,14 +43,3 @@ place_of (events.Go a) = places.Load
 place_of (events.Append ws) = places.File
 place_of events.EndFile = places.File
 place_of _ = places.Plain
-
--- the words of an event have 36 bits, as all words do
-abbrev pub AreWords : List ℕ → Type 0
-AreWords ws = (k : ℕ) → k < length ws → slice_index ws k < 2 ^ 36
-
-abbrev pub HasWords : Event → Type 0
-HasWords (events.Words a ws) = AreWords ws.items
-HasWords (events.Append ws) = AreWords ws.items
-HasWords (events.Int s v w) = (v < 2 ^ 36) × (w < 2 ^ 36)
-HasWords (events.Deposit s a w) = w < 2 ^ 36
-HasWords _ = Unit {0}

@@ -1,5 +1,5 @@
 -- The line that is written for an event.
-use Rattle.std.specs.Prelude.{if◌then◌else◌, ◌==◌, ℕ, zero, suc, ◌+◌, ◌*◌, ◌/◌, ◌%◌, ◌^◌, Option, Some, None, List, [], ◌∷◌, ◌++◌, map, codes}
+use Rattle.std.specs.Prelude.{if◌then◌else◌, ◌==◌, ℕ, zero, suc, ◌+◌, ◌*◌, ◌/◌, ◌%◌, ◌^◌, ◌<◌, Option, Some, None, List, [], ◌∷◌, ◌++◌, length, map, codes, slice_index}
 use Rattle.its_word.specs.Text.{digits_of, spaced}
 use Rattle.its_word.specs.declared.session.Event.{Event}
 use Rattle.its_word.specs.declared.session.Event.TheVariants as events
@@ -40,3 +40,14 @@ text_of_event (events.Peek s) = spaced (codes "PEEK") (digits_of s ∷ [])
 text_of_event (events.Dir d) = spaced (codes "DIR") (name_of d ∷ [])
 text_of_event (events.Show d x y) = spaced (codes "SHOW") (name_of d ∷ name_of x ∷ name_of y ∷ [])
 text_of_event events.End = codes "END"
+
+-- the words of an event have 36 bits, as all words do
+abbrev pub AreWords : List ℕ → Type 0
+AreWords ws = (k : ℕ) → k < length ws → slice_index ws k < 2 ^ 36
+
+abbrev pub HasWords : Event → Type 0
+HasWords (events.Words a ws) = AreWords ws.items
+HasWords (events.Append ws) = AreWords ws.items
+HasWords (events.Int s v w) = (v < 2 ^ 36) × (w < 2 ^ 36)
+HasWords (events.Deposit s a w) = w < 2 ^ 36
+HasWords _ = Unit {0}

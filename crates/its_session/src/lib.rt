@@ -8,6 +8,8 @@ mod print;
 mod put;
 mod read;
 mod rows;
+#[cfg(test)]
+mod tests;
 mod words;
 
 pub use print::print_event;

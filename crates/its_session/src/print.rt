@@ -3,9 +3,9 @@ ghost use Rattle.std.specs.Prelude.{◌≡◌, ◌<◌, ◌≤◌, ◌^◌, [], 
 ghost use Rattle.arrayvec.specs.ArrayVec.{array_vec_len};
 ghost use Rattle.its_word.specs.Text.{digits_of, spaced};
 ghost use Rattle.its_word.specs.declared.session.Place.{Place};
-ghost use Rattle.its_session.specs.Fits.{AreWords, EventFits, HasWords, place_of};
+ghost use Rattle.its_session.specs.Fits.{EventFits, place_of};
 ghost use Rattle.its_session.specs.Grammar.{line_event};
-ghost use Rattle.its_session.specs.Writing.{console_text, name_of, text_of_event};
+ghost use Rattle.its_session.specs.Writing.{AreWords, HasWords, console_text, name_of, text_of_event};
 
 use super::put::{put_bytes, put_console, put_name, put_number, put_numbers};
 use arrayvec::ArrayVec;
