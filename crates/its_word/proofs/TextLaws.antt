@@ -1,13 +1,7 @@
 -- Numbers and names as text.
-<<<<<<< HEAD
 use Rattle.std.proofs.Common.{◌≡◌, ◌<◌, ◌≤◌, ◌+◌, ◌*◌, ◌%◌, ◌/◌, map, ◌++◌, ◌∷◌, [], ◌-◌, ◌^◌, ℕ, List, true, IsTrue, length, take, arith, add-one, refl, zero, suc, lit<, lit≤, ◌∙◌}
 use Rattle.std.proofs.Math.Nat.{mul-lt-mul_of_pos_right, pow-le-pow_right, pow-suc, div-div-eq-div-mul}
 use Rattle.std.proofs.lemmas.Nat.{pow_pos, pow-add}
-=======
-use Rattle.std.proofs.Common.{◌≡◌, ◌<◌, ◌≤◌, ◌+◌, ◌*◌, ◌%◌, ◌-◌, ◌^◌, ℕ, List, true, IsTrue, length, take, arith, add-one, refl, zero, suc}
-use Rattle.std.proofs.Math.Nat.{mul-lt-mul_of_pos_right, pow-le-pow_right, pow-suc}
-use Rattle.std.proofs.lemmas.Nat.{pow_pos}
->>>>>>> 0aca2fd0125f6ca8833107a29af5ad6bc04b5acd
 use Rattle.std.proofs.lemmas.Bool.Decides.{nat_tests}
 use Rattle.std.proofs.lemmas.List.{take_all}
 use Rattle.std.proofs.lemmas.List.FromFn.{map-range_with_len_more}
