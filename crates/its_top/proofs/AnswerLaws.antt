@@ -181,3 +181,8 @@ pub cont_answered : {T : Type 0} (result : Result T Refusal) (turn : Turn) (n : 
 unfolding operate
 cont_answered result turn n m m' b s old new o f t =
     quiet_by result turn n m m' b (events.Cont s) (only s) old new (does_ok result m' s b _ o) (does_err result s b _ f) t
+
+-- the same event, by another name
+pub at_event : (turn : Turn) (n : ℕ) (m : Machine) (b : Block) (e f : Event) (m' : Machine) (b' : Block) (old new : Option (List ℕ)) → e ≡ f
+    → Answered turn n m b f m' b' old new → Answered turn n m b e m' b' old new
+at_event turn n m b e f m' b' old new h a = subst (λ x. Answered turn n m b x m' b' old new) (sym h) a

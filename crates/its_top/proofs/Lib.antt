@@ -4,6 +4,7 @@ pub mod ByteLaws
 pub mod ConclusionLaws
 pub mod AnswerLaws
 pub mod ExamLaws
+pub mod RangeLaws
 pub mod PaceLaws
 pub mod LoadingLaws
 pub mod WritingLaws

@@ -7,10 +7,7 @@ use Rattle.its_plain.specs.Stepped.{tick, paces_of, ticked}
 use Rattle.its_top.specs.Answer.{PacesSo}
 
 pub pacing_start : (m : Machine) (s n : ℕ) → PacesSo m m s n 0 []
-pacing_start m s n = record {
-  letters = ap (paces_of m s) (omega arith);
-  machine = ap (ticked m s) (omega arith);
-}
+pacing_start m s n = let e : n - 0 ≡ n = omega arith in record { letters = ap (paces_of m s) e; machine = ap (ticked m s) e }
 
 more : (m : Machine) (s n k : ℕ) → n ≡ suc k → (paces_of m s n ≡ (tick m s).pace ∷ paces_of (tick m s).machine s k) × (ticked m s n ≡ ticked (tick m s).machine s k)
 more m s n k e = (ap (paces_of m s) e, ap (ticked m s) e)

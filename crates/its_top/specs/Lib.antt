@@ -1,3 +1,4 @@
 pub mod Telling
 pub mod Conclusion
 pub mod Answer
+pub mod Ranges

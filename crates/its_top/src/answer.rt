@@ -5,7 +5,8 @@ ghost use Rattle.its_session.specs.Fits.{EventFits};
 ghost use Rattle.its_plain.specs.Operator.{words_loaded, examined};
 ghost use Rattle.its_plain.specs.Stepped.{paces_of, ticked};
 ghost use Rattle.its_monitor.specs.World.{machine_of, Sound, reason_of};
-ghost use Rattle.its_top.specs.Answer.{Answered, block_of};
+ghost use Rattle.its_print.specs.Printing.{Refused, text_of_line};
+ghost use Rattle.its_top.specs.Answer.{Answered, Tells, block_of};
 
 use super::progress::Progress;
 use super::turn::Turn;
@@ -161,6 +162,15 @@ fn paces_of(m: &mut Monitor, s: u8, n: u32) -> ArrayVec<Pace, 512>
     paces
 }
 
+/// The refusal of a line of a kind that is not built.
+fn unbuilt<K: Sink>(out: &mut K, number: u32) -> Turn
+    ensures told { Tells result Turn.Refused (text_of_line (Refused number Reason.Unbuilt)) (K.written out.old) (K.written out.new) }
+    ensures later { K.faults out.old ≤ K.faults out.new }
+    ensures fault { result ≡ Turn.Fault → Rose (K.faults out.old) (K.faults out.new) }
+{
+    refuse(out, number, Reason::Unbuilt)
+}
+
 /// The answer to an event: what it does to the monitor and to the block, and what it shows.
 #[tactic(auto, using(crate::proofs::AnswerLaws::nothing_answered, crate::proofs::AnswerLaws::end_answered, crate::proofs::AnswerLaws::unbuilt_answered, crate::proofs::AnswerLaws::go_answered, crate::proofs::AnswerLaws::words_answered, crate::proofs::AnswerLaws::int_answered, crate::proofs::AnswerLaws::deposit_answered, crate::proofs::AnswerLaws::stop_answered, crate::proofs::AnswerLaws::cont_answered))]
 pub fn answer<K: Sink>(m: &mut Monitor, p: &mut Progress, event: &Event, out: &mut K) -> Turn
@@ -206,14 +216,14 @@ pub fn answer<K: Sink>(m: &mut Monitor, p: &mut Progress, event: &Event, out: &m
             settle(out, number, continued)
         }
         Event::End => Turn::Ended,
-        Event::File { .. }
-        | Event::Append { .. }
-        | Event::EndFile
-        | Event::TypeIn { .. }
-        | Event::Drain { .. }
-        | Event::Clock { .. }
-        | Event::Peek { .. }
-        | Event::Dir { .. }
-        | Event::Show { .. } => refuse(out, number, Reason::Unbuilt),
+        Event::File { .. } => unbuilt(out, number),
+        Event::Append { .. } => unbuilt(out, number),
+        Event::EndFile => unbuilt(out, number),
+        Event::TypeIn { .. } => unbuilt(out, number),
+        Event::Drain { .. } => unbuilt(out, number),
+        Event::Clock { .. } => unbuilt(out, number),
+        Event::Peek { .. } => unbuilt(out, number),
+        Event::Dir { .. } => unbuilt(out, number),
+        Event::Show { .. } => unbuilt(out, number),
     }
 }
