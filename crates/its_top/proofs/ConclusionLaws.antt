@@ -104,7 +104,7 @@ told_over t None rest read w next kept g c f = tt
 told_over t (Some bytes) None read w next kept g c f = absurd c
 told_over t (Some bytes) (Some ys) read w next kept g c f = over t bytes read ys w next kept g c f
 
-was_run : (t : Turn) → WasRun (status_of t)
+pub was_run : (t : Turn) → WasRun (status_of t)
 was_run turns.On = tt
 was_run turns.Ended = tt
 was_run turns.Refused = tt

@@ -4,6 +4,9 @@ pub mod ByteLaws
 pub mod ConclusionLaws
 pub mod AnswerLaws
 pub mod ExamLaws
+pub mod FeedLaws
+pub mod FinishLaws
+pub mod LinedLaws
 pub mod RangeLaws
 pub mod PaceLaws
 pub mod LoadingLaws

@@ -1,7 +1,7 @@
 ghost use Rattle.std.specs.Prelude.{◌≡◌, ◌≢◌, ◌≤◌, ◌<◌, ◌+◌, ◌-◌, ◌^◌, Ok, Err, IfOk, IfErr, OnOk, OnErr, length};
 ghost use Rattle.its_io.specs.Bytes.{Rose};
 ghost use Rattle.its_word.specs.Limits.{slots};
-ghost use Rattle.its_session.specs.Fits.{EventFits};
+ghost use Rattle.its_top.specs.Ranges.{InRange};
 ghost use Rattle.its_plain.specs.Operator.{words_loaded, examined};
 ghost use Rattle.its_plain.specs.Stepped.{paces_of, ticked};
 ghost use Rattle.its_monitor.specs.World.{machine_of, Sound, reason_of};
@@ -176,7 +176,7 @@ fn unbuilt<K: Sink>(out: &mut K, number: u32) -> Turn
 pub fn answer<K: Sink>(m: &mut Monitor, p: &mut Progress, event: &Event, out: &mut K) -> Turn
     requires sound { Sound m.old }
     requires slot { p.old.slot < slots }
-    requires fits { EventFits event.now }
+    requires range { InRange event.now }
     ensures answered { Answered result p.old.number (machine_of m.old) (block_of p.old.slot) event.now (machine_of m.new) (block_of p.new.slot) (K.written out.old) (K.written out.new) }
     ensures sound { Sound m.new }
     ensures slot { p.new.slot < slots }

@@ -2,6 +2,7 @@
 #![tactic(auto)]
 
 mod answer;
+mod lines;
 mod progress;
 mod status;
 mod turn;
