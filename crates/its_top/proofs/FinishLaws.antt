@@ -71,3 +71,19 @@ finishes_over turn now next (b ∷ bs) old new n g l = record {
   ran = was_run turn;
   finished = over_by turn now next b bs l.wrote g l.lines;
 }
+
+on_of : (turn : Turn) → goes_on turn ≡ true → turn ≡ turns.On
+on_of turns.On h = refl
+on_of turns.Ended h = cc
+on_of turns.Refused h = cc
+on_of turns.Beyond h = cc
+on_of turns.Fault h = cc
+
+pub finishes_after : (turn : Turn) (st : Status) (now next : Now) (kept : List ℕ) (old x new : Option (List ℕ)) → kept ≢ [] → goes_on turn ≡ true → Lined turn now kept next old x
+    → Finishes st next [] x new → Finishes st now kept old new
+finishes_after turn st now next kept old x new n g l f =
+    finishes_line st now next kept old x new n (subst (λ t. Lined t now kept next old x) (on_of turn g) l) f
+
+pub finishes_by : (turn : Turn) (st : Status) (now next : Now) (kept : List ℕ) (old new : Option (List ℕ)) → kept ≢ [] → goes_on turn ≡ false → st ≡ status_of turn → Lined turn now kept next old new
+    → Finishes st now kept old new
+finishes_by turn st now next kept old new n g e l = subst (λ s. Finishes s now kept old new) (sym e) (finishes_over turn now next kept old new n g l)

@@ -2,6 +2,7 @@
 #![tactic(auto)]
 
 mod answer;
+mod bytes;
 mod lines;
 mod progress;
 mod status;

@@ -1,4 +1,5 @@
 ghost use Rattle.std.specs.Prelude.{◌≡◌};
+ghost use Rattle.its_top.specs.Telling.{goes_on};
 
 /// What a part of a session did: the session goes on, it is over by END, by a refused line or since a
 /// line past the most that it may have begins, or a write failed.
@@ -9,4 +10,19 @@ pub enum Turn {
     Refused,
     Beyond,
     Fault,
+}
+
+impl Turn {
+    /// Whether the session goes on.
+    pub fn goes_on(self) -> bool
+        ensures { result ≡ goes_on self }
+    {
+        match self {
+            Turn::On => true,
+            Turn::Ended => false,
+            Turn::Refused => false,
+            Turn::Beyond => false,
+            Turn::Fault => false,
+        }
+    }
 }
