@@ -5,8 +5,10 @@ mod answer;
 mod bytes;
 mod lines;
 mod progress;
+mod run;
 mod status;
 mod turn;
 mod writing;
 
+pub use run::session;
 pub use status::Status;

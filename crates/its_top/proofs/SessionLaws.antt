@@ -1,0 +1,27 @@
+-- The start of a session, and its exits.
+use Rattle.std.specs.Prelude.{◌≡◌, ◌<◌, ◌≤◌, ℕ, ◌+◌, Bool, true, false, Option, List, [], ◌∷◌, ◌++◌, length, refl}
+use Rattle.std.proofs.Common.{sym, ◌∙◌, ap, subst}
+use Rattle.std.specs.Io.KnownBytes.{Appends, Consumes, Keeps, IsAtEnd}
+use Rattle.its_word.specs.declared.session.Place.TheVariants as places
+use Rattle.its_plain.specs.Machine.{Machine, no_machine}
+use Rattle.its_top.specs.declared.status.Status.{Status}
+use Rattle.its_top.specs.declared.turn.Turn.{Turn}
+use Rattle.its_top.specs.Telling.{Now, at_start, goes_on}
+use Rattle.its_top.specs.Answer.{block_of}
+use Rattle.its_top.specs.Conclusion.{Session, SoFar, Feeds, status_of}
+use Rattle.its_top.proofs.ConclusionLaws.{so_far_none, session_over}
+
+pub start_is : (m : Machine) → m ≡ no_machine → record { number = 1; machine = m; block = block_of 0; place = places.Plain } ≡ at_start
+start_is m e = ap (λ x. now_made x) e
+  where
+    now_made : Machine → Now
+    now_made x = record { number = 1; machine = x; block = block_of 0; place = places.Plain }
+
+-- nothing was read yet
+pub so_far_start : (kept : List ℕ) (now : Now) (left old : Option (List ℕ)) → kept ≡ [] → now ≡ at_start → SoFar kept now left left old old
+so_far_start kept now left old e f = subst (λ k. SoFar k now left left old old) (sym e) (subst (λ n. SoFar [] n left left old old) (sym f) (so_far_none left old))
+
+pub session_by : (st : Status) (t : Turn) (now next : Now) (kept after_them bytes : List ℕ) (left mid rest old now_out new : Option (List ℕ)) → st ≡ status_of t → goes_on t ≡ false
+    → SoFar kept now left mid old now_out → Consumes mid rest bytes → Feeds t now kept bytes next after_them now_out new → Session st left rest old new
+session_by st t now next kept after_them bytes left mid rest old now_out new e g s c f =
+    subst (λ x. Session x left rest old new) (sym e) (session_over t now next kept after_them bytes left mid rest old now_out new g s c f)
