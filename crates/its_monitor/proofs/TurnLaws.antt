@@ -1,5 +1,5 @@
 -- What a tick of a job does to the plain machine.
-use Rattle.std.specs.Prelude.{if◌then◌else◌, ◌≡◌, ◌≢◌, ◌==◌, ◌<◌, ◌^◌, ℕ, Bool, true, false, Option, Some, None, IfSome, slice_index_or, bit_or, refl}
+use Rattle.std.specs.Prelude.{if◌then◌else◌, ◌≡◌, ◌≢◌, ◌==◌, ◌<◌, ◌^◌, ◌⊎◌, ℕ, Bool, true, false, Option, Some, None, IfSome, slice_index_or, bit_or, refl}
 use Rattle.std.proofs.Common.{sym, ◌∙◌, ap, subst, arith, inl, inr}
 use Rattle.std.proofs.lemmas.Bool.{cases_Bool}
 use Rattle.std.proofs.lemmas.Bool.Decides.{nat_tests}
@@ -16,9 +16,12 @@ use Rattle.its_plain.specs.Interrupt.{Delivered, deliverable, delivered}
 use Rattle.its_plain.specs.Unit.{Outcome, Changed, Faulted, Called, unit}
 use Rattle.its_plain.specs.Step.{Taken, by_delivery, by_unit, informed, inform, after, step}
 use Rattle.its_plain.specs.Stepped.{tick}
+use Rattle.its_plain.specs.Transcript.{Licensed}
+use Rattle.its_plain.proofs.SteppedLaws.{tick_licensed}
+use Rattle.its_word.specs.declared.calls.Pace.{Pace}
 use Rattle.its_plain.proofs.UnitLaws.{never_called, unit_keeps}
 use Rattle.its_plain.proofs.DeliveryLaws.{delivered_placed}
-use Rattle.its_plain.proofs.TickLaws.{tick_step, tick_off, none_empty, none_stopped, step_delivery, step_unit}
+use Rattle.its_plain.proofs.TickLaws.{tick_letters, tick_step, tick_off, none_empty, none_stopped, step_delivery, step_unit}
 use Rattle.its_monitor.specs.declared.monitor.Monitor.{Monitor}
 use Rattle.its_monitor.specs.World.{whole_of, whole_at, machine_of, SoundSlot, Sound, Registers, Carries, StepMade}
 use Rattle.its_monitor.proofs.WorldLaws.{machine_changed, jobs_of, whole_some, whole_none}
@@ -146,3 +149,12 @@ delivered_pc w s j h sound = delivered_placed (core_at w.core s) j (placed_at w 
 pub delivery_sound : (w mid done : Monitor) (s : ℕ) (i j : Job) → job_at w.jobs s ≡ Some i → Carries w mid s → Registers mid done s j → j ≡ (delivered (core_at w.core s) i).job → Sound w → Sound done
 delivery_sound w mid done s i j h c r e sound =
     carried_sound w mid done s j c r (subst (λ k. k.pc < 2 ^ 18) (sym e) (delivered_pc w s i h sound)) sound
+
+-- each letter is licensed, and is `*` or `-`
+pub turn_licensed : (w new : Monitor) (s : ℕ) (p : Pace) → machine_of new ≡ (tick (machine_of w) s).machine → p ≡ (tick (machine_of w) s).pace
+    → (d : ℕ → ℕ) → Licensed (machine_of w) d s p (machine_of new)
+turn_licensed w new s p e f d =
+    subst (λ n. Licensed (machine_of w) d s p n) (sym e) (subst (λ q. Licensed (machine_of w) d s q (tick (machine_of w) s).machine) (sym f) (tick_licensed (machine_of w) d s))
+
+pub turn_letters : (w : Monitor) (s : ℕ) (p : Pace) → p ≡ (tick (machine_of w) s).pace → (p ≡ Step) ⊎ (p ≡ Off)
+turn_letters w s p f = subst (λ q. (q ≡ Step) ⊎ (q ≡ Off)) (sym f) (tick_letters (machine_of w) s)

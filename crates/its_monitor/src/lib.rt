@@ -2,6 +2,7 @@
 #![tactic(auto)]
 
 mod monitor;
+mod ticks;
 
 pub use its_word::{JobShow, NoMemory, Pace, Refusal};
 pub use monitor::Monitor;

@@ -39,7 +39,7 @@ impl Monitor {
     }
 
     /// The registers of a slot's job.
-    fn registers(&self, slot: u8) -> Result<Job, Refusal>
+    pub(super) fn registers(&self, slot: u8) -> Result<Job, Refusal>
         requires { slot < slots }
         ensures job { IfOk result (λ j. job_at self.now.jobs slot ≡ Some j) }
         ensures none { IfErr result (λ e. (e ≡ Refusal.NoJob) × (job_at self.now.jobs slot ≡ None)) }
@@ -48,7 +48,7 @@ impl Monitor {
     }
 
     /// Writes the registers of a slot's job.
-    fn put_registers(&mut self, slot: u8, job: Job)
+    pub(super) fn put_registers(&mut self, slot: u8, job: Job)
         requires slot { slot < slots }
         requires some { is_some (job_at self.old.jobs slot) ≡ true }
         ensures { Registers self.old self.new slot job }

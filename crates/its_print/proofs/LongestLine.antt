@@ -1,5 +1,5 @@
 -- How long lines are.
-use Rattle.std.proofs.Common.{◌≡◌, ◌≤◌, ◌+◌, ◌*◌, ◌==◌, ℕ, Bool, true, false, Option, Some, None, List, [], ◌∷◌, ◌++◌, length, map, refl, inl, inr, arith, IfSome}
+use Rattle.std.proofs.Common.{◌≡◌, ◌≤◌, ◌+◌, ◌*◌, ◌==◌, ℕ, Bool, true, false, Option, Some, None, List, [], ◌∷◌, length, map, refl, inl, inr, arith, IfSome}
 use Rattle.std.proofs.lemmas.Bool.{cases_Bool}
 use Rattle.std.proofs.lemmas.List.{length-append}
 use Rattle.std.specs.List.{AllByRecursion}
@@ -10,18 +10,9 @@ use Rattle.its_word.specs.declared.session.Reason.TheVariants as reasons
 use Rattle.its_word.specs.declared.show.PeekState.{PeekState}
 use Rattle.its_word.specs.declared.show.PeekState.TheVariants.{User, Entered, Parsed, Asked, Holding, Waiting, Moving, Ending}
 use Rattle.its_word.proofs.DigitLaws.{few_digits, few_for_count}
+use Rattle.its_word.proofs.SpacedLaws.{length_spaced, room_of}
 use Rattle.its_print.specs.Printing.{Line, Loaded, Ticks, Typed, Drained, Words, State, Peeked, Dir, Filed, Shown, Row, Refused, letter_of, run_of, runs_from, runs_of, word_or_dash, number_or_dash, run_or_stop, state_name, reason_name, first_of, fields_of, text_of_line}
 use Rattle.its_print.specs.Sizes.{Fits8, Fits32, IsPrinted}
-
--- how many bytes these words take, each with the space before it
-abbrev room_of : List (List ℕ) → ℕ
-room_of [] = 0
-room_of (w ∷ ws) = 1 + length w + room_of ws
-
-length-spaced : (first : List ℕ) (ws : List (List ℕ)) → length (spaced first ws) ≡ length first + room_of ws
-unfolding spaced
-length-spaced first [] = omega arith
-length-spaced first (w ∷ ws) = omega (arith, length-spaced (first ++ 32 ∷ w) ws, length-append first (32 ∷ w))
 
 length-octal12 : (w : ℕ) → length (octal12_of w) ≡ 12
 unfolding octal12_of
@@ -131,4 +122,4 @@ length-first (Refused n reason) = refl
 pub longest : (l : Line) → IsPrinted l → length (text_of_line l) ≤ 1543
 unfolding text_of_line
 longest l h =
-    omega (arith, length-append (spaced (first_of l) (fields_of l)) (10 ∷ []), length-spaced (first_of l) (fields_of l), room_of_fields l h, length-first l)
+    omega (arith, length-append (spaced (first_of l) (fields_of l)) (10 ∷ []), length_spaced (first_of l) (fields_of l), room_of_fields l h, length-first l)

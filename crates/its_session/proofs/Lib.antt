@@ -1,2 +1,6 @@
 pub mod WordsLaws
 pub mod RowLaws
+pub mod PutLaws
+pub mod LineLaws
+pub mod NameLaws
+pub mod RoundTrip

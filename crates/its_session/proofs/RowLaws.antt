@@ -1,10 +1,9 @@
 -- The words of a row, as many as there are.
 use denote.Ref.{Bor}
-use Rattle.std.proofs.Common.{◌≡◌, ◌<◌, ◌≤◌, ◌&&◌, ◌+◌, ◌-◌, ℕ, zero, suc, Bool, true, false, cond, Ok, Err, List, [], ◌∷◌, length, get_or, map, take, drop, refl, ap, nat_le, arith, inl, inr}
+use Rattle.std.proofs.Common.{◌≡◌, ◌<◌, ◌≤◌, ◌&&◌, ◌-◌, ℕ, zero, suc, true, false, Ok, Err, List, [], ◌∷◌, length, get_or, map, take, drop, refl, ap, nat_le, arith, inl, inr}
 use Rattle.std.specs.List.{list_all}
 use Rattle.std.proofs.lemmas.Bool.{cases_Bool}
 use Rattle.std.proofs.lemmas.List.{length-map, take_rest}
-use Rattle.std.proofs.lemmas.Bool.Decides.{nat_tests}
 use Rattle.its_word.specs.Text.{is_octal, octal_value}
 use Rattle.its_word.specs.declared.session.Bad.{Bad}
 use Rattle.its_word.specs.declared.session.Bad.TheVariants.{Syntax}
@@ -35,7 +34,7 @@ count_of_words ws = length-map ws (λ w. w.now)
 not_a_number : (w : List ℕ) (e : Bad) → number_in w ≡ Err e → (is_octal w ≡ false) × (e ≡ Syntax)
 not_a_number w e bad =
     elim (cases_Bool (is_octal w)) [
-      inl good ↦ (let other : Ok (octal_value w) ≡ Err e = rw good at bad in cc)
+      | inl good ↦ (let other : Ok (octal_value w) ≡ Err e = rw good at bad in cc)
       | inr none ↦ (none, (let same : Err Syntax ≡ Err e = rw none at bad in cc))
     ]
 
@@ -48,7 +47,7 @@ not_numbers (w ∷ ws) zero e below bad =
 not_numbers (w ∷ ws) (suc i) e below bad =
     let later = not_numbers ws i e (omega arith) bad in
     elim (cases_Bool (is_octal w.now)) [
-      inl good ↦ (rw (good, later.0) refl, later.1)
+      | inl good ↦ (rw (good, later.0) refl, later.1)
       | inr none ↦ (rw none refl, later.1)
     ]
 

@@ -1,6 +1,6 @@
 -- The words of a line, taken off one after another.
-use Rattle.std.proofs.Common.{◌≡◌, ◌≢◌, ◌<◌, ◌≤◌, ◌+◌, ◌-◌, ◌==◌, ℕ, suc, Bool, true, false, not, eqb, ltb, cond, Option, Some, None, List, [], ◌∷◌, ◌++◌, length, map, take, drop, refl, ap, sym, ◌∙◌, arith, position, filter, inl, inr, append_assoc}
-use Rattle.std.specs.List.{slice_split, position_or_len, before_first, after_first}
+use Rattle.std.proofs.Common.{◌≡◌, ◌<◌, ◌≤◌, ◌+◌, ◌-◌, ◌==◌, ℕ, suc, Bool, false, not, ltb, Some, None, List, [], ◌∷◌, ◌++◌, length, take, drop, refl, arith, position, filter, inl, inr}
+use Rattle.std.specs.List.{slice_split, position_or_len}
 use Rattle.std.proofs.lemmas.Bool.{cases_Bool, ltb-true, ltb-false}
 use Rattle.std.proofs.lemmas.Bool.Decides.{nat_tests}
 use Rattle.std.proofs.lemmas.List.Splits.{slice_split_first, slice_split_none}
@@ -13,14 +13,14 @@ use Rattle.its_session.specs.Reading.{word_in}
 position_is : {X : Type 0} (p : X → Bool) (xs : List X) (k : ℕ) → position p xs ≡ Some k → (position_or_len p xs < length xs) × (position_or_len p xs ≡ k)
 position_is p xs k found =
     elim (cases_Bool (ltb (position_or_len p xs) (length xs))) [
-      inl some ↦ (ltb-true _ _ some, (let e : Some (position_or_len p xs) ≡ Some k = rw some at found in cc))
+      | inl some ↦ (ltb-true _ _ some, (let e : Some (position_or_len p xs) ≡ Some k = rw some at found in cc))
       | inr none ↦ (let e : None ≡ Some k = rw none at found in cc)
     ]
 
 position_none : {X : Type 0} (p : X → Bool) (xs : List X) → position p xs ≡ None → length xs ≤ position_or_len p xs
 position_none p xs none =
     elim (cases_Bool (ltb (position_or_len p xs) (length xs))) [
-      inl some ↦ (let e : Some (position_or_len p xs) ≡ None = rw some at none in cc)
+      | inl some ↦ (let e : Some (position_or_len p xs) ≡ None = rw some at none in cc)
       | inr past ↦ ltb-false _ _ past
     ]
 

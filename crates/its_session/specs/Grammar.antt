@@ -27,9 +27,9 @@ pub record Field : Type 0 where
 abbrev pub with_fields : {A : Type 0} → List Field → A → Result A Bad
 with_fields fields x =
     if list_all (λ f. f.formed) fields then
-      (if list_all (λ f. f.ranged) fields then
-        (if list_all (λ f. f.console) fields then Ok x else Err NoConsole)
-      else Err Range)
+    (if list_all (λ f. f.ranged) fields then
+    (if list_all (λ f. f.console) fields then Ok x else Err NoConsole)
+    else Err Range)
     else Err Syntax
 
 -- any number
@@ -248,5 +248,5 @@ event_of_words place (first ∷ ws) = if is_comment first then Ok events.Nothing
 unfoldable pub line_event : Place → List ℕ → Result Event Bad
 line_event place line =
     if nat_le (length line) 255 then
-      (if list_all (is_code 32 126) line then event_of_words place (words_of line) else Err Syntax)
+    (if list_all (is_code 32 126) line then event_of_words place (words_of line) else Err Syntax)
     else Err Long

@@ -2,3 +2,4 @@ pub mod Grammar
 pub mod Fits
 pub mod Events
 pub mod Reading
+pub mod Writing

@@ -29,16 +29,16 @@ console_at n = if nat_le n 7 then Ok n else Err NoConsole
 abbrev pub numbers_in : List (List ℕ) → Result (ArrayVec ℕ) Bad
 numbers_in ws =
     if nat_le 1 (length ws) && nat_le (length ws) 16 then
-      (if list_all is_octal ws then Ok (record { items = map octal_value ws }) else Err Syntax)
+    (if list_all is_octal ws then Ok (record { items = map octal_value ws }) else Err Syntax)
     else Err Syntax
 
 -- the numbers of 1 to 32 words, which must be bytes of 7 bits
 abbrev pub bytes_in : List (List ℕ) → Result (ArrayVec ℕ) Bad
 bytes_in ws =
     if nat_le 1 (length ws) && nat_le (length ws) 32 then
-      (if list_all is_octal ws then
-        (if list_all (λ w. nat_le (octal_value w) 127) ws then Ok (record { items = map octal_value ws }) else Err Range)
-      else Err Syntax)
+    (if list_all is_octal ws then
+    (if list_all (λ w. nat_le (octal_value w) 127) ws then Ok (record { items = map octal_value ws }) else Err Range)
+    else Err Syntax)
     else Err Syntax
 
 -- a console, or `-` for none

@@ -4,8 +4,13 @@
 
 mod fields;
 mod kind;
+mod print;
+mod put;
 mod read;
 mod rows;
+#[cfg(test)]
+mod tests;
 mod words;
 
+pub use print::print_event;
 pub use read::read_line;

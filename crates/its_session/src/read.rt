@@ -4,11 +4,10 @@ ghost use Rattle.std.specs.List.{list_all};
 ghost use Rattle.its_word.specs.Text.{is_code};
 ghost use Rattle.its_session.specs.Grammar.{event_of_words, is_comment, line_event, line_of_kind};
 
-use its_word::{Bad, Event, Place};
-
 use super::kind::{Kind, before_slash, kind_of, may_stand};
 use super::rows;
 use super::words::words;
+use its_word::{Bad, Event, Place};
 
 /// The event of a line (without its LF) at a place, or the first reason why it is none: `Long` for more
 /// than 255 bytes, `Syntax` for a line that may not stand there, `Range` for a number outside its

@@ -3,9 +3,8 @@ ghost use Rattle.std.specs.Prelude.{◌≡◌, if◌then◌else◌, map};
 ghost use Rattle.its_session.specs.Grammar.{append_line, bare_line, clock_line, console_of, is_dash, deposit_line, dir_line, drain_line, exam_line, file_line, go_line, int_line, load_line, show_line, slot_line, tick_line, type_line, words_line};
 ghost use Rattle.its_session.specs.Reading.{console_in};
 
-use its_word::{Bad, Event};
-
 use super::fields::{at_most, bytes, console, count, name, number, numbers, slot};
+use its_word::{Bad, Event};
 
 /// `LOAD u j c`
 #[tactic(auto, using(crate::proofs::RowLaws::three_words), unfolding(crate::specs::Grammar::load_line))]

@@ -4,4 +4,6 @@ pub mod ByteLaws
 pub mod ConclusionLaws
 pub mod AnswerLaws
 pub mod ExamLaws
+pub mod PaceLaws
+pub mod LoadingLaws
 pub mod WritingLaws

@@ -3,7 +3,9 @@ use Rattle.std.specs.Prelude.{◌≡◌, ◌<◌, ◌+◌, ◌-◌, ℕ, Bool, t
 use Rattle.std.specs.Io.KnownBytes.{Appends}
 use Rattle.its_word.specs.declared.session.Event.{Event}
 use Rattle.its_word.specs.declared.session.Place.{Place}
+use Rattle.its_word.specs.declared.calls.Pace.{Pace}
 use Rattle.its_plain.specs.Machine.{Machine}
+use Rattle.its_plain.specs.Stepped.{paces_of, ticked}
 use Rattle.its_word.specs.declared.session.Reason.{Reason}
 use Rattle.its_plain.specs.Operator.{Block, examined}
 use Rattle.its_monitor.specs.declared.monitor.Monitor.{Monitor}
@@ -58,3 +60,8 @@ behind ws (Err r) = Err r
 pub record ExamSo (m : Machine) (s a n k : ℕ) (ws : List ℕ) : Type 0 where
   pub whole : examined m s a n ≡ behind ws (examined m s (a + k) (n - k))
   pub there : 0 < k → is_some (m.jobs s) ≡ true
+
+-- k of n ticks of a slot were made
+pub record PacesSo (m now : Machine) (s n k : ℕ) (ps : List Pace) : Type 0 where
+  pub letters : ps ++ paces_of now s (n - k) ≡ paces_of m s n
+  pub machine : ticked now s (n - k) ≡ ticked m s n

@@ -3,6 +3,7 @@ ghost use Rattle.its_io.specs.Bytes.{Rose};
 ghost use Rattle.its_word.specs.Limits.{slots};
 ghost use Rattle.its_session.specs.Fits.{EventFits};
 ghost use Rattle.its_plain.specs.Operator.{words_loaded, examined};
+ghost use Rattle.its_plain.specs.Stepped.{paces_of, ticked};
 ghost use Rattle.its_monitor.specs.World.{machine_of, Sound, reason_of};
 ghost use Rattle.its_top.specs.Answer.{Answered, block_of};
 
@@ -13,7 +14,7 @@ use arrayvec::ArrayVec;
 use its_io::Sink;
 use its_monitor::Monitor;
 use its_print::{print_loaded, print_state, print_ticks, print_words};
-use its_word::{Event, Reason, Refusal, Word};
+use its_word::{Event, Pace, Reason, Refusal, Word};
 
 /// LOAD: makes a job, and shows its slot, which is then the block's.
 #[tactic(auto, using(crate::proofs::AnswerLaws::load_answered, crate::proofs::AnswerLaws::load_refused))]
@@ -101,5 +102,118 @@ fn examine<K: Sink>(m: &mut Monitor, p: Progress, s: u8, a: u32, n: u32, out: &m
             tell(out, &line, Turn::On)
         }
         Err(e) => refuse_by(out, p.number, e),
+    }
+}
+
+/// Loads the words of an a/ line, in order.
+#[tactic(auto, using(crate::proofs::LoadingLaws::loading_next, crate::proofs::LoadingLaws::loading_fails))]
+fn load_words(m: &mut Monitor, slot: u8, a: u32, words: &[Word]) -> Result<(), Refusal>
+    requires sound { Sound m.old }
+    requires slot { slot < slots }
+    requires end { a + length words.now ≤ 2 ^ 18 }
+    ensures done { OnOk result (words_loaded (machine_of m.old) slot a words.now ≡ Ok (machine_of m.new)) }
+    ensures refused { IfErr result (λ e. words_loaded (machine_of m.old) slot a words.now ≡ Err (reason_of e)) }
+    ensures sound { Sound m.new }
+{
+    let mut at = a;
+    for w in words {
+        match m.load_word(slot, at, *w) {
+            Ok(()) => {}
+            Err(e) => return Err(e),
+        }
+        at += 1;
+    }
+    Ok(())
+}
+
+/// TICK: ticks a slot n times, and shows the letters.
+#[tactic(auto, using(crate::proofs::AnswerLaws::ticks_answered, crate::proofs::WritingLaws::told_as))]
+fn ticks<K: Sink>(m: &mut Monitor, p: Progress, s: u8, n: u32, out: &mut K) -> Turn
+    requires sound { Sound m.old }
+    requires slot { s < slots }
+    requires few { n ≤ 512 }
+    ensures answered { Answered result p.number (machine_of m.old) (block_of p.slot) (Event.Tick s n) (machine_of m.new) (block_of p.slot) (K.written out.old) (K.written out.new) }
+    ensures sound { Sound m.new }
+    ensures later { K.faults out.old ≤ K.faults out.new }
+    ensures fault { result ≡ Turn.Fault → Rose (K.faults out.old) (K.faults out.new) }
+{
+    let paces = paces_of(m, s, n);
+    let mut line = ArrayVec::new();
+    print_ticks(s, &paces, &mut line);
+    tell(out, &line, Turn::On)
+}
+
+/// The letters of n ticks of a slot.
+#[tactic(auto, using(crate::proofs::PaceLaws::pacing_start, crate::proofs::PaceLaws::pacing_next, crate::proofs::PaceLaws::pacing_end))]
+fn paces_of(m: &mut Monitor, s: u8, n: u32) -> ArrayVec<Pace, 512>
+    requires sound { Sound m.old }
+    requires slot { s < slots }
+    requires few { n ≤ 512 }
+    ensures paces { result.items ≡ paces_of (machine_of m.old) s n }
+    ensures count { length result.items ≡ n }
+    ensures machine { machine_of m.new ≡ ticked (machine_of m.old) s n }
+    ensures sound { Sound m.new }
+{
+    let mut paces = ArrayVec::new();
+    for _k in 0..n {
+        paces.push(m.tick(s));
+    }
+    paces
+}
+
+/// The answer to an event: what it does to the monitor and to the block, and what it shows.
+#[tactic(auto, using(crate::proofs::AnswerLaws::nothing_answered, crate::proofs::AnswerLaws::end_answered, crate::proofs::AnswerLaws::unbuilt_answered, crate::proofs::AnswerLaws::go_answered, crate::proofs::AnswerLaws::words_answered, crate::proofs::AnswerLaws::int_answered, crate::proofs::AnswerLaws::deposit_answered, crate::proofs::AnswerLaws::stop_answered, crate::proofs::AnswerLaws::cont_answered))]
+pub fn answer<K: Sink>(m: &mut Monitor, p: &mut Progress, event: &Event, out: &mut K) -> Turn
+    requires sound { Sound m.old }
+    requires slot { p.old.slot < slots }
+    requires fits { EventFits event.now }
+    ensures answered { Answered result p.old.number (machine_of m.old) (block_of p.old.slot) event.now (machine_of m.new) (block_of p.new.slot) (K.written out.old) (K.written out.new) }
+    ensures sound { Sound m.new }
+    ensures slot { p.new.slot < slots }
+    ensures kept { (p.new.number ≡ p.old.number) × (p.new.place ≡ p.old.place) }
+    ensures later { K.faults out.old ≤ K.faults out.new }
+    ensures fault { result ≡ Turn.Fault → Rose (K.faults out.old) (K.faults out.new) }
+{
+    let (number, block) = (p.number, p.slot);
+    match event {
+        Event::Nothing => Turn::On,
+        Event::Load { u, j, console } => load(m, p, *u, *j, *console, out),
+        Event::Words { a, words } => {
+            let loaded = load_words(m, block, *a, words);
+            settle(out, number, loaded)
+        }
+        Event::Go { a } => {
+            let started = m.go(block, *a);
+            settle(out, number, started)
+        }
+        Event::Tick { s, n } => ticks(m, *p, *s, *n, out),
+        Event::Int { s, v, w } => {
+            let interrupted = m.interrupt(*s, *v, *w);
+            settle(out, number, interrupted)
+        }
+        Event::Exam { s, a, n } => examine(m, *p, *s, *a, *n, out),
+        Event::State { s } => state(m, *p, *s, out),
+        Event::Deposit { s, a, w } => {
+            let deposited = m.deposit(*s, *a, *w);
+            settle(out, number, deposited)
+        }
+        Event::Stop { s } => {
+            let stopped = m.stop(*s);
+            settle(out, number, stopped)
+        }
+        Event::Cont { s } => {
+            let continued = m.cont(*s);
+            settle(out, number, continued)
+        }
+        Event::End => Turn::Ended,
+        Event::File { .. }
+        | Event::Append { .. }
+        | Event::EndFile
+        | Event::TypeIn { .. }
+        | Event::Drain { .. }
+        | Event::Clock { .. }
+        | Event::Peek { .. }
+        | Event::Dir { .. }
+        | Event::Show { .. } => refuse(out, number, Reason::Unbuilt),
     }
 }

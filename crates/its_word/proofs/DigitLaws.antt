@@ -1,12 +1,12 @@
 -- The digits of a number without leading zeros, and what reading them gives.
-use Rattle.std.proofs.Common.{◌≡◌, ◌<◌, ◌≤◌, ◌+◌, ◌*◌, ◌%◌, ◌/◌, ◌-◌, ◌^◌, ℕ, List, [], ◌∷◌, ◌++◌, Bool, true, false, length, map, arith, refl, zero, suc, ap, sym, ◌∙◌, inl, inr}
+use Rattle.std.proofs.Common.{◌≡◌, ◌<◌, ◌≤◌, ◌+◌, ◌*◌, ◌%◌, ◌/◌, ◌-◌, ◌^◌, ℕ, List, [], ◌∷◌, ◌++◌, true, length, map, arith, refl, zero, suc, ap, sym, ◌∙◌, inl, inr}
 use Rattle.std.proofs.lemmas.Bool.{cases_lt, lt-ltb, le-ltb}
 use Rattle.std.proofs.lemmas.Bool.Decides.{nat_tests}
 use Rattle.std.proofs.lemmas.List.{map-append, length-map, length-append}
 use Rattle.std.proofs.lemmas.Int.Digits.{digits_of_step, length-digits_of-le, all_below_base_digits_of, number_digits_of}
 use Rattle.std.specs.Int.Digits as base
 use Rattle.std.specs.List.{list_all, fold}
-use Rattle.its_word.specs.Text.{digits_of, is_code, is_octal, is_text, number_of, octal_value}
+use Rattle.its_word.specs.Text.{digits_of, is_code, is_octal, octal_value}
 
 pub digits_below_8 : (n : ℕ) → n < 8 → digits_of n ≡ (48 + n) ∷ []
 unfolding digits_of
@@ -20,11 +20,11 @@ digits_above_7 n large = rw (le-ltb n 8 large) refl
 digits_above_0 : (n : ℕ) → 0 < n → digits_of n ≡ map (λ d. 48 + d) (base.digits_of 8 n)
 digits_above_0 n some =
     elim (cases_lt n 8) [
-      inl small ↦
-        (let step : base.digits_of 8 n ≡ base.digits_of 8 (n / 8) ++ n % 8 ∷ [] = digits_of_step 8 n (omega arith) some in
-        let none : n / 8 ≡ 0 = omega arith in
-        let rest : n % 8 ≡ n = omega arith in
-        digits_below_8 n small ∙ sym (rw (step, none, rest) refl))
+      | inl small ↦
+          (let step : base.digits_of 8 n ≡ base.digits_of 8 (n / 8) ++ n % 8 ∷ [] = digits_of_step 8 n (omega arith) some in
+          let none : n / 8 ≡ 0 = omega arith in
+          let rest : n % 8 ≡ n = omega arith in
+          digits_below_8 n small ∙ sym (rw (step, none, rest) refl))
       | inr large ↦ digits_above_7 n large
     ]
 
@@ -37,14 +37,14 @@ digits_from_8 n large =
 pub few_digits : (k n : ℕ) → 1 ≤ k → n < 8 ^ k → length (digits_of n) ≤ k
 few_digits k n some below =
     elim (cases_lt n 8) [
-      inl small ↦ rw (digits_below_8 n small) some
+      | inl small ↦ rw (digits_below_8 n small) some
       | inr large ↦ rw (digits_above_7 n large, length-map) (length-digits_of-le 8 k n (omega arith) below)
     ]
 
 pub some_digits : (n : ℕ) → 1 ≤ length (digits_of n)
 some_digits n =
     elim (cases_lt n 8) [
-      inl small ↦ rw (digits_below_8 n small) (omega arith)
+      | inl small ↦ rw (digits_below_8 n small) (omega arith)
       | inr large ↦ rw (digits_from_8 n large) (omega (arith, length-append (digits_of (n / 8)) ((48 + n % 8) ∷ [])))
     ]
 
@@ -53,10 +53,10 @@ few_by_fuel : (f n : ℕ) → n ≤ f → 1 ≤ n → length (digits_of n) ≤ n
 few_by_fuel zero n h some = absurd (omega arith)
 few_by_fuel (suc f) n h some =
     elim (cases_lt n 8) [
-      inl small ↦ rw (digits_below_8 n small) some
+      | inl small ↦ rw (digits_below_8 n small) some
       | inr large ↦
-        (let less : length (digits_of (n / 8)) ≤ n / 8 = few_by_fuel f (n / 8) (omega arith) (omega arith) in
-        rw (digits_from_8 n large) (omega (arith, length-append (digits_of (n / 8)) ((48 + n % 8) ∷ []))))
+          (let less : length (digits_of (n / 8)) ≤ n / 8 = few_by_fuel f (n / 8) (omega arith) (omega arith) in
+          rw (digits_from_8 n large) (omega (arith, length-append (digits_of (n / 8)) ((48 + n % 8) ∷ []))))
     ]
 
 pub few_for_count : (n : ℕ) → 1 ≤ n → length (digits_of n) ≤ n
@@ -79,10 +79,11 @@ value_of_digits n (d ∷ ds) =
     let same : 48 + d - 48 ≡ d = omega arith in
     ap (λ k. fold (λ m c. m * 8 + (c - 48)) (n * 8 + k) (map (λ j. 48 + j) ds)) same ∙ value_of_digits (n * 8 + d) ds
 
-digits_are_codes : (n : ℕ) → list_all (is_code 48 55) (digits_of n) ≡ true
+-- the digits are from 0 to 7
+pub digits_are_codes : (n : ℕ) → list_all (is_code 48 55) (digits_of n) ≡ true
 digits_are_codes n =
     elim (cases_lt n 8) [
-      inl small ↦ rw (digits_below_8 n small, is_digit n small) refl
+      | inl small ↦ rw (digits_below_8 n small, is_digit n small) refl
       | inr large ↦ rw (digits_above_7 n large) (codes_of_digits (base.digits_of 8 n) (all_below_base_digits_of 8 n (omega arith)))
     ]
 
@@ -91,7 +92,7 @@ pub digits_value : (n : ℕ) → octal_value (digits_of n) ≡ n
 unfolding octal_value
 digits_value n =
     elim (cases_lt n 8) [
-      inl small ↦ rw (digits_below_8 n small) (omega arith)
+      | inl small ↦ rw (digits_below_8 n small) (omega arith)
       | inr large ↦ rw (digits_above_7 n large) (value_of_digits 0 (base.digits_of 8 n) ∙ number_digits_of 8 n (omega arith))
     ]
 

@@ -1,5 +1,6 @@
 ghost use Rattle.std.specs.Prelude.{◌≡◌, None};
 ghost use Rattle.its_word.specs.declared.calls.Owed.TheVariants.{GiveBack};
+ghost use Rattle.its_word.specs.declared.calls.Pace.TheVariants.{Off};
 
 use super::word::Word;
 use arrayvec::ArrayVec;
@@ -88,4 +89,12 @@ pub enum Pace {
     Work,
     Wait,
     Off,
+}
+
+impl Default for Pace {
+    ghost is_default = { λ p. p ≡ Off };
+
+    fn default() -> Pace {
+        Pace::Off
+    }
 }

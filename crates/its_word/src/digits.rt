@@ -10,14 +10,7 @@ pub fn octal6(a: u32) -> [u8; 6]
     ensures { result ≡ octal6_of a }
 {
     let digit = |k: u32| b'0' + ((a >> k) % 8) as u8;
-    [
-        digit(15),
-        digit(12),
-        digit(9),
-        digit(6),
-        digit(3),
-        digit(0),
-    ]
+    [digit(15), digit(12), digit(9), digit(6), digit(3), digit(0)]
 }
 
 /// A number's octal digits, as ASCII, without leading zeros.
@@ -25,11 +18,7 @@ pub fn octal6(a: u32) -> [u8; 6]
 pub fn octal(n: u64) -> ArrayVec<u8, 22>
     ensures { result.items ≡ digits_of n }
 {
-    let mut digits = if n < 8 {
-        ArrayVec::new()
-    } else {
-        octal(n / 8)
-    };
+    let mut digits = if n < 8 { ArrayVec::new() } else { octal(n / 8) };
     digits.push(b'0' + (n % 8) as u8);
     digits
 }
@@ -38,5 +27,4 @@ pub fn octal(n: u64) -> ArrayVec<u8, 22>
 #[tactic(auto, using(crate::proofs::DigitLaws::digits_are_octal, crate::proofs::DigitLaws::digits_value))]
 pub fn digits_read_back()
     ensures { (n : ℕ) → n < 2 ^ 36 → IsTrue (is_octal (digits_of n)) × (octal_value (digits_of n) ≡ n) }
-{
-}
+{}

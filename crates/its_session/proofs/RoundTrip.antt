@@ -1,0 +1,366 @@
+-- The line that is written for an event is read as that event.
+use Rattle.std.proofs.Common.{◌≡◌, ◌<◌, ◌≤◌, ◌+◌, ◌-◌, ◌*◌, ◌^◌, ◌==◌, ℕ, suc, true, false, leb, Option, Some, None, Ok, List, [], ◌∷◌, ◌++◌, length, map, get_or, refl, ◌∙◌, arith, codes, lit≤, IfSome, All, bytes_eq}
+use Rattle.std.specs.List.{list_all}
+use Rattle.std.proofs.lemmas.Bool.{le-leb}
+use Rattle.std.proofs.lemmas.Bool.Decides.{nat_tests}
+use Rattle.std.proofs.lemmas.List.{get_or_push, length-append, length-map}
+use Rattle.std.proofs.lemmas.List.Folds.{list_all-append}
+use Rattle.std.proofs.Math.Seq.{take-append_seam}
+use Rattle.its_word.specs.Text.{digits_of, is_code, is_octal, octal_value, spaced}
+use Rattle.its_word.specs.declared.session.Event.{Event}
+use Rattle.its_word.specs.declared.session.Event.TheVariants as events
+use Rattle.its_word.specs.declared.session.Place.{Place}
+use Rattle.its_word.specs.declared.session.Place.TheVariants as places
+use Rattle.its_word.proofs.DigitLaws.{digits_are_codes, digits_are_octal, digits_value, few_digits, some_digits}
+use Rattle.its_word.proofs.SpacedLaws.{room_of}
+use Rattle.its_session.specs.declared.kind.Kind.TheVariants as kinds
+use Rattle.its_session.specs.Grammar.{append_line, bare_line, before_slash, clock_line, deposit_line, dir_line, drain_line, event_of_words, exam_line, file_line, go_line, int_line, is_comment, is_place, kind_of, line_event, load_line, show_line, slot_line, tick_line, type_line, words_line, words_of}
+use Rattle.its_session.specs.Fits.{EventFits, IsNameWord, place_of}
+use Rattle.its_session.specs.Writing.{AreWords, HasWords, console_text, name_of, text_of_event}
+use Rattle.its_session.proofs.LineLaws.{AllRuns, IsRun, line_of_words}
+use Rattle.its_session.proofs.NameLaws.{both, name_reads}
+use Rattle.its_session.proofs.RowLaws.{bytes_consoles, bytes_formed, bytes_ranged, numbers_consoles, numbers_formed, numbers_ranged}
+
+-- what the digits of a number say
+record IsNumber (n : ℕ) : Type 0 where
+  pub formed : is_octal (digits_of n) ≡ true
+  pub run : IsRun (digits_of n)
+  pub short : length (digits_of n) ≤ 12
+
+digit_visible : (c : ℕ) → is_code 48 55 c ≡ true → is_code 33 126 c ≡ true
+digit_visible c h = grind (arith, nat_tests)
+
+digits_visible : (ds : List ℕ) → list_all (is_code 48 55) ds ≡ true → list_all (is_code 33 126) ds ≡ true
+digits_visible [] h = refl
+digits_visible (d ∷ ds) h =
+    let parts = both (is_code 48 55 d) (list_all (is_code 48 55) ds) h in
+    rw (digit_visible d parts.0, digits_visible ds parts.1) refl
+
+number_reads : (n : ℕ) → n < 2 ^ 36 → IsNumber n
+number_reads n below = record {
+  formed = digits_are_octal n below;
+  run = record { some = some_digits n; visible = digits_visible (digits_of n) (digits_are_codes n) };
+  short = few_digits 12 n (omega arith) (omega arith);
+}
+
+some_from_test : (n : ℕ) → leb 1 n ≡ true → 1 ≤ n
+some_from_test n h = grind (arith, nat_tests)
+
+-- a word that is written out
+word : (w : List ℕ) → leb 1 (length w) ≡ true → list_all (is_code 33 126) w ≡ true → IsRun w
+word w some visible = record { some = some_from_test (length w) some; visible = visible }
+
+nothing_again : (place : Place) → line_event place [] ≡ Ok events.Nothing
+unfolding line_event words_of event_of_words
+nothing_again place = refl
+
+go_again : (a : ℕ) → a < 2 ^ 18 → line_event places.Load (spaced (codes "GO") (digits_of a ∷ [])) ≡ Ok (events.Go a)
+unfolding event_of_words kind_of go_line
+go_again a below =
+    let read_a = number_reads a (omega arith) in
+    line_of_words places.Load (codes "GO") (digits_of a ∷ []) (word (codes "GO") refl refl) (read_a.run, tt) (omega (arith, read_a.short))
+    ∙ rw (read_a.formed, digits_value a) (grind (arith, nat_tests))
+
+tick_again : (s n : ℕ) → s ≤ 63 → 1 ≤ n → n ≤ 512 → line_event places.Plain (spaced (codes "TICK") (digits_of s ∷ digits_of n ∷ [])) ≡ Ok (events.Tick s n)
+unfolding event_of_words kind_of tick_line
+tick_again s n slot some few =
+    let read_s = number_reads s (omega arith) in
+    let read_n = number_reads n (omega arith) in
+    line_of_words places.Plain (codes "TICK") (digits_of s ∷ digits_of n ∷ []) (word (codes "TICK") refl refl) (read_s.run, (read_n.run, tt)) (omega (arith, read_s.short, read_n.short))
+    ∙ rw (read_s.formed, read_n.formed, digits_value s, digits_value n) (grind (arith, nat_tests))
+
+drain_again : (c n : ℕ) → c ≤ 7 → 1 ≤ n → n ≤ 64 → line_event places.Plain (spaced (codes "DRAIN") (digits_of c ∷ digits_of n ∷ [])) ≡ Ok (events.Drain c n)
+unfolding event_of_words kind_of drain_line
+drain_again c n console some few =
+    let read_c = number_reads c (omega arith) in
+    let read_n = number_reads n (omega arith) in
+    line_of_words places.Plain (codes "DRAIN") (digits_of c ∷ digits_of n ∷ []) (word (codes "DRAIN") refl refl) (read_c.run, (read_n.run, tt)) (omega (arith, read_c.short, read_n.short))
+    ∙ rw (read_c.formed, read_n.formed, digits_value c, digits_value n) (grind (arith, nat_tests))
+
+clock_again : (n : ℕ) → n < 2 ^ 36 → line_event places.Plain (spaced (codes "CLOCK") (digits_of n ∷ [])) ≡ Ok (events.Clock n)
+unfolding event_of_words kind_of clock_line
+clock_again n below =
+    let read_n = number_reads n (omega arith) in
+    line_of_words places.Plain (codes "CLOCK") (digits_of n ∷ []) (word (codes "CLOCK") refl refl) (read_n.run, tt) (omega (arith, read_n.short))
+    ∙ rw (read_n.formed, digits_value n) (grind (arith, nat_tests))
+
+int_again : (s v w : ℕ) → s ≤ 63 → v < 2 ^ 36 → w < 2 ^ 36 → line_event places.Plain (spaced (codes "INT") (digits_of s ∷ digits_of v ∷ digits_of w ∷ [])) ≡ Ok (events.Int s v w)
+unfolding event_of_words kind_of int_line
+int_again s v w slot word_v word_w =
+    let read_s = number_reads s (omega arith) in
+    let read_v = number_reads v (omega arith) in
+    let read_w = number_reads w (omega arith) in
+    line_of_words places.Plain (codes "INT") (digits_of s ∷ digits_of v ∷ digits_of w ∷ []) (word (codes "INT") refl refl) (read_s.run, (read_v.run, (read_w.run, tt))) (omega (arith, read_s.short, read_v.short, read_w.short))
+    ∙ rw (read_s.formed, read_v.formed, read_w.formed, digits_value s, digits_value v, digits_value w) (grind (arith, nat_tests))
+
+exam_again : (s a n : ℕ) → s ≤ 63 → 1 ≤ n → n ≤ 8 → a + n ≤ 2 ^ 18 → line_event places.Plain (spaced (codes "EXAM") (digits_of s ∷ digits_of a ∷ digits_of n ∷ [])) ≡ Ok (events.Exam s a n)
+unfolding event_of_words kind_of exam_line
+exam_again s a n slot some few within =
+    let read_s = number_reads s (omega arith) in
+    let read_a = number_reads a (omega arith) in
+    let read_n = number_reads n (omega arith) in
+    line_of_words places.Plain (codes "EXAM") (digits_of s ∷ digits_of a ∷ digits_of n ∷ []) (word (codes "EXAM") refl refl) (read_s.run, (read_a.run, (read_n.run, tt))) (omega (arith, read_s.short, read_a.short, read_n.short))
+    ∙ rw (read_s.formed, read_a.formed, read_n.formed, digits_value s, digits_value a, digits_value n) (grind (arith, nat_tests))
+
+deposit_again : (s a w : ℕ) → s ≤ 63 → a < 2 ^ 18 → w < 2 ^ 36 → line_event places.Plain (spaced (codes "DEPOSIT") (digits_of s ∷ digits_of a ∷ digits_of w ∷ [])) ≡ Ok (events.Deposit s a w)
+unfolding event_of_words kind_of deposit_line
+deposit_again s a w slot below word_w =
+    let read_s = number_reads s (omega arith) in
+    let read_a = number_reads a (omega arith) in
+    let read_w = number_reads w (omega arith) in
+    line_of_words places.Plain (codes "DEPOSIT") (digits_of s ∷ digits_of a ∷ digits_of w ∷ []) (word (codes "DEPOSIT") refl refl) (read_s.run, (read_a.run, (read_w.run, tt))) (omega (arith, read_s.short, read_a.short, read_w.short))
+    ∙ rw (read_s.formed, read_a.formed, read_w.formed, digits_value s, digits_value a, digits_value w) (grind (arith, nat_tests))
+
+state_again : (s : ℕ) → s ≤ 63 → line_event places.Plain (spaced (codes "STATE") (digits_of s ∷ [])) ≡ Ok (events.State s)
+unfolding event_of_words kind_of slot_line
+state_again s slot =
+    let read_s = number_reads s (omega arith) in
+    line_of_words places.Plain (codes "STATE") (digits_of s ∷ []) (word (codes "STATE") refl refl) (read_s.run, tt) (omega (arith, read_s.short))
+    ∙ rw (read_s.formed, digits_value s) (grind (arith, nat_tests))
+
+stop_again : (s : ℕ) → s ≤ 63 → line_event places.Plain (spaced (codes "STOP") (digits_of s ∷ [])) ≡ Ok (events.Stop s)
+unfolding event_of_words kind_of slot_line
+stop_again s slot =
+    let read_s = number_reads s (omega arith) in
+    line_of_words places.Plain (codes "STOP") (digits_of s ∷ []) (word (codes "STOP") refl refl) (read_s.run, tt) (omega (arith, read_s.short))
+    ∙ rw (read_s.formed, digits_value s) (grind (arith, nat_tests))
+
+cont_again : (s : ℕ) → s ≤ 63 → line_event places.Plain (spaced (codes "CONT") (digits_of s ∷ [])) ≡ Ok (events.Cont s)
+unfolding event_of_words kind_of slot_line
+cont_again s slot =
+    let read_s = number_reads s (omega arith) in
+    line_of_words places.Plain (codes "CONT") (digits_of s ∷ []) (word (codes "CONT") refl refl) (read_s.run, tt) (omega (arith, read_s.short))
+    ∙ rw (read_s.formed, digits_value s) (grind (arith, nat_tests))
+
+peek_again : (s : ℕ) → s ≤ 63 → line_event places.Plain (spaced (codes "PEEK") (digits_of s ∷ [])) ≡ Ok (events.Peek s)
+unfolding event_of_words kind_of slot_line
+peek_again s slot =
+    let read_s = number_reads s (omega arith) in
+    line_of_words places.Plain (codes "PEEK") (digits_of s ∷ []) (word (codes "PEEK") refl refl) (read_s.run, tt) (omega (arith, read_s.short))
+    ∙ rw (read_s.formed, digits_value s) (grind (arith, nat_tests))
+
+file_again : (d x y : ℕ) → IsNameWord d → IsNameWord x → IsNameWord y → line_event places.Plain (spaced (codes "FILE") (name_of d ∷ name_of x ∷ name_of y ∷ [])) ≡ Ok (events.File d x y)
+unfolding event_of_words kind_of file_line
+file_again d x y named_d named_x named_y =
+    let read_d = name_reads d named_d in
+    let read_x = name_reads x named_x in
+    let read_y = name_reads y named_y in
+    line_of_words places.Plain (codes "FILE") (name_of d ∷ name_of x ∷ name_of y ∷ []) (word (codes "FILE") refl refl) (read_d.run, (read_x.run, (read_y.run, tt))) (omega (arith, read_d.short, read_x.short, read_y.short))
+    ∙ rw (read_d.formed, read_x.formed, read_y.formed, read_d.coded, read_x.coded, read_y.coded) refl
+
+dir_again : (d : ℕ) → IsNameWord d → line_event places.Plain (spaced (codes "DIR") (name_of d ∷ [])) ≡ Ok (events.Dir d)
+unfolding event_of_words kind_of dir_line
+dir_again d named_d =
+    let read_d = name_reads d named_d in
+    line_of_words places.Plain (codes "DIR") (name_of d ∷ []) (word (codes "DIR") refl refl) (read_d.run, tt) (omega (arith, read_d.short))
+    ∙ rw (read_d.formed, read_d.coded) refl
+
+show_again : (d x y : ℕ) → IsNameWord d → IsNameWord x → IsNameWord y → line_event places.Plain (spaced (codes "SHOW") (name_of d ∷ name_of x ∷ name_of y ∷ [])) ≡ Ok (events.Show d x y)
+unfolding event_of_words kind_of show_line
+show_again d x y named_d named_x named_y =
+    let read_d = name_reads d named_d in
+    let read_x = name_reads x named_x in
+    let read_y = name_reads y named_y in
+    line_of_words places.Plain (codes "SHOW") (name_of d ∷ name_of x ∷ name_of y ∷ []) (word (codes "SHOW") refl refl) (read_d.run, (read_x.run, (read_y.run, tt))) (omega (arith, read_d.short, read_x.short, read_y.short))
+    ∙ rw (read_d.formed, read_x.formed, read_y.formed, read_d.coded, read_x.coded, read_y.coded) refl
+
+console_run : (o : Option ℕ) → IfSome o (λ c. c ≤ 7) → IsRun (console_text o)
+console_run None h = word (codes "-") refl refl
+console_run (Some c) h = (number_reads c (omega (arith, h))).run
+
+console_short : (o : Option ℕ) → IfSome o (λ c. c ≤ 7) → length (console_text o) ≤ 12
+console_short None h = omega arith
+console_short (Some c) h = (number_reads c (omega (arith, h))).short
+
+-- the two forms of a console
+none_row : (u j : ℕ) → IsNameWord u → IsNameWord j → load_line (name_of u ∷ name_of j ∷ codes "-" ∷ []) ≡ Ok (events.Load u j None)
+unfolding load_line
+none_row u j named_u named_j =
+    let read_u = name_reads u named_u in
+    let read_j = name_reads j named_j in
+    rw (read_u.formed, read_j.formed, read_u.coded, read_j.coded) refl
+
+digit_above : (k d : ℕ) → is_code 48 55 d ≡ true → 56 ≤ k → (d == k) ≡ false
+digit_above k d digit above = grind (arith, nat_tests)
+
+digit_below : (k d : ℕ) → is_code 48 55 d ≡ true → k ≤ 47 → (d == k) ≡ false
+digit_below k d digit below = grind (arith, nat_tests)
+
+digits_no_dash : (ds : List ℕ) → 1 ≤ length ds → list_all (is_code 48 55) ds ≡ true → bytes_eq ds (codes "-") ≡ false
+digits_no_dash [] some h = absurd (omega arith)
+digits_no_dash (d ∷ ds) some h =
+    let parts = both (is_code 48 55 d) (list_all (is_code 48 55) ds) h in
+    rw (digit_below 45 d parts.0 (lit≤ tt)) refl
+
+number_no_dash : (n : ℕ) → bytes_eq (digits_of n) (codes "-") ≡ false
+number_no_dash n = digits_no_dash (digits_of n) (some_digits n) (digits_are_codes n)
+
+some_row : (u j c : ℕ) → IsNameWord u → IsNameWord j → c ≤ 7 → load_line (name_of u ∷ name_of j ∷ digits_of c ∷ []) ≡ Ok (events.Load u j (Some c))
+unfolding load_line
+some_row u j c named_u named_j few =
+    let read_u = name_reads u named_u in
+    let read_j = name_reads j named_j in
+    let read_c = number_reads c (omega arith) in
+    rw (read_u.formed, read_j.formed, read_u.coded, read_j.coded, number_no_dash c, read_c.formed, digits_value c) (grind (arith, nat_tests))
+
+load_row : (u j : ℕ) (o : Option ℕ) → IsNameWord u → IsNameWord j → IfSome o (λ c. c ≤ 7) → load_line (name_of u ∷ name_of j ∷ console_text o ∷ []) ≡ Ok (events.Load u j o)
+load_row u j None named_u named_j h = none_row u j named_u named_j
+load_row u j (Some c) named_u named_j h = some_row u j c named_u named_j h
+
+load_again : (u j : ℕ) (o : Option ℕ) → IsNameWord u → IsNameWord j → IfSome o (λ c. c ≤ 7)
+    → line_event places.Plain (spaced (codes "LOAD") (name_of u ∷ name_of j ∷ console_text o ∷ [])) ≡ Ok (events.Load u j o)
+unfolding event_of_words kind_of
+load_again u j o named_u named_j h =
+    let read_u = name_reads u named_u in
+    let read_j = name_reads j named_j in
+    line_of_words places.Plain (codes "LOAD") (name_of u ∷ name_of j ∷ console_text o ∷ []) (word (codes "LOAD") refl refl) (read_u.run, (read_j.run, (console_run o h, tt))) (omega (arith, read_u.short, read_j.short, console_short o h))
+    ∙ load_row u j o named_u named_j h
+
+-- the numbers of a list
+Below : ℕ → List ℕ → Type 0
+Below m [] = Unit {0}
+Below m (w ∷ ws) = (w < m) × Below m ws
+
+below_each : (m : ℕ) (ws : List ℕ) → ((k : ℕ) → k < length ws → get_or ws k 0 < m) → Below m ws
+unfolding Below
+below_each m [] h = tt
+below_each m (w ∷ ws) h = (h 0 (omega arith), below_each m ws (λ k below. h (suc k) (omega arith)))
+
+numbers_are_octal : (ws : List ℕ) → Below (2 ^ 36) ws → list_all is_octal (map digits_of ws) ≡ true
+unfolding Below
+numbers_are_octal [] h = refl
+numbers_are_octal (w ∷ ws) h = rw ((number_reads w h.0).formed, numbers_are_octal ws h.1) refl
+
+numbers_again : (ws : List ℕ) → map octal_value (map digits_of ws) ≡ ws
+numbers_again [] = refl
+numbers_again (w ∷ ws) = rw (digits_value w, numbers_again ws) refl
+
+number_runs : (ws : List ℕ) → Below (2 ^ 36) ws → AllRuns (map digits_of ws)
+unfolding Below
+number_runs [] h = tt
+number_runs (w ∷ ws) h = ((number_reads w h.0).run, number_runs ws h.1)
+
+room_of_numbers : (k : ℕ) (ws : List ℕ) → 1 ≤ k → Below (8 ^ k) ws → room_of (map digits_of ws) ≤ (1 + k) * length ws
+unfolding Below
+room_of_numbers k [] some h = omega arith
+room_of_numbers k (w ∷ ws) some h = omega (arith, few_digits k w some h.0, room_of_numbers k ws some h.1)
+
+below_more : (m n : ℕ) (ws : List ℕ) → m ≤ n → Below m ws → Below n ws
+unfolding Below
+below_more m n [] less h = tt
+below_more m n (w ∷ ws) less h = (omega (arith, h.0), below_more m n ws less h.1)
+
+bytes_ranged_again : (bs : List ℕ) → Below 128 bs → list_all (λ w. leb (octal_value w) 127) (map digits_of bs) ≡ true
+unfolding Below
+bytes_ranged_again [] h = refl
+bytes_ranged_again (b ∷ bs) h =
+    let small : leb b 127 ≡ true = le-leb b 127 (omega (arith, h.0)) in
+    rw (digits_value b, small, bytes_ranged_again bs h.1) refl
+
+-- a first word of digits and `/`
+before_again : (ds : List ℕ) → before_slash (ds ++ 47 ∷ []) ≡ ds
+before_again ds =
+    let size : length (ds ++ 47 ∷ []) - 1 ≡ length ds = omega (arith, length-append ds (47 ∷ [])) in
+    rw size (take-append_seam ds (47 ∷ []))
+
+place_again : (ds : List ℕ) → is_octal ds ≡ true → is_place (ds ++ 47 ∷ []) ≡ true
+place_again ds h =
+    let size : length (ds ++ 47 ∷ []) - 1 ≡ length ds = omega (arith, length-append ds (47 ∷ [])) in
+    rw (before_again ds, h, size, get_or_push ds 47 0 (length ds) refl) refl
+
+digits_no_comment : (ds : List ℕ) → 1 ≤ length ds → list_all (is_code 48 55) ds ≡ true → is_comment (ds ++ 47 ∷ []) ≡ false
+digits_no_comment [] some h = absurd (omega arith)
+digits_no_comment (d ∷ ds) some h = digit_above 59 d (both (is_code 48 55 d) (list_all (is_code 48 55) ds) h).0 (lit≤ tt)
+
+digits_kind : (ds : List ℕ) → 1 ≤ length ds → list_all (is_code 48 55) ds ≡ true → is_octal ds ≡ true → kind_of (ds ++ 47 ∷ []) ≡ Some kinds.Words
+unfolding kind_of
+digits_kind [] some h octal = absurd (omega arith)
+digits_kind (d ∷ ds) some h octal =
+    let digit = (both (is_code 48 55 d) (list_all (is_code 48 55) ds) h).0 in
+    let place : is_place ((d ∷ ds) ++ 47 ∷ []) ≡ true = place_again (d ∷ ds) octal in
+    rw (digit_above 76 d digit (lit≤ tt), digit_above 71 d digit (lit≤ tt), digit_above 70 d digit (lit≤ tt), digit_below 47 d digit (lit≤ tt), digit_above 69 d digit (lit≤ tt), digit_above 84 d digit (lit≤ tt), digit_above 68 d digit (lit≤ tt), digit_above 67 d digit (lit≤ tt), digit_above 73 d digit (lit≤ tt), digit_above 83 d digit (lit≤ tt), digit_above 80 d digit (lit≤ tt), place) refl
+
+place_run : (ds : List ℕ) → IsRun ds → IsRun (ds ++ 47 ∷ [])
+place_run ds run = record {
+  some = omega (arith, length-append ds (47 ∷ []), run.some);
+  visible = rw (list_all-append (is_code 33 126) ds (47 ∷ []), run.visible) refl;
+}
+
+words_row : (a : ℕ) (ws : List ℕ) → 1 ≤ length ws → length ws ≤ 16 → a + length ws ≤ 2 ^ 18 → Below (2 ^ 36) ws
+    → words_line (digits_of a) (map digits_of ws) ≡ Ok (events.Words a (record { items = ws }))
+unfolding words_line
+words_row a ws some few within below =
+    let read_a = number_reads a (omega arith) in
+    rw (length-map ws digits_of, le-leb 1 (length ws) some, le-leb (length ws) 16 few, read_a.formed, numbers_formed (map digits_of ws), numbers_are_octal ws below, digits_value a, le-leb a (2 ^ 18 - length ws) (omega arith), numbers_ranged (map digits_of ws), numbers_consoles (map digits_of ws), numbers_again ws) refl
+
+words_again : (a : ℕ) (ws : List ℕ) → 1 ≤ length ws → length ws ≤ 16 → a + length ws ≤ 2 ^ 18 → AreWords ws
+    → line_event places.Load (spaced (digits_of a ++ codes "/") (map digits_of ws)) ≡ Ok (events.Words a (record { items = ws }))
+unfolding event_of_words
+words_again a ws some few within are =
+    let read_a = number_reads a (omega arith) in
+    let below = below_each (2 ^ 36) ws are in
+    line_of_words places.Load (digits_of a ++ codes "/") (map digits_of ws) (place_run (digits_of a) read_a.run) (number_runs ws below) (omega (arith, read_a.short, length-append (digits_of a) (47 ∷ []), room_of_numbers 12 ws (lit≤ tt) below))
+    ∙ rw (digits_no_comment (digits_of a) (some_digits a) (digits_are_codes a), digits_kind (digits_of a) (some_digits a) (digits_are_codes a) read_a.formed, before_again (digits_of a)) (words_row a ws some few within below)
+
+append_row : (ws : List ℕ) → 1 ≤ length ws → length ws ≤ 16 → Below (2 ^ 36) ws → append_line (map digits_of ws) ≡ Ok (events.Append (record { items = ws }))
+unfolding append_line
+append_row ws some few below =
+    rw (length-map ws digits_of, le-leb 1 (length ws) some, le-leb (length ws) 16 few, numbers_formed (map digits_of ws), numbers_are_octal ws below, numbers_ranged (map digits_of ws), numbers_consoles (map digits_of ws), numbers_again ws) refl
+
+append_again : (ws : List ℕ) → 1 ≤ length ws → length ws ≤ 16 → AreWords ws
+    → line_event places.File (spaced (codes "/") (map digits_of ws)) ≡ Ok (events.Append (record { items = ws }))
+unfolding event_of_words kind_of
+append_again ws some few are =
+    let below = below_each (2 ^ 36) ws are in
+    line_of_words places.File (codes "/") (map digits_of ws) (word (codes "/") refl refl) (number_runs ws below) (omega (arith, room_of_numbers 12 ws (lit≤ tt) below))
+    ∙ append_row ws some few below
+
+type_row : (c : ℕ) (bs : List ℕ) → c ≤ 7 → 1 ≤ length bs → length bs ≤ 32 → Below 128 bs → type_line (digits_of c ∷ map digits_of bs) ≡ Ok (events.TypeIn c (record { items = bs }))
+unfolding type_line
+type_row c bs console some few below =
+    let read_c = number_reads c (omega arith) in
+    rw (length-map bs digits_of, le-leb 1 (length bs) some, le-leb (length bs) 32 few, read_c.formed, bytes_formed (map digits_of bs), numbers_are_octal bs (below_more 128 (2 ^ 36) bs (lit≤ tt) below), bytes_ranged (map digits_of bs), bytes_ranged_again bs below, digits_value c, le-leb c 7 console, bytes_consoles (map digits_of bs), numbers_again bs) refl
+
+type_again : (c : ℕ) (bs : List ℕ) → c ≤ 7 → 1 ≤ length bs → length bs ≤ 32 → All (λ b. b ≤ 127) bs
+    → line_event places.Plain (spaced (codes "TYPE") (digits_of c ∷ map digits_of bs)) ≡ Ok (events.TypeIn c (record { items = bs }))
+unfolding event_of_words kind_of
+type_again c bs console some few small =
+    let below = below_each 128 bs (λ k at. omega (arith, small k 0 at)) in
+    let read_c = number_reads c (omega arith) in
+    line_of_words places.Plain (codes "TYPE") (digits_of c ∷ map digits_of bs) (word (codes "TYPE") refl refl) (read_c.run, number_runs bs (below_more 128 (2 ^ 36) bs (lit≤ tt) below)) (omega (arith, read_c.short, room_of_numbers 3 bs (lit≤ tt) (below_more 128 (8 ^ 3) bs (lit≤ tt) below)))
+    ∙ type_row c bs console some few below
+
+end_file_again : line_event places.File (codes "EOF") ≡ Ok events.EndFile
+unfolding event_of_words kind_of bare_line spaced
+end_file_again = line_of_words places.File (codes "EOF") [] (word (codes "EOF") refl refl) tt (lit≤ tt)
+
+end_again : line_event places.Plain (codes "END") ≡ Ok events.End
+unfolding event_of_words kind_of bare_line spaced
+end_again = line_of_words places.Plain (codes "END") [] (word (codes "END") refl refl) tt (lit≤ tt)
+
+pub reads_back : (e : Event) → EventFits e → HasWords e → line_event (place_of e) (text_of_event e) ≡ Ok e
+reads_back events.Nothing f h = nothing_again places.Plain
+reads_back (events.Load u j c) f h = load_again u j c f.0 f.1 f.2
+reads_back (events.Words a ws) f h = words_again a ws.items f.0 f.1 f.2 h
+reads_back (events.Go a) f h = go_again a f
+reads_back (events.File d x y) f h = file_again d x y f.0 f.1 f.2
+reads_back (events.Append ws) f h = append_again ws.items f.0 f.1 h
+reads_back events.EndFile f h = end_file_again
+reads_back (events.Tick s n) f h = tick_again s n f.0 f.1 f.2
+reads_back (events.TypeIn c bs) f h = type_again c bs.items f.0 f.1 f.2 f.3
+reads_back (events.Drain c n) f h = drain_again c n f.0 f.1 f.2
+reads_back (events.Clock n) f h = clock_again n f
+reads_back (events.Int s v w) f h = int_again s v w f h.0 h.1
+reads_back (events.Exam s a n) f h = exam_again s a n f.0 f.1 f.2 f.3
+reads_back (events.State s) f h = state_again s f
+reads_back (events.Deposit s a w) f h = deposit_again s a w f.0 f.1 h
+reads_back (events.Stop s) f h = stop_again s f
+reads_back (events.Cont s) f h = cont_again s f
+reads_back (events.Peek s) f h = peek_again s f
+reads_back (events.Dir d) f h = dir_again d f
+reads_back (events.Show d x y) f h = show_again d x y f.0 f.1 f.2
+reads_back events.End f h = end_again
+
+-- the empty line of the event of nothing is read so anywhere
+pub reads_anywhere : (e : Event) (place : Place) → e ≡ events.Nothing → line_event place (text_of_event e) ≡ Ok e
+reads_anywhere e place is = rw is (nothing_again place)

@@ -1,0 +1,53 @@
+-- The line that is written for an event.
+use Rattle.std.specs.Prelude.{if◌then◌else◌, ◌==◌, ℕ, zero, suc, ◌+◌, ◌*◌, ◌/◌, ◌%◌, ◌^◌, ◌<◌, Option, Some, None, List, [], ◌∷◌, ◌++◌, length, map, codes, slice_index}
+use Rattle.its_word.specs.Text.{digits_of, spaced}
+use Rattle.its_word.specs.declared.session.Event.{Event}
+use Rattle.its_word.specs.declared.session.Event.TheVariants as events
+
+-- up to n characters of a name, which stand in the top of a word
+unfoldable pub characters : ℕ → ℕ → List ℕ
+characters zero w = []
+characters (suc n) w = if w / 2 ^ 30 == 0 then [] else (32 + w / 2 ^ 30) ∷ characters n (w * 2 ^ 6 % 2 ^ 36)
+
+-- the characters of a name's word
+abbrev pub name_of : ℕ → List ℕ
+name_of w = characters 6 w
+
+abbrev pub console_text : Option ℕ → List ℕ
+console_text None = codes "-"
+console_text (Some c) = digits_of c
+
+-- an event's line, with numbers without leading zeros
+abbrev pub text_of_event : Event → List ℕ
+text_of_event events.Nothing = []
+text_of_event (events.Load u j c) = spaced (codes "LOAD") (name_of u ∷ name_of j ∷ console_text c ∷ [])
+text_of_event (events.Words a ws) = spaced (digits_of a ++ codes "/") (map digits_of ws.items)
+text_of_event (events.Go a) = spaced (codes "GO") (digits_of a ∷ [])
+text_of_event (events.File d x y) = spaced (codes "FILE") (name_of d ∷ name_of x ∷ name_of y ∷ [])
+text_of_event (events.Append ws) = spaced (codes "/") (map digits_of ws.items)
+text_of_event events.EndFile = codes "EOF"
+text_of_event (events.Tick s n) = spaced (codes "TICK") (digits_of s ∷ digits_of n ∷ [])
+text_of_event (events.TypeIn c bs) = spaced (codes "TYPE") (digits_of c ∷ map digits_of bs.items)
+text_of_event (events.Drain c n) = spaced (codes "DRAIN") (digits_of c ∷ digits_of n ∷ [])
+text_of_event (events.Clock n) = spaced (codes "CLOCK") (digits_of n ∷ [])
+text_of_event (events.Int s v w) = spaced (codes "INT") (digits_of s ∷ digits_of v ∷ digits_of w ∷ [])
+text_of_event (events.Exam s a n) = spaced (codes "EXAM") (digits_of s ∷ digits_of a ∷ digits_of n ∷ [])
+text_of_event (events.State s) = spaced (codes "STATE") (digits_of s ∷ [])
+text_of_event (events.Deposit s a w) = spaced (codes "DEPOSIT") (digits_of s ∷ digits_of a ∷ digits_of w ∷ [])
+text_of_event (events.Stop s) = spaced (codes "STOP") (digits_of s ∷ [])
+text_of_event (events.Cont s) = spaced (codes "CONT") (digits_of s ∷ [])
+text_of_event (events.Peek s) = spaced (codes "PEEK") (digits_of s ∷ [])
+text_of_event (events.Dir d) = spaced (codes "DIR") (name_of d ∷ [])
+text_of_event (events.Show d x y) = spaced (codes "SHOW") (name_of d ∷ name_of x ∷ name_of y ∷ [])
+text_of_event events.End = codes "END"
+
+-- the words of an event have 36 bits, as all words do
+abbrev pub AreWords : List ℕ → Type 0
+AreWords ws = (k : ℕ) → k < length ws → slice_index ws k < 2 ^ 36
+
+abbrev pub HasWords : Event → Type 0
+HasWords (events.Words a ws) = AreWords ws.items
+HasWords (events.Append ws) = AreWords ws.items
+HasWords (events.Int s v w) = (v < 2 ^ 36) × (w < 2 ^ 36)
+HasWords (events.Deposit s a w) = w < 2 ^ 36
+HasWords _ = Unit {0}

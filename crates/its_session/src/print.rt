@@ -1,0 +1,176 @@
+//! Writing the line of an event.
+ghost use Rattle.std.specs.Prelude.{◌≡◌, ◌<◌, ◌≤◌, ◌^◌, [], ◌∷◌, ◌++◌, length, map, codes};
+ghost use Rattle.arrayvec.specs.ArrayVec.{array_vec_len};
+ghost use Rattle.its_word.specs.Text.{digits_of, spaced};
+ghost use Rattle.its_word.specs.declared.session.Place.{Place};
+ghost use Rattle.its_session.specs.Fits.{EventFits, place_of};
+ghost use Rattle.its_session.specs.Grammar.{line_event};
+ghost use Rattle.its_session.specs.Writing.{AreWords, HasWords, console_text, name_of, text_of_event};
+
+use super::put::{put_bytes, put_console, put_name, put_number, put_numbers};
+use arrayvec::ArrayVec;
+use its_word::{Event, Word, octal};
+
+/// Writes the line of an event, without LF. `read_line` reads it as that event at the event's place, and
+/// `Nothing` at any place. The event's numbers and names are in the ranges of its line.
+#[tactic(auto, using(crate::proofs::RoundTrip::reads_back, crate::proofs::RoundTrip::reads_anywhere))]
+pub fn print_event(e: &Event, out: &mut ArrayVec<u8, 256>)
+    requires empty { out.old.items ≡ [] }
+    requires fits { EventFits e.now }
+    ensures read { line_event (place_of e.now) out.new.items ≡ Ok e.now }
+    ensures anywhere { e.now ≡ Event.Nothing → (place : Place) → line_event place out.new.items ≡ Ok e.now }
+{
+    write(e, out);
+}
+
+fn write(e: &Event, out: &mut ArrayVec<u8, 256>)
+    requires empty { out.old.items ≡ [] }
+    requires fits { EventFits e.now }
+    ensures text { out.new.items ≡ text_of_event e.now }
+    ensures words { HasWords e.now }
+{
+    match e {
+        Event::Nothing => {}
+        Event::Load { u, j, console } => load(out, *u, *j, *console),
+        Event::Words { a, words } => words_from(out, *a, words.as_slice()),
+        Event::Go { a } => number(out, b"GO", u64::from(*a)),
+        Event::File { d, x, y } => names(out, b"FILE", *d, *x, *y),
+        Event::Append { words } => append(out, words.as_slice()),
+        Event::EndFile => first(out, b"EOF"),
+        Event::Tick { s, n } => two_numbers(out, b"TICK", u64::from(*s), u64::from(*n)),
+        Event::TypeIn { c, bytes } => type_in(out, *c, bytes.as_slice()),
+        Event::Drain { c, n } => two_numbers(out, b"DRAIN", u64::from(*c), u64::from(*n)),
+        Event::Clock { n } => number(out, b"CLOCK", *n),
+        Event::Int { s, v, w } => numbers(out, b"INT", *s, v.value(), w.value()),
+        Event::Exam { s, a, n } => numbers(out, b"EXAM", *s, u64::from(*a), u64::from(*n)),
+        Event::State { s } => number(out, b"STATE", u64::from(*s)),
+        Event::Deposit { s, a, w } => numbers(out, b"DEPOSIT", *s, u64::from(*a), w.value()),
+        Event::Stop { s } => number(out, b"STOP", u64::from(*s)),
+        Event::Cont { s } => number(out, b"CONT", u64::from(*s)),
+        Event::Peek { s } => number(out, b"PEEK", u64::from(*s)),
+        Event::Dir { d } => name(out, b"DIR", *d),
+        Event::Show { d, x, y } => names(out, b"SHOW", *d, *x, *y),
+        Event::End => first(out, b"END"),
+    }
+}
+
+/// A first word.
+fn first(out: &mut ArrayVec<u8, 256>, word: &[u8])
+    requires empty { out.old.items ≡ [] }
+    requires short { length word.now ≤ 16 }
+    ensures text { out.new.items ≡ word.now }
+    ensures len { array_vec_len out.new ≤ 16 }
+{
+    let _fits = out.try_extend_from_slice(word);
+}
+
+/// A first word and a number.
+fn number(out: &mut ArrayVec<u8, 256>, word: &[u8], n: u64)
+    requires empty { out.old.items ≡ [] }
+    requires short { length word.now ≤ 16 }
+    requires number { n < 2 ^ 36 }
+    ensures { out.new.items ≡ spaced word.now (digits_of n ∷ []) }
+{
+    first(out, word);
+    put_number(out, n);
+}
+
+/// A first word and two numbers.
+#[tactic(auto, unfolding(its_word::specs::Text::spaced))]
+fn two_numbers(out: &mut ArrayVec<u8, 256>, word: &[u8], m: u64, n: u64)
+    requires empty { out.old.items ≡ [] }
+    requires short { length word.now ≤ 16 }
+    requires first_number { m < 2 ^ 36 }
+    requires second_number { n < 2 ^ 36 }
+    ensures { out.new.items ≡ spaced word.now (digits_of m ∷ digits_of n ∷ []) }
+{
+    first(out, word);
+    put_number(out, m);
+    put_number(out, n);
+}
+
+/// A first word, a slot and two numbers.
+#[tactic(auto, unfolding(its_word::specs::Text::spaced))]
+fn numbers(out: &mut ArrayVec<u8, 256>, word: &[u8], s: u8, m: u64, n: u64)
+    requires empty { out.old.items ≡ [] }
+    requires short { length word.now ≤ 16 }
+    requires first_number { m < 2 ^ 36 }
+    requires second_number { n < 2 ^ 36 }
+    ensures { out.new.items ≡ spaced word.now (digits_of s ∷ digits_of m ∷ digits_of n ∷ []) }
+{
+    first(out, word);
+    put_number(out, u64::from(s));
+    put_number(out, m);
+    put_number(out, n);
+}
+
+/// A first word and a name.
+fn name(out: &mut ArrayVec<u8, 256>, word: &[u8], d: Word)
+    requires empty { out.old.items ≡ [] }
+    requires short { length word.now ≤ 16 }
+    ensures { out.new.items ≡ spaced word.now (name_of d ∷ []) }
+{
+    first(out, word);
+    put_name(out, d);
+}
+
+/// A first word and three names.
+#[tactic(auto, unfolding(its_word::specs::Text::spaced))]
+fn names(out: &mut ArrayVec<u8, 256>, word: &[u8], d: Word, x: Word, y: Word)
+    requires empty { out.old.items ≡ [] }
+    requires short { length word.now ≤ 16 }
+    ensures { out.new.items ≡ spaced word.now (name_of d ∷ name_of x ∷ name_of y ∷ []) }
+{
+    first(out, word);
+    put_name(out, d);
+    put_name(out, x);
+    put_name(out, y);
+}
+
+/// `LOAD u j c`
+#[tactic(auto, unfolding(its_word::specs::Text::spaced))]
+fn load(out: &mut ArrayVec<u8, 256>, u: Word, j: Word, console: Option<u8>)
+    requires { out.old.items ≡ [] }
+    ensures { out.new.items ≡ spaced (codes "LOAD") (name_of u ∷ name_of j ∷ console_text console ∷ []) }
+{
+    first(out, b"LOAD");
+    put_name(out, u);
+    put_name(out, j);
+    put_console(out, console);
+}
+
+/// `a/` and words
+#[tactic(auto, using(crate::proofs::PutLaws::twelve_digits))]
+fn words_from(out: &mut ArrayVec<u8, 256>, a: u32, words: &[Word])
+    requires empty { out.old.items ≡ [] }
+    requires few { length words.now ≤ 16 }
+    ensures text { out.new.items ≡ spaced (digits_of a ++ codes "/") (map digits_of words.now) }
+    ensures words { AreWords words.now }
+{
+    first(out, octal(u64::from(a)).as_slice());
+    out.push(b'/');
+    put_numbers(out, words);
+}
+
+/// `/` and words
+fn append(out: &mut ArrayVec<u8, 256>, words: &[Word])
+    requires empty { out.old.items ≡ [] }
+    requires few { length words.now ≤ 16 }
+    ensures text { out.new.items ≡ spaced (codes "/") (map digits_of words.now) }
+    ensures words { AreWords words.now }
+{
+    first(out, b"/");
+    put_numbers(out, words);
+}
+
+/// `TYPE c` and bytes
+#[tactic(auto, using(crate::proofs::PutLaws::after_field))]
+fn type_in(out: &mut ArrayVec<u8, 256>, c: u8, bytes: &[u8])
+    requires empty { out.old.items ≡ [] }
+    requires few { length bytes.now ≤ 32 }
+    ensures { out.new.items ≡ spaced (codes "TYPE") (digits_of c ∷ map digits_of bytes.now) }
+{
+    first(out, b"TYPE");
+    put_number(out, u64::from(c));
+    put_bytes(out, bytes);
+}
