@@ -5,3 +5,4 @@ pub mod FrameLaws
 pub mod HeldLaws
 pub mod PlaceLaws
 pub mod EmptyLaws
+pub mod CoresLaws

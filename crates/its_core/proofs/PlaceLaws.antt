@@ -14,7 +14,7 @@ use Rattle.its_core.specs.Cores.{Reserved, core_at, reserved_at, clear_at}
 use Rattle.its_core.specs.Pool.{frame_of, page_in, core_in, cores_in, frames_in, Apart, IsPool}
 use Rattle.its_core.proofs.ListLaws.{length-table, table_alike, table_set, frame_words_zero}
 use Rattle.its_core.proofs.FrameLaws.{frees, moves, frames_set_place, frames_set_held, count_set, length-frames}
-use Rattle.its_core.proofs.ReadLaws.{core_at_is, page_at, place_frame, frame_below, held_frame_at, held_below, frame_at_place}
+use Rattle.its_core.proofs.ReadLaws.{core_at_is, page_at, page_of_is, place_frame, frame_below, held_frame_at, held_below, frame_at_place}
 use Rattle.its_core.proofs.StoreLaws.{only_in}
 use Rattle.its_core.proofs.HeldLaws.{held_some}
 
@@ -204,3 +204,12 @@ module _ (accs : List ℕ) (places : List (Option Mapped)) (held : List (Option 
       go : (o : Option Reserved) → option_map (λ x. x.clear) o ≡ Some n → is_some o ≡ true
       go None e = cc
       go (Some x) e = refl
+
+  -- the page that was mapped is there
+  pub mapped_there : (gelt : List (Option Held)) (t k : ℕ) (o : Option Mapped) → t < slots → k < 256
+      → page_of (core_at (cores_in accs (slice_set places (256 * t + k) o) gelt words) t) k ≡ page_in words o
+  mapped_there gelt t k o lt h =
+      let pl = pool.places_long in
+      ap (λ c. page_of c k) (core_at_is accs (slice_set places (256 * t + k) o) gelt words t lt)
+      ∙ page_of_is accs (slice_set places (256 * t + k) o) words t k h
+      ∙ ap (page_in words) (get_or-set_same places (256 * t + k) o None (omega arith))

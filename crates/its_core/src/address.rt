@@ -7,6 +7,9 @@ use super::cores::Core;
 use arrayvec::ArrayVec;
 use its_word::{Address, Fault, Word};
 
+/// How many indirect words and XCT targets a unit may have.
+const BUDGET: u32 = 64;
+
 /// I of an address word.
 fn is_indirect(w: Word) -> bool
     ensures { result ≡ is_indirect w }
@@ -81,7 +84,7 @@ impl Core {
             if !is_indirect(word) {
                 return Ok(Address { e, flags_word });
             }
-            if *used == 64 {
+            if *used == BUDGET {
                 return Err(Fault::Ilo);
             }
             *used += 1;

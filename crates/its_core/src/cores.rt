@@ -5,9 +5,20 @@ ghost use Rattle.its_word.specs.Limits.{slots, most_pages};
 ghost use Rattle.its_word.specs.Only.{Only};
 ghost use Rattle.its_core.specs.Cores.{core_at, reserved_at, clear_at, clear_with, cleared, zeroed, mark_of, IsEmpty};
 
-use its_word::{MAPPED_PAGES, NoAccess, NoMemory, Word};
+use its_word::{MAPPED_PAGES, NoAccess, NoMemory, SLOTS, Word};
 use std::alloc::Global;
 use std::marker::Model;
+
+/// How many words a page has, pages a slot, and accumulators.
+const PAGE_WORDS: usize = 1024;
+
+const SLOT_PAGES: usize = 256;
+
+const SLOT_ACCS: usize = 16;
+
+/// How many page frames there are: one for each page that may be mapped, and one for each slot to
+/// reserve.
+const FRAMES: usize = 1088;
 
 /// A page of a slot: its frame, and whether it can be stored to.
 #[derive(Clone, Copy)]
@@ -51,14 +62,14 @@ fn acc_index(slot: u8, a: u32) -> usize
     requires a { a < 16 }
     ensures { result ≡ 16 * slot + a }
 {
-    usize::from(slot) * 16 + a as usize
+    usize::from(slot) * SLOT_ACCS + a as usize
 }
 
 /// Where a page of a slot stands in the map.
 fn place_index(slot: u8, page: u8) -> usize
     ensures { result ≡ 256 * slot + page }
 {
-    usize::from(slot) * 256 + usize::from(page)
+    usize::from(slot) * SLOT_PAGES + usize::from(page)
 }
 
 /// A page of a slot, where it is present.
@@ -92,7 +103,7 @@ fn word_index(frame: u16, at: u32) -> usize
     requires { at < 1024 }
     ensures { result ≡ 1024 * frame + at }
 {
-    usize::from(frame) * 1024 + at as usize
+    usize::from(frame) * PAGE_WORDS + at as usize
 }
 
 /// n copies of a value, in one piece of memory.
@@ -150,11 +161,11 @@ impl Core {
         ensures { IfOk result IsEmpty }
     {
         Ok(Core {
-            accs: filled(alloc, Word::ZERO, 64 * 16)?,
-            places: filled(alloc, None, 64 * 256)?,
-            held: filled(alloc, None, 64)?,
-            words: filled(alloc, Word::ZERO, 1088 * 1024)?,
-            used: filled(alloc, false, 1088)?,
+            accs: filled(alloc, Word::ZERO, SLOTS * SLOT_ACCS)?,
+            places: filled(alloc, None, SLOTS * SLOT_PAGES)?,
+            held: filled(alloc, None, SLOTS)?,
+            words: filled(alloc, Word::ZERO, FRAMES * PAGE_WORDS)?,
+            used: filled(alloc, false, FRAMES)?,
             mapped: 0,
         })
     }
@@ -251,7 +262,7 @@ impl Core {
         ensures cores { self.new.cores ≡ self.old.cores }
     {
         let h = held_in(&self.held, slot);
-        let first = usize::from(h.frame) * 1024 + usize::from(q) * 256;
+        let first = word_index(h.frame, 256 * u32::from(q));
         clear(&mut self.words, first, 256);
         self.held[usize::from(slot)] = Some(Held {
             frame: h.frame,
@@ -268,6 +279,7 @@ impl Core {
         requires absent { page_of (core_at self.old target) page ≡ None }
         ensures full { IsErr result ↔ (pages_mapped (core_at self.old) ≡ most_pages) }
         ensures mapped { OnOk result (Only (core_at self.old) (core_at self.new) target (with_page (core_at self.old target) page (Some zero_page))) }
+        ensures there { OnOk result (page_of (core_at self.new target) page ≡ Some zero_page) }
         ensures taken { OnOk result (Only (reserved_at self.old) (reserved_at self.new) slot None) }
         ensures quarters { OnOk result (Only (clear_at self.old) (clear_at self.new) slot None) }
         ensures same { OnErr result (self.new ≡ self.old) }

@@ -4,6 +4,8 @@
 
 mod address;
 mod cores;
+#[cfg(test)]
+mod tests;
 
 pub use cores::{Core, Full};
 pub use its_word::{Address, Fault, NoAccess, NoMemory};

@@ -164,7 +164,7 @@ some_accs c a b w = elim (cases_Bool (nat_lt a 16)) [
 ]
 
 -- what is the same for a page and for that page with a word stored is the same after a store
-page_alike : {X : Type 0} (f : Option Page → X) → ((p : Option Page) (i w : ℕ) → f (page_stored p i w) ≡ f p)
+pub page_alike : {X : Type 0} (f : Option Page → X) → ((p : Option Page) (i w : ℕ) → f (page_stored p i w) ≡ f p)
     → (c : Core) (a w k : ℕ) → f (page_of (store c a w) k) ≡ f (page_of c k)
 page_alike f same c a w k = elim (cases_Bool (nat_lt a 16)) [
   | inl s ↦ ap f (page_of_store_acc c a w k s)

@@ -193,3 +193,5 @@ with_page-absent c k h = ap (λ ps. record c { pages = ps }) (set_absent c.pages
 
 -- for `using`
 pub ruleset paging = (page_of-with_page_none, page_of-with_page_other, with_page-absent)
+
+pub ruleset empty_slot = (word_at-no_core, word_at-no_core_past, page_of-no_core, can_store-no_core)

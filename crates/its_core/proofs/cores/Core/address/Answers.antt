@@ -13,17 +13,17 @@ direct c =
     let i : is_indirect c.loop-slot.word ≡ false = sym c.is_indirect.ensures ∙ c.if-not-is_indirect.true in
     rw (c.indexed-e.ensures.e, c.indexed-e.ensures.last, c.note_index.ensures) (along_direct _ _ _ _ _ _ _ _ c.loop-slot.invariant i)
 
-spent : (c : goal.Then-used-eq64) → Ended (core_at c.args.self.now c.args.slot) c.args.w c.args.used.now c.args.reads.now.items (Err Ilo) c.loop-slot.used c.note_index.new.reads.items
+spent : (c : goal.Then-used-eq-BUDGET) → Ended (core_at c.args.self.now c.args.slot) c.args.w c.args.used.now c.args.reads.now.items (Err Ilo) c.loop-slot.used c.note_index.new.reads.items
 spent c =
     let i : is_indirect c.loop-slot.word ≡ true = sym c.is_indirect.ensures ∙ c.if-not-is_indirect.false in
-    rw c.note_index.ensures (along_spent _ _ _ _ _ _ _ _ c.loop-slot.invariant i c.if-used-eq64.true)
+    rw c.note_index.ensures (along_spent _ _ _ _ _ _ _ _ c.loop-slot.invariant i c.if-used-eq-BUDGET.true)
 
 absent : (c : goal.In_default) → Ended (core_at c.args.self.now c.args.slot) c.args.w c.args.used.now c.args.reads.now.items (Err Mpv) (c.loop-slot.used + 1) c.push.new.self.items
 absent c =
     let i : is_indirect c.loop-slot.word ≡ true = sym c.is_indirect.ensures ∙ c.if-not-is_indirect.false in
     let none : word_at (core_at c.args.self.now c.args.slot) c.indexed-e.result.0 ≡ None = got_none _ _ (sym c.get.ensures.word ∙ c.in_default.is) in
     rw (c.push.ensures.items, c.note_index.ensures, c.indexed-e.ensures.e)
-    (along_absent _ _ _ _ _ _ _ _ c.loop-slot.invariant i c.if-used-eq64.false (rw c.indexed-e.ensures.e at none))
+    (along_absent _ _ _ _ _ _ _ _ c.loop-slot.invariant i c.if-used-eq-BUDGET.false (rw c.indexed-e.ensures.e at none))
 
 pub returns-then-not-is_indirect-clause-answer : goal.returns-then-not-is_indirect-clause-answer
 returns-then-not-is_indirect-clause-answer c = (direct c).answer_is
@@ -37,17 +37,17 @@ returns-then-not-is_indirect-clause-used c = (direct c).used_is
 pub returns-then-not-is_indirect-clause-few : goal.returns-then-not-is_indirect-clause-few
 returns-then-not-is_indirect-clause-few c = (direct c).few
 
-pub returns-then-used-eq64-clause-answer : goal.returns-then-used-eq64-clause-answer
-returns-then-used-eq64-clause-answer c = (spent c).answer_is
+pub returns-then-used-eq-BUDGET-clause-answer : goal.returns-then-used-eq-BUDGET-clause-answer
+returns-then-used-eq-BUDGET-clause-answer c = (spent c).answer_is
 
-pub returns-then-used-eq64-clause-reads : goal.returns-then-used-eq64-clause-reads
-returns-then-used-eq64-clause-reads c = (spent c).reads_is
+pub returns-then-used-eq-BUDGET-clause-reads : goal.returns-then-used-eq-BUDGET-clause-reads
+returns-then-used-eq-BUDGET-clause-reads c = (spent c).reads_is
 
-pub returns-then-used-eq64-clause-used : goal.returns-then-used-eq64-clause-used
-returns-then-used-eq64-clause-used c = (spent c).used_is
+pub returns-then-used-eq-BUDGET-clause-used : goal.returns-then-used-eq-BUDGET-clause-used
+returns-then-used-eq-BUDGET-clause-used c = (spent c).used_is
 
-pub returns-then-used-eq64-clause-few : goal.returns-then-used-eq64-clause-few
-returns-then-used-eq64-clause-few c = (spent c).few
+pub returns-then-used-eq-BUDGET-clause-few : goal.returns-then-used-eq-BUDGET-clause-few
+returns-then-used-eq-BUDGET-clause-few c = (spent c).few
 
 pub push-requires : goal.push-requires
 push-requires c =
@@ -76,4 +76,4 @@ loop-slot-preserved c =
     let i : is_indirect c.loop-slot.word ≡ true = sym c.is_indirect.ensures ∙ c.if-not-is_indirect.false in
     let some : word_at (core_at c.args.self.now c.args.slot) c.indexed-e.result.0 ≡ Some c.in-Ok.next = got_some _ _ (sym c.get.ensures.word ∙ c.in-Ok.is) in
     rw (c.push.ensures.items, c.note_index.ensures, c.indexed-e.ensures.e)
-    (along_more _ _ _ _ _ _ _ _ _ c.loop-slot.invariant i c.if-used-eq64.false (rw c.indexed-e.ensures.e at some))
+    (along_more _ _ _ _ _ _ _ _ _ c.loop-slot.invariant i c.if-used-eq-BUDGET.false (rw c.indexed-e.ensures.e at some))

@@ -20,14 +20,14 @@ invariant_of-self c =
     let e : slice_index_or c.self.inside.held.items c.args.slot None ≡ Some c.held_in-h.result = cc in
     let w : c.clear.new.words.items ≡ zeroed (1024 * c.held_in-h.result.frame + 256 * c.args.q) 256 c.self.inside.words.items =
     c.clear.ensures ∙ ap (λ i. zeroed i 256 c.self.inside.words.items) (omega arith) in
-    rw (w, c.from-3.ensures, c.quarters_clear.ensures) (clear_quarter_pool _ _ _ _ _ _ c.self.invariant c.args.slot c.args.q c.held_in-h.result c.requires.slot c.requires.quarter e)
+    rw (w, c.from-2.ensures, c.quarters_clear.ensures) (clear_quarter_pool _ _ _ _ _ _ c.self.invariant c.args.slot c.args.q c.held_in-h.result c.requires.slot c.requires.quarter e)
 
 pub returns-clause-reserved : goal.returns-clause-reserved
 returns-clause-reserved c =
     let e : slice_index_or c.self.inside.held.items c.args.slot None ≡ Some c.held_in-h.result = cc in
     let w : c.clear.new.words.items ≡ zeroed (1024 * c.held_in-h.result.frame + 256 * c.args.q) 256 c.self.inside.words.items =
     c.clear.ensures ∙ ap (λ i. zeroed i 256 c.self.inside.words.items) (omega arith) in
-    rw (w, c.from-3.ensures, c.quarters_clear.ensures, ← c.self.view_is)
+    rw (w, c.from-2.ensures, c.quarters_clear.ensures, ← c.self.view_is)
     (clear_quarter_only _ _ _ _ _ _ c.self.invariant c.args.slot c.args.q c.held_in-h.result c.requires.slot c.requires.quarter e)
 
 pub returns-clause-quarters : goal.returns-clause-quarters

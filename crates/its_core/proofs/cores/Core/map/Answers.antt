@@ -1,6 +1,6 @@
 use Rattle.std.proofs.Common.{◌≡◌, Some, None, true, slice_index_or, arith}
 use Rattle.its_core.proofs.HeldLaws.{held_only, held_is_some, clear_only}
-use Rattle.its_core.proofs.PlaceLaws.{map_pool, zero_page_is, clear_is, clear_is_some, place_none, place_only}
+use Rattle.its_core.proofs.PlaceLaws.{map_pool, zero_page_is, clear_is, clear_is_some, place_none, place_only, mapped_there}
 use Rattle.its_core.proofs.cores.Core.map.Goals as goal
 
 pub held_in-h-requires-clause-some : goal.held_in-h-requires-clause-some
@@ -32,3 +32,11 @@ returns-clause-taken c =
 
 pub returns-clause-quarters : goal.returns-clause-quarters
 returns-clause-quarters c = clear_only _ _ _ _ (returns-clause-taken c)
+
+pub returns-clause-there : goal.returns-clause-there
+returns-clause-there c =
+    let e : slice_index_or c.self.inside.held.items c.args.slot None ≡ Some c.held_in-h.result = cc in
+    let four = clear_is _ _ _ _ _ _ c.self.invariant c.args.slot 4 c.held_in-h.result e (rw c.self.view_is c.requires.clear) in
+    let zero = zero_page_is _ _ _ _ _ _ c.self.invariant c.args.slot c.held_in-h.result e four in
+    rw (c.place_index.ensures, ← zero)
+    (mapped_there _ _ _ _ _ _ c.self.invariant _ c.args.target c.args.page (Some (record { frame = c.held_in-h.result.frame; writable = true })) c.requires.target (omega arith))
