@@ -1,5 +1,5 @@
 -- What a unit leaves as it was, and what it never does.
-use Rattle.std.proofs.Common.{◌≡◌, ◌≢◌, ◌<◌, ◌/◌, ◌%◌, ◌^◌, ℕ, zero, suc, Bool, true, false, List, [], ◌∷◌, Option, Some, None, Result, Ok, Err, refl, sym, ◌∙◌, ap, subst, inl, inr, is_some, option_map, slice_get, slice_set, bit_and, nat_lt, arith}
+use Rattle.std.proofs.Common.{◌≡◌, ◌≢◌, ◌<◌, ◌/◌, ◌%◌, ◌^◌, ℕ, zero, suc, Bool, List, [], ◌∷◌, Option, Some, None, Ok, Err, refl, ◌∙◌, subst, inl, inr, is_some, option_map, slice_get, slice_set, nat_lt, arith}
 use Rattle.std.proofs.lemmas.Bool.{cases_Bool}
 use Rattle.std.proofs.lemmas.Nat.{and_assoc, mod_below}
 use Rattle.its_word.specs.Core.{Core, Page, word_at, can_store, store, page_of, page_stored, present, pages_present}
@@ -63,7 +63,7 @@ mark_stored None j w = refl
 mark_stored (Some p) j w = refl
 
 marks_set : (ps : List (Option Page)) (k n : ℕ) (p : Option Page) → option_map (λ q. q.writable) p ≡ option_map (λ q. q.writable) (present (slice_get ps k))
-  → option_map (λ q. q.writable) (present (slice_get (slice_set ps k p) n)) ≡ option_map (λ q. q.writable) (present (slice_get ps n))
+    → option_map (λ q. q.writable) (present (slice_get (slice_set ps k p) n)) ≡ option_map (λ q. q.writable) (present (slice_get ps n))
 marks_set [] k n p h = refl
 marks_set (Some q ∷ ps) zero zero None h = cc
 marks_set (Some q ∷ ps) zero zero (Some p) h = h

@@ -1,5 +1,5 @@
 -- Byte instructions (processor reference manual, "Byte manipulation").
-use Rattle.std.specs.Prelude.{if◌then◌else◌, ℕ, ◌+◌, Bool, true, false, [], ◌∷◌, Option, Result, Ok, Err, ok_or, bit_or}
+use Rattle.std.specs.Prelude.{if◌then◌else◌, ℕ, [], ◌∷◌, Result, Ok, Err, ok_or, bit_or}
 use Rattle.its_word.specs.Core.{Core}
 use Rattle.its_word.specs.Address.{address}
 use Rattle.its_word.specs.Byte.{has_size, increment_of, load_of, deposit_of}
@@ -9,7 +9,6 @@ use Rattle.its_word.specs.declared.flags.TheConstants.{BYTE_HALF}
 use Rattle.its_word.specs.declared.instruction.ByteOp.{ByteOp}
 use Rattle.its_word.specs.declared.instruction.ByteOp.TheVariants.{Ibp, Ildb, Ldb, Idpb, Dpb}
 use Rattle.its_word.specs.declared.plan.Context.{Context}
-use Rattle.its_word.specs.declared.plan.Plan.{Plan}
 use Rattle.its_plain.specs.UnitPlan.{Planned, given, read_of, ac, to, is_on, next}
 
 -- the pointer to the next byte; a size of 0 or above 36 is ILO

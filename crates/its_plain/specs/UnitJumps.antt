@@ -1,6 +1,6 @@
 -- Block transfer, jumps, the stack and subroutines (processor reference manual, "Full word data
 -- transmission", "Program control" and "Pushdown list").
-use Rattle.std.specs.Prelude.{if◌then◌else◌, ◌==◌, ◌||◌, not, ℕ, ◌+◌, ◌*◌, ◌^◌, Bool, true, false, List, [], ◌∷◌, Option, Some, None, Ok, nat_le}
+use Rattle.std.specs.Prelude.{if◌then◌else◌, ◌==◌, not, ℕ, ◌+◌, ◌*◌, ◌^◌, Bool, [], ◌∷◌, Option, Some, None, Ok, nat_le}
 use Rattle.its_word.specs.Word.{left_of, right_of, pair_of}
 use Rattle.its_word.specs.Core.{Core}
 use Rattle.its_word.specs.declared.flags.TheConstants.{BYTE_HALF}
@@ -10,7 +10,6 @@ use Rattle.its_word.specs.declared.instruction.StackOp.{StackOp}
 use Rattle.its_word.specs.declared.instruction.StackOp.TheVariants.{Pushj, Push, Pop, Popj, Jsr, Jsp, Jsa, Jra}
 use Rattle.its_word.specs.declared.plan.Context.{Context}
 use Rattle.its_word.specs.declared.plan.Plan.{Plan}
-use Rattle.its_word.specs.declared.plan.Store.{Store}
 use Rattle.its_plain.specs.Job.{PDL, flags_of, pc_word}
 use Rattle.its_plain.specs.UnitPlan.{Planned, given, read_of, ac, to, without, is_on, completes, next, jump, both_up, both_down}
 

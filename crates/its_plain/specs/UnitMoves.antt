@@ -1,6 +1,6 @@
 -- Moves and half moves (processor reference manual, "Full word data transmission" and "Half word data
 -- transmission").
-use Rattle.std.specs.Prelude.{ℕ, ◌+◌, [], ◌∷◌, Result, Ok}
+use Rattle.std.specs.Prelude.{ℕ, [], ◌∷◌, Result, Ok}
 use Rattle.its_word.specs.Word.{left_of, right_of, pair_of}
 use Rattle.its_word.specs.Core.{Core}
 use Rattle.its_word.specs.Result2.{one_word}

@@ -1,6 +1,6 @@
 -- What the rows of the instruction tables share: reading, where the modes take and leave words, and
 -- what an instruction that completes does. A row gives a plan, or the first fault of what it reads.
-use Rattle.std.specs.Prelude.{if◌then◌else◌, ◌==◌, ◌<◌, ◌≤◌, ℕ, ◌+◌, ◌-◌, ◌^◌, ◌%◌, Bool, true, false, List, [], ◌∷◌, Option, Some, None, Result, Ok, Err, ok_or, bit_and, bit_or}
+use Rattle.std.specs.Prelude.{if◌then◌else◌, ◌==◌, ◌<◌, ◌≤◌, ℕ, ◌+◌, ◌-◌, ◌^◌, ◌%◌, Bool, true, false, List, [], ◌∷◌, Result, Ok, Err, ok_or, bit_and, bit_or}
 use Rattle.its_word.specs.Word.{left_of, right_of, pair_of}
 use Rattle.its_word.specs.Core.{Core, word_at, acc_at}
 use Rattle.its_word.specs.Limits.{budget}

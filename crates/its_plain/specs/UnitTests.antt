@@ -1,6 +1,6 @@
 -- Comparisons, counts and tests (processor reference manual, "Arithmetic testing" and "Logical testing
 -- and modification").
-use Rattle.std.specs.Prelude.{ℕ, ◌+◌, ◌-◌, ◌^◌, [], ◌∷◌, List, Bool, Result, Ok}
+use Rattle.std.specs.Prelude.{ℕ, ◌-◌, ◌^◌, [], ◌∷◌, Result, Ok}
 use Rattle.its_word.specs.Word.{pair_of}
 use Rattle.its_word.specs.Core.{Core}
 use Rattle.its_word.specs.Arith.{add_of, compares_of}

@@ -9,7 +9,6 @@ use Rattle.its_word.specs.declared.instruction.ArithmeticOp.TheVariants.{Add, Su
 use Rattle.its_word.specs.declared.instruction.ShiftOp.TheVariants.{Ash, Rot, Lsh, Jffo, Ashc, Rotc, Lshc}
 use Rattle.its_word.specs.declared.instruction.BranchOp.TheVariants.{Blt, Aobjp, Aobjn, Jrst, Jfcl}
 use Rattle.its_word.specs.declared.instruction.StackOp.TheVariants.{Pushj, Push, Pop, Popj, Jsr, Jsp, Jsa, Jra}
-use Rattle.its_word.specs.declared.instruction.CompareOp.{CompareOp}
 use Rattle.its_word.specs.declared.instruction.CompareOp.TheVariants.{Cai, Cam, Jump, Skip, Aoj, Aos, Soj, Sos}
 use Rattle.its_word.specs.declared.instruction.MaskOp.{MaskOp}
 use Rattle.its_word.specs.declared.instruction.MaskOp.TheVariants.{Tr, Tl, Td, Ts}

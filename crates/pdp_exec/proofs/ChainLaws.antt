@@ -1,10 +1,8 @@
 -- One turn of a chain of XCTs.
-use Rattle.std.proofs.Common.{◌≡◌, ◌<◌, ◌≤◌, ℕ, zero, suc, ◌-◌, ◌+◌, arith, refl, Result, Err}
+use Rattle.std.proofs.Common.{◌≡◌, ◌<◌, ◌≤◌, ℕ, zero, suc, ◌-◌, ◌+◌, arith, refl, Err}
 use Rattle.its_word.specs.Core.{Core}
-use Rattle.its_word.specs.declared.access.Fault.{Fault}
 use Rattle.its_word.specs.declared.access.Fault.TheVariants.{Ilo}
 use Rattle.its_word.specs.declared.jobs.Job.{Job}
-use Rattle.its_word.specs.declared.plan.Reached.{Reached}
 use Rattle.its_plain.specs.UnitPlan.{given}
 use Rattle.its_plain.specs.Unit.{chain, followed, turn}
 

@@ -2,3 +2,4 @@ pub mod ByteLaws
 pub mod ChainLaws
 pub mod RefusalLaws
 pub mod StoreLaws
+pub mod TestLaws

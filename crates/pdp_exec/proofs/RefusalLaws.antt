@@ -1,9 +1,8 @@
 -- Why a store is refused, by what reading says and by the mark of the page.
-use Rattle.std.proofs.Common.{◌≡◌, ◌≢◌, ◌<◌, ◌≤◌, ◌/◌, ◌%◌, ℕ, Bool, true, false, Option, Some, None, Result, Ok, Err, is_some, nat_lt, option_map, refl, sym, ◌∙◌, ap, if◌then◌else◌, arith}
+use Rattle.std.proofs.Common.{◌≡◌, ◌≢◌, ◌≤◌, ◌/◌, ◌%◌, ℕ, Bool, true, false, Option, Some, None, Ok, Err, is_some, nat_lt, refl, ap, if◌then◌else◌, arith}
 use Rattle.std.proofs.lemmas.Bool.Decides.{nat_tests}
 use Rattle.its_core.specs.Cores.{mark_of}
 use Rattle.its_word.specs.Core.{Core, Page, can_store, got, page_of, stores_in, word_at, word_in}
-use Rattle.its_word.specs.declared.access.Fault.{Fault}
 use Rattle.its_word.specs.declared.access.Fault.TheVariants.{Mpv, Wro}
 use Rattle.its_word.specs.declared.access.NoAccess.{NoAccess}
 use Rattle.its_word.proofs.CoreLaws.{in_page, stores_page, word_at-can_store}

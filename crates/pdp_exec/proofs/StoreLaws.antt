@@ -1,19 +1,14 @@
 -- Checking and making stores, one at a time.
-use Rattle.std.proofs.Common.{◌≡◌, ◌≢◌, ◌<◌, ◌≤◌, ◌+◌, ◌%◌, ◌^◌, ℕ, suc, Bool, true, false, List, [], ◌∷◌, length, get_or, drop, Option, Some, None, Result, Ok, Err, OnOk, OnErr, IfErr, is_some, refl, sym, ◌∙◌, ap, subst, arith}
+use Rattle.std.proofs.Common.{◌≡◌, ◌≢◌, ◌<◌, ◌≤◌, ◌+◌, ℕ, Bool, true, false, List, [], ◌∷◌, length, get_or, drop, Option, Some, None, is_some, refl, sym, ◌∙◌, ap, subst}
 use Rattle.std.specs.Option.{option_or}
-use Rattle.std.specs.Result.{result_err}
 use Rattle.std.proofs.lemmas.List.{drop_more}
 use Rattle.std.proofs.Math.ListN.{drop_of_length-le}
 use Rattle.its_word.specs.Core.{Core, word_at, can_store, store}
 use Rattle.its_word.specs.Only.{Only}
 use Rattle.its_word.specs.declared.access.Fault.{Fault}
-use Rattle.its_word.specs.declared.access.Fault.TheVariants.{Mpv, Wro}
 use Rattle.its_word.specs.declared.plan.Store.{Store}
-use Rattle.its_word.specs.declared.jobs.Job.{Job}
-use Rattle.its_word.specs.declared.plan.Plan.{Plan}
 use Rattle.its_word.proofs.CoreLaws.{can_store-store, is_some-store}
-use Rattle.its_plain.specs.UnitPlan.{Planned}
-use Rattle.its_plain.specs.Unit.{Changed, Faulted, first_fault, left_by, place, planned, refusal, stored, unit}
+use Rattle.its_plain.specs.Unit.{first_fault, place, refusal, stored}
 
 -- the first fault of no store, and of one with others after it
 fault_of_cons : (c : Core) (s : Store) (ss : List Store) → first_fault c (s ∷ ss) ≡ option_or (refusal (can_store c (place s)) (word_at c (place s))) (first_fault c ss)

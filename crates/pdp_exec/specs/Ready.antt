@@ -1,8 +1,7 @@
 -- The ranges that the tables need of what is reached.
-use Rattle.std.specs.Prelude.{ℕ, ◌≤◌}
+use Rattle.std.specs.Prelude.{◌≤◌}
 use Rattle.its_word.specs.Limits.{budget}
 use Rattle.its_word.specs.Opcode.{IsRow}
-use Rattle.its_word.specs.declared.plan.Reached.{Reached}
 use Rattle.its_word.specs.declared.plan.Turn.{Turn}
 use Rattle.its_word.specs.declared.plan.Turn.TheVariants.{Found, Target}
 use Rattle.its_plain.specs.UnitPlan.{Fits}

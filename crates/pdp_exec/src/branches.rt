@@ -15,6 +15,11 @@ use its_word::{BYTE_HALF, BranchOp, Context, Fault, Plan, StackOp, USER, Word};
 /// Pending bit PDL: a pushdown count came to its end.
 const PDL: u64 = 0o100;
 
+/// The counts at which a push and a pop set it.
+const PUSHED_OUT: u32 = 0;
+
+const POPPED_OUT: u32 = 0o777777;
+
 /// A word with 1 added to each half.
 pub fn up(w: Word) -> Word
     ensures { result ≡ both_up w }
@@ -140,12 +145,12 @@ pub fn stack(core: &Core, slot: u8, x: &Context, op: StackOp) -> Result<Plan, Fa
     Ok(match op {
         StackOp::Pushj => {
             let stores = two(to(x.a, up(a)), to(up(a).right(), saved(x.flags, after)));
-            count(0, up(a), complete(x, stores, 0, x.e))
+            count(PUSHED_OUT, up(a), complete(x, stores, 0, x.e))
         }
         StackOp::Push => {
             let w = read(core, slot, x.e)?;
             count(
-                0,
+                PUSHED_OUT,
                 up(a),
                 next(x, two(to(x.a, up(a)), to(up(a).right(), w)), 0),
             )
@@ -153,7 +158,7 @@ pub fn stack(core: &Core, slot: u8, x: &Context, op: StackOp) -> Result<Plan, Fa
         StackOp::Pop => {
             let w = read(core, slot, a.right())?;
             count(
-                0o777777,
+                POPPED_OUT,
                 down(a),
                 next(x, two(to(x.a, down(a)), to(x.e, w)), 0),
             )
@@ -161,7 +166,7 @@ pub fn stack(core: &Core, slot: u8, x: &Context, op: StackOp) -> Result<Plan, Fa
         StackOp::Popj => {
             let w = read(core, slot, a.right())?;
             count(
-                0o777777,
+                POPPED_OUT,
                 down(a),
                 complete(x, one(to(x.a, down(a))), 0, w.right()),
             )

@@ -11,6 +11,8 @@ mod making;
 mod moves;
 mod plans;
 mod reads;
+#[cfg(test)]
+mod tests;
 mod units;
 
 pub use units::{Outcome, unit};

@@ -1,4 +1,4 @@
-use Rattle.std.proofs.Common.{◌≡◌, ◌≤◌, ◌-◌, ◌+◌}
+use Rattle.std.proofs.Common.{◌≡◌, ◌≤◌, ◌-◌}
 use Rattle.its_core.specs.Cores.{core_at}
 use Rattle.its_word.specs.Limits.{budget}
 use Rattle.its_plain.specs.Unit.{chain}

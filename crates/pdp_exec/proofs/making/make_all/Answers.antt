@@ -1,4 +1,4 @@
-use Rattle.std.proofs.Common.{◌≡◌, ◌∙◌}
+use Rattle.std.proofs.Common.{◌∙◌}
 use Rattle.pdp_exec.proofs.StoreLaws.{making_goes_on}
 use Rattle.pdp_exec.proofs.making.make_all.Goals as goal
 

@@ -1,7 +1,5 @@
-use Rattle.std.proofs.Common.{◌≡◌, drop, None}
+use Rattle.std.proofs.Common.{◌≡◌, drop}
 use Rattle.its_core.specs.Cores.{core_at}
-use Rattle.its_word.specs.Only.{Only}
-use Rattle.its_plain.specs.Unit.{first_fault, stored}
 use Rattle.pdp_exec.proofs.making.make_all.Given as goal
 use Rattle.pdp_exec.proofs.StoreLaws.{Making}
 
