@@ -75,7 +75,7 @@ console_of w = if is_dash w then None else Some (octal_value w)
 abbrev pub with_count : ℕ → List (List ℕ) → Result Event Bad → Result Event Bad
 with_count most ws line = if nat_le 1 (length ws) && nat_le (length ws) most then line else Err Syntax
 
--- The table: the words that may follow each first word. Each row has its line with no other words.
+-- The table of lines: what may follow each first word, a definition a row.
 
 -- `LOAD u j c`
 unfoldable pub load_line : List (List ℕ) → Result Event Bad
