@@ -95,7 +95,7 @@ load_read_only w s a v j h sound p =
     loaded_on w s a v j h sound ∙ go (can_store (core_at w.core s) a) (word_at (core_at w.core s) a) p
   where
     go : (can : Bool) (there : Option ℕ) → putting (core_at w.core s) a v can there ≡ Err ReadOnly
-      → with_core (machine_of w) s (record { core = core_at w.core s; job = j; superior = superior_at w.jobs s })
+        → with_core (machine_of w) s (record { core = core_at w.core s; job = j; superior = superior_at w.jobs s })
         (stored_in (core_at w.core s) a v can (is_some there) (nat_lt (pages_mapped (core_at w.core)) most_pages)) ≡ Err reasons.ReadOnly
     go true there e = cc
     go false (Some x) e = refl
@@ -105,7 +105,7 @@ load_read_only w s a v j h sound p =
 loaded_absent : (w : Monitor) (s a v : ℕ) (j : Job) (room : Bool) → job_at w.jobs s ≡ Some j → Sound w → 16 ≤ a → page_of (core_at w.core s) (a / 1024) ≡ None
     → nat_lt (pages_mapped (core_at w.core)) most_pages ≡ room
     → word_loaded (machine_of w) s a v ≡ with_core (machine_of w) s (record { core = core_at w.core s; job = j; superior = superior_at w.jobs s })
-      (stored_in (core_at w.core s) a v false false room)
+    (stored_in (core_at w.core s) a v false false room)
 loaded_absent w s a v j room h sound l p r =
     let no = absent_word (core_at w.core s) a l p in
     loaded_on w s a v j h sound

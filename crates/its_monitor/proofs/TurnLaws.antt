@@ -110,10 +110,10 @@ delivery_made w mid done new s i d informs h c r e k n m = record {
   taken = by_delivery (superior_at w.jobs s) (delivered (core_at w.core s) i);
   is = refl;
   machine = m
-    ∙ ap (λ (x : Machine). record x { jobs = inform informs x.jobs }) (carried_machine w mid done s i d.job h c r)
-    ∙ ap (λ (x : Core). record (machine_of w) { jobs = inform informs (changed (machine_of w).jobs s (Some (record { core = x; job = d.job; superior = superior_at w.jobs s }))) }) (ap (λ (x : Cores). core_at x s) r.core ∙ k)
-    ∙ ap (λ (x : Option ℕ). after (machine_of w) s (record { core = core_at w.core s; job = i; superior = superior_at w.jobs s }) (record { core = d.core; job = d.job; informs = x })) n
-    ∙ ap (λ (x : Delivered). after (machine_of w) s (record { core = core_at w.core s; job = i; superior = superior_at w.jobs s }) (by_delivery (superior_at w.jobs s) x)) (sym e);
+      ∙ ap (λ (x : Machine). record x { jobs = inform informs x.jobs }) (carried_machine w mid done s i d.job h c r)
+      ∙ ap (λ (x : Core). record (machine_of w) { jobs = inform informs (changed (machine_of w).jobs s (Some (record { core = x; job = d.job; superior = superior_at w.jobs s }))) }) (ap (λ (x : Cores). core_at x s) r.core ∙ k)
+      ∙ ap (λ (x : Option ℕ). after (machine_of w) s (record { core = core_at w.core s; job = i; superior = superior_at w.jobs s }) (record { core = d.core; job = d.job; informs = x })) n
+      ∙ ap (λ (x : Delivered). after (machine_of w) s (record { core = core_at w.core s; job = i; superior = superior_at w.jobs s }) (by_delivery (superior_at w.jobs s) x)) (sym e);
 }
 
 -- a tick
@@ -132,15 +132,15 @@ pub tick_delivery : (w new : Monitor) (s : ℕ) (j : Job) → job_at w.jobs s �
 tick_delivery w new s j h t d m =
     let e : by_delivery (superior_at w.jobs s) (delivered (core_at w.core s) j) ≡ m.taken = cc (m.is) in
     tick_step (machine_of w) (machine_of new) s (step_delivery (machine_of w) (machine_of new) s (record { core = core_at w.core s; job = j; superior = superior_at w.jobs s })
-      (jobs_of w s ∙ whole_some w s j h) t d
-      (m.machine ∙ ap (after (machine_of w) s (record { core = core_at w.core s; job = j; superior = superior_at w.jobs s })) (sym e)))
+    (jobs_of w s ∙ whole_some w s j h) t d
+    (m.machine ∙ ap (after (machine_of w) s (record { core = core_at w.core s; job = j; superior = superior_at w.jobs s })) (sym e)))
 
 pub tick_unit : (w new : Monitor) (s : ℕ) (j : Job) → job_at w.jobs s ≡ Some j → j.stopped ≡ false → deliverable j ≡ false
     → StepMade w new s j (by_unit (core_at w.core s) j (unit (core_at w.core s) j))
     → (machine_of new ≡ (tick (machine_of w) s).machine) × (Step ≡ (tick (machine_of w) s).pace)
 tick_unit w new s j h t d m =
     tick_step (machine_of w) (machine_of new) s (step_unit (machine_of w) (machine_of new) s (record { core = core_at w.core s; job = j; superior = superior_at w.jobs s }) m.taken
-      (jobs_of w s ∙ whole_some w s j h) t d m.is m.machine)
+    (jobs_of w s ∙ whole_some w s j h) t d m.is m.machine)
 
 -- what a delivery leaves of PC
 delivered_pc : (w : Monitor) (s : ℕ) (j : Job) → job_at w.jobs s ≡ Some j → Sound w → (delivered (core_at w.core s) j).job.pc < 2 ^ 18

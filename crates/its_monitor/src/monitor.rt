@@ -32,10 +32,7 @@ impl Monitor {
     {
         let core = Core::open(alloc)?;
         let jobs = Jobs::open(alloc)?;
-        Ok(Monitor {
-            core,
-            jobs,
-        })
+        Ok(Monitor { core, jobs })
     }
 
     /// The registers of a slot's job.

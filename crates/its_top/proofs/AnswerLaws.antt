@@ -111,9 +111,9 @@ ticks_answered turn n m m' b s k ps old new e f t = record {
   wrote = t.wrote;
   appended = t.appended;
   answers =
-    let line : text (printed.Ticks s (paces_of m s k) ∷ []) ≡ text_of_line (printed.Ticks s ps) = text_one (printed.Ticks s (paces_of m s k)) ∙ ap (λ x. text_of_line (printed.Ticks s x)) (sym e) in
-    let a = ticks_on n m b (events.Tick s k) s k refl in
-    on_by turn n m m' b b (events.Tick s k) (text_of_line (printed.Ticks s ps)) t.wrote
+      let line : text (printed.Ticks s (paces_of m s k) ∷ []) ≡ text_of_line (printed.Ticks s ps) = text_one (printed.Ticks s (paces_of m s k)) ∙ ap (λ x. text_of_line (printed.Ticks s x)) (sym e) in
+      let a = ticks_on n m b (events.Tick s k) s k refl in
+      on_by turn n m m' b b (events.Tick s k) (text_of_line (printed.Ticks s ps)) t.wrote
       (subst (λ x. Answers turns.On n m b (events.Tick s k) x b (text_of_line (printed.Ticks s ps))) (sym f) (subst (Answers turns.On n m b (events.Tick s k) (ticked m s k) b) line a)) t.complete;
 }
 

@@ -120,7 +120,7 @@ session_over t now next kept after_them bytes left mid rest old now_out new g s 
   appended = Appends-trans old now_out new s.wrote f.wrote s.appended f.appended;
   ran = was_run t;
   concluded = told_over t left rest _ _ next after_them g (Consumes-trans left mid rest s.read bytes s.consumed c)
-    (fed_then t at_start now next [] kept after_them s.read bytes s.wrote f.wrote s.fed f.fed);
+      (fed_then t at_start now next [] kept after_them s.read bytes s.wrote f.wrote s.fed f.fed);
 }
 
 -- a session that goes on

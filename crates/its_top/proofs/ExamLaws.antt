@@ -77,8 +77,8 @@ exam_next m l s a n k v ws us h f same p so g =
     let here : word_seen m s (a + k) ≡ Ok v = subst (λ x. word_seen x s (a + k) ≡ Ok v) same g in
     record {
       whole = so.whole ∙ ap (λ x. behind ws (examined m s (a + k) x)) e ∙ ap (behind ws) (next_word m s (a + k) (n - (k + 1)) v (omega arith) here)
-        ∙ behind_behind ws (v ∷ []) (examined m s (a + k + 1) (n - (k + 1))) ∙ ap (λ x. behind (ws ++ v ∷ []) (examined m s x (n - (k + 1)))) q
-        ∙ ap (λ x. behind x (examined m s (a + (k + 1)) (n - (k + 1)))) (sym p);
+          ∙ behind_behind ws (v ∷ []) (examined m s (a + k + 1) (n - (k + 1))) ∙ ap (λ x. behind (ws ++ v ∷ []) (examined m s x (n - (k + 1)))) q
+          ∙ ap (λ x. behind x (examined m s (a + (k + 1)) (n - (k + 1)))) (sym p);
       there = λ z. there_word m s (a + k) v here;
     }
 

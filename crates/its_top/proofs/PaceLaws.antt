@@ -18,7 +18,7 @@ pacing_next m now next s n k ps qs p h so e f g =
     let t = more now s (n - k) (n - (k + 1)) (omega arith) in
     record {
       letters = ap (λ x. x ++ paces_of next s (n - (k + 1))) g ∙ append_assoc ps (p ∷ []) (paces_of next s (n - (k + 1)))
-        ∙ ap (λ x. ps ++ (x ∷ paces_of next s (n - (k + 1)))) f ∙ ap (λ x. ps ++ ((tick now s).pace ∷ paces_of x s (n - (k + 1)))) e ∙ ap (λ x. ps ++ x) (sym t.0) ∙ so.letters;
+          ∙ ap (λ x. ps ++ (x ∷ paces_of next s (n - (k + 1)))) f ∙ ap (λ x. ps ++ ((tick now s).pace ∷ paces_of x s (n - (k + 1)))) e ∙ ap (λ x. ps ++ x) (sym t.0) ∙ so.letters;
       machine = ap (λ x. ticked x s (n - (k + 1))) e ∙ sym t.1 ∙ so.machine;
     }
 

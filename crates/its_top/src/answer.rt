@@ -19,7 +19,14 @@ use its_word::{Event, Pace, Reason, Refusal, Word};
 
 /// LOAD: makes a job, and shows its slot, which is then the block's.
 #[tactic(auto, using(crate::proofs::AnswerLaws::load_answered, crate::proofs::AnswerLaws::load_refused))]
-fn load<K: Sink>(m: &mut Monitor, p: &mut Progress, u: Word, j: Word, console: Option<u8>, out: &mut K) -> Turn
+fn load<K: Sink>(
+    m: &mut Monitor,
+    p: &mut Progress,
+    u: Word,
+    j: Word,
+    console: Option<u8>,
+    out: &mut K,
+) -> Turn
     requires sound { Sound m.old }
     ensures answered { Answered result p.old.number (machine_of m.old) (block_of p.old.slot) (Event.Load u j console) (machine_of m.new) (block_of p.new.slot) (K.written out.old) (K.written out.new) }
     ensures sound { Sound m.new }

@@ -23,7 +23,13 @@ const MOST_LINES: u32 = 1 << 20;
 /// Takes a byte of a session. LF ends the line that is kept; any other byte is added to it, but a line
 /// of more than 255 bytes is refused as soon as byte 256 comes.
 #[tactic(auto, using(crate::proofs::FeedLaws::feeds_beyond, crate::proofs::FeedLaws::feeds_line, crate::proofs::FeedLaws::feeds_kept, crate::proofs::FeedLaws::feeds_long))]
-pub fn feed_byte<K: Sink>(m: &mut Monitor, p: &mut Progress, kept: &mut ArrayVec<u8, 255>, b: u8, out: &mut K) -> Turn
+pub fn feed_byte<K: Sink>(
+    m: &mut Monitor,
+    p: &mut Progress,
+    kept: &mut ArrayVec<u8, 255>,
+    b: u8,
+    out: &mut K,
+) -> Turn
     requires sound { Sound m.old }
     requires slot { p.old.slot < slots }
     requires most { p.old.number ≤ most_lines + 1 }
@@ -55,7 +61,13 @@ pub fn feed_byte<K: Sink>(m: &mut Monitor, p: &mut Progress, kept: &mut ArrayVec
 
 /// Takes bytes of a session, until it is over.
 #[tactic(auto, using(crate::proofs::FeedLaws::feeds_none, crate::proofs::FeedLaws::feeds_next, crate::proofs::FeedLaws::feeds_over))]
-pub fn feed<K: Sink>(m: &mut Monitor, p: &mut Progress, kept: &mut ArrayVec<u8, 255>, bytes: &[u8], out: &mut K) -> Turn
+pub fn feed<K: Sink>(
+    m: &mut Monitor,
+    p: &mut Progress,
+    kept: &mut ArrayVec<u8, 255>,
+    bytes: &[u8],
+    out: &mut K,
+) -> Turn
     requires sound { Sound m.old }
     requires slot { p.old.slot < slots }
     requires most { p.old.number ≤ most_lines + 1 }

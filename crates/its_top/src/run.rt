@@ -39,7 +39,14 @@ pub fn session<S: Source, K: Sink>(m: &mut Monitor, src: &mut S, out: &mut K) ->
 }
 
 /// Reads and takes the bytes of a session, until it is over.
-fn take_all<S: Source, K: Sink>(m: &mut Monitor, p: &mut Progress, kept: &mut ArrayVec<u8, 255>, buf: &mut [u8], src: &mut S, out: &mut K) -> Status
+fn take_all<S: Source, K: Sink>(
+    m: &mut Monitor,
+    p: &mut Progress,
+    kept: &mut ArrayVec<u8, 255>,
+    buf: &mut [u8],
+    src: &mut S,
+    out: &mut K,
+) -> Status
     requires sound { Sound m.old }
     requires start { now_of m.old p.old ≡ at_start }
     requires slot { p.old.slot < slots }
