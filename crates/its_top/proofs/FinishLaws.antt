@@ -72,7 +72,7 @@ finishes_over turn now next (b ∷ bs) old new n g l = record {
   finished = over_by turn now next b bs l.wrote g l.lines;
 }
 
-on_of : (turn : Turn) → goes_on turn ≡ true → turn ≡ turns.On
+pub on_of : (turn : Turn) → goes_on turn ≡ true → turn ≡ turns.On
 on_of turns.On h = refl
 on_of turns.Ended h = cc
 on_of turns.Refused h = cc

@@ -1,5 +1,5 @@
 -- The start of a session, and its exits.
-use Rattle.std.specs.Prelude.{◌≡◌, ◌<◌, ◌≤◌, ℕ, ◌+◌, Bool, true, false, Option, List, [], ◌∷◌, ◌++◌, length, refl}
+use Rattle.std.specs.Prelude.{◌≡◌, ◌<◌, ◌≤◌, ℕ, ◌+◌, Bool, true, false, Option, List, [], ◌∷◌, ◌++◌, length, take, refl}
 use Rattle.std.proofs.Common.{sym, ◌∙◌, ap, subst}
 use Rattle.std.specs.Io.KnownBytes.{Appends, Consumes, Keeps, IsAtEnd}
 use Rattle.its_word.specs.declared.session.Place.TheVariants as places
@@ -8,8 +8,9 @@ use Rattle.its_top.specs.declared.status.Status.{Status}
 use Rattle.its_top.specs.declared.turn.Turn.{Turn}
 use Rattle.its_top.specs.Telling.{Now, at_start, goes_on}
 use Rattle.its_top.specs.Answer.{block_of}
-use Rattle.its_top.specs.Conclusion.{Session, SoFar, Feeds, status_of}
-use Rattle.its_top.proofs.ConclusionLaws.{so_far_none, session_over}
+use Rattle.its_top.specs.Conclusion.{Session, SoFar, Feeds, Finishes, status_of}
+use Rattle.its_top.proofs.ConclusionLaws.{so_far_none, so_far_next, session_end, session_over}
+use Rattle.its_top.proofs.FinishLaws.{on_of}
 
 pub start_is : (m : Machine) → m ≡ no_machine → record { number = 1; machine = m; block = block_of 0; place = places.Plain } ≡ at_start
 start_is m e = ap (λ x. now_made x) e
@@ -25,3 +26,14 @@ pub session_by : (st : Status) (t : Turn) (now next : Now) (kept after_them byte
     → SoFar kept now left mid old now_out → Consumes mid rest bytes → Feeds t now kept bytes next after_them now_out new → Session st left rest old new
 session_by st t now next kept after_them bytes left mid rest old now_out new e g s c f =
     subst (λ x. Session x left rest old new) (sym e) (session_over t now next kept after_them bytes left mid rest old now_out new g s c f)
+
+pub so_far_by : (t : Turn) (now next : Now) (kept after_them bytes : List ℕ) (left mid rest old now_out new : Option (List ℕ)) → goes_on t ≡ true
+    → SoFar kept now left mid old now_out → Consumes mid rest bytes → Feeds t now kept bytes next after_them now_out new → SoFar after_them next left rest old new
+so_far_by t now next kept after_them bytes left mid rest old now_out new g s c f =
+    so_far_next now next kept after_them bytes left mid rest old now_out new s c (subst (λ x. Feeds x now kept bytes next after_them now_out new) (on_of t g) f)
+
+-- the end of input, at which no byte was read
+pub session_at_end : (st : Status) (now : Now) (kept slice bytes : List ℕ) (count : ℕ) (left mid rest old now_out new : Option (List ℕ)) → count ≡ 0 → slice ≡ kept
+    → SoFar kept now left mid old now_out → Consumes mid rest (take count bytes) → IsAtEnd rest → Finishes st now slice now_out new → Session st left rest old new
+session_at_end st now kept slice bytes count left mid rest old now_out new z e s c a f =
+    session_end st now kept left mid rest old now_out new s (subst (λ n. Consumes mid rest (take n bytes)) z c) a (subst (λ k. Finishes st now k now_out new) e f)
