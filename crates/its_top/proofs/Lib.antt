@@ -4,6 +4,7 @@ pub mod ByteLaws
 pub mod ConclusionLaws
 pub mod AnswerLaws
 pub mod ExamLaws
+pub mod TopLaws
 pub mod SessionLaws
 pub mod FeedLaws
 pub mod FinishLaws

@@ -7,8 +7,10 @@ mod lines;
 mod progress;
 mod run;
 mod status;
+mod top;
 mod turn;
 mod writing;
 
 pub use run::session;
 pub use status::Status;
+pub use top::its;
