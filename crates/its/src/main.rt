@@ -1,15 +1,20 @@
-//! The program `its`: hands its words, standard input and standard output to the top call.
+//! The program `its`: hands its words, standard input and standard output to the top call, and makes
+//! an exit status of the answer.
 #![tactic(auto)]
+
+ghost use Rattle.std.specs.Prelude.{◌≡◌};
+ghost use Rattle.its.specs.Exit.{exit_status};
 
 use its_io::{RealSink, RealSource};
 use its_top::{Status, its};
-use std::alloc::{AllocError, Global};
 use std::env;
 use std::io::{self, ErrorKind};
 use std::process::ExitCode;
 
 /// The exit status of an answer.
-fn exit_status(status: Status) -> u8 {
+fn exit_status(status: Status) -> u8
+    ensures { result ≡ exit_status status }
+{
     match status {
         Status::Done => 0,
         Status::Usage => 1,
@@ -19,4 +24,28 @@ fn exit_status(status: Status) -> u8 {
         Status::NoMemory => 5,
         Status::TooLong => 6,
     }
+}
+
+/// The exit status where the system does not give the words.
+fn no_words(e: io::Error) -> u8 {
+    match e.kind() {
+        ErrorKind::OutOfMemory => 5,
+        _ => 7,
+    }
+}
+
+fn main(rt: HostRuntime) -> ExitCode {
+    let args = match env::args(&rt) {
+        Ok(args) => args,
+        Err(e) => return ExitCode::from(no_words(e)),
+    };
+    let mut words = Vec::new(rt.alloc());
+    for word in args.skip(1) {
+        if words.push(word).is_err() {
+            return ExitCode::from(5);
+        }
+    }
+    let mut src = RealSource::new(rt.stdin());
+    let mut out = RealSink::new(rt.stdout());
+    ExitCode::from(exit_status(its(rt.alloc(), &words, &mut src, &mut out)))
 }

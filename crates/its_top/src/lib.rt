@@ -7,6 +7,8 @@ mod lines;
 mod progress;
 mod run;
 mod status;
+#[cfg(test)]
+mod tests;
 mod top;
 mod turn;
 mod writing;
