@@ -1,19 +1,21 @@
 -- A page that a slot reserves, clears, or gives back.
-use Rattle.std.specs.Prelude.{◌≡◌, ◌≢◌, ◌<◌, ◌≤◌, ℕ, ◌+◌, ◌-◌, ◌*◌, ◌==◌, Bool, true, false, Option, Some, None, List, length, take, drop, slice_set, slice_index_or, is_some, count_by, option_map, refl}
+use Rattle.std.specs.Prelude.{◌≡◌, ◌≢◌, ◌<◌, ◌≤◌, ℕ, ◌+◌, ◌-◌, ◌*◌, ◌==◌, true, false, Option, Some, None, List, [], ◌∷◌, ◌++◌, length, map, take, drop, slice_set, slice_index_or, is_some, count_by, option_map, refl}
 use Rattle.std.proofs.Common.{sym, ◌∙◌, ap, inl, inr, arith, length-set, subst}
 use Rattle.std.proofs.lemmas.Bool.{cases_lt, cases_eq, cond-true, cond-false, eq-eqb, ne_eqb}
-use Rattle.std.proofs.lemmas.List.{get_or-set_same, get_or-set_other, set-get_or}
+use Rattle.std.proofs.lemmas.List.{get_or-set_same, get_or-set_other, set-get_or, map-set, length-map, length_push}
 use Rattle.std.proofs.lemmas.Option.{same_Some}
 use Rattle.its_word.specs.Core.{no_core, pages_mapped}
 use Rattle.its_word.specs.Limits.{slots}
 use Rattle.its_word.specs.Only.{Only}
 use Rattle.its_core.specs.declared.cores.Mapped.{Mapped}
 use Rattle.its_core.specs.declared.cores.Held.{Held}
+use Rattle.its_links.specs.Lists.{Linked, list_at, first, rest}
+use Rattle.its_core.specs.Frames.{Listed, all_frames, as_list, free, frames_reserve, frames_give_back}
 use Rattle.its_core.specs.Cores.{Cores, Reserved, core_at, reserved_at, clear_at, clear_with, cleared, zeroed}
-use Rattle.its_core.specs.Pool.{held_frame, frame_words, page_in, reserved_in, core_in, cores_in, frames_in, Apart, IsPool, IsClear}
+use Rattle.its_core.specs.Pool.{frame_of, held_frame, frame_words, page_in, reserved_in, core_in, cores_in, frames_now, IsPool, IsClear}
 use Rattle.its_core.proofs.ListLaws.{table_alike, frame_words_zeroed, frame_words_zeroed_other, zero_stays, get_or-zeroed, length-zeroed}
-use Rattle.its_core.proofs.FrameLaws.{frees, takes, frames_set_held, count_missing, count_set, length-frames}
-use Rattle.its_core.proofs.ReadLaws.{reserved_at_is, held_frame_at, held_below, frame_at_held, place_frame, place_below, frame_below}
+use Rattle.its_core.proofs.FrameLaws.{count_missing, count_set, reserve_listed, give_back_listed}
+use Rattle.its_core.proofs.ReadLaws.{apart, reserved_frame_is, reserved_frame_none, reserved_at_is, held_frame_at, held_below, place_frame, place_below, frame_below}
 
 -- the number of quarters that are clear follows the reserved pages
 pub clear_only : (old new : Cores) (s : ℕ) (o : Option Reserved) → Only (reserved_at old) (reserved_at new) s o → Only (clear_at old) (clear_at new) s (option_map (λ r. r.clear) o)
@@ -24,41 +26,48 @@ cleared_clear q None = refl
 cleared_clear q (Some r) = refl
 
 -- the cores, and so the number of pages, do not depend on the reserved pages
-pub held_cores : (accs : List ℕ) (places : List (Option Mapped)) (held gelt : List (Option Held)) (words : List ℕ) → (cores_in accs places gelt words).cores ≡ (cores_in accs places held words).cores
+pub held_cores : (accs : List ℕ) (places : List (Option Mapped)) (held gelt : List (Option Held)) (words : List ℕ) (links minks : Linked) → (cores_in accs places gelt words minks).cores ≡ (cores_in accs places held words links).cores
 unfolding cores_in
-held_cores accs places held gelt words = refl
+held_cores accs places held gelt words links minks = refl
 
-held_number : (accs : List ℕ) (places : List (Option Mapped)) (held gelt : List (Option Held)) (words : List ℕ) → pages_mapped (core_at (cores_in accs places gelt words)) ≡ pages_mapped (core_at (cores_in accs places held words))
+held_number : (accs : List ℕ) (places : List (Option Mapped)) (held gelt : List (Option Held)) (words : List ℕ) (links minks : Linked) → pages_mapped (core_at (cores_in accs places gelt words minks)) ≡ pages_mapped (core_at (cores_in accs places held words links))
 unfolding core_at cores_in
-held_number accs places held gelt words = refl
+held_number accs places held gelt words links minks = refl
 
-pub held_only : (accs : List ℕ) (places qlaces : List (Option Mapped)) (held : List (Option Held)) (words : List ℕ) (s : ℕ) (o : Option Held) → s < length held
-    → Only (reserved_at (cores_in accs places held words)) (reserved_at (cores_in accs qlaces (slice_set held s o) words)) s (reserved_in words o)
-held_only accs places qlaces held words s o h = record {
-  here = reserved_at_is accs qlaces (slice_set held s o) words s ∙ ap (reserved_in words) (get_or-set_same held s o None h);
+pub held_only : (accs : List ℕ) (places qlaces : List (Option Mapped)) (held : List (Option Held)) (words : List ℕ) (links minks : Linked) (s : ℕ) (o : Option Held) → s < length held
+    → Only (reserved_at (cores_in accs places held words links)) (reserved_at (cores_in accs qlaces (slice_set held s o) words minks)) s (reserved_in words o)
+held_only accs places qlaces held words links minks s o h = record {
+  here = reserved_at_is accs qlaces (slice_set held s o) words minks s ∙ ap (reserved_in words) (get_or-set_same held s o None h);
   others = λ k ne.
-      reserved_at_is accs qlaces (slice_set held s o) words k
+      reserved_at_is accs qlaces (slice_set held s o) words minks k
       ∙ ap (reserved_in words) (get_or-set_other held s k o None ne)
-      ∙ sym (reserved_at_is accs places held words k);
+      ∙ sym (reserved_at_is accs places held words links k);
 }
 
-module _ (accs : List ℕ) (places : List (Option Mapped)) (held : List (Option Held)) (words : List ℕ) (used : List Bool) (mapped : ℕ) (pool : IsPool accs places held words used mapped) where
-  pub held_none : (s : ℕ) → reserved_at (cores_in accs places held words) s ≡ None → slice_index_or held s None ≡ None
-  held_none s h = go (slice_index_or held s None) (sym (reserved_at_is accs places held words s) ∙ h)
+module _ (accs : List ℕ) (places : List (Option Mapped)) (held : List (Option Held)) (words : List ℕ) (links : Linked) (mapped : ℕ) (pool : IsPool accs places held words links mapped) where
+  pub held_none : (s : ℕ) → reserved_at (cores_in accs places held words links) s ≡ None → slice_index_or held s None ≡ None
+  held_none s h = go (slice_index_or held s None) (sym (reserved_at_is accs places held words links s) ∙ h)
     where
       go : (o : Option Held) → reserved_in words o ≡ None → o ≡ None
       go None e = refl
       go (Some x) e = cc
 
   -- there is always a free frame for a slot that has none reserved
-  pub some_frame : (s : ℕ) → s < slots → slice_index_or held s None ≡ None → count_by (λ b. b) used < length used
-  some_frame s lt e =
+  pub some_free : (s : ℕ) → s < slots → slice_index_or held s None ≡ None → is_some (first (list_at links.lists 0)) ≡ true
+  some_free s lt e =
       let a = pool.held_long in
-      let b = pool.used_long in
       let c = pool.most in
       let d = pool.count in
       let f = count_missing held s (omega arith) e in
-      omega arith
+      go (list_at links.lists 0) (omega arith)
+    where
+      go : (xs : List ℕ) → 0 < length xs → is_some (first xs) ≡ true
+      go [] h = absurd (omega arith)
+      go (x ∷ xs) h = refl
+
+  pub some_seen : (s : ℕ) → s < slots → slice_index_or held s None ≡ None → is_some (first (free (cores_in accs places held words links).frames)) ≡ true
+  unfolding cores_in
+  some_seen s lt e = some_free s lt e
 
   -- the quarters of a new list of reserved pages are clear where those of the new one are
   clear_set : (s : ℕ) (o : Option Held) (vords : List ℕ) → s < length held → ((h : Held) → o ≡ Some h → IsClear vords h)
@@ -69,25 +78,22 @@ module _ (accs : List ℕ) (places : List (Option Mapped)) (held : List (Option 
     | inr ne ↦ others k h ne (sym (get_or-set_other held s k o None ne) ∙ e)
   ]
 
-  held_apart : (s : ℕ) (o : Option Held) (vsed : List Bool) → Apart (slice_set (frames_in places held) (16384 + s) (held_frame o)) vsed → Apart (frames_in places (slice_set held s o)) vsed
-  held_apart s o vsed a =
-      let P : List (Option ℕ) → Type 0 = λ fs. Apart fs vsed in
-      subst P (sym (frames_set_held places held s o pool.places_long)) a
-
   -- a pool with another reserved page of a slot
-  held_pool : (s : ℕ) (o : Option Held) (vords : List ℕ) (vsed : List Bool) → s < slots → length vords ≡ 1114112 → length vsed ≡ 1088
-      → Apart (slice_set (frames_in places held) (16384 + s) (held_frame o)) vsed
+  held_pool : (s : ℕ) (o : Option Held) (vords : List ℕ) (minks : Linked) → s < slots → length vords ≡ 1114112 → minks.nodes ≡ all_frames → length minks.lists ≡ slots + 1
+      → Listed (frames_now places (slice_set held s o) minks) → ((t : ℕ) → list_at minks.lists (t + 1) ≡ list_at links.lists (t + 1))
       → ((k : ℕ) (h : Held) → slice_index_or (slice_set held s o) k None ≡ Some h → IsClear vords h)
-      → mapped ≡ pages_mapped (core_at (cores_in accs places (slice_set held s o) vords))
-      → count_by (λ b. b) vsed ≡ mapped + count_by is_some (slice_set held s o)
-      → IsPool accs places (slice_set held s o) vords vsed mapped
-  held_pool s o vords vsed lt wl ul a z n c = record {
+      → mapped ≡ pages_mapped (core_at (cores_in accs places (slice_set held s o) vords minks))
+      → length (list_at minks.lists 0) + mapped + count_by is_some (slice_set held s o) ≡ all_frames
+      → IsPool accs places (slice_set held s o) vords minks mapped
+  held_pool s o vords minks lt wl nodes heads listed lists z n c = record {
     accs_long = pool.accs_long;
     places_long = pool.places_long;
     held_long = length-set held s o ∙ pool.held_long;
     words_long = wl;
-    used_long = ul;
-    apart = held_apart s o vsed a;
+    nodes = nodes;
+    heads = heads;
+    listed = listed;
+    rows = λ t less. ap length (lists t) ∙ pool.rows t less;
     clear = z;
     number = n;
     most = pool.most;
@@ -99,46 +105,93 @@ module _ (accs : List ℕ) (places : List (Option Mapped)) (held : List (Option 
       let P : Held → Type 0 = λ i. IsClear words i in
       subst P (same_Some (record { frame = f; clear = 0 }) h e) (record { most = omega arith; zeros = λ k lt. absurd (omega arith) })
 
-  pub reserve_pool : (s f : ℕ) → s < slots → slice_index_or held s None ≡ None → f < length used → slice_index_or used f false ≡ false
-      → IsPool accs places (slice_set held s (Some (record { frame = f; clear = 0 }))) words (slice_set used f true) mapped
-  reserve_pool s f lt e below free =
-      let hl = pool.held_long in
-      let pl = pool.places_long in
-      let fl = length-frames places held in
-      let h : Held = record { frame = f; clear = 0 } in
-      let c = pool.count in
-      let u = count_set (λ b. b) used f true false false below free in
-      let v = count_set is_some held s (Some h) None false (omega arith) (ap is_some e) in
-      held_pool s (Some h) words (slice_set used f true) lt pool.words_long (length-set used f true ∙ pool.used_long)
-      (takes (frames_in places held) used (16384 + s) f pool.apart (frame_at_held places held s pl ∙ ap held_frame e) (omega arith) free below)
-      (clear_set s (Some h) words (omega arith) (λ i r. none_clear f i r) (λ k i ne r. pool.clear k i r))
-      (pool.number ∙ sym (held_number accs places held (slice_set held s (Some h)) words))
-      (omega arith)
+  -- the lists after the first free frame was taken, and after a frame was given back
+  abbrev pub taken : Linked
+  taken = record { nodes = links.nodes; lists = slice_set links.lists 0 (rest (list_at links.lists 0)) }
 
-  pub give_pool : (s : ℕ) (h : Held) → s < slots → slice_index_or held s None ≡ Some h → IsPool accs places (slice_set held s None) words (slice_set used h.frame false) mapped
+  abbrev pub given : ℕ → Linked
+  given y = record { nodes = links.nodes; lists = slice_set links.lists 0 (list_at links.lists 0 ++ y ∷ []) }
+
+  pub reserve_frames : (s y : ℕ) → first (list_at links.lists 0) ≡ Some y
+      → (cores_in accs places (slice_set held s (Some (record { frame = y; clear = 0 }))) words taken).frames ≡ frames_reserve s (cores_in accs places held words links).frames
+  unfolding cores_in
+  reserve_frames s y e =
+      ap (λ r. record { lists = slice_set links.lists 0 (rest (list_at links.lists 0)); pages = map frame_of places; reserved = r })
+      (map-set held_frame held s (Some (record { frame = y; clear = 0 })) ∙ ap (λ o. slice_set (map held_frame held) s o) (sym e))
+
+  pub give_frames : (s : ℕ) (h : Held) → slice_index_or held s None ≡ Some h
+      → (cores_in accs places (slice_set held s None) words (given h.frame)).frames ≡ frames_give_back s (cores_in accs places held words links).frames
+  unfolding cores_in
+  give_frames s h e =
+      ap (λ r. record { lists = slice_set links.lists 0 (list_at links.lists 0 ++ h.frame ∷ []); pages = map frame_of places; reserved = r }) (map-set held_frame held s None)
+      ∙ ap (λ o. record { lists = slice_set links.lists 0 (list_at links.lists 0 ++ as_list o); pages = map frame_of places; reserved = slice_set (map held_frame held) s None })
+      (sym (reserved_frame_is accs places held words links mapped pool s h e))
+
+  same_frames : (gelt : List (Option Held)) (minks : Linked) → Listed (cores_in accs places gelt words minks).frames → Listed (frames_now places gelt minks)
+  unfolding cores_in
+  same_frames gelt minks l = l
+
+  reserve_seen : (s y : ℕ) → s < slots → slice_index_or held s None ≡ None → first (list_at links.lists 0) ≡ Some y → Listed (frames_reserve s (cores_in accs places held words links).frames)
+  unfolding cores_in
+  reserve_seen s y lt none e =
+      let hl = pool.held_long in
+      let ml = length-map held held_frame in
+      reserve_listed (frames_now places held links) pool.listed pool.heads s y (omega arith) e (reserved_frame_none accs places held words links mapped pool s none)
+
+  give_seen : (s : ℕ) → s < slots → Listed (frames_give_back s (cores_in accs places held words links).frames)
+  unfolding cores_in
+  give_seen s lt =
+      let hl = pool.held_long in
+      let ml = length-map held held_frame in
+      give_back_listed (frames_now places held links) pool.listed pool.heads s (omega arith)
+
+  pub reserve_pool : (s y : ℕ) → s < slots → slice_index_or held s None ≡ None → first (list_at links.lists 0) ≡ Some y
+      → IsPool accs places (slice_set held s (Some (record { frame = y; clear = 0 }))) words taken mapped
+  reserve_pool s y lt e is =
+      let hl = pool.held_long in
+      let nl = pool.heads in
+      let h : Held = record { frame = y; clear = 0 } in
+      let c = pool.count in
+      let free = list_at links.lists 0 in
+      let v = count_set is_some held s (Some h) None false (omega arith) (ap is_some e) in
+      let u = ap length (get_or-set_same links.lists 0 (rest free) [] (omega arith)) in
+      let w = length_rest free y is in
+      held_pool s (Some h) words taken lt pool.words_long pool.nodes (length-set links.lists 0 (rest free) ∙ nl)
+      (same_frames (slice_set held s (Some h)) taken (subst Listed (sym (reserve_frames s y is)) (reserve_seen s y lt e is)))
+      (λ t. get_or-set_other links.lists 0 (t + 1) (rest free) [] (λ q. omega arith))
+      (clear_set s (Some h) words (omega arith) (λ i r. none_clear y i r) (λ k i ne r. pool.clear k i r))
+      (pool.number ∙ sym (held_number accs places held (slice_set held s (Some h)) words links taken))
+      (omega arith)
+    where
+      length_rest : (xs : List ℕ) (x : ℕ) → first xs ≡ Some x → length (rest xs) + 1 ≡ length xs
+      length_rest [] x f = absurd (cc)
+      length_rest (z ∷ zs) x f = omega arith
+
+  pub give_pool : (s : ℕ) (h : Held) → s < slots → slice_index_or held s None ≡ Some h → IsPool accs places (slice_set held s None) words (given h.frame) mapped
   give_pool s h lt e =
       let hl = pool.held_long in
-      let ul = pool.used_long in
-      let at = held_frame_at accs places held words used mapped pool s h e in
-      let below = held_below accs places held words used mapped pool s h e in
+      let nl = pool.heads in
       let c = pool.count in
-      let u = count_set (λ b. b) used h.frame false false true (omega arith) (pool.apart.in_use (16384 + s) h.frame at) in
+      let free = list_at links.lists 0 in
       let v = count_set is_some held s None None true (omega arith) (ap is_some e) in
-      held_pool s None words (slice_set used h.frame false) lt pool.words_long (length-set used h.frame false ∙ pool.used_long)
-      (frees (frames_in places held) used (16384 + s) h.frame pool.apart at)
+      let u = ap length (get_or-set_same links.lists 0 (free ++ h.frame ∷ []) [] (omega arith)) in
+      let w = length_push free h.frame in
+      held_pool s None words (given h.frame) lt pool.words_long pool.nodes (length-set links.lists 0 (free ++ h.frame ∷ []) ∙ nl)
+      (same_frames (slice_set held s None) (given h.frame) (subst Listed (sym (give_frames s h e)) (give_seen s lt)))
+      (λ t. get_or-set_other links.lists 0 (t + 1) (free ++ h.frame ∷ []) [] (λ q. omega arith))
       (clear_set s None words (omega arith) (λ i r. cc) (λ k i ne r. pool.clear k i r))
-      (pool.number ∙ sym (held_number accs places held (slice_set held s None) words))
+      (pool.number ∙ sym (held_number accs places held (slice_set held s None) words links (given h.frame)))
       (omega arith)
 
   -- the reserved page that a slot has
-  pub held_some : (s : ℕ) (h : Held) → slice_index_or held s None ≡ Some h → reserved_at (cores_in accs places held words) s ≡ Some (record { clear = h.clear; words = frame_words words h.frame })
-  held_some s h e = reserved_at_is accs places held words s ∙ ap (reserved_in words) e
+  pub held_some : (s : ℕ) (h : Held) → slice_index_or held s None ≡ Some h → reserved_at (cores_in accs places held words links) s ≡ Some (record { clear = h.clear; words = frame_words words h.frame })
+  held_some s h e = reserved_at_is accs places held words links s ∙ ap (reserved_in words) e
 
-  pub set_only : (s : ℕ) (o : Option Held) → s < slots → Only (reserved_at (cores_in accs places held words)) (reserved_at (cores_in accs places (slice_set held s o) words)) s (reserved_in words o)
-  set_only s o lt = let hl = pool.held_long in held_only accs places places held words s o (omega arith)
+  pub set_only : (minks : Linked) (s : ℕ) (o : Option Held) → s < slots → Only (reserved_at (cores_in accs places held words links)) (reserved_at (cores_in accs places (slice_set held s o) words minks)) s (reserved_in words o)
+  set_only minks s o lt = let hl = pool.held_long in held_only accs places places held words links minks s o (omega arith)
 
-  pub held_is_some : (s : ℕ) → is_some (reserved_at (cores_in accs places held words) s) ≡ true → is_some (slice_index_or held s None) ≡ true
-  held_is_some s h = go (slice_index_or held s None) (sym (ap is_some (reserved_at_is accs places held words s)) ∙ h)
+  pub held_is_some : (s : ℕ) → is_some (reserved_at (cores_in accs places held words links) s) ≡ true → is_some (slice_index_or held s None) ≡ true
+  held_is_some s h = go (slice_index_or held s None) (sym (ap is_some (reserved_at_is accs places held words links s)) ∙ h)
     where
       go : (o : Option Held) → is_some (reserved_in words o) ≡ true → is_some o ≡ true
       go None e = e
@@ -152,12 +205,12 @@ module _ (accs : List ℕ) (places : List (Option Mapped)) (held : List (Option 
       go None r = refl
       go (Some m) r =
           let wl = pool.words_long in
-          let a = held_below accs places held words used mapped pool s h e in
-          let b = frame_below accs places held words used mapped pool p m r in
-          let pb = place_below accs places held words used mapped pool p m r in
+          let a = held_below accs places held words links mapped pool s h e in
+          let b = frame_below accs places held words links mapped pool p m r in
+          let pb = place_below accs places held words links mapped pool p m r in
           ap (λ ws. Some (record { words = ws; writable = m.writable }))
           (frame_words_zeroed_other words h.frame m.frame i 256 (omega arith) (omega arith) le (λ same.
-          let x = pool.apart.once p (16384 + s) h.frame (place_frame accs places held words used mapped pool p m r ∙ ap Some same) (held_frame_at accs places held words used mapped pool s h e) in
+          let x = apart accs places held words links mapped pool p (16384 + s) h.frame (place_frame accs places held words links mapped pool p m r ∙ ap Some same) (held_frame_at accs places held words links mapped pool s h e) in
           omega arith))
 
   core_alike : (s i t : ℕ) (h : Held) → slice_index_or held s None ≡ Some h → i + 256 ≤ 1024 → core_in accs places (zeroed (1024 * h.frame + i) 256 words) t ≡ core_in accs places words t
@@ -168,12 +221,12 @@ module _ (accs : List ℕ) (places : List (Option Mapped)) (held : List (Option 
       (λ k lt. page_alike s i (256 * t + k) h e le))
 
   pub clear_cores : (gelt : List (Option Held)) (s i : ℕ) (h : Held) → slice_index_or held s None ≡ Some h → i + 256 ≤ 1024
-      → (cores_in accs places gelt (zeroed (1024 * h.frame + i) 256 words)).cores ≡ (cores_in accs places held words).cores
+      → (cores_in accs places gelt (zeroed (1024 * h.frame + i) 256 words) links).cores ≡ (cores_in accs places held words links).cores
   unfolding cores_in
   clear_cores gelt s i h e le = table_alike slots (core_in accs places words) (core_in accs places (zeroed (1024 * h.frame + i) 256 words)) (λ t lt. core_alike s i t h e le)
 
   clear_number : (gelt : List (Option Held)) (s i : ℕ) (h : Held) → slice_index_or held s None ≡ Some h → i + 256 ≤ 1024
-      → mapped ≡ pages_mapped (core_at (cores_in accs places gelt (zeroed (1024 * h.frame + i) 256 words)))
+      → mapped ≡ pages_mapped (core_at (cores_in accs places gelt (zeroed (1024 * h.frame + i) 256 words) links))
   unfolding core_at
   clear_number gelt s i h e le = pool.number ∙ sym (ap (λ cs. pages_mapped (λ k. slice_index_or cs k no_core)) (clear_cores gelt s i h e le))
 
@@ -185,34 +238,34 @@ module _ (accs : List ℕ) (places : List (Option Mapped)) (held : List (Option 
       go None r = refl
       go (Some g) r =
           let wl = pool.words_long in
-          let a = held_below accs places held words used mapped pool s h e in
-          let b = held_below accs places held words used mapped pool k g r in
+          let a = held_below accs places held words links mapped pool s h e in
+          let b = held_below accs places held words links mapped pool k g r in
           ap (λ ws. Some (record { clear = g.clear; words = ws }))
           (frame_words_zeroed_other words h.frame g.frame i 256 (omega arith) (omega arith) le (λ same.
-          let x = pool.apart.once (16384 + k) (16384 + s) h.frame (held_frame_at accs places held words used mapped pool k g r ∙ ap Some same) (held_frame_at accs places held words used mapped pool s h e) in
+          let x = apart accs places held words links mapped pool (16384 + k) (16384 + s) h.frame (held_frame_at accs places held words links mapped pool k g r ∙ ap Some same) (held_frame_at accs places held words links mapped pool s h e) in
           ne (omega arith)))
 
   pub clear_quarter_only : (s q : ℕ) (h : Held) → s < slots → q < 4 → slice_index_or held s None ≡ Some h
-      → Only (reserved_at (cores_in accs places held words))
-      (reserved_at (cores_in accs places (slice_set held s (Some (record { frame = h.frame; clear = clear_with q h.clear }))) (zeroed (1024 * h.frame + 256 * q) 256 words))) s
-      (option_map (cleared q) (reserved_at (cores_in accs places held words) s))
+      → Only (reserved_at (cores_in accs places held words links))
+      (reserved_at (cores_in accs places (slice_set held s (Some (record { frame = h.frame; clear = clear_with q h.clear }))) (zeroed (1024 * h.frame + 256 * q) 256 words) links)) s
+      (option_map (cleared q) (reserved_at (cores_in accs places held words links) s))
   clear_quarter_only s q h lt ql e =
       let hl = pool.held_long in
       let wl = pool.words_long in
-      let a = held_below accs places held words used mapped pool s h e in
+      let a = held_below accs places held words links mapped pool s h e in
       let n : Option Held = Some (record { frame = h.frame; clear = clear_with q h.clear }) in
       let ws = zeroed (1024 * h.frame + 256 * q) 256 words in
       record {
         here =
-            reserved_at_is accs places (slice_set held s n) ws s
+            reserved_at_is accs places (slice_set held s n) ws links s
             ∙ ap (reserved_in ws) (get_or-set_same held s n None (omega arith))
             ∙ ap (λ xs. Some (record { clear = clear_with q h.clear; words = xs })) (frame_words_zeroed words h.frame (256 * q) 256 (omega arith) (omega arith))
             ∙ sym (ap (option_map (cleared q)) (held_some s h e));
         others = λ k ne.
-            reserved_at_is accs places (slice_set held s n) ws k
+            reserved_at_is accs places (slice_set held s n) ws links k
             ∙ ap (reserved_in ws) (get_or-set_other held s k n None ne)
             ∙ other_reserved s (256 * q) k h e (omega arith) ne
-            ∙ sym (reserved_at_is accs places held words k);
+            ∙ sym (reserved_at_is accs places held words links k);
       }
 
   still_clear : (i : ℕ) (g : Held) → i + 256 ≤ length words → IsClear words g → IsClear (zeroed i 256 words) g
@@ -222,7 +275,7 @@ module _ (accs : List ℕ) (places : List (Option Mapped)) (held : List (Option 
       → IsClear (zeroed (1024 * h.frame + 256 * q) 256 words) g
   quarter_clear s q h g ql e r =
       let wl = pool.words_long in
-      let a = held_below accs places held words used mapped pool s h e in
+      let a = held_below accs places held words links mapped pool s h e in
       let c = pool.clear s h e in
       let cm = c.most in
       let z : (k : ℕ) → k < 256 * h.clear → slice_index_or (zeroed (1024 * h.frame + 256 * q) 256 words) (1024 * h.frame + k) 0 ≡ 0 =
@@ -246,22 +299,31 @@ module _ (accs : List ℕ) (places : List (Option Mapped)) (held : List (Option 
             record { most = omega arith; zeros = λ k less. z k (omega arith) }
       ])
 
+  -- a reserved page keeps its frame
+  quarter_frames_now : (s : ℕ) (h : Held) (c : ℕ) → slice_index_or held s None ≡ Some h → frames_now places (slice_set held s (Some (record { frame = h.frame; clear = c }))) links ≡ frames_now places held links
+  quarter_frames_now s h c e =
+      ap (λ r. record { lists = links.lists; pages = map frame_of places; reserved = r })
+      (map-set held_frame held s (Some (record { frame = h.frame; clear = c }))
+      ∙ ap (λ o. slice_set (map held_frame held) s o) (sym (reserved_frame_is accs places held words links mapped pool s h e))
+      ∙ set-get_or (map held_frame held) s None)
+
   pub clear_quarter_pool : (s q : ℕ) (h : Held) → s < slots → q < 4 → slice_index_or held s None ≡ Some h
-      → IsPool accs places (slice_set held s (Some (record { frame = h.frame; clear = clear_with q h.clear }))) (zeroed (1024 * h.frame + 256 * q) 256 words) used mapped
+      → IsPool accs places (slice_set held s (Some (record { frame = h.frame; clear = clear_with q h.clear }))) (zeroed (1024 * h.frame + 256 * q) 256 words) links mapped
   clear_quarter_pool s q h lt ql e =
       let hl = pool.held_long in
       let wl = pool.words_long in
-      let a = held_below accs places held words used mapped pool s h e in
+      let a = held_below accs places held words links mapped pool s h e in
       let n : Option Held = Some (record { frame = h.frame; clear = clear_with q h.clear }) in
       let ws = zeroed (1024 * h.frame + 256 * q) 256 words in
-      let at = held_frame_at accs places held words used mapped pool s h e in
-      let same : slice_set (frames_in places held) (16384 + s) (Some h.frame) ≡ frames_in places held =
-      ap (λ o. slice_set (frames_in places held) (16384 + s) o) (sym at) ∙ set-get_or (frames_in places held) (16384 + s) None in
-      let P : List (Option ℕ) → Type 0 = λ fs. Apart fs used in
       let v = count_set is_some held s n None true (omega arith) (ap is_some e) in
       let c = pool.count in
-      held_pool s n ws used lt (length-zeroed (1024 * h.frame + 256 * q) 256 words (omega arith) ∙ wl) pool.used_long
-      (subst P (sym same) pool.apart)
+      held_pool s n ws links lt (length-zeroed (1024 * h.frame + 256 * q) 256 words (omega arith) ∙ wl) pool.nodes pool.heads
+      (subst Listed (sym (quarter_frames_now s h (clear_with q h.clear) e)) pool.listed) (λ t. refl)
       (clear_set s n ws (omega arith) (λ g r. quarter_clear s q h g ql e r) (λ k g ne r. still_clear (1024 * h.frame + 256 * q) g (omega arith) (pool.clear k g r)))
       (clear_number (slice_set held s n) s (256 * q) h e (omega arith))
       (omega arith)
+
+  pub quarter_frames : (vords : List ℕ) (s c : ℕ) (h : Held) → slice_index_or held s None ≡ Some h
+      → (cores_in accs places (slice_set held s (Some (record { frame = h.frame; clear = c }))) vords links).frames ≡ (cores_in accs places held words links).frames
+  unfolding cores_in
+  quarter_frames vords s c h e = quarter_frames_now s h c e

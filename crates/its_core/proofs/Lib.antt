@@ -1,8 +1,10 @@
 pub mod ListLaws
+pub mod FrameLaws
 pub mod ReadLaws
 pub mod StoreLaws
-pub mod FrameLaws
 pub mod HeldLaws
 pub mod PlaceLaws
 pub mod EmptyLaws
 pub mod CoresLaws
+pub mod RefusalLaws
+pub mod SlotLaws

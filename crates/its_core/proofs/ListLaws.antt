@@ -1,10 +1,9 @@
 -- Lists that are built by index, and the words of a frame.
-use Rattle.std.specs.Prelude.{◌≡◌, ◌≢◌, ◌<◌, ◌≤◌, ℕ, zero, suc, ◌+◌, ◌-◌, ◌*◌, Bool, true, false, cond, Some, List, [], ◌∷◌, ◌++◌, length, map, take, drop, slice_get, slice_set, slice_index_or, replicate, count_by, refl}
+use Rattle.std.specs.Prelude.{◌≡◌, ◌≢◌, ◌<◌, ◌≤◌, ℕ, zero, suc, ◌+◌, ◌-◌, ◌*◌, Some, List, [], ◌∷◌, ◌++◌, length, map, take, drop, slice_get, slice_set, slice_index_or, replicate, refl}
 use Rattle.std.proofs.Common.{sym, ◌∙◌, ap, inl, inr, arith, length-set}
 use Rattle.std.proofs.lemmas.Bool.{cases_eq, cases_lt, cases_order}
 use Rattle.std.proofs.lemmas.List.{ext_get_or, get_or-set_same, get_or-set_other, get_or-take, get_or-drop, length-take, length-drop, length-append, length-replicate, get_or-replicate, get_or_past, get_or_append_left, get_or-append_right, drop-set-add, drop-set-lt, take-set-le, append-nil, take-append-drop, replicate-append-replicate}
 use Rattle.std.proofs.lemmas.List.FromFn.{length-map-range_with_len, get_or-map-range_with_len}
-use Rattle.std.proofs.lemmas.List.Sums.{sum_by-cons}
 use Rattle.std.proofs.lemmas.Option.{slice_get-get_or}
 use Rattle.its_word.proofs.PageLaws.{get_or-copies}
 use Rattle.its_core.specs.Pool.{filled, table, frame_words}
@@ -75,20 +74,6 @@ length-frame_words words f h =
 pub get_or-frame_words : (words : List ℕ) (f k d : ℕ) → k < 1024 → slice_index_or (frame_words words f) k d ≡ slice_index_or words (1024 * f + k) d
 unfolding frame_words
 get_or-frame_words words f k d h = get_or-take 1024 (drop (1024 * f) words) k d h ∙ get_or-drop (1024 * f) words k d
-
--- where not all of a list is in use, some element is free
-all_used : (used : List Bool) → ((k : ℕ) → k < length used → slice_index_or used k false ≡ true) → count_by (λ b. b) used ≡ length used
-all_used [] h = refl
-all_used (b ∷ bs) h =
-    let e : b ≡ true = h 0 (omega arith) in
-    let r : count_by (λ x. x) bs ≡ length bs = all_used bs (λ k lt. h (suc k) (omega arith)) in
-    sum_by-cons (λ x. cond x 1 0) b bs ∙ rw (e, r) (omega arith)
-
-pub some_free : (used : List Bool) (n : ℕ) → n ≤ length used → ((k : ℕ) → k < n → slice_index_or used k false ≡ true) → count_by (λ b. b) used < length used → n < length used
-some_free used n h each few = elim (cases_lt n (length used)) [
-  | inl lt ↦ lt
-  | inr ge ↦ let r = all_used used (λ k lt. each k (omega arith)) in absurd (omega arith)
-]
 
 -- a list with some of its numbers cleared
 pub length-zeroed : (i n : ℕ) (ws : List ℕ) → i + n ≤ length ws → length (zeroed i n ws) ≡ length ws

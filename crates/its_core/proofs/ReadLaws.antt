@@ -1,5 +1,5 @@
 -- The cores that a pool stands for, word by word and page by page.
-use Rattle.std.specs.Prelude.{if◌then◌else◌, ◌≡◌, ◌<◌, ◌≤◌, ◌^◌, ℕ, ◌+◌, ◌*◌, ◌/◌, ◌%◌, Bool, true, false, Option, Some, None, List, [], ◌∷◌, zero, suc, length, map, take, drop, slice_get, slice_index_or, is_some, refl}
+use Rattle.std.specs.Prelude.{if◌then◌else◌, ◌≡◌, ◌<◌, ◌≤◌, ◌^◌, ℕ, ◌+◌, ◌-◌, ◌*◌, ◌/◌, ◌%◌, Bool, true, false, Option, Some, None, List, [], ◌∷◌, zero, suc, length, map, take, drop, slice_get, slice_index_or, is_some, refl}
 use Rattle.std.proofs.Common.{sym, ◌∙◌, ap, inl, inr, arith}
 use Rattle.std.proofs.lemmas.Bool.{cases_lt, lt-ltb, le-ltb}
 use Rattle.std.proofs.lemmas.List.{get_or-take, get_or-drop, length-take, length-drop, length-map, get_or_past, get_or_append_left, get_or-append_right}
@@ -10,20 +10,23 @@ use Rattle.its_word.proofs.CoreLaws.{in_accs, in_page, stores_acc, stores_page}
 use Rattle.its_word.proofs.PageLaws.{can_store-no_core}
 use Rattle.its_core.specs.declared.cores.Mapped.{Mapped}
 use Rattle.its_core.specs.declared.cores.Held.{Held}
+use Rattle.its_links.specs.Lists.{Linked}
 use Rattle.its_core.specs.Cores.{core_at, reserved_at}
-use Rattle.its_core.specs.Pool.{frame_of, held_frame, frame_words, page_in, reserved_in, core_in, cores_in, frames_in, IsPool}
+use Rattle.its_core.specs.Frames.{Listed, page_frame, reserved_frame}
+use Rattle.its_core.proofs.FrameLaws.{one_slot, one_page, not_both, one_reserved, page_below, reserved_below}
+use Rattle.its_core.specs.Pool.{frames_now, frame_of, held_frame, frame_words, page_in, reserved_in, core_in, cores_in, frames_in, IsPool}
 use Rattle.its_core.proofs.ListLaws.{get-table, get_or-table, get_or-table_past, length-frame_words, get_or-frame_words}
 
 -- the core and the reserved page of a slot
-pub core_at_is : (accs : List ℕ) (places : List (Option Mapped)) (held : List (Option Held)) (words : List ℕ) (s : ℕ) → s < slots → core_at (cores_in accs places held words) s ≡ core_in accs places words s
+pub core_at_is : (accs : List ℕ) (places : List (Option Mapped)) (held : List (Option Held)) (words : List ℕ) (links : Linked) (s : ℕ) → s < slots → core_at (cores_in accs places held words links) s ≡ core_in accs places words s
 unfolding core_at cores_in
-core_at_is accs places held words s h = get_or-table slots (core_in accs places words) s no_core h
+core_at_is accs places held words links s h = get_or-table slots (core_in accs places words) s no_core h
 
-pub core_at_past : (accs : List ℕ) (places : List (Option Mapped)) (held : List (Option Held)) (words : List ℕ) (s : ℕ) → slots ≤ s → core_at (cores_in accs places held words) s ≡ no_core
+pub core_at_past : (accs : List ℕ) (places : List (Option Mapped)) (held : List (Option Held)) (words : List ℕ) (links : Linked) (s : ℕ) → slots ≤ s → core_at (cores_in accs places held words links) s ≡ no_core
 unfolding core_at cores_in
-core_at_past accs places held words s h = get_or-table_past slots (core_in accs places words) s no_core h
+core_at_past accs places held words links s h = get_or-table_past slots (core_in accs places words) s no_core h
 
-get_or-map_none : {A B : Type 0} (f : Option A → Option B) → f None ≡ None → (xs : List (Option A)) (k : ℕ) → slice_index_or (map f xs) k None ≡ f (slice_index_or xs k None)
+pub get_or-map_none : {A B : Type 0} (f : Option A → Option B) → f None ≡ None → (xs : List (Option A)) (k : ℕ) → slice_index_or (map f xs) k None ≡ f (slice_index_or xs k None)
 get_or-map_none f e [] k = sym e
 get_or-map_none f e (x ∷ xs) zero = refl
 get_or-map_none f e (x ∷ xs) (suc k) = get_or-map_none f e xs k
@@ -33,9 +36,9 @@ reserved_map words [] s = refl
 reserved_map words (h ∷ hs) zero = refl
 reserved_map words (h ∷ hs) (suc s) = reserved_map words hs s
 
-pub reserved_at_is : (accs : List ℕ) (places : List (Option Mapped)) (held : List (Option Held)) (words : List ℕ) (s : ℕ) → reserved_at (cores_in accs places held words) s ≡ reserved_in words (slice_index_or held s None)
+pub reserved_at_is : (accs : List ℕ) (places : List (Option Mapped)) (held : List (Option Held)) (words : List ℕ) (links : Linked) (s : ℕ) → reserved_at (cores_in accs places held words links) s ≡ reserved_in words (slice_index_or held s None)
 unfolding reserved_at cores_in
-reserved_at_is accs places held words s = reserved_map words held s
+reserved_at_is accs places held words links s = reserved_map words held s
 
 -- a page, and a word of an accumulator, of a core
 pub page_of_is : (accs : List ℕ) (places : List (Option Mapped)) (words : List ℕ) (s k : ℕ) → k < 256 → page_of (core_in accs places words s) k ≡ page_in words (slice_index_or places (256 * s + k) None)
@@ -69,25 +72,19 @@ frame_at_held places held s h =
     ∙ ap (λ k. slice_index_or (map held_frame held) k None) (omega arith)
     ∙ get_or-map_none held_frame refl held s
 
-pub is_below : (used : List Bool) (f : ℕ) → slice_index_or used f false ≡ true → f < length used
-is_below used f h = elim (cases_lt f (length used)) [
-  | inl lt ↦ lt
-  | inr ge ↦ let e : slice_index_or used f false ≡ false = get_or_past used f false ge in cc
-]
-
-module _ (accs : List ℕ) (places : List (Option Mapped)) (held : List (Option Held)) (words : List ℕ) (used : List Bool) (mapped : ℕ) (pool : IsPool accs places held words used mapped) where
+module _ (accs : List ℕ) (places : List (Option Mapped)) (held : List (Option Held)) (words : List ℕ) (links : Linked) (mapped : ℕ) (pool : IsPool accs places held words links mapped) where
   -- the accumulators
-  pub word_at_acc : (s a d : ℕ) → s < slots → a < 16 → word_at (core_at (cores_in accs places held words) s) a ≡ Some (slice_index_or accs (16 * s + a) d)
+  pub word_at_acc : (s a d : ℕ) → s < slots → a < 16 → word_at (core_at (cores_in accs places held words links) s) a ≡ Some (slice_index_or accs (16 * s + a) d)
   word_at_acc s a d lt h =
       let l = pool.accs_long in
-      ap (λ c. word_at c a) (core_at_is accs places held words s lt)
+      ap (λ c. word_at c a) (core_at_is accs places held words links s lt)
       ∙ in_accs (core_in accs places words s) a (lt-ltb a 16 h)
       ∙ accs_of_is accs places words s a d (omega arith) h
 
-  pub can_store_acc : (s a : ℕ) → a < 16 → can_store (core_at (cores_in accs places held words) s) a ≡ true
+  pub can_store_acc : (s a : ℕ) → a < 16 → can_store (core_at (cores_in accs places held words links) s) a ≡ true
   can_store_acc s a h = elim (cases_lt s slots) [
-    | inl lt ↦ let l = pool.accs_long in ap (λ c. can_store c a) (core_at_is accs places held words s lt) ∙ stores_acc (core_in accs places words s) a (lt-ltb a 16 h) ∙ ap is_some (accs_of_is accs places words s a 0 (omega arith) h)
-    | inr ge ↦ ap (λ c. can_store c a) (core_at_past accs places held words s ge) ∙ can_store-no_core a h
+    | inl lt ↦ let l = pool.accs_long in ap (λ c. can_store c a) (core_at_is accs places held words links s lt) ∙ stores_acc (core_in accs places words s) a (lt-ltb a 16 h) ∙ ap is_some (accs_of_is accs places words s a 0 (omega arith) h)
+    | inr ge ↦ ap (λ c. can_store c a) (core_at_past accs places held words links s ge) ∙ can_store-no_core a h
   ]
 
   -- the frame of a page of a slot
@@ -102,11 +99,58 @@ module _ (accs : List ℕ) (places : List (Option Mapped)) (held : List (Option 
       let l = pool.places_long in let b = place_below p m e in
       frame_at_place places held p (omega arith) ∙ ap frame_of e
 
+  -- the frames as contracts see them
+  page_frame_at : (p : ℕ) (m : Mapped) → slice_index_or places p None ≡ Some m → page_frame (frames_now places held links) (p / 256) (p % 256) ≡ Some m.frame
+  page_frame_at p m e = ap (λ i. slice_index_or (map frame_of places) i None) (omega arith) ∙ get_or-map_none frame_of refl places p ∙ ap frame_of e
+
+  pub page_frame_is : (s k : ℕ) (m : Mapped) → slice_index_or places (256 * s + k) None ≡ Some m → page_frame (frames_now places held links) s k ≡ Some m.frame
+  page_frame_is s k m e = get_or-map_none frame_of refl places (256 * s + k) ∙ ap frame_of e
+
+  pub page_frame_none : (s k : ℕ) → slice_index_or places (256 * s + k) None ≡ None → page_frame (frames_now places held links) s k ≡ None
+  page_frame_none s k e = get_or-map_none frame_of refl places (256 * s + k) ∙ ap frame_of e
+
+  pub reserved_frame_is : (s : ℕ) (h : Held) → slice_index_or held s None ≡ Some h → reserved_frame (frames_now places held links) s ≡ Some h.frame
+  reserved_frame_is s h e = get_or-map_none held_frame refl held s ∙ ap held_frame e
+
+  pub reserved_frame_none : (s : ℕ) → slice_index_or held s None ≡ None → reserved_frame (frames_now places held links) s ≡ None
+  reserved_frame_none s e = get_or-map_none held_frame refl held s ∙ ap held_frame e
+
+  -- the frame of a place is that of a page, or of a reserved page
+  in_pages : (p f : ℕ) → p < 16384 → slice_index_or (frames_in places held) p None ≡ Some f → page_frame (frames_now places held links) (p / 256) (p % 256) ≡ Some f
+  in_pages p f lt e =
+      let l = pool.places_long in
+      ap (λ i. slice_index_or (map frame_of places) i None) (omega arith) ∙ get_or-map_none frame_of refl places p ∙ sym (frame_at_place places held p (omega arith)) ∙ e
+
+  in_reserved : (p f : ℕ) → 16384 ≤ p → slice_index_or (frames_in places held) p None ≡ Some f → reserved_frame (frames_now places held links) (p - 16384) ≡ Some f
+  in_reserved p f ge e =
+      get_or-map_none held_frame refl held (p - 16384)
+      ∙ sym (frame_at_held places held (p - 16384) pool.places_long)
+      ∙ ap (λ i. slice_index_or (frames_in places held) i None) (omega arith)
+      ∙ e
+
+  -- each frame stands at one place
+  pub apart : (p q f : ℕ) → slice_index_or (frames_in places held) p None ≡ Some f → slice_index_or (frames_in places held) q None ≡ Some f → p ≡ q
+  apart p q f e d = elim (cases_lt p 16384) [
+    | inl lp ↦ elim (cases_lt q 16384) [
+      | inl lq ↦
+          let a = in_pages p f lp e in
+          let b = in_pages q f lq d in
+          let s = one_slot (frames_now places held links) pool.listed (p / 256) (q / 256) (p % 256) (q % 256) f (omega arith) (omega arith) (omega arith) (omega arith) a b in
+          let c : page_frame (frames_now places held links) (p / 256) (q % 256) ≡ Some f = ap (λ i. page_frame (frames_now places held links) i (q % 256)) s ∙ b in
+          let k = one_page (frames_now places held links) pool.listed (p / 256) (p % 256) (q % 256) f (omega arith) (omega arith) (omega arith) a c in
+          omega arith
+      | inr gq ↦ absurd (not_both (frames_now places held links) pool.listed (p / 256) (p % 256) (q - 16384) f (omega arith) (omega arith) (in_pages p f lp e) (in_reserved q f gq d))
+    ]
+    | inr gp ↦ elim (cases_lt q 16384) [
+      | inl lq ↦ absurd (not_both (frames_now places held links) pool.listed (q / 256) (q % 256) (p - 16384) f (omega arith) (omega arith) (in_pages q f lq d) (in_reserved p f gp e))
+      | inr gq ↦ let r = one_reserved (frames_now places held links) pool.listed (p - 16384) (q - 16384) f (in_reserved p f gp e) (in_reserved q f gq d) in omega arith
+    ]
+  ]
+
   pub frame_below : (p : ℕ) (m : Mapped) → slice_index_or places p None ≡ Some m → m.frame < 1088
   frame_below p m e =
-      let l = pool.used_long in
-      let b = is_below used m.frame (pool.apart.in_use p m.frame (place_frame p m e)) in
-      omega arith
+      let b = place_below p m e in
+      page_below (frames_now places held links) pool.listed (p / 256) (p % 256) m.frame (omega arith) (omega arith) (page_frame_at p m e)
 
   -- for `grind`, which needs the call to fit
   pub word_below : (p : ℕ) (m : Mapped) (k : ℕ) → slice_index_or places p None ≡ Some m → k < 1024
@@ -117,19 +161,21 @@ module _ (accs : List ℕ) (places : List (Option Mapped)) (held : List (Option 
   held_frame_at s h e = frame_at_held places held s pool.places_long ∙ ap held_frame e
 
   pub held_below : (s : ℕ) (h : Held) → slice_index_or held s None ≡ Some h → h.frame < 1088
-  held_below s h e =
-      let l = pool.used_long in
-      let b = is_below used h.frame (pool.apart.in_use (16384 + s) h.frame (held_frame_at s h e)) in
-      omega arith
+  held_below s h e = reserved_below (frames_now places held links) pool.listed s h.frame (reserved_frame_is s h e)
+
+  -- the frames that contracts see
+  pub listed_seen : Listed (cores_in accs places held words links).frames
+  unfolding cores_in
+  listed_seen = pool.listed
 
   -- a page
-  pub page_at : (s k : ℕ) → s < slots → k < 256 → page_of (core_at (cores_in accs places held words) s) k ≡ page_in words (slice_index_or places (256 * s + k) None)
-  page_at s k lt h = ap (λ c. page_of c k) (core_at_is accs places held words s lt) ∙ page_of_is accs places words s k h
+  pub page_at : (s k : ℕ) → s < slots → k < 256 → page_of (core_at (cores_in accs places held words links) s) k ≡ page_in words (slice_index_or places (256 * s + k) None)
+  page_at s k lt h = ap (λ c. page_of c k) (core_at_is accs places held words links s lt) ∙ page_of_is accs places words s k h
 
   -- the word at an address of a page
-  pub word_at_absent : (s a : ℕ) → s < slots → 16 ≤ a → a < 2 ^ 18 → slice_index_or places (256 * s + a / 1024) None ≡ None → word_at (core_at (cores_in accs places held words) s) a ≡ None
+  pub word_at_absent : (s a : ℕ) → s < slots → 16 ≤ a → a < 2 ^ 18 → slice_index_or places (256 * s + a / 1024) None ≡ None → word_at (core_at (cores_in accs places held words links) s) a ≡ None
   word_at_absent s a lt ge le e =
-      in_page (core_at (cores_in accs places held words) s) a (le-ltb a 16 ge)
+      in_page (core_at (cores_in accs places held words links) s) a (le-ltb a 16 ge)
       ∙ ap (λ p. word_in p (a % 1024)) (page_at s (a / 1024) lt (omega arith) ∙ ap (page_in words) e)
 
   word_of_frame : (f k d : ℕ) → f < 1088 → k < 1024 → slice_get (frame_words words f) k ≡ Some (slice_index_or words (1024 * f + k) d)
@@ -138,20 +184,20 @@ module _ (accs : List ℕ) (places : List (Option Mapped)) (held : List (Option 
       let n = length-frame_words words f (omega arith) in
       slice_get-get_or (frame_words words f) k d (omega arith) ∙ ap Some (get_or-frame_words words f k d h)
 
-  pub word_at_page : (s a d : ℕ) (m : Mapped) → s < slots → 16 ≤ a → a < 2 ^ 18 → slice_index_or places (256 * s + a / 1024) None ≡ Some m → word_at (core_at (cores_in accs places held words) s) a ≡ Some (slice_index_or words (1024 * m.frame + a % 1024) d)
+  pub word_at_page : (s a d : ℕ) (m : Mapped) → s < slots → 16 ≤ a → a < 2 ^ 18 → slice_index_or places (256 * s + a / 1024) None ≡ Some m → word_at (core_at (cores_in accs places held words links) s) a ≡ Some (slice_index_or words (1024 * m.frame + a % 1024) d)
   word_at_page s a d m lt ge le e =
-      in_page (core_at (cores_in accs places held words) s) a (le-ltb a 16 ge)
+      in_page (core_at (cores_in accs places held words links) s) a (le-ltb a 16 ge)
       ∙ ap (λ p. word_in p (a % 1024)) (page_at s (a / 1024) lt (omega arith) ∙ ap (page_in words) e)
       ∙ word_of_frame m.frame (a % 1024) d (frame_below (256 * s + a / 1024) m e) (omega arith)
 
-  pub can_store_absent : (s a : ℕ) → s < slots → 16 ≤ a → a < 2 ^ 18 → slice_index_or places (256 * s + a / 1024) None ≡ None → can_store (core_at (cores_in accs places held words) s) a ≡ false
+  pub can_store_absent : (s a : ℕ) → s < slots → 16 ≤ a → a < 2 ^ 18 → slice_index_or places (256 * s + a / 1024) None ≡ None → can_store (core_at (cores_in accs places held words links) s) a ≡ false
   can_store_absent s a lt ge le e =
-      stores_page (core_at (cores_in accs places held words) s) a (le-ltb a 16 ge)
+      stores_page (core_at (cores_in accs places held words links) s) a (le-ltb a 16 ge)
       ∙ ap (λ p. stores_in p (a % 1024)) (page_at s (a / 1024) lt (omega arith) ∙ ap (page_in words) e)
 
-  pub can_store_page : (s a : ℕ) (m : Mapped) → s < slots → 16 ≤ a → a < 2 ^ 18 → slice_index_or places (256 * s + a / 1024) None ≡ Some m → can_store (core_at (cores_in accs places held words) s) a ≡ m.writable
+  pub can_store_page : (s a : ℕ) (m : Mapped) → s < slots → 16 ≤ a → a < 2 ^ 18 → slice_index_or places (256 * s + a / 1024) None ≡ Some m → can_store (core_at (cores_in accs places held words links) s) a ≡ m.writable
   can_store_page s a m lt ge le e =
-      stores_page (core_at (cores_in accs places held words) s) a (le-ltb a 16 ge)
+      stores_page (core_at (cores_in accs places held words links) s) a (le-ltb a 16 ge)
       ∙ ap (λ p. stores_in p (a % 1024)) (page_at s (a / 1024) lt (omega arith) ∙ ap (page_in words) e)
       ∙ go m.writable (slice_get (frame_words words m.frame) (a % 1024)) (word_of_frame m.frame (a % 1024) 0 (frame_below (256 * s + a / 1024) m e) (omega arith))
     where

@@ -1,5 +1,5 @@
 -- A word stored in a pool is stored in one core.
-use Rattle.std.specs.Prelude.{◌≡◌, ◌≢◌, ◌<◌, ◌≤◌, ◌^◌, ℕ, ◌+◌, ◌*◌, ◌/◌, ◌%◌, Bool, false, Option, Some, None, List, take, drop, slice_set, slice_index_or, Err, refl}
+use Rattle.std.specs.Prelude.{◌≡◌, ◌≢◌, ◌<◌, ◌≤◌, ◌^◌, ℕ, ◌+◌, ◌*◌, ◌/◌, ◌%◌, false, Option, Some, None, List, take, drop, slice_set, slice_index_or, Err, refl}
 use Rattle.std.proofs.Common.{sym, ◌∙◌, ap, inl, inr, arith, length-set}
 use Rattle.std.proofs.lemmas.Bool.{cases_lt, lt-ltb, le-ltb}
 use Rattle.std.proofs.lemmas.List.{get_or-set_other}
@@ -11,21 +11,22 @@ use Rattle.its_word.proofs.CoreLaws.{store_acc, store_page}
 use Rattle.its_word.proofs.PageLaws.{pages_present-store, pages_mapped-only}
 use Rattle.its_core.specs.declared.cores.Mapped.{Mapped}
 use Rattle.its_core.specs.declared.cores.Held.{Held}
+use Rattle.its_links.specs.Lists.{Linked}
 use Rattle.its_core.specs.Cores.{Cores, core_at}
 use Rattle.its_core.specs.Pool.{page_in, reserved_in, core_in, cores_in, table, IsPool, IsClear}
 use Rattle.its_core.proofs.ListLaws.{table_alike, table_set, frame_words_set, frame_words_other, accs_set, accs_other, map_alike}
-use Rattle.its_core.proofs.ReadLaws.{core_at_is, core_at_past, page_of_is, place_frame, held_frame_at, place_below, can_store_page, word_at_page}
+use Rattle.its_core.proofs.ReadLaws.{apart, core_at_is, core_at_past, page_of_is, place_frame, held_frame_at, place_below, can_store_page, word_at_page}
 
 -- cores of two pools that are alike but for one slot
-pub only_in : (accs brrs : List ℕ) (places qlaces : List (Option Mapped)) (held gelt : List (Option Held)) (words vords : List ℕ) (s : ℕ) (x : Core) → s < slots
+pub only_in : (accs brrs : List ℕ) (places qlaces : List (Option Mapped)) (held gelt : List (Option Held)) (words vords : List ℕ) (links minks : Linked) (s : ℕ) (x : Core) → s < slots
     → core_in brrs qlaces vords s ≡ x
     → ((t : ℕ) → t ≢ s → core_in brrs qlaces vords t ≡ core_in accs places words t)
-    → Only (core_at (cores_in accs places held words)) (core_at (cores_in brrs qlaces gelt vords)) s x
-only_in accs brrs places qlaces held gelt words vords s x h here others = record {
-  here = core_at_is brrs qlaces gelt vords s h ∙ here;
+    → Only (core_at (cores_in accs places held words links)) (core_at (cores_in brrs qlaces gelt vords minks)) s x
+only_in accs brrs places qlaces held gelt words vords links minks s x h here others = record {
+  here = core_at_is brrs qlaces gelt vords minks s h ∙ here;
   others = λ t ne. elim (cases_lt t slots) [
-    | inl lt ↦ core_at_is brrs qlaces gelt vords t lt ∙ others t ne ∙ sym (core_at_is accs places held words t lt)
-    | inr ge ↦ core_at_past brrs qlaces gelt vords t ge ∙ sym (core_at_past accs places held words t ge)
+    | inl lt ↦ core_at_is brrs qlaces gelt vords minks t lt ∙ others t ne ∙ sym (core_at_is accs places held words links t lt)
+    | inr ge ↦ core_at_past brrs qlaces gelt vords minks t ge ∙ sym (core_at_past accs places held words links t ge)
   ];
 }
 
@@ -41,32 +42,34 @@ unfolding core_in
 acc_others accs places words s t a w h ne =
     ap (λ xs. record { accs = xs; pages = table 256 (λ k. page_in words (slice_index_or places (256 * t + k) None)) }) (accs_other accs s t a w h ne)
 
-module _ (accs : List ℕ) (places : List (Option Mapped)) (held : List (Option Held)) (words : List ℕ) (used : List Bool) (mapped : ℕ) (pool : IsPool accs places held words used mapped) where
-  pub acc_only : (s a w : ℕ) → s < slots → a < 16 → Only (core_at (cores_in accs places held words)) (core_at (cores_in (slice_set accs (16 * s + a) w) places held words)) s (store (core_at (cores_in accs places held words) s) a w)
+module _ (accs : List ℕ) (places : List (Option Mapped)) (held : List (Option Held)) (words : List ℕ) (links : Linked) (mapped : ℕ) (pool : IsPool accs places held words links mapped) where
+  pub acc_only : (s a w : ℕ) → s < slots → a < 16 → Only (core_at (cores_in accs places held words links)) (core_at (cores_in (slice_set accs (16 * s + a) w) places held words links)) s (store (core_at (cores_in accs places held words links) s) a w)
   acc_only s a w lt h =
-      only_in accs (slice_set accs (16 * s + a) w) places places held held words words s _ lt
-      (acc_here accs places words s a w h ∙ ap (λ c. store c a w) (sym (core_at_is accs places held words s lt)))
+      only_in accs (slice_set accs (16 * s + a) w) places places held held words words links links s _ lt
+      (acc_here accs places words s a w h ∙ ap (λ c. store c a w) (sym (core_at_is accs places held words links s lt)))
       (λ t ne. acc_others accs places words s t a w h ne)
 
   -- the number of pages stays where one core has as many as before
-  pub number_only : (m : Cores) (s : ℕ) (x : Core) → s < slots → Only (core_at (cores_in accs places held words)) (core_at m) s x → pages_present x ≡ pages_present (core_at (cores_in accs places held words) s) → mapped ≡ pages_mapped (core_at m)
+  pub number_only : (m : Cores) (s : ℕ) (x : Core) → s < slots → Only (core_at (cores_in accs places held words links)) (core_at m) s x → pages_present x ≡ pages_present (core_at (cores_in accs places held words links) s) → mapped ≡ pages_mapped (core_at m)
   number_only m s x lt o e =
-      let n = pages_mapped-only (core_at (cores_in accs places held words)) (core_at m) s x o lt in
+      let n = pages_mapped-only (core_at (cores_in accs places held words links)) (core_at m) s x o lt in
       let p = pool.number in
       omega arith
 
-  pub acc_pool : (s a w : ℕ) → s < slots → a < 16 → IsPool (slice_set accs (16 * s + a) w) places held words used mapped
+  pub acc_pool : (s a w : ℕ) → s < slots → a < 16 → IsPool (slice_set accs (16 * s + a) w) places held words links mapped
   acc_pool s a w lt h = record {
     accs_long = length-set accs (16 * s + a) w ∙ pool.accs_long;
     places_long = pool.places_long;
     held_long = pool.held_long;
     words_long = pool.words_long;
-    used_long = pool.used_long;
-    apart = pool.apart;
+    nodes = pool.nodes;
+    heads = pool.heads;
+    listed = pool.listed;
+    rows = pool.rows;
     clear = pool.clear;
     most = pool.most;
     count = pool.count;
-    number = number_only (cores_in (slice_set accs (16 * s + a) w) places held words) s _ lt (acc_only s a w lt h) (pages_present-store _ a w);
+    number = number_only (cores_in (slice_set accs (16 * s + a) w) places held words links) s _ lt (acc_only s a w lt h) (pages_present-store _ a w);
   }
 
   -- a word of a page: other pages, and reserved pages, are as before
@@ -77,7 +80,7 @@ module _ (accs : List ℕ) (places : List (Option Mapped)) (held : List (Option 
       go None r = refl
       go (Some n) r =
           ap (λ ws. Some (record { words = ws; writable = n.writable }))
-          (frame_words_other words m.frame n.frame k w h (λ same. ne (pool.apart.once q p m.frame (place_frame accs places held words used mapped pool q n r ∙ ap Some same) (place_frame accs places held words used mapped pool p m e))))
+          (frame_words_other words m.frame n.frame k w h (λ same. ne (apart accs places held words links mapped pool q p m.frame (place_frame accs places held words links mapped pool q n r ∙ ap Some same) (place_frame accs places held words links mapped pool p m e))))
 
   reserved_alike : (p s k w : ℕ) (m : Mapped) → slice_index_or places p None ≡ Some m → k < 1024 → reserved_in (slice_set words (1024 * m.frame + k) w) (slice_index_or held s None) ≡ reserved_in words (slice_index_or held s None)
   reserved_alike p s k w m e h = go (slice_index_or held s None) refl
@@ -87,11 +90,11 @@ module _ (accs : List ℕ) (places : List (Option Mapped)) (held : List (Option 
       go (Some n) r =
           ap (λ ws. Some (record { clear = n.clear; words = ws }))
           (frame_words_other words m.frame n.frame k w h (λ same.
-          let b = place_below accs places held words used mapped pool p m e in
-          let x = pool.apart.once (16384 + s) p m.frame (held_frame_at accs places held words used mapped pool s n r ∙ ap Some same) (place_frame accs places held words used mapped pool p m e) in
+          let b = place_below accs places held words links mapped pool p m e in
+          let x = apart accs places held words links mapped pool (16384 + s) p m.frame (held_frame_at accs places held words links mapped pool s n r ∙ ap Some same) (place_frame accs places held words links mapped pool p m e) in
           omega arith))
 
-  pub page_reserved : (p k w : ℕ) (m : Mapped) → slice_index_or places p None ≡ Some m → k < 1024 → (cores_in accs places held (slice_set words (1024 * m.frame + k) w)).reserved ≡ (cores_in accs places held words).reserved
+  pub page_reserved : (p k w : ℕ) (m : Mapped) → slice_index_or places p None ≡ Some m → k < 1024 → (cores_in accs places held (slice_set words (1024 * m.frame + k) w) links).reserved ≡ (cores_in accs places held words links).reserved
   unfolding cores_in
   page_reserved p k w m e h = map_alike (reserved_in words) (reserved_in (slice_set words (1024 * m.frame + k) w)) held None (λ s lt. reserved_alike p s k w m e h)
 
@@ -127,45 +130,56 @@ module _ (accs : List ℕ) (places : List (Option Mapped)) (held : List (Option 
       (λ k h. page_alike (256 * s + a / 1024) (256 * t + k) (a % 1024) w m e (omega arith) (λ same. ne (omega arith))))
 
   pub page_only : (s a w : ℕ) (m : Mapped) → s < slots → 16 ≤ a → a < 2 ^ 18 → slice_index_or places (256 * s + a / 1024) None ≡ Some m
-      → Only (core_at (cores_in accs places held words)) (core_at (cores_in accs places held (slice_set words (1024 * m.frame + a % 1024) w))) s (store (core_at (cores_in accs places held words) s) a w)
+      → Only (core_at (cores_in accs places held words links)) (core_at (cores_in accs places held (slice_set words (1024 * m.frame + a % 1024) w) links)) s (store (core_at (cores_in accs places held words links) s) a w)
   page_only s a w m lt ge le e =
-      only_in accs accs places places held held words (slice_set words (1024 * m.frame + a % 1024) w) s _ lt
-      (page_here s a w m ge le e ∙ ap (λ c. store c a w) (sym (core_at_is accs places held words s lt)))
+      only_in accs accs places places held held words (slice_set words (1024 * m.frame + a % 1024) w) links links s _ lt
+      (page_here s a w m ge le e ∙ ap (λ c. store c a w) (sym (core_at_is accs places held words links s lt)))
       (λ t ne. page_others s t a w m le e ne)
 
   clear_alike : (p i k w : ℕ) (m : Mapped) (h : Held) → slice_index_or places p None ≡ Some m → k < 1024 → slice_index_or held i None ≡ Some h → IsClear words h → IsClear (slice_set words (1024 * m.frame + k) w) h
   clear_alike p i k w m h e lt r c = record {
     most = c.most;
     zeros = λ j less.
-        let b = place_below accs places held words used mapped pool p m e in
+        let b = place_below accs places held words links mapped pool p m e in
         let most = c.most in
         let apart : h.frame ≢ m.frame = λ same.
-        let x = pool.apart.once (16384 + i) p m.frame (held_frame_at accs places held words used mapped pool i h r ∙ ap Some same) (place_frame accs places held words used mapped pool p m e) in
+        let x = apart accs places held words links mapped pool (16384 + i) p m.frame (held_frame_at accs places held words links mapped pool i h r ∙ ap Some same) (place_frame accs places held words links mapped pool p m e) in
         omega arith in
         get_or-set_other words (1024 * m.frame + k) (1024 * h.frame + j) w 0 (λ same. apart (omega arith)) ∙ c.zeros j less;
   }
 
-  pub page_pool : (s a w : ℕ) (m : Mapped) → s < slots → 16 ≤ a → a < 2 ^ 18 → slice_index_or places (256 * s + a / 1024) None ≡ Some m → IsPool accs places held (slice_set words (1024 * m.frame + a % 1024) w) used mapped
+  pub page_pool : (s a w : ℕ) (m : Mapped) → s < slots → 16 ≤ a → a < 2 ^ 18 → slice_index_or places (256 * s + a / 1024) None ≡ Some m → IsPool accs places held (slice_set words (1024 * m.frame + a % 1024) w) links mapped
   page_pool s a w m lt ge le e = record {
     accs_long = pool.accs_long;
     places_long = pool.places_long;
     held_long = pool.held_long;
     words_long = length-set words (1024 * m.frame + a % 1024) w ∙ pool.words_long;
-    used_long = pool.used_long;
-    apart = pool.apart;
+    nodes = pool.nodes;
+    heads = pool.heads;
+    listed = pool.listed;
+    rows = pool.rows;
     clear = λ i h r. clear_alike (256 * s + a / 1024) i (a % 1024) w m h e (omega arith) r (pool.clear i h r);
     most = pool.most;
     count = pool.count;
-    number = number_only (cores_in accs places held (slice_set words (1024 * m.frame + a % 1024) w)) s _ lt (page_only s a w m lt ge le e) (pages_present-store _ a w);
+    number = number_only (cores_in accs places held (slice_set words (1024 * m.frame + a % 1024) w) links) s _ lt (page_only s a w m lt ge le e) (pages_present-store _ a w);
   }
 
-  pub acc_reserved : (i w : ℕ) → (cores_in (slice_set accs i w) places held words).reserved ≡ (cores_in accs places held words).reserved
+  pub acc_reserved : (i w : ℕ) → (cores_in (slice_set accs i w) places held words links).reserved ≡ (cores_in accs places held words links).reserved
   unfolding cores_in
   acc_reserved i w = refl
 
   pub refused_read_only : (s a w : ℕ) (m : Mapped) → s < slots → 16 ≤ a → a < 2 ^ 18 → slice_index_or places (256 * s + a / 1024) None ≡ Some m → m.writable ≡ false
-      → put (core_at (cores_in accs places held words) s) a w ≡ Err ReadOnly
+      → put (core_at (cores_in accs places held words links) s) a w ≡ Err ReadOnly
   refused_read_only s a w m lt ge le e f =
-      let x = can_store_page accs places held words used mapped pool s a m lt ge le e ∙ f in
-      let y = word_at_page accs places held words used mapped pool s a 0 m lt ge le e in
+      let x = can_store_page accs places held words links mapped pool s a m lt ge le e ∙ f in
+      let y = word_at_page accs places held words links mapped pool s a 0 m lt ge le e in
       rw (x, y) refl
+
+  -- the frames stay
+  pub acc_frames : (i w : ℕ) → (cores_in (slice_set accs i w) places held words links).frames ≡ (cores_in accs places held words links).frames
+  unfolding cores_in
+  acc_frames i w = refl
+
+  pub word_frames : (i w : ℕ) → (cores_in accs places held (slice_set words i w) links).frames ≡ (cores_in accs places held words links).frames
+  unfolding cores_in
+  word_frames i w = refl

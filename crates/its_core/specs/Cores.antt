@@ -1,6 +1,8 @@
--- What contracts see of the pages of all jobs: for each slot its core, and the page that it has reserved.
+-- What contracts see of the pages of all jobs: for each slot its core, and the page that it has reserved; and the frames in
+-- which the pages stand.
 use Rattle.std.specs.Prelude.{if◌then◌else◌, ◌≡◌, ℕ, ◌+◌, ◌*◌, ◌==◌, Bool, Option, None, List, ◌++◌, take, drop, replicate, slice_index_or, option_map}
 use Rattle.its_word.specs.Core.{Core, Page, no_core}
+use Rattle.its_core.specs.Frames.{Frames, NoFrames}
 
 -- a reserved page: how many of its quarters are clear, from the first on, and its words
 pub record Reserved : Type 0 where
@@ -10,6 +12,7 @@ pub record Reserved : Type 0 where
 pub record Cores : Type 0 where
   pub cores : List Core
   pub reserved : List (Option Reserved)
+  pub frames : Frames
 
 -- the core of a slot
 unfoldable pub core_at : Cores → ℕ → Core
@@ -39,7 +42,8 @@ cleared q r = record { clear = clear_with q r.clear; words = zeroed (256 * q) 25
 abbrev pub mark_of : Option Page → Option Bool
 mark_of p = option_map (λ q. q.writable) p
 
--- no slot has a page, a reserved page or a word that is not 0
+-- no slot has a page, a reserved page or a word that is not 0, and each frame is free
 pub record IsEmpty (m : Cores) : Type 0 where
   pub cores : (k : ℕ) → core_at m k ≡ no_core
   pub reserved : (k : ℕ) → reserved_at m k ≡ None
+  pub frames : NoFrames m.frames

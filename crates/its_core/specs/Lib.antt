@@ -1,2 +1,3 @@
 pub mod Cores
+pub mod Frames
 pub mod Pool

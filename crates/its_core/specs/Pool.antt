@@ -1,10 +1,12 @@
 -- How the cores of all slots are kept: a pool of page frames of 1024 words, a map from each page of each slot to its
--- frame, and the frames of reserved pages.
-use Rattle.std.specs.Prelude.{◌≡◌, ◌<◌, ◌≤◌, ℕ, ◌+◌, ◌*◌, Bool, true, false, Option, Some, None, List, ◌++◌, length, map, take, drop, replicate, slice_index_or, option_map, is_some, count_by}
+-- frame, the frames of reserved pages, and the lists in which the frames stand.
+use Rattle.std.specs.Prelude.{◌≡◌, ◌<◌, ◌≤◌, ℕ, ◌+◌, ◌*◌, Option, Some, None, List, ◌++◌, length, map, take, drop, replicate, slice_index_or, option_map, is_some, count_by}
 use Rattle.std.specs.List.{range_with_len}
 use Rattle.its_word.specs.Core.{Core, Page, pages_mapped}
 use Rattle.its_word.specs.Limits.{slots, most_pages}
+use Rattle.its_links.specs.Lists.{Linked, list_at}
 use Rattle.its_core.specs.Cores.{Cores, Reserved, core_at}
+use Rattle.its_core.specs.Frames.{Frames, Listed, all_frames, row}
 use Rattle.its_core.specs.declared.cores.Mapped.{Mapped}
 use Rattle.its_core.specs.declared.cores.Held.{Held}
 
@@ -34,37 +36,42 @@ core_in accs places words s = record {
   pages = table 256 (λ k. page_in words (slice_index_or places (256 * s + k) None));
 }
 
-unfoldable pub cores_in : List ℕ → List (Option Mapped) → List (Option Held) → List ℕ → Cores
-cores_in accs places held words = record { cores = table slots (core_in accs places words); reserved = map (reserved_in words) held }
-
--- the frame of each page of each slot, and then of each reserved page
+-- the frame of a page, and of a reserved page
 abbrev pub frame_of : Option Mapped → Option ℕ
 frame_of o = option_map (λ m. m.frame) o
 
 abbrev pub held_frame : Option Held → Option ℕ
 held_frame o = option_map (λ h. h.frame) o
 
+abbrev pub frames_now : List (Option Mapped) → List (Option Held) → Linked → Frames
+frames_now places held links = record { lists = links.lists; pages = map frame_of places; reserved = map held_frame held }
+
+unfoldable pub cores_in : List ℕ → List (Option Mapped) → List (Option Held) → List ℕ → Linked → Cores
+cores_in accs places held words links = record {
+  cores = table slots (core_in accs places words);
+  reserved = map (reserved_in words) held;
+  frames = frames_now places held links;
+}
+
+-- the frame of each page of each slot, and then of each reserved page
 unfoldable pub frames_in : List (Option Mapped) → List (Option Held) → List (Option ℕ)
 frames_in places held = map frame_of places ++ map held_frame held
-
--- the frames that stand in this list are in use, and each stands there once
-pub record Apart (frames : List (Option ℕ)) (used : List Bool) : Type 0 where
-  pub in_use : (p f : ℕ) → slice_index_or frames p None ≡ Some f → slice_index_or used f false ≡ true
-  pub once : (p q f : ℕ) → slice_index_or frames p None ≡ Some f → slice_index_or frames q None ≡ Some f → p ≡ q
 
 -- the first quarters of a reserved page are clear
 pub record IsClear (words : List ℕ) (h : Held) : Type 0 where
   pub most : h.clear ≤ 4
   pub zeros : (k : ℕ) → k < 256 * h.clear → slice_index_or words (1024 * h.frame + k) 0 ≡ 0
 
-pub record IsPool (accs : List ℕ) (places : List (Option Mapped)) (held : List (Option Held)) (words : List ℕ) (used : List Bool) (mapped : ℕ) : Type 0 where
+pub record IsPool (accs : List ℕ) (places : List (Option Mapped)) (held : List (Option Held)) (words : List ℕ) (links : Linked) (mapped : ℕ) : Type 0 where
   pub accs_long : length accs ≡ 1024
   pub places_long : length places ≡ 16384
   pub held_long : length held ≡ 64
   pub words_long : length words ≡ 1114112
-  pub used_long : length used ≡ 1088
-  pub apart : Apart (frames_in places held) used
+  pub nodes : links.nodes ≡ all_frames
+  pub heads : length links.lists ≡ slots + 1
+  pub listed : Listed (frames_now places held links)
+  pub rows : (s : ℕ) → s < slots → length (list_at links.lists (s + 1)) ≡ count_by is_some (row places s)
   pub clear : (s : ℕ) (h : Held) → slice_index_or held s None ≡ Some h → IsClear words h
-  pub number : mapped ≡ pages_mapped (core_at (cores_in accs places held words))
+  pub number : mapped ≡ pages_mapped (core_at (cores_in accs places held words links))
   pub most : mapped ≤ most_pages
-  pub count : count_by (λ b. b) used ≡ mapped + count_by is_some held
+  pub count : length (list_at links.lists 0) + mapped + count_by is_some held ≡ all_frames

@@ -5,10 +5,7 @@ ghost use Rattle.its_core.specs.Cores.{core_at};
 
 use super::cores::Core;
 use arrayvec::ArrayVec;
-use its_word::{Address, Fault, Word};
-
-/// How many indirect words and XCT targets a unit may have.
-const BUDGET: u32 = 64;
+use its_word::{Address, BUDGET, Fault, Word};
 
 /// I of an address word.
 fn is_indirect(w: Word) -> bool
@@ -95,5 +92,38 @@ impl Core {
             word = next;
             last = Some(next);
         }
+    }
+
+    /// The effective address as `address` has it, for one who does not need the places that are read.
+    /// Nearly all address words have I = 0: nothing but an index register is looked at then.
+    #[inline]
+    #[tactic(auto, using(its_word::proofs::AddressLaws::direct_answer, its_word::proofs::AddressLaws::direct_used))]
+    pub fn effective(&self, slot: u8, w: Word, used: &mut u32) -> Result<Address, Fault>
+        requires slot { slot < slots }
+        requires used { used.old ≤ budget }
+        ensures answer { result ≡ (address_of (core_at self.now slot) w used.old).answer }
+        ensures used { used.new ≡ (address_of (core_at self.now slot) w used.old).used }
+        ensures below { IfOk result (λ a. a.e < 2 ^ 18) }
+        ensures more { (used.old ≤ used.new) × (used.new ≤ budget) }
+    {
+        if is_indirect(w) {
+            return self.indirect(slot, w, used);
+        }
+        let (e, flags_word) = self.indexed(slot, w, None);
+        Ok(Address { e, flags_word })
+    }
+
+    /// The same, with the places that are read thrown away.
+    #[inline(never)]
+    fn indirect(&self, slot: u8, w: Word, used: &mut u32) -> Result<Address, Fault>
+        requires slot { slot < slots }
+        requires used { used.old ≤ budget }
+        ensures answer { result ≡ (address_of (core_at self.now slot) w used.old).answer }
+        ensures used { used.new ≡ (address_of (core_at self.now slot) w used.old).used }
+        ensures below { IfOk result (λ a. a.e < 2 ^ 18) }
+        ensures more { (used.old ≤ used.new) × (used.new ≤ budget) }
+    {
+        let mut reads = ArrayVec::new();
+        self.address(slot, w, used, &mut reads)
     }
 }

@@ -1,10 +1,16 @@
-ghost use Rattle.std.specs.Prelude.{◌≡◌, ◌≢◌, ◌<◌, ◌≤◌, ◌+◌, ◌-◌, ◌*◌, ◌/◌, ◌^◌, ◌++◌, ℕ, List, length, true, false, Some, None, IsSome, IsErr, OnOk, OnErr, IfOk, IfErr, IsOk, Ok, Err, count_by, slice_index_or, option_map, ◌↔◌};
+ghost use Rattle.std.specs.Prelude.{◌≡◌, ◌≢◌, ◌<◌, ◌≤◌, ◌+◌, ◌-◌, ◌*◌, ◌/◌, ◌^◌, ◌++◌, ℕ, List, length, is_some, slice_set, true, false, Some, None, IsSome, IsErr, OnOk, OnErr, IfOk, IfErr, IsOk, Ok, Err, count_by, slice_index_or, option_map, ◌↔◌, IfSome};
 ghost use Rattle.its_core.specs.Pool.{filled as copies};
-ghost use Rattle.its_word.specs.Core.{acc_at, get as got_at, put as put_at, can_store, store, page_of, with_page, zero_page, marked, no_core, pages_mapped};
+ghost use Rattle.its_word.specs.Core.{acc_at, get as got_at, put as put_at, word_at, can_store, store, page_of, pages_present, with_page, zero_page, marked, no_core, pages_mapped};
 ghost use Rattle.its_word.specs.Limits.{slots, most_pages};
 ghost use Rattle.its_word.specs.Only.{Only};
+ghost use Rattle.its_core.specs.Frames.{all_frames, free, numbers, row, emptied, Listed, frames_reserve, frames_give_back, frames_map, frames_unmap, frames_drop_all};
+ghost use Rattle.its_links.specs.Lists.{no_lists, first};
 ghost use Rattle.its_core.specs.Cores.{core_at, reserved_at, clear_at, clear_with, cleared, zeroed, mark_of, IsEmpty};
 
+#[cfg(test)]
+mod tests;
+
+use its_links::Links;
 use its_word::{MAPPED_PAGES, NoAccess, NoMemory, SLOTS, Word};
 use std::alloc::Global;
 use std::marker::Model;
@@ -16,33 +22,39 @@ const SLOT_PAGES: usize = 256;
 
 const SLOT_ACCS: usize = 16;
 
+/// How many addresses there are.
+const ADDRESSES: u32 = 0o1000000;
+
 /// How many page frames there are: one for each page that may be mapped, and one for each slot to
 /// reserve.
-const FRAMES: usize = 1088;
+const FRAMES: u32 = 1088;
+
+/// The list of the free frames.
+const FREE: u32 = 0;
 
 /// A page of a slot: its frame, and whether it can be stored to.
 #[derive(Clone, Copy)]
 struct Mapped {
-    frame: u16,
+    frame: u32,
     writable: bool,
 }
 
 /// A reserved page: its frame, and how many of its quarters are clear.
 #[derive(Clone, Copy)]
 struct Held {
-    frame: u16,
+    frame: u32,
     clear: u8,
 }
 
-/// The cores of all slots. Contracts see for each slot its core and its reserved page, and nothing
-/// of the frames that hold the pages.
+/// The cores of all slots. Contracts see for each slot its core and its reserved page; and which
+/// frame each page has, and the lists in which the frames stand.
 #[derive(Drop)]
 pub struct Core {
     accs: Vec<Word>,
     places: Vec<Option<Mapped>>,
     held: Vec<Option<Held>>,
     words: Vec<Word>,
-    used: Vec<bool>,
+    lists: Links,
     mapped: u32,
 }
 
@@ -52,9 +64,9 @@ impl Model for Core {
 
     ghost Value = { Cores };
 
-    ghost view = { λ c. cores_in c.accs.items c.places.items c.held.items c.words.items };
+    ghost view = { λ c. cores_in c.accs.items c.places.items c.held.items c.words.items c.lists };
 
-    ghost invariant = { λ c. IsPool c.accs.items c.places.items c.held.items c.words.items c.used.items c.mapped };
+    ghost invariant = { λ c. IsPool c.accs.items c.places.items c.held.items c.words.items c.lists c.mapped };
 }
 
 /// Where an accumulator of a slot stands.
@@ -89,6 +101,14 @@ fn present_in(places: &[Option<Mapped>], slot: u8, page: u8) -> Mapped
     mapped_in(places, slot, page).unwrap()
 }
 
+/// How many of a slot's pages are present.
+fn present_among(places: &[Option<Mapped>]) -> u16
+    requires { length places.now ≤ 256 }
+    ensures { result ≡ count_by is_some places.now }
+{
+    places.iter().filter(|p| p.is_some()).count() as u16
+}
+
 /// The page that a slot has reserved.
 fn held_in(held: &[Option<Held>], slot: u8) -> Held
     requires slot { slot < length held.now }
@@ -99,11 +119,44 @@ fn held_in(held: &[Option<Held>], slot: u8) -> Held
 }
 
 /// Where a word of a frame stands.
-fn word_index(frame: u16, at: u32) -> usize
+fn word_index(frame: u32, at: u32) -> usize
     requires { at < 1024 }
     ensures { result ≡ 1024 * frame + at }
 {
-    usize::from(frame) * PAGE_WORDS + at as usize
+    frame as usize * PAGE_WORDS + at as usize
+}
+
+/// The list of the frames of a slot's pages.
+fn list_of(slot: u8) -> u32
+    ensures { result ≡ slot + 1 }
+{
+    u32::from(slot) + 1
+}
+
+/// Lists for the free frames and for each slot, with all frames free in rising order.
+fn all_free(alloc: Global) -> Result<Links, NoMemory>
+    ensures { IfOk result (λ lists. lists ≡ record { nodes = all_frames; lists = slice_set (no_lists (slots + 1)) 0 (numbers all_frames) }) }
+{
+    let mut lists = Links::open(alloc, FRAMES, SLOTS as u32 + 1)?;
+    for frame in 0..FRAMES {
+        lists.push_back(FREE, frame);
+    }
+    Ok(lists)
+}
+
+/// Takes all pages of a slot out of the map. The number of pages that it had.
+fn vacate(places: &mut Vec<Option<Mapped>>, slot: u8) -> u32
+    requires { 256 * slot + 256 ≤ length places.old.items }
+    ensures number { result ≡ count_by is_some (row places.old.items slot) }
+    ensures emptied { places.new.items ≡ emptied (256 * slot) 256 places.old.items }
+{
+    let mut number = 0;
+    for page in 0..=255 {
+        if places[place_index(slot, page)].take().is_some() {
+            number += 1;
+        }
+    }
+    number
 }
 
 /// n copies of a value, in one piece of memory.
@@ -137,25 +190,13 @@ fn quarters_clear(q: u8, clear: u8) -> u8
     if q == clear { q + 1 } else { clear }
 }
 
-/// The first frame that is not in use.
-fn free_frame(used: &[bool]) -> u16
-    requires some { count_by (λ b. b) used.now < length used.now }
-    requires few { length used.now < 65536 }
-    ensures free { (result < length used.now) × (slice_index_or used.now result false ≡ false) }
-{
-    let mut frame = 0;
-    while used[frame] {
-        frame += 1;
-    }
-    frame as u16
-}
-
 /// 1024 pages are mapped already.
 #[derive(Clone, Copy, Debug, PartialEq, Eq)]
 pub struct Full;
 
 impl Core {
-    /// No slot has a page or a reserved page, and all accumulators are 0. Takes all the memory that
+    /// No slot has a page or a reserved page, all accumulators are 0, and all frames are free, in
+    /// rising order. Takes all the memory that
     /// the pages of all slots need.
     pub fn open(alloc: Global) -> Result<Core, NoMemory>
         ensures { IfOk result IsEmpty }
@@ -164,8 +205,8 @@ impl Core {
             accs: filled(alloc, Word::ZERO, SLOTS * SLOT_ACCS)?,
             places: filled(alloc, None, SLOTS * SLOT_PAGES)?,
             held: filled(alloc, None, SLOTS)?,
-            words: filled(alloc, Word::ZERO, FRAMES * PAGE_WORDS)?,
-            used: filled(alloc, false, FRAMES)?,
+            words: filled(alloc, Word::ZERO, FRAMES as usize * PAGE_WORDS)?,
+            lists: all_free(alloc)?,
             mapped: 0,
         })
     }
@@ -198,6 +239,7 @@ impl Core {
         ensures refused { IfErr result (λ e. put_at (core_at self.old slot) a w ≡ Err e) }
         ensures absent { result ≡ Err NoAccess.Absent → (16 ≤ a) × (page_of (core_at self.old slot) (a / 1024) ≡ None) }
         ensures same { OnErr result (self.new ≡ self.old) }
+        ensures frames { self.new.frames ≡ self.old.frames }
     {
         if a < 16 {
             self.accs[acc_index(slot, a)] = w;
@@ -232,24 +274,73 @@ impl Core {
         mapped_in(&self.places, slot, page).map(|m| m.writable)
     }
 
+    /// The word at an address of a slot; None where its page is absent, and past the last address.
+    #[tactic(auto, using(crate::proofs::ReadLaws::word_at_acc, crate::proofs::ReadLaws::word_at_page, crate::proofs::ReadLaws::word_at_absent, crate::proofs::ReadLaws::word_below, crate::proofs::SlotLaws::word_past))]
+    pub fn word(&self, slot: u8, a: u32) -> Option<Word>
+        requires { slot < slots }
+        ensures word { result ≡ word_at (core_at self.now slot) a }
+        ensures within { IfSome result (λ w. a < 2 ^ 18) }
+    {
+        if a < 16 {
+            return Some(self.accs[acc_index(slot, a)]);
+        }
+        if a >= ADDRESSES {
+            let _places = &self.places;
+            return None;
+        }
+        let m = mapped_in(&self.places, slot, (a / 1024) as u8)?;
+        Some(self.words[word_index(m.frame, a % 1024)])
+    }
+
+    /// Whether a word can be stored at an address of a slot: its page is present and writable. Past
+    /// the last address none can.
+    #[tactic(auto, using(crate::proofs::ReadLaws::can_store_acc, crate::proofs::ReadLaws::can_store_page, crate::proofs::ReadLaws::can_store_absent, crate::proofs::SlotLaws::store_past))]
+    pub fn is_storable(&self, slot: u8, a: u32) -> bool
+        requires { slot < slots }
+        ensures { result ≡ can_store (core_at self.now slot) a }
+    {
+        if a < 16 || a >= ADDRESSES {
+            let _places = &self.places;
+            return a < 16;
+        }
+        match mapped_in(&self.places, slot, (a / 1024) as u8) {
+            Some(m) if m.writable => true,
+            Some(_) => false,
+            None => false,
+        }
+    }
+
+    /// How many pages of a slot are present.
+    pub fn pages(&self, slot: u8) -> u16
+        requires { slot < slots }
+        ensures { result ≡ pages_present (core_at self.now slot) }
+    {
+        let first = place_index(slot, 0);
+        present_among(&self.places[first..first + SLOT_PAGES])
+    }
+
     /// How many pages all slots have together.
     pub fn mapped(&self) -> u32
         ensures number { result ≡ pages_mapped (core_at self.now) }
         ensures most { result ≤ most_pages }
+        ensures listed { Listed self.now.frames }
     {
         self.mapped
     }
 
-    /// Reserves a page for a slot. None of its quarters counts as clear.
+    /// Reserves a page for a slot, in the first of the free frames. None of its quarters counts as
+    /// clear.
     pub fn reserve(&mut self, slot: u8)
         requires slot { slot < slots }
         requires none { reserved_at self.old slot ≡ None }
         ensures reserved { (words : List ℕ) × Only (reserved_at self.old) (reserved_at self.new) slot (Some (record { clear = 0; words = words })) }
         ensures quarters { Only (clear_at self.old) (clear_at self.new) slot (Some 0) }
         ensures cores { self.new.cores ≡ self.old.cores }
+        ensures first { IsSome (first (free self.old.frames)) }
+        ensures frames { self.new.frames ≡ frames_reserve slot self.old.frames }
+        ensures listed { Listed self.new.frames }
     {
-        let frame = free_frame(&self.used);
-        self.used[usize::from(frame)] = true;
+        let frame = self.lists.pop_front(FREE).unwrap();
         self.held[usize::from(slot)] = Some(Held { frame, clear: 0 });
     }
 
@@ -261,6 +352,7 @@ impl Core {
         ensures reserved { Only (reserved_at self.old) (reserved_at self.new) slot (option_map (cleared q) (reserved_at self.old slot)) }
         ensures quarters { Only (clear_at self.old) (clear_at self.new) slot (option_map (clear_with q) (clear_at self.old slot)) }
         ensures cores { self.new.cores ≡ self.old.cores }
+        ensures frames { self.new.frames ≡ self.old.frames }
     {
         let h = held_in(&self.held, slot);
         let first = word_index(h.frame, 256 * u32::from(q));
@@ -272,7 +364,8 @@ impl Core {
     }
 
     /// Makes the page that a slot has reserved, whose four quarters are clear, a writable page of zeros
-    /// of the target. Full where 1024 pages are mapped already; the reservation then stays.
+    /// of the target; its frame becomes the last in the target's list. Full where 1024 pages are
+    /// mapped already; the reservation then stays.
     pub fn map(&mut self, slot: u8, target: u8, page: u8) -> Result<(), Full>
         requires slot { slot < slots }
         requires target { target < slots }
@@ -284,6 +377,8 @@ impl Core {
         ensures taken { OnOk result (Only (reserved_at self.old) (reserved_at self.new) slot None) }
         ensures quarters { OnOk result (Only (clear_at self.old) (clear_at self.new) slot None) }
         ensures same { OnErr result (self.new ≡ self.old) }
+        ensures frames { OnOk result (self.new.frames ≡ frames_map slot target page self.old.frames) }
+        ensures listed { OnOk result (Listed self.new.frames) }
     {
         if self.mapped == MAPPED_PAGES {
             return Err(Full);
@@ -294,33 +389,39 @@ impl Core {
             frame: h.frame,
             writable: true,
         });
+        self.lists.push_back(list_of(target), h.frame);
         self.mapped += 1;
         Ok(())
     }
 
-    /// Gives the page back that a slot has reserved.
+    /// Gives the page back that a slot has reserved; its frame becomes the last of the free ones.
     pub fn give_back(&mut self, slot: u8)
         requires slot { slot < slots }
         requires some { IsSome (reserved_at self.old slot) }
         ensures reserved { Only (reserved_at self.old) (reserved_at self.new) slot None }
         ensures quarters { Only (clear_at self.old) (clear_at self.new) slot None }
         ensures cores { self.new.cores ≡ self.old.cores }
+        ensures frames { self.new.frames ≡ frames_give_back slot self.old.frames }
+        ensures listed { Listed self.new.frames }
     {
         let h = held_in(&self.held, slot);
         self.held[usize::from(slot)] = None;
-        self.used[usize::from(h.frame)] = false;
+        self.lists.push_back(FREE, h.frame);
     }
 
-    /// Takes a page from a slot.
+    /// Takes a page from a slot; its frame becomes the last of the free ones.
     pub fn unmap(&mut self, slot: u8, page: u8)
         requires slot { slot < slots }
         requires present { IsSome (page_of (core_at self.old slot) page) }
         ensures unmapped { Only (core_at self.old) (core_at self.new) slot (with_page (core_at self.old slot) page None) }
         ensures reserved { self.new.reserved ≡ self.old.reserved }
+        ensures frames { self.new.frames ≡ frames_unmap slot page self.old.frames }
+        ensures listed { Listed self.new.frames }
     {
         let m = present_in(&self.places, slot, page);
         self.places[place_index(slot, page)] = None;
-        self.used[usize::from(m.frame)] = false;
+        self.lists.unlink(m.frame);
+        self.lists.push_back(FREE, m.frame);
         self.mapped -= 1;
     }
 
@@ -330,6 +431,7 @@ impl Core {
         requires present { IsSome (page_of (core_at self.old slot) page) }
         ensures marked { Only (core_at self.old) (core_at self.new) slot (with_page (core_at self.old slot) page (marked (page_of (core_at self.old slot) page) writable)) }
         ensures reserved { self.new.reserved ≡ self.old.reserved }
+        ensures frames { self.new.frames ≡ self.old.frames }
     {
         let m = present_in(&self.places, slot, page);
         self.places[place_index(slot, page)] = Some(Mapped {
@@ -338,38 +440,17 @@ impl Core {
         });
     }
 
-    /// Takes a page from a slot, where it is present.
-    #[tactic(auto, using(its_word::proofs::PageLaws::paging))]
-    fn drop_page(&mut self, slot: u8, page: u8)
-        requires { slot < slots }
-        ensures dropped { Only (core_at self.old) (core_at self.new) slot (with_page (core_at self.old slot) page None) }
-        ensures reserved { self.new.reserved ≡ self.old.reserved }
-    {
-        if self.page(slot, page).is_some() {
-            self.unmap(slot, page);
-        }
-    }
-
-    /// Takes all pages from a slot.
-    #[tactic(auto, using(its_word::proofs::PageLaws::paging))]
-    fn unmap_all(&mut self, slot: u8)
-        requires { slot < slots }
-        ensures gone { (k : ℕ) → k < 256 → page_of (core_at self.new slot) k ≡ None }
-        ensures others { (k : ℕ) → k ≢ slot → core_at self.new k ≡ core_at self.old k }
-        ensures reserved { self.new.reserved ≡ self.old.reserved }
-    {
-        for page in 0..=255 {
-            self.drop_page(slot, page);
-        }
-    }
-
-    /// Takes all pages from a slot and makes its accumulators 0.
+    /// Takes all pages from a slot and makes its accumulators 0. The frames become the last of the
+    /// free ones, in the order of the slot's list.
     pub fn drop_all(&mut self, slot: u8)
         requires { slot < slots }
         ensures dropped { Only (core_at self.old) (core_at self.new) slot no_core }
         ensures reserved { self.new.reserved ≡ self.old.reserved }
+        ensures frames { self.new.frames ≡ frames_drop_all slot self.old.frames }
+        ensures listed { Listed self.new.frames }
     {
-        self.unmap_all(slot);
+        self.mapped -= vacate(&mut self.places, slot);
+        self.lists.splice(list_of(slot), FREE);
         clear(&mut self.accs, acc_index(slot, 0), 16);
     }
 }

@@ -4,6 +4,7 @@
 
 mod address;
 mod cores;
+mod stores;
 #[cfg(test)]
 mod tests;
 

@@ -1,4 +1,4 @@
-ghost use Rattle.std.specs.Prelude.{◌≡◌, ◌<◌, ℕ, Some, None};
+ghost use Rattle.std.specs.Prelude.{◌≡◌, ◌≢◌, ◌<◌, ℕ, Some, None};
 ghost use Rattle.its_core.specs.Cores.{core_at, reserved_at, clear_at};
 ghost use Rattle.its_word.specs.Core.{page_of};
 ghost use Rattle.its_word.specs.Limits.{slots};
@@ -11,11 +11,12 @@ use std::test::Fail;
 
 /// Reserves a page for a slot, and clears it.
 #[tactic(auto, using(crate::proofs::CoresLaws::same_core_at))]
-fn clear_page(core: &mut Core, slot: u8)
+pub(crate) fn clear_page(core: &mut Core, slot: u8)
     requires slot { slot < slots }
     requires none { reserved_at core.old slot ≡ None }
     ensures clear { clear_at core.new slot ≡ Some 4 }
     ensures cores { (k : ℕ) → core_at core.new k ≡ core_at core.old k }
+    ensures others { (k : ℕ) → k ≢ slot → reserved_at core.new k ≡ reserved_at core.old k }
 {
     core.reserve(slot);
     core.clear_quarter(slot, 0);
@@ -98,7 +99,7 @@ fn address_words(rt: HostRuntime) -> Result<(), Fail> {
         let got = core.address(0, Word::new(w), &mut used, &mut reads);
         assert_eq!(rt; got, Ok(Address { e, flags_word }), "at {w}");
         assert_eq!(rt; reads.as_slice(), places, "at {w}");
-        assert_eq!(rt; used, 3 + spent, "at {w}");
+        assert_eq!(rt; used - 3, spent, "at {w}");
     }
     Ok(())
 }

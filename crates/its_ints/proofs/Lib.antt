@@ -1,2 +1,2 @@
-pub mod StorableLaws
 pub mod TableLaws
+pub mod PendingLaws

@@ -5,16 +5,10 @@ ghost use Rattle.its_core.specs.Cores.{core_at};
 ghost use Rattle.its_plain.specs.Job.{pc_word};
 ghost use Rattle.its_plain.specs.Interrupt.{unguarded, deliverable, pushed, at_handler, above, below, delivered, dismissed};
 
-use super::table::{Found, TBL, TableEntry, enabled_1, enabled_2, look_up};
-use super::words::{ADDRESSES, are_storable, is_storable, make_all, word};
+use super::table::{Found, TableEntry, enabled_1, enabled_2, look_up};
+use super::words::{is_storable, word};
 use its_core::Core;
-use its_word::{Exit, Fault, Job, Store, USER, Word};
-
-/// The fatal bits of pending word 1.
-const FATAL: u64 = 0o77;
-
-/// The flags that a PC word keeps, user aside.
-const NAMED: u32 = 0o760040;
+use its_word::{ADDRESSES, Exit, FATAL, Fault, Job, NAMED_FLAGS, Store, TBL, USER, Word};
 
 /// The pending fatal bits that are not enabled.
 #[tactic(auto, unfolding(its_plain::specs::Interrupt::unguarded))]
@@ -26,10 +20,14 @@ fn unguarded(job: &Job) -> Word
 
 /// Whether an interrupt of a job can be delivered: a fatal bit is pending that is not enabled, or an
 /// enabled bit is.
-#[tactic(auto, unfolding(its_plain::specs::Interrupt::deliverable))]
+#[tactic(auto, using(crate::proofs::PendingLaws::none_pending), unfolding(its_plain::specs::Interrupt::deliverable))]
 pub fn deliverable(job: &Job) -> bool
     ensures { result ≡ deliverable job.now }
 {
+    // nearly always nothing is pending
+    if job.pend1 == Word::ZERO && job.pend2 == Word::ZERO {
+        return false;
+    }
     unguarded(job) != Word::ZERO || enabled_1(job) != Word::ZERO || enabled_2(job) != Word::ZERO
 }
 
@@ -55,7 +53,7 @@ fn pushes(job: &Job, found: &Found) -> [Store; 6]
     ensures { result ≡ pushed job.now found.now.entry found.now.place found.now.pointer }
 {
     let pointer = found.pointer;
-    let pc_word = Word::pair(job.flags & NAMED | USER, job.pc);
+    let pc_word = Word::pair(job.flags & NAMED_FLAGS | USER, job.pc);
     let next = Word::pair(pointer.left() + 5, pointer.right() + 5);
     [
         store(above(pointer, 1), enabled_1(job) & found.entry.mask1()),
@@ -99,8 +97,7 @@ pub fn deliver(core: &mut Core, slot: u8, job: &mut Job) -> bool
     }
     if let Some(found) = look_up(core, slot, job) {
         let stores = pushes(job, &found);
-        if are_storable(core, slot, &stores) {
-            make_all(core, slot, &stores);
+        if core.store_all(slot, &stores).is_ok() {
             enter(job, &found.entry);
             return false;
         }
@@ -126,7 +123,7 @@ pub fn dismiss(core: &Core, job: &Job, slot: u8, p: u32) -> Result<Exit, Fault>
     }
     Ok(Exit {
         pc: pc_word.right(),
-        flags: pc_word.left() & NAMED,
+        flags: pc_word.left() & NAMED_FLAGS,
         pend1: job.pend1,
         pend2: job.pend2,
         mask1: job.mask1,

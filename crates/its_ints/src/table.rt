@@ -2,16 +2,13 @@
 ghost use Rattle.std.specs.Prelude.{◌≡◌, ◌≤◌, ◌<◌, ◌+◌, ◌^◌, IfSome, MatchOption};
 ghost use Rattle.its_word.specs.Limits.{slots};
 ghost use Rattle.its_core.specs.Cores.{core_at};
-ghost use Rattle.its_plain.specs.Unit.{first_fault};
+ghost use Rattle.its_word.specs.Stores.{first_fault};
 ghost use Rattle.its_plain.specs.Interrupt.{enabled_1, enabled_2, entry_at, meets, first_entry, entries_of, pushed, undelivered, by_stores, through_table};
 
-use super::words::{ADDRESSES, word};
+use super::words::word;
 use its_core::Core;
-use its_word::{Job, Word};
+use its_word::{ADDRESSES, Job, TBL, Word};
 use std::marker::Model;
-
-/// TBL, the bit of pending word 1 for a delivery that cannot be made.
-pub(crate) const TBL: u64 = 0o40;
 
 /// An entry of the interrupt table: the pending bits that it takes, the deferrals of its handler, and
 /// the address of that.

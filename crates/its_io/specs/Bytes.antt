@@ -1,5 +1,5 @@
 -- What a source gives and a sink takes, and when they fail.
-use Rattle.std.specs.Prelude.{◌≡◌, ◌≤◌, ◌+◌, ◌-◌, ◌^◌, ℕ, min, List, ◌++◌, Result, OnErr}
+use Rattle.std.specs.Prelude.{◌≡◌, ◌≤◌, ◌+◌, ◌-◌, ◌^◌, ℕ, min, List, ◌++◌, Result, OnOk, OnErr}
 use Rattle.std.specs.declared.option.Option.{Option}
 use Rattle.std.specs.Io.KnownBytes.{Appends}
 
@@ -11,10 +11,11 @@ next_fault faults = min (faults + 1) (2 ^ 64 - 1)
 abbrev pub Rose : ℕ → ℕ → Type 0
 Rose before now = next_fault before ≤ now
 
--- a count of faults does not fall, and an error comes only where it rose
+-- a count of faults is as it was where no error comes, and one more where one does
 pub record HasCause {T E : Type 0} (before now : ℕ) (result : Result T E) : Type 0 where
   pub later : before ≤ now
-  pub failed : OnErr result (Rose before now)
+  pub kept : OnOk result (now ≡ before)
+  pub failed : OnErr result (now ≡ next_fault before)
 
 -- the bytes written are the first of these
 pub record Wrote (old new : Option (List ℕ)) (wrote bytes : List ℕ) : Type 0 where

@@ -9,7 +9,8 @@ mod stream;
 #[cfg(test)]
 mod tests;
 
-pub use memory::{MemSink, MemSource, NoMemory};
+pub use its_word::NoMemory;
+pub use memory::{MemSink, MemSource};
 pub use real::{RealSink, RealSource};
 pub use safe::{SafeSink, SafeSource};
 pub use stream::{Failed, Sink, Source, write_all};

@@ -7,14 +7,9 @@ ghost use Rattle.its_io.specs.Bytes.{HasCause};
 ghost use Rattle.its_io.specs.Memory.{next_call, given, read_from, read_failed, taken, written_to, write_failed};
 
 use super::stream::{Failed, Sink, Source, next_fault};
+use its_word::NoMemory;
 use std::alloc::Global;
 use std::marker::Model;
-use thiserror::Error;
-
-/// Memory ran out.
-#[derive(Clone, Copy, Debug, PartialEq, Eq, Error)]
-#[error("out of memory")]
-pub struct NoMemory;
 
 /// Whether the call with this number is among those that fail.
 fn is_named(call: u128, fails: &[u64]) -> bool

@@ -5,8 +5,9 @@ ghost use Rattle.std.specs.Io.{ReadsAtMost, WritesAtMost};
 ghost use Rattle.std.specs.Io.KnownBytes.{ReadConsumes, WriteAppends};
 ghost use Rattle.its_io.specs.Bytes.{HasCause};
 
-use super::memory::{NoMemory, copy_from};
+use super::memory::copy_from;
 use super::stream::{Failed, Sink, Source};
+use its_word::NoMemory;
 use std::alloc::Global;
 use std::marker::Model;
 

@@ -1,1 +1,4 @@
+pub mod ClearLaws
+pub mod ClimbLaws
+pub mod TreeLaws
 pub mod TableLaws

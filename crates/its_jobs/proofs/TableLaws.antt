@@ -1,13 +1,14 @@
 -- The tree of jobs after a removal.
-use Rattle.std.specs.Prelude.{◌≡◌, ◌≢◌, ◌<◌, ℕ, true, false, Option, Some, None, IfSome, List, length, slice_index_or, slice_set, slice_get, is_some, refl}
+use Rattle.std.specs.Prelude.{if◌then◌else◌, ◌≡◌, ◌≢◌, ◌<◌, ◌==◌, ℕ, true, false, Option, Some, None, IfSome, List, length, slice_index_or, slice_set, slice_get, is_some, refl}
 use Rattle.std.proofs.Common.{sym, ◌∙◌, ap, arith, inl, inr, length-set}
-use Rattle.std.proofs.lemmas.Bool.{cases_eq, cases_lt}
+use Rattle.std.proofs.lemmas.Bool.{cases_eq, cases_lt, eq-eqb, ne_eqb}
 use Rattle.std.proofs.lemmas.List.{get_or-set_same, get_or-set_other, get_or_past}
 use Rattle.its_word.specs.Limits.{slots}
 use Rattle.its_word.specs.Tree.{is_below, slots_below}
 use Rattle.its_word.specs.declared.jobs.Job.{Job}
 use Rattle.its_word.proofs.TreeLaws.{below_superior, below_none, none_below}
-use Rattle.its_jobs.specs.Table.{IsTree}
+use Rattle.its_jobs.specs.Table.{IsTree, superior_in}
+use Rattle.its_jobs.proofs.TreeLaws.{circle_cut}
 
 -- one place of the two lists is emptied
 emptied : {X : Type 0} (xs : List (Option X)) (s : ℕ) → s < length xs → slice_index_or (slice_set xs s None) s None ≡ None
@@ -19,6 +20,12 @@ kept xs s k ne = get_or-set_other xs s k None None ne
 -- no superior is the slot of a job that has none below it
 not_superior : (superiors : ℕ → Option ℕ) (s k i : ℕ) → is_below superiors s k ≡ false → k ≢ s → superiors k ≡ Some i → i ≢ s
 not_superior superiors s k i h ne e f = let below : is_below superiors s k ≡ true = below_superior superiors s k ne (e ∙ ap Some f) in cc
+
+emptied_at : (xs : List (Option ℕ)) (s k : ℕ) → s < length xs → slice_index_or (slice_set xs s None) k None ≡ (if k == s then None else slice_index_or xs k None)
+emptied_at xs s k h = elim (cases_eq k s) [
+  | inl e ↦ rw (eq-eqb k s e, e) (emptied xs s h)
+  | inr ne ↦ rw (ne_eqb k s ne) (kept xs s k ne)
+]
 
 stands : (jobs : List (Option Job)) (superiors : List (Option ℕ)) (s k : ℕ) (o : Option ℕ) → slice_index_or superiors k None ≡ o → k ≢ s
     → is_below (λ i. slice_index_or superiors i None) s k ≡ false
@@ -45,6 +52,7 @@ removed jobs superiors s t h leaf =
         | inl e ↦ rw (e, emptied superiors s in_superiors) refl
         | inr ne ↦ kept superiors s k ne ∙ t.owned k (sym (kept jobs s k ne) ∙ f)
       ];
+      circle = circle_cut (superior_in superiors) (superior_in (slice_set superiors s None)) (λ k. k == s) (λ k. emptied_at superiors s k in_superiors) t.circle;
     }
 
 -- no job is below one that has no first below it

@@ -1,6 +1,7 @@
 -- What contracts see of the jobs: for each slot a job, where it has one, and its superior.
-use Rattle.std.specs.Prelude.{◌≡◌, ◌<◌, ℕ, true, Option, None, List, length, slice_index_or, is_some, IfSome}
+use Rattle.std.specs.Prelude.{if◌then◌else◌, ◌≡◌, ◌<◌, ◌==◌, ◌||◌, ℕ, Bool, true, false, Option, None, List, length, slice_index_or, is_some, IfSome}
 use Rattle.its_word.specs.Limits.{slots}
+use Rattle.its_word.specs.Tree.{climbs_to, is_below}
 use Rattle.its_word.specs.declared.jobs.Job.{Job}
 
 pub record Table : Type 0 where
@@ -15,13 +16,26 @@ job_at t k = slice_index_or t.jobs k None
 abbrev pub superior_at : Table → ℕ → Option ℕ
 superior_at t k = slice_index_or t.superiors k None
 
--- a superior is a slot that has a job, and only a slot with a job has one
+-- the superior of each slot, as a list has it
+abbrev pub superior_in : List (Option ℕ) → ℕ → Option ℕ
+superior_in superiors k = slice_index_or superiors k None
+
+-- a superior is a slot that has a job, and only a slot with a job has one; no job is reached from itself
 pub record IsTree (jobs : List (Option Job)) (superiors : List (Option ℕ)) : Type 0 where
   pub job_count : length jobs ≡ slots
   pub superior_count : length superiors ≡ slots
   pub below : (k : ℕ) → IfSome (slice_index_or superiors k None) (λ s. s < slots)
   pub standing : (k : ℕ) → IfSome (slice_index_or superiors k None) (λ s. is_some (slice_index_or jobs s None) ≡ true)
   pub owned : (k : ℕ) → slice_index_or jobs k None ≡ None → slice_index_or superiors k None ≡ None
+  pub circle : (k : ℕ) → climbs_to (superior_in superiors) k slots (superior_in superiors k) ≡ false
+
+-- the slots of a job and of all below it
+abbrev pub in_tree : (ℕ → Option ℕ) → ℕ → ℕ → Bool
+in_tree superiors r k = (k == r) || is_below superiors r k
+
+-- all is as before, but that what is gone is no more
+pub record Without {X : Type 0} (gone : ℕ → Bool) (old new : ℕ → Option X) : Type 0 where
+  pub each : (k : ℕ) → new k ≡ (if gone k then None else old k)
 
 -- no slot has a job
 pub record NoJobs (t : Table) : Type 0 where

@@ -1,4 +1,4 @@
-ghost use Rattle.std.specs.Prelude.{◌≡◌, ◌≢◌, ◌≤◌, ◌<◌, ◌↔◌, ℕ, true, Some, None, IfOk, OnOk, OnErr, IfSome, IsErr, is_some, length, slice_set, slice_index_or, slice_get, false, option_copied};
+ghost use Rattle.std.specs.Prelude.{◌≡◌, ◌≢◌, ◌≤◌, ◌<◌, ◌+◌, ◌||◌, ◌==◌, ◌↔◌, ℕ, true, Some, None, IfOk, OnOk, OnErr, IfSome, IsErr, is_some, length, slice_set, slice_index_or, slice_get, false, is_none, option_copied};
 ghost use Rattle.std.specs.Option.{option_copied_mut};
 ghost use Rattle.std.specs.Borrow.{LendsIf, sem};
 ghost use Rattle.its_word.specs.contracts.jobs.Job.{the_row as job_row};
@@ -6,7 +6,7 @@ ghost use Rattle.its_jobs.specs.contracts.table.Jobs.{the_row};
 ghost use Rattle.its_word.specs.Limits.{slots};
 ghost use Rattle.its_word.specs.Only.{Only};
 ghost use Rattle.its_word.specs.Tree.{least_free, fresh_job, is_below, slots_below};
-ghost use Rattle.its_jobs.specs.Table.{job_at, superior_at, NoJobs};
+ghost use Rattle.its_jobs.specs.Table.{job_at, superior_at, superior_in, in_tree, IsTree, Without, NoJobs};
 
 use its_word::{Channel, Job, NoMemory, SLOTS, Word};
 use std::alloc::Global;
@@ -35,11 +35,12 @@ impl Model for Jobs {
 
 impl Jobs {
     /// No slot has a job. Takes the memory of all of them.
+    #[tactic(auto, using(crate::proofs::TreeLaws::no_tree))]
     pub fn open(alloc: Global) -> Result<Jobs, NoMemory>
         ensures { IfOk result NoJobs }
     {
         let jobs = vec![in alloc; None; SLOTS].map_err(|_| NoMemory)?;
-        let superiors = vec![in alloc; None; SLOTS].map_err(|_| NoMemory)?;
+        let superiors = no_superiors(alloc)?;
         Ok(Jobs { jobs, superiors })
     }
 
@@ -65,12 +66,15 @@ impl Jobs {
         Ok(slot)
     }
 
-    /// The job of a slot.
+    /// The job of a slot; None where it is empty, and past the last slot.
     pub fn job(&self, slot: u8) -> Option<&Job>
-        requires { slot < slots }
-        ensures { option_copied result ≡ job_at self.now slot }
+        ensures job { option_copied result ≡ job_at self.now slot }
+        ensures within { IfSome result (λ j. slot < slots) }
     {
-        self.jobs[slot as usize].as_ref()
+        if usize::from(slot) >= self.jobs.len() {
+            return None;
+        }
+        self.jobs[usize::from(slot)].as_ref()
     }
 
     /// The job of a slot, to be changed; its superior stays.
@@ -94,25 +98,62 @@ impl Jobs {
         self.superiors[slot as usize] = None;
     }
 
+    /// Removes the job of a slot and all jobs below it. All others stay as they are.
+    pub fn remove_tree(&mut self, slot: u8)
+        requires { slot < slots }
+        ensures job { Without (in_tree (superior_at self.old) slot) (job_at self.old) (job_at self.new) }
+        ensures superior { Without (in_tree (superior_at self.old) slot) (superior_at self.old) (superior_at self.new) }
+    {
+        clear_tree(&mut self.jobs, &self.superiors, slot);
+        clear_superiors(&mut self.superiors, &self.jobs);
+    }
+
+    /// Does nothing: what is true of the jobs at any time.
+    pub fn tree(&self)
+        ensures { IsTree self.now.jobs self.now.superiors }
+    {
+        let _ = &self.jobs;
+    }
+
+    /// Whether the job of a slot is below that of another. No job is below itself.
+    pub fn is_below(&self, slot: u8, job: u8) -> bool
+        ensures { result ≡ is_below (superior_at self.now) slot job }
+    {
+        usize::from(job) < SLOTS && is_below(&self.superiors, slot, job)
+    }
+
     /// The k-th job below that of a slot, by slot number, from 0; None past the last.
     pub fn below(&self, slot: u8, k: u32) -> Option<u8>
         requires { slot < slots }
         ensures job { result ≡ slice_get (slots_below (superior_at self.now) slot) k }
         ensures within { IfSome result (λ b. b < slots) }
+        ensures tree { IsTree self.now.jobs self.now.superiors }
         ensures some { IfSome result (λ b. is_below (superior_at self.now) slot b ≡ true) }
         ensures none { k ≡ 0 → result ≡ None → (j : ℕ) → is_below (superior_at self.now) slot j ≡ false }
     {
         nth_below(&self.superiors, slot, k)
     }
 
-    /// The superior of a slot's job; None where the slot is empty or its job has none.
+    /// The superior of a slot's job; None where the slot is empty or its job has none, and past the
+    /// last slot.
     pub fn superior(&self, slot: u8) -> Option<u8>
-        requires { slot < slots }
         ensures value { result ≡ superior_at self.now slot }
         ensures standing { IfSome result (λ s. (s < slots) × (is_some (job_at self.now s) ≡ true)) }
     {
-        self.superiors[slot as usize]
+        if usize::from(slot) >= self.superiors.len() {
+            return None;
+        }
+        self.superiors[usize::from(slot)]
     }
+}
+
+/// No slot has a superior.
+fn no_superiors(alloc: Global) -> Result<Vec<Option<u8>>, NoMemory>
+    ensures length { IfOk result (λ v. length v.items ≡ slots) }
+    ensures none { IfOk result (λ v. (k : ℕ) → slice_index_or v.items k None ≡ None) }
+{
+    let superiors = vec![in alloc; None; SLOTS].map_err(|_| NoMemory)?;
+    Ok(superiors)
 }
 
 /// The least slot that is empty.
@@ -151,6 +192,35 @@ fn is_below(superiors: &[Option<u8>], slot: u8, job: u8) -> bool
         }
     }
     false
+}
+
+/// Empties the slots of a job and of all below it.
+fn clear_tree(jobs: &mut Vec<Option<Job>>, superiors: &[Option<u8>], slot: u8)
+    requires jobs { length jobs.old.items ≡ slots }
+    requires length { length superiors.now ≡ slots }
+    requires slots { (k : ℕ) → IfSome (slice_index_or superiors.now k None) (λ s. s < slots) }
+    ensures length { length jobs.new.items ≡ slots }
+    ensures left { Without (in_tree (superior_in superiors.now) slot) (λ k. slice_index_or jobs.old.items k None) (λ k. slice_index_or jobs.new.items k None) }
+{
+    for job in 0..64u8 {
+        if job == slot || is_below(superiors, slot, job) {
+            jobs[job as usize] = None;
+        }
+    }
+}
+
+/// Takes the superiors from slots that have no job.
+fn clear_superiors(superiors: &mut Vec<Option<u8>>, jobs: &[Option<Job>])
+    requires jobs { length jobs.now ≡ slots }
+    requires length { length superiors.old.items ≡ slots }
+    ensures length { length superiors.new.items ≡ slots }
+    ensures left { Without (λ k. is_none (slice_index_or jobs.now k None)) (λ k. slice_index_or superiors.old.items k None) (λ k. slice_index_or superiors.new.items k None) }
+{
+    for job in 0..64u8 {
+        if jobs[job as usize].is_none() {
+            superiors[job as usize] = None;
+        }
+    }
 }
 
 /// The k-th slot, from 0, of those below another.

@@ -69,5 +69,27 @@ fn tree(rt: HostRuntime) -> Result<(), Fail> {
         assert_eq!(rt; made(&rt, &mut jobs, None)?, slot);
     }
     assert_eq!(rt; made(&rt, &mut jobs, None), Err(NoSlot));
+
+    for (slot, job, want) in [
+        (0, 2, true),
+        (4, 2, true),
+        (2, 4, false),
+        (4, 4, false),
+        (0, 200, false),
+    ] {
+        assert_eq!(rt; jobs.is_below(slot, job), want, "{job} below {slot}");
+    }
+    jobs.tree();
+    jobs.remove_tree(4);
+    for (slot, want) in [
+        (0, true),
+        (1, true),
+        (2, false),
+        (3, true),
+        (4, false),
+        (5, true),
+    ] {
+        assert_eq!(rt; jobs.job(slot).is_some(), want, "job {slot}");
+    }
     Ok(())
 }

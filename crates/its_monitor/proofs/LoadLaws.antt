@@ -15,7 +15,8 @@ use Rattle.its_word.specs.declared.session.Reason.TheVariants as reasons
 use Rattle.its_core.proofs.CoresLaws.{same_core_at}
 use Rattle.its_core.specs.Cores.{Cores, core_at, reserved_at, IsEmpty}
 use Rattle.its_jobs.specs.Table.{Table, job_at, superior_at, NoJobs}
-use Rattle.its_plain.specs.Machine.{Whole, Machine, no_machine, core_of, mapped}
+use Rattle.its_plain.proofs.MachineLaws.{jobs_are}
+use Rattle.its_plain.specs.Machine.{Whole, Machine, no_machine, core_of, mapped, whole}
 use Rattle.its_plain.specs.Operator.{stored_in, stored, with_core, word_loaded_of, word_loaded}
 use Rattle.its_monitor.specs.declared.monitor.Monitor.{Monitor}
 use Rattle.its_monitor.specs.World.{whole_of, whole_at, machine_of, SoundSlot, Sound, Stores, reason_of, refusal_of}
@@ -27,7 +28,7 @@ open_at w k n = whole_none w k (n.jobs k)
 
 pub open_machine : (w : Monitor) → NoJobs w.jobs → machine_of w ≡ no_machine
 unfolding machine_of no_machine
-open_machine w n = λ t. record { jobs = λ k. open_at w k n t }
+open_machine w n = jobs_are _ _ (λ k. open_at w k n) refl
 
 open_slot : (w : Monitor) (k : ℕ) → IsEmpty w.core → NoJobs w.jobs → SoundSlot (core_at w.core k) (job_at w.jobs k)
 open_slot w k e n = rw (n.jobs k) (record { blank = λ h. e.cores k; placed = tt })
@@ -75,18 +76,18 @@ mapped_reserved a b c s n e o k = elim (cases_Bool (k == s)) [
 -- one word of an a/ line
 loaded_on : (w : Monitor) (s a v : ℕ) (j : Job) → job_at w.jobs s ≡ Some j → Sound w
     → let c = core_at w.core s in
-    let q : Whole = record { core = c; job = j; superior = superior_at w.jobs s } in
+    let q : Whole = whole c j (superior_at w.jobs s) in
     word_loaded (machine_of w) s a v ≡ with_core (machine_of w) s q (stored_in c a v (can_store c a) (is_some (word_at c a)) (nat_lt (pages_mapped (core_at w.core)) most_pages))
 unfolding word_loaded stored
 loaded_on w s a v j h sound =
     ap (word_loaded_of (machine_of w) s a v) (jobs_of w s ∙ whole_some w s j h)
-    ∙ ap (λ n. with_core (machine_of w) s (record { core = core_at w.core s; job = j; superior = superior_at w.jobs s }) (stored_in (core_at w.core s) a v (can_store (core_at w.core s) a) (is_some (word_at (core_at w.core s) a)) (nat_lt n most_pages))) (mapped_is w sound)
+    ∙ ap (λ n. with_core (machine_of w) s (whole (core_at w.core s) j (superior_at w.jobs s)) (stored_in (core_at w.core s) a v (can_store (core_at w.core s) a) (is_some (word_at (core_at w.core s) a)) (nat_lt n most_pages))) (mapped_is w sound)
 
 pub load_stored : (w new : Monitor) (s a v : ℕ) (j : Job) → job_at w.jobs s ≡ Some j → Sound w → can_store (core_at w.core s) a ≡ true
     → Stores w new s (store (core_at w.core s) a v) → word_loaded (machine_of w) s a v ≡ Ok (machine_of new)
 load_stored w new s a v j h sound can r =
     loaded_on w s a v j h sound
-    ∙ ap (λ b. with_core (machine_of w) s (record { core = core_at w.core s; job = j; superior = superior_at w.jobs s }) (stored_in (core_at w.core s) a v b (is_some (word_at (core_at w.core s) a)) (nat_lt (pages_mapped (core_at w.core)) most_pages))) can
+    ∙ ap (λ b. with_core (machine_of w) s (whole (core_at w.core s) j (superior_at w.jobs s)) (stored_in (core_at w.core s) a v b (is_some (word_at (core_at w.core s) a)) (nat_lt (pages_mapped (core_at w.core)) most_pages))) can
     ∙ ap Ok (sym (stored_machine w new s j _ h r))
 
 pub load_read_only : (w : Monitor) (s a v : ℕ) (j : Job) → job_at w.jobs s ≡ Some j → Sound w → put (core_at w.core s) a v ≡ Err ReadOnly
@@ -95,7 +96,7 @@ load_read_only w s a v j h sound p =
     loaded_on w s a v j h sound ∙ go (can_store (core_at w.core s) a) (word_at (core_at w.core s) a) p
   where
     go : (can : Bool) (there : Option ℕ) → putting (core_at w.core s) a v can there ≡ Err ReadOnly
-        → with_core (machine_of w) s (record { core = core_at w.core s; job = j; superior = superior_at w.jobs s })
+        → with_core (machine_of w) s (whole (core_at w.core s) j (superior_at w.jobs s))
         (stored_in (core_at w.core s) a v can (is_some there) (nat_lt (pages_mapped (core_at w.core)) most_pages)) ≡ Err reasons.ReadOnly
     go true there e = cc
     go false (Some x) e = refl
@@ -104,14 +105,14 @@ load_read_only w s a v j h sound p =
 -- the page is absent
 loaded_absent : (w : Monitor) (s a v : ℕ) (j : Job) (room : Bool) → job_at w.jobs s ≡ Some j → Sound w → 16 ≤ a → page_of (core_at w.core s) (a / 1024) ≡ None
     → nat_lt (pages_mapped (core_at w.core)) most_pages ≡ room
-    → word_loaded (machine_of w) s a v ≡ with_core (machine_of w) s (record { core = core_at w.core s; job = j; superior = superior_at w.jobs s })
+    → word_loaded (machine_of w) s a v ≡ with_core (machine_of w) s (whole (core_at w.core s) j (superior_at w.jobs s))
     (stored_in (core_at w.core s) a v false false room)
 loaded_absent w s a v j room h sound l p r =
     let no = absent_word (core_at w.core s) a l p in
     loaded_on w s a v j h sound
-    ∙ ap (λ b. with_core (machine_of w) s (record { core = core_at w.core s; job = j; superior = superior_at w.jobs s }) (stored_in (core_at w.core s) a v b (is_some (word_at (core_at w.core s) a)) (nat_lt (pages_mapped (core_at w.core)) most_pages))) no.0
-    ∙ ap (λ b. with_core (machine_of w) s (record { core = core_at w.core s; job = j; superior = superior_at w.jobs s }) (stored_in (core_at w.core s) a v false b (nat_lt (pages_mapped (core_at w.core)) most_pages))) no.1
-    ∙ ap (λ b. with_core (machine_of w) s (record { core = core_at w.core s; job = j; superior = superior_at w.jobs s }) (stored_in (core_at w.core s) a v false false b)) r
+    ∙ ap (λ b. with_core (machine_of w) s (whole (core_at w.core s) j (superior_at w.jobs s)) (stored_in (core_at w.core s) a v b (is_some (word_at (core_at w.core s) a)) (nat_lt (pages_mapped (core_at w.core)) most_pages))) no.0
+    ∙ ap (λ b. with_core (machine_of w) s (whole (core_at w.core s) j (superior_at w.jobs s)) (stored_in (core_at w.core s) a v false b (nat_lt (pages_mapped (core_at w.core)) most_pages))) no.1
+    ∙ ap (λ b. with_core (machine_of w) s (whole (core_at w.core s) j (superior_at w.jobs s)) (stored_in (core_at w.core s) a v false false b)) r
 
 pub load_made : (w new : Monitor) (s a v : ℕ) (j : Job) → job_at w.jobs s ≡ Some j → Sound w → 16 ≤ a → page_of (core_at w.core s) (a / 1024) ≡ None
     → pages_mapped (core_at w.core) < most_pages → Stores w new s (store (with_page (core_at w.core s) (a / 1024) (Some zero_page)) a v)

@@ -1,34 +1,34 @@
 -- What a tick of a job does to the plain machine.
-use Rattle.std.specs.Prelude.{if◌then◌else◌, ◌≡◌, ◌≢◌, ◌==◌, ◌<◌, ◌^◌, ◌⊎◌, ℕ, Bool, true, false, Option, Some, None, IfSome, slice_index_or, bit_or, refl}
+use Rattle.std.specs.Prelude.{if◌then◌else◌, ◌≡◌, ◌≢◌, ◌==◌, ◌<◌, ◌^◌, ◌⊎◌, ℕ, ◌≤◌, length, true, false, Option, Some, None, IfSome, slice_index_or, slice_set, refl}
 use Rattle.std.proofs.Common.{sym, ◌∙◌, ap, subst, arith, inl, inr}
-use Rattle.std.proofs.lemmas.Bool.{cases_Bool}
+use Rattle.std.proofs.lemmas.Bool.{cases_Bool, cases_lt}
+use Rattle.std.proofs.lemmas.List.{get_or-set_same, get_or-set_other, get_or_past}
 use Rattle.std.proofs.lemmas.Bool.Decides.{nat_tests}
 use Rattle.its_word.specs.Core.{Core}
+use Rattle.its_word.specs.Only.{Only}
 use Rattle.its_word.specs.declared.jobs.Job.{Job}
-use Rattle.its_word.specs.declared.access.Fault.{Fault}
-use Rattle.its_word.specs.declared.calls.Site.{Site}
 use Rattle.its_word.specs.declared.calls.Pace.TheVariants.{Step, Off}
 use Rattle.its_core.specs.Cores.{Cores, core_at, reserved_at}
 use Rattle.its_jobs.specs.Table.{Table, job_at, superior_at}
-use Rattle.its_plain.specs.Job.{bit_of, with_pending, INF}
-use Rattle.its_plain.specs.Machine.{Whole, Machine, changed, with_job}
+use Rattle.its_plain.specs.Job.{with_pending, INF}
+use Rattle.its_plain.proofs.MachineLaws.{jobs_are}
+use Rattle.its_plain.specs.Machine.{Whole, Machine, changed, with_job, whole}
 use Rattle.its_plain.specs.Interrupt.{Delivered, deliverable, delivered}
-use Rattle.its_plain.specs.Unit.{Outcome, Changed, Faulted, Called, unit}
-use Rattle.its_plain.specs.Step.{Taken, by_delivery, by_unit, informed, inform, after, step}
+use Rattle.its_plain.specs.Unit.{unit}
+use Rattle.its_plain.specs.Step.{by_delivery, by_unit, inform, after, step}
 use Rattle.its_plain.specs.Stepped.{tick}
 use Rattle.its_plain.specs.Transcript.{Licensed}
 use Rattle.its_plain.proofs.SteppedLaws.{tick_licensed}
 use Rattle.its_word.specs.declared.calls.Pace.{Pace}
-use Rattle.its_plain.proofs.UnitLaws.{never_called, unit_keeps}
 use Rattle.its_plain.proofs.DeliveryLaws.{delivered_placed}
 use Rattle.its_plain.proofs.TickLaws.{tick_letters, tick_step, tick_off, none_empty, none_stopped, step_delivery, step_unit}
 use Rattle.its_monitor.specs.declared.monitor.Monitor.{Monitor}
-use Rattle.its_monitor.specs.World.{whole_of, whole_at, machine_of, SoundSlot, Sound, Registers, Carries, StepMade}
+use Rattle.its_monitor.specs.World.{whole_at, machine_of, Sound, Registers, Carries, StepMade, UnitMade}
 use Rattle.its_monitor.proofs.WorldLaws.{machine_changed, jobs_of, whole_some, whole_none}
 
 -- slot s has another core and other registers
 pub carried_machine : (w mid new : Monitor) (s : ℕ) (i j : Job) → job_at w.jobs s ≡ Some i → Carries w mid s → Registers mid new s j
-    → machine_of new ≡ with_job (machine_of w) s (record { core = core_at new.core s; job = j; superior = superior_at w.jobs s })
+    → machine_of new ≡ with_job (machine_of w) s (whole (core_at new.core s) j (superior_at w.jobs s))
 carried_machine w mid new s i j h c r =
     machine_changed w new s _ (cc (r.job.here, r.superiors, c.jobs)) (λ k ne. cc (r.job.others k ne, r.core, r.superiors, c.jobs, c.others k ne))
 
@@ -51,31 +51,40 @@ placed_at w s j h sound = subst (λ o. IfSome o (λ j. j.pc < 2 ^ 18)) h (sound.
 pub placed_pc : (w : Monitor) (s : ℕ) (j : Job) → job_at w.jobs s ≡ Some j → Sound w → j.pc < 2 ^ 18
 placed_pc w s j h sound = placed_at w s j h sound
 
--- a unit that completes
-pub unit_done : (w mid new : Monitor) (s : ℕ) (i j : Job) → job_at w.jobs s ≡ Some i → Carries w mid s → Registers mid new s j
-    → unit (core_at w.core s) i ≡ Changed (core_at mid.core s) j → StepMade w new s i (by_unit (core_at w.core s) i (unit (core_at w.core s) i))
-unit_done w mid new s i j h c r u = record {
-  taken = record { core = core_at new.core s; job = j; informs = None };
-  is = ap (by_unit (core_at w.core s) i) u ∙ ap (λ m. Some (record { core = core_at m s; job = j; informs = None })) (sym r.core);
-  machine = carried_machine w mid new s i j h c r;
+-- a unit, on the core and the registers in place
+in_place : Monitor → Cores → Monitor
+in_place w c = record { core = c; jobs = w.jobs }
+
+pub job_put : (t : Table) (s : ℕ) (i j : Job) → job_at t s ≡ Some i → Only (job_at t) (job_at (record t { jobs = slice_set t.jobs s (Some j) })) s (Some j)
+job_put t s i j h = record {
+  here = get_or-set_same t.jobs s (Some j) None (within (cases_lt s (length t.jobs)));
+  others = λ k ne. get_or-set_other t.jobs s k (Some j) None ne;
+}
+  where
+    within : (s < length t.jobs) ⊎ (length t.jobs ≤ s) → s < length t.jobs
+    within (inl lt) = lt
+    within (inr ge) = let n : slice_index_or t.jobs s None ≡ None = get_or_past t.jobs s None ge in cc
+
+pub unit_made : (w new : Monitor) (s : ℕ) (i j : Job) → job_at w.jobs s ≡ Some i → ((k : ℕ) → k ≢ s → core_at new.core k ≡ core_at w.core k) → new.core.reserved ≡ w.core.reserved
+    → Only (job_at w.jobs) (job_at new.jobs) s (Some j) → new.jobs.superiors ≡ w.jobs.superiors
+    → by_unit (core_at w.core s) i (unit (core_at w.core s) i) ≡ Some (record { core = core_at new.core s; job = j; informs = None })
+    → UnitMade w new s
+unfolding in_place
+unit_made w new s i j h o r g p u = record {
+  job = i;
+  had = h;
+  made = record {
+    taken = record { core = core_at new.core s; job = j; informs = None };
+    is = u;
+    machine = carried_machine w (in_place w new.core) new s i j h (record { others = o; reserved = r; jobs = refl }) (record { core = refl; job = g; superiors = p });
+  };
 }
 
-pub unit_done_sound : (w mid new : Monitor) (s : ℕ) (i j : Job) → Carries w mid s → Registers mid new s j
-    → unit (core_at w.core s) i ≡ Changed (core_at mid.core s) j → Sound w → Sound new
-unit_done_sound w mid new s i j c r u sound = carried_sound w mid new s j c r (unit_keeps (core_at w.core s) i (core_at mid.core s) j u).pc sound
-
--- a unit that faults
-pub unit_fault : (w mid new : Monitor) (s : ℕ) (i : Job) (f : Fault) → job_at w.jobs s ≡ Some i → Carries w mid s → mid.core ≡ w.core
-    → Registers mid new s (with_pending i (bit_of f)) → unit (core_at w.core s) i ≡ Faulted f
-    → StepMade w new s i (by_unit (core_at w.core s) i (unit (core_at w.core s) i))
-unit_fault w mid new s i f h c e r u = record {
-  taken = record { core = core_at new.core s; job = with_pending i (bit_of f); informs = None };
-  is = ap (by_unit (core_at w.core s) i) u ∙ ap (λ m. Some (record { core = core_at m s; job = with_pending i (bit_of f); informs = None })) (sym (r.core ∙ e));
-  machine = carried_machine w mid new s i (with_pending i (bit_of f)) h c r;
-}
-
-pub unit_call : (c : Core) (j : Job) (s : Site) → unit c j ≡ Called s → ⊥
-unit_call c j s h = never_called c j s h
+pub unit_sound : (w new : Monitor) (s : ℕ) (j : Job) → ((k : ℕ) → k ≢ s → core_at new.core k ≡ core_at w.core k) → new.core.reserved ≡ w.core.reserved
+    → Only (job_at w.jobs) (job_at new.jobs) s (Some j) → new.jobs.superiors ≡ w.jobs.superiors → j.pc < 2 ^ 18 → Sound w → Sound new
+unfolding in_place
+unit_sound w new s j o r g p b sound =
+    carried_sound w (in_place w new.core) new s j (record { others = o; reserved = r; jobs = refl }) (record { core = refl; job = g; superiors = p }) b sound
 
 -- INF in a superior
 inform_at : (w new : Monitor) (s : ℕ) (i : Job) → job_at w.jobs s ≡ Some i → Registers w new s (with_pending i INF) → (k : ℕ) → whole_at new k ≡ inform (Some s) (machine_of w).jobs k
@@ -88,7 +97,7 @@ inform_at w new s i h r k = elim (cases_Bool (k == s)) [
 pub informs_some : (w new : Monitor) (s : ℕ) (i : Job) → job_at w.jobs s ≡ Some i → Registers w new s (with_pending i INF)
     → machine_of new ≡ record (machine_of w) { jobs = inform (Some s) (machine_of w).jobs }
 unfolding machine_of
-informs_some w new s i h r = λ t. record { jobs = λ k. inform_at w new s i h r k t }
+informs_some w new s i h r = jobs_are _ _ (λ k. inform_at w new s i h r k) refl
 
 inform_none_at : (w : Monitor) (s : ℕ) → job_at w.jobs s ≡ None → (k : ℕ) → whole_at w k ≡ inform (Some s) (machine_of w).jobs k
 unfolding machine_of
@@ -99,7 +108,7 @@ inform_none_at w s h k = elim (cases_Bool (k == s)) [
 
 pub informs_nobody : (w : Monitor) (s : ℕ) → job_at w.jobs s ≡ None → machine_of w ≡ record (machine_of w) { jobs = inform (Some s) (machine_of w).jobs }
 unfolding machine_of
-informs_nobody w s h = λ t. record { jobs = λ k. inform_none_at w s h k t }
+informs_nobody w s h = jobs_are _ _ (λ k. inform_none_at w s h k) refl
 
 -- a delivery, and then INF in the superior that it informs
 pub delivery_made : (w mid done new : Monitor) (s : ℕ) (i : Job) (d : Delivered) (informs : Option ℕ) → job_at w.jobs s ≡ Some i → Carries w mid s → Registers mid done s d.job
@@ -111,9 +120,9 @@ delivery_made w mid done new s i d informs h c r e k n m = record {
   is = refl;
   machine = m
       ∙ ap (λ (x : Machine). record x { jobs = inform informs x.jobs }) (carried_machine w mid done s i d.job h c r)
-      ∙ ap (λ (x : Core). record (machine_of w) { jobs = inform informs (changed (machine_of w).jobs s (Some (record { core = x; job = d.job; superior = superior_at w.jobs s }))) }) (ap (λ (x : Cores). core_at x s) r.core ∙ k)
-      ∙ ap (λ (x : Option ℕ). after (machine_of w) s (record { core = core_at w.core s; job = i; superior = superior_at w.jobs s }) (record { core = d.core; job = d.job; informs = x })) n
-      ∙ ap (λ (x : Delivered). after (machine_of w) s (record { core = core_at w.core s; job = i; superior = superior_at w.jobs s }) (by_delivery (superior_at w.jobs s) x)) (sym e);
+      ∙ ap (λ (x : Core). record (machine_of w) { jobs = inform informs (changed (machine_of w).jobs s (Some (whole x d.job (superior_at w.jobs s)))) }) (ap (λ (x : Cores). core_at x s) r.core ∙ k)
+      ∙ ap (λ (x : Option ℕ). after (machine_of w) s (whole (core_at w.core s) i (superior_at w.jobs s)) (record { core = d.core; job = d.job; informs = x })) n
+      ∙ ap (λ (x : Delivered). after (machine_of w) s (whole (core_at w.core s) i (superior_at w.jobs s)) (by_delivery (superior_at w.jobs s) x)) (sym e);
 }
 
 -- a tick
@@ -131,15 +140,16 @@ pub tick_delivery : (w new : Monitor) (s : ℕ) (j : Job) → job_at w.jobs s �
     → (machine_of new ≡ (tick (machine_of w) s).machine) × (Step ≡ (tick (machine_of w) s).pace)
 tick_delivery w new s j h t d m =
     let e : by_delivery (superior_at w.jobs s) (delivered (core_at w.core s) j) ≡ m.taken = cc (m.is) in
-    tick_step (machine_of w) (machine_of new) s (step_delivery (machine_of w) (machine_of new) s (record { core = core_at w.core s; job = j; superior = superior_at w.jobs s })
+    tick_step (machine_of w) (machine_of new) s (step_delivery (machine_of w) (machine_of new) s (whole (core_at w.core s) j (superior_at w.jobs s))
     (jobs_of w s ∙ whole_some w s j h) t d
-    (m.machine ∙ ap (after (machine_of w) s (record { core = core_at w.core s; job = j; superior = superior_at w.jobs s })) (sym e)))
+    (m.machine ∙ ap (after (machine_of w) s (whole (core_at w.core s) j (superior_at w.jobs s))) (sym e)))
 
-pub tick_unit : (w new : Monitor) (s : ℕ) (j : Job) → job_at w.jobs s ≡ Some j → j.stopped ≡ false → deliverable j ≡ false
-    → StepMade w new s j (by_unit (core_at w.core s) j (unit (core_at w.core s) j))
+pub tick_unit : (w new : Monitor) (s : ℕ) (j : Job) → job_at w.jobs s ≡ Some j → j.stopped ≡ false → deliverable j ≡ false → UnitMade w new s
     → (machine_of new ≡ (tick (machine_of w) s).machine) × (Step ≡ (tick (machine_of w) s).pace)
-tick_unit w new s j h t d m =
-    tick_step (machine_of w) (machine_of new) s (step_unit (machine_of w) (machine_of new) s (record { core = core_at w.core s; job = j; superior = superior_at w.jobs s }) m.taken
+tick_unit w new s j h t d u =
+    let e : u.job ≡ j = cc (h, u.had) in
+    let m : StepMade w new s j (by_unit (core_at w.core s) j (unit (core_at w.core s) j)) = subst (λ i. StepMade w new s i (by_unit (core_at w.core s) i (unit (core_at w.core s) i))) e u.made in
+    tick_step (machine_of w) (machine_of new) s (step_unit (machine_of w) (machine_of new) s (whole (core_at w.core s) j (superior_at w.jobs s)) m.taken
     (jobs_of w s ∙ whole_some w s j h) t d m.is m.machine)
 
 -- what a delivery leaves of PC

@@ -14,7 +14,8 @@ use Rattle.its_word.specs.Tree.{least_free, fresh_job}
 use Rattle.its_word.proofs.FreeLaws.{least_alike, least_empty}
 use Rattle.its_core.specs.Cores.{Cores, core_at, reserved_at}
 use Rattle.its_jobs.specs.Table.{Table, job_at, superior_at}
-use Rattle.its_plain.specs.Machine.{Whole, Machine, changed, with_job}
+use Rattle.its_plain.proofs.MachineLaws.{jobs_are}
+use Rattle.its_plain.specs.Machine.{Whole, Machine, changed, with_job, whole}
 use Rattle.its_plain.specs.Operator.{on_job, with_registers, on_registers, shown, state_shown, seen_word, word_seen, with_core, deposited_in, deposited, new_job, loaded_in, loaded}
 use Rattle.its_monitor.specs.declared.monitor.Monitor.{Monitor}
 use Rattle.its_monitor.specs.World.{whole_of, whole_at, machine_of, SoundSlot, Sound, Registers, Stores, Makes, reason_of, refusal_of}
@@ -29,18 +30,18 @@ changed_at f g s x here others k = elim (cases_Bool (k == s)) [
 -- a monitor whose slot s is changed stands for the machine with that job there
 pub machine_changed : (w new : Monitor) (s : ℕ) (q : Whole) → whole_at new s ≡ Some q → ((k : ℕ) → k ≢ s → whole_at new k ≡ whole_at w k) → machine_of new ≡ with_job (machine_of w) s q
 unfolding machine_of
-machine_changed w new s q here others = λ t. record { jobs = λ k. changed_at (whole_at new) (whole_at w) s (Some q) here others k t }
+machine_changed w new s q here others = jobs_are _ _ (λ k. changed_at (whole_at new) (whole_at w) s (Some q) here others k) refl
 
 pub machine_same : (w new : Monitor) → ((k : ℕ) → whole_at new k ≡ whole_at w k) → machine_of new ≡ machine_of w
 unfolding machine_of
-machine_same w new h = λ t. record { jobs = λ k. h k t }
+machine_same w new h = jobs_are _ _ (λ k. h k) refl
 
 pub jobs_of : (w : Monitor) (k : ℕ) → (machine_of w).jobs k ≡ whole_at w k
 unfolding machine_of
 jobs_of w k = refl
 
 -- the job of a slot
-pub whole_some : (w : Monitor) (s : ℕ) (j : Job) → job_at w.jobs s ≡ Some j → whole_at w s ≡ Some (record { core = core_at w.core s; job = j; superior = superior_at w.jobs s })
+pub whole_some : (w : Monitor) (s : ℕ) (j : Job) → job_at w.jobs s ≡ Some j → whole_at w s ≡ Some (whole (core_at w.core s) j (superior_at w.jobs s))
 whole_some w s j h = ap (whole_of (core_at w.core s) (superior_at w.jobs s)) h
 
 pub whole_none : (w : Monitor) (s : ℕ) → job_at w.jobs s ≡ None → whole_at w s ≡ None
@@ -50,7 +51,7 @@ same_whole : (w new : Monitor) (s : ℕ) (j : Job) → Registers w new s j → (
 same_whole w new s j r k ne = cc (r.job.others k ne, r.core, r.superiors)
 
 pub registers_machine : (w new : Monitor) (s : ℕ) (i j : Job) → job_at w.jobs s ≡ Some i → Registers w new s j
-    → machine_of new ≡ with_job (machine_of w) s (record { core = core_at w.core s; job = j; superior = superior_at w.jobs s })
+    → machine_of new ≡ with_job (machine_of w) s (whole (core_at w.core s) j (superior_at w.jobs s))
 registers_machine w new s i j h r =
     machine_changed w new s _ (whole_some new s j r.job.here ∙ cc (r.core, r.superiors)) (same_whole w new s j r)
 
@@ -112,7 +113,7 @@ seen_none w s a h = ap (on_job (machine_of w) s (λ q. seen_word (word_at q.core
 
 -- a store
 pub stored_machine : (w new : Monitor) (s : ℕ) (j : Job) (c : Core) → job_at w.jobs s ≡ Some j → Stores w new s c
-    → machine_of new ≡ with_job (machine_of w) s (record { core = c; job = j; superior = superior_at w.jobs s })
+    → machine_of new ≡ with_job (machine_of w) s (whole c j (superior_at w.jobs s))
 stored_machine w new s j c h r =
     machine_changed w new s _ (cc (r.core.here, r.jobs, h)) (λ k ne. cc (r.core.others k ne, r.jobs))
 
@@ -130,7 +131,7 @@ stored_sound w new s j c h r sound = record {
 
 deposited_on : (w : Monitor) (s a v : ℕ) (j : Job) → job_at w.jobs s ≡ Some j
     → let c = core_at w.core s in
-    let q : Whole = record { core = c; job = j; superior = superior_at w.jobs s } in
+    let q : Whole = whole c j (superior_at w.jobs s) in
     deposited (machine_of w) s a v ≡ with_core (machine_of w) s q (deposited_in c a v (can_store c a) (is_some (word_at c a)))
 unfolding deposited
 deposited_on w s a v j h =
@@ -140,7 +141,7 @@ pub deposit_ok : (w new : Monitor) (s a v : ℕ) (j : Job) → job_at w.jobs s �
     → Stores w new s (store (core_at w.core s) a v) → deposited (machine_of w) s a v ≡ Ok (machine_of new)
 deposit_ok w new s a v j h can r =
     deposited_on w s a v j h
-    ∙ ap (λ b. with_core (machine_of w) s (record { core = core_at w.core s; job = j; superior = superior_at w.jobs s }) (deposited_in (core_at w.core s) a v b (is_some (word_at (core_at w.core s) a)))) can
+    ∙ ap (λ b. with_core (machine_of w) s (whole (core_at w.core s) j (superior_at w.jobs s)) (deposited_in (core_at w.core s) a v b (is_some (word_at (core_at w.core s) a)))) can
     ∙ ap Ok (sym (stored_machine w new s j _ h r))
 
 put_refused : (m : Machine) (s : ℕ) (q : Whole) (c : Core) (a v : ℕ) (can : Bool) (there : Option ℕ) (e : NoAccess) → putting c a v can there ≡ Err e
@@ -152,7 +153,7 @@ put_refused m s q c a v false None e h = let k : Absent ≡ e = cc in ap (λ x. 
 pub deposit_refused : (w : Monitor) (s a v : ℕ) (j : Job) (e : NoAccess) → job_at w.jobs s ≡ Some j → put (core_at w.core s) a v ≡ Err e
     → deposited (machine_of w) s a v ≡ Err (reason_of (refusal_of e))
 deposit_refused w s a v j e h p =
-    deposited_on w s a v j h ∙ put_refused (machine_of w) s (record { core = core_at w.core s; job = j; superior = superior_at w.jobs s }) (core_at w.core s) a v (can_store (core_at w.core s) a) (word_at (core_at w.core s) a) e p
+    deposited_on w s a v j h ∙ put_refused (machine_of w) s (whole (core_at w.core s) j (superior_at w.jobs s)) (core_at w.core s) a v (can_store (core_at w.core s) a) (word_at (core_at w.core s) a) e p
 
 pub deposit_none : (w : Monitor) (s a v : ℕ) → job_at w.jobs s ≡ None → deposited (machine_of w) s a v ≡ Err reasons.NoJob
 unfolding deposited

@@ -1,6 +1,5 @@
 -- The plain machine that a monitor stands for, and what holds of a monitor between two calls.
-use Rattle.std.specs.Prelude.{◌≡◌, ◌≢◌, ◌<◌, ◌^◌, ℕ, Option, Some, None, IfSome, IsSome}
-use Rattle.its_word.specs.Limits.{slots}
+use Rattle.std.specs.Prelude.{◌≡◌, ◌≢◌, ◌<◌, ◌^◌, ℕ, Option, Some, None, IfSome}
 use Rattle.its_word.specs.Only.{Only}
 use Rattle.its_word.specs.Core.{Core, no_core}
 use Rattle.its_word.specs.declared.jobs.Job.{Job}
@@ -12,12 +11,13 @@ use Rattle.its_word.specs.declared.session.Refusal.{Refusal}
 use Rattle.its_word.specs.declared.session.Refusal.TheVariants as refusals
 use Rattle.its_core.specs.Cores.{core_at, reserved_at}
 use Rattle.its_jobs.specs.Table.{job_at, superior_at}
-use Rattle.its_plain.specs.Machine.{Whole, Machine}
-use Rattle.its_plain.specs.Step.{Taken, after}
+use Rattle.its_plain.specs.Machine.{Whole, Machine, whole, with_jobs}
+use Rattle.its_plain.specs.Unit.{unit}
+use Rattle.its_plain.specs.Step.{Taken, after, by_unit}
 use Rattle.its_monitor.specs.declared.monitor.Monitor.{Monitor}
 
 abbrev pub whole_of : Core → Option ℕ → Option Job → Option Whole
-whole_of c superior (Some j) = Some (record { core = c; job = j; superior = superior })
+whole_of c superior (Some j) = Some (whole c j superior)
 whole_of c superior None = None
 
 -- the job of a slot, whole
@@ -26,7 +26,7 @@ whole_at w k = whole_of (core_at w.core k) (superior_at w.jobs k) (job_at w.jobs
 
 -- the plain machine that a monitor stands for
 unfoldable pub machine_of : Monitor → Machine
-machine_of w = record { jobs = whole_at w }
+machine_of w = with_jobs (whole_at w)
 
 -- what holds of one slot: the core of an empty slot is that of no job, PC is an address, and no page is reserved
 pub record SoundSlot (c : Core) (job : Option Job) : Type 0 where
@@ -65,7 +65,13 @@ pub record Carries (w mid : Monitor) (s : ℕ) : Type 0 where
 pub record StepMade (w new : Monitor) (s : ℕ) (j : Job) (o : Option Taken) : Type 0 where
   pub taken : Taken
   pub is : o ≡ Some taken
-  pub machine : machine_of new ≡ after (machine_of w) s (record { core = core_at w.core s; job = j; superior = superior_at w.jobs s }) taken
+  pub machine : machine_of new ≡ after (machine_of w) s (whole (core_at w.core s) j (superior_at w.jobs s)) taken
+
+-- the job of slot s made its unit
+pub record UnitMade (w new : Monitor) (s : ℕ) : Type 0 where
+  pub job : Job
+  pub had : job_at w.jobs s ≡ Some job
+  pub made : StepMade w new s job (by_unit (core_at w.core s) job (unit (core_at w.core s) job))
 
 -- why the operator cannot have a word
 abbrev pub refusal_of : NoAccess → Refusal

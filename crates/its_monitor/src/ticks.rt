@@ -1,4 +1,4 @@
-ghost use Rattle.std.specs.Prelude.{◌≡◌, ◌≢◌, ◌<◌, ◌^◌, ◌⊎◌, if◌then◌else◌, ℕ, true, false, Some, None, IfSome};
+ghost use Rattle.std.specs.Prelude.{◌≡◌, ◌≢◌, ◌<◌, ◌^◌, ◌⊎◌, if◌then◌else◌, ℕ, true, false, Some, None, IfSome, is_some};
 ghost use Rattle.its_word.specs.Limits.{slots};
 ghost use Rattle.its_core.specs.Cores.{core_at};
 ghost use Rattle.its_jobs.specs.Table.{job_at, superior_at};
@@ -7,13 +7,13 @@ ghost use Rattle.its_plain.specs.Unit.{unit as unit_of};
 ghost use Rattle.its_plain.specs.Step.{by_delivery, by_unit, inform};
 ghost use Rattle.its_plain.specs.Stepped.{tick};
 ghost use Rattle.its_plain.specs.Transcript.{Licensed};
-ghost use Rattle.its_monitor.specs.World.{machine_of, Sound, Carries, StepMade};
-ghost use Rattle.pdp_exec.specs.Answer.{Answers};
+ghost use Rattle.its_monitor.specs.World.{machine_of, Sound, Carries, StepMade, UnitMade};
 
 use super::monitor::Monitor;
+use its_core::Core;
 use its_ints::{deliver, deliverable};
-use its_word::{INF, Job, Pace, Word};
-use pdp_exec::{Outcome, unit};
+use its_word::{ILO, INF, Job, Pace, Word};
+use pdp_exec::{Ended, run};
 
 impl Monitor {
     /// A tick of a slot: its job makes one step, which is the delivery of an interrupt where one is
@@ -33,6 +33,7 @@ impl Monitor {
     }
 
     /// What a tick does, and its letter.
+    #[inline(always)]
     #[tactic(auto, using(crate::proofs::TurnLaws::tick_empty, crate::proofs::TurnLaws::tick_stopped))]
     fn turn(&mut self, slot: u8) -> Pace
         requires slot { slot < slots }
@@ -41,49 +42,32 @@ impl Monitor {
         ensures pace { result ≡ (tick (machine_of self.old) slot).pace }
         ensures sound { Sound self.new }
     {
-        let Ok(job) = self.registers(slot) else {
+        let Some(job) = self.jobs.job(slot) else {
             return Pace::Off;
         };
         if job.stopped {
             return Pace::Off;
         }
-        if deliverable(&job) {
+        if deliverable(job) {
+            let job = *job;
             self.make_delivery(slot, job);
         } else {
-            self.make_unit(slot, job);
+            self.make_unit(slot);
         }
         Pace::Step
     }
 
-    /// The unit of a slot's job with these registers.
-    #[tactic(auto, using(crate::proofs::TurnLaws::unit_done, crate::proofs::TurnLaws::unit_done_sound, crate::proofs::TurnLaws::unit_fault, crate::proofs::TurnLaws::carried_sound, crate::proofs::TurnLaws::placed_pc, crate::proofs::TurnLaws::unit_call))]
-    fn make_unit(&mut self, slot: u8, job: Job)
+    /// The unit of a slot's job, on its core and its registers in place.
+    fn make_unit(&mut self, slot: u8)
         requires slot { slot < slots }
-        requires job { job_at self.old.jobs slot ≡ Some job }
+        requires job { is_some (job_at self.old.jobs slot) ≡ true }
         requires sound { Sound self.old }
-        ensures made { StepMade self.old self.new slot job (by_unit (core_at self.old.core slot) job (unit_of (core_at self.old.core slot) job)) }
+        ensures made { UnitMade self.old self.new slot }
         ensures sound { Sound self.new }
     {
-        let mut after = job;
-        match self.run_unit(slot, &mut after) {
-            Outcome::Done => self.put_registers(slot, after),
-            Outcome::Fault(bit) => {
-                after.pend1 = after.pend1 | Word::new(u64::from(bit));
-                self.put_registers(slot, after);
-            }
-            Outcome::Call(_) => unreachable!(),
+        if let Some(job) = self.jobs.job_mut(slot) {
+            run_unit(&mut self.core, slot, job);
         }
-    }
-
-    /// Runs the unit on the core of a slot.
-    fn run_unit(&mut self, slot: u8, job: &mut Job) -> Outcome
-        requires slot { slot < slots }
-        requires pc { job.old.pc < 2 ^ 18 }
-        ensures unit { Answers result (unit_of (core_at self.old.core slot) job.old) (core_at self.new.core slot) job.new }
-        ensures carries { Carries self.old self.new slot }
-        ensures same { (b : ℕ) → result ≡ Outcome.Fault b → (self.new.core ≡ self.old.core) × (job.new ≡ job.old) }
-    {
-        unit(&mut self.core, slot, job)
     }
 
     /// The delivery of an interrupt to a slot's job with these registers.
@@ -137,4 +121,21 @@ fn informed(stops: bool, superior: Option<u8>) -> Option<u8>
     ensures { result ≡ (if stops then superior else None) }
 {
     if stops { superior } else { None }
+}
+
+/// Runs the unit of a job on its core and its registers. A fault sets its bit; a call is an illegal
+/// operation while no call is built.
+fn run_unit(core: &mut Core, slot: u8, job: &mut Job)
+    requires slot { slot < slots }
+    requires pc { job.old.pc < 2 ^ 18 }
+    ensures step { by_unit (core_at core.old slot) job.old (unit_of (core_at core.old slot) job.old) ≡ Some (record { core = core_at core.new slot; job = job.new; informs = None }) }
+    ensures pc { job.new.pc < 2 ^ 18 }
+    ensures others { (k : ℕ) → k ≢ slot → core_at core.new k ≡ core_at core.old k }
+    ensures reserved { core.new.reserved ≡ core.old.reserved }
+{
+    match run(core, slot, job) {
+        Ended::Done => {}
+        Ended::Fault(bit) => job.pend1 = job.pend1 | Word::new(u64::from(bit)),
+        Ended::Call => job.pend1 = job.pend1 | Word::new(ILO),
+    }
 }

@@ -1,5 +1,5 @@
 -- Laws of deliveries.
-use Rattle.std.specs.Prelude.{if◌then◌else◌, ◌≡◌, ◌==◌, ◌<◌, ◌^◌, ℕ, ◌+◌, Bool, true, false, Option, Some, None, List}
+use Rattle.std.specs.Prelude.{◌==◌, ◌<◌, ◌^◌, ℕ, ◌+◌, Option, Some, None, List}
 use Rattle.std.proofs.Common.{arith, inl, inr}
 use Rattle.std.proofs.lemmas.Bool.{cases_Bool}
 use Rattle.its_word.specs.Core.{Core, word_at}
@@ -7,8 +7,8 @@ use Rattle.its_word.specs.Word.{right_of}
 use Rattle.its_word.specs.declared.access.Fault.{Fault}
 use Rattle.its_word.specs.declared.jobs.Job.{Job}
 use Rattle.its_word.specs.declared.plan.Store.{Store}
-use Rattle.its_plain.specs.Unit.{first_fault}
-use Rattle.its_plain.specs.Interrupt.{Entry, entries_of, first_entry, pushed, at_handler, Delivered, by_stores, by_pointer, by_entry, by_length, by_table, through_table, unguarded, delivered}
+use Rattle.its_word.specs.Stores.{first_fault}
+use Rattle.its_plain.specs.Interrupt.{Entry, entries_of, first_entry, pushed, at_handler, by_stores, by_pointer, by_entry, by_length, by_table, through_table, unguarded, delivered}
 
 -- PC stays an address
 stores_placed : (c : Core) (j : Job) (e : Entry) (ss : List Store) (o : Option Fault) → j.pc < 2 ^ 18 → (by_stores c j e ss o).job.pc < 2 ^ 18

@@ -1,5 +1,6 @@
+pub mod MachineLaws
 pub mod UnitLaws
 pub mod SteppedLaws
 pub mod TickLaws
 pub mod DeliveryLaws
-pub mod StoreLaws
+pub mod CallLineLaws

@@ -11,13 +11,12 @@ use Rattle.its_plain.specs.Step.{Taken, by_unit, taken_by, taken_unless, taken, 
 use Rattle.its_plain.specs.Operator.{Block, no_block, Operated, Refuses, Does, Ticks, Ends, operate}
 use Rattle.its_plain.specs.Transcript.{IsOff, Dots, Licensed, dots_after, settled, TicksRun, Goes, Run, Transcript}
 use Rattle.its_plain.specs.Stepped.{tocked, tick, paces_of, ticked, told_by, told, stepped}
-use Rattle.its_plain.proofs.UnitLaws.{never_called}
 
 -- a job that has no step is stopped
 unit_some : (c d : Core) (j k : Job) (o : Outcome) → unit c j ≡ o → by_unit d k o ≢ None
 unit_some c d j k (Changed e l) h n = cc
 unit_some c d j k (Faulted f) h n = cc
-unit_some c d j k (Called s) h n = never_called c j s h
+unit_some c d j k (Called s) h n = cc
 
 taken_by_some : (q : Whole) (b : Bool) → taken_by q b ≢ None
 taken_by_some q true n = cc

@@ -1,15 +1,12 @@
 -- A tick, by the step that its job has or has not.
-use Rattle.std.specs.Prelude.{if◌then◌else◌, ◌≡◌, ◌<◌, ◌^◌, ◌⊎◌, ℕ, Bool, true, false, Option, Some, None, refl}
-use Rattle.std.proofs.Common.{sym, ◌∙◌, ap, subst, arith, inl, inr}
-use Rattle.its_word.specs.Core.{Core}
-use Rattle.its_word.specs.declared.jobs.Job.{Job}
-use Rattle.its_word.specs.declared.calls.Pace.{Pace}
+use Rattle.std.specs.Prelude.{◌≡◌, ◌⊎◌, ℕ, true, false, Option, Some, None, refl}
+use Rattle.std.proofs.Common.{sym, ◌∙◌, ap, inl, inr}
 use Rattle.its_word.specs.declared.calls.Pace.TheVariants.{Step, Off}
 use Rattle.its_plain.specs.Machine.{Whole, Machine}
 use Rattle.its_plain.specs.Interrupt.{deliverable, delivered}
 use Rattle.its_plain.specs.Unit.{unit}
 use Rattle.its_plain.specs.Step.{Taken, by_delivery, by_unit, taken_by, taken_unless, taken, after, step_by, step_of, step}
-use Rattle.its_plain.specs.Stepped.{Tocked, tocked, tick}
+use Rattle.its_plain.specs.Stepped.{tocked, tick}
 
 -- where there is a step, the tick makes it
 pub tick_step : (m n : Machine) (i : ℕ) → step m i ≡ Some n → (n ≡ (tick m i).machine) × (Step ≡ (tick m i).pace)

@@ -1,31 +1,22 @@
--- What a unit leaves as it was, and what it never does.
-use Rattle.std.proofs.Common.{◌≡◌, ◌≢◌, ◌<◌, ◌/◌, ◌%◌, ◌^◌, ℕ, zero, suc, Bool, List, [], ◌∷◌, Option, Some, None, Ok, Err, refl, ◌∙◌, subst, inl, inr, is_some, option_map, slice_get, slice_set, nat_lt, arith}
+-- What a unit leaves as it was.
+use Rattle.std.proofs.Common.{◌≡◌, ◌<◌, ◌/◌, ◌%◌, ◌^◌, ℕ, zero, suc, Bool, List, [], ◌∷◌, Option, Some, None, Result, Ok, Err, refl, ◌∙◌, subst, inl, inr, is_some, option_map, slice_get, slice_set, nat_lt, arith}
 use Rattle.std.proofs.lemmas.Bool.{cases_Bool}
 use Rattle.std.proofs.lemmas.Nat.{and_assoc, mod_below}
 use Rattle.its_word.specs.Core.{Core, Page, word_at, can_store, store, page_of, page_stored, present, pages_present}
 use Rattle.its_word.specs.declared.access.Fault.{Fault}
-use Rattle.its_word.specs.declared.calls.Site.{Site}
 use Rattle.its_word.specs.declared.jobs.Job.{Job}
+use Rattle.its_word.specs.declared.instruction.Instruction.{Instruction}
+use Rattle.its_word.specs.declared.instruction.Instruction.TheVariants.{Iot, Call}
+use Rattle.its_word.specs.declared.plan.Context.{Context}
 use Rattle.its_word.specs.declared.plan.Plan.{Plan}
+use Rattle.its_word.specs.declared.plan.Reached.{Reached}
 use Rattle.its_word.specs.declared.plan.Store.{Store}
 use Rattle.its_word.proofs.CoreLaws.{can_store-store, is_some-store}
 use Rattle.its_word.proofs.PageLaws.{pages_present-store}
 use Rattle.its_plain.specs.Job.{named_flags}
 use Rattle.its_plain.specs.UnitPlan.{Planned}
-use Rattle.its_plain.specs.Unit.{Outcome, Changed, Faulted, Called, first_fault, left_by, made, outcome_of, place, planned, stored, unit}
-
-never_made : (c : Core) (j : Job) (p : Plan) (f : Option Fault) (s : Site) → made c j p f ≢ Called s
-never_made c j p None s e = cc
-never_made c j p (Some f) s e = cc
-
-never_planned : (c : Core) (j : Job) (p : Planned) (s : Site) → outcome_of c j p ≢ Called s
-never_planned c j (Ok p) s e = never_made c j p (first_fault c p.stores.items) s e
-never_planned c j (Err f) s e = cc
-
--- no instruction calls the monitor yet
-pub never_called : (c : Core) (j : Job) (s : Site) → unit c j ≢ Called s
-unfolding unit
-never_called c j s = never_planned c j (planned c j) s
+use Rattle.its_word.specs.Stores.{first_fault, place, stored}
+use Rattle.its_plain.specs.Unit.{Outcome, Changed, Faulted, Called, left_by, made, outcome_of, outcome_at, done_by, reached, row_of, unit}
 
 -- whether a page can be stored to, where it is present
 abbrev pub mark_at : Core → ℕ → Option Bool
@@ -131,9 +122,19 @@ planned_kept : (c : Core) (j : Job) (p : Planned) → IsKept c j (outcome_of c j
 planned_kept c j (Ok p) = made_kept c j p (first_fault c p.stores.items)
 planned_kept c j (Err f) = tt
 
+done_kept : (c : Core) (j : Job) (reads : List ℕ) (x : Context) (i : Instruction) → IsKept c j (done_by c j reads x i)
+unfolding done_by
+done_kept c j reads x Iot = tt
+done_kept c j reads x Call = tt
+done_kept c j reads x i = planned_kept c j (row_of c x i)
+
+outcome_kept : (c : Core) (j : Job) (reads : List ℕ) (r : Result Reached Fault) → IsKept c j (outcome_at c j reads r)
+outcome_kept c j reads (Ok r) = done_kept c j reads r.context r.instruction
+outcome_kept c j reads (Err f) = tt
+
 unit_kept : (c : Core) (j : Job) → IsKept c j (unit c j)
 unfolding unit
-unit_kept c j = planned_kept c j (planned c j)
+unit_kept c j = outcome_kept c j (reached c j).reads (reached c j).answer
 
 -- a unit keeps pages, their marks, and the registers that are no part of it; PC has 18 bits, and the
 -- flags are named ones

@@ -9,7 +9,7 @@ use Rattle.its_word.specs.declared.access.Fault.TheVariants.{Mpv, Wro}
 use Rattle.its_plain.specs.Job.{pc_word, flags_of, with_pending, TBL, FATAL}
 use Rattle.its_word.specs.declared.plan.Store.{Store}
 use Rattle.its_plain.specs.Machine.{words_at}
-use Rattle.its_plain.specs.Unit.{first_fault, stored}
+use Rattle.its_word.specs.Stores.{first_fault, stored}
 
 -- the pending bits that are enabled: their mask is on and their deferral is off; TBL never is
 unfoldable pub enabled_1 : Job → ℕ

@@ -4,12 +4,13 @@ use Rattle.its_word.specs.Word.{left_of, pair_of}
 use Rattle.its_word.specs.declared.jobs.Job.{Job}
 use Rattle.its_word.specs.declared.access.Fault.{Fault}
 use Rattle.its_word.specs.declared.access.Fault.TheVariants.{Mpv, Wro, Ilo}
-use Rattle.its_word.specs.declared.flags.TheConstants.{USER}
+use Rattle.its_word.specs.declared.flags.TheConstants.{NAMED_FLAGS, USER}
+pub use Rattle.its_word.specs.declared.pending.TheConstants.{BRK, ILO, MPV, WRO, IOC, TBL, PDL, INF, FATAL}
 
 -- the flags of a word, of which only the named ones are kept: overflow, carry 0, carry 1, floating
 -- overflow, first part done and no divide (processor reference manual, "Program control")
 abbrev pub named_flags : ℕ → ℕ
-named_flags f = bit_and f 0o760040
+named_flags f = bit_and f NAMED_FLAGS
 
 -- the PC word of some flags and a PC; user is always on
 abbrev pub pc_word : ℕ → ℕ → ℕ
@@ -18,36 +19,6 @@ pc_word flags pc = pair_of (bit_or (named_flags flags) USER) pc
 -- the flags that are taken from a PC word
 abbrev pub flags_of : ℕ → ℕ
 flags_of w = named_flags (left_of w)
-
--- bits of pending word 1: `.BREAK`, illegal operation, absent page, store to a read-only page, failed
--- `.IOT`, a delivery that cannot be made; these six are fatal
-abbrev pub BRK : ℕ
-BRK = 0o1
-
-abbrev pub ILO : ℕ
-ILO = 0o2
-
-abbrev pub MPV : ℕ
-MPV = 0o4
-
-abbrev pub WRO : ℕ
-WRO = 0o10
-
-abbrev pub IOC : ℕ
-IOC = 0o20
-
-abbrev pub TBL : ℕ
-TBL = 0o40
-
--- pushdown count, and an inferior stopped or logged out; not fatal
-abbrev pub PDL : ℕ
-PDL = 0o100
-
-abbrev pub INF : ℕ
-INF = 0o200
-
-abbrev pub FATAL : ℕ
-FATAL = 0o77
 
 -- the bit of a fault
 abbrev pub bit_of : Fault → ℕ

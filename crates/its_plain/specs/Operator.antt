@@ -13,7 +13,7 @@ use Rattle.its_word.specs.declared.session.Event.TheVariants.{Nothing, Load, Wor
 use Rattle.its_word.specs.declared.session.Reason.{Reason}
 use Rattle.its_word.specs.declared.session.Reason.TheVariants.{NoJob, NoPage, ReadOnly, Full, Unbuilt}
 use Rattle.its_plain.specs.Job.{pc_word, FATAL}
-use Rattle.its_plain.specs.Machine.{Whole, Machine, with_job, mapped, words_at}
+use Rattle.its_plain.specs.Machine.{Whole, Machine, whole, with_job, mapped, words_at}
 
 -- what a block of lines speaks of: the slot of the job that the last LOAD line made
 pub record Block : Type 0 where
@@ -41,7 +41,7 @@ only s k = k == s
 
 -- LOAD: a new job in the least free slot, stopped, with no page and no superior
 abbrev pub new_job : ℕ → ℕ → Option ℕ → Whole
-new_job u j console = record { core = no_core; job = fresh_job u j console; superior = None }
+new_job u j console = whole no_core (fresh_job u j console) None
 
 abbrev pub loaded_in : Machine → ℕ → ℕ → Option ℕ → Option ℕ → Result (Machine × ℕ) Reason
 loaded_in m u j console (Some s) = Ok (with_job m s (new_job u j console), s)

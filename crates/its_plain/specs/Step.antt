@@ -2,7 +2,7 @@
 use Rattle.std.specs.Prelude.{if◌then◌else◌, ◌==◌, ℕ, Bool, true, false, Option, Some, None}
 use Rattle.its_word.specs.Core.{Core}
 use Rattle.its_word.specs.declared.jobs.Job.{Job}
-use Rattle.its_plain.specs.Job.{with_pending, bit_of, INF}
+use Rattle.its_plain.specs.Job.{with_pending, bit_of, ILO, INF}
 use Rattle.its_plain.specs.Machine.{Whole, Machine, changed}
 use Rattle.its_plain.specs.Interrupt.{Delivered, deliverable, delivered}
 use Rattle.its_plain.specs.Unit.{Outcome, Changed, Faulted, Called, unit}
@@ -17,11 +17,11 @@ pub record Taken : Type 0 where
 abbrev pub by_delivery : Option ℕ → Delivered → Taken
 by_delivery superior d = record { core = d.core; job = d.job; informs = if d.stops then superior else None }
 
--- a fault sets its bit; a call has no step while no call is built
+-- a fault sets its bit; a call is an illegal operation while no call is built
 abbrev pub by_unit : Core → Job → Outcome → Option Taken
 by_unit c j (Changed d k) = Some (record { core = d; job = k; informs = None })
 by_unit c j (Faulted f) = Some (record { core = c; job = with_pending j (bit_of f); informs = None })
-by_unit c j (Called s) = None
+by_unit c j (Called s) = Some (record { core = c; job = with_pending j ILO; informs = None })
 
 abbrev pub taken_by : Whole → Bool → Option Taken
 taken_by q true = Some (by_delivery q.superior (delivered q.core q.job))

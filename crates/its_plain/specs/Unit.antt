@@ -1,14 +1,13 @@
 -- The unit: one instruction, one word of BLT, or one half of ILDB or IDPB (processor reference
 -- manual, "User operations"; docs/MACHINE.md, "Instructions").
-use Rattle.std.specs.Prelude.{if◌then◌else◌, ◌==◌, ◌||◌, ℕ, zero, suc, ◌+◌, ◌%◌, ◌^◌, Bool, true, false, List, [], ◌∷◌, Option, Some, None, Result, Ok, Err, nat_lt}
-use Rattle.std.specs.Option.{option_or}
-use Rattle.its_word.specs.Core.{Core, word_at, can_store, store}
+use Rattle.std.specs.Prelude.{if◌then◌else◌, ◌==◌, ◌||◌, ℕ, zero, suc, ◌+◌, ◌%◌, ◌^◌, Bool, true, false, List, [], Option, Some, None, Result, Ok, Err, nat_lt}
+use Rattle.its_word.specs.Core.{Core}
+use Rattle.its_word.specs.Stores.{first_fault, stored}
 use Rattle.its_word.specs.Limits.{budget}
-use Rattle.its_word.specs.Address.{address}
 use Rattle.its_word.specs.Opcode.{opcode_of, ac_of, instruction_of}
 use Rattle.its_word.specs.declared.access.Address.{Address}
 use Rattle.its_word.specs.declared.access.Fault.{Fault}
-use Rattle.its_word.specs.declared.access.Fault.TheVariants.{Mpv, Wro, Ilo}
+use Rattle.its_word.specs.declared.access.Fault.TheVariants.{Ilo}
 use Rattle.its_word.specs.declared.calls.Site.{Site}
 use Rattle.its_word.specs.declared.jobs.Job.{Job}
 use Rattle.its_word.specs.declared.instruction.BranchOp.TheVariants.{Jrst}
@@ -16,12 +15,12 @@ use Rattle.its_word.specs.declared.instruction.Instruction.{Instruction}
 use Rattle.its_word.specs.declared.instruction.Instruction.TheVariants.{Move, Exch, Arithmetic, Shift, Branch, Xct, Stack, Compare, Boolean, Half, Test, Byte, Iot, Call, Break, Illegal}
 use Rattle.its_word.specs.declared.plan.Context.{Context}
 use Rattle.its_word.specs.declared.plan.Plan.{Plan}
-use Rattle.its_word.specs.declared.plan.Store.{Store}
 use Rattle.its_word.specs.declared.plan.Reached.{Reached}
 use Rattle.its_word.specs.declared.plan.Turn.{Turn}
 use Rattle.its_word.specs.declared.plan.Turn.TheVariants.{Found, Target}
 use Rattle.its_plain.specs.Job.{BRK, named_flags, with_pending}
-use Rattle.its_plain.specs.UnitPlan.{Planned, given, read_of, next}
+use Rattle.its_plain.specs.UnitPlan.{Planned, next}
+use Rattle.its_plain.specs.Traced.{Traced, plainly, gives, faults, also, word, located}
 use Rattle.its_plain.specs.UnitMoves.{move_row, exch_row, half_row}
 use Rattle.its_plain.specs.UnitArith.{arithmetic_row, shift_row, boolean_row}
 use Rattle.its_plain.specs.UnitJumps.{branch_row, stack_row}
@@ -35,12 +34,10 @@ pub data Outcome : Type 0 where
   Faulted : Fault → Outcome
   Called : Site → Outcome
 
--- whether an instruction is in the tables with this A; any other is ILO, and its E is not looked at.
--- `.IOT`, and `.CALL` with A = 0, have no row yet
+-- whether an instruction is in the tables with this A; any other is ILO, and its E is not looked at
 abbrev pub has_row : Instruction → ℕ → Bool
 has_row (Branch Jrst) a = a == 0 || a == 2
-has_row Iot a = false
-has_row Call a = false
+has_row Call a = a == 0
 has_row Break a = a == 0o16
 has_row Illegal a = false
 has_row _ a = true
@@ -61,27 +58,30 @@ context_of j w e used = record {
 }
 
 -- the target of an XCT, which counts against the budget; where nothing is left of it, that is ILO
-unfoldable pub target_of : Core → Context → Result Turn Fault
-target_of c x = if nat_lt x.used budget then given (read_of c x.e) (λ w. Ok (Target w (x.used + 1))) else Err Ilo
+unfoldable pub target_of : Core → Context → Traced Turn
+target_of c x = if nat_lt x.used budget then also (word c x.e) (λ w. gives (Target w (x.used + 1))) else faults Ilo
 
 -- 256 XCT goes on with the word at E; A is not used. Any other instruction is found
-unfoldable pub turn_at : Core → Instruction → Context → Result Turn Fault
+unfoldable pub turn_at : Core → Instruction → Context → Traced Turn
 turn_at c Xct x = target_of c x
-turn_at c i x = Ok (Found (record { instruction = i; context = x }))
+turn_at c i x = gives (Found (record { instruction = i; context = x }))
 
 -- an instruction word that is reached with so much of the budget used
-unfoldable pub turn : Core → Job → ℕ → ℕ → Result Turn Fault
-turn c j w used =
-    given (decoded w) (λ i. given (address c w used).answer (λ e. turn_at c i (context_of j w e (address c w used).used)))
+unfoldable pub turn : Core → Job → ℕ → ℕ → Traced Turn
+turn c j w used = also (plainly (decoded w)) (λ i. also (located c w used) (λ f. turn_at c i (context_of j w f.at f.used)))
 
-abbrev pub followed : (ℕ → ℕ → Result Reached Fault) → Turn → Result Reached Fault
-followed rest (Found r) = Ok r
+abbrev pub followed : (ℕ → ℕ → Traced Reached) → Turn → Traced Reached
+followed rest (Found r) = gives r
 followed rest (Target w used) = rest w used
 
 -- the instruction of a word, or at the end of its chain of fewer than n XCTs. PC is that of the first
-unfoldable pub chain : ℕ → Core → Job → ℕ → ℕ → Result Reached Fault
-chain zero c j w used = Err Ilo
-chain (suc n) c j w used = given (turn c j w used) (λ t. followed (λ v k. chain n c j v k) t)
+unfoldable pub chain : ℕ → Core → Job → ℕ → ℕ → Traced Reached
+chain zero c j w used = faults Ilo
+chain (suc n) c j w used = also (turn c j w used) (λ t. followed (λ v k. chain n c j v k) t)
+
+-- the instruction of a job, which is fetched at its PC
+unfoldable pub reached : Core → Job → Traced Reached
+reached c j = also (word c j.pc) (λ w. chain (budget + 1) c j w 0)
 
 -- 045 .BREAK 16, sets BRK
 unfoldable pub break_row : Context → Planned
@@ -106,30 +106,6 @@ row_of c x Iot = Err Ilo
 row_of c x Call = Err Ilo
 row_of c x Illegal = Err Ilo
 
--- the plan of a job, whose instruction is fetched at its PC
-unfoldable pub planned : Core → Job → Planned
-planned c j = given (read_of c j.pc) (λ w. given (chain (budget + 1) c j w 0) (λ r. row_of c r.context r.instruction))
-
--- why a store cannot be made, where it cannot
-abbrev pub refusal : Bool → Option ℕ → Option Fault
-refusal true there = None
-refusal false None = Some Mpv
-refusal false (Some w) = Some Wro
-
--- the place of a store; addresses have 18 bits
-abbrev pub place : Store → ℕ
-place s = s.at % 2 ^ 18
-
--- the fault of the first store that cannot be made
-unfoldable pub first_fault : Core → List Store → Option Fault
-first_fault c [] = None
-first_fault c (s ∷ ss) = option_or (refusal (can_store c (place s)) (word_at c (place s))) (first_fault c ss)
-
--- the core after stores in their order
-unfoldable pub stored : Core → List Store → Core
-stored c [] = c
-stored c (s ∷ ss) = stored (store c (place s) s.word) ss
-
 -- the registers after a plan: PC has 18 bits, and of the flags only the named ones are kept
 abbrev pub left_by : Job → Plan → Job
 left_by j p = with_pending (record j { pc = p.pc % 2 ^ 18; flags = named_flags p.flags }) p.pending
@@ -143,6 +119,27 @@ abbrev pub outcome_of : Core → Job → Planned → Outcome
 outcome_of c j (Ok p) = made c j p (first_fault c p.stores.items)
 outcome_of c j (Err f) = Faulted f
 
+-- where a job calls the monitor, with the places of the words that were read to come there. PC is that of the call, or of
+-- the XCT that began the chain
+abbrev pub site_of : Context → Option ℕ → List ℕ → Site
+site_of x channel reads = record {
+  pc = x.pc;
+  e = x.e;
+  channel = channel;
+  used = x.used;
+  decode = record { items = reads };
+}
+
+-- 040 `.IOT` with its channel in A, and 043 `.CALL`, call the monitor; any other instruction does what its row plans
+unfoldable pub done_by : Core → Job → List ℕ → Context → Instruction → Outcome
+done_by c j reads x Iot = Called (site_of x (Some x.a) reads)
+done_by c j reads x Call = Called (site_of x None reads)
+done_by c j reads x i = outcome_of c j (row_of c x i)
+
+abbrev pub outcome_at : Core → Job → List ℕ → Result Reached Fault → Outcome
+outcome_at c j reads (Ok r) = done_by c j reads r.context r.instruction
+outcome_at c j reads (Err f) = Faulted f
+
 -- the unit of a job
 unfoldable pub unit : Core → Job → Outcome
-unit c j = outcome_of c j (planned c j)
+unit c j = outcome_at c j (reached c j).reads (reached c j).answer

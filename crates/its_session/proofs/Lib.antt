@@ -4,3 +4,4 @@ pub mod PutLaws
 pub mod LineLaws
 pub mod NameLaws
 pub mod RoundTrip
+pub mod FitsLaws

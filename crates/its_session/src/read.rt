@@ -1,7 +1,8 @@
 //! Reading a line.
-ghost use Rattle.std.specs.Prelude.{◌≡◌, ◌==◌, map, slice_index};
+ghost use Rattle.std.specs.Prelude.{◌≡◌, ◌==◌, map, slice_index, IfOk};
 ghost use Rattle.std.specs.List.{list_all};
 ghost use Rattle.its_word.specs.Text.{is_code};
+ghost use Rattle.its_session.specs.Fits.{EventFits};
 ghost use Rattle.its_session.specs.Grammar.{event_of_words, is_comment, line_event, line_of_kind};
 
 use super::kind::{Kind, before_slash, kind_of, may_stand};
@@ -11,10 +12,11 @@ use its_word::{Bad, Event, Place};
 
 /// The event of a line (without its LF) at a place, or the first reason why it is none: `Long` for more
 /// than 255 bytes, `Syntax` for a line that may not stand there, `Range` for a number outside its
-/// range, `NoConsole` for a console above 7.
-#[tactic(auto, unfolding(crate::specs::Grammar::line_event))]
+/// range, `NoConsole` for a console above 7. What is read fits the table of lines.
+#[tactic(auto, using(crate::proofs::FitsLaws::words_fit), unfolding(crate::specs::Grammar::line_event))]
 pub fn read_line(line: &[u8], place: Place) -> Result<Event, Bad>
-    ensures { result ≡ line_event place line.now }
+    ensures event { result ≡ line_event place line.now }
+    ensures fits { IfOk result EventFits }
 {
     if line.len() > 255 {
         return Err(Bad::Long);

@@ -1,7 +1,6 @@
 -- From what the monitor answered and what was written to what the event did.
-use Rattle.std.specs.Prelude.{◌≡◌, ◌≢◌, ℕ, ◌+◌, Bool, true, false, Option, Some, None, Result, Ok, Err, OnOk, IfErr, List, [], ◌∷◌, ◌++◌, refl}
+use Rattle.std.specs.Prelude.{◌≡◌, ℕ, Bool, Option, Result, Ok, Err, OnOk, IfErr, List, [], ◌∷◌, refl}
 use Rattle.std.proofs.Common.{sym, ◌∙◌, ap, subst}
-use Rattle.std.specs.Io.KnownBytes.{Appends}
 use Rattle.std.proofs.KnownBytes.{Appends-nil}
 use Rattle.its_word.specs.declared.session.Event.{Event}
 use Rattle.its_word.specs.declared.session.Event.TheVariants as events
@@ -12,7 +11,7 @@ use Rattle.its_word.specs.declared.calls.Pace.{Pace}
 use Rattle.its_print.specs.Printing.{Line, Refused, text_of_line, text}
 use Rattle.its_print.specs.Printing as printed
 use Rattle.its_plain.specs.Machine.{Machine}
-use Rattle.its_plain.specs.Operator.{Block, Operated, Does, Refuses, Ticks, Ends, operate, nobody, only, disturbs, quietly, by_load, by_exam, by_state, loaded, words_loaded, on_registers, started, interrupted, stopped, continued, examined, state_shown, deposited}
+use Rattle.its_plain.specs.Operator.{Block, Does, Refuses, operate, nobody, only, disturbs, quietly, by_load, by_exam, by_state, loaded, words_loaded, on_registers, started, interrupted, stopped, continued, examined, state_shown, deposited}
 use Rattle.its_plain.specs.Stepped.{paces_of, ticked}
 use Rattle.its_monitor.specs.World.{reason_of}
 use Rattle.its_top.specs.declared.turn.Turn.{Turn}

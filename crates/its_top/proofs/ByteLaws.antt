@@ -1,26 +1,20 @@
 -- What some bytes write.
-use Rattle.std.specs.Prelude.{if◌then◌else◌, ◌≡◌, ◌≢◌, ◌==◌, ◌≤◌, ◌<◌, ℕ, ◌+◌, Bool, true, false, Result, Ok, Err, List, [], ◌∷◌, ◌++◌, length, nat_lt, nat_le, refl}
-use Rattle.std.proofs.Common.{sym, ◌∙◌, ap, arith, subst, inl, inr, append_assoc, append-nil, length-append}
+use Rattle.std.specs.Prelude.{◌≡◌, ◌≢◌, ◌==◌, ◌≤◌, ◌<◌, ℕ, Bool, true, false, Err, List, [], ◌∷◌, ◌++◌, length, nat_lt, nat_le, refl}
+use Rattle.std.proofs.Common.{sym, ◌∙◌, ap, arith, inl, inr, append_assoc, length-append}
 use Rattle.std.proofs.lemmas.Bool.{cases_Bool}
 use Rattle.std.proofs.lemmas.Bool.Decides.{nat_tests}
-use Rattle.its_word.specs.Item.{Item, Read, Unread, Beyond}
 use Rattle.its_word.specs.declared.session.Place.{Place}
-use Rattle.its_word.specs.declared.session.Place.TheVariants as places
-use Rattle.its_word.specs.declared.session.Bad.{Bad}
 use Rattle.its_word.specs.declared.session.Bad.TheVariants.{Long}
 use Rattle.its_word.specs.declared.session.Reason.TheVariants as reasons
 use Rattle.its_print.specs.Printing.{Refused, text}
 use Rattle.its_session.specs.Grammar.{line_event}
-use Rattle.its_session.specs.Events.{most_lines, last_line, lines_from, items_from, place_after, reason_of}
-use Rattle.its_plain.specs.Machine.{Machine}
-use Rattle.its_plain.specs.Operator.{Block}
-use Rattle.its_plain.specs.Transcript.{Ended, Open, Lost, TooLong}
-use Rattle.its_plain.specs.Stepped.{Told, told}
+use Rattle.its_session.specs.Events.{most_lines, last_line, lines_from}
+use Rattle.its_plain.specs.Transcript.{Lost, TooLong}
 use Rattle.its_top.specs.declared.turn.Turn.{Turn}
 use Rattle.its_top.specs.declared.turn.Turn.TheVariants as turns
 use Rattle.its_top.specs.Telling.{Now, Says, after, saying, Begins, items_say, lines_say, bytes_say, Lines, Fed}
 use Rattle.its_top.proofs.EventLaws.{after_after}
-use Rattle.its_top.proofs.LineLaws.{line_unread, line_unread_fault}
+use Rattle.its_top.proofs.LineLaws.{line_unread}
 
 -- LF ends the line
 pub says_lf : (whole : Bool) (now : Now) (kept rest : List ℕ) → bytes_say whole now kept (10 ∷ rest) ≡ lines_say whole now (kept ∷ lines_from whole [] rest)

@@ -1,21 +1,20 @@
 -- From what the bytes read so far did to how a session ends.
-use Rattle.std.specs.Prelude.{◌≡◌, ◌≤◌, ◌<◌, ℕ, ◌+◌, Bool, true, false, Option, Some, None, IfSome, List, [], ◌∷◌, ◌++◌, length, refl}
-use Rattle.std.proofs.Common.{sym, ◌∙◌, ap, arith, subst, append_assoc, append-nil}
-use Rattle.std.specs.Io.KnownBytes.{Appends, Consumes, Keeps, IsAtEnd}
+use Rattle.std.specs.Prelude.{◌≡◌, ℕ, Bool, true, false, Option, Some, None, IfSome, List, [], ◌∷◌, ◌++◌, refl}
+use Rattle.std.proofs.Common.{sym, ◌∙◌, ap, subst, append_assoc, append-nil}
+use Rattle.std.specs.Io.KnownBytes.{Consumes, Keeps, IsAtEnd}
 use Rattle.std.proofs.KnownBytes.{Appends-nil, Consumes-nil, Appends-trans, Consumes-trans, Consumes-kept}
 use Rattle.its_word.specs.declared.session.Place.{Place}
 use Rattle.its_word.specs.declared.session.Place.TheVariants as places
 use Rattle.its_word.specs.declared.session.Reason.TheVariants as reasons
 use Rattle.its_print.specs.Printing.{Refused, text}
-use Rattle.its_session.specs.Events.{most_lines, lines_from, items_from, end_of, events_of, whole_events_of}
-use Rattle.its_plain.specs.Transcript.{Fate, Ended, Open, Lost, TooLong, Transcript}
-use Rattle.its_plain.specs.Stepped.{Told, told, stepped}
-use Rattle.its_plain.proofs.SteppedLaws.{stepped_transcript}
+use Rattle.its_session.specs.Events.{end_of, events_of, whole_events_of}
+use Rattle.its_plain.specs.Transcript.{Fate, Ended, Open, Lost, TooLong}
+use Rattle.its_plain.specs.Stepped.{stepped}
 use Rattle.its_top.specs.declared.status.Status.{Status}
 use Rattle.its_top.specs.declared.status.Status.TheVariants as statuses
 use Rattle.its_top.specs.declared.turn.Turn.{Turn}
 use Rattle.its_top.specs.declared.turn.Turn.TheVariants as turns
-use Rattle.its_top.specs.Telling.{Now, at_start, Says, said, after, saying, Begins, items_say, lines_say, bytes_say, Lines, Fed, goes_on}
+use Rattle.its_top.specs.Telling.{Now, at_start, Says, said, after, saying, items_say, lines_say, bytes_say, Lines, Fed, goes_on}
 use Rattle.its_top.specs.Conclusion.{IsDone, Finished, Concluded, WasRun, Session, SoFar, Feeds, Finishes, status_of}
 use Rattle.its_top.proofs.ByteLaws.{fed_then}
 

@@ -1,6 +1,6 @@
 -- What bytes did, from what a byte or a line did.
-use Rattle.std.specs.Prelude.{◌≡◌, ◌≢◌, ◌≤◌, ◌<◌, ℕ, ◌+◌, Bool, true, false, Option, List, [], ◌∷◌, ◌++◌, length, take, drop, slice_index, refl}
-use Rattle.std.proofs.Common.{sym, ◌∙◌, ap, subst, arith, append_assoc, take-append-drop}
+use Rattle.std.specs.Prelude.{◌≡◌, ◌≢◌, ◌≤◌, ◌<◌, ℕ, ◌+◌, true, false, Option, List, [], ◌∷◌, ◌++◌, length, take, drop, slice_index}
+use Rattle.std.proofs.Common.{sym, ◌∙◌, ap, subst, append_assoc, take-append-drop}
 use Rattle.std.proofs.KnownBytes.{Appends-nil, Appends-trans}
 use Rattle.std.proofs.lemmas.List.{take_more}
 use Rattle.its_word.specs.declared.session.Reason.TheVariants as reasons
@@ -8,7 +8,7 @@ use Rattle.its_print.specs.Printing.{Refused, text_of_line, text}
 use Rattle.its_session.specs.Events.{most_lines}
 use Rattle.its_top.specs.declared.turn.Turn.{Turn}
 use Rattle.its_top.specs.declared.turn.Turn.TheVariants as turns
-use Rattle.its_top.specs.Telling.{Now, bytes_say, Fed, Begun, goes_on}
+use Rattle.its_top.specs.Telling.{Now, bytes_say, Fed, goes_on}
 use Rattle.its_top.specs.Answer.{WroteFor, Tells, Lined}
 use Rattle.its_top.specs.Conclusion.{Feeds}
 use Rattle.its_top.proofs.EventLaws.{text_one}

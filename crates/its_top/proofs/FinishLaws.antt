@@ -1,5 +1,5 @@
 -- What the end of input did.
-use Rattle.std.specs.Prelude.{◌≡◌, ◌≢◌, ℕ, Bool, true, false, Option, List, [], ◌∷◌, ◌++◌, refl}
+use Rattle.std.specs.Prelude.{◌≡◌, ◌≢◌, ℕ, true, false, Option, List, [], ◌∷◌, ◌++◌, refl}
 use Rattle.std.proofs.Common.{sym, ◌∙◌, ap, subst}
 use Rattle.std.proofs.KnownBytes.{Appends-nil, Appends-trans}
 use Rattle.its_word.specs.declared.session.Place.{Place}
@@ -12,7 +12,7 @@ use Rattle.its_top.specs.declared.turn.Turn.{Turn}
 use Rattle.its_top.specs.declared.turn.Turn.TheVariants as turns
 use Rattle.its_top.specs.Telling.{Now, bytes_say, Lines, goes_on}
 use Rattle.its_top.specs.Answer.{WroteFor, Tells, Lined}
-use Rattle.its_top.specs.Conclusion.{Finished, WasRun, Finishes, status_of}
+use Rattle.its_top.specs.Conclusion.{Finished, Finishes, status_of}
 use Rattle.its_top.proofs.EventLaws.{text_one}
 use Rattle.its_top.proofs.ConclusionLaws.{end_done, end_cut_load, end_cut_file, finished_fault, last_on, last_ended, last_refused, last_fault, was_run}
 
@@ -78,6 +78,9 @@ on_of turns.Ended h = cc
 on_of turns.Refused h = cc
 on_of turns.Beyond h = cc
 on_of turns.Fault h = cc
+
+pub not_fault : (turn : Turn) → goes_on turn ≡ true → turn ≢ turns.Fault
+not_fault turn h e = let k : false ≡ true = sym (ap goes_on e) ∙ h in cc
 
 pub finishes_after : (turn : Turn) (st : Status) (now next : Now) (kept : List ℕ) (old x new : Option (List ℕ)) → kept ≢ [] → goes_on turn ≡ true → Lined turn now kept next old x
     → Finishes st next [] x new → Finishes st now kept old new

@@ -9,7 +9,6 @@ pub mod SessionLaws
 pub mod FeedLaws
 pub mod FinishLaws
 pub mod LinedLaws
-pub mod RangeLaws
 pub mod PaceLaws
 pub mod LoadingLaws
 pub mod WritingLaws

@@ -1,23 +1,18 @@
 -- What one line writes.
-use Rattle.std.specs.Prelude.{if◌then◌else◌, ◌≡◌, ◌≢◌, ◌≤◌, ◌<◌, ℕ, ◌+◌, Bool, true, false, Result, Ok, Err, List, [], ◌∷◌, ◌++◌, nat_lt, refl}
-use Rattle.std.proofs.Common.{sym, ◌∙◌, ap, arith, subst}
-use Rattle.std.proofs.lemmas.Bool.{cases_Bool}
+use Rattle.std.specs.Prelude.{◌≡◌, ◌≤◌, ℕ, ◌+◌, Bool, true, false, Ok, Err, List, [], ◌∷◌, ◌++◌, nat_lt, refl}
+use Rattle.std.proofs.Common.{◌∙◌, ap, arith}
 use Rattle.std.proofs.lemmas.Bool.Decides.{nat_tests}
-use Rattle.its_word.specs.Item.{Item, Read, Unread}
+use Rattle.its_word.specs.Item.{Item, Read}
 use Rattle.its_word.specs.declared.session.Event.{Event}
 use Rattle.its_word.specs.declared.session.Event.TheVariants as events
-use Rattle.its_word.specs.declared.session.Place.{Place}
 use Rattle.its_word.specs.declared.session.Bad.{Bad}
 use Rattle.its_print.specs.Printing.{Refused, text}
 use Rattle.its_session.specs.Grammar.{line_event}
 use Rattle.its_session.specs.Events.{most_lines, item_then, items_from, place_after, reason_of}
 use Rattle.its_plain.specs.Machine.{Machine}
 use Rattle.its_plain.specs.Operator.{Block}
-use Rattle.its_plain.specs.Transcript.{Ended, Lost}
-use Rattle.its_plain.specs.Stepped.{Told, told}
-use Rattle.its_top.specs.declared.turn.Turn.{Turn}
 use Rattle.its_top.specs.declared.turn.Turn.TheVariants as turns
-use Rattle.its_top.specs.Telling.{Now, Says, after, saying, Begins, items_say, lines_say, goes_on_after, Answers, Lines}
+use Rattle.its_top.specs.Telling.{Now, items_say, lines_say, goes_on_after, Answers, Lines}
 
 -- a line that is read: END has nothing behind it
 read_on : (e : Event) (rest : Event → List Item) → goes_on_after e ≡ true → item_then (Ok e) rest ≡ Read e ∷ rest e

@@ -1,6 +1,6 @@
 -- The words of an a/ line, loaded one after another.
-use Rattle.std.specs.Prelude.{◌≡◌, ◌<◌, ◌+◌, ℕ, Result, Ok, Err, List, [], ◌∷◌, length, drop, slice_index, refl}
-use Rattle.std.proofs.Common.{sym, ◌∙◌, ap, arith, drop-cons, add-one}
+use Rattle.std.specs.Prelude.{◌≡◌, ◌<◌, ◌+◌, ℕ, Result, Ok, Err, List, ◌∷◌, length, drop, slice_index, refl}
+use Rattle.std.proofs.Common.{sym, ◌∙◌, ap, drop-cons, add-one}
 use Rattle.its_word.specs.declared.session.Reason.{Reason}
 use Rattle.its_plain.specs.Machine.{Machine}
 use Rattle.its_plain.specs.Operator.{and_then, word_loaded, words_loaded}

@@ -1,7 +1,7 @@
 -- The start of a session, and its exits.
-use Rattle.std.specs.Prelude.{◌≡◌, ◌<◌, ◌≤◌, ℕ, ◌+◌, Bool, true, false, Option, List, [], ◌∷◌, ◌++◌, length, take, refl}
-use Rattle.std.proofs.Common.{sym, ◌∙◌, ap, subst}
-use Rattle.std.specs.Io.KnownBytes.{Appends, Consumes, Keeps, IsAtEnd}
+use Rattle.std.specs.Prelude.{◌≡◌, ℕ, true, false, Option, List, [], take}
+use Rattle.std.proofs.Common.{sym, ap, subst}
+use Rattle.std.specs.Io.KnownBytes.{Consumes, IsAtEnd}
 use Rattle.its_word.specs.declared.session.Place.TheVariants as places
 use Rattle.its_plain.specs.Machine.{Machine, no_machine}
 use Rattle.its_top.specs.declared.status.Status.{Status}

@@ -1,16 +1,16 @@
 -- From how a session ended to the promises of the top call.
-use Rattle.std.specs.Prelude.{◌≡◌, ◌≢◌, ◌⊎◌, ℕ, Bool, true, false, Option, Some, None, IfSome, List, [], ◌∷◌, ◌++◌, refl}
+use Rattle.std.specs.Prelude.{◌≡◌, ◌≢◌, ◌⊎◌, ℕ, true, Option, Some, None, IfSome, List, [], refl}
 use Rattle.std.proofs.Common.{sym, ◌∙◌, ap, subst, inl, inr}
-use Rattle.std.specs.Io.KnownBytes.{Appends, Consumes}
-use Rattle.its_print.specs.Printing.{Line, text}
-use Rattle.its_session.specs.Events.{events_of, whole_events_of}
-use Rattle.its_plain.specs.Transcript.{Fate, Ended, Open, Lost, TooLong, Transcript}
-use Rattle.its_plain.specs.Stepped.{Told, stepped}
+use Rattle.std.specs.Io.KnownBytes.{Appends}
+use Rattle.its_print.specs.Printing.{text}
+use Rattle.its_session.specs.Events.{events_of}
+use Rattle.its_plain.specs.Transcript.{Fate, Lost, TooLong}
+use Rattle.its_plain.specs.Stepped.{stepped}
 use Rattle.its_plain.proofs.SteppedLaws.{stepped_transcript}
 use Rattle.its_top.specs.declared.status.Status.{Status}
 use Rattle.its_top.specs.declared.status.Status.TheVariants as statuses
-use Rattle.its_top.specs.Telling.{Says, said, at_start, saying, bytes_say}
-use Rattle.its_top.specs.Conclusion.{IsDone, Finished, WasRun, Session}
+use Rattle.its_top.specs.Telling.{Says, at_start, bytes_say}
+use Rattle.its_top.specs.Conclusion.{IsDone, Session}
 use Rattle.its_top.specs.Top.{Transcribed, Completes, Refuses, RunsOn, Breaks, Begins}
 use Rattle.its_top.proofs.ConclusionLaws.{says_stepped, says_whole}
 

@@ -1,6 +1,6 @@
 -- What was written of a line.
-use Rattle.std.specs.Prelude.{◌≡◌, ◌≢◌, ℕ, Option, List, [], ◌++◌, refl}
-use Rattle.std.proofs.Common.{sym, ◌∙◌, ap, subst, append-nil}
+use Rattle.std.specs.Prelude.{◌≡◌, ℕ, Option, List, [], refl}
+use Rattle.std.proofs.Common.{sym, subst, append-nil}
 use Rattle.std.specs.Io.KnownBytes.{Appends}
 use Rattle.its_io.specs.Bytes.{Wrote}
 use Rattle.its_top.specs.declared.turn.Turn.{Turn}

@@ -1,17 +1,12 @@
 -- How a session ends, and what it has written then.
-use Rattle.std.specs.Prelude.{◌≡◌, ◌≤◌, ◌<◌, ℕ, ◌+◌, ◌*◌, Bool, true, false, Option, Some, None, IfSome, List, [], ◌∷◌, ◌++◌, length}
+use Rattle.std.specs.Prelude.{◌≡◌, ℕ, true, false, Option, IfSome, List, []}
 use Rattle.std.specs.Io.KnownBytes.{Appends, Consumes}
-use Rattle.std.specs.declared.option.Option as options
-use Rattle.its_word.specs.Item.{Item}
-use Rattle.its_print.specs.Printing.{Line, text}
-use Rattle.its_session.specs.Events.{events_of, whole_events_of}
-use Rattle.its_plain.specs.Transcript.{Fate, Ended, Open, Lost, TooLong, Transcript}
-use Rattle.its_plain.specs.Stepped.{Told, stepped}
+use Rattle.its_plain.specs.Transcript.{Fate, Ended, Open, Lost, TooLong}
 use Rattle.its_top.specs.declared.status.Status.{Status}
 use Rattle.its_top.specs.declared.status.Status.TheVariants as statuses
 use Rattle.its_top.specs.declared.turn.Turn.{Turn}
 use Rattle.its_top.specs.declared.turn.Turn.TheVariants as turns
-use Rattle.its_top.specs.Telling.{Now, at_start, Says, said, saying, Begins, bytes_say, Fed, Begun}
+use Rattle.its_top.specs.Telling.{Now, at_start, Says, saying, Begins, bytes_say, Fed}
 
 -- no line was refused, and none past the most began
 abbrev pub IsDone : Fate → Type 0

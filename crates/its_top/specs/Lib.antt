@@ -1,5 +1,4 @@
 pub mod Telling
 pub mod Conclusion
 pub mod Answer
-pub mod Ranges
 pub mod Top

@@ -6,10 +6,10 @@ use Rattle.its_word.specs.declared.session.Event.TheVariants as events
 use Rattle.its_word.specs.declared.session.Place.{Place}
 use Rattle.its_word.specs.declared.session.Place.TheVariants as places
 use Rattle.its_print.specs.Printing.{text}
-use Rattle.its_session.specs.Events.{most_lines, lines_from, items_from, place_after}
+use Rattle.its_session.specs.Events.{most_lines, lines_from, items_from}
 use Rattle.its_plain.specs.Machine.{Machine, no_machine}
 use Rattle.its_plain.specs.Operator.{Block, no_block}
-use Rattle.its_plain.specs.Transcript.{Fate, Ended, Open, Lost, TooLong}
+use Rattle.its_plain.specs.Transcript.{Fate, Ended, Lost, TooLong}
 use Rattle.its_plain.specs.Stepped.{Told, told}
 use Rattle.its_top.specs.declared.turn.Turn.{Turn}
 use Rattle.its_top.specs.declared.turn.Turn.TheVariants as turns

@@ -1,7 +1,7 @@
 ghost use Rattle.std.specs.Prelude.{◌≡◌, ◌≢◌, ◌≤◌, ◌<◌, ◌+◌, ◌-◌, ◌^◌, Ok, Err, IfOk, IfErr, OnOk, OnErr, length};
-ghost use Rattle.its_io.specs.Bytes.{Rose};
+ghost use Rattle.its_io.specs.Bytes.{next_fault};
 ghost use Rattle.its_word.specs.Limits.{slots};
-ghost use Rattle.its_top.specs.Ranges.{InRange};
+ghost use Rattle.its_session.specs.Fits.{EventFits};
 ghost use Rattle.its_plain.specs.Operator.{words_loaded, examined};
 ghost use Rattle.its_plain.specs.Stepped.{paces_of, ticked};
 ghost use Rattle.its_monitor.specs.World.{machine_of, Sound, reason_of};
@@ -33,7 +33,8 @@ fn load<K: Sink>(
     ensures slot { p.old.slot < slots → p.new.slot < slots }
     ensures kept { (p.new.number ≡ p.old.number) × (p.new.place ≡ p.old.place) }
     ensures later { K.faults out.old ≤ K.faults out.new }
-    ensures fault { result ≡ Turn.Fault → Rose (K.faults out.old) (K.faults out.new) }
+    ensures unfailed { result ≢ Turn.Fault → K.faults out.new ≡ K.faults out.old }
+    ensures fault { result ≡ Turn.Fault → K.faults out.new ≡ next_fault (K.faults out.old) }
 {
     match m.load_job(u, j, console) {
         Ok(s) => {
@@ -54,7 +55,8 @@ fn state<K: Sink>(m: &mut Monitor, p: Progress, s: u8, out: &mut K) -> Turn
     ensures answered { Answered result p.number (machine_of m.old) (block_of p.slot) (Event.State s) (machine_of m.new) (block_of p.slot) (K.written out.old) (K.written out.new) }
     ensures sound { Sound m.new }
     ensures later { K.faults out.old ≤ K.faults out.new }
-    ensures fault { result ≡ Turn.Fault → Rose (K.faults out.old) (K.faults out.new) }
+    ensures unfailed { result ≢ Turn.Fault → K.faults out.new ≡ K.faults out.old }
+    ensures fault { result ≡ Turn.Fault → K.faults out.new ≡ next_fault (K.faults out.old) }
 {
     match m.state(s) {
         Ok(show) => {
@@ -101,7 +103,8 @@ fn examine<K: Sink>(m: &mut Monitor, p: Progress, s: u8, a: u32, n: u32, out: &m
     ensures answered { Answered result p.number (machine_of m.old) (block_of p.slot) (Event.Exam s a n) (machine_of m.new) (block_of p.slot) (K.written out.old) (K.written out.new) }
     ensures sound { Sound m.new }
     ensures later { K.faults out.old ≤ K.faults out.new }
-    ensures fault { result ≡ Turn.Fault → Rose (K.faults out.old) (K.faults out.new) }
+    ensures unfailed { result ≢ Turn.Fault → K.faults out.new ≡ K.faults out.old }
+    ensures fault { result ≡ Turn.Fault → K.faults out.new ≡ next_fault (K.faults out.old) }
 {
     match words_of(m, s, a, n) {
         Ok(words) => {
@@ -143,7 +146,8 @@ fn ticks<K: Sink>(m: &mut Monitor, p: Progress, s: u8, n: u32, out: &mut K) -> T
     ensures answered { Answered result p.number (machine_of m.old) (block_of p.slot) (Event.Tick s n) (machine_of m.new) (block_of p.slot) (K.written out.old) (K.written out.new) }
     ensures sound { Sound m.new }
     ensures later { K.faults out.old ≤ K.faults out.new }
-    ensures fault { result ≡ Turn.Fault → Rose (K.faults out.old) (K.faults out.new) }
+    ensures unfailed { result ≢ Turn.Fault → K.faults out.new ≡ K.faults out.old }
+    ensures fault { result ≡ Turn.Fault → K.faults out.new ≡ next_fault (K.faults out.old) }
 {
     let paces = paces_of(m, s, n);
     let mut line = ArrayVec::new();
@@ -173,7 +177,8 @@ fn paces_of(m: &mut Monitor, s: u8, n: u32) -> ArrayVec<Pace, 512>
 fn unbuilt<K: Sink>(out: &mut K, number: u32) -> Turn
     ensures told { Tells result Turn.Refused (text_of_line (Refused number Reason.Unbuilt)) (K.written out.old) (K.written out.new) }
     ensures later { K.faults out.old ≤ K.faults out.new }
-    ensures fault { result ≡ Turn.Fault → Rose (K.faults out.old) (K.faults out.new) }
+    ensures unfailed { result ≢ Turn.Fault → K.faults out.new ≡ K.faults out.old }
+    ensures fault { result ≡ Turn.Fault → K.faults out.new ≡ next_fault (K.faults out.old) }
 {
     refuse(out, number, Reason::Unbuilt)
 }
@@ -183,13 +188,14 @@ fn unbuilt<K: Sink>(out: &mut K, number: u32) -> Turn
 pub fn answer<K: Sink>(m: &mut Monitor, p: &mut Progress, event: &Event, out: &mut K) -> Turn
     requires sound { Sound m.old }
     requires slot { p.old.slot < slots }
-    requires range { InRange event.now }
+    requires fits { EventFits event.now }
     ensures answered { Answered result p.old.number (machine_of m.old) (block_of p.old.slot) event.now (machine_of m.new) (block_of p.new.slot) (K.written out.old) (K.written out.new) }
     ensures sound { Sound m.new }
     ensures slot { p.new.slot < slots }
     ensures kept { (p.new.number ≡ p.old.number) × (p.new.place ≡ p.old.place) }
     ensures later { K.faults out.old ≤ K.faults out.new }
-    ensures fault { result ≡ Turn.Fault → Rose (K.faults out.old) (K.faults out.new) }
+    ensures unfailed { result ≢ Turn.Fault → K.faults out.new ≡ K.faults out.old }
+    ensures fault { result ≡ Turn.Fault → K.faults out.new ≡ next_fault (K.faults out.old) }
 {
     let (number, block) = (p.number, p.slot);
     match event {

@@ -1,5 +1,5 @@
 ghost use Rattle.std.specs.Prelude.{◌≡◌, ◌≢◌, ◌≤◌, ◌<◌, ◌+◌, ◌-◌, ◌*◌, ◌^◌, [], ◌∷◌, length};
-ghost use Rattle.its_io.specs.Bytes.{Rose};
+ghost use Rattle.its_io.specs.Bytes.{next_fault};
 ghost use Rattle.its_word.specs.Limits.{slots};
 ghost use Rattle.its_session.specs.Events.{most_lines};
 ghost use Rattle.its_monitor.specs.World.{Sound};
@@ -42,7 +42,8 @@ pub fn feed_byte<K: Sink>(
     ensures sound { Sound m.new }
     ensures slot { p.new.slot < slots }
     ensures later { K.faults out.old ≤ K.faults out.new }
-    ensures fault { result ≡ Turn.Fault → Rose (K.faults out.old) (K.faults out.new) }
+    ensures unfailed { result ≢ Turn.Fault → K.faults out.new ≡ K.faults out.old }
+    ensures fault { result ≡ Turn.Fault → K.faults out.new ≡ next_fault (K.faults out.old) }
 {
     if p.number > MOST_LINES {
         return Turn::Beyond;
@@ -81,7 +82,8 @@ pub fn feed<K: Sink>(
     ensures sound { Sound m.new }
     ensures slot { p.new.slot < slots }
     ensures later { K.faults out.old ≤ K.faults out.new }
-    ensures fault { result ≡ Turn.Fault → Rose (K.faults out.old) (K.faults out.new) }
+    ensures unfailed { result ≢ Turn.Fault → K.faults out.new ≡ K.faults out.old }
+    ensures fault { result ≡ Turn.Fault → K.faults out.new ≡ next_fault (K.faults out.old) }
 {
     for b in bytes {
         let turn = feed_byte(m, p, kept, *b, out);
@@ -110,7 +112,8 @@ pub fn status_of(turn: Turn) -> Status
 fn end<K: Sink>(m: &Monitor, p: Progress, out: &mut K) -> Status
     ensures finishes { Finishes result (now_of m.now p) [] (K.written out.old) (K.written out.new) }
     ensures later { K.faults out.old ≤ K.faults out.new }
-    ensures fault { result ≡ Status.WriteFault → Rose (K.faults out.old) (K.faults out.new) }
+    ensures unfailed { result ≢ Status.WriteFault → K.faults out.new ≡ K.faults out.old }
+    ensures fault { result ≡ Status.WriteFault → K.faults out.new ≡ next_fault (K.faults out.old) }
     ensures source { result ≢ Status.ReadFault }
 {
     match p.place {
@@ -127,8 +130,10 @@ pub fn finish<K: Sink>(m: &mut Monitor, p: &mut Progress, kept: &[u8], out: &mut
     requires slot { p.old.slot < slots }
     requires begun { Begun kept.now p.old.number }
     ensures finishes { Finishes result (now_of m.old p.old) kept.now (K.written out.old) (K.written out.new) }
+    ensures sound { Sound m.new }
     ensures later { K.faults out.old ≤ K.faults out.new }
-    ensures fault { result ≡ Status.WriteFault → Rose (K.faults out.old) (K.faults out.new) }
+    ensures unfailed { result ≢ Status.WriteFault → K.faults out.new ≡ K.faults out.old }
+    ensures fault { result ≡ Status.WriteFault → K.faults out.new ≡ next_fault (K.faults out.old) }
     ensures source { result ≢ Status.ReadFault }
 {
     if kept.is_empty() {

@@ -1,5 +1,5 @@
 ghost use Rattle.std.specs.Prelude.{◌≡◌, ◌≢◌, ◌≤◌, ◌<◌, ◌+◌, ◌-◌, ◌^◌};
-ghost use Rattle.its_io.specs.Bytes.{Rose};
+ghost use Rattle.its_io.specs.Bytes.{next_fault};
 ghost use Rattle.its_word.specs.Limits.{slots};
 ghost use Rattle.its_session.specs.Events.{most_lines, place_after, reason_of};
 ghost use Rattle.its_monitor.specs.World.{Sound};
@@ -40,7 +40,7 @@ fn unread(bad: Bad) -> Reason
 }
 
 /// Takes a line of a session, without its LF, which is one of those that a session may have.
-#[tactic(auto, using(crate::proofs::LinedLaws::lined_answer, crate::proofs::LinedLaws::lined_unread, crate::proofs::RangeLaws::line_fits))]
+#[tactic(auto, using(crate::proofs::LinedLaws::lined_answer, crate::proofs::LinedLaws::lined_unread))]
 pub fn take_line<K: Sink>(m: &mut Monitor, p: &mut Progress, line: &[u8], out: &mut K) -> Turn
     requires sound { Sound m.old }
     requires slot { p.old.slot < slots }
@@ -51,7 +51,8 @@ pub fn take_line<K: Sink>(m: &mut Monitor, p: &mut Progress, line: &[u8], out: &
     ensures sound { Sound m.new }
     ensures slot { p.new.slot < slots }
     ensures later { K.faults out.old ≤ K.faults out.new }
-    ensures fault { result ≡ Turn.Fault → Rose (K.faults out.old) (K.faults out.new) }
+    ensures unfailed { result ≢ Turn.Fault → K.faults out.new ≡ K.faults out.old }
+    ensures fault { result ≡ Turn.Fault → K.faults out.new ≡ next_fault (K.faults out.old) }
 {
     match read_line(line, p.place) {
         Ok(event) => {

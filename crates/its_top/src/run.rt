@@ -1,5 +1,5 @@
 ghost use Rattle.std.specs.Prelude.{◌≡◌, ◌≢◌, ◌≤◌, ◌<◌, ◌+◌, ◌-◌, ◌*◌, ◌^◌, [], length};
-ghost use Rattle.its_io.specs.Bytes.{Rose};
+ghost use Rattle.its_io.specs.Bytes.{Rose, next_fault};
 ghost use Rattle.its_word.specs.Limits.{slots};
 ghost use Rattle.its_plain.specs.Machine.{no_machine};
 ghost use Rattle.its_monitor.specs.World.{machine_of, Sound};
@@ -27,6 +27,11 @@ pub fn session<S: Source, K: Sink>(m: &mut Monitor, src: &mut S, out: &mut K) ->
     ensures write_fault { result ≡ Status.WriteFault → Rose (K.faults out.old) (K.faults out.new) }
     ensures read_later { S.faults src.old ≤ S.faults src.new }
     ensures write_later { K.faults out.old ≤ K.faults out.new }
+    ensures read_once { result ≡ Status.ReadFault → S.faults src.new ≡ next_fault (S.faults src.old) }
+    ensures write_once { result ≡ Status.WriteFault → K.faults out.new ≡ next_fault (K.faults out.old) }
+    ensures read_unfailed { result ≢ Status.ReadFault → S.faults src.new ≡ S.faults src.old }
+    ensures write_unfailed { result ≢ Status.WriteFault → K.faults out.new ≡ K.faults out.old }
+    ensures sound { Sound m.new }
 {
     let mut buf = [0u8; 512];
     let mut kept = ArrayVec::new();
@@ -57,6 +62,11 @@ fn take_all<S: Source, K: Sink>(
     ensures write_fault { result ≡ Status.WriteFault → Rose (K.faults out.old) (K.faults out.new) }
     ensures read_later { S.faults src.old ≤ S.faults src.new }
     ensures write_later { K.faults out.old ≤ K.faults out.new }
+    ensures read_once { result ≡ Status.ReadFault → S.faults src.new ≡ next_fault (S.faults src.old) }
+    ensures write_once { result ≡ Status.WriteFault → K.faults out.new ≡ next_fault (K.faults out.old) }
+    ensures read_unfailed { result ≢ Status.ReadFault → S.faults src.new ≡ S.faults src.old }
+    ensures write_unfailed { result ≢ Status.WriteFault → K.faults out.new ≡ K.faults out.old }
+    ensures sound { Sound m.new }
 {
     loop {
         let Ok(count) = src.read(buf) else {

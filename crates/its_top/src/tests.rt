@@ -198,6 +198,30 @@ fn indirect_chains(rt: HostRuntime) -> Result<(), Fail> {
     Ok(())
 }
 
+/// A session whose second read fails shows when its lines were answered: what was written is that of the
+/// first read alone.
+#[test]
+fn moments(rt: HostRuntime) -> Result<(), Fail> {
+    let alloc = rt.alloc();
+    let words = run_word(alloc)?;
+    let long = [b';'; 512];
+    let first = FIRST.as_bytes();
+    for (session, piece, transcript, status) in [
+        // byte 256 of a line is LONG at once
+        (&long[..], 256, "? 1 LONG\n", Status::Refused),
+        (&long[..], 255, "", Status::ReadFault),
+        // a line is answered at its LF; that of the TICK line is byte 58
+        (first, 58, "J 0\nT 0 2*\n", Status::ReadFault),
+        (first, 57, "J 0\n", Status::ReadFault),
+    ] {
+        let mut src = MemSource::open(alloc, session, piece, &[1])?;
+        let mut out = MemSink::open(alloc, 1024, &[])?;
+        assert_eq!(rt; its(alloc, &words, &mut src, &mut out), status);
+        assert_eq!(rt; out.written(), transcript.as_bytes());
+    }
+    Ok(())
+}
+
 #[test]
 fn objects(rt: HostRuntime) -> Result<(), Fail> {
     let alloc = rt.alloc();

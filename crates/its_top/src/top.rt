@@ -1,6 +1,5 @@
 ghost use Rattle.std.specs.Prelude.{◌≡◌, ◌≢◌, ◌≤◌, ◌<◌, ◌+◌, ◌-◌, ◌^◌, ◌⊎◌, true, false, map, string_bytes, IfSome};
 ghost use Rattle.std.specs.Io.KnownBytes.{Appends};
-ghost use Rattle.its_io.specs.Bytes.{Rose};
 ghost use Rattle.its_print.specs.Printing.{text};
 ghost use Rattle.its_session.specs.Events.{events_of};
 ghost use Rattle.its_plain.specs.Stepped.{stepped};
@@ -36,6 +35,10 @@ pub fn its<S: Source, K: Sink>(alloc: Global, words: &[String], src: &mut S, out
     ensures no_memory { result ≡ Status.NoMemory → (S.left src.new ≡ S.left src.old) × (K.written out.new ≡ K.written out.old) }
     ensures read_fault { result ≡ Status.ReadFault → S.faults src.old < S.faults src.new }
     ensures write_fault { result ≡ Status.WriteFault → K.faults out.old < K.faults out.new }
+    ensures read_once { result ≡ Status.ReadFault → S.faults src.new ≡ S.faults src.old + 1 }
+    ensures write_once { result ≡ Status.WriteFault → K.faults out.new ≡ K.faults out.old + 1 }
+    ensures read_unfailed { result ≢ Status.ReadFault → S.faults src.new ≡ S.faults src.old }
+    ensures write_unfailed { result ≢ Status.WriteFault → K.faults out.new ≡ K.faults out.old }
     ensures complete { is_run (map string_bytes words.now) ≡ true → S.faults src.new ≡ S.faults src.old → K.faults out.new ≡ K.faults out.old → IfSome (S.left src.old) (λ bytes. IsDone (stepped (events_of bytes)).fate → (result ≡ Status.Done) ⊎ (result ≡ Status.NoMemory)) }
 {
     if is_run(words) {
@@ -55,6 +58,10 @@ fn run<S: Source, K: Sink>(alloc: Global, src: &mut S, out: &mut K) -> Status
     ensures not_usage { result ≢ Status.Usage }
     ensures read_fault { result ≡ Status.ReadFault → S.faults src.old < S.faults src.new }
     ensures write_fault { result ≡ Status.WriteFault → K.faults out.old < K.faults out.new }
+    ensures read_once { result ≡ Status.ReadFault → S.faults src.new ≡ S.faults src.old + 1 }
+    ensures write_once { result ≡ Status.WriteFault → K.faults out.new ≡ K.faults out.old + 1 }
+    ensures read_unfailed { result ≢ Status.ReadFault → S.faults src.new ≡ S.faults src.old }
+    ensures write_unfailed { result ≢ Status.WriteFault → K.faults out.new ≡ K.faults out.old }
 {
     match Monitor::open(alloc) {
         Ok(mut m) => session(&mut m, src, out),
@@ -69,6 +76,8 @@ fn write_usage<K: Sink>(out: &mut K) -> Status
     ensures usage { result ≡ Status.Usage → Appends (K.written out.old) (K.written out.new) usage }
     ensures begun { result ≡ Status.WriteFault → Begins usage (K.written out.old) (K.written out.new) }
     ensures fault { result ≡ Status.WriteFault → K.faults out.old < K.faults out.new }
+    ensures once { result ≡ Status.WriteFault → K.faults out.new ≡ K.faults out.old + 1 }
+    ensures unfailed { result ≢ Status.WriteFault → K.faults out.new ≡ K.faults out.old }
 {
     match write_all(out, USAGE) {
         Ok(()) => Status::Usage,

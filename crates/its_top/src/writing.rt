@@ -1,5 +1,5 @@
 ghost use Rattle.std.specs.Prelude.{◌≡◌, ◌≢◌, ◌≤◌, ◌+◌, ◌-◌, ◌^◌};
-ghost use Rattle.its_io.specs.Bytes.{Rose};
+ghost use Rattle.its_io.specs.Bytes.{next_fault};
 ghost use Rattle.its_print.specs.Printing.{Refused, text_of_line};
 ghost use Rattle.its_monitor.specs.World.{reason_of};
 ghost use Rattle.its_top.specs.Answer.{Tells, Settled};
@@ -15,7 +15,8 @@ use its_word::{Reason, Refusal};
 pub fn tell<K: Sink>(out: &mut K, line: &ArrayVec<u8, 2048>, good: Turn) -> Turn
     ensures told { Tells result good line.now.items (K.written out.old) (K.written out.new) }
     ensures later { K.faults out.old ≤ K.faults out.new }
-    ensures fault { good ≢ Turn.Fault → result ≡ Turn.Fault → Rose (K.faults out.old) (K.faults out.new) }
+    ensures unfailed { result ≢ Turn.Fault → K.faults out.new ≡ K.faults out.old }
+    ensures fault { good ≢ Turn.Fault → result ≡ Turn.Fault → K.faults out.new ≡ next_fault (K.faults out.old) }
 {
     match write_all(out, line) {
         Ok(()) => good,
@@ -27,7 +28,8 @@ pub fn tell<K: Sink>(out: &mut K, line: &ArrayVec<u8, 2048>, good: Turn) -> Turn
 pub fn refuse<K: Sink>(out: &mut K, number: u32, reason: Reason) -> Turn
     ensures told { Tells result Turn.Refused (text_of_line (Refused number reason)) (K.written out.old) (K.written out.new) }
     ensures later { K.faults out.old ≤ K.faults out.new }
-    ensures fault { result ≡ Turn.Fault → Rose (K.faults out.old) (K.faults out.new) }
+    ensures unfailed { result ≢ Turn.Fault → K.faults out.new ≡ K.faults out.old }
+    ensures fault { result ≡ Turn.Fault → K.faults out.new ≡ next_fault (K.faults out.old) }
 {
     let mut line = ArrayVec::new();
     print_refusal(number, reason, &mut line);
@@ -54,7 +56,8 @@ fn reason_of(e: Refusal) -> Reason
 pub fn refuse_by<K: Sink>(out: &mut K, number: u32, e: Refusal) -> Turn
     ensures told { Tells result Turn.Refused (text_of_line (Refused number (reason_of e))) (K.written out.old) (K.written out.new) }
     ensures later { K.faults out.old ≤ K.faults out.new }
-    ensures fault { result ≡ Turn.Fault → Rose (K.faults out.old) (K.faults out.new) }
+    ensures unfailed { result ≢ Turn.Fault → K.faults out.new ≡ K.faults out.old }
+    ensures fault { result ≡ Turn.Fault → K.faults out.new ≡ next_fault (K.faults out.old) }
 {
     refuse(out, number, reason_of(e))
 }
@@ -63,7 +66,8 @@ pub fn refuse_by<K: Sink>(out: &mut K, number: u32, e: Refusal) -> Turn
 pub fn settle<K: Sink>(out: &mut K, number: u32, answer: Result<(), Refusal>) -> Turn
     ensures settled { Settled answer result number (K.written out.old) (K.written out.new) }
     ensures later { K.faults out.old ≤ K.faults out.new }
-    ensures fault { result ≡ Turn.Fault → Rose (K.faults out.old) (K.faults out.new) }
+    ensures unfailed { result ≢ Turn.Fault → K.faults out.new ≡ K.faults out.old }
+    ensures fault { result ≡ Turn.Fault → K.faults out.new ≡ next_fault (K.faults out.old) }
 {
     match answer {
         Ok(()) => Turn::On,

@@ -16,6 +16,13 @@ unfolding calculation
 calculation_direct zero c w last h = rw h refl
 calculation_direct (suc n) c w last h = rw h refl
 
+-- the whole calculation, where I of its first word is 0
+pub direct_answer : (c : Core) (w used : ℕ) → is_indirect w ≡ false → (address c w used).answer ≡ Ok (record { e = indexed c w; flags_word = last_used c w None })
+direct_answer c w used h = ap (λ r. r.answer) (calculation_direct (budget - used) c w None h)
+
+pub direct_used : (c : Core) (w used : ℕ) → is_indirect w ≡ false → used ≤ budget → (address c w used).used ≡ used
+direct_used c w used h le = ap (λ r. r.used) (calculation_direct (budget - used) c w None h) ∙ omega arith
+
 -- I is 1 and nothing is left of the budget
 pub calculation_spent : (n : ℕ) (c : Core) (w : ℕ) (last : Option ℕ) → is_indirect w ≡ true → n ≡ 0 → calculation n c w last ≡ reading (index_places w) (failed 0 Ilo)
 unfolding calculation

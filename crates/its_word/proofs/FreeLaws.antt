@@ -1,5 +1,5 @@
 -- Least free slots of functions that are alike, and what they say of the slot.
-use Rattle.std.specs.Prelude.{◌≡◌, ◌+◌, ℕ, zero, suc, true, false, Option, Some, None, is_some, cond, refl}
+use Rattle.std.specs.Prelude.{◌≡◌, ◌+◌, ℕ, zero, suc, Option, Some, None, is_some, cond, refl}
 use Rattle.std.proofs.Common.{sym, ◌∙◌, ap}
 use Rattle.its_word.specs.Limits.{slots}
 use Rattle.its_word.specs.Tree.{free_from, least_free}

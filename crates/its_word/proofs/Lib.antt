@@ -7,3 +7,4 @@ pub mod TextLaws
 pub mod TreeLaws
 pub mod WordLaws
 pub mod FreeLaws
+pub mod StoreLaws

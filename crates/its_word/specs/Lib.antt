@@ -13,3 +13,6 @@ pub mod Logic
 pub mod Shift
 pub mod Byte
 pub mod Opcode
+pub mod Stores
+pub mod Console
+pub mod Directory

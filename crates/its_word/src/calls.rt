@@ -1,9 +1,58 @@
 ghost use Rattle.std.specs.Prelude.{◌≡◌, None};
 ghost use Rattle.its_word.specs.declared.calls.Owed.TheVariants.{GiveBack};
 ghost use Rattle.its_word.specs.declared.calls.Pace.TheVariants.{Off};
+ghost use Rattle.its_word.specs.declared.calls.Arg.TheVariants.{Output};
 
+use super::location::Location;
 use super::word::Word;
 use arrayvec::ArrayVec;
+
+/// The first word of a call's block, the call's name, and its argument words, of which at most 8 are
+/// read.
+pub type Block = ArrayVec<Word, 10>;
+
+/// What an argument word is, by its bits 6 to 8; `Other` is no argument.
+#[derive(Clone, Copy, Debug, PartialEq, Eq)]
+pub enum Kind {
+    Input,
+    Immediate,
+    Output,
+    ErrorAt,
+    Control,
+    ImmediateControl,
+    Other,
+}
+
+/// Where a value comes from: a word of core, or the argument itself, `0,,E`.
+#[derive(Clone, Copy, Debug, PartialEq, Eq)]
+pub enum Source {
+    Held(Location),
+    Immediate(Word),
+}
+
+/// An argument whose address is found.
+#[derive(Clone, Copy, Debug, PartialEq, Eq)]
+pub enum Arg {
+    Input(Source),
+    Output(Location),
+    ErrorAt(Location),
+    Control(Source),
+}
+
+impl Default for Arg {
+    ghost is_default = { λ a. a ≡ Output 0 };
+
+    fn default() -> Arg {
+        Arg::Output(Location::ZERO)
+    }
+}
+
+/// An argument that is found, and how much of the budget of indirect words is used after it.
+#[derive(Clone, Copy, Debug, PartialEq, Eq)]
+pub struct Placed {
+    pub argument: Arg,
+    pub used: u32,
+}
 
 /// An input argument of a call: its value, and the address of its word where it is no immediate.
 #[derive(Clone, Copy, Debug, PartialEq, Eq)]

@@ -9,7 +9,9 @@ mod flags;
 mod instruction;
 mod jobs;
 mod limits;
+mod location;
 mod memory;
+mod names;
 mod opcode;
 mod pending;
 mod plan;
@@ -22,7 +24,7 @@ mod text;
 mod word;
 
 pub use access::{Address, Fault, NoAccess};
-pub use calls::{Ask, Exit, Operand, Owed, Pace, Site};
+pub use calls::{Arg, Ask, Block, Exit, Kind, Operand, Owed, Pace, Placed, Site, Source};
 pub use digits::{digits_read_back, octal, octal6};
 pub use flags::{
     BYTE_HALF, CARRY_0, CARRY_1, FLOATING_OVERFLOW, NAMED_FLAGS, NO_DIVIDE, OVERFLOW, USER,
@@ -31,8 +33,13 @@ pub use instruction::{
     ArithmeticOp, BranchOp, ByteOp, CompareOp, Instruction, MaskOp, Mode, MoveOp, ShiftOp, StackOp,
 };
 pub use jobs::{Channel, Job};
-pub use limits::{MAPPED_PAGES, SLOTS};
+pub use limits::{ADDRESSES, BUDGET, MAPPED_PAGES, SLOTS};
+pub use location::Location;
 pub use memory::NoMemory;
+pub use names::{
+    ACCESS, CALLS, CLOSE, CORBLK, CallRow, DELETE, DISMIS, FILLEN, FINISH, HANG, IOT, LISTEN,
+    LOGOUT, OPEN, RENAME, SIOT, SLEEP, TTYLND, UCLOSE, USRMEM, USRVAR,
+};
 pub use opcode::decode;
 pub use pending::{BRK, FATAL, ILO, INF, IOC, MPV, PDL, TBL, WRO};
 pub use plan::{Context, Plan, Reached, Store, Turn};

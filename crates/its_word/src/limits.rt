@@ -1,5 +1,11 @@
 /// How many jobs there can be; slots are the numbers below it.
 pub const SLOTS: usize = 64;
 
+/// How many addresses there are; addresses are the numbers below it.
+pub const ADDRESSES: u32 = 0o1000000;
+
+/// How many indirect words and XCT targets a unit may have.
+pub const BUDGET: u32 = 64;
+
 /// How many pages of 1024 words all jobs together can have.
 pub const MAPPED_PAGES: u32 = 1024;

@@ -23,6 +23,7 @@ const MASKS: [MaskOp; 4] = [MaskOp::Tr, MaskOp::Tl, MaskOp::Td, MaskOp::Ts];
 
 /// The instruction of an opcode below 512.
 #[tactic(auto, unfolding(crate::specs::Opcode::instruction_of))]
+#[inline(always)]
 pub fn decode(opcode: u32) -> Instruction
     requires { opcode < 512 }
     ensures instruction { result ≡ instruction_of opcode }
@@ -142,6 +143,7 @@ fn stack(opcode: u32) -> Instruction
     }
 }
 
+#[inline(always)]
 #[tactic(auto, unfolding(crate::specs::Opcode::full_word_opcode))]
 fn full_word(opcode: u32) -> Instruction
     ensures instruction { result ≡ full_word_opcode opcode }

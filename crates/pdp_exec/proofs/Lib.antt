@@ -1,5 +1,4 @@
 pub mod ByteLaws
 pub mod ChainLaws
-pub mod RefusalLaws
-pub mod StoreLaws
+pub mod ReadLaws
 pub mod TestLaws

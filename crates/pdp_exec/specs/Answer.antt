@@ -3,8 +3,11 @@ use Rattle.std.specs.Prelude.{◌≡◌, ℕ}
 use Rattle.its_word.specs.Core.{Core}
 use Rattle.its_word.specs.declared.access.Fault.{Fault}
 use Rattle.its_word.specs.declared.jobs.Job.{Job}
+use Rattle.its_core.specs.Cores.{Cores}
 use Rattle.its_plain.specs.Job.{bit_of}
 use Rattle.its_plain.specs.Unit.{Outcome, Changed, Faulted, Called}
+use Rattle.pdp_exec.specs.declared.units.Ended.{Ended}
+use Rattle.pdp_exec.specs.declared.units.Ended.TheVariants as ends
 use Rattle.pdp_exec.specs.declared.units.Outcome.{Outcome as Answer}
 use Rattle.pdp_exec.specs.declared.units.Outcome.TheVariants.{Done, Fault as FaultBit, Call}
 
@@ -19,3 +22,26 @@ abbrev pub Answers : Answer → Outcome → Core → Job → Type 0
 Answers Done o c j = o ≡ Changed c j
 Answers (FaultBit b) o c j = FaultsWith o b
 Answers (Call s) o c j = o ≡ Called s
+
+-- a unit that is not done leaves all as it was
+abbrev pub Unchanged : Answer → Cores → Cores → Job → Job → Type 0
+Unchanged Done old new j k = Unit {0}
+Unchanged (FaultBit b) old new j k = (new ≡ old) × (k ≡ j)
+Unchanged (Call s) old new j k = (new ≡ old) × (k ≡ j)
+
+-- a unit that is a call
+abbrev pub IsCalled : Outcome → Type 0
+IsCalled (Changed c j) = ⊥
+IsCalled (Faulted f) = ⊥
+IsCalled (Called s) = Unit {0}
+
+-- the same of an answer that leaves the site of a call out
+abbrev pub Ends : Ended → Outcome → Core → Job → Type 0
+Ends ends.Done o c j = o ≡ Changed c j
+Ends (ends.Fault b) o c j = FaultsWith o b
+Ends ends.Call o c j = IsCalled o
+
+abbrev pub EndsSame : Ended → Cores → Cores → Job → Job → Type 0
+EndsSame ends.Done old new j k = Unit {0}
+EndsSame (ends.Fault b) old new j k = (new ≡ old) × (k ≡ j)
+EndsSame ends.Call old new j k = (new ≡ old) × (k ≡ j)

@@ -1,7 +1,9 @@
--- The ranges that the tables need of what is reached.
-use Rattle.std.specs.Prelude.{◌≤◌}
+-- The ranges that the tables need of what is reached, and which instructions are calls or lead on.
+use Rattle.std.specs.Prelude.{◌≤◌, ◌+◌, ◌*◌, ℕ, Bool, true, false}
 use Rattle.its_word.specs.Limits.{budget}
 use Rattle.its_word.specs.Opcode.{IsRow}
+use Rattle.its_word.specs.declared.instruction.Instruction.{Instruction}
+use Rattle.its_word.specs.declared.instruction.Instruction.TheVariants.{Xct, Iot, Call}
 use Rattle.its_word.specs.declared.plan.Turn.{Turn}
 use Rattle.its_word.specs.declared.plan.Turn.TheVariants.{Found, Target}
 use Rattle.its_plain.specs.UnitPlan.{Fits}
@@ -10,3 +12,19 @@ use Rattle.its_plain.specs.UnitPlan.{Fits}
 abbrev pub IsReady : Turn → Type 0
 IsReady (Found r) = IsRow r.instruction × Fits r.context
 IsReady (Target w used) = used ≤ budget
+
+-- so many places were read at most, by what is used of the budget
+abbrev pub HasFew : ℕ → Turn → Type 0
+HasFew n (Found r) = n ≤ 2 * r.context.used + 2
+HasFew n (Target w used) = n ≤ 2 * used + 1
+
+-- the calls of the monitor
+abbrev pub is_call : Instruction → Bool
+is_call Iot = true
+is_call Call = true
+is_call _ = false
+
+-- XCT leads to another word
+abbrev pub leads_on : Instruction → Bool
+leads_on Xct = true
+leads_on _ = false

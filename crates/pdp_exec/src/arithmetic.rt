@@ -4,18 +4,19 @@ ghost use Rattle.std.specs.Prelude.{◌≡◌, ◌<◌};
 ghost use Rattle.its_core.specs.Cores.{core_at};
 ghost use Rattle.its_word.specs.Limits.{slots};
 ghost use Rattle.its_plain.specs.UnitPlan.{Fits, two_to, worked_from, worked_to};
+ghost use Rattle.pdp_exec.specs.Stores.{list_of};
 ghost use Rattle.its_plain.specs.UnitArith.{arithmetic_row, boolean_row, is_constant, one_result, one_shifted, quotient as quotient_of, refused_to, shift_row, two_results, two_shifted, worked};
 
-use super::plans::{Stores, jump, next, none, one, three, to, two};
+use super::plans::{Draft, jump, next, to};
 use super::reads::{ac_word, next_ac_word, read};
+use super::stores::{Stores, none, one, three, two};
 use its_core::Core;
-use its_word::{
-    ArithmeticOp, Context, Fault, Mode, NO_DIVIDE, OVERFLOW, Plan, Result2, ShiftOp, Word,
-};
+use its_word::{ArithmeticOp, Context, Fault, Mode, NO_DIVIDE, OVERFLOW, Result2, ShiftOp, Word};
 use pdp_arith::{add, div, idiv, imul, mul, sub};
 use pdp_logic::{ash, ashc, boolean, lsh, lshc, rot, rotc, zeros};
 
 /// The source of an arithmetic or Boolean instruction.
+#[inline(always)]
 #[tactic(auto, unfolding(its_plain::specs::UnitPlan::worked_from))]
 fn source(core: &Core, slot: u8, x: &Context, mode: Mode) -> Result<Word, Fault>
     requires slot { slot < slots }
@@ -33,7 +34,7 @@ fn source(core: &Core, slot: u8, x: &Context, mode: Mode) -> Result<Word, Fault>
 /// Where its one result goes.
 #[tactic(auto, unfolding(its_plain::specs::UnitPlan::worked_to))]
 fn stores(x: &Context, mode: Mode, w: Word) -> Stores
-    ensures { result.items ≡ worked_to x.now mode w }
+    ensures { list_of result ≡ worked_to x.now mode w }
 {
     match mode {
         Mode::Basic => one(to(x.a, w)),
@@ -47,7 +48,7 @@ fn stores(x: &Context, mode: Mode, w: Word) -> Stores
 #[tactic(auto, unfolding(its_plain::specs::UnitPlan::two_to))]
 fn stores_of_two(x: &Context, mode: Mode, w: Word, v: Word) -> Stores
     requires { Fits x.now }
-    ensures { result.items ≡ two_to x.now mode w v }
+    ensures { list_of result ≡ two_to x.now mode w v }
 {
     let after = (x.a + 1) % 16;
     match mode {
@@ -58,14 +59,14 @@ fn stores_of_two(x: &Context, mode: Mode, w: Word, v: Word) -> Stores
     }
 }
 
-fn one_word(x: &Context, mode: Mode, r: &Result2) -> Plan
+fn one_word(x: &Context, mode: Mode, r: &Result2) -> Draft
     requires { Fits x.now }
     ensures { result ≡ one_result x.now mode r.now }
 {
     next(x, stores(x, mode, r.first), r.flags)
 }
 
-fn two_words(x: &Context, mode: Mode, r: &Result2) -> Plan
+fn two_words(x: &Context, mode: Mode, r: &Result2) -> Draft
     requires { Fits x.now }
     ensures { result ≡ two_results x.now mode r.now }
 {
@@ -75,7 +76,7 @@ fn two_words(x: &Context, mode: Mode, r: &Result2) -> Plan
 /// What a refused division stores: C(E) as it was, where its mode stores there.
 #[tactic(auto, unfolding(its_plain::specs::UnitArith::refused_to))]
 fn refused(x: &Context, mode: Mode, s: Word) -> Stores
-    ensures { result.items ≡ refused_to x.now mode s }
+    ensures { list_of result ≡ refused_to x.now mode s }
 {
     match mode {
         Mode::Basic => none(),
@@ -86,7 +87,7 @@ fn refused(x: &Context, mode: Mode, s: Word) -> Stores
 }
 
 #[tactic(auto, unfolding(its_plain::specs::UnitArith::quotient))]
-fn quotient(x: &Context, mode: Mode, s: Word, r: Option<Result2>) -> Plan
+fn quotient(x: &Context, mode: Mode, s: Word, r: Option<Result2>) -> Draft
     requires { Fits x.now }
     ensures { result ≡ quotient_of x.now mode s r }
 {
@@ -98,7 +99,7 @@ fn quotient(x: &Context, mode: Mode, s: Word, r: Option<Result2>) -> Plan
 
 /// An operation on AC and the source.
 #[tactic(auto, unfolding(its_plain::specs::UnitArith::worked))]
-fn work(core: &Core, slot: u8, x: &Context, op: ArithmeticOp, mode: Mode, s: Word) -> Plan
+fn work(core: &Core, slot: u8, x: &Context, op: ArithmeticOp, mode: Mode, s: Word) -> Draft
     requires slot { slot < slots }
     requires fits { Fits x.now }
     ensures { result ≡ worked (core_at core.now slot) x.now op mode s }
@@ -122,7 +123,7 @@ pub fn arithmetic(
     x: &Context,
     op: ArithmeticOp,
     mode: Mode,
-) -> Result<Plan, Fault>
+) -> Result<Draft, Fault>
     requires slot { slot < slots }
     requires fits { Fits x.now }
     ensures { result ≡ arithmetic_row (core_at core.now slot) x.now op mode }
@@ -131,14 +132,14 @@ pub fn arithmetic(
     Ok(work(core, slot, x, op, mode, s))
 }
 
-fn one_place(x: &Context, r: &Result2) -> Plan
+fn one_place(x: &Context, r: &Result2) -> Draft
     requires { Fits x.now }
     ensures { result ≡ one_shifted x.now r.now }
 {
     next(x, one(to(x.a, r.first)), r.flags)
 }
 
-fn two_places(x: &Context, r: &Result2) -> Plan
+fn two_places(x: &Context, r: &Result2) -> Draft
     requires { Fits x.now }
     ensures { result ≡ two_shifted x.now r.now }
 {
@@ -151,7 +152,7 @@ fn two_places(x: &Context, r: &Result2) -> Plan
 
 /// ASH, ROT, LSH, JFFO, ASHC, ROTC, LSHC.
 #[tactic(auto, unfolding(its_plain::specs::UnitArith::shift_row))]
-pub fn shifts(core: &Core, slot: u8, x: &Context, op: ShiftOp) -> Result<Plan, Fault>
+pub fn shifts(core: &Core, slot: u8, x: &Context, op: ShiftOp) -> Result<Draft, Fault>
     requires slot { slot < slots }
     requires fits { Fits x.now }
     ensures { result ≡ shift_row (core_at core.now slot) x.now op }
@@ -183,7 +184,7 @@ fn is_fixed(k: u32) -> bool
 
 /// SETZ to SETO, by their place in the order of the opcodes.
 #[tactic(auto, unfolding(its_plain::specs::UnitArith::boolean_row))]
-pub fn booleans(core: &Core, slot: u8, x: &Context, k: u32, mode: Mode) -> Result<Plan, Fault>
+pub fn booleans(core: &Core, slot: u8, x: &Context, k: u32, mode: Mode) -> Result<Draft, Fault>
     requires slot { slot < slots }
     requires fits { Fits x.now }
     requires k { k < 16 }

@@ -7,15 +7,15 @@ ghost use Rattle.its_plain.specs.Job.{flags_of, pc_word};
 ghost use Rattle.its_plain.specs.UnitPlan.{Fits, both_down, both_up};
 ghost use Rattle.its_plain.specs.UnitJumps.{branch_row, counted, is_negative, named_by, restored, stack_row, transferred};
 
-use super::plans::{NAMED, any_on, complete, jump, next, none, one, to, two, without};
+use super::plans::{
+    Draft, any_on, complete, jump, next, stay, to, with_flags, with_pending, without,
+};
 use super::reads::{ac_word, read};
+use super::stores::{none, one, two};
 use its_core::Core;
-use its_word::{BYTE_HALF, BranchOp, Context, Fault, Plan, StackOp, USER, Word};
+use its_word::{BYTE_HALF, BranchOp, Context, Fault, NAMED_FLAGS, PDL, StackOp, USER, Word};
 
-/// Pending bit PDL: a pushdown count came to its end.
-const PDL: u64 = 0o100;
-
-/// The counts at which a push and a pop set it.
+/// The counts at which a push and a pop set PDL.
 const PUSHED_OUT: u32 = 0;
 
 const POPPED_OUT: u32 = 0o777777;
@@ -38,14 +38,14 @@ pub fn down(w: Word) -> Word
 pub fn saved(flags: u32, pc: u32) -> Word
     ensures { result ≡ pc_word flags pc }
 {
-    Word::pair(flags & NAMED | USER, pc)
+    Word::pair(flags & NAMED_FLAGS | USER, pc)
 }
 
 /// The flags of a PC word.
 pub fn flags_in(w: Word) -> u32
     ensures { result ≡ flags_of w }
 {
-    w.left() & NAMED
+    w.left() & NAMED_FLAGS
 }
 
 fn negative(w: Word) -> bool
@@ -55,7 +55,7 @@ fn negative(w: Word) -> bool
 }
 
 /// One word of BLT.
-fn transfer(x: &Context, pointer: Word, w: Word) -> Plan
+fn transfer(x: &Context, pointer: Word, w: Word) -> Draft
     requires { Fits x.now }
     ensures { result ≡ transferred x.now pointer w }
 {
@@ -63,12 +63,7 @@ fn transfer(x: &Context, pointer: Word, w: Word) -> Plan
     if x.e <= pointer.right() {
         return next(x, one(word), 0);
     }
-    Plan {
-        stores: two(word, to(x.a, up(pointer))),
-        pc: x.pc,
-        flags: x.flags,
-        pending: Word::ZERO,
-    }
+    stay(x, two(word, to(x.a, up(pointer))), x.flags)
 }
 
 /// The flags that JRST 2 takes.
@@ -92,7 +87,7 @@ fn named(a: u32) -> u32
 
 /// BLT, AOBJP, AOBJN, JRST, JFCL.
 #[tactic(auto, unfolding(its_plain::specs::UnitJumps::branch_row))]
-pub fn branches(core: &Core, slot: u8, x: &Context, op: BranchOp) -> Result<Plan, Fault>
+pub fn branches(core: &Core, slot: u8, x: &Context, op: BranchOp) -> Result<Draft, Fault>
     requires slot { slot < slots }
     requires fits { Fits x.now }
     ensures { result ≡ branch_row (core_at core.now slot) x.now op }
@@ -103,39 +98,36 @@ pub fn branches(core: &Core, slot: u8, x: &Context, op: BranchOp) -> Result<Plan
         BranchOp::Aobjp => Ok(jump(x, one(to(x.a, up(a))), 0, !negative(up(a)))),
         BranchOp::Aobjn => Ok(jump(x, one(to(x.a, up(a))), 0, negative(up(a)))),
         BranchOp::Jrst => {
-            let mut plan = complete(x, none(), 0, x.e);
-            plan.flags = if x.a == 2 {
+            let flags = if x.a == 2 {
                 restore(x, x.flags_word)
             } else {
                 without(x.flags, BYTE_HALF)
             };
-            Ok(plan)
+            Ok(with_flags(complete(x, none(), 0, x.e), flags))
         }
         BranchOp::Jfcl => {
             let mask = named(x.a);
-            let mut plan = jump(x, none(), 0, any_on(x.flags, mask));
-            plan.flags = without(x.flags, mask + BYTE_HALF);
-            Ok(plan)
+            let plan = jump(x, none(), 0, any_on(x.flags, mask));
+            Ok(with_flags(plan, without(x.flags, mask + BYTE_HALF)))
         }
     }
 }
 
 /// A plan with PDL set where the count in the left half of a stack pointer came to its end.
-fn count(end: u32, pointer: Word, plan: Plan) -> Plan
+fn count(end: u32, pointer: Word, plan: Draft) -> Draft
     ensures { result ≡ counted end pointer plan }
 {
-    let mut plan = plan;
-    plan.pending = if pointer.left() == end {
+    let pending = if pointer.left() == end {
         Word::new(PDL)
     } else {
         Word::ZERO
     };
-    plan
+    with_pending(plan, pending)
 }
 
 /// PUSHJ, PUSH, POP, POPJ, JSR, JSP, JSA, JRA.
 #[tactic(auto, unfolding(its_plain::specs::UnitJumps::stack_row))]
-pub fn stack(core: &Core, slot: u8, x: &Context, op: StackOp) -> Result<Plan, Fault>
+pub fn stack(core: &Core, slot: u8, x: &Context, op: StackOp) -> Result<Draft, Fault>
     requires slot { slot < slots }
     requires fits { Fits x.now }
     ensures { result ≡ stack_row (core_at core.now slot) x.now op }

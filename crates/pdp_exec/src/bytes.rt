@@ -6,12 +6,12 @@ ghost use Rattle.its_word.specs.Byte.{has_size, size};
 ghost use Rattle.its_plain.specs.UnitPlan.{Fits};
 ghost use Rattle.its_plain.specs.UnitBytes.{byte_by, byte_row, deposits, first_half, incremented, loads, pointed_to};
 
-use super::plans::{any_on, next, one, to};
+use super::plans::{Draft, any_on, next, stay, to};
 use super::reads::{ac_word, read};
-use arrayvec::ArrayVec;
+use super::stores::one;
 use its_bytes::{deposit, increment, load};
 use its_core::Core;
-use its_word::{Address, BYTE_HALF, ByteOp, Context, Fault, Plan, Word};
+use its_word::{Address, BYTE_HALF, ByteOp, Context, Fault, Word};
 
 /// Whether the size of a byte pointer is from 1 to 36.
 fn is_sized(p: Word) -> bool
@@ -43,17 +43,17 @@ fn target(core: &Core, slot: u8, x: &Context, p: Word) -> Result<u32, Fault>
         return Err(Fault::Ilo);
     }
     let mut used = x.used;
-    let mut reads = ArrayVec::new();
     let Address {
         e,
         flags_word: _last,
-    } = core.address(slot, p, &mut used, &mut reads)?;
+    } = core.effective(slot, p, &mut used)?;
     Ok(e)
 }
 
 /// The byte of a pointer to AC.
+#[inline(always)]
 #[tactic(auto, using(crate::proofs::ByteLaws::byte_is_word), unfolding(its_plain::specs::UnitBytes::loads))]
-fn loads_byte(core: &Core, slot: u8, x: &Context, p: Word) -> Result<Plan, Fault>
+fn loads_byte(core: &Core, slot: u8, x: &Context, p: Word) -> Result<Draft, Fault>
     requires slot { slot < slots }
     requires fits { Fits x.now }
     ensures { result ≡ loads (core_at core.now slot) x.now p }
@@ -64,8 +64,9 @@ fn loads_byte(core: &Core, slot: u8, x: &Context, p: Word) -> Result<Plan, Fault
 }
 
 /// The low bits of AC to the byte of a pointer.
+#[inline(always)]
 #[tactic(auto, unfolding(its_plain::specs::UnitBytes::deposits))]
-fn deposits_byte(core: &Core, slot: u8, x: &Context, p: Word) -> Result<Plan, Fault>
+fn deposits_byte(core: &Core, slot: u8, x: &Context, p: Word) -> Result<Draft, Fault>
     requires slot { slot < slots }
     requires fits { Fits x.now }
     ensures { result ≡ deposits (core_at core.now slot) x.now p }
@@ -78,19 +79,14 @@ fn deposits_byte(core: &Core, slot: u8, x: &Context, p: Word) -> Result<Plan, Fa
 
 /// The first half of ILDB and IDPB.
 #[tactic(auto, unfolding(its_plain::specs::UnitBytes::first_half))]
-fn first_part(x: &Context, p: Word) -> Result<Plan, Fault>
+fn first_part(x: &Context, p: Word) -> Result<Draft, Fault>
     ensures { result ≡ first_half x.now p }
 {
-    Ok(Plan {
-        stores: one(to(x.e, step(p)?)),
-        pc: x.pc,
-        flags: x.flags | BYTE_HALF,
-        pending: Word::ZERO,
-    })
+    Ok(stay(x, one(to(x.e, step(p)?)), x.flags | BYTE_HALF))
 }
 
 #[tactic(auto, unfolding(its_plain::specs::UnitBytes::byte_by))]
-fn by_pointer(core: &Core, slot: u8, x: &Context, op: ByteOp, p: Word) -> Result<Plan, Fault>
+fn by_pointer(core: &Core, slot: u8, x: &Context, op: ByteOp, p: Word) -> Result<Draft, Fault>
     requires slot { slot < slots }
     requires fits { Fits x.now }
     ensures { result ≡ byte_by (core_at core.now slot) x.now op p }
@@ -108,7 +104,7 @@ fn by_pointer(core: &Core, slot: u8, x: &Context, op: ByteOp, p: Word) -> Result
 
 /// IBP, ILDB, LDB, IDPB, DPB.
 #[tactic(auto, unfolding(its_plain::specs::UnitBytes::byte_row))]
-pub fn bytes(core: &Core, slot: u8, x: &Context, op: ByteOp) -> Result<Plan, Fault>
+pub fn bytes(core: &Core, slot: u8, x: &Context, op: ByteOp) -> Result<Draft, Fault>
     requires slot { slot < slots }
     requires fits { Fits x.now }
     ensures { result ≡ byte_row (core_at core.now slot) x.now op }

@@ -1,19 +1,25 @@
 //! From an instruction word to the instruction at the end of its chain of XCTs.
-ghost use Rattle.std.specs.Prelude.{◌≡◌, ◌<◌, ◌≤◌, ◌+◌, ◌^◌, IfOk};
+ghost use Rattle.std.specs.Prelude.{◌≡◌, ◌<◌, ◌≤◌, ◌+◌, ◌*◌, ◌^◌, ◌++◌, [], length, Ok, IfOk, IfSome};
 ghost use Rattle.its_core.specs.Cores.{core_at};
 ghost use Rattle.its_word.specs.Limits.{budget, slots};
 ghost use Rattle.its_word.specs.Opcode.{IsRow, ac_of};
 ghost use Rattle.its_plain.specs.UnitPlan.{Fits};
-ghost use Rattle.its_plain.specs.Unit.{chain, decoded, has_row, target_of, turn as turn_of, turn_at};
-ghost use Rattle.pdp_exec.specs.Ready.{IsReady};
+ghost use Rattle.its_plain.specs.Traced.{word as word_of};
+ghost use Rattle.its_plain.specs.Unit.{chain, decoded, has_row, reached, target_of, turn as turn_of, turn_at};
+ghost use Rattle.pdp_exec.specs.Ready.{HasFew, IsReady, leads_on};
 
 use super::reads::read;
 use arrayvec::ArrayVec;
 use its_core::Core;
-use its_word::{Address, BranchOp, Context, Fault, Instruction, Job, Reached, Turn, Word, decode};
+use its_word::{
+    Address, BUDGET, BranchOp, Context, Fault, Instruction, Job, Reached, Turn, Word, decode,
+};
 
-/// How many instruction words a unit can have: its own, and 64 targets of XCT.
-const WORDS: u32 = 65;
+/// How many instruction words a unit can have: its own, and the targets of its XCTs.
+const WORDS: u32 = BUDGET + 1;
+
+/// The places of the words that are read, in their order.
+pub type Places = ArrayVec<u32, 160>;
 
 /// The AC field of an instruction word.
 fn ac_field(w: Word) -> u32
@@ -30,12 +36,14 @@ fn is_legal(i: Instruction, a: u32) -> bool
     match i {
         Instruction::Branch { op: BranchOp::Jrst } => a == 0 || a == 2,
         Instruction::Break => a == 0o16,
-        Instruction::Iot | Instruction::Call | Instruction::Illegal => false,
+        Instruction::Call => a == 0,
+        Instruction::Illegal => false,
         _ => true,
     }
 }
 
 /// The instruction of a word; Ilo where the tables have none.
+#[inline(always)]
 #[tactic(auto, unfolding(its_plain::specs::Unit::decoded))]
 fn instruction(w: Word) -> Result<Instruction, Fault>
     ensures instruction { result ≡ decoded w }
@@ -49,34 +57,97 @@ fn instruction(w: Word) -> Result<Instruction, Fault>
     }
 }
 
+/// Whether an instruction leads to another word.
+fn is_xct(i: Instruction) -> bool
+    ensures { result ≡ leads_on i }
+{
+    matches!(i, Instruction::Xct)
+}
+
+/// The instruction of a job's unit, where it is the one at its PC: then no place that is read has to be
+/// noted. None where that is an XCT, and at a fault.
+#[inline(always)]
+#[tactic(auto, using(crate::proofs::ChainLaws::plain_reached))]
+fn at_hand(core: &Core, slot: u8, job: &Job) -> Option<Reached>
+    requires slot { slot < slots }
+    requires pc { job.now.pc < 2 ^ 18 }
+    ensures found { IfSome result (λ r. (reached (core_at core.now slot) job.now).answer ≡ Ok r) }
+    ensures ready { IfSome result (λ r. IsReady (Turn.Found r)) }
+{
+    let w = read(core, slot, job.pc).ok()?;
+    let i = instruction(w).ok()?;
+    if is_xct(i) {
+        return None;
+    }
+    let mut used = 0;
+    let Address { e, flags_word } = core.effective(slot, w, &mut used).ok()?;
+    Some(Reached {
+        instruction: i,
+        context: Context {
+            pc: job.pc,
+            flags: job.flags,
+            a: ac_field(w),
+            e,
+            flags_word,
+            used,
+        },
+    })
+}
+
+/// The word at an address, which is noted; Mpv where its page is absent.
+#[tactic(auto, unfolding(its_plain::specs::Traced::word))]
+fn noted(core: &Core, slot: u8, a: u32, reads: &mut Places) -> Result<Word, Fault>
+    requires slot { slot < slots }
+    requires address { a < 2 ^ 18 }
+    requires room { length reads.old.items < 160 }
+    ensures answer { result ≡ (word_of (core_at core.now slot) a).answer }
+    ensures reads { reads.new.items ≡ reads.old.items ++ (word_of (core_at core.now slot) a).reads }
+    ensures few { length reads.new.items ≡ length reads.old.items + 1 }
+{
+    reads.push(a);
+    read(core, slot, a)
+}
+
 /// The target of an XCT; Ilo where the budget is at its end.
-#[tactic(auto, unfolding(its_plain::specs::Unit::target_of))]
-fn target(core: &Core, slot: u8, x: &Context) -> Result<Turn, Fault>
+#[tactic(auto, using(crate::proofs::ReadLaws::joined, crate::proofs::ReadLaws::ended), unfolding(its_plain::specs::Unit::target_of, its_plain::specs::Traced::also))]
+fn target(core: &Core, slot: u8, x: &Context, reads: &mut Places) -> Result<Turn, Fault>
     requires slot { slot < slots }
     requires fits { Fits x.now }
-    ensures turn { result ≡ target_of (core_at core.now slot) x.now }
+    requires few { length reads.old.items ≤ 2 * x.now.used + 2 }
+    ensures turn { result ≡ (target_of (core_at core.now slot) x.now).answer }
+    ensures reads { reads.new.items ≡ reads.old.items ++ (target_of (core_at core.now slot) x.now).reads }
     ensures ready { IfOk result IsReady }
+    ensures few { IfOk result (HasFew (length reads.new.items)) }
 {
-    if x.used == 64 {
+    if x.used == BUDGET {
         return Err(Fault::Ilo);
     }
     Ok(Turn::Target {
-        word: read(core, slot, x.e)?,
+        word: noted(core, slot, x.e, reads)?,
         used: x.used + 1,
     })
 }
 
 /// Where an instruction goes on: at the target of an XCT, else at itself.
-#[tactic(auto, unfolding(its_plain::specs::Unit::turn_at))]
-fn turn_by(core: &Core, slot: u8, i: Instruction, x: &Context) -> Result<Turn, Fault>
+#[tactic(auto, using(crate::proofs::ReadLaws::ended), unfolding(its_plain::specs::Unit::turn_at))]
+fn turn_by(
+    core: &Core,
+    slot: u8,
+    i: Instruction,
+    x: &Context,
+    reads: &mut Places,
+) -> Result<Turn, Fault>
     requires slot { slot < slots }
     requires fits { Fits x.now }
     requires numbers { IsRow i }
-    ensures turn { result ≡ turn_at (core_at core.now slot) i x.now }
+    requires few { length reads.old.items ≤ 2 * x.now.used + 2 }
+    ensures turn { result ≡ (turn_at (core_at core.now slot) i x.now).answer }
+    ensures reads { reads.new.items ≡ reads.old.items ++ (turn_at (core_at core.now slot) i x.now).reads }
     ensures ready { IfOk result IsReady }
+    ensures few { IfOk result (HasFew (length reads.new.items)) }
 {
     match i {
-        Instruction::Xct => target(core, slot, x),
+        Instruction::Xct => target(core, slot, x, reads),
         _ => Ok(Turn::Found(Reached {
             instruction: i,
             context: *x,
@@ -85,18 +156,27 @@ fn turn_by(core: &Core, slot: u8, i: Instruction, x: &Context) -> Result<Turn, F
 }
 
 /// Where an instruction word leads, under what is left of the budget.
-#[tactic(auto, unfolding(its_plain::specs::Unit::turn))]
-fn turn(core: &Core, slot: u8, job: &Job, w: Word, used: u32) -> Result<Turn, Fault>
+#[tactic(auto, using(crate::proofs::ReadLaws::joined, crate::proofs::ReadLaws::ended), unfolding(its_plain::specs::Unit::turn, its_plain::specs::Traced::also, its_plain::specs::Traced::located))]
+fn turn(
+    core: &Core,
+    slot: u8,
+    job: &Job,
+    w: Word,
+    used: u32,
+    reads: &mut Places,
+) -> Result<Turn, Fault>
     requires slot { slot < slots }
     requires pc { job.now.pc < 2 ^ 18 }
     requires used { used ≤ budget }
-    ensures turn { result ≡ turn_of (core_at core.now slot) job.now w used }
+    requires few { length reads.old.items ≤ 2 * used + 1 }
+    ensures turn { result ≡ (turn_of (core_at core.now slot) job.now w used).answer }
+    ensures reads { reads.new.items ≡ reads.old.items ++ (turn_of (core_at core.now slot) job.now w used).reads }
     ensures ready { IfOk result IsReady }
+    ensures few { IfOk result (HasFew (length reads.new.items)) }
 {
     let i = instruction(w)?;
     let mut after = used;
-    let mut reads = ArrayVec::new();
-    let Address { e, flags_word } = core.address(slot, w, &mut after, &mut reads)?;
+    let Address { e, flags_word } = core.address(slot, w, &mut after, reads)?;
     let x = Context {
         pc: job.pc,
         flags: job.flags,
@@ -105,21 +185,25 @@ fn turn(core: &Core, slot: u8, job: &Job, w: Word, used: u32) -> Result<Turn, Fa
         flags_word,
         used: after,
     };
-    turn_by(core, slot, i, &x)
+    turn_by(core, slot, i, &x, reads)
 }
 
-/// The instruction of a word, or at the end of its chain of XCTs.
-#[tactic(auto, using(crate::proofs::ChainLaws::chain_turns, crate::proofs::ChainLaws::chain_over), unfolding(its_plain::specs::Unit::chain))]
-pub fn find(core: &Core, slot: u8, job: &Job, first: Word) -> Result<Reached, Fault>
+/// The instruction of a job's unit: the one at its PC, or the one at the end of its chain of XCTs. The
+/// places of the words that are read to come there are noted.
+#[tactic(auto, using(crate::proofs::ChainLaws::no_word, crate::proofs::ChainLaws::turn_faults))]
+pub fn find(core: &Core, slot: u8, job: &Job, reads: &mut Places) -> Result<Reached, Fault>
     requires slot { slot < slots }
     requires pc { job.now.pc < 2 ^ 18 }
-    ensures found { result ≡ chain (budget + 1) (core_at core.now slot) job.now first 0 }
+    requires none { reads.old.items ≡ [] }
+    ensures found { result ≡ (reached (core_at core.now slot) job.now).answer }
+    ensures reads { reads.new.items ≡ (reached (core_at core.now slot) job.now).reads }
     ensures ready { IfOk result (λ r. IsReady (Turn.Found r)) }
+    ensures few { IfOk result (λ r. length reads.new.items ≤ 2 * r.context.used + 2) }
 {
-    let mut w = first;
+    let mut w = noted(core, slot, job.pc, reads)?;
     let mut used = 0;
     for _turn in 0..WORDS {
-        match turn(core, slot, job, w, used)? {
+        match turn(core, slot, job, w, used, reads)? {
             Turn::Found(r) => return Ok(r),
             Turn::Target { word, used: more } => {
                 w = word;
@@ -128,4 +212,31 @@ pub fn find(core: &Core, slot: u8, job: &Job, first: Word) -> Result<Reached, Fa
         }
     }
     Err(Fault::Ilo)
+}
+
+/// The same, with the places thrown away.
+#[inline(never)]
+fn find_only(core: &Core, slot: u8, job: &Job) -> Result<Reached, Fault>
+    requires slot { slot < slots }
+    requires pc { job.now.pc < 2 ^ 18 }
+    ensures found { result ≡ (reached (core_at core.now slot) job.now).answer }
+    ensures ready { IfOk result (λ r. IsReady (Turn.Found r)) }
+{
+    let mut reads = Places::new();
+    find(core, slot, job, &mut reads)
+}
+
+/// The instruction of a job's unit, with no note of what is read.
+#[inline(always)]
+pub fn reach(core: &Core, slot: u8, job: &Job) -> Result<Reached, Fault>
+    requires slot { slot < slots }
+    requires pc { job.now.pc < 2 ^ 18 }
+    ensures found { result ≡ (reached (core_at core.now slot) job.now).answer }
+    ensures ready { IfOk result (λ r. IsReady (Turn.Found r)) }
+{
+    if let Some(r) = at_hand(core, slot, job) {
+        return Ok(r);
+    }
+    let r = find_only(core, slot, job)?;
+    Ok(r)
 }

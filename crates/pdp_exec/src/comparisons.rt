@@ -7,15 +7,16 @@ ghost use Rattle.its_plain.specs.UnitPlan.{Fits};
 ghost use Rattle.its_plain.specs.UnitTests.{compare_row, counts_jump, counts_skip, mask_for, test_row};
 
 use super::moves::swap;
-use super::plans::{ac_but_0, jump, none, one, skip, to, two};
+use super::plans::{Draft, ac_but_0, jump, skip, to};
 use super::reads::{ac_word, read};
+use super::stores::{none, one, two};
 use its_core::Core;
-use its_word::{CompareOp, Context, Fault, MaskOp, Plan, Result2, Word};
+use its_word::{CompareOp, Context, Fault, MaskOp, Result2, Word};
 use pdp_arith::{add, compares};
 use pdp_logic::{changed, tested};
 
 /// A sum to AC, and a jump where it compares so with 0.
-fn count_and_jump(x: &Context, k: u32, r: &Result2) -> Plan
+fn count_and_jump(x: &Context, k: u32, r: &Result2) -> Draft
     requires fits { Fits x.now }
     requires k { k < 8 }
     ensures { result ≡ counts_jump x.now k r.now }
@@ -29,7 +30,7 @@ fn count_and_jump(x: &Context, k: u32, r: &Result2) -> Plan
 }
 
 /// A sum to C(E), and to AC where A is not 0, and a skip where it compares so with 0.
-fn count_and_skip(x: &Context, k: u32, r: &Result2) -> Plan
+fn count_and_skip(x: &Context, k: u32, r: &Result2) -> Draft
     requires fits { Fits x.now }
     requires k { k < 8 }
     ensures { result ≡ counts_skip x.now k r.now }
@@ -45,7 +46,13 @@ fn count_and_skip(x: &Context, k: u32, r: &Result2) -> Plan
 
 /// CAI, CAM, JUMP, SKIP, AOJ, AOS, SOJ, SOS, with condition k.
 #[tactic(auto, unfolding(its_plain::specs::UnitTests::compare_row))]
-pub fn comparisons(core: &Core, slot: u8, x: &Context, op: CompareOp, k: u32) -> Result<Plan, Fault>
+pub fn comparisons(
+    core: &Core,
+    slot: u8,
+    x: &Context,
+    op: CompareOp,
+    k: u32,
+) -> Result<Draft, Fault>
     requires slot { slot < slots }
     requires fits { Fits x.now }
     requires k { k < 8 }
@@ -92,7 +99,7 @@ pub fn tests_of(
     op: MaskOp,
     k: u32,
     change: u32,
-) -> Result<Plan, Fault>
+) -> Result<Draft, Fault>
     requires slot { slot < slots }
     requires fits { Fits x.now }
     requires k { k < 4 }

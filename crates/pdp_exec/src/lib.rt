@@ -11,8 +11,9 @@ mod making;
 mod moves;
 mod plans;
 mod reads;
+mod stores;
 #[cfg(test)]
 mod tests;
 mod units;
 
-pub use units::{Outcome, unit};
+pub use units::{Ended, Outcome, run, site, unit};

@@ -1,69 +1,46 @@
 //! What a plan does to the core and the registers of a job.
-ghost use Rattle.std.specs.Prelude.{◌≡◌, ◌<◌, ◌^◌, None, OnErr, OnOk, true};
+ghost use Rattle.std.specs.Prelude.{◌≡◌, ◌<◌, ◌^◌, OnErr, OnOk};
 ghost use Rattle.std.specs.Result.{result_err};
 ghost use Rattle.its_core.specs.Cores.{core_at};
-ghost use Rattle.its_word.specs.Core.{can_store, store};
 ghost use Rattle.its_word.specs.Limits.{slots};
 ghost use Rattle.its_word.specs.Only.{Only};
-ghost use Rattle.its_plain.specs.Unit.{first_fault, left_by, place, stored};
+ghost use Rattle.its_word.specs.Stores.{first_fault, stored};
+ghost use Rattle.its_plain.specs.Unit.{left_by};
+ghost use Rattle.pdp_exec.specs.Stores.{list_of};
 
-use super::plans::NAMED;
-use super::reads::refused;
+use super::plans::Draft;
+use super::stores::Stores;
 use its_core::Core;
-use its_word::{Fault, Job, Plan, Store};
+use its_word::{ADDRESSES, Fault, Job, NAMED_FLAGS};
 
-/// How many addresses there are; they and PC are taken modulo it.
-const ADDRESSES: u32 = 0o1000000;
-
-/// The fault of the first store that cannot be made.
-#[tactic(auto, using(crate::proofs::StoreLaws::fault_here, crate::proofs::StoreLaws::fault_further))]
-fn check(core: &Core, slot: u8, stores: &[Store]) -> Option<Fault>
+/// Makes the stores of a unit, or none of them.
+fn make(core: &mut Core, slot: u8, stores: Stores) -> Result<(), Fault>
     requires slot { slot < slots }
-    ensures { result ≡ first_fault (core_at core.now slot) stores.now }
-{
-    for s in stores {
-        if let Some(f) = refused(core, slot, s.at % ADDRESSES) {
-            return Some(f);
-        }
-    }
-    None
-}
-
-/// Makes a store that can be made.
-fn make(core: &mut Core, slot: u8, s: &Store)
-    requires slot { slot < slots }
-    requires allowed { can_store (core_at core.old slot) (place s.now) ≡ true }
-    ensures stored { Only (core_at core.old) (core_at core.new) slot (store (core_at core.old slot) (place s.now) s.now.word) }
+    ensures made { result_err result ≡ first_fault (core_at core.old slot) (list_of stores) }
+    ensures stored { OnOk result (Only (core_at core.old) (core_at core.new) slot (stored (core_at core.old slot) (list_of stores))) }
     ensures reserved { core.new.reserved ≡ core.old.reserved }
+    ensures same { OnErr result (core.new ≡ core.old) }
 {
-    let _ = core.put(slot, s.at % ADDRESSES, s.word);
-}
-
-/// Makes stores that can be made, in their order.
-#[tactic(auto, using(crate::proofs::StoreLaws::making_begins, crate::proofs::StoreLaws::making_allows, crate::proofs::StoreLaws::making_ends))]
-fn make_all(core: &mut Core, slot: u8, stores: &[Store])
-    requires slot { slot < slots }
-    requires checked { first_fault (core_at core.old slot) stores.now ≡ None }
-    ensures stored { Only (core_at core.old) (core_at core.new) slot (stored (core_at core.old slot) stores.now) }
-    ensures reserved { core.new.reserved ≡ core.old.reserved }
-{
-    for s in stores {
-        make(core, slot, s);
+    match stores {
+        Stores::Zero => core.store_all(slot, &[]),
+        Stores::One(a) => core.store_all(slot, &[a]),
+        Stores::Two(a, b) => core.store_all(slot, &[a, b]),
+        Stores::Three(a, b, c) => core.store_all(slot, &[a, b, c]),
     }
 }
 
 /// The registers after a plan.
-fn leave(job: &mut Job, plan: &Plan)
+fn leave(job: &mut Job, plan: &Draft)
     ensures registers { job.new ≡ left_by job.old plan.now }
     ensures pc { job.new.pc < 2 ^ 18 }
 {
-    job.pc = plan.pc % ADDRESSES;
-    job.flags = plan.flags & NAMED;
-    job.pend1 = job.pend1 | plan.pending;
+    job.pc = plan.pc() % ADDRESSES;
+    job.flags = plan.flags() & NAMED_FLAGS;
+    job.pend1 = job.pend1 | plan.pending();
 }
 
 /// Does what a plan says, or what it cannot.
-pub fn carry_out(core: &mut Core, slot: u8, job: &mut Job, plan: &Plan) -> Result<(), Fault>
+pub fn carry_out(core: &mut Core, slot: u8, job: &mut Job, plan: &Draft) -> Result<(), Fault>
     requires slot { slot < slots }
     ensures made { result_err result ≡ first_fault (core_at core.old slot) plan.now.stores.items }
     ensures stored { OnOk result (Only (core_at core.old) (core_at core.new) slot (stored (core_at core.old slot) plan.now.stores.items)) }
@@ -72,10 +49,7 @@ pub fn carry_out(core: &mut Core, slot: u8, job: &mut Job, plan: &Plan) -> Resul
     ensures reserved { core.new.reserved ≡ core.old.reserved }
     ensures same { OnErr result ((core.new ≡ core.old) × (job.new ≡ job.old)) }
 {
-    if let Some(f) = check(core, slot, &plan.stores) {
-        return Err(f);
-    }
-    make_all(core, slot, &plan.stores);
+    make(core, slot, plan.stores())?;
     leave(job, plan);
     Ok(())
 }

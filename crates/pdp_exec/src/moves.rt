@@ -4,16 +4,19 @@ ghost use Rattle.std.specs.Prelude.{◌≡◌, ◌<◌};
 ghost use Rattle.its_core.specs.Cores.{core_at};
 ghost use Rattle.its_word.specs.Limits.{slots};
 ghost use Rattle.its_plain.specs.UnitPlan.{Fits, moved_from, moved_to};
+ghost use Rattle.pdp_exec.specs.Stores.{list_of};
 ghost use Rattle.its_plain.specs.UnitMoves.{exch_row, half_row, half_to, move_row, moved, swapped};
 
-use super::plans::{Stores, next, none, one, to, two};
+use super::plans::{Draft, next, to};
 use super::reads::{ac_word, read};
+use super::stores::{Stores, one, two};
 use its_core::Core;
-use its_word::{Context, Fault, Mode, MoveOp, Plan, Result2, Word};
+use its_word::{Context, Fault, Mode, MoveOp, Result2, Word};
 use pdp_arith::{magnitude, neg};
 use pdp_logic::half;
 
 /// The source of a move or a half move.
+#[inline(always)]
 #[tactic(auto, unfolding(its_plain::specs::UnitPlan::moved_from))]
 fn source(core: &Core, slot: u8, x: &Context, mode: Mode) -> Result<Word, Fault>
     requires slot { slot < slots }
@@ -31,7 +34,7 @@ fn source(core: &Core, slot: u8, x: &Context, mode: Mode) -> Result<Word, Fault>
 /// Where the result of a move or a half move goes.
 #[tactic(auto, unfolding(its_plain::specs::UnitPlan::moved_to))]
 fn stores(x: &Context, mode: Mode, w: Word) -> Stores
-    ensures { result.items ≡ moved_to x.now mode w }
+    ensures { list_of result ≡ moved_to x.now mode w }
 {
     match mode {
         Mode::Basic => one(to(x.a, w)),
@@ -63,7 +66,7 @@ fn moved_by(op: MoveOp, s: Word) -> Result2
 
 /// MOVE, MOVS, MOVN, MOVM.
 #[tactic(auto, unfolding(its_plain::specs::UnitMoves::move_row))]
-pub fn moves(core: &Core, slot: u8, x: &Context, op: MoveOp, mode: Mode) -> Result<Plan, Fault>
+pub fn moves(core: &Core, slot: u8, x: &Context, op: MoveOp, mode: Mode) -> Result<Draft, Fault>
     requires slot { slot < slots }
     requires fits { Fits x.now }
     ensures { result ≡ move_row (core_at core.now slot) x.now op mode }
@@ -75,7 +78,7 @@ pub fn moves(core: &Core, slot: u8, x: &Context, op: MoveOp, mode: Mode) -> Resu
 
 /// EXCH.
 #[tactic(auto, unfolding(its_plain::specs::UnitMoves::exch_row))]
-pub fn exchange(core: &Core, slot: u8, x: &Context) -> Result<Plan, Fault>
+pub fn exchange(core: &Core, slot: u8, x: &Context) -> Result<Draft, Fault>
     requires slot { slot < slots }
     requires fits { Fits x.now }
     ensures { result ≡ exch_row (core_at core.now slot) x.now }
@@ -102,7 +105,7 @@ fn destination(core: &Core, slot: u8, x: &Context, mode: Mode) -> Result<Word, F
 
 /// HLL to HLRE, by their place in the order of the opcodes.
 #[tactic(auto, unfolding(its_plain::specs::UnitMoves::half_row))]
-pub fn halves(core: &Core, slot: u8, x: &Context, k: u32, mode: Mode) -> Result<Plan, Fault>
+pub fn halves(core: &Core, slot: u8, x: &Context, k: u32, mode: Mode) -> Result<Draft, Fault>
     requires slot { slot < slots }
     requires fits { Fits x.now }
     requires k { k < 16 }

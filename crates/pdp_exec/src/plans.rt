@@ -1,16 +1,60 @@
 //! What an instruction that completes does.
-ghost use Rattle.std.specs.Prelude.{◌≡◌, ℕ, ◌+◌, ◌<◌, ◌^◌, [], ◌∷◌};
+ghost use Rattle.std.specs.Prelude.{◌≡◌, ℕ, ◌+◌, ◌<◌, ◌^◌};
 ghost use Rattle.its_plain.specs.UnitPlan.{Fits, completes, is_on, jump as jump_of, next as next_of, skip as skip_of, to as to_place, to_ac_but_0, without as flags_without};
+ghost use Rattle.pdp_exec.specs.Stores.{list_of};
 
-use arrayvec::ArrayVec;
-use its_word::{BYTE_HALF, Context, Plan, Store, Word};
+use super::stores::{Stores, none, one};
+use its_word::{BYTE_HALF, Context, Store, Word};
+use std::marker::Model;
 
-/// The flags of a PC word that are kept: overflow, carries, floating overflow, first part done and no
-/// divide.
-pub const NAMED: u32 = 0o760040;
+/// What a unit does: its stores, the PC and the flags after it, and the bits of pending word 1 that it
+/// sets. Contracts see it as a `Plan`; its stores are kept so that none of them has to be in memory.
+#[derive(Drop)]
+pub struct Draft {
+    stores: Stores,
+    pc: u32,
+    flags: u32,
+    pending: Word,
+}
 
-/// Up to three stores, in their order.
-pub type Stores = ArrayVec<Store, 3>;
+impl Model for Draft {
+    ghost use Rattle.its_word.specs.declared.plan.Plan.{Plan};
+    ghost use Rattle.pdp_exec.specs.Stores.{list_of};
+
+    ghost Value = { Plan };
+
+    ghost view = { λ d. record { stores = record { items = list_of d.stores }; pc = d.pc; flags = d.flags; pending = d.pending } };
+}
+
+impl Draft {
+    /// Its stores.
+    pub fn stores(&self) -> Stores
+        ensures { list_of result ≡ self.now.stores.items }
+    {
+        self.stores
+    }
+
+    /// The PC after it.
+    pub fn pc(&self) -> u32
+        ensures { result ≡ self.now.pc }
+    {
+        self.pc
+    }
+
+    /// The flags after it.
+    pub fn flags(&self) -> u32
+        ensures { result ≡ self.now.flags }
+    {
+        self.flags
+    }
+
+    /// The bits of pending word 1 that it sets.
+    pub fn pending(&self) -> Word
+        ensures { result ≡ self.now.pending }
+    {
+        self.pending
+    }
+}
 
 /// A word at a place.
 pub fn to(at: u32, word: Word) -> Store
@@ -19,41 +63,11 @@ pub fn to(at: u32, word: Word) -> Store
     Store { at, word }
 }
 
-pub fn none() -> Stores
-    ensures { result.items ≡ [] }
-{
-    ArrayVec::new()
-}
-
-pub fn one(a: Store) -> Stores
-    ensures { result.items ≡ a ∷ [] }
-{
-    let mut stores = ArrayVec::new();
-    stores.push(a);
-    stores
-}
-
-pub fn two(a: Store, b: Store) -> Stores
-    ensures { result.items ≡ a ∷ b ∷ [] }
-{
-    let mut stores = one(a);
-    stores.push(b);
-    stores
-}
-
-pub fn three(a: Store, b: Store, c: Store) -> Stores
-    ensures { result.items ≡ a ∷ b ∷ c ∷ [] }
-{
-    let mut stores = two(a, b);
-    stores.push(c);
-    stores
-}
-
 /// The plan of an instruction that completes: its stores, the flags that it sets, and the PC after it.
-pub fn complete(x: &Context, stores: Stores, set: u32, pc: u32) -> Plan
-    ensures { result ≡ completes x.now stores.items set pc }
+pub fn complete(x: &Context, stores: Stores, set: u32, pc: u32) -> Draft
+    ensures { result ≡ completes x.now (list_of stores) set pc }
 {
-    Plan {
+    Draft {
         stores,
         pc,
         flags: without(x.flags, BYTE_HALF) | set,
@@ -62,32 +76,58 @@ pub fn complete(x: &Context, stores: Stores, set: u32, pc: u32) -> Plan
 }
 
 /// The same, on to the next instruction.
-pub fn next(x: &Context, stores: Stores, set: u32) -> Plan
+pub fn next(x: &Context, stores: Stores, set: u32) -> Draft
     requires { Fits x.now }
-    ensures { result ≡ next_of x.now stores.items set }
+    ensures { result ≡ next_of x.now (list_of stores) set }
 {
     complete(x, stores, set, x.pc + 1)
 }
 
 /// The same, to E where a jump is taken.
-pub fn jump(x: &Context, stores: Stores, set: u32, taken: bool) -> Plan
+pub fn jump(x: &Context, stores: Stores, set: u32, taken: bool) -> Draft
     requires { Fits x.now }
-    ensures { result ≡ jump_of x.now stores.items set taken }
+    ensures { result ≡ jump_of x.now (list_of stores) set taken }
 {
     complete(x, stores, set, if taken { x.e } else { x.pc + 1 })
 }
 
 /// The same, over the next instruction where a skip is taken.
-pub fn skip(x: &Context, stores: Stores, set: u32, taken: bool) -> Plan
+pub fn skip(x: &Context, stores: Stores, set: u32, taken: bool) -> Draft
     requires { Fits x.now }
-    ensures { result ≡ skip_of x.now stores.items set taken }
+    ensures { result ≡ skip_of x.now (list_of stores) set taken }
 {
     complete(x, stores, set, if taken { x.pc + 2 } else { x.pc + 1 })
 }
 
+/// A plan that stays at the instruction, with these flags.
+pub fn stay(x: &Context, stores: Stores, flags: u32) -> Draft
+    ensures { result ≡ record { stores = record { items = list_of stores }; pc = x.now.pc; flags = flags; pending = 0 } }
+{
+    Draft {
+        stores,
+        pc: x.pc,
+        flags,
+        pending: Word::ZERO,
+    }
+}
+
+/// A plan with other flags.
+pub fn with_flags(plan: Draft, flags: u32) -> Draft
+    ensures { result ≡ record plan { flags = flags } }
+{
+    Draft { flags, ..plan }
+}
+
+/// A plan with these bits of pending word 1.
+pub fn with_pending(plan: Draft, pending: Word) -> Draft
+    ensures { result ≡ record plan { pending = pending } }
+{
+    Draft { pending, ..plan }
+}
+
 /// A word for AC, where A is not 0.
 pub fn ac_but_0(x: &Context, w: Word) -> Stores
-    ensures { result.items ≡ to_ac_but_0 x.now w }
+    ensures { list_of result ≡ to_ac_but_0 x.now w }
 {
     if x.a == 0 { none() } else { one(to(x.a, w)) }
 }

@@ -631,6 +631,12 @@ static BYTES: &str =
 20 10000 | 0=1 3=524351604100 4=4400546271 6=525252525252 17=1000000 | 20=134760673725
 437474=351326043622 571074=21400000004 673725=337223633374 | | 2 | 20 30000 4 | 4=4400546272 |";
 
+/// Calls of the monitor from PC 100: words | E, the budget that is used, and the channel or `-` | the
+/// places that are read.
+static CALLS: &str = "100=43000000200 | 200 0 - | 100;
+3=7 100=40263000201 210=300 | 300 1 5 | 100 3 210;
+2=50 100=256002000100 150=256360000151 151=2000102 152=43000777777 | 777777 3 - | 100 2 150 151 2 152";
+
 fn number(rt: &impl Abort, text: Option<&str>) -> Word {
     read_octal(text.expect(rt, "a number").as_bytes()).expect(rt, "octal digits")
 }
@@ -703,6 +709,37 @@ impl Bench {
         }
     }
 
+    /// Makes the call of a row.
+    fn call(&mut self, rt: &impl Abort, row: &str) {
+        self.core.drop_all(0);
+        let mut fields = row.split('|');
+        self.load(rt, 0, fields.next().expect(rt, "words"));
+        let mut caller = job(0o100, USER);
+        let Outcome::Call(site) = unit(&mut self.core, 0, &mut caller) else {
+            panic!(rt; "no call in {row}");
+        };
+        assert_eq!(rt; caller, job(0o100, USER), "registers of {row}");
+        let mut want = fields.next().expect(rt, "E").split_whitespace();
+        assert_eq!(rt; site.pc, 0o100, "PC of {row}");
+        assert_eq!(rt; site.e, number(rt, want.next()).right(), "E of {row}");
+        assert_eq!(rt;
+            site.used,
+            number(rt, want.next()).right(),
+            "budget of {row}"
+        );
+        let channel = match want.next() {
+            Some("-") => None,
+            text => Some((number(rt, text).right() % 16) as u8),
+        };
+        assert_eq!(rt; site.channel, channel, "channel of {row}");
+        let mut places = site.decode.iter();
+        for text in fields.next().expect(rt, "places").split_whitespace() {
+            let place = number(rt, Some(text)).right();
+            assert_eq!(rt; places.next().copied(), Some(place), "places of {row}");
+        }
+        assert!(rt; places.next().is_none(), "places of {row}");
+    }
+
     /// Whether a list's words are the same in slots 0 and 1.
     fn agrees(&self, rt: &impl Abort, list: &str) -> bool {
         for text in list.split_whitespace() {
@@ -751,7 +788,9 @@ impl Bench {
     }
 }
 
-fn job(pc: u32, flags: u32) -> Job {
+fn job(pc: u32, flags: u32) -> Job
+    ensures { result.pc ≡ pc }
+{
     Job {
         pc,
         flags,
@@ -794,5 +833,17 @@ fn units(rt: HostRuntime) -> Result<(), Fail> {
             bench.check(&rt, row);
         }
     }
+    Ok(())
+}
+
+#[test]
+#[tactic(auto, unfolding(its_core::specs::Cores::reserved_at))]
+fn calls(rt: HostRuntime) -> Result<(), Fail> {
+    let core = Core::open(rt.alloc())?;
+    let mut bench = Bench { core };
+    for row in CALLS.split(';') {
+        bench.call(&rt, row);
+    }
+    bench.check(&rt, "100 10000 | | 100=43040000200 | | 1 | 100 10000 2 | |");
     Ok(())
 }

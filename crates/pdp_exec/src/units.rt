@@ -1,27 +1,25 @@
 //! The unit of a job.
-ghost use Rattle.std.specs.Prelude.{◌≡◌, ◌≢◌, ◌<◌, ◌^◌, ℕ, IfErr, OnErr, OnOk};
+ghost use Rattle.std.specs.Prelude.{◌≡◌, ◌≢◌, ◌<◌, ◌≤◌, ◌^◌, ℕ, false, length, Ok, IfErr, IfOk, OnErr, OnOk};
 ghost use Rattle.its_core.specs.Cores.{core_at};
 ghost use Rattle.its_word.specs.Limits.{slots};
 ghost use Rattle.its_word.specs.Opcode.{IsRow};
 ghost use Rattle.its_plain.specs.Job.{bit_of};
 ghost use Rattle.its_plain.specs.UnitPlan.{Fits};
-ghost use Rattle.its_plain.specs.Unit.{Changed, Faulted, break_row, planned, row_of, unit as unit_of};
-ghost use Rattle.pdp_exec.specs.Answer.{Answers};
+ghost use Rattle.its_plain.specs.Unit.{Called, Changed, Faulted, break_row, outcome_of, reached, row_of, site_of, unit as unit_of};
+ghost use Rattle.pdp_exec.specs.Answer.{Answers, Ends, EndsSame, IsCalled, Unchanged};
+ghost use Rattle.pdp_exec.specs.Ready.{IsReady, is_call};
 
 use super::arithmetic::{arithmetic, booleans, shifts};
 use super::branches::{branches, stack};
 use super::bytes::bytes;
-use super::chain::find;
+use super::chain::{Places, find, reach};
 use super::comparisons::{comparisons, tests_of};
 use super::making::carry_out;
 use super::moves::{exchange, halves, moves};
-use super::plans::{next, none};
-use super::reads::read;
+use super::plans::{Draft, next, with_pending};
+use super::stores::none;
 use its_core::Core;
-use its_word::{Context, Fault, Instruction, Job, Plan, Site, Word};
-
-/// Pending bit BRK: `.BREAK`.
-const BRK: u64 = 1;
+use its_word::{BRK, Context, Fault, ILO, Instruction, Job, MPV, Reached, Site, Turn, WRO, Word};
 
 /// What a unit comes to: it is done; or a fault, with its bit of pending word 1, at which nothing of
 /// it is done; or a call of the monitor.
@@ -34,18 +32,16 @@ pub enum Outcome {
 
 /// `.BREAK 16,`.
 #[tactic(auto, unfolding(its_plain::specs::Unit::break_row))]
-fn breaks(x: &Context) -> Result<Plan, Fault>
+fn breaks(x: &Context) -> Result<Draft, Fault>
     requires { Fits x.now }
     ensures { result ≡ break_row x.now }
 {
-    let mut plan = next(x, none(), 0);
-    plan.pending = Word::new(BRK);
-    Ok(plan)
+    Ok(with_pending(next(x, none(), 0), Word::new(BRK)))
 }
 
 /// The row of an instruction.
 #[tactic(auto, unfolding(its_plain::specs::Unit::row_of))]
-fn row(core: &Core, slot: u8, x: &Context, i: Instruction) -> Result<Plan, Fault>
+fn row(core: &Core, slot: u8, x: &Context, i: Instruction) -> Result<Draft, Fault>
     requires slot { slot < slots }
     requires fits { Fits x.now }
     requires numbers { IsRow i }
@@ -69,47 +65,109 @@ fn row(core: &Core, slot: u8, x: &Context, i: Instruction) -> Result<Plan, Fault
     }
 }
 
-/// The plan of a job.
-#[tactic(auto, unfolding(its_plain::specs::Unit::planned))]
-fn plan(core: &Core, slot: u8, job: &Job) -> Result<Plan, Fault>
-    requires slot { slot < slots }
-    requires pc { job.now.pc < 2 ^ 18 }
-    ensures { result ≡ planned (core_at core.now slot) job.now }
-{
-    let w = read(core, slot, job.pc)?;
-    let r = find(core, slot, job, w)?;
-    row(core, slot, &r.context, r.instruction)
-}
-
 /// The bit of pending word 1 of a fault.
 fn fault_bit(f: Fault) -> u32
     ensures { result ≡ bit_of f }
 {
     match f {
-        Fault::Mpv => 0o4,
-        Fault::Wro => 0o10,
-        Fault::Ilo => 0o2,
+        Fault::Mpv => MPV as u32,
+        Fault::Wro => WRO as u32,
+        Fault::Ilo => ILO as u32,
     }
 }
 
-/// Plans a unit and does it.
-#[tactic(auto, unfolding(its_plain::specs::Unit::unit))]
-fn run(core: &mut Core, slot: u8, job: &mut Job) -> Result<(), Fault>
+/// Plans what an instruction does, and does it.
+fn act(core: &mut Core, slot: u8, job: &mut Job, r: &Reached) -> Result<(), Fault>
     requires slot { slot < slots }
     requires pc { job.old.pc < 2 ^ 18 }
-    ensures done { OnOk result (unit_of (core_at core.old slot) job.old ≡ Changed (core_at core.new slot) job.new) }
-    ensures fault { IfErr result (λ f. unit_of (core_at core.old slot) job.old ≡ Faulted f) }
+    requires ready { IsReady (Turn.Found r.now) }
+    ensures done { OnOk result (outcome_of (core_at core.old slot) job.old (row_of (core_at core.old slot) r.now.context r.now.instruction) ≡ Changed (core_at core.new slot) job.new) }
+    ensures fault { IfErr result (λ f. outcome_of (core_at core.old slot) job.old (row_of (core_at core.old slot) r.now.context r.now.instruction) ≡ Faulted f) }
     ensures pc { job.new.pc < 2 ^ 18 }
     ensures others { (k : ℕ) → k ≢ slot → core_at core.new k ≡ core_at core.old k }
     ensures reserved { core.new.reserved ≡ core.old.reserved }
     ensures same { OnErr result ((core.new ≡ core.old) × (job.new ≡ job.old)) }
 {
-    let p = plan(core, slot, job)?;
-    carry_out(core, slot, job, &p)
+    let plan = row(core, slot, &r.context, r.instruction)?;
+    carry_out(core, slot, job, &plan)
 }
 
-/// One unit of the job of a slot. At a fault the core and the job are as they were, and the caller
-/// sets the bit.
+/// What a unit comes to: it is done; or a fault, with its bit of pending word 1; or a call of the
+/// monitor, whose site `site` tells.
+#[derive(Clone, Copy, Debug, PartialEq, Eq)]
+pub enum Ended {
+    Done,
+    Fault(u32),
+    Call,
+}
+
+/// Whether an instruction is a call of the monitor.
+fn is_call(i: Instruction) -> bool
+    ensures { result ≡ is_call i }
+{
+    matches!(i, Instruction::Iot | Instruction::Call)
+}
+
+/// One unit of the job of a slot, as `unit` makes it, without the site of a call. At a fault and at a
+/// call the core and the job are as they were.
+#[inline]
+#[tactic(auto, using(crate::proofs::ChainLaws::unit_by, crate::proofs::ChainLaws::unit_lost, crate::proofs::ChainLaws::is_called))]
+pub fn run(core: &mut Core, slot: u8, job: &mut Job) -> Ended
+    requires slot { slot < slots }
+    requires pc { job.old.pc < 2 ^ 18 }
+    ensures unit { Ends result (unit_of (core_at core.old slot) job.old) (core_at core.new slot) job.new }
+    ensures pc { job.new.pc < 2 ^ 18 }
+    ensures others { (k : ℕ) → k ≢ slot → core_at core.new k ≡ core_at core.old k }
+    ensures reserved { core.new.reserved ≡ core.old.reserved }
+    ensures same { EndsSame result core.old core.new job.old job.new }
+{
+    let r = match reach(core, slot, job) {
+        Ok(r) => r,
+        Err(f) => return Ended::Fault(fault_bit(f)),
+    };
+    if is_call(r.instruction) {
+        return Ended::Call;
+    }
+    match act(core, slot, job, &r) {
+        Ok(()) => Ended::Done,
+        Err(f) => Ended::Fault(fault_bit(f)),
+    }
+}
+
+/// The site of a context, with these places that were read on the way to it.
+fn site_at(x: &Context, channel: Option<u8>, decode: Places) -> Site
+    ensures { result ≡ site_of x.now channel decode.items }
+{
+    Site {
+        pc: x.pc,
+        e: x.e,
+        channel,
+        used: x.used,
+        decode,
+    }
+}
+
+/// Where a job calls the monitor, whose unit is a call.
+#[tactic(auto, using(crate::proofs::ChainLaws::unit_iot, crate::proofs::ChainLaws::unit_call, crate::proofs::ChainLaws::no_other, crate::proofs::ChainLaws::no_fault))]
+pub fn site(core: &Core, slot: u8, job: &Job) -> Site
+    requires slot { slot < slots }
+    requires pc { job.now.pc < 2 ^ 18 }
+    requires call { IsCalled (unit_of (core_at core.now slot) job.now) }
+    ensures { unit_of (core_at core.now slot) job.now ≡ Called result }
+{
+    let mut reads = Places::new();
+    match find(core, slot, job, &mut reads) {
+        Ok(r) => match r.instruction {
+            Instruction::Iot => site_at(&r.context, Some(r.context.a as u8), reads),
+            Instruction::Call => site_at(&r.context, None, reads),
+            _ => unreachable!(),
+        },
+        Err(_) => unreachable!(),
+    }
+}
+
+/// One unit of the job of a slot. At a fault and at a call of the monitor the core and the job are as
+/// they were; the caller sets the bit of the fault.
 pub fn unit(core: &mut Core, slot: u8, job: &mut Job) -> Outcome
     requires slot { slot < slots }
     requires pc { job.old.pc < 2 ^ 18 }
@@ -117,10 +175,11 @@ pub fn unit(core: &mut Core, slot: u8, job: &mut Job) -> Outcome
     ensures pc { job.new.pc < 2 ^ 18 }
     ensures others { (k : ℕ) → k ≢ slot → core_at core.new k ≡ core_at core.old k }
     ensures reserved { core.new.reserved ≡ core.old.reserved }
-    ensures same { (b : ℕ) → result ≡ Outcome.Fault b → (core.new ≡ core.old) × (job.new ≡ job.old) }
+    ensures same { Unchanged result core.old core.new job.old job.new }
 {
     match run(core, slot, job) {
-        Ok(()) => Outcome::Done,
-        Err(f) => Outcome::Fault(fault_bit(f)),
+        Ended::Done => Outcome::Done,
+        Ended::Fault(bit) => Outcome::Fault(bit),
+        Ended::Call => Outcome::Call(site(core, slot, job)),
     }
 }

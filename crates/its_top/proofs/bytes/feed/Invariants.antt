@@ -1,4 +1,4 @@
-use Rattle.std.proofs.Common.{◌≤◌, ◌+◌, ◌*◌, ◌<◌, ◌^◌, length, take}
+use Rattle.std.proofs.Common.{◌≡◌, ◌≤◌, ◌+◌, ◌*◌, ◌<◌, length, take}
 use Rattle.its_word.specs.Limits.{slots}
 use Rattle.its_session.specs.Events.{most_lines}
 use Rattle.its_monitor.specs.World.{Sound}
@@ -17,5 +17,5 @@ invariant-loop-b g l = record {
   begun : Begun l.kept.items l.p.number;
   longer : 256 * l.fn.p.number + length l.fn.kept.items + l.b-index ≤ 256 * l.p.number + length l.kept.items;
   feeds : Feeds turns.On (now_of l.fn.m l.fn.p) l.fn.kept.items (take l.b-index l.bytes) (now_of l.m l.p) l.kept.items (g.K.Sink.written l.fn.out) (g.K.Sink.written l.out);
-  later : g.K.Sink.faults l.fn.out ≤ g.K.Sink.faults l.out;
+  unfailed : g.K.Sink.faults l.out ≡ g.K.Sink.faults l.fn.out;
 }

@@ -1,7 +1,7 @@
-use Rattle.std.proofs.Common.{◌≡◌, ◌<◌, ◌∙◌, sym, ap, subst, arith, length}
+use Rattle.std.proofs.Common.{◌≡◌, ◌<◌, ◌∙◌, sym, ap, subst, arith, length, refl}
 use Rattle.its_top.specs.Telling.{Now, Begun}
 use Rattle.its_top.proofs.ConclusionLaws.{session_fault}
-use Rattle.its_top.proofs.FinishLaws.{on_of}
+use Rattle.its_top.proofs.FinishLaws.{on_of, not_fault}
 use Rattle.its_top.proofs.SessionLaws.{so_far_start, so_far_by, session_by, session_at_end}
 use Rattle.its_top.proofs.run.take_all.Goals as goal
 
@@ -16,8 +16,8 @@ loop-count-init g c =
       short = omega arith;
       begun = subst (λ k. Begun k c.args.p.now.number) (sym c.requires.kept) tt;
       so_far = so_far_start _ _ _ _ c.requires.kept c.requires.start;
-      read_later = omega arith;
-      write_later = omega arith;
+      read_unfailed = refl;
+      write_unfailed = refl;
     }
 
 pub returns-in_default-clause-ended : goal.returns-in_default-clause-ended
@@ -41,6 +41,6 @@ loop-count-preserved g c = record {
   short = c.feed-turn.ensures.short;
   begun = c.feed-turn.ensures.begun (on_of _ (sym c.goes_on.ensures ∙ c.if-not-goes_on.false));
   so_far = so_far_by _ _ _ _ _ _ _ _ _ _ _ _ (sym c.goes_on.ensures ∙ c.if-not-goes_on.false) c.loop-count.invariant.so_far c.in-Ok.ensures.bytes.0 c.feed-turn.ensures.feeds;
-  read_later = omega (arith, c.loop-count.invariant.read_later, c.read.ensures.cause.later);
-  write_later = omega (arith, c.loop-count.invariant.write_later, c.feed-turn.ensures.later);
+  read_unfailed = c.in-Ok.ensures.cause.kept ∙ c.loop-count.invariant.read_unfailed;
+  write_unfailed = c.feed-turn.ensures.unfailed (not_fault _ (sym c.goes_on.ensures ∙ c.if-not-goes_on.false)) ∙ c.loop-count.invariant.write_unfailed;
 }

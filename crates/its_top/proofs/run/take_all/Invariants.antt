@@ -1,4 +1,4 @@
-use Rattle.std.proofs.Common.{◌≤◌, ◌+◌, ◌-◌, ◌*◌, ◌<◌, ◌^◌, length}
+use Rattle.std.proofs.Common.{◌≡◌, ◌≤◌, ◌+◌, ◌-◌, ◌*◌, ◌<◌, length}
 use Rattle.its_word.specs.Limits.{slots}
 use Rattle.its_session.specs.Events.{most_lines}
 use Rattle.its_monitor.specs.World.{Sound}
@@ -15,8 +15,8 @@ invariant-loop-count g l = record {
   short : length l.kept.items ≤ 255;
   begun : Begun l.kept.items l.p.number;
   so_far : SoFar l.kept.items (now_of l.m l.p) (g.S.Source.left l.fn.src) (g.S.Source.left l.src) (g.K.Sink.written l.fn.out) (g.K.Sink.written l.out);
-  read_later : g.S.Source.faults l.fn.src ≤ g.S.Source.faults l.src;
-  write_later : g.K.Sink.faults l.fn.out ≤ g.K.Sink.faults l.out;
+  read_unfailed : g.S.Source.faults l.src ≡ g.S.Source.faults l.fn.src;
+  write_unfailed : g.K.Sink.faults l.out ≡ g.K.Sink.faults l.fn.out;
 }
 
 abbrev pub decreases-loop-count : goal.decreases-loop-count

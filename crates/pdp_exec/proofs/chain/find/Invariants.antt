@@ -1,12 +1,13 @@
-use Rattle.std.proofs.Common.{◌≡◌, ◌≤◌, ◌-◌}
+use Rattle.std.proofs.Common.{◌≤◌, ◌-◌, ◌+◌, ◌*◌, length}
 use Rattle.its_core.specs.Cores.{core_at}
 use Rattle.its_word.specs.Limits.{budget}
-use Rattle.its_plain.specs.Unit.{chain}
+use Rattle.pdp_exec.proofs.ChainLaws.{Along}
 use Rattle.pdp_exec.proofs.chain.find.Given as goal
 
 -- what is left of the chain from here is the whole chain
 abbrev pub invariant-loop-turn : goal.invariant-loop-turn
 invariant-loop-turn l = record {
   used : l.used ≤ budget;
-  same : chain (65 - l._turn) (core_at l.core l.slot) l.job l.w l.used ≡ chain 65 (core_at l.core l.slot) l.job l.fn.first 0;
+  few : length l.reads.items ≤ 2 * l.used + 1;
+  along : Along (core_at l.core l.slot) l.job (65 - l._turn) l.w l.used l.reads.items;
 }

@@ -1,7 +1,7 @@
 use Rattle.std.proofs.Common.{◌≡◌, ◌+◌, ◌*◌, Some, None, slice_index_or, arith, ap, ◌∙◌}
 use Rattle.its_core.specs.Cores.{zeroed, reserved_at}
 use Rattle.its_core.proofs.ReadLaws.{held_below}
-use Rattle.its_core.proofs.HeldLaws.{held_is_some, clear_quarter_only, clear_quarter_pool, clear_cores, clear_only, cleared_clear}
+use Rattle.its_core.proofs.HeldLaws.{held_is_some, clear_quarter_only, clear_quarter_pool, clear_cores, clear_only, cleared_clear, quarter_frames}
 use Rattle.its_core.proofs.cores.Core.clear_quarter.Goals as goal
 
 pub held_in-h-requires-clause-some : goal.held_in-h-requires-clause-some
@@ -40,3 +40,8 @@ returns-clause-cores c =
     let w : c.clear.new.words.items ≡ zeroed (1024 * c.held_in-h.result.frame + 256 * c.args.q) 256 c.self.inside.words.items =
     c.clear.ensures ∙ ap (λ i. zeroed i 256 c.self.inside.words.items) (omega arith) in
     rw (w, ← c.self.view_is) (clear_cores _ _ _ _ _ _ c.self.invariant _ c.args.slot (256 * c.args.q) c.held_in-h.result e (omega arith))
+
+pub returns-clause-frames : goal.returns-clause-frames
+returns-clause-frames c =
+    let e : slice_index_or c.self.inside.held.items c.args.slot None ≡ Some c.held_in-h.result = cc in
+    rw (c.from-2.ensures, ← c.self.view_is) (quarter_frames _ _ _ _ _ _ c.self.invariant _ c.args.slot _ c.held_in-h.result e)

@@ -1,5 +1,5 @@
 use Rattle.std.proofs.Common.{◌≡◌, ◌+◌, ◌*◌, Some, None, slice_index_or, arith}
-use Rattle.its_core.proofs.PlaceLaws.{protect_pool, place_is_some, place_only, place_reserved, marked_is}
+use Rattle.its_core.proofs.PlaceLaws.{protect_pool, place_is_some, place_only, place_reserved, marked_is, protect_frames}
 use Rattle.its_core.proofs.cores.Core.protect.Goals as goal
 
 pub present_in-m-requires-clause-present : goal.present_in-m-requires-clause-present
@@ -17,7 +17,12 @@ returns-clause-marked c =
     let long = c.self.invariant.places_long in
     let m = marked_is _ _ _ _ _ _ c.self.invariant c.args.slot c.args.page c.present_in-m.result c.args.writable c.requires.slot (omega arith) e in
     rw (c.place_index.ensures, ← c.self.view_is, ← m)
-    (place_only c.self.inside.accs.items c.self.inside.places.items c.self.inside.held.items c.self.inside.held.items c.self.inside.words.items c.args.slot c.args.page (Some (record { frame = c.present_in-m.result.frame; writable = c.args.writable })) c.requires.slot (omega arith) (omega arith))
+    (place_only c.self.inside.accs.items c.self.inside.places.items c.self.inside.held.items c.self.inside.held.items c.self.inside.words.items c.self.inside.lists _ c.args.slot c.args.page (Some (record { frame = c.present_in-m.result.frame; writable = c.args.writable })) c.requires.slot (omega arith) (omega arith))
 
 pub returns-clause-reserved : goal.returns-clause-reserved
-returns-clause-reserved c = rw (← c.self.view_is) (place_reserved c.self.inside.accs.items c.self.inside.places.items _ c.self.inside.held.items c.self.inside.words.items)
+returns-clause-reserved c = rw (← c.self.view_is) (place_reserved c.self.inside.accs.items c.self.inside.places.items _ c.self.inside.held.items c.self.inside.words.items c.self.inside.lists _)
+
+pub returns-clause-frames : goal.returns-clause-frames
+returns-clause-frames c =
+    let e : slice_index_or c.self.inside.places.items (256 * c.args.slot + c.args.page) None ≡ Some c.present_in-m.result = cc in
+    rw (c.place_index.ensures, ← c.self.view_is) (protect_frames _ _ _ _ _ _ c.self.invariant c.args.slot c.args.page c.present_in-m.result c.args.writable e)

@@ -1,6 +1,6 @@
 use Rattle.std.proofs.Common.{◌≡◌, ◌+◌, ◌*◌, ◌/◌, ◌%◌, Some, None, slice_index_or, arith}
 use Rattle.its_core.proofs.ReadLaws.{frame_below}
-use Rattle.its_core.proofs.StoreLaws.{acc_only, acc_pool, page_only, page_pool, page_reserved, acc_reserved, refused_read_only}
+use Rattle.its_core.proofs.StoreLaws.{acc_only, acc_pool, page_only, page_pool, page_reserved, acc_reserved, refused_read_only, acc_frames, word_frames}
 use Rattle.its_core.proofs.cores.Core.put.Goals as goal
 
 pub invariant_of-self : goal.invariant_of-self
@@ -38,3 +38,9 @@ pub returns-in-Some-2-clause-refused : goal.returns-in-Some-2-clause-refused
 returns-in-Some-2-clause-refused c =
     let e : slice_index_or c.self.inside.places.items (256 * c.args.slot + c.args.a / 1024) None ≡ Some c.in-Some.m = cc in
     rw (← c.self.view_is) (refused_read_only _ _ _ _ _ _ c.self.invariant c.args.slot c.args.a c.args.w c.in-Some.m c.requires.slot (omega arith) c.requires.address e c.if-m.false)
+
+pub returns-then-a-lt16-clause-frames : goal.returns-then-a-lt16-clause-frames
+returns-then-a-lt16-clause-frames c = rw (← c.self.view_is) (acc_frames _ _ _ _ _ _ c.self.invariant c.acc_index.result c.args.w)
+
+pub returns-in-Some-clause-frames : goal.returns-in-Some-clause-frames
+returns-in-Some-clause-frames c = rw (← c.self.view_is) (word_frames _ _ _ _ _ _ c.self.invariant c.word_index.result c.args.w)

@@ -1,0 +1,14 @@
+-- The call reaches into the job that its channel is on.
+use Rattle.std.proofs.Common.{sym, ◌∙◌, ap, refl}
+use Rattle.its_plain.specs.CallBasic.{is_oneself, channel_at}
+use Rattle.call_basic.specs.Seen.{raw_with, channels_of}
+use Rattle.call_basic.proofs.ReachLaws.{reaches}
+use Rattle.call_basic.proofs.usrvar.usrvar.Goals as goal
+
+pub other_variable-requires : goal.other_variable-requires
+other_variable-requires c = record {
+  target = reaches (raw_with c.args.w.now c.args.slot c.args.job.now) c.args.ask.now _ c.in-Usr.inferior c.requires.fail c.requires.name
+      (ap is_oneself (sym c.input-party.ensures) ∙ sym (c.if-is_oneself.ensures))
+      (ap (channel_at (channels_of c.args.job.now)) (sym c.input-party.ensures) ∙ sym (c.in-Usr.ensures))
+      refl;
+}

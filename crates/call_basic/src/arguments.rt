@@ -1,0 +1,56 @@
+//! The arguments of a decoded call.
+ghost use Rattle.std.specs.Prelude.{◌≡◌};
+ghost use Rattle.its_plain.specs.Arguments.{has_input, input, place_of_input};
+ghost use Rattle.its_plain.specs.Footprint.{among, is_shared, times};
+
+use its_word::{Ask, Word};
+
+/// The value of an input; 0 where there is none.
+pub(crate) fn input(ask: &Ask, k: usize) -> Word
+    ensures { result ≡ input ask.now k }
+{
+    match ask.inputs.get(k) {
+        Some(operand) => operand.value,
+        None => Word::ZERO,
+    }
+}
+
+/// The address of the word of an input; None where it is immediate or there is none.
+pub(crate) fn place_of_input(ask: &Ask, k: usize) -> Option<u32>
+    ensures { result ≡ place_of_input ask.now k }
+{
+    match ask.inputs.get(k) {
+        Some(operand) => operand.place,
+        None => None,
+    }
+}
+
+/// Whether there is such an input.
+pub(crate) fn has_input(ask: &Ask, k: usize) -> bool
+    ensures { result ≡ has_input ask.now k }
+{
+    ask.inputs.get(k).is_some()
+}
+
+/// How often a place stands among some.
+#[tactic(auto, unfolding(its_plain::specs::Footprint::times))]
+fn times(place: u32, places: &[u32]) -> usize
+    ensures { result ≡ times place places.now }
+{
+    places.iter().filter(|p| **p == place).count()
+}
+
+/// Whether a place stands among some.
+fn among(place: u32, places: &[u32]) -> bool
+    ensures { result ≡ among place places.now }
+{
+    places.iter().any(|p| *p == place)
+}
+
+/// Whether the word of an input is a decode word too, or that of another input or control argument.
+#[tactic(auto, unfolding(its_plain::specs::Footprint::is_shared))]
+pub(crate) fn is_shared(place: u32, ask: &Ask) -> bool
+    ensures { result ≡ is_shared place ask.now }
+{
+    among(place, &ask.decode) || times(place, &ask.operand) > 1
+}

@@ -1,0 +1,116 @@
+ghost use Rattle.std.specs.Prelude.{◌≡◌, ◌<◌, true, not, is_some, IfSome, ◌∷◌, [], None, Some};
+ghost use Rattle.its_word.specs.Limits.{slots};
+ghost use Rattle.its_frame.specs.declared.decision.Decision.TheVariants.{Gone};
+ghost use Rattle.its_jobs.specs.Table.{job_at, superior_at};
+ghost use Rattle.its_plain.specs.CallBasic.{told_superior};
+ghost use Rattle.its_plain.specs.CallStep.{decision};
+ghost use Rattle.its_plain.specs.Decide.{decided, reached_by, target};
+ghost use Rattle.its_world.specs.World.{raw_at, state_of};
+ghost use Rattle.call_basic.specs.Seen.{is_waiting, raw_with, seen_by};
+
+use super::arguments::input;
+use super::dismiss::dismiss;
+use super::ends::{fails, ioc};
+use super::names::call_named;
+use super::party::{channel, is_oneself};
+use super::sleep::sleep;
+use super::usrvar::usrvar;
+use arrayvec::ArrayVec;
+use its_frame::{CallName, Change, Decision, Wait};
+use its_word::{Ask, Channel, Job, Word};
+use its_world::World;
+
+/// What the call of a slot's job comes to. An error of its decoding comes first.
+pub fn decide(w: &World, slot: u8, ask: &Ask) -> Decision
+    requires slot { slot < slots }
+    requires job { is_some (job_at w.now.jobs slot) ≡ true }
+    ensures { IfSome (raw_at w.now.core w.now.jobs slot) (λ q. result ≡ decision (state_of w.now).raw slot q ask.now) }
+{
+    match w.jobs.job(slot) {
+        Some(job) => decided(w, slot, job, ask),
+        None => unreachable!(),
+    }
+}
+
+/// Whether the call of a slot's job can go on.
+pub fn ready(w: &World, slot: u8, ask: &Ask) -> bool
+    requires slot { slot < slots }
+    requires job { is_some (job_at w.now.jobs slot) ≡ true }
+    ensures { IfSome (raw_at w.now.core w.now.jobs slot) (λ q. result ≡ not (is_waiting (decision (state_of w.now).raw slot q ask.now))) }
+{
+    match decide(w, slot, ask) {
+        Decision::Waits(_) => false,
+        _ => true,
+    }
+}
+
+/// The slot of the job into which the call of a slot's job reaches, through an open channel on it.
+#[tactic(auto, using(crate::proofs::RawLaws::target_here))]
+pub fn target_of(w: &World, slot: u8, ask: &Ask) -> Option<u8>
+    requires slot { slot < slots }
+    requires job { is_some (job_at w.now.jobs slot) ≡ true }
+    ensures { IfSome (raw_at w.now.core w.now.jobs slot) (λ q. result ≡ target q ask.now) }
+{
+    match w.jobs.job(slot) {
+        Some(job) => target(w, slot, job, ask),
+        None => unreachable!(),
+    }
+}
+
+/// The same, by the job's registers.
+#[tactic(auto, unfolding(its_plain::specs::Decide::target))]
+fn target(w: &World, slot: u8, job: &Job, ask: &Ask) -> Option<u8>
+    ensures { result ≡ target (raw_with w.now slot job.now) ask.now }
+{
+    if ask.fail != 0 {
+        return None;
+    }
+    match call_named(ask.name) {
+        Some(CallName::Usrvar) => reached(w, slot, job, input(ask, 0)),
+        _ => None,
+    }
+}
+
+/// The slot of the job that a job argument names, other than oneself.
+fn reached(w: &World, slot: u8, job: &Job, party: Word) -> Option<u8>
+    ensures { result ≡ reached_by (raw_with w.now slot job.now) party }
+{
+    if is_oneself(party) {
+        return None;
+    }
+    match channel(job, party) {
+        Channel::Usr { slot: inferior, .. } => Some(inferior),
+        _ => None,
+    }
+}
+
+/// What the call of a job with these registers comes to.
+#[tactic(auto, unfolding(its_plain::specs::Decide::decided, its_plain::specs::View::view, its_world::specs::World::state_of))]
+fn decided(w: &World, slot: u8, job: &Job, ask: &Ask) -> Decision
+    requires { slot < slots }
+    ensures { result ≡ decided (seen_by w.now slot job.now ask.now) ask.now }
+{
+    if ask.fail != 0 {
+        return fails(job, ask, ask.fail);
+    }
+    match call_named(ask.name) {
+        Some(CallName::Hang) => Decision::Waits(Wait::Hang),
+        Some(CallName::Sleep) => sleep(w, slot, job, ask),
+        Some(CallName::Dismis) => dismiss(w, slot, job, ask),
+        Some(CallName::Usrvar) => usrvar(w, slot, job, ask),
+        Some(CallName::Logout) => logout(w, slot),
+        Some(CallName::Iot) => ioc(job),
+        _ => fails(job, ask, 1),
+    }
+}
+
+/// LOGOUT: the job and all jobs below it are removed, and INF is set in its superior.
+fn logout(w: &World, slot: u8) -> Decision
+    ensures { result ≡ Gone (record { items = told_superior (superior_at w.now.jobs slot) }) }
+{
+    let mut changes = ArrayVec::new();
+    if let Some(superior) = w.jobs.superior(slot) {
+        changes.push(Change::Inform { slot: superior });
+    }
+    Decision::Gone { changes }
+}

@@ -1,0 +1,132 @@
+//! The ways in which a call ends.
+ghost use Rattle.std.specs.Prelude.{◌≡◌, ◌<◌, ◌+◌, ◌%◌, ◌^◌, [], ◌∷◌};
+ghost use Rattle.its_frame.specs.declared.decision.Decision.TheVariants.{Ends};
+ghost use Rattle.its_plain.specs.Job.{bit_of, with_pending, IOC as IOC_BIT};
+ghost use Rattle.its_plain.specs.Own.{advanced, exit_of};
+ghost use Rattle.its_plain.specs.Tests.{number_at};
+
+use arrayvec::ArrayVec;
+use its_frame::{Change, Decision, Exit, Store};
+use its_word::{Ask, BYTE_HALF, Fault, ILO, IOC, Job, MPV, WRO, Word};
+
+/// How many addresses there are; PC is taken modulo it.
+const ADDRESSES: u32 = 0o1000000;
+
+/// The registers of a job as they stand.
+pub(crate) fn exit_of(job: &Job) -> Exit
+    ensures { result ≡ exit_of job.now }
+{
+    Exit {
+        pc: job.pc,
+        flags: job.flags,
+        pend1: job.pend1,
+        pend2: job.pend2,
+        mask1: job.mask1,
+        mask2: job.mask2,
+        defer1: job.defer1,
+        defer2: job.defer2,
+    }
+}
+
+/// The PC so many words further.
+fn pc_after(pc: u32, words: u32) -> u32
+    requires { words < 2 ^ 18 }
+    ensures { result ≡ (pc + words) % 2 ^ 18 }
+{
+    (pc % ADDRESSES + words) % ADDRESSES
+}
+
+/// The registers of a job whose call is over: PC some words further, first part done cleared.
+pub(crate) fn exit_after(job: &Job, words: u32) -> Exit
+    requires { words < 2 ^ 18 }
+    ensures { result ≡ exit_of (advanced words job.now) }
+{
+    Exit {
+        pc: pc_after(job.pc, words),
+        flags: job.flags - (job.flags & BYTE_HALF),
+        ..exit_of(job)
+    }
+}
+
+/// A store of a word, where there is an address for it.
+pub(crate) fn store_at(place: Option<u32>, word: Word) -> ArrayVec<Store, 2>
+    ensures { result ≡ record { items = number_at place word } }
+{
+    let mut stores = ArrayVec::new();
+    if let Some(at) = place {
+        stores.push(Store { at, word });
+    }
+    stores
+}
+
+/// The call ends with these stores and registers, and changes nothing else.
+pub(crate) fn ends(stores: ArrayVec<Store, 2>, exit: Exit) -> Decision
+    ensures { result ≡ Ends (record { items = [] }) stores exit }
+{
+    Decision::Ends {
+        changes: ArrayVec::new(),
+        stores,
+        exit,
+    }
+}
+
+/// The call finishes: PC past it and the instruction after it.
+pub(crate) fn finishes(job: &Job, stores: ArrayVec<Store, 2>) -> Decision
+    ensures { result ≡ Ends (record { items = [] }) stores (exit_of (advanced 2 job.now)) }
+{
+    ends(stores, exit_after(job, 2))
+}
+
+/// The call finishes, and does one thing outside its job's words and registers.
+pub(crate) fn finishes_with(job: &Job, change: Change, stores: ArrayVec<Store, 2>) -> Decision
+    ensures { result ≡ Ends (record { items = change ∷ [] }) stores (exit_of (advanced 2 job.now)) }
+{
+    let mut changes = ArrayVec::new();
+    changes.push(change);
+    Decision::Ends {
+        changes,
+        stores,
+        exit: exit_after(job, 2),
+    }
+}
+
+/// The call fails: the number is stored at its error address, where it has one, and PC is past the call.
+pub(crate) fn fails(job: &Job, ask: &Ask, number: u8) -> Decision
+    ensures { result ≡ Ends (record { items = [] }) (record { items = number_at ask.now.error number }) (exit_of (advanced 1 job.now)) }
+{
+    let stores = store_at(ask.error, Word::new(u64::from(number)));
+    ends(stores, exit_after(job, 1))
+}
+
+/// The bit of a fault.
+fn bit_of(fault: Fault) -> Word
+    ensures { result ≡ bit_of fault }
+{
+    match fault {
+        Fault::Mpv => Word::new(MPV),
+        Fault::Wro => Word::new(WRO),
+        Fault::Ilo => Word::new(ILO),
+    }
+}
+
+/// The call faults: the bit is pending, and PC stays.
+pub(crate) fn faults(job: &Job, fault: Fault) -> Decision
+    ensures { result ≡ Ends (record { items = [] }) (record { items = [] }) (exit_of (with_pending job.now (bit_of fault))) }
+{
+    let exit = Exit {
+        pend1: job.pend1 | bit_of(fault),
+        ..exit_of(job)
+    };
+    ends(ArrayVec::new(), exit)
+}
+
+/// `.IOT` fails: IOC is pending, and PC is past the call.
+pub(crate) fn ioc(job: &Job) -> Decision
+    ensures { result ≡ Ends (record { items = [] }) (record { items = [] }) (exit_of (with_pending (advanced 1 job.now) IOC_BIT)) }
+{
+    let exit = Exit {
+        pend1: job.pend1 | Word::new(IOC),
+        ..exit_after(job, 1)
+    };
+    ends(ArrayVec::new(), exit)
+}

@@ -1,0 +1,463 @@
+ghost use Rattle.std.specs.Prelude.{◌≡◌, None, OnOk};
+ghost use Rattle.its_core.specs.Cores.{reserved_at};
+
+use super::{decide, ready, target_of};
+use arrayvec::ArrayVec;
+use its_core::Core;
+use its_frame::{Change, Decision, Exit, Store, Variable, Wait};
+use its_jobs::Jobs;
+use its_word::{Ask, BYTE_HALF, Channel, Operand, Word};
+use its_world::World;
+use std::alloc::Global;
+use std::process::Abort;
+use std::test::Fail;
+
+/// Makes a page of slot 1.
+#[tactic(auto, unfolding(its_core::specs::Cores::core_at))]
+fn make_page(rt: &impl Abort, core: &mut Core, page: u8) -> Result<(), Fail>
+    requires { reserved_at core.old 1 ≡ None }
+    ensures { OnOk result (reserved_at core.new 1 ≡ None) }
+{
+    assert!(rt; core.page(1, page).is_none());
+    core.reserve(1);
+    core.clear_quarter(1, 0);
+    core.clear_quarter(1, 1);
+    core.clear_quarter(1, 2);
+    core.clear_quarter(1, 3);
+    core.map(1, 1, page)?;
+    Ok(())
+}
+
+/// Cores of which that of slot 1 has pages 0 and 2, of which 2 is read only, and a stack at 500 with what a
+/// delivery pushed.
+fn cores(rt: &impl Abort, alloc: Global) -> Result<Core, Fail> {
+    let mut core = Core::open(alloc)?;
+    make_page(rt, &mut core, 0)?;
+    make_page(rt, &mut core, 2)?;
+    for (a, v) in [
+        (0o17, 0o777700_000505),
+        (0o503, 0o1004),
+        (0o504, 0o2000),
+        (0o505, 0o410000_000202),
+    ] {
+        assert!(rt; a <= 0o777777);
+        assert_eq!(rt; core.put(1, a, Word::new(v)), Ok(()));
+    }
+    assert!(rt; core.page(1, 2).is_some());
+    core.protect(1, 2, false);
+    Ok(core)
+}
+
+/// Jobs of slots 0, 1 and 2, each the superior of the next. Of slot 1 channel 0 is on slot 2 with leave to
+/// write, channel 1 without, and channel 2 is a console's input.
+fn jobs(rt: &impl Abort, alloc: Global) -> Result<Jobs, Fail> {
+    let mut jobs = Jobs::open(alloc)?;
+    for (slot, superior) in [None, Some(0), Some(1)].into_iter().enumerate() {
+        if let Some(s) = superior {
+            assert!(rt; s < 64);
+            assert!(rt; jobs.job(s).is_some());
+        }
+        let made = jobs.create(Word::new(7), Word::new(slot as u64), superior, Some(3))?;
+        assert_eq!(rt; made, slot as u8);
+    }
+    if let Some(job) = jobs.job_mut(1) {
+        job.pc = 0o200;
+        job.flags = BYTE_HALF + 0o40;
+        job.mask1 = Word::new(5);
+        job.channels[0] = Channel::Usr {
+            slot: 2,
+            write: true,
+            at: 0,
+        };
+        job.channels[1] = Channel::Usr {
+            slot: 2,
+            write: false,
+            at: 0,
+        };
+        job.channels[2] = Channel::TtyIn;
+    }
+    Ok(jobs)
+}
+
+/// A world of these at clock 100 (decimal).
+fn world(rt: &impl Abort, alloc: Global) -> Result<World, Fail> {
+    let mut w = World::open(alloc)?;
+    w.core = cores(rt, alloc)?;
+    w.jobs = jobs(rt, alloc)?;
+    w.clock = 100;
+    Ok(w)
+}
+
+/// A call of this name with these inputs and outputs, and 300 as its error address.
+fn ask(rt: &impl Abort, name: u64, inputs: &[(u64, Option<u32>)], outputs: &[u32]) -> Ask {
+    let mut ask = Ask {
+        name: Word::new(name),
+        fail: 0,
+        inputs: ArrayVec::new(),
+        outputs: ArrayVec::new(),
+        error: Some(0o300),
+        control: None,
+        decode: ArrayVec::new(),
+        operand: ArrayVec::new(),
+    };
+    for (value, place) in inputs {
+        let operand = Operand {
+            value: Word::new(*value),
+            place: *place,
+        };
+        assert!(rt; ask.inputs.try_push(operand).is_ok());
+        if let Some(p) = place {
+            assert!(rt; ask.operand.try_push(*p).is_ok());
+        }
+    }
+    for p in outputs {
+        assert!(rt; ask.outputs.try_push(*p).is_ok());
+    }
+    ask
+}
+
+/// The registers of slot 1 at a PC, with bits pending; first part done is off unless PC stayed.
+fn exit(pc: u32, pend1: u64) -> Exit {
+    Exit {
+        pc,
+        flags: if pc == 0o200 { BYTE_HALF + 0o40 } else { 0o40 },
+        pend1: Word::new(pend1),
+        pend2: Word::ZERO,
+        mask1: Word::new(5),
+        mask2: Word::ZERO,
+        defer1: Word::ZERO,
+        defer2: Word::ZERO,
+    }
+}
+
+/// The call ends with these changes, at most one store, and these registers.
+fn ends(rt: &impl Abort, change: Option<Change>, stores: &[(u32, u64)], exit: Exit) -> Decision {
+    let mut changes = ArrayVec::new();
+    if let Some(c) = change {
+        changes.push(c);
+    }
+    let mut made = ArrayVec::new();
+    for (at, word) in stores {
+        let store = Store {
+            at: *at,
+            word: Word::new(*word),
+        };
+        assert!(rt; made.try_push(store).is_ok());
+    }
+    Decision::Ends {
+        changes,
+        stores: made,
+        exit,
+    }
+}
+
+const HANG: u64 = 0o504156470000;
+
+const SLEEP: u64 = 0o635445456000;
+
+const DISMIS: u64 = 0o445163555163;
+
+const USRVAR: u64 = 0o656362664162;
+
+const LOGOUT: u64 = 0o545747576564;
+
+const OPEN: u64 = 0o576045560000;
+
+const IOT: u64 = 0o515764000000;
+
+const MASK: u64 = 0o554163530000;
+
+const UPC: u64 = 0o656043000000;
+
+const USTP: u64 = 0o656364600000;
+
+const UIND: u64 = 0o655156440000;
+
+const SUPPRO: u64 = 0o636560606257;
+
+const PAGES: u64 = 0o604147456300;
+
+const SELF: u64 = 0o777777;
+
+/// What a call of slot 1 is expected to come to.
+#[derive(Clone, Copy)]
+enum Want {
+    /// It waits.
+    Waits(Wait),
+    /// A sleep begins: the new value of its argument.
+    Goes(u64),
+    /// It finishes, with the value that its output gets where it has one.
+    Finishes(Option<(u32, u64)>),
+    /// It fails with a number.
+    Fails(u64),
+    /// IOC is set.
+    Iot,
+    /// It faults with a bit of pending word 1.
+    Faults(u64),
+    /// It finishes and sets a variable of slot 2.
+    Sets(Variable, u64),
+}
+
+/// The same as a decision.
+fn wanted(rt: &impl Abort, want: Want) -> Decision {
+    match want {
+        Want::Waits(reason) => Decision::Waits(reason),
+        Want::Goes(value) => {
+            let mut values = ArrayVec::new();
+            values.push(Word::new(value));
+            Decision::Goes {
+                changes: ArrayVec::new(),
+                held: None,
+                values,
+            }
+        }
+        Want::Finishes(Some(store)) => ends(rt, None, &[store], exit(0o202, 0)),
+        Want::Finishes(None) => ends(rt, None, &[], exit(0o202, 0)),
+        Want::Fails(number) => ends(rt, None, &[(0o300, number)], exit(0o201, 0)),
+        Want::Iot => ends(rt, None, &[], exit(0o201, 0o20)),
+        Want::Faults(bit) => ends(rt, None, &[], exit(0o200, bit)),
+        Want::Sets(variable, value) => {
+            let change = Change::Set {
+                slot: 2,
+                variable,
+                value: Word::new(value),
+            };
+            ends(rt, Some(change), &[], exit(0o202, 0))
+        }
+    }
+}
+
+/// Each call at its errors, in waiting and as it finishes; whether it is ready, and whom it reaches into.
+#[test]
+fn calls(rt: HostRuntime) -> Result<(), Fail> {
+    let w = world(&rt, rt.alloc())?;
+    assert!(rt; w.jobs.job(1).is_some());
+    let none: [u32; 0] = [];
+    let out = [0o310];
+    for (name, inputs, outputs, want, target) in [
+        (HANG, &[][..], &none[..], Want::Waits(Wait::Hang), None),
+        (
+            SLEEP,
+            &[(0, None)][..],
+            &none[..],
+            Want::Finishes(None),
+            None,
+        ),
+        (
+            SLEEP,
+            &[(50, Some(0o320))][..],
+            &none[..],
+            Want::Goes(0o777777777552),
+            None,
+        ),
+        (
+            SLEEP,
+            &[(0o200000000000, Some(0o320))][..],
+            &none[..],
+            Want::Goes(0o577777777634),
+            None,
+        ),
+        (
+            SLEEP,
+            &[(0o200000000001, Some(0o320))][..],
+            &none[..],
+            Want::Fails(0o22),
+            None,
+        ),
+        (SLEEP, &[(50, None)][..], &none[..], Want::Fails(0o17), None),
+        (
+            SLEEP,
+            &[(50, Some(0o320)), (50, Some(0o320))][..],
+            &none[..],
+            Want::Fails(0o17),
+            None,
+        ),
+        (
+            SLEEP,
+            &[(50, Some(0o4000))][..],
+            &none[..],
+            Want::Faults(0o10),
+            None,
+        ),
+        (
+            SLEEP,
+            &[(50, Some(0o1000000))][..],
+            &none[..],
+            Want::Faults(0o10),
+            None,
+        ),
+        (
+            SLEEP,
+            &[(0o777777777634, None)][..],
+            &none[..],
+            Want::Finishes(None),
+            None,
+        ),
+        (
+            SLEEP,
+            &[(0o777777777633, None)][..],
+            &none[..],
+            Want::Waits(Wait::Clock),
+            None,
+        ),
+        (DISMIS, &[(0, None)][..], &none[..], Want::Fails(0o17), None),
+        (
+            DISMIS,
+            &[(0, Some(0o2000))][..],
+            &none[..],
+            Want::Faults(0o4),
+            None,
+        ),
+        (
+            DISMIS,
+            &[(0, Some(0o1000017))][..],
+            &none[..],
+            Want::Faults(0o4),
+            None,
+        ),
+        (
+            DISMIS,
+            &[(0, Some(0o4000))][..],
+            &none[..],
+            Want::Faults(0o4),
+            None,
+        ),
+        (
+            USRVAR,
+            &[(SELF, None), (MASK, None)][..],
+            &out[..],
+            Want::Finishes(Some((0o310, 5))),
+            None,
+        ),
+        (
+            USRVAR,
+            &[(SELF, None), (PAGES, None)][..],
+            &out[..],
+            Want::Finishes(Some((0o310, 2))),
+            None,
+        ),
+        (
+            USRVAR,
+            &[(SELF, None), (SUPPRO, None)][..],
+            &out[..],
+            Want::Finishes(Some((0o310, 0))),
+            None,
+        ),
+        (
+            USRVAR,
+            &[(SELF, None), (UPC, None), (7, None)][..],
+            &out[..],
+            Want::Fails(0o22),
+            None,
+        ),
+        (
+            USRVAR,
+            &[(SELF, None), (USTP + 1, None)][..],
+            &out[..],
+            Want::Fails(0o22),
+            None,
+        ),
+        (
+            USRVAR,
+            &[(0o20, None), (MASK, None)][..],
+            &out[..],
+            Want::Fails(0o4),
+            None,
+        ),
+        (
+            USRVAR,
+            &[(3, None), (MASK, None)][..],
+            &out[..],
+            Want::Fails(0o4),
+            None,
+        ),
+        (
+            USRVAR,
+            &[(2, None), (MASK, None)][..],
+            &out[..],
+            Want::Fails(0o5),
+            None,
+        ),
+        (
+            USRVAR,
+            &[(1, None), (MASK, None), (7, None)][..],
+            &out[..],
+            Want::Fails(0o5),
+            Some(2),
+        ),
+        (
+            USRVAR,
+            &[(1, None), (SUPPRO, None)][..],
+            &out[..],
+            Want::Finishes(Some((0o310, 1))),
+            Some(2),
+        ),
+        (
+            USRVAR,
+            &[(0, None), (UIND, None), (7, None)][..],
+            &out[..],
+            Want::Fails(0o22),
+            Some(2),
+        ),
+        (
+            USRVAR,
+            &[(0, None), (USTP, None), (0, None)][..],
+            &none[..],
+            Want::Sets(Variable::Ustp, 0),
+            Some(2),
+        ),
+        (IOT, &[][..], &none[..], Want::Iot, None),
+        (OPEN, &[(0, None)][..], &none[..], Want::Fails(0o1), None),
+    ] {
+        let ask = ask(&rt, name, inputs, outputs);
+        let wanted = wanted(&rt, want);
+        let is_ready = match wanted {
+            Decision::Waits(_) => false,
+            _ => true,
+        };
+        assert_eq!(rt; ready(&w, 1, &ask), is_ready, "{name:o}");
+        assert_eq!(rt; target_of(&w, 1, &ask), target, "{name:o}");
+        assert_eq!(rt; decide(&w, 1, &ask), wanted, "{name:o}");
+    }
+    Ok(())
+}
+
+/// What leaves other registers: a variable of one's own that is set, the return from a handler, a removal,
+/// and an error of the decoding of any call.
+#[test]
+fn registers(rt: HostRuntime) -> Result<(), Fail> {
+    let w = world(&rt, rt.alloc())?;
+    assert!(rt; w.jobs.job(1).is_some());
+    let set = ask(
+        &rt,
+        USRVAR,
+        &[(0o777777777777, None), (MASK, None), (6, None)],
+        &[0o310],
+    );
+    let left = Exit {
+        mask1: Word::new(6),
+        ..exit(0o202, 0)
+    };
+    assert_eq!(rt; decide(&w, 1, &set), ends(&rt, None, &[(0o310, 5)], left));
+    let back = ask(&rt, DISMIS, &[(0o777700_000505, Some(0o17))], &[]);
+    let left = Exit {
+        flags: 0o400000,
+        defer1: Word::new(0o1004),
+        defer2: Word::new(0o2000),
+        ..exit(0o202, 0)
+    };
+    assert_eq!(rt;
+        decide(&w, 1, &back),
+        ends(&rt, None, &[(0o17, 0o777673_000500)], left)
+    );
+    let mut out = ask(&rt, LOGOUT, &[], &[]);
+    let mut changes = ArrayVec::new();
+    changes.push(Change::Inform { slot: 0 });
+    assert_eq!(rt; decide(&w, 1, &out), Decision::Gone { changes });
+    out.fail = 2;
+    assert_eq!(rt;
+        decide(&w, 1, &out),
+        ends(&rt, None, &[(0o300, 2)], exit(0o201, 0))
+    );
+    Ok(())
+}

@@ -1,0 +1,136 @@
+ghost use Rattle.std.specs.Prelude.{◌≡◌, ◌<◌, Some};
+ghost use Rattle.its_word.specs.Limits.{slots};
+ghost use Rattle.its_frame.specs.declared.name.CallName.TheVariants.{Usrvar};
+ghost use Rattle.its_plain.specs.Arguments.{has_input, input};
+ghost use Rattle.its_plain.specs.CallBasic.{other_variable, own_variable, set_other, set_own, usrvar, value_of_other, variable_named};
+ghost use Rattle.its_plain.specs.Decide.{call_named as call_named_by, target};
+ghost use Rattle.its_plain.specs.Own.{advanced, exit_of};
+ghost use Rattle.its_plain.specs.Tests.{out};
+ghost use Rattle.its_frame.specs.declared.decision.Decision.TheVariants.{Ends};
+ghost use Rattle.its_world.specs.World.{raw_at};
+ghost use Rattle.call_basic.specs.Seen.{raw_with, seen_by};
+
+use super::arguments::{has_input, input};
+use super::ends::{ends, fails, finishes, finishes_with, store_at};
+use super::names::variable_named;
+use super::party::{channel, is_oneself};
+use super::variables::{by_oneself, by_superior, exit_with, variable_of};
+use arrayvec::ArrayVec;
+use its_frame::{Change, Decision, Store, Variable};
+use its_word::{Ask, Channel, Job, Word};
+use its_world::World;
+
+/// USRVAR job, name, optional new value: the output gets the value before, and then the new value is set.
+/// Errors 4 where the channel is closed, 5 where it is on no job, 22 where no variable has the name, 5
+/// where the channel has no leave to write, and 22 where the variable cannot be set so.
+#[tactic(auto, using(crate::proofs::ReachLaws::reaches), unfolding(its_plain::specs::CallBasic::usrvar, its_plain::specs::View::view, its_world::specs::World::state_of))]
+pub(crate) fn usrvar(w: &World, slot: u8, job: &Job, ask: &Ask) -> Decision
+    requires slot { slot < slots }
+    requires fail { ask.now.fail ≡ 0 }
+    requires name { call_named_by ask.now.name ≡ Some Usrvar }
+    ensures { result ≡ usrvar (seen_by w.now slot job.now ask.now) ask.now }
+{
+    let party = input(ask, 0);
+    if is_oneself(party) {
+        return own_variable(w, slot, job, ask);
+    }
+    match channel(job, party) {
+        Channel::Usr {
+            slot: inferior,
+            write,
+            ..
+        } => other_variable(w, slot, job, ask, inferior, write),
+        Channel::TtyIn => fails(job, ask, 0o5),
+        Channel::TtyOut => fails(job, ask, 0o5),
+        Channel::Closed => fails(job, ask, 0o4),
+        Channel::Reading { .. } => fails(job, ask, 0o4),
+        Channel::Writing { .. } => fails(job, ask, 0o4),
+    }
+}
+
+/// The store of a value into the output, where there is one.
+fn output(ask: &Ask, value: Word) -> ArrayVec<Store, 2>
+    ensures { result ≡ record { items = out ask.now.outputs.items value } }
+{
+    store_at(ask.outputs.first().copied(), value)
+}
+
+/// USRVAR on oneself.
+#[tactic(auto, unfolding(its_plain::specs::View::view, its_world::specs::World::state_of))]
+fn own_variable(w: &World, slot: u8, job: &Job, ask: &Ask) -> Decision
+    requires { slot < slots }
+    ensures { result ≡ own_variable (seen_by w.now slot job.now ask.now) ask.now (variable_named (input ask.now 1)) }
+{
+    let Some(variable) = variable_named(input(ask, 1)) else {
+        return fails(job, ask, 0o22);
+    };
+    if has_input(ask, 2) && !by_oneself(variable) {
+        return fails(job, ask, 0o22);
+    }
+    set_own(w, slot, job, ask, variable)
+}
+
+/// The output gets the value of a variable of one's own, and then the new value is set, where there is one.
+#[tactic(auto, using(crate::proofs::BareLaws::set_bare), unfolding(its_plain::specs::View::view, its_world::specs::World::state_of))]
+fn set_own(w: &World, slot: u8, job: &Job, ask: &Ask, variable: Variable) -> Decision
+    requires { slot < slots }
+    ensures { result ≡ set_own (seen_by w.now slot job.now ask.now) ask.now variable (has_input ask.now 2) }
+{
+    let stores = output(ask, variable_of(w, slot, job, variable));
+    if has_input(ask, 2) {
+        ends(stores, exit_with(job, variable, input(ask, 2)))
+    } else {
+        finishes(job, stores)
+    }
+}
+
+/// USRVAR through a channel on an inferior.
+#[tactic(auto, unfolding(its_plain::specs::View::view, its_world::specs::World::state_of))]
+fn other_variable(w: &World, slot: u8, job: &Job, ask: &Ask, inferior: u8, write: bool) -> Decision
+    requires target { target (raw_with w.now slot job.now) ask.now ≡ Some inferior }
+    ensures { result ≡ other_variable (seen_by w.now slot job.now ask.now) ask.now inferior write (variable_named (input ask.now 1)) }
+{
+    let Some(variable) = variable_named(input(ask, 1)) else {
+        return fails(job, ask, 0o22);
+    };
+    if has_input(ask, 2) && !write {
+        return fails(job, ask, 0o5);
+    }
+    if has_input(ask, 2) && !by_superior(variable) {
+        return fails(job, ask, 0o22);
+    }
+    let stores = output(ask, value_of_other(w, inferior, variable));
+    set_other(job, ask, inferior, variable, stores)
+}
+
+/// The value of a variable of an inferior.
+#[tactic(auto, using(crate::proofs::ReachLaws::value_some, crate::proofs::ReachLaws::value_none))]
+fn value_of_other(w: &World, inferior: u8, variable: Variable) -> Word
+    ensures { result ≡ value_of_other inferior variable (raw_at w.now.core w.now.jobs inferior) }
+{
+    match w.jobs.job(inferior) {
+        Some(job) => variable_of(w, inferior, job, variable),
+        None => Word::ZERO,
+    }
+}
+
+/// The call finishes with these stores, and sets a variable of an inferior where there is a new value.
+fn set_other(
+    job: &Job,
+    ask: &Ask,
+    inferior: u8,
+    variable: Variable,
+    stores: ArrayVec<Store, 2>,
+) -> Decision
+    ensures { result ≡ Ends (record { items = set_other inferior variable (input ask.now 2) (has_input ask.now 2) }) stores (exit_of (advanced 2 job.now)) }
+{
+    if !has_input(ask, 2) {
+        return finishes(job, stores);
+    }
+    let change = Change::Set {
+        slot: inferior,
+        variable,
+        value: input(ask, 2),
+    };
+    finishes_with(job, change, stores)
+}

@@ -1,0 +1,5 @@
+use Rattle.its_core.proofs.ReadLaws.{listed_seen}
+use Rattle.its_core.proofs.cores.Core.mapped.Goals as goal
+
+pub returns-clause-listed : goal.returns-clause-listed
+returns-clause-listed c = rw (← c.self.view_is) (listed_seen _ _ _ _ _ _ c.self.invariant)

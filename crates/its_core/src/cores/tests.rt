@@ -1,0 +1,65 @@
+ghost use Rattle.std.specs.Prelude.{◌≡◌, ◌≢◌, ◌<◌, ℕ, None};
+ghost use Rattle.its_word.specs.Limits.{slots};
+ghost use Rattle.its_core.specs.Cores.{reserved_at};
+
+use super::*;
+use crate::tests::clear_page;
+use std::test::Fail;
+
+/// The frame behind a frame, in whichever list that stands; None where it ends a list or stands in
+/// none.
+fn behind(core: &Core, frame: u32) -> Option<u32>
+    requires { frame < 1088 }
+{
+    if core.lists.linked(frame) {
+        core.lists.next(frame)
+    } else {
+        None
+    }
+}
+
+/// Makes an absent page of a slot that has none reserved, where it can.
+fn add_page(core: &mut Core, slot: u8, page: u8)
+    requires slot { slot < slots }
+    requires none { reserved_at core.old slot ≡ None }
+    ensures none { reserved_at core.new slot ≡ None }
+    ensures others { (k : ℕ) → k ≢ slot → reserved_at core.new k ≡ reserved_at core.old k }
+{
+    if core.page(slot, page).is_none() {
+        clear_page(core, slot);
+        if core.map(slot, slot, page).is_err() {
+            core.give_back(slot);
+        }
+    }
+}
+
+#[test]
+#[tactic(auto, using(crate::proofs::CoresLaws::same_reserved_at))]
+fn frames_are_taken_and_given_up_in_order(rt: HostRuntime) -> Result<(), Fail> {
+    let mut core = Core::open(rt.alloc())?;
+    assert_eq!(rt; core.lists.front(FREE), Some(0));
+    assert_eq!(rt; behind(&core, 0), Some(1));
+    assert_eq!(rt; behind(&core, 1087), None);
+    add_page(&mut core, 6, 9);
+    add_page(&mut core, 6, 3);
+    core.reserve(7);
+    assert_eq!(rt; core.lists.front(FREE), Some(3));
+    assert_eq!(rt; core.lists.front(list_of(6)), Some(0));
+    assert_eq!(rt; behind(&core, 0), Some(1));
+    assert_eq!(rt; behind(&core, 1), None);
+    assert!(rt; !core.lists.linked(2));
+    assert!(rt; core.page(6, 9).is_some());
+    core.unmap(6, 9);
+    core.give_back(7);
+    assert_eq!(rt; behind(&core, 1087), Some(0));
+    assert_eq!(rt; behind(&core, 0), Some(2));
+    add_page(&mut core, 6, 9);
+    assert_eq!(rt; core.lists.front(list_of(6)), Some(1));
+    assert_eq!(rt; behind(&core, 1), Some(3));
+    core.drop_all(6);
+    assert_eq!(rt; core.lists.front(list_of(6)), None);
+    assert_eq!(rt; behind(&core, 2), Some(1));
+    assert_eq!(rt; behind(&core, 1), Some(3));
+    assert_eq!(rt; behind(&core, 3), None);
+    Ok(())
+}

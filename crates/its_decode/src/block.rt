@@ -1,0 +1,104 @@
+//! The block of a call.
+ghost use Rattle.std.specs.Prelude.{◌≡◌, ◌+◌, ◌%◌, ◌^◌, ◌<◌, ◌≤◌, ◌&&◌, length, nat_lt, drop, IfOk};
+ghost use Rattle.std.specs.List.{list_all};
+ghost use Rattle.its_core.specs.Cores.{core_at};
+ghost use Rattle.its_word.specs.Limits.{slots};
+ghost use Rattle.its_plain.specs.UnitPlan.{read_of};
+ghost use Rattle.its_plain.specs.Decode.{argument_words, block_at, checked, has_bit_0, is_legal, parsed, type_of, words_of};
+
+use arrayvec::ArrayVec;
+use its_core::Core;
+use its_word::{ADDRESSES, Block, Fault, Site, Word};
+
+/// How many argument words of a block are read.
+const ARGUMENTS: u32 = 8;
+
+/// Bit 0 of a word.
+pub fn has_bit_0(w: Word) -> bool
+    ensures { result ≡ has_bit_0 w }
+{
+    w.value() >> 35 == 1
+}
+
+/// The type of an argument word.
+pub fn argument_type(w: Word) -> u32
+    ensures { result ≡ type_of w }
+{
+    (w.value() >> 27 & 7) as u32
+}
+
+/// The word at an address modulo 2^18; Mpv where it is absent.
+#[tactic(auto, unfolding(its_plain::specs::UnitPlan::read_of))]
+fn read(core: &Core, slot: u8, a: u32) -> Result<Word, Fault>
+    requires { slot < slots }
+    ensures { result ≡ read_of (core_at core.now slot) (a % 2 ^ 18) }
+{
+    core.get(slot, a % ADDRESSES).map_err(|_| Fault::Mpv)
+}
+
+/// A block with its argument words, which begin at an address.
+#[tactic(auto, using(crate::proofs::BlockLaws::words_more, crate::proofs::BlockLaws::words_last, crate::proofs::BlockLaws::words_absent, crate::proofs::BlockLaws::words_over))]
+fn read_words(core: &Core, slot: u8, a: u32, mut block: Block) -> Result<Block, Fault>
+    requires slot { slot < slots }
+    requires address { a < 2 ^ 19 }
+    requires room { length block.items ≤ 2 }
+    ensures words { result ≡ (argument_words 8 (core_at core.now slot) a block.items).answer }
+    ensures more { IfOk result (λ b. length block.items ≤ length b.items) }
+{
+    for k in 0..ARGUMENTS {
+        let w = read(core, slot, a + k)?;
+        block.push(w);
+        if has_bit_0(w) {
+            return Ok(block);
+        }
+    }
+    Ok(block)
+}
+
+/// The block at an address; Mpv where a word of it is absent.
+#[tactic(auto, unfolding(its_plain::specs::Decode::block_at, its_plain::specs::Traced::also, its_plain::specs::Traced::word))]
+fn read_block(core: &Core, slot: u8, e: u32) -> Result<Block, Fault>
+    requires slot { slot < slots }
+    requires address { e < 2 ^ 18 }
+    ensures block { result ≡ (block_at (core_at core.now slot) e).answer }
+    ensures words { IfOk result (λ b. 2 ≤ length b.items) }
+{
+    let mut block = ArrayVec::new();
+    block.push(read(core, slot, e)?);
+    block.push(read(core, slot, e + 1)?);
+    read_words(core, slot, e + 2, block)
+}
+
+/// Whether all of these argument words have a type.
+fn have_types(words: &[Word]) -> bool
+    ensures { result ≡ list_all (λ w. nat_lt (type_of w) 6) words.now }
+{
+    words.iter().all(|w| argument_type(*w) < 6)
+}
+
+/// Whether bit 0 of a block's first word is on, and its arguments have types.
+#[tactic(auto, unfolding(its_plain::specs::Decode::is_legal))]
+fn is_legal(block: &[Word]) -> bool
+    requires { 2 ≤ length block.now }
+    ensures { result ≡ is_legal block.now }
+{
+    has_bit_0(block[0]) && have_types(&block[2..])
+}
+
+/// Reads the block of a call: its first word, its name, and argument words up to the first with bit 0
+/// on, at most 8. Mpv where a word of it is absent; else Ilo where bit 0 of the first word is off, or
+/// an argument has no type.
+#[tactic(auto, unfolding(its_plain::specs::Decode::parsed, its_plain::specs::Traced::also))]
+pub fn parse_block(core: &Core, slot: u8, site: &Site) -> Result<Block, Fault>
+    requires slot { slot < slots }
+    requires address { site.now.e < 2 ^ 18 }
+    ensures parsed { result ≡ (parsed (core_at core.now slot) site.now.e).answer }
+    ensures words { IfOk result (λ b. 2 ≤ length b.items) }
+{
+    let block = read_block(core, slot, site.e)?;
+    if is_legal(&block) {
+        Ok(block)
+    } else {
+        Err(Fault::Ilo)
+    }
+}

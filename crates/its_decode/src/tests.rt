@@ -1,0 +1,108 @@
+//! Blocks at 0, which are in the accumulators, and what comes of their decoding. Numbers are octal.
+use super::*;
+use arrayvec::ArrayVec;
+use its_core::Core;
+use its_word::{Ask, Fault, Operand, Site, Word, read_octal};
+use std::process::Abort;
+use std::test::Fail;
+
+/// The words of a block and those after it, and its error, or its fault.
+static BLOCKS: &str = "400000000000 504156470000 405000000000 = 0;
+400000000000 435457634500 1000000001 402000000002 = 3;
+400000000000 435457634500 1000000001 3000000005 403000000006 = 3;
+400000000000 435762425453 1000000001 401000777777 = 2;
+400000000000 515764000000 401000000001 = 1;
+400000000000 435457634500 0 0 0 0 0 0 0 0 400000000000 = 3;
+0 435457634500 401000000001 = ILO;
+400000000000 435457634500 407000000001 = ILO;
+400000000000 435457634500 400020000002 = ILO;
+400000000000 435457634500 401000002000 = 0;
+400000000000 435457634500 402000002000 = MPV";
+
+fn number(rt: &impl Abort, text: &str) -> Word {
+    read_octal(text.as_bytes()).expect(rt, "octal digits")
+}
+
+/// Puts words into the accumulators, from 0 on.
+fn load(rt: &impl Abort, core: &mut Core, words: &str) {
+    core.drop_all(0);
+    for (k, text) in words.split_whitespace().enumerate() {
+        if k < 16 {
+            assert!(rt; core.put(0, k as u32, number(rt, text)).is_ok());
+        }
+    }
+}
+
+/// A call at 17 whose block is at 0, decoded.
+fn decoded(core: &Core) -> Result<Ask, Fault> {
+    let mut decode = ArrayVec::new();
+    decode.push(0o17);
+    let site = Site {
+        pc: 0o17,
+        e: 0,
+        channel: None,
+        used: 0,
+        decode,
+    };
+    let block = parse_block(core, 0, &site)?;
+    fetch_ask(core, 0, &site, &block)
+}
+
+#[test]
+fn blocks(rt: HostRuntime) -> Result<(), Fail> {
+    let mut core = Core::open(rt.alloc())?;
+    for row in BLOCKS.split(';') {
+        let mut fields = row.split('=');
+        load(&rt, &mut core, fields.next().expect(&rt, "words"));
+        let told = match decoded(&core) {
+            Ok(ask) => number(&rt, fields.next().expect(&rt, "an error").trim())
+                == Word::new(u64::from(ask.fail)),
+            Err(Fault::Mpv) => fields.next().expect(&rt, "a fault").trim() == "MPV",
+            Err(Fault::Wro) => fields.next().expect(&rt, "a fault").trim() == "WRO",
+            Err(Fault::Ilo) => fields.next().expect(&rt, "a fault").trim() == "ILO",
+        };
+        assert!(rt; told, "{row}");
+    }
+    Ok(())
+}
+
+#[test]
+fn a_transfer(rt: HostRuntime) -> Result<(), Fail> {
+    let mut core = Core::open(rt.alloc())?;
+    load(
+        &rt,
+        &mut core,
+        "400000000000 635157640000 1000000001 5 400000000006 440700001000 3",
+    );
+    let ask = decoded(&core).expect(&rt, "an ask");
+    let pointer = Operand {
+        value: Word::new(0o440700001000),
+        place: Some(5),
+    };
+    assert_eq!(rt; ask.fail, 0);
+    assert_eq!(rt; ask.inputs.len(), 3);
+    assert_eq!(rt; ask.inputs.get(1).copied(), Some(pointer));
+    assert_eq!(rt; ask.decode.as_slice(), [0o17, 0, 1, 2, 3, 4].as_slice());
+    assert_eq!(rt; ask.operand.as_slice(), [5, 6].as_slice());
+    Ok(())
+}
+
+#[test]
+fn an_iot(rt: HostRuntime) -> Result<(), Fail> {
+    let core = Core::open(rt.alloc())?;
+    let mut decode = ArrayVec::new();
+    decode.push(0o17);
+    let site = Site {
+        pc: 0o17,
+        e: 3,
+        channel: Some(4),
+        used: 0,
+        decode,
+    };
+    let block = parse_site(&core, 0, &site).expect(&rt, "no block");
+    let ask = fetch_site(&core, 0, &site, &block).expect(&rt, "an ask");
+    assert_eq!(rt; ask.inputs.len(), 1);
+    assert_eq!(rt; ask.outputs.as_slice(), [3].as_slice());
+    assert_eq!(rt; ask.decode.as_slice(), [0o17].as_slice());
+    Ok(())
+}

@@ -1,0 +1,11 @@
+-- every block is free
+use Rattle.its_files.proofs.OpenLaws.{opened_blocks, opened_view}
+use Rattle.its_files.proofs.blocks.Blocks.open.Goals as goal
+
+pub invariant_of-result : goal.invariant_of-result
+invariant_of-result c =
+    opened_blocks c.in_ok-copies.field-0.items c.in_ok-copies-2.field-0.items c.in_ok-copies-3.field-0.items c.in_ok-all_free.field-0 c.in_ok-copies.ensures c.in_ok-copies-2.ensures c.in_ok-copies-3.ensures c.in_ok-all_free.ensures
+
+pub returns : goal.returns
+returns c =
+    opened_view c.in_ok-copies.field-0.items c.in_ok-copies-2.field-0.items c.in_ok-all_free.field-0 c.in_ok-copies-2.ensures c.in_ok-all_free.ensures

@@ -1,0 +1,102 @@
+-- How the words of files and drafts are kept: 2048 blocks of 128 words, a list of the free blocks, and for each number of a
+-- file or draft the list of its blocks, in the order of its words.
+use Rattle.std.specs.Prelude.{◌≡◌, ◌<◌, ◌≤◌, ℕ, ◌+◌, ◌-◌, ◌*◌, ◌/◌, ◌%◌, Bool, true, false, ◌&&◌, eqb, Option, Some, None, List, [], ◌∷◌, ◌++◌, length, map, take, sum_by, slice_set, slice_get, slice_index_or}
+use Rattle.std.specs.List.{range_with_len}
+use Rattle.its_links.specs.Lists.{Linked, list_at, rest}
+use Rattle.its_files.specs.declared.blocks.Place.{Place}
+
+-- how many numbers there are for files and drafts, how many blocks, and how many words a block has
+abbrev pub numbers : ℕ
+numbers = 1280
+
+abbrev pub blocks : ℕ
+blocks = 2048
+
+abbrev pub block_words : ℕ
+block_words = 128
+
+-- the words of each number, and the lists of blocks: the free ones first, then those of each number
+pub record Stored : Type 0 where
+  pub texts : List (List ℕ)
+  pub chains : List (List ℕ)
+
+abbrev pub text_at : List (List ℕ) → ℕ → List ℕ
+text_at texts id = slice_index_or texts id []
+
+abbrev pub free_blocks : List (List ℕ) → List ℕ
+free_blocks chains = list_at chains 0
+
+abbrev pub blocks_of : List (List ℕ) → ℕ → List ℕ
+blocks_of chains id = list_at chains (id + 1)
+
+-- how many blocks n words take
+abbrev pub blocks_for : ℕ → ℕ
+blocks_for n = (n + 127) / 128
+
+-- how many blocks are in use
+abbrev pub blocks_used : Stored → ℕ
+blocks_used s = sum_by (λ t. blocks_for (length t)) s.texts
+
+-- whether a word behind n words needs a block
+abbrev pub needs_block : ℕ → Bool
+needs_block n = eqb (n % 128) 0
+
+-- whether there is no room for a word more
+abbrev pub is_full : Stored → ℕ → Bool
+is_full s id = needs_block (length (text_at s.texts id)) && eqb (blocks_used s) blocks
+
+-- the first free block becomes the last of a number
+unfoldable pub with_block : List (List ℕ) → ℕ → List (List ℕ)
+with_block chains id = slice_set (slice_set chains 0 (rest (free_blocks chains))) (id + 1) (blocks_of chains id ++ take 1 (free_blocks chains))
+
+abbrev pub grown_by : Bool → List (List ℕ) → ℕ → List (List ℕ)
+grown_by true chains id = with_block chains id
+grown_by false chains id = chains
+
+-- a word more at the end of a text
+abbrev pub appended : Stored → ℕ → ℕ → Stored
+appended s id w = record {
+  texts = slice_set s.texts id (text_at s.texts id ++ w ∷ []);
+  chains = grown_by (needs_block (length (text_at s.texts id))) s.chains id;
+}
+
+-- a text loses its words, and its blocks go to the end of the free ones, in their order
+abbrev pub given_up : Stored → ℕ → Stored
+given_up s id = record {
+  texts = slice_set s.texts id [];
+  chains = slice_set (slice_set s.chains 0 (free_blocks s.chains ++ blocks_of s.chains id)) (id + 1) [];
+}
+
+-- f at each number below n; opaque, as n may be large
+unfoldable pub table : {X : Type 0} → ℕ → (ℕ → X) → List X
+table n f = map f (range_with_len 0 n)
+
+-- the k-th word of some blocks
+unfoldable pub word_in : List ℕ → List ℕ → ℕ → ℕ
+word_in words chain k = slice_index_or words (128 * slice_index_or chain (k / 128) 0 + k % 128) 0
+
+-- the first n words of some blocks
+abbrev pub text_of : List ℕ → List ℕ → ℕ → List ℕ
+text_of words chain n = table n (word_in words chain)
+
+unfoldable pub stored_in : List ℕ → List (List ℕ) → List ℕ → Stored
+stored_in words chains lengths = record {
+  texts = table numbers (λ id. text_of words (blocks_of chains id) (slice_index_or lengths id 0));
+  chains = chains;
+}
+
+-- the place that is kept is a block of its number
+abbrev pub PlaceIn : List (List ℕ) → Option Place → Type 0
+PlaceIn chains None = Unit {0}
+PlaceIn chains (Some p) = slice_get (blocks_of chains p.id) p.index ≡ Some p.block
+
+pub record IsBlocks (words : List ℕ) (lengths : List ℕ) (lasts : List ℕ) (place : Option Place) (links : Linked) : Type 0 where
+  pub words_long : length words ≡ 262144
+  pub lengths_long : length lengths ≡ 1280
+  pub lasts_long : length lasts ≡ 1280
+  pub heads : length links.lists ≡ 1281
+  pub nodes : links.nodes ≡ 2048
+  pub fits : (id : ℕ) → id < 1280 → length (blocks_of links.lists id) ≡ blocks_for (slice_index_or lengths id 0)
+  pub last : (id : ℕ) → id < 1280 → 0 < length (blocks_of links.lists id) → slice_get (blocks_of links.lists id) (length (blocks_of links.lists id) - 1) ≡ Some (slice_index_or lasts id 0)
+  pub kept : PlaceIn links.lists place
+  pub used : length (free_blocks links.lists) + sum_by blocks_for lengths ≡ 2048

@@ -1,0 +1,20 @@
+-- A store as it is made: every block is free, and no number has words.
+use Rattle.std.specs.Prelude.{◌≡◌, ◌≤◌, ℕ, List, [], length, replicate, slice_set}
+use Rattle.std.specs.List.{range_with_len}
+use Rattle.its_links.specs.Lists.{Linked, times, no_lists}
+use Rattle.its_files.specs.Blocks.{Stored, numbers, blocks}
+
+-- n copies of x, and the numbers below n; opaque, as n may be large
+unfoldable pub copies : {X : Type 0} → ℕ → X → List X
+copies n x = replicate n x
+
+unfoldable pub up_to : ℕ → List ℕ
+up_to n = range_with_len 0 n
+
+-- lists of m heads: the first has the nodes below n, the others are empty
+abbrev pub first_has : ℕ → ℕ → List (List ℕ)
+first_has m n = slice_set (no_lists m) 0 (up_to n)
+
+-- no number has words, and all blocks are free, in the order of their numbers
+abbrev pub nothing_stored : Stored
+nothing_stored = record { texts = copies numbers []; chains = first_has 1281 blocks }

@@ -1,0 +1,238 @@
+ghost use Rattle.std.specs.Prelude.{◌≡◌, ◌≢◌, ◌<◌, ◌≤◌, ◌+◌, ◌-◌, ◌*◌, ◌/◌, ◌%◌, ◌^◌, ℕ, List, [], ◌∷◌, ◌++◌, true, false, Some, None, length, slice_get, is_err, IfOk, OnOk, OnErr};
+ghost use Rattle.its_links.specs.Lists.{first};
+ghost use Rattle.its_files.specs.Blocks.{text_at, free_blocks, blocks_of, blocks_used, is_full, appended, given_up, needs_block, with_block, PlaceIn, numbers, blocks};
+ghost use Rattle.its_files.specs.Opening.{copies, first_has, nothing_stored};
+
+use its_links::Links;
+use its_word::{NoMemory, Word};
+use std::alloc::Global;
+use std::marker::Model;
+
+/// How many blocks there are, and how many words a block has.
+const BLOCKS: u32 = 2048;
+
+const BLOCK_WORDS: u32 = 128;
+
+/// How many files and drafts there are at most: 256 files and 1024 drafts.
+pub(crate) const NUMBERS: u32 = 1280;
+
+/// The list of the free blocks; that of a number stands behind it.
+const FREE: u32 = 0;
+
+/// All blocks are in use.
+#[derive(Clone, Copy, Debug, PartialEq, Eq)]
+pub struct Full;
+
+/// A block, with the number of the text that it belongs to and its index there.
+#[derive(Clone, Copy)]
+pub(crate) struct Place {
+    id: u32,
+    index: u32,
+    block: u32,
+}
+
+/// The words of files and drafts, by number. Contracts see the words of each number, and which
+/// blocks are free and which are in use by whom.
+///
+/// The last block of each number is kept, so that a word is appended without a walk; and one place,
+/// from which the walk to a later block goes on.
+#[derive(Drop)]
+pub(crate) struct Blocks {
+    words: Vec<Word>,
+    lengths: Vec<u32>,
+    lasts: Vec<u32>,
+    place: Option<Place>,
+    links: Links,
+}
+
+impl Model for Blocks {
+    ghost use Rattle.its_files.specs.Blocks.{Stored, stored_in, IsBlocks};
+
+    ghost Value = { Stored };
+
+    ghost view = { λ b. stored_in b.words.items b.links.lists b.lengths.items };
+
+    ghost invariant = { λ b. IsBlocks b.words.items b.lengths.items b.lasts.items b.place b.links };
+}
+
+/// n copies of a value.
+#[tactic(auto, using(crate::proofs::ListLaws::copies_none, crate::proofs::ListLaws::copies_more))]
+pub(crate) fn copies<T: Copy + Drop>(alloc: Global, x: T, n: u32) -> Result<Vec<T>, NoMemory>
+    ensures { IfOk result (λ v. v.items ≡ copies n x) }
+{
+    let mut v = Vec::with_capacity(alloc, n as usize).map_err(|_| NoMemory)?;
+    for _k in 0..n {
+        v.push(x).map_err(|_| NoMemory)?;
+    }
+    Ok(v)
+}
+
+#[tactic(auto, using(crate::proofs::OpenLaws::first_has_none, crate::proofs::OpenLaws::first_has_more, its_links::proofs::CountLaws::lists))]
+/// Lists of which the first has the nodes below n, in order, and the others are empty.
+fn all_free(alloc: Global, n: u32, heads: u32) -> Result<Links, NoMemory>
+    requires fits { n + heads < 2 ^ 32 }
+    requires some { 0 < heads }
+    ensures { IfOk result (λ l. l ≡ record { nodes = n; lists = first_has heads n }) }
+{
+    let mut links = Links::open(alloc, n, heads)?;
+    for block in 0..n {
+        links.push_back(FREE, block);
+    }
+    Ok(links)
+}
+
+/// The block for the next word of a text: its last one, or where that has no room the first free one,
+/// which becomes its last.
+fn block_for(links: &mut Links, id: u32, count: u32, last: u32) -> Result<u32, Full>
+    requires id { id < numbers }
+    requires heads { length links.old.lists ≡ numbers + 1 }
+    ensures old_block { IfOk result (λ b. needs_block count ≡ false → (links.new ≡ links.old) × (b ≡ last)) }
+    ensures new_block { IfOk result (λ b. needs_block count ≡ true → (first (free_blocks links.old.lists) ≡ Some b) × (links.new ≡ record links.old { lists = with_block links.old.lists id })) }
+    ensures full { OnErr result ((needs_block count ≡ true) × (free_blocks links.old.lists ≡ [])) }
+    ensures same { OnErr result (links.new ≡ links.old) }
+{
+    if count % BLOCK_WORDS != 0 {
+        return Ok(last);
+    }
+    let Some(block) = links.pop_front(FREE) else {
+        return Err(Full);
+    };
+    links.push_back(id + 1, block);
+    Ok(block)
+}
+
+/// A place of a number from which the walk to a block goes on: the one that is kept, where that is on
+/// the way, else the first.
+fn start(links: &Links, place: Option<Place>, id: u32, index: u32) -> Place
+    requires number { id < numbers }
+    requires heads { length links.now.lists ≡ numbers + 1 }
+    requires kept { PlaceIn links.now.lists place }
+    requires index { index < length (blocks_of links.now.lists id) }
+    ensures block { slice_get (blocks_of links.now.lists id) result.index ≡ Some result.block }
+    ensures behind { result.index ≤ index }
+{
+    match place {
+        Some(place) if place.id == id && place.index <= index => place,
+        _ => Place {
+            id,
+            index: 0,
+            block: links.front(id + 1).unwrap(),
+        },
+    }
+}
+
+/// The block of a number with an index that it has.
+#[tactic(auto, using(crate::proofs::ChainLaws::standing))]
+fn block_at(links: &Links, place: Option<Place>, id: u32, index: u32) -> u32
+    requires number { id < numbers }
+    requires heads { length links.now.lists ≡ numbers + 1 }
+    requires kept { PlaceIn links.now.lists place }
+    requires index { index < length (blocks_of links.now.lists id) }
+    ensures block { slice_get (blocks_of links.now.lists id) index ≡ Some result }
+    ensures within { result < links.now.nodes }
+{
+    links.seen();
+    let Place {
+        index: first,
+        mut block,
+        ..
+    } = start(links, place, id, index);
+    for _at in first..index {
+        block = links.next(block).unwrap();
+    }
+    block
+}
+
+/// Where a word of a block stands.
+fn word_index(block: u32, k: u32) -> usize
+    requires { block < blocks }
+    ensures place { result ≡ 128 * block + k % 128 }
+    ensures within { result < 262144 }
+{
+    (block * BLOCK_WORDS + k % BLOCK_WORDS) as usize
+}
+
+impl Blocks {
+    /// No number has words. Takes all the memory that the words ever need.
+    pub(crate) fn open(alloc: Global) -> Result<Blocks, NoMemory>
+        ensures { IfOk result (λ b. b ≡ nothing_stored) }
+    {
+        Ok(Blocks {
+            words: copies(alloc, Word::ZERO, BLOCKS * BLOCK_WORDS)?,
+            lengths: copies(alloc, 0, NUMBERS)?,
+            lasts: copies(alloc, 0, NUMBERS)?,
+            place: None,
+            links: all_free(alloc, BLOCKS, NUMBERS + 1)?,
+        })
+    }
+
+    /// Does nothing, and says that each block is free or in use.
+    pub(crate) fn seen(&self)
+        ensures { length (free_blocks self.now.chains) + blocks_used self.now ≡ blocks }
+    {
+        let _ = &self.lengths;
+    }
+
+    /// How many words a number has.
+    #[tactic(auto, using(crate::proofs::BlockLaws::length_is))]
+    pub(crate) fn length(&self, id: u32) -> u32
+        requires { id < numbers }
+        ensures { result ≡ length (text_at self.now.texts id) }
+    {
+        self.lengths[id as usize]
+    }
+
+    /// The k-th word of a number, from 0; None past the last.
+    pub(crate) fn word(&self, id: u32, k: u32) -> Option<Word>
+        requires { id < numbers }
+        ensures { result ≡ slice_get (text_at self.now.texts id) k }
+    {
+        if k >= self.lengths[id as usize] {
+            return None;
+        }
+        let block = block_at(&self.links, self.place, id, k / BLOCK_WORDS);
+        Some(self.words[word_index(block, k)])
+    }
+
+    /// Keeps the place of the k-th word of a number, so that the walk to it and to later ones is short.
+    pub(crate) fn seek(&mut self, id: u32, k: u32)
+        requires { id < numbers }
+        ensures { self.new ≡ self.old }
+    {
+        if k < self.lengths[id as usize] {
+            let index = k / BLOCK_WORDS;
+            let block = block_at(&self.links, self.place, id, index);
+            self.place = Some(Place { id, index, block });
+        }
+    }
+
+    /// A word more at the end of a number's words. Full where it needs a block and all are in use.
+    #[tactic(auto, using(crate::proofs::BlockLaws::length_is))]
+    pub(crate) fn append(&mut self, id: u32, w: Word) -> Result<(), Full>
+        requires { id < numbers }
+        ensures ok { OnOk result (self.new ≡ appended self.old id w) }
+        ensures full { is_err result ≡ is_full self.old id }
+        ensures same { OnErr result (self.new ≡ self.old) }
+    {
+        let length = self.lengths[id as usize];
+        let last = self.lasts[id as usize];
+        let Ok(block) = block_for(&mut self.links, id, length, last) else {
+            return Err(Full);
+        };
+        self.links.seen();
+        self.words[word_index(block, length)] = w;
+        self.lengths[id as usize] = length + 1;
+        self.lasts[id as usize] = block;
+        Ok(())
+    }
+
+    /// A number loses its words, and its blocks are free.
+    pub(crate) fn give_up(&mut self, id: u32)
+        requires { id < numbers }
+        ensures { self.new ≡ given_up self.old id }
+    {
+        self.links.splice(id + 1, FREE);
+        self.lengths[id as usize] = 0;
+        self.place = None;
+    }
+}

@@ -1,0 +1,47 @@
+use super::change::Change;
+use arrayvec::ArrayVec;
+use its_word::{Exit, Store, Word};
+
+/// Why a call cannot go on: it is HANG; its time has not come; the input of a console is empty or
+/// held by another; 64 bytes wait in its output, or another holds it; or output bytes wait that have
+/// to be taken first.
+#[derive(Clone, Copy, Debug, PartialEq, Eq)]
+pub enum Wait {
+    Hang,
+    Clock,
+    Input(u8),
+    Output(u8),
+    Drained(u8),
+}
+
+/// A byte that was taken and is not yet stored, as it was taken, and the address of its word.
+#[derive(Clone, Copy, Debug, PartialEq, Eq)]
+pub struct Held {
+    pub place: u32,
+    pub byte: u64,
+}
+
+/// What a call does at its commit. All values are found before anything changes.
+#[derive(Debug, PartialEq, Eq, Drop)]
+pub enum Decision {
+    /// It cannot go on.
+    Waits(Wait),
+    /// A part of it is done: these changes; for input the byte that is held; and the new values of
+    /// its last arguments. PC stays.
+    Goes {
+        changes: ArrayVec<Change, 2>,
+        held: Option<Held>,
+        values: ArrayVec<Word, 2>,
+    },
+    /// It finishes, fails or faults: these changes, then stores into its own core, then the registers
+    /// that it leaves its job with.
+    Ends {
+        changes: ArrayVec<Change, 2>,
+        stores: ArrayVec<Store, 2>,
+        exit: Exit,
+    },
+    /// The caller is removed, with all jobs below it; then these changes.
+    Gone {
+        changes: ArrayVec<Change, 2>,
+    },
+}

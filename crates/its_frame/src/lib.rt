@@ -1,0 +1,16 @@
+//! Calls in progress as data: the frames that a job goes through inside a call of the monitor, what a
+//! call does at its commit, and the small changes that it makes outside its own words and registers.
+#![tactic(auto)]
+
+mod change;
+mod decision;
+mod frame;
+mod name;
+mod variable;
+
+pub use change::{Change, Opened};
+pub use decision::{Decision, Held, Wait};
+pub use frame::{Asked, Ending, Entered, Frame, Holding, Moving, Parsed, Standing, Waiting};
+pub use its_word::{Ask, Exit, Owed, Site, Store};
+pub use name::CallName;
+pub use variable::Variable;

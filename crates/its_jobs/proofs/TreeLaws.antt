@@ -1,0 +1,150 @@
+-- The tree of jobs where it begins, after a job is made, and after a job is removed with all below it.
+use Rattle.std.specs.Prelude.{if◌then◌else◌, ◌≡◌, ◌≢◌, ◌<◌, ◌==◌, ◌≤◌, ℕ, Bool, true, false, Option, Some, None, IfSome, List, length, slice_index_or, slice_set, is_some, is_none, refl}
+use Rattle.std.proofs.Common.{sym, ◌∙◌, ap, arith, inl, inr, length-set, eq-eqb}
+use Rattle.std.proofs.lemmas.Bool.{cases_Bool, cases_eq, ne_eqb}
+use Rattle.std.proofs.lemmas.List.{get_or-set_same, get_or-set_other, get_or_past}
+use Rattle.its_word.specs.Limits.{slots}
+use Rattle.its_word.specs.Tree.{climbs_to, is_below}
+use Rattle.its_word.specs.declared.jobs.Job.{Job}
+use Rattle.its_word.proofs.TreeLaws.{climb_end, below_none}
+use Rattle.its_jobs.specs.Table.{IsTree, Without, superior_in, in_tree}
+use Rattle.its_jobs.proofs.ClimbLaws.{cut, never, unpassed, below_through}
+
+-- no slot has a job
+pub no_tree : (jobs : List (Option Job)) (superiors : List (Option ℕ)) → length jobs ≡ slots → length superiors ≡ slots
+    → ((k : ℕ) → slice_index_or superiors k None ≡ None) → IsTree jobs superiors
+no_tree jobs superiors m n none = record {
+  job_count = m;
+  superior_count = n;
+  below = λ k. rw (none k) tt;
+  standing = λ k. rw (none k) tt;
+  owned = λ k h. none k;
+  circle = λ k. ap (climbs_to (superior_in superiors) k slots) (none k) ∙ climb_end (superior_in superiors) k slots;
+}
+
+-- what is cut off leaves no circle
+pub circle_cut : (old new : ℕ → Option ℕ) (gone : ℕ → Bool) → ((k : ℕ) → new k ≡ (if gone k then None else old k))
+    → ((k : ℕ) → climbs_to old k slots (old k) ≡ false) → (k : ℕ) → climbs_to new k slots (new k) ≡ false
+circle_cut old new gone h circle k = rw (h k) (go (gone k))
+  where
+    go : (b : Bool) → climbs_to new k slots (if b then None else old k) ≡ false
+    go true = climb_end new k slots
+    go false = cut old new gone k slots (old k) h (circle k)
+
+-- a job is made in a slot that was empty
+module _ (jobs : List (Option Job)) (superiors : List (Option ℕ)) (s : ℕ) (j : Job) (superior : Option ℕ) (t : IsTree jobs superiors) (in_range : s < slots)
+    (free : slice_index_or jobs s None ≡ None) (fits : IfSome superior (λ i. (i < slots) × (is_some (slice_index_or jobs i None) ≡ true))) where
+  not_empty : (i : ℕ) → is_some (slice_index_or jobs i None) ≡ true → i ≢ s
+  not_empty i h e = let full : is_some (slice_index_or jobs s None) ≡ true = ap (λ x. is_some (slice_index_or jobs x None)) (sym e) ∙ h in let wrong : true ≡ false = sym full ∙ ap is_some free in cc
+
+  nobody : (k : ℕ) (o : Option ℕ) → IfSome o (λ i. is_some (slice_index_or jobs i None) ≡ true) → o ≢ Some s
+  nobody k None h e = cc
+  nobody k (Some i) h e = not_empty i h (let p : Some i ≡ Some s = e in cc)
+
+  in_jobs : s < length jobs
+  in_jobs = let n = t.job_count in let l = in_range in omega arith
+
+  in_superiors : s < length superiors
+  in_superiors = let n = t.superior_count in let l = in_range in omega arith
+
+  stays : (i : ℕ) → is_some (slice_index_or jobs i None) ≡ true → is_some (slice_index_or (slice_set jobs s (Some j)) i None) ≡ true
+  stays i h = ap is_some (get_or-set_other jobs s i (Some j) None (not_empty i h)) ∙ h
+
+  stays_by : (o : Option ℕ) → IfSome o (λ i. is_some (slice_index_or jobs i None) ≡ true) → IfSome o (λ i. is_some (slice_index_or (slice_set jobs s (Some j)) i None) ≡ true)
+  stays_by None h = tt
+  stays_by (Some i) h = stays i h
+
+  fits_below : (o : Option ℕ) → IfSome o (λ i. (i < slots) × (is_some (slice_index_or jobs i None) ≡ true)) → IfSome o (λ i. i < slots)
+  fits_below None h = tt
+  fits_below (Some i) h = h.0
+
+  fits_standing : (o : Option ℕ) → IfSome o (λ i. (i < slots) × (is_some (slice_index_or jobs i None) ≡ true)) → IfSome o (λ i. is_some (slice_index_or jobs i None) ≡ true)
+  fits_standing None h = tt
+  fits_standing (Some i) h = h.1
+
+  pub made : IsTree (slice_set jobs s (Some j)) (slice_set superiors s superior)
+  made =
+      let here : slice_index_or (slice_set superiors s superior) s None ≡ superior = get_or-set_same superiors s superior None in_superiors in
+      let other : (k : ℕ) → k ≢ s → slice_index_or (slice_set superiors s superior) k None ≡ slice_index_or superiors k None = λ k ne. get_or-set_other superiors s k superior None ne in
+      let none : (k : ℕ) → slice_index_or superiors k None ≢ Some s = λ k. nobody k (slice_index_or superiors k None) (t.standing k) in
+      let apart : superior ≢ Some s = nobody s superior (fits_standing superior fits) in
+      record {
+        job_count = length-set jobs s (Some j) ∙ t.job_count;
+        superior_count = length-set superiors s superior ∙ t.superior_count;
+        below = λ k. elim (cases_eq k s) [ inl e ↦ rw (e, here) (fits_below superior fits) | inr ne ↦ rw (other k ne) (t.below k) ];
+        standing = λ k. elim (cases_eq k s) [
+          | inl e ↦ rw (e, here) (stays_by superior (fits_standing superior fits))
+          | inr ne ↦ rw (other k ne) (stays_by (slice_index_or superiors k None) (t.standing k))
+        ];
+        owned = λ k f. elim (cases_eq k s) [
+          | inl e ↦ absurd (let full : slice_index_or (slice_set jobs s (Some j)) s None ≡ Some j = get_or-set_same jobs s (Some j) None in_jobs in
+              let empty : slice_index_or (slice_set jobs s (Some j)) s None ≡ None = ap (λ i. slice_index_or (slice_set jobs s (Some j)) i None) (sym e) ∙ f in cc)
+          | inr ne ↦ other k ne ∙ t.owned k (sym (get_or-set_other jobs s k (Some j) None ne) ∙ f)
+        ];
+        circle = λ k. elim (cases_eq k s) [
+          | inl e ↦ rw (e, here) (unpassed (superior_in superiors) (superior_in (slice_set superiors s superior)) s s slots superior other none apart ∙ never (superior_in superiors) s slots superior none apart)
+          | inr ne ↦ rw (other k ne) (unpassed (superior_in superiors) (superior_in (slice_set superiors s superior)) s k slots (slice_index_or superiors k None) other none (none k) ∙ t.circle k)
+        ];
+      }
+
+-- the slots of a tree are emptied
+some_of : {X : Type 0} (b : Bool) (o : Option X) → b ≡ false → is_some o ≡ true → is_some (if b then None else o) ≡ true
+some_of true o e h = cc
+some_of false o e h = h
+
+module _ (jobs news : List (Option Job)) (superiors rest : List (Option ℕ)) (r : ℕ) (t : IsTree jobs superiors)
+    (left : Without (in_tree (superior_in superiors) r) (λ k. slice_index_or jobs k None) (λ k. slice_index_or news k None))
+    (cleared : Without (λ k. is_none (slice_index_or news k None)) (λ k. slice_index_or superiors k None) (λ k. slice_index_or rest k None)) where
+  by : (b : Bool) (o : Option Job) (p : Option ℕ) → (o ≡ None → p ≡ None) → (if is_none (if b then None else o) then None else p) ≡ (if b then None else p)
+  by true o p h = refl
+  by false (Some j) p h = refl
+  by false None p h = sym (h refl)
+
+  pub superiors_left : Without (in_tree (superior_in superiors) r) (λ k. slice_index_or superiors k None) (λ k. slice_index_or rest k None)
+  superiors_left = record {
+    each = λ k. cleared.each k ∙ ap (λ o. if is_none o then None else slice_index_or superiors k None) (left.each k)
+        ∙ by (in_tree (superior_in superiors) r k) (slice_index_or jobs k None) (slice_index_or superiors k None) (t.owned k);
+  }
+
+  -- the superior of a job that stays, stays
+  stays_too : (k i : ℕ) → in_tree (superior_in superiors) r k ≡ false → slice_index_or superiors k None ≡ Some i → in_tree (superior_in superiors) r i ≡ false
+  stays_too k i out e = elim (cases_Bool (in_tree (superior_in superiors) r i)) [
+    | inr f ↦ f
+    | inl inside ↦ elim (cases_eq k r) [
+      | inl same ↦ absurd (let first : (k == r) ≡ true = eq-eqb k r same in let all : in_tree (superior_in superiors) r k ≡ true = rw first refl in cc)
+      | inr ne ↦ absurd (let up : is_below (superior_in superiors) r k ≡ true = below_through (superior_in superiors) r k i t.below ne e inside in
+          let all : in_tree (superior_in superiors) r k ≡ true = rw (ne_eqb k r ne) up in cc)
+    ]
+  ]
+
+  standing_by : (k : ℕ) (b : Bool) (o : Option ℕ) → in_tree (superior_in superiors) r k ≡ b → slice_index_or superiors k None ≡ o
+      → IfSome o (λ i. is_some (slice_index_or jobs i None) ≡ true) → IfSome (if b then None else o) (λ i. is_some (slice_index_or news i None) ≡ true)
+  standing_by k true o e f h = tt
+  standing_by k false None e f h = tt
+  standing_by k false (Some i) e f h = ap is_some (left.each i) ∙ some_of (in_tree (superior_in superiors) r i) (slice_index_or jobs i None) (stays_too k i e f) h
+
+  below_by : (b : Bool) (o : Option ℕ) → IfSome o (λ i. i < slots) → IfSome (if b then None else o) (λ i. i < slots)
+  below_by true o h = tt
+  below_by false o h = h
+
+  owned_by : (b : Bool) (o : Option Job) (p : Option ℕ) → (o ≡ None → p ≡ None) → (if b then None else o) ≡ None → (if b then None else p) ≡ None
+  owned_by true o p h e = refl
+  owned_by false o p h e = h e
+
+  pub tree_left : length news ≡ slots → length rest ≡ slots → IsTree news rest
+  tree_left m n = record {
+    job_count = m;
+    superior_count = n;
+    below = λ k. rw (superiors_left.each k) (below_by (in_tree (superior_in superiors) r k) (slice_index_or superiors k None) (t.below k));
+    standing = λ k. rw (superiors_left.each k) (standing_by k (in_tree (superior_in superiors) r k) (slice_index_or superiors k None) refl refl (t.standing k));
+    owned = λ k f. superiors_left.each k ∙ owned_by (in_tree (superior_in superiors) r k) (slice_index_or jobs k None) (slice_index_or superiors k None) (t.owned k) (sym (left.each k) ∙ f);
+    circle = circle_cut (superior_in superiors) (superior_in rest) (in_tree (superior_in superiors) r) superiors_left.each t.circle;
+  }
+
+-- a slot past the last is in no tree
+pub past_none : (superiors : List (Option ℕ)) (r k : ℕ) → length superiors ≡ slots → r < slots → slots ≤ k → in_tree (superior_in superiors) r k ≡ false
+past_none superiors r k n l past =
+    rw (ne_eqb k r (λ e. omega arith)) (below_none (superior_in superiors) r k (get_or_past superiors k None (omega arith)))
+
+pub past_below : (superiors : List (Option ℕ)) (r k : ℕ) → length superiors ≡ slots → slots ≤ k → is_below (superior_in superiors) r k ≡ false
+past_below superiors r k n past = below_none (superior_in superiors) r k (get_or_past superiors k None (omega arith))

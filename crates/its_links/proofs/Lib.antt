@@ -1,0 +1,5 @@
+pub mod CountLaws
+pub mod RingLaws
+pub mod WalkLaws
+pub mod AgreeLaws
+pub mod CallLaws

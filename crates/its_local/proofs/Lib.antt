@@ -1,0 +1,11 @@
+pub mod Locality
+pub mod DecodeLocality
+pub mod SiteLaws
+pub mod AskLaws
+pub mod StandLaws
+pub mod TransferLaws
+pub mod TracedLaws
+pub mod TwoLaws
+pub mod FitsLaws
+pub mod AskFacts
+pub mod Examples

@@ -1,0 +1,173 @@
+-- The stores of a transfer and of SLEEP: the call stands after them, with the new values of its inputs.
+use Rattle.std.proofs.Common.{◌≡◌, ◌≢◌, ◌≤◌, ◌+◌, ◌==◌, ◌||◌, ℕ, cond, Bool, true, false, List, [], ◌∷◌, ◌++◌, map, Option, Some, None, Ok, refl, sym, ◌∙◌, ap, subst, nat_lt, arith}
+use Rattle.std.proofs.lemmas.Bool.{eq-eqb}
+use Rattle.std.proofs.lemmas.Bool.Decides.{nat_tests}
+use Rattle.std.proofs.lemmas.List.{map-append}
+use Rattle.its_word.specs.Core.{Core, can_store, store}
+use Rattle.its_word.proofs.CoreLaws.{can_store-store, store-store, store_comm}
+use Rattle.its_word.specs.declared.calls.Ask.{Ask}
+use Rattle.its_word.specs.declared.calls.Operand.{Operand}
+use Rattle.its_word.specs.declared.calls.Site.{Site}
+use Rattle.its_word.specs.declared.jobs.Job.{Job}
+use Rattle.its_plain.specs.Decode.{ask}
+use Rattle.its_plain.specs.Footprint.{Stands, among, in_footprint, is_shared, times, variable, with_inputs}
+use Rattle.its_local.proofs.StandLaws.{Free, Once, Outside, inputs_at, inputs_at_append, inputs_at_cons, inputs_few, is_at, once_inputs, renew, renewed_value, stands_outside, stands_stored, times_cons, times_none}
+
+-- the tests of a call give the premises of these laws
+among_none : (p : ℕ) (ps : List ℕ) → among p ps ≡ false → times p ps ≡ 0
+among_none p [] h = times_none p
+among_none p (q ∷ qs) h =
+    let c = times_cons p q qs in
+    let s = split (q == p) (among p qs) h in
+    let r = among_none p qs s.1 in
+    let d : times p (q ∷ qs) ≡ 0 + times p qs = rw s.0 at c in
+    omega arith
+  where
+    split : (a b : Bool) → (a || b) ≡ false → (a ≡ false) × (b ≡ false)
+    split true b h = cc
+    split false b h = (refl, h)
+
+both_false : (a b : Bool) → (a || b) ≡ false → (a ≡ false) × (b ≡ false)
+both_false true b h = cc
+both_false false b h = (refl, h)
+
+pub outside_from : (p : ℕ) (k : Ask) → in_footprint p k ≡ false → Outside p k
+unfolding in_footprint
+outside_from p k h =
+    let s = both_false (among p k.decode.items) (among p k.operand.items) h in
+    record { decode = among_none p k.decode.items s.0; operand = among_none p k.operand.items s.1 }
+
+at_most_one : (n : ℕ) → nat_lt 1 n ≡ false → n ≤ 1
+at_most_one n h = grind (arith, nat_tests)
+
+pub once_from : (c : Core) (s : Site) (k : Ask) (p : ℕ) → ask c s ≡ Ok k → 1 ≤ inputs_at p k.inputs.items → is_shared p k ≡ false → Once p k
+unfolding is_shared
+once_from c s k p a i h =
+    let t = both_false (among p k.decode.items) (nat_lt 1 (times p k.operand.items)) h in
+    let f = inputs_few c s k p a in
+    let m = at_most_one (times p k.operand.items) t.1 in
+    record { decode = among_none p k.decode.items t.0; operand = omega arith }
+
+-- a variable stands among the inputs
+pub first_at : (p v : ℕ) (xs : List Operand) → inputs_at p (variable v p ∷ xs) ≡ 1 + inputs_at p xs
+first_at p v xs = let e : (p == p) ≡ true = eq-eqb p p refl in let c = inputs_at_cons p (variable v p) xs in rw e at c
+
+pub more_at : (p : ℕ) (x : Operand) (xs : List Operand) → inputs_at p xs ≤ inputs_at p (x ∷ xs)
+more_at p x xs = let c = inputs_at_cons p x xs in omega arith
+
+pub among_inputs : (p v : ℕ) (front back : List Operand) → 1 ≤ inputs_at p (front ++ variable v p ∷ back)
+among_inputs p v front back =
+    let a = inputs_at_append p front (variable v p ∷ back) in
+    let f = first_at p v back in
+    omega arith
+
+-- an operand's word once, and an input's: only that input is renewed
+pub once_free : (k : Ask) (p : ℕ) → Once p k → 1 ≤ inputs_at p k.inputs.items → Free p k
+once_free k p o i = let t = o.operand in record { decode = o.decode; operand = omega arith }
+
+not_at : (p : ℕ) (x : Operand) (xs : List Operand) → inputs_at p (x ∷ xs) ≡ 0 → (is_at p x.place ≡ false) × (inputs_at p xs ≡ 0)
+not_at p x xs h = let c = inputs_at_cons p x xs in (go (is_at p x.place) c, omega arith)
+  where
+    go : (b : Bool) → inputs_at p (x ∷ xs) ≡ cond b 1 0 + inputs_at p xs → b ≡ false
+    go true c = absurd (omega (arith, c, h))
+    go false c = refl
+
+value_stays : (p v old : ℕ) (place : Option ℕ) → is_at p place ≡ false → renewed_value p v old place ≡ old
+value_stays p v old None h = refl
+value_stays p v old (Some q) h = rw h refl
+
+renew_other : (p v : ℕ) (x : Operand) → is_at p x.place ≡ false → renew p v x ≡ x
+renew_other p v x h = ap (λ n. record x { value = n }) (value_stays p v x.value x.place h)
+
+renew_here : (p v w : ℕ) → renew p v (variable w p) ≡ variable v p
+renew_here p v w = let e : (p == p) ≡ true = eq-eqb p p refl in rw e refl
+
+renew_none : (p v : ℕ) (xs : List Operand) → inputs_at p xs ≡ 0 → map (renew p v) xs ≡ xs
+renew_none p v [] h = refl
+renew_none p v (x ∷ xs) h =
+    let n = not_at p x xs h in
+    ap (λ y. y ∷ map (renew p v) xs) (renew_other p v x n.0) ∙ ap (λ ys. x ∷ ys) (renew_none p v xs n.1)
+
+-- a store at the word of a variable, when it is the word of one operand alone: that variable has the new value
+pub stands_renewed : (c : Core) (j : Job) (s : Site) (k : Ask) (front : List Operand) (old p new : ℕ) (back : List Operand)
+    → Stands c j s k → can_store c p ≡ true → Once p k → k.inputs.items ≡ front ++ variable old p ∷ back
+    → Stands (store c p new) j s (with_inputs k (front ++ variable new p ∷ back))
+stands_renewed c j s k front old p new back h can o e =
+    let few = inputs_few c s k p h.ask_is in
+    let one = o.operand in
+    let all : inputs_at p k.inputs.items ≡ inputs_at p front + (1 + inputs_at p back) =
+    ap (inputs_at p) e ∙ inputs_at_append p front (variable old p ∷ back) ∙ ap (λ n. inputs_at p front + n) (first_at p old back) in
+    let is : map (renew p new) k.inputs.items ≡ front ++ variable new p ∷ back =
+    ap (map (renew p new)) e
+    ∙ map-append (renew p new) front (variable old p ∷ back)
+    ∙ ap (λ xs. xs ++ renew p new (variable old p) ∷ map (renew p new) back) (renew_none p new front (omega arith))
+    ∙ ap (λ x. front ++ x ∷ map (renew p new) back) (renew_here p new old)
+    ∙ ap (λ xs. front ++ variable new p ∷ xs) (renew_none p new back (omega arith)) in
+    subst (λ xs. Stands (store c p new) j s (with_inputs k xs)) is (stands_stored c j s k p new h can (once_free k p o (omega arith)))
+
+-- SLEEP: its argument is stored
+pub sleep_stands : (c : Core) (j : Job) (s : Site) (k : Ask) (v p w : ℕ) → Stands c j s k → k.inputs.items ≡ variable v p ∷ [] → Once p k → can_store c p ≡ true
+    → Stands (store c p w) j s (with_inputs k (variable w p ∷ []))
+sleep_stands c j s k v p w h e o can = stands_renewed c j s k [] v p w [] h can o e
+
+-- a transfer: the pointer and the count are stored
+pub counted_stands : (c : Core) (j : Job) (s : Site) (k : Ask) (x : Operand) (v p n q v' n' : ℕ) → Stands c j s k
+    → k.inputs.items ≡ x ∷ variable v p ∷ variable n q ∷ [] → Once p k → Once q k → can_store c p ≡ true → can_store c q ≡ true
+    → Stands (store (store c p v') q n') j s (with_inputs k (x ∷ variable v' p ∷ variable n' q ∷ []))
+counted_stands c j s k x v p n q v' n' h e op oq cp cq =
+    let pointed = stands_renewed c j s k (x ∷ []) v p v' (variable n q ∷ []) h cp op e in
+    stands_renewed (store c p v') j s (with_inputs k (x ∷ variable v' p ∷ variable n q ∷ [])) (x ∷ variable v' p ∷ []) n q n' [] pointed
+    (can_store-store c p q v' ∙ cq) (once_inputs k q (x ∷ variable v' p ∷ variable n q ∷ []) oq) refl
+
+-- and before them the byte's word, which is outside the footprint
+pub siot_stands : (c : Core) (j : Job) (s : Site) (k : Ask) (x : Operand) (v p n q a w v' n' : ℕ) → Stands c j s k
+    → k.inputs.items ≡ x ∷ variable v p ∷ variable n q ∷ [] → Outside a k → Once p k → Once q k
+    → can_store c a ≡ true → can_store c p ≡ true → can_store c q ≡ true
+    → Stands (store (store (store c a w) p v') q n') j s (with_inputs k (x ∷ variable v' p ∷ variable n' q ∷ []))
+siot_stands c j s k x v p n q a w v' n' h e oa op oq ca cp cq =
+    counted_stands (store c a w) j s k x v p n q v' n' (stands_outside c j s k a w h oa) e op oq (can_store-store c a p w ∙ cp) (can_store-store c a q w ∙ cq)
+
+-- four stores with a stale pointer and a stale count are two
+pub stale_counted : (c : Core) (p q v n v' n' : ℕ) → p ≢ q → store (store (store (store c p v) q n) p v') q n' ≡ store (store c p v') q n'
+stale_counted c p q v n v' n' ne =
+    ap (λ d. store d q n') (store_comm (store c p v) q p n v' (λ e. ne (sym e)))
+    ∙ store-store (store (store c p v) p v') q n n'
+    ∙ ap (λ d. store d q n') (store-store c p v v')
+
+-- five stores with a stale pointer and a stale count are three
+pub stale_moved : (c : Core) (a p q w v n v' n' : ℕ) → a ≢ p → a ≢ q → p ≢ q
+    → store (store (store (store (store c p v) q n) a w) p v') q n' ≡ store (store (store c a w) p v') q n'
+stale_moved c a p q w v n v' n' ap_ aq pq =
+    ap (λ d. store (store d p v') q n') (store_comm (store c p v) q a n w (λ e. aq (sym e)))
+    ∙ ap (λ d. store d q n') (store_comm (store (store c p v) a w) q p n v' (λ e. pq (sym e)))
+    ∙ store-store (store (store (store c p v) a w) p v') q n n'
+    ∙ ap (λ d. store (store d p v') q n') (store_comm c p a v w (λ e. ap_ (sym e)))
+    ∙ ap (λ d. store d q n') (store-store (store c a w) p v v')
+
+-- the places of a transfer are apart
+not_among : (p v q : ℕ) (x : Operand) (xs : List Operand) → inputs_at q (x ∷ variable v p ∷ xs) ≡ inputs_at q (x ∷ []) + inputs_at q (variable v p ∷ xs)
+not_among p v q x xs = inputs_at_append q (x ∷ []) (variable v p ∷ xs)
+
+pub record Apart (a p q : ℕ) : Type 0 where
+  pub from_pointer : a ≢ p
+  pub from_count : a ≢ q
+  pub both : p ≢ q
+
+pub siot_apart : (c : Core) (s : Site) (k : Ask) (x : Operand) (v p n q a : ℕ) → ask c s ≡ Ok k → k.inputs.items ≡ x ∷ variable v p ∷ variable n q ∷ []
+    → Outside a k → Once p k → Apart a p q
+siot_apart c s k x v p n q a h e oa op =
+    let out = oa.operand in
+    let one = op.operand in
+    let fa = inputs_few c s k a h in
+    let fp = inputs_few c s k p h in
+    let ea = ap (inputs_at a) e ∙ not_among p v a x (variable n q ∷ []) in
+    let ep = ap (inputs_at p) e ∙ not_among p v p x (variable n q ∷ []) in
+    let va = inputs_at_cons a (variable v p) (variable n q ∷ []) in
+    let na = inputs_at_cons a (variable n q) [] in
+    let vp = first_at p v (variable n q ∷ []) in
+    let np = inputs_at_cons p (variable n q) [] in
+    record {
+      from_pointer = λ t. let r = rw (eq-eqb p a (sym t)) at va in absurd (omega arith);
+      from_count = λ t. let r = rw (eq-eqb q a (sym t)) at na in absurd (omega arith);
+      both = λ t. let r = rw (eq-eqb q p (sym t)) at np in absurd (omega arith);
+    }

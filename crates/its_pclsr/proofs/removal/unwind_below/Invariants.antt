@@ -1,0 +1,9 @@
+use Rattle.std.proofs.Common.{◌-◌}
+use Rattle.its_pclsr.proofs.BelowLaws.{Unwinding}
+use Rattle.its_pclsr.proofs.removal.unwind_below.Given as goal
+
+abbrev pub invariant-loop-inferior : goal.invariant-loop-inferior
+invariant-loop-inferior l = Unwinding l.fn.w l.w l.slot l.k
+
+abbrev pub decreases-loop-inferior : goal.decreases-loop-inferior
+decreases-loop-inferior l = 64 - l.k

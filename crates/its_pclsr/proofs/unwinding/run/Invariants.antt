@@ -1,0 +1,14 @@
+use Rattle.std.proofs.Common.{◌≡◌}
+use Rattle.its_stepped.specs.Unwind.{left, unwound}
+use Rattle.its_stepped.specs.Sound.{Sound}
+use Rattle.its_world.specs.World.{state_of}
+use Rattle.its_pclsr.proofs.unwinding.run.Given as goal
+
+abbrev pub invariant-loop-w : goal.invariant-loop-w
+invariant-loop-w l = record {
+  sound : Sound (state_of l.w);
+  rest : unwound (state_of l.w) l.slot ≡ unwound (state_of l.fn.w) l.slot;
+}
+
+abbrev pub decreases-loop-w : goal.decreases-loop-w
+decreases-loop-w l = left (state_of l.w) l.slot

@@ -1,0 +1,15 @@
+//! Unwinding: a job that another one or the operator stops, examines or changes is brought to user mode
+//! first, one small step at a time. Nothing here can be refused. Beside it the parts of carrying a call's
+//! decision out: its changes, and the steps that it owes.
+#![tactic(auto)]
+
+mod carrying;
+mod changes;
+mod owed;
+mod removal;
+mod unwinding;
+
+pub use carrying::owed_steps;
+pub use changes::apply;
+pub use removal::{remove_tree, unwind_below};
+pub use unwinding::{unwind, unwind_one};

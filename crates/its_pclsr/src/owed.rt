@@ -1,0 +1,66 @@
+ghost use Rattle.std.specs.Prelude.{◌≡◌, ◌<◌, ◌≤◌, ◌∷◌, [], ℕ, true, false, Some, None, length};
+ghost use Rattle.its_word.specs.Limits.{slots};
+ghost use Rattle.its_core.specs.Cores.{core_at};
+ghost use Rattle.its_plain.specs.Arguments.{debts};
+ghost use Rattle.its_word.specs.Stores.{place, stored};
+ghost use Rattle.its_stepped.specs.Unwind.{first_debt, due};
+ghost use Rattle.its_pclsr.specs.Owed.{begins_with_file};
+ghost use Rattle.its_word.specs.Core.{can_store};
+ghost use Rattle.its_world.specs.World.{CoreBecomes};
+
+use arrayvec::ArrayVec;
+use its_word::{Ask, Owed, Store};
+use its_world::World;
+
+/// How many addresses there are.
+const ADDRESSES: u32 = 0o1000000;
+
+/// Makes a store that can be made. Its address is taken modulo 1000000 (octal).
+#[tactic(auto, using(crate::proofs::OwedLaws::one_stored))]
+pub fn make(w: &mut World, slot: u8, store: Store)
+    requires slot { slot < slots }
+    requires can { can_store (core_at w.old.core slot) (place store) ≡ true }
+    ensures { CoreBecomes w.old w.new slot (stored (core_at w.old.core slot) (store ∷ [])) }
+{
+    w.store(slot, store.at % ADDRESSES, store.word);
+}
+
+/// The first of the last n arguments of a call, all of which are words, as a store of its value.
+#[tactic(auto, using(crate::proofs::OwedLaws::first_is, crate::proofs::OwedLaws::enough, crate::proofs::OwedLaws::never_none))]
+pub fn first_owed(ask: &Ask, n: u8) -> Store
+    requires some { 0 < n }
+    requires read { length (debts ask.now n) ≡ n }
+    ensures { first_debt (debts ask.now n) ≡ result ∷ [] }
+{
+    let k = ask.inputs.len() - usize::from(n);
+    let operand = ask.inputs[k];
+    match operand.place {
+        Some(at) => Store {
+            at,
+            word: operand.value,
+        },
+        None => unreachable!(),
+    }
+}
+
+/// The owed steps without file steps at their head, which were made already.
+#[tactic(auto, using(crate::proofs::OwedLaws::due_over, crate::proofs::OwedLaws::due_more, crate::proofs::OwedLaws::some_first))]
+pub fn pass_over(owed: &mut ArrayVec<Owed, 4>)
+    ensures { owed.new.items ≡ due false owed.old.items }
+{
+    while begins_with_file(owed) {
+        owed.remove(0);
+    }
+}
+
+/// Whether the first owed step is one of a close.
+fn begins_with_file(owed: &[Owed]) -> bool
+    ensures { result ≡ begins_with_file owed.now }
+{
+    match owed {
+        [Owed::Unlink, ..] => true,
+        [Owed::Link, ..] => true,
+        [Owed::Free, ..] => true,
+        _ => false,
+    }
+}

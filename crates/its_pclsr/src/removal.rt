@@ -1,0 +1,127 @@
+ghost use Rattle.std.specs.Prelude.{◌≡◌, ◌<◌, ℕ, Bool, true, false, Some, None, is_some, length, slice_index_or};
+ghost use Rattle.its_word.specs.Core.{no_core};
+ghost use Rattle.its_word.specs.Limits.{slots};
+ghost use Rattle.its_word.specs.Tree.{is_below, slots_below};
+ghost use Rattle.its_word.specs.declared.jobs.Channel.TheVariants.{Closed};
+ghost use Rattle.its_core.specs.Cores.{core_at, clear_at};
+ghost use Rattle.its_frame.specs.declared.change.Change.TheVariants.{Remove};
+ghost use Rattle.its_jobs.specs.Table.{job_at, superior_at, in_tree};
+ghost use Rattle.its_plain.specs.Change.{superiors, is_gone};
+ghost use Rattle.its_stepped.specs.Commit.{effect_on};
+ghost use Rattle.its_stepped.specs.Sound.{Sound};
+ghost use Rattle.its_stepped.specs.State.{plain};
+ghost use Rattle.its_stepped.specs.Unwind.{all_unwound};
+ghost use Rattle.its_pclsr.specs.Removal.{channel_left, JobLeft, Sweeps, Swept};
+ghost use Rattle.its_world.specs.World.{state_of, frame_at};
+
+#[cfg(test)]
+mod tests;
+
+use super::unwinding::unwind;
+use its_jobs::Jobs;
+use its_word::Channel;
+use its_world::World;
+
+/// Unwinds every job below that of a slot, by slot number.
+pub fn unwind_below(w: &mut World, slot: u8)
+    requires slot { slot < slots }
+    requires sound { Sound (state_of w.old) }
+    ensures unwinds { state_of w.new ≡ all_unwound (slots_below (superiors (state_of w.old).raw) slot) (state_of w.old) }
+    ensures same { plain (state_of w.new) ≡ plain (state_of w.old) }
+    ensures sound { Sound (state_of w.new) }
+{
+    let mut k = 0;
+    while let Some(inferior) = w.jobs.below(slot, k) {
+        unwind(w, inferior);
+        k += 1;
+    }
+}
+
+/// Removes the job of a slot and all jobs below it: their pages are given up, and every channel on one of
+/// them is closed. No INF is set. The jobs below have been unwound; what is left of a call of the job
+/// itself is dropped, but a page that it has reserved is given back before.
+pub fn remove_tree(w: &mut World, slot: u8)
+    requires slot { slot < slots }
+    requires job { is_some (job_at w.old.jobs slot) ≡ true }
+    requires sound { Sound (state_of w.old) }
+    requires unwound { (k : ℕ) → is_below (superiors (state_of w.old).raw) slot k ≡ true → (state_of w.old).frames k ≡ None }
+    requires page { (state_of w.old).reserved slot ≡ None }
+    ensures removed { (j : ℕ) → state_of w.new ≡ effect_on (Remove slot) j (state_of w.old) }
+    ensures pages { (k : ℕ) → is_gone (superiors (state_of w.old).raw) slot k ≡ true → (state_of w.new).reserved k ≡ None }
+    ensures cores { (k : ℕ) → is_gone (superiors (state_of w.old).raw) slot k ≡ true → core_at w.new.core k ≡ no_core }
+{
+    w.jobs.tree();
+    sweep(w, slot);
+    w.jobs.remove_tree(slot);
+}
+
+/// Gives up what the jobs of a tree have, and closes the channels on them.
+#[tactic(auto, using(crate::proofs::RemovalLaws::swept_start, crate::proofs::RemovalLaws::swept_more))]
+fn sweep(w: &mut World, root: u8)
+    requires slot { root < slots }
+    ensures { Swept (in_tree (superior_at w.old.jobs) root) w.old w.new slots }
+{
+    for slot in 0..64u8 {
+        sweep_slot(w, root, slot);
+    }
+}
+
+/// The same in one slot.
+#[tactic(auto, using(crate::proofs::RemovalLaws::sweeps_gone))]
+fn sweep_slot(w: &mut World, root: u8, slot: u8)
+    requires slot { slot < slots }
+    ensures { Sweeps (in_tree (superior_at w.old.jobs) root) w.old w.new slot }
+{
+    if is_removed(&w.jobs, root, slot) {
+        w.core.drop_all(slot);
+        w.take_frame(slot);
+    } else {
+        shut_channels(w, root, slot);
+    }
+}
+
+/// Closes the channels of a slot's job that are on jobs of a tree.
+#[tactic(auto, using(crate::proofs::RemovalLaws::sweeps_some, crate::proofs::RemovalLaws::sweeps_none))]
+fn shut_channels(w: &mut World, root: u8, slot: u8)
+    requires slot { slot < slots }
+    requires stays { in_tree (superior_at w.old.jobs) root slot ≡ false }
+    ensures { Sweeps (in_tree (superior_at w.old.jobs) root) w.old w.new slot }
+{
+    if let Some(mut job) = w.registers(slot) {
+        shut_each(&w.jobs, root, &mut job.channels);
+        w.put_registers(slot, job);
+    }
+}
+
+/// Closes those of these channels that are on jobs of a tree.
+#[tactic(auto, using(crate::proofs::RemovalLaws::shutting_start, crate::proofs::RemovalLaws::shutting_more, crate::proofs::RemovalLaws::shutting_end))]
+fn shut_each(jobs: &Jobs, root: u8, channels: &mut [Channel])
+    ensures { (n : ℕ) → slice_index_or channels.new n Closed ≡ channel_left (in_tree (superior_at jobs.now) root) (slice_index_or channels.old n Closed) }
+{
+    for n in 0..channels.len() {
+        channels[n] = left(jobs, root, channels[n]);
+    }
+}
+
+/// A channel after the removal of a tree.
+fn left(jobs: &Jobs, root: u8, channel: Channel) -> Channel
+    ensures { result ≡ channel_left (in_tree (superior_at jobs.now) root) channel }
+{
+    match channel {
+        Channel::Usr { slot, write, at } => {
+            if is_removed(jobs, root, slot) {
+                Channel::Closed
+            } else {
+                Channel::Usr { slot, write, at }
+            }
+        }
+        other => other,
+    }
+}
+
+/// Whether the job of a slot is that of the root or below it.
+fn is_removed(jobs: &Jobs, root: u8, slot: u8) -> bool
+    ensures { result ≡ in_tree (superior_at jobs.now) root slot }
+{
+    slot == root || jobs.is_below(root, slot)
+}

@@ -1,0 +1,93 @@
+use super::{remove_tree, unwind_below};
+use its_jobs::{Job, Jobs};
+use its_word::{Channel, SLOTS, Word};
+use its_world::World;
+use std::alloc::Global;
+use std::process::Abort;
+use std::test::Fail;
+
+/// The channel that each job of a test has open on one slot.
+fn on(slot: u8) -> Channel {
+    Channel::Usr {
+        slot,
+        write: true,
+        at: 0o20,
+    }
+}
+
+/// Jobs in slots 0 to 3 with these superiors; the first channel of each is open on a slot.
+fn jobs(
+    rt: &impl Abort,
+    alloc: Global,
+    superiors: [Option<u8>; 4],
+    slot: u8,
+) -> Result<Jobs, Fail> {
+    let mut jobs = Jobs::open(alloc)?;
+    for superior in superiors {
+        if let Some(s) = superior {
+            assert!(rt; usize::from(s) < SLOTS);
+            assert!(rt; jobs.job(s).is_some());
+        }
+        let made = jobs.create(Word::new(7), Word::new(0o107), superior, None);
+        if let Ok(k) = made {
+            if let Some(job) = jobs.job_mut(k) {
+                job.channels[0] = on(slot);
+            }
+        }
+    }
+    Ok(jobs)
+}
+
+/// The first channel of a slot's job, where there is one.
+fn first(job: Option<&Job>) -> Option<Channel> {
+    job.map(|j| j.channels[0])
+}
+
+/// A chain, two branches and a leaf: what is below goes too, all else stays, and channels on what is gone
+/// are closed.
+#[test]
+#[tactic(auto, using(crate::proofs::RemovalLaws::idle_sound, crate::proofs::RemovalLaws::idle_frames, crate::proofs::RemovalLaws::idle_page))]
+fn trees(rt: HostRuntime) -> Result<(), Fail> {
+    let open = Some(on(1));
+    let shut = Some(Channel::Closed);
+    for (superiors, root, left) in [
+        (
+            [None, Some(0), Some(1), Some(2)],
+            1,
+            [shut, None, None, None],
+        ),
+        (
+            [None, Some(0), Some(0), Some(1)],
+            1,
+            [shut, None, shut, None],
+        ),
+        (
+            [None, Some(0), Some(1), Some(0)],
+            2,
+            [open, open, None, open],
+        ),
+        ([None, Some(0), Some(1), None], 0, [None, None, None, shut]),
+    ] {
+        let mut w = World::open(rt.alloc())?;
+        w.jobs = jobs(&rt, rt.alloc(), superiors, 1)?;
+        assert!(rt; w.jobs.job(root).is_some());
+        remove_tree(&mut w, root);
+        for (slot, want) in left.into_iter().enumerate() {
+            assert_eq!(rt; first(w.jobs.job(slot as u8)), want, "{slot} of {root}");
+        }
+    }
+    Ok(())
+}
+
+/// Jobs that are in no call stay as they are.
+#[test]
+#[tactic(auto, using(crate::proofs::RemovalLaws::idle_sound, crate::proofs::RemovalLaws::idle_frames, crate::proofs::RemovalLaws::idle_page))]
+fn nothing_to_unwind(rt: HostRuntime) -> Result<(), Fail> {
+    let mut w = World::open(rt.alloc())?;
+    w.jobs = jobs(&rt, rt.alloc(), [None, Some(0), Some(1), None], 1)?;
+    unwind_below(&mut w, 0);
+    for slot in 0..4u8 {
+        assert_eq!(rt; first(w.jobs.job(slot)), Some(on(1)));
+    }
+    Ok(())
+}

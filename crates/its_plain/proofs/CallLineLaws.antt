@@ -1,0 +1,207 @@
+-- What the lines of a session leave of the plain machine: names, superiors, channels, consoles and files. What holds of
+-- these alone is kept by every line.
+use Rattle.std.specs.Prelude.{◌≡◌, ◌≢◌, ◌<◌, ◌≤◌, ◌⊎◌, ℕ, zero, suc, cond, ◌+◌, Bool, true, false, Option, Some, None, List, [], ◌∷◌, Result, Ok, Err, option_map, is_some, nat_lt, refl}
+use Rattle.std.proofs.Common.{sym, ◌∙◌, ap, inl, inr, arith}
+use Rattle.std.proofs.lemmas.Bool.{cases_eq, eq-eqb, ne_eqb, ltb-true}
+use Rattle.its_word.specs.Core.{Core, word_at, can_store}
+use Rattle.its_word.specs.Limits as limits
+use Rattle.its_word.specs.Tree.{free_from, least_free}
+use Rattle.its_word.specs.declared.jobs.Job.{Job}
+use Rattle.its_word.specs.declared.session.Event.{Event}
+use Rattle.its_word.specs.declared.session.Event.TheVariants as events
+use Rattle.its_word.specs.declared.session.Reason.{Reason}
+use Rattle.its_word.specs.declared.show.JobShow.{JobShow}
+use Rattle.its_word.proofs.FreeLaws.{least_empty}
+use Rattle.its_plain.specs.Machine.{Chan, Whole, Machine, with_job, mapped}
+use Rattle.its_plain.specs.Operator.{Block, Operated, Refuses, Does, Ticks, Ends, new_job, loaded_in, loaded, stored, with_core, word_loaded_of, word_loaded, and_then, words_loaded, on_job, with_registers, on_registers, started, interrupted, stopped, continued, examined, state_shown, deposited_in, deposited, disturbs, quietly, by_load, by_exam, by_state}
+use Rattle.its_plain.specs.Operator as operator
+use Rattle.its_plain.specs.CallOperator.{clock_end, clocked_if, clocked, operate, Lined, Done, Peeks, peeked_at, lined}
+
+-- what no line changes of a job
+pub record Face : Type 0 where
+  pub uname : ℕ
+  pub jname : ℕ
+  pub console : Option ℕ
+  pub superior : Option ℕ
+  pub channels : ℕ → Chan
+
+abbrev pub face : Whole → Face
+face q = record { uname = q.job.uname; jname = q.job.jname; console = q.job.console; superior = q.superior; channels = q.channels }
+
+-- a slot is as it was, but for words and registers; or LOAD made a job there
+pub data SlotKept (o p : Option Whole) : Type 0 where
+  Stays : option_map face p ≡ option_map face o → SlotKept o p
+  Made : (u j : ℕ) (console : Option ℕ) → o ≡ None → p ≡ Some (new_job u j console) → SlotKept o p
+
+pub record LineKeeps (m n : Machine) : Type 0 where
+  pub slots : (k : ℕ) → SlotKept (m.jobs k) (n.jobs k)
+  pub few : (k : ℕ) → limits.slots ≤ k → m.jobs k ≡ None → n.jobs k ≡ None
+  pub consoles : n.consoles ≡ m.consoles
+  pub holders : n.holders ≡ m.holders
+  pub files : n.files ≡ m.files
+  pub clock : (n.clock ≡ m.clock) ⊎ (n.clock < clock_end)
+
+abbrev pub LineKeepsBy : Machine → Lined → Type 0
+LineKeepsBy m (Done (Does n out touched b)) = LineKeeps m n
+LineKeepsBy m (Done (Refuses r)) = Unit {0}
+LineKeepsBy m (Done (Ticks s k)) = Unit {0}
+LineKeepsBy m (Done Ends) = Unit {0}
+LineKeepsBy m (Peeks s) = Unit {0}
+
+-- the same, but for words and registers
+pub record Alike (m n : Machine) : Type 0 where
+  pub slots : (k : ℕ) → option_map face (n.jobs k) ≡ option_map face (m.jobs k)
+  pub consoles : n.consoles ≡ m.consoles
+  pub holders : n.holders ≡ m.holders
+  pub files : n.files ≡ m.files
+  pub clock : n.clock ≡ m.clock
+
+-- an empty slot has no face
+faceless : (p o : Option Whole) → option_map face p ≡ option_map face o → o ≡ None → p ≡ None
+faceless None o h e = refl
+faceless (Some q) o h e = let none : Some (face q) ≡ None = h ∙ ap (option_map face) e in absurd cc
+
+alike_keeps : (m n : Machine) → Alike m n → LineKeeps m n
+alike_keeps m n h = record { slots = λ k. Stays (h.slots k); few = λ k l e. faceless (n.jobs k) (m.jobs k) (h.slots k) e; consoles = h.consoles; holders = h.holders; files = h.files; clock = inl h.clock }
+
+alike_same : (m : Machine) → Alike m m
+alike_same m = record { slots = λ k. refl; consoles = refl; holders = refl; files = refl; clock = refl }
+
+alike_then : (m n l : Machine) → Alike m n → Alike n l → Alike m l
+alike_then m n l a b = record {
+  slots = λ k. b.slots k ∙ a.slots k;
+  consoles = b.consoles ∙ a.consoles;
+  holders = b.holders ∙ a.holders;
+  files = b.files ∙ a.files;
+  clock = b.clock ∙ a.clock;
+}
+
+put_alike : (m : Machine) (s : ℕ) (q p : Whole) → m.jobs s ≡ Some q → face p ≡ face q → Alike m (with_job m s p)
+put_alike m s q p is e = record {
+  slots = λ k. elim (cases_eq k s) [
+    | inl at ↦ rw (at, eq-eqb s s refl) (ap Some e ∙ sym (ap (option_map face) is))
+    | inr ne ↦ rw (ne_eqb k s ne) refl
+  ];
+  consoles = refl;
+  holders = refl;
+  files = refl;
+  clock = refl;
+}
+
+abbrev AlikeBy : Machine → Result Machine Reason → Type 0
+AlikeBy m (Ok n) = Alike m n
+AlikeBy m (Err r) = Unit {0}
+
+core_alike : (m : Machine) (s : ℕ) (q : Whole) (r : Result Core Reason) → m.jobs s ≡ Some q → AlikeBy m (with_core m s q r)
+core_alike m s q (Ok c) is = put_alike m s q (record q { core = c }) is refl
+core_alike m s q (Err r) is = tt
+
+registers_alike : (m : Machine) (s : ℕ) (f : Job → Job) → ((q : Whole) → face (record q { job = f q.job }) ≡ face q) → AlikeBy m (on_registers m s f)
+unfolding on_registers
+registers_alike m s f same = go (m.jobs s) refl
+  where
+    go : (o : Option Whole) → m.jobs s ≡ o → AlikeBy m (on_job m s (with_registers m s f) o)
+    go (Some q) is = put_alike m s q (record q { job = f q.job }) is (same q)
+    go None is = tt
+
+deposited_alike : (m : Machine) (s a w : ℕ) → AlikeBy m (deposited m s a w)
+unfolding deposited
+deposited_alike m s a w = go (m.jobs s) refl
+  where
+    go : (o : Option Whole) → m.jobs s ≡ o
+        → AlikeBy m (on_job m s (λ q. with_core m s q (deposited_in q.core a w (can_store q.core a) (is_some (word_at q.core a)))) o)
+    go (Some q) is = core_alike m s q (deposited_in q.core a w (can_store q.core a) (is_some (word_at q.core a))) is
+    go None is = tt
+
+word_alike_of : (m : Machine) (s a w : ℕ) (o : Option Whole) → m.jobs s ≡ o → AlikeBy m (word_loaded_of m s a w o)
+word_alike_of m s a w (Some q) is = core_alike m s q (stored (mapped m) q.core a w) is
+word_alike_of m s a w None is = tt
+
+word_alike : (m : Machine) (s a w : ℕ) → AlikeBy m (word_loaded m s a w)
+unfolding word_loaded
+word_alike m s a w = word_alike_of m s a w (m.jobs s) refl
+
+alike_further : (m n : Machine) (r : Result Machine Reason) → Alike m n → AlikeBy n r → AlikeBy m r
+alike_further m n (Ok l) a b = alike_then m n l a b
+alike_further m n (Err r) a b = tt
+
+words_alike : (m : Machine) (s a : ℕ) (ws : List ℕ) → AlikeBy m (words_loaded m s a ws)
+words_alike m s a [] = alike_same m
+words_alike m s a (w ∷ ws) = go (word_loaded m s a w) (word_alike m s a w) (λ n. words_alike n s (a + 1) ws)
+  where
+    go : (r : Result Machine Reason) → AlikeBy m r → ((n : Machine) → AlikeBy n (words_loaded n s (a + 1) ws)) → AlikeBy m (and_then r (λ n. words_loaded n s (a + 1) ws))
+    go (Ok n) first h = alike_further m n (words_loaded n s (a + 1) ws) first (h n)
+    go (Err r) first h = tt
+
+-- what a result comes to
+disturbs_keeps : (m : Machine) (s : ℕ) (b : Block) (r : Result Machine Reason) → AlikeBy m r → LineKeepsBy m (Done (disturbs s b r))
+disturbs_keeps m s b (Ok n) h = alike_keeps m n h
+disturbs_keeps m s b (Err r) h = tt
+
+exam_keeps : (m : Machine) (b : Block) (s a : ℕ) (r : Result (List ℕ) Reason) → LineKeepsBy m (Done (by_exam m b s a r))
+exam_keeps m b s a (Ok ws) = alike_keeps m m (alike_same m)
+exam_keeps m b s a (Err r) = tt
+
+show_keeps : (m : Machine) (b : Block) (s : ℕ) (r : Result JobShow Reason) → LineKeepsBy m (Done (by_state m b s r))
+show_keeps m b s (Ok show) = alike_keeps m m (alike_same m)
+show_keeps m b s (Err r) = tt
+
+peek_keeps : (m : Machine) (s : ℕ) (o : Option Whole) → LineKeepsBy m (peeked_at s o)
+peek_keeps m s (Some q) = tt
+peek_keeps m s None = tt
+
+-- the least free slot is one of the slots that there are
+free_below : (f : ℕ → Option Whole) (n k s : ℕ) → free_from f n k ≡ Some s → s < k + n
+unfolding free_from
+free_below f zero k s h = absurd (let none = h in cc)
+free_below f (suc n) k s h = go (is_some (f k)) h (λ t. free_below f n (k + 1) s t)
+  where
+    go : (b : Bool) → cond b (free_from f n (k + 1)) (Some k) ≡ Some s → (free_from f n (k + 1) ≡ Some s → s < k + 1 + n) → s < k + suc n
+    go true t rest = let l = rest t in omega arith
+    go false t rest = let e : k ≡ s = cc in omega arith
+
+least_below : (f : ℕ → Option Whole) (s : ℕ) → least_free f ≡ Some s → s < limits.slots
+unfolding least_free
+least_below f s h = let l = free_below f limits.slots 0 s h in omega arith
+
+load_keeps : (m : Machine) (u j : ℕ) (console o : Option ℕ) → least_free m.jobs ≡ o → LineKeepsBy m (Done (by_load (loaded_in m u j console o)))
+load_keeps m u j console (Some s) is = record {
+  slots = λ k. elim (cases_eq k s) [
+    | inl at ↦ rw at (Made u j console (least_empty m.jobs s is) (rw (eq-eqb s s refl) refl))
+    | inr ne ↦ Stays (rw (ne_eqb k s ne) refl)
+  ];
+  few = λ k l e. (let below : s < limits.slots = least_below m.jobs s is in let ne : k ≢ s = λ at. omega arith in rw (ne_eqb k s ne) e);
+  consoles = refl;
+  holders = refl;
+  files = refl;
+  clock = inl refl;
+}
+load_keeps m u j console None is = tt
+
+clock_keeps : (m : Machine) (b : Block) (n : ℕ) (fits : Bool) → nat_lt (m.clock + n) clock_end ≡ fits → LineKeepsBy m (Done (quietly b (clocked_if m n fits)))
+clock_keeps m b n true is = record { slots = λ k. Stays refl; few = λ k l e. e; consoles = refl; holders = refl; files = refl; clock = inr (ltb-true (m.clock + n) clock_end is) }
+clock_keeps m b n false is = tt
+
+pub line_keeps : (m : Machine) (b : Block) (e : Event) → LineKeepsBy m (lined m b e)
+unfolding lined operate operator.operate loaded clocked
+line_keeps m b (events.Load u j console) = load_keeps m u j console (least_free m.jobs) refl
+line_keeps m b (events.Words a words) = disturbs_keeps m b.slot b (words_loaded m b.slot a words.items) (words_alike m b.slot a words.items)
+line_keeps m b (events.Go a) = disturbs_keeps m b.slot b (on_registers m b.slot (started a)) (registers_alike m b.slot (started a) (λ q. refl))
+line_keeps m b (events.Int s x y) = disturbs_keeps m s b (on_registers m s (interrupted x y)) (registers_alike m s (interrupted x y) (λ q. refl))
+line_keeps m b (events.Stop s) = disturbs_keeps m s b (on_registers m s stopped) (registers_alike m s stopped (λ q. refl))
+line_keeps m b (events.Cont s) = disturbs_keeps m s b (on_registers m s continued) (registers_alike m s continued (λ q. refl))
+line_keeps m b (events.Deposit s a x) = disturbs_keeps m s b (deposited m s a x) (deposited_alike m s a x)
+line_keeps m b (events.Exam s a n) = exam_keeps m b s a (examined m s a n)
+line_keeps m b (events.State s) = show_keeps m b s (state_shown m s)
+line_keeps m b (events.Clock n) = clock_keeps m b n (nat_lt (m.clock + n) clock_end) refl
+line_keeps m b (events.Peek s) = peek_keeps m s (m.jobs s)
+line_keeps m b (events.Tick s n) = tt
+line_keeps m b events.Nothing = alike_keeps m m (alike_same m)
+line_keeps m b events.End = tt
+line_keeps m b (events.File d x y) = tt
+line_keeps m b (events.Append words) = tt
+line_keeps m b events.EndFile = tt
+line_keeps m b (events.TypeIn c bytes) = tt
+line_keeps m b (events.Drain c n) = tt
+line_keeps m b (events.Dir d) = tt
+line_keeps m b (events.Show d x y) = tt

@@ -1,0 +1,18 @@
+-- When two machines are one: their jobs are compared slot by slot, and nowhere else.
+use Rattle.std.specs.Prelude.{◌≡◌, ℕ}
+use Rattle.std.proofs.Common.{◌∙◌}
+use Rattle.its_plain.specs.Machine.{Whole, Machine}
+
+pub machine_is : (m n : Machine) → ((k : ℕ) → m.jobs k ≡ n.jobs k) → ((k : ℕ) → m.consoles k ≡ n.consoles k) → ((k : ℕ) → m.holders k ≡ n.holders k)
+    → m.files ≡ n.files → m.clock ≡ n.clock → m ≡ n
+machine_is m n jobs consoles holders files clock = λ t. record {
+  jobs = λ k. jobs k t;
+  consoles = λ k. consoles k t;
+  holders = λ k. holders k t;
+  files = files t;
+  clock = clock t;
+}
+
+-- the same where all but their jobs is alike
+pub jobs_are : (m n : Machine) → ((k : ℕ) → m.jobs k ≡ n.jobs k) → m ≡ record n { jobs = m.jobs } → m ≡ n
+jobs_are m n jobs rest = rest ∙ (λ t. record n { jobs = λ k. jobs k t })

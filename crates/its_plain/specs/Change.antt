@@ -1,0 +1,138 @@
+-- What a change that a call makes outside its caller's own words and registers does to the plain machine
+-- (docs/CALLS.md).
+use Rattle.std.specs.Prelude.{if◌then◌else◌, ◌==◌, ◌||◌, ◌&&◌, ℕ, Bool, true, false, not, Option, Some, None, List, [], ◌∷◌, ◌++◌, filter, map, option_map}
+use Rattle.its_word.specs.Core.{Core, Page, no_core, zero_page, page_of, with_page, marked}
+use Rattle.its_word.specs.Tree.{fresh_job, is_below}
+use Rattle.its_word.specs.declared.plan.Store.{Store}
+use Rattle.its_frame.specs.declared.change.Change.{Change}
+use Rattle.its_frame.specs.declared.change.Change.TheVariants as changes
+use Rattle.its_plain.specs.Job.{INF, with_pending}
+use Rattle.its_plain.specs.Machine.{Names, File, Chan, Shut, Writes, On, Whole, Console, Machine, changed, all_shut}
+use Rattle.its_plain.specs.Own.{with_stores, with_registers, names_of, opened_on, at_position, with_word, on_channel, with_variable}
+
+-- the job of slot s changed, where there is one
+abbrev pub on_slot : {X : Type 0} → (ℕ → Option X) → ℕ → (X → X) → ℕ → Option X
+on_slot jobs s f k = if k == s then option_map f (jobs k) else jobs k
+
+abbrev pub in_job : Machine → ℕ → (Whole → Whole) → Machine
+in_job m s f = record m { jobs = on_slot m.jobs s f }
+
+-- the directory: files are told apart by their three names
+abbrev pub same_names : Names → Names → Bool
+same_names f g = (f.d == g.d) && ((f.x == g.x) && (f.y == g.y))
+
+unfoldable pub without_file : Names → List File → List File
+without_file n fs = filter (λ f. not (same_names n f.names)) fs
+
+-- a draft becomes the last file, in place of one with its names
+abbrev pub filed : File → List File → List File
+filed f fs = without_file f.names fs ++ f ∷ []
+
+abbrev pub renamed_to : Names → ℕ → ℕ → File → File
+renamed_to n x y f = if same_names n f.names then record f { names = names_of f.names.d x y } else f
+
+unfoldable pub renamed : Names → ℕ → ℕ → List File → List File
+renamed n x y fs = map (renamed_to n x y) fs
+
+abbrev pub channel_in : Option Whole → ℕ → Chan
+channel_in (Some q) n = q.channels n
+channel_in None n = Shut
+
+abbrev pub files_closed : Chan → List File → List File
+files_closed (Writes f) fs = filed f fs
+files_closed _ fs = fs
+
+-- consoles
+abbrev pub rest_of : List ℕ → List ℕ
+rest_of (b ∷ bs) = bs
+rest_of [] = []
+
+abbrev pub taken_from : Console → Console
+taken_from c = record c { input = rest_of c.input }
+
+abbrev pub put_to : ℕ → Console → Console
+put_to b c = record c { output = c.output ++ b ∷ [] }
+
+abbrev pub on_console : Machine → ℕ → (Console → Console) → Machine
+on_console m c f = record m { consoles = changed m.consoles c (f (m.consoles c)) }
+
+-- the slot of the superior of each job
+abbrev pub superior_in : Option Whole → Option ℕ
+superior_in (Some q) = q.superior
+superior_in None = None
+
+abbrev pub superiors : Machine → ℕ → Option ℕ
+superiors m k = superior_in (m.jobs k)
+
+-- a removal: a job and all below it are gone; channels on them are closed; a console that one of them
+-- held passes to the nearest superior that is not removed, else to nobody
+abbrev pub is_gone : (ℕ → Option ℕ) → ℕ → ℕ → Bool
+is_gone sup r k = (k == r) || is_below sup r k
+
+abbrev pub chan_left : (ℕ → Bool) → Chan → Chan
+chan_left gone (On s write at) = if gone s then Shut else On s write at
+chan_left gone c = c
+
+abbrev pub shut_on : (ℕ → Bool) → Whole → Whole
+shut_on gone q = record q { channels = λ n. chan_left gone (q.channels n) }
+
+abbrev pub left_job : (ℕ → Bool) → Bool → Option Whole → Option Whole
+left_job gone true o = None
+left_job gone false o = option_map (shut_on gone) o
+
+abbrev pub passed_on : (ℕ → Bool) → Option ℕ → Option ℕ → Option ℕ
+passed_on gone heir (Some h) = if gone h then heir else Some h
+passed_on gone heir None = None
+
+unfoldable pub removed : (ℕ → Option ℕ) → ℕ → Machine → Machine
+removed sup r m = record m {
+  jobs = λ k. left_job (is_gone sup r) (is_gone sup r k) (m.jobs k);
+  holders = λ c. passed_on (is_gone sup r) (sup r) (m.holders c);
+}
+
+-- an inferior as OPEN makes it: stopped, with no page and closed channels, and with its maker's console
+abbrev pub console_in : Option Whole → Option ℕ
+console_in (Some q) = q.job.console
+console_in None = None
+
+abbrev pub inferior : ℕ → Option Whole → ℕ → ℕ → Whole
+inferior j o u n = record { core = no_core; job = fresh_job u n (console_in o); superior = Some j; channels = all_shut }
+
+-- pages
+abbrev pub with_page_at : ℕ → Option Page → Whole → Whole
+with_page_at k p q = record q { core = with_page q.core k p }
+
+abbrev pub protected : ℕ → Bool → Whole → Whole
+protected k w q = record q { core = with_page q.core k (marked (page_of q.core k) w) }
+
+abbrev pub poke : ℕ → ℕ → Store
+poke a w = record { at = a; word = w }
+
+abbrev pub with_inf : Whole → Whole
+with_inf q = with_registers (λ j. with_pending j INF) q
+
+-- what a change of slot j's call does
+unfoldable pub effect : Change → ℕ → Machine → Machine
+effect (changes.Open n on) j m = in_job m j (on_channel n (λ c. opened_on on))
+effect (changes.Shut n) j m = in_job m j (on_channel n (λ c. Shut))
+effect (changes.Move n at) j m = in_job m j (on_channel n (at_position at))
+effect (changes.Append n w) j m = in_job m j (on_channel n (with_word w))
+effect (changes.Close n) j m = record (in_job m j (on_channel n (λ c. Shut))) { files = files_closed (channel_in (m.jobs j) n) m.files }
+effect (changes.Take c) j m = on_console m c taken_from
+effect (changes.Put c b) j m = on_console m c (put_to b)
+effect (changes.Hold c s) j m = record m { holders = changed m.holders c (Some s) }
+effect (changes.Poke s a w) j m = in_job m s (with_stores (poke a w ∷ []))
+effect (changes.Set s v w) j m = in_job m s (with_registers (with_variable v w))
+effect (changes.Map s k) j m = in_job m s (with_page_at k (Some zero_page))
+effect (changes.Unmap s k) j m = in_job m s (with_page_at k None)
+effect (changes.Protect s k w) j m = in_job m s (protected k w)
+effect (changes.Make s u n) j m = record m { jobs = changed m.jobs s (Some (inferior j (m.jobs j) u n)) }
+effect (changes.Remove s) j m = removed (superiors m) s m
+effect (changes.Inform s) j m = in_job m s with_inf
+effect (changes.Delete d x y) j m = record m { files = without_file (names_of d x y) m.files }
+effect (changes.Rename d x y u v) j m = record m { files = renamed (names_of d x y) u v m.files }
+
+-- several, in their order
+abbrev pub effects : List Change → ℕ → Machine → Machine
+effects [] j m = m
+effects (c ∷ cs) j m = effects cs j (effect c j m)

@@ -1,0 +1,90 @@
+-- Which call decides, whom its commit disturbs, and what a call is that is not built.
+use Rattle.std.specs.Prelude.{if◌then◌else◌, ◌==◌, ℕ, Bool, true, false, Option, Some, None, List, [], ◌∷◌, ◌++◌}
+use Rattle.its_word.specs.Tree.{slots_below}
+use Rattle.its_word.specs.declared.calls.Ask.{Ask}
+use Rattle.its_frame.specs.declared.decision.Decision.{Decision}
+use Rattle.its_frame.specs.declared.name.CallName.{CallName}
+use Rattle.its_frame.specs.declared.name.CallName.TheVariants.{Hang, Sleep, Dismis, Usrvar, Logout, Open, Close, Iot, Siot, Finish, Listen, Ttylnd, Access, Fillen, Delete, Rename, Usrmem, Uclose, Corblk}
+use Rattle.its_plain.specs.Machine.{Chan, On, Whole, Machine}
+use Rattle.its_plain.specs.Change.{superiors}
+use Rattle.its_plain.specs.Arguments.{input}
+use Rattle.its_plain.specs.View.{View}
+use Rattle.its_plain.specs.Tests.{fails}
+use Rattle.its_plain.specs.CallBasic.{is_oneself, channel_at, hang, sleep, dismiss, usrvar, logout, ioc}
+
+-- the calls by their SIXBIT names
+unfoldable pub call_named : ℕ → Option CallName
+call_named w =
+    if w == 0o504156470000 then Some Hang
+    else (if w == 0o635445456000 then Some Sleep
+    else (if w == 0o445163555163 then Some Dismis
+    else (if w == 0o656362664162 then Some Usrvar
+    else (if w == 0o545747576564 then Some Logout
+    else (if w == 0o576045560000 then Some Open
+    else (if w == 0o435457634500 then Some Close
+    else (if w == 0o515764000000 then Some Iot
+    else (if w == 0o635157640000 then Some Siot
+    else (if w == 0o465156516350 then Some Finish
+    else (if w == 0o545163644556 then Some Listen
+    else (if w == 0o646471545644 then Some Ttylnd
+    else (if w == 0o414343456363 then Some Access
+    else (if w == 0o465154544556 then Some Fillen
+    else (if w == 0o444554456445 then Some Delete
+    else (if w == 0o624556415545 then Some Rename
+    else (if w == 0o656362554555 then Some Usrmem
+    else (if w == 0o654354576345 then Some Uclose
+    else (if w == 0o435762425453 then Some Corblk
+    else None))))))))))))))))))
+
+-- what a call decides whose decoding gave no error. One that is not built fails with error 1; `.IOT` fails,
+-- as no channel can be open
+abbrev pub decided_by : View → Ask → Option CallName → Decision
+decided_by v a (Some Hang) = hang
+decided_by v a (Some Sleep) = sleep v a
+decided_by v a (Some Dismis) = dismiss v a
+decided_by v a (Some Usrvar) = usrvar v a
+decided_by v a (Some Logout) = logout v
+decided_by v a (Some Iot) = ioc v
+decided_by v a _ = fails v a 0o1
+
+-- an error of the decoding comes first
+unfoldable pub decided : View → Ask → Decision
+decided v a = if a.fail == 0 then decided_by v a (call_named a.name) else fails v a a.fail
+
+-- the argument that names the channel by which a call reaches into another job. A call that is not built
+-- reaches into none
+abbrev pub reaching : CallName → Option ℕ
+reaching Usrvar = Some 0
+reaching _ = None
+
+abbrev pub inferior_on : Chan → Option ℕ
+inferior_on (On s write at) = Some s
+inferior_on _ = None
+
+abbrev pub reached_by : Whole → ℕ → Option ℕ
+reached_by q w = if is_oneself w then None else inferior_on (channel_at q.channels w)
+
+abbrev pub target_by : Whole → Ask → Option ℕ → Option ℕ
+target_by q a (Some k) = reached_by q (input a k)
+target_by q a None = None
+
+abbrev pub argument_of : Option CallName → Option ℕ
+argument_of (Some n) = reaching n
+argument_of None = None
+
+-- the job into which a call without error 1 to 3 reaches, through an open channel on it
+unfoldable pub target : Whole → Ask → Option ℕ
+target q a = if a.fail == 0 then target_by q a (argument_of (call_named a.name)) else None
+
+-- the slots, other than its own, of the jobs that a commit disturbs: the target; of LOGOUT the jobs below
+-- the caller, and its superior
+abbrev pub listed : Option ℕ → List ℕ
+listed (Some s) = s ∷ []
+listed None = []
+
+abbrev pub reach_by : Machine → ℕ → Whole → Ask → Option CallName → List ℕ
+reach_by m j q a (Some Logout) = slots_below (superiors m) j ++ listed q.superior
+reach_by m j q a _ = listed (target q a)
+
+unfoldable pub reach : Machine → ℕ → Whole → Ask → List ℕ
+reach m j q a = if a.fail == 0 then reach_by m j q a (call_named a.name) else []

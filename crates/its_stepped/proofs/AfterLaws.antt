@@ -1,0 +1,46 @@
+-- The state after a line: it is sound, stands for the plain machine after that line, and has the frames of all slots that
+-- the line does not disturb (docs/STEPS.md, "Lines").
+use Rattle.std.specs.Prelude.{◌≡◌, ℕ, false, refl}
+use Rattle.std.proofs.Common.{sym, ◌∙◌, ap}
+use Rattle.its_word.specs.declared.session.Event.{Event}
+use Rattle.its_plain.specs.Operator.{Block, Refuses, Does, Ticks, Ends}
+use Rattle.its_plain.specs.CallOperator.{Lined, Done, Peeks, lined}
+use Rattle.its_stepped.specs.State.{State, plain}
+use Rattle.its_stepped.specs.Sound.{Sound}
+use Rattle.its_stepped.specs.Lines.{calmed, state_after, after_line, lifted_line, machine_after, touched_by}
+use Rattle.its_stepped.proofs.LineLaws.{line_plain}
+use Rattle.its_stepped.proofs.KeptLaws.{KeptBy, line_kept}
+
+sound_by : (w v : State) (l : Lined) → Sound w → KeptBy w v l → Sound (state_after w v l)
+sound_by w v (Done (Does m out touched b)) sound h = h.sound
+sound_by w v (Done (Refuses r)) sound h = sound
+sound_by w v (Done (Ticks s k)) sound h = sound
+sound_by w v (Done Ends) sound h = sound
+sound_by w v (Peeks s) sound h = sound
+
+pub after_sound : (w : State) (b : Block) (e : Event) → Sound w → Sound (after_line w b e)
+unfolding after_line
+after_sound w b e sound = sound_by w (calmed w b e) (lined (calmed w b e).raw b e) sound (line_kept w b e sound)
+
+plain_by : (w v : State) (l : Lined) → plain (state_after w v l) ≡ machine_after (plain w) (lifted_line v l)
+plain_by w v (Done (Does m out touched b)) = refl
+plain_by w v (Done (Refuses r)) = refl
+plain_by w v (Done (Ticks s k)) = refl
+plain_by w v (Done Ends) = refl
+plain_by w v (Peeks s) = refl
+
+pub after_plain : (w : State) (b : Block) (e : Event) → Sound w → plain (after_line w b e) ≡ machine_after (plain w) (lined (plain w) b e)
+unfolding after_line
+after_plain w b e sound = plain_by w (calmed w b e) (lined (calmed w b e).raw b e) ∙ ap (machine_after (plain w)) (sym (line_plain w b e sound))
+
+frames_by : (w v : State) (l : Lined) (k : ℕ) → touched_by (lifted_line v l) k ≡ false → KeptBy w v l → (state_after w v l).frames k ≡ w.frames k
+frames_by w v (Done (Does m out touched b)) k away h = h.spares k away
+frames_by w v (Done (Refuses r)) k away h = refl
+frames_by w v (Done (Ticks s n)) k away h = refl
+frames_by w v (Done Ends) k away h = refl
+frames_by w v (Peeks s) k away h = refl
+
+pub after_frames : (w : State) (b : Block) (e : Event) (k : ℕ) → Sound w → touched_by (lined (plain w) b e) k ≡ false → (after_line w b e).frames k ≡ w.frames k
+unfolding after_line
+after_frames w b e k sound away =
+    frames_by w (calmed w b e) (lined (calmed w b e).raw b e) k (sym (ap (λ l. touched_by l k) (line_plain w b e sound)) ∙ away) (line_kept w b e sound)

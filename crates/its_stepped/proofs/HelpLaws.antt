@@ -1,0 +1,47 @@
+-- The owed parts of a marked close, made by another call: the plain machine has them already.
+use Rattle.std.specs.Prelude.{◌≡◌, ℕ, Bool, true, false, None, refl}
+use Rattle.its_stepped.specs.State.{State, helped, plain}
+use Rattle.its_stepped.specs.Unwind.{help}
+use Rattle.its_stepped.specs.Tick.{helped_if}
+use Rattle.its_stepped.specs.Sound.{Sound}
+use Rattle.its_stepped.proofs.RowLaws.{Shares}
+use Rattle.its_stepped.specs.SlotSame.{SlotSame}
+use Rattle.its_stepped.proofs.UnwindLaws.{slot_same, shares_same}
+
+pub help_plain : (w : State) → plain (help w) ≡ plain w
+unfolding plain help helped
+help_plain w = refl
+
+pub help_sound : (w : State) → Sound w → Sound (help w)
+unfolding help
+help_sound w s = record { each = s.each; mark = tt }
+
+-- every slot stays as it was
+pub help_others : (w : State) (k : ℕ) → SlotSame w (help w) k
+unfolding help
+help_others w k = record { job = refl; frame = refl; page = refl }
+
+pub help_shared : (w : State) → Shares w (help w)
+unfolding help helped
+help_shared w = record { consoles = refl; holders = refl; clock = refl; files = refl }
+
+pub help_unmarked : (w : State) → (help w).mark ≡ None
+unfolding help
+help_unmarked w = refl
+
+-- the same where help is given or not
+pub helped_if_plain : (b : Bool) (w : State) → plain (helped_if b w) ≡ plain w
+helped_if_plain true w = help_plain w
+helped_if_plain false w = refl
+
+pub helped_if_sound : (b : Bool) (w : State) → Sound w → Sound (helped_if b w)
+helped_if_sound true w s = help_sound w s
+helped_if_sound false w s = s
+
+pub helped_if_others : (b : Bool) (w : State) (k : ℕ) → SlotSame w (helped_if b w) k
+helped_if_others true w k = help_others w k
+helped_if_others false w k = slot_same w k
+
+pub helped_if_shared : (b : Bool) (w : State) → Shares w (helped_if b w)
+helped_if_shared true w = help_shared w
+helped_if_shared false w = shares_same w

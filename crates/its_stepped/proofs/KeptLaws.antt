@@ -1,0 +1,172 @@
+-- A line of a session keeps the stepped machine sound, and the frame of each slot that it does not disturb
+-- (docs/STEPS.md, "Lines").
+use Rattle.std.specs.Prelude.{◌≡◌, ◌≢◌, ℕ, ◌+◌, Bool, true, false, Option, Some, None, List, [], ◌∷◌, Result, Ok, Err, is_some, nat_lt, refl}
+use Rattle.std.proofs.Common.{sym, ◌∙◌, subst, inl, inr}
+use Rattle.std.proofs.lemmas.Bool.{cases_eq, eq-eqb}
+use Rattle.its_word.specs.Core.{Core, word_at, can_store}
+use Rattle.its_word.specs.Tree.{least_free}
+use Rattle.its_word.specs.declared.jobs.Job.{Job}
+use Rattle.its_word.specs.declared.session.Event.{Event}
+use Rattle.its_word.specs.declared.session.Event.TheVariants as events
+use Rattle.its_word.specs.declared.session.Reason.{Reason}
+use Rattle.its_word.specs.declared.show.JobShow.{JobShow}
+use Rattle.its_word.proofs.FreeLaws.{least_empty}
+use Rattle.its_frame.specs.declared.frame.Frame.{Frame}
+use Rattle.its_plain.specs.Machine.{Whole, Machine, with_job, mapped}
+use Rattle.its_plain.specs.Operator.{Block, Operated, Refuses, Does, Ticks, Ends, only, new_job, loaded_in, loaded, stored, with_core, word_loaded_of, word_loaded, and_then, words_loaded, on_job, with_registers, on_registers, started, interrupted, stopped, continued, examined, state_shown, deposited_in, deposited, disturbs, quietly, by_load, by_exam, by_state}
+use Rattle.its_plain.specs.Operator as operator
+use Rattle.its_plain.specs.CallOperator.{clock_end, clocked_if, clocked, operate, Lined, Done, Peeks, peeked_at, lined}
+use Rattle.its_stepped.specs.State.{State}
+use Rattle.its_stepped.specs.Unwind.{unwound}
+use Rattle.its_stepped.specs.Sound.{SoundBy, Sound}
+use Rattle.its_stepped.specs.Lines.{calmed, with_raw}
+use Rattle.its_stepped.proofs.FrameLaws.{changed_only}
+use Rattle.its_stepped.proofs.UnwindLaws.{unwound_sound, unwound_none, unwound_others}
+use Rattle.its_stepped.proofs.CommitSound.{user_sound}
+use Rattle.its_stepped.proofs.LineLaws.{free_frame}
+
+-- the jobs of all slots but one are the same
+pub record Off (m n : Machine) (s : ℕ) : Type 0 where
+  pub others : (k : ℕ) → k ≢ s → n.jobs k ≡ m.jobs k
+
+-- a slot without a frame has no reserved page, and is sound whatever job it has
+user_page : (o : Option Whole) (f : Option Frame) (r : Option ℕ) → f ≡ None → SoundBy o f r → r ≡ None
+user_page None f r e h = h.1
+user_page (Some q) None r e h = h
+user_page (Some q) (Some f) r e h = absurd (let none = e in cc)
+
+off_sound : (v : State) (m : Machine) (s : ℕ) → Sound v → v.frames s ≡ None → Off v.raw m s → Sound (with_raw v m)
+off_sound v m s sound e off = record {
+  each = λ k. elim (cases_eq k s) [
+    | inl is ↦ rw is (user_sound (m.jobs s) (v.frames s) (v.reserved s) e (user_page (v.raw.jobs s) (v.frames s) (v.reserved s) e (sound.each s).by))
+    | inr ne ↦ record { by = subst (λ (o : Option Whole). SoundBy o (v.frames k) (v.reserved k)) (sym (off.others k ne)) (sound.each k).by }
+  ];
+  mark = sound.mark;
+}
+
+-- a job put into a slot, and whatever makes a machine so
+put_off : (m : Machine) (s : ℕ) (q : Whole) → Off m (with_job m s q) s
+put_off m s q = record { others = (changed_only m.jobs s (Some q)).others }
+
+abbrev OffBy : Machine → ℕ → Result Machine Reason → Type 0
+OffBy m s (Ok n) = Off m n s
+OffBy m s (Err r) = Unit {0}
+
+core_off : (m : Machine) (s : ℕ) (q : Whole) (r : Result Core Reason) → OffBy m s (with_core m s q r)
+core_off m s q (Ok c) = put_off m s (record q { core = c })
+core_off m s q (Err r) = tt
+
+registers_off : (m : Machine) (s : ℕ) (f : Job → Job) → OffBy m s (on_registers m s f)
+unfolding on_registers
+registers_off m s f = go (m.jobs s)
+  where
+    go : (o : Option Whole) → OffBy m s (on_job m s (with_registers m s f) o)
+    go (Some q) = put_off m s (record q { job = f q.job })
+    go None = tt
+
+deposited_off : (m : Machine) (s a w : ℕ) → OffBy m s (deposited m s a w)
+unfolding deposited
+deposited_off m s a w = go (m.jobs s)
+  where
+    go : (o : Option Whole) → OffBy m s (on_job m s (λ q. with_core m s q (deposited_in q.core a w (can_store q.core a) (is_some (word_at q.core a)))) o)
+    go (Some q) = core_off m s q (deposited_in q.core a w (can_store q.core a) (is_some (word_at q.core a)))
+    go None = tt
+
+word_off_of : (m : Machine) (s a w : ℕ) (o : Option Whole) → OffBy m s (word_loaded_of m s a w o)
+word_off_of m s a w (Some q) = core_off m s q (stored (mapped m) q.core a w)
+word_off_of m s a w None = tt
+
+word_off : (m : Machine) (s a w : ℕ) → OffBy m s (word_loaded m s a w)
+unfolding word_loaded
+word_off m s a w = word_off_of m s a w (m.jobs s)
+
+off_then : (m n : Machine) (s : ℕ) (r : Result Machine Reason) → Off m n s → OffBy n s r → OffBy m s r
+off_then m n s (Ok l) a b = record { others = λ k ne. b.others k ne ∙ a.others k ne }
+off_then m n s (Err r) a b = tt
+
+words_off : (m : Machine) (s a : ℕ) (ws : List ℕ) → OffBy m s (words_loaded m s a ws)
+words_off m s a [] = record { others = λ k ne. refl }
+words_off m s a (w ∷ ws) = go (word_loaded m s a w) (word_off m s a w) (λ n. words_off n s (a + 1) ws)
+  where
+    go : (r : Result Machine Reason) → OffBy m s r → ((n : Machine) → OffBy n s (words_loaded n s (a + 1) ws)) → OffBy m s (and_then r (λ n. words_loaded n s (a + 1) ws))
+    go (Ok n) off h = off_then m n s (words_loaded n s (a + 1) ws) off (h n)
+    go (Err r) off h = tt
+
+-- what a line leaves that comes to machine m in state v, and w is the state before it
+pub record Kept (w v : State) (m : Machine) (touched : ℕ → Bool) : Type 0 where
+  pub sound : Sound (with_raw v m)
+  pub spares : (k : ℕ) → touched k ≡ false → v.frames k ≡ w.frames k
+
+abbrev pub KeptBy : State → State → Lined → Type 0
+KeptBy w v (Done (Does m out touched b)) = Kept w v m touched
+KeptBy w v (Done (Refuses r)) = Unit {0}
+KeptBy w v (Done (Ticks s k)) = Unit {0}
+KeptBy w v (Done Ends) = Unit {0}
+KeptBy w v (Peeks s) = Unit {0}
+
+not_only : (s k : ℕ) → only s k ≡ false → k ≢ s
+not_only s k h e = let t : only s k ≡ true = eq-eqb k s e in cc
+
+-- a line that names a slot
+one_kept : (w : State) (s : ℕ) (m : Machine) → Sound w → Off (unwound w s).raw m s → Kept w (unwound w s) m (only s)
+one_kept w s m sound off = record {
+  sound = off_sound (unwound w s) m s (unwound_sound w s sound) (unwound_none w s sound) off;
+  spares = λ k h. (unwound_others w s k (not_only s k h)).frame;
+}
+
+disturbs_kept : (w : State) (s : ℕ) (b : Block) (r : Result Machine Reason) → Sound w → OffBy (unwound w s).raw s r → KeptBy w (unwound w s) (Done (disturbs s b r))
+disturbs_kept w s b (Ok m) sound off = one_kept w s m sound off
+disturbs_kept w s b (Err r) sound off = tt
+
+same_off : (m : Machine) (s : ℕ) → Off m m s
+same_off m s = record { others = λ k ne. refl }
+
+exam_kept : (w : State) (s a : ℕ) (b : Block) (r : Result (List ℕ) Reason) → Sound w → KeptBy w (unwound w s) (Done (by_exam (unwound w s).raw b s a r))
+exam_kept w s a b (Ok ws) sound = one_kept w s (unwound w s).raw sound (same_off (unwound w s).raw s)
+exam_kept w s a b (Err r) sound = tt
+
+show_kept : (w : State) (s : ℕ) (b : Block) (r : Result JobShow Reason) → Sound w → KeptBy w (unwound w s) (Done (by_state (unwound w s).raw b s r))
+show_kept w s b (Ok show) sound = one_kept w s (unwound w s).raw sound (same_off (unwound w s).raw s)
+show_kept w s b (Err r) sound = tt
+
+-- a line that names none
+load_kept : (w : State) (u j : ℕ) (console o : Option ℕ) → Sound w → least_free w.raw.jobs ≡ o → KeptBy w w (Done (by_load (loaded_in w.raw u j console o)))
+load_kept w u j console (Some s) sound is = record {
+  sound = off_sound w (with_job w.raw s (new_job u j console)) s sound (free_frame w s sound (least_empty w.raw.jobs s is)) (put_off w.raw s (new_job u j console));
+  spares = λ k h. refl;
+}
+load_kept w u j console None sound is = tt
+
+clock_kept : (w : State) (b : Block) (n : ℕ) (fits : Bool) → Sound w → KeptBy w w (Done (quietly b (clocked_if w.raw n fits)))
+clock_kept w b n true sound = record { sound = record { each = sound.each; mark = sound.mark }; spares = λ k h. refl }
+clock_kept w b n false sound = tt
+
+peek_kept : (w : State) (s : ℕ) (o : Option Whole) → KeptBy w w (peeked_at s o)
+peek_kept w s (Some q) = tt
+peek_kept w s None = tt
+
+pub line_kept : (w : State) (b : Block) (e : Event) → Sound w → KeptBy w (calmed w b e) (lined (calmed w b e).raw b e)
+unfolding lined operate operator.operate calmed loaded clocked
+line_kept w b (events.Load u j console) sound = load_kept w u j console (least_free w.raw.jobs) sound refl
+line_kept w b (events.Words a words) sound =
+    disturbs_kept w b.slot b (words_loaded (unwound w b.slot).raw b.slot a words.items) sound (words_off (unwound w b.slot).raw b.slot a words.items)
+line_kept w b (events.Go a) sound =
+    disturbs_kept w b.slot b (on_registers (unwound w b.slot).raw b.slot (started a)) sound (registers_off (unwound w b.slot).raw b.slot (started a))
+line_kept w b (events.Int s x y) sound = disturbs_kept w s b (on_registers (unwound w s).raw s (interrupted x y)) sound (registers_off (unwound w s).raw s (interrupted x y))
+line_kept w b (events.Stop s) sound = disturbs_kept w s b (on_registers (unwound w s).raw s stopped) sound (registers_off (unwound w s).raw s stopped)
+line_kept w b (events.Cont s) sound = disturbs_kept w s b (on_registers (unwound w s).raw s continued) sound (registers_off (unwound w s).raw s continued)
+line_kept w b (events.Deposit s a x) sound = disturbs_kept w s b (deposited (unwound w s).raw s a x) sound (deposited_off (unwound w s).raw s a x)
+line_kept w b (events.Exam s a n) sound = exam_kept w s a b (examined (unwound w s).raw s a n) sound
+line_kept w b (events.State s) sound = show_kept w s b (state_shown (unwound w s).raw s) sound
+line_kept w b (events.Clock n) sound = clock_kept w b n (nat_lt (w.raw.clock + n) clock_end) sound
+line_kept w b (events.Peek s) sound = peek_kept w s (w.raw.jobs s)
+line_kept w b (events.Tick s n) sound = tt
+line_kept w b events.Nothing sound = record { sound = sound; spares = λ k h. refl }
+line_kept w b events.End sound = tt
+line_kept w b (events.File d x y) sound = tt
+line_kept w b (events.Append words) sound = tt
+line_kept w b events.EndFile sound = tt
+line_kept w b (events.TypeIn c bytes) sound = tt
+line_kept w b (events.Drain c n) sound = tt
+line_kept w b (events.Dir d) sound = tt
+line_kept w b (events.Show d x y) sound = tt

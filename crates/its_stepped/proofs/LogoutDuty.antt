@@ -1,0 +1,112 @@
+-- LOGOUT does its duty: the jobs below the caller, and its superior, are in user mode before it.
+use Rattle.std.specs.Prelude.{if◌then◌else◌, ◌||◌, ◌≡◌, ◌≢◌, ◌≤◌, ◌<◌, ℕ, zero, suc, ◌+◌, Bool, true, false, Option, Some, None, List, [], ◌∷◌, ◌++◌, filter, refl}
+use Rattle.std.specs.List.{range_with_len}
+use Rattle.std.proofs.Common.{sym, ◌∙◌, ap, subst, inl, inr, arith}
+use Rattle.std.proofs.lemmas.Bool.{cases_eq, cases_lt, eq-eqb, ne_eqb}
+use Rattle.its_word.specs.Limits.{slots}
+use Rattle.its_word.specs.Tree.{is_below, slots_below}
+use Rattle.its_word.proofs.TreeLaws.{below_none}
+use Rattle.its_word.specs.declared.calls.Ask.{Ask}
+use Rattle.its_word.specs.declared.calls.Site.{Site}
+use Rattle.its_frame.specs.declared.change.Change.TheVariants as changes
+use Rattle.its_frame.specs.declared.name.CallName.{CallName}
+use Rattle.its_frame.specs.declared.name.CallName.TheVariants.{Logout}
+use Rattle.its_plain.specs.Arguments.{input}
+use Rattle.its_plain.specs.CallBasic.{told_superior, logout}
+use Rattle.its_plain.specs.CallStep.{among}
+use Rattle.its_plain.specs.Change.{superior_in, superiors, is_gone}
+use Rattle.its_plain.specs.Decide.{call_named, listed, reach_by, reach}
+use Rattle.its_plain.specs.Machine.{Whole, Machine}
+use Rattle.its_plain.specs.View.{View}
+use Rattle.its_stepped.specs.State.{State}
+use Rattle.its_stepped.specs.Commit.{effect_on}
+use Rattle.its_stepped.specs.Tick.{makes_page}
+use Rattle.its_stepped.specs.Quiet.{IsStill, AllQuiet}
+use Rattle.its_stepped.specs.Duty.{Duty, parts_in}
+use Rattle.its_stepped.specs.Calling.{Calling}
+use Rattle.its_stepped.proofs.UnwindLaws.{among_first, among_later, among_more}
+use Rattle.its_stepped.proofs.OwnLaws.{frame_none}
+use Rattle.its_stepped.proofs.TestLaws.{no_page}
+
+-- slots in lists
+pub among_left : (k : ℕ) (xs ys : List ℕ) → among k xs ≡ true → among k (xs ++ ys) ≡ true
+among_left k [] ys h = absurd cc
+among_left k (i ∷ xs) ys h = elim (cases_eq i k) [
+  | inl e ↦ subst (λ (n : ℕ). among n (i ∷ (xs ++ ys)) ≡ true) e (among_first i (xs ++ ys))
+  | inr ne ↦ among_more i k (xs ++ ys) (among_left k xs ys (among_later i k xs (λ e. ne (sym e)) h))
+]
+
+pub among_right : (k : ℕ) (xs ys : List ℕ) → among k ys ≡ true → among k (xs ++ ys) ≡ true
+among_right k [] ys h = h
+among_right k (i ∷ xs) ys h = among_more i k (xs ++ ys) (among_right k xs ys h)
+
+kept_filter : (b : Bool) (k i : ℕ) (ys : List ℕ) → among k ys ≡ true → among k (if b then i ∷ ys else ys) ≡ true
+kept_filter true k i ys h = among_more i k ys h
+kept_filter false k i ys h = h
+
+pub among_filter : (p : ℕ → Bool) (k : ℕ) (xs : List ℕ) → p k ≡ true → among k xs ≡ true → among k (filter p xs) ≡ true
+among_filter p k [] h a = a
+among_filter p k (i ∷ xs) h a = elim (cases_eq i k) [
+  | inl e ↦
+      ap (λ (b : Bool). among k (if b then i ∷ filter p xs else filter p xs)) (ap p e ∙ h)
+      ∙ subst (λ (n : ℕ). among n (i ∷ filter p xs) ≡ true) e (among_first i (filter p xs))
+  | inr ne ↦ kept_filter (p i) k i (filter p xs) (among_filter p k xs h (among_later i k xs (λ e. ne (sym e)) a))
+]
+
+pub among_range : (k from n : ℕ) → from ≤ k → k < from + n → among k (range_with_len from n) ≡ true
+among_range k from zero h l = absurd (omega arith)
+among_range k from (suc n) h l = elim (cases_eq from k) [
+  | inl e ↦ subst (λ (i : ℕ). among i (from ∷ range_with_len (from + 1) n) ≡ true) e (among_first from (range_with_len (from + 1) n))
+  | inr ne ↦ among_more from k (range_with_len (from + 1) n) (among_range k (from + 1) n (omega arith) (omega arith))
+]
+
+-- the slots below a job
+is_slot : (m : Machine) (j k : ℕ) → ((i : ℕ) → slots ≤ i → m.jobs i ≡ None) → is_below (superiors m) j k ≡ true → k < slots
+is_slot m j k few h = elim (cases_lt k slots) [
+  | inl l ↦ l
+  | inr ge ↦ let none : is_below (superiors m) j k ≡ false = below_none (superiors m) j k (ap superior_in (few k ge)) in absurd cc
+]
+
+pub among_below : (m : Machine) (j k : ℕ) → ((i : ℕ) → slots ≤ i → m.jobs i ≡ None) → is_below (superiors m) j k ≡ true → among k (slots_below (superiors m) j) ≡ true
+unfolding slots_below
+among_below m j k few h =
+    let l : k < slots = is_slot m j k few h in
+    among_filter (is_below (superiors m) j) k (range_with_len 0 slots) h (among_range k 0 slots (omega arith) (omega arith))
+
+gone_below : (sup : ℕ → Option ℕ) (j k : ℕ) → k ≢ j → is_gone sup j k ≡ true → is_below sup j k ≡ true
+gone_below sup j k ne h = sym (ap (λ (b : Bool). b || is_below sup j k) (ne_eqb k j ne)) ∙ h
+
+-- whom the call reaches
+reach_out : (m : Machine) (j : ℕ) (q : Whole) (a : Ask) → a.fail ≡ 0 → call_named a.name ≡ Some Logout → reach m j q a ≡ slots_below (superiors m) j ++ listed q.superior
+unfolding reach
+reach_out m j q a z e = ap (λ (b : Bool). if b then reach_by m j q a (call_named a.name) else []) (eq-eqb a.fail 0 z) ∙ ap (reach_by m j q a) e
+
+below_free : (m : Machine) (v : State) (j : ℕ) (q : Whole) (s : Site) (a : Ask) (n k : ℕ) → Calling m v j q s a n → a.fail ≡ 0 → call_named a.name ≡ Some Logout → k ≢ j
+    → is_gone (superiors v.raw) j k ≡ true → v.frames k ≡ None
+below_free m v j q s a n k c z e ne gone =
+    let same : is_gone (superiors v.raw) j k ≡ is_gone (superiors m) j k = (λ t. is_gone (λ i. c.tree i t) j k) in
+    let below : is_below (superiors m) j k ≡ true = gone_below (superiors m) j k ne (sym same ∙ gone) in
+    c.reached k (ap (among k) (reach_out m j q a z e) ∙ among_left k (slots_below (superiors m) j) (listed q.superior) (among_below m j k c.few below))
+
+told_quiet : (m : Machine) (v : State) (j : ℕ) (q : Whole) (s : Site) (a : Ask) (n : ℕ) (o : Option ℕ) → Calling m v j q s a n
+    → ((k : ℕ) → among k (listed o) ≡ true → v.frames k ≡ None) → AllQuiet (told_superior o) j (effect_on (changes.Remove j) j v)
+told_quiet m v j q s a n None c h = tt
+told_quiet m v j q s a n (Some k) c h =
+    let free : (effect_on (changes.Remove j) j v).frames k ≡ None = frame_none (changes.Remove j) j v k (h k (among_first k [])) in
+    (record { still = subst IsStill (sym free) tt; other = λ ne. free }, tt)
+
+told_part : (o : Option ℕ) → parts_in (told_superior o) ≡ 0
+told_part None = refl
+told_part (Some k) = refl
+
+pub logout_duty : (m : Machine) (v : State) (j : ℕ) (x : View) (s : Site) (a : Ask) (n : ℕ) → Calling m v j x.own s a n → call_named a.name ≡ Some Logout → a.fail ≡ 0
+    → Duty v j x.own s a n (logout x)
+logout_duty m v j x s a n c e z = record {
+  quiet = (
+    λ k gone ne. below_free m v j x.own s a n k c z e ne gone,
+    told_quiet m v j x.own s a n x.own.superior c
+        (λ k h. c.reached k (ap (among k) (reach_out m j x.own a z e) ∙ among_right k (slots_below (superiors m) j) (listed x.own.superior) h)),
+  );
+  closes = told_part x.own.superior;
+  page = no_page m v j x.own s a n c (ap (λ (o : Option CallName). makes_page o (input a 0)) e);
+}

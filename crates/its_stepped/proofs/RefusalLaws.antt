@@ -1,0 +1,204 @@
+-- A line is refused alike by the raw machine, by the one that it finds calmed, and by the plain one: so its refusal is
+-- tested first (docs/STEPS.md, "Lines").
+use Rattle.std.specs.Prelude.{◌≡◌, ℕ, zero, suc, ◌+◌, ◌%◌, ◌^◌, ◌&&◌, Bool, true, false, Option, Some, None, List, Result, Ok, Err, option_map, is_some, nat_lt, refl}
+use Rattle.std.proofs.Common.{sym, ◌∙◌, ap}
+use Rattle.its_word.specs.Core.{Core, word_at, can_store}
+use Rattle.its_word.specs.Limits.{most_pages}
+use Rattle.its_word.specs.Tree.{least_free}
+use Rattle.its_word.specs.declared.jobs.Job.{Job}
+use Rattle.its_word.specs.declared.session.Event.{Event}
+use Rattle.its_word.specs.declared.session.Event.TheVariants as events
+use Rattle.its_word.specs.declared.session.Reason.{Reason}
+use Rattle.its_word.specs.declared.show.JobShow.{JobShow}
+use Rattle.its_frame.specs.declared.frame.Frame.{Frame}
+use Rattle.its_plain.specs.Machine.{Whole, Machine, mapped, joined, words_at}
+use Rattle.its_plain.specs.Operator.{Block, Operated, Refuses, Does, Ticks, Ends, loaded_in, loaded, stored_in, stored, with_core, word_loaded_of, word_loaded, on_job, with_registers, on_registers, started, interrupted, stopped, continued, seen, examined, shown, state_shown, deposited_in, deposited, disturbs, quietly, by_load, by_exam, by_state}
+use Rattle.its_plain.specs.Operator as operator
+use Rattle.its_plain.specs.CallOperator.{clock_end, clocked_if, clocked, operate, Lined, Done, Peeks, peeked_at, lined}
+use Rattle.its_stepped.specs.State.{State, plain}
+use Rattle.its_stepped.specs.State as state
+use Rattle.its_stepped.specs.Unwind.{unwound}
+use Rattle.its_stepped.specs.Sound.{Sound}
+use Rattle.its_stepped.specs.Lines.{calmed, lifted_line, refusal}
+use Rattle.its_stepped.proofs.FrameLaws.{seen_can_store, seen_present, mapped_plain}
+use Rattle.its_stepped.proofs.UnwindLaws.{unwound_plain}
+use Rattle.its_stepped.proofs.LineLaws.{least_plain, line_plain}
+
+-- why a result is none
+abbrev pub error_of : {X : Type 0} → Result X Reason → Option Reason
+error_of (Ok x) = None
+error_of (Err r) = Some r
+
+jobs_at : (w : State) (s : ℕ) → (plain w).jobs s ≡ option_map (state.seen (w.frames s)) (w.raw.jobs s)
+unfolding plain
+jobs_at w s = refl
+
+-- a change of a job that is refused alike, with its frame and without
+on_job_alike : {X : Type 0} (m n : Machine) (s : ℕ) (f g : Whole → Result X Reason) (fr : Option Frame) (o : Option Whole)
+    → ((q : Whole) → error_of (f (state.seen fr q)) ≡ error_of (g q)) → error_of (on_job m s f (option_map (state.seen fr) o)) ≡ error_of (on_job n s g o)
+on_job_alike m n s f g fr (Some q) h = h q
+on_job_alike m n s f g fr None h = refl
+
+pub registers_alike : (w : State) (s : ℕ) (f : Job → Job) → error_of (on_registers (plain w) s f) ≡ error_of (on_registers w.raw s f)
+unfolding on_registers plain
+registers_alike w s f = on_job_alike (plain w) w.raw s (with_registers (plain w) s f) (with_registers w.raw s f) (w.frames s) (w.raw.jobs s) (λ q. refl)
+
+core_alike : (m n : Machine) (s : ℕ) (p q : Whole) (r t : Result Core Reason) → error_of r ≡ error_of t → error_of (with_core m s p r) ≡ error_of (with_core n s q t)
+core_alike m n s p q (Ok c) (Ok d) e = refl
+core_alike m n s p q (Ok c) (Err x) e = e
+core_alike m n s p q (Err x) (Ok d) e = e
+core_alike m n s p q (Err x) (Err y) e = e
+
+deposit_alike : (c d : Core) (a w : ℕ) (can there : Bool) → error_of (deposited_in c a w can there) ≡ error_of (deposited_in d a w can there)
+deposit_alike c d a w true there = refl
+deposit_alike c d a w false true = refl
+deposit_alike c d a w false false = refl
+
+pub deposited_alike : (w : State) (s a x : ℕ) → error_of (deposited (plain w) s a x) ≡ error_of (deposited w.raw s a x)
+unfolding deposited plain
+deposited_alike w s a x =
+    on_job_alike (plain w) w.raw s (λ q. with_core (plain w) s q (core q)) (λ q. with_core w.raw s q (core q)) (w.frames s) (w.raw.jobs s)
+    (λ q. core_alike (plain w) w.raw s (state.seen (w.frames s) q) q (core (state.seen (w.frames s) q)) (core q) (same q))
+  where
+    core : Whole → Result Core Reason
+    core q = deposited_in q.core a x (can_store q.core a) (is_some (word_at q.core a))
+
+    same : (q : Whole) → error_of (core (state.seen (w.frames s) q)) ≡ error_of (core q)
+    same q =
+        ap (λ can. error_of (deposited_in (state.seen (w.frames s) q).core a x can (is_some (word_at (state.seen (w.frames s) q).core a)))) (seen_can_store (w.frames s) q a)
+        ∙ ap (λ there. error_of (deposited_in (state.seen (w.frames s) q).core a x (can_store q.core a) there)) (seen_present (w.frames s) q a)
+        ∙ deposit_alike (state.seen (w.frames s) q).core q.core a x (can_store q.core a) (is_some (word_at q.core a))
+
+-- one word of a line of words
+stored_alike : (c d : Core) (a w : ℕ) (can there room : Bool) → error_of (stored_in c a w can there room) ≡ error_of (stored_in d a w can there room)
+stored_alike c d a w true there room = refl
+stored_alike c d a w false true room = refl
+stored_alike c d a w false false true = refl
+stored_alike c d a w false false false = refl
+
+word_of_alike : (w : State) (s a x : ℕ) (f : Option Frame) (o : Option Whole) → error_of (word_loaded_of (plain w) s a x (option_map (state.seen f) o)) ≡ error_of (word_loaded_of w.raw s a x o)
+unfolding stored
+word_of_alike w s a x f None = refl
+word_of_alike w s a x f (Some q) =
+    core_alike (plain w) w.raw s p q (loads p.core (can_store p.core a) (is_some (word_at p.core a)) (mapped (plain w)))
+    (loads q.core (can_store q.core a) (is_some (word_at q.core a)) (mapped w.raw))
+    (ap (λ can. error_of (loads p.core can (is_some (word_at p.core a)) (mapped (plain w)))) (seen_can_store f q a)
+    ∙ ap (λ there. error_of (loads p.core (can_store q.core a) there (mapped (plain w)))) (seen_present f q a)
+    ∙ ap (λ n. error_of (loads p.core (can_store q.core a) (is_some (word_at q.core a)) n)) (mapped_plain w)
+    ∙ stored_alike p.core q.core a x (can_store q.core a) (is_some (word_at q.core a)) (nat_lt (mapped w.raw) most_pages))
+  where
+    p : Whole
+    p = state.seen f q
+
+    loads : Core → Bool → Bool → ℕ → Result Core Reason
+    loads c can there n = stored_in c a x can there (nat_lt n most_pages)
+
+pub word_alike : (w : State) (s a x : ℕ) → error_of (word_loaded (plain w) s a x) ≡ error_of (word_loaded w.raw s a x)
+unfolding word_loaded
+word_alike w s a x = ap (λ (o : Option Whole). error_of (word_loaded_of (plain w) s a x o)) (jobs_at w s) ∙ word_of_alike w s a x (w.frames s) (w.raw.jobs s)
+
+-- the words that EXAM wants are present in both
+joined_some : (x : Option ℕ) (y : Option (List ℕ)) → is_some (joined x y) ≡ (is_some x && is_some y)
+joined_some (Some w) (Some ws) = refl
+joined_some (Some w) None = refl
+joined_some None y = refl
+
+words_alike : (c d : Core) (a n : ℕ) → ((p : ℕ) → is_some (word_at c p) ≡ is_some (word_at d p)) → is_some (words_at c a n) ≡ is_some (words_at d a n)
+unfolding words_at
+words_alike c d a zero h = refl
+words_alike c d a (suc n) h =
+    joined_some (word_at c (a % 2 ^ 18)) (words_at c (a + 1) n) ∙ ap (λ b. b && is_some (words_at c (a + 1) n)) (h (a % 2 ^ 18))
+    ∙ ap (λ b. is_some (word_at d (a % 2 ^ 18)) && b) (words_alike c d (a + 1) n h) ∙ sym (joined_some (word_at d (a % 2 ^ 18)) (words_at d (a + 1) n))
+
+seen_alike : (x y : Option (List ℕ)) → is_some x ≡ is_some y → error_of (seen x) ≡ error_of (seen y)
+seen_alike (Some v) (Some w) e = refl
+seen_alike None None e = refl
+seen_alike (Some v) None e = cc
+seen_alike None (Some w) e = cc
+
+pub examined_alike : (w : State) (s a n : ℕ) → error_of (examined (plain w) s a n) ≡ error_of (examined w.raw s a n)
+unfolding examined plain
+examined_alike w s a n =
+    on_job_alike (plain w) w.raw s (λ q. seen (words_at q.core a n)) (λ q. seen (words_at q.core a n)) (w.frames s) (w.raw.jobs s)
+    (λ q. seen_alike (words_at (state.seen (w.frames s) q).core a n) (words_at q.core a n) (words_alike (state.seen (w.frames s) q).core q.core a n (λ p. seen_present (w.frames s) q p)))
+
+pub shown_alike : (w : State) (s : ℕ) → error_of (state_shown (plain w) s) ≡ error_of (state_shown w.raw s)
+unfolding state_shown plain
+shown_alike w s = on_job_alike (plain w) w.raw s (λ q. Ok (shown q.job q.superior)) (λ q. Ok (shown q.job q.superior)) (w.frames s) (w.raw.jobs s) (λ q. refl)
+
+-- what a result comes to
+disturbs_alike : (s : ℕ) (b : Block) (r x : Result Machine Reason) → error_of r ≡ error_of x → refusal (Done (disturbs s b r)) ≡ refusal (Done (disturbs s b x))
+disturbs_alike s b (Ok m) (Ok n) e = refl
+disturbs_alike s b (Ok m) (Err y) e = e
+disturbs_alike s b (Err y) (Ok n) e = e
+disturbs_alike s b (Err y) (Err z) e = e
+
+exam_alike : (m n : Machine) (b : Block) (s a : ℕ) (r x : Result (List ℕ) Reason) → error_of r ≡ error_of x → refusal (Done (by_exam m b s a r)) ≡ refusal (Done (by_exam n b s a x))
+exam_alike m n b s a (Ok v) (Ok w) e = refl
+exam_alike m n b s a (Ok v) (Err y) e = e
+exam_alike m n b s a (Err y) (Ok w) e = e
+exam_alike m n b s a (Err y) (Err z) e = e
+
+show_alike : (m n : Machine) (b : Block) (s : ℕ) (r x : Result JobShow Reason) → error_of r ≡ error_of x → refusal (Done (by_state m b s r)) ≡ refusal (Done (by_state n b s x))
+show_alike m n b s (Ok v) (Ok w) e = refl
+show_alike m n b s (Ok v) (Err y) e = e
+show_alike m n b s (Err y) (Ok w) e = e
+show_alike m n b s (Err y) (Err z) e = e
+
+load_alike : (m n : Machine) (u j : ℕ) (console o : Option ℕ) → refusal (Done (by_load (loaded_in m u j console o))) ≡ refusal (Done (by_load (loaded_in n u j console o)))
+load_alike m n u j console (Some s) = refl
+load_alike m n u j console None = refl
+
+clock_alike : (m n : Machine) (b : Block) (k : ℕ) (fits : Bool) → refusal (Done (quietly b (clocked_if m k fits))) ≡ refusal (Done (quietly b (clocked_if n k fits)))
+clock_alike m n b k true = refl
+clock_alike m n b k false = refl
+
+peek_alike : (s : ℕ) (f : Option Frame) (o : Option Whole) → refusal (peeked_at s (option_map (state.seen f) o)) ≡ refusal (peeked_at s o)
+peek_alike s f (Some q) = refl
+peek_alike s f None = refl
+
+-- every line but one of words, which are refused one by one
+abbrev pub IsSingle : Event → Type 0
+IsSingle (events.Words a words) = ⊥
+IsSingle _ = Unit {0}
+
+pub line_alike : (w : State) (b : Block) (e : Event) → IsSingle e → refusal (lined (plain w) b e) ≡ refusal (lined w.raw b e)
+unfolding lined operate operator.operate plain loaded clocked
+line_alike w b (events.Load u j console) h =
+    ap (λ o. refusal (Done (by_load (loaded_in (plain w) u j console o)))) (least_plain w) ∙ load_alike (plain w) w.raw u j console (least_free w.raw.jobs)
+line_alike w b (events.Words a words) h = absurd h
+line_alike w b (events.Go a) h = disturbs_alike b.slot b (on_registers (plain w) b.slot (started a)) (on_registers w.raw b.slot (started a)) (registers_alike w b.slot (started a))
+line_alike w b (events.Int s x y) h = disturbs_alike s b (on_registers (plain w) s (interrupted x y)) (on_registers w.raw s (interrupted x y)) (registers_alike w s (interrupted x y))
+line_alike w b (events.Stop s) h = disturbs_alike s b (on_registers (plain w) s stopped) (on_registers w.raw s stopped) (registers_alike w s stopped)
+line_alike w b (events.Cont s) h = disturbs_alike s b (on_registers (plain w) s continued) (on_registers w.raw s continued) (registers_alike w s continued)
+line_alike w b (events.Deposit s a x) h = disturbs_alike s b (deposited (plain w) s a x) (deposited w.raw s a x) (deposited_alike w s a x)
+line_alike w b (events.Exam s a n) h = exam_alike (plain w) w.raw b s a (examined (plain w) s a n) (examined w.raw s a n) (examined_alike w s a n)
+line_alike w b (events.State s) h = show_alike (plain w) w.raw b s (state_shown (plain w) s) (state_shown w.raw s) (shown_alike w s)
+line_alike w b (events.Clock n) h = clock_alike (plain w) w.raw b n (nat_lt (w.raw.clock + n) clock_end)
+line_alike w b (events.Peek s) h = peek_alike s (w.frames s) (w.raw.jobs s)
+line_alike w b (events.Tick s n) h = refl
+line_alike w b events.Nothing h = refl
+line_alike w b events.End h = refl
+line_alike w b (events.File d x y) h = refl
+line_alike w b (events.Append words) h = refl
+line_alike w b events.EndFile h = refl
+line_alike w b (events.TypeIn c bytes) h = refl
+line_alike w b (events.Drain c n) h = refl
+line_alike w b (events.Dir d) h = refl
+line_alike w b (events.Show d x y) h = refl
+
+refusal_lifted : (v : State) (l : Lined) → refusal (lifted_line v l) ≡ refusal l
+refusal_lifted v (Done (Refuses r)) = refl
+refusal_lifted v (Done (Does m out touched b)) = refl
+refusal_lifted v (Done (Ticks s k)) = refl
+refusal_lifted v (Done Ends) = refl
+refusal_lifted v (Peeks s) = refl
+
+-- a line is refused before anything is unwound exactly where it is refused afterwards, and for the same reason
+pub refused_first : (w : State) (b : Block) (e : Event) → Sound w → IsSingle e → refusal (lined w.raw b e) ≡ refusal (lined (calmed w b e).raw b e)
+refused_first w b e sound h = sym (line_alike w b e h) ∙ ap refusal (line_plain w b e sound) ∙ refusal_lifted (calmed w b e) (lined (calmed w b e).raw b e)
+
+-- the same for one word
+pub word_refused_first : (w : State) (s a x : ℕ) → Sound w → error_of (word_loaded w.raw s a x) ≡ error_of (word_loaded (unwound w s).raw s a x)
+word_refused_first w s a x sound =
+    sym (word_alike w s a x) ∙ ap (λ m. error_of (word_loaded m s a x)) (sym (unwound_plain w s sound)) ∙ word_alike (unwound w s) s a x

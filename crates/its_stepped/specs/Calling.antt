@@ -1,0 +1,61 @@
+-- What a call may rely on as it decides, beside its tests: what its decoding looked at, what it owes and has
+-- reserved, and that the jobs that it reaches are in user mode (docs/STEPS.md, "Commit").
+use Rattle.std.specs.Prelude.{◌≡◌, ◌≢◌, ◌≤◌, ℕ, ◌%◌, ◌^◌, Bool, true, false, Some, None, IfSome, [], ◌∷◌, Option}
+use Rattle.its_word.specs.Core.{Core, can_store, store}
+use Rattle.its_word.specs.Limits.{slots}
+use Rattle.its_word.specs.declared.calls.Ask.{Ask}
+use Rattle.its_word.specs.declared.calls.Site.{Site}
+use Rattle.its_word.specs.declared.jobs.Job.{Job}
+use Rattle.its_frame.specs.declared.name.CallName.TheVariants.{Sleep, Iot}
+use Rattle.its_plain.specs.Arguments.{place_of_input, is_shared}
+use Rattle.its_plain.specs.CallStep.{among}
+use Rattle.its_plain.specs.Change.{superiors}
+use Rattle.its_plain.specs.Decide.{call_named, reach}
+use Rattle.its_plain.specs.Machine.{Whole, Machine, On}
+use Rattle.its_plain.specs.Tests.{number_at, out}
+use Rattle.its_stepped.specs.State.{State}
+use Rattle.its_stepped.specs.Tick.{helps}
+use Rattle.its_stepped.specs.Sound.{Stands, Stored, Debts, Paged}
+use Rattle.its_stepped.specs.Quiet.{IsStill}
+
+-- what the decoding has looked at: the error address and, but for `.IOT`, the output address allow a store; places are
+-- addresses; and SLEEP has one argument
+pub record Fetched (c : Core) (a : Ask) : Type 0 where
+  pub error : (w : ℕ) → Stored c (number_at a.error w)
+  pub output : call_named a.name ≢ Some Iot → (w : ℕ) → Stored c (out a.outputs.items w)
+  pub input : (k p : ℕ) → place_of_input a k ≡ Some p → p % 2 ^ 18 ≡ p
+  pub sleeper : (p : ℕ) → call_named a.name ≡ Some Sleep → a.fail ≡ 0 → place_of_input a 0 ≡ Some p → (v : ℕ) × (a.inputs.items ≡ record { value = v; place = Some p } ∷ [])
+
+-- that the decoding looks at these, and that a call of SLEEP stands behind its new time
+pub record Decoding : Type 0 where
+  pub fetched : (c : Core) (j : Job) (s : Site) (a : Ask) → Stands c j s a → Fetched c a
+  pub slept : (c : Core) (j : Job) (s : Site) (a : Ask) (p v w : ℕ) → Stands c j s a → a.inputs.items ≡ record { value = v; place = Some p } ∷ [] → is_shared p a ≡ false
+      → can_store c p ≡ true → Stands (store c p w) j s (record a { inputs = record { items = record { value = w; place = Some p } ∷ [] } })
+
+-- a job is not its own superior, and has no channel on itself
+pub record ApartJob (j : ℕ) (q : Whole) : Type 0 where
+  pub superior : q.superior ≢ Some j
+  pub channel : (n s at : ℕ) (write : Bool) → q.channels n ≡ On s write at → s ≢ j
+
+abbrev pub ApartBy : ℕ → Option Whole → Type 0
+ApartBy j (Some q) = ApartJob j q
+ApartBy j None = Unit {0}
+
+-- jobs have the slots that there are, and each is apart from its superior and from those that it has channels on
+pub record Distinct (m : Machine) : Type 0 where
+  pub few : (k : ℕ) → slots ≤ k → m.jobs k ≡ None
+  pub apart : (k : ℕ) → ApartBy k (m.jobs k)
+
+-- the call of job own in slot j, which owes its last n arguments: m is the plain machine that it decides on, and v the
+-- state that its commit finds
+pub record Calling (m : Machine) (v : State) (j : ℕ) (own : Whole) (s : Site) (a : Ask) (n : ℕ) : Type 0 where
+  pub stands : Stands own.core own.job s a
+  pub fetched : Fetched own.core a
+  pub debts : Debts own.core a n
+  pub page : IfSome (v.reserved j) (Paged a n)
+  pub still : n ≡ 0 → IsStill (v.frames j)
+  pub reached : (k : ℕ) → among k (reach m j own a) ≡ true → v.frames k ≡ None
+  pub apart : among j (reach m j own a) ≡ false
+  pub tree : (k : ℕ) → superiors v.raw k ≡ superiors m k
+  pub few : (k : ℕ) → slots ≤ k → m.jobs k ≡ None
+  pub unmarked : helps own a ≡ true → v.mark ≡ None

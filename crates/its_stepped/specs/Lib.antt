@@ -1,0 +1,14 @@
+pub mod State
+pub mod Unwind
+pub mod Commit
+pub mod Tick
+pub mod Sound
+pub mod OneChange
+pub mod Quiet
+pub mod Duty
+pub mod Licence
+pub mod SlotSame
+pub mod Dots
+pub mod Lines
+pub mod Upkeep
+pub mod Calling

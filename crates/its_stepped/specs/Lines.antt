@@ -1,0 +1,211 @@
+-- The lines of a session over the stepped machine: what PEEK shows, the jobs that a line finds in user mode, and all
+-- lines that the monitor writes (docs/STEPS.md, "Lines").
+use Rattle.std.specs.Prelude.{Bool, ℕ, zero, suc, ◌+◌, Option, Some, None, List, [], ◌∷◌, ◌++◌, slice_get}
+use Rattle.its_word.specs.Core.{Core, word_at}
+use Rattle.its_word.specs.Item.{Item, Read, Unread, Beyond}
+use Rattle.its_word.specs.declared.calls.Ask.{Ask}
+use Rattle.its_word.specs.declared.calls.Pace.{Pace}
+use Rattle.its_word.specs.declared.session.Event.{Event}
+use Rattle.its_word.specs.declared.session.Event.TheVariants as events
+use Rattle.its_word.specs.declared.session.Reason.{Reason}
+use Rattle.its_word.specs.declared.show.Peek.{Peek}
+use Rattle.its_word.specs.declared.show.PeekState.{PeekState}
+use Rattle.its_word.specs.declared.show.PeekState.TheVariants as states
+use Rattle.its_frame.specs.declared.frame.Frame.{Frame}
+use Rattle.its_frame.specs.declared.frame.Frame.TheVariants.{Entered, Parsed, Asked, Holding, Waiting, Moving, Ending}
+use Rattle.its_frame.specs.declared.name.CallName.{CallName}
+use Rattle.its_frame.specs.declared.name.CallName.TheVariants.{Siot, Sleep}
+use Rattle.its_print.specs.Printing.{Line, Refused}
+use Rattle.its_print.specs.Printing as printed
+use Rattle.its_plain.specs.Machine.{Machine, no_machine, core_of}
+use Rattle.its_plain.specs.Arguments.{place_of_input}
+use Rattle.its_plain.specs.Decide.{call_named}
+use Rattle.its_plain.specs.Operator.{Block, no_block, Operated, Refuses, Does, Ticks, Ends, nobody}
+use Rattle.its_plain.specs.Transcript.{Fate, Ended, Open, Lost, TooLong}
+use Rattle.its_plain.specs.CallOperator.{Lined, Done, Peeks, lined}
+use Rattle.its_stepped.specs.State.{State, plain, no_state}
+use Rattle.its_stepped.specs.Unwind.{left, unwound}
+use Rattle.its_stepped.specs.Tick.{tick}
+
+-- how far a job is inside a call
+abbrev pub state_shown : Option Frame → PeekState
+state_shown None = states.User
+state_shown (Some (Entered f)) = states.Entered
+state_shown (Some (Parsed f)) = states.Parsed
+state_shown (Some (Asked f)) = states.Asked
+state_shown (Some (Holding f)) = states.Holding
+state_shown (Some (Waiting f)) = states.Waiting
+state_shown (Some (Moving f)) = states.Moving
+state_shown (Some (Ending f)) = states.Ending
+
+-- the call that a frame is of, from ASKED on
+abbrev pub ask_in : Option Frame → Option Ask
+ask_in (Some (Asked f)) = Some f.ask
+ask_in (Some (Holding f)) = Some f.ask
+ask_in (Some (Waiting f)) = Some f.ask
+ask_in (Some (Moving f)) = Some f.ask
+ask_in (Some (Ending f)) = Some f.ask
+ask_in (Some (Entered f)) = None
+ask_in (Some (Parsed f)) = None
+ask_in None = None
+
+-- its name: that of `.IOT`, which has no block, or the second word of the block; none before that is read
+abbrev pub iot_name : ℕ
+iot_name = 0o515764000000
+
+abbrev pub name_read : Option ℕ → List ℕ → Option ℕ
+name_read (Some channel) block = Some iot_name
+name_read None block = slice_get block 1
+
+abbrev pub name_asked : Option Ask → Option ℕ
+name_asked (Some a) = Some a.name
+name_asked None = None
+
+abbrev pub name_shown : Option Frame → Option ℕ
+name_shown (Some (Parsed f)) = name_read f.site.channel f.block.items
+name_shown f = name_asked (ask_in f)
+
+-- the inputs whose words in core are shown: SIOT's pointer and count, and SLEEP's time
+abbrev pub first_shown : Option CallName → Option ℕ
+first_shown (Some Siot) = Some 1
+first_shown (Some Sleep) = Some 0
+first_shown _ = None
+
+abbrev pub second_shown : Option CallName → Option ℕ
+second_shown (Some Siot) = Some 2
+second_shown _ = None
+
+-- the raw word at the place of such an input
+abbrev pub word_placed : Core → Option ℕ → Option ℕ
+word_placed c (Some p) = word_at c p
+word_placed c None = None
+
+abbrev pub word_of_input : Core → Ask → Option ℕ → Option ℕ
+word_of_input c a (Some k) = word_placed c (place_of_input a k)
+word_of_input c a None = None
+
+abbrev pub word_shown : Core → (Option CallName → Option ℕ) → Option Ask → Option ℕ
+word_shown c which (Some a) = word_of_input c a (which (call_named a.name))
+word_shown c which None = None
+
+-- the byte that a frame holds
+abbrev pub byte_shown : Option Frame → Option ℕ
+byte_shown (Some (Moving f)) = Some f.byte
+byte_shown _ = None
+
+-- what PEEK shows of a slot
+unfoldable pub peeked : State → ℕ → Peek
+peeked w s = record {
+  state = state_shown (w.frames s);
+  name = name_shown (w.frames s);
+  left = left w s;
+  a = word_shown (core_of (w.raw.jobs s)) first_shown (ask_in (w.frames s));
+  b = word_shown (core_of (w.raw.jobs s)) second_shown (ask_in (w.frames s));
+  h = byte_shown (w.frames s);
+}
+
+-- the slot whose job a line finds in user mode
+abbrev pub called_on : Block → Event → Option ℕ
+called_on b (events.Words a words) = Some b.slot
+called_on b (events.Go a) = Some b.slot
+called_on b (events.Int s v w) = Some s
+called_on b (events.Exam s a n) = Some s
+called_on b (events.State s) = Some s
+called_on b (events.Deposit s a w) = Some s
+called_on b (events.Stop s) = Some s
+called_on b (events.Cont s) = Some s
+called_on b _ = None
+
+abbrev pub unwound_at : Option ℕ → State → State
+unwound_at (Some s) w = unwound w s
+unwound_at None w = w
+
+-- the state that a line finds: what it disturbs is unwound
+unfoldable pub calmed : State → Block → Event → State
+calmed w b e = unwound_at (called_on b e) w
+
+-- the state with another raw machine
+abbrev pub with_raw : State → Machine → State
+with_raw v m = record v { raw = m }
+
+-- the state after a line. A line that is refused tests that first, and leaves the state as it was
+abbrev pub state_after : State → State → Lined → State
+state_after w v (Done (Does m out touched b)) = with_raw v m
+state_after w v (Done (Refuses r)) = w
+state_after w v (Done (Ticks s k)) = w
+state_after w v (Done Ends) = w
+state_after w v (Peeks s) = w
+
+unfoldable pub after_line : State → Block → Event → State
+after_line w b e = state_after w (calmed w b e) (lined (calmed w b e).raw b e)
+
+-- what a line of a state comes to, as a line of the plain machine that it stands for
+abbrev pub lifted : State → Operated → Operated
+lifted v (Does m out touched b) = Does (plain (with_raw v m)) out touched b
+lifted v (Refuses r) = Refuses r
+lifted v (Ticks s k) = Ticks s k
+lifted v Ends = Ends
+
+abbrev pub lifted_line : State → Lined → Lined
+lifted_line v (Done o) = Done (lifted v o)
+lifted_line v (Peeks s) = Peeks s
+
+-- the plain machine after a line
+abbrev pub machine_after : Machine → Lined → Machine
+machine_after m (Done (Does n out touched b)) = n
+machine_after m (Done (Refuses r)) = m
+machine_after m (Done (Ticks s k)) = m
+machine_after m (Done Ends) = m
+machine_after m (Peeks s) = m
+
+-- the slots that it disturbs
+abbrev pub touched_by : Lined → ℕ → Bool
+touched_by (Done (Does n out touched b)) = touched
+touched_by (Done (Refuses r)) = nobody
+touched_by (Done (Ticks s k)) = nobody
+touched_by (Done Ends) = nobody
+touched_by (Peeks s) = nobody
+
+-- why a line is refused, where it is
+abbrev pub refusal : Lined → Option Reason
+refusal (Done (Refuses r)) = Some r
+refusal (Done (Does m out touched b)) = None
+refusal (Done (Ticks s k)) = None
+refusal (Done Ends) = None
+refusal (Peeks s) = None
+
+-- n ticks: their letters, and the state afterwards
+abbrev pub paces_of : State → ℕ → ℕ → List Pace
+paces_of w i zero = []
+paces_of w i (suc n) = (tick w i).pace ∷ paces_of (tick w i).state i n
+
+abbrev pub ticked : State → ℕ → ℕ → State
+ticked w i zero = w
+ticked w i (suc n) = ticked (tick w i).state i n
+
+-- the lines of a session and how it ends
+pub record Told : Type 0 where
+  pub lines : List Line
+  pub fate : Fate
+
+abbrev pub telling : List Line → Told → Told
+telling out t = record { lines = out ++ t.lines; fate = t.fate }
+
+-- line n, which comes to this in state v, and w is the state before it
+abbrev pub told_by : ℕ → State → State → Block → Lined → (State → Block → Told) → Told
+told_by n w v b (Done (Refuses r)) next = record { lines = Refused n r ∷ []; fate = Lost }
+told_by n w v b (Done (Does m out touched b')) next = telling out (next (with_raw v m) b')
+told_by n w v b (Done (Ticks s k)) next = telling (printed.Ticks s (paces_of w s k) ∷ []) (next (ticked w s k) b)
+told_by n w v b (Done Ends) next = record { lines = []; fate = Ended }
+told_by n w v b (Peeks s) next = telling (printed.Peeked s (peeked w s) ∷ []) (next w b)
+
+-- the events from line number n on
+abbrev pub told : ℕ → State → Block → List Item → Told
+told n w b [] = record { lines = []; fate = Open }
+told n w b (Read e ∷ es) = told_by n w (calmed w b e) b (lined (calmed w b e).raw b e) (λ v b'. told (n + 1) v b' es)
+told n w b (Unread r ∷ es) = record { lines = Refused n r ∷ []; fate = Lost }
+told n w b (Beyond ∷ es) = record { lines = []; fate = TooLong }
+
+-- the lines of a session of these events
+abbrev pub stepped : List Item → Told
+stepped es = told 1 (no_state no_machine) no_block es

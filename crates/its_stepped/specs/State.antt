@@ -1,0 +1,135 @@
+-- The stepped machine: a raw machine, and beside it the frames of calls in progress, the pages that they
+-- reserve, and a close that is half made (docs/STEPS.md). What it stands for is a plain machine.
+use Rattle.std.specs.Prelude.{if◌then◌else◌, ◌==◌, ℕ, Bool, true, false, Option, Some, None, List, [], ◌∷◌, ◌++◌, option_map, length}
+use Rattle.std.specs.List.{list_any}
+use Rattle.its_word.specs.declared.calls.Ask.{Ask}
+use Rattle.its_word.specs.declared.calls.Owed.{Owed}
+use Rattle.its_word.specs.declared.calls.Owed.TheVariants.{Store, GiveBack, Unlink, Link, Free, Leave}
+use Rattle.its_word.specs.declared.calls.Site.{Site}
+use Rattle.its_frame.specs.declared.decision.Held.{Held}
+use Rattle.its_frame.specs.declared.frame.Frame.{Frame}
+use Rattle.its_frame.specs.declared.frame.Frame.TheVariants.{Entered, Parsed, Asked, Holding, Waiting, Moving, Ending}
+use Rattle.its_plain.specs.Machine.{File, Chan, Writes, Whole, Machine, changed}
+use Rattle.its_plain.specs.Own.{with_stores, leave}
+use Rattle.its_plain.specs.Change.{in_job, poke, same_names, without_file}
+use Rattle.its_plain.specs.Arguments.{input, debts}
+use Rattle.its_plain.specs.CallStep.{with_held}
+
+-- the parts of a close: the old file leaves the directory, the draft becomes its last file, and the blocks of
+-- the old one are given up
+pub data Part : Type 0 where
+  UnlinkOld : Part
+  LinkNew : Part
+  FreeOld : Part
+
+-- a close that is half made: the slot that makes it, the draft, and the parts that are still owed
+pub record Mark : Type 0 where
+  pub owner : ℕ
+  pub draft : File
+  pub parts : List Part
+
+pub record State : Type 0 where
+  pub raw : Machine
+  pub frames : ℕ → Option Frame
+  pub reserved : ℕ → Option ℕ
+  pub mark : Option Mark
+
+-- the directory after parts of a close
+abbrev pub part_made : File → Part → List File → List File
+part_made f UnlinkOld fs = without_file f.names fs
+part_made f LinkNew fs = fs ++ f ∷ []
+part_made f FreeOld fs = fs
+
+abbrev pub parts_made : File → List Part → List File → List File
+parts_made f [] fs = fs
+parts_made f (p ∷ ps) fs = parts_made f ps (part_made f p fs)
+
+-- the directory with all owed parts made
+unfoldable pub helped : Option Mark → List File → List File
+helped (Some m) fs = parts_made m.draft m.parts fs
+helped None fs = fs
+
+-- the close of a channel is begun: what it owes depends on whether a file has the draft's names
+abbrev pub has_file : File → List File → Bool
+has_file f fs = list_any (λ g. same_names f.names g.names) fs
+
+abbrev pub parts_of : Bool → List Part
+parts_of true = UnlinkOld ∷ LinkNew ∷ FreeOld ∷ []
+parts_of false = LinkNew ∷ []
+
+abbrev pub marked : ℕ → Chan → List File → Option Mark
+marked j (Writes f) fs = Some (record { owner = j; draft = f; parts = parts_of (has_file f fs) })
+marked j _ fs = None
+
+abbrev pub mine : Option Mark → ℕ → Bool
+mine (Some m) j = m.owner == j
+mine None j = false
+
+-- what the owed steps of a call that has ended leave of its job
+abbrev pub owed_made : List Owed → Whole → Whole
+owed_made [] q = q
+owed_made (Store a w ∷ os) q = owed_made os (with_stores (poke a w ∷ []) q)
+owed_made (Leave e ∷ os) q = owed_made os (leave e q)
+owed_made (GiveBack ∷ os) q = owed_made os q
+owed_made (Unlink ∷ os) q = owed_made os q
+owed_made (Link ∷ os) q = owed_made os q
+owed_made (Free ∷ os) q = owed_made os q
+
+-- the byte that a frame holds
+abbrev pub held_at : ℕ → ℕ → Held
+held_at place byte = record { place = place; byte = byte }
+
+-- the job that a raw job with a frame stands for: what the frame owes is made
+unfoldable pub seen : Option Frame → Whole → Whole
+seen None q = q
+seen (Some (Entered f)) q = q
+seen (Some (Parsed f)) q = q
+seen (Some (Asked f)) q = q
+seen (Some (Holding f)) q = with_stores (debts f.ask f.owes) q
+seen (Some (Waiting f)) q = with_stores (debts f.ask f.owes) q
+seen (Some (Moving f)) q = with_stores (debts f.ask 2) (with_held f.ask (Some (held_at f.place f.byte)) q)
+seen (Some (Ending f)) q = owed_made f.owed.items q
+
+abbrev pub seen_jobs : (ℕ → Option Frame) → (ℕ → Option Whole) → ℕ → Option Whole
+seen_jobs frames jobs k = option_map (seen (frames k)) (jobs k)
+
+-- the plain machine that a state stands for
+unfoldable pub plain : State → Machine
+plain w = record w.raw { jobs = seen_jobs w.frames w.raw.jobs; files = helped w.mark w.raw.files }
+
+-- the state at the start of a session
+unfoldable pub no_state : Machine → State
+no_state m = record { raw = m; frames = λ _. None; reserved = λ _. None; mark = None }
+
+-- the raw job and the frame of one slot changed: every row of a tick or of unwinding is such a turn
+abbrev pub turn : State → ℕ → (Whole → Whole) → Option Frame → State
+turn w j h f = record w { raw = in_job w.raw j h; frames = changed w.frames j f }
+
+abbrev pub same : Whole → Whole
+same q = q
+
+-- the page that a slot has reserved
+abbrev pub reserving : State → ℕ → Option ℕ → State
+reserving w j r = record w { reserved = changed w.reserved j r }
+
+-- frames made of their parts
+abbrev pub entered : Site → Frame
+entered s = Entered (record { site = s })
+
+abbrev pub parsed : Site → List ℕ → Frame
+parsed s b = Parsed (record { site = s; block = record { items = b } })
+
+abbrev pub asked : Site → Ask → Frame
+asked s a = Asked (record { site = s; ask = a })
+
+abbrev pub holding : Site → Ask → Option ℕ → ℕ → Frame
+holding s a page n = Holding (record { site = s; ask = a; page = page; owes = n })
+
+abbrev pub waiting : Site → Ask → ℕ → Frame
+waiting s a n = Waiting (record { site = s; ask = a; owes = n })
+
+abbrev pub moving : Site → Ask → Held → Frame
+moving s a h = Moving (record { site = s; ask = a; place = h.place; byte = h.byte })
+
+abbrev pub ending : Site → Ask → List Owed → Frame
+ending s a os = Ending (record { site = s; ask = a; owed = record { items = os } })

@@ -1,0 +1,155 @@
+-- A tick of a slot on the stepped machine, with its letter (docs/STEPS.md, "A tick").
+use Rattle.std.specs.Prelude.{if◌then◌else◌, ◌==◌, ◌&&◌, ℕ, zero, suc, ◌+◌, Bool, true, false, Option, Some, None, List, [], ◌∷◌, ◌++◌, Result, Ok, Err, nat_lt}
+use Rattle.its_word.specs.declared.access.Fault.{Fault}
+use Rattle.its_word.specs.declared.calls.Ask.{Ask}
+use Rattle.its_word.specs.declared.calls.Pace.{Pace}
+use Rattle.its_word.specs.declared.calls.Pace.TheVariants.{Step, Work, Wait, Off}
+use Rattle.its_word.specs.declared.calls.Site.{Site}
+use Rattle.its_frame.specs.declared.decision.Decision.{Decision}
+use Rattle.its_frame.specs.declared.decision.Decision.TheVariants.{Waits, Goes, Ends, Gone}
+use Rattle.its_frame.specs.declared.frame.Frame.{Frame}
+use Rattle.its_frame.specs.declared.frame.Frame.TheVariants.{Entered, Parsed, Asked, Holding, Waiting, Moving, Ending}
+use Rattle.its_frame.specs.declared.name.CallName.{CallName}
+use Rattle.its_frame.specs.declared.name.CallName.TheVariants.{Open, Close, Iot, Siot, Access, Fillen, Delete, Rename, Corblk}
+use Rattle.its_plain.specs.Interrupt.{Delivered, deliverable, delivered}
+use Rattle.its_plain.specs.Unit.{Outcome, Changed, Faulted, Called, unit}
+use Rattle.its_plain.specs.Machine.{Chan, Shut, TtyIn, TtyOut, Reads, Writes, On, Whole, Machine}
+use Rattle.its_plain.specs.Ask.{parse, fetch}
+use Rattle.its_plain.specs.Arguments.{input}
+use Rattle.its_plain.specs.CallBasic.{channel_at}
+use Rattle.its_plain.specs.Decide.{call_named, reach}
+use Rattle.its_plain.specs.CallStep.{becomes, faulted, informs, told, decision}
+use Rattle.its_stepped.specs.State.{State, plain, seen, turn, same, reserving, entered, parsed, asked, holding, waiting}
+use Rattle.its_stepped.specs.Unwind.{unwind_one, all_unwound, help}
+use Rattle.its_stepped.specs.Commit.{effects_on, committed}
+
+pub record Ticked : Type 0 where
+  pub state : State
+  pub pace : Pace
+
+abbrev pub stepped : State → Ticked
+stepped w = record { state = w; pace = Step }
+
+abbrev pub works : State → Ticked
+works w = record { state = w; pace = Work }
+
+abbrev pub waits : State → Ticked
+waits w = record { state = w; pace = Wait }
+
+abbrev pub off : State → Ticked
+off w = record { state = w; pace = Off }
+
+-- a fault of the unit or of the decoding sets its bit and drops the frame
+abbrev pub faults_on : State → ℕ → Fault → Ticked
+faults_on w j f = stepped (turn w j (faulted f) None)
+
+-- user mode
+abbrev pub delivered_on : State → ℕ → Whole → Delivered → State
+delivered_on w j q d = turn (effects_on (informs d.stops q.superior) j (all_unwound (told d.stops q.superior) w)) j (becomes d.core d.job) None
+
+abbrev pub unit_on : State → ℕ → Outcome → Ticked
+unit_on w j (Changed c k) = stepped (turn w j (becomes c k) None)
+unit_on w j (Faulted f) = faults_on w j f
+unit_on w j (Called s) = works (turn w j same (Some (entered s)))
+
+abbrev pub user_on : State → ℕ → Whole → Bool → Ticked
+user_on w j q true = stepped (delivered_on w j q (delivered q.core q.job))
+user_on w j q false = unit_on w j (unit q.core q.job)
+
+-- the decoding in its two ticks
+abbrev pub parsed_on : State → ℕ → Site → Result (List ℕ) Fault → Ticked
+parsed_on w j s (Ok b) = works (turn w j same (Some (parsed s b)))
+parsed_on w j s (Err f) = faults_on w j f
+
+abbrev pub fetched_on : State → ℕ → Site → Result Ask Fault → Ticked
+fetched_on w j s (Ok a) = works (turn w j same (Some (asked s a)))
+fetched_on w j s (Err f) = faults_on w j f
+
+-- CORBLK with operation 1 and no error reserves a page, which is cleared a quarter at a tick. It is not
+-- built yet, and reserves none
+abbrev pub corblk_is_built : Bool
+corblk_is_built = false
+
+abbrev pub makes_page : Option CallName → ℕ → Bool
+makes_page (Some Corblk) operation = operation == 1
+makes_page _ operation = false
+
+unfoldable pub reserves : Ask → Bool
+reserves a = corblk_is_built && (a.fail == 0) && makes_page (call_named a.name) (input a 0)
+
+abbrev pub prepared_on : State → ℕ → Site → Ask → Bool → State
+prepared_on w j s a true = reserving (turn w j same (Some (holding s a (Some 0) 0))) j (Some 0)
+prepared_on w j s a false = turn w j same (Some (holding s a None 0))
+
+-- a call on files, before whose commit the owed parts of a marked close are made
+abbrev pub is_disk : Chan → Bool
+is_disk (Reads f at) = true
+is_disk (Writes f) = true
+is_disk _ = false
+
+abbrev pub disk_device : ℕ
+disk_device = 0o446353000000
+
+abbrev pub helps_by : Whole → Ask → Option CallName → Bool
+helps_by q a (Some Open) = input a 1 == disk_device
+helps_by q a (Some Close) = is_disk (channel_at q.channels (input a 0))
+helps_by q a (Some Iot) = is_disk (channel_at q.channels (input a 0))
+helps_by q a (Some Siot) = is_disk (channel_at q.channels (input a 0))
+helps_by q a (Some Access) = true
+helps_by q a (Some Fillen) = true
+helps_by q a (Some Delete) = true
+helps_by q a (Some Rename) = true
+helps_by q a _ = false
+
+unfoldable pub helps : Whole → Ask → Bool
+helps q a = if a.fail == 0 then helps_by q a (call_named a.name) else false
+
+abbrev pub helped_if : Bool → State → State
+helped_if true w = help w
+helped_if false w = w
+
+-- what a commit finds: the jobs that it reaches are in user mode, and a marked close is helped by a call on files
+unfoldable pub prepared_for : State → ℕ → Whole → Ask → State
+prepared_for w j own a = helped_if (helps own a) (all_unwound (reach (plain w) j own a) w)
+
+-- a call is tried: it waits, or is carried out
+abbrev pub tried : State → State → ℕ → Site → Ask → ℕ → Decision → Ticked
+tried w v j s a n (Waits r) = waits (committed w j s a n (Waits r))
+tried w v j s a n (Goes cs h vs) = stepped (committed v j s a n (Goes cs h vs))
+tried w v j s a n (Ends cs ss e) = stepped (committed v j s a n (Ends cs ss e))
+tried w v j s a n (Gone cs) = stepped (committed v j s a n (Gone cs))
+
+abbrev pub tried_by : State → ℕ → Whole → Site → Ask → ℕ → Ticked
+tried_by w j own s a n = tried w (prepared_for w j own a) j s a n (decision (plain w) j own a)
+
+-- a call that has reserved a page is tried once all four quarters are clear
+abbrev pub quarters : ℕ
+quarters = 4
+
+abbrev pub held_on : State → ℕ → Whole → Site → Ask → Option ℕ → ℕ → Ticked
+held_on w j own s a None n = tried_by w j own s a n
+held_on w j own s a (Some p) n =
+    if nat_lt p quarters then works (reserving (turn w j same (Some (holding s a (Some (p + 1)) n))) j (Some (p + 1)))
+    else tried_by w j own s a n
+
+abbrev pub tick_in : State → ℕ → Whole → Option Frame → Ticked
+tick_in w j q None = user_on w j q (deliverable q.job)
+tick_in w j q (Some (Entered f)) = parsed_on w j f.site (parse q.core f.site)
+tick_in w j q (Some (Parsed f)) = fetched_on w j f.site (fetch q.core f.site f.block.items)
+tick_in w j q (Some (Asked f)) = works (prepared_on w j f.site f.ask (reserves f.ask))
+tick_in w j q (Some (Holding f)) = held_on w j (seen (Some (Holding f)) q) f.site f.ask f.page f.owes
+tick_in w j q (Some (Waiting f)) = tried_by w j (seen (Some (Waiting f)) q) f.site f.ask f.owes
+tick_in w j q (Some (Moving f)) = works (unwind_one w j)
+tick_in w j q (Some (Ending f)) = works (unwind_one w j)
+
+abbrev pub tick_unless : State → ℕ → Whole → Bool → Ticked
+tick_unless w j q true = off w
+tick_unless w j q false = tick_in w j q (w.frames j)
+
+abbrev pub tick_of : State → ℕ → Option Whole → Ticked
+tick_of w j (Some q) = tick_unless w j q q.job.stopped
+tick_of w j None = off w
+
+-- a tick of a slot
+unfoldable pub tick : State → ℕ → Ticked
+tick w j = tick_of w j (w.raw.jobs j)

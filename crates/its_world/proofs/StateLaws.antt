@@ -1,0 +1,159 @@
+-- What a change of one slot of a world does to the state that it stands for.
+use Rattle.std.specs.Prelude.{if◌then◌else◌, ◌≡◌, ◌≢◌, ◌==◌, ℕ, Bool, true, false, Option, Some, None, option_map, refl, is_some, slice_index_or, List}
+use Rattle.std.proofs.Common.{sym, ◌∙◌, ap, subst, arith, inl, inr}
+use Rattle.std.proofs.lemmas.Bool.{cases_Bool}
+use Rattle.std.proofs.lemmas.Bool.Decides.{nat_tests}
+use Rattle.its_word.specs.Only.{Only, Same}
+use Rattle.its_word.specs.Core.{Core}
+use Rattle.its_word.specs.declared.jobs.Channel.TheVariants as channels
+use Rattle.its_word.specs.declared.jobs.Job.{Job}
+use Rattle.its_word.specs.declared.calls.Exit.{Exit}
+use Rattle.its_word.specs.declared.plan.Store.{Store}
+use Rattle.its_core.specs.Cores.{core_at, clear_at}
+use Rattle.its_plain.specs.Own.{with_stores, left_with, leave}
+use Rattle.its_word.specs.Stores.{stored}
+use Rattle.its_jobs.specs.Table.{job_at, superior_at}
+use Rattle.its_frame.specs.declared.frame.Frame.{Frame}
+use Rattle.its_plain.specs.Machine.{Whole, Machine, changed}
+use Rattle.its_plain.specs.Change.{on_slot, in_job}
+use Rattle.its_plain.proofs.MachineLaws.{machine_is}
+use Rattle.its_stepped.specs.State.{Mark, State, turn, same, reserving}
+use Rattle.its_world.specs.World.{chan_of, bare, raw_of, raw_at, frame_at, state_of, in_raw, Becomes, CoreBecomes, JobBecomes, FrameBecomes}
+use Rattle.its_world.specs.declared.world.World.{World}
+
+pub state_is : (a b : State) → a.raw ≡ b.raw → ((k : ℕ) → a.frames k ≡ b.frames k) → ((k : ℕ) → a.reserved k ≡ b.reserved k) → a.mark ≡ b.mark → a ≡ b
+state_is a b raw frames reserved mark = λ t. record {
+  raw = raw t;
+  frames = λ k. frames k t;
+  reserved = λ k. reserved k t;
+  mark = mark t;
+}
+
+-- a job with its core, its registers and its superior
+abbrev pub raw_job : Core → Job → Option ℕ → Whole
+raw_job c j superior = record { core = c; job = bare j; superior = superior; channels = λ n. chan_of (slice_index_or j.channels n channels.Closed) }
+
+pub raw_some : (w : World) (s : ℕ) (j : Job) → job_at w.jobs s ≡ Some j → raw_at w.core w.jobs s ≡ Some (raw_job (core_at w.core s) j (superior_at w.jobs s))
+raw_some w s j h = ap (raw_of (core_at w.core s) (superior_at w.jobs s)) h
+
+pub raw_none : (w : World) (s : ℕ) → job_at w.jobs s ≡ None → raw_at w.core w.jobs s ≡ None
+raw_none w s h = ap (raw_of (core_at w.core s) (superior_at w.jobs s)) h
+
+-- a function that is another but at one place
+changed_at : {X : Type 0} (f g : ℕ → X) (s : ℕ) (x : X) → f s ≡ x → ((k : ℕ) → k ≢ s → f k ≡ g k) → (k : ℕ) → f k ≡ changed g s x k
+changed_at f g s x here others k = elim (cases_Bool (k == s)) [
+  | inl t ↦ let e : k ≡ s = grind (arith, nat_tests) in rw t (ap f e ∙ here)
+  | inr t ↦ let e : k ≢ s = grind (arith, nat_tests) in rw t (others k e)
+]
+
+slot_at : {X : Type 0} (f g : ℕ → Option X) (s : ℕ) (h : X → X) → f s ≡ option_map h (g s) → ((k : ℕ) → k ≢ s → f k ≡ g k) → (k : ℕ) → f k ≡ on_slot g s h k
+slot_at f g s h here others k = elim (cases_Bool (k == s)) [
+  | inl t ↦ let e : k ≡ s = grind (arith, nat_tests) in rw t (ap f e ∙ here ∙ ap (λ i. option_map h (g i)) (sym e))
+  | inr t ↦ let e : k ≢ s = grind (arith, nat_tests) in rw t (others k e)
+]
+
+raw_others : (old new : World) (s : ℕ) (c : Core) (j : Option Job) (f : Option Frame) (r : Option ℕ) → Becomes old new s c j f r
+    → (k : ℕ) → k ≢ s → raw_at new.core new.jobs k ≡ raw_at old.core old.jobs k
+raw_others old new s c j f r b k n =
+    ap (λ x. raw_of x (superior_at new.jobs k) (job_at new.jobs k)) (b.core.others k n)
+    ∙ ap (λ x. raw_of (core_at old.core k) (slice_index_or x k None) (job_at new.jobs k)) b.superiors
+    ∙ ap (raw_of (core_at old.core k) (superior_at old.jobs k)) (b.job.others k n)
+
+raw_here : (old new : World) (s : ℕ) (c : Core) (i j : Job) (f : Option Frame) (r : Option ℕ) (h : Whole → Whole) → Becomes old new s c (Some i) f r
+    → job_at old.jobs s ≡ Some j → h (raw_job (core_at old.core s) j (superior_at old.jobs s)) ≡ raw_job c i (superior_at old.jobs s)
+    → raw_at new.core new.jobs s ≡ option_map h (raw_at old.core old.jobs s)
+raw_here old new s c i j f r h b job e =
+    ap (λ x. raw_of x (superior_at new.jobs s) (job_at new.jobs s)) b.core.here
+    ∙ ap (λ x. raw_of c (slice_index_or x s None) (job_at new.jobs s)) b.superiors
+    ∙ ap (raw_of c (superior_at old.jobs s)) b.job.here
+    ∙ ap Some (sym e)
+    ∙ ap (option_map h) (sym (raw_some old s j job))
+
+-- the job of a slot is changed by h, its frame is f, and of its reserved page r quarters are clear
+pub written_state : (old new : World) (s : ℕ) (c : Core) (i j : Job) (f : Option Frame) (r : Option ℕ) (h : Whole → Whole) → Becomes old new s c (Some i) f r
+    → job_at old.jobs s ≡ Some j → h (raw_job (core_at old.core s) j (superior_at old.jobs s)) ≡ raw_job c i (superior_at old.jobs s)
+    → state_of new ≡ reserving (turn (state_of old) s h f) s r
+unfolding state_of
+written_state old new s c i j f r h b job e = state_is _ _
+    (machine_is _ _ (slot_at _ _ s h (raw_here old new s c i j f r h b job e) (raw_others old new s c (Some i) f r b)) (λ k. refl) (λ k. refl) refl b.clock)
+    (changed_at _ _ s f b.frame.here b.frame.others)
+    (changed_at _ _ s r b.reserved.here b.reserved.others)
+    refl
+
+pub turned_state : (old new : World) (s : ℕ) (c : Core) (i j : Job) (f : Option Frame) (h : Whole → Whole) → Becomes old new s c (Some i) f (clear_at old.core s)
+    → job_at old.jobs s ≡ Some j → h (raw_job (core_at old.core s) j (superior_at old.jobs s)) ≡ raw_job c i (superior_at old.jobs s)
+    → state_of new ≡ turn (state_of old) s h f
+unfolding state_of
+turned_state old new s c i j f h b job e = state_is _ _
+    (machine_is _ _ (slot_at _ _ s h (raw_here old new s c i j f _ h b job e) (raw_others old new s c (Some i) f _ b)) (λ k. refl) (λ k. refl) refl b.clock)
+    (changed_at _ _ s f b.frame.here b.frame.others)
+    (λ k. elim (cases_Bool (k == s)) [
+      | inl t ↦ let n : k ≡ s = grind (arith, nat_tests) in ap (clear_at new.core) n ∙ b.reserved.here ∙ ap (clear_at old.core) (sym n)
+      | inr t ↦ let n : k ≢ s = grind (arith, nat_tests) in b.reserved.others k n
+    ])
+    refl
+
+-- the changes of one slot that rows are made of
+pub job_of : (o : Option Job) → is_some o ≡ true → (j : Job) × (o ≡ Some j)
+job_of (Some j) h = (j, refl)
+job_of None h = cc
+
+pub kept_state : (old new : World) (s : ℕ) (f : Option Frame) (r : Option ℕ) → is_some (job_at old.jobs s) ≡ true
+    → Becomes old new s (core_at old.core s) (job_at old.jobs s) f r → state_of new ≡ reserving (turn (state_of old) s same f) s r
+kept_state old new s f r h b =
+    let j = job_of (job_at old.jobs s) h in
+    written_state old new s (core_at old.core s) j.0 j.0 f r same (subst (λ o. Becomes old new s (core_at old.core s) o f r) j.1 b) j.1 refl
+
+pub kept_turn : (old new : World) (s : ℕ) (f : Option Frame) → is_some (job_at old.jobs s) ≡ true → FrameBecomes old new s f
+    → state_of new ≡ turn (state_of old) s same f
+kept_turn old new s f h b =
+    let j = job_of (job_at old.jobs s) h in
+    turned_state old new s (core_at old.core s) j.0 j.0 f same (subst (λ o. Becomes old new s (core_at old.core s) o f (clear_at old.core s)) j.1 b) j.1 refl
+
+pub stored_turn : (old new : World) (s : ℕ) (ss : List Store) (f : Option Frame) → is_some (job_at old.jobs s) ≡ true
+    → Becomes old new s (stored (core_at old.core s) ss) (job_at old.jobs s) f (clear_at old.core s) → state_of new ≡ turn (state_of old) s (with_stores ss) f
+stored_turn old new s ss f h b =
+    let j = job_of (job_at old.jobs s) h in
+    turned_state old new s (stored (core_at old.core s) ss) j.0 j.0 f (with_stores ss) (subst (λ o. Becomes old new s (stored (core_at old.core s) ss) o f (clear_at old.core s)) j.1 b) j.1 refl
+
+pub left_turn : (old new : World) (s : ℕ) (j : Job) (e : Exit) (f : Option Frame) → job_at old.jobs s ≡ Some j
+    → Becomes old new s (core_at old.core s) (Some (left_with e j)) f (clear_at old.core s) → state_of new ≡ turn (state_of old) s (leave e) f
+left_turn old new s j e f h b = turned_state old new s (core_at old.core s) (left_with e j) j f (leave e) b h refl
+
+-- a frame that was taken out and another put in its place
+pub retaken : (w : State) (s : ℕ) (f g : Option Frame) (h : Whole → Whole) → turn (turn w s same f) s h g ≡ turn w s h g
+retaken w s f g h = state_is _ _ (machine_is _ _ (λ k. twice (k == s) (w.raw.jobs k)) (λ k. refl) (λ k. refl) refl refl) (λ k. over (k == s) (w.frames k)) (λ k. refl) refl
+  where
+    twice : (b : Bool) (o : Option Whole) → (if b then option_map h (if b then option_map same o else o) else (if b then option_map same o else o)) ≡ (if b then option_map h o else o)
+    twice true (Some q) = refl
+    twice true None = refl
+    twice false o = refl
+
+    over : (b : Bool) (o : Option Frame) → (if b then g else (if b then f else o)) ≡ (if b then g else o)
+    over true o = refl
+    over false o = refl
+
+pub changed_state : (old new : World) (s : ℕ) (c : Core) (i j : Job) (h : Whole → Whole) → Becomes old new s c (Some i) (frame_at old.frames.items s) (clear_at old.core s)
+    → job_at old.jobs s ≡ Some j → h (raw_job (core_at old.core s) j (superior_at old.jobs s)) ≡ raw_job c i (superior_at old.jobs s)
+    → state_of new ≡ in_raw (state_of old) s h
+unfolding state_of
+changed_state old new s c i j h b job e =
+    turned_state old new s c i j (frame_at old.frames.items s) h b job e
+    ∙ state_is (turn (state_of old) s h (frame_at old.frames.items s)) (in_raw (state_of old) s h) refl
+    (λ k. elim (cases_Bool (k == s)) [
+      | inl t ↦ let n : k ≡ s = grind (arith, nat_tests) in rw t (ap (frame_at old.frames.items) (sym n))
+      | inr t ↦ rw t refl
+    ])
+    (λ k. refl) refl
+
+-- a slot without a job
+pub absent_state : (w : World) (s : ℕ) (h : Whole → Whole) → job_at w.jobs s ≡ None → state_of w ≡ in_raw (state_of w) s h
+unfolding state_of
+absent_state w s h none = state_is _ _
+    (machine_is _ _ (λ k. elim (cases_Bool (k == s)) [
+      | inl t ↦ let n : k ≡ s = grind (arith, nat_tests) in
+          let e : raw_at w.core w.jobs k ≡ None = ap (raw_at w.core w.jobs) n ∙ raw_none w s none in
+          rw t (e ∙ ap (option_map h) (sym e))
+      | inr t ↦ rw t refl
+    ]) (λ k. refl) (λ k. refl) refl refl)
+    (λ k. refl) (λ k. refl) refl

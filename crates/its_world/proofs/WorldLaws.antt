@@ -1,0 +1,101 @@
+-- What a world keeps where one part of it is written.
+use Rattle.std.specs.Prelude.{◌≡◌, ◌≢◌, ℕ, zero, suc, true, Option, Some, None, IsSome, is_some, List, [], ◌∷◌, ◌++◌, slice_index_or, option_map, refl}
+use Rattle.std.proofs.Common.{ap, ◌∙◌}
+use Rattle.its_word.specs.Only.{Only, Same}
+use Rattle.its_word.specs.Core.{Core, no_core}
+use Rattle.its_word.specs.declared.jobs.Job.{Job}
+use Rattle.its_frame.specs.declared.frame.Frame.{Frame}
+use Rattle.its_jobs.specs.Table.{job_at}
+use Rattle.its_world.specs.World.{frame_at, Becomes, CoreBecomes, JobBecomes, FrameBecomes, PageBecomes}
+use Rattle.its_world.specs.declared.world.World.{World}
+use Rattle.its_core.specs.Cores.{Cores, Reserved, core_at, reserved_at, clear_at}
+
+same_reserved : (a b : Cores) (k : ℕ) → b.reserved ≡ a.reserved → reserved_at b k ≡ reserved_at a k
+unfolding reserved_at
+same_reserved a b k h = ap (λ rs. slice_index_or rs k None) h
+
+same_core : (a b : Cores) (k : ℕ) → b.cores ≡ a.cores → core_at b k ≡ core_at a k
+unfolding core_at
+same_core a b k h = ap (λ cs. slice_index_or cs k no_core) h
+
+same_clear : (a b : Cores) → b.reserved ≡ a.reserved → Same (clear_at a) (clear_at b)
+same_clear a b h = record { each = λ k. ap (λ (r : Option Reserved). option_map (λ x. x.clear) r) (same_reserved a b k h) }
+
+pub none_more : {X : Type 0} → (xs : List (Option X)) → ((k : ℕ) → slice_index_or xs k None ≡ None) → (k : ℕ) → slice_index_or (xs ++ None ∷ []) k None ≡ None
+none_more [] h zero = refl
+none_more [] h (suc k) = refl
+none_more (x ∷ xs) h zero = h zero
+none_more (x ∷ xs) h (suc k) = none_more xs (λ i. h (suc i)) k
+
+-- nothing else changes
+unchanged : {X : Type 0} → (f : ℕ → X) (s : ℕ) → Only f f s (f s)
+unchanged f s = record { here = refl; others = λ k h. refl }
+
+alike : {X : Type 0} → (f g : ℕ → X) (s : ℕ) → ((k : ℕ) → g k ≡ f k) → Only f g s (f s)
+alike f g s h = record { here = h s; others = λ k n. h k }
+
+pub core_becomes : (old new : World) (s : ℕ) (c : Core) → Only (core_at old.core) (core_at new.core) s c → new.core.reserved ≡ old.core.reserved
+    → new.jobs ≡ old.jobs → new.frames ≡ old.frames → new.clock ≡ old.clock → CoreBecomes old new s c
+core_becomes old new s c core reserved jobs frames clock = record {
+  core = core;
+  job = alike _ _ s (λ k. ap (λ t. job_at t k) jobs);
+  superiors = ap (λ t. t.superiors) jobs;
+  frame = alike _ _ s (λ k. ap (λ t. frame_at t.items k) frames);
+  reserved = alike _ _ s ((same_clear old.core new.core reserved).each);
+  clock = clock;
+}
+
+pub job_becomes : (old new : World) (s : ℕ) (j : Job) → Only (job_at old.jobs) (job_at new.jobs) s (Some j) → new.jobs.superiors ≡ old.jobs.superiors
+    → new.core ≡ old.core → new.frames ≡ old.frames → new.clock ≡ old.clock → JobBecomes old new s j
+job_becomes old new s j job superiors core frames clock = record {
+  core = alike _ _ s (λ k. ap (λ t. core_at t k) core);
+  job = job;
+  superiors = superiors;
+  frame = alike _ _ s (λ k. ap (λ t. frame_at t.items k) frames);
+  reserved = alike _ _ s (λ k. ap (λ t. clear_at t k) core);
+  clock = clock;
+}
+
+pub frame_becomes : (old new : World) (s : ℕ) (f : Option Frame) → Only (frame_at old.frames.items) (frame_at new.frames.items) s f
+    → new.core ≡ old.core → new.jobs ≡ old.jobs → new.clock ≡ old.clock → FrameBecomes old new s f
+frame_becomes old new s f frame core jobs clock = record {
+  core = alike _ _ s (λ k. ap (λ t. core_at t k) core);
+  job = alike _ _ s (λ k. ap (λ t. job_at t k) jobs);
+  superiors = ap (λ t. t.superiors) jobs;
+  frame = frame;
+  reserved = alike _ _ s (λ k. ap (λ t. clear_at t k) core);
+  clock = clock;
+}
+
+-- two changes of one slot, one after the other
+only_then : {X : Type 0} → (f g h : ℕ → X) (s : ℕ) (x y : X) → Only f g s x → Only g h s y → Only f h s y
+only_then f g h s x y a b = record { here = b.here; others = λ k n. b.others k n ∙ a.others k n }
+
+pub then_becomes : (old mid new : World) (s : ℕ) (c d : Core) (i j : Option Job) (f g : Option Frame) (r t : Option ℕ)
+    → Becomes old mid s c i f r → Becomes mid new s d j g t → Becomes old new s d j g t
+then_becomes old mid new s c d i j f g r t a b = record {
+  core = only_then _ _ _ s c d a.core b.core;
+  job = only_then _ _ _ s i j a.job b.job;
+  superiors = b.superiors ∙ a.superiors;
+  frame = only_then _ _ _ s f g a.frame b.frame;
+  reserved = only_then _ _ _ s r t a.reserved b.reserved;
+  clock = b.clock ∙ a.clock;
+}
+
+pub page_becomes : (old new : World) (s : ℕ) (r : Option ℕ) → Only (clear_at old.core) (clear_at new.core) s r → new.core.cores ≡ old.core.cores
+    → new.jobs ≡ old.jobs → new.frames ≡ old.frames → new.clock ≡ old.clock → PageBecomes old new s r
+page_becomes old new s r page cores jobs frames clock = record {
+  core = alike _ _ s (λ k. same_core old.core new.core k cores);
+  job = alike _ _ s (λ k. ap (λ t. job_at t k) jobs);
+  superiors = ap (λ t. t.superiors) jobs;
+  frame = alike _ _ s (λ k. ap (λ t. frame_at t.items k) frames);
+  reserved = page;
+  clock = clock;
+}
+
+some_by : (o : Option Reserved) → is_some (option_map (λ x. x.clear) o) ≡ true → IsSome o
+some_by (Some x) h = refl
+some_by None h = cc
+
+pub reserved_some : (c : Cores) (s : ℕ) → is_some (clear_at c s) ≡ true → IsSome (reserved_at c s)
+reserved_some c s h = some_by (reserved_at c s) h

@@ -1,0 +1,91 @@
+-- The state of the stepped machine that a world stands for.
+use Rattle.std.specs.Prelude.{◌≡◌, ℕ, Option, Some, None, List, [], replicate, slice_index_or, option_map}
+use Rattle.its_word.specs.Only.{Only, Same}
+use Rattle.its_word.specs.Core.{Core}
+use Rattle.its_word.specs.declared.jobs.Channel.{Channel}
+use Rattle.its_word.specs.declared.jobs.Channel.TheVariants as channels
+use Rattle.its_word.specs.declared.jobs.Job.{Job}
+use Rattle.its_core.specs.Cores.{Cores, core_at, clear_at}
+use Rattle.its_jobs.specs.Table.{Table, job_at, superior_at}
+use Rattle.its_frame.specs.declared.frame.Frame.{Frame}
+use Rattle.its_plain.specs.Machine.{Chan, Shut, TtyIn, TtyOut, On, Whole, no_bytes, Machine}
+use Rattle.its_plain.specs.Change.{in_job}
+use Rattle.its_stepped.specs.State.{Mark, State}
+use Rattle.its_world.specs.declared.world.World.{World}
+
+-- what a channel of the plain machine is on. No channel on a file or a draft can be opened yet
+abbrev pub chan_of : Channel → Chan
+chan_of channels.Closed = Shut
+chan_of channels.TtyIn = TtyIn
+chan_of channels.TtyOut = TtyOut
+chan_of (channels.Reading f at) = Shut
+chan_of (channels.Writing d) = Shut
+chan_of (channels.Usr s w at) = On s w at
+
+-- the registers of the plain machine: its channels stand apart
+unfoldable pub closed_channels : List Channel
+closed_channels = replicate 16 channels.Closed
+
+abbrev pub bare : Job → Job
+bare j = record j { channels = closed_channels }
+
+-- the raw job of a slot
+abbrev pub raw_of : Core → Option ℕ → Option Job → Option Whole
+raw_of c superior (Some j) = Some (record {
+  core = c;
+  job = bare j;
+  superior = superior;
+  channels = λ n. chan_of (slice_index_or j.channels n channels.Closed);
+})
+raw_of c superior None = None
+
+abbrev pub raw_at : Cores → Table → ℕ → Option Whole
+raw_at cores table k = raw_of (core_at cores k) (superior_at table k) (job_at table k)
+
+abbrev pub frame_at : List (Option Frame) → ℕ → Option Frame
+frame_at frames k = slice_index_or frames k None
+
+abbrev pub raw_machine : Cores → Table → ℕ → Machine
+raw_machine cores table clock = record {
+  jobs = raw_at cores table;
+  consoles = λ _. no_bytes;
+  holders = λ _. None;
+  files = [];
+  clock = clock;
+}
+
+-- the state that a world stands for
+unfoldable pub state_of : World → State
+state_of w = record {
+  raw = raw_machine w.core w.jobs w.clock;
+  frames = frame_at w.frames.items;
+  reserved = clear_at w.core;
+  mark = None;
+}
+
+-- the job of a slot changed, with the frame and the page that it has
+abbrev pub in_raw : State → ℕ → (Whole → Whole) → State
+in_raw w s h = record w { raw = in_job w.raw s h }
+
+-- of the world only slot s changes: its core, its job with the same superior, its frame, and how many quarters of its
+-- reserved page are clear
+pub record Becomes (old new : World) (s : ℕ) (c : Core) (j : Option Job) (f : Option Frame) (r : Option ℕ) : Type 0 where
+  pub core : Only (core_at old.core) (core_at new.core) s c
+  pub job : Only (job_at old.jobs) (job_at new.jobs) s j
+  pub superiors : new.jobs.superiors ≡ old.jobs.superiors
+  pub frame : Only (frame_at old.frames.items) (frame_at new.frames.items) s f
+  pub reserved : Only (clear_at old.core) (clear_at new.core) s r
+  pub clock : new.clock ≡ old.clock
+
+-- the same, where only its core, only its registers, or only its frame is written
+abbrev pub CoreBecomes : World → World → ℕ → Core → Type 0
+CoreBecomes old new s c = Becomes old new s c (job_at old.jobs s) (frame_at old.frames.items s) (clear_at old.core s)
+
+abbrev pub JobBecomes : World → World → ℕ → Job → Type 0
+JobBecomes old new s j = Becomes old new s (core_at old.core s) (Some j) (frame_at old.frames.items s) (clear_at old.core s)
+
+abbrev pub FrameBecomes : World → World → ℕ → Option Frame → Type 0
+FrameBecomes old new s f = Becomes old new s (core_at old.core s) (job_at old.jobs s) f (clear_at old.core s)
+
+abbrev pub PageBecomes : World → World → ℕ → Option ℕ → Type 0
+PageBecomes old new s r = Becomes old new s (core_at old.core s) (job_at old.jobs s) (frame_at old.frames.items s) r

@@ -1,0 +1,145 @@
+ghost use Rattle.std.specs.Prelude.{◌≡◌, ◌<◌, ◌≤◌, ◌≢◌, ◌↔◌, ◌/◌, ◌^◌, ℕ, vec_len, slice_index_or, true, false, Some, None, Ok, Err, IfOk, IfErr, OnOk, OnErr, IsTrue, is_some, option_copied};
+ghost use Rattle.its_word.specs.Limits.{slots};
+
+use its_core::Core;
+use its_frame::Frame;
+use its_jobs::Jobs;
+use its_word::{Job, NoAccess, NoMemory, SLOTS, Word};
+use std::alloc::Global;
+
+/// The whole state: cores, jobs, for each slot the frame of its call in progress where it is in one, and the
+/// clock in thirtieths.
+#[derive(Drop)]
+pub struct World {
+    pub core: Core,
+    pub jobs: Jobs,
+    pub frames: Vec<Option<Frame>>,
+    pub clock: u64,
+    ghost slots: { vec_len frames ≡ 64 },
+}
+
+impl World {
+    ghost use Rattle.its_core.specs.Cores.{core_at, clear_at, IsEmpty};
+    ghost use Rattle.its_jobs.specs.Table.{job_at, superior_at, NoJobs};
+    ghost use Rattle.its_word.specs.Core.{store, can_store, put as put_at, page_of};
+    ghost use Rattle.its_world.specs.World.{frame_at, CoreBecomes, JobBecomes, FrameBecomes, PageBecomes};
+
+    /// The world at the start of a session: no job, no page, no frame, clock 0. Takes all the memory that it
+    /// needs.
+    pub fn open(alloc: Global) -> Result<World, NoMemory>
+        ensures cores { IfOk result (λ w. IsEmpty w.core) }
+        ensures jobs { IfOk result (λ w. NoJobs w.jobs) }
+        ensures frames { IfOk result (λ w. (k : ℕ) → frame_at w.frames.items k ≡ None) }
+        ensures clock { IfOk result (λ w. w.clock ≡ 0) }
+    {
+        let core = Core::open(alloc)?;
+        let jobs = Jobs::open(alloc)?;
+        let frames = no_frames(alloc, SLOTS)?;
+        Ok(World {
+            core,
+            jobs,
+            frames,
+            clock: 0,
+        })
+    }
+
+    /// The registers of a slot's job.
+    pub fn registers(&self, slot: u8) -> Option<Job>
+        requires { slot < slots }
+        ensures { result ≡ job_at self.now.jobs slot }
+    {
+        self.jobs.job(slot).copied()
+    }
+
+    /// Writes the registers of a slot's job.
+    #[tactic(auto, using(crate::proofs::WorldLaws::job_becomes))]
+    pub fn put_registers(&mut self, slot: u8, job: Job)
+        requires slot { slot < slots }
+        requires some { is_some (job_at self.old.jobs slot) ≡ true }
+        ensures { JobBecomes self.old self.new slot job }
+    {
+        if let Some(j) = self.jobs.job_mut(slot) {
+            *j = job;
+        }
+    }
+
+    /// Stores a word of a slot: Absent or ReadOnly where its page is so.
+    #[tactic(auto, using(crate::proofs::WorldLaws::core_becomes))]
+    pub fn put_word(&mut self, slot: u8, a: u32, w: Word) -> Result<(), NoAccess>
+        requires slot { slot < slots }
+        requires address { a < 2 ^ 18 }
+        ensures stored { OnOk result (CoreBecomes self.old self.new slot (store (core_at self.old.core slot) a w)) }
+        ensures allowed { OnOk result (can_store (core_at self.old.core slot) a ≡ true) }
+        ensures refused { IfErr result (λ e. put_at (core_at self.old.core slot) a w ≡ Err e) }
+        ensures absent { result ≡ Err NoAccess.Absent → (16 ≤ a) × (page_of (core_at self.old.core slot) (a / 1024) ≡ None) }
+        ensures same { OnErr result (self.new ≡ self.old) }
+    {
+        match self.core.put(slot, a, w) {
+            Ok(()) => Ok(()),
+            Err(e) => Err(e),
+        }
+    }
+
+    /// Stores a word of a slot that can be stored.
+    pub fn store(&mut self, slot: u8, a: u32, w: Word)
+        requires slot { slot < slots }
+        requires address { a < 2 ^ 18 }
+        requires can { can_store (core_at self.old.core slot) a ≡ true }
+        ensures { CoreBecomes self.old self.new slot (store (core_at self.old.core slot) a w) }
+    {
+        match self.put_word(slot, a, w) {
+            Ok(()) => {}
+            Err(_) => unreachable!(),
+        }
+    }
+
+    /// Gives up the page that a slot has reserved.
+    #[tactic(auto, using(crate::proofs::WorldLaws::page_becomes, crate::proofs::WorldLaws::reserved_some))]
+    pub fn give_back(&mut self, slot: u8)
+        requires slot { slot < slots }
+        requires page { is_some (clear_at self.old.core slot) ≡ true }
+        ensures { PageBecomes self.old self.new slot None }
+    {
+        self.core.give_back(slot);
+    }
+
+    /// Whether a slot's job is inside a call.
+    pub fn has_frame(&self, slot: u8) -> bool
+        requires { slot < slots }
+        ensures { result ≡ is_some (frame_at self.now.frames.items slot) }
+    {
+        self.frames[usize::from(slot)].is_some()
+    }
+
+    /// Takes the frame of a slot out of the world, which is then without it.
+    #[tactic(auto, using(crate::proofs::WorldLaws::frame_becomes))]
+    pub fn take_frame(&mut self, slot: u8) -> Option<Frame>
+        requires { slot < slots }
+        ensures frame { result ≡ frame_at self.old.frames.items slot }
+        ensures taken { FrameBecomes self.old self.new slot None }
+    {
+        self.frames[usize::from(slot)].take()
+    }
+
+    /// Puts a frame in the place of a slot.
+    #[tactic(auto, using(crate::proofs::WorldLaws::frame_becomes))]
+    pub fn put_frame(&mut self, slot: u8, frame: Frame)
+        requires { slot < slots }
+        ensures { FrameBecomes self.old self.new slot (Some frame) }
+    {
+        self.frames[usize::from(slot)] = Some(frame);
+    }
+}
+
+/// So many places without a frame.
+#[tactic(auto, using(crate::proofs::WorldLaws::none_more))]
+fn no_frames(alloc: Global, n: usize) -> Result<Vec<Option<Frame>>, NoMemory>
+    ensures length { IfOk result (λ v. vec_len v ≡ n) }
+    ensures none { IfOk result (λ v. (k : ℕ) → slice_index_or v.items k None ≡ None) }
+{
+    let mut v = Vec::with_capacity(alloc, n).map_err(|_| NoMemory)?;
+    for _k in 0..n {
+        v.push(None).map_err(|_| NoMemory)?;
+    }
+    Ok(v)
+}

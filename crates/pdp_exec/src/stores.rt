@@ -1,0 +1,38 @@
+//! The stores of a unit.
+ghost use Rattle.std.specs.Prelude.{◌≡◌, [], ◌∷◌};
+ghost use Rattle.pdp_exec.specs.Stores.{list_of};
+
+use its_word::Store;
+
+/// Up to three stores, in their order.
+#[derive(Clone, Copy, Debug, PartialEq, Eq)]
+pub enum Stores {
+    Zero,
+    One(Store),
+    Two(Store, Store),
+    Three(Store, Store, Store),
+}
+
+pub fn none() -> Stores
+    ensures { list_of result ≡ [] }
+{
+    Stores::Zero
+}
+
+pub fn one(a: Store) -> Stores
+    ensures { list_of result ≡ a ∷ [] }
+{
+    Stores::One(a)
+}
+
+pub fn two(a: Store, b: Store) -> Stores
+    ensures { list_of result ≡ a ∷ b ∷ [] }
+{
+    Stores::Two(a, b)
+}
+
+pub fn three(a: Store, b: Store, c: Store) -> Stores
+    ensures { list_of result ≡ a ∷ b ∷ c ∷ [] }
+{
+    Stores::Three(a, b, c)
+}
