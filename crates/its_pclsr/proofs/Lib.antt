@@ -5,3 +5,5 @@ pub mod ChangeLaws
 pub mod CarryLaws
 pub mod RemovalLaws
 pub mod BelowLaws
+pub mod CommittingLaws
+pub mod ValueLaws

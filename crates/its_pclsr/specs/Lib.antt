@@ -1,3 +1,4 @@
 pub mod Owed
 pub mod Built
 pub mod Removal
+pub mod Carried

@@ -5,11 +5,13 @@
 
 mod carrying;
 mod changes;
+mod committing;
 mod owed;
 mod removal;
 mod unwinding;
 
 pub use carrying::owed_steps;
 pub use changes::apply;
+pub use committing::carry_out;
 pub use removal::{remove_tree, unwind_below};
 pub use unwinding::{unwind, unwind_one};

@@ -1,0 +1,54 @@
+-- What has to hold of a decision that is carried out, and of the frame of its call.
+use Rattle.std.specs.Prelude.{◌≡◌, ◌≤◌, ◌+◌, ℕ, true, Option, Some, None, is_some, List, ◌++◌, length, take, drop, slice_set, slice_index_or}
+use Rattle.its_frame.specs.declared.decision.Decision.{Decision}
+use Rattle.its_frame.specs.declared.decision.Decision.TheVariants.{Waits, Goes, Ends, Gone}
+use Rattle.its_frame.specs.declared.frame.Frame.{Frame}
+use Rattle.its_frame.specs.declared.frame.Frame.TheVariants as frames
+use Rattle.its_frame.specs.declared.frame.Holding.{Holding}
+use Rattle.its_plain.specs.Arguments.{debts, valued}
+use Rattle.its_word.specs.declared.calls.Ask.{Ask}
+use Rattle.its_word.specs.declared.calls.Operand.{Operand}
+use Rattle.its_plain.specs.Change.{superiors}
+use Rattle.its_word.specs.Tree.{is_below}
+use Rattle.its_stepped.specs.Sound.{Sound}
+use Rattle.its_stepped.specs.State.{State}
+use Rattle.its_pclsr.specs.Built.{AllBuilt}
+
+-- the call of a frame from which it can be committed; a call that waits holds no page
+abbrev pub standing_of : Option Frame → Option Holding
+standing_of (Some (frames.Holding f)) = Some f
+standing_of (Some (frames.Waiting f)) = Some (record { site = f.site; ask = f.ask; page = None; owes = f.owes })
+standing_of _ = None
+
+-- what a call that ends owes has room in its frame
+abbrev pub page_steps : Option ℕ → ℕ
+page_steps (Some n) = 1
+page_steps None = 0
+
+pub record Endable (w : State) (s : ℕ) (f : Holding) (stores : ℕ) : Type 0 where
+  pub read : length (debts f.ask f.owes) ≡ f.owes
+  pub page : is_some (w.reserved s) ≡ is_some f.page
+  pub few : page_steps f.page + f.owes + stores ≤ 3
+  pub unmarked : w.mark ≡ None
+
+pub record Removable (w : State) (s : ℕ) : Type 0 where
+  pub sound : Sound w
+  pub unwound : (k : ℕ) → is_below (superiors w.raw) s k ≡ true → w.frames k ≡ None
+  pub page : w.reserved s ≡ None
+
+-- the changes are built, and the rest can be done
+abbrev pub Ready : State → ℕ → Holding → Decision → Type 0
+Ready w s f (Waits r) = Unit {0}
+Ready w s f (Goes cs h vs) = AllBuilt cs.items
+Ready w s f (Ends cs ss e) = AllBuilt cs.items × Endable w s f (length ss.items)
+Ready w s f (Gone cs) = AllBuilt cs.items × Removable w s
+
+-- an input with a new value; the inputs from one on with new values
+abbrev pub no_operand : Operand
+no_operand = record { value = 0; place = None }
+
+abbrev pub with_value : Ask → ℕ → ℕ → Ask
+with_value a k v = record a { inputs = record { items = slice_set a.inputs.items k (record (slice_index_or a.inputs.items k no_operand) { value = v }) } }
+
+abbrev pub with_values : Ask → ℕ → List ℕ → Ask
+with_values a kept vs = record a { inputs = record { items = take kept a.inputs.items ++ valued (drop kept a.inputs.items) vs } }

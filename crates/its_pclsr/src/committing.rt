@@ -1,0 +1,176 @@
+//! The decision of a call carried out.
+ghost use Rattle.std.specs.Prelude.{◌≡◌, ◌<◌, ◌≤◌, ◌++◌, ◌∷◌, [], true, Some, None, is_some, IfSome, length, map};
+ghost use Rattle.its_word.specs.declared.calls.Owed.TheVariants.{Leave};
+ghost use Rattle.its_word.specs.Limits.{slots};
+ghost use Rattle.its_jobs.specs.Table.{job_at};
+ghost use Rattle.its_plain.specs.Arguments.{debts, revalued};
+ghost use Rattle.its_plain.specs.Decide.{call_named};
+ghost use Rattle.its_stepped.specs.Commit.{committed, gone_on, owed_store, sleeps};
+ghost use Rattle.its_stepped.specs.State.{ending, waiting};
+ghost use Rattle.its_pclsr.specs.Built.{backed};
+ghost use Rattle.its_pclsr.specs.Carried.{standing_of, with_value, Ready, Endable};
+ghost use Rattle.its_world.specs.World.{state_of, frame_at, FrameBecomes};
+
+use super::carrying::owed_steps;
+use super::changes::apply;
+use super::removal::remove_tree;
+use its_frame::{Decision, Ending, Frame, Held, Holding, Moving, Waiting};
+use its_word::{Ask, Exit, Store, Word};
+use its_world::World;
+
+/// Carries out what the call of a slot's job comes to, which stands in its frame: the changes at once, and
+/// the rest as the frame that it leaves.
+pub fn carry_out(w: &mut World, slot: u8, decision: Decision)
+    requires slot { slot < slots }
+    requires job { is_some (job_at w.old.jobs slot) ≡ true }
+    requires stands { is_some (standing_of (frame_at w.old.frames.items slot)) ≡ true }
+    requires ready { IfSome (standing_of (frame_at w.old.frames.items slot)) (λ f. Ready (state_of w.old) slot f decision) }
+    ensures { IfSome (standing_of (frame_at w.old.frames.items slot)) (λ f. state_of w.new ≡ committed (state_of w.old) slot f.site f.ask f.owes decision) }
+{
+    match decision {
+        Decision::Waits(_) => wait(w, slot),
+        Decision::Goes {
+            changes,
+            held,
+            values,
+        } => {
+            apply(w, slot, &changes);
+            go_on(w, slot, held, &values);
+        }
+        Decision::Ends {
+            changes,
+            stores,
+            exit,
+        } => {
+            apply(w, slot, &changes);
+            end(w, slot, &stores, exit);
+        }
+        Decision::Gone { changes } => {
+            remove_tree(w, slot);
+            apply(w, slot, &changes);
+        }
+    }
+}
+
+/// Takes the call of a slot out of its frame.
+fn take_call(w: &mut World, slot: u8) -> Holding
+    requires slot { slot < slots }
+    requires stands { is_some (standing_of (frame_at w.old.frames.items slot)) ≡ true }
+    ensures call { standing_of (frame_at w.old.frames.items slot) ≡ Some result }
+    ensures taken { FrameBecomes w.old w.new slot None }
+{
+    match w.take_frame(slot) {
+        Some(Frame::Holding(f)) => f,
+        Some(Frame::Waiting(f)) => Holding {
+            site: f.site,
+            ask: f.ask,
+            page: None,
+            owes: f.owes,
+        },
+        _ => unreachable!(),
+    }
+}
+
+/// The call waits.
+fn wait(w: &mut World, slot: u8)
+    requires slot { slot < slots }
+    requires stands { is_some (standing_of (frame_at w.old.frames.items slot)) ≡ true }
+    ensures { IfSome (standing_of (frame_at w.old.frames.items slot)) (λ f. FrameBecomes w.old w.new slot (Some (waiting f.site f.ask f.owes))) }
+{
+    let f = take_call(w, slot);
+    w.put_frame(
+        slot,
+        Frame::Waiting(Waiting {
+            site: f.site,
+            ask: f.ask,
+            owes: f.owes,
+        }),
+    );
+}
+
+/// A part of the call is done: its last arguments have new values, which it owes.
+fn go_on(w: &mut World, slot: u8, held: Option<Held>, values: &[Word])
+    requires slot { slot < slots }
+    requires stands { is_some (standing_of (frame_at w.old.frames.items slot)) ≡ true }
+    requires few { length values.now ≤ 2 }
+    ensures { IfSome (standing_of (frame_at w.old.frames.items slot)) (λ f. FrameBecomes w.old w.new slot (Some (gone_on f.site (revalued f.ask values.now) (length values.now) held))) }
+{
+    let mut f = take_call(w, slot);
+    revalue(&mut f.ask, values);
+    let owes = values.len() as u8;
+    w.put_frame(slot, gone_on(f, owes, held));
+}
+
+/// The frame of a call of which a part is done.
+fn gone_on(f: Holding, owes: u8, held: Option<Held>) -> Frame
+    ensures { result ≡ gone_on f.site f.ask owes held }
+{
+    if let Some(held) = held {
+        return Frame::Moving(Moving {
+            site: f.site,
+            ask: f.ask,
+            place: held.place,
+            byte: held.byte,
+        });
+    }
+    if is_sleep(&f.ask) {
+        return Frame::Waiting(Waiting {
+            site: f.site,
+            ask: f.ask,
+            owes,
+        });
+    }
+    Frame::Holding(Holding {
+        site: f.site,
+        ask: f.ask,
+        page: None,
+        owes,
+    })
+}
+
+/// Whether a call is SLEEP, whose part that is done leaves it waiting.
+#[tactic(auto, using(crate::proofs::CommittingLaws::sleeps_alone))]
+fn is_sleep(ask: &Ask) -> bool
+    ensures { result ≡ sleeps (call_named ask.now.name) }
+{
+    ask.name.value() == 0o635445456000
+}
+
+/// Gives the last inputs of a call new values.
+fn revalue(ask: &mut Ask, values: &[Word])
+    ensures { ask.new ≡ revalued ask.old values.now }
+{
+    let kept = ask.inputs.len().saturating_sub(values.len());
+    for k in 0..values.len() {
+        if kept + k < ask.inputs.len() {
+            set_value(ask, kept + k, values[k]);
+        }
+    }
+}
+
+/// Gives one input of a call a new value.
+fn set_value(ask: &mut Ask, k: usize, value: Word)
+    requires { k < length ask.old.inputs.items }
+    ensures { ask.new ≡ with_value ask.old k value }
+{
+    ask.inputs[k].value = value;
+}
+
+/// The call ends: its reserved page, its arguments, its stores and its registers are owed.
+fn end(w: &mut World, slot: u8, stores: &[Store], exit: Exit)
+    requires slot { slot < slots }
+    requires stands { is_some (standing_of (frame_at w.old.frames.items slot)) ≡ true }
+    requires room { IfSome (standing_of (frame_at w.old.frames.items slot)) (λ f. Endable (state_of w.old) slot f (length stores.now)) }
+    ensures { IfSome (standing_of (frame_at w.old.frames.items slot)) (λ f. FrameBecomes w.old w.new slot (Some (ending f.site f.ask (backed (is_some f.page) ++ (map owed_store (debts f.ask f.owes ++ stores.now) ++ Leave exit ∷ []))))) }
+{
+    let f = take_call(w, slot);
+    let owed = owed_steps(f.page.is_some(), &f.ask, f.owes, stores, exit);
+    w.put_frame(
+        slot,
+        Frame::Ending(Ending {
+            site: f.site,
+            ask: f.ask,
+            owed,
+        }),
+    );
+}
