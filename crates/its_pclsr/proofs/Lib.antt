@@ -7,3 +7,4 @@ pub mod RemovalLaws
 pub mod BelowLaws
 pub mod CommittingLaws
 pub mod ValueLaws
+pub mod ApartLaws

@@ -2,3 +2,4 @@ pub mod Owed
 pub mod Built
 pub mod Removal
 pub mod Carried
+pub mod Apart

@@ -12,6 +12,7 @@ ghost use Rattle.its_stepped.specs.OneChange.{OneChange};
 ghost use Rattle.its_stepped.specs.SlotSame.{SlotSame};
 ghost use Rattle.its_stepped.specs.Sound.{HoldingPays, WaitingPays, MovingPays, EndingPays, Sound};
 ghost use Rattle.its_world.specs.World.{state_of, frame_at, CoreBecomes, JobBecomes};
+ghost use Rattle.its_pclsr.specs.Apart.{CoresOff};
 
 use super::owed::{first_owed, make, pass_over};
 use its_bytes::deposit;
@@ -30,17 +31,20 @@ pub fn unwind_one(w: &mut World, slot: u8)
     ensures fewer { left (state_of w.new) slot + 1 ≡ left (state_of w.old) slot }
     ensures change { OneChange (state_of w.old) (state_of w.new) slot }
     ensures same { plain (state_of w.new) ≡ plain (state_of w.old) }
+    ensures cores { CoresOff w.old w.new slot }
     ensures sound { Sound (state_of w.new) }
 {
     step(w, slot);
 }
 
 /// The row of a frame.
+#[tactic(auto, using(crate::proofs::ApartLaws::off_one, crate::proofs::ApartLaws::off_then))]
 fn step(w: &mut World, slot: u8)
     requires slot { slot < slots }
     requires frame { is_some (frame_at w.old.frames.items slot) ≡ true }
     requires sound { Sound (state_of w.old) }
-    ensures { state_of w.new ≡ unwind_one_of (state_of w.old) slot }
+    ensures row { state_of w.new ≡ unwind_one_of (state_of w.old) slot }
+    ensures cores { CoresOff w.old w.new slot }
 {
     match w.take_frame(slot) {
         Some(Frame::Holding(f)) => unwind_holding(w, slot, f),
@@ -56,13 +60,14 @@ fn step(w: &mut World, slot: u8)
 
 /// A call that holds a page gives it back; one that owes words stores the first; else its frame is
 /// dropped.
-#[tactic(auto, using(crate::proofs::RowLaws::holding_backed, crate::proofs::RowLaws::holding_dropped, crate::proofs::RowLaws::holding_paid))]
+#[tactic(auto, using(crate::proofs::ApartLaws::off_one, crate::proofs::ApartLaws::off_then, crate::proofs::RowLaws::holding_backed, crate::proofs::RowLaws::holding_dropped, crate::proofs::RowLaws::holding_paid))]
 fn unwind_holding(w: &mut World, slot: u8, mut f: Holding)
     requires slot { slot < slots }
     requires job { is_some (job_at w.old.jobs slot) ≡ true }
     requires frame { frame_at w.old.frames.items slot ≡ None }
     requires pays { HoldingPays (core_at w.old.core slot) (clear_at w.old.core slot) f.ask f.page f.owes }
-    ensures { state_of w.new ≡ given_back (state_of w.old) slot f.site f.ask f.page f.owes }
+    ensures row { state_of w.new ≡ given_back (state_of w.old) slot f.site f.ask f.page f.owes }
+    ensures cores { CoresOff w.old w.new slot }
 {
     if f.page.is_some() {
         w.give_back(slot);
@@ -80,13 +85,14 @@ fn unwind_holding(w: &mut World, slot: u8, mut f: Holding)
 }
 
 /// A waiting call that owes words stores the first; else its frame is dropped.
-#[tactic(auto, using(crate::proofs::RowLaws::paid_none, crate::proofs::RowLaws::paid_some))]
+#[tactic(auto, using(crate::proofs::ApartLaws::off_one, crate::proofs::ApartLaws::off_then, crate::proofs::RowLaws::paid_none, crate::proofs::RowLaws::paid_some))]
 fn unwind_waiting(w: &mut World, slot: u8, mut f: Waiting)
     requires slot { slot < slots }
     requires job { is_some (job_at w.old.jobs slot) ≡ true }
     requires frame { frame_at w.old.frames.items slot ≡ None }
     requires pays { WaitingPays (core_at w.old.core slot) (clear_at w.old.core slot) f.ask f.owes }
-    ensures { state_of w.new ≡ paid (state_of w.old) slot f.ask f.owes (waiting f.site f.ask) }
+    ensures row { state_of w.new ≡ paid (state_of w.old) slot f.ask f.owes (waiting f.site f.ask) }
+    ensures cores { CoresOff w.old w.new slot }
 {
     if f.owes == 0 {
         return;
@@ -98,13 +104,14 @@ fn unwind_waiting(w: &mut World, slot: u8, mut f: Waiting)
 }
 
 /// The held byte is stored in its word; the pointer and the count are owed then.
-#[tactic(auto, using(crate::proofs::RowLaws::moved_turn))]
+#[tactic(auto, using(crate::proofs::ApartLaws::off_one, crate::proofs::ApartLaws::off_then, crate::proofs::RowLaws::moved_turn))]
 fn unwind_moving(w: &mut World, slot: u8, f: Moving)
     requires slot { slot < slots }
     requires job { is_some (job_at w.old.jobs slot) ≡ true }
     requires frame { frame_at w.old.frames.items slot ≡ None }
     requires pays { MovingPays (core_at w.old.core slot) (clear_at w.old.core slot) f.ask f.place }
-    ensures { state_of w.new ≡ turn (state_of w.old) slot (with_held f.ask (Some (held_at f.place f.byte))) (Some (holding f.site f.ask None 2)) }
+    ensures row { state_of w.new ≡ turn (state_of w.old) slot (with_held f.ask (Some (held_at f.place f.byte))) (Some (holding f.site f.ask None 2)) }
+    ensures cores { CoresOff w.old w.new slot }
 {
     store_held(w, slot, &f);
     w.put_frame(
@@ -135,13 +142,14 @@ fn store_held(w: &mut World, slot: u8, f: &Moving)
 }
 
 /// The first step that is still owed is made.
-#[tactic(auto, using(crate::proofs::RowLaws::settled_store, crate::proofs::RowLaws::settled_back, crate::proofs::RowLaws::settled_leave))]
+#[tactic(auto, using(crate::proofs::ApartLaws::off_one, crate::proofs::ApartLaws::off_then, crate::proofs::RowLaws::settled_store, crate::proofs::RowLaws::settled_back, crate::proofs::RowLaws::settled_leave))]
 fn unwind_ending(w: &mut World, slot: u8, mut f: Ending)
     requires slot { slot < slots }
     requires job { is_some (job_at w.old.jobs slot) ≡ true }
     requires frame { frame_at w.old.frames.items slot ≡ None }
     requires pays { EndingPays (core_at w.old.core slot) (clear_at w.old.core slot) f.owed.items }
-    ensures { state_of w.new ≡ settled (state_of w.old) slot f.site f.ask (due false f.owed.items) }
+    ensures row { state_of w.new ≡ settled (state_of w.old) slot f.site f.ask (due false f.owed.items) }
+    ensures cores { CoresOff w.old w.new slot }
 {
     pass_over(&mut f.owed);
     match f.owed.remove(0) {
@@ -161,10 +169,12 @@ fn unwind_ending(w: &mut World, slot: u8, mut f: Ending)
 }
 
 /// A job gets the registers that it leaves a call with.
+#[tactic(auto, using(crate::proofs::ApartLaws::off_one, crate::proofs::ApartLaws::off_same))]
 fn leave(w: &mut World, slot: u8, e: Exit)
     requires slot { slot < slots }
     requires job { is_some (job_at w.old.jobs slot) ≡ true }
-    ensures { IfSome (job_at w.old.jobs slot) (λ j. JobBecomes w.old w.new slot (left_with e j)) }
+    ensures made { IfSome (job_at w.old.jobs slot) (λ j. JobBecomes w.old w.new slot (left_with e j)) }
+    ensures cores { CoresOff w.old w.new slot }
 {
     if let Some(job) = w.registers(slot) {
         w.put_registers(slot, left_with(job, &e));
@@ -199,16 +209,19 @@ pub fn unwind(w: &mut World, slot: u8)
     ensures none { (state_of w.new).frames slot ≡ None }
     ensures same { plain (state_of w.new) ≡ plain (state_of w.old) }
     ensures others { (k : ℕ) → k ≢ slot → SlotSame (state_of w.old) (state_of w.new) k }
+    ensures cores { CoresOff w.old w.new slot }
     ensures sound { Sound (state_of w.new) }
 {
     run(w, slot);
 }
 
 /// Step after step, until the slot has no frame.
+#[tactic(auto, using(crate::proofs::ApartLaws::off_same, crate::proofs::ApartLaws::off_then))]
 fn run(w: &mut World, slot: u8)
     requires slot { slot < slots }
     requires sound { Sound (state_of w.old) }
-    ensures { state_of w.new ≡ unwound (state_of w.old) slot }
+    ensures row { state_of w.new ≡ unwound (state_of w.old) slot }
+    ensures cores { CoresOff w.old w.new slot }
 {
     while w.has_frame(slot) {
         step(w, slot);

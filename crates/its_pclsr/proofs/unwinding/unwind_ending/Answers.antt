@@ -23,8 +23,8 @@ unreachable-requires-in-Link c = due_head _ _ _ _ Link c.requires.pays c.pass_ov
 pub unreachable-requires-in-Free : goal.unreachable-requires-in-Free
 unreachable-requires-in-Free c = due_head _ _ _ _ Free c.requires.pays c.pass_over.ensures c.in-Free.ensures.value
 
-pub returns-in-Leave : goal.returns-in-Leave
-returns-in-Leave c =
-    settled_leave _ _ _ c.args.f.site c.args.f.ask c.in-Leave.exit c.remove.new.self.items c.requires.job c.requires.frame c.leave.ensures
+pub returns-in-Leave-clause-row : goal.returns-in-Leave-clause-row
+returns-in-Leave-clause-row c =
+    settled_leave _ _ _ c.args.f.site c.args.f.ask c.in-Leave.exit c.remove.new.self.items c.requires.job c.requires.frame c.leave.ensures.made
     ∙ ap (settled (state_of c.args.w.now) c.args.slot c.args.f.site c.args.f.ask)
     (sym (due_split c.args.f.owed.items c.pass_over.new.owed.items c.remove.new.self.items (Leave c.in-Leave.exit) c.pass_over.ensures (due_some _ _ _ _ c.requires.pays c.pass_over.ensures) c.in-Leave.ensures.value c.remove.ensures.items))

@@ -1,0 +1,152 @@
+-- What holds between calls, through unwinding and through a line.
+use Rattle.std.specs.Prelude.{◌≡◌, ◌≢◌, ◌<◌, ◌^◌, ℕ, Bool, true, false, Option, Some, None, IfSome, List, Result, Ok, Err, option_map, is_some, refl}
+use Rattle.std.proofs.Common.{sym, ◌∙◌, ap, subst, inl, inr}
+use Rattle.std.proofs.lemmas.Bool.{cases_eq}
+use Rattle.its_word.specs.Core.{Core, no_core}
+use Rattle.its_word.specs.declared.jobs.Job.{Job}
+use Rattle.its_word.specs.declared.session.Event.{Event}
+use Rattle.its_word.specs.declared.session.Reason.{Reason}
+use Rattle.its_word.specs.declared.session.Refusal.{Refusal}
+use Rattle.its_frame.specs.declared.frame.Frame.{Frame}
+use Rattle.its_print.specs.Printing.{Line}
+use Rattle.its_core.specs.Cores.{core_at}
+use Rattle.its_jobs.specs.Table.{job_at, superior_at}
+use Rattle.its_plain.specs.Machine.{Whole, Machine, with_job}
+use Rattle.its_plain.specs.Operator.{Block, Does}
+use Rattle.its_plain.specs.CallOperator.{Done, lined}
+use Rattle.its_stepped.specs.State.{State, plain, seen}
+use Rattle.its_stepped.specs.Sound.{Sound}
+use Rattle.its_stepped.specs.Calling.{Distinct}
+use Rattle.its_stepped.specs.Unwind.{unwound}
+use Rattle.its_stepped.specs.Lines.{calmed, with_raw, state_after, after_line, lifted_line}
+use Rattle.its_stepped.proofs.FrameLaws.{changed_only}
+use Rattle.its_stepped.proofs.UnwindLaws.{unwound_plain, unwound_sound}
+use Rattle.its_stepped.proofs.LineLaws.{line_plain}
+use Rattle.its_stepped.proofs.AfterLaws.{after_sound}
+use Rattle.its_stepped.proofs.RefusalLaws.{error_of}
+use Rattle.its_stepped.proofs.WrittenLaws.{line_distinct}
+use Rattle.its_pclsr.specs.Apart.{CoresOff}
+use Rattle.its_world.specs.World.{state_of, raw_of, raw_at, Becomes}
+use Rattle.its_world.specs.declared.world.World.{World}
+use Rattle.its_operator.specs.Kept.{Kept, Refused, Calm, Calmed, reason_of}
+use Rattle.its_world.proofs.StateLaws.{job_of}
+
+-- a slot has a job of the plain machine where the world has one
+some_raw : (c : Core) (superior : Option ℕ) (o : Option Job) → is_some (raw_of c superior o) ≡ is_some o
+some_raw c superior (Some j) = refl
+some_raw c superior None = refl
+
+some_seen : (f : Option Frame) (o : Option Whole) → is_some (option_map (seen f) o) ≡ is_some o
+some_seen f (Some q) = refl
+some_seen f None = refl
+
+pub raw_has : (w : World) (k : ℕ) → is_some ((state_of w).raw.jobs k) ≡ is_some (job_at w.jobs k)
+unfolding state_of
+raw_has w k = some_raw (core_at w.core k) (superior_at w.jobs k) (job_at w.jobs k)
+
+plain_has_raw : (v : State) (k : ℕ) → is_some ((plain v).jobs k) ≡ is_some (v.raw.jobs k)
+unfolding plain
+plain_has_raw v k = some_seen (v.frames k) (v.raw.jobs k)
+
+pub plain_has : (w : World) (k : ℕ) → is_some ((plain (state_of w)).jobs k) ≡ is_some (job_at w.jobs k)
+plain_has w k = plain_has_raw (state_of w) k ∙ raw_has w k
+
+pub none_of : {X : Type 0} (o : Option X) → is_some o ≡ false → o ≡ None
+none_of (Some x) h = cc
+none_of None h = refl
+
+none_by : {X Y : Type 0} (o : Option X) (p : Option Y) → is_some p ≡ is_some o → o ≡ None → p ≡ None
+none_by o p e h = none_of p (e ∙ ap is_some h)
+
+-- the same plain machine has jobs in the same slots
+alike_has : (old new : World) (k : ℕ) → plain (state_of new) ≡ plain (state_of old) → is_some (job_at new.jobs k) ≡ is_some (job_at old.jobs k)
+alike_has old new k e = sym (plain_has new k) ∙ ap (λ (m : Machine). is_some (m.jobs k)) e ∙ plain_has old k
+
+-- a slot is unwound that has a job
+unwound_same : (old new : World) (s : ℕ) → Kept old → state_of new ≡ unwound (state_of old) s → plain (state_of new) ≡ plain (state_of old)
+unwound_same old new s kept e = ap plain e ∙ unwound_plain (state_of old) s kept.sound
+
+pub unwound_has : (old new : World) (s : ℕ) → Kept old → state_of new ≡ unwound (state_of old) s → is_some (job_at new.jobs s) ≡ is_some (job_at old.jobs s)
+unwound_has old new s kept e = alike_has old new s (unwound_same old new s kept e)
+
+pub unwound_kept : (old new : World) (s : ℕ) → Kept old → is_some (job_at old.jobs s) ≡ true → state_of new ≡ unwound (state_of old) s → CoresOff old new s → Kept new
+unwound_kept old new s kept some e off = record {
+  sound = subst Sound (sym e) (unwound_sound (state_of old) s kept.sound);
+  distinct = subst Distinct (sym (unwound_same old new s kept e)) kept.distinct;
+  blank = λ k h. elim (cases_eq k s) [
+    | inl is ↦ let has : is_some (job_at new.jobs k) ≡ true = ap (λ i. is_some (job_at new.jobs i)) is ∙ unwound_has old new s kept e ∙ some in
+        let none : is_some (job_at new.jobs k) ≡ false = ap is_some h in absurd cc
+    | inr ne ↦ off.others k ne ∙ kept.blank k (none_by (job_at new.jobs k) (job_at old.jobs k) (sym (alike_has old new k (unwound_same old new s kept e))) h)
+  ];
+  addressed = λ k. subst (λ (m : Machine). IfSome (m.jobs k) (λ q. q.job.pc < 2 ^ 18)) (sym (unwound_same old new s kept e)) (kept.addressed k);
+}
+
+-- a line that is done: the state v that it finds has another raw machine then
+pub record Made (w new : State) (b : Block) (e : Event) : Type 0 where
+  pub out : List Line
+  pub touched : ℕ → Bool
+  pub block : Block
+  pub is : lined (calmed w b e).raw b e ≡ Done (Does new.raw out touched block)
+  pub rest : new ≡ with_raw (calmed w b e) new.raw
+
+made_after : (w new : State) (b : Block) (e : Event) → Made w new b e → after_line w b e ≡ new
+unfolding after_line
+made_after w new b e h = ap (state_after w (calmed w b e)) h.is ∙ sym h.rest
+
+pub made_sound : (w new : State) (b : Block) (e : Event) → Sound w → Made w new b e → Sound new
+made_sound w new b e sound h = subst Sound (made_after w new b e h) (after_sound w b e sound)
+
+pub made_plain : (w new : State) (b : Block) (e : Event) → Sound w → (h : Made w new b e) → lined (plain w) b e ≡ Done (Does (plain new) h.out h.touched h.block)
+made_plain w new b e sound h =
+    line_plain w b e sound ∙ ap (lifted_line (calmed w b e)) h.is ∙ ap (λ (x : State). Done (Does (plain x) h.out h.touched h.block)) (sym h.rest)
+
+pub made_distinct : (w new : State) (b : Block) (e : Event) → Sound w → Distinct (plain w) → Made w new b e → Distinct (plain new)
+made_distinct w new b e sound d h = line_distinct (plain w) (plain new) b h.block e h.out h.touched d (made_plain w new b e sound h)
+
+-- one slot with a job is written
+pub becomes_blank : (old new : World) (s : ℕ) (c : Core) (j : Job) (o : Option Job) (f : Option Frame) (r : Option ℕ) → o ≡ Some j → Becomes old new s c o f r → Kept old
+    → (k : ℕ) → job_at new.jobs k ≡ None → core_at new.core k ≡ no_core
+becomes_blank old new s c j o f r some b kept k h = elim (cases_eq k s) [
+  | inl is ↦ let none : None ≡ Some j = sym h ∙ ap (job_at new.jobs) is ∙ b.job.here ∙ some in absurd cc
+  | inr ne ↦ b.core.others k ne ∙ kept.blank k (sym (b.job.others k ne) ∙ h)
+]
+
+-- the PC of each job is an address
+pub record Addressed (m : Machine) : Type 0 where
+  pub each : (k : ℕ) → IfSome (m.jobs k) (λ q. q.job.pc < 2 ^ 18)
+
+pub put_addressed : (m : Machine) (s : ℕ) (q : Whole) → q.job.pc < 2 ^ 18 → Addressed m → Addressed (with_job m s q)
+put_addressed m s q p a = record {
+  each = λ k. elim (cases_eq k s) [
+    | inl is ↦ rw is (here (s))
+    | inr ne ↦ subst (λ (o : Option Whole). IfSome o (λ q. q.job.pc < 2 ^ 18)) (sym ((changed_only m.jobs s (Some q)).others k ne)) (a.each k)
+  ];
+}
+  where
+    here : (i : ℕ) → IfSome ((with_job m s q).jobs s) (λ q. q.job.pc < 2 ^ 18)
+    here i = subst (λ (o : Option Whole). IfSome o (λ q. q.job.pc < 2 ^ 18)) (sym (changed_only m.jobs s (Some q)).here) p
+
+-- what is refused of the raw machine is refused of all three
+error_is : {X : Type 0} (p q : Result X Reason) (r : Reason) → error_of p ≡ error_of q → q ≡ Err r → p ≡ Err r
+error_is (Ok x) q r e h = let none : None ≡ Some r = e ∙ ap error_of h in absurd cc
+error_is (Err y) q r e h = let some : Some y ≡ Some r = e ∙ ap error_of h in let is : y ≡ r = cc in ap Err is
+
+pub refused_by : {X : Type 0} (f : Machine → Result X Reason) (w : State) (s : ℕ) (x : Refusal) → ((u : State) → error_of (f (plain u)) ≡ error_of (f u.raw)) → Sound w
+    → f w.raw ≡ Err (reason_of x) → Refused w (unwound w s) f x
+refused_by f w s x alike sound h =
+    let first : f (plain w) ≡ Err (reason_of x) = error_is (f (plain w)) (f w.raw) (reason_of x) (alike w) h in
+    record {
+      plain = first;
+      raw = h;
+      calmed = error_is (f (unwound w s).raw) (f (plain w)) (reason_of x) (sym (alike (unwound w s)) ∙ ap (λ m. error_of (f m)) (unwound_plain w s sound)) first;
+    }
+
+pub unwound_missing : (old mid : World) (s : ℕ) → Kept old → is_some (job_at old.jobs s) ≡ true → state_of mid ≡ unwound (state_of old) s → job_at mid.jobs s ≡ None → ⊥
+unwound_missing old mid s kept some e none =
+    let has : is_some (job_at mid.jobs s) ≡ true = unwound_has old mid s kept e ∙ some in
+    let no : is_some (job_at mid.jobs s) ≡ false = ap is_some none in absurd cc
+
+pub unwound_calm : (old mid : World) (s : ℕ) → Kept old → is_some (job_at old.jobs s) ≡ true → state_of mid ≡ unwound (state_of old) s → CoresOff old mid s → Calmed old mid s
+unwound_calm old mid s kept some e off =
+    let j = job_of (job_at mid.jobs s) (unwound_has old mid s kept e ∙ some) in
+    record { job = j.0; calm = record { kept = unwound_kept old mid s kept some e off; unwinds = e; job = j.1 } }

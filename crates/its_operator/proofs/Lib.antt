@@ -1,0 +1,6 @@
+pub mod KeptLaws
+pub mod RegisterLaws
+pub mod WordLaws
+pub mod PageLaws
+pub mod LoadLaws
+pub mod StartLaws

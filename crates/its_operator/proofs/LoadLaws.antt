@@ -1,0 +1,211 @@
+-- The words of a LOAD block: a word is stored, where its page is absent into a page of zeros that is made.
+use Rattle.std.specs.Prelude.{if◌then◌else◌, ◌≡◌, ◌≢◌, ◌<◌, ◌≤◌, ◌/◌, ◌%◌, ◌^◌, ◌+◌, ℕ, Bool, true, false, Option, Some, None, IfSome, List, [], ◌∷◌, Result, Ok, Err, is_some, nat_lt, refl}
+use Rattle.std.proofs.Common.{sym, ◌∙◌, ap, subst, arith, inl, inr}
+use Rattle.std.proofs.lemmas.Bool.{cases_Bool}
+use Rattle.std.proofs.lemmas.Bool.Decides.{nat_tests}
+use Rattle.its_word.specs.Limits.{most_pages}
+use Rattle.its_word.specs.Core.{Core, page_of, word_at, can_store, store, putting, put, with_page, zero_page, pages_mapped}
+use Rattle.its_word.proofs.PageLaws.{pages_mapped-same}
+use Rattle.its_word.specs.declared.access.NoAccess.TheVariants.{Absent, ReadOnly}
+use Rattle.its_word.specs.declared.jobs.Job.{Job}
+use Rattle.its_word.specs.declared.session.Event.TheVariants as events
+use Rattle.its_word.specs.declared.session.Reason.{Reason}
+use Rattle.its_word.specs.declared.session.Reason.TheVariants as reasons
+use Rattle.its_word.specs.declared.session.Refusal.{Refusal}
+use Rattle.its_word.specs.declared.session.Refusal.TheVariants as refusals
+use Rattle.its_frame.specs.declared.frame.Frame.{Frame}
+use Rattle.its_core.specs.Cores.{core_at, clear_at}
+use Rattle.its_jobs.specs.Table.{job_at, superior_at}
+use Rattle.its_plain.specs.Machine.{Whole, Machine, core_of, mapped}
+use Rattle.its_plain.specs.Operator.{Block, only, with_core, stored_in, stored, word_loaded_of, word_loaded, and_then, words_loaded, disturbs}
+use Rattle.its_plain.specs.Operator as operator
+use Rattle.its_plain.specs.CallOperator.{operate, Done, lined}
+use Rattle.its_stepped.specs.State.{State, plain}
+use Rattle.its_stepped.specs.Unwind.{unwound}
+use Rattle.its_stepped.specs.Sound.{SoundBy, Sound}
+use Rattle.its_stepped.specs.Lines.{calmed}
+use Rattle.its_stepped.proofs.RefusalLaws.{error_of, word_alike, word_refused_first}
+use Rattle.its_stepped.proofs.UnwindLaws.{unwound_none}
+use Rattle.its_world.specs.World.{state_of, raw_of, raw_at, CoreBecomes}
+use Rattle.its_world.specs.declared.world.World.{World}
+use Rattle.its_world.proofs.StateLaws.{raw_job, job_of}
+use Rattle.its_operator.specs.Kept.{Kept, Lands, Refused, Calmed, reason_of, unloadable}
+use Rattle.its_operator.proofs.KeptLaws.{refused_by, Made, made_plain, Addressed}
+use Rattle.its_operator.proofs.RegisterLaws.{raw_is, raw_is_none, disturbed}
+use Rattle.its_operator.proofs.WordLaws.{core_lands, core_addressed, core_kept}
+
+-- the pages of the raw machine are those of the cores
+core_is : (w : World) (k : ℕ) (o : Option Job) → job_at w.jobs k ≡ o → Kept w → core_of (raw_of (core_at w.core k) (superior_at w.jobs k) o) ≡ core_at w.core k
+core_is w k (Some j) h kept = refl
+core_is w k None h kept = sym (kept.blank k h)
+
+mapped_raw : (w : World) → Kept w → mapped (state_of w).raw ≡ pages_mapped (core_at w.core)
+unfolding state_of
+mapped_raw w kept = pages_mapped-same (core_at w.core) (λ k. core_of (raw_at w.core w.jobs k)) (record { each = λ k. core_is w k (job_at w.jobs k) refl kept })
+
+abbrev there : World → ℕ → ℕ → Bool
+there w s a = is_some (word_at (core_at w.core s) a)
+
+abbrev can : World → ℕ → ℕ → Bool
+can w s a = can_store (core_at w.core s) a
+
+abbrev room : World → Bool
+room w = nat_lt (pages_mapped (core_at w.core)) most_pages
+
+abbrev whole_of : World → ℕ → Job → Whole
+whole_of w s j = raw_job (core_at w.core s) j (superior_at w.jobs s)
+
+loaded_on : (w : World) (s a x : ℕ) (j : Job) → job_at w.jobs s ≡ Some j → Kept w
+    → word_loaded (state_of w).raw s a x ≡ with_core (state_of w).raw s (whole_of w s j) (stored_in (core_at w.core s) a x (can w s a) (there w s a) (room w))
+unfolding word_loaded stored
+loaded_on w s a x j h kept =
+    ap (word_loaded_of (state_of w).raw s a x) (raw_is w s j h)
+    ∙ ap (λ n. with_core (state_of w).raw s (whole_of w s j) (stored_in (core_at w.core s) a x (can w s a) (there w s a) (nat_lt n most_pages))) (mapped_raw w kept)
+
+-- a refusal
+unloaded : (m : Machine) (s : ℕ) (q : Whole) (c : Core) (a x : ℕ) (b t n : Bool) (r : Refusal) → unloadable b t n ≡ Some r → with_core m s q (stored_in c a x b t n) ≡ Err (reason_of r)
+unloaded m s q c a x true t n r h = cc
+unloaded m s q c a x false true n r h = let is : refusals.ReadOnly ≡ r = cc in ap (λ y. Err (reason_of y)) is
+unloaded m s q c a x false false true r h = cc
+unloaded m s q c a x false false false r h = let is : refusals.Full ≡ r = cc in ap (λ y. Err (reason_of y)) is
+
+pub load_refused : (w : World) (s a x : ℕ) (o : Option Refusal) (r : Refusal) → is_some (job_at w.jobs s) ≡ true
+    → o ≡ unloadable (can_store (core_at w.core s) a) (is_some (word_at (core_at w.core s) a)) (nat_lt (pages_mapped (core_at w.core)) most_pages) → o ≡ Some r → Kept w
+    → Refused (state_of w) (unwound (state_of w) s) (λ m. word_loaded m s a x) r
+load_refused w s a x o r some is e kept =
+    let had = job_of (job_at w.jobs s) some in
+    refused_by (λ m. word_loaded m s a x) (state_of w) s r (λ u. word_alike u s a x) kept.sound
+    (loaded_on w s a x had.0 had.1 kept ∙ unloaded (state_of w).raw s (whole_of w s had.0) (core_at w.core s) a x (can w s a) (there w s a) (room w) r (sym is ∙ e))
+
+pub load_none : (w : World) (s a x : ℕ) (r : Refusal) → r ≡ refusals.NoJob → job_at w.jobs s ≡ None → Kept w → Refused (state_of w) (unwound (state_of w) s) (λ m. word_loaded m s a x) r
+unfolding word_loaded
+load_none w s a x r is h kept = refused_by (λ m. word_loaded m s a x) (state_of w) s r (λ u. word_alike u s a x) kept.sound
+    (ap (word_loaded_of (state_of w).raw s a x) (raw_is_none w s h) ∙ ap (λ y. Err (reason_of y)) (sym is))
+
+-- no refusal, before unwinding and afterwards
+cleared : (m : Machine) (s : ℕ) (q : Whole) (c : Core) (a x : ℕ) (b t n : Bool) → unloadable b t n ≡ None → error_of (with_core m s q (stored_in c a x b t n)) ≡ None
+cleared m s q c a x true t n h = refl
+cleared m s q c a x false true n h = cc
+cleared m s q c a x false false true h = refl
+cleared m s q c a x false false false h = cc
+
+pub record Clear (w : World) (s a x : ℕ) : Type 0 where
+  pub none : error_of (word_loaded (state_of w).raw s a x) ≡ None
+
+pub load_clear : (old mid : World) (s a x : ℕ) (o : Option Refusal) → Kept old → is_some (job_at old.jobs s) ≡ true → Calmed old mid s
+    → o ≡ unloadable (can_store (core_at old.core s) a) (is_some (word_at (core_at old.core s) a)) (nat_lt (pages_mapped (core_at old.core)) most_pages) → o ≡ None → Clear mid s a x
+load_clear old mid s a x o kept some c is e =
+    let had = job_of (job_at old.jobs s) some in
+    record {
+      none = ap (λ (v : State). error_of (word_loaded v.raw s a x)) c.calm.unwinds ∙ sym (word_refused_first (state_of old) s a x kept.sound)
+          ∙ ap error_of (loaded_on old s a x had.0 had.1 kept)
+          ∙ cleared (state_of old).raw s (whole_of old s had.0) (core_at old.core s) a x (can old s a) (there old s a) (room old) (sym is ∙ e);
+    }
+
+clear_on : (old mid : World) (s a x : ℕ) → (c : Calmed old mid s) → Clear mid s a x
+    → error_of (with_core (state_of mid).raw s (whole_of mid s c.job) (stored_in (core_at mid.core s) a x (can mid s a) (there mid s a) (room mid))) ≡ None
+clear_on old mid s a x c h = ap error_of (sym (loaded_on mid s a x c.job c.calm.job c.calm.kept)) ∙ h.none
+
+pub load_writable : (old mid : World) (s a x u : ℕ) → Calmed old mid s → Clear mid s a x → put (core_at mid.core s) a u ≡ Err ReadOnly → ⊥
+load_writable old mid s a x u c h p = go (can mid s a) (word_at (core_at mid.core s) a) (clear_on old mid s a x c h) p
+  where
+    go : (b : Bool) (o : Option ℕ) → error_of (with_core (state_of mid).raw s (whole_of mid s c.job) (stored_in (core_at mid.core s) a x b (is_some o) (room mid))) ≡ None
+        → putting (core_at mid.core s) a u b o ≡ Err ReadOnly → ⊥
+    go true o e f = cc
+    go false (Some v) e f = cc
+    go false None e f = cc
+
+absent_word : (c : Core) (a : ℕ) → 16 ≤ a → page_of c (a / 1024) ≡ None → (can_store c a ≡ false) × (is_some (word_at c a) ≡ false)
+unfolding can_store word_at
+absent_word c a l h =
+    let t : nat_lt a 16 ≡ false = grind (arith, nat_tests) in
+    (rw (t, h) refl, rw (t, h) refl)
+
+full_refused : (m : Machine) (s : ℕ) (q : Whole) (c : Core) (a x : ℕ) (b t n : Bool) → b ≡ false → t ≡ false → n ≡ false → error_of (with_core m s q (stored_in c a x b t n)) ≡ None → ⊥
+full_refused m s q c a x true t n e f g h = cc
+full_refused m s q c a x false true n e f g h = cc
+full_refused m s q c a x false false true e f g h = cc
+full_refused m s q c a x false false false e f g h = cc
+
+pub load_room : (old mid : World) (s a x : ℕ) → Calmed old mid s → Clear mid s a x → 16 ≤ a → page_of (core_at mid.core s) (a / 1024) ≡ None → pages_mapped (core_at mid.core) < most_pages
+load_room old mid s a x c h l p = elim (cases_Bool (nat_lt (pages_mapped (core_at mid.core)) most_pages)) [
+  | inl t ↦ grind (arith, nat_tests)
+  | inr t ↦ let no = absent_word (core_at mid.core s) a l p in
+      absurd (full_refused (state_of mid).raw s (whole_of mid s c.job) (core_at mid.core s) a x (can mid s a) (there mid s a) (room mid) no.0 no.1 t (clear_on old mid s a x c h))
+]
+
+-- a job in user mode has no reserved page
+user_page : (o : Option Whole) (f : Option Frame) (r : Option ℕ) → f ≡ None → SoundBy o f r → r ≡ None
+user_page None f r e h = h.1
+user_page (Some q) None r e h = h
+user_page (Some q) (Some f) r e h = absurd (let none = e in cc)
+
+pub load_unreserved : (old mid : World) (s : ℕ) → Kept old → Calmed old mid s → clear_at mid.core s ≡ None
+unfolding state_of
+load_unreserved old mid s kept c =
+    user_page (raw_at mid.core mid.jobs s) ((state_of mid).frames s) (clear_at mid.core s) (ap (λ (v : State). v.frames s) c.calm.unwinds ∙ unwound_none (state_of old) s kept.sound) (c.calm.kept.sound.each s).by
+
+-- the same of a world under another name
+pub made_as : (mid same new : World) (s a x : ℕ) → same ≡ mid → CoreBecomes same new s (store (with_page (core_at same.core s) (a / 1024) (Some zero_page)) a x)
+    → CoreBecomes mid new s (store (with_page (core_at mid.core s) (a / 1024) (Some zero_page)) a x)
+made_as mid same new s a x e b = subst (λ (w : World). CoreBecomes w new s (store (with_page (core_at w.core s) (a / 1024) (Some zero_page)) a x)) e b
+
+-- the state after it
+block_of : ℕ → Block
+block_of s = record { slot = s }
+
+and_ok : (r : Result Machine Reason) (n : Machine) → and_then r (λ m. Ok m) ≡ Ok n → r ≡ Ok n
+and_ok (Ok m) n h = h
+and_ok (Err x) n h = cc
+
+loaded_addressed : (m n : Machine) (s a x : ℕ) → word_loaded m s a x ≡ Ok n → Addressed m → Addressed n
+unfolding word_loaded
+loaded_addressed m n s a x is h = go (m.jobs s) refl is
+  where
+    go : (o : Option Whole) → m.jobs s ≡ o → word_loaded_of m s a x o ≡ Ok n → Addressed n
+    go (Some q) at e = core_addressed m n s q (stored (mapped m) q.core a x) at e h
+    go None at e = absurd cc
+
+module _ (old mid new : World) (s a x : ℕ) where
+  pub load_stored : Kept old → Calmed old mid s → can_store (core_at mid.core s) a ≡ true → CoreBecomes mid new s (store (core_at mid.core s) a x)
+      → Lands (unwound (state_of old) s) (state_of new) (word_loaded (unwound (state_of old) s).raw s a x)
+  load_stored kept c writes r = core_lands old mid new s c.job (store (core_at mid.core s) a x) (λ v. word_loaded v.raw s a x) c.calm r
+      (loaded_on mid s a x c.job c.calm.job c.calm.kept
+      ∙ ap (λ b. with_core (state_of mid).raw s (whole_of mid s c.job) (stored_in (core_at mid.core s) a x b (there mid s a) (room mid))) writes)
+
+  pub load_made : Kept old → Calmed old mid s → Clear mid s a x → 16 ≤ a → page_of (core_at mid.core s) (a / 1024) ≡ None
+      → CoreBecomes mid new s (store (with_page (core_at mid.core s) (a / 1024) (Some zero_page)) a x)
+      → Lands (unwound (state_of old) s) (state_of new) (word_loaded (unwound (state_of old) s).raw s a x)
+  load_made kept c h l p r =
+      let no = absent_word (core_at mid.core s) a l p in
+      let fits = load_room old mid s a x c h l p in
+      let t : nat_lt (pages_mapped (core_at mid.core)) most_pages ≡ true = grind (arith, nat_tests) in
+      core_lands old mid new s c.job (store (with_page (core_at mid.core s) (a / 1024) (Some zero_page)) a x) (λ v. word_loaded v.raw s a x) c.calm r
+      (loaded_on mid s a x c.job c.calm.job c.calm.kept
+      ∙ ap (λ b. with_core (state_of mid).raw s (whole_of mid s c.job) (stored_in (core_at mid.core s) a x b (there mid s a) (room mid))) no.0
+      ∙ ap (λ b. with_core (state_of mid).raw s (whole_of mid s c.job) (stored_in (core_at mid.core s) a x false b (room mid))) no.1
+      ∙ ap (λ b. with_core (state_of mid).raw s (whole_of mid s c.job) (stored_in (core_at mid.core s) a x false false b)) t)
+
+  load_line : Lands (unwound (state_of old) s) (state_of new) (word_loaded (unwound (state_of old) s).raw s a x)
+      → Made (state_of old) (state_of new) (block_of s) (events.Words a (record { items = x ∷ [] }))
+  unfolding calmed lined operate operator.operate block_of
+  load_line l = record {
+    out = [];
+    touched = only s;
+    block = block_of s;
+    is = ap (λ r. Done (disturbs s (block_of s) (and_then r (λ n. Ok n)))) l.is;
+    rest = l.rest;
+  }
+
+  pub load_plain : Kept old → Lands (unwound (state_of old) s) (state_of new) (word_loaded (unwound (state_of old) s).raw s a x) → word_loaded (plain (state_of old)) s a x ≡ Ok (plain (state_of new))
+  unfolding lined operate operator.operate block_of
+  load_plain kept l =
+      let m = load_line l in
+      and_ok (word_loaded (plain (state_of old)) s a x) (plain (state_of new))
+      (disturbed s (block_of s) (and_then (word_loaded (plain (state_of old)) s a x) (λ n. Ok n)) (plain (state_of new)) m.out m.touched m.block
+      (made_plain (state_of old) (state_of new) (block_of s) (events.Words a (record { items = x ∷ [] })) kept.sound m))
+
+  pub load_kept : (d : Core) → Kept old → Calmed old mid s → CoreBecomes mid new s d
+      → Lands (unwound (state_of old) s) (state_of new) (word_loaded (unwound (state_of old) s).raw s a x) → Kept new
+  load_kept d kept c r l = core_kept (events.Words a (record { items = x ∷ [] })) (block_of s) old mid new s c.job d kept c.calm r (load_line l)
+      (loaded_addressed (plain (state_of old)) (plain (state_of new)) s a x (load_plain kept l) (record { each = kept.addressed }))

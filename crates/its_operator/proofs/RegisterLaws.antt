@@ -1,0 +1,202 @@
+-- GO, STOP, CONT, INT and STATE: the registers of a job that was unwound are written, or shown.
+use Rattle.std.specs.Prelude.{if◌then◌else◌, ◌==◌, ◌≡◌, ◌≢◌, ◌<◌, ◌^◌, ℕ, Bool, true, false, Option, Some, None, IfSome, List, [], Result, Ok, Err, option_map, is_some, refl}
+use Rattle.std.proofs.Common.{sym, ◌∙◌, ap, subst, inl, inr}
+use Rattle.std.proofs.lemmas.Bool.{cases_eq, eq-eqb, ne_eqb}
+use Rattle.its_word.specs.Core.{Core}
+use Rattle.its_word.specs.declared.jobs.Job.{Job}
+use Rattle.its_word.specs.declared.session.Event.{Event}
+use Rattle.its_word.specs.declared.session.Event.TheVariants as events
+use Rattle.its_word.specs.declared.session.Reason.{Reason}
+use Rattle.its_word.specs.declared.session.Reason.TheVariants as reasons
+use Rattle.its_word.specs.declared.session.Refusal.{Refusal}
+use Rattle.its_word.specs.declared.session.Refusal.TheVariants as refusals
+use Rattle.its_word.specs.declared.show.JobShow.{JobShow}
+use Rattle.its_core.specs.Cores.{core_at}
+use Rattle.its_jobs.specs.Table.{job_at, superior_at}
+use Rattle.its_plain.specs.Machine.{Whole, Machine, changed, with_job}
+use Rattle.its_plain.specs.Change.{on_slot, in_job}
+use Rattle.its_plain.specs.Own as own
+use Rattle.its_plain.specs.Operator.{Block, no_block, Operated, Refuses, Does, Ticks, Ends, only, on_job, with_registers, on_registers, started, interrupted, stopped, continued, shown, state_shown, disturbs}
+use Rattle.its_plain.specs.Operator as operator
+use Rattle.its_plain.specs.CallOperator.{operate, Lined, Done, Peeks, lined}
+use Rattle.its_plain.proofs.MachineLaws.{machine_is}
+use Rattle.its_stepped.specs.State.{State, plain}
+use Rattle.its_stepped.specs.Unwind.{unwound}
+use Rattle.its_stepped.specs.Lines.{calmed, with_raw}
+use Rattle.its_stepped.proofs.FrameLaws.{changed_only, on_slot_here, on_slot_other}
+use Rattle.its_stepped.proofs.LineLaws.{state_plain as calm_state_plain}
+use Rattle.its_stepped.proofs.RefusalLaws.{registers_alike, shown_alike}
+use Rattle.its_stepped.proofs.UnwindLaws.{unwound_plain, unwound_sound, unwound_none}
+use Rattle.its_world.specs.World.{state_of, raw_of, raw_at, in_raw, JobBecomes}
+use Rattle.its_world.specs.declared.world.World.{World}
+use Rattle.its_world.proofs.StateLaws.{raw_job, raw_some, raw_none, changed_state}
+use Rattle.its_operator.specs.Kept.{Kept, Lands, Refused, Calm, reason_of}
+use Rattle.its_operator.proofs.KeptLaws.{refused_by, Made, made_sound, made_plain, made_distinct, becomes_blank, Addressed, put_addressed}
+
+-- the raw job of a slot
+pub raw_is : (w : World) (s : ℕ) (j : Job) → job_at w.jobs s ≡ Some j → (state_of w).raw.jobs s ≡ Some (raw_job (core_at w.core s) j (superior_at w.jobs s))
+unfolding state_of
+raw_is w s j h = raw_some w s j h
+
+pub raw_is_none : (w : World) (s : ℕ) → job_at w.jobs s ≡ None → (state_of w).raw.jobs s ≡ None
+unfolding state_of
+raw_is_none w s h = raw_none w s h
+
+-- a change of a job is another job in its place
+in_place : (m : Machine) (s k : ℕ) (q : Whole) (h : Whole → Whole) → m.jobs s ≡ Some q → on_slot m.jobs s h k ≡ changed m.jobs s (Some (h q)) k
+in_place m s k q h e = elim (cases_eq k s) [
+  | inl is ↦ ap (on_slot m.jobs s h) is ∙ on_slot_here m.jobs s h ∙ ap (option_map h) e ∙ sym (changed_only m.jobs s (Some (h q))).here ∙ sym (ap (changed m.jobs s (Some (h q))) is)
+  | inr ne ↦ on_slot_other m.jobs s k h ne ∙ sym ((changed_only m.jobs s (Some (h q))).others k ne)
+]
+
+pub job_placed : (m : Machine) (s : ℕ) (q : Whole) (h : Whole → Whole) → m.jobs s ≡ Some q → in_job m s h ≡ with_job m s (h q)
+job_placed m s q h e = machine_is _ _ (λ k. in_place m s k q h e) (λ k. refl) (λ k. refl) refl refl
+
+-- a state in which the job of a slot is changed by h lands where that job is put
+pub placed_lands : (v new : State) (s : ℕ) (q : Whole) (h : Whole → Whole) (r : Result Machine Reason) → v.raw.jobs s ≡ Some q → new ≡ in_raw v s h → r ≡ Ok (with_job v.raw s (h q)) → Lands v new r
+placed_lands v new s q h r job e is = record {
+  is = is ∙ ap Ok (sym (job_placed v.raw s q h job)) ∙ ap (λ (x : State). Ok x.raw) (sym e);
+  rest = e ∙ ap (λ (x : State). with_raw v x.raw) (sym e);
+}
+
+pub registers_land : (f : Job → Job) (old mid new : World) (s : ℕ) (j : Job) → ((c : Core) (sup : Option ℕ) → own.with_registers f (raw_job c j sup) ≡ raw_job c (f j) sup) → Calm old mid s j
+    → JobBecomes mid new s (f j) → Lands (unwound (state_of old) s) (state_of new) (on_registers (unwound (state_of old) s).raw s f)
+unfolding on_registers
+registers_land f old mid new s j fits c b =
+    subst (λ (v : State). Lands v (state_of new) (on_job v.raw s (with_registers v.raw s f) (v.raw.jobs s))) c.unwinds
+    (placed_lands (state_of mid) (state_of new) s (raw_job (core_at mid.core s) j (superior_at mid.jobs s)) (own.with_registers f) _ (raw_is mid s j c.job)
+    (changed_state mid new s (core_at mid.core s) (f j) j (own.with_registers f) b c.job (fits (core_at mid.core s) (superior_at mid.jobs s)))
+    (ap (on_job (state_of mid).raw s (with_registers (state_of mid).raw s f)) (raw_is mid s j c.job)))
+
+-- registers under another name
+pub put_as : (mid new : World) (s : ℕ) (i j : Job) → i ≡ j → JobBecomes mid new s i → JobBecomes mid new s j
+put_as mid new s i j e b = subst (λ (k : Job). JobBecomes mid new s k) e b
+
+-- what a line that disturbs its slot comes to
+pub disturbed : (s : ℕ) (b : Block) (r : Result Machine Reason) (n : Machine) (out : List _) (touched : ℕ → Bool) (c : Block) → Done (disturbs s b r) ≡ Done (Does n out touched c) → r ≡ Ok n
+disturbed s b (Ok m) n out touched c h = let is : m ≡ n = cc in ap Ok is
+disturbed s b (Err x) n out touched c h = absurd cc
+
+pub registers_addressed : (m n : Machine) (s : ℕ) (f : Job → Job) → on_registers m s f ≡ Ok n → ((j : Job) → j.pc < 2 ^ 18 → (f j).pc < 2 ^ 18) → Addressed m → Addressed n
+unfolding on_registers
+registers_addressed m n s f is keeps a = go (m.jobs s) refl is
+  where
+    go : (o : Option Whole) → m.jobs s ≡ o → on_job m s (with_registers m s f) o ≡ Ok n → Addressed n
+    go (Some q) at h =
+        let e : with_job m s (record q { job = f q.job }) ≡ n = cc in
+        subst Addressed e (put_addressed m s (record q { job = f q.job }) (keeps q.job (subst (λ (o : Option Whole). IfSome o (λ q. q.job.pc < 2 ^ 18)) at (a.each s))) a)
+    go None at h = absurd cc
+
+-- what is kept where a line writes the registers of its slot
+registers_kept : (f : Job → Job) (e : Event) (b : Block) (old mid new : World) (s : ℕ) (j : Job) → Kept old → Calm old mid s j → JobBecomes mid new s (f j)
+    → Made (state_of old) (state_of new) b e → on_registers (plain (state_of old)) s f ≡ Ok (plain (state_of new)) → ((i : Job) → i.pc < 2 ^ 18 → (f i).pc < 2 ^ 18) → Kept new
+registers_kept f e b old mid new s j kept c r made is keeps = record {
+  sound = made_sound (state_of old) (state_of new) b e kept.sound made;
+  distinct = made_distinct (state_of old) (state_of new) b e kept.sound kept.distinct made;
+  blank = λ k h. becomes_blank mid new s _ (f j) _ _ _ refl r c.kept k h;
+  addressed = λ k. (registers_addressed (plain (state_of old)) (plain (state_of new)) s f is keeps (record { each = kept.addressed })).each k;
+}
+
+-- the slot is empty
+empty_registers : (m : Machine) (s : ℕ) (f : Job → Job) → m.jobs s ≡ None → on_registers m s f ≡ Err reasons.NoJob
+unfolding on_registers
+empty_registers m s f h = ap (on_job m s (with_registers m s f)) h
+
+pub registers_refused : (w : World) (s : ℕ) (f : Job → Job) (x : Refusal) → (x ≡ refusals.NoJob) × (job_at w.jobs s ≡ None) → Kept w
+    → Refused (state_of w) (unwound (state_of w) s) (λ m. on_registers m s f) x
+registers_refused w s f x h kept = refused_by (λ m. on_registers m s f) (state_of w) s x (λ u. registers_alike u s f) kept.sound (none h.0)
+  where
+    none : x ≡ refusals.NoJob → on_registers (state_of w).raw s f ≡ Err (reason_of x)
+    none e = empty_registers (state_of w).raw s f (raw_is_none w s h.1) ∙ ap (λ y. Err (reason_of y)) (sym e)
+
+-- the four calls
+module _ (old mid new : World) (s : ℕ) (j : Job) where
+  pub go_done : (a : ℕ) → a < 2 ^ 18 → Kept old → Calm old mid s j → JobBecomes mid new s (started a j) → Lands (unwound (state_of old) s) (state_of new) (on_registers (unwound (state_of old) s).raw s (started a))
+  go_done a p kept c r = registers_land (started a) old mid new s j (λ c sup. refl) c r
+
+  go_made : (a : ℕ) → a < 2 ^ 18 → Kept old → Calm old mid s j → JobBecomes mid new s (started a j) → Made (state_of old) (state_of new) (record { slot = s }) (events.Go a)
+  unfolding calmed lined operate operator.operate
+  go_made a p kept c r =
+      let l = go_done a p kept c r in
+      record { out = []; touched = only s; block = (record { slot = s }); is = ap (λ m. Done (disturbs s (record { slot = s }) m)) l.is; rest = l.rest }
+
+  pub go_plain : (a : ℕ) → a < 2 ^ 18 → Kept old → Calm old mid s j → JobBecomes mid new s (started a j) → on_registers (plain (state_of old)) s (started a) ≡ Ok (plain (state_of new))
+  unfolding lined operate operator.operate
+  go_plain a p kept c r =
+      let m = go_made a p kept c r in
+      disturbed s (record { slot = s }) (on_registers (plain (state_of old)) s (started a)) (plain (state_of new)) m.out m.touched m.block (made_plain (state_of old) (state_of new) (record { slot = s }) (events.Go a) kept.sound m)
+
+  pub go_kept : (a : ℕ) → a < 2 ^ 18 → Kept old → Calm old mid s j → JobBecomes mid new s (started a j) → Kept new
+  go_kept a p kept c r = registers_kept (started a) (events.Go a) (record { slot = s }) old mid new s j kept c r (go_made a p kept c r) (go_plain a p kept c r) (λ i l. p)
+
+  pub stop_done : Kept old → Calm old mid s j → JobBecomes mid new s (stopped j) → Lands (unwound (state_of old) s) (state_of new) (on_registers (unwound (state_of old) s).raw s stopped)
+  stop_done kept c r = registers_land stopped old mid new s j (λ c sup. refl) c r
+
+  stop_made : Kept old → Calm old mid s j → JobBecomes mid new s (stopped j) → Made (state_of old) (state_of new) no_block (events.Stop s)
+  unfolding calmed lined operate operator.operate
+  stop_made kept c r =
+      let l = stop_done kept c r in
+      record { out = []; touched = only s; block = no_block; is = ap (λ m. Done (disturbs s no_block m)) l.is; rest = l.rest }
+
+  pub stop_plain : Kept old → Calm old mid s j → JobBecomes mid new s (stopped j) → on_registers (plain (state_of old)) s stopped ≡ Ok (plain (state_of new))
+  unfolding lined operate operator.operate
+  stop_plain kept c r =
+      let m = stop_made kept c r in
+      disturbed s no_block (on_registers (plain (state_of old)) s stopped) (plain (state_of new)) m.out m.touched m.block (made_plain (state_of old) (state_of new) no_block (events.Stop s) kept.sound m)
+
+  pub stop_kept : Kept old → Calm old mid s j → JobBecomes mid new s (stopped j) → Kept new
+  stop_kept kept c r = registers_kept stopped (events.Stop s) no_block old mid new s j kept c r (stop_made kept c r) (stop_plain kept c r) (λ i l. l)
+
+  pub cont_done : Kept old → Calm old mid s j → JobBecomes mid new s (continued j) → Lands (unwound (state_of old) s) (state_of new) (on_registers (unwound (state_of old) s).raw s continued)
+  cont_done kept c r = registers_land continued old mid new s j (λ c sup. refl) c r
+
+  cont_made : Kept old → Calm old mid s j → JobBecomes mid new s (continued j) → Made (state_of old) (state_of new) no_block (events.Cont s)
+  unfolding calmed lined operate operator.operate
+  cont_made kept c r =
+      let l = cont_done kept c r in
+      record { out = []; touched = only s; block = no_block; is = ap (λ m. Done (disturbs s no_block m)) l.is; rest = l.rest }
+
+  pub cont_plain : Kept old → Calm old mid s j → JobBecomes mid new s (continued j) → on_registers (plain (state_of old)) s continued ≡ Ok (plain (state_of new))
+  unfolding lined operate operator.operate
+  cont_plain kept c r =
+      let m = cont_made kept c r in
+      disturbed s no_block (on_registers (plain (state_of old)) s continued) (plain (state_of new)) m.out m.touched m.block (made_plain (state_of old) (state_of new) no_block (events.Cont s) kept.sound m)
+
+  pub cont_kept : Kept old → Calm old mid s j → JobBecomes mid new s (continued j) → Kept new
+  cont_kept kept c r = registers_kept continued (events.Cont s) no_block old mid new s j kept c r (cont_made kept c r) (cont_plain kept c r) (λ i l. l)
+
+  pub interrupt_done : (x y : ℕ) → Kept old → Calm old mid s j → JobBecomes mid new s (interrupted x y j) → Lands (unwound (state_of old) s) (state_of new) (on_registers (unwound (state_of old) s).raw s (interrupted x y))
+  interrupt_done x y kept c r = registers_land (interrupted x y) old mid new s j (λ c sup. refl) c r
+
+  interrupt_made : (x y : ℕ) → Kept old → Calm old mid s j → JobBecomes mid new s (interrupted x y j) → Made (state_of old) (state_of new) no_block (events.Int s x y)
+  unfolding calmed lined operate operator.operate
+  interrupt_made x y kept c r =
+      let l = interrupt_done x y kept c r in
+      record { out = []; touched = only s; block = no_block; is = ap (λ m. Done (disturbs s no_block m)) l.is; rest = l.rest }
+
+  pub interrupt_plain : (x y : ℕ) → Kept old → Calm old mid s j → JobBecomes mid new s (interrupted x y j) → on_registers (plain (state_of old)) s (interrupted x y) ≡ Ok (plain (state_of new))
+  unfolding lined operate operator.operate
+  interrupt_plain x y kept c r =
+      let m = interrupt_made x y kept c r in
+      disturbed s no_block (on_registers (plain (state_of old)) s (interrupted x y)) (plain (state_of new)) m.out m.touched m.block (made_plain (state_of old) (state_of new) no_block (events.Int s x y) kept.sound m)
+
+  pub interrupt_kept : (x y : ℕ) → Kept old → Calm old mid s j → JobBecomes mid new s (interrupted x y j) → Kept new
+  interrupt_kept x y kept c r = registers_kept (interrupted x y) (events.Int s x y) no_block old mid new s j kept c r (interrupt_made x y kept c r) (interrupt_plain x y kept c r) (λ i l. l)
+
+-- STATE
+pub state_found : (old mid : World) (s : ℕ) (j : Job) (x : JobShow) (o : Option ℕ) → Calm old mid s j → o ≡ superior_at mid.jobs s → x ≡ shown j o → state_shown (unwound (state_of old) s).raw s ≡ Ok x
+unfolding state_shown
+state_found old mid s j x o c e is =
+    ap (λ (v : State). on_job v.raw s (λ q. Ok (shown q.job q.superior)) (v.raw.jobs s)) (sym c.unwinds)
+    ∙ ap (on_job (state_of mid).raw s (λ q. Ok (shown q.job q.superior))) (raw_is mid s j c.job)
+    ∙ ap (λ i. Ok (shown j i)) (sym e) ∙ ap Ok (sym is)
+
+pub state_plain : (old mid : World) (s : ℕ) (j : Job) (x : JobShow) (o : Option ℕ) → Kept old → Calm old mid s j → o ≡ superior_at mid.jobs s → x ≡ shown j o → state_shown (plain (state_of old)) s ≡ Ok x
+state_plain old mid s j x o kept c e is =
+    ap (λ m. state_shown m s) (sym (unwound_plain (state_of old) s kept.sound))
+    ∙ calm_state_plain (unwound (state_of old) s) s (unwound_none (state_of old) s kept.sound) ∙ state_found old mid s j x o c e is
+
+pub state_refused : (w : World) (s : ℕ) (x : Refusal) → (x ≡ refusals.NoJob) × (job_at w.jobs s ≡ None) → Kept w → Refused (state_of w) (unwound (state_of w) s) (λ m. state_shown m s) x
+unfolding state_shown
+state_refused w s x h kept = refused_by (λ m. state_shown m s) (state_of w) s x (λ u. shown_alike u s) kept.sound
+    (ap (on_job (state_of w).raw s (λ q. Ok (shown q.job q.superior))) (raw_is_none w s h.1) ∙ ap (λ y. Err (reason_of y)) (sym h.0))

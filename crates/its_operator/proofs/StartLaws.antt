@@ -1,0 +1,235 @@
+-- LOAD, CLOCK, and a world that is opened.
+use Rattle.std.specs.Prelude.{◌≡◌, ◌≢◌, ◌<◌, ◌≤◌, ◌+◌, ◌^◌, ℕ, zero, suc, Bool, true, false, Option, Some, None, IfSome, List, [], ◌∷◌, replicate, slice_index_or, option_map, Result, Ok, Err, is_some, nat_lt, refl}
+use Rattle.std.proofs.Common.{sym, ◌∙◌, ap, subst, arith, inl, inr, lit<}
+use Rattle.std.proofs.lemmas.Bool.{cases_eq}
+use Rattle.std.proofs.lemmas.Bool.Decides.{nat_tests}
+use Rattle.its_word.specs.Only.{Only}
+use Rattle.its_word.specs.Core.{Core, no_core}
+use Rattle.its_word.specs.Tree.{least_free, fresh_job}
+use Rattle.its_word.proofs.FreeLaws.{least_alike, least_empty}
+use Rattle.its_word.specs.declared.jobs.Channel.TheVariants as channels
+use Rattle.its_word.specs.declared.jobs.Job.{Job}
+use Rattle.its_word.specs.declared.session.Event.TheVariants as events
+use Rattle.its_word.specs.declared.session.Reason.{Reason}
+use Rattle.its_word.specs.declared.session.Reason.TheVariants as reasons
+use Rattle.its_word.specs.declared.session.Refusal.{Refusal}
+use Rattle.its_word.specs.declared.session.Refusal.TheVariants as refusals
+use Rattle.its_print.specs.Printing.{Line}
+use Rattle.its_print.specs.Printing as printed
+use Rattle.its_core.specs.Cores.{Cores, Reserved, core_at, reserved_at, clear_at, IsEmpty}
+use Rattle.its_jobs.specs.Table.{Table, job_at, superior_at, NoJobs}
+use Rattle.its_plain.specs.Machine.{Whole, Machine, changed, with_job, no_machine}
+use Rattle.its_plain.specs.Operator.{Block, no_block, Does, nobody, only, new_job, loaded_in, loaded, by_load, quietly}
+use Rattle.its_plain.specs.Operator as operator
+use Rattle.its_plain.specs.CallOperator.{clock_end, clocked_if, clocked, operate, Done, lined}
+use Rattle.its_plain.proofs.MachineLaws.{machine_is}
+use Rattle.its_stepped.specs.State.{State, plain, no_state}
+use Rattle.its_stepped.specs.Sound.{Sound}
+use Rattle.its_stepped.specs.Calling.{Distinct}
+use Rattle.its_stepped.specs.Lines.{calmed, with_raw}
+use Rattle.its_stepped.proofs.DistinctLaws.{distinct_starts}
+use Rattle.its_stepped.proofs.FrameLaws.{changed_only}
+use Rattle.its_stepped.proofs.LineLaws.{least_plain}
+use Rattle.its_stepped.proofs.StartLaws.{no_state_plain, no_state_sound}
+use Rattle.its_world.specs.World.{chan_of, closed_channels, frame_at, raw_of, raw_at, raw_machine, state_of}
+use Rattle.its_world.specs.declared.world.World.{World}
+use Rattle.its_world.proofs.StateLaws.{state_is, raw_job}
+use Rattle.its_operator.specs.Kept.{Kept, Lands, Loads, Refused, Fresh, Later, reason_of}
+use Rattle.its_operator.proofs.KeptLaws.{raw_has, Made, made_sound, made_plain, made_distinct, Addressed, put_addressed}
+
+-- a fresh job has no open channel
+all_closed : (k n : ℕ) → slice_index_or (replicate k channels.Closed) n channels.Closed ≡ channels.Closed
+all_closed zero n = refl
+all_closed (suc k) zero = refl
+all_closed (suc k) (suc n) = all_closed k n
+
+fresh_raw : (u j : ℕ) (console : Option ℕ) → raw_job no_core (fresh_job u j console) None ≡ new_job u j console
+unfolding fresh_job closed_channels
+fresh_raw u j console = λ t. record (new_job u j console) { channels = λ n. chan_of (all_closed 16 n t) }
+
+fresh_here : (old new : World) (s u j : ℕ) (console : Option ℕ) → Fresh old new s u j console → core_at old.core s ≡ no_core → raw_at new.core new.jobs s ≡ Some (new_job u j console)
+fresh_here old new s u j console f blank =
+    ap (λ c. raw_of (core_at c s) (superior_at new.jobs s) (job_at new.jobs s)) f.core
+    ∙ ap (λ c. raw_of c (superior_at new.jobs s) (job_at new.jobs s)) blank
+    ∙ ap (λ i. raw_of no_core i (job_at new.jobs s)) f.superior.here
+    ∙ ap (raw_of no_core None) f.job.here ∙ ap Some (fresh_raw u j console)
+
+fresh_other : (old new : World) (s u j : ℕ) (console : Option ℕ) (k : ℕ) → Fresh old new s u j console → k ≢ s → raw_at new.core new.jobs k ≡ raw_at old.core old.jobs k
+fresh_other old new s u j console k f ne =
+    ap (λ c. raw_of (core_at c k) (superior_at new.jobs k) (job_at new.jobs k)) f.core
+    ∙ ap (λ i. raw_of (core_at old.core k) i (job_at new.jobs k)) (f.superior.others k ne)
+    ∙ ap (raw_of (core_at old.core k) (superior_at old.jobs k)) (f.job.others k ne)
+
+fresh_state : (old new : World) (s u j : ℕ) (console : Option ℕ) → Fresh old new s u j console → core_at old.core s ≡ no_core
+    → state_of new ≡ with_raw (state_of old) (with_job (state_of old).raw s (new_job u j console))
+unfolding state_of
+fresh_state old new s u j console f blank = state_is _ _
+    (machine_is _ _ (λ k. elim (cases_eq k s) [
+      | inl is ↦ ap (raw_at new.core new.jobs) is ∙ fresh_here old new s u j console f blank ∙ sym (ap (changed (raw_at old.core old.jobs) s (Some (new_job u j console))) is ∙ (changed_only (raw_at old.core old.jobs) s (Some (new_job u j console))).here)
+      | inr ne ↦ fresh_other old new s u j console k f ne ∙ sym ((changed_only (raw_at old.core old.jobs) s (Some (new_job u j console))).others k ne)
+    ]) (λ k. refl) (λ k. refl) refl f.clock)
+    (λ k. ap (λ v. frame_at v.items k) f.frames)
+    (λ k. ap (λ c. clear_at c k) f.core)
+    refl
+
+least_raw : (w : World) → least_free (state_of w).raw.jobs ≡ least_free (job_at w.jobs)
+least_raw w = least_alike (state_of w).raw.jobs (job_at w.jobs) (λ k. raw_has w k)
+
+abbrev block_of : ℕ → Block
+block_of s = record { slot = s }
+
+loaded_by : (r : Result (Machine × ℕ) Reason) (n : Machine) (s : ℕ) (out : List Line) (touched : ℕ → Bool) → Done (by_load r) ≡ Done (Does n out touched (record { slot = s })) → r ≡ Ok (n, s)
+loaded_by (Ok (m, i)) n s out touched h = let a : m ≡ n = cc in let b : block_of i ≡ block_of s = cc in ap (λ (x : Machine). Ok (x, i)) a ∙ ap (λ (k : Block). Ok (n, k.slot)) b
+loaded_by (Err x) n s out touched h = absurd cc
+
+abbrev machine_in : Machine → Result (Machine × ℕ) Reason → Machine
+machine_in d (Ok (m, i)) = m
+machine_in d (Err x) = d
+
+-- LOAD
+module _ (old new : World) (s u j : ℕ) (console : Option ℕ) where
+  blank_at : Kept old → least_free (job_at old.jobs) ≡ Some s → core_at old.core s ≡ no_core
+  blank_at kept e = kept.blank s (least_empty (job_at old.jobs) s e)
+
+  pub load_done : Kept old → least_free (job_at old.jobs) ≡ Some s → Fresh old new s u j console → Loads (state_of old) (state_of new) (loaded (state_of old).raw u j console) s
+  unfolding loaded
+  load_done kept e f =
+      let is = fresh_state old new s u j console f (blank_at kept e) in
+      record {
+        is = ap (loaded_in (state_of old).raw u j console) (least_raw old ∙ e) ∙ ap (λ (v : State). Ok (v.raw, s)) (sym is);
+        rest = is ∙ ap (λ (v : State). with_raw (state_of old) v.raw) (sym is);
+      }
+
+  load_line : Kept old → least_free (job_at old.jobs) ≡ Some s → Fresh old new s u j console → Made (state_of old) (state_of new) no_block (events.Load u j console)
+  unfolding calmed lined operate operator.operate
+  load_line kept e f =
+      let l = load_done kept e f in
+      record { out = printed.Loaded s ∷ []; touched = only s; block = record { slot = s }; is = ap (λ r. Done (by_load r)) l.is; rest = l.rest }
+
+  pub load_plain : Kept old → least_free (job_at old.jobs) ≡ Some s → Fresh old new s u j console → loaded (plain (state_of old)) u j console ≡ Ok (plain (state_of new), s)
+  unfolding lined operate operator.operate load_line
+  load_plain kept e f =
+      let m = load_line kept e f in
+      loaded_by (loaded (plain (state_of old)) u j console) (plain (state_of new)) s (printed.Loaded s ∷ []) (only s)
+      (made_plain (state_of old) (state_of new) no_block (events.Load u j console) kept.sound m)
+
+  load_machine : Kept old → least_free (job_at old.jobs) ≡ Some s → Fresh old new s u j console → with_job (plain (state_of old)) s (new_job u j console) ≡ plain (state_of new)
+  unfolding loaded
+  load_machine kept e f =
+      first_is (with_job (plain (state_of old)) s (new_job u j console)) (plain (state_of new)) (loaded_in (plain (state_of old)) u j console (least_free (plain (state_of old)).jobs))
+      (ap (loaded_in (plain (state_of old)) u j console) (least_plain (state_of old) ∙ least_raw old ∙ e)) (load_plain kept e f)
+    where
+      first_is : (m n : Machine) (r : Result (Machine × ℕ) Reason) → r ≡ Ok (m, s) → r ≡ Ok (n, s) → m ≡ n
+      first_is m n r a b = ap (machine_in m) (sym a ∙ b)
+
+  fresh_pc : (new_job u j console).job.pc < 2 ^ 18
+  unfolding fresh_job
+  fresh_pc = lit< tt
+
+  pub load_kept : Kept old → least_free (job_at old.jobs) ≡ Some s → Fresh old new s u j console → Kept new
+  load_kept kept e f = record {
+    sound = made_sound (state_of old) (state_of new) no_block (events.Load u j console) kept.sound (load_line kept e f);
+    distinct = made_distinct (state_of old) (state_of new) no_block (events.Load u j console) kept.sound kept.distinct (load_line kept e f);
+    blank = λ k h. elim (cases_eq k s) [
+      | inl is ↦ let none : None ≡ Some (fresh_job u j console) = sym h ∙ ap (job_at new.jobs) is ∙ f.job.here in absurd cc
+      | inr ne ↦ ap (λ c. core_at c k) f.core ∙ kept.blank k (sym (f.job.others k ne) ∙ h)
+    ];
+    addressed = (subst Addressed (load_machine kept e f) (put_addressed (plain (state_of old)) s (new_job u j console) fresh_pc (record { each = kept.addressed }))).each;
+  }
+
+pub load_full : (w : World) (u j : ℕ) (console : Option ℕ) → least_free (job_at w.jobs) ≡ None → Refused (state_of w) (state_of w) (λ m. loaded m u j console) refusals.Full
+unfolding loaded
+load_full w u j console e = record {
+  plain = ap (loaded_in (plain (state_of w)) u j console) (least_plain (state_of w) ∙ least_raw w ∙ e);
+  raw = ap (loaded_in (state_of w).raw u j console) (least_raw w ∙ e);
+  calmed = ap (loaded_in (state_of w).raw u j console) (least_raw w ∙ e);
+}
+
+-- CLOCK
+later_state : (old new : World) (n : ℕ) → Later old new n → state_of new ≡ with_raw (state_of old) (record (state_of old).raw { clock = (state_of old).raw.clock + n })
+unfolding state_of
+later_state old new n l = λ t. record {
+  raw = raw_machine (l.core t) (l.jobs t) (l.clock t);
+  frames = frame_at (l.frames t).items;
+  reserved = clear_at (l.core t);
+  mark = None;
+}
+
+raw_clock : (w : World) → (state_of w).raw.clock ≡ w.clock
+unfolding state_of
+raw_clock w = refl
+
+plain_clock : (v : State) → (plain v).clock ≡ v.raw.clock
+unfolding plain
+plain_clock v = refl
+
+test_raw : (w : World) (n : ℕ) (b : Bool) → b ≡ nat_lt (w.clock + n) clock_end → nat_lt ((state_of w).raw.clock + n) clock_end ≡ b
+test_raw w n b h = ap (λ c. nat_lt (c + n) clock_end) (raw_clock w) ∙ sym h
+
+quiet_by : (r : Result Machine Reason) (n : Machine) (out : List Line) (touched : ℕ → Bool) (b c : Block) → Done (quietly b r) ≡ Done (Does n out touched c) → r ≡ Ok n
+quiet_by (Ok m) n out touched b c h = let a : m ≡ n = cc in ap Ok a
+quiet_by (Err x) n out touched b c h = absurd cc
+
+module _ (old new : World) (n : ℕ) (b : Bool) where
+  pub clock_done : b ≡ nat_lt (old.clock + n) clock_end → b ≡ true → Later old new n → Lands (state_of old) (state_of new) (clocked (state_of old).raw n)
+  unfolding clocked
+  clock_done h t l =
+      let is = later_state old new n l in
+      record {
+        is = ap (clocked_if (state_of old).raw n) (test_raw old n b h ∙ t) ∙ ap (λ (v : State). Ok v.raw) (sym is);
+        rest = is ∙ ap (λ (v : State). with_raw (state_of old) v.raw) (sym is);
+      }
+
+  clock_line : b ≡ nat_lt (old.clock + n) clock_end → b ≡ true → Later old new n → Made (state_of old) (state_of new) no_block (events.Clock n)
+  unfolding calmed lined operate operator.operate
+  clock_line h t l =
+      let d = clock_done h t l in
+      record { out = []; touched = nobody; block = no_block; is = ap (λ r. Done (quietly no_block r)) d.is; rest = d.rest }
+
+  pub clock_plain : Kept old → b ≡ nat_lt (old.clock + n) clock_end → b ≡ true → Later old new n → clocked (plain (state_of old)) n ≡ Ok (plain (state_of new))
+  unfolding lined operate operator.operate
+  clock_plain kept h t l =
+      let m = clock_line h t l in
+      quiet_by (clocked (plain (state_of old)) n) (plain (state_of new)) m.out m.touched no_block m.block (made_plain (state_of old) (state_of new) no_block (events.Clock n) kept.sound m)
+
+  later_jobs : Later old new n → (k : ℕ) → (plain (state_of new)).jobs k ≡ (plain (state_of old)).jobs k
+  unfolding plain
+  later_jobs l k = ap (λ (v : State). (plain v).jobs k) (later_state old new n l)
+
+  pub clock_kept : Kept old → b ≡ nat_lt (old.clock + n) clock_end → b ≡ true → Later old new n → Kept new
+  clock_kept kept h t l = record {
+    sound = made_sound (state_of old) (state_of new) no_block (events.Clock n) kept.sound (clock_line h t l);
+    distinct = made_distinct (state_of old) (state_of new) no_block (events.Clock n) kept.sound kept.distinct (clock_line h t l);
+    blank = λ k e. ap (λ c. core_at c k) l.core ∙ kept.blank k (sym (ap (λ t. job_at t k) l.jobs) ∙ e);
+    addressed = λ k. subst (λ (o : Option Whole). IfSome o (λ q. q.job.pc < 2 ^ 18)) (sym (later_jobs l k)) (kept.addressed k);
+  }
+
+pub clock_refused : (w : World) (n : ℕ) (b : Bool) → b ≡ nat_lt (w.clock + n) clock_end → b ≡ false → Refused (state_of w) (state_of w) (λ m. clocked m n) refusals.Range
+unfolding clocked
+clock_refused w n b h t = record {
+  plain = ap (λ c. clocked_if (plain (state_of w)) n (nat_lt (c + n) clock_end)) (plain_clock (state_of w)) ∙ ap (clocked_if (plain (state_of w)) n) (test_raw w n b h ∙ t);
+  raw = ap (clocked_if (state_of w).raw n) (test_raw w n b h ∙ t);
+  calmed = ap (clocked_if (state_of w).raw n) (test_raw w n b h ∙ t);
+}
+
+-- a world that is opened
+pub open_state : (w : World) → IsEmpty w.core → NoJobs w.jobs → ((k : ℕ) → frame_at w.frames.items k ≡ None) → w.clock ≡ 0 → state_of w ≡ no_state no_machine
+unfolding state_of no_state no_machine
+open_state w e n f c = state_is _ _
+    (machine_is _ _ (λ k. ap (raw_of (core_at w.core k) (superior_at w.jobs k)) (n.jobs k)) (λ k. refl) (λ k. refl) refl c)
+    f (λ k. ap (option_map (λ (r : Reserved). r.clear)) (e.reserved k)) refl
+
+pub open_kept : (w : World) → IsEmpty w.core → NoJobs w.jobs → ((k : ℕ) → frame_at w.frames.items k ≡ None) → w.clock ≡ 0 → Kept w
+unfolding no_machine
+open_kept w e n f c =
+    let is = open_state w e n f c in
+    let machine : plain (state_of w) ≡ no_machine = ap plain is ∙ no_state_plain no_machine in
+    record {
+      sound = subst Sound (sym is) no_state_sound;
+      distinct = subst Distinct (sym machine) distinct_starts;
+      blank = λ k h. e.cores k;
+      addressed = λ k. subst (λ (m : Machine). IfSome (m.jobs k) (λ q. q.job.pc < 2 ^ 18)) (sym machine) (nobody_there k);
+    }
+  where
+    nobody_there : (k : ℕ) → IfSome (no_machine.jobs k) (λ q. q.job.pc < 2 ^ 18)
+    nobody_there k = tt

@@ -1,0 +1,96 @@
+-- What holds of a world between two calls, and what a call of the operator makes of the state that a world stands for.
+use Rattle.std.specs.Prelude.{if◌then◌else◌, ◌≡◌, ◌<◌, ◌+◌, ◌^◌, ℕ, Bool, Option, Some, None, IfSome, Result, Ok, Err}
+use Rattle.its_word.specs.Only.{Only}
+use Rattle.its_word.specs.Core.{no_core}
+use Rattle.its_word.specs.Tree.{fresh_job}
+use Rattle.its_word.specs.declared.access.NoAccess.{NoAccess}
+use Rattle.its_word.specs.declared.access.NoAccess.TheVariants.{Absent, ReadOnly}
+use Rattle.its_word.specs.declared.session.Reason.{Reason}
+use Rattle.its_word.specs.declared.session.Reason.TheVariants as reasons
+use Rattle.its_word.specs.declared.session.Refusal.{Refusal}
+use Rattle.its_word.specs.declared.session.Refusal.TheVariants as refusals
+use Rattle.its_word.specs.declared.jobs.Job.{Job}
+use Rattle.its_core.specs.Cores.{core_at}
+use Rattle.its_jobs.specs.Table.{job_at, superior_at}
+use Rattle.its_plain.specs.Machine.{Machine}
+use Rattle.its_stepped.specs.State.{State, plain}
+use Rattle.its_stepped.specs.Sound.{Sound}
+use Rattle.its_stepped.specs.Calling.{Distinct}
+use Rattle.its_stepped.specs.Lines.{with_raw}
+use Rattle.its_stepped.specs.Unwind.{unwound}
+use Rattle.its_world.specs.World.{state_of}
+use Rattle.its_world.specs.declared.world.World.{World}
+
+-- the state is sound, and its jobs lie as they can; the core of an empty slot is that of no job; and the PC of each job
+-- of the plain machine is an address
+pub record Kept (w : World) : Type 0 where
+  pub sound : Sound (state_of w)
+  pub distinct : Distinct (plain (state_of w))
+  pub blank : (k : ℕ) → job_at w.jobs k ≡ None → core_at w.core k ≡ no_core
+  pub addressed : (k : ℕ) → IfSome ((plain (state_of w)).jobs k) (λ q. q.job.pc < 2 ^ 18)
+
+-- state v after a line that comes to a raw machine: its frames, reserved pages and mark stay
+pub record Lands (v new : State) (r : Result Machine Reason) : Type 0 where
+  pub is : r ≡ Ok new.raw
+  pub rest : new ≡ with_raw v new.raw
+
+-- the same of LOAD, which also answers a slot
+pub record Loads (v new : State) (r : Result (Machine × ℕ) Reason) (s : ℕ) : Type 0 where
+  pub is : r ≡ Ok (new.raw, s)
+  pub rest : new ≡ with_raw v new.raw
+
+-- a refusal, as a session says it
+abbrev pub reason_of : Refusal → Reason
+reason_of refusals.NoJob = reasons.NoJob
+reason_of refusals.NoConsole = reasons.NoCons
+reason_of refusals.NoPage = reasons.NoPage
+reason_of refusals.ReadOnly = reasons.ReadOnly
+reason_of refusals.NoFile = reasons.NoFile
+reason_of refusals.Exists = reasons.Exists
+reason_of refusals.Full = reasons.Full
+reason_of refusals.Range = reasons.Range
+
+-- why the operator cannot have a word
+abbrev pub refusal_of : NoAccess → Refusal
+refusal_of Absent = refusals.NoPage
+refusal_of ReadOnly = refusals.ReadOnly
+
+-- what a line asks of the machine is refused by the plain machine of state w, by its raw machine, and by that of the
+-- state v that the line would find
+pub record Refused {X : Type 0} (w v : State) (f : Machine → Result X Reason) (e : Refusal) : Type 0 where
+  pub plain : f (plain w) ≡ Err (reason_of e)
+  pub raw : f w.raw ≡ Err (reason_of e)
+  pub calmed : f v.raw ≡ Err (reason_of e)
+
+-- a slot of a world was unwound, and has this job
+pub record Calm (old mid : World) (s : ℕ) (j : Job) : Type 0 where
+  pub kept : Kept mid
+  pub unwinds : state_of mid ≡ unwound (state_of old) s
+  pub job : job_at mid.jobs s ≡ Some j
+
+pub record Calmed (old mid : World) (s : ℕ) : Type 0 where
+  pub job : Job
+  pub calm : Calm old mid s job
+
+-- why a word cannot be deposited: by whether it can be stored, and whether its page is present
+abbrev pub undepositable : Bool → Bool → Option Refusal
+undepositable can there = if can then None else (if there then Some refusals.ReadOnly else Some refusals.NoPage)
+
+-- why a word cannot be loaded: by whether it can be stored, whether its page is present, and whether there is room
+abbrev pub unloadable : Bool → Bool → Bool → Option Refusal
+unloadable can there room = if can then None else (if there then Some refusals.ReadOnly else (if room then None else Some refusals.Full))
+
+-- a job was made in a slot
+pub record Fresh (old new : World) (s u j : ℕ) (console : Option ℕ) : Type 0 where
+  pub job : Only (job_at old.jobs) (job_at new.jobs) s (Some (fresh_job u j console))
+  pub superior : Only (superior_at old.jobs) (superior_at new.jobs) s None
+  pub core : new.core ≡ old.core
+  pub frames : new.frames ≡ old.frames
+  pub clock : new.clock ≡ old.clock
+
+-- the clock of a world gained n
+pub record Later (old new : World) (n : ℕ) : Type 0 where
+  pub core : new.core ≡ old.core
+  pub jobs : new.jobs ≡ old.jobs
+  pub frames : new.frames ≡ old.frames
+  pub clock : new.clock ≡ old.clock + n

@@ -1,0 +1,13 @@
+//! The operator's calls: what the lines of a session do to the world, and what they show. A call that is
+//! refused leaves the world as it was; else the job that it names is unwound to user mode first.
+#![tactic(auto)]
+
+mod loading;
+mod registers;
+mod words;
+
+pub use its_word::{JobShow, NoMemory, Refusal};
+pub use its_world::World;
+pub use loading::{advance, load_job, open};
+pub use registers::{cont, go, interrupt, state, stop};
+pub use words::{deposit, exam, load_word};

@@ -1,0 +1,169 @@
+ghost use Rattle.std.specs.Prelude.{◌≡◌, ◌<◌, ◌^◌, true, false, Some, None, Ok, IfOk, OnOk, OnErr, IfErr};
+ghost use Rattle.its_word.specs.Limits.{slots};
+ghost use Rattle.its_jobs.specs.Table.{job_at};
+ghost use Rattle.its_plain.specs.Job.{pc_word};
+ghost use Rattle.its_plain.specs.Operator.{on_registers, started, stopped, continued, interrupted, state_shown, shown};
+ghost use Rattle.its_stepped.specs.State.{plain};
+ghost use Rattle.its_stepped.specs.Unwind.{unwound};
+ghost use Rattle.its_world.specs.World.{state_of};
+ghost use Rattle.its_operator.specs.Kept.{Kept, Lands, Refused, Calm};
+
+use its_pclsr::unwind;
+use its_word::{FATAL, Job, JobShow, NAMED_FLAGS, Refusal, USER, Word};
+use its_world::World;
+
+/// GO: starts a slot's job at an address, with no flags. NoJob where the slot is empty.
+#[tactic(auto, using(crate::proofs::RegisterLaws::go_done, crate::proofs::RegisterLaws::go_plain, crate::proofs::RegisterLaws::go_kept, crate::proofs::RegisterLaws::registers_refused))]
+pub fn go(w: &mut World, slot: u8, a: u32) -> Result<(), Refusal>
+    requires slot { slot < slots }
+    requires address { a < 2 ^ 18 }
+    requires kept { Kept w.old }
+    ensures done { OnOk result (Lands (unwound (state_of w.old) slot) (state_of w.new) (on_registers (unwound (state_of w.old) slot).raw slot (started a))) }
+    ensures plain { OnOk result (on_registers (plain (state_of w.old)) slot (started a) ≡ Ok (plain (state_of w.new))) }
+    ensures refused { IfErr result (λ e. Refused (state_of w.old) (unwound (state_of w.old) slot) (λ m. on_registers m slot (started a)) e) }
+    ensures same { OnErr result (w.new ≡ w.old) }
+    ensures kept { Kept w.new }
+{
+    let mut job = calmed(w, slot)?;
+    job.pc = a;
+    job.flags = 0;
+    job.stopped = false;
+    w.put_registers(slot, job);
+    Ok(())
+}
+
+/// STOP: sets the stopped mark of a slot's job. NoJob where the slot is empty.
+#[tactic(auto, using(crate::proofs::RegisterLaws::stop_done, crate::proofs::RegisterLaws::stop_plain, crate::proofs::RegisterLaws::stop_kept, crate::proofs::RegisterLaws::registers_refused))]
+pub fn stop(w: &mut World, slot: u8) -> Result<(), Refusal>
+    requires slot { slot < slots }
+    requires kept { Kept w.old }
+    ensures done { OnOk result (Lands (unwound (state_of w.old) slot) (state_of w.new) (on_registers (unwound (state_of w.old) slot).raw slot stopped)) }
+    ensures plain { OnOk result (on_registers (plain (state_of w.old)) slot stopped ≡ Ok (plain (state_of w.new))) }
+    ensures refused { IfErr result (λ e. Refused (state_of w.old) (unwound (state_of w.old) slot) (λ m. on_registers m slot stopped) e) }
+    ensures same { OnErr result (w.new ≡ w.old) }
+    ensures kept { Kept w.new }
+{
+    let mut job = calmed(w, slot)?;
+    job.stopped = true;
+    w.put_registers(slot, job);
+    Ok(())
+}
+
+/// CONT: lets a slot's job run, with no fatal bit pending. NoJob where the slot is empty.
+#[tactic(auto, using(crate::proofs::RegisterLaws::cont_done, crate::proofs::RegisterLaws::cont_plain, crate::proofs::RegisterLaws::cont_kept, crate::proofs::RegisterLaws::registers_refused))]
+pub fn cont(w: &mut World, slot: u8) -> Result<(), Refusal>
+    requires slot { slot < slots }
+    requires kept { Kept w.old }
+    ensures done { OnOk result (Lands (unwound (state_of w.old) slot) (state_of w.new) (on_registers (unwound (state_of w.old) slot).raw slot continued)) }
+    ensures plain { OnOk result (on_registers (plain (state_of w.old)) slot continued ≡ Ok (plain (state_of w.new))) }
+    ensures refused { IfErr result (λ e. Refused (state_of w.old) (unwound (state_of w.old) slot) (λ m. on_registers m slot continued) e) }
+    ensures same { OnErr result (w.new ≡ w.old) }
+    ensures kept { Kept w.new }
+{
+    let job = calmed(w, slot)?;
+    w.put_registers(slot, continued(job));
+    Ok(())
+}
+
+/// INT: sets bits of the pending words of a slot's job beside those that are set. NoJob where the slot is
+/// empty.
+#[tactic(auto, using(crate::proofs::RegisterLaws::interrupt_done, crate::proofs::RegisterLaws::interrupt_plain, crate::proofs::RegisterLaws::interrupt_kept, crate::proofs::RegisterLaws::registers_refused))]
+pub fn interrupt(w: &mut World, slot: u8, v: Word, x: Word) -> Result<(), Refusal>
+    requires slot { slot < slots }
+    requires kept { Kept w.old }
+    ensures done { OnOk result (Lands (unwound (state_of w.old) slot) (state_of w.new) (on_registers (unwound (state_of w.old) slot).raw slot (interrupted v x))) }
+    ensures plain { OnOk result (on_registers (plain (state_of w.old)) slot (interrupted v x) ≡ Ok (plain (state_of w.new))) }
+    ensures refused { IfErr result (λ e. Refused (state_of w.old) (unwound (state_of w.old) slot) (λ m. on_registers m slot (interrupted v x)) e) }
+    ensures same { OnErr result (w.new ≡ w.old) }
+    ensures kept { Kept w.new }
+{
+    let job = calmed(w, slot)?;
+    w.put_registers(slot, interrupted(job, v, x));
+    Ok(())
+}
+
+/// STATE: what is shown of a slot's job. NoJob where the slot is empty.
+#[tactic(auto, using(crate::proofs::RegisterLaws::state_found, crate::proofs::RegisterLaws::state_plain, crate::proofs::RegisterLaws::state_refused))]
+pub fn state(w: &mut World, slot: u8) -> Result<JobShow, Refusal>
+    requires slot { slot < slots }
+    requires kept { Kept w.old }
+    ensures shown { IfOk result (λ show. state_shown (unwound (state_of w.old) slot).raw slot ≡ Ok show) }
+    ensures plain { IfOk result (λ show. state_shown (plain (state_of w.old)) slot ≡ Ok show) }
+    ensures unwinds { OnOk result (state_of w.new ≡ unwound (state_of w.old) slot) }
+    ensures refused { IfErr result (λ e. Refused (state_of w.old) (unwound (state_of w.old) slot) (λ m. state_shown m slot) e) }
+    ensures same { OnErr result (w.new ≡ w.old) }
+    ensures kept { Kept w.new }
+{
+    let job = calmed(w, slot)?;
+    let superior = w.jobs.superior(slot);
+    Ok(shown(&job, superior))
+}
+
+/// The registers of a slot's job, which is unwound first. NoJob where the slot is empty.
+#[tactic(auto, using(crate::proofs::KeptLaws::unwound_kept, crate::proofs::KeptLaws::unwound_missing))]
+fn calmed(w: &mut World, slot: u8) -> Result<Job, Refusal>
+    requires slot { slot < slots }
+    requires kept { Kept w.old }
+    ensures calm { IfOk result (λ j. Calm w.old w.new slot j) }
+    ensures job { IfOk result (λ j. job_at w.new.jobs slot ≡ Some j) }
+    ensures refused { IfErr result (λ e. (e ≡ Refusal.NoJob) × (job_at w.old.jobs slot ≡ None)) }
+    ensures same { OnErr result (w.new ≡ w.old) }
+{
+    if w.registers(slot).is_none() {
+        return Err(Refusal::NoJob);
+    }
+    unwind(w, slot);
+    match w.registers(slot) {
+        Some(job) => Ok(job),
+        None => unreachable!(),
+    }
+}
+
+/// A job that runs, with no fatal bit pending.
+fn continued(job: Job) -> Job
+    ensures { result ≡ continued job }
+{
+    Job {
+        stopped: false,
+        pend1: job.pend1 & !Word::new(FATAL),
+        ..job
+    }
+}
+
+/// A job with more bits pending.
+fn interrupted(job: Job, v: Word, x: Word) -> Job
+    ensures { result ≡ interrupted v x job }
+{
+    Job {
+        pend1: job.pend1 | v,
+        pend2: job.pend2 | x,
+        ..job
+    }
+}
+
+/// What STATE shows of a job with this superior.
+fn shown(job: &Job, superior: Option<u8>) -> JobShow
+    ensures { result ≡ shown job.now superior }
+{
+    JobShow {
+        u: job.uname,
+        j: job.jname,
+        sup: superior,
+        con: job.console,
+        run: !job.stopped,
+        pc: pc_word(job),
+        p1: job.pend1,
+        p2: job.pend2,
+        m1: job.mask1,
+        m2: job.mask2,
+        d1: job.defer1,
+        d2: job.defer2,
+    }
+}
+
+/// The PC word of a job; user is always on.
+fn pc_word(job: &Job) -> Word
+    ensures { result ≡ pc_word job.now.flags job.now.pc }
+{
+    Word::pair(job.flags & NAMED_FLAGS | USER, job.pc)
+}

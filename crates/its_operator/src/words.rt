@@ -1,0 +1,221 @@
+ghost use Rattle.std.specs.Prelude.{◌≡◌, ◌≢◌, ◌≤◌, ◌<◌, ◌/◌, ◌^◌, ℕ, true, false, Some, None, Ok, Err, IfOk, OnOk, OnErr, IfErr, IfSome, is_some, nat_lt};
+ghost use Rattle.its_word.specs.Only.{Only, Same};
+ghost use Rattle.its_word.specs.Limits.{slots, most_pages};
+ghost use Rattle.its_word.specs.Core.{store, can_store, word_at, page_of, with_page, zero_page, pages_mapped};
+ghost use Rattle.its_core.specs.Cores.{core_at, reserved_at, clear_at};
+ghost use Rattle.its_jobs.specs.Table.{job_at};
+ghost use Rattle.its_plain.specs.Operator.{word_loaded, word_seen, deposited};
+ghost use Rattle.its_stepped.specs.State.{plain};
+ghost use Rattle.its_stepped.specs.Unwind.{unwound};
+ghost use Rattle.its_world.specs.World.{state_of, CoreBecomes};
+ghost use Rattle.its_operator.specs.Kept.{Kept, Lands, Refused, Calm, Calmed, refusal_of, undepositable, unloadable};
+
+use its_core::{Core, Full};
+use its_pclsr::unwind;
+use its_word::{Fault, MAPPED_PAGES, NoAccess, Refusal, Word};
+use its_world::World;
+
+/// EXAM: the word at an address of a slot. NoJob where the slot is empty, NoPage where the page is absent.
+#[tactic(auto, using(crate::proofs::WordLaws::exam_none, crate::proofs::WordLaws::exam_refused, crate::proofs::WordLaws::exam_there, crate::proofs::WordLaws::exam_found, crate::proofs::WordLaws::exam_plain))]
+pub fn exam(w: &mut World, slot: u8, a: u32) -> Result<Word, Refusal>
+    requires slot { slot < slots }
+    requires address { a < 2 ^ 18 }
+    requires kept { Kept w.old }
+    ensures word { IfOk result (λ x. word_seen (unwound (state_of w.old) slot).raw slot a ≡ Ok x) }
+    ensures plain { IfOk result (λ x. word_seen (plain (state_of w.old)) slot a ≡ Ok x) }
+    ensures unwinds { OnOk result (state_of w.new ≡ unwound (state_of w.old) slot) }
+    ensures refused { IfErr result (λ e. Refused (state_of w.old) (unwound (state_of w.old) slot) (λ m. word_seen m slot a) e) }
+    ensures same { OnErr result (w.new ≡ w.old) }
+    ensures kept { Kept w.new }
+{
+    present(w, slot)?;
+    match w.core.get(slot, a) {
+        Ok(_) => {}
+        Err(e) => return Err(refusal(e)),
+    }
+    calm(w, slot);
+    match w.core.get(slot, a) {
+        Ok(word) => Ok(word),
+        Err(_) => unreachable!(),
+    }
+}
+
+/// DEPOSIT: stores a word of a slot. NoJob where the slot is empty; NoPage where the page is absent, ReadOnly
+/// where it is so.
+#[tactic(auto, using(crate::proofs::WordLaws::deposit_none, crate::proofs::WordLaws::deposit_refused, crate::proofs::WordLaws::deposit_can, crate::proofs::WordLaws::deposit_done, crate::proofs::WordLaws::deposit_plain, crate::proofs::WordLaws::deposit_kept))]
+pub fn deposit(w: &mut World, slot: u8, a: u32, word: Word) -> Result<(), Refusal>
+    requires slot { slot < slots }
+    requires address { a < 2 ^ 18 }
+    requires kept { Kept w.old }
+    ensures done { OnOk result (Lands (unwound (state_of w.old) slot) (state_of w.new) (deposited (unwound (state_of w.old) slot).raw slot a word)) }
+    ensures plain { OnOk result (deposited (plain (state_of w.old)) slot a word ≡ Ok (plain (state_of w.new))) }
+    ensures refused { IfErr result (λ e. Refused (state_of w.old) (unwound (state_of w.old) slot) (λ m. deposited m slot a word) e) }
+    ensures same { OnErr result (w.new ≡ w.old) }
+    ensures kept { Kept w.new }
+{
+    present(w, slot)?;
+    match undepositable(w, slot, a) {
+        None => {}
+        Some(e) => return Err(e),
+    }
+    calm(w, slot);
+    w.store(slot, a, word);
+    Ok(())
+}
+
+/// One word of an a/ line: an absent page is made, writable and of zeros. NoJob where the slot is empty;
+/// ReadOnly where the page is so; Full where a page is needed and 1024 pages are mapped.
+
+#[tactic(auto, using(crate::proofs::LoadLaws::load_none, crate::proofs::LoadLaws::load_refused, crate::proofs::LoadLaws::load_clear, crate::proofs::LoadLaws::load_writable, crate::proofs::LoadLaws::load_room, crate::proofs::LoadLaws::load_unreserved, crate::proofs::LoadLaws::load_stored, crate::proofs::LoadLaws::load_made, crate::proofs::LoadLaws::load_plain, crate::proofs::LoadLaws::load_kept))]
+pub fn load_word(w: &mut World, slot: u8, a: u32, word: Word) -> Result<(), Refusal>
+    requires slot { slot < slots }
+    requires address { a < 2 ^ 18 }
+    requires kept { Kept w.old }
+    ensures done { OnOk result (Lands (unwound (state_of w.old) slot) (state_of w.new) (word_loaded (unwound (state_of w.old) slot).raw slot a word)) }
+    ensures plain { OnOk result (word_loaded (plain (state_of w.old)) slot a word ≡ Ok (plain (state_of w.new))) }
+    ensures refused { IfErr result (λ e. Refused (state_of w.old) (unwound (state_of w.old) slot) (λ m. word_loaded m slot a word) e) }
+    ensures same { OnErr result (w.new ≡ w.old) }
+    ensures kept { Kept w.new }
+{
+    present(w, slot)?;
+    match unloadable(w, slot, a) {
+        None => {}
+        Some(e) => return Err(e),
+    }
+    calm(w, slot);
+    match w.put_word(slot, a, word) {
+        Ok(()) => Ok(()),
+        Err(NoAccess::ReadOnly) => unreachable!(),
+        Err(NoAccess::Absent) => {
+            load_page(w, slot, a, word);
+            Ok(())
+        }
+    }
+}
+
+/// Why a word cannot be deposited at an address of a slot that has a job, where it cannot.
+#[tactic(auto, using(crate::proofs::WordLaws::bar_none, crate::proofs::WordLaws::bar_read_only, crate::proofs::WordLaws::bar_absent))]
+fn undepositable(w: &World, slot: u8, a: u32) -> Option<Refusal>
+    requires slot { slot < slots }
+    requires address { a < 2 ^ 18 }
+    ensures { result ≡ undepositable (can_store (core_at w.now.core slot) a) (is_some (word_at (core_at w.now.core slot) a)) }
+{
+    match w.core.refusal(slot, a) {
+        None => None,
+        Some(Fault::Wro) => Some(Refusal::ReadOnly),
+        Some(_) => Some(Refusal::NoPage),
+    }
+}
+
+/// Why a word cannot be loaded at an address of a slot that has a job, where it cannot.
+fn unloadable(w: &World, slot: u8, a: u32) -> Option<Refusal>
+    requires slot { slot < slots }
+    requires address { a < 2 ^ 18 }
+    ensures { result ≡ unloadable (can_store (core_at w.now.core slot) a) (is_some (word_at (core_at w.now.core slot) a)) (nat_lt (pages_mapped (core_at w.now.core)) most_pages) }
+{
+    match w.core.refusal(slot, a) {
+        None => None,
+        Some(Fault::Wro) => Some(Refusal::ReadOnly),
+        Some(_) => {
+            if w.core.mapped() < MAPPED_PAGES {
+                None
+            } else {
+                Some(Refusal::Full)
+            }
+        }
+    }
+}
+
+/// Makes the page of an address, and stores a word there.
+#[tactic(auto, using(crate::proofs::PageLaws::zero_stores, crate::proofs::PageLaws::page_then_store))]
+fn load_page(w: &mut World, slot: u8, a: u32, word: Word)
+    requires slot { slot < slots }
+    requires address { a < 2 ^ 18 }
+    requires page { 16 ≤ a }
+    requires absent { page_of (core_at w.old.core slot) (a / 1024) ≡ None }
+    requires room { pages_mapped (core_at w.old.core) < most_pages }
+    requires unreserved { clear_at w.old.core slot ≡ None }
+    ensures { CoreBecomes w.old w.new slot (store (with_page (core_at w.old.core slot) (a / 1024) (Some zero_page)) a word) }
+{
+    make_page(w, slot, (a / 1024) as u8);
+    w.store(slot, a, word);
+}
+
+/// Makes a page of zeros of a slot.
+#[tactic(auto, using(crate::proofs::PageLaws::page_becomes))]
+fn make_page(w: &mut World, slot: u8, page: u8)
+    requires slot { slot < slots }
+    requires absent { page_of (core_at w.old.core slot) page ≡ None }
+    requires room { pages_mapped (core_at w.old.core) < most_pages }
+    requires unreserved { clear_at w.old.core slot ≡ None }
+    ensures made { CoreBecomes w.old w.new slot (with_page (core_at w.old.core slot) page (Some zero_page)) }
+    ensures there { page_of (core_at w.new.core slot) page ≡ Some zero_page }
+{
+    map_zeros(&mut w.core, slot, page);
+}
+
+/// Makes a page of zeros of a slot of the cores.
+#[tactic(auto, using(crate::proofs::PageLaws::mapped_cores, crate::proofs::PageLaws::mapped_clear, its_core::proofs::CoresLaws::same_core_at, its_core::proofs::CoresLaws::same_pages_mapped))]
+fn map_zeros(core: &mut Core, slot: u8, page: u8)
+    requires slot { slot < slots }
+    requires absent { page_of (core_at core.old slot) page ≡ None }
+    requires room { pages_mapped (core_at core.old) < most_pages }
+    requires unreserved { clear_at core.old slot ≡ None }
+    ensures made { Only (core_at core.old) (core_at core.new) slot (with_page (core_at core.old slot) page (Some zero_page)) }
+    ensures there { page_of (core_at core.new slot) page ≡ Some zero_page }
+    ensures reserved { Same (clear_at core.old) (clear_at core.new) }
+{
+    reserve_zeros(core, slot);
+    match core.map(slot, slot, page) {
+        Ok(()) => {}
+        Err(Full) => unreachable!(),
+    }
+}
+
+/// Reserves a page of zeros for a slot.
+#[tactic(auto, using(crate::proofs::PageLaws::clear_unreserved))]
+fn reserve_zeros(core: &mut Core, slot: u8)
+    requires slot { slot < slots }
+    requires none { clear_at core.old slot ≡ None }
+    ensures clear { Only (clear_at core.old) (clear_at core.new) slot (Some 4) }
+    ensures cores { core.new.cores ≡ core.old.cores }
+{
+    core.reserve(slot);
+    core.clear_quarter(slot, 0);
+    core.clear_quarter(slot, 1);
+    core.clear_quarter(slot, 2);
+    core.clear_quarter(slot, 3);
+}
+
+/// Unwinds the job of a slot.
+#[tactic(auto, using(crate::proofs::KeptLaws::unwound_calm))]
+fn calm(w: &mut World, slot: u8)
+    requires slot { slot < slots }
+    requires some { is_some (job_at w.old.jobs slot) ≡ true }
+    requires kept { Kept w.old }
+    ensures { Calmed w.old w.new slot }
+{
+    unwind(w, slot);
+}
+
+/// NoJob where a slot is empty.
+fn present(w: &World, slot: u8) -> Result<(), Refusal>
+    requires slot { slot < slots }
+    ensures refused { IfErr result (λ e. (e ≡ Refusal.NoJob) × (job_at w.now.jobs slot ≡ None)) }
+    ensures some { OnOk result (is_some (job_at w.now.jobs slot) ≡ true) }
+{
+    if w.registers(slot).is_none() {
+        return Err(Refusal::NoJob);
+    }
+    Ok(())
+}
+
+/// Why the operator cannot have a word.
+fn refusal(e: NoAccess) -> Refusal
+    ensures { result ≡ refusal_of e }
+{
+    match e {
+        NoAccess::Absent => Refusal::NoPage,
+        NoAccess::ReadOnly => Refusal::ReadOnly,
+    }
+}
