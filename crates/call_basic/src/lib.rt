@@ -16,3 +16,4 @@ mod usrvar;
 mod variables;
 
 pub use calls::{decide, ready, target_of};
+pub use names::call_named;

@@ -8,7 +8,7 @@ use its_word::Word;
 
 /// The call of a name.
 #[tactic(auto, unfolding(its_plain::specs::Decide::call_named))]
-pub(crate) fn call_named(name: Word) -> Option<CallName>
+pub fn call_named(name: Word) -> Option<CallName>
     ensures { result ≡ call_named name }
 {
     match name.value() {

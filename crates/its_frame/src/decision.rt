@@ -18,7 +18,7 @@ pub enum Wait {
 #[derive(Clone, Copy, Debug, PartialEq, Eq)]
 pub struct Held {
     pub place: u32,
-    pub byte: u64,
+    pub byte: Word,
 }
 
 /// What a call does at its commit. All values are found before anything changes.

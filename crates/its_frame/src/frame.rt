@@ -48,7 +48,7 @@ pub struct Moving {
     pub site: Site,
     pub ask: Ask,
     pub place: u32,
-    pub byte: u64,
+    pub byte: Word,
 }
 
 /// The call is decided, and these steps of it are owed, in order.

@@ -1,3 +1,6 @@
-pub mod WorldLaws
-pub mod TurnLaws
-pub mod LoadLaws
+pub mod TickLaws
+pub mod ReachLaws
+pub mod TrialLaws
+pub mod CallLaws
+pub mod UserLaws
+pub mod BesideLaws

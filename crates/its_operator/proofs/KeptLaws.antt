@@ -1,5 +1,5 @@
 -- What holds between calls, through unwinding and through a line.
-use Rattle.std.specs.Prelude.{◌≡◌, ◌≢◌, ◌<◌, ◌^◌, ℕ, Bool, true, false, Option, Some, None, IfSome, List, Result, Ok, Err, option_map, is_some, refl}
+use Rattle.std.specs.Prelude.{◌≡◌, ◌<◌, ◌^◌, ℕ, Bool, true, false, Option, Some, None, IfSome, List, Result, Ok, Err, option_map, is_some, refl}
 use Rattle.std.proofs.Common.{sym, ◌∙◌, ap, subst, inl, inr}
 use Rattle.std.proofs.lemmas.Bool.{cases_eq}
 use Rattle.its_word.specs.Core.{Core, no_core}
@@ -26,9 +26,9 @@ use Rattle.its_stepped.proofs.AfterLaws.{after_sound}
 use Rattle.its_stepped.proofs.RefusalLaws.{error_of}
 use Rattle.its_stepped.proofs.WrittenLaws.{line_distinct}
 use Rattle.its_pclsr.specs.Apart.{CoresOff}
-use Rattle.its_world.specs.World.{state_of, raw_of, raw_at, Becomes}
+use Rattle.its_world.specs.World.{state_of, raw_of, Becomes}
 use Rattle.its_world.specs.declared.world.World.{World}
-use Rattle.its_operator.specs.Kept.{Kept, Refused, Calm, Calmed, reason_of}
+use Rattle.its_operator.specs.Kept.{Kept, Refused, Calmed, reason_of}
 use Rattle.its_world.proofs.StateLaws.{job_of}
 
 -- a slot has a job of the plain machine where the world has one

@@ -4,3 +4,5 @@ pub mod WordLaws
 pub mod PageLaws
 pub mod LoadLaws
 pub mod StartLaws
+pub mod PeekLaws
+pub mod PeekStateLaws

@@ -1,16 +1,15 @@
 -- The words of a LOAD block: a word is stored, where its page is absent into a page of zeros that is made.
-use Rattle.std.specs.Prelude.{if◌then◌else◌, ◌≡◌, ◌≢◌, ◌<◌, ◌≤◌, ◌/◌, ◌%◌, ◌^◌, ◌+◌, ℕ, Bool, true, false, Option, Some, None, IfSome, List, [], ◌∷◌, Result, Ok, Err, is_some, nat_lt, refl}
+use Rattle.std.specs.Prelude.{◌≡◌, ◌<◌, ◌≤◌, ◌/◌, ℕ, Bool, true, false, Option, Some, None, [], ◌∷◌, Result, Ok, Err, is_some, nat_lt, refl}
 use Rattle.std.proofs.Common.{sym, ◌∙◌, ap, subst, arith, inl, inr}
 use Rattle.std.proofs.lemmas.Bool.{cases_Bool}
 use Rattle.std.proofs.lemmas.Bool.Decides.{nat_tests}
 use Rattle.its_word.specs.Limits.{most_pages}
 use Rattle.its_word.specs.Core.{Core, page_of, word_at, can_store, store, putting, put, with_page, zero_page, pages_mapped}
 use Rattle.its_word.proofs.PageLaws.{pages_mapped-same}
-use Rattle.its_word.specs.declared.access.NoAccess.TheVariants.{Absent, ReadOnly}
+use Rattle.its_word.specs.declared.access.NoAccess.TheVariants.{ReadOnly}
 use Rattle.its_word.specs.declared.jobs.Job.{Job}
 use Rattle.its_word.specs.declared.session.Event.TheVariants as events
 use Rattle.its_word.specs.declared.session.Reason.{Reason}
-use Rattle.its_word.specs.declared.session.Reason.TheVariants as reasons
 use Rattle.its_word.specs.declared.session.Refusal.{Refusal}
 use Rattle.its_word.specs.declared.session.Refusal.TheVariants as refusals
 use Rattle.its_frame.specs.declared.frame.Frame.{Frame}
@@ -22,7 +21,7 @@ use Rattle.its_plain.specs.Operator as operator
 use Rattle.its_plain.specs.CallOperator.{operate, Done, lined}
 use Rattle.its_stepped.specs.State.{State, plain}
 use Rattle.its_stepped.specs.Unwind.{unwound}
-use Rattle.its_stepped.specs.Sound.{SoundBy, Sound}
+use Rattle.its_stepped.specs.Sound.{SoundBy}
 use Rattle.its_stepped.specs.Lines.{calmed}
 use Rattle.its_stepped.proofs.RefusalLaws.{error_of, word_alike, word_refused_first}
 use Rattle.its_stepped.proofs.UnwindLaws.{unwound_none}

@@ -1,6 +1,6 @@
 -- A page of zeros that is made: it is reserved and cleared, and then mapped.
-use Rattle.std.specs.Prelude.{◌≡◌, ◌≢◌, ◌==◌, ◌<◌, ◌≤◌, ◌/◌, ◌%◌, ◌^◌, ℕ, Bool, true, false, Option, Some, None, option_map, is_some, nat_lt, refl}
-use Rattle.std.proofs.Common.{sym, ◌∙◌, ap, subst, arith, inl, inr}
+use Rattle.std.specs.Prelude.{◌≡◌, ◌≤◌, ◌/◌, ◌%◌, ℕ, true, false, Option, Some, None, option_map, is_some, nat_lt, refl}
+use Rattle.std.proofs.Common.{sym, ◌∙◌, ap, arith, inl, inr}
 use Rattle.std.proofs.lemmas.Bool.{cases_eq}
 use Rattle.std.proofs.lemmas.Bool.Decides.{nat_tests}
 use Rattle.its_word.specs.Only.{Only, Same}
@@ -9,7 +9,7 @@ use Rattle.its_word.proofs.PageLaws.{get-copies}
 use Rattle.its_core.specs.Cores.{Cores, Reserved, core_at, reserved_at, clear_at}
 use Rattle.its_core.proofs.CoresLaws.{same_core_at}
 use Rattle.its_jobs.specs.Table.{job_at}
-use Rattle.its_world.specs.World.{frame_at, Becomes, CoreBecomes}
+use Rattle.its_world.specs.World.{frame_at, CoreBecomes}
 use Rattle.its_world.specs.declared.world.World.{World}
 
 unreserved_by : (o : Option Reserved) → option_map (λ x. x.clear) o ≡ None → o ≡ None

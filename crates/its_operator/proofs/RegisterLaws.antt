@@ -1,7 +1,7 @@
 -- GO, STOP, CONT, INT and STATE: the registers of a job that was unwound are written, or shown.
-use Rattle.std.specs.Prelude.{if◌then◌else◌, ◌==◌, ◌≡◌, ◌≢◌, ◌<◌, ◌^◌, ℕ, Bool, true, false, Option, Some, None, IfSome, List, [], Result, Ok, Err, option_map, is_some, refl}
+use Rattle.std.specs.Prelude.{◌≡◌, ◌<◌, ◌^◌, ℕ, Bool, Option, Some, None, IfSome, List, [], Result, Ok, Err, option_map, refl}
 use Rattle.std.proofs.Common.{sym, ◌∙◌, ap, subst, inl, inr}
-use Rattle.std.proofs.lemmas.Bool.{cases_eq, eq-eqb, ne_eqb}
+use Rattle.std.proofs.lemmas.Bool.{cases_eq}
 use Rattle.its_word.specs.Core.{Core}
 use Rattle.its_word.specs.declared.jobs.Job.{Job}
 use Rattle.its_word.specs.declared.session.Event.{Event}
@@ -18,7 +18,7 @@ use Rattle.its_plain.specs.Change.{on_slot, in_job}
 use Rattle.its_plain.specs.Own as own
 use Rattle.its_plain.specs.Operator.{Block, no_block, Operated, Refuses, Does, Ticks, Ends, only, on_job, with_registers, on_registers, started, interrupted, stopped, continued, shown, state_shown, disturbs}
 use Rattle.its_plain.specs.Operator as operator
-use Rattle.its_plain.specs.CallOperator.{operate, Lined, Done, Peeks, lined}
+use Rattle.its_plain.specs.CallOperator.{operate, Done, lined}
 use Rattle.its_plain.proofs.MachineLaws.{machine_is}
 use Rattle.its_stepped.specs.State.{State, plain}
 use Rattle.its_stepped.specs.Unwind.{unwound}
@@ -26,8 +26,8 @@ use Rattle.its_stepped.specs.Lines.{calmed, with_raw}
 use Rattle.its_stepped.proofs.FrameLaws.{changed_only, on_slot_here, on_slot_other}
 use Rattle.its_stepped.proofs.LineLaws.{state_plain as calm_state_plain}
 use Rattle.its_stepped.proofs.RefusalLaws.{registers_alike, shown_alike}
-use Rattle.its_stepped.proofs.UnwindLaws.{unwound_plain, unwound_sound, unwound_none}
-use Rattle.its_world.specs.World.{state_of, raw_of, raw_at, in_raw, JobBecomes}
+use Rattle.its_stepped.proofs.UnwindLaws.{unwound_plain, unwound_none}
+use Rattle.its_world.specs.World.{state_of, in_raw, JobBecomes}
 use Rattle.its_world.specs.declared.world.World.{World}
 use Rattle.its_world.proofs.StateLaws.{raw_job, raw_some, raw_none, changed_state}
 use Rattle.its_operator.specs.Kept.{Kept, Lands, Refused, Calm, reason_of}

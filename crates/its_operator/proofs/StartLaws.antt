@@ -1,23 +1,18 @@
 -- LOAD, CLOCK, and a world that is opened.
-use Rattle.std.specs.Prelude.{◌≡◌, ◌≢◌, ◌<◌, ◌≤◌, ◌+◌, ◌^◌, ℕ, zero, suc, Bool, true, false, Option, Some, None, IfSome, List, [], ◌∷◌, replicate, slice_index_or, option_map, Result, Ok, Err, is_some, nat_lt, refl}
-use Rattle.std.proofs.Common.{sym, ◌∙◌, ap, subst, arith, inl, inr, lit<}
+use Rattle.std.specs.Prelude.{◌≡◌, ◌≢◌, ◌<◌, ◌+◌, ◌^◌, ℕ, zero, suc, Bool, true, false, Option, Some, None, IfSome, List, [], ◌∷◌, replicate, slice_index_or, option_map, Result, Ok, Err, nat_lt, refl}
+use Rattle.std.proofs.Common.{sym, ◌∙◌, ap, subst, inl, inr, lit<}
 use Rattle.std.proofs.lemmas.Bool.{cases_eq}
-use Rattle.std.proofs.lemmas.Bool.Decides.{nat_tests}
-use Rattle.its_word.specs.Only.{Only}
-use Rattle.its_word.specs.Core.{Core, no_core}
+use Rattle.its_word.specs.Core.{no_core}
 use Rattle.its_word.specs.Tree.{least_free, fresh_job}
 use Rattle.its_word.proofs.FreeLaws.{least_alike, least_empty}
 use Rattle.its_word.specs.declared.jobs.Channel.TheVariants as channels
-use Rattle.its_word.specs.declared.jobs.Job.{Job}
 use Rattle.its_word.specs.declared.session.Event.TheVariants as events
 use Rattle.its_word.specs.declared.session.Reason.{Reason}
-use Rattle.its_word.specs.declared.session.Reason.TheVariants as reasons
-use Rattle.its_word.specs.declared.session.Refusal.{Refusal}
 use Rattle.its_word.specs.declared.session.Refusal.TheVariants as refusals
 use Rattle.its_print.specs.Printing.{Line}
 use Rattle.its_print.specs.Printing as printed
-use Rattle.its_core.specs.Cores.{Cores, Reserved, core_at, reserved_at, clear_at, IsEmpty}
-use Rattle.its_jobs.specs.Table.{Table, job_at, superior_at, NoJobs}
+use Rattle.its_core.specs.Cores.{Reserved, core_at, clear_at, IsEmpty}
+use Rattle.its_jobs.specs.Table.{job_at, superior_at, NoJobs}
 use Rattle.its_plain.specs.Machine.{Whole, Machine, changed, with_job, no_machine}
 use Rattle.its_plain.specs.Operator.{Block, no_block, Does, nobody, only, new_job, loaded_in, loaded, by_load, quietly}
 use Rattle.its_plain.specs.Operator as operator
@@ -34,7 +29,7 @@ use Rattle.its_stepped.proofs.StartLaws.{no_state_plain, no_state_sound}
 use Rattle.its_world.specs.World.{chan_of, closed_channels, frame_at, raw_of, raw_at, raw_machine, state_of}
 use Rattle.its_world.specs.declared.world.World.{World}
 use Rattle.its_world.proofs.StateLaws.{state_is, raw_job}
-use Rattle.its_operator.specs.Kept.{Kept, Lands, Loads, Refused, Fresh, Later, reason_of}
+use Rattle.its_operator.specs.Kept.{Kept, Lands, Loads, Refused, Fresh, Later}
 use Rattle.its_operator.proofs.KeptLaws.{raw_has, Made, made_sound, made_plain, made_distinct, Addressed, put_addressed}
 
 -- a fresh job has no open channel

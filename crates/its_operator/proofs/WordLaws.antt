@@ -1,42 +1,36 @@
 -- EXAM, DEPOSIT and the words of a LOAD block: a word of a job that was unwound is read or stored, where it can be.
-use Rattle.std.specs.Prelude.{if◌then◌else◌, ◌≡◌, ◌≢◌, ◌<◌, ◌≤◌, ◌/◌, ◌%◌, ◌^◌, ℕ, Bool, true, false, Option, Some, None, IfSome, List, [], ◌∷◌, Result, Ok, Err, option_map, is_some, nat_lt, refl}
-use Rattle.std.proofs.Common.{sym, ◌∙◌, ap, subst, arith, inl, inr}
-use Rattle.std.proofs.lemmas.Bool.{cases_eq}
-use Rattle.std.proofs.lemmas.Bool.Decides.{nat_tests}
-use Rattle.its_word.specs.Limits.{most_pages}
-use Rattle.its_word.specs.Core.{Core, Page, no_core, page_of, word_at, can_store, store, got, get, putting, put, with_page, zero_page, pages_mapped}
-use Rattle.its_word.proofs.PageLaws.{pages_mapped-same, get-copies}
+use Rattle.std.specs.Prelude.{◌≡◌, ◌≢◌, ◌<◌, ◌^◌, ℕ, Bool, true, false, Option, Some, None, IfSome, [], Result, Ok, Err, option_map, is_some, refl}
+use Rattle.std.proofs.Common.{sym, ◌∙◌, ap, subst}
+use Rattle.its_word.specs.Core.{Core, word_at, can_store, store, got, get}
 use Rattle.its_word.specs.Stores.{refusal, refused}
 use Rattle.its_word.specs.declared.access.Fault.{Fault}
 use Rattle.its_word.specs.declared.access.Fault.TheVariants.{Wro}
 use Rattle.its_word.specs.declared.access.NoAccess.{NoAccess}
-use Rattle.its_word.specs.declared.access.NoAccess.TheVariants.{Absent, ReadOnly}
+use Rattle.its_word.specs.declared.access.NoAccess.TheVariants.{Absent}
 use Rattle.its_word.specs.declared.jobs.Job.{Job}
 use Rattle.its_word.specs.declared.session.Event.{Event}
 use Rattle.its_word.specs.declared.session.Event.TheVariants as events
 use Rattle.its_word.specs.declared.session.Reason.{Reason}
-use Rattle.its_word.specs.declared.session.Reason.TheVariants as reasons
 use Rattle.its_word.specs.declared.session.Refusal.{Refusal}
 use Rattle.its_word.specs.declared.session.Refusal.TheVariants as refusals
 use Rattle.its_frame.specs.declared.frame.Frame.{Frame}
 use Rattle.its_core.specs.Cores.{core_at, clear_at}
 use Rattle.its_jobs.specs.Table.{job_at, superior_at}
-use Rattle.its_plain.specs.Machine.{Whole, Machine, with_job, core_of, mapped}
+use Rattle.its_plain.specs.Machine.{Whole, Machine, with_job}
 use Rattle.its_plain.specs.Operator.{Block, no_block, Does, only, on_job, seen_word, word_seen, with_core, deposited_in, deposited, stored_in, stored, word_loaded_of, word_loaded, and_then, words_loaded, disturbs}
 use Rattle.its_plain.specs.Operator as operator
 use Rattle.its_plain.specs.CallOperator.{operate, Done, lined}
 use Rattle.its_stepped.specs.State.{State, plain, seen}
 use Rattle.its_stepped.specs.Unwind.{unwound}
-use Rattle.its_stepped.specs.Sound.{Sound}
-use Rattle.its_stepped.specs.Lines.{calmed, with_raw}
-use Rattle.its_stepped.proofs.FrameLaws.{seen_can_store, seen_present, mapped_plain}
+use Rattle.its_stepped.specs.Lines.{calmed}
+use Rattle.its_stepped.proofs.FrameLaws.{seen_present}
 use Rattle.its_stepped.proofs.LineLaws.{job_here}
-use Rattle.its_stepped.proofs.RefusalLaws.{error_of, deposited_alike, word_alike, word_refused_first}
+use Rattle.its_stepped.proofs.RefusalLaws.{error_of, deposited_alike}
 use Rattle.its_stepped.proofs.UnwindLaws.{unwound_plain, unwound_none}
 use Rattle.its_world.specs.World.{state_of, in_raw, frame_at, Becomes, CoreBecomes}
 use Rattle.its_world.specs.declared.world.World.{World}
 use Rattle.its_world.proofs.StateLaws.{raw_job, job_of, changed_state}
-use Rattle.its_operator.specs.Kept.{Kept, Lands, Refused, Calm, Calmed, reason_of, refusal_of, undepositable, unloadable}
+use Rattle.its_operator.specs.Kept.{Kept, Lands, Refused, Calm, Calmed, reason_of, refusal_of, undepositable}
 use Rattle.its_operator.proofs.KeptLaws.{refused_by, Made, made_sound, made_plain, made_distinct, becomes_blank, Addressed, put_addressed}
 use Rattle.its_operator.proofs.RegisterLaws.{raw_is, raw_is_none, placed_lands, disturbed}
 

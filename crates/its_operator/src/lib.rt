@@ -3,11 +3,15 @@
 #![tactic(auto)]
 
 mod loading;
+mod peeking;
 mod registers;
+#[cfg(test)]
+mod tests;
 mod words;
 
-pub use its_word::{JobShow, NoMemory, Refusal};
+pub use its_word::{JobShow, NoMemory, Peek, Refusal};
 pub use its_world::World;
 pub use loading::{advance, load_job, open};
+pub use peeking::peek;
 pub use registers::{cont, go, interrupt, state, stop};
 pub use words::{deposit, exam, load_word};

@@ -8,3 +8,4 @@ pub mod BelowLaws
 pub mod CommittingLaws
 pub mod ValueLaws
 pub mod ApartLaws
+pub mod ReadyLaws

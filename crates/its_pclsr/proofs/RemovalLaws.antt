@@ -216,7 +216,7 @@ kept_past gone old mid k g empty a = record {
   page = a.page;
 }
 
-all_swept : (old mid : World) (r : ℕ) → r < slots → IsTree old.jobs.jobs old.jobs.superiors → Swept (in_tree (superior_at old.jobs) r) old mid slots
+pub all_swept : (old mid : World) (r : ℕ) → r < slots → IsTree old.jobs.jobs old.jobs.superiors → Swept (in_tree (superior_at old.jobs) r) old mid slots
     → (k : ℕ) → SlotSwept (in_tree (superior_at old.jobs) r) old mid k
 all_swept old mid r l t s k = elim (cases_lt k slots) [
   | inl less ↦ s.done k less

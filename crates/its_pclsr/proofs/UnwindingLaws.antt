@@ -1,5 +1,5 @@
 -- One step of unwinding of a world, and all of them.
-use Rattle.std.specs.Prelude.{◌≡◌, ◌≢◌, ◌<◌, ◌≤◌, ℕ, ◌+◌, true, false, Option, Some, None, is_some, List, [], ◌∷◌, refl}
+use Rattle.std.specs.Prelude.{◌≡◌, ◌≢◌, ◌<◌, ◌≤◌, ℕ, ◌+◌, true, false, Option, Some, None, is_some, option_map, List, [], ◌∷◌, refl}
 use Rattle.std.proofs.Common.{arith, sym, ap, ◌∙◌, subst}
 use Rattle.its_word.specs.Core.{Core}
 use Rattle.its_word.specs.declared.calls.Ask.{Ask}
@@ -23,7 +23,8 @@ use Rattle.its_plain.specs.Change.{poke}
 use Rattle.its_plain.specs.CallStep.{with_held}
 use Rattle.its_plain.specs.Own.{with_stores, leave}
 use Rattle.its_plain.specs.Arguments.{debts}
-use Rattle.its_stepped.specs.State.{State, plain, held_at, turn, same, reserving, holding, waiting, ending}
+use Rattle.its_stepped.specs.State.{State, plain, seen, held_at, turn, same, reserving, holding, waiting, ending}
+use Rattle.its_plain.specs.Machine.{Whole, Machine}
 use Rattle.its_stepped.specs.Unwind.{first_debt, less, paid, due, with_part, settled, given_back, unwind_by, unwind_one, left, unwind_times, unwound}
 use Rattle.its_stepped.specs.OneChange.{OneChange}
 use Rattle.its_stepped.specs.Sound.{Pays, SoundBy, Sound}
@@ -55,7 +56,7 @@ by_job c sup None f r h = cc (h.0)
 by_frame : (c : Core) (sup : Option ℕ) (o : Option Job) (f : Option Frame) (g : Frame) (r : Option ℕ) → f ≡ Some g → SoundBy (raw_of c sup o) f r → (is_some o ≡ true) × Pays g c r
 by_frame c sup o f g r e h = by_job c sup o g r (subst (λ x. SoundBy (raw_of c sup o) x r) e h)
 
-stands_at : (w : World) (s : ℕ) (f : Frame) → Sound (state_of w) → frame_at w.frames.items s ≡ Some f → (is_some (job_at w.jobs s) ≡ true) × Pays f (core_at w.core s) (clear_at w.core s)
+pub stands_at : (w : World) (s : ℕ) (f : Frame) → Sound (state_of w) → frame_at w.frames.items s ≡ Some f → (is_some (job_at w.jobs s) ≡ true) × Pays f (core_at w.core s) (clear_at w.core s)
 unfolding state_of
 stands_at w s f sound e = by_frame (core_at w.core s) (superior_at w.jobs s) (job_at w.jobs s) (frame_at w.frames.items s) f (clear_at w.core s) e (sound.each s).by
 
@@ -119,7 +120,7 @@ pub asked_row : (old mid : World) (s : ℕ) (f : askeds.Asked) (o : Option Frame
 asked_row old mid s f o e i b sound = taken_state old mid s (Asked f) o e i b sound ∙ sym (row_of old mid s (Asked f) o e i b sound)
 
 -- the loop of unwinding
-some_of : (o : Option Frame) → is_some o ≡ true → (f : Frame) × (o ≡ Some f)
+pub some_of : (o : Option Frame) → is_some o ≡ true → (f : Frame) × (o ≡ Some f)
 some_of (Some f) h = (f, refl)
 some_of None h = cc
 
@@ -183,3 +184,23 @@ all_others old new s e k n = subst (λ w. SlotSame (state_of old) w k) (sym e) (
 
 pub all_few : (old : World) (s : ℕ) → Sound (state_of old) → left (state_of old) s ≤ 4
 all_few old s sound = few_left (state_of old) s sound
+
+-- a job in user mode is seen as it stands
+user_seen : (v : State) (s : ℕ) (f : Option Frame) → v.frames s ≡ f → f ≡ None → (plain v).jobs s ≡ v.raw.jobs s
+unfolding plain seen
+user_seen v s f e n = ap (λ (g : Option Frame). option_map (seen g) (v.raw.jobs s)) (e ∙ n) ∙ go (v.raw.jobs s)
+  where
+    go : (o : Option Whole) → option_map (λ (q : Whole). q) o ≡ o
+    go (Some q) = refl
+    go None = refl
+
+seen_jobs_at : (v : State) (s : ℕ) → (plain v).jobs s ≡ option_map (seen (v.frames s)) (v.raw.jobs s)
+unfolding plain
+seen_jobs_at v s = refl
+
+pub all_left : (old new : World) (s : ℕ) → Sound (state_of old) → state_of new ≡ unwound (state_of old) s
+    → (state_of new).raw.jobs s ≡ option_map (seen ((state_of old).frames s)) ((state_of old).raw.jobs s)
+all_left old new s sound e =
+    sym (user_seen (state_of new) s ((state_of new).frames s) refl (all_none old new s sound e))
+    ∙ ap (λ (m : Machine). m.jobs s) (ap plain e ∙ unwound_plain (state_of old) s sound)
+    ∙ seen_jobs_at (state_of old) s

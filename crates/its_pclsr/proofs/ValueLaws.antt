@@ -1,7 +1,7 @@
 -- The last inputs of a call get new values, one after the other.
 use Rattle.std.specs.Prelude.{◌≡◌, ◌<◌, ◌≤◌, ℕ, zero, suc, ◌+◌, ◌-◌, List, [], ◌∷◌, ◌++◌, length, take, drop, slice_set, slice_index_or, refl}
 use Rattle.std.proofs.Common.{sym, ap, ◌∙◌, subst, arith}
-use Rattle.std.proofs.lemmas.List.{length-take, length-drop, length-append, take_all}
+use Rattle.std.proofs.lemmas.List.{length-take, length-drop, length-append, take_all, take-append-drop, get_or-append_right, set-append_right}
 use Rattle.its_word.specs.declared.calls.Ask.{Ask}
 use Rattle.its_word.specs.declared.calls.Operand.{Operand}
 use Rattle.its_plain.specs.Arguments.{valued, revalued}
@@ -34,16 +34,6 @@ valued_past (p ∷ os) vs zero h = absurd (omega arith)
 valued_past (p ∷ os) [] (suc k) h = refl
 valued_past (p ∷ os) (w ∷ vs) (suc k) h = ap (λ xs. record p { value = w } ∷ xs) (valued_past os vs k (omega arith))
 
-set_after : (first ys : List Operand) (k m : ℕ) (x : Operand) → m ≡ length first + k → slice_set (first ++ ys) m x ≡ first ++ slice_set ys k x
-set_after [] ys k m x e = let f : m ≡ k = omega arith in ap (λ i. slice_set ys i x) f
-set_after (a ∷ first) ys k zero x e = absurd (omega arith)
-set_after (a ∷ first) ys k (suc m) x e = ap (λ zs. a ∷ zs) (set_after first ys k m x (omega arith))
-
-read_after : (first ys : List Operand) (k m : ℕ) (d : Operand) → m ≡ length first + k → slice_index_or (first ++ ys) m d ≡ slice_index_or ys k d
-read_after [] ys k m d e = let f : m ≡ k = omega arith in ap (λ i. slice_index_or ys i d) f
-read_after (a ∷ first) ys k zero d e = absurd (omega arith)
-read_after (a ∷ first) ys k (suc m) d e = read_after first ys k m d (omega arith)
-
 module _ (was : Ask) (vs : List ℕ) (kept : ℕ) (k : ℕ) (within : kept ≤ length was.inputs.items) where
   abbrev first : List Operand
   first = take kept was.inputs.items
@@ -67,10 +57,12 @@ module _ (was : Ask) (vs : List ℕ) (kept : ℕ) (k : ℕ) (within : kept ≤ l
       → with_value (with_values was kept (take k vs)) (kept + k) v ≡ with_values was kept (take (k + 1) vs)
   value_set v lv lo e =
       let l = all_long in
-      let at : kept + k ≡ length first + k = ap (λ n. n + k) (sym kept_long) in
+      let back : kept + k - kept ≡ k = omega arith in
       ap (λ xs. record was { inputs = record { items = xs } })
-      (ap (λ d. slice_set (first ++ valued os (take k vs)) (kept + k) (record d { value = v })) (read_after first (valued os (take k vs)) k (kept + k) no_operand at)
-      ∙ set_after first (valued os (take k vs)) k (kept + k) _ at
+      (ap (λ d. slice_set (first ++ valued os (take k vs)) (kept + k) (record d { value = v }))
+      (get_or-append_right first (valued os (take k vs)) kept (kept + k) no_operand kept_long (omega arith) ∙ ap (λ i. slice_index_or (valued os (take k vs)) i no_operand) back)
+      ∙ set-append_right first (valued os (take k vs)) kept (kept + k) _ kept_long (omega arith)
+      ∙ ap (λ i. first ++ slice_set (valued os (take k vs)) i (record (slice_index_or (valued os (take k vs)) k no_operand) { value = v })) back
       ∙ ap (λ ys. first ++ ys) (valued_step os vs k v (omega arith) lv e ∙ ap (λ n. valued os (take n vs)) next))
 
   pub value_past : length (with_values was kept (take k vs)).inputs.items ≤ kept + k → with_values was kept (take k vs) ≡ with_values was kept (take (k + 1) vs)
@@ -81,12 +73,7 @@ module _ (was : Ask) (vs : List ℕ) (kept : ℕ) (k : ℕ) (within : kept ≤ l
 pub values_none : (was : Ask) (vs : List ℕ) (kept : ℕ) → kept ≤ length was.inputs.items → was ≡ with_values was kept (take 0 vs)
 values_none was vs kept h =
     ap (λ xs. record was { inputs = record { items = xs } })
-    (sym (take_drop kept was.inputs.items) ∙ ap (λ ys. take kept was.inputs.items ++ ys) (sym (valued_none (drop kept was.inputs.items))))
-  where
-    take_drop : (n : ℕ) (xs : List Operand) → take n xs ++ drop n xs ≡ xs
-    take_drop zero xs = refl
-    take_drop (suc n) [] = refl
-    take_drop (suc n) (x ∷ xs) = ap (λ ys. x ∷ ys) (take_drop n xs)
+    (sym (take-append-drop kept was.inputs.items) ∙ ap (λ ys. take kept was.inputs.items ++ ys) (sym (valued_none (drop kept was.inputs.items))))
 
 pub values_all : (was : Ask) (vs : List ℕ) (kept n : ℕ) → kept ≡ length was.inputs.items - length vs → n ≡ length vs → with_values was kept (take n vs) ≡ revalued was vs
 unfolding revalued

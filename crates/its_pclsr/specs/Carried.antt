@@ -8,6 +8,8 @@ use Rattle.its_frame.specs.declared.frame.Holding.{Holding}
 use Rattle.its_plain.specs.Arguments.{debts, valued}
 use Rattle.its_word.specs.declared.calls.Ask.{Ask}
 use Rattle.its_word.specs.declared.calls.Operand.{Operand}
+use Rattle.its_word.specs.declared.calls.Pace.{Pace}
+use Rattle.its_word.specs.declared.calls.Pace.TheVariants.{Step, Wait}
 use Rattle.its_plain.specs.Change.{superiors}
 use Rattle.its_word.specs.Tree.{is_below}
 use Rattle.its_stepped.specs.Sound.{Sound}
@@ -52,3 +54,10 @@ with_value a k v = record a { inputs = record { items = slice_set a.inputs.items
 
 abbrev pub with_values : Ask → ℕ → List ℕ → Ask
 with_values a kept vs = record a { inputs = record { items = take kept a.inputs.items ++ valued (drop kept a.inputs.items) vs } }
+
+-- the letter of a trial that comes to a decision
+abbrev pub pace_of : Decision → Pace
+pace_of (Waits r) = Wait
+pace_of (Goes cs h vs) = Step
+pace_of (Ends cs ss e) = Step
+pace_of (Gone cs) = Step

@@ -3,6 +3,7 @@ ghost use Rattle.its_word.specs.Limits.{slots};
 ghost use Rattle.its_plain.specs.Change.{with_inf};
 ghost use Rattle.its_plain.specs.Own.{with_registers, with_variable};
 ghost use Rattle.its_stepped.specs.Commit.{effect_on, effects_on};
+ghost use Rattle.its_pclsr.specs.Apart.{Blank};
 ghost use Rattle.its_pclsr.specs.Built.{IsBuilt, AllBuilt};
 ghost use Rattle.its_world.specs.World.{state_of, in_raw};
 
@@ -14,7 +15,9 @@ use its_world::World;
 pub fn apply(w: &mut World, slot: u8, changes: &[Change])
     requires slot { slot < slots }
     requires built { AllBuilt changes.now }
-    ensures { state_of w.new ≡ effects_on changes.now slot (state_of w.old) }
+    requires blank { Blank w.old }
+    ensures row { state_of w.new ≡ effects_on changes.now slot (state_of w.old) }
+    ensures blank { Blank w.new }
 {
     for change in changes {
         apply_one(w, slot, change);
@@ -26,7 +29,9 @@ pub fn apply(w: &mut World, slot: u8, changes: &[Change])
 fn apply_one(w: &mut World, slot: u8, change: &Change)
     requires slot { slot < slots }
     requires built { IsBuilt change.now }
-    ensures { state_of w.new ≡ effect_on change.now slot (state_of w.old) }
+    requires blank { Blank w.old }
+    ensures row { state_of w.new ≡ effect_on change.now slot (state_of w.old) }
+    ensures blank { Blank w.new }
 {
     match change {
         Change::Inform { slot: s } => inform(w, *s),
@@ -40,24 +45,26 @@ fn apply_one(w: &mut World, slot: u8, change: &Change)
 }
 
 /// Sets INF in a slot's job, where it has one.
-#[tactic(auto, using(crate::proofs::ChangeLaws::inf_set, crate::proofs::ChangeLaws::inf_missing))]
+#[tactic(auto, using(crate::proofs::ChangeLaws::inf_set, crate::proofs::ChangeLaws::inf_missing, crate::proofs::ApartLaws::blank_put))]
 fn inform(w: &mut World, slot: u8)
-    requires slot { slot < slots }
-    ensures { state_of w.new ≡ in_raw (state_of w.old) slot with_inf }
+    requires blank { Blank w.old }
+    ensures row { state_of w.new ≡ in_raw (state_of w.old) slot with_inf }
+    ensures blank { Blank w.new }
 {
-    if let Some(mut job) = w.registers(slot) {
+    if let Some(mut job) = w.jobs.job(slot).copied() {
         job.pend1 = job.pend1 | Word::new(INF);
         w.put_registers(slot, job);
     }
 }
 
 /// Sets a variable of a slot's job, where it has one.
-#[tactic(auto, using(crate::proofs::ChangeLaws::variable_set, crate::proofs::ChangeLaws::variable_missing))]
+#[tactic(auto, using(crate::proofs::ChangeLaws::variable_set, crate::proofs::ChangeLaws::variable_missing, crate::proofs::ApartLaws::blank_put))]
 fn set(w: &mut World, slot: u8, variable: Variable, value: Word)
-    requires slot { slot < slots }
-    ensures { state_of w.new ≡ in_raw (state_of w.old) slot (with_registers (with_variable variable value)) }
+    requires blank { Blank w.old }
+    ensures row { state_of w.new ≡ in_raw (state_of w.old) slot (with_registers (with_variable variable value)) }
+    ensures blank { Blank w.new }
 {
-    if let Some(job) = w.registers(slot) {
+    if let Some(job) = w.jobs.job(slot).copied() {
         w.put_registers(slot, with_variable(job, variable, value));
     }
 }

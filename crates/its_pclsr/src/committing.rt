@@ -7,6 +7,7 @@ ghost use Rattle.its_plain.specs.Arguments.{debts, revalued};
 ghost use Rattle.its_plain.specs.Decide.{call_named};
 ghost use Rattle.its_stepped.specs.Commit.{committed, gone_on, owed_store, sleeps};
 ghost use Rattle.its_stepped.specs.State.{ending, waiting};
+ghost use Rattle.its_pclsr.specs.Apart.{Blank};
 ghost use Rattle.its_pclsr.specs.Built.{backed};
 ghost use Rattle.its_pclsr.specs.Carried.{standing_of, with_value, Ready, Endable};
 ghost use Rattle.its_world.specs.World.{state_of, frame_at, FrameBecomes};
@@ -25,7 +26,9 @@ pub fn carry_out(w: &mut World, slot: u8, decision: Decision)
     requires job { is_some (job_at w.old.jobs slot) ≡ true }
     requires stands { is_some (standing_of (frame_at w.old.frames.items slot)) ≡ true }
     requires ready { IfSome (standing_of (frame_at w.old.frames.items slot)) (λ f. Ready (state_of w.old) slot f decision) }
-    ensures { IfSome (standing_of (frame_at w.old.frames.items slot)) (λ f. state_of w.new ≡ committed (state_of w.old) slot f.site f.ask f.owes decision) }
+    requires blank { Blank w.old }
+    ensures row { IfSome (standing_of (frame_at w.old.frames.items slot)) (λ f. state_of w.new ≡ committed (state_of w.old) slot f.site f.ask f.owes decision) }
+    ensures blank { Blank w.new }
 {
     match decision {
         Decision::Waits(_) => wait(w, slot),
@@ -53,11 +56,14 @@ pub fn carry_out(w: &mut World, slot: u8, decision: Decision)
 }
 
 /// Takes the call of a slot out of its frame.
+#[tactic(auto, using(crate::proofs::ApartLaws::blank_kept))]
 fn take_call(w: &mut World, slot: u8) -> Holding
     requires slot { slot < slots }
     requires stands { is_some (standing_of (frame_at w.old.frames.items slot)) ≡ true }
+    requires blank { Blank w.old }
     ensures call { standing_of (frame_at w.old.frames.items slot) ≡ Some result }
     ensures taken { FrameBecomes w.old w.new slot None }
+    ensures blank { Blank w.new }
 {
     match w.take_frame(slot) {
         Some(Frame::Holding(f)) => f,
@@ -72,10 +78,13 @@ fn take_call(w: &mut World, slot: u8) -> Holding
 }
 
 /// The call waits.
+#[tactic(auto, using(crate::proofs::ApartLaws::blank_kept))]
 fn wait(w: &mut World, slot: u8)
     requires slot { slot < slots }
     requires stands { is_some (standing_of (frame_at w.old.frames.items slot)) ≡ true }
-    ensures { IfSome (standing_of (frame_at w.old.frames.items slot)) (λ f. FrameBecomes w.old w.new slot (Some (waiting f.site f.ask f.owes))) }
+    requires blank { Blank w.old }
+    ensures row { IfSome (standing_of (frame_at w.old.frames.items slot)) (λ f. FrameBecomes w.old w.new slot (Some (waiting f.site f.ask f.owes))) }
+    ensures blank { Blank w.new }
 {
     let f = take_call(w, slot);
     w.put_frame(
@@ -89,11 +98,14 @@ fn wait(w: &mut World, slot: u8)
 }
 
 /// A part of the call is done: its last arguments have new values, which it owes.
+#[tactic(auto, using(crate::proofs::ApartLaws::blank_kept))]
 fn go_on(w: &mut World, slot: u8, held: Option<Held>, values: &[Word])
     requires slot { slot < slots }
     requires stands { is_some (standing_of (frame_at w.old.frames.items slot)) ≡ true }
     requires few { length values.now ≤ 2 }
-    ensures { IfSome (standing_of (frame_at w.old.frames.items slot)) (λ f. FrameBecomes w.old w.new slot (Some (gone_on f.site (revalued f.ask values.now) (length values.now) held))) }
+    requires blank { Blank w.old }
+    ensures row { IfSome (standing_of (frame_at w.old.frames.items slot)) (λ f. FrameBecomes w.old w.new slot (Some (gone_on f.site (revalued f.ask values.now) (length values.now) held))) }
+    ensures blank { Blank w.new }
 {
     let mut f = take_call(w, slot);
     revalue(&mut f.ask, values);
@@ -157,11 +169,14 @@ fn set_value(ask: &mut Ask, k: usize, value: Word)
 }
 
 /// The call ends: its reserved page, its arguments, its stores and its registers are owed.
+#[tactic(auto, using(crate::proofs::ApartLaws::blank_kept))]
 fn end(w: &mut World, slot: u8, stores: &[Store], exit: Exit)
     requires slot { slot < slots }
     requires stands { is_some (standing_of (frame_at w.old.frames.items slot)) ≡ true }
     requires room { IfSome (standing_of (frame_at w.old.frames.items slot)) (λ f. Endable (state_of w.old) slot f (length stores.now)) }
-    ensures { IfSome (standing_of (frame_at w.old.frames.items slot)) (λ f. FrameBecomes w.old w.new slot (Some (ending f.site f.ask (backed (is_some f.page) ++ (map owed_store (debts f.ask f.owes ++ stores.now) ++ Leave exit ∷ []))))) }
+    requires blank { Blank w.old }
+    ensures row { IfSome (standing_of (frame_at w.old.frames.items slot)) (λ f. FrameBecomes w.old w.new slot (Some (ending f.site f.ask (backed (is_some f.page) ++ (map owed_store (debts f.ask f.owes ++ stores.now) ++ Leave exit ∷ []))))) }
+    ensures blank { Blank w.new }
 {
     let f = take_call(w, slot);
     let owed = owed_steps(f.page.is_some(), &f.ask, f.owes, stores, exit);

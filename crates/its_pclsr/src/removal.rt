@@ -11,6 +11,7 @@ ghost use Rattle.its_stepped.specs.Commit.{effect_on};
 ghost use Rattle.its_stepped.specs.Sound.{Sound};
 ghost use Rattle.its_stepped.specs.State.{plain};
 ghost use Rattle.its_stepped.specs.Unwind.{all_unwound};
+ghost use Rattle.its_pclsr.specs.Apart.{Blank};
 ghost use Rattle.its_pclsr.specs.Removal.{channel_left, JobLeft, Sweeps, Swept};
 ghost use Rattle.its_world.specs.World.{state_of, frame_at};
 
@@ -26,9 +27,11 @@ use its_world::World;
 pub fn unwind_below(w: &mut World, slot: u8)
     requires slot { slot < slots }
     requires sound { Sound (state_of w.old) }
+    requires blank { Blank w.old }
     ensures unwinds { state_of w.new ≡ all_unwound (slots_below (superiors (state_of w.old).raw) slot) (state_of w.old) }
     ensures same { plain (state_of w.new) ≡ plain (state_of w.old) }
     ensures sound { Sound (state_of w.new) }
+    ensures blank { Blank w.new }
 {
     let mut k = 0;
     while let Some(inferior) = w.jobs.below(slot, k) {
@@ -46,9 +49,11 @@ pub fn remove_tree(w: &mut World, slot: u8)
     requires sound { Sound (state_of w.old) }
     requires unwound { (k : ℕ) → is_below (superiors (state_of w.old).raw) slot k ≡ true → (state_of w.old).frames k ≡ None }
     requires page { (state_of w.old).reserved slot ≡ None }
+    requires blank { Blank w.old }
     ensures removed { (j : ℕ) → state_of w.new ≡ effect_on (Remove slot) j (state_of w.old) }
     ensures pages { (k : ℕ) → is_gone (superiors (state_of w.old).raw) slot k ≡ true → (state_of w.new).reserved k ≡ None }
     ensures cores { (k : ℕ) → is_gone (superiors (state_of w.old).raw) slot k ≡ true → core_at w.new.core k ≡ no_core }
+    ensures blank { Blank w.new }
 {
     w.jobs.tree();
     sweep(w, slot);

@@ -1,4 +1,4 @@
-ghost use Rattle.std.specs.Prelude.{◌≡◌, ◌≢◌, ◌<◌, ◌≤◌, ◌+◌, ◌∷◌, [], ℕ, true, false, Some, None, is_some, length, IfSome};
+ghost use Rattle.std.specs.Prelude.{◌≡◌, ◌≢◌, ◌<◌, ◌≤◌, ◌+◌, ◌∷◌, [], ℕ, true, false, Some, None, is_some, length, IfSome, option_map};
 ghost use Rattle.its_word.specs.Limits.{slots};
 ghost use Rattle.its_core.specs.Cores.{core_at, clear_at};
 ghost use Rattle.its_jobs.specs.Table.{job_at};
@@ -6,13 +6,13 @@ ghost use Rattle.its_plain.specs.Arguments.{input};
 ghost use Rattle.its_plain.specs.CallStep.{deposited, with_held};
 ghost use Rattle.its_plain.specs.Own.{left_with};
 ghost use Rattle.its_word.specs.Stores.{stored};
-ghost use Rattle.its_stepped.specs.State.{held_at, holding, plain, turn, waiting};
+ghost use Rattle.its_stepped.specs.State.{held_at, holding, plain, seen, turn, waiting};
 ghost use Rattle.its_stepped.specs.Unwind.{given_back, paid, settled, due, left, unwind_one as unwind_one_of, unwound};
 ghost use Rattle.its_stepped.specs.OneChange.{OneChange};
 ghost use Rattle.its_stepped.specs.SlotSame.{SlotSame};
 ghost use Rattle.its_stepped.specs.Sound.{HoldingPays, WaitingPays, MovingPays, EndingPays, Sound};
 ghost use Rattle.its_world.specs.World.{state_of, frame_at, CoreBecomes, JobBecomes};
-ghost use Rattle.its_pclsr.specs.Apart.{CoresOff};
+ghost use Rattle.its_pclsr.specs.Apart.{Blank, CoresOff};
 
 use super::owed::{first_owed, make, pass_over};
 use its_bytes::deposit;
@@ -22,7 +22,7 @@ use its_world::World;
 
 /// One step of unwinding of a slot's job, which is inside a call: at most one word of core, one page's
 /// place, one part of a close or the registers change, and the plain machine does not.
-#[tactic(auto, using(crate::proofs::UnwindingLaws::one_fewer, crate::proofs::UnwindingLaws::one_changes, crate::proofs::UnwindingLaws::one_same, crate::proofs::UnwindingLaws::unwind_keeps))]
+#[tactic(auto, using(crate::proofs::UnwindingLaws::one_fewer, crate::proofs::UnwindingLaws::one_changes, crate::proofs::UnwindingLaws::one_same, crate::proofs::UnwindingLaws::unwind_keeps, crate::proofs::ApartLaws::blank_step))]
 pub fn unwind_one(w: &mut World, slot: u8)
     requires slot { slot < slots }
     requires frame { is_some (frame_at w.old.frames.items slot) ≡ true }
@@ -32,6 +32,7 @@ pub fn unwind_one(w: &mut World, slot: u8)
     ensures change { OneChange (state_of w.old) (state_of w.new) slot }
     ensures same { plain (state_of w.new) ≡ plain (state_of w.old) }
     ensures cores { CoresOff w.old w.new slot }
+    ensures blank { Blank w.old → Blank w.new }
     ensures sound { Sound (state_of w.new) }
 {
     step(w, slot);
@@ -134,7 +135,7 @@ fn store_held(w: &mut World, slot: u8, f: &Moving)
     let pointer = f.ask.inputs[1].value;
     match w.core.get(slot, f.place) {
         Ok(word) => {
-            let word = deposit(pointer, word, f.byte);
+            let word = deposit(pointer, word, f.byte.value());
             make(w, slot, Store { at: f.place, word });
         }
         Err(_) => unreachable!(),
@@ -199,17 +200,21 @@ fn left_with(job: Job, e: &Exit) -> Job
 }
 
 /// A slot's job unwound to user mode, in at most four steps. The plain machine and every other slot stay as
-/// they are.
-#[tactic(auto, using(crate::proofs::UnwindingLaws::all_same, crate::proofs::UnwindingLaws::all_keeps, crate::proofs::UnwindingLaws::all_none, crate::proofs::UnwindingLaws::all_others, crate::proofs::UnwindingLaws::all_few))]
+/// they are. The job is left with what its frame says (`seen`): before the call is tried as it was, with PC
+/// at the call (unstarted); then with the words of its last arguments stored, so that the call does the rest
+/// when it is made again; once the call has ended with all of it done (finished).
+#[tactic(auto, using(crate::proofs::UnwindingLaws::all_same, crate::proofs::UnwindingLaws::all_keeps, crate::proofs::UnwindingLaws::all_none, crate::proofs::UnwindingLaws::all_others, crate::proofs::UnwindingLaws::all_few, crate::proofs::UnwindingLaws::all_left))]
 pub fn unwind(w: &mut World, slot: u8)
     requires slot { slot < slots }
     requires sound { Sound (state_of w.old) }
     ensures unwinds { state_of w.new ≡ unwound (state_of w.old) slot }
     ensures few { left (state_of w.old) slot ≤ 4 }
     ensures none { (state_of w.new).frames slot ≡ None }
+    ensures left { (state_of w.new).raw.jobs slot ≡ option_map (seen ((state_of w.old).frames slot)) ((state_of w.old).raw.jobs slot) }
     ensures same { plain (state_of w.new) ≡ plain (state_of w.old) }
     ensures others { (k : ℕ) → k ≢ slot → SlotSame (state_of w.old) (state_of w.new) k }
     ensures cores { CoresOff w.old w.new slot }
+    ensures blank { Blank w.old → Blank w.new }
     ensures sound { Sound (state_of w.new) }
 {
     run(w, slot);
@@ -222,6 +227,7 @@ fn run(w: &mut World, slot: u8)
     requires sound { Sound (state_of w.old) }
     ensures row { state_of w.new ≡ unwound (state_of w.old) slot }
     ensures cores { CoresOff w.old w.new slot }
+    ensures blank { Blank w.old → Blank w.new }
 {
     while w.has_frame(slot) {
         step(w, slot);

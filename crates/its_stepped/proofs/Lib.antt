@@ -34,3 +34,4 @@ pub mod FitLaws
 pub mod WrittenLaws
 pub mod DecodingLaws
 pub mod CallLaws
+pub mod AddressLaws

@@ -12,3 +12,4 @@ pub mod Dots
 pub mod Lines
 pub mod Upkeep
 pub mod Calling
+pub mod Address

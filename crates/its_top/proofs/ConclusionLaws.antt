@@ -9,7 +9,7 @@ use Rattle.its_word.specs.declared.session.Reason.TheVariants as reasons
 use Rattle.its_print.specs.Printing.{Refused, text}
 use Rattle.its_session.specs.Events.{end_of, events_of, whole_events_of}
 use Rattle.its_plain.specs.Transcript.{Fate, Ended, Open, Lost, TooLong}
-use Rattle.its_plain.specs.Stepped.{stepped}
+use Rattle.its_stepped.specs.Lines.{stepped}
 use Rattle.its_top.specs.declared.status.Status.{Status}
 use Rattle.its_top.specs.declared.status.Status.TheVariants as statuses
 use Rattle.its_top.specs.declared.turn.Turn.{Turn}
@@ -19,14 +19,14 @@ use Rattle.its_top.specs.Conclusion.{IsDone, Finished, Concluded, WasRun, Sessio
 use Rattle.its_top.proofs.ByteLaws.{fed_then}
 
 -- the end of input outside any line
-pub no_line : (now : Now) → bytes_say true now [] [] ≡ items_say now.number now.machine now.block (end_of true now.place)
+pub no_line : (now : Now) → bytes_say true now [] [] ≡ items_say now.number now.state now.block (end_of true now.place)
 unfolding bytes_say lines_say
 no_line now = refl
 
 pub end_done : (now : Now) → now.place ≡ places.Plain → Finished statuses.Done (bytes_say true now [] []) []
 unfolding items_say text
 end_done now h =
-    let e : bytes_say true now [] [] ≡ saying [] Open = no_line now ∙ ap (λ p. items_say now.number now.machine now.block (end_of true p)) h in
+    let e : bytes_say true now [] [] ≡ saying [] Open = no_line now ∙ ap (λ p. items_say now.number now.state now.block (end_of true p)) h in
     subst (λ s. Finished statuses.Done s []) (sym e) (refl, tt)
 
 -- inside a block it is CUT
@@ -34,8 +34,8 @@ cut_item : (n : ℕ) (now : Now) (p : Place) → now.place ≡ p → end_of true
     → bytes_say true now [] [] ≡ saying (text (Refused n reasons.Cut ∷ [])) Lost
 unfolding items_say
 cut_item n now p h e k =
-    no_line now ∙ ap (λ q. items_say now.number now.machine now.block (end_of true q)) h
-    ∙ ap (items_say now.number now.machine now.block) e ∙ ap (λ j. saying (text (Refused j reasons.Cut ∷ [])) Lost) (sym k)
+    no_line now ∙ ap (λ q. items_say now.number now.state now.block (end_of true q)) h
+    ∙ ap (items_say now.number now.state now.block) e ∙ ap (λ j. saying (text (Refused j reasons.Cut ∷ [])) Lost) (sym k)
 
 pub end_cut_load : (now : Now) → now.place ≡ places.Load → Finished statuses.Refused (bytes_say true now [] []) (text (Refused now.number reasons.Cut ∷ []))
 end_cut_load now h =

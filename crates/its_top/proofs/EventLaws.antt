@@ -9,9 +9,12 @@ use Rattle.its_word.specs.declared.session.Reason.{Reason}
 use Rattle.its_print.specs.Printing.{Line, Refused, text_of_line, text}
 use Rattle.its_print.specs.Printing as printed
 use Rattle.its_plain.specs.Machine.{Machine}
-use Rattle.its_plain.specs.Operator.{Block, Operated, Does, Refuses, Ticks, Ends, operate}
+use Rattle.its_plain.specs.Operator.{Block, Does, Refuses, Ticks, Ends}
+use Rattle.its_plain.specs.Operator as operator
+use Rattle.its_plain.specs.CallOperator.{Lined, Done, Peeks, operate, lined}
 use Rattle.its_plain.specs.Transcript.{Fate, Lost}
-use Rattle.its_plain.specs.Stepped.{Told, telling, paces_of, ticked, told_by, told}
+use Rattle.its_stepped.specs.State.{State}
+use Rattle.its_stepped.specs.Lines.{Told, telling, calmed, with_raw, peeked, paces_of, ticked, told_by, told}
 use Rattle.its_top.specs.declared.turn.Turn.TheVariants as turns
 use Rattle.its_top.specs.Telling.{Says, said, after, saying, Begins, items_say, goes_on_after, Answers}
 
@@ -29,43 +32,68 @@ after_after v w s = let e : v ++ (w ++ s.text) ≡ (v ++ w) ++ s.text = sym (app
 pub said_telling : (out : List Line) (t : Told) → said (telling out t) ≡ after (text out) (said t)
 said_telling out t = ap (λ x. saying x t.fate) (text_append out t.lines)
 
-pub says_event : (n : ℕ) (m : Machine) (b : Block) (e : Event) (items : List Item)
-    → items_say n m b (Read e ∷ items) ≡ said (told_by n m b (operate m b e) (λ m' b'. told (n + 1) m' b' items))
+pub says_event : (n : ℕ) (v : State) (b : Block) (e : Event) (items : List Item)
+    → items_say n v b (Read e ∷ items) ≡ said (told_by n v (calmed v b e) b (lined (calmed v b e).raw b e) (λ v' b'. told (n + 1) v' b' items))
 unfolding items_say
-says_event n m b e items = refl
+says_event n v b e items = refl
 
-says_by : (n : ℕ) (m : Machine) (b : Block) (e : Event) (o : Operated) (items : List Item) → operate m b e ≡ o
-    → items_say n m b (Read e ∷ items) ≡ said (told_by n m b o (λ m' b'. told (n + 1) m' b' items))
-says_by n m b e o items h = says_event n m b e items ∙ ap (λ x. said (told_by n m b x (λ m' b'. told (n + 1) m' b' items))) h
+-- an event that finds state c, and there comes to o
+pub record Comes (v : State) (b : Block) (e : Event) (c : State) (o : Lined) : Type 0 where
+  pub calm : calmed v b e ≡ c
+  pub is : lined c.raw b e ≡ o
+
+pub says_by : (n : ℕ) (v c : State) (b : Block) (e : Event) (o : Lined) (items : List Item) → Comes v b e c o
+    → items_say n v b (Read e ∷ items) ≡ said (told_by n v c b o (λ v' b'. told (n + 1) v' b' items))
+says_by n v c b e o items h =
+    says_event n v b e items
+    ∙ ap (λ x. said (told_by n v x b (lined x.raw b e) (λ v' b'. told (n + 1) v' b' items))) h.calm
+    ∙ ap (λ x. said (told_by n v c b x (λ v' b'. told (n + 1) v' b' items))) h.is
 
 -- only END ends
-end_goes : (m : Machine) (b : Block) → operate m b events.End ≡ Ends
-unfolding operate
+end_goes : (m : Machine) (b : Block) → lined m b events.End ≡ Done Ends
+unfolding lined operate operator.operate
 end_goes m b = refl
 
-goes_unless : (m : Machine) (b : Block) (e : Event) → operate m b e ≢ Ends → goes_on_after e ≡ true
+pub end_comes : (v : State) (b : Block) → Comes v b events.End v (Done Ends)
+unfolding calmed
+end_comes v b = record { calm = refl; is = end_goes v.raw b }
+
+goes_unless : (m : Machine) (b : Block) (e : Event) → lined m b e ≢ Done Ends → goes_on_after e ≡ true
 goes_unless m b events.End h = absurd (h (end_goes m b))
 goes_unless m b _ h = refl
 
-pub does_on : (n : ℕ) (m m' : Machine) (b b' : Block) (e : Event) (out : List Line) (touched : ℕ → Bool) → operate m b e ≡ Does m' out touched b'
-    → Answers turns.On n m b e m' b' (text out)
+pub does_on : (n : ℕ) (v c v' : State) (m : Machine) (b b' : Block) (e : Event) (out : List Line) (touched : ℕ → Bool) → Comes v b e c (Done (Does m out touched b'))
+    → v' ≡ with_raw c m → Answers turns.On n v b e v' b' (text out)
 unfolding items_say
-does_on n m m' b b' e out touched h =
-    (goes_unless m b e (λ x. cc), λ items. says_by n m b e (Does m' out touched b') items h ∙ said_telling out (told (n + 1) m' b' items))
+does_on n v c v' m b b' e out touched h k = (
+  goes_unless c.raw b e (λ x. let l : Done (Does m out touched b') ≡ Done Ends = sym h.is ∙ x in cc),
+  λ items. says_by n v c b e (Done (Does m out touched b')) items h ∙ said_telling out (told (n + 1) (with_raw c m) b' items)
+      ∙ ap (λ x. after (text out) (said (told (n + 1) x b' items))) (sym k),
+)
 
-pub ticks_on : (n : ℕ) (m : Machine) (b : Block) (e : Event) (s k : ℕ) → operate m b e ≡ Ticks s k
-    → Answers turns.On n m b e (ticked m s k) b (text (printed.Ticks s (paces_of m s k) ∷ []))
+pub ticks_on : (n : ℕ) (v c : State) (b : Block) (e : Event) (s k : ℕ) → Comes v b e c (Done (Ticks s k))
+    → Answers turns.On n v b e (ticked v s k) b (text (printed.Ticks s (paces_of v s k) ∷ []))
 unfolding items_say
-ticks_on n m b e s k h =
-    (goes_unless m b e (λ x. cc), λ items. says_by n m b e (Ticks s k) items h ∙ said_telling (printed.Ticks s (paces_of m s k) ∷ []) (told (n + 1) (ticked m s k) b items))
+ticks_on n v c b e s k h = (
+  goes_unless c.raw b e (λ x. let l : Done (Ticks s k) ≡ Done Ends = sym h.is ∙ x in cc),
+  λ items. says_by n v c b e (Done (Ticks s k)) items h ∙ said_telling (printed.Ticks s (paces_of v s k) ∷ []) (told (n + 1) (ticked v s k) b items),
+)
 
-pub refuses : (n : ℕ) (m m' : Machine) (b b' : Block) (e : Event) (r : Reason) → operate m b e ≡ Refuses r
-    → Answers turns.Refused n m b e m' b' (text (Refused n r ∷ []))
-refuses n m m' b b' e r h items = says_by n m b e (Refuses r) items h
+pub peeks_on : (n : ℕ) (v c : State) (b : Block) (e : Event) (s : ℕ) → Comes v b e c (Peeks s)
+    → Answers turns.On n v b e v b (text (printed.Peeked s (peeked v s) ∷ []))
+unfolding items_say
+peeks_on n v c b e s h = (
+  goes_unless c.raw b e (λ x. let l : Peeks s ≡ Done Ends = sym h.is ∙ x in cc),
+  λ items. says_by n v c b e (Peeks s) items h ∙ said_telling (printed.Peeked s (peeked v s) ∷ []) (told (n + 1) v b items),
+)
 
-pub ends : (n : ℕ) (m m' : Machine) (b b' : Block) → Answers turns.Ended n m b events.End m' b' []
+pub refuses : (n : ℕ) (v c v' : State) (b b' : Block) (e : Event) (r : Reason) → Comes v b e c (Done (Refuses r))
+    → Answers turns.Refused n v b e v' b' (text (Refused n r ∷ []))
+refuses n v c v' b b' e r h items = says_by n v c b e (Done (Refuses r)) items h
+
+pub ends : (n : ℕ) (v v' : State) (b b' : Block) → Answers turns.Ended n v b events.End v' b' []
 unfolding text
-ends n m m' b b' items = says_by n m b events.End Ends items (end_goes m b)
+ends n v v' b b' items = says_by n v v b events.End (Done Ends) items (end_comes v b)
 
 -- a write that failed
 begins_after : (v w more : List ℕ) (s t : Says) → s ≡ after v t → v ≡ w ++ more → Begins s w
@@ -74,10 +102,10 @@ begins_after v w more s t h e = record { more = more ++ t.text; whole = ap (λ x
 begins_saying : (v w more : List ℕ) (s : Says) (f : Fate) → s ≡ saying v f → v ≡ w ++ more → Begins s w
 begins_saying v w more s f h e = record { more = more; whole = ap (λ x. x.text) h ∙ e }
 
-pub fault_on : (n : ℕ) (m m' : Machine) (b b' : Block) (e : Event) (v w more : List ℕ) → Answers turns.On n m b e m' b' v → v ≡ w ++ more
-    → Answers turns.Fault n m b e m' b' w
-fault_on n m m' b b' e v w more a h items = begins_after v w more _ _ (a.1 items) h
+pub fault_on : (n : ℕ) (v v' : State) (b b' : Block) (e : Event) (t w more : List ℕ) → Answers turns.On n v b e v' b' t → t ≡ w ++ more
+    → Answers turns.Fault n v b e v' b' w
+fault_on n v v' b b' e t w more a h items = begins_after t w more _ _ (a.1 items) h
 
-pub fault_refused : (n : ℕ) (m m' : Machine) (b b' : Block) (e : Event) (v w more : List ℕ) → Answers turns.Refused n m b e m' b' v → v ≡ w ++ more
-    → Answers turns.Fault n m b e m' b' w
-fault_refused n m m' b b' e v w more a h items = begins_saying v w more _ Lost (a items) h
+pub fault_refused : (n : ℕ) (v v' : State) (b b' : Block) (e : Event) (t w more : List ℕ) → Answers turns.Refused n v b e v' b' t → t ≡ w ++ more
+    → Answers turns.Fault n v b e v' b' w
+fault_refused n v v' b b' e t w more a h items = begins_saying t w more _ Lost (a items) h

@@ -5,7 +5,11 @@ use Rattle.its_word.specs.Core.{Core, word_at}
 use Rattle.its_word.specs.declared.session.Reason.{Reason}
 use Rattle.its_plain.specs.Machine.{Whole, Machine, joined, words_at}
 use Rattle.its_plain.specs.Operator.{on_job, seen, seen_word, word_seen, examined}
-use Rattle.its_top.specs.Answer.{behind, ExamSo}
+use Rattle.its_stepped.specs.State.{State}
+use Rattle.its_stepped.specs.Unwind.{unwound}
+use Rattle.its_stepped.specs.Sound.{Sound}
+use Rattle.its_top.specs.Answer.{behind, ExamSo, Calm}
+use Rattle.its_top.proofs.LoadingLaws.{twice}
 
 behind_none : (r : Result (List ℕ) Reason) → r ≡ behind [] r
 behind_none (Ok vs) = refl
@@ -100,3 +104,13 @@ pub exam_end : (m : Machine) (s a n k : ℕ) (ws : List ℕ) → k ≡ n → 1 �
 exam_end m s a n k ws h f so =
     let e : n - k ≡ 0 = omega arith in
     so.whole ∙ ap (λ x. behind ws (examined m s (a + k) x)) e ∙ ap (behind ws) (end_word m s (a + k) (so.there (omega arith))) ∙ ap Ok (append-nil ws)
+
+-- the first call brings the job to user mode, where the later ones find it
+pub calm_start : (v : State) (s : ℕ) → Calm (unwound v s) v s 0
+calm_start v s = record { found = refl; reached = λ h. absurd (omega arith) }
+
+pub calm_next : (v now then : State) (s k : ℕ) → Sound now → Calm v now s k → then ≡ unwound now s → Calm v then s (k + 1)
+calm_next v now then s k sound c e = record {
+  found = ap (λ x. unwound x s) e ∙ twice now s sound ∙ c.found;
+  reached = λ h. e ∙ c.found;
+}

@@ -7,7 +7,7 @@ use Rattle.its_word.specs.declared.session.Place.{Place}
 use Rattle.its_print.specs.Printing.{Refused, text_of_line, text}
 use Rattle.its_session.specs.Grammar.{line_event}
 use Rattle.its_session.specs.Events.{most_lines, place_after, reason_of}
-use Rattle.its_plain.specs.Machine.{Machine}
+use Rattle.its_stepped.specs.State.{State}
 use Rattle.its_plain.specs.Operator.{Block}
 use Rattle.its_top.specs.declared.turn.Turn.{Turn}
 use Rattle.its_top.specs.declared.turn.Turn.TheVariants as turns
@@ -16,16 +16,16 @@ use Rattle.its_top.specs.Answer.{WroteFor, Tells, Answered, Lined}
 use Rattle.its_top.proofs.EventLaws.{text_one}
 use Rattle.its_top.proofs.LineLaws.{passed, line_on, line_ended, line_refused, line_fault, line_unread, line_unread_fault}
 
-by_answer : (turn : Turn) (now : Now) (line : List ℕ) (e : Event) (m : Machine) (b : Block) (w : List ℕ) → now.number ≤ most_lines → line_event now.place line ≡ Ok e
-    → Answers turn now.number now.machine now.block e m b w → Lines turn now line (passed now e m b) w
+by_answer : (turn : Turn) (now : Now) (line : List ℕ) (e : Event) (m : State) (b : Block) (w : List ℕ) → now.number ≤ most_lines → line_event now.place line ≡ Ok e
+    → Answers turn now.number now.state now.block e m b w → Lines turn now line (passed now e m b) w
 by_answer turns.On now line e m b w h r a = line_on now line e m b w h r a
 by_answer turns.Ended now line e m b w h r a = line_ended now (passed now e m b) line e m b w h r a
 by_answer turns.Refused now line e m b w h r a = line_refused now (passed now e m b) line e m b w h r a
 by_answer turns.Fault now line e m b w h r a = line_fault now (passed now e m b) line e m b w h r a
 by_answer turns.Beyond now line e m b w h r a = absurd a
 
-pub lined_answer : (turn : Turn) (now next : Now) (line : List ℕ) (e : Event) (m : Machine) (b : Block) (old new : Option (List ℕ)) → now.number ≤ most_lines → line_event now.place line ≡ Ok e
-    → next ≡ passed now e m b → Answered turn now.number now.machine now.block e m b old new → Lined turn now line next old new
+pub lined_answer : (turn : Turn) (now next : Now) (line : List ℕ) (e : Event) (m : State) (b : Block) (old new : Option (List ℕ)) → now.number ≤ most_lines → line_event now.place line ≡ Ok e
+    → next ≡ passed now e m b → Answered turn now.number now.state now.block e m b old new → Lined turn now line next old new
 lined_answer turn now next line e m b old new h r p a = record {
   wrote = a.wrote;
   appended = a.appended;
@@ -49,10 +49,10 @@ lined_unread turn now next line bad old new h r t = record {
   lines = by_refusal turn now next line _ t.wrote bad h r (sym (text_one (Refused now.number (reason_of bad)))) t.complete;
 }
 
-abbrev pub now_made : ℕ → Machine → Block → Place → Now
-now_made n m b p = record { number = n; machine = m; block = b; place = p }
+abbrev pub now_made : ℕ → State → Block → Place → Now
+now_made n m b p = record { number = n; state = m; block = b; place = p }
 
-pub next_passed : (now : Now) (m : Machine) (b : Block) (n : ℕ) (p q : Place) (e : Event) → n ≡ now.number → p ≡ now.place → q ≡ place_after p e
+pub next_passed : (now : Now) (m : State) (b : Block) (n : ℕ) (p q : Place) (e : Event) → n ≡ now.number → p ≡ now.place → q ≡ place_after p e
     → now_made (n + 1) m b q ≡ passed now e m b
 next_passed now m b n p q e h k l =
     ap (λ x. now_made (x + 1) m b q) h

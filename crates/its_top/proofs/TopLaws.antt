@@ -5,8 +5,9 @@ use Rattle.std.specs.Io.KnownBytes.{Appends}
 use Rattle.its_print.specs.Printing.{text}
 use Rattle.its_session.specs.Events.{events_of}
 use Rattle.its_plain.specs.Transcript.{Fate, Lost, TooLong}
-use Rattle.its_plain.specs.Stepped.{stepped}
-use Rattle.its_plain.proofs.SteppedLaws.{stepped_transcript}
+use Rattle.its_stepped.specs.Lines.{stepped}
+use Rattle.its_stepped.proofs.DecodingLaws.{decoding}
+use Rattle.its_stepped.proofs.WrittenLaws.{written_transcript}
 use Rattle.its_top.specs.declared.status.Status.{Status}
 use Rattle.its_top.specs.declared.status.Status.TheVariants as statuses
 use Rattle.its_top.specs.Telling.{Says, at_start, bytes_say}
@@ -64,20 +65,25 @@ session_begins st (Some bytes) rest old new e s =
     let f = t.concluded in
     record { first = t.wrote; more = f.more; whole = sym (text_is bytes) ∙ f.whole; wrote = t.appended }
 
--- a session that is done or refused wrote a transcript
+-- a session that is done or refused wrote its lines, which are a transcript
+pub session_written : (st : Status) (left rest old new : Option (List ℕ)) → (st ≡ statuses.Done) ⊎ (st ≡ statuses.Refused) → Session st left rest old new
+    → IfSome left (λ bytes. Appends old new (text (stepped (events_of bytes)).lines))
+session_written st None rest old new e s = tt
+session_written st (Some bytes) rest old new (inl e) s = (session_done st (Some bytes) rest old new e s).wrote
+session_written st (Some bytes) rest old new (inr e) s = (session_refused st (Some bytes) rest old new e s).wrote
+
 transcribed : (bytes : List ℕ) (old new : Option (List ℕ)) → Appends old new (text (stepped (events_of bytes)).lines) → Transcribed bytes old new
 transcribed bytes old new a = record {
   lines = (stepped (events_of bytes)).lines;
   fate = (stepped (events_of bytes)).fate;
-  transcript = stepped_transcript (events_of bytes);
+  transcript = written_transcript decoding (events_of bytes);
   wrote = a;
 }
 
 pub session_transcribed : (st : Status) (left rest old new : Option (List ℕ)) → (st ≡ statuses.Done) ⊎ (st ≡ statuses.Refused) → Session st left rest old new
     → IfSome left (λ bytes. Transcribed bytes old new)
 session_transcribed st None rest old new e s = tt
-session_transcribed st (Some bytes) rest old new (inl e) s = transcribed bytes old new (session_done st (Some bytes) rest old new e s).wrote
-session_transcribed st (Some bytes) rest old new (inr e) s = transcribed bytes old new (session_refused st (Some bytes) rest old new e s).wrote
+session_transcribed st (Some bytes) rest old new e s = transcribed bytes old new (session_written st (Some bytes) rest old new e s)
 
 -- a session with nothing against it is done, unless an object failed
 no_fate : (f g : Fate) → IsDone f → f ≡ g → IsDone g

@@ -4,13 +4,16 @@ use Rattle.std.specs.Io.KnownBytes.{Appends}
 use Rattle.its_word.specs.declared.session.Event.{Event}
 use Rattle.its_word.specs.declared.calls.Pace.{Pace}
 use Rattle.its_plain.specs.Machine.{Machine}
-use Rattle.its_plain.specs.Stepped.{paces_of, ticked}
+use Rattle.its_stepped.specs.State.{State}
+use Rattle.its_stepped.specs.Unwind.{unwound}
+use Rattle.its_stepped.specs.Lines.{with_raw, paces_of, ticked}
 use Rattle.its_word.specs.declared.session.Reason.{Reason}
-use Rattle.its_plain.specs.Operator.{Block, examined}
+use Rattle.its_plain.specs.Operator.{Block, words_loaded, examined}
 use Rattle.its_monitor.specs.declared.monitor.Monitor.{Monitor}
 use Rattle.its_word.specs.declared.session.Refusal.{Refusal}
 use Rattle.its_print.specs.Printing.{Refused, text_of_line}
-use Rattle.its_monitor.specs.World.{machine_of, reason_of}
+use Rattle.its_world.specs.World.{state_of}
+use Rattle.its_operator.specs.Kept.{reason_of}
 use Rattle.its_top.specs.declared.turn.Turn.{Turn}
 use Rattle.its_top.specs.declared.turn.Turn.TheVariants as turns
 use Rattle.its_top.specs.declared.progress.Progress.{Progress}
@@ -22,7 +25,7 @@ block_of s = record { slot = s }
 
 -- the session between two lines
 abbrev pub now_of : Monitor → Progress → Now
-now_of m p = record { number = p.number; machine = machine_of m; block = block_of p.slot; place = p.place }
+now_of m p = record { number = p.number; state = state_of m.world; block = block_of p.slot; place = p.place }
 
 -- these bytes were to be written, after which the turn would have been `good`
 abbrev pub WroteFor : Turn → Turn → List ℕ → List ℕ → Type 0
@@ -34,10 +37,10 @@ pub record Tells (turn good : Turn) (bytes : List ℕ) (old new : Option (List �
   pub appended : Appends old new wrote
   pub complete : WroteFor turn good bytes wrote
 
-pub record Answered (turn : Turn) (n : ℕ) (m : Machine) (b : Block) (e : Event) (m' : Machine) (b' : Block) (old new : Option (List ℕ)) : Type 0 where
+pub record Answered (turn : Turn) (n : ℕ) (v : State) (b : Block) (e : Event) (v' : State) (b' : Block) (old new : Option (List ℕ)) : Type 0 where
   pub wrote : List ℕ
   pub appended : Appends old new wrote
-  pub answers : Answers turn n m b e m' b' wrote
+  pub answers : Answers turn n v b e v' b' wrote
 
 -- a call that answers nothing, and what was written of its refusal
 abbrev pub Settled : {T : Type 0} → Result T Refusal → Turn → ℕ → Option (List ℕ) → Option (List ℕ) → Type 0
@@ -60,7 +63,18 @@ pub record ExamSo (m : Machine) (s a n k : ℕ) (ws : List ℕ) : Type 0 where
   pub whole : examined m s a n ≡ behind ws (examined m s (a + k) (n - k))
   pub there : 0 < k → is_some (m.jobs s) ≡ true
 
+-- after k calls that find the job of slot s in user mode, the state is now `now`, where v is the state with the job unwound
+pub record Calm (v now : State) (s k : ℕ) : Type 0 where
+  pub found : unwound now s ≡ v
+  pub reached : 0 < k → now ≡ v
+
+-- k of these words were loaded from an address on, where v is the state with the job of slot s unwound
+pub record LoadSo (v now : State) (s a k : ℕ) (words rest : List ℕ) : Type 0 where
+  pub raw : unwound now s ≡ with_raw v (unwound now s).raw
+  pub reached : 0 < k → now ≡ unwound now s
+  pub whole : words_loaded (unwound now s).raw s (a + k) rest ≡ words_loaded v.raw s a words
+
 -- k of n ticks of a slot were made
-pub record PacesSo (m now : Machine) (s n k : ℕ) (ps : List Pace) : Type 0 where
-  pub letters : ps ++ paces_of now s (n - k) ≡ paces_of m s n
-  pub machine : ticked now s (n - k) ≡ ticked m s n
+pub record PacesSo (v now : State) (s n k : ℕ) (ps : List Pace) : Type 0 where
+  pub letters : ps ++ paces_of now s (n - k) ≡ paces_of v s n
+  pub state : ticked now s (n - k) ≡ ticked v s n

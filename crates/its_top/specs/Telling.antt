@@ -7,23 +7,24 @@ use Rattle.its_word.specs.declared.session.Place.{Place}
 use Rattle.its_word.specs.declared.session.Place.TheVariants as places
 use Rattle.its_print.specs.Printing.{text}
 use Rattle.its_session.specs.Events.{most_lines, lines_from, items_from}
-use Rattle.its_plain.specs.Machine.{Machine, no_machine}
+use Rattle.its_plain.specs.Machine.{no_machine}
 use Rattle.its_plain.specs.Operator.{Block, no_block}
 use Rattle.its_plain.specs.Transcript.{Fate, Ended, Lost, TooLong}
-use Rattle.its_plain.specs.Stepped.{Told, told}
+use Rattle.its_stepped.specs.State.{State, no_state}
+use Rattle.its_stepped.specs.Lines.{Told, told}
 use Rattle.its_top.specs.declared.turn.Turn.{Turn}
 use Rattle.its_top.specs.declared.turn.Turn.TheVariants as turns
 
--- a session between two of its lines: the number of the line to come, the machine, what a block of
+-- a session between two of its lines: the number of the line to come, the state, what a block of
 -- lines speaks of, and the place of the line to come
 pub record Now : Type 0 where
   pub number : ℕ
-  pub machine : Machine
+  pub state : State
   pub block : Block
   pub place : Place
 
 abbrev pub at_start : Now
-at_start = record { number = 1; machine = no_machine; block = no_block; place = places.Plain }
+at_start = record { number = 1; state = no_state no_machine; block = no_block; place = places.Plain }
 
 -- the text that a session writes, and how it ends
 pub record Says : Type 0 where
@@ -46,12 +47,12 @@ pub record Begins (s : Says) (w : List ℕ) : Type 0 where
   pub whole : s.text ≡ w ++ more
 
 -- what is written from line number n on, for these items
-unfoldable pub items_say : ℕ → Machine → Block → List Item → Says
-items_say n m b items = said (told n m b items)
+unfoldable pub items_say : ℕ → State → Block → List Item → Says
+items_say n v b items = said (told n v b items)
 
 -- for these lines; `whole` tells that the input ends with them
 unfoldable pub lines_say : Bool → Now → List (List ℕ) → Says
-lines_say whole now lines = items_say now.number now.machine now.block (items_from whole now.number now.place lines)
+lines_say whole now lines = items_say now.number now.state now.block (items_from whole now.number now.place lines)
 
 -- for these bytes, where some are kept of a line that has begun
 unfoldable pub bytes_say : Bool → Now → List ℕ → List ℕ → Says
@@ -62,14 +63,14 @@ abbrev pub goes_on_after : Event → Bool
 goes_on_after events.End = false
 goes_on_after _ = true
 
--- what an event did, and what it wrote: the session goes on with another machine and block, it is over
+-- what an event did, and what it wrote: the session goes on with another state and block, it is over
 -- by END or by a refused line, or a write failed
-abbrev pub Answers : Turn → ℕ → Machine → Block → Event → Machine → Block → List ℕ → Type 0
-Answers turns.On n m b e m' b' w = (goes_on_after e ≡ true) × ((items : List Item) → items_say n m b (Read e ∷ items) ≡ after w (items_say (n + 1) m' b' items))
-Answers turns.Ended n m b e m' b' w = (items : List Item) → items_say n m b (Read e ∷ items) ≡ saying w Ended
-Answers turns.Refused n m b e m' b' w = (items : List Item) → items_say n m b (Read e ∷ items) ≡ saying w Lost
-Answers turns.Beyond n m b e m' b' w = ⊥
-Answers turns.Fault n m b e m' b' w = (items : List Item) → Begins (items_say n m b (Read e ∷ items)) w
+abbrev pub Answers : Turn → ℕ → State → Block → Event → State → Block → List ℕ → Type 0
+Answers turns.On n v b e v' b' w = (goes_on_after e ≡ true) × ((items : List Item) → items_say n v b (Read e ∷ items) ≡ after w (items_say (n + 1) v' b' items))
+Answers turns.Ended n v b e v' b' w = (items : List Item) → items_say n v b (Read e ∷ items) ≡ saying w Ended
+Answers turns.Refused n v b e v' b' w = (items : List Item) → items_say n v b (Read e ∷ items) ≡ saying w Lost
+Answers turns.Beyond n v b e v' b' w = ⊥
+Answers turns.Fault n v b e v' b' w = (items : List Item) → Begins (items_say n v b (Read e ∷ items)) w
 
 -- what a line did
 abbrev pub Lines : Turn → Now → List ℕ → Now → List ℕ → Type 0

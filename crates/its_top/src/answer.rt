@@ -3,8 +3,10 @@ ghost use Rattle.its_io.specs.Bytes.{next_fault};
 ghost use Rattle.its_word.specs.Limits.{slots};
 ghost use Rattle.its_session.specs.Fits.{EventFits};
 ghost use Rattle.its_plain.specs.Operator.{words_loaded, examined};
-ghost use Rattle.its_plain.specs.Stepped.{paces_of, ticked};
-ghost use Rattle.its_monitor.specs.World.{machine_of, Sound, reason_of};
+ghost use Rattle.its_stepped.specs.Unwind.{unwound};
+ghost use Rattle.its_stepped.specs.Lines.{paces_of, ticked};
+ghost use Rattle.its_world.specs.World.{state_of};
+ghost use Rattle.its_operator.specs.Kept.{Kept, Lands, reason_of};
 ghost use Rattle.its_print.specs.Printing.{Refused, text_of_line};
 ghost use Rattle.its_top.specs.Answer.{Answered, Tells, block_of};
 
@@ -14,7 +16,7 @@ use super::writing::{refuse, refuse_by, settle, tell};
 use arrayvec::ArrayVec;
 use its_io::Sink;
 use its_monitor::Monitor;
-use its_print::{print_loaded, print_state, print_ticks, print_words};
+use its_print::{print_loaded, print_peek, print_state, print_ticks, print_words};
 use its_word::{Event, Pace, Reason, Refusal, Word};
 
 /// LOAD: makes a job, and shows its slot, which is then the block's.
@@ -27,9 +29,9 @@ fn load<K: Sink>(
     console: Option<u8>,
     out: &mut K,
 ) -> Turn
-    requires sound { Sound m.old }
-    ensures answered { Answered result p.old.number (machine_of m.old) (block_of p.old.slot) (Event.Load u j console) (machine_of m.new) (block_of p.new.slot) (K.written out.old) (K.written out.new) }
-    ensures sound { Sound m.new }
+    requires sound { Kept m.old.world }
+    ensures answered { Answered result p.old.number (state_of m.old.world) (block_of p.old.slot) (Event.Load u j console) (state_of m.new.world) (block_of p.new.slot) (K.written out.old) (K.written out.new) }
+    ensures sound { Kept m.new.world }
     ensures slot { p.old.slot < slots → p.new.slot < slots }
     ensures kept { (p.new.number ≡ p.old.number) × (p.new.place ≡ p.old.place) }
     ensures later { K.faults out.old ≤ K.faults out.new }
@@ -50,10 +52,10 @@ fn load<K: Sink>(
 /// STATE: shows a job.
 #[tactic(auto, using(crate::proofs::AnswerLaws::state_answered, crate::proofs::AnswerLaws::state_refused))]
 fn state<K: Sink>(m: &mut Monitor, p: Progress, s: u8, out: &mut K) -> Turn
-    requires sound { Sound m.old }
+    requires sound { Kept m.old.world }
     requires slot { s < slots }
-    ensures answered { Answered result p.number (machine_of m.old) (block_of p.slot) (Event.State s) (machine_of m.new) (block_of p.slot) (K.written out.old) (K.written out.new) }
-    ensures sound { Sound m.new }
+    ensures answered { Answered result p.number (state_of m.old.world) (block_of p.slot) (Event.State s) (state_of m.new.world) (block_of p.slot) (K.written out.old) (K.written out.new) }
+    ensures sound { Kept m.new.world }
     ensures later { K.faults out.old ≤ K.faults out.new }
     ensures unfailed { result ≢ Turn.Fault → K.faults out.new ≡ K.faults out.old }
     ensures fault { result ≡ Turn.Fault → K.faults out.new ≡ next_fault (K.faults out.old) }
@@ -69,18 +71,18 @@ fn state<K: Sink>(m: &mut Monitor, p: Progress, s: u8, out: &mut K) -> Turn
 }
 
 /// The n words of a slot from an address on, or the first refusal.
-#[tactic(auto, using(crate::proofs::ExamLaws::exam_start, crate::proofs::ExamLaws::exam_next, crate::proofs::ExamLaws::exam_fails, crate::proofs::ExamLaws::exam_end))]
+#[tactic(auto, using(crate::proofs::ExamLaws::exam_start, crate::proofs::ExamLaws::exam_next, crate::proofs::ExamLaws::exam_fails, crate::proofs::ExamLaws::exam_end, crate::proofs::ExamLaws::calm_start, crate::proofs::ExamLaws::calm_next))]
 fn words_of(m: &mut Monitor, s: u8, a: u32, n: u32) -> Result<ArrayVec<Word, 8>, Refusal>
-    requires sound { Sound m.old }
+    requires sound { Kept m.old.world }
     requires slot { s < slots }
     requires few { n ≤ 8 }
     requires some { 1 ≤ n }
     requires end { a + n ≤ 2 ^ 18 }
-    ensures words { IfOk result (λ ws. examined (machine_of m.old) s a n ≡ Ok ws.items) }
+    ensures words { IfOk result (λ ws. examined (unwound (state_of m.old.world) s).raw s a n ≡ Ok ws.items) }
     ensures few { IfOk result (λ ws. length ws.items ≤ 8) }
-    ensures refused { IfErr result (λ e. examined (machine_of m.old) s a n ≡ Err (reason_of e)) }
-    ensures same { machine_of m.new ≡ machine_of m.old }
-    ensures sound { Sound m.new }
+    ensures refused { IfErr result (λ e. examined (unwound (state_of m.old.world) s).raw s a n ≡ Err (reason_of e)) }
+    ensures unwinds { OnOk result (state_of m.new.world ≡ unwound (state_of m.old.world) s) }
+    ensures sound { Kept m.new.world }
 {
     let mut words = ArrayVec::new();
     for k in 0..n {
@@ -95,13 +97,13 @@ fn words_of(m: &mut Monitor, s: u8, a: u32, n: u32) -> Result<ArrayVec<Word, 8>,
 /// EXAM: shows words of a slot.
 #[tactic(auto, using(crate::proofs::AnswerLaws::exam_answered, crate::proofs::AnswerLaws::exam_refused))]
 fn examine<K: Sink>(m: &mut Monitor, p: Progress, s: u8, a: u32, n: u32, out: &mut K) -> Turn
-    requires sound { Sound m.old }
+    requires sound { Kept m.old.world }
     requires slot { s < slots }
     requires few { n ≤ 8 }
     requires some { 1 ≤ n }
     requires end { a + n ≤ 2 ^ 18 }
-    ensures answered { Answered result p.number (machine_of m.old) (block_of p.slot) (Event.Exam s a n) (machine_of m.new) (block_of p.slot) (K.written out.old) (K.written out.new) }
-    ensures sound { Sound m.new }
+    ensures answered { Answered result p.number (state_of m.old.world) (block_of p.slot) (Event.Exam s a n) (state_of m.new.world) (block_of p.slot) (K.written out.old) (K.written out.new) }
+    ensures sound { Kept m.new.world }
     ensures later { K.faults out.old ≤ K.faults out.new }
     ensures unfailed { result ≢ Turn.Fault → K.faults out.new ≡ K.faults out.old }
     ensures fault { result ≡ Turn.Fault → K.faults out.new ≡ next_fault (K.faults out.old) }
@@ -117,14 +119,15 @@ fn examine<K: Sink>(m: &mut Monitor, p: Progress, s: u8, a: u32, n: u32, out: &m
 }
 
 /// Loads the words of an a/ line, in order.
-#[tactic(auto, using(crate::proofs::LoadingLaws::loading_next, crate::proofs::LoadingLaws::loading_fails))]
+#[tactic(auto, using(crate::proofs::LoadingLaws::loading_start, crate::proofs::LoadingLaws::loading_fails, crate::proofs::LoadingLaws::loading_end))]
 fn load_words(m: &mut Monitor, slot: u8, a: u32, words: &[Word]) -> Result<(), Refusal>
-    requires sound { Sound m.old }
+    requires sound { Kept m.old.world }
     requires slot { slot < slots }
+    requires some { 1 ≤ length words.now }
     requires end { a + length words.now ≤ 2 ^ 18 }
-    ensures done { OnOk result (words_loaded (machine_of m.old) slot a words.now ≡ Ok (machine_of m.new)) }
-    ensures refused { IfErr result (λ e. words_loaded (machine_of m.old) slot a words.now ≡ Err (reason_of e)) }
-    ensures sound { Sound m.new }
+    ensures done { OnOk result (Lands (unwound (state_of m.old.world) slot) (state_of m.new.world) (words_loaded (unwound (state_of m.old.world) slot).raw slot a words.now)) }
+    ensures refused { IfErr result (λ e. words_loaded (unwound (state_of m.old.world) slot).raw slot a words.now ≡ Err (reason_of e)) }
+    ensures sound { Kept m.new.world }
 {
     let mut at = a;
     for w in words {
@@ -140,11 +143,11 @@ fn load_words(m: &mut Monitor, slot: u8, a: u32, words: &[Word]) -> Result<(), R
 /// TICK: ticks a slot n times, and shows the letters.
 #[tactic(auto, using(crate::proofs::AnswerLaws::ticks_answered, crate::proofs::WritingLaws::told_as))]
 fn ticks<K: Sink>(m: &mut Monitor, p: Progress, s: u8, n: u32, out: &mut K) -> Turn
-    requires sound { Sound m.old }
+    requires sound { Kept m.old.world }
     requires slot { s < slots }
     requires few { n ≤ 512 }
-    ensures answered { Answered result p.number (machine_of m.old) (block_of p.slot) (Event.Tick s n) (machine_of m.new) (block_of p.slot) (K.written out.old) (K.written out.new) }
-    ensures sound { Sound m.new }
+    ensures answered { Answered result p.number (state_of m.old.world) (block_of p.slot) (Event.Tick s n) (state_of m.new.world) (block_of p.slot) (K.written out.old) (K.written out.new) }
+    ensures sound { Kept m.new.world }
     ensures later { K.faults out.old ≤ K.faults out.new }
     ensures unfailed { result ≢ Turn.Fault → K.faults out.new ≡ K.faults out.old }
     ensures fault { result ≡ Turn.Fault → K.faults out.new ≡ next_fault (K.faults out.old) }
@@ -158,19 +161,40 @@ fn ticks<K: Sink>(m: &mut Monitor, p: Progress, s: u8, n: u32, out: &mut K) -> T
 /// The letters of n ticks of a slot.
 #[tactic(auto, using(crate::proofs::PaceLaws::pacing_start, crate::proofs::PaceLaws::pacing_next, crate::proofs::PaceLaws::pacing_end))]
 fn paces_of(m: &mut Monitor, s: u8, n: u32) -> ArrayVec<Pace, 512>
-    requires sound { Sound m.old }
+    requires sound { Kept m.old.world }
     requires slot { s < slots }
     requires few { n ≤ 512 }
-    ensures paces { result.items ≡ paces_of (machine_of m.old) s n }
+    ensures paces { result.items ≡ paces_of (state_of m.old.world) s n }
     ensures count { length result.items ≡ n }
-    ensures machine { machine_of m.new ≡ ticked (machine_of m.old) s n }
-    ensures sound { Sound m.new }
+    ensures state { state_of m.new.world ≡ ticked (state_of m.old.world) s n }
+    ensures sound { Kept m.new.world }
 {
     let mut paces = ArrayVec::new();
     for _k in 0..n {
         paces.push(m.tick(s));
     }
     paces
+}
+
+/// PEEK: shows how far a slot's job is inside a call.
+#[tactic(auto, using(crate::proofs::AnswerLaws::peek_answered, crate::proofs::AnswerLaws::peek_refused))]
+fn peek<K: Sink>(m: &mut Monitor, p: Progress, s: u8, out: &mut K) -> Turn
+    requires sound { Kept m.old.world }
+    requires slot { s < slots }
+    ensures answered { Answered result p.number (state_of m.old.world) (block_of p.slot) (Event.Peek s) (state_of m.new.world) (block_of p.slot) (K.written out.old) (K.written out.new) }
+    ensures sound { Kept m.new.world }
+    ensures later { K.faults out.old ≤ K.faults out.new }
+    ensures unfailed { result ≢ Turn.Fault → K.faults out.new ≡ K.faults out.old }
+    ensures fault { result ≡ Turn.Fault → K.faults out.new ≡ next_fault (K.faults out.old) }
+{
+    match m.peek(s) {
+        Ok(peek) => {
+            let mut line = ArrayVec::new();
+            print_peek(s, &peek, &mut line);
+            tell(out, &line, Turn::On)
+        }
+        Err(e) => refuse_by(out, p.number, e),
+    }
 }
 
 /// The refusal of a line of a kind that is not built.
@@ -184,13 +208,13 @@ fn unbuilt<K: Sink>(out: &mut K, number: u32) -> Turn
 }
 
 /// The answer to an event: what it does to the monitor and to the block, and what it shows.
-#[tactic(auto, using(crate::proofs::AnswerLaws::nothing_answered, crate::proofs::AnswerLaws::end_answered, crate::proofs::AnswerLaws::unbuilt_answered, crate::proofs::AnswerLaws::go_answered, crate::proofs::AnswerLaws::words_answered, crate::proofs::AnswerLaws::int_answered, crate::proofs::AnswerLaws::deposit_answered, crate::proofs::AnswerLaws::stop_answered, crate::proofs::AnswerLaws::cont_answered))]
+#[tactic(auto, using(crate::proofs::AnswerLaws::nothing_answered, crate::proofs::AnswerLaws::end_answered, crate::proofs::AnswerLaws::unbuilt_answered, crate::proofs::AnswerLaws::go_answered, crate::proofs::AnswerLaws::words_answered, crate::proofs::AnswerLaws::int_answered, crate::proofs::AnswerLaws::deposit_answered, crate::proofs::AnswerLaws::stop_answered, crate::proofs::AnswerLaws::cont_answered, crate::proofs::AnswerLaws::clock_answered))]
 pub fn answer<K: Sink>(m: &mut Monitor, p: &mut Progress, event: &Event, out: &mut K) -> Turn
-    requires sound { Sound m.old }
+    requires sound { Kept m.old.world }
     requires slot { p.old.slot < slots }
     requires fits { EventFits event.now }
-    ensures answered { Answered result p.old.number (machine_of m.old) (block_of p.old.slot) event.now (machine_of m.new) (block_of p.new.slot) (K.written out.old) (K.written out.new) }
-    ensures sound { Sound m.new }
+    ensures answered { Answered result p.old.number (state_of m.old.world) (block_of p.old.slot) event.now (state_of m.new.world) (block_of p.new.slot) (K.written out.old) (K.written out.new) }
+    ensures sound { Kept m.new.world }
     ensures slot { p.new.slot < slots }
     ensures kept { (p.new.number ≡ p.old.number) × (p.new.place ≡ p.old.place) }
     ensures later { K.faults out.old ≤ K.faults out.new }
@@ -228,14 +252,17 @@ pub fn answer<K: Sink>(m: &mut Monitor, p: &mut Progress, event: &Event, out: &m
             let continued = m.cont(*s);
             settle(out, number, continued)
         }
+        Event::Clock { n } => {
+            let advanced = m.advance(*n);
+            settle(out, number, advanced)
+        }
+        Event::Peek { s } => peek(m, *p, *s, out),
         Event::End => Turn::Ended,
         Event::File { .. } => unbuilt(out, number),
         Event::Append { .. } => unbuilt(out, number),
         Event::EndFile => unbuilt(out, number),
         Event::TypeIn { .. } => unbuilt(out, number),
         Event::Drain { .. } => unbuilt(out, number),
-        Event::Clock { .. } => unbuilt(out, number),
-        Event::Peek { .. } => unbuilt(out, number),
         Event::Dir { .. } => unbuilt(out, number),
         Event::Show { .. } => unbuilt(out, number),
     }

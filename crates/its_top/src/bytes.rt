@@ -2,7 +2,7 @@ ghost use Rattle.std.specs.Prelude.{◌≡◌, ◌≢◌, ◌≤◌, ◌<◌, �
 ghost use Rattle.its_io.specs.Bytes.{next_fault};
 ghost use Rattle.its_word.specs.Limits.{slots};
 ghost use Rattle.its_session.specs.Events.{most_lines};
-ghost use Rattle.its_monitor.specs.World.{Sound};
+ghost use Rattle.its_operator.specs.Kept.{Kept};
 ghost use Rattle.its_top.specs.Telling.{Begun, goes_on};
 ghost use Rattle.its_top.specs.Answer.{now_of};
 ghost use Rattle.its_top.specs.Conclusion.{Feeds, Finishes, status_of};
@@ -30,7 +30,7 @@ pub fn feed_byte<K: Sink>(
     b: u8,
     out: &mut K,
 ) -> Turn
-    requires sound { Sound m.old }
+    requires sound { Kept m.old.world }
     requires slot { p.old.slot < slots }
     requires most { p.old.number ≤ most_lines + 1 }
     requires short { length kept.old.items ≤ 255 }
@@ -39,7 +39,7 @@ pub fn feed_byte<K: Sink>(
     ensures longer { result ≡ Turn.On → 256 * p.old.number + length kept.old.items < 256 * p.new.number + length kept.new.items }
     ensures most { p.new.number ≤ most_lines + 1 }
     ensures short { length kept.new.items ≤ 255 }
-    ensures sound { Sound m.new }
+    ensures sound { Kept m.new.world }
     ensures slot { p.new.slot < slots }
     ensures later { K.faults out.old ≤ K.faults out.new }
     ensures unfailed { result ≢ Turn.Fault → K.faults out.new ≡ K.faults out.old }
@@ -69,7 +69,7 @@ pub fn feed<K: Sink>(
     bytes: &[u8],
     out: &mut K,
 ) -> Turn
-    requires sound { Sound m.old }
+    requires sound { Kept m.old.world }
     requires slot { p.old.slot < slots }
     requires most { p.old.number ≤ most_lines + 1 }
     requires short { length kept.old.items ≤ 255 }
@@ -79,7 +79,7 @@ pub fn feed<K: Sink>(
     ensures longer { result ≡ Turn.On → 256 * p.old.number + length kept.old.items + length bytes.now ≤ 256 * p.new.number + length kept.new.items }
     ensures most { p.new.number ≤ most_lines + 1 }
     ensures short { length kept.new.items ≤ 255 }
-    ensures sound { Sound m.new }
+    ensures sound { Kept m.new.world }
     ensures slot { p.new.slot < slots }
     ensures later { K.faults out.old ≤ K.faults out.new }
     ensures unfailed { result ≢ Turn.Fault → K.faults out.new ≡ K.faults out.old }
@@ -126,11 +126,11 @@ fn end<K: Sink>(m: &Monitor, p: Progress, out: &mut K) -> Status
 /// The end of input, where some bytes are kept of a line that has begun: they are a line too.
 #[tactic(auto, using(crate::proofs::FinishLaws::finishes_line, crate::proofs::FinishLaws::finishes_over))]
 pub fn finish<K: Sink>(m: &mut Monitor, p: &mut Progress, kept: &[u8], out: &mut K) -> Status
-    requires sound { Sound m.old }
+    requires sound { Kept m.old.world }
     requires slot { p.old.slot < slots }
     requires begun { Begun kept.now p.old.number }
     ensures finishes { Finishes result (now_of m.old p.old) kept.now (K.written out.old) (K.written out.new) }
-    ensures sound { Sound m.new }
+    ensures sound { Kept m.new.world }
     ensures later { K.faults out.old ≤ K.faults out.new }
     ensures unfailed { result ≢ Status.WriteFault → K.faults out.new ≡ K.faults out.old }
     ensures fault { result ≡ Status.WriteFault → K.faults out.new ≡ next_fault (K.faults out.old) }

@@ -2,7 +2,7 @@ ghost use Rattle.std.specs.Prelude.{◌≡◌, ◌≢◌, ◌≤◌, ◌<◌, �
 ghost use Rattle.its_io.specs.Bytes.{next_fault};
 ghost use Rattle.its_word.specs.Limits.{slots};
 ghost use Rattle.its_session.specs.Events.{most_lines, place_after, reason_of};
-ghost use Rattle.its_monitor.specs.World.{Sound};
+ghost use Rattle.its_operator.specs.Kept.{Kept};
 ghost use Rattle.its_top.specs.Answer.{now_of, Lined};
 
 use super::answer::answer;
@@ -42,13 +42,13 @@ fn unread(bad: Bad) -> Reason
 /// Takes a line of a session, without its LF, which is one of those that a session may have.
 #[tactic(auto, using(crate::proofs::LinedLaws::lined_answer, crate::proofs::LinedLaws::lined_unread))]
 pub fn take_line<K: Sink>(m: &mut Monitor, p: &mut Progress, line: &[u8], out: &mut K) -> Turn
-    requires sound { Sound m.old }
+    requires sound { Kept m.old.world }
     requires slot { p.old.slot < slots }
     requires few { p.old.number ≤ most_lines }
     ensures lined { Lined result (now_of m.old p.old) line.now (now_of m.new p.new) (K.written out.old) (K.written out.new) }
     ensures number { result ≡ Turn.On → p.new.number ≡ p.old.number + 1 }
     ensures most { p.new.number ≤ most_lines + 1 }
-    ensures sound { Sound m.new }
+    ensures sound { Kept m.new.world }
     ensures slot { p.new.slot < slots }
     ensures later { K.faults out.old ≤ K.faults out.new }
     ensures unfailed { result ≢ Turn.Fault → K.faults out.new ≡ K.faults out.old }

@@ -2,7 +2,9 @@ ghost use Rattle.std.specs.Prelude.{◌≡◌, ◌≢◌, ◌≤◌, ◌<◌, �
 ghost use Rattle.its_io.specs.Bytes.{Rose, next_fault};
 ghost use Rattle.its_word.specs.Limits.{slots};
 ghost use Rattle.its_plain.specs.Machine.{no_machine};
-ghost use Rattle.its_monitor.specs.World.{machine_of, Sound};
+ghost use Rattle.its_stepped.specs.State.{no_state};
+ghost use Rattle.its_world.specs.World.{state_of};
+ghost use Rattle.its_operator.specs.Kept.{Kept};
 ghost use Rattle.its_top.specs.Telling.{at_start};
 ghost use Rattle.its_top.specs.Answer.{now_of};
 ghost use Rattle.its_top.specs.Conclusion.{Session};
@@ -20,8 +22,8 @@ use its_word::Place;
 /// `Monitor::open` gives it.
 #[tactic(auto, using(crate::proofs::SessionLaws::start_is))]
 pub fn session<S: Source, K: Sink>(m: &mut Monitor, src: &mut S, out: &mut K) -> Status
-    requires machine { machine_of m.old ≡ no_machine }
-    requires sound { Sound m.old }
+    requires machine { state_of m.old.world ≡ no_state no_machine }
+    requires sound { Kept m.old.world }
     ensures ended { Session result (S.left src.old) (S.left src.new) (K.written out.old) (K.written out.new) }
     ensures read_fault { result ≡ Status.ReadFault → Rose (S.faults src.old) (S.faults src.new) }
     ensures write_fault { result ≡ Status.WriteFault → Rose (K.faults out.old) (K.faults out.new) }
@@ -31,7 +33,7 @@ pub fn session<S: Source, K: Sink>(m: &mut Monitor, src: &mut S, out: &mut K) ->
     ensures write_once { result ≡ Status.WriteFault → K.faults out.new ≡ next_fault (K.faults out.old) }
     ensures read_unfailed { result ≢ Status.ReadFault → S.faults src.new ≡ S.faults src.old }
     ensures write_unfailed { result ≢ Status.WriteFault → K.faults out.new ≡ K.faults out.old }
-    ensures sound { Sound m.new }
+    ensures sound { Kept m.new.world }
 {
     let mut buf = [0u8; 512];
     let mut kept = ArrayVec::new();
@@ -52,7 +54,7 @@ fn take_all<S: Source, K: Sink>(
     src: &mut S,
     out: &mut K,
 ) -> Status
-    requires sound { Sound m.old }
+    requires sound { Kept m.old.world }
     requires start { now_of m.old p.old ≡ at_start }
     requires slot { p.old.slot < slots }
     requires kept { kept.old.items ≡ [] }
@@ -66,7 +68,7 @@ fn take_all<S: Source, K: Sink>(
     ensures write_once { result ≡ Status.WriteFault → K.faults out.new ≡ next_fault (K.faults out.old) }
     ensures read_unfailed { result ≢ Status.ReadFault → S.faults src.new ≡ S.faults src.old }
     ensures write_unfailed { result ≢ Status.WriteFault → K.faults out.new ≡ K.faults out.old }
-    ensures sound { Sound m.new }
+    ensures sound { Kept m.new.world }
 {
     loop {
         let Ok(count) = src.read(buf) else {

@@ -2,7 +2,7 @@ ghost use Rattle.std.specs.Prelude.{◌≡◌, ◌≢◌, ◌≤◌, ◌<◌, �
 ghost use Rattle.std.specs.Io.KnownBytes.{Appends};
 ghost use Rattle.its_print.specs.Printing.{text};
 ghost use Rattle.its_session.specs.Events.{events_of};
-ghost use Rattle.its_plain.specs.Stepped.{stepped};
+ghost use Rattle.its_stepped.specs.Lines.{stepped};
 ghost use Rattle.its_top.specs.Conclusion.{IsDone, Session};
 ghost use Rattle.its_top.specs.Top.{is_run, usage, Transcribed, Completes, Refuses, RunsOn, Breaks, Begins};
 
@@ -17,11 +17,12 @@ const USAGE: &[u8] = b"usage: its run | its check | its gen N\n";
 
 /// The program: the words after its name, the session that `src` gives, and the transcript that `out`
 /// takes. The only command is `run`.
-#[tactic(auto, using(crate::proofs::TopLaws::session_transcribed, crate::proofs::TopLaws::session_done, crate::proofs::TopLaws::session_refused, crate::proofs::TopLaws::session_too_long, crate::proofs::TopLaws::session_breaks, crate::proofs::TopLaws::session_begins, crate::proofs::TopLaws::session_complete))]
+#[tactic(auto, using(crate::proofs::TopLaws::session_transcribed, crate::proofs::TopLaws::session_written, crate::proofs::TopLaws::session_done, crate::proofs::TopLaws::session_refused, crate::proofs::TopLaws::session_too_long, crate::proofs::TopLaws::session_breaks, crate::proofs::TopLaws::session_begins, crate::proofs::TopLaws::session_complete))]
 pub fn its<S: Source, K: Sink>(alloc: Global, words: &[String], src: &mut S, out: &mut K) -> Status
     requires source { S.faults src.old < 2 ^ 64 - 1 }
     requires sink { K.faults out.old < 2 ^ 64 - 1 }
     ensures transcript { (result ≡ Status.Done) ⊎ (result ≡ Status.Refused) → IfSome (S.left src.old) (λ bytes. Transcribed bytes (K.written out.old) (K.written out.new)) }
+    ensures written { (result ≡ Status.Done) ⊎ (result ≡ Status.Refused) → IfSome (S.left src.old) (λ bytes. Appends (K.written out.old) (K.written out.new) (text (stepped (events_of bytes)).lines)) }
     ensures done { result ≡ Status.Done → IfSome (S.left src.old) (λ bytes. Completes bytes (K.written out.old) (K.written out.new)) }
     ensures refused { result ≡ Status.Refused → IfSome (S.left src.old) (λ bytes. Refuses bytes (K.written out.old) (K.written out.new)) }
     ensures too_long { result ≡ Status.TooLong → IfSome (S.left src.old) (λ bytes. RunsOn bytes (K.written out.old) (K.written out.new)) }

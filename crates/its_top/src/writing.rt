@@ -1,7 +1,7 @@
 ghost use Rattle.std.specs.Prelude.{◌≡◌, ◌≢◌, ◌≤◌, ◌+◌, ◌-◌, ◌^◌};
 ghost use Rattle.its_io.specs.Bytes.{next_fault};
 ghost use Rattle.its_print.specs.Printing.{Refused, text_of_line};
-ghost use Rattle.its_monitor.specs.World.{reason_of};
+ghost use Rattle.its_operator.specs.Kept.{reason_of};
 ghost use Rattle.its_top.specs.Answer.{Tells, Settled};
 
 use super::turn::Turn;

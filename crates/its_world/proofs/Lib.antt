@@ -1,2 +1,4 @@
 pub mod WorldLaws
 pub mod StateLaws
+pub mod BareLaws
+pub mod SiteLaws

@@ -13,11 +13,13 @@ loop-inferior-smaller c =
     omega arith
 
 pub loop-inferior-preserved : goal.loop-inferior-preserved
-loop-inferior-preserved c =
-    unwinding_more _ _ _ _ _ _ c.loop-inferior.invariant c.below.ensures.tree c.in-Some.ensures.job c.unwind.ensures.unwinds c.unwind.ensures.same c.unwind.ensures.sound
+loop-inferior-preserved c = record {
+  unwinding = unwinding_more _ _ _ _ _ _ c.loop-inferior.invariant.unwinding c.below.ensures.tree c.in-Some.ensures.job c.unwind.ensures.unwinds c.unwind.ensures.same c.unwind.ensures.sound;
+  blank = c.unwind.ensures.blank c.loop-inferior.invariant.blank;
+}
 
 pub returns-clause-unwinds : goal.returns-clause-unwinds
-returns-clause-unwinds c = unwinding_end _ _ _ _ c.loop-inferior.invariant c.below.ensures.tree c.in_default.ensures.job
+returns-clause-unwinds c = unwinding_end _ _ _ _ c.loop-inferior.invariant.unwinding c.below.ensures.tree c.in_default.ensures.job
 
 pub returns-clause-same : goal.returns-clause-same
 returns-clause-same c = below_same _ _ _ c.requires.sound (returns-clause-unwinds c)

@@ -1,6 +1,5 @@
-use Rattle.std.proofs.Common.{ap, sym, ◌∙◌}
+use Rattle.std.proofs.Common.{sym, ◌∙◌}
 use Rattle.its_word.specs.Byte.{deposit_of}
-use Rattle.its_word.specs.declared.calls.Operand.{Operand}
 use Rattle.its_pclsr.proofs.OwedLaws.{enough}
 use Rattle.its_pclsr.proofs.RowLaws.{held_there, held_stored}
 use Rattle.its_pclsr.proofs.unwinding.store_held.Goals as goal
@@ -10,4 +9,4 @@ unreachable-requires c = held_there _ _ _ _ _ _ c.requires.pays c.get.ensures.wo
 
 pub returns : goal.returns
 returns c =
-    held_stored _ _ _ c.args.f.now.ask _ c.args.f.now.byte _ _ _ _ _ c.get.ensures.word c.in-Ok.is c.index-deref-1.is c.deref.ensures.0 (enough _ 2 c.requires.pays.debts.read) (c.deposit-word.ensures ∙ ap (λ (x : Operand). deposit_of x.value c.in-Ok.word c.args.f.now.byte) (sym c.index-deref-1.is)) c.make.ensures
+    held_stored _ _ _ c.args.f.now.ask _ c.args.f.now.byte _ _ _ _ _ c.get.ensures.word c.in-Ok.is c.index-deref-1.is c.deref.ensures.0 (enough _ 2 c.requires.pays.debts.read) (c.deposit-word.ensures ∙ (λ i. deposit_of (sym c.index-deref-1.is i).value c.in-Ok.word (c.value.ensures.value i))) c.make.ensures

@@ -1,6 +1,8 @@
 use Rattle.std.proofs.Common.{sym, ◌∙◌, ap, refl}
 use Rattle.its_word.specs.declared.session.Event.TheVariants.{Words}
-use Rattle.its_plain.specs.Operator.{operate}
+use Rattle.its_plain.specs.Operator as operator
+use Rattle.its_plain.specs.CallOperator.{operate, lined}
+use Rattle.its_stepped.specs.Lines.{calmed}
 use Rattle.its_top.proofs.AnswerLaws.{words_answered, go_answered, unbuilt_answered, at_event}
 use Rattle.its_top.proofs.answer.answer.Goals as goal
 
@@ -15,46 +17,36 @@ returns-in-Go-clause-answered g c =
     (go_answered _ _ _ _ _ _ _ _ _ c.go-started.ensures.done c.go-started.ensures.refused c.settle-in-Go.ensures.settled)
 
 pub returns-in-File-clause-answered : goal.returns-in-File-clause-answered
-unfolding operate
+unfolding lined operate operator.operate calmed
 returns-in-File-clause-answered g c =
-    at_event _ _ _ _ _ _ _ _ _ _ c.in-File.is (unbuilt_answered _ _ _ _ _ _ _ _ _ _ refl c.unbuilt.ensures.told)
+    at_event _ _ _ _ _ _ _ _ _ _ c.in-File.is (unbuilt_answered _ _ _ _ _ _ _ _ _ _ (record { calm = refl; is = refl }) c.unbuilt.ensures.told)
 
 pub returns-in-Append-clause-answered : goal.returns-in-Append-clause-answered
-unfolding operate
+unfolding lined operate operator.operate calmed
 returns-in-Append-clause-answered g c =
-    at_event _ _ _ _ _ _ _ _ _ _ c.in-Append.is (unbuilt_answered _ _ _ _ _ _ _ _ _ _ refl c.unbuilt-in-Append.ensures.told)
+    at_event _ _ _ _ _ _ _ _ _ _ c.in-Append.is (unbuilt_answered _ _ _ _ _ _ _ _ _ _ (record { calm = refl; is = refl }) c.unbuilt-in-Append.ensures.told)
 
 pub returns-in-EndFile-clause-answered : goal.returns-in-EndFile-clause-answered
-unfolding operate
+unfolding lined operate operator.operate calmed
 returns-in-EndFile-clause-answered g c =
-    at_event _ _ _ _ _ _ _ _ _ _ c.in-EndFile.is (unbuilt_answered _ _ _ _ _ _ _ _ _ _ refl c.unbuilt-in-EndFile.ensures.told)
+    at_event _ _ _ _ _ _ _ _ _ _ c.in-EndFile.is (unbuilt_answered _ _ _ _ _ _ _ _ _ _ (record { calm = refl; is = refl }) c.unbuilt-in-EndFile.ensures.told)
 
 pub returns-in-TypeIn-clause-answered : goal.returns-in-TypeIn-clause-answered
-unfolding operate
+unfolding lined operate operator.operate calmed
 returns-in-TypeIn-clause-answered g c =
-    at_event _ _ _ _ _ _ _ _ _ _ c.in-TypeIn.is (unbuilt_answered _ _ _ _ _ _ _ _ _ _ refl c.unbuilt-in-TypeIn.ensures.told)
+    at_event _ _ _ _ _ _ _ _ _ _ c.in-TypeIn.is (unbuilt_answered _ _ _ _ _ _ _ _ _ _ (record { calm = refl; is = refl }) c.unbuilt-in-TypeIn.ensures.told)
 
 pub returns-in-Drain-clause-answered : goal.returns-in-Drain-clause-answered
-unfolding operate
+unfolding lined operate operator.operate calmed
 returns-in-Drain-clause-answered g c =
-    at_event _ _ _ _ _ _ _ _ _ _ c.in-Drain.is (unbuilt_answered _ _ _ _ _ _ _ _ _ _ refl c.unbuilt-in-Drain.ensures.told)
-
-pub returns-in-Clock-clause-answered : goal.returns-in-Clock-clause-answered
-unfolding operate
-returns-in-Clock-clause-answered g c =
-    at_event _ _ _ _ _ _ _ _ _ _ c.in-Clock.is (unbuilt_answered _ _ _ _ _ _ _ _ _ _ refl c.unbuilt-in-Clock.ensures.told)
-
-pub returns-in-Peek-clause-answered : goal.returns-in-Peek-clause-answered
-unfolding operate
-returns-in-Peek-clause-answered g c =
-    at_event _ _ _ _ _ _ _ _ _ _ c.in-Peek.is (unbuilt_answered _ _ _ _ _ _ _ _ _ _ refl c.unbuilt-in-Peek.ensures.told)
+    at_event _ _ _ _ _ _ _ _ _ _ c.in-Drain.is (unbuilt_answered _ _ _ _ _ _ _ _ _ _ (record { calm = refl; is = refl }) c.unbuilt-in-Drain.ensures.told)
 
 pub returns-in-Dir-clause-answered : goal.returns-in-Dir-clause-answered
-unfolding operate
+unfolding lined operate operator.operate calmed
 returns-in-Dir-clause-answered g c =
-    at_event _ _ _ _ _ _ _ _ _ _ c.in-Dir.is (unbuilt_answered _ _ _ _ _ _ _ _ _ _ refl c.unbuilt-in-Dir.ensures.told)
+    at_event _ _ _ _ _ _ _ _ _ _ c.in-Dir.is (unbuilt_answered _ _ _ _ _ _ _ _ _ _ (record { calm = refl; is = refl }) c.unbuilt-in-Dir.ensures.told)
 
 pub returns-in-Show-clause-answered : goal.returns-in-Show-clause-answered
-unfolding operate
+unfolding lined operate operator.operate calmed
 returns-in-Show-clause-answered g c =
-    at_event _ _ _ _ _ _ _ _ _ _ c.in-Show.is (unbuilt_answered _ _ _ _ _ _ _ _ _ _ refl c.unbuilt-in-Show.ensures.told)
+    at_event _ _ _ _ _ _ _ _ _ _ c.in-Show.is (unbuilt_answered _ _ _ _ _ _ _ _ _ _ (record { calm = refl; is = refl }) c.unbuilt-in-Show.ensures.told)

@@ -1,11 +1,13 @@
 use Rattle.std.proofs.Common.{◌≡◌, ◌+◌, drop}
-use Rattle.its_plain.specs.Operator.{words_loaded}
-use Rattle.its_monitor.specs.World.{machine_of, Sound}
+use Rattle.its_stepped.specs.Unwind.{unwound}
+use Rattle.its_world.specs.World.{state_of}
+use Rattle.its_operator.specs.Kept.{Kept}
+use Rattle.its_top.specs.Answer.{LoadSo}
 use Rattle.its_top.proofs.answer.load_words.Given as goal
 
 abbrev pub invariant-loop-w : goal.invariant-loop-w
 invariant-loop-w l = record {
   at : l.at ≡ l.a + l.w-index;
-  sound : Sound l.m;
-  rest : words_loaded (machine_of l.m) l.slot l.at (drop l.w-index l.words) ≡ words_loaded (machine_of l.fn.m) l.slot l.a l.words;
+  sound : Kept l.m.world;
+  so_far : LoadSo (unwound (state_of l.fn.m.world) l.slot) (state_of l.m.world) l.slot l.a l.w-index l.words (drop l.w-index l.words);
 }

@@ -1,7 +1,7 @@
 use Rattle.std.proofs.Common.{◌≡◌, ◌≤◌, ◌+◌, ◌-◌, ◌*◌, ◌<◌, length}
 use Rattle.its_word.specs.Limits.{slots}
 use Rattle.its_session.specs.Events.{most_lines}
-use Rattle.its_monitor.specs.World.{Sound}
+use Rattle.its_operator.specs.Kept.{Kept}
 use Rattle.its_top.specs.Telling.{Begun}
 use Rattle.its_top.specs.Answer.{now_of}
 use Rattle.its_top.specs.Conclusion.{SoFar}
@@ -9,7 +9,7 @@ use Rattle.its_top.proofs.run.take_all.Given as goal
 
 abbrev pub invariant-loop-count : goal.invariant-loop-count
 invariant-loop-count g l = record {
-  sound : Sound l.m;
+  sound : Kept l.m.world;
   slot : l.p.slot < slots;
   most : l.p.number ≤ most_lines + 1;
   short : length l.kept.items ≤ 255;

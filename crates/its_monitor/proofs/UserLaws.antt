@@ -1,0 +1,316 @@
+-- A tick in user mode: what a unit or a delivery makes of a world is its row on the state that the world stands for.
+use Rattle.std.specs.Prelude.{if◌then◌else◌, ◌≡◌, ◌≢◌, ◌<◌, ◌≤◌, ◌^◌, ◌⊎◌, ℕ, Bool, true, false, Option, Some, None, IfSome, is_some, List, [], ◌∷◌, length, slice_index_or, slice_set, vec_len, refl}
+use Rattle.std.proofs.Common.{sym, ◌∙◌, ap, subst, inl, inr}
+use Rattle.std.proofs.Math.Nat.{ℕ_set}
+use Rattle.std.proofs.lemmas.Bool.{cases_eq, cases_lt, ne_eqb}
+use Rattle.std.proofs.lemmas.List.{get_or-set_same, get_or-set_other, get_or_past, set-get_or}
+use Rattle.its_word.specs.Only.{Only}
+use Rattle.its_word.specs.Core.{Core}
+use Rattle.its_word.specs.declared.calls.Pace.TheVariants.{Step, Work}
+use Rattle.its_word.specs.declared.calls.Site.{Site}
+use Rattle.its_word.specs.declared.jobs.Channel.TheVariants as channels
+use Rattle.its_word.specs.declared.jobs.Job.{Job}
+use Rattle.its_core.specs.Cores.{Cores, core_at, clear_at}
+use Rattle.its_jobs.specs.Table.{Table, job_at, superior_at}
+use Rattle.its_frame.specs.declared.change.Change.TheVariants as changes
+use Rattle.its_frame.specs.declared.frame.Frame.{Frame}
+use Rattle.its_plain.specs.CallStep.{among, becomes, faulted, informs, told}
+use Rattle.its_plain.specs.Change.{effect, with_inf}
+use Rattle.its_plain.specs.Interrupt.{Delivered, delivered}
+use Rattle.its_plain.specs.Job.{bit_of, with_pending}
+use Rattle.its_plain.specs.Machine.{Whole}
+use Rattle.its_plain.specs.Unit.{Outcome, Changed, Faulted, Called, unit}
+use Rattle.its_plain.proofs.MachineLaws.{machine_is}
+use Rattle.its_stepped.specs.Commit.{effect_on, effects_on}
+use Rattle.its_stepped.specs.Duty.{GivenBy}
+use Rattle.its_stepped.specs.SlotSame.{SlotSame}
+use Rattle.its_stepped.specs.Sound.{Sound}
+use Rattle.its_stepped.specs.State.{State, entered, same, turn}
+use Rattle.its_stepped.specs.Tick.{delivered_on, stepped, unit_on, works}
+use Rattle.its_stepped.specs.Unwind.{all_unwound, unwound}
+use Rattle.its_stepped.proofs.DecodingLaws.{decoding}
+use Rattle.its_stepped.proofs.FrameLaws.{on_slot_other}
+use Rattle.its_stepped.proofs.GivenLaws.{given}
+use Rattle.its_stepped.proofs.TickLaws.{seen_at, seen_none}
+use Rattle.its_stepped.proofs.UnwindLaws.{all_unwound_others, slot_same, slot_then}
+use Rattle.its_world.specs.World.{bare, chan_of, raw_of, raw_at, frame_at, state_of, Becomes, CoreBecomes, FrameBecomes, JobBecomes}
+use Rattle.its_world.specs.declared.world.World.{World}
+use Rattle.its_world.proofs.BareLaws.{bare_delivered, bare_outcome, delivered_bare, delivered_channels, delivered_stops, unit_bare, unit_channels}
+use Rattle.its_world.proofs.StateLaws.{kept_turn, raw_job, raw_some, state_is, turned_state}
+use Rattle.its_world.proofs.WorldLaws.{core_becomes, job_becomes, then_becomes}
+use Rattle.its_operator.specs.Kept.{Kept}
+use Rattle.its_operator.proofs.RegisterLaws.{raw_is}
+use Rattle.its_monitor.specs.Ticks.{Left, Made, UnitIn, left_by, ticked}
+
+-- the job of a slot in user mode, as the state has it
+frames_of : (w : World) (s : ℕ) → (state_of w).frames s ≡ frame_at w.frames.items s
+unfolding state_of
+frames_of w s = refl
+
+raw_addressed : (w : World) (s : ℕ) (q : Whole) → Kept w → frame_at w.frames.items s ≡ None → (state_of w).raw.jobs s ≡ Some q → q.job.pc < 2 ^ 18
+raw_addressed w s q kept none is =
+    subst (λ (p : Whole). p.job.pc < 2 ^ 18) (seen_none q)
+    (subst (λ (o : Option Whole). IfSome o (λ p. p.job.pc < 2 ^ 18)) (seen_at (state_of w) s q None is (frames_of w s ∙ none)) (kept.addressed s))
+
+pub user_addressed : (w : World) (s : ℕ) → Kept w → frame_at w.frames.items s ≡ None → IfSome (job_at w.jobs s) (λ j. j.pc < 2 ^ 18)
+user_addressed w s kept none = go (job_at w.jobs s) refl
+  where
+    go : (o : Option Job) → job_at w.jobs s ≡ o → IfSome o (λ j. j.pc < 2 ^ 18)
+    go (Some j) is = raw_addressed w s (raw_job (core_at w.core s) j (superior_at w.jobs s)) kept none (raw_is w s j is)
+    go None is = tt
+
+superior_apart : (w : World) (s : ℕ) (j : Job) → Kept w → frame_at w.frames.items s ≡ None → job_at w.jobs s ≡ Some j → superior_at w.jobs s ≢ Some s
+superior_apart w s j kept none is =
+    let q : Whole = raw_job (core_at w.core s) j (superior_at w.jobs s) in
+    subst (λ (o : Option Frame). GivenBy (state_of w) s q o) (frames_of w s ∙ none) ((given decoding (state_of w) s kept.distinct kept.sound).by q (raw_is w s j is))
+
+-- what holds of the raw job of a slot
+raw_fact : (P : Whole → Type 0) (w : World) (s : ℕ) (j : Job) → job_at w.jobs s ≡ Some j → P (raw_job (core_at w.core s) j (superior_at w.jobs s)) → IfSome (raw_at w.core w.jobs s) P
+raw_fact P w s j is h = subst (λ (x : Option Whole). IfSome x P) (sym (raw_some w s j is)) h
+
+-- the core of a slot is written, and then its registers
+put_then : (old mid new : World) (s : ℕ) (c : Core) (j : Job) → CoreBecomes old mid s c → JobBecomes mid new s j
+    → Becomes old new s c (Some j) (frame_at old.frames.items s) (clear_at old.core s)
+put_then old mid new s c j a b = then_becomes old mid new s c c (job_at old.jobs s) (Some j) (frame_at old.frames.items s) (frame_at old.frames.items s) (clear_at old.core s) (clear_at old.core s) a
+    (subst (λ (x : Core). Becomes mid new s x (Some j) (frame_at old.frames.items s) (clear_at old.core s)) a.core.here
+    (subst (λ (x : Option Frame). Becomes mid new s (core_at mid.core s) (Some j) x (clear_at old.core s)) a.frame.here
+    (subst (λ (x : Option ℕ). Becomes mid new s (core_at mid.core s) (Some j) (frame_at mid.frames.items s) x) a.reserved.here b)))
+
+-- a unit, on the core and the registers in place
+job_put : (t : Table) (s : ℕ) (i j : Job) → job_at t s ≡ Some i → Only (job_at t) (job_at (record t { jobs = slice_set t.jobs s (Some j) })) s (Some j)
+job_put t s i j h = record {
+  here = get_or-set_same t.jobs s (Some j) None (within (cases_lt s (length t.jobs)));
+  others = λ k ne. get_or-set_other t.jobs s k (Some j) None ne;
+}
+  where
+    within : (s < length t.jobs) ⊎ (length t.jobs ≤ s) → s < length t.jobs
+    within (inl lt) = lt
+    within (inr ge) = let n : slice_index_or t.jobs s None ≡ None = get_or_past t.jobs s None ge in cc
+
+put_back : (t : Table) (s : ℕ) (j : Job) → job_at t s ≡ Some j → record t { jobs = slice_set t.jobs s (Some j) } ≡ t
+put_back t s j h = ap (λ (xs : List (Option Job)). record t { jobs = xs }) (ap (slice_set t.jobs s) (sym h) ∙ set-get_or t.jobs s None)
+
+put_same : (w : World) (s : ℕ) (c : Cores) (i j : Job) (size : vec_len w.frames ≡ 64) → job_at w.jobs s ≡ Some i → c ≡ w.core → j ≡ i
+    → record w { core = c; jobs = record w.jobs { jobs = slice_set w.jobs.jobs s (Some j) }; slots = size } ≡ w
+put_same w s c i j size had core job =
+    ap (λ (x : vec_len w.frames ≡ 64). record w { core = c; jobs = record w.jobs { jobs = slice_set w.jobs.jobs s (Some j) }; slots = x }) (ℕ_set (vec_len w.frames) 64 size w.slots)
+    ∙ (λ t. record w { core = core t; jobs = put_back w.jobs s j (had ∙ ap Some (sym job)) t })
+
+pub unit_in : (w : World) (s : ℕ) (c : Cores) (i j : Job) (size : vec_len w.frames ≡ 64) (b : Bool) → job_at w.jobs s ≡ Some i
+    → ((k : ℕ) → k ≢ s → core_at c k ≡ core_at w.core k) → c.reserved ≡ w.core.reserved
+    → left_by (unit (core_at w.core s) i) (core_at w.core s) i ≡ (if b then Some (record { core = core_at c s; job = j }) else None) → (b ≡ false → (c ≡ w.core) × (j ≡ i))
+    → UnitIn w (record w { core = c; jobs = record w.jobs { jobs = slice_set w.jobs.jobs s (Some j) }; slots = size }) s (λ k. unit (core_at w.core s) k) b
+unit_in w s c i j size true had others reserved left same = record {
+  job = i;
+  left = record { core = core_at c s; job = j };
+  had = had;
+  is = left;
+  becomes = put_then w (record w { core = c }) _ s (core_at c s) j
+      (core_becomes w (record w { core = c }) s (core_at c s) (record { here = refl; others = others }) reserved refl refl refl)
+      (job_becomes (record w { core = c }) _ s j (job_put w.jobs s i j had) refl refl refl refl);
+}
+unit_in w s c i j size false had others reserved left same = record {
+  same = let e = same refl in put_same w s c i j size had e.0 e.1;
+  called = subst (λ (o : Option Job). IfSome o (λ k. left_by (unit (core_at w.core s) k) (core_at w.core s) k ≡ None)) (sym had) left;
+}
+
+-- what a unit leaves of a job is its row
+becomes_raw : (c d : Core) (superior : Option ℕ) (i k : Job) → k.channels ≡ i.channels → becomes d (bare k) (raw_job c i superior) ≡ raw_job d k superior
+becomes_raw c d superior i k h = λ t. record { core = d; job = bare k; superior = superior; channels = λ n. chan_of (slice_index_or (sym h t) n channels.Closed) }
+
+left_becomes : (old new : World) (s : ℕ) (l m : Left) → l ≡ m → frame_at old.frames.items s ≡ None → Becomes old new s m.core (Some m.job) (frame_at old.frames.items s) (clear_at old.core s)
+    → Becomes old new s l.core (Some l.job) None (clear_at old.core s)
+left_becomes old new s l m e none b =
+    subst (λ (f : Option Frame). Becomes old new s l.core (Some l.job) f (clear_at old.core s)) none
+    (subst (λ (x : Left). Becomes old new s x.core (Some x.job) (frame_at old.frames.items s) (clear_at old.core s)) (sym e) b)
+
+left_row : (old new : World) (s : ℕ) (i : Job) (o : Outcome) (l : Left) → job_at old.jobs s ≡ Some i → frame_at old.frames.items s ≡ None → unit (core_at old.core s) i ≡ o
+    → left_by o (core_at old.core s) i ≡ Some l → Becomes old new s l.core (Some l.job) (frame_at old.frames.items s) (clear_at old.core s)
+    → unit_on (state_of old) s (bare_outcome o) ≡ ticked (state_of new) Step
+left_row old new s i (Changed d k) l had none u is b =
+    let e : record { core = d; job = k } ≡ l = cc in
+    ap stepped (sym (turned_state old new s d k i None (becomes d (bare k)) (left_becomes old new s (record { core = d; job = k }) l e none b) had
+    (becomes_raw (core_at old.core s) d (superior_at old.jobs s) i k (unit_channels (core_at old.core s) d i k u))))
+left_row old new s i (Faulted f) l had none u is b =
+    let e : record { core = core_at old.core s; job = with_pending i (bit_of f) } ≡ l = cc in
+    ap stepped (sym (turned_state old new s (core_at old.core s) (with_pending i (bit_of f)) i None (faulted f)
+    (left_becomes old new s (record { core = core_at old.core s; job = with_pending i (bit_of f) }) l e none b) had refl))
+left_row old new s i (Called x) l had none u is b = absurd cc
+
+pub unit_row : (old new : World) (s : ℕ) → Made old new s (λ j. unit (core_at old.core s) j) → frame_at old.frames.items s ≡ None
+    → IfSome (raw_at old.core old.jobs s) (λ q. unit_on (state_of old) s (unit q.core q.job) ≡ ticked (state_of new) Step)
+unit_row old new s m none =
+    raw_fact (λ q. unit_on (state_of old) s (unit q.core q.job) ≡ ticked (state_of new) Step) old s m.job m.had
+    (ap (unit_on (state_of old) s) (unit_bare (core_at old.core s) m.job)
+    ∙ left_row old new s m.job (unit (core_at old.core s) m.job) m.left m.had none refl m.is m.becomes)
+
+-- the job enters the monitor
+pub call_row : (old new : World) (s : ℕ) (x : Site) → is_some (job_at old.jobs s) ≡ true → IfSome (job_at old.jobs s) (λ j. unit (core_at old.core s) j ≡ Called x)
+    → FrameBecomes old new s (Some (entered x)) → IfSome (raw_at old.core old.jobs s) (λ q. unit_on (state_of old) s (unit q.core q.job) ≡ ticked (state_of new) Work)
+call_row old new s x some h b = go (job_at old.jobs s) refl h
+  where
+    row : state_of new ≡ turn (state_of old) s same (Some (entered x))
+    row = kept_turn old new s (Some (entered x)) some b
+
+    go : (o : Option Job) → job_at old.jobs s ≡ o → IfSome o (λ j. unit (core_at old.core s) j ≡ Called x)
+        → IfSome (raw_of (core_at old.core s) (superior_at old.jobs s) o) (λ q. unit_on (state_of old) s (unit q.core q.job) ≡ ticked (state_of new) Work)
+    go (Some j) is u = ap (unit_on (state_of old) s) (unit_bare (core_at old.core s) j ∙ ap bare_outcome u) ∙ ap works (sym row)
+    go None is u = tt
+
+-- a delivery that does not stop the job
+delivered_by : (w : State) (s : ℕ) (q : Whole) (b : Bool) (d : Delivered) → d.stops ≡ b
+    → turn (effects_on (informs b q.superior) s (all_unwound (told b q.superior) w)) s (becomes d.core d.job) None ≡ delivered_on w s q d
+delivered_by w s q b d e = ap (λ (x : Bool). turn (effects_on (informs x q.superior) s (all_unwound (told x q.superior) w)) s (becomes d.core d.job) None) (sym e)
+
+nobody_unwound : (w : State) (o : Option ℕ) → all_unwound (told false o) w ≡ w
+unfolding all_unwound
+nobody_unwound w o = refl
+
+pub delivery_done : (old mid new : World) (s : ℕ) (i j : Job) → job_at old.jobs s ≡ Some i → frame_at old.frames.items s ≡ None
+    → CoreBecomes old mid s (delivered (core_at old.core s) i).core → j ≡ (delivered (core_at old.core s) i).job → JobBecomes mid new s j → (delivered (core_at old.core s) i).stops ≡ false
+    → IfSome (raw_at old.core old.jobs s) (λ q. state_of new ≡ delivered_on (state_of old) s q (delivered q.core q.job))
+delivery_done old mid new s i j had none a e b quiet =
+    let d : Delivered = delivered (core_at old.core s) i in
+    let q : Whole = raw_job (core_at old.core s) i (superior_at old.jobs s) in
+    raw_fact (λ q. state_of new ≡ delivered_on (state_of old) s q (delivered q.core q.job)) old s i had
+    (turned_state old new s d.core d.job i None (becomes d.core (bare d.job))
+    (subst (λ (f : Option Frame). Becomes old new s d.core (Some d.job) f (clear_at old.core s)) none (put_then old mid new s d.core d.job a (subst (JobBecomes mid new s) e b))) had
+    (becomes_raw (core_at old.core s) d.core (superior_at old.jobs s) i d.job (delivered_channels (core_at old.core s) i))
+    ∙ ap (λ (v : State). turn v s (becomes d.core (bare d.job)) None) (sym (nobody_unwound (state_of old) (superior_at old.jobs s)))
+    ∙ delivered_by (state_of old) s q false (bare_delivered d) quiet
+    ∙ ap (delivered_on (state_of old) s q) (sym (delivered_bare (core_at old.core s) i)))
+
+-- a delivery that stops the job leaves its core
+all_same : {X : Type 0} (f g : ℕ → X) (s : ℕ) → Only f g s (f s) → (k : ℕ) → g k ≡ f k
+all_same f g s o k = elim (cases_eq k s) [
+  | inl e ↦ ap g e ∙ o.here ∙ ap f (sym e)
+  | inr ne ↦ o.others k ne
+]
+
+core_same : (old mid : World) (s : ℕ) (c : Core) → CoreBecomes old mid s c → c ≡ core_at old.core s → state_of mid ≡ state_of old
+unfolding state_of
+core_same old mid s c b e =
+    let cores : (k : ℕ) → core_at mid.core k ≡ core_at old.core k = all_same (core_at old.core) (core_at mid.core) s (subst (λ (x : Core). Only (core_at old.core) (core_at mid.core) s x) e b.core) in
+    let jobs : (k : ℕ) → job_at mid.jobs k ≡ job_at old.jobs k = all_same (job_at old.jobs) (job_at mid.jobs) s b.job in
+    state_is _ _
+    (machine_is _ _ (λ k t. raw_of (cores k t) (slice_index_or (b.superiors t) k None) (jobs k t)) (λ k. refl) (λ k. refl) refl b.clock)
+    (all_same (frame_at old.frames.items) (frame_at mid.frames.items) s b.frame)
+    (all_same (clear_at old.core) (clear_at mid.core) s b.reserved)
+    refl
+
+stop_same : (old mid : World) (s : ℕ) (i : Job) → CoreBecomes old mid s (delivered (core_at old.core s) i).core → (delivered (core_at old.core s) i).stops ≡ true → state_of mid ≡ state_of old
+stop_same old mid s i b stops = core_same old mid s (delivered (core_at old.core s) i).core b (delivered_stops (core_at old.core s) i stops)
+
+pub stop_sound : (old mid : World) (s : ℕ) (i : Job) → CoreBecomes old mid s (delivered (core_at old.core s) i).core → (delivered (core_at old.core s) i).stops ≡ true → Kept old → Sound (state_of mid)
+stop_sound old mid s i b stops kept = subst Sound (sym (stop_same old mid s i b stops)) kept.sound
+
+-- telling the superior
+abbrev told_on : State → ℕ → Option ℕ → State
+told_on w s superior = effects_on (informs true superior) s (all_unwound (told true superior) w)
+
+told_row : (w : State) (s k : ℕ) → effects_on (changes.Inform k ∷ []) s (unwound w k) ≡ told_on w s (Some k)
+unfolding all_unwound
+told_row w s k = refl
+
+untold_row : (w : State) (s : ℕ) → w ≡ told_on w s None
+unfolding all_unwound
+untold_row w s = refl
+
+pub superior_told : (old mid new : World) (s k : ℕ) (o : Option ℕ) → o ≡ superior_at old.jobs s → o ≡ Some k → state_of mid ≡ unwound (state_of old) k
+    → state_of new ≡ effects_on (changes.Inform k ∷ []) s (state_of mid)
+    → state_of new ≡ told_on (state_of old) s (superior_at old.jobs s)
+superior_told old mid new s k o e is calmed set =
+    set ∙ ap (effects_on (changes.Inform k ∷ []) s) calmed ∙ told_row (state_of old) s k
+    ∙ ap (λ (x : Option ℕ). told_on (state_of old) s x) (sym is ∙ e)
+
+pub nobody_told : (w : World) (s : ℕ) (o : Option ℕ) → o ≡ superior_at w.jobs s → o ≡ None
+    → state_of w ≡ told_on (state_of w) s (superior_at w.jobs s)
+nobody_told w s o e is =
+    untold_row (state_of w) s ∙ ap (λ (x : Option ℕ). told_on (state_of w) s x) (sym is ∙ e)
+
+-- the slot of the job itself is as it was then
+among_not : (s k : ℕ) → s ≢ k → among k (s ∷ []) ≡ false
+among_not s k ne = rw (ne_eqb s k ne) refl
+
+inform_apart : (w : State) (j s k : ℕ) → k ≢ s → SlotSame w (effects_on (changes.Inform s ∷ []) j w) k
+unfolding effect_on effect
+inform_apart w j s k ne = record { job = on_slot_other w.raw.jobs s k with_inf ne; frame = refl; page = refl }
+
+told_apart : (w : State) (j : ℕ) (o : Option ℕ) → o ≢ Some j → SlotSame w (told_on w j o) j
+unfolding all_unwound
+told_apart w j (Some s) ne =
+    slot_then w (all_unwound (s ∷ []) w) (effects_on (changes.Inform s ∷ []) j (all_unwound (s ∷ []) w)) j
+    (all_unwound_others (s ∷ []) w j (among_not s j (λ e. ne (ap Some e))))
+    (inform_apart (all_unwound (s ∷ []) w) j s j (λ e. ne (ap Some (sym e))))
+told_apart w j None ne = slot_same w j
+
+-- what a world then has in that slot
+record Still (w : World) (s : ℕ) (c : Core) (i : Job) (superior : Option ℕ) : Type 0 where
+  job : Job
+  had : job_at w.jobs s ≡ Some job
+  raw : raw_job (core_at w.core s) job (superior_at w.jobs s) ≡ raw_job c i superior
+
+still_by : (w : World) (s : ℕ) (c : Core) (i : Job) (superior : Option ℕ) (o : Option Job) → job_at w.jobs s ≡ o
+    → raw_of (core_at w.core s) (superior_at w.jobs s) o ≡ Some (raw_job c i superior) → Still w s c i superior
+still_by w s c i superior (Some k) had is = record { job = k; had = had; raw = cc }
+still_by w s c i superior None had is = absurd cc
+
+still : (w : World) (s : ℕ) (c : Core) (i : Job) (superior : Option ℕ) → (state_of w).raw.jobs s ≡ Some (raw_job c i superior) → Still w s c i superior
+unfolding state_of
+still w s c i superior is = still_by w s c i superior (job_at w.jobs s) refl is
+
+-- a job that was stopped, after its superior was told
+record StillAt (old after : World) (s : ℕ) (i : Job) : Type 0 where
+  still : Still after s (core_at old.core s) i (superior_at old.jobs s)
+  frame : frame_at after.frames.items s ≡ None
+  row : state_of after ≡ told_on (state_of old) s (superior_at old.jobs s)
+
+stop_still : (old mid after : World) (s : ℕ) (i : Job) → job_at old.jobs s ≡ Some i → frame_at old.frames.items s ≡ None → Kept old
+    → CoreBecomes old mid s (delivered (core_at old.core s) i).core → (delivered (core_at old.core s) i).stops ≡ true
+    → state_of after ≡ told_on (state_of mid) s (superior_at mid.jobs s)
+    → StillAt old after s i
+stop_still old mid after s i had none kept b stops row =
+    let sup : Option ℕ = superior_at old.jobs s in
+    let e : state_of after ≡ told_on (state_of old) s sup = row ∙ (λ t. told_on (stop_same old mid s i b stops t) s (slice_index_or (b.superiors t) s None)) in
+    let alike : SlotSame (state_of old) (state_of after) s = subst (λ (v : State). SlotSame (state_of old) v s) (sym e) (told_apart (state_of old) s sup (superior_apart old s i kept none had)) in
+    record {
+      still = still after s (core_at old.core s) i sup (alike.job ∙ raw_is old s i had);
+      frame = sym (frames_of after s) ∙ alike.frame ∙ frames_of old s ∙ none;
+      row = e;
+    }
+
+pub some_is : {X : Type 0} (o : Option X) (x : X) → o ≡ Some x → is_some o ≡ true
+some_is o x e = ap is_some e
+
+pub stop_stands : (old mid after : World) (s : ℕ) (i : Job) → job_at old.jobs s ≡ Some i → frame_at old.frames.items s ≡ None → Kept old
+    → CoreBecomes old mid s (delivered (core_at old.core s) i).core → (delivered (core_at old.core s) i).stops ≡ true
+    → state_of after ≡ told_on (state_of mid) s (superior_at mid.jobs s)
+    → is_some (job_at after.jobs s) ≡ true
+stop_stands old mid after s i had none kept b stops row = let h = stop_still old mid after s i had none kept b stops row in some_is _ _ h.still.had
+
+-- its registers are written then
+still_becomes : (w : World) (s : ℕ) (c d : Core) (i j : Job) (superior : Option ℕ) (h : Still w s c i superior) → d ≡ c → j.channels ≡ i.channels
+    → becomes d (bare j) (raw_job (core_at w.core s) h.job (superior_at w.jobs s)) ≡ raw_job (core_at w.core s) j (superior_at w.jobs s)
+still_becomes w s c d i j superior h e f =
+    let core : d ≡ core_at w.core s = e ∙ sym (ap (λ (q : Whole). q.core) h.raw) in
+    let before : (raw_job (core_at w.core s) h.job (superior_at w.jobs s)).channels ≡ (raw_job c i superior).channels = ap (λ (q : Whole). q.channels) h.raw in
+    let after : (raw_job c i superior).channels ≡ (raw_job c j superior).channels = λ t n. chan_of (slice_index_or (sym f t) n channels.Closed) in
+    λ t. record { core = core t; job = bare j; superior = superior_at w.jobs s; channels = (before ∙ after) t }
+
+pub stop_done : (old mid after new : World) (s : ℕ) (i j : Job) → job_at old.jobs s ≡ Some i → frame_at old.frames.items s ≡ None → Kept old
+    → CoreBecomes old mid s (delivered (core_at old.core s) i).core → (delivered (core_at old.core s) i).stops ≡ true
+    → state_of after ≡ told_on (state_of mid) s (superior_at mid.jobs s)
+    → j ≡ (delivered (core_at old.core s) i).job → JobBecomes after new s j
+    → IfSome (raw_at old.core old.jobs s) (λ q. state_of new ≡ delivered_on (state_of old) s q (delivered q.core q.job))
+stop_done old mid after new s i j had none kept b stops row e put =
+    let c : Core = core_at old.core s in
+    let d : Delivered = delivered c i in
+    let q : Whole = raw_job c i (superior_at old.jobs s) in
+    let h = stop_still old mid after s i had none kept b stops row in
+    raw_fact (λ q. state_of new ≡ delivered_on (state_of old) s q (delivered q.core q.job)) old s i had
+    (turned_state after new s (core_at after.core s) d.job h.still.job None (becomes d.core (bare d.job))
+    (subst (λ (f : Option Frame). Becomes after new s (core_at after.core s) (Some d.job) f (clear_at after.core s)) h.frame (subst (JobBecomes after new s) e put)) h.still.had
+    (still_becomes after s c d.core i d.job (superior_at old.jobs s) h.still (delivered_stops c i stops) (delivered_channels c i))
+    ∙ ap (λ (v : State). turn v s (becomes d.core (bare d.job)) None) h.row
+    ∙ delivered_by (state_of old) s q true (bare_delivered d) stops
+    ∙ ap (delivered_on (state_of old) s q) (sym (delivered_bare c i)))

@@ -1,0 +1,32 @@
+use Rattle.std.proofs.Common.{Some, ap, ◌∙◌}
+use Rattle.its_frame.specs.declared.frame.Frame.TheVariants.{Entered, Parsed, Asked}
+use Rattle.its_pclsr.proofs.UnwindingLaws.{job_taken}
+use Rattle.its_monitor.proofs.CallLaws.{entered_fits, parsed_fits, parsed_words, entered_row, parsed_row, asked_row}
+use Rattle.its_monitor.proofs.calls.decode.Goals as goal
+
+pub parse-requires-clause-job : goal.parse-requires-clause-job
+parse-requires-clause-job c = job_taken _ _ _ (Entered c.in-Some-Entered.f) _ c.take_frame.ensures.frame (c.in-Some-Entered.is ∙ ap Some c.in-Some-Entered.field-0-is) c.take_frame.ensures.taken c.requires.kept.sound
+
+pub parse-requires-clause-fits : goal.parse-requires-clause-fits
+parse-requires-clause-fits c = entered_fits _ _ c.in-Some-Entered.f _ c.take_frame.ensures.frame (c.in-Some-Entered.is ∙ ap Some c.in-Some-Entered.field-0-is) c.requires.kept
+
+pub fetch-requires-clause-job : goal.fetch-requires-clause-job
+fetch-requires-clause-job c = job_taken _ _ _ (Parsed c.in-Some-Parsed.f) _ c.take_frame.ensures.frame (c.in-Some-Parsed.is ∙ ap Some c.in-Some-Parsed.field-0-is) c.take_frame.ensures.taken c.requires.kept.sound
+
+pub fetch-requires-clause-fits : goal.fetch-requires-clause-fits
+fetch-requires-clause-fits c = parsed_fits _ _ c.in-Some-Parsed.f _ c.take_frame.ensures.frame (c.in-Some-Parsed.is ∙ ap Some c.in-Some-Parsed.field-0-is) c.requires.kept
+
+pub fetch-requires-clause-words : goal.fetch-requires-clause-words
+fetch-requires-clause-words c = parsed_words _ _ c.in-Some-Parsed.f _ c.take_frame.ensures.frame (c.in-Some-Parsed.is ∙ ap Some c.in-Some-Parsed.field-0-is) c.requires.kept
+
+pub prepare-requires-clause-job : goal.prepare-requires-clause-job
+prepare-requires-clause-job c = job_taken _ _ _ (Asked c.in-Some-Asked.f) _ c.take_frame.ensures.frame (c.in-Some-Asked.is ∙ ap Some c.in-Some-Asked.field-0-is) c.take_frame.ensures.taken c.requires.kept.sound
+
+pub returns-in-Some-Entered-clause-row : goal.returns-in-Some-Entered-clause-row
+returns-in-Some-Entered-clause-row c = entered_row _ _ _ _ _ _ c.take_frame.ensures.frame c.take_frame.ensures.taken c.requires.kept c.in-Some-Entered.f (c.in-Some-Entered.is ∙ ap Some c.in-Some-Entered.field-0-is) c.parse.ensures.row
+
+pub returns-in-Some-Parsed-clause-row : goal.returns-in-Some-Parsed-clause-row
+returns-in-Some-Parsed-clause-row c = parsed_row _ _ _ _ _ _ c.take_frame.ensures.frame c.take_frame.ensures.taken c.requires.kept c.in-Some-Parsed.f (c.in-Some-Parsed.is ∙ ap Some c.in-Some-Parsed.field-0-is) c.fetch.ensures.row
+
+pub returns-in-Some-Asked-clause-row : goal.returns-in-Some-Asked-clause-row
+returns-in-Some-Asked-clause-row c = asked_row _ _ _ _ _ _ c.take_frame.ensures.frame c.take_frame.ensures.taken c.requires.kept c.in-Some-Asked.f (c.in-Some-Asked.is ∙ ap Some c.in-Some-Asked.field-0-is) c.prepare.ensures.row c.prepare.ensures.pace

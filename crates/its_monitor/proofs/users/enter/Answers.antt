@@ -1,0 +1,5 @@
+use Rattle.its_monitor.proofs.UserLaws.{call_row}
+use Rattle.its_monitor.proofs.users.enter.Goals as goal
+
+pub returns-clause-row : goal.returns-clause-row
+returns-clause-row c = call_row _ _ _ _ c.requires.job c.site_of-site.ensures c.put_frame.ensures

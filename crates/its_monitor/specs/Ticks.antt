@@ -1,0 +1,77 @@
+-- What the parts of a tick do to a world.
+use Rattle.std.specs.Prelude.{◌≡◌, ◌==◌, ◌&&◌, ℕ, Bool, true, false, Option, Some, None, IfSome, List, [], ◌∷◌, ◌++◌}
+use Rattle.its_word.specs.Core.{Core}
+use Rattle.its_word.specs.Tree.{slots_below}
+use Rattle.its_word.specs.declared.jobs.Job.{Job}
+use Rattle.its_word.specs.declared.calls.Ask.{Ask}
+use Rattle.its_word.specs.declared.calls.Pace.{Pace}
+use Rattle.its_core.specs.Cores.{core_at, clear_at}
+use Rattle.its_jobs.specs.Table.{job_at}
+use Rattle.its_frame.specs.declared.frame.Frame.{Frame}
+use Rattle.its_frame.specs.declared.frame.Frame.TheVariants as frames
+pub use Rattle.its_pclsr.specs.Carried.{pace_of}
+use Rattle.its_frame.specs.declared.name.CallName.{CallName}
+use Rattle.its_frame.specs.declared.name.CallName.TheVariants.{Logout}
+use Rattle.its_plain.specs.Change.{superiors}
+use Rattle.its_plain.specs.Decide.{call_named, listed}
+use Rattle.its_plain.specs.Job.{bit_of, with_pending}
+use Rattle.its_plain.specs.Machine.{Machine}
+use Rattle.its_plain.specs.Unit.{Outcome, Changed, Faulted, Called}
+use Rattle.its_stepped.specs.State.{State}
+use Rattle.its_stepped.specs.Tick.{Ticked}
+use Rattle.its_world.specs.World.{frame_at, Becomes}
+use Rattle.its_world.specs.declared.world.World.{World}
+use Rattle.its_monitor.specs.declared.reach.Reach.{Reach}
+use Rattle.its_monitor.specs.declared.reach.Reach.TheVariants.{Nobody, Job as OneJob, Tree}
+
+-- a tick that comes to this state and has this letter
+abbrev pub ticked : State → Pace → Ticked
+ticked w p = record { state = w; pace = p }
+
+-- the core and the registers that a unit leaves, or its fault; none where it is a call
+pub record Left : Type 0 where
+  pub core : Core
+  pub job : Job
+
+abbrev pub left_by : Outcome → Core → Job → Option Left
+left_by (Changed c k) d j = Some (record { core = c; job = k })
+left_by (Faulted f) d j = Some (record { core = d; job = with_pending j (bit_of f) })
+left_by (Called s) d j = None
+
+-- the unit of the job of slot s is made
+pub record Made (old new : World) (s : ℕ) (o : Job → Outcome) : Type 0 where
+  pub job : Job
+  pub left : Left
+  pub had : job_at old.jobs s ≡ Some job
+  pub is : left_by (o job) (core_at old.core s) job ≡ Some left
+  pub becomes : Becomes old new s left.core (Some left.job) (frame_at old.frames.items s) (clear_at old.core s)
+
+-- it is a call, and nothing is changed
+pub record Called_in (old new : World) (s : ℕ) (o : Job → Outcome) : Type 0 where
+  pub same : new ≡ old
+  pub called : IfSome (job_at old.jobs s) (λ j. left_by (o j) (core_at old.core s) j ≡ None)
+
+abbrev pub UnitIn : World → World → ℕ → (Job → Outcome) → Bool → Type 0
+UnitIn old new s o true = Made old new s o
+UnitIn old new s o false = Called_in old new s o
+
+-- a frame of a call that is still decoded
+abbrev pub is_decoded : Option Frame → Bool
+is_decoded (Some (frames.Entered f)) = true
+is_decoded (Some (frames.Parsed f)) = true
+is_decoded (Some (frames.Asked f)) = true
+is_decoded _ = false
+
+-- the slots that a call reaches, whose caller has slot j and this superior
+abbrev pub slots_in : Reach → Machine → ℕ → Option ℕ → List ℕ
+slots_in Nobody m j superior = []
+slots_in (OneJob s) m j superior = s ∷ []
+slots_in Tree m j superior = slots_below (superiors m) j ++ listed superior
+
+-- a call that is LOGOUT, and whose decoding gave no error
+abbrev pub outs : Option CallName → Bool
+outs (Some Logout) = true
+outs _ = false
+
+abbrev pub logs_out : Ask → Bool
+logs_out a = (a.fail == 0) && outs (call_named a.name)

@@ -1,0 +1,216 @@
+//! Ticks of a job inside a call: its decoding in two steps, its preparation, its trials, and what it owes.
+ghost use Rattle.std.specs.Prelude.{◌≡◌, ◌≤◌, ◌<◌, ◌^◌, Some, None, IfSome, is_some, true, length};
+ghost use Rattle.its_word.specs.Limits.{slots};
+ghost use Rattle.its_jobs.specs.Table.{job_at};
+ghost use Rattle.its_pclsr.specs.Apart.{Blank};
+ghost use Rattle.its_pclsr.specs.Carried.{standing_of};
+ghost use Rattle.its_plain.specs.Ask.{fetch as fetched_by, parse as parsed_by};
+ghost use Rattle.its_plain.specs.CallStep.{decision, faulted};
+ghost use Rattle.its_plain.specs.Footprint.{SiteFits};
+ghost use Rattle.its_plain.specs.Job.{bit_of};
+ghost use Rattle.its_stepped.specs.State.{holding, same, turn};
+ghost use Rattle.its_stepped.specs.Tick.{fetched_on, parsed_on, tick_in};
+ghost use Rattle.its_stepped.specs.Unwind.{unwind_one as unwind_one_of};
+ghost use Rattle.its_world.specs.World.{frame_at, raw_at, state_of};
+ghost use Rattle.its_operator.specs.Kept.{Kept};
+ghost use Rattle.its_monitor.specs.Ticks.{is_decoded, pace_of, ticked};
+
+use super::reach::unwind_reach;
+use call_basic::decide;
+use its_decode::{fetch_site, parse_site};
+use its_frame::{Asked, Decision, Entered, Frame, Holding, Parsed};
+use its_pclsr::{carry_out, unwind_one};
+use its_word::{Fault, ILO, MPV, Pace, WRO, Word};
+use its_world::World;
+
+/// A tick of a slot's job that is inside a call.
+pub fn in_call(w: &mut World, slot: u8) -> Pace
+    requires slot { slot < slots }
+    requires kept { Kept w.old }
+    requires frame { is_some (frame_at w.old.frames.items slot) ≡ true }
+    ensures row { IfSome (raw_at w.old.core w.old.jobs slot) (λ q. tick_in (state_of w.old) slot q (frame_at w.old.frames.items slot) ≡ ticked (state_of w.new) result) }
+    ensures blank { Blank w.new }
+{
+    match &w.frames[usize::from(slot)] {
+        Some(Frame::Holding(_)) => attempt(w, slot),
+        Some(Frame::Waiting(_)) => attempt(w, slot),
+        Some(Frame::Moving(_)) => pay(w, slot),
+        Some(Frame::Ending(_)) => pay(w, slot),
+        _ => decode(w, slot),
+    }
+}
+
+/// One of the steps that a call owes.
+#[tactic(auto, using(crate::proofs::CallLaws::blank_of))]
+fn pay(w: &mut World, slot: u8) -> Pace
+    requires slot { slot < slots }
+    requires kept { Kept w.old }
+    requires frame { is_some (frame_at w.old.frames.items slot) ≡ true }
+    ensures row { state_of w.new ≡ unwind_one_of (state_of w.old) slot }
+    ensures pace { result ≡ Pace.Work }
+    ensures blank { Blank w.new }
+{
+    unwind_one(w, slot);
+    Pace::Work
+}
+
+/// The next step of the decoding of a call.
+#[tactic(auto, using(crate::proofs::CallLaws::blank_of, its_pclsr::proofs::ApartLaws::blank_kept))]
+fn decode(w: &mut World, slot: u8) -> Pace
+    requires slot { slot < slots }
+    requires kept { Kept w.old }
+    requires frame { is_decoded (frame_at w.old.frames.items slot) ≡ true }
+    ensures row { IfSome (raw_at w.old.core w.old.jobs slot) (λ q. tick_in (state_of w.old) slot q (frame_at w.old.frames.items slot) ≡ ticked (state_of w.new) result) }
+    ensures blank { Blank w.new }
+{
+    match w.take_frame(slot) {
+        Some(Frame::Entered(f)) => parse(w, slot, f),
+        Some(Frame::Parsed(f)) => fetch(w, slot, f),
+        Some(Frame::Asked(f)) => prepare(w, slot, f),
+        _ => unreachable!(),
+    }
+}
+
+/// The block of a call is read.
+#[tactic(auto, using(its_pclsr::proofs::ApartLaws::blank_kept))]
+fn parse(w: &mut World, slot: u8, f: Entered) -> Pace
+    requires slot { slot < slots }
+    requires job { is_some (job_at w.old.jobs slot) ≡ true }
+    requires frame { frame_at w.old.frames.items slot ≡ None }
+    requires fits { SiteFits f.site }
+    requires blank { Blank w.old }
+    ensures row { IfSome (raw_at w.old.core w.old.jobs slot) (λ q. parsed_on (state_of w.old) slot f.site (parsed_by q.core f.site) ≡ ticked (state_of w.new) result) }
+    ensures blank { Blank w.new }
+{
+    match parse_site(&w.core, slot, &f.site) {
+        Ok(block) => {
+            w.put_frame(
+                slot,
+                Frame::Parsed(Parsed {
+                    site: f.site,
+                    block,
+                }),
+            );
+            Pace::Work
+        }
+        Err(fault) => {
+            set_fault(w, slot, fault);
+            Pace::Step
+        }
+    }
+}
+
+/// The addresses and values of a call's arguments are found.
+#[tactic(auto, using(its_pclsr::proofs::ApartLaws::blank_kept))]
+fn fetch(w: &mut World, slot: u8, f: Parsed) -> Pace
+    requires slot { slot < slots }
+    requires job { is_some (job_at w.old.jobs slot) ≡ true }
+    requires frame { frame_at w.old.frames.items slot ≡ None }
+    requires fits { SiteFits f.site }
+    requires words { f.site.channel ≡ None → 2 ≤ length f.block.items }
+    requires blank { Blank w.old }
+    ensures row { IfSome (raw_at w.old.core w.old.jobs slot) (λ q. fetched_on (state_of w.old) slot f.site (fetched_by q.core f.site f.block.items) ≡ ticked (state_of w.new) result) }
+    ensures blank { Blank w.new }
+{
+    match fetch_site(&w.core, slot, &f.site, &f.block) {
+        Ok(ask) => {
+            w.put_frame(slot, Frame::Asked(Asked { site: f.site, ask }));
+            Pace::Work
+        }
+        Err(fault) => {
+            set_fault(w, slot, fault);
+            Pace::Step
+        }
+    }
+}
+
+/// The call is made ready to be tried. No call that is built reserves a page.
+#[tactic(auto, using(its_world::proofs::StateLaws::kept_turn, its_pclsr::proofs::ApartLaws::blank_kept))]
+fn prepare(w: &mut World, slot: u8, f: Asked) -> Pace
+    requires slot { slot < slots }
+    requires job { is_some (job_at w.old.jobs slot) ≡ true }
+    requires blank { Blank w.old }
+    ensures row { state_of w.new ≡ turn (state_of w.old) slot same (Some (holding f.site f.ask None 0)) }
+    ensures pace { result ≡ Pace.Work }
+    ensures blank { Blank w.new }
+{
+    w.put_frame(
+        slot,
+        Frame::Holding(Holding {
+            site: f.site,
+            ask: f.ask,
+            page: None,
+            owes: 0,
+        }),
+    );
+    Pace::Work
+}
+
+/// Sets the bit of a fault in a slot's job.
+#[tactic(auto, using(crate::proofs::CallLaws::fault_set, its_pclsr::proofs::ApartLaws::blank_put))]
+fn set_fault(w: &mut World, slot: u8, fault: Fault)
+    requires slot { slot < slots }
+    requires job { is_some (job_at w.old.jobs slot) ≡ true }
+    requires frame { frame_at w.old.frames.items slot ≡ None }
+    requires blank { Blank w.old }
+    ensures row { state_of w.new ≡ turn (state_of w.old) slot (faulted fault) None }
+    ensures blank { Blank w.new }
+{
+    if let Some(mut job) = w.registers(slot) {
+        job.pend1 = job.pend1 | bit_of(fault);
+        w.put_registers(slot, job);
+    }
+}
+
+/// The bit of a fault.
+fn bit_of(fault: Fault) -> Word
+    ensures { result ≡ bit_of fault }
+{
+    match fault {
+        Fault::Mpv => Word::new(MPV),
+        Fault::Wro => Word::new(WRO),
+        Fault::Ilo => Word::new(ILO),
+    }
+}
+
+/// A call is tried: the jobs that it reaches are unwound, it is decided, and that is carried out.
+#[tactic(auto, using(crate::proofs::TrialLaws::stands_job))]
+fn attempt(w: &mut World, slot: u8) -> Pace
+    requires slot { slot < slots }
+    requires kept { Kept w.old }
+    requires stands { is_some (standing_of (frame_at w.old.frames.items slot)) ≡ true }
+    ensures row { IfSome (raw_at w.old.core w.old.jobs slot) (λ q. tick_in (state_of w.old) slot q (frame_at w.old.frames.items slot) ≡ ticked (state_of w.new) result) }
+    ensures blank { Blank w.new }
+{
+    unwind_reach(w, slot);
+    let decision = decide_in(w, slot);
+    let pace = pace_of(&decision);
+    carry_out(w, slot, decision);
+    pace
+}
+
+/// What the call in the frame of a slot comes to.
+fn decide_in(w: &World, slot: u8) -> Decision
+    requires slot { slot < slots }
+    requires job { is_some (job_at w.now.jobs slot) ≡ true }
+    requires stands { is_some (standing_of (frame_at w.now.frames.items slot)) ≡ true }
+    ensures { IfSome (standing_of (frame_at w.now.frames.items slot)) (λ f. IfSome (raw_at w.now.core w.now.jobs slot) (λ q. result ≡ decision (state_of w.now).raw slot q f.ask)) }
+{
+    match &w.frames[usize::from(slot)] {
+        Some(Frame::Holding(f)) => decide(w, slot, &f.ask),
+        Some(Frame::Waiting(f)) => decide(w, slot, &f.ask),
+        _ => unreachable!(),
+    }
+}
+
+/// The letter of a trial.
+fn pace_of(decision: &Decision) -> Pace
+    ensures { result ≡ pace_of decision.now }
+{
+    match decision {
+        Decision::Waits(_) => Pace::Wait,
+        Decision::Goes { .. } => Pace::Step,
+        Decision::Ends { .. } => Pace::Step,
+        Decision::Gone { .. } => Pace::Step,
+    }
+}

@@ -1,0 +1,124 @@
+//! The jobs that the commit of a call disturbs, beside its caller.
+ghost use Rattle.std.specs.Prelude.{◌≡◌, ◌<◌, Some, IfSome, is_some, true};
+ghost use Rattle.its_word.specs.Limits.{slots};
+ghost use Rattle.its_jobs.specs.Table.{job_at, superior_at};
+ghost use Rattle.its_pclsr.specs.Apart.{Blank};
+ghost use Rattle.its_pclsr.specs.Carried.{standing_of};
+ghost use Rattle.its_plain.specs.Decide.{reach};
+ghost use Rattle.its_stepped.specs.Sound.{Sound};
+ghost use Rattle.its_stepped.specs.Unwind.{all_unwound, unwound};
+ghost use Rattle.its_world.specs.World.{frame_at, raw_at, state_of};
+ghost use Rattle.its_monitor.specs.Ticks.{logs_out, slots_in};
+
+use call_basic::{call_named, target_of};
+use its_frame::{Ask, CallName, Frame};
+use its_pclsr::{unwind, unwind_below};
+use its_word::SLOTS;
+use its_world::World;
+
+/// The jobs that a call reaches: the one that its argument names, or of LOGOUT all jobs below its caller
+/// and its superior.
+#[derive(Clone, Copy, Debug, PartialEq, Eq)]
+enum Reach {
+    Nobody,
+    Job(u8),
+    Tree,
+}
+
+/// Unwinds the jobs that the call in the frame of a slot reaches.
+#[tactic(auto, using(crate::proofs::ReachLaws::reach_unwound))]
+pub fn unwind_reach(w: &mut World, slot: u8)
+    requires slot { slot < slots }
+    requires sound { Sound (state_of w.old) }
+    requires blank { Blank w.old }
+    requires job { is_some (job_at w.old.jobs slot) ≡ true }
+    requires stands { is_some (standing_of (frame_at w.old.frames.items slot)) ≡ true }
+    ensures row { IfSome (standing_of (frame_at w.old.frames.items slot)) (λ f. IfSome (raw_at w.old.core w.old.jobs slot) (λ q. state_of w.new ≡ all_unwound (reach (state_of w.old).raw slot q f.ask) (state_of w.old))) }
+    ensures blank { Blank w.new }
+{
+    let reach = reach_in(w, slot);
+    unwind_all(w, slot, reach);
+}
+
+/// Unwinds the jobs that a call of a slot's job reaches.
+#[tactic(auto, using(crate::proofs::ReachLaws::nobody_unwound, crate::proofs::ReachLaws::one_unwound))]
+fn unwind_all(w: &mut World, slot: u8, reach: Reach)
+    requires slot { slot < slots }
+    requires sound { Sound (state_of w.old) }
+    requires blank { Blank w.old }
+    ensures row { state_of w.new ≡ all_unwound (slots_in reach (state_of w.old).raw slot (superior_at w.old.jobs slot)) (state_of w.old) }
+    ensures blank { Blank w.new }
+{
+    match reach {
+        Reach::Nobody => {}
+        Reach::Job(target) => calm(w, target),
+        Reach::Tree => unwind_tree(w, slot),
+    }
+}
+
+/// Unwinds the jobs below a slot's job, and its superior.
+#[tactic(auto, using(crate::proofs::ReachLaws::tree_unwound, crate::proofs::ReachLaws::root_unwound))]
+fn unwind_tree(w: &mut World, slot: u8)
+    requires slot { slot < slots }
+    requires sound { Sound (state_of w.old) }
+    requires blank { Blank w.old }
+    ensures row { state_of w.new ≡ all_unwound (slots_in Reach.Tree (state_of w.old).raw slot (superior_at w.old.jobs slot)) (state_of w.old) }
+    ensures blank { Blank w.new }
+{
+    let superior = w.jobs.superior(slot);
+    unwind_below(w, slot);
+    if let Some(superior) = superior {
+        calm(w, superior);
+    }
+}
+
+/// Unwinds the job of a slot, where there is one and it is inside a call.
+#[tactic(auto, using(crate::proofs::ReachLaws::calm_past, crate::proofs::ReachLaws::calm_still))]
+pub fn calm(w: &mut World, slot: u8)
+    requires sound { Sound (state_of w.old) }
+    requires blank { Blank w.old }
+    ensures row { state_of w.new ≡ unwound (state_of w.old) slot }
+    ensures sound { Sound (state_of w.new) }
+    ensures blank { Blank w.new }
+{
+    if usize::from(slot) < SLOTS && w.has_frame(slot) {
+        unwind(w, slot);
+    }
+}
+
+/// Whom the call in the frame of a slot reaches.
+fn reach_in(w: &World, slot: u8) -> Reach
+    requires slot { slot < slots }
+    requires job { is_some (job_at w.now.jobs slot) ≡ true }
+    requires stands { is_some (standing_of (frame_at w.now.frames.items slot)) ≡ true }
+    ensures { IfSome (standing_of (frame_at w.now.frames.items slot)) (λ f. IfSome (raw_at w.now.core w.now.jobs slot) (λ q. slots_in result (state_of w.now).raw slot (superior_at w.now.jobs slot) ≡ reach (state_of w.now).raw slot q f.ask)) }
+{
+    match &w.frames[usize::from(slot)] {
+        Some(Frame::Holding(f)) => reach_of(w, slot, &f.ask),
+        Some(Frame::Waiting(f)) => reach_of(w, slot, &f.ask),
+        _ => unreachable!(),
+    }
+}
+
+/// Whom a call reaches.
+#[tactic(auto, using(crate::proofs::ReachLaws::tree_reached, crate::proofs::ReachLaws::one_reached, crate::proofs::ReachLaws::nobody_reached))]
+fn reach_of(w: &World, slot: u8, ask: &Ask) -> Reach
+    requires slot { slot < slots }
+    requires job { is_some (job_at w.now.jobs slot) ≡ true }
+    ensures { IfSome (raw_at w.now.core w.now.jobs slot) (λ q. slots_in result (state_of w.now).raw slot (superior_at w.now.jobs slot) ≡ reach (state_of w.now).raw slot q ask.now) }
+{
+    if is_logout(ask) {
+        return Reach::Tree;
+    }
+    match target_of(w, slot, ask) {
+        Some(target) => Reach::Job(target),
+        None => Reach::Nobody,
+    }
+}
+
+/// Whether a call is LOGOUT, and its decoding gave no error.
+fn is_logout(ask: &Ask) -> bool
+    ensures { result ≡ logs_out ask.now }
+{
+    ask.fail == 0 && matches!(call_named(ask.name), Some(CallName::Logout))
+}

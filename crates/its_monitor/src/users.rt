@@ -1,0 +1,148 @@
+//! Ticks of a job in user mode.
+ghost use Rattle.std.specs.Prelude.{◌≡◌, ◌≢◌, ◌<◌, ◌^◌, ℕ, true, false, Some, None, IfSome, is_some, if◌then◌else◌};
+ghost use Rattle.its_word.specs.Limits.{slots};
+ghost use Rattle.its_core.specs.Cores.{core_at};
+ghost use Rattle.its_jobs.specs.Table.{job_at, superior_at};
+ghost use Rattle.its_pclsr.specs.Apart.{Blank};
+ghost use Rattle.its_plain.specs.CallStep.{informs, told};
+ghost use Rattle.its_plain.specs.Interrupt.{deliverable, delivered};
+ghost use Rattle.its_plain.specs.Unit.{Called, unit as unit_of};
+ghost use Rattle.its_stepped.specs.Commit.{effects_on};
+ghost use Rattle.its_stepped.specs.Sound.{Sound};
+ghost use Rattle.its_stepped.specs.Tick.{delivered_on, unit_on};
+ghost use Rattle.its_stepped.specs.Unwind.{all_unwound};
+ghost use Rattle.its_world.specs.World.{state_of, frame_at, raw_at, CoreBecomes};
+ghost use Rattle.its_operator.specs.Kept.{Kept};
+ghost use Rattle.pdp_exec.specs.Answer.{IsCalled};
+ghost use Rattle.its_monitor.specs.Ticks.{ticked, left_by, UnitIn};
+
+use super::reach::calm;
+use its_core::Core;
+use its_frame::{Change, Entered, Frame, Site};
+use its_ints::deliver;
+use its_pclsr::apply;
+use its_word::{Job, Pace, Word};
+use its_world::World;
+use pdp_exec::{Ended, run, site};
+
+/// The delivery of an interrupt to a slot's job with these registers.
+pub fn deliver_to(w: &mut World, slot: u8, job: Job)
+    requires slot { slot < slots }
+    requires kept { Kept w.old }
+    requires job { job_at w.old.jobs slot ≡ Some job }
+    requires frame { frame_at w.old.frames.items slot ≡ None }
+    requires deliverable { deliverable job ≡ true }
+    ensures row { IfSome (raw_at w.old.core w.old.jobs slot) (λ q. state_of w.new ≡ delivered_on (state_of w.old) slot q (delivered q.core q.job)) }
+    ensures blank { Blank w.new }
+{
+    let mut after = job;
+    if run_delivery(w, slot, &mut after) {
+        tell_superior(w, slot);
+    }
+    w.put_registers(slot, after);
+}
+
+/// Delivers on the core of a slot; tells whether a fatal bit stopped the job.
+fn run_delivery(w: &mut World, slot: u8, job: &mut Job) -> bool
+    requires slot { slot < slots }
+    requires deliverable { deliverable job.old ≡ true }
+    ensures core { CoreBecomes w.old w.new slot (delivered (core_at w.old.core slot) job.old).core }
+    ensures job { job.new ≡ (delivered (core_at w.old.core slot) job.old).job }
+    ensures stops { result ≡ (delivered (core_at w.old.core slot) job.old).stops }
+{
+    deliver(&mut w.core, slot, job)
+}
+
+/// Sets INF in the superior of a slot's job, where it has one. It is unwound first.
+#[tactic(auto, using(crate::proofs::UserLaws::superior_told, crate::proofs::UserLaws::nobody_told))]
+fn tell_superior(w: &mut World, slot: u8)
+    requires slot { slot < slots }
+    requires sound { Sound (state_of w.old) }
+    requires blank { Blank w.old }
+    ensures row { state_of w.new ≡ effects_on (informs true (superior_at w.old.jobs slot)) slot (all_unwound (told true (superior_at w.old.jobs slot)) (state_of w.old)) }
+    ensures blank { Blank w.new }
+{
+    if let Some(superior) = w.jobs.superior(slot) {
+        calm(w, superior);
+        apply(w, slot, &[Change::Inform { slot: superior }]);
+    }
+}
+
+/// The unit of a slot's job. Where it is a call of the monitor, the job enters it.
+#[tactic(auto, using(crate::proofs::UserLaws::user_addressed, crate::proofs::UserLaws::unit_row))]
+pub fn make_unit(w: &mut World, slot: u8) -> Pace
+    requires slot { slot < slots }
+    requires kept { Kept w.old }
+    requires job { is_some (job_at w.old.jobs slot) ≡ true }
+    requires frame { frame_at w.old.frames.items slot ≡ None }
+    ensures row { IfSome (raw_at w.old.core w.old.jobs slot) (λ q. unit_on (state_of w.old) slot (unit_of q.core q.job) ≡ ticked (state_of w.new) result) }
+    ensures blank { Blank w.new }
+{
+    if unit_in_place(w, slot) {
+        Pace::Step
+    } else {
+        enter(w, slot);
+        Pace::Work
+    }
+}
+
+/// Runs the unit of a slot's job on its core and its registers in place. A call is not made (false).
+fn unit_in_place(w: &mut World, slot: u8) -> bool
+    requires slot { slot < slots }
+    requires job { is_some (job_at w.old.jobs slot) ≡ true }
+    requires pc { IfSome (job_at w.old.jobs slot) (λ j. j.pc < 2 ^ 18) }
+    ensures { UnitIn w.old w.new slot (λ j. unit_of (core_at w.old.core slot) j) result }
+{
+    match w.jobs.job_mut(slot) {
+        Some(job) => run_unit(&mut w.core, slot, job),
+        None => unreachable!(),
+    }
+}
+
+/// Runs the unit of a job on its core and its registers. A fault sets its bit; a call is not made (false).
+fn run_unit(core: &mut Core, slot: u8, job: &mut Job) -> bool
+    requires slot { slot < slots }
+    requires pc { job.old.pc < 2 ^ 18 }
+    ensures left { left_by (unit_of (core_at core.old slot) job.old) (core_at core.old slot) job.old ≡ (if result then Some (record { core = core_at core.new slot; job = job.new }) else None) }
+    ensures others { (k : ℕ) → k ≢ slot → core_at core.new k ≡ core_at core.old k }
+    ensures reserved { core.new.reserved ≡ core.old.reserved }
+    ensures same { result ≡ false → (core.new ≡ core.old) × (job.new ≡ job.old) }
+{
+    match run(core, slot, job) {
+        Ended::Done => true,
+        Ended::Fault(bit) => {
+            job.pend1 = job.pend1 | Word::new(u64::from(bit));
+            true
+        }
+        Ended::Call => false,
+    }
+}
+
+/// The job of a slot enters the monitor.
+#[inline(never)]
+fn enter(w: &mut World, slot: u8)
+    requires slot { slot < slots }
+    requires job { is_some (job_at w.old.jobs slot) ≡ true }
+    requires pc { IfSome (job_at w.old.jobs slot) (λ j. j.pc < 2 ^ 18) }
+    requires called { IfSome (job_at w.old.jobs slot) (λ j. IsCalled (unit_of (core_at w.old.core slot) j)) }
+    requires blank { Blank w.old }
+    ensures row { IfSome (raw_at w.old.core w.old.jobs slot) (λ q. unit_on (state_of w.old) slot (unit_of q.core q.job) ≡ ticked (state_of w.new) Pace.Work) }
+    ensures blank { Blank w.new }
+{
+    let site = site_of(w, slot);
+    w.put_frame(slot, Frame::Entered(Entered { site }));
+}
+
+/// Where the job of a slot calls the monitor.
+fn site_of(w: &World, slot: u8) -> Site
+    requires slot { slot < slots }
+    requires job { is_some (job_at w.now.jobs slot) ≡ true }
+    requires pc { IfSome (job_at w.now.jobs slot) (λ j. j.pc < 2 ^ 18) }
+    requires called { IfSome (job_at w.now.jobs slot) (λ j. IsCalled (unit_of (core_at w.now.core slot) j)) }
+    ensures { IfSome (job_at w.now.jobs slot) (λ j. unit_of (core_at w.now.core slot) j ≡ Called result) }
+{
+    match w.jobs.job(slot) {
+        Some(job) => site(&w.core, slot, job),
+        None => unreachable!(),
+    }
+}

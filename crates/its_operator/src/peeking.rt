@@ -1,0 +1,181 @@
+ghost use Rattle.std.specs.Prelude.{◌≡◌, ◌<◌, true, Some, None, IfOk, OnOk, IfErr, is_some};
+ghost use Rattle.its_word.specs.Limits.{slots};
+ghost use Rattle.its_word.specs.declared.show.PeekState.TheVariants.{User};
+ghost use Rattle.its_core.specs.Cores.{core_at};
+ghost use Rattle.its_frame.specs.Left.{Few};
+ghost use Rattle.its_plain.specs.Arguments.{place_of_input};
+ghost use Rattle.its_plain.specs.Decide.{call_named};
+ghost use Rattle.its_stepped.specs.State.{plain};
+ghost use Rattle.its_stepped.specs.Lines.{peeked, state_shown, name_shown, name_read, first_shown, second_shown, word_of_input, word_shown, ask_in, byte_shown};
+ghost use Rattle.its_world.specs.World.{state_of};
+ghost use Rattle.its_operator.specs.Kept.{Kept};
+ghost use Rattle.its_operator.specs.Peeking.{Shows};
+
+#[cfg(test)]
+mod tests;
+
+use its_frame::{Ask, Frame};
+use its_word::{IOT, Peek, PeekState, Refusal, SIOT, SLEEP, Site, Word};
+use its_world::World;
+
+/// PEEK: how far a slot's job is inside a call. NoJob where the slot is empty. Nothing is unwound.
+#[tactic(auto, using(crate::proofs::PeekStateLaws::peek_absent, crate::proofs::PeekStateLaws::peek_some, crate::proofs::PeekStateLaws::peek_few, crate::proofs::PeekStateLaws::peek_user, crate::proofs::PeekStateLaws::peek_frame))]
+pub fn peek(w: &World, slot: u8) -> Result<Peek, Refusal>
+    requires slot { slot < slots }
+    requires kept { Kept w.now }
+    ensures shown { IfOk result (λ p. p ≡ peeked (state_of w.now) slot) }
+    ensures some { OnOk result (is_some ((state_of w.now).raw.jobs slot) ≡ true) }
+    ensures refused { IfErr result (λ e. (e ≡ Refusal.NoJob) × ((state_of w.now).raw.jobs slot ≡ None) × ((plain (state_of w.now)).jobs slot ≡ None)) }
+{
+    if w.registers(slot).is_none() {
+        return Err(Refusal::NoJob);
+    }
+    match &w.frames[usize::from(slot)] {
+        None => Ok(in_user_mode()),
+        Some(frame) => Ok(inside(w, slot, frame)),
+    }
+}
+
+/// What is shown of a job in user mode.
+fn in_user_mode() -> Peek
+    ensures { result ≡ record { state = User; name = None; left = 0; a = None; b = None; h = None } }
+{
+    Peek {
+        state: PeekState::User,
+        name: None,
+        left: 0,
+        a: None,
+        b: None,
+        h: None,
+    }
+}
+
+/// What is shown of a job that is inside a call.
+fn inside(w: &World, slot: u8, frame: &Frame) -> Peek
+    requires slot { slot < slots }
+    requires few { Few frame.now }
+    ensures { Shows (core_at w.now.core slot) frame.now result }
+{
+    let (a, b) = words_shown(w, slot, frame);
+    Peek {
+        state: state_shown(frame),
+        name: name_shown(frame),
+        left: frame.left(false),
+        a,
+        b,
+        h: byte_shown(frame),
+    }
+}
+
+/// The state that is shown of a frame.
+fn state_shown(frame: &Frame) -> PeekState
+    ensures { result ≡ state_shown (Some frame.now) }
+{
+    match frame {
+        Frame::Entered(_) => PeekState::Entered,
+        Frame::Parsed(_) => PeekState::Parsed,
+        Frame::Asked(_) => PeekState::Asked,
+        Frame::Holding(_) => PeekState::Holding,
+        Frame::Waiting(_) => PeekState::Waiting,
+        Frame::Moving(_) => PeekState::Moving,
+        Frame::Ending(_) => PeekState::Ending,
+    }
+}
+
+/// The name of a frame's call, once it is read.
+fn name_shown(frame: &Frame) -> Option<Word>
+    ensures { result ≡ name_shown (Some frame.now) }
+{
+    match frame {
+        Frame::Entered(_) => None,
+        Frame::Parsed(f) => name_read(&f.site, &f.block),
+        Frame::Asked(f) => Some(f.ask.name),
+        Frame::Holding(f) => Some(f.ask.name),
+        Frame::Waiting(f) => Some(f.ask.name),
+        Frame::Moving(f) => Some(f.ask.name),
+        Frame::Ending(f) => Some(f.ask.name),
+    }
+}
+
+/// The name in a block that is read: its second word. `.IOT` has no block.
+fn name_read(site: &Site, block: &[Word]) -> Option<Word>
+    ensures { result ≡ name_read site.now.channel block.now }
+{
+    match site.channel {
+        Some(_) => Some(Word::new(IOT)),
+        None => block.get(1).copied(),
+    }
+}
+
+/// The byte that a frame holds.
+fn byte_shown(frame: &Frame) -> Option<Word>
+    ensures { result ≡ byte_shown (Some frame.now) }
+{
+    match frame {
+        Frame::Moving(f) => Some(f.byte),
+        Frame::Entered(_) => None,
+        Frame::Parsed(_) => None,
+        Frame::Asked(_) => None,
+        Frame::Holding(_) => None,
+        Frame::Waiting(_) => None,
+        Frame::Ending(_) => None,
+    }
+}
+
+/// The words in core that are shown of a frame's call.
+fn words_shown(w: &World, slot: u8, frame: &Frame) -> (Option<Word>, Option<Word>)
+    requires slot { slot < slots }
+    ensures a { result.0 ≡ word_shown (core_at w.now.core slot) first_shown (ask_in (Some frame.now)) }
+    ensures b { result.1 ≡ word_shown (core_at w.now.core slot) second_shown (ask_in (Some frame.now)) }
+{
+    match frame {
+        Frame::Entered(_) => (None, None),
+        Frame::Parsed(_) => (None, None),
+        Frame::Asked(f) => words_of(w, slot, &f.ask),
+        Frame::Holding(f) => words_of(w, slot, &f.ask),
+        Frame::Waiting(f) => words_of(w, slot, &f.ask),
+        Frame::Moving(f) => words_of(w, slot, &f.ask),
+        Frame::Ending(f) => words_of(w, slot, &f.ask),
+    }
+}
+
+/// SIOT's pointer and count, SLEEP's time, of any other call none.
+#[tactic(auto, using(crate::proofs::PeekLaws::siot_first, crate::proofs::PeekLaws::siot_second, crate::proofs::PeekLaws::sleep_first, crate::proofs::PeekLaws::sleep_second, crate::proofs::PeekLaws::other_first, crate::proofs::PeekLaws::other_second))]
+fn words_of(w: &World, slot: u8, ask: &Ask) -> (Option<Word>, Option<Word>)
+    requires slot { slot < slots }
+    ensures a { result.0 ≡ word_of_input (core_at w.now.core slot) ask.now (first_shown (call_named ask.now.name)) }
+    ensures b { result.1 ≡ word_of_input (core_at w.now.core slot) ask.now (second_shown (call_named ask.now.name)) }
+{
+    if ask.name == Word::new(SIOT) {
+        return (
+            word_of_input(w, slot, ask, 1),
+            word_of_input(w, slot, ask, 2),
+        );
+    }
+    if ask.name == Word::new(SLEEP) {
+        return (word_of_input(w, slot, ask, 0), None);
+    }
+    (None, None)
+}
+
+/// The word in core at the place of an input; None also where that is past the last address.
+#[tactic(auto, using(crate::proofs::PeekLaws::word_there, crate::proofs::PeekLaws::no_place))]
+fn word_of_input(w: &World, slot: u8, ask: &Ask, k: usize) -> Option<Word>
+    requires slot { slot < slots }
+    ensures { result ≡ word_of_input (core_at w.now.core slot) ask.now (Some k) }
+{
+    match place_of_input(ask, k) {
+        None => None,
+        Some(at) => w.core.word(slot, at),
+    }
+}
+
+/// The place of an input, where it has one.
+fn place_of_input(ask: &Ask, k: usize) -> Option<u32>
+    ensures { result ≡ place_of_input ask.now k }
+{
+    match ask.inputs.get(k) {
+        Some(operand) => operand.place,
+        None => None,
+    }
+}

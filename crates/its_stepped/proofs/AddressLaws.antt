@@ -1,0 +1,278 @@
+-- The PC of each job stays an address through the steps of the plain machine.
+use Rattle.std.specs.Prelude.{if◌then◌else◌, ◌==◌, ◌&&◌, ◌≡◌, ◌<◌, ℕ, ◌+◌, ◌^◌, Bool, true, false, not, Option, Some, None, IfSome, List, [], ◌∷◌, Result, Ok, Err, option_map, refl}
+use Rattle.std.proofs.Common.{sym, subst, arith}
+use Rattle.std.proofs.lemmas.Nat.{mod_below}
+use Rattle.its_word.specs.Core.{Core, can_store, word_at}
+use Rattle.its_word.specs.Tree.{fresh_job}
+use Rattle.its_word.specs.Word.{right_of}
+use Rattle.its_word.specs.declared.access.Fault.{Fault}
+use Rattle.its_word.specs.declared.calls.Ask.{Ask}
+use Rattle.its_word.specs.declared.calls.Exit.{Exit}
+use Rattle.its_word.specs.declared.jobs.Job.{Job}
+use Rattle.its_frame.specs.declared.change.Change.{Change}
+use Rattle.its_frame.specs.declared.change.Change.TheVariants as changes
+use Rattle.its_frame.specs.declared.decision.Decision.{Decision}
+use Rattle.its_frame.specs.declared.decision.Decision.TheVariants.{Waits, Goes, Ends, Gone}
+use Rattle.its_frame.specs.declared.decision.Held.{Held}
+use Rattle.its_frame.specs.declared.name.CallName.{CallName}
+use Rattle.its_frame.specs.declared.name.CallName.TheVariants.{Hang, Sleep, Dismis, Usrvar, Logout, Iot}
+use Rattle.its_frame.specs.declared.variable.Variable.{Variable}
+use Rattle.its_frame.specs.declared.variable.Variable.TheVariants.{Uname, Jname, Uind, Suppro, Cnsl, Pages, Upc, Ustp, Pirqc, Ifpir, Mask, Msk2, Df1, Df2}
+use Rattle.its_plain.specs.Arguments.{input, has_input, place_of_input, revalued}
+use Rattle.its_plain.specs.Ask.{ask}
+use Rattle.its_plain.specs.CallBasic.{negated, sleep_tests, sleep, dismissed_by, dismiss_at, dismiss, Party, Oneself, Nobody, Channel, variable_named, by_oneself, by_superior, set_own, own_variable, set_other, value_of_other, other_variable, usrvar_of, party, usrvar}
+use Rattle.its_plain.specs.CallStep.{with_held, acted, decision, by_ask, by_unit, informs, delivery, by_delivery, unless_stopped, step_of, step}
+use Rattle.its_plain.specs.Change.{in_job, is_gone, left_job, removed, superiors, inferior, effect, effects}
+use Rattle.its_plain.specs.Decide.{call_named, decided_by, decided, target}
+use Rattle.its_plain.specs.Interrupt as interrupt
+use Rattle.its_plain.specs.Interrupt.{Delivered, deliverable, delivered, dismissed, dismissed_at, below}
+use Rattle.its_plain.specs.Machine.{Shut, TtyIn, TtyOut, Reads, Writes, On, Whole, Machine, changed, no_machine}
+use Rattle.its_plain.specs.Own.{on_channel, with_variable, advanced}
+use Rattle.its_plain.specs.Tests.{◌⇒◌, finishes, fails, goes, out}
+use Rattle.its_plain.specs.Unit.{Outcome, Changed, Faulted, Called, unit}
+use Rattle.its_plain.specs.View.{View, view}
+use Rattle.its_plain.proofs.DeliveryLaws.{delivered_placed}
+use Rattle.its_plain.proofs.UnitLaws.{unit_keeps}
+use Rattle.its_stepped.specs.Address.{Addressed}
+use Rattle.its_stepped.proofs.TestLaws.{by_test, first_holds}
+
+-- at the start of a session
+pub addressed_starts : Addressed no_machine
+unfolding no_machine
+addressed_starts = record { each = λ k. tt }
+
+-- one job
+abbrev pub AddressedBy : Option Whole → Type 0
+AddressedBy o = IfSome o (λ q. q.job.pc < 2 ^ 18)
+
+mapped_addressed : (f : Whole → Whole) (b : Bool) (o : Option Whole) → ((q : Whole) → q.job.pc < 2 ^ 18 → (f q).job.pc < 2 ^ 18) → AddressedBy o → AddressedBy (if b then option_map f o else o)
+mapped_addressed f true (Some q) h a = h q a
+mapped_addressed f true None h a = tt
+mapped_addressed f false o h a = a
+
+pub job_addressed : (m : Machine) (s : ℕ) (f : Whole → Whole) → ((q : Whole) → q.job.pc < 2 ^ 18 → (f q).job.pc < 2 ^ 18) → Addressed m → Addressed (in_job m s f)
+job_addressed m s f h a = record { each = λ k. mapped_addressed f (k == s) (m.jobs k) h (a.each k) }
+
+-- another machine with the same jobs
+jobs_addressed : (m n : Machine) → n.jobs ≡ m.jobs → Addressed m → Addressed n
+jobs_addressed m n e a = record { each = λ k. subst (λ (jobs : ℕ → Option Whole). AddressedBy (jobs k)) (sym e) (a.each k) }
+
+-- a removal
+removed_job : (gone : ℕ → Bool) (b : Bool) (o : Option Whole) → AddressedBy o → AddressedBy (left_job gone b o)
+removed_job gone true o a = tt
+removed_job gone false None a = tt
+removed_job gone false (Some q) a = a
+
+removed_addressed : (sup : ℕ → Option ℕ) (r : ℕ) (m : Machine) → Addressed m → Addressed (removed sup r m)
+unfolding removed
+removed_addressed sup r m a = record { each = λ k. removed_job (is_gone sup r) (is_gone sup r k) (m.jobs k) (a.each k) }
+
+-- a job that is made
+either_addressed : (b : Bool) (p o : Option Whole) → AddressedBy p → AddressedBy o → AddressedBy (if b then p else o)
+either_addressed true p o x a = x
+either_addressed false p o x a = a
+
+inferior_addressed : (j : ℕ) (o : Option Whole) (u n : ℕ) → (inferior j o u n).job.pc < 2 ^ 18
+unfolding fresh_job
+inferior_addressed j o u n = omega arith
+
+made_addressed : (m : Machine) (j s u n : ℕ) → Addressed m → Addressed (record m { jobs = changed m.jobs s (Some (inferior j (m.jobs j) u n)) })
+made_addressed m j s u n a = record { each = λ k. either_addressed (k == s) (Some (inferior j (m.jobs j) u n)) (m.jobs k) (inferior_addressed j (m.jobs j) u n) (a.each k) }
+
+-- a variable that is set
+pub variable_addressed : (v : Variable) (w : ℕ) (j : Job) → j.pc < 2 ^ 18 → (with_variable v w j).pc < 2 ^ 18
+unfolding with_variable
+variable_addressed Upc w j h = mod_below w (2 ^ 18) (omega arith)
+variable_addressed Ustp w j h = h
+variable_addressed Pirqc w j h = h
+variable_addressed Ifpir w j h = h
+variable_addressed Mask w j h = h
+variable_addressed Msk2 w j h = h
+variable_addressed Df1 w j h = h
+variable_addressed Df2 w j h = h
+variable_addressed Uname w j h = h
+variable_addressed Jname w j h = h
+variable_addressed Uind w j h = h
+variable_addressed Suppro w j h = h
+variable_addressed Cnsl w j h = h
+variable_addressed Pages w j h = h
+
+-- a change
+pub effect_addressed : (c : Change) (j : ℕ) (m : Machine) → Addressed m → Addressed (effect c j m)
+unfolding effect
+effect_addressed (changes.Open n on) j m a = job_addressed m j _ (λ q x. x) a
+effect_addressed (changes.Shut n) j m a = job_addressed m j _ (λ q x. x) a
+effect_addressed (changes.Move n at) j m a = job_addressed m j _ (λ q x. x) a
+effect_addressed (changes.Append n w) j m a = job_addressed m j _ (λ q x. x) a
+effect_addressed (changes.Close n) j m a = jobs_addressed (in_job m j (on_channel n (λ c. Shut))) _ refl (job_addressed m j _ (λ q x. x) a)
+effect_addressed (changes.Take c) j m a = jobs_addressed m _ refl a
+effect_addressed (changes.Put c b) j m a = jobs_addressed m _ refl a
+effect_addressed (changes.Hold c s) j m a = jobs_addressed m _ refl a
+effect_addressed (changes.Poke s p w) j m a = job_addressed m s _ (λ q x. x) a
+effect_addressed (changes.Set s v w) j m a = job_addressed m s _ (λ q x. variable_addressed v w q.job x) a
+effect_addressed (changes.Map s k) j m a = job_addressed m s _ (λ q x. x) a
+effect_addressed (changes.Unmap s k) j m a = job_addressed m s _ (λ q x. x) a
+effect_addressed (changes.Protect s k on) j m a = job_addressed m s _ (λ q x. x) a
+effect_addressed (changes.Make s u n) j m a = made_addressed m j s u n a
+effect_addressed (changes.Remove s) j m a = removed_addressed (superiors m) s m a
+effect_addressed (changes.Inform s) j m a = job_addressed m s _ (λ q x. x) a
+effect_addressed (changes.Delete x y z) j m a = jobs_addressed m _ refl a
+effect_addressed (changes.Rename x y z u v) j m a = jobs_addressed m _ refl a
+
+pub effects_addressed : (cs : List Change) (j : ℕ) (m : Machine) → Addressed m → Addressed (effects cs j m)
+effects_addressed [] j m a = a
+effects_addressed (c ∷ cs) j m a = effects_addressed cs j (effect c j m) (effect_addressed c j m a)
+
+-- a decision that leaves its job at an address
+abbrev pub LeavesAddress : Decision → Type 0
+LeavesAddress (Waits r) = Unit {0}
+LeavesAddress (Goes cs h vs) = Unit {0}
+LeavesAddress (Ends cs ss e) = e.pc < 2 ^ 18
+LeavesAddress (Gone cs) = Unit {0}
+
+pub advanced_addressed : (n : ℕ) (j : Job) → (advanced n j).pc < 2 ^ 18
+advanced_addressed n j = mod_below (j.pc + n) (2 ^ 18) (omega arith)
+
+sleep_leaves : (x : View) (a : Ask) → x.own.job.pc < 2 ^ 18 → LeavesAddress (sleep x a)
+unfolding sleep
+sleep_leaves x a h =
+    first_holds LeavesAddress (sleep_tests x a (input a 0) (place_of_input a 0)) (goes [] None (negated (x.clock + input a 0) ∷ []))
+    (λ t. advanced_addressed 2 x.own.job, (λ t. tt, (λ t. advanced_addressed 2 x.own.job, (λ t. advanced_addressed 1 x.own.job, (λ t. advanced_addressed 1 x.own.job, (λ t. h, tt))))))
+    (λ t. tt)
+
+-- DISMIS
+abbrev PopsAddress : Result Exit Fault → Type 0
+PopsAddress (Ok e) = e.pc < 2 ^ 18
+PopsAddress (Err f) = Unit {0}
+
+popped_address : (j : Job) (can : Bool) (o p r : Option ℕ) → PopsAddress (interrupt.dismissed_by j can o p r)
+popped_address j true (Some w) (Some d) (Some e) = mod_below w (2 ^ 18) (omega arith)
+popped_address j false (Some w) (Some d) (Some e) = tt
+popped_address j can (Some w) (Some d) None = tt
+popped_address j can (Some w) None r = tt
+popped_address j can None p r = tt
+
+pointer_address : (c : Core) (j : Job) (p : ℕ) (o : Option ℕ) → PopsAddress (dismissed_at c j p o)
+pointer_address c j p (Some s) = popped_address j (can_store c p) (word_at c (right_of s)) (word_at c (below s 1)) (word_at c (below s 2))
+pointer_address c j p None = tt
+
+dismissed_address : (c : Core) (j : Job) (p : ℕ) → PopsAddress (dismissed c j p)
+unfolding dismissed
+dismissed_address c j p = pointer_address c j p (word_at c p)
+
+dismissed_leaves : (x : View) (p w : ℕ) (r : Result Exit Fault) → x.own.job.pc < 2 ^ 18 → PopsAddress r → LeavesAddress (dismissed_by x p w r)
+dismissed_leaves x p w (Ok e) h k = k
+dismissed_leaves x p w (Err f) h k = h
+
+dismiss_leaves : (x : View) (a : Ask) → x.own.job.pc < 2 ^ 18 → LeavesAddress (dismiss x a)
+unfolding dismiss
+dismiss_leaves x a h = go (place_of_input a 0)
+  where
+    go : (o : Option ℕ) → LeavesAddress (dismiss_at x a o)
+    go (Some p) = dismissed_leaves x p (input a 0) (dismissed x.own.core x.own.job p) h (dismissed_address x.own.core x.own.job p)
+    go None = advanced_addressed 1 x.own.job
+
+-- USRVAR
+own_leaves : (x : View) (a : Ask) (y : Variable) (b : Bool) → LeavesAddress (set_own x a y b)
+own_leaves x a y true = variable_addressed y (input a 2) (advanced 2 x.own.job) (advanced_addressed 2 x.own.job)
+own_leaves x a y false = advanced_addressed 2 x.own.job
+
+own_variable_leaves : (x : View) (a : Ask) (o : Option Variable) → LeavesAddress (own_variable x a o)
+own_variable_leaves x a None = advanced_addressed 1 x.own.job
+own_variable_leaves x a (Some y) =
+    by_test LeavesAddress (has_input a 2 && not (by_oneself y)) (fails x a 0o22) (set_own x a y (has_input a 2)) (λ t. advanced_addressed 1 x.own.job) (λ t. own_leaves x a y (has_input a 2))
+
+other_variable_leaves : (x : View) (a : Ask) (k : ℕ) (write : Bool) (o : Option Variable) → LeavesAddress (other_variable x a k write o)
+other_variable_leaves x a k write None = advanced_addressed 1 x.own.job
+other_variable_leaves x a k write (Some y) =
+    first_holds LeavesAddress
+    (((has_input a 2 && not write) ⇒ fails x a 0o5) ∷ ((has_input a 2 && not (by_superior y)) ⇒ fails x a 0o22) ∷ [])
+    (finishes x (set_other k y (input a 2) (has_input a 2)) (out a.outputs.items (value_of_other k y x.other)))
+    (λ t. advanced_addressed 1 x.own.job, (λ t. advanced_addressed 1 x.own.job, tt)) (λ t. advanced_addressed 2 x.own.job)
+
+usrvar_leaves : (x : View) (a : Ask) → LeavesAddress (usrvar x a)
+unfolding usrvar
+usrvar_leaves x a = go (party x (input a 0))
+  where
+    go : (p : Party) → LeavesAddress (usrvar_of x a p)
+    go Oneself = own_variable_leaves x a (variable_named (input a 1))
+    go Nobody = advanced_addressed 1 x.own.job
+    go (Channel (On k write at)) = other_variable_leaves x a k write (variable_named (input a 1))
+    go (Channel Shut) = advanced_addressed 1 x.own.job
+    go (Channel TtyIn) = advanced_addressed 1 x.own.job
+    go (Channel TtyOut) = advanced_addressed 1 x.own.job
+    go (Channel (Reads f at)) = advanced_addressed 1 x.own.job
+    go (Channel (Writes f)) = advanced_addressed 1 x.own.job
+
+-- the calls by their names
+named_leaves : (x : View) (a : Ask) (o : Option CallName) → x.own.job.pc < 2 ^ 18 → LeavesAddress (decided_by x a o)
+named_leaves x a (Some Hang) h = tt
+named_leaves x a (Some Sleep) h = sleep_leaves x a h
+named_leaves x a (Some Dismis) h = dismiss_leaves x a h
+named_leaves x a (Some Usrvar) h = usrvar_leaves x a
+named_leaves x a (Some Logout) h = tt
+named_leaves x a (Some Iot) h = advanced_addressed 1 x.own.job
+named_leaves x a _ h = advanced_addressed 1 x.own.job
+
+pub decided_leaves : (x : View) (a : Ask) → x.own.job.pc < 2 ^ 18 → LeavesAddress (decided x a)
+unfolding decided
+decided_leaves x a h = by_test LeavesAddress (a.fail == 0) (decided_by x a (call_named a.name)) (fails x a a.fail) (λ t. named_leaves x a (call_named a.name) h) (λ t. advanced_addressed 1 x.own.job)
+
+pub decision_leaves : (m : Machine) (j : ℕ) (q : Whole) (a : Ask) → q.job.pc < 2 ^ 18 → LeavesAddress (decision m j q a)
+unfolding decision view
+decision_leaves m j q a h = decided_leaves (view m j q (target q a)) a h
+
+-- a call
+abbrev StepAddressed : Option Machine → Type 0
+StepAddressed (Some n) = Addressed n
+StepAddressed None = Unit {0}
+
+held_job : (a : Ask) (h : Option Held) (q : Whole) → (with_held a h q).job ≡ q.job
+held_job a None q = refl
+held_job a (Some b) q = refl
+
+acted_addressed : (m : Machine) (j : ℕ) (a : Ask) (d : Decision) → LeavesAddress d → Addressed m → StepAddressed (acted m j a d)
+unfolding acted
+acted_addressed m j a (Waits r) l h = tt
+acted_addressed m j a (Goes cs b vs) l h =
+    job_addressed (effects cs.items j m) j _ (λ q x. subst (λ (i : Job). i.pc < 2 ^ 18) (sym (held_job (revalued a vs.items) b q)) x) (effects_addressed cs.items j m h)
+acted_addressed m j a (Ends cs ss e) l h = job_addressed (effects cs.items j m) j _ (λ q x. l) (effects_addressed cs.items j m h)
+acted_addressed m j a (Gone cs) l h = effects_addressed (changes.Remove j ∷ cs.items) j m h
+
+ask_addressed : (m : Machine) (j : ℕ) (q : Whole) (r : Result Ask Fault) → q.job.pc < 2 ^ 18 → Addressed m → StepAddressed (by_ask m j q r)
+ask_addressed m j q (Ok a) p h = acted_addressed m j a (decision m j q a) (decision_leaves m j q a p) h
+ask_addressed m j q (Err f) p h = job_addressed m j _ (λ i x. x) h
+
+-- a unit
+pub unit_addressed : (c : Core) (j : Job) (d : Core) (k : Job) → unit c j ≡ Changed d k → k.pc < 2 ^ 18
+unit_addressed c j d k e = (unit_keeps c j d k e).pc
+
+by_unit_addressed : (m : Machine) (j : ℕ) (q : Whole) (o : Outcome) → unit q.core q.job ≡ o → q.job.pc < 2 ^ 18 → Addressed m → StepAddressed (by_unit m j q o)
+by_unit_addressed m j q (Changed c k) e p h = job_addressed m j _ (λ i x. unit_addressed q.core q.job c k e) h
+by_unit_addressed m j q (Faulted f) e p h = job_addressed m j _ (λ i x. x) h
+by_unit_addressed m j q (Called s) e p h = ask_addressed m j q (ask q.core s) p h
+
+-- a delivery
+delivery_addressed : (m : Machine) (j : ℕ) (q : Whole) (d : Delivered) → d.job.pc < 2 ^ 18 → Addressed m → Addressed (delivery m j q d)
+delivery_addressed m j q d p h = job_addressed (effects (informs d.stops q.superior) j m) j _ (λ i x. p) (effects_addressed (informs d.stops q.superior) j m h)
+
+-- a step
+user_addressed : (m : Machine) (j : ℕ) (q : Whole) (b : Bool) → q.job.pc < 2 ^ 18 → Addressed m → StepAddressed (by_delivery m j q b)
+user_addressed m j q true p h = delivery_addressed m j q (delivered q.core q.job) (delivered_placed q.core q.job p) h
+user_addressed m j q false p h = by_unit_addressed m j q (unit q.core q.job) refl p h
+
+running_addressed : (m : Machine) (j : ℕ) (q : Whole) (b : Bool) → q.job.pc < 2 ^ 18 → Addressed m → StepAddressed (unless_stopped m j q b)
+running_addressed m j q true p h = tt
+running_addressed m j q false p h = user_addressed m j q (deliverable q.job) p h
+
+slot_addressed : (m : Machine) (j : ℕ) (o : Option Whole) → AddressedBy o → Addressed m → StepAddressed (step_of m j o)
+slot_addressed m j None p h = tt
+slot_addressed m j (Some q) p h = running_addressed m j q q.job.stopped p h
+
+by_step : (m : Machine) (j : ℕ) → Addressed m → StepAddressed (step m j)
+unfolding step
+by_step m j h = slot_addressed m j (m.jobs j) (h.each j) h
+
+-- each PC stays an address
+pub step_addressed : (m n : Machine) (j : ℕ) → Addressed m → step m j ≡ Some n → Addressed n
+step_addressed m n j h e = subst StepAddressed e (by_step m j h)

@@ -1,0 +1,6 @@
+-- The PC of each job of a machine is an address.
+use Rattle.std.specs.Prelude.{◌<◌, ℕ, ◌^◌, IfSome}
+use Rattle.its_plain.specs.Machine.{Machine}
+
+pub record Addressed (m : Machine) : Type 0 where
+  pub each : (k : ℕ) → IfSome (m.jobs k) (λ q. q.job.pc < 2 ^ 18)
