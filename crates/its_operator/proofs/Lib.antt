@@ -6,4 +6,3 @@ pub mod LoadLaws
 pub mod StartLaws
 pub mod PeekLaws
 pub mod PeekStateLaws
-pub mod TypingLaws

@@ -28,8 +28,6 @@ pub mod TestLaws
 pub mod CallDuties
 pub mod UsrvarDuty
 pub mod LogoutDuty
-pub mod TtyDuty
-pub mod SiotDuty
 pub mod GivenLaws
 pub mod DistinctLaws
 pub mod FitLaws
@@ -37,4 +35,3 @@ pub mod WrittenLaws
 pub mod DecodingLaws
 pub mod CallLaws
 pub mod AddressLaws
-pub mod ConsoledLaws

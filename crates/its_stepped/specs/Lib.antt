@@ -13,4 +13,3 @@ pub mod Lines
 pub mod Upkeep
 pub mod Calling
 pub mod Address
-pub mod Consoled

@@ -11,5 +11,4 @@ pub mod FinishLaws
 pub mod LinedLaws
 pub mod PaceLaws
 pub mod LoadingLaws
-pub mod ConsoleLaws
 pub mod WritingLaws

@@ -1,3 +1,0 @@
-pub mod HoldLaws
-pub mod SizeLaws
-pub mod RawLaws
