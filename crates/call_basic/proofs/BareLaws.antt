@@ -1,6 +1,6 @@
 -- A return from a handler, and setting a variable, look at nothing of the channels of the registers.
-use Rattle.std.specs.Prelude.{◌≡◌, ℕ, Bool, true, false, Option, Some, None, Result, Ok, Err, refl}
-use Rattle.std.proofs.Common.{sym, ◌∙◌, ap}
+use Rattle.std.specs.Prelude.{◌≡◌, ℕ, Bool, Option, Some, None, Err, refl}
+use Rattle.std.proofs.Common.{ap}
 use Rattle.its_word.specs.Core.{Core, word_at, can_store}
 use Rattle.its_word.specs.Word.{right_of}
 use Rattle.its_word.specs.declared.access.Fault.TheVariants.{Mpv}

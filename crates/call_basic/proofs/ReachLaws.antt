@@ -1,5 +1,5 @@
 -- Into which job a USRVAR reaches, and what it finds there.
-use Rattle.std.specs.Prelude.{if◌then◌else◌, ◌≡◌, ◌==◌, ℕ, Bool, true, false, Option, Some, None, refl}
+use Rattle.std.specs.Prelude.{◌≡◌, ℕ, false, Some, None, refl}
 use Rattle.std.proofs.Common.{sym, ◌∙◌, ap}
 use Rattle.its_word.specs.declared.calls.Ask.{Ask}
 use Rattle.its_word.specs.declared.jobs.Job.{Job}
@@ -9,8 +9,8 @@ use Rattle.its_core.specs.Cores.{core_at}
 use Rattle.its_jobs.specs.Table.{job_at, superior_at}
 use Rattle.its_plain.specs.Arguments.{input}
 use Rattle.its_plain.specs.CallBasic.{is_oneself, channel_at, value_of_other}
-use Rattle.its_plain.specs.Decide.{call_named, inferior_on, target_by, argument_of, target}
-use Rattle.its_plain.specs.Machine.{Chan, On, Whole}
+use Rattle.its_plain.specs.Decide.{call_named, inferior_on, target_by, target}
+use Rattle.its_plain.specs.Machine.{Chan, Whole}
 use Rattle.its_plain.specs.Own.{variable_of}
 use Rattle.its_world.specs.World.{raw_of, raw_at}
 use Rattle.its_world.specs.declared.world.World.{World}

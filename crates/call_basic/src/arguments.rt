@@ -1,12 +1,12 @@
 //! The arguments of a decoded call.
 ghost use Rattle.std.specs.Prelude.{◌≡◌};
 ghost use Rattle.its_plain.specs.Arguments.{has_input, input, place_of_input};
-ghost use Rattle.its_plain.specs.Footprint.{among, is_shared, times};
+ghost use Rattle.its_plain.specs.Footprint.{among, in_footprint, is_shared, times};
 
 use its_word::{Ask, Word};
 
 /// The value of an input; 0 where there is none.
-pub(crate) fn input(ask: &Ask, k: usize) -> Word
+pub fn input(ask: &Ask, k: usize) -> Word
     ensures { result ≡ input ask.now k }
 {
     match ask.inputs.get(k) {
@@ -16,7 +16,7 @@ pub(crate) fn input(ask: &Ask, k: usize) -> Word
 }
 
 /// The address of the word of an input; None where it is immediate or there is none.
-pub(crate) fn place_of_input(ask: &Ask, k: usize) -> Option<u32>
+pub fn place_of_input(ask: &Ask, k: usize) -> Option<u32>
     ensures { result ≡ place_of_input ask.now k }
 {
     match ask.inputs.get(k) {
@@ -53,4 +53,13 @@ pub(crate) fn is_shared(place: u32, ask: &Ask) -> bool
     ensures { result ≡ is_shared place ask.now }
 {
     among(place, &ask.decode) || times(place, &ask.operand) > 1
+}
+
+/// Whether a place is in the footprint of a call: the place of a decode word, or of the word of an input or of the
+/// control argument.
+#[tactic(auto, unfolding(its_plain::specs::Footprint::in_footprint))]
+pub fn in_footprint(place: u32, ask: &Ask) -> bool
+    ensures { result ≡ in_footprint place ask.now }
+{
+    among(place, &ask.decode) || among(place, &ask.operand)
 }

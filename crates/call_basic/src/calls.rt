@@ -4,13 +4,13 @@ ghost use Rattle.its_frame.specs.declared.decision.Decision.TheVariants.{Gone};
 ghost use Rattle.its_jobs.specs.Table.{job_at, superior_at};
 ghost use Rattle.its_plain.specs.CallBasic.{told_superior};
 ghost use Rattle.its_plain.specs.CallStep.{decision};
-ghost use Rattle.its_plain.specs.Decide.{decided, reached_by, target};
+ghost use Rattle.its_plain.specs.Decide.{decided_basic, reached_by, target};
 ghost use Rattle.its_world.specs.World.{raw_at, state_of};
 ghost use Rattle.call_basic.specs.Seen.{is_waiting, raw_with, seen_by};
 
 use super::arguments::input;
 use super::dismiss::dismiss;
-use super::ends::{fails, ioc};
+use super::ends::fails;
 use super::names::call_named;
 use super::party::{channel, is_oneself};
 use super::sleep::sleep;
@@ -19,30 +19,6 @@ use arrayvec::ArrayVec;
 use its_frame::{CallName, Change, Decision, Wait};
 use its_word::{Ask, Channel, Job, Word};
 use its_world::World;
-
-/// What the call of a slot's job comes to. An error of its decoding comes first.
-pub fn decide(w: &World, slot: u8, ask: &Ask) -> Decision
-    requires slot { slot < slots }
-    requires job { is_some (job_at w.now.jobs slot) ≡ true }
-    ensures { IfSome (raw_at w.now.core w.now.jobs slot) (λ q. result ≡ decision (state_of w.now).raw slot q ask.now) }
-{
-    match w.jobs.job(slot) {
-        Some(job) => decided(w, slot, job, ask),
-        None => unreachable!(),
-    }
-}
-
-/// Whether the call of a slot's job can go on.
-pub fn ready(w: &World, slot: u8, ask: &Ask) -> bool
-    requires slot { slot < slots }
-    requires job { is_some (job_at w.now.jobs slot) ≡ true }
-    ensures { IfSome (raw_at w.now.core w.now.jobs slot) (λ q. result ≡ not (is_waiting (decision (state_of w.now).raw slot q ask.now))) }
-{
-    match decide(w, slot, ask) {
-        Decision::Waits(_) => false,
-        _ => true,
-    }
-}
 
 /// The slot of the job into which the call of a slot's job reaches, through an open channel on it.
 #[tactic(auto, using(crate::proofs::RawLaws::target_here))]
@@ -84,11 +60,12 @@ fn reached(w: &World, slot: u8, job: &Job, party: Word) -> Option<u8>
     }
 }
 
-/// What the call of a job with these registers comes to.
-#[tactic(auto, unfolding(its_plain::specs::Decide::decided, its_plain::specs::View::view, its_world::specs::World::state_of))]
-fn decided(w: &World, slot: u8, job: &Job, ask: &Ask) -> Decision
+/// What the call of a slot's job with these registers comes to, where it is on jobs and times alone; any other
+/// fails with error 1. An error of its decoding comes first.
+#[tactic(auto, unfolding(its_plain::specs::Decide::decided_basic, its_plain::specs::View::view, its_world::specs::World::state_of))]
+pub fn decided(w: &World, slot: u8, job: &Job, ask: &Ask) -> Decision
     requires { slot < slots }
-    ensures { result ≡ decided (seen_by w.now slot job.now ask.now) ask.now }
+    ensures { result ≡ decided_basic (seen_by w.now slot job.now ask.now) ask.now }
 {
     if ask.fail != 0 {
         return fails(job, ask, ask.fail);
@@ -99,7 +76,6 @@ fn decided(w: &World, slot: u8, job: &Job, ask: &Ask) -> Decision
         Some(CallName::Dismis) => dismiss(w, slot, job, ask),
         Some(CallName::Usrvar) => usrvar(w, slot, job, ask),
         Some(CallName::Logout) => logout(w, slot),
-        Some(CallName::Iot) => ioc(job),
         _ => fails(job, ask, 1),
     }
 }

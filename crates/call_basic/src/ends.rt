@@ -37,7 +37,7 @@ fn pc_after(pc: u32, words: u32) -> u32
 }
 
 /// The registers of a job whose call is over: PC some words further, first part done cleared.
-pub(crate) fn exit_after(job: &Job, words: u32) -> Exit
+pub fn exit_after(job: &Job, words: u32) -> Exit
     requires { words < 2 ^ 18 }
     ensures { result ≡ exit_of (advanced words job.now) }
 {
@@ -49,7 +49,7 @@ pub(crate) fn exit_after(job: &Job, words: u32) -> Exit
 }
 
 /// A store of a word, where there is an address for it.
-pub(crate) fn store_at(place: Option<u32>, word: Word) -> ArrayVec<Store, 2>
+pub fn store_at(place: Option<u32>, word: Word) -> ArrayVec<Store, 2>
     ensures { result ≡ record { items = number_at place word } }
 {
     let mut stores = ArrayVec::new();
@@ -71,14 +71,14 @@ pub(crate) fn ends(stores: ArrayVec<Store, 2>, exit: Exit) -> Decision
 }
 
 /// The call finishes: PC past it and the instruction after it.
-pub(crate) fn finishes(job: &Job, stores: ArrayVec<Store, 2>) -> Decision
+pub fn finishes(job: &Job, stores: ArrayVec<Store, 2>) -> Decision
     ensures { result ≡ Ends (record { items = [] }) stores (exit_of (advanced 2 job.now)) }
 {
     ends(stores, exit_after(job, 2))
 }
 
 /// The call finishes, and does one thing outside its job's words and registers.
-pub(crate) fn finishes_with(job: &Job, change: Change, stores: ArrayVec<Store, 2>) -> Decision
+pub fn finishes_with(job: &Job, change: Change, stores: ArrayVec<Store, 2>) -> Decision
     ensures { result ≡ Ends (record { items = change ∷ [] }) stores (exit_of (advanced 2 job.now)) }
 {
     let mut changes = ArrayVec::new();
@@ -91,7 +91,7 @@ pub(crate) fn finishes_with(job: &Job, change: Change, stores: ArrayVec<Store, 2
 }
 
 /// The call fails: the number is stored at its error address, where it has one, and PC is past the call.
-pub(crate) fn fails(job: &Job, ask: &Ask, number: u8) -> Decision
+pub fn fails(job: &Job, ask: &Ask, number: u8) -> Decision
     ensures { result ≡ Ends (record { items = [] }) (record { items = number_at ask.now.error number }) (exit_of (advanced 1 job.now)) }
 {
     let stores = store_at(ask.error, Word::new(u64::from(number)));
@@ -110,7 +110,7 @@ fn bit_of(fault: Fault) -> Word
 }
 
 /// The call faults: the bit is pending, and PC stays.
-pub(crate) fn faults(job: &Job, fault: Fault) -> Decision
+pub fn faults(job: &Job, fault: Fault) -> Decision
     ensures { result ≡ Ends (record { items = [] }) (record { items = [] }) (exit_of (with_pending job.now (bit_of fault))) }
 {
     let exit = Exit {
@@ -121,7 +121,7 @@ pub(crate) fn faults(job: &Job, fault: Fault) -> Decision
 }
 
 /// `.IOT` fails: IOC is pending, and PC is past the call.
-pub(crate) fn ioc(job: &Job) -> Decision
+pub fn ioc(job: &Job) -> Decision
     ensures { result ≡ Ends (record { items = [] }) (record { items = [] }) (exit_of (with_pending (advanced 1 job.now) IOC_BIT)) }
 {
     let exit = Exit {

@@ -1,6 +1,6 @@
-//! What the calls HANG, SLEEP, DISMIS, USRVAR and LOGOUT come to, `.IOT` on a closed channel, and calls
-//! whose decoding gave an error or that are not built (docs/CALLS.md). A decision is found from the
-//! world as it stands, and changes nothing.
+//! What the calls HANG, SLEEP, DISMIS, USRVAR and LOGOUT come to, and calls whose decoding gave an error or
+//! that are not built (docs/CALLS.md); and the ways in which any call ends. A decision is found from the world as
+//! it stands, and changes nothing.
 #![tactic(auto)]
 
 mod arguments;
@@ -15,5 +15,9 @@ mod tests;
 mod usrvar;
 mod variables;
 
-pub use calls::{decide, ready, target_of};
+pub use arguments::{in_footprint, input, place_of_input};
+pub use calls::{decided, target_of};
+pub use ends::{exit_after, fails, faults, finishes, finishes_with, ioc, store_at};
 pub use names::call_named;
+pub use party::{channel, is_oneself};
+pub use sleep::{is_negative, is_read_only, is_shared_place};

@@ -7,14 +7,14 @@ ghost use Rattle.call_basic.specs.Seen.{channels_of};
 use its_word::{Channel, Job, Word};
 
 /// Whether an argument names the caller itself.
-pub(crate) fn is_oneself(party: Word) -> bool
+pub fn is_oneself(party: Word) -> bool
     ensures { result ≡ is_oneself party }
 {
     party.value() == 0o777777 || party.value() == 0o777777777777
 }
 
 /// The channel of a number; above 17 (octal) there is none that is open.
-pub(crate) fn channel(job: &Job, number: Word) -> Channel
+pub fn channel(job: &Job, number: Word) -> Channel
     ensures { chan_of result ≡ channel_at (channels_of job.now) number }
 {
     if number.value() < 16 {

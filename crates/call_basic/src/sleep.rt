@@ -49,7 +49,7 @@ pub(crate) fn sleep(w: &World, slot: u8, job: &Job, ask: &Ask) -> Decision
 }
 
 /// Whether bit 0 of a word is on.
-fn is_negative(word: u64) -> bool
+pub fn is_negative(word: u64) -> bool
     ensures { result ≡ is_negative word }
 {
     word >= WORDS / 2
@@ -57,7 +57,7 @@ fn is_negative(word: u64) -> bool
 
 /// Whether the argument has no word of its own: it is immediate, or its word is a decode word or that of
 /// another argument.
-fn is_shared_place(ask: &Ask, place: Option<u32>) -> bool
+pub fn is_shared_place(ask: &Ask, place: Option<u32>) -> bool
     ensures { result ≡ shared_place ask.now place }
 {
     match place {
@@ -67,7 +67,7 @@ fn is_shared_place(ask: &Ask, place: Option<u32>) -> bool
 }
 
 /// Whether the word of the argument cannot be stored.
-fn is_read_only(w: &World, slot: u8, place: Option<u32>) -> bool
+pub fn is_read_only(w: &World, slot: u8, place: Option<u32>) -> bool
     requires { slot < slots }
     ensures { result ≡ read_only (core_at w.now.core slot) place }
 {

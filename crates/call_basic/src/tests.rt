@@ -1,7 +1,7 @@
 ghost use Rattle.std.specs.Prelude.{◌≡◌, None, OnOk};
 ghost use Rattle.its_core.specs.Cores.{reserved_at};
 
-use super::{decide, ready, target_of};
+use super::{decided, target_of};
 use arrayvec::ArrayVec;
 use its_core::Core;
 use its_frame::{Change, Decision, Exit, Store, Variable, Wait};
@@ -190,8 +190,6 @@ enum Want {
     Finishes(Option<(u32, u64)>),
     /// It fails with a number.
     Fails(u64),
-    /// IOC is set.
-    Iot,
     /// It faults with a bit of pending word 1.
     Faults(u64),
     /// It finishes and sets a variable of slot 2.
@@ -214,7 +212,6 @@ fn wanted(rt: &impl Abort, want: Want) -> Decision {
         Want::Finishes(Some(store)) => ends(rt, None, &[store], exit(0o202, 0)),
         Want::Finishes(None) => ends(rt, None, &[], exit(0o202, 0)),
         Want::Fails(number) => ends(rt, None, &[(0o300, number)], exit(0o201, 0)),
-        Want::Iot => ends(rt, None, &[], exit(0o201, 0o20)),
         Want::Faults(bit) => ends(rt, None, &[], exit(0o200, bit)),
         Want::Sets(variable, value) => {
             let change = Change::Set {
@@ -227,7 +224,13 @@ fn wanted(rt: &impl Abort, want: Want) -> Decision {
     }
 }
 
-/// Each call at its errors, in waiting and as it finishes; whether it is ready, and whom it reaches into.
+/// What a call of slot 1 comes to.
+fn decision(rt: &impl Abort, w: &World, ask: &Ask) -> Decision {
+    decided(w, 1, w.jobs.job(1).expect(rt, "slot 1 has a job"), ask)
+}
+
+/// Each call at its errors, in waiting and as it finishes, and whom it reaches into; those on consoles and calls that
+/// are not built fail.
 #[test]
 fn calls(rt: HostRuntime) -> Result<(), Fail> {
     let w = world(&rt, rt.alloc())?;
@@ -406,18 +409,13 @@ fn calls(rt: HostRuntime) -> Result<(), Fail> {
             Want::Sets(Variable::Ustp, 0),
             Some(2),
         ),
-        (IOT, &[][..], &none[..], Want::Iot, None),
+        (IOT, &[][..], &none[..], Want::Fails(0o1), None),
         (OPEN, &[(0, None)][..], &none[..], Want::Fails(0o1), None),
     ] {
         let ask = ask(&rt, name, inputs, outputs);
         let wanted = wanted(&rt, want);
-        let is_ready = match wanted {
-            Decision::Waits(_) => false,
-            _ => true,
-        };
-        assert_eq!(rt; ready(&w, 1, &ask), is_ready, "{name:o}");
         assert_eq!(rt; target_of(&w, 1, &ask), target, "{name:o}");
-        assert_eq!(rt; decide(&w, 1, &ask), wanted, "{name:o}");
+        assert_eq!(rt; decision(&rt, &w, &ask), wanted, "{name:o}");
     }
     Ok(())
 }
@@ -438,7 +436,10 @@ fn registers(rt: HostRuntime) -> Result<(), Fail> {
         mask1: Word::new(6),
         ..exit(0o202, 0)
     };
-    assert_eq!(rt; decide(&w, 1, &set), ends(&rt, None, &[(0o310, 5)], left));
+    assert_eq!(rt;
+        decision(&rt, &w, &set),
+        ends(&rt, None, &[(0o310, 5)], left)
+    );
     let back = ask(&rt, DISMIS, &[(0o777700_000505, Some(0o17))], &[]);
     let left = Exit {
         flags: 0o400000,
@@ -447,16 +448,16 @@ fn registers(rt: HostRuntime) -> Result<(), Fail> {
         ..exit(0o202, 0)
     };
     assert_eq!(rt;
-        decide(&w, 1, &back),
+        decision(&rt, &w, &back),
         ends(&rt, None, &[(0o17, 0o777673_000500)], left)
     );
     let mut out = ask(&rt, LOGOUT, &[], &[]);
     let mut changes = ArrayVec::new();
     changes.push(Change::Inform { slot: 0 });
-    assert_eq!(rt; decide(&w, 1, &out), Decision::Gone { changes });
+    assert_eq!(rt; decision(&rt, &w, &out), Decision::Gone { changes });
     out.fail = 2;
     assert_eq!(rt;
-        decide(&w, 1, &out),
+        decision(&rt, &w, &out),
         ends(&rt, None, &[(0o300, 2)], exit(0o201, 0))
     );
     Ok(())

@@ -53,6 +53,13 @@ impl Console {
         self.input.try_push_back(b).is_ok()
     }
 
+    /// The first byte of the input, which stays; None where nothing waits.
+    pub fn first(&self) -> Option<u8>
+        ensures { result ≡ slice_get self.now.input 0 }
+    {
+        self.input.front().copied()
+    }
+
     /// Takes the typed byte that has waited longest; None where none waits.
     pub fn take(&mut self) -> Option<u8>
         ensures first { result ≡ slice_get self.old.input 0 }

@@ -7,6 +7,7 @@ use std::test::Fail;
 fn rings(rt: HostRuntime) -> Result<(), Fail> {
     let mut console = Console::open(rt.alloc())?;
     assert_eq!(rt; console.waiting(), (0, 0));
+    assert_eq!(rt; console.first(), None);
     assert_eq!(rt; console.take(), None);
     assert_eq!(rt; console.drain(), None);
     for round in 0..3u8 {
@@ -18,6 +19,7 @@ fn rings(rt: HostRuntime) -> Result<(), Fail> {
         assert!(rt; !console.put(255));
         assert_eq!(rt; console.waiting(), (64, 64));
         for k in 0..40u8 {
+            assert_eq!(rt; console.first(), Some(k + round));
             assert_eq!(rt; console.take(), Some(k + round));
         }
         assert_eq!(rt; console.waiting(), (24, 64));

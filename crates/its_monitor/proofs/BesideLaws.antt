@@ -25,12 +25,13 @@ use Rattle.its_plain.specs.Decode.{Shape, shaped, ask, ask_of, ask_by, parse_by,
 use Rattle.its_plain.specs.Decode as decode
 use Rattle.its_plain.specs.Interrupt.{deliverable, delivered}
 use Rattle.its_plain.specs.Machine.{Chan, Shut, TtyIn, TtyOut, Reads, Writes, On, Whole, Machine}
-use Rattle.its_plain.specs.Own.{with_stores, with_registers, on_channel, with_variable}
+use Rattle.its_plain.specs.Own.{with_stores, with_registers, opened_on, on_channel, with_variable}
 use Rattle.its_plain.specs.Traced.{Traced, goes_on, also}
 use Rattle.its_plain.specs.Unit.{Outcome, Changed, Faulted, Called, unit}
 use Rattle.its_plain.specs.UnitPlan as plans
 use Rattle.its_stepped.specs.Calling.{Distinct, Calling}
 use Rattle.its_stepped.specs.Commit.{effect_on, effects_on, committed}
+use Rattle.its_stepped.specs.Consoled.{Consoled}
 use Rattle.its_stepped.specs.Duty.{Duty, Meets, GivenBy, Given}
 use Rattle.its_stepped.specs.Quiet.{Reached, Quiet, AllQuiet}
 use Rattle.its_stepped.specs.SlotSame.{SlotSame}
@@ -38,6 +39,7 @@ use Rattle.its_stepped.specs.Sound.{SoundFrame, SoundBy, Sound}
 use Rattle.its_stepped.specs.State.{State, plain, seen, turn, same, reserving, entered, parsed, asked, holding, waiting}
 use Rattle.its_stepped.specs.Tick.{Ticked, helped_if, works, helps, user_on, unit_on, parsed_on, fetched_on, prepared_on, reserves, prepared_for, tried, tried_by, quarters, held_on, tick_in, tick_unless, tick_of, tick}
 use Rattle.its_stepped.specs.Unwind.{all_unwound}
+use Rattle.its_stepped.proofs.ConsoledLaws.{raw_consoled}
 use Rattle.its_stepped.proofs.DecodingLaws.{decoding}
 use Rattle.its_stepped.proofs.DotsLaws.{trying_reach}
 use Rattle.its_stepped.proofs.EffectLaws.{superiors_plain, effect_others, effects_others}
@@ -47,12 +49,12 @@ use Rattle.its_stepped.proofs.HelpLaws.{helped_if_others}
 use Rattle.its_stepped.proofs.OverLaws.{can_stored, debts_alike}
 use Rattle.its_stepped.proofs.OwnLaws.{frames_none}
 use Rattle.its_stepped.proofs.SoundLaws.{tick_sound}
-use Rattle.its_stepped.proofs.TickLaws.{asks, seen_at, seen_none, found, Trying, trying_holding, trying_waiting}
+use Rattle.its_stepped.proofs.TickLaws.{asks, seen_at, seen_none, Found, found, Trying, trying_holding, trying_waiting}
 use Rattle.its_stepped.proofs.UnwindLaws.{slot_same, slot_then, unwind_others, all_unwound_none, all_unwound_others, among_not_first}
 use Rattle.its_world.specs.World.{state_of}
 use Rattle.its_world.specs.declared.world.World.{World}
-use Rattle.its_pclsr.specs.Built.{IsBuilt, AllBuilt}
-use Rattle.its_pclsr.proofs.ReadyLaws.{DecisionBuilt, decision_built}
+use Rattle.its_pclsr.specs.Built.{CanMake, CanMakeAll}
+use Rattle.its_pclsr.proofs.ReadyLaws.{DecisionCan, decision_can_on}
 use Rattle.its_operator.specs.Kept.{Kept}
 use Rattle.its_monitor.specs.Beside.{body, OnNobody, ChannelLeft, Undisturbed, Unwound, Beside, AllBeside}
 use Rattle.its_monitor.specs.Ticks.{ticked}
@@ -268,8 +270,8 @@ effects_body (c ∷ cs) j u v k f h e ne fr =
     effects_body cs j (effect_on c j u) (effect_on c j v) k f h.1 raw ne ((effect_others c j u k h.0 ne).frame ∙ fr)
     ∙ ap (λ (m : Machine). option_map body (m.jobs k)) (sym raw) ∙ effect_body c j u k f h.0 ne fr ∙ ap (λ (m : Machine). option_map body (m.jobs k)) e
 
--- the changes that are built leave channels alone and make no job; a removal closes channels on the jobs that are removed. (Of
--- calls that are built later, more changes come here)
+-- the changes that can be made leave the channels of other slots alone and make no job; a removal closes channels on the
+-- jobs that are removed. (Of calls that are built later, more changes come here)
 slot_channels : (w : State) (s k n : ℕ) (h : Whole → Whole) → ((q : Whole) → (h q).channels ≡ q.channels) → channel_in (on_slot w.raw.jobs s h k) n ≡ channel_in (w.raw.jobs k) n
 slot_channels w s k n h same = go (k == s) (w.raw.jobs k)
   where
@@ -278,25 +280,38 @@ slot_channels w s k n h same = go (k == s) (w.raw.jobs k)
     go true None = refl
     go false o = refl
 
-built_none : (c : Change) (j : ℕ) (v : State) → IsBuilt c → NoneMade v (effect_on c j v)
+can_none : (c : Change) (j : ℕ) (v : State) → CanMake c v → NoneMade v (effect_on c j v)
 unfolding effect_on effect
-built_none (changes.Set s y x) j v b = λ i e. slot_none v s i (with_registers (with_variable y x)) e
-built_none (changes.Inform s) j v b = λ i e. slot_none v s i with_inf e
-built_none _ j v b = absurd b
+can_none (changes.Open n on) j v b = λ i e. slot_none v j i (on_channel n (λ c. opened_on on)) e
+can_none (changes.Shut n) j v b = λ i e. slot_none v j i (on_channel n (λ c. Shut)) e
+can_none (changes.Take c) j v b = λ i e. e
+can_none (changes.Put c x) j v b = λ i e. e
+can_none (changes.Hold c s) j v b = λ i e. e
+can_none (changes.Set s y x) j v b = λ i e. slot_none v s i (with_registers (with_variable y x)) e
+can_none (changes.Inform s) j v b = λ i e. slot_none v s i with_inf e
+can_none _ j v b = absurd b
 
-built_channels : (c : Change) (j : ℕ) (v : State) (k n : ℕ) → IsBuilt c → channel_in ((effect_on c j v).raw.jobs k) n ≡ channel_in (v.raw.jobs k) n
+other_channels : (v : State) (j k n : ℕ) (h : Whole → Whole) → k ≢ j → channel_in (on_slot v.raw.jobs j h k) n ≡ channel_in (v.raw.jobs k) n
+other_channels v j k n h ne = ap (λ (o : Option Whole). channel_in o n) (on_slot_other v.raw.jobs j k h ne)
+
+can_channels : (c : Change) (j : ℕ) (v : State) (k n : ℕ) → k ≢ j → CanMake c v → channel_in ((effect_on c j v).raw.jobs k) n ≡ channel_in (v.raw.jobs k) n
 unfolding effect_on effect
-built_channels (changes.Set s y x) j v k n b = slot_channels v s k n (with_registers (with_variable y x)) (λ q. refl)
-built_channels (changes.Inform s) j v k n b = slot_channels v s k n with_inf (λ q. refl)
-built_channels _ j v k n b = absurd b
+can_channels (changes.Open i on) j v k n ne b = other_channels v j k n (on_channel i (λ c. opened_on on)) ne
+can_channels (changes.Shut i) j v k n ne b = other_channels v j k n (on_channel i (λ c. Shut)) ne
+can_channels (changes.Take c) j v k n ne b = refl
+can_channels (changes.Put c x) j v k n ne b = refl
+can_channels (changes.Hold c s) j v k n ne b = refl
+can_channels (changes.Set s y x) j v k n ne b = slot_channels v s k n (with_registers (with_variable y x)) (λ q. refl)
+can_channels (changes.Inform s) j v k n ne b = slot_channels v s k n with_inf (λ q. refl)
+can_channels _ j v k n ne b = absurd b
 
-all_none : (cs : List Change) (j : ℕ) (v : State) → AllBuilt cs → NoneMade v (effects_on cs j v)
+all_none : (cs : List Change) (j : ℕ) (v : State) → CanMakeAll cs j v → NoneMade v (effects_on cs j v)
 all_none [] j v b = λ i e. e
-all_none (c ∷ cs) j v b = λ i e. all_none cs j (effect_on c j v) b.1 i (built_none c j v b.0 i e)
+all_none (c ∷ cs) j v b = λ i e. all_none cs j (effect_on c j v) b.1 i (can_none c j v b.0 i e)
 
-all_channels : (cs : List Change) (j : ℕ) (v : State) (k n : ℕ) → AllBuilt cs → channel_in ((effects_on cs j v).raw.jobs k) n ≡ channel_in (v.raw.jobs k) n
-all_channels [] j v k n b = refl
-all_channels (c ∷ cs) j v k n b = all_channels cs j (effect_on c j v) k n b.1 ∙ built_channels c j v k n b.0
+all_channels : (cs : List Change) (j : ℕ) (v : State) (k n : ℕ) → k ≢ j → CanMakeAll cs j v → channel_in ((effects_on cs j v).raw.jobs k) n ≡ channel_in (v.raw.jobs k) n
+all_channels [] j v k n ne b = refl
+all_channels (c ∷ cs) j v k n ne b = all_channels cs j (effect_on c j v) k n ne b.1 ∙ can_channels c j v k n ne b.0
 
 removed_there : (j s : ℕ) (v : State) → is_gone (superiors v.raw) j s ≡ true → (effect_on (changes.Remove j) j v).raw.jobs s ≡ None
 unfolding effect_on effect removed
@@ -327,12 +342,12 @@ unfolding effect_on effect removed
 removed_channels j v k n e =
     channels_left (effect_on (changes.Remove j) j v) (is_gone (superiors v.raw) j) (is_gone (superiors v.raw) j k) (v.raw.jobs k) n e (λ s gone. removed_there j s v gone)
 
-leaving_channels : (cs : List Change) (j : ℕ) (v : State) (k n : ℕ) → is_gone (superiors v.raw) j k ≡ false → AllBuilt cs
+leaving_channels : (cs : List Change) (j : ℕ) (v : State) (k n : ℕ) → k ≢ j → is_gone (superiors v.raw) j k ≡ false → CanMakeAll cs j (effect_on (changes.Remove j) j v)
     → ChannelLeft (effects_on (changes.Remove j ∷ cs) j v) (channel_in (v.raw.jobs k) n) (channel_in ((effects_on (changes.Remove j ∷ cs) j v).raw.jobs k) n)
-leaving_channels cs j v k n e b =
+leaving_channels cs j v k n ne e b =
     let u : State = effect_on (changes.Remove j) j v in
     channel_then u (effects_on cs j u) (channel_in (v.raw.jobs k) n) (channel_in (u.raw.jobs k) n) (channel_in ((effects_on cs j u).raw.jobs k) n)
-    (all_none cs j u b) (removed_channels j v k n e) (all_channels cs j u k n b)
+    (all_none cs j u b) (removed_channels j v k n e) (all_channels cs j u k n ne b)
 
 -- a call does its duty in every state that it can find. In this one all jobs are inside a call but for those that it
 -- reaches: so it changes none but these
@@ -378,21 +393,21 @@ changes_beside w v u j k f cs ne qv qu e channels spared free = record {
   free = λ t. frames_none cs j v k (free t);
 }
 
-decided_beside : (w v u : State) (j k : ℕ) (own : Whole) (s : Site) (a : Ask) (n : ℕ) (f : Frame) (d : Decision) → k ≢ j → Duty v j own s a n d → Duty u j own s a n d → DecisionBuilt d → u.raw ≡ v.raw
+decided_beside : (w v u : State) (j k : ℕ) (own : Whole) (s : Site) (a : Ask) (n : ℕ) (f : Frame) (d : Decision) → k ≢ j → Duty v j own s a n d → Duty u j own s a n d → DecisionCan d j v → u.raw ≡ v.raw
     → (disturbed (plain w) j k ≡ false → SlotSame w v k × (u.frames k ≡ Some f)) → (disturbed (plain w) j k ≡ true → v.frames k ≡ None) → Row w j k (tried w v j s a n d)
 unfolding committed
 decided_beside w v u j k own s a n f (Waits r) ne dv du b e spared free = turn_others w j k same (Some (waiting s a n)) ne
 decided_beside w v u j k own s a n f (Goes cs h vs) ne dv du b e spared free =
     steps_then w (effects_on cs.items j v) _ j k
-    (changes_beside w v u j k f cs.items ne dv.quiet du.quiet e (λ fr n. inl (all_channels cs.items j v k n b)) spared free)
+    (changes_beside w v u j k f cs.items ne dv.quiet du.quiet e (λ fr n. inl (all_channels cs.items j v k n ne b)) spared free)
     (λ i e. slot_none (effects_on cs.items j v) j i same e) (turn_others (effects_on cs.items j v) j k same _ ne)
 decided_beside w v u j k own s a n f (Ends cs ss x) ne dv du b e spared free =
     steps_then w (effects_on cs.items j v) _ j k
-    (changes_beside w v u j k f cs.items ne dv.quiet du.quiet e (λ fr n. inl (all_channels cs.items j v k n b)) spared free)
+    (changes_beside w v u j k f cs.items ne dv.quiet du.quiet e (λ fr n. inl (all_channels cs.items j v k n ne b)) spared free)
     (λ i e. slot_none (effects_on cs.items j v) j i same e) (turn_others (effects_on cs.items j v) j k same _ ne)
 decided_beside w v u j k own s a n f (Gone cs) ne dv du b e spared free =
     changes_beside w v u j k f (changes.Remove j ∷ cs.items) ne dv.quiet du.quiet e
-    (λ fr n. leaving_channels cs.items j v k n (ap (λ (m : Machine). is_gone (superiors m) j k) (sym e) ∙ stays_there u j j k f du.quiet.0 ne fr) b) spared free
+    (λ fr n. leaving_channels cs.items j v k n ne (ap (λ (m : Machine). is_gone (superiors m) j k) (sym e) ∙ stays_there u j j k f du.quiet.0 ne fr) b) spared free
 
 -- what its commit finds of another slot
 found_others : (w : State) (j k : ℕ) (own : Whole) (a : Ask) → among k (reach (plain w) j own a) ≡ false → SlotSame w (prepared_for w j own a) k
@@ -401,65 +416,73 @@ found_others w j k own a h =
     let u : State = all_unwound (reach (plain w) j own a) w in
     slot_then w u (helped_if (helps own a) u) k (all_unwound_others (reach (plain w) j own a) w k h) (helped_if_others (helps own a) u k)
 
+plain_consoles : (v : State) → (plain v).consoles ≡ v.raw.consoles
+unfolding plain
+plain_consoles v = refl
+
+found_consoles : (w v : State) (j : ℕ) → Found w v j → (plain w).consoles ≡ v.raw.consoles
+found_consoles w v j f = sym (ap (λ (m : Machine). m.consoles) f.plain) ∙ plain_consoles v
+
 found_free : (w : State) (j k : ℕ) (own : Whole) (a : Ask) → Sound w → among k (reach (plain w) j own a) ≡ true → (prepared_for w j own a).frames k ≡ None
 unfolding prepared_for
 found_free w j k own a sound h =
     let u : State = all_unwound (reach (plain w) j own a) w in
     (helped_if_others (helps own a) u k).frame ∙ all_unwound_none (reach (plain w) j own a) w k sound h
 
-tried_beside : (w : State) (j k : ℕ) (q : Whole) (s : Site) (a : Ask) (n : ℕ) → k ≢ j → Sound w → Distinct (plain w) → Trying w j q s a n → Meets w j (with_stores (debts a n) q) s a n
+tried_beside : (w : State) (j k : ℕ) (q : Whole) (s : Site) (a : Ask) (n : ℕ) → k ≢ j → Sound w → Distinct (plain w) → Consoled (plain w) → Trying w j q s a n → Meets w j (with_stores (debts a n) q) s a n
     → Row w j k (tried_by w j (with_stores (debts a n) q) s a n)
-tried_beside w j k q s a n ne sound distinct t m =
+tried_beside w j k q s a n ne sound distinct housed t m =
     let own : Whole = with_stores (debts a n) q in
     let v : State = prepared_for w j own a in
     let ks : List ℕ = reach (plain w) j own a in
     let u : State = crowded v ks s in
     let whom : disturbed (plain w) j k ≡ among k ks = trying_reach w j k q s a n t in
     decided_beside w v u j k own s a n (entered s) (decision (plain w) j own a) ne m.duty
-    (decision_duty decoding (plain w) u j own s a n (calling_crowded w j q s a n sound distinct t m)) (decision_built (plain w) j own a) refl
+    (decision_duty decoding (plain w) u j own s a n (calling_crowded w j q s a n sound distinct t m))
+    (decision_can_on (plain w) v j own a (found_consoles w v j (found w j own a sound m.apart)) (raw_consoled w j q housed t.here.job_is)) refl
     (λ d. let no : among k ks ≡ false = sym whom ∙ d in (found_others w j k own a no, rw no refl))
     (λ d. found_free w j k own a sound (sym whom ∙ d))
 
-held_beside : (w : State) (j k : ℕ) (q : Whole) (s : Site) (a : Ask) (page : Option ℕ) (n : ℕ) → k ≢ j → Sound w → Distinct (plain w) → Trying w j q s a n
+held_beside : (w : State) (j k : ℕ) (q : Whole) (s : Site) (a : Ask) (page : Option ℕ) (n : ℕ) → k ≢ j → Sound w → Distinct (plain w) → Consoled (plain w) → Trying w j q s a n
     → Meets w j (with_stores (debts a n) q) s a n → Row w j k (held_on w j (with_stores (debts a n) q) s a page n)
-held_beside w j k q s a None n ne sound distinct t m = tried_beside w j k q s a n ne sound distinct t m
-held_beside w j k q s a (Some p) n ne sound distinct t m = go (nat_lt p quarters)
+held_beside w j k q s a None n ne sound distinct housed t m = tried_beside w j k q s a n ne sound distinct housed t m
+held_beside w j k q s a (Some p) n ne sound distinct housed t m = go (nat_lt p quarters)
   where
     go : (b : Bool) → Row w j k (if b then works (reserving (turn w j same (Some (holding s a (Some (p + 1)) n))) j (Some (p + 1))) else tried_by w j (with_stores (debts a n) q) s a n)
     go true = page_others w j k same (Some (holding s a (Some (p + 1)) n)) (Some (p + 1)) ne
-    go false = tried_beside w j k q s a n ne sound distinct t m
+    go false = tried_beside w j k q s a n ne sound distinct housed t m
 
 -- a job inside a call
-frame_beside : (w : State) (j k : ℕ) (q : Whole) (f : Frame) → k ≢ j → Sound w → Distinct (plain w) → w.raw.jobs j ≡ Some q → w.frames j ≡ Some f → SoundFrame q f (w.reserved j)
+frame_beside : (w : State) (j k : ℕ) (q : Whole) (f : Frame) → k ≢ j → Sound w → Distinct (plain w) → Consoled (plain w) → w.raw.jobs j ≡ Some q → w.frames j ≡ Some f → SoundFrame q f (w.reserved j)
     → GivenBy w j q (Some f) → Row w j k (tick_in w j q (Some f))
 unfolding seen
-frame_beside w j k q (Entered f) ne sound distinct is fr h g = parsed_beside w j k q f.site (parse q.core f.site) ne (seen_at w j q (Some (Entered f)) is fr) h.quiet h.standing refl
-frame_beside w j k q (Parsed f) ne sound distinct is fr h g =
+frame_beside w j k q (Entered f) ne sound distinct housed is fr h g = parsed_beside w j k q f.site (parse q.core f.site) ne (seen_at w j q (Some (Entered f)) is fr) h.quiet h.standing refl
+frame_beside w j k q (Parsed f) ne sound distinct housed is fr h g =
     fetched_beside w j k q f.site f.block.items (fetch q.core f.site f.block.items) ne (seen_at w j q (Some (Parsed f)) is fr) h.quiet h.standing.0 h.standing.1 refl
-frame_beside w j k q (Asked f) ne sound distinct is fr h g = prepared_beside w j k f.site f.ask (reserves f.ask) ne
-frame_beside w j k q (Holding f) ne sound distinct is fr h g = held_beside w j k q f.site f.ask f.page f.owes ne sound distinct (trying_holding w j q f is fr h) g
-frame_beside w j k q (Waiting f) ne sound distinct is fr h g = tried_beside w j k q f.site f.ask f.owes ne sound distinct (trying_waiting w j q f is fr h) g
-frame_beside w j k q (Moving f) ne sound distinct is fr h g = unwind_others w j k ne
-frame_beside w j k q (Ending f) ne sound distinct is fr h g = unwind_others w j k ne
+frame_beside w j k q (Asked f) ne sound distinct housed is fr h g = prepared_beside w j k f.site f.ask (reserves f.ask) ne
+frame_beside w j k q (Holding f) ne sound distinct housed is fr h g = held_beside w j k q f.site f.ask f.page f.owes ne sound distinct housed (trying_holding w j q f is fr h) g
+frame_beside w j k q (Waiting f) ne sound distinct housed is fr h g = tried_beside w j k q f.site f.ask f.owes ne sound distinct housed (trying_waiting w j q f is fr h) g
+frame_beside w j k q (Moving f) ne sound distinct housed is fr h g = unwind_others w j k ne
+frame_beside w j k q (Ending f) ne sound distinct housed is fr h g = unwind_others w j k ne
 
 -- a tick
-running_beside : (w : State) (j k : ℕ) (q : Whole) (o : Option Frame) → k ≢ j → Sound w → Distinct (plain w) → w.raw.jobs j ≡ Some q → w.frames j ≡ o → SoundBy (Some q) o (w.reserved j)
+running_beside : (w : State) (j k : ℕ) (q : Whole) (o : Option Frame) → k ≢ j → Sound w → Distinct (plain w) → Consoled (plain w) → w.raw.jobs j ≡ Some q → w.frames j ≡ o → SoundBy (Some q) o (w.reserved j)
     → GivenBy w j q o → Row w j k (tick_in w j q o)
-running_beside w j k q None ne sound distinct is fr h g = user_beside w j k q (deliverable q.job) ne sound is fr refl
-running_beside w j k q (Some f) ne sound distinct is fr h g = frame_beside w j k q f ne sound distinct is fr h g
+running_beside w j k q None ne sound distinct housed is fr h g = user_beside w j k q (deliverable q.job) ne sound is fr refl
+running_beside w j k q (Some f) ne sound distinct housed is fr h g = frame_beside w j k q f ne sound distinct housed is fr h g
 
-unless_beside : (w : State) (j k : ℕ) (q : Whole) (b : Bool) → k ≢ j → Sound w → Distinct (plain w) → Given w j → w.raw.jobs j ≡ Some q → Row w j k (tick_unless w j q b)
-unless_beside w j k q true ne sound distinct g is = slot_same w k
-unless_beside w j k q false ne sound distinct g is =
-    running_beside w j k q (w.frames j) ne sound distinct is refl (subst (λ (o : Option Whole). SoundBy o (w.frames j) (w.reserved j)) is (sound.each j).by) (g.by q is)
+unless_beside : (w : State) (j k : ℕ) (q : Whole) (b : Bool) → k ≢ j → Sound w → Distinct (plain w) → Consoled (plain w) → Given w j → w.raw.jobs j ≡ Some q → Row w j k (tick_unless w j q b)
+unless_beside w j k q true ne sound distinct housed g is = slot_same w k
+unless_beside w j k q false ne sound distinct housed g is =
+    running_beside w j k q (w.frames j) ne sound distinct housed is refl (subst (λ (o : Option Whole). SoundBy o (w.frames j) (w.reserved j)) is (sound.each j).by) (g.by q is)
 
-slot_beside : (w : State) (j k : ℕ) (o : Option Whole) → k ≢ j → Sound w → Distinct (plain w) → Given w j → w.raw.jobs j ≡ o → Row w j k (tick_of w j o)
-slot_beside w j k None ne sound distinct g is = slot_same w k
-slot_beside w j k (Some q) ne sound distinct g is = unless_beside w j k q q.job.stopped ne sound distinct g is
+slot_beside : (w : State) (j k : ℕ) (o : Option Whole) → k ≢ j → Sound w → Distinct (plain w) → Consoled (plain w) → Given w j → w.raw.jobs j ≡ o → Row w j k (tick_of w j o)
+slot_beside w j k None ne sound distinct housed g is = slot_same w k
+slot_beside w j k (Some q) ne sound distinct housed g is = unless_beside w j k q q.job.stopped ne sound distinct housed g is
 
-tick_row : (w : State) (j k : ℕ) → k ≢ j → Sound w → Distinct (plain w) → Given w j → Row w j k (tick w j)
+tick_row : (w : State) (j k : ℕ) → k ≢ j → Sound w → Distinct (plain w) → Consoled (plain w) → Given w j → Row w j k (tick w j)
 unfolding tick
-tick_row w j k ne sound distinct g = slot_beside w j k (w.raw.jobs j) ne sound distinct g refl
+tick_row w j k ne sound distinct housed g = slot_beside w j k (w.raw.jobs j) ne sound distinct housed g refl
 
 -- a slot without frame in a sound state is in user mode, with no page, and its raw job is that of the plain machine
 page_none : (o : Option Whole) (f : Option Frame) (r : Option ℕ) → SoundBy o f r → f ≡ None → r ≡ None
@@ -489,16 +512,16 @@ by_letter w v j k Work sound h = h
 by_letter w v j k Wait sound h = h
 by_letter w v j k Off sound h = h
 
-pub tick_beside : (w : State) (j k : ℕ) → Sound w → Distinct (plain w) → k ≢ j → Beside w (tick w j).state j k (tick w j).pace
-tick_beside w j k sound distinct ne =
+pub tick_beside : (w : State) (j k : ℕ) → Sound w → Distinct (plain w) → Consoled (plain w) → k ≢ j → Beside w (tick w j).state j k (tick w j).pace
+tick_beside w j k sound distinct housed ne =
     let g : Given w j = given decoding w j distinct sound in
-    by_letter w (tick w j).state j k (tick w j).pace (tick_sound w j sound g) (tick_row w j k ne sound distinct g)
+    by_letter w (tick w j).state j k (tick w j).pace (tick_sound w j sound g) (tick_row w j k ne sound distinct housed g)
 
 -- the same of worlds
 pub beside_ticked : (old new : World) (s : ℕ) (p : Pace) → Kept old → tick (state_of old) s ≡ ticked (state_of new) p → (k : ℕ) → k ≢ s
     → Beside (state_of old) (state_of new) s k p
 beside_ticked old new s p kept e k ne =
-    subst (λ (t : Ticked). Beside (state_of old) t.state s k t.pace) e (tick_beside (state_of old) s k kept.sound kept.distinct ne)
+    subst (λ (t : Ticked). Beside (state_of old) t.state s k t.pace) e (tick_beside (state_of old) s k kept.sound kept.distinct (record { each = kept.consoled }) ne)
 
 -- of all other slots
 pub all_beside : (old new : World) (s : ℕ) (p : Pace) → Kept old → tick (state_of old) s ≡ ticked (state_of new) p → AllBeside (state_of old) (state_of new) s p

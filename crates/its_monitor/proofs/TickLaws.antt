@@ -14,12 +14,14 @@ use Rattle.its_plain.specs.Machine.{Whole, Machine}
 use Rattle.its_plain.specs.Unit.{unit}
 use Rattle.its_stepped.specs.Address.{Addressed}
 use Rattle.its_stepped.specs.Calling.{Distinct}
+use Rattle.its_stepped.specs.Consoled.{Consoled}
 use Rattle.its_stepped.specs.Duty.{Given}
 use Rattle.its_stepped.specs.Licence.{Licensed}
 use Rattle.its_stepped.specs.Sound.{Sound}
 use Rattle.its_stepped.specs.State.{State, plain}
 use Rattle.its_stepped.specs.Tick.{Ticked, delivered_on, unit_on, user_on, tick_in, tick_unless, tick_of, tick}
 use Rattle.its_stepped.proofs.AddressLaws.{step_addressed}
+use Rattle.its_stepped.proofs.ConsoledLaws.{step_consoled}
 use Rattle.its_stepped.proofs.DecodingLaws.{decoding}
 use Rattle.its_stepped.proofs.FitLaws.{step_distinct}
 use Rattle.its_stepped.proofs.GivenLaws.{given}
@@ -117,19 +119,26 @@ tick_licensed old new s p kept e =
 pub record Lasts (m : Machine) : Type 0 where
   pub distinct : Distinct m
   pub addressed : Addressed m
+  pub consoled : Consoled m
 
 lasts : (m n : Machine) (s : ℕ) (p : Pace) → Lasts m → Licensed m s p n → Lasts n
-lasts m n s Step h l = record { distinct = step_distinct m n s h.distinct l; addressed = step_addressed m n s h.addressed l }
+lasts m n s Step h l = record {
+  distinct = step_distinct m n s h.distinct l;
+  addressed = step_addressed m n s h.addressed l;
+  consoled = step_consoled m n s h.consoled l;
+}
 lasts m n s Work h (r, e) = subst Lasts (sym e) h
 lasts m n s Wait h (r, d, e) = subst Lasts (sym e) h
 lasts m n s Off h (r, e) = subst Lasts (sym e) h
 
 pub tick_kept : (old new : World) (s : ℕ) (p : Pace) → Kept old → tick (state_of old) s ≡ ticked (state_of new) p → Blank new → Kept new
 tick_kept old new s p kept e blank =
-    let l = lasts (plain (state_of old)) (plain (state_of new)) s p (record { distinct = kept.distinct; addressed = record { each = kept.addressed } }) (tick_licensed old new s p kept e) in
+    let h : Lasts (plain (state_of old)) = record { distinct = kept.distinct; addressed = record { each = kept.addressed }; consoled = record { each = kept.consoled } } in
+    let l = lasts (plain (state_of old)) (plain (state_of new)) s p h (tick_licensed old new s p kept e) in
     record {
       sound = subst (λ (t : Ticked). Sound t.state) e (tick_sound (state_of old) s kept.sound (given_of old s kept));
       distinct = l.distinct;
       blank = blank.cores;
       addressed = l.addressed.each;
+      consoled = l.consoled.each;
     }

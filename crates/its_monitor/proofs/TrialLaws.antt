@@ -15,6 +15,7 @@ use Rattle.its_stepped.specs.Commit.{committed}
 use Rattle.its_stepped.specs.Sound.{SoundBy, Sound}
 use Rattle.its_stepped.specs.Tick.{tick_in}
 use Rattle.its_stepped.specs.Unwind.{all_unwound}
+use Rattle.its_stepped.proofs.ConsoledLaws.{raw_consoled}
 use Rattle.its_world.specs.World.{state_of, raw_at, frame_at}
 use Rattle.its_world.specs.declared.world.World.{World}
 use Rattle.its_operator.specs.Kept.{Kept}
@@ -98,7 +99,8 @@ found_tries old mid s d kept f h =
     subst (λ (o : Option Holding). IfSome o (λ f. IfSome (raw_at mid.core mid.jobs s) (λ q. d ≡ decision (state_of mid).raw s q f.ask))) (ap standing_of (sym (frame_is mid s)) ∙ f.cleared.stands) h in
     let decides : d ≡ decision (state_of mid).raw s f.job f.call.ask =
     subst (λ (o : Option Whole). IfSome o (λ q. d ≡ decision (state_of mid).raw s q f.call.ask)) (sym (raw_is mid s) ∙ f.cleared.job) by_call in
-    tries (state_of old) (state_of mid) s f.job f.call d kept.sound kept.distinct (unmarked old) f.raw f.stands f.is decides
+    tries (state_of old) (state_of mid) s f.job f.call d kept.sound kept.distinct (unmarked old) f.raw (raw_consoled (state_of old) s f.job (record { each = kept.consoled }) f.raw)
+    f.stands f.is decides
 
 pub mid_ready : (old mid : World) (s : ℕ) (d : Decision) → Kept old → is_some (standing_of (frame_at old.frames.items s)) ≡ true → Reaches old mid s → Decides mid s d
     → IfSome (standing_of (frame_at mid.frames.items s)) (λ f. Ready (state_of mid) s f d)

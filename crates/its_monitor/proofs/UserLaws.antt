@@ -33,7 +33,7 @@ use Rattle.its_stepped.proofs.FrameLaws.{on_slot_other}
 use Rattle.its_stepped.proofs.GivenLaws.{given}
 use Rattle.its_stepped.proofs.TickLaws.{seen_at, seen_none}
 use Rattle.its_stepped.proofs.UnwindLaws.{all_unwound_others, slot_same, slot_then}
-use Rattle.its_world.specs.World.{bare, chan_of, raw_of, raw_at, frame_at, state_of, Becomes, CoreBecomes, FrameBecomes, JobBecomes}
+use Rattle.its_world.specs.World.{bare, chan_of, raw_of, raw_at, frame_at, state_of, Becomes, CoreBecomes, FrameBecomes, JobBecomes, console_at, holder_at}
 use Rattle.its_world.specs.declared.world.World.{World}
 use Rattle.its_world.proofs.BareLaws.{bare_delivered, bare_outcome, delivered_bare, delivered_channels, delivered_stops, unit_bare, unit_channels}
 use Rattle.its_world.proofs.StateLaws.{kept_turn, raw_job, raw_some, state_is, turned_state}
@@ -90,27 +90,28 @@ job_put t s i j h = record {
 put_back : (t : Table) (s : ℕ) (j : Job) → job_at t s ≡ Some j → record t { jobs = slice_set t.jobs s (Some j) } ≡ t
 put_back t s j h = ap (λ (xs : List (Option Job)). record t { jobs = xs }) (ap (slice_set t.jobs s) (sym h) ∙ set-get_or t.jobs s None)
 
-put_same : (w : World) (s : ℕ) (c : Cores) (i j : Job) (size : vec_len w.frames ≡ 64) → job_at w.jobs s ≡ Some i → c ≡ w.core → j ≡ i
-    → record w { core = c; jobs = record w.jobs { jobs = slice_set w.jobs.jobs s (Some j) }; slots = size } ≡ w
-put_same w s c i j size had core job =
-    ap (λ (x : vec_len w.frames ≡ 64). record w { core = c; jobs = record w.jobs { jobs = slice_set w.jobs.jobs s (Some j) }; slots = x }) (ℕ_set (vec_len w.frames) 64 size w.slots)
+put_same : (w : World) (s : ℕ) (c : Cores) (i j : Job) (size : vec_len w.frames ≡ 64) (count : vec_len w.consoles ≡ 8) → job_at w.jobs s ≡ Some i → c ≡ w.core → j ≡ i
+    → record w { core = c; jobs = record w.jobs { jobs = slice_set w.jobs.jobs s (Some j) }; slots = size; consoles_count = count } ≡ w
+put_same w s c i j size count had core job =
+    ap (λ (x : vec_len w.frames ≡ 64). record w { core = c; jobs = record w.jobs { jobs = slice_set w.jobs.jobs s (Some j) }; slots = x; consoles_count = count }) (ℕ_set (vec_len w.frames) 64 size w.slots)
+    ∙ ap (λ (x : vec_len w.consoles ≡ 8). record w { core = c; jobs = record w.jobs { jobs = slice_set w.jobs.jobs s (Some j) }; consoles_count = x }) (ℕ_set (vec_len w.consoles) 8 count w.consoles_count)
     ∙ (λ t. record w { core = core t; jobs = put_back w.jobs s j (had ∙ ap Some (sym job)) t })
 
-pub unit_in : (w : World) (s : ℕ) (c : Cores) (i j : Job) (size : vec_len w.frames ≡ 64) (b : Bool) → job_at w.jobs s ≡ Some i
+pub unit_in : (w : World) (s : ℕ) (c : Cores) (i j : Job) (size : vec_len w.frames ≡ 64) (count : vec_len w.consoles ≡ 8) (b : Bool) → job_at w.jobs s ≡ Some i
     → ((k : ℕ) → k ≢ s → core_at c k ≡ core_at w.core k) → c.reserved ≡ w.core.reserved
     → left_by (unit (core_at w.core s) i) (core_at w.core s) i ≡ (if b then Some (record { core = core_at c s; job = j }) else None) → (b ≡ false → (c ≡ w.core) × (j ≡ i))
-    → UnitIn w (record w { core = c; jobs = record w.jobs { jobs = slice_set w.jobs.jobs s (Some j) }; slots = size }) s (λ k. unit (core_at w.core s) k) b
-unit_in w s c i j size true had others reserved left same = record {
+    → UnitIn w (record w { core = c; jobs = record w.jobs { jobs = slice_set w.jobs.jobs s (Some j) }; slots = size; consoles_count = count }) s (λ k. unit (core_at w.core s) k) b
+unit_in w s c i j size count true had others reserved left same = record {
   job = i;
   left = record { core = core_at c s; job = j };
   had = had;
   is = left;
   becomes = put_then w (record w { core = c }) _ s (core_at c s) j
-      (core_becomes w (record w { core = c }) s (core_at c s) (record { here = refl; others = others }) reserved refl refl refl)
-      (job_becomes (record w { core = c }) _ s j (job_put w.jobs s i j had) refl refl refl refl);
+      (core_becomes w (record w { core = c }) s (core_at c s) (record { here = refl; others = others }) reserved refl refl refl refl refl)
+      (job_becomes (record w { core = c }) _ s j (job_put w.jobs s i j had) refl refl refl refl refl refl);
 }
-unit_in w s c i j size false had others reserved left same = record {
-  same = let e = same refl in put_same w s c i j size had e.0 e.1;
+unit_in w s c i j size count false had others reserved left same = record {
+  same = let e = same refl in put_same w s c i j size count had e.0 e.1;
   called = subst (λ (o : Option Job). IfSome o (λ k. left_by (unit (core_at w.core s) k) (core_at w.core s) k ≡ None)) (sym had) left;
 }
 
@@ -193,7 +194,7 @@ core_same old mid s c b e =
     let cores : (k : ℕ) → core_at mid.core k ≡ core_at old.core k = all_same (core_at old.core) (core_at mid.core) s (subst (λ (x : Core). Only (core_at old.core) (core_at mid.core) s x) e b.core) in
     let jobs : (k : ℕ) → job_at mid.jobs k ≡ job_at old.jobs k = all_same (job_at old.jobs) (job_at mid.jobs) s b.job in
     state_is _ _
-    (machine_is _ _ (λ k t. raw_of (cores k t) (slice_index_or (b.superiors t) k None) (jobs k t)) (λ k. refl) (λ k. refl) refl b.clock)
+    (machine_is _ _ (λ k t. raw_of (cores k t) (slice_index_or (b.superiors t) k None) (jobs k t)) (λ c. ap (λ l. console_at l.items c) b.consoles) (λ c. ap (λ l. holder_at l c) b.holders) refl b.clock)
     (all_same (frame_at old.frames.items) (frame_at mid.frames.items) s b.frame)
     (all_same (clear_at old.core) (clear_at mid.core) s b.reserved)
     refl

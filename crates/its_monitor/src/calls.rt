@@ -16,7 +16,7 @@ ghost use Rattle.its_operator.specs.Kept.{Kept};
 ghost use Rattle.its_monitor.specs.Ticks.{is_decoded, pace_of, ticked};
 
 use super::reach::unwind_reach;
-use call_basic::decide;
+use call_tty::decide;
 use its_decode::{fetch_site, parse_site};
 use its_frame::{Asked, Decision, Entered, Frame, Holding, Parsed};
 use its_pclsr::{carry_out, unwind_one};

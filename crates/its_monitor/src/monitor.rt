@@ -1,8 +1,9 @@
-ghost use Rattle.std.specs.Prelude.{◌≡◌, ◌<◌, ◌^◌, true, None, is_some, Ok, IfOk, OnOk, OnErr, IfErr};
+ghost use Rattle.std.specs.Prelude.{◌≡◌, ◌<◌, ◌↔◌, ◌^◌, ◌∷◌, [], true, None, is_some, length, slice_get, Ok, IsTrue, IfSome, IfOk, OnOk, OnErr, IfErr};
+ghost use Rattle.its_word.specs.Console.{most_waiting};
 ghost use Rattle.its_word.specs.Limits.{slots};
 ghost use Rattle.its_plain.specs.Machine.{no_machine};
 ghost use Rattle.its_plain.specs.Operator.{loaded, word_loaded, on_registers, started, stopped, continued, interrupted, word_seen, state_shown, deposited};
-ghost use Rattle.its_plain.specs.CallOperator.{clocked};
+ghost use Rattle.its_plain.specs.CallOperator.{clocked, typed, drained};
 ghost use Rattle.its_stepped.specs.State.{plain, no_state};
 ghost use Rattle.its_stepped.specs.Unwind.{unwound};
 ghost use Rattle.its_stepped.specs.Licence.{Licensed};
@@ -18,7 +19,7 @@ use its_word::{JobShow, NoMemory, Pace, Peek, Refusal, Word};
 use its_world::World;
 use std::alloc::Global;
 
-/// The jobs of 64 slots with their cores, calls in progress and the clock.
+/// The jobs of 64 slots with their cores, calls in progress, the consoles and the clock.
 #[derive(Drop)]
 pub struct Monitor {
     pub world: World,
@@ -48,8 +49,10 @@ impl Monitor {
     }
 
     /// LOAD: makes a stopped job with these names and this console in the least free slot, which it
-    /// answers. Full where all 64 slots have a job.
+    /// answers. It becomes the holder of its console, where that has none. Full where all 64 slots have a
+    /// job.
     pub fn load_job(&mut self, u: Word, j: Word, console: Option<u8>) -> Result<u8, Refusal>
+        requires console { IfSome console (λ c. c < 8) }
         requires kept { Kept self.old.world }
         ensures done { IfOk result (λ s. Loads (state_of self.old.world) (state_of self.new.world) (loaded (state_of self.old.world).raw u j console) s) }
         ensures slot { IfOk result (λ s. s < slots) }
@@ -161,6 +164,31 @@ impl Monitor {
         ensures kept { Kept self.new.world }
     {
         operator::state(&mut self.world, slot)
+    }
+
+    /// One byte of a TYPE line, typed at a console. False where 64 typed bytes wait; the byte is then
+    /// dropped.
+    pub fn type_in(&mut self, console: u8, b: u8) -> bool
+        requires console { console < 8 }
+        requires kept { Kept self.old.world }
+        ensures waits { IsTrue result ↔ (length ((state_of self.old.world).raw.consoles console).input < most_waiting) }
+        ensures done { Lands (state_of self.old.world) (state_of self.new.world) (Ok (typed console (b ∷ []) (state_of self.old.world).raw)) }
+        ensures plain { plain (state_of self.new.world) ≡ typed console (b ∷ []) (plain (state_of self.old.world)) }
+        ensures kept { Kept self.new.world }
+    {
+        operator::type_in(&mut self.world, console, b)
+    }
+
+    /// One byte of a DRAIN line: the byte of a console that was put out first; None where none waits.
+    pub fn drain(&mut self, console: u8) -> Option<u8>
+        requires console { console < 8 }
+        requires kept { Kept self.old.world }
+        ensures first { result ≡ slice_get ((state_of self.old.world).raw.consoles console).output 0 }
+        ensures done { Lands (state_of self.old.world) (state_of self.new.world) (Ok (drained console 1 (state_of self.old.world).raw)) }
+        ensures plain { plain (state_of self.new.world) ≡ drained console 1 (plain (state_of self.old.world)) }
+        ensures kept { Kept self.new.world }
+    {
+        operator::drain(&mut self.world, console)
     }
 
     /// PEEK: how far a slot's job is inside a call. Nothing changes.

@@ -1,5 +1,5 @@
 -- What holds between calls, through unwinding and through a line.
-use Rattle.std.specs.Prelude.{◌≡◌, ◌<◌, ◌^◌, ℕ, Bool, true, false, Option, Some, None, IfSome, List, Result, Ok, Err, option_map, is_some, refl}
+use Rattle.std.specs.Prelude.{if◌then◌else◌, ◌==◌, ◌≡◌, ◌<◌, ◌^◌, ℕ, Bool, true, false, Option, Some, None, IfSome, List, Result, Ok, Err, option_map, is_some, refl}
 use Rattle.std.proofs.Common.{sym, ◌∙◌, ap, subst, inl, inr}
 use Rattle.std.proofs.lemmas.Bool.{cases_eq}
 use Rattle.its_word.specs.Core.{Core, no_core}
@@ -19,7 +19,6 @@ use Rattle.its_stepped.specs.Sound.{Sound}
 use Rattle.its_stepped.specs.Calling.{Distinct}
 use Rattle.its_stepped.specs.Unwind.{unwound}
 use Rattle.its_stepped.specs.Lines.{calmed, with_raw, state_after, after_line, lifted_line}
-use Rattle.its_stepped.proofs.FrameLaws.{changed_only}
 use Rattle.its_stepped.proofs.UnwindLaws.{unwound_plain, unwound_sound}
 use Rattle.its_stepped.proofs.LineLaws.{line_plain}
 use Rattle.its_stepped.proofs.AfterLaws.{after_sound}
@@ -79,6 +78,7 @@ unwound_kept old new s kept some e off = record {
     | inr ne ↦ off.others k ne ∙ kept.blank k (none_by (job_at new.jobs k) (job_at old.jobs k) (sym (alike_has old new k (unwound_same old new s kept e))) h)
   ];
   addressed = λ k. subst (λ (m : Machine). IfSome (m.jobs k) (λ q. q.job.pc < 2 ^ 18)) (sym (unwound_same old new s kept e)) (kept.addressed k);
+  consoled = λ k. subst (λ (m : Machine). IfSome (m.jobs k) (λ q. IfSome q.job.console (λ c. c < 8))) (sym (unwound_same old new s kept e)) (kept.consoled k);
 }
 
 -- a line that is done: the state v that it finds has another raw machine then
@@ -111,20 +111,30 @@ becomes_blank old new s c j o f r some b kept k h = elim (cases_eq k s) [
   | inr ne ↦ b.core.others k ne ∙ kept.blank k (sym (b.job.others k ne) ∙ h)
 ]
 
--- the PC of each job is an address
-pub record Addressed (m : Machine) : Type 0 where
-  pub each : (k : ℕ) → IfSome (m.jobs k) (λ q. q.job.pc < 2 ^ 18)
+-- what a line keeps of each job: its PC is an address, and its console is one of eight
+pub record Lasts (m : Machine) : Type 0 where
+  pub addressed : (k : ℕ) → IfSome (m.jobs k) (λ q. q.job.pc < 2 ^ 18)
+  pub consoled : (k : ℕ) → IfSome (m.jobs k) (λ q. IfSome q.job.console (λ c. c < 8))
 
-pub put_addressed : (m : Machine) (s : ℕ) (q : Whole) → q.job.pc < 2 ^ 18 → Addressed m → Addressed (with_job m s q)
-put_addressed m s q p a = record {
-  each = λ k. elim (cases_eq k s) [
-    | inl is ↦ rw is (here (s))
-    | inr ne ↦ subst (λ (o : Option Whole). IfSome o (λ q. q.job.pc < 2 ^ 18)) (sym ((changed_only m.jobs s (Some q)).others k ne)) (a.each k)
-  ];
+pub kept_lasts : (w : World) → Kept w → Lasts (plain (state_of w))
+kept_lasts w kept = record { addressed = kept.addressed; consoled = kept.consoled }
+
+put_each : (P : Whole → Type 0) (b : Bool) (q : Whole) (o : Option Whole) → P q → IfSome o P → IfSome (if b then Some q else o) P
+put_each P true q o x a = x
+put_each P false q o x a = a
+
+pub put_lasts : (m : Machine) (s : ℕ) (q : Whole) → q.job.pc < 2 ^ 18 → IfSome q.job.console (λ c. c < 8) → Lasts m → Lasts (with_job m s q)
+put_lasts m s q p h a = record {
+  addressed = λ k. put_each (λ (q : Whole). q.job.pc < 2 ^ 18) (k == s) q (m.jobs k) p (a.addressed k);
+  consoled = λ k. put_each (λ (q : Whole). IfSome q.job.console (λ c. c < 8)) (k == s) q (m.jobs k) h (a.consoled k);
 }
-  where
-    here : (i : ℕ) → IfSome ((with_job m s q).jobs s) (λ q. q.job.pc < 2 ^ 18)
-    here i = subst (λ (o : Option Whole). IfSome o (λ q. q.job.pc < 2 ^ 18)) (sym (changed_only m.jobs s (Some q)).here) p
+
+-- of a job that is there
+pub lasts_address : (m : Machine) (s : ℕ) (q : Whole) → m.jobs s ≡ Some q → Lasts m → q.job.pc < 2 ^ 18
+lasts_address m s q at a = subst (λ (o : Option Whole). IfSome o (λ q. q.job.pc < 2 ^ 18)) at (a.addressed s)
+
+pub lasts_console : (m : Machine) (s : ℕ) (q : Whole) → m.jobs s ≡ Some q → Lasts m → IfSome q.job.console (λ c. c < 8)
+lasts_console m s q at a = subst (λ (o : Option Whole). IfSome o (λ q. IfSome q.job.console (λ c. c < 8))) at (a.consoled s)
 
 -- what is refused of the raw machine is refused of all three
 error_is : {X : Type 0} (p q : Result X Reason) (r : Reason) → error_of p ≡ error_of q → q ≡ Err r → p ≡ Err r

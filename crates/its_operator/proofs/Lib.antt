@@ -6,3 +6,4 @@ pub mod LoadLaws
 pub mod StartLaws
 pub mod PeekLaws
 pub mod PeekStateLaws
+pub mod TypingLaws

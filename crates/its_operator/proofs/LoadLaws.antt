@@ -29,9 +29,9 @@ use Rattle.its_world.specs.World.{state_of, raw_of, raw_at, CoreBecomes}
 use Rattle.its_world.specs.declared.world.World.{World}
 use Rattle.its_world.proofs.StateLaws.{raw_job, job_of}
 use Rattle.its_operator.specs.Kept.{Kept, Lands, Refused, Calmed, reason_of, unloadable}
-use Rattle.its_operator.proofs.KeptLaws.{refused_by, Made, made_plain, Addressed}
+use Rattle.its_operator.proofs.KeptLaws.{refused_by, Made, made_plain, Lasts, kept_lasts}
 use Rattle.its_operator.proofs.RegisterLaws.{raw_is, raw_is_none, disturbed}
-use Rattle.its_operator.proofs.WordLaws.{core_lands, core_addressed, core_kept}
+use Rattle.its_operator.proofs.WordLaws.{core_lands, core_lasts, core_kept}
 
 -- the pages of the raw machine are those of the cores
 core_is : (w : World) (k : ℕ) (o : Option Job) → job_at w.jobs k ≡ o → Kept w → core_of (raw_of (core_at w.core k) (superior_at w.jobs k) o) ≡ core_at w.core k
@@ -157,12 +157,12 @@ and_ok : (r : Result Machine Reason) (n : Machine) → and_then r (λ m. Ok m) �
 and_ok (Ok m) n h = h
 and_ok (Err x) n h = cc
 
-loaded_addressed : (m n : Machine) (s a x : ℕ) → word_loaded m s a x ≡ Ok n → Addressed m → Addressed n
+loaded_lasts : (m n : Machine) (s a x : ℕ) → word_loaded m s a x ≡ Ok n → Lasts m → Lasts n
 unfolding word_loaded
-loaded_addressed m n s a x is h = go (m.jobs s) refl is
+loaded_lasts m n s a x is h = go (m.jobs s) refl is
   where
-    go : (o : Option Whole) → m.jobs s ≡ o → word_loaded_of m s a x o ≡ Ok n → Addressed n
-    go (Some q) at e = core_addressed m n s q (stored (mapped m) q.core a x) at e h
+    go : (o : Option Whole) → m.jobs s ≡ o → word_loaded_of m s a x o ≡ Ok n → Lasts n
+    go (Some q) at e = core_lasts m n s q (stored (mapped m) q.core a x) at e h
     go None at e = absurd cc
 
 module _ (old mid new : World) (s a x : ℕ) where
@@ -207,4 +207,4 @@ module _ (old mid new : World) (s a x : ℕ) where
   pub load_kept : (d : Core) → Kept old → Calmed old mid s → CoreBecomes mid new s d
       → Lands (unwound (state_of old) s) (state_of new) (word_loaded (unwound (state_of old) s).raw s a x) → Kept new
   load_kept d kept c r l = core_kept (events.Words a (record { items = x ∷ [] })) (block_of s) old mid new s c.job d kept c.calm r (load_line l)
-      (loaded_addressed (plain (state_of old)) (plain (state_of new)) s a x (load_plain kept l) (record { each = kept.addressed }))
+      (loaded_lasts (plain (state_of old)) (plain (state_of new)) s a x (load_plain kept l) (kept_lasts old kept))

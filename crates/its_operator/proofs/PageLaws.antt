@@ -44,13 +44,15 @@ alike : {X : Type 0} → (f g : ℕ → X) (s : ℕ) → ((k : ℕ) → g k ≡ 
 alike f g s h = record { here = h s; others = λ k n. h k }
 
 pub page_becomes : (old new : World) (s : ℕ) (c : Core) → Only (core_at old.core) (core_at new.core) s c → Same (clear_at old.core) (clear_at new.core)
-    → new.jobs ≡ old.jobs → new.frames ≡ old.frames → new.clock ≡ old.clock → CoreBecomes old new s c
-page_becomes old new s c core reserved jobs frames clock = record {
+    → new.jobs ≡ old.jobs → new.frames ≡ old.frames → new.consoles ≡ old.consoles → new.holders ≡ old.holders → new.clock ≡ old.clock → CoreBecomes old new s c
+page_becomes old new s c core reserved jobs frames consoles holders clock = record {
   core = core;
   job = alike _ _ s (λ k. ap (λ t. job_at t k) jobs);
   superiors = ap (λ t. t.superiors) jobs;
   frame = alike _ _ s (λ k. ap (λ t. frame_at t.items k) frames);
   reserved = alike _ _ s (reserved.each);
+  consoles = consoles;
+  holders = holders;
   clock = clock;
 }
 
@@ -61,5 +63,7 @@ page_then_store old mid new s a x c h t = record {
   superiors = t.superiors ∙ h.superiors;
   frame = record { here = t.frame.here ∙ h.frame.here; others = λ k n. t.frame.others k n ∙ h.frame.others k n };
   reserved = record { here = t.reserved.here ∙ h.reserved.here; others = λ k n. t.reserved.others k n ∙ h.reserved.others k n };
+  consoles = t.consoles ∙ h.consoles;
+  holders = t.holders ∙ h.holders;
   clock = t.clock ∙ h.clock;
 }

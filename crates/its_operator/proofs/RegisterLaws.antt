@@ -31,7 +31,7 @@ use Rattle.its_world.specs.World.{state_of, in_raw, JobBecomes}
 use Rattle.its_world.specs.declared.world.World.{World}
 use Rattle.its_world.proofs.StateLaws.{raw_job, raw_some, raw_none, changed_state}
 use Rattle.its_operator.specs.Kept.{Kept, Lands, Refused, Calm, reason_of}
-use Rattle.its_operator.proofs.KeptLaws.{refused_by, Made, made_sound, made_plain, made_distinct, becomes_blank, Addressed, put_addressed}
+use Rattle.its_operator.proofs.KeptLaws.{refused_by, Made, made_sound, made_plain, made_distinct, becomes_blank, Lasts, kept_lasts, put_lasts, lasts_address, lasts_console}
 
 -- the raw job of a slot
 pub raw_is : (w : World) (s : ℕ) (j : Job) → job_at w.jobs s ≡ Some j → (state_of w).raw.jobs s ≡ Some (raw_job (core_at w.core s) j (superior_at w.jobs s))
@@ -77,24 +77,29 @@ pub disturbed : (s : ℕ) (b : Block) (r : Result Machine Reason) (n : Machine) 
 disturbed s b (Ok m) n out touched c h = let is : m ≡ n = cc in ap Ok is
 disturbed s b (Err x) n out touched c h = absurd cc
 
-pub registers_addressed : (m n : Machine) (s : ℕ) (f : Job → Job) → on_registers m s f ≡ Ok n → ((j : Job) → j.pc < 2 ^ 18 → (f j).pc < 2 ^ 18) → Addressed m → Addressed n
+registers_lasts : (m n : Machine) (s : ℕ) (f : Job → Job) → on_registers m s f ≡ Ok n → ((j : Job) → j.pc < 2 ^ 18 → (f j).pc < 2 ^ 18) → ((j : Job) → (f j).console ≡ j.console)
+    → Lasts m → Lasts n
 unfolding on_registers
-registers_addressed m n s f is keeps a = go (m.jobs s) refl is
+registers_lasts m n s f is keeps same a = go (m.jobs s) refl is
   where
-    go : (o : Option Whole) → m.jobs s ≡ o → on_job m s (with_registers m s f) o ≡ Ok n → Addressed n
+    go : (o : Option Whole) → m.jobs s ≡ o → on_job m s (with_registers m s f) o ≡ Ok n → Lasts n
     go (Some q) at h =
         let e : with_job m s (record q { job = f q.job }) ≡ n = cc in
-        subst Addressed e (put_addressed m s (record q { job = f q.job }) (keeps q.job (subst (λ (o : Option Whole). IfSome o (λ q. q.job.pc < 2 ^ 18)) at (a.each s))) a)
+        subst Lasts e
+        (put_lasts m s (record q { job = f q.job }) (keeps q.job (lasts_address m s q at a))
+        (subst (λ (o : Option ℕ). IfSome o (λ c. c < 8)) (sym (same q.job)) (lasts_console m s q at a)) a)
     go None at h = absurd cc
 
 -- what is kept where a line writes the registers of its slot
 registers_kept : (f : Job → Job) (e : Event) (b : Block) (old mid new : World) (s : ℕ) (j : Job) → Kept old → Calm old mid s j → JobBecomes mid new s (f j)
-    → Made (state_of old) (state_of new) b e → on_registers (plain (state_of old)) s f ≡ Ok (plain (state_of new)) → ((i : Job) → i.pc < 2 ^ 18 → (f i).pc < 2 ^ 18) → Kept new
-registers_kept f e b old mid new s j kept c r made is keeps = record {
+    → Made (state_of old) (state_of new) b e → on_registers (plain (state_of old)) s f ≡ Ok (plain (state_of new)) → ((i : Job) → i.pc < 2 ^ 18 → (f i).pc < 2 ^ 18)
+    → ((i : Job) → (f i).console ≡ i.console) → Kept new
+registers_kept f e b old mid new s j kept c r made is keeps same = record {
   sound = made_sound (state_of old) (state_of new) b e kept.sound made;
   distinct = made_distinct (state_of old) (state_of new) b e kept.sound kept.distinct made;
   blank = λ k h. becomes_blank mid new s _ (f j) _ _ _ refl r c.kept k h;
-  addressed = λ k. (registers_addressed (plain (state_of old)) (plain (state_of new)) s f is keeps (record { each = kept.addressed })).each k;
+  addressed = (registers_lasts (plain (state_of old)) (plain (state_of new)) s f is keeps same (kept_lasts old kept)).addressed;
+  consoled = (registers_lasts (plain (state_of old)) (plain (state_of new)) s f is keeps same (kept_lasts old kept)).consoled;
 }
 
 -- the slot is empty
@@ -127,7 +132,7 @@ module _ (old mid new : World) (s : ℕ) (j : Job) where
       disturbed s (record { slot = s }) (on_registers (plain (state_of old)) s (started a)) (plain (state_of new)) m.out m.touched m.block (made_plain (state_of old) (state_of new) (record { slot = s }) (events.Go a) kept.sound m)
 
   pub go_kept : (a : ℕ) → a < 2 ^ 18 → Kept old → Calm old mid s j → JobBecomes mid new s (started a j) → Kept new
-  go_kept a p kept c r = registers_kept (started a) (events.Go a) (record { slot = s }) old mid new s j kept c r (go_made a p kept c r) (go_plain a p kept c r) (λ i l. p)
+  go_kept a p kept c r = registers_kept (started a) (events.Go a) (record { slot = s }) old mid new s j kept c r (go_made a p kept c r) (go_plain a p kept c r) (λ i l. p) (λ i. refl)
 
   pub stop_done : Kept old → Calm old mid s j → JobBecomes mid new s (stopped j) → Lands (unwound (state_of old) s) (state_of new) (on_registers (unwound (state_of old) s).raw s stopped)
   stop_done kept c r = registers_land stopped old mid new s j (λ c sup. refl) c r
@@ -145,7 +150,7 @@ module _ (old mid new : World) (s : ℕ) (j : Job) where
       disturbed s no_block (on_registers (plain (state_of old)) s stopped) (plain (state_of new)) m.out m.touched m.block (made_plain (state_of old) (state_of new) no_block (events.Stop s) kept.sound m)
 
   pub stop_kept : Kept old → Calm old mid s j → JobBecomes mid new s (stopped j) → Kept new
-  stop_kept kept c r = registers_kept stopped (events.Stop s) no_block old mid new s j kept c r (stop_made kept c r) (stop_plain kept c r) (λ i l. l)
+  stop_kept kept c r = registers_kept stopped (events.Stop s) no_block old mid new s j kept c r (stop_made kept c r) (stop_plain kept c r) (λ i l. l) (λ i. refl)
 
   pub cont_done : Kept old → Calm old mid s j → JobBecomes mid new s (continued j) → Lands (unwound (state_of old) s) (state_of new) (on_registers (unwound (state_of old) s).raw s continued)
   cont_done kept c r = registers_land continued old mid new s j (λ c sup. refl) c r
@@ -163,7 +168,7 @@ module _ (old mid new : World) (s : ℕ) (j : Job) where
       disturbed s no_block (on_registers (plain (state_of old)) s continued) (plain (state_of new)) m.out m.touched m.block (made_plain (state_of old) (state_of new) no_block (events.Cont s) kept.sound m)
 
   pub cont_kept : Kept old → Calm old mid s j → JobBecomes mid new s (continued j) → Kept new
-  cont_kept kept c r = registers_kept continued (events.Cont s) no_block old mid new s j kept c r (cont_made kept c r) (cont_plain kept c r) (λ i l. l)
+  cont_kept kept c r = registers_kept continued (events.Cont s) no_block old mid new s j kept c r (cont_made kept c r) (cont_plain kept c r) (λ i l. l) (λ i. refl)
 
   pub interrupt_done : (x y : ℕ) → Kept old → Calm old mid s j → JobBecomes mid new s (interrupted x y j) → Lands (unwound (state_of old) s) (state_of new) (on_registers (unwound (state_of old) s).raw s (interrupted x y))
   interrupt_done x y kept c r = registers_land (interrupted x y) old mid new s j (λ c sup. refl) c r
@@ -181,7 +186,7 @@ module _ (old mid new : World) (s : ℕ) (j : Job) where
       disturbed s no_block (on_registers (plain (state_of old)) s (interrupted x y)) (plain (state_of new)) m.out m.touched m.block (made_plain (state_of old) (state_of new) no_block (events.Int s x y) kept.sound m)
 
   pub interrupt_kept : (x y : ℕ) → Kept old → Calm old mid s j → JobBecomes mid new s (interrupted x y j) → Kept new
-  interrupt_kept x y kept c r = registers_kept (interrupted x y) (events.Int s x y) no_block old mid new s j kept c r (interrupt_made x y kept c r) (interrupt_plain x y kept c r) (λ i l. l)
+  interrupt_kept x y kept c r = registers_kept (interrupted x y) (events.Int s x y) no_block old mid new s j kept c r (interrupt_made x y kept c r) (interrupt_plain x y kept c r) (λ i l. l) (λ i. refl)
 
 -- STATE
 pub state_found : (old mid : World) (s : ℕ) (j : Job) (x : JobShow) (o : Option ℕ) → Calm old mid s j → o ≡ superior_at mid.jobs s → x ≡ shown j o → state_shown (unwound (state_of old) s).raw s ≡ Ok x

@@ -2,6 +2,7 @@
 use Rattle.std.specs.Prelude.{◌≡◌, ◌≢◌, ◌<◌, ◌+◌, ◌^◌, ℕ, zero, suc, Bool, true, false, Option, Some, None, IfSome, List, [], ◌∷◌, replicate, slice_index_or, option_map, Result, Ok, Err, nat_lt, refl}
 use Rattle.std.proofs.Common.{sym, ◌∙◌, ap, subst, inl, inr, lit<}
 use Rattle.std.proofs.lemmas.Bool.{cases_eq}
+use Rattle.its_word.specs.Console.{quiet_console}
 use Rattle.its_word.specs.Core.{no_core}
 use Rattle.its_word.specs.Tree.{least_free, fresh_job}
 use Rattle.its_word.proofs.FreeLaws.{least_alike, least_empty}
@@ -14,7 +15,7 @@ use Rattle.its_print.specs.Printing as printed
 use Rattle.its_core.specs.Cores.{Reserved, core_at, clear_at, IsEmpty}
 use Rattle.its_jobs.specs.Table.{job_at, superior_at, NoJobs}
 use Rattle.its_plain.specs.Machine.{Whole, Machine, changed, with_job, no_machine}
-use Rattle.its_plain.specs.Operator.{Block, no_block, Does, nobody, only, new_job, loaded_in, loaded, by_load, quietly}
+use Rattle.its_plain.specs.Operator.{Block, no_block, Does, nobody, only, new_job, held_by, with_holder, loaded_in, loaded, by_load, quietly}
 use Rattle.its_plain.specs.Operator as operator
 use Rattle.its_plain.specs.CallOperator.{clock_end, clocked_if, clocked, operate, Done, lined}
 use Rattle.its_plain.proofs.MachineLaws.{machine_is}
@@ -26,11 +27,11 @@ use Rattle.its_stepped.proofs.DistinctLaws.{distinct_starts}
 use Rattle.its_stepped.proofs.FrameLaws.{changed_only}
 use Rattle.its_stepped.proofs.LineLaws.{least_plain}
 use Rattle.its_stepped.proofs.StartLaws.{no_state_plain, no_state_sound}
-use Rattle.its_world.specs.World.{chan_of, closed_channels, frame_at, raw_of, raw_at, raw_machine, state_of}
+use Rattle.its_world.specs.World.{chan_of, closed_channels, frame_at, console_at, holder_at, raw_of, raw_at, raw_machine, state_of, HolderBecomes}
 use Rattle.its_world.specs.declared.world.World.{World}
-use Rattle.its_world.proofs.StateLaws.{state_is, raw_job}
-use Rattle.its_operator.specs.Kept.{Kept, Lands, Loads, Refused, Fresh, Later}
-use Rattle.its_operator.proofs.KeptLaws.{raw_has, Made, made_sound, made_plain, made_distinct, Addressed, put_addressed}
+use Rattle.its_world.proofs.StateLaws.{state_is, raw_job, holder_state}
+use Rattle.its_operator.specs.Kept.{Kept, Lands, Loads, Refused, Fresh, Alters, Later}
+use Rattle.its_operator.proofs.KeptLaws.{raw_has, Made, made_sound, made_plain, made_distinct, Lasts, kept_lasts, put_lasts}
 
 -- a fresh job has no open channel
 all_closed : (k n : ℕ) → slice_index_or (replicate k channels.Closed) n channels.Closed ≡ channels.Closed
@@ -62,7 +63,7 @@ fresh_state old new s u j console f blank = state_is _ _
     (machine_is _ _ (λ k. elim (cases_eq k s) [
       | inl is ↦ ap (raw_at new.core new.jobs) is ∙ fresh_here old new s u j console f blank ∙ sym (ap (changed (raw_at old.core old.jobs) s (Some (new_job u j console))) is ∙ (changed_only (raw_at old.core old.jobs) s (Some (new_job u j console))).here)
       | inr ne ↦ fresh_other old new s u j console k f ne ∙ sym ((changed_only (raw_at old.core old.jobs) s (Some (new_job u j console))).others k ne)
-    ]) (λ k. refl) (λ k. refl) refl f.clock)
+    ]) (λ c. ap (λ l. console_at l.items c) f.consoles) (λ c. ap (λ l. holder_at l c) f.holders) refl f.clock)
     (λ k. ap (λ v. frame_at v.items k) f.frames)
     (λ k. ap (λ c. clear_at c k) f.core)
     refl
@@ -81,38 +82,83 @@ abbrev machine_in : Machine → Result (Machine × ℕ) Reason → Machine
 machine_in d (Ok (m, i)) = m
 machine_in d (Err x) = d
 
+-- the console of a new job
+same_holder : (holders : ℕ → Option ℕ) (c s h k : ℕ) → holders c ≡ Some h → holders k ≡ changed holders c (held_by s (holders c)) k
+same_holder holders c s h k e = elim (cases_eq k c) [
+  | inl is ↦ ap holders is ∙ e ∙ sym (ap (changed holders c (held_by s (holders c))) is ∙ (changed_only holders c (held_by s (holders c))).here ∙ ap (held_by s) e)
+  | inr ne ↦ sym ((changed_only holders c (held_by s (holders c))).others k ne)
+]
+
+pub console_held : (w : World) (c s h : ℕ) (o : Option ℕ) → o ≡ holder_at w.holders c → o ≡ Some h → Alters w w (with_holder (state_of w).raw s (Some c))
+unfolding state_of
+console_held w c s h o i f = record {
+  state = state_is _ _ (machine_is _ _ (λ k. refl) (λ k. refl) (λ k. same_holder (holder_at w.holders) c s h k (sym i ∙ f)) refl refl) (λ k. refl) (λ k. refl) refl;
+  core = refl;
+  jobs = refl;
+}
+
+pub console_given : (old new : World) (c s : ℕ) (o : Option ℕ) → o ≡ holder_at old.holders c → o ≡ None → HolderBecomes old new c (Some s) → Alters old new (with_holder (state_of old).raw s (Some c))
+unfolding state_of
+console_given old new c s o i f b = record {
+  state = holder_state old new c (Some s) b
+      ∙ ap (λ (o : Option ℕ). with_raw (state_of old) (record (state_of old).raw { holders = changed (state_of old).raw.holders c o })) (sym (ap (held_by s) (sym i ∙ f)));
+  core = b.core;
+  jobs = b.jobs;
+}
+
+pub console_some : (old new : World) (s c : ℕ) (console : Option ℕ) → console ≡ Some c → Alters old new (with_holder (state_of old).raw s (Some c))
+    → Alters old new (with_holder (state_of old).raw s console)
+console_some old new s c console e h = subst (λ (o : Option ℕ). Alters old new (with_holder (state_of old).raw s o)) (sym e) h
+
+pub console_none : (w : World) (s : ℕ) (console : Option ℕ) → console ≡ None → Alters w w (with_holder (state_of w).raw s console)
+console_none w s console e =
+    subst (λ (o : Option ℕ). Alters w w (with_holder (state_of w).raw s o)) (sym e) (record { state = refl; core = refl; jobs = refl })
+
+held_lasts : (m : Machine) (s : ℕ) (console : Option ℕ) → Lasts m → Lasts (with_holder m s console)
+held_lasts m s (Some c) a = record { addressed = a.addressed; consoled = a.consoled }
+held_lasts m s None a = a
+
 -- LOAD
-module _ (old new : World) (s u j : ℕ) (console : Option ℕ) where
+module _ (old mid new : World) (s u j : ℕ) (console : Option ℕ) where
   blank_at : Kept old → least_free (job_at old.jobs) ≡ Some s → core_at old.core s ≡ no_core
   blank_at kept e = kept.blank s (least_empty (job_at old.jobs) s e)
 
-  pub load_done : Kept old → least_free (job_at old.jobs) ≡ Some s → Fresh old new s u j console → Loads (state_of old) (state_of new) (loaded (state_of old).raw u j console) s
+  load_state : Kept old → least_free (job_at old.jobs) ≡ Some s → Fresh old mid s u j console → Alters mid new (with_holder (state_of mid).raw s console)
+      → state_of new ≡ with_raw (state_of old) (with_holder (with_job (state_of old).raw s (new_job u j console)) s console)
+  load_state kept e f h = h.state ∙ ap (λ (v : State). with_raw v (with_holder v.raw s console)) (fresh_state old mid s u j console f (blank_at kept e))
+
+  pub load_done : Kept old → least_free (job_at old.jobs) ≡ Some s → Fresh old mid s u j console → Alters mid new (with_holder (state_of mid).raw s console)
+      → Loads (state_of old) (state_of new) (loaded (state_of old).raw u j console) s
   unfolding loaded
-  load_done kept e f =
-      let is = fresh_state old new s u j console f (blank_at kept e) in
+  load_done kept e f h =
+      let is = load_state kept e f h in
       record {
         is = ap (loaded_in (state_of old).raw u j console) (least_raw old ∙ e) ∙ ap (λ (v : State). Ok (v.raw, s)) (sym is);
         rest = is ∙ ap (λ (v : State). with_raw (state_of old) v.raw) (sym is);
       }
 
-  load_line : Kept old → least_free (job_at old.jobs) ≡ Some s → Fresh old new s u j console → Made (state_of old) (state_of new) no_block (events.Load u j console)
+  load_line : Kept old → least_free (job_at old.jobs) ≡ Some s → Fresh old mid s u j console → Alters mid new (with_holder (state_of mid).raw s console)
+      → Made (state_of old) (state_of new) no_block (events.Load u j console)
   unfolding calmed lined operate operator.operate
-  load_line kept e f =
-      let l = load_done kept e f in
+  load_line kept e f h =
+      let l = load_done kept e f h in
       record { out = printed.Loaded s ∷ []; touched = only s; block = record { slot = s }; is = ap (λ r. Done (by_load r)) l.is; rest = l.rest }
 
-  pub load_plain : Kept old → least_free (job_at old.jobs) ≡ Some s → Fresh old new s u j console → loaded (plain (state_of old)) u j console ≡ Ok (plain (state_of new), s)
+  pub load_plain : Kept old → least_free (job_at old.jobs) ≡ Some s → Fresh old mid s u j console → Alters mid new (with_holder (state_of mid).raw s console)
+      → loaded (plain (state_of old)) u j console ≡ Ok (plain (state_of new), s)
   unfolding lined operate operator.operate load_line
-  load_plain kept e f =
-      let m = load_line kept e f in
+  load_plain kept e f h =
+      let m = load_line kept e f h in
       loaded_by (loaded (plain (state_of old)) u j console) (plain (state_of new)) s (printed.Loaded s ∷ []) (only s)
       (made_plain (state_of old) (state_of new) no_block (events.Load u j console) kept.sound m)
 
-  load_machine : Kept old → least_free (job_at old.jobs) ≡ Some s → Fresh old new s u j console → with_job (plain (state_of old)) s (new_job u j console) ≡ plain (state_of new)
+  load_machine : Kept old → least_free (job_at old.jobs) ≡ Some s → Fresh old mid s u j console → Alters mid new (with_holder (state_of mid).raw s console)
+      → with_holder (with_job (plain (state_of old)) s (new_job u j console)) s console ≡ plain (state_of new)
   unfolding loaded
-  load_machine kept e f =
-      first_is (with_job (plain (state_of old)) s (new_job u j console)) (plain (state_of new)) (loaded_in (plain (state_of old)) u j console (least_free (plain (state_of old)).jobs))
-      (ap (loaded_in (plain (state_of old)) u j console) (least_plain (state_of old) ∙ least_raw old ∙ e)) (load_plain kept e f)
+  load_machine kept e f h =
+      first_is (with_holder (with_job (plain (state_of old)) s (new_job u j console)) s console) (plain (state_of new))
+      (loaded_in (plain (state_of old)) u j console (least_free (plain (state_of old)).jobs))
+      (ap (loaded_in (plain (state_of old)) u j console) (least_plain (state_of old) ∙ least_raw old ∙ e)) (load_plain kept e f h)
     where
       first_is : (m n : Machine) (r : Result (Machine × ℕ) Reason) → r ≡ Ok (m, s) → r ≡ Ok (n, s) → m ≡ n
       first_is m n r a b = ap (machine_in m) (sym a ∙ b)
@@ -121,15 +167,28 @@ module _ (old new : World) (s u j : ℕ) (console : Option ℕ) where
   unfolding fresh_job
   fresh_pc = lit< tt
 
-  pub load_kept : Kept old → least_free (job_at old.jobs) ≡ Some s → Fresh old new s u j console → Kept new
-  load_kept kept e f = record {
-    sound = made_sound (state_of old) (state_of new) no_block (events.Load u j console) kept.sound (load_line kept e f);
-    distinct = made_distinct (state_of old) (state_of new) no_block (events.Load u j console) kept.sound kept.distinct (load_line kept e f);
-    blank = λ k h. elim (cases_eq k s) [
-      | inl is ↦ let none : None ≡ Some (fresh_job u j console) = sym h ∙ ap (job_at new.jobs) is ∙ f.job.here in absurd cc
-      | inr ne ↦ ap (λ c. core_at c k) f.core ∙ kept.blank k (sym (f.job.others k ne) ∙ h)
-    ];
-    addressed = (subst Addressed (load_machine kept e f) (put_addressed (plain (state_of old)) s (new_job u j console) fresh_pc (record { each = kept.addressed }))).each;
+  fresh_console : IfSome console (λ c. c < 8) → IfSome (new_job u j console).job.console (λ c. c < 8)
+  unfolding fresh_job
+  fresh_console fits = fits
+
+  load_lasts : IfSome console (λ c. c < 8) → Kept old → least_free (job_at old.jobs) ≡ Some s → Fresh old mid s u j console → Alters mid new (with_holder (state_of mid).raw s console)
+      → Lasts (plain (state_of new))
+  load_lasts fits kept e f h =
+      subst Lasts (load_machine kept e f h)
+      (held_lasts _ s console (put_lasts (plain (state_of old)) s (new_job u j console) fresh_pc (fresh_console fits) (kept_lasts old kept)))
+
+  pub load_kept : IfSome console (λ c. c < 8) → Kept old → least_free (job_at old.jobs) ≡ Some s → Fresh old mid s u j console → Alters mid new (with_holder (state_of mid).raw s console) → Kept new
+  load_kept fits kept e f h = record {
+    sound = made_sound (state_of old) (state_of new) no_block (events.Load u j console) kept.sound (load_line kept e f h);
+    distinct = made_distinct (state_of old) (state_of new) no_block (events.Load u j console) kept.sound kept.distinct (load_line kept e f h);
+    blank = λ k empty.
+        let none : job_at mid.jobs k ≡ None = sym (ap (λ t. job_at t k) h.jobs) ∙ empty in
+        ap (λ c. core_at c k) h.core ∙ elim (cases_eq k s) [
+          | inl is ↦ let made : None ≡ Some (fresh_job u j console) = sym none ∙ ap (job_at mid.jobs) is ∙ f.job.here in absurd cc
+          | inr ne ↦ ap (λ c. core_at c k) f.core ∙ kept.blank k (sym (f.job.others k ne) ∙ none)
+        ];
+    addressed = (load_lasts fits kept e f h).addressed;
+    consoled = (load_lasts fits kept e f h).consoled;
   }
 
 pub load_full : (w : World) (u j : ℕ) (console : Option ℕ) → least_free (job_at w.jobs) ≡ None → Refused (state_of w) (state_of w) (λ m. loaded m u j console) refusals.Full
@@ -144,7 +203,7 @@ load_full w u j console e = record {
 later_state : (old new : World) (n : ℕ) → Later old new n → state_of new ≡ with_raw (state_of old) (record (state_of old).raw { clock = (state_of old).raw.clock + n })
 unfolding state_of
 later_state old new n l = λ t. record {
-  raw = raw_machine (l.core t) (l.jobs t) (l.clock t);
+  raw = raw_machine (l.core t) (l.jobs t) (l.consoles t).items (l.holders t) (l.clock t);
   frames = frame_at (l.frames t).items;
   reserved = clear_at (l.core t);
   mark = None;
@@ -197,6 +256,7 @@ module _ (old new : World) (n : ℕ) (b : Bool) where
     distinct = made_distinct (state_of old) (state_of new) no_block (events.Clock n) kept.sound kept.distinct (clock_line h t l);
     blank = λ k e. ap (λ c. core_at c k) l.core ∙ kept.blank k (sym (ap (λ t. job_at t k) l.jobs) ∙ e);
     addressed = λ k. subst (λ (o : Option Whole). IfSome o (λ q. q.job.pc < 2 ^ 18)) (sym (later_jobs l k)) (kept.addressed k);
+    consoled = λ k. subst (λ (o : Option Whole). IfSome o (λ q. IfSome q.job.console (λ c. c < 8))) (sym (later_jobs l k)) (kept.consoled k);
   }
 
 pub clock_refused : (w : World) (n : ℕ) (b : Bool) → b ≡ nat_lt (w.clock + n) clock_end → b ≡ false → Refused (state_of w) (state_of w) (λ m. clocked m n) refusals.Range
@@ -208,23 +268,29 @@ clock_refused w n b h t = record {
 }
 
 -- a world that is opened
-pub open_state : (w : World) → IsEmpty w.core → NoJobs w.jobs → ((k : ℕ) → frame_at w.frames.items k ≡ None) → w.clock ≡ 0 → state_of w ≡ no_state no_machine
+pub open_state : (w : World) → IsEmpty w.core → NoJobs w.jobs → ((k : ℕ) → frame_at w.frames.items k ≡ None)
+    → ((c : ℕ) → console_at w.consoles.items c ≡ quiet_console) → ((c : ℕ) → holder_at w.holders c ≡ None) → w.clock ≡ 0 → state_of w ≡ no_state no_machine
 unfolding state_of no_state no_machine
-open_state w e n f c = state_is _ _
-    (machine_is _ _ (λ k. ap (raw_of (core_at w.core k) (superior_at w.jobs k)) (n.jobs k)) (λ k. refl) (λ k. refl) refl c)
+open_state w e n f consoles holders c = state_is _ _
+    (machine_is _ _ (λ k. ap (raw_of (core_at w.core k) (superior_at w.jobs k)) (n.jobs k)) consoles holders refl c)
     f (λ k. ap (option_map (λ (r : Reserved). r.clear)) (e.reserved k)) refl
 
-pub open_kept : (w : World) → IsEmpty w.core → NoJobs w.jobs → ((k : ℕ) → frame_at w.frames.items k ≡ None) → w.clock ≡ 0 → Kept w
+pub open_kept : (w : World) → IsEmpty w.core → NoJobs w.jobs → ((k : ℕ) → frame_at w.frames.items k ≡ None)
+    → ((c : ℕ) → console_at w.consoles.items c ≡ quiet_console) → ((c : ℕ) → holder_at w.holders c ≡ None) → w.clock ≡ 0 → Kept w
 unfolding no_machine
-open_kept w e n f c =
-    let is = open_state w e n f c in
+open_kept w e n f consoles holders c =
+    let is = open_state w e n f consoles holders c in
     let machine : plain (state_of w) ≡ no_machine = ap plain is ∙ no_state_plain no_machine in
     record {
       sound = subst Sound (sym is) no_state_sound;
       distinct = subst Distinct (sym machine) distinct_starts;
       blank = λ k h. e.cores k;
       addressed = λ k. subst (λ (m : Machine). IfSome (m.jobs k) (λ q. q.job.pc < 2 ^ 18)) (sym machine) (nobody_there k);
+      consoled = λ k. subst (λ (m : Machine). IfSome (m.jobs k) (λ q. IfSome q.job.console (λ c. c < 8))) (sym machine) (none_there k);
     }
   where
     nobody_there : (k : ℕ) → IfSome (no_machine.jobs k) (λ q. q.job.pc < 2 ^ 18)
     nobody_there k = tt
+
+    none_there : (k : ℕ) → IfSome (no_machine.jobs k) (λ q. IfSome q.job.console (λ c. c < 8))
+    none_there k = tt

@@ -31,7 +31,7 @@ use Rattle.its_world.specs.World.{state_of, in_raw, frame_at, Becomes, CoreBecom
 use Rattle.its_world.specs.declared.world.World.{World}
 use Rattle.its_world.proofs.StateLaws.{raw_job, job_of, changed_state}
 use Rattle.its_operator.specs.Kept.{Kept, Lands, Refused, Calm, Calmed, reason_of, refusal_of, undepositable}
-use Rattle.its_operator.proofs.KeptLaws.{refused_by, Made, made_sound, made_plain, made_distinct, becomes_blank, Addressed, put_addressed}
+use Rattle.its_operator.proofs.KeptLaws.{refused_by, Made, made_sound, made_plain, made_distinct, becomes_blank, Lasts, kept_lasts, put_lasts, lasts_address, lasts_console}
 use Rattle.its_operator.proofs.RegisterLaws.{raw_is, raw_is_none, placed_lands, disturbed}
 
 -- EXAM is refused alike, with a frame and without
@@ -118,19 +118,20 @@ core_lands old mid new s j c r calm b is =
     (placed_lands (state_of mid) (state_of new) s (raw_job (core_at mid.core s) j (superior_at mid.jobs s)) (λ q. record q { core = c }) (r (state_of mid)) (raw_is mid s j calm.job)
     (stored_becomes mid new s j c calm.job b) is)
 
-pub core_addressed : (m n : Machine) (s : ℕ) (q : Whole) (r : Result Core Reason) → m.jobs s ≡ Some q → with_core m s q r ≡ Ok n → Addressed m → Addressed n
-core_addressed m n s q (Ok c) at h a =
+pub core_lasts : (m n : Machine) (s : ℕ) (q : Whole) (r : Result Core Reason) → m.jobs s ≡ Some q → with_core m s q r ≡ Ok n → Lasts m → Lasts n
+core_lasts m n s q (Ok c) at h a =
     let e : with_job m s (record q { core = c }) ≡ n = cc in
-    subst Addressed e (put_addressed m s (record q { core = c }) (subst (λ (o : Option Whole). IfSome o (λ q. q.job.pc < 2 ^ 18)) at (a.each s)) a)
-core_addressed m n s q (Err x) at h a = absurd cc
+    subst Lasts e (put_lasts m s (record q { core = c }) (lasts_address m s q at a) (lasts_console m s q at a) a)
+core_lasts m n s q (Err x) at h a = absurd cc
 
 pub core_kept : (e : Event) (b : Block) (old mid new : World) (s : ℕ) (j : Job) (c : Core) → Kept old → Calm old mid s j → CoreBecomes mid new s c
-    → Made (state_of old) (state_of new) b e → Addressed (plain (state_of new)) → Kept new
+    → Made (state_of old) (state_of new) b e → Lasts (plain (state_of new)) → Kept new
 core_kept e b old mid new s j c kept calm r made a = record {
   sound = made_sound (state_of old) (state_of new) b e kept.sound made;
   distinct = made_distinct (state_of old) (state_of new) b e kept.sound kept.distinct made;
   blank = λ k h. becomes_blank mid new s c j (job_at mid.jobs s) _ _ calm.job r calm.kept k h;
-  addressed = a.each;
+  addressed = a.addressed;
+  consoled = a.consoled;
 }
 
 -- DEPOSIT
@@ -141,12 +142,12 @@ unfolding deposited
 deposited_on w s a x j h =
     ap (on_job (state_of w).raw s (λ q. with_core (state_of w).raw s q (deposited_in q.core a x (can_store q.core a) (is_some (word_at q.core a))))) (raw_is w s j h)
 
-deposited_addressed : (m n : Machine) (s a x : ℕ) → deposited m s a x ≡ Ok n → Addressed m → Addressed n
+deposited_lasts : (m n : Machine) (s a x : ℕ) → deposited m s a x ≡ Ok n → Lasts m → Lasts n
 unfolding deposited
-deposited_addressed m n s a x is h = go (m.jobs s) refl is
+deposited_lasts m n s a x is h = go (m.jobs s) refl is
   where
-    go : (o : Option Whole) → m.jobs s ≡ o → on_job m s (λ q. with_core m s q (deposited_in q.core a x (can_store q.core a) (is_some (word_at q.core a)))) o ≡ Ok n → Addressed n
-    go (Some q) at e = core_addressed m n s q (deposited_in q.core a x (can_store q.core a) (is_some (word_at q.core a))) at e h
+    go : (o : Option Whole) → m.jobs s ≡ o → on_job m s (λ q. with_core m s q (deposited_in q.core a x (can_store q.core a) (is_some (word_at q.core a)))) o ≡ Ok n → Lasts n
+    go (Some q) at e = core_lasts m n s q (deposited_in q.core a x (can_store q.core a) (is_some (word_at q.core a))) at e h
     go None at e = absurd cc
 
 module _ (old mid new : World) (s a x : ℕ) where
@@ -172,7 +173,7 @@ module _ (old mid new : World) (s a x : ℕ) where
 
   pub deposit_kept : Kept old → Calmed old mid s → can_store (core_at mid.core s) a ≡ true → CoreBecomes mid new s (store (core_at mid.core s) a x) → Kept new
   deposit_kept kept c can r = core_kept (events.Deposit s a x) no_block old mid new s c.job (store (core_at mid.core s) a x) kept c.calm r (deposit_made kept c can r)
-      (deposited_addressed (plain (state_of old)) (plain (state_of new)) s a x (deposit_plain kept c can r) (record { each = kept.addressed }))
+      (deposited_lasts (plain (state_of old)) (plain (state_of new)) s a x (deposit_plain kept c can r) (kept_lasts old kept))
 
 -- why a word cannot be deposited
 pub bar_none : (c : Core) (a : ℕ) → refused c a ≡ None → None ≡ undepositable (can_store c a) (is_some (word_at c a))

@@ -21,13 +21,14 @@ use Rattle.its_stepped.specs.Unwind.{unwound}
 use Rattle.its_world.specs.World.{state_of}
 use Rattle.its_world.specs.declared.world.World.{World}
 
--- the state is sound, and its jobs lie as they can; the core of an empty slot is that of no job; and the PC of each job
--- of the plain machine is an address
+-- the state is sound, and its jobs lie as they can; the core of an empty slot is that of no job; the PC of each job of
+-- the plain machine is an address, and its console is one of eight
 pub record Kept (w : World) : Type 0 where
   pub sound : Sound (state_of w)
   pub distinct : Distinct (plain (state_of w))
   pub blank : (k : ℕ) → job_at w.jobs k ≡ None → core_at w.core k ≡ no_core
   pub addressed : (k : ℕ) → IfSome ((plain (state_of w)).jobs k) (λ q. q.job.pc < 2 ^ 18)
+  pub consoled : (k : ℕ) → IfSome ((plain (state_of w)).jobs k) (λ q. IfSome q.job.console (λ c. c < 8))
 
 -- state v after a line that comes to a raw machine: its frames, reserved pages and mark stay
 pub record Lands (v new : State) (r : Result Machine Reason) : Type 0 where
@@ -80,17 +81,27 @@ undepositable can there = if can then None else (if there then Some refusals.Rea
 abbrev pub unloadable : Bool → Bool → Bool → Option Refusal
 unloadable can there room = if can then None else (if there then Some refusals.ReadOnly else (if room then None else Some refusals.Full))
 
--- a job was made in a slot
+-- a job was made in a slot; the consoles have the same holders
 pub record Fresh (old new : World) (s u j : ℕ) (console : Option ℕ) : Type 0 where
   pub job : Only (job_at old.jobs) (job_at new.jobs) s (Some (fresh_job u j console))
   pub superior : Only (superior_at old.jobs) (superior_at new.jobs) s None
   pub core : new.core ≡ old.core
   pub frames : new.frames ≡ old.frames
+  pub consoles : new.consoles ≡ old.consoles
+  pub holders : new.holders ≡ old.holders
   pub clock : new.clock ≡ old.clock
+
+-- the raw machine of a world is another, with the same cores and jobs
+pub record Alters (old new : World) (m : Machine) : Type 0 where
+  pub state : state_of new ≡ with_raw (state_of old) m
+  pub core : new.core ≡ old.core
+  pub jobs : new.jobs ≡ old.jobs
 
 -- the clock of a world gained n
 pub record Later (old new : World) (n : ℕ) : Type 0 where
   pub core : new.core ≡ old.core
   pub jobs : new.jobs ≡ old.jobs
   pub frames : new.frames ≡ old.frames
+  pub consoles : new.consoles ≡ old.consoles
+  pub holders : new.holders ≡ old.holders
   pub clock : new.clock ≡ old.clock + n

@@ -7,6 +7,7 @@ mod peeking;
 mod registers;
 #[cfg(test)]
 mod tests;
+mod typing;
 mod words;
 
 pub use its_word::{JobShow, NoMemory, Peek, Refusal};
@@ -14,4 +15,5 @@ pub use its_world::World;
 pub use loading::{advance, load_job, open};
 pub use peeking::peek;
 pub use registers::{cont, go, interrupt, state, stop};
+pub use typing::{drain, type_in};
 pub use words::{deposit, exam, load_word};

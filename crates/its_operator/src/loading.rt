@@ -1,13 +1,13 @@
-ghost use Rattle.std.specs.Prelude.{◌≡◌, ◌<◌, ◌≤◌, ◌+◌, Some, None, Ok, Err, IfOk, OnOk, OnErr, IfErr, nat_lt};
+ghost use Rattle.std.specs.Prelude.{◌≡◌, ◌<◌, ◌≤◌, ◌+◌, Some, None, Ok, Err, IfSome, IfOk, OnOk, OnErr, IfErr, nat_lt};
 ghost use Rattle.its_word.specs.Limits.{slots};
 ghost use Rattle.its_word.specs.Tree.{least_free};
 ghost use Rattle.its_jobs.specs.Table.{job_at};
 ghost use Rattle.its_plain.specs.Machine.{no_machine};
-ghost use Rattle.its_plain.specs.Operator.{loaded};
+ghost use Rattle.its_plain.specs.Operator.{loaded, with_holder};
 ghost use Rattle.its_plain.specs.CallOperator.{clocked, clock_end};
 ghost use Rattle.its_stepped.specs.State.{plain, no_state};
 ghost use Rattle.its_world.specs.World.{state_of};
-ghost use Rattle.its_operator.specs.Kept.{Kept, Lands, Loads, Refused, Fresh, Later};
+ghost use Rattle.its_operator.specs.Kept.{Kept, Lands, Loads, Refused, Fresh, Alters, Later};
 
 use its_jobs::NoSlot;
 use its_word::{NoMemory, Refusal, Word};
@@ -27,9 +27,10 @@ pub fn open(alloc: Global) -> Result<World, NoMemory>
 }
 
 /// LOAD: makes a stopped job with these names and this console in the least free slot, which it answers.
-/// Full where all 64 slots have a job.
+/// It becomes the holder of its console, where that has none. Full where all 64 slots have a job.
 #[tactic(auto, using(crate::proofs::StartLaws::load_done, crate::proofs::StartLaws::load_plain, crate::proofs::StartLaws::load_kept, crate::proofs::StartLaws::load_full))]
 pub fn load_job(w: &mut World, u: Word, j: Word, console: Option<u8>) -> Result<u8, Refusal>
+    requires console { IfSome console (λ c. c < 8) }
     requires kept { Kept w.old }
     ensures slot { IfOk result (λ s. s < slots) }
     ensures done { IfOk result (λ s. Loads (state_of w.old) (state_of w.new) (loaded (state_of w.old).raw u j console) s) }
@@ -39,7 +40,10 @@ pub fn load_job(w: &mut World, u: Word, j: Word, console: Option<u8>) -> Result<
     ensures kept { Kept w.new }
 {
     match make(w, u, j, console) {
-        Ok(slot) => Ok(slot),
+        Ok(slot) => {
+            hold_console(w, slot, console);
+            Ok(slot)
+        }
         Err(NoSlot) => Err(Refusal::Full),
     }
 }
@@ -54,6 +58,31 @@ fn make(w: &mut World, u: Word, j: Word, console: Option<u8>) -> Result<u8, NoSl
     match w.jobs.create(u, j, None, console) {
         Ok(slot) => Ok(slot),
         Err(NoSlot) => Err(NoSlot),
+    }
+}
+
+/// Makes the job of a slot the holder of its console, where that has none.
+#[tactic(auto, using(crate::proofs::StartLaws::console_some, crate::proofs::StartLaws::console_none))]
+fn hold_console(w: &mut World, slot: u8, console: Option<u8>)
+    requires console { IfSome console (λ c. c < 8) }
+    ensures { Alters w.old w.new (with_holder (state_of w.old).raw slot console) }
+{
+    match console {
+        Some(c) => hold_free(w, slot, c),
+        None => {}
+    }
+}
+
+/// The same of this console.
+#[tactic(auto, using(crate::proofs::StartLaws::console_held, crate::proofs::StartLaws::console_given))]
+fn hold_free(w: &mut World, slot: u8, c: u8)
+    requires console { c < 8 }
+    ensures { Alters w.old w.new (with_holder (state_of w.old).raw slot (Some c)) }
+{
+    let holder = w.holders[usize::from(c)];
+    match holder {
+        Some(_) => {}
+        None => w.hold(c, Some(slot)),
     }
 }
 

@@ -1,9 +1,10 @@
-ghost use Rattle.std.specs.Prelude.{◌<◌};
+ghost use Rattle.std.specs.Prelude.{◌<◌, IfSome};
 ghost use Rattle.its_word.specs.Limits.{slots};
 ghost use Rattle.its_operator.specs.Kept.{Kept};
 
 use super::{
-    advance, cont, deposit, exam, go, interrupt, load_job, load_word, open, peek, state, stop,
+    advance, cont, deposit, drain, exam, go, interrupt, load_job, load_word, open, peek, state,
+    stop, type_in,
 };
 use its_word::{JobShow, Peek, PeekState, Refusal, SLOTS, Word};
 use its_world::World;
@@ -24,6 +25,8 @@ enum Line {
     State,
     Peek,
     Clock(u64),
+    Type(u8, u8),
+    Drain(u8),
 }
 
 /// What it answers.
@@ -34,6 +37,21 @@ enum Answer {
     Word(u64),
     State(JobShow),
     Peek(Peek),
+    Waits(bool),
+    Byte(Option<u8>),
+}
+
+/// A console that there is.
+fn known(rt: &impl Abort, console: Option<u8>) -> Option<u8>
+    ensures { IfSome result (λ c. c < 8) }
+{
+    match console {
+        Some(c) => {
+            assert!(rt; c < 8);
+            Some(c)
+        }
+        None => None,
+    }
 }
 
 /// Makes the call of a line.
@@ -44,7 +62,7 @@ fn run_line(rt: &impl Abort, w: &mut World, slot: u8, line: Line) -> Result<Answ
 {
     match line {
         Line::Load(console) => {
-            let made = load_job(w, Word::new(7), Word::new(0o107), console)?;
+            let made = load_job(w, Word::new(7), Word::new(0o107), known(rt, console))?;
             Ok(Answer::Slot(made))
         }
         Line::Word(a, word) => {
@@ -91,6 +109,14 @@ fn run_line(rt: &impl Abort, w: &mut World, slot: u8, line: Line) -> Result<Answ
             advance(w, n)?;
             Ok(Answer::Done)
         }
+        Line::Type(console, b) => {
+            assert!(rt; console < 8);
+            Ok(Answer::Waits(type_in(w, console, b)))
+        }
+        Line::Drain(console) => {
+            assert!(rt; console < 8);
+            Ok(Answer::Byte(drain(w, console)))
+        }
     }
 }
 
@@ -128,6 +154,9 @@ fn session(rt: HostRuntime) -> Result<(), Fail> {
         (0, Line::Go(0o2000), Err(Refusal::NoJob)),
         (0, Line::Load(Some(3)), Ok(Answer::Slot(0))),
         (0, Line::Load(None), Ok(Answer::Slot(1))),
+        (0, Line::Load(Some(3)), Ok(Answer::Slot(2))),
+        (0, Line::Type(3, 0o101), Ok(Answer::Waits(true))),
+        (0, Line::Drain(3), Ok(Answer::Byte(None))),
         (0, Line::Word(0o2000, 0o42), Ok(Answer::Done)),
         (0, Line::Go(0o2000), Ok(Answer::Done)),
         (0, Line::State, Ok(shown(true, 0, 0))),
@@ -159,5 +188,7 @@ fn session(rt: HostRuntime) -> Result<(), Fail> {
         let got = run_line(&rt, &mut w, slot, line);
         assert_eq!(rt; got, want, "{slot}: {line:?}");
     }
+    let holder = w.holders[3];
+    assert_eq!(rt; holder, Some(0));
     Ok(())
 }

@@ -2,6 +2,7 @@
 use Rattle.std.specs.Prelude.{if◌then◌else◌, ◌≡◌, ◌<◌, ℕ, Bool, true, false, Option, Some, None, List, option_map, is_some, refl}
 use Rattle.std.proofs.Common.{◌∙◌, sym, ap, subst, inl, inr}
 use Rattle.std.proofs.lemmas.Bool.{cases_eq}
+use Rattle.its_word.specs.Console.{Console}
 use Rattle.its_word.specs.Core.{Core, no_core}
 use Rattle.its_word.specs.Limits.{slots}
 use Rattle.its_word.specs.declared.jobs.Job.{Job}
@@ -13,7 +14,7 @@ use Rattle.its_plain.specs.Machine.{Whole, Machine}
 use Rattle.its_stepped.specs.Sound.{Sound}
 use Rattle.its_stepped.specs.State.{seen, plain}
 use Rattle.its_stepped.specs.Unwind.{unwind_one}
-use Rattle.its_world.specs.World.{state_of, raw_of, frame_at, Becomes}
+use Rattle.its_world.specs.World.{state_of, raw_of, frame_at, Becomes, ConsoleBecomes, HolderBecomes}
 use Rattle.its_world.specs.declared.world.World.{World}
 use Rattle.its_pclsr.specs.Apart.{CoresOff, Blank}
 use Rattle.its_pclsr.specs.Removal.{JobLeft, SlotSwept, Swept}
@@ -45,6 +46,16 @@ blank_kept old new s f r b blank = record {
     | inr ne ↦ b.core.others k ne ∙ blank.cores k (sym (b.job.others k ne) ∙ h)
   ];
 }
+
+-- a console changes, or its holder
+blank_alike : (old new : World) → new.core ≡ old.core → new.jobs ≡ old.jobs → Blank old → Blank new
+blank_alike old new core jobs blank = record { cores = λ k h. ap (λ c. core_at c k) core ∙ blank.cores k (sym (ap (λ t. job_at t k) jobs) ∙ h) }
+
+pub blank_console : (old new : World) (c : ℕ) (x : Console) → ConsoleBecomes old new c x → Blank old → Blank new
+blank_console old new c x b blank = blank_alike old new b.core b.jobs blank
+
+pub blank_holder : (old new : World) (c : ℕ) (h : Option ℕ) → HolderBecomes old new c h → Blank old → Blank new
+blank_holder old new c h b blank = blank_alike old new b.core b.jobs blank
 
 -- the same plain machine has jobs in the same slots
 some_raw : (c : Core) (superior : Option ℕ) (o : Option Job) → is_some (raw_of c superior o) ≡ is_some o

@@ -23,7 +23,7 @@ use Rattle.its_plain.specs.Change.{on_slot, effect}
 use Rattle.its_plain.specs.Decide.{call_named}
 use Rattle.its_stepped.specs.Commit.{effect_on, effects_on, committed, gone_on, owed_by, given_up, owed_parts, owed_store, sleeps}
 use Rattle.its_stepped.specs.State.{Mark, State, turn, same, ending, waiting}
-use Rattle.its_pclsr.specs.Built.{AllBuilt, IsBuilt, backed}
+use Rattle.its_pclsr.specs.Built.{CanMake, CanMakeAll, backed}
 use Rattle.its_pclsr.specs.Carried.{standing_of, Ready, Endable}
 use Rattle.its_world.specs.World.{state_of, raw_of, frame_at, FrameBecomes}
 use Rattle.its_world.specs.declared.world.World.{World}
@@ -98,7 +98,7 @@ sleeps_alone n = elim (cases_Bool (n == 0o635445456000)) [
   | inr t ↦ t ∙ sym (not_asleep n t)
 ]
 
--- changes that are built leave frames, pages and marks as they are, and every job there
+-- changes that can be made leave frames, pages and marks as they are, and every job there
 pub record Mild (old new : State) : Type 0 where
   pub job : (k : ℕ) → is_some (new.raw.jobs k) ≡ is_some (old.raw.jobs k)
   pub frames : new.frames ≡ old.frames
@@ -116,18 +116,18 @@ slot_some jobs s f k = go (k == s)
     go true = mapped_some f (jobs k)
     go false = refl
 
-one_mild : (c : Change) (j : ℕ) (w : State) → IsBuilt c → Mild w (effect_on c j w)
+one_mild : (c : Change) (j : ℕ) (w : State) → CanMake c w → Mild w (effect_on c j w)
 unfolding effect_on effect
 one_mild (changes.Inform s) j w b = record { job = λ k. slot_some w.raw.jobs s _ k; frames = refl; reserved = refl; mark = refl }
 one_mild (changes.Set s v x) j w b = record { job = λ k. slot_some w.raw.jobs s _ k; frames = refl; reserved = refl; mark = refl }
-one_mild (changes.Open n o) j w b = absurd b
-one_mild (changes.Shut n) j w b = absurd b
+one_mild (changes.Open n o) j w b = record { job = λ k. slot_some w.raw.jobs j _ k; frames = refl; reserved = refl; mark = refl }
+one_mild (changes.Shut n) j w b = record { job = λ k. slot_some w.raw.jobs j _ k; frames = refl; reserved = refl; mark = refl }
 one_mild (changes.Move n at) j w b = absurd b
 one_mild (changes.Append n x) j w b = absurd b
 one_mild (changes.Close n) j w b = absurd b
-one_mild (changes.Take n) j w b = absurd b
-one_mild (changes.Put n x) j w b = absurd b
-one_mild (changes.Hold n s) j w b = absurd b
+one_mild (changes.Take n) j w b = record { job = λ k. refl; frames = refl; reserved = refl; mark = refl }
+one_mild (changes.Put n x) j w b = record { job = λ k. refl; frames = refl; reserved = refl; mark = refl }
+one_mild (changes.Hold n s) j w b = record { job = λ k. refl; frames = refl; reserved = refl; mark = refl }
 one_mild (changes.Poke s at x) j w b = absurd b
 one_mild (changes.Map s k) j w b = absurd b
 one_mild (changes.Unmap s k) j w b = absurd b
@@ -137,7 +137,7 @@ one_mild (changes.Remove s) j w b = absurd b
 one_mild (changes.Delete d x y) j w b = absurd b
 one_mild (changes.Rename d x y u v) j w b = absurd b
 
-pub all_mild : (cs : List Change) (j : ℕ) (w : State) → AllBuilt cs → Mild w (effects_on cs j w)
+pub all_mild : (cs : List Change) (j : ℕ) (w : State) → CanMakeAll cs j w → Mild w (effects_on cs j w)
 all_mild [] j w b = record { job = λ k. refl; frames = refl; reserved = refl; mark = refl }
 all_mild (c ∷ cs) j w b =
     let a = one_mild c j w b.0 in
@@ -158,17 +158,17 @@ raw_some_is w k = go (core_at w.core k) (superior_at w.jobs k) (job_at w.jobs k)
     go c superior (Some j) = refl
     go c superior None = refl
 
-pub job_kept : (old mid : World) (s : ℕ) (cs : List Change) → state_of mid ≡ effects_on cs s (state_of old) → AllBuilt cs → is_some (job_at old.jobs s) ≡ true
+pub job_kept : (old mid : World) (s : ℕ) (cs : List Change) → state_of mid ≡ effects_on cs s (state_of old) → CanMakeAll cs s (state_of old) → is_some (job_at old.jobs s) ≡ true
     → is_some (job_at mid.jobs s) ≡ true
 job_kept old mid s cs e b some =
     sym (raw_some_is mid s) ∙ ap (λ (v : State). is_some (v.raw.jobs s)) e ∙ (all_mild cs s (state_of old) b).job s ∙ raw_some_is old s ∙ some
 
-pub frame_kept : (old mid : World) (s : ℕ) (cs : List Change) → state_of mid ≡ effects_on cs s (state_of old) → AllBuilt cs
+pub frame_kept : (old mid : World) (s : ℕ) (cs : List Change) → state_of mid ≡ effects_on cs s (state_of old) → CanMakeAll cs s (state_of old)
     → frame_at mid.frames.items s ≡ frame_at old.frames.items s
 unfolding state_of
 frame_kept old mid s cs e b = ap (λ (v : State). v.frames s) e ∙ ap (λ (f : ℕ → Option Frame). f s) (all_mild cs s (state_of old) b).frames
 
-pub stands_kept : (old mid : World) (s : ℕ) (cs : List Change) → state_of mid ≡ effects_on cs s (state_of old) → AllBuilt cs
+pub stands_kept : (old mid : World) (s : ℕ) (cs : List Change) → state_of mid ≡ effects_on cs s (state_of old) → CanMakeAll cs s (state_of old)
     → is_some (standing_of (frame_at old.frames.items s)) ≡ true → is_some (standing_of (frame_at mid.frames.items s)) ≡ true
 stands_kept old mid s cs e b h = ap (λ f. is_some (standing_of f)) (frame_kept old mid s cs e b) ∙ h
 
@@ -176,11 +176,11 @@ stands_kept old mid s cs e b h = ap (λ f. is_some (standing_of f)) (frame_kept 
 pub ready_for : (o : Option Holding) (w : State) (s : ℕ) (d e : Decision) → d ≡ e → IfSome o (λ f. Ready w s f d) → IfSome o (λ f. Ready w s f e)
 ready_for o w s d e h r = subst (λ (x : Decision). IfSome o (λ f. Ready w s f x)) h r
 
-pub ends_built : (o : Option Holding) (w : State) (s n : ℕ) (cs : List Change) → is_some o ≡ true → IfSome o (λ f. AllBuilt cs × Endable w s f n) → AllBuilt cs
+pub ends_built : (o : Option Holding) (w : State) (s n : ℕ) (cs : List Change) → is_some o ≡ true → IfSome o (λ f. CanMakeAll cs s w × Endable w s f n) → CanMakeAll cs s w
 ends_built (Some f) w s n cs i h = h.0
 ends_built None w s n cs i h = cc
 
-pub ends_room : (o : Option Holding) (w : State) (s n : ℕ) (cs : List Change) → IfSome o (λ f. AllBuilt cs × Endable w s f n) → IfSome o (λ f. Endable w s f n)
+pub ends_room : (o : Option Holding) (w : State) (s n : ℕ) (cs : List Change) → IfSome o (λ f. CanMakeAll cs s w × Endable w s f n) → IfSome o (λ f. Endable w s f n)
 ends_room (Some f) w s n cs h = h.1
 ends_room None w s n cs h = tt
 
@@ -201,13 +201,13 @@ wait_committed old new s r job h = go (standing_of (frame_at old.frames.items s)
     go None b = tt
 
 -- a frame that is put after changes
-put_after : (old mid new : World) (s : ℕ) (cs : List Change) (g : Frame) → state_of mid ≡ effects_on cs s (state_of old) → AllBuilt cs → is_some (job_at old.jobs s) ≡ true
+put_after : (old mid new : World) (s : ℕ) (cs : List Change) (g : Frame) → state_of mid ≡ effects_on cs s (state_of old) → CanMakeAll cs s (state_of old) → is_some (job_at old.jobs s) ≡ true
     → FrameBecomes mid new s (Some g) → state_of new ≡ turn (effects_on cs s (state_of old)) s same (Some g)
 put_after old mid new s cs g e b job f =
     kept_turn mid new s _ (job_kept old mid s cs e b job) f ∙ ap (λ v. turn v s same (Some g)) e
 
 -- a call of which a part is done
-pub goes_committed : (old mid new : World) (s : ℕ) (cs : List Change) (h : Option Held) (vs : List ℕ) → state_of mid ≡ effects_on cs s (state_of old) → AllBuilt cs
+pub goes_committed : (old mid new : World) (s : ℕ) (cs : List Change) (h : Option Held) (vs : List ℕ) → state_of mid ≡ effects_on cs s (state_of old) → CanMakeAll cs s (state_of old)
     → is_some (job_at old.jobs s) ≡ true
     → IfSome (standing_of (frame_at mid.frames.items s)) (λ f. FrameBecomes mid new s (Some (gone_on f.site (revalued f.ask vs) (length vs) h)))
     → IfSome (standing_of (frame_at old.frames.items s)) (λ f. state_of new ≡ committed (state_of old) s f.site f.ask f.owes (Goes (record { items = cs }) h (record { items = vs })))
@@ -222,7 +222,7 @@ goes_committed old mid new s cs h vs e b job p =
     go None p = tt
 
 -- a call that ends
-endable_kept : (old mid : World) (s : ℕ) (cs : List Change) (f : Holding) (n : ℕ) → state_of mid ≡ effects_on cs s (state_of old) → AllBuilt cs
+endable_kept : (old mid : World) (s : ℕ) (cs : List Change) (f : Holding) (n : ℕ) → state_of mid ≡ effects_on cs s (state_of old) → CanMakeAll cs s (state_of old)
     → Endable (state_of old) s f n → Endable (state_of mid) s f n
 endable_kept old mid s cs f n e b h =
     let m = all_mild cs s (state_of old) b in
@@ -233,7 +233,7 @@ endable_kept old mid s cs f n e b h =
       unmarked = ap (λ (v : State). v.mark) e ∙ m.mark ∙ h.unmarked;
     }
 
-pub room_kept : (old mid : World) (s : ℕ) (cs : List Change) (n : ℕ) → state_of mid ≡ effects_on cs s (state_of old) → AllBuilt cs
+pub room_kept : (old mid : World) (s : ℕ) (cs : List Change) (n : ℕ) → state_of mid ≡ effects_on cs s (state_of old) → CanMakeAll cs s (state_of old)
     → IfSome (standing_of (frame_at old.frames.items s)) (λ f. Endable (state_of old) s f n)
     → IfSome (standing_of (frame_at mid.frames.items s)) (λ f. Endable (state_of mid) s f n)
 room_kept old mid s cs n e b h =
@@ -256,7 +256,7 @@ owed_is v s page ss e m r =
     ap (λ os. os ++ (given_up (v.reserved s) ++ (map owed_store ss ++ Leave e ∷ []))) (unowned v.mark s m)
     ∙ ap (λ os. os ++ (map owed_store ss ++ Leave e ∷ [])) (backed_is (v.reserved s) page r)
 
-pub ends_committed : (old mid new : World) (s : ℕ) (cs : List Change) (ss : List Store) (x : Exit) → state_of mid ≡ effects_on cs s (state_of old) → AllBuilt cs
+pub ends_committed : (old mid new : World) (s : ℕ) (cs : List Change) (ss : List Store) (x : Exit) → state_of mid ≡ effects_on cs s (state_of old) → CanMakeAll cs s (state_of old)
     → is_some (job_at old.jobs s) ≡ true
     → IfSome (standing_of (frame_at old.frames.items s)) (λ f. Endable (state_of old) s f (length ss))
     → IfSome (standing_of (frame_at mid.frames.items s)) (λ f. FrameBecomes mid new s (Some (ending f.site f.ask (backed (is_some f.page) ++ (map owed_store (debts f.ask f.owes ++ ss) ++ Leave x ∷ [])))))
@@ -290,3 +290,7 @@ gone_committed old mid new s cs r e = go (standing_of (frame_at old.frames.items
     go : (o : Option Holding) → IfSome o (λ f. state_of new ≡ effects_on cs s (effect_on (changes.Remove s) s (state_of old)))
     go (Some f) = e ∙ ap (effects_on cs s) r
     go None = tt
+
+pub gone_can : (old mid : World) (s : ℕ) (cs : List Change) → state_of mid ≡ effect_on (changes.Remove s) s (state_of old) → CanMakeAll cs s (effect_on (changes.Remove s) s (state_of old))
+    → CanMakeAll cs s (state_of mid)
+gone_can old mid s cs e h = subst (CanMakeAll cs s) (sym e) h

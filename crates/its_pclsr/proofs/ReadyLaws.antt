@@ -1,45 +1,49 @@
 -- What the tick of a slot finds whose call is tried: the jobs that the call reaches are unwound, it is decided on raw
 -- jobs there, and its decision can be carried out.
-use Rattle.std.specs.Prelude.{if◌then◌else◌, ◌||◌, ◌&&◌, ◌==◌, ◌≡◌, ◌≢◌, ◌<◌, ℕ, ◌+◌, Bool, true, false, not, Option, Some, None, IfSome, is_some, List, [], ◌∷◌, length, Result, Ok, Err, nat_lt, refl}
+use Rattle.std.specs.Prelude.{if◌then◌else◌, ◌||◌, ◌&&◌, ◌==◌, ◌≡◌, ◌≢◌, ◌<◌, ℕ, ◌+◌, ◌-◌, Bool, true, false, not, Option, Some, None, IfSome, is_some, List, [], ◌∷◌, ◌++◌, length, slice_index_or, unwrap_or, Result, Ok, Err, nat_lt, refl}
 use Rattle.std.proofs.Common.{sym, ◌∙◌, ap, subst, inl, inr, arith}
-use Rattle.std.proofs.lemmas.Bool.{cases_eq, eq-eqb, ne_eqb}
+use Rattle.std.proofs.lemmas.Bool.{cases_eq, eq-eqb, ne_eqb, ltb-true}
+use Rattle.its_word.specs.Byte.{load_of}
+use Rattle.its_word.specs.Console.{most_waiting}
 use Rattle.its_word.specs.Core.{Core}
-use Rattle.its_word.specs.Limits.{slots}
 use Rattle.its_word.specs.Tree.{is_below}
+use Rattle.its_word.specs.Word.{right_of}
 use Rattle.its_word.specs.declared.access.Fault.{Fault}
 use Rattle.its_word.specs.declared.calls.Ask.{Ask}
 use Rattle.its_word.specs.declared.calls.Exit.{Exit}
-use Rattle.its_word.specs.declared.calls.Pace.{Pace}
-use Rattle.its_word.specs.declared.calls.Pace.TheVariants.{Step, Wait}
 use Rattle.its_word.specs.declared.jobs.Job.{Job}
 use Rattle.its_core.specs.Cores.{core_at}
-use Rattle.its_jobs.specs.Table.{job_at, superior_at, IsTree}
+use Rattle.its_jobs.specs.Table.{job_at, superior_at}
 use Rattle.its_frame.specs.Left.{kept}
+use Rattle.its_frame.specs.declared.change.Change.TheVariants as changes
+use Rattle.its_frame.specs.declared.change.Opened.TheVariants as opened
 use Rattle.its_frame.specs.declared.decision.Decision.{Decision}
 use Rattle.its_frame.specs.declared.decision.Decision.TheVariants.{Waits, Goes, Ends, Gone}
+use Rattle.its_frame.specs.declared.decision.Wait.TheVariants.{Input, Output, Drained}
 use Rattle.its_frame.specs.declared.frame.Frame.{Frame}
 use Rattle.its_frame.specs.declared.frame.Frame.TheVariants as frames
 use Rattle.its_frame.specs.declared.frame.Holding.{Holding}
 use Rattle.its_frame.specs.declared.frame.Waiting.{Waiting}
 use Rattle.its_frame.specs.declared.name.CallName.{CallName}
-use Rattle.its_frame.specs.declared.name.CallName.TheVariants.{Hang, Sleep, Dismis, Usrvar, Logout, Iot}
+use Rattle.its_frame.specs.declared.name.CallName.TheVariants.{Hang, Sleep, Dismis, Usrvar, Logout, Open, Close, Iot, Siot, Finish, Listen, Ttylnd}
 use Rattle.its_frame.specs.declared.variable.Variable.{Variable}
 use Rattle.its_plain.specs.Arguments.{debts, input, has_input, place_of_input}
-use Rattle.its_plain.specs.CallBasic.{negated, sleep_tests, sleep, dismissed_by, dismiss_at, dismiss, Party, Oneself, Nobody, Channel, variable_named, by_oneself, by_superior, is_oneself, channel_at, party_on, party, set_own, own_variable, set_other, value_of_other, other_variable, usrvar_of, usrvar, told_superior}
+use Rattle.its_plain.specs.CallBasic.{negated, sleep_tests, sleep, dismissed_by, dismiss_at, dismiss, Party, Oneself, Nobody, Channel, variable_named, by_oneself, by_superior, channel_at, party, set_own, own_variable, set_other, value_of_other, other_variable, usrvar_of, usrvar, told_superior}
+use Rattle.its_plain.specs.CallTty.{console_of, has_console, is_other, input_waits, output_waits, output_left, first_typed, shown_byte, is_shut, opens_on, open_tests, opens, close_on, closes, store_tests, read_tests, word_of, iot_ends, iot_in, iot_out, iot_on, iot, next_pointer, siot_tests, siot_in, siot_out, siot_by, siot_on, siot, finish_on, finish, listens, listen_on, listen, can_take, is_holder, lands, ttylnd_of, ttylnd}
 use Rattle.its_plain.specs.CallStep.{among, decision}
-use Rattle.its_plain.specs.Change.{superior_in, superiors, is_gone}
-use Rattle.its_plain.specs.Decide.{call_named, decided_by, decided, inferior_on, reached_by, target_by, argument_of, target, listed, reach_by, reach}
+use Rattle.its_plain.specs.Change.{superiors, is_gone}
+use Rattle.its_plain.specs.Decide.{call_named, decided_by, decided, target_by, argument_of, target, listed, reach_by, reach}
 use Rattle.its_plain.specs.Interrupt.{dismissed}
-use Rattle.its_plain.specs.Machine.{Chan, Shut, TtyIn, TtyOut, Reads, Writes, On, Whole, Machine}
+use Rattle.its_plain.specs.Machine.{Chan, Shut, TtyIn, TtyOut, Reads, Writes, On, Console, Whole, Machine}
 use Rattle.its_plain.specs.Own.{with_stores}
 use Rattle.its_plain.specs.Tests.{◌⇒◌, finishes, fails, goes, out}
 use Rattle.its_plain.specs.View.{View, view}
 use Rattle.its_stepped.specs.Calling.{Distinct}
-use Rattle.its_stepped.specs.Commit.{committed}
+use Rattle.its_stepped.specs.Commit.{committed, effect_on}
 use Rattle.its_stepped.specs.Duty.{Duty, Meets, GivenBy}
 use Rattle.its_stepped.specs.Quiet.{IsStill}
 use Rattle.its_stepped.specs.SlotSame.{SlotSame}
-use Rattle.its_stepped.specs.Sound.{IsWaitable, Debts, Paged, SoundFrame, SoundBy, Sound}
+use Rattle.its_stepped.specs.Sound.{IsWaitable, Stands, Debts, Paged, SoundFrame, SoundBy, Sound}
 use Rattle.its_stepped.specs.State.{State, helped, plain, seen}
 use Rattle.its_stepped.specs.Tick.{Ticked, helped_if, helps, reserves, prepared_for, waits, tried, tried_by, held_on, tick_in, tick_unless, tick_of, tick}
 use Rattle.its_stepped.specs.Unwind.{all_unwound, help}
@@ -49,92 +53,291 @@ use Rattle.its_stepped.proofs.GivenLaws.{given}
 use Rattle.its_stepped.proofs.TestLaws.{by_test, first_holds}
 use Rattle.its_stepped.proofs.UnwindLaws.{among_first, all_unwound_end, all_unwound_plain, all_unwound_sound, all_unwound_none, all_unwound_others, all_unwound_unmarked}
 use Rattle.its_stepped.proofs.ViewLaws.{StillAt, decision_plain, target_seen, reach_plain}
-use Rattle.its_pclsr.specs.Built.{AllBuilt}
+use Rattle.its_pclsr.specs.Built.{IsTty, CanMakeAll}
 use Rattle.its_pclsr.specs.Carried.{standing_of, page_steps, pace_of, Ready}
 use Rattle.its_world.specs.World.{raw_of, raw_at, frame_at, state_of}
 use Rattle.its_world.specs.declared.world.World.{World}
 
--- the changes of a decision are built
-abbrev pub DecisionBuilt : Decision → Type 0
-DecisionBuilt (Waits r) = Unit {0}
-DecisionBuilt (Goes cs h vs) = AllBuilt cs.items
-DecisionBuilt (Ends cs ss e) = AllBuilt cs.items
-DecisionBuilt (Gone cs) = AllBuilt cs.items
+-- the changes of a decision of slot j's call can be made
+abbrev pub DecisionCan : Decision → ℕ → State → Type 0
+DecisionCan (Waits r) j v = Unit {0}
+DecisionCan (Goes cs h vs) j v = CanMakeAll cs.items j v
+DecisionCan (Ends cs ss e) j v = CanMakeAll cs.items j v
+DecisionCan (Gone cs) j v = CanMakeAll cs.items j (effect_on (changes.Remove j) j v)
 
--- whatever a call decides, its changes are built
-sleep_built : (x : View) (a : Ask) → DecisionBuilt (sleep x a)
+-- what tests say of numbers: a channel that there is, and one that is open; a console, and one with room
+not_false : (b : Bool) → not b ≡ false → b ≡ true
+not_false true h = refl
+not_false false h = cc
+
+and_first : (b c : Bool) → not (b && c) ≡ false → b ≡ true
+and_first true c h = refl
+and_first false c h = cc
+
+or_first : (b c : Bool) → (b || c) ≡ false → b ≡ false
+or_first true c h = cc
+or_first false c h = refl
+
+abbrev IsOpen : Chan → Type 0
+IsOpen Shut = ⊥
+IsOpen _ = Unit {0}
+
+open_by : (b : Bool) (c : Chan) → IsOpen (if b then c else Shut) → b ≡ true
+open_by true c h = refl
+open_by false c h = absurd h
+
+open_number : (channels : ℕ → Chan) (n : ℕ) (c : Chan) → channel_at channels n ≡ c → IsOpen c → n < 16
+open_number channels n c e h = ltb-true n 16 (open_by (nat_lt n 16) (channels n) (subst IsOpen (sym e) h))
+
+opened_is : (b : Bool) → IsTty (if b then opened.TtyOut else opened.TtyIn)
+opened_is true = tt
+opened_is false = tt
+
+-- the view of a call in which its consoles are those of a state, and its job's console is one of eight
+record Sees (x : View) (v : State) : Type 0 where
+  consoles : x.consoles ≡ v.raw.consoles
+  own : IfSome x.own.job.console (λ c. c < 8)
+
+below_eight : (o : Option ℕ) → IfSome o (λ c. c < 8) → unwrap_or o 0 < 8
+below_eight (Some c) h = h
+below_eight None h = omega arith
+
+console_below : (x : View) (v : State) → Sees x v → console_of x < 8
+console_below x v s = below_eight x.own.job.console s.own
+
+has_room : (x : View) (v : State) (i : ℕ) → Sees x v → output_waits x i ≡ false → length (v.raw.consoles i).output < most_waiting
+has_room x v i s h =
+    subst (λ (consoles : ℕ → Console). length (consoles i).output < most_waiting) s.consoles
+    (ltb-true (length (x.consoles i).output) most_waiting
+    (not_false (nat_lt (length (x.consoles i).output) most_waiting) (or_first (not (nat_lt (length (x.consoles i).output) most_waiting)) (is_other x.slot (x.holders i)) h)))
+
+-- whatever a call decides, its changes can be made
+abbrev Can : ℕ → State → Decision → Type 0
+Can j v d = DecisionCan d j v
+
+sleep_can : (j : ℕ) (v : State) (x : View) (a : Ask) → Can j v (sleep x a)
 unfolding sleep
-sleep_built x a =
-    first_holds DecisionBuilt (sleep_tests x a (input a 0) (place_of_input a 0)) (goes [] None (negated (x.clock + input a 0) ∷ []))
+sleep_can j v x a =
+    first_holds (Can j v) (sleep_tests x a (input a 0) (place_of_input a 0)) (goes [] None (negated (x.clock + input a 0) ∷ []))
     (λ t. tt, (λ t. tt, (λ t. tt, (λ t. tt, (λ t. tt, (λ t. tt, tt)))))) (λ t. tt)
 
-dismissed_built : (x : View) (p w : ℕ) (r : Result Exit Fault) → DecisionBuilt (dismissed_by x p w r)
-dismissed_built x p w (Ok e) = tt
-dismissed_built x p w (Err f) = tt
+dismissed_can : (j : ℕ) (v : State) (x : View) (p w : ℕ) (r : Result Exit Fault) → Can j v (dismissed_by x p w r)
+dismissed_can j v x p w (Ok e) = tt
+dismissed_can j v x p w (Err f) = tt
 
-dismiss_built : (x : View) (a : Ask) → DecisionBuilt (dismiss x a)
+dismiss_can : (j : ℕ) (v : State) (x : View) (a : Ask) → Can j v (dismiss x a)
 unfolding dismiss
-dismiss_built x a = go (place_of_input a 0)
+dismiss_can j v x a = go (place_of_input a 0)
   where
-    go : (o : Option ℕ) → DecisionBuilt (dismiss_at x a o)
-    go (Some p) = dismissed_built x p (input a 0) (dismissed x.own.core x.own.job p)
+    go : (o : Option ℕ) → Can j v (dismiss_at x a o)
+    go (Some p) = dismissed_can j v x p (input a 0) (dismissed x.own.core x.own.job p)
     go None = tt
 
-own_built : (x : View) (a : Ask) (y : Variable) (b : Bool) → DecisionBuilt (set_own x a y b)
-own_built x a y true = tt
-own_built x a y false = tt
+-- USRVAR
+own_can : (j : ℕ) (v : State) (x : View) (a : Ask) (y : Variable) (b : Bool) → Can j v (set_own x a y b)
+own_can j v x a y true = tt
+own_can j v x a y false = tt
 
-own_variable_built : (x : View) (a : Ask) (o : Option Variable) → DecisionBuilt (own_variable x a o)
-own_variable_built x a None = tt
-own_variable_built x a (Some y) =
-    by_test DecisionBuilt (has_input a 2 && not (by_oneself y)) (fails x a 0o22) (set_own x a y (has_input a 2)) (λ t. tt) (λ t. own_built x a y (has_input a 2))
+own_variable_can : (j : ℕ) (v : State) (x : View) (a : Ask) (o : Option Variable) → Can j v (own_variable x a o)
+own_variable_can j v x a None = tt
+own_variable_can j v x a (Some y) =
+    by_test (Can j v) (has_input a 2 && not (by_oneself y)) (fails x a 0o22) (set_own x a y (has_input a 2)) (λ t. tt) (λ t. own_can j v x a y (has_input a 2))
 
-set_built : (k : ℕ) (y : Variable) (w : ℕ) (b : Bool) → AllBuilt (set_other k y w b)
-set_built k y w true = (tt, tt)
-set_built k y w false = tt
+set_can : (j : ℕ) (v : State) (k : ℕ) (y : Variable) (w : ℕ) (b : Bool) → CanMakeAll (set_other k y w b) j v
+set_can j v k y w true = (tt, tt)
+set_can j v k y w false = tt
 
-other_variable_built : (x : View) (a : Ask) (k : ℕ) (write : Bool) (o : Option Variable) → DecisionBuilt (other_variable x a k write o)
-other_variable_built x a k write None = tt
-other_variable_built x a k write (Some y) =
-    first_holds DecisionBuilt
+other_variable_can : (j : ℕ) (v : State) (x : View) (a : Ask) (k : ℕ) (write : Bool) (o : Option Variable) → Can j v (other_variable x a k write o)
+other_variable_can j v x a k write None = tt
+other_variable_can j v x a k write (Some y) =
+    first_holds (Can j v)
     (((has_input a 2 && not write) ⇒ fails x a 0o5) ∷ ((has_input a 2 && not (by_superior y)) ⇒ fails x a 0o22) ∷ [])
     (finishes x (set_other k y (input a 2) (has_input a 2)) (out a.outputs.items (value_of_other k y x.other)))
-    (λ t. tt, (λ t. tt, tt)) (λ t. set_built k y (input a 2) (has_input a 2))
+    (λ t. tt, (λ t. tt, tt)) (λ t. set_can j v k y (input a 2) (has_input a 2))
 
-usrvar_built : (x : View) (a : Ask) → DecisionBuilt (usrvar x a)
+usrvar_can : (j : ℕ) (v : State) (x : View) (a : Ask) → Can j v (usrvar x a)
 unfolding usrvar
-usrvar_built x a = go (party x (input a 0))
+usrvar_can j v x a = go (party x (input a 0))
   where
-    go : (p : Party) → DecisionBuilt (usrvar_of x a p)
-    go Oneself = own_variable_built x a (variable_named (input a 1))
+    go : (p : Party) → Can j v (usrvar_of x a p)
+    go Oneself = own_variable_can j v x a (variable_named (input a 1))
     go Nobody = tt
-    go (Channel (On k write at)) = other_variable_built x a k write (variable_named (input a 1))
+    go (Channel (On k write at)) = other_variable_can j v x a k write (variable_named (input a 1))
     go (Channel Shut) = tt
     go (Channel TtyIn) = tt
     go (Channel TtyOut) = tt
     go (Channel (Reads f at)) = tt
     go (Channel (Writes f)) = tt
 
-told_built : (o : Option ℕ) → AllBuilt (told_superior o)
-told_built (Some k) = (tt, tt)
-told_built None = tt
+told_can : (j : ℕ) (v : State) (o : Option ℕ) → CanMakeAll (told_superior o) j v
+told_can j v (Some k) = (tt, tt)
+told_can j v None = tt
 
-named_built : (x : View) (a : Ask) (o : Option CallName) → DecisionBuilt (decided_by x a o)
-named_built x a (Some Hang) = tt
-named_built x a (Some Sleep) = sleep_built x a
-named_built x a (Some Dismis) = dismiss_built x a
-named_built x a (Some Usrvar) = usrvar_built x a
-named_built x a (Some Logout) = told_built x.own.superior
-named_built x a (Some Iot) = tt
-named_built x a _ = tt
+-- OPEN and CLOSE
+opens_can : (j : ℕ) (v : State) (x : View) (a : Ask) → Can j v (opens x a)
+unfolding opens
+opens_can j v x a =
+    let n = input a 0 in
+    let control = unwrap_or a.control 0 in
+    first_holds (Can j v) (open_tests x a n (input a 1) control) (finishes x (changes.Open n (opens_on control) ∷ []) [])
+    (λ t. tt, (λ t. tt, (λ t. tt, (λ t. tt, tt))))
+    (λ t. ((ltb-true n 16 (and_first (nat_lt n 16) (is_shut (channel_at x.own.channels n)) t.0), opened_is (control == 1)), tt))
 
-decided_built : (x : View) (a : Ask) → DecisionBuilt (decided x a)
+closes_can : (j : ℕ) (v : State) (x : View) (a : Ask) → Can j v (closes x a)
+unfolding closes
+closes_can j v x a = go (channel_at x.own.channels (input a 0)) refl
+  where
+    n : ℕ
+    n = input a 0
+
+    number : (c : Chan) → channel_at x.own.channels n ≡ c → IsOpen c → n < 16
+    number c e h = open_number x.own.channels n c e h
+
+    go : (c : Chan) → channel_at x.own.channels n ≡ c → Can j v (close_on x a c)
+    go Shut e = tt
+    go TtyIn e = (number TtyIn e tt, tt)
+    go TtyOut e = (number TtyOut e tt, tt)
+    go (Reads f at) e = (number (Reads f at) e tt, tt)
+    go (Writes f) e = (number (Writes f) e tt, tt)
+    go (On k write at) e = (number (On k write at) e tt, tt)
+
+-- `.IOT`
+iot_in_can : (j : ℕ) (v : State) (x : View) (e i : ℕ) → i < 8 → Can j v (iot_in x e i)
+iot_in_can j v x e i l =
+    first_holds (Can j v) (store_tests x e ++ (input_waits x i ⇒ Waits (Input i) ∷ [])) (iot_ends x (changes.Take i ∷ []) (record { at = e; word = first_typed x i } ∷ []))
+    (λ t. tt, (λ t. tt, (λ t. tt, tt))) (λ t. (l, tt))
+
+iot_out_can : (j : ℕ) (v : State) (x : View) (e i : ℕ) → i < 8 → Sees x v → Can j v (iot_out x e i)
+iot_out_can j v x e i l s =
+    first_holds (Can j v) (read_tests x e ++ (output_waits x i ⇒ Waits (Output i) ∷ [])) (iot_ends x (changes.Put i (shown_byte (word_of x e)) ∷ []) [])
+    (λ t. tt, (λ t. tt, tt)) (λ t. ((l, has_room x v i s t.1.0), tt))
+
+iot_can : (j : ℕ) (v : State) (x : View) (a : Ask) → Sees x v → Can j v (iot x a)
+unfolding iot
+iot_can j v x a s = go (channel_at x.own.channels (input a 0))
+  where
+    e : ℕ
+    e = slice_index_or a.outputs.items 0 0
+
+    go : (c : Chan) → Can j v (iot_on x e c)
+    go TtyIn = iot_in_can j v x e (console_of x) (console_below x v s)
+    go TtyOut = iot_out_can j v x e (console_of x) (console_below x v s) s
+    go Shut = tt
+    go (Reads f at) = tt
+    go (Writes f) = tt
+    go (On k write at) = tt
+
+-- SIOT
+siot_in_can : (j : ℕ) (v : State) (x : View) (a : Ask) (next k i : ℕ) → i < 8 → Can j v (siot_in x a next k i)
+siot_in_can j v x a next k i l =
+    first_holds (Can j v) (store_tests x (right_of next) ++ (input_waits x i ⇒ Waits (Input i) ∷ []))
+    (goes (changes.Take i ∷ []) (Some (record { place = right_of next; byte = first_typed x i })) (next ∷ (k - 1) ∷ []))
+    (λ t. tt, (λ t. tt, (λ t. tt, tt))) (λ t. (l, tt))
+
+siot_out_can : (j : ℕ) (v : State) (x : View) (a : Ask) (next k i : ℕ) → i < 8 → Sees x v → Can j v (siot_out x a next k i)
+siot_out_can j v x a next k i l s =
+    first_holds (Can j v) (read_tests x (right_of next) ++ (output_waits x i ⇒ Waits (Output i) ∷ []))
+    (goes (changes.Put i (shown_byte (load_of next (word_of x (right_of next)))) ∷ []) None (next ∷ (k - 1) ∷ []))
+    (λ t. tt, (λ t. tt, tt)) (λ t. ((l, has_room x v i s t.1.0), tt))
+
+siot_by_can : (j : ℕ) (v : State) (x : View) (a : Ask) (p k : ℕ) (d : Decision) → Can j v d → Can j v (siot_by x a p k d)
+siot_by_can j v x a p k d h = first_holds (Can j v) (siot_tests x a p k) d (λ t. tt, (λ t. tt, (λ t. tt, (λ t. tt, (λ t. tt, (λ t. tt, tt)))))) (λ t. h)
+
+siot_can : (j : ℕ) (v : State) (x : View) (a : Ask) → Sees x v → Can j v (siot x a)
+unfolding siot
+siot_can j v x a s = go (channel_at x.own.channels (input a 0))
+  where
+    p : ℕ
+    p = input a 1
+
+    k : ℕ
+    k = input a 2
+
+    go : (c : Chan) → Can j v (siot_on x a c)
+    go TtyIn = siot_by_can j v x a p k (siot_in x a (next_pointer p) k (console_of x)) (siot_in_can j v x a (next_pointer p) k (console_of x) (console_below x v s))
+    go TtyOut = siot_by_can j v x a p k (siot_out x a (next_pointer p) k (console_of x)) (siot_out_can j v x a (next_pointer p) k (console_of x) (console_below x v s) s)
+    go Shut = tt
+    go (Reads f at) = tt
+    go (Writes f) = tt
+    go (On i write at) = tt
+
+-- FINISH and LISTEN
+finish_can : (j : ℕ) (v : State) (x : View) (a : Ask) → Can j v (finish x a)
+unfolding finish
+finish_can j v x a = go (channel_at x.own.channels (input a 0))
+  where
+    go : (c : Chan) → Can j v (finish_on x a c)
+    go TtyOut = first_holds (Can j v) (output_left x (console_of x) ⇒ Waits (Drained (console_of x)) ∷ []) (finishes x [] []) (λ t. tt, tt) (λ t. tt)
+    go Shut = tt
+    go TtyIn = tt
+    go (Reads f at) = tt
+    go (Writes f) = tt
+    go (On k write at) = tt
+
+listens_can : (j : ℕ) (v : State) (x : View) (a : Ask) (i : ℕ) → Can j v (listens x a i)
+listens_can j v x a i =
+    first_holds (Can j v) (output_left x i ⇒ Waits (Drained i) ∷ []) (finishes x [] (out a.outputs.items (length (x.consoles i).input))) (λ t. tt, tt) (λ t. tt)
+
+listen_can : (j : ℕ) (v : State) (x : View) (a : Ask) → Can j v (listen x a)
+unfolding listen
+listen_can j v x a = go (channel_at x.own.channels (input a 0))
+  where
+    go : (c : Chan) → Can j v (listen_on x a c)
+    go TtyIn = listens_can j v x a (console_of x)
+    go TtyOut = listens_can j v x a (console_of x)
+    go Shut = tt
+    go (Reads f at) = tt
+    go (Writes f) = tt
+    go (On k write at) = tt
+
+-- TTYLND
+lands_can : (j : ℕ) (v : State) (x : View) (a : Ask) (may : Bool) (error k : ℕ) → Sees x v → Can j v (lands x a may error k)
+lands_can j v x a may error k s =
+    first_holds (Can j v) (not (has_console x) ⇒ fails x a 0o5 ∷ not may ⇒ fails x a error ∷ []) (finishes x (changes.Hold (console_of x) k ∷ []) [])
+    (λ t. tt, (λ t. tt, tt)) (λ t. (console_below x v s, tt))
+
+ttylnd_can : (j : ℕ) (v : State) (x : View) (a : Ask) → Sees x v → Can j v (ttylnd x a)
+unfolding ttylnd
+ttylnd_can j v x a s = go (party x (input a 0))
+  where
+    go : (p : Party) → Can j v (ttylnd_of x a p)
+    go Oneself = lands_can j v x a (can_take x (x.holders (console_of x))) 0o13 x.slot s
+    go Nobody = tt
+    go (Channel (On k write at)) = lands_can j v x a (is_holder x (x.holders (console_of x))) 0o5 k s
+    go (Channel Shut) = tt
+    go (Channel TtyIn) = tt
+    go (Channel TtyOut) = tt
+    go (Channel (Reads f at)) = tt
+    go (Channel (Writes f)) = tt
+
+-- the calls by their names
+named_can : (j : ℕ) (v : State) (x : View) (a : Ask) (o : Option CallName) → Sees x v → Can j v (decided_by x a o)
+named_can j v x a (Some Hang) s = tt
+named_can j v x a (Some Sleep) s = sleep_can j v x a
+named_can j v x a (Some Dismis) s = dismiss_can j v x a
+named_can j v x a (Some Usrvar) s = usrvar_can j v x a
+named_can j v x a (Some Logout) s = told_can j (effect_on (changes.Remove j) j v) x.own.superior
+named_can j v x a (Some Open) s = opens_can j v x a
+named_can j v x a (Some Close) s = closes_can j v x a
+named_can j v x a (Some Iot) s = iot_can j v x a s
+named_can j v x a (Some Siot) s = siot_can j v x a s
+named_can j v x a (Some Finish) s = finish_can j v x a
+named_can j v x a (Some Listen) s = listen_can j v x a
+named_can j v x a (Some Ttylnd) s = ttylnd_can j v x a s
+named_can j v x a _ s = tt
+
+decided_can : (j : ℕ) (v : State) (x : View) (a : Ask) → Sees x v → Can j v (decided x a)
 unfolding decided
-decided_built x a = by_test DecisionBuilt (a.fail == 0) (decided_by x a (call_named a.name)) (fails x a a.fail) (λ t. named_built x a (call_named a.name)) (λ t. tt)
+decided_can j v x a s = by_test (Can j v) (a.fail == 0) (decided_by x a (call_named a.name)) (fails x a a.fail) (λ t. named_can j v x a (call_named a.name) s) (λ t. tt)
 
-pub decision_built : (m : Machine) (j : ℕ) (q : Whole) (a : Ask) → DecisionBuilt (decision m j q a)
+-- it is decided on a machine whose consoles are those of the state in which it is carried out, or on that state's own
+pub decision_can_on : (m : Machine) (v : State) (j : ℕ) (q : Whole) (a : Ask) → m.consoles ≡ v.raw.consoles → IfSome q.job.console (λ c. c < 8)
+    → DecisionCan (decision m j q a) j v
 unfolding decision view
-decision_built m j q a = decided_built (view m j q (target q a)) a
+decision_can_on m v j q a e h = decided_can j v (view m j q (target q a)) a (record { consoles = e; own = h })
+
+pub decision_can : (v : State) (j : ℕ) (q : Whole) (a : Ask) → IfSome q.job.console (λ c. c < 8) → DecisionCan (decision v.raw j q a) j v
+decision_can v j q a h = decision_can_on v.raw v j q a refl h
 
 -- where no close is half made, a commit finds that the jobs that its call reaches are unwound, and no more
 help_still : (w : State) → w.mark ≡ None → help w ≡ w
@@ -215,11 +418,11 @@ kept_steps (Some n) = refl
 kept_steps None = refl
 
 pub ready_by : (v : State) (j : ℕ) (own : Whole) (h : Holding) (d : Decision) → Sound v → v.mark ≡ None → v.reserved j ≡ h.page → length (debts h.ask h.owes) ≡ h.owes
-    → DecisionBuilt d → Duty v j own h.site h.ask h.owes d → Ready v j h d
-ready_by v j own h (Waits r) sound unmarked page read built duty = tt
-ready_by v j own h (Goes cs b vs) sound unmarked page read built duty = built
-ready_by v j own h (Ends cs ss e) sound unmarked page read built duty = (
-  built,
+    → DecisionCan d j v → Duty v j own h.site h.ask h.owes d → Ready v j h d
+ready_by v j own h (Waits r) sound unmarked page read can duty = tt
+ready_by v j own h (Goes cs b vs) sound unmarked page read can duty = can
+ready_by v j own h (Ends cs ss e) sound unmarked page read can duty = (
+  can,
   record {
     read = read;
     page = ap is_some page;
@@ -230,8 +433,8 @@ ready_by v j own h (Ends cs ss e) sound unmarked page read built duty = (
     unmarked = unmarked;
   },
 )
-ready_by v j own h (Gone cs) sound unmarked page read built duty = (
-  built,
+ready_by v j own h (Gone cs) sound unmarked page read can duty = (
+  can,
   record {
     sound = sound;
     unwound = λ k below. duty.quiet.0 k (below_gone (superiors v.raw) j k below) (below_other (superiors v.raw) j k below);
@@ -253,6 +456,7 @@ tried_carried w v j own h (Gone cs) same duty = refl
 -- a call that stands in the frame of its slot, and is to be tried
 record Stood (w : State) (j : ℕ) (q : Whole) (h : Holding) : Type 0 where
   stands : standing_of (w.frames j) ≡ Some h
+  standing : Stands (seen (w.frames j) q).core (seen (w.frames j) q).job h.site h.ask
   runs : q.job.stopped ≡ false
   shows : seen (w.frames j) q ≡ with_stores (debts h.ask h.owes) q
   debts : Debts q.core h.ask h.owes
@@ -297,9 +501,9 @@ running_tick : (w : State) (j : ℕ) (q : Whole) → w.raw.jobs j ≡ Some q →
 unfolding tick
 running_tick w j q is runs = ap (tick_of w j) is ∙ ap (tick_unless w j q) runs
 
-found_tries : (w : State) (j : ℕ) (q : Whole) (h : Holding) → Sound w → w.mark ≡ None → w.raw.jobs j ≡ Some q → Stood w j q h
+found_tries : (w : State) (j : ℕ) (q : Whole) (h : Holding) → Sound w → w.mark ≡ None → w.raw.jobs j ≡ Some q → IfSome q.job.console (λ c. c < 8) → Stood w j q h
     → Tries w (all_unwound (reach w.raw j q h.ask) w) j q h (decision (all_unwound (reach w.raw j q h.ask) w).raw j q h.ask)
-found_tries w j q h sound unmarked is s =
+found_tries w j q h sound unmarked is housed s =
     let own : Whole = seen (w.frames j) q in
     let ks : List ℕ = reach w.raw j q h.ask in
     let v : State = all_unwound ks w in
@@ -312,7 +516,7 @@ found_tries w j q h sound unmarked is s =
     ap (λ (m : Machine). decision m j own h.ask) (sym c.shows)
     ∙ decision_plain v j own h.ask still c.unmarked
     ∙ ap (λ (p : Whole). decision v.raw j p h.ask) s.shows
-    ∙ decision_behind v.raw j q h.ask h.owes s.debts.few in
+    ∙ decision_behind v.raw j q own.core own.job h.site h.ask h.owes s.standing s.debts.few in
     let duty : Duty v j own h.site h.ask h.owes d =
     subst (λ (e : Decision). Duty v j own h.site h.ask h.owes e) decides
     (subst (λ (x : State). Duty x j own h.site h.ask h.owes (decision (plain w) j own h.ask)) finds s.meets.duty) in
@@ -323,7 +527,7 @@ found_tries w j q h sound unmarked is s =
     record {
       cleared = c;
       decides = decides;
-      ready = ready_by v j own h d c.sound c.unmarked (c.page ∙ s.page) s.debts.read (decision_built v.raw j q h.ask) duty;
+      ready = ready_by v j own h d c.sound c.unmarked (c.page ∙ s.page) s.debts.read (decision_can v j q h.ask housed) duty;
       row = row;
       ticks = running_tick w j q is s.runs ∙ row;
     }
@@ -344,11 +548,12 @@ sound_at w j q f sound is fr =
 given_at : (w : State) (j : ℕ) (q : Whole) (f : Frame) → Sound w → Distinct (plain w) → w.raw.jobs j ≡ Some q → w.frames j ≡ Some f → GivenBy w j q (Some f)
 given_at w j q f sound distinct is fr = subst (GivenBy w j q) fr ((given decoding w j distinct sound).by q is)
 
-stood_by : (w : State) (j : ℕ) (q : Whole) (h : Holding) (f : Frame) → standing_of (Some f) ≡ Some h → w.frames j ≡ Some f → q.job.stopped ≡ false
-    → seen (Some f) q ≡ with_stores (debts h.ask h.owes) q → Debts q.core h.ask h.owes → w.reserved j ≡ h.page → Meets w j (seen (Some f) q) h.site h.ask h.owes
+stood_by : (w : State) (j : ℕ) (q : Whole) (h : Holding) (f : Frame) → standing_of (Some f) ≡ Some h → w.frames j ≡ Some f
+    → Stands (seen (Some f) q).core (seen (Some f) q).job h.site h.ask → q.job.stopped ≡ false → seen (Some f) q ≡ with_stores (debts h.ask h.owes) q → Debts q.core h.ask h.owes → w.reserved j ≡ h.page → Meets w j (seen (Some f) q) h.site h.ask h.owes
     → tick_in w j q (Some f) ≡ tried_by w j (seen (Some f) q) h.site h.ask h.owes → Stood w j q h
-stood_by w j q h f stands fr runs shows debts page meets row = record {
+stood_by w j q h f stands fr standing runs shows debts page meets row = record {
   stands = ap standing_of fr ∙ stands;
+  standing = subst (λ (o : Option Frame). Stands (seen o q).core (seen o q).job h.site h.ask) (sym fr) standing;
   runs = runs;
   shows = ap (λ (o : Option Frame). seen o q) fr ∙ shows;
   debts = debts;
@@ -362,7 +567,7 @@ unfolding seen
 stood_holding w j q f sound distinct is fr =
     let s = sound_at w j q (frames.Holding f) sound is fr in
     let none : f.page ≡ None = paged_none f.ask f.owes f.page s.pays.paged in
-    stood_by w j q f (frames.Holding f) refl fr s.runs refl s.pays.debts s.pays.page_is (given_at w j q (frames.Holding f) sound distinct is fr)
+    stood_by w j q f (frames.Holding f) refl fr s.standing s.runs refl s.pays.debts s.pays.page_is (given_at w j q (frames.Holding f) sound distinct is fr)
     (ap (λ (o : Option ℕ). held_on w j (seen (Some (frames.Holding f)) q) f.site f.ask o f.owes) none)
 
 -- the call of a frame that waits
@@ -373,7 +578,7 @@ stood_waiting : (w : State) (j : ℕ) (q : Whole) (f : Waiting) → Sound w → 
 unfolding seen
 stood_waiting w j q f sound distinct is fr =
     let s = sound_at w j q (frames.Waiting f) sound is fr in
-    stood_by w j q (held f) (frames.Waiting f) refl fr s.runs refl s.pays.debts s.pays.page_is (given_at w j q (frames.Waiting f) sound distinct is fr) refl
+    stood_by w j q (held f) (frames.Waiting f) refl fr s.standing s.runs refl s.pays.debts s.pays.page_is (given_at w j q (frames.Waiting f) sound distinct is fr) refl
 
 stood_at : (w : State) (j : ℕ) (q : Whole) (h : Holding) (o : Option Frame) → Sound w → Distinct (plain w) → w.raw.jobs j ≡ Some q → w.frames j ≡ o → standing_of o ≡ Some h → Stood w j q h
 stood_at w j q h (Some (frames.Holding f)) sound distinct is fr e = let same : f ≡ h = cc in subst (Stood w j q) same (stood_holding w j q f sound distinct is fr)
@@ -390,10 +595,10 @@ pub cleared : (w v : State) (j : ℕ) (q : Whole) (h : Holding) → Sound w → 
 cleared w v j q h sound distinct unmarked is stands e =
     subst (λ (x : State). Cleared w x j q h) (sym e) (found_cleared w j q h sound unmarked is (stood_at w j q h (w.frames j) sound distinct is refl stands))
 
-pub tries : (w v : State) (j : ℕ) (q : Whole) (h : Holding) (d : Decision) → Sound w → Distinct (plain w) → w.mark ≡ None → w.raw.jobs j ≡ Some q → standing_of (w.frames j) ≡ Some h
-    → v ≡ all_unwound (reach w.raw j q h.ask) w → d ≡ decision v.raw j q h.ask → Tries w v j q h d
-tries w v j q h d sound distinct unmarked is stands e f =
-    let t = found_tries w j q h sound unmarked is (stood_at w j q h (w.frames j) sound distinct is refl stands) in
+pub tries : (w v : State) (j : ℕ) (q : Whole) (h : Holding) (d : Decision) → Sound w → Distinct (plain w) → w.mark ≡ None → w.raw.jobs j ≡ Some q → IfSome q.job.console (λ c. c < 8)
+    → standing_of (w.frames j) ≡ Some h → v ≡ all_unwound (reach w.raw j q h.ask) w → d ≡ decision v.raw j q h.ask → Tries w v j q h d
+tries w v j q h d sound distinct unmarked is housed stands e f =
+    let t = found_tries w j q h sound unmarked is housed (stood_at w j q h (w.frames j) sound distinct is refl stands) in
     subst (Tries w v j q h) (sym f) (subst (λ (x : State). Tries w x j q h (decision x.raw j q h.ask)) (sym e) t)
 
 -- the same of worlds: the job of the slot is there, its call is decided by its raw job, it can be carried out, and then

@@ -16,13 +16,13 @@ use Rattle.its_frame.specs.declared.frame.Frame.{Frame}
 use Rattle.its_jobs.specs.Table.{job_at, superior_at, superior_in as superior_of, in_tree, IsTree, Without}
 use Rattle.its_jobs.proofs.TreeLaws.{past_none}
 use Rattle.its_plain.specs.Machine.{Whole}
-use Rattle.its_plain.specs.Change.{chan_left, left_job, superior_in, superiors, is_gone, removed, effect}
+use Rattle.its_plain.specs.Change.{chan_left, left_job, superior_in, superiors, is_gone, passed_on, removed, effect}
 use Rattle.its_plain.proofs.MachineLaws.{machine_is}
 use Rattle.its_stepped.specs.Commit.{effect_on}
 use Rattle.its_stepped.specs.Sound.{Sound, SoundBy}
 use Rattle.its_stepped.specs.State.{State}
 use Rattle.its_pclsr.specs.Removal.{channel_left, JobLeft, SlotKept, SlotSwept, Sweeps, Swept}
-use Rattle.its_world.specs.World.{chan_of, bare, raw_of, raw_at, frame_at, state_of, FrameBecomes, JobBecomes}
+use Rattle.its_world.specs.World.{chan_of, bare, raw_of, raw_at, frame_at, console_at, holder_at, state_of, FrameBecomes, JobBecomes}
 use Rattle.its_world.specs.declared.world.World.{World}
 use Rattle.its_world.proofs.StateLaws.{state_is}
 
@@ -68,9 +68,9 @@ unfolding reserved_at
 clear_kept a b k h = ap (λ (rs : List (Option Reserved)). option_map (λ (r : Reserved). r.clear) (slice_index_or rs k None)) h
 
 pub sweeps_gone : (gone : ℕ → Bool) (old mid new : World) (s : ℕ) → gone s ≡ true → Only (core_at old.core) (core_at mid.core) s no_core
-    → mid.core.reserved ≡ old.core.reserved → mid.jobs ≡ old.jobs → mid.frames ≡ old.frames → mid.clock ≡ old.clock → FrameBecomes mid new s None
+    → mid.core.reserved ≡ old.core.reserved → mid.jobs ≡ old.jobs → mid.frames ≡ old.frames → mid.consoles ≡ old.consoles → mid.holders ≡ old.holders → mid.clock ≡ old.clock → FrameBecomes mid new s None
     → Sweeps gone old new s
-sweeps_gone gone old mid new s g core reserved jobs frames clock b = record {
+sweeps_gone gone old mid new s g core reserved jobs frames consoles holders clock b = record {
   here = record {
     core = rw g (b.core.here ∙ core.here);
     job = λ f. absurd (let wrong : true ≡ false = sym g ∙ f in cc);
@@ -84,6 +84,8 @@ sweeps_gone gone old mid new s g core reserved jobs frames clock b = record {
     page = b.reserved.others k ne ∙ clear_kept old.core mid.core k reserved;
   };
   superiors = b.superiors ∙ ap (λ t. t.superiors) jobs;
+  consoles = b.consoles ∙ consoles;
+  holders = b.holders ∙ holders;
   clock = b.clock ∙ clock;
 }
 
@@ -99,6 +101,8 @@ sweeps_some gone old new s j i g is e h b = record {
   };
   others = λ k ne. record { core = b.core.others k ne; job = b.job.others k ne; frame = b.frame.others k ne; page = b.reserved.others k ne };
   superiors = b.superiors;
+  consoles = b.consoles;
+  holders = b.holders;
   clock = b.clock;
 }
 
@@ -107,6 +111,8 @@ sweeps_none gone w s g is = record {
   here = record { core = rw g refl; job = λ f. rw is (none_left gone); frame = rw g refl; page = refl };
   others = λ k ne. record { core = refl; job = refl; frame = refl; page = refl };
   superiors = refl;
+  consoles = refl;
+  holders = refl;
   clock = refl;
 }
 
@@ -135,6 +141,8 @@ swept_start gone w = record {
   done = λ k l. absurd (omega arith);
   rest = λ k l. record { core = refl; job = refl; frame = refl; page = refl };
   superiors = refl;
+  consoles = refl;
+  holders = refl;
   clock = refl;
 }
 
@@ -146,6 +154,8 @@ swept_next gone old mid new n a b = record {
   ];
   rest = λ k l. kept_twice old mid new k (a.rest k (omega arith)) (b.others k (λ e. omega arith));
   superiors = b.superiors ∙ a.superiors;
+  consoles = b.consoles ∙ a.consoles;
+  holders = b.holders ∙ a.holders;
   clock = b.clock ∙ a.clock;
 }
 
@@ -157,7 +167,8 @@ swept_more old mid new r n a b =
 -- then the jobs are removed
 module _ (old mid new : World) (r : ℕ) (sup : ℕ → Option ℕ) (swept : (k : ℕ) → SlotSwept (in_tree sup r) old mid k)
     (job : Without (in_tree sup r) (job_at mid.jobs) (job_at new.jobs)) (superior : Without (in_tree sup r) (superior_at old.jobs) (superior_at new.jobs))
-    (core : new.core ≡ mid.core) (frames : new.frames ≡ mid.frames) (clock : new.clock ≡ old.clock) where
+    (core : new.core ≡ mid.core) (frames : new.frames ≡ mid.frames) (consoles : new.consoles ≡ old.consoles)
+    (holders : (c : ℕ) → holder_at new.holders c ≡ passed_on (in_tree sup r) (sup r) (holder_at old.holders c)) (clock : new.clock ≡ old.clock) where
   jobs_left : (k : ℕ) (b : Bool) → in_tree sup r k ≡ b → raw_at new.core new.jobs k ≡ left_job (in_tree sup r) b (raw_at old.core old.jobs k)
   jobs_left k true e =
       let none : job_at new.jobs k ≡ None = job.each k ∙ ap (λ b. if b then None else job_at mid.jobs k) e in
@@ -174,7 +185,7 @@ module _ (old mid new : World) (r : ℕ) (sup : ℕ → Option ℕ) (swept : (k 
   pub removed_state : superiors (state_of old).raw ≡ sup → (j : ℕ) → state_of new ≡ effect_on (changes.Remove r) j (state_of old)
   unfolding state_of effect_on effect removed
   removed_state e j = subst P (sym e) (state_is _ _
-      (machine_is _ _ (λ k. jobs_left k (in_tree sup r k) refl) (λ k. refl) (λ k. refl) refl clock)
+      (machine_is _ _ (λ k. jobs_left k (in_tree sup r k) refl) (λ c. ap (λ l. console_at l.items c) consoles) holders refl clock)
       (λ k. ap (λ f. frame_at f.items k) frames ∙ (swept k).frame)
       (λ k. ap (λ c. clear_at c k) core ∙ (swept k).page)
       refl)
@@ -182,29 +193,29 @@ module _ (old mid new : World) (r : ℕ) (sup : ℕ → Option ℕ) (swept : (k 
       P : (ℕ → Option ℕ) → Type 0
       P s = state_of new ≡ record (state_of old) { raw = removed s r (state_of old).raw; frames = λ k. if is_gone s r k then None else (state_of old).frames k }
 
--- a list of channels, of which the first n are done
-pub record Shutting (gone : ℕ → Bool) (old new : List Channel) (n : ℕ) : Type 0 where
-  pub done : (k : ℕ) → k < n → slice_index_or new k channels.Closed ≡ channel_left gone (slice_index_or old k channels.Closed)
-  pub rest : (k : ℕ) → n ≤ k → slice_index_or new k channels.Closed ≡ slice_index_or old k channels.Closed
+-- a list to each of whose items f is done, of which the first n are done
+pub record Turning {X : Type 0} (f : X → X) (d : X) (old new : List X) (n : ℕ) : Type 0 where
+  pub done : (k : ℕ) → k < n → slice_index_or new k d ≡ f (slice_index_or old k d)
+  pub rest : (k : ℕ) → n ≤ k → slice_index_or new k d ≡ slice_index_or old k d
 
-pub shutting_start : (gone : ℕ → Bool) (cs : List Channel) → Shutting gone cs cs 0
-shutting_start gone cs = record { done = λ k l. absurd (omega arith); rest = λ k l. refl }
+pub turning_start : {X : Type 0} → (f : X → X) (d : X) (xs : List X) → Turning f d xs xs 0
+turning_start f d xs = record { done = λ k l. absurd (omega arith); rest = λ k l. refl }
 
-pub shutting_more : (gone : ℕ → Bool) (old new : List Channel) (n : ℕ) (c d : Channel) → n < length new → c ≡ slice_index_or new n channels.Closed
-    → d ≡ channel_left gone c → Shutting gone old new n → Shutting gone old (slice_set new n d) (n + 1)
-shutting_more gone old new n c d l e f s = record {
+pub turning_more : {X : Type 0} → (f : X → X) (d : X) (old new : List X) (n : ℕ) (x y : X) → n < length new → x ≡ slice_index_or new n d → y ≡ f x
+    → Turning f d old new n → Turning f d old (slice_set new n y) (n + 1)
+turning_more f d old new n x y l e h s = record {
   done = λ k less. elim (cases_eq k n) [
-    | inl i ↦ rw (i, get_or-set_same new n d channels.Closed l) (f ∙ ap (channel_left gone) (e ∙ s.rest n (omega arith)))
-    | inr ne ↦ get_or-set_other new n k d channels.Closed ne ∙ s.done k (omega arith)
+    | inl i ↦ rw (i, get_or-set_same new n y d l) (h ∙ ap f (e ∙ s.rest n (omega arith)))
+    | inr ne ↦ get_or-set_other new n k y d ne ∙ s.done k (omega arith)
   ];
-  rest = λ k less. get_or-set_other new n k d channels.Closed (λ i. omega arith) ∙ s.rest k (omega arith);
+  rest = λ k less. get_or-set_other new n k y d (λ i. omega arith) ∙ s.rest k (omega arith);
 }
 
-pub shutting_end : (gone : ℕ → Bool) (old new : List Channel) (n : ℕ) → length old ≤ n → Shutting gone old new n
-    → (k : ℕ) → slice_index_or new k channels.Closed ≡ channel_left gone (slice_index_or old k channels.Closed)
-shutting_end gone old new n l s k = elim (cases_lt k n) [
+pub turning_end : {X : Type 0} → (f : X → X) (d : X) (old new : List X) (n : ℕ) → f d ≡ d → length old ≤ n → Turning f d old new n
+    → (k : ℕ) → slice_index_or new k d ≡ f (slice_index_or old k d)
+turning_end f d old new n past l s k = elim (cases_lt k n) [
   | inl less ↦ s.done k less
-  | inr past ↦ s.rest k past ∙ get_or_past old k channels.Closed (omega arith) ∙ sym (ap (channel_left gone) (get_or_past old k channels.Closed (omega arith)))
+  | inr more ↦ s.rest k more ∙ get_or_past old k d (omega arith) ∙ sym (ap f (get_or_past old k d (omega arith)) ∙ past)
 ]
 
 -- a slot past the last has no job
@@ -227,12 +238,17 @@ all_swept old mid r l t s k = elim (cases_lt k slots) [
 
 pub tree_removed : (old mid new : World) (r : ℕ) → r < slots → IsTree old.jobs.jobs old.jobs.superiors → Swept (in_tree (superior_at old.jobs) r) old mid slots
     → Without (in_tree (superior_at mid.jobs) r) (job_at mid.jobs) (job_at new.jobs) → Without (in_tree (superior_at mid.jobs) r) (superior_at mid.jobs) (superior_at new.jobs)
-    → new.core ≡ mid.core → new.frames ≡ mid.frames → new.clock ≡ mid.clock → (j : ℕ) → state_of new ≡ effect_on (changes.Remove r) j (state_of old)
-tree_removed old mid new r l t s job superior core frames clock j =
+    → new.core ≡ mid.core → new.frames ≡ mid.frames → new.consoles ≡ mid.consoles
+    → ((c : ℕ) → holder_at new.holders c ≡ passed_on (in_tree (superior_at mid.jobs) r) (superior_at mid.jobs r) (holder_at mid.holders c)) → new.clock ≡ mid.clock
+    → (j : ℕ) → state_of new ≡ effect_on (changes.Remove r) j (state_of old)
+tree_removed old mid new r l t s job superior core frames consoles holders clock j =
     removed_state old mid new r (superior_at old.jobs) (all_swept old mid r l t s)
     (subst (λ (xs : List (Option ℕ)). Without (in_tree (superior_of xs) r) (job_at mid.jobs) (job_at new.jobs)) s.superiors job)
     (subst (λ (xs : List (Option ℕ)). Without (in_tree (superior_of xs) r) (superior_of xs) (superior_at new.jobs)) s.superiors superior)
-    core frames (clock ∙ s.clock) (superiors_are old t) j
+    core frames (consoles ∙ s.consoles)
+    (λ c. holders c ∙ ap (λ (xs : List (Option ℕ)). passed_on (in_tree (superior_of xs) r) (superior_of xs r) (holder_at mid.holders c)) s.superiors
+    ∙ ap (λ hs. passed_on (in_tree (superior_at old.jobs) r) (superior_at old.jobs r) (holder_at hs c)) s.holders)
+    (clock ∙ s.clock) (superiors_are old t) j
 
 -- no page is left behind
 no_page_by : (o : Option Whole) (f : Option Frame) (r : Option ℕ) → f ≡ None → SoundBy o f r → r ≡ None

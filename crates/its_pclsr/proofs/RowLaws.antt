@@ -73,6 +73,8 @@ unmoved w s none = record {
   superiors = refl;
   frame = record { here = none; others = λ k n. refl };
   reserved = record { here = refl; others = λ k n. refl };
+  consoles = refl;
+  holders = refl;
   clock = refl;
 }
 

@@ -1,5 +1,6 @@
 -- What has to hold of a decision that is carried out, and of the frame of its call.
 use Rattle.std.specs.Prelude.{◌≡◌, ◌≤◌, ◌+◌, ℕ, true, Option, Some, None, is_some, List, ◌++◌, length, take, drop, slice_set, slice_index_or}
+use Rattle.its_frame.specs.declared.change.Change.TheVariants.{Remove}
 use Rattle.its_frame.specs.declared.decision.Decision.{Decision}
 use Rattle.its_frame.specs.declared.decision.Decision.TheVariants.{Waits, Goes, Ends, Gone}
 use Rattle.its_frame.specs.declared.frame.Frame.{Frame}
@@ -12,9 +13,10 @@ use Rattle.its_word.specs.declared.calls.Pace.{Pace}
 use Rattle.its_word.specs.declared.calls.Pace.TheVariants.{Step, Wait}
 use Rattle.its_plain.specs.Change.{superiors}
 use Rattle.its_word.specs.Tree.{is_below}
+use Rattle.its_stepped.specs.Commit.{effect_on}
 use Rattle.its_stepped.specs.Sound.{Sound}
 use Rattle.its_stepped.specs.State.{State}
-use Rattle.its_pclsr.specs.Built.{AllBuilt}
+use Rattle.its_pclsr.specs.Built.{CanMakeAll}
 
 -- the call of a frame from which it can be committed; a call that waits holds no page
 abbrev pub standing_of : Option Frame → Option Holding
@@ -38,12 +40,12 @@ pub record Removable (w : State) (s : ℕ) : Type 0 where
   pub unwound : (k : ℕ) → is_below (superiors w.raw) s k ≡ true → w.frames k ≡ None
   pub page : w.reserved s ≡ None
 
--- the changes are built, and the rest can be done
+-- the changes can be made, and the rest can be done
 abbrev pub Ready : State → ℕ → Holding → Decision → Type 0
 Ready w s f (Waits r) = Unit {0}
-Ready w s f (Goes cs h vs) = AllBuilt cs.items
-Ready w s f (Ends cs ss e) = AllBuilt cs.items × Endable w s f (length ss.items)
-Ready w s f (Gone cs) = AllBuilt cs.items × Removable w s
+Ready w s f (Goes cs h vs) = CanMakeAll cs.items s w
+Ready w s f (Ends cs ss e) = CanMakeAll cs.items s w × Endable w s f (length ss.items)
+Ready w s f (Gone cs) = CanMakeAll cs.items s (effect_on (Remove s) s w) × Removable w s
 
 -- an input with a new value; the inputs from one on with new values
 abbrev pub no_operand : Operand

@@ -42,6 +42,8 @@ pub record Sweeps (gone : ℕ → Bool) (old new : World) (s : ℕ) : Type 0 whe
   pub here : SlotSwept gone old new s
   pub others : (k : ℕ) → k ≢ s → SlotKept old new k
   pub superiors : new.jobs.superiors ≡ old.jobs.superiors
+  pub consoles : new.consoles ≡ old.consoles
+  pub holders : new.holders ≡ old.holders
   pub clock : new.clock ≡ old.clock
 
 -- it is done in the slots below n
@@ -49,4 +51,6 @@ pub record Swept (gone : ℕ → Bool) (old new : World) (n : ℕ) : Type 0 wher
   pub done : (k : ℕ) → k < n → SlotSwept gone old new k
   pub rest : (k : ℕ) → n ≤ k → SlotKept old new k
   pub superiors : new.jobs.superiors ≡ old.jobs.superiors
+  pub consoles : new.consoles ≡ old.consoles
+  pub holders : new.holders ≡ old.holders
   pub clock : new.clock ≡ old.clock

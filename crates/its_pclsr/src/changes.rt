@@ -1,20 +1,24 @@
-ghost use Rattle.std.specs.Prelude.{◌≡◌, ◌<◌};
+ghost use Rattle.std.specs.Prelude.{◌≡◌, ◌<◌, Some, length};
+ghost use Rattle.its_word.specs.Console.{most_waiting};
 ghost use Rattle.its_word.specs.Limits.{slots};
-ghost use Rattle.its_plain.specs.Change.{with_inf};
-ghost use Rattle.its_plain.specs.Own.{with_registers, with_variable};
+ghost use Rattle.its_plain.specs.Change.{with_inf, taken_from, put_to, on_console};
+ghost use Rattle.its_plain.specs.Machine.{changed};
+ghost use Rattle.its_plain.specs.Own.{on_channel, opened_on, with_registers, with_variable};
 ghost use Rattle.its_stepped.specs.Commit.{effect_on, effects_on};
+ghost use Rattle.its_stepped.specs.Lines.{with_raw};
 ghost use Rattle.its_pclsr.specs.Apart.{Blank};
-ghost use Rattle.its_pclsr.specs.Built.{IsBuilt, AllBuilt};
-ghost use Rattle.its_world.specs.World.{state_of, in_raw};
+ghost use Rattle.its_pclsr.specs.Built.{IsTty, CanMake, CanMakeAll};
+ghost use Rattle.its_world.specs.World.{state_of, in_raw, chan_of};
 
-use its_frame::{Change, Variable};
-use its_word::{INF, Job, NAMED_FLAGS, Word};
+use its_frame::{Change, Opened, Variable};
+use its_word::{Channel, INF, Job, NAMED_FLAGS, Word};
 use its_world::World;
 
 /// Makes the changes of a call of slot's job, in their order. Those of calls that are not built cannot come.
+#[tactic(auto, using(crate::proofs::ChangeLaws::next_made, crate::proofs::ChangeLaws::can_first, crate::proofs::ChangeLaws::can_next))]
 pub fn apply(w: &mut World, slot: u8, changes: &[Change])
     requires slot { slot < slots }
-    requires built { AllBuilt changes.now }
+    requires can { CanMakeAll changes.now slot (state_of w.old) }
     requires blank { Blank w.old }
     ensures row { state_of w.new ≡ effects_on changes.now slot (state_of w.old) }
     ensures blank { Blank w.new }
@@ -28,12 +32,17 @@ pub fn apply(w: &mut World, slot: u8, changes: &[Change])
 #[tactic(auto, unfolding(its_stepped::specs::Commit::effect_on, its_plain::specs::Change::effect))]
 fn apply_one(w: &mut World, slot: u8, change: &Change)
     requires slot { slot < slots }
-    requires built { IsBuilt change.now }
+    requires can { CanMake change.now (state_of w.old) }
     requires blank { Blank w.old }
     ensures row { state_of w.new ≡ effect_on change.now slot (state_of w.old) }
     ensures blank { Blank w.new }
 {
     match change {
+        Change::Open { channel, on } => set_channel(w, slot, *channel, opened(*on)),
+        Change::Shut { channel } => set_channel(w, slot, *channel, Channel::Closed),
+        Change::Take { console } => take(w, *console),
+        Change::Put { console, byte } => put(w, *console, *byte),
+        Change::Hold { console, slot: s } => hold(w, *console, *s),
         Change::Inform { slot: s } => inform(w, *s),
         Change::Set {
             slot: s,
@@ -42,6 +51,67 @@ fn apply_one(w: &mut World, slot: u8, change: &Change)
         } => set(w, *s, *variable, *value),
         _ => unreachable!(),
     }
+}
+
+/// Sets a channel of a slot's job, where it has one.
+#[tactic(auto, using(crate::proofs::ChangeLaws::channel_set, crate::proofs::ChangeLaws::channel_missing, crate::proofs::ApartLaws::blank_put))]
+fn set_channel(w: &mut World, slot: u8, n: u8, channel: Channel)
+    requires slot { slot < slots }
+    requires channel { n < 16 }
+    requires blank { Blank w.old }
+    ensures row { state_of w.new ≡ in_raw (state_of w.old) slot (on_channel n (λ c. chan_of channel)) }
+    ensures blank { Blank w.new }
+{
+    if let Some(mut job) = w.registers(slot) {
+        job.channels[usize::from(n)] = channel;
+        w.put_registers(slot, job);
+    }
+}
+
+/// A channel as it is opened on a console.
+fn opened(on: Opened) -> Channel
+    requires tty { IsTty on }
+    ensures { chan_of result ≡ opened_on on }
+{
+    match on {
+        Opened::TtyIn => Channel::TtyIn,
+        Opened::TtyOut => Channel::TtyOut,
+        _ => unreachable!(),
+    }
+}
+
+/// Takes the first byte of a console's input.
+#[tactic(auto, using(crate::proofs::ChangeLaws::byte_taken, crate::proofs::ApartLaws::blank_console))]
+fn take(w: &mut World, console: u8)
+    requires console { console < 8 }
+    requires blank { Blank w.old }
+    ensures row { state_of w.new ≡ with_raw (state_of w.old) (on_console (state_of w.old).raw console taken_from) }
+    ensures blank { Blank w.new }
+{
+    w.take(console);
+}
+
+/// Puts a byte behind a console's output, which has room.
+#[tactic(auto, using(crate::proofs::ChangeLaws::byte_put, crate::proofs::ChangeLaws::console_room, crate::proofs::ApartLaws::blank_console))]
+fn put(w: &mut World, console: u8, byte: u8)
+    requires console { console < 8 }
+    requires room { length ((state_of w.old).raw.consoles console).output < most_waiting }
+    requires blank { Blank w.old }
+    ensures row { state_of w.new ≡ with_raw (state_of w.old) (on_console (state_of w.old).raw console (put_to byte)) }
+    ensures blank { Blank w.new }
+{
+    w.put(console, byte);
+}
+
+/// Makes a slot's job the holder of a console.
+#[tactic(auto, using(its_world::proofs::StateLaws::holder_state, crate::proofs::ApartLaws::blank_holder))]
+fn hold(w: &mut World, console: u8, slot: u8)
+    requires console { console < 8 }
+    requires blank { Blank w.old }
+    ensures row { state_of w.new ≡ with_raw (state_of w.old) (record (state_of w.old).raw { holders = changed (state_of w.old).raw.holders console (Some slot) }) }
+    ensures blank { Blank w.new }
+{
+    w.hold(console, Some(slot));
 }
 
 /// Sets INF in a slot's job, where it has one.

@@ -6,7 +6,7 @@ ghost use Rattle.its_word.specs.declared.jobs.Channel.TheVariants.{Closed};
 ghost use Rattle.its_core.specs.Cores.{core_at, clear_at};
 ghost use Rattle.its_frame.specs.declared.change.Change.TheVariants.{Remove};
 ghost use Rattle.its_jobs.specs.Table.{job_at, superior_at, in_tree};
-ghost use Rattle.its_plain.specs.Change.{superiors, is_gone};
+ghost use Rattle.its_plain.specs.Change.{superiors, is_gone, passed_on};
 ghost use Rattle.its_stepped.specs.Commit.{effect_on};
 ghost use Rattle.its_stepped.specs.Sound.{Sound};
 ghost use Rattle.its_stepped.specs.State.{plain};
@@ -41,7 +41,8 @@ pub fn unwind_below(w: &mut World, slot: u8)
 }
 
 /// Removes the job of a slot and all jobs below it: their pages are given up, and every channel on one of
-/// them is closed. No INF is set. The jobs below have been unwound; what is left of a call of the job
+/// them is closed. A console that one of them holds passes to the superior of the job, where it has one,
+/// else to nobody. No INF is set. The jobs below have been unwound; what is left of a call of the job
 /// itself is dropped, but a page that it has reserved is given back before.
 pub fn remove_tree(w: &mut World, slot: u8)
     requires slot { slot < slots }
@@ -57,6 +58,7 @@ pub fn remove_tree(w: &mut World, slot: u8)
 {
     w.jobs.tree();
     sweep(w, slot);
+    pass_on(&w.jobs, slot, &mut w.holders);
     w.jobs.remove_tree(slot);
 }
 
@@ -99,12 +101,39 @@ fn shut_channels(w: &mut World, root: u8, slot: u8)
 }
 
 /// Closes those of these channels that are on jobs of a tree.
-#[tactic(auto, using(crate::proofs::RemovalLaws::shutting_start, crate::proofs::RemovalLaws::shutting_more, crate::proofs::RemovalLaws::shutting_end))]
+#[tactic(auto, using(crate::proofs::RemovalLaws::turning_start, crate::proofs::RemovalLaws::turning_more, crate::proofs::RemovalLaws::turning_end))]
 fn shut_each(jobs: &Jobs, root: u8, channels: &mut [Channel])
     ensures { (n : ℕ) → slice_index_or channels.new n Closed ≡ channel_left (in_tree (superior_at jobs.now) root) (slice_index_or channels.old n Closed) }
 {
     for n in 0..channels.len() {
         channels[n] = left(jobs, root, channels[n]);
+    }
+}
+
+/// Passes the consoles that jobs of a tree hold to the superior of the root, or to nobody where it has none.
+#[tactic(auto, using(crate::proofs::RemovalLaws::turning_start, crate::proofs::RemovalLaws::turning_more, crate::proofs::RemovalLaws::turning_end))]
+fn pass_on(jobs: &Jobs, root: u8, holders: &mut [Option<u8>])
+    ensures { (c : ℕ) → slice_index_or holders.new c None ≡ passed_on (in_tree (superior_at jobs.now) root) (superior_at jobs.now root) (slice_index_or holders.old c None) }
+{
+    let heir = jobs.superior(root);
+    for c in 0..holders.len() {
+        holders[c] = passed(jobs, root, heir, holders[c]);
+    }
+}
+
+/// The holder of a console after the removal of a tree, whose consoles pass to an heir.
+fn passed(jobs: &Jobs, root: u8, heir: Option<u8>, holder: Option<u8>) -> Option<u8>
+    ensures { result ≡ passed_on (in_tree (superior_at jobs.now) root) heir holder }
+{
+    match holder {
+        Some(h) => {
+            if is_removed(jobs, root, h) {
+                heir
+            } else {
+                Some(h)
+            }
+        }
+        None => None,
     }
 }
 

@@ -1,8 +1,9 @@
--- What the lines of a session leave of the plain machine: names, superiors, channels, consoles and files. What holds of
--- these alone is kept by every line.
-use Rattle.std.specs.Prelude.{◌≡◌, ◌≢◌, ◌<◌, ◌≤◌, ◌⊎◌, ℕ, zero, suc, cond, ◌+◌, Bool, true, false, Option, Some, None, List, [], ◌∷◌, Result, Ok, Err, option_map, is_some, nat_lt, refl}
-use Rattle.std.proofs.Common.{sym, ◌∙◌, ap, inl, inr, arith}
+-- What the lines of a session leave of the plain machine: names, superiors, channels and files, and how consoles and
+-- their holders change. What holds of these alone is kept by every line.
+use Rattle.std.specs.Prelude.{◌≡◌, ◌≢◌, ◌<◌, ◌≤◌, ◌⊎◌, ℕ, zero, suc, cond, ◌+◌, Bool, true, false, Option, Some, None, List, [], ◌∷◌, ◌++◌, Result, Ok, Err, option_map, is_some, nat_lt, take, drop, refl}
+use Rattle.std.proofs.Common.{sym, ◌∙◌, ap, subst, inl, inr, arith}
 use Rattle.std.proofs.lemmas.Bool.{cases_eq, eq-eqb, ne_eqb, ltb-true}
+use Rattle.its_word.specs.Console.{most_waiting}
 use Rattle.its_word.specs.Core.{Core, word_at, can_store}
 use Rattle.its_word.specs.Limits as limits
 use Rattle.its_word.specs.Tree.{free_from, least_free}
@@ -12,10 +13,10 @@ use Rattle.its_word.specs.declared.session.Event.TheVariants as events
 use Rattle.its_word.specs.declared.session.Reason.{Reason}
 use Rattle.its_word.specs.declared.show.JobShow.{JobShow}
 use Rattle.its_word.proofs.FreeLaws.{least_empty}
-use Rattle.its_plain.specs.Machine.{Chan, Whole, Machine, with_job, mapped}
-use Rattle.its_plain.specs.Operator.{Block, Operated, Refuses, Does, Ticks, Ends, new_job, loaded_in, loaded, stored, with_core, word_loaded_of, word_loaded, and_then, words_loaded, on_job, with_registers, on_registers, started, interrupted, stopped, continued, examined, state_shown, deposited_in, deposited, disturbs, quietly, by_load, by_exam, by_state}
+use Rattle.its_plain.specs.Machine.{Chan, Console, Whole, Machine, changed, with_job, mapped}
+use Rattle.its_plain.specs.Operator.{Block, Operated, Refuses, Does, Ticks, Ends, new_job, held_by, loaded_in, loaded, stored, with_core, word_loaded_of, word_loaded, and_then, words_loaded, on_job, with_registers, on_registers, started, interrupted, stopped, continued, examined, state_shown, deposited_in, deposited, disturbs, quietly, by_load, by_exam, by_state}
 use Rattle.its_plain.specs.Operator as operator
-use Rattle.its_plain.specs.CallOperator.{clock_end, clocked_if, clocked, operate, Lined, Done, Peeks, peeked_at, lined}
+use Rattle.its_plain.specs.CallOperator.{clock_end, clocked_if, clocked, typed, drained, operate, Lined, Done, Peeks, peeked_at, lined}
 
 -- what no line changes of a job
 pub record Face : Type 0 where
@@ -33,11 +34,22 @@ pub data SlotKept (o p : Option Whole) : Type 0 where
   Stays : option_map face p ≡ option_map face o → SlotKept o p
   Made : (u j : ℕ) (console : Option ℕ) → o ≡ None → p ≡ Some (new_job u j console) → SlotKept o p
 
+-- a console is as it was; or bytes were typed at it, or were drained from it
+pub data ConsoleKept (x y : Console) : Type 0 where
+  Quiet : y ≡ x → ConsoleKept x y
+  Gains : (bytes : List ℕ) → y ≡ record x { input = take most_waiting (x.input ++ bytes) } → ConsoleKept x y
+  Loses : (n : ℕ) → y ≡ record x { output = drop n x.output } → ConsoleKept x y
+
+-- the holder of a console is as it was; or the job that LOAD made with this console holds it, which nobody held
+pub data HolderKept (m n : Machine) (c : ℕ) : Type 0 where
+  Keeps : n.holders c ≡ m.holders c → HolderKept m n c
+  Takes : (s u j : ℕ) → m.holders c ≡ None → m.jobs s ≡ None → n.jobs s ≡ Some (new_job u j (Some c)) → n.holders c ≡ Some s → HolderKept m n c
+
 pub record LineKeeps (m n : Machine) : Type 0 where
   pub slots : (k : ℕ) → SlotKept (m.jobs k) (n.jobs k)
   pub few : (k : ℕ) → limits.slots ≤ k → m.jobs k ≡ None → n.jobs k ≡ None
-  pub consoles : n.consoles ≡ m.consoles
-  pub holders : n.holders ≡ m.holders
+  pub consoles : (c : ℕ) → ConsoleKept (m.consoles c) (n.consoles c)
+  pub holders : (c : ℕ) → HolderKept m n c
   pub files : n.files ≡ m.files
   pub clock : (n.clock ≡ m.clock) ⊎ (n.clock < clock_end)
 
@@ -62,7 +74,14 @@ faceless None o h e = refl
 faceless (Some q) o h e = let none : Some (face q) ≡ None = h ∙ ap (option_map face) e in absurd cc
 
 alike_keeps : (m n : Machine) → Alike m n → LineKeeps m n
-alike_keeps m n h = record { slots = λ k. Stays (h.slots k); few = λ k l e. faceless (n.jobs k) (m.jobs k) (h.slots k) e; consoles = h.consoles; holders = h.holders; files = h.files; clock = inl h.clock }
+alike_keeps m n h = record {
+  slots = λ k. Stays (h.slots k);
+  few = λ k l e. faceless (n.jobs k) (m.jobs k) (h.slots k) e;
+  consoles = λ c. Quiet (ap (λ (f : ℕ → Console). f c) h.consoles);
+  holders = λ c. Keeps (ap (λ (f : ℕ → Option ℕ). f c) h.holders);
+  files = h.files;
+  clock = inl h.clock;
+}
 
 alike_same : (m : Machine) → Alike m m
 alike_same m = record { slots = λ k. refl; consoles = refl; holders = refl; files = refl; clock = refl }
@@ -164,22 +183,84 @@ least_below : (f : ℕ → Option Whole) (s : ℕ) → least_free f ≡ Some s �
 unfolding least_free
 least_below f s h = let l = free_below f limits.slots 0 s h in omega arith
 
+made_slots : (m : Machine) (u j : ℕ) (console : Option ℕ) (s k : ℕ) → least_free m.jobs ≡ Some s → SlotKept (m.jobs k) (changed m.jobs s (Some (new_job u j console)) k)
+made_slots m u j console s k is = elim (cases_eq k s) [
+  | inl at ↦ rw at (Made u j console (least_empty m.jobs s is) (rw (eq-eqb s s refl) refl))
+  | inr ne ↦ Stays (rw (ne_eqb k s ne) refl)
+]
+
+made_few : (m : Machine) (q : Whole) (s k : ℕ) → least_free m.jobs ≡ Some s → limits.slots ≤ k → m.jobs k ≡ None → changed m.jobs s (Some q) k ≡ None
+made_few m q s k is l e =
+    let below : s < limits.slots = least_below m.jobs s is in let ne : k ≢ s = λ at. omega arith in rw (ne_eqb k s ne) e
+
+-- the holder of the console of a job that LOAD makes, and of every other one
+held_kept : (m n : Machine) (u j c s : ℕ) (o : Option ℕ) → m.holders c ≡ o → m.jobs s ≡ None → n.jobs s ≡ Some (new_job u j (Some c)) → n.holders c ≡ held_by s o → HolderKept m n c
+held_kept m n u j c s (Some h) was none is holds = Keeps (holds ∙ sym was)
+held_kept m n u j c s None was none is holds = Takes s u j was none is holds
+
+holder_kept : (m n : Machine) (u j c s k : ℕ) → m.jobs s ≡ None → n.jobs s ≡ Some (new_job u j (Some c))
+    → ((i : ℕ) → n.holders i ≡ changed m.holders c (held_by s (m.holders c)) i) → HolderKept m n k
+holder_kept m n u j c s k none is holds = elim (cases_eq k c) [
+  | inl at ↦ subst (λ (i : ℕ). HolderKept m n i) (sym at)
+      (held_kept m n u j c s (m.holders c) refl none is (holds c ∙ rw (eq-eqb c c refl) refl))
+  | inr ne ↦ Keeps (holds k ∙ rw (ne_eqb k c ne) refl)
+]
+
 load_keeps : (m : Machine) (u j : ℕ) (console o : Option ℕ) → least_free m.jobs ≡ o → LineKeepsBy m (Done (by_load (loaded_in m u j console o)))
-load_keeps m u j console (Some s) is = record {
-  slots = λ k. elim (cases_eq k s) [
-    | inl at ↦ rw at (Made u j console (least_empty m.jobs s is) (rw (eq-eqb s s refl) refl))
-    | inr ne ↦ Stays (rw (ne_eqb k s ne) refl)
-  ];
-  few = λ k l e. (let below : s < limits.slots = least_below m.jobs s is in let ne : k ≢ s = λ at. omega arith in rw (ne_eqb k s ne) e);
-  consoles = refl;
-  holders = refl;
+load_keeps m u j (Some c) (Some s) is = record {
+  slots = λ k. made_slots m u j (Some c) s k is;
+  few = λ k l e. made_few m (new_job u j (Some c)) s k is l e;
+  consoles = λ k. Quiet refl;
+  holders = λ k. holder_kept m _ u j c s k (least_empty m.jobs s is) (rw (eq-eqb s s refl) refl) (λ i. refl);
+  files = refl;
+  clock = inl refl;
+}
+load_keeps m u j None (Some s) is = record {
+  slots = λ k. made_slots m u j None s k is;
+  few = λ k l e. made_few m (new_job u j None) s k is l e;
+  consoles = λ k. Quiet refl;
+  holders = λ k. Keeps refl;
   files = refl;
   clock = inl refl;
 }
 load_keeps m u j console None is = tt
 
+-- one console changed
+console_kept : (m : Machine) (c k : ℕ) (y : Console) → ConsoleKept (m.consoles c) y → ConsoleKept (m.consoles k) (changed m.consoles c y k)
+console_kept m c k y h = elim (cases_eq k c) [
+  | inl at ↦ rw (at, eq-eqb c c refl) h
+  | inr ne ↦ rw (ne_eqb k c ne) (Quiet refl)
+]
+
+typed_keeps : (m : Machine) (c : ℕ) (bytes : List ℕ) → LineKeeps m (typed c bytes m)
+typed_keeps m c bytes = record {
+  slots = λ k. Stays refl;
+  few = λ k l e. e;
+  consoles = λ k. console_kept m c k _ (Gains bytes refl);
+  holders = λ k. Keeps refl;
+  files = refl;
+  clock = inl refl;
+}
+
+drained_keeps : (m : Machine) (c n : ℕ) → LineKeeps m (drained c n m)
+drained_keeps m c n = record {
+  slots = λ k. Stays refl;
+  few = λ k l e. e;
+  consoles = λ k. console_kept m c k _ (Loses n refl);
+  holders = λ k. Keeps refl;
+  files = refl;
+  clock = inl refl;
+}
+
 clock_keeps : (m : Machine) (b : Block) (n : ℕ) (fits : Bool) → nat_lt (m.clock + n) clock_end ≡ fits → LineKeepsBy m (Done (quietly b (clocked_if m n fits)))
-clock_keeps m b n true is = record { slots = λ k. Stays refl; few = λ k l e. e; consoles = refl; holders = refl; files = refl; clock = inr (ltb-true (m.clock + n) clock_end is) }
+clock_keeps m b n true is = record {
+  slots = λ k. Stays refl;
+  few = λ k l e. e;
+  consoles = λ c. Quiet refl;
+  holders = λ c. Keeps refl;
+  files = refl;
+  clock = inr (ltb-true (m.clock + n) clock_end is);
+}
 clock_keeps m b n false is = tt
 
 pub line_keeps : (m : Machine) (b : Block) (e : Event) → LineKeepsBy m (lined m b e)
@@ -201,7 +282,7 @@ line_keeps m b events.End = tt
 line_keeps m b (events.File d x y) = tt
 line_keeps m b (events.Append words) = tt
 line_keeps m b events.EndFile = tt
-line_keeps m b (events.TypeIn c bytes) = tt
-line_keeps m b (events.Drain c n) = tt
+line_keeps m b (events.TypeIn c bytes) = typed_keeps m c bytes.items
+line_keeps m b (events.Drain c n) = drained_keeps m c n
 line_keeps m b (events.Dir d) = tt
 line_keeps m b (events.Show d x y) = tt

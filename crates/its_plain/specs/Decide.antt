@@ -10,7 +10,8 @@ use Rattle.its_plain.specs.Change.{superiors}
 use Rattle.its_plain.specs.Arguments.{input}
 use Rattle.its_plain.specs.View.{View}
 use Rattle.its_plain.specs.Tests.{fails}
-use Rattle.its_plain.specs.CallBasic.{is_oneself, channel_at, hang, sleep, dismiss, usrvar, logout, ioc}
+use Rattle.its_plain.specs.CallBasic.{is_oneself, channel_at, hang, sleep, dismiss, usrvar, logout}
+use Rattle.its_plain.specs.CallTty.{opens, closes, iot, siot, finish, listen, ttylnd}
 
 -- the calls by their SIXBIT names
 unfoldable pub call_named : ℕ → Option CallName
@@ -36,16 +37,28 @@ call_named w =
     else (if w == 0o435762425453 then Some Corblk
     else None))))))))))))))))))
 
--- what a call decides whose decoding gave no error. One that is not built fails with error 1; `.IOT` fails,
--- as no channel can be open
+-- what a call decides whose decoding gave no error. One that is not built fails with error 1
+abbrev pub basic_by : View → Ask → Option CallName → Decision
+basic_by v a (Some Hang) = hang
+basic_by v a (Some Sleep) = sleep v a
+basic_by v a (Some Dismis) = dismiss v a
+basic_by v a (Some Usrvar) = usrvar v a
+basic_by v a (Some Logout) = logout v
+basic_by v a _ = fails v a 0o1
+
 abbrev pub decided_by : View → Ask → Option CallName → Decision
-decided_by v a (Some Hang) = hang
-decided_by v a (Some Sleep) = sleep v a
-decided_by v a (Some Dismis) = dismiss v a
-decided_by v a (Some Usrvar) = usrvar v a
-decided_by v a (Some Logout) = logout v
-decided_by v a (Some Iot) = ioc v
-decided_by v a _ = fails v a 0o1
+decided_by v a (Some Open) = opens v a
+decided_by v a (Some Close) = closes v a
+decided_by v a (Some Iot) = iot v a
+decided_by v a (Some Siot) = siot v a
+decided_by v a (Some Finish) = finish v a
+decided_by v a (Some Listen) = listen v a
+decided_by v a (Some Ttylnd) = ttylnd v a
+decided_by v a o = basic_by v a o
+
+-- that of the calls on jobs and times alone
+unfoldable pub decided_basic : View → Ask → Decision
+decided_basic v a = if a.fail == 0 then basic_by v a (call_named a.name) else fails v a a.fail
 
 -- an error of the decoding comes first
 unfoldable pub decided : View → Ask → Decision

@@ -20,6 +20,7 @@ pub mod View
 pub mod Tests
 pub mod CallBasic
 pub mod Decide
+pub mod CallTty
 pub mod CallStep
 pub mod Operator
 pub mod Transcript

@@ -13,7 +13,7 @@ use Rattle.its_word.specs.declared.session.Event.TheVariants.{Nothing, Load, Wor
 use Rattle.its_word.specs.declared.session.Reason.{Reason}
 use Rattle.its_word.specs.declared.session.Reason.TheVariants.{NoJob, NoPage, ReadOnly, Full, Unbuilt}
 use Rattle.its_plain.specs.Job.{pc_word, FATAL}
-use Rattle.its_plain.specs.Machine.{Whole, Machine, whole, with_job, mapped, words_at}
+use Rattle.its_plain.specs.Machine.{Whole, Machine, whole, with_job, changed, mapped, words_at}
 
 -- what a block of lines speaks of: the slot of the job that the last LOAD line made
 pub record Block : Type 0 where
@@ -43,8 +43,17 @@ only s k = k == s
 abbrev pub new_job : ℕ → ℕ → Option ℕ → Whole
 new_job u j console = whole no_core (fresh_job u j console) None
 
+-- it becomes the holder of its console where that has none
+abbrev pub held_by : ℕ → Option ℕ → Option ℕ
+held_by s (Some h) = Some h
+held_by s None = Some s
+
+abbrev pub with_holder : Machine → ℕ → Option ℕ → Machine
+with_holder m s (Some c) = record m { holders = changed m.holders c (held_by s (m.holders c)) }
+with_holder m s None = m
+
 abbrev pub loaded_in : Machine → ℕ → ℕ → Option ℕ → Option ℕ → Result (Machine × ℕ) Reason
-loaded_in m u j console (Some s) = Ok (with_job m s (new_job u j console), s)
+loaded_in m u j console (Some s) = Ok (with_holder (with_job m s (new_job u j console)) s console, s)
 loaded_in m u j console None = Err Full
 
 unfoldable pub loaded : Machine → ℕ → ℕ → Option ℕ → Result (Machine × ℕ) Reason

@@ -1,7 +1,8 @@
 -- The PC of each job stays an address through the steps of the plain machine.
-use Rattle.std.specs.Prelude.{if◌then◌else◌, ◌==◌, ◌&&◌, ◌≡◌, ◌<◌, ℕ, ◌+◌, ◌^◌, Bool, true, false, not, Option, Some, None, IfSome, List, [], ◌∷◌, Result, Ok, Err, option_map, refl}
+use Rattle.std.specs.Prelude.{if◌then◌else◌, ◌==◌, ◌&&◌, ◌≡◌, ◌<◌, ℕ, ◌+◌, ◌-◌, ◌^◌, Bool, true, false, not, Option, Some, None, IfSome, List, [], ◌∷◌, ◌++◌, length, slice_index_or, unwrap_or, Result, Ok, Err, option_map, refl}
 use Rattle.std.proofs.Common.{sym, subst, arith}
 use Rattle.std.proofs.lemmas.Nat.{mod_below}
+use Rattle.its_word.specs.Byte.{load_of}
 use Rattle.its_word.specs.Core.{Core, can_store, word_at}
 use Rattle.its_word.specs.Tree.{fresh_job}
 use Rattle.its_word.specs.Word.{right_of}
@@ -14,19 +15,21 @@ use Rattle.its_frame.specs.declared.change.Change.TheVariants as changes
 use Rattle.its_frame.specs.declared.decision.Decision.{Decision}
 use Rattle.its_frame.specs.declared.decision.Decision.TheVariants.{Waits, Goes, Ends, Gone}
 use Rattle.its_frame.specs.declared.decision.Held.{Held}
+use Rattle.its_frame.specs.declared.decision.Wait.TheVariants.{Input, Output, Drained}
 use Rattle.its_frame.specs.declared.name.CallName.{CallName}
-use Rattle.its_frame.specs.declared.name.CallName.TheVariants.{Hang, Sleep, Dismis, Usrvar, Logout, Iot}
+use Rattle.its_frame.specs.declared.name.CallName.TheVariants.{Hang, Sleep, Dismis, Usrvar, Logout, Open, Close, Iot, Siot, Finish, Listen, Ttylnd}
 use Rattle.its_frame.specs.declared.variable.Variable.{Variable}
 use Rattle.its_frame.specs.declared.variable.Variable.TheVariants.{Uname, Jname, Uind, Suppro, Cnsl, Pages, Upc, Ustp, Pirqc, Ifpir, Mask, Msk2, Df1, Df2}
 use Rattle.its_plain.specs.Arguments.{input, has_input, place_of_input, revalued}
 use Rattle.its_plain.specs.Ask.{ask}
-use Rattle.its_plain.specs.CallBasic.{negated, sleep_tests, sleep, dismissed_by, dismiss_at, dismiss, Party, Oneself, Nobody, Channel, variable_named, by_oneself, by_superior, set_own, own_variable, set_other, value_of_other, other_variable, usrvar_of, party, usrvar}
+use Rattle.its_plain.specs.CallBasic.{negated, sleep_tests, sleep, dismissed_by, dismiss_at, dismiss, Party, Oneself, Nobody, Channel, variable_named, by_oneself, by_superior, set_own, own_variable, set_other, value_of_other, other_variable, usrvar_of, channel_at, party, usrvar}
+use Rattle.its_plain.specs.CallTty.{console_of, has_console, input_waits, output_waits, output_left, first_typed, shown_byte, opens_on, open_tests, opens, close_on, closes, store_tests, read_tests, word_of, iot_ends, iot_in, iot_out, iot_on, iot, next_pointer, siot_tests, siot_in, siot_out, siot_by, siot_on, siot, finish_on, finish, listens, listen_on, listen, can_take, is_holder, lands, ttylnd_of, ttylnd}
 use Rattle.its_plain.specs.CallStep.{with_held, acted, decision, by_ask, by_unit, informs, delivery, by_delivery, unless_stopped, step_of, step}
 use Rattle.its_plain.specs.Change.{in_job, is_gone, left_job, removed, superiors, inferior, effect, effects}
 use Rattle.its_plain.specs.Decide.{call_named, decided_by, decided, target}
 use Rattle.its_plain.specs.Interrupt as interrupt
 use Rattle.its_plain.specs.Interrupt.{Delivered, deliverable, delivered, dismissed, dismissed_at, below}
-use Rattle.its_plain.specs.Machine.{Shut, TtyIn, TtyOut, Reads, Writes, On, Whole, Machine, changed, no_machine}
+use Rattle.its_plain.specs.Machine.{Chan, Shut, TtyIn, TtyOut, Reads, Writes, On, Whole, Machine, changed, no_machine}
 use Rattle.its_plain.specs.Own.{on_channel, with_variable, advanced}
 use Rattle.its_plain.specs.Tests.{◌⇒◌, finishes, fails, goes, out}
 use Rattle.its_plain.specs.Unit.{Outcome, Changed, Faulted, Called, unit}
@@ -204,6 +207,136 @@ usrvar_leaves x a = go (party x (input a 0))
     go (Channel (Reads f at)) = advanced_addressed 1 x.own.job
     go (Channel (Writes f)) = advanced_addressed 1 x.own.job
 
+-- the calls on consoles
+opens_leaves : (x : View) (a : Ask) → LeavesAddress (opens x a)
+unfolding opens
+opens_leaves x a =
+    let control = unwrap_or a.control 0 in
+    let one = advanced_addressed 1 x.own.job in
+    first_holds LeavesAddress (open_tests x a (input a 0) (input a 1) control) (finishes x (changes.Open (input a 0) (opens_on control) ∷ []) [])
+    (λ t. one, (λ t. one, (λ t. one, (λ t. one, tt)))) (λ t. advanced_addressed 2 x.own.job)
+
+closes_leaves : (x : View) (a : Ask) → LeavesAddress (closes x a)
+unfolding closes
+closes_leaves x a = go (channel_at x.own.channels (input a 0))
+  where
+    go : (c : Chan) → LeavesAddress (close_on x a c)
+    go Shut = advanced_addressed 1 x.own.job
+    go TtyIn = advanced_addressed 2 x.own.job
+    go TtyOut = advanced_addressed 2 x.own.job
+    go (Reads f at) = advanced_addressed 2 x.own.job
+    go (Writes f) = advanced_addressed 2 x.own.job
+    go (On k write at) = advanced_addressed 2 x.own.job
+
+iot_in_leaves : (x : View) (e i : ℕ) → x.own.job.pc < 2 ^ 18 → LeavesAddress (iot_in x e i)
+iot_in_leaves x e i h =
+    first_holds LeavesAddress (store_tests x e ++ (input_waits x i ⇒ Waits (Input i) ∷ [])) (iot_ends x (changes.Take i ∷ []) (record { at = e; word = first_typed x i } ∷ []))
+    (λ t. h, (λ t. h, (λ t. tt, tt))) (λ t. advanced_addressed 1 x.own.job)
+
+iot_out_leaves : (x : View) (e i : ℕ) → x.own.job.pc < 2 ^ 18 → LeavesAddress (iot_out x e i)
+iot_out_leaves x e i h =
+    first_holds LeavesAddress (read_tests x e ++ (output_waits x i ⇒ Waits (Output i) ∷ [])) (iot_ends x (changes.Put i (shown_byte (word_of x e)) ∷ []) [])
+    (λ t. h, (λ t. tt, tt)) (λ t. advanced_addressed 1 x.own.job)
+
+iot_leaves : (x : View) (a : Ask) → x.own.job.pc < 2 ^ 18 → LeavesAddress (iot x a)
+unfolding iot
+iot_leaves x a h = go (channel_at x.own.channels (input a 0))
+  where
+    e : ℕ
+    e = slice_index_or a.outputs.items 0 0
+
+    go : (c : Chan) → LeavesAddress (iot_on x e c)
+    go TtyIn = iot_in_leaves x e (console_of x) h
+    go TtyOut = iot_out_leaves x e (console_of x) h
+    go Shut = advanced_addressed 1 x.own.job
+    go (Reads f at) = advanced_addressed 1 x.own.job
+    go (Writes f) = advanced_addressed 1 x.own.job
+    go (On k write at) = advanced_addressed 1 x.own.job
+
+siot_in_leaves : (x : View) (a : Ask) (next k i : ℕ) → x.own.job.pc < 2 ^ 18 → LeavesAddress (siot_in x a next k i)
+siot_in_leaves x a next k i h =
+    first_holds LeavesAddress (store_tests x (right_of next) ++ (input_waits x i ⇒ Waits (Input i) ∷ []))
+    (goes (changes.Take i ∷ []) (Some (record { place = right_of next; byte = first_typed x i })) (next ∷ (k - 1) ∷ []))
+    (λ t. h, (λ t. h, (λ t. tt, tt))) (λ t. tt)
+
+siot_out_leaves : (x : View) (a : Ask) (next k i : ℕ) → x.own.job.pc < 2 ^ 18 → LeavesAddress (siot_out x a next k i)
+siot_out_leaves x a next k i h =
+    first_holds LeavesAddress (read_tests x (right_of next) ++ (output_waits x i ⇒ Waits (Output i) ∷ []))
+    (goes (changes.Put i (shown_byte (load_of next (word_of x (right_of next)))) ∷ []) None (next ∷ (k - 1) ∷ []))
+    (λ t. h, (λ t. tt, tt)) (λ t. tt)
+
+siot_by_leaves : (x : View) (a : Ask) (p k : ℕ) (d : Decision) → x.own.job.pc < 2 ^ 18 → LeavesAddress d → LeavesAddress (siot_by x a p k d)
+siot_by_leaves x a p k d h l =
+    let one = advanced_addressed 1 x.own.job in
+    first_holds LeavesAddress (siot_tests x a p k) d (λ t. one, (λ t. h, (λ t. one, (λ t. one, (λ t. advanced_addressed 2 x.own.job, (λ t. one, tt)))))) (λ t. l)
+
+siot_leaves : (x : View) (a : Ask) → x.own.job.pc < 2 ^ 18 → LeavesAddress (siot x a)
+unfolding siot
+siot_leaves x a h = go (channel_at x.own.channels (input a 0))
+  where
+    p : ℕ
+    p = input a 1
+
+    k : ℕ
+    k = input a 2
+
+    go : (c : Chan) → LeavesAddress (siot_on x a c)
+    go TtyIn = siot_by_leaves x a p k (siot_in x a (next_pointer p) k (console_of x)) h (siot_in_leaves x a (next_pointer p) k (console_of x) h)
+    go TtyOut = siot_by_leaves x a p k (siot_out x a (next_pointer p) k (console_of x)) h (siot_out_leaves x a (next_pointer p) k (console_of x) h)
+    go Shut = advanced_addressed 1 x.own.job
+    go (Reads f at) = advanced_addressed 1 x.own.job
+    go (Writes f) = advanced_addressed 1 x.own.job
+    go (On i write at) = advanced_addressed 1 x.own.job
+
+finish_leaves : (x : View) (a : Ask) → LeavesAddress (finish x a)
+unfolding finish
+finish_leaves x a = go (channel_at x.own.channels (input a 0))
+  where
+    go : (c : Chan) → LeavesAddress (finish_on x a c)
+    go TtyOut =
+        first_holds LeavesAddress (output_left x (console_of x) ⇒ Waits (Drained (console_of x)) ∷ []) (finishes x [] []) (λ t. tt, tt) (λ t. advanced_addressed 2 x.own.job)
+    go Shut = advanced_addressed 1 x.own.job
+    go TtyIn = advanced_addressed 1 x.own.job
+    go (Reads f at) = advanced_addressed 1 x.own.job
+    go (Writes f) = advanced_addressed 1 x.own.job
+    go (On k write at) = advanced_addressed 1 x.own.job
+
+listens_leaves : (x : View) (a : Ask) (i : ℕ) → LeavesAddress (listens x a i)
+listens_leaves x a i =
+    first_holds LeavesAddress (output_left x i ⇒ Waits (Drained i) ∷ []) (finishes x [] (out a.outputs.items (length (x.consoles i).input))) (λ t. tt, tt)
+    (λ t. advanced_addressed 2 x.own.job)
+
+listen_leaves : (x : View) (a : Ask) → LeavesAddress (listen x a)
+unfolding listen
+listen_leaves x a = go (channel_at x.own.channels (input a 0))
+  where
+    go : (c : Chan) → LeavesAddress (listen_on x a c)
+    go TtyIn = listens_leaves x a (console_of x)
+    go TtyOut = listens_leaves x a (console_of x)
+    go Shut = advanced_addressed 1 x.own.job
+    go (Reads f at) = advanced_addressed 1 x.own.job
+    go (Writes f) = advanced_addressed 1 x.own.job
+    go (On k write at) = advanced_addressed 1 x.own.job
+
+lands_leaves : (x : View) (a : Ask) (may : Bool) (error k : ℕ) → LeavesAddress (lands x a may error k)
+lands_leaves x a may error k =
+    first_holds LeavesAddress (not (has_console x) ⇒ fails x a 0o5 ∷ not may ⇒ fails x a error ∷ []) (finishes x (changes.Hold (console_of x) k ∷ []) [])
+    (λ t. advanced_addressed 1 x.own.job, (λ t. advanced_addressed 1 x.own.job, tt)) (λ t. advanced_addressed 2 x.own.job)
+
+ttylnd_leaves : (x : View) (a : Ask) → LeavesAddress (ttylnd x a)
+unfolding ttylnd
+ttylnd_leaves x a = go (party x (input a 0))
+  where
+    go : (p : Party) → LeavesAddress (ttylnd_of x a p)
+    go Oneself = lands_leaves x a (can_take x (x.holders (console_of x))) 0o13 x.slot
+    go Nobody = advanced_addressed 1 x.own.job
+    go (Channel (On k write at)) = lands_leaves x a (is_holder x (x.holders (console_of x))) 0o5 k
+    go (Channel Shut) = advanced_addressed 1 x.own.job
+    go (Channel TtyIn) = advanced_addressed 1 x.own.job
+    go (Channel TtyOut) = advanced_addressed 1 x.own.job
+    go (Channel (Reads f at)) = advanced_addressed 1 x.own.job
+    go (Channel (Writes f)) = advanced_addressed 1 x.own.job
+
 -- the calls by their names
 named_leaves : (x : View) (a : Ask) (o : Option CallName) → x.own.job.pc < 2 ^ 18 → LeavesAddress (decided_by x a o)
 named_leaves x a (Some Hang) h = tt
@@ -211,7 +344,13 @@ named_leaves x a (Some Sleep) h = sleep_leaves x a h
 named_leaves x a (Some Dismis) h = dismiss_leaves x a h
 named_leaves x a (Some Usrvar) h = usrvar_leaves x a
 named_leaves x a (Some Logout) h = tt
-named_leaves x a (Some Iot) h = advanced_addressed 1 x.own.job
+named_leaves x a (Some Open) h = opens_leaves x a
+named_leaves x a (Some Close) h = closes_leaves x a
+named_leaves x a (Some Iot) h = iot_leaves x a h
+named_leaves x a (Some Siot) h = siot_leaves x a h
+named_leaves x a (Some Finish) h = finish_leaves x a
+named_leaves x a (Some Listen) h = listen_leaves x a
+named_leaves x a (Some Ttylnd) h = ttylnd_leaves x a
 named_leaves x a _ h = advanced_addressed 1 x.own.job
 
 pub decided_leaves : (x : View) (a : Ask) → x.own.job.pc < 2 ^ 18 → LeavesAddress (decided x a)

@@ -1,24 +1,34 @@
 -- A call that owes words decides the same on its raw job as on the job behind the stores of these words. SLEEP asks
--- of its core only whether its word can be stored, which stores do not change; the other calls that are built owe
--- nothing.
-use Rattle.std.specs.Prelude.{◌≡◌, ◌≤◌, ℕ, not, Option, Some, None, List, [], ◌∷◌, refl}
-use Rattle.std.proofs.Common.{◌∙◌, ap, arith}
-use Rattle.its_word.specs.Core.{Core, can_store, store}
-use Rattle.its_word.proofs.CoreLaws.{can_store-store}
+-- of its core only whether its word can be stored, which stores do not change; so does SIOT, but for its byte's word,
+-- which is outside the footprint where it asks for it; the other calls that are built owe nothing.
+use Rattle.std.specs.Prelude.{◌≡◌, ◌≤◌, ℕ, true, not, Option, Some, None, List, [], ◌∷◌, refl}
+use Rattle.std.proofs.Common.{sym, ◌∙◌, ap, inl, inr, arith}
+use Rattle.std.proofs.lemmas.Bool.{cases_Bool}
+use Rattle.its_word.specs.Core.{Core, word_at, can_store, store}
+use Rattle.its_word.specs.Word.{right_of}
+use Rattle.its_word.proofs.CoreLaws.{word_at-store_other, can_store-store}
 use Rattle.its_word.specs.declared.calls.Ask.{Ask}
+use Rattle.its_word.specs.declared.calls.Site.{Site}
+use Rattle.its_word.specs.declared.jobs.Job.{Job}
 use Rattle.its_word.specs.declared.plan.Store.{Store}
+use Rattle.its_frame.specs.declared.decision.Decision.{Decision}
 use Rattle.its_frame.specs.declared.name.CallName.{CallName}
 use Rattle.its_frame.specs.declared.name.CallName.TheVariants.{Hang, Sleep, Dismis, Usrvar, Logout, Open, Close, Iot, Siot, Finish, Listen, Ttylnd, Access, Fillen, Delete, Rename, Usrmem, Uclose, Corblk}
-use Rattle.its_plain.specs.Arguments.{debts}
-use Rattle.its_plain.specs.CallBasic.{read_only, sleep}
+use Rattle.its_plain.specs.Arguments.{input, in_footprint, debts}
+use Rattle.its_plain.specs.CallBasic.{channel_at, read_only, sleep}
 use Rattle.its_plain.specs.CallStep.{decision}
+use Rattle.its_plain.specs.CallTty.{console_of, next_pointer, siot_in, siot_out, siot_by, siot_on, siot}
 use Rattle.its_plain.specs.Decide.{call_named, decided_by, decided, target}
-use Rattle.its_plain.specs.Machine.{Whole, Machine}
+use Rattle.its_plain.specs.Machine.{Chan, Shut, TtyIn, TtyOut, Reads, Writes, On, Whole, Machine}
 use Rattle.its_plain.specs.Own.{with_stores}
 use Rattle.its_word.specs.Stores.{place, stored}
-use Rattle.its_plain.specs.View.{view}
-use Rattle.its_stepped.specs.Sound.{most_owed_by, most_owed}
+use Rattle.its_plain.specs.View.{View, view}
+use Rattle.its_stepped.specs.Sound.{Stands, most_owed_by, most_owed}
+use Rattle.its_stepped.specs.Duty.{Apart}
+use Rattle.its_stepped.specs.Calling.{Fetched}
 use Rattle.its_stepped.proofs.DebtLaws.{debts_none}
+use Rattle.its_stepped.proofs.DecodingLaws.{decoding}
+use Rattle.its_stepped.proofs.SiotDuty.{debts_apart}
 use Rattle.its_stepped.proofs.ViewLaws.{target_alike}
 
 -- what can be stored stays so
@@ -35,6 +45,58 @@ sleep_stored : (m : Machine) (j : ℕ) (q : Whole) (t : Option ℕ) (a : Ask) (s
 unfolding sleep view
 sleep_stored m j q t a ss = simp read_only_stored
 
+-- SIOT
+word_stored : (c : Core) (ss : List Store) (b : ℕ) → Apart b ss → word_at (stored c ss) b ≡ word_at c b
+unfolding stored
+word_stored c [] b h = refl
+word_stored c (s ∷ ss) b h = word_stored (store c (place s) s.word) ss b h.1 ∙ word_at-store_other c (place s) b s.word (λ e. h.0 (sym e))
+
+siot_in_stored : (m : Machine) (j : ℕ) (q : Whole) (t : Option ℕ) (a : Ask) (ss : List Store) (w k i : ℕ) → word_at (stored q.core ss) (right_of w) ≡ word_at q.core (right_of w)
+    → siot_in (view m j (with_stores ss q) t) a w k i ≡ siot_in (view m j q t) a w k i
+unfolding view
+siot_in_stored m j q t a ss w k i e = simp (e, can_stored)
+
+siot_out_stored : (m : Machine) (j : ℕ) (q : Whole) (t : Option ℕ) (a : Ask) (ss : List Store) (w k i : ℕ) → word_at (stored q.core ss) (right_of w) ≡ word_at q.core (right_of w)
+    → siot_out (view m j (with_stores ss q) t) a w k i ≡ siot_out (view m j q t) a w k i
+unfolding view
+siot_out_stored m j q t a ss w k i e = simp e
+
+tests_stored : (m : Machine) (j : ℕ) (q : Whole) (t : Option ℕ) (a : Ask) (ss : List Store) (p k : ℕ) (d : Decision)
+    → siot_by (view m j (with_stores ss q) t) a p k d ≡ siot_by (view m j q t) a p k d
+unfolding view
+tests_stored m j q t a ss p k d = simp read_only_stored
+
+within_footprint : (x : View) (a : Ask) (p k : ℕ) (d e : Decision) → in_footprint (right_of (next_pointer p)) a ≡ true → siot_by x a p k d ≡ siot_by x a p k e
+within_footprint x a p k d e h = rw h refl
+
+siot_by_stored : (m : Machine) (j : ℕ) (q : Whole) (t : Option ℕ) (a : Ask) (n p k : ℕ) (c : Core) (d e : Decision) → Fetched c a
+    → (word_at (stored q.core (debts a n)) (right_of (next_pointer p)) ≡ word_at q.core (right_of (next_pointer p)) → d ≡ e)
+    → siot_by (view m j (with_stores (debts a n) q) t) a p k d ≡ siot_by (view m j q t) a p k e
+siot_by_stored m j q t a n p k c d e f same =
+    let b = right_of (next_pointer p) in
+    elim (cases_Bool (in_footprint b a)) [
+      | inl h ↦ tests_stored m j q t a (debts a n) p k d ∙ within_footprint (view m j q t) a p k d e h
+      | inr h ↦ tests_stored m j q t a (debts a n) p k d ∙ ap (siot_by (view m j q t) a p k) (same (word_stored q.core (debts a n) b (debts_apart c a n b f h)))
+    ]
+
+siot_on_stored : (m : Machine) (j : ℕ) (q : Whole) (t : Option ℕ) (a : Ask) (n : ℕ) (c : Core) (h : Chan) → Fetched c a
+    → siot_on (view m j (with_stores (debts a n) q) t) a h ≡ siot_on (view m j q t) a h
+unfolding view
+siot_on_stored m j q t a n c TtyIn f =
+    siot_by_stored m j q t a n (input a 1) (input a 2) c _ _ f
+    (λ e. siot_in_stored m j q t a (debts a n) (next_pointer (input a 1)) (input a 2) (console_of (view m j q t)) e)
+siot_on_stored m j q t a n c TtyOut f =
+    siot_by_stored m j q t a n (input a 1) (input a 2) c _ _ f
+    (λ e. siot_out_stored m j q t a (debts a n) (next_pointer (input a 1)) (input a 2) (console_of (view m j q t)) e)
+siot_on_stored m j q t a n c Shut f = refl
+siot_on_stored m j q t a n c (Reads r at) f = refl
+siot_on_stored m j q t a n c (Writes r) f = refl
+siot_on_stored m j q t a n c (On k write at) f = refl
+
+siot_stored : (m : Machine) (j : ℕ) (q : Whole) (t : Option ℕ) (a : Ask) (n : ℕ) (c : Core) → Fetched c a → siot (view m j (with_stores (debts a n) q) t) a ≡ siot (view m j q t) a
+unfolding siot view
+siot_stored m j q t a n c f = siot_on_stored m j q t a n c (channel_at q.channels (input a 0)) f
+
 -- a call that owes nothing
 no_stores : (a : Ask) (n : ℕ) (q : Whole) → n ≤ 0 → with_stores (debts a n) q ≡ q
 unfolding stored
@@ -44,37 +106,39 @@ owes_none : (m : Machine) (j : ℕ) (q : Whole) (t : Option ℕ) (a : Ask) (n : 
     → decided_by (view m j (with_stores (debts a n) q) t) a c ≡ decided_by (view m j q t) a c
 owes_none m j q t a n c h = ap (λ r. decided_by (view m j r t) a c) (no_stores a n q h)
 
-by_name : (m : Machine) (j : ℕ) (q : Whole) (t : Option ℕ) (a : Ask) (n : ℕ) (c : Option CallName) → n ≤ most_owed_by c
+by_name : (m : Machine) (j : ℕ) (q : Whole) (t : Option ℕ) (a : Ask) (n : ℕ) (i : Core) (c : Option CallName) → Fetched i a → n ≤ most_owed_by c
     → decided_by (view m j (with_stores (debts a n) q) t) a c ≡ decided_by (view m j q t) a c
 unfolding view
-by_name m j q t a n (Some Sleep) h = sleep_stored m j q t a (debts a n)
-by_name m j q t a n (Some Siot) h = refl
-by_name m j q t a n (Some Hang) h = owes_none m j q t a n (Some Hang) h
-by_name m j q t a n (Some Dismis) h = owes_none m j q t a n (Some Dismis) h
-by_name m j q t a n (Some Usrvar) h = owes_none m j q t a n (Some Usrvar) h
-by_name m j q t a n (Some Logout) h = owes_none m j q t a n (Some Logout) h
-by_name m j q t a n (Some Open) h = owes_none m j q t a n (Some Open) h
-by_name m j q t a n (Some Close) h = owes_none m j q t a n (Some Close) h
-by_name m j q t a n (Some Iot) h = owes_none m j q t a n (Some Iot) h
-by_name m j q t a n (Some Finish) h = owes_none m j q t a n (Some Finish) h
-by_name m j q t a n (Some Listen) h = owes_none m j q t a n (Some Listen) h
-by_name m j q t a n (Some Ttylnd) h = owes_none m j q t a n (Some Ttylnd) h
-by_name m j q t a n (Some Access) h = owes_none m j q t a n (Some Access) h
-by_name m j q t a n (Some Fillen) h = owes_none m j q t a n (Some Fillen) h
-by_name m j q t a n (Some Delete) h = owes_none m j q t a n (Some Delete) h
-by_name m j q t a n (Some Rename) h = owes_none m j q t a n (Some Rename) h
-by_name m j q t a n (Some Usrmem) h = owes_none m j q t a n (Some Usrmem) h
-by_name m j q t a n (Some Uclose) h = owes_none m j q t a n (Some Uclose) h
-by_name m j q t a n (Some Corblk) h = owes_none m j q t a n (Some Corblk) h
-by_name m j q t a n None h = owes_none m j q t a n None h
+by_name m j q t a n i (Some Sleep) f h = sleep_stored m j q t a (debts a n)
+by_name m j q t a n i (Some Siot) f h = siot_stored m j q t a n i f
+by_name m j q t a n i (Some Hang) f h = owes_none m j q t a n (Some Hang) h
+by_name m j q t a n i (Some Dismis) f h = owes_none m j q t a n (Some Dismis) h
+by_name m j q t a n i (Some Usrvar) f h = owes_none m j q t a n (Some Usrvar) h
+by_name m j q t a n i (Some Logout) f h = owes_none m j q t a n (Some Logout) h
+by_name m j q t a n i (Some Open) f h = owes_none m j q t a n (Some Open) h
+by_name m j q t a n i (Some Close) f h = owes_none m j q t a n (Some Close) h
+by_name m j q t a n i (Some Iot) f h = owes_none m j q t a n (Some Iot) h
+by_name m j q t a n i (Some Finish) f h = owes_none m j q t a n (Some Finish) h
+by_name m j q t a n i (Some Listen) f h = owes_none m j q t a n (Some Listen) h
+by_name m j q t a n i (Some Ttylnd) f h = owes_none m j q t a n (Some Ttylnd) h
+by_name m j q t a n i (Some Access) f h = owes_none m j q t a n (Some Access) h
+by_name m j q t a n i (Some Fillen) f h = owes_none m j q t a n (Some Fillen) h
+by_name m j q t a n i (Some Delete) f h = owes_none m j q t a n (Some Delete) h
+by_name m j q t a n i (Some Rename) f h = owes_none m j q t a n (Some Rename) h
+by_name m j q t a n i (Some Usrmem) f h = owes_none m j q t a n (Some Usrmem) h
+by_name m j q t a n i (Some Uclose) f h = owes_none m j q t a n (Some Uclose) h
+by_name m j q t a n i (Some Corblk) f h = owes_none m j q t a n (Some Corblk) h
+by_name m j q t a n i None f h = owes_none m j q t a n None h
 
-decided_behind : (m : Machine) (j : ℕ) (q : Whole) (t : Option ℕ) (a : Ask) (n : ℕ) → n ≤ most_owed a
+decided_behind : (m : Machine) (j : ℕ) (q : Whole) (t : Option ℕ) (a : Ask) (n : ℕ) (c : Core) → Fetched c a → n ≤ most_owed a
     → decided (view m j (with_stores (debts a n) q) t) a ≡ decided (view m j q t) a
 unfolding decided view most_owed
-decided_behind m j q t a n h = rw (by_name m j q t a n (call_named a.name) h) refl
+decided_behind m j q t a n c f h = rw (by_name m j q t a n c (call_named a.name) f h) refl
 
-pub decision_behind : (m : Machine) (j : ℕ) (q : Whole) (a : Ask) (n : ℕ) → n ≤ most_owed a → decision m j (with_stores (debts a n) q) a ≡ decision m j q a
+-- whatever the core, the job and the site by which the call stands
+pub decision_behind : (m : Machine) (j : ℕ) (q : Whole) (c : Core) (i : Job) (s : Site) (a : Ask) (n : ℕ) → Stands c i s a → n ≤ most_owed a
+    → decision m j (with_stores (debts a n) q) a ≡ decision m j q a
 unfolding decision
-decision_behind m j q a n h =
+decision_behind m j q c i s a n stands h =
     ap (λ t. decided (view m j (with_stores (debts a n) q) t) a) (target_alike (with_stores (debts a n) q) q a refl)
-    ∙ decided_behind m j q (target q a) a n h
+    ∙ decided_behind m j q (target q a) a n c (decoding.fetched c i s a stands) h

@@ -1,32 +1,39 @@
 -- What the decoding of a call that stands has looked at.
-use Rattle.std.specs.Prelude.{if◌then◌else◌, ◌≡◌, ◌≢◌, ◌≤◌, ◌<◌, ◌==◌, ℕ, zero, suc, ◌+◌, ◌%◌, ◌^◌, Bool, true, false, Option, Some, None, IfSome, List, [], ◌∷◌, length, slice_get, Ok, refl}
+use Rattle.std.specs.Prelude.{if◌then◌else◌, ◌≡◌, ◌≢◌, ◌≤◌, ◌<◌, ◌==◌, ◌||◌, ℕ, zero, suc, ◌+◌, ◌%◌, ◌^◌, Bool, true, false, Option, Some, None, IfSome, List, [], ◌∷◌, length, slice_get, slice_index_or, Result, Ok, Err, refl}
 use Rattle.std.specs.List.{All}
-use Rattle.std.proofs.Common.{arith, sym, ap, ◌∙◌, subst, inl, inr}
-use Rattle.std.proofs.lemmas.Bool.{cases_Bool}
+use Rattle.std.proofs.Common.{cond, arith, sym, ap, ◌∙◌, subst, inl, inr}
+use Rattle.std.proofs.lemmas.Bool.{cases_Bool, eq-eqb}
 use Rattle.std.proofs.lemmas.Bool.Decides.{nat_tests}
 use Rattle.its_word.specs.Core.{Core, can_store, store, word_at}
 use Rattle.its_word.specs.Limits.{budget}
 use Rattle.its_word.specs.Stores.{place}
+use Rattle.its_word.specs.declared.access.Fault.{Fault}
 use Rattle.its_word.specs.declared.calls.Ask.{Ask}
 use Rattle.its_word.specs.declared.calls.Operand.{Operand}
 use Rattle.its_word.specs.declared.calls.Site.{Site}
+use Rattle.its_word.specs.declared.instruction.Instruction.{Instruction}
+use Rattle.its_word.specs.declared.instruction.Instruction.TheVariants as instructions
 use Rattle.its_word.specs.declared.jobs.Job.{Job}
 use Rattle.its_word.specs.declared.names.CallRow.{CallRow}
 use Rattle.its_word.specs.declared.names.TheConstants.{IOT}
+use Rattle.its_word.specs.declared.plan.Context.{Context}
+use Rattle.its_word.specs.declared.plan.Reached.{Reached}
 use Rattle.its_frame.specs.declared.name.CallName.{CallName}
 use Rattle.its_frame.specs.declared.name.CallName.TheVariants.{Hang, Sleep, Dismis, Usrvar, Logout, Open, Close, Iot, Siot, Finish, Listen, Ttylnd, Access, Fillen, Delete, Rename, Usrmem, Uclose, Corblk}
 use Rattle.its_plain.specs.Arguments.{place_in, place_of_input}
 use Rattle.its_plain.specs.Decide.{call_named}
 use Rattle.its_plain.specs.Decode.{ask, iot_ask, row_named}
-use Rattle.its_plain.specs.Footprint.{is_shared, variable, with_inputs, Stands}
+use Rattle.its_plain.specs.Footprint.{among, times, in_footprint, is_shared, variable, with_inputs, Stands}
 use Rattle.its_plain.specs.Tests.{number_at, out}
+use Rattle.its_plain.specs.Unit.{Called, done_by, outcome_at, reached, row_of, site_of, unit}
 use Rattle.its_local.proofs.AskFacts.{Storable, HasWord, AskFits, ask_fits, Counts, ask_counts}
 use Rattle.its_local.proofs.AskLaws.{iot_of}
-use Rattle.its_local.proofs.FitsLaws.{site_used}
-use Rattle.its_local.proofs.StandLaws.{inputs_at, inputs_at_none}
-use Rattle.its_local.proofs.TransferLaws.{once_from, first_at, sleep_stands}
+use Rattle.its_local.proofs.FitsLaws.{reached_ends, site_used}
+use Rattle.its_local.proofs.SiteLaws.{never_planned}
+use Rattle.its_local.proofs.StandLaws.{inputs_at, inputs_at_none, inputs_at_cons, inputs_few, is_at, stands_outside, times_cons, times_none}
+use Rattle.its_local.proofs.TransferLaws.{among_inputs, counted_stands, first_at, more_at, once_from, outside_from, sleep_stands}
 use Rattle.its_stepped.specs.Sound.{Stored}
-use Rattle.its_stepped.specs.Calling.{Fetched, Decoding}
+use Rattle.its_stepped.specs.Calling.{Transfer, Fetched, Decoding}
 
 -- an address allows a store
 stored_at : (c : Core) (p w : ℕ) → Storable c p → Stored c (record { at = p; word = w } ∷ [])
@@ -71,12 +78,12 @@ input_placed c (o ∷ os) zero p h e = placed c o p (h 0 o (omega arith)) e
 input_placed c (o ∷ os) (suc k) p h e = input_placed c os k p (λ i d l. h (suc i) d (omega arith)) e
 
 -- SLEEP's name
-other : (b : Bool) (x o : Option CallName) → x ≢ Some Sleep → o ≢ Some Sleep → (if b then x else o) ≢ Some Sleep
-other true x o h n e = h e
-other false x o h n e = n e
+other : (k : Option CallName) (b : Bool) (x o : Option CallName) → x ≢ k → o ≢ k → (if b then x else o) ≢ k
+other k true x o h n e = h e
+other k false x o h n e = n e
 
 none_other : (w : ℕ) → (if w == 0o504156470000 then Some Hang else (if w == 0o445163555163 then Some Dismis else (if w == 0o656362664162 then Some Usrvar else (if w == 0o545747576564 then Some Logout else (if w == 0o576045560000 then Some Open else (if w == 0o435457634500 then Some Close else (if w == 0o515764000000 then Some Iot else (if w == 0o635157640000 then Some Siot else (if w == 0o465156516350 then Some Finish else (if w == 0o545163644556 then Some Listen else (if w == 0o646471545644 then Some Ttylnd else (if w == 0o414343456363 then Some Access else (if w == 0o465154544556 then Some Fillen else (if w == 0o444554456445 then Some Delete else (if w == 0o624556415545 then Some Rename else (if w == 0o656362554555 then Some Usrmem else (if w == 0o654354576345 then Some Uclose else (if w == 0o435762425453 then Some Corblk else None)))))))))))))))))) ≢ Some Sleep
-none_other w = other (w == 0o504156470000) (Some Hang) _ (λ e. cc) (other (w == 0o445163555163) (Some Dismis) _ (λ e. cc) (other (w == 0o656362664162) (Some Usrvar) _ (λ e. cc) (other (w == 0o545747576564) (Some Logout) _ (λ e. cc) (other (w == 0o576045560000) (Some Open) _ (λ e. cc) (other (w == 0o435457634500) (Some Close) _ (λ e. cc) (other (w == 0o515764000000) (Some Iot) _ (λ e. cc) (other (w == 0o635157640000) (Some Siot) _ (λ e. cc) (other (w == 0o465156516350) (Some Finish) _ (λ e. cc) (other (w == 0o545163644556) (Some Listen) _ (λ e. cc) (other (w == 0o646471545644) (Some Ttylnd) _ (λ e. cc) (other (w == 0o414343456363) (Some Access) _ (λ e. cc) (other (w == 0o465154544556) (Some Fillen) _ (λ e. cc) (other (w == 0o444554456445) (Some Delete) _ (λ e. cc) (other (w == 0o624556415545) (Some Rename) _ (λ e. cc) (other (w == 0o656362554555) (Some Usrmem) _ (λ e. cc) (other (w == 0o654354576345) (Some Uclose) _ (λ e. cc) (other (w == 0o435762425453) (Some Corblk) _ (λ e. cc) (λ (e : None ≡ Some Sleep). cc))))))))))))))))))
+none_other w = other (Some Sleep) (w == 0o504156470000) (Some Hang) _ (λ e. cc) (other (Some Sleep) (w == 0o445163555163) (Some Dismis) _ (λ e. cc) (other (Some Sleep) (w == 0o656362664162) (Some Usrvar) _ (λ e. cc) (other (Some Sleep) (w == 0o545747576564) (Some Logout) _ (λ e. cc) (other (Some Sleep) (w == 0o576045560000) (Some Open) _ (λ e. cc) (other (Some Sleep) (w == 0o435457634500) (Some Close) _ (λ e. cc) (other (Some Sleep) (w == 0o515764000000) (Some Iot) _ (λ e. cc) (other (Some Sleep) (w == 0o635157640000) (Some Siot) _ (λ e. cc) (other (Some Sleep) (w == 0o465156516350) (Some Finish) _ (λ e. cc) (other (Some Sleep) (w == 0o545163644556) (Some Listen) _ (λ e. cc) (other (Some Sleep) (w == 0o646471545644) (Some Ttylnd) _ (λ e. cc) (other (Some Sleep) (w == 0o414343456363) (Some Access) _ (λ e. cc) (other (Some Sleep) (w == 0o465154544556) (Some Fillen) _ (λ e. cc) (other (Some Sleep) (w == 0o444554456445) (Some Delete) _ (λ e. cc) (other (Some Sleep) (w == 0o624556415545) (Some Rename) _ (λ e. cc) (other (Some Sleep) (w == 0o656362554555) (Some Usrmem) _ (λ e. cc) (other (Some Sleep) (w == 0o654354576345) (Some Uclose) _ (λ e. cc) (other (Some Sleep) (w == 0o435762425453) (Some Corblk) _ (λ e. cc) (λ (e : None ≡ Some Sleep). cc))))))))))))))))))
 
 sleep_named : (w : ℕ) → call_named w ≡ Some Sleep → w ≡ 0o635445456000
 unfolding call_named
@@ -103,15 +110,120 @@ sleeper c s a p e n z h =
     let counts = ask_counts c s a r.0 block e (ap row_named (sleep_named a.name n) ∙ r.1.0) z in
     one_input a.inputs.items p (subst (λ (k : ℕ). k ≤ length a.inputs.items) r.1.1.0 counts.least_in) (subst (λ (k : ℕ). length a.inputs.items ≤ k) r.1.1.1 counts.most_in) h
 
+-- SIOT's name
+none_moves : (w : ℕ) → (if w == 0o504156470000 then Some Hang else (if w == 0o635445456000 then Some Sleep else (if w == 0o445163555163 then Some Dismis else (if w == 0o656362664162 then Some Usrvar else (if w == 0o545747576564 then Some Logout else (if w == 0o576045560000 then Some Open else (if w == 0o435457634500 then Some Close else (if w == 0o515764000000 then Some Iot else (if w == 0o465156516350 then Some Finish else (if w == 0o545163644556 then Some Listen else (if w == 0o646471545644 then Some Ttylnd else (if w == 0o414343456363 then Some Access else (if w == 0o465154544556 then Some Fillen else (if w == 0o444554456445 then Some Delete else (if w == 0o624556415545 then Some Rename else (if w == 0o656362554555 then Some Usrmem else (if w == 0o654354576345 then Some Uclose else (if w == 0o435762425453 then Some Corblk else None)))))))))))))))))) ≢ Some Siot
+none_moves w = other (Some Siot) (w == 0o504156470000) (Some Hang) _ (λ e. cc) (other (Some Siot) (w == 0o635445456000) (Some Sleep) _ (λ e. cc) (other (Some Siot) (w == 0o445163555163) (Some Dismis) _ (λ e. cc) (other (Some Siot) (w == 0o656362664162) (Some Usrvar) _ (λ e. cc) (other (Some Siot) (w == 0o545747576564) (Some Logout) _ (λ e. cc) (other (Some Siot) (w == 0o576045560000) (Some Open) _ (λ e. cc) (other (Some Siot) (w == 0o435457634500) (Some Close) _ (λ e. cc) (other (Some Siot) (w == 0o515764000000) (Some Iot) _ (λ e. cc) (other (Some Siot) (w == 0o465156516350) (Some Finish) _ (λ e. cc) (other (Some Siot) (w == 0o545163644556) (Some Listen) _ (λ e. cc) (other (Some Siot) (w == 0o646471545644) (Some Ttylnd) _ (λ e. cc) (other (Some Siot) (w == 0o414343456363) (Some Access) _ (λ e. cc) (other (Some Siot) (w == 0o465154544556) (Some Fillen) _ (λ e. cc) (other (Some Siot) (w == 0o444554456445) (Some Delete) _ (λ e. cc) (other (Some Siot) (w == 0o624556415545) (Some Rename) _ (λ e. cc) (other (Some Siot) (w == 0o656362554555) (Some Usrmem) _ (λ e. cc) (other (Some Siot) (w == 0o654354576345) (Some Uclose) _ (λ e. cc) (other (Some Siot) (w == 0o435762425453) (Some Corblk) _ (λ e. cc) (λ (e : None ≡ Some Siot). cc))))))))))))))))))
+
+siot_named : (w : ℕ) → call_named w ≡ Some Siot → w ≡ 0o635157640000
+unfolding call_named
+siot_named w h = elim (cases_Bool (w == 0o635157640000)) [
+  | inl t ↦ grind (arith, nat_tests)
+  | inr t ↦ absurd (none_moves w (rw t at h))
+]
+
+-- its three arguments
+three_inputs : (a : Ask) (os : List Operand) (p q : ℕ) → a.inputs.items ≡ os → 3 ≤ length os → length os ≤ 3 → place_in (slice_get os 1) ≡ Some p → place_in (slice_get os 2) ≡ Some q
+    → Transfer a p q
+three_inputs a [] p q is l m e f = absurd (omega arith)
+three_inputs a (x ∷ []) p q is l m e f = absurd (omega arith)
+three_inputs a (x ∷ y ∷ []) p q is l m e f = absurd (omega arith)
+three_inputs a (x ∷ y ∷ z ∷ []) p q is l m e f = record {
+  channel = x;
+  pointer = y.value;
+  count = z.value;
+  inputs = is ∙ (λ t. x ∷ record { value = y.value; place = e t } ∷ record { value = z.value; place = f t } ∷ []);
+}
+three_inputs a (x ∷ y ∷ z ∷ o ∷ os) p q is l m e f = absurd (omega arith)
+
+siot_row : (r : CallRow) × ((row_named 0o635157640000 ≡ Some r) × ((r.least_in ≡ 3) × (r.most_in ≡ 3)))
+unfolding row_named
+siot_row = (_, (refl, (refl, refl)))
+
+mover : (c : Core) (s : Site) (a : Ask) (p q : ℕ) → ask c s ≡ Ok a → call_named a.name ≡ Some Siot → a.fail ≡ 0 → place_of_input a 1 ≡ Some p → place_of_input a 2 ≡ Some q → Transfer a p q
+mover c s a p q e n z h i =
+    let block = by_block c s a (λ t. let k : Some Iot ≡ Some Siot = sym t ∙ n in cc) e in
+    let r = siot_row in
+    let counts = ask_counts c s a r.0 block e (ap row_named (siot_named a.name n) ∙ r.1.0) z in
+    three_inputs a a.inputs.items p q refl (subst (λ (k : ℕ). k ≤ length a.inputs.items) r.1.1.0 counts.least_in) (subst (λ (k : ℕ). length a.inputs.items ≤ k) r.1.1.1 counts.most_in) h i
+
+-- the output address of `.IOT` is that of its site
+done_placed : (c : Core) (j : Job) (reads : List ℕ) (x : Context) (i : Instruction) (s : Site) → x.e < 2 ^ 18 → done_by c j reads x i ≡ Called s → s.e < 2 ^ 18
+unfolding done_by
+done_placed c j reads x instructions.Iot s h e = let is : site_of x (Some x.a) reads ≡ s = cc in subst (λ (t : Site). t.e < 2 ^ 18) is h
+done_placed c j reads x instructions.Call s h e = let is : site_of x None reads ≡ s = cc in subst (λ (t : Site). t.e < 2 ^ 18) is h
+done_placed c j reads x i s h e = absurd (never_planned c j (row_of c x i) s e)
+
+outcome_placed : (c : Core) (j : Job) (reads : List ℕ) (r : Result Reached Fault) (s : Site) → ((q : Reached) → r ≡ Ok q → q.context.e < 2 ^ 18) → outcome_at c j reads r ≡ Called s → s.e < 2 ^ 18
+outcome_placed c j reads (Ok r) s h e = done_placed c j reads r.context r.instruction s (h r refl) e
+outcome_placed c j reads (Err f) s h e = cc
+
+site_placed : (c : Core) (j : Job) (s : Site) → unit c j ≡ Called s → s.e < 2 ^ 18
+unfolding unit
+site_placed c j s e = outcome_placed c j (reached c j).reads (reached c j).answer s (λ q h. (reached_ends c j q h).e) e
+
+abbrev AtAddress : Ask → Type 0
+AtAddress a = slice_index_or a.outputs.items 0 0 % 2 ^ 18 ≡ slice_index_or a.outputs.items 0 0
+
+iot_address : (s : Site) (n : ℕ) → s.e < 2 ^ 18 → AtAddress (iot_ask s n)
+unfolding iot_ask
+iot_address s n h = omega arith
+
+first_address : (c : Core) (ps : List ℕ) → All (Storable c) ps → slice_index_or ps 0 0 % 2 ^ 18 ≡ slice_index_or ps 0 0
+first_address c [] h = refl
+first_address c (p ∷ ps) h = let b = (h 0 p (omega arith)).below in omega arith
+
+out_address : (c : Core) (j : Job) (s : Site) (a : Ask) → Stands c j s a → AtAddress a
+out_address c j s a h = go s.channel refl
+  where
+    go : (o : Option ℕ) → s.channel ≡ o → AtAddress a
+    go (Some n) e = subst AtAddress (iot_of c s n a e h.ask_is) (iot_address s n (site_placed c j s h.unit_is))
+    go None e = first_address c a.outputs.items ((fitted c j s a h).outputs e)
+
+-- places of inputs are words of the footprint
+at_here : (p : ℕ) (o : Operand) → o.place ≡ Some p → is_at p o.place ≡ true
+at_here p o e = ap (is_at p) e ∙ eq-eqb p p refl
+
+at_input : (os : List Operand) (k p : ℕ) → place_in (slice_get os k) ≡ Some p → 1 ≤ inputs_at p os
+at_input [] k p e = cc
+at_input (o ∷ os) zero p e = let i = inputs_at_cons p o os in let r = rw (at_here p o e) at i in omega arith
+at_input (o ∷ os) (suc k) p e = let r = at_input os k p e in let m = more_at p o os in omega arith
+
+among_times : (p : ℕ) (ps : List ℕ) → 1 ≤ times p ps → among p ps ≡ true
+among_times p [] h = absurd (let z = times_none p in omega arith)
+among_times p (q ∷ qs) h = go (q == p) (times_cons p q qs) (λ l. among_times p qs l)
+  where
+    go : (b : Bool) → times p (q ∷ qs) ≡ cond b 1 0 + times p qs → (1 ≤ times p qs → among p qs ≡ true) → (b || among p qs) ≡ true
+    go true e rest = refl
+    go false e rest = rest (omega (arith, e, h))
+
+or_true : (b c : Bool) → c ≡ true → (b || c) ≡ true
+or_true true c h = refl
+or_true false c h = h
+
+known : (c : Core) (s : Site) (a : Ask) (k p : ℕ) → ask c s ≡ Ok a → place_of_input a k ≡ Some p → in_footprint p a ≡ true
+unfolding in_footprint
+known c s a k p e h =
+    let one = at_input a.inputs.items k p h in
+    let few = inputs_few c s a p e in
+    or_true (among p a.decode.items) (among p a.operand.items) (among_times p a.operand.items (omega arith))
+
 pub decoding : Decoding
 decoding = record {
   fetched = λ c j s a h. let f = fitted c j s a h in record {
     error = λ w. error_stored c a.error w f.error;
     output = λ n w. out_stored c a.outputs.items w (f.outputs (by_block c s a n h.ask_is));
+    address = out_address c j s a h;
     input = λ k p e. let b = input_placed c a.inputs.items k p f.inputs e in omega arith;
+    known = λ k p e. known c s a k p h.ask_is e;
     sleeper = λ p n z e. sleeper c s a p h.ask_is n z e;
+    mover = λ p q n z e i. mover c s a p q h.ask_is n z e i;
   };
   slept = λ c j s a p v w h one alone can.
       sleep_stands c j s a v p w h one
       (once_from c s a p h.ask_is (let l = ap (inputs_at p) one ∙ first_at p v [] in omega arith) alone) can;
+  spared = λ c j s a p w h out. stands_outside c j s a p w h (outside_from p a out);
+  moved = λ c j s a x v p k q w n h is first second can write.
+      counted_stands c j s a x v p k q w n h is
+      (once_from c s a p h.ask_is (let i = ap (inputs_at p) is in let l = among_inputs p v (x ∷ []) (variable k q ∷ []) in omega arith) first)
+      (once_from c s a q h.ask_is (let i = ap (inputs_at q) is in let l = among_inputs q k (x ∷ variable v p ∷ []) [] in omega arith) second) can write;
 }

@@ -13,9 +13,9 @@ use Rattle.its_word.specs.declared.show.JobShow.{JobShow}
 use Rattle.its_word.proofs.FreeLaws.{least_empty}
 use Rattle.its_frame.specs.declared.frame.Frame.{Frame}
 use Rattle.its_plain.specs.Machine.{Whole, Machine, with_job, mapped}
-use Rattle.its_plain.specs.Operator.{Block, Operated, Refuses, Does, Ticks, Ends, only, new_job, loaded_in, loaded, stored, with_core, word_loaded_of, word_loaded, and_then, words_loaded, on_job, with_registers, on_registers, started, interrupted, stopped, continued, examined, state_shown, deposited_in, deposited, disturbs, quietly, by_load, by_exam, by_state}
+use Rattle.its_plain.specs.Operator.{Block, Operated, Refuses, Does, Ticks, Ends, nobody, only, new_job, with_holder, loaded_in, loaded, stored, with_core, word_loaded_of, word_loaded, and_then, words_loaded, on_job, with_registers, on_registers, started, interrupted, stopped, continued, examined, state_shown, deposited_in, deposited, disturbs, quietly, by_load, by_exam, by_state}
 use Rattle.its_plain.specs.Operator as operator
-use Rattle.its_plain.specs.CallOperator.{clock_end, clocked_if, clocked, operate, Lined, Done, Peeks, peeked_at, lined}
+use Rattle.its_plain.specs.CallOperator.{clock_end, clocked_if, clocked, typed, drained, operate, Lined, Done, Peeks, peeked_at, lined}
 use Rattle.its_stepped.specs.State.{State}
 use Rattle.its_stepped.specs.Unwind.{unwound}
 use Rattle.its_stepped.specs.Sound.{SoundBy, Sound}
@@ -130,9 +130,14 @@ show_kept w s b (Ok show) sound = one_kept w s (unwound w s).raw sound (same_off
 show_kept w s b (Err r) sound = tt
 
 -- a line that names none
+held_off : (m : Machine) (s : ℕ) (q : Whole) (console : Option ℕ) → Off m (with_holder (with_job m s q) s console) s
+held_off m s q (Some c) = record { others = (put_off m s q).others }
+held_off m s q None = put_off m s q
+
 load_kept : (w : State) (u j : ℕ) (console o : Option ℕ) → Sound w → least_free w.raw.jobs ≡ o → KeptBy w w (Done (by_load (loaded_in w.raw u j console o)))
 load_kept w u j console (Some s) sound is = record {
-  sound = off_sound w (with_job w.raw s (new_job u j console)) s sound (free_frame w s sound (least_empty w.raw.jobs s is)) (put_off w.raw s (new_job u j console));
+  sound = off_sound w (with_holder (with_job w.raw s (new_job u j console)) s console) s sound (free_frame w s sound (least_empty w.raw.jobs s is))
+      (held_off w.raw s (new_job u j console) console);
   spares = λ k h. refl;
 }
 load_kept w u j console None sound is = tt
@@ -140,6 +145,12 @@ load_kept w u j console None sound is = tt
 clock_kept : (w : State) (b : Block) (n : ℕ) (fits : Bool) → Sound w → KeptBy w w (Done (quietly b (clocked_if w.raw n fits)))
 clock_kept w b n true sound = record { sound = record { each = sound.each; mark = sound.mark }; spares = λ k h. refl }
 clock_kept w b n false sound = tt
+
+typed_kept : (w : State) (c : ℕ) (bytes : List ℕ) → Sound w → Kept w w (typed c bytes w.raw) nobody
+typed_kept w c bytes sound = record { sound = record { each = sound.each; mark = sound.mark }; spares = λ k h. refl }
+
+drained_kept : (w : State) (c n : ℕ) → Sound w → Kept w w (drained c n w.raw) nobody
+drained_kept w c n sound = record { sound = record { each = sound.each; mark = sound.mark }; spares = λ k h. refl }
 
 peek_kept : (w : State) (s : ℕ) (o : Option Whole) → KeptBy w w (peeked_at s o)
 peek_kept w s (Some q) = tt
@@ -166,7 +177,7 @@ line_kept w b events.End sound = tt
 line_kept w b (events.File d x y) sound = tt
 line_kept w b (events.Append words) sound = tt
 line_kept w b events.EndFile sound = tt
-line_kept w b (events.TypeIn c bytes) sound = tt
-line_kept w b (events.Drain c n) sound = tt
+line_kept w b (events.TypeIn c bytes) sound = typed_kept w c bytes.items sound
+line_kept w b (events.Drain c n) sound = drained_kept w c n sound
 line_kept w b (events.Dir d) sound = tt
 line_kept w b (events.Show d x y) sound = tt

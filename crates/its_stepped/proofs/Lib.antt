@@ -28,6 +28,8 @@ pub mod TestLaws
 pub mod CallDuties
 pub mod UsrvarDuty
 pub mod LogoutDuty
+pub mod TtyDuty
+pub mod SiotDuty
 pub mod GivenLaws
 pub mod DistinctLaws
 pub mod FitLaws
@@ -35,3 +37,4 @@ pub mod WrittenLaws
 pub mod DecodingLaws
 pub mod CallLaws
 pub mod AddressLaws
+pub mod ConsoledLaws

@@ -1,5 +1,5 @@
 -- Worked examples of the lines of a session, evaluated.
-use Rattle.std.specs.Prelude.{◌≡◌, ℕ, Option, Some, None, List, [], ◌∷◌, refl}
+use Rattle.std.specs.Prelude.{◌≡◌, ℕ, Option, Some, None, List, [], ◌∷◌, ◌++◌, refl}
 use Rattle.its_word.specs.Core.{word_at}
 use Rattle.its_word.specs.Item.{Read}
 use Rattle.its_word.specs.Tree.{free_from, least_free, fresh_job}
@@ -12,9 +12,9 @@ use Rattle.its_word.specs.declared.session.Reason.TheVariants as reasons
 use Rattle.its_word.specs.declared.show.PeekState.TheVariants as states
 use Rattle.its_frame.specs.declared.frame.Frame.{Frame}
 use Rattle.its_print.specs.Printing as printed
-use Rattle.its_plain.specs.Operator.{loaded, on_registers}
+use Rattle.its_plain.specs.Operator.{no_block, Does, loaded, on_registers}
 use Rattle.its_plain.specs.Operator as operator
-use Rattle.its_plain.specs.CallOperator.{clocked, operate, lined}
+use Rattle.its_plain.specs.CallOperator.{clocked, operate, Lined, Done, lined}
 use Rattle.its_plain.specs.Machine.{no_machine, with_jobs, whole}
 use Rattle.its_plain.specs.Decide.{call_named}
 use Rattle.its_plain.specs.Transcript.{Ended, Lost}
@@ -42,6 +42,39 @@ empty = refl
 late : stepped (Read (events.Clock 0o177777777777) ∷ Read (events.Clock 1) ∷ []) ≡ record { lines = printed.Refused 2 reasons.Range ∷ []; fate = Lost }
 unfolding lined operate operator.operate calmed clocked no_state no_machine
 late = refl
+
+-- a console of a job: bytes that wait as input, as many as have room, and no output
+abbrev long : List ℕ
+long = 1 ∷ 2 ∷ 3 ∷ 4 ∷ 5 ∷ 6 ∷ 7 ∷ 8 ∷ 9 ∷ 10 ∷ 11 ∷ 12 ∷ 13 ∷ 14 ∷ 15 ∷ 16 ∷ 17 ∷ 18 ∷ 19 ∷ 20 ∷ 21 ∷ 22 ∷ 23 ∷ 24 ∷ 25 ∷ 26 ∷ 27 ∷ 28 ∷ 29 ∷ 30 ∷ 31 ∷ 32 ∷ 33 ∷ []
+
+talk : stepped (Read (events.Load 1 2 (Some 3)) ∷ Read (events.TypeIn 3 (record { items = long })) ∷ Read (events.TypeIn 3 (record { items = long })) ∷ Read (events.Drain 3 5) ∷ Read events.End ∷ []) ≡ record {
+  lines = printed.Loaded 0 ∷ printed.Typed 3 0 ∷ printed.Typed 3 2 ∷ printed.Drained 3 [] ∷ [];
+  fate = Ended;
+}
+unfolding lined operate operator.operate loaded least_free free_from calmed no_state no_machine fresh_job
+talk = refl
+
+-- the first job that LOAD makes with a console holds it, and one that it makes later does not
+abbrev holder_after : Lined → ℕ → Option ℕ
+holder_after (Done (Does m out touched b)) c = m.holders c
+holder_after l c = None
+
+first_load : holder_after (lined no_machine no_block (events.Load 1 2 (Some 3))) 3 ≡ Some 0
+unfolding lined operate operator.operate loaded least_free free_from no_machine
+first_load = refl
+
+later_load : holder_after (lined (record no_machine { holders = λ c. Some 7 }) no_block (events.Load 1 2 (Some 3))) 3 ≡ Some 7
+unfolding lined operate operator.operate loaded least_free free_from no_machine
+later_load = refl
+
+-- what is drained is shown, and only the rest waits
+abbrev drained_of : Lined → List ℕ
+drained_of (Done (Does m (printed.Drained c bytes ∷ out) touched b)) = bytes ++ 0 ∷ (m.consoles c).output
+drained_of l = []
+
+drain : drained_of (lined (record no_machine { consoles = λ c. record { input = []; output = 72 ∷ 73 ∷ 74 ∷ [] } }) no_block (events.Drain 3 2)) ≡ 72 ∷ 73 ∷ 0 ∷ 74 ∷ []
+unfolding lined operate operator.operate no_machine
+drain = refl
 
 -- a state whose slot 0 has three accumulators and a frame
 site : Option ℕ → Site

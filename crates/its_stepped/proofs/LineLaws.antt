@@ -13,7 +13,7 @@ use Rattle.its_word.specs.declared.show.JobShow.{JobShow}
 use Rattle.its_word.proofs.FreeLaws.{least_alike, least_empty}
 use Rattle.its_frame.specs.declared.frame.Frame.{Frame}
 use Rattle.its_plain.specs.Machine.{Whole, Machine, changed, with_job, mapped, words_at}
-use Rattle.its_plain.specs.Operator.{Block, Operated, Refuses, Does, Ticks, Ends, only, new_job, loaded_in, loaded, stored, with_core, word_loaded_of, word_loaded, and_then, words_loaded, on_job, with_registers, on_registers, started, interrupted, stopped, continued, seen, examined, shown, state_shown, deposited_in, deposited, disturbs, quietly, by_load, by_exam, by_state}
+use Rattle.its_plain.specs.Operator.{Block, Operated, Refuses, Does, Ticks, Ends, only, new_job, with_holder, loaded_in, loaded, stored, with_core, word_loaded_of, word_loaded, and_then, words_loaded, on_job, with_registers, on_registers, started, interrupted, stopped, continued, seen, examined, shown, state_shown, deposited_in, deposited, disturbs, quietly, by_load, by_exam, by_state}
 use Rattle.its_plain.specs.Operator as operator
 use Rattle.its_plain.specs.CallOperator.{clock_end, clocked_if, clocked, operate, Done, peeked_at, lined}
 use Rattle.its_plain.proofs.MachineLaws.{jobs_are}
@@ -128,10 +128,16 @@ pub least_plain : (v : State) → least_free (plain v).jobs ≡ least_free v.raw
 unfolding plain
 least_plain v = least_alike (plain v).jobs v.raw.jobs (λ k. some_alike (v.frames k) (v.raw.jobs k))
 
+held_plain : (v : State) (s : ℕ) (q : Whole) (console : Option ℕ) → v.frames s ≡ None
+    → plain (with_raw v (with_holder (with_job v.raw s q) s console)) ≡ with_holder (with_job (plain v) s q) s console
+unfolding plain
+held_plain v s q (Some c) e = jobs_are _ _ (λ k. job_put v s q k e) refl
+held_plain v s q None e = put_plain v s q e
+
 load_lifted : (v : State) (b : Block) (u j : ℕ) (console o : Option ℕ) → Sound v → least_free v.raw.jobs ≡ o
     → by_load (loaded_in (plain v) u j console o) ≡ lifted v (by_load (loaded_in v.raw u j console o))
 load_lifted v b u j console (Some s) sound is =
-    ap (λ m. by_load (Ok (m, s))) (sym (put_plain v s (new_job u j console) (free_frame v s sound (least_empty v.raw.jobs s is))))
+    ap (λ m. by_load (Ok (m, s))) (sym (held_plain v s (new_job u j console) console (free_frame v s sound (least_empty v.raw.jobs s is))))
 load_lifted v b u j console None sound is = refl
 
 -- what a result comes to

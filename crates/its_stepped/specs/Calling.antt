@@ -1,16 +1,18 @@
 -- What a call may rely on as it decides, beside its tests: what its decoding looked at, what it owes and has
 -- reserved, and that the jobs that it reaches are in user mode (docs/STEPS.md, "Commit").
-use Rattle.std.specs.Prelude.{◌≡◌, ◌≢◌, ◌≤◌, ℕ, ◌%◌, ◌^◌, Bool, true, false, Some, None, IfSome, [], ◌∷◌, Option}
+use Rattle.std.specs.Prelude.{◌≡◌, ◌≢◌, ◌≤◌, ℕ, ◌%◌, ◌^◌, Bool, true, false, Some, None, IfSome, [], ◌∷◌, Option, slice_index_or}
 use Rattle.its_word.specs.Core.{Core, can_store, store}
 use Rattle.its_word.specs.Limits.{slots}
 use Rattle.its_word.specs.declared.calls.Ask.{Ask}
+use Rattle.its_word.specs.declared.calls.Operand.{Operand}
 use Rattle.its_word.specs.declared.calls.Site.{Site}
 use Rattle.its_word.specs.declared.jobs.Job.{Job}
-use Rattle.its_frame.specs.declared.name.CallName.TheVariants.{Sleep, Iot}
-use Rattle.its_plain.specs.Arguments.{place_of_input, is_shared}
+use Rattle.its_frame.specs.declared.name.CallName.TheVariants.{Sleep, Iot, Siot}
+use Rattle.its_plain.specs.Arguments.{place_of_input, in_footprint, is_shared}
 use Rattle.its_plain.specs.CallStep.{among}
 use Rattle.its_plain.specs.Change.{superiors}
 use Rattle.its_plain.specs.Decide.{call_named, reach}
+use Rattle.its_plain.specs.Footprint.{variable, with_inputs}
 use Rattle.its_plain.specs.Machine.{Whole, Machine, On}
 use Rattle.its_plain.specs.Tests.{number_at, out}
 use Rattle.its_stepped.specs.State.{State}
@@ -18,19 +20,34 @@ use Rattle.its_stepped.specs.Tick.{helps}
 use Rattle.its_stepped.specs.Sound.{Stands, Stored, Debts, Paged}
 use Rattle.its_stepped.specs.Quiet.{IsStill}
 
+-- the arguments of SIOT, whose pointer and count are at these places
+pub record Transfer (a : Ask) (p q : ℕ) : Type 0 where
+  pub channel : Operand
+  pub pointer : ℕ
+  pub count : ℕ
+  pub inputs : a.inputs.items ≡ channel ∷ variable pointer p ∷ variable count q ∷ []
+
 -- what the decoding has looked at: the error address and, but for `.IOT`, the output address allow a store; places are
--- addresses; and SLEEP has one argument
+-- addresses, and those of inputs are words of the footprint; SLEEP has one argument, and SIOT three
 pub record Fetched (c : Core) (a : Ask) : Type 0 where
   pub error : (w : ℕ) → Stored c (number_at a.error w)
   pub output : call_named a.name ≢ Some Iot → (w : ℕ) → Stored c (out a.outputs.items w)
+  pub address : slice_index_or a.outputs.items 0 0 % 2 ^ 18 ≡ slice_index_or a.outputs.items 0 0
   pub input : (k p : ℕ) → place_of_input a k ≡ Some p → p % 2 ^ 18 ≡ p
+  pub known : (k p : ℕ) → place_of_input a k ≡ Some p → in_footprint p a ≡ true
   pub sleeper : (p : ℕ) → call_named a.name ≡ Some Sleep → a.fail ≡ 0 → place_of_input a 0 ≡ Some p → (v : ℕ) × (a.inputs.items ≡ record { value = v; place = Some p } ∷ [])
+  pub mover : (p q : ℕ) → call_named a.name ≡ Some Siot → a.fail ≡ 0 → place_of_input a 1 ≡ Some p → place_of_input a 2 ≡ Some q → Transfer a p q
 
--- that the decoding looks at these, and that a call of SLEEP stands behind its new time
+-- that the decoding looks at these, that a call stands behind a store outside its footprint, that a call of SLEEP stands
+-- behind its new time, and one of SIOT behind its new pointer and count
 pub record Decoding : Type 0 where
   pub fetched : (c : Core) (j : Job) (s : Site) (a : Ask) → Stands c j s a → Fetched c a
   pub slept : (c : Core) (j : Job) (s : Site) (a : Ask) (p v w : ℕ) → Stands c j s a → a.inputs.items ≡ record { value = v; place = Some p } ∷ [] → is_shared p a ≡ false
       → can_store c p ≡ true → Stands (store c p w) j s (record a { inputs = record { items = record { value = w; place = Some p } ∷ [] } })
+  pub spared : (c : Core) (j : Job) (s : Site) (a : Ask) (p w : ℕ) → Stands c j s a → in_footprint p a ≡ false → Stands (store c p w) j s a
+  pub moved : (c : Core) (j : Job) (s : Site) (a : Ask) (x : Operand) (v p k q w n : ℕ) → Stands c j s a → a.inputs.items ≡ x ∷ variable v p ∷ variable k q ∷ []
+      → is_shared p a ≡ false → is_shared q a ≡ false → can_store c p ≡ true → can_store c q ≡ true
+      → Stands (store (store c p w) q n) j s (with_inputs a (x ∷ variable w p ∷ variable n q ∷ []))
 
 -- a job is not its own superior, and has no channel on itself
 pub record ApartJob (j : ℕ) (q : Whole) : Type 0 where

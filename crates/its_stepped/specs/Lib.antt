@@ -13,3 +13,4 @@ pub mod Lines
 pub mod Upkeep
 pub mod Calling
 pub mod Address
+pub mod Consoled

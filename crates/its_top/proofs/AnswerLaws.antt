@@ -1,6 +1,6 @@
 -- From what the monitor answered and what was written to what the event did.
-use Rattle.std.specs.Prelude.{◌≡◌, ℕ, Bool, true, Option, Some, None, is_some, Result, Ok, Err, OnOk, IfErr, List, [], ◌∷◌, refl}
-use Rattle.std.proofs.Common.{sym, ◌∙◌, ap, subst}
+use Rattle.std.specs.Prelude.{◌≡◌, ◌<◌, ◌≤◌, ℕ, Bool, true, Option, Some, None, IfSome, is_some, Result, Ok, Err, OnOk, IfErr, List, [], ◌∷◌, take, refl}
+use Rattle.std.proofs.Common.{sym, ◌∙◌, ap, subst, arith}
 use Rattle.std.proofs.KnownBytes.{Appends-nil}
 use Rattle.its_word.specs.declared.session.Event.{Event}
 use Rattle.its_word.specs.declared.session.Event.TheVariants as events
@@ -15,7 +15,7 @@ use Rattle.its_print.specs.Printing as printed
 use Rattle.its_plain.specs.Machine.{Whole, Machine}
 use Rattle.its_plain.specs.Operator.{Block, Does, Refuses, nobody, only, disturbs, quietly, by_load, by_exam, by_state, loaded, words_loaded, on_registers, started, interrupted, stopped, continued, examined, state_shown, deposited}
 use Rattle.its_plain.specs.Operator as operator
-use Rattle.its_plain.specs.CallOperator.{Done, Peeks, peeked_at, clocked, operate, lined}
+use Rattle.its_plain.specs.CallOperator.{Done, Peeks, peeked_at, clocked, typed, dropped, drained, operate, lined}
 use Rattle.its_stepped.specs.State.{State}
 use Rattle.its_stepped.specs.Unwind.{unwound}
 use Rattle.its_stepped.specs.Lines.{calmed, with_raw, peeked, paces_of, ticked}
@@ -127,6 +127,36 @@ ticks_answered turn n v v' b s k ps old new e f t = record {
       on_by turn n v v' b b (events.Tick s k) (text_of_line (printed.Ticks s ps)) t.wrote
       (subst (λ x. Answers turns.On n v b (events.Tick s k) x b (text_of_line (printed.Ticks s ps))) (sym f) (subst (Answers turns.On n v b (events.Tick s k) (ticked v s k) b) line a)) t.complete;
 }
+
+-- lines of a console
+pub console_fits : (o : Option ℕ) → IfSome o (λ k. k ≤ 7) → IfSome o (λ k. k < 8)
+console_fits None h = tt
+console_fits (Some k) h = omega (arith, h)
+
+landed : (v v' : State) (m : Machine) → Lands v v' (Ok m) → m ≡ v'.raw
+landed v v' m h = let k : Ok m ≡ Ok v'.raw = h.is in cc
+
+pub typed_answered : (turn : Turn) (n : ℕ) (v v' : State) (b : Block) (c k : ℕ) (bytes : List ℕ) (old new : Option (List ℕ)) → k ≡ dropped (v.raw.consoles c) bytes → Lands v v' (Ok (typed c bytes v.raw))
+    → Tells turn turns.On (text_of_line (printed.Typed c k)) old new → Answered turn n v b (events.TypeIn c (record { items = bytes })) v' b old new
+unfolding lined operate calmed
+typed_answered turn n v v' b c k bytes old new e h t =
+    does_line turn n v v v' v'.raw b b (events.TypeIn c (record { items = bytes })) (printed.Typed c k) nobody old new
+    (record {
+      calm = refl;
+      is = ap (λ m. Done (Does m (printed.Typed c (dropped (v.raw.consoles c) bytes) ∷ []) nobody b)) (landed v v' (typed c bytes v.raw) h)
+          ∙ ap (λ x. Done (Does v'.raw (printed.Typed c x ∷ []) nobody b)) (sym e);
+    }) h.rest t
+
+pub drained_answered : (turn : Turn) (n : ℕ) (v v' : State) (b : Block) (c k : ℕ) (bytes : List ℕ) (old new : Option (List ℕ)) → bytes ≡ take k (v.raw.consoles c).output → Lands v v' (Ok (drained c k v.raw))
+    → Tells turn turns.On (text_of_line (printed.Drained c bytes)) old new → Answered turn n v b (events.Drain c k) v' b old new
+unfolding lined operate calmed
+drained_answered turn n v v' b c k bytes old new e h t =
+    does_line turn n v v v' v'.raw b b (events.Drain c k) (printed.Drained c bytes) nobody old new
+    (record {
+      calm = refl;
+      is = ap (λ m. Done (Does m (printed.Drained c (take k (v.raw.consoles c).output) ∷ []) nobody b)) (landed v v' (drained c k v.raw) h)
+          ∙ ap (λ x. Done (Does v'.raw (printed.Drained c x ∷ []) nobody b)) (sym e);
+    }) h.rest t
 
 there_peeks : (s : ℕ) (o : Option Whole) → is_some o ≡ true → peeked_at s o ≡ Peeks s
 there_peeks s (Some q) h = refl

@@ -11,4 +11,5 @@ pub mod FinishLaws
 pub mod LinedLaws
 pub mod PaceLaws
 pub mod LoadingLaws
+pub mod ConsoleLaws
 pub mod WritingLaws

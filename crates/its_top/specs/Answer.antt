@@ -1,9 +1,10 @@
 -- What the answer to an event gave the sink.
-use Rattle.std.specs.Prelude.{◌≡◌, ◌<◌, ◌+◌, ◌-◌, ℕ, true, is_some, Option, Result, Ok, Err, List, ◌++◌}
+use Rattle.std.specs.Prelude.{◌≡◌, ◌<◌, ◌+◌, ◌-◌, ℕ, true, is_some, Option, Result, Ok, Err, List, [], ◌++◌, take}
 use Rattle.std.specs.Io.KnownBytes.{Appends}
 use Rattle.its_word.specs.declared.session.Event.{Event}
 use Rattle.its_word.specs.declared.calls.Pace.{Pace}
 use Rattle.its_plain.specs.Machine.{Machine}
+use Rattle.its_plain.specs.CallOperator.{typed, dropped, drained}
 use Rattle.its_stepped.specs.State.{State}
 use Rattle.its_stepped.specs.Unwind.{unwound}
 use Rattle.its_stepped.specs.Lines.{with_raw, paces_of, ticked}
@@ -78,3 +79,16 @@ pub record LoadSo (v now : State) (s a k : ℕ) (words rest : List ℕ) : Type 0
 pub record PacesSo (v now : State) (s n k : ℕ) (ps : List Pace) : Type 0 where
   pub letters : ps ++ paces_of now s (n - k) ≡ paces_of v s n
   pub state : ticked now s (n - k) ≡ ticked v s n
+
+-- k bytes of a TYPE line were typed at console c, of which n were dropped
+pub record TypedSo (v now : State) (c k n : ℕ) (bytes rest : List ℕ) : Type 0 where
+  pub raw : now ≡ with_raw v now.raw
+  pub whole : typed c rest now.raw ≡ typed c bytes v.raw
+  pub count : n + dropped (now.raw.consoles c) rest ≡ dropped (v.raw.consoles c) bytes
+  pub reached : 0 < k → typed c [] now.raw ≡ now.raw
+
+-- the output of console c was drained k times, of n
+pub record DrainedSo (v now : State) (c n k : ℕ) (bytes : List ℕ) : Type 0 where
+  pub raw : now ≡ with_raw v now.raw
+  pub whole : drained c (n - k) now.raw ≡ drained c n v.raw
+  pub taken : bytes ++ take (n - k) (now.raw.consoles c).output ≡ take n (v.raw.consoles c).output

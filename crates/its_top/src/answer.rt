@@ -1,8 +1,9 @@
-ghost use Rattle.std.specs.Prelude.{◌≡◌, ◌≢◌, ◌≤◌, ◌<◌, ◌+◌, ◌-◌, ◌^◌, Ok, Err, IfOk, IfErr, OnOk, OnErr, length};
+ghost use Rattle.std.specs.Prelude.{◌≡◌, ◌≢◌, ◌≤◌, ◌<◌, ◌+◌, ◌-◌, ◌^◌, Ok, Err, IfSome, IfOk, IfErr, OnOk, OnErr, length, take};
 ghost use Rattle.its_io.specs.Bytes.{next_fault};
 ghost use Rattle.its_word.specs.Limits.{slots};
 ghost use Rattle.its_session.specs.Fits.{EventFits};
 ghost use Rattle.its_plain.specs.Operator.{words_loaded, examined};
+ghost use Rattle.its_plain.specs.CallOperator.{typed, dropped, drained};
 ghost use Rattle.its_stepped.specs.Unwind.{unwound};
 ghost use Rattle.its_stepped.specs.Lines.{paces_of, ticked};
 ghost use Rattle.its_world.specs.World.{state_of};
@@ -16,7 +17,9 @@ use super::writing::{refuse, refuse_by, settle, tell};
 use arrayvec::ArrayVec;
 use its_io::Sink;
 use its_monitor::Monitor;
-use its_print::{print_loaded, print_peek, print_state, print_ticks, print_words};
+use its_print::{
+    print_drained, print_loaded, print_peek, print_state, print_ticks, print_typed, print_words,
+};
 use its_word::{Event, Pace, Reason, Refusal, Word};
 
 /// LOAD: makes a job, and shows its slot, which is then the block's.
@@ -30,6 +33,7 @@ fn load<K: Sink>(
     out: &mut K,
 ) -> Turn
     requires sound { Kept m.old.world }
+    requires console { IfSome console (λ c. c < 8) }
     ensures answered { Answered result p.old.number (state_of m.old.world) (block_of p.old.slot) (Event.Load u j console) (state_of m.new.world) (block_of p.new.slot) (K.written out.old) (K.written out.new) }
     ensures sound { Kept m.new.world }
     ensures slot { p.old.slot < slots → p.new.slot < slots }
@@ -176,6 +180,84 @@ fn paces_of(m: &mut Monitor, s: u8, n: u32) -> ArrayVec<Pace, 512>
     paces
 }
 
+/// TYPE: bytes of input of a console, and how many were dropped.
+#[tactic(auto, using(crate::proofs::AnswerLaws::typed_answered, crate::proofs::WritingLaws::told_as))]
+fn type_line<K: Sink>(m: &mut Monitor, p: Progress, c: u8, bytes: &[u8], out: &mut K) -> Turn
+    requires sound { Kept m.old.world }
+    requires console { c < 8 }
+    requires some { 1 ≤ length bytes.now }
+    requires few { length bytes.now ≤ 32 }
+    ensures answered { Answered result p.number (state_of m.old.world) (block_of p.slot) (Event.TypeIn c (record { items = bytes.now })) (state_of m.new.world) (block_of p.slot) (K.written out.old) (K.written out.new) }
+    ensures sound { Kept m.new.world }
+    ensures later { K.faults out.old ≤ K.faults out.new }
+    ensures unfailed { result ≢ Turn.Fault → K.faults out.new ≡ K.faults out.old }
+    ensures fault { result ≡ Turn.Fault → K.faults out.new ≡ next_fault (K.faults out.old) }
+{
+    let dropped = type_bytes(m, c, bytes);
+    let mut line = ArrayVec::new();
+    print_typed(c, dropped, &mut line);
+    tell(out, &line, Turn::On)
+}
+
+/// Types bytes at a console, and counts those that find no room.
+#[tactic(auto, using(crate::proofs::ConsoleLaws::typing_start, crate::proofs::ConsoleLaws::typing_room, crate::proofs::ConsoleLaws::typing_full, crate::proofs::ConsoleLaws::typing_end))]
+fn type_bytes(m: &mut Monitor, c: u8, bytes: &[u8]) -> u32
+    requires sound { Kept m.old.world }
+    requires console { c < 8 }
+    requires some { 1 ≤ length bytes.now }
+    requires few { length bytes.now ≤ 32 }
+    ensures dropped { result ≡ dropped ((state_of m.old.world).raw.consoles c) bytes.now }
+    ensures done { Lands (state_of m.old.world) (state_of m.new.world) (Ok (typed c bytes.now (state_of m.old.world).raw)) }
+    ensures sound { Kept m.new.world }
+{
+    let mut count = 0;
+    for b in bytes {
+        if !m.type_in(c, *b) {
+            count += 1;
+        }
+    }
+    count
+}
+
+/// DRAIN: up to n bytes of output of a console.
+#[tactic(auto, using(crate::proofs::AnswerLaws::drained_answered))]
+fn drain_line<K: Sink>(m: &mut Monitor, p: Progress, c: u8, n: u32, out: &mut K) -> Turn
+    requires sound { Kept m.old.world }
+    requires console { c < 8 }
+    requires few { n ≤ 64 }
+    ensures answered { Answered result p.number (state_of m.old.world) (block_of p.slot) (Event.Drain c n) (state_of m.new.world) (block_of p.slot) (K.written out.old) (K.written out.new) }
+    ensures sound { Kept m.new.world }
+    ensures later { K.faults out.old ≤ K.faults out.new }
+    ensures unfailed { result ≢ Turn.Fault → K.faults out.new ≡ K.faults out.old }
+    ensures fault { result ≡ Turn.Fault → K.faults out.new ≡ next_fault (K.faults out.old) }
+{
+    let bytes = drain_bytes(m, c, n);
+    let mut line = ArrayVec::new();
+    print_drained(c, &bytes, &mut line);
+    tell(out, &line, Turn::On)
+}
+
+/// Takes up to n bytes of output of a console.
+#[tactic(auto, using(crate::proofs::ConsoleLaws::draining_start, crate::proofs::ConsoleLaws::draining_some, crate::proofs::ConsoleLaws::draining_none, crate::proofs::ConsoleLaws::draining_end))]
+fn drain_bytes(m: &mut Monitor, c: u8, n: u32) -> ArrayVec<u8, 64>
+    requires sound { Kept m.old.world }
+    requires console { c < 8 }
+    requires few { n ≤ 64 }
+    ensures bytes { result.items ≡ take n ((state_of m.old.world).raw.consoles c).output }
+    ensures few { length result.items ≤ 64 }
+    ensures done { Lands (state_of m.old.world) (state_of m.new.world) (Ok (drained c n (state_of m.old.world).raw)) }
+    ensures sound { Kept m.new.world }
+{
+    let mut bytes = ArrayVec::new();
+    for _k in 0..n {
+        match m.drain(c) {
+            Some(b) => bytes.push(b),
+            None => {}
+        }
+    }
+    bytes
+}
+
 /// PEEK: shows how far a slot's job is inside a call.
 #[tactic(auto, using(crate::proofs::AnswerLaws::peek_answered, crate::proofs::AnswerLaws::peek_refused))]
 fn peek<K: Sink>(m: &mut Monitor, p: Progress, s: u8, out: &mut K) -> Turn
@@ -208,7 +290,7 @@ fn unbuilt<K: Sink>(out: &mut K, number: u32) -> Turn
 }
 
 /// The answer to an event: what it does to the monitor and to the block, and what it shows.
-#[tactic(auto, using(crate::proofs::AnswerLaws::nothing_answered, crate::proofs::AnswerLaws::end_answered, crate::proofs::AnswerLaws::unbuilt_answered, crate::proofs::AnswerLaws::go_answered, crate::proofs::AnswerLaws::words_answered, crate::proofs::AnswerLaws::int_answered, crate::proofs::AnswerLaws::deposit_answered, crate::proofs::AnswerLaws::stop_answered, crate::proofs::AnswerLaws::cont_answered, crate::proofs::AnswerLaws::clock_answered))]
+#[tactic(auto, using(crate::proofs::AnswerLaws::nothing_answered, crate::proofs::AnswerLaws::end_answered, crate::proofs::AnswerLaws::unbuilt_answered, crate::proofs::AnswerLaws::go_answered, crate::proofs::AnswerLaws::words_answered, crate::proofs::AnswerLaws::int_answered, crate::proofs::AnswerLaws::deposit_answered, crate::proofs::AnswerLaws::stop_answered, crate::proofs::AnswerLaws::cont_answered, crate::proofs::AnswerLaws::clock_answered, crate::proofs::AnswerLaws::console_fits))]
 pub fn answer<K: Sink>(m: &mut Monitor, p: &mut Progress, event: &Event, out: &mut K) -> Turn
     requires sound { Kept m.old.world }
     requires slot { p.old.slot < slots }
@@ -256,13 +338,13 @@ pub fn answer<K: Sink>(m: &mut Monitor, p: &mut Progress, event: &Event, out: &m
             let advanced = m.advance(*n);
             settle(out, number, advanced)
         }
+        Event::TypeIn { c, bytes } => type_line(m, *p, *c, bytes, out),
+        Event::Drain { c, n } => drain_line(m, *p, *c, *n, out),
         Event::Peek { s } => peek(m, *p, *s, out),
         Event::End => Turn::Ended,
         Event::File { .. } => unbuilt(out, number),
         Event::Append { .. } => unbuilt(out, number),
         Event::EndFile => unbuilt(out, number),
-        Event::TypeIn { .. } => unbuilt(out, number),
-        Event::Drain { .. } => unbuilt(out, number),
         Event::Dir { .. } => unbuilt(out, number),
         Event::Show { .. } => unbuilt(out, number),
     }

@@ -13,7 +13,7 @@ const FIRST: &str =
 const FIRST_OUT: &str = "J 0\nT 0 2*\nE 0 000200 000000000005\n";
 
 /// Sessions, transcripts and statuses.
-static ROWS: [(&str, &str, Status); 22] = [
+static ROWS: [(&str, &str, Status); 24] = [
     (FIRST, FIRST_OUT, Status::Done),
     ("", "", Status::Done),
     ("END", "", Status::Done),
@@ -32,7 +32,7 @@ static ROWS: [(&str, &str, Status); 22] = [
     ),
     ("STATE 0\n", "? 1 NOJOB\n", Status::Refused),
     ("DRAIN 10 1\n", "? 1 NOCONS\n", Status::Refused),
-    ("DRAIN 0 1\n", "? 1 UNBUILT\n", Status::Refused),
+    ("DIR U\n", "? 1 UNBUILT\n", Status::Refused),
     ("\n; a comment\nPEEK 0\n", "? 3 NOJOB\n", Status::Refused),
     // a block transfer whose accumulator is its last destination
     (
@@ -86,6 +86,18 @@ static ROWS: [(&str, &str, Status); 22] = [
     (
         "CLOCK 177777777777\nCLOCK 1\n",
         "? 2 RANGE\n",
+        Status::Refused,
+    ),
+    // bytes beyond the 64 that wait are dropped; nothing waits as output
+    (
+        "TYPE 0 101 101 101 101 101 101 101 101 101 101 101 101 101 101 101 101 101 101 101 101 101 101 101 101 101 101 101 101 101 101 101 101\nTYPE 0 102 102 102 102 102 102 102 102 102 102 102 102 102 102 102 102 102 102 102 102 102 102 102 102 102 102 102 102\nTYPE 0 103 103 103 103 103 103 103 103 103 103 103 103 103 103 103 103 103 103 103 103 103 103 103 103 103 103 103 103 103 103 103 103\nTYPE 0 104\nTYPE 7 0 177\nDRAIN 0 100\nDRAIN 7 1\nDRAIN 10 1\n",
+        "Y 0 0\nY 0 0\nY 0 34\nY 0 1\nY 7 0\nD 0\nD 7\n? 10 NOCONS\n",
+        Status::Refused,
+    ),
+    // jobs with the same console
+    (
+        "LOAD A X 3\nGO 0\nLOAD B X 3\nGO 0\nSTATE 0\nSTATE 1\nTYPE 3 101\nLOAD C X 10\n",
+        "J 0\nJ 1\nS 0 410000000000 700000000000 - 3 RUN 010000000000 000000000000 000000000000 000000000000 000000000000 000000000000 000000000000\nS 1 420000000000 700000000000 - 3 RUN 010000000000 000000000000 000000000000 000000000000 000000000000 000000000000 000000000000\nY 3 0\n? 10 NOCONS\n",
         Status::Refused,
     ),
 ];
@@ -504,7 +516,7 @@ LOGOUT
 calls that are not built, and names of none: CORBLK, RENAME, OPEN, OPEN with too few arguments, IOT, 0
 400000000000 435762425453 1000000001 1000777777 1000000001 403000000010 = 4. 1* 2. 3* = 1 = RUN 10000000101 0
 400000000000 624556415545 0 0 0 0 0 0 5000000001 403000000010 = 4. 1* 2. 3* = 1 = RUN 10000000101 0
-400000000000 576045560000 1000000001 140 403000000010 = 4. 1* 2. 3* = 1 = RUN 10000000101 0
+400000000000 414343456363 1000000001 140 403000000010 = 4. 1* 2. 3* = 1 = RUN 10000000101 0
 400000000000 576045560000 1000000001 403000000010 = 4. 1* 2. 3* = 2 = RUN 10000000101 0
 400000000000 515764000000 3000000010 403000000011 = 4. 1* 2. 3* = 1 = RUN 10000000101 0
 400000000000 0 1000000001 403000000010 = 4. 1* 2. 3* = 1 = RUN 10000000101 0

@@ -3,7 +3,7 @@ use Rattle.std.specs.Prelude.{if◌then◌else◌, ◌≡◌, ◌≢◌, ◌==�
 use Rattle.std.proofs.Common.{sym, ◌∙◌, ap, subst, arith, inl, inr}
 use Rattle.std.proofs.lemmas.Bool.{cases_Bool}
 use Rattle.std.proofs.lemmas.Bool.Decides.{nat_tests}
-use Rattle.its_word.specs.Only.{Only, Same}
+use Rattle.its_word.specs.Console.{Console}
 use Rattle.its_word.specs.Core.{Core}
 use Rattle.its_word.specs.declared.jobs.Channel.TheVariants as channels
 use Rattle.its_word.specs.declared.jobs.Job.{Job}
@@ -14,11 +14,12 @@ use Rattle.its_plain.specs.Own.{with_stores, left_with, leave}
 use Rattle.its_word.specs.Stores.{stored}
 use Rattle.its_jobs.specs.Table.{job_at, superior_at}
 use Rattle.its_frame.specs.declared.frame.Frame.{Frame}
-use Rattle.its_plain.specs.Machine.{Whole, Machine, changed}
-use Rattle.its_plain.specs.Change.{on_slot, in_job}
+use Rattle.its_plain.specs.Machine.{Whole, changed}
+use Rattle.its_plain.specs.Change.{on_slot, on_console}
 use Rattle.its_plain.proofs.MachineLaws.{machine_is}
-use Rattle.its_stepped.specs.State.{Mark, State, turn, same, reserving}
-use Rattle.its_world.specs.World.{chan_of, bare, raw_of, raw_at, frame_at, state_of, in_raw, Becomes, CoreBecomes, JobBecomes, FrameBecomes}
+use Rattle.its_stepped.specs.Lines.{with_raw}
+use Rattle.its_stepped.specs.State.{State, turn, same, reserving}
+use Rattle.its_world.specs.World.{chan_of, bare, raw_of, raw_at, frame_at, console_at, holder_at, state_of, in_raw, Becomes, FrameBecomes, ConsoleBecomes, HolderBecomes}
 use Rattle.its_world.specs.declared.world.World.{World}
 
 pub state_is : (a b : State) → a.raw ≡ b.raw → ((k : ℕ) → a.frames k ≡ b.frames k) → ((k : ℕ) → a.reserved k ≡ b.reserved k) → a.mark ≡ b.mark → a ≡ b
@@ -75,7 +76,7 @@ pub written_state : (old new : World) (s : ℕ) (c : Core) (i j : Job) (f : Opti
     → state_of new ≡ reserving (turn (state_of old) s h f) s r
 unfolding state_of
 written_state old new s c i j f r h b job e = state_is _ _
-    (machine_is _ _ (slot_at _ _ s h (raw_here old new s c i j f r h b job e) (raw_others old new s c (Some i) f r b)) (λ k. refl) (λ k. refl) refl b.clock)
+    (machine_is _ _ (slot_at _ _ s h (raw_here old new s c i j f r h b job e) (raw_others old new s c (Some i) f r b)) (λ k. ap (λ l. console_at l.items k) b.consoles) (λ k. ap (λ l. holder_at l k) b.holders) refl b.clock)
     (changed_at _ _ s f b.frame.here b.frame.others)
     (changed_at _ _ s r b.reserved.here b.reserved.others)
     refl
@@ -85,7 +86,7 @@ pub turned_state : (old new : World) (s : ℕ) (c : Core) (i j : Job) (f : Optio
     → state_of new ≡ turn (state_of old) s h f
 unfolding state_of
 turned_state old new s c i j f h b job e = state_is _ _
-    (machine_is _ _ (slot_at _ _ s h (raw_here old new s c i j f _ h b job e) (raw_others old new s c (Some i) f _ b)) (λ k. refl) (λ k. refl) refl b.clock)
+    (machine_is _ _ (slot_at _ _ s h (raw_here old new s c i j f _ h b job e) (raw_others old new s c (Some i) f _ b)) (λ k. ap (λ l. console_at l.items k) b.consoles) (λ k. ap (λ l. holder_at l k) b.holders) refl b.clock)
     (changed_at _ _ s f b.frame.here b.frame.others)
     (λ k. elim (cases_Bool (k == s)) [
       | inl t ↦ let n : k ≡ s = grind (arith, nat_tests) in ap (clear_at new.core) n ∙ b.reserved.here ∙ ap (clear_at old.core) (sym n)
@@ -157,3 +158,18 @@ absent_state w s h none = state_is _ _
       | inr t ↦ rw t refl
     ]) (λ k. refl) (λ k. refl) refl refl)
     (λ k. refl) (λ k. refl) refl
+
+-- a console changed, and another holder of one
+pub console_state : (old new : World) (c : ℕ) (f : Console → Console) → ConsoleBecomes old new c (f (console_at old.consoles.items c))
+    → state_of new ≡ with_raw (state_of old) (on_console (state_of old).raw c f)
+unfolding state_of
+console_state old new c f b = state_is _ _
+    (machine_is _ _ (λ k. ap (λ t. raw_at t new.jobs k) b.core ∙ ap (λ t. raw_at old.core t k) b.jobs) (changed_at _ _ c _ b.consoles.here b.consoles.others) (λ k. ap (λ l. holder_at l k) b.holders) refl b.clock)
+    (λ k. ap (λ l. frame_at l.items k) b.frames) (λ k. ap (λ t. clear_at t k) b.core) refl
+
+pub holder_state : (old new : World) (c : ℕ) (h : Option ℕ) → HolderBecomes old new c h
+    → state_of new ≡ with_raw (state_of old) (record (state_of old).raw { holders = changed (state_of old).raw.holders c h })
+unfolding state_of
+holder_state old new c h b = state_is _ _
+    (machine_is _ _ (λ k. ap (λ t. raw_at t new.jobs k) b.core ∙ ap (λ t. raw_at old.core t k) b.jobs) (λ k. ap (λ l. console_at l.items k) b.consoles) (changed_at _ _ c _ b.holders.here b.holders.others) refl b.clock)
+    (λ k. ap (λ l. frame_at l.items k) b.frames) (λ k. ap (λ t. clear_at t k) b.core) refl

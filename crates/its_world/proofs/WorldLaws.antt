@@ -1,12 +1,15 @@
 -- What a world keeps where one part of it is written.
-use Rattle.std.specs.Prelude.{◌≡◌, ◌≢◌, ℕ, zero, suc, true, Option, Some, None, IsSome, is_some, List, [], ◌∷◌, ◌++◌, slice_index_or, option_map, refl}
-use Rattle.std.proofs.Common.{ap, ◌∙◌}
+use Rattle.std.specs.Prelude.{◌≡◌, ◌<◌, ◌≤◌, ℕ, zero, suc, true, Option, Some, None, IsSome, is_some, List, [], ◌∷◌, ◌++◌, length, drop, slice_index_or, option_map, refl}
+use Rattle.std.proofs.Common.{ap, sym, arith, ◌∙◌}
+use Rattle.std.proofs.lemmas.List.{length-append, take-append-le, take_all}
 use Rattle.its_word.specs.Only.{Only, Same}
+use Rattle.its_word.specs.Console.{Console, quiet_console, most_waiting}
 use Rattle.its_word.specs.Core.{Core, no_core}
 use Rattle.its_word.specs.declared.jobs.Job.{Job}
 use Rattle.its_frame.specs.declared.frame.Frame.{Frame}
 use Rattle.its_jobs.specs.Table.{job_at}
-use Rattle.its_world.specs.World.{frame_at, Becomes, CoreBecomes, JobBecomes, FrameBecomes, PageBecomes}
+use Rattle.its_plain.specs.Change.{rest_of}
+use Rattle.its_world.specs.World.{frame_at, console_at, holder_at, Becomes, CoreBecomes, JobBecomes, FrameBecomes, PageBecomes, ConsoleBecomes, HolderBecomes, typed_at}
 use Rattle.its_world.specs.declared.world.World.{World}
 use Rattle.its_core.specs.Cores.{Cores, Reserved, core_at, reserved_at, clear_at}
 
@@ -27,6 +30,12 @@ none_more [] h (suc k) = refl
 none_more (x ∷ xs) h zero = h zero
 none_more (x ∷ xs) h (suc k) = none_more xs (λ i. h (suc i)) k
 
+pub quiet_more : (xs : List Console) → ((c : ℕ) → slice_index_or xs c quiet_console ≡ quiet_console) → (c : ℕ) → slice_index_or (xs ++ quiet_console ∷ []) c quiet_console ≡ quiet_console
+quiet_more [] h zero = refl
+quiet_more [] h (suc c) = refl
+quiet_more (x ∷ xs) h zero = h zero
+quiet_more (x ∷ xs) h (suc c) = quiet_more xs (λ i. h (suc i)) c
+
 -- nothing else changes
 unchanged : {X : Type 0} → (f : ℕ → X) (s : ℕ) → Only f f s (f s)
 unchanged f s = record { here = refl; others = λ k h. refl }
@@ -35,35 +44,41 @@ alike : {X : Type 0} → (f g : ℕ → X) (s : ℕ) → ((k : ℕ) → g k ≡ 
 alike f g s h = record { here = h s; others = λ k n. h k }
 
 pub core_becomes : (old new : World) (s : ℕ) (c : Core) → Only (core_at old.core) (core_at new.core) s c → new.core.reserved ≡ old.core.reserved
-    → new.jobs ≡ old.jobs → new.frames ≡ old.frames → new.clock ≡ old.clock → CoreBecomes old new s c
-core_becomes old new s c core reserved jobs frames clock = record {
+    → new.jobs ≡ old.jobs → new.frames ≡ old.frames → new.consoles ≡ old.consoles → new.holders ≡ old.holders → new.clock ≡ old.clock → CoreBecomes old new s c
+core_becomes old new s c core reserved jobs frames consoles holders clock = record {
   core = core;
   job = alike _ _ s (λ k. ap (λ t. job_at t k) jobs);
   superiors = ap (λ t. t.superiors) jobs;
   frame = alike _ _ s (λ k. ap (λ t. frame_at t.items k) frames);
   reserved = alike _ _ s ((same_clear old.core new.core reserved).each);
+  consoles = consoles;
+  holders = holders;
   clock = clock;
 }
 
 pub job_becomes : (old new : World) (s : ℕ) (j : Job) → Only (job_at old.jobs) (job_at new.jobs) s (Some j) → new.jobs.superiors ≡ old.jobs.superiors
-    → new.core ≡ old.core → new.frames ≡ old.frames → new.clock ≡ old.clock → JobBecomes old new s j
-job_becomes old new s j job superiors core frames clock = record {
+    → new.core ≡ old.core → new.frames ≡ old.frames → new.consoles ≡ old.consoles → new.holders ≡ old.holders → new.clock ≡ old.clock → JobBecomes old new s j
+job_becomes old new s j job superiors core frames consoles holders clock = record {
   core = alike _ _ s (λ k. ap (λ t. core_at t k) core);
   job = job;
   superiors = superiors;
   frame = alike _ _ s (λ k. ap (λ t. frame_at t.items k) frames);
   reserved = alike _ _ s (λ k. ap (λ t. clear_at t k) core);
+  consoles = consoles;
+  holders = holders;
   clock = clock;
 }
 
 pub frame_becomes : (old new : World) (s : ℕ) (f : Option Frame) → Only (frame_at old.frames.items) (frame_at new.frames.items) s f
-    → new.core ≡ old.core → new.jobs ≡ old.jobs → new.clock ≡ old.clock → FrameBecomes old new s f
-frame_becomes old new s f frame core jobs clock = record {
+    → new.core ≡ old.core → new.jobs ≡ old.jobs → new.consoles ≡ old.consoles → new.holders ≡ old.holders → new.clock ≡ old.clock → FrameBecomes old new s f
+frame_becomes old new s f frame core jobs consoles holders clock = record {
   core = alike _ _ s (λ k. ap (λ t. core_at t k) core);
   job = alike _ _ s (λ k. ap (λ t. job_at t k) jobs);
   superiors = ap (λ t. t.superiors) jobs;
   frame = frame;
   reserved = alike _ _ s (λ k. ap (λ t. clear_at t k) core);
+  consoles = consoles;
+  holders = holders;
   clock = clock;
 }
 
@@ -79,17 +94,21 @@ then_becomes old mid new s c d i j f g r t a b = record {
   superiors = b.superiors ∙ a.superiors;
   frame = only_then _ _ _ s f g a.frame b.frame;
   reserved = only_then _ _ _ s r t a.reserved b.reserved;
+  consoles = b.consoles ∙ a.consoles;
+  holders = b.holders ∙ a.holders;
   clock = b.clock ∙ a.clock;
 }
 
 pub page_becomes : (old new : World) (s : ℕ) (r : Option ℕ) → Only (clear_at old.core) (clear_at new.core) s r → new.core.cores ≡ old.core.cores
-    → new.jobs ≡ old.jobs → new.frames ≡ old.frames → new.clock ≡ old.clock → PageBecomes old new s r
-page_becomes old new s r page cores jobs frames clock = record {
+    → new.jobs ≡ old.jobs → new.frames ≡ old.frames → new.consoles ≡ old.consoles → new.holders ≡ old.holders → new.clock ≡ old.clock → PageBecomes old new s r
+page_becomes old new s r page cores jobs frames consoles holders clock = record {
   core = alike _ _ s (λ k. same_core old.core new.core k cores);
   job = alike _ _ s (λ k. ap (λ t. job_at t k) jobs);
   superiors = ap (λ t. t.superiors) jobs;
   frame = alike _ _ s (λ k. ap (λ t. frame_at t.items k) frames);
   reserved = page;
+  consoles = consoles;
+  holders = holders;
   clock = clock;
 }
 
@@ -99,3 +118,41 @@ some_by None h = cc
 
 pub reserved_some : (c : Cores) (s : ℕ) → is_some (clear_at c s) ≡ true → IsSome (reserved_at c s)
 reserved_some c s h = some_by (reserved_at c s) h
+
+-- consoles
+pub console_becomes : (old new : World) (c : ℕ) (x : Console) → Only (console_at old.consoles.items) (console_at new.consoles.items) c x
+    → new.holders ≡ old.holders → new.core ≡ old.core → new.jobs ≡ old.jobs → new.frames ≡ old.frames → new.clock ≡ old.clock → ConsoleBecomes old new c x
+console_becomes old new c x consoles holders core jobs frames clock = record {
+  consoles = consoles;
+  holders = holders;
+  core = core;
+  jobs = jobs;
+  frames = frames;
+  clock = clock;
+}
+
+pub holder_becomes : (old new : World) (c : ℕ) (h : Option ℕ) → Only (holder_at old.holders) (holder_at new.holders) c h
+    → new.consoles ≡ old.consoles → new.core ≡ old.core → new.jobs ≡ old.jobs → new.frames ≡ old.frames → new.clock ≡ old.clock → HolderBecomes old new c h
+holder_becomes old new c h holders consoles core jobs frames clock = record {
+  holders = holders;
+  consoles = consoles;
+  core = core;
+  jobs = jobs;
+  frames = frames;
+  clock = clock;
+}
+
+pub rest_is : (bs : List ℕ) → drop 1 bs ≡ rest_of bs
+rest_is [] = refl
+rest_is (b ∷ bs) = refl
+
+pub typed_room : (x : Console) (b n : ℕ) → n ≡ length x.input → n < most_waiting → record x { input = x.input ++ b ∷ [] } ≡ typed_at b x
+typed_room x b n e l =
+    let all : length (x.input ++ b ∷ []) ≤ most_waiting = let s = length-append x.input (b ∷ []) in omega arith in
+    ap (λ (bs : List ℕ). record x { input = bs }) (sym (take_all most_waiting (x.input ++ b ∷ []) all))
+
+pub typed_full : (x : Console) (b n : ℕ) → n ≡ length x.input → n ≤ most_waiting → most_waiting ≤ n → x ≡ typed_at b x
+typed_full x b n e l full =
+    let all : length x.input ≤ most_waiting = omega arith in
+    let in_list : most_waiting ≤ length x.input = omega arith in
+    ap (λ (bs : List ℕ). record x { input = bs }) (sym (take-append-le most_waiting x.input (b ∷ []) in_list ∙ take_all most_waiting x.input all))

@@ -1,6 +1,7 @@
 -- The state of the stepped machine that a world stands for.
-use Rattle.std.specs.Prelude.{◌≡◌, ℕ, Option, Some, None, List, [], replicate, slice_index_or, option_map}
-use Rattle.its_word.specs.Only.{Only, Same}
+use Rattle.std.specs.Prelude.{◌≡◌, ℕ, Option, Some, None, List, [], ◌∷◌, ◌++◌, take, drop, replicate, slice_index_or}
+use Rattle.its_word.specs.Only.{Only}
+use Rattle.its_word.specs.Console.{Console, quiet_console, most_waiting}
 use Rattle.its_word.specs.Core.{Core}
 use Rattle.its_word.specs.declared.jobs.Channel.{Channel}
 use Rattle.its_word.specs.declared.jobs.Channel.TheVariants as channels
@@ -8,9 +9,9 @@ use Rattle.its_word.specs.declared.jobs.Job.{Job}
 use Rattle.its_core.specs.Cores.{Cores, core_at, clear_at}
 use Rattle.its_jobs.specs.Table.{Table, job_at, superior_at}
 use Rattle.its_frame.specs.declared.frame.Frame.{Frame}
-use Rattle.its_plain.specs.Machine.{Chan, Shut, TtyIn, TtyOut, On, Whole, no_bytes, Machine}
+use Rattle.its_plain.specs.Machine.{Chan, Shut, TtyIn, TtyOut, On, Whole, Machine}
 use Rattle.its_plain.specs.Change.{in_job}
-use Rattle.its_stepped.specs.State.{Mark, State}
+use Rattle.its_stepped.specs.State.{State}
 use Rattle.its_world.specs.declared.world.World.{World}
 
 -- what a channel of the plain machine is on. No channel on a file or a draft can be opened yet
@@ -45,11 +46,18 @@ raw_at cores table k = raw_of (core_at cores k) (superior_at table k) (job_at ta
 abbrev pub frame_at : List (Option Frame) → ℕ → Option Frame
 frame_at frames k = slice_index_or frames k None
 
-abbrev pub raw_machine : Cores → Table → ℕ → Machine
-raw_machine cores table clock = record {
+-- nothing waits at a console past the last, and nobody holds it
+abbrev pub console_at : List Console → ℕ → Console
+console_at consoles c = slice_index_or consoles c quiet_console
+
+abbrev pub holder_at : List (Option ℕ) → ℕ → Option ℕ
+holder_at holders c = slice_index_or holders c None
+
+abbrev pub raw_machine : Cores → Table → List Console → List (Option ℕ) → ℕ → Machine
+raw_machine cores table consoles holders clock = record {
   jobs = raw_at cores table;
-  consoles = λ _. no_bytes;
-  holders = λ _. None;
+  consoles = console_at consoles;
+  holders = holder_at holders;
   files = [];
   clock = clock;
 }
@@ -57,7 +65,7 @@ raw_machine cores table clock = record {
 -- the state that a world stands for
 unfoldable pub state_of : World → State
 state_of w = record {
-  raw = raw_machine w.core w.jobs w.clock;
+  raw = raw_machine w.core w.jobs w.consoles.items w.holders w.clock;
   frames = frame_at w.frames.items;
   reserved = clear_at w.core;
   mark = None;
@@ -68,13 +76,15 @@ abbrev pub in_raw : State → ℕ → (Whole → Whole) → State
 in_raw w s h = record w { raw = in_job w.raw s h }
 
 -- of the world only slot s changes: its core, its job with the same superior, its frame, and how many quarters of its
--- reserved page are clear
+-- reserved page are clear. Consoles and their holders stay
 pub record Becomes (old new : World) (s : ℕ) (c : Core) (j : Option Job) (f : Option Frame) (r : Option ℕ) : Type 0 where
   pub core : Only (core_at old.core) (core_at new.core) s c
   pub job : Only (job_at old.jobs) (job_at new.jobs) s j
   pub superiors : new.jobs.superiors ≡ old.jobs.superiors
   pub frame : Only (frame_at old.frames.items) (frame_at new.frames.items) s f
   pub reserved : Only (clear_at old.core) (clear_at new.core) s r
+  pub consoles : new.consoles ≡ old.consoles
+  pub holders : new.holders ≡ old.holders
   pub clock : new.clock ≡ old.clock
 
 -- the same, where only its core, only its registers, or only its frame is written
@@ -89,3 +99,27 @@ FrameBecomes old new s f = Becomes old new s (core_at old.core s) (job_at old.jo
 
 abbrev pub PageBecomes : World → World → ℕ → Option ℕ → Type 0
 PageBecomes old new s r = Becomes old new s (core_at old.core s) (job_at old.jobs s) (frame_at old.frames.items s) r
+
+-- of the world only console c changes, or only its holder
+pub record ConsoleBecomes (old new : World) (c : ℕ) (x : Console) : Type 0 where
+  pub consoles : Only (console_at old.consoles.items) (console_at new.consoles.items) c x
+  pub holders : new.holders ≡ old.holders
+  pub core : new.core ≡ old.core
+  pub jobs : new.jobs ≡ old.jobs
+  pub frames : new.frames ≡ old.frames
+  pub clock : new.clock ≡ old.clock
+
+pub record HolderBecomes (old new : World) (c : ℕ) (h : Option ℕ) : Type 0 where
+  pub holders : Only (holder_at old.holders) (holder_at new.holders) c h
+  pub consoles : new.consoles ≡ old.consoles
+  pub core : new.core ≡ old.core
+  pub jobs : new.jobs ≡ old.jobs
+  pub frames : new.frames ≡ old.frames
+  pub clock : new.clock ≡ old.clock
+
+-- a console at which a byte was typed, where it has room, and one that a byte was drained from
+abbrev pub typed_at : ℕ → Console → Console
+typed_at b x = record x { input = take most_waiting (x.input ++ b ∷ []) }
+
+abbrev pub drained_at : Console → Console
+drained_at x = record x { output = drop 1 x.output }

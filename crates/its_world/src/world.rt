@@ -1,44 +1,59 @@
-ghost use Rattle.std.specs.Prelude.{◌≡◌, ◌<◌, ◌≤◌, ◌≢◌, ◌↔◌, ◌/◌, ◌^◌, ℕ, vec_len, slice_index_or, true, false, Some, None, Ok, Err, IfOk, IfErr, OnOk, OnErr, IsTrue, is_some, option_copied};
+ghost use Rattle.std.specs.Prelude.{◌≡◌, ◌<◌, ◌≤◌, ◌≢◌, ◌↔◌, ◌/◌, ◌^◌, ℕ, vec_len, length, slice_get, slice_index_or, true, false, Some, None, Ok, Err, IfOk, IfErr, OnOk, OnErr, IsTrue, is_some, option_copied};
+ghost use Rattle.its_word.specs.Console.{quiet_console, most_waiting};
 ghost use Rattle.its_word.specs.Limits.{slots};
 
+use super::consoles::{quiet_consoles, type_at};
+use its_console::Console;
 use its_core::Core;
 use its_frame::Frame;
 use its_jobs::Jobs;
 use its_word::{Job, NoAccess, NoMemory, SLOTS, Word};
 use std::alloc::Global;
 
-/// The whole state: cores, jobs, for each slot the frame of its call in progress where it is in one, and the
-/// clock in thirtieths.
+/// How many consoles there are.
+const CONSOLES: usize = 8;
+
+/// The whole state: cores, jobs, for each slot the frame of its call in progress where it is in one, the
+/// consoles, for each of them the slot of the job that holds it, and the clock in thirtieths.
 #[derive(Drop)]
 pub struct World {
     pub core: Core,
     pub jobs: Jobs,
     pub frames: Vec<Option<Frame>>,
+    pub consoles: Vec<Console>,
+    pub holders: [Option<u8>; 8],
     pub clock: u64,
     ghost slots: { vec_len frames ≡ 64 },
+    ghost consoles_count: { vec_len consoles ≡ 8 },
 }
 
 impl World {
     ghost use Rattle.its_core.specs.Cores.{core_at, clear_at, IsEmpty};
     ghost use Rattle.its_jobs.specs.Table.{job_at, superior_at, NoJobs};
     ghost use Rattle.its_word.specs.Core.{store, can_store, put as put_at, page_of};
-    ghost use Rattle.its_world.specs.World.{frame_at, CoreBecomes, JobBecomes, FrameBecomes, PageBecomes};
+    ghost use Rattle.its_world.specs.World.{frame_at, console_at, holder_at, CoreBecomes, JobBecomes, FrameBecomes, PageBecomes, ConsoleBecomes, HolderBecomes, typed_at, drained_at};
+    ghost use Rattle.its_plain.specs.Change.{taken_from, put_to};
 
-    /// The world at the start of a session: no job, no page, no frame, clock 0. Takes all the memory that it
-    /// needs.
+    /// The world at the start of a session: no job, no page, no frame, nothing that waits at a console, no
+    /// holder of one, clock 0. Takes all the memory that it needs.
     pub fn open(alloc: Global) -> Result<World, NoMemory>
         ensures cores { IfOk result (λ w. IsEmpty w.core) }
         ensures jobs { IfOk result (λ w. NoJobs w.jobs) }
         ensures frames { IfOk result (λ w. (k : ℕ) → frame_at w.frames.items k ≡ None) }
+        ensures consoles { IfOk result (λ w. (c : ℕ) → console_at w.consoles.items c ≡ quiet_console) }
+        ensures holders { IfOk result (λ w. (c : ℕ) → holder_at w.holders c ≡ None) }
         ensures clock { IfOk result (λ w. w.clock ≡ 0) }
     {
         let core = Core::open(alloc)?;
         let jobs = Jobs::open(alloc)?;
         let frames = no_frames(alloc, SLOTS)?;
+        let consoles = quiet_consoles(alloc, CONSOLES)?;
         Ok(World {
             core,
             jobs,
             frames,
+            consoles,
+            holders: [None; CONSOLES],
             clock: 0,
         })
     }
@@ -128,6 +143,56 @@ impl World {
         ensures { FrameBecomes self.old self.new slot (Some frame) }
     {
         self.frames[usize::from(slot)] = Some(frame);
+    }
+
+    /// A byte is typed at a console. False where 64 typed bytes wait; the byte is then lost.
+    #[tactic(auto, using(crate::proofs::WorldLaws::console_becomes))]
+    pub fn type_in(&mut self, console: u8, b: u8) -> bool
+        requires { console < 8 }
+        ensures kept { IsTrue result ↔ (length (console_at self.old.consoles.items console).input < most_waiting) }
+        ensures typed { ConsoleBecomes self.old self.new console (typed_at b (console_at self.old.consoles.items console)) }
+    {
+        type_at(&mut self.consoles[usize::from(console)], b)
+    }
+
+    /// Takes the typed byte that has waited longest at a console; None where none waits.
+    #[tactic(auto, using(crate::proofs::WorldLaws::console_becomes, crate::proofs::WorldLaws::rest_is))]
+    pub fn take(&mut self, console: u8) -> Option<u8>
+        requires { console < 8 }
+        ensures first { result ≡ slice_get (console_at self.old.consoles.items console).input 0 }
+        ensures rest { ConsoleBecomes self.old self.new console (taken_from (console_at self.old.consoles.items console)) }
+    {
+        self.consoles[usize::from(console)].take()
+    }
+
+    /// Puts a byte out at a console. False where 64 bytes wait to be drained; then nothing is put.
+    #[tactic(auto, using(crate::proofs::WorldLaws::console_becomes))]
+    pub fn put(&mut self, console: u8, b: u8) -> bool
+        requires { console < 8 }
+        ensures kept { IsTrue result ↔ (length (console_at self.old.consoles.items console).output < most_waiting) }
+        ensures put { IsTrue result → ConsoleBecomes self.old self.new console (put_to b (console_at self.old.consoles.items console)) }
+        ensures same { result ≡ false → self.new ≡ self.old }
+    {
+        self.consoles[usize::from(console)].put(b)
+    }
+
+    /// Drains the byte of a console that was put out first; None where none waits.
+    #[tactic(auto, using(crate::proofs::WorldLaws::console_becomes))]
+    pub fn drain(&mut self, console: u8) -> Option<u8>
+        requires { console < 8 }
+        ensures first { result ≡ slice_get (console_at self.old.consoles.items console).output 0 }
+        ensures rest { ConsoleBecomes self.old self.new console (drained_at (console_at self.old.consoles.items console)) }
+    {
+        self.consoles[usize::from(console)].drain()
+    }
+
+    /// Gives a console another holder, or none.
+    #[tactic(auto, using(crate::proofs::WorldLaws::holder_becomes))]
+    pub fn hold(&mut self, console: u8, holder: Option<u8>)
+        requires { console < 8 }
+        ensures { HolderBecomes self.old self.new console holder }
+    {
+        self.holders[usize::from(console)] = holder;
     }
 }
 

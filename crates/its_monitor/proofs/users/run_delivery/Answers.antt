@@ -3,4 +3,4 @@ use Rattle.its_world.proofs.WorldLaws.{core_becomes}
 use Rattle.its_monitor.proofs.users.run_delivery.Goals as goal
 
 pub returns-clause-core : goal.returns-clause-core
-returns-clause-core c = core_becomes _ _ _ _ c.deliver.ensures.core c.deliver.ensures.reserved refl refl refl
+returns-clause-core c = core_becomes _ _ _ _ c.deliver.ensures.core c.deliver.ensures.reserved refl refl refl refl refl

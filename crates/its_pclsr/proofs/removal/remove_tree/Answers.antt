@@ -4,7 +4,7 @@ use Rattle.its_pclsr.proofs.RemovalLaws.{tree_removed, pages_left, cores_left}
 use Rattle.its_pclsr.proofs.removal.remove_tree.Goals as goal
 
 pub returns-clause-removed : goal.returns-clause-removed
-returns-clause-removed c = tree_removed _ c.sweep.new.w _ _ c.requires.slot c.tree.ensures c.sweep.ensures c.remove_tree.ensures.job c.remove_tree.ensures.superior refl refl refl
+returns-clause-removed c = tree_removed _ c.sweep.new.w _ _ c.requires.slot c.tree.ensures c.sweep.ensures c.remove_tree.ensures.job c.remove_tree.ensures.superior refl refl refl c.pass_on.ensures refl
 
 pub returns-clause-pages : goal.returns-clause-pages
 returns-clause-pages c = λ k. pages_left _ _ _ k c.requires.sound c.requires.unwound c.requires.page (returns-clause-removed c)

@@ -1,5 +1,5 @@
 use Rattle.std.proofs.Common.{sym, ◌∙◌, ap, refl}
-use Rattle.its_word.specs.declared.session.Event.TheVariants.{Words}
+use Rattle.its_word.specs.declared.session.Event.TheVariants.{Words, TypeIn}
 use Rattle.its_plain.specs.Operator as operator
 use Rattle.its_plain.specs.CallOperator.{operate, lined}
 use Rattle.its_stepped.specs.Lines.{calmed}
@@ -16,6 +16,10 @@ returns-in-Go-clause-answered g c =
     at_event _ _ _ _ _ _ _ _ _ _ c.in-Go.is
     (go_answered _ _ _ _ _ _ _ _ _ c.go-started.ensures.done c.go-started.ensures.refused c.settle-in-Go.ensures.settled)
 
+pub returns-in-TypeIn-clause-answered : goal.returns-in-TypeIn-clause-answered
+returns-in-TypeIn-clause-answered g c =
+    at_event _ _ _ _ _ _ _ _ _ _ (c.in-TypeIn.is ∙ ap (λ bs. TypeIn c.in-TypeIn.c (record { items = bs })) (sym c.deref-in-TypeIn.ensures.0)) c.type_line.ensures.answered
+
 pub returns-in-File-clause-answered : goal.returns-in-File-clause-answered
 unfolding lined operate operator.operate calmed
 returns-in-File-clause-answered g c =
@@ -30,16 +34,6 @@ pub returns-in-EndFile-clause-answered : goal.returns-in-EndFile-clause-answered
 unfolding lined operate operator.operate calmed
 returns-in-EndFile-clause-answered g c =
     at_event _ _ _ _ _ _ _ _ _ _ c.in-EndFile.is (unbuilt_answered _ _ _ _ _ _ _ _ _ _ (record { calm = refl; is = refl }) c.unbuilt-in-EndFile.ensures.told)
-
-pub returns-in-TypeIn-clause-answered : goal.returns-in-TypeIn-clause-answered
-unfolding lined operate operator.operate calmed
-returns-in-TypeIn-clause-answered g c =
-    at_event _ _ _ _ _ _ _ _ _ _ c.in-TypeIn.is (unbuilt_answered _ _ _ _ _ _ _ _ _ _ (record { calm = refl; is = refl }) c.unbuilt-in-TypeIn.ensures.told)
-
-pub returns-in-Drain-clause-answered : goal.returns-in-Drain-clause-answered
-unfolding lined operate operator.operate calmed
-returns-in-Drain-clause-answered g c =
-    at_event _ _ _ _ _ _ _ _ _ _ c.in-Drain.is (unbuilt_answered _ _ _ _ _ _ _ _ _ _ (record { calm = refl; is = refl }) c.unbuilt-in-Drain.ensures.told)
 
 pub returns-in-Dir-clause-answered : goal.returns-in-Dir-clause-answered
 unfolding lined operate operator.operate calmed

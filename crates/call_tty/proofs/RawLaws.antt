@@ -1,0 +1,17 @@
+-- The decision is made on the raw job of the slot.
+use Rattle.std.specs.Prelude.{◌≡◌, ℕ, Some, IfSome}
+use Rattle.its_word.specs.declared.calls.Ask.{Ask}
+use Rattle.its_word.specs.declared.jobs.Job.{Job}
+use Rattle.its_jobs.specs.Table.{job_at}
+use Rattle.its_frame.specs.declared.decision.Decision.{Decision}
+use Rattle.its_plain.specs.CallStep.{decision}
+use Rattle.its_plain.specs.Decide.{decided}
+use Rattle.its_world.specs.World.{raw_at, state_of}
+use Rattle.its_world.specs.declared.world.World.{World}
+use Rattle.call_basic.specs.Seen.{seen_by}
+use Rattle.call_basic.proofs.RawLaws.{raw_here}
+
+pub decision_here : (w : World) (s : ℕ) (j : Job) (a : Ask) (d : Decision) → job_at w.jobs s ≡ Some j → d ≡ decided (seen_by w s j a) a
+    → IfSome (raw_at w.core w.jobs s) (λ q. d ≡ decision (state_of w).raw s q a)
+unfolding decision
+decision_here w s j a d h e = raw_here (λ q. d ≡ decision (state_of w).raw s q a) w s j h e

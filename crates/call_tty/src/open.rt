@@ -1,0 +1,101 @@
+ghost use Rattle.std.specs.Prelude.{◌≡◌, ◌<◌, ◌&&◌, ◌∷◌, [], nat_lt, not, unwrap_or};
+ghost use Rattle.its_word.specs.Limits.{slots};
+ghost use Rattle.its_plain.specs.CallBasic.{channel_at};
+ghost use Rattle.its_plain.specs.CallTty.{closes, is_shut, opens, opens_on};
+ghost use Rattle.its_world.specs.World.{chan_of};
+ghost use Rattle.call_basic.specs.Seen.{channels_of, seen_by};
+
+use arrayvec::ArrayVec;
+use call_basic::{channel, fails, finishes_with, input};
+use its_frame::{Change, Decision, Opened};
+use its_word::{Ask, Channel, Job, Word};
+use its_world::World;
+
+/// The device of consoles, in SIXBIT.
+const TTY: u64 = 0o646471000000;
+
+/// OPEN channel, device: input, or output with control 1. Errors 4, 5, 22, and 5 where the job has no
+/// console. Only consoles can be opened yet.
+#[tactic(auto, unfolding(its_plain::specs::CallTty::opens, its_plain::specs::View::view, its_world::specs::World::state_of))]
+pub(crate) fn open(w: &World, slot: u8, job: &Job, ask: &Ask) -> Decision
+    requires { slot < slots }
+    ensures { result ≡ opens (seen_by w.now slot job.now ask.now) ask.now }
+{
+    let number = input(ask, 0);
+    let control = control(ask);
+    if !is_free(job, number) {
+        return fails(job, ask, 0o4);
+    }
+    if input(ask, 1).value() != TTY {
+        return fails(job, ask, 0o5);
+    }
+    if control > 1 {
+        return fails(job, ask, 0o22);
+    }
+    if job.console.is_none() {
+        return fails(job, ask, 0o5);
+    }
+    let change = Change::Open {
+        channel: number.value() as u8,
+        on: opened(control),
+    };
+    finishes_with(job, change, ArrayVec::new())
+}
+
+/// The control argument; 0 where there is none.
+fn control(ask: &Ask) -> u64
+    ensures { result ≡ unwrap_or ask.now.control 0 }
+{
+    match ask.control {
+        Some(word) => word.value(),
+        None => 0,
+    }
+}
+
+/// What the control argument opens a console for.
+fn opened(control: u64) -> Opened
+    ensures { result ≡ opens_on control }
+{
+    if control == 1 {
+        Opened::TtyOut
+    } else {
+        Opened::TtyIn
+    }
+}
+
+/// Whether a number is that of a closed channel.
+fn is_free(job: &Job, number: Word) -> bool
+    ensures { result ≡ (nat_lt number 16 && is_shut (channel_at (channels_of job.now) number)) }
+{
+    number.value() < 16 && is_closed(channel(job, number))
+}
+
+/// Whether a channel is closed. None can be on a file or a draft yet.
+fn is_closed(channel: Channel) -> bool
+    ensures { result ≡ is_shut (chan_of channel) }
+{
+    match channel {
+        Channel::Closed => true,
+        Channel::Reading { .. } => true,
+        Channel::Writing { .. } => true,
+        Channel::TtyIn => false,
+        Channel::TtyOut => false,
+        Channel::Usr { .. } => false,
+    }
+}
+
+/// CLOSE channel. Error 4.
+#[tactic(auto, unfolding(its_plain::specs::CallTty::closes, its_plain::specs::View::view, its_world::specs::World::state_of))]
+pub(crate) fn close(w: &World, slot: u8, job: &Job, ask: &Ask) -> Decision
+    requires { slot < slots }
+    ensures { result ≡ closes (seen_by w.now slot job.now ask.now) ask.now }
+{
+    let number = input(ask, 0);
+    if is_closed(channel(job, number)) {
+        return fails(job, ask, 0o4);
+    }
+    let change = Change::Shut {
+        channel: number.value() as u8,
+    };
+    finishes_with(job, change, ArrayVec::new())
+}

@@ -1,0 +1,238 @@
+ghost use Rattle.std.specs.Prelude.{◌≡◌, ◌<◌, ◌∷◌, ◌-◌, [], true, unwrap_or};
+ghost use Rattle.its_word.specs.Byte.{has_size};
+ghost use Rattle.its_frame.specs.declared.decision.Decision.TheVariants.{Ends};
+ghost use Rattle.its_plain.specs.Own.{advanced, exit_of};
+ghost use Rattle.its_plain.specs.Tests.{goes};
+ghost use Rattle.its_word.specs.Limits.{slots};
+ghost use Rattle.its_core.specs.Cores.{core_at};
+ghost use Rattle.its_plain.specs.Arguments.{input};
+ghost use Rattle.its_plain.specs.CallTty.{iot, iot_in, iot_out, is_indexed, next_pointer, shown_byte, siot, siot_in, siot_out, siot_tests};
+ghost use Rattle.call_basic.specs.Seen.{seen_by};
+ghost use Rattle.call_tty.specs.Waiting.{bar_of, first_of};
+
+use super::consoles::{console_of, first_typed, input_waits, output_waits};
+use arrayvec::ArrayVec;
+use call_basic::{
+    channel, exit_after, fails, faults, finishes, input, ioc, is_negative, is_read_only,
+    is_shared_place, place_of_input,
+};
+use its_bytes::{has_size, increment, load};
+use its_frame::{Change, Decision, Held, Store, Wait};
+use its_word::{Ask, Channel, Fault, Job, Word};
+use its_world::World;
+
+/// Bits 13 to 17 of a word are the low five bits of its left half: I and X of a byte pointer.
+const INDEXED: u32 = 0o40;
+
+/// The bits of a byte that a console shows.
+const SHOWN: u64 = 0o177;
+
+/// `.IOT`: one byte between the console and the word at E, right-justified. IOC where the channel is on no
+/// console; MPV or WRO by the word.
+#[tactic(auto, unfolding(its_plain::specs::CallTty::iot, its_plain::specs::View::view, its_world::specs::World::state_of))]
+pub(crate) fn iot(w: &World, slot: u8, job: &Job, ask: &Ask) -> Decision
+    requires { slot < slots }
+    ensures { result ≡ iot (seen_by w.now slot job.now ask.now) ask.now }
+{
+    let e = ask.outputs.first().copied().unwrap_or(0);
+    match channel(job, input(ask, 0)) {
+        Channel::TtyIn => iot_in(w, slot, job, ask, e),
+        Channel::TtyOut => iot_out(w, slot, job, ask, e),
+        _ => ioc(job),
+    }
+}
+
+/// `.IOT` from a console.
+#[tactic(auto, unfolding(its_plain::specs::View::view, its_world::specs::World::state_of))]
+fn iot_in(w: &World, slot: u8, job: &Job, ask: &Ask, e: u32) -> Decision
+    requires { slot < slots }
+    ensures { result ≡ iot_in (seen_by w.now slot job.now ask.now) e (unwrap_or job.now.console 0) }
+{
+    let console = console_of(job);
+    if let Some(fault) = bar_of_store(w, slot, e) {
+        return faults(job, fault);
+    }
+    if input_waits(w, slot, console) {
+        return Decision::Waits(Wait::Input(console));
+    }
+    let mut stores = ArrayVec::new();
+    stores.push(Store {
+        at: e,
+        word: Word::new(u64::from(first_typed(w, console))),
+    });
+    iot_ends(job, Change::Take { console }, stores)
+}
+
+/// `.IOT` to a console.
+#[tactic(auto, unfolding(its_plain::specs::View::view, its_world::specs::World::state_of))]
+fn iot_out(w: &World, slot: u8, job: &Job, ask: &Ask, e: u32) -> Decision
+    requires { slot < slots }
+    ensures { result ≡ iot_out (seen_by w.now slot job.now ask.now) e (unwrap_or job.now.console 0) }
+{
+    let console = console_of(job);
+    let Some(word) = w.core.word(slot, e) else {
+        return faults(job, Fault::Mpv);
+    };
+    if output_waits(w, slot, console) {
+        return Decision::Waits(Wait::Output(console));
+    }
+    let byte = shown(word);
+    iot_ends(job, Change::Put { console, byte }, ArrayVec::new())
+}
+
+/// `.IOT` is done: one thing changes outside its job's words and registers, and PC is past it.
+fn iot_ends(job: &Job, change: Change, stores: ArrayVec<Store, 2>) -> Decision
+    ensures { result ≡ Ends (record { items = change ∷ [] }) stores (exit_of (advanced 1 job.now)) }
+{
+    let mut changes = ArrayVec::new();
+    changes.push(change);
+    Decision::Ends {
+        changes,
+        stores,
+        exit: exit_after(job, 1),
+    }
+}
+
+/// What a console shows of a byte.
+fn shown(word: Word) -> u8
+    ensures { result ≡ shown_byte word }
+{
+    (word.value() & SHOWN) as u8
+}
+
+/// Why a word cannot be stored.
+fn bar_of_store(w: &World, slot: u8, at: u32) -> Option<Fault>
+    requires { slot < slots }
+    ensures { result ≡ bar_of (core_at w.now.core slot) at }
+{
+    if w.core.word(slot, at).is_none() {
+        return Some(Fault::Mpv);
+    }
+    if !w.core.is_storable(slot, at) {
+        return Some(Fault::Wro);
+    }
+    None
+}
+
+/// SIOT channel, pointer, count: one byte between the console and the core; pointer and count become those of
+/// the rest.
+#[tactic(auto, using(crate::proofs::SizeLaws::next_sized), unfolding(its_plain::specs::CallTty::siot, its_plain::specs::View::view, its_world::specs::World::state_of))]
+pub(crate) fn siot(w: &World, slot: u8, job: &Job, ask: &Ask) -> Decision
+    requires { slot < slots }
+    ensures { result ≡ siot (seen_by w.now slot job.now ask.now) ask.now }
+{
+    match channel(job, input(ask, 0)) {
+        Channel::Closed => fails(job, ask, 0o4),
+        Channel::TtyIn => match stopped(w, slot, job, ask) {
+            Some(decision) => decision,
+            None => siot_in(w, slot, job, ask),
+        },
+        Channel::TtyOut => match stopped(w, slot, job, ask) {
+            Some(decision) => decision,
+            None => siot_out(w, slot, job, ask),
+        },
+        Channel::Reading { .. } => fails(job, ask, 0o4),
+        Channel::Writing { .. } => fails(job, ask, 0o4),
+        Channel::Usr { .. } => fails(job, ask, 0o5),
+    }
+}
+
+/// The first of SIOT's tests that holds: errors 17, WRO, 21, 22, the end with count 0, and error 20.
+#[tactic(auto, unfolding(its_plain::specs::View::view, its_world::specs::World::state_of))]
+fn stopped(w: &World, slot: u8, job: &Job, ask: &Ask) -> Option<Decision>
+    requires { slot < slots }
+    ensures { result ≡ first_of (siot_tests (seen_by w.now slot job.now ask.now) ask.now (input ask.now 1) (input ask.now 2)) }
+{
+    let (pointer, count) = (input(ask, 1), input(ask, 2));
+    let (p, k) = (place_of_input(ask, 1), place_of_input(ask, 2));
+    if is_shared_place(ask, p) || is_shared_place(ask, k) {
+        return Some(fails(job, ask, 0o17));
+    }
+    if is_read_only(w, slot, p) || is_read_only(w, slot, k) {
+        return Some(faults(job, Fault::Wro));
+    }
+    if !has_size(pointer) || is_indexed(pointer) {
+        return Some(fails(job, ask, 0o21));
+    }
+    if is_negative(count.value()) {
+        return Some(fails(job, ask, 0o22));
+    }
+    if count == Word::ZERO {
+        return Some(finishes(job, ArrayVec::new()));
+    }
+    if call_basic::in_footprint(next_pointer(pointer).right(), ask) {
+        return Some(fails(job, ask, 0o20));
+    }
+    None
+}
+
+/// Whether I or X of a byte pointer is not 0.
+fn is_indexed(pointer: Word) -> bool
+    ensures { result ≡ is_indexed pointer }
+{
+    pointer.left() % INDEXED != 0
+}
+
+/// The pointer to the next byte.
+fn next_pointer(pointer: Word) -> Word
+    ensures { result ≡ next_pointer pointer }
+{
+    increment(pointer).unwrap_or(Word::ZERO)
+}
+
+/// A byte is moved: one thing changes, a byte may be held, and pointer and count become those of the rest.
+fn moves(change: Change, held: Option<Held>, next: Word, count: Word) -> Decision
+    ensures { result ≡ goes (change ∷ []) held (next ∷ (count - 1) ∷ []) }
+{
+    let mut changes = ArrayVec::new();
+    changes.push(change);
+    let mut values = ArrayVec::new();
+    values.push(next);
+    values.push(Word::new(count.value().saturating_sub(1)));
+    Decision::Goes {
+        changes,
+        held,
+        values,
+    }
+}
+
+/// SIOT from a console: the byte is held, and stored by the next step.
+#[tactic(auto, unfolding(its_plain::specs::View::view, its_world::specs::World::state_of))]
+fn siot_in(w: &World, slot: u8, job: &Job, ask: &Ask) -> Decision
+    requires { slot < slots }
+    ensures { result ≡ siot_in (seen_by w.now slot job.now ask.now) ask.now (next_pointer (input ask.now 1)) (input ask.now 2) (unwrap_or job.now.console 0) }
+{
+    let console = console_of(job);
+    let next = next_pointer(input(ask, 1));
+    let place = next.right();
+    if let Some(fault) = bar_of_store(w, slot, place) {
+        return faults(job, fault);
+    }
+    if input_waits(w, slot, console) {
+        return Decision::Waits(Wait::Input(console));
+    }
+    let held = Held {
+        place,
+        byte: Word::new(u64::from(first_typed(w, console))),
+    };
+    moves(Change::Take { console }, Some(held), next, input(ask, 2))
+}
+
+/// SIOT to a console.
+#[tactic(auto, unfolding(its_plain::specs::View::view, its_world::specs::World::state_of))]
+fn siot_out(w: &World, slot: u8, job: &Job, ask: &Ask) -> Decision
+    requires slot { slot < slots }
+    requires size { has_size (next_pointer (input ask.now 1)) ≡ true }
+    ensures { result ≡ siot_out (seen_by w.now slot job.now ask.now) ask.now (next_pointer (input ask.now 1)) (input ask.now 2) (unwrap_or job.now.console 0) }
+{
+    let console = console_of(job);
+    let next = next_pointer(input(ask, 1));
+    let Some(word) = w.core.word(slot, next.right()) else {
+        return faults(job, Fault::Mpv);
+    };
+    if output_waits(w, slot, console) {
+        return Decision::Waits(Wait::Output(console));
+    }
+    let byte = shown(Word::new(load(next, word)));
+    moves(Change::Put { console, byte }, None, next, input(ask, 2))
+}

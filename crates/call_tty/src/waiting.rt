@@ -1,0 +1,140 @@
+ghost use Rattle.std.specs.Prelude.{◌≡◌, ◌<◌, unwrap_or};
+ghost use Rattle.its_word.specs.Limits.{slots};
+ghost use Rattle.its_plain.specs.CallTty.{finish, is_superior, lands, listen, listens, ttylnd};
+ghost use Rattle.its_world.specs.World.{holder_at};
+ghost use Rattle.call_basic.specs.Seen.{seen_by};
+ghost use Rattle.call_tty.specs.Holding.{holds, may_take, outline_at};
+
+use super::consoles::{console_of, holder, output_left, typed};
+use arrayvec::ArrayVec;
+use call_basic::{channel, fails, finishes, finishes_with, input, is_oneself, store_at};
+use its_frame::{Change, Decision, Wait};
+use its_word::{Ask, Channel, Job, Word};
+use its_world::World;
+
+/// FINISH channel: waits until all output of the console is drained. Errors 4, 5.
+#[tactic(auto, unfolding(its_plain::specs::CallTty::finish, its_plain::specs::View::view, its_world::specs::World::state_of))]
+pub(crate) fn finish(w: &World, slot: u8, job: &Job, ask: &Ask) -> Decision
+    requires { slot < slots }
+    ensures { result ≡ finish (seen_by w.now slot job.now ask.now) ask.now }
+{
+    match channel(job, input(ask, 0)) {
+        Channel::Closed => fails(job, ask, 0o4),
+        Channel::Reading { .. } => fails(job, ask, 0o4),
+        Channel::Writing { .. } => fails(job, ask, 0o4),
+        Channel::TtyOut => {
+            let console = console_of(job);
+            if output_left(w, console) {
+                Decision::Waits(Wait::Drained(console))
+            } else {
+                finishes(job, ArrayVec::new())
+            }
+        }
+        Channel::TtyIn => fails(job, ask, 0o5),
+        Channel::Usr { .. } => fails(job, ask, 0o5),
+    }
+}
+
+/// LISTEN channel: waits likewise, and gives the number of bytes of input. Errors 4, 5.
+#[tactic(auto, unfolding(its_plain::specs::CallTty::listen, its_plain::specs::View::view, its_world::specs::World::state_of))]
+pub(crate) fn listen(w: &World, slot: u8, job: &Job, ask: &Ask) -> Decision
+    requires { slot < slots }
+    ensures { result ≡ listen (seen_by w.now slot job.now ask.now) ask.now }
+{
+    match channel(job, input(ask, 0)) {
+        Channel::Closed => fails(job, ask, 0o4),
+        Channel::Reading { .. } => fails(job, ask, 0o4),
+        Channel::Writing { .. } => fails(job, ask, 0o4),
+        Channel::TtyIn => listened(w, slot, job, ask),
+        Channel::TtyOut => listened(w, slot, job, ask),
+        Channel::Usr { .. } => fails(job, ask, 0o5),
+    }
+}
+
+/// The number of bytes of input, once all output is drained.
+#[tactic(auto, unfolding(its_plain::specs::View::view, its_world::specs::World::state_of))]
+fn listened(w: &World, slot: u8, job: &Job, ask: &Ask) -> Decision
+    requires { slot < slots }
+    ensures { result ≡ listens (seen_by w.now slot job.now ask.now) ask.now (unwrap_or job.now.console 0) }
+{
+    let console = console_of(job);
+    if output_left(w, console) {
+        return Decision::Waits(Wait::Drained(console));
+    }
+    let number = Word::new(u64::from(typed(w, console)));
+    finishes(job, store_at(ask.outputs.first().copied(), number))
+}
+
+/// TTYLND job: the job becomes the holder of the caller's console. Errors 4, 5; 5 where the caller has no
+/// console; for oneself 13 where a stranger holds it; for an inferior 5 where the caller does not hold it.
+#[tactic(auto, using(crate::proofs::HoldLaws::takes, crate::proofs::HoldLaws::holds_it), unfolding(its_plain::specs::CallTty::ttylnd, its_plain::specs::View::view, its_world::specs::World::state_of))]
+pub(crate) fn ttylnd(w: &World, slot: u8, job: &Job, ask: &Ask) -> Decision
+    requires { slot < slots }
+    ensures { result ≡ ttylnd (seen_by w.now slot job.now ask.now) ask.now }
+{
+    let party = input(ask, 0);
+    if is_oneself(party) {
+        let may = can_take(w, slot, console_of(job));
+        return lands(w, slot, job, ask, may, 0o13, slot);
+    }
+    match channel(job, party) {
+        Channel::Closed => fails(job, ask, 0o4),
+        Channel::Reading { .. } => fails(job, ask, 0o4),
+        Channel::Writing { .. } => fails(job, ask, 0o4),
+        Channel::Usr { slot: inferior, .. } => {
+            let may = is_holder(w, slot, console_of(job));
+            lands(w, slot, job, ask, may, 0o5, inferior)
+        }
+        Channel::TtyIn => fails(job, ask, 0o5),
+        Channel::TtyOut => fails(job, ask, 0o5),
+    }
+}
+
+/// Whether a job can take a console for itself: nobody holds it, or the job, or an inferior of it.
+fn can_take(w: &World, slot: u8, console: u8) -> bool
+    ensures { result ≡ may_take w.now slot (holder_at w.now.holders console) }
+{
+    match holder(w, console) {
+        None => true,
+        Some(h) => h == slot || is_superior(w, slot, h),
+    }
+}
+
+/// Whether a job is the superior of the job of a slot.
+fn is_superior(w: &World, slot: u8, inferior: u8) -> bool
+    ensures { result ≡ is_superior slot (outline_at w.now inferior) }
+{
+    match w.jobs.job(inferior) {
+        Some(_) => w.jobs.superior(inferior) == Some(slot),
+        None => false,
+    }
+}
+
+/// Whether a job holds a console.
+fn is_holder(w: &World, slot: u8, console: u8) -> bool
+    ensures { result ≡ holds slot (holder_at w.now.holders console) }
+{
+    match holder(w, console) {
+        Some(h) => h == slot,
+        None => false,
+    }
+}
+
+/// A job becomes the holder of the caller's console, where it may.
+#[tactic(auto, unfolding(its_plain::specs::View::view, its_world::specs::World::state_of))]
+fn lands(w: &World, slot: u8, job: &Job, ask: &Ask, may: bool, error: u8, holder: u8) -> Decision
+    requires { slot < slots }
+    ensures { result ≡ lands (seen_by w.now slot job.now ask.now) ask.now may error holder }
+{
+    if job.console.is_none() {
+        return fails(job, ask, 0o5);
+    }
+    if !may {
+        return fails(job, ask, error);
+    }
+    let change = Change::Hold {
+        console: console_of(job),
+        slot: holder,
+    };
+    finishes_with(job, change, ArrayVec::new())
+}

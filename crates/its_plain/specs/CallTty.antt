@@ -1,0 +1,213 @@
+-- OPEN, CLOSE, `.IOT`, SIOT, FINISH, LISTEN and TTYLND on consoles (docs/CALLS.md, "Consoles").
+use Rattle.std.specs.Prelude.{if◌then◌else◌, ◌==◌, ◌||◌, ◌&&◌, ℕ, ◌+◌, ◌-◌, ◌/◌, ◌%◌, ◌^◌, Bool, true, false, not, Option, Some, None, List, [], ◌∷◌, ◌++◌, nat_lt, is_some, length, slice_get, slice_index_or, unwrap_or}
+use Rattle.its_word.specs.Word.{right_of}
+use Rattle.its_word.specs.Byte.{has_size, increment_of, load_of}
+use Rattle.its_word.specs.Console.{most_waiting}
+use Rattle.its_word.specs.Core.{Core, word_at, can_store}
+use Rattle.its_word.specs.declared.access.Fault.TheVariants.{Mpv, Wro}
+use Rattle.its_word.specs.declared.calls.Ask.{Ask}
+use Rattle.its_word.specs.declared.plan.Store.{Store}
+use Rattle.its_frame.specs.declared.change.Change.{Change}
+use Rattle.its_frame.specs.declared.change.Change.TheVariants as changes
+use Rattle.its_frame.specs.declared.change.Opened.{Opened}
+use Rattle.its_frame.specs.declared.change.Opened.TheVariants as opened
+use Rattle.its_frame.specs.declared.decision.Decision.{Decision}
+use Rattle.its_frame.specs.declared.decision.Decision.TheVariants.{Waits, Ends}
+use Rattle.its_frame.specs.declared.decision.Wait.TheVariants.{Input, Output, Drained}
+use Rattle.its_plain.specs.Machine.{Chan, Shut, TtyIn, TtyOut, On, Console}
+use Rattle.its_plain.specs.Own.{exit_of, advanced}
+use Rattle.its_plain.specs.View.{View, Outline}
+use Rattle.its_plain.specs.Arguments.{input, place_of_input, in_footprint}
+use Rattle.its_plain.specs.Tests.{Test, ◌⇒◌, first, finishes, fails, faults, goes, out}
+use Rattle.its_plain.specs.CallBasic.{is_negative, read_only, shared_place, channel_at, Party, Oneself, Nobody, Channel, party, ioc}
+
+-- the console of a job. A channel on a console is opened only where its job has one
+abbrev pub console_of : View → ℕ
+console_of v = unwrap_or v.own.job.console 0
+
+abbrev pub has_console : View → Bool
+has_console v = is_some v.own.job.console
+
+-- a console that another job holds gives it no byte and takes none from it; one without holder is nobody's
+abbrev pub is_other : ℕ → Option ℕ → Bool
+is_other j (Some h) = not (h == j)
+is_other j None = false
+
+abbrev pub is_empty : List ℕ → Bool
+is_empty [] = true
+is_empty (b ∷ bs) = false
+
+abbrev pub input_waits : View → ℕ → Bool
+input_waits v c = is_empty (v.consoles c).input || is_other v.slot (v.holders c)
+
+abbrev pub output_waits : View → ℕ → Bool
+output_waits v c = not (nat_lt (length (v.consoles c).output) most_waiting) || is_other v.slot (v.holders c)
+
+abbrev pub output_left : View → ℕ → Bool
+output_left v c = not (is_empty (v.consoles c).output)
+
+-- the byte that is taken, and what of a byte is put out: its low 7 bits
+abbrev pub first_typed : View → ℕ → ℕ
+first_typed v c = unwrap_or (slice_get (v.consoles c).input 0) 0
+
+abbrev pub shown_byte : ℕ → ℕ
+shown_byte w = w % 2 ^ 7
+
+-- OPEN channel, device: input, or output with control 1. Only consoles can be opened yet
+abbrev pub tty_device : ℕ
+tty_device = 0o646471000000
+
+abbrev pub is_shut : Chan → Bool
+is_shut Shut = true
+is_shut _ = false
+
+abbrev pub opens_on : ℕ → Opened
+opens_on control = if control == 1 then opened.TtyOut else opened.TtyIn
+
+abbrev pub open_tests : View → Ask → ℕ → ℕ → ℕ → List Test
+open_tests v a n device control =
+    not (nat_lt n 16 && is_shut (channel_at v.own.channels n)) ⇒ fails v a 0o4
+    ∷ not (device == tty_device) ⇒ fails v a 0o5
+    ∷ nat_lt 1 control ⇒ fails v a 0o22
+    ∷ not (has_console v) ⇒ fails v a 0o5
+    ∷ []
+
+unfoldable pub opens : View → Ask → Decision
+opens v a =
+    first (open_tests v a (input a 0) (input a 1) (unwrap_or a.control 0))
+    (finishes v (changes.Open (input a 0) (opens_on (unwrap_or a.control 0)) ∷ []) [])
+
+-- CLOSE channel
+abbrev pub close_on : View → Ask → Chan → Decision
+close_on v a Shut = fails v a 0o4
+close_on v a _ = finishes v (changes.Shut (input a 0) ∷ []) []
+
+unfoldable pub closes : View → Ask → Decision
+closes v a = close_on v a (channel_at v.own.channels (input a 0))
+
+-- the words that a transfer stores to or reads: MPV where one is absent, WRO where it is to be stored and is read only
+abbrev pub is_absent : Core → ℕ → Bool
+is_absent c p = not (is_some (word_at c p))
+
+abbrev pub store_tests : View → ℕ → List Test
+store_tests v p = is_absent v.own.core p ⇒ faults v Mpv ∷ not (can_store v.own.core p) ⇒ faults v Wro ∷ []
+
+abbrev pub read_tests : View → ℕ → List Test
+read_tests v p = is_absent v.own.core p ⇒ faults v Mpv ∷ []
+
+abbrev pub word_of : View → ℕ → ℕ
+word_of v p = unwrap_or (word_at v.own.core p) 0
+
+-- `.IOT` of the word at E: one byte, right-justified. PC gains 1
+abbrev pub iot_ends : View → List Change → List Store → Decision
+iot_ends v cs ss = Ends (record { items = cs }) (record { items = ss }) (exit_of (advanced 1 v.own.job))
+
+abbrev pub iot_in : View → ℕ → ℕ → Decision
+iot_in v e c =
+    first (store_tests v e ++ (input_waits v c ⇒ Waits (Input c) ∷ []))
+    (iot_ends v (changes.Take c ∷ []) (record { at = e; word = first_typed v c } ∷ []))
+
+abbrev pub iot_out : View → ℕ → ℕ → Decision
+iot_out v e c =
+    first (read_tests v e ++ (output_waits v c ⇒ Waits (Output c) ∷ []))
+    (iot_ends v (changes.Put c (shown_byte (word_of v e)) ∷ []) [])
+
+abbrev pub iot_on : View → ℕ → Chan → Decision
+iot_on v e TtyIn = iot_in v e (console_of v)
+iot_on v e TtyOut = iot_out v e (console_of v)
+iot_on v e _ = ioc v
+
+unfoldable pub iot : View → Ask → Decision
+iot v a = iot_on v (slice_index_or a.outputs.items 0 0) (channel_at v.own.channels (input a 0))
+
+-- SIOT channel, pointer, count: one byte; pointer and count become those of the rest. I and X, bits 13 to 17 of the
+-- pointer, have to be 0
+abbrev pub is_indexed : ℕ → Bool
+is_indexed p = not (p / 2 ^ 18 % 2 ^ 5 == 0)
+
+abbrev pub next_pointer : ℕ → ℕ
+next_pointer p = unwrap_or (increment_of p) 0
+
+abbrev pub siot_tests : View → Ask → ℕ → ℕ → List Test
+siot_tests v a p k =
+    (shared_place a (place_of_input a 1) || shared_place a (place_of_input a 2)) ⇒ fails v a 0o17
+    ∷ (read_only v.own.core (place_of_input a 1) || read_only v.own.core (place_of_input a 2)) ⇒ faults v Wro
+    ∷ (not (has_size p) || is_indexed p) ⇒ fails v a 0o21
+    ∷ is_negative k ⇒ fails v a 0o22
+    ∷ (k == 0) ⇒ finishes v [] []
+    ∷ in_footprint (right_of (next_pointer p)) a ⇒ fails v a 0o20
+    ∷ []
+
+abbrev pub siot_in : View → Ask → ℕ → ℕ → ℕ → Decision
+siot_in v a next k c =
+    first (store_tests v (right_of next) ++ (input_waits v c ⇒ Waits (Input c) ∷ []))
+    (goes (changes.Take c ∷ []) (Some (record { place = right_of next; byte = first_typed v c })) (next ∷ (k - 1) ∷ []))
+
+abbrev pub siot_out : View → Ask → ℕ → ℕ → ℕ → Decision
+siot_out v a next k c =
+    first (read_tests v (right_of next) ++ (output_waits v c ⇒ Waits (Output c) ∷ []))
+    (goes (changes.Put c (shown_byte (load_of next (word_of v (right_of next)))) ∷ []) None (next ∷ (k - 1) ∷ []))
+
+abbrev pub siot_by : View → Ask → ℕ → ℕ → Decision → Decision
+siot_by v a p k moves = first (siot_tests v a p k) moves
+
+abbrev pub siot_on : View → Ask → Chan → Decision
+siot_on v a Shut = fails v a 0o4
+siot_on v a TtyIn = siot_by v a (input a 1) (input a 2) (siot_in v a (next_pointer (input a 1)) (input a 2) (console_of v))
+siot_on v a TtyOut = siot_by v a (input a 1) (input a 2) (siot_out v a (next_pointer (input a 1)) (input a 2) (console_of v))
+siot_on v a _ = fails v a 0o5
+
+unfoldable pub siot : View → Ask → Decision
+siot v a = siot_on v a (channel_at v.own.channels (input a 0))
+
+-- FINISH channel, and LISTEN channel: they wait until all output is drained; LISTEN gives the number of input bytes
+abbrev pub finish_on : View → Ask → Chan → Decision
+finish_on v a Shut = fails v a 0o4
+finish_on v a TtyOut = first (output_left v (console_of v) ⇒ Waits (Drained (console_of v)) ∷ []) (finishes v [] [])
+finish_on v a _ = fails v a 0o5
+
+unfoldable pub finish : View → Ask → Decision
+finish v a = finish_on v a (channel_at v.own.channels (input a 0))
+
+abbrev pub listens : View → Ask → ℕ → Decision
+listens v a c = first (output_left v c ⇒ Waits (Drained c) ∷ []) (finishes v [] (out a.outputs.items (length (v.consoles c).input)))
+
+abbrev pub listen_on : View → Ask → Chan → Decision
+listen_on v a Shut = fails v a 0o4
+listen_on v a TtyIn = listens v a (console_of v)
+listen_on v a TtyOut = listens v a (console_of v)
+listen_on v a _ = fails v a 0o5
+
+unfoldable pub listen : View → Ask → Decision
+listen v a = listen_on v a (channel_at v.own.channels (input a 0))
+
+-- TTYLND job: the job becomes the holder of the caller's console. Oneself may take it from nobody and from an inferior
+-- of its own; it may give it to an inferior where it holds it
+abbrev pub is_superior : ℕ → Option Outline → Bool
+is_superior j (Some o) = superior_is o.superior
+  where
+    superior_is : Option ℕ → Bool
+    superior_is (Some s) = s == j
+    superior_is None = false
+is_superior j None = false
+
+abbrev pub can_take : View → Option ℕ → Bool
+can_take v None = true
+can_take v (Some h) = (h == v.slot) || is_superior v.slot (v.outlines h)
+
+abbrev pub is_holder : View → Option ℕ → Bool
+is_holder v None = false
+is_holder v (Some h) = h == v.slot
+
+abbrev pub lands : View → Ask → Bool → ℕ → ℕ → Decision
+lands v a may error s =
+    first (not (has_console v) ⇒ fails v a 0o5 ∷ not may ⇒ fails v a error ∷ []) (finishes v (changes.Hold (console_of v) s ∷ []) [])
+
+abbrev pub ttylnd_of : View → Ask → Party → Decision
+ttylnd_of v a Oneself = lands v a (can_take v (v.holders (console_of v))) 0o13 v.slot
+ttylnd_of v a Nobody = fails v a 0o4
+ttylnd_of v a (Channel (On s write at)) = lands v a (is_holder v (v.holders (console_of v))) 0o5 s
+ttylnd_of v a (Channel c) = fails v a 0o5
+
+unfoldable pub ttylnd : View → Ask → Decision
+ttylnd v a = ttylnd_of v a (party v (input a 0))
