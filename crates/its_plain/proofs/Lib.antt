@@ -1,6 +1,4 @@
 pub mod MachineLaws
 pub mod UnitLaws
-pub mod SteppedLaws
-pub mod TickLaws
 pub mod DeliveryLaws
 pub mod CallLineLaws

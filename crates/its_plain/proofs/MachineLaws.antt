@@ -1,7 +1,7 @@
 -- When two machines are one: their jobs are compared slot by slot, and nowhere else.
 use Rattle.std.specs.Prelude.{◌≡◌, ℕ}
 use Rattle.std.proofs.Common.{◌∙◌}
-use Rattle.its_plain.specs.Machine.{Whole, Machine}
+use Rattle.its_plain.specs.Machine.{Machine}
 
 pub machine_is : (m n : Machine) → ((k : ℕ) → m.jobs k ≡ n.jobs k) → ((k : ℕ) → m.consoles k ≡ n.consoles k) → ((k : ℕ) → m.holders k ≡ n.holders k)
     → m.files ≡ n.files → m.clock ≡ n.clock → m ≡ n

@@ -1,12 +1,11 @@
 -- One step of one job that may call the monitor: the delivery of an interrupt where one is deliverable, else
 -- a unit, else the whole effect of its call where its decoding faults or it is ready.
-use Rattle.std.specs.Prelude.{if◌then◌else◌, ◌==◌, ◌||◌, ℕ, Bool, true, false, Option, Some, None, List, [], ◌∷◌, ◌++◌, length, Result, Ok, Err, unwrap_or}
+use Rattle.std.specs.Prelude.{◌==◌, ℕ, Bool, true, false, Option, Some, None, List, [], ◌∷◌, length, Result, Ok, Err, unwrap_or}
 use Rattle.std.specs.List.{list_any}
 use Rattle.its_word.specs.Byte.{deposit_of}
 use Rattle.its_word.specs.Core.{Core, word_at}
 use Rattle.its_word.specs.declared.access.Fault.{Fault}
 use Rattle.its_word.specs.declared.calls.Ask.{Ask}
-use Rattle.its_word.specs.declared.calls.Site.{Site}
 use Rattle.its_word.specs.declared.jobs.Job.{Job}
 use Rattle.its_word.specs.declared.plan.Store.{Store}
 use Rattle.its_frame.specs.declared.change.Change.{Change}
@@ -22,7 +21,7 @@ use Rattle.its_plain.specs.Own.{with_stores, with_registers, leave}
 use Rattle.its_plain.specs.Change.{in_job, effects}
 use Rattle.its_plain.specs.Arguments.{input, debts, revalued}
 use Rattle.its_plain.specs.Ask.{ask}
-use Rattle.its_plain.specs.View.{View, view}
+use Rattle.its_plain.specs.View.{view}
 use Rattle.its_plain.specs.Decide.{decided, target, reach}
 
 -- the held byte in its word, by the pointer that the call then has, and the call's new arguments

@@ -1,5 +1,5 @@
 -- OPEN, CLOSE, `.IOT`, SIOT, FINISH, LISTEN and TTYLND on consoles (docs/CALLS.md, "Consoles").
-use Rattle.std.specs.Prelude.{if◌then◌else◌, ◌==◌, ◌||◌, ◌&&◌, ℕ, ◌+◌, ◌-◌, ◌/◌, ◌%◌, ◌^◌, Bool, true, false, not, Option, Some, None, List, [], ◌∷◌, ◌++◌, nat_lt, is_some, length, slice_get, slice_index_or, unwrap_or}
+use Rattle.std.specs.Prelude.{if◌then◌else◌, ◌==◌, ◌||◌, ◌&&◌, ℕ, ◌-◌, ◌/◌, ◌%◌, ◌^◌, Bool, true, false, not, Option, Some, None, List, [], ◌∷◌, ◌++◌, nat_lt, is_some, length, slice_get, slice_index_or, unwrap_or}
 use Rattle.its_word.specs.Word.{right_of}
 use Rattle.its_word.specs.Byte.{has_size, increment_of, load_of}
 use Rattle.its_word.specs.Console.{most_waiting}
@@ -14,7 +14,7 @@ use Rattle.its_frame.specs.declared.change.Opened.TheVariants as opened
 use Rattle.its_frame.specs.declared.decision.Decision.{Decision}
 use Rattle.its_frame.specs.declared.decision.Decision.TheVariants.{Waits, Ends}
 use Rattle.its_frame.specs.declared.decision.Wait.TheVariants.{Input, Output, Drained}
-use Rattle.its_plain.specs.Machine.{Chan, Shut, TtyIn, TtyOut, On, Console}
+use Rattle.its_plain.specs.Machine.{Chan, Shut, TtyIn, TtyOut, On}
 use Rattle.its_plain.specs.Own.{exit_of, advanced}
 use Rattle.its_plain.specs.View.{View, Outline}
 use Rattle.its_plain.specs.Arguments.{input, place_of_input, in_footprint}

@@ -1,7 +1,7 @@
 -- What a change that a call makes outside its caller's own words and registers does to the plain machine
 -- (docs/CALLS.md).
 use Rattle.std.specs.Prelude.{if◌then◌else◌, ◌==◌, ◌||◌, ◌&&◌, ℕ, Bool, true, false, not, Option, Some, None, List, [], ◌∷◌, ◌++◌, filter, map, option_map}
-use Rattle.its_word.specs.Core.{Core, Page, no_core, zero_page, page_of, with_page, marked}
+use Rattle.its_word.specs.Core.{Page, no_core, zero_page, page_of, with_page, marked}
 use Rattle.its_word.specs.Tree.{fresh_job, is_below}
 use Rattle.its_word.specs.declared.plan.Store.{Store}
 use Rattle.its_frame.specs.declared.change.Change.{Change}

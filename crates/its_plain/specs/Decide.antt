@@ -1,5 +1,5 @@
 -- Which call decides, whom its commit disturbs, and what a call is that is not built.
-use Rattle.std.specs.Prelude.{if◌then◌else◌, ◌==◌, ℕ, Bool, true, false, Option, Some, None, List, [], ◌∷◌, ◌++◌}
+use Rattle.std.specs.Prelude.{if◌then◌else◌, ◌==◌, ℕ, Option, Some, None, List, [], ◌∷◌, ◌++◌}
 use Rattle.its_word.specs.Tree.{slots_below}
 use Rattle.its_word.specs.declared.calls.Ask.{Ask}
 use Rattle.its_frame.specs.declared.decision.Decision.{Decision}

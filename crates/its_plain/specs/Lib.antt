@@ -11,7 +11,6 @@ pub mod Unit
 pub mod Decode
 pub mod Footprint
 pub mod Interrupt
-pub mod Step
 pub mod Own
 pub mod Change
 pub mod Ask
@@ -24,6 +23,8 @@ pub mod CallTty
 pub mod CallStep
 pub mod Operator
 pub mod Transcript
-pub mod Stepped
 pub mod CallOperator
 pub mod CallTranscript
+pub mod OneByte
+pub mod Course
+pub mod Ledger

@@ -1,7 +1,7 @@
 -- What happens to one job: stores into its core, its registers, its channels and its variables.
-use Rattle.std.specs.Prelude.{if◌then◌else◌, ◌==◌, ℕ, ◌+◌, ◌%◌, ◌^◌, Bool, true, false, not, Option, Some, None, List, [], ◌∷◌, ◌++◌, filter, map, slice_get, option_map, bit_or, nat_lt, unwrap_or}
+use Rattle.std.specs.Prelude.{if◌then◌else◌, ◌==◌, ℕ, ◌+◌, ◌%◌, ◌^◌, not, Option, List, [], ◌∷◌, ◌++◌, unwrap_or}
 use Rattle.its_word.specs.Word.{right_of}
-use Rattle.its_word.specs.Core.{Core, pages_present}
+use Rattle.its_word.specs.Core.{pages_present}
 use Rattle.its_word.specs.declared.calls.Exit.{Exit}
 use Rattle.its_word.specs.declared.jobs.Job.{Job}
 use Rattle.its_word.specs.declared.plan.Store.{Store}
@@ -11,7 +11,7 @@ use Rattle.its_frame.specs.declared.change.Opened.TheVariants as opened
 use Rattle.its_frame.specs.declared.variable.Variable.{Variable}
 use Rattle.its_frame.specs.declared.variable.Variable.TheVariants.{Uname, Jname, Uind, Suppro, Cnsl, Pages, Upc, Ustp, Pirqc, Ifpir, Mask, Msk2, Df1, Df2}
 use Rattle.its_plain.specs.Job.{pc_word, flags_of}
-use Rattle.its_plain.specs.Machine.{Names, File, Chan, Shut, TtyIn, TtyOut, Reads, Writes, On, Whole, changed}
+use Rattle.its_plain.specs.Machine.{Names, Chan, Shut, TtyIn, TtyOut, Reads, Writes, On, Whole, changed}
 use Rattle.its_word.specs.Stores.{stored}
 use Rattle.its_plain.specs.UnitPlan.{without}
 

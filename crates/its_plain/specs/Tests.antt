@@ -1,13 +1,12 @@
 -- How a call decides: its tests in their order, of which the first that holds stops it, and the ways in
 -- which a call ends (docs/CALLS.md, "How a call ends").
-use Rattle.std.specs.Prelude.{if◌then◌else◌, ℕ, ◌+◌, ◌%◌, ◌^◌, Bool, Option, Some, None, List, [], ◌∷◌, bit_or}
+use Rattle.std.specs.Prelude.{if◌then◌else◌, ℕ, Bool, Option, Some, None, List, [], ◌∷◌}
 use Rattle.its_word.specs.declared.access.Fault.{Fault}
 use Rattle.its_word.specs.declared.calls.Ask.{Ask}
-use Rattle.its_word.specs.declared.jobs.Job.{Job}
 use Rattle.its_word.specs.declared.plan.Store.{Store}
 use Rattle.its_frame.specs.declared.change.Change.{Change}
 use Rattle.its_frame.specs.declared.decision.Decision.{Decision}
-use Rattle.its_frame.specs.declared.decision.Decision.TheVariants.{Waits, Goes, Ends, Gone}
+use Rattle.its_frame.specs.declared.decision.Decision.TheVariants.{Goes, Ends}
 use Rattle.its_frame.specs.declared.decision.Held.{Held}
 use Rattle.its_plain.specs.Job.{bit_of, with_pending}
 use Rattle.its_plain.specs.Own.{exit_of, advanced}
