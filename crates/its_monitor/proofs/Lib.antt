@@ -4,3 +4,4 @@ pub mod TrialLaws
 pub mod CallLaws
 pub mod UserLaws
 pub mod BesideLaws
+pub mod OneByteLaws

@@ -2,6 +2,7 @@ ghost use Rattle.std.specs.Prelude.{◌≡◌, ◌<◌, ◌↔◌, ◌^◌, ◌�
 ghost use Rattle.its_word.specs.Console.{most_waiting};
 ghost use Rattle.its_word.specs.Limits.{slots};
 ghost use Rattle.its_plain.specs.Machine.{no_machine};
+ghost use Rattle.its_plain.specs.OneByte.{EachByte};
 ghost use Rattle.its_plain.specs.Operator.{loaded, word_loaded, on_registers, started, stopped, continued, interrupted, word_seen, state_shown, deposited};
 ghost use Rattle.its_plain.specs.CallOperator.{clocked, typed, drained};
 ghost use Rattle.its_stepped.specs.State.{plain, no_state};
@@ -36,12 +37,14 @@ impl Monitor {
     }
 
     /// A tick of a slot, and its letter.
+    #[tactic(auto, using(crate::proofs::OneByteLaws::tick_once))]
     pub fn tick(&mut self, slot: u8) -> Pace
         requires slot { slot < slots }
         requires kept { Kept self.old.world }
         ensures state { state_of self.new.world ≡ (tick (state_of self.old.world) slot).state }
         ensures pace { result ≡ (tick (state_of self.old.world) slot).pace }
         ensures licensed { Licensed (plain (state_of self.old.world)) slot result (plain (state_of self.new.world)) }
+        ensures once { result ≡ Pace.Step → EachByte (plain (state_of self.old.world)) slot (plain (state_of self.new.world)) }
         ensures others { AllBeside (state_of self.old.world) (state_of self.new.world) slot result }
         ensures kept { Kept self.new.world }
     {
