@@ -13,3 +13,6 @@ pub mod PaceLaws
 pub mod LoadingLaws
 pub mod ConsoleLaws
 pub mod WritingLaws
+pub mod MoveLaws
+pub mod ShownLaws
+pub mod LedgerLaws

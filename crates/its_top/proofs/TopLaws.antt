@@ -14,6 +14,7 @@ use Rattle.its_top.specs.Telling.{Says, at_start, bytes_say}
 use Rattle.its_top.specs.Conclusion.{IsDone, Session}
 use Rattle.its_top.specs.Top.{Transcribed, Completes, Refuses, RunsOn, Breaks, Begins}
 use Rattle.its_top.proofs.ConclusionLaws.{says_stepped, says_whole}
+use Rattle.its_top.proofs.LedgerLaws.{ledger}
 
 text_is : (bytes : List ℕ) → (bytes_say true at_start [] bytes).text ≡ text (stepped (events_of bytes)).lines
 text_is bytes = ap (λ s. s.text) (says_stepped bytes)
@@ -73,12 +74,15 @@ session_written st (Some bytes) rest old new (inl e) s = (session_done st (Some 
 session_written st (Some bytes) rest old new (inr e) s = (session_refused st (Some bytes) rest old new e s).wrote
 
 transcribed : (bytes : List ℕ) (old new : Option (List ℕ)) → Appends old new (text (stepped (events_of bytes)).lines) → Transcribed bytes old new
-transcribed bytes old new a = record {
-  lines = (stepped (events_of bytes)).lines;
-  fate = (stepped (events_of bytes)).fate;
-  transcript = written_transcript decoding (events_of bytes);
-  wrote = a;
-}
+transcribed bytes old new a =
+    let t = written_transcript decoding (events_of bytes) in
+    record {
+      lines = (stepped (events_of bytes)).lines;
+      fate = (stepped (events_of bytes)).fate;
+      transcript = t;
+      ledger = ledger (events_of bytes) (stepped (events_of bytes)).lines (stepped (events_of bytes)).fate t;
+      wrote = a;
+    }
 
 pub session_transcribed : (st : Status) (left rest old new : Option (List ℕ)) → (st ≡ statuses.Done) ⊎ (st ≡ statuses.Refused) → Session st left rest old new
     → IfSome left (λ bytes. Transcribed bytes old new)

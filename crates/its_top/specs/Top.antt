@@ -5,6 +5,7 @@ use Rattle.its_print.specs.Printing.{Line, text}
 use Rattle.its_session.specs.Events.{events_of, whole_events_of}
 use Rattle.its_plain.specs.Transcript.{Fate, Open, Lost, TooLong}
 use Rattle.its_plain.specs.CallTranscript.{Transcript}
+use Rattle.its_plain.specs.Ledger.{Ledger}
 use Rattle.its_stepped.specs.Lines.{stepped}
 use Rattle.its_top.specs.Conclusion.{IsDone}
 
@@ -17,11 +18,13 @@ is_run (w ∷ v ∷ ws) = false
 abbrev pub usage : List ℕ
 usage = codes "usage: its run | its check | its gen N\n"
 
--- what was written is the text of lines that are a transcript of the session of these bytes
+-- what was written is the text of lines that are a transcript of the session of these bytes, and along whose run the ledger
+-- of each console holds
 pub record Transcribed (bytes : List ℕ) (old new : Option (List ℕ)) : Type 0 where
   pub lines : List Line
   pub fate : Fate
   pub transcript : Transcript (events_of bytes) lines fate
+  pub ledger : Ledger (events_of bytes) lines
   pub wrote : Appends old new (text lines)
 
 -- no line is refused, and no line past the most begins before END; all lines were written

@@ -1,0 +1,194 @@
+-- What a line of a session does to the consoles: TYPE adds what has room, DRAIN takes what it shows, and any other line
+-- leaves them (docs/MACHINE.md, "The ledger").
+use Rattle.std.specs.Prelude.{◌≡◌, ◌≤◌, ℕ, ◌+◌, ◌-◌, Bool, true, false, Option, Some, None, List, [], ◌∷◌, ◌++◌, Result, Ok, Err, length, take, drop, min, flat_map, is_some, nat_lt, refl}
+use Rattle.std.proofs.Common.{sym, ◌∙◌, ap, subst, inl, inr, arith, append-nil, take-append-drop}
+use Rattle.std.proofs.Math.Seq.{take-append-add}
+use Rattle.std.proofs.lemmas.Bool.{cases_eq, eq-eqb, ne_eqb}
+use Rattle.std.proofs.lemmas.List.{length-take}
+use Rattle.its_word.specs.Console.{Console, most_waiting}
+use Rattle.its_word.specs.Core.{Core, word_at, can_store}
+use Rattle.its_word.specs.Tree.{least_free}
+use Rattle.its_word.specs.declared.jobs.Job.{Job}
+use Rattle.its_word.specs.declared.session.Event.{Event}
+use Rattle.its_word.specs.declared.session.Event.TheVariants as events
+use Rattle.its_word.specs.declared.session.Reason.{Reason}
+use Rattle.its_word.specs.declared.show.JobShow.{JobShow}
+use Rattle.its_print.specs.Printing.{Line}
+use Rattle.its_print.specs.Printing as printed
+use Rattle.its_plain.specs.CallOperator.{clock_end, clocked_if, clocked, typed, dropped, drained, operate, Lined, Done, Peeks, peeked_at, lined}
+use Rattle.its_plain.specs.Ledger.{typed_by, drained_by}
+use Rattle.its_plain.specs.Machine.{Whole, Machine, mapped}
+use Rattle.its_plain.specs.Operator.{Block, Refuses, Does, Ticks, stored, with_core, word_loaded_of, word_loaded, and_then, words_loaded, on_job, with_registers, on_registers, started, interrupted, stopped, continued, deposited_in, deposited, disturbs, quietly, by_load, loaded_in, loaded, by_exam, examined, by_state, state_shown}
+use Rattle.its_plain.specs.Operator as operator
+
+-- at console c, this line led from machine m to n: what it typed and what it showed
+pub record Shows (c : ℕ) (m n : Machine) (e : Event) (out : List Line) : Type 0 where
+  pub input : (m.consoles c).input ++ typed_by c m e ≡ (n.consoles c).input
+  pub output : (m.consoles c).output ≡ flat_map (drained_by c) out ++ (n.consoles c).output
+  pub few : length (n.consoles c).input ≤ most_waiting
+
+abbrev pub ShowsBy : ℕ → Machine → Event → Lined → Type 0
+ShowsBy c m e (Done (Does n out touched b)) = Shows c m n e out
+ShowsBy c m e (Done (Refuses r)) = Unit {0}
+ShowsBy c m e (Done (Ticks s k)) = Unit {0}
+ShowsBy c m e (Done operator.Ends) = Unit {0}
+ShowsBy c m e (Peeks s) = Unit {0}
+
+-- at most so many bytes wait as input of console c
+abbrev pub Few : ℕ → Machine → Type 0
+Few c m = length (m.consoles c).input ≤ most_waiting
+
+-- a line that leaves the consoles, and shows no byte of them
+shows_still : (c : ℕ) (m n : Machine) (e : Event) (out : List Line) → Few c m → n.consoles ≡ m.consoles → typed_by c m e ≡ []
+    → flat_map (drained_by c) out ≡ [] → Shows c m n e out
+shows_still c m n e out few is none quiet = record {
+  input = ap (λ l. (m.consoles c).input ++ l) none ∙ append-nil (m.consoles c).input ∙ ap (λ (f : ℕ → Console). (f c).input) (sym is);
+  output = ap (λ (f : ℕ → Console). (f c).output) (sym is) ∙ ap (λ l. l ++ (n.consoles c).output) (sym quiet);
+  few = subst (λ (f : ℕ → Console). length (f c).input ≤ most_waiting) (sym is) few;
+}
+
+-- a result in which the consoles are as they were
+abbrev SameBy : Machine → Result Machine Reason → Type 0
+SameBy m (Ok n) = n.consoles ≡ m.consoles
+SameBy m (Err r) = Unit {0}
+
+core_same : (m : Machine) (s : ℕ) (q : Whole) (r : Result Core Reason) → SameBy m (with_core m s q r)
+core_same m s q (Ok d) = refl
+core_same m s q (Err r) = tt
+
+registers_same : (m : Machine) (s : ℕ) (f : Job → Job) → SameBy m (on_registers m s f)
+unfolding on_registers
+registers_same m s f = go (m.jobs s)
+  where
+    go : (o : Option Whole) → SameBy m (on_job m s (with_registers m s f) o)
+    go (Some q) = refl
+    go None = tt
+
+deposited_same : (m : Machine) (s a w : ℕ) → SameBy m (deposited m s a w)
+unfolding deposited
+deposited_same m s a w = go (m.jobs s)
+  where
+    go : (o : Option Whole) → SameBy m (on_job m s (λ q. with_core m s q (deposited_in q.core a w (can_store q.core a) (is_some (word_at q.core a)))) o)
+    go (Some q) = core_same m s q (deposited_in q.core a w (can_store q.core a) (is_some (word_at q.core a)))
+    go None = tt
+
+word_same : (m : Machine) (s a w : ℕ) → SameBy m (word_loaded m s a w)
+unfolding word_loaded
+word_same m s a w = go (m.jobs s)
+  where
+    go : (o : Option Whole) → SameBy m (word_loaded_of m s a w o)
+    go (Some q) = core_same m s q (stored (mapped m) q.core a w)
+    go None = tt
+
+same_further : (m n : Machine) (r : Result Machine Reason) → n.consoles ≡ m.consoles → SameBy n r → SameBy m r
+same_further m n (Ok l) a b = b ∙ a
+same_further m n (Err r) a b = tt
+
+words_same : (m : Machine) (s a : ℕ) (ws : List ℕ) → SameBy m (words_loaded m s a ws)
+words_same m s a [] = refl
+words_same m s a (w ∷ ws) = go (word_loaded m s a w) (word_same m s a w) (λ n. words_same n s (a + 1) ws)
+  where
+    go : (r : Result Machine Reason) → SameBy m r → ((n : Machine) → SameBy n (words_loaded n s (a + 1) ws)) → SameBy m (and_then r (λ n. words_loaded n s (a + 1) ws))
+    go (Ok n) first h = same_further m n (words_loaded n s (a + 1) ws) first (h n)
+    go (Err r) first h = tt
+
+-- what a result comes to
+disturbs_shows : (c : ℕ) (m : Machine) (e : Event) (s : ℕ) (b : Block) (r : Result Machine Reason) → Few c m → typed_by c m e ≡ [] → SameBy m r
+    → ShowsBy c m e (Done (disturbs s b r))
+disturbs_shows c m e s b (Ok n) few none h = shows_still c m n e [] few h none refl
+disturbs_shows c m e s b (Err r) few none h = tt
+
+exam_shows : (c : ℕ) (m : Machine) (b : Block) (s a k : ℕ) (r : Result (List ℕ) Reason) → Few c m → ShowsBy c m (events.Exam s a k) (Done (by_exam m b s a r))
+exam_shows c m b s a k (Ok ws) few = shows_still c m m (events.Exam s a k) (printed.Words s a ws ∷ []) few refl refl refl
+exam_shows c m b s a k (Err r) few = tt
+
+state_shows : (c : ℕ) (m : Machine) (b : Block) (s : ℕ) (r : Result JobShow Reason) → Few c m → ShowsBy c m (events.State s) (Done (by_state m b s r))
+state_shows c m b s (Ok show) few = shows_still c m m (events.State s) (printed.State s show ∷ []) few refl refl refl
+state_shows c m b s (Err r) few = tt
+
+peek_shows : (c : ℕ) (m : Machine) (s : ℕ) (o : Option Whole) → ShowsBy c m (events.Peek s) (peeked_at s o)
+peek_shows c m s (Some q) = tt
+peek_shows c m s None = tt
+
+load_shows : (c : ℕ) (m : Machine) (u j : ℕ) (console o : Option ℕ) → Few c m → ShowsBy c m (events.Load u j console) (Done (by_load (loaded_in m u j console o)))
+load_shows c m u j (Some d) (Some s) few = shows_still c m _ (events.Load u j (Some d)) (printed.Loaded s ∷ []) few refl refl refl
+load_shows c m u j None (Some s) few = shows_still c m _ (events.Load u j None) (printed.Loaded s ∷ []) few refl refl refl
+load_shows c m u j console None few = tt
+
+clock_shows : (c : ℕ) (m : Machine) (b : Block) (n : ℕ) (fits : Bool) → Few c m → ShowsBy c m (events.Clock n) (Done (quietly b (clocked_if m n fits)))
+clock_shows c m b n true few = shows_still c m _ (events.Clock n) [] few refl refl refl
+clock_shows c m b n false few = tt
+
+-- TYPE: what has room
+fills : (n : ℕ) (xs ys : List ℕ) → length xs ≤ n → xs ++ take (n - length xs) ys ≡ take n (xs ++ ys)
+fills n xs ys h =
+    let all : length xs + (n - length xs) ≡ n = omega arith in
+    sym (take-append-add xs ys (n - length xs)) ∙ ap (λ k. take k (xs ++ ys)) all
+
+most_taken : (n : ℕ) (xs : List ℕ) → length (take n xs) ≤ n
+most_taken n xs = let is : length (take n xs) ≡ min n (length xs) = length-take n xs in omega arith
+
+typed_here : (c : ℕ) (m : Machine) (bytes : List ℕ) → Few c m
+    → Shows c m (typed c bytes m) (events.TypeIn c (record { items = bytes })) (printed.Typed c (dropped (m.consoles c) bytes) ∷ [])
+typed_here c m bytes few = record {
+  input = rw (eq-eqb c c refl) (fills most_waiting (m.consoles c).input bytes few);
+  output = rw (eq-eqb c c refl) refl;
+  few = rw (eq-eqb c c refl) (most_taken most_waiting ((m.consoles c).input ++ bytes));
+}
+
+typed_shows : (c d : ℕ) (m : Machine) (bytes : List ℕ) → Few c m
+    → Shows c m (typed d bytes m) (events.TypeIn d (record { items = bytes })) (printed.Typed d (dropped (m.consoles d) bytes) ∷ [])
+typed_shows c d m bytes few = elim (cases_eq d c) [
+  | inl at ↦ rw at (typed_here c m bytes few)
+  | inr ne ↦ record {
+    input = rw (ne_eqb d c ne, ne_eqb c d (λ e. ne (sym e))) (append-nil (m.consoles c).input);
+    output = rw (ne_eqb c d (λ e. ne (sym e))) refl;
+    few = rw (ne_eqb c d (λ e. ne (sym e))) few;
+  }
+]
+
+drained_here : (c : ℕ) (m : Machine) (n : ℕ) → Few c m
+    → Shows c m (drained c n m) (events.Drain c n) (printed.Drained c (take n (m.consoles c).output) ∷ [])
+drained_here c m n few = record {
+  input = rw (eq-eqb c c refl) (append-nil (m.consoles c).input);
+  output = rw (eq-eqb c c refl)
+      (sym (ap (λ l. l ++ drop n (m.consoles c).output) (append-nil (take n (m.consoles c).output)) ∙ take-append-drop n (m.consoles c).output));
+  few = rw (eq-eqb c c refl) few;
+}
+
+drained_shows : (c d : ℕ) (m : Machine) (n : ℕ) → Few c m
+    → Shows c m (drained d n m) (events.Drain d n) (printed.Drained d (take n (m.consoles d).output) ∷ [])
+drained_shows c d m n few = elim (cases_eq d c) [
+  | inl at ↦ rw at (drained_here c m n few)
+  | inr ne ↦ record {
+    input = rw (ne_eqb c d (λ e. ne (sym e))) (append-nil (m.consoles c).input);
+    output = rw (ne_eqb d c ne, ne_eqb c d (λ e. ne (sym e))) refl;
+    few = rw (ne_eqb c d (λ e. ne (sym e))) few;
+  }
+]
+
+-- each line
+pub line_shows : (c : ℕ) (m : Machine) (b : Block) (e : Event) → Few c m → ShowsBy c m e (lined m b e)
+unfolding lined operate operator.operate loaded clocked
+line_shows c m b (events.Load u j console) few = load_shows c m u j console (least_free m.jobs) few
+line_shows c m b (events.Words a words) few =
+    disturbs_shows c m (events.Words a words) b.slot b (words_loaded m b.slot a words.items) few refl (words_same m b.slot a words.items)
+line_shows c m b (events.Go a) few = disturbs_shows c m (events.Go a) b.slot b (on_registers m b.slot (started a)) few refl (registers_same m b.slot (started a))
+line_shows c m b (events.Int s x y) few = disturbs_shows c m (events.Int s x y) s b (on_registers m s (interrupted x y)) few refl (registers_same m s (interrupted x y))
+line_shows c m b (events.Stop s) few = disturbs_shows c m (events.Stop s) s b (on_registers m s stopped) few refl (registers_same m s stopped)
+line_shows c m b (events.Cont s) few = disturbs_shows c m (events.Cont s) s b (on_registers m s continued) few refl (registers_same m s continued)
+line_shows c m b (events.Deposit s a x) few = disturbs_shows c m (events.Deposit s a x) s b (deposited m s a x) few refl (deposited_same m s a x)
+line_shows c m b (events.Exam s a n) few = exam_shows c m b s a n (examined m s a n) few
+line_shows c m b (events.State s) few = state_shows c m b s (state_shown m s) few
+line_shows c m b (events.Clock n) few = clock_shows c m b n (nat_lt (m.clock + n) clock_end) few
+line_shows c m b (events.Peek s) few = peek_shows c m s (m.jobs s)
+line_shows c m b (events.Tick s n) few = tt
+line_shows c m b events.Nothing few = shows_still c m m events.Nothing [] few refl refl refl
+line_shows c m b events.End few = tt
+line_shows c m b (events.File d x y) few = tt
+line_shows c m b (events.Append words) few = tt
+line_shows c m b events.EndFile few = tt
+line_shows c m b (events.TypeIn d bytes) few = typed_shows c d m bytes.items few
+line_shows c m b (events.Drain d n) few = drained_shows c d m n few
+line_shows c m b (events.Dir d) few = tt
+line_shows c m b (events.Show d x y) few = tt
