@@ -2,9 +2,13 @@
 
 ghost use Rattle.std.specs.Prelude.{◌≤◌};
 
+mod consoles;
+
 use super::{Status, its};
+use consoles::{CONSOLES, ECHO, TYPED};
 use its_io::{MemSink, MemSource, SafeSink, SafeSource};
 use std::alloc::Global;
+use std::process::Abort;
 use std::test::Fail;
 
 const FIRST: &str =
@@ -592,19 +596,63 @@ fn line(session: &mut String, text: &str) -> Result<(), Fail> {
     Ok(())
 }
 
-/// A session is refused exactly where its transcript shows it.
-#[test]
-fn calls(rt: HostRuntime) -> Result<(), Fail> {
-    let alloc = rt.alloc();
+/// Each session has its transcript, and is refused exactly where that shows it.
+fn compare(alloc: Global, rt: &impl Abort, rows: &str) -> Result<(), Fail> {
     let words = run_word(alloc)?;
-    for row in CALLS.split('#') {
-        let (session, transcript) = row.split_once("=\n").expect(&rt, "a transcript");
+    for row in rows.split('#') {
+        let (session, transcript) = row.split_once("=\n").expect(rt, "a transcript");
         let refused = transcript.contains('?');
         let (got, wrote) = run(alloc, session.as_bytes(), 512, &words)?;
         assert_eq!(rt; wrote.as_slice(), transcript.as_bytes(), "in {session}");
         assert_eq!(rt; got == Status::Refused, refused, "in {session}");
         assert_eq!(rt; got == Status::Done, !refused, "in {session}");
     }
+    Ok(())
+}
+
+#[test]
+fn calls(rt: HostRuntime) -> Result<(), Fail> {
+    compare(rt.alloc(), &rt, CALLS)
+}
+
+#[test]
+fn calls_on_consoles(rt: HostRuntime) -> Result<(), Fail> {
+    compare(rt.alloc(), &rt, CONSOLES)
+}
+
+/// The letters of so many bytes that an echo takes and puts out, from its input call to the next.
+fn echoed(text: &mut String, bytes: u32) -> Result<(), Fail> {
+    for _ in 0..bytes {
+        text.push_str(" 1* 6. 1* 1. 1* 4.")?;
+    }
+    Ok(())
+}
+
+/// An echo of 64 bytes, which fill the input and then the output. A byte more that is typed is dropped; one that is
+/// typed later is taken, and put out once a byte is drained.
+#[test]
+fn full_lists(rt: HostRuntime) -> Result<(), Fail> {
+    let alloc = rt.alloc();
+    let words = run_word(alloc)?;
+    let mut session = String::new(alloc);
+    let mut transcript = String::new(alloc);
+    session.push_str(ECHO)?;
+    line(&mut session, TYPED)?;
+    line(&mut session, TYPED)?;
+    session.push_str("TYPE 0 102\nTICK 0 1000\nTICK 0 620\nTYPE 0 103\nTICK 0 10\n")?;
+    session.push_str("DRAIN 0 1\nTICK 0 1\nDRAIN 0 100\n")?;
+    transcript.push_str("J 0\nY 0 0\nY 0 0\nY 0 1\nT 0 4. 1* 5. 1* 5.")?;
+    echoed(&mut transcript, 35)?;
+    transcript.push_str(" 1* 5.\nT 0 1. 1* 1. 1* 4.")?;
+    echoed(&mut transcript, 28)?;
+    transcript.push_str("\nY 0 0\nT 0 1* 6. 1w\nD 0 101\nT 0 1*\nD 0")?;
+    for _ in 0..63u32 {
+        transcript.push_str(" 101")?;
+    }
+    line(&mut transcript, " 103")?;
+    let (status, wrote) = run(alloc, session.as_bytes(), 512, &words)?;
+    assert_eq!(rt; wrote.as_slice(), transcript.as_bytes());
+    assert_eq!(rt; status, Status::Done);
     Ok(())
 }
 
