@@ -44,36 +44,49 @@ fn first(job: Option<&Job>) -> Option<Channel> {
 }
 
 /// A chain, two branches and a leaf: what is below goes too, all else stays, and channels on what is gone
-/// are closed.
+/// are closed. Each of the first four consoles is held by the job with its number: those that are gone leave it to
+/// the superior of the root, or to nobody.
 #[test]
 #[tactic(auto, using(crate::proofs::RemovalLaws::idle_sound, crate::proofs::RemovalLaws::idle_frames, crate::proofs::RemovalLaws::idle_page))]
 fn trees(rt: HostRuntime) -> Result<(), Fail> {
     let open = Some(on(1));
     let shut = Some(Channel::Closed);
-    for (superiors, root, left) in [
+    for (superiors, root, left, holders) in [
         (
             [None, Some(0), Some(1), Some(2)],
             1,
             [shut, None, None, None],
+            [Some(0), Some(0), Some(0), Some(0)],
         ),
         (
             [None, Some(0), Some(0), Some(1)],
             1,
             [shut, None, shut, None],
+            [Some(0), Some(0), Some(2), Some(0)],
         ),
         (
             [None, Some(0), Some(1), Some(0)],
             2,
             [open, open, None, open],
+            [Some(0), Some(1), Some(1), Some(3)],
         ),
-        ([None, Some(0), Some(1), None], 0, [None, None, None, shut]),
+        (
+            [None, Some(0), Some(1), None],
+            0,
+            [None, None, None, shut],
+            [None, None, None, Some(3)],
+        ),
     ] {
         let mut w = World::open(rt.alloc())?;
         w.jobs = jobs(&rt, rt.alloc(), superiors, 1)?;
+        w.holders = [Some(0), Some(1), Some(2), Some(3), None, None, None, None];
         assert!(rt; w.jobs.job(root).is_some());
         remove_tree(&mut w, root);
         for (slot, want) in left.into_iter().enumerate() {
             assert_eq!(rt; first(w.jobs.job(slot as u8)), want, "{slot} of {root}");
+        }
+        for (console, want) in holders.into_iter().enumerate() {
+            assert_eq!(rt; w.holders.get(console), Some(&want), "{console} of {root}");
         }
     }
     Ok(())
