@@ -1,3 +1,4 @@
 pub mod BareLaws
 pub mod ReachLaws
 pub mod RawLaws
+pub mod ChannelLaws

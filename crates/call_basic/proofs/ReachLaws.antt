@@ -24,8 +24,8 @@ pub reaches : (q : Whole) (a : Ask) (c : Chan) (s : ℕ) → a.fail ≡ 0 → ca
     → channel_at q.channels (input a 0) ≡ c → inferior_on c ≡ Some s → target q a ≡ Some s
 reaches q a c s f n o e i = target_usrvar q a f n ∙ rw (o, e) i
 
-pub value_some : (w : World) (s : ℕ) (x : Variable) (j : Job) → job_at w.jobs s ≡ Some j → variable_of s (raw_with w s j) x ≡ value_of_other s x (raw_at w.core w.jobs s)
-value_some w s x j h = ap (λ o. value_of_other s x (raw_of (core_at w.core s) (superior_at w.jobs s) o)) (sym h)
+pub value_some : (w : World) (s : ℕ) (x : Variable) (j : Job) → job_at w.jobs s ≡ Some j → variable_of s (raw_with w s j) x ≡ value_of_other s x (raw_at w.files w.core w.jobs s)
+value_some w s x j h = ap (λ o. value_of_other s x (raw_of w.files (core_at w.core s) (superior_at w.jobs s) o)) (sym h)
 
-pub value_none : (w : World) (s : ℕ) (x : Variable) → job_at w.jobs s ≡ None → 0 ≡ value_of_other s x (raw_at w.core w.jobs s)
-value_none w s x h = ap (λ o. value_of_other s x (raw_of (core_at w.core s) (superior_at w.jobs s) o)) (sym h)
+pub value_none : (w : World) (s : ℕ) (x : Variable) → job_at w.jobs s ≡ None → 0 ≡ value_of_other s x (raw_at w.files w.core w.jobs s)
+value_none w s x h = ap (λ o. value_of_other s x (raw_of w.files (core_at w.core s) (superior_at w.jobs s) o)) (sym h)

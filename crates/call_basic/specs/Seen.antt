@@ -1,6 +1,7 @@
 -- What a call of a slot's job looks at in a world.
-use Rattle.std.specs.Prelude.{ℕ, Bool, true, false, slice_index_or}
+use Rattle.std.specs.Prelude.{if◌then◌else◌, ℕ, Bool, true, false, nat_lt, slice_index_or}
 use Rattle.its_word.specs.declared.calls.Ask.{Ask}
+use Rattle.its_word.specs.declared.jobs.Channel.{Channel}
 use Rattle.its_word.specs.declared.jobs.Channel.TheVariants.{Closed}
 use Rattle.its_word.specs.declared.jobs.Job.{Job}
 use Rattle.its_core.specs.Cores.{core_at}
@@ -8,18 +9,18 @@ use Rattle.its_jobs.specs.Table.{superior_at}
 use Rattle.its_frame.specs.declared.decision.Decision.{Decision}
 use Rattle.its_frame.specs.declared.decision.Decision.TheVariants.{Waits}
 use Rattle.its_plain.specs.Decide.{target}
-use Rattle.its_plain.specs.Machine.{Chan, Whole}
+use Rattle.its_plain.specs.Machine.{Whole}
 use Rattle.its_plain.specs.View.{View, view}
-use Rattle.its_world.specs.World.{chan_of, bare, state_of}
+use Rattle.its_world.specs.World.{bare, chans_of, state_of}
 use Rattle.its_world.specs.declared.world.World.{World}
 
--- what the channels of some registers are on
-abbrev pub channels_of : Job → ℕ → Chan
-channels_of j n = chan_of (slice_index_or j.channels n Closed)
+-- the channel of some registers under a number; above 17 (octal) there is none that is open
+abbrev pub channel_under : Job → ℕ → Channel
+channel_under j n = if nat_lt n 16 then slice_index_or j.channels n Closed else Closed
 
 -- the raw job of a slot with these registers
 abbrev pub raw_with : World → ℕ → Job → Whole
-raw_with w s j = record { core = core_at w.core s; job = bare j; superior = superior_at w.jobs s; channels = channels_of j }
+raw_with w s j = record { core = core_at w.core s; job = bare j; superior = superior_at w.jobs s; channels = chans_of w.files j }
 
 -- what its call looks at
 abbrev pub seen_by : World → ℕ → Job → Ask → View

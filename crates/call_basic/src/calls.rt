@@ -25,7 +25,7 @@ use its_world::World;
 pub fn target_of(w: &World, slot: u8, ask: &Ask) -> Option<u8>
     requires slot { slot < slots }
     requires job { is_some (job_at w.now.jobs slot) ≡ true }
-    ensures { IfSome (raw_at w.now.core w.now.jobs slot) (λ q. result ≡ target q ask.now) }
+    ensures { IfSome (raw_at w.now.files w.now.core w.now.jobs slot) (λ q. result ≡ target q ask.now) }
 {
     match w.jobs.job(slot) {
         Some(job) => target(w, slot, job, ask),
@@ -48,6 +48,7 @@ fn target(w: &World, slot: u8, job: &Job, ask: &Ask) -> Option<u8>
 }
 
 /// The slot of the job that a job argument names, other than oneself.
+#[tactic(auto, using(crate::proofs::ChannelLaws::under))]
 fn reached(w: &World, slot: u8, job: &Job, party: Word) -> Option<u8>
     ensures { result ≡ reached_by (raw_with w.now slot job.now) party }
 {

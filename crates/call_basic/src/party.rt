@@ -1,8 +1,7 @@
 //! Whom a job argument names.
 ghost use Rattle.std.specs.Prelude.{◌≡◌};
-ghost use Rattle.its_plain.specs.CallBasic.{channel_at, is_oneself};
-ghost use Rattle.its_world.specs.World.{chan_of};
-ghost use Rattle.call_basic.specs.Seen.{channels_of};
+ghost use Rattle.its_plain.specs.CallBasic.{is_oneself};
+ghost use Rattle.call_basic.specs.Seen.{channel_under};
 
 use its_word::{Channel, Job, Word};
 
@@ -15,7 +14,7 @@ pub fn is_oneself(party: Word) -> bool
 
 /// The channel of a number; above 17 (octal) there is none that is open.
 pub fn channel(job: &Job, number: Word) -> Channel
-    ensures { chan_of result ≡ channel_at (channels_of job.now) number }
+    ensures { result ≡ channel_under job.now number }
 {
     if number.value() < 16 {
         job.channels[number.value() as usize]

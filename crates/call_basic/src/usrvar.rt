@@ -23,7 +23,7 @@ use its_world::World;
 /// USRVAR job, name, optional new value: the output gets the value before, and then the new value is set.
 /// Errors 4 where the channel is closed, 5 where it is on no job, 22 where no variable has the name, 5
 /// where the channel has no leave to write, and 22 where the variable cannot be set so.
-#[tactic(auto, using(crate::proofs::ReachLaws::reaches), unfolding(its_plain::specs::CallBasic::usrvar, its_plain::specs::View::view, its_world::specs::World::state_of))]
+#[tactic(auto, using(crate::proofs::ReachLaws::reaches, crate::proofs::ChannelLaws::under), unfolding(its_plain::specs::CallBasic::usrvar, its_plain::specs::View::view, its_world::specs::World::state_of))]
 pub(crate) fn usrvar(w: &World, slot: u8, job: &Job, ask: &Ask) -> Decision
     requires slot { slot < slots }
     requires fail { ask.now.fail ≡ 0 }
@@ -42,9 +42,9 @@ pub(crate) fn usrvar(w: &World, slot: u8, job: &Job, ask: &Ask) -> Decision
         } => other_variable(w, slot, job, ask, inferior, write),
         Channel::TtyIn => fails(job, ask, 0o5),
         Channel::TtyOut => fails(job, ask, 0o5),
+        Channel::Reading { .. } => fails(job, ask, 0o5),
+        Channel::Writing { .. } => fails(job, ask, 0o5),
         Channel::Closed => fails(job, ask, 0o4),
-        Channel::Reading { .. } => fails(job, ask, 0o4),
-        Channel::Writing { .. } => fails(job, ask, 0o4),
     }
 }
 
@@ -106,7 +106,7 @@ fn other_variable(w: &World, slot: u8, job: &Job, ask: &Ask, inferior: u8, write
 /// The value of a variable of an inferior.
 #[tactic(auto, using(crate::proofs::ReachLaws::value_some, crate::proofs::ReachLaws::value_none))]
 fn value_of_other(w: &World, inferior: u8, variable: Variable) -> Word
-    ensures { result ≡ value_of_other inferior variable (raw_at w.now.core w.now.jobs inferior) }
+    ensures { result ≡ value_of_other inferior variable (raw_at w.now.files w.now.core w.now.jobs inferior) }
 {
     match w.jobs.job(inferior) {
         Some(job) => variable_of(w, inferior, job, variable),

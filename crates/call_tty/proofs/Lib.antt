@@ -1,3 +1,3 @@
 pub mod HoldLaws
 pub mod SizeLaws
-pub mod RawLaws
+pub mod ChannelLaws

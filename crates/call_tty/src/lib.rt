@@ -11,4 +11,6 @@ mod tests;
 mod transfer;
 mod waiting;
 
-pub use calls::{decide, ready};
+pub use calls::decided;
+pub use open::{control, is_free};
+pub use transfer::{bar_of_store, iot_ends, moves, next_pointer, stopped};

@@ -1,9 +1,8 @@
-ghost use Rattle.std.specs.Prelude.{◌≡◌, ◌<◌, ◌&&◌, ◌∷◌, [], nat_lt, not, unwrap_or};
+ghost use Rattle.std.specs.Prelude.{◌≡◌, ◌<◌, ◌∷◌, [], not, unwrap_or};
 ghost use Rattle.its_word.specs.Limits.{slots};
-ghost use Rattle.its_plain.specs.CallBasic.{channel_at};
-ghost use Rattle.its_plain.specs.CallTty.{closes, is_shut, opens, opens_on};
-ghost use Rattle.its_world.specs.World.{chan_of};
-ghost use Rattle.call_basic.specs.Seen.{channels_of, seen_by};
+ghost use Rattle.its_plain.specs.CallTty.{closes, opens, opens_on};
+ghost use Rattle.call_basic.specs.Seen.{seen_by};
+ghost use Rattle.call_tty.specs.Channels.{is_closed, is_free};
 
 use arrayvec::ArrayVec;
 use call_basic::{channel, fails, finishes_with, input};
@@ -14,9 +13,9 @@ use its_world::World;
 /// The device of consoles, in SIXBIT.
 const TTY: u64 = 0o646471000000;
 
-/// OPEN channel, device: input, or output with control 1. Errors 4, 5, 22, and 5 where the job has no
-/// console. Only consoles can be opened yet.
-#[tactic(auto, unfolding(its_plain::specs::CallTty::opens, its_plain::specs::View::view, its_world::specs::World::state_of))]
+/// OPEN channel, device: input, or output with control 1. Errors 4, 5 where the device is not TTY, 22, and 5 where the
+/// job has no console.
+#[tactic(auto, using(crate::proofs::ChannelLaws::free), unfolding(its_plain::specs::CallTty::opens, its_plain::specs::View::view, its_world::specs::World::state_of))]
 pub(crate) fn open(w: &World, slot: u8, job: &Job, ask: &Ask) -> Decision
     requires { slot < slots }
     ensures { result ≡ opens (seen_by w.now slot job.now ask.now) ask.now }
@@ -43,7 +42,7 @@ pub(crate) fn open(w: &World, slot: u8, job: &Job, ask: &Ask) -> Decision
 }
 
 /// The control argument; 0 where there is none.
-fn control(ask: &Ask) -> u64
+pub fn control(ask: &Ask) -> u64
     ensures { result ≡ unwrap_or ask.now.control 0 }
 {
     match ask.control {
@@ -64,20 +63,20 @@ fn opened(control: u64) -> Opened
 }
 
 /// Whether a number is that of a closed channel.
-fn is_free(job: &Job, number: Word) -> bool
-    ensures { result ≡ (nat_lt number 16 && is_shut (channel_at (channels_of job.now) number)) }
+pub fn is_free(job: &Job, number: Word) -> bool
+    ensures { result ≡ is_free job.now number }
 {
     number.value() < 16 && is_closed(channel(job, number))
 }
 
-/// Whether a channel is closed. None can be on a file or a draft yet.
+/// Whether a channel is closed.
 fn is_closed(channel: Channel) -> bool
-    ensures { result ≡ is_shut (chan_of channel) }
+    ensures { result ≡ is_closed channel }
 {
     match channel {
         Channel::Closed => true,
-        Channel::Reading { .. } => true,
-        Channel::Writing { .. } => true,
+        Channel::Reading { .. } => false,
+        Channel::Writing { .. } => false,
         Channel::TtyIn => false,
         Channel::TtyOut => false,
         Channel::Usr { .. } => false,
@@ -85,7 +84,7 @@ fn is_closed(channel: Channel) -> bool
 }
 
 /// CLOSE channel. Error 4.
-#[tactic(auto, unfolding(its_plain::specs::CallTty::closes, its_plain::specs::View::view, its_world::specs::World::state_of))]
+#[tactic(auto, using(crate::proofs::ChannelLaws::closed), unfolding(its_plain::specs::CallTty::closes, its_plain::specs::View::view, its_world::specs::World::state_of))]
 pub(crate) fn close(w: &World, slot: u8, job: &Job, ask: &Ask) -> Decision
     requires { slot < slots }
     ensures { result ≡ closes (seen_by w.now slot job.now ask.now) ask.now }

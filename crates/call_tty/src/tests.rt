@@ -4,7 +4,7 @@
 ghost use Rattle.std.specs.Prelude.{◌≡◌, None, OnOk};
 ghost use Rattle.its_core.specs.Cores.{reserved_at};
 
-use super::{decide, ready};
+use super::decided;
 use arrayvec::ArrayVec;
 use its_core::Core;
 use its_frame::{Change, Decision, Exit, Held, Opened, Store, Wait};
@@ -364,15 +364,10 @@ fn change(kind: &str, number: u8) -> Option<Change> {
     }
 }
 
-/// The call of slot 1 comes to what is wanted, and is ready unless it waits.
+/// The call of slot 1 comes to what is wanted.
 fn comes_to(rt: &impl Abort, w: &World, ask: &Ask, wanted: &Decision, row: &str) {
-    assert!(rt; w.jobs.job(1).is_some());
-    let is_ready = match wanted {
-        Decision::Waits(_) => false,
-        _ => true,
-    };
-    assert_eq!(rt; ready(w, 1, ask), is_ready, "{row}");
-    assert!(rt; decide(w, 1, ask) == *wanted, "{row}");
+    let job = w.jobs.job(1).expect(rt, "a job");
+    assert!(rt; decided(w, 1, job, ask) == *wanted, "{row}");
 }
 
 /// Makes the calls of rows.

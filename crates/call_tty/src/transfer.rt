@@ -1,12 +1,13 @@
-ghost use Rattle.std.specs.Prelude.{◌≡◌, ◌<◌, ◌∷◌, ◌-◌, [], true, unwrap_or};
-ghost use Rattle.its_word.specs.Byte.{has_size};
+ghost use Rattle.std.specs.Prelude.{◌≡◌, ◌==◌, ◌<◌, ◌∷◌, ◌-◌, [], true, unwrap_or};
+ghost use Rattle.std.specs.Option.{option_to_list};
+ghost use Rattle.its_word.specs.Byte.{has_size, size};
 ghost use Rattle.its_frame.specs.declared.decision.Decision.TheVariants.{Ends};
 ghost use Rattle.its_plain.specs.Own.{advanced, exit_of};
 ghost use Rattle.its_plain.specs.Tests.{goes};
 ghost use Rattle.its_word.specs.Limits.{slots};
 ghost use Rattle.its_core.specs.Cores.{core_at};
 ghost use Rattle.its_plain.specs.Arguments.{input};
-ghost use Rattle.its_plain.specs.CallTty.{iot, iot_in, iot_out, is_indexed, next_pointer, shown_byte, siot, siot_in, siot_out, siot_tests};
+ghost use Rattle.its_plain.specs.CallTty.{iot, iot_in, iot_out, is_indexed, next_pointer, shown_byte, siot, siot_in, siot_out, siot_tests, word_bits};
 ghost use Rattle.call_basic.specs.Seen.{seen_by};
 ghost use Rattle.call_tty.specs.Waiting.{bar_of, first_of};
 
@@ -24,12 +25,19 @@ use its_world::World;
 /// Bits 13 to 17 of a word are the low five bits of its left half: I and X of a byte pointer.
 const INDEXED: u32 = 0o40;
 
+/// S of a byte pointer, bits 6 to 11, is in its left half from this bit on; it has 6 bits; and that of a word.
+const SIZE: u32 = 0o100;
+
+const SIZES: u32 = 0o100;
+
+const WORD_BITS: u32 = 36;
+
 /// The bits of a byte that a console shows.
 const SHOWN: u64 = 0o177;
 
 /// `.IOT`: one byte between the console and the word at E, right-justified. IOC where the channel is on no
 /// console; MPV or WRO by the word.
-#[tactic(auto, unfolding(its_plain::specs::CallTty::iot, its_plain::specs::View::view, its_world::specs::World::state_of))]
+#[tactic(auto, using(call_basic::proofs::ChannelLaws::under), unfolding(its_plain::specs::CallTty::iot, its_plain::specs::View::view, its_world::specs::World::state_of))]
 pub(crate) fn iot(w: &World, slot: u8, job: &Job, ask: &Ask) -> Decision
     requires { slot < slots }
     ensures { result ≡ iot (seen_by w.now slot job.now ask.now) ask.now }
@@ -60,7 +68,7 @@ fn iot_in(w: &World, slot: u8, job: &Job, ask: &Ask, e: u32) -> Decision
         at: e,
         word: Word::new(u64::from(first_typed(w, console))),
     });
-    iot_ends(job, Change::Take { console }, stores)
+    iot_ends(job, Some(Change::Take { console }), stores)
 }
 
 /// `.IOT` to a console.
@@ -77,15 +85,17 @@ fn iot_out(w: &World, slot: u8, job: &Job, ask: &Ask, e: u32) -> Decision
         return Decision::Waits(Wait::Output(console));
     }
     let byte = shown(word);
-    iot_ends(job, Change::Put { console, byte }, ArrayVec::new())
+    iot_ends(job, Some(Change::Put { console, byte }), ArrayVec::new())
 }
 
-/// `.IOT` is done: one thing changes outside its job's words and registers, and PC is past it.
-fn iot_ends(job: &Job, change: Change, stores: ArrayVec<Store, 2>) -> Decision
-    ensures { result ≡ Ends (record { items = change ∷ [] }) stores (exit_of (advanced 1 job.now)) }
+/// `.IOT` is done: at most one thing changes outside its job's words and registers, and PC is past it.
+pub fn iot_ends(job: &Job, change: Option<Change>, stores: ArrayVec<Store, 2>) -> Decision
+    ensures { result ≡ Ends (record { items = option_to_list change }) stores (exit_of (advanced 1 job.now)) }
 {
     let mut changes = ArrayVec::new();
-    changes.push(change);
+    if let Some(change) = change {
+        changes.push(change);
+    }
     Decision::Ends {
         changes,
         stores,
@@ -101,7 +111,7 @@ fn shown(word: Word) -> u8
 }
 
 /// Why a word cannot be stored.
-fn bar_of_store(w: &World, slot: u8, at: u32) -> Option<Fault>
+pub fn bar_of_store(w: &World, slot: u8, at: u32) -> Option<Fault>
     requires { slot < slots }
     ensures { result ≡ bar_of (core_at w.now.core slot) at }
 {
@@ -116,32 +126,40 @@ fn bar_of_store(w: &World, slot: u8, at: u32) -> Option<Fault>
 
 /// SIOT channel, pointer, count: one byte between the console and the core; pointer and count become those of
 /// the rest.
-#[tactic(auto, using(crate::proofs::SizeLaws::next_sized), unfolding(its_plain::specs::CallTty::siot, its_plain::specs::View::view, its_world::specs::World::state_of))]
+#[tactic(auto, using(crate::proofs::SizeLaws::next_sized, call_basic::proofs::ChannelLaws::under), unfolding(its_plain::specs::CallTty::siot, its_plain::specs::View::view, its_world::specs::World::state_of))]
 pub(crate) fn siot(w: &World, slot: u8, job: &Job, ask: &Ask) -> Decision
     requires { slot < slots }
     ensures { result ≡ siot (seen_by w.now slot job.now ask.now) ask.now }
 {
     match channel(job, input(ask, 0)) {
         Channel::Closed => fails(job, ask, 0o4),
-        Channel::TtyIn => match stopped(w, slot, job, ask) {
+        Channel::TtyIn => match stopped(w, slot, job, ask, false, false) {
             Some(decision) => decision,
             None => siot_in(w, slot, job, ask),
         },
-        Channel::TtyOut => match stopped(w, slot, job, ask) {
+        Channel::TtyOut => match stopped(w, slot, job, ask, false, false) {
             Some(decision) => decision,
             None => siot_out(w, slot, job, ask),
         },
-        Channel::Reading { .. } => fails(job, ask, 0o4),
-        Channel::Writing { .. } => fails(job, ask, 0o4),
+        Channel::Reading { .. } => fails(job, ask, 0o5),
+        Channel::Writing { .. } => fails(job, ask, 0o5),
         Channel::Usr { .. } => fails(job, ask, 0o5),
     }
 }
 
-/// The first of SIOT's tests that holds: errors 17, WRO, 21, 22, the end with count 0, and error 20.
+/// The first of SIOT's tests that holds: errors 17, WRO, 21, 22, the end with count 0 or at the end of a file, and error
+/// 20. `words` tells that its device moves whole words alone.
 #[tactic(auto, unfolding(its_plain::specs::View::view, its_world::specs::World::state_of))]
-fn stopped(w: &World, slot: u8, job: &Job, ask: &Ask) -> Option<Decision>
+pub fn stopped(
+    w: &World,
+    slot: u8,
+    job: &Job,
+    ask: &Ask,
+    words: bool,
+    ended: bool,
+) -> Option<Decision>
     requires { slot < slots }
-    ensures { result ≡ first_of (siot_tests (seen_by w.now slot job.now ask.now) ask.now (input ask.now 1) (input ask.now 2)) }
+    ensures { result ≡ first_of (siot_tests (seen_by w.now slot job.now ask.now) ask.now (input ask.now 1) (input ask.now 2) words ended) }
 {
     let (pointer, count) = (input(ask, 1), input(ask, 2));
     let (p, k) = (place_of_input(ask, 1), place_of_input(ask, 2));
@@ -154,16 +172,26 @@ fn stopped(w: &World, slot: u8, job: &Job, ask: &Ask) -> Option<Decision>
     if !has_size(pointer) || is_indexed(pointer) {
         return Some(fails(job, ask, 0o21));
     }
+    if words && !is_word_sized(pointer) {
+        return Some(fails(job, ask, 0o21));
+    }
     if is_negative(count.value()) {
         return Some(fails(job, ask, 0o22));
     }
-    if count == Word::ZERO {
+    if count == Word::ZERO || ended {
         return Some(finishes(job, ArrayVec::new()));
     }
     if call_basic::in_footprint(next_pointer(pointer).right(), ask) {
         return Some(fails(job, ask, 0o20));
     }
     None
+}
+
+/// Whether the byte of a pointer has the 36 bits of a word.
+fn is_word_sized(pointer: Word) -> bool
+    ensures { result ≡ (size pointer == word_bits) }
+{
+    pointer.left() / SIZE % SIZES == WORD_BITS
 }
 
 /// Whether I or X of a byte pointer is not 0.
@@ -174,14 +202,14 @@ fn is_indexed(pointer: Word) -> bool
 }
 
 /// The pointer to the next byte.
-fn next_pointer(pointer: Word) -> Word
+pub fn next_pointer(pointer: Word) -> Word
     ensures { result ≡ next_pointer pointer }
 {
     increment(pointer).unwrap_or(Word::ZERO)
 }
 
 /// A byte is moved: one thing changes, a byte may be held, and pointer and count become those of the rest.
-fn moves(change: Change, held: Option<Held>, next: Word, count: Word) -> Decision
+pub fn moves(change: Change, held: Option<Held>, next: Word, count: Word) -> Decision
     ensures { result ≡ goes (change ∷ []) held (next ∷ (count - 1) ∷ []) }
 {
     let mut changes = ArrayVec::new();

@@ -1,15 +1,15 @@
 -- Words that are appended and given up, block by block.
-use Rattle.std.specs.Prelude.{◌≡◌, ◌≢◌, ◌<◌, ◌≤◌, ℕ, ◌+◌, ◌-◌, ◌*◌, ◌/◌, ◌%◌, Bool, true, false, ◌&&◌, eqb, Option, Some, None, List, [], ◌∷◌, ◌++◌, length, take, drop, sum_by, slice_get, slice_set, slice_index_or, refl}
+use Rattle.std.specs.Prelude.{◌≡◌, ◌≢◌, ◌<◌, ◌≤◌, ℕ, ◌+◌, ◌-◌, ◌*◌, ◌/◌, ◌%◌, Bool, true, false, not, eqb, Option, Some, None, is_some, List, [], ◌∷◌, ◌++◌, length, take, sum_by, slice_get, slice_set, slice_index_or, refl}
 use Rattle.std.proofs.Common.{sym, ◌∙◌, ap, subst, inl, inr, arith, length-set, length-append}
 use Rattle.std.proofs.lemmas.Bool.{cases_eq, cases_Bool, eqb-true, eqb-false, eq-eqb, ne_eqb, and_from, and_left, and_right}
 use Rattle.std.proofs.lemmas.List.{get_or-set_same, get_or-set_other, length_push, nil_from_length}
 use Rattle.std.proofs.lemmas.List.Sums.{sum_by-set}
 use Rattle.std.proofs.lemmas.Option.{slice_get-get_or, slice_get_past, slice_get_within, get_or_from_slice_get}
 use Rattle.its_links.specs.Lists.{Linked, list_at, times, first, rest}
-use Rattle.its_files.specs.Blocks.{Stored, text_at, free_blocks, blocks_of, blocks_for, blocks_used, needs_block, is_full, with_block, grown_by, appended, given_up, table, word_in, text_of, stored_in, PlaceIn, IsBlocks, numbers}
+use Rattle.its_files.specs.Blocks.{text_at, free_blocks, blocks_of, blocks_for, blocks_used, needs_block, is_full, with_block, grown_by, appended, given_up, table, word_in, text_of, stored_in, PlaceIn, IsBlocks, numbers}
 use Rattle.its_files.specs.declared.blocks.Place.{Place}
 use Rattle.its_files.proofs.ListLaws.{length-table, get_or-table, table_alike, table_set, table_more, get-table, sum_alike, push_last, push_before}
-use Rattle.its_files.proofs.ChainLaws.{apart, take_first, rest_first}
+use Rattle.its_files.proofs.ChainLaws.{apart, take_first, rest_first, none_first}
 
 -- what is read from a store
 pub text_is : (words : List ℕ) (ls : List (List ℕ)) (lengths : List ℕ) (id : ℕ) → id < 1280 → text_at (stored_in words ls lengths).texts id ≡ text_of words (blocks_of ls id) (slice_index_or lengths id 0)
@@ -317,6 +317,13 @@ module _ (words lengths lasts : List ℕ) (place : Option Place) (links : Linked
             (ne_eqb (blocks_used (stored_in words links.lists lengths)) 2048 (λ e. omega arith))
         | inr t ↦ and_left (needs_block (length (text_at (stored_in words links.lists lengths).texts id))) (eqb (blocks_used (stored_in words links.lists lengths)) 2048) (ap (λ k. needs_block k) m ∙ t)
       ]
+
+  -- where a block is needed, and the first free one is asked for
+  pub full_by : (n : ℕ) (f : Option ℕ) (r : Bool) → n ≡ slice_index_or lengths id 0 → needs_block n ≡ true → f ≡ first (free_blocks links.lists) → is_some f ≡ not r → r ≡ is_full (stored_in words links.lists lengths) id
+  full_by n None true n_is t e h = sym (full_is n n_is t (none_first (free_blocks links.lists) (sym e)))
+  full_by n None false n_is t e h = cc
+  full_by n (Some b) true n_is t e h = cc
+  full_by n (Some b) false n_is t e h = sym (room_is n b n_is (λ _. sym e))
 
   -- a word that is read
   pub word_is : (k n b w : ℕ) → n ≡ slice_index_or lengths id 0 → k < n → slice_get (blocks_of links.lists id) (k / 128) ≡ Some b → w ≡ slice_index_or words (128 * b + k % 128) 0 → Some w ≡ slice_get (text_at (stored_in words links.lists lengths).texts id) k

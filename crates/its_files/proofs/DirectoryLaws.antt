@@ -1,11 +1,11 @@
 -- What each change of the store does to the directory.
-use Rattle.std.specs.Prelude.{◌≡◌, ◌≢◌, ◌<◌, ◌≤◌, ℕ, zero, suc, ◌+◌, Bool, true, false, eqb, ◌⊎◌, Option, Some, None, is_some, Result, Ok, Err, OnOk, List, [], ◌∷◌, ◌++◌, length, map, slice_set, slice_index_or, refl}
-use Rattle.std.proofs.Common.{sym, ◌∙◌, ap, subst, inl, inr, arith, length-set}
+use Rattle.std.specs.Prelude.{◌≡◌, ◌≢◌, ◌<◌, ℕ, true, false, eqb, ◌⊎◌, Option, Some, None, is_some, Result, Ok, Err, OnOk, List, [], ◌∷◌, ◌++◌, length, map, slice_set, slice_index_or, refl}
+use Rattle.std.proofs.Common.{sym, ◌∙◌, ap, inl, inr, arith, length-set}
 use Rattle.std.proofs.lemmas.Bool.{cases_eq, cases_lt, both_ways, false_from_ne_true, eq-eqb, ne_eqb}
 use Rattle.std.proofs.lemmas.List.{map-append, get_or-set_same, get_or-set_other, get_or_past}
 use Rattle.its_word.specs.Only.{Only}
-use Rattle.its_word.specs.Directory.{File as PlainFile, same_names, without_names, kept_file, changed_if, with_changed, longer, named, closed}
-use Rattle.its_links.specs.Lists.{hit, count, without, kept_before}
+use Rattle.its_word.specs.Directory.{File as PlainFile, same_names, without_names, kept_file, with_changed, longer, named, closed}
+use Rattle.its_links.specs.Lists.{count, without}
 use Rattle.its_links.proofs.CountLaws.{hit_same, hit_other, count-append, count-without_same, count-without_other}
 use Rattle.its_files.specs.declared.entry.Entry.{Entry}
 use Rattle.its_files.specs.declared.entry.Entry.TheVariants.{File, Draft}
@@ -13,8 +13,8 @@ use Rattle.its_files.specs.declared.entry.Parts.{Parts}
 use Rattle.its_files.specs.declared.entry.Parts.TheVariants.{Replace, Link, Free}
 use Rattle.its_files.specs.declared.entry.Mark.{Mark}
 use Rattle.its_files.specs.Blocks.{Stored, text_at, given_up}
-use Rattle.its_files.specs.Files.{Store, entry_at, entry_in, is_file, is_draft, names_by, names_at, words_by, words_at, unlinked_old, with_file, with_draft, with_word, discarded, deleted, renamed, with_readers, marked_with, helped, marked_draft, unlinked, linked, freed, found, file_at, directory, plain_directory, readers_by, readers_at, file_names_by, file_names, draft_file_by, draft_file, is_marked, But, IsFiles}
-use Rattle.its_files.proofs.OrderLaws.{same_sym, same_both, same_refl, same_self}
+use Rattle.its_files.specs.Files.{Store, entry_at, entry_in, is_file, is_draft, names_by, names_at, words_by, words_at, unlinked_old, with_file, with_draft, with_word, discarded, deleted, renamed, with_readers, marked_with, helped, marked_draft, unlinked, linked, freed, found, file_at, directory, plain_directory, readers_by, file_names_by, draft_file_by, is_marked, But, IsFiles}
+use Rattle.its_files.proofs.OrderLaws.{same_sym, same_refl, same_self}
 use Rattle.its_files.proofs.EntryLaws.{within, file_stands, draft_no_file, draft_stands, found_file, found_fresh, ordered, count_other}
 
 -- what follows from what holds at an Ok
@@ -22,7 +22,7 @@ pub on_ok : {T E : Type 0} {P Q : Type 0} (r : Result T E) → (P → Q) → OnO
 on_ok (Ok x) f p = f p
 on_ok (Err e) f p = p
 
-words_stand : (e : Option Entry) (ws : List ℕ) → is_some e ≡ true → ws ≡ words_by e ws
+pub words_stand : (e : Option Entry) (ws : List ℕ) → is_some e ≡ true → ws ≡ words_by e ws
 words_stand None ws z = cc
 words_stand (Some e) ws z = refl
 
@@ -70,7 +70,7 @@ files_changed s t id g (k ∷ ks) here h =
     ]
 
 -- names that are the same take out the same
-without_same : (a b : List ℕ) (fs : List PlainFile) → same_names a b ≡ true → without_names a fs ≡ without_names b fs
+pub without_same : (a b : List ℕ) (fs : List PlainFile) → same_names a b ≡ true → without_names a fs ≡ without_names b fs
 without_same a b [] e = refl
 without_same a b (f ∷ fs) e =
     ap (λ x. kept_file x f (without_names a fs)) (same_self a b f.names e) ∙ ap (λ xs. kept_file (same_names b f.names) f xs) (without_same a b fs e)
@@ -125,13 +125,13 @@ module _ (s : Store) (h : IsFiles s.entries s.order s.mark s.stored.texts) where
       ∙ without_same (names_at s old) (names_at s id) (directory s) (same_sym (names_at s id) (names_at s old) f.1))
 
   -- each change, as its definition makes it
-  file_is : (t : Store) (k : ℕ) → names_at t k ≡ names_at s k → words_at t k ≡ words_at s k → file_at t k ≡ file_at s k
+  pub file_is : (t : Store) (k : ℕ) → names_at t k ≡ names_at s k → words_at t k ≡ words_at s k → file_at t k ≡ file_at s k
   file_is t k a b = λ i. record { names = a i; words = b i }
 
-  entries_apart : (id k : ℕ) (e : Option Entry) → k ≢ id → entry_in (slice_set s.entries id e) k ≡ entry_at s k
+  pub entries_apart : (id k : ℕ) (e : Option Entry) → k ≢ id → entry_in (slice_set s.entries id e) k ≡ entry_at s k
   entries_apart id k e ne = get_or-set_other s.entries id k e None ne
 
-  file_apart : (id k : ℕ) (e : Option Entry) → k ≢ id → file_at (record s { entries = slice_set s.entries id e }) k ≡ file_at s k
+  pub file_apart : (id k : ℕ) (e : Option Entry) → k ≢ id → file_at (record s { entries = slice_set s.entries id e }) k ≡ file_at s k
   file_apart id k e ne =
       let a = entries_apart id k e ne in
       file_is (record s { entries = slice_set s.entries id e }) k (ap names_by a) (ap (λ x. words_by x (text_at s.stored.texts k)) a)
@@ -149,7 +149,7 @@ module _ (s : Store) (h : IsFiles s.entries s.order s.mark s.stored.texts) where
   with_draft_directory id names free =
       directory_same (with_draft s id names) refl (λ k f. file_apart id k (Some (Draft names)) (λ e. both_ways (is_file (entry_at s k)) (ap (λ j. is_file (entry_at s j)) e ∙ ap is_file free) f))
 
-  texts_apart : (t : Store) (id k : ℕ) (w : List ℕ) → t.entries ≡ s.entries → t.stored.texts ≡ slice_set s.stored.texts id w → k ≢ id → file_at t k ≡ file_at s k
+  pub texts_apart : (t : Store) (id k : ℕ) (w : List ℕ) → t.entries ≡ s.entries → t.stored.texts ≡ slice_set s.stored.texts id w → k ≢ id → file_at t k ≡ file_at s k
   texts_apart t id k w e x ne =
       let a = ap (λ es. entry_in es k) e in
       let b : text_at t.stored.texts k ≡ text_at s.stored.texts k = ap (λ xs. text_at xs k) x ∙ get_or-set_other s.stored.texts id k w [] ne in
@@ -172,7 +172,7 @@ module _ (s : Store) (h : IsFiles s.entries s.order s.mark s.stored.texts) where
   with_word_draft id w d =
       directory_same (with_word s id w) refl (λ k f. texts_apart (with_word s id w) id k (text_at s.stored.texts id ++ w ∷ []) refl refl (λ e. both_ways (is_file (entry_at s k)) (ap (λ j. is_file (entry_at s j)) e ∙ draft_no_file (entry_at s id) d) f))
 
-  gone_apart : (t : Store) (id k : ℕ) → t.entries ≡ slice_set s.entries id None → t.stored.texts ≡ slice_set s.stored.texts id [] → k ≢ id → file_at t k ≡ file_at s k
+  pub gone_apart : (t : Store) (id k : ℕ) → t.entries ≡ slice_set s.entries id None → t.stored.texts ≡ slice_set s.stored.texts id [] → k ≢ id → file_at t k ≡ file_at s k
   gone_apart t id k e x ne =
       let a : entry_at t k ≡ entry_at s k = ap (λ es. entry_in es k) e ∙ entries_apart id k None ne in
       let b : text_at t.stored.texts k ≡ text_at s.stored.texts k = ap (λ xs. text_at xs k) x ∙ get_or-set_other s.stored.texts id k [] [] ne in

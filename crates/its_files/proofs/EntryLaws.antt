@@ -1,5 +1,5 @@
 -- What stands under the numbers, after a change at one.
-use Rattle.std.specs.Prelude.{◌≡◌, ◌≢◌, ◌<◌, ◌≤◌, ℕ, zero, suc, ◌+◌, ◌-◌, ◌*◌, Bool, true, false, cond, ◌⊎◌, Option, Some, None, is_some, List, [], ◌∷◌, ◌++◌, length, count_by, sum_by, slice_set, slice_get, slice_index_or, IfSome, refl}
+use Rattle.std.specs.Prelude.{◌≡◌, ◌≢◌, ◌<◌, ◌≤◌, ℕ, ◌+◌, ◌*◌, Bool, true, false, cond, ◌⊎◌, Option, Some, None, is_some, List, [], ◌∷◌, ◌++◌, length, count_by, slice_set, slice_get, IfSome, refl}
 use Rattle.std.proofs.Common.{sym, ◌∙◌, ap, subst, inl, inr, arith, length-set, length-append}
 use Rattle.std.proofs.lemmas.Bool.{cases_eq, cases_lt, cases_Bool, both_ways, false_from_ne_true}
 use Rattle.std.proofs.lemmas.List.{get_or-set_same, get_or-set_other, get_or_past}
@@ -12,7 +12,7 @@ use Rattle.its_files.specs.declared.entry.Entry.TheVariants.{File, Draft}
 use Rattle.its_files.specs.declared.entry.Parts.{Parts}
 use Rattle.its_files.specs.declared.entry.Parts.TheVariants.{Replace, Link, Free}
 use Rattle.its_files.specs.declared.entry.Mark.{Mark}
-use Rattle.its_files.specs.Blocks.{text_at, numbers}
+use Rattle.its_files.specs.Blocks.{text_at}
 use Rattle.its_word.specs.Directory.{same_names}
 use Rattle.its_files.specs.Opening.{copies}
 use Rattle.its_files.proofs.ListLaws.{length-copies, get_or-copies}

@@ -5,3 +5,4 @@ pub mod OpenLaws
 pub mod OrderLaws
 pub mod EntryLaws
 pub mod DirectoryLaws
+pub mod RoomLaws

@@ -1,13 +1,12 @@
 -- Numbers that stand in an order, and free ones.
-use Rattle.std.specs.Prelude.{◌≡◌, ◌≢◌, ◌<◌, ◌≤◌, ℕ, zero, suc, ◌+◌, ◌-◌, Bool, true, false, cond, ◌&&◌, eqb, Option, Some, None, is_some, List, [], ◌∷◌, ◌++◌, length, take, drop, count_by, sum_by, slice_get, slice_set, slice_index_or, refl}
+use Rattle.std.specs.Prelude.{◌≡◌, ◌≢◌, ◌<◌, ◌≤◌, ℕ, suc, ◌+◌, true, cond, ◌&&◌, eqb, Option, Some, None, is_some, List, [], ◌∷◌, ◌++◌, length, take, drop, count_by, slice_get, slice_index_or, refl}
 use Rattle.std.specs.List.{remove}
-use Rattle.std.proofs.Common.{sym, ◌∙◌, ap, inl, inr, arith, length-append}
+use Rattle.std.proofs.Common.{sym, ◌∙◌, ap, inl, inr, arith}
 use Rattle.std.proofs.lemmas.Bool.{cases_lt, cases_Bool, both_ways, eqb-true, eq-eqb, and_parts, and_from}
 use Rattle.std.proofs.lemmas.List.{take_more, take_all}
 use Rattle.std.proofs.lemmas.List.Sums.{sum_by-cons}
-use Rattle.std.proofs.lemmas.Option.{slice_get_within}
-use Rattle.its_links.specs.Lists.{hit, count, without}
-use Rattle.its_links.proofs.CountLaws.{hit_same, hit_other, count-append, without_split}
+use Rattle.its_links.specs.Lists.{count, without}
+use Rattle.its_links.proofs.CountLaws.{hit_other, count-append, without_split}
 use Rattle.its_word.specs.Directory.{same_names}
 use Rattle.its_files.proofs.ChainLaws.{behind}
 
@@ -51,7 +50,7 @@ pub record Alike (a b : List ℕ) : Type 0 where
   pub first : slice_index_or a 1 0 ≡ slice_index_or b 1 0
   pub second : slice_index_or a 2 0 ≡ slice_index_or b 2 0
 
-alike : (a b : List ℕ) → same_names a b ≡ true → Alike a b
+pub alike : (a b : List ℕ) → same_names a b ≡ true → Alike a b
 unfolding same_names
 alike a b e =
     let p = and_parts (eqb (slice_index_or a 0 0) (slice_index_or b 0 0)) (eqb (slice_index_or a 1 0) (slice_index_or b 1 0) && eqb (slice_index_or a 2 0) (slice_index_or b 2 0)) e in
@@ -68,6 +67,17 @@ same a b h =
     and_from (eqb (slice_index_or a 0 0) (slice_index_or b 0 0)) (eqb (slice_index_or a 1 0) (slice_index_or b 1 0) && eqb (slice_index_or a 2 0) (slice_index_or b 2 0))
     (eq-eqb (slice_index_or a 0 0) (slice_index_or b 0 0) h.directory)
     (and_from (eqb (slice_index_or a 1 0) (slice_index_or b 1 0)) (eqb (slice_index_or a 2 0) (slice_index_or b 2 0)) (eq-eqb (slice_index_or a 1 0) (slice_index_or b 1 0) h.first) (eq-eqb (slice_index_or a 2 0) (slice_index_or b 2 0) h.second))
+
+pub same_three : (a b : List ℕ) → length a ≡ 3 → length b ≡ 3 → same_names a b ≡ true → b ≡ a
+same_three (a ∷ b ∷ c ∷ []) (x ∷ y ∷ z ∷ []) l m e = let p = alike (a ∷ b ∷ c ∷ []) (x ∷ y ∷ z ∷ []) e in λ i. sym p.directory i ∷ sym p.first i ∷ sym p.second i ∷ []
+same_three [] b l m e = absurd (omega (arith, l))
+same_three (a ∷ []) b l m e = absurd (omega (arith, l))
+same_three (a ∷ c ∷ []) b l m e = absurd (omega (arith, l))
+same_three (a ∷ c ∷ d ∷ f ∷ rest) b l m e = absurd (omega (arith, l))
+same_three (a ∷ b ∷ c ∷ []) [] l m e = absurd (omega (arith, m))
+same_three (a ∷ b ∷ c ∷ []) (x ∷ []) l m e = absurd (omega (arith, m))
+same_three (a ∷ b ∷ c ∷ []) (x ∷ y ∷ []) l m e = absurd (omega (arith, m))
+same_three (a ∷ b ∷ c ∷ []) (x ∷ y ∷ z ∷ w ∷ ws) l m e = absurd (omega (arith, m))
 
 pub same_sym : (a b : List ℕ) → same_names a b ≡ true → same_names b a ≡ true
 same_sym a b e = let p = alike a b e in same b a (record { directory = sym p.directory; first = sym p.first; second = sym p.second })

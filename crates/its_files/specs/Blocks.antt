@@ -1,6 +1,6 @@
 -- How the words of files and drafts are kept: 2048 blocks of 128 words, a list of the free blocks, and for each number of a
 -- file or draft the list of its blocks, in the order of its words.
-use Rattle.std.specs.Prelude.{◌≡◌, ◌<◌, ◌≤◌, ℕ, ◌+◌, ◌-◌, ◌*◌, ◌/◌, ◌%◌, Bool, true, false, ◌&&◌, eqb, Option, Some, None, List, [], ◌∷◌, ◌++◌, length, map, take, sum_by, slice_set, slice_get, slice_index_or}
+use Rattle.std.specs.Prelude.{◌≡◌, ◌<◌, ℕ, ◌+◌, ◌-◌, ◌*◌, ◌/◌, ◌%◌, Bool, true, false, ◌&&◌, eqb, Option, Some, None, List, [], ◌∷◌, ◌++◌, length, map, take, sum_by, slice_set, slice_get, slice_index_or}
 use Rattle.std.specs.List.{range_with_len}
 use Rattle.its_links.specs.Lists.{Linked, list_at, rest}
 use Rattle.its_files.specs.declared.blocks.Place.{Place}

@@ -1,6 +1,6 @@
 -- The store of files as contracts see it: what stands under each number, the order of the files, the close that is half made,
 -- and the words.
-use Rattle.std.specs.Prelude.{◌≡◌, ◌<◌, ◌≤◌, ◌≢◌, ℕ, suc, zero, ◌+◌, ◌-◌, Bool, true, false, ◌&&◌, cond, eqb, nat_lt, Option, Some, None, is_some, option_map, Result, Ok, Err, List, [], ◌∷◌, ◌++◌, length, map, count_by, slice_set, slice_get, slice_index_or}
+use Rattle.std.specs.Prelude.{◌≡◌, ◌<◌, ◌≤◌, ◌≢◌, ℕ, suc, zero, ◌+◌, Bool, true, false, cond, eqb, nat_lt, Option, Some, None, Result, Ok, Err, List, [], ◌∷◌, ◌++◌, length, map, count_by, slice_set, slice_index_or}
 use Rattle.its_links.specs.Lists.{count, without}
 use Rattle.its_word.specs.declared.calls.Owed.{Owed}
 use Rattle.its_word.specs.declared.calls.Owed.TheVariants.{Unlink as Unlinks, Link as Links, Free as Frees}
@@ -306,6 +306,9 @@ pub record IsFiles (entries : List (Option Entry)) (order : List ℕ) (mark : Op
   pub unique : (i j : ℕ) → is_file (entry_in entries i) ≡ true → is_file (entry_in entries j) ≡ true → same_names (names_by (entry_in entries i)) (names_by (entry_in entries j)) ≡ true → i ≡ j
   pub bare : (id : ℕ) → entry_in entries id ≡ None → unlinked_old mark ≢ Some id → text_at texts id ≡ []
   pub marked : Marked entries mark
+
+abbrev pub IsStore : Store → Type 0
+IsStore s = IsFiles s.entries s.order s.mark s.stored.texts
 
 -- what channels see of files and drafts, by number: the names of files, the words of drafts, and which draft is marked
 abbrev pub file_names_by : Option Entry → Option (List ℕ)

@@ -1,7 +1,7 @@
 -- A store as it is made: every block is free, and no number has words.
-use Rattle.std.specs.Prelude.{◌≡◌, ◌≤◌, ℕ, List, [], length, replicate, slice_set}
+use Rattle.std.specs.Prelude.{ℕ, List, [], replicate, slice_set}
 use Rattle.std.specs.List.{range_with_len}
-use Rattle.its_links.specs.Lists.{Linked, times, no_lists}
+use Rattle.its_links.specs.Lists.{no_lists}
 use Rattle.its_files.specs.Blocks.{Stored, numbers, blocks}
 
 -- n copies of x, and the numbers below n; opaque, as n may be large

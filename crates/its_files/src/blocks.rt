@@ -226,6 +226,14 @@ impl Blocks {
         Ok(())
     }
 
+    /// Whether there is no room for a word more at the end of a number's words.
+    pub(crate) fn is_full(&self, id: u32) -> bool
+        requires { id < numbers }
+        ensures { result ≡ is_full self.now id }
+    {
+        self.lengths[id as usize] % BLOCK_WORDS == 0 && self.links.front(FREE).is_none()
+    }
+
     /// A number loses its words, and its blocks are free.
     pub(crate) fn give_up(&mut self, id: u32)
         requires { id < numbers }

@@ -2,12 +2,12 @@ ghost use Rattle.std.specs.Prelude.{◌≡◌, ◌<◌, ◌≤◌, ℕ, true, No
 ghost use Rattle.its_links.specs.Lists.{count, without};
 ghost use Rattle.its_word.specs.Directory.{same_names as are_same};
 ghost use Rattle.its_files.specs.Blocks.{numbers};
-ghost use Rattle.its_files.specs.Files.{names_by, readers_by, is_file as stands_as_file, is_draft as stands_as_draft, after_link as mark_after_link, found_in as first_found};
+ghost use Rattle.its_files.specs.Files.{names_by, readers_by, is_file as stands_as_file, is_draft as stands_as_draft, after_link as mark_after_link, found_in as first_found, parts_owed};
 
 use super::blocks::NUMBERS;
 use super::entry::{Entry, Mark, Parts};
 use arrayvec::ArrayVec;
-use its_word::Word;
+use its_word::{Owed, Word};
 
 /// What stands under a number.
 pub(crate) fn entry_in(entries: &[Option<Entry>], id: u32) -> Option<Entry>
@@ -100,9 +100,11 @@ pub(crate) fn number_at(order: &[u32], k: u32) -> Option<u32>
 }
 
 /// The first of some numbers whose file has these names.
+#[tactic(auto, using(crate::proofs::OrderLaws::same_three))]
 pub(crate) fn found_in(entries: &[Option<Entry>], order: &[u32], names: [Word; 3]) -> Option<u32>
     requires { (id : ℕ) → 0 < count id order.now → is_some (slice_index_or entries.now id None) ≡ true }
-    ensures { result ≡ first_found entries.now names order.now }
+    ensures found { result ≡ first_found entries.now names order.now }
+    ensures names { IfSome result (λ id. names_by (slice_index_or entries.now id None) ≡ names) }
 {
     for id in order {
         if same_names(&names, &names_of(entry_in(entries, *id))) {
@@ -164,4 +166,25 @@ pub(crate) fn take_out(order: &mut ArrayVec<u32, 256>, id: u32)
     if let Some(k) = place_of(order.as_slice(), id) {
         order.remove(k);
     }
+}
+
+/// The parts that are owed, in order.
+pub(crate) fn parts_owed(parts: Parts) -> ArrayVec<Owed, 3>
+    ensures { result.items ≡ parts_owed parts }
+{
+    let mut owed = ArrayVec::new();
+    match parts {
+        Parts::Replace { .. } => {
+            owed.push(Owed::Unlink);
+            owed.push(Owed::Link);
+            owed.push(Owed::Free);
+        }
+        Parts::Link { old: Some(_), .. } => {
+            owed.push(Owed::Link);
+            owed.push(Owed::Free);
+        }
+        Parts::Link { old: None, .. } => owed.push(Owed::Link),
+        Parts::Free { .. } => owed.push(Owed::Free),
+    }
+    owed
 }

@@ -3,17 +3,17 @@ ghost use Rattle.its_word.specs.Only.{Only, Same};
 ghost use Rattle.its_word.specs.Directory.{same_names, without_names, with_changed, longer, named, closed};
 ghost use Rattle.its_links.specs.Lists.{count};
 ghost use Rattle.its_files.specs.Blocks.{is_full, numbers, blocks, free_blocks, blocks_used};
-ghost use Rattle.its_files.specs.Files.{entry_at, is_file, is_draft, names_at, readers_at, words_at, drafts, new_names, found, no_files, with_file, with_draft, with_word, discarded, delete, rename, with_readers, close, unlinked, linked, freed, helped, directory, plain_directory, file_at as file_of, marked_draft, one_if, Marked, most_files, most_drafts};
+ghost use Rattle.its_files.specs.Files.{entry_at, is_file, is_draft, names_at, readers_at, words_at, drafts, new_names, found, owed, no_files, with_file, with_draft, with_word, discarded, delete, rename, with_readers, close, unlinked, linked, freed, helped, directory, plain_directory, file_at as file_of, marked_draft, one_if, Marked, IsStore, most_files, most_drafts};
 
 use super::blocks::{Blocks, Full, NUMBERS};
 use super::directory;
 use super::directory::{
     after_link, count_drafts, directory_of, entry_in, found_in, free_number, names_of, number_at,
-    readers_of, take_out,
+    parts_owed, readers_of, take_out,
 };
 use super::entry::{CloseFault, Entry, Locked, Mark, Parts, RenameFault};
 use arrayvec::ArrayVec;
-use its_word::{NoMemory, Word};
+use its_word::{NoMemory, Owed, Word};
 use std::alloc::Global;
 use std::marker::Model;
 
@@ -55,7 +55,8 @@ impl Files {
 
     /// Does nothing, and says what holds of all files and drafts: each block is free or in use, each file
     /// stands once in the order, no two files have the same names, and of a mark that its draft
-    /// stands, and that nobody reads the file that it replaces.
+    /// stands, and that nobody reads the file that it replaces. `whole` is all that holds of entries, order,
+    /// mark and words together.
     pub fn seen(&self)
         ensures blocks { length (free_blocks self.now.stored.chains) + blocks_used self.now.stored ≡ blocks }
         ensures files { length self.now.order ≤ most_files }
@@ -63,6 +64,7 @@ impl Files {
         ensures ordered { (id : ℕ) → count id self.now.order ≡ one_if (is_file (entry_at self.now id)) }
         ensures unique { (i j : ℕ) → is_file (entry_at self.now i) ≡ true → is_file (entry_at self.now j) ≡ true → same_names (names_at self.now i) (names_at self.now j) ≡ true → i ≡ j }
         ensures marked { Marked self.now.entries self.now.mark }
+        ensures whole { IsStore self.now }
     {
         let _ = &self.mark;
         self.blocks.seen();
@@ -72,6 +74,7 @@ impl Files {
     pub fn find(&self, d: Word, x: Word, y: Word) -> Option<u32>
         ensures found { result ≡ found self.now (d ∷ x ∷ y ∷ []) }
         ensures file { IfSome result (λ id. is_file (entry_at self.now id) ≡ true) }
+        ensures names { IfSome result (λ id. names_at self.now id ≡ d ∷ x ∷ y ∷ []) }
     {
         found_in(&self.entries, self.order.as_slice(), [d, x, y])
     }
@@ -150,6 +153,31 @@ impl Files {
         ensures unmarked { result ≡ None → self.now.mark ≡ None }
     {
         self.mark.map(|mark| mark.owner)
+    }
+
+    /// Whether there is no room for a word more at the end of a file or a draft.
+    pub fn is_full(&self, id: u32) -> bool
+        requires { is_some (entry_at self.now id) ≡ true }
+        ensures { result ≡ is_full self.now.stored id }
+    {
+        self.blocks.is_full(id)
+    }
+
+    /// How many files there are.
+    pub fn count(&self) -> u32
+        ensures { result ≡ length self.now.order }
+    {
+        self.order.len() as u32
+    }
+
+    /// The parts of a half made close that are still owed, in order.
+    pub fn owed(&self) -> ArrayVec<Owed, 3>
+        ensures { result.items ≡ owed self.now.mark }
+    {
+        match self.mark {
+            Some(mark) => parts_owed(mark.parts),
+            None => ArrayVec::new(),
+        }
     }
 
     /// Makes a file of no words, the last in order.

@@ -1,5 +1,5 @@
 -- What a tick of one slot leaves of another.
-use Rattle.std.specs.Prelude.{if◌then◌else◌, ◌==◌, ◌≡◌, ◌≢◌, ℕ, ◌+◌, Bool, true, false, Option, Some, None, List, [], ◌∷◌, ◌++◌, Result, Ok, Err, option_map, nat_lt, refl}
+use Rattle.std.specs.Prelude.{if◌then◌else◌, ◌==◌, ◌≡◌, ◌≢◌, ◌<◌, ℕ, ◌+◌, Bool, true, false, Option, Some, None, IfSome, List, [], ◌∷◌, ◌++◌, Result, Ok, Err, option_map, nat_lt, refl}
 use Rattle.std.proofs.Common.{sym, ◌∙◌, ap, subst, inl, inr}
 use Rattle.std.proofs.lemmas.Bool.{cases_Bool}
 use Rattle.its_word.specs.ArrayVec.{ArrayVec}
@@ -16,6 +16,7 @@ use Rattle.its_frame.specs.declared.decision.Decision.{Decision}
 use Rattle.its_frame.specs.declared.decision.Decision.TheVariants.{Waits, Goes, Ends, Gone}
 use Rattle.its_frame.specs.declared.frame.Frame.{Frame}
 use Rattle.its_frame.specs.declared.frame.Frame.TheVariants.{Entered, Parsed, Asked, Holding, Waiting, Moving, Ending}
+use Rattle.its_frame.specs.declared.frame.Holding as calls
 use Rattle.its_plain.specs.Arguments.{debts}
 use Rattle.its_plain.specs.Ask.{items_of, parse, fetch}
 use Rattle.its_plain.specs.CallStep.{becomes, faulted, informs, told, decision, among, reach_of, reach_of_job, reach_of_unit, reach_of_ask, disturbed}
@@ -25,7 +26,7 @@ use Rattle.its_plain.specs.Decode.{Shape, shaped, ask, ask_of, ask_by, parse_by,
 use Rattle.its_plain.specs.Decode as decode
 use Rattle.its_plain.specs.Interrupt.{deliverable, delivered}
 use Rattle.its_plain.specs.Machine.{Chan, Shut, TtyIn, TtyOut, Reads, Writes, On, Whole, Machine}
-use Rattle.its_plain.specs.Own.{with_stores, with_registers, opened_on, on_channel, with_variable}
+use Rattle.its_plain.specs.Own.{with_stores, with_registers, opened_on, at_position, with_word, on_channel, with_variable}
 use Rattle.its_plain.specs.Traced.{Traced, goes_on, also}
 use Rattle.its_plain.specs.Unit.{Outcome, Changed, Faulted, Called, unit}
 use Rattle.its_plain.specs.UnitPlan as plans
@@ -49,12 +50,15 @@ use Rattle.its_stepped.proofs.HelpLaws.{helped_if_others}
 use Rattle.its_stepped.proofs.OverLaws.{can_stored, debts_alike}
 use Rattle.its_stepped.proofs.OwnLaws.{frames_none}
 use Rattle.its_stepped.proofs.SoundLaws.{tick_sound}
-use Rattle.its_stepped.proofs.TickLaws.{asks, seen_at, seen_none, Found, found, Trying, trying_holding, trying_waiting}
+use Rattle.its_stepped.proofs.TriedLaws.{prepared_seen}
+use Rattle.its_stepped.proofs.TickLaws.{asks, seen_at, seen_none, found, Trying, trying_holding, trying_waiting}
 use Rattle.its_stepped.proofs.UnwindLaws.{slot_same, slot_then, unwind_others, all_unwound_none, all_unwound_others, among_not_first}
 use Rattle.its_world.specs.World.{state_of}
 use Rattle.its_world.specs.declared.world.World.{World}
 use Rattle.its_pclsr.specs.Built.{CanMake, CanMakeAll}
-use Rattle.its_pclsr.proofs.ReadyLaws.{DecisionCan, decision_can_on}
+use Rattle.its_pclsr.specs.Carried.{standing_of}
+use Rattle.its_pclsr.proofs.ReadyLaws.{DecisionCan, decision_can}
+use Rattle.its_pclsr.proofs.TriesLaws.{held, prepared, tries}
 use Rattle.its_operator.specs.Kept.{Kept}
 use Rattle.its_monitor.specs.Beside.{body, OnNobody, ChannelLeft, Undisturbed, Unwound, Beside, AllBeside}
 use Rattle.its_monitor.specs.Ticks.{ticked}
@@ -270,8 +274,8 @@ effects_body (c ∷ cs) j u v k f h e ne fr =
     effects_body cs j (effect_on c j u) (effect_on c j v) k f h.1 raw ne ((effect_others c j u k h.0 ne).frame ∙ fr)
     ∙ ap (λ (m : Machine). option_map body (m.jobs k)) (sym raw) ∙ effect_body c j u k f h.0 ne fr ∙ ap (λ (m : Machine). option_map body (m.jobs k)) e
 
--- the changes that can be made leave the channels of other slots alone and make no job; a removal closes channels on the
--- jobs that are removed. (Of calls that are built later, more changes come here)
+-- the changes that can be made leave the channels of other slots alone, those on files too, and make no job; a removal
+-- closes channels on the jobs that are removed. (Of calls that are built later, more changes come here)
 slot_channels : (w : State) (s k n : ℕ) (h : Whole → Whole) → ((q : Whole) → (h q).channels ≡ q.channels) → channel_in (on_slot w.raw.jobs s h k) n ≡ channel_in (w.raw.jobs k) n
 slot_channels w s k n h same = go (k == s) (w.raw.jobs k)
   where
@@ -280,10 +284,15 @@ slot_channels w s k n h same = go (k == s) (w.raw.jobs k)
     go true None = refl
     go false o = refl
 
-can_none : (c : Change) (j : ℕ) (v : State) → CanMake c v → NoneMade v (effect_on c j v)
+can_none : (c : Change) (j : ℕ) (v : State) → CanMake c j v → NoneMade v (effect_on c j v)
 unfolding effect_on effect
 can_none (changes.Open n on) j v b = λ i e. slot_none v j i (on_channel n (λ c. opened_on on)) e
 can_none (changes.Shut n) j v b = λ i e. slot_none v j i (on_channel n (λ c. Shut)) e
+can_none (changes.Move n at) j v b = λ i e. slot_none v j i (on_channel n (at_position at)) e
+can_none (changes.Append n x) j v b = λ i e. slot_none v j i (on_channel n (with_word x)) e
+can_none (changes.Close n) j v b = λ i e. slot_none v j i (on_channel n (λ c. Shut)) e
+can_none (changes.Delete d x y) j v b = λ i e. e
+can_none (changes.Rename d x y a z) j v b = λ i e. e
 can_none (changes.Take c) j v b = λ i e. e
 can_none (changes.Put c x) j v b = λ i e. e
 can_none (changes.Hold c s) j v b = λ i e. e
@@ -294,10 +303,15 @@ can_none _ j v b = absurd b
 other_channels : (v : State) (j k n : ℕ) (h : Whole → Whole) → k ≢ j → channel_in (on_slot v.raw.jobs j h k) n ≡ channel_in (v.raw.jobs k) n
 other_channels v j k n h ne = ap (λ (o : Option Whole). channel_in o n) (on_slot_other v.raw.jobs j k h ne)
 
-can_channels : (c : Change) (j : ℕ) (v : State) (k n : ℕ) → k ≢ j → CanMake c v → channel_in ((effect_on c j v).raw.jobs k) n ≡ channel_in (v.raw.jobs k) n
+can_channels : (c : Change) (j : ℕ) (v : State) (k n : ℕ) → k ≢ j → CanMake c j v → channel_in ((effect_on c j v).raw.jobs k) n ≡ channel_in (v.raw.jobs k) n
 unfolding effect_on effect
 can_channels (changes.Open i on) j v k n ne b = other_channels v j k n (on_channel i (λ c. opened_on on)) ne
 can_channels (changes.Shut i) j v k n ne b = other_channels v j k n (on_channel i (λ c. Shut)) ne
+can_channels (changes.Move i at) j v k n ne b = other_channels v j k n (on_channel i (at_position at)) ne
+can_channels (changes.Append i x) j v k n ne b = other_channels v j k n (on_channel i (with_word x)) ne
+can_channels (changes.Close i) j v k n ne b = other_channels v j k n (on_channel i (λ c. Shut)) ne
+can_channels (changes.Delete d x y) j v k n ne b = refl
+can_channels (changes.Rename d x y a z) j v k n ne b = refl
 can_channels (changes.Take c) j v k n ne b = refl
 can_channels (changes.Put c x) j v k n ne b = refl
 can_channels (changes.Hold c s) j v k n ne b = refl
@@ -416,22 +430,34 @@ found_others w j k own a h =
     let u : State = all_unwound (reach (plain w) j own a) w in
     slot_then w u (helped_if (helps own a) u) k (all_unwound_others (reach (plain w) j own a) w k h) (helped_if_others (helps own a) u k)
 
-plain_consoles : (v : State) → (plain v).consoles ≡ v.raw.consoles
-unfolding plain
-plain_consoles v = refl
-
-found_consoles : (w v : State) (j : ℕ) → Found w v j → (plain w).consoles ≡ v.raw.consoles
-found_consoles w v j f = sym (ap (λ (m : Machine). m.consoles) f.plain) ∙ plain_consoles v
-
 found_free : (w : State) (j k : ℕ) (own : Whole) (a : Ask) → Sound w → among k (reach (plain w) j own a) ≡ true → (prepared_for w j own a).frames k ≡ None
 unfolding prepared_for
 found_free w j k own a sound h =
     let u : State = all_unwound (reach (plain w) j own a) w in
     (helped_if_others (helps own a) u k).frame ∙ all_unwound_none (reach (plain w) j own a) w k sound h
 
-tried_beside : (w : State) (j k : ℕ) (q : Whole) (s : Site) (a : Ask) (n : ℕ) → k ≢ j → Sound w → Distinct (plain w) → Consoled (plain w) → Trying w j q s a n → Meets w j (with_stores (debts a n) q) s a n
-    → Row w j k (tried_by w j (with_stores (debts a n) q) s a n)
-tried_beside w j k q s a n ne sound distinct housed t m =
+-- the changes of its decision can be made
+abbrev Makes : State → ℕ → Whole → Ask → Type 0
+Makes w j own a = DecisionCan (decision (plain w) j own a) j (prepared_for w j own a)
+
+makes_raw : (w : State) (j : ℕ) (q : Whole) (h : calls.Holding) → Sound w → Distinct (plain w) → Consoled (plain w) → w.raw.jobs j ≡ Some q → standing_of (w.frames j) ≡ Some h
+    → Makes w j (seen (w.frames j) q) h.ask
+makes_raw w j q h sound distinct housed is stands =
+    let v : State = prepared w j q h.ask in
+    let d : Decision = decision v.raw j q h.ask in
+    let own : IfSome q.job.console (λ c. c < 8) = raw_consoled w j q housed is in
+    let t = tries w v j q h d sound distinct is own stands refl refl in
+    subst (λ (e : Decision). DecisionCan e j (prepared_for w j (seen (w.frames j) q) h.ask)) (sym t.decides)
+    (subst (DecisionCan d j) (sym (prepared_seen w j q h.ask)) (decision_can v j q h.ask t.cleared.job own t.cleared.unmarked))
+
+makes_at : (w : State) (j : ℕ) (q : Whole) (h : calls.Holding) (f : Frame) → Sound w → Distinct (plain w) → Consoled (plain w) → w.raw.jobs j ≡ Some q → w.frames j ≡ Some f → standing_of (Some f) ≡ Some h
+    → Makes w j (seen (Some f) q) h.ask
+makes_at w j q h f sound distinct housed is fr stands =
+    subst (λ (o : Option Frame). Makes w j (seen o q) h.ask) fr (makes_raw w j q h sound distinct housed is (ap standing_of fr ∙ stands))
+
+tried_beside : (w : State) (j k : ℕ) (q : Whole) (s : Site) (a : Ask) (n : ℕ) → k ≢ j → Sound w → Distinct (plain w) → Makes w j (with_stores (debts a n) q) a → Trying w j q s a n
+    → Meets w j (with_stores (debts a n) q) s a n → Row w j k (tried_by w j (with_stores (debts a n) q) s a n)
+tried_beside w j k q s a n ne sound distinct can t m =
     let own : Whole = with_stores (debts a n) q in
     let v : State = prepared_for w j own a in
     let ks : List ℕ = reach (plain w) j own a in
@@ -439,18 +465,18 @@ tried_beside w j k q s a n ne sound distinct housed t m =
     let whom : disturbed (plain w) j k ≡ among k ks = trying_reach w j k q s a n t in
     decided_beside w v u j k own s a n (entered s) (decision (plain w) j own a) ne m.duty
     (decision_duty decoding (plain w) u j own s a n (calling_crowded w j q s a n sound distinct t m))
-    (decision_can_on (plain w) v j own a (found_consoles w v j (found w j own a sound m.apart)) (raw_consoled w j q housed t.here.job_is)) refl
+    can refl
     (λ d. let no : among k ks ≡ false = sym whom ∙ d in (found_others w j k own a no, rw no refl))
     (λ d. found_free w j k own a sound (sym whom ∙ d))
 
-held_beside : (w : State) (j k : ℕ) (q : Whole) (s : Site) (a : Ask) (page : Option ℕ) (n : ℕ) → k ≢ j → Sound w → Distinct (plain w) → Consoled (plain w) → Trying w j q s a n
+held_beside : (w : State) (j k : ℕ) (q : Whole) (s : Site) (a : Ask) (page : Option ℕ) (n : ℕ) → k ≢ j → Sound w → Distinct (plain w) → Makes w j (with_stores (debts a n) q) a → Trying w j q s a n
     → Meets w j (with_stores (debts a n) q) s a n → Row w j k (held_on w j (with_stores (debts a n) q) s a page n)
-held_beside w j k q s a None n ne sound distinct housed t m = tried_beside w j k q s a n ne sound distinct housed t m
-held_beside w j k q s a (Some p) n ne sound distinct housed t m = go (nat_lt p quarters)
+held_beside w j k q s a None n ne sound distinct can t m = tried_beside w j k q s a n ne sound distinct can t m
+held_beside w j k q s a (Some p) n ne sound distinct can t m = go (nat_lt p quarters)
   where
     go : (b : Bool) → Row w j k (if b then works (reserving (turn w j same (Some (holding s a (Some (p + 1)) n))) j (Some (p + 1))) else tried_by w j (with_stores (debts a n) q) s a n)
     go true = page_others w j k same (Some (holding s a (Some (p + 1)) n)) (Some (p + 1)) ne
-    go false = tried_beside w j k q s a n ne sound distinct housed t m
+    go false = tried_beside w j k q s a n ne sound distinct can t m
 
 -- a job inside a call
 frame_beside : (w : State) (j k : ℕ) (q : Whole) (f : Frame) → k ≢ j → Sound w → Distinct (plain w) → Consoled (plain w) → w.raw.jobs j ≡ Some q → w.frames j ≡ Some f → SoundFrame q f (w.reserved j)
@@ -460,8 +486,10 @@ frame_beside w j k q (Entered f) ne sound distinct housed is fr h g = parsed_bes
 frame_beside w j k q (Parsed f) ne sound distinct housed is fr h g =
     fetched_beside w j k q f.site f.block.items (fetch q.core f.site f.block.items) ne (seen_at w j q (Some (Parsed f)) is fr) h.quiet h.standing.0 h.standing.1 refl
 frame_beside w j k q (Asked f) ne sound distinct housed is fr h g = prepared_beside w j k f.site f.ask (reserves f.ask) ne
-frame_beside w j k q (Holding f) ne sound distinct housed is fr h g = held_beside w j k q f.site f.ask f.page f.owes ne sound distinct housed (trying_holding w j q f is fr h) g
-frame_beside w j k q (Waiting f) ne sound distinct housed is fr h g = tried_beside w j k q f.site f.ask f.owes ne sound distinct housed (trying_waiting w j q f is fr h) g
+frame_beside w j k q (Holding f) ne sound distinct housed is fr h g =
+    held_beside w j k q f.site f.ask f.page f.owes ne sound distinct (makes_at w j q f (Holding f) sound distinct housed is fr refl) (trying_holding w j q f is fr h) g
+frame_beside w j k q (Waiting f) ne sound distinct housed is fr h g =
+    tried_beside w j k q f.site f.ask f.owes ne sound distinct (makes_at w j q (held f) (Waiting f) sound distinct housed is fr refl) (trying_waiting w j q f is fr h) g
 frame_beside w j k q (Moving f) ne sound distinct housed is fr h g = unwind_others w j k ne
 frame_beside w j k q (Ending f) ne sound distinct housed is fr h g = unwind_others w j k ne
 

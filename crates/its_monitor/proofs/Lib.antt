@@ -1,5 +1,6 @@
 pub mod TickLaws
 pub mod ReachLaws
+pub mod HelpLaws
 pub mod TrialLaws
 pub mod CallLaws
 pub mod UserLaws

@@ -8,6 +8,7 @@ use Rattle.its_word.specs.Tree.{slots_below}
 use Rattle.its_word.specs.declared.calls.Ask.{Ask}
 use Rattle.its_word.specs.declared.jobs.Job.{Job}
 use Rattle.its_core.specs.Cores.{Cores, core_at}
+use Rattle.its_files.specs.Files.{Store}
 use Rattle.its_jobs.specs.Table.{Table, job_at, superior_at}
 use Rattle.its_frame.specs.declared.frame.Holding.{Holding}
 use Rattle.its_frame.specs.declared.name.CallName.{CallName}
@@ -94,14 +95,14 @@ reached_tree m j q a e = sym (reach_is m j q a ∙ ap (λ (b : Bool). if b then 
 reached_one : (m : Machine) (j : ℕ) (q : Whole) (a : Ask) (o : Option ℕ) → logs_out a ≡ false → o ≡ target q a → listed o ≡ reach m j q a
 reached_one m j q a o e is = ap listed is ∙ sym (reach_is m j q a ∙ ap (λ (b : Bool). if b then slots_below (superiors m) j ++ listed q.superior else listed (target q a)) e)
 
-tree_of : (c : Core) (o : Option ℕ) (i : Option Job) (m : Machine) (j : ℕ) (a : Ask) → logs_out a ≡ true
-    → IfSome (raw_of c o i) (λ q. slots_in Tree m j o ≡ reach m j q a)
-tree_of c o (Some i) m j a e = reached_tree m j _ a e
-tree_of c o None m j a e = tt
+tree_of : (s : Store) (c : Core) (o : Option ℕ) (i : Option Job) (m : Machine) (j : ℕ) (a : Ask) → logs_out a ≡ true
+    → IfSome (raw_of s c o i) (λ q. slots_in Tree m j o ≡ reach m j q a)
+tree_of s c o (Some i) m j a e = reached_tree m j _ a e
+tree_of s c o None m j a e = tt
 
-pub tree_reached : (c : Cores) (t : Table) (m : Machine) (j : ℕ) (a : Ask) (b : Bool) → b ≡ logs_out a → b ≡ true
-    → IfSome (raw_at c t j) (λ q. slots_below (superiors m) j ++ listed (superior_at t j) ≡ reach m j q a)
-tree_reached c t m j a b e is = tree_of (core_at c j) (superior_at t j) (job_at t j) m j a (sym e ∙ is)
+pub tree_reached : (s : Store) (c : Cores) (t : Table) (m : Machine) (j : ℕ) (a : Ask) (b : Bool) → b ≡ logs_out a → b ≡ true
+    → IfSome (raw_at s c t j) (λ q. slots_below (superiors m) j ++ listed (superior_at t j) ≡ reach m j q a)
+tree_reached s c t m j a b e is = tree_of s (core_at c j) (superior_at t j) (job_at t j) m j a (sym e ∙ is)
 
 listed_of : (p : Option Whole) (m : Machine) (j : ℕ) (a : Ask) (o r : Option ℕ) → logs_out a ≡ false → IfSome p (λ q. o ≡ target q a) → o ≡ r
     → IfSome p (λ q. listed r ≡ reach m j q a)

@@ -7,32 +7,43 @@ use Rattle.its_frame.specs.declared.decision.Decision.{Decision}
 use Rattle.its_frame.specs.declared.frame.Frame.{Frame}
 use Rattle.its_frame.specs.declared.frame.Holding.{Holding}
 use Rattle.its_pclsr.specs.Carried.{standing_of, pace_of, Ready}
-use Rattle.its_pclsr.proofs.ReadyLaws.{Cleared, Tries, cleared, tries, job_there, ready_there}
+use Rattle.its_pclsr.proofs.TriesLaws.{Cleared, Tries, prepared, cleared, tries, job_there, ready_there}
 use Rattle.its_plain.specs.CallStep.{decision}
 use Rattle.its_plain.specs.Decide.{reach}
 use Rattle.its_plain.specs.Machine.{Whole}
 use Rattle.its_stepped.specs.Commit.{committed}
+use Rattle.its_stepped.specs.SlotSame.{SlotSame}
 use Rattle.its_stepped.specs.Sound.{SoundBy, Sound}
-use Rattle.its_stepped.specs.Tick.{tick_in}
+use Rattle.its_stepped.specs.State.{State}
+use Rattle.its_stepped.specs.Tick.{helps, helped_if, tick_in}
 use Rattle.its_stepped.specs.Unwind.{all_unwound}
 use Rattle.its_stepped.proofs.ConsoledLaws.{raw_consoled}
+use Rattle.its_stepped.proofs.HelpLaws.{helped_if_others}
 use Rattle.its_world.specs.World.{state_of, raw_at, frame_at}
 use Rattle.its_world.specs.declared.world.World.{World}
+use Rattle.its_world.proofs.MarkLaws.{mark_none}
 use Rattle.its_operator.specs.Kept.{Kept}
 use Rattle.its_monitor.specs.Ticks.{ticked}
+use Rattle.its_monitor.proofs.HelpLaws.{marks_are}
 
 -- what is in a slot
-raw_is : (w : World) (s : ℕ) → (state_of w).raw.jobs s ≡ raw_at w.core w.jobs s
-unfolding state_of
-raw_is w s = refl
-
 frame_is : (w : World) (s : ℕ) → (state_of w).frames s ≡ frame_at w.frames.items s
 unfolding state_of
 frame_is w s = refl
 
-unmarked : (w : World) → (state_of w).mark ≡ None
+raw_is : (w : World) (s : ℕ) → (state_of w).raw.jobs s ≡ raw_at w.files w.core w.jobs s
 unfolding state_of
-unmarked w = refl
+raw_is w s = refl
+
+-- the call in the frame of a slot, and the raw job that makes it
+record Calls (w : World) (s : ℕ) (h : Holding) (q : Whole) : Type 0 where
+  stands : standing_of ((state_of w).frames s) ≡ Some h
+  raw : (state_of w).raw.jobs s ≡ Some q
+
+record Caller (w : World) (s : ℕ) : Type 0 where
+  call : Holding
+  job : Whole
+  calls : Calls w s call job
 
 there : {X : Type 0} (o : Option X) → is_some o ≡ true → (x : X) × (o ≡ Some x)
 there (Some x) h = (x, refl)
@@ -43,78 +54,112 @@ sound_some : (o : Option Whole) (f : Option Frame) (r : Option ℕ) → SoundBy 
 sound_some (Some q) f r h e = (q, refl)
 sound_some None f r h e = let none : is_some (standing_of f) ≡ false = ap (λ (g : Option Frame). is_some (standing_of g)) h.0 in cc
 
-raw_there : (w : World) (s : ℕ) → Sound (state_of w) → is_some (standing_of (frame_at w.frames.items s)) ≡ true → (q : Whole) × ((state_of w).raw.jobs s ≡ Some q)
-raw_there w s sound e =
-    sound_some ((state_of w).raw.jobs s) ((state_of w).frames s) ((state_of w).reserved s) (sound.each s).by (ap (λ (g : Option Frame). is_some (standing_of g)) (frame_is w s) ∙ e)
+caller : (w : World) (s : ℕ) → Sound (state_of w) → is_some (standing_of (frame_at w.frames.items s)) ≡ true → Caller w s
+caller w s sound e =
+    let stands : is_some (standing_of ((state_of w).frames s)) ≡ true = ap (λ (g : Option Frame). is_some (standing_of g)) (frame_is w s) ∙ e in
+    let h = there (standing_of ((state_of w).frames s)) stands in
+    let q = sound_some ((state_of w).raw.jobs s) ((state_of w).frames s) ((state_of w).reserved s) (sound.each s).by stands in
+    record { call = h.0; job = q.0; calls = record { stands = h.1; raw = q.1 } }
 
 pub stands_job : (w : World) (s : ℕ) → Sound (state_of w) → is_some (standing_of (frame_at w.frames.items s)) ≡ true → is_some (job_at w.jobs s) ≡ true
-stands_job w s sound e = let q = raw_there w s sound e in job_there w s q.0 q.1
+stands_job w s sound e = let c = caller w s sound e in job_there w s c.job c.calls.raw
 
--- its jobs are unwound that it reaches, and its own slot is as it was
+-- a fact on the two
+abbrev pub OnCall : World → ℕ → (Holding → Whole → Type 0) → Type 0
+OnCall w s P = IfSome (standing_of (frame_at w.frames.items s)) (λ f. IfSome (raw_at w.files w.core w.jobs s) (λ q. P f q))
+
+of_call : (w : World) (s : ℕ) (P : Holding → Whole → Type 0) (h : Holding) (q : Whole) → Calls w s h q → OnCall w s P → P h q
+unfolding state_of
+of_call w s P h q c x =
+    subst (λ (o : Option Whole). IfSome o (P h)) c.raw (subst (λ (o : Option Holding). IfSome o (λ f. IfSome (raw_at w.files w.core w.jobs s) (λ q. P f q))) c.stands x)
+
+on_call : (w : World) (s : ℕ) (P : Holding → Whole → Type 0) (h : Holding) (q : Whole) → Calls w s h q → P h q → OnCall w s P
+unfolding state_of
+on_call w s P h q c x =
+    subst (λ (o : Option Holding). IfSome o (λ f. IfSome (raw_at w.files w.core w.jobs s) (λ q. P f q))) (sym c.stands) (subst (λ (o : Option Whole). IfSome o (P h)) (sym c.raw) x)
+
+-- the jobs are unwound that it reaches
 abbrev pub Reaches : World → World → ℕ → Type 0
-Reaches old mid s = IfSome (standing_of (frame_at old.frames.items s)) (λ f. IfSome (raw_at old.core old.jobs s) (λ q. state_of mid ≡ all_unwound (reach (state_of old).raw s q f.ask) (state_of old)))
+Reaches old mid s = OnCall old s (λ f q. state_of mid ≡ all_unwound (reach (state_of old).raw s q f.ask) (state_of old))
 
-record Found (old mid : World) (s : ℕ) : Type 0 where
-  call : Holding
-  job : Whole
-  stands : standing_of ((state_of old).frames s) ≡ Some call
-  raw : (state_of old).raw.jobs s ≡ Some job
-  is : state_of mid ≡ all_unwound (reach (state_of old).raw s job call.ask) (state_of old)
-  cleared : Cleared (state_of old) (state_of mid) s job call
+-- the parts of a half made close are made that are still owed, where it is one on files
+abbrev pub Helps : World → World → ℕ → Type 0
+Helps mid new s = OnCall mid s (λ f q. state_of new ≡ helped_if (helps q f.ask) (state_of mid))
 
-found : (old mid : World) (s : ℕ) → Kept old → is_some (standing_of (frame_at old.frames.items s)) ≡ true → Reaches old mid s → Found old mid s
-found old mid s kept e row =
-    let h = there (standing_of (frame_at old.frames.items s)) e in
-    let q = raw_there old s kept.sound e in
-    let stands : standing_of ((state_of old).frames s) ≡ Some h.0 = ap standing_of (frame_is old s) ∙ h.1 in
-    let row_of : IfSome (raw_at old.core old.jobs s) (λ q. state_of mid ≡ all_unwound (reach (state_of old).raw s q h.0.ask) (state_of old)) =
-    subst (λ (o : Option Holding). IfSome o (λ f. IfSome (raw_at old.core old.jobs s) (λ q. state_of mid ≡ all_unwound (reach (state_of old).raw s q f.ask) (state_of old)))) h.1 row in
-    let is : state_of mid ≡ all_unwound (reach (state_of old).raw s q.0 h.0.ask) (state_of old) =
-    subst (λ (o : Option Whole). IfSome o (λ q. state_of mid ≡ all_unwound (reach (state_of old).raw s q h.0.ask) (state_of old))) (sym (raw_is old s) ∙ q.1) row_of in
+-- both: what its commit finds
+abbrev pub Readies : World → World → ℕ → Type 0
+Readies old new s = OnCall old s (λ f q. state_of new ≡ prepared (state_of old) s q f.ask)
+
+-- the call is the same once the jobs are unwound
+reached_calls : (old mid : World) (s : ℕ) (h : Holding) (q : Whole) → Kept old → Calls old s h q → Reaches old mid s → Calls mid s h q
+reached_calls old mid s h q kept c row =
+    let w : State = state_of old in
+    let u : State = all_unwound (reach w.raw s q h.ask) w in
+    let all = cleared w (prepared w s q h.ask) s q h kept.sound kept.distinct c.raw c.stands refl in
+    let later : SlotSame u (prepared w s q h.ask) s = helped_if_others (helps q h.ask) u s in
+    let is : state_of mid ≡ u = of_call old s (λ f q. state_of mid ≡ all_unwound (reach w.raw s q f.ask) w) h q c row in
     record {
-      call = h.0;
-      job = q.0;
-      stands = stands;
-      raw = q.1;
-      is = is;
-      cleared = cleared (state_of old) (state_of mid) s q.0 h.0 kept.sound kept.distinct (unmarked old) q.1 stands is;
+      stands = ap (λ (v : State). standing_of (v.frames s)) is ∙ ap standing_of (sym later.frame) ∙ all.stands;
+      raw = ap (λ (v : State). v.raw.jobs s) is ∙ sym later.job ∙ all.job;
     }
 
-pub mid_job : (old mid : World) (s : ℕ) → Kept old → is_some (standing_of (frame_at old.frames.items s)) ≡ true → Reaches old mid s → is_some (job_at mid.jobs s) ≡ true
-mid_job old mid s kept e row = let f = found old mid s kept e row in job_there mid s f.job f.cleared.job
+module _ (old mid : World) (s : ℕ) (kept : Kept old) (e : is_some (standing_of (frame_at old.frames.items s)) ≡ true) (row : Reaches old mid s) where
+  reached : (c : Caller old s) → Calls mid s c.call c.job
+  reached c = reached_calls old mid s c.call c.job kept c.calls row
 
-pub mid_stands : (old mid : World) (s : ℕ) → Kept old → is_some (standing_of (frame_at old.frames.items s)) ≡ true → Reaches old mid s
-    → is_some (standing_of (frame_at mid.frames.items s)) ≡ true
-mid_stands old mid s kept e row =
-    let f = found old mid s kept e row in
-    ap (λ (g : Option Frame). is_some (standing_of g)) (sym (frame_is mid s)) ∙ ap is_some f.cleared.stands
+  pub reach_stands : is_some (standing_of (frame_at mid.frames.items s)) ≡ true
+  reach_stands =
+      let c = caller old s kept.sound e in
+      ap (λ (g : Option Frame). is_some (standing_of g)) (sym (frame_is mid s)) ∙ ap is_some (reached c).stands
+
+  pub made_ready : (new : World) → Helps mid new s → Readies old new s
+  made_ready new helped =
+      let c = caller old s kept.sound e in
+      on_call old s (λ f q. state_of new ≡ prepared (state_of old) s q f.ask) c.call c.job c.calls
+      (of_call mid s (λ f q. state_of new ≡ helped_if (helps q f.ask) (state_of mid)) c.call c.job (reached c) helped
+      ∙ ap (helped_if (helps c.job c.call.ask)) (of_call old s (λ f q. state_of mid ≡ all_unwound (reach (state_of old).raw s q f.ask) (state_of old)) c.call c.job c.calls row))
 
 -- it is decided, and can be carried out
 abbrev pub Decides : World → ℕ → Decision → Type 0
-Decides mid s d = IfSome (standing_of (frame_at mid.frames.items s)) (λ f. IfSome (raw_at mid.core mid.jobs s) (λ q. d ≡ decision (state_of mid).raw s q f.ask))
+Decides mid s d = OnCall mid s (λ f q. d ≡ decision (state_of mid).raw s q f.ask)
 
-found_tries : (old mid : World) (s : ℕ) (d : Decision) → Kept old → (f : Found old mid s) → Decides mid s d → Tries (state_of old) (state_of mid) s f.job f.call d
-found_tries old mid s d kept f h =
-    let by_call : IfSome (raw_at mid.core mid.jobs s) (λ q. d ≡ decision (state_of mid).raw s q f.call.ask) =
-    subst (λ (o : Option Holding). IfSome o (λ f. IfSome (raw_at mid.core mid.jobs s) (λ q. d ≡ decision (state_of mid).raw s q f.ask))) (ap standing_of (sym (frame_is mid s)) ∙ f.cleared.stands) h in
-    let decides : d ≡ decision (state_of mid).raw s f.job f.call.ask =
-    subst (λ (o : Option Whole). IfSome o (λ q. d ≡ decision (state_of mid).raw s q f.call.ask)) (sym (raw_is mid s) ∙ f.cleared.job) by_call in
-    tries (state_of old) (state_of mid) s f.job f.call d kept.sound kept.distinct (unmarked old) f.raw (raw_consoled (state_of old) s f.job (record { each = kept.consoled }) f.raw)
-    f.stands f.is decides
+module _ (old mid : World) (s : ℕ) (kept : Kept old) (e : is_some (standing_of (frame_at old.frames.items s)) ≡ true) (row : Readies old mid s) where
+  ready_is : (c : Caller old s) → state_of mid ≡ prepared (state_of old) s c.job c.call.ask
+  ready_is c = of_call old s (λ f q. state_of mid ≡ prepared (state_of old) s q f.ask) c.call c.job c.calls row
 
-pub mid_ready : (old mid : World) (s : ℕ) (d : Decision) → Kept old → is_some (standing_of (frame_at old.frames.items s)) ≡ true → Reaches old mid s → Decides mid s d
-    → IfSome (standing_of (frame_at mid.frames.items s)) (λ f. Ready (state_of mid) s f d)
-mid_ready old mid s d kept e row h =
-    let f = found old mid s kept e row in
-    ready_there old mid s f.job f.call d (found_tries old mid s d kept f h)
+  found : (c : Caller old s) → Cleared (state_of old) (state_of mid) s c.job c.call
+  found c = cleared (state_of old) (state_of mid) s c.job c.call kept.sound kept.distinct c.calls.raw c.calls.stands (ready_is c)
 
-pub trial_made : (old mid new : World) (s : ℕ) (d : Decision) (p : Pace) → Kept old → is_some (standing_of (frame_at old.frames.items s)) ≡ true → Reaches old mid s → Decides mid s d
-    → IfSome (standing_of (frame_at mid.frames.items s)) (λ f. state_of new ≡ committed (state_of mid) s f.site f.ask f.owes d) → p ≡ pace_of d
-    → IfSome (raw_at old.core old.jobs s) (λ q. tick_in (state_of old) s q (frame_at old.frames.items s) ≡ ticked (state_of new) p)
-trial_made old mid new s d p kept e row h carried pace =
-    let f = found old mid s kept e row in
-    let t = found_tries old mid s d kept f h in
-    let made : state_of new ≡ committed (state_of mid) s f.call.site f.call.ask f.call.owes d =
-    subst (λ (o : Option Holding). IfSome o (λ f. state_of new ≡ committed (state_of mid) s f.site f.ask f.owes d)) (ap standing_of (sym (frame_is mid s)) ∙ f.cleared.stands) carried in
-    subst (λ (o : Option Whole). IfSome o (λ q. tick_in (state_of old) s q (frame_at old.frames.items s) ≡ ticked (state_of new) p)) (sym f.raw ∙ raw_is old s)
-    (ap (tick_in (state_of old) s f.job) (sym (frame_is old s)) ∙ t.row ∙ (λ i. record { state = sym made i; pace = sym pace i }))
+  still : (c : Caller old s) → Calls mid s c.call c.job
+  still c = record { stands = (found c).stands; raw = (found c).job }
+
+  pub mid_job : is_some (job_at mid.jobs s) ≡ true
+  mid_job = let c = caller old s kept.sound e in job_there mid s c.job (found c).job
+
+  pub mid_stands : is_some (standing_of (frame_at mid.frames.items s)) ≡ true
+  mid_stands =
+      let c = caller old s kept.sound e in
+      ap (λ (g : Option Frame). is_some (standing_of g)) (sym (frame_is mid s)) ∙ ap is_some (found c).stands
+
+  pub mid_unmarked : OnCall mid s (λ f q. helps q f.ask ≡ true → mid.files.mark ≡ None)
+  mid_unmarked =
+      let c = caller old s kept.sound e in
+      on_call mid s (λ f q. helps q f.ask ≡ true → mid.files.mark ≡ None) c.call c.job (still c) (λ h. mark_none mid.files (sym (marks_are mid) ∙ (found c).unmarked h))
+
+  found_tries : (c : Caller old s) (d : Decision) → Decides mid s d → Tries (state_of old) (state_of mid) s c.job c.call d
+  found_tries c d h =
+      tries (state_of old) (state_of mid) s c.job c.call d kept.sound kept.distinct c.calls.raw (raw_consoled (state_of old) s c.job (record { each = kept.consoled }) c.calls.raw) c.calls.stands (ready_is c)
+      (of_call mid s (λ f q. d ≡ decision (state_of mid).raw s q f.ask) c.call c.job (still c) h)
+
+  pub mid_ready : (d : Decision) → Decides mid s d → IfSome (standing_of (frame_at mid.frames.items s)) (λ f. Ready (state_of mid) s f d)
+  mid_ready d h = let c = caller old s kept.sound e in ready_there old mid s c.job c.call d (found_tries c d h)
+
+  pub trial_made : (new : World) (d : Decision) (p : Pace) → Decides mid s d → IfSome (standing_of (frame_at mid.frames.items s)) (λ f. state_of new ≡ committed (state_of mid) s f.site f.ask f.owes d)
+      → p ≡ pace_of d → IfSome (raw_at old.files old.core old.jobs s) (λ q. tick_in (state_of old) s q (frame_at old.frames.items s) ≡ ticked (state_of new) p)
+  trial_made new d p h carried pace =
+      let c = caller old s kept.sound e in
+      let t = found_tries c d h in
+      let made : state_of new ≡ committed (state_of mid) s c.call.site c.call.ask c.call.owes d =
+      subst (λ (o : Option Holding). IfSome o (λ f. state_of new ≡ committed (state_of mid) s f.site f.ask f.owes d)) (ap standing_of (sym (frame_is mid s)) ∙ (found c).stands) carried in
+      subst (λ (o : Option Whole). IfSome o (λ q. tick_in (state_of old) s q (frame_at old.frames.items s) ≡ ticked (state_of new) p)) (sym c.calls.raw ∙ raw_is old s)
+      (ap (tick_in (state_of old) s c.job) (sym (frame_is old s)) ∙ t.row ∙ (λ i. record { state = sym made i; pace = sym pace i }))

@@ -8,9 +8,11 @@ use Rattle.its_word.specs.Only.{Only}
 use Rattle.its_word.specs.Core.{Core}
 use Rattle.its_word.specs.declared.calls.Pace.TheVariants.{Step, Work}
 use Rattle.its_word.specs.declared.calls.Site.{Site}
+use Rattle.its_word.specs.declared.jobs.Channel.{Channel}
 use Rattle.its_word.specs.declared.jobs.Channel.TheVariants as channels
 use Rattle.its_word.specs.declared.jobs.Job.{Job}
 use Rattle.its_core.specs.Cores.{Cores, core_at, clear_at}
+use Rattle.its_files.specs.Files.{Store, directory}
 use Rattle.its_jobs.specs.Table.{Table, job_at, superior_at}
 use Rattle.its_frame.specs.declared.change.Change.TheVariants as changes
 use Rattle.its_frame.specs.declared.frame.Frame.{Frame}
@@ -33,14 +35,16 @@ use Rattle.its_stepped.proofs.FrameLaws.{on_slot_other}
 use Rattle.its_stepped.proofs.GivenLaws.{given}
 use Rattle.its_stepped.proofs.TickLaws.{seen_at, seen_none}
 use Rattle.its_stepped.proofs.UnwindLaws.{all_unwound_others, slot_same, slot_then}
-use Rattle.its_world.specs.World.{bare, chan_of, raw_of, raw_at, frame_at, state_of, Becomes, CoreBecomes, FrameBecomes, JobBecomes, console_at, holder_at}
+use Rattle.its_world.specs.Tidy.{Tidy}
+use Rattle.its_world.specs.World.{bare, chan_of, chans_of, mark_of, raw_of, raw_at, frame_at, state_of, Becomes, CoreBecomes, FrameBecomes, JobBecomes, console_at, holder_at}
 use Rattle.its_world.specs.declared.world.World.{World}
 use Rattle.its_world.proofs.BareLaws.{bare_delivered, bare_outcome, delivered_bare, delivered_channels, delivered_stops, unit_bare, unit_channels}
 use Rattle.its_world.proofs.StateLaws.{kept_turn, raw_job, raw_some, state_is, turned_state}
 use Rattle.its_world.proofs.WorldLaws.{core_becomes, job_becomes, then_becomes}
+use Rattle.its_pclsr.proofs.ApartLaws.{tidy_put}
 use Rattle.its_operator.specs.Kept.{Kept}
 use Rattle.its_operator.proofs.RegisterLaws.{raw_is}
-use Rattle.its_monitor.specs.Ticks.{Left, Made, UnitIn, left_by, ticked}
+use Rattle.its_monitor.specs.Ticks.{Left, Made, UnitIn, left_by, ticked, with_channels}
 
 -- the job of a slot in user mode, as the state has it
 frames_of : (w : World) (s : ℕ) → (state_of w).frames s ≡ frame_at w.frames.items s
@@ -56,16 +60,16 @@ pub user_addressed : (w : World) (s : ℕ) → Kept w → frame_at w.frames.item
 user_addressed w s kept none = go (job_at w.jobs s) refl
   where
     go : (o : Option Job) → job_at w.jobs s ≡ o → IfSome o (λ j. j.pc < 2 ^ 18)
-    go (Some j) is = raw_addressed w s (raw_job (core_at w.core s) j (superior_at w.jobs s)) kept none (raw_is w s j is)
+    go (Some j) is = raw_addressed w s (raw_job w.files (core_at w.core s) j (superior_at w.jobs s)) kept none (raw_is w s j is)
     go None is = tt
 
 superior_apart : (w : World) (s : ℕ) (j : Job) → Kept w → frame_at w.frames.items s ≡ None → job_at w.jobs s ≡ Some j → superior_at w.jobs s ≢ Some s
 superior_apart w s j kept none is =
-    let q : Whole = raw_job (core_at w.core s) j (superior_at w.jobs s) in
+    let q : Whole = raw_job w.files (core_at w.core s) j (superior_at w.jobs s) in
     subst (λ (o : Option Frame). GivenBy (state_of w) s q o) (frames_of w s ∙ none) ((given decoding (state_of w) s kept.distinct kept.sound).by q (raw_is w s j is))
 
 -- what holds of the raw job of a slot
-raw_fact : (P : Whole → Type 0) (w : World) (s : ℕ) (j : Job) → job_at w.jobs s ≡ Some j → P (raw_job (core_at w.core s) j (superior_at w.jobs s)) → IfSome (raw_at w.core w.jobs s) P
+raw_fact : (P : Whole → Type 0) (w : World) (s : ℕ) (j : Job) → job_at w.jobs s ≡ Some j → P (raw_job w.files (core_at w.core s) j (superior_at w.jobs s)) → IfSome (raw_at w.files w.core w.jobs s) P
 raw_fact P w s j is h = subst (λ (x : Option Whole). IfSome x P) (sym (raw_some w s j is)) h
 
 -- the core of a slot is written, and then its registers
@@ -107,8 +111,8 @@ unit_in w s c i j size count true had others reserved left same = record {
   had = had;
   is = left;
   becomes = put_then w (record w { core = c }) _ s (core_at c s) j
-      (core_becomes w (record w { core = c }) s (core_at c s) (record { here = refl; others = others }) reserved refl refl refl refl refl)
-      (job_becomes (record w { core = c }) _ s j (job_put w.jobs s i j had) refl refl refl refl refl refl);
+      (core_becomes w (record w { core = c }) s (core_at c s) (record { here = refl; others = others }) reserved refl refl refl refl refl refl)
+      (job_becomes (record w { core = c }) _ s j (job_put w.jobs s i j had) refl refl refl refl refl refl refl);
 }
 unit_in w s c i j size count false had others reserved left same = record {
   same = let e = same refl in put_same w s c i j size count had e.0 e.1;
@@ -116,8 +120,8 @@ unit_in w s c i j size count false had others reserved left same = record {
 }
 
 -- what a unit leaves of a job is its row
-becomes_raw : (c d : Core) (superior : Option ℕ) (i k : Job) → k.channels ≡ i.channels → becomes d (bare k) (raw_job c i superior) ≡ raw_job d k superior
-becomes_raw c d superior i k h = λ t. record { core = d; job = bare k; superior = superior; channels = λ n. chan_of (slice_index_or (sym h t) n channels.Closed) }
+becomes_raw : (s : Store) (c d : Core) (superior : Option ℕ) (i k : Job) → k.channels ≡ i.channels → becomes d (bare k) (raw_job s c i superior) ≡ raw_job s d k superior
+becomes_raw s c d superior i k h = λ t. record { core = d; job = bare k; superior = superior; channels = λ n. chan_of s (slice_index_or (sym h t) n channels.Closed) }
 
 left_becomes : (old new : World) (s : ℕ) (l m : Left) → l ≡ m → frame_at old.frames.items s ≡ None → Becomes old new s m.core (Some m.job) (frame_at old.frames.items s) (clear_at old.core s)
     → Becomes old new s l.core (Some l.job) None (clear_at old.core s)
@@ -131,7 +135,7 @@ left_row : (old new : World) (s : ℕ) (i : Job) (o : Outcome) (l : Left) → jo
 left_row old new s i (Changed d k) l had none u is b =
     let e : record { core = d; job = k } ≡ l = cc in
     ap stepped (sym (turned_state old new s d k i None (becomes d (bare k)) (left_becomes old new s (record { core = d; job = k }) l e none b) had
-    (becomes_raw (core_at old.core s) d (superior_at old.jobs s) i k (unit_channels (core_at old.core s) d i k u))))
+    (becomes_raw old.files (core_at old.core s) d (superior_at old.jobs s) i k (unit_channels (core_at old.core s) d i k u))))
 left_row old new s i (Faulted f) l had none u is b =
     let e : record { core = core_at old.core s; job = with_pending i (bit_of f) } ≡ l = cc in
     ap stepped (sym (turned_state old new s (core_at old.core s) (with_pending i (bit_of f)) i None (faulted f)
@@ -139,24 +143,51 @@ left_row old new s i (Faulted f) l had none u is b =
 left_row old new s i (Called x) l had none u is b = absurd cc
 
 pub unit_row : (old new : World) (s : ℕ) → Made old new s (λ j. unit (core_at old.core s) j) → frame_at old.frames.items s ≡ None
-    → IfSome (raw_at old.core old.jobs s) (λ q. unit_on (state_of old) s (unit q.core q.job) ≡ ticked (state_of new) Step)
+    → IfSome (raw_at old.files old.core old.jobs s) (λ q. unit_on (state_of old) s (unit q.core q.job) ≡ ticked (state_of new) Step)
 unit_row old new s m none =
     raw_fact (λ q. unit_on (state_of old) s (unit q.core q.job) ≡ ticked (state_of new) Step) old s m.job m.had
     (ap (unit_on (state_of old) s) (unit_bare (core_at old.core s) m.job)
     ∙ left_row old new s m.job (unit (core_at old.core s) m.job) m.left m.had none refl m.is m.becomes)
 
+-- the channels of the job are as they were
+left_channels : (c : Core) (i : Job) (o : Outcome) (l : Left) → unit c i ≡ o → left_by o c i ≡ Some l → l.job.channels ≡ i.channels
+left_channels c i (Changed d k) l u is =
+    let e : record { core = d; job = k } ≡ l = cc in
+    ap (λ (x : Left). x.job.channels) (sym e) ∙ unit_channels c d i k u
+left_channels c i (Faulted f) l u is =
+    let e : record { core = c; job = with_pending i (bit_of f) } ≡ l = cc in
+    ap (λ (x : Left). x.job.channels) (sym e)
+left_channels c i (Called x) l u is = absurd cc
+
+pub unit_tidy : (old new : World) (s : ℕ) → Made old new s (λ j. unit (core_at old.core s) j) → Tidy old → Tidy new
+unit_tidy old new s m tidy =
+    tidy_put old new s m.left.core m.job m.left.job (frame_at old.frames.items s) (clear_at old.core s) m.had
+    (left_channels (core_at old.core s) m.job (unit (core_at old.core s) m.job) m.left refl m.is) m.becomes tidy
+
 -- the job enters the monitor
 pub call_row : (old new : World) (s : ℕ) (x : Site) → is_some (job_at old.jobs s) ≡ true → IfSome (job_at old.jobs s) (λ j. unit (core_at old.core s) j ≡ Called x)
-    → FrameBecomes old new s (Some (entered x)) → IfSome (raw_at old.core old.jobs s) (λ q. unit_on (state_of old) s (unit q.core q.job) ≡ ticked (state_of new) Work)
+    → FrameBecomes old new s (Some (entered x)) → IfSome (raw_at old.files old.core old.jobs s) (λ q. unit_on (state_of old) s (unit q.core q.job) ≡ ticked (state_of new) Work)
 call_row old new s x some h b = go (job_at old.jobs s) refl h
   where
     row : state_of new ≡ turn (state_of old) s same (Some (entered x))
     row = kept_turn old new s (Some (entered x)) some b
 
     go : (o : Option Job) → job_at old.jobs s ≡ o → IfSome o (λ j. unit (core_at old.core s) j ≡ Called x)
-        → IfSome (raw_of (core_at old.core s) (superior_at old.jobs s) o) (λ q. unit_on (state_of old) s (unit q.core q.job) ≡ ticked (state_of new) Work)
+        → IfSome (raw_of old.files (core_at old.core s) (superior_at old.jobs s) o) (λ q. unit_on (state_of old) s (unit q.core q.job) ≡ ticked (state_of new) Work)
     go (Some j) is u = ap (unit_on (state_of old) s) (unit_bare (core_at old.core s) j ∙ ap bare_outcome u) ∙ ap works (sym row)
     go None is u = tt
+
+-- the registers that a delivery leaves, with the channels that a job has
+channels_kept : (c : Core) (i : Job) → with_channels i.channels (delivered c i).job ≡ (delivered c i).job
+channels_kept c i = ap (λ (cs : List Channel). with_channels cs (delivered c i).job) (sym (delivered_channels c i))
+
+-- registers are written, and the job keeps its channels
+pub written_back : (old new : World) (s : ℕ) (o : Option Job) (j k : Job) → o ≡ job_at old.jobs s → o ≡ Some k → JobBecomes old new s (with_channels k.channels j)
+    → IfSome (job_at old.jobs s) (λ i. JobBecomes old new s (with_channels i.channels j))
+written_back old new s o j k e is b = subst (λ (r : Option Job). IfSome r (λ i. JobBecomes old new s (with_channels i.channels j))) (sym is ∙ e) b
+
+put_at : (old new : World) (s : ℕ) (j k : Job) → job_at old.jobs s ≡ Some k → IfSome (job_at old.jobs s) (λ i. JobBecomes old new s (with_channels i.channels j)) → JobBecomes old new s (with_channels k.channels j)
+put_at old new s j k is h = subst (λ (r : Option Job). IfSome r (λ i. JobBecomes old new s (with_channels i.channels j))) is h
 
 -- a delivery that does not stop the job
 delivered_by : (w : State) (s : ℕ) (q : Whole) (b : Bool) (d : Delivered) → d.stops ≡ b
@@ -168,15 +199,17 @@ unfolding all_unwound
 nobody_unwound w o = refl
 
 pub delivery_done : (old mid new : World) (s : ℕ) (i j : Job) → job_at old.jobs s ≡ Some i → frame_at old.frames.items s ≡ None
-    → CoreBecomes old mid s (delivered (core_at old.core s) i).core → j ≡ (delivered (core_at old.core s) i).job → JobBecomes mid new s j → (delivered (core_at old.core s) i).stops ≡ false
-    → IfSome (raw_at old.core old.jobs s) (λ q. state_of new ≡ delivered_on (state_of old) s q (delivered q.core q.job))
+    → CoreBecomes old mid s (delivered (core_at old.core s) i).core → j ≡ (delivered (core_at old.core s) i).job
+    → IfSome (job_at mid.jobs s) (λ k. JobBecomes mid new s (with_channels k.channels j)) → (delivered (core_at old.core s) i).stops ≡ false
+    → IfSome (raw_at old.files old.core old.jobs s) (λ q. state_of new ≡ delivered_on (state_of old) s q (delivered q.core q.job))
 delivery_done old mid new s i j had none a e b quiet =
     let d : Delivered = delivered (core_at old.core s) i in
-    let q : Whole = raw_job (core_at old.core s) i (superior_at old.jobs s) in
+    let q : Whole = raw_job old.files (core_at old.core s) i (superior_at old.jobs s) in
+    let put : JobBecomes mid new s d.job = subst (JobBecomes mid new s) (ap (with_channels i.channels) e ∙ channels_kept (core_at old.core s) i) (put_at mid new s j i (a.job.here ∙ had) b) in
     raw_fact (λ q. state_of new ≡ delivered_on (state_of old) s q (delivered q.core q.job)) old s i had
     (turned_state old new s d.core d.job i None (becomes d.core (bare d.job))
-    (subst (λ (f : Option Frame). Becomes old new s d.core (Some d.job) f (clear_at old.core s)) none (put_then old mid new s d.core d.job a (subst (JobBecomes mid new s) e b))) had
-    (becomes_raw (core_at old.core s) d.core (superior_at old.jobs s) i d.job (delivered_channels (core_at old.core s) i))
+    (subst (λ (f : Option Frame). Becomes old new s d.core (Some d.job) f (clear_at old.core s)) none (put_then old mid new s d.core d.job a put)) had
+    (becomes_raw old.files (core_at old.core s) d.core (superior_at old.jobs s) i d.job (delivered_channels (core_at old.core s) i))
     ∙ ap (λ (v : State). turn v s (becomes d.core (bare d.job)) None) (sym (nobody_unwound (state_of old) (superior_at old.jobs s)))
     ∙ delivered_by (state_of old) s q false (bare_delivered d) quiet
     ∙ ap (delivered_on (state_of old) s q) (sym (delivered_bare (core_at old.core s) i)))
@@ -194,10 +227,11 @@ core_same old mid s c b e =
     let cores : (k : ℕ) → core_at mid.core k ≡ core_at old.core k = all_same (core_at old.core) (core_at mid.core) s (subst (λ (x : Core). Only (core_at old.core) (core_at mid.core) s x) e b.core) in
     let jobs : (k : ℕ) → job_at mid.jobs k ≡ job_at old.jobs k = all_same (job_at old.jobs) (job_at mid.jobs) s b.job in
     state_is _ _
-    (machine_is _ _ (λ k t. raw_of (cores k t) (slice_index_or (b.superiors t) k None) (jobs k t)) (λ c. ap (λ l. console_at l.items c) b.consoles) (λ c. ap (λ l. holder_at l c) b.holders) refl b.clock)
+    (machine_is _ _ (λ k t. raw_of (b.files t) (cores k t) (slice_index_or (b.superiors t) k None) (jobs k t)) (λ c. ap (λ l. console_at l.items c) b.consoles) (λ c. ap (λ l. holder_at l c) b.holders)
+    (ap directory b.files) b.clock)
     (all_same (frame_at old.frames.items) (frame_at mid.frames.items) s b.frame)
     (all_same (clear_at old.core) (clear_at mid.core) s b.reserved)
-    refl
+    (ap mark_of b.files)
 
 stop_same : (old mid : World) (s : ℕ) (i : Job) → CoreBecomes old mid s (delivered (core_at old.core s) i).core → (delivered (core_at old.core s) i).stops ≡ true → state_of mid ≡ state_of old
 stop_same old mid s i b stops = core_same old mid s (delivered (core_at old.core s) i).core b (delivered_stops (core_at old.core s) i stops)
@@ -246,23 +280,22 @@ told_apart w j (Some s) ne =
 told_apart w j None ne = slot_same w j
 
 -- what a world then has in that slot
-record Still (w : World) (s : ℕ) (c : Core) (i : Job) (superior : Option ℕ) : Type 0 where
+record Still (w : World) (s : ℕ) (q : Whole) : Type 0 where
   job : Job
   had : job_at w.jobs s ≡ Some job
-  raw : raw_job (core_at w.core s) job (superior_at w.jobs s) ≡ raw_job c i superior
+  raw : raw_job w.files (core_at w.core s) job (superior_at w.jobs s) ≡ q
 
-still_by : (w : World) (s : ℕ) (c : Core) (i : Job) (superior : Option ℕ) (o : Option Job) → job_at w.jobs s ≡ o
-    → raw_of (core_at w.core s) (superior_at w.jobs s) o ≡ Some (raw_job c i superior) → Still w s c i superior
-still_by w s c i superior (Some k) had is = record { job = k; had = had; raw = cc }
-still_by w s c i superior None had is = absurd cc
+still_by : (w : World) (s : ℕ) (q : Whole) (o : Option Job) → job_at w.jobs s ≡ o → raw_of w.files (core_at w.core s) (superior_at w.jobs s) o ≡ Some q → Still w s q
+still_by w s q (Some k) had is = record { job = k; had = had; raw = cc }
+still_by w s q None had is = absurd cc
 
-still : (w : World) (s : ℕ) (c : Core) (i : Job) (superior : Option ℕ) → (state_of w).raw.jobs s ≡ Some (raw_job c i superior) → Still w s c i superior
+still : (w : World) (s : ℕ) (q : Whole) → (state_of w).raw.jobs s ≡ Some q → Still w s q
 unfolding state_of
-still w s c i superior is = still_by w s c i superior (job_at w.jobs s) refl is
+still w s q is = still_by w s q (job_at w.jobs s) refl is
 
 -- a job that was stopped, after its superior was told
 record StillAt (old after : World) (s : ℕ) (i : Job) : Type 0 where
-  still : Still after s (core_at old.core s) i (superior_at old.jobs s)
+  still : Still after s (raw_job old.files (core_at old.core s) i (superior_at old.jobs s))
   frame : frame_at after.frames.items s ≡ None
   row : state_of after ≡ told_on (state_of old) s (superior_at old.jobs s)
 
@@ -275,7 +308,7 @@ stop_still old mid after s i had none kept b stops row =
     let e : state_of after ≡ told_on (state_of old) s sup = row ∙ (λ t. told_on (stop_same old mid s i b stops t) s (slice_index_or (b.superiors t) s None)) in
     let alike : SlotSame (state_of old) (state_of after) s = subst (λ (v : State). SlotSame (state_of old) v s) (sym e) (told_apart (state_of old) s sup (superior_apart old s i kept none had)) in
     record {
-      still = still after s (core_at old.core s) i sup (alike.job ∙ raw_is old s i had);
+      still = still after s (raw_job old.files (core_at old.core s) i sup) (alike.job ∙ raw_is old s i had);
       frame = sym (frames_of after s) ∙ alike.frame ∙ frames_of old s ∙ none;
       row = e;
     }
@@ -289,29 +322,31 @@ pub stop_stands : (old mid after : World) (s : ℕ) (i : Job) → job_at old.job
     → is_some (job_at after.jobs s) ≡ true
 stop_stands old mid after s i had none kept b stops row = let h = stop_still old mid after s i had none kept b stops row in some_is _ _ h.still.had
 
--- its registers are written then
-still_becomes : (w : World) (s : ℕ) (c d : Core) (i j : Job) (superior : Option ℕ) (h : Still w s c i superior) → d ≡ c → j.channels ≡ i.channels
-    → becomes d (bare j) (raw_job (core_at w.core s) h.job (superior_at w.jobs s)) ≡ raw_job (core_at w.core s) j (superior_at w.jobs s)
-still_becomes w s c d i j superior h e f =
-    let core : d ≡ core_at w.core s = e ∙ sym (ap (λ (q : Whole). q.core) h.raw) in
-    let before : (raw_job (core_at w.core s) h.job (superior_at w.jobs s)).channels ≡ (raw_job c i superior).channels = ap (λ (q : Whole). q.channels) h.raw in
-    let after : (raw_job c i superior).channels ≡ (raw_job c j superior).channels = λ t n. chan_of (slice_index_or (sym f t) n channels.Closed) in
-    λ t. record { core = core t; job = bare j; superior = superior_at w.jobs s; channels = (before ∙ after) t }
+-- its registers are written then. (Files have no numbers in a state, so what unwinding says of a state does not tell that its
+-- channels have the same ones: they are those that the world has)
+still_becomes : (w : World) (s : ℕ) (q : Whole) (d : Delivered) (h : Still w s q) → d.core ≡ q.core
+    → becomes d.core (bare d.job) (raw_job w.files (core_at w.core s) h.job (superior_at w.jobs s))
+    ≡ raw_job w.files (core_at w.core s) (with_channels h.job.channels d.job) (superior_at w.jobs s)
+still_becomes w s q d h e =
+    let core : d.core ≡ core_at w.core s = e ∙ sym (ap (λ (p : Whole). p.core) h.raw) in
+    λ t. record { core = core t; job = bare d.job; superior = superior_at w.jobs s; channels = chans_of w.files h.job }
 
 pub stop_done : (old mid after new : World) (s : ℕ) (i j : Job) → job_at old.jobs s ≡ Some i → frame_at old.frames.items s ≡ None → Kept old
     → CoreBecomes old mid s (delivered (core_at old.core s) i).core → (delivered (core_at old.core s) i).stops ≡ true
     → state_of after ≡ told_on (state_of mid) s (superior_at mid.jobs s)
-    → j ≡ (delivered (core_at old.core s) i).job → JobBecomes after new s j
-    → IfSome (raw_at old.core old.jobs s) (λ q. state_of new ≡ delivered_on (state_of old) s q (delivered q.core q.job))
+    → j ≡ (delivered (core_at old.core s) i).job → IfSome (job_at after.jobs s) (λ k. JobBecomes after new s (with_channels k.channels j))
+    → IfSome (raw_at old.files old.core old.jobs s) (λ q. state_of new ≡ delivered_on (state_of old) s q (delivered q.core q.job))
 stop_done old mid after new s i j had none kept b stops row e put =
     let c : Core = core_at old.core s in
     let d : Delivered = delivered c i in
-    let q : Whole = raw_job c i (superior_at old.jobs s) in
+    let q : Whole = raw_job old.files c i (superior_at old.jobs s) in
     let h = stop_still old mid after s i had none kept b stops row in
+    let k : Job = with_channels h.still.job.channels d.job in
+    let written : JobBecomes after new s k = subst (λ (x : Job). JobBecomes after new s (with_channels h.still.job.channels x)) e (put_at after new s j h.still.job h.still.had put) in
     raw_fact (λ q. state_of new ≡ delivered_on (state_of old) s q (delivered q.core q.job)) old s i had
-    (turned_state after new s (core_at after.core s) d.job h.still.job None (becomes d.core (bare d.job))
-    (subst (λ (f : Option Frame). Becomes after new s (core_at after.core s) (Some d.job) f (clear_at after.core s)) h.frame (subst (JobBecomes after new s) e put)) h.still.had
-    (still_becomes after s c d.core i d.job (superior_at old.jobs s) h.still (delivered_stops c i stops) (delivered_channels c i))
+    (turned_state after new s (core_at after.core s) k h.still.job None (becomes d.core (bare d.job))
+    (subst (λ (f : Option Frame). Becomes after new s (core_at after.core s) (Some k) f (clear_at after.core s)) h.frame written) h.still.had
+    (still_becomes after s q d h.still (delivered_stops c i stops))
     ∙ ap (λ (v : State). turn v s (becomes d.core (bare d.job)) None) h.row
     ∙ delivered_by (state_of old) s q true (bare_delivered d) stops
     ∙ ap (delivered_on (state_of old) s q) (sym (delivered_bare c i)))

@@ -2,6 +2,7 @@
 use Rattle.std.specs.Prelude.{◌≡◌, ◌==◌, ◌&&◌, ℕ, Bool, true, false, Option, Some, None, IfSome, List, [], ◌∷◌, ◌++◌}
 use Rattle.its_word.specs.Core.{Core}
 use Rattle.its_word.specs.Tree.{slots_below}
+use Rattle.its_word.specs.declared.jobs.Channel.{Channel}
 use Rattle.its_word.specs.declared.jobs.Job.{Job}
 use Rattle.its_word.specs.declared.calls.Ask.{Ask}
 use Rattle.its_word.specs.declared.calls.Pace.{Pace}
@@ -37,6 +38,10 @@ abbrev pub left_by : Outcome → Core → Job → Option Left
 left_by (Changed c k) d j = Some (record { core = c; job = k })
 left_by (Faulted f) d j = Some (record { core = d; job = with_pending j (bit_of f) })
 left_by (Called s) d j = None
+
+-- registers with other channels
+abbrev pub with_channels : List Channel → Job → Job
+with_channels cs j = record j { channels = cs }
 
 -- the unit of the job of slot s is made
 pub record Made (old new : World) (s : ℕ) (o : Job → Outcome) : Type 0 where

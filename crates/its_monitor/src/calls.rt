@@ -2,21 +2,22 @@
 ghost use Rattle.std.specs.Prelude.{◌≡◌, ◌≤◌, ◌<◌, ◌^◌, Some, None, IfSome, is_some, true, length};
 ghost use Rattle.its_word.specs.Limits.{slots};
 ghost use Rattle.its_jobs.specs.Table.{job_at};
-ghost use Rattle.its_pclsr.specs.Apart.{Blank};
+ghost use Rattle.its_world.specs.Tidy.{Tidy};
 ghost use Rattle.its_pclsr.specs.Carried.{standing_of};
 ghost use Rattle.its_plain.specs.Ask.{fetch as fetched_by, parse as parsed_by};
 ghost use Rattle.its_plain.specs.CallStep.{decision, faulted};
+ghost use Rattle.its_plain.specs.Decide.{reach};
 ghost use Rattle.its_plain.specs.Footprint.{SiteFits};
 ghost use Rattle.its_plain.specs.Job.{bit_of};
 ghost use Rattle.its_stepped.specs.State.{holding, same, turn};
-ghost use Rattle.its_stepped.specs.Tick.{fetched_on, parsed_on, tick_in};
-ghost use Rattle.its_stepped.specs.Unwind.{unwind_one as unwind_one_of};
+ghost use Rattle.its_stepped.specs.Tick.{fetched_on, helped_if, helps, parsed_on, tick_in};
+ghost use Rattle.its_stepped.specs.Unwind.{all_unwound, help, unwind_one as unwind_one_of};
 ghost use Rattle.its_world.specs.World.{frame_at, raw_at, state_of};
 ghost use Rattle.its_operator.specs.Kept.{Kept};
 ghost use Rattle.its_monitor.specs.Ticks.{is_decoded, pace_of, ticked};
 
 use super::reach::unwind_reach;
-use call_tty::decide;
+use call_file::{decide, helps};
 use its_decode::{fetch_site, parse_site};
 use its_frame::{Asked, Decision, Entered, Frame, Holding, Parsed};
 use its_pclsr::{carry_out, unwind_one};
@@ -28,8 +29,8 @@ pub fn in_call(w: &mut World, slot: u8) -> Pace
     requires slot { slot < slots }
     requires kept { Kept w.old }
     requires frame { is_some (frame_at w.old.frames.items slot) ≡ true }
-    ensures row { IfSome (raw_at w.old.core w.old.jobs slot) (λ q. tick_in (state_of w.old) slot q (frame_at w.old.frames.items slot) ≡ ticked (state_of w.new) result) }
-    ensures blank { Blank w.new }
+    ensures row { IfSome (raw_at w.old.files w.old.core w.old.jobs slot) (λ q. tick_in (state_of w.old) slot q (frame_at w.old.frames.items slot) ≡ ticked (state_of w.new) result) }
+    ensures tidy { Tidy w.new }
 {
     match &w.frames[usize::from(slot)] {
         Some(Frame::Holding(_)) => attempt(w, slot),
@@ -41,27 +42,27 @@ pub fn in_call(w: &mut World, slot: u8) -> Pace
 }
 
 /// One of the steps that a call owes.
-#[tactic(auto, using(crate::proofs::CallLaws::blank_of))]
+#[tactic(auto, using(crate::proofs::CallLaws::tidy_of))]
 fn pay(w: &mut World, slot: u8) -> Pace
     requires slot { slot < slots }
     requires kept { Kept w.old }
     requires frame { is_some (frame_at w.old.frames.items slot) ≡ true }
     ensures row { state_of w.new ≡ unwind_one_of (state_of w.old) slot }
     ensures pace { result ≡ Pace.Work }
-    ensures blank { Blank w.new }
+    ensures tidy { Tidy w.new }
 {
     unwind_one(w, slot);
     Pace::Work
 }
 
 /// The next step of the decoding of a call.
-#[tactic(auto, using(crate::proofs::CallLaws::blank_of, its_pclsr::proofs::ApartLaws::blank_kept))]
+#[tactic(auto, using(crate::proofs::CallLaws::tidy_of))]
 fn decode(w: &mut World, slot: u8) -> Pace
     requires slot { slot < slots }
     requires kept { Kept w.old }
     requires frame { is_decoded (frame_at w.old.frames.items slot) ≡ true }
-    ensures row { IfSome (raw_at w.old.core w.old.jobs slot) (λ q. tick_in (state_of w.old) slot q (frame_at w.old.frames.items slot) ≡ ticked (state_of w.new) result) }
-    ensures blank { Blank w.new }
+    ensures row { IfSome (raw_at w.old.files w.old.core w.old.jobs slot) (λ q. tick_in (state_of w.old) slot q (frame_at w.old.frames.items slot) ≡ ticked (state_of w.new) result) }
+    ensures tidy { Tidy w.new }
 {
     match w.take_frame(slot) {
         Some(Frame::Entered(f)) => parse(w, slot, f),
@@ -72,15 +73,14 @@ fn decode(w: &mut World, slot: u8) -> Pace
 }
 
 /// The block of a call is read.
-#[tactic(auto, using(its_pclsr::proofs::ApartLaws::blank_kept))]
 fn parse(w: &mut World, slot: u8, f: Entered) -> Pace
     requires slot { slot < slots }
     requires job { is_some (job_at w.old.jobs slot) ≡ true }
     requires frame { frame_at w.old.frames.items slot ≡ None }
     requires fits { SiteFits f.site }
-    requires blank { Blank w.old }
-    ensures row { IfSome (raw_at w.old.core w.old.jobs slot) (λ q. parsed_on (state_of w.old) slot f.site (parsed_by q.core f.site) ≡ ticked (state_of w.new) result) }
-    ensures blank { Blank w.new }
+    requires tidy { Tidy w.old }
+    ensures row { IfSome (raw_at w.old.files w.old.core w.old.jobs slot) (λ q. parsed_on (state_of w.old) slot f.site (parsed_by q.core f.site) ≡ ticked (state_of w.new) result) }
+    ensures tidy { Tidy w.new }
 {
     match parse_site(&w.core, slot, &f.site) {
         Ok(block) => {
@@ -101,16 +101,15 @@ fn parse(w: &mut World, slot: u8, f: Entered) -> Pace
 }
 
 /// The addresses and values of a call's arguments are found.
-#[tactic(auto, using(its_pclsr::proofs::ApartLaws::blank_kept))]
 fn fetch(w: &mut World, slot: u8, f: Parsed) -> Pace
     requires slot { slot < slots }
     requires job { is_some (job_at w.old.jobs slot) ≡ true }
     requires frame { frame_at w.old.frames.items slot ≡ None }
     requires fits { SiteFits f.site }
     requires words { f.site.channel ≡ None → 2 ≤ length f.block.items }
-    requires blank { Blank w.old }
-    ensures row { IfSome (raw_at w.old.core w.old.jobs slot) (λ q. fetched_on (state_of w.old) slot f.site (fetched_by q.core f.site f.block.items) ≡ ticked (state_of w.new) result) }
-    ensures blank { Blank w.new }
+    requires tidy { Tidy w.old }
+    ensures row { IfSome (raw_at w.old.files w.old.core w.old.jobs slot) (λ q. fetched_on (state_of w.old) slot f.site (fetched_by q.core f.site f.block.items) ≡ ticked (state_of w.new) result) }
+    ensures tidy { Tidy w.new }
 {
     match fetch_site(&w.core, slot, &f.site, &f.block) {
         Ok(ask) => {
@@ -125,14 +124,14 @@ fn fetch(w: &mut World, slot: u8, f: Parsed) -> Pace
 }
 
 /// The call is made ready to be tried. No call that is built reserves a page.
-#[tactic(auto, using(its_world::proofs::StateLaws::kept_turn, its_pclsr::proofs::ApartLaws::blank_kept))]
+#[tactic(auto, using(its_world::proofs::StateLaws::kept_turn))]
 fn prepare(w: &mut World, slot: u8, f: Asked) -> Pace
     requires slot { slot < slots }
     requires job { is_some (job_at w.old.jobs slot) ≡ true }
-    requires blank { Blank w.old }
+    requires tidy { Tidy w.old }
     ensures row { state_of w.new ≡ turn (state_of w.old) slot same (Some (holding f.site f.ask None 0)) }
     ensures pace { result ≡ Pace.Work }
-    ensures blank { Blank w.new }
+    ensures tidy { Tidy w.new }
 {
     w.put_frame(
         slot,
@@ -147,14 +146,14 @@ fn prepare(w: &mut World, slot: u8, f: Asked) -> Pace
 }
 
 /// Sets the bit of a fault in a slot's job.
-#[tactic(auto, using(crate::proofs::CallLaws::fault_set, its_pclsr::proofs::ApartLaws::blank_put))]
+#[tactic(auto, using(crate::proofs::CallLaws::fault_set))]
 fn set_fault(w: &mut World, slot: u8, fault: Fault)
     requires slot { slot < slots }
     requires job { is_some (job_at w.old.jobs slot) ≡ true }
     requires frame { frame_at w.old.frames.items slot ≡ None }
-    requires blank { Blank w.old }
+    requires tidy { Tidy w.old }
     ensures row { state_of w.new ≡ turn (state_of w.old) slot (faulted fault) None }
-    ensures blank { Blank w.new }
+    ensures tidy { Tidy w.new }
 {
     if let Some(mut job) = w.registers(slot) {
         job.pend1 = job.pend1 | bit_of(fault);
@@ -173,20 +172,71 @@ fn bit_of(fault: Fault) -> Word
     }
 }
 
-/// A call is tried: the jobs that it reaches are unwound, it is decided, and that is carried out.
-#[tactic(auto, using(crate::proofs::TrialLaws::stands_job))]
+/// A call is tried: the world is made ready for it, it is decided, and that is carried out.
 fn attempt(w: &mut World, slot: u8) -> Pace
     requires slot { slot < slots }
     requires kept { Kept w.old }
     requires stands { is_some (standing_of (frame_at w.old.frames.items slot)) ≡ true }
-    ensures row { IfSome (raw_at w.old.core w.old.jobs slot) (λ q. tick_in (state_of w.old) slot q (frame_at w.old.frames.items slot) ≡ ticked (state_of w.new) result) }
-    ensures blank { Blank w.new }
+    ensures row { IfSome (raw_at w.old.files w.old.core w.old.jobs slot) (λ q. tick_in (state_of w.old) slot q (frame_at w.old.frames.items slot) ≡ ticked (state_of w.new) result) }
+    ensures tidy { Tidy w.new }
 {
-    unwind_reach(w, slot);
+    make_ready(w, slot);
     let decision = decide_in(w, slot);
     let pace = pace_of(&decision);
     carry_out(w, slot, decision);
     pace
+}
+
+/// Makes the world ready for the call in the frame of a slot: the jobs that it reaches are unwound, and where it is one on
+/// files, the parts of a half made close are made that are still owed.
+#[tactic(auto, using(crate::proofs::TrialLaws::stands_job))]
+fn make_ready(w: &mut World, slot: u8)
+    requires slot { slot < slots }
+    requires kept { Kept w.old }
+    requires stands { is_some (standing_of (frame_at w.old.frames.items slot)) ≡ true }
+    ensures row { IfSome (standing_of (frame_at w.old.frames.items slot)) (λ f. IfSome (raw_at w.old.files w.old.core w.old.jobs slot) (λ q. state_of w.new ≡ helped_if (helps q f.ask) (all_unwound (reach (state_of w.old).raw slot q f.ask) (state_of w.old)))) }
+    ensures tidy { Tidy w.new }
+{
+    unwind_reach(w, slot);
+    help_first(w, slot);
+}
+
+/// Makes the parts of a half made close that are still owed, where the call in the frame of a slot is one on files.
+#[tactic(auto, using(crate::proofs::HelpLaws::helps_first, crate::proofs::HelpLaws::unhelped))]
+fn help_first(w: &mut World, slot: u8)
+    requires slot { slot < slots }
+    requires stands { is_some (standing_of (frame_at w.old.frames.items slot)) ≡ true }
+    requires tidy { Tidy w.old }
+    ensures row { IfSome (standing_of (frame_at w.old.frames.items slot)) (λ f. IfSome (raw_at w.old.files w.old.core w.old.jobs slot) (λ q. state_of w.new ≡ helped_if (helps q f.ask) (state_of w.old))) }
+    ensures tidy { Tidy w.new }
+{
+    if helps_in(w, slot) {
+        help(w);
+    }
+}
+
+/// Makes the parts of a half made close that are still owed.
+#[tactic(auto, using(crate::proofs::HelpLaws::help_state))]
+fn help(w: &mut World)
+    requires tidy { Tidy w.old }
+    ensures row { state_of w.new ≡ help (state_of w.old) }
+    ensures tidy { Tidy w.new }
+{
+    w.files.seen();
+    w.files.help();
+}
+
+/// Whether the call in the frame of a slot is one on files.
+fn helps_in(w: &World, slot: u8) -> bool
+    requires slot { slot < slots }
+    requires stands { is_some (standing_of (frame_at w.now.frames.items slot)) ≡ true }
+    ensures { IfSome (standing_of (frame_at w.now.frames.items slot)) (λ f. IfSome (raw_at w.now.files w.now.core w.now.jobs slot) (λ q. result ≡ helps q f.ask)) }
+{
+    match &w.frames[usize::from(slot)] {
+        Some(Frame::Holding(f)) => helps(w, slot, &f.ask),
+        Some(Frame::Waiting(f)) => helps(w, slot, &f.ask),
+        _ => unreachable!(),
+    }
 }
 
 /// What the call in the frame of a slot comes to.
@@ -194,7 +244,9 @@ fn decide_in(w: &World, slot: u8) -> Decision
     requires slot { slot < slots }
     requires job { is_some (job_at w.now.jobs slot) ≡ true }
     requires stands { is_some (standing_of (frame_at w.now.frames.items slot)) ≡ true }
-    ensures { IfSome (standing_of (frame_at w.now.frames.items slot)) (λ f. IfSome (raw_at w.now.core w.now.jobs slot) (λ q. result ≡ decision (state_of w.now).raw slot q f.ask)) }
+    requires tidy { Tidy w.now }
+    requires unmarked { IfSome (standing_of (frame_at w.now.frames.items slot)) (λ f. IfSome (raw_at w.now.files w.now.core w.now.jobs slot) (λ q. helps q f.ask ≡ true → w.now.files.mark ≡ None)) }
+    ensures { IfSome (standing_of (frame_at w.now.frames.items slot)) (λ f. IfSome (raw_at w.now.files w.now.core w.now.jobs slot) (λ q. result ≡ decision (state_of w.now).raw slot q f.ask)) }
 {
     match &w.frames[usize::from(slot)] {
         Some(Frame::Holding(f)) => decide(w, slot, &f.ask),

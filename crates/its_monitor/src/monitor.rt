@@ -1,22 +1,27 @@
-ghost use Rattle.std.specs.Prelude.{◌≡◌, ◌<◌, ◌↔◌, ◌^◌, ◌∷◌, [], true, None, is_some, length, slice_get, Ok, IsTrue, IfSome, IfOk, OnOk, OnErr, IfErr};
+ghost use Rattle.std.specs.Prelude.{◌≡◌, ◌<◌, ◌↔◌, ◌^◌, ◌∷◌, [], true, None, Some, is_some, length, option_map, slice_get, Ok, IsTrue, IfSome, IfOk, OnOk, OnErr, IfErr};
 ghost use Rattle.its_word.specs.Console.{most_waiting};
 ghost use Rattle.its_word.specs.Limits.{slots};
+ghost use Rattle.its_files.specs.Files.{entry_at, is_file, file_at, names_at, words_at, helped};
+ghost use Rattle.its_plain.specs.CallFile.{file_named};
+ghost use Rattle.its_plain.specs.FileOperator.{files_in, show_of, file_made, word_added};
 ghost use Rattle.its_plain.specs.Machine.{no_machine};
 ghost use Rattle.its_plain.specs.OneByte.{EachByte};
+ghost use Rattle.its_plain.specs.Own.{names_of};
 ghost use Rattle.its_plain.specs.Operator.{loaded, word_loaded, on_registers, started, stopped, continued, interrupted, word_seen, state_shown, deposited};
 ghost use Rattle.its_plain.specs.CallOperator.{clocked, typed, drained};
 ghost use Rattle.its_stepped.specs.State.{plain, no_state};
-ghost use Rattle.its_stepped.specs.Unwind.{unwound};
+ghost use Rattle.its_stepped.specs.Unwind.{help, unwound};
 ghost use Rattle.its_stepped.specs.Licence.{Licensed};
 ghost use Rattle.its_stepped.specs.Tick.{tick};
 ghost use Rattle.its_stepped.specs.Lines.{peeked};
 ghost use Rattle.its_world.specs.World.{state_of};
-ghost use Rattle.its_operator.specs.Kept.{Kept, Lands, Loads, Refused};
+ghost use Rattle.its_operator.specs.Filing.{length_if, word_if};
+ghost use Rattle.its_operator.specs.Kept.{FileRefused, Kept, Lands, Loads, Refused};
 ghost use Rattle.its_monitor.specs.Beside.{AllBeside};
 
 use super::ticks;
 use its_operator as operator;
-use its_word::{JobShow, NoMemory, Pace, Peek, Refusal, Word};
+use its_word::{FileShow, JobShow, NoMemory, Pace, Peek, Refusal, Word};
 use its_world::World;
 use std::alloc::Global;
 
@@ -203,6 +208,85 @@ impl Monitor {
         ensures refused { IfErr result (λ e. (e ≡ Refusal.NoJob) × ((state_of self.now.world).raw.jobs slot ≡ None) × ((plain (state_of self.now.world)).jobs slot ≡ None)) }
     {
         operator::peek(&self.world, slot)
+    }
+
+    /// One line of DIR: the k-th file of a directory, from 0; None past the last.
+    pub fn dir(&mut self, d: Word, k: u32) -> Option<FileShow>
+        requires kept { Kept self.old.world }
+        ensures shown { result ≡ option_map show_of (slice_get (files_in d (plain (state_of self.old.world)).files) k) }
+        ensures plain { plain (state_of self.new.world) ≡ plain (state_of self.old.world) }
+        ensures state { state_of self.new.world ≡ help (state_of self.old.world) }
+        ensures files { self.new.world.files ≡ helped self.old.world.files }
+        ensures kept { Kept self.new.world }
+    {
+        operator::dir(&mut self.world, d, k)
+    }
+
+    /// The number of a file. NoFile where there is none.
+    pub fn file(&mut self, d: Word, x: Word, y: Word) -> Result<u32, Refusal>
+        requires kept { Kept self.old.world }
+        ensures found { IfOk result (λ id. file_named (names_of d x y) (plain (state_of self.old.world)).files ≡ Some (file_at self.new.world.files id)) }
+        ensures file { IfOk result (λ id. is_file (entry_at self.new.world.files id) ≡ true) }
+        ensures refused { IfErr result (λ e. (e ≡ Refusal.NoFile) × (file_named (names_of d x y) (plain (state_of self.old.world)).files ≡ None)) }
+        ensures plain { plain (state_of self.new.world) ≡ plain (state_of self.old.world) }
+        ensures state { state_of self.new.world ≡ help (state_of self.old.world) }
+        ensures files { self.new.world.files ≡ helped self.old.world.files }
+        ensures kept { Kept self.new.world }
+    {
+        operator::file(&mut self.world, d, x, y)
+    }
+
+    /// The k-th word of a file, from 0; None past the last.
+    pub fn file_word(&mut self, id: u32, k: u32) -> Option<Word>
+        requires kept { Kept self.old.world }
+        ensures word { result ≡ word_if (is_file (entry_at self.new.world.files id)) (words_at self.new.world.files id) k }
+        ensures plain { plain (state_of self.new.world) ≡ plain (state_of self.old.world) }
+        ensures state { state_of self.new.world ≡ help (state_of self.old.world) }
+        ensures files { self.new.world.files ≡ helped self.old.world.files }
+        ensures kept { Kept self.new.world }
+    {
+        operator::file_word(&mut self.world, id, k)
+    }
+
+    /// How many words a file has; None where no file has this number.
+    pub fn file_length(&mut self, id: u32) -> Option<u32>
+        requires kept { Kept self.old.world }
+        ensures length { result ≡ length_if (is_file (entry_at self.new.world.files id)) (words_at self.new.world.files id) }
+        ensures plain { plain (state_of self.new.world) ≡ plain (state_of self.old.world) }
+        ensures state { state_of self.new.world ≡ help (state_of self.old.world) }
+        ensures files { self.new.world.files ≡ helped self.old.world.files }
+        ensures kept { Kept self.new.world }
+    {
+        operator::file_length(&mut self.world, id)
+    }
+
+    /// FILE: makes a file of no words, and answers its number. Exists where a file has these names; Full at 256 files.
+    pub fn file_new(&mut self, d: Word, x: Word, y: Word) -> Result<u32, Refusal>
+        requires kept { Kept self.old.world }
+        ensures done { OnOk result (Lands (help (state_of self.old.world)) (state_of self.new.world) (file_made (help (state_of self.old.world)).raw (names_of d x y))) }
+        ensures plain { OnOk result (file_made (plain (state_of self.old.world)) (names_of d x y) ≡ Ok (plain (state_of self.new.world))) }
+        ensures file { IfOk result (λ id. is_file (entry_at self.new.world.files id) ≡ true) }
+        ensures refused { IfErr result (λ e. FileRefused (state_of self.old.world) (λ m. file_made m (names_of d x y)) e) }
+        ensures state { OnErr result (state_of self.new.world ≡ help (state_of self.old.world)) }
+        ensures files { OnErr result (self.new.world.files ≡ helped self.old.world.files) }
+        ensures kept { Kept self.new.world }
+    {
+        operator::file_new(&mut self.world, d, x, y)
+    }
+
+    /// A word more at the end of a file. Full where it needs a block and 2048 are in use.
+    pub fn file_add(&mut self, id: u32, w: Word) -> Result<(), Refusal>
+        requires file { is_file (entry_at (helped self.old.world.files) id) ≡ true }
+        requires kept { Kept self.old.world }
+        ensures done { OnOk result (Lands (help (state_of self.old.world)) (state_of self.new.world) (word_added (help (state_of self.old.world)).raw (names_at (helped self.old.world.files) id) w)) }
+        ensures plain { OnOk result (word_added (plain (state_of self.old.world)) (names_at (helped self.old.world.files) id) w ≡ Ok (plain (state_of self.new.world))) }
+        ensures file { is_file (entry_at self.new.world.files id) ≡ true }
+        ensures refused { IfErr result (λ e. FileRefused (state_of self.old.world) (λ m. word_added m (names_at (helped self.old.world.files) id) w) e) }
+        ensures state { OnErr result (state_of self.new.world ≡ help (state_of self.old.world)) }
+        ensures files { OnErr result (self.new.world.files ≡ helped self.old.world.files) }
+        ensures kept { Kept self.new.world }
+    {
+        operator::file_add(&mut self.world, id, w)
     }
 
     /// CLOCK: the clock gains n thirtieths. Range where it would reach its end.

@@ -2,7 +2,7 @@
 ghost use Rattle.std.specs.Prelude.{◌≡◌, ◌<◌, Some, IfSome, is_some, true};
 ghost use Rattle.its_word.specs.Limits.{slots};
 ghost use Rattle.its_jobs.specs.Table.{job_at, superior_at};
-ghost use Rattle.its_pclsr.specs.Apart.{Blank};
+ghost use Rattle.its_world.specs.Tidy.{Tidy};
 ghost use Rattle.its_pclsr.specs.Carried.{standing_of};
 ghost use Rattle.its_plain.specs.Decide.{reach};
 ghost use Rattle.its_stepped.specs.Sound.{Sound};
@@ -30,11 +30,11 @@ enum Reach {
 pub fn unwind_reach(w: &mut World, slot: u8)
     requires slot { slot < slots }
     requires sound { Sound (state_of w.old) }
-    requires blank { Blank w.old }
+    requires tidy { Tidy w.old }
     requires job { is_some (job_at w.old.jobs slot) ≡ true }
     requires stands { is_some (standing_of (frame_at w.old.frames.items slot)) ≡ true }
-    ensures row { IfSome (standing_of (frame_at w.old.frames.items slot)) (λ f. IfSome (raw_at w.old.core w.old.jobs slot) (λ q. state_of w.new ≡ all_unwound (reach (state_of w.old).raw slot q f.ask) (state_of w.old))) }
-    ensures blank { Blank w.new }
+    ensures row { IfSome (standing_of (frame_at w.old.frames.items slot)) (λ f. IfSome (raw_at w.old.files w.old.core w.old.jobs slot) (λ q. state_of w.new ≡ all_unwound (reach (state_of w.old).raw slot q f.ask) (state_of w.old))) }
+    ensures tidy { Tidy w.new }
 {
     let reach = reach_in(w, slot);
     unwind_all(w, slot, reach);
@@ -45,9 +45,9 @@ pub fn unwind_reach(w: &mut World, slot: u8)
 fn unwind_all(w: &mut World, slot: u8, reach: Reach)
     requires slot { slot < slots }
     requires sound { Sound (state_of w.old) }
-    requires blank { Blank w.old }
+    requires tidy { Tidy w.old }
     ensures row { state_of w.new ≡ all_unwound (slots_in reach (state_of w.old).raw slot (superior_at w.old.jobs slot)) (state_of w.old) }
-    ensures blank { Blank w.new }
+    ensures tidy { Tidy w.new }
 {
     match reach {
         Reach::Nobody => {}
@@ -61,9 +61,9 @@ fn unwind_all(w: &mut World, slot: u8, reach: Reach)
 fn unwind_tree(w: &mut World, slot: u8)
     requires slot { slot < slots }
     requires sound { Sound (state_of w.old) }
-    requires blank { Blank w.old }
+    requires tidy { Tidy w.old }
     ensures row { state_of w.new ≡ all_unwound (slots_in Reach.Tree (state_of w.old).raw slot (superior_at w.old.jobs slot)) (state_of w.old) }
-    ensures blank { Blank w.new }
+    ensures tidy { Tidy w.new }
 {
     let superior = w.jobs.superior(slot);
     unwind_below(w, slot);
@@ -76,10 +76,10 @@ fn unwind_tree(w: &mut World, slot: u8)
 #[tactic(auto, using(crate::proofs::ReachLaws::calm_past, crate::proofs::ReachLaws::calm_still))]
 pub fn calm(w: &mut World, slot: u8)
     requires sound { Sound (state_of w.old) }
-    requires blank { Blank w.old }
+    requires tidy { Tidy w.old }
     ensures row { state_of w.new ≡ unwound (state_of w.old) slot }
     ensures sound { Sound (state_of w.new) }
-    ensures blank { Blank w.new }
+    ensures tidy { Tidy w.new }
 {
     if usize::from(slot) < SLOTS && w.has_frame(slot) {
         unwind(w, slot);
@@ -91,7 +91,7 @@ fn reach_in(w: &World, slot: u8) -> Reach
     requires slot { slot < slots }
     requires job { is_some (job_at w.now.jobs slot) ≡ true }
     requires stands { is_some (standing_of (frame_at w.now.frames.items slot)) ≡ true }
-    ensures { IfSome (standing_of (frame_at w.now.frames.items slot)) (λ f. IfSome (raw_at w.now.core w.now.jobs slot) (λ q. slots_in result (state_of w.now).raw slot (superior_at w.now.jobs slot) ≡ reach (state_of w.now).raw slot q f.ask)) }
+    ensures { IfSome (standing_of (frame_at w.now.frames.items slot)) (λ f. IfSome (raw_at w.now.files w.now.core w.now.jobs slot) (λ q. slots_in result (state_of w.now).raw slot (superior_at w.now.jobs slot) ≡ reach (state_of w.now).raw slot q f.ask)) }
 {
     match &w.frames[usize::from(slot)] {
         Some(Frame::Holding(f)) => reach_of(w, slot, &f.ask),
@@ -105,7 +105,7 @@ fn reach_in(w: &World, slot: u8) -> Reach
 fn reach_of(w: &World, slot: u8, ask: &Ask) -> Reach
     requires slot { slot < slots }
     requires job { is_some (job_at w.now.jobs slot) ≡ true }
-    ensures { IfSome (raw_at w.now.core w.now.jobs slot) (λ q. slots_in result (state_of w.now).raw slot (superior_at w.now.jobs slot) ≡ reach (state_of w.now).raw slot q ask.now) }
+    ensures { IfSome (raw_at w.now.files w.now.core w.now.jobs slot) (λ q. slots_in result (state_of w.now).raw slot (superior_at w.now.jobs slot) ≡ reach (state_of w.now).raw slot q ask.now) }
 {
     if is_logout(ask) {
         return Reach::Tree;

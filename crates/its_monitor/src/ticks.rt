@@ -1,6 +1,6 @@
 ghost use Rattle.std.specs.Prelude.{◌≡◌, ◌<◌, ℕ};
 ghost use Rattle.its_word.specs.Limits.{slots};
-ghost use Rattle.its_pclsr.specs.Apart.{Blank};
+ghost use Rattle.its_world.specs.Tidy.{Tidy};
 ghost use Rattle.its_stepped.specs.Licence.{Licensed};
 ghost use Rattle.its_stepped.specs.State.{plain};
 ghost use Rattle.its_stepped.specs.Tick.{tick as tick_of};
@@ -38,7 +38,7 @@ fn turn(w: &mut World, slot: u8) -> Pace
     requires slot { slot < slots }
     requires kept { Kept w.old }
     ensures row { tick_of (state_of w.old) slot ≡ ticked (state_of w.new) result }
-    ensures blank { Blank w.new }
+    ensures tidy { Tidy w.new }
 {
     let Some(job) = w.jobs.job(slot) else {
         return Pace::Off;

@@ -3,7 +3,7 @@ ghost use Rattle.std.specs.Prelude.{◌≡◌, ◌≢◌, ◌<◌, ◌^◌, ℕ,
 ghost use Rattle.its_word.specs.Limits.{slots};
 ghost use Rattle.its_core.specs.Cores.{core_at};
 ghost use Rattle.its_jobs.specs.Table.{job_at, superior_at};
-ghost use Rattle.its_pclsr.specs.Apart.{Blank};
+ghost use Rattle.its_world.specs.Tidy.{Tidy};
 ghost use Rattle.its_plain.specs.CallStep.{informs, told};
 ghost use Rattle.its_plain.specs.Interrupt.{deliverable, delivered};
 ghost use Rattle.its_plain.specs.Unit.{Called, unit as unit_of};
@@ -11,10 +11,10 @@ ghost use Rattle.its_stepped.specs.Commit.{effects_on};
 ghost use Rattle.its_stepped.specs.Sound.{Sound};
 ghost use Rattle.its_stepped.specs.Tick.{delivered_on, unit_on};
 ghost use Rattle.its_stepped.specs.Unwind.{all_unwound};
-ghost use Rattle.its_world.specs.World.{state_of, frame_at, raw_at, CoreBecomes};
+ghost use Rattle.its_world.specs.World.{state_of, frame_at, raw_at, CoreBecomes, JobBecomes};
 ghost use Rattle.its_operator.specs.Kept.{Kept};
 ghost use Rattle.pdp_exec.specs.Answer.{IsCalled};
-ghost use Rattle.its_monitor.specs.Ticks.{ticked, left_by, UnitIn};
+ghost use Rattle.its_monitor.specs.Ticks.{ticked, left_by, with_channels, UnitIn};
 
 use super::reach::calm;
 use its_core::Core;
@@ -32,25 +32,63 @@ pub fn deliver_to(w: &mut World, slot: u8, job: Job)
     requires job { job_at w.old.jobs slot ≡ Some job }
     requires frame { frame_at w.old.frames.items slot ≡ None }
     requires deliverable { deliverable job ≡ true }
-    ensures row { IfSome (raw_at w.old.core w.old.jobs slot) (λ q. state_of w.new ≡ delivered_on (state_of w.old) slot q (delivered q.core q.job)) }
-    ensures blank { Blank w.new }
+    ensures row { IfSome (raw_at w.old.files w.old.core w.old.jobs slot) (λ q. state_of w.new ≡ delivered_on (state_of w.old) slot q (delivered q.core q.job)) }
+    ensures tidy { Tidy w.new }
 {
     let mut after = job;
     if run_delivery(w, slot, &mut after) {
         tell_superior(w, slot);
     }
-    w.put_registers(slot, after);
+    put_back(w, slot, after);
 }
 
 /// Delivers on the core of a slot; tells whether a fatal bit stopped the job.
 fn run_delivery(w: &mut World, slot: u8, job: &mut Job) -> bool
     requires slot { slot < slots }
+    requires some { is_some (job_at w.old.jobs slot) ≡ true }
     requires deliverable { deliverable job.old ≡ true }
+    requires tidy { Tidy w.old }
     ensures core { CoreBecomes w.old w.new slot (delivered (core_at w.old.core slot) job.old).core }
     ensures job { job.new ≡ (delivered (core_at w.old.core slot) job.old).job }
     ensures stops { result ≡ (delivered (core_at w.old.core slot) job.old).stops }
+    ensures tidy { Tidy w.new }
 {
     deliver(&mut w.core, slot, job)
+}
+
+/// Writes the registers of a slot's job but for its channels.
+#[tactic(auto, using(crate::proofs::UserLaws::written_back))]
+fn put_back(w: &mut World, slot: u8, job: Job)
+    requires slot { slot < slots }
+    requires some { is_some (job_at w.old.jobs slot) ≡ true }
+    requires tidy { Tidy w.old }
+    ensures registers { IfSome (job_at w.old.jobs slot) (λ j. JobBecomes w.old w.new slot (with_channels j.channels job)) }
+    ensures tidy { Tidy w.new }
+{
+    if let Some(now) = w.registers(slot) {
+        w.put_registers(slot, with_channels(now, job));
+    }
+}
+
+/// Registers with the channels of others.
+fn with_channels(now: Job, job: Job) -> Job
+    ensures { result ≡ with_channels now.channels job }
+{
+    Job {
+        pc: job.pc,
+        flags: job.flags,
+        stopped: job.stopped,
+        pend1: job.pend1,
+        pend2: job.pend2,
+        mask1: job.mask1,
+        mask2: job.mask2,
+        defer1: job.defer1,
+        defer2: job.defer2,
+        uname: job.uname,
+        jname: job.jname,
+        console: job.console,
+        ..now
+    }
 }
 
 /// Sets INF in the superior of a slot's job, where it has one. It is unwound first.
@@ -58,9 +96,9 @@ fn run_delivery(w: &mut World, slot: u8, job: &mut Job) -> bool
 fn tell_superior(w: &mut World, slot: u8)
     requires slot { slot < slots }
     requires sound { Sound (state_of w.old) }
-    requires blank { Blank w.old }
+    requires tidy { Tidy w.old }
     ensures row { state_of w.new ≡ effects_on (informs true (superior_at w.old.jobs slot)) slot (all_unwound (told true (superior_at w.old.jobs slot)) (state_of w.old)) }
-    ensures blank { Blank w.new }
+    ensures tidy { Tidy w.new }
 {
     if let Some(superior) = w.jobs.superior(slot) {
         calm(w, superior);
@@ -75,8 +113,8 @@ pub fn make_unit(w: &mut World, slot: u8) -> Pace
     requires kept { Kept w.old }
     requires job { is_some (job_at w.old.jobs slot) ≡ true }
     requires frame { frame_at w.old.frames.items slot ≡ None }
-    ensures row { IfSome (raw_at w.old.core w.old.jobs slot) (λ q. unit_on (state_of w.old) slot (unit_of q.core q.job) ≡ ticked (state_of w.new) result) }
-    ensures blank { Blank w.new }
+    ensures row { IfSome (raw_at w.old.files w.old.core w.old.jobs slot) (λ q. unit_on (state_of w.old) slot (unit_of q.core q.job) ≡ ticked (state_of w.new) result) }
+    ensures tidy { Tidy w.new }
 {
     if unit_in_place(w, slot) {
         Pace::Step
@@ -125,9 +163,9 @@ fn enter(w: &mut World, slot: u8)
     requires job { is_some (job_at w.old.jobs slot) ≡ true }
     requires pc { IfSome (job_at w.old.jobs slot) (λ j. j.pc < 2 ^ 18) }
     requires called { IfSome (job_at w.old.jobs slot) (λ j. IsCalled (unit_of (core_at w.old.core slot) j)) }
-    requires blank { Blank w.old }
-    ensures row { IfSome (raw_at w.old.core w.old.jobs slot) (λ q. unit_on (state_of w.old) slot (unit_of q.core q.job) ≡ ticked (state_of w.new) Pace.Work) }
-    ensures blank { Blank w.new }
+    requires tidy { Tidy w.old }
+    ensures row { IfSome (raw_at w.old.files w.old.core w.old.jobs slot) (λ q. unit_on (state_of w.old) slot (unit_of q.core q.job) ≡ ticked (state_of w.new) Pace.Work) }
+    ensures tidy { Tidy w.new }
 {
     let site = site_of(w, slot);
     w.put_frame(slot, Frame::Entered(Entered { site }));

@@ -1,8 +1,7 @@
 -- What holds between calls, through unwinding and through a line.
 use Rattle.std.specs.Prelude.{if◌then◌else◌, ◌==◌, ◌≡◌, ◌<◌, ◌^◌, ℕ, Bool, true, false, Option, Some, None, IfSome, List, Result, Ok, Err, option_map, is_some, refl}
-use Rattle.std.proofs.Common.{sym, ◌∙◌, ap, subst, inl, inr}
-use Rattle.std.proofs.lemmas.Bool.{cases_eq}
-use Rattle.its_word.specs.Core.{Core, no_core}
+use Rattle.std.proofs.Common.{sym, ◌∙◌, ap, subst}
+use Rattle.its_word.specs.Core.{Core}
 use Rattle.its_word.specs.declared.jobs.Job.{Job}
 use Rattle.its_word.specs.declared.session.Event.{Event}
 use Rattle.its_word.specs.declared.session.Reason.{Reason}
@@ -10,6 +9,7 @@ use Rattle.its_word.specs.declared.session.Refusal.{Refusal}
 use Rattle.its_frame.specs.declared.frame.Frame.{Frame}
 use Rattle.its_print.specs.Printing.{Line}
 use Rattle.its_core.specs.Cores.{core_at}
+use Rattle.its_files.specs.Files.{Store}
 use Rattle.its_jobs.specs.Table.{job_at, superior_at}
 use Rattle.its_plain.specs.Machine.{Whole, Machine, with_job}
 use Rattle.its_plain.specs.Operator.{Block, Does}
@@ -18,22 +18,23 @@ use Rattle.its_stepped.specs.State.{State, plain, seen}
 use Rattle.its_stepped.specs.Sound.{Sound}
 use Rattle.its_stepped.specs.Calling.{Distinct}
 use Rattle.its_stepped.specs.Unwind.{unwound}
-use Rattle.its_stepped.specs.Lines.{calmed, with_raw, state_after, after_line, lifted_line}
+use Rattle.its_stepped.specs.Tick.{helped_if}
+use Rattle.its_stepped.specs.Lines.{looks_at_files, calmed, with_raw, state_after, after_line, lifted_line}
 use Rattle.its_stepped.proofs.UnwindLaws.{unwound_plain, unwound_sound}
 use Rattle.its_stepped.proofs.LineLaws.{line_plain}
 use Rattle.its_stepped.proofs.AfterLaws.{after_sound}
 use Rattle.its_stepped.proofs.RefusalLaws.{error_of}
 use Rattle.its_stepped.proofs.WrittenLaws.{line_distinct}
-use Rattle.its_pclsr.specs.Apart.{CoresOff}
-use Rattle.its_world.specs.World.{state_of, raw_of, Becomes}
+use Rattle.its_world.specs.World.{state_of, raw_of}
+use Rattle.its_world.specs.Tidy.{Tidy}
 use Rattle.its_world.specs.declared.world.World.{World}
 use Rattle.its_operator.specs.Kept.{Kept, Refused, Calmed, reason_of}
 use Rattle.its_world.proofs.StateLaws.{job_of}
 
 -- a slot has a job of the plain machine where the world has one
-some_raw : (c : Core) (superior : Option ℕ) (o : Option Job) → is_some (raw_of c superior o) ≡ is_some o
-some_raw c superior (Some j) = refl
-some_raw c superior None = refl
+some_raw : (s : Store) (c : Core) (superior : Option ℕ) (o : Option Job) → is_some (raw_of s c superior o) ≡ is_some o
+some_raw s c superior (Some j) = refl
+some_raw s c superior None = refl
 
 some_seen : (f : Option Frame) (o : Option Whole) → is_some (option_map (seen f) o) ≡ is_some o
 some_seen f (Some q) = refl
@@ -41,7 +42,7 @@ some_seen f None = refl
 
 pub raw_has : (w : World) (k : ℕ) → is_some ((state_of w).raw.jobs k) ≡ is_some (job_at w.jobs k)
 unfolding state_of
-raw_has w k = some_raw (core_at w.core k) (superior_at w.jobs k) (job_at w.jobs k)
+raw_has w k = some_raw w.files (core_at w.core k) (superior_at w.jobs k) (job_at w.jobs k)
 
 plain_has_raw : (v : State) (k : ℕ) → is_some ((plain v).jobs k) ≡ is_some (v.raw.jobs k)
 unfolding plain
@@ -68,18 +69,18 @@ unwound_same old new s kept e = ap plain e ∙ unwound_plain (state_of old) s ke
 pub unwound_has : (old new : World) (s : ℕ) → Kept old → state_of new ≡ unwound (state_of old) s → is_some (job_at new.jobs s) ≡ is_some (job_at old.jobs s)
 unwound_has old new s kept e = alike_has old new s (unwound_same old new s kept e)
 
-pub unwound_kept : (old new : World) (s : ℕ) → Kept old → is_some (job_at old.jobs s) ≡ true → state_of new ≡ unwound (state_of old) s → CoresOff old new s → Kept new
-unwound_kept old new s kept some e off = record {
-  sound = subst Sound (sym e) (unwound_sound (state_of old) s kept.sound);
-  distinct = subst Distinct (sym (unwound_same old new s kept e)) kept.distinct;
-  blank = λ k h. elim (cases_eq k s) [
-    | inl is ↦ let has : is_some (job_at new.jobs k) ≡ true = ap (λ i. is_some (job_at new.jobs i)) is ∙ unwound_has old new s kept e ∙ some in
-        let none : is_some (job_at new.jobs k) ≡ false = ap is_some h in absurd cc
-    | inr ne ↦ off.others k ne ∙ kept.blank k (none_by (job_at new.jobs k) (job_at old.jobs k) (sym (alike_has old new k (unwound_same old new s kept e))) h)
-  ];
-  addressed = λ k. subst (λ (m : Machine). IfSome (m.jobs k) (λ q. q.job.pc < 2 ^ 18)) (sym (unwound_same old new s kept e)) (kept.addressed k);
-  consoled = λ k. subst (λ (m : Machine). IfSome (m.jobs k) (λ q. IfSome q.job.console (λ c. c < 8))) (sym (unwound_same old new s kept e)) (kept.consoled k);
+-- the same plain machine, and what else holds between calls
+pub alike_kept : (old new : World) → Kept old → plain (state_of new) ≡ plain (state_of old) → Sound (state_of new) → Tidy new → Kept new
+alike_kept old new kept same sound tidy = record {
+  sound = sound;
+  distinct = subst Distinct (sym same) kept.distinct;
+  tidy = tidy;
+  addressed = λ k. subst (λ (m : Machine). IfSome (m.jobs k) (λ q. q.job.pc < 2 ^ 18)) (sym same) (kept.addressed k);
+  consoled = λ k. subst (λ (m : Machine). IfSome (m.jobs k) (λ q. IfSome q.job.console (λ c. c < 8))) (sym same) (kept.consoled k);
 }
+
+pub unwound_kept : (old new : World) (s : ℕ) → Kept old → state_of new ≡ unwound (state_of old) s → Tidy new → Kept new
+unwound_kept old new s kept e tidy = alike_kept old new kept (unwound_same old new s kept e) (subst Sound (sym e) (unwound_sound (state_of old) s kept.sound)) tidy
 
 -- a line that is done: the state v that it finds has another raw machine then
 pub record Made (w new : State) (b : Block) (e : Event) : Type 0 where
@@ -91,7 +92,7 @@ pub record Made (w new : State) (b : Block) (e : Event) : Type 0 where
 
 made_after : (w new : State) (b : Block) (e : Event) → Made w new b e → after_line w b e ≡ new
 unfolding after_line
-made_after w new b e h = ap (state_after w (calmed w b e)) h.is ∙ sym h.rest
+made_after w new b e h = ap (state_after (helped_if (looks_at_files e) w) (calmed w b e)) h.is ∙ sym h.rest
 
 pub made_sound : (w new : State) (b : Block) (e : Event) → Sound w → Made w new b e → Sound new
 made_sound w new b e sound h = subst Sound (made_after w new b e h) (after_sound w b e sound)
@@ -102,14 +103,6 @@ made_plain w new b e sound h =
 
 pub made_distinct : (w new : State) (b : Block) (e : Event) → Sound w → Distinct (plain w) → Made w new b e → Distinct (plain new)
 made_distinct w new b e sound d h = line_distinct (plain w) (plain new) b h.block e h.out h.touched d (made_plain w new b e sound h)
-
--- one slot with a job is written
-pub becomes_blank : (old new : World) (s : ℕ) (c : Core) (j : Job) (o : Option Job) (f : Option Frame) (r : Option ℕ) → o ≡ Some j → Becomes old new s c o f r → Kept old
-    → (k : ℕ) → job_at new.jobs k ≡ None → core_at new.core k ≡ no_core
-becomes_blank old new s c j o f r some b kept k h = elim (cases_eq k s) [
-  | inl is ↦ let none : None ≡ Some j = sym h ∙ ap (job_at new.jobs) is ∙ b.job.here ∙ some in absurd cc
-  | inr ne ↦ b.core.others k ne ∙ kept.blank k (sym (b.job.others k ne) ∙ h)
-]
 
 -- what a line keeps of each job: its PC is an address, and its console is one of eight
 pub record Lasts (m : Machine) : Type 0 where
@@ -137,7 +130,7 @@ pub lasts_console : (m : Machine) (s : ℕ) (q : Whole) → m.jobs s ≡ Some q 
 lasts_console m s q at a = subst (λ (o : Option Whole). IfSome o (λ q. IfSome q.job.console (λ c. c < 8))) at (a.consoled s)
 
 -- what is refused of the raw machine is refused of all three
-error_is : {X : Type 0} (p q : Result X Reason) (r : Reason) → error_of p ≡ error_of q → q ≡ Err r → p ≡ Err r
+pub error_is : {X : Type 0} (p q : Result X Reason) (r : Reason) → error_of p ≡ error_of q → q ≡ Err r → p ≡ Err r
 error_is (Ok x) q r e h = let none : None ≡ Some r = e ∙ ap error_of h in absurd cc
 error_is (Err y) q r e h = let some : Some y ≡ Some r = e ∙ ap error_of h in let is : y ≡ r = cc in ap Err is
 
@@ -156,7 +149,7 @@ unwound_missing old mid s kept some e none =
     let has : is_some (job_at mid.jobs s) ≡ true = unwound_has old mid s kept e ∙ some in
     let no : is_some (job_at mid.jobs s) ≡ false = ap is_some none in absurd cc
 
-pub unwound_calm : (old mid : World) (s : ℕ) → Kept old → is_some (job_at old.jobs s) ≡ true → state_of mid ≡ unwound (state_of old) s → CoresOff old mid s → Calmed old mid s
-unwound_calm old mid s kept some e off =
+pub unwound_calm : (old mid : World) (s : ℕ) → Kept old → is_some (job_at old.jobs s) ≡ true → state_of mid ≡ unwound (state_of old) s → Tidy mid → Calmed old mid s
+unwound_calm old mid s kept some e tidy =
     let j = job_of (job_at mid.jobs s) (unwound_has old mid s kept e ∙ some) in
-    record { job = j.0; calm = record { kept = unwound_kept old mid s kept some e off; unwinds = e; job = j.1 } }
+    record { job = j.0; calm = record { kept = unwound_kept old mid s kept e tidy; unwinds = e; job = j.1 } }

@@ -7,3 +7,5 @@ pub mod StartLaws
 pub mod PeekLaws
 pub mod PeekStateLaws
 pub mod TypingLaws
+pub mod FileLaws
+pub mod DirLaws

@@ -16,8 +16,7 @@ use Rattle.its_frame.specs.declared.frame.Frame.{Frame}
 use Rattle.its_core.specs.Cores.{core_at, clear_at}
 use Rattle.its_jobs.specs.Table.{job_at, superior_at}
 use Rattle.its_plain.specs.Machine.{Whole, Machine, core_of, mapped}
-use Rattle.its_plain.specs.Operator.{Block, only, with_core, stored_in, stored, word_loaded_of, word_loaded, and_then, words_loaded, disturbs}
-use Rattle.its_plain.specs.Operator as operator
+use Rattle.its_plain.specs.Operator.{only, with_core, stored_in, stored, word_loaded_of, word_loaded, and_then, disturbs}
 use Rattle.its_plain.specs.CallOperator.{operate, Done, lined}
 use Rattle.its_stepped.specs.State.{State, plain}
 use Rattle.its_stepped.specs.Unwind.{unwound}
@@ -30,17 +29,17 @@ use Rattle.its_world.specs.declared.world.World.{World}
 use Rattle.its_world.proofs.StateLaws.{raw_job, job_of}
 use Rattle.its_operator.specs.Kept.{Kept, Lands, Refused, Calmed, reason_of, unloadable}
 use Rattle.its_operator.proofs.KeptLaws.{refused_by, Made, made_plain, Lasts, kept_lasts}
-use Rattle.its_operator.proofs.RegisterLaws.{raw_is, raw_is_none, disturbed}
+use Rattle.its_operator.proofs.RegisterLaws.{raw_is, raw_is_none, disturbed, block_of}
 use Rattle.its_operator.proofs.WordLaws.{core_lands, core_lasts, core_kept}
 
 -- the pages of the raw machine are those of the cores
-core_is : (w : World) (k : ℕ) (o : Option Job) → job_at w.jobs k ≡ o → Kept w → core_of (raw_of (core_at w.core k) (superior_at w.jobs k) o) ≡ core_at w.core k
+core_is : (w : World) (k : ℕ) (o : Option Job) → job_at w.jobs k ≡ o → Kept w → core_of (raw_of w.files (core_at w.core k) (superior_at w.jobs k) o) ≡ core_at w.core k
 core_is w k (Some j) h kept = refl
-core_is w k None h kept = sym (kept.blank k h)
+core_is w k None h kept = sym (kept.tidy.blank k h)
 
 mapped_raw : (w : World) → Kept w → mapped (state_of w).raw ≡ pages_mapped (core_at w.core)
 unfolding state_of
-mapped_raw w kept = pages_mapped-same (core_at w.core) (λ k. core_of (raw_at w.core w.jobs k)) (record { each = λ k. core_is w k (job_at w.jobs k) refl kept })
+mapped_raw w kept = pages_mapped-same (core_at w.core) (λ k. core_of (raw_at w.files w.core w.jobs k)) (record { each = λ k. core_is w k (job_at w.jobs k) refl kept })
 
 abbrev there : World → ℕ → ℕ → Bool
 there w s a = is_some (word_at (core_at w.core s) a)
@@ -52,7 +51,7 @@ abbrev room : World → Bool
 room w = nat_lt (pages_mapped (core_at w.core)) most_pages
 
 abbrev whole_of : World → ℕ → Job → Whole
-whole_of w s j = raw_job (core_at w.core s) j (superior_at w.jobs s)
+whole_of w s j = raw_job w.files (core_at w.core s) j (superior_at w.jobs s)
 
 loaded_on : (w : World) (s a x : ℕ) (j : Job) → job_at w.jobs s ≡ Some j → Kept w
     → word_loaded (state_of w).raw s a x ≡ with_core (state_of w).raw s (whole_of w s j) (stored_in (core_at w.core s) a x (can w s a) (there w s a) (room w))
@@ -142,7 +141,7 @@ user_page (Some q) (Some f) r e h = absurd (let none = e in cc)
 pub load_unreserved : (old mid : World) (s : ℕ) → Kept old → Calmed old mid s → clear_at mid.core s ≡ None
 unfolding state_of
 load_unreserved old mid s kept c =
-    user_page (raw_at mid.core mid.jobs s) ((state_of mid).frames s) (clear_at mid.core s) (ap (λ (v : State). v.frames s) c.calm.unwinds ∙ unwound_none (state_of old) s kept.sound) (c.calm.kept.sound.each s).by
+    user_page (raw_at mid.files mid.core mid.jobs s) ((state_of mid).frames s) (clear_at mid.core s) (ap (λ (v : State). v.frames s) c.calm.unwinds ∙ unwound_none (state_of old) s kept.sound) (c.calm.kept.sound.each s).by
 
 -- the same of a world under another name
 pub made_as : (mid same new : World) (s a x : ℕ) → same ≡ mid → CoreBecomes same new s (store (with_page (core_at same.core s) (a / 1024) (Some zero_page)) a x)
@@ -150,10 +149,7 @@ pub made_as : (mid same new : World) (s a x : ℕ) → same ≡ mid → CoreBeco
 made_as mid same new s a x e b = subst (λ (w : World). CoreBecomes w new s (store (with_page (core_at w.core s) (a / 1024) (Some zero_page)) a x)) e b
 
 -- the state after it
-block_of : ℕ → Block
-block_of s = record { slot = s }
-
-and_ok : (r : Result Machine Reason) (n : Machine) → and_then r (λ m. Ok m) ≡ Ok n → r ≡ Ok n
+pub and_ok : (r : Result Machine Reason) (n : Machine) → and_then r (λ m. Ok m) ≡ Ok n → r ≡ Ok n
 and_ok (Ok m) n h = h
 and_ok (Err x) n h = cc
 
@@ -187,7 +183,7 @@ module _ (old mid new : World) (s a x : ℕ) where
 
   load_line : Lands (unwound (state_of old) s) (state_of new) (word_loaded (unwound (state_of old) s).raw s a x)
       → Made (state_of old) (state_of new) (block_of s) (events.Words a (record { items = x ∷ [] }))
-  unfolding calmed lined operate operator.operate block_of
+  unfolding calmed lined operate
   load_line l = record {
     out = [];
     touched = only s;
@@ -197,7 +193,7 @@ module _ (old mid new : World) (s a x : ℕ) where
   }
 
   pub load_plain : Kept old → Lands (unwound (state_of old) s) (state_of new) (word_loaded (unwound (state_of old) s).raw s a x) → word_loaded (plain (state_of old)) s a x ≡ Ok (plain (state_of new))
-  unfolding lined operate operator.operate block_of
+  unfolding lined operate
   load_plain kept l =
       let m = load_line l in
       and_ok (word_loaded (plain (state_of old)) s a x) (plain (state_of new))

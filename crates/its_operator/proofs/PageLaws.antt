@@ -44,8 +44,8 @@ alike : {X : Type 0} → (f g : ℕ → X) (s : ℕ) → ((k : ℕ) → g k ≡ 
 alike f g s h = record { here = h s; others = λ k n. h k }
 
 pub page_becomes : (old new : World) (s : ℕ) (c : Core) → Only (core_at old.core) (core_at new.core) s c → Same (clear_at old.core) (clear_at new.core)
-    → new.jobs ≡ old.jobs → new.frames ≡ old.frames → new.consoles ≡ old.consoles → new.holders ≡ old.holders → new.clock ≡ old.clock → CoreBecomes old new s c
-page_becomes old new s c core reserved jobs frames consoles holders clock = record {
+    → new.jobs ≡ old.jobs → new.frames ≡ old.frames → new.consoles ≡ old.consoles → new.holders ≡ old.holders → new.files ≡ old.files → new.clock ≡ old.clock → CoreBecomes old new s c
+page_becomes old new s c core reserved jobs frames consoles holders files clock = record {
   core = core;
   job = alike _ _ s (λ k. ap (λ t. job_at t k) jobs);
   superiors = ap (λ t. t.superiors) jobs;
@@ -53,6 +53,7 @@ page_becomes old new s c core reserved jobs frames consoles holders clock = reco
   reserved = alike _ _ s (reserved.each);
   consoles = consoles;
   holders = holders;
+  files = files;
   clock = clock;
 }
 
@@ -65,5 +66,6 @@ page_then_store old mid new s a x c h t = record {
   reserved = record { here = t.reserved.here ∙ h.reserved.here; others = λ k n. t.reserved.others k n ∙ h.reserved.others k n };
   consoles = t.consoles ∙ h.consoles;
   holders = t.holders ∙ h.holders;
+  files = t.files ∙ h.files;
   clock = t.clock ∙ h.clock;
 }

@@ -10,11 +10,11 @@ use Rattle.its_frame.specs.declared.frame.Frame.{Frame}
 use Rattle.its_core.specs.Cores.{core_at}
 use Rattle.its_jobs.specs.Table.{job_at}
 use Rattle.its_plain.specs.Machine.{core_of}
-use Rattle.its_stepped.specs.State.{plain}
+use Rattle.its_stepped.specs.State.{plain, mine}
 use Rattle.its_stepped.specs.Unwind.{left_by, left}
 use Rattle.its_stepped.specs.Lines.{state_shown, name_shown, first_shown, second_shown, word_shown, ask_in, byte_shown, peeked}
 use Rattle.its_stepped.proofs.UnwindLaws.{few_frame}
-use Rattle.its_world.specs.World.{state_of, raw_at, frame_at}
+use Rattle.its_world.specs.World.{state_of, raw_at, frame_at, mark_of}
 use Rattle.its_world.specs.declared.world.World.{World}
 use Rattle.its_world.proofs.StateLaws.{job_of, raw_some}
 use Rattle.its_operator.specs.Kept.{Kept}
@@ -36,20 +36,20 @@ unfolding state_of
 peek_few w s x f kept read lt is = few_frame (state_of w) s f kept.sound (frame_read w s x (Some f) read lt is)
 
 -- the parts of what is shown
-peek_is : (w : World) (s : ℕ) (o : Option Frame) (c : Core) (p : Peek) → frame_at w.frames.items s ≡ o → core_of (raw_at w.core w.jobs s) ≡ c
-    → p ≡ record { state = state_shown o; name = name_shown o; left = left_by false o; a = word_shown c first_shown (ask_in o); b = word_shown c second_shown (ask_in o); h = byte_shown o }
+peek_is : (w : World) (s : ℕ) (o : Option Frame) (c : Core) (p : Peek) → frame_at w.frames.items s ≡ o → core_of (raw_at w.files w.core w.jobs s) ≡ c
+    → p ≡ record { state = state_shown o; name = name_shown o; left = left_by (mine (state_of w).mark s) o; a = word_shown c first_shown (ask_in o); b = word_shown c second_shown (ask_in o); h = byte_shown o }
     → p ≡ peeked (state_of w) s
 unfolding peeked left state_of
 peek_is w s o c p f k is = is ∙ (λ t. record {
   state = state_shown (sym f t);
   name = name_shown (sym f t);
-  left = left_by false (sym f t);
+  left = left_by (mine (mark_of w.files) s) (sym f t);
   a = word_shown (sym k t) first_shown (ask_in (sym f t));
   b = word_shown (sym k t) second_shown (ask_in (sym f t));
   h = byte_shown (sym f t);
 })
 
-core_there : (w : World) (s : ℕ) → is_some (job_at w.jobs s) ≡ true → core_of (raw_at w.core w.jobs s) ≡ core_at w.core s
+core_there : (w : World) (s : ℕ) → is_some (job_at w.jobs s) ≡ true → core_of (raw_at w.files w.core w.jobs s) ≡ core_at w.core s
 core_there w s some = let j = job_of (job_at w.jobs s) some in ap core_of (raw_some w s j.0 j.1)
 
 pub peek_user : (w : World) (s : ℕ) (x : Option Frame) (p : Peek) → is_some (job_at w.jobs s) ≡ true → x ≡ slice_index_or w.frames.items s x → s < 64 → x ≡ None
@@ -57,6 +57,6 @@ pub peek_user : (w : World) (s : ℕ) (x : Option Frame) (p : Peek) → is_some 
 peek_user w s x p some read lt is shown = peek_is w s None (core_at w.core s) p (frame_read w s x None read lt is) (core_there w s some) shown
 
 pub peek_frame : (w : World) (s : ℕ) (x : Option Frame) (f : Frame) (p : Peek) → is_some (job_at w.jobs s) ≡ true → x ≡ slice_index_or w.frames.items s x → s < 64 → x ≡ Some f
-    → Shows (core_at w.core s) f p → p ≡ peeked (state_of w) s
+    → Shows (core_at w.core s) (mine (state_of w).mark s) f p → p ≡ peeked (state_of w) s
 peek_frame w s x f p some read lt is m = peek_is w s (Some f) (core_at w.core s) p (frame_read w s x (Some f) read lt is) (core_there w s some)
     (λ t. record { state = m.state t; name = m.name t; left = m.left t; a = m.a t; b = m.b t; h = m.h t })

@@ -12,12 +12,12 @@ use Rattle.its_word.specs.declared.session.Refusal.{Refusal}
 use Rattle.its_word.specs.declared.session.Refusal.TheVariants as refusals
 use Rattle.its_word.specs.declared.show.JobShow.{JobShow}
 use Rattle.its_core.specs.Cores.{core_at}
+use Rattle.its_files.specs.Files.{Store}
 use Rattle.its_jobs.specs.Table.{job_at, superior_at}
 use Rattle.its_plain.specs.Machine.{Whole, Machine, changed, with_job}
 use Rattle.its_plain.specs.Change.{on_slot, in_job}
 use Rattle.its_plain.specs.Own as own
-use Rattle.its_plain.specs.Operator.{Block, no_block, Operated, Refuses, Does, Ticks, Ends, only, on_job, with_registers, on_registers, started, interrupted, stopped, continued, shown, state_shown, disturbs}
-use Rattle.its_plain.specs.Operator as operator
+use Rattle.its_plain.specs.Operator.{Block, no_block, Does, only, on_job, with_registers, on_registers, started, interrupted, stopped, continued, shown, state_shown, disturbs}
 use Rattle.its_plain.specs.CallOperator.{operate, Done, lined}
 use Rattle.its_plain.proofs.MachineLaws.{machine_is}
 use Rattle.its_stepped.specs.State.{State, plain}
@@ -30,11 +30,12 @@ use Rattle.its_stepped.proofs.UnwindLaws.{unwound_plain, unwound_none}
 use Rattle.its_world.specs.World.{state_of, in_raw, JobBecomes}
 use Rattle.its_world.specs.declared.world.World.{World}
 use Rattle.its_world.proofs.StateLaws.{raw_job, raw_some, raw_none, changed_state}
+use Rattle.its_pclsr.proofs.ApartLaws.{tidy_put}
 use Rattle.its_operator.specs.Kept.{Kept, Lands, Refused, Calm, reason_of}
-use Rattle.its_operator.proofs.KeptLaws.{refused_by, Made, made_sound, made_plain, made_distinct, becomes_blank, Lasts, kept_lasts, put_lasts, lasts_address, lasts_console}
+use Rattle.its_operator.proofs.KeptLaws.{refused_by, Made, made_sound, made_plain, made_distinct, Lasts, kept_lasts, put_lasts, lasts_address, lasts_console}
 
 -- the raw job of a slot
-pub raw_is : (w : World) (s : ℕ) (j : Job) → job_at w.jobs s ≡ Some j → (state_of w).raw.jobs s ≡ Some (raw_job (core_at w.core s) j (superior_at w.jobs s))
+pub raw_is : (w : World) (s : ℕ) (j : Job) → job_at w.jobs s ≡ Some j → (state_of w).raw.jobs s ≡ Some (raw_job w.files (core_at w.core s) j (superior_at w.jobs s))
 unfolding state_of
 raw_is w s j h = raw_some w s j h
 
@@ -59,13 +60,13 @@ placed_lands v new s q h r job e is = record {
   rest = e ∙ ap (λ (x : State). with_raw v x.raw) (sym e);
 }
 
-pub registers_land : (f : Job → Job) (old mid new : World) (s : ℕ) (j : Job) → ((c : Core) (sup : Option ℕ) → own.with_registers f (raw_job c j sup) ≡ raw_job c (f j) sup) → Calm old mid s j
+pub registers_land : (f : Job → Job) (old mid new : World) (s : ℕ) (j : Job) → ((x : Store) (c : Core) (sup : Option ℕ) → own.with_registers f (raw_job x c j sup) ≡ raw_job x c (f j) sup) → Calm old mid s j
     → JobBecomes mid new s (f j) → Lands (unwound (state_of old) s) (state_of new) (on_registers (unwound (state_of old) s).raw s f)
 unfolding on_registers
 registers_land f old mid new s j fits c b =
     subst (λ (v : State). Lands v (state_of new) (on_job v.raw s (with_registers v.raw s f) (v.raw.jobs s))) c.unwinds
-    (placed_lands (state_of mid) (state_of new) s (raw_job (core_at mid.core s) j (superior_at mid.jobs s)) (own.with_registers f) _ (raw_is mid s j c.job)
-    (changed_state mid new s (core_at mid.core s) (f j) j (own.with_registers f) b c.job (fits (core_at mid.core s) (superior_at mid.jobs s)))
+    (placed_lands (state_of mid) (state_of new) s (raw_job mid.files (core_at mid.core s) j (superior_at mid.jobs s)) (own.with_registers f) _ (raw_is mid s j c.job)
+    (changed_state mid new s (core_at mid.core s) (f j) j (own.with_registers f) b c.job (fits mid.files (core_at mid.core s) (superior_at mid.jobs s)))
     (ap (on_job (state_of mid).raw s (with_registers (state_of mid).raw s f)) (raw_is mid s j c.job)))
 
 -- registers under another name
@@ -93,11 +94,11 @@ registers_lasts m n s f is keeps same a = go (m.jobs s) refl is
 -- what is kept where a line writes the registers of its slot
 registers_kept : (f : Job → Job) (e : Event) (b : Block) (old mid new : World) (s : ℕ) (j : Job) → Kept old → Calm old mid s j → JobBecomes mid new s (f j)
     → Made (state_of old) (state_of new) b e → on_registers (plain (state_of old)) s f ≡ Ok (plain (state_of new)) → ((i : Job) → i.pc < 2 ^ 18 → (f i).pc < 2 ^ 18)
-    → ((i : Job) → (f i).console ≡ i.console) → Kept new
-registers_kept f e b old mid new s j kept c r made is keeps same = record {
+    → ((i : Job) → (f i).console ≡ i.console) → ((i : Job) → (f i).channels ≡ i.channels) → Kept new
+registers_kept f e b old mid new s j kept c r made is keeps same shut = record {
   sound = made_sound (state_of old) (state_of new) b e kept.sound made;
   distinct = made_distinct (state_of old) (state_of new) b e kept.sound kept.distinct made;
-  blank = λ k h. becomes_blank mid new s _ (f j) _ _ _ refl r c.kept k h;
+  tidy = tidy_put mid new s _ j (f j) _ _ c.job (shut j) r c.kept.tidy;
   addressed = (registers_lasts (plain (state_of old)) (plain (state_of new)) s f is keeps same (kept_lasts old kept)).addressed;
   consoled = (registers_lasts (plain (state_of old)) (plain (state_of new)) s f is keeps same (kept_lasts old kept)).consoled;
 }
@@ -114,79 +115,83 @@ registers_refused w s f x h kept = refused_by (λ m. on_registers m s f) (state_
     none : x ≡ refusals.NoJob → on_registers (state_of w).raw s f ≡ Err (reason_of x)
     none e = empty_registers (state_of w).raw s f (raw_is_none w s h.1) ∙ ap (λ y. Err (reason_of y)) (sym e)
 
+-- the block of a job
+abbrev pub block_of : ℕ → Block
+block_of s = record no_block { slot = s }
+
 -- the four calls
 module _ (old mid new : World) (s : ℕ) (j : Job) where
   pub go_done : (a : ℕ) → a < 2 ^ 18 → Kept old → Calm old mid s j → JobBecomes mid new s (started a j) → Lands (unwound (state_of old) s) (state_of new) (on_registers (unwound (state_of old) s).raw s (started a))
-  go_done a p kept c r = registers_land (started a) old mid new s j (λ c sup. refl) c r
+  go_done a p kept c r = registers_land (started a) old mid new s j (λ x c sup. refl) c r
 
-  go_made : (a : ℕ) → a < 2 ^ 18 → Kept old → Calm old mid s j → JobBecomes mid new s (started a j) → Made (state_of old) (state_of new) (record { slot = s }) (events.Go a)
-  unfolding calmed lined operate operator.operate
+  go_made : (a : ℕ) → a < 2 ^ 18 → Kept old → Calm old mid s j → JobBecomes mid new s (started a j) → Made (state_of old) (state_of new) (block_of s) (events.Go a)
+  unfolding calmed lined operate
   go_made a p kept c r =
       let l = go_done a p kept c r in
-      record { out = []; touched = only s; block = (record { slot = s }); is = ap (λ m. Done (disturbs s (record { slot = s }) m)) l.is; rest = l.rest }
+      record { out = []; touched = only s; block = block_of s; is = ap (λ m. Done (disturbs s (block_of s) m)) l.is; rest = l.rest }
 
   pub go_plain : (a : ℕ) → a < 2 ^ 18 → Kept old → Calm old mid s j → JobBecomes mid new s (started a j) → on_registers (plain (state_of old)) s (started a) ≡ Ok (plain (state_of new))
-  unfolding lined operate operator.operate
+  unfolding lined operate
   go_plain a p kept c r =
       let m = go_made a p kept c r in
-      disturbed s (record { slot = s }) (on_registers (plain (state_of old)) s (started a)) (plain (state_of new)) m.out m.touched m.block (made_plain (state_of old) (state_of new) (record { slot = s }) (events.Go a) kept.sound m)
+      disturbed s (block_of s) (on_registers (plain (state_of old)) s (started a)) (plain (state_of new)) m.out m.touched m.block (made_plain (state_of old) (state_of new) (block_of s) (events.Go a) kept.sound m)
 
   pub go_kept : (a : ℕ) → a < 2 ^ 18 → Kept old → Calm old mid s j → JobBecomes mid new s (started a j) → Kept new
-  go_kept a p kept c r = registers_kept (started a) (events.Go a) (record { slot = s }) old mid new s j kept c r (go_made a p kept c r) (go_plain a p kept c r) (λ i l. p) (λ i. refl)
+  go_kept a p kept c r = registers_kept (started a) (events.Go a) (block_of s) old mid new s j kept c r (go_made a p kept c r) (go_plain a p kept c r) (λ i l. p) (λ i. refl) (λ i. refl)
 
   pub stop_done : Kept old → Calm old mid s j → JobBecomes mid new s (stopped j) → Lands (unwound (state_of old) s) (state_of new) (on_registers (unwound (state_of old) s).raw s stopped)
-  stop_done kept c r = registers_land stopped old mid new s j (λ c sup. refl) c r
+  stop_done kept c r = registers_land stopped old mid new s j (λ x c sup. refl) c r
 
   stop_made : Kept old → Calm old mid s j → JobBecomes mid new s (stopped j) → Made (state_of old) (state_of new) no_block (events.Stop s)
-  unfolding calmed lined operate operator.operate
+  unfolding calmed lined operate
   stop_made kept c r =
       let l = stop_done kept c r in
       record { out = []; touched = only s; block = no_block; is = ap (λ m. Done (disturbs s no_block m)) l.is; rest = l.rest }
 
   pub stop_plain : Kept old → Calm old mid s j → JobBecomes mid new s (stopped j) → on_registers (plain (state_of old)) s stopped ≡ Ok (plain (state_of new))
-  unfolding lined operate operator.operate
+  unfolding lined operate
   stop_plain kept c r =
       let m = stop_made kept c r in
       disturbed s no_block (on_registers (plain (state_of old)) s stopped) (plain (state_of new)) m.out m.touched m.block (made_plain (state_of old) (state_of new) no_block (events.Stop s) kept.sound m)
 
   pub stop_kept : Kept old → Calm old mid s j → JobBecomes mid new s (stopped j) → Kept new
-  stop_kept kept c r = registers_kept stopped (events.Stop s) no_block old mid new s j kept c r (stop_made kept c r) (stop_plain kept c r) (λ i l. l) (λ i. refl)
+  stop_kept kept c r = registers_kept stopped (events.Stop s) no_block old mid new s j kept c r (stop_made kept c r) (stop_plain kept c r) (λ i l. l) (λ i. refl) (λ i. refl)
 
   pub cont_done : Kept old → Calm old mid s j → JobBecomes mid new s (continued j) → Lands (unwound (state_of old) s) (state_of new) (on_registers (unwound (state_of old) s).raw s continued)
-  cont_done kept c r = registers_land continued old mid new s j (λ c sup. refl) c r
+  cont_done kept c r = registers_land continued old mid new s j (λ x c sup. refl) c r
 
   cont_made : Kept old → Calm old mid s j → JobBecomes mid new s (continued j) → Made (state_of old) (state_of new) no_block (events.Cont s)
-  unfolding calmed lined operate operator.operate
+  unfolding calmed lined operate
   cont_made kept c r =
       let l = cont_done kept c r in
       record { out = []; touched = only s; block = no_block; is = ap (λ m. Done (disturbs s no_block m)) l.is; rest = l.rest }
 
   pub cont_plain : Kept old → Calm old mid s j → JobBecomes mid new s (continued j) → on_registers (plain (state_of old)) s continued ≡ Ok (plain (state_of new))
-  unfolding lined operate operator.operate
+  unfolding lined operate
   cont_plain kept c r =
       let m = cont_made kept c r in
       disturbed s no_block (on_registers (plain (state_of old)) s continued) (plain (state_of new)) m.out m.touched m.block (made_plain (state_of old) (state_of new) no_block (events.Cont s) kept.sound m)
 
   pub cont_kept : Kept old → Calm old mid s j → JobBecomes mid new s (continued j) → Kept new
-  cont_kept kept c r = registers_kept continued (events.Cont s) no_block old mid new s j kept c r (cont_made kept c r) (cont_plain kept c r) (λ i l. l) (λ i. refl)
+  cont_kept kept c r = registers_kept continued (events.Cont s) no_block old mid new s j kept c r (cont_made kept c r) (cont_plain kept c r) (λ i l. l) (λ i. refl) (λ i. refl)
 
   pub interrupt_done : (x y : ℕ) → Kept old → Calm old mid s j → JobBecomes mid new s (interrupted x y j) → Lands (unwound (state_of old) s) (state_of new) (on_registers (unwound (state_of old) s).raw s (interrupted x y))
-  interrupt_done x y kept c r = registers_land (interrupted x y) old mid new s j (λ c sup. refl) c r
+  interrupt_done x y kept c r = registers_land (interrupted x y) old mid new s j (λ x c sup. refl) c r
 
   interrupt_made : (x y : ℕ) → Kept old → Calm old mid s j → JobBecomes mid new s (interrupted x y j) → Made (state_of old) (state_of new) no_block (events.Int s x y)
-  unfolding calmed lined operate operator.operate
+  unfolding calmed lined operate
   interrupt_made x y kept c r =
       let l = interrupt_done x y kept c r in
       record { out = []; touched = only s; block = no_block; is = ap (λ m. Done (disturbs s no_block m)) l.is; rest = l.rest }
 
   pub interrupt_plain : (x y : ℕ) → Kept old → Calm old mid s j → JobBecomes mid new s (interrupted x y j) → on_registers (plain (state_of old)) s (interrupted x y) ≡ Ok (plain (state_of new))
-  unfolding lined operate operator.operate
+  unfolding lined operate
   interrupt_plain x y kept c r =
       let m = interrupt_made x y kept c r in
       disturbed s no_block (on_registers (plain (state_of old)) s (interrupted x y)) (plain (state_of new)) m.out m.touched m.block (made_plain (state_of old) (state_of new) no_block (events.Int s x y) kept.sound m)
 
   pub interrupt_kept : (x y : ℕ) → Kept old → Calm old mid s j → JobBecomes mid new s (interrupted x y j) → Kept new
-  interrupt_kept x y kept c r = registers_kept (interrupted x y) (events.Int s x y) no_block old mid new s j kept c r (interrupt_made x y kept c r) (interrupt_plain x y kept c r) (λ i l. l) (λ i. refl)
+  interrupt_kept x y kept c r = registers_kept (interrupted x y) (events.Int s x y) no_block old mid new s j kept c r (interrupt_made x y kept c r) (interrupt_plain x y kept c r) (λ i l. l) (λ i. refl) (λ i. refl)
 
 -- STATE
 pub state_found : (old mid : World) (s : ℕ) (j : Job) (x : JobShow) (o : Option ℕ) → Calm old mid s j → o ≡ superior_at mid.jobs s → x ≡ shown j o → state_shown (unwound (state_of old) s).raw s ≡ Ok x

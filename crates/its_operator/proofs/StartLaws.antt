@@ -6,17 +6,19 @@ use Rattle.its_word.specs.Console.{quiet_console}
 use Rattle.its_word.specs.Core.{no_core}
 use Rattle.its_word.specs.Tree.{least_free, fresh_job}
 use Rattle.its_word.proofs.FreeLaws.{least_alike, least_empty}
-use Rattle.its_word.specs.declared.jobs.Channel.TheVariants as channels
+use Rattle.its_word.specs.declared.jobs.Channel.TheVariants.{Closed}
 use Rattle.its_word.specs.declared.session.Event.TheVariants as events
 use Rattle.its_word.specs.declared.session.Reason.{Reason}
 use Rattle.its_word.specs.declared.session.Refusal.TheVariants as refusals
 use Rattle.its_print.specs.Printing.{Line}
 use Rattle.its_print.specs.Printing as printed
 use Rattle.its_core.specs.Cores.{Reserved, core_at, clear_at, IsEmpty}
-use Rattle.its_jobs.specs.Table.{job_at, superior_at, NoJobs}
+use Rattle.its_jobs.specs.Table.{Table, job_at, superior_at, NoJobs}
+use Rattle.its_files.specs.Blocks.{numbers}
+use Rattle.its_files.specs.Files.{Store, readers_by, directory, no_files}
+use Rattle.its_files.proofs.ListLaws.{get_or-copies}
 use Rattle.its_plain.specs.Machine.{Whole, Machine, changed, with_job, no_machine}
 use Rattle.its_plain.specs.Operator.{Block, no_block, Does, nobody, only, new_job, held_by, with_holder, loaded_in, loaded, by_load, quietly}
-use Rattle.its_plain.specs.Operator as operator
 use Rattle.its_plain.specs.CallOperator.{clock_end, clocked_if, clocked, operate, Done, lined}
 use Rattle.its_plain.proofs.MachineLaws.{machine_is}
 use Rattle.its_stepped.specs.State.{State, plain, no_state}
@@ -27,54 +29,76 @@ use Rattle.its_stepped.proofs.DistinctLaws.{distinct_starts}
 use Rattle.its_stepped.proofs.FrameLaws.{changed_only}
 use Rattle.its_stepped.proofs.LineLaws.{least_plain}
 use Rattle.its_stepped.proofs.StartLaws.{no_state_plain, no_state_sound}
-use Rattle.its_world.specs.World.{chan_of, closed_channels, frame_at, console_at, holder_at, raw_of, raw_at, raw_machine, state_of, HolderBecomes}
+use Rattle.its_world.specs.World.{chan_of, closed_channels, frame_at, console_at, holder_at, raw_of, raw_at, raw_machine, mark_of, state_of, HolderBecomes}
+use Rattle.its_world.specs.Tidy.{channel_by, channel_at, tally, reads, writes, writers, Across, Tidy}
 use Rattle.its_world.specs.declared.world.World.{World}
 use Rattle.its_world.proofs.StateLaws.{state_is, raw_job, holder_state}
+use Rattle.its_world.proofs.KeptLaws.{across_table}
+use Rattle.its_world.proofs.TallyLaws.{tally_same, tally_none}
+use Rattle.its_pclsr.proofs.ApartLaws.{tidy_alike}
 use Rattle.its_operator.specs.Kept.{Kept, Lands, Loads, Refused, Fresh, Alters, Later}
 use Rattle.its_operator.proofs.KeptLaws.{raw_has, Made, made_sound, made_plain, made_distinct, Lasts, kept_lasts, put_lasts}
+use Rattle.its_operator.proofs.RegisterLaws.{block_of}
 
 -- a fresh job has no open channel
-all_closed : (k n : ℕ) → slice_index_or (replicate k channels.Closed) n channels.Closed ≡ channels.Closed
+all_closed : (k n : ℕ) → slice_index_or (replicate k Closed) n Closed ≡ Closed
 all_closed zero n = refl
 all_closed (suc k) zero = refl
 all_closed (suc k) (suc n) = all_closed k n
 
-fresh_raw : (u j : ℕ) (console : Option ℕ) → raw_job no_core (fresh_job u j console) None ≡ new_job u j console
+fresh_raw : (x : Store) (u j : ℕ) (console : Option ℕ) → raw_job x no_core (fresh_job u j console) None ≡ new_job u j console
 unfolding fresh_job closed_channels
-fresh_raw u j console = λ t. record (new_job u j console) { channels = λ n. chan_of (all_closed 16 n t) }
+fresh_raw x u j console = λ t. record (new_job u j console) { channels = λ n. chan_of x (all_closed 16 n t) }
 
-fresh_here : (old new : World) (s u j : ℕ) (console : Option ℕ) → Fresh old new s u j console → core_at old.core s ≡ no_core → raw_at new.core new.jobs s ≡ Some (new_job u j console)
+fresh_here : (old new : World) (s u j : ℕ) (console : Option ℕ) → Fresh old new s u j console → core_at old.core s ≡ no_core → raw_at new.files new.core new.jobs s ≡ Some (new_job u j console)
 fresh_here old new s u j console f blank =
-    ap (λ c. raw_of (core_at c s) (superior_at new.jobs s) (job_at new.jobs s)) f.core
-    ∙ ap (λ c. raw_of c (superior_at new.jobs s) (job_at new.jobs s)) blank
-    ∙ ap (λ i. raw_of no_core i (job_at new.jobs s)) f.superior.here
-    ∙ ap (raw_of no_core None) f.job.here ∙ ap Some (fresh_raw u j console)
+    ap (λ c. raw_of new.files (core_at c s) (superior_at new.jobs s) (job_at new.jobs s)) f.core
+    ∙ ap (λ c. raw_of new.files c (superior_at new.jobs s) (job_at new.jobs s)) blank
+    ∙ ap (λ i. raw_of new.files no_core i (job_at new.jobs s)) f.superior.here
+    ∙ ap (raw_of new.files no_core None) f.job.here ∙ ap Some (fresh_raw new.files u j console)
 
-fresh_other : (old new : World) (s u j : ℕ) (console : Option ℕ) (k : ℕ) → Fresh old new s u j console → k ≢ s → raw_at new.core new.jobs k ≡ raw_at old.core old.jobs k
+fresh_other : (old new : World) (s u j : ℕ) (console : Option ℕ) (k : ℕ) → Fresh old new s u j console → k ≢ s → raw_at new.files new.core new.jobs k ≡ raw_at old.files old.core old.jobs k
 fresh_other old new s u j console k f ne =
-    ap (λ c. raw_of (core_at c k) (superior_at new.jobs k) (job_at new.jobs k)) f.core
-    ∙ ap (λ i. raw_of (core_at old.core k) i (job_at new.jobs k)) (f.superior.others k ne)
-    ∙ ap (raw_of (core_at old.core k) (superior_at old.jobs k)) (f.job.others k ne)
+    ap (λ x. raw_of x (core_at new.core k) (superior_at new.jobs k) (job_at new.jobs k)) f.files
+    ∙ ap (λ c. raw_of old.files (core_at c k) (superior_at new.jobs k) (job_at new.jobs k)) f.core
+    ∙ ap (λ i. raw_of old.files (core_at old.core k) i (job_at new.jobs k)) (f.superior.others k ne)
+    ∙ ap (raw_of old.files (core_at old.core k) (superior_at old.jobs k)) (f.job.others k ne)
 
 fresh_state : (old new : World) (s u j : ℕ) (console : Option ℕ) → Fresh old new s u j console → core_at old.core s ≡ no_core
     → state_of new ≡ with_raw (state_of old) (with_job (state_of old).raw s (new_job u j console))
 unfolding state_of
 fresh_state old new s u j console f blank = state_is _ _
     (machine_is _ _ (λ k. elim (cases_eq k s) [
-      | inl is ↦ ap (raw_at new.core new.jobs) is ∙ fresh_here old new s u j console f blank ∙ sym (ap (changed (raw_at old.core old.jobs) s (Some (new_job u j console))) is ∙ (changed_only (raw_at old.core old.jobs) s (Some (new_job u j console))).here)
-      | inr ne ↦ fresh_other old new s u j console k f ne ∙ sym ((changed_only (raw_at old.core old.jobs) s (Some (new_job u j console))).others k ne)
-    ]) (λ c. ap (λ l. console_at l.items c) f.consoles) (λ c. ap (λ l. holder_at l c) f.holders) refl f.clock)
+      | inl is ↦ ap (raw_at new.files new.core new.jobs) is ∙ fresh_here old new s u j console f blank ∙ sym (ap (changed (raw_at old.files old.core old.jobs) s (Some (new_job u j console))) is ∙ (changed_only (raw_at old.files old.core old.jobs) s (Some (new_job u j console))).here)
+      | inr ne ↦ fresh_other old new s u j console k f ne ∙ sym ((changed_only (raw_at old.files old.core old.jobs) s (Some (new_job u j console))).others k ne)
+    ]) (λ c. ap (λ l. console_at l.items c) f.consoles) (λ c. ap (λ l. holder_at l c) f.holders) (ap directory f.files) f.clock)
     (λ k. ap (λ v. frame_at v.items k) f.frames)
     (λ k. ap (λ c. clear_at c k) f.core)
-    refl
+    (ap mark_of f.files)
+
+-- and the slot, which was empty, has no open channel before and after
+fresh_closed : (u j : ℕ) (console : Option ℕ) (n : ℕ) → channel_by (Some (fresh_job u j console)) n ≡ Closed
+unfolding fresh_job
+fresh_closed u j console n = all_closed 16 n
+
+fresh_tidy : (old new : World) (s u j : ℕ) (console : Option ℕ) → Fresh old new s u j console → job_at old.jobs s ≡ None → Tidy old → Tidy new
+fresh_tidy old new s u j console f none tidy = record {
+  blank = λ k h. ap (λ c. core_at c k) f.core ∙ elim (cases_eq k s) [
+    | inl is ↦ let made : None ≡ Some (fresh_job u j console) = sym h ∙ ap (job_at new.jobs) is ∙ f.job.here in absurd cc
+    | inr ne ↦ tidy.blank k (sym (f.job.others k ne) ∙ h)
+  ];
+  across = subst (λ x. Across x new.jobs) (sym f.files) (across_table old.files old.jobs new.jobs tidy.across (λ k n. elim (cases_eq k s) [
+    | inl is ↦
+        ap (λ i. channel_at new.jobs i n) is ∙ ap (λ o. channel_by o n) f.job.here ∙ fresh_closed u j console n
+        ∙ sym (ap (λ i. channel_at old.jobs i n) is ∙ ap (λ o. channel_by o n) none)
+    | inr ne ↦ ap (λ o. channel_by o n) (f.job.others k ne)
+  ]));
+}
 
 least_raw : (w : World) → least_free (state_of w).raw.jobs ≡ least_free (job_at w.jobs)
 least_raw w = least_alike (state_of w).raw.jobs (job_at w.jobs) (λ k. raw_has w k)
 
-abbrev block_of : ℕ → Block
-block_of s = record { slot = s }
-
-loaded_by : (r : Result (Machine × ℕ) Reason) (n : Machine) (s : ℕ) (out : List Line) (touched : ℕ → Bool) → Done (by_load r) ≡ Done (Does n out touched (record { slot = s })) → r ≡ Ok (n, s)
+loaded_by : (r : Result (Machine × ℕ) Reason) (n : Machine) (s : ℕ) (out : List Line) (touched : ℕ → Bool) → Done (by_load no_block r) ≡ Done (Does n out touched (block_of s)) → r ≡ Ok (n, s)
 loaded_by (Ok (m, i)) n s out touched h = let a : m ≡ n = cc in let b : block_of i ≡ block_of s = cc in ap (λ (x : Machine). Ok (x, i)) a ∙ ap (λ (k : Block). Ok (n, k.slot)) b
 loaded_by (Err x) n s out touched h = absurd cc
 
@@ -95,6 +119,7 @@ console_held w c s h o i f = record {
   state = state_is _ _ (machine_is _ _ (λ k. refl) (λ k. refl) (λ k. same_holder (holder_at w.holders) c s h k (sym i ∙ f)) refl refl) (λ k. refl) (λ k. refl) refl;
   core = refl;
   jobs = refl;
+  files = refl;
 }
 
 pub console_given : (old new : World) (c s : ℕ) (o : Option ℕ) → o ≡ holder_at old.holders c → o ≡ None → HolderBecomes old new c (Some s) → Alters old new (with_holder (state_of old).raw s (Some c))
@@ -104,6 +129,7 @@ console_given old new c s o i f b = record {
       ∙ ap (λ (o : Option ℕ). with_raw (state_of old) (record (state_of old).raw { holders = changed (state_of old).raw.holders c o })) (sym (ap (held_by s) (sym i ∙ f)));
   core = b.core;
   jobs = b.jobs;
+  files = b.files;
 }
 
 pub console_some : (old new : World) (s c : ℕ) (console : Option ℕ) → console ≡ Some c → Alters old new (with_holder (state_of old).raw s (Some c))
@@ -112,7 +138,7 @@ console_some old new s c console e h = subst (λ (o : Option ℕ). Alters old ne
 
 pub console_none : (w : World) (s : ℕ) (console : Option ℕ) → console ≡ None → Alters w w (with_holder (state_of w).raw s console)
 console_none w s console e =
-    subst (λ (o : Option ℕ). Alters w w (with_holder (state_of w).raw s o)) (sym e) (record { state = refl; core = refl; jobs = refl })
+    subst (λ (o : Option ℕ). Alters w w (with_holder (state_of w).raw s o)) (sym e) (record { state = refl; core = refl; jobs = refl; files = refl })
 
 held_lasts : (m : Machine) (s : ℕ) (console : Option ℕ) → Lasts m → Lasts (with_holder m s console)
 held_lasts m s (Some c) a = record { addressed = a.addressed; consoled = a.consoled }
@@ -121,7 +147,7 @@ held_lasts m s None a = a
 -- LOAD
 module _ (old mid new : World) (s u j : ℕ) (console : Option ℕ) where
   blank_at : Kept old → least_free (job_at old.jobs) ≡ Some s → core_at old.core s ≡ no_core
-  blank_at kept e = kept.blank s (least_empty (job_at old.jobs) s e)
+  blank_at kept e = kept.tidy.blank s (least_empty (job_at old.jobs) s e)
 
   load_state : Kept old → least_free (job_at old.jobs) ≡ Some s → Fresh old mid s u j console → Alters mid new (with_holder (state_of mid).raw s console)
       → state_of new ≡ with_raw (state_of old) (with_holder (with_job (state_of old).raw s (new_job u j console)) s console)
@@ -139,14 +165,14 @@ module _ (old mid new : World) (s u j : ℕ) (console : Option ℕ) where
 
   load_line : Kept old → least_free (job_at old.jobs) ≡ Some s → Fresh old mid s u j console → Alters mid new (with_holder (state_of mid).raw s console)
       → Made (state_of old) (state_of new) no_block (events.Load u j console)
-  unfolding calmed lined operate operator.operate
+  unfolding calmed lined operate
   load_line kept e f h =
       let l = load_done kept e f h in
-      record { out = printed.Loaded s ∷ []; touched = only s; block = record { slot = s }; is = ap (λ r. Done (by_load r)) l.is; rest = l.rest }
+      record { out = printed.Loaded s ∷ []; touched = only s; block = block_of s; is = ap (λ r. Done (by_load no_block r)) l.is; rest = l.rest }
 
   pub load_plain : Kept old → least_free (job_at old.jobs) ≡ Some s → Fresh old mid s u j console → Alters mid new (with_holder (state_of mid).raw s console)
       → loaded (plain (state_of old)) u j console ≡ Ok (plain (state_of new), s)
-  unfolding lined operate operator.operate load_line
+  unfolding lined operate load_line
   load_plain kept e f h =
       let m = load_line kept e f h in
       loaded_by (loaded (plain (state_of old)) u j console) (plain (state_of new)) s (printed.Loaded s ∷ []) (only s)
@@ -181,12 +207,7 @@ module _ (old mid new : World) (s u j : ℕ) (console : Option ℕ) where
   load_kept fits kept e f h = record {
     sound = made_sound (state_of old) (state_of new) no_block (events.Load u j console) kept.sound (load_line kept e f h);
     distinct = made_distinct (state_of old) (state_of new) no_block (events.Load u j console) kept.sound kept.distinct (load_line kept e f h);
-    blank = λ k empty.
-        let none : job_at mid.jobs k ≡ None = sym (ap (λ t. job_at t k) h.jobs) ∙ empty in
-        ap (λ c. core_at c k) h.core ∙ elim (cases_eq k s) [
-          | inl is ↦ let made : None ≡ Some (fresh_job u j console) = sym none ∙ ap (job_at mid.jobs) is ∙ f.job.here in absurd cc
-          | inr ne ↦ ap (λ c. core_at c k) f.core ∙ kept.blank k (sym (f.job.others k ne) ∙ none)
-        ];
+    tidy = tidy_alike mid new h.core h.jobs h.files (fresh_tidy old mid s u j console f (least_empty (job_at old.jobs) s e) kept.tidy);
     addressed = (load_lasts fits kept e f h).addressed;
     consoled = (load_lasts fits kept e f h).consoled;
   }
@@ -203,10 +224,10 @@ load_full w u j console e = record {
 later_state : (old new : World) (n : ℕ) → Later old new n → state_of new ≡ with_raw (state_of old) (record (state_of old).raw { clock = (state_of old).raw.clock + n })
 unfolding state_of
 later_state old new n l = λ t. record {
-  raw = raw_machine (l.core t) (l.jobs t) (l.consoles t).items (l.holders t) (l.clock t);
+  raw = raw_machine (l.files t) (l.core t) (l.jobs t) (l.consoles t).items (l.holders t) (l.clock t);
   frames = frame_at (l.frames t).items;
   reserved = clear_at (l.core t);
-  mark = None;
+  mark = mark_of (l.files t);
 }
 
 raw_clock : (w : World) → (state_of w).raw.clock ≡ w.clock
@@ -220,7 +241,7 @@ plain_clock v = refl
 test_raw : (w : World) (n : ℕ) (b : Bool) → b ≡ nat_lt (w.clock + n) clock_end → nat_lt ((state_of w).raw.clock + n) clock_end ≡ b
 test_raw w n b h = ap (λ c. nat_lt (c + n) clock_end) (raw_clock w) ∙ sym h
 
-quiet_by : (r : Result Machine Reason) (n : Machine) (out : List Line) (touched : ℕ → Bool) (b c : Block) → Done (quietly b r) ≡ Done (Does n out touched c) → r ≡ Ok n
+pub quiet_by : (r : Result Machine Reason) (n : Machine) (out : List Line) (touched : ℕ → Bool) (b c : Block) → Done (quietly b r) ≡ Done (Does n out touched c) → r ≡ Ok n
 quiet_by (Ok m) n out touched b c h = let a : m ≡ n = cc in ap Ok a
 quiet_by (Err x) n out touched b c h = absurd cc
 
@@ -235,13 +256,13 @@ module _ (old new : World) (n : ℕ) (b : Bool) where
       }
 
   clock_line : b ≡ nat_lt (old.clock + n) clock_end → b ≡ true → Later old new n → Made (state_of old) (state_of new) no_block (events.Clock n)
-  unfolding calmed lined operate operator.operate
+  unfolding calmed lined operate
   clock_line h t l =
       let d = clock_done h t l in
       record { out = []; touched = nobody; block = no_block; is = ap (λ r. Done (quietly no_block r)) d.is; rest = d.rest }
 
   pub clock_plain : Kept old → b ≡ nat_lt (old.clock + n) clock_end → b ≡ true → Later old new n → clocked (plain (state_of old)) n ≡ Ok (plain (state_of new))
-  unfolding lined operate operator.operate
+  unfolding lined operate
   clock_plain kept h t l =
       let m = clock_line h t l in
       quiet_by (clocked (plain (state_of old)) n) (plain (state_of new)) m.out m.touched no_block m.block (made_plain (state_of old) (state_of new) no_block (events.Clock n) kept.sound m)
@@ -254,7 +275,7 @@ module _ (old new : World) (n : ℕ) (b : Bool) where
   clock_kept kept h t l = record {
     sound = made_sound (state_of old) (state_of new) no_block (events.Clock n) kept.sound (clock_line h t l);
     distinct = made_distinct (state_of old) (state_of new) no_block (events.Clock n) kept.sound kept.distinct (clock_line h t l);
-    blank = λ k e. ap (λ c. core_at c k) l.core ∙ kept.blank k (sym (ap (λ t. job_at t k) l.jobs) ∙ e);
+    tidy = tidy_alike old new l.core l.jobs l.files kept.tidy;
     addressed = λ k. subst (λ (o : Option Whole). IfSome o (λ q. q.job.pc < 2 ^ 18)) (sym (later_jobs l k)) (kept.addressed k);
     consoled = λ k. subst (λ (o : Option Whole). IfSome o (λ q. IfSome q.job.console (λ c. c < 8))) (sym (later_jobs l k)) (kept.consoled k);
   }
@@ -267,24 +288,47 @@ clock_refused w n b h t = record {
   calmed = ap (clocked_if (state_of w).raw n) (test_raw w n b h ∙ t);
 }
 
--- a world that is opened
+-- a world that is opened: no channel is open, and no file and no draft stands
+nothing_read : (f : ℕ) → tally (reads f) (λ k n. Closed) ≡ 0
+unfolding tally
+nothing_read f = tally_none (λ k n. Closed)
+
+nothing_written : (d : ℕ) → tally (writes d) (λ k n. Closed) ≡ 0
+unfolding tally
+nothing_written d = tally_none (λ k n. Closed)
+
+no_across : (t : Table) → NoJobs t → Across no_files t
+no_across t none = record {
+  past_slots = λ k n le. closed k n;
+  past_numbers = λ k n le. closed k n;
+  read = λ f. tally_same (reads f) (λ k n. Closed) (channel_at t) closed ∙ nothing_read f ∙ sym (ap readers_by (get_or-copies numbers f None));
+  written = λ d. tally_same (writes d) (λ k n. Closed) (channel_at t) closed ∙ nothing_written d ∙ sym (ap (λ e. writers e false) (get_or-copies numbers d None));
+}
+  where
+    closed : (k n : ℕ) → channel_at t k n ≡ Closed
+    closed k n = ap (λ o. channel_by o n) (none.jobs k)
+
+nothing_marked : mark_of no_files ≡ None
+unfolding mark_of
+nothing_marked = refl
+
 pub open_state : (w : World) → IsEmpty w.core → NoJobs w.jobs → ((k : ℕ) → frame_at w.frames.items k ≡ None)
-    → ((c : ℕ) → console_at w.consoles.items c ≡ quiet_console) → ((c : ℕ) → holder_at w.holders c ≡ None) → w.clock ≡ 0 → state_of w ≡ no_state no_machine
+    → ((c : ℕ) → console_at w.consoles.items c ≡ quiet_console) → ((c : ℕ) → holder_at w.holders c ≡ None) → w.files ≡ no_files → w.clock ≡ 0 → state_of w ≡ no_state no_machine
 unfolding state_of no_state no_machine
-open_state w e n f consoles holders c = state_is _ _
-    (machine_is _ _ (λ k. ap (raw_of (core_at w.core k) (superior_at w.jobs k)) (n.jobs k)) consoles holders refl c)
-    f (λ k. ap (option_map (λ (r : Reserved). r.clear)) (e.reserved k)) refl
+open_state w e n f consoles holders files c = state_is _ _
+    (machine_is _ _ (λ k. ap (raw_of w.files (core_at w.core k) (superior_at w.jobs k)) (n.jobs k)) consoles holders (ap directory files) c)
+    f (λ k. ap (option_map (λ (r : Reserved). r.clear)) (e.reserved k)) (ap mark_of files ∙ nothing_marked)
 
 pub open_kept : (w : World) → IsEmpty w.core → NoJobs w.jobs → ((k : ℕ) → frame_at w.frames.items k ≡ None)
-    → ((c : ℕ) → console_at w.consoles.items c ≡ quiet_console) → ((c : ℕ) → holder_at w.holders c ≡ None) → w.clock ≡ 0 → Kept w
+    → ((c : ℕ) → console_at w.consoles.items c ≡ quiet_console) → ((c : ℕ) → holder_at w.holders c ≡ None) → w.files ≡ no_files → w.clock ≡ 0 → Kept w
 unfolding no_machine
-open_kept w e n f consoles holders c =
-    let is = open_state w e n f consoles holders c in
+open_kept w e n f consoles holders files c =
+    let is = open_state w e n f consoles holders files c in
     let machine : plain (state_of w) ≡ no_machine = ap plain is ∙ no_state_plain no_machine in
     record {
       sound = subst Sound (sym is) no_state_sound;
       distinct = subst Distinct (sym machine) distinct_starts;
-      blank = λ k h. e.cores k;
+      tidy = record { blank = λ k h. e.cores k; across = subst (λ s. Across s w.jobs) (sym files) (no_across w.jobs n) };
       addressed = λ k. subst (λ (m : Machine). IfSome (m.jobs k) (λ q. q.job.pc < 2 ^ 18)) (sym machine) (nobody_there k);
       consoled = λ k. subst (λ (m : Machine). IfSome (m.jobs k) (λ q. IfSome q.job.console (λ c. c < 8))) (sym machine) (none_there k);
     }

@@ -6,8 +6,6 @@ use Rattle.its_word.specs.declared.session.Event.{Event}
 use Rattle.its_word.specs.declared.session.Event.TheVariants as events
 use Rattle.its_print.specs.Printing.{Line}
 use Rattle.its_print.specs.Printing as printed
-use Rattle.its_core.specs.Cores.{core_at}
-use Rattle.its_jobs.specs.Table.{job_at}
 use Rattle.its_plain.specs.Machine.{Machine}
 use Rattle.its_plain.specs.Change.{on_console}
 use Rattle.its_plain.specs.Operator.{Block, no_block, Does, nobody}
@@ -17,6 +15,7 @@ use Rattle.its_stepped.specs.Lines.{calmed, with_raw}
 use Rattle.its_world.specs.World.{console_at, state_of, typed_at, drained_at, ConsoleBecomes}
 use Rattle.its_world.specs.declared.world.World.{World}
 use Rattle.its_world.proofs.StateLaws.{console_state}
+use Rattle.its_pclsr.proofs.ApartLaws.{tidy_alike}
 use Rattle.its_operator.specs.Kept.{Kept, Lands}
 use Rattle.its_operator.proofs.KeptLaws.{Made, made_sound, made_plain, made_distinct}
 
@@ -62,7 +61,7 @@ module _ (old new : World) (c : ℕ) (f : Console → Console) (e : Event) (out 
   kept_done kept = record {
     sound = made_sound (state_of old) (state_of new) no_block e kept.sound made;
     distinct = made_distinct (state_of old) (state_of new) no_block e kept.sound kept.distinct made;
-    blank = λ k h. ap (λ t. core_at t k) b.core ∙ kept.blank k (sym (ap (λ t. job_at t k) b.jobs) ∙ h);
+    tidy = tidy_alike old new b.core b.jobs b.files kept.tidy;
     addressed = λ k. subst (λ (m : Machine). IfSome (m.jobs k) (λ q. q.job.pc < 2 ^ 18)) (sym (plain_done kept)) (kept.addressed k);
     consoled = λ k. subst (λ (m : Machine). IfSome (m.jobs k) (λ q. IfSome q.job.console (λ c. c < 8))) (sym (plain_done kept)) (kept.consoled k);
   }

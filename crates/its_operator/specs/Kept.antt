@@ -1,7 +1,6 @@
 -- What holds of a world between two calls, and what a call of the operator makes of the state that a world stands for.
 use Rattle.std.specs.Prelude.{if◌then◌else◌, ◌≡◌, ◌<◌, ◌+◌, ◌^◌, ℕ, Bool, Option, Some, None, IfSome, Result, Ok, Err}
 use Rattle.its_word.specs.Only.{Only}
-use Rattle.its_word.specs.Core.{no_core}
 use Rattle.its_word.specs.Tree.{fresh_job}
 use Rattle.its_word.specs.declared.access.NoAccess.{NoAccess}
 use Rattle.its_word.specs.declared.access.NoAccess.TheVariants.{Absent, ReadOnly}
@@ -10,23 +9,24 @@ use Rattle.its_word.specs.declared.session.Reason.TheVariants as reasons
 use Rattle.its_word.specs.declared.session.Refusal.{Refusal}
 use Rattle.its_word.specs.declared.session.Refusal.TheVariants as refusals
 use Rattle.its_word.specs.declared.jobs.Job.{Job}
-use Rattle.its_core.specs.Cores.{core_at}
+use Rattle.its_files.specs.Files.{helped}
 use Rattle.its_jobs.specs.Table.{job_at, superior_at}
 use Rattle.its_plain.specs.Machine.{Machine}
 use Rattle.its_stepped.specs.State.{State, plain}
 use Rattle.its_stepped.specs.Sound.{Sound}
 use Rattle.its_stepped.specs.Calling.{Distinct}
 use Rattle.its_stepped.specs.Lines.{with_raw}
-use Rattle.its_stepped.specs.Unwind.{unwound}
+use Rattle.its_stepped.specs.Unwind.{unwound, help}
 use Rattle.its_world.specs.World.{state_of}
+use Rattle.its_world.specs.Tidy.{Tidy}
 use Rattle.its_world.specs.declared.world.World.{World}
 
--- the state is sound, and its jobs lie as they can; the core of an empty slot is that of no job; the PC of each job of
--- the plain machine is an address, and its console is one of eight
+-- the state is sound, and its jobs lie as they can; files and drafts have the channels that they say, and the core of an
+-- empty slot is that of no job; the PC of each job of the plain machine is an address, and its console is one of eight
 pub record Kept (w : World) : Type 0 where
   pub sound : Sound (state_of w)
   pub distinct : Distinct (plain (state_of w))
-  pub blank : (k : ℕ) → job_at w.jobs k ≡ None → core_at w.core k ≡ no_core
+  pub tidy : Tidy w
   pub addressed : (k : ℕ) → IfSome ((plain (state_of w)).jobs k) (λ q. q.job.pc < 2 ^ 18)
   pub consoled : (k : ℕ) → IfSome ((plain (state_of w)).jobs k) (λ q. IfSome q.job.console (λ c. c < 8))
 
@@ -63,6 +63,12 @@ pub record Refused {X : Type 0} (w v : State) (f : Machine → Result X Reason) 
   pub raw : f w.raw ≡ Err (reason_of e)
   pub calmed : f v.raw ≡ Err (reason_of e)
 
+-- the same of a line that looks at files: of the plain machine, and of the raw machine once the owed parts of a close are
+-- made, which they are also where the line is refused
+pub record FileRefused {X : Type 0} (w : State) (f : Machine → Result X Reason) (e : Refusal) : Type 0 where
+  pub plain : f (plain w) ≡ Err (reason_of e)
+  pub calmed : f (help w).raw ≡ Err (reason_of e)
+
 -- a slot of a world was unwound, and has this job
 pub record Calm (old mid : World) (s : ℕ) (j : Job) : Type 0 where
   pub kept : Kept mid
@@ -89,13 +95,15 @@ pub record Fresh (old new : World) (s u j : ℕ) (console : Option ℕ) : Type 0
   pub frames : new.frames ≡ old.frames
   pub consoles : new.consoles ≡ old.consoles
   pub holders : new.holders ≡ old.holders
+  pub files : new.files ≡ old.files
   pub clock : new.clock ≡ old.clock
 
--- the raw machine of a world is another, with the same cores and jobs
+-- the raw machine of a world is another, with the same cores, jobs and files
 pub record Alters (old new : World) (m : Machine) : Type 0 where
   pub state : state_of new ≡ with_raw (state_of old) m
   pub core : new.core ≡ old.core
   pub jobs : new.jobs ≡ old.jobs
+  pub files : new.files ≡ old.files
 
 -- the clock of a world gained n
 pub record Later (old new : World) (n : ℕ) : Type 0 where
@@ -104,4 +112,11 @@ pub record Later (old new : World) (n : ℕ) : Type 0 where
   pub frames : new.frames ≡ old.frames
   pub consoles : new.consoles ≡ old.consoles
   pub holders : new.holders ≡ old.holders
+  pub files : new.files ≡ old.files
   pub clock : new.clock ≡ old.clock + n
+
+-- the parts of a close that are still owed are made
+pub record Helped (old new : World) : Type 0 where
+  pub files : new.files ≡ helped old.files
+  pub state : state_of new ≡ help (state_of old)
+  pub kept : Kept new

@@ -2,6 +2,7 @@
 //! refused leaves the world as it was; else the job that it names is unwound to user mode first.
 #![tactic(auto)]
 
+mod filing;
 mod loading;
 mod peeking;
 mod registers;
@@ -10,7 +11,8 @@ mod tests;
 mod typing;
 mod words;
 
-pub use its_word::{JobShow, NoMemory, Peek, Refusal};
+pub use filing::{dir, file, file_add, file_length, file_new, file_word};
+pub use its_word::{FileShow, JobShow, NoMemory, Peek, Refusal};
 pub use its_world::World;
 pub use loading::{advance, load_job, open};
 pub use peeking::peek;

@@ -5,7 +5,7 @@ ghost use Rattle.its_core.specs.Cores.{core_at};
 ghost use Rattle.its_frame.specs.Left.{Few};
 ghost use Rattle.its_plain.specs.Arguments.{place_of_input};
 ghost use Rattle.its_plain.specs.Decide.{call_named};
-ghost use Rattle.its_stepped.specs.State.{plain};
+ghost use Rattle.its_stepped.specs.State.{mine, plain};
 ghost use Rattle.its_stepped.specs.Lines.{peeked, state_shown, name_shown, name_read, first_shown, second_shown, word_of_input, word_shown, ask_in, byte_shown};
 ghost use Rattle.its_world.specs.World.{state_of};
 ghost use Rattle.its_operator.specs.Kept.{Kept};
@@ -54,16 +54,27 @@ fn in_user_mode() -> Peek
 fn inside(w: &World, slot: u8, frame: &Frame) -> Peek
     requires slot { slot < slots }
     requires few { Few frame.now }
-    ensures { Shows (core_at w.now.core slot) frame.now result }
+    ensures { Shows (core_at w.now.core slot) (mine (state_of w.now).mark slot) frame.now result }
 {
     let (a, b) = words_shown(w, slot, frame);
     Peek {
         state: state_shown(frame),
         name: name_shown(frame),
-        left: frame.left(false),
+        left: frame.left(owns_mark(w, slot)),
         a,
         b,
         h: byte_shown(frame),
+    }
+}
+
+/// Whether the close that is half made is that of a slot's call.
+#[tactic(auto, using(its_pclsr::proofs::OwedLaws::owner_some, its_pclsr::proofs::OwedLaws::owner_none))]
+fn owns_mark(w: &World, slot: u8) -> bool
+    ensures { result ≡ mine (state_of w.now).mark slot }
+{
+    match w.files.owner() {
+        Some(owner) => owner == slot,
+        None => false,
     }
 }
 

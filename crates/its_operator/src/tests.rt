@@ -3,10 +3,10 @@ ghost use Rattle.its_word.specs.Limits.{slots};
 ghost use Rattle.its_operator.specs.Kept.{Kept};
 
 use super::{
-    advance, cont, deposit, drain, exam, go, interrupt, load_job, load_word, open, peek, state,
-    stop, type_in,
+    advance, cont, deposit, dir, drain, exam, file, file_add, file_length, file_new, file_word, go,
+    interrupt, load_job, load_word, open, peek, state, stop, type_in,
 };
-use its_word::{JobShow, Peek, PeekState, Refusal, SLOTS, Word};
+use its_word::{FileShow, JobShow, Peek, PeekState, Refusal, SLOTS, Word};
 use its_world::World;
 use std::process::Abort;
 use std::test::Fail;
@@ -27,6 +27,11 @@ enum Line {
     Clock(u64),
     Type(u8, u8),
     Drain(u8),
+    File(u64, u64),
+    Append(u64, u64, u64),
+    Length(u64, u64),
+    Read(u64, u64, u32),
+    Dir(u32),
 }
 
 /// What it answers.
@@ -39,7 +44,13 @@ enum Answer {
     Peek(Peek),
     Waits(bool),
     Byte(Option<u8>),
+    Length(Option<u32>),
+    Read(Option<Word>),
+    File(Option<FileShow>),
 }
+
+/// The directory of all files.
+const DIRECTORY: u64 = 0o42;
 
 /// A console that there is.
 fn known(rt: &impl Abort, console: Option<u8>) -> Option<u8>
@@ -117,7 +128,34 @@ fn run_line(rt: &impl Abort, w: &mut World, slot: u8, line: Line) -> Result<Answ
             assert!(rt; console < 8);
             Ok(Answer::Byte(drain(w, console)))
         }
+        Line::File(x, y) => {
+            file_new(w, Word::new(DIRECTORY), Word::new(x), Word::new(y))?;
+            Ok(Answer::Done)
+        }
+        Line::Append(x, y, word) => {
+            append(w, x, y, Word::new(word))?;
+            Ok(Answer::Done)
+        }
+        Line::Length(x, y) => {
+            let id = file(w, Word::new(DIRECTORY), Word::new(x), Word::new(y))?;
+            Ok(Answer::Length(file_length(w, id)))
+        }
+        Line::Read(x, y, k) => {
+            let id = file(w, Word::new(DIRECTORY), Word::new(x), Word::new(y))?;
+            Ok(Answer::Read(file_word(w, id, k)))
+        }
+        Line::Dir(k) => Ok(Answer::File(dir(w, Word::new(DIRECTORY), k))),
     }
+}
+
+/// Adds a word to the file with these names.
+#[tactic(auto, using(crate::proofs::FileLaws::stands_still))]
+fn append(w: &mut World, x: u64, y: u64, word: Word) -> Result<(), Refusal>
+    requires kept { Kept w.old }
+    ensures { Kept w.new }
+{
+    let id = file(w, Word::new(DIRECTORY), Word::new(x), Word::new(y))?;
+    file_add(w, id, word)
 }
 
 /// What STATE shows of the job of slot 0, started at 2000.
@@ -136,6 +174,20 @@ fn shown(run: bool, p1: u64, p2: u64) -> Answer {
         d1: Word::ZERO,
         d2: Word::ZERO,
     })
+}
+
+/// What DIR shows of a file.
+fn filed(x: u64, y: u64, length: u32) -> Answer {
+    Answer::File(Some(FileShow {
+        x: Word::new(x),
+        y: Word::new(y),
+        length,
+    }))
+}
+
+/// A word of a file that is there.
+fn read(word: u64) -> Answer {
+    Answer::Read(Some(Word::new(word)))
 }
 
 /// A session: each line at its slot, and what it answers or why it is refused.
@@ -183,6 +235,20 @@ fn session(rt: HostRuntime) -> Result<(), Fail> {
         (63, Line::Exam(0o17), Err(Refusal::NoJob)),
         (63, Line::State, Err(Refusal::NoJob)),
         (63, Line::Peek, Err(Refusal::NoJob)),
+        (0, Line::Dir(0), Ok(Answer::File(None))),
+        (0, Line::Append(1, 2, 0o17), Err(Refusal::NoFile)),
+        (0, Line::File(1, 2), Ok(Answer::Done)),
+        (0, Line::File(1, 2), Err(Refusal::Exists)),
+        (0, Line::File(2, 1), Ok(Answer::Done)),
+        (0, Line::Append(1, 2, 0o17), Ok(Answer::Done)),
+        (0, Line::Append(1, 2, 0o20), Ok(Answer::Done)),
+        (0, Line::Dir(0), Ok(filed(1, 2, 2))),
+        (0, Line::Dir(1), Ok(filed(2, 1, 0))),
+        (0, Line::Dir(2), Ok(Answer::File(None))),
+        (0, Line::Length(1, 2), Ok(Answer::Length(Some(2)))),
+        (0, Line::Read(1, 2, 1), Ok(read(0o20))),
+        (0, Line::Read(1, 2, 2), Ok(Answer::Read(None))),
+        (0, Line::Read(3, 3, 0), Err(Refusal::NoFile)),
     ] {
         assert!(rt; usize::from(slot) < SLOTS);
         let got = run_line(&rt, &mut w, slot, line);

@@ -1,29 +1,30 @@
 -- Each change in code is its effect on the state.
-use Rattle.std.specs.Prelude.{◌≡◌, ◌≢◌, ◌==◌, ◌<◌, ◌+◌, ℕ, suc, length, Option, Some, None, List, [], ◌∷◌, ◌++◌, slice_index_or, slice_set, refl}
-use Rattle.std.proofs.Common.{sym, ap, ◌∙◌, subst, arith, drop, drop-cons, inl, inr}
-use Rattle.std.proofs.lemmas.Bool.{cases_Bool}
-use Rattle.std.proofs.lemmas.Bool.Decides.{nat_tests}
-use Rattle.std.proofs.lemmas.List.{get_or-set_same, get_or-set_other}
+use Rattle.std.specs.Prelude.{◌≡◌, ◌<◌, ◌+◌, ℕ, suc, length, Option, Some, None, List, [], ◌∷◌, ◌++◌, slice_index_or, refl}
+use Rattle.std.proofs.Common.{sym, ap, ◌∙◌, subst, arith, drop, drop-cons}
 use Rattle.its_word.specs.Console.{most_waiting}
 use Rattle.its_word.specs.declared.jobs.Job.{Job}
 use Rattle.its_core.specs.Cores.{core_at}
+use Rattle.its_files.specs.Files.{Store}
 use Rattle.its_jobs.specs.Table.{job_at, superior_at}
 use Rattle.its_frame.specs.declared.change.Change.{Change}
 use Rattle.its_frame.specs.declared.variable.Variable.{Variable}
 use Rattle.its_frame.specs.declared.variable.Variable.TheVariants.{Uname, Jname, Uind, Suppro, Cnsl, Pages, Upc, Ustp, Pirqc, Ifpir, Mask, Msk2, Df1, Df2}
 use Rattle.its_plain.specs.Change.{with_inf, taken_from, put_to, on_console}
 use Rattle.its_plain.specs.Job.{INF, with_pending}
-use Rattle.its_plain.specs.Own.{with_registers, with_variable, on_channel}
-use Rattle.its_plain.specs.Machine.{changed}
+use Rattle.its_plain.specs.Own.{with_registers, with_variable}
+use Rattle.its_plain.specs.Machine.{Shut}
 use Rattle.its_stepped.specs.Lines.{with_raw}
 use Rattle.its_stepped.specs.State.{State}
 use Rattle.its_stepped.specs.Commit.{effect_on, effects_on}
+use Rattle.its_pclsr.proofs.ApartLaws.{tidy_put}
 use Rattle.its_pclsr.specs.Built.{CanMake, CanMakeAll}
 use Rattle.its_word.specs.Core.{Core}
-use Rattle.its_word.specs.declared.jobs.Channel.{Channel}
 use Rattle.its_word.specs.declared.jobs.Channel.TheVariants as channels
+use Rattle.its_world.specs.Storage.{chan_in, IsElsewhere}
+use Rattle.its_world.specs.Tidy.{channel_at, Tidy}
 use Rattle.its_world.specs.World.{state_of, bare, chan_of, in_raw, console_at, JobBecomes, ConsoleBecomes}
 use Rattle.its_world.specs.declared.world.World.{World}
+use Rattle.its_world.proofs.StorageLaws.{chan_shut}
 use Rattle.its_world.proofs.StateLaws.{raw_job, changed_state, absent_state, console_state}
 
 pub inf_set : (old new : World) (s : ℕ) (j : Job) (o : Option Job) → o ≡ job_at old.jobs s → o ≡ Some j → JobBecomes old new s (with_pending j INF)
@@ -68,15 +69,19 @@ same_channels Suppro v j = refl
 same_channels Cnsl v j = refl
 same_channels Pages v j = refl
 
-raw_variable : (c : Core) (sup : Option ℕ) (j i k : Job) → k ≡ bare i → j.channels ≡ i.channels
-    → record { core = c; job = k; superior = sup; channels = λ n. chan_of (slice_index_or j.channels n channels.Closed) } ≡ raw_job c i sup
-raw_variable c sup j i k e f = λ t. record { core = c; job = e t; superior = sup; channels = λ n. chan_of (slice_index_or (f t) n channels.Closed) }
+raw_variable : (files : Store) (c : Core) (sup : Option ℕ) (j i k : Job) → k ≡ bare i → j.channels ≡ i.channels
+    → record { core = c; job = k; superior = sup; channels = λ n. chan_of files (slice_index_or j.channels n channels.Closed) } ≡ raw_job files c i sup
+raw_variable files c sup j i k e f = λ t. record { core = c; job = e t; superior = sup; channels = λ n. chan_of files (slice_index_or (f t) n channels.Closed) }
 
 pub variable_set : (old new : World) (s v : ℕ) (x : Variable) (j : Job) (o : Option Job) → o ≡ job_at old.jobs s → o ≡ Some j → JobBecomes old new s (with_variable x v j)
     → state_of new ≡ in_raw (state_of old) s (with_registers (with_variable x v))
 variable_set old new s v x j o e i b =
     changed_state old new s _ (with_variable x v j) j (with_registers (with_variable x v)) b (sym e ∙ i)
-    (raw_variable _ _ j (with_variable x v j) _ (apart x v j) (sym (same_channels x v j)))
+    (raw_variable old.files (core_at old.core s) (superior_at old.jobs s) j (with_variable x v j) _ (apart x v j) (sym (same_channels x v j)))
+
+pub variable_tidy : (old new : World) (s v : ℕ) (x : Variable) (i j : Job) (o : Option Job) → o ≡ job_at old.jobs s → o ≡ Some j → i ≡ with_variable x v j → JobBecomes old new s i
+    → Tidy old → Tidy new
+variable_tidy old new s v x i j o e is same b tidy = tidy_put old new s _ j i _ _ (sym e ∙ is) (ap (λ (k : Job). k.channels) same ∙ same_channels x v j) b tidy
 
 pub variable_missing : (w : World) (s v : ℕ) (x : Variable) (o : Option Job) → o ≡ job_at w.jobs s → o ≡ None → state_of w ≡ in_raw (state_of w) s (with_registers (with_variable x v))
 variable_missing w s v x o e i = absent_state w s (with_registers (with_variable x v)) (sym e ∙ i)
@@ -99,11 +104,11 @@ next_made cs i s c w l h =
     step : suc i ≡ i + 1
     step = omega arith
 
-can_at : (ds : List Change) (c : Change) (rest : List Change) (j : ℕ) (w : State) → ds ≡ c ∷ rest → CanMakeAll ds j w → CanMake c w × CanMakeAll rest j (effect_on c j w)
+can_at : (ds : List Change) (c : Change) (rest : List Change) (j : ℕ) (w : State) → ds ≡ c ∷ rest → CanMakeAll ds j w → CanMake c j w × CanMakeAll rest j (effect_on c j w)
 can_at ds c rest j w e h = subst (λ xs. CanMakeAll xs j w) e h
 
 can_split : (cs : List Change) (i j : ℕ) (c : Change) (w : State) → i < length cs → c ≡ slice_index_or cs i c → CanMakeAll (drop i cs) j w
-    → CanMake c w × CanMakeAll (drop (i + 1) cs) j (effect_on c j w)
+    → CanMake c j w × CanMakeAll (drop (i + 1) cs) j (effect_on c j w)
 can_split cs i j c w l h b =
     let e : drop i cs ≡ c ∷ drop (i + 1) cs = drop-cons cs i c l ∙ (λ t. sym h t ∷ drop (step t) cs) in
     can_at (drop i cs) c (drop (i + 1) cs) j w e b
@@ -111,29 +116,16 @@ can_split cs i j c w l h b =
     step : suc i ≡ i + 1
     step = omega arith
 
-pub can_first : (cs : List Change) (i j : ℕ) (c : Change) (w : State) → i < length cs → c ≡ slice_index_or cs i c → CanMakeAll (drop i cs) j w → CanMake c w
+pub can_first : (cs : List Change) (i j : ℕ) (c : Change) (w : State) → i < length cs → c ≡ slice_index_or cs i c → CanMakeAll (drop i cs) j w → CanMake c j w
 can_first cs i j c w l h b = (can_split cs i j c w l h b).0
 
 pub can_next : (cs : List Change) (i j : ℕ) (c : Change) (w v : State) → i < length cs → c ≡ slice_index_or cs i c → v ≡ effect_on c j w → CanMakeAll (drop i cs) j w
     → CanMakeAll (drop (i + 1) cs) j v
 can_next cs i j c w v l h e b = subst (CanMakeAll (drop (i + 1) cs) j) (sym e) (can_split cs i j c w l h b).1
 
--- a channel set
-channels_set : (cs : List Channel) (n : ℕ) (x : Channel) → n < length cs
-    → (k : ℕ) → changed (λ i. chan_of (slice_index_or cs i channels.Closed)) n (chan_of x) k ≡ chan_of (slice_index_or (slice_set cs n x) k channels.Closed)
-channels_set cs n x l k = elim (cases_Bool (k == n)) [
-  | inl t ↦ let e : k ≡ n = grind (arith, nat_tests) in rw t (ap chan_of (sym (ap (λ i. slice_index_or (slice_set cs n x) i channels.Closed) e ∙ get_or-set_same cs n x channels.Closed l)))
-  | inr t ↦ let e : k ≢ n = grind (arith, nat_tests) in rw t (ap chan_of (sym (get_or-set_other cs n k x channels.Closed e)))
-]
-
-pub channel_set : (old new : World) (s n : ℕ) (x : Channel) (j : Job) (o : Option Job) → o ≡ job_at old.jobs s → o ≡ Some j → n < length j.channels
-    → JobBecomes old new s (record j { channels = slice_set j.channels n x }) → state_of new ≡ in_raw (state_of old) s (on_channel n (λ c. chan_of x))
-channel_set old new s n x j o e i l b =
-    changed_state old new s _ (record j { channels = slice_set j.channels n x }) j (on_channel n (λ c. chan_of x)) b (sym e ∙ i)
-    (λ t. record { core = core_at old.core s; job = bare j; superior = superior_at old.jobs s; channels = λ k. channels_set j.channels n x l k t })
-
-pub channel_missing : (w : World) (s n : ℕ) (x : Channel) (o : Option Job) → o ≡ job_at w.jobs s → o ≡ None → state_of w ≡ in_raw (state_of w) s (on_channel n (λ c. chan_of x))
-channel_missing w s n x o e i = absent_state w s (on_channel n (λ c. chan_of x)) (sym e ∙ i)
+-- a closed channel is on neither a file nor a draft
+pub closed_elsewhere : (w : World) (s n : ℕ) → chan_in (state_of w) s n ≡ Shut → IsElsewhere (channel_at w.jobs s n)
+closed_elsewhere w s n e = subst IsElsewhere (sym (chan_shut w s n e)) tt
 
 -- consoles
 pub byte_taken : (old new : World) (c : ℕ) → ConsoleBecomes old new c (taken_from (console_at old.consoles.items c))

@@ -9,3 +9,6 @@ pub mod CommittingLaws
 pub mod ValueLaws
 pub mod ApartLaws
 pub mod ReadyLaws
+pub mod PartLaws
+pub mod IdleLaws
+pub mod TriesLaws

@@ -1,5 +1,5 @@
 -- The words that a call owes, as stores.
-use Rattle.std.specs.Prelude.{◌≡◌, ◌<◌, ◌≤◌, ℕ, suc, ◌-◌, ◌%◌, ◌^◌, true, false, Option, Some, None, List, [], ◌∷◌, length, drop, slice_index_or, refl}
+use Rattle.std.specs.Prelude.{◌≡◌, ◌<◌, ◌≤◌, ℕ, suc, ◌-◌, ◌%◌, ◌^◌, ◌==◌, Bool, true, false, Option, Some, None, option_map, List, [], ◌∷◌, length, drop, slice_index_or, refl}
 use Rattle.std.specs.List.{remove}
 use Rattle.std.proofs.Common.{arith, sym, ap, ◌∙◌, length-drop, drop-cons}
 use Rattle.its_word.specs.declared.calls.Owed.{Owed}
@@ -9,15 +9,35 @@ use Rattle.its_pclsr.specs.Owed.{begins_with_file}
 use Rattle.its_word.specs.Core.{Core, store}
 use Rattle.its_word.specs.declared.calls.Ask.{Ask}
 use Rattle.its_word.specs.declared.calls.Operand.{Operand}
-use Rattle.its_word.specs.declared.plan.Store.{Store}
+use Rattle.its_word.specs.declared.plan.Store as stores
 use Rattle.its_plain.specs.Arguments.{stores_of, debts}
 use Rattle.its_word.specs.Stores.{place, stored}
 use Rattle.its_stepped.specs.Unwind.{first_debt, due}
-use Rattle.its_world.specs.World.{CoreBecomes}
+use Rattle.its_files.specs.Files.{Store}
+use Rattle.its_files.specs.declared.entry.Mark.{Mark as FilesMark}
+use Rattle.its_stepped.specs.State.{mine}
+use Rattle.its_world.specs.World.{state_of, mark_of, marking, CoreBecomes}
 use Rattle.its_world.specs.declared.world.World.{World}
 
+-- the close that is marked is that of a slot's call
+mine_by : (t : Store) (m : Option FilesMark) (o s : ℕ) → Some o ≡ option_map (λ k. k.owner) m → (o == s) ≡ mine (marking t m) s
+mine_by t (Some m) o s h = let e : o ≡ m.owner = cc in ap (λ k. k == s) e
+mine_by t None o s h = cc
+
+none_mine : (t : Store) (m : Option FilesMark) (s : ℕ) → None ≡ option_map (λ k. k.owner) m → false ≡ mine (marking t m) s
+none_mine t (Some m) s h = cc
+none_mine t None s h = refl
+
+pub owner_some : (w : World) (o s : ℕ) → Some o ≡ option_map (λ k. k.owner) w.files.mark → (o == s) ≡ mine (state_of w).mark s
+unfolding state_of mark_of
+owner_some w o s h = mine_by w.files w.files.mark o s h
+
+pub owner_none : (w : World) (s : ℕ) → None ≡ option_map (λ k. k.owner) w.files.mark → false ≡ mine (state_of w).mark s
+unfolding state_of mark_of
+owner_none w s h = none_mine w.files w.files.mark s h
+
 -- one store
-pub one_stored : (old new : World) (k : ℕ) (c : Core) (s : Store) → CoreBecomes old new k (store c (s.at % 2 ^ 18) s.word) → CoreBecomes old new k (stored c (s ∷ []))
+pub one_stored : (old new : World) (k : ℕ) (c : Core) (s : stores.Store) → CoreBecomes old new k (store c (s.at % 2 ^ 18) s.word) → CoreBecomes old new k (stored c (s ∷ []))
 unfolding stored
 one_stored old new k c s h = h
 
@@ -98,3 +118,12 @@ due_over (Leave e ∷ os) h = refl
 pub some_first : (os : List Owed) → begins_with_file os ≡ true → 0 < length os
 some_first [] h = cc
 some_first (o ∷ os) h = omega arith
+
+-- nothing is passed over where the close is marked
+pub due_all : (os : List Owed) → due true os ≡ os
+due_all [] = refl
+due_all (o ∷ os) = refl
+
+pub due_whole : (b : Bool) (os : List Owed) → true ≡ b → os ≡ due b os
+due_whole true os e = sym (due_all os)
+due_whole false os e = cc

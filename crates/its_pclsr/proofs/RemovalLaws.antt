@@ -1,197 +1,381 @@
 -- A tree of jobs that is swept slot by slot, and then removed, is the removal of the plain machine.
-use Rattle.std.specs.Prelude.{if◌then◌else◌, ◌≡◌, ◌≤◌, ◌<◌, ◌+◌, ◌==◌, ◌||◌, ℕ, Bool, true, false, Option, Some, None, List, option_map, length, slice_index_or, slice_set, refl}
+use Rattle.std.specs.Prelude.{if◌then◌else◌, ◌≡◌, ◌≢◌, ◌≤◌, ◌<◌, ◌+◌, ◌==◌, ◌||◌, ℕ, Bool, true, false, Option, Some, None, List, is_some, option_map, sum_by, length, slice_index_or, slice_set, refl}
+use Rattle.std.specs.List.{range_with_len}
+use Rattle.its_word.specs.Console.{Console}
 use Rattle.std.proofs.Common.{sym, ◌∙◌, ap, subst, arith, inl, inr}
-use Rattle.std.proofs.lemmas.Bool.{cases_eq, cases_lt, ne_eqb}
+use Rattle.std.proofs.lemmas.Bool.{cases_Bool, cases_eq, cases_lt, eq-eqb, ne_eqb}
 use Rattle.std.proofs.lemmas.List.{get_or-set_same, get_or-set_other, get_or_past}
 use Rattle.its_word.specs.Core.{Core, no_core}
 use Rattle.its_word.specs.Limits.{slots}
-use Rattle.its_word.specs.Only.{Only}
 use Rattle.its_word.specs.Tree.{is_below}
 use Rattle.its_word.specs.declared.jobs.Channel.{Channel}
 use Rattle.its_word.specs.declared.jobs.Channel.TheVariants as channels
 use Rattle.its_word.specs.declared.jobs.Job.{Job}
-use Rattle.its_core.specs.Cores.{Cores, IsEmpty, Reserved, core_at, reserved_at, clear_at}
+use Rattle.its_core.specs.Cores.{core_at, clear_at}
+use Rattle.its_files.specs.Files.{Store, directory}
 use Rattle.its_frame.specs.declared.change.Change.TheVariants as changes
 use Rattle.its_frame.specs.declared.frame.Frame.{Frame}
-use Rattle.its_jobs.specs.Table.{job_at, superior_at, superior_in as superior_of, in_tree, IsTree, Without}
+use Rattle.its_jobs.specs.Table.{Table, job_at, superior_at, in_tree, IsTree, Without}
 use Rattle.its_jobs.proofs.TreeLaws.{past_none}
-use Rattle.its_plain.specs.Machine.{Whole}
-use Rattle.its_plain.specs.Change.{chan_left, left_job, superior_in, superiors, is_gone, passed_on, removed, effect}
+use Rattle.its_plain.specs.Machine.{Shut, Whole}
+use Rattle.its_plain.specs.Own.{on_channel}
+use Rattle.its_plain.specs.Change.{on_slot, channel_in, chan_left, shut_on, left_job, superior_in, superiors, is_gone, passed_on, removed, effect}
 use Rattle.its_plain.proofs.MachineLaws.{machine_is}
 use Rattle.its_stepped.specs.Commit.{effect_on}
+use Rattle.its_stepped.specs.SlotSame.{SlotSame}
 use Rattle.its_stepped.specs.Sound.{Sound, SoundBy}
 use Rattle.its_stepped.specs.State.{State}
-use Rattle.its_pclsr.specs.Removal.{channel_left, JobLeft, SlotKept, SlotSwept, Sweeps, Swept}
-use Rattle.its_world.specs.World.{chan_of, bare, raw_of, raw_at, frame_at, console_at, holder_at, state_of, FrameBecomes, JobBecomes}
+use Rattle.its_stepped.proofs.FrameLaws.{on_slot_here, on_slot_other}
+use Rattle.its_stepped.proofs.UnwindLaws.{slot_same, slot_then}
+use Rattle.its_pclsr.specs.Removal.{channel_left, Shared, Alone, Closes, Bare, Empties, SlotSwept, Sweeps, Swept}
+use Rattle.its_pclsr.proofs.ApartLaws.{tidy_becomes}
+use Rattle.its_world.specs.Storage.{chan_in}
+use Rattle.its_world.specs.Tidy.{channel_by, channel_at, tally, reads, writes, Across, Tidy}
+use Rattle.its_world.specs.World.{chan_of, mark_of, bare, raw_of, raw_at, frame_at, console_at, holder_at, state_of, in_raw, Becomes, CoreBecomes, FrameBecomes, JobBecomes}
 use Rattle.its_world.specs.declared.world.World.{World}
-use Rattle.its_world.proofs.StateLaws.{state_is}
+use Rattle.its_world.proofs.StateLaws.{state_is, raw_others, changed_state, absent_state}
+use Rattle.its_world.proofs.StorageLaws.{chan_is, chan_shut}
+use Rattle.its_world.proofs.KeptLaws.{across_table}
 
 -- the superiors of the raw machine are those of the jobs
-superior_by : (c : Core) (s : Option ℕ) (o : Option Job) → (o ≡ None → s ≡ None) → superior_in (raw_of c s o) ≡ s
-superior_by c s (Some j) h = refl
-superior_by c s None h = sym (h refl)
+superior_by : (t : Store) (c : Core) (s : Option ℕ) (o : Option Job) → (o ≡ None → s ≡ None) → superior_in (raw_of t c s o) ≡ s
+superior_by t c s (Some j) h = refl
+superior_by t c s None h = sym (h refl)
 
 pub superiors_are : (w : World) → IsTree w.jobs.jobs w.jobs.superiors → superiors (state_of w).raw ≡ superior_at w.jobs
 unfolding state_of
-superiors_are w t = λ i k. superior_by (core_at w.core k) (superior_at w.jobs k) (job_at w.jobs k) (t.owned k) i
+superiors_are w t = λ i k. superior_by w.files (core_at w.core k) (superior_at w.jobs k) (job_at w.jobs k) (t.owned k) i
+
+tree_gone : (w : World) (r : ℕ) → IsTree w.jobs.jobs w.jobs.superiors → in_tree (superior_at w.jobs) r ≡ is_gone (superiors (state_of w).raw) r
+tree_gone w r t = ap (λ sup. in_tree sup r) (sym (superiors_are w t))
+
+-- what slots share, and what one slot alone does
+shared_same : (w : State) → Shared w w
+shared_same w = record { superiors = λ k. refl; consoles = refl; holders = refl; files = refl; clock = refl; mark = refl }
+
+shared_then : (w v u : State) → Shared w v → Shared v u → Shared w u
+shared_then w v u a b = record {
+  superiors = λ k. b.superiors k ∙ a.superiors k;
+  consoles = b.consoles ∙ a.consoles;
+  holders = b.holders ∙ a.holders;
+  files = b.files ∙ a.files;
+  clock = b.clock ∙ a.clock;
+  mark = b.mark ∙ a.mark;
+}
+
+alone_same : (w : State) (s : ℕ) → Alone w w s
+alone_same w s = record { others = λ k ne. slot_same w k; page = refl; shared = shared_same w }
+
+alone_then : (w v u : State) (s : ℕ) → Alone w v s → Alone v u s → Alone w u s
+alone_then w v u s a b = record {
+  others = λ k ne. slot_then w v u k (a.others k ne) (b.others k ne);
+  page = b.page ∙ a.page;
+  shared = shared_then w v u a.shared b.shared;
+}
+
+-- a job is changed that keeps its superior
+superior_kept : (h : Whole → Whole) (o : Option Whole) → ((q : Whole) → (h q).superior ≡ q.superior) → superior_in (option_map h o) ≡ superior_in o
+superior_kept h (Some q) same = same q
+superior_kept h None same = refl
+
+in_raw_alone : (w : State) (s : ℕ) (h : Whole → Whole) → ((q : Whole) → (h q).superior ≡ q.superior) → Alone w (in_raw w s h) s
+in_raw_alone w s h same = record {
+  others = λ k ne. record { job = on_slot_other w.raw.jobs s k h ne; frame = refl; page = refl };
+  page = refl;
+  shared = record {
+    superiors = λ k. elim (cases_eq k s) [
+      | inl e ↦ ap (λ i. superior_in (on_slot w.raw.jobs s h i)) e ∙ ap superior_in (on_slot_here w.raw.jobs s h) ∙ superior_kept h (w.raw.jobs s) same ∙ ap (λ i. superior_in (w.raw.jobs i)) (sym e)
+      | inr ne ↦ ap superior_in (on_slot_other w.raw.jobs s k h ne)
+    ];
+    consoles = refl;
+    holders = refl;
+    files = refl;
+    clock = refl;
+    mark = refl;
+  };
+}
+
+-- the core, the registers or the frame of a slot are written
+superior_same : (t u : Store) (c d : Core) (s : Option ℕ) (o p : Option Job) → is_some p ≡ is_some o → superior_in (raw_of u d s p) ≡ superior_in (raw_of t c s o)
+superior_same t u c d s (Some j) (Some i) e = refl
+superior_same t u c d s None None e = refl
+superior_same t u c d s (Some j) None e = cc
+superior_same t u c d s None (Some i) e = cc
+
+becomes_alone : (old new : World) (s : ℕ) (c : Core) (j : Option Job) (f : Option Frame) → Becomes old new s c j f (clear_at old.core s) → is_some j ≡ is_some (job_at old.jobs s)
+    → Alone (state_of old) (state_of new) s
+unfolding state_of
+becomes_alone old new s c j f b some = record {
+  others = λ k ne. record { job = raw_others old new s c j f (clear_at old.core s) b k ne; frame = b.frame.others k ne; page = b.reserved.others k ne };
+  page = b.reserved.here;
+  shared = record {
+    superiors = λ k. elim (cases_eq k s) [
+      | inl e ↦
+          ap (λ i. superior_in (raw_at new.files new.core new.jobs i)) e
+          ∙ ap (λ xs. superior_in (raw_of new.files (core_at new.core s) (slice_index_or xs s None) (job_at new.jobs s))) b.superiors
+          ∙ superior_same old.files new.files (core_at old.core s) (core_at new.core s) (superior_at old.jobs s) (job_at old.jobs s) (job_at new.jobs s) (ap is_some b.job.here ∙ some)
+          ∙ ap (λ i. superior_in (raw_at old.files old.core old.jobs i)) (sym e)
+      | inr ne ↦ ap superior_in (raw_others old new s c j f (clear_at old.core s) b k ne)
+    ];
+    consoles = ap (λ cs c. console_at cs.items c) b.consoles;
+    holders = ap (λ hs c. holder_at hs c) b.holders;
+    files = ap directory b.files;
+    clock = b.clock;
+    mark = ap mark_of b.files;
+  };
+}
+
+-- the channels of a job are closed, one after another
+shut_row : (w : State) (s n : ℕ) → effect_on (changes.Shut n) s w ≡ in_raw w s (on_channel n (λ c. Shut))
+unfolding effect_on effect
+shut_row w s n = refl
+
+shut_here : (o : Option Whole) (n : ℕ) → channel_in (option_map (on_channel n (λ c. Shut)) o) n ≡ Shut
+shut_here (Some q) n = rw (eq-eqb n n refl) refl
+shut_here None n = refl
+
+shut_other : (o : Option Whole) (n m : ℕ) → m ≢ n → channel_in (option_map (on_channel n (λ c. Shut)) o) m ≡ channel_in o m
+shut_other (Some q) n m ne = rw (ne_eqb m n ne) refl
+shut_other None n m ne = refl
+
+pub closing_start : (w : State) (s : ℕ) → Closes w w s 0
+closing_start w s = record { alone = alone_same w s; frame = refl; closed = λ n l. absurd (omega arith) }
+
+closing_next : (w v : State) (s n : ℕ) → Closes w v s n → Closes w (in_raw v s (on_channel n (λ c. Shut))) s (n + 1)
+closing_next w v s n a = record {
+  alone = alone_then w v _ s a.alone (in_raw_alone v s (on_channel n (λ c. Shut)) (λ q. refl));
+  frame = a.frame;
+  closed = λ m l. ap (λ o. channel_in o m) (on_slot_here v.raw.jobs s (on_channel n (λ c. Shut))) ∙ elim (cases_eq m n) [
+    | inl e ↦ ap (λ i. channel_in (option_map (on_channel n (λ c. Shut)) (v.raw.jobs s)) i) e ∙ shut_here (v.raw.jobs s) n
+    | inr ne ↦ shut_other (v.raw.jobs s) n m ne ∙ a.closed m (omega arith)
+  ];
+}
+
+pub closing_more : (w v u : State) (s n : ℕ) → Closes w v s n → u ≡ effect_on (changes.Shut n) s v → Closes w u s (n + 1)
+closing_more w v u s n a e = subst (λ x. Closes w x s (n + 1)) (sym (e ∙ shut_row v s n)) (closing_next w v s n a)
+
+-- then all that the slot has is given up
+closed_all : (w : World) (s : ℕ) → Tidy w → ((n : ℕ) → n < 16 → chan_in (state_of w) s n ≡ Shut) → (n : ℕ) → channel_at w.jobs s n ≡ channels.Closed
+closed_all w s tidy h n = elim (cases_lt n 16) [
+  | inl l ↦ chan_shut w s n (h n l)
+  | inr ge ↦ tidy.across.past_numbers s n (omega arith)
+]
+
+frame_is : (w : World) (s : ℕ) → (state_of w).frames s ≡ frame_at w.frames.items s
+unfolding state_of
+frame_is w s = refl
+
+pub slot_emptied : (old mid low new : World) (s : ℕ) → Closes (state_of old) (state_of mid) s 16 → Tidy mid → CoreBecomes mid low s no_core → FrameBecomes low new s None → Empties old new s
+slot_emptied old mid low new s a tidy b d = record {
+  alone =
+      alone_then (state_of old) (state_of mid) (state_of new) s a.alone
+      (alone_then (state_of mid) (state_of low) (state_of new) s
+      (becomes_alone mid low s no_core (job_at mid.jobs s) (frame_at mid.frames.items s) b refl)
+      (becomes_alone low new s (core_at low.core s) (job_at low.jobs s) None d refl));
+  frame = frame_is new s ∙ d.frame.here;
+  bare = record {
+    core = d.core.here ∙ b.core.here;
+    channels = λ n. ap (λ j. channel_by j n) (d.job.here ∙ b.job.here) ∙ closed_all mid s tidy a.closed n;
+  };
+}
+
+pub tidy_bare : (old new : World) (s : ℕ) → CoreBecomes old new s no_core → Tidy old → Tidy new
+tidy_bare old new s b tidy = tidy_becomes old new s no_core (job_at old.jobs s) (frame_at old.frames.items s) (clear_at old.core s) b (λ h. refl) (λ n. refl) tidy
 
 -- the channels of a job that stays
-chan_gone_by : (b : Bool) (s : ℕ) (w : Bool) (at : ℕ) → chan_of (if b then channels.Closed else channels.Usr s w at) ≡ (if b then chan_of channels.Closed else chan_of (channels.Usr s w at))
-chan_gone_by true s w at = refl
-chan_gone_by false s w at = refl
+chan_gone_by : (t : Store) (b : Bool) (s : ℕ) (w : Bool) (at : ℕ) → chan_of t (if b then channels.Closed else channels.Usr s w at) ≡ (if b then chan_of t channels.Closed else chan_of t (channels.Usr s w at))
+chan_gone_by t true s w at = refl
+chan_gone_by t false s w at = refl
 
-chan_gone : (gone : ℕ → Bool) (c : Channel) → chan_of (channel_left gone c) ≡ chan_left gone (chan_of c)
-chan_gone gone channels.Closed = refl
-chan_gone gone channels.TtyIn = refl
-chan_gone gone channels.TtyOut = refl
-chan_gone gone (channels.Reading f at) = refl
-chan_gone gone (channels.Writing d) = refl
-chan_gone gone (channels.Usr s w at) = chan_gone_by (gone s) s w at
+chan_gone : (t : Store) (gone : ℕ → Bool) (c : Channel) → chan_of t (channel_left gone c) ≡ chan_left gone (chan_of t c)
+chan_gone t gone channels.Closed = refl
+chan_gone t gone channels.TtyIn = refl
+chan_gone t gone channels.TtyOut = refl
+chan_gone t gone (channels.Reading f at) = refl
+chan_gone t gone (channels.Writing d) = refl
+chan_gone t gone (channels.Usr s w at) = chan_gone_by t (gone s) s w at
 
-pub job_left : (gone : ℕ → Bool) (j i : Job) → bare i ≡ bare j
-    → ((n : ℕ) → slice_index_or i.channels n channels.Closed ≡ channel_left gone (slice_index_or j.channels n channels.Closed)) → JobLeft gone (Some j) (Some i)
-job_left gone j i e h = record {
-  each = λ c superior t. Some (record {
-    core = c;
-    job = e t;
-    superior = superior;
-    channels = λ n. (ap chan_of (h n) ∙ chan_gone gone (slice_index_or j.channels n channels.Closed)) t;
-  });
+pub shut_some : (gone : ℕ → Bool) (old new : World) (s : ℕ) (j i : Job) → job_at old.jobs s ≡ Some j → bare i ≡ bare j
+    → ((n : ℕ) → slice_index_or i.channels n channels.Closed ≡ channel_left gone (slice_index_or j.channels n channels.Closed))
+    → JobBecomes old new s i → state_of new ≡ in_raw (state_of old) s (shut_on gone)
+shut_some gone old new s j i is e h b = changed_state old new s (core_at old.core s) i j (shut_on gone) b is (λ t. record {
+  core = core_at old.core s;
+  job = sym e t;
+  superior = superior_at old.jobs s;
+  channels = λ n. sym (ap (chan_of old.files) (h n) ∙ chan_gone old.files gone (slice_index_or j.channels n channels.Closed)) t;
+})
+
+pub shut_none : (gone : ℕ → Bool) (w : World) (s : ℕ) → job_at w.jobs s ≡ None → state_of w ≡ in_raw (state_of w) s (shut_on gone)
+shut_none gone w s none = absent_state w s (shut_on gone) none
+
+-- channels on jobs count for no file and no draft
+tally_alike : (w : Channel → ℕ) (cs ds : ℕ → ℕ → Channel) → ((k n : ℕ) → w (ds k n) ≡ w (cs k n)) → tally w ds ≡ tally w cs
+unfolding tally
+tally_alike w cs ds same = λ i. sum_by (λ k. sum_by (λ n. same k n i) (range_with_len 0 16)) (range_with_len 0 slots)
+
+reads_left : (gone : ℕ → Bool) (f : ℕ) (c : Channel) → reads f (channel_left gone c) ≡ reads f c
+reads_left gone f channels.Closed = refl
+reads_left gone f channels.TtyIn = refl
+reads_left gone f channels.TtyOut = refl
+reads_left gone f (channels.Reading g at) = refl
+reads_left gone f (channels.Writing d) = refl
+reads_left gone f (channels.Usr s w at) = go (gone s)
+  where
+    go : (b : Bool) → reads f (if b then channels.Closed else channels.Usr s w at) ≡ 0
+    go true = refl
+    go false = refl
+
+writes_left : (gone : ℕ → Bool) (d : ℕ) (c : Channel) → writes d (channel_left gone c) ≡ writes d c
+writes_left gone d channels.Closed = refl
+writes_left gone d channels.TtyIn = refl
+writes_left gone d channels.TtyOut = refl
+writes_left gone d (channels.Reading g at) = refl
+writes_left gone d (channels.Writing e) = refl
+writes_left gone d (channels.Usr s w at) = go (gone s)
+  where
+    go : (b : Bool) → writes d (if b then channels.Closed else channels.Usr s w at) ≡ 0
+    go true = refl
+    go false = refl
+
+-- each channel is as it was, or is closed where it was on a job that is gone
+record LeftBy (gone : ℕ → Bool) (c d : Channel) : Type 0 where
+  closed : c ≡ channels.Closed → d ≡ channels.Closed
+  read : (f : ℕ) → reads f d ≡ reads f c
+  written : (e : ℕ) → writes e d ≡ writes e c
+
+left_same : (gone : ℕ → Bool) (c d : Channel) → d ≡ c → LeftBy gone c d
+left_same gone c d e = record { closed = λ h. e ∙ h; read = λ f. ap (reads f) e; written = λ k. ap (writes k) e }
+
+left_gone : (gone : ℕ → Bool) (c d : Channel) → d ≡ channel_left gone c → LeftBy gone c d
+left_gone gone c d e = record {
+  closed = λ h. e ∙ ap (channel_left gone) h;
+  read = λ f. ap (reads f) e ∙ reads_left gone f c;
+  written = λ k. ap (writes k) e ∙ writes_left gone k c;
 }
 
-none_left : (gone : ℕ → Bool) → JobLeft gone None None
-none_left gone = record { each = λ c superior. refl }
+left_across : (s : Store) (t u : Table) (gone : ℕ → Bool) → ((k n : ℕ) → LeftBy gone (channel_at t k n) (channel_at u k n)) → Across s t → Across s u
+left_across s t u gone h a = record {
+  past_slots = λ k n l. (h k n).closed (a.past_slots k n l);
+  past_numbers = λ k n l. (h k n).closed (a.past_numbers k n l);
+  read = λ f. tally_alike (reads f) (channel_at t) (channel_at u) (λ k n. (h k n).read f) ∙ a.read f;
+  written = λ d. tally_alike (writes d) (channel_at t) (channel_at u) (λ k n. (h k n).written d) ∙ a.written d;
+}
+
+pub shut_tidy : (gone : ℕ → Bool) (old new : World) (s : ℕ) (j i : Job) → job_at old.jobs s ≡ Some j
+    → ((n : ℕ) → slice_index_or i.channels n channels.Closed ≡ channel_left gone (slice_index_or j.channels n channels.Closed))
+    → JobBecomes old new s i → Tidy old → Tidy new
+shut_tidy gone old new s j i is h b tidy = record {
+  blank = λ k none. elim (cases_eq k s) [
+    | inl e ↦ let wrong : None ≡ Some i = sym none ∙ ap (job_at new.jobs) e ∙ b.job.here in absurd cc
+    | inr ne ↦ b.core.others k ne ∙ tidy.blank k (sym (b.job.others k ne) ∙ none)
+  ];
+  across = subst (λ (t : Store). Across t new.jobs) (sym b.files)
+      (left_across old.files old.jobs new.jobs gone (λ k n. elim (cases_eq k s) [
+        | inl e ↦
+            left_gone gone (channel_at old.jobs k n) (channel_at new.jobs k n)
+            (ap (λ m. channel_at new.jobs m n) e ∙ ap (λ o. channel_by o n) b.job.here ∙ h n
+            ∙ ap (λ o. channel_left gone (channel_by o n)) (sym is) ∙ ap (λ m. channel_left gone (channel_at old.jobs m n)) (sym e))
+        | inr ne ↦ left_same gone (channel_at old.jobs k n) (channel_at new.jobs k n) (ap (λ o. channel_by o n) (b.job.others k ne))
+      ]) tidy.across);
+}
 
 -- one slot swept
-clear_kept : (a b : Cores) (k : ℕ) → b.reserved ≡ a.reserved → clear_at b k ≡ clear_at a k
-unfolding reserved_at
-clear_kept a b k h = ap (λ (rs : List (Option Reserved)). option_map (λ (r : Reserved). r.clear) (slice_index_or rs k None)) h
-
-pub sweeps_gone : (gone : ℕ → Bool) (old mid new : World) (s : ℕ) → gone s ≡ true → Only (core_at old.core) (core_at mid.core) s no_core
-    → mid.core.reserved ≡ old.core.reserved → mid.jobs ≡ old.jobs → mid.frames ≡ old.frames → mid.consoles ≡ old.consoles → mid.holders ≡ old.holders → mid.clock ≡ old.clock → FrameBecomes mid new s None
-    → Sweeps gone old new s
-sweeps_gone gone old mid new s g core reserved jobs frames consoles holders clock b = record {
+swept_gone : (gone : ℕ → Bool) (old new : World) (s : ℕ) → gone s ≡ true → Empties old new s → Sweeps gone old new s
+swept_gone gone old new s g e = record {
   here = record {
-    core = rw g (b.core.here ∙ core.here);
     job = λ f. absurd (let wrong : true ≡ false = sym g ∙ f in cc);
-    frame = rw g b.frame.here;
-    page = b.reserved.here ∙ clear_kept old.core mid.core s reserved;
+    frame = e.frame ∙ sym (ap (λ (b : Bool). if b then None else (state_of old).frames s) g);
+    page = e.alone.page;
   };
-  others = λ k ne. record {
-    core = b.core.others k ne ∙ core.others k ne;
-    job = b.job.others k ne ∙ ap (λ t. job_at t k) jobs;
-    frame = b.frame.others k ne ∙ ap (λ f. frame_at f.items k) frames;
-    page = b.reserved.others k ne ∙ clear_kept old.core mid.core k reserved;
-  };
-  superiors = b.superiors ∙ ap (λ t. t.superiors) jobs;
-  consoles = b.consoles ∙ consoles;
-  holders = b.holders ∙ holders;
-  clock = b.clock ∙ clock;
+  bare = λ t. e.bare;
+  alone = e.alone;
 }
 
-pub sweeps_some : (gone : ℕ → Bool) (old new : World) (s : ℕ) (j i : Job) → gone s ≡ false → job_at old.jobs s ≡ Some j → bare i ≡ bare j
-    → ((n : ℕ) → slice_index_or i.channels n channels.Closed ≡ channel_left gone (slice_index_or j.channels n channels.Closed))
-    → JobBecomes old new s i → Sweeps gone old new s
-sweeps_some gone old new s j i g is e h b = record {
+swept_left : (gone : ℕ → Bool) (old new : World) (s : ℕ) → gone s ≡ false → state_of new ≡ in_raw (state_of old) s (shut_on gone) → Sweeps gone old new s
+swept_left gone old new s g e = record {
   here = record {
-    core = rw g b.core.here;
-    job = λ f. rw (b.job.here, is) (job_left gone j i e h);
-    frame = rw g b.frame.here;
-    page = b.reserved.here;
+    job = λ f. ap (λ (w : State). w.raw.jobs s) e ∙ on_slot_here (state_of old).raw.jobs s (shut_on gone);
+    frame = ap (λ (w : State). w.frames s) e ∙ sym (ap (λ (b : Bool). if b then None else (state_of old).frames s) g);
+    page = ap (λ (w : State). w.reserved s) e;
   };
-  others = λ k ne. record { core = b.core.others k ne; job = b.job.others k ne; frame = b.frame.others k ne; page = b.reserved.others k ne };
-  superiors = b.superiors;
-  consoles = b.consoles;
-  holders = b.holders;
-  clock = b.clock;
+  bare = λ t. absurd (let wrong : true ≡ false = sym t ∙ g in cc);
+  alone = subst (λ w. Alone (state_of old) w s) (sym e) (in_raw_alone (state_of old) s (shut_on gone) (λ q. refl));
 }
 
-pub sweeps_none : (gone : ℕ → Bool) (w : World) (s : ℕ) → gone s ≡ false → job_at w.jobs s ≡ None → Sweeps gone w w s
-sweeps_none gone w s g is = record {
-  here = record { core = rw g refl; job = λ f. rw is (none_left gone); frame = rw g refl; page = refl };
-  others = λ k ne. record { core = refl; job = refl; frame = refl; page = refl };
-  superiors = refl;
-  consoles = refl;
-  holders = refl;
-  clock = refl;
-}
+pub sweeps_gone : (old new : World) (r s : ℕ) (b : Bool) → IsTree old.jobs.jobs old.jobs.superiors → b ≡ in_tree (superior_at old.jobs) r s → b ≡ true → Empties old new s
+    → Sweeps (is_gone (superiors (state_of old).raw) r) old new s
+sweeps_gone old new r s b t e g h = swept_gone _ old new s (ap (λ (f : ℕ → Bool). f s) (sym (tree_gone old r t)) ∙ sym e ∙ g) h
+
+pub sweeps_left : (old new : World) (r s : ℕ) (b : Bool) → IsTree old.jobs.jobs old.jobs.superiors → b ≡ in_tree (superior_at old.jobs) r s → b ≡ false
+    → state_of new ≡ in_raw (state_of old) s (shut_on (in_tree (superior_at old.jobs) r)) → Sweeps (is_gone (superiors (state_of old).raw) r) old new s
+sweeps_left old new r s b t e g h =
+    swept_left _ old new s (ap (λ (f : ℕ → Bool). f s) (sym (tree_gone old r t)) ∙ sym e ∙ g) (h ∙ ap (λ f. in_raw (state_of old) s (shut_on f)) (tree_gone old r t))
 
 -- slot after slot
-kept_then : (gone : ℕ → Bool) (old mid new : World) (k : ℕ) → SlotKept old mid k → SlotSwept gone mid new k → SlotSwept gone old new k
-kept_then gone old mid new k a b = record {
-  core = b.core ∙ ap (λ c. if gone k then no_core else c) a.core;
-  job = λ g. subst (λ o. JobLeft gone o (job_at new.jobs k)) a.job (b.job g);
+kept_then : (gone : ℕ → Bool) (w v u : State) (k : ℕ) → SlotSame w v k → SlotSwept gone v u k → SlotSwept gone w u k
+kept_then gone w v u k a b = record {
+  job = λ g. b.job g ∙ ap (option_map (shut_on gone)) a.job;
   frame = b.frame ∙ ap (λ f. if gone k then None else f) a.frame;
   page = b.page ∙ a.page;
 }
 
-then_kept : (gone : ℕ → Bool) (old mid new : World) (k : ℕ) → SlotSwept gone old mid k → SlotKept mid new k → SlotSwept gone old new k
-then_kept gone old mid new k a b = record {
-  core = b.core ∙ a.core;
-  job = λ g. subst (λ o. JobLeft gone (job_at old.jobs k) o) (sym b.job) (a.job g);
-  frame = b.frame ∙ a.frame;
-  page = b.page ∙ a.page;
-}
+then_kept : (gone : ℕ → Bool) (w v u : State) (k : ℕ) → SlotSwept gone w v k → SlotSame v u k → SlotSwept gone w u k
+then_kept gone w v u k a b = record { job = λ g. b.job ∙ a.job g; frame = b.frame ∙ a.frame; page = b.page ∙ a.page }
 
-kept_twice : (old mid new : World) (k : ℕ) → SlotKept old mid k → SlotKept mid new k → SlotKept old new k
-kept_twice old mid new k a b = record { core = b.core ∙ a.core; job = b.job ∙ a.job; frame = b.frame ∙ a.frame; page = b.page ∙ a.page }
+-- a slot that has been emptied stays so
+abbrev core_in : Option Whole → Core
+core_in (Some q) = q.core
+core_in None = no_core
+
+core_there : (t : Store) (c : Core) (u : Option ℕ) (o : Option Job) → (o ≡ None → c ≡ no_core) → c ≡ core_in (raw_of t c u o)
+core_there t c u (Some j) h = refl
+core_there t c u None h = h refl
+
+core_none : (t : Store) (c : Core) (u : Option ℕ) (o : Option Job) → c ≡ no_core → core_in (raw_of t c u o) ≡ no_core
+core_none t c u (Some j) h = h
+core_none t c u None h = refl
+
+core_shown : (w : World) (k : ℕ) → Tidy w → core_at w.core k ≡ core_in ((state_of w).raw.jobs k)
+unfolding state_of
+core_shown w k tidy = core_there w.files (core_at w.core k) (superior_at w.jobs k) (job_at w.jobs k) (tidy.blank k)
+
+core_bare : (w : World) (k : ℕ) → core_at w.core k ≡ no_core → core_in ((state_of w).raw.jobs k) ≡ no_core
+unfolding state_of
+core_bare w k h = core_none w.files (core_at w.core k) (superior_at w.jobs k) (job_at w.jobs k) h
+
+bare_kept : (mid new : World) (k : ℕ) → Bare mid k → (state_of new).raw.jobs k ≡ (state_of mid).raw.jobs k → Tidy new → Bare new k
+bare_kept mid new k b e tidy = record {
+  core = core_shown new k tidy ∙ ap core_in e ∙ core_bare mid k b.core;
+  channels = λ n. chan_shut new k n (ap (λ o. channel_in o n) e ∙ chan_is mid k n ∙ ap (chan_of mid.files) (b.channels n));
+}
 
 pub swept_start : (gone : ℕ → Bool) (w : World) → Swept gone w w 0
 swept_start gone w = record {
   done = λ k l. absurd (omega arith);
-  rest = λ k l. record { core = refl; job = refl; frame = refl; page = refl };
-  superiors = refl;
-  consoles = refl;
-  holders = refl;
-  clock = refl;
+  bare = λ k l g. absurd (omega arith);
+  rest = λ k l. slot_same (state_of w) k;
+  shared = shared_same (state_of w);
 }
 
-swept_next : (gone : ℕ → Bool) (old mid new : World) (n : ℕ) → Swept gone old mid n → Sweeps gone mid new n → Swept gone old new (n + 1)
-swept_next gone old mid new n a b = record {
+swept_next : (gone : ℕ → Bool) (old mid new : World) (n : ℕ) → Swept gone old mid n → Sweeps gone mid new n → Tidy new → Swept gone old new (n + 1)
+swept_next gone old mid new n a b tidy = record {
   done = λ k l. elim (cases_eq k n) [
-    | inl e ↦ rw e (kept_then gone old mid new n (a.rest n (omega arith)) b.here)
-    | inr ne ↦ then_kept gone old mid new k (a.done k (omega arith)) (b.others k ne)
+    | inl e ↦ rw e (kept_then gone (state_of old) (state_of mid) (state_of new) n (a.rest n (omega arith)) b.here)
+    | inr ne ↦ then_kept gone (state_of old) (state_of mid) (state_of new) k (a.done k (omega arith)) (b.alone.others k ne)
   ];
-  rest = λ k l. kept_twice old mid new k (a.rest k (omega arith)) (b.others k (λ e. omega arith));
-  superiors = b.superiors ∙ a.superiors;
-  consoles = b.consoles ∙ a.consoles;
-  holders = b.holders ∙ a.holders;
-  clock = b.clock ∙ a.clock;
+  bare = λ k l g. elim (cases_eq k n) [
+    | inl e ↦ subst (Bare new) (sym e) (b.bare (ap gone (sym e) ∙ g))
+    | inr ne ↦ bare_kept mid new k (a.bare k (omega arith) g) (b.alone.others k ne).job tidy
+  ];
+  rest = λ k l. slot_then (state_of old) (state_of mid) (state_of new) k (a.rest k (omega arith)) (b.alone.others k (λ e. omega arith));
+  shared = shared_then (state_of old) (state_of mid) (state_of new) a.shared b.alone.shared;
 }
 
-pub swept_more : (old mid new : World) (r n : ℕ) → Swept (in_tree (superior_at old.jobs) r) old mid n → Sweeps (in_tree (superior_at mid.jobs) r) mid new n
-    → Swept (in_tree (superior_at old.jobs) r) old new (n + 1)
-swept_more old mid new r n a b =
-    swept_next (in_tree (superior_at old.jobs) r) old mid new n a (subst (λ (xs : List (Option ℕ)). Sweeps (in_tree (superior_of xs) r) mid new n) a.superiors b)
-
--- then the jobs are removed
-module _ (old mid new : World) (r : ℕ) (sup : ℕ → Option ℕ) (swept : (k : ℕ) → SlotSwept (in_tree sup r) old mid k)
-    (job : Without (in_tree sup r) (job_at mid.jobs) (job_at new.jobs)) (superior : Without (in_tree sup r) (superior_at old.jobs) (superior_at new.jobs))
-    (core : new.core ≡ mid.core) (frames : new.frames ≡ mid.frames) (consoles : new.consoles ≡ old.consoles)
-    (holders : (c : ℕ) → holder_at new.holders c ≡ passed_on (in_tree sup r) (sup r) (holder_at old.holders c)) (clock : new.clock ≡ old.clock) where
-  jobs_left : (k : ℕ) (b : Bool) → in_tree sup r k ≡ b → raw_at new.core new.jobs k ≡ left_job (in_tree sup r) b (raw_at old.core old.jobs k)
-  jobs_left k true e =
-      let none : job_at new.jobs k ≡ None = job.each k ∙ ap (λ b. if b then None else job_at mid.jobs k) e in
-      ap (raw_of (core_at new.core k) (superior_at new.jobs k)) none
-  jobs_left k false e =
-      let same : job_at new.jobs k ≡ job_at mid.jobs k = job.each k ∙ ap (λ b. if b then None else job_at mid.jobs k) e in
-      let above : superior_at new.jobs k ≡ superior_at old.jobs k = superior.each k ∙ ap (λ b. if b then None else superior_at old.jobs k) e in
-      let words : core_at new.core k ≡ core_at old.core k = ap (λ c. core_at c k) core ∙ (swept k).core ∙ ap (λ b. if b then no_core else core_at old.core k) e in
-      ap (raw_of (core_at new.core k) (superior_at new.jobs k)) same
-      ∙ ap (λ c. raw_of c (superior_at new.jobs k) (job_at mid.jobs k)) words
-      ∙ ap (λ s. raw_of (core_at old.core k) s (job_at mid.jobs k)) above
-      ∙ ((swept k).job e).each (core_at old.core k) (superior_at old.jobs k)
-
-  pub removed_state : superiors (state_of old).raw ≡ sup → (j : ℕ) → state_of new ≡ effect_on (changes.Remove r) j (state_of old)
-  unfolding state_of effect_on effect removed
-  removed_state e j = subst P (sym e) (state_is _ _
-      (machine_is _ _ (λ k. jobs_left k (in_tree sup r k) refl) (λ c. ap (λ l. console_at l.items c) consoles) holders refl clock)
-      (λ k. ap (λ f. frame_at f.items k) frames ∙ (swept k).frame)
-      (λ k. ap (λ c. clear_at c k) core ∙ (swept k).page)
-      refl)
-    where
-      P : (ℕ → Option ℕ) → Type 0
-      P s = state_of new ≡ record (state_of old) { raw = removed s r (state_of old).raw; frames = λ k. if is_gone s r k then None else (state_of old).frames k }
+pub swept_more : (old mid new : World) (r n : ℕ) → Swept (is_gone (superiors (state_of old).raw) r) old mid n → Sweeps (is_gone (superiors (state_of mid).raw) r) mid new n → Tidy new
+    → Swept (is_gone (superiors (state_of old).raw) r) old new (n + 1)
+swept_more old mid new r n a b tidy =
+    let same : superiors (state_of mid).raw ≡ superiors (state_of old).raw = λ i k. a.shared.superiors k i in
+    swept_next (is_gone (superiors (state_of old).raw) r) old mid new n a (subst (λ sup. Sweeps (is_gone sup r) mid new n) same b) tidy
 
 -- a list to each of whose items f is done, of which the first n are done
 pub record Turning {X : Type 0} (f : X → X) (d : X) (old new : List X) (n : ℕ) : Type 0 where
@@ -218,37 +402,100 @@ turning_end f d old new n past l s k = elim (cases_lt k n) [
   | inr more ↦ s.rest k more ∙ get_or_past old k d (omega arith) ∙ sym (ap f (get_or_past old k d (omega arith)) ∙ past)
 ]
 
--- a slot past the last has no job
-kept_past : (gone : ℕ → Bool) (old mid : World) (k : ℕ) → gone k ≡ false → job_at old.jobs k ≡ None → SlotKept old mid k → SlotSwept gone old mid k
-kept_past gone old mid k g empty a = record {
-  core = rw g a.core;
-  job = λ f. rw (a.job, empty) (none_left gone);
-  frame = rw g a.frame;
-  page = a.page;
-}
+-- a slot past the last has no job, and is not gone
+none_there : (w : World) (k : ℕ) → IsTree w.jobs.jobs w.jobs.superiors → slots ≤ k → (state_of w).raw.jobs k ≡ None
+unfolding state_of
+none_there w k t past =
+    let none : job_at w.jobs k ≡ None = get_or_past w.jobs.jobs k None (let n = t.job_count in omega arith) in
+    ap (raw_of w.files (core_at w.core k) (superior_at w.jobs k)) none
 
-pub all_swept : (old mid : World) (r : ℕ) → r < slots → IsTree old.jobs.jobs old.jobs.superiors → Swept (in_tree (superior_at old.jobs) r) old mid slots
-    → (k : ℕ) → SlotSwept (in_tree (superior_at old.jobs) r) old mid k
-all_swept old mid r l t s k = elim (cases_lt k slots) [
-  | inl less ↦ s.done k less
-  | inr past ↦
-      kept_past (in_tree (superior_at old.jobs) r) old mid k (past_none old.jobs.superiors r k t.superior_count l (omega arith))
-      (get_or_past old.jobs.jobs k None (let n = t.job_count in omega arith)) (s.rest k past)
-]
+past_left : (w : World) (r k : ℕ) → r < slots → IsTree w.jobs.jobs w.jobs.superiors → slots ≤ k → is_gone (superiors (state_of w).raw) r k ≡ false
+past_left w r k l t past = ap (λ (f : ℕ → Bool). f k) (sym (tree_gone w r t)) ∙ past_none w.jobs.superiors r k t.superior_count l past
 
-pub tree_removed : (old mid new : World) (r : ℕ) → r < slots → IsTree old.jobs.jobs old.jobs.superiors → Swept (in_tree (superior_at old.jobs) r) old mid slots
-    → Without (in_tree (superior_at mid.jobs) r) (job_at mid.jobs) (job_at new.jobs) → Without (in_tree (superior_at mid.jobs) r) (superior_at mid.jobs) (superior_at new.jobs)
-    → new.core ≡ mid.core → new.frames ≡ mid.frames → new.consoles ≡ mid.consoles
-    → ((c : ℕ) → holder_at new.holders c ≡ passed_on (in_tree (superior_at mid.jobs) r) (superior_at mid.jobs r) (holder_at mid.holders c)) → new.clock ≡ mid.clock
-    → (j : ℕ) → state_of new ≡ effect_on (changes.Remove r) j (state_of old)
-tree_removed old mid new r l t s job superior core frames consoles holders clock j =
-    removed_state old mid new r (superior_at old.jobs) (all_swept old mid r l t s)
-    (subst (λ (xs : List (Option ℕ)). Without (in_tree (superior_of xs) r) (job_at mid.jobs) (job_at new.jobs)) s.superiors job)
-    (subst (λ (xs : List (Option ℕ)). Without (in_tree (superior_of xs) r) (superior_of xs) (superior_at new.jobs)) s.superiors superior)
-    core frames (consoles ∙ s.consoles)
-    (λ c. holders c ∙ ap (λ (xs : List (Option ℕ)). passed_on (in_tree (superior_of xs) r) (superior_of xs r) (holder_at mid.holders c)) s.superiors
-    ∙ ap (λ hs. passed_on (in_tree (superior_at old.jobs) r) (superior_at old.jobs r) (holder_at hs c)) s.holders)
-    (clock ∙ s.clock) (superiors_are old t) j
+-- then all slots are swept, and the jobs are removed
+module _ (old mid : World) (r : ℕ) (low : r < slots) (tree : IsTree old.jobs.jobs old.jobs.superiors) (swept : Swept (is_gone (superiors (state_of old).raw) r) old mid slots) where
+  past_swept : (k : ℕ) → slots ≤ k → SlotSame (state_of old) (state_of mid) k → SlotSwept (is_gone (superiors (state_of old).raw) r) (state_of old) (state_of mid) k
+  past_swept k past s =
+      let stays : is_gone (superiors (state_of old).raw) r k ≡ false = past_left old r k low tree past in
+      let none : (state_of old).raw.jobs k ≡ None = none_there old k tree past in
+      record {
+        job = λ g. s.job ∙ none ∙ sym (ap (option_map (shut_on (is_gone (superiors (state_of old).raw) r))) none);
+        frame = s.frame ∙ sym (ap (λ (b : Bool). if b then None else (state_of old).frames k) stays);
+        page = s.page;
+      }
+
+  all_swept : (k : ℕ) → SlotSwept (is_gone (superiors (state_of old).raw) r) (state_of old) (state_of mid) k
+  all_swept k = elim (cases_lt k slots) [
+    | inl l ↦ swept.done k l
+    | inr ge ↦ past_swept k (omega arith) (swept.rest k (omega arith))
+  ]
+
+  all_bare : (k : ℕ) → is_gone (superiors (state_of old).raw) r k ≡ true → Bare mid k
+  all_bare k g = elim (cases_lt k slots) [
+    | inl l ↦ swept.bare k l g
+    | inr ge ↦ let no : is_gone (superiors (state_of old).raw) r k ≡ false = past_left old r k low tree (omega arith) in absurd (let wrong : true ≡ false = sym g ∙ no in cc)
+  ]
+
+  pub cores_left : (k : ℕ) → is_gone (superiors (state_of old).raw) r k ≡ true → core_at mid.core k ≡ no_core
+  cores_left k g = (all_bare k g).core
+
+  module _ (new : World) (shrub : IsTree mid.jobs.jobs mid.jobs.superiors) (job : Without (in_tree (superior_at mid.jobs) r) (job_at mid.jobs) (job_at new.jobs)) where
+    superiors_same : superiors (state_of mid).raw ≡ superiors (state_of old).raw
+    superiors_same = λ i k. swept.shared.superiors k i
+
+    gone_same : in_tree (superior_at mid.jobs) r ≡ is_gone (superiors (state_of old).raw) r
+    gone_same = tree_gone mid r shrub ∙ ap (λ sup. is_gone sup r) superiors_same
+
+    heir_same : superior_at mid.jobs r ≡ superiors (state_of old).raw r
+    heir_same = sym (λ i. superiors_are mid shrub i r) ∙ swept.shared.superiors r
+
+    job_gone : (k : ℕ) → is_gone (superiors (state_of old).raw) r k ≡ true → job_at new.jobs k ≡ None
+    job_gone k g = job.each k ∙ ap (λ (b : Bool). if b then None else job_at mid.jobs k) (ap (λ (f : ℕ → Bool). f k) gone_same ∙ g)
+
+    job_left : (k : ℕ) → is_gone (superiors (state_of old).raw) r k ≡ false → job_at new.jobs k ≡ job_at mid.jobs k
+    job_left k g = job.each k ∙ ap (λ (b : Bool). if b then None else job_at mid.jobs k) (ap (λ (f : ℕ → Bool). f k) gone_same ∙ g)
+
+    pub tidy_removed : new.core ≡ mid.core → new.files ≡ mid.files → Tidy mid → Tidy new
+    tidy_removed core files tidy = record {
+      blank = λ k none. ap (λ c. core_at c k) core ∙ elim (cases_Bool (is_gone (superiors (state_of old).raw) r k)) [
+        | inl g ↦ cores_left k g
+        | inr g ↦ tidy.blank k (sym (job_left k g) ∙ none)
+      ];
+      across = subst (λ (t : Store). Across t new.jobs) (sym files) (across_table mid.files mid.jobs new.jobs tidy.across (λ k n. elim (cases_Bool (is_gone (superiors (state_of old).raw) r k)) [
+        | inl g ↦ ap (λ o. channel_by o n) (job_gone k g) ∙ sym ((all_bare k g).channels n)
+        | inr g ↦ ap (λ o. channel_by o n) (job_left k g)
+      ]));
+    }
+
+    module _ (superior : Without (in_tree (superior_at mid.jobs) r) (superior_at mid.jobs) (superior_at new.jobs)) (core : new.core ≡ mid.core) (files : new.files ≡ mid.files) where
+      raw_left : (k : ℕ) (b : Bool) → is_gone (superiors (state_of old).raw) r k ≡ b
+          → raw_at new.files new.core new.jobs k ≡ left_job (is_gone (superiors (state_of old).raw) r) b ((state_of old).raw.jobs k)
+      unfolding state_of
+      raw_left k true g = ap (raw_of new.files (core_at new.core k) (superior_at new.jobs k)) (job_gone k g)
+      raw_left k false g =
+          let above : superior_at new.jobs k ≡ superior_at mid.jobs k =
+          superior.each k ∙ ap (λ (b : Bool). if b then None else superior_at mid.jobs k) (ap (λ (f : ℕ → Bool). f k) gone_same ∙ g) in
+          ap (raw_of new.files (core_at new.core k) (superior_at new.jobs k)) (job_left k g)
+          ∙ ap (λ t. raw_of t (core_at new.core k) (superior_at new.jobs k) (job_at mid.jobs k)) files
+          ∙ ap (λ c. raw_of mid.files (core_at c k) (superior_at new.jobs k) (job_at mid.jobs k)) core
+          ∙ ap (λ s. raw_of mid.files (core_at mid.core k) s (job_at mid.jobs k)) above
+          ∙ (all_swept k).job g
+
+      pub tree_removed : new.frames ≡ mid.frames → new.consoles ≡ mid.consoles
+          → ((c : ℕ) → holder_at new.holders c ≡ passed_on (in_tree (superior_at mid.jobs) r) (superior_at mid.jobs r) (holder_at mid.holders c)) → new.clock ≡ mid.clock
+          → (j : ℕ) → state_of new ≡ effect_on (changes.Remove r) j (state_of old)
+      unfolding state_of effect_on effect removed
+      tree_removed frames consoles holders clock j = state_is _ _
+          (machine_is _ _ (λ k. raw_left k (is_gone (superiors (state_of old).raw) r k) refl)
+          (λ c. ap (λ l. console_at l.items c) consoles ∙ ap (λ (f : ℕ → Console). f c) swept.shared.consoles)
+          (λ c.
+          holders c
+          ∙ (λ i. passed_on (gone_same i) (heir_same i) (holder_at mid.holders c))
+          ∙ ap (λ (f : ℕ → Option ℕ). passed_on (is_gone (superiors (state_of old).raw) r) (superiors (state_of old).raw r) (f c)) swept.shared.holders)
+          (ap directory files ∙ swept.shared.files) (clock ∙ swept.shared.clock))
+          (λ k. ap (λ f. frame_at f.items k) frames ∙ (all_swept k).frame)
+          (λ k. ap (λ c. clear_at c k) core ∙ (all_swept k).page)
+          (ap mark_of files ∙ swept.shared.mark)
 
 -- no page is left behind
 no_page_by : (o : Option Whole) (f : Option Frame) (r : Option ℕ) → f ≡ None → SoundBy o f r → r ≡ None
@@ -273,30 +520,3 @@ pages_left w v r k s quiet page removed gone = page_kept r 0 k w v (removed 0) �
   | inl e ↦ ap w.reserved e ∙ page
   | inr ne ↦ no_page w k s (quiet k (below_by (k == r) (is_below (superiors w.raw) r k) gone (ne_eqb k r ne)))
 ]
-
-pub cores_left : (old mid new : World) (r k : ℕ) → r < slots → IsTree old.jobs.jobs old.jobs.superiors → Swept (in_tree (superior_at old.jobs) r) old mid slots
-    → new.core ≡ mid.core → is_gone (superiors (state_of old).raw) r k ≡ true → core_at new.core k ≡ no_core
-cores_left old mid new r k l t s core gone =
-    let g : in_tree (superior_at old.jobs) r k ≡ true = ap (λ sup. in_tree sup r k) (sym (superiors_are old t)) ∙ gone in
-    ap (λ c. core_at c k) core ∙ (all_swept old mid r l t s k).core ∙ ap (λ (b : Bool). if b then no_core else core_at old.core k) g
-
--- a world without frames and reserved pages
-pub idle_sound : (w : World) → IsEmpty w.core → ((k : ℕ) → frame_at w.frames.items k ≡ None) → Sound (state_of w)
-unfolding state_of
-idle_sound w core frames = record {
-  each = λ k. record { by = idle_slot (raw_at w.core w.jobs k) (frame_at w.frames.items k) (clear_at w.core k) (frames k) (ap (option_map (λ (r : Reserved). r.clear)) (core.reserved k)) };
-  mark = tt;
-}
-  where
-    idle_slot : (o : Option Whole) (f : Option Frame) (r : Option ℕ) → f ≡ None → r ≡ None → SoundBy o f r
-    idle_slot None f r e n = (e, n)
-    idle_slot (Some q) None r e n = n
-    idle_slot (Some q) (Some f) r e n = cc
-
-pub idle_frames : (w : World) → ((k : ℕ) → frame_at w.frames.items k ≡ None) → (k : ℕ) → (state_of w).frames k ≡ None
-unfolding state_of
-idle_frames w frames k = frames k
-
-pub idle_page : (w : World) → IsEmpty w.core → (k : ℕ) → (state_of w).reserved k ≡ None
-unfolding state_of
-idle_page w core k = ap (option_map (λ (r : Reserved). r.clear)) (core.reserved k)

@@ -1,10 +1,13 @@
 -- Each step of unwinding is its row.
-use Rattle.std.specs.Prelude.{◌≡◌, ◌≢◌, ◌<◌, ◌≤◌, ℕ, zero, suc, ◌+◌, ◌-◌, true, false, Option, Some, None, IfSome, is_some, List, [], ◌∷◌, length, slice_index_or, slice_get, unwrap_or, Result, Ok, Err, ◌%◌, ◌^◌, refl}
+use Rattle.std.specs.Prelude.{◌≡◌, ◌≢◌, ◌<◌, ◌≤◌, ℕ, zero, suc, ◌+◌, ◌-◌, Bool, true, false, Option, Some, None, IfSome, is_some, List, [], ◌∷◌, length, slice_index_or, slice_get, unwrap_or, Result, Ok, Err, ◌%◌, ◌^◌, refl}
 use Rattle.std.specs.List.{remove}
 use Rattle.its_frame.specs.Left.{kept}
-use Rattle.its_pclsr.specs.Owed.{is_file}
+use Rattle.its_pclsr.specs.Owed.{is_file, Marks, Begins, IsNext}
+use Rattle.its_pclsr.specs.Parts.{NextMade}
 use Rattle.std.proofs.Common.{arith, sym, ap, ◌∙◌, subst, drop}
+use Rattle.std.proofs.lemmas.Bool.{eqb-true}
 use Rattle.std.proofs.lemmas.List.{drop_all}
+use Rattle.its_pclsr.proofs.OwedLaws.{due_all}
 use Rattle.its_word.specs.Byte.{deposit_of}
 use Rattle.its_word.specs.Core.{Core, can_store, word_at, got, get}
 use Rattle.its_word.proofs.CoreLaws.{word_at-can_store}
@@ -26,13 +29,13 @@ use Rattle.its_plain.specs.Change.{poke}
 use Rattle.its_plain.specs.CallStep.{deposited, with_held}
 use Rattle.its_plain.specs.Own.{with_stores, left_with, leave}
 use Rattle.its_word.specs.Stores.{place, stored}
-use Rattle.its_stepped.specs.State.{State, held_at, turn, holding, ending}
-use Rattle.its_stepped.specs.Unwind.{first_debt, paid, due, settled, given_back}
-use Rattle.its_stepped.specs.Sound.{Owes, backs, EndingPays, MovingPays}
+use Rattle.its_stepped.specs.State.{Part, Mark, State, held_at, mine, turn, same, holding, ending}
+use Rattle.its_stepped.specs.Unwind.{first_debt, paid, due, with_part, settled, given_back}
+use Rattle.its_stepped.specs.Sound.{Owes, backs, EndingPays, MovingPays, file_parts}
 use Rattle.its_world.specs.World.{state_of, frame_at, Becomes, CoreBecomes, FrameBecomes, PageBecomes, JobBecomes}
 use Rattle.its_world.specs.declared.world.World.{World}
 use Rattle.its_world.proofs.WorldLaws.{then_becomes}
-use Rattle.its_world.proofs.StateLaws.{job_of, turned_state, kept_state, stored_turn, left_turn}
+use Rattle.its_world.proofs.StateLaws.{job_of, turned_state, kept_state, kept_turn, stored_turn, left_turn}
 
 -- a store, and then a frame
 paid_becomes : (old mid new : World) (s : ℕ) (c : Core) (f : Option Frame) → CoreBecomes old mid s c → FrameBecomes mid new s f
@@ -75,6 +78,7 @@ unmoved w s none = record {
   reserved = record { here = refl; others = λ k n. refl };
   consoles = refl;
   holders = refl;
+  files = refl;
   clock = refl;
 }
 
@@ -131,35 +135,88 @@ pub settled_leave : (old new : World) (s : ℕ) (t : Site) (a : Ask) (e : Exit) 
     → IfSome (job_at old.jobs s) (λ j. JobBecomes old new s (left_with e j)) → state_of new ≡ settled (state_of old) s t a (Leave e ∷ os)
 settled_leave old new s t a e os j none b = left_by_some old new s e (job_at old.jobs s) refl j none b
 
--- the first step that is due is one that can be made
-due_owes : (c : Core) (os : List Owed) → Owes c os → Owes c (due false os)
-due_owes c [] h = h
-due_owes c (Unlink ∷ os) h = due_owes c os h
-due_owes c (Link ∷ os) h = due_owes c os h
-due_owes c (Free ∷ os) h = due_owes c os h
-due_owes c (GiveBack ∷ os) h = h
-due_owes c (owed.Store a w ∷ os) h = h
-due_owes c (Leave e ∷ []) h = h
-due_owes c (Leave e ∷ o ∷ os) h = h
+-- a part of a close is made
+part_after : (w : State) (m : Option Mark) (s : ℕ) (f : Option Frame) → turn (with_part m w) s same f ≡ with_part m (turn w s same f)
+part_after w None s f = refl
+part_after w (Some m) s f = go m.parts
+  where
+    go : (ps : List Part) → turn (with_part (Some (record m { parts = ps })) w) s same f ≡ with_part (Some (record m { parts = ps })) (turn w s same f)
+    go [] = refl
+    go (p ∷ ps) = refl
 
-due_backs : (os : List Owed) → backs (due false os) ≡ backs os
-due_backs [] = refl
-due_backs (Unlink ∷ os) = due_backs os
-due_backs (Link ∷ os) = due_backs os
-due_backs (Free ∷ os) = due_backs os
-due_backs (GiveBack ∷ os) = refl
-due_backs (owed.Store a w ∷ os) = refl
-due_backs (Leave e ∷ os) = refl
+pub settled_part : (old mid new : World) (s : ℕ) (t : Site) (a : Ask) (os : List Owed) → is_some (job_at old.jobs s) ≡ true → NextMade old mid
+    → FrameBecomes mid new s (Some (ending t a os)) → state_of new ≡ with_part (state_of old).mark (turn (state_of old) s same (Some (ending t a os)))
+settled_part old mid new s t a os j part frame =
+    kept_turn mid new s (Some (ending t a os)) (ap (λ u. is_some (job_at u s)) part.jobs ∙ j) frame
+    ∙ ap (λ w. turn w s same (Some (ending t a os))) part.row
+    ∙ part_after (state_of old) (state_of old).mark s (Some (ending t a os))
+
+-- the first step that is due is one that can be made
+due_owes : (b : Bool) (c : Core) (os : List Owed) → Owes c os → Owes c (due b os)
+due_owes b c [] h = absurd h
+due_owes true c (o ∷ os) h = h
+due_owes false c (Unlink ∷ os) h = due_owes false c os h
+due_owes false c (Link ∷ os) h = due_owes false c os h
+due_owes false c (Free ∷ os) h = due_owes false c os h
+due_owes false c (GiveBack ∷ os) h = h
+due_owes false c (owed.Store a w ∷ os) h = h
+due_owes false c (Leave e ∷ []) h = h
+due_owes false c (Leave e ∷ o ∷ os) h = h
+
+due_backs : (b : Bool) (os : List Owed) → backs (due b os) ≡ backs os
+due_backs b [] = refl
+due_backs true (o ∷ os) = refl
+due_backs false (Unlink ∷ os) = due_backs false os
+due_backs false (Link ∷ os) = due_backs false os
+due_backs false (Free ∷ os) = due_backs false os
+due_backs false (GiveBack ∷ os) = refl
+due_backs false (owed.Store a w ∷ os) = refl
+due_backs false (Leave e ∷ os) = refl
 
 -- the head of what is due, and the rest
 abbrev pub Head : Core → Option ℕ → Owed → Type 0
 Head c r (owed.Store a w) = can_store c (place (poke a w)) ≡ true
 Head c r GiveBack = is_some r ≡ true
 Head c r (Leave e) = Unit {0}
-Head c r Unlink = ⊥
-Head c r Link = ⊥
-Head c r Free = ⊥
+Head c r Unlink = Unit {0}
+Head c r Link = Unit {0}
+Head c r Free = Unit {0}
 
+kept_some : (r : Option ℕ) (n : ℕ) → 1 + n ≡ kept r → is_some r ≡ true
+kept_some (Some x) n h = refl
+kept_some None n h = absurd (omega arith)
+
+head_by : (c : Core) (r : Option ℕ) (ds : List Owed) → Owes c ds → backs ds ≡ kept r → (o : Owed) → o ≡ slice_index_or ds 0 o → Head c r o
+head_by c r [] h b o is = absurd h
+head_by c r (owed.Store a w ∷ ds) h b o is = subst (Head c r) (sym is) h.0
+head_by c r (GiveBack ∷ ds) h b o is = subst (Head c r) (sym is) (kept_some r (backs ds) b)
+head_by c r (Leave x ∷ ds) h b o is = subst (Head c r) (sym is) tt
+head_by c r (Unlink ∷ ds) h b o is = subst (Head c r) (sym is) tt
+head_by c r (Link ∷ ds) h b o is = subst (Head c r) (sym is) tt
+head_by c r (Free ∷ ds) h b o is = subst (Head c r) (sym is) tt
+
+pub due_head : (b : Bool) (c : Core) (r : Option ℕ) (os ds : List Owed) (o : Owed) → EndingPays c r os → ds ≡ due b os → o ≡ slice_index_or ds 0 o → Head c r o
+due_head b c r os ds o h e is = head_by c r ds (subst (Owes c) (sym e) (due_owes b c os h.owes)) (ap backs e ∙ due_backs b os ∙ h.page_is) o is
+
+some_due : (c : Core) (os : List Owed) → Owes c os → 0 < length os
+some_due c [] h = absurd h
+some_due c (o ∷ os) h = omega arith
+
+pub due_some : (b : Bool) (c : Core) (r : Option ℕ) (os ds : List Owed) → EndingPays c r os → ds ≡ due b os → 0 < length ds
+due_some b c r os ds h e = some_due c ds (subst (Owes c) (sym e) (due_owes b c os h.owes))
+
+-- what is removed is the head, and the rest is left
+pub due_split : (b : Bool) (os ds rest : List Owed) (o : Owed) → ds ≡ due b os → 0 < length ds → o ≡ slice_index_or ds 0 o → rest ≡ remove ds 0 → due b os ≡ o ∷ rest
+due_split b os [] rest o e some is left = absurd (omega arith)
+due_split b os (d ∷ ds) rest o e some is left = sym e ∙ (λ i. is' i ∷ left' i)
+  where
+    is' : d ≡ o
+    is' = sym is
+
+    left' : ds ≡ rest
+    left' = sym left
+
+-- a file step that is due is the next part of the close of the call
 no_file : (os : List Owed) (o : Owed) (ds : List Owed) → due false os ≡ o ∷ ds → is_file o ≡ false
 no_file [] o ds e = cc
 no_file (Unlink ∷ os) o ds e = no_file os o ds e
@@ -169,39 +226,22 @@ no_file (GiveBack ∷ os) o ds e = let h : GiveBack ≡ o = cc in ap is_file (sy
 no_file (owed.Store a w ∷ os) o ds e = let h : owed.Store a w ≡ o = cc in ap is_file (sym h)
 no_file (Leave x ∷ os) o ds e = let h : Leave x ≡ o = cc in ap is_file (sym h)
 
-kept_some : (r : Option ℕ) (n : ℕ) → 1 + n ≡ kept r → is_some r ≡ true
-kept_some (Some x) n h = refl
-kept_some None n h = absurd (omega arith)
+begins : (ps qs : List Part) (p : Part) → p ∷ qs ≡ ps → Begins ps p
+begins (x ∷ ps) qs p e = cc
+begins [] qs p e = cc
 
-head_by : (c : Core) (r : Option ℕ) (os ds : List Owed) → due false os ≡ ds → Owes c ds → backs ds ≡ kept r → (o : Owed) → o ≡ slice_index_or ds 0 o → Head c r o
-head_by c r os [] e h b o is = absurd h
-head_by c r os (owed.Store a w ∷ ds) e h b o is = subst (Head c r) (sym is) h.0
-head_by c r os (GiveBack ∷ ds) e h b o is = subst (Head c r) (sym is) (kept_some r (backs ds) b)
-head_by c r os (Leave x ∷ ds) e h b o is = subst (Head c r) (sym is) tt
-head_by c r os (Unlink ∷ ds) e h b o is = let f : true ≡ false = no_file os Unlink ds e in cc
-head_by c r os (Link ∷ ds) e h b o is = let f : true ≡ false = no_file os Link ds e in cc
-head_by c r os (Free ∷ ds) e h b o is = let f : true ≡ false = no_file os Free ds e in cc
+next_by : (m : Option Mark) (j : ℕ) (b : Bool) (os ds : List Owed) (o : Owed) (p : Part) → Marks m j os → mine m j ≡ b → due b os ≡ o ∷ ds → is_file o ≡ true
+    → file_parts (o ∷ ds) ≡ p ∷ file_parts ds → IsNext m p
+next_by None j b os ds o p marks own e file part = tt
+next_by (Some m) j false os ds o p marks own e file part = let wrong : false ≡ true = sym (no_file os o ds e) ∙ file in absurd cc
+next_by (Some m) j true os ds o p marks own e file part =
+    let is : m.owner ≡ j = eqb-true m.owner j own in
+    begins m.parts (file_parts ds) p (sym part ∙ ap file_parts (sym e ∙ due_all os) ∙ marks is)
 
-pub due_head : (c : Core) (r : Option ℕ) (os ds : List Owed) (o : Owed) → EndingPays c r os → ds ≡ due false os → o ≡ slice_index_or ds 0 o → Head c r o
-due_head c r os ds o h e is = head_by c r os ds (sym e) (subst (Owes c) (sym e) (due_owes c os h.owes)) (ap backs e ∙ due_backs os ∙ h.page_is) o is
-
-some_due : (c : Core) (os : List Owed) → Owes c os → 0 < length os
-some_due c [] h = absurd h
-some_due c (o ∷ os) h = omega arith
-
-pub due_some : (c : Core) (r : Option ℕ) (os ds : List Owed) → EndingPays c r os → ds ≡ due false os → 0 < length ds
-due_some c r os ds h e = some_due c ds (subst (Owes c) (sym e) (due_owes c os h.owes))
-
--- what is removed is the head, and the rest is left
-pub due_split : (os ds rest : List Owed) (o : Owed) → ds ≡ due false os → 0 < length ds → o ≡ slice_index_or ds 0 o → rest ≡ remove ds 0 → due false os ≡ o ∷ rest
-due_split os [] rest o e some is left = absurd (omega arith)
-due_split os (d ∷ ds) rest o e some is left = sym e ∙ (λ i. is' i ∷ left' i)
-  where
-    is' : d ≡ o
-    is' = sym is
-
-    left' : ds ≡ rest
-    left' = sym left
+pub due_next : (w : State) (j : ℕ) (os ds rest : List Owed) (o : Owed) (p : Part) (c : Core) (r : Option ℕ) → EndingPays c r os → Marks w.mark j os → ds ≡ due (mine w.mark j) os
+    → o ≡ slice_index_or ds 0 o → rest ≡ remove ds 0 → is_file o ≡ true → file_parts (o ∷ rest) ≡ p ∷ file_parts rest → IsNext w.mark p
+due_next w j os ds rest o p c r h marks e is left file part =
+    next_by w.mark j (mine w.mark j) os rest o p marks refl (due_split (mine w.mark j) os ds rest o e (due_some (mine w.mark j) c r os ds h e) is left) file part
 
 -- the word of a held byte is there, and its deposit is stored
 there_of : (c : Core) (at : ℕ) → at < 2 ^ 18 → can_store c (place (poke at 0)) ≡ true → is_some (word_at c at) ≡ true

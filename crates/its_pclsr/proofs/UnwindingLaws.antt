@@ -1,5 +1,5 @@
 -- One step of unwinding of a world, and all of them.
-use Rattle.std.specs.Prelude.{◌≡◌, ◌≢◌, ◌<◌, ◌≤◌, ℕ, ◌+◌, true, false, Option, Some, None, is_some, option_map, List, [], ◌∷◌, refl}
+use Rattle.std.specs.Prelude.{◌≡◌, ◌≢◌, ◌<◌, ◌≤◌, ℕ, ◌+◌, true, false, Option, Some, None, is_some, IfSome, option_map, List, [], ◌∷◌, refl}
 use Rattle.std.proofs.Common.{arith, sym, ap, ◌∙◌, subst}
 use Rattle.its_word.specs.Core.{Core}
 use Rattle.its_word.specs.declared.calls.Ask.{Ask}
@@ -9,6 +9,7 @@ use Rattle.its_word.specs.declared.calls.Owed.TheVariants.{GiveBack, Unlink, Lin
 use Rattle.its_word.specs.declared.calls.Site.{Site}
 use Rattle.its_word.specs.declared.jobs.Job.{Job}
 use Rattle.its_core.specs.Cores.{core_at, clear_at}
+use Rattle.its_files.specs.Files.{Store}
 use Rattle.its_jobs.specs.Table.{job_at, superior_at}
 use Rattle.its_frame.specs.declared.frame.Frame.{Frame}
 use Rattle.its_frame.specs.declared.frame.Asked as askeds
@@ -23,14 +24,15 @@ use Rattle.its_plain.specs.Change.{poke}
 use Rattle.its_plain.specs.CallStep.{with_held}
 use Rattle.its_plain.specs.Own.{with_stores, leave}
 use Rattle.its_plain.specs.Arguments.{debts}
-use Rattle.its_stepped.specs.State.{State, plain, seen, held_at, turn, same, reserving, holding, waiting, ending}
+use Rattle.its_stepped.specs.State.{State, Mark, mine, plain, seen, held_at, turn, same, reserving, holding, waiting, ending}
 use Rattle.its_plain.specs.Machine.{Whole, Machine}
 use Rattle.its_stepped.specs.Unwind.{first_debt, less, paid, due, with_part, settled, given_back, unwind_by, unwind_one, left, unwind_times, unwound}
 use Rattle.its_stepped.specs.OneChange.{OneChange}
-use Rattle.its_stepped.specs.Sound.{Pays, SoundBy, Sound}
+use Rattle.its_stepped.specs.Sound.{Pays, SoundBy, MarkBy, Sound, parts_in_frame}
 use Rattle.its_stepped.specs.SlotSame.{SlotSame}
 use Rattle.its_stepped.proofs.UnwindLaws.{unwind_fewer, left_none, unwind_plain, unwind_sound, one_change, few_left, unwound_turn, unwound_plain, unwound_sound, unwound_none, unwound_others}
-use Rattle.its_world.specs.World.{state_of, raw_of, frame_at, FrameBecomes}
+use Rattle.its_pclsr.specs.Owed.{Marks}
+use Rattle.its_world.specs.World.{state_of, mark_of, raw_of, frame_at, FrameBecomes}
 use Rattle.its_world.specs.declared.world.World.{World}
 use Rattle.its_world.proofs.StateLaws.{kept_turn, retaken}
 
@@ -49,16 +51,16 @@ settled_taken w s t a (Free ∷ os) = ap (with_part w.mark) (retaken w s None (S
 settled_taken w s t a (Leave e ∷ os) = retaken w s None None (leave e)
 
 -- a slot with a frame has a job, and its frame can be paid
-by_job : (c : Core) (sup : Option ℕ) (o : Option Job) (f : Frame) (r : Option ℕ) → SoundBy (raw_of c sup o) (Some f) r → (is_some o ≡ true) × Pays f c r
-by_job c sup (Some j) f r h = (refl, h.pays)
-by_job c sup None f r h = cc (h.0)
+by_job : (t : Store) (c : Core) (sup : Option ℕ) (o : Option Job) (f : Frame) (r : Option ℕ) → SoundBy (raw_of t c sup o) (Some f) r → (is_some o ≡ true) × Pays f c r
+by_job t c sup (Some j) f r h = (refl, h.pays)
+by_job t c sup None f r h = cc (h.0)
 
-by_frame : (c : Core) (sup : Option ℕ) (o : Option Job) (f : Option Frame) (g : Frame) (r : Option ℕ) → f ≡ Some g → SoundBy (raw_of c sup o) f r → (is_some o ≡ true) × Pays g c r
-by_frame c sup o f g r e h = by_job c sup o g r (subst (λ x. SoundBy (raw_of c sup o) x r) e h)
+by_frame : (t : Store) (c : Core) (sup : Option ℕ) (o : Option Job) (f : Option Frame) (g : Frame) (r : Option ℕ) → f ≡ Some g → SoundBy (raw_of t c sup o) f r → (is_some o ≡ true) × Pays g c r
+by_frame t c sup o f g r e h = by_job t c sup o g r (subst (λ x. SoundBy (raw_of t c sup o) x r) e h)
 
 pub stands_at : (w : World) (s : ℕ) (f : Frame) → Sound (state_of w) → frame_at w.frames.items s ≡ Some f → (is_some (job_at w.jobs s) ≡ true) × Pays f (core_at w.core s) (clear_at w.core s)
 unfolding state_of
-stands_at w s f sound e = by_frame (core_at w.core s) (superior_at w.jobs s) (job_at w.jobs s) (frame_at w.frames.items s) f (clear_at w.core s) e (sound.each s).by
+stands_at w s f sound e = by_frame w.files (core_at w.core s) (superior_at w.jobs s) (job_at w.jobs s) (frame_at w.frames.items s) f (clear_at w.core s) e (sound.each s).by
 
 -- the same once the frame is taken out
 pub job_taken : (old mid : World) (s : ℕ) (f : Frame) (o : Option Frame) → o ≡ frame_at old.frames.items s → o ≡ Some f → FrameBecomes old mid s None → Sound (state_of old)
@@ -69,6 +71,17 @@ pub pays_taken : (old mid : World) (s : ℕ) (f : Frame) (o : Option Frame) → 
     → Pays f (core_at mid.core s) (clear_at mid.core s)
 pays_taken old mid s f o e i b sound =
     subst (λ c. Pays f c (clear_at mid.core s)) (sym b.core.here) (subst (Pays f (core_at old.core s)) (sym b.reserved.here) (stands_at old s f sound (sym e ∙ i)).1)
+
+-- the owner of the mark has the parts of the mark in its frame
+marks_by : (m : Option Mark) (frames : ℕ → Option Frame) (s : ℕ) (f : endings.Ending) → IfSome m (λ k. MarkBy k frames) → frames s ≡ Some (Ending f) → Marks m s f.owed.items
+marks_by None frames s f h e = tt
+marks_by (Some m) frames s f h e = λ is. sym (ap (λ k. parts_in_frame (frames k)) is ∙ ap parts_in_frame e) ∙ h.parts
+
+pub marks_taken : (old mid : World) (s : ℕ) (f : endings.Ending) (o : Option Frame) → o ≡ frame_at old.frames.items s → o ≡ Some (Ending f) → FrameBecomes old mid s None
+    → Sound (state_of old) → Marks (state_of mid).mark s f.owed.items
+unfolding state_of
+marks_taken old mid s f o e i b sound =
+    subst (λ t. Marks (mark_of t) s f.owed.items) (sym b.files) (marks_by (mark_of old.files) (frame_at old.frames.items) s f sound.mark (sym e ∙ i))
 
 -- one step is the row of its frame
 row_of : (old mid : World) (s : ℕ) (f : Frame) (o : Option Frame) → o ≡ frame_at old.frames.items s → o ≡ Some f → FrameBecomes old mid s None → Sound (state_of old)
@@ -100,11 +113,10 @@ module _ (old mid new : World) (s : ℕ) (o : Option Frame) (e : o ≡ frame_at 
       ∙ retaken (state_of old) s None (Some (holding f.site f.ask None 2)) (with_held f.ask (Some (held_at f.place f.byte)))
       ∙ sym (row_of old mid s (Moving f) o e i b sound)
 
-  pub ending_row : (f : endings.Ending) → o ≡ Some (Ending f) → state_of new ≡ settled (state_of mid) s f.site f.ask (due false f.owed.items) → state_of new ≡ unwind_one (state_of old) s
-  unfolding state_of
+  pub ending_row : (f : endings.Ending) → o ≡ Some (Ending f) → state_of new ≡ settled (state_of mid) s f.site f.ask (due (mine (state_of mid).mark s) f.owed.items) → state_of new ≡ unwind_one (state_of old) s
   ending_row f i h =
-      h ∙ ap (λ w. settled w s f.site f.ask (due false f.owed.items)) (taken_state old mid s (Ending f) o e i b sound)
-      ∙ settled_taken (state_of old) s f.site f.ask (due false f.owed.items)
+      h ∙ ap (λ w. settled w s f.site f.ask (due (mine w.mark s) f.owed.items)) (taken_state old mid s (Ending f) o e i b sound)
+      ∙ settled_taken (state_of old) s f.site f.ask (due (mine (state_of old).mark s) f.owed.items)
       ∙ sym (row_of old mid s (Ending f) o e i b sound)
 
 pub entered_row : (old mid : World) (s : ℕ) (f : entereds.Entered) (o : Option Frame) → o ≡ frame_at old.frames.items s → o ≡ Some (Entered f) → FrameBecomes old mid s None → Sound (state_of old)

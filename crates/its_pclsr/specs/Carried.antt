@@ -13,7 +13,7 @@ use Rattle.its_word.specs.declared.calls.Pace.{Pace}
 use Rattle.its_word.specs.declared.calls.Pace.TheVariants.{Step, Wait}
 use Rattle.its_plain.specs.Change.{superiors}
 use Rattle.its_word.specs.Tree.{is_below}
-use Rattle.its_stepped.specs.Commit.{effect_on}
+use Rattle.its_stepped.specs.Commit.{effect_on, effects_on, owed_parts}
 use Rattle.its_stepped.specs.Sound.{Sound}
 use Rattle.its_stepped.specs.State.{State}
 use Rattle.its_pclsr.specs.Built.{CanMakeAll}
@@ -24,7 +24,7 @@ standing_of (Some (frames.Holding f)) = Some f
 standing_of (Some (frames.Waiting f)) = Some (record { site = f.site; ask = f.ask; page = None; owes = f.owes })
 standing_of _ = None
 
--- what a call that ends owes has room in its frame
+-- what a call that ends owes has room in its frame, behind its changes
 abbrev pub page_steps : Option ℕ → ℕ
 page_steps (Some n) = 1
 page_steps None = 0
@@ -32,8 +32,7 @@ page_steps None = 0
 pub record Endable (w : State) (s : ℕ) (f : Holding) (stores : ℕ) : Type 0 where
   pub read : length (debts f.ask f.owes) ≡ f.owes
   pub page : is_some (w.reserved s) ≡ is_some f.page
-  pub few : page_steps f.page + f.owes + stores ≤ 3
-  pub unmarked : w.mark ≡ None
+  pub few : length (owed_parts w.mark s) + page_steps f.page + f.owes + stores ≤ 3
 
 pub record Removable (w : State) (s : ℕ) : Type 0 where
   pub sound : Sound w
@@ -44,7 +43,7 @@ pub record Removable (w : State) (s : ℕ) : Type 0 where
 abbrev pub Ready : State → ℕ → Holding → Decision → Type 0
 Ready w s f (Waits r) = Unit {0}
 Ready w s f (Goes cs h vs) = CanMakeAll cs.items s w
-Ready w s f (Ends cs ss e) = CanMakeAll cs.items s w × Endable w s f (length ss.items)
+Ready w s f (Ends cs ss e) = CanMakeAll cs.items s w × Endable (effects_on cs.items s w) s f (length ss.items)
 Ready w s f (Gone cs) = CanMakeAll cs.items s (effect_on (Remove s) s w) × Removable w s
 
 -- an input with a new value; the inputs from one on with new values

@@ -3,3 +3,4 @@ pub mod Built
 pub mod Removal
 pub mod Carried
 pub mod Apart
+pub mod Parts

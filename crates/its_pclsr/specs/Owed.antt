@@ -1,7 +1,9 @@
--- The head of a list of owed steps.
-use Rattle.std.specs.Prelude.{Bool, true, false, List, [], ◌∷◌}
+-- The head of a list of owed steps, and that of the parts of a close.
+use Rattle.std.specs.Prelude.{◌≡◌, ℕ, Bool, true, false, Option, Some, None, List, [], ◌∷◌}
 use Rattle.its_word.specs.declared.calls.Owed.{Owed}
 use Rattle.its_word.specs.declared.calls.Owed.TheVariants.{Store, GiveBack, Unlink, Link, Free, Leave}
+use Rattle.its_stepped.specs.Sound.{file_parts}
+use Rattle.its_stepped.specs.State.{Part, Mark}
 
 abbrev pub is_file : Owed → Bool
 is_file Unlink = true
@@ -15,3 +17,17 @@ is_file (Leave e) = false
 abbrev pub begins_with_file : List Owed → Bool
 begins_with_file [] = false
 begins_with_file (o ∷ os) = is_file o
+
+-- where a slot's call owns the mark, the owed steps have just the parts of the mark
+abbrev pub Marks : Option Mark → ℕ → List Owed → Type 0
+Marks (Some m) j os = m.owner ≡ j → file_parts os ≡ m.parts
+Marks None j os = Unit {0}
+
+-- a part is the next of a marked close
+abbrev pub Begins : List Part → Part → Type 0
+Begins (p ∷ ps) q = p ≡ q
+Begins [] q = ⊥
+
+abbrev pub IsNext : Option Mark → Part → Type 0
+IsNext (Some m) q = Begins m.parts q
+IsNext None q = Unit {0}

@@ -1,13 +1,18 @@
--- What a removal leaves of a slot of a world.
-use Rattle.std.specs.Prelude.{if◌then◌else◌, ◌≡◌, ◌≢◌, ◌≤◌, ◌<◌, ℕ, Bool, false, Option, None, option_map}
-use Rattle.its_word.specs.Core.{Core, no_core}
+-- What a removal leaves of a slot.
+use Rattle.std.specs.Prelude.{if◌then◌else◌, ◌≡◌, ◌≢◌, ◌≤◌, ◌<◌, ℕ, Bool, true, false, None, option_map}
+use Rattle.its_word.specs.Core.{no_core}
 use Rattle.its_word.specs.declared.jobs.Channel.{Channel}
 use Rattle.its_word.specs.declared.jobs.Channel.TheVariants as channels
-use Rattle.its_word.specs.declared.jobs.Job.{Job}
-use Rattle.its_core.specs.Cores.{core_at, clear_at}
-use Rattle.its_jobs.specs.Table.{job_at}
-use Rattle.its_plain.specs.Change.{shut_on}
-use Rattle.its_world.specs.World.{raw_of, frame_at}
+use Rattle.its_core.specs.Cores.{core_at}
+use Rattle.its_word.specs.Limits.{slots}
+use Rattle.its_jobs.specs.Table.{Table}
+use Rattle.its_plain.specs.Change.{shut_on, superiors}
+use Rattle.its_plain.specs.Machine.{Shut}
+use Rattle.its_stepped.specs.SlotSame.{SlotSame}
+use Rattle.its_stepped.specs.State.{State}
+use Rattle.its_world.specs.Storage.{chan_in, IsElsewhere}
+use Rattle.its_world.specs.Tidy.{channel_at}
+use Rattle.its_world.specs.World.{state_of}
 use Rattle.its_world.specs.declared.world.World.{World}
 
 -- a channel on a job that is gone is closed
@@ -19,38 +24,58 @@ channel_left gone channels.TtyOut = channels.TtyOut
 channel_left gone (channels.Reading f at) = channels.Reading f at
 channel_left gone (channels.Writing d) = channels.Writing d
 
--- the registers of a job that stays, in whatever core and below whatever superior
-pub record JobLeft (gone : ℕ → Bool) (old new : Option Job) : Type 0 where
-  pub each : (c : Core) (superior : Option ℕ) → raw_of c superior new ≡ option_map (shut_on gone) (raw_of c superior old)
+-- what slots share is as it was, and so are the superiors of jobs
+pub record Shared (old new : State) : Type 0 where
+  pub superiors : (k : ℕ) → superiors new.raw k ≡ superiors old.raw k
+  pub consoles : new.raw.consoles ≡ old.raw.consoles
+  pub holders : new.raw.holders ≡ old.raw.holders
+  pub files : new.raw.files ≡ old.raw.files
+  pub clock : new.raw.clock ≡ old.raw.clock
+  pub mark : new.mark ≡ old.mark
 
--- slot k is as it was
-pub record SlotKept (old new : World) (k : ℕ) : Type 0 where
-  pub core : core_at new.core k ≡ core_at old.core k
-  pub job : job_at new.jobs k ≡ job_at old.jobs k
-  pub frame : frame_at new.frames.items k ≡ frame_at old.frames.items k
-  pub page : clear_at new.core k ≡ clear_at old.core k
+-- nothing but slot s changes, and it keeps its page
+pub record Alone (old new : State) (s : ℕ) : Type 0 where
+  pub others : (k : ℕ) → k ≢ s → SlotSame old new k
+  pub page : new.reserved s ≡ old.reserved s
+  pub shared : Shared old new
 
--- what is in slot k but for its job is given up where that is to go; else its channels on jobs that go are closed
-pub record SlotSwept (gone : ℕ → Bool) (old new : World) (k : ℕ) : Type 0 where
-  pub core : core_at new.core k ≡ (if gone k then no_core else core_at old.core k)
-  pub job : gone k ≡ false → JobLeft gone (job_at old.jobs k) (job_at new.jobs k)
-  pub frame : frame_at new.frames.items k ≡ (if gone k then None else frame_at old.frames.items k)
-  pub page : clear_at new.core k ≡ clear_at old.core k
+-- the job of slot s has its channels below m closed, and all else is as it was
+pub record Closes (old new : State) (s m : ℕ) : Type 0 where
+  pub alone : Alone old new s
+  pub frame : new.frames s ≡ old.frames s
+  pub closed : (n : ℕ) → n < m → chan_in new s n ≡ Shut
+
+-- the slot of a job that is to go: no page is left, no channel is open, and it has no frame
+pub record Bare (w : World) (k : ℕ) : Type 0 where
+  pub core : core_at w.core k ≡ no_core
+  pub channels : (n : ℕ) → channel_at w.jobs k n ≡ channels.Closed
+
+pub record Empties (old new : World) (s : ℕ) : Type 0 where
+  pub alone : Alone (state_of old) (state_of new) s
+  pub frame : (state_of new).frames s ≡ None
+  pub bare : Bare new s
+
+-- slot k, in which this is done where its job is to go; else its channels on jobs that go are closed
+pub record SlotSwept (gone : ℕ → Bool) (old new : State) (k : ℕ) : Type 0 where
+  pub job : gone k ≡ false → new.raw.jobs k ≡ option_map (shut_on gone) (old.raw.jobs k)
+  pub frame : new.frames k ≡ (if gone k then None else old.frames k)
+  pub page : new.reserved k ≡ old.reserved k
 
 -- this is done in slot s alone
 pub record Sweeps (gone : ℕ → Bool) (old new : World) (s : ℕ) : Type 0 where
-  pub here : SlotSwept gone old new s
-  pub others : (k : ℕ) → k ≢ s → SlotKept old new k
-  pub superiors : new.jobs.superiors ≡ old.jobs.superiors
-  pub consoles : new.consoles ≡ old.consoles
-  pub holders : new.holders ≡ old.holders
-  pub clock : new.clock ≡ old.clock
+  pub here : SlotSwept gone (state_of old) (state_of new) s
+  pub bare : gone s ≡ true → Bare new s
+  pub alone : Alone (state_of old) (state_of new) s
 
 -- it is done in the slots below n
 pub record Swept (gone : ℕ → Bool) (old new : World) (n : ℕ) : Type 0 where
-  pub done : (k : ℕ) → k < n → SlotSwept gone old new k
-  pub rest : (k : ℕ) → n ≤ k → SlotKept old new k
-  pub superiors : new.jobs.superiors ≡ old.jobs.superiors
-  pub consoles : new.consoles ≡ old.consoles
-  pub holders : new.holders ≡ old.holders
-  pub clock : new.clock ≡ old.clock
+  pub done : (k : ℕ) → k < n → SlotSwept gone (state_of old) (state_of new) k
+  pub bare : (k : ℕ) → k < n → gone k ≡ true → Bare new k
+  pub rest : (k : ℕ) → n ≤ k → SlotSame (state_of old) (state_of new) k
+  pub shared : Shared (state_of old) (state_of new)
+
+-- no channel of a job is on a file or a draft, and all channels are among the 16 of the slots
+pub record Elsewhere (t : Table) : Type 0 where
+  pub past_slots : (k n : ℕ) → slots ≤ k → channel_at t k n ≡ channels.Closed
+  pub past_numbers : (k n : ℕ) → 16 ≤ n → channel_at t k n ≡ channels.Closed
+  pub each : (k n : ℕ) → IsElsewhere (channel_at t k n)

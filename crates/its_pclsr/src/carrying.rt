@@ -8,9 +8,10 @@ use super::owed::first_owed;
 use arrayvec::ArrayVec;
 use its_word::{Ask, Exit, Owed, Store};
 
-/// The steps that a call owes that has ended: its reserved page, where it has one; the last `owes` of its
-/// arguments; its own stores; and its registers.
+/// The steps that a call owes that has ended: the parts of its close; its reserved page, where it has one; the
+/// last `owes` of its arguments; its own stores; and its registers.
 pub fn owed_steps(
+    parts: &[Owed],
     reserved: bool,
     ask: &Ask,
     owes: u8,
@@ -18,10 +19,11 @@ pub fn owed_steps(
     exit: Exit,
 ) -> ArrayVec<Owed, 4>
     requires read { length (debts ask.now owes) ≡ owes }
-    requires few { (if reserved then 1 else 0) + owes + length stores.now ≤ 3 }
-    ensures { result.items ≡ backed reserved ++ (map owed_store (debts ask.now owes ++ stores.now) ++ Leave exit ∷ []) }
+    requires few { length parts.now + (if reserved then 1 else 0) + owes + length stores.now ≤ 3 }
+    ensures { result.items ≡ parts.now ++ (backed reserved ++ (map owed_store (debts ask.now owes ++ stores.now) ++ Leave exit ∷ [])) }
 {
     let mut owed = ArrayVec::new();
+    push_parts(&mut owed, parts);
     if reserved {
         owed.push(Owed::GiveBack);
     }
@@ -29,6 +31,16 @@ pub fn owed_steps(
     push_stores(&mut owed, stores);
     owed.push(Owed::Leave(exit));
     owed
+}
+
+/// Adds the parts of a close.
+fn push_parts(owed: &mut ArrayVec<Owed, 4>, parts: &[Owed])
+    requires room { length owed.old.items + length parts.now ≤ 3 }
+    ensures { owed.new.items ≡ owed.old.items ++ parts.now }
+{
+    for part in parts {
+        owed.push(*part);
+    }
 }
 
 /// Adds the last arguments of a call, as stores.

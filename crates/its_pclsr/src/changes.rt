@@ -2,13 +2,15 @@ ghost use Rattle.std.specs.Prelude.{◌≡◌, ◌<◌, Some, length};
 ghost use Rattle.its_word.specs.Console.{most_waiting};
 ghost use Rattle.its_word.specs.Limits.{slots};
 ghost use Rattle.its_plain.specs.Change.{with_inf, taken_from, put_to, on_console};
-ghost use Rattle.its_plain.specs.Machine.{changed};
-ghost use Rattle.its_plain.specs.Own.{on_channel, opened_on, with_registers, with_variable};
+ghost use Rattle.its_frame.specs.declared.change.Change.TheVariants.{Open};
+ghost use Rattle.its_plain.specs.Machine.{Shut, changed};
+ghost use Rattle.its_plain.specs.Own.{with_registers, with_variable};
 ghost use Rattle.its_stepped.specs.Commit.{effect_on, effects_on};
 ghost use Rattle.its_stepped.specs.Lines.{with_raw};
-ghost use Rattle.its_pclsr.specs.Apart.{Blank};
-ghost use Rattle.its_pclsr.specs.Built.{IsTty, CanMake, CanMakeAll};
-ghost use Rattle.its_world.specs.World.{state_of, in_raw, chan_of};
+ghost use Rattle.its_world.specs.Tidy.{Tidy};
+ghost use Rattle.its_pclsr.specs.Built.{CanOpen, CanMake, CanMakeAll};
+ghost use Rattle.its_world.specs.Storage.{HasJob, chan_in};
+ghost use Rattle.its_world.specs.World.{state_of, in_raw};
 
 use its_frame::{Change, Opened, Variable};
 use its_word::{Channel, INF, Job, NAMED_FLAGS, Word};
@@ -19,9 +21,9 @@ use its_world::World;
 pub fn apply(w: &mut World, slot: u8, changes: &[Change])
     requires slot { slot < slots }
     requires can { CanMakeAll changes.now slot (state_of w.old) }
-    requires blank { Blank w.old }
+    requires tidy { Tidy w.old }
     ensures row { state_of w.new ≡ effects_on changes.now slot (state_of w.old) }
-    ensures blank { Blank w.new }
+    ensures tidy { Tidy w.new }
 {
     for change in changes {
         apply_one(w, slot, change);
@@ -32,14 +34,25 @@ pub fn apply(w: &mut World, slot: u8, changes: &[Change])
 #[tactic(auto, unfolding(its_stepped::specs::Commit::effect_on, its_plain::specs::Change::effect))]
 fn apply_one(w: &mut World, slot: u8, change: &Change)
     requires slot { slot < slots }
-    requires can { CanMake change.now (state_of w.old) }
-    requires blank { Blank w.old }
+    requires can { CanMake change.now slot (state_of w.old) }
+    requires tidy { Tidy w.old }
     ensures row { state_of w.new ≡ effect_on change.now slot (state_of w.old) }
-    ensures blank { Blank w.new }
+    ensures tidy { Tidy w.new }
 {
     match change {
-        Change::Open { channel, on } => set_channel(w, slot, *channel, opened(*on)),
-        Change::Shut { channel } => set_channel(w, slot, *channel, Channel::Closed),
+        Change::Open { channel, on } => open(w, slot, *channel, *on),
+        Change::Shut { channel } => w.shut(slot, *channel),
+        Change::Move { channel, at } => w.move_to(slot, *channel, *at),
+        Change::Append { channel, word } => w.append(slot, *channel, *word),
+        Change::Close { channel } => w.begin_close(slot, *channel),
+        Change::Delete { d, x, y } => w.delete_file(*d, *x, *y),
+        Change::Rename {
+            d,
+            x,
+            y,
+            new_x,
+            new_y,
+        } => w.rename_file(*d, *x, *y, *new_x, *new_y),
         Change::Take { console } => take(w, *console),
         Change::Put { console, byte } => put(w, *console, *byte),
         Change::Hold { console, slot: s } => hold(w, *console, *s),
@@ -53,73 +66,67 @@ fn apply_one(w: &mut World, slot: u8, change: &Change)
     }
 }
 
-/// Sets a channel of a slot's job, where it has one.
-#[tactic(auto, using(crate::proofs::ChangeLaws::channel_set, crate::proofs::ChangeLaws::channel_missing, crate::proofs::ApartLaws::blank_put))]
-fn set_channel(w: &mut World, slot: u8, n: u8, channel: Channel)
+/// Opens a closed channel of a slot's job on a console, a file or a new draft.
+#[tactic(auto, using(crate::proofs::ChangeLaws::closed_elsewhere), unfolding(its_stepped::specs::Commit::effect_on, its_plain::specs::Change::effect))]
+fn open(w: &mut World, slot: u8, n: u8, on: Opened)
     requires slot { slot < slots }
-    requires channel { n < 16 }
-    requires blank { Blank w.old }
-    ensures row { state_of w.new ≡ in_raw (state_of w.old) slot (on_channel n (λ c. chan_of channel)) }
-    ensures blank { Blank w.new }
-{
-    if let Some(mut job) = w.registers(slot) {
-        job.channels[usize::from(n)] = channel;
-        w.put_registers(slot, job);
-    }
-}
-
-/// A channel as it is opened on a console.
-fn opened(on: Opened) -> Channel
-    requires tty { IsTty on }
-    ensures { chan_of result ≡ opened_on on }
+    requires number { n < 16 }
+    requires job { HasJob (state_of w.old) slot }
+    requires closed { chan_in (state_of w.old) slot n ≡ Shut }
+    requires can { CanOpen on (state_of w.old) }
+    requires tidy { Tidy w.old }
+    ensures row { state_of w.new ≡ effect_on (Open n on) slot (state_of w.old) }
+    ensures tidy { Tidy w.new }
 {
     match on {
-        Opened::TtyIn => Channel::TtyIn,
-        Opened::TtyOut => Channel::TtyOut,
-        _ => unreachable!(),
+        Opened::TtyIn => w.put_channel(slot, n, Channel::TtyIn),
+        Opened::TtyOut => w.put_channel(slot, n, Channel::TtyOut),
+        Opened::Reading { d, x, y } => w.open_file(slot, n, d, x, y),
+        Opened::Writing { d, x, y } => w.open_draft(slot, n, d, x, y),
+        Opened::Usr { .. } => unreachable!(),
     }
 }
 
 /// Takes the first byte of a console's input.
-#[tactic(auto, using(crate::proofs::ChangeLaws::byte_taken, crate::proofs::ApartLaws::blank_console))]
+#[tactic(auto, using(crate::proofs::ChangeLaws::byte_taken, crate::proofs::ApartLaws::tidy_console))]
 fn take(w: &mut World, console: u8)
     requires console { console < 8 }
-    requires blank { Blank w.old }
+    requires tidy { Tidy w.old }
     ensures row { state_of w.new ≡ with_raw (state_of w.old) (on_console (state_of w.old).raw console taken_from) }
-    ensures blank { Blank w.new }
+    ensures tidy { Tidy w.new }
 {
     w.take(console);
 }
 
 /// Puts a byte behind a console's output, which has room.
-#[tactic(auto, using(crate::proofs::ChangeLaws::byte_put, crate::proofs::ChangeLaws::console_room, crate::proofs::ApartLaws::blank_console))]
+#[tactic(auto, using(crate::proofs::ChangeLaws::byte_put, crate::proofs::ChangeLaws::console_room, crate::proofs::ApartLaws::tidy_console))]
 fn put(w: &mut World, console: u8, byte: u8)
     requires console { console < 8 }
     requires room { length ((state_of w.old).raw.consoles console).output < most_waiting }
-    requires blank { Blank w.old }
+    requires tidy { Tidy w.old }
     ensures row { state_of w.new ≡ with_raw (state_of w.old) (on_console (state_of w.old).raw console (put_to byte)) }
-    ensures blank { Blank w.new }
+    ensures tidy { Tidy w.new }
 {
     w.put(console, byte);
 }
 
 /// Makes a slot's job the holder of a console.
-#[tactic(auto, using(its_world::proofs::StateLaws::holder_state, crate::proofs::ApartLaws::blank_holder))]
+#[tactic(auto, using(its_world::proofs::StateLaws::holder_state, crate::proofs::ApartLaws::tidy_holder))]
 fn hold(w: &mut World, console: u8, slot: u8)
     requires console { console < 8 }
-    requires blank { Blank w.old }
+    requires tidy { Tidy w.old }
     ensures row { state_of w.new ≡ with_raw (state_of w.old) (record (state_of w.old).raw { holders = changed (state_of w.old).raw.holders console (Some slot) }) }
-    ensures blank { Blank w.new }
+    ensures tidy { Tidy w.new }
 {
     w.hold(console, Some(slot));
 }
 
 /// Sets INF in a slot's job, where it has one.
-#[tactic(auto, using(crate::proofs::ChangeLaws::inf_set, crate::proofs::ChangeLaws::inf_missing, crate::proofs::ApartLaws::blank_put))]
+#[tactic(auto, using(crate::proofs::ChangeLaws::inf_set, crate::proofs::ChangeLaws::inf_missing))]
 fn inform(w: &mut World, slot: u8)
-    requires blank { Blank w.old }
+    requires tidy { Tidy w.old }
     ensures row { state_of w.new ≡ in_raw (state_of w.old) slot with_inf }
-    ensures blank { Blank w.new }
+    ensures tidy { Tidy w.new }
 {
     if let Some(mut job) = w.jobs.job(slot).copied() {
         job.pend1 = job.pend1 | Word::new(INF);
@@ -128,11 +135,11 @@ fn inform(w: &mut World, slot: u8)
 }
 
 /// Sets a variable of a slot's job, where it has one.
-#[tactic(auto, using(crate::proofs::ChangeLaws::variable_set, crate::proofs::ChangeLaws::variable_missing, crate::proofs::ApartLaws::blank_put))]
+#[tactic(auto, using(crate::proofs::ChangeLaws::variable_set, crate::proofs::ChangeLaws::variable_missing))]
 fn set(w: &mut World, slot: u8, variable: Variable, value: Word)
-    requires blank { Blank w.old }
+    requires tidy { Tidy w.old }
     ensures row { state_of w.new ≡ in_raw (state_of w.old) slot (with_registers (with_variable variable value)) }
-    ensures blank { Blank w.new }
+    ensures tidy { Tidy w.new }
 {
     if let Some(job) = w.jobs.job(slot).copied() {
         w.put_registers(slot, with_variable(job, variable, value));

@@ -5,18 +5,20 @@ ghost use Rattle.its_word.specs.Limits.{slots};
 ghost use Rattle.its_jobs.specs.Table.{job_at};
 ghost use Rattle.its_plain.specs.Arguments.{debts, revalued};
 ghost use Rattle.its_plain.specs.Decide.{call_named};
-ghost use Rattle.its_stepped.specs.Commit.{committed, gone_on, owed_store, sleeps};
+ghost use Rattle.its_stepped.specs.Commit.{committed, gone_on, owed_parts, owed_store, sleeps};
 ghost use Rattle.its_stepped.specs.State.{ending, waiting};
-ghost use Rattle.its_pclsr.specs.Apart.{Blank};
+ghost use Rattle.its_world.specs.Tidy.{Tidy};
 ghost use Rattle.its_pclsr.specs.Built.{backed};
 ghost use Rattle.its_pclsr.specs.Carried.{standing_of, with_value, Ready, Endable};
 ghost use Rattle.its_world.specs.World.{state_of, frame_at, FrameBecomes};
 
 use super::carrying::owed_steps;
 use super::changes::apply;
+use super::owed::owns_mark;
 use super::removal::remove_tree;
+use arrayvec::ArrayVec;
 use its_frame::{Decision, Ending, Frame, Held, Holding, Moving, Waiting};
-use its_word::{Ask, Exit, Store, Word};
+use its_word::{Ask, Exit, Owed, Store, Word};
 use its_world::World;
 
 /// Carries out what the call of a slot's job comes to, which stands in its frame: the changes at once, and
@@ -26,9 +28,9 @@ pub fn carry_out(w: &mut World, slot: u8, decision: Decision)
     requires job { is_some (job_at w.old.jobs slot) ≡ true }
     requires stands { is_some (standing_of (frame_at w.old.frames.items slot)) ≡ true }
     requires ready { IfSome (standing_of (frame_at w.old.frames.items slot)) (λ f. Ready (state_of w.old) slot f decision) }
-    requires blank { Blank w.old }
+    requires tidy { Tidy w.old }
     ensures row { IfSome (standing_of (frame_at w.old.frames.items slot)) (λ f. state_of w.new ≡ committed (state_of w.old) slot f.site f.ask f.owes decision) }
-    ensures blank { Blank w.new }
+    ensures tidy { Tidy w.new }
 {
     match decision {
         Decision::Waits(_) => wait(w, slot),
@@ -56,14 +58,14 @@ pub fn carry_out(w: &mut World, slot: u8, decision: Decision)
 }
 
 /// Takes the call of a slot out of its frame.
-#[tactic(auto, using(crate::proofs::ApartLaws::blank_kept))]
+#[tactic(auto, using(crate::proofs::ApartLaws::tidy_kept))]
 fn take_call(w: &mut World, slot: u8) -> Holding
     requires slot { slot < slots }
     requires stands { is_some (standing_of (frame_at w.old.frames.items slot)) ≡ true }
-    requires blank { Blank w.old }
+    requires tidy { Tidy w.old }
     ensures call { standing_of (frame_at w.old.frames.items slot) ≡ Some result }
     ensures taken { FrameBecomes w.old w.new slot None }
-    ensures blank { Blank w.new }
+    ensures tidy { Tidy w.new }
 {
     match w.take_frame(slot) {
         Some(Frame::Holding(f)) => f,
@@ -78,13 +80,13 @@ fn take_call(w: &mut World, slot: u8) -> Holding
 }
 
 /// The call waits.
-#[tactic(auto, using(crate::proofs::ApartLaws::blank_kept))]
+#[tactic(auto, using(crate::proofs::ApartLaws::tidy_kept))]
 fn wait(w: &mut World, slot: u8)
     requires slot { slot < slots }
     requires stands { is_some (standing_of (frame_at w.old.frames.items slot)) ≡ true }
-    requires blank { Blank w.old }
+    requires tidy { Tidy w.old }
     ensures row { IfSome (standing_of (frame_at w.old.frames.items slot)) (λ f. FrameBecomes w.old w.new slot (Some (waiting f.site f.ask f.owes))) }
-    ensures blank { Blank w.new }
+    ensures tidy { Tidy w.new }
 {
     let f = take_call(w, slot);
     w.put_frame(
@@ -98,14 +100,14 @@ fn wait(w: &mut World, slot: u8)
 }
 
 /// A part of the call is done: its last arguments have new values, which it owes.
-#[tactic(auto, using(crate::proofs::ApartLaws::blank_kept))]
+#[tactic(auto, using(crate::proofs::ApartLaws::tidy_kept))]
 fn go_on(w: &mut World, slot: u8, held: Option<Held>, values: &[Word])
     requires slot { slot < slots }
     requires stands { is_some (standing_of (frame_at w.old.frames.items slot)) ≡ true }
     requires few { length values.now ≤ 2 }
-    requires blank { Blank w.old }
+    requires tidy { Tidy w.old }
     ensures row { IfSome (standing_of (frame_at w.old.frames.items slot)) (λ f. FrameBecomes w.old w.new slot (Some (gone_on f.site (revalued f.ask values.now) (length values.now) held))) }
-    ensures blank { Blank w.new }
+    ensures tidy { Tidy w.new }
 {
     let mut f = take_call(w, slot);
     revalue(&mut f.ask, values);
@@ -168,18 +170,19 @@ fn set_value(ask: &mut Ask, k: usize, value: Word)
     ask.inputs[k].value = value;
 }
 
-/// The call ends: its reserved page, its arguments, its stores and its registers are owed.
-#[tactic(auto, using(crate::proofs::ApartLaws::blank_kept))]
+/// The call ends: the parts of its close, its reserved page, its arguments, its stores and its registers are owed.
+#[tactic(auto, using(crate::proofs::ApartLaws::tidy_kept))]
 fn end(w: &mut World, slot: u8, stores: &[Store], exit: Exit)
     requires slot { slot < slots }
     requires stands { is_some (standing_of (frame_at w.old.frames.items slot)) ≡ true }
     requires room { IfSome (standing_of (frame_at w.old.frames.items slot)) (λ f. Endable (state_of w.old) slot f (length stores.now)) }
-    requires blank { Blank w.old }
-    ensures row { IfSome (standing_of (frame_at w.old.frames.items slot)) (λ f. FrameBecomes w.old w.new slot (Some (ending f.site f.ask (backed (is_some f.page) ++ (map owed_store (debts f.ask f.owes ++ stores.now) ++ Leave exit ∷ []))))) }
-    ensures blank { Blank w.new }
+    requires tidy { Tidy w.old }
+    ensures row { IfSome (standing_of (frame_at w.old.frames.items slot)) (λ f. FrameBecomes w.old w.new slot (Some (ending f.site f.ask (owed_parts (state_of w.old).mark slot ++ (backed (is_some f.page) ++ (map owed_store (debts f.ask f.owes ++ stores.now) ++ Leave exit ∷ [])))))) }
+    ensures tidy { Tidy w.new }
 {
+    let parts = owed_parts(w, slot);
     let f = take_call(w, slot);
-    let owed = owed_steps(f.page.is_some(), &f.ask, f.owes, stores, exit);
+    let owed = owed_steps(&parts, f.page.is_some(), &f.ask, f.owes, stores, exit);
     w.put_frame(
         slot,
         Frame::Ending(Ending {
@@ -188,4 +191,16 @@ fn end(w: &mut World, slot: u8, stores: &[Store], exit: Exit)
             owed,
         }),
     );
+}
+
+/// The parts of a close that a slot's call owes.
+#[tactic(auto, using(crate::proofs::CommittingLaws::parts_mine, crate::proofs::CommittingLaws::parts_none))]
+fn owed_parts(w: &World, slot: u8) -> ArrayVec<Owed, 3>
+    ensures { result.items ≡ owed_parts (state_of w.now).mark slot }
+{
+    if owns_mark(w, slot) {
+        w.files.owed()
+    } else {
+        ArrayVec::new()
+    }
 }

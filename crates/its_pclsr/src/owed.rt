@@ -4,9 +4,10 @@ ghost use Rattle.its_core.specs.Cores.{core_at};
 ghost use Rattle.its_plain.specs.Arguments.{debts};
 ghost use Rattle.its_word.specs.Stores.{place, stored};
 ghost use Rattle.its_stepped.specs.Unwind.{first_debt, due};
+ghost use Rattle.its_stepped.specs.State.{mine};
 ghost use Rattle.its_pclsr.specs.Owed.{begins_with_file};
 ghost use Rattle.its_word.specs.Core.{can_store};
-ghost use Rattle.its_world.specs.World.{CoreBecomes};
+ghost use Rattle.its_world.specs.World.{state_of, CoreBecomes};
 
 use arrayvec::ArrayVec;
 use its_word::{Ask, Owed, Store};
@@ -43,9 +44,31 @@ pub fn first_owed(ask: &Ask, n: u8) -> Store
     }
 }
 
-/// The owed steps without file steps at their head, which were made already.
+/// Whether the close that is half made is that of a slot's call.
+#[tactic(auto, using(crate::proofs::OwedLaws::owner_some, crate::proofs::OwedLaws::owner_none))]
+pub fn owns_mark(w: &World, slot: u8) -> bool
+    ensures { result ≡ mine (state_of w.now).mark slot }
+{
+    match w.files.owner() {
+        Some(owner) => owner == slot,
+        None => false,
+    }
+}
+
+/// The owed steps of a slot's call without the file steps at their head that were made already: those of a
+/// close that is marked no more.
+#[tactic(auto, using(crate::proofs::OwedLaws::due_whole))]
+pub fn pass_over(w: &World, slot: u8, owed: &mut ArrayVec<Owed, 4>)
+    ensures { owed.new.items ≡ due (mine (state_of w.now).mark slot) owed.old.items }
+{
+    if !owns_mark(w, slot) {
+        drop_parts(owed);
+    }
+}
+
+/// The owed steps without file steps at their head.
 #[tactic(auto, using(crate::proofs::OwedLaws::due_over, crate::proofs::OwedLaws::due_more, crate::proofs::OwedLaws::some_first))]
-pub fn pass_over(owed: &mut ArrayVec<Owed, 4>)
+fn drop_parts(owed: &mut ArrayVec<Owed, 4>)
     ensures { owed.new.items ≡ due false owed.old.items }
 {
     while begins_with_file(owed) {

@@ -6,14 +6,14 @@ ghost use Rattle.its_word.specs.declared.jobs.Channel.TheVariants.{Closed};
 ghost use Rattle.its_core.specs.Cores.{core_at, clear_at};
 ghost use Rattle.its_frame.specs.declared.change.Change.TheVariants.{Remove};
 ghost use Rattle.its_jobs.specs.Table.{job_at, superior_at, in_tree};
-ghost use Rattle.its_plain.specs.Change.{superiors, is_gone, passed_on};
+ghost use Rattle.its_plain.specs.Change.{superiors, shut_on, is_gone, passed_on};
 ghost use Rattle.its_stepped.specs.Commit.{effect_on};
 ghost use Rattle.its_stepped.specs.Sound.{Sound};
 ghost use Rattle.its_stepped.specs.State.{plain};
 ghost use Rattle.its_stepped.specs.Unwind.{all_unwound};
-ghost use Rattle.its_pclsr.specs.Apart.{Blank};
-ghost use Rattle.its_pclsr.specs.Removal.{channel_left, JobLeft, Sweeps, Swept};
-ghost use Rattle.its_world.specs.World.{state_of, frame_at};
+ghost use Rattle.its_world.specs.Tidy.{Tidy};
+ghost use Rattle.its_pclsr.specs.Removal.{channel_left, Closes, Empties, Sweeps, Swept};
+ghost use Rattle.its_world.specs.World.{state_of, in_raw, CoreBecomes};
 
 #[cfg(test)]
 mod tests;
@@ -23,15 +23,18 @@ use its_jobs::Jobs;
 use its_word::Channel;
 use its_world::World;
 
+/// How many channels a job has.
+const CHANNELS: u8 = 16;
+
 /// Unwinds every job below that of a slot, by slot number.
 pub fn unwind_below(w: &mut World, slot: u8)
     requires slot { slot < slots }
     requires sound { Sound (state_of w.old) }
-    requires blank { Blank w.old }
+    requires tidy { Tidy w.old }
     ensures unwinds { state_of w.new ≡ all_unwound (slots_below (superiors (state_of w.old).raw) slot) (state_of w.old) }
     ensures same { plain (state_of w.new) ≡ plain (state_of w.old) }
     ensures sound { Sound (state_of w.new) }
-    ensures blank { Blank w.new }
+    ensures tidy { Tidy w.new }
 {
     let mut k = 0;
     while let Some(inferior) = w.jobs.below(slot, k) {
@@ -40,33 +43,37 @@ pub fn unwind_below(w: &mut World, slot: u8)
     }
 }
 
-/// Removes the job of a slot and all jobs below it: their pages are given up, and every channel on one of
-/// them is closed. A console that one of them holds passes to the superior of the job, where it has one,
-/// else to nobody. No INF is set. The jobs below have been unwound; what is left of a call of the job
-/// itself is dropped, but a page that it has reserved is given back before.
+/// Removes the job of a slot and all jobs below it: their drafts are dropped, their channels closed, and
+/// their pages given up; every channel on one of them is closed. A console that one of them holds passes to
+/// the superior of the job, where it has one, else to nobody. No INF is set. The jobs below have been
+/// unwound; what is left of a call of the job itself is dropped, but a page that it has reserved is given
+/// back before.
 pub fn remove_tree(w: &mut World, slot: u8)
     requires slot { slot < slots }
     requires job { is_some (job_at w.old.jobs slot) ≡ true }
     requires sound { Sound (state_of w.old) }
     requires unwound { (k : ℕ) → is_below (superiors (state_of w.old).raw) slot k ≡ true → (state_of w.old).frames k ≡ None }
     requires page { (state_of w.old).reserved slot ≡ None }
-    requires blank { Blank w.old }
+    requires tidy { Tidy w.old }
     ensures removed { (j : ℕ) → state_of w.new ≡ effect_on (Remove slot) j (state_of w.old) }
     ensures pages { (k : ℕ) → is_gone (superiors (state_of w.old).raw) slot k ≡ true → (state_of w.new).reserved k ≡ None }
     ensures cores { (k : ℕ) → is_gone (superiors (state_of w.old).raw) slot k ≡ true → core_at w.new.core k ≡ no_core }
-    ensures blank { Blank w.new }
+    ensures tidy { Tidy w.new }
 {
     w.jobs.tree();
     sweep(w, slot);
+    w.jobs.tree();
     pass_on(&w.jobs, slot, &mut w.holders);
     w.jobs.remove_tree(slot);
 }
 
 /// Gives up what the jobs of a tree have, and closes the channels on them.
-#[tactic(auto, using(crate::proofs::RemovalLaws::swept_start, crate::proofs::RemovalLaws::swept_more))]
+#[tactic(auto, using(crate::proofs::RemovalLaws::swept_start))]
 fn sweep(w: &mut World, root: u8)
     requires slot { root < slots }
-    ensures { Swept (in_tree (superior_at w.old.jobs) root) w.old w.new slots }
+    requires tidy { Tidy w.old }
+    ensures swept { Swept (is_gone (superiors (state_of w.old).raw) root) w.old w.new slots }
+    ensures tidy { Tidy w.new }
 {
     for slot in 0..64u8 {
         sweep_slot(w, root, slot);
@@ -74,25 +81,59 @@ fn sweep(w: &mut World, root: u8)
 }
 
 /// The same in one slot.
-#[tactic(auto, using(crate::proofs::RemovalLaws::sweeps_gone))]
 fn sweep_slot(w: &mut World, root: u8, slot: u8)
     requires slot { slot < slots }
-    ensures { Sweeps (in_tree (superior_at w.old.jobs) root) w.old w.new slot }
+    requires tidy { Tidy w.old }
+    ensures swept { Sweeps (is_gone (superiors (state_of w.old).raw) root) w.old w.new slot }
+    ensures tidy { Tidy w.new }
 {
+    w.jobs.tree();
     if is_removed(&w.jobs, root, slot) {
-        w.core.drop_all(slot);
-        w.take_frame(slot);
+        empty(w, slot);
     } else {
         shut_channels(w, root, slot);
     }
 }
 
+/// Closes the channels of a slot's job, and gives up its pages and its frame.
+fn empty(w: &mut World, slot: u8)
+    requires slot { slot < slots }
+    requires tidy { Tidy w.old }
+    ensures empty { Empties w.old w.new slot }
+    ensures tidy { Tidy w.new }
+{
+    shut_all(w, slot);
+    drop_core(w, slot);
+    w.take_frame(slot);
+}
+
+/// Closes all channels of a slot's job: its drafts are dropped, and it reads no file any more.
+#[tactic(auto, using(crate::proofs::RemovalLaws::closing_start))]
+fn shut_all(w: &mut World, slot: u8)
+    requires slot { slot < slots }
+    requires tidy { Tidy w.old }
+    ensures closed { Closes (state_of w.old) (state_of w.new) slot 16 }
+    ensures tidy { Tidy w.new }
+{
+    for n in 0..CHANNELS {
+        w.shut(slot, n);
+    }
+}
+
+/// Gives up all pages of a slot.
+fn drop_core(w: &mut World, slot: u8)
+    requires slot { slot < slots }
+    ensures { CoreBecomes w.old w.new slot no_core }
+{
+    w.core.drop_all(slot);
+}
+
 /// Closes the channels of a slot's job that are on jobs of a tree.
-#[tactic(auto, using(crate::proofs::RemovalLaws::sweeps_some, crate::proofs::RemovalLaws::sweeps_none))]
 fn shut_channels(w: &mut World, root: u8, slot: u8)
     requires slot { slot < slots }
-    requires stays { in_tree (superior_at w.old.jobs) root slot ≡ false }
-    ensures { Sweeps (in_tree (superior_at w.old.jobs) root) w.old w.new slot }
+    requires tidy { Tidy w.old }
+    ensures row { state_of w.new ≡ in_raw (state_of w.old) slot (shut_on (in_tree (superior_at w.old.jobs) root)) }
+    ensures tidy { Tidy w.new }
 {
     if let Some(mut job) = w.registers(slot) {
         shut_each(&w.jobs, root, &mut job.channels);

@@ -6,13 +6,16 @@ ghost use Rattle.its_plain.specs.Arguments.{input};
 ghost use Rattle.its_plain.specs.CallStep.{deposited, with_held};
 ghost use Rattle.its_plain.specs.Own.{left_with};
 ghost use Rattle.its_word.specs.Stores.{stored};
-ghost use Rattle.its_stepped.specs.State.{held_at, holding, plain, seen, turn, waiting};
+ghost use Rattle.its_stepped.specs.State.{UnlinkOld, LinkNew, FreeOld, held_at, holding, mine, plain, seen, turn, waiting};
 ghost use Rattle.its_stepped.specs.Unwind.{given_back, paid, settled, due, left, unwind_one as unwind_one_of, unwound};
 ghost use Rattle.its_stepped.specs.OneChange.{OneChange};
 ghost use Rattle.its_stepped.specs.SlotSame.{SlotSame};
 ghost use Rattle.its_stepped.specs.Sound.{HoldingPays, WaitingPays, MovingPays, EndingPays, Sound};
 ghost use Rattle.its_world.specs.World.{state_of, frame_at, CoreBecomes, JobBecomes};
-ghost use Rattle.its_pclsr.specs.Apart.{Blank, CoresOff};
+ghost use Rattle.its_pclsr.specs.Apart.{CoresOff};
+ghost use Rattle.its_pclsr.specs.Owed.{Marks, IsNext};
+ghost use Rattle.its_pclsr.specs.Parts.{NextMade};
+ghost use Rattle.its_world.specs.Tidy.{Tidy};
 
 use super::owed::{first_owed, make, pass_over};
 use its_bytes::deposit;
@@ -22,17 +25,18 @@ use its_world::World;
 
 /// One step of unwinding of a slot's job, which is inside a call: at most one word of core, one page's
 /// place, one part of a close or the registers change, and the plain machine does not.
-#[tactic(auto, using(crate::proofs::UnwindingLaws::one_fewer, crate::proofs::UnwindingLaws::one_changes, crate::proofs::UnwindingLaws::one_same, crate::proofs::UnwindingLaws::unwind_keeps, crate::proofs::ApartLaws::blank_step))]
+#[tactic(auto, using(crate::proofs::UnwindingLaws::one_fewer, crate::proofs::UnwindingLaws::one_changes, crate::proofs::UnwindingLaws::one_same, crate::proofs::UnwindingLaws::unwind_keeps))]
 pub fn unwind_one(w: &mut World, slot: u8)
     requires slot { slot < slots }
     requires frame { is_some (frame_at w.old.frames.items slot) ≡ true }
     requires sound { Sound (state_of w.old) }
+    requires tidy { Tidy w.old }
     ensures row { state_of w.new ≡ unwind_one_of (state_of w.old) slot }
     ensures fewer { left (state_of w.new) slot + 1 ≡ left (state_of w.old) slot }
     ensures change { OneChange (state_of w.old) (state_of w.new) slot }
     ensures same { plain (state_of w.new) ≡ plain (state_of w.old) }
     ensures cores { CoresOff w.old w.new slot }
-    ensures blank { Blank w.old → Blank w.new }
+    ensures tidy { Tidy w.new }
     ensures sound { Sound (state_of w.new) }
 {
     step(w, slot);
@@ -44,8 +48,10 @@ fn step(w: &mut World, slot: u8)
     requires slot { slot < slots }
     requires frame { is_some (frame_at w.old.frames.items slot) ≡ true }
     requires sound { Sound (state_of w.old) }
+    requires tidy { Tidy w.old }
     ensures row { state_of w.new ≡ unwind_one_of (state_of w.old) slot }
     ensures cores { CoresOff w.old w.new slot }
+    ensures tidy { Tidy w.new }
 {
     match w.take_frame(slot) {
         Some(Frame::Holding(f)) => unwind_holding(w, slot, f),
@@ -67,8 +73,10 @@ fn unwind_holding(w: &mut World, slot: u8, mut f: Holding)
     requires job { is_some (job_at w.old.jobs slot) ≡ true }
     requires frame { frame_at w.old.frames.items slot ≡ None }
     requires pays { HoldingPays (core_at w.old.core slot) (clear_at w.old.core slot) f.ask f.page f.owes }
+    requires tidy { Tidy w.old }
     ensures row { state_of w.new ≡ given_back (state_of w.old) slot f.site f.ask f.page f.owes }
     ensures cores { CoresOff w.old w.new slot }
+    ensures tidy { Tidy w.new }
 {
     if f.page.is_some() {
         w.give_back(slot);
@@ -92,8 +100,10 @@ fn unwind_waiting(w: &mut World, slot: u8, mut f: Waiting)
     requires job { is_some (job_at w.old.jobs slot) ≡ true }
     requires frame { frame_at w.old.frames.items slot ≡ None }
     requires pays { WaitingPays (core_at w.old.core slot) (clear_at w.old.core slot) f.ask f.owes }
+    requires tidy { Tidy w.old }
     ensures row { state_of w.new ≡ paid (state_of w.old) slot f.ask f.owes (waiting f.site f.ask) }
     ensures cores { CoresOff w.old w.new slot }
+    ensures tidy { Tidy w.new }
 {
     if f.owes == 0 {
         return;
@@ -111,8 +121,10 @@ fn unwind_moving(w: &mut World, slot: u8, f: Moving)
     requires job { is_some (job_at w.old.jobs slot) ≡ true }
     requires frame { frame_at w.old.frames.items slot ≡ None }
     requires pays { MovingPays (core_at w.old.core slot) (clear_at w.old.core slot) f.ask f.place }
+    requires tidy { Tidy w.old }
     ensures row { state_of w.new ≡ turn (state_of w.old) slot (with_held f.ask (Some (held_at f.place f.byte))) (Some (holding f.site f.ask None 2)) }
     ensures cores { CoresOff w.old w.new slot }
+    ensures tidy { Tidy w.new }
 {
     store_held(w, slot, &f);
     w.put_frame(
@@ -143,16 +155,19 @@ fn store_held(w: &mut World, slot: u8, f: &Moving)
 }
 
 /// The first step that is still owed is made.
-#[tactic(auto, using(crate::proofs::ApartLaws::off_one, crate::proofs::ApartLaws::off_then, crate::proofs::RowLaws::settled_store, crate::proofs::RowLaws::settled_back, crate::proofs::RowLaws::settled_leave))]
+#[tactic(auto, using(crate::proofs::ApartLaws::off_one, crate::proofs::ApartLaws::off_then, crate::proofs::RowLaws::settled_store, crate::proofs::RowLaws::settled_back))]
 fn unwind_ending(w: &mut World, slot: u8, mut f: Ending)
     requires slot { slot < slots }
     requires job { is_some (job_at w.old.jobs slot) ≡ true }
     requires frame { frame_at w.old.frames.items slot ≡ None }
     requires pays { EndingPays (core_at w.old.core slot) (clear_at w.old.core slot) f.owed.items }
-    ensures row { state_of w.new ≡ settled (state_of w.old) slot f.site f.ask (due false f.owed.items) }
+    requires marks { Marks (state_of w.old).mark slot f.owed.items }
+    requires tidy { Tidy w.old }
+    ensures row { state_of w.new ≡ settled (state_of w.old) slot f.site f.ask (due (mine (state_of w.old).mark slot) f.owed.items) }
     ensures cores { CoresOff w.old w.new slot }
+    ensures tidy { Tidy w.new }
 {
-    pass_over(&mut f.owed);
+    pass_over(w, slot, &mut f.owed);
     match f.owed.remove(0) {
         Owed::Store(at, word) => {
             make(w, slot, Store { at, word });
@@ -163,10 +178,52 @@ fn unwind_ending(w: &mut World, slot: u8, mut f: Ending)
             w.put_frame(slot, Frame::Ending(f));
         }
         Owed::Leave(exit) => leave(w, slot, exit),
-        Owed::Unlink => unreachable!(),
-        Owed::Link => unreachable!(),
-        Owed::Free => unreachable!(),
+        Owed::Unlink => {
+            unlink(w);
+            w.put_frame(slot, Frame::Ending(f));
+        }
+        Owed::Link => {
+            link(w);
+            w.put_frame(slot, Frame::Ending(f));
+        }
+        Owed::Free => {
+            free(w);
+            w.put_frame(slot, Frame::Ending(f));
+        }
     }
+}
+
+/// The old file of a close leaves the directory.
+fn unlink(w: &mut World)
+    requires next { IsNext (state_of w.old).mark UnlinkOld }
+    requires tidy { Tidy w.old }
+    ensures part { NextMade w.old w.new }
+    ensures tidy { Tidy w.new }
+{
+    w.files.seen();
+    w.files.unlink_old();
+}
+
+/// The draft of a close becomes the last file.
+fn link(w: &mut World)
+    requires next { IsNext (state_of w.old).mark LinkNew }
+    requires tidy { Tidy w.old }
+    ensures part { NextMade w.old w.new }
+    ensures tidy { Tidy w.new }
+{
+    w.files.seen();
+    w.files.link_new();
+}
+
+/// The blocks of the old file of a close become free.
+fn free(w: &mut World)
+    requires next { IsNext (state_of w.old).mark FreeOld }
+    requires tidy { Tidy w.old }
+    ensures part { NextMade w.old w.new }
+    ensures tidy { Tidy w.new }
+{
+    w.files.seen();
+    w.files.free_old();
 }
 
 /// A job gets the registers that it leaves a call with.
@@ -174,8 +231,10 @@ fn unwind_ending(w: &mut World, slot: u8, mut f: Ending)
 fn leave(w: &mut World, slot: u8, e: Exit)
     requires slot { slot < slots }
     requires job { is_some (job_at w.old.jobs slot) ≡ true }
+    requires tidy { Tidy w.old }
     ensures made { IfSome (job_at w.old.jobs slot) (λ j. JobBecomes w.old w.new slot (left_with e j)) }
     ensures cores { CoresOff w.old w.new slot }
+    ensures tidy { Tidy w.new }
 {
     if let Some(job) = w.registers(slot) {
         w.put_registers(slot, left_with(job, &e));
@@ -207,6 +266,7 @@ fn left_with(job: Job, e: &Exit) -> Job
 pub fn unwind(w: &mut World, slot: u8)
     requires slot { slot < slots }
     requires sound { Sound (state_of w.old) }
+    requires tidy { Tidy w.old }
     ensures unwinds { state_of w.new ≡ unwound (state_of w.old) slot }
     ensures few { left (state_of w.old) slot ≤ 4 }
     ensures none { (state_of w.new).frames slot ≡ None }
@@ -214,7 +274,7 @@ pub fn unwind(w: &mut World, slot: u8)
     ensures same { plain (state_of w.new) ≡ plain (state_of w.old) }
     ensures others { (k : ℕ) → k ≢ slot → SlotSame (state_of w.old) (state_of w.new) k }
     ensures cores { CoresOff w.old w.new slot }
-    ensures blank { Blank w.old → Blank w.new }
+    ensures tidy { Tidy w.new }
     ensures sound { Sound (state_of w.new) }
 {
     run(w, slot);
@@ -225,9 +285,10 @@ pub fn unwind(w: &mut World, slot: u8)
 fn run(w: &mut World, slot: u8)
     requires slot { slot < slots }
     requires sound { Sound (state_of w.old) }
+    requires tidy { Tidy w.old }
     ensures row { state_of w.new ≡ unwound (state_of w.old) slot }
     ensures cores { CoresOff w.old w.new slot }
-    ensures blank { Blank w.old → Blank w.new }
+    ensures tidy { Tidy w.new }
 {
     while w.has_frame(slot) {
         step(w, slot);

@@ -1,6 +1,6 @@
--- What the lines of a session leave of the plain machine: names, superiors, channels and files, and how consoles and
+-- What the lines of a session leave of the plain machine: names, superiors and channels, and how consoles and
 -- their holders change. What holds of these alone is kept by every line.
-use Rattle.std.specs.Prelude.{◌≡◌, ◌≢◌, ◌<◌, ◌≤◌, ◌⊎◌, ℕ, zero, suc, cond, ◌+◌, Bool, true, false, Option, Some, None, List, [], ◌∷◌, ◌++◌, Result, Ok, Err, option_map, is_some, nat_lt, take, drop, refl}
+use Rattle.std.specs.Prelude.{◌≡◌, ◌≢◌, ◌<◌, ◌≤◌, ◌⊎◌, ℕ, zero, suc, cond, ◌+◌, Bool, true, false, Option, Some, None, List, [], ◌∷◌, ◌++◌, Result, Ok, Err, option_map, is_some, nat_lt, length, take, drop, refl}
 use Rattle.std.proofs.Common.{sym, ◌∙◌, ap, subst, inl, inr, arith}
 use Rattle.std.proofs.lemmas.Bool.{cases_eq, eq-eqb, ne_eqb, ltb-true}
 use Rattle.its_word.specs.Console.{most_waiting}
@@ -13,10 +13,13 @@ use Rattle.its_word.specs.declared.session.Event.TheVariants as events
 use Rattle.its_word.specs.declared.session.Reason.{Reason}
 use Rattle.its_word.specs.declared.show.JobShow.{JobShow}
 use Rattle.its_word.proofs.FreeLaws.{least_empty}
-use Rattle.its_plain.specs.Machine.{Chan, Console, Whole, Machine, changed, with_job, mapped}
-use Rattle.its_plain.specs.Operator.{Block, Operated, Refuses, Does, Ticks, Ends, new_job, held_by, loaded_in, loaded, stored, with_core, word_loaded_of, word_loaded, and_then, words_loaded, on_job, with_registers, on_registers, started, interrupted, stopped, continued, examined, state_shown, deposited_in, deposited, disturbs, quietly, by_load, by_exam, by_state}
-use Rattle.its_plain.specs.Operator as operator
-use Rattle.its_plain.specs.CallOperator.{clock_end, clocked_if, clocked, typed, drained, operate, Lined, Done, Peeks, peeked_at, lined}
+use Rattle.its_plain.specs.Machine.{Names, File, Chan, Console, Whole, Machine, changed, with_job, mapped}
+use Rattle.its_plain.specs.Operator.{Block, Refuses, Does, Ticks, Ends, new_job, held_by, loaded_in, loaded, stored, with_core, word_loaded_of, word_loaded, and_then, words_loaded, on_job, with_registers, on_registers, started, interrupted, stopped, continued, examined, state_shown, deposited_in, deposited, disturbs, quietly, by_load, by_exam, by_state}
+use Rattle.its_plain.specs.Own.{names_of}
+use Rattle.its_plain.specs.CallFile.{most_files, is_full, file_named, has_file}
+use Rattle.its_plain.specs.FileOperator.{channels_of, with_files, file_made_if, file_made, word_added_if, word_added_to, word_added, words_added, file_shown}
+use Rattle.its_plain.specs.CallOperator.{clock_end, clocked_if, clocked, typed, drained, operate, shows, Lined, Done, Peeks, peeked_at, lined}
+use Rattle.its_print.specs.Printing.{Line}
 
 -- what no line changes of a job
 pub record Face : Type 0 where
@@ -50,7 +53,6 @@ pub record LineKeeps (m n : Machine) : Type 0 where
   pub few : (k : ℕ) → limits.slots ≤ k → m.jobs k ≡ None → n.jobs k ≡ None
   pub consoles : (c : ℕ) → ConsoleKept (m.consoles c) (n.consoles c)
   pub holders : (c : ℕ) → HolderKept m n c
-  pub files : n.files ≡ m.files
   pub clock : (n.clock ≡ m.clock) ⊎ (n.clock < clock_end)
 
 abbrev pub LineKeepsBy : Machine → Lined → Type 0
@@ -79,7 +81,6 @@ alike_keeps m n h = record {
   few = λ k l e. faceless (n.jobs k) (m.jobs k) (h.slots k) e;
   consoles = λ c. Quiet (ap (λ (f : ℕ → Console). f c) h.consoles);
   holders = λ c. Keeps (ap (λ (f : ℕ → Option ℕ). f c) h.holders);
-  files = h.files;
   clock = inl h.clock;
 }
 
@@ -206,24 +207,22 @@ holder_kept m n u j c s k none is holds = elim (cases_eq k c) [
   | inr ne ↦ Keeps (holds k ∙ rw (ne_eqb k c ne) refl)
 ]
 
-load_keeps : (m : Machine) (u j : ℕ) (console o : Option ℕ) → least_free m.jobs ≡ o → LineKeepsBy m (Done (by_load (loaded_in m u j console o)))
-load_keeps m u j (Some c) (Some s) is = record {
+load_keeps : (m : Machine) (b : Block) (u j : ℕ) (console o : Option ℕ) → least_free m.jobs ≡ o → LineKeepsBy m (Done (by_load b (loaded_in m u j console o)))
+load_keeps m b u j (Some c) (Some s) is = record {
   slots = λ k. made_slots m u j (Some c) s k is;
   few = λ k l e. made_few m (new_job u j (Some c)) s k is l e;
   consoles = λ k. Quiet refl;
   holders = λ k. holder_kept m _ u j c s k (least_empty m.jobs s is) (rw (eq-eqb s s refl) refl) (λ i. refl);
-  files = refl;
   clock = inl refl;
 }
-load_keeps m u j None (Some s) is = record {
+load_keeps m b u j None (Some s) is = record {
   slots = λ k. made_slots m u j None s k is;
   few = λ k l e. made_few m (new_job u j None) s k is l e;
   consoles = λ k. Quiet refl;
   holders = λ k. Keeps refl;
-  files = refl;
   clock = inl refl;
 }
-load_keeps m u j console None is = tt
+load_keeps m b u j console None is = tt
 
 -- one console changed
 console_kept : (m : Machine) (c k : ℕ) (y : Console) → ConsoleKept (m.consoles c) y → ConsoleKept (m.consoles k) (changed m.consoles c y k)
@@ -238,7 +237,6 @@ typed_keeps m c bytes = record {
   few = λ k l e. e;
   consoles = λ k. console_kept m c k _ (Gains bytes refl);
   holders = λ k. Keeps refl;
-  files = refl;
   clock = inl refl;
 }
 
@@ -248,7 +246,6 @@ drained_keeps m c n = record {
   few = λ k l e. e;
   consoles = λ k. console_kept m c k _ (Loses n refl);
   holders = λ k. Keeps refl;
-  files = refl;
   clock = inl refl;
 }
 
@@ -258,14 +255,69 @@ clock_keeps m b n true is = record {
   few = λ k l e. e;
   consoles = λ c. Quiet refl;
   holders = λ c. Keeps refl;
-  files = refl;
   clock = inr (ltb-true (m.clock + n) clock_end is);
 }
 clock_keeps m b n false is = tt
 
+-- lines on files change the directory alone
+files_keep : (m : Machine) (fs : List File) → LineKeeps m (with_files m fs)
+files_keep m fs = record {
+  slots = λ k. Stays refl;
+  few = λ k l e. e;
+  consoles = λ c. Quiet refl;
+  holders = λ c. Keeps refl;
+  clock = inl refl;
+}
+
+abbrev pub FilesAlone : Machine → Result Machine Reason → Type 0
+FilesAlone m (Ok n) = n ≡ with_files m n.files
+FilesAlone m (Err r) = Unit {0}
+
+file_keeps : (m : Machine) (b : Block) (r : Result Machine Reason) → FilesAlone m r → LineKeepsBy m (Done (quietly b r))
+file_keeps m b (Ok n) h = subst (LineKeeps m) (sym h) (files_keep m n.files)
+file_keeps m b (Err r) h = tt
+
+pub made_files : (m : Machine) (n : Names) → FilesAlone m (file_made m n)
+unfolding file_made
+made_files m n = made_files_by m n (has_file n m.files) (nat_lt (length m.files) most_files)
+  where
+    made_files_by : (m : Machine) (n : Names) (there room : Bool) → FilesAlone m (file_made_if m n there room)
+    made_files_by m n true room = tt
+    made_files_by m n false true = refl
+    made_files_by m n false false = tt
+
+word_files_if : (m : Machine) (n : Names) (w : ℕ) (full : Bool) → FilesAlone m (word_added_if m n w full)
+word_files_if m n w true = tt
+word_files_if m n w false = refl
+
+word_files_to : (m : Machine) (n : Names) (w : ℕ) (o : Option File) → FilesAlone m (word_added_to m n w o)
+word_files_to m n w (Some f) = word_files_if m n w (is_full m.files (channels_of m) f.words)
+word_files_to m n w None = refl
+
+pub word_files : (m : Machine) (n : Names) (w : ℕ) → FilesAlone m (word_added m n w)
+unfolding word_added
+word_files m n w = word_files_to m n w (file_named n m.files)
+
+then_files : (m n : Machine) (r : Result Machine Reason) → n ≡ with_files m n.files → FilesAlone n r → FilesAlone m r
+then_files m n (Ok k) h g = g ∙ ap (λ (x : Machine). with_files x k.files) h
+then_files m n (Err r) h g = tt
+
+added_next : (m : Machine) (names : Names) (ws : List ℕ) (r : Result Machine Reason) → FilesAlone m r → ((n : Machine) → FilesAlone n (words_added n names ws))
+    → FilesAlone m (and_then r (λ k. words_added k names ws))
+added_next m names ws (Ok n) h g = then_files m n (words_added n names ws) h (g n)
+added_next m names ws (Err r) h g = tt
+
+pub added_files : (m : Machine) (n : Names) (ws : List ℕ) → FilesAlone m (words_added m n ws)
+added_files m n [] = refl
+added_files m n (w ∷ ws) = added_next m n ws (word_added m n w) (word_files m n w) (λ k. added_files k n ws)
+
+shown_keeps : (m : Machine) (b : Block) (r : Result (List Line) Reason) → LineKeepsBy m (Done (shows m b r))
+shown_keeps m b (Ok out) = alike_keeps m m (alike_same m)
+shown_keeps m b (Err r) = tt
+
 pub line_keeps : (m : Machine) (b : Block) (e : Event) → LineKeepsBy m (lined m b e)
-unfolding lined operate operator.operate loaded clocked
-line_keeps m b (events.Load u j console) = load_keeps m u j console (least_free m.jobs) refl
+unfolding lined operate loaded clocked
+line_keeps m b (events.Load u j console) = load_keeps m b u j console (least_free m.jobs) refl
 line_keeps m b (events.Words a words) = disturbs_keeps m b.slot b (words_loaded m b.slot a words.items) (words_alike m b.slot a words.items)
 line_keeps m b (events.Go a) = disturbs_keeps m b.slot b (on_registers m b.slot (started a)) (registers_alike m b.slot (started a) (λ q. refl))
 line_keeps m b (events.Int s x y) = disturbs_keeps m s b (on_registers m s (interrupted x y)) (registers_alike m s (interrupted x y) (λ q. refl))
@@ -279,10 +331,10 @@ line_keeps m b (events.Peek s) = peek_keeps m s (m.jobs s)
 line_keeps m b (events.Tick s n) = tt
 line_keeps m b events.Nothing = alike_keeps m m (alike_same m)
 line_keeps m b events.End = tt
-line_keeps m b (events.File d x y) = tt
-line_keeps m b (events.Append words) = tt
-line_keeps m b events.EndFile = tt
+line_keeps m b (events.File d x y) = file_keeps m (record b { file = names_of d x y }) (file_made m (names_of d x y)) (made_files m (names_of d x y))
+line_keeps m b (events.Append words) = file_keeps m b (words_added m b.file words.items) (added_files m b.file words.items)
+line_keeps m b events.EndFile = alike_keeps m m (alike_same m)
 line_keeps m b (events.TypeIn c bytes) = typed_keeps m c bytes.items
 line_keeps m b (events.Drain c n) = drained_keeps m c n
-line_keeps m b (events.Dir d) = tt
-line_keeps m b (events.Show d x y) = tt
+line_keeps m b (events.Dir d) = alike_keeps m m (alike_same m)
+line_keeps m b (events.Show d x y) = shown_keeps m b (file_shown m d x y)

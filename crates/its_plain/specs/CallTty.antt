@@ -1,7 +1,7 @@
 -- OPEN, CLOSE, `.IOT`, SIOT, FINISH, LISTEN and TTYLND on consoles (docs/CALLS.md, "Consoles").
 use Rattle.std.specs.Prelude.{if◌then◌else◌, ◌==◌, ◌||◌, ◌&&◌, ℕ, ◌-◌, ◌/◌, ◌%◌, ◌^◌, Bool, true, false, not, Option, Some, None, List, [], ◌∷◌, ◌++◌, nat_lt, is_some, length, slice_get, slice_index_or, unwrap_or}
 use Rattle.its_word.specs.Word.{right_of}
-use Rattle.its_word.specs.Byte.{has_size, increment_of, load_of}
+use Rattle.its_word.specs.Byte.{size, has_size, increment_of, load_of}
 use Rattle.its_word.specs.Console.{most_waiting}
 use Rattle.its_word.specs.Core.{Core, word_at, can_store}
 use Rattle.its_word.specs.declared.access.Fault.TheVariants.{Mpv, Wro}
@@ -53,7 +53,7 @@ first_typed v c = unwrap_or (slice_get (v.consoles c).input 0) 0
 abbrev pub shown_byte : ℕ → ℕ
 shown_byte w = w % 2 ^ 7
 
--- OPEN channel, device: input, or output with control 1. Only consoles can be opened yet
+-- OPEN channel, device: input, or output with control 1
 abbrev pub tty_device : ℕ
 tty_device = 0o646471000000
 
@@ -128,13 +128,19 @@ is_indexed p = not (p / 2 ^ 18 % 2 ^ 5 == 0)
 abbrev pub next_pointer : ℕ → ℕ
 next_pointer p = unwrap_or (increment_of p) 0
 
-abbrev pub siot_tests : View → Ask → ℕ → ℕ → List Test
-siot_tests v a p k =
+-- a console moves bytes of any size; a file or a draft moves whole words, of 36 bits, and may be at its end
+abbrev pub word_bits : ℕ
+word_bits = 36
+
+abbrev pub siot_tests : View → Ask → ℕ → ℕ → Bool → Bool → List Test
+siot_tests v a p k words ended =
     (shared_place a (place_of_input a 1) || shared_place a (place_of_input a 2)) ⇒ fails v a 0o17
     ∷ (read_only v.own.core (place_of_input a 1) || read_only v.own.core (place_of_input a 2)) ⇒ faults v Wro
     ∷ (not (has_size p) || is_indexed p) ⇒ fails v a 0o21
+    ∷ (words && not (size p == word_bits)) ⇒ fails v a 0o21
     ∷ is_negative k ⇒ fails v a 0o22
     ∷ (k == 0) ⇒ finishes v [] []
+    ∷ ended ⇒ finishes v [] []
     ∷ in_footprint (right_of (next_pointer p)) a ⇒ fails v a 0o20
     ∷ []
 
@@ -148,13 +154,13 @@ siot_out v a next k c =
     first (read_tests v (right_of next) ++ (output_waits v c ⇒ Waits (Output c) ∷ []))
     (goes (changes.Put c (shown_byte (load_of next (word_of v (right_of next)))) ∷ []) None (next ∷ (k - 1) ∷ []))
 
-abbrev pub siot_by : View → Ask → ℕ → ℕ → Decision → Decision
-siot_by v a p k moves = first (siot_tests v a p k) moves
+abbrev pub siot_by : View → Ask → Bool → Bool → Decision → Decision
+siot_by v a words ended moves = first (siot_tests v a (input a 1) (input a 2) words ended) moves
 
 abbrev pub siot_on : View → Ask → Chan → Decision
 siot_on v a Shut = fails v a 0o4
-siot_on v a TtyIn = siot_by v a (input a 1) (input a 2) (siot_in v a (next_pointer (input a 1)) (input a 2) (console_of v))
-siot_on v a TtyOut = siot_by v a (input a 1) (input a 2) (siot_out v a (next_pointer (input a 1)) (input a 2) (console_of v))
+siot_on v a TtyIn = siot_by v a false false (siot_in v a (next_pointer (input a 1)) (input a 2) (console_of v))
+siot_on v a TtyOut = siot_by v a false false (siot_out v a (next_pointer (input a 1)) (input a 2) (console_of v))
 siot_on v a _ = fails v a 0o5
 
 unfoldable pub siot : View → Ask → Decision

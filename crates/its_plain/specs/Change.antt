@@ -1,7 +1,9 @@
 -- What a change that a call makes outside its caller's own words and registers does to the plain machine
 -- (docs/CALLS.md).
-use Rattle.std.specs.Prelude.{if◌then◌else◌, ◌==◌, ◌||◌, ◌&&◌, ℕ, Bool, true, false, not, Option, Some, None, List, [], ◌∷◌, ◌++◌, filter, map, option_map}
+use Rattle.std.specs.Prelude.{if◌then◌else◌, ◌==◌, ◌||◌, ℕ, Bool, true, false, Option, Some, None, List, [], ◌∷◌, ◌++◌, option_map, slice_index_or}
 use Rattle.its_word.specs.Core.{Page, no_core, zero_page, page_of, with_page, marked}
+pub use Rattle.its_word.specs.Directory.{same_names}
+use Rattle.its_word.specs.Directory.{without_names, with_changed, named}
 use Rattle.its_word.specs.Tree.{fresh_job, is_below}
 use Rattle.its_word.specs.declared.plan.Store.{Store}
 use Rattle.its_frame.specs.declared.change.Change.{Change}
@@ -18,21 +20,16 @@ abbrev pub in_job : Machine → ℕ → (Whole → Whole) → Machine
 in_job m s f = record m { jobs = on_slot m.jobs s f }
 
 -- the directory: files are told apart by their three names
-abbrev pub same_names : Names → Names → Bool
-same_names f g = (f.d == g.d) && ((f.x == g.x) && (f.y == g.y))
-
 unfoldable pub without_file : Names → List File → List File
-without_file n fs = filter (λ f. not (same_names n f.names)) fs
+without_file n fs = without_names n fs
 
 -- a draft becomes the last file, in place of one with its names
 abbrev pub filed : File → List File → List File
 filed f fs = without_file f.names fs ++ f ∷ []
 
-abbrev pub renamed_to : Names → ℕ → ℕ → File → File
-renamed_to n x y f = if same_names n f.names then record f { names = names_of f.names.d x y } else f
-
+-- a file gets other names in its directory, and keeps its place
 unfoldable pub renamed : Names → ℕ → ℕ → List File → List File
-renamed n x y fs = map (renamed_to n x y) fs
+renamed n x y fs = with_changed n (named (names_of (slice_index_or n 0 0) x y)) fs
 
 abbrev pub channel_in : Option Whole → ℕ → Chan
 channel_in (Some q) n = q.channels n

@@ -12,6 +12,7 @@ use Rattle.its_plain.specs.View.{View}
 use Rattle.its_plain.specs.Tests.{fails}
 use Rattle.its_plain.specs.CallBasic.{is_oneself, channel_at, hang, sleep, dismiss, usrvar, logout}
 use Rattle.its_plain.specs.CallTty.{opens, closes, iot, siot, finish, listen, ttylnd}
+use Rattle.its_plain.specs.CallFile.{open_call, close_call, iot_call, siot_call, access, fillen, delete, rename}
 
 -- the calls by their SIXBIT names
 unfoldable pub call_named : ℕ → Option CallName
@@ -46,19 +47,36 @@ basic_by v a (Some Usrvar) = usrvar v a
 basic_by v a (Some Logout) = logout v
 basic_by v a _ = fails v a 0o1
 
+-- the calls on consoles beside them
+abbrev pub tty_by : View → Ask → Option CallName → Decision
+tty_by v a (Some Open) = opens v a
+tty_by v a (Some Close) = closes v a
+tty_by v a (Some Iot) = iot v a
+tty_by v a (Some Siot) = siot v a
+tty_by v a (Some Finish) = finish v a
+tty_by v a (Some Listen) = listen v a
+tty_by v a (Some Ttylnd) = ttylnd v a
+tty_by v a o = basic_by v a o
+
+-- and those on files
 abbrev pub decided_by : View → Ask → Option CallName → Decision
-decided_by v a (Some Open) = opens v a
-decided_by v a (Some Close) = closes v a
-decided_by v a (Some Iot) = iot v a
-decided_by v a (Some Siot) = siot v a
-decided_by v a (Some Finish) = finish v a
-decided_by v a (Some Listen) = listen v a
-decided_by v a (Some Ttylnd) = ttylnd v a
-decided_by v a o = basic_by v a o
+decided_by v a (Some Open) = open_call v a
+decided_by v a (Some Close) = close_call v a
+decided_by v a (Some Iot) = iot_call v a
+decided_by v a (Some Siot) = siot_call v a
+decided_by v a (Some Access) = access v a
+decided_by v a (Some Fillen) = fillen v a
+decided_by v a (Some Delete) = delete v a
+decided_by v a (Some Rename) = rename v a
+decided_by v a o = tty_by v a o
 
 -- that of the calls on jobs and times alone
 unfoldable pub decided_basic : View → Ask → Decision
 decided_basic v a = if a.fail == 0 then basic_by v a (call_named a.name) else fails v a a.fail
+
+-- and that of the calls on consoles
+unfoldable pub decided_tty : View → Ask → Decision
+decided_tty v a = if a.fail == 0 then tty_by v a (call_named a.name) else fails v a a.fail
 
 -- an error of the decoding comes first
 unfoldable pub decided : View → Ask → Decision

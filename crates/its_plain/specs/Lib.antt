@@ -20,9 +20,11 @@ pub mod Tests
 pub mod CallBasic
 pub mod Decide
 pub mod CallTty
+pub mod CallFile
 pub mod CallStep
 pub mod Operator
 pub mod Transcript
+pub mod FileOperator
 pub mod CallOperator
 pub mod CallTranscript
 pub mod OneByte

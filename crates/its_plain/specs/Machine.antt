@@ -4,17 +4,11 @@ use Rattle.std.specs.Prelude.{if◌then◌else◌, ◌==◌, ℕ, zero, suc, ◌
 use Rattle.its_word.specs.Core.{Core, no_core, word_at, pages_mapped}
 use Rattle.its_word.specs.declared.jobs.Job.{Job}
 pub use Rattle.its_word.specs.Console.{Console}
+-- the names of a file: its directory, name 1 and name 2, in this order. A file or a draft has its names and its words
+pub use Rattle.its_word.specs.Directory.{File}
 
--- the names of a file: its directory, name 1 and name 2
-pub record Names : Type 0 where
-  pub d : ℕ
-  pub x : ℕ
-  pub y : ℕ
-
--- a file or a draft: its names and its words
-pub record File : Type 0 where
-  pub names : Names
-  pub words : List ℕ
+abbrev pub Names : Type 0
+Names = List ℕ
 
 -- what a channel is on. One that reads has the names of its file and a position; one that writes has the draft
 -- itself; one on an inferior has its slot, whether it may be written, and a position

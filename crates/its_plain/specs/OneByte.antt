@@ -1,5 +1,5 @@
 -- Each byte once: what one step of a transfer does (docs/CALLS.md, "Each byte once").
-use Rattle.std.specs.Prelude.{◌≡◌, ℕ, ◌-◌, false, Option, Some, None, IfSome, List, [], ◌∷◌, unwrap_or}
+use Rattle.std.specs.Prelude.{◌≡◌, ◌≢◌, ℕ, ◌+◌, ◌-◌, false, Option, Some, None, IfSome, List, [], ◌∷◌, slice_get, unwrap_or}
 use Rattle.its_word.specs.Word.{right_of}
 use Rattle.its_word.specs.Byte.{load_of, deposit_of}
 use Rattle.its_word.specs.Core.{word_at}
@@ -12,43 +12,66 @@ use Rattle.its_frame.specs.declared.decision.Decision.TheVariants.{Waits, Goes, 
 use Rattle.its_frame.specs.declared.decision.Held.{Held}
 use Rattle.its_frame.specs.declared.name.CallName.TheVariants.{Siot}
 use Rattle.its_plain.specs.Interrupt.{deliverable}
-use Rattle.its_plain.specs.Machine.{Whole, Machine}
+use Rattle.its_plain.specs.Machine.{Chan, TtyIn, TtyOut, Reads, Writes, Whole, Machine}
+use Rattle.its_plain.specs.Change.{in_job, effects}
 use Rattle.its_plain.specs.Arguments.{input, revalued}
 use Rattle.its_plain.specs.Footprint.{Stands}
 use Rattle.its_plain.specs.View.{View, view}
-use Rattle.its_plain.specs.CallTty.{first_typed, shown_byte, word_of, next_pointer}
+use Rattle.its_plain.specs.CallBasic.{channel_at}
+use Rattle.its_plain.specs.CallTty.{console_of, shown_byte, word_of, next_pointer}
+use Rattle.its_plain.specs.CallFile.{words_of}
 use Rattle.its_plain.specs.Decide.{call_named, target}
-use Rattle.its_plain.specs.CallStep.{decision}
+use Rattle.its_plain.specs.CallStep.{moved, decision}
 
--- the byte that is moved: from a console the first that waits, for the word that the pointer names; to a console the
--- low 7 bits of the byte at the pointer. A transfer moves nothing in any other way
-abbrev pub Bears : View → ℕ → List Change → Option Held → Type 0
-Bears v pointer (changes.Take c ∷ []) (Some h) = (h.place ≡ right_of pointer) × (h.byte ≡ first_typed v c)
-Bears v pointer (changes.Put c b ∷ []) None = b ≡ shown_byte (load_of pointer (word_of v (right_of pointer)))
-Bears v pointer _ h = ⊥
+-- a byte or word that comes in: there is one, and it is for the word that the pointer names
+abbrev pub ComesIn : ℕ → Option ℕ → Option Held → Type 0
+ComesIn pointer (Some b) h = h ≡ Some (record { place = right_of pointer; byte = b })
+ComesIn pointer None h = ⊥
+
+-- the byte at a pointer, which goes out
+abbrev pub byte_at : View → ℕ → ℕ
+byte_at v pointer = load_of pointer (word_of v (right_of pointer))
+
+-- what is moved through channel n, by what that is on: from a console the first byte that waits, and from a file the word
+-- at the channel's position, which is then one more; to a console the low 7 bits of the byte at the pointer, and to a
+-- draft that byte. Nothing is moved through any other channel
+abbrev pub Bears : View → ℕ → ℕ → Chan → List Change → Option Held → Type 0
+Bears v pointer n TtyIn cs h = (cs ≡ changes.Take (console_of v) ∷ []) × ComesIn pointer (slice_get (v.consoles (console_of v)).input 0) h
+Bears v pointer n TtyOut cs h = (cs ≡ changes.Put (console_of v) (shown_byte (byte_at v pointer)) ∷ []) × (h ≡ None)
+Bears v pointer n (Reads names at) cs h = (cs ≡ changes.Move n (at + 1) ∷ []) × ComesIn pointer (slice_get (words_of v names) at) h
+Bears v pointer n (Writes f) cs h = (cs ≡ changes.Append n (byte_at v pointer) ∷ []) × (h ≡ None)
+Bears v pointer n _ cs h = ⊥
 
 -- the rest of a transfer: its pointer is incremented, and its count is one less
+abbrev pub new_arguments : Ask → List ℕ
+new_arguments a = next_pointer (input a 1) ∷ (input a 2 - 1) ∷ []
+
 abbrev pub rest_of_transfer : Ask → Ask
-rest_of_transfer a = revalued a (next_pointer (input a 1) ∷ (input a 2 - 1) ∷ [])
+rest_of_transfer a = revalued a (new_arguments a)
 
 -- one byte of the SIOT of job q in slot j, at this site and with these arguments, after which the machine is n: the byte
 -- is moved at the pointer incremented; one that comes in stands there afterwards; and the job, whose registers are as
--- they were, stands at the same call on the rest
+-- they were, stands at the same call on the rest. Machine n differs by the change that moves the byte, and by the words of
+-- byte, pointer and count, and by nothing else
 pub record OneByte (m : Machine) (j : ℕ) (q : Whole) (s : Site) (a : Ask) (cs : List Change) (h : Option Held) (n : Machine) : Type 0 where
   pub after : Whole
   pub there : n.jobs j ≡ Some after
-  pub borne : Bears (view m j q (target q a)) (next_pointer (input a 1)) cs h
+  pub borne : Bears (view m j q (target q a)) (next_pointer (input a 1)) (input a 0) (channel_at q.channels (input a 0)) cs h
   pub deposited : IfSome h (λ b. word_at after.core b.place ≡ Some (deposit_of (next_pointer (input a 1)) (unwrap_or (word_at q.core b.place) 0) b.byte))
   pub registers : after.job ≡ q.job
+  pub counted : input a 2 ≢ 0
   pub stands : Stands after.core after.job s (rest_of_transfer a)
+  pub others : n ≡ in_job (effects cs j m) j (moved a h (new_arguments a))
 
+-- a step moves one byte, or it ends the call and moves none: it makes no change. A SIOT that waits has no step, and none
+-- removes its job
 abbrev pub ByteBy : Machine → ℕ → Whole → Site → Ask → Decision → Machine → Type 0
 ByteBy m j q s a (Goes cs h vs) n = OneByte m j q s a cs.items h n
-ByteBy m j q s a (Waits r) n = Unit {0}
-ByteBy m j q s a (Ends cs ss e) n = Unit {0}
-ByteBy m j q s a (Gone cs) n = Unit {0}
+ByteBy m j q s a (Waits r) n = ⊥
+ByteBy m j q s a (Ends cs ss e) n = cs.items ≡ []
+ByteBy m j q s a (Gone cs) n = ⊥
 
--- a step of the job of slot j takes machine m to n: where it is a part of a SIOT, it is one byte
+-- a step of the job of slot j takes machine m to n: where the job stands at a SIOT, it is one byte or the end
 pub record EachByte (m : Machine) (j : ℕ) (n : Machine) : Type 0 where
-  pub byte : (q : Whole) (s : Site) (a : Ask) → m.jobs j ≡ Some q → deliverable q.job ≡ false → Stands q.core q.job s a → call_named a.name ≡ Some Siot → a.fail ≡ 0
+  pub byte : (q : Whole) (s : Site) (a : Ask) → m.jobs j ≡ Some q → deliverable q.job ≡ false → Stands q.core q.job s a → call_named a.name ≡ Some Siot
       → ByteBy m j q s a (decision m j q a) n

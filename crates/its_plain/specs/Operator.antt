@@ -8,19 +8,20 @@ use Rattle.its_print.specs.Printing.{Line}
 use Rattle.its_print.specs.Printing as printed
 use Rattle.its_word.specs.declared.jobs.Job.{Job}
 use Rattle.its_word.specs.declared.show.JobShow.{JobShow}
-use Rattle.its_word.specs.declared.session.Event.{Event}
-use Rattle.its_word.specs.declared.session.Event.TheVariants.{Nothing, Load, Words, Go, File, Append, EndFile, Tick, TypeIn, Drain, Clock, Int, Exam, State, Deposit, Stop, Cont, Peek, Dir, Show, End}
 use Rattle.its_word.specs.declared.session.Reason.{Reason}
-use Rattle.its_word.specs.declared.session.Reason.TheVariants.{NoJob, NoPage, ReadOnly, Full, Unbuilt}
+use Rattle.its_word.specs.declared.session.Reason.TheVariants.{NoJob, NoPage, ReadOnly, Full}
 use Rattle.its_plain.specs.Job.{pc_word, FATAL}
-use Rattle.its_plain.specs.Machine.{Whole, Machine, whole, with_job, changed, mapped, words_at}
+use Rattle.its_plain.specs.Own.{names_of}
+use Rattle.its_plain.specs.Machine.{Names, Whole, Machine, whole, with_job, changed, mapped, words_at}
 
--- what a block of lines speaks of: the slot of the job that the last LOAD line made
+-- what a block of lines speaks of: the slot of the job that the last LOAD line made, and the names of the file that the
+-- last FILE line made
 pub record Block : Type 0 where
   pub slot : ℕ
+  pub file : Names
 
 abbrev pub no_block : Block
-no_block = record { slot = 0 }
+no_block = record { slot = 0; file = names_of 0 0 0 }
 
 -- what a line comes to
 pub data Operated : Type 0 where
@@ -170,9 +171,9 @@ abbrev pub quietly : Block → Result Machine Reason → Operated
 quietly b (Ok m) = Does m [] nobody b
 quietly b (Err r) = Refuses r
 
-abbrev pub by_load : Result (Machine × ℕ) Reason → Operated
-by_load (Ok (m, s)) = Does m (printed.Loaded s ∷ []) (only s) (record { slot = s })
-by_load (Err r) = Refuses r
+abbrev pub by_load : Block → Result (Machine × ℕ) Reason → Operated
+by_load b (Ok (m, s)) = Does m (printed.Loaded s ∷ []) (only s) (record b { slot = s })
+by_load b (Err r) = Refuses r
 
 abbrev pub by_exam : Machine → Block → ℕ → ℕ → Result (List ℕ) Reason → Operated
 by_exam m b s a (Ok ws) = Does m (printed.Words s a ws ∷ []) (only s) b
@@ -181,27 +182,3 @@ by_exam m b s a (Err r) = Refuses r
 abbrev pub by_state : Machine → Block → ℕ → Result JobShow Reason → Operated
 by_state m b s (Ok show) = Does m (printed.State s show ∷ []) (only s) b
 by_state m b s (Err r) = Refuses r
-
--- what each line comes to; the lines of consoles, files and the clock, and PEEK, are not built
-unfoldable pub operate : Machine → Block → Event → Operated
-operate m b Nothing = Does m [] nobody b
-operate m b (Load u j console) = by_load (loaded m u j console)
-operate m b (Words a words) = quietly b (words_loaded m b.slot a words.items)
-operate m b (Go a) = quietly b (on_registers m b.slot (started a))
-operate m b (Tick s n) = Ticks s n
-operate m b (Int s v w) = disturbs s b (on_registers m s (interrupted v w))
-operate m b (Exam s a n) = by_exam m b s a (examined m s a n)
-operate m b (State s) = by_state m b s (state_shown m s)
-operate m b (Deposit s a w) = disturbs s b (deposited m s a w)
-operate m b (Stop s) = disturbs s b (on_registers m s stopped)
-operate m b (Cont s) = disturbs s b (on_registers m s continued)
-operate m b End = Ends
-operate m b (File d x y) = Refuses Unbuilt
-operate m b (Append words) = Refuses Unbuilt
-operate m b EndFile = Refuses Unbuilt
-operate m b (TypeIn c bytes) = Refuses Unbuilt
-operate m b (Drain c n) = Refuses Unbuilt
-operate m b (Clock n) = Refuses Unbuilt
-operate m b (Peek s) = Refuses Unbuilt
-operate m b (Dir d) = Refuses Unbuilt
-operate m b (Show d x y) = Refuses Unbuilt

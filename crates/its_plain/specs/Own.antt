@@ -57,7 +57,7 @@ advanced n j = record j { pc = (j.pc + n) % 2 ^ 18; flags = without j.flags BYTE
 
 -- channels
 abbrev pub names_of : ℕ → ℕ → ℕ → Names
-names_of d x y = record { d = d; x = x; y = y }
+names_of d x y = d ∷ x ∷ y ∷ []
 
 -- what a channel is on as it is opened
 abbrev pub opened_on : Opened → Chan

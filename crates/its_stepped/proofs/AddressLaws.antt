@@ -23,10 +23,10 @@ use Rattle.its_frame.specs.declared.variable.Variable.TheVariants.{Uname, Jname,
 use Rattle.its_plain.specs.Arguments.{input, has_input, place_of_input, revalued}
 use Rattle.its_plain.specs.Ask.{ask}
 use Rattle.its_plain.specs.CallBasic.{negated, sleep_tests, sleep, dismissed_by, dismiss_at, dismiss, Party, Oneself, Nobody, Channel, variable_named, by_oneself, by_superior, set_own, own_variable, set_other, value_of_other, other_variable, usrvar_of, channel_at, party, usrvar}
-use Rattle.its_plain.specs.CallTty.{console_of, has_console, input_waits, output_waits, output_left, first_typed, shown_byte, opens_on, open_tests, opens, close_on, closes, store_tests, read_tests, word_of, iot_ends, iot_in, iot_out, iot_on, iot, next_pointer, siot_tests, siot_in, siot_out, siot_by, siot_on, siot, finish_on, finish, listens, listen_on, listen, can_take, is_holder, lands, ttylnd_of, ttylnd}
+use Rattle.its_plain.specs.CallTty.{console_of, has_console, input_waits, output_waits, output_left, first_typed, shown_byte, opens_on, open_tests, opens, close_on, closes, store_tests, read_tests, word_of, iot_ends, iot_in, iot_out, iot_on, iot, next_pointer, siot_in, siot_out, siot_by, siot_on, siot, finish_on, finish, listens, listen_on, listen, can_take, is_holder, lands, ttylnd_of, ttylnd}
 use Rattle.its_plain.specs.CallStep.{with_held, acted, decision, by_ask, by_unit, informs, delivery, by_delivery, unless_stopped, step_of, step}
 use Rattle.its_plain.specs.Change.{in_job, is_gone, left_job, removed, superiors, inferior, effect, effects}
-use Rattle.its_plain.specs.Decide.{call_named, decided_by, decided, target}
+use Rattle.its_plain.specs.Decide.{call_named, tty_by, decided_by, decided, target}
 use Rattle.its_plain.specs.Interrupt as interrupt
 use Rattle.its_plain.specs.Interrupt.{Delivered, deliverable, delivered, dismissed, dismissed_at, below}
 use Rattle.its_plain.specs.Machine.{Chan, Shut, TtyIn, TtyOut, Reads, Writes, On, Whole, Machine, changed, no_machine}
@@ -38,6 +38,7 @@ use Rattle.its_plain.proofs.DeliveryLaws.{delivered_placed}
 use Rattle.its_plain.proofs.UnitLaws.{unit_keeps}
 use Rattle.its_stepped.specs.Address.{Addressed}
 use Rattle.its_stepped.proofs.TestLaws.{by_test, first_holds}
+use Rattle.its_stepped.proofs.FileWays.{FileWays, siot_by_ways, file_ways}
 
 -- at the start of a session
 pub addressed_starts : Addressed no_machine
@@ -207,6 +208,17 @@ usrvar_leaves x a = go (party x (input a 0))
     go (Channel (Reads f at)) = advanced_addressed 1 x.own.job
     go (Channel (Writes f)) = advanced_addressed 1 x.own.job
 
+-- the calls on files
+ways_leave : (x : View) (a : Ask) → x.own.job.pc < 2 ^ 18 → FileWays LeavesAddress x a
+ways_leave x a h = record {
+  failing = λ k. advanced_addressed 1 x.own.job;
+  faulting = λ f. h;
+  stuck = advanced_addressed 1 x.own.job;
+  ending = λ cs ss t. advanced_addressed 2 x.own.job;
+  moved = λ cs ss t. advanced_addressed 1 x.own.job;
+  going = λ cs o vs t. tt;
+}
+
 -- the calls on consoles
 opens_leaves : (x : View) (a : Ask) → LeavesAddress (opens x a)
 unfolding opens
@@ -265,11 +277,6 @@ siot_out_leaves x a next k i h =
     (goes (changes.Put i (shown_byte (load_of next (word_of x (right_of next)))) ∷ []) None (next ∷ (k - 1) ∷ []))
     (λ t. h, (λ t. tt, tt)) (λ t. tt)
 
-siot_by_leaves : (x : View) (a : Ask) (p k : ℕ) (d : Decision) → x.own.job.pc < 2 ^ 18 → LeavesAddress d → LeavesAddress (siot_by x a p k d)
-siot_by_leaves x a p k d h l =
-    let one = advanced_addressed 1 x.own.job in
-    first_holds LeavesAddress (siot_tests x a p k) d (λ t. one, (λ t. h, (λ t. one, (λ t. one, (λ t. advanced_addressed 2 x.own.job, (λ t. one, tt)))))) (λ t. l)
-
 siot_leaves : (x : View) (a : Ask) → x.own.job.pc < 2 ^ 18 → LeavesAddress (siot x a)
 unfolding siot
 siot_leaves x a h = go (channel_at x.own.channels (input a 0))
@@ -280,9 +287,12 @@ siot_leaves x a h = go (channel_at x.own.channels (input a 0))
     k : ℕ
     k = input a 2
 
+    behind : (d : Decision) → LeavesAddress d → LeavesAddress (siot_by x a false false d)
+    behind d l = siot_by_ways LeavesAddress x a false false d (ways_leave x a h) l
+
     go : (c : Chan) → LeavesAddress (siot_on x a c)
-    go TtyIn = siot_by_leaves x a p k (siot_in x a (next_pointer p) k (console_of x)) h (siot_in_leaves x a (next_pointer p) k (console_of x) h)
-    go TtyOut = siot_by_leaves x a p k (siot_out x a (next_pointer p) k (console_of x)) h (siot_out_leaves x a (next_pointer p) k (console_of x) h)
+    go TtyIn = behind (siot_in x a (next_pointer p) k (console_of x)) (siot_in_leaves x a (next_pointer p) k (console_of x) h)
+    go TtyOut = behind (siot_out x a (next_pointer p) k (console_of x)) (siot_out_leaves x a (next_pointer p) k (console_of x) h)
     go Shut = advanced_addressed 1 x.own.job
     go (Reads f at) = advanced_addressed 1 x.own.job
     go (Writes f) = advanced_addressed 1 x.own.job
@@ -337,8 +347,8 @@ ttylnd_leaves x a = go (party x (input a 0))
     go (Channel (Reads f at)) = advanced_addressed 1 x.own.job
     go (Channel (Writes f)) = advanced_addressed 1 x.own.job
 
--- the calls by their names
-named_leaves : (x : View) (a : Ask) (o : Option CallName) → x.own.job.pc < 2 ^ 18 → LeavesAddress (decided_by x a o)
+-- the calls by their names, but for those on files
+named_leaves : (x : View) (a : Ask) (o : Option CallName) → x.own.job.pc < 2 ^ 18 → LeavesAddress (tty_by x a o)
 named_leaves x a (Some Hang) h = tt
 named_leaves x a (Some Sleep) h = sleep_leaves x a h
 named_leaves x a (Some Dismis) h = dismiss_leaves x a h
@@ -355,7 +365,10 @@ named_leaves x a _ h = advanced_addressed 1 x.own.job
 
 pub decided_leaves : (x : View) (a : Ask) → x.own.job.pc < 2 ^ 18 → LeavesAddress (decided x a)
 unfolding decided
-decided_leaves x a h = by_test LeavesAddress (a.fail == 0) (decided_by x a (call_named a.name)) (fails x a a.fail) (λ t. named_leaves x a (call_named a.name) h) (λ t. advanced_addressed 1 x.own.job)
+decided_leaves x a h =
+    let o = call_named a.name in
+    by_test LeavesAddress (a.fail == 0) (decided_by x a o) (fails x a a.fail) (λ t. file_ways LeavesAddress x a o (ways_leave x a h) (named_leaves x a o h))
+    (λ t. advanced_addressed 1 x.own.job)
 
 pub decision_leaves : (m : Machine) (j : ℕ) (q : Whole) (a : Ask) → q.job.pc < 2 ^ 18 → LeavesAddress (decision m j q a)
 unfolding decision view

@@ -1,7 +1,7 @@
 -- HANG, SLEEP and DISMIS do their duty.
-use Rattle.std.specs.Prelude.{◌≡◌, ◌≤◌, ℕ, ◌+◌, ◌-◌, ◌%◌, ◌^◌, Bool, true, false, not, Option, Some, None, List, [], ◌∷◌, ◌++◌, length, take, drop, Result, Ok, Err, refl}
+use Rattle.std.specs.Prelude.{◌≡◌, ◌≤◌, ℕ, ◌+◌, ◌-◌, ◌%◌, ◌^◌, Bool, true, false, Option, Some, None, List, [], ◌∷◌, ◌++◌, length, take, drop, Result, Ok, Err, refl}
 use Rattle.std.proofs.Common.{sym, ◌∙◌, ap, subst, inl, inr, arith}
-use Rattle.std.proofs.lemmas.Bool.{cases_eq}
+use Rattle.std.proofs.lemmas.Bool.{cases_eq, not-false}
 use Rattle.its_word.specs.Core.{Core, word_at, can_store, store}
 use Rattle.its_word.specs.declared.access.Fault.{Fault}
 use Rattle.its_word.specs.declared.access.Fault.TheVariants.{Wro}
@@ -99,16 +99,12 @@ slept_duty d m v j x s a n k p w c e one at alone can =
           (subst (λ (i : Ask). Stands (store x.own.core p w) x.own.job s i) (sym (one_valued a k p w one)) (d.slept x.own.core x.own.job s a p k w c.stands one alone can));
     }
 
-not_false : (b : Bool) → not b ≡ false → b ≡ true
-not_false true h = refl
-not_false false h = cc
-
 sleep_goes : (d : Decoding) (m : Machine) (v : State) (j : ℕ) (x : View) (s : Site) (a : Ask) (n w : ℕ) (o : Option ℕ) → Calling m v j x.own s a n → call_named a.name ≡ Some Sleep → a.fail ≡ 0
     → place_of_input a 0 ≡ o → shared_place a o ≡ false → read_only x.own.core o ≡ false → Going v j x.own s a n [] None (w ∷ [])
 sleep_goes d m v j x s a n w None c e z is alone can = absurd cc
 sleep_goes d m v j x s a n w (Some p) c e z is alone can =
     let one = c.fetched.sleeper p e z is in
-    slept_duty d m v j x s a n one.0 p w c e one.1 (c.fetched.input 0 p is) alone (not_false (can_store x.own.core p) can)
+    slept_duty d m v j x s a n one.0 p w c e one.1 (c.fetched.input 0 p is) alone (not-false (can_store x.own.core p) can)
 
 pub sleep_duty : (d : Decoding) (m : Machine) (v : State) (j : ℕ) (x : View) (s : Site) (a : Ask) (n : ℕ) → Calling m v j x.own s a n → call_named a.name ≡ Some Sleep → a.fail ≡ 0
     → Duty v j x.own s a n (sleep x a)

@@ -1,7 +1,7 @@
 -- A call that owes words decides the same on its raw job as on the job behind the stores of these words. SLEEP asks
 -- of its core only whether its word can be stored, which stores do not change; so does SIOT, but for its byte's word,
 -- which is outside the footprint where it asks for it; the other calls that are built owe nothing.
-use Rattle.std.specs.Prelude.{◌≡◌, ◌≤◌, ℕ, true, not, Option, Some, None, List, [], ◌∷◌, refl}
+use Rattle.std.specs.Prelude.{◌≡◌, ◌≤◌, ℕ, Bool, true, false, not, Option, Some, None, List, [], ◌∷◌, slice_get, is_some, unwrap_or, refl}
 use Rattle.std.proofs.Common.{sym, ◌∙◌, ap, inl, inr, arith}
 use Rattle.std.proofs.lemmas.Bool.{cases_Bool}
 use Rattle.its_word.specs.Core.{Core, word_at, can_store, store}
@@ -18,8 +18,9 @@ use Rattle.its_plain.specs.Arguments.{input, in_footprint, debts}
 use Rattle.its_plain.specs.CallBasic.{channel_at, read_only, sleep}
 use Rattle.its_plain.specs.CallStep.{decision}
 use Rattle.its_plain.specs.CallTty.{console_of, next_pointer, siot_in, siot_out, siot_by, siot_on, siot}
+use Rattle.its_plain.specs.CallFile.{words_of, siot_read, siot_write, siot_to, siot_call}
 use Rattle.its_plain.specs.Decide.{call_named, decided_by, decided, target}
-use Rattle.its_plain.specs.Machine.{Chan, Shut, TtyIn, TtyOut, Reads, Writes, On, Whole, Machine}
+use Rattle.its_plain.specs.Machine.{File, Chan, Shut, TtyIn, TtyOut, Reads, Writes, On, Whole, Machine}
 use Rattle.its_plain.specs.Own.{with_stores}
 use Rattle.its_word.specs.Stores.{place, stored}
 use Rattle.its_plain.specs.View.{View, view}
@@ -61,32 +62,43 @@ siot_out_stored : (m : Machine) (j : ℕ) (q : Whole) (t : Option ℕ) (a : Ask)
 unfolding view
 siot_out_stored m j q t a ss w k i e = simp e
 
-tests_stored : (m : Machine) (j : ℕ) (q : Whole) (t : Option ℕ) (a : Ask) (ss : List Store) (p k : ℕ) (d : Decision)
-    → siot_by (view m j (with_stores ss q) t) a p k d ≡ siot_by (view m j q t) a p k d
+siot_read_stored : (m : Machine) (j : ℕ) (q : Whole) (t : Option ℕ) (ss : List Store) (w k i at y : ℕ) → word_at (stored q.core ss) (right_of w) ≡ word_at q.core (right_of w)
+    → siot_read (view m j (with_stores ss q) t) w k i at y ≡ siot_read (view m j q t) w k i at y
 unfolding view
-tests_stored m j q t a ss p k d = simp read_only_stored
+siot_read_stored m j q t ss w k i at y e = simp (e, can_stored)
 
-within_footprint : (x : View) (a : Ask) (p k : ℕ) (d e : Decision) → in_footprint (right_of (next_pointer p)) a ≡ true → siot_by x a p k d ≡ siot_by x a p k e
-within_footprint x a p k d e h = rw h refl
+siot_write_stored : (m : Machine) (j : ℕ) (q : Whole) (t : Option ℕ) (a : Ask) (ss : List Store) (w k i : ℕ) (f : File) → word_at (stored q.core ss) (right_of w) ≡ word_at q.core (right_of w)
+    → siot_write (view m j (with_stores ss q) t) a w k i f ≡ siot_write (view m j q t) a w k i f
+unfolding view
+siot_write_stored m j q t a ss w k i f e = simp e
 
-siot_by_stored : (m : Machine) (j : ℕ) (q : Whole) (t : Option ℕ) (a : Ask) (n p k : ℕ) (c : Core) (d e : Decision) → Fetched c a
-    → (word_at (stored q.core (debts a n)) (right_of (next_pointer p)) ≡ word_at q.core (right_of (next_pointer p)) → d ≡ e)
-    → siot_by (view m j (with_stores (debts a n) q) t) a p k d ≡ siot_by (view m j q t) a p k e
-siot_by_stored m j q t a n p k c d e f same =
-    let b = right_of (next_pointer p) in
+-- the tests of its arguments, whatever the device
+tests_stored : (m : Machine) (j : ℕ) (q : Whole) (t : Option ℕ) (a : Ask) (ss : List Store) (words ended : Bool) (d : Decision)
+    → siot_by (view m j (with_stores ss q) t) a words ended d ≡ siot_by (view m j q t) a words ended d
+unfolding view
+tests_stored m j q t a ss words ended d = simp read_only_stored
+
+within_footprint : (x : View) (a : Ask) (words ended : Bool) (d e : Decision) → in_footprint (right_of (next_pointer (input a 1))) a ≡ true → siot_by x a words ended d ≡ siot_by x a words ended e
+within_footprint x a words ended d e h = rw h refl
+
+siot_by_stored : (m : Machine) (j : ℕ) (q : Whole) (t : Option ℕ) (a : Ask) (n : ℕ) (words ended : Bool) (c : Core) (d e : Decision) → Fetched c a
+    → (word_at (stored q.core (debts a n)) (right_of (next_pointer (input a 1))) ≡ word_at q.core (right_of (next_pointer (input a 1))) → d ≡ e)
+    → siot_by (view m j (with_stores (debts a n) q) t) a words ended d ≡ siot_by (view m j q t) a words ended e
+siot_by_stored m j q t a n words ended c d e f same =
+    let b = right_of (next_pointer (input a 1)) in
     elim (cases_Bool (in_footprint b a)) [
-      | inl h ↦ tests_stored m j q t a (debts a n) p k d ∙ within_footprint (view m j q t) a p k d e h
-      | inr h ↦ tests_stored m j q t a (debts a n) p k d ∙ ap (siot_by (view m j q t) a p k) (same (word_stored q.core (debts a n) b (debts_apart c a n b f h)))
+      | inl h ↦ tests_stored m j q t a (debts a n) words ended d ∙ within_footprint (view m j q t) a words ended d e h
+      | inr h ↦ tests_stored m j q t a (debts a n) words ended d ∙ ap (siot_by (view m j q t) a words ended) (same (word_stored q.core (debts a n) b (debts_apart c a n b f h)))
     ]
 
 siot_on_stored : (m : Machine) (j : ℕ) (q : Whole) (t : Option ℕ) (a : Ask) (n : ℕ) (c : Core) (h : Chan) → Fetched c a
     → siot_on (view m j (with_stores (debts a n) q) t) a h ≡ siot_on (view m j q t) a h
 unfolding view
 siot_on_stored m j q t a n c TtyIn f =
-    siot_by_stored m j q t a n (input a 1) (input a 2) c _ _ f
+    siot_by_stored m j q t a n false false c _ _ f
     (λ e. siot_in_stored m j q t a (debts a n) (next_pointer (input a 1)) (input a 2) (console_of (view m j q t)) e)
 siot_on_stored m j q t a n c TtyOut f =
-    siot_by_stored m j q t a n (input a 1) (input a 2) c _ _ f
+    siot_by_stored m j q t a n false false c _ _ f
     (λ e. siot_out_stored m j q t a (debts a n) (next_pointer (input a 1)) (input a 2) (console_of (view m j q t)) e)
 siot_on_stored m j q t a n c Shut f = refl
 siot_on_stored m j q t a n c (Reads r at) f = refl
@@ -96,6 +108,24 @@ siot_on_stored m j q t a n c (On k write at) f = refl
 siot_stored : (m : Machine) (j : ℕ) (q : Whole) (t : Option ℕ) (a : Ask) (n : ℕ) (c : Core) → Fetched c a → siot (view m j (with_stores (debts a n) q) t) a ≡ siot (view m j q t) a
 unfolding siot view
 siot_stored m j q t a n c f = siot_on_stored m j q t a n c (channel_at q.channels (input a 0)) f
+
+siot_to_stored : (m : Machine) (j : ℕ) (q : Whole) (t : Option ℕ) (a : Ask) (n i : ℕ) (c : Core) (h : Chan) → Fetched c a
+    → siot_to (view m j (with_stores (debts a n) q) t) a i h ≡ siot_to (view m j q t) a i h
+unfolding view
+siot_to_stored m j q t a n i c (Reads r at) f =
+    let o = slice_get (words_of (view m j q t) r) at in
+    siot_by_stored m j q t a n true (not (is_some o)) c _ _ f (λ e. siot_read_stored m j q t (debts a n) (next_pointer (input a 1)) (input a 2) i at (unwrap_or o 0) e)
+siot_to_stored m j q t a n i c (Writes r) f =
+    siot_by_stored m j q t a n true false c _ _ f (λ e. siot_write_stored m j q t a (debts a n) (next_pointer (input a 1)) (input a 2) i r e)
+siot_to_stored m j q t a n i c Shut f = siot_stored m j q t a n c f
+siot_to_stored m j q t a n i c TtyIn f = siot_stored m j q t a n c f
+siot_to_stored m j q t a n i c TtyOut f = siot_stored m j q t a n c f
+siot_to_stored m j q t a n i c (On k write at) f = siot_stored m j q t a n c f
+
+siot_call_stored : (m : Machine) (j : ℕ) (q : Whole) (t : Option ℕ) (a : Ask) (n : ℕ) (c : Core) → Fetched c a
+    → siot_call (view m j (with_stores (debts a n) q) t) a ≡ siot_call (view m j q t) a
+unfolding siot_call view
+siot_call_stored m j q t a n c f = siot_to_stored m j q t a n (input a 0) c (channel_at q.channels (input a 0)) f
 
 -- a call that owes nothing
 no_stores : (a : Ask) (n : ℕ) (q : Whole) → n ≤ 0 → with_stores (debts a n) q ≡ q
@@ -110,7 +140,7 @@ by_name : (m : Machine) (j : ℕ) (q : Whole) (t : Option ℕ) (a : Ask) (n : �
     → decided_by (view m j (with_stores (debts a n) q) t) a c ≡ decided_by (view m j q t) a c
 unfolding view
 by_name m j q t a n i (Some Sleep) f h = sleep_stored m j q t a (debts a n)
-by_name m j q t a n i (Some Siot) f h = siot_stored m j q t a n i f
+by_name m j q t a n i (Some Siot) f h = siot_call_stored m j q t a n i f
 by_name m j q t a n i (Some Hang) f h = owes_none m j q t a n (Some Hang) h
 by_name m j q t a n i (Some Dismis) f h = owes_none m j q t a n (Some Dismis) h
 by_name m j q t a n i (Some Usrvar) f h = owes_none m j q t a n (Some Usrvar) h

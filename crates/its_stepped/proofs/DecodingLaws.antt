@@ -4,9 +4,7 @@ use Rattle.std.specs.List.{All}
 use Rattle.std.proofs.Common.{cond, arith, sym, ap, ◌∙◌, subst, inl, inr}
 use Rattle.std.proofs.lemmas.Bool.{cases_Bool, eq-eqb}
 use Rattle.std.proofs.lemmas.Bool.Decides.{nat_tests}
-use Rattle.its_word.specs.Core.{Core, can_store, store, word_at}
-use Rattle.its_word.specs.Limits.{budget}
-use Rattle.its_word.specs.Stores.{place}
+use Rattle.its_word.specs.Core.{Core, can_store, word_at}
 use Rattle.its_word.specs.declared.access.Fault.{Fault}
 use Rattle.its_word.specs.declared.calls.Ask.{Ask}
 use Rattle.its_word.specs.declared.calls.Operand.{Operand}
@@ -15,7 +13,6 @@ use Rattle.its_word.specs.declared.instruction.Instruction.{Instruction}
 use Rattle.its_word.specs.declared.instruction.Instruction.TheVariants as instructions
 use Rattle.its_word.specs.declared.jobs.Job.{Job}
 use Rattle.its_word.specs.declared.names.CallRow.{CallRow}
-use Rattle.its_word.specs.declared.names.TheConstants.{IOT}
 use Rattle.its_word.specs.declared.plan.Context.{Context}
 use Rattle.its_word.specs.declared.plan.Reached.{Reached}
 use Rattle.its_frame.specs.declared.name.CallName.{CallName}
@@ -23,17 +20,17 @@ use Rattle.its_frame.specs.declared.name.CallName.TheVariants.{Hang, Sleep, Dism
 use Rattle.its_plain.specs.Arguments.{place_in, place_of_input}
 use Rattle.its_plain.specs.Decide.{call_named}
 use Rattle.its_plain.specs.Decode.{ask, iot_ask, row_named}
-use Rattle.its_plain.specs.Footprint.{among, times, in_footprint, is_shared, variable, with_inputs, Stands}
+use Rattle.its_plain.specs.Footprint.{among, times, in_footprint, variable, Stands}
 use Rattle.its_plain.specs.Tests.{number_at, out}
 use Rattle.its_plain.specs.Unit.{Called, done_by, outcome_at, reached, row_of, site_of, unit}
-use Rattle.its_local.proofs.AskFacts.{Storable, HasWord, AskFits, ask_fits, Counts, ask_counts}
+use Rattle.its_local.proofs.AskFacts.{Storable, HasWord, AskFits, ask_fits, ask_counts}
 use Rattle.its_local.proofs.AskLaws.{iot_of}
 use Rattle.its_local.proofs.FitsLaws.{reached_ends, site_used}
 use Rattle.its_local.proofs.SiteLaws.{never_planned}
-use Rattle.its_local.proofs.StandLaws.{inputs_at, inputs_at_none, inputs_at_cons, inputs_few, is_at, stands_outside, times_cons, times_none}
+use Rattle.its_local.proofs.StandLaws.{inputs_at, inputs_at_cons, inputs_few, is_at, stands_outside, times_cons, times_none}
 use Rattle.its_local.proofs.TransferLaws.{among_inputs, counted_stands, first_at, more_at, once_from, outside_from, sleep_stands}
 use Rattle.its_stepped.specs.Sound.{Stored}
-use Rattle.its_stepped.specs.Calling.{Transfer, Fetched, Decoding}
+use Rattle.its_stepped.specs.Calling.{Transfer, Decoding}
 
 -- an address allows a store
 stored_at : (c : Core) (p w : ℕ) → Storable c p → Stored c (record { at = p; word = w } ∷ [])

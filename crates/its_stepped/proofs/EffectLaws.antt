@@ -1,9 +1,9 @@
 -- The changes of calls on the stepped machine: under the plain view they are those of the plain machine.
-use Rattle.std.specs.Prelude.{if◌then◌else◌, ◌||◌, ◌≡◌, ◌≢◌, ℕ, Bool, true, false, not, Option, Some, None, List, [], ◌∷◌, ◌++◌, option_map, refl}
-use Rattle.std.specs.List.{list_any}
+use Rattle.std.specs.Prelude.{if◌then◌else◌, ◌≡◌, ◌≢◌, ℕ, cond, Bool, true, false, Option, Some, None, List, [], ◌∷◌, ◌++◌, option_map, is_some, refl}
 use Rattle.std.proofs.Common.{sym, ◌∙◌, ap, subst, inl, inr}
 use Rattle.std.proofs.lemmas.Bool.{cases_eq}
 use Rattle.its_word.specs.Core.{no_core, zero_page}
+use Rattle.its_word.specs.Directory.{kept_file, changed_if, with_changed}
 use Rattle.its_word.specs.Tree.{fresh_job}
 use Rattle.its_word.specs.declared.calls.Exit.{Exit}
 use Rattle.its_word.specs.declared.calls.Owed.{Owed}
@@ -19,7 +19,8 @@ use Rattle.its_plain.specs.Change.{on_slot, in_job, same_names, without_file, fi
 use Rattle.its_plain.specs.Arguments.{input, debts}
 use Rattle.its_plain.specs.CallStep.{deposited}
 use Rattle.its_plain.proofs.MachineLaws.{machine_is, jobs_are}
-use Rattle.its_stepped.specs.State.{State, helped, has_file, parts_of, parts_made, marked, held_at, owed_made, seen, seen_jobs, plain}
+use Rattle.its_plain.specs.CallFile.{file_named, has_file}
+use Rattle.its_stepped.specs.State.{State, helped, parts_of, parts_made, marked, held_at, owed_made, seen, seen_jobs, plain}
 use Rattle.its_stepped.specs.Commit.{effect_on, effects_on}
 use Rattle.its_stepped.specs.Sound.{Standing, SoundFrame, SoundSlot}
 use Rattle.its_stepped.specs.Quiet.{IsStill, Reached, Quiet, AllQuiet}
@@ -83,23 +84,36 @@ reached_plain : (w : State) (j s : ℕ) (h : Whole → Whole) → Reached w j s 
 reached_plain w j s h r = in_job_plain w s h (λ q. still_moves h (w.frames s) q r.still)
 
 -- a marked close: its parts put the draft in place of the file with its names
-without_by : (b c : Bool) (g : File) (fs gs : List File) → (b || c) ≡ false → (c ≡ false → gs ≡ fs) → (if not b then g ∷ gs else gs) ≡ g ∷ fs
-without_by true c g fs gs h e = cc
-without_by false c g fs gs h e = ap (λ hs. g ∷ hs) (e h)
+-- no file has these names
+none_first : (n : Names) (g : File) (fs : List File) (same : Bool) → same_names n g.names ≡ same → is_some (cond same (Some g) (file_named n fs)) ≡ false
+    → (same ≡ false) × (has_file n fs ≡ false)
+none_first n g fs true e h = cc
+none_first n g fs false e h = (refl, h)
 
-pub without_none : (n : Names) (fs : List File) → list_any (λ g. same_names n g.names) fs ≡ false → without_file n fs ≡ fs
+pub without_none : (n : Names) (fs : List File) → has_file n fs ≡ false → without_file n fs ≡ fs
 unfolding without_file
 without_none n [] h = refl
 without_none n (g ∷ fs) h =
-    without_by (same_names n g.names) (list_any (λ x. same_names n x.names) fs) g fs (without_file n fs) h (without_none n fs)
+    let first = none_first n g fs (same_names n g.names) refl h in
+    ap (λ b. kept_file b g (without_file n fs)) first.0 ∙ ap (λ gs. g ∷ gs) (without_none n fs first.1)
 
-closed_parts : (f : File) (b : Bool) (fs : List File) → has_file f fs ≡ b → parts_made f (parts_of b) fs ≡ filed f fs
+changed_none : (n : Names) (h : File → File) (fs : List File) → has_file n fs ≡ false → with_changed n h fs ≡ fs
+changed_none n h [] none = refl
+changed_none n h (g ∷ fs) none =
+    let first = none_first n g fs (same_names n g.names) refl none in
+    ap (λ b. changed_if b g (h g) ∷ with_changed n h fs) first.0 ∙ ap (λ gs. g ∷ gs) (changed_none n h fs first.1)
+
+pub renamed_none : (n : Names) (u v : ℕ) (fs : List File) → has_file n fs ≡ false → renamed n u v fs ≡ fs
+unfolding renamed
+renamed_none n u v fs none = changed_none n _ fs none
+
+closed_parts : (f : File) (b : Bool) (fs : List File) → has_file f.names fs ≡ b → parts_made f (parts_of b) fs ≡ filed f fs
 closed_parts f true fs e = refl
 closed_parts f false fs e = ap (λ gs. gs ++ f ∷ []) (sym (without_none f.names fs e))
 
 pub closed_helps : (j : ℕ) (c : Chan) (fs : List File) → helped (marked j c fs) fs ≡ files_closed c fs
 unfolding helped
-closed_helps j (Writes f) fs = closed_parts f (has_file f fs) fs refl
+closed_helps j (Writes f) fs = closed_parts f (has_file f.names fs) fs refl
 closed_helps j Shut fs = refl
 closed_helps j TtyIn fs = refl
 closed_helps j TtyOut fs = refl
@@ -107,7 +121,7 @@ closed_helps j (Reads f at) fs = refl
 closed_helps j (On s write at) fs = refl
 
 -- what is read of a job through its frame
-channel_seen : (f : Option Frame) (o : Option Whole) (n : ℕ) → channel_in (option_map (seen f) o) n ≡ channel_in o n
+pub channel_seen : (f : Option Frame) (o : Option Whole) (n : ℕ) → channel_in (option_map (seen f) o) n ≡ channel_in o n
 channel_seen f None n = refl
 channel_seen f (Some q) n = ap (λ cs. cs n) (seen_channels f q)
 
@@ -176,7 +190,7 @@ remove_plain s j w =
     machine_is _ _ (λ k. left_seen (is_gone sup s) (is_gone sup s k) (w.frames k) (w.raw.jobs k)) (λ k. refl) (λ k. refl) refl refl in
     p ∙ ap (λ f. removed f s (plain w)) (sym (superiors_plain w))
 
-files_plain : (w : State) (g : List File → List File) → w.mark ≡ None
+pub files_plain : (w : State) (g : List File → List File) → w.mark ≡ None
     → plain (record w { raw = record w.raw { files = g w.raw.files } }) ≡ record (plain w) { files = g (plain w).files }
 unfolding plain helped
 files_plain w g e =

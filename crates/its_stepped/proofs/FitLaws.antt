@@ -1,11 +1,13 @@
 -- Every call that is built keeps jobs apart: it makes no job, and opens no channel on one.
-use Rattle.std.specs.Prelude.{if◌then◌else◌, ◌==◌, ◌&&◌, ◌≡◌, ℕ, ◌+◌, ◌-◌, Bool, true, false, not, Option, Some, None, [], ◌∷◌, ◌++◌, length, slice_index_or, unwrap_or, Result, Ok, Err}
+use Rattle.std.specs.Prelude.{if◌then◌else◌, ◌==◌, ◌&&◌, ◌≡◌, ℕ, ◌+◌, ◌-◌, Bool, true, false, not, Option, Some, None, List, [], ◌∷◌, ◌++◌, length, slice_index_or, unwrap_or, Result, Ok, Err}
 use Rattle.its_word.specs.Byte.{load_of}
 use Rattle.its_word.specs.Word.{right_of}
 use Rattle.its_word.specs.declared.access.Fault.{Fault}
 use Rattle.its_word.specs.declared.calls.Ask.{Ask}
 use Rattle.its_word.specs.declared.calls.Exit.{Exit}
+use Rattle.its_frame.specs.declared.change.Change.{Change}
 use Rattle.its_frame.specs.declared.change.Change.TheVariants as changes
+use Rattle.its_frame.specs.declared.change.Opened.{Opened}
 use Rattle.its_frame.specs.declared.change.Opened.TheVariants as opened
 use Rattle.its_frame.specs.declared.decision.Decision.{Decision}
 use Rattle.its_frame.specs.declared.decision.Decision.TheVariants.{Waits}
@@ -15,16 +17,17 @@ use Rattle.its_frame.specs.declared.name.CallName.TheVariants.{Hang, Sleep, Dism
 use Rattle.its_frame.specs.declared.variable.Variable.{Variable}
 use Rattle.its_plain.specs.Arguments.{input, has_input, place_of_input}
 use Rattle.its_plain.specs.CallBasic.{negated, sleep_tests, sleep, dismissed_by, dismiss_at, dismiss, Party, Oneself, Nobody, Channel, variable_named, by_oneself, by_superior, set_own, own_variable, set_other, value_of_other, other_variable, usrvar_of, party, usrvar, told_superior, channel_at}
-use Rattle.its_plain.specs.CallTty.{console_of, has_console, input_waits, output_waits, output_left, first_typed, shown_byte, opens_on, open_tests, opens, close_on, closes, store_tests, read_tests, word_of, iot_ends, iot_in, iot_out, iot_on, iot, next_pointer, siot_tests, siot_in, siot_out, siot_by, siot_on, siot, finish_on, finish, listens, listen_on, listen, can_take, is_holder, lands, ttylnd_of, ttylnd}
+use Rattle.its_plain.specs.CallTty.{console_of, has_console, input_waits, output_waits, output_left, first_typed, shown_byte, opens_on, open_tests, opens, close_on, closes, store_tests, read_tests, word_of, iot_ends, iot_in, iot_out, iot_on, iot, next_pointer, siot_in, siot_out, siot_by, siot_on, siot, finish_on, finish, listens, listen_on, listen, can_take, is_holder, lands, ttylnd_of, ttylnd}
 use Rattle.its_plain.specs.CallStep.{step, decision}
-use Rattle.its_plain.specs.Decide.{call_named, decided_by, decided, target}
+use Rattle.its_plain.specs.Decide.{call_named, tty_by, decided_by, decided, target}
 use Rattle.its_plain.specs.Interrupt.{dismissed}
 use Rattle.its_plain.specs.Machine.{Chan, Shut, TtyIn, TtyOut, Reads, Writes, On, Whole, Machine}
 use Rattle.its_plain.specs.Tests.{◌⇒◌, finishes, fails, goes, out}
 use Rattle.its_plain.specs.View.{View, view}
 use Rattle.its_stepped.specs.Calling.{Distinct}
 use Rattle.its_stepped.proofs.TestLaws.{by_test, first_holds}
-use Rattle.its_stepped.proofs.DistinctLaws.{OpensApart, AllFit, FitsAll, distinct_steps}
+use Rattle.its_stepped.proofs.FileWays.{OpensFile, OnFile, OnFiles, FileWays, siot_by_ways, file_ways}
+use Rattle.its_stepped.proofs.DistinctLaws.{OpensApart, Fits, AllFit, FitsAll, distinct_steps}
 
 sleep_fits : (x : View) (a : Ask) (j : ℕ) → FitsAll (sleep x a) j
 unfolding sleep
@@ -82,6 +85,33 @@ usrvar_fits x a j = go (party x (input a 0))
 told_fits : (o : Option ℕ) (j : ℕ) → AllFit (told_superior o) j
 told_fits (Some k) j = (tt, tt)
 told_fits None j = tt
+
+-- a call on files opens none
+opens_fit : (on : Opened) (j : ℕ) → OpensFile on → OpensApart on j
+opens_fit (opened.Reading d x y) j h = tt
+opens_fit (opened.Writing d x y) j h = tt
+opens_fit opened.TtyIn j h = tt
+opens_fit opened.TtyOut j h = tt
+opens_fit (opened.Usr s write) j h = absurd h
+
+file_fits : (c : Change) (j : ℕ) → OnFile c → Fits c j
+file_fits (changes.Open n on) j h = opens_fit on j h
+file_fits (changes.Make s u n) j h = absurd h
+file_fits _ j h = tt
+
+files_fit : (cs : List Change) (j : ℕ) → OnFiles cs → AllFit cs j
+files_fit [] j h = tt
+files_fit (c ∷ cs) j h = (file_fits c j h.0, files_fit cs j h.1)
+
+ways_fit : (x : View) (a : Ask) (j : ℕ) → FileWays (λ d. FitsAll d j) x a
+ways_fit x a j = record {
+  failing = λ k. tt;
+  faulting = λ f. tt;
+  stuck = tt;
+  ending = λ cs ss h. files_fit cs j h;
+  moved = λ cs ss h. files_fit cs j h;
+  going = λ cs o vs h. files_fit cs j h;
+}
 
 -- the calls on consoles
 opened_fits : (b : Bool) (j : ℕ) → OpensApart (if b then opened.TtyOut else opened.TtyIn) j
@@ -144,9 +174,6 @@ siot_out_fits x a next k i j =
     (goes (changes.Put i (shown_byte (load_of next (word_of x (right_of next)))) ∷ []) None (next ∷ (k - 1) ∷ []))
     (λ t. tt, (λ t. tt, tt)) (λ t. (tt, tt))
 
-siot_by_fits : (x : View) (a : Ask) (p k j : ℕ) (d : Decision) → FitsAll d j → FitsAll (siot_by x a p k d) j
-siot_by_fits x a p k j d h = first_holds (λ d. FitsAll d j) (siot_tests x a p k) d (λ t. tt, (λ t. tt, (λ t. tt, (λ t. tt, (λ t. tt, (λ t. tt, tt)))))) (λ t. h)
-
 siot_fits : (x : View) (a : Ask) (j : ℕ) → FitsAll (siot x a) j
 unfolding siot
 siot_fits x a j = go (channel_at x.own.channels (input a 0))
@@ -157,9 +184,12 @@ siot_fits x a j = go (channel_at x.own.channels (input a 0))
     k : ℕ
     k = input a 2
 
+    behind : (d : Decision) → FitsAll d j → FitsAll (siot_by x a false false d) j
+    behind d h = siot_by_ways (λ d. FitsAll d j) x a false false d (ways_fit x a j) h
+
     go : (c : Chan) → FitsAll (siot_on x a c) j
-    go TtyIn = siot_by_fits x a p k j (siot_in x a (next_pointer p) k (console_of x)) (siot_in_fits x a (next_pointer p) k (console_of x) j)
-    go TtyOut = siot_by_fits x a p k j (siot_out x a (next_pointer p) k (console_of x)) (siot_out_fits x a (next_pointer p) k (console_of x) j)
+    go TtyIn = behind (siot_in x a (next_pointer p) k (console_of x)) (siot_in_fits x a (next_pointer p) k (console_of x) j)
+    go TtyOut = behind (siot_out x a (next_pointer p) k (console_of x)) (siot_out_fits x a (next_pointer p) k (console_of x) j)
     go Shut = tt
     go (Reads f at) = tt
     go (Writes f) = tt
@@ -212,7 +242,8 @@ ttylnd_fits x a j = go (party x (input a 0))
     go (Channel (Reads f at)) = tt
     go (Channel (Writes f)) = tt
 
-named_fits : (x : View) (a : Ask) (j : ℕ) (o : Option CallName) → FitsAll (decided_by x a o) j
+-- the calls by their names, but for those on files
+named_fits : (x : View) (a : Ask) (j : ℕ) (o : Option CallName) → FitsAll (tty_by x a o) j
 named_fits x a j (Some Hang) = tt
 named_fits x a j (Some Sleep) = sleep_fits x a j
 named_fits x a j (Some Dismis) = dismiss_fits x a j
@@ -229,7 +260,9 @@ named_fits x a j _ = tt
 
 pub decided_fits : (x : View) (a : Ask) (j : ℕ) → FitsAll (decided x a) j
 unfolding decided
-decided_fits x a j = by_test (λ d. FitsAll d j) (a.fail == 0) (decided_by x a (call_named a.name)) (fails x a a.fail) (λ t. named_fits x a j (call_named a.name)) (λ t. tt)
+decided_fits x a j =
+    let o = call_named a.name in
+    by_test (λ d. FitsAll d j) (a.fail == 0) (decided_by x a o) (fails x a a.fail) (λ t. file_ways (λ d. FitsAll d j) x a o (ways_fit x a j) (named_fits x a j o)) (λ t. tt)
 
 pub decision_fits : (m : Machine) (j : ℕ) (q : Whole) (a : Ask) → FitsAll (decision m j q a) j
 unfolding decision

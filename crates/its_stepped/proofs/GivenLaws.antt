@@ -11,7 +11,7 @@ use Rattle.its_word.specs.declared.calls.Site.{Site}
 use Rattle.its_frame.specs.declared.frame.Frame.{Frame}
 use Rattle.its_frame.specs.declared.frame.Frame.TheVariants.{Entered, Parsed, Asked, Holding, Waiting, Moving, Ending}
 use Rattle.its_frame.specs.declared.name.CallName.{CallName}
-use Rattle.its_frame.specs.declared.name.CallName.TheVariants.{Hang, Sleep, Dismis, Usrvar, Logout, Open, Close, Iot, Siot, Finish, Listen, Ttylnd}
+use Rattle.its_frame.specs.declared.name.CallName.TheVariants.{Hang, Sleep, Dismis, Usrvar, Logout, Open, Close, Iot, Siot, Finish, Listen, Ttylnd, Access, Fillen, Delete, Rename}
 use Rattle.its_plain.specs.Arguments.{input, debts}
 use Rattle.its_plain.specs.CallBasic.{is_oneself, channel_at}
 use Rattle.its_plain.specs.CallStep.{among, decision}
@@ -39,7 +39,8 @@ use Rattle.its_stepped.proofs.CallDuties.{hang_duty, sleep_duty, dismiss_duty}
 use Rattle.its_stepped.proofs.UsrvarDuty.{usrvar_duty}
 use Rattle.its_stepped.proofs.LogoutDuty.{logout_duty}
 use Rattle.its_stepped.proofs.SiotDuty.{siot_duty}
-use Rattle.its_stepped.proofs.TtyDuty.{opens_duty, closes_duty, iot_duty, finish_duty, listen_duty, ttylnd_duty}
+use Rattle.its_stepped.proofs.TtyDuty.{finish_duty, listen_duty, ttylnd_duty}
+use Rattle.its_stepped.proofs.FileDuty.{open_call_duty, close_call_duty, iot_call_duty, access_duty, fillen_duty, delete_duty, rename_duty}
 
 -- every call
 named_duty : (d : Decoding) (m : Machine) (v : State) (j : ℕ) (x : View) (s : Site) (a : Ask) (n : ℕ) (o : Option CallName) → Calling m v j x.own s a n → call_named a.name ≡ o → a.fail ≡ 0
@@ -49,13 +50,17 @@ named_duty d m v j x s a n (Some Sleep) c e z = sleep_duty d m v j x s a n c e z
 named_duty d m v j x s a n (Some Dismis) c e z = dismiss_duty m v j x s a n c
 named_duty d m v j x s a n (Some Usrvar) c e z = usrvar_duty m v j x s a n c e z
 named_duty d m v j x s a n (Some Logout) c e z = logout_duty m v j x s a n c e z
-named_duty d m v j x s a n (Some Open) c e z = opens_duty m v j x s a n c
-named_duty d m v j x s a n (Some Close) c e z = closes_duty m v j x s a n c
-named_duty d m v j x s a n (Some Iot) c e z = iot_duty m v j x s a n c e
+named_duty d m v j x s a n (Some Open) c e z = open_call_duty m v j x s a n c
+named_duty d m v j x s a n (Some Close) c e z = close_call_duty m v j x s a n c e z
+named_duty d m v j x s a n (Some Iot) c e z = iot_call_duty m v j x s a n c e
 named_duty d m v j x s a n (Some Siot) c e z = siot_duty d m v j x s a n c e z
 named_duty d m v j x s a n (Some Finish) c e z = finish_duty m v j x s a n c e
 named_duty d m v j x s a n (Some Listen) c e z = listen_duty m v j x s a n c e
 named_duty d m v j x s a n (Some Ttylnd) c e z = ttylnd_duty m v j x s a n c
+named_duty d m v j x s a n (Some Access) c e z = access_duty m v j x s a n c
+named_duty d m v j x s a n (Some Fillen) c e z = fillen_duty m v j x s a n c e
+named_duty d m v j x s a n (Some Delete) c e z = delete_duty m v j x s a n c e z
+named_duty d m v j x s a n (Some Rename) c e z = rename_duty m v j x s a n c e z
 named_duty d m v j x s a n _ c e z = fails_duty m v j x s a n 0o1 c
 
 pub decided_duty : (d : Decoding) (m : Machine) (v : State) (j : ℕ) (x : View) (s : Site) (a : Ask) (n : ℕ) → Calling m v j x.own s a n → Duty v j x.own s a n (decided x a)

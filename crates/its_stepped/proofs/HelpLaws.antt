@@ -45,3 +45,7 @@ helped_if_others false w k = slot_same w k
 pub helped_if_shared : (b : Bool) (w : State) → Shares w (helped_if b w)
 helped_if_shared true w = help_shared w
 helped_if_shared false w = shares_same w
+
+pub helped_if_unmarked : (b : Bool) (w : State) → b ≡ true → (helped_if b w).mark ≡ None
+helped_if_unmarked true w e = help_unmarked w
+helped_if_unmarked false w e = cc

@@ -12,15 +12,19 @@ use Rattle.its_word.specs.declared.session.Reason.{Reason}
 use Rattle.its_word.specs.declared.show.JobShow.{JobShow}
 use Rattle.its_word.proofs.FreeLaws.{least_empty}
 use Rattle.its_frame.specs.declared.frame.Frame.{Frame}
-use Rattle.its_plain.specs.Machine.{Whole, Machine, with_job, mapped}
-use Rattle.its_plain.specs.Operator.{Block, Operated, Refuses, Does, Ticks, Ends, nobody, only, new_job, with_holder, loaded_in, loaded, stored, with_core, word_loaded_of, word_loaded, and_then, words_loaded, on_job, with_registers, on_registers, started, interrupted, stopped, continued, examined, state_shown, deposited_in, deposited, disturbs, quietly, by_load, by_exam, by_state}
-use Rattle.its_plain.specs.Operator as operator
-use Rattle.its_plain.specs.CallOperator.{clock_end, clocked_if, clocked, typed, drained, operate, Lined, Done, Peeks, peeked_at, lined}
+use Rattle.its_print.specs.Printing.{Line}
+use Rattle.its_plain.specs.Machine.{File, Whole, Machine, with_job, mapped}
+use Rattle.its_plain.specs.Operator.{Block, Refuses, Does, Ticks, Ends, nobody, only, new_job, with_holder, loaded_in, loaded, stored, with_core, word_loaded_of, word_loaded, and_then, words_loaded, on_job, with_registers, on_registers, started, interrupted, stopped, continued, examined, state_shown, deposited_in, deposited, disturbs, quietly, by_load, by_exam, by_state}
+use Rattle.its_plain.specs.CallOperator.{clock_end, clocked_if, clocked, typed, drained, operate, shows, Lined, Done, Peeks, peeked_at, lined}
+use Rattle.its_plain.specs.Own.{names_of}
+use Rattle.its_plain.specs.FileOperator.{with_files, file_made, words_added, file_shown}
+use Rattle.its_plain.proofs.CallLineLaws.{FilesAlone, made_files, added_files}
 use Rattle.its_stepped.specs.State.{State}
-use Rattle.its_stepped.specs.Unwind.{unwound}
+use Rattle.its_stepped.specs.Unwind.{unwound, help}
 use Rattle.its_stepped.specs.Sound.{SoundBy, Sound}
 use Rattle.its_stepped.specs.Lines.{calmed, with_raw}
 use Rattle.its_stepped.proofs.FrameLaws.{changed_only}
+use Rattle.its_stepped.proofs.HelpLaws.{help_sound, help_others}
 use Rattle.its_stepped.proofs.UnwindLaws.{unwound_sound, unwound_none, unwound_others}
 use Rattle.its_stepped.proofs.CommitSound.{user_sound}
 use Rattle.its_stepped.proofs.LineLaws.{free_frame}
@@ -134,17 +138,35 @@ held_off : (m : Machine) (s : ℕ) (q : Whole) (console : Option ℕ) → Off m 
 held_off m s q (Some c) = record { others = (put_off m s q).others }
 held_off m s q None = put_off m s q
 
-load_kept : (w : State) (u j : ℕ) (console o : Option ℕ) → Sound w → least_free w.raw.jobs ≡ o → KeptBy w w (Done (by_load (loaded_in w.raw u j console o)))
-load_kept w u j console (Some s) sound is = record {
+load_kept : (w : State) (b : Block) (u j : ℕ) (console o : Option ℕ) → Sound w → least_free w.raw.jobs ≡ o → KeptBy w w (Done (by_load b (loaded_in w.raw u j console o)))
+load_kept w b u j console (Some s) sound is = record {
   sound = off_sound w (with_holder (with_job w.raw s (new_job u j console)) s console) s sound (free_frame w s sound (least_empty w.raw.jobs s is))
       (held_off w.raw s (new_job u j console) console);
   spares = λ k h. refl;
 }
-load_kept w u j console None sound is = tt
+load_kept w b u j console None sound is = tt
 
 clock_kept : (w : State) (b : Block) (n : ℕ) (fits : Bool) → Sound w → KeptBy w w (Done (quietly b (clocked_if w.raw n fits)))
 clock_kept w b n true sound = record { sound = record { each = sound.each; mark = sound.mark }; spares = λ k h. refl }
 clock_kept w b n false sound = tt
+
+-- a line that looks at files, which makes the parts of a close and changes the directory alone
+files_sound : (v : State) (fs : List File) → Sound v → Sound (with_raw v (with_files v.raw fs))
+files_sound v fs sound = record { each = sound.each; mark = sound.mark }
+
+helped_kept : (w : State) (m : Machine) → Sound w → m ≡ with_files (help w).raw m.files → Kept w (help w) m nobody
+helped_kept w m sound is = record {
+  sound = subst (λ n. Sound (with_raw (help w) n)) (sym is) (files_sound (help w) m.files (help_sound w sound));
+  spares = λ k h. (help_others w k).frame;
+}
+
+file_kept : (w : State) (b : Block) (r : Result Machine Reason) → Sound w → FilesAlone (help w).raw r → KeptBy w (help w) (Done (quietly b r))
+file_kept w b (Ok m) sound h = helped_kept w m sound h
+file_kept w b (Err r) sound h = tt
+
+shows_kept : (w : State) (b : Block) (r : Result (List Line) Reason) → Sound w → KeptBy w (help w) (Done (shows (help w).raw b r))
+shows_kept w b (Ok out) sound = helped_kept w (help w).raw sound refl
+shows_kept w b (Err r) sound = tt
 
 typed_kept : (w : State) (c : ℕ) (bytes : List ℕ) → Sound w → Kept w w (typed c bytes w.raw) nobody
 typed_kept w c bytes sound = record { sound = record { each = sound.each; mark = sound.mark }; spares = λ k h. refl }
@@ -157,8 +179,8 @@ peek_kept w s (Some q) = tt
 peek_kept w s None = tt
 
 pub line_kept : (w : State) (b : Block) (e : Event) → Sound w → KeptBy w (calmed w b e) (lined (calmed w b e).raw b e)
-unfolding lined operate operator.operate calmed loaded clocked
-line_kept w b (events.Load u j console) sound = load_kept w u j console (least_free w.raw.jobs) sound refl
+unfolding lined operate calmed loaded clocked
+line_kept w b (events.Load u j console) sound = load_kept w b u j console (least_free w.raw.jobs) sound refl
 line_kept w b (events.Words a words) sound =
     disturbs_kept w b.slot b (words_loaded (unwound w b.slot).raw b.slot a words.items) sound (words_off (unwound w b.slot).raw b.slot a words.items)
 line_kept w b (events.Go a) sound =
@@ -174,10 +196,11 @@ line_kept w b (events.Peek s) sound = peek_kept w s (w.raw.jobs s)
 line_kept w b (events.Tick s n) sound = tt
 line_kept w b events.Nothing sound = record { sound = sound; spares = λ k h. refl }
 line_kept w b events.End sound = tt
-line_kept w b (events.File d x y) sound = tt
-line_kept w b (events.Append words) sound = tt
-line_kept w b events.EndFile sound = tt
+line_kept w b (events.File d x y) sound =
+    file_kept w (record b { file = names_of d x y }) (file_made (help w).raw (names_of d x y)) sound (made_files (help w).raw (names_of d x y))
+line_kept w b (events.Append words) sound = file_kept w b (words_added (help w).raw b.file words.items) sound (added_files (help w).raw b.file words.items)
+line_kept w b events.EndFile sound = record { sound = sound; spares = λ k h. refl }
 line_kept w b (events.TypeIn c bytes) sound = typed_kept w c bytes.items sound
 line_kept w b (events.Drain c n) sound = drained_kept w c n sound
-line_kept w b (events.Dir d) sound = tt
-line_kept w b (events.Show d x y) sound = tt
+line_kept w b (events.Dir d) sound = helped_kept w (help w).raw sound refl
+line_kept w b (events.Show d x y) sound = shows_kept w b (file_shown (help w).raw d x y) sound

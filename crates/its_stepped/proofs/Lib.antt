@@ -25,10 +25,12 @@ pub mod RefusalLaws
 pub mod AfterLaws
 pub mod LineExamples
 pub mod TestLaws
+pub mod FileWays
 pub mod CallDuties
 pub mod UsrvarDuty
 pub mod LogoutDuty
 pub mod TtyDuty
+pub mod FileDuty
 pub mod SiotDuty
 pub mod GivenLaws
 pub mod DistinctLaws
@@ -38,3 +40,5 @@ pub mod DecodingLaws
 pub mod CallLaws
 pub mod AddressLaws
 pub mod ConsoledLaws
+pub mod UnseenLaws
+pub mod TriedLaws

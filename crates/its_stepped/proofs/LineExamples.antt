@@ -1,27 +1,32 @@
 -- Worked examples of the lines of a session, evaluated.
 use Rattle.std.specs.Prelude.{◌≡◌, ℕ, Option, Some, None, List, [], ◌∷◌, ◌++◌, refl}
-use Rattle.its_word.specs.Core.{word_at}
+use Rattle.its_word.specs.Core.{no_core, word_at}
+use Rattle.its_word.specs.Directory.{File, same_names}
 use Rattle.its_word.specs.Item.{Read}
 use Rattle.its_word.specs.Tree.{free_from, least_free, fresh_job}
 use Rattle.its_word.specs.declared.calls.Ask.{Ask}
 use Rattle.its_word.specs.declared.calls.Operand.{Operand}
+use Rattle.its_word.specs.declared.calls.Owed.TheVariants.{Link, Free, Leave}
 use Rattle.its_word.specs.declared.calls.Pace.TheVariants.{Off}
 use Rattle.its_word.specs.declared.calls.Site.{Site}
 use Rattle.its_word.specs.declared.session.Event.TheVariants as events
 use Rattle.its_word.specs.declared.session.Reason.TheVariants as reasons
+use Rattle.its_word.specs.declared.show.Peek.{Peek}
 use Rattle.its_word.specs.declared.show.PeekState.TheVariants as states
 use Rattle.its_frame.specs.declared.frame.Frame.{Frame}
 use Rattle.its_print.specs.Printing as printed
 use Rattle.its_plain.specs.Operator.{no_block, Does, loaded, on_registers}
-use Rattle.its_plain.specs.Operator as operator
 use Rattle.its_plain.specs.CallOperator.{clocked, operate, Lined, Done, lined}
 use Rattle.its_plain.specs.Machine.{no_machine, with_jobs, whole}
 use Rattle.its_plain.specs.Decide.{call_named}
-use Rattle.its_plain.specs.Transcript.{Ended, Lost}
-use Rattle.its_stepped.specs.State.{State, no_state, parsed, waiting, moving}
-use Rattle.its_stepped.specs.Unwind.{left, unwound, unwind_times}
+use Rattle.its_plain.specs.Own.{names_of, exit_of}
+use Rattle.its_plain.specs.CallFile.{blocks_of_drafts}
+use Rattle.its_plain.specs.FileOperator.{file_made, word_added, files_in, file_shown}
+use Rattle.its_plain.specs.Transcript.{Ended, Open, Lost}
+use Rattle.its_stepped.specs.State.{LinkNew, FreeOld, State, helped, no_state, parsed, waiting, moving, ending}
+use Rattle.its_stepped.specs.Unwind.{help, left, unwound, unwind_times}
 use Rattle.its_stepped.specs.Tick.{tick}
-use Rattle.its_stepped.specs.Lines.{peeked, calmed, stepped}
+use Rattle.its_stepped.specs.Lines.{peeked, calmed, told, stepped}
 
 -- a job is made, looked at, ticked while it is stopped, and stopped again
 idle : stepped (Read (events.Load 1 2 None) ∷ Read (events.Peek 0) ∷ Read (events.Clock 5) ∷ Read (events.Tick 0 2) ∷ Read (events.Stop 0) ∷ Read events.End ∷ []) ≡ record {
@@ -31,16 +36,16 @@ idle : stepped (Read (events.Load 1 2 None) ∷ Read (events.Peek 0) ∷ Read (e
       ∷ [];
   fate = Ended;
 }
-unfolding lined operate operator.operate loaded least_free free_from calmed tick unwound unwind_times left on_registers clocked peeked no_state no_machine fresh_job
+unfolding lined operate loaded least_free free_from calmed tick unwound unwind_times left on_registers clocked peeked no_state no_machine fresh_job
 idle = refl
 
 -- an empty slot, and a clock that would reach its end
 empty : stepped (Read (events.Peek 3) ∷ []) ≡ record { lines = printed.Refused 1 reasons.NoJob ∷ []; fate = Lost }
-unfolding lined operate operator.operate calmed no_state no_machine
+unfolding lined operate calmed no_state no_machine
 empty = refl
 
 late : stepped (Read (events.Clock 0o177777777777) ∷ Read (events.Clock 1) ∷ []) ≡ record { lines = printed.Refused 2 reasons.Range ∷ []; fate = Lost }
-unfolding lined operate operator.operate calmed clocked no_state no_machine
+unfolding lined operate calmed clocked no_state no_machine
 late = refl
 
 -- a console of a job: bytes that wait as input, as many as have room, and no output
@@ -51,7 +56,7 @@ talk : stepped (Read (events.Load 1 2 (Some 3)) ∷ Read (events.TypeIn 3 (recor
   lines = printed.Loaded 0 ∷ printed.Typed 3 0 ∷ printed.Typed 3 2 ∷ printed.Drained 3 [] ∷ [];
   fate = Ended;
 }
-unfolding lined operate operator.operate loaded least_free free_from calmed no_state no_machine fresh_job
+unfolding lined operate loaded least_free free_from calmed no_state no_machine fresh_job
 talk = refl
 
 -- the first job that LOAD makes with a console holds it, and one that it makes later does not
@@ -60,11 +65,11 @@ holder_after (Done (Does m out touched b)) c = m.holders c
 holder_after l c = None
 
 first_load : holder_after (lined no_machine no_block (events.Load 1 2 (Some 3))) 3 ≡ Some 0
-unfolding lined operate operator.operate loaded least_free free_from no_machine
+unfolding lined operate loaded least_free free_from no_machine
 first_load = refl
 
 later_load : holder_after (lined (record no_machine { holders = λ c. Some 7 }) no_block (events.Load 1 2 (Some 3))) 3 ≡ Some 7
-unfolding lined operate operator.operate loaded least_free free_from no_machine
+unfolding lined operate loaded least_free free_from no_machine
 later_load = refl
 
 -- what is drained is shown, and only the rest waits
@@ -73,7 +78,7 @@ drained_of (Done (Does m (printed.Drained c bytes ∷ out) touched b)) = bytes +
 drained_of l = []
 
 drain : drained_of (lined (record no_machine { consoles = λ c. record { input = []; output = 72 ∷ 73 ∷ 74 ∷ [] } }) no_block (events.Drain 3 2)) ≡ 72 ∷ 73 ∷ 0 ∷ 74 ∷ []
-unfolding lined operate operator.operate no_machine
+unfolding lined operate no_machine
 drain = refl
 
 -- a state whose slot 0 has three accumulators and a frame
@@ -124,3 +129,40 @@ reader = refl
 iot : peeked (standing (parsed (site (Some 3)) [])) 0 ≡ record { state = states.Parsed; name = Some 0o515764000000; left = 1; a = None; b = None; h = None }
 unfolding peeked standing site left
 iot = refl
+
+-- a file of two words, as it stands in its directory and by itself; a second one with its names is refused
+filed : stepped (Read (events.File 1 2 3) ∷ Read (events.Append (record { items = 4 ∷ 5 ∷ [] })) ∷ Read events.EndFile ∷ Read (events.Dir 1) ∷ Read (events.Show 1 2 3)
+    ∷ Read (events.File 1 2 3) ∷ []) ≡ record {
+      lines = printed.Dir 1 1 ∷ printed.Filed (record { x = 2; y = 3; length = 2 }) ∷ printed.Shown 1 2 3 2 ∷ printed.Row (4 ∷ 5 ∷ []) ∷ printed.Refused 6 reasons.Exists ∷ [];
+      fate = Lost;
+    }
+unfolding lined operate calmed help helped file_made word_added blocks_of_drafts same_names files_in file_shown no_state no_machine
+filed = refl
+
+-- a job that is inside a CLOSE: the old file left the directory, and the draft is still to become its last file. DIR shows the
+-- directory whole, and the job, which it does not disturb, owes its registers alone
+file_of : ℕ → List ℕ → File
+file_of x words = record { names = names_of 1 x 3; words = words }
+
+closing : State
+closing = record {
+  raw = record (with_jobs (λ k. Some (whole no_core (fresh_job 1 2 None) None))) { files = file_of 8 [] ∷ [] };
+  frames = λ k. Some (ending (site None) (call 0o435457634500 []) (Link ∷ Free ∷ Leave (exit_of (fresh_job 1 2 None)) ∷ []));
+  reserved = λ k. None;
+  mark = Some (record { owner = 0; draft = file_of 2 (9 ∷ []); parts = LinkNew ∷ FreeOld ∷ [] });
+}
+
+inside : ℕ → Peek
+inside n = record { state = states.Ending; name = Some 0o435457634500; left = n; a = None; b = None; h = None }
+
+between : told 1 closing no_block (Read (events.Peek 0) ∷ Read (events.Dir 1) ∷ Read (events.Peek 0) ∷ []) ≡ record {
+  lines = printed.Peeked 0 (inside 3)
+      ∷ printed.Dir 1 2
+      ∷ printed.Filed (record { x = 8; y = 3; length = 0 })
+      ∷ printed.Filed (record { x = 2; y = 3; length = 1 })
+      ∷ printed.Peeked 0 (inside 1)
+      ∷ [];
+  fate = Open;
+}
+unfolding lined operate calmed help helped peeked left site call call_named same_names files_in fresh_job file_of closing inside
+between = refl

@@ -12,7 +12,8 @@ use Rattle.its_frame.specs.declared.change.Change.TheVariants as changes
 use Rattle.its_frame.specs.declared.frame.Frame.{Frame}
 use Rattle.its_plain.specs.Machine.{File, Chan, Shut, TtyIn, TtyOut, Reads, Writes, On, changed}
 use Rattle.its_plain.specs.Change.{is_gone, superiors, channel_in}
-use Rattle.its_stepped.specs.State.{Part, Mark, State, has_file, parts_of, marked, ending}
+use Rattle.its_plain.specs.CallFile.{has_file}
+use Rattle.its_stepped.specs.State.{Part, Mark, State, parts_of, marked, ending}
 use Rattle.its_stepped.specs.Commit.{effect_on, effects_on, owed_part, owed_parts, owed_by}
 use Rattle.its_stepped.specs.Sound.{parts_in_frame, MarkBy}
 use Rattle.its_stepped.specs.Quiet.{Quiet, AllQuiet}
@@ -62,8 +63,8 @@ closing j frames TtyOut fs most = record { at = tt; few = omega arith }
 closing j frames (Reads f at) fs most = record { at = tt; few = omega arith }
 closing j frames (On s w at) fs most = record { at = tt; few = omega arith }
 closing j frames (Writes f) fs most = record {
-  at = inl (refl, parts_of_some (has_file f fs));
-  few = let k = closing_few j (record { owner = j; draft = f; parts = parts_of (has_file f fs) }) (has_file f fs) refl refl in omega arith;
+  at = inl (refl, parts_of_some (has_file f.names fs));
+  few = let k = closing_few j (record { owner = j; draft = f; parts = parts_of (has_file f.names fs) }) (has_file f.names fs) refl refl in omega arith;
 }
 
 -- where frames of gone jobs are dropped, no owner of a mark is among them

@@ -11,18 +11,22 @@ use Rattle.its_word.specs.declared.session.Event.TheVariants as events
 use Rattle.its_word.specs.declared.session.Reason.{Reason}
 use Rattle.its_word.specs.declared.show.JobShow.{JobShow}
 use Rattle.its_frame.specs.declared.frame.Frame.{Frame}
-use Rattle.its_plain.specs.Machine.{Whole, Machine, mapped, joined, words_at}
-use Rattle.its_plain.specs.Operator.{Block, Operated, Refuses, Does, Ticks, Ends, loaded_in, loaded, stored_in, stored, with_core, word_loaded_of, word_loaded, on_job, with_registers, on_registers, started, interrupted, stopped, continued, seen, examined, shown, state_shown, deposited_in, deposited, disturbs, quietly, by_load, by_exam, by_state}
-use Rattle.its_plain.specs.Operator as operator
-use Rattle.its_plain.specs.CallOperator.{clock_end, clocked_if, clocked, operate, Lined, Done, Peeks, peeked_at, lined}
+use Rattle.its_print.specs.Printing.{Line}
+use Rattle.its_plain.specs.Machine.{Names, Whole, Machine, mapped, joined, words_at}
+use Rattle.its_plain.specs.Operator.{Block, Refuses, Does, Ticks, Ends, loaded_in, loaded, stored_in, stored, with_core, word_loaded_of, word_loaded, on_job, with_registers, on_registers, started, interrupted, stopped, continued, seen, examined, shown, state_shown, deposited_in, deposited, disturbs, quietly, by_load, by_exam, by_state}
+use Rattle.its_plain.specs.CallOperator.{clock_end, clocked_if, clocked, operate, shows, Lined, Done, Peeks, peeked_at, lined}
+use Rattle.its_plain.specs.Own.{names_of}
+use Rattle.its_plain.specs.FileOperator.{file_made, word_added, words_added, file_shown}
 use Rattle.its_stepped.specs.State.{State, plain}
 use Rattle.its_stepped.specs.State as state
 use Rattle.its_stepped.specs.Unwind.{unwound}
 use Rattle.its_stepped.specs.Sound.{Sound}
-use Rattle.its_stepped.specs.Lines.{calmed, lifted_line, refusal}
+use Rattle.its_stepped.specs.Tick.{helped_if}
+use Rattle.its_stepped.specs.Lines.{looks_at_files, calmed, lifted_line, refusal}
 use Rattle.its_stepped.proofs.FrameLaws.{seen_can_store, seen_present, mapped_plain}
 use Rattle.its_stepped.proofs.UnwindLaws.{unwound_plain}
-use Rattle.its_stepped.proofs.LineLaws.{least_plain, line_plain}
+use Rattle.its_stepped.proofs.HelpLaws.{helped_if_plain, helped_if_unmarked}
+use Rattle.its_stepped.proofs.LineLaws.{lift, made_lifted, added_lifted, words_added_lifted, shown_plain, least_plain, line_plain}
 
 -- why a result is none
 abbrev pub error_of : {X : Type 0} → Result X Reason → Option Reason
@@ -145,13 +149,40 @@ show_alike m n b s (Ok v) (Err y) e = e
 show_alike m n b s (Err y) (Ok w) e = e
 show_alike m n b s (Err y) (Err z) e = e
 
-load_alike : (m n : Machine) (u j : ℕ) (console o : Option ℕ) → refusal (Done (by_load (loaded_in m u j console o))) ≡ refusal (Done (by_load (loaded_in n u j console o)))
-load_alike m n u j console (Some s) = refl
-load_alike m n u j console None = refl
+load_alike : (m n : Machine) (b : Block) (u j : ℕ) (console o : Option ℕ)
+    → refusal (Done (by_load b (loaded_in m u j console o))) ≡ refusal (Done (by_load b (loaded_in n u j console o)))
+load_alike m n b u j console (Some s) = refl
+load_alike m n b u j console None = refl
 
-clock_alike : (m n : Machine) (b : Block) (k : ℕ) (fits : Bool) → refusal (Done (quietly b (clocked_if m k fits))) ≡ refusal (Done (quietly b (clocked_if n k fits)))
-clock_alike m n b k true = refl
-clock_alike m n b k false = refl
+clock_alike : (m n : Machine) (k : ℕ) (fits : Bool) → error_of (clocked_if m k fits) ≡ error_of (clocked_if n k fits)
+clock_alike m n k true = refl
+clock_alike m n k false = refl
+
+quietly_alike : (b : Block) (r x : Result Machine Reason) → error_of r ≡ error_of x → refusal (Done (quietly b r)) ≡ refusal (Done (quietly b x))
+quietly_alike b (Ok m) (Ok n) e = refl
+quietly_alike b (Ok m) (Err y) e = e
+quietly_alike b (Err y) (Ok n) e = e
+quietly_alike b (Err y) (Err z) e = e
+
+shows_alike : (m n : Machine) (b : Block) (r x : Result (List Line) Reason) → error_of r ≡ error_of x → refusal (Done (shows m b r)) ≡ refusal (Done (shows n b x))
+shows_alike m n b (Ok v) (Ok w) e = refl
+shows_alike m n b (Ok v) (Err y) e = e
+shows_alike m n b (Err y) (Ok w) e = e
+shows_alike m n b (Err y) (Err z) e = e
+
+-- lines on files, where no close is half made
+lift_alike : (v : State) (r : Result Machine Reason) → error_of (lift v r) ≡ error_of r
+lift_alike v (Ok m) = refl
+lift_alike v (Err r) = refl
+
+pub made_alike : (v : State) (n : Names) → v.mark ≡ None → error_of (file_made (plain v) n) ≡ error_of (file_made v.raw n)
+made_alike v n e = ap error_of (made_lifted v n e) ∙ lift_alike v (file_made v.raw n)
+
+pub added_alike : (v : State) (n : Names) (w : ℕ) → v.mark ≡ None → error_of (word_added (plain v) n w) ≡ error_of (word_added v.raw n w)
+added_alike v n w e = ap error_of (added_lifted v n w e) ∙ lift_alike v (word_added v.raw n w)
+
+pub words_added_alike : (v : State) (n : Names) (ws : List ℕ) → v.mark ≡ None → error_of (words_added (plain v) n ws) ≡ error_of (words_added v.raw n ws)
+words_added_alike v n ws e = ap error_of (words_added_lifted v n ws e) ∙ lift_alike v (words_added v.raw n ws)
 
 peek_alike : (s : ℕ) (f : Option Frame) (o : Option Whole) → refusal (peeked_at s (option_map (state.seen f) o)) ≡ refusal (peeked_at s o)
 peek_alike s f (Some q) = refl
@@ -162,30 +193,35 @@ abbrev pub IsSingle : Event → Type 0
 IsSingle (events.Words a words) = ⊥
 IsSingle _ = Unit {0}
 
-pub line_alike : (w : State) (b : Block) (e : Event) → IsSingle e → refusal (lined (plain w) b e) ≡ refusal (lined w.raw b e)
-unfolding lined operate operator.operate plain loaded clocked
-line_alike w b (events.Load u j console) h =
-    ap (λ o. refusal (Done (by_load (loaded_in (plain w) u j console o)))) (least_plain w) ∙ load_alike (plain w) w.raw u j console (least_free w.raw.jobs)
-line_alike w b (events.Words a words) h = absurd h
-line_alike w b (events.Go a) h = disturbs_alike b.slot b (on_registers (plain w) b.slot (started a)) (on_registers w.raw b.slot (started a)) (registers_alike w b.slot (started a))
-line_alike w b (events.Int s x y) h = disturbs_alike s b (on_registers (plain w) s (interrupted x y)) (on_registers w.raw s (interrupted x y)) (registers_alike w s (interrupted x y))
-line_alike w b (events.Stop s) h = disturbs_alike s b (on_registers (plain w) s stopped) (on_registers w.raw s stopped) (registers_alike w s stopped)
-line_alike w b (events.Cont s) h = disturbs_alike s b (on_registers (plain w) s continued) (on_registers w.raw s continued) (registers_alike w s continued)
-line_alike w b (events.Deposit s a x) h = disturbs_alike s b (deposited (plain w) s a x) (deposited w.raw s a x) (deposited_alike w s a x)
-line_alike w b (events.Exam s a n) h = exam_alike (plain w) w.raw b s a (examined (plain w) s a n) (examined w.raw s a n) (examined_alike w s a n)
-line_alike w b (events.State s) h = show_alike (plain w) w.raw b s (state_shown (plain w) s) (state_shown w.raw s) (shown_alike w s)
-line_alike w b (events.Clock n) h = clock_alike (plain w) w.raw b n (nat_lt (w.raw.clock + n) clock_end)
-line_alike w b (events.Peek s) h = peek_alike s (w.frames s) (w.raw.jobs s)
-line_alike w b (events.Tick s n) h = refl
-line_alike w b events.Nothing h = refl
-line_alike w b events.End h = refl
-line_alike w b (events.File d x y) h = refl
-line_alike w b (events.Append words) h = refl
-line_alike w b events.EndFile h = refl
-line_alike w b (events.TypeIn c bytes) h = refl
-line_alike w b (events.Drain c n) h = refl
-line_alike w b (events.Dir d) h = refl
-line_alike w b (events.Show d x y) h = refl
+pub line_alike : (w : State) (b : Block) (e : Event) → IsSingle e → (looks_at_files e ≡ true → w.mark ≡ None) → refusal (lined (plain w) b e) ≡ refusal (lined w.raw b e)
+unfolding lined operate plain loaded clocked
+line_alike w b (events.Load u j console) h whole =
+    ap (λ o. refusal (Done (by_load b (loaded_in (plain w) u j console o)))) (least_plain w) ∙ load_alike (plain w) w.raw b u j console (least_free w.raw.jobs)
+line_alike w b (events.Words a words) h whole = absurd h
+line_alike w b (events.Go a) h whole = disturbs_alike b.slot b (on_registers (plain w) b.slot (started a)) (on_registers w.raw b.slot (started a)) (registers_alike w b.slot (started a))
+line_alike w b (events.Int s x y) h whole = disturbs_alike s b (on_registers (plain w) s (interrupted x y)) (on_registers w.raw s (interrupted x y)) (registers_alike w s (interrupted x y))
+line_alike w b (events.Stop s) h whole = disturbs_alike s b (on_registers (plain w) s stopped) (on_registers w.raw s stopped) (registers_alike w s stopped)
+line_alike w b (events.Cont s) h whole = disturbs_alike s b (on_registers (plain w) s continued) (on_registers w.raw s continued) (registers_alike w s continued)
+line_alike w b (events.Deposit s a x) h whole = disturbs_alike s b (deposited (plain w) s a x) (deposited w.raw s a x) (deposited_alike w s a x)
+line_alike w b (events.Exam s a n) h whole = exam_alike (plain w) w.raw b s a (examined (plain w) s a n) (examined w.raw s a n) (examined_alike w s a n)
+line_alike w b (events.State s) h whole = show_alike (plain w) w.raw b s (state_shown (plain w) s) (state_shown w.raw s) (shown_alike w s)
+line_alike w b (events.Clock n) h whole =
+    quietly_alike b (clocked_if (plain w) n (nat_lt (w.raw.clock + n) clock_end)) (clocked_if w.raw n (nat_lt (w.raw.clock + n) clock_end))
+    (clock_alike (plain w) w.raw n (nat_lt (w.raw.clock + n) clock_end))
+line_alike w b (events.Peek s) h whole = peek_alike s (w.frames s) (w.raw.jobs s)
+line_alike w b (events.Tick s n) h whole = refl
+line_alike w b events.Nothing h whole = refl
+line_alike w b events.End h whole = refl
+line_alike w b (events.File d x y) h whole =
+    let n = names_of d x y in quietly_alike (record b { file = n }) (file_made (plain w) n) (file_made w.raw n) (made_alike w n (whole refl))
+line_alike w b (events.Append words) h whole =
+    quietly_alike b (words_added (plain w) b.file words.items) (words_added w.raw b.file words.items) (words_added_alike w b.file words.items (whole refl))
+line_alike w b events.EndFile h whole = refl
+line_alike w b (events.TypeIn c bytes) h whole = refl
+line_alike w b (events.Drain c n) h whole = refl
+line_alike w b (events.Dir d) h whole = refl
+line_alike w b (events.Show d x y) h whole =
+    shows_alike (plain w) w.raw b (file_shown (plain w) d x y) (file_shown w.raw d x y) (ap error_of (shown_plain w d x y (whole refl)))
 
 refusal_lifted : (v : State) (l : Lined) → refusal (lifted_line v l) ≡ refusal l
 refusal_lifted v (Done (Refuses r)) = refl
@@ -194,9 +230,16 @@ refusal_lifted v (Done (Ticks s k)) = refl
 refusal_lifted v (Done Ends) = refl
 refusal_lifted v (Peeks s) = refl
 
--- a line is refused before anything is unwound exactly where it is refused afterwards, and for the same reason
-pub refused_first : (w : State) (b : Block) (e : Event) → Sound w → IsSingle e → refusal (lined w.raw b e) ≡ refusal (lined (calmed w b e).raw b e)
-refused_first w b e sound h = sym (line_alike w b e h) ∙ ap refusal (line_plain w b e sound) ∙ refusal_lifted (calmed w b e) (lined (calmed w b e).raw b e)
+-- a line is refused before anything is unwound exactly where it is refused afterwards, and for the same reason; one that
+-- looks at files, once the parts of a close are made
+pub refused_calmed : (w : State) (b : Block) (e : Event) → Sound w → refusal (lined (plain w) b e) ≡ refusal (lined (calmed w b e).raw b e)
+refused_calmed w b e sound = ap refusal (line_plain w b e sound) ∙ refusal_lifted (calmed w b e) (lined (calmed w b e).raw b e)
+
+pub refused_first : (w : State) (b : Block) (e : Event) → Sound w → IsSingle e
+    → refusal (lined (helped_if (looks_at_files e) w).raw b e) ≡ refusal (lined (calmed w b e).raw b e)
+refused_first w b e sound h =
+    sym (line_alike (helped_if (looks_at_files e) w) b e h (helped_if_unmarked (looks_at_files e) w))
+    ∙ ap (λ m. refusal (lined m b e)) (helped_if_plain (looks_at_files e) w) ∙ refused_calmed w b e sound
 
 -- the same for one word
 pub word_refused_first : (w : State) (s a x : ℕ) → Sound w → error_of (word_loaded w.raw s a x) ≡ error_of (word_loaded (unwound w s).raw s a x)

@@ -1,7 +1,7 @@
 -- SIOT does its duty: pointer and count are owed with each byte, and the byte's word is outside the footprint.
-use Rattle.std.specs.Prelude.{if◌then◌else◌, ◌||◌, ◌&&◌, ◌≡◌, ◌≤◌, ◌<◌, ℕ, zero, suc, ◌+◌, ◌-◌, ◌%◌, ◌^◌, Bool, true, false, not, Option, Some, None, IfSome, List, [], ◌∷◌, ◌++◌, length, take, drop, slice_get, nat_le, unwrap_or, refl}
+use Rattle.std.specs.Prelude.{if◌then◌else◌, ◌||◌, ◌&&◌, ◌≡◌, ◌≤◌, ◌<◌, ℕ, zero, suc, ◌+◌, ◌-◌, ◌%◌, ◌^◌, Bool, true, false, not, Option, Some, None, IfSome, List, [], ◌∷◌, ◌++◌, length, take, drop, slice_get, nat_le, is_some, unwrap_or, refl}
 use Rattle.std.proofs.Common.{◌∙◌, ap, subst, sym, arith, inl, inr}
-use Rattle.std.proofs.lemmas.Bool.{cases_eq}
+use Rattle.std.proofs.lemmas.Bool.{cases_eq, not-false, or_parts}
 use Rattle.its_word.specs.Byte.{position, size, middle, pointer, has_size, increment_of, load_of}
 use Rattle.its_word.specs.Core.{Core, can_store, store}
 use Rattle.its_word.specs.Word.{right_of}
@@ -21,22 +21,23 @@ use Rattle.its_frame.specs.declared.name.CallName.{CallName}
 use Rattle.its_frame.specs.declared.name.CallName.TheVariants.{Siot}
 use Rattle.its_plain.specs.Arguments.{store_of, stores_of, valued, input, place_in, place_of_input, in_footprint, is_shared, debts, revalued}
 use Rattle.its_plain.specs.CallBasic.{shared_place, read_only, channel_at}
-use Rattle.its_plain.specs.CallStep.{with_held, moved}
+use Rattle.its_plain.specs.CallStep.{with_held}
 use Rattle.its_plain.specs.CallTty.{console_of, input_waits, output_waits, first_typed, shown_byte, store_tests, read_tests, word_of, is_indexed, next_pointer, siot_tests, siot_in, siot_out, siot_by, siot_on, siot}
+use Rattle.its_plain.specs.CallFile.{is_full, channels_in, words_of, siot_read, siot_reads, siot_write, siot_writes, siot_to, siot_call}
 use Rattle.its_plain.specs.Decide.{call_named}
 use Rattle.its_plain.specs.Footprint.{variable, with_inputs}
-use Rattle.its_plain.specs.Machine.{Chan, Shut, TtyIn, TtyOut, Reads, Writes, On, Whole, Machine}
-use Rattle.its_plain.specs.Tests.{◌⇒◌, goes}
+use Rattle.its_plain.specs.Machine.{File, Chan, Shut, TtyIn, TtyOut, Reads, Writes, On, Whole, Machine}
+use Rattle.its_plain.specs.Tests.{Test, ◌⇒◌, first, fails, goes}
 use Rattle.its_plain.specs.View.{View}
-use Rattle.its_word.specs.Stores.{place, stored}
+use Rattle.its_word.specs.Stores.{stored}
 use Rattle.its_stepped.specs.State.{State}
 use Rattle.its_stepped.specs.Tick.{makes_page}
 use Rattle.its_stepped.specs.Sound.{Stands, Stored, most_owed_by, most_owed}
-use Rattle.its_stepped.specs.Quiet.{AllQuiet}
-use Rattle.its_stepped.specs.Duty.{AllSpare, parts_in, Apart, Within, HeldFits, Going, Duty}
+use Rattle.its_stepped.specs.Quiet.{Quiet, AllQuiet}
+use Rattle.its_stepped.specs.Duty.{Spares, AllSpare, parts_in, Apart, Within, HeldFits, Going, Duty}
 use Rattle.its_stepped.specs.Calling.{Transfer, Fetched, Decoding, Calling}
 use Rattle.its_stepped.proofs.DebtLaws.{debts_none}
-use Rattle.its_stepped.proofs.TestLaws.{first_holds, no_page, fails_duty, faults_duty, nothing_duty}
+use Rattle.its_stepped.proofs.TestLaws.{EachStops, first_holds, no_page, fails_duty, faults_duty, nothing_duty}
 use Rattle.its_stepped.proofs.TtyDuty.{named_waits}
 
 -- a word outside the footprint is apart from the words that are owed
@@ -115,21 +116,13 @@ record Moving (c : Core) (a : Ask) : Type 0 where
   pointer_can : can_store c p ≡ true
   count_can : can_store c q ≡ true
 
-neither : (b c : Bool) → (b || c) ≡ false → (b ≡ false) × (c ≡ false)
-neither true c h = cc
-neither false c h = (refl, h)
-
-not_false : (b : Bool) → not b ≡ false → b ≡ true
-not_false true h = refl
-not_false false h = cc
-
 moving_by : (c : Core) (a : Ask) (o r : Option ℕ) → Fetched c a → call_named a.name ≡ Some Siot → a.fail ≡ 0 → place_of_input a 1 ≡ o → place_of_input a 2 ≡ r
     → (shared_place a o || shared_place a r) ≡ false → (read_only c o || read_only c r) ≡ false → Moving c a
 moving_by c a None r f e z i k alone can = absurd cc
-moving_by c a (Some p) None f e z i k alone can = let n = (neither (is_shared p a) true alone).1 in absurd cc
+moving_by c a (Some p) None f e z i k alone can = let n = (or_parts (is_shared p a) true alone).1 in absurd cc
 moving_by c a (Some p) (Some q) f e z i k alone can =
-    let apart = neither (is_shared p a) (is_shared q a) alone in
-    let write = neither (not (can_store c p)) (not (can_store c q)) can in
+    let apart = or_parts (is_shared p a) (is_shared q a) alone in
+    let write = or_parts (not (can_store c p)) (not (can_store c q)) can in
     record {
       p = p;
       q = q;
@@ -138,8 +131,8 @@ moving_by c a (Some p) (Some q) f e z i k alone can =
       count_at = f.input 2 q k;
       pointer_alone = apart.0;
       count_alone = apart.1;
-      pointer_can = not_false (can_store c p) write.0;
-      count_can = not_false (can_store c q) write.1;
+      pointer_can = not-false (can_store c p) write.0;
+      count_can = not-false (can_store c q) write.1;
     }
 
 -- a held byte's word is outside the footprint, and allows a store
@@ -223,60 +216,87 @@ next_sized : (p : ℕ) → has_size p ≡ true → has_size (next_pointer p) ≡
 unfolding increment_of
 next_sized p h = ap (λ (b : Bool). has_size (unwrap_or (if b then Some (if nat_le (size p) (position p) then pointer (position p - size p) (middle p) (right_of p) else pointer (36 - size p) (middle p) ((right_of p + 1) % 2 ^ 18)) else None) 0)) h ∙ next_by p (nat_le (size p) (position p)) h
 
--- input and output
-siot_in_duty : (d : Decoding) (m : Machine) (v : State) (j : ℕ) (x : View) (s : Site) (a : Ask) (n w k i : ℕ) → Calling m v j x.own s a n → call_named a.name ≡ Some Siot
-    → Moving x.own.core a → has_size w ≡ true → in_footprint (right_of w) a ≡ false → Duty v j x.own s a n (siot_in x a w k i)
-siot_in_duty d m v j x s a n w k i c e t sized out =
-    first_holds (Duty v j x.own s a n) (store_tests x (right_of w) ++ (input_waits x i ⇒ Waits (Input i) ∷ []))
-    (goes (changes.Take i ∷ []) (Some (record { place = right_of w; byte = first_typed x i })) (w ∷ (k - 1) ∷ []))
-    (λ t. faults_duty m v j x s a n Mpv c, (λ t. faults_duty m v j x s a n Wro c, (λ t. named_waits m v j x s a n Siot c e refl tt, tt)))
-    (λ r. siot_goes d m v j x s a n (changes.Take i ∷ []) (Some (record { place = right_of w; byte = first_typed x i })) w (k - 1) c e t (tt, tt) (tt, tt) refl
-    (record { placed = omega arith; outside = out; can = not_false (can_store x.own.core (right_of w)) r.1.0 }) sized)
+-- a byte is stored behind the tests of its word and those of its device, or is loaded behind them
+siot_stores : (d : Decoding) (m : Machine) (v : State) (j : ℕ) (x : View) (s : Site) (a : Ask) (n : ℕ) (ts : List Test) (g : Change) (w b i : ℕ) → Calling m v j x.own s a n
+    → call_named a.name ≡ Some Siot → Moving x.own.core a → has_size w ≡ true → in_footprint (right_of w) a ≡ false → Quiet g j v → Spares g j v → parts_in (g ∷ []) ≡ 0
+    → EachStops (Duty v j x.own s a n) ts
+    → Duty v j x.own s a n (first (store_tests x (right_of w) ++ ts) (goes (g ∷ []) (Some (record { place = right_of w; byte = b })) (w ∷ i ∷ [])))
+siot_stores d m v j x s a n ts g w b i c e t sized out quiet spare parts each =
+    first_holds (Duty v j x.own s a n) (store_tests x (right_of w) ++ ts) (goes (g ∷ []) (Some (record { place = right_of w; byte = b })) (w ∷ i ∷ []))
+    (λ t. faults_duty m v j x s a n Mpv c, (λ t. faults_duty m v j x s a n Wro c, each))
+    (λ r. siot_goes d m v j x s a n (g ∷ []) (Some (record { place = right_of w; byte = b })) w i c e t (quiet, tt) (spare, tt) parts
+    (record { placed = omega arith; outside = out; can = not-false (can_store x.own.core (right_of w)) r.1.0 }) sized)
 
-siot_out_duty : (d : Decoding) (m : Machine) (v : State) (j : ℕ) (x : View) (s : Site) (a : Ask) (n w k i : ℕ) → Calling m v j x.own s a n → call_named a.name ≡ Some Siot
-    → Moving x.own.core a → has_size w ≡ true → Duty v j x.own s a n (siot_out x a w k i)
-siot_out_duty d m v j x s a n w k i c e t sized =
-    first_holds (Duty v j x.own s a n) (read_tests x (right_of w) ++ (output_waits x i ⇒ Waits (Output i) ∷ []))
-    (goes (changes.Put i (shown_byte (load_of w (word_of x (right_of w)))) ∷ []) None (w ∷ (k - 1) ∷ []))
-    (λ t. faults_duty m v j x s a n Mpv c, (λ t. named_waits m v j x s a n Siot c e refl tt, tt))
-    (λ r. siot_goes d m v j x s a n (changes.Put i (shown_byte (load_of w (word_of x (right_of w)))) ∷ []) None w (k - 1) c e t (tt, tt) (tt, tt) refl tt sized)
+siot_loads : (d : Decoding) (m : Machine) (v : State) (j : ℕ) (x : View) (s : Site) (a : Ask) (n : ℕ) (ts : List Test) (g : Change) (w i : ℕ) → Calling m v j x.own s a n
+    → call_named a.name ≡ Some Siot → Moving x.own.core a → has_size w ≡ true → Quiet g j v → Spares g j v → parts_in (g ∷ []) ≡ 0 → EachStops (Duty v j x.own s a n) ts
+    → Duty v j x.own s a n (first (read_tests x (right_of w) ++ ts) (goes (g ∷ []) None (w ∷ i ∷ [])))
+siot_loads d m v j x s a n ts g w i c e t sized quiet spare parts each =
+    first_holds (Duty v j x.own s a n) (read_tests x (right_of w) ++ ts) (goes (g ∷ []) None (w ∷ i ∷ [])) (λ t. faults_duty m v j x s a n Mpv c, each)
+    (λ r. siot_goes d m v j x s a n (g ∷ []) None w i c e t (quiet, tt) (spare, tt) parts tt sized)
 
--- behind its own tests
-siot_by_duty : (m : Machine) (v : State) (j : ℕ) (x : View) (s : Site) (a : Ask) (n : ℕ) (moves : Decision) → Calling m v j x.own s a n → call_named a.name ≡ Some Siot → a.fail ≡ 0
+-- behind the tests of its arguments: whether words alone are moved, and whether there is none left, is the device's
+siot_by_duty : (m : Machine) (v : State) (j : ℕ) (x : View) (s : Site) (a : Ask) (n : ℕ) (words ended : Bool) (moves : Decision) → Calling m v j x.own s a n
+    → call_named a.name ≡ Some Siot → a.fail ≡ 0
     → (Moving x.own.core a → has_size (next_pointer (input a 1)) ≡ true → in_footprint (right_of (next_pointer (input a 1))) a ≡ false → Duty v j x.own s a n moves)
-    → Duty v j x.own s a n (siot_by x a (input a 1) (input a 2) moves)
-siot_by_duty m v j x s a n moves c e z h =
-    first_holds (Duty v j x.own s a n) (siot_tests x a (input a 1) (input a 2)) moves (
-      λ t. fails_duty m v j x s a n 0o17 c,
-      (
-        λ t. faults_duty m v j x s a n Wro c,
-        (
-          λ t. fails_duty m v j x s a n 0o21 c,
-          (
-            λ t. fails_duty m v j x s a n 0o22 c,
-            (λ t. nothing_duty m v j x s a n c, (λ t. fails_duty m v j x s a n 0o20 c, tt)),
-          ),
-        ),
-      ),
-    )
+    → Duty v j x.own s a n (siot_by x a words ended moves)
+siot_by_duty m v j x s a n words ended moves c e z h =
+    let fails = λ (k : ℕ). fails_duty m v j x s a n k c in
+    let nothing = nothing_duty m v j x s a n c in
+    first_holds (Duty v j x.own s a n) (siot_tests x a (input a 1) (input a 2) words ended) moves
+    (λ t. fails 0o17, (λ t. faults_duty m v j x s a n Wro c, (λ t. fails 0o21, (λ t. fails 0o21, (λ t. fails 0o22, (λ t. nothing, (λ t. nothing, (λ t. fails 0o20, tt))))))))
     (λ t. h (moving_by x.own.core a (place_of_input a 1) (place_of_input a 2) c.fetched e z refl refl t.0 t.1.0)
-    (next_sized (input a 1) (not_false (has_size (input a 1)) (neither (not (has_size (input a 1))) (is_indexed (input a 1)) t.1.1.0).0))
-    t.1.1.1.1.1.0)
+    (next_sized (input a 1) (not-false (has_size (input a 1)) (or_parts (not (has_size (input a 1))) (is_indexed (input a 1)) t.1.1.0).0))
+    t.1.1.1.1.1.1.1.0)
 
+-- a console
 siot_on_duty : (d : Decoding) (m : Machine) (v : State) (j : ℕ) (x : View) (s : Site) (a : Ask) (n : ℕ) (h : Chan) → Calling m v j x.own s a n → call_named a.name ≡ Some Siot
     → a.fail ≡ 0 → Duty v j x.own s a n (siot_on x a h)
 siot_on_duty d m v j x s a n TtyIn c e z =
-    siot_by_duty m v j x s a n (siot_in x a (next_pointer (input a 1)) (input a 2) (console_of x)) c e z
-    (λ t sized out. siot_in_duty d m v j x s a n (next_pointer (input a 1)) (input a 2) (console_of x) c e t sized out)
+    let i = console_of x in
+    siot_by_duty m v j x s a n false false (siot_in x a (next_pointer (input a 1)) (input a 2) i) c e z
+    (λ t sized out. siot_stores d m v j x s a n (input_waits x i ⇒ Waits (Input i) ∷ []) (changes.Take i) (next_pointer (input a 1)) (first_typed x i) (input a 2 - 1) c e t sized out tt tt
+    refl (λ t. named_waits m v j x s a n Siot c e refl tt, tt))
 siot_on_duty d m v j x s a n TtyOut c e z =
-    siot_by_duty m v j x s a n (siot_out x a (next_pointer (input a 1)) (input a 2) (console_of x)) c e z
-    (λ t sized out. siot_out_duty d m v j x s a n (next_pointer (input a 1)) (input a 2) (console_of x) c e t sized)
+    let i = console_of x in
+    siot_by_duty m v j x s a n false false (siot_out x a (next_pointer (input a 1)) (input a 2) i) c e z
+    (λ t sized out. siot_loads d m v j x s a n (output_waits x i ⇒ Waits (Output i) ∷ []) (changes.Put i (shown_byte (load_of (next_pointer (input a 1)) (word_of x (right_of (next_pointer (input a 1)))))))
+    (next_pointer (input a 1)) (input a 2 - 1) c e t sized tt tt refl (λ t. named_waits m v j x s a n Siot c e refl tt, tt))
 siot_on_duty d m v j x s a n Shut c e z = fails_duty m v j x s a n 0o4 c
 siot_on_duty d m v j x s a n (Reads f at) c e z = fails_duty m v j x s a n 0o5 c
 siot_on_duty d m v j x s a n (Writes f) c e z = fails_duty m v j x s a n 0o5 c
 siot_on_duty d m v j x s a n (On k write at) c e z = fails_duty m v j x s a n 0o5 c
 
-pub siot_duty : (d : Decoding) (m : Machine) (v : State) (j : ℕ) (x : View) (s : Site) (a : Ask) (n : ℕ) → Calling m v j x.own s a n → call_named a.name ≡ Some Siot → a.fail ≡ 0
+siot_tty_duty : (d : Decoding) (m : Machine) (v : State) (j : ℕ) (x : View) (s : Site) (a : Ask) (n : ℕ) → Calling m v j x.own s a n → call_named a.name ≡ Some Siot → a.fail ≡ 0
     → Duty v j x.own s a n (siot x a)
 unfolding siot
-siot_duty d m v j x s a n c e z = siot_on_duty d m v j x s a n (channel_at x.own.channels (input a 0)) c e z
+siot_tty_duty d m v j x s a n c e z = siot_on_duty d m v j x s a n (channel_at x.own.channels (input a 0)) c e z
+
+-- a file and a draft
+siot_reads_duty : (d : Decoding) (m : Machine) (v : State) (j : ℕ) (x : View) (s : Site) (a : Ask) (n i at : ℕ) (o : Option ℕ) → Calling m v j x.own s a n
+    → call_named a.name ≡ Some Siot → a.fail ≡ 0 → Duty v j x.own s a n (siot_reads x a i at o)
+siot_reads_duty d m v j x s a n i at o c e z =
+    siot_by_duty m v j x s a n true (not (is_some o)) (siot_read x (next_pointer (input a 1)) (input a 2) i at (unwrap_or o 0)) c e z
+    (λ t sized out. siot_stores d m v j x s a n [] (changes.Move i (at + 1)) (next_pointer (input a 1)) (unwrap_or o 0) (input a 2 - 1) c e t sized out tt tt refl tt)
+
+siot_writes_duty : (d : Decoding) (m : Machine) (v : State) (j : ℕ) (x : View) (s : Site) (a : Ask) (n i : ℕ) (f : File) → Calling m v j x.own s a n → call_named a.name ≡ Some Siot
+    → a.fail ≡ 0 → Duty v j x.own s a n (siot_writes x a i f)
+siot_writes_duty d m v j x s a n i f c e z =
+    siot_by_duty m v j x s a n true false (siot_write x a (next_pointer (input a 1)) (input a 2) i f) c e z
+    (λ t sized out. siot_loads d m v j x s a n (is_full x.files (channels_in x) f.words ⇒ fails x a 0o10 ∷ [])
+    (changes.Append i (load_of (next_pointer (input a 1)) (word_of x (right_of (next_pointer (input a 1)))))) (next_pointer (input a 1)) (input a 2 - 1) c e t sized tt tt refl
+    (λ t. fails_duty m v j x s a n 0o10 c, tt))
+
+siot_to_duty : (d : Decoding) (m : Machine) (v : State) (j : ℕ) (x : View) (s : Site) (a : Ask) (n i : ℕ) (h : Chan) → Calling m v j x.own s a n → call_named a.name ≡ Some Siot
+    → a.fail ≡ 0 → Duty v j x.own s a n (siot_to x a i h)
+siot_to_duty d m v j x s a n i (Reads f at) c e z = siot_reads_duty d m v j x s a n i at (slice_get (words_of x f) at) c e z
+siot_to_duty d m v j x s a n i (Writes f) c e z = siot_writes_duty d m v j x s a n i f c e z
+siot_to_duty d m v j x s a n i Shut c e z = siot_tty_duty d m v j x s a n c e z
+siot_to_duty d m v j x s a n i TtyIn c e z = siot_tty_duty d m v j x s a n c e z
+siot_to_duty d m v j x s a n i TtyOut c e z = siot_tty_duty d m v j x s a n c e z
+siot_to_duty d m v j x s a n i (On k write at) c e z = siot_tty_duty d m v j x s a n c e z
+
+-- whatever its channel is on
+pub siot_duty : (d : Decoding) (m : Machine) (v : State) (j : ℕ) (x : View) (s : Site) (a : Ask) (n : ℕ) → Calling m v j x.own s a n → call_named a.name ≡ Some Siot → a.fail ≡ 0
+    → Duty v j x.own s a n (siot_call x a)
+unfolding siot_call
+siot_duty d m v j x s a n c e z = siot_to_duty d m v j x s a n (input a 0) (channel_at x.own.channels (input a 0)) c e z

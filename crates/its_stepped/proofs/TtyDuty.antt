@@ -1,6 +1,7 @@
 -- OPEN, CLOSE, `.IOT`, FINISH, LISTEN and TTYLND do their duty.
-use Rattle.std.specs.Prelude.{◌≡◌, ◌≢◌, ℕ, ◌%◌, ◌^◌, Bool, true, false, not, Option, Some, [], ◌∷◌, ◌++◌, length, slice_index_or, unwrap_or, refl}
+use Rattle.std.specs.Prelude.{◌≡◌, ◌≢◌, ℕ, ◌%◌, ◌^◌, Bool, false, not, Option, Some, [], ◌∷◌, ◌++◌, length, slice_index_or, unwrap_or, refl}
 use Rattle.std.proofs.Common.{◌∙◌, ap, subst, sym, arith}
+use Rattle.std.proofs.lemmas.Bool.{not-false}
 use Rattle.its_word.specs.Core.{can_store}
 use Rattle.its_word.specs.declared.access.Fault.TheVariants.{Mpv, Wro}
 use Rattle.its_word.specs.declared.calls.Ask.{Ask}
@@ -29,10 +30,6 @@ pub named_waits : (m : Machine) (v : State) (j : ℕ) (x : View) (s : Site) (a :
     → makes_page (Some k) (input a 0) ≡ false → IsWaitable (Some k) → Waiting_by v j a
 named_waits m v j x s a n k c e page w =
     waits_duty m v j x.own s a n c (ap (λ (o : Option CallName). makes_page o (input a 0)) e ∙ page) (subst IsWaitable (sym e) w)
-
-not_false : (b : Bool) → not b ≡ false → b ≡ true
-not_false true h = refl
-not_false false h = cc
 
 -- OPEN and CLOSE
 pub opens_duty : (m : Machine) (v : State) (j : ℕ) (x : View) (s : Site) (a : Ask) (n : ℕ) → Calling m v j x.own s a n → Duty v j x.own s a n (opens x a)
@@ -67,7 +64,7 @@ iot_in_duty m v j x s a n e i c is at =
     (iot_ends x (changes.Take i ∷ []) (record { at = e; word = first_typed x i } ∷ []))
     (λ t. faults_duty m v j x s a n Mpv c, (λ t. faults_duty m v j x s a n Wro c, (λ t. named_waits m v j x s a n Iot c is refl tt, tt)))
     (λ t. ending_duty m v j x.own s a n (changes.Take i ∷ []) (record { at = e; word = first_typed x i } ∷ []) c (tt, tt) (tt, tt) refl
-    (ap (can_store x.own.core) at ∙ not_false (can_store x.own.core e) t.1.0, tt) (omega arith))
+    (ap (can_store x.own.core) at ∙ not-false (can_store x.own.core e) t.1.0, tt) (omega arith))
 
 iot_out_duty : (m : Machine) (v : State) (j : ℕ) (x : View) (s : Site) (a : Ask) (n e i : ℕ) → Calling m v j x.own s a n → call_named a.name ≡ Some Iot
     → Duty v j x.own s a n (iot_out x e i)

@@ -6,7 +6,7 @@ use Rattle.its_word.specs.Tree.{slots_below}
 use Rattle.its_word.specs.declared.calls.Ask.{Ask}
 use Rattle.its_frame.specs.declared.frame.Frame.{Frame}
 use Rattle.its_frame.specs.declared.name.CallName.{CallName}
-use Rattle.its_frame.specs.declared.name.CallName.TheVariants.{Logout, Close, Iot, Siot, Uclose}
+use Rattle.its_frame.specs.declared.name.CallName.TheVariants.{Logout, Close, Iot, Siot}
 use Rattle.its_plain.specs.Machine.{Whole, Machine}
 use Rattle.its_plain.specs.Change.{superiors}
 use Rattle.its_plain.specs.Arguments.{input}

@@ -16,12 +16,12 @@ use Rattle.its_frame.specs.declared.decision.Held.{Held}
 use Rattle.its_frame.specs.declared.frame.Frame.{Frame}
 use Rattle.its_frame.specs.declared.name.CallName.{CallName}
 use Rattle.its_frame.specs.declared.name.CallName.TheVariants.{Sleep}
-use Rattle.its_plain.specs.Machine.{Chan, Shut, Whole, Machine, changed}
+use Rattle.its_plain.specs.Machine.{Shut, changed}
 use Rattle.its_plain.specs.Own.{on_channel}
 use Rattle.its_plain.specs.Change.{in_job, channel_in, superiors, is_gone, effect}
 use Rattle.its_plain.specs.Arguments.{debts, revalued}
 use Rattle.its_plain.specs.Decide.{call_named}
-use Rattle.its_stepped.specs.State.{Part, UnlinkOld, LinkNew, FreeOld, Mark, State, marked, mine, turn, same, reserving, holding, waiting, moving, ending}
+use Rattle.its_stepped.specs.State.{Part, UnlinkOld, LinkNew, FreeOld, Mark, State, marked, turn, same, holding, waiting, moving, ending}
 
 -- a change on the stepped machine: a close is marked, and its parts are owed; a page that is made is the
 -- reserved one; a removed job has no frame

@@ -1,6 +1,6 @@
 -- The lines of a session over the stepped machine: what PEEK shows, the jobs that a line finds in user mode, and all
 -- lines that the monitor writes (docs/STEPS.md, "Lines").
-use Rattle.std.specs.Prelude.{Bool, ℕ, zero, suc, ◌+◌, Option, Some, None, List, [], ◌∷◌, ◌++◌, slice_get}
+use Rattle.std.specs.Prelude.{Bool, true, false, ℕ, zero, suc, ◌+◌, Option, Some, None, List, [], ◌∷◌, ◌++◌, slice_get}
 use Rattle.its_word.specs.Core.{Core, word_at}
 use Rattle.its_word.specs.Item.{Item, Read, Unread, Beyond}
 use Rattle.its_word.specs.declared.calls.Ask.{Ask}
@@ -25,7 +25,7 @@ use Rattle.its_plain.specs.Transcript.{Fate, Ended, Open, Lost, TooLong}
 use Rattle.its_plain.specs.CallOperator.{Lined, Done, Peeks, lined}
 use Rattle.its_stepped.specs.State.{State, plain, no_state}
 use Rattle.its_stepped.specs.Unwind.{left, unwound}
-use Rattle.its_stepped.specs.Tick.{tick}
+use Rattle.its_stepped.specs.Tick.{helped_if, tick}
 
 -- how far a job is inside a call
 abbrev pub state_shown : Option Frame → PeekState
@@ -120,15 +120,25 @@ abbrev pub unwound_at : Option ℕ → State → State
 unwound_at (Some s) w = unwound w s
 unwound_at None w = w
 
--- the state that a line finds: what it disturbs is unwound
+-- a line that looks at the directory first makes the parts of a close that are still owed; the job that stands in the
+-- close is not disturbed by it
+abbrev pub looks_at_files : Event → Bool
+looks_at_files (events.File d x y) = true
+looks_at_files (events.Append words) = true
+looks_at_files (events.Dir d) = true
+looks_at_files (events.Show d x y) = true
+looks_at_files _ = false
+
+-- the state that a line finds: what it disturbs is unwound, and what it looks at is whole
 unfoldable pub calmed : State → Block → Event → State
-calmed w b e = unwound_at (called_on b e) w
+calmed w b e = helped_if (looks_at_files e) (unwound_at (called_on b e) w)
 
 -- the state with another raw machine
 abbrev pub with_raw : State → Machine → State
 with_raw v m = record v { raw = m }
 
--- the state after a line. A line that is refused tests that first, and leaves the state as it was
+-- the state after a line. A line that is refused tests that first, and leaves the state as it was, but for the parts
+-- of a close that it has made to look at the directory
 abbrev pub state_after : State → State → Lined → State
 state_after w v (Done (Does m out touched b)) = with_raw v m
 state_after w v (Done (Refuses r)) = w
@@ -137,7 +147,7 @@ state_after w v (Done Ends) = w
 state_after w v (Peeks s) = w
 
 unfoldable pub after_line : State → Block → Event → State
-after_line w b e = state_after w (calmed w b e) (lined (calmed w b e).raw b e)
+after_line w b e = state_after (helped_if (looks_at_files e) w) (calmed w b e) (lined (calmed w b e).raw b e)
 
 -- what a line of a state comes to, as a line of the plain machine that it stands for
 abbrev pub lifted : State → Operated → Operated

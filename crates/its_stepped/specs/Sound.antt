@@ -1,13 +1,12 @@
 -- What holds of a state between two calls of the monitor (docs/STEPS.md, "Soundness"). The facts of a slot speak
 -- of that slot alone: of its raw job, its frame and its reserved page.
-use Rattle.std.specs.Prelude.{◌≡◌, ◌≢◌, ◌≤◌, ◌<◌, ℕ, ◌+◌, ◌^◌, Bool, true, false, Option, Some, None, IfSome, List, [], ◌∷◌, length, Ok}
+use Rattle.std.specs.Prelude.{◌≡◌, ◌≢◌, ◌≤◌, ◌<◌, ℕ, ◌+◌, ◌^◌, true, false, Option, Some, None, IfSome, List, [], ◌∷◌, length, Ok}
 use Rattle.its_word.specs.Byte.{has_size}
 use Rattle.its_word.specs.Core.{Core, can_store}
 use Rattle.its_word.specs.declared.calls.Ask.{Ask}
 use Rattle.its_word.specs.declared.calls.Owed.{Owed}
 use Rattle.its_word.specs.declared.calls.Owed.TheVariants as owed
 use Rattle.its_word.specs.declared.calls.Owed.TheVariants.{GiveBack, Unlink, Link, Free, Leave}
-use Rattle.its_word.specs.declared.calls.Site.{Site}
 use Rattle.its_word.specs.declared.jobs.Job.{Job}
 use Rattle.its_word.specs.declared.plan.Store.{Store}
 use Rattle.its_frame.specs.Left.{kept}
@@ -18,7 +17,7 @@ use Rattle.its_frame.specs.declared.name.CallName.TheVariants.{Hang, Sleep, Iot,
 use Rattle.its_plain.specs.Interrupt.{deliverable}
 use Rattle.its_plain.specs.Unit.{Called, unit}
 use Rattle.its_word.specs.Stores.{place}
-use Rattle.its_plain.specs.Machine.{Whole, Machine}
+use Rattle.its_plain.specs.Machine.{Whole}
 use Rattle.its_plain.specs.Change.{poke}
 use Rattle.its_plain.specs.Arguments.{input, debts}
 use Rattle.its_plain.specs.Ask.{parse}

@@ -1,7 +1,6 @@
 -- The stepped machine: a raw machine, and beside it the frames of calls in progress, the pages that they
 -- reserve, and a close that is half made (docs/STEPS.md). What it stands for is a plain machine.
-use Rattle.std.specs.Prelude.{if◌then◌else◌, ◌==◌, ℕ, Bool, true, false, Option, Some, None, List, [], ◌∷◌, ◌++◌, option_map, length}
-use Rattle.std.specs.List.{list_any}
+use Rattle.std.specs.Prelude.{◌==◌, ℕ, Bool, true, false, Option, Some, None, List, [], ◌∷◌, ◌++◌, option_map}
 use Rattle.its_word.specs.declared.calls.Ask.{Ask}
 use Rattle.its_word.specs.declared.calls.Owed.{Owed}
 use Rattle.its_word.specs.declared.calls.Owed.TheVariants.{Store, GiveBack, Unlink, Link, Free, Leave}
@@ -11,8 +10,9 @@ use Rattle.its_frame.specs.declared.frame.Frame.{Frame}
 use Rattle.its_frame.specs.declared.frame.Frame.TheVariants.{Entered, Parsed, Asked, Holding, Waiting, Moving, Ending}
 use Rattle.its_plain.specs.Machine.{File, Chan, Writes, Whole, Machine, changed}
 use Rattle.its_plain.specs.Own.{with_stores, leave}
-use Rattle.its_plain.specs.Change.{in_job, poke, same_names, without_file}
-use Rattle.its_plain.specs.Arguments.{input, debts}
+use Rattle.its_plain.specs.Change.{in_job, poke, without_file}
+use Rattle.its_plain.specs.CallFile.{has_file}
+use Rattle.its_plain.specs.Arguments.{debts}
 use Rattle.its_plain.specs.CallStep.{with_held}
 
 -- the parts of a close: the old file leaves the directory, the draft becomes its last file, and the blocks of
@@ -50,15 +50,12 @@ helped (Some m) fs = parts_made m.draft m.parts fs
 helped None fs = fs
 
 -- the close of a channel is begun: what it owes depends on whether a file has the draft's names
-abbrev pub has_file : File → List File → Bool
-has_file f fs = list_any (λ g. same_names f.names g.names) fs
-
 abbrev pub parts_of : Bool → List Part
 parts_of true = UnlinkOld ∷ LinkNew ∷ FreeOld ∷ []
 parts_of false = LinkNew ∷ []
 
 abbrev pub marked : ℕ → Chan → List File → Option Mark
-marked j (Writes f) fs = Some (record { owner = j; draft = f; parts = parts_of (has_file f fs) })
+marked j (Writes f) fs = Some (record { owner = j; draft = f; parts = parts_of (has_file f.names fs) })
 marked j _ fs = None
 
 abbrev pub mine : Option Mark → ℕ → Bool

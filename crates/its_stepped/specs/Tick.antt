@@ -1,5 +1,5 @@
 -- A tick of a slot on the stepped machine, with its letter (docs/STEPS.md, "A tick").
-use Rattle.std.specs.Prelude.{if◌then◌else◌, ◌==◌, ◌&&◌, ℕ, zero, suc, ◌+◌, Bool, true, false, Option, Some, None, List, [], ◌∷◌, ◌++◌, Result, Ok, Err, nat_lt}
+use Rattle.std.specs.Prelude.{if◌then◌else◌, ◌==◌, ◌&&◌, ℕ, ◌+◌, Bool, true, false, Option, Some, None, List, Result, Ok, Err, nat_lt}
 use Rattle.its_word.specs.declared.access.Fault.{Fault}
 use Rattle.its_word.specs.declared.calls.Ask.{Ask}
 use Rattle.its_word.specs.declared.calls.Pace.{Pace}
@@ -13,13 +13,14 @@ use Rattle.its_frame.specs.declared.name.CallName.{CallName}
 use Rattle.its_frame.specs.declared.name.CallName.TheVariants.{Open, Close, Iot, Siot, Access, Fillen, Delete, Rename, Corblk}
 use Rattle.its_plain.specs.Interrupt.{Delivered, deliverable, delivered}
 use Rattle.its_plain.specs.Unit.{Outcome, Changed, Faulted, Called, unit}
-use Rattle.its_plain.specs.Machine.{Chan, Shut, TtyIn, TtyOut, Reads, Writes, On, Whole, Machine}
+use Rattle.its_plain.specs.Machine.{Chan, Reads, Writes, Whole}
 use Rattle.its_plain.specs.Ask.{parse, fetch}
 use Rattle.its_plain.specs.Arguments.{input}
 use Rattle.its_plain.specs.CallBasic.{channel_at}
+use Rattle.its_plain.specs.CallFile.{disk_device}
 use Rattle.its_plain.specs.Decide.{call_named, reach}
 use Rattle.its_plain.specs.CallStep.{becomes, faulted, informs, told, decision}
-use Rattle.its_stepped.specs.State.{State, plain, seen, turn, same, reserving, entered, parsed, asked, holding, waiting}
+use Rattle.its_stepped.specs.State.{State, plain, seen, turn, same, reserving, entered, parsed, asked, holding}
 use Rattle.its_stepped.specs.Unwind.{unwind_one, all_unwound, help}
 use Rattle.its_stepped.specs.Commit.{effects_on, committed}
 
@@ -86,9 +87,6 @@ abbrev pub is_disk : Chan → Bool
 is_disk (Reads f at) = true
 is_disk (Writes f) = true
 is_disk _ = false
-
-abbrev pub disk_device : ℕ
-disk_device = 0o446353000000
 
 abbrev pub helps_by : Whole → Ask → Option CallName → Bool
 helps_by q a (Some Open) = input a 1 == disk_device

@@ -1,6 +1,6 @@
 -- Unwinding a job to user mode, one step at a time (docs/STEPS.md, "Unwinding"; Bawden, "PCLSRing: Keeping
 -- Process State Modular").
-use Rattle.std.specs.Prelude.{if◌then◌else◌, ℕ, zero, suc, ◌-◌, Bool, true, false, Option, Some, None, List, [], ◌∷◌}
+use Rattle.std.specs.Prelude.{ℕ, zero, suc, Bool, true, false, Option, Some, None, List, [], ◌∷◌}
 use Rattle.its_word.specs.declared.calls.Ask.{Ask}
 use Rattle.its_word.specs.declared.calls.Owed.{Owed}
 use Rattle.its_word.specs.declared.calls.Owed.TheVariants.{Store, GiveBack, Unlink, Link, Free, Leave}
@@ -9,7 +9,6 @@ use Rattle.its_word.specs.declared.plan.Store as stores
 use Rattle.its_frame.specs.Left.{left_of}
 use Rattle.its_frame.specs.declared.frame.Frame.{Frame}
 use Rattle.its_frame.specs.declared.frame.Frame.TheVariants.{Entered, Parsed, Asked, Holding, Waiting, Moving, Ending}
-use Rattle.its_plain.specs.Machine.{Machine, changed}
 use Rattle.its_plain.specs.Own.{with_stores, leave}
 use Rattle.its_plain.specs.Change.{poke}
 use Rattle.its_plain.specs.Arguments.{debts}

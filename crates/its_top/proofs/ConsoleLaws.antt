@@ -1,6 +1,6 @@
 -- TYPE and DRAIN, byte by byte.
 use Rattle.std.specs.Prelude.{◌≡◌, ◌==◌, ◌↔◌, ◌<◌, ◌≤◌, ◌+◌, ◌-◌, ℕ, zero, suc, Bool, true, false, Some, None, IsTrue, Ok, List, [], ◌∷◌, ◌++◌, length, take, drop, slice_get, slice_index, refl}
-use Rattle.std.proofs.Common.{sym, ◌∙◌, ap, arith, append_assoc, append-nil, drop-cons, add-one, inl, inr}
+use Rattle.std.proofs.Common.{sym, ◌∙◌, ap, arith, append_assoc, append-nil, inl, inr}
 use Rattle.std.proofs.lemmas.Bool.{cases_Bool, cases_eq, cases_lt, eq-eqb, ne_eqb}
 use Rattle.std.proofs.lemmas.List.{drop-drop, length-append, length-take-le, take-append-le, take_all}
 use Rattle.its_word.specs.Console.{Console, most_waiting}
@@ -12,6 +12,7 @@ use Rattle.its_stepped.specs.State.{State}
 use Rattle.its_stepped.specs.Lines.{with_raw}
 use Rattle.its_operator.specs.Kept.{Lands}
 use Rattle.its_top.specs.Answer.{TypedSo, DrainedSo}
+use Rattle.its_top.proofs.LoadingLaws.{front}
 
 -- one console, changed once, twice, or not at all
 changed_here : {X : Type 0} (f : ℕ → X) (i : ℕ) (x : X) → changed f i x i ≡ x
@@ -59,9 +60,6 @@ take_front (suc n) (x ∷ xs) ys = ap (λ zs. x ∷ zs) (take_front n xs ys)
 typed_then : (m : Machine) (c : ℕ) (xs ys : List ℕ) → typed c ys (typed c xs m) ≡ typed c (xs ++ ys) m
 typed_then m c xs ys =
     on_then m c (typed_by xs) (typed_by ys) (typed_by (xs ++ ys)) (λ x. ap (λ bs. record x { input = bs }) (take_front most_waiting (x.input ++ xs) ys ∙ ap (take most_waiting) (append_assoc x.input xs ys)))
-
-front : (bytes : List ℕ) (k : ℕ) → k < length bytes → drop k bytes ≡ slice_index bytes k ∷ drop (k + 1) bytes
-front bytes k h = rw (add-one) (drop-cons bytes k 0 h)
 
 -- how many bytes wait after one more, and what is dropped of those behind it
 waits_room : (x : Console) (b : ℕ) → length x.input < most_waiting → length (take most_waiting (x.input ++ b ∷ [])) ≡ length x.input + 1

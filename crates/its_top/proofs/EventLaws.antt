@@ -10,7 +10,6 @@ use Rattle.its_print.specs.Printing.{Line, Refused, text_of_line, text}
 use Rattle.its_print.specs.Printing as printed
 use Rattle.its_plain.specs.Machine.{Machine}
 use Rattle.its_plain.specs.Operator.{Block, Does, Refuses, Ticks, Ends}
-use Rattle.its_plain.specs.Operator as operator
 use Rattle.its_plain.specs.CallOperator.{Lined, Done, Peeks, operate, lined}
 use Rattle.its_plain.specs.Transcript.{Fate, Lost}
 use Rattle.its_stepped.specs.State.{State}
@@ -51,7 +50,7 @@ says_by n v c b e o items h =
 
 -- only END ends
 end_goes : (m : Machine) (b : Block) → lined m b events.End ≡ Done Ends
-unfolding lined operate operator.operate
+unfolding lined operate
 end_goes m b = refl
 
 pub end_comes : (v : State) (b : Block) → Comes v b events.End v (Done Ends)

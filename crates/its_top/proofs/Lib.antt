@@ -16,3 +16,4 @@ pub mod WritingLaws
 pub mod MoveLaws
 pub mod ShownLaws
 pub mod LedgerLaws
+pub mod FilingLaws

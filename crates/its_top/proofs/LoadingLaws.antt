@@ -19,7 +19,8 @@ twice v s sound = unwound_still (unwound v s) s (unwound_none v s sound)
 calm_still : (v c : State) (s : ℕ) (m : Machine) → c ≡ with_raw v m → v.frames s ≡ None → unwound c s ≡ c
 calm_still v c s m e n = unwound_still c s (ap (λ x. x.frames s) e ∙ n)
 
-front : (words : List ℕ) (k : ℕ) → k < length words → drop k words ≡ slice_index words k ∷ drop (k + 1) words
+-- from the k-th on
+pub front : (words : List ℕ) (k : ℕ) → k < length words → drop k words ≡ slice_index words k ∷ drop (k + 1) words
 front words k h = rw (add-one) (drop-cons words k 0 h)
 
 turn : (m : Machine) (s a v : ℕ) (vs : List ℕ) → words_loaded m s a (v ∷ vs) ≡ and_then (word_loaded m s a v) (λ n. words_loaded n s (a + 1) vs)

@@ -4,6 +4,7 @@ use Rattle.std.proofs.Common.{sym, ap, subst}
 use Rattle.std.specs.Io.KnownBytes.{Consumes, IsAtEnd}
 use Rattle.its_word.specs.declared.session.Place.TheVariants as places
 use Rattle.its_plain.specs.Machine.{no_machine}
+use Rattle.its_plain.specs.Own.{names_of}
 use Rattle.its_stepped.specs.State.{State, no_state}
 use Rattle.its_top.specs.declared.status.Status.{Status}
 use Rattle.its_top.specs.declared.turn.Turn.{Turn}
@@ -13,11 +14,11 @@ use Rattle.its_top.specs.Conclusion.{Session, SoFar, Feeds, Finishes, status_of}
 use Rattle.its_top.proofs.ConclusionLaws.{so_far_none, so_far_next, session_end, session_over}
 use Rattle.its_top.proofs.FinishLaws.{on_of}
 
-pub start_is : (m : State) → m ≡ no_state no_machine → record { number = 1; state = m; block = block_of 0; place = places.Plain } ≡ at_start
+pub start_is : (m : State) → m ≡ no_state no_machine → record { number = 1; state = m; block = block_of 0 (names_of 0 0 0); place = places.Plain } ≡ at_start
 start_is m e = ap (λ x. now_made x) e
   where
     now_made : State → Now
-    now_made x = record { number = 1; state = x; block = block_of 0; place = places.Plain }
+    now_made x = record { number = 1; state = x; block = block_of 0 (names_of 0 0 0); place = places.Plain }
 
 -- nothing was read yet
 pub so_far_start : (kept : List ℕ) (now : Now) (left old : Option (List ℕ)) → kept ≡ [] → now ≡ at_start → SoFar kept now left left old old

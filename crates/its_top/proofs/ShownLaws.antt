@@ -1,6 +1,6 @@
 -- What a line of a session does to the consoles: TYPE adds what has room, DRAIN takes what it shows, and any other line
--- leaves them (docs/MACHINE.md, "The ledger").
-use Rattle.std.specs.Prelude.{◌≡◌, ◌≤◌, ℕ, ◌+◌, ◌-◌, Bool, true, false, Option, Some, None, List, [], ◌∷◌, ◌++◌, Result, Ok, Err, length, take, drop, min, flat_map, is_some, nat_lt, refl}
+-- leaves them and shows no byte of them (docs/MACHINE.md, "The ledger").
+use Rattle.std.specs.Prelude.{◌≡◌, ◌≤◌, ℕ, zero, suc, ◌+◌, ◌-◌, ◌/◌, Bool, true, false, Option, Some, None, List, [], ◌∷◌, ◌++◌, Result, Ok, Err, length, map, take, drop, min, flat_map, is_some, nat_lt, refl}
 use Rattle.std.proofs.Common.{sym, ◌∙◌, ap, subst, inl, inr, arith, append-nil, take-append-drop}
 use Rattle.std.proofs.Math.Seq.{take-append-add}
 use Rattle.std.proofs.lemmas.Bool.{cases_eq, eq-eqb, ne_eqb}
@@ -15,11 +15,15 @@ use Rattle.its_word.specs.declared.session.Reason.{Reason}
 use Rattle.its_word.specs.declared.show.JobShow.{JobShow}
 use Rattle.its_print.specs.Printing.{Line}
 use Rattle.its_print.specs.Printing as printed
-use Rattle.its_plain.specs.CallOperator.{clock_end, clocked_if, clocked, typed, dropped, drained, operate, Lined, Done, Peeks, peeked_at, lined}
+use Rattle.its_plain.specs.CallOperator.{clock_end, clocked_if, clocked, typed, dropped, drained, shows, operate, Lined, Done, Peeks, peeked_at, lined}
+use Rattle.its_plain.specs.CallFile.{file_named}
+use Rattle.its_plain.specs.FileOperator.{file_made, words_added, files_in, filed_line, listing, rows, shown_lines, shown_by, file_shown}
 use Rattle.its_plain.specs.Ledger.{typed_by, drained_by}
-use Rattle.its_plain.specs.Machine.{Whole, Machine, mapped}
+use Rattle.its_plain.specs.Machine.{File, Whole, Machine, mapped}
 use Rattle.its_plain.specs.Operator.{Block, Refuses, Does, Ticks, stored, with_core, word_loaded_of, word_loaded, and_then, words_loaded, on_job, with_registers, on_registers, started, interrupted, stopped, continued, deposited_in, deposited, disturbs, quietly, by_load, loaded_in, loaded, by_exam, examined, by_state, state_shown}
 use Rattle.its_plain.specs.Operator as operator
+use Rattle.its_plain.specs.Own.{names_of}
+use Rattle.its_plain.proofs.CallLineLaws.{FilesAlone, made_files, added_files}
 
 -- at console c, this line led from machine m to n: what it typed and what it showed
 pub record Shows (c : ℕ) (m n : Machine) (e : Event) (out : List Line) : Type 0 where
@@ -110,14 +114,37 @@ peek_shows : (c : ℕ) (m : Machine) (s : ℕ) (o : Option Whole) → ShowsBy c 
 peek_shows c m s (Some q) = tt
 peek_shows c m s None = tt
 
-load_shows : (c : ℕ) (m : Machine) (u j : ℕ) (console o : Option ℕ) → Few c m → ShowsBy c m (events.Load u j console) (Done (by_load (loaded_in m u j console o)))
-load_shows c m u j (Some d) (Some s) few = shows_still c m _ (events.Load u j (Some d)) (printed.Loaded s ∷ []) few refl refl refl
-load_shows c m u j None (Some s) few = shows_still c m _ (events.Load u j None) (printed.Loaded s ∷ []) few refl refl refl
-load_shows c m u j console None few = tt
+load_shows : (c : ℕ) (m : Machine) (b : Block) (u j : ℕ) (console o : Option ℕ) → Few c m → ShowsBy c m (events.Load u j console) (Done (by_load b (loaded_in m u j console o)))
+load_shows c m b u j (Some d) (Some s) few = shows_still c m _ (events.Load u j (Some d)) (printed.Loaded s ∷ []) few refl refl refl
+load_shows c m b u j None (Some s) few = shows_still c m _ (events.Load u j None) (printed.Loaded s ∷ []) few refl refl refl
+load_shows c m b u j console None few = tt
 
-clock_shows : (c : ℕ) (m : Machine) (b : Block) (n : ℕ) (fits : Bool) → Few c m → ShowsBy c m (events.Clock n) (Done (quietly b (clocked_if m n fits)))
-clock_shows c m b n true few = shows_still c m _ (events.Clock n) [] few refl refl refl
-clock_shows c m b n false few = tt
+-- a line that disturbs nobody
+quiet_shows : (c : ℕ) (m : Machine) (e : Event) (b : Block) (r : Result Machine Reason) → Few c m → typed_by c m e ≡ [] → SameBy m r → ShowsBy c m e (Done (quietly b r))
+quiet_shows c m e b (Ok n) few none h = shows_still c m n e [] few h none refl
+quiet_shows c m e b (Err r) few none h = tt
+
+clock_same : (m : Machine) (n : ℕ) (fits : Bool) → SameBy m (clocked_if m n fits)
+clock_same m n true = refl
+clock_same m n false = tt
+
+-- lines on files
+files_same : (m : Machine) (r : Result Machine Reason) → FilesAlone m r → SameBy m r
+files_same m (Ok n) h = ap (λ (x : Machine). x.consoles) h
+files_same m (Err r) h = tt
+
+filed_none : (c : ℕ) (fs : List File) → flat_map (drained_by c) (map filed_line fs) ≡ []
+filed_none c [] = refl
+filed_none c (f ∷ fs) = filed_none c fs
+
+rows_none : (c n : ℕ) (ws : List ℕ) → flat_map (drained_by c) (rows n ws) ≡ []
+rows_none c zero ws = refl
+rows_none c (suc n) ws = rows_none c n (drop 8 ws)
+
+file_shows : (c : ℕ) (m : Machine) (b : Block) (d x y : ℕ) (o : Option File) → Few c m → ShowsBy c m (events.Show d x y) (Done (shows m b (shown_by d x y o)))
+file_shows c m b d x y (Some f) few =
+    shows_still c m m (events.Show d x y) (shown_lines d x y f.words) few refl refl (rows_none c ((length f.words + 7) / 8) f.words)
+file_shows c m b d x y None few = tt
 
 -- TYPE: what has room
 fills : (n : ℕ) (xs ys : List ℕ) → length xs ≤ n → xs ++ take (n - length xs) ys ≡ take n (xs ++ ys)
@@ -169,8 +196,8 @@ drained_shows c d m n few = elim (cases_eq d c) [
 
 -- each line
 pub line_shows : (c : ℕ) (m : Machine) (b : Block) (e : Event) → Few c m → ShowsBy c m e (lined m b e)
-unfolding lined operate operator.operate loaded clocked
-line_shows c m b (events.Load u j console) few = load_shows c m u j console (least_free m.jobs) few
+unfolding lined operate loaded clocked file_shown
+line_shows c m b (events.Load u j console) few = load_shows c m b u j console (least_free m.jobs) few
 line_shows c m b (events.Words a words) few =
     disturbs_shows c m (events.Words a words) b.slot b (words_loaded m b.slot a words.items) few refl (words_same m b.slot a words.items)
 line_shows c m b (events.Go a) few = disturbs_shows c m (events.Go a) b.slot b (on_registers m b.slot (started a)) few refl (registers_same m b.slot (started a))
@@ -180,15 +207,20 @@ line_shows c m b (events.Cont s) few = disturbs_shows c m (events.Cont s) s b (o
 line_shows c m b (events.Deposit s a x) few = disturbs_shows c m (events.Deposit s a x) s b (deposited m s a x) few refl (deposited_same m s a x)
 line_shows c m b (events.Exam s a n) few = exam_shows c m b s a n (examined m s a n) few
 line_shows c m b (events.State s) few = state_shows c m b s (state_shown m s) few
-line_shows c m b (events.Clock n) few = clock_shows c m b n (nat_lt (m.clock + n) clock_end) few
+line_shows c m b (events.Clock n) few = quiet_shows c m (events.Clock n) b (clocked m n) few refl (clock_same m n (nat_lt (m.clock + n) clock_end))
 line_shows c m b (events.Peek s) few = peek_shows c m s (m.jobs s)
 line_shows c m b (events.Tick s n) few = tt
 line_shows c m b events.Nothing few = shows_still c m m events.Nothing [] few refl refl refl
 line_shows c m b events.End few = tt
-line_shows c m b (events.File d x y) few = tt
-line_shows c m b (events.Append words) few = tt
-line_shows c m b events.EndFile few = tt
+line_shows c m b (events.File d x y) few =
+    let n = names_of d x y in
+    quiet_shows c m (events.File d x y) (record b { file = n }) (file_made m n) few refl (files_same m (file_made m n) (made_files m n))
+line_shows c m b (events.Append words) few =
+    quiet_shows c m (events.Append words) b (words_added m b.file words.items) few refl (files_same m (words_added m b.file words.items) (added_files m b.file words.items))
+line_shows c m b events.EndFile few = shows_still c m m events.EndFile [] few refl refl refl
 line_shows c m b (events.TypeIn d bytes) few = typed_shows c d m bytes.items few
 line_shows c m b (events.Drain d n) few = drained_shows c d m n few
-line_shows c m b (events.Dir d) few = tt
-line_shows c m b (events.Show d x y) few = tt
+line_shows c m b (events.Dir d) few =
+    let fs = files_in d m.files in
+    shows_still c m m (events.Dir d) (listing d fs) few refl refl (filed_none c fs)
+line_shows c m b (events.Show d x y) few = file_shows c m b d x y (file_named (names_of d x y) m.files) few

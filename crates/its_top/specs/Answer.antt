@@ -1,32 +1,34 @@
 -- What the answer to an event gave the sink.
-use Rattle.std.specs.Prelude.{◌≡◌, ◌<◌, ◌+◌, ◌-◌, ℕ, true, is_some, Option, Result, Ok, Err, List, [], ◌++◌, take}
+use Rattle.std.specs.Prelude.{◌≡◌, ◌<◌, ◌+◌, ◌-◌, ℕ, true, is_some, Option, None, Result, Ok, Err, List, [], ◌++◌, take}
 use Rattle.std.specs.Io.KnownBytes.{Appends}
 use Rattle.its_word.specs.declared.session.Event.{Event}
 use Rattle.its_word.specs.declared.calls.Pace.{Pace}
-use Rattle.its_plain.specs.Machine.{Machine}
+use Rattle.its_plain.specs.Machine.{Names, Machine}
 use Rattle.its_plain.specs.CallOperator.{typed, dropped, drained}
+use Rattle.its_plain.specs.FileOperator.{words_added}
 use Rattle.its_stepped.specs.State.{State}
-use Rattle.its_stepped.specs.Unwind.{unwound}
+use Rattle.its_stepped.specs.Unwind.{unwound, help}
 use Rattle.its_stepped.specs.Lines.{with_raw, paces_of, ticked}
 use Rattle.its_word.specs.declared.session.Reason.{Reason}
 use Rattle.its_plain.specs.Operator.{Block, words_loaded, examined}
 use Rattle.its_monitor.specs.declared.monitor.Monitor.{Monitor}
 use Rattle.its_word.specs.declared.session.Refusal.{Refusal}
-use Rattle.its_print.specs.Printing.{Refused, text_of_line}
+use Rattle.its_print.specs.Printing.{Line, Refused, text_of_line, text}
 use Rattle.its_world.specs.World.{state_of}
+use Rattle.its_world.specs.declared.world.World.{World}
 use Rattle.its_operator.specs.Kept.{reason_of}
 use Rattle.its_top.specs.declared.turn.Turn.{Turn}
 use Rattle.its_top.specs.declared.turn.Turn.TheVariants as turns
 use Rattle.its_top.specs.declared.progress.Progress.{Progress}
 use Rattle.its_top.specs.Telling.{Now, Answers, Lines}
 
--- the block of the slot that the last LOAD line made
-abbrev pub block_of : ℕ → Block
-block_of s = record { slot = s }
+-- the block of the slot that the last LOAD line made, and of the file that the last FILE line made
+abbrev pub block_of : ℕ → Names → Block
+block_of s f = record { slot = s; file = f }
 
 -- the session between two lines
 abbrev pub now_of : Monitor → Progress → Now
-now_of m p = record { number = p.number; state = state_of m.world; block = block_of p.slot; place = p.place }
+now_of m p = record { number = p.number; state = state_of m.world; block = block_of p.slot p.file; place = p.place }
 
 -- these bytes were to be written, after which the turn would have been `good`
 abbrev pub WroteFor : Turn → Turn → List ℕ → List ℕ → Type 0
@@ -68,6 +70,29 @@ pub record ExamSo (m : Machine) (s a n k : ℕ) (ws : List ℕ) : Type 0 where
 pub record Calm (v now : State) (s k : ℕ) : Type 0 where
   pub found : unwound now s ≡ v
   pub reached : 0 < k → now ≡ v
+
+-- after k calls that look at files, the parts of a close that were owed are made
+pub record Looked (old now : World) (k : ℕ) : Type 0 where
+  pub found : help (state_of now) ≡ help (state_of old)
+  pub reached : 0 < k → state_of now ≡ help (state_of old)
+  pub unmarked : 0 < k → now.files.mark ≡ None
+
+-- where no part of a close was owed, calls that look at files left the state and the files as they were
+pub record Stood (old now : World) : Type 0 where
+  pub state : state_of now ≡ state_of old
+  pub files : now.files ≡ old.files
+
+-- k of these words were added to the file with these names, where v is the state with the parts of a close made
+pub record AddSo (v now : State) (n : Names) (k : ℕ) (words rest : List ℕ) : Type 0 where
+  pub raw : help now ≡ with_raw v (help now).raw
+  pub reached : 0 < k → now ≡ help now
+  pub whole : words_added (help now).raw n rest ≡ words_added v.raw n words
+
+-- of some lines all but the last ones were written
+pub record WritesSo (lines rest : List Line) (old now : Option (List ℕ)) : Type 0 where
+  pub wrote : List ℕ
+  pub appended : Appends old now wrote
+  pub whole : text lines ≡ wrote ++ text rest
 
 -- k of these words were loaded from an address on, where v is the state with the job of slot s unwound
 pub record LoadSo (v now : State) (s a k : ℕ) (words rest : List ℕ) : Type 0 where

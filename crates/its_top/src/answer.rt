@@ -11,16 +11,17 @@ ghost use Rattle.its_operator.specs.Kept.{Kept, Lands, reason_of};
 ghost use Rattle.its_print.specs.Printing.{Refused, text_of_line};
 ghost use Rattle.its_top.specs.Answer.{Answered, Tells, block_of};
 
+use super::filing::{add_words, list_files, make_file, show_words};
 use super::progress::Progress;
 use super::turn::Turn;
-use super::writing::{refuse, refuse_by, settle, tell};
+use super::writing::{refuse_by, settle, tell};
 use arrayvec::ArrayVec;
 use its_io::Sink;
 use its_monitor::Monitor;
 use its_print::{
     print_drained, print_loaded, print_peek, print_state, print_ticks, print_typed, print_words,
 };
-use its_word::{Event, Pace, Reason, Refusal, Word};
+use its_word::{Event, Pace, Refusal, Word};
 
 /// LOAD: makes a job, and shows its slot, which is then the block's.
 #[tactic(auto, using(crate::proofs::AnswerLaws::load_answered, crate::proofs::AnswerLaws::load_refused))]
@@ -34,7 +35,7 @@ fn load<K: Sink>(
 ) -> Turn
     requires sound { Kept m.old.world }
     requires console { IfSome console (λ c. c < 8) }
-    ensures answered { Answered result p.old.number (state_of m.old.world) (block_of p.old.slot) (Event.Load u j console) (state_of m.new.world) (block_of p.new.slot) (K.written out.old) (K.written out.new) }
+    ensures answered { Answered result p.old.number (state_of m.old.world) (block_of p.old.slot p.old.file) (Event.Load u j console) (state_of m.new.world) (block_of p.new.slot p.new.file) (K.written out.old) (K.written out.new) }
     ensures sound { Kept m.new.world }
     ensures slot { p.old.slot < slots → p.new.slot < slots }
     ensures kept { (p.new.number ≡ p.old.number) × (p.new.place ≡ p.old.place) }
@@ -58,7 +59,7 @@ fn load<K: Sink>(
 fn state<K: Sink>(m: &mut Monitor, p: Progress, s: u8, out: &mut K) -> Turn
     requires sound { Kept m.old.world }
     requires slot { s < slots }
-    ensures answered { Answered result p.number (state_of m.old.world) (block_of p.slot) (Event.State s) (state_of m.new.world) (block_of p.slot) (K.written out.old) (K.written out.new) }
+    ensures answered { Answered result p.number (state_of m.old.world) (block_of p.slot p.file) (Event.State s) (state_of m.new.world) (block_of p.slot p.file) (K.written out.old) (K.written out.new) }
     ensures sound { Kept m.new.world }
     ensures later { K.faults out.old ≤ K.faults out.new }
     ensures unfailed { result ≢ Turn.Fault → K.faults out.new ≡ K.faults out.old }
@@ -106,7 +107,7 @@ fn examine<K: Sink>(m: &mut Monitor, p: Progress, s: u8, a: u32, n: u32, out: &m
     requires few { n ≤ 8 }
     requires some { 1 ≤ n }
     requires end { a + n ≤ 2 ^ 18 }
-    ensures answered { Answered result p.number (state_of m.old.world) (block_of p.slot) (Event.Exam s a n) (state_of m.new.world) (block_of p.slot) (K.written out.old) (K.written out.new) }
+    ensures answered { Answered result p.number (state_of m.old.world) (block_of p.slot p.file) (Event.Exam s a n) (state_of m.new.world) (block_of p.slot p.file) (K.written out.old) (K.written out.new) }
     ensures sound { Kept m.new.world }
     ensures later { K.faults out.old ≤ K.faults out.new }
     ensures unfailed { result ≢ Turn.Fault → K.faults out.new ≡ K.faults out.old }
@@ -150,7 +151,7 @@ fn ticks<K: Sink>(m: &mut Monitor, p: Progress, s: u8, n: u32, out: &mut K) -> T
     requires sound { Kept m.old.world }
     requires slot { s < slots }
     requires few { n ≤ 512 }
-    ensures answered { Answered result p.number (state_of m.old.world) (block_of p.slot) (Event.Tick s n) (state_of m.new.world) (block_of p.slot) (K.written out.old) (K.written out.new) }
+    ensures answered { Answered result p.number (state_of m.old.world) (block_of p.slot p.file) (Event.Tick s n) (state_of m.new.world) (block_of p.slot p.file) (K.written out.old) (K.written out.new) }
     ensures sound { Kept m.new.world }
     ensures later { K.faults out.old ≤ K.faults out.new }
     ensures unfailed { result ≢ Turn.Fault → K.faults out.new ≡ K.faults out.old }
@@ -187,7 +188,7 @@ fn type_line<K: Sink>(m: &mut Monitor, p: Progress, c: u8, bytes: &[u8], out: &m
     requires console { c < 8 }
     requires some { 1 ≤ length bytes.now }
     requires few { length bytes.now ≤ 32 }
-    ensures answered { Answered result p.number (state_of m.old.world) (block_of p.slot) (Event.TypeIn c (record { items = bytes.now })) (state_of m.new.world) (block_of p.slot) (K.written out.old) (K.written out.new) }
+    ensures answered { Answered result p.number (state_of m.old.world) (block_of p.slot p.file) (Event.TypeIn c (record { items = bytes.now })) (state_of m.new.world) (block_of p.slot p.file) (K.written out.old) (K.written out.new) }
     ensures sound { Kept m.new.world }
     ensures later { K.faults out.old ≤ K.faults out.new }
     ensures unfailed { result ≢ Turn.Fault → K.faults out.new ≡ K.faults out.old }
@@ -225,7 +226,7 @@ fn drain_line<K: Sink>(m: &mut Monitor, p: Progress, c: u8, n: u32, out: &mut K)
     requires sound { Kept m.old.world }
     requires console { c < 8 }
     requires few { n ≤ 64 }
-    ensures answered { Answered result p.number (state_of m.old.world) (block_of p.slot) (Event.Drain c n) (state_of m.new.world) (block_of p.slot) (K.written out.old) (K.written out.new) }
+    ensures answered { Answered result p.number (state_of m.old.world) (block_of p.slot p.file) (Event.Drain c n) (state_of m.new.world) (block_of p.slot p.file) (K.written out.old) (K.written out.new) }
     ensures sound { Kept m.new.world }
     ensures later { K.faults out.old ≤ K.faults out.new }
     ensures unfailed { result ≢ Turn.Fault → K.faults out.new ≡ K.faults out.old }
@@ -263,7 +264,7 @@ fn drain_bytes(m: &mut Monitor, c: u8, n: u32) -> ArrayVec<u8, 64>
 fn peek<K: Sink>(m: &mut Monitor, p: Progress, s: u8, out: &mut K) -> Turn
     requires sound { Kept m.old.world }
     requires slot { s < slots }
-    ensures answered { Answered result p.number (state_of m.old.world) (block_of p.slot) (Event.Peek s) (state_of m.new.world) (block_of p.slot) (K.written out.old) (K.written out.new) }
+    ensures answered { Answered result p.number (state_of m.old.world) (block_of p.slot p.file) (Event.Peek s) (state_of m.new.world) (block_of p.slot p.file) (K.written out.old) (K.written out.new) }
     ensures sound { Kept m.new.world }
     ensures later { K.faults out.old ≤ K.faults out.new }
     ensures unfailed { result ≢ Turn.Fault → K.faults out.new ≡ K.faults out.old }
@@ -279,23 +280,13 @@ fn peek<K: Sink>(m: &mut Monitor, p: Progress, s: u8, out: &mut K) -> Turn
     }
 }
 
-/// The refusal of a line of a kind that is not built.
-fn unbuilt<K: Sink>(out: &mut K, number: u32) -> Turn
-    ensures told { Tells result Turn.Refused (text_of_line (Refused number Reason.Unbuilt)) (K.written out.old) (K.written out.new) }
-    ensures later { K.faults out.old ≤ K.faults out.new }
-    ensures unfailed { result ≢ Turn.Fault → K.faults out.new ≡ K.faults out.old }
-    ensures fault { result ≡ Turn.Fault → K.faults out.new ≡ next_fault (K.faults out.old) }
-{
-    refuse(out, number, Reason::Unbuilt)
-}
-
 /// The answer to an event: what it does to the monitor and to the block, and what it shows.
-#[tactic(auto, using(crate::proofs::AnswerLaws::nothing_answered, crate::proofs::AnswerLaws::end_answered, crate::proofs::AnswerLaws::unbuilt_answered, crate::proofs::AnswerLaws::go_answered, crate::proofs::AnswerLaws::words_answered, crate::proofs::AnswerLaws::int_answered, crate::proofs::AnswerLaws::deposit_answered, crate::proofs::AnswerLaws::stop_answered, crate::proofs::AnswerLaws::cont_answered, crate::proofs::AnswerLaws::clock_answered, crate::proofs::AnswerLaws::console_fits))]
+#[tactic(auto, using(crate::proofs::AnswerLaws::nothing_answered, crate::proofs::AnswerLaws::end_answered, crate::proofs::AnswerLaws::end_file_answered, crate::proofs::AnswerLaws::append_answered, crate::proofs::AnswerLaws::go_answered, crate::proofs::AnswerLaws::words_answered, crate::proofs::AnswerLaws::int_answered, crate::proofs::AnswerLaws::deposit_answered, crate::proofs::AnswerLaws::stop_answered, crate::proofs::AnswerLaws::cont_answered, crate::proofs::AnswerLaws::clock_answered, crate::proofs::AnswerLaws::console_fits))]
 pub fn answer<K: Sink>(m: &mut Monitor, p: &mut Progress, event: &Event, out: &mut K) -> Turn
     requires sound { Kept m.old.world }
     requires slot { p.old.slot < slots }
     requires fits { EventFits event.now }
-    ensures answered { Answered result p.old.number (state_of m.old.world) (block_of p.old.slot) event.now (state_of m.new.world) (block_of p.new.slot) (K.written out.old) (K.written out.new) }
+    ensures answered { Answered result p.old.number (state_of m.old.world) (block_of p.old.slot p.old.file) event.now (state_of m.new.world) (block_of p.new.slot p.new.file) (K.written out.old) (K.written out.new) }
     ensures sound { Kept m.new.world }
     ensures slot { p.new.slot < slots }
     ensures kept { (p.new.number ≡ p.old.number) × (p.new.place ≡ p.old.place) }
@@ -342,10 +333,13 @@ pub fn answer<K: Sink>(m: &mut Monitor, p: &mut Progress, event: &Event, out: &m
         Event::Drain { c, n } => drain_line(m, *p, *c, *n, out),
         Event::Peek { s } => peek(m, *p, *s, out),
         Event::End => Turn::Ended,
-        Event::File { .. } => unbuilt(out, number),
-        Event::Append { .. } => unbuilt(out, number),
-        Event::EndFile => unbuilt(out, number),
-        Event::Dir { .. } => unbuilt(out, number),
-        Event::Show { .. } => unbuilt(out, number),
+        Event::File { d, x, y } => make_file(m, p, *d, *x, *y, out),
+        Event::Append { words } => {
+            let added = add_words(m, p.file, words);
+            settle(out, number, added)
+        }
+        Event::EndFile => Turn::On,
+        Event::Dir { d } => list_files(m, *p, *d, out),
+        Event::Show { d, x, y } => show_words(m, *p, *d, *x, *y, out),
     }
 }

@@ -3,6 +3,7 @@
 
 mod answer;
 mod bytes;
+mod filing;
 mod lines;
 mod progress;
 mod run;

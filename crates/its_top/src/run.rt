@@ -15,7 +15,7 @@ use super::status::Status;
 use arrayvec::ArrayVec;
 use its_io::{Sink, Source};
 use its_monitor::Monitor;
-use its_word::Place;
+use its_word::{Place, Word};
 
 /// Runs a session: reads it through a buffer of 512 bytes, keeps one line of it at most, and writes
 /// what each line shows before it looks at the next. It takes no memory. The monitor is as
@@ -37,9 +37,11 @@ pub fn session<S: Source, K: Sink>(m: &mut Monitor, src: &mut S, out: &mut K) ->
 {
     let mut buf = [0u8; 512];
     let mut kept = ArrayVec::new();
+    let file = [Word::ZERO; 3];
     let mut p = Progress {
         number: 1,
         slot: 0,
+        file,
         place: Place::Plain,
     };
     take_all(m, &mut p, &mut kept, &mut buf, src, out)

@@ -3,6 +3,7 @@
 ghost use Rattle.std.specs.Prelude.{◌≤◌};
 
 mod consoles;
+mod files;
 
 use super::{Status, its};
 use consoles::{CONSOLES, ECHO, TYPED};
@@ -36,7 +37,7 @@ static ROWS: [(&str, &str, Status); 24] = [
     ),
     ("STATE 0\n", "? 1 NOJOB\n", Status::Refused),
     ("DRAIN 10 1\n", "? 1 NOCONS\n", Status::Refused),
-    ("DIR U\n", "? 1 UNBUILT\n", Status::Refused),
+    ("DIR U\n", "R 650000000000 0\n", Status::Done),
     ("\n; a comment\nPEEK 0\n", "? 3 NOJOB\n", Status::Refused),
     // a block transfer whose accumulator is its last destination
     (
@@ -517,10 +518,10 @@ USRVAR
 LOGOUT
 400000000000 545747576564 1000000001 1000000001 403000000010 = 4. 1* 2. 3* = 3 = RUN 10000000101 0
 400000000000 545747576564 2000000011 403000000010 = 4. 1* 2. 3* = 3 = RUN 10000000101 0
-calls that are not built, and names of none: CORBLK, RENAME, OPEN, OPEN with too few arguments, IOT, 0
+calls that are not built, and names of none: CORBLK, UCLOSE, USRMEM, OPEN with too few arguments, IOT, 0
 400000000000 435762425453 1000000001 1000777777 1000000001 403000000010 = 4. 1* 2. 3* = 1 = RUN 10000000101 0
-400000000000 624556415545 0 0 0 0 0 0 5000000001 403000000010 = 4. 1* 2. 3* = 1 = RUN 10000000101 0
-400000000000 414343456363 1000000001 140 403000000010 = 4. 1* 2. 3* = 1 = RUN 10000000101 0
+400000000000 654354576345 1000000001 403000000010 = 4. 1* 2. 3* = 1 = RUN 10000000101 0
+400000000000 656362554555 1000000001 140 403000000010 = 4. 1* 2. 3* = 1 = RUN 10000000101 0
 400000000000 576045560000 1000000001 403000000010 = 4. 1* 2. 3* = 2 = RUN 10000000101 0
 400000000000 515764000000 3000000010 403000000011 = 4. 1* 2. 3* = 1 = RUN 10000000101 0
 400000000000 0 1000000001 403000000010 = 4. 1* 2. 3* = 1 = RUN 10000000101 0

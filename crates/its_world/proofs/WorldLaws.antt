@@ -44,8 +44,8 @@ alike : {X : Type 0} → (f g : ℕ → X) (s : ℕ) → ((k : ℕ) → g k ≡ 
 alike f g s h = record { here = h s; others = λ k n. h k }
 
 pub core_becomes : (old new : World) (s : ℕ) (c : Core) → Only (core_at old.core) (core_at new.core) s c → new.core.reserved ≡ old.core.reserved
-    → new.jobs ≡ old.jobs → new.frames ≡ old.frames → new.consoles ≡ old.consoles → new.holders ≡ old.holders → new.clock ≡ old.clock → CoreBecomes old new s c
-core_becomes old new s c core reserved jobs frames consoles holders clock = record {
+    → new.jobs ≡ old.jobs → new.frames ≡ old.frames → new.consoles ≡ old.consoles → new.holders ≡ old.holders → new.files ≡ old.files → new.clock ≡ old.clock → CoreBecomes old new s c
+core_becomes old new s c core reserved jobs frames consoles holders files clock = record {
   core = core;
   job = alike _ _ s (λ k. ap (λ t. job_at t k) jobs);
   superiors = ap (λ t. t.superiors) jobs;
@@ -53,12 +53,13 @@ core_becomes old new s c core reserved jobs frames consoles holders clock = reco
   reserved = alike _ _ s ((same_clear old.core new.core reserved).each);
   consoles = consoles;
   holders = holders;
+  files = files;
   clock = clock;
 }
 
 pub job_becomes : (old new : World) (s : ℕ) (j : Job) → Only (job_at old.jobs) (job_at new.jobs) s (Some j) → new.jobs.superiors ≡ old.jobs.superiors
-    → new.core ≡ old.core → new.frames ≡ old.frames → new.consoles ≡ old.consoles → new.holders ≡ old.holders → new.clock ≡ old.clock → JobBecomes old new s j
-job_becomes old new s j job superiors core frames consoles holders clock = record {
+    → new.core ≡ old.core → new.frames ≡ old.frames → new.consoles ≡ old.consoles → new.holders ≡ old.holders → new.files ≡ old.files → new.clock ≡ old.clock → JobBecomes old new s j
+job_becomes old new s j job superiors core frames consoles holders files clock = record {
   core = alike _ _ s (λ k. ap (λ t. core_at t k) core);
   job = job;
   superiors = superiors;
@@ -66,12 +67,13 @@ job_becomes old new s j job superiors core frames consoles holders clock = recor
   reserved = alike _ _ s (λ k. ap (λ t. clear_at t k) core);
   consoles = consoles;
   holders = holders;
+  files = files;
   clock = clock;
 }
 
 pub frame_becomes : (old new : World) (s : ℕ) (f : Option Frame) → Only (frame_at old.frames.items) (frame_at new.frames.items) s f
-    → new.core ≡ old.core → new.jobs ≡ old.jobs → new.consoles ≡ old.consoles → new.holders ≡ old.holders → new.clock ≡ old.clock → FrameBecomes old new s f
-frame_becomes old new s f frame core jobs consoles holders clock = record {
+    → new.core ≡ old.core → new.jobs ≡ old.jobs → new.consoles ≡ old.consoles → new.holders ≡ old.holders → new.files ≡ old.files → new.clock ≡ old.clock → FrameBecomes old new s f
+frame_becomes old new s f frame core jobs consoles holders files clock = record {
   core = alike _ _ s (λ k. ap (λ t. core_at t k) core);
   job = alike _ _ s (λ k. ap (λ t. job_at t k) jobs);
   superiors = ap (λ t. t.superiors) jobs;
@@ -79,6 +81,7 @@ frame_becomes old new s f frame core jobs consoles holders clock = record {
   reserved = alike _ _ s (λ k. ap (λ t. clear_at t k) core);
   consoles = consoles;
   holders = holders;
+  files = files;
   clock = clock;
 }
 
@@ -96,12 +99,13 @@ then_becomes old mid new s c d i j f g r t a b = record {
   reserved = only_then _ _ _ s r t a.reserved b.reserved;
   consoles = b.consoles ∙ a.consoles;
   holders = b.holders ∙ a.holders;
+  files = b.files ∙ a.files;
   clock = b.clock ∙ a.clock;
 }
 
 pub page_becomes : (old new : World) (s : ℕ) (r : Option ℕ) → Only (clear_at old.core) (clear_at new.core) s r → new.core.cores ≡ old.core.cores
-    → new.jobs ≡ old.jobs → new.frames ≡ old.frames → new.consoles ≡ old.consoles → new.holders ≡ old.holders → new.clock ≡ old.clock → PageBecomes old new s r
-page_becomes old new s r page cores jobs frames consoles holders clock = record {
+    → new.jobs ≡ old.jobs → new.frames ≡ old.frames → new.consoles ≡ old.consoles → new.holders ≡ old.holders → new.files ≡ old.files → new.clock ≡ old.clock → PageBecomes old new s r
+page_becomes old new s r page cores jobs frames consoles holders files clock = record {
   core = alike _ _ s (λ k. same_core old.core new.core k cores);
   job = alike _ _ s (λ k. ap (λ t. job_at t k) jobs);
   superiors = ap (λ t. t.superiors) jobs;
@@ -109,6 +113,7 @@ page_becomes old new s r page cores jobs frames consoles holders clock = record 
   reserved = page;
   consoles = consoles;
   holders = holders;
+  files = files;
   clock = clock;
 }
 
@@ -121,24 +126,26 @@ reserved_some c s h = some_by (reserved_at c s) h
 
 -- consoles
 pub console_becomes : (old new : World) (c : ℕ) (x : Console) → Only (console_at old.consoles.items) (console_at new.consoles.items) c x
-    → new.holders ≡ old.holders → new.core ≡ old.core → new.jobs ≡ old.jobs → new.frames ≡ old.frames → new.clock ≡ old.clock → ConsoleBecomes old new c x
-console_becomes old new c x consoles holders core jobs frames clock = record {
+    → new.holders ≡ old.holders → new.core ≡ old.core → new.jobs ≡ old.jobs → new.frames ≡ old.frames → new.files ≡ old.files → new.clock ≡ old.clock → ConsoleBecomes old new c x
+console_becomes old new c x consoles holders core jobs frames files clock = record {
   consoles = consoles;
   holders = holders;
   core = core;
   jobs = jobs;
   frames = frames;
+  files = files;
   clock = clock;
 }
 
 pub holder_becomes : (old new : World) (c : ℕ) (h : Option ℕ) → Only (holder_at old.holders) (holder_at new.holders) c h
-    → new.consoles ≡ old.consoles → new.core ≡ old.core → new.jobs ≡ old.jobs → new.frames ≡ old.frames → new.clock ≡ old.clock → HolderBecomes old new c h
-holder_becomes old new c h holders consoles core jobs frames clock = record {
+    → new.consoles ≡ old.consoles → new.core ≡ old.core → new.jobs ≡ old.jobs → new.frames ≡ old.frames → new.files ≡ old.files → new.clock ≡ old.clock → HolderBecomes old new c h
+holder_becomes old new c h holders consoles core jobs frames files clock = record {
   holders = holders;
   consoles = consoles;
   core = core;
   jobs = jobs;
   frames = frames;
+  files = files;
   clock = clock;
 }
 

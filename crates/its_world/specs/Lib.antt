@@ -1,1 +1,3 @@
 pub mod World
+pub mod Tidy
+pub mod Storage

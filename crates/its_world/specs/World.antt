@@ -1,5 +1,6 @@
 -- The state of the stepped machine that a world stands for.
-use Rattle.std.specs.Prelude.{◌≡◌, ℕ, Option, Some, None, List, [], ◌∷◌, ◌++◌, take, drop, replicate, slice_index_or}
+use Rattle.std.specs.Prelude.{◌≡◌, ℕ, Option, Some, None, List, [], ◌∷◌, ◌++◌, take, drop, replicate, slice_index_or, unwrap_or}
+use Rattle.std.specs.List.{last_or}
 use Rattle.its_word.specs.Only.{Only}
 use Rattle.its_word.specs.Console.{Console, quiet_console, most_waiting}
 use Rattle.its_word.specs.Core.{Core}
@@ -8,20 +9,25 @@ use Rattle.its_word.specs.declared.jobs.Channel.TheVariants as channels
 use Rattle.its_word.specs.declared.jobs.Job.{Job}
 use Rattle.its_core.specs.Cores.{Cores, core_at, clear_at}
 use Rattle.its_jobs.specs.Table.{Table, job_at, superior_at}
+use Rattle.its_files.specs.Files.{Store, names_at, file_at, directory}
+use Rattle.its_files.specs.declared.entry.Mark.{Mark as FilesMark}
+use Rattle.its_files.specs.declared.entry.Parts.{Parts}
+use Rattle.its_files.specs.declared.entry.Parts.TheVariants.{Replace, Link, Free}
 use Rattle.its_frame.specs.declared.frame.Frame.{Frame}
-use Rattle.its_plain.specs.Machine.{Chan, Shut, TtyIn, TtyOut, On, Whole, Machine}
+use Rattle.its_plain.specs.Machine.{File, Chan, Shut, TtyIn, TtyOut, Reads, Writes, On, Whole, Machine}
 use Rattle.its_plain.specs.Change.{in_job}
-use Rattle.its_stepped.specs.State.{State}
+use Rattle.its_stepped.specs.State.{Part, UnlinkOld, LinkNew, FreeOld, Mark, State}
 use Rattle.its_world.specs.declared.world.World.{World}
 
--- what a channel of the plain machine is on. No channel on a file or a draft can be opened yet
-abbrev pub chan_of : Channel → Chan
-chan_of channels.Closed = Shut
-chan_of channels.TtyIn = TtyIn
-chan_of channels.TtyOut = TtyOut
-chan_of (channels.Reading f at) = Shut
-chan_of (channels.Writing d) = Shut
-chan_of (channels.Usr s w at) = On s w at
+-- what a channel of the plain machine is on, where files and drafts go by their names and words. (Their numbers are the
+-- monitor's own, and never reach the machine)
+abbrev pub chan_of : Store → Channel → Chan
+chan_of s channels.Closed = Shut
+chan_of s channels.TtyIn = TtyIn
+chan_of s channels.TtyOut = TtyOut
+chan_of s (channels.Reading f at) = Reads (names_at s f) at
+chan_of s (channels.Writing d) = Writes (file_at s d)
+chan_of s (channels.Usr k w at) = On k w at
 
 -- the registers of the plain machine: its channels stand apart
 unfoldable pub closed_channels : List Channel
@@ -31,17 +37,15 @@ abbrev pub bare : Job → Job
 bare j = record j { channels = closed_channels }
 
 -- the raw job of a slot
-abbrev pub raw_of : Core → Option ℕ → Option Job → Option Whole
-raw_of c superior (Some j) = Some (record {
-  core = c;
-  job = bare j;
-  superior = superior;
-  channels = λ n. chan_of (slice_index_or j.channels n channels.Closed);
-})
-raw_of c superior None = None
+abbrev pub chans_of : Store → Job → ℕ → Chan
+chans_of s j n = chan_of s (slice_index_or j.channels n channels.Closed)
 
-abbrev pub raw_at : Cores → Table → ℕ → Option Whole
-raw_at cores table k = raw_of (core_at cores k) (superior_at table k) (job_at table k)
+abbrev pub raw_of : Store → Core → Option ℕ → Option Job → Option Whole
+raw_of s c superior (Some j) = Some (record { core = c; job = bare j; superior = superior; channels = chans_of s j })
+raw_of s c superior None = None
+
+abbrev pub raw_at : Store → Cores → Table → ℕ → Option Whole
+raw_at s cores table k = raw_of s (core_at cores k) (superior_at table k) (job_at table k)
 
 abbrev pub frame_at : List (Option Frame) → ℕ → Option Frame
 frame_at frames k = slice_index_or frames k None
@@ -53,22 +57,47 @@ console_at consoles c = slice_index_or consoles c quiet_console
 abbrev pub holder_at : List (Option ℕ) → ℕ → Option ℕ
 holder_at holders c = slice_index_or holders c None
 
-abbrev pub raw_machine : Cores → Table → List Console → List (Option ℕ) → ℕ → Machine
-raw_machine cores table consoles holders clock = record {
-  jobs = raw_at cores table;
+abbrev pub raw_machine : Store → Cores → Table → List Console → List (Option ℕ) → ℕ → Machine
+raw_machine s cores table consoles holders clock = record {
+  jobs = raw_at s cores table;
   consoles = console_at consoles;
   holders = holder_at holders;
-  files = [];
+  files = directory s;
   clock = clock;
 }
+
+-- a close that is half made: its draft becomes the last file; where that is done, it is the last file
+abbrev pub no_file : File
+no_file = record { names = []; words = [] }
+
+abbrev pub parts_left : Parts → List Part
+parts_left (Replace old draft) = UnlinkOld ∷ LinkNew ∷ FreeOld ∷ []
+parts_left (Link (Some old) draft) = LinkNew ∷ FreeOld ∷ []
+parts_left (Link None draft) = LinkNew ∷ []
+parts_left (Free old) = FreeOld ∷ []
+
+abbrev pub last_file : Store → File
+last_file s = unwrap_or (last_or None (directory s)) no_file
+
+abbrev pub draft_left : Store → Parts → File
+draft_left s (Replace old draft) = file_at s draft
+draft_left s (Link old draft) = file_at s draft
+draft_left s (Free old) = last_file s
+
+abbrev pub marking : Store → Option FilesMark → Option Mark
+marking s (Some m) = Some (record { owner = m.owner; draft = draft_left s m.parts; parts = parts_left m.parts })
+marking s None = None
+
+unfoldable pub mark_of : Store → Option Mark
+mark_of s = marking s s.mark
 
 -- the state that a world stands for
 unfoldable pub state_of : World → State
 state_of w = record {
-  raw = raw_machine w.core w.jobs w.consoles.items w.holders w.clock;
+  raw = raw_machine w.files w.core w.jobs w.consoles.items w.holders w.clock;
   frames = frame_at w.frames.items;
   reserved = clear_at w.core;
-  mark = None;
+  mark = mark_of w.files;
 }
 
 -- the job of a slot changed, with the frame and the page that it has
@@ -76,7 +105,7 @@ abbrev pub in_raw : State → ℕ → (Whole → Whole) → State
 in_raw w s h = record w { raw = in_job w.raw s h }
 
 -- of the world only slot s changes: its core, its job with the same superior, its frame, and how many quarters of its
--- reserved page are clear. Consoles and their holders stay
+-- reserved page are clear. Consoles, their holders and files stay
 pub record Becomes (old new : World) (s : ℕ) (c : Core) (j : Option Job) (f : Option Frame) (r : Option ℕ) : Type 0 where
   pub core : Only (core_at old.core) (core_at new.core) s c
   pub job : Only (job_at old.jobs) (job_at new.jobs) s j
@@ -85,6 +114,7 @@ pub record Becomes (old new : World) (s : ℕ) (c : Core) (j : Option Job) (f : 
   pub reserved : Only (clear_at old.core) (clear_at new.core) s r
   pub consoles : new.consoles ≡ old.consoles
   pub holders : new.holders ≡ old.holders
+  pub files : new.files ≡ old.files
   pub clock : new.clock ≡ old.clock
 
 -- the same, where only its core, only its registers, or only its frame is written
@@ -107,6 +137,7 @@ pub record ConsoleBecomes (old new : World) (c : ℕ) (x : Console) : Type 0 whe
   pub core : new.core ≡ old.core
   pub jobs : new.jobs ≡ old.jobs
   pub frames : new.frames ≡ old.frames
+  pub files : new.files ≡ old.files
   pub clock : new.clock ≡ old.clock
 
 pub record HolderBecomes (old new : World) (c : ℕ) (h : Option ℕ) : Type 0 where
@@ -115,6 +146,7 @@ pub record HolderBecomes (old new : World) (c : ℕ) (h : Option ℕ) : Type 0 w
   pub core : new.core ≡ old.core
   pub jobs : new.jobs ≡ old.jobs
   pub frames : new.frames ≡ old.frames
+  pub files : new.files ≡ old.files
   pub clock : new.clock ≡ old.clock
 
 -- a console at which a byte was typed, where it has room, and one that a byte was drained from

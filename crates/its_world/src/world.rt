@@ -5,6 +5,7 @@ ghost use Rattle.its_word.specs.Limits.{slots};
 use super::consoles::{quiet_consoles, type_at};
 use its_console::Console;
 use its_core::Core;
+use its_files::Files;
 use its_frame::Frame;
 use its_jobs::Jobs;
 use its_word::{Job, NoAccess, NoMemory, SLOTS, Word};
@@ -14,7 +15,8 @@ use std::alloc::Global;
 const CONSOLES: usize = 8;
 
 /// The whole state: cores, jobs, for each slot the frame of its call in progress where it is in one, the
-/// consoles, for each of them the slot of the job that holds it, and the clock in thirtieths.
+/// consoles, for each of them the slot of the job that holds it, the files and drafts, and the clock in
+/// thirtieths.
 #[derive(Drop)]
 pub struct World {
     pub core: Core,
@@ -22,6 +24,7 @@ pub struct World {
     pub frames: Vec<Option<Frame>>,
     pub consoles: Vec<Console>,
     pub holders: [Option<u8>; 8],
+    pub files: Files,
     pub clock: u64,
     ghost slots: { vec_len frames ≡ 64 },
     ghost consoles_count: { vec_len consoles ≡ 8 },
@@ -33,6 +36,7 @@ impl World {
     ghost use Rattle.its_word.specs.Core.{store, can_store, put as put_at, page_of};
     ghost use Rattle.its_world.specs.World.{frame_at, console_at, holder_at, CoreBecomes, JobBecomes, FrameBecomes, PageBecomes, ConsoleBecomes, HolderBecomes, typed_at, drained_at};
     ghost use Rattle.its_plain.specs.Change.{taken_from, put_to};
+    ghost use Rattle.its_files.specs.Files.{no_files};
 
     /// The world at the start of a session: no job, no page, no frame, nothing that waits at a console, no
     /// holder of one, clock 0. Takes all the memory that it needs.
@@ -42,18 +46,21 @@ impl World {
         ensures frames { IfOk result (λ w. (k : ℕ) → frame_at w.frames.items k ≡ None) }
         ensures consoles { IfOk result (λ w. (c : ℕ) → console_at w.consoles.items c ≡ quiet_console) }
         ensures holders { IfOk result (λ w. (c : ℕ) → holder_at w.holders c ≡ None) }
+        ensures files { IfOk result (λ w. w.files ≡ no_files) }
         ensures clock { IfOk result (λ w. w.clock ≡ 0) }
     {
         let core = Core::open(alloc)?;
         let jobs = Jobs::open(alloc)?;
         let frames = no_frames(alloc, SLOTS)?;
         let consoles = quiet_consoles(alloc, CONSOLES)?;
+        let files = Files::open(alloc)?;
         Ok(World {
             core,
             jobs,
             frames,
             consoles,
             holders: [None; CONSOLES],
+            files,
             clock: 0,
         })
     }

@@ -1,3 +1,8 @@
+ghost use Rattle.std.specs.Prelude.{◌≡◌, ◌<◌, true, slice_set, IfOk};
+ghost use Rattle.its_word.specs.declared.jobs.Channel.TheVariants.{Usr};
+ghost use Rattle.its_word.specs.Limits.{slots};
+ghost use Rattle.its_pclsr.specs.Removal.{Elsewhere};
+
 use super::{remove_tree, unwind_below};
 use its_jobs::{Job, Jobs};
 use its_word::{Channel, SLOTS, Word};
@@ -7,7 +12,9 @@ use std::process::Abort;
 use std::test::Fail;
 
 /// The channel that each job of a test has open on one slot.
-fn on(slot: u8) -> Channel {
+fn on(slot: u8) -> Channel
+    ensures { result ≡ Usr slot true 16 }
+{
     Channel::Usr {
         slot,
         write: true,
@@ -16,26 +23,49 @@ fn on(slot: u8) -> Channel {
 }
 
 /// Jobs in slots 0 to 3 with these superiors; the first channel of each is open on a slot.
-fn jobs(
-    rt: &impl Abort,
-    alloc: Global,
-    superiors: [Option<u8>; 4],
-    slot: u8,
-) -> Result<Jobs, Fail> {
+fn jobs(rt: &impl Abort, alloc: Global, superiors: [Option<u8>; 4], slot: u8) -> Result<Jobs, Fail>
+    ensures { IfOk result Elsewhere }
+{
     let mut jobs = Jobs::open(alloc)?;
     for superior in superiors {
-        if let Some(s) = superior {
-            assert!(rt; usize::from(s) < SLOTS);
-            assert!(rt; jobs.job(s).is_some());
-        }
-        let made = jobs.create(Word::new(7), Word::new(0o107), superior, None);
-        if let Ok(k) = made {
-            if let Some(job) = jobs.job_mut(k) {
-                job.channels[0] = on(slot);
-            }
-        }
+        add(rt, &mut jobs, superior, slot);
     }
     Ok(jobs)
+}
+
+/// A job more, whose first channel is open on a slot.
+fn add(rt: &impl Abort, jobs: &mut Jobs, superior: Option<u8>, slot: u8)
+    requires { Elsewhere jobs.old }
+    ensures { Elsewhere jobs.new }
+{
+    if let Some(s) = superior {
+        assert!(rt; usize::from(s) < SLOTS);
+        assert!(rt; jobs.job(s).is_some());
+    }
+    let made = jobs.create(Word::new(7), Word::new(0o107), superior, None);
+    if let Ok(k) = made {
+        open_on(jobs, k, slot);
+    }
+}
+
+/// Opens the first channel of a job on a slot.
+fn open_on(jobs: &mut Jobs, k: u8, slot: u8)
+    requires slot { k < slots }
+    requires jobs { Elsewhere jobs.old }
+    ensures { Elsewhere jobs.new }
+{
+    if let Some(job) = jobs.job_mut(k) {
+        *job = opened(*job, slot);
+    }
+}
+
+/// Registers whose first channel is open on a slot.
+fn opened(job: Job, slot: u8) -> Job
+    ensures { result ≡ record job { channels = slice_set job.channels 0 (Usr slot true 16) } }
+{
+    let mut changed = job;
+    changed.channels[0] = on(slot);
+    changed
 }
 
 /// The first channel of a slot's job, where there is one.
@@ -47,7 +77,7 @@ fn first(job: Option<&Job>) -> Option<Channel> {
 /// are closed. Each of the first four consoles is held by the job with its number: those that are gone leave it to
 /// the superior of the root, or to nobody.
 #[test]
-#[tactic(auto, using(crate::proofs::RemovalLaws::idle_sound, crate::proofs::RemovalLaws::idle_frames, crate::proofs::RemovalLaws::idle_page))]
+#[tactic(auto, using(crate::proofs::IdleLaws::idle_sound, crate::proofs::IdleLaws::idle_frames, crate::proofs::IdleLaws::idle_page, crate::proofs::IdleLaws::idle_tidy))]
 fn trees(rt: HostRuntime) -> Result<(), Fail> {
     let open = Some(on(1));
     let shut = Some(Channel::Closed);
@@ -94,7 +124,7 @@ fn trees(rt: HostRuntime) -> Result<(), Fail> {
 
 /// Jobs that are in no call stay as they are.
 #[test]
-#[tactic(auto, using(crate::proofs::RemovalLaws::idle_sound, crate::proofs::RemovalLaws::idle_frames, crate::proofs::RemovalLaws::idle_page))]
+#[tactic(auto, using(crate::proofs::IdleLaws::idle_sound, crate::proofs::IdleLaws::idle_frames, crate::proofs::IdleLaws::idle_page, crate::proofs::IdleLaws::idle_tidy))]
 fn nothing_to_unwind(rt: HostRuntime) -> Result<(), Fail> {
     let mut w = World::open(rt.alloc())?;
     w.jobs = jobs(&rt, rt.alloc(), [None, Some(0), Some(1), None], 1)?;

@@ -1,5 +1,5 @@
 -- the walk from block to block
-use Rattle.std.proofs.Common.{◌∙◌, ◌<◌, ◌+◌, refl, sym, arith}
+use Rattle.std.proofs.Common.{◌∙◌, ◌+◌, refl, sym, arith}
 use Rattle.std.proofs.lemmas.Option.{slice_get-get_or}
 use Rattle.its_files.specs.Blocks.{blocks_of}
 use Rattle.its_files.proofs.ChainLaws.{next_is, standing}

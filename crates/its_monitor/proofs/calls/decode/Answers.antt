@@ -1,5 +1,6 @@
 use Rattle.std.proofs.Common.{Some, ap, ◌∙◌}
 use Rattle.its_frame.specs.declared.frame.Frame.TheVariants.{Entered, Parsed, Asked}
+use Rattle.its_pclsr.proofs.ApartLaws.{tidy_kept}
 use Rattle.its_pclsr.proofs.UnwindingLaws.{job_taken}
 use Rattle.its_monitor.proofs.CallLaws.{entered_fits, parsed_fits, parsed_words, entered_row, parsed_row, asked_row}
 use Rattle.its_monitor.proofs.calls.decode.Goals as goal
@@ -30,3 +31,12 @@ returns-in-Some-Parsed-clause-row c = parsed_row _ _ _ _ _ _ c.take_frame.ensure
 
 pub returns-in-Some-Asked-clause-row : goal.returns-in-Some-Asked-clause-row
 returns-in-Some-Asked-clause-row c = asked_row _ _ _ _ _ _ c.take_frame.ensures.frame c.take_frame.ensures.taken c.requires.kept c.in-Some-Asked.f (c.in-Some-Asked.is ∙ ap Some c.in-Some-Asked.field-0-is) c.prepare.ensures.row c.prepare.ensures.pace
+
+pub parse-requires-clause-tidy : goal.parse-requires-clause-tidy
+parse-requires-clause-tidy c = tidy_kept _ _ _ _ _ c.take_frame.ensures.taken c.requires.kept.tidy
+
+pub fetch-requires-clause-tidy : goal.fetch-requires-clause-tidy
+fetch-requires-clause-tidy c = tidy_kept _ _ _ _ _ c.take_frame.ensures.taken c.requires.kept.tidy
+
+pub prepare-requires-clause-tidy : goal.prepare-requires-clause-tidy
+prepare-requires-clause-tidy c = tidy_kept _ _ _ _ _ c.take_frame.ensures.taken c.requires.kept.tidy

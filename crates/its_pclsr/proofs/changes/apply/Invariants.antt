@@ -1,6 +1,6 @@
 use Rattle.std.proofs.Common.{◌≡◌, drop}
 use Rattle.its_stepped.specs.Commit.{effects_on}
-use Rattle.its_pclsr.specs.Apart.{Blank}
+use Rattle.its_world.specs.Tidy.{Tidy}
 use Rattle.its_pclsr.specs.Built.{CanMakeAll}
 use Rattle.its_world.specs.World.{state_of}
 use Rattle.its_pclsr.proofs.changes.apply.Given as goal
@@ -9,5 +9,5 @@ abbrev pub invariant-loop-change : goal.invariant-loop-change
 invariant-loop-change l = record {
   rest : effects_on (drop l.change-index l.changes) l.slot (state_of l.w) ≡ effects_on l.changes l.slot (state_of l.fn.w);
   built : CanMakeAll (drop l.change-index l.changes) l.slot (state_of l.w);
-  blank : Blank l.w;
+  tidy : Tidy l.w;
 }

@@ -1,6 +1,11 @@
-use Rattle.its_jobs.specs.Table.{superior_at, in_tree}
+use Rattle.its_plain.specs.Change.{superiors, is_gone}
+use Rattle.its_world.specs.Tidy.{Tidy}
+use Rattle.its_world.specs.World.{state_of}
 use Rattle.its_pclsr.specs.Removal.{Swept}
 use Rattle.its_pclsr.proofs.removal.sweep.Given as goal
 
 abbrev pub invariant-loop-slot : goal.invariant-loop-slot
-invariant-loop-slot l = Swept (in_tree (superior_at l.fn.w.jobs) l.root) l.fn.w l.w l.slot
+invariant-loop-slot l = record {
+  swept : Swept (is_gone (superiors (state_of l.fn.w).raw) l.root) l.fn.w l.w l.slot;
+  tidy : Tidy l.w;
+}

@@ -1,7 +1,8 @@
-use Rattle.std.proofs.Common.{sym, ◌∙◌, refl}
-use Rattle.its_pclsr.proofs.RemovalLaws.{sweeps_gone}
+use Rattle.its_pclsr.proofs.RemovalLaws.{sweeps_gone, sweeps_left}
 use Rattle.its_pclsr.proofs.removal.sweep_slot.Goals as goal
 
-pub returns-then-is_removed : goal.returns-then-is_removed
-returns-then-is_removed c =
-    sweeps_gone _ _ _ _ _ (sym c.is_removed.ensures ∙ c.if-is_removed.true) c.drop_all.ensures.dropped c.drop_all.ensures.reserved refl refl refl refl refl c.take_frame.ensures.taken
+pub returns-then-is_removed-clause-swept : goal.returns-then-is_removed-clause-swept
+returns-then-is_removed-clause-swept c = sweeps_gone c.args.w.now _ c.args.root c.args.slot _ c.tree.ensures c.is_removed.ensures c.if-is_removed.true c.empty.ensures.empty
+
+pub returns-else-is_removed-clause-swept : goal.returns-else-is_removed-clause-swept
+returns-else-is_removed-clause-swept c = sweeps_left c.args.w.now _ c.args.root c.args.slot _ c.tree.ensures c.is_removed.ensures c.if-is_removed.false c.shut_channels.ensures.row

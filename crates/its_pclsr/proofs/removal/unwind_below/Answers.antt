@@ -15,7 +15,7 @@ loop-inferior-smaller c =
 pub loop-inferior-preserved : goal.loop-inferior-preserved
 loop-inferior-preserved c = record {
   unwinding = unwinding_more _ _ _ _ _ _ c.loop-inferior.invariant.unwinding c.below.ensures.tree c.in-Some.ensures.job c.unwind.ensures.unwinds c.unwind.ensures.same c.unwind.ensures.sound;
-  blank = c.unwind.ensures.blank c.loop-inferior.invariant.blank;
+  tidy = c.unwind.ensures.tidy;
 }
 
 pub returns-clause-unwinds : goal.returns-clause-unwinds

@@ -1,6 +1,7 @@
 use Rattle.std.proofs.Common.{Some, ap, ◌∙◌}
 use Rattle.its_frame.specs.declared.frame.Frame.TheVariants.{Holding, Waiting, Moving, Ending}
-use Rattle.its_pclsr.proofs.UnwindingLaws.{job_taken, pays_taken, holding_row, waiting_row, moving_row, ending_row, entered_row, parsed_row, asked_row}
+use Rattle.its_pclsr.proofs.ApartLaws.{tidy_kept}
+use Rattle.its_pclsr.proofs.UnwindingLaws.{marks_taken, job_taken, pays_taken, holding_row, waiting_row, moving_row, ending_row, entered_row, parsed_row, asked_row}
 use Rattle.its_pclsr.proofs.unwinding.step.Goals as goal
 
 pub unwind_holding-requires-clause-job : goal.unwind_holding-requires-clause-job
@@ -47,3 +48,27 @@ returns-in-Some-Parsed-clause-row c = parsed_row _ _ _ _ _ c.take_frame.ensures.
 
 pub returns-in-Some-Asked-clause-row : goal.returns-in-Some-Asked-clause-row
 returns-in-Some-Asked-clause-row c = asked_row _ _ _ _ _ c.take_frame.ensures.frame (c.in-Some-Asked.is ∙ ap Some c.in-Some-Asked.field-0-is) c.take_frame.ensures.taken c.requires.sound
+
+pub unwind_ending-requires-clause-marks : goal.unwind_ending-requires-clause-marks
+unwind_ending-requires-clause-marks c = marks_taken _ _ _ c.in-Some-Ending.f _ c.take_frame.ensures.frame (c.in-Some-Ending.is ∙ ap Some c.in-Some-Ending.field-0-is) c.take_frame.ensures.taken c.requires.sound
+
+pub unwind_holding-requires-clause-tidy : goal.unwind_holding-requires-clause-tidy
+unwind_holding-requires-clause-tidy c = tidy_kept _ _ _ _ _ c.take_frame.ensures.taken c.requires.tidy
+
+pub unwind_waiting-requires-clause-tidy : goal.unwind_waiting-requires-clause-tidy
+unwind_waiting-requires-clause-tidy c = tidy_kept _ _ _ _ _ c.take_frame.ensures.taken c.requires.tidy
+
+pub unwind_moving-requires-clause-tidy : goal.unwind_moving-requires-clause-tidy
+unwind_moving-requires-clause-tidy c = tidy_kept _ _ _ _ _ c.take_frame.ensures.taken c.requires.tidy
+
+pub unwind_ending-requires-clause-tidy : goal.unwind_ending-requires-clause-tidy
+unwind_ending-requires-clause-tidy c = tidy_kept _ _ _ _ _ c.take_frame.ensures.taken c.requires.tidy
+
+pub returns-in-Some-Entered-clause-tidy : goal.returns-in-Some-Entered-clause-tidy
+returns-in-Some-Entered-clause-tidy c = tidy_kept _ _ _ _ _ c.take_frame.ensures.taken c.requires.tidy
+
+pub returns-in-Some-Parsed-clause-tidy : goal.returns-in-Some-Parsed-clause-tidy
+returns-in-Some-Parsed-clause-tidy c = tidy_kept _ _ _ _ _ c.take_frame.ensures.taken c.requires.tidy
+
+pub returns-in-Some-Asked-clause-tidy : goal.returns-in-Some-Asked-clause-tidy
+returns-in-Some-Asked-clause-tidy c = tidy_kept _ _ _ _ _ c.take_frame.ensures.taken c.requires.tidy

@@ -1,9 +1,6 @@
-use Rattle.std.proofs.Common.{sym, ◌∙◌, ap, refl}
-use Rattle.its_word.specs.declared.session.Event.TheVariants.{Words, TypeIn}
-use Rattle.its_plain.specs.Operator as operator
-use Rattle.its_plain.specs.CallOperator.{operate, lined}
-use Rattle.its_stepped.specs.Lines.{calmed}
-use Rattle.its_top.proofs.AnswerLaws.{words_answered, go_answered, unbuilt_answered, at_event}
+use Rattle.std.proofs.Common.{sym, ◌∙◌, ap}
+use Rattle.its_word.specs.declared.session.Event.TheVariants.{Words, Append, TypeIn}
+use Rattle.its_top.proofs.AnswerLaws.{words_answered, go_answered, append_answered, at_event}
 use Rattle.its_top.proofs.answer.answer.Goals as goal
 
 pub returns-in-Words-clause-answered : goal.returns-in-Words-clause-answered
@@ -20,27 +17,7 @@ pub returns-in-TypeIn-clause-answered : goal.returns-in-TypeIn-clause-answered
 returns-in-TypeIn-clause-answered g c =
     at_event _ _ _ _ _ _ _ _ _ _ (c.in-TypeIn.is ∙ ap (λ bs. TypeIn c.in-TypeIn.c (record { items = bs })) (sym c.deref-in-TypeIn.ensures.0)) c.type_line.ensures.answered
 
-pub returns-in-File-clause-answered : goal.returns-in-File-clause-answered
-unfolding lined operate operator.operate calmed
-returns-in-File-clause-answered g c =
-    at_event _ _ _ _ _ _ _ _ _ _ c.in-File.is (unbuilt_answered _ _ _ _ _ _ _ _ _ _ (record { calm = refl; is = refl }) c.unbuilt.ensures.told)
-
 pub returns-in-Append-clause-answered : goal.returns-in-Append-clause-answered
-unfolding lined operate operator.operate calmed
 returns-in-Append-clause-answered g c =
-    at_event _ _ _ _ _ _ _ _ _ _ c.in-Append.is (unbuilt_answered _ _ _ _ _ _ _ _ _ _ (record { calm = refl; is = refl }) c.unbuilt-in-Append.ensures.told)
-
-pub returns-in-EndFile-clause-answered : goal.returns-in-EndFile-clause-answered
-unfolding lined operate operator.operate calmed
-returns-in-EndFile-clause-answered g c =
-    at_event _ _ _ _ _ _ _ _ _ _ c.in-EndFile.is (unbuilt_answered _ _ _ _ _ _ _ _ _ _ (record { calm = refl; is = refl }) c.unbuilt-in-EndFile.ensures.told)
-
-pub returns-in-Dir-clause-answered : goal.returns-in-Dir-clause-answered
-unfolding lined operate operator.operate calmed
-returns-in-Dir-clause-answered g c =
-    at_event _ _ _ _ _ _ _ _ _ _ c.in-Dir.is (unbuilt_answered _ _ _ _ _ _ _ _ _ _ (record { calm = refl; is = refl }) c.unbuilt-in-Dir.ensures.told)
-
-pub returns-in-Show-clause-answered : goal.returns-in-Show-clause-answered
-unfolding lined operate operator.operate calmed
-returns-in-Show-clause-answered g c =
-    at_event _ _ _ _ _ _ _ _ _ _ c.in-Show.is (unbuilt_answered _ _ _ _ _ _ _ _ _ _ (record { calm = refl; is = refl }) c.unbuilt-in-Show.ensures.told)
+    at_event _ _ _ _ _ _ _ _ _ _ (c.in-Append.is ∙ ap (λ ws. Append (record { items = ws })) (sym c.deref-in-Append.ensures.0))
+    (append_answered _ _ _ _ _ _ _ _ _ c.add_words-added.ensures.done c.add_words-added.ensures.refused c.settle-in-Append.ensures.settled)

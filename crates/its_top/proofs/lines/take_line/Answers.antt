@@ -9,7 +9,7 @@ use Rattle.its_top.proofs.lines.take_line.Goals as goal
 pub returns-in-Ok-clause-lined : goal.returns-in-Ok-clause-lined
 returns-in-Ok-clause-lined g c =
     lined_answer _ (now_of c.args.m.now c.args.p.now) _ _ _ _ _ _ _ c.requires.few (sym c.read_line.ensures.event ∙ c.in-Ok.is)
-    (next_passed (now_of c.args.m.now c.args.p.now) (state_of c.answer-turn.new.m.world) (block_of c.answer-turn.new.p.slot) c.answer-turn.new.p.number c.answer-turn.new.p.place c.place_after-p.result c.in-Ok.event c.answer-turn.ensures.kept.0 c.answer-turn.ensures.kept.1 c.place_after-p.ensures)
+    (next_passed (now_of c.args.m.now c.args.p.now) (state_of c.answer-turn.new.m.world) (block_of c.answer-turn.new.p.slot c.answer-turn.new.p.file) c.answer-turn.new.p.number c.answer-turn.new.p.place c.place_after-p.result c.in-Ok.event c.answer-turn.ensures.kept.0 c.answer-turn.ensures.kept.1 c.place_after-p.ensures)
     c.answer-turn.ensures.answered
 
 pub returns-in-Err-clause-lined : goal.returns-in-Err-clause-lined

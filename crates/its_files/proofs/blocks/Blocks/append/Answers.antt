@@ -1,5 +1,5 @@
 -- a word more in the last block, or in a new one
-use Rattle.std.proofs.Common.{◌∙◌, ◌≡◌, ◌+◌, ◌/◌, ap, sym, arith}
+use Rattle.std.proofs.Common.{◌∙◌, ◌+◌, ◌/◌, ap, sym, arith}
 use Rattle.std.proofs.lemmas.List.{get_or_read}
 use Rattle.its_files.specs.Blocks.{appended, is_full}
 use Rattle.its_files.proofs.ChainLaws.{standing}

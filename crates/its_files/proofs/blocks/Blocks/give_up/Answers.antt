@@ -1,5 +1,5 @@
 -- all blocks of a number become free
-use Rattle.std.proofs.Common.{◌∙◌, ap, arith}
+use Rattle.std.proofs.Common.{◌∙◌, ap}
 use Rattle.its_files.specs.Blocks.{given_up}
 use Rattle.its_files.proofs.BlockLaws.{given_view}
 use Rattle.its_files.proofs.blocks.Blocks.give_up.Goals as goal

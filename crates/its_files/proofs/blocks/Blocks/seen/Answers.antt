@@ -1,5 +1,5 @@
 -- the lengths of all texts give the blocks in use
-use Rattle.std.proofs.Common.{◌≡◌, ◌+◌, length, ap, ◌∙◌, subst, arith}
+use Rattle.std.proofs.Common.{◌≡◌, ◌+◌, length, ap, subst, arith}
 use Rattle.its_files.specs.Blocks.{free_blocks, blocks_used, stored_in}
 use Rattle.its_files.proofs.BlockLaws.{used_is, chains_are}
 use Rattle.its_files.proofs.blocks.Blocks.seen.Goals as goal

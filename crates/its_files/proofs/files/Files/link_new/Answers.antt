@@ -1,5 +1,5 @@
 -- the draft is the last file
-use Rattle.std.proofs.Common.{ap, sym, ◌∙◌, [], ◌∷◌, ◌++◌, subst, Some, slice_set}
+use Rattle.std.proofs.Common.{ap, sym, ◌∙◌, subst, Some, slice_set}
 use Rattle.its_files.specs.declared.entry.Entry.TheVariants.{File}
 use Rattle.its_files.specs.Files.{entry_in, names_by, IsFiles}
 use Rattle.its_files.proofs.EntryLaws.{linked_files}

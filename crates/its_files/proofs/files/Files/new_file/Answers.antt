@@ -1,6 +1,6 @@
 -- there is a free number, and the file is one more
 use Rattle.its_files.proofs.DirectoryLaws.{with_file_directory}
-use Rattle.std.proofs.Common.{inl, ap, sym, ◌∙◌, [], ◌∷◌, ◌++◌, subst, arith}
+use Rattle.std.proofs.Common.{inl, ap, sym, ◌∙◌, [], ◌∷◌, ◌++◌, subst}
 use Rattle.its_files.specs.declared.entry.Entry.TheVariants.{File}
 use Rattle.std.specs.Prelude.{Some, slice_set}
 use Rattle.its_files.specs.Files.{IsFiles, entry_in, Store, directory}

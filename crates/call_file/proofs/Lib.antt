@@ -1,0 +1,4 @@
+pub mod RawLaws
+pub mod HeldLaws
+pub mod StopLaws
+pub mod SeenLaws

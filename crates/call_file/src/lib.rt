@@ -1,0 +1,11 @@
+//! What the calls on files come to: OPEN, CLOSE, `.IOT` and SIOT where their device is DSK; ACCESS, FILLEN, DELETE and
+//! RENAME (docs/CALLS.md, "Files"). Any other call is left to `call_tty`. A decision is found from the world as it stands,
+//! and changes nothing.
+#![tactic(auto)]
+
+mod calls;
+mod channels;
+mod directory;
+mod transfer;
+
+pub use calls::{decide, helps, ready};

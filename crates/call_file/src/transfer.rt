@@ -1,0 +1,170 @@
+//! `.IOT` and SIOT on files and drafts: whole words.
+ghost use Rattle.std.specs.Prelude.{◌≡◌, ◌<◌, ◌-◌, ◌^◌, ◌∷◌, [], None, IfSome, true, slice_get, slice_index_or};
+ghost use Rattle.its_word.specs.Byte.{has_size};
+ghost use Rattle.its_word.specs.Limits.{slots};
+ghost use Rattle.its_files.specs.Files.{directory, entry_at, file_at, is_draft, is_file, names_at};
+ghost use Rattle.its_plain.specs.Arguments.{input};
+ghost use Rattle.its_plain.specs.CallFile.{file_named, iot_reads, iot_writes, siot_read, siot_reads, siot_write, siot_writes, words_by, words_of};
+ghost use Rattle.its_plain.specs.CallTty.{next_pointer};
+ghost use Rattle.its_world.specs.Tidy.{Tidy};
+ghost use Rattle.call_basic.specs.Seen.{seen_by};
+
+use arrayvec::ArrayVec;
+use call_basic::{fails, faults, input, ioc};
+use call_tty::{bar_of_store, iot_ends, moves, next_pointer, stopped};
+use its_bytes::load;
+use its_frame::{Change, Decision, Held, Store};
+use its_word::{Ask, Fault, Job, Word};
+use its_world::World;
+
+/// What `.IOT` gets at the end of a file.
+const END_OF_FILE: u64 = 0o777777000003;
+
+/// The word of a file at a position; None at its end.
+#[tactic(auto, using(crate::proofs::SeenLaws::seen_words, crate::proofs::SeenLaws::few_words))]
+fn word_at(w: &World, file: u32, at: u32) -> Option<Word>
+    requires { is_file (entry_at w.now.files file) ≡ true }
+    ensures word { result ≡ slice_get (words_by (file_named (names_at w.now.files file) (directory w.now.files))) at }
+    ensures few { IfSome result (λ w. at < 2 ^ 18) }
+{
+    w.files.seen();
+    w.files.word_at(file, at)
+}
+
+/// `.IOT` from a file: the word at its position, which is then one more; 777777000003 at its end. MPV or WRO by the word at
+/// E.
+#[tactic(auto, unfolding(its_plain::specs::View::view, its_world::specs::World::state_of))]
+pub(crate) fn iot_reads(w: &World, slot: u8, job: &Job, ask: &Ask, file: u32, at: u32) -> Decision
+    requires slot { slot < slots }
+    requires number { input ask.now 0 < 16 }
+    requires file { is_file (entry_at w.now.files file) ≡ true }
+    ensures { result ≡ iot_reads (seen_by w.now slot job.now ask.now) (slice_index_or ask.now.outputs.items 0 0) (input ask.now 0) (names_at w.now.files file) at }
+{
+    let e = ask.outputs.first().copied().unwrap_or(0);
+    if let Some(fault) = bar_of_store(w, slot, e) {
+        return faults(job, fault);
+    }
+    let channel = input(ask, 0).value() as u8;
+    match word_at(w, file, at) {
+        Some(word) => {
+            let change = Change::Move {
+                channel,
+                at: at + 1,
+            };
+            iot_ends(job, Some(change), one_store(e, word))
+        }
+        None => iot_ends(job, None, one_store(e, Word::new(END_OF_FILE))),
+    }
+}
+
+/// A store alone.
+fn one_store(at: u32, word: Word) -> ArrayVec<Store, 2>
+    ensures { result ≡ record { items = record { at = at; word = word } ∷ [] } }
+{
+    let mut stores = ArrayVec::new();
+    stores.push(Store { at, word });
+    stores
+}
+
+/// `.IOT` to a draft: the word at E is appended. MPV by that word; IOC where there is no room.
+#[tactic(auto, using(crate::proofs::SeenLaws::seen_full, its_files::proofs::EntryLaws::draft_stands), unfolding(its_plain::specs::View::view, its_world::specs::World::state_of))]
+pub(crate) fn iot_writes(w: &World, slot: u8, job: &Job, ask: &Ask, draft: u32) -> Decision
+    requires slot { slot < slots }
+    requires number { input ask.now 0 < 16 }
+    requires draft { is_draft (entry_at w.now.files draft) ≡ true }
+    requires unmarked { w.now.files.mark ≡ None }
+    requires tidy { Tidy w.now }
+    ensures { result ≡ iot_writes (seen_by w.now slot job.now ask.now) (slice_index_or ask.now.outputs.items 0 0) (input ask.now 0) (file_at w.now.files draft) }
+{
+    w.files.seen();
+    let e = ask.outputs.first().copied().unwrap_or(0);
+    let Some(word) = w.core.word(slot, e) else {
+        return faults(job, Fault::Mpv);
+    };
+    if w.files.is_full(draft) {
+        return ioc(job);
+    }
+    let change = Change::Append {
+        channel: input(ask, 0).value() as u8,
+        word,
+    };
+    iot_ends(job, Some(change), ArrayVec::new())
+}
+
+/// SIOT from a file: the word at its position is held, and stored by the next step.
+#[tactic(auto, unfolding(its_plain::specs::View::view, its_world::specs::World::state_of))]
+pub(crate) fn siot_reads(w: &World, slot: u8, job: &Job, ask: &Ask, file: u32, at: u32) -> Decision
+    requires slot { slot < slots }
+    requires number { input ask.now 0 < 16 }
+    requires file { is_file (entry_at w.now.files file) ≡ true }
+    ensures { result ≡ siot_reads (seen_by w.now slot job.now ask.now) ask.now (input ask.now 0) at (slice_get (words_of (seen_by w.now slot job.now ask.now) (names_at w.now.files file)) at) }
+{
+    let word = word_at(w, file, at);
+    match stopped(w, slot, job, ask, true, word.is_none()) {
+        Some(decision) => decision,
+        None => siot_read(w, slot, job, ask, at, word.unwrap_or(Word::ZERO)),
+    }
+}
+
+/// The same where no test stops it.
+#[tactic(auto, unfolding(its_plain::specs::View::view, its_world::specs::World::state_of))]
+fn siot_read(w: &World, slot: u8, job: &Job, ask: &Ask, at: u32, word: Word) -> Decision
+    requires slot { slot < slots }
+    requires number { input ask.now 0 < 16 }
+    requires few { at < 2 ^ 18 }
+    ensures { result ≡ siot_read (seen_by w.now slot job.now ask.now) (next_pointer (input ask.now 1)) (input ask.now 2) (input ask.now 0) at word }
+{
+    let next = next_pointer(input(ask, 1));
+    let place = next.right();
+    if let Some(fault) = bar_of_store(w, slot, place) {
+        return faults(job, fault);
+    }
+    let held = Held { place, byte: word };
+    let change = Change::Move {
+        channel: input(ask, 0).value() as u8,
+        at: at + 1,
+    };
+    moves(change, Some(held), next, input(ask, 2))
+}
+
+/// SIOT to a draft. Error 10 where there is no room.
+#[tactic(auto, using(call_tty::proofs::SizeLaws::next_sized), unfolding(its_plain::specs::View::view, its_world::specs::World::state_of))]
+pub(crate) fn siot_writes(w: &World, slot: u8, job: &Job, ask: &Ask, draft: u32) -> Decision
+    requires slot { slot < slots }
+    requires number { input ask.now 0 < 16 }
+    requires draft { is_draft (entry_at w.now.files draft) ≡ true }
+    requires unmarked { w.now.files.mark ≡ None }
+    requires tidy { Tidy w.now }
+    ensures { result ≡ siot_writes (seen_by w.now slot job.now ask.now) ask.now (input ask.now 0) (file_at w.now.files draft) }
+{
+    match stopped(w, slot, job, ask, true, false) {
+        Some(decision) => decision,
+        None => siot_write(w, slot, job, ask, draft),
+    }
+}
+
+/// The same where no test stops it.
+#[tactic(auto, using(crate::proofs::StopLaws::loaded_fits, crate::proofs::SeenLaws::seen_full, its_files::proofs::EntryLaws::draft_stands), unfolding(its_plain::specs::View::view, its_world::specs::World::state_of))]
+fn siot_write(w: &World, slot: u8, job: &Job, ask: &Ask, draft: u32) -> Decision
+    requires slot { slot < slots }
+    requires number { input ask.now 0 < 16 }
+    requires size { has_size (next_pointer (input ask.now 1)) ≡ true }
+    requires draft { is_draft (entry_at w.now.files draft) ≡ true }
+    requires unmarked { w.now.files.mark ≡ None }
+    requires tidy { Tidy w.now }
+    ensures { result ≡ siot_write (seen_by w.now slot job.now ask.now) ask.now (next_pointer (input ask.now 1)) (input ask.now 2) (input ask.now 0) (file_at w.now.files draft) }
+{
+    w.files.seen();
+    let next = next_pointer(input(ask, 1));
+    let Some(word) = w.core.word(slot, next.right()) else {
+        return faults(job, Fault::Mpv);
+    };
+    if w.files.is_full(draft) {
+        return fails(job, ask, 0o10);
+    }
+    let change = Change::Append {
+        channel: input(ask, 0).value() as u8,
+        word: Word::new(load(next, word)),
+    };
+    moves(change, None, next, input(ask, 2))
+}

@@ -1,0 +1,6 @@
+use Rattle.std.proofs.Common.{refl}
+use Rattle.its_monitor.proofs.HelpLaws.{help_tidy}
+use Rattle.its_monitor.proofs.calls.help.Goals as goal
+
+pub returns-clause-tidy : goal.returns-clause-tidy
+returns-clause-tidy c = help_tidy c.args.w.now _ c.seen.ensures.whole c.requires.tidy c.help.ensures.made refl refl

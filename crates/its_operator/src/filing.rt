@@ -1,0 +1,223 @@
+ghost use Rattle.std.specs.Prelude.{◌≡◌, ◌<◌, true, Some, None, Ok, Err, IfSome, IfOk, OnOk, OnErr, IfErr, is_some, option_map, length, slice_get};
+ghost use Rattle.its_files.specs.Files.{entry_at, is_file, names_at, words_at, found, helped, directory, file_at as file_of, most_files};
+ghost use Rattle.its_plain.specs.Own.{names_of};
+ghost use Rattle.its_plain.specs.CallFile.{file_named};
+ghost use Rattle.its_plain.specs.FileOperator.{is_in, files_in, show_of, file_made, word_added};
+ghost use Rattle.its_stepped.specs.State.{plain};
+ghost use Rattle.its_stepped.specs.Unwind.{help};
+ghost use Rattle.its_world.specs.World.{state_of};
+ghost use Rattle.its_world.specs.Tidy.{Tidy};
+ghost use Rattle.its_operator.specs.Kept.{Kept, Lands, Helped, FileRefused, reason_of};
+ghost use Rattle.its_operator.specs.Filing.{word_if, length_if};
+
+use its_word::{FileShow, Refusal, Word};
+use its_world::World;
+
+/// How many files there are at most.
+const FILES: u32 = 256;
+
+/// One line of DIR: the k-th file of a directory, from 0, in the order of its files; None past the last. The parts of a
+/// close that are still owed are made first.
+#[tactic(auto, using(crate::proofs::DirLaws::dir_shown, crate::proofs::DirLaws::dir_past, crate::proofs::FileLaws::helped_plain))]
+pub fn dir(w: &mut World, d: Word, k: u32) -> Option<FileShow>
+    requires kept { Kept w.old }
+    ensures shown { result ≡ option_map show_of (slice_get (files_in d (plain (state_of w.old)).files) k) }
+    ensures plain { plain (state_of w.new) ≡ plain (state_of w.old) }
+    ensures state { state_of w.new ≡ help (state_of w.old) }
+    ensures files { w.new.files ≡ helped w.old.files }
+    ensures kept { Kept w.new }
+{
+    help(w);
+    match file_in(w, d, k) {
+        Some(id) => Some(show_of(w, id)),
+        None => None,
+    }
+}
+
+/// The number of the file with a directory and two names. NoFile where there is none. The parts of a close that are still
+/// owed are made first.
+#[tactic(auto, using(crate::proofs::FileLaws::file_found, crate::proofs::FileLaws::file_absent, crate::proofs::FileLaws::helped_plain))]
+pub fn file(w: &mut World, d: Word, x: Word, y: Word) -> Result<u32, Refusal>
+    requires kept { Kept w.old }
+    ensures found { IfOk result (λ id. file_named (names_of d x y) (plain (state_of w.old)).files ≡ Some (file_of w.new.files id)) }
+    ensures file { IfOk result (λ id. is_file (entry_at w.new.files id) ≡ true) }
+    ensures refused { IfErr result (λ e. (e ≡ Refusal.NoFile) × (file_named (names_of d x y) (plain (state_of w.old)).files ≡ None)) }
+    ensures plain { plain (state_of w.new) ≡ plain (state_of w.old) }
+    ensures state { state_of w.new ≡ help (state_of w.old) }
+    ensures files { w.new.files ≡ helped w.old.files }
+    ensures kept { Kept w.new }
+{
+    help(w);
+    match w.files.find(d, x, y) {
+        Some(id) => Ok(id),
+        None => Err(Refusal::NoFile),
+    }
+}
+
+/// The k-th word of a file, from 0; None past the last, and where no file has this number. The parts of a close that are
+/// still owed are made first.
+#[tactic(auto, using(crate::proofs::FileLaws::helped_plain))]
+pub fn file_word(w: &mut World, id: u32, k: u32) -> Option<Word>
+    requires kept { Kept w.old }
+    ensures word { result ≡ word_if (is_file (entry_at w.new.files id)) (words_at w.new.files id) k }
+    ensures plain { plain (state_of w.new) ≡ plain (state_of w.old) }
+    ensures state { state_of w.new ≡ help (state_of w.old) }
+    ensures files { w.new.files ≡ helped w.old.files }
+    ensures kept { Kept w.new }
+{
+    help(w);
+    if !w.files.is_file(id) {
+        return None;
+    }
+    w.files.word_at(id, k)
+}
+
+/// How many words a file has; None where no file has this number. The parts of a close that are still owed are made first.
+#[tactic(auto, using(crate::proofs::FileLaws::helped_plain))]
+pub fn file_length(w: &mut World, id: u32) -> Option<u32>
+    requires kept { Kept w.old }
+    ensures length { result ≡ length_if (is_file (entry_at w.new.files id)) (words_at w.new.files id) }
+    ensures plain { plain (state_of w.new) ≡ plain (state_of w.old) }
+    ensures state { state_of w.new ≡ help (state_of w.old) }
+    ensures files { w.new.files ≡ helped w.old.files }
+    ensures kept { Kept w.new }
+{
+    help(w);
+    if !w.files.is_file(id) {
+        return None;
+    }
+    Some(w.files.length(id))
+}
+
+/// FILE: makes a file of no words, the last in order, and answers its number. Exists where a file has these names; Full
+/// where there are 256 files. The parts of a close that are still owed are made first.
+#[tactic(auto, using(crate::proofs::FileLaws::new_done, crate::proofs::FileLaws::new_plain, crate::proofs::FileLaws::new_kept, crate::proofs::FileLaws::new_exists, crate::proofs::FileLaws::new_full, crate::proofs::FileLaws::helped_unmarked))]
+pub fn file_new(w: &mut World, d: Word, x: Word, y: Word) -> Result<u32, Refusal>
+    requires kept { Kept w.old }
+    ensures done { OnOk result (Lands (help (state_of w.old)) (state_of w.new) (file_made (help (state_of w.old)).raw (names_of d x y))) }
+    ensures plain { OnOk result (file_made (plain (state_of w.old)) (names_of d x y) ≡ Ok (plain (state_of w.new))) }
+    ensures file { IfOk result (λ id. is_file (entry_at w.new.files id) ≡ true) }
+    ensures names { IfOk result (λ id. names_at w.new.files id ≡ names_of d x y) }
+    ensures refused { IfErr result (λ e. FileRefused (state_of w.old) (λ m. file_made m (names_of d x y)) e) }
+    ensures state { OnErr result (state_of w.new ≡ help (state_of w.old)) }
+    ensures files { OnErr result (w.new.files ≡ helped w.old.files) }
+    ensures kept { Kept w.new }
+{
+    help(w);
+    if w.files.find(d, x, y).is_some() {
+        return Err(Refusal::Exists);
+    }
+    if w.files.count() >= FILES {
+        return Err(Refusal::Full);
+    }
+    Ok(make_file(w, d, x, y))
+}
+
+/// One word of a `/` line: a word more at the end of a file. Full where it needs a block and 2048 are in use. The parts of
+/// a close that are still owed are made first.
+#[tactic(auto, using(crate::proofs::FileLaws::more_done, crate::proofs::FileLaws::more_plain, crate::proofs::FileLaws::more_refused, crate::proofs::FileLaws::helped_unmarked))]
+pub fn file_add(w: &mut World, id: u32, word: Word) -> Result<(), Refusal>
+    requires file { is_file (entry_at (helped w.old.files) id) ≡ true }
+    requires kept { Kept w.old }
+    ensures done { OnOk result (Lands (help (state_of w.old)) (state_of w.new) (word_added (help (state_of w.old)).raw (names_at (helped w.old.files) id) word)) }
+    ensures plain { OnOk result (word_added (plain (state_of w.old)) (names_at (helped w.old.files) id) word ≡ Ok (plain (state_of w.new))) }
+    ensures file { is_file (entry_at w.new.files id) ≡ true }
+    ensures names { names_at w.new.files id ≡ names_at (helped w.old.files) id }
+    ensures refused { IfErr result (λ e. FileRefused (state_of w.old) (λ m. word_added m (names_at (helped w.old.files) id) word) e) }
+    ensures state { OnErr result (state_of w.new ≡ help (state_of w.old)) }
+    ensures files { OnErr result (w.new.files ≡ helped w.old.files) }
+    ensures kept { Kept w.new }
+{
+    help(w);
+    add_word(w, id, word)
+}
+
+/// Makes the parts of a close that are still owed.
+#[tactic(auto, using(crate::proofs::FileLaws::helped_is))]
+fn help(w: &mut World)
+    requires kept { Kept w.old }
+    ensures { Helped w.old w.new }
+{
+    w.files.seen();
+    w.files.help();
+}
+
+/// The number of the k-th file of a directory.
+#[tactic(auto, using(crate::proofs::DirLaws::dir_starts, crate::proofs::DirLaws::dir_found, crate::proofs::DirLaws::dir_passes, crate::proofs::DirLaws::dir_skips, crate::proofs::DirLaws::dir_ends))]
+fn file_in(w: &World, d: Word, k: u32) -> Option<u32>
+    ensures found { option_map (file_of w.now.files) result ≡ slice_get (files_in d (directory w.now.files)) k }
+    ensures file { IfSome result (λ id. is_file (entry_at w.now.files id) ≡ true) }
+{
+    let mut left = k;
+    for i in 0..w.files.count() {
+        if let Some(id) = w.files.file_at(i) {
+            if is_in(w, d, id) {
+                if left == 0 {
+                    return Some(id);
+                }
+                left -= 1;
+            }
+        }
+    }
+    None
+}
+
+/// Whether a file is one of a directory.
+#[tactic(auto, using(its_files::proofs::EntryLaws::file_stands))]
+fn is_in(w: &World, d: Word, id: u32) -> bool
+    requires { is_file (entry_at w.now.files id) ≡ true }
+    ensures { result ≡ is_in d (file_of w.now.files id) }
+{
+    let names = w.files.names(id);
+    let directory = names[0];
+    directory == d
+}
+
+/// What DIR shows of a file.
+#[tactic(auto, using(its_files::proofs::EntryLaws::file_stands))]
+fn show_of(w: &World, id: u32) -> FileShow
+    requires { is_file (entry_at w.now.files id) ≡ true }
+    ensures { result ≡ show_of (file_of w.now.files id) }
+{
+    let names = w.files.names(id);
+    FileShow {
+        x: names[1],
+        y: names[2],
+        length: w.files.length(id),
+    }
+}
+
+/// Makes a file of no words, the last in order, where no file has its names.
+#[tactic(auto, using(crate::proofs::FileLaws::made_lands, crate::proofs::FileLaws::made_tidy, crate::proofs::FileLaws::made_stands, crate::proofs::FileLaws::made_names))]
+fn make_file(w: &mut World, d: Word, x: Word, y: Word) -> u32
+    requires kept { Kept w.old }
+    requires unmarked { w.old.files.mark ≡ None }
+    requires few { length w.old.files.order < most_files }
+    requires fresh { found w.old.files (names_of d x y) ≡ None }
+    ensures done { Lands (state_of w.old) (state_of w.new) (file_made (state_of w.old).raw (names_of d x y)) }
+    ensures file { is_file (entry_at w.new.files result) ≡ true }
+    ensures names { names_at w.new.files result ≡ names_of d x y }
+    ensures tidy { Tidy w.new }
+{
+    w.files.new_file(d, x, y)
+}
+
+/// A word more at the end of a file.
+#[tactic(auto, using(crate::proofs::FileLaws::added_lands, crate::proofs::FileLaws::added_tidy, crate::proofs::FileLaws::added_stands, crate::proofs::FileLaws::added_names, crate::proofs::FileLaws::added_full))]
+fn add_word(w: &mut World, id: u32, word: Word) -> Result<(), Refusal>
+    requires kept { Kept w.old }
+    requires unmarked { w.old.files.mark ≡ None }
+    requires file { is_file (entry_at w.old.files id) ≡ true }
+    ensures done { OnOk result (Lands (state_of w.old) (state_of w.new) (word_added (state_of w.old).raw (names_at w.old.files id) word)) }
+    ensures refused { IfErr result (λ e. word_added (state_of w.old).raw (names_at w.old.files id) word ≡ Err (reason_of e)) }
+    ensures file { is_file (entry_at w.new.files id) ≡ true }
+    ensures names { names_at w.new.files id ≡ names_at w.old.files id }
+    ensures tidy { Tidy w.new }
+    ensures same { OnErr result (w.new ≡ w.old) }
+{
+    w.files.seen();
+    match w.files.append(id, word) {
+        Ok(()) => Ok(()),
+        Err(_) => Err(Refusal::Full),
+    }
+}

@@ -1,0 +1,165 @@
+-- A world as it is opened, with jobs whose channels are on no file and no draft.
+use Rattle.std.specs.Prelude.{◌≡◌, ◌≢◌, ◌<◌, ℕ, Option, Some, None, List, [], ◌∷◌, IfSome, length, option_map, replicate, slice_set, slice_index_or, sum_by, refl}
+use Rattle.std.specs.List.{range_with_len}
+use Rattle.std.proofs.Common.{sym, ◌∙◌, ap, subst, arith, inl, inr}
+use Rattle.std.proofs.lemmas.Bool.{cases_eq, cases_lt}
+use Rattle.std.proofs.lemmas.List.{length-replicate, get_or-replicate, get_or-set_same, get_or-set_other, get_or_past}
+use Rattle.its_word.specs.Limits.{slots}
+use Rattle.its_word.specs.Only.{Only}
+use Rattle.its_word.specs.declared.jobs.Job.{Job}
+use Rattle.its_word.specs.Tree.{fresh_job}
+use Rattle.its_word.specs.declared.jobs.Channel.{Channel}
+use Rattle.its_word.specs.declared.jobs.Channel.TheVariants.{Closed, TtyIn, TtyOut, Reading, Writing, Usr}
+use Rattle.its_core.specs.Cores.{IsEmpty, Reserved, clear_at}
+use Rattle.its_files.specs.Files.{Store, no_files, readers_by, entry_at, is_marked}
+use Rattle.its_files.proofs.ListLaws.{get_or-copies}
+use Rattle.its_frame.specs.declared.frame.Frame.{Frame}
+use Rattle.its_jobs.specs.Table.{Table, job_at, NoJobs}
+use Rattle.its_plain.specs.Machine.{Whole}
+use Rattle.its_stepped.specs.Sound.{Sound, SoundBy, MarkBy}
+use Rattle.its_stepped.specs.State.{Mark}
+use Rattle.its_world.specs.Storage.{IsElsewhere}
+use Rattle.its_world.specs.Tidy.{channel_by, channel_at, tally, reads, writes, writers, Across, Tidy}
+use Rattle.its_world.specs.World.{mark_of, raw_at, frame_at, state_of}
+use Rattle.its_world.specs.declared.world.World.{World}
+use Rattle.its_world.proofs.MarkLaws.{none_marked}
+use Rattle.its_world.proofs.TallyLaws.{tally_none}
+use Rattle.its_pclsr.specs.Removal.{Elsewhere}
+
+-- it is sound, and has neither frames nor reserved pages
+pub idle_sound : (w : World) → IsEmpty w.core → ((k : ℕ) → frame_at w.frames.items k ≡ None) → w.files ≡ no_files → Sound (state_of w)
+unfolding state_of
+idle_sound w core frames files = record {
+  each = λ k. record { by = idle_slot (raw_at w.files w.core w.jobs k) (frame_at w.frames.items k) (clear_at w.core k) (frames k) (ap (option_map (λ (r : Reserved). r.clear)) (core.reserved k)) };
+  mark = idle_mark (mark_of w.files) (none_marked w.files (ap (λ (t : Store). t.mark) files));
+}
+  where
+    idle_slot : (o : Option Whole) (f : Option Frame) (r : Option ℕ) → f ≡ None → r ≡ None → SoundBy o f r
+    idle_slot None f r e n = (e, n)
+    idle_slot (Some q) None r e n = n
+    idle_slot (Some q) (Some f) r e n = cc
+
+    idle_mark : (m : Option Mark) → m ≡ None → IfSome m (λ k. MarkBy k (frame_at w.frames.items))
+    idle_mark None e = tt
+    idle_mark (Some m) e = cc
+
+pub idle_frames : (w : World) → ((k : ℕ) → frame_at w.frames.items k ≡ None) → (k : ℕ) → (state_of w).frames k ≡ None
+unfolding state_of
+idle_frames w frames k = frames k
+
+pub idle_page : (w : World) → IsEmpty w.core → (k : ℕ) → (state_of w).reserved k ≡ None
+unfolding state_of
+idle_page w core k = ap (option_map (λ (r : Reserved). r.clear)) (core.reserved k)
+
+-- no channel is on a file or a draft
+elsewhere_reads : (f : ℕ) (c : Channel) → IsElsewhere c → reads f c ≡ 0
+elsewhere_reads f Closed h = refl
+elsewhere_reads f TtyIn h = refl
+elsewhere_reads f TtyOut h = refl
+elsewhere_reads f (Usr k write at) h = refl
+elsewhere_reads f (Reading g at) h = absurd h
+elsewhere_reads f (Writing d) h = absurd h
+
+elsewhere_writes : (d : ℕ) (c : Channel) → IsElsewhere c → writes d c ≡ 0
+elsewhere_writes d Closed h = refl
+elsewhere_writes d TtyIn h = refl
+elsewhere_writes d TtyOut h = refl
+elsewhere_writes d (Usr k write at) h = refl
+elsewhere_writes d (Reading g at) h = absurd h
+elsewhere_writes d (Writing e) h = absurd h
+
+none_weighs : (w : Channel → ℕ) (cs : ℕ → ℕ → Channel) → ((k n : ℕ) → w (cs k n) ≡ 0) → tally w cs ≡ 0
+unfolding tally
+none_weighs w cs h = (λ i. sum_by (λ k. sum_by (λ n. h k n i) (range_with_len 0 16)) (range_with_len 0 slots)) ∙ tally_none cs
+
+no_entry : (id : ℕ) → entry_at no_files id ≡ None
+no_entry id = get_or-copies 1280 id None
+
+idle_across : (t : Table) → Elsewhere t → Across no_files t
+idle_across t h = record {
+  past_slots = h.past_slots;
+  past_numbers = h.past_numbers;
+  read = λ f. none_weighs (reads f) (channel_at t) (λ k n. elsewhere_reads f (channel_at t k n) (h.each k n)) ∙ sym (ap readers_by (no_entry f));
+  written = λ d. none_weighs (writes d) (channel_at t) (λ k n. elsewhere_writes d (channel_at t k n) (h.each k n)) ∙ sym (ap (λ e. writers e (is_marked no_files d)) (no_entry d));
+}
+
+pub idle_tidy : (w : World) → IsEmpty w.core → w.files ≡ no_files → Elsewhere w.jobs → Tidy w
+idle_tidy w core files h = record {
+  blank = λ k none. core.cores k;
+  across = subst (λ (s : Store). Across s w.jobs) (sym files) (idle_across w.jobs h);
+}
+
+-- jobs one after another
+pub elsewhere_none : (t : Table) → NoJobs t → Elsewhere t
+elsewhere_none t h = record {
+  past_slots = λ k n l. ap (λ j. channel_by j n) (h.jobs k);
+  past_numbers = λ k n l. ap (λ j. channel_by j n) (h.jobs k);
+  each = λ k n. subst IsElsewhere (sym (ap (λ j. channel_by j n) (h.jobs k))) tt;
+}
+
+fresh_closed : (u j : ℕ) (c : Option ℕ) (n : ℕ) → slice_index_or (fresh_job u j c).channels n Closed ≡ Closed
+unfolding fresh_job
+fresh_closed u j c n = elim (cases_lt n 16) [
+  | inl l ↦ get_or-replicate 16 n Closed Closed l
+  | inr ge ↦ get_or_past (replicate 16 Closed) n Closed (let e = length-replicate 16 Closed in omega arith)
+]
+
+pub elsewhere_made : (t v : Table) (s u j : ℕ) (c : Option ℕ) → Only (job_at t) (job_at v) s (Some (fresh_job u j c)) → Elsewhere t → Elsewhere v
+elsewhere_made t v s u j c o h = record {
+  past_slots = λ k n l. elim (cases_eq k s) [
+    | inl e ↦ here k n e
+    | inr ne ↦ ap (λ i. channel_by i n) (o.others k ne) ∙ h.past_slots k n l
+  ];
+  past_numbers = λ k n l. elim (cases_eq k s) [
+    | inl e ↦ here k n e
+    | inr ne ↦ ap (λ i. channel_by i n) (o.others k ne) ∙ h.past_numbers k n l
+  ];
+  each = λ k n. elim (cases_eq k s) [
+    | inl e ↦ subst IsElsewhere (sym (here k n e)) tt
+    | inr ne ↦ subst IsElsewhere (sym (ap (λ i. channel_by i n) (o.others k ne))) (h.each k n)
+  ];
+}
+  where
+    here : (k n : ℕ) → k ≡ s → channel_at v k n ≡ Closed
+    here k n e = ap (λ i. channel_at v i n) e ∙ ap (λ i. channel_by i n) o.here ∙ fresh_closed u j c n
+
+set_first : (cs : List Channel) (x : Channel) → IsElsewhere x → IsElsewhere (slice_index_or cs 0 Closed) → IsElsewhere (slice_index_or (slice_set cs 0 x) 0 Closed)
+set_first [] x h e = e
+set_first (c ∷ cs) x h e = h
+
+there : (os : List (Option Job)) (k : ℕ) (j : Job) → slice_index_or os k None ≡ Some j → k < length os
+there os k j e = elim (cases_lt k (length os)) [
+  | inl l ↦ l
+  | inr ge ↦ let none : slice_index_or os k None ≡ None = get_or_past os k None (omega arith) in absurd (let wrong : None ≡ Some j = sym none ∙ e in cc)
+]
+
+module _ (t : Table) (k : ℕ) (j i : Job) (x : Channel) (low : k < slots) (was : job_at t k ≡ Some j) (is : i ≡ record j { channels = slice_set j.channels 0 x }) where
+  opened_here : (n : ℕ) → channel_by (slice_index_or (slice_set t.jobs k (Some i)) k None) n ≡ slice_index_or (slice_set j.channels 0 x) n Closed
+  opened_here n = ap (λ o. channel_by o n) (get_or-set_same t.jobs k (Some i) None (there t.jobs k j was)) ∙ ap (λ (r : Job). slice_index_or r.channels n Closed) is
+
+  opened_other : (m n : ℕ) → m ≢ k → channel_by (slice_index_or (slice_set t.jobs k (Some i)) m None) n ≡ channel_at t m n
+  opened_other m n ne = ap (λ o. channel_by o n) (get_or-set_other t.jobs k m (Some i) None ne)
+
+  was_there : (n : ℕ) → channel_at t k n ≡ slice_index_or j.channels n Closed
+  was_there n = ap (λ o. channel_by o n) was
+
+  first_opened : (n : ℕ) → IsElsewhere x → Elsewhere t → IsElsewhere (slice_index_or (slice_set j.channels 0 x) n Closed)
+  first_opened n h e = elim (cases_eq n 0) [
+    | inl z ↦ subst (λ q. IsElsewhere (slice_index_or (slice_set j.channels 0 x) q Closed)) (sym z) (set_first j.channels x h (subst IsElsewhere (was_there 0) (e.each k 0)))
+    | inr z ↦ subst IsElsewhere (sym (get_or-set_other j.channels 0 n x Closed z)) (subst IsElsewhere (was_there n) (e.each k n))
+  ]
+
+  pub elsewhere_opened : IsElsewhere x → Elsewhere t → Elsewhere (record t { jobs = slice_set t.jobs k (Some i) })
+  elsewhere_opened h e = record {
+    past_slots = λ m n l. opened_other m n (λ s. omega arith) ∙ e.past_slots m n l;
+    past_numbers = λ m n l. elim (cases_eq m k) [
+      | inl s ↦
+          ap (λ p. channel_by (slice_index_or (slice_set t.jobs k (Some i)) p None) n) s ∙ opened_here n ∙ get_or-set_other j.channels 0 n x Closed (λ z. omega arith) ∙ sym (was_there n)
+          ∙ e.past_numbers k n l
+      | inr ne ↦ opened_other m n ne ∙ e.past_numbers m n l
+    ];
+    each = λ m n. elim (cases_eq m k) [
+      | inl s ↦ subst (λ p. IsElsewhere (channel_by (slice_index_or (slice_set t.jobs k (Some i)) p None) n)) (sym s) (subst IsElsewhere (sym (opened_here n)) (first_opened n h e))
+      | inr ne ↦ subst IsElsewhere (sym (opened_other m n ne)) (e.each m n)
+    ];
+  }

@@ -1,0 +1,11 @@
+use Rattle.std.proofs.Common.{ap, sym, ◌∙◌}
+use Rattle.its_frame.specs.declared.change.Change.{Change}
+use Rattle.its_stepped.specs.Commit.{effect_on}
+use Rattle.its_world.specs.World.{state_of}
+use Rattle.its_pclsr.proofs.changes.apply_one.Goals as goal
+
+pub returns-in-Delete-clause-row : goal.returns-in-Delete-clause-row
+returns-in-Delete-clause-row c = c.delete_file.ensures.row c.args.slot ∙ ap (λ (x : Change). effect_on x c.args.slot (state_of c.args.w.now)) (sym c.in-Delete.is)
+
+pub returns-in-Rename-clause-row : goal.returns-in-Rename-clause-row
+returns-in-Rename-clause-row c = c.rename_file.ensures.row c.args.slot ∙ ap (λ (x : Change). effect_on x c.args.slot (state_of c.args.w.now)) (sym c.in-Rename.is)

@@ -1,0 +1,8 @@
+use Rattle.its_pclsr.proofs.RemovalLaws.{closing_more}
+use Rattle.its_pclsr.proofs.removal.shut_all.Goals as goal
+
+pub loop-n-preserved : goal.loop-n-preserved
+loop-n-preserved c = record {
+  closed = closing_more _ _ _ _ _ c.loop-n.invariant.closed c.shut.ensures.row;
+  tidy = c.shut.ensures.tidy;
+}

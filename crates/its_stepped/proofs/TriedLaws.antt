@@ -1,0 +1,98 @@
+-- A call that is tried: what its commit finds, and that it is decided on the raw machine as on the plain one, whether a
+-- close is half made or not.
+use Rattle.std.specs.Prelude.{◌≡◌, ◌==◌, ℕ, Bool, true, false, Option, Some, None, slice_index_or, refl}
+use Rattle.std.proofs.Common.{◌∙◌, ap}
+use Rattle.its_word.specs.declared.calls.Ask.{Ask}
+use Rattle.its_frame.specs.declared.decision.Decision.{Decision}
+use Rattle.its_frame.specs.declared.decision.Decision.TheVariants.{Waits, Goes, Ends, Gone}
+use Rattle.its_frame.specs.declared.name.CallName.{CallName}
+use Rattle.its_frame.specs.declared.name.CallName.TheVariants.{Hang, Sleep, Iot, Siot, Finish, Listen}
+use Rattle.its_plain.specs.Machine.{Chan, Shut, TtyIn, TtyOut, Reads, Writes, On, Whole, Machine}
+use Rattle.its_plain.specs.Arguments.{input}
+use Rattle.its_plain.specs.View.{View, view}
+use Rattle.its_plain.specs.CallBasic.{channel_at}
+use Rattle.its_plain.specs.CallTty.{iot_on, iot, siot_on, siot}
+use Rattle.its_plain.specs.CallStep.{decision}
+use Rattle.its_plain.specs.Decide.{call_named, decided_by, decided, target, reach}
+use Rattle.its_stepped.specs.Sound.{IsWaitable}
+use Rattle.its_stepped.specs.State.{State, plain, seen}
+use Rattle.its_stepped.specs.Unwind.{all_unwound}
+use Rattle.its_stepped.specs.Tick.{is_disk, helps_by, helps, helped_if, prepared_for}
+use Rattle.its_stepped.proofs.FileWays.{FileWays, file_ways}
+use Rattle.its_stepped.proofs.ViewLaws.{StillAt, decision_plain, view_plain, reach_plain, helps_seen}
+use Rattle.its_stepped.proofs.UnseenLaws.{files_unseen}
+
+-- what the commit of a raw job's call finds
+pub prepared_seen : (w : State) (j : ℕ) (q : Whole) (a : Ask) → prepared_for w j (seen (w.frames j) q) a ≡ helped_if (helps q a) (all_unwound (reach w.raw j q a) w)
+unfolding prepared_for
+prepared_seen w j q a =
+    (λ i. helped_if (helps_seen (w.frames j) q a i) (all_unwound (reach_plain w j (w.frames j) q a i) w))
+
+-- the directory is that of the plain machine, or is not looked at
+decision_unhelped : (w : State) (j : ℕ) (own : Whole) (a : Ask) → StillAt w (target own a) → helps own a ≡ false → decision (plain w) j own a ≡ decision w.raw j own a
+unfolding decision view
+decision_unhelped w j own a still h =
+    ap (λ v. decided v a) (view_plain w j own (target own a) still) ∙ files_unseen (view w.raw j own (target own a)) (plain w).files a h
+
+decision_by : (w : State) (j : ℕ) (own : Whole) (a : Ask) (b : Bool) → StillAt w (target own a) → helps own a ≡ b → (b ≡ true → w.mark ≡ None)
+    → decision (plain w) j own a ≡ decision w.raw j own a
+decision_by w j own a true still e h = decision_plain w j own a still (h refl)
+decision_by w j own a false still e h = decision_unhelped w j own a still e
+
+pub decision_helped : (w : State) (j : ℕ) (own : Whole) (a : Ask) → StillAt w (target own a) → (helps own a ≡ true → w.mark ≡ None) → decision (plain w) j own a ≡ decision w.raw j own a
+decision_helped w j own a still h = decision_by w j own a (helps own a) still refl h
+
+-- no call on files is found not ready
+abbrev pub Goes_on : Decision → Type 0
+Goes_on (Waits r) = ⊥
+Goes_on (Goes cs h vs) = Unit {0}
+Goes_on (Ends cs ss e) = Unit {0}
+Goes_on (Gone cs) = Unit {0}
+
+goes_ways : (x : View) (a : Ask) → FileWays Goes_on x a
+goes_ways x a = record {
+  failing = λ k. tt;
+  faulting = λ f. tt;
+  stuck = tt;
+  ending = λ cs ss h. tt;
+  moved = λ cs ss h. tt;
+  going = λ cs b vs h. tt;
+}
+
+iot_goes : (x : View) (e : ℕ) (c : Chan) → is_disk c ≡ true → Goes_on (iot_on x e c)
+iot_goes x e (Reads f at) h = tt
+iot_goes x e (Writes f) h = tt
+iot_goes x e Shut h = absurd cc
+iot_goes x e TtyIn h = absurd cc
+iot_goes x e TtyOut h = absurd cc
+iot_goes x e (On s w at) h = absurd cc
+
+siot_goes : (x : View) (a : Ask) (c : Chan) → is_disk c ≡ true → Goes_on (siot_on x a c)
+siot_goes x a (Reads f at) h = tt
+siot_goes x a (Writes f) h = tt
+siot_goes x a Shut h = absurd cc
+siot_goes x a TtyIn h = absurd cc
+siot_goes x a TtyOut h = absurd cc
+siot_goes x a (On s w at) h = absurd cc
+
+named_goes : (x : View) (a : Ask) (o : Option CallName) → helps_by x.own a o ≡ true → IsWaitable o → Goes_on (decided_by x a o)
+unfolding iot siot
+named_goes x a (Some Iot) h w = file_ways Goes_on x a (Some Iot) (goes_ways x a) (iot_goes x (slice_index_or a.outputs.items 0 0) (channel_at x.own.channels (input a 0)) h)
+named_goes x a (Some Siot) h w = file_ways Goes_on x a (Some Siot) (goes_ways x a) (siot_goes x a (channel_at x.own.channels (input a 0)) h)
+named_goes x a (Some Hang) h w = absurd cc
+named_goes x a (Some Sleep) h w = absurd cc
+named_goes x a (Some Finish) h w = absurd cc
+named_goes x a (Some Listen) h w = absurd cc
+named_goes x a _ h w = absurd w
+
+goes_by : (x : View) (a : Ask) (z : Bool) → (a.fail == 0) ≡ z → helps x.own a ≡ true → IsWaitable (call_named a.name) → Goes_on (decided x a)
+unfolding decided helps
+goes_by x a true z h w =
+    let e : helps_by x.own a (call_named a.name) ≡ helps x.own a = rw z refl in
+    rw z (named_goes x a (call_named a.name) (e ∙ h) w)
+goes_by x a false z h w = rw z tt
+
+-- where a call is found not ready, it is none on files
+pub waits_unhelped : (m : Machine) (j : ℕ) (q : Whole) (a : Ask) → helps q a ≡ true → IsWaitable (call_named a.name) → Goes_on (decision m j q a)
+unfolding decision view
+waits_unhelped m j q a h w = goes_by (view m j q (target q a)) a (a.fail == 0) refl h w

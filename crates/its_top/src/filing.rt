@@ -1,0 +1,289 @@
+//! The lines on files: FILE with its words, DIR and SHOW.
+
+ghost use Rattle.std.specs.Prelude.{◌≡◌, ◌≢◌, ◌≤◌, ◌<◌, ◌+◌, ◌-◌, ◌/◌, ◌^◌, true, None, Ok, Err, IfErr, OnOk, length, map, min, take, drop};
+ghost use Rattle.its_io.specs.Bytes.{next_fault};
+ghost use Rattle.its_files.specs.Files.{entry_at, is_file, words_at};
+ghost use Rattle.its_plain.specs.FileOperator.{word_added, words_added, files_in, filed_line, shown_lines, rows};
+ghost use Rattle.its_stepped.specs.Unwind.{help};
+ghost use Rattle.its_world.specs.World.{state_of};
+ghost use Rattle.its_operator.specs.Kept.{Kept, Lands, reason_of};
+ghost use Rattle.its_print.specs.Printing.{Filed, Row, text_of_line, text};
+ghost use Rattle.its_top.specs.Answer.{Answered, Tells, Stood, block_of};
+
+use super::progress::Progress;
+use super::turn::Turn;
+use super::writing::{refuse_by, tell};
+use arrayvec::ArrayVec;
+use its_io::Sink;
+use its_monitor::Monitor;
+use its_print::{print_dir, print_file, print_row, print_show};
+use its_word::{Event, FileShow, Refusal, Word};
+
+/// How many files there are at most.
+const MOST_FILES: u32 = 256;
+
+/// How many words a line of SHOW has.
+const ROW_WORDS: u32 = 8;
+
+/// FILE: makes a file of no words, which is then the block's.
+#[tactic(auto, using(crate::proofs::AnswerLaws::file_answered, crate::proofs::AnswerLaws::file_refused))]
+pub fn make_file<K: Sink>(
+    m: &mut Monitor,
+    p: &mut Progress,
+    d: Word,
+    x: Word,
+    y: Word,
+    out: &mut K,
+) -> Turn
+    requires sound { Kept m.old.world }
+    ensures answered { Answered result p.old.number (state_of m.old.world) (block_of p.old.slot p.old.file) (Event.File d x y) (state_of m.new.world) (block_of p.new.slot p.new.file) (K.written out.old) (K.written out.new) }
+    ensures sound { Kept m.new.world }
+    ensures kept { (p.new.number ≡ p.old.number) × (p.new.place ≡ p.old.place) × (p.new.slot ≡ p.old.slot) }
+    ensures later { K.faults out.old ≤ K.faults out.new }
+    ensures unfailed { result ≢ Turn.Fault → K.faults out.new ≡ K.faults out.old }
+    ensures fault { result ≡ Turn.Fault → K.faults out.new ≡ next_fault (K.faults out.old) }
+{
+    match m.file_new(d, x, y) {
+        Ok(_) => {
+            let names = [d, x, y];
+            p.file = names;
+            Turn::On
+        }
+        Err(e) => refuse_by(out, p.number, e),
+    }
+}
+
+/// Adds the words of a `/` line to the end of a file, in order.
+#[tactic(auto, using(crate::proofs::FilingLaws::adding_start, crate::proofs::FilingLaws::adding_fails, crate::proofs::FilingLaws::adding_end))]
+pub fn add_words(m: &mut Monitor, names: [Word; 3], words: &[Word]) -> Result<(), Refusal>
+    requires sound { Kept m.old.world }
+    requires some { 1 ≤ length words.now }
+    ensures done { OnOk result (Lands (help (state_of m.old.world)) (state_of m.new.world) (words_added (help (state_of m.old.world)).raw names words.now)) }
+    ensures refused { IfErr result (λ e. words_added (help (state_of m.old.world)).raw names words.now ≡ Err (reason_of e)) }
+    ensures sound { Kept m.new.world }
+{
+    for w in words {
+        match add_word(m, names, *w) {
+            Ok(()) => {}
+            Err(e) => return Err(e),
+        }
+    }
+    Ok(())
+}
+
+/// One of them, where there is a file with these names.
+#[tactic(auto, using(crate::proofs::FilingLaws::adds_file, crate::proofs::FilingLaws::adds_done, crate::proofs::FilingLaws::adds_refused, crate::proofs::FilingLaws::adds_nothing))]
+fn add_word(m: &mut Monitor, names: [Word; 3], w: Word) -> Result<(), Refusal>
+    requires sound { Kept m.old.world }
+    ensures done { OnOk result (Lands (help (state_of m.old.world)) (state_of m.new.world) (word_added (help (state_of m.old.world)).raw names w)) }
+    ensures refused { IfErr result (λ e. word_added (help (state_of m.old.world)).raw names w ≡ Err (reason_of e)) }
+    ensures sound { Kept m.new.world }
+{
+    let [d, x, y] = names;
+    match m.file(d, x, y) {
+        Ok(id) => m.file_add(id, w),
+        Err(_) => Ok(()),
+    }
+}
+
+/// DIR: shows the files of a directory.
+#[tactic(auto, using(crate::proofs::AnswerLaws::dir_answered, crate::proofs::FilingLaws::tells_then, crate::proofs::FilingLaws::tells_cut))]
+pub fn list_files<K: Sink>(m: &mut Monitor, p: Progress, d: Word, out: &mut K) -> Turn
+    requires sound { Kept m.old.world }
+    ensures answered { Answered result p.number (state_of m.old.world) (block_of p.slot p.file) (Event.Dir d) (state_of m.new.world) (block_of p.slot p.file) (K.written out.old) (K.written out.new) }
+    ensures sound { Kept m.new.world }
+    ensures later { K.faults out.old ≤ K.faults out.new }
+    ensures unfailed { result ≢ Turn.Fault → K.faults out.new ≡ K.faults out.old }
+    ensures fault { result ≡ Turn.Fault → K.faults out.new ≡ next_fault (K.faults out.old) }
+{
+    let count = count_files(m, d);
+    let mut line = ArrayVec::new();
+    print_dir(d, count, &mut line);
+    let turn = tell(out, &line, Turn::On);
+    if !turn.goes_on() {
+        return turn;
+    }
+    show_files(m, d, count, out)
+}
+
+/// How many files a directory has.
+#[tactic(auto, using(crate::proofs::FilingLaws::looking_start, crate::proofs::FilingLaws::looking_next, crate::proofs::FilingLaws::counting_some, crate::proofs::FilingLaws::counting_none, crate::proofs::FilingLaws::counting_end))]
+fn count_files(m: &mut Monitor, d: Word) -> u32
+    requires sound { Kept m.old.world }
+    ensures count { result ≡ length (files_in d (help (state_of m.old.world)).raw.files) }
+    ensures state { state_of m.new.world ≡ help (state_of m.old.world) }
+    ensures unmarked { m.new.world.files.mark ≡ None }
+    ensures sound { Kept m.new.world }
+{
+    for k in 0..MOST_FILES {
+        match m.dir(d, k) {
+            Some(_) => {}
+            None => return k,
+        }
+    }
+    m.world.files.seen();
+    MOST_FILES
+}
+
+/// A line for each of the files of a directory, where no part of a close is owed.
+#[tactic(auto, using(crate::proofs::FilingLaws::listing_start, crate::proofs::FilingLaws::listing_end))]
+fn show_files<K: Sink>(m: &mut Monitor, d: Word, count: u32, out: &mut K) -> Turn
+    requires sound { Kept m.old.world }
+    requires unmarked { m.old.world.files.mark ≡ None }
+    requires count { count ≡ length (files_in d (state_of m.old.world).raw.files) }
+    ensures told { Tells result Turn.On (text (map filed_line (files_in d (state_of m.old.world).raw.files))) (K.written out.old) (K.written out.new) }
+    ensures state { state_of m.new.world ≡ state_of m.old.world }
+    ensures sound { Kept m.new.world }
+    ensures later { K.faults out.old ≤ K.faults out.new }
+    ensures unfailed { result ≢ Turn.Fault → K.faults out.new ≡ K.faults out.old }
+    ensures fault { result ≡ Turn.Fault → K.faults out.new ≡ next_fault (K.faults out.old) }
+{
+    for k in 0..count {
+        if let Some(show) = m.dir(d, k) {
+            let turn = show_file(show, out);
+            if !turn.goes_on() {
+                return turn;
+            }
+        }
+    }
+    Turn::On
+}
+
+/// The line of a file.
+fn show_file<K: Sink>(show: FileShow, out: &mut K) -> Turn
+    ensures told { Tells result Turn.On (text_of_line (Filed show)) (K.written out.old) (K.written out.new) }
+    ensures later { K.faults out.old ≤ K.faults out.new }
+    ensures unfailed { result ≢ Turn.Fault → K.faults out.new ≡ K.faults out.old }
+    ensures fault { result ≡ Turn.Fault → K.faults out.new ≡ next_fault (K.faults out.old) }
+{
+    let mut line = ArrayVec::new();
+    print_file(&show, &mut line);
+    tell(out, &line, Turn::On)
+}
+
+/// SHOW: shows the words of a file.
+#[tactic(auto, using(crate::proofs::AnswerLaws::show_answered, crate::proofs::AnswerLaws::show_refused, crate::proofs::FilingLaws::stood, crate::proofs::FilingLaws::tells_then, crate::proofs::FilingLaws::tells_cut))]
+pub fn show_words<K: Sink>(
+    m: &mut Monitor,
+    p: Progress,
+    d: Word,
+    x: Word,
+    y: Word,
+    out: &mut K,
+) -> Turn
+    requires sound { Kept m.old.world }
+    ensures answered { Answered result p.number (state_of m.old.world) (block_of p.slot p.file) (Event.Show d x y) (state_of m.new.world) (block_of p.slot p.file) (K.written out.old) (K.written out.new) }
+    ensures sound { Kept m.new.world }
+    ensures later { K.faults out.old ≤ K.faults out.new }
+    ensures unfailed { result ≢ Turn.Fault → K.faults out.new ≡ K.faults out.old }
+    ensures fault { result ≡ Turn.Fault → K.faults out.new ≡ next_fault (K.faults out.old) }
+{
+    match m.file(d, x, y) {
+        Ok(id) => show_file_words(m, id, d, x, y, out),
+        Err(e) => refuse_by(out, p.number, e),
+    }
+}
+
+/// The lines of the words of a file, where no part of a close is owed: its names and how many there are, and the words.
+#[tactic(auto, using(crate::proofs::FilingLaws::stood, crate::proofs::FilingLaws::tells_then, crate::proofs::FilingLaws::tells_cut))]
+fn show_file_words<K: Sink>(
+    m: &mut Monitor,
+    id: u32,
+    d: Word,
+    x: Word,
+    y: Word,
+    out: &mut K,
+) -> Turn
+    requires sound { Kept m.old.world }
+    requires unmarked { m.old.world.files.mark ≡ None }
+    requires file { is_file (entry_at m.old.world.files id) ≡ true }
+    ensures told { Tells result Turn.On (text (shown_lines d x y (words_at m.old.world.files id))) (K.written out.old) (K.written out.new) }
+    ensures state { state_of m.new.world ≡ state_of m.old.world }
+    ensures sound { Kept m.new.world }
+    ensures later { K.faults out.old ≤ K.faults out.new }
+    ensures unfailed { result ≢ Turn.Fault → K.faults out.new ≡ K.faults out.old }
+    ensures fault { result ≡ Turn.Fault → K.faults out.new ≡ next_fault (K.faults out.old) }
+{
+    let count = m.file_length(id).unwrap_or(0);
+    let mut line = ArrayVec::new();
+    print_show(d, x, y, count, &mut line);
+    let turn = tell(out, &line, Turn::On);
+    if !turn.goes_on() {
+        return turn;
+    }
+    show_rows(m, id, count, out)
+}
+
+/// The lines of the words of a file, where no part of a close is owed.
+#[tactic(auto, using(crate::proofs::FilingLaws::standing_start, crate::proofs::FilingLaws::rows_start, crate::proofs::FilingLaws::rows_end))]
+fn show_rows<K: Sink>(m: &mut Monitor, id: u32, count: u32, out: &mut K) -> Turn
+    requires sound { Kept m.old.world }
+    requires unmarked { m.old.world.files.mark ≡ None }
+    requires file { is_file (entry_at m.old.world.files id) ≡ true }
+    requires count { count ≡ length (words_at m.old.world.files id) }
+    ensures told { Tells result Turn.On (text (rows ((count + 7) / 8) (words_at m.old.world.files id))) (K.written out.old) (K.written out.new) }
+    ensures state { state_of m.new.world ≡ state_of m.old.world }
+    ensures sound { Kept m.new.world }
+    ensures later { K.faults out.old ≤ K.faults out.new }
+    ensures unfailed { result ≢ Turn.Fault → K.faults out.new ≡ K.faults out.old }
+    ensures fault { result ≡ Turn.Fault → K.faults out.new ≡ next_fault (K.faults out.old) }
+{
+    for row in 0..count.div_ceil(ROW_WORDS) {
+        let from = row * ROW_WORDS;
+        let turn = show_row(m, id, from, count, out);
+        if !turn.goes_on() {
+            return turn;
+        }
+    }
+    Turn::On
+}
+
+/// One of them: up to eight words of a file from one on.
+fn show_row<K: Sink>(m: &mut Monitor, id: u32, from: u32, count: u32, out: &mut K) -> Turn
+    requires sound { Kept m.old.world }
+    requires unmarked { m.old.world.files.mark ≡ None }
+    requires file { is_file (entry_at m.old.world.files id) ≡ true }
+    requires count { count ≡ length (words_at m.old.world.files id) }
+    requires within { from ≤ count }
+    ensures told { Tells result Turn.On (text_of_line (Row (take 8 (drop from (words_at m.old.world.files id))))) (K.written out.old) (K.written out.new) }
+    ensures stood { Stood m.old.world m.new.world }
+    ensures sound { Kept m.new.world }
+    ensures later { K.faults out.old ≤ K.faults out.new }
+    ensures unfailed { result ≢ Turn.Fault → K.faults out.new ≡ K.faults out.old }
+    ensures fault { result ≡ Turn.Fault → K.faults out.new ≡ next_fault (K.faults out.old) }
+{
+    let words = row_of(m, id, from, count);
+    let mut line = ArrayVec::new();
+    print_row(&words, &mut line);
+    tell(out, &line, Turn::On)
+}
+
+/// Up to eight words of a file from one on.
+#[tactic(auto, using(crate::proofs::FilingLaws::standing_start, crate::proofs::FilingLaws::row_end))]
+fn row_of(m: &mut Monitor, id: u32, from: u32, count: u32) -> ArrayVec<Word, 8>
+    requires sound { Kept m.old.world }
+    requires unmarked { m.old.world.files.mark ≡ None }
+    requires file { is_file (entry_at m.old.world.files id) ≡ true }
+    requires count { count ≡ length (words_at m.old.world.files id) }
+    requires within { from ≤ count }
+    ensures words { result.items ≡ take 8 (drop from (words_at m.old.world.files id)) }
+    ensures few { length result.items ≤ 8 }
+    ensures stood { Stood m.old.world m.new.world }
+    ensures sound { Kept m.new.world }
+{
+    let mut words = ArrayVec::new();
+    for k in 0..words_in_row(count - from) {
+        match m.file_word(id, from + k) {
+            Some(word) => words.push(word),
+            None => {}
+        }
+    }
+    words
+}
+
+/// How many words the next row has, where so many are left.
+fn words_in_row(left: u32) -> u32
+    ensures { result ≡ min 8 left }
+{
+    if left < ROW_WORDS { left } else { ROW_WORDS }
+}

@@ -1,0 +1,274 @@
+-- A channel of a job set, with the store that it is on: what the state and the facts on numbers are then.
+use Rattle.std.specs.Prelude.{◌≡◌, ◌≢◌, ◌<◌, ℕ, true, false, Option, Some, None, is_some, option_map, length, slice_set, slice_index_or, refl}
+use Rattle.std.proofs.Common.{sym, ◌∙◌, ap, subst, inl, inr}
+use Rattle.std.proofs.lemmas.Bool.{cases_eq, cases_Bool}
+use Rattle.std.proofs.lemmas.List.{get_or-set_same, get_or-set_other}
+use Rattle.its_word.specs.Core.{Core}
+use Rattle.its_word.specs.Only.{Only, Same}
+use Rattle.its_word.specs.declared.jobs.Channel.{Channel}
+use Rattle.its_word.specs.declared.jobs.Channel.TheVariants.{Closed, TtyIn, TtyOut, Reading, Writing, Usr}
+use Rattle.its_word.specs.declared.jobs.Job.{Job}
+use Rattle.its_core.specs.Cores.{core_at, clear_at}
+use Rattle.its_jobs.specs.Table.{job_at, superior_at}
+use Rattle.its_files.specs.Files.{Store, directory}
+use Rattle.its_files.proofs.EntryLaws.{none_if}
+use Rattle.its_plain.specs.Machine.{Chan, Shut}
+use Rattle.its_plain.specs.Own.{on_channel}
+use Rattle.its_plain.specs.Change.{in_job, channel_in}
+use Rattle.its_plain.specs.FileOperator.{channels_of}
+use Rattle.its_plain.proofs.MachineLaws.{machine_is}
+use Rattle.its_stepped.specs.State.{State}
+use Rattle.its_world.specs.World.{chan_of, chans_of, bare, raw_of, raw_at, frame_at, console_at, holder_at, mark_of, state_of, in_raw, JobBecomes}
+use Rattle.its_world.specs.Tidy.{channel_by, channel_at, Across, Tidy}
+use Rattle.its_world.specs.Storage.{HasJob, chan_in, ChannelBecomes}
+use Rattle.its_world.specs.declared.world.World.{World}
+use Rattle.its_world.proofs.KeptLaws.{Kept, Stays}
+use Rattle.its_world.proofs.MarkLaws.{mark_none, none_marked}
+use Rattle.its_world.proofs.StateLaws.{state_is, changed_at, slot_at}
+use Rattle.its_world.proofs.TallyLaws.{OneChannel}
+
+-- what is written at one place is what was there
+only_same : {X : Type 0} (f g : ℕ → X) (s : ℕ) → Only f g s (f s) → Same f g
+only_same f g s o = record {
+  each = λ k. elim (cases_eq k s) [
+    | inl e ↦ ap g e ∙ o.here ∙ ap f (sym e)
+    | inr ne ↦ o.others k ne
+  ];
+}
+
+-- a channel set
+pub channel_becomes : (old new : World) (s n : ℕ) (x : Channel) (j : Job) → job_at old.jobs s ≡ Some j → n < length j.channels
+    → JobBecomes old new s (record j { channels = slice_set j.channels n x }) → ChannelBecomes old new s n x old.files
+channel_becomes old new s n x j was lt b = record {
+  here = λ some. ap (λ o. channel_by o n) b.job.here ∙ get_or-set_same j.channels n x Closed lt;
+  row = λ m ne. ap (λ o. channel_by o m) b.job.here ∙ get_or-set_other j.channels n m x Closed ne ∙ ap (λ o. channel_by o m) (sym was);
+  job = ap (option_map bare) b.job.here ∙ sym (ap (option_map bare) was);
+  rows = b.job.others;
+  superiors = b.superiors;
+  core = only_same (core_at old.core) (core_at new.core) s b.core;
+  reserved = only_same (clear_at old.core) (clear_at new.core) s b.reserved;
+  frames = only_same (frame_at old.frames.items) (frame_at new.frames.items) s b.frame;
+  consoles = b.consoles;
+  holders = b.holders;
+  clock = b.clock;
+  files = b.files;
+}
+
+pub channel_missing : (w : World) (s n : ℕ) (x : Channel) → job_at w.jobs s ≡ None → ChannelBecomes w w s n x w.files
+channel_missing w s n x none = record {
+  here = λ some. let f : false ≡ true = sym (ap is_some none) ∙ some in cc;
+  row = λ m ne. refl;
+  job = refl;
+  rows = λ k ne. refl;
+  superiors = refl;
+  core = record { each = λ k. refl };
+  reserved = record { each = λ k. refl };
+  frames = record { each = λ k. refl };
+  consoles = refl;
+  holders = refl;
+  clock = refl;
+  files = refl;
+}
+
+-- of the world only the store is another
+pub record OnlyStore (old new : World) (t : Store) : Type 0 where
+  pub core : new.core ≡ old.core
+  pub jobs : new.jobs ≡ old.jobs
+  pub frames : new.frames ≡ old.frames
+  pub consoles : new.consoles ≡ old.consoles
+  pub holders : new.holders ≡ old.holders
+  pub clock : new.clock ≡ old.clock
+  pub files : new.files ≡ t
+
+-- a channel is set behind the store, or left as it is
+pub store_first : (old mid new : World) (s n : ℕ) (x : Channel) (t : Store) → OnlyStore old mid t → ChannelBecomes mid new s n x t → ChannelBecomes old new s n x t
+store_first old mid new s n x t o b = record {
+  here = λ some. b.here (ap (λ j. is_some (job_at j s)) o.jobs ∙ some);
+  row = λ m ne. b.row m ne ∙ ap (λ j. channel_at j s m) o.jobs;
+  job = b.job ∙ ap (λ j. option_map bare (job_at j s)) o.jobs;
+  rows = λ k ne. b.rows k ne ∙ ap (λ j. job_at j k) o.jobs;
+  superiors = b.superiors ∙ ap (λ j. j.superiors) o.jobs;
+  core = record { each = λ k. b.core.each k ∙ ap (λ c. core_at c k) o.core };
+  reserved = record { each = λ k. b.reserved.each k ∙ ap (λ c. clear_at c k) o.core };
+  frames = record { each = λ k. b.frames.each k ∙ ap (λ l. frame_at l.items k) o.frames };
+  consoles = b.consoles ∙ o.consoles;
+  holders = b.holders ∙ o.holders;
+  clock = b.clock ∙ o.clock;
+  files = b.files;
+}
+
+pub channel_still : (old new : World) (s n : ℕ) (t : Store) → OnlyStore old new t → ChannelBecomes old new s n (channel_at old.jobs s n) t
+channel_still old new s n t o = record {
+  here = λ some. ap (λ j. channel_at j s n) o.jobs;
+  row = λ m ne. ap (λ j. channel_at j s m) o.jobs;
+  job = ap (λ j. option_map bare (job_at j s)) o.jobs;
+  rows = λ k ne. ap (λ j. job_at j k) o.jobs;
+  superiors = ap (λ j. j.superiors) o.jobs;
+  core = record { each = λ k. ap (λ c. core_at c k) o.core };
+  reserved = record { each = λ k. ap (λ c. clear_at c k) o.core };
+  frames = record { each = λ k. ap (λ l. frame_at l.items k) o.frames };
+  consoles = o.consoles;
+  holders = o.holders;
+  clock = o.clock;
+  files = o.files;
+}
+
+-- raw jobs, where what their channels are on is the same, and where one channel is on something else
+raw_alike : (s t : Store) (c : Core) (u : Option ℕ) (o : Option Job) → ((m : ℕ) → chan_of t (channel_by o m) ≡ chan_of s (channel_by o m)) → raw_of t c u o ≡ raw_of s c u o
+raw_alike s t c u (Some j) h = λ i. Some (record { core = c; job = bare j; superior = u; channels = λ m. h m i })
+raw_alike s t c u None h = refl
+
+raw_set : (s t : Store) (c : Core) (u : Option ℕ) (n : ℕ) (g : Chan → Chan) (i j : Option Job) → option_map bare i ≡ option_map bare j
+    → ((m : ℕ) → m ≢ n → chan_of t (channel_by i m) ≡ chan_of s (channel_by j m)) → (is_some j ≡ true → chan_of t (channel_by i n) ≡ g (chan_of s (channel_by j n)))
+    → raw_of t c u i ≡ option_map (on_channel n g) (raw_of s c u j)
+raw_set s t c u n g (Some i) (Some j) same others here =
+    let b : bare i ≡ bare j = cc in
+    let at = changed_at (chans_of t i) (chans_of s j) n (g (chans_of s j n)) (here refl) others in
+    λ k. Some (record { core = c; job = b k; superior = u; channels = λ m. at m k })
+raw_set s t c u n g None None same others here = refl
+raw_set s t c u n g (Some i) None same others here = cc
+raw_set s t c u n g None (Some j) same others here = cc
+
+module _ (old new : World) (s n : ℕ) (x : Channel) (t : Store) (b : ChannelBecomes old new s n x t) where
+  -- the state, where all other channels are on what they were on
+  parts_are : (k : ℕ) → raw_at new.files new.core new.jobs k ≡ raw_of t (core_at old.core k) (superior_at old.jobs k) (job_at new.jobs k)
+  parts_are k =
+      ap (λ f. raw_of f (core_at new.core k) (superior_at new.jobs k) (job_at new.jobs k)) b.files
+      ∙ ap (λ c. raw_of t c (superior_at new.jobs k) (job_at new.jobs k)) (b.core.each k)
+      ∙ ap (λ u. raw_of t (core_at old.core k) (slice_index_or u k None) (job_at new.jobs k)) b.superiors
+
+  pub filed_state : (g : Chan → Chan) → ((k m : ℕ) → (k ≡ s → m ≢ n) → chan_of t (channel_at new.jobs k m) ≡ chan_of old.files (channel_at old.jobs k m))
+      → (is_some (job_at old.jobs s) ≡ true → chan_of t x ≡ g (chan_of old.files (channel_at old.jobs s n)))
+      → state_of new ≡ record (state_of old) { raw = record (in_job (state_of old).raw s (on_channel n g)) { files = directory t }; mark = mark_of t }
+  unfolding state_of
+  filed_state g others here = state_is _ _
+      (machine_is _ _ (slot_at _ _ s (on_channel n g)
+      (parts_are s ∙ raw_set old.files t (core_at old.core s) (superior_at old.jobs s) n g (job_at new.jobs s) (job_at old.jobs s) b.job
+      (λ m ne. others s m (λ e. ne)) (λ some. ap (chan_of t) (b.here some) ∙ here some))
+      (λ k ne. parts_are k ∙ ap (raw_of t (core_at old.core k) (superior_at old.jobs k)) (b.rows k ne)
+      ∙ raw_alike old.files t (core_at old.core k) (superior_at old.jobs k) (job_at old.jobs k)
+      (λ m. sym (ap (λ o. chan_of t (channel_by o m)) (b.rows k ne)) ∙ others k m (λ e. absurd (ne e)))))
+      (λ k. ap (λ l. console_at l.items k) b.consoles) (λ k. ap (λ l. holder_at l k) b.holders) (ap directory b.files) b.clock)
+      (λ k. b.frames.each k) (λ k. b.reserved.each k) (ap mark_of b.files)
+
+  -- and where the directory and the mark are the same
+  pub channel_state : (g : Chan → Chan) → ((k m : ℕ) → (k ≡ s → m ≢ n) → chan_of t (channel_at new.jobs k m) ≡ chan_of old.files (channel_at old.jobs k m))
+      → (is_some (job_at old.jobs s) ≡ true → chan_of t x ≡ g (chan_of old.files (channel_at old.jobs s n)))
+      → directory t ≡ directory old.files → mark_of t ≡ mark_of old.files → state_of new ≡ in_raw (state_of old) s (on_channel n g)
+  unfolding state_of
+  channel_state g others here files mark =
+      filed_state g others here
+      ∙ (λ i. record (state_of old) { raw = record (in_job (state_of old).raw s (on_channel n g)) { files = files i }; mark = mark i })
+
+  -- the channels, where the slot has a job, and where the channel is as it was
+  pub one_channel : is_some (job_at old.jobs s) ≡ true → OneChannel (channel_at old.jobs) (channel_at new.jobs) s n x
+  one_channel some = record { here = b.here some; row = b.row; rows = λ k ne m. ap (λ o. channel_by o m) (b.rows k ne) }
+
+  no_job : (i j : Option Job) → option_map bare i ≡ option_map bare j → is_some j ≡ false → i ≡ None
+  no_job None j e h = refl
+  no_job (Some i) None e h = cc
+  no_job (Some i) (Some j) e h = cc
+
+  pub same_channels : (is_some (job_at old.jobs s) ≡ true → channel_at old.jobs s n ≡ x) → (k m : ℕ) → channel_at new.jobs k m ≡ channel_at old.jobs k m
+  same_channels was k m = elim (cases_eq k s) [
+    | inl e ↦ ap (λ i. channel_at new.jobs i m) e ∙ here_same ∙ ap (λ i. channel_at old.jobs i m) (sym e)
+    | inr ne ↦ ap (λ o. channel_by o m) (b.rows k ne)
+  ]
+    where
+      here_same : channel_at new.jobs s m ≡ channel_at old.jobs s m
+      here_same = elim (cases_Bool (is_some (job_at old.jobs s))) [
+        | inl some ↦ elim (cases_eq m n) [
+          | inl e ↦ ap (channel_at new.jobs s) e ∙ b.here some ∙ sym (was some) ∙ ap (channel_at old.jobs s) (sym e)
+          | inr ne ↦ b.row m ne
+        ]
+        | inr none ↦ ap (λ o. channel_by o m) (no_job (job_at new.jobs s) (job_at old.jobs s) b.job none) ∙ sym (ap (λ o. channel_by o m) (none_if (job_at old.jobs s) none))
+      ]
+
+  bare_none : (k : ℕ) → job_at new.jobs k ≡ None → job_at old.jobs k ≡ None
+  bare_none k none = elim (cases_eq k s) [
+    | inl e ↦ ap (job_at old.jobs) e ∙ no_job (job_at old.jobs s) (job_at new.jobs s) (sym b.job) (ap is_some (sym (ap (job_at new.jobs) e) ∙ none))
+    | inr ne ↦ sym (b.rows k ne) ∙ none
+  ]
+
+  pub filed_tidy : Tidy old → Across t new.jobs → Tidy new
+  filed_tidy tidy a = record {
+    blank = λ k none. b.core.each k ∙ tidy.blank k (bare_none k none);
+    across = subst (λ f. Across f new.jobs) (sym b.files) a;
+  }
+
+-- what a world comes to: a state, and it is tidy
+pub record Comes (new : World) (w : State) : Type 0 where
+  pub row : state_of new ≡ w
+  pub tidy : Tidy new
+
+pub channel_comes : (old new : World) (s n : ℕ) (x : Channel) (t : Store) → ChannelBecomes old new s n x t → Tidy old → Kept old.files t old.jobs new.jobs s n → (g : Chan → Chan)
+    → (is_some (job_at old.jobs s) ≡ true → chan_of t x ≡ g (chan_of old.files (channel_at old.jobs s n)))
+    → directory t ≡ directory old.files → mark_of t ≡ mark_of old.files → Comes new (in_raw (state_of old) s (on_channel n g))
+channel_comes old new s n x t b tidy kept g here files mark = record {
+  row = channel_state old new s n x t b g kept.chans here files mark;
+  tidy = filed_tidy old new s n x t b tidy kept.across;
+}
+
+pub still_state : (w : World) (s n : ℕ) (g : Chan → Chan) → chan_of w.files (channel_at w.jobs s n) ≡ g (chan_of w.files (channel_at w.jobs s n)) → state_of w ≡ in_raw (state_of w) s (on_channel n g)
+still_state w s n g e =
+    let b = channel_still w w s n w.files (record { core = refl; jobs = refl; frames = refl; consoles = refl; holders = refl; clock = refl; files = refl }) in
+    channel_state w w s n (channel_at w.jobs s n) w.files b g (λ k m apart. refl) (λ some. e) refl refl
+
+-- a store that shows the same to all channels
+pub store_state : (old new : World) (t : Store) → OnlyStore old new t → Stays old.files t old.jobs
+    → state_of new ≡ record (state_of old) { raw = record (state_of old).raw { files = directory t }; mark = mark_of t }
+unfolding state_of
+store_state old new t o stays = state_is _ _
+    (machine_is _ _
+    (λ k. ap (λ f. raw_at f new.core new.jobs k) o.files ∙ ap (λ c. raw_at t c new.jobs k) o.core ∙ ap (λ j. raw_at t old.core j k) o.jobs
+    ∙ raw_alike old.files t (core_at old.core k) (superior_at old.jobs k) (job_at old.jobs k) (stays.chans k))
+    (λ k. ap (λ l. console_at l.items k) o.consoles) (λ k. ap (λ l. holder_at l k) o.holders) (ap directory o.files) o.clock)
+    (λ k. ap (λ l. frame_at l.items k) o.frames) (λ k. ap (λ c. clear_at c k) o.core) (ap mark_of o.files)
+
+pub store_tidy : (old new : World) (t : Store) → OnlyStore old new t → Stays old.files t old.jobs → Tidy old → Tidy new
+store_tidy old new t o stays tidy = record {
+  blank = λ k none. ap (λ c. core_at c k) o.core ∙ tidy.blank k (sym (ap (λ j. job_at j k) o.jobs) ∙ none);
+  across = subst (λ f. Across f new.jobs) (sym o.files) (subst (λ j. Across t j) (sym o.jobs) stays.across);
+}
+
+-- what the state says of a world
+job_by : (s : Store) (c : Core) (u : Option ℕ) (o : Option Job) → is_some (raw_of s c u o) ≡ is_some o
+job_by s c u (Some j) = refl
+job_by s c u None = refl
+
+pub has_job : (w : World) (s : ℕ) → HasJob (state_of w) s → is_some (job_at w.jobs s) ≡ true
+unfolding state_of
+has_job w s h = sym (job_by w.files (core_at w.core s) (superior_at w.jobs s) (job_at w.jobs s)) ∙ h
+
+chan_by : (s : Store) (c : Core) (u : Option ℕ) (o : Option Job) (n : ℕ) → channel_in (raw_of s c u o) n ≡ chan_of s (channel_by o n)
+chan_by s c u (Some j) n = refl
+chan_by s c u None n = refl
+
+pub chan_is : (w : World) (s n : ℕ) → chan_in (state_of w) s n ≡ chan_of w.files (channel_at w.jobs s n)
+unfolding state_of
+chan_is w s n = chan_by w.files (core_at w.core s) (superior_at w.jobs s) (job_at w.jobs s) n
+
+pub chans_are : (w : World) → channels_of (state_of w).raw ≡ (λ k n. chan_of w.files (channel_at w.jobs k n))
+chans_are w = λ i k n. chan_is w k n i
+
+shut_by : (s : Store) (c : Channel) → chan_of s c ≡ Shut → c ≡ Closed
+shut_by s Closed e = refl
+shut_by s TtyIn e = cc
+shut_by s TtyOut e = cc
+shut_by s (Reading f at) e = cc
+shut_by s (Writing d) e = cc
+shut_by s (Usr k write at) e = cc
+
+pub chan_shut : (w : World) (s n : ℕ) → chan_in (state_of w) s n ≡ Shut → channel_at w.jobs s n ≡ Closed
+chan_shut w s n e = shut_by w.files (channel_at w.jobs s n) (sym (chan_is w s n) ∙ e)
+
+pub store_unmarked : (w : World) → (state_of w).mark ≡ None → w.files.mark ≡ None
+unfolding state_of
+store_unmarked w e = mark_none w.files e
+
+pub still_unmarked : (w : World) (t : Store) → (state_of w).mark ≡ None → t.mark ≡ w.files.mark → mark_of t ≡ mark_of w.files
+still_unmarked w t unmarked e = let none = store_unmarked w unmarked in none_marked t (e ∙ none) ∙ sym (none_marked w.files none)
+
+pub files_are : (w : World) → (state_of w).raw.files ≡ directory w.files
+unfolding state_of
+files_are w = refl

@@ -1,0 +1,29 @@
+use Rattle.std.proofs.Common.{refl, sym}
+use Rattle.its_world.proofs.StorageLaws.{store_unmarked}
+use Rattle.its_world.proofs.ChannelLaws.{delete_comes, delete_can, delete_none}
+use Rattle.its_world.proofs.world.World.delete_file.Goals as goal
+
+pub delete-requires-clause-unmarked : goal.delete-requires-clause-unmarked
+delete-requires-clause-unmarked c = store_unmarked c.args.self.now c.requires.unmarked
+
+pub unreachable-requires : goal.unreachable-requires
+unreachable-requires c =
+    let r = c.requires in
+    let w = c.args.self.now in
+    delete_can w w r.tidy c.args.d c.args.x c.args.y r.unmarked c.in-Some.file c.seen.ensures.whole r.unread (sym c.in-Some.ensures.found) c.in-Err.field-0 c.in-Err.ensures.locked
+
+pub returns-in-Ok : goal.returns-in-Ok
+returns-in-Ok c =
+    let r = c.requires in
+    let e = c.in-Ok.ensures in
+    let f = c.in-Some.ensures in
+    let k = delete_comes c.args.self.now _ r.tidy c.args.d c.args.x c.args.y r.unmarked c.delete.new.self c.in-Some.file f.names f.file e.ok e.directory e.entry e.words
+    (record { core = refl; jobs = refl; frames = refl; consoles = refl; holders = refl; clock = refl; files = refl }) in
+    record { row = λ j. (k j).row; tidy = (k 0).tidy }
+
+pub returns-in_default : goal.returns-in_default
+returns-in_default c =
+    let r = c.requires in
+    let w = c.args.self.now in
+    let k = delete_none w w r.tidy c.args.d c.args.x c.args.y r.unmarked (sym c.in_default.ensures.found) in
+    record { row = λ j. (k j).row; tidy = r.tidy }

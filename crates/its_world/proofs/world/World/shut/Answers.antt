@@ -1,0 +1,38 @@
+use Rattle.std.proofs.Common.{refl, subst, sym}
+use Rattle.its_world.specs.Storage.{IsElsewhere}
+use Rattle.its_world.proofs.AcrossLaws.{reading_stands, writing_stands, not_marked}
+use Rattle.its_world.proofs.StorageLaws.{store_first}
+use Rattle.its_world.proofs.ChannelLaws.{shut_file_comes, shut_draft_comes, shut_other_comes, elsewhere_of}
+use Rattle.its_world.proofs.world.World.shut.Goals as goal
+
+pub close_read-requires : goal.close_read-requires
+close_read-requires c = let w = c.args.self.now in reading_stands w.files w.jobs c.requires.tidy.across c.args.slot c.args.n c.in-Reading.file c.in-Reading.at (sym c.in-Reading.ensures)
+
+pub discard-requires : goal.discard-requires
+discard-requires c =
+    let w = c.args.self.now in
+    let stands = writing_stands w.files w.jobs c.requires.tidy.across c.args.slot c.args.n c.in-Writing.draft (sym c.in-Writing.ensures) in
+    record { draft = stands.draft; other = not_marked w.files c.in-Writing.draft stands.unmarked }
+
+pub returns-in-Reading : goal.returns-in-Reading
+returns-in-Reading c =
+    let r = c.requires in
+    let e = c.close_read.ensures in
+    let b = store_first c.args.self.now _ _ _ _ _ _ (record { core = refl; jobs = refl; frames = refl; consoles = refl; holders = refl; clock = refl; files = refl }) c.set_channel.ensures in
+    let k = shut_file_comes c.args.self.now c.set_channel.new.self c.args.slot c.args.n r.slot r.channel r.tidy c.close_read.new.self c.in-Reading.file c.in-Reading.at b c.in-Reading.ensures e.read e.directory e.entry e.words in
+    record { row = k.row; tidy = k.tidy }
+
+pub returns-in-Writing : goal.returns-in-Writing
+returns-in-Writing c =
+    let r = c.requires in
+    let e = c.discard.ensures in
+    let b = store_first c.args.self.now _ _ _ _ _ _ (record { core = refl; jobs = refl; frames = refl; consoles = refl; holders = refl; clock = refl; files = refl }) c.set_channel-in-Writing.ensures in
+    let k = shut_draft_comes c.args.self.now c.set_channel-in-Writing.new.self c.args.slot c.args.n r.slot r.channel r.tidy c.discard.new.self c.in-Writing.draft b c.in-Writing.ensures e.dropped e.directory e.entry e.words in
+    record { row = k.row; tidy = k.tidy }
+
+pub returns-in_default : goal.returns-in_default
+returns-in_default c =
+    let r = c.requires in
+    let x = subst IsElsewhere c.channel.ensures (elsewhere_of c.channel.result c.in_default.not-Reading c.in_default.not-Writing) in
+    let k = shut_other_comes c.args.self.now c.set_channel-in_default.new.self c.args.slot c.args.n r.slot r.channel r.tidy c.set_channel-in_default.ensures x in
+    record { row = k.row; tidy = k.tidy }
