@@ -1,5 +1,7 @@
 -- What the channel under a number is on.
-use Rattle.std.specs.Prelude.{if◌then◌else◌, ◌≡◌, ℕ, Bool, true, false, nat_lt, refl, slice_index_or}
+use Rattle.std.specs.Prelude.{if◌then◌else◌, ◌≡◌, ◌≢◌, ◌<◌, ℕ, Bool, true, false, nat_lt, refl, slice_index_or}
+use Rattle.std.proofs.lemmas.Bool.{ltb-true}
+use Rattle.its_word.specs.declared.jobs.Channel.{Channel}
 use Rattle.its_word.specs.declared.jobs.Channel.TheVariants.{Closed}
 use Rattle.its_word.specs.declared.jobs.Job.{Job}
 use Rattle.its_files.specs.Files.{Store}
@@ -14,3 +16,15 @@ under_by s j n false = refl
 
 pub under : (s : Store) (j : Job) (n : ℕ) → chan_of s (channel_under j n) ≡ channel_at (chans_of s j) n
 under s j n = under_by s j n (nat_lt n 16)
+
+-- an open channel has a number below 16, and is one of those of its job
+pub record Open (j : Job) (n : ℕ) (c : Channel) : Type 0 where
+  pub below : n < 16
+  pub here : slice_index_or j.channels n Closed ≡ c
+
+open_by : (j : Job) (n : ℕ) (c : Channel) (b : Bool) → nat_lt n 16 ≡ b → (if b then slice_index_or j.channels n Closed else Closed) ≡ c → Closed ≢ c → Open j n c
+open_by j n c true t e ne = record { below = ltb-true n 16 t; here = e }
+open_by j n c false t e ne = absurd (ne e)
+
+pub is_open : (j : Job) (n : ℕ) (c : Channel) → channel_under j n ≡ c → Closed ≢ c → Open j n c
+is_open j n c e ne = open_by j n c (nat_lt n 16) refl e ne

@@ -26,7 +26,7 @@ pub fn place_of_input(ask: &Ask, k: usize) -> Option<u32>
 }
 
 /// Whether there is such an input.
-pub(crate) fn has_input(ask: &Ask, k: usize) -> bool
+pub fn has_input(ask: &Ask, k: usize) -> bool
     ensures { result ≡ has_input ask.now k }
 {
     ask.inputs.get(k).is_some()

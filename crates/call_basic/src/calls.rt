@@ -4,7 +4,7 @@ ghost use Rattle.its_frame.specs.declared.decision.Decision.TheVariants.{Gone};
 ghost use Rattle.its_jobs.specs.Table.{job_at, superior_at};
 ghost use Rattle.its_plain.specs.CallBasic.{told_superior};
 ghost use Rattle.its_plain.specs.CallStep.{decision};
-ghost use Rattle.its_plain.specs.Decide.{decided_basic, reached_by, target};
+ghost use Rattle.its_plain.specs.Decide.{decided_basic, reached_by, reaching, target};
 ghost use Rattle.its_world.specs.World.{raw_at, state_of};
 ghost use Rattle.call_basic.specs.Seen.{is_waiting, raw_with, seen_by};
 
@@ -42,7 +42,25 @@ fn target(w: &World, slot: u8, job: &Job, ask: &Ask) -> Option<u8>
         return None;
     }
     match call_named(ask.name) {
-        Some(CallName::Usrvar) => reached(w, slot, job, input(ask, 0)),
+        Some(name) => match reaching(name) {
+            Some(k) => reached(w, slot, job, input(ask, k)),
+            None => None,
+        },
+        None => None,
+    }
+}
+
+/// The argument that names the channel by which a call reaches into another job.
+fn reaching(name: CallName) -> Option<usize>
+    ensures { result ≡ reaching name }
+{
+    match name {
+        CallName::Usrvar => Some(0),
+        CallName::Iot => Some(0),
+        CallName::Siot => Some(0),
+        CallName::Usrmem => Some(0),
+        CallName::Uclose => Some(0),
+        CallName::Corblk => Some(1),
         _ => None,
     }
 }

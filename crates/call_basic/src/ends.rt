@@ -3,7 +3,7 @@ ghost use Rattle.std.specs.Prelude.{◌≡◌, ◌<◌, ◌+◌, ◌%◌, ◌^�
 ghost use Rattle.its_frame.specs.declared.decision.Decision.TheVariants.{Ends};
 ghost use Rattle.its_plain.specs.Job.{bit_of, with_pending, IOC as IOC_BIT};
 ghost use Rattle.its_plain.specs.Own.{advanced, exit_of};
-ghost use Rattle.its_plain.specs.Tests.{number_at};
+ghost use Rattle.its_plain.specs.Tests.{number_at, out};
 
 use arrayvec::ArrayVec;
 use its_frame::{Change, Decision, Exit, Store};
@@ -57,6 +57,13 @@ pub fn store_at(place: Option<u32>, word: Word) -> ArrayVec<Store, 2>
         stores.push(Store { at, word });
     }
     stores
+}
+
+/// The store of a value into the output, where there is one.
+pub fn output(ask: &Ask, value: Word) -> ArrayVec<Store, 2>
+    ensures { result ≡ record { items = out ask.now.outputs.items value } }
+{
+    store_at(ask.outputs.first().copied(), value)
 }
 
 /// The call ends with these stores and registers, and changes nothing else.

@@ -229,8 +229,8 @@ fn decision(rt: &impl Abort, w: &World, ask: &Ask) -> Decision {
     decided(w, 1, w.jobs.job(1).expect(rt, "slot 1 has a job"), ask)
 }
 
-/// Each call at its errors, in waiting and as it finishes, and whom it reaches into; those on consoles and calls that
-/// are not built fail.
+/// Each call at its errors, in waiting and as it finishes, and whom it reaches into; those that are not on jobs and
+/// times alone fail.
 #[test]
 fn calls(rt: HostRuntime) -> Result<(), Fail> {
     let w = world(&rt, rt.alloc())?;
@@ -409,7 +409,7 @@ fn calls(rt: HostRuntime) -> Result<(), Fail> {
             Want::Sets(Variable::Ustp, 0),
             Some(2),
         ),
-        (IOT, &[][..], &none[..], Want::Fails(0o1), None),
+        (IOT, &[(0, None)][..], &none[..], Want::Fails(0o1), Some(2)),
         (OPEN, &[(0, None)][..], &none[..], Want::Fails(0o1), None),
     ] {
         let ask = ask(&rt, name, inputs, outputs);

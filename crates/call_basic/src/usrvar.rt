@@ -5,13 +5,12 @@ ghost use Rattle.its_plain.specs.Arguments.{has_input, input};
 ghost use Rattle.its_plain.specs.CallBasic.{other_variable, own_variable, set_other, set_own, usrvar, value_of_other, variable_named};
 ghost use Rattle.its_plain.specs.Decide.{call_named as call_named_by, target};
 ghost use Rattle.its_plain.specs.Own.{advanced, exit_of};
-ghost use Rattle.its_plain.specs.Tests.{out};
 ghost use Rattle.its_frame.specs.declared.decision.Decision.TheVariants.{Ends};
 ghost use Rattle.its_world.specs.World.{raw_at};
 ghost use Rattle.call_basic.specs.Seen.{raw_with, seen_by};
 
 use super::arguments::{has_input, input};
-use super::ends::{ends, fails, finishes, finishes_with, store_at};
+use super::ends::{ends, fails, finishes, finishes_with, output};
 use super::names::variable_named;
 use super::party::{channel, is_oneself};
 use super::variables::{by_oneself, by_superior, exit_with, variable_of};
@@ -23,7 +22,7 @@ use its_world::World;
 /// USRVAR job, name, optional new value: the output gets the value before, and then the new value is set.
 /// Errors 4 where the channel is closed, 5 where it is on no job, 22 where no variable has the name, 5
 /// where the channel has no leave to write, and 22 where the variable cannot be set so.
-#[tactic(auto, using(crate::proofs::ReachLaws::reaches, crate::proofs::ChannelLaws::under), unfolding(its_plain::specs::CallBasic::usrvar, its_plain::specs::View::view, its_world::specs::World::state_of))]
+#[tactic(auto, using(crate::proofs::ChannelLaws::under), unfolding(its_plain::specs::CallBasic::usrvar, its_plain::specs::View::view, its_world::specs::World::state_of))]
 pub(crate) fn usrvar(w: &World, slot: u8, job: &Job, ask: &Ask) -> Decision
     requires slot { slot < slots }
     requires fail { ask.now.fail ≡ 0 }
@@ -46,13 +45,6 @@ pub(crate) fn usrvar(w: &World, slot: u8, job: &Job, ask: &Ask) -> Decision
         Channel::Writing { .. } => fails(job, ask, 0o5),
         Channel::Closed => fails(job, ask, 0o4),
     }
-}
-
-/// The store of a value into the output, where there is one.
-fn output(ask: &Ask, value: Word) -> ArrayVec<Store, 2>
-    ensures { result ≡ record { items = out ask.now.outputs.items value } }
-{
-    store_at(ask.outputs.first().copied(), value)
 }
 
 /// USRVAR on oneself.

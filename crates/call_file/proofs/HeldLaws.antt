@@ -1,9 +1,7 @@
 -- What the channels of a job are on that read a file or write a draft.
-use Rattle.std.specs.Prelude.{if◌then◌else◌, ◌≡◌, ◌≢◌, ◌<◌, ℕ, Bool, true, false, Some, nat_lt, slice_index_or, refl}
+use Rattle.std.specs.Prelude.{◌≡◌, ◌<◌, ℕ, true, Some}
 use Rattle.std.proofs.Common.{◌∙◌, ap}
-use Rattle.std.proofs.lemmas.Bool.{ltb-true}
-use Rattle.its_word.specs.declared.jobs.Channel.{Channel}
-use Rattle.its_word.specs.declared.jobs.Channel.TheVariants.{Closed, Reading, Writing}
+use Rattle.its_word.specs.declared.jobs.Channel.TheVariants.{Reading, Writing}
 use Rattle.its_word.specs.declared.jobs.Job.{Job}
 use Rattle.its_files.specs.Files.{entry_at, is_file, is_draft}
 use Rattle.its_jobs.specs.Table.{job_at}
@@ -11,22 +9,13 @@ use Rattle.its_world.specs.Tidy.{Tidy, channel_by}
 use Rattle.its_world.specs.declared.world.World.{World}
 use Rattle.its_world.proofs.AcrossLaws as across
 use Rattle.call_basic.specs.Seen.{channel_under}
-use Rattle.call_basic.proofs.ChannelLaws.{under}
-
--- an open channel has a number below 16, and is one of those of its job
-record Open (j : Job) (n : ℕ) (c : Channel) : Type 0 where
-  below : n < 16
-  here : slice_index_or j.channels n Closed ≡ c
-
-open_by : (j : Job) (n : ℕ) (c : Channel) (b : Bool) → nat_lt n 16 ≡ b → (if b then slice_index_or j.channels n Closed else Closed) ≡ c → Closed ≢ c → Open j n c
-open_by j n c true t e ne = record { below = ltb-true n 16 t; here = e }
-open_by j n c false t e ne = absurd (ne e)
+use Rattle.call_basic.proofs.ChannelLaws.{Open, is_open, under}
 
 reading_open : (j : Job) (n f at : ℕ) → channel_under j n ≡ Reading f at → Open j n (Reading f at)
-reading_open j n f at e = open_by j n (Reading f at) (nat_lt n 16) refl e (λ z. cc)
+reading_open j n f at e = is_open j n (Reading f at) e (λ z. cc)
 
 writing_open : (j : Job) (n d : ℕ) → channel_under j n ≡ Writing d → Open j n (Writing d)
-writing_open j n d e = open_by j n (Writing d) (nat_lt n 16) refl e (λ z. cc)
+writing_open j n d e = is_open j n (Writing d) e (λ z. cc)
 
 pub reading_number : (j : Job) (n f at : ℕ) → channel_under j n ≡ Reading f at → n < 16
 reading_number j n f at e = (reading_open j n f at e).below

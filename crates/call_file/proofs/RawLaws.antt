@@ -1,40 +1,21 @@
--- The decision is made on the raw job of the slot, and so is whether it is one on files.
-use Rattle.std.specs.Prelude.{◌≡◌, ℕ, Bool, true, Some, IfSome, refl}
-use Rattle.std.proofs.Common.{sym, ◌∙◌, ap, subst}
+-- Whether a call is one on files, by what its channel is on.
+use Rattle.std.specs.Prelude.{◌≡◌, ℕ, true, Some, refl}
+use Rattle.std.proofs.Common.{sym, ◌∙◌, ap}
 use Rattle.its_word.specs.declared.calls.Ask.{Ask}
 use Rattle.its_word.specs.declared.jobs.Channel.{Channel}
 use Rattle.its_word.specs.declared.jobs.Channel.TheVariants.{Closed, TtyIn, TtyOut, Reading, Writing, Usr}
 use Rattle.its_word.specs.declared.jobs.Job.{Job}
-use Rattle.its_core.specs.Cores.{core_at}
 use Rattle.its_files.specs.Files.{Store}
-use Rattle.its_jobs.specs.Table.{job_at, superior_at}
-use Rattle.its_frame.specs.declared.decision.Decision.{Decision}
 use Rattle.its_frame.specs.declared.name.CallName.TheVariants.{Iot, Siot}
 use Rattle.its_plain.specs.Arguments.{input}
 use Rattle.its_plain.specs.CallBasic.{channel_at}
-use Rattle.its_plain.specs.CallStep.{decision}
-use Rattle.its_plain.specs.Decide.{call_named, decided}
-use Rattle.its_plain.specs.Machine.{Whole}
+use Rattle.its_plain.specs.Decide.{call_named}
 use Rattle.its_stepped.specs.Tick.{helps, is_disk}
-use Rattle.its_world.specs.World.{chan_of, chans_of, raw_at, raw_of, state_of}
+use Rattle.its_world.specs.World.{chan_of, chans_of}
 use Rattle.its_world.specs.declared.world.World.{World}
-use Rattle.call_basic.specs.Seen.{channel_under, raw_with, seen_by}
+use Rattle.call_basic.specs.Seen.{channel_under, raw_with}
 use Rattle.call_basic.proofs.ChannelLaws.{under}
-use Rattle.call_basic.proofs.RawLaws.{raw_here}
 use Rattle.call_file.specs.Held.{is_on_file}
-
-pub decision_here : (w : World) (s : ℕ) (j : Job) (a : Ask) (d : Decision) → job_at w.jobs s ≡ Some j → d ≡ decided (seen_by w s j a) a
-    → IfSome (raw_at w.files w.core w.jobs s) (λ q. d ≡ decision (state_of w).raw s q a)
-unfolding decision
-decision_here w s j a d h e = raw_here (λ q. d ≡ decision (state_of w).raw s q a) w s j h e
-
--- what holds of it holds of the registers
-pub raw_there : (P : Whole → Type 0) (w : World) (s : ℕ) (j : Job) → job_at w.jobs s ≡ Some j → IfSome (raw_at w.files w.core w.jobs s) P → P (raw_with w s j)
-raw_there P w s j h p = subst (λ o. IfSome (raw_of w.files (core_at w.core s) (superior_at w.jobs s) o) P) h p
-
-pub helps_here : (w : World) (s : ℕ) (j : Job) (a : Ask) (b : Bool) → job_at w.jobs s ≡ Some j → b ≡ helps (raw_with w s j) a
-    → IfSome (raw_at w.files w.core w.jobs s) (λ q. b ≡ helps q a)
-helps_here w s j a b h e = raw_here (λ q. b ≡ helps q a) w s j h e
 
 -- a channel on a file
 disk_by : (s : Store) (c : Channel) → is_on_file c ≡ is_disk (chan_of s c)

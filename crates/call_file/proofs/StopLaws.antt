@@ -1,13 +1,12 @@
 -- What stops a transfer of words, and that one that nothing stops is not at the end of its file.
-use Rattle.std.specs.Prelude.{if◌then◌else◌, ◌≡◌, ◌<◌, ◌/◌, ◌%◌, ◌^◌, ℕ, zero, suc, Bool, true, false, not, Option, Some, None, IfSome, is_some, List, [], ◌∷◌, unwrap_or, refl}
+use Rattle.std.specs.Prelude.{if◌then◌else◌, ◌≡◌, ◌<◌, ◌/◌, ◌%◌, ◌^◌, ℕ, zero, suc, Bool, true, false, not, Option, Some, None, IfSome, is_some, List, [], ◌∷◌, refl}
 use Rattle.std.proofs.Common.{sym, ◌∙◌, ap, arith}
 use Rattle.std.proofs.Math.Nat.{mod-le, div-le_self}
 use Rattle.its_word.specs.Byte.{load_of, position, size}
 use Rattle.its_word.specs.declared.calls.Ask.{Ask}
 use Rattle.its_frame.specs.declared.decision.Decision.{Decision}
 use Rattle.its_plain.specs.Arguments.{input}
-use Rattle.its_plain.specs.CallFile.{siot_read, siot_reads}
-use Rattle.its_plain.specs.CallTty.{next_pointer, siot_tests}
+use Rattle.its_plain.specs.CallTty.{siot_by, siot_tests}
 use Rattle.its_plain.specs.Tests.{Test, first}
 use Rattle.its_plain.specs.View.{View}
 use Rattle.call_tty.specs.Waiting.{first_of}
@@ -40,12 +39,12 @@ unstopped_by : (t : Test) (ts : List Test) (e : Decision) (b : Bool) → (first_
 unstopped_by t ts e true rest h = cc
 unstopped_by t ts e false rest h = rest h
 
-unstopped : (ts : List Test) (e : Decision) → first_of ts ≡ None → e ≡ first ts e
+pub unstopped : (ts : List Test) (e : Decision) → first_of ts ≡ None → e ≡ first ts e
 unstopped [] e h = refl
 unstopped (t ∷ ts) e h = unstopped_by t ts e t.holds (unstopped ts e) h
 
 -- the end of a file is where there is no word
-ended : (o : Option ℕ) (b : Bool) → is_some o ≡ not b → b ≡ not (is_some o)
+pub ended : (o : Option ℕ) (b : Bool) → is_some o ≡ not b → b ≡ not (is_some o)
 ended (Some w) true h = cc
 ended (Some w) false h = refl
 ended None true h = refl
@@ -56,18 +55,20 @@ few_by (Some w) at b e f few = few
 few_by None at true e f few = cc
 few_by None at false e f few = cc
 
-module _ (v : View) (a : Ask) (n at : ℕ) (o : Option ℕ) (b : Bool) (e : is_some o ≡ not b) where
+pub few_left : (v : View) (a : Ask) (at : ℕ) (o : Option ℕ) (b : Bool) → is_some o ≡ not b → first_of (siot_tests v a (input a 1) (input a 2) true b) ≡ None
+    → IfSome o (λ w. at < 2 ^ 18) → at < 2 ^ 18
+few_left v a at o b e h few = few_by o at b e (none_held (siot_tests v a (input a 1) (input a 2) true b) 6 h) few
+
+-- what SIOT comes to where a test stops it, and where none does
+module _ (v : View) (a : Ask) (words at_end b : Bool) (moves : Decision) (e : b ≡ at_end) where
   abbrev tests : Bool → List Test
-  tests ended = siot_tests v a (input a 1) (input a 2) true ended
+  tests end = siot_tests v a (input a 1) (input a 2) words end
 
-  pub few_left : first_of (tests b) ≡ None → IfSome o (λ w. at < 2 ^ 18) → at < 2 ^ 18
-  few_left h few = few_by o at b e (none_held (tests b) 6 h) few
+  pub siot_stops : (d : Decision) → first_of (tests b) ≡ Some d → d ≡ siot_by v a words at_end moves
+  siot_stops d h = stopped (tests at_end) d moves (sym (ap (λ x. first_of (tests x)) e) ∙ h)
 
-  pub siot_stops : (d : Decision) → first_of (tests b) ≡ Some d → d ≡ siot_reads v a n at o
-  siot_stops d h = stopped (tests (not (is_some o))) d (siot_read v (next_pointer (input a 1)) (input a 2) n at (unwrap_or o 0)) (sym (ap (λ x. first_of (tests x)) (ended o b e)) ∙ h)
-
-  pub siot_goes : first_of (tests b) ≡ None → siot_read v (next_pointer (input a 1)) (input a 2) n at (unwrap_or o 0) ≡ siot_reads v a n at o
-  siot_goes h = unstopped (tests (not (is_some o))) (siot_read v (next_pointer (input a 1)) (input a 2) n at (unwrap_or o 0)) (sym (ap (λ x. first_of (tests x)) (ended o b e)) ∙ h)
+  pub siot_goes : first_of (tests b) ≡ None → moves ≡ siot_by v a words at_end moves
+  siot_goes h = unstopped (tests at_end) moves (sym (ap (λ x. first_of (tests x)) e) ∙ h)
 
 -- a byte that is loaded from a word fits one
 pub loaded_fits : (p w : ℕ) → w < 2 ^ 36 → load_of p w % 2 ^ 36 ≡ load_of p w

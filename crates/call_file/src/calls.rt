@@ -1,15 +1,14 @@
-ghost use Rattle.std.specs.Prelude.{◌≡◌, ◌==◌, ◌<◌, true, not, is_some, IfSome, None, Some};
+ghost use Rattle.std.specs.Prelude.{◌≡◌, ◌==◌, ◌<◌, true, IfSome, None, Some};
 ghost use Rattle.its_word.specs.Limits.{slots};
 ghost use Rattle.its_frame.specs.declared.name.CallName.TheVariants.{Close, Iot, Open, Siot};
 ghost use Rattle.its_jobs.specs.Table.{job_at};
 ghost use Rattle.its_plain.specs.Arguments.{input};
 ghost use Rattle.its_plain.specs.CallFile.{close_call, disk_device, iot_call, open_call, siot_call};
-ghost use Rattle.its_plain.specs.CallStep.{decision};
-ghost use Rattle.its_plain.specs.Decide.{call_named as call_named_by, decided};
+ghost use Rattle.its_plain.specs.Decide.{call_named as call_named_by, decided_file};
 ghost use Rattle.its_stepped.specs.Tick.{helps};
 ghost use Rattle.its_world.specs.Tidy.{Tidy};
-ghost use Rattle.its_world.specs.World.{raw_at, state_of};
-ghost use Rattle.call_basic.specs.Seen.{channel_under, is_waiting, raw_with, seen_by};
+ghost use Rattle.its_world.specs.World.{raw_at};
+ghost use Rattle.call_basic.specs.Seen.{channel_under, raw_with, seen_by};
 ghost use Rattle.call_file.specs.Held.{is_on_file};
 
 use super::channels::{access, close_draft, fillen, open_disk};
@@ -21,42 +20,15 @@ use its_frame::{CallName, Decision};
 use its_word::{Ask, Channel, Job};
 use its_world::World;
 
-/// What the call of a slot's job comes to.
-pub fn decide(w: &World, slot: u8, ask: &Ask) -> Decision
-    requires slot { slot < slots }
-    requires job { is_some (job_at w.now.jobs slot) ≡ true }
-    requires tidy { Tidy w.now }
-    requires unmarked { IfSome (raw_at w.now.files w.now.core w.now.jobs slot) (λ q. helps q ask.now ≡ true → w.now.files.mark ≡ None) }
-    ensures { IfSome (raw_at w.now.files w.now.core w.now.jobs slot) (λ q. result ≡ decision (state_of w.now).raw slot q ask.now) }
-{
-    match w.jobs.job(slot) {
-        Some(job) => decided(w, slot, job, ask),
-        None => unreachable!(),
-    }
-}
-
-/// Whether the call of a slot's job can go on.
-pub fn ready(w: &World, slot: u8, ask: &Ask) -> bool
-    requires slot { slot < slots }
-    requires job { is_some (job_at w.now.jobs slot) ≡ true }
-    requires tidy { Tidy w.now }
-    requires unmarked { IfSome (raw_at w.now.files w.now.core w.now.jobs slot) (λ q. helps q ask.now ≡ true → w.now.files.mark ≡ None) }
-    ensures { IfSome (raw_at w.now.files w.now.core w.now.jobs slot) (λ q. result ≡ not (is_waiting (decision (state_of w.now).raw slot q ask.now))) }
-{
-    match decide(w, slot, ask) {
-        Decision::Waits(_) => false,
-        _ => true,
-    }
-}
-
-/// What the call of a job with these registers comes to. An error of its decoding comes first.
-#[tactic(auto, unfolding(its_plain::specs::Decide::decided, its_plain::specs::Decide::decided_tty, its_plain::specs::View::view, its_world::specs::World::state_of))]
-fn decided(w: &World, slot: u8, job: &Job, ask: &Ask) -> Decision
+/// What the call of a job with these registers comes to, where it is one on files, on consoles, or on jobs and times alone;
+/// any other fails with error 1. An error of its decoding comes first.
+#[tactic(auto, unfolding(its_plain::specs::Decide::decided_file, its_plain::specs::Decide::decided_tty, its_plain::specs::View::view, its_world::specs::World::state_of))]
+pub fn decided(w: &World, slot: u8, job: &Job, ask: &Ask) -> Decision
     requires slot { slot < slots }
     requires job { job_at w.now.jobs slot ≡ Some job.now }
     requires tidy { Tidy w.now }
     requires unmarked { helps (raw_with w.now slot job.now) ask.now ≡ true → w.now.files.mark ≡ None }
-    ensures { result ≡ decided (seen_by w.now slot job.now ask.now) ask.now }
+    ensures { result ≡ decided_file (seen_by w.now slot job.now ask.now) ask.now }
 {
     if ask.fail != 0 {
         return fails(job, ask, ask.fail);

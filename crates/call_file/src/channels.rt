@@ -4,7 +4,7 @@ ghost use Rattle.its_frame.specs.declared.decision.Decision.TheVariants.{Ends};
 ghost use Rattle.its_files.specs.Files.{entry_at, file_at, is_draft, is_file, names_at, words_at};
 ghost use Rattle.its_jobs.specs.Table.{job_at};
 ghost use Rattle.its_plain.specs.Arguments.{input};
-ghost use Rattle.its_plain.specs.CallFile.{access, access_on, closes_draft, fillen, fillen_on, opens_as, opens_disk};
+ghost use Rattle.its_plain.specs.CallFile.{access, access_on, access_to, closes_draft, fillen, fillen_on, opens_as, opens_disk};
 ghost use Rattle.its_plain.specs.Machine.{Reads};
 ghost use Rattle.its_plain.specs.Own.{advanced, exit_of};
 ghost use Rattle.its_plain.specs.Tests.{out};
@@ -18,6 +18,9 @@ use call_tty::{control, is_free};
 use its_frame::{Change, Decision, Opened};
 use its_word::{Ask, Channel, Job, Word};
 use its_world::World;
+
+/// Where a channel on an inferior is at its end, behind word 777777 (octal).
+const END_OF_CORE: u32 = 0o1000000;
 
 /// How many files there are at most.
 const FILES: u32 = 256;
@@ -78,7 +81,8 @@ pub(crate) fn close_draft(w: &World, slot: u8, job: &Job, ask: &Ask, draft: u32)
     finishes_with(job, change, ArrayVec::new())
 }
 
-/// ACCESS channel, position: the next word that a file gives. Errors 4, 5, 22 where the position is past its end.
+/// ACCESS channel, position: the next word that a file gives, or that a channel on an inferior is at. Errors 4, 5, 22 where
+/// the position is past the end.
 #[tactic(auto, using(crate::proofs::HeldLaws::reading), unfolding(its_plain::specs::CallFile::access, its_plain::specs::View::view, its_world::specs::World::state_of))]
 pub(crate) fn access(w: &World, slot: u8, job: &Job, ask: &Ask) -> Decision
     requires job { job_at w.now.jobs slot ≡ Some job.now }
@@ -91,7 +95,7 @@ pub(crate) fn access(w: &World, slot: u8, job: &Job, ask: &Ask) -> Decision
         Channel::Writing { .. } => fails(job, ask, 0o5),
         Channel::TtyIn => fails(job, ask, 0o5),
         Channel::TtyOut => fails(job, ask, 0o5),
-        Channel::Usr { .. } => fails(job, ask, 0o5),
+        Channel::Usr { .. } => access_to(w, slot, job, ask, END_OF_CORE),
     }
 }
 
@@ -103,8 +107,17 @@ fn moved(w: &World, slot: u8, job: &Job, ask: &Ask, file: u32, was: u32) -> Deci
     ensures { result ≡ access_on (seen_by w.now slot job.now ask.now) ask.now (Reads (names_at w.now.files file) was) }
 {
     w.files.seen();
+    access_to(w, slot, job, ask, w.files.length(file))
+}
+
+/// The position of a channel is set, which is at most this. Error 22 where it is above.
+#[tactic(auto, unfolding(its_plain::specs::View::view, its_world::specs::World::state_of))]
+fn access_to(w: &World, slot: u8, job: &Job, ask: &Ask, most: u32) -> Decision
+    requires { input ask.now 0 < 16 }
+    ensures { result ≡ access_to (seen_by w.now slot job.now ask.now) ask.now most }
+{
     let at = input(ask, 1).value();
-    if at > u64::from(w.files.length(file)) {
+    if at > u64::from(most) {
         return fails(job, ask, 0o22);
     }
     let change = Change::Move {

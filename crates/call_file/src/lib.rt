@@ -8,4 +8,4 @@ mod channels;
 mod directory;
 mod transfer;
 
-pub use calls::{decide, helps, ready};
+pub use calls::{decided, helps};

@@ -13,4 +13,5 @@ mod waiting;
 
 pub use calls::decided;
 pub use open::{control, is_free};
-pub use transfer::{bar_of_store, iot_ends, moves, next_pointer, stopped};
+pub use transfer::{bar_of_store, iot_ends, moves, moves_with, next_pointer, stopped};
+pub use waiting::is_superior;

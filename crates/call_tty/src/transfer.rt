@@ -1,7 +1,7 @@
 ghost use Rattle.std.specs.Prelude.{◌≡◌, ◌==◌, ◌<◌, ◌∷◌, ◌-◌, [], true, unwrap_or};
 ghost use Rattle.std.specs.Option.{option_to_list};
 ghost use Rattle.its_word.specs.Byte.{has_size, size};
-ghost use Rattle.its_frame.specs.declared.decision.Decision.TheVariants.{Ends};
+ghost use Rattle.its_frame.specs.declared.decision.Decision.TheVariants.{Ends, Goes};
 ghost use Rattle.its_plain.specs.Own.{advanced, exit_of};
 ghost use Rattle.its_plain.specs.Tests.{goes};
 ghost use Rattle.its_word.specs.Limits.{slots};
@@ -214,6 +214,18 @@ pub fn moves(change: Change, held: Option<Held>, next: Word, count: Word) -> Dec
 {
     let mut changes = ArrayVec::new();
     changes.push(change);
+    moves_with(changes, held, next, count)
+}
+
+/// The same with several changes.
+pub fn moves_with(
+    changes: ArrayVec<Change, 2>,
+    held: Option<Held>,
+    next: Word,
+    count: Word,
+) -> Decision
+    ensures { result ≡ Goes changes held (record { items = next ∷ (count - 1) ∷ [] }) }
+{
     let mut values = ArrayVec::new();
     values.push(next);
     values.push(Word::new(count.value().saturating_sub(1)));

@@ -101,7 +101,7 @@ fn can_take(w: &World, slot: u8, console: u8) -> bool
 }
 
 /// Whether a job is the superior of the job of a slot.
-fn is_superior(w: &World, slot: u8, inferior: u8) -> bool
+pub fn is_superior(w: &World, slot: u8, inferior: u8) -> bool
     ensures { result ≡ is_superior slot (outline_at w.now inferior) }
 {
     match w.jobs.job(inferior) {

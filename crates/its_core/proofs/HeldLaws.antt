@@ -44,6 +44,24 @@ held_only accs places qlaces held words links minks s o h = record {
       ∙ sym (reserved_at_is accs places held words links k);
 }
 
+-- whether a slot has reserved a page
+held_has : (accs : List ℕ) (places : List (Option Mapped)) (held : List (Option Held)) (words : List ℕ) (links : Linked) (s : ℕ) → is_some (slice_index_or held s None) ≡ is_some (reserved_at (cores_in accs places held words links) s)
+held_has accs places held words links s = go (slice_index_or held s None) ∙ ap is_some (sym (reserved_at_is accs places held words links s))
+  where
+    go : (o : Option Held) → is_some o ≡ is_some (reserved_in words o)
+    go None = refl
+    go (Some h) = refl
+
+clear_has : (m : Cores) (s : ℕ) → is_some (reserved_at m s) ≡ is_some (clear_at m s)
+clear_has m s = go (reserved_at m s)
+  where
+    go : (o : Option Reserved) → is_some o ≡ is_some (option_map (λ r. r.clear) o)
+    go None = refl
+    go (Some r) = refl
+
+pub held_clear : (accs : List ℕ) (places : List (Option Mapped)) (held : List (Option Held)) (words : List ℕ) (links : Linked) (s : ℕ) → is_some (slice_index_or held s None) ≡ is_some (clear_at (cores_in accs places held words links) s)
+held_clear accs places held words links s = held_has accs places held words links s ∙ clear_has (cores_in accs places held words links) s
+
 module _ (accs : List ℕ) (places : List (Option Mapped)) (held : List (Option Held)) (words : List ℕ) (links : Linked) (mapped : ℕ) (pool : IsPool accs places held words links mapped) where
   pub held_none : (s : ℕ) → reserved_at (cores_in accs places held words links) s ≡ None → slice_index_or held s None ≡ None
   held_none s h = go (slice_index_or held s None) (sym (reserved_at_is accs places held words links s) ∙ h)
@@ -191,11 +209,7 @@ module _ (accs : List ℕ) (places : List (Option Mapped)) (held : List (Option 
   set_only minks s o lt = let hl = pool.held_long in held_only accs places places held words links minks s o (omega arith)
 
   pub held_is_some : (s : ℕ) → is_some (reserved_at (cores_in accs places held words links) s) ≡ true → is_some (slice_index_or held s None) ≡ true
-  held_is_some s h = go (slice_index_or held s None) (sym (ap is_some (reserved_at_is accs places held words links s)) ∙ h)
-    where
-      go : (o : Option Held) → is_some (reserved_in words o) ≡ true → is_some o ≡ true
-      go None e = e
-      go (Some x) e = refl
+  held_is_some s h = held_has accs places held words links s ∙ h
 
   -- a quarter of a reserved page is cleared: pages, and other reserved pages, are as before
   page_alike : (s i p : ℕ) (h : Held) → slice_index_or held s None ≡ Some h → i + 256 ≤ 1024 → page_in (zeroed (1024 * h.frame + i) 256 words) (slice_index_or places p None) ≡ page_in words (slice_index_or places p None)

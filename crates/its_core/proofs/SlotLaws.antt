@@ -1,5 +1,5 @@
 -- A slot's core past its last page and address, and how many pages it has.
-use Rattle.std.specs.Prelude.{◌≡◌, ◌<◌, ◌≤◌, ◌^◌, ℕ, zero, suc, ◌+◌, ◌*◌, ◌/◌, ◌%◌, Bool, false, Option, Some, None, List, [], ◌∷◌, length, map, take, drop, slice_get, slice_index_or, is_some, count_by, cond, refl}
+use Rattle.std.specs.Prelude.{◌≡◌, ◌<◌, ◌≤◌, ◌^◌, ℕ, zero, suc, ◌+◌, ◌*◌, ◌/◌, ◌%◌, false, Option, Some, None, List, [], ◌∷◌, length, map, take, drop, slice_index_or, is_some, count_by, cond, refl}
 use Rattle.std.proofs.Common.{sym, ◌∙◌, ap, arith}
 use Rattle.std.proofs.lemmas.Bool.{le-ltb}
 use Rattle.std.proofs.lemmas.List.{ext_get_or, get_or-take, get_or-drop, length-take, length-drop, length-map}

@@ -344,6 +344,15 @@ impl Core {
         self.held[usize::from(slot)] = Some(Held { frame, clear: 0 });
     }
 
+    /// Whether a slot has reserved a page.
+    #[tactic(auto, using(crate::proofs::HeldLaws::held_clear))]
+    pub fn has_reserved(&self, slot: u8) -> bool
+        requires { slot < slots }
+        ensures { result ≡ is_some (clear_at self.now slot) }
+    {
+        self.held[usize::from(slot)].is_some()
+    }
+
     /// Clears words 256q to 256q+255 of the page that a slot has reserved, with q below 4.
     pub fn clear_quarter(&mut self, slot: u8, q: u8)
         requires slot { slot < slots }

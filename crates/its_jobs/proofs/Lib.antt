@@ -1,4 +1,3 @@
 pub mod ClearLaws
-pub mod ClimbLaws
 pub mod TreeLaws
 pub mod TableLaws

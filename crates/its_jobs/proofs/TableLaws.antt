@@ -8,7 +8,7 @@ use Rattle.its_word.specs.Tree.{is_below, slots_below}
 use Rattle.its_word.specs.declared.jobs.Job.{Job}
 use Rattle.its_word.proofs.TreeLaws.{below_superior, below_none, none_below}
 use Rattle.its_jobs.specs.Table.{IsTree, superior_in}
-use Rattle.its_jobs.proofs.TreeLaws.{circle_cut}
+use Rattle.its_word.proofs.ClimbLaws.{circle_cut}
 
 -- one place of the two lists is emptied
 emptied : {X : Type 0} (xs : List (Option X)) (s : ℕ) → s < length xs → slice_index_or (slice_set xs s None) s None ≡ None

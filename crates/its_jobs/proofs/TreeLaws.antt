@@ -8,7 +8,7 @@ use Rattle.its_word.specs.Tree.{climbs_to, is_below}
 use Rattle.its_word.specs.declared.jobs.Job.{Job}
 use Rattle.its_word.proofs.TreeLaws.{climb_end, below_none}
 use Rattle.its_jobs.specs.Table.{IsTree, Without, superior_in, in_tree}
-use Rattle.its_jobs.proofs.ClimbLaws.{cut, never, unpassed, below_through}
+use Rattle.its_word.proofs.ClimbLaws.{circle_cut, never, unpassed, below_through}
 
 -- no slot has a job
 pub no_tree : (jobs : List (Option Job)) (superiors : List (Option ℕ)) → length jobs ≡ slots → length superiors ≡ slots
@@ -21,15 +21,6 @@ no_tree jobs superiors m n none = record {
   owned = λ k h. none k;
   circle = λ k. ap (climbs_to (superior_in superiors) k slots) (none k) ∙ climb_end (superior_in superiors) k slots;
 }
-
--- what is cut off leaves no circle
-pub circle_cut : (old new : ℕ → Option ℕ) (gone : ℕ → Bool) → ((k : ℕ) → new k ≡ (if gone k then None else old k))
-    → ((k : ℕ) → climbs_to old k slots (old k) ≡ false) → (k : ℕ) → climbs_to new k slots (new k) ≡ false
-circle_cut old new gone h circle k = rw (h k) (go (gone k))
-  where
-    go : (b : Bool) → climbs_to new k slots (if b then None else old k) ≡ false
-    go true = climb_end new k slots
-    go false = cut old new gone k slots (old k) h (circle k)
 
 -- a job is made in a slot that was empty
 module _ (jobs : List (Option Job)) (superiors : List (Option ℕ)) (s : ℕ) (j : Job) (superior : Option ℕ) (t : IsTree jobs superiors) (in_range : s < slots)

@@ -44,6 +44,14 @@ impl Jobs {
         Ok(Jobs { jobs, superiors })
     }
 
+    /// The least free slot; None where all 64 have a job.
+    pub fn free(&self) -> Option<u8>
+        ensures slot { result ≡ least_free (job_at self.now) }
+        ensures below { IfSome result (λ s. s < slots) }
+    {
+        free_slot(&self.jobs)
+    }
+
     /// Makes a job in the least free slot: stopped, with closed channels, its other registers 0.
     pub fn create(
         &mut self,

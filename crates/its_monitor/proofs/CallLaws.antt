@@ -1,5 +1,5 @@
 -- A tick of a job inside a call: what its parts do in code is their rows.
-use Rattle.std.specs.Prelude.{◌≡◌, ◌<◌, ◌≤◌, ◌^◌, ℕ, true, Option, Some, None, IfSome, is_some, option_map, slice_index_or, List, length, Result, Ok, Err, refl}
+use Rattle.std.specs.Prelude.{◌≡◌, ◌<◌, ◌≤◌, ◌^◌, ℕ, true, Option, Some, None, IfSome, is_some, option_map, slice_index_or, List, length, Result, Ok, Err, refl, Bool, false, ◌+◌, if◌then◌else◌}
 use Rattle.std.proofs.Common.{sym, ap, ◌∙◌, subst}
 use Rattle.its_word.specs.ArrayVec.{ArrayVec}
 use Rattle.its_word.specs.Core.{Core}
@@ -14,8 +14,9 @@ use Rattle.its_jobs.specs.Table.{job_at, superior_at}
 use Rattle.its_frame.specs.declared.frame.Frame.{Frame}
 use Rattle.its_frame.specs.declared.frame.Asked as askeds
 use Rattle.its_frame.specs.declared.frame.Entered as entereds
+use Rattle.its_frame.specs.declared.frame.Holding as holdings
 use Rattle.its_frame.specs.declared.frame.Parsed as parseds
-use Rattle.its_frame.specs.declared.frame.Frame.TheVariants.{Entered, Parsed, Asked}
+use Rattle.its_frame.specs.declared.frame.Frame.TheVariants.{Entered, Parsed, Asked, Holding, Waiting, Moving, Ending}
 use Rattle.its_plain.specs.Ask.{items_of, parse, fetch}
 use Rattle.its_plain.specs.CallStep.{faulted}
 use Rattle.its_plain.specs.Decode.{parse_of, fetch_of}
@@ -23,16 +24,18 @@ use Rattle.its_plain.specs.Footprint.{SiteFits}
 use Rattle.its_plain.specs.Job.{bit_of, with_pending}
 use Rattle.its_plain.specs.Machine.{Whole}
 use Rattle.its_stepped.specs.Sound.{Standing, SoundBy}
-use Rattle.its_stepped.specs.State.{State, plain, seen, turn, same, parsed, asked, holding}
-use Rattle.its_stepped.specs.Tick.{stepped, works, parsed_on, fetched_on, reserves, tick_in}
-use Rattle.its_world.specs.World.{state_of, raw_of, raw_at, frame_at, Becomes, JobBecomes, FrameBecomes}
+use Rattle.its_stepped.specs.State.{State, plain, seen, turn, same, parsed, asked, holding, reserving}
+use Rattle.its_stepped.specs.Tick.{stepped, works, parsed_on, fetched_on, reserves, tick_in, prepared_on, held_on, tried_by}
+use Rattle.its_world.specs.World.{state_of, raw_of, raw_at, frame_at, Becomes, JobBecomes, FrameBecomes, PageBecomes}
 use Rattle.its_world.specs.declared.world.World.{World}
 use Rattle.its_world.proofs.SiteLaws.{site_fits, block_words}
-use Rattle.its_world.proofs.StateLaws.{raw_job, raw_some, job_of, kept_turn, retaken, turned_state}
+use Rattle.its_world.proofs.StateLaws.{raw_job, raw_some, job_of, kept_turn, retaken, turned_state, kept_state}
 use Rattle.its_world.specs.Tidy.{Tidy}
 use Rattle.its_pclsr.proofs.UnwindingLaws.{stands_at}
 use Rattle.its_operator.specs.Kept.{Kept}
-use Rattle.its_monitor.specs.Ticks.{ticked}
+use Rattle.its_monitor.specs.Ticks.{ticked, page_held}
+use Rattle.its_pclsr.proofs.RowLaws.{paged_becomes}
+use Rattle.std.proofs.lemmas.Bool.{lt-ltb}
 
 -- a fact of the job of a slot, where there is one
 with_some : {X : Type 0} (o : Option X) (P Q : X → Type 0) → ((x : X) → P x → Q x) → IfSome o P → IfSome o Q
@@ -94,6 +97,10 @@ fetched_taken : (w : State) (s : ℕ) (t : Site) (r : Result Ask Fault) → fetc
 fetched_taken w s t (Ok a) = ap works (retaken w s None (Some (asked t a)) same)
 fetched_taken w s t (Err f) = ap stepped (retaken w s None None (faulted f))
 
+prepared_taken : (w : State) (s : ℕ) (t : Site) (a : Ask) (b : Bool) → prepared_on (turn w s same None) s t a b ≡ prepared_on w s t a b
+prepared_taken w s t a true = ap (λ v. reserving v s (Some 0)) (retaken w s None (Some (holding t a (Some 0) 0)) same)
+prepared_taken w s t a false = retaken w s None (Some (holding t a None 0)) same
+
 module _ (old mid new : World) (s : ℕ) (p : Pace) (o : Option Frame) (e : o ≡ frame_at old.frames.items s) (b : FrameBecomes old mid s None) (k : Kept old) where
   mid_is : (f : Frame) → o ≡ Some f → state_of mid ≡ turn (state_of old) s same None
   mid_is f i = kept_turn old mid s None (stands_at old s f k.sound (sym e ∙ i)).0 b
@@ -120,15 +127,84 @@ module _ (old mid new : World) (s : ℕ) (p : Pace) (o : Option Frame) (e : o �
       ∙ x)
       (subst (λ r. IfSome r (λ q. fetched_on (state_of mid) s f.site (fetch q.core f.site f.block.items) ≡ ticked (state_of new) p)) (raw_taken old mid s None b) h)
 
-  -- no call that is built reserves a page
-  pub asked_row : (f : askeds.Asked) → o ≡ Some (Asked f) → state_of new ≡ turn (state_of mid) s same (Some (holding f.site f.ask None 0)) → p ≡ Work
+  pub asked_row : (f : askeds.Asked) → o ≡ Some (Asked f) → state_of new ≡ prepared_on (state_of mid) s f.site f.ask (reserves f.ask) → p ≡ Work
       → IfSome (raw_at old.files old.core old.jobs s) (λ q. tick_in (state_of old) s q (frame_at old.frames.items s) ≡ ticked (state_of new) p)
-  unfolding reserves
   asked_row f i h n =
       all_some (raw_at old.files old.core old.jobs s) _
       (λ q. ap (tick_in (state_of old) s q) (sym e ∙ i)
-      ∙ ap works (sym (h ∙ ap (λ v. turn v s same (Some (holding f.site f.ask None 0))) (mid_is (Asked f) i) ∙ retaken (state_of old) s None (Some (holding f.site f.ask None 0)) same))
+      ∙ ap works (sym (h ∙ ap (λ v. prepared_on v s f.site f.ask (reserves f.ask)) (mid_is (Asked f) i) ∙ prepared_taken (state_of old) s f.site f.ask (reserves f.ask)))
       ∙ ap (ticked (state_of new)) (sym n))
+
+-- a job whose arguments are found has reserved no page yet
+asked_bare : (o : Option Whole) (g : Option Frame) (r : Option ℕ) (f : askeds.Asked) → SoundBy o g r → g ≡ Some (Asked f) → r ≡ None
+asked_bare None g r f h e = absurd (let none = h.0 in cc)
+asked_bare (Some q) (Some (Asked i)) r f h e = h.pays
+asked_bare (Some q) None r f h e = cc
+asked_bare (Some q) (Some (Entered i)) r f h e = cc
+asked_bare (Some q) (Some (Parsed i)) r f h e = cc
+asked_bare (Some q) (Some (Holding i)) r f h e = cc
+asked_bare (Some q) (Some (Waiting i)) r f h e = cc
+asked_bare (Some q) (Some (Moving i)) r f h e = cc
+asked_bare (Some q) (Some (Ending i)) r f h e = cc
+
+pub asked_unreserved : (old mid : World) (s : ℕ) (o : Option Frame) (f : askeds.Asked) → o ≡ frame_at old.frames.items s → o ≡ Some (Asked f) → FrameBecomes old mid s None → Kept old
+    → clear_at mid.core s ≡ None
+unfolding state_of
+asked_unreserved old mid s o f e i b k =
+    b.reserved.here ∙ asked_bare ((state_of old).raw.jobs s) ((state_of old).frames s) ((state_of old).reserved s) f (k.sound.each s).by (sym e ∙ i)
+
+-- a page is reserved, and then the frame is put back; or the frame alone
+pub page_prepared : (old mid new : World) (s : ℕ) (t : Site) (a : Ask) → is_some (job_at old.jobs s) ≡ true → reserves a ≡ true → PageBecomes old mid s (Some 0)
+    → FrameBecomes mid new s (Some (holding t a (Some 0) 0)) → state_of new ≡ prepared_on (state_of old) s t a (reserves a)
+page_prepared old mid new s t a j e page frame =
+    kept_state old new s (Some (holding t a (Some 0) 0)) (Some 0) j (paged_becomes old mid new s (Some 0) _ page frame) ∙ ap (prepared_on (state_of old) s t a) (sym e)
+
+pub none_prepared : (old new : World) (s : ℕ) (t : Site) (a : Ask) → is_some (job_at old.jobs s) ≡ true → reserves a ≡ false → FrameBecomes old new s (Some (holding t a None 0))
+    → state_of new ≡ prepared_on (state_of old) s t a (reserves a)
+none_prepared old new s t a j e frame = kept_turn old new s (Some (holding t a None 0)) j frame ∙ ap (prepared_on (state_of old) s t a) (sym e)
+
+-- a call that is held has reserved the page that its frame has
+held_page : (o : Option Whole) (g : Option Frame) (r : Option ℕ) (f : holdings.Holding) → SoundBy o g r → g ≡ Some (Holding f) → r ≡ f.page
+held_page None g r f h e = absurd (let none = h.0 in cc)
+held_page (Some q) (Some (Holding i)) r f h e = h.pays.page_is ∙ (let same : i ≡ f = cc in ap (λ (x : holdings.Holding). x.page) same)
+held_page (Some q) None r f h e = cc
+held_page (Some q) (Some (Entered i)) r f h e = cc
+held_page (Some q) (Some (Parsed i)) r f h e = cc
+held_page (Some q) (Some (Asked i)) r f h e = cc
+held_page (Some q) (Some (Waiting i)) r f h e = cc
+held_page (Some q) (Some (Moving i)) r f h e = cc
+held_page (Some q) (Some (Ending i)) r f h e = cc
+
+held_quarter : (w : State) (j : ℕ) (own : Whole) (s : Site) (a : Ask) (page : Option ℕ) (n c : ℕ) → page ≡ Some c → c < 4
+    → held_on w j own s a page n ≡ works (reserving (turn w j same (Some (holding s a (Some (c + 1)) n))) j (Some (c + 1)))
+held_quarter w j own s a page n c e l =
+    ap (λ (x : Option ℕ). held_on w j own s a x n) e
+    ∙ ap (λ (b : Bool). if b then works (reserving (turn w j same (Some (holding s a (Some (c + 1)) n))) j (Some (c + 1))) else tried_by w j own s a n) (lt-ltb c 4 l)
+
+module _ (old mid : World) (s c : ℕ) (o : Option Frame) (f : holdings.Holding) (e : o ≡ frame_at old.frames.items s) (i : o ≡ Some (Holding f)) (b : FrameBecomes old mid s None) (k : Kept old)
+    (p : page_held (frame_at old.frames.items s) ≡ Some c) where
+  page_is : f.page ≡ Some c
+  page_is = ap page_held (sym i ∙ e) ∙ p
+
+  pub clear_taken : clear_at mid.core s ≡ Some c
+  unfolding state_of
+  clear_taken = b.reserved.here ∙ held_page ((state_of old).raw.jobs s) ((state_of old).frames s) ((state_of old).reserved s) f (k.sound.each s).by (sym e ∙ i) ∙ page_is
+
+  -- the next quarter of its page is cleared, and it is held on
+  pub clear_row : (page new : World) → c < 4 → PageBecomes mid page s (Some (c + 1)) → FrameBecomes page new s (Some (holding f.site f.ask (Some (c + 1)) f.owes))
+      → IfSome (raw_at old.files old.core old.jobs s) (λ q. tick_in (state_of old) s q (frame_at old.frames.items s) ≡ ticked (state_of new) Work)
+  unfolding seen
+  clear_row page new l paged framed =
+      let g : Option Frame = Some (holding f.site f.ask (Some (c + 1)) f.owes) in
+      let has : is_some (job_at old.jobs s) ≡ true = (stands_at old s (Holding f) k.sound (sym e ∙ i)).0 in
+      let is : state_of new ≡ reserving (turn (state_of old) s same g) s (Some (c + 1)) =
+      kept_state mid new s g (Some (c + 1)) (ap is_some b.job.here ∙ has) (paged_becomes mid page new s (Some (c + 1)) g paged framed)
+      ∙ ap (λ v. reserving (turn v s same g) s (Some (c + 1))) (kept_turn old mid s None has b)
+      ∙ ap (λ v. reserving v s (Some (c + 1))) (retaken (state_of old) s None g same) in
+      all_some (raw_at old.files old.core old.jobs s) _
+      (λ q. ap (tick_in (state_of old) s q) (sym e ∙ i)
+      ∙ held_quarter (state_of old) s (seen (Some (Holding f)) q) f.site f.ask f.page f.owes c page_is l
+      ∙ ap works (sym is))
 
 -- the decoding, once the frame is taken
 from_some : {X : Type 0} (o : Option X) (x : X) (P : X → Type 0) → o ≡ Some x → P x → IfSome o P

@@ -2,7 +2,9 @@ pub mod TickLaws
 pub mod ReachLaws
 pub mod HelpLaws
 pub mod TrialLaws
+pub mod PageLaws
 pub mod CallLaws
 pub mod UserLaws
+pub mod SparedLaws
 pub mod BesideLaws
 pub mod OneByteLaws

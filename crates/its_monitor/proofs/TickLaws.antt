@@ -14,9 +14,9 @@ use Rattle.its_plain.specs.Interrupt.{deliverable, delivered}
 use Rattle.its_plain.specs.Machine.{Whole, Machine}
 use Rattle.its_plain.specs.Unit.{unit}
 use Rattle.its_stepped.specs.Address.{Addressed}
-use Rattle.its_stepped.specs.Calling.{Distinct}
 use Rattle.its_stepped.specs.Consoled.{Consoled}
 use Rattle.its_stepped.specs.Duty.{Given}
+use Rattle.its_stepped.specs.Forest.{Forest}
 use Rattle.its_stepped.specs.Licence.{Licensed}
 use Rattle.its_stepped.specs.Sound.{Sound}
 use Rattle.its_stepped.specs.State.{State, plain}
@@ -24,7 +24,7 @@ use Rattle.its_stepped.specs.Tick.{Ticked, delivered_on, unit_on, user_on, tick_
 use Rattle.its_stepped.proofs.AddressLaws.{step_addressed}
 use Rattle.its_stepped.proofs.ConsoledLaws.{step_consoled}
 use Rattle.its_stepped.proofs.DecodingLaws.{decoding}
-use Rattle.its_stepped.proofs.FitLaws.{step_distinct}
+use Rattle.its_stepped.proofs.FitLaws.{forest_steps}
 use Rattle.its_stepped.proofs.GivenLaws.{given}
 use Rattle.its_stepped.proofs.SoundLaws.{tick_sound}
 use Rattle.its_stepped.proofs.TickLaws.{tick_is}
@@ -109,7 +109,7 @@ turn_unit old new s j p is runs fr d row = user_by old s j false (ticked (state_
 
 -- a tick is licensed by its letter
 given_of : (w : World) (s : ℕ) → Kept w → Given (state_of w) s
-given_of w s kept = given decoding (state_of w) s kept.distinct kept.sound
+given_of w s kept = given decoding (state_of w) s kept.forest kept.sound
 
 pub tick_licensed : (old new : World) (s : ℕ) (p : Pace) → Kept old → tick (state_of old) s ≡ ticked (state_of new) p
     → Licensed (plain (state_of old)) s p (plain (state_of new))
@@ -118,13 +118,13 @@ tick_licensed old new s p kept e =
 
 -- what the plain machine keeps through its step
 pub record Lasts (m : Machine) : Type 0 where
-  pub distinct : Distinct m
+  pub forest : Forest m
   pub addressed : Addressed m
   pub consoled : Consoled m
 
 lasts : (m n : Machine) (s : ℕ) (p : Pace) → Lasts m → Licensed m s p n → Lasts n
 lasts m n s Step h l = record {
-  distinct = step_distinct m n s h.distinct l;
+  forest = forest_steps m n s h.forest l;
   addressed = step_addressed m n s h.addressed l;
   consoled = step_consoled m n s h.consoled l;
 }
@@ -134,11 +134,11 @@ lasts m n s Off h (r, e) = subst Lasts (sym e) h
 
 pub tick_kept : (old new : World) (s : ℕ) (p : Pace) → Kept old → tick (state_of old) s ≡ ticked (state_of new) p → Tidy new → Kept new
 tick_kept old new s p kept e tidy =
-    let h : Lasts (plain (state_of old)) = record { distinct = kept.distinct; addressed = record { each = kept.addressed }; consoled = record { each = kept.consoled } } in
+    let h : Lasts (plain (state_of old)) = record { forest = kept.forest; addressed = record { each = kept.addressed }; consoled = record { each = kept.consoled } } in
     let l = lasts (plain (state_of old)) (plain (state_of new)) s p h (tick_licensed old new s p kept e) in
     record {
       sound = subst (λ (t : Ticked). Sound t.state) e (tick_sound (state_of old) s kept.sound (given_of old s kept));
-      distinct = l.distinct;
+      forest = l.forest;
       tidy = tidy;
       addressed = l.addressed.each;
       consoled = l.consoled.each;

@@ -12,12 +12,14 @@ use Rattle.its_plain.specs.CallStep.{decision}
 use Rattle.its_plain.specs.Decide.{reach}
 use Rattle.its_plain.specs.Machine.{Whole}
 use Rattle.its_stepped.specs.Commit.{committed}
+use Rattle.its_stepped.specs.Forest.{Forest}
 use Rattle.its_stepped.specs.SlotSame.{SlotSame}
 use Rattle.its_stepped.specs.Sound.{SoundBy, Sound}
 use Rattle.its_stepped.specs.State.{State}
 use Rattle.its_stepped.specs.Tick.{helps, helped_if, tick_in}
 use Rattle.its_stepped.specs.Unwind.{all_unwound}
 use Rattle.its_stepped.proofs.ConsoledLaws.{raw_consoled}
+use Rattle.its_stepped.proofs.ForestLaws.{forest_raw}
 use Rattle.its_stepped.proofs.HelpLaws.{helped_if_others}
 use Rattle.its_world.specs.World.{state_of, raw_at, frame_at}
 use Rattle.its_world.specs.declared.world.World.{World}
@@ -25,6 +27,7 @@ use Rattle.its_world.proofs.MarkLaws.{mark_none}
 use Rattle.its_operator.specs.Kept.{Kept}
 use Rattle.its_monitor.specs.Ticks.{ticked}
 use Rattle.its_monitor.proofs.HelpLaws.{marks_are}
+use Rattle.its_stepped.specs.Duty.{IsTried}
 
 -- what is in a slot
 frame_is : (w : World) (s : ℕ) → (state_of w).frames s ≡ frame_at w.frames.items s
@@ -64,6 +67,17 @@ caller w s sound e =
 pub stands_job : (w : World) (s : ℕ) → Sound (state_of w) → is_some (standing_of (frame_at w.frames.items s)) ≡ true → is_some (job_at w.jobs s) ≡ true
 stands_job w s sound e = let c = caller w s sound e in job_there w s c.job c.calls.raw
 
+-- the jobs of the raw machine are a forest too
+pub kept_forest : (w : World) → Kept w → Forest (state_of w).raw
+kept_forest w kept = forest_raw (state_of w) kept.forest
+
+-- the call can be tried: it has reserved no page, or all quarters of it are clear
+abbrev pub Clear : World → ℕ → Type 0
+Clear w s = IfSome (standing_of (frame_at w.frames.items s)) (λ f. IsTried f.page)
+
+clear_call : (w : World) (s : ℕ) (h : Holding) (q : Whole) → Calls w s h q → Clear w s → IsTried h.page
+clear_call w s h q c t = subst (λ (o : Option Holding). IfSome o (λ f. IsTried f.page)) (sym (ap standing_of (frame_is w s)) ∙ c.stands) t
+
 -- a fact on the two
 abbrev pub OnCall : World → ℕ → (Holding → Whole → Type 0) → Type 0
 OnCall w s P = IfSome (standing_of (frame_at w.frames.items s)) (λ f. IfSome (raw_at w.files w.core w.jobs s) (λ q. P f q))
@@ -91,11 +105,11 @@ abbrev pub Readies : World → World → ℕ → Type 0
 Readies old new s = OnCall old s (λ f q. state_of new ≡ prepared (state_of old) s q f.ask)
 
 -- the call is the same once the jobs are unwound
-reached_calls : (old mid : World) (s : ℕ) (h : Holding) (q : Whole) → Kept old → Calls old s h q → Reaches old mid s → Calls mid s h q
-reached_calls old mid s h q kept c row =
+reached_calls : (old mid : World) (s : ℕ) (h : Holding) (q : Whole) → Kept old → Calls old s h q → Clear old s → Reaches old mid s → Calls mid s h q
+reached_calls old mid s h q kept c clear row =
     let w : State = state_of old in
     let u : State = all_unwound (reach w.raw s q h.ask) w in
-    let all = cleared w (prepared w s q h.ask) s q h kept.sound kept.distinct c.raw c.stands refl in
+    let all = cleared w (prepared w s q h.ask) s q h kept.sound kept.forest c.raw c.stands (clear_call old s h q c clear) refl in
     let later : SlotSame u (prepared w s q h.ask) s = helped_if_others (helps q h.ask) u s in
     let is : state_of mid ≡ u = of_call old s (λ f q. state_of mid ≡ all_unwound (reach w.raw s q f.ask) w) h q c row in
     record {
@@ -103,9 +117,9 @@ reached_calls old mid s h q kept c row =
       raw = ap (λ (v : State). v.raw.jobs s) is ∙ sym later.job ∙ all.job;
     }
 
-module _ (old mid : World) (s : ℕ) (kept : Kept old) (e : is_some (standing_of (frame_at old.frames.items s)) ≡ true) (row : Reaches old mid s) where
+module _ (old mid : World) (s : ℕ) (kept : Kept old) (e : is_some (standing_of (frame_at old.frames.items s)) ≡ true) (clear : Clear old s) (row : Reaches old mid s) where
   reached : (c : Caller old s) → Calls mid s c.call c.job
-  reached c = reached_calls old mid s c.call c.job kept c.calls row
+  reached c = reached_calls old mid s c.call c.job kept c.calls clear row
 
   pub reach_stands : is_some (standing_of (frame_at mid.frames.items s)) ≡ true
   reach_stands =
@@ -123,12 +137,12 @@ module _ (old mid : World) (s : ℕ) (kept : Kept old) (e : is_some (standing_of
 abbrev pub Decides : World → ℕ → Decision → Type 0
 Decides mid s d = OnCall mid s (λ f q. d ≡ decision (state_of mid).raw s q f.ask)
 
-module _ (old mid : World) (s : ℕ) (kept : Kept old) (e : is_some (standing_of (frame_at old.frames.items s)) ≡ true) (row : Readies old mid s) where
+module _ (old mid : World) (s : ℕ) (kept : Kept old) (e : is_some (standing_of (frame_at old.frames.items s)) ≡ true) (clear : Clear old s) (row : Readies old mid s) where
   ready_is : (c : Caller old s) → state_of mid ≡ prepared (state_of old) s c.job c.call.ask
   ready_is c = of_call old s (λ f q. state_of mid ≡ prepared (state_of old) s q f.ask) c.call c.job c.calls row
 
   found : (c : Caller old s) → Cleared (state_of old) (state_of mid) s c.job c.call
-  found c = cleared (state_of old) (state_of mid) s c.job c.call kept.sound kept.distinct c.calls.raw c.calls.stands (ready_is c)
+  found c = cleared (state_of old) (state_of mid) s c.job c.call kept.sound kept.forest c.calls.raw c.calls.stands (clear_call old s c.call c.job c.calls clear) (ready_is c)
 
   still : (c : Caller old s) → Calls mid s c.call c.job
   still c = record { stands = (found c).stands; raw = (found c).job }
@@ -146,9 +160,12 @@ module _ (old mid : World) (s : ℕ) (kept : Kept old) (e : is_some (standing_of
       let c = caller old s kept.sound e in
       on_call mid s (λ f q. helps q f.ask ≡ true → mid.files.mark ≡ None) c.call c.job (still c) (λ h. mark_none mid.files (sym (marks_are mid) ∙ (found c).unmarked h))
 
+  pub mid_forest : Forest (state_of mid).raw
+  mid_forest = let c = caller old s kept.sound e in forest_raw (state_of mid) (subst Forest (sym (found c).shows) kept.forest)
+
   found_tries : (c : Caller old s) (d : Decision) → Decides mid s d → Tries (state_of old) (state_of mid) s c.job c.call d
   found_tries c d h =
-      tries (state_of old) (state_of mid) s c.job c.call d kept.sound kept.distinct c.calls.raw (raw_consoled (state_of old) s c.job (record { each = kept.consoled }) c.calls.raw) c.calls.stands (ready_is c)
+      tries (state_of old) (state_of mid) s c.job c.call d kept.sound kept.forest c.calls.raw (raw_consoled (state_of old) s c.job (record { each = kept.consoled }) c.calls.raw) c.calls.stands (clear_call old s c.call c.job c.calls clear) (ready_is c)
       (of_call mid s (λ f q. d ≡ decision (state_of mid).raw s q f.ask) c.call c.job (still c) h)
 
   pub mid_ready : (d : Decision) → Decides mid s d → IfSome (standing_of (frame_at mid.frames.items s)) (λ f. Ready (state_of mid) s f d)

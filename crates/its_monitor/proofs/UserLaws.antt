@@ -66,7 +66,7 @@ user_addressed w s kept none = go (job_at w.jobs s) refl
 superior_apart : (w : World) (s : ℕ) (j : Job) → Kept w → frame_at w.frames.items s ≡ None → job_at w.jobs s ≡ Some j → superior_at w.jobs s ≢ Some s
 superior_apart w s j kept none is =
     let q : Whole = raw_job w.files (core_at w.core s) j (superior_at w.jobs s) in
-    subst (λ (o : Option Frame). GivenBy (state_of w) s q o) (frames_of w s ∙ none) ((given decoding (state_of w) s kept.distinct kept.sound).by q (raw_is w s j is))
+    subst (λ (o : Option Frame). GivenBy (state_of w) s q o) (frames_of w s ∙ none) ((given decoding (state_of w) s kept.forest kept.sound).by q (raw_is w s j is))
 
 -- what holds of the raw job of a slot
 raw_fact : (P : Whole → Type 0) (w : World) (s : ℕ) (j : Job) → job_at w.jobs s ≡ Some j → P (raw_job w.files (core_at w.core s) j (superior_at w.jobs s)) → IfSome (raw_at w.files w.core w.jobs s) P

@@ -1,6 +1,7 @@
 -- What the parts of a tick do to a world.
-use Rattle.std.specs.Prelude.{◌≡◌, ◌==◌, ◌&&◌, ℕ, Bool, true, false, Option, Some, None, IfSome, List, [], ◌∷◌, ◌++◌}
+use Rattle.std.specs.Prelude.{◌≡◌, ◌==◌, ◌<◌, ◌&&◌, ℕ, Bool, true, false, Option, Some, None, IfSome, List, [], ◌∷◌, ◌++◌}
 use Rattle.its_word.specs.Core.{Core}
+use Rattle.its_word.specs.Limits.{slots}
 use Rattle.its_word.specs.Tree.{slots_below}
 use Rattle.its_word.specs.declared.jobs.Channel.{Channel}
 use Rattle.its_word.specs.declared.jobs.Job.{Job}
@@ -12,9 +13,9 @@ use Rattle.its_frame.specs.declared.frame.Frame.{Frame}
 use Rattle.its_frame.specs.declared.frame.Frame.TheVariants as frames
 pub use Rattle.its_pclsr.specs.Carried.{pace_of}
 use Rattle.its_frame.specs.declared.name.CallName.{CallName}
-use Rattle.its_frame.specs.declared.name.CallName.TheVariants.{Logout}
+use Rattle.its_frame.specs.declared.name.CallName.TheVariants.{Logout, Uclose}
 use Rattle.its_plain.specs.Change.{superiors}
-use Rattle.its_plain.specs.Decide.{call_named, listed}
+use Rattle.its_plain.specs.Decide.{call_named, listed, with_below}
 use Rattle.its_plain.specs.Job.{bit_of, with_pending}
 use Rattle.its_plain.specs.Machine.{Machine}
 use Rattle.its_plain.specs.Unit.{Outcome, Changed, Faulted, Called}
@@ -23,7 +24,7 @@ use Rattle.its_stepped.specs.Tick.{Ticked}
 use Rattle.its_world.specs.World.{frame_at, Becomes}
 use Rattle.its_world.specs.declared.world.World.{World}
 use Rattle.its_monitor.specs.declared.reach.Reach.{Reach}
-use Rattle.its_monitor.specs.declared.reach.Reach.TheVariants.{Nobody, Job as OneJob, Tree}
+use Rattle.its_monitor.specs.declared.reach.Reach.TheVariants.{Nobody, Job as OneJob, Branch, Tree}
 
 -- a tick that comes to this state and has this letter
 abbrev pub ticked : State → Pace → Ticked
@@ -67,11 +68,27 @@ is_decoded (Some (frames.Parsed f)) = true
 is_decoded (Some (frames.Asked f)) = true
 is_decoded _ = false
 
+-- how many quarters are clear of the page of a call that is held
+abbrev pub page_held : Option Frame → Option ℕ
+page_held (Some (frames.Holding f)) = f.page
+page_held _ = None
+
 -- the slots that a call reaches, whose caller has slot j and this superior
 abbrev pub slots_in : Reach → Machine → ℕ → Option ℕ → List ℕ
 slots_in Nobody m j superior = []
 slots_in (OneJob s) m j superior = s ∷ []
+slots_in (Branch s) m j superior = with_below m (Some s)
 slots_in Tree m j superior = slots_below (superiors m) j ++ listed superior
+
+-- the root of a branch has one of the slots that there are
+abbrev pub RootFits : Reach → Type 0
+RootFits (Branch s) = s < slots
+RootFits _ = Unit {0}
+
+-- a call that is UCLOSE
+abbrev pub closes_job : Option CallName → Bool
+closes_job (Some Uclose) = true
+closes_job _ = false
 
 -- a call that is LOGOUT, and whose decoding gave no error
 abbrev pub outs : Option CallName → Bool

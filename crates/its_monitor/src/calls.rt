@@ -1,6 +1,7 @@
 //! Ticks of a job inside a call: its decoding in two steps, its preparation, its trials, and what it owes.
-ghost use Rattle.std.specs.Prelude.{◌≡◌, ◌≤◌, ◌<◌, ◌^◌, Some, None, IfSome, is_some, true, length};
+ghost use Rattle.std.specs.Prelude.{◌≡◌, ◌≤◌, ◌<◌, ◌+◌, ◌^◌, Some, None, IfSome, is_some, true, length};
 ghost use Rattle.its_word.specs.Limits.{slots};
+ghost use Rattle.its_core.specs.Cores.{clear_at};
 ghost use Rattle.its_jobs.specs.Table.{job_at};
 ghost use Rattle.its_world.specs.Tidy.{Tidy};
 ghost use Rattle.its_pclsr.specs.Carried.{standing_of};
@@ -9,20 +10,26 @@ ghost use Rattle.its_plain.specs.CallStep.{decision, faulted};
 ghost use Rattle.its_plain.specs.Decide.{reach};
 ghost use Rattle.its_plain.specs.Footprint.{SiteFits};
 ghost use Rattle.its_plain.specs.Job.{bit_of};
+ghost use Rattle.its_stepped.specs.Forest.{Forest};
+ghost use Rattle.its_stepped.specs.Duty.{IsTried};
 ghost use Rattle.its_stepped.specs.State.{holding, same, turn};
-ghost use Rattle.its_stepped.specs.Tick.{fetched_on, helped_if, helps, parsed_on, tick_in};
+ghost use Rattle.its_stepped.specs.Tick.{fetched_on, helped_if, helps, parsed_on, prepared_on, reserves, tick_in};
 ghost use Rattle.its_stepped.specs.Unwind.{all_unwound, help, unwind_one as unwind_one_of};
-ghost use Rattle.its_world.specs.World.{frame_at, raw_at, state_of};
+ghost use Rattle.its_world.specs.World.{frame_at, raw_at, state_of, FrameBecomes, PageBecomes};
 ghost use Rattle.its_operator.specs.Kept.{Kept};
-ghost use Rattle.its_monitor.specs.Ticks.{is_decoded, pace_of, ticked};
+ghost use Rattle.its_monitor.specs.Ticks.{is_decoded, pace_of, page_held, ticked};
 
 use super::reach::unwind_reach;
-use call_file::{decide, helps};
+use call_core::{decide, reserves};
+use call_file::helps;
 use its_decode::{fetch_site, parse_site};
-use its_frame::{Asked, Decision, Entered, Frame, Holding, Parsed};
+use its_frame::{Ask, Asked, Decision, Entered, Frame, Holding, Parsed};
 use its_pclsr::{carry_out, unwind_one};
 use its_word::{Fault, ILO, MPV, Pace, WRO, Word};
 use its_world::World;
+
+/// The quarters of a page.
+const QUARTERS: u8 = 4;
 
 /// A tick of a slot's job that is inside a call.
 pub fn in_call(w: &mut World, slot: u8) -> Pace
@@ -33,7 +40,10 @@ pub fn in_call(w: &mut World, slot: u8) -> Pace
     ensures tidy { Tidy w.new }
 {
     match &w.frames[usize::from(slot)] {
-        Some(Frame::Holding(_)) => attempt(w, slot),
+        Some(Frame::Holding(f)) => match f.page {
+            Some(clear) if clear < QUARTERS => clear_next(w, slot, clear),
+            _ => attempt(w, slot),
+        },
         Some(Frame::Waiting(_)) => attempt(w, slot),
         Some(Frame::Moving(_)) => pay(w, slot),
         Some(Frame::Ending(_)) => pay(w, slot),
@@ -123,26 +133,86 @@ fn fetch(w: &mut World, slot: u8, f: Parsed) -> Pace
     }
 }
 
-/// The call is made ready to be tried. No call that is built reserves a page.
-#[tactic(auto, using(its_world::proofs::StateLaws::kept_turn))]
+/// The call is made ready to be tried: one that makes a page reserves it.
+#[tactic(auto, using(crate::proofs::CallLaws::page_prepared, crate::proofs::CallLaws::none_prepared, its_pclsr::proofs::ApartLaws::tidy_kept, its_pclsr::proofs::ApartLaws::tidy_backed))]
 fn prepare(w: &mut World, slot: u8, f: Asked) -> Pace
     requires slot { slot < slots }
     requires job { is_some (job_at w.old.jobs slot) ≡ true }
+    requires page { clear_at w.old.core slot ≡ None }
     requires tidy { Tidy w.old }
-    ensures row { state_of w.new ≡ turn (state_of w.old) slot same (Some (holding f.site f.ask None 0)) }
+    ensures row { state_of w.new ≡ prepared_on (state_of w.old) slot f.site f.ask (reserves f.ask) }
     ensures pace { result ≡ Pace.Work }
     ensures tidy { Tidy w.new }
+{
+    if reserves(&f.ask) {
+        reserve(w, slot);
+        hold(w, slot, f, Some(0));
+    } else {
+        hold(w, slot, f, None);
+    }
+    Pace::Work
+}
+
+/// Reserves a page for a slot, none of whose quarters is clear.
+#[tactic(auto, using(its_world::proofs::WorldLaws::page_becomes, crate::proofs::PageLaws::reserved_none))]
+fn reserve(w: &mut World, slot: u8)
+    requires slot { slot < slots }
+    requires none { clear_at w.old.core slot ≡ None }
+    ensures { PageBecomes w.old w.new slot (Some 0) }
+{
+    w.core.reserve(slot);
+}
+
+/// The call of a slot can be tried, or has so many quarters of its page clear.
+fn hold(w: &mut World, slot: u8, f: Asked, page: Option<u8>)
+    requires slot { slot < slots }
+    ensures { FrameBecomes w.old w.new slot (Some (holding f.site f.ask page 0)) }
 {
     w.put_frame(
         slot,
         Frame::Holding(Holding {
             site: f.site,
             ask: f.ask,
-            page: None,
+            page,
             owes: 0,
         }),
     );
+}
+
+/// Clears the next quarter of the page that the call of a slot has reserved.
+fn clear_next(w: &mut World, slot: u8, clear: u8) -> Pace
+    requires slot { slot < slots }
+    requires kept { Kept w.old }
+    requires quarter { clear < 4 }
+    requires holds { page_held (frame_at w.old.frames.items slot) ≡ Some clear }
+    ensures row { IfSome (raw_at w.old.files w.old.core w.old.jobs slot) (λ q. tick_in (state_of w.old) slot q (frame_at w.old.frames.items slot) ≡ ticked (state_of w.new) result) }
+    ensures tidy { Tidy w.new }
+{
+    match w.take_frame(slot) {
+        Some(Frame::Holding(f)) => {
+            clear_quarter(w, slot, clear);
+            w.put_frame(
+                slot,
+                Frame::Holding(Holding {
+                    page: Some(clear + 1),
+                    ..f
+                }),
+            );
+        }
+        _ => unreachable!(),
+    }
     Pace::Work
+}
+
+/// Clears the next quarter of the page that a slot has reserved.
+#[tactic(auto, using(its_world::proofs::WorldLaws::page_becomes, its_world::proofs::WorldLaws::reserved_some, crate::proofs::PageLaws::quarter_cleared))]
+fn clear_quarter(w: &mut World, slot: u8, q: u8)
+    requires slot { slot < slots }
+    requires quarter { q < 4 }
+    requires page { clear_at w.old.core slot ≡ Some q }
+    ensures { PageBecomes w.old w.new slot (Some (q + 1)) }
+{
+    w.core.clear_quarter(slot, q);
 }
 
 /// Sets the bit of a fault in a slot's job.
@@ -177,6 +247,7 @@ fn attempt(w: &mut World, slot: u8) -> Pace
     requires slot { slot < slots }
     requires kept { Kept w.old }
     requires stands { is_some (standing_of (frame_at w.old.frames.items slot)) ≡ true }
+    requires clear { IfSome (standing_of (frame_at w.old.frames.items slot)) (λ f. IsTried f.page) }
     ensures row { IfSome (raw_at w.old.files w.old.core w.old.jobs slot) (λ q. tick_in (state_of w.old) slot q (frame_at w.old.frames.items slot) ≡ ticked (state_of w.new) result) }
     ensures tidy { Tidy w.new }
 {
@@ -189,11 +260,12 @@ fn attempt(w: &mut World, slot: u8) -> Pace
 
 /// Makes the world ready for the call in the frame of a slot: the jobs that it reaches are unwound, and where it is one on
 /// files, the parts of a half made close are made that are still owed.
-#[tactic(auto, using(crate::proofs::TrialLaws::stands_job))]
+#[tactic(auto, using(crate::proofs::TrialLaws::stands_job, crate::proofs::TrialLaws::kept_forest))]
 fn make_ready(w: &mut World, slot: u8)
     requires slot { slot < slots }
     requires kept { Kept w.old }
     requires stands { is_some (standing_of (frame_at w.old.frames.items slot)) ≡ true }
+    requires clear { IfSome (standing_of (frame_at w.old.frames.items slot)) (λ f. IsTried f.page) }
     ensures row { IfSome (standing_of (frame_at w.old.frames.items slot)) (λ f. IfSome (raw_at w.old.files w.old.core w.old.jobs slot) (λ q. state_of w.new ≡ helped_if (helps q f.ask) (all_unwound (reach (state_of w.old).raw slot q f.ask) (state_of w.old)))) }
     ensures tidy { Tidy w.new }
 {
@@ -245,6 +317,7 @@ fn decide_in(w: &World, slot: u8) -> Decision
     requires job { is_some (job_at w.now.jobs slot) ≡ true }
     requires stands { is_some (standing_of (frame_at w.now.frames.items slot)) ≡ true }
     requires tidy { Tidy w.now }
+    requires forest { Forest (state_of w.now).raw }
     requires unmarked { IfSome (standing_of (frame_at w.now.frames.items slot)) (λ f. IfSome (raw_at w.now.files w.now.core w.now.jobs slot) (λ q. helps q f.ask ≡ true → w.now.files.mark ≡ None)) }
     ensures { IfSome (standing_of (frame_at w.now.frames.items slot)) (λ f. IfSome (raw_at w.now.files w.now.core w.now.jobs slot) (λ q. result ≡ decision (state_of w.now).raw slot q f.ask)) }
 {

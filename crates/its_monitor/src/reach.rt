@@ -4,11 +4,12 @@ ghost use Rattle.its_word.specs.Limits.{slots};
 ghost use Rattle.its_jobs.specs.Table.{job_at, superior_at};
 ghost use Rattle.its_world.specs.Tidy.{Tidy};
 ghost use Rattle.its_pclsr.specs.Carried.{standing_of};
-ghost use Rattle.its_plain.specs.Decide.{reach};
+ghost use Rattle.its_plain.specs.Decide.{call_named as call_named_by, reach, with_below};
+ghost use Rattle.its_stepped.specs.Forest.{Forest};
 ghost use Rattle.its_stepped.specs.Sound.{Sound};
 ghost use Rattle.its_stepped.specs.Unwind.{all_unwound, unwound};
 ghost use Rattle.its_world.specs.World.{frame_at, raw_at, state_of};
-ghost use Rattle.its_monitor.specs.Ticks.{logs_out, slots_in};
+ghost use Rattle.its_monitor.specs.Ticks.{closes_job, logs_out, RootFits, slots_in};
 
 use call_basic::{call_named, target_of};
 use its_frame::{Ask, CallName, Frame};
@@ -16,12 +17,13 @@ use its_pclsr::{unwind, unwind_below};
 use its_word::SLOTS;
 use its_world::World;
 
-/// The jobs that a call reaches: the one that its argument names, or of LOGOUT all jobs below its caller
-/// and its superior.
+/// The jobs that a call reaches: the one that its argument names, of UCLOSE with all jobs below it; or of LOGOUT all jobs
+/// below its caller and its superior.
 #[derive(Clone, Copy, Debug, PartialEq, Eq)]
 enum Reach {
     Nobody,
     Job(u8),
+    Branch(u8),
     Tree,
 }
 
@@ -30,6 +32,7 @@ enum Reach {
 pub fn unwind_reach(w: &mut World, slot: u8)
     requires slot { slot < slots }
     requires sound { Sound (state_of w.old) }
+    requires forest { Forest (state_of w.old).raw }
     requires tidy { Tidy w.old }
     requires job { is_some (job_at w.old.jobs slot) ≡ true }
     requires stands { is_some (standing_of (frame_at w.old.frames.items slot)) ≡ true }
@@ -44,6 +47,7 @@ pub fn unwind_reach(w: &mut World, slot: u8)
 #[tactic(auto, using(crate::proofs::ReachLaws::nobody_unwound, crate::proofs::ReachLaws::one_unwound))]
 fn unwind_all(w: &mut World, slot: u8, reach: Reach)
     requires slot { slot < slots }
+    requires root { RootFits reach }
     requires sound { Sound (state_of w.old) }
     requires tidy { Tidy w.old }
     ensures row { state_of w.new ≡ all_unwound (slots_in reach (state_of w.old).raw slot (superior_at w.old.jobs slot)) (state_of w.old) }
@@ -52,8 +56,22 @@ fn unwind_all(w: &mut World, slot: u8, reach: Reach)
     match reach {
         Reach::Nobody => {}
         Reach::Job(target) => calm(w, target),
+        Reach::Branch(root) => unwind_branch(w, root),
         Reach::Tree => unwind_tree(w, slot),
     }
+}
+
+/// Unwinds the jobs below a slot's job, and that one.
+#[tactic(auto, using(crate::proofs::ReachLaws::branch_unwound))]
+fn unwind_branch(w: &mut World, root: u8)
+    requires slot { root < slots }
+    requires sound { Sound (state_of w.old) }
+    requires tidy { Tidy w.old }
+    ensures row { state_of w.new ≡ all_unwound (with_below (state_of w.old).raw (Some root)) (state_of w.old) }
+    ensures tidy { Tidy w.new }
+{
+    unwind_below(w, root);
+    calm(w, root);
 }
 
 /// Unwinds the jobs below a slot's job, and its superior.
@@ -91,7 +109,9 @@ fn reach_in(w: &World, slot: u8) -> Reach
     requires slot { slot < slots }
     requires job { is_some (job_at w.now.jobs slot) ≡ true }
     requires stands { is_some (standing_of (frame_at w.now.frames.items slot)) ≡ true }
-    ensures { IfSome (standing_of (frame_at w.now.frames.items slot)) (λ f. IfSome (raw_at w.now.files w.now.core w.now.jobs slot) (λ q. slots_in result (state_of w.now).raw slot (superior_at w.now.jobs slot) ≡ reach (state_of w.now).raw slot q f.ask)) }
+    requires forest { Forest (state_of w.now).raw }
+    ensures slots { IfSome (standing_of (frame_at w.now.frames.items slot)) (λ f. IfSome (raw_at w.now.files w.now.core w.now.jobs slot) (λ q. slots_in result (state_of w.now).raw slot (superior_at w.now.jobs slot) ≡ reach (state_of w.now).raw slot q f.ask)) }
+    ensures root { RootFits result }
 {
     match &w.frames[usize::from(slot)] {
         Some(Frame::Holding(f)) => reach_of(w, slot, &f.ask),
@@ -101,19 +121,29 @@ fn reach_in(w: &World, slot: u8) -> Reach
 }
 
 /// Whom a call reaches.
-#[tactic(auto, using(crate::proofs::ReachLaws::tree_reached, crate::proofs::ReachLaws::one_reached, crate::proofs::ReachLaws::nobody_reached))]
+#[tactic(auto, using(crate::proofs::ReachLaws::tree_reached, crate::proofs::ReachLaws::branch_reached, crate::proofs::ReachLaws::one_reached, crate::proofs::ReachLaws::nobody_reached))]
 fn reach_of(w: &World, slot: u8, ask: &Ask) -> Reach
     requires slot { slot < slots }
     requires job { is_some (job_at w.now.jobs slot) ≡ true }
-    ensures { IfSome (raw_at w.now.files w.now.core w.now.jobs slot) (λ q. slots_in result (state_of w.now).raw slot (superior_at w.now.jobs slot) ≡ reach (state_of w.now).raw slot q ask.now) }
+    requires forest { Forest (state_of w.now).raw }
+    ensures slots { IfSome (raw_at w.now.files w.now.core w.now.jobs slot) (λ q. slots_in result (state_of w.now).raw slot (superior_at w.now.jobs slot) ≡ reach (state_of w.now).raw slot q ask.now) }
+    ensures root { RootFits result }
 {
     if is_logout(ask) {
         return Reach::Tree;
     }
     match target_of(w, slot, ask) {
+        Some(target) if is_uclose(ask) => Reach::Branch(target),
         Some(target) => Reach::Job(target),
         None => Reach::Nobody,
     }
+}
+
+/// Whether a call is UCLOSE.
+fn is_uclose(ask: &Ask) -> bool
+    ensures { result ≡ closes_job (call_named_by ask.now.name) }
+{
+    matches!(call_named(ask.name), Some(CallName::Uclose))
 }
 
 /// Whether a call is LOGOUT, and its decoding gave no error.

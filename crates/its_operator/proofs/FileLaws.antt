@@ -41,7 +41,7 @@ use Rattle.its_world.proofs.StoreLaws.{found_named, has_named, found_self}
 use Rattle.its_pclsr.proofs.PartLaws.{store_state, store_tidy}
 use Rattle.its_world.proofs.StorageLaws.{files_are}
 use Rattle.its_operator.specs.Kept.{Kept, Lands, Helped, FileRefused, reason_of}
-use Rattle.its_operator.proofs.KeptLaws.{alike_kept, error_is, Made, made_sound, made_plain, made_distinct}
+use Rattle.its_operator.proofs.KeptLaws.{alike_kept, error_is, Made, made_sound, made_plain, made_forest}
 use Rattle.its_operator.proofs.LoadLaws.{and_ok}
 use Rattle.its_operator.proofs.StartLaws.{quiet_by}
 
@@ -132,7 +132,7 @@ filed_lands old new fs r f is = record {
 files_kept : (e : Event) (b : Block) (old new : World) → Kept old → Made (state_of old) (state_of new) b e → plain (state_of new) ≡ with_files (plain (state_of old)) (plain (state_of new)).files → Tidy new → Kept new
 files_kept e b old new kept made is tidy = record {
   sound = made_sound (state_of old) (state_of new) b e kept.sound made;
-  distinct = made_distinct (state_of old) (state_of new) b e kept.sound kept.distinct made;
+  forest = made_forest (state_of old) (state_of new) b e kept.sound kept.forest made;
   tidy = tidy;
   addressed = λ k. subst (λ (m : Machine). IfSome (m.jobs k) (λ q. q.job.pc < 2 ^ 18)) (sym is) (kept.addressed k);
   consoled = λ k. subst (λ (m : Machine). IfSome (m.jobs k) (λ q. IfSome q.job.console (λ c. c < 8))) (sym is) (kept.consoled k);

@@ -16,7 +16,7 @@ use Rattle.its_plain.specs.Operator.{Block, Does}
 use Rattle.its_plain.specs.CallOperator.{Done, lined}
 use Rattle.its_stepped.specs.State.{State, plain, seen}
 use Rattle.its_stepped.specs.Sound.{Sound}
-use Rattle.its_stepped.specs.Calling.{Distinct}
+use Rattle.its_stepped.specs.Forest.{Forest}
 use Rattle.its_stepped.specs.Unwind.{unwound}
 use Rattle.its_stepped.specs.Tick.{helped_if}
 use Rattle.its_stepped.specs.Lines.{looks_at_files, calmed, with_raw, state_after, after_line, lifted_line}
@@ -24,7 +24,7 @@ use Rattle.its_stepped.proofs.UnwindLaws.{unwound_plain, unwound_sound}
 use Rattle.its_stepped.proofs.LineLaws.{line_plain}
 use Rattle.its_stepped.proofs.AfterLaws.{after_sound}
 use Rattle.its_stepped.proofs.RefusalLaws.{error_of}
-use Rattle.its_stepped.proofs.WrittenLaws.{line_distinct}
+use Rattle.its_stepped.proofs.WrittenLaws.{line_forest}
 use Rattle.its_world.specs.World.{state_of, raw_of}
 use Rattle.its_world.specs.Tidy.{Tidy}
 use Rattle.its_world.specs.declared.world.World.{World}
@@ -73,7 +73,7 @@ unwound_has old new s kept e = alike_has old new s (unwound_same old new s kept 
 pub alike_kept : (old new : World) → Kept old → plain (state_of new) ≡ plain (state_of old) → Sound (state_of new) → Tidy new → Kept new
 alike_kept old new kept same sound tidy = record {
   sound = sound;
-  distinct = subst Distinct (sym same) kept.distinct;
+  forest = subst Forest (sym same) kept.forest;
   tidy = tidy;
   addressed = λ k. subst (λ (m : Machine). IfSome (m.jobs k) (λ q. q.job.pc < 2 ^ 18)) (sym same) (kept.addressed k);
   consoled = λ k. subst (λ (m : Machine). IfSome (m.jobs k) (λ q. IfSome q.job.console (λ c. c < 8))) (sym same) (kept.consoled k);
@@ -101,8 +101,8 @@ pub made_plain : (w new : State) (b : Block) (e : Event) → Sound w → (h : Ma
 made_plain w new b e sound h =
     line_plain w b e sound ∙ ap (lifted_line (calmed w b e)) h.is ∙ ap (λ (x : State). Done (Does (plain x) h.out h.touched h.block)) (sym h.rest)
 
-pub made_distinct : (w new : State) (b : Block) (e : Event) → Sound w → Distinct (plain w) → Made w new b e → Distinct (plain new)
-made_distinct w new b e sound d h = line_distinct (plain w) (plain new) b h.block e h.out h.touched d (made_plain w new b e sound h)
+pub made_forest : (w new : State) (b : Block) (e : Event) → Sound w → Forest (plain w) → Made w new b e → Forest (plain new)
+made_forest w new b e sound d h = line_forest (plain w) (plain new) b h.block e h.out h.touched d (made_plain w new b e sound h)
 
 -- what a line keeps of each job: its PC is an address, and its console is one of eight
 pub record Lasts (m : Machine) : Type 0 where

@@ -5,7 +5,6 @@ use Rattle.std.proofs.lemmas.Bool.{cases_Bool}
 use Rattle.std.proofs.lemmas.Bool.Decides.{nat_tests}
 use Rattle.its_word.specs.Limits.{most_pages}
 use Rattle.its_word.specs.Core.{Core, page_of, word_at, can_store, store, putting, put, with_page, zero_page, pages_mapped}
-use Rattle.its_word.proofs.PageLaws.{pages_mapped-same}
 use Rattle.its_word.specs.declared.access.NoAccess.TheVariants.{ReadOnly}
 use Rattle.its_word.specs.declared.jobs.Job.{Job}
 use Rattle.its_word.specs.declared.session.Event.TheVariants as events
@@ -15,7 +14,7 @@ use Rattle.its_word.specs.declared.session.Refusal.TheVariants as refusals
 use Rattle.its_frame.specs.declared.frame.Frame.{Frame}
 use Rattle.its_core.specs.Cores.{core_at, clear_at}
 use Rattle.its_jobs.specs.Table.{job_at, superior_at}
-use Rattle.its_plain.specs.Machine.{Whole, Machine, core_of, mapped}
+use Rattle.its_plain.specs.Machine.{Whole, Machine, mapped}
 use Rattle.its_plain.specs.Operator.{only, with_core, stored_in, stored, word_loaded_of, word_loaded, and_then, disturbs}
 use Rattle.its_plain.specs.CallOperator.{operate, Done, lined}
 use Rattle.its_stepped.specs.State.{State, plain}
@@ -24,22 +23,14 @@ use Rattle.its_stepped.specs.Sound.{SoundBy}
 use Rattle.its_stepped.specs.Lines.{calmed}
 use Rattle.its_stepped.proofs.RefusalLaws.{error_of, word_alike, word_refused_first}
 use Rattle.its_stepped.proofs.UnwindLaws.{unwound_none}
-use Rattle.its_world.specs.World.{state_of, raw_of, raw_at, CoreBecomes}
+use Rattle.its_world.specs.World.{state_of, raw_at, CoreBecomes}
 use Rattle.its_world.specs.declared.world.World.{World}
+use Rattle.its_world.proofs.MappedLaws.{mapped_raw}
 use Rattle.its_world.proofs.StateLaws.{raw_job, job_of}
 use Rattle.its_operator.specs.Kept.{Kept, Lands, Refused, Calmed, reason_of, unloadable}
 use Rattle.its_operator.proofs.KeptLaws.{refused_by, Made, made_plain, Lasts, kept_lasts}
 use Rattle.its_operator.proofs.RegisterLaws.{raw_is, raw_is_none, disturbed, block_of}
 use Rattle.its_operator.proofs.WordLaws.{core_lands, core_lasts, core_kept}
-
--- the pages of the raw machine are those of the cores
-core_is : (w : World) (k : ℕ) (o : Option Job) → job_at w.jobs k ≡ o → Kept w → core_of (raw_of w.files (core_at w.core k) (superior_at w.jobs k) o) ≡ core_at w.core k
-core_is w k (Some j) h kept = refl
-core_is w k None h kept = sym (kept.tidy.blank k h)
-
-mapped_raw : (w : World) → Kept w → mapped (state_of w).raw ≡ pages_mapped (core_at w.core)
-unfolding state_of
-mapped_raw w kept = pages_mapped-same (core_at w.core) (λ k. core_of (raw_at w.files w.core w.jobs k)) (record { each = λ k. core_is w k (job_at w.jobs k) refl kept })
 
 abbrev there : World → ℕ → ℕ → Bool
 there w s a = is_some (word_at (core_at w.core s) a)
@@ -58,7 +49,7 @@ loaded_on : (w : World) (s a x : ℕ) (j : Job) → job_at w.jobs s ≡ Some j �
 unfolding word_loaded stored
 loaded_on w s a x j h kept =
     ap (word_loaded_of (state_of w).raw s a x) (raw_is w s j h)
-    ∙ ap (λ n. with_core (state_of w).raw s (whole_of w s j) (stored_in (core_at w.core s) a x (can w s a) (there w s a) (nat_lt n most_pages))) (mapped_raw w kept)
+    ∙ ap (λ n. with_core (state_of w).raw s (whole_of w s j) (stored_in (core_at w.core s) a x (can w s a) (there w s a) (nat_lt n most_pages))) (mapped_raw w kept.tidy)
 
 -- a refusal
 unloaded : (m : Machine) (s : ℕ) (q : Whole) (c : Core) (a x : ℕ) (b t n : Bool) (r : Refusal) → unloadable b t n ≡ Some r → with_core m s q (stored_in c a x b t n) ≡ Err (reason_of r)

@@ -23,9 +23,9 @@ use Rattle.its_plain.specs.CallOperator.{clock_end, clocked_if, clocked, operate
 use Rattle.its_plain.proofs.MachineLaws.{machine_is}
 use Rattle.its_stepped.specs.State.{State, plain, no_state}
 use Rattle.its_stepped.specs.Sound.{Sound}
-use Rattle.its_stepped.specs.Calling.{Distinct}
+use Rattle.its_stepped.specs.Forest.{Forest}
 use Rattle.its_stepped.specs.Lines.{calmed, with_raw}
-use Rattle.its_stepped.proofs.DistinctLaws.{distinct_starts}
+use Rattle.its_stepped.proofs.ForestLaws.{forest_starts}
 use Rattle.its_stepped.proofs.FrameLaws.{changed_only}
 use Rattle.its_stepped.proofs.LineLaws.{least_plain}
 use Rattle.its_stepped.proofs.StartLaws.{no_state_plain, no_state_sound}
@@ -37,7 +37,7 @@ use Rattle.its_world.proofs.KeptLaws.{across_table}
 use Rattle.its_world.proofs.TallyLaws.{tally_same, tally_none}
 use Rattle.its_pclsr.proofs.ApartLaws.{tidy_alike}
 use Rattle.its_operator.specs.Kept.{Kept, Lands, Loads, Refused, Fresh, Alters, Later}
-use Rattle.its_operator.proofs.KeptLaws.{raw_has, Made, made_sound, made_plain, made_distinct, Lasts, kept_lasts, put_lasts}
+use Rattle.its_operator.proofs.KeptLaws.{raw_has, Made, made_sound, made_plain, made_forest, Lasts, kept_lasts, put_lasts}
 use Rattle.its_operator.proofs.RegisterLaws.{block_of}
 
 -- a fresh job has no open channel
@@ -206,7 +206,7 @@ module _ (old mid new : World) (s u j : ℕ) (console : Option ℕ) where
   pub load_kept : IfSome console (λ c. c < 8) → Kept old → least_free (job_at old.jobs) ≡ Some s → Fresh old mid s u j console → Alters mid new (with_holder (state_of mid).raw s console) → Kept new
   load_kept fits kept e f h = record {
     sound = made_sound (state_of old) (state_of new) no_block (events.Load u j console) kept.sound (load_line kept e f h);
-    distinct = made_distinct (state_of old) (state_of new) no_block (events.Load u j console) kept.sound kept.distinct (load_line kept e f h);
+    forest = made_forest (state_of old) (state_of new) no_block (events.Load u j console) kept.sound kept.forest (load_line kept e f h);
     tidy = tidy_alike mid new h.core h.jobs h.files (fresh_tidy old mid s u j console f (least_empty (job_at old.jobs) s e) kept.tidy);
     addressed = (load_lasts fits kept e f h).addressed;
     consoled = (load_lasts fits kept e f h).consoled;
@@ -274,7 +274,7 @@ module _ (old new : World) (n : ℕ) (b : Bool) where
   pub clock_kept : Kept old → b ≡ nat_lt (old.clock + n) clock_end → b ≡ true → Later old new n → Kept new
   clock_kept kept h t l = record {
     sound = made_sound (state_of old) (state_of new) no_block (events.Clock n) kept.sound (clock_line h t l);
-    distinct = made_distinct (state_of old) (state_of new) no_block (events.Clock n) kept.sound kept.distinct (clock_line h t l);
+    forest = made_forest (state_of old) (state_of new) no_block (events.Clock n) kept.sound kept.forest (clock_line h t l);
     tidy = tidy_alike old new l.core l.jobs l.files kept.tidy;
     addressed = λ k. subst (λ (o : Option Whole). IfSome o (λ q. q.job.pc < 2 ^ 18)) (sym (later_jobs l k)) (kept.addressed k);
     consoled = λ k. subst (λ (o : Option Whole). IfSome o (λ q. IfSome q.job.console (λ c. c < 8))) (sym (later_jobs l k)) (kept.consoled k);
@@ -327,7 +327,7 @@ open_kept w e n f consoles holders files c =
     let machine : plain (state_of w) ≡ no_machine = ap plain is ∙ no_state_plain no_machine in
     record {
       sound = subst Sound (sym is) no_state_sound;
-      distinct = subst Distinct (sym machine) distinct_starts;
+      forest = subst Forest (sym machine) forest_starts;
       tidy = record { blank = λ k h. e.cores k; across = subst (λ s. Across s w.jobs) (sym files) (no_across w.jobs n) };
       addressed = λ k. subst (λ (m : Machine). IfSome (m.jobs k) (λ q. q.job.pc < 2 ^ 18)) (sym machine) (nobody_there k);
       consoled = λ k. subst (λ (m : Machine). IfSome (m.jobs k) (λ q. IfSome q.job.console (λ c. c < 8))) (sym machine) (none_there k);

@@ -14,18 +14,19 @@ use Rattle.its_jobs.specs.Table.{job_at, superior_at}
 use Rattle.its_plain.specs.Machine.{Machine}
 use Rattle.its_stepped.specs.State.{State, plain}
 use Rattle.its_stepped.specs.Sound.{Sound}
-use Rattle.its_stepped.specs.Calling.{Distinct}
+use Rattle.its_stepped.specs.Forest.{Forest}
 use Rattle.its_stepped.specs.Lines.{with_raw}
 use Rattle.its_stepped.specs.Unwind.{unwound, help}
 use Rattle.its_world.specs.World.{state_of}
 use Rattle.its_world.specs.Tidy.{Tidy}
 use Rattle.its_world.specs.declared.world.World.{World}
 
--- the state is sound, and its jobs lie as they can; files and drafts have the channels that they say, and the core of an
--- empty slot is that of no job; the PC of each job of the plain machine is an address, and its console is one of eight
+-- the state is sound, and the jobs of its plain machine are a forest; files and drafts have the channels that they say, and
+-- the core of an empty slot is that of no job; the PC of each job of the plain machine is an address, and its console is one
+-- of eight
 pub record Kept (w : World) : Type 0 where
   pub sound : Sound (state_of w)
-  pub distinct : Distinct (plain (state_of w))
+  pub forest : Forest (plain (state_of w))
   pub tidy : Tidy w
   pub addressed : (k : ℕ) → IfSome ((plain (state_of w)).jobs k) (λ q. q.job.pc < 2 ^ 18)
   pub consoled : (k : ℕ) → IfSome ((plain (state_of w)).jobs k) (λ q. IfSome q.job.console (λ c. c < 8))

@@ -1,31 +1,41 @@
 -- Each change in code is its effect on the state.
-use Rattle.std.specs.Prelude.{◌≡◌, ◌<◌, ◌+◌, ℕ, suc, length, Option, Some, None, List, [], ◌∷◌, ◌++◌, slice_index_or, refl}
+use Rattle.std.specs.Prelude.{◌≡◌, ◌<◌, ◌+◌, ◌%◌, ◌^◌, ℕ, suc, Bool, true, length, Option, Some, None, IsSome, is_some, List, [], ◌∷◌, ◌++◌, slice_index_or, refl}
 use Rattle.std.proofs.Common.{sym, ap, ◌∙◌, subst, arith, drop, drop-cons}
 use Rattle.its_word.specs.Console.{most_waiting}
+use Rattle.its_word.specs.Core.{Core, no_core, zero_page, page_of, with_page, marked, can_store, store, pages_mapped}
+use Rattle.its_word.specs.Limits.{most_pages}
+use Rattle.its_word.specs.Stores.{stored}
+use Rattle.its_word.specs.Tree.{least_free, fresh_job}
+use Rattle.its_word.specs.declared.jobs.Channel.TheVariants as channels
 use Rattle.its_word.specs.declared.jobs.Job.{Job}
-use Rattle.its_core.specs.Cores.{core_at}
+use Rattle.its_word.proofs.FreeLaws.{least_empty}
+use Rattle.its_core.specs.Cores.{core_at, clear_at}
 use Rattle.its_files.specs.Files.{Store}
 use Rattle.its_jobs.specs.Table.{job_at, superior_at}
 use Rattle.its_frame.specs.declared.change.Change.{Change}
+use Rattle.its_frame.specs.declared.change.Change.TheVariants as changes
 use Rattle.its_frame.specs.declared.variable.Variable.{Variable}
 use Rattle.its_frame.specs.declared.variable.Variable.TheVariants.{Uname, Jname, Uind, Suppro, Cnsl, Pages, Upc, Ustp, Pirqc, Ifpir, Mask, Msk2, Df1, Df2}
-use Rattle.its_plain.specs.Change.{with_inf, taken_from, put_to, on_console}
+use Rattle.its_plain.specs.Change.{with_inf, taken_from, put_to, on_console, poke, console_in, with_page_at, protected, effect}
 use Rattle.its_plain.specs.Job.{INF, with_pending}
-use Rattle.its_plain.specs.Own.{with_registers, with_variable}
-use Rattle.its_plain.specs.Machine.{Shut}
+use Rattle.its_plain.specs.Own.{with_registers, with_stores, with_variable}
+use Rattle.its_plain.specs.Machine.{Shut, Whole, whole, with_job, core_of, mapped}
 use Rattle.its_stepped.specs.Lines.{with_raw}
 use Rattle.its_stepped.specs.State.{State}
 use Rattle.its_stepped.specs.Commit.{effect_on, effects_on}
-use Rattle.its_pclsr.proofs.ApartLaws.{tidy_put}
-use Rattle.its_pclsr.specs.Built.{CanMake, CanMakeAll}
-use Rattle.its_word.specs.Core.{Core}
-use Rattle.its_word.specs.declared.jobs.Channel.TheVariants as channels
-use Rattle.its_world.specs.Storage.{chan_in, IsElsewhere}
+use Rattle.its_pclsr.proofs.ApartLaws.{tidy_core, tidy_put}
+use Rattle.its_pclsr.proofs.OwedLaws.{one_stored}
+use Rattle.its_pclsr.specs.Built.{HasPage, Maps, CanMake, CanMakeAll}
+use Rattle.its_world.specs.Made.{JobMade}
+use Rattle.its_world.specs.Mapped.{PageMapped}
+use Rattle.its_world.specs.Storage.{HasJob, chan_in, IsElsewhere}
 use Rattle.its_world.specs.Tidy.{channel_at, Tidy}
-use Rattle.its_world.specs.World.{state_of, bare, chan_of, in_raw, console_at, JobBecomes, ConsoleBecomes}
+use Rattle.its_world.specs.World.{state_of, bare, chan_of, raw_of, frame_at, in_raw, console_at, Becomes, CoreBecomes, JobBecomes, ConsoleBecomes}
 use Rattle.its_world.specs.declared.world.World.{World}
-use Rattle.its_world.proofs.StorageLaws.{chan_shut}
-use Rattle.its_world.proofs.StateLaws.{raw_job, changed_state, absent_state, console_state}
+use Rattle.its_world.proofs.MappedLaws.{core_raw, mapped_raw, mapped_state, mapped_tidy}
+use Rattle.its_world.proofs.MadeLaws.{made_state, made_tidy, least_raw, least_blank}
+use Rattle.its_world.proofs.StorageLaws.{chan_shut, has_job}
+use Rattle.its_world.proofs.StateLaws.{raw_job, job_of, changed_state, absent_state, console_state}
 
 pub inf_set : (old new : World) (s : ℕ) (j : Job) (o : Option Job) → o ≡ job_at old.jobs s → o ≡ Some j → JobBecomes old new s (with_pending j INF)
     → state_of new ≡ in_raw (state_of old) s with_inf
@@ -139,3 +149,85 @@ byte_put old new c x b = console_state old new c (put_to x) b
 pub console_room : (w : World) (c : ℕ) → length ((state_of w).raw.consoles c).output < most_waiting → length (console_at w.consoles.items c).output < most_waiting
 unfolding state_of
 console_room w c h = h
+
+-- a word of a job, and a page
+core_written : (old new : World) (s : ℕ) (c : Core) (h : Whole → Whole) → HasJob (state_of old) s → CoreBecomes old new s c
+    → ((j : Job) → h (raw_job old.files (core_at old.core s) j (superior_at old.jobs s)) ≡ raw_job old.files c j (superior_at old.jobs s)) → state_of new ≡ in_raw (state_of old) s h
+core_written old new s c h job b e =
+    let j = job_of (job_at old.jobs s) (has_job old s job) in
+    changed_state old new s c j.0 j.0 h (subst (λ (o : Option Job). Becomes old new s c o (frame_at old.frames.items s) (clear_at old.core s)) j.1 b) j.1 (e j.0)
+
+pub can_poke : (w : World) (s a : ℕ) → Tidy w → can_store (core_of ((state_of w).raw.jobs s)) a ≡ true → can_store (core_at w.core s) a ≡ true
+can_poke w s a tidy can = subst (λ (c : Core). can_store c a ≡ true) (core_raw w s tidy) can
+
+pub word_poked : (old new : World) (s a x : ℕ) → a < 2 ^ 18 → HasJob (state_of old) s → CoreBecomes old new s (store (core_at old.core s) a x)
+    → state_of new ≡ in_raw (state_of old) s (with_stores (poke a x ∷ []))
+word_poked old new s a x l job b =
+    let c : Core = stored (core_at old.core s) (poke a x ∷ []) in
+    let at : a % 2 ^ 18 ≡ a = omega arith in
+    let d : CoreBecomes old new s c = one_stored old new s (core_at old.core s) (poke a x) (subst (λ (k : ℕ). CoreBecomes old new s (store (core_at old.core s) k x)) (sym at) b) in
+    core_written old new s c (with_stores (poke a x ∷ [])) job d (λ j. refl)
+
+pub page_dropped : (old new : World) (s k : ℕ) → HasPage (state_of old) s k → CoreBecomes old new s (with_page (core_at old.core s) k None)
+    → state_of new ≡ in_raw (state_of old) s (with_page_at k None)
+page_dropped old new s k can b = core_written old new s _ (with_page_at k None) can.job b (λ j. refl)
+
+pub page_protected : (old new : World) (s k : ℕ) (on : Bool) → HasPage (state_of old) s k
+    → CoreBecomes old new s (with_page (core_at old.core s) k (marked (page_of (core_at old.core s) k) on)) → state_of new ≡ in_raw (state_of old) s (protected k on)
+page_protected old new s k on can b = core_written old new s _ (protected k on) can.job b (λ j. refl)
+
+pub tidy_written : (old new : World) (s : ℕ) (c : Core) → HasJob (state_of old) s → CoreBecomes old new s c → Tidy old → Tidy new
+tidy_written old new s c job b tidy = tidy_core old new s c (frame_at old.frames.items s) (clear_at old.core s) (has_job old s job) b tidy
+
+-- a page that is there, and one that can be mapped
+pub page_written : (old new : World) (s k : ℕ) (c : Core) → HasPage (state_of old) s k → CoreBecomes old new s c → Tidy old → Tidy new
+page_written old new s k c can b tidy = tidy_written old new s c can.job b tidy
+
+pub page_there : (w : World) (s k : ℕ) → Tidy w → HasPage (state_of w) s k → IsSome (page_of (core_at w.core s) k)
+page_there w s k tidy can = ap (λ (c : Core). is_some (page_of c k)) (sym (core_raw w s tidy)) ∙ can.there
+
+pub page_clear : (w : World) (j s k : ℕ) → Maps (state_of w) j s k → clear_at w.core j ≡ Some 4
+unfolding state_of
+page_clear w j s k can = can.clear
+
+pub page_absent : (w : World) (j s k : ℕ) → Tidy w → Maps (state_of w) j s k → page_of (core_at w.core s) k ≡ None
+page_absent w j s k tidy can = ap (λ (c : Core). page_of c k) (sym (core_raw w s tidy)) ∙ can.absent
+
+pub never_full : (w : World) (j s k : ℕ) → Tidy w → Maps (state_of w) j s k → pages_mapped (core_at w.core) ≡ most_pages → ⊥
+never_full w j s k tidy can full =
+    let room : mapped (state_of w).raw < most_pages = can.room in
+    let same = mapped_raw w tidy in
+    omega arith
+
+pub page_mapped : (old new : World) (j s k : ℕ) → PageMapped old new j s (with_page (core_at old.core s) k (Some zero_page)) → state_of new ≡ effect_on (changes.Map s k) j (state_of old)
+unfolding effect_on effect
+page_mapped old new j s k page = mapped_state old new j s _ page (with_page_at k (Some zero_page)) (λ i. refl)
+
+pub page_tidy : (old new : World) (j s k : ℕ) → Maps (state_of old) j s k → PageMapped old new j s (with_page (core_at old.core s) k (Some zero_page)) → Tidy old → Tidy new
+page_tidy old new j s k can page tidy = mapped_tidy old new j s _ page (has_job old s can.job) tidy
+
+-- the console of a job
+pub console_some : (w : World) (s : ℕ) (j : Job) → Some j ≡ job_at w.jobs s → j.console ≡ console_in ((state_of w).raw.jobs s)
+unfolding state_of
+console_some w s j e = ap (λ (o : Option Job). console_in (raw_of w.files (core_at w.core s) (superior_at w.jobs s) o)) e
+
+pub console_none : (w : World) (s : ℕ) → None ≡ job_at w.jobs s → None ≡ console_in ((state_of w).raw.jobs s)
+unfolding state_of
+console_none w s e = ap (λ (o : Option Job). console_in (raw_of w.files (core_at w.core s) (superior_at w.jobs s) o)) e
+
+-- the slot that is free in the raw machine is the one in which a job is made
+same_free : (w : World) (s k : ℕ) → least_free (state_of w).raw.jobs ≡ Some s → least_free (job_at w.jobs) ≡ Some k → k ≡ s
+same_free w s k e f = let same : Some k ≡ Some s = sym f ∙ sym (least_raw w) ∙ e in cc
+
+pub none_full : (w : World) (s : ℕ) → least_free (state_of w).raw.jobs ≡ Some s → least_free (job_at w.jobs) ≡ None → ⊥
+none_full w s e f = let same : None ≡ Some s = sym f ∙ sym (least_raw w) ∙ e in cc
+
+module _ (old new : World) (j k u n : ℕ) (console : Option ℕ) (made : JobMade old new k u n (Some j) console) (free : least_free (job_at old.jobs) ≡ Some k) (tidy : Tidy old) where
+  pub inferior_made : (s : ℕ) → least_free (state_of old).raw.jobs ≡ Some s → console ≡ console_in ((state_of old).raw.jobs j) → state_of new ≡ effect_on (changes.Make s u n) j (state_of old)
+  unfolding effect_on effect
+  inferior_made s e c =
+      made_state old new k u n (Some j) console made (least_blank old k tidy free)
+      ∙ (λ t. with_raw (state_of old) (with_job (state_of old).raw (same_free old s k e free t) (whole no_core (fresh_job u n (c t)) (Some j))))
+
+  pub inferior_tidy : Tidy new
+  inferior_tidy = made_tidy old new k u n (Some j) console made (least_empty (job_at old.jobs) k free) tidy

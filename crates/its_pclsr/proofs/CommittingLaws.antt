@@ -1,13 +1,10 @@
 -- A decision that is carried out is its commit.
 use Rattle.std.specs.Prelude.{if◌then◌else◌, ◌≡◌, ◌==◌, ◌≤◌, ◌+◌, ℕ, Bool, true, false, Option, Some, None, IfSome, is_some, option_map, List, [], ◌∷◌, ◌++◌, length, map, refl}
 use Rattle.std.proofs.Common.{sym, ap, ◌∙◌, subst, arith, inl, inr}
-use Rattle.std.proofs.lemmas.Bool.{cases_Bool}
+use Rattle.std.proofs.lemmas.Bool.{cases_Bool, eq-eqb}
 use Rattle.std.proofs.lemmas.Bool.Decides.{nat_tests}
-use Rattle.its_word.specs.Core.{Core}
-use Rattle.its_word.specs.declared.jobs.Job.{Job}
-use Rattle.its_core.specs.Cores.{core_at}
+use Rattle.its_core.specs.Cores.{clear_at}
 use Rattle.its_word.specs.declared.calls.Exit.{Exit}
-use Rattle.its_word.specs.declared.calls.Ask.{Ask}
 use Rattle.its_word.specs.declared.calls.Owed.{Owed}
 use Rattle.its_word.specs.declared.calls.Owed.TheVariants.{Leave}
 use Rattle.its_word.specs.declared.plan.Store.{Store}
@@ -15,7 +12,8 @@ use Rattle.its_files.specs.Files.{Store as Files, parts_owed, owed}
 use Rattle.its_files.specs.declared.entry.Mark.{Mark as FilesMark}
 use Rattle.its_files.specs.declared.entry.Parts.{Parts}
 use Rattle.its_files.specs.declared.entry.Parts.TheVariants.{Replace, Link, Free}
-use Rattle.its_jobs.specs.Table.{job_at, superior_at}
+use Rattle.its_jobs.specs.Table.{job_at}
+use Rattle.its_frame.specs.Left.{kept}
 use Rattle.its_frame.specs.declared.change.Change.{Change}
 use Rattle.its_frame.specs.declared.change.Change.TheVariants as changes
 use Rattle.its_frame.specs.declared.decision.Decision.{Decision}
@@ -25,15 +23,17 @@ use Rattle.its_frame.specs.declared.decision.Wait.{Wait}
 use Rattle.its_frame.specs.declared.frame.Frame.{Frame}
 use Rattle.its_frame.specs.declared.frame.Holding.{Holding}
 use Rattle.its_plain.specs.Arguments.{debts, revalued}
-use Rattle.its_plain.specs.Change.{on_slot, effect}
+use Rattle.its_plain.specs.Change.{superiors, is_gone, left_job, removed, inferior, effect}
 use Rattle.its_plain.specs.Decide.{call_named}
+use Rattle.its_plain.specs.Machine.{Whole, changed}
 use Rattle.its_stepped.specs.Commit.{effect_on, effects_on, committed, gone_on, owed_by, given_up, owed_part, owed_parts, owed_store, sleeps}
 use Rattle.its_stepped.specs.State.{State, mine, turn, same, ending, waiting}
 use Rattle.its_pclsr.specs.Built.{CanMake, CanMakeAll, backed}
-use Rattle.its_pclsr.specs.Carried.{standing_of, page_steps, Ready, Endable}
-use Rattle.its_world.specs.World.{state_of, marking, mark_of, parts_left, raw_of, frame_at, FrameBecomes}
+use Rattle.its_pclsr.specs.Carried.{standing_of, Ready, Endable}
+use Rattle.its_world.specs.World.{state_of, marking, mark_of, parts_left, frame_at, FrameBecomes}
 use Rattle.its_world.specs.declared.world.World.{World}
 use Rattle.its_world.proofs.StateLaws.{kept_turn}
+use Rattle.its_world.proofs.StorageLaws.{raw_has}
 
 -- the name of SLEEP is that of no other call
 not_asleep : (n : ℕ) → (n == 0o635445456000) ≡ false → sleeps (call_named n) ≡ false
@@ -104,73 +104,82 @@ sleeps_alone n = elim (cases_Bool (n == 0o635445456000)) [
   | inr t ↦ t ∙ sym (not_asleep n t)
 ]
 
--- changes that can be made leave frames and pages as they are, and every job there
-pub record Mild (old new : State) : Type 0 where
-  pub job : (k : ℕ) → is_some (new.raw.jobs k) ≡ is_some (old.raw.jobs k)
-  pub frames : new.frames ≡ old.frames
-  pub reserved : new.reserved ≡ old.reserved
+-- changes that can be made leave the caller there, with its frame; it reserves no page beside the one that it has
+pub record Mild (old new : State) (j : ℕ) : Type 0 where
+  pub job : is_some (old.raw.jobs j) ≡ true → is_some (new.raw.jobs j) ≡ true
+  pub frame : new.frames j ≡ old.frames j
+  pub page : kept (new.reserved j) ≤ kept (old.reserved j)
 
-mapped_some : {X : Type 0} → (f : X → X) (o : Option X) → is_some (option_map f o) ≡ is_some o
-mapped_some f (Some x) = refl
-mapped_some f None = refl
+slot_some : {X : Type 0} (f : X → X) (b : Bool) (o : Option X) → is_some o ≡ true → is_some (if b then option_map f o else o) ≡ true
+slot_some f true (Some x) h = refl
+slot_some f true None h = h
+slot_some f false o h = h
 
-slot_some : {X : Type 0} → (jobs : ℕ → Option X) (s : ℕ) (f : X → X) (k : ℕ) → is_some (on_slot jobs s f k) ≡ is_some (jobs k)
-slot_some jobs s f k = go (k == s)
-  where
-    go : (b : Bool) → is_some (if b then option_map f (jobs k) else jobs k) ≡ is_some (jobs k)
-    go true = mapped_some f (jobs k)
-    go false = refl
+made_some : {X : Type 0} (x : X) (b : Bool) (o : Option X) → is_some o ≡ true → is_some (if b then Some x else o) ≡ true
+made_some x true o h = refl
+made_some x false o h = h
 
-one_mild : (c : Change) (j : ℕ) (w : State) → CanMake c j w → Mild w (effect_on c j w)
-unfolding effect_on effect
-one_mild (changes.Inform s) j w b = record { job = λ k. slot_some w.raw.jobs s _ k; frames = refl; reserved = refl }
-one_mild (changes.Set s v x) j w b = record { job = λ k. slot_some w.raw.jobs s _ k; frames = refl; reserved = refl }
-one_mild (changes.Open n o) j w b = record { job = λ k. slot_some w.raw.jobs j _ k; frames = refl; reserved = refl }
-one_mild (changes.Shut n) j w b = record { job = λ k. slot_some w.raw.jobs j _ k; frames = refl; reserved = refl }
-one_mild (changes.Move n at) j w b = record { job = λ k. slot_some w.raw.jobs j _ k; frames = refl; reserved = refl }
-one_mild (changes.Append n x) j w b = record { job = λ k. slot_some w.raw.jobs j _ k; frames = refl; reserved = refl }
-one_mild (changes.Close n) j w b = record { job = λ k. slot_some w.raw.jobs j _ k; frames = refl; reserved = refl }
-one_mild (changes.Take n) j w b = record { job = λ k. refl; frames = refl; reserved = refl }
-one_mild (changes.Put n x) j w b = record { job = λ k. refl; frames = refl; reserved = refl }
-one_mild (changes.Hold n s) j w b = record { job = λ k. refl; frames = refl; reserved = refl }
-one_mild (changes.Poke s at x) j w b = absurd b
-one_mild (changes.Map s k) j w b = absurd b
-one_mild (changes.Unmap s k) j w b = absurd b
-one_mild (changes.Protect s k x) j w b = absurd b
-one_mild (changes.Make s u n) j w b = absurd b
-one_mild (changes.Remove s) j w b = absurd b
-one_mild (changes.Delete d x y) j w b = record { job = λ k. refl; frames = refl; reserved = refl }
-one_mild (changes.Rename d x y u v) j w b = record { job = λ k. refl; frames = refl; reserved = refl }
+-- a job that does not go with a tree
+stays_some : (gone : ℕ → Bool) (b : Bool) (o : Option Whole) → b ≡ false → is_some o ≡ true → is_some (left_job gone b o) ≡ true
+stays_some gone false (Some q) e h = refl
+stays_some gone false None e h = cc
+stays_some gone true o e h = cc
 
-pub all_mild : (cs : List Change) (j : ℕ) (w : State) → CanMakeAll cs j w → Mild w (effects_on cs j w)
-all_mild [] j w b = record { job = λ k. refl; frames = refl; reserved = refl }
+-- a page that is made is the one that the caller had reserved
+at_most : {m n : ℕ} → m ≡ n → m ≤ n
+at_most e = omega arith
+
+taken_page : (reserved : ℕ → Option ℕ) (j : ℕ) → kept (changed reserved j None j) ≤ kept (reserved j)
+taken_page reserved j = rw (eq-eqb j j refl) (omega arith)
+
+one_mild : (c : Change) (j : ℕ) (w : State) → CanMake c j w → Mild w (effect_on c j w) j
+unfolding effect_on effect removed
+one_mild (changes.Inform s) j w b = record { job = λ h. slot_some _ (j == s) (w.raw.jobs j) h; frame = refl; page = at_most refl }
+one_mild (changes.Set s v x) j w b = record { job = λ h. slot_some _ (j == s) (w.raw.jobs j) h; frame = refl; page = at_most refl }
+one_mild (changes.Open n o) j w b = record { job = λ h. slot_some _ (j == j) (w.raw.jobs j) h; frame = refl; page = at_most refl }
+one_mild (changes.Shut n) j w b = record { job = λ h. slot_some _ (j == j) (w.raw.jobs j) h; frame = refl; page = at_most refl }
+one_mild (changes.Move n at) j w b = record { job = λ h. slot_some _ (j == j) (w.raw.jobs j) h; frame = refl; page = at_most refl }
+one_mild (changes.Append n x) j w b = record { job = λ h. slot_some _ (j == j) (w.raw.jobs j) h; frame = refl; page = at_most refl }
+one_mild (changes.Close n) j w b = record { job = λ h. slot_some _ (j == j) (w.raw.jobs j) h; frame = refl; page = at_most refl }
+one_mild (changes.Take n) j w b = record { job = λ h. h; frame = refl; page = at_most refl }
+one_mild (changes.Put n x) j w b = record { job = λ h. h; frame = refl; page = at_most refl }
+one_mild (changes.Hold n s) j w b = record { job = λ h. h; frame = refl; page = at_most refl }
+one_mild (changes.Poke s at x) j w b = record { job = λ h. slot_some _ (j == s) (w.raw.jobs j) h; frame = refl; page = at_most refl }
+one_mild (changes.Map s k) j w b = record { job = λ h. slot_some _ (j == s) (w.raw.jobs j) h; frame = refl; page = taken_page w.reserved j }
+one_mild (changes.Unmap s k) j w b = record { job = λ h. slot_some _ (j == s) (w.raw.jobs j) h; frame = refl; page = at_most refl }
+one_mild (changes.Protect s k x) j w b = record { job = λ h. slot_some _ (j == s) (w.raw.jobs j) h; frame = refl; page = at_most refl }
+one_mild (changes.Make s u n) j w b = record { job = λ h. made_some (inferior j (w.raw.jobs j) u n) (j == s) (w.raw.jobs j) h; frame = refl; page = at_most refl }
+one_mild (changes.Remove s) j w b =
+    let gone : ℕ → Bool = is_gone (superiors w.raw) s in
+    record {
+      job = λ h. stays_some gone (gone j) (w.raw.jobs j) b.2 h;
+      frame = ap (λ (g : Bool). if g then None else w.frames j) b.2;
+      page = at_most refl;
+    }
+one_mild (changes.Delete d x y) j w b = record { job = λ h. h; frame = refl; page = at_most refl }
+one_mild (changes.Rename d x y u v) j w b = record { job = λ h. h; frame = refl; page = at_most refl }
+
+pub all_mild : (cs : List Change) (j : ℕ) (w : State) → CanMakeAll cs j w → Mild w (effects_on cs j w) j
+all_mild [] j w b = record { job = λ h. h; frame = refl; page = at_most refl }
 all_mild (c ∷ cs) j w b =
     let a = one_mild c j w b.0 in
     let d = all_mild cs j (effect_on c j w) b.1 in
     record {
-      job = λ k. d.job k ∙ a.job k;
-      frames = d.frames ∙ a.frames;
-      reserved = d.reserved ∙ a.reserved;
+      job = λ h. d.job (a.job h);
+      frame = d.frame ∙ a.frame;
+      page = let first = a.page in let later = d.page in omega arith;
     }
 
 -- the same of worlds
-raw_some_is : (w : World) (k : ℕ) → is_some ((state_of w).raw.jobs k) ≡ is_some (job_at w.jobs k)
-unfolding state_of
-raw_some_is w k = go (core_at w.core k) (superior_at w.jobs k) (job_at w.jobs k)
-  where
-    go : (c : Core) (superior : Option ℕ) (o : Option Job) → is_some (raw_of w.files c superior o) ≡ is_some o
-    go c superior (Some j) = refl
-    go c superior None = refl
-
 pub job_kept : (old mid : World) (s : ℕ) (cs : List Change) → state_of mid ≡ effects_on cs s (state_of old) → CanMakeAll cs s (state_of old) → is_some (job_at old.jobs s) ≡ true
     → is_some (job_at mid.jobs s) ≡ true
 job_kept old mid s cs e b some =
-    sym (raw_some_is mid s) ∙ ap (λ (v : State). is_some (v.raw.jobs s)) e ∙ (all_mild cs s (state_of old) b).job s ∙ raw_some_is old s ∙ some
+    sym (raw_has mid s) ∙ ap (λ (v : State). is_some (v.raw.jobs s)) e ∙ (all_mild cs s (state_of old) b).job (raw_has old s ∙ some)
 
 pub frame_kept : (old mid : World) (s : ℕ) (cs : List Change) → state_of mid ≡ effects_on cs s (state_of old) → CanMakeAll cs s (state_of old)
     → frame_at mid.frames.items s ≡ frame_at old.frames.items s
 unfolding state_of
-frame_kept old mid s cs e b = ap (λ (v : State). v.frames s) e ∙ ap (λ (f : ℕ → Option Frame). f s) (all_mild cs s (state_of old) b).frames
+frame_kept old mid s cs e b = ap (λ (v : State). v.frames s) e ∙ (all_mild cs s (state_of old) b).frame
 
 pub stands_kept : (old mid : World) (s : ℕ) (cs : List Change) → state_of mid ≡ effects_on cs s (state_of old) → CanMakeAll cs s (state_of old)
     → is_some (standing_of (frame_at old.frames.items s)) ≡ true → is_some (standing_of (frame_at mid.frames.items s)) ≡ true
@@ -235,37 +244,36 @@ room_kept old mid s cs n e b h =
     subst (λ o. IfSome (standing_of o) (λ f. Endable (state_of mid) s f n)) (sym (frame_kept old mid s cs e b))
     (subst (λ v. IfSome (standing_of (frame_at old.frames.items s)) (λ f. Endable v s f n)) (sym e) h)
 
-backed_is : (r page : Option ℕ) → is_some r ≡ is_some page → given_up r ≡ backed (is_some page)
-backed_is (Some n) page h = rw (sym h) refl
-backed_is None page h = rw (sym h) refl
+backed_is : (r : Option ℕ) → given_up r ≡ backed (is_some r)
+backed_is (Some n) = refl
+backed_is None = refl
 
-owed_is : (v : State) (s : ℕ) (page : Option ℕ) (ss : List Store) (e : Exit) → is_some (v.reserved s) ≡ is_some page
-    → owed_by v s ss e ≡ owed_parts v.mark s ++ (backed (is_some page) ++ (map owed_store ss ++ Leave e ∷ []))
-owed_is v s page ss e r = ap (λ os. owed_parts v.mark s ++ (os ++ (map owed_store ss ++ Leave e ∷ []))) (backed_is (v.reserved s) page r)
+owed_is : (v : State) (s : ℕ) (ss : List Store) (e : Exit) → owed_by v s ss e ≡ owed_parts v.mark s ++ (backed (is_some (v.reserved s)) ++ (map owed_store ss ++ Leave e ∷ []))
+owed_is v s ss e = ap (λ os. owed_parts v.mark s ++ (os ++ (map owed_store ss ++ Leave e ∷ []))) (backed_is (v.reserved s))
+
+-- what a call owes that has ended
+abbrev pub owed_at : State → ℕ → List Store → Exit → Holding → List Owed
+owed_at v s ss e f = owed_parts v.mark s ++ (backed (is_some (v.reserved s)) ++ (map owed_store (debts f.ask f.owes ++ ss) ++ Leave e ∷ []))
 
 pub ends_committed : (old mid new : World) (s : ℕ) (cs : List Change) (ss : List Store) (x : Exit) → state_of mid ≡ effects_on cs s (state_of old) → CanMakeAll cs s (state_of old)
     → is_some (job_at old.jobs s) ≡ true
-    → IfSome (standing_of (frame_at old.frames.items s)) (λ f. Endable (effects_on cs s (state_of old)) s f (length ss))
-    → IfSome (standing_of (frame_at mid.frames.items s)) (λ f. FrameBecomes mid new s (Some (ending f.site f.ask (owed_parts (state_of mid).mark s ++ (backed (is_some f.page) ++ (map owed_store (debts f.ask f.owes ++ ss) ++ Leave x ∷ []))))))
+    → IfSome (standing_of (frame_at mid.frames.items s)) (λ f. FrameBecomes mid new s (Some (ending f.site f.ask (owed_at (state_of mid) s ss x f))))
     → IfSome (standing_of (frame_at old.frames.items s)) (λ f. state_of new ≡ committed (state_of old) s f.site f.ask f.owes (Ends (record { items = cs }) (record { items = ss }) x))
 unfolding committed
-ends_committed old mid new s cs ss x e b job room p =
-    go (standing_of (frame_at old.frames.items s)) room
-    (subst (λ o. IfSome (standing_of o) (λ f. FrameBecomes mid new s (Some (ending f.site f.ask (owed f.page f.ask f.owes))))) (frame_kept old mid s cs e b)
-    (subst (λ (w : State). IfSome (standing_of (frame_at mid.frames.items s)) (λ f. FrameBecomes mid new s (Some (ending f.site f.ask (owed_parts w.mark s ++ (backed (is_some f.page) ++ (map owed_store (debts f.ask f.owes ++ ss) ++ Leave x ∷ []))))))) e p))
+ends_committed old mid new s cs ss x e b job p =
+    go (standing_of (frame_at old.frames.items s))
+    (subst (λ o. IfSome (standing_of o) (λ f. FrameBecomes mid new s (Some (ending f.site f.ask (owed_at v s ss x f))))) (frame_kept old mid s cs e b)
+    (subst (λ (w : State). IfSome (standing_of (frame_at mid.frames.items s)) (λ f. FrameBecomes mid new s (Some (ending f.site f.ask (owed_at w s ss x f))))) e p))
   where
     v : State
     v = effects_on cs s (state_of old)
 
-    owed : Option ℕ → Ask → ℕ → List Owed
-    owed page a n = owed_parts v.mark s ++ (backed (is_some page) ++ (map owed_store (debts a n ++ ss) ++ Leave x ∷ []))
-
-    go : (o : Option Holding) → IfSome o (λ f. Endable v s f (length ss)) → IfSome o (λ f. FrameBecomes mid new s (Some (ending f.site f.ask (owed f.page f.ask f.owes))))
+    go : (o : Option Holding) → IfSome o (λ f. FrameBecomes mid new s (Some (ending f.site f.ask (owed_at v s ss x f))))
         → IfSome o (λ f. state_of new ≡ turn v s same (Some (ending f.site f.ask (owed_by v s (debts f.ask f.owes ++ ss) x))))
-    go (Some f) r p =
+    go (Some f) p =
         put_after old mid new s cs _ e b job p
-        ∙ ap (λ os. turn v s same (Some (ending f.site f.ask os))) (sym (owed_is v s f.page (debts f.ask f.owes ++ ss) x r.page))
-    go None r p = tt
+        ∙ ap (λ os. turn v s same (Some (ending f.site f.ask os))) (sym (owed_is v s (debts f.ask f.owes ++ ss) x))
+    go None p = tt
 
 -- a call whose caller is removed
 pub gone_committed : (old mid new : World) (s : ℕ) (cs : List Change) → state_of mid ≡ effect_on (changes.Remove s) s (state_of old) → state_of new ≡ effects_on cs s (state_of mid)
@@ -282,20 +290,25 @@ pub gone_can : (old mid : World) (s : ℕ) (cs : List Change) → state_of mid �
 gone_can old mid s cs e h = subst (CanMakeAll cs s) (sym e) h
 
 -- what it owes has room
+one_page : (b : Bool) (o : Option ℕ) → b ≡ is_some o → (if b then 1 else 0) ≡ kept o
+one_page b (Some k) e = rw e refl
+one_page b None e = rw e refl
+
 pub end_few : (o : Option Holding) (w : State) (s n : ℕ) (f : Holding) (ps os : List Owed) (b : Bool) → o ≡ Some f → IfSome o (λ f. Endable w s f n) → ps ≡ os → os ≡ owed_parts w.mark s
-    → b ≡ is_some f.page → length ps + (if b then 1 else 0) + f.owes + n ≤ 3
+    → b ≡ is_some (w.reserved s) → length ps + (if b then 1 else 0) + f.owes + n ≤ 3
 end_few (Some g) w s n f ps os b e h p q i =
     let same : g ≡ f = cc in
     let r : Endable w s f n = subst (λ (x : Holding). Endable w s x n) same h in
     let few = r.few in
     let parts : length ps ≡ length (owed_parts w.mark s) = ap (λ (xs : List Owed). length xs) (p ∙ q) in
-    let page : (if b then 1 else 0) ≡ page_steps f.page = ap (λ (b : Bool). if b then 1 else 0) i ∙ one_page f.page in
+    let page : (if b then 1 else 0) ≡ kept (w.reserved s) = one_page b (w.reserved s) i in
     omega arith
-  where
-    one_page : (o : Option ℕ) → (if is_some o then 1 else 0) ≡ page_steps o
-    one_page (Some k) = refl
-    one_page None = refl
 end_few None w s n f ps os b e h p q i = cc
+
+-- whether a slot has reserved a page
+pub page_reserved : (w : World) (s : ℕ) (b : Bool) → b ≡ is_some (clear_at w.core s) → b ≡ is_some ((state_of w).reserved s)
+unfolding state_of
+page_reserved w s b e = e
 
 -- the parts of a close that a call owes
 parts_are : (p : Parts) → map owed_part (parts_left p) ≡ parts_owed p

@@ -1,30 +1,38 @@
 -- A world as it is opened, with jobs whose channels are on no file and no draft.
-use Rattle.std.specs.Prelude.{◌≡◌, ◌≢◌, ◌<◌, ℕ, Option, Some, None, List, [], ◌∷◌, IfSome, length, option_map, replicate, slice_set, slice_index_or, sum_by, refl}
+use Rattle.std.specs.Prelude.{◌≡◌, ◌≢◌, ◌<◌, ◌||◌, ℕ, Bool, true, false, is_some, Option, Some, None, List, [], ◌∷◌, IfSome, length, option_map, slice_set, slice_index_or, sum_by, refl}
 use Rattle.std.specs.List.{range_with_len}
 use Rattle.std.proofs.Common.{sym, ◌∙◌, ap, subst, arith, inl, inr}
-use Rattle.std.proofs.lemmas.Bool.{cases_eq, cases_lt}
-use Rattle.std.proofs.lemmas.List.{length-replicate, get_or-replicate, get_or-set_same, get_or-set_other, get_or_past}
+use Rattle.std.proofs.lemmas.Bool.{cases_eq, cases_lt, ne_eqb}
+use Rattle.std.proofs.lemmas.List.{get_or-set_same, get_or-set_other, get_or_past}
+use Rattle.its_word.specs.Core.{Core, can_store}
 use Rattle.its_word.specs.Limits.{slots}
 use Rattle.its_word.specs.Only.{Only}
 use Rattle.its_word.specs.declared.jobs.Job.{Job}
-use Rattle.its_word.specs.Tree.{fresh_job}
+use Rattle.its_word.specs.Tree.{least_free, fresh_job, is_below}
 use Rattle.its_word.specs.declared.jobs.Channel.{Channel}
 use Rattle.its_word.specs.declared.jobs.Channel.TheVariants.{Closed, TtyIn, TtyOut, Reading, Writing, Usr}
-use Rattle.its_core.specs.Cores.{IsEmpty, Reserved, clear_at}
+use Rattle.its_core.specs.Cores.{IsEmpty, Reserved, core_at, clear_at}
 use Rattle.its_files.specs.Files.{Store, no_files, readers_by, entry_at, is_marked}
 use Rattle.its_files.proofs.ListLaws.{get_or-copies}
+use Rattle.its_frame.specs.declared.change.Change.TheVariants as changes
 use Rattle.its_frame.specs.declared.frame.Frame.{Frame}
-use Rattle.its_jobs.specs.Table.{Table, job_at, NoJobs}
+use Rattle.its_jobs.specs.Table.{Table, job_at, superior_at, IsTree, NoJobs}
+use Rattle.its_plain.specs.Change.{superiors, is_gone}
 use Rattle.its_plain.specs.Machine.{Whole}
 use Rattle.its_stepped.specs.Sound.{Sound, SoundBy, MarkBy}
 use Rattle.its_stepped.specs.State.{Mark}
-use Rattle.its_world.specs.Storage.{IsElsewhere}
+use Rattle.its_world.specs.Storage.{HasJob, IsElsewhere}
 use Rattle.its_world.specs.Tidy.{channel_by, channel_at, tally, reads, writes, writers, Across, Tidy}
 use Rattle.its_world.specs.World.{mark_of, raw_at, frame_at, state_of}
 use Rattle.its_world.specs.declared.world.World.{World}
+use Rattle.its_world.proofs.MappedLaws.{core_raw}
+use Rattle.its_world.proofs.MadeLaws.{fresh_closed, least_raw}
 use Rattle.its_world.proofs.MarkLaws.{none_marked}
+use Rattle.its_world.proofs.StorageLaws.{raw_has}
 use Rattle.its_world.proofs.TallyLaws.{tally_none}
+use Rattle.its_pclsr.specs.Built.{CanMakeAll}
 use Rattle.its_pclsr.specs.Removal.{Elsewhere}
+use Rattle.its_pclsr.proofs.RemovalLaws.{superiors_are}
 
 -- it is sound, and has neither frames nor reserved pages
 pub idle_sound : (w : World) → IsEmpty w.core → ((k : ℕ) → frame_at w.frames.items k ≡ None) → w.files ≡ no_files → Sound (state_of w)
@@ -97,13 +105,6 @@ elsewhere_none t h = record {
   each = λ k n. subst IsElsewhere (sym (ap (λ j. channel_by j n) (h.jobs k))) tt;
 }
 
-fresh_closed : (u j : ℕ) (c : Option ℕ) (n : ℕ) → slice_index_or (fresh_job u j c).channels n Closed ≡ Closed
-unfolding fresh_job
-fresh_closed u j c n = elim (cases_lt n 16) [
-  | inl l ↦ get_or-replicate 16 n Closed Closed l
-  | inr ge ↦ get_or_past (replicate 16 Closed) n Closed (let e = length-replicate 16 Closed in omega arith)
-]
-
 pub elsewhere_made : (t v : Table) (s u j : ℕ) (c : Option ℕ) → Only (job_at t) (job_at v) s (Some (fresh_job u j c)) → Elsewhere t → Elsewhere v
 elsewhere_made t v s u j c o h = record {
   past_slots = λ k n l. elim (cases_eq k s) [
@@ -163,3 +164,19 @@ module _ (t : Table) (k : ℕ) (j i : Job) (x : Channel) (low : k < slots) (was 
       | inr ne ↦ subst IsElsewhere (sym (opened_other m n ne)) (e.each m n)
     ];
   }
+
+-- the changes of a call that tests make
+pub can_made : (w : World) (j s u n : ℕ) → is_some (job_at w.jobs j) ≡ true → least_free (job_at w.jobs) ≡ Some s → CanMakeAll (changes.Make s u n ∷ []) j (state_of w)
+can_made w j s u n some free = ((raw_has w j ∙ some, least_raw w ∙ free), tt)
+
+pub can_poked : (w : World) (j s a x : ℕ) → s < slots → a < 16 → is_some (job_at w.jobs s) ≡ true → Tidy w → can_store (core_at w.core s) a ≡ true → CanMakeAll (changes.Poke s a x ∷ []) j (state_of w)
+can_poked w j s a x l few some tidy can =
+    let there : HasJob (state_of w) s = raw_has w s ∙ some in
+    (record { slot = l; address = omega arith; job = there; can = ap (λ (c : Core). can_store c a) (core_raw w s tidy) ∙ can }, tt)
+
+pub can_removed : (w : World) (j s : ℕ) → s < slots → is_some (job_at w.jobs s) ≡ true → j ≢ s → IsTree w.jobs.jobs w.jobs.superiors → is_below (superior_at w.jobs) s j ≡ false
+    → Sound (state_of w) → ((k : ℕ) → (state_of w).frames k ≡ None) → ((k : ℕ) → (state_of w).reserved k ≡ None) → CanMakeAll (changes.Remove s ∷ []) j (state_of w)
+can_removed w j s l some ne tree below sound frames pages =
+    let stays : is_gone (superiors (state_of w).raw) s j ≡ false =
+    ap (λ (sup : ℕ → Option ℕ). is_gone sup s j) (superiors_are w tree) ∙ ap (λ (b : Bool). b || is_below (superior_at w.jobs) s j) (ne_eqb j s ne) ∙ below in
+    ((l, raw_has w s ∙ some, stays, record { sound = sound; unwound = λ k h. frames k; page = pages s }), tt)

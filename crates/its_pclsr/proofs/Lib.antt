@@ -8,6 +8,9 @@ pub mod BelowLaws
 pub mod CommittingLaws
 pub mod ValueLaws
 pub mod ApartLaws
+pub mod CanLaws
+pub mod UsrCanLaws
+pub mod CoreCanLaws
 pub mod ReadyLaws
 pub mod PartLaws
 pub mod IdleLaws

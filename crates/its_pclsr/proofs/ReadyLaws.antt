@@ -1,535 +1,131 @@
 -- What the tick of a slot finds whose call is tried: the jobs that the call reaches are unwound, it is decided on raw
 -- jobs there, and its decision can be carried out.
-use Rattle.std.specs.Prelude.{if◌then◌else◌, ◌||◌, ◌&&◌, ◌==◌, ◌≡◌, ◌≢◌, ◌<◌, ◌≤◌, ℕ, ◌+◌, ◌-◌, Bool, true, false, not, Option, Some, None, IfSome, is_some, List, [], slice_get, option_map, ◌∷◌, ◌++◌, length, slice_index_or, unwrap_or, Result, Ok, Err, nat_lt, refl}
+use Rattle.std.specs.Prelude.{if◌then◌else◌, ◌||◌, ◌==◌, ◌≡◌, ◌≢◌, ◌<◌, ◌≤◌, ℕ, Bool, true, false, Option, Some, None, IfSome, is_some, List, [], ◌∷◌, ◌++◌, length, refl}
 use Rattle.std.proofs.Common.{sym, ◌∙◌, ap, subst, inl, inr, arith}
-use Rattle.std.proofs.lemmas.Bool.{cases_eq, eq-eqb, ne_eqb, ltb-true}
-use Rattle.its_word.specs.Byte.{load_of}
-use Rattle.its_word.specs.Console.{most_waiting}
-use Rattle.its_word.specs.Tree.{is_below}
-use Rattle.its_word.specs.Word.{right_of}
-use Rattle.its_word.specs.declared.access.Fault.{Fault}
+use Rattle.std.proofs.lemmas.Bool.{cases_eq, eq-eqb, ne_eqb, eqb-true}
+use Rattle.its_word.specs.Tree.{is_below, slots_below}
 use Rattle.its_word.specs.declared.calls.Ask.{Ask}
-use Rattle.its_word.specs.declared.calls.Exit.{Exit}
-use Rattle.its_frame.specs.Left.{kept}
+use Rattle.its_word.specs.Limits.{slots}
 use Rattle.its_frame.specs.declared.change.Change.{Change}
 use Rattle.its_frame.specs.declared.change.Change.TheVariants as changes
-use Rattle.its_frame.specs.declared.change.Opened.{Opened}
-use Rattle.its_frame.specs.declared.change.Opened.TheVariants as opened
 use Rattle.its_frame.specs.declared.decision.Decision.{Decision}
 use Rattle.its_frame.specs.declared.decision.Decision.TheVariants.{Waits, Goes, Ends, Gone}
-use Rattle.its_frame.specs.declared.decision.Wait.TheVariants.{Input, Output, Drained}
 use Rattle.its_frame.specs.declared.frame.Frame.{Frame}
 use Rattle.its_frame.specs.declared.frame.Frame.TheVariants as frames
 use Rattle.its_frame.specs.declared.frame.Holding.{Holding}
 use Rattle.its_frame.specs.declared.name.CallName.{CallName}
-use Rattle.its_frame.specs.declared.name.CallName.TheVariants.{Hang, Sleep, Dismis, Usrvar, Logout, Open, Close, Iot, Siot, Finish, Listen, Ttylnd, Access, Fillen, Delete, Rename}
-use Rattle.its_frame.specs.declared.variable.Variable.{Variable}
-use Rattle.its_plain.specs.Arguments.{debts, input, has_input, place_of_input}
-use Rattle.its_plain.specs.CallBasic.{negated, sleep_tests, sleep, dismissed_by, dismiss_at, dismiss, Party, Oneself, Nobody, Channel, variable_named, by_oneself, by_superior, channel_at, ioc, party, set_own, own_variable, set_other, value_of_other, other_variable, usrvar_of, usrvar, told_superior}
-use Rattle.its_plain.specs.CallTty.{console_of, has_console, is_other, input_waits, output_waits, output_left, first_typed, shown_byte, is_shut, opens_on, open_tests, opens, close_on, closes, store_tests, read_tests, word_of, iot_ends, iot_in, iot_out, iot_on, iot, next_pointer, siot_tests, siot_in, siot_out, siot_by, siot_on, siot, finish_on, finish, listens, listen_on, listen, can_take, is_holder, lands, ttylnd_of, ttylnd}
+use Rattle.its_frame.specs.declared.name.CallName.TheVariants.{Logout, Uclose, Corblk}
+use Rattle.its_plain.specs.Arguments.{debts, input}
+use Rattle.its_plain.specs.CallBasic.{channel_at}
 use Rattle.its_plain.specs.CallStep.{among, decision}
-use Rattle.its_plain.specs.Change.{channel_in, superiors, is_gone}
-use Rattle.its_plain.specs.Decide.{call_named, decided_by, decided, target_by, argument_of, target, listed, reach_by, reach}
-use Rattle.its_plain.specs.Interrupt.{dismissed}
-use Rattle.its_plain.specs.Machine.{Names, File, Chan, Shut, TtyIn, TtyOut, Reads, Writes, On, Console, Whole, Machine}
-use Rattle.its_plain.specs.Own.{names_of}
-use Rattle.its_plain.specs.CallFile.{most_files, disk_device, channels_by, channels_in, is_full, has_file, is_read, words_of, names_from, is_output, opens_as, disk_tests, opens_disk, closes_draft, iot_read, siot_read, siot_write, access_on, access, fillen_on, fillen, file_tests, delete, rename, open_by, open_call, close_by, close_call, iot_by, iot_call, siot_to, siot_call}
-use Rattle.its_plain.specs.FileOperator.{channels_of}
-use Rattle.its_world.specs.Storage.{HasJob, chan_in, IsDraft, Unread, HasRoom, Closes}
-use Rattle.its_stepped.specs.Tick.{is_disk, helps_by}
-use Rattle.its_stepped.proofs.MarkLaws.{marking_begins, marking_all}
-use Rattle.its_plain.specs.Tests.{◌⇒◌, finishes, fails, goes, out}
-use Rattle.its_plain.specs.View.{View, outline, view}
-use Rattle.its_stepped.specs.Commit.{effect_on, effects_on, owed_parts}
+use Rattle.its_plain.specs.Change.{superiors, is_gone}
+use Rattle.its_plain.specs.Decide.{call_named, decided, target_by, argument_of, target, listed, reach_by, reach, reaching, with_below}
+use Rattle.its_plain.specs.Machine.{On, Whole, Machine, core_of}
+use Rattle.its_plain.specs.View.{View, view, job_at}
+use Rattle.its_stepped.specs.Tick.{helps_by, helps, reserves, quarters}
+use Rattle.its_stepped.specs.Commit.{effects_on, owed_parts}
 use Rattle.its_stepped.specs.Duty.{parts_in, Duty}
 use Rattle.its_stepped.specs.Quiet.{IsStill, AllQuiet}
 use Rattle.its_stepped.specs.Sound.{parts_in_frame, IsWaitable, Sound}
 use Rattle.its_stepped.specs.State.{State}
-use Rattle.its_stepped.specs.Tick.{helps}
-use Rattle.its_stepped.proofs.TestLaws.{by_test, first_holds}
+use Rattle.its_stepped.specs.Forest.{Forest}
+use Rattle.its_stepped.proofs.MarkLaws.{marking_begins, marking_all}
 use Rattle.its_stepped.proofs.UnwindLaws.{among_first}
 use Rattle.its_stepped.proofs.ViewLaws.{StillAt}
+use Rattle.its_stepped.proofs.ForestLaws.{job_few, forest_below, on_inferior, inferior_stands}
+use Rattle.its_stepped.proofs.LogoutDuty.{among_left, among_right, among_below}
+use Rattle.its_stepped.proofs.TargetLaws.{target_on, reach_named}
+use Rattle.its_stepped.proofs.CoreDuty.{makes_reserves}
+use Rattle.its_world.specs.Storage.{HasJob}
+use Rattle.its_pclsr.specs.Built.{CanMake}
+use Rattle.its_pclsr.specs.Carried.{standing_of, Ready}
 use Rattle.its_pclsr.proofs.CommittingLaws.{all_mild}
-use Rattle.its_pclsr.specs.Built.{CanOpen, CanMake, CanMakeAll}
-use Rattle.its_pclsr.specs.Carried.{standing_of, page_steps, Ready}
-
--- the changes of a decision of slot j's call can be made
-abbrev pub DecisionCan : Decision → ℕ → State → Type 0
-DecisionCan (Waits r) j v = Unit {0}
-DecisionCan (Goes cs h vs) j v = CanMakeAll cs.items j v
-DecisionCan (Ends cs ss e) j v = CanMakeAll cs.items j v
-DecisionCan (Gone cs) j v = CanMakeAll cs.items j (effect_on (changes.Remove j) j v)
-
--- what tests say of numbers: a channel that there is, and one that is open; a console, and one with room
-not_false : (b : Bool) → not b ≡ false → b ≡ true
-not_false true h = refl
-not_false false h = cc
-
-and_first : (b c : Bool) → not (b && c) ≡ false → b ≡ true
-and_first true c h = refl
-and_first false c h = cc
-
-or_first : (b c : Bool) → (b || c) ≡ false → b ≡ false
-or_first true c h = cc
-or_first false c h = refl
-
-abbrev IsOpen : Chan → Type 0
-IsOpen Shut = ⊥
-IsOpen _ = Unit {0}
-
-number_by : (b : Bool) (c : Chan) → IsOpen (if b then c else Shut) → b ≡ true
-number_by true c h = refl
-number_by false c h = absurd h
-
-open_number : (channels : ℕ → Chan) (n : ℕ) (c : Chan) → channel_at channels n ≡ c → IsOpen c → n < 16
-open_number channels n c e h = ltb-true n 16 (number_by (nat_lt n 16) (channels n) (subst IsOpen (sym e) h))
-
-opened_can : (b : Bool) (v : State) → CanOpen (if b then opened.TtyOut else opened.TtyIn) v
-opened_can true v = tt
-opened_can false v = tt
-
--- the view of the call of slot j's job in which its consoles, files and channels are those of a state, and its job's
--- console is one of eight
-record Sees (x : View) (v : State) (j : ℕ) : Type 0 where
-  consoles : x.consoles ≡ v.raw.consoles
-  own : IfSome x.own.job.console (λ c. c < 8)
-  job : v.raw.jobs j ≡ Some x.own
-  files : x.files ≡ v.raw.files
-  channels : channels_in x ≡ channels_of v.raw
-
-has_job : (x : View) (v : State) (j : ℕ) → Sees x v j → HasJob v j
-has_job x v j s = ap is_some s.job
-
--- what a channel of a number that there is is on
-number_is : (b : Bool) (c d : Chan) → b ≡ true → (if b then c else Shut) ≡ d → c ≡ d
-number_is true c d h e = e
-number_is false c d h e = absurd cc
-
-chan_is : (x : View) (v : State) (j n : ℕ) (c : Chan) → Sees x v j → nat_lt n 16 ≡ true → channel_at x.own.channels n ≡ c → chan_in v j n ≡ c
-chan_is x v j n c s l e = ap (λ (o : Option Whole). channel_in o n) s.job ∙ number_is (nat_lt n 16) (x.own.channels n) c l e
-
-shut_is : (c : Chan) → is_shut c ≡ true → c ≡ Shut
-shut_is Shut h = refl
-shut_is TtyIn h = absurd cc
-shut_is TtyOut h = absurd cc
-shut_is (Reads f at) h = absurd cc
-shut_is (Writes f) h = absurd cc
-shut_is (On k write at) h = absurd cc
-
-and_second : (b c : Bool) → not (b && c) ≡ false → c ≡ true
-and_second true c h = not_false c h
-and_second false c h = absurd cc
-
-open_true : (channels : ℕ → Chan) (n : ℕ) (c : Chan) → channel_at channels n ≡ c → IsOpen c → nat_lt n 16 ≡ true
-open_true channels n c e h = number_by (nat_lt n 16) (channels n) (subst IsOpen (sym e) h)
-
-below_eight : (o : Option ℕ) → IfSome o (λ c. c < 8) → unwrap_or o 0 < 8
-below_eight (Some c) h = h
-below_eight None h = omega arith
-
-console_below : (x : View) (v : State) (j : ℕ) → Sees x v j → console_of x < 8
-console_below x v j s = below_eight x.own.job.console s.own
-
-has_room : (x : View) (v : State) (j i : ℕ) → Sees x v j → output_waits x i ≡ false → length (v.raw.consoles i).output < most_waiting
-has_room x v j i s h =
-    subst (λ (consoles : ℕ → Console). length (consoles i).output < most_waiting) s.consoles
-    (ltb-true (length (x.consoles i).output) most_waiting
-    (not_false (nat_lt (length (x.consoles i).output) most_waiting) (or_first (not (nat_lt (length (x.consoles i).output) most_waiting)) (is_other x.slot (x.holders i)) h)))
-
--- whatever a call decides, its changes can be made
-abbrev Can : ℕ → State → Decision → Type 0
-Can j v d = DecisionCan d j v
-
-sleep_can : (j : ℕ) (v : State) (x : View) (a : Ask) → Can j v (sleep x a)
-unfolding sleep
-sleep_can j v x a =
-    first_holds (Can j v) (sleep_tests x a (input a 0) (place_of_input a 0)) (goes [] None (negated (x.clock + input a 0) ∷ []))
-    (λ t. tt, (λ t. tt, (λ t. tt, (λ t. tt, (λ t. tt, (λ t. tt, tt)))))) (λ t. tt)
-
-dismissed_can : (j : ℕ) (v : State) (x : View) (p w : ℕ) (r : Result Exit Fault) → Can j v (dismissed_by x p w r)
-dismissed_can j v x p w (Ok e) = tt
-dismissed_can j v x p w (Err f) = tt
-
-dismiss_can : (j : ℕ) (v : State) (x : View) (a : Ask) → Can j v (dismiss x a)
-unfolding dismiss
-dismiss_can j v x a = go (place_of_input a 0)
-  where
-    go : (o : Option ℕ) → Can j v (dismiss_at x a o)
-    go (Some p) = dismissed_can j v x p (input a 0) (dismissed x.own.core x.own.job p)
-    go None = tt
-
--- USRVAR
-own_can : (j : ℕ) (v : State) (x : View) (a : Ask) (y : Variable) (b : Bool) → Can j v (set_own x a y b)
-own_can j v x a y true = tt
-own_can j v x a y false = tt
-
-own_variable_can : (j : ℕ) (v : State) (x : View) (a : Ask) (o : Option Variable) → Can j v (own_variable x a o)
-own_variable_can j v x a None = tt
-own_variable_can j v x a (Some y) =
-    by_test (Can j v) (has_input a 2 && not (by_oneself y)) (fails x a 0o22) (set_own x a y (has_input a 2)) (λ t. tt) (λ t. own_can j v x a y (has_input a 2))
-
-set_can : (j : ℕ) (v : State) (k : ℕ) (y : Variable) (w : ℕ) (b : Bool) → CanMakeAll (set_other k y w b) j v
-set_can j v k y w true = (tt, tt)
-set_can j v k y w false = tt
-
-other_variable_can : (j : ℕ) (v : State) (x : View) (a : Ask) (k : ℕ) (write : Bool) (o : Option Variable) → Can j v (other_variable x a k write o)
-other_variable_can j v x a k write None = tt
-other_variable_can j v x a k write (Some y) =
-    first_holds (Can j v)
-    (((has_input a 2 && not write) ⇒ fails x a 0o5) ∷ ((has_input a 2 && not (by_superior y)) ⇒ fails x a 0o22) ∷ [])
-    (finishes x (set_other k y (input a 2) (has_input a 2)) (out a.outputs.items (value_of_other k y x.other)))
-    (λ t. tt, (λ t. tt, tt)) (λ t. set_can j v k y (input a 2) (has_input a 2))
-
-usrvar_can : (j : ℕ) (v : State) (x : View) (a : Ask) → Can j v (usrvar x a)
-unfolding usrvar
-usrvar_can j v x a = go (party x (input a 0))
-  where
-    go : (p : Party) → Can j v (usrvar_of x a p)
-    go Oneself = own_variable_can j v x a (variable_named (input a 1))
-    go Nobody = tt
-    go (Channel (On k write at)) = other_variable_can j v x a k write (variable_named (input a 1))
-    go (Channel Shut) = tt
-    go (Channel TtyIn) = tt
-    go (Channel TtyOut) = tt
-    go (Channel (Reads f at)) = tt
-    go (Channel (Writes f)) = tt
-
-told_can : (j : ℕ) (v : State) (o : Option ℕ) → CanMakeAll (told_superior o) j v
-told_can j v (Some k) = (tt, tt)
-told_can j v None = tt
-
--- OPEN and CLOSE
-opening : (x : View) (v : State) (j n : ℕ) (on : Opened) → Sees x v j → not (nat_lt n 16 && is_shut (channel_at x.own.channels n)) ≡ false → CanOpen on v → CanMake (changes.Open n on) j v
-opening x v j n on s t can =
-    let l : nat_lt n 16 ≡ true = and_first (nat_lt n 16) (is_shut (channel_at x.own.channels n)) t in
-    let shut : channel_at x.own.channels n ≡ Shut = shut_is (channel_at x.own.channels n) (and_second (nat_lt n 16) (is_shut (channel_at x.own.channels n)) t) in
-    (ltb-true n 16 l, has_job x v j s, chan_is x v j n Shut s l shut, can)
-
-opens_can : (j : ℕ) (v : State) (x : View) (a : Ask) → Sees x v j → Can j v (opens x a)
-unfolding opens
-opens_can j v x a s =
-    let n = input a 0 in
-    let control = unwrap_or a.control 0 in
-    first_holds (Can j v) (open_tests x a n (input a 1) control) (finishes x (changes.Open n (opens_on control) ∷ []) [])
-    (λ t. tt, (λ t. tt, (λ t. tt, (λ t. tt, tt))))
-    (λ t. (opening x v j n (opens_on control) s t.0 (opened_can (control == 1) v), tt))
-
-closes_can : (j : ℕ) (v : State) (x : View) (a : Ask) → Can j v (closes x a)
-unfolding closes
-closes_can j v x a = go (channel_at x.own.channels (input a 0)) refl
-  where
-    n : ℕ
-    n = input a 0
-
-    number : (c : Chan) → channel_at x.own.channels n ≡ c → IsOpen c → n < 16
-    number c e h = open_number x.own.channels n c e h
-
-    go : (c : Chan) → channel_at x.own.channels n ≡ c → Can j v (close_on x a c)
-    go Shut e = tt
-    go TtyIn e = (number TtyIn e tt, tt)
-    go TtyOut e = (number TtyOut e tt, tt)
-    go (Reads f at) e = (number (Reads f at) e tt, tt)
-    go (Writes f) e = (number (Writes f) e tt, tt)
-    go (On k write at) e = (number (On k write at) e tt, tt)
-
--- `.IOT`
-iot_in_can : (j : ℕ) (v : State) (x : View) (e i : ℕ) → i < 8 → Can j v (iot_in x e i)
-iot_in_can j v x e i l =
-    first_holds (Can j v) (store_tests x e ++ (input_waits x i ⇒ Waits (Input i) ∷ [])) (iot_ends x (changes.Take i ∷ []) (record { at = e; word = first_typed x i } ∷ []))
-    (λ t. tt, (λ t. tt, (λ t. tt, tt))) (λ t. (l, tt))
-
-iot_out_can : (j : ℕ) (v : State) (x : View) (e i : ℕ) → i < 8 → Sees x v j → Can j v (iot_out x e i)
-iot_out_can j v x e i l s =
-    first_holds (Can j v) (read_tests x e ++ (output_waits x i ⇒ Waits (Output i) ∷ [])) (iot_ends x (changes.Put i (shown_byte (word_of x e)) ∷ []) [])
-    (λ t. tt, (λ t. tt, tt)) (λ t. ((l, has_room x v j i s t.1.0), tt))
-
-iot_can : (j : ℕ) (v : State) (x : View) (a : Ask) → Sees x v j → Can j v (iot x a)
-unfolding iot
-iot_can j v x a s = go (channel_at x.own.channels (input a 0))
-  where
-    e : ℕ
-    e = slice_index_or a.outputs.items 0 0
-
-    go : (c : Chan) → Can j v (iot_on x e c)
-    go TtyIn = iot_in_can j v x e (console_of x) (console_below x v j s)
-    go TtyOut = iot_out_can j v x e (console_of x) (console_below x v j s) s
-    go Shut = tt
-    go (Reads f at) = tt
-    go (Writes f) = tt
-    go (On k write at) = tt
-
--- SIOT
-siot_in_can : (j : ℕ) (v : State) (x : View) (a : Ask) (next k i : ℕ) → i < 8 → Can j v (siot_in x a next k i)
-siot_in_can j v x a next k i l =
-    first_holds (Can j v) (store_tests x (right_of next) ++ (input_waits x i ⇒ Waits (Input i) ∷ []))
-    (goes (changes.Take i ∷ []) (Some (record { place = right_of next; byte = first_typed x i })) (next ∷ (k - 1) ∷ []))
-    (λ t. tt, (λ t. tt, (λ t. tt, tt))) (λ t. (l, tt))
-
-siot_out_can : (j : ℕ) (v : State) (x : View) (a : Ask) (next k i : ℕ) → i < 8 → Sees x v j → Can j v (siot_out x a next k i)
-siot_out_can j v x a next k i l s =
-    first_holds (Can j v) (read_tests x (right_of next) ++ (output_waits x i ⇒ Waits (Output i) ∷ []))
-    (goes (changes.Put i (shown_byte (load_of next (word_of x (right_of next)))) ∷ []) None (next ∷ (k - 1) ∷ []))
-    (λ t. tt, (λ t. tt, tt)) (λ t. ((l, has_room x v j i s t.1.0), tt))
-
-siot_by_can : (j : ℕ) (v : State) (x : View) (a : Ask) (words ended : Bool) (d : Decision) → Can j v d → Can j v (siot_by x a words ended d)
-siot_by_can j v x a words ended d h =
-    first_holds (Can j v) (siot_tests x a (input a 1) (input a 2) words ended) d (λ t. tt, (λ t. tt, (λ t. tt, (λ t. tt, (λ t. tt, (λ t. tt, (λ t. tt, (λ t. tt, tt)))))))) (λ t. h)
-
-siot_can : (j : ℕ) (v : State) (x : View) (a : Ask) → Sees x v j → Can j v (siot x a)
-unfolding siot
-siot_can j v x a s = go (channel_at x.own.channels (input a 0))
-  where
-    p : ℕ
-    p = input a 1
-
-    k : ℕ
-    k = input a 2
-
-    go : (c : Chan) → Can j v (siot_on x a c)
-    go TtyIn = siot_by_can j v x a false false (siot_in x a (next_pointer p) k (console_of x)) (siot_in_can j v x a (next_pointer p) k (console_of x) (console_below x v j s))
-    go TtyOut = siot_by_can j v x a false false (siot_out x a (next_pointer p) k (console_of x)) (siot_out_can j v x a (next_pointer p) k (console_of x) (console_below x v j s) s)
-    go Shut = tt
-    go (Reads f at) = tt
-    go (Writes f) = tt
-    go (On i write at) = tt
-
--- FINISH and LISTEN
-finish_can : (j : ℕ) (v : State) (x : View) (a : Ask) → Can j v (finish x a)
-unfolding finish
-finish_can j v x a = go (channel_at x.own.channels (input a 0))
-  where
-    go : (c : Chan) → Can j v (finish_on x a c)
-    go TtyOut = first_holds (Can j v) (output_left x (console_of x) ⇒ Waits (Drained (console_of x)) ∷ []) (finishes x [] []) (λ t. tt, tt) (λ t. tt)
-    go Shut = tt
-    go TtyIn = tt
-    go (Reads f at) = tt
-    go (Writes f) = tt
-    go (On k write at) = tt
-
-listens_can : (j : ℕ) (v : State) (x : View) (a : Ask) (i : ℕ) → Can j v (listens x a i)
-listens_can j v x a i =
-    first_holds (Can j v) (output_left x i ⇒ Waits (Drained i) ∷ []) (finishes x [] (out a.outputs.items (length (x.consoles i).input))) (λ t. tt, tt) (λ t. tt)
-
-listen_can : (j : ℕ) (v : State) (x : View) (a : Ask) → Can j v (listen x a)
-unfolding listen
-listen_can j v x a = go (channel_at x.own.channels (input a 0))
-  where
-    go : (c : Chan) → Can j v (listen_on x a c)
-    go TtyIn = listens_can j v x a (console_of x)
-    go TtyOut = listens_can j v x a (console_of x)
-    go Shut = tt
-    go (Reads f at) = tt
-    go (Writes f) = tt
-    go (On k write at) = tt
-
--- TTYLND
-lands_can : (j : ℕ) (v : State) (x : View) (a : Ask) (may : Bool) (error k : ℕ) → Sees x v j → Can j v (lands x a may error k)
-lands_can j v x a may error k s =
-    first_holds (Can j v) (not (has_console x) ⇒ fails x a 0o5 ∷ not may ⇒ fails x a error ∷ []) (finishes x (changes.Hold (console_of x) k ∷ []) [])
-    (λ t. tt, (λ t. tt, tt)) (λ t. (console_below x v j s, tt))
-
-ttylnd_can : (j : ℕ) (v : State) (x : View) (a : Ask) → Sees x v j → Can j v (ttylnd x a)
-unfolding ttylnd
-ttylnd_can j v x a s = go (party x (input a 0))
-  where
-    go : (p : Party) → Can j v (ttylnd_of x a p)
-    go Oneself = lands_can j v x a (can_take x (x.holders (console_of x))) 0o13 x.slot s
-    go Nobody = tt
-    go (Channel (On k write at)) = lands_can j v x a (is_holder x (x.holders (console_of x))) 0o5 k s
-    go (Channel Shut) = tt
-    go (Channel TtyIn) = tt
-    go (Channel TtyOut) = tt
-    go (Channel (Reads f at)) = tt
-    go (Channel (Writes f)) = tt
-
--- the calls on files: where a call is one of them, no close is half made
-disk_can : (out : Bool) (v : State) (x : View) (d n m : ℕ) → x.files ≡ v.raw.files → v.mark ≡ None → (not out && not (has_file (names_of d n m) x.files)) ≡ false
-    → CanOpen (opens_as out d n m) v
-disk_can true v x d n m e u t = u
-disk_can false v x d n m e u t = (ap (has_file (names_of d n m)) (sym e) ∙ not_false (has_file (names_of d n m) x.files) t, u)
-
-opens_disk_can : (j : ℕ) (v : State) (x : View) (a : Ask) → Sees x v j → v.mark ≡ None → Can j v (opens_disk x a)
-unfolding opens_disk
-opens_disk_can j v x a s u =
-    let n = input a 0 in
-    let control = unwrap_or a.control 0 in
-    let on = opens_as (is_output control) (input a 4) (input a 2) (input a 3) in
-    first_holds (Can j v) (disk_tests x a n control) (finishes x (changes.Open n on ∷ []) []) (λ t. tt, (λ t. tt, (λ t. tt, tt)))
-    (λ t. (opening x v j n on s t.0 (disk_can (is_output control) v x (input a 4) (input a 2) (input a 3) s.files u t.1.1.0), tt))
-
-unread_is : (x : View) (v : State) (j : ℕ) (names : Names) → Sees x v j → is_read names (channels_in x) ≡ false → Unread v names
-unread_is x v j names s h = ap (is_read names) (sym s.channels) ∙ h
-
-rooms : (b c : Bool) → (not b && not c) ≡ false → (b || c) ≡ true
-rooms true c h = refl
-rooms false c h = not_false c h
-
-closes_draft_can : (j : ℕ) (v : State) (x : View) (a : Ask) (f : File) → Sees x v j → v.mark ≡ None → channel_at x.own.channels (input a 0) ≡ Writes f → Can j v (closes_draft x a f)
-unfolding closes_draft
-closes_draft_can j v x a f s u e =
-    let n = input a 0 in
-    let l : nat_lt n 16 ≡ true = open_true x.own.channels n (Writes f) e tt in
-    let on : chan_in v j n ≡ Writes f = chan_is x v j n (Writes f) s l e in
-    first_holds (Can j v)
-    (is_read f.names (channels_in x) ⇒ fails x a 0o11 ∷ (not (has_file f.names x.files) && not (nat_lt (length x.files) most_files)) ⇒ fails x a 0o7 ∷ [])
-    (finishes x (changes.Close n ∷ []) []) (λ t. tt, (λ t. tt, tt))
-    (λ t.
-    let fits : (has_file f.names v.raw.files || nat_lt (length v.raw.files) most_files) ≡ true =
-    ap (λ (fs : List File). has_file f.names fs || nat_lt (length fs) most_files) (sym s.files) ∙ rooms (has_file f.names x.files) (nat_lt (length x.files) most_files) t.1.0 in
-    ((ltb-true n 16 l, has_job x v j s, u, subst IsDraft (sym on) tt, subst (Closes v) (sym on) (unread_is x v j f.names s t.0, fits)), tt))
-
-close_by_can : (j : ℕ) (v : State) (x : View) (a : Ask) (c : Chan) → Sees x v j → (is_disk c ≡ true → v.mark ≡ None) → channel_at x.own.channels (input a 0) ≡ c → Can j v (close_by x a c)
-close_by_can j v x a (Writes f) s u e = closes_draft_can j v x a f s (u refl) e
-close_by_can j v x a Shut s u e = closes_can j v x a
-close_by_can j v x a TtyIn s u e = closes_can j v x a
-close_by_can j v x a TtyOut s u e = closes_can j v x a
-close_by_can j v x a (Reads f at) s u e = closes_can j v x a
-close_by_can j v x a (On k write at) s u e = closes_can j v x a
-
-roomy : (x : View) (v : State) (j n : ℕ) (f : File) → Sees x v j → v.mark ≡ None → channel_at x.own.channels n ≡ Writes f → is_full x.files (channels_in x) f.words ≡ false
-    → (w : ℕ) → CanMake (changes.Append n w) j v
-roomy x v j n f s u e full w =
-    let l : nat_lt n 16 ≡ true = open_true x.own.channels n (Writes f) e tt in
-    let on : chan_in v j n ≡ Writes f = chan_is x v j n (Writes f) s l e in
-    let room : is_full v.raw.files (channels_of v.raw) f.words ≡ false = sym (λ i. is_full (s.files i) (s.channels i) f.words) ∙ full in
-    (ltb-true n 16 l, u, subst (HasRoom v) (sym on) room)
-
-iot_read_can : (j : ℕ) (v : State) (x : View) (e n at : ℕ) (o : Option ℕ) → n < 16 → Can j v (iot_read x e n at o)
-iot_read_can j v x e n at (Some w) l = (l, tt)
-iot_read_can j v x e n at None l = tt
-
-iot_by_can : (j : ℕ) (v : State) (x : View) (a : Ask) (e : ℕ) (c : Chan) → Sees x v j → (is_disk c ≡ true → v.mark ≡ None) → channel_at x.own.channels (input a 0) ≡ c
-    → Can j v (iot_by x a e (input a 0) c)
-iot_by_can j v x a e (Reads f at) s u is =
-    let n = input a 0 in
-    first_holds (Can j v) (store_tests x e) (iot_read x e n at (slice_get (words_of x f) at)) (λ t. tt, (λ t. tt, tt))
-    (λ t. iot_read_can j v x e n at (slice_get (words_of x f) at) (open_number x.own.channels n (Reads f at) is tt))
-iot_by_can j v x a e (Writes f) s u is =
-    let n = input a 0 in
-    first_holds (Can j v) (read_tests x e ++ (is_full x.files (channels_in x) f.words ⇒ ioc x ∷ [])) (iot_ends x (changes.Append n (word_of x e) ∷ []) []) (λ t. tt, (λ t. tt, tt))
-    (λ t. (roomy x v j n f s (u refl) is t.1.0 (word_of x e), tt))
-iot_by_can j v x a e Shut s u is = iot_can j v x a s
-iot_by_can j v x a e TtyIn s u is = iot_can j v x a s
-iot_by_can j v x a e TtyOut s u is = iot_can j v x a s
-iot_by_can j v x a e (On k write at) s u is = iot_can j v x a s
-
-siot_read_can : (j : ℕ) (v : State) (x : View) (next k n at w : ℕ) → n < 16 → Can j v (siot_read x next k n at w)
-siot_read_can j v x next k n at w l =
-    first_holds (Can j v) (store_tests x (right_of next)) (goes (changes.Move n (at + 1) ∷ []) (Some (record { place = right_of next; byte = w })) (next ∷ (k - 1) ∷ []))
-    (λ t. tt, (λ t. tt, tt)) (λ t. (l, tt))
-
-siot_write_can : (j : ℕ) (v : State) (x : View) (a : Ask) (next k n : ℕ) (f : File) → Sees x v j → v.mark ≡ None → channel_at x.own.channels n ≡ Writes f
-    → Can j v (siot_write x a next k n f)
-siot_write_can j v x a next k n f s u is =
-    first_holds (Can j v) (read_tests x (right_of next) ++ (is_full x.files (channels_in x) f.words ⇒ fails x a 0o10 ∷ []))
-    (goes (changes.Append n (load_of next (word_of x (right_of next))) ∷ []) None (next ∷ (k - 1) ∷ []))
-    (λ t. tt, (λ t. tt, tt)) (λ t. (roomy x v j n f s u is t.1.0 (load_of next (word_of x (right_of next))), tt))
-
-siot_to_can : (j : ℕ) (v : State) (x : View) (a : Ask) (c : Chan) → Sees x v j → (is_disk c ≡ true → v.mark ≡ None) → channel_at x.own.channels (input a 0) ≡ c
-    → Can j v (siot_to x a (input a 0) c)
-siot_to_can j v x a (Reads f at) s u is =
-    let n = input a 0 in
-    let o = slice_get (words_of x f) at in
-    siot_by_can j v x a true (not (is_some o)) (siot_read x (next_pointer (input a 1)) (input a 2) n at (unwrap_or o 0))
-    (siot_read_can j v x (next_pointer (input a 1)) (input a 2) n at (unwrap_or o 0) (open_number x.own.channels n (Reads f at) is tt))
-siot_to_can j v x a (Writes f) s u is =
-    let n = input a 0 in
-    siot_by_can j v x a true false (siot_write x a (next_pointer (input a 1)) (input a 2) n f)
-    (siot_write_can j v x a (next_pointer (input a 1)) (input a 2) n f s (u refl) is)
-siot_to_can j v x a Shut s u is = siot_can j v x a s
-siot_to_can j v x a TtyIn s u is = siot_can j v x a s
-siot_to_can j v x a TtyOut s u is = siot_can j v x a s
-siot_to_can j v x a (On k write at) s u is = siot_can j v x a s
-
-access_can : (j : ℕ) (v : State) (x : View) (a : Ask) → Can j v (access x a)
-unfolding access
-access_can j v x a = go (channel_at x.own.channels (input a 0)) refl
-  where
-    n : ℕ
-    n = input a 0
-
-    go : (c : Chan) → channel_at x.own.channels n ≡ c → Can j v (access_on x a c)
-    go (Reads f at) e =
-        first_holds (Can j v) (nat_lt (length (words_of x f)) (input a 1) ⇒ fails x a 0o22 ∷ []) (finishes x (changes.Move n (input a 1) ∷ []) []) (λ t. tt, tt)
-        (λ t. (open_number x.own.channels n (Reads f at) e tt, tt))
-    go Shut e = tt
-    go TtyIn e = tt
-    go TtyOut e = tt
-    go (Writes f) e = tt
-    go (On k write at) e = tt
-
-fillen_can : (j : ℕ) (v : State) (x : View) (a : Ask) → Can j v (fillen x a)
-unfolding fillen
-fillen_can j v x a = go (channel_at x.own.channels (input a 0))
-  where
-    go : (c : Chan) → Can j v (fillen_on x a c)
-    go (Reads f at) = tt
-    go (Writes f) = tt
-    go Shut = tt
-    go TtyIn = tt
-    go TtyOut = tt
-    go (On k write at) = tt
-
-delete_can : (j : ℕ) (v : State) (x : View) (a : Ask) → Sees x v j → v.mark ≡ None → Can j v (delete x a)
-unfolding delete
-delete_can j v x a s u =
-    first_holds (Can j v) (file_tests x a (names_from a 1)) (finishes x (changes.Delete (input a 3) (input a 1) (input a 2) ∷ []) []) (λ t. tt, (λ t. tt, (λ t. tt, tt)))
-    (λ t. ((u, unread_is x v j (names_from a 1) s t.1.1.0), tt))
-
-rename_can : (j : ℕ) (v : State) (x : View) (a : Ask) → Sees x v j → v.mark ≡ None → Can j v (rename x a)
-unfolding rename
-rename_can j v x a s u =
-    let fresh = names_of (input a 3) (input a 4) (input a 5) in
-    first_holds (Can j v) (file_tests x a (names_from a 1) ++ (has_file fresh x.files ⇒ fails x a 0o23 ∷ []))
-    (finishes x (changes.Rename (input a 3) (input a 1) (input a 2) (input a 4) (input a 5) ∷ []) []) (λ t. tt, (λ t. tt, (λ t. tt, (λ t. tt, tt))))
-    (λ t. ((u, unread_is x v j (names_from a 1) s t.1.1.0, ap (has_file fresh) (sym s.files) ∙ t.1.1.1.0), tt))
-
-open_by_can : (j : ℕ) (v : State) (x : View) (a : Ask) (disk : Bool) → Sees x v j → (disk ≡ true → v.mark ≡ None) → Can j v (open_by x a disk)
-open_by_can j v x a true s u = opens_disk_can j v x a s (u refl)
-open_by_can j v x a false s u = opens_can j v x a s
-
--- the calls by their names
-named_can : (j : ℕ) (v : State) (x : View) (a : Ask) (o : Option CallName) → Sees x v j → (helps_by x.own a o ≡ true → v.mark ≡ None) → Can j v (decided_by x a o)
-unfolding open_call close_call iot_call siot_call
-named_can j v x a (Some Hang) s u = tt
-named_can j v x a (Some Sleep) s u = sleep_can j v x a
-named_can j v x a (Some Dismis) s u = dismiss_can j v x a
-named_can j v x a (Some Usrvar) s u = usrvar_can j v x a
-named_can j v x a (Some Logout) s u = told_can j (effect_on (changes.Remove j) j v) x.own.superior
-named_can j v x a (Some Open) s u = open_by_can j v x a (input a 1 == disk_device) s u
-named_can j v x a (Some Close) s u = close_by_can j v x a (channel_at x.own.channels (input a 0)) s u refl
-named_can j v x a (Some Iot) s u = iot_by_can j v x a (slice_index_or a.outputs.items 0 0) (channel_at x.own.channels (input a 0)) s u refl
-named_can j v x a (Some Siot) s u = siot_to_can j v x a (channel_at x.own.channels (input a 0)) s u refl
-named_can j v x a (Some Access) s u = access_can j v x a
-named_can j v x a (Some Fillen) s u = fillen_can j v x a
-named_can j v x a (Some Delete) s u = delete_can j v x a s (u refl)
-named_can j v x a (Some Rename) s u = rename_can j v x a s (u refl)
-named_can j v x a (Some Finish) s u = finish_can j v x a
-named_can j v x a (Some Listen) s u = listen_can j v x a
-named_can j v x a (Some Ttylnd) s u = ttylnd_can j v x a s
-named_can j v x a _ s u = tt
-
-decided_can_by : (j : ℕ) (v : State) (x : View) (a : Ask) (z : Bool) → (a.fail == 0) ≡ z → Sees x v j → (helps x.own a ≡ true → v.mark ≡ None) → Can j v (decided x a)
+use Rattle.its_pclsr.proofs.RemovalLaws.{no_page}
+use Rattle.its_pclsr.proofs.CanLaws.{DecisionCan, Sees, Can, file_can}
+use Rattle.its_pclsr.proofs.UsrCanLaws.{Aim, Finds, usr_can}
+use Rattle.its_pclsr.proofs.CoreCanLaws.{FindsPages, core_can}
+
+-- every call, in a state in which it is decided on raw jobs
+decided_can_by : (j : ℕ) (v : State) (x : View) (a : Ask) (z : Bool) → (a.fail == 0) ≡ z → Sees x v j → (helps x.own a ≡ true → v.mark ≡ None)
+    → (a.fail ≡ 0 → Finds x v j a (call_named a.name)) → (a.fail ≡ 0 → call_named a.name ≡ Some Corblk → FindsPages x v j a) → Can j v (decided x a)
 unfolding decided helps
-decided_can_by j v x a true z s u =
-    let e : helps x.own a ≡ helps_by x.own a (call_named a.name) = rw z refl in
-    rw z (named_can j v x a (call_named a.name) s (λ h. u (e ∙ h)))
-decided_can_by j v x a false z s u = rw z tt
+decided_can_by j v x a true z s u f g =
+    let o = call_named a.name in
+    let none : a.fail ≡ 0 = eqb-true a.fail 0 z in
+    let e : helps x.own a ≡ helps_by x.own a o = rw z refl in
+    rw z (core_can j v x a o (g none) (usr_can j v x a o s (f none) (file_can j v x a o s (λ h. u (e ∙ h)))))
+decided_can_by j v x a false z s u f g = rw z tt
 
--- the channels that a call sees are those of the machine
-channels_seen_by : (o : Option Whole) → channels_by (option_map outline o) ≡ channel_in o
-channels_seen_by (Some q) = refl
-channels_seen_by None = refl
+-- the state in which the call of slot j's job is carried out: it is sound, the jobs that the call reaches are in user mode,
+-- and all quarters of the page that it reserves are clear
+pub record Prepared (v : State) (j : ℕ) (q : Whole) (a : Ask) : Type 0 where
+  pub job : v.raw.jobs j ≡ Some q
+  pub forest : Forest v.raw
+  pub sound : Sound v
+  pub unmarked : helps q a ≡ true → v.mark ≡ None
+  pub free : (k : ℕ) → among k (reach v.raw j q a) ≡ true → v.frames k ≡ None
+  pub full : reserves a ≡ true → v.reserved j ≡ Some quarters
+
+-- an inferior that it reaches is there
+inferior_there : (v : State) (j n s : ℕ) (q : Whole) (a : Ask) (at : ℕ) (write : Bool) → Prepared v j q a → channel_at q.channels n ≡ On s write at
+    → (superiors v.raw s ≡ Some j) × HasJob v s × (s < slots)
+inferior_there v j n s q a at write c is =
+    let above = on_inferior v.raw j q n s at write c.forest c.job is in
+    let there = inferior_stands v.raw s j above in
+    (above, there, job_few v.raw c.forest s there)
+
+aimed : (v : State) (j i s : ℕ) (q : Whole) (a : Ask) (n : CallName) (at : ℕ) (write : Bool) → Prepared v j q a → a.fail ≡ 0 → call_named a.name ≡ Some n → reaching n ≡ Some i
+    → channel_at q.channels (input a i) ≡ On s write at → Aim (view v.raw j q (target q a)) v s
+unfolding view
+aimed v j i s q a n at write c z e names is =
+    let h = inferior_there v j (input a i) s q a at write c is in
+    record { slot = h.2; job = h.1; other = ap (job_at v.raw) (target_on q a n i s at write z e names is) }
+
+-- UCLOSE removes an inferior with all below it, which are in user mode; the caller is not below its inferior
+module _ (v : State) (j s at : ℕ) (q : Whole) (a : Ask) (write : Bool) (c : Prepared v j q a) (z : a.fail ≡ 0) (e : call_named a.name ≡ Some Uclose)
+    (is : channel_at q.channels (input a 0) ≡ On s write at) where
+  removal_reach : reach v.raw j q a ≡ slots_below (superiors v.raw) s ++ s ∷ []
+  removal_reach = reach_named v.raw j q a Uclose z e ∙ ap (with_below v.raw) (target_on q a Uclose 0 s at write z e refl is)
+
+  below_free : (k : ℕ) → is_below (superiors v.raw) s k ≡ true → v.frames k ≡ None
+  below_free k h = c.free k (ap (among k) removal_reach ∙ among_left k (slots_below (superiors v.raw) s) (s ∷ []) (among_below v.raw s k c.forest.few h))
+
+  root_free : v.frames s ≡ None
+  root_free = c.free s (ap (among s) removal_reach ∙ among_right s (slots_below (superiors v.raw) s) (s ∷ []) (among_first s []))
+
+  tree_can : CanMake (changes.Remove s) j v
+  tree_can =
+      let h = inferior_there v j (input a 0) s q a at write c is in
+      (h.2, h.1, forest_below v.raw s j c.forest h.0, record { sound = c.sound; unwound = below_free; page = no_page v s c.sound root_free })
+
+finds : (v : State) (j : ℕ) (q : Whole) (a : Ask) → Prepared v j q a → a.fail ≡ 0 → Finds (view v.raw j q (target q a)) v j a (call_named a.name)
+unfolding view aimed
+finds v j q a c z = record {
+  inferior = λ n e first s at write is. aimed v j 0 s q a n at write c z e first is;
+  tree = λ e s at write is. tree_can v j s at q a write c z e is;
+}
+
+finds_pages : (v : State) (j : ℕ) (q : Whole) (a : Ask) → Prepared v j q a → a.fail ≡ 0 → call_named a.name ≡ Some Corblk → FindsPages (view v.raw j q (target q a)) v j a
+unfolding view aimed
+finds_pages v j q a c z e =
+    let there : HasJob v j = ap is_some c.job in
+    record {
+      own = record { slot = job_few v.raw c.forest j there; job = there; core = ap core_of c.job };
+      inferior = λ s at write is.
+          let aim = aimed v j 1 s q a Corblk at write c z e refl is in
+          record { slot = aim.slot; job = aim.job; core = ap core_of (sym aim.other) };
+      pages = refl;
+      clear = λ one. c.full (makes_reserves a e z one);
+    }
 
 -- it is decided on the machine of the state in which it is carried out
-pub decision_can : (v : State) (j : ℕ) (q : Whole) (a : Ask) → v.raw.jobs j ≡ Some q → IfSome q.job.console (λ c. c < 8) → (helps q a ≡ true → v.mark ≡ None)
-    → DecisionCan (decision v.raw j q a) j v
-unfolding decision view
-decision_can v j q a is h u =
-    decided_can_by j v (view v.raw j q (target q a)) a (a.fail == 0) refl
-    (record { consoles = refl; own = h; job = is; files = refl; channels = λ t. λ k. channels_seen_by (v.raw.jobs k) t }) u
+pub decision_can : (v : State) (j : ℕ) (q : Whole) (a : Ask) → Prepared v j q a → IfSome q.job.console (λ c. c < 8) → DecisionCan (decision v.raw j q a) j v
+unfolding decision view finds finds_pages
+decision_can v j q a c h =
+    decided_can_by j v (view v.raw j q (target q a)) a (a.fail == 0) refl (record { consoles = refl; own = h; job = c.job; files = refl; outlines = refl }) c.unmarked (finds v j q a c)
+    (finds_pages v j q a c)
 
--- a call that can be found not ready reaches no job
+-- a call that has no argument for a channel on a job reaches into none
 target_none : (q : Whole) (a : Ask) → argument_of (call_named a.name) ≡ None → target q a ≡ None
 unfolding target
 target_none q a e = ap (λ (o : Option ℕ). if a.fail == 0 then target_by q a o else None) e ∙ go (a.fail == 0)
@@ -538,18 +134,19 @@ target_none q a e = ap (λ (o : Option ℕ). if a.fail == 0 then target_by q a o
     go true = refl
     go false = refl
 
-waits_by : (m : Machine) (j : ℕ) (q : Whole) (a : Ask) (o : Option CallName) → call_named a.name ≡ o → IsWaitable o → reach_by m j q a o ≡ []
-waits_by m j q a (Some Usrvar) e h = absurd h
-waits_by m j q a (Some Logout) e h = absurd h
-waits_by m j q a _ e h = ap listed (target_none q a (ap argument_of e))
+-- a call that can be found not ready and that reaches into no job disturbs none
+waits_by : (m : Machine) (j : ℕ) (q : Whole) (a : Ask) (o : Option CallName) → IsWaitable o → target q a ≡ None → reach_by m j q a o ≡ []
+waits_by m j q a (Some Logout) h e = absurd h
+waits_by m j q a (Some Uclose) h e = absurd h
+waits_by m j q a _ h e = ap listed e
 
 no_slots : (b : Bool) (ks : List ℕ) → ks ≡ [] → (if b then ks else []) ≡ []
 no_slots true ks e = e
 no_slots false ks e = refl
 
-pub waits_reach : (m : Machine) (j : ℕ) (q : Whole) (a : Ask) → IsWaitable (call_named a.name) → reach m j q a ≡ []
+pub waits_reach : (m : Machine) (j : ℕ) (q : Whole) (a : Ask) → IsWaitable (call_named a.name) → target q a ≡ None → reach m j q a ≡ []
 unfolding reach
-waits_reach m j q a h = no_slots (a.fail == 0) (reach_by m j q a (call_named a.name)) (waits_by m j q a (call_named a.name) refl h)
+waits_reach m j q a h e = no_slots (a.fail == 0) (reach_by m j q a (call_named a.name)) (waits_by m j q a (call_named a.name) h e)
 
 -- the job into which a call reaches is among those that its commit disturbs
 listed_in : (o : Option ℕ) (s : ℕ) → o ≡ Some s → among s (listed o) ≡ true
@@ -558,6 +155,7 @@ listed_in None s e = cc
 
 target_by_name : (m : Machine) (j : ℕ) (q : Whole) (a : Ask) (o : Option CallName) (s : ℕ) → call_named a.name ≡ o → target q a ≡ Some s → among s (reach_by m j q a o) ≡ true
 target_by_name m j q a (Some Logout) s e t = let none : target q a ≡ None = target_none q a (ap argument_of e) in cc
+target_by_name m j q a (Some Uclose) s e t = ap (λ (o : Option ℕ). among s (with_below m o)) t ∙ among_right s (slots_below (superiors m) s) (s ∷ []) (among_first s [])
 target_by_name m j q a _ s e t = listed_in (target q a) s t
 
 target_fails : (q : Whole) (a : Ask) → a.fail ≢ 0 → target q a ≡ None
@@ -590,10 +188,6 @@ or_true false = refl
 below_gone : (sup : ℕ → Option ℕ) (j k : ℕ) → is_below sup j k ≡ true → is_gone sup j k ≡ true
 below_gone sup j k h = ap (λ (b : Bool). (k == j) || b) h ∙ or_true (k == j)
 
-kept_steps : (o : Option ℕ) → kept o ≡ page_steps o
-kept_steps (Some n) = refl
-kept_steps None = refl
-
 -- the parts of a close that a slot owes behind some changes are at most those of these changes, where it owed none before
 no_parts : (o : Option Frame) (h : Holding) → standing_of o ≡ Some h → parts_in_frame o ≡ []
 no_parts (Some (frames.Holding f)) h e = refl
@@ -611,23 +205,22 @@ parts_after cs j v h sound stands quiet =
     let m = marking_all cs j v 0 quiet (marking_begins j v.mark v.frames sound.mark (no_parts (v.frames j) h stands)) in
     let k = m.few in omega arith
 
-pub ready_by : (v : State) (j : ℕ) (own : Whole) (h : Holding) (d : Decision) → Sound v → standing_of (v.frames j) ≡ Some h → v.reserved j ≡ h.page → length (debts h.ask h.owes) ≡ h.owes
+pub ready_by : (v : State) (j : ℕ) (own : Whole) (h : Holding) (d : Decision) → Sound v → standing_of (v.frames j) ≡ Some h → length (debts h.ask h.owes) ≡ h.owes
     → DecisionCan d j v → Duty v j own h.site h.ask h.owes d → Ready v j h d
-ready_by v j own h (Waits r) sound stands page read can duty = tt
-ready_by v j own h (Goes cs b vs) sound stands page read can duty = can
-ready_by v j own h (Ends cs ss e) sound stands page read can duty = (
+ready_by v j own h (Waits r) sound stands read can duty = tt
+ready_by v j own h (Goes cs b vs) sound stands read can duty = can
+ready_by v j own h (Ends cs ss e) sound stands read can duty = (
   can,
   record {
     read = read;
-    page = ap (λ (r : ℕ → Option ℕ). is_some (r j)) (all_mild cs.items j v can).reserved ∙ ap is_some page;
     few =
         let few = duty.few in
-        let steps : kept (v.reserved j) ≡ page_steps h.page = ap kept page ∙ kept_steps h.page in
+        let page = (all_mild cs.items j v can).page in
         let parts : length (owed_parts (effects_on cs.items j v).mark j) ≤ parts_in cs.items = parts_after cs.items j v h sound stands duty.quiet in
         omega arith;
   },
 )
-ready_by v j own h (Gone cs) sound stands page read can duty = (
+ready_by v j own h (Gone cs) sound stands read can duty = (
   can,
   record {
     sound = sound;

@@ -503,7 +503,7 @@ no_page_by None f r e s = s.1
 no_page_by (Some q) None r e s = s
 no_page_by (Some q) (Some f) r e s = cc
 
-no_page : (w : State) (k : ℕ) → Sound w → w.frames k ≡ None → w.reserved k ≡ None
+pub no_page : (w : State) (k : ℕ) → Sound w → w.frames k ≡ None → w.reserved k ≡ None
 no_page w k s e = no_page_by (w.raw.jobs k) (w.frames k) (w.reserved k) e (s.each k).by
 
 below_by : (a b : Bool) → (a || b) ≡ true → a ≡ false → b ≡ true

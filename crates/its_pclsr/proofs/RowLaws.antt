@@ -29,7 +29,7 @@ use Rattle.its_plain.specs.Change.{poke}
 use Rattle.its_plain.specs.CallStep.{deposited, with_held}
 use Rattle.its_plain.specs.Own.{with_stores, left_with, leave}
 use Rattle.its_word.specs.Stores.{place, stored}
-use Rattle.its_stepped.specs.State.{Part, Mark, State, held_at, mine, turn, same, holding, ending}
+use Rattle.its_stepped.specs.State.{Part, Mark, State, held_at, mine, turn, same, asked, holding, ending}
 use Rattle.its_stepped.specs.Unwind.{first_debt, paid, due, with_part, settled, given_back}
 use Rattle.its_stepped.specs.Sound.{Owes, backs, EndingPays, MovingPays, file_parts}
 use Rattle.its_world.specs.World.{state_of, frame_at, Becomes, CoreBecomes, FrameBecomes, PageBecomes, JobBecomes}
@@ -45,11 +45,12 @@ paid_becomes old mid new s c f a b = then_becomes old mid new s c c (job_at old.
     (subst (λ x. Becomes mid new s (core_at mid.core s) x f (clear_at old.core s)) a.job.here
     (subst (λ x. Becomes mid new s (core_at mid.core s) (job_at mid.jobs s) f x) a.reserved.here b)))
 
-backed_becomes : (old mid new : World) (s : ℕ) (f : Option Frame) → PageBecomes old mid s None → FrameBecomes mid new s f
-    → Becomes old new s (core_at old.core s) (job_at old.jobs s) f None
-backed_becomes old mid new s f a b = then_becomes old mid new s (core_at old.core s) (core_at old.core s) (job_at old.jobs s) (job_at old.jobs s) (frame_at old.frames.items s) f None None a
-    (subst (λ x. Becomes mid new s x (job_at old.jobs s) f None) a.core.here
-    (subst (λ x. Becomes mid new s (core_at mid.core s) x f None) a.job.here
+-- a reserved page, and then a frame
+pub paged_becomes : (old mid new : World) (s : ℕ) (r : Option ℕ) (f : Option Frame) → PageBecomes old mid s r → FrameBecomes mid new s f
+    → Becomes old new s (core_at old.core s) (job_at old.jobs s) f r
+paged_becomes old mid new s r f a b = then_becomes old mid new s (core_at old.core s) (core_at old.core s) (job_at old.jobs s) (job_at old.jobs s) (frame_at old.frames.items s) f r r a
+    (subst (λ x. Becomes mid new s x (job_at old.jobs s) f r) a.core.here
+    (subst (λ x. Becomes mid new s (core_at mid.core s) x f r) a.job.here
     (subst (λ x. Becomes mid new s (core_at mid.core s) (job_at mid.jobs s) f x) a.reserved.here b)))
 
 -- the first owed argument is stored
@@ -87,10 +88,10 @@ pub paid_none : (w : World) (s n : ℕ) (a : Ask) (f : ℕ → Frame) → is_som
 paid_none w s zero a f j none e = stored_turn w w s [] None j (unmoved w s none) ∙ ap (λ ss. turn (state_of w) s (with_stores ss) None) (sym (nothing_first a))
 paid_none w s (suc n) a f j none e = absurd (omega arith)
 
--- a call that holds a page gives it back; one that holds none pays
+-- a call that has reserved a page gives it back; one that has reserved none pays
 pub holding_backed : (old mid new : World) (s n : ℕ) (t : Site) (a : Ask) (page : Option ℕ) → is_some (job_at old.jobs s) ≡ true → is_some page ≡ true
-    → PageBecomes old mid s None → FrameBecomes mid new s (Some (holding t a None n)) → state_of new ≡ given_back (state_of old) s t a page n
-holding_backed old mid new s n t a (Some p) j some back frame = kept_state old new s (Some (holding t a None n)) None j (backed_becomes old mid new s _ back frame)
+    → PageBecomes old mid s None → FrameBecomes mid new s (Some (asked t a)) → state_of new ≡ given_back (state_of old) s t a page n
+holding_backed old mid new s n t a (Some p) j some back frame = kept_state old new s (Some (asked t a)) None j (paged_becomes old mid new s None _ back frame)
 holding_backed old mid new s n t a None j some back frame = cc
 
 holding_bare : (w : State) (s n : ℕ) (t : Site) (a : Ask) (page : Option ℕ) → is_some page ≡ false → paid w s a n (holding t a None) ≡ given_back w s t a page n
@@ -124,7 +125,7 @@ settled_store old mid new s t a at w os j core frame = stored_turn old new s _ (
 
 pub settled_back : (old mid new : World) (s : ℕ) (t : Site) (a : Ask) (os : List Owed) → is_some (job_at old.jobs s) ≡ true
     → PageBecomes old mid s None → FrameBecomes mid new s (Some (ending t a os)) → state_of new ≡ settled (state_of old) s t a (GiveBack ∷ os)
-settled_back old mid new s t a os j back frame = kept_state old new s _ None j (backed_becomes old mid new s _ back frame)
+settled_back old mid new s t a os j back frame = kept_state old new s _ None j (paged_becomes old mid new s None _ back frame)
 
 left_by_some : (old new : World) (s : ℕ) (e : Exit) (o : Option Job) → job_at old.jobs s ≡ o → is_some o ≡ true → frame_at old.frames.items s ≡ None
     → IfSome o (λ j. JobBecomes old new s (left_with e j)) → state_of new ≡ turn (state_of old) s (leave e) None

@@ -24,7 +24,7 @@ use Rattle.its_plain.specs.Change.{poke}
 use Rattle.its_plain.specs.CallStep.{with_held}
 use Rattle.its_plain.specs.Own.{with_stores, leave}
 use Rattle.its_plain.specs.Arguments.{debts}
-use Rattle.its_stepped.specs.State.{State, Mark, mine, plain, seen, held_at, turn, same, reserving, holding, waiting, ending}
+use Rattle.its_stepped.specs.State.{State, Mark, mine, plain, seen, held_at, turn, same, reserving, asked, holding, waiting, ending}
 use Rattle.its_plain.specs.Machine.{Whole, Machine}
 use Rattle.its_stepped.specs.Unwind.{first_debt, less, paid, due, with_part, settled, given_back, unwind_by, unwind_one, left, unwind_times, unwound}
 use Rattle.its_stepped.specs.OneChange.{OneChange}
@@ -38,7 +38,7 @@ use Rattle.its_world.proofs.StateLaws.{kept_turn, retaken}
 
 -- the rows look at the raw job and at the frame alone: it is no matter that the frame was taken out
 given_taken : (w : State) (s : ℕ) (t : Site) (a : Ask) (page : Option ℕ) (n : ℕ) → given_back (turn w s same None) s t a page n ≡ given_back w s t a page n
-given_taken w s t a (Some p) n = ap (λ (x : State). reserving x s None) (retaken w s None (Some (holding t a None n)) same)
+given_taken w s t a (Some p) n = ap (λ (x : State). reserving x s None) (retaken w s None (Some (asked t a)) same)
 given_taken w s t a None n = retaken w s None (less n (holding t a None)) (with_stores (first_debt (debts a n)))
 
 settled_taken : (w : State) (s : ℕ) (t : Site) (a : Ask) (os : List Owed) → settled (turn w s same None) s t a os ≡ settled w s t a os

@@ -1,6 +1,9 @@
 -- The changes that can be made.
-use Rattle.std.specs.Prelude.{◌≡◌, ◌<◌, ℕ, Bool, true, false, None, List, [], ◌∷◌, length}
+use Rattle.std.specs.Prelude.{◌≡◌, ◌<◌, ℕ, ◌^◌, Bool, true, false, Some, None, is_some, List, [], ◌∷◌, length}
 use Rattle.its_word.specs.Console.{most_waiting}
+use Rattle.its_word.specs.Core.{can_store, page_of}
+use Rattle.its_word.specs.Limits.{slots, most_pages}
+use Rattle.its_word.specs.Tree.{least_free, is_below}
 use Rattle.its_word.specs.declared.calls.Owed.{Owed}
 use Rattle.its_word.specs.declared.calls.Owed.TheVariants.{GiveBack}
 use Rattle.its_frame.specs.declared.change.Change.{Change}
@@ -8,23 +11,53 @@ use Rattle.its_frame.specs.declared.change.Change.TheVariants as changes
 use Rattle.its_frame.specs.declared.change.Opened.{Opened}
 use Rattle.its_frame.specs.declared.change.Opened.TheVariants as opened
 use Rattle.its_plain.specs.CallFile.{has_file}
-use Rattle.its_plain.specs.Machine.{Shut}
+use Rattle.its_plain.specs.Change.{superiors, is_gone}
+use Rattle.its_plain.specs.Machine.{Shut, core_of, mapped}
 use Rattle.its_plain.specs.Own.{names_of}
 use Rattle.its_stepped.specs.Commit.{effect_on}
+use Rattle.its_stepped.specs.Sound.{Sound}
 use Rattle.its_stepped.specs.State.{State}
 use Rattle.its_world.specs.Storage.{HasJob, chan_in, IsDraft, Unread, HasRoom, Closes}
 
--- a closed channel of slot j's job can be opened: on a console, or where no close is half made on a file that there is,
--- or on a new draft
+-- a closed channel of slot j's job can be opened: on a console or on another job, or where no close is half made on a file
+-- that there is, or on a new draft
 abbrev pub CanOpen : Opened → State → Type 0
 CanOpen opened.TtyIn w = Unit {0}
 CanOpen opened.TtyOut w = Unit {0}
 CanOpen (opened.Reading d x y) w = (has_file (names_of d x y) w.raw.files ≡ true) × (w.mark ≡ None)
 CanOpen (opened.Writing d x y) w = w.mark ≡ None
-CanOpen (opened.Usr s write) w = ⊥
+CanOpen (opened.Usr s write) w = Unit {0}
+
+-- the job of slot s can be removed with all below it: those are in user mode, and it has reserved no page
+pub record Removable (w : State) (s : ℕ) : Type 0 where
+  pub sound : Sound w
+  pub unwound : (k : ℕ) → is_below (superiors w.raw) s k ≡ true → w.frames k ≡ None
+  pub page : w.reserved s ≡ None
+
+-- a word of the job of slot s can be stored, at an address that there is
+pub record Pokes (w : State) (s a : ℕ) : Type 0 where
+  pub slot : s < slots
+  pub address : a < 2 ^ 18
+  pub job : HasJob w s
+  pub can : can_store (core_of (w.raw.jobs s)) a ≡ true
+
+-- a page of the job of slot s is there
+pub record HasPage (w : State) (s k : ℕ) : Type 0 where
+  pub slot : s < slots
+  pub job : HasJob w s
+  pub there : is_some (page_of (core_of (w.raw.jobs s)) k) ≡ true
+
+-- the page that slot j has reserved, of which four quarters are clear, can be mapped: it is not there yet, and there is room
+pub record Maps (w : State) (j s k : ℕ) : Type 0 where
+  pub slot : s < slots
+  pub job : HasJob w s
+  pub clear : w.reserved j ≡ Some 4
+  pub absent : page_of (core_of (w.raw.jobs s)) k ≡ None
+  pub room : mapped w.raw < most_pages
 
 -- a change of slot j's call can be made: its channel and its console are numbers that there are, a byte that is put out or
--- a word that is appended has room, and no close is half made where it looks at the directory
+-- a word that is appended has room, and no close is half made where it looks at the directory; a job is made in the least
+-- free slot; a removed one and those below it are in user mode and are not the caller; and a page is there, or can be made
 abbrev pub CanMake : Change → ℕ → State → Type 0
 CanMake (changes.Open n on) j w = (n < 16) × HasJob w j × (chan_in w j n ≡ Shut) × CanOpen on w
 CanMake (changes.Shut n) j w = n < 16
@@ -38,7 +71,12 @@ CanMake (changes.Put c b) j w = (c < 8) × (length (w.raw.consoles c).output < m
 CanMake (changes.Hold c s) j w = c < 8
 CanMake (changes.Inform s) j w = Unit {0}
 CanMake (changes.Set s v x) j w = Unit {0}
-CanMake _ j w = ⊥
+CanMake (changes.Poke s a x) j w = Pokes w s a
+CanMake (changes.Make s u n) j w = HasJob w j × (least_free w.raw.jobs ≡ Some s)
+CanMake (changes.Remove s) j w = (s < slots) × HasJob w s × (is_gone (superiors w.raw) s j ≡ false) × Removable w s
+CanMake (changes.Map s k) j w = Maps w j s k
+CanMake (changes.Unmap s k) j w = HasPage w s k
+CanMake (changes.Protect s k on) j w = HasPage w s k
 
 -- each of several can be made, of slot j's call, after those before it
 abbrev pub CanMakeAll : List Change → ℕ → State → Type 0

@@ -1,5 +1,6 @@
 -- What has to hold of a decision that is carried out, and of the frame of its call.
-use Rattle.std.specs.Prelude.{◌≡◌, ◌≤◌, ◌+◌, ℕ, true, Option, Some, None, is_some, List, ◌++◌, length, take, drop, slice_set, slice_index_or}
+use Rattle.std.specs.Prelude.{◌≡◌, ◌≤◌, ◌+◌, ℕ, Option, Some, None, List, ◌++◌, length, take, drop, slice_set, slice_index_or}
+use Rattle.its_frame.specs.Left.{kept}
 use Rattle.its_frame.specs.declared.change.Change.TheVariants.{Remove}
 use Rattle.its_frame.specs.declared.decision.Decision.{Decision}
 use Rattle.its_frame.specs.declared.decision.Decision.TheVariants.{Waits, Goes, Ends, Gone}
@@ -11,12 +12,9 @@ use Rattle.its_word.specs.declared.calls.Ask.{Ask}
 use Rattle.its_word.specs.declared.calls.Operand.{Operand}
 use Rattle.its_word.specs.declared.calls.Pace.{Pace}
 use Rattle.its_word.specs.declared.calls.Pace.TheVariants.{Step, Wait}
-use Rattle.its_plain.specs.Change.{superiors}
-use Rattle.its_word.specs.Tree.{is_below}
 use Rattle.its_stepped.specs.Commit.{effect_on, effects_on, owed_parts}
-use Rattle.its_stepped.specs.Sound.{Sound}
 use Rattle.its_stepped.specs.State.{State}
-use Rattle.its_pclsr.specs.Built.{CanMakeAll}
+use Rattle.its_pclsr.specs.Built.{CanMakeAll, Removable}
 
 -- the call of a frame from which it can be committed; a call that waits holds no page
 abbrev pub standing_of : Option Frame → Option Holding
@@ -25,19 +23,9 @@ standing_of (Some (frames.Waiting f)) = Some (record { site = f.site; ask = f.as
 standing_of _ = None
 
 -- what a call that ends owes has room in its frame, behind its changes
-abbrev pub page_steps : Option ℕ → ℕ
-page_steps (Some n) = 1
-page_steps None = 0
-
 pub record Endable (w : State) (s : ℕ) (f : Holding) (stores : ℕ) : Type 0 where
   pub read : length (debts f.ask f.owes) ≡ f.owes
-  pub page : is_some (w.reserved s) ≡ is_some f.page
-  pub few : length (owed_parts w.mark s) + page_steps f.page + f.owes + stores ≤ 3
-
-pub record Removable (w : State) (s : ℕ) : Type 0 where
-  pub sound : Sound w
-  pub unwound : (k : ℕ) → is_below (superiors w.raw) s k ≡ true → w.frames k ≡ None
-  pub page : w.reserved s ≡ None
+  pub few : length (owed_parts w.mark s) + kept (w.reserved s) + f.owes + stores ≤ 3
 
 -- the changes can be made, and the rest can be done
 abbrev pub Ready : State → ℕ → Holding → Decision → Type 0

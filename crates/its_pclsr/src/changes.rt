@@ -1,22 +1,27 @@
-ghost use Rattle.std.specs.Prelude.{◌≡◌, ◌<◌, Some, length};
+ghost use Rattle.std.specs.Prelude.{◌≡◌, ◌<◌, ◌^◌, true, None, Some, [], ◌∷◌, length};
 ghost use Rattle.its_word.specs.Console.{most_waiting};
 ghost use Rattle.its_word.specs.Limits.{slots};
-ghost use Rattle.its_plain.specs.Change.{with_inf, taken_from, put_to, on_console};
-ghost use Rattle.its_frame.specs.declared.change.Change.TheVariants.{Open};
-ghost use Rattle.its_plain.specs.Machine.{Shut, changed};
-ghost use Rattle.its_plain.specs.Own.{with_registers, with_variable};
+ghost use Rattle.its_word.specs.Core.{can_store};
+ghost use Rattle.its_word.specs.Tree.{least_free};
+ghost use Rattle.its_plain.specs.Change.{console_in, on_console, poke, protected, put_to, taken_from, with_inf, with_page_at};
+ghost use Rattle.its_frame.specs.declared.change.Change.TheVariants.{Make, Map, Open};
+ghost use Rattle.its_plain.specs.Machine.{Shut, changed, core_of};
+ghost use Rattle.its_plain.specs.Own.{with_registers, with_stores, with_variable};
 ghost use Rattle.its_stepped.specs.Commit.{effect_on, effects_on};
 ghost use Rattle.its_stepped.specs.Lines.{with_raw};
 ghost use Rattle.its_world.specs.Tidy.{Tidy};
-ghost use Rattle.its_pclsr.specs.Built.{CanOpen, CanMake, CanMakeAll};
+ghost use Rattle.its_pclsr.specs.Built.{CanMake, CanMakeAll, CanOpen, HasPage, Maps};
 ghost use Rattle.its_world.specs.Storage.{HasJob, chan_in};
 ghost use Rattle.its_world.specs.World.{state_of, in_raw};
 
+use super::removal::remove_tree;
+use its_core::Full;
 use its_frame::{Change, Opened, Variable};
+use its_jobs::NoSlot;
 use its_word::{Channel, INF, Job, NAMED_FLAGS, Word};
 use its_world::World;
 
-/// Makes the changes of a call of slot's job, in their order. Those of calls that are not built cannot come.
+/// Makes the changes of a call of slot's job, in their order.
 #[tactic(auto, using(crate::proofs::ChangeLaws::next_made, crate::proofs::ChangeLaws::can_first, crate::proofs::ChangeLaws::can_next))]
 pub fn apply(w: &mut World, slot: u8, changes: &[Change])
     requires slot { slot < slots }
@@ -62,11 +67,20 @@ fn apply_one(w: &mut World, slot: u8, change: &Change)
             variable,
             value,
         } => set(w, *s, *variable, *value),
-        _ => unreachable!(),
+        Change::Poke { slot: s, at, word } => poke(w, *s, *at, *word),
+        Change::Make { slot: s, u, j } => make(w, slot, *s, *u, *j),
+        Change::Remove { slot: s } => remove_tree(w, *s),
+        Change::Map { slot: s, page } => map(w, slot, *s, *page),
+        Change::Unmap { slot: s, page } => unmap(w, *s, *page),
+        Change::Protect {
+            slot: s,
+            page,
+            writable,
+        } => protect(w, *s, *page, *writable),
     }
 }
 
-/// Opens a closed channel of a slot's job on a console, a file or a new draft.
+/// Opens a closed channel of a slot's job on a console, a file, a new draft or another job.
 #[tactic(auto, using(crate::proofs::ChangeLaws::closed_elsewhere), unfolding(its_stepped::specs::Commit::effect_on, its_plain::specs::Change::effect))]
 fn open(w: &mut World, slot: u8, n: u8, on: Opened)
     requires slot { slot < slots }
@@ -83,7 +97,15 @@ fn open(w: &mut World, slot: u8, n: u8, on: Opened)
         Opened::TtyOut => w.put_channel(slot, n, Channel::TtyOut),
         Opened::Reading { d, x, y } => w.open_file(slot, n, d, x, y),
         Opened::Writing { d, x, y } => w.open_draft(slot, n, d, x, y),
-        Opened::Usr { .. } => unreachable!(),
+        Opened::Usr { slot: s, write } => w.put_channel(
+            slot,
+            n,
+            Channel::Usr {
+                slot: s,
+                write,
+                at: 0,
+            },
+        ),
     }
 }
 
@@ -132,6 +154,82 @@ fn inform(w: &mut World, slot: u8)
         job.pend1 = job.pend1 | Word::new(INF);
         w.put_registers(slot, job);
     }
+}
+
+/// Stores a word of a slot's job.
+fn poke(w: &mut World, slot: u8, at: u32, word: Word)
+    requires slot { slot < slots }
+    requires address { at < 2 ^ 18 }
+    requires can { can_store (core_of ((state_of w.old).raw.jobs slot)) at ≡ true }
+    requires job { HasJob (state_of w.old) slot }
+    requires tidy { Tidy w.old }
+    ensures row { state_of w.new ≡ in_raw (state_of w.old) slot (with_stores (poke at word ∷ [])) }
+    ensures tidy { Tidy w.new }
+{
+    w.store(slot, at, word);
+}
+
+/// Makes an inferior of a slot's job in the least free slot, with these names and the console of its superior.
+fn make(w: &mut World, maker: u8, slot: u8, u: Word, j: Word)
+    requires maker { maker < slots }
+    requires job { HasJob (state_of w.old) maker }
+    requires free { least_free (state_of w.old).raw.jobs ≡ Some slot }
+    requires tidy { Tidy w.old }
+    ensures row { state_of w.new ≡ effect_on (Make slot u j) maker (state_of w.old) }
+    ensures tidy { Tidy w.new }
+{
+    let console = console_of(w, maker);
+    match w.jobs.create(u, j, Some(maker), console) {
+        Ok(_) => {}
+        Err(NoSlot) => unreachable!(),
+    }
+}
+
+/// The console of a slot's job.
+fn console_of(w: &World, slot: u8) -> Option<u8>
+    ensures { result ≡ console_in ((state_of w.now).raw.jobs slot) }
+{
+    match w.jobs.job(slot) {
+        Some(job) => job.console,
+        None => None,
+    }
+}
+
+/// The page that a slot has reserved, which is clear, becomes a page of a target.
+#[tactic(auto, using(its_world::proofs::MappedLaws::mapped_becomes, crate::proofs::ChangeLaws::page_clear, crate::proofs::ChangeLaws::page_absent, crate::proofs::ChangeLaws::never_full, crate::proofs::ChangeLaws::page_mapped))]
+fn map(w: &mut World, slot: u8, target: u8, page: u8)
+    requires slot { slot < slots }
+    requires can { Maps (state_of w.old) slot target page }
+    requires tidy { Tidy w.old }
+    ensures row { state_of w.new ≡ effect_on (Map target page) slot (state_of w.old) }
+    ensures tidy { Tidy w.new }
+{
+    match w.core.map(slot, target, page) {
+        Ok(()) => {}
+        Err(Full) => unreachable!(),
+    }
+}
+
+/// A page of a slot's job is dropped.
+#[tactic(auto, using(crate::proofs::ChangeLaws::page_there))]
+fn unmap(w: &mut World, slot: u8, page: u8)
+    requires can { HasPage (state_of w.old) slot page }
+    requires tidy { Tidy w.old }
+    ensures row { state_of w.new ≡ in_raw (state_of w.old) slot (with_page_at page None) }
+    ensures tidy { Tidy w.new }
+{
+    w.core.unmap(slot, page);
+}
+
+/// A page of a slot's job is made writable or read only.
+#[tactic(auto, using(crate::proofs::ChangeLaws::page_there))]
+fn protect(w: &mut World, slot: u8, page: u8, writable: bool)
+    requires can { HasPage (state_of w.old) slot page }
+    requires tidy { Tidy w.old }
+    ensures row { state_of w.new ≡ in_raw (state_of w.old) slot (protected page writable) }
+    ensures tidy { Tidy w.new }
+{
+    w.core.protect(slot, page, writable);
 }
 
 /// Sets a variable of a slot's job, where it has one.

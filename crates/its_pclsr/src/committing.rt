@@ -171,18 +171,19 @@ fn set_value(ask: &mut Ask, k: usize, value: Word)
 }
 
 /// The call ends: the parts of its close, its reserved page, its arguments, its stores and its registers are owed.
-#[tactic(auto, using(crate::proofs::ApartLaws::tidy_kept))]
+#[tactic(auto, using(crate::proofs::ApartLaws::tidy_kept, crate::proofs::CommittingLaws::page_reserved))]
 fn end(w: &mut World, slot: u8, stores: &[Store], exit: Exit)
     requires slot { slot < slots }
     requires stands { is_some (standing_of (frame_at w.old.frames.items slot)) ≡ true }
     requires room { IfSome (standing_of (frame_at w.old.frames.items slot)) (λ f. Endable (state_of w.old) slot f (length stores.now)) }
     requires tidy { Tidy w.old }
-    ensures row { IfSome (standing_of (frame_at w.old.frames.items slot)) (λ f. FrameBecomes w.old w.new slot (Some (ending f.site f.ask (owed_parts (state_of w.old).mark slot ++ (backed (is_some f.page) ++ (map owed_store (debts f.ask f.owes ++ stores.now) ++ Leave exit ∷ [])))))) }
+    ensures row { IfSome (standing_of (frame_at w.old.frames.items slot)) (λ f. FrameBecomes w.old w.new slot (Some (ending f.site f.ask (owed_parts (state_of w.old).mark slot ++ (backed (is_some ((state_of w.old).reserved slot)) ++ (map owed_store (debts f.ask f.owes ++ stores.now) ++ Leave exit ∷ [])))))) }
     ensures tidy { Tidy w.new }
 {
     let parts = owed_parts(w, slot);
+    let reserved = w.core.has_reserved(slot);
     let f = take_call(w, slot);
-    let owed = owed_steps(&parts, f.page.is_some(), &f.ask, f.owes, stores, exit);
+    let owed = owed_steps(&parts, reserved, &f.ask, f.owes, stores, exit);
     w.put_frame(
         slot,
         Frame::Ending(Ending {

@@ -19,7 +19,7 @@ ghost use Rattle.its_world.specs.Tidy.{Tidy};
 
 use super::owed::{first_owed, make, pass_over};
 use its_bytes::deposit;
-use its_frame::{Ending, Frame, Holding, Moving, Waiting};
+use its_frame::{Asked, Ending, Frame, Holding, Moving, Waiting};
 use its_word::{Exit, Job, Owed, Store};
 use its_world::World;
 
@@ -65,8 +65,8 @@ fn step(w: &mut World, slot: u8)
     }
 }
 
-/// A call that holds a page gives it back; one that owes words stores the first; else its frame is
-/// dropped.
+/// A call that has reserved a page gives it back, and stands as before it was prepared; one that owes words
+/// stores the first; else its frame is dropped.
 #[tactic(auto, using(crate::proofs::ApartLaws::off_one, crate::proofs::ApartLaws::off_then, crate::proofs::RowLaws::holding_backed, crate::proofs::RowLaws::holding_dropped, crate::proofs::RowLaws::holding_paid))]
 fn unwind_holding(w: &mut World, slot: u8, mut f: Holding)
     requires slot { slot < slots }
@@ -80,8 +80,13 @@ fn unwind_holding(w: &mut World, slot: u8, mut f: Holding)
 {
     if f.page.is_some() {
         w.give_back(slot);
-        f.page = None;
-        w.put_frame(slot, Frame::Holding(f));
+        w.put_frame(
+            slot,
+            Frame::Asked(Asked {
+                site: f.site,
+                ask: f.ask,
+            }),
+        );
         return;
     }
     if f.owes == 0 {

@@ -10,7 +10,7 @@ use Rattle.its_frame.specs.declared.change.Change.TheVariants as changes
 use Rattle.its_frame.specs.declared.change.Opened.{Opened}
 use Rattle.its_frame.specs.declared.change.Opened.TheVariants as opened
 use Rattle.its_frame.specs.declared.decision.Decision.{Decision}
-use Rattle.its_plain.specs.Machine.{Names, File, Chan, Shut, Reads, Writes, all_shut}
+use Rattle.its_plain.specs.Machine.{Names, File, Chan, Shut, Reads, Writes, On, all_shut}
 use Rattle.its_plain.specs.Own.{names_of}
 use Rattle.its_plain.specs.Change.{same_names}
 use Rattle.its_plain.specs.View.{View, Outline}
@@ -151,11 +151,18 @@ siot_write v a next k n f =
 abbrev pub siot_writes : View → Ask → ℕ → File → Decision
 siot_writes v a n f = siot_by v a true false (siot_write v a (next_pointer (input a 1)) (input a 2) n f)
 
--- ACCESS channel, position: the next word that a file gives
+-- ACCESS channel, position: the next word that a file gives, or that a channel on an inferior is at. An inferior has words
+-- 0 to 777777
+abbrev pub end_of_core : ℕ
+end_of_core = 0o1000000
+
+abbrev pub access_to : View → Ask → ℕ → Decision
+access_to v a most = first (nat_lt most (input a 1) ⇒ fails v a 0o22 ∷ []) (finishes v (changes.Move (input a 0) (input a 1) ∷ []) [])
+
 abbrev pub access_on : View → Ask → Chan → Decision
 access_on v a Shut = fails v a 0o4
-access_on v a (Reads names at) =
-    first (nat_lt (length (words_of v names)) (input a 1) ⇒ fails v a 0o22 ∷ []) (finishes v (changes.Move (input a 0) (input a 1) ∷ []) [])
+access_on v a (Reads names at) = access_to v a (length (words_of v names))
+access_on v a (On s write at) = access_to v a end_of_core
 access_on v a _ = fails v a 0o5
 
 unfoldable pub access : View → Ask → Decision

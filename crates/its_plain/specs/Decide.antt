@@ -1,4 +1,4 @@
--- Which call decides, whom its commit disturbs, and what a call is that is not built.
+-- Which call decides, and whom its commit disturbs.
 use Rattle.std.specs.Prelude.{if◌then◌else◌, ◌==◌, ℕ, Option, Some, None, List, [], ◌∷◌, ◌++◌}
 use Rattle.its_word.specs.Tree.{slots_below}
 use Rattle.its_word.specs.declared.calls.Ask.{Ask}
@@ -13,6 +13,8 @@ use Rattle.its_plain.specs.Tests.{fails}
 use Rattle.its_plain.specs.CallBasic.{is_oneself, channel_at, hang, sleep, dismiss, usrvar, logout}
 use Rattle.its_plain.specs.CallTty.{opens, closes, iot, siot, finish, listen, ttylnd}
 use Rattle.its_plain.specs.CallFile.{open_call, close_call, iot_call, siot_call, access, fillen, delete, rename}
+use Rattle.its_plain.specs.CallUsr.{open_usr, iot_usr, siot_usr, usrmem, uclose}
+use Rattle.its_plain.specs.CallCore.{corblk}
 
 -- the calls by their SIXBIT names
 unfoldable pub call_named : ℕ → Option CallName
@@ -38,7 +40,7 @@ call_named w =
     else (if w == 0o435762425453 then Some Corblk
     else None))))))))))))))))))
 
--- what a call decides whose decoding gave no error. One that is not built fails with error 1
+-- what a call decides whose decoding gave no error: first the calls on jobs and times alone
 abbrev pub basic_by : View → Ask → Option CallName → Decision
 basic_by v a (Some Hang) = hang
 basic_by v a (Some Sleep) = sleep v a
@@ -59,16 +61,30 @@ tty_by v a (Some Ttylnd) = ttylnd v a
 tty_by v a o = basic_by v a o
 
 -- and those on files
+abbrev pub file_by : View → Ask → Option CallName → Decision
+file_by v a (Some Open) = open_call v a
+file_by v a (Some Close) = close_call v a
+file_by v a (Some Iot) = iot_call v a
+file_by v a (Some Siot) = siot_call v a
+file_by v a (Some Access) = access v a
+file_by v a (Some Fillen) = fillen v a
+file_by v a (Some Delete) = delete v a
+file_by v a (Some Rename) = rename v a
+file_by v a o = tty_by v a o
+
+-- and those on inferiors
+abbrev pub usr_by : View → Ask → Option CallName → Decision
+usr_by v a (Some Open) = open_usr v a
+usr_by v a (Some Iot) = iot_usr v a
+usr_by v a (Some Siot) = siot_usr v a
+usr_by v a (Some Usrmem) = usrmem v a
+usr_by v a (Some Uclose) = uclose v a
+usr_by v a o = file_by v a o
+
+-- and that on pages
 abbrev pub decided_by : View → Ask → Option CallName → Decision
-decided_by v a (Some Open) = open_call v a
-decided_by v a (Some Close) = close_call v a
-decided_by v a (Some Iot) = iot_call v a
-decided_by v a (Some Siot) = siot_call v a
-decided_by v a (Some Access) = access v a
-decided_by v a (Some Fillen) = fillen v a
-decided_by v a (Some Delete) = delete v a
-decided_by v a (Some Rename) = rename v a
-decided_by v a o = tty_by v a o
+decided_by v a (Some Corblk) = corblk v a
+decided_by v a o = usr_by v a o
 
 -- that of the calls on jobs and times alone
 unfoldable pub decided_basic : View → Ask → Decision
@@ -78,14 +94,26 @@ decided_basic v a = if a.fail == 0 then basic_by v a (call_named a.name) else fa
 unfoldable pub decided_tty : View → Ask → Decision
 decided_tty v a = if a.fail == 0 then tty_by v a (call_named a.name) else fails v a a.fail
 
+-- and that of the calls on files
+unfoldable pub decided_file : View → Ask → Decision
+decided_file v a = if a.fail == 0 then file_by v a (call_named a.name) else fails v a a.fail
+
+-- and that of the calls on inferiors
+unfoldable pub decided_usr : View → Ask → Decision
+decided_usr v a = if a.fail == 0 then usr_by v a (call_named a.name) else fails v a a.fail
+
 -- an error of the decoding comes first
 unfoldable pub decided : View → Ask → Decision
 decided v a = if a.fail == 0 then decided_by v a (call_named a.name) else fails v a a.fail
 
--- the argument that names the channel by which a call reaches into another job. A call that is not built
--- reaches into none
+-- the argument that names the channel by which a call reaches into another job
 abbrev pub reaching : CallName → Option ℕ
 reaching Usrvar = Some 0
+reaching Iot = Some 0
+reaching Siot = Some 0
+reaching Usrmem = Some 0
+reaching Uclose = Some 0
+reaching Corblk = Some 1
 reaching _ = None
 
 abbrev pub inferior_on : Chan → Option ℕ
@@ -108,13 +136,18 @@ unfoldable pub target : Whole → Ask → Option ℕ
 target q a = if a.fail == 0 then target_by q a (argument_of (call_named a.name)) else None
 
 -- the slots, other than its own, of the jobs that a commit disturbs: the target; of LOGOUT the jobs below
--- the caller, and its superior
+-- the caller, and its superior; of UCLOSE the target and the jobs below it
 abbrev pub listed : Option ℕ → List ℕ
 listed (Some s) = s ∷ []
 listed None = []
 
+abbrev pub with_below : Machine → Option ℕ → List ℕ
+with_below m (Some s) = slots_below (superiors m) s ++ s ∷ []
+with_below m None = []
+
 abbrev pub reach_by : Machine → ℕ → Whole → Ask → Option CallName → List ℕ
 reach_by m j q a (Some Logout) = slots_below (superiors m) j ++ listed q.superior
+reach_by m j q a (Some Uclose) = with_below m (target q a)
 reach_by m j q a _ = listed (target q a)
 
 unfoldable pub reach : Machine → ℕ → Whole → Ask → List ℕ

@@ -21,6 +21,8 @@ pub mod CallBasic
 pub mod Decide
 pub mod CallTty
 pub mod CallFile
+pub mod CallUsr
+pub mod CallCore
 pub mod CallStep
 pub mod Operator
 pub mod Transcript
@@ -30,3 +32,4 @@ pub mod CallTranscript
 pub mod OneByte
 pub mod Course
 pub mod Ledger
+pub mod Stretch

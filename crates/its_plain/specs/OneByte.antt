@@ -1,5 +1,5 @@
 -- Each byte once: what one step of a transfer does (docs/CALLS.md, "Each byte once").
-use Rattle.std.specs.Prelude.{◌≡◌, ◌≢◌, ℕ, ◌+◌, ◌-◌, false, Option, Some, None, IfSome, List, [], ◌∷◌, slice_get, unwrap_or}
+use Rattle.std.specs.Prelude.{◌≡◌, ◌≢◌, ℕ, ◌+◌, ◌-◌, true, false, Option, Some, None, IfSome, List, [], ◌∷◌, slice_get, unwrap_or}
 use Rattle.its_word.specs.Word.{right_of}
 use Rattle.its_word.specs.Byte.{load_of, deposit_of}
 use Rattle.its_word.specs.Core.{word_at}
@@ -12,7 +12,7 @@ use Rattle.its_frame.specs.declared.decision.Decision.TheVariants.{Waits, Goes, 
 use Rattle.its_frame.specs.declared.decision.Held.{Held}
 use Rattle.its_frame.specs.declared.name.CallName.TheVariants.{Siot}
 use Rattle.its_plain.specs.Interrupt.{deliverable}
-use Rattle.its_plain.specs.Machine.{Chan, TtyIn, TtyOut, Reads, Writes, Whole, Machine}
+use Rattle.its_plain.specs.Machine.{Chan, Shut, TtyIn, TtyOut, Reads, Writes, On, Whole, Machine}
 use Rattle.its_plain.specs.Change.{in_job, effects}
 use Rattle.its_plain.specs.Arguments.{input, revalued}
 use Rattle.its_plain.specs.Footprint.{Stands}
@@ -20,6 +20,7 @@ use Rattle.its_plain.specs.View.{View, view}
 use Rattle.its_plain.specs.CallBasic.{channel_at}
 use Rattle.its_plain.specs.CallTty.{console_of, shown_byte, word_of, next_pointer}
 use Rattle.its_plain.specs.CallFile.{words_of}
+use Rattle.its_plain.specs.CallUsr.{other_core}
 use Rattle.its_plain.specs.Decide.{call_named, target}
 use Rattle.its_plain.specs.CallStep.{moved, decision}
 
@@ -32,15 +33,18 @@ ComesIn pointer None h = ⊥
 abbrev pub byte_at : View → ℕ → ℕ
 byte_at v pointer = load_of pointer (word_of v (right_of pointer))
 
--- what is moved through channel n, by what that is on: from a console the first byte that waits, and from a file the word
--- at the channel's position, which is then one more; to a console the low 7 bits of the byte at the pointer, and to a
--- draft that byte. Nothing is moved through any other channel
+-- what is moved through channel n, by what that is on: from a console the first byte that waits, and from a file or an
+-- inferior the word at the channel's position; to a console the low 7 bits of the byte at the pointer, to a draft that
+-- byte, and into an inferior likewise, at the channel's position. A position is then one more. Nothing is moved through a
+-- closed channel
 abbrev pub Bears : View → ℕ → ℕ → Chan → List Change → Option Held → Type 0
 Bears v pointer n TtyIn cs h = (cs ≡ changes.Take (console_of v) ∷ []) × ComesIn pointer (slice_get (v.consoles (console_of v)).input 0) h
 Bears v pointer n TtyOut cs h = (cs ≡ changes.Put (console_of v) (shown_byte (byte_at v pointer)) ∷ []) × (h ≡ None)
 Bears v pointer n (Reads names at) cs h = (cs ≡ changes.Move n (at + 1) ∷ []) × ComesIn pointer (slice_get (words_of v names) at) h
 Bears v pointer n (Writes f) cs h = (cs ≡ changes.Append n (byte_at v pointer) ∷ []) × (h ≡ None)
-Bears v pointer n _ cs h = ⊥
+Bears v pointer n (On s false at) cs h = (cs ≡ changes.Move n (at + 1) ∷ []) × ComesIn pointer (word_at (other_core v) at) h
+Bears v pointer n (On s true at) cs h = (cs ≡ changes.Poke s at (byte_at v pointer) ∷ changes.Move n (at + 1) ∷ []) × (h ≡ None)
+Bears v pointer n Shut cs h = ⊥
 
 -- the rest of a transfer: its pointer is incremented, and its count is one less
 abbrev pub new_arguments : Ask → List ℕ

@@ -3,3 +3,4 @@ pub mod Fits
 pub mod Events
 pub mod Reading
 pub mod Writing
+pub mod Generated

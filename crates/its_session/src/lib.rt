@@ -3,6 +3,7 @@
 #![tactic(auto)]
 
 mod fields;
+mod generator;
 mod kind;
 mod print;
 mod put;
@@ -12,5 +13,6 @@ mod rows;
 mod tests;
 mod words;
 
+pub use generator::generated;
 pub use print::print_event;
 pub use read::read_line;

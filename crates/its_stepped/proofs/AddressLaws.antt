@@ -38,7 +38,9 @@ use Rattle.its_plain.proofs.DeliveryLaws.{delivered_placed}
 use Rattle.its_plain.proofs.UnitLaws.{unit_keeps}
 use Rattle.its_stepped.specs.Address.{Addressed}
 use Rattle.its_stepped.proofs.TestLaws.{by_test, first_holds}
-use Rattle.its_stepped.proofs.FileWays.{FileWays, siot_by_ways, file_ways}
+use Rattle.its_stepped.proofs.FileWays.{OnFile, Ways, siot_by_ways, file_ways}
+use Rattle.its_stepped.proofs.UsrWays.{OnUsr, usr_ways}
+use Rattle.its_stepped.proofs.CoreWays.{OnCore, core_ways}
 
 -- at the start of a session
 pub addressed_starts : Addressed no_machine
@@ -208,9 +210,9 @@ usrvar_leaves x a = go (party x (input a 0))
     go (Channel (Reads f at)) = advanced_addressed 1 x.own.job
     go (Channel (Writes f)) = advanced_addressed 1 x.own.job
 
--- the calls on files
-ways_leave : (x : View) (a : Ask) → x.own.job.pc < 2 ^ 18 → FileWays LeavesAddress x a
-ways_leave x a h = record {
+-- the ways in which a call goes on or ends
+ways_leave : (OnIt : Change → Type 0) (x : View) (a : Ask) → x.own.job.pc < 2 ^ 18 → Ways OnIt LeavesAddress x a
+ways_leave OnIt x a h = record {
   failing = λ k. advanced_addressed 1 x.own.job;
   faulting = λ f. h;
   stuck = advanced_addressed 1 x.own.job;
@@ -288,7 +290,7 @@ siot_leaves x a h = go (channel_at x.own.channels (input a 0))
     k = input a 2
 
     behind : (d : Decision) → LeavesAddress d → LeavesAddress (siot_by x a false false d)
-    behind d l = siot_by_ways LeavesAddress x a false false d (ways_leave x a h) l
+    behind d l = siot_by_ways LeavesAddress x a false false d (ways_leave OnFile x a h) l
 
     go : (c : Chan) → LeavesAddress (siot_on x a c)
     go TtyIn = behind (siot_in x a (next_pointer p) k (console_of x)) (siot_in_leaves x a (next_pointer p) k (console_of x) h)
@@ -347,7 +349,7 @@ ttylnd_leaves x a = go (party x (input a 0))
     go (Channel (Reads f at)) = advanced_addressed 1 x.own.job
     go (Channel (Writes f)) = advanced_addressed 1 x.own.job
 
--- the calls by their names, but for those on files
+-- the calls by their names, but for those on files, on inferiors and on pages
 named_leaves : (x : View) (a : Ask) (o : Option CallName) → x.own.job.pc < 2 ^ 18 → LeavesAddress (tty_by x a o)
 named_leaves x a (Some Hang) h = tt
 named_leaves x a (Some Sleep) h = sleep_leaves x a h
@@ -367,7 +369,9 @@ pub decided_leaves : (x : View) (a : Ask) → x.own.job.pc < 2 ^ 18 → LeavesAd
 unfolding decided
 decided_leaves x a h =
     let o = call_named a.name in
-    by_test LeavesAddress (a.fail == 0) (decided_by x a o) (fails x a a.fail) (λ t. file_ways LeavesAddress x a o (ways_leave x a h) (named_leaves x a o h))
+    by_test LeavesAddress (a.fail == 0) (decided_by x a o) (fails x a a.fail)
+    (λ t. core_ways LeavesAddress x a o (ways_leave OnCore x a h)
+    (usr_ways LeavesAddress x a o (ways_leave OnUsr x a h) (file_ways LeavesAddress x a o (ways_leave OnFile x a h) (named_leaves x a o h))))
     (λ t. advanced_addressed 1 x.own.job)
 
 pub decision_leaves : (m : Machine) (j : ℕ) (q : Whole) (a : Ask) → q.job.pc < 2 ^ 18 → LeavesAddress (decision m j q a)

@@ -1,6 +1,6 @@
 -- A call that owes words decides the same on its raw job as on the job behind the stores of these words. SLEEP asks
 -- of its core only whether its word can be stored, which stores do not change; so does SIOT, but for its byte's word,
--- which is outside the footprint where it asks for it; the other calls that are built owe nothing.
+-- which is outside the footprint where it asks for it; the other calls owe nothing.
 use Rattle.std.specs.Prelude.{◌≡◌, ◌≤◌, ℕ, Bool, true, false, not, Option, Some, None, List, [], ◌∷◌, slice_get, is_some, unwrap_or, refl}
 use Rattle.std.proofs.Common.{sym, ◌∙◌, ap, inl, inr, arith}
 use Rattle.std.proofs.lemmas.Bool.{cases_Bool}
@@ -19,6 +19,7 @@ use Rattle.its_plain.specs.CallBasic.{channel_at, read_only, sleep}
 use Rattle.its_plain.specs.CallStep.{decision}
 use Rattle.its_plain.specs.CallTty.{console_of, next_pointer, siot_in, siot_out, siot_by, siot_on, siot}
 use Rattle.its_plain.specs.CallFile.{words_of, siot_read, siot_write, siot_to, siot_call}
+use Rattle.its_plain.specs.CallUsr.{other_core, at_end, siot_peeks, siot_pokes, siot_through, siot_beside, siot_usr}
 use Rattle.its_plain.specs.Decide.{call_named, decided_by, decided, target}
 use Rattle.its_plain.specs.Machine.{File, Chan, Shut, TtyIn, TtyOut, Reads, Writes, On, Whole, Machine}
 use Rattle.its_plain.specs.Own.{with_stores}
@@ -71,6 +72,17 @@ siot_write_stored : (m : Machine) (j : ℕ) (q : Whole) (t : Option ℕ) (a : As
     → siot_write (view m j (with_stores ss q) t) a w k i f ≡ siot_write (view m j q t) a w k i f
 unfolding view
 siot_write_stored m j q t a ss w k i f e = simp e
+
+siot_peeks_stored : (m : Machine) (j : ℕ) (q : Whole) (t : Option ℕ) (a : Ask) (ss : List Store) (w k i at : ℕ) (o : Option ℕ) → word_at (stored q.core ss) (right_of w) ≡ word_at q.core (right_of w)
+    → siot_peeks (view m j (with_stores ss q) t) a w k i at o ≡ siot_peeks (view m j q t) a w k i at o
+unfolding view
+siot_peeks_stored m j q t a ss w k i at (Some y) e = simp (e, can_stored)
+siot_peeks_stored m j q t a ss w k i at None e = simp (e, can_stored)
+
+siot_pokes_stored : (m : Machine) (j : ℕ) (q : Whole) (t : Option ℕ) (a : Ask) (ss : List Store) (w k i s at : ℕ) → word_at (stored q.core ss) (right_of w) ≡ word_at q.core (right_of w)
+    → siot_pokes (view m j (with_stores ss q) t) a w k i s at ≡ siot_pokes (view m j q t) a w k i s at
+unfolding view
+siot_pokes_stored m j q t a ss w k i s at e = simp e
 
 -- the tests of its arguments, whatever the device
 tests_stored : (m : Machine) (j : ℕ) (q : Whole) (t : Option ℕ) (a : Ask) (ss : List Store) (words ended : Bool) (d : Decision)
@@ -127,6 +139,25 @@ siot_call_stored : (m : Machine) (j : ℕ) (q : Whole) (t : Option ℕ) (a : Ask
 unfolding siot_call view
 siot_call_stored m j q t a n c f = siot_to_stored m j q t a n (input a 0) c (channel_at q.channels (input a 0)) f
 
+siot_through_stored : (m : Machine) (j : ℕ) (q : Whole) (t : Option ℕ) (a : Ask) (n i s : ℕ) (write : Bool) (at : ℕ) (c : Core) → Fetched c a
+    → siot_through (view m j (with_stores (debts a n) q) t) a i s write at ≡ siot_through (view m j q t) a i s write at
+unfolding view
+siot_through_stored m j q t a n i s true at c f =
+    siot_by_stored m j q t a n true (at_end at) c _ _ f (λ e. siot_pokes_stored m j q t a (debts a n) (next_pointer (input a 1)) (input a 2) i s at e)
+siot_through_stored m j q t a n i s false at c f =
+    let o = word_at (other_core (view m j q t)) at in
+    siot_by_stored m j q t a n true (at_end at) c _ _ f (λ e. siot_peeks_stored m j q t a (debts a n) (next_pointer (input a 1)) (input a 2) i at o e)
+
+siot_beside_stored : (m : Machine) (j : ℕ) (q : Whole) (t : Option ℕ) (a : Ask) (n i : ℕ) (c : Core) (h : Chan) → Fetched c a
+    → siot_beside (view m j (with_stores (debts a n) q) t) a i h ≡ siot_beside (view m j q t) a i h
+siot_beside_stored m j q t a n i c (On s write at) f = siot_through_stored m j q t a n i s write at c f
+siot_beside_stored m j q t a n i c _ f = siot_call_stored m j q t a n c f
+
+siot_usr_stored : (m : Machine) (j : ℕ) (q : Whole) (t : Option ℕ) (a : Ask) (n : ℕ) (c : Core) → Fetched c a
+    → siot_usr (view m j (with_stores (debts a n) q) t) a ≡ siot_usr (view m j q t) a
+unfolding siot_usr view
+siot_usr_stored m j q t a n c f = siot_beside_stored m j q t a n (input a 0) c (channel_at q.channels (input a 0)) f
+
 -- a call that owes nothing
 no_stores : (a : Ask) (n : ℕ) (q : Whole) → n ≤ 0 → with_stores (debts a n) q ≡ q
 unfolding stored
@@ -140,7 +171,7 @@ by_name : (m : Machine) (j : ℕ) (q : Whole) (t : Option ℕ) (a : Ask) (n : �
     → decided_by (view m j (with_stores (debts a n) q) t) a c ≡ decided_by (view m j q t) a c
 unfolding view
 by_name m j q t a n i (Some Sleep) f h = sleep_stored m j q t a (debts a n)
-by_name m j q t a n i (Some Siot) f h = siot_call_stored m j q t a n i f
+by_name m j q t a n i (Some Siot) f h = siot_usr_stored m j q t a n i f
 by_name m j q t a n i (Some Hang) f h = owes_none m j q t a n (Some Hang) h
 by_name m j q t a n i (Some Dismis) f h = owes_none m j q t a n (Some Dismis) h
 by_name m j q t a n i (Some Usrvar) f h = owes_none m j q t a n (Some Usrvar) h

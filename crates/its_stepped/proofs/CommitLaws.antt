@@ -1,5 +1,5 @@
 -- The commit of a call, seen as a plain machine, is what the plain machine makes of its decision.
-use Rattle.std.specs.Prelude.{if◌then◌else◌, ◌==◌, ◌≡◌, ℕ, ◌%◌, ◌^◌, Bool, true, false, Option, Some, None, IfSome, List, [], ◌∷◌, ◌++◌, map, length, unwrap_or, refl}
+use Rattle.std.specs.Prelude.{if◌then◌else◌, ◌==◌, ◌≡◌, ℕ, ◌%◌, ◌^◌, Bool, true, false, Option, Some, None, IfSome, List, [], ◌∷◌, ◌++◌, map, length, unwrap_or, refl, is_some}
 use Rattle.std.proofs.Common.{sym, ◌∙◌, ap, subst, inl, inr}
 use Rattle.its_word.specs.Byte.{deposit_of}
 use Rattle.its_word.specs.Core.{Core, word_at, store}
@@ -26,6 +26,7 @@ use Rattle.its_word.specs.Stores.{stored}
 use Rattle.its_plain.proofs.MachineLaws.{jobs_are}
 use Rattle.its_stepped.specs.State.{Part, UnlinkOld, LinkNew, FreeOld, Mark, State, plain, seen, owed_made, turn, same, waiting, ending}
 use Rattle.its_stepped.specs.Commit.{effects_on, sleeps, stays, gone_on, owed_part, owed_parts, given_up, owed_store, owed_by, committed}
+use Rattle.its_stepped.specs.Tick.{reserves}
 use Rattle.its_stepped.specs.Sound.{Debts, parts_in_frame}
 use Rattle.its_stepped.specs.Duty.{Apart, Within, HeldFits, AllRemain, Going, Ending_by, Duty}
 use Rattle.its_stepped.proofs.FrameLaws.{on_slot_same, turned}
@@ -41,6 +42,7 @@ pub record Here (v : State) (j : ℕ) (q : Whole) (a : Ask) (n : ℕ) : Type 0 w
   pub runs : q.job.stopped ≡ false
   pub quiet : deliverable q.job ≡ false
   pub debts : Debts q.core a n
+  pub page : reserves a ≡ is_some (v.reserved j)
 
 -- a call that waits is not carried out
 pub same_here : (m : Machine) (j : ℕ) → in_job m j same ≡ m

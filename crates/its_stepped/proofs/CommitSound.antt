@@ -1,5 +1,5 @@
 -- A commit keeps the state sound.
-use Rattle.std.specs.Prelude.{◌≡◌, ◌≢◌, ◌≤◌, ◌<◌, ◌^◌, ℕ, ◌+◌, Bool, true, false, Option, Some, None, IfSome, List, [], ◌∷◌, ◌++◌, length, option_map, refl}
+use Rattle.std.specs.Prelude.{◌≡◌, ◌≢◌, ◌≤◌, ◌<◌, ◌^◌, ℕ, ◌+◌, Bool, true, false, Option, Some, None, IfSome, List, [], ◌∷◌, ◌++◌, length, option_map, refl, is_some}
 use Rattle.std.proofs.Common.{sym, ◌∙◌, ap, subst, inl, inr, arith}
 use Rattle.std.proofs.lemmas.Bool.{cases_eq, eq-eqb}
 use Rattle.std.proofs.lemmas.Nat.{mod_below}
@@ -29,6 +29,7 @@ use Rattle.its_plain.specs.CallStep.{deposited, with_held}
 use Rattle.its_word.specs.Stores.{stored}
 use Rattle.its_stepped.specs.State.{State, seen, turn, same, waiting, ending}
 use Rattle.its_stepped.specs.Commit.{effect_on, effects_on, sleeps, stays, gone_on, owed_parts, owed_by, committed}
+use Rattle.its_stepped.specs.Tick.{reserves}
 use Rattle.its_stepped.specs.Sound.{Stands, Stored, Debts, IsWaitable, WaitingPays, SoundFrame, SoundBy, SoundSlot, MarkBy, Sound}
 use Rattle.its_stepped.specs.Quiet.{AllQuiet}
 use Rattle.its_stepped.specs.Duty.{HeldFits, Waiting_by, Going, Ending_by, Leaving, Duty, parts_in}
@@ -36,6 +37,7 @@ use Rattle.its_stepped.proofs.FrameLaws.{changed_only, on_slot_here, on_slot_oth
 use Rattle.its_stepped.proofs.OverLaws.{can_stored, stored_alike, debts_alike}
 use Rattle.its_stepped.proofs.OwnLaws.{Sees, own_of, job_of, spared, job_kept, frames_none, reserved_none, reserved_less}
 use Rattle.its_stepped.proofs.OwedLaws.{owed_length, owed_owes, owed_backs}
+use Rattle.its_stepped.proofs.PageLaws.{revalued_reserves_none}
 use Rattle.its_stepped.proofs.MarkLaws.{Marking, marking_begins, marking_within, marking_all, mark_ended, mark_gone_on, mark_left}
 use Rattle.its_stepped.proofs.CommitLaws.{Here, Acts, stays_seen, goes_seen}
 use Rattle.its_stepped.proofs.EffectLaws.{effects_sound}
@@ -201,31 +203,31 @@ waitable_sleep (Some Sleep) h = tt
 waitable_sleep (Some c) h = absurd cc
 
 stays_frame : (b : Bool) (q : Whole) (s : Site) (a : Ask) (n : ℕ) (r : Option ℕ) → sleeps (call_named a.name) ≡ b → q.job.stopped ≡ false → deliverable q.job ≡ false
-    → Stands (stored q.core (debts a n)) q.job s a → Debts q.core a n → r ≡ None → SoundFrame q (stays b s a n) r
+    → Stands (stored q.core (debts a n)) q.job s a → Debts q.core a n → r ≡ None → reserves a ≡ false → SoundFrame q (stays b s a n) r
 unfolding seen
-stays_frame true q s a n r e runs quiet stands d page = record {
+stays_frame true q s a n r e runs quiet stands d page none = record {
   runs = runs;
   quiet = quiet;
   standing = stands;
   pays = record { debts = d; page_is = page; waitable = waitable_sleep (call_named a.name) e };
 }
-stays_frame false q s a n r e runs quiet stands d page = record {
+stays_frame false q s a n r e runs quiet stands d page none = record {
   runs = runs;
   quiet = quiet;
   standing = stands;
-  pays = record { debts = d; page_is = page; paged = tt };
+  pays = record { debts = d; page_is = page; paged = tt; has = none };
 }
 
 -- the frame after it, of a caller with the core and registers that it had
 on_frame : (q : Whole) (s : Site) (a : Ask) (n : ℕ) (olds : List Store) (b : Option Held) (r : Option ℕ) → q.job.stopped ≡ false → deliverable q.job ≡ false
     → seen (Some (gone_on s a n b)) q ≡ with_stores (debts a n) (with_held a b (with_stores olds q)) → IfSome b (HeldFits (stored q.core olds) olds n)
     → IfSome b (λ x. has_size (input a 1) ≡ true) → Stands (with_stores (debts a n) (with_held a b (with_stores olds q))).core (with_stores (debts a n) (with_held a b (with_stores olds q))).job s a → Debts q.core a n → r ≡ None
-    → SoundFrame q (gone_on s a n b) r
+    → reserves a ≡ false → SoundFrame q (gone_on s a n b) r
 unfolding seen
-on_frame q s a n olds None r runs quiet is f size stands d page =
+on_frame q s a n olds None r runs quiet is f size stands d page none =
     stays_frame (sleeps (call_named a.name)) q s a n r refl runs quiet
-    (subst (λ (p : Whole). Stands p.core p.job s a) (sym is ∙ stays_seen (sleeps (call_named a.name)) s a n q) stands) d page
-on_frame q s a n olds (Some b) r runs quiet is f size stands d page = record {
+    (subst (λ (p : Whole). Stands p.core p.job s a) (sym is ∙ stays_seen (sleeps (call_named a.name)) s a n q) stands) d page none
+on_frame q s a n olds (Some b) r runs quiet is f size stands d page none = record {
   runs = runs;
   quiet = quiet;
   standing = subst (λ (p : Whole). Stands p.core p.job s a) (sym is) stands;
@@ -266,7 +268,8 @@ goes_sound v j q s a n cs b vs sound h d =
           d.size
           (stands_at b x.whole q s k m olds core job d.stands)
           (debts_alike (stored q.core olds) x.whole.core k m (λ p. ap (λ (c : Core). can_store c p) core ∙ sym (can_stored q.core olds p)) d.debts)
-          (reserved_none cs j v j d.page);
+          (reserved_none cs j v j d.page)
+          (revalued_reserves_none a vs d.debts.few (h.page ∙ ap is_some d.page));
     }))
     (mark_gone_on j w.frames (Some (gone_on s k m b)) w.mark (marking_within j w.mark w.frames (parts_in cs + 0) 0 (omega arith) marks))
   where

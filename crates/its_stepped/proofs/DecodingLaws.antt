@@ -17,7 +17,7 @@ use Rattle.its_word.specs.declared.plan.Context.{Context}
 use Rattle.its_word.specs.declared.plan.Reached.{Reached}
 use Rattle.its_frame.specs.declared.name.CallName.{CallName}
 use Rattle.its_frame.specs.declared.name.CallName.TheVariants.{Hang, Sleep, Dismis, Usrvar, Logout, Open, Close, Iot, Siot, Finish, Listen, Ttylnd, Access, Fillen, Delete, Rename, Usrmem, Uclose, Corblk}
-use Rattle.its_plain.specs.Arguments.{place_in, place_of_input}
+use Rattle.its_plain.specs.Arguments.{value_in, place_in, input, place_of_input}
 use Rattle.its_plain.specs.Decide.{call_named}
 use Rattle.its_plain.specs.Decode.{ask, iot_ask, row_named}
 use Rattle.its_plain.specs.Footprint.{among, times, in_footprint, variable, Stands}
@@ -61,18 +61,25 @@ by_block c s a n e = go s.channel refl
     go (Some k) h = absurd (n (iot_named c s a k h e))
     go None h = h
 
--- places of inputs are addresses
-placed : (c : Core) (o : Operand) (p : ℕ) → HasWord c o → o.place ≡ Some p → p < 2 ^ 18
+-- places of inputs are addresses, at which their values stand
+abbrev WordAt : Core → ℕ → ℕ → Type 0
+WordAt c p v = (p < 2 ^ 18) × (word_at c p ≡ Some v)
+
+placed : (c : Core) (o : Operand) (p : ℕ) → HasWord c o → o.place ≡ Some p → WordAt c p o.value
 placed c o p h e = go o.place h e
   where
-    go : (q : Option ℕ) → IfSome q (λ x. (x < 2 ^ 18) × (word_at c x ≡ Some o.value)) → q ≡ Some p → p < 2 ^ 18
-    go (Some x) g i = let k : x ≡ p = cc in subst (λ (y : ℕ). y < 2 ^ 18) k g.0
+    go : (q : Option ℕ) → IfSome q (λ x. WordAt c x o.value) → q ≡ Some p → WordAt c p o.value
+    go (Some x) g i = let k : x ≡ p = cc in subst (λ (y : ℕ). WordAt c y o.value) k g
     go None g i = cc
 
-input_placed : (c : Core) (os : List Operand) (k p : ℕ) → All (HasWord c) os → place_in (slice_get os k) ≡ Some p → p < 2 ^ 18
+input_placed : (c : Core) (os : List Operand) (k p : ℕ) → All (HasWord c) os → place_in (slice_get os k) ≡ Some p → WordAt c p (value_in (slice_get os k))
 input_placed c [] k p h e = cc
 input_placed c (o ∷ os) zero p h e = placed c o p (h 0 o (omega arith)) e
 input_placed c (o ∷ os) (suc k) p h e = input_placed c os k p (λ i d l. h (suc i) d (omega arith)) e
+
+-- the value of an argument that has a place is the word there
+pub input_word : (c : Core) (j : Job) (s : Site) (a : Ask) (k p : ℕ) → Stands c j s a → place_of_input a k ≡ Some p → word_at c p ≡ Some (input a k)
+input_word c j s a k p h e = (input_placed c a.inputs.items k p (fitted c j s a h).inputs e).1
 
 -- SLEEP's name
 other : (k : Option CallName) (b : Bool) (x o : Option CallName) → x ≢ k → o ≢ k → (if b then x else o) ≢ k
@@ -119,29 +126,33 @@ siot_named w h = elim (cases_Bool (w == 0o635157640000)) [
 ]
 
 -- its three arguments
-three_inputs : (a : Ask) (os : List Operand) (p q : ℕ) → a.inputs.items ≡ os → 3 ≤ length os → length os ≤ 3 → place_in (slice_get os 1) ≡ Some p → place_in (slice_get os 2) ≡ Some q
-    → Transfer a p q
-three_inputs a [] p q is l m e f = absurd (omega arith)
-three_inputs a (x ∷ []) p q is l m e f = absurd (omega arith)
-three_inputs a (x ∷ y ∷ []) p q is l m e f = absurd (omega arith)
-three_inputs a (x ∷ y ∷ z ∷ []) p q is l m e f = record {
+three_inputs : (a : Ask) (os : List Operand) (p q : ℕ) → a.inputs.items ≡ os → length os ≡ 3 → place_in (slice_get os 1) ≡ Some p → place_in (slice_get os 2) ≡ Some q → Transfer a p q
+three_inputs a [] p q is l e f = absurd (omega arith)
+three_inputs a (x ∷ []) p q is l e f = absurd (omega arith)
+three_inputs a (x ∷ y ∷ []) p q is l e f = absurd (omega arith)
+three_inputs a (x ∷ y ∷ z ∷ []) p q is l e f = record {
   channel = x;
   pointer = y.value;
   count = z.value;
   inputs = is ∙ (λ t. x ∷ record { value = y.value; place = e t } ∷ record { value = z.value; place = f t } ∷ []);
 }
-three_inputs a (x ∷ y ∷ z ∷ o ∷ os) p q is l m e f = absurd (omega arith)
+three_inputs a (x ∷ y ∷ z ∷ o ∷ os) p q is l e f = absurd (omega arith)
 
 siot_row : (r : CallRow) × ((row_named 0o635157640000 ≡ Some r) × ((r.least_in ≡ 3) × (r.most_in ≡ 3)))
 unfolding row_named
 siot_row = (_, (refl, (refl, refl)))
 
-mover : (c : Core) (s : Site) (a : Ask) (p q : ℕ) → ask c s ≡ Ok a → call_named a.name ≡ Some Siot → a.fail ≡ 0 → place_of_input a 1 ≡ Some p → place_of_input a 2 ≡ Some q → Transfer a p q
-mover c s a p q e n z h i =
+pub siot_inputs : (c : Core) (s : Site) (a : Ask) → ask c s ≡ Ok a → call_named a.name ≡ Some Siot → a.fail ≡ 0 → length a.inputs.items ≡ 3
+siot_inputs c s a e n z =
     let block = by_block c s a (λ t. let k : Some Iot ≡ Some Siot = sym t ∙ n in cc) e in
     let r = siot_row in
     let counts = ask_counts c s a r.0 block e (ap row_named (siot_named a.name n) ∙ r.1.0) z in
-    three_inputs a a.inputs.items p q refl (subst (λ (k : ℕ). k ≤ length a.inputs.items) r.1.1.0 counts.least_in) (subst (λ (k : ℕ). length a.inputs.items ≤ k) r.1.1.1 counts.most_in) h i
+    let least = subst (λ (k : ℕ). k ≤ length a.inputs.items) r.1.1.0 counts.least_in in
+    let most = subst (λ (k : ℕ). length a.inputs.items ≤ k) r.1.1.1 counts.most_in in
+    omega arith
+
+mover : (c : Core) (s : Site) (a : Ask) (p q : ℕ) → ask c s ≡ Ok a → call_named a.name ≡ Some Siot → a.fail ≡ 0 → place_of_input a 1 ≡ Some p → place_of_input a 2 ≡ Some q → Transfer a p q
+mover c s a p q e n z h i = three_inputs a a.inputs.items p q refl (siot_inputs c s a e n z) h i
 
 -- the output address of `.IOT` is that of its site
 done_placed : (c : Core) (j : Job) (reads : List ℕ) (x : Context) (i : Instruction) (s : Site) → x.e < 2 ^ 18 → done_by c j reads x i ≡ Called s → s.e < 2 ^ 18
@@ -210,7 +221,7 @@ decoding = record {
     error = λ w. error_stored c a.error w f.error;
     output = λ n w. out_stored c a.outputs.items w (f.outputs (by_block c s a n h.ask_is));
     address = out_address c j s a h;
-    input = λ k p e. let b = input_placed c a.inputs.items k p f.inputs e in omega arith;
+    input = λ k p e. let b = (input_placed c a.inputs.items k p f.inputs e).0 in omega arith;
     known = λ k p e. known c s a k p h.ask_is e;
     sleeper = λ p n z e. sleeper c s a p h.ask_is n z e;
     mover = λ p q n z e i. mover c s a p q h.ask_is n z e i;

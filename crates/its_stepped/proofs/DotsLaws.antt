@@ -29,7 +29,7 @@ use Rattle.its_stepped.specs.Unwind.{with_part, due, settled, unwind_by, unwind_
 use Rattle.its_stepped.specs.Commit.{effects_on, committed}
 use Rattle.its_stepped.specs.Tick.{Ticked, off, works, helps, user_on, unit_on, parsed_on, fetched_on, prepared_on, reserves, prepared_for, tried, tried_by, quarters, held_on, tick_in, tick_unless, tick_of, tick}
 use Rattle.its_stepped.specs.Sound.{Owes, Paged, SoundFrame, SoundBy, Sound}
-use Rattle.its_stepped.specs.Duty.{Duty, Meets, GivenBy, Given}
+use Rattle.its_stepped.specs.Duty.{Duty, Meets, GivenBy, Given, IsTried}
 use Rattle.its_stepped.specs.Licence.{Licensed}
 use Rattle.its_stepped.specs.Dots.{cleared, bound, Dotted, dots_after, Paced}
 use Rattle.its_stepped.proofs.FrameLaws.{changed_only}
@@ -146,14 +146,15 @@ tried_dots w j q s a n t m few =
     decided_dots w (prepared_for w j own a) j own s a n (decision (plain w) j own a) m.duty
     (λ k ne d. found_others w j k own a (sym (trying_reach w j k q s a n t) ∙ d)) few
 
-held_dots : (w : State) (j : ℕ) (q : Whole) (s : Site) (a : Ask) (page : Option ℕ) (n : ℕ) → Trying w j q s a n → Meets w j (with_stores (debts a n) q) s a n
+held_dots : (w : State) (j : ℕ) (q : Whole) (s : Site) (a : Ask) (page : Option ℕ) (n : ℕ) → Trying w j q s a n → (IsTried page → Meets w j (with_stores (debts a n) q) s a n)
     → w.frames j ≡ Some (holding s a page n) → bound (w.frames j) ≤ 12 → RowDots w j (held_on w j (with_stores (debts a n) q) s a page n)
-held_dots w j q s a None n t m is few = tried_dots w j q s a n t m few
-held_dots w j q s a (Some p) n t m is few = go (nat_lt p quarters)
+held_dots w j q s a None n t m is few = tried_dots w j q s a n t (m tt) few
+held_dots w j q s a (Some p) n t m is few = go (nat_lt p quarters) m
   where
-    go : (b : Bool) → RowDots w j (if b then works (reserving (turn w j same (Some (holding s a (Some (p + 1)) n))) j (Some (p + 1))) else tried_by w j (with_stores (debts a n) q) s a n)
-    go true = turn_works w _ j (Some (holding s a (Some p) n)) (Some (holding s a (Some (p + 1)) n)) refl is (omega arith)
-    go false = tried_dots w j q s a n t m few
+    go : (b : Bool) → (b ≡ false → Meets w j (with_stores (debts a n) q) s a n)
+        → RowDots w j (if b then works (reserving (turn w j same (Some (holding s a (Some (p + 1)) n))) j (Some (p + 1))) else tried_by w j (with_stores (debts a n) q) s a n)
+    go true m = turn_works w _ j (Some (holding s a (Some p) n)) (Some (holding s a (Some (p + 1)) n)) refl is (omega arith)
+    go false m = tried_dots w j q s a n t (m refl) few
 
 -- unwinding: a call that has ended owes fewer steps
 due_few : (b : Bool) (os : List Owed) → length (due b os) ≤ length os

@@ -23,7 +23,7 @@ use Rattle.its_plain.specs.CallFile.{file_named, has_file}
 use Rattle.its_stepped.specs.State.{State, helped, parts_of, parts_made, marked, held_at, owed_made, seen, seen_jobs, plain}
 use Rattle.its_stepped.specs.Commit.{effect_on, effects_on}
 use Rattle.its_stepped.specs.Sound.{Standing, SoundFrame, SoundSlot}
-use Rattle.its_stepped.specs.Quiet.{IsStill, Reached, Quiet, AllQuiet}
+use Rattle.its_stepped.specs.Quiet.{IsStill, Reached, MakesPage, Quiet, AllQuiet}
 use Rattle.its_stepped.proofs.FrameLaws.{stores_none, seen_superior, seen_channels, seen_names, changed_only, on_slot_here, on_slot_other, jobs_is}
 use Rattle.its_stepped.proofs.DebtLaws.{debts_none}
 
@@ -213,11 +213,11 @@ unreserved_plain : (w : State) (r : ℕ → Option ℕ) → plain (record w { re
 unfolding plain
 unreserved_plain w r = refl
 
-map_plain : (s k j : ℕ) (w : State) → Reached w j s → plain (effect_on (changes.Map s k) j w) ≡ effect (changes.Map s k) j (plain w)
+map_plain : (s k j : ℕ) (w : State) → MakesPage w j s → plain (effect_on (changes.Map s k) j w) ≡ effect (changes.Map s k) j (plain w)
 unfolding effect_on effect
 map_plain s k j w h =
     unreserved_plain (record w { raw = in_job w.raw s (with_page_at k (Some zero_page)) }) (changed w.reserved j None)
-    ∙ reached_plain w j s (with_page_at k (Some zero_page)) h
+    ∙ reached_plain w j s (with_page_at k (Some zero_page)) h.reached
 
 pub effect_plain : (c : Change) (j : ℕ) (w : State) → Quiet c j w → plain (effect_on c j w) ≡ effect c j (plain w)
 unfolding effect_on effect
@@ -321,7 +321,7 @@ effect_sound (changes.Hold c i) j w k h ne s = s
 effect_sound (changes.Poke i a word) j w k h ne s = slot_reached w j i k (with_stores (poke a word ∷ [])) h ne s
 effect_sound (changes.Set i v word) j w k h ne s = slot_reached w j i k (with_registers (with_variable v word)) h ne s
 effect_sound (changes.Map i p) j w k h ne s =
-    slot_unreserved _ _ _ _ ((changed_only w.reserved j None).others k ne) (slot_reached w j i k (with_page_at p (Some zero_page)) h ne s)
+    slot_unreserved _ _ _ _ ((changed_only w.reserved j None).others k ne) (slot_reached w j i k (with_page_at p (Some zero_page)) h.reached ne s)
 effect_sound (changes.Unmap i p) j w k h ne s = slot_reached w j i k (with_page_at p None) h ne s
 effect_sound (changes.Protect i p b) j w k h ne s = slot_reached w j i k (protected p b) h ne s
 effect_sound (changes.Make i u n) j w k h ne s = slot_new w i k (inferior j (w.raw.jobs j) u n) h s

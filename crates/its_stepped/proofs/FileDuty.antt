@@ -15,7 +15,7 @@ use Rattle.its_frame.specs.declared.name.CallName.TheVariants.{Close, Iot, Fille
 use Rattle.its_plain.specs.Arguments.{input}
 use Rattle.its_plain.specs.CallBasic.{channel_at, ioc}
 use Rattle.its_plain.specs.CallTty.{store_tests, read_tests, word_of, iot_ends}
-use Rattle.its_plain.specs.CallFile.{disk_device, most_files, is_full, channels_in, has_file, is_read, words_of, names_from, is_output, opens_as, disk_tests, opens_disk, closes_draft, end_of_file, iot_read, iot_reads, iot_writes, access_on, access, fillen_on, fillen, file_tests, delete, rename, open_by, open_call, close_by, close_call, iot_by, iot_call}
+use Rattle.its_plain.specs.CallFile.{disk_device, most_files, is_full, channels_in, has_file, is_read, words_of, names_from, is_output, opens_as, disk_tests, opens_disk, closes_draft, end_of_file, iot_read, iot_reads, iot_writes, end_of_core, access_to, access_on, access, fillen_on, fillen, file_tests, delete, rename, open_by, open_call, close_by, close_call, iot_by, iot_call}
 use Rattle.its_plain.specs.Decide.{call_named}
 use Rattle.its_plain.specs.Machine.{Names, File, Chan, Shut, TtyIn, TtyOut, Reads, Writes, On, Whole, Machine}
 use Rattle.its_plain.specs.Own.{names_of}
@@ -40,7 +40,7 @@ unmarked : (m : Machine) (v : State) (j : ℕ) (x : View) (s : Site) (a : Ask) (
 unmarked m v j x s a n k c e z h = c.unmarked (helps_named x.own a k z e h)
 
 -- one change of a call that ends, and stores nothing
-changes_duty : (m : Machine) (v : State) (j : ℕ) (x : View) (s : Site) (a : Ask) (n : ℕ) (g : Change) → Calling m v j x.own s a n → Quiet g j v → Spares g j v → parts_in (g ∷ []) ≡ 0
+pub changes_duty : (m : Machine) (v : State) (j : ℕ) (x : View) (s : Site) (a : Ask) (n : ℕ) (g : Change) → Calling m v j x.own s a n → Quiet g j v → Spares g j v → parts_in (g ∷ []) ≡ 0
     → Ending_by v j x.own n (g ∷ []) []
 changes_duty m v j x s a n g c quiet spare parts = ending_duty m v j x.own s a n (g ∷ []) [] c (quiet, tt) (spare, tt) parts tt (omega arith)
 
@@ -98,7 +98,7 @@ unfolding close_call
 close_call_duty m v j x s a n c e z = close_by_duty m v j x s a n (channel_at x.own.channels (input a 0)) c e (λ h. unmarked m v j x s a n Close c e z h)
 
 -- `.IOT`
-iot_read_duty : (m : Machine) (v : State) (j : ℕ) (x : View) (s : Site) (a : Ask) (n e i at : ℕ) (o : Option ℕ) → Calling m v j x.own s a n → e % 2 ^ 18 ≡ e
+pub iot_read_duty : (m : Machine) (v : State) (j : ℕ) (x : View) (s : Site) (a : Ask) (n e i at : ℕ) (o : Option ℕ) → Calling m v j x.own s a n → e % 2 ^ 18 ≡ e
     → can_store x.own.core e ≡ true → Duty v j x.own s a n (iot_read x e i at o)
 iot_read_duty m v j x s a n e i at (Some w) c is can =
     ending_duty m v j x.own s a n (changes.Move i (at + 1) ∷ []) (record { at = e; word = w } ∷ []) c (tt, tt) (tt, tt) refl (ap (can_store x.own.core) is ∙ can, tt) (omega arith)
@@ -131,15 +131,18 @@ unfolding iot_call
 iot_call_duty m v j x s a n c is = iot_by_duty m v j x s a n (slice_index_or a.outputs.items 0 0) (input a 0) (channel_at x.own.channels (input a 0)) c is c.fetched.address
 
 -- ACCESS
-access_on_duty : (m : Machine) (v : State) (j : ℕ) (x : View) (s : Site) (a : Ask) (n : ℕ) (h : Chan) → Calling m v j x.own s a n → Duty v j x.own s a n (access_on x a h)
-access_on_duty m v j x s a n (Reads f at) c =
-    first_holds (Duty v j x.own s a n) (nat_lt (length (words_of x f)) (input a 1) ⇒ fails x a 0o22 ∷ []) (finishes x (changes.Move (input a 0) (input a 1) ∷ []) [])
+access_to_duty : (m : Machine) (v : State) (j : ℕ) (x : View) (s : Site) (a : Ask) (n most : ℕ) → Calling m v j x.own s a n → Duty v j x.own s a n (access_to x a most)
+access_to_duty m v j x s a n most c =
+    first_holds (Duty v j x.own s a n) (nat_lt most (input a 1) ⇒ fails x a 0o22 ∷ []) (finishes x (changes.Move (input a 0) (input a 1) ∷ []) [])
     (λ t. fails_duty m v j x s a n 0o22 c, tt) (λ t. changes_duty m v j x s a n (changes.Move (input a 0) (input a 1)) c tt tt refl)
+
+access_on_duty : (m : Machine) (v : State) (j : ℕ) (x : View) (s : Site) (a : Ask) (n : ℕ) (h : Chan) → Calling m v j x.own s a n → Duty v j x.own s a n (access_on x a h)
+access_on_duty m v j x s a n (Reads f at) c = access_to_duty m v j x s a n (length (words_of x f)) c
 access_on_duty m v j x s a n Shut c = fails_duty m v j x s a n 0o4 c
 access_on_duty m v j x s a n TtyIn c = fails_duty m v j x s a n 0o5 c
 access_on_duty m v j x s a n TtyOut c = fails_duty m v j x s a n 0o5 c
 access_on_duty m v j x s a n (Writes f) c = fails_duty m v j x s a n 0o5 c
-access_on_duty m v j x s a n (On k write at) c = fails_duty m v j x s a n 0o5 c
+access_on_duty m v j x s a n (On k write at) c = access_to_duty m v j x s a n end_of_core c
 
 pub access_duty : (m : Machine) (v : State) (j : ℕ) (x : View) (s : Site) (a : Ask) (n : ℕ) → Calling m v j x.own s a n → Duty v j x.own s a n (access x a)
 unfolding access

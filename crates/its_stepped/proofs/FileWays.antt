@@ -1,5 +1,5 @@
--- The ways in which a call on files goes on or ends: what holds of each of them, and of what the call decides on consoles,
--- holds of its decision.
+-- The ways in which a call goes on or ends, by the changes that it makes; and those on files: what holds of each of these
+-- ways, and of what the call decides on consoles, holds of its decision.
 use Rattle.std.specs.Prelude.{◌==◌, ◌&&◌, ℕ, ◌+◌, ◌-◌, Bool, true, false, not, Option, Some, None, List, [], ◌∷◌, ◌++◌, nat_lt, is_some, length, slice_get, slice_index_or, unwrap_or}
 use Rattle.its_word.specs.Byte.{load_of}
 use Rattle.its_word.specs.Word.{right_of}
@@ -18,13 +18,26 @@ use Rattle.its_frame.specs.declared.name.CallName.TheVariants.{Open, Close, Iot,
 use Rattle.its_plain.specs.Arguments.{input}
 use Rattle.its_plain.specs.CallBasic.{channel_at, ioc}
 use Rattle.its_plain.specs.CallTty.{opens, closes, iot, siot, store_tests, read_tests, word_of, iot_ends, next_pointer, siot_tests, siot_by}
-use Rattle.its_plain.specs.CallFile.{disk_device, most_files, is_full, channels_in, has_file, is_read, words_of, names_from, is_output, opens_as, disk_tests, opens_disk, closes_draft, end_of_file, iot_read, siot_read, siot_reads, siot_write, access_on, access, fillen_on, fillen, file_tests, delete, rename, open_by, open_call, close_by, close_call, iot_by, iot_call, siot_to, siot_call}
-use Rattle.its_plain.specs.Decide.{tty_by, decided_by}
+use Rattle.its_plain.specs.CallFile.{disk_device, most_files, is_full, channels_in, has_file, is_read, words_of, names_from, is_output, opens_as, disk_tests, opens_disk, closes_draft, end_of_file, iot_read, siot_read, siot_reads, siot_write, end_of_core, access_to, access_on, access, fillen_on, fillen, file_tests, delete, rename, open_by, open_call, close_by, close_call, iot_by, iot_call, siot_to, siot_call}
+use Rattle.its_plain.specs.Decide.{tty_by, file_by}
 use Rattle.its_plain.specs.Machine.{File, Chan, Shut, TtyIn, TtyOut, Reads, Writes, On}
 use Rattle.its_plain.specs.Own.{names_of}
 use Rattle.its_plain.specs.Tests.{◌⇒◌, finishes, fails, faults, goes, out}
 use Rattle.its_plain.specs.View.{View}
 use Rattle.its_stepped.proofs.TestLaws.{first_holds}
+
+-- the ways of a call each of whose changes is such a one
+abbrev pub AllOn : (Change → Type 0) → List Change → Type 0
+AllOn OnIt [] = Unit {0}
+AllOn OnIt (c ∷ cs) = OnIt c × AllOn OnIt cs
+
+pub record Ways (OnIt : Change → Type 0) (P : Decision → Type 0) (x : View) (a : Ask) : Type 0 where
+  pub failing : (k : ℕ) → P (fails x a k)
+  pub faulting : (f : Fault) → P (faults x f)
+  pub stuck : P (ioc x)
+  pub ending : (cs : List Change) (ss : List Store) → AllOn OnIt cs → P (finishes x cs ss)
+  pub moved : (cs : List Change) (ss : List Store) → AllOn OnIt cs → P (iot_ends x cs ss)
+  pub going : (cs : List Change) (h : Option Held) (vs : List ℕ) → AllOn OnIt cs → P (goes cs h vs)
 
 -- the changes that a call on files makes
 abbrev pub OpensFile : Opened → Type 0
@@ -42,17 +55,10 @@ OnFile (changes.Rename d x y u v) = Unit {0}
 OnFile _ = ⊥
 
 abbrev pub OnFiles : List Change → Type 0
-OnFiles [] = Unit {0}
-OnFiles (c ∷ cs) = OnFile c × OnFiles cs
+OnFiles cs = AllOn OnFile cs
 
--- the ways
-pub record FileWays (P : Decision → Type 0) (x : View) (a : Ask) : Type 0 where
-  pub failing : (k : ℕ) → P (fails x a k)
-  pub faulting : (f : Fault) → P (faults x f)
-  pub stuck : P (ioc x)
-  pub ending : (cs : List Change) (ss : List Store) → OnFiles cs → P (finishes x cs ss)
-  pub moved : (cs : List Change) (ss : List Store) → OnFiles cs → P (iot_ends x cs ss)
-  pub going : (cs : List Change) (h : Option Held) (vs : List ℕ) → OnFiles cs → P (goes cs h vs)
+abbrev pub FileWays : (Decision → Type 0) → View → Ask → Type 0
+FileWays P x a = Ways OnFile P x a
 
 -- OPEN
 opens_file : (b : Bool) (d x y : ℕ) → OpensFile (opens_as b d x y)
@@ -134,7 +140,8 @@ siot_write_ways P x a next k n f w =
     first_holds P (read_tests x (right_of next) ++ (is_full x.files (channels_in x) f.words ⇒ fails x a 0o10 ∷ [])) (goes (change ∷ []) None (next ∷ (k - 1) ∷ []))
     (λ t. w.faulting Mpv, (λ t. w.failing 0o10, tt)) (λ t. w.going (change ∷ []) None (next ∷ (k - 1) ∷ []) (tt, tt))
 
-pub siot_by_ways : (P : Decision → Type 0) (x : View) (a : Ask) (words ended : Bool) (d : Decision) → FileWays P x a → P d → P (siot_by x a words ended d)
+-- the tests of its arguments, whatever the device
+pub siot_by_ways : {OnIt : Change → Type 0} (P : Decision → Type 0) (x : View) (a : Ask) (words ended : Bool) (d : Decision) → Ways OnIt P x a → P d → P (siot_by x a words ended d)
 siot_by_ways P x a words ended d w h =
     let ends = w.ending [] [] tt in
     first_holds P (siot_tests x a (input a 1) (input a 2) words ended) d (
@@ -165,19 +172,22 @@ siot_ways P x a w h = go (channel_at x.own.channels (input a 0))
     go (On k write at) = h
 
 -- ACCESS and FILLEN
+access_to_ways : (P : Decision → Type 0) (x : View) (a : Ask) (most : ℕ) → FileWays P x a → P (access_to x a most)
+access_to_ways P x a most w =
+    let change = changes.Move (input a 0) (input a 1) in
+    first_holds P (nat_lt most (input a 1) ⇒ fails x a 0o22 ∷ []) (finishes x (change ∷ []) []) (λ t. w.failing 0o22, tt) (λ t. w.ending (change ∷ []) [] (tt, tt))
+
 access_ways : (P : Decision → Type 0) (x : View) (a : Ask) → FileWays P x a → P (access x a)
 unfolding access
 access_ways P x a w = go (channel_at x.own.channels (input a 0))
   where
     go : (c : Chan) → P (access_on x a c)
-    go (Reads f at) =
-        let change = changes.Move (input a 0) (input a 1) in
-        first_holds P (nat_lt (length (words_of x f)) (input a 1) ⇒ fails x a 0o22 ∷ []) (finishes x (change ∷ []) []) (λ t. w.failing 0o22, tt) (λ t. w.ending (change ∷ []) [] (tt, tt))
+    go (Reads f at) = access_to_ways P x a (length (words_of x f)) w
     go Shut = w.failing 0o4
     go TtyIn = w.failing 0o5
     go TtyOut = w.failing 0o5
     go (Writes f) = w.failing 0o5
-    go (On k write at) = w.failing 0o5
+    go (On k write at) = access_to_ways P x a end_of_core w
 
 fillen_ways : (P : Decision → Type 0) (x : View) (a : Ask) → FileWays P x a → P (fillen x a)
 unfolding fillen
@@ -207,7 +217,7 @@ rename_ways P x a w =
     (λ t. w.failing 0o5, (λ t. w.failing 0o6, (λ t. w.failing 0o11, (λ t. w.failing 0o23, tt)))) (λ t. w.ending (change ∷ []) [] (tt, tt))
 
 -- the calls by their names
-pub file_ways : (P : Decision → Type 0) (x : View) (a : Ask) (o : Option CallName) → FileWays P x a → P (tty_by x a o) → P (decided_by x a o)
+pub file_ways : (P : Decision → Type 0) (x : View) (a : Ask) (o : Option CallName) → FileWays P x a → P (tty_by x a o) → P (file_by x a o)
 file_ways P x a (Some Open) w h = open_ways P x a w h
 file_ways P x a (Some Close) w h = close_ways P x a w h
 file_ways P x a (Some Iot) w h = iot_ways P x a w h

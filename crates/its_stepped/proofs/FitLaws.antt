@@ -1,10 +1,18 @@
--- Every call that is built keeps jobs apart: it makes no job, and opens no channel on one.
-use Rattle.std.specs.Prelude.{if◌then◌else◌, ◌==◌, ◌&&◌, ◌≡◌, ℕ, ◌+◌, ◌-◌, Bool, true, false, not, Option, Some, None, List, [], ◌∷◌, ◌++◌, length, slice_index_or, unwrap_or, Result, Ok, Err}
+-- Every call keeps how jobs lie to each other: OPEN makes inferiors of the caller and opens channels on them alone, UCLOSE removes
+-- one of them, and TTYLND gives a console to the caller or to one of them.
+use Rattle.std.specs.Prelude.{if◌then◌else◌, ◌==◌, ◌&&◌, ◌≡◌, ℕ, ◌+◌, ◌-◌, Bool, true, false, not, Option, Some, None, List, [], ◌∷◌, ◌++◌, find, cond, option_map, is_some, zero, suc, ◌<◌, refl, length, slice_index_or, unwrap_or, Result, Ok, Err}
+use Rattle.std.specs.List.{range_with_len}
+use Rattle.std.proofs.Common.{sym, ◌∙◌, ap, arith}
+use Rattle.std.proofs.lemmas.Bool.{and_parts, eqb-true}
 use Rattle.its_word.specs.Byte.{load_of}
+use Rattle.its_word.specs.Core.{word_at, can_store}
+use Rattle.its_word.specs.Limits.{slots}
+use Rattle.its_word.specs.Tree.{free_from, least_free}
 use Rattle.its_word.specs.Word.{right_of}
 use Rattle.its_word.specs.declared.access.Fault.{Fault}
 use Rattle.its_word.specs.declared.calls.Ask.{Ask}
 use Rattle.its_word.specs.declared.calls.Exit.{Exit}
+use Rattle.its_word.proofs.FreeLaws.{least_empty}
 use Rattle.its_frame.specs.declared.change.Change.{Change}
 use Rattle.its_frame.specs.declared.change.Change.TheVariants as changes
 use Rattle.its_frame.specs.declared.change.Opened.{Opened}
@@ -13,123 +21,133 @@ use Rattle.its_frame.specs.declared.decision.Decision.{Decision}
 use Rattle.its_frame.specs.declared.decision.Decision.TheVariants.{Waits}
 use Rattle.its_frame.specs.declared.decision.Wait.TheVariants.{Input, Output, Drained}
 use Rattle.its_frame.specs.declared.name.CallName.{CallName}
-use Rattle.its_frame.specs.declared.name.CallName.TheVariants.{Hang, Sleep, Dismis, Usrvar, Logout, Open, Close, Iot, Siot, Finish, Listen, Ttylnd}
+use Rattle.its_frame.specs.declared.name.CallName.TheVariants.{Hang, Sleep, Dismis, Usrvar, Logout, Open, Close, Iot, Siot, Finish, Listen, Ttylnd, Usrmem, Uclose}
 use Rattle.its_frame.specs.declared.variable.Variable.{Variable}
 use Rattle.its_plain.specs.Arguments.{input, has_input, place_of_input}
-use Rattle.its_plain.specs.CallBasic.{negated, sleep_tests, sleep, dismissed_by, dismiss_at, dismiss, Party, Oneself, Nobody, Channel, variable_named, by_oneself, by_superior, set_own, own_variable, set_other, value_of_other, other_variable, usrvar_of, party, usrvar, told_superior, channel_at}
-use Rattle.its_plain.specs.CallTty.{console_of, has_console, input_waits, output_waits, output_left, first_typed, shown_byte, opens_on, open_tests, opens, close_on, closes, store_tests, read_tests, word_of, iot_ends, iot_in, iot_out, iot_on, iot, next_pointer, siot_in, siot_out, siot_by, siot_on, siot, finish_on, finish, listens, listen_on, listen, can_take, is_holder, lands, ttylnd_of, ttylnd}
+use Rattle.its_plain.specs.CallBasic.{negated, sleep_tests, sleep, dismissed_by, dismiss_at, dismiss, Party, Oneself, Nobody, Channel, variable_named, by_oneself, by_superior, set_own, own_variable, set_other, value_of_other, other_variable, usrvar_of, party_on, party, is_oneself, usrvar, told_superior, channel_at, ioc}
+use Rattle.its_plain.specs.CallFile.{open_call, iot_call, siot_call}
+use Rattle.its_plain.specs.CallTty.{console_of, has_console, input_waits, output_waits, output_left, first_typed, shown_byte, opens_on, open_tests, opens, close_on, closes, store_tests, read_tests, word_of, iot_ends, iot_in, iot_out, iot_on, iot, next_pointer, siot_in, siot_out, siot_by, siot_on, siot, finish_on, finish, listens, listen_on, listen, can_take, is_superior, is_holder, lands, ttylnd_of, ttylnd}
+use Rattle.its_plain.specs.CallUsr.{usr_device, has_names, inferior_named, any_named, makes_job, opens_job, usr_tests, opens_usr, other_core, at_end, iot_peeks, iot_through, iot_beside, iot_usr, siot_peeks, siot_pokes, siot_beside, siot_usr, set_word, usrmem_tests, usrmem_on, usrmem, uclose_on, uclose, open_beside, open_usr}
+use Rattle.its_plain.specs.Change.{superior_in, superiors, effect}
 use Rattle.its_plain.specs.CallStep.{step, decision}
-use Rattle.its_plain.specs.Decide.{call_named, tty_by, decided_by, decided, target}
+use Rattle.its_plain.specs.Decide.{call_named, tty_by, file_by, usr_by, decided_by, decided, target}
 use Rattle.its_plain.specs.Interrupt.{dismissed}
 use Rattle.its_plain.specs.Machine.{Chan, Shut, TtyIn, TtyOut, Reads, Writes, On, Whole, Machine}
 use Rattle.its_plain.specs.Tests.{◌⇒◌, finishes, fails, goes, out}
-use Rattle.its_plain.specs.View.{View, view}
-use Rattle.its_stepped.specs.Calling.{Distinct}
+use Rattle.its_plain.specs.View.{View, Outline, outline, view}
+use Rattle.its_stepped.specs.Forest.{OnInferior, Forest}
 use Rattle.its_stepped.proofs.TestLaws.{by_test, first_holds}
-use Rattle.its_stepped.proofs.FileWays.{OpensFile, OnFile, OnFiles, FileWays, siot_by_ways, file_ways}
-use Rattle.its_stepped.proofs.DistinctLaws.{OpensApart, Fits, AllFit, FitsAll, distinct_steps}
+use Rattle.its_stepped.proofs.FileWays.{AllOn, Ways, OpensFile, OnFile, FileWays, siot_by_ways, file_ways}
+use Rattle.its_stepped.proofs.CoreWays.{OnCore, core_ways}
+use Rattle.its_stepped.proofs.ForestLaws.{OpensInferior, MakesInferior, Fits, AllFit, FitsAll, channel_of, inferior_stands, made_inferior, steps_where}
 
-sleep_fits : (x : View) (a : Ask) (j : ℕ) → FitsAll (sleep x a) j
+sleep_fits : (x : View) (a : Ask) (j : ℕ) (m : Machine) → FitsAll (sleep x a) j m
 unfolding sleep
-sleep_fits x a j =
-    first_holds (λ d. FitsAll d j) (sleep_tests x a (input a 0) (place_of_input a 0)) (goes [] None (negated (x.clock + input a 0) ∷ []))
+sleep_fits x a j m =
+    first_holds (λ d. FitsAll d j m) (sleep_tests x a (input a 0) (place_of_input a 0)) (goes [] None (negated (x.clock + input a 0) ∷ []))
     (λ t. tt, (λ t. tt, (λ t. tt, (λ t. tt, (λ t. tt, (λ t. tt, tt)))))) (λ t. tt)
 
-dismissed_fits : (x : View) (p w j : ℕ) (r : Result Exit Fault) → FitsAll (dismissed_by x p w r) j
-dismissed_fits x p w j (Ok e) = tt
-dismissed_fits x p w j (Err f) = tt
+dismissed_fits : (x : View) (p w j : ℕ) (m : Machine) (r : Result Exit Fault) → FitsAll (dismissed_by x p w r) j m
+dismissed_fits x p w j m (Ok e) = tt
+dismissed_fits x p w j m (Err f) = tt
 
-dismiss_fits : (x : View) (a : Ask) (j : ℕ) → FitsAll (dismiss x a) j
+dismiss_fits : (x : View) (a : Ask) (j : ℕ) (m : Machine) → FitsAll (dismiss x a) j m
 unfolding dismiss
-dismiss_fits x a j = go (place_of_input a 0)
+dismiss_fits x a j m = go (place_of_input a 0)
   where
-    go : (o : Option ℕ) → FitsAll (dismiss_at x a o) j
-    go (Some p) = dismissed_fits x p (input a 0) j (dismissed x.own.core x.own.job p)
+    go : (o : Option ℕ) → FitsAll (dismiss_at x a o) j m
+    go (Some p) = dismissed_fits x p (input a 0) j m (dismissed x.own.core x.own.job p)
     go None = tt
 
-own_fits : (x : View) (a : Ask) (y : Variable) (j : ℕ) (b : Bool) → FitsAll (set_own x a y b) j
-own_fits x a y j true = tt
-own_fits x a y j false = tt
+own_fits : (x : View) (a : Ask) (y : Variable) (j : ℕ) (m : Machine) (b : Bool) → FitsAll (set_own x a y b) j m
+own_fits x a y j m true = tt
+own_fits x a y j m false = tt
 
-own_variable_fits : (x : View) (a : Ask) (j : ℕ) (o : Option Variable) → FitsAll (own_variable x a o) j
-own_variable_fits x a j None = tt
-own_variable_fits x a j (Some y) =
-    by_test (λ d. FitsAll d j) (has_input a 2 && not (by_oneself y)) (fails x a 0o22) (set_own x a y (has_input a 2)) (λ t. tt) (λ t. own_fits x a y j (has_input a 2))
+own_variable_fits : (x : View) (a : Ask) (j : ℕ) (m : Machine) (o : Option Variable) → FitsAll (own_variable x a o) j m
+own_variable_fits x a j m None = tt
+own_variable_fits x a j m (Some y) =
+    by_test (λ d. FitsAll d j m) (has_input a 2 && not (by_oneself y)) (fails x a 0o22) (set_own x a y (has_input a 2)) (λ t. tt) (λ t. own_fits x a y j m (has_input a 2))
 
-set_fits : (k : ℕ) (y : Variable) (w j : ℕ) (b : Bool) → AllFit (set_other k y w b) j
-set_fits k y w j true = (tt, tt)
-set_fits k y w j false = tt
+set_fits : (k : ℕ) (y : Variable) (w j : ℕ) (m : Machine) (b : Bool) → AllFit (set_other k y w b) j m
+set_fits k y w j m true = (tt, tt)
+set_fits k y w j m false = tt
 
-other_variable_fits : (x : View) (a : Ask) (k j : ℕ) (write : Bool) (o : Option Variable) → FitsAll (other_variable x a k write o) j
-other_variable_fits x a k j write None = tt
-other_variable_fits x a k j write (Some y) =
-    first_holds (λ d. FitsAll d j)
+other_variable_fits : (x : View) (a : Ask) (k j : ℕ) (m : Machine) (write : Bool) (o : Option Variable) → FitsAll (other_variable x a k write o) j m
+other_variable_fits x a k j m write None = tt
+other_variable_fits x a k j m write (Some y) =
+    first_holds (λ d. FitsAll d j m)
     (((has_input a 2 && not write) ⇒ fails x a 0o5) ∷ ((has_input a 2 && not (by_superior y)) ⇒ fails x a 0o22) ∷ [])
     (finishes x (set_other k y (input a 2) (has_input a 2)) (out a.outputs.items (value_of_other k y x.other)))
-    (λ t. tt, (λ t. tt, tt)) (λ t. set_fits k y (input a 2) j (has_input a 2))
+    (λ t. tt, (λ t. tt, tt)) (λ t. set_fits k y (input a 2) j m (has_input a 2))
 
-usrvar_fits : (x : View) (a : Ask) (j : ℕ) → FitsAll (usrvar x a) j
+usrvar_fits : (x : View) (a : Ask) (j : ℕ) (m : Machine) → FitsAll (usrvar x a) j m
 unfolding usrvar
-usrvar_fits x a j = go (party x (input a 0))
+usrvar_fits x a j m = go (party x (input a 0))
   where
-    go : (p : Party) → FitsAll (usrvar_of x a p) j
-    go Oneself = own_variable_fits x a j (variable_named (input a 1))
+    go : (p : Party) → FitsAll (usrvar_of x a p) j m
+    go Oneself = own_variable_fits x a j m (variable_named (input a 1))
     go Nobody = tt
-    go (Channel (On k write at)) = other_variable_fits x a k j write (variable_named (input a 1))
+    go (Channel (On k write at)) = other_variable_fits x a k j m write (variable_named (input a 1))
     go (Channel Shut) = tt
     go (Channel TtyIn) = tt
     go (Channel TtyOut) = tt
     go (Channel (Reads f at)) = tt
     go (Channel (Writes f)) = tt
 
-told_fits : (o : Option ℕ) (j : ℕ) → AllFit (told_superior o) j
-told_fits (Some k) j = (tt, tt)
-told_fits None j = tt
+told_fits : (o : Option ℕ) (j : ℕ) (m : Machine) → AllFit (told_superior o) j m
+told_fits (Some k) j m = (tt, tt)
+told_fits None j m = tt
 
 -- a call on files opens none
-opens_fit : (on : Opened) (j : ℕ) → OpensFile on → OpensApart on j
-opens_fit (opened.Reading d x y) j h = tt
-opens_fit (opened.Writing d x y) j h = tt
-opens_fit opened.TtyIn j h = tt
-opens_fit opened.TtyOut j h = tt
-opens_fit (opened.Usr s write) j h = absurd h
+opens_fit : (on : Opened) (j : ℕ) (m : Machine) → OpensFile on → OpensInferior on j m
+opens_fit (opened.Reading d x y) j m h = tt
+opens_fit (opened.Writing d x y) j m h = tt
+opens_fit opened.TtyIn j m h = tt
+opens_fit opened.TtyOut j m h = tt
+opens_fit (opened.Usr s write) j m h = absurd h
 
-file_fits : (c : Change) (j : ℕ) → OnFile c → Fits c j
-file_fits (changes.Open n on) j h = opens_fit on j h
-file_fits (changes.Make s u n) j h = absurd h
-file_fits _ j h = tt
+file_fits : (c : Change) (j : ℕ) (m : Machine) → OnFile c → Fits c j m
+file_fits (changes.Open n on) j m h = opens_fit on j m h
+file_fits (changes.Make s u n) j m h = absurd h
+file_fits (changes.Hold c s) j m h = absurd h
+file_fits (changes.Remove s) j m h = absurd h
+file_fits _ j m h = tt
 
-files_fit : (cs : List Change) (j : ℕ) → OnFiles cs → AllFit cs j
-files_fit [] j h = tt
-files_fit (c ∷ cs) j h = (file_fits c j h.0, files_fit cs j h.1)
+-- each change of a call fits, whatever machine the changes before it leave
+all_fit : (OnIt : Change → Type 0) (j : ℕ) → ((c : Change) (m : Machine) → OnIt c → Fits c j m) → (cs : List Change) (m : Machine) → AllOn OnIt cs → AllFit cs j m
+all_fit OnIt j each [] m h = tt
+all_fit OnIt j each (c ∷ cs) m h = (each c m h.0, all_fit OnIt j each cs (effect c j m) h.1)
 
-ways_fit : (x : View) (a : Ask) (j : ℕ) → FileWays (λ d. FitsAll d j) x a
-ways_fit x a j = record {
+ways_where : (OnIt : Change → Type 0) (j : ℕ) → ((c : Change) (m : Machine) → OnIt c → Fits c j m) → (x : View) (a : Ask) (m : Machine) → Ways OnIt (λ d. FitsAll d j m) x a
+ways_where OnIt j each x a m = record {
   failing = λ k. tt;
   faulting = λ f. tt;
   stuck = tt;
-  ending = λ cs ss h. files_fit cs j h;
-  moved = λ cs ss h. files_fit cs j h;
-  going = λ cs o vs h. files_fit cs j h;
+  ending = λ cs ss h. all_fit OnIt j each cs m h;
+  moved = λ cs ss h. all_fit OnIt j each cs m h;
+  going = λ cs o vs h. all_fit OnIt j each cs m h;
 }
 
+ways_fit : (x : View) (a : Ask) (j : ℕ) (m : Machine) → FileWays (λ d. FitsAll d j m) x a
+ways_fit x a j m = ways_where OnFile j (λ c n h. file_fits c j n h) x a m
+
 -- the calls on consoles
-opened_fits : (b : Bool) (j : ℕ) → OpensApart (if b then opened.TtyOut else opened.TtyIn) j
-opened_fits true j = tt
-opened_fits false j = tt
+opened_fits : (b : Bool) (j : ℕ) (m : Machine) → OpensInferior (if b then opened.TtyOut else opened.TtyIn) j m
+opened_fits true j m = tt
+opened_fits false j m = tt
 
-opens_fits : (x : View) (a : Ask) (j : ℕ) → FitsAll (opens x a) j
+opens_fits : (x : View) (a : Ask) (j : ℕ) (m : Machine) → FitsAll (opens x a) j m
 unfolding opens
-opens_fits x a j =
+opens_fits x a j m =
     let control = unwrap_or a.control 0 in
-    first_holds (λ d. FitsAll d j) (open_tests x a (input a 0) (input a 1) control) (finishes x (changes.Open (input a 0) (opens_on control) ∷ []) [])
-    (λ t. tt, (λ t. tt, (λ t. tt, (λ t. tt, tt)))) (λ t. (opened_fits (control == 1) j, tt))
+    first_holds (λ d. FitsAll d j m) (open_tests x a (input a 0) (input a 1) control) (finishes x (changes.Open (input a 0) (opens_on control) ∷ []) [])
+    (λ t. tt, (λ t. tt, (λ t. tt, (λ t. tt, tt)))) (λ t. (opened_fits (control == 1) j m, tt))
 
-closes_fits : (x : View) (a : Ask) (j : ℕ) → FitsAll (closes x a) j
+closes_fits : (x : View) (a : Ask) (j : ℕ) (m : Machine) → FitsAll (closes x a) j m
 unfolding closes
-closes_fits x a j = go (channel_at x.own.channels (input a 0))
+closes_fits x a j m = go (channel_at x.own.channels (input a 0))
   where
-    go : (c : Chan) → FitsAll (close_on x a c) j
+    go : (c : Chan) → FitsAll (close_on x a c) j m
     go Shut = tt
     go TtyIn = (tt, tt)
     go TtyOut = (tt, tt)
@@ -137,46 +155,46 @@ closes_fits x a j = go (channel_at x.own.channels (input a 0))
     go (Writes f) = (tt, tt)
     go (On k write at) = (tt, tt)
 
-iot_in_fits : (x : View) (e i j : ℕ) → FitsAll (iot_in x e i) j
-iot_in_fits x e i j =
-    first_holds (λ d. FitsAll d j) (store_tests x e ++ (input_waits x i ⇒ Waits (Input i) ∷ [])) (iot_ends x (changes.Take i ∷ []) (record { at = e; word = first_typed x i } ∷ []))
+iot_in_fits : (x : View) (e i j : ℕ) (m : Machine) → FitsAll (iot_in x e i) j m
+iot_in_fits x e i j m =
+    first_holds (λ d. FitsAll d j m) (store_tests x e ++ (input_waits x i ⇒ Waits (Input i) ∷ [])) (iot_ends x (changes.Take i ∷ []) (record { at = e; word = first_typed x i } ∷ []))
     (λ t. tt, (λ t. tt, (λ t. tt, tt))) (λ t. (tt, tt))
 
-iot_out_fits : (x : View) (e i j : ℕ) → FitsAll (iot_out x e i) j
-iot_out_fits x e i j =
-    first_holds (λ d. FitsAll d j) (read_tests x e ++ (output_waits x i ⇒ Waits (Output i) ∷ [])) (iot_ends x (changes.Put i (shown_byte (word_of x e)) ∷ []) [])
+iot_out_fits : (x : View) (e i j : ℕ) (m : Machine) → FitsAll (iot_out x e i) j m
+iot_out_fits x e i j m =
+    first_holds (λ d. FitsAll d j m) (read_tests x e ++ (output_waits x i ⇒ Waits (Output i) ∷ [])) (iot_ends x (changes.Put i (shown_byte (word_of x e)) ∷ []) [])
     (λ t. tt, (λ t. tt, tt)) (λ t. (tt, tt))
 
-iot_fits : (x : View) (a : Ask) (j : ℕ) → FitsAll (iot x a) j
+iot_fits : (x : View) (a : Ask) (j : ℕ) (m : Machine) → FitsAll (iot x a) j m
 unfolding iot
-iot_fits x a j = go (channel_at x.own.channels (input a 0))
+iot_fits x a j m = go (channel_at x.own.channels (input a 0))
   where
     e : ℕ
     e = slice_index_or a.outputs.items 0 0
 
-    go : (c : Chan) → FitsAll (iot_on x e c) j
-    go TtyIn = iot_in_fits x e (console_of x) j
-    go TtyOut = iot_out_fits x e (console_of x) j
+    go : (c : Chan) → FitsAll (iot_on x e c) j m
+    go TtyIn = iot_in_fits x e (console_of x) j m
+    go TtyOut = iot_out_fits x e (console_of x) j m
     go Shut = tt
     go (Reads f at) = tt
     go (Writes f) = tt
     go (On k write at) = tt
 
-siot_in_fits : (x : View) (a : Ask) (next k i j : ℕ) → FitsAll (siot_in x a next k i) j
-siot_in_fits x a next k i j =
-    first_holds (λ d. FitsAll d j) (store_tests x (right_of next) ++ (input_waits x i ⇒ Waits (Input i) ∷ []))
+siot_in_fits : (x : View) (a : Ask) (next k i j : ℕ) (m : Machine) → FitsAll (siot_in x a next k i) j m
+siot_in_fits x a next k i j m =
+    first_holds (λ d. FitsAll d j m) (store_tests x (right_of next) ++ (input_waits x i ⇒ Waits (Input i) ∷ []))
     (goes (changes.Take i ∷ []) (Some (record { place = right_of next; byte = first_typed x i })) (next ∷ (k - 1) ∷ []))
     (λ t. tt, (λ t. tt, (λ t. tt, tt))) (λ t. (tt, tt))
 
-siot_out_fits : (x : View) (a : Ask) (next k i j : ℕ) → FitsAll (siot_out x a next k i) j
-siot_out_fits x a next k i j =
-    first_holds (λ d. FitsAll d j) (read_tests x (right_of next) ++ (output_waits x i ⇒ Waits (Output i) ∷ []))
+siot_out_fits : (x : View) (a : Ask) (next k i j : ℕ) (m : Machine) → FitsAll (siot_out x a next k i) j m
+siot_out_fits x a next k i j m =
+    first_holds (λ d. FitsAll d j m) (read_tests x (right_of next) ++ (output_waits x i ⇒ Waits (Output i) ∷ []))
     (goes (changes.Put i (shown_byte (load_of next (word_of x (right_of next)))) ∷ []) None (next ∷ (k - 1) ∷ []))
     (λ t. tt, (λ t. tt, tt)) (λ t. (tt, tt))
 
-siot_fits : (x : View) (a : Ask) (j : ℕ) → FitsAll (siot x a) j
+siot_fits : (x : View) (a : Ask) (j : ℕ) (m : Machine) → FitsAll (siot x a) j m
 unfolding siot
-siot_fits x a j = go (channel_at x.own.channels (input a 0))
+siot_fits x a j m = go (channel_at x.own.channels (input a 0))
   where
     p : ℕ
     p = input a 1
@@ -184,90 +202,315 @@ siot_fits x a j = go (channel_at x.own.channels (input a 0))
     k : ℕ
     k = input a 2
 
-    behind : (d : Decision) → FitsAll d j → FitsAll (siot_by x a false false d) j
-    behind d h = siot_by_ways (λ d. FitsAll d j) x a false false d (ways_fit x a j) h
+    behind : (d : Decision) → FitsAll d j m → FitsAll (siot_by x a false false d) j m
+    behind d h = siot_by_ways (λ d. FitsAll d j m) x a false false d (ways_fit x a j m) h
 
-    go : (c : Chan) → FitsAll (siot_on x a c) j
-    go TtyIn = behind (siot_in x a (next_pointer p) k (console_of x)) (siot_in_fits x a (next_pointer p) k (console_of x) j)
-    go TtyOut = behind (siot_out x a (next_pointer p) k (console_of x)) (siot_out_fits x a (next_pointer p) k (console_of x) j)
+    go : (c : Chan) → FitsAll (siot_on x a c) j m
+    go TtyIn = behind (siot_in x a (next_pointer p) k (console_of x)) (siot_in_fits x a (next_pointer p) k (console_of x) j m)
+    go TtyOut = behind (siot_out x a (next_pointer p) k (console_of x)) (siot_out_fits x a (next_pointer p) k (console_of x) j m)
     go Shut = tt
     go (Reads f at) = tt
     go (Writes f) = tt
     go (On i write at) = tt
 
-finish_fits : (x : View) (a : Ask) (j : ℕ) → FitsAll (finish x a) j
+finish_fits : (x : View) (a : Ask) (j : ℕ) (m : Machine) → FitsAll (finish x a) j m
 unfolding finish
-finish_fits x a j = go (channel_at x.own.channels (input a 0))
+finish_fits x a j m = go (channel_at x.own.channels (input a 0))
   where
-    go : (c : Chan) → FitsAll (finish_on x a c) j
-    go TtyOut = first_holds (λ d. FitsAll d j) (output_left x (console_of x) ⇒ Waits (Drained (console_of x)) ∷ []) (finishes x [] []) (λ t. tt, tt) (λ t. tt)
+    go : (c : Chan) → FitsAll (finish_on x a c) j m
+    go TtyOut = first_holds (λ d. FitsAll d j m) (output_left x (console_of x) ⇒ Waits (Drained (console_of x)) ∷ []) (finishes x [] []) (λ t. tt, tt) (λ t. tt)
     go Shut = tt
     go TtyIn = tt
     go (Reads f at) = tt
     go (Writes f) = tt
     go (On k write at) = tt
 
-listens_fits : (x : View) (a : Ask) (i j : ℕ) → FitsAll (listens x a i) j
-listens_fits x a i j =
-    first_holds (λ d. FitsAll d j) (output_left x i ⇒ Waits (Drained i) ∷ []) (finishes x [] (out a.outputs.items (length (x.consoles i).input))) (λ t. tt, tt) (λ t. tt)
+listens_fits : (x : View) (a : Ask) (i j : ℕ) (m : Machine) → FitsAll (listens x a i) j m
+listens_fits x a i j m =
+    first_holds (λ d. FitsAll d j m) (output_left x i ⇒ Waits (Drained i) ∷ []) (finishes x [] (out a.outputs.items (length (x.consoles i).input))) (λ t. tt, tt) (λ t. tt)
 
-listen_fits : (x : View) (a : Ask) (j : ℕ) → FitsAll (listen x a) j
+listen_fits : (x : View) (a : Ask) (j : ℕ) (m : Machine) → FitsAll (listen x a) j m
 unfolding listen
-listen_fits x a j = go (channel_at x.own.channels (input a 0))
+listen_fits x a j m = go (channel_at x.own.channels (input a 0))
   where
-    go : (c : Chan) → FitsAll (listen_on x a c) j
-    go TtyIn = listens_fits x a (console_of x) j
-    go TtyOut = listens_fits x a (console_of x) j
+    go : (c : Chan) → FitsAll (listen_on x a c) j m
+    go TtyIn = listens_fits x a (console_of x) j m
+    go TtyOut = listens_fits x a (console_of x) j m
     go Shut = tt
     go (Reads f at) = tt
     go (Writes f) = tt
     go (On k write at) = tt
 
-lands_fits : (x : View) (a : Ask) (may : Bool) (error k j : ℕ) → FitsAll (lands x a may error k) j
-lands_fits x a may error k j =
-    first_holds (λ d. FitsAll d j) (not (has_console x) ⇒ fails x a 0o5 ∷ not may ⇒ fails x a error ∷ []) (finishes x (changes.Hold (console_of x) k ∷ []) [])
-    (λ t. tt, (λ t. tt, tt)) (λ t. (tt, tt))
+-- what a call sees of the machine that it is in
+record Sees (x : View) (j : ℕ) (m : Machine) : Type 0 where
+  slot : x.slot ≡ j
+  job : is_some (m.jobs j) ≡ true
+  outlines : (k : ℕ) → x.outlines k ≡ option_map outline (m.jobs k)
+  channels : (n : ℕ) → OnInferior m j (channel_at x.own.channels n)
+  superior : superiors m j ≡ x.own.superior
 
-ttylnd_fits : (x : View) (a : Ask) (j : ℕ) → FitsAll (ttylnd x a) j
-unfolding ttylnd
-ttylnd_fits x a j = go (party x (input a 0))
+-- TTYLND: a channel on a job is on an inferior, which is a job
+lands_fits : (x : View) (a : Ask) (may : Bool) (error k j : ℕ) (m : Machine) → is_some (m.jobs k) ≡ true → FitsAll (lands x a may error k) j m
+lands_fits x a may error k j m h =
+    first_holds (λ d. FitsAll d j m) (not (has_console x) ⇒ fails x a 0o5 ∷ not may ⇒ fails x a error ∷ []) (finishes x (changes.Hold (console_of x) k ∷ []) [])
+    (λ t. tt, (λ t. tt, tt)) (λ t. (h, tt))
+
+abbrev PartyOn : ℕ → Machine → Party → Type 0
+PartyOn j m (Channel c) = OnInferior m j c
+PartyOn j m Oneself = Unit {0}
+PartyOn j m Nobody = Unit {0}
+
+party_on_inferior : (j : ℕ) (m : Machine) (c : Chan) → OnInferior m j c → PartyOn j m (party_on c)
+party_on_inferior j m Shut h = tt
+party_on_inferior j m TtyIn h = tt
+party_on_inferior j m TtyOut h = tt
+party_on_inferior j m (Reads f at) h = tt
+party_on_inferior j m (Writes f) h = tt
+party_on_inferior j m (On k write at) h = h
+
+party_inferior : (x : View) (w j : ℕ) (m : Machine) → Sees x j m → PartyOn j m (party x w)
+party_inferior x w j m see = go (is_oneself w)
   where
-    go : (p : Party) → FitsAll (ttylnd_of x a p) j
-    go Oneself = lands_fits x a (can_take x (x.holders (console_of x))) 0o13 x.slot j
-    go Nobody = tt
-    go (Channel (On k write at)) = lands_fits x a (is_holder x (x.holders (console_of x))) 0o5 k j
-    go (Channel Shut) = tt
-    go (Channel TtyIn) = tt
-    go (Channel TtyOut) = tt
-    go (Channel (Reads f at)) = tt
-    go (Channel (Writes f)) = tt
+    go : (b : Bool) → PartyOn j m (if b then Oneself else party_on (channel_at x.own.channels w))
+    go true = tt
+    go false = party_on_inferior j m (channel_at x.own.channels w) (see.channels w)
 
--- the calls by their names, but for those on files
-named_fits : (x : View) (a : Ask) (j : ℕ) (o : Option CallName) → FitsAll (tty_by x a o) j
-named_fits x a j (Some Hang) = tt
-named_fits x a j (Some Sleep) = sleep_fits x a j
-named_fits x a j (Some Dismis) = dismiss_fits x a j
-named_fits x a j (Some Usrvar) = usrvar_fits x a j
-named_fits x a j (Some Logout) = told_fits x.own.superior j
-named_fits x a j (Some Open) = opens_fits x a j
-named_fits x a j (Some Close) = closes_fits x a j
-named_fits x a j (Some Iot) = iot_fits x a j
-named_fits x a j (Some Siot) = siot_fits x a j
-named_fits x a j (Some Finish) = finish_fits x a j
-named_fits x a j (Some Listen) = listen_fits x a j
-named_fits x a j (Some Ttylnd) = ttylnd_fits x a j
-named_fits x a j _ = tt
+ttylnd_fits : (x : View) (a : Ask) (j : ℕ) (m : Machine) → Sees x j m → FitsAll (ttylnd x a) j m
+unfolding ttylnd
+ttylnd_fits x a j m see = go (party x (input a 0)) (party_inferior x (input a 0) j m see)
+  where
+    go : (p : Party) → PartyOn j m p → FitsAll (ttylnd_of x a p) j m
+    go Oneself h = lands_fits x a (can_take x (x.holders (console_of x))) 0o13 x.slot j m (ap (λ (i : ℕ). is_some (m.jobs i)) see.slot ∙ see.job)
+    go Nobody h = tt
+    go (Channel (On k write at)) h = lands_fits x a (is_holder x (x.holders (console_of x))) 0o5 k j m (inferior_stands m k j h)
+    go (Channel Shut) h = tt
+    go (Channel TtyIn) h = tt
+    go (Channel TtyOut) h = tt
+    go (Channel (Reads f at)) h = tt
+    go (Channel (Writes f)) h = tt
 
-pub decided_fits : (x : View) (a : Ask) (j : ℕ) → FitsAll (decided x a) j
+-- the calls by their names, but for those on files and on inferiors
+named_fits : (x : View) (a : Ask) (j : ℕ) (m : Machine) → Sees x j m → (o : Option CallName) → FitsAll (tty_by x a o) j m
+named_fits x a j m see (Some Hang) = tt
+named_fits x a j m see (Some Sleep) = sleep_fits x a j m
+named_fits x a j m see (Some Dismis) = dismiss_fits x a j m
+named_fits x a j m see (Some Usrvar) = usrvar_fits x a j m
+named_fits x a j m see (Some Logout) = (told_fits x.own.superior j (effect (changes.Remove j) j m), ap told_superior (sym see.superior))
+named_fits x a j m see (Some Open) = opens_fits x a j m
+named_fits x a j m see (Some Close) = closes_fits x a j m
+named_fits x a j m see (Some Iot) = iot_fits x a j m
+named_fits x a j m see (Some Siot) = siot_fits x a j m
+named_fits x a j m see (Some Finish) = finish_fits x a j m
+named_fits x a j m see (Some Listen) = listen_fits x a j m
+named_fits x a j m see (Some Ttylnd) = ttylnd_fits x a j m see
+named_fits x a j m see _ = tt
+
+-- OPEN of an inferior
+found_passes : (p : ℕ → Bool) (ks : List ℕ) (s : ℕ) → find p ks ≡ Some s → p s ≡ true
+found_passes p [] s h = cc
+found_passes p (k ∷ ks) s h = go (p k) refl h (λ later. found_passes p ks s later)
+  where
+    go : (b : Bool) → p k ≡ b → cond b (Some k) (find p ks) ≡ Some s → (find p ks ≡ Some s → p s ≡ true) → p s ≡ true
+    go true e here later = ap p (sym (let same : k ≡ s = cc in same)) ∙ e
+    go false e here later = later here
+
+superior_shown : (j u n : ℕ) (o : Option ℕ) (c : ℕ → Chan) → is_superior j (Some (record { uname = u; jname = n; superior = o; channels = c })) ≡ true → o ≡ Some j
+superior_shown j u n (Some s) c h = ap Some (eqb-true s j h)
+superior_shown j u n None c h = cc
+
+superior_outlined : (j : ℕ) (o : Option Whole) → is_superior j (option_map outline o) ≡ true → superior_in o ≡ Some j
+superior_outlined j (Some q) h = superior_shown j q.job.uname q.job.jname q.superior q.channels h
+superior_outlined j None h = cc
+
+pub named_inferior : (x : View) (j u n s : ℕ) (m : Machine) → x.slot ≡ j → ((k : ℕ) → x.outlines k ≡ option_map outline (m.jobs k)) → inferior_named x u n ≡ Some s → superiors m s ≡ Some j
+named_inferior x j u n s m slot outlines h =
+    let passes = found_passes (λ k. has_names u n (x.outlines k) && is_superior x.slot (x.outlines k)) (range_with_len 0 slots) s h in
+    let both = and_parts (has_names u n (x.outlines s)) (is_superior x.slot (x.outlines s)) passes in
+    superior_outlined j (m.jobs s) (ap (λ (o : Option Outline). is_superior j o) (sym (outlines s)) ∙ ap (λ (i : ℕ). is_superior i (x.outlines s)) (sym slot) ∙ both.1)
+
+free_below : {X : Type 0} (f : ℕ → Option X) (n k s : ℕ) → free_from f n k ≡ Some s → s < k + n
+unfolding free_from
+free_below f zero k s h = cc
+free_below f (suc n) k s h = go (is_some (f k)) h (λ t. free_below f n (k + 1) s t)
+  where
+    go : (b : Bool) → cond b (free_from f n (k + 1)) (Some k) ≡ Some s → (free_from f n (k + 1) ≡ Some s → s < k + 1 + n) → s < k + suc n
+    go true t rest = let l = rest t in omega arith
+    go false t rest = let e : k ≡ s = cc in omega arith
+
+least_below : {X : Type 0} (f : ℕ → Option X) (s : ℕ) → least_free f ≡ Some s → s < slots
+unfolding least_free
+least_below f s h = let l = free_below f slots 0 s h in omega arith
+
+no_outline : (o : Option Whole) → option_map outline o ≡ None → o ≡ None
+no_outline None h = refl
+no_outline (Some q) h = cc
+
+least_fits : (x : View) (s j : ℕ) (m : Machine) → Sees x j m → least_free x.outlines ≡ Some s → MakesInferior s j m
+least_fits x s j m see h = record {
+  few = least_below x.outlines s h;
+  free = no_outline (m.jobs s) (sym (see.outlines s) ∙ least_empty x.outlines s h);
+  maker = see.job;
+}
+
+makes_fits : (x : View) (a : Ask) (n u y j : ℕ) (m : Machine) → Sees x j m → (o : Option ℕ) → least_free x.outlines ≡ o → FitsAll (makes_job x a n u y o) j m
+makes_fits x a n u y j m see (Some s) is = (least_fits x s j m see is, (made_inferior m s j u y, tt))
+makes_fits x a n u y j m see None is = tt
+
+job_fits : (x : View) (a : Ask) (n u y j : ℕ) (m : Machine) (write : Bool) → Sees x j m → (o : Option ℕ) → inferior_named x u y ≡ o → FitsAll (opens_job x a n u y write o) j m
+job_fits x a n u y j m write see (Some s) is = (named_inferior x j u y s m see.slot see.outlines is, tt)
+job_fits x a n u y j m write see None is =
+    first_holds (λ d. FitsAll d j m) (any_named x u y ⇒ fails x a 0o13 ∷ not write ⇒ fails x a 0o12 ∷ []) (makes_job x a n u y (least_free x.outlines))
+    (λ t. tt, (λ t. tt, tt)) (λ t. makes_fits x a n u y j m see (least_free x.outlines) refl)
+
+opens_usr_fits : (x : View) (a : Ask) (j : ℕ) (m : Machine) → Sees x j m → FitsAll (opens_usr x a) j m
+unfolding opens_usr
+opens_usr_fits x a j m see =
+    let control = unwrap_or a.control 0 in
+    let named = inferior_named x (input a 2) (input a 3) in
+    first_holds (λ d. FitsAll d j m) (usr_tests x a (input a 0) control) (opens_job x a (input a 0) (input a 2) (input a 3) (control == 1) named)
+    (λ t. tt, (λ t. tt, tt)) (λ t. job_fits x a (input a 0) (input a 2) (input a 3) j m (control == 1) see named refl)
+
+open_fits : (x : View) (a : Ask) (j : ℕ) (m : Machine) → Sees x j m → FitsAll (open_call x a) j m → FitsAll (open_usr x a) j m
+unfolding open_usr
+open_fits x a j m see h = go (input a 1 == usr_device)
+  where
+    go : (b : Bool) → FitsAll (open_beside x a b) j m
+    go true = opens_usr_fits x a j m see
+    go false = h
+
+-- words of an inferior
+peeks_fit : (x : View) (e n at j : ℕ) (m : Machine) (b : Bool) (o : Option ℕ) → FitsAll (iot_peeks x e n at b o) j m
+peeks_fit x e n at j m true o = tt
+peeks_fit x e n at j m false (Some w) = (tt, tt)
+peeks_fit x e n at j m false None = tt
+
+iot_through_fits : (x : View) (e n s at j : ℕ) (m : Machine) (write : Bool) → FitsAll (iot_through x e n s write at) j m
+iot_through_fits x e n s at j m true =
+    first_holds (λ d. FitsAll d j m) (read_tests x e ++ (at_end at ⇒ ioc x ∷ not (can_store (other_core x) at) ⇒ ioc x ∷ []))
+    (iot_ends x (changes.Poke s at (word_of x e) ∷ changes.Move n (at + 1) ∷ []) []) (λ t. tt, (λ t. tt, (λ t. tt, tt))) (λ t. (tt, (tt, tt)))
+iot_through_fits x e n s at j m false =
+    let o = word_at (other_core x) at in
+    first_holds (λ d. FitsAll d j m) (store_tests x e) (iot_peeks x e n at (at_end at) o) (λ t. tt, (λ t. tt, tt)) (λ t. peeks_fit x e n at j m (at_end at) o)
+
+iot_usr_fits : (x : View) (a : Ask) (j : ℕ) (m : Machine) → FitsAll (iot_call x a) j m → FitsAll (iot_usr x a) j m
+unfolding iot_usr
+iot_usr_fits x a j m h = go (channel_at x.own.channels (input a 0))
+  where
+    e : ℕ
+    e = slice_index_or a.outputs.items 0 0
+
+    go : (c : Chan) → FitsAll (iot_beside x a e (input a 0) c) j m
+    go (On s write at) = iot_through_fits x e (input a 0) s at j m write
+    go Shut = h
+    go TtyIn = h
+    go TtyOut = h
+    go (Reads f at) = h
+    go (Writes f) = h
+
+siot_peeks_fit : (x : View) (a : Ask) (next k n at j : ℕ) (m : Machine) (o : Option ℕ) → FitsAll (siot_peeks x a next k n at o) j m
+siot_peeks_fit x a next k n at j m (Some w) =
+    first_holds (λ d. FitsAll d j m) (store_tests x (right_of next)) (goes (changes.Move n (at + 1) ∷ []) (Some (record { place = right_of next; byte = w })) (next ∷ (k - 1) ∷ []))
+    (λ t. tt, (λ t. tt, tt)) (λ t. (tt, tt))
+siot_peeks_fit x a next k n at j m None = first_holds (λ d. FitsAll d j m) (store_tests x (right_of next)) (fails x a 0o16) (λ t. tt, (λ t. tt, tt)) (λ t. tt)
+
+siot_pokes_fit : (x : View) (a : Ask) (next k n s at j : ℕ) (m : Machine) → FitsAll (siot_pokes x a next k n s at) j m
+siot_pokes_fit x a next k n s at j m =
+    first_holds (λ d. FitsAll d j m) (read_tests x (right_of next) ++ (not (can_store (other_core x) at) ⇒ fails x a 0o16 ∷ []))
+    (goes (changes.Poke s at (load_of next (word_of x (right_of next))) ∷ changes.Move n (at + 1) ∷ []) None (next ∷ (k - 1) ∷ []))
+    (λ t. tt, (λ t. tt, tt)) (λ t. (tt, (tt, tt)))
+
+siot_usr_fits : (x : View) (a : Ask) (j : ℕ) (m : Machine) → FitsAll (siot_call x a) j m → FitsAll (siot_usr x a) j m
+unfolding siot_usr
+siot_usr_fits x a j m h = go (channel_at x.own.channels (input a 0))
+  where
+    next : ℕ
+    next = next_pointer (input a 1)
+
+    n : ℕ
+    n = input a 0
+
+    behind : (ended : Bool) (d : Decision) → FitsAll d j m → FitsAll (siot_by x a true ended d) j m
+    behind ended d h = siot_by_ways (λ d. FitsAll d j m) x a true ended d (ways_fit x a j m) h
+
+    go : (c : Chan) → FitsAll (siot_beside x a n c) j m
+    go (On s true at) = behind (at_end at) (siot_pokes x a next (input a 2) n s at) (siot_pokes_fit x a next (input a 2) n s at j m)
+    go (On s false at) = behind (at_end at) (siot_peeks x a next (input a 2) n at (word_at (other_core x) at)) (siot_peeks_fit x a next (input a 2) n at j m (word_at (other_core x) at))
+    go Shut = h
+    go TtyIn = h
+    go TtyOut = h
+    go (Reads f at) = h
+    go (Writes f) = h
+
+word_fits : (s p w j : ℕ) (m : Machine) (b : Bool) → AllFit (set_word s p w b) j m
+word_fits s p w j m true = (tt, tt)
+word_fits s p w j m false = tt
+
+usrmem_fits : (x : View) (a : Ask) (j : ℕ) (m : Machine) → FitsAll (usrmem x a) j m
+unfolding usrmem
+usrmem_fits x a j m = go (channel_at x.own.channels (input a 0))
+  where
+    go : (c : Chan) → FitsAll (usrmem_on x a c) j m
+    go (On s write at) =
+        first_holds (λ d. FitsAll d j m) (usrmem_tests x a write (input a 1) (has_input a 2))
+        (finishes x (set_word s (input a 1) (input a 2) (has_input a 2)) (out a.outputs.items (unwrap_or (word_at (other_core x) (input a 1)) 0)))
+        (λ t. tt, (λ t. tt, (λ t. tt, (λ t. tt, tt)))) (λ t. word_fits s (input a 1) (input a 2) j m (has_input a 2))
+    go Shut = tt
+    go TtyIn = tt
+    go TtyOut = tt
+    go (Reads f at) = tt
+    go (Writes f) = tt
+
+uclose_fits : (x : View) (a : Ask) (j : ℕ) (m : Machine) → Sees x j m → FitsAll (uclose x a) j m
+unfolding uclose
+uclose_fits x a j m see = go (channel_at x.own.channels (input a 0)) (see.channels (input a 0))
+  where
+    go : (c : Chan) → OnInferior m j c → FitsAll (uclose_on x a c) j m
+    go (On s write at) h = (h, tt)
+    go Shut h = tt
+    go TtyIn h = tt
+    go TtyOut h = tt
+    go (Reads f at) h = tt
+    go (Writes f) h = tt
+
+-- a page is changed
+core_fits : (c : Change) (j : ℕ) (m : Machine) → OnCore c → Fits c j m
+core_fits (changes.Map s k) j m h = tt
+core_fits (changes.Unmap s k) j m h = tt
+core_fits (changes.Protect s k on) j m h = tt
+core_fits _ j m h = absurd h
+
+-- all calls by their names, but for that on pages
+beside_fits : (x : View) (a : Ask) (j : ℕ) (m : Machine) → Sees x j m → (o : Option CallName) → FitsAll (file_by x a o) j m → FitsAll (usr_by x a o) j m
+beside_fits x a j m see (Some Open) h = open_fits x a j m see h
+beside_fits x a j m see (Some Iot) h = iot_usr_fits x a j m h
+beside_fits x a j m see (Some Siot) h = siot_usr_fits x a j m h
+beside_fits x a j m see (Some Usrmem) h = usrmem_fits x a j m
+beside_fits x a j m see (Some Uclose) h = uclose_fits x a j m see
+beside_fits x a j m see _ h = h
+
+decided_fits : (x : View) (a : Ask) (j : ℕ) (m : Machine) → Sees x j m → FitsAll (decided x a) j m
 unfolding decided
-decided_fits x a j =
+decided_fits x a j m see =
     let o = call_named a.name in
-    by_test (λ d. FitsAll d j) (a.fail == 0) (decided_by x a o) (fails x a a.fail) (λ t. file_ways (λ d. FitsAll d j) x a o (ways_fit x a j) (named_fits x a j o)) (λ t. tt)
+    by_test (λ d. FitsAll d j m) (a.fail == 0) (decided_by x a o) (fails x a a.fail)
+    (λ t. core_ways (λ d. FitsAll d j m) x a o (ways_where OnCore j (λ c n h. core_fits c j n h) x a m)
+    (beside_fits x a j m see o (file_ways (λ d. FitsAll d j m) x a o (ways_fit x a j m) (named_fits x a j m see o))))
+    (λ t. tt)
 
-pub decision_fits : (m : Machine) (j : ℕ) (q : Whole) (a : Ask) → FitsAll (decision m j q a) j
+sees : (m : Machine) (j : ℕ) (q : Whole) (t : Option ℕ) → Forest m → m.jobs j ≡ Some q → Sees (view m j q t) j m
+unfolding view
+sees m j q t d is = record {
+  slot = refl;
+  job = ap is_some is;
+  outlines = λ k. refl;
+  channels = λ n. channel_of m j q n d is;
+  superior = ap superior_in is;
+}
+
+pub decision_fits : (m : Machine) (j : ℕ) (q : Whole) (a : Ask) → Forest m → m.jobs j ≡ Some q → FitsAll (decision m j q a) j m
 unfolding decision
-decision_fits m j q a = decided_fits (view m j q (target q a)) a j
+decision_fits m j q a d is = decided_fits (view m j q (target q a)) a j m (sees m j q (target q a) d is)
 
--- a step keeps jobs apart
-pub step_distinct : (m n : Machine) (j : ℕ) → Distinct m → step m j ≡ Some n → Distinct n
-step_distinct m n j d e = distinct_steps decision_fits m n j d e
+-- a step keeps how jobs lie to each other
+pub forest_steps : (m n : Machine) (j : ℕ) → Forest m → step m j ≡ Some n → Forest n
+forest_steps m n j d e = steps_where decision_fits m n j d e

@@ -1,5 +1,6 @@
 pub mod FrameLaws
 pub mod DebtLaws
+pub mod PageLaws
 pub mod RowLaws
 pub mod UnwindRows
 pub mod EndingRows
@@ -26,14 +27,19 @@ pub mod AfterLaws
 pub mod LineExamples
 pub mod TestLaws
 pub mod FileWays
+pub mod UsrWays
+pub mod CoreWays
 pub mod CallDuties
+pub mod TargetLaws
 pub mod UsrvarDuty
 pub mod LogoutDuty
 pub mod TtyDuty
 pub mod FileDuty
 pub mod SiotDuty
+pub mod UsrDuty
+pub mod CoreDuty
 pub mod GivenLaws
-pub mod DistinctLaws
+pub mod ForestLaws
 pub mod FitLaws
 pub mod WrittenLaws
 pub mod DecodingLaws
@@ -42,3 +48,6 @@ pub mod AddressLaws
 pub mod ConsoledLaws
 pub mod UnseenLaws
 pub mod TriedLaws
+pub mod OneByteLaws
+pub mod PcLaws
+pub mod StretchLaws

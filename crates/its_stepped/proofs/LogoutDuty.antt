@@ -2,7 +2,7 @@
 use Rattle.std.specs.Prelude.{if◌then◌else◌, ◌||◌, ◌≡◌, ◌≢◌, ◌≤◌, ◌<◌, ℕ, zero, suc, ◌+◌, Bool, true, false, Option, Some, None, List, [], ◌∷◌, ◌++◌, filter, refl}
 use Rattle.std.specs.List.{range_with_len}
 use Rattle.std.proofs.Common.{sym, ◌∙◌, ap, subst, inl, inr, arith}
-use Rattle.std.proofs.lemmas.Bool.{cases_eq, cases_lt, eq-eqb, ne_eqb}
+use Rattle.std.proofs.lemmas.Bool.{cases_eq, cases_lt, ne_eqb}
 use Rattle.its_word.specs.Limits.{slots}
 use Rattle.its_word.specs.Tree.{is_below, slots_below}
 use Rattle.its_word.proofs.TreeLaws.{below_none}
@@ -15,7 +15,7 @@ use Rattle.its_plain.specs.Arguments.{input}
 use Rattle.its_plain.specs.CallBasic.{told_superior, logout}
 use Rattle.its_plain.specs.CallStep.{among}
 use Rattle.its_plain.specs.Change.{superior_in, superiors, is_gone}
-use Rattle.its_plain.specs.Decide.{call_named, listed, reach_by, reach}
+use Rattle.its_plain.specs.Decide.{call_named, listed}
 use Rattle.its_plain.specs.Machine.{Whole, Machine}
 use Rattle.its_plain.specs.View.{View}
 use Rattle.its_stepped.specs.State.{State}
@@ -26,6 +26,7 @@ use Rattle.its_stepped.specs.Duty.{Duty, parts_in}
 use Rattle.its_stepped.specs.Calling.{Calling}
 use Rattle.its_stepped.proofs.UnwindLaws.{among_first, among_later, among_more}
 use Rattle.its_stepped.proofs.OwnLaws.{frame_none}
+use Rattle.its_stepped.proofs.TargetLaws.{reach_named}
 use Rattle.its_stepped.proofs.TestLaws.{no_page}
 
 -- slots in lists
@@ -73,20 +74,16 @@ among_below m j k few h =
     let l : k < slots = is_slot m j k few h in
     among_filter (is_below (superiors m) j) k (range_with_len 0 slots) h (among_range k 0 slots (omega arith) (omega arith))
 
-gone_below : (sup : ℕ → Option ℕ) (j k : ℕ) → k ≢ j → is_gone sup j k ≡ true → is_below sup j k ≡ true
+pub gone_below : (sup : ℕ → Option ℕ) (j k : ℕ) → k ≢ j → is_gone sup j k ≡ true → is_below sup j k ≡ true
 gone_below sup j k ne h = sym (ap (λ (b : Bool). b || is_below sup j k) (ne_eqb k j ne)) ∙ h
 
--- whom the call reaches
-reach_out : (m : Machine) (j : ℕ) (q : Whole) (a : Ask) → a.fail ≡ 0 → call_named a.name ≡ Some Logout → reach m j q a ≡ slots_below (superiors m) j ++ listed q.superior
-unfolding reach
-reach_out m j q a z e = ap (λ (b : Bool). if b then reach_by m j q a (call_named a.name) else []) (eq-eqb a.fail 0 z) ∙ ap (reach_by m j q a) e
-
+-- the call reaches the jobs below the caller, and its superior
 below_free : (m : Machine) (v : State) (j : ℕ) (q : Whole) (s : Site) (a : Ask) (n k : ℕ) → Calling m v j q s a n → a.fail ≡ 0 → call_named a.name ≡ Some Logout → k ≢ j
     → is_gone (superiors v.raw) j k ≡ true → v.frames k ≡ None
 below_free m v j q s a n k c z e ne gone =
     let same : is_gone (superiors v.raw) j k ≡ is_gone (superiors m) j k = (λ t. is_gone (λ i. c.tree i t) j k) in
     let below : is_below (superiors m) j k ≡ true = gone_below (superiors m) j k ne (sym same ∙ gone) in
-    c.reached k (ap (among k) (reach_out m j q a z e) ∙ among_left k (slots_below (superiors m) j) (listed q.superior) (among_below m j k c.few below))
+    c.reached k (ap (among k) (reach_named m j q a Logout z e) ∙ among_left k (slots_below (superiors m) j) (listed q.superior) (among_below m j k c.forest.few below))
 
 told_quiet : (m : Machine) (v : State) (j : ℕ) (q : Whole) (s : Site) (a : Ask) (n : ℕ) (o : Option ℕ) → Calling m v j q s a n
     → ((k : ℕ) → among k (listed o) ≡ true → v.frames k ≡ None) → AllQuiet (told_superior o) j (effect_on (changes.Remove j) j v)
@@ -105,7 +102,7 @@ logout_duty m v j x s a n c e z = record {
   quiet = (
     λ k gone ne. below_free m v j x.own s a n k c z e ne gone,
     told_quiet m v j x.own s a n x.own.superior c
-        (λ k h. c.reached k (ap (among k) (reach_out m j x.own a z e) ∙ among_right k (slots_below (superiors m) j) (listed x.own.superior) h)),
+        (λ k h. c.reached k (ap (among k) (reach_named m j x.own a Logout z e) ∙ among_right k (slots_below (superiors m) j) (listed x.own.superior) h)),
   );
   closes = told_part x.own.superior;
   page = no_page m v j x.own s a n c (ap (λ (o : Option CallName). makes_page o (input a 0)) e);

@@ -33,8 +33,8 @@ use Rattle.its_word.specs.Stores.{stored}
 use Rattle.its_stepped.specs.State.{State}
 use Rattle.its_stepped.specs.Tick.{makes_page}
 use Rattle.its_stepped.specs.Sound.{Stands, Stored, most_owed_by, most_owed}
-use Rattle.its_stepped.specs.Quiet.{Quiet, AllQuiet}
-use Rattle.its_stepped.specs.Duty.{Spares, AllSpare, parts_in, Apart, Within, HeldFits, Going, Duty}
+use Rattle.its_stepped.specs.Quiet.{AllQuiet}
+use Rattle.its_stepped.specs.Duty.{AllSpare, parts_in, Apart, Within, HeldFits, Going, Duty}
 use Rattle.its_stepped.specs.Calling.{Transfer, Fetched, Decoding, Calling}
 use Rattle.its_stepped.proofs.DebtLaws.{debts_none}
 use Rattle.its_stepped.proofs.TestLaws.{EachStops, first_holds, no_page, fails_duty, faults_duty, nothing_duty}
@@ -81,7 +81,7 @@ two_valued : (a : Ask) (x : Operand) (p v q k w n : ℕ) → a.inputs.items ≡ 
 unfolding revalued
 two_valued a x p v q k w n e = ap (λ xs. record a { inputs = record { items = take (length xs - 2) xs ++ valued (drop (length xs - 2) xs) (w ∷ n ∷ []) } }) e
 
-named_same : (a : Ask) (vs : List ℕ) → (revalued a vs).name ≡ a.name
+pub named_same : (a : Ask) (vs : List ℕ) → (revalued a vs).name ≡ a.name
 unfolding revalued
 named_same a vs = refl
 
@@ -105,7 +105,7 @@ unfolding stored
 stored_two c p v q k e f = ap (λ (i : ℕ). store (store c i v) (q % 2 ^ 18) k) e ∙ ap (λ (i : ℕ). store (store c p v) i k) f
 
 -- what its tests say of pointer and count
-record Moving (c : Core) (a : Ask) : Type 0 where
+pub record Moving (c : Core) (a : Ask) : Type 0 where
   p : ℕ
   q : ℕ
   args : Transfer a p q
@@ -217,25 +217,25 @@ unfolding increment_of
 next_sized p h = ap (λ (b : Bool). has_size (unwrap_or (if b then Some (if nat_le (size p) (position p) then pointer (position p - size p) (middle p) (right_of p) else pointer (36 - size p) (middle p) ((right_of p + 1) % 2 ^ 18)) else None) 0)) h ∙ next_by p (nat_le (size p) (position p)) h
 
 -- a byte is stored behind the tests of its word and those of its device, or is loaded behind them
-siot_stores : (d : Decoding) (m : Machine) (v : State) (j : ℕ) (x : View) (s : Site) (a : Ask) (n : ℕ) (ts : List Test) (g : Change) (w b i : ℕ) → Calling m v j x.own s a n
-    → call_named a.name ≡ Some Siot → Moving x.own.core a → has_size w ≡ true → in_footprint (right_of w) a ≡ false → Quiet g j v → Spares g j v → parts_in (g ∷ []) ≡ 0
+pub siot_stores : (d : Decoding) (m : Machine) (v : State) (j : ℕ) (x : View) (s : Site) (a : Ask) (n : ℕ) (ts : List Test) (cs : List Change) (w b i : ℕ) → Calling m v j x.own s a n
+    → call_named a.name ≡ Some Siot → Moving x.own.core a → has_size w ≡ true → in_footprint (right_of w) a ≡ false → AllQuiet cs j v → AllSpare cs j v → parts_in cs ≡ 0
     → EachStops (Duty v j x.own s a n) ts
-    → Duty v j x.own s a n (first (store_tests x (right_of w) ++ ts) (goes (g ∷ []) (Some (record { place = right_of w; byte = b })) (w ∷ i ∷ [])))
-siot_stores d m v j x s a n ts g w b i c e t sized out quiet spare parts each =
-    first_holds (Duty v j x.own s a n) (store_tests x (right_of w) ++ ts) (goes (g ∷ []) (Some (record { place = right_of w; byte = b })) (w ∷ i ∷ []))
+    → Duty v j x.own s a n (first (store_tests x (right_of w) ++ ts) (goes cs (Some (record { place = right_of w; byte = b })) (w ∷ i ∷ [])))
+siot_stores d m v j x s a n ts cs w b i c e t sized out quiet spare parts each =
+    first_holds (Duty v j x.own s a n) (store_tests x (right_of w) ++ ts) (goes cs (Some (record { place = right_of w; byte = b })) (w ∷ i ∷ []))
     (λ t. faults_duty m v j x s a n Mpv c, (λ t. faults_duty m v j x s a n Wro c, each))
-    (λ r. siot_goes d m v j x s a n (g ∷ []) (Some (record { place = right_of w; byte = b })) w i c e t (quiet, tt) (spare, tt) parts
+    (λ r. siot_goes d m v j x s a n cs (Some (record { place = right_of w; byte = b })) w i c e t quiet spare parts
     (record { placed = omega arith; outside = out; can = not-false (can_store x.own.core (right_of w)) r.1.0 }) sized)
 
-siot_loads : (d : Decoding) (m : Machine) (v : State) (j : ℕ) (x : View) (s : Site) (a : Ask) (n : ℕ) (ts : List Test) (g : Change) (w i : ℕ) → Calling m v j x.own s a n
-    → call_named a.name ≡ Some Siot → Moving x.own.core a → has_size w ≡ true → Quiet g j v → Spares g j v → parts_in (g ∷ []) ≡ 0 → EachStops (Duty v j x.own s a n) ts
-    → Duty v j x.own s a n (first (read_tests x (right_of w) ++ ts) (goes (g ∷ []) None (w ∷ i ∷ [])))
-siot_loads d m v j x s a n ts g w i c e t sized quiet spare parts each =
-    first_holds (Duty v j x.own s a n) (read_tests x (right_of w) ++ ts) (goes (g ∷ []) None (w ∷ i ∷ [])) (λ t. faults_duty m v j x s a n Mpv c, each)
-    (λ r. siot_goes d m v j x s a n (g ∷ []) None w i c e t (quiet, tt) (spare, tt) parts tt sized)
+pub siot_loads : (d : Decoding) (m : Machine) (v : State) (j : ℕ) (x : View) (s : Site) (a : Ask) (n : ℕ) (ts : List Test) (cs : List Change) (w i : ℕ) → Calling m v j x.own s a n
+    → call_named a.name ≡ Some Siot → Moving x.own.core a → has_size w ≡ true → AllQuiet cs j v → AllSpare cs j v → parts_in cs ≡ 0 → EachStops (Duty v j x.own s a n) ts
+    → Duty v j x.own s a n (first (read_tests x (right_of w) ++ ts) (goes cs None (w ∷ i ∷ [])))
+siot_loads d m v j x s a n ts cs w i c e t sized quiet spare parts each =
+    first_holds (Duty v j x.own s a n) (read_tests x (right_of w) ++ ts) (goes cs None (w ∷ i ∷ [])) (λ t. faults_duty m v j x s a n Mpv c, each)
+    (λ r. siot_goes d m v j x s a n cs None w i c e t quiet spare parts tt sized)
 
 -- behind the tests of its arguments: whether words alone are moved, and whether there is none left, is the device's
-siot_by_duty : (m : Machine) (v : State) (j : ℕ) (x : View) (s : Site) (a : Ask) (n : ℕ) (words ended : Bool) (moves : Decision) → Calling m v j x.own s a n
+pub siot_by_duty : (m : Machine) (v : State) (j : ℕ) (x : View) (s : Site) (a : Ask) (n : ℕ) (words ended : Bool) (moves : Decision) → Calling m v j x.own s a n
     → call_named a.name ≡ Some Siot → a.fail ≡ 0
     → (Moving x.own.core a → has_size (next_pointer (input a 1)) ≡ true → in_footprint (right_of (next_pointer (input a 1))) a ≡ false → Duty v j x.own s a n moves)
     → Duty v j x.own s a n (siot_by x a words ended moves)
@@ -254,13 +254,13 @@ siot_on_duty : (d : Decoding) (m : Machine) (v : State) (j : ℕ) (x : View) (s 
 siot_on_duty d m v j x s a n TtyIn c e z =
     let i = console_of x in
     siot_by_duty m v j x s a n false false (siot_in x a (next_pointer (input a 1)) (input a 2) i) c e z
-    (λ t sized out. siot_stores d m v j x s a n (input_waits x i ⇒ Waits (Input i) ∷ []) (changes.Take i) (next_pointer (input a 1)) (first_typed x i) (input a 2 - 1) c e t sized out tt tt
+    (λ t sized out. siot_stores d m v j x s a n (input_waits x i ⇒ Waits (Input i) ∷ []) (changes.Take i ∷ []) (next_pointer (input a 1)) (first_typed x i) (input a 2 - 1) c e t sized out (tt, tt) (tt, tt)
     refl (λ t. named_waits m v j x s a n Siot c e refl tt, tt))
 siot_on_duty d m v j x s a n TtyOut c e z =
     let i = console_of x in
     siot_by_duty m v j x s a n false false (siot_out x a (next_pointer (input a 1)) (input a 2) i) c e z
-    (λ t sized out. siot_loads d m v j x s a n (output_waits x i ⇒ Waits (Output i) ∷ []) (changes.Put i (shown_byte (load_of (next_pointer (input a 1)) (word_of x (right_of (next_pointer (input a 1)))))))
-    (next_pointer (input a 1)) (input a 2 - 1) c e t sized tt tt refl (λ t. named_waits m v j x s a n Siot c e refl tt, tt))
+    (λ t sized out. siot_loads d m v j x s a n (output_waits x i ⇒ Waits (Output i) ∷ []) (changes.Put i (shown_byte (load_of (next_pointer (input a 1)) (word_of x (right_of (next_pointer (input a 1)))))) ∷ [])
+    (next_pointer (input a 1)) (input a 2 - 1) c e t sized (tt, tt) (tt, tt) refl (λ t. named_waits m v j x s a n Siot c e refl tt, tt))
 siot_on_duty d m v j x s a n Shut c e z = fails_duty m v j x s a n 0o4 c
 siot_on_duty d m v j x s a n (Reads f at) c e z = fails_duty m v j x s a n 0o5 c
 siot_on_duty d m v j x s a n (Writes f) c e z = fails_duty m v j x s a n 0o5 c
@@ -276,14 +276,14 @@ siot_reads_duty : (d : Decoding) (m : Machine) (v : State) (j : ℕ) (x : View) 
     → call_named a.name ≡ Some Siot → a.fail ≡ 0 → Duty v j x.own s a n (siot_reads x a i at o)
 siot_reads_duty d m v j x s a n i at o c e z =
     siot_by_duty m v j x s a n true (not (is_some o)) (siot_read x (next_pointer (input a 1)) (input a 2) i at (unwrap_or o 0)) c e z
-    (λ t sized out. siot_stores d m v j x s a n [] (changes.Move i (at + 1)) (next_pointer (input a 1)) (unwrap_or o 0) (input a 2 - 1) c e t sized out tt tt refl tt)
+    (λ t sized out. siot_stores d m v j x s a n [] (changes.Move i (at + 1) ∷ []) (next_pointer (input a 1)) (unwrap_or o 0) (input a 2 - 1) c e t sized out (tt, tt) (tt, tt) refl tt)
 
 siot_writes_duty : (d : Decoding) (m : Machine) (v : State) (j : ℕ) (x : View) (s : Site) (a : Ask) (n i : ℕ) (f : File) → Calling m v j x.own s a n → call_named a.name ≡ Some Siot
     → a.fail ≡ 0 → Duty v j x.own s a n (siot_writes x a i f)
 siot_writes_duty d m v j x s a n i f c e z =
     siot_by_duty m v j x s a n true false (siot_write x a (next_pointer (input a 1)) (input a 2) i f) c e z
     (λ t sized out. siot_loads d m v j x s a n (is_full x.files (channels_in x) f.words ⇒ fails x a 0o10 ∷ [])
-    (changes.Append i (load_of (next_pointer (input a 1)) (word_of x (right_of (next_pointer (input a 1)))))) (next_pointer (input a 1)) (input a 2 - 1) c e t sized tt tt refl
+    (changes.Append i (load_of (next_pointer (input a 1)) (word_of x (right_of (next_pointer (input a 1))))) ∷ []) (next_pointer (input a 1)) (input a 2 - 1) c e t sized (tt, tt) (tt, tt) refl
     (λ t. fails_duty m v j x s a n 0o10 c, tt))
 
 siot_to_duty : (d : Decoding) (m : Machine) (v : State) (j : ℕ) (x : View) (s : Site) (a : Ask) (n i : ℕ) (h : Chan) → Calling m v j x.own s a n → call_named a.name ≡ Some Siot

@@ -1,5 +1,5 @@
 -- A tick keeps the state sound.
-use Rattle.std.specs.Prelude.{if◌then◌else◌, ◌≡◌, ◌<◌, ℕ, ◌+◌, Bool, true, false, Option, Some, None, IfSome, List, [], length, Result, Ok, Err, option_map, nat_lt, refl}
+use Rattle.std.specs.Prelude.{if◌then◌else◌, ◌≡◌, ◌<◌, ℕ, ◌+◌, Bool, true, false, Option, Some, None, IfSome, List, [], length, Result, Ok, Err, option_map, nat_lt, refl, is_some}
 use Rattle.std.proofs.Common.{sym, ◌∙◌, ap, subst, inl, inr, arith, ltb-true}
 use Rattle.std.proofs.lemmas.Bool.{cases_eq}
 use Rattle.its_word.specs.Core.{Core}
@@ -24,7 +24,7 @@ use Rattle.its_stepped.specs.Unwind.{all_unwound}
 use Rattle.its_stepped.specs.Commit.{effects_on, committed}
 use Rattle.its_stepped.specs.Tick.{works, delivered_on, user_on, unit_on, parsed_on, fetched_on, prepared_on, reserves, prepared_for, tried, tried_by, quarters, held_on, tick_in, tick_unless, tick_of, tick}
 use Rattle.its_stepped.specs.Sound.{Stands, Stored, Debts, Paged, parts_in_frame, SoundFrame, SoundBy, SoundSlot, Sound}
-use Rattle.its_stepped.specs.Duty.{Duty, Meets, GivenBy, Given, parts_in}
+use Rattle.its_stepped.specs.Duty.{Duty, Meets, GivenBy, Given, parts_in, IsTried}
 use Rattle.its_stepped.proofs.FrameLaws.{changed_only, on_slot_here, on_slot_other}
 use Rattle.its_stepped.proofs.DebtLaws.{debts_none}
 use Rattle.its_stepped.proofs.UnwindLaws.{unwind_sound, all_unwound_sound, all_unwound_keeps}
@@ -141,9 +141,9 @@ no_debts c a = record {
 }
 
 holding_frame : (q : Whole) (s : Site) (a : Ask) (page : Option ℕ) (n : ℕ) → q.job.stopped ≡ false → deliverable q.job ≡ false → Stands (stored q.core (debts a n)) q.job s a
-    → Debts q.core a n → IfSome page (Paged a n) → SoundFrame q (holding s a page n) page
+    → Debts q.core a n → IfSome page (Paged a n) → reserves a ≡ is_some page → SoundFrame q (holding s a page n) page
 unfolding seen
-holding_frame q s a page n runs quiet stands d p = record { runs = runs; quiet = quiet; standing = stands; pays = record { debts = d; page_is = refl; paged = p } }
+holding_frame q s a page n runs quiet stands d p e = record { runs = runs; quiet = quiet; standing = stands; pays = record { debts = d; page_is = refl; paged = p; has = e } }
 
 stored_nothing : (c : Core) (j : Job) (s : Site) (a : Ask) → Stands c j s a → Stands (stored c (debts a 0)) j s a
 unfolding stored
@@ -153,11 +153,11 @@ prepared_sound : (w : State) (j : ℕ) (q : Whole) (s : Site) (a : Ask) (b : Boo
     → parts_in_frame (w.frames j) ≡ [] → w.reserved j ≡ None → Stands q.core q.job s a → reserves a ≡ b → Sound (prepared_on w j s a b)
 prepared_sound w j q s a true sound is runs quiet parts page stands e =
     with_page_frame w j q (holding s a (Some 0) 0) (Some 0) sound is parts
-    (holding_frame q s a (Some 0) 0 runs quiet (stored_nothing q.core q.job s a stands) (no_debts q.core a) (record { most = omega arith; reserves = e; owes = refl }))
+    (holding_frame q s a (Some 0) 0 runs quiet (stored_nothing q.core q.job s a stands) (no_debts q.core a) (record { most = omega arith; reserves = e; owes = refl }) e)
 prepared_sound w j q s a false sound is runs quiet parts page stands e =
     with_frame w j q (holding s a None 0) sound is parts
     (subst (λ (r : Option ℕ). SoundFrame q (holding s a None 0) r) (sym page)
-    (holding_frame q s a None 0 runs quiet (stored_nothing q.core q.job s a stands) (no_debts q.core a) tt))
+    (holding_frame q s a None 0 runs quiet (stored_nothing q.core q.job s a stands) (no_debts q.core a) tt e))
 
 -- a call that is tried
 decided_sound : (w v : State) (j : ℕ) (q : Whole) (s : Site) (a : Ask) (n : ℕ) (d : Decision) → Sound w → Trying w j q s a n → Found w v j
@@ -176,18 +176,18 @@ tried_sound w j q s a n sound t m =
     decided_sound w (prepared_for w j own a) j q s a n (decision (plain w) j own a) sound t (found w j own a sound m.apart) m.duty
 
 -- a page that is cleared
-quarter_sound : (w : State) (j : ℕ) (q : Whole) (s : Site) (a : Ask) (p n : ℕ) (b : Bool) → Sound w → Trying w j q s a n → Meets w j (with_stores (debts a n) q) s a n
+quarter_sound : (w : State) (j : ℕ) (q : Whole) (s : Site) (a : Ask) (p n : ℕ) (b : Bool) → Sound w → Trying w j q s a n → (b ≡ false → Meets w j (with_stores (debts a n) q) s a n)
     → Paged a n p → nat_lt p quarters ≡ b
     → Sound (if b then works (reserving (turn w j same (Some (holding s a (Some (p + 1)) n))) j (Some (p + 1))) else tried_by w j (with_stores (debts a n) q) s a n).state
 quarter_sound w j q s a p n true sound t m h e =
     let less : p < 4 = ltb-true p 4 e in
     with_page_frame w j q (holding s a (Some (p + 1)) n) (Some (p + 1)) sound t.here.job_is t.here.parts
-    (holding_frame q s a (Some (p + 1)) n t.here.runs t.here.quiet t.stands t.here.debts (record { most = omega arith; reserves = h.reserves; owes = h.owes }))
-quarter_sound w j q s a p n false sound t m h e = tried_sound w j q s a n sound t m
+    (holding_frame q s a (Some (p + 1)) n t.here.runs t.here.quiet t.stands t.here.debts (record { most = omega arith; reserves = h.reserves; owes = h.owes }) h.reserves)
+quarter_sound w j q s a p n false sound t m h e = tried_sound w j q s a n sound t (m refl)
 
-held_sound : (w : State) (j : ℕ) (q : Whole) (s : Site) (a : Ask) (page : Option ℕ) (n : ℕ) → Sound w → Trying w j q s a n → Meets w j (with_stores (debts a n) q) s a n
+held_sound : (w : State) (j : ℕ) (q : Whole) (s : Site) (a : Ask) (page : Option ℕ) (n : ℕ) → Sound w → Trying w j q s a n → (IsTried page → Meets w j (with_stores (debts a n) q) s a n)
     → IfSome page (Paged a n) → Sound (held_on w j (with_stores (debts a n) q) s a page n).state
-held_sound w j q s a None n sound t m h = tried_sound w j q s a n sound t m
+held_sound w j q s a None n sound t m h = tried_sound w j q s a n sound t (m tt)
 held_sound w j q s a (Some p) n sound t m h = quarter_sound w j q s a p n (nat_lt p quarters) sound t m h refl
 
 -- a job inside a call

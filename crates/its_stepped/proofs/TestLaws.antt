@@ -1,6 +1,6 @@
 -- How calls decide: the first test that holds, and what every call shows that ends without a change.
-use Rattle.std.specs.Prelude.{if◌then◌else◌, ◌&&◌, ◌≡◌, ◌≢◌, ◌≤◌, ℕ, ◌+◌, Bool, true, false, Option, Some, None, IfSome, List, [], ◌∷◌, length, refl, ◌==◌}
-use Rattle.std.proofs.Common.{◌∙◌, ap, inl, arith}
+use Rattle.std.specs.Prelude.{if◌then◌else◌, ◌≡◌, ◌≢◌, ◌≤◌, ℕ, ◌+◌, Bool, true, false, Option, Some, None, IfSome, List, [], ◌∷◌, length, refl}
+use Rattle.std.proofs.Common.{inl, arith}
 use Rattle.its_word.specs.declared.access.Fault.{Fault}
 use Rattle.its_word.specs.declared.calls.Ask.{Ask}
 use Rattle.its_word.specs.declared.calls.Site.{Site}
@@ -15,11 +15,12 @@ use Rattle.its_plain.specs.Machine.{Whole, Machine}
 use Rattle.its_plain.specs.Tests.{Test, first, fails, faults, number_at, out}
 use Rattle.its_plain.specs.View.{View}
 use Rattle.its_stepped.specs.State.{State}
-use Rattle.its_stepped.specs.Tick.{makes_page, corblk_is_built, reserves}
+use Rattle.its_stepped.specs.Tick.{makes_page, reserves}
 use Rattle.its_stepped.specs.Sound.{Stored, Paged, IsWaitable, most_owed}
 use Rattle.its_stepped.specs.Quiet.{AllQuiet}
 use Rattle.its_stepped.specs.Duty.{AllSpare, parts_in, Waiting_by, Ending_by, Duty}
 use Rattle.its_stepped.specs.Calling.{Calling}
+use Rattle.its_stepped.proofs.PageLaws.{reserves_none}
 use Rattle.its_stepped.proofs.UnwindLaws.{most_few}
 
 -- the first test that holds: what each stop shows where its test holds, and the rest where each test fails
@@ -40,14 +41,6 @@ first_holds P [] d h k = k tt
 first_holds P (t ∷ ts) d h k = by_test P t.holds t.stop (first ts d) h.0 (λ e. first_holds P ts d h.1 (λ p. k (e, p)))
 
 -- a call that reserves no page has none
-and_none : (b : Bool) → (b && false) ≡ false
-and_none true = refl
-and_none false = refl
-
-reserves_none : (a : Ask) → makes_page (call_named a.name) (input a 0) ≡ false → reserves a ≡ false
-unfolding reserves
-reserves_none a e = ap (λ (b : Bool). (corblk_is_built && (a.fail == 0)) && b) e ∙ and_none (corblk_is_built && (a.fail == 0))
-
 no_page_by : (a : Ask) (n : ℕ) (r : Option ℕ) → reserves a ≡ false → IfSome r (Paged a n) → r ≡ None
 no_page_by a n None e h = refl
 no_page_by a n (Some p) e h = let t = h.reserves in cc

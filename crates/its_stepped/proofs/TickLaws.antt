@@ -1,5 +1,5 @@
 -- A tick, seen as a plain machine, is licensed by its letter.
-use Rattle.std.specs.Prelude.{if◌then◌else◌, ◌≡◌, ℕ, ◌+◌, Bool, true, false, Option, Some, None, List, [], Result, Ok, Err, option_map, nat_lt, refl}
+use Rattle.std.specs.Prelude.{if◌then◌else◌, ◌≡◌, ℕ, ◌+◌, Bool, true, false, Option, Some, None, List, [], Result, Ok, Err, option_map, nat_lt, refl, is_some}
 use Rattle.std.proofs.Common.{sym, ◌∙◌, ap, subst}
 use Rattle.its_word.specs.Core.{Core}
 use Rattle.its_word.specs.declared.access.Fault.{Fault}
@@ -31,10 +31,11 @@ use Rattle.its_stepped.specs.Commit.{effects_on, committed}
 use Rattle.its_stepped.specs.Tick.{Ticked, helped_if, works, delivered_on, user_on, unit_on, parsed_on, fetched_on, prepared_on, reserves, helps, prepared_for, tried, tried_by, quarters, held_on, tick_in, tick_unless, tick_of, tick}
 use Rattle.its_stepped.specs.Sound.{Stands, parts_in_frame, SoundFrame, SoundBy, Sound}
 use Rattle.its_stepped.specs.Quiet.{IsStill, AllQuiet}
-use Rattle.its_stepped.specs.Duty.{Duty, Meets, GivenBy, Given}
+use Rattle.its_stepped.specs.Duty.{Duty, Meets, GivenBy, Given, IsTried}
 use Rattle.its_stepped.specs.Licence.{Licensed}
 use Rattle.its_stepped.proofs.FrameLaws.{seen_stopped, stores_none, turned}
 use Rattle.its_stepped.proofs.DebtLaws.{debts_none}
+use Rattle.its_stepped.proofs.PageLaws.{waits_reserves_none}
 use Rattle.its_stepped.specs.SlotSame.{SlotSame}
 use Rattle.its_stepped.proofs.UnwindLaws.{slot_then, unwind_plain, all_unwound_plain, all_unwound_sound, all_unwound_keeps, all_unwound_none, all_unwound_others, among_first}
 use Rattle.its_stepped.proofs.HelpLaws.{helped_if_plain, helped_if_sound, helped_if_others}
@@ -221,6 +222,7 @@ here_found w v j q a n same h = record {
   runs = h.runs;
   quiet = h.quiet;
   debts = h.debts;
+  page = h.page ∙ ap is_some (sym same.page);
 }
 
 pub trying_holding : (w : State) (j : ℕ) (q : Whole) (f : Holding.Holding) → w.raw.jobs j ≡ Some q → w.frames j ≡ Some (Holding f) → SoundFrame q (Holding f) (w.reserved j)
@@ -234,6 +236,7 @@ trying_holding w j q f is fr h = record {
     runs = h.runs;
     quiet = h.quiet;
     debts = h.pays.debts;
+    page = h.pays.has ∙ ap is_some (sym h.pays.page_is);
   };
   stands = h.standing;
 }
@@ -249,6 +252,7 @@ trying_waiting w j q f is fr h = record {
     runs = h.runs;
     quiet = h.quiet;
     debts = h.pays.debts;
+    page = waits_reserves_none f.ask h.pays.waitable ∙ ap is_some (sym h.pays.page_is);
   };
   stands = h.standing;
 }
@@ -292,16 +296,16 @@ tried_is w j q s a n sound t m =
     decided_is w (prepared_for w j own a) j q s a n (decision (plain w) j own a) t (found w j own a sound m.apart) refl m.duty
 
 -- a page that is cleared: a quarter at a tick
-quarter_is : (w : State) (j : ℕ) (q : Whole) (s : Site) (a : Ask) (p n : ℕ) (b : Bool) → Sound w → Trying w j q s a n → Meets w j (with_stores (debts a n) q) s a n
+quarter_is : (w : State) (j : ℕ) (q : Whole) (s : Site) (a : Ask) (p n : ℕ) (b : Bool) → Sound w → Trying w j q s a n → (b ≡ false → Meets w j (with_stores (debts a n) q) s a n)
     → RowIs w j (if b then works (reserving (turn w j same (Some (holding s a (Some (p + 1)) n))) j (Some (p + 1))) else tried_by w j (with_stores (debts a n) q) s a n)
 quarter_is w j q s a p n true sound t m =
     works_is w _ j q t.here.job_is t.here.runs
     (reserving_plain _ j (Some (p + 1)) ∙ still w j (Some (holding s a (Some (p + 1)) n)) (λ x. seen_holding s a (Some (p + 1)) n x ∙ sym (t.here.seen_is x)))
-quarter_is w j q s a p n false sound t m = tried_is w j q s a n sound t m
+quarter_is w j q s a p n false sound t m = tried_is w j q s a n sound t (m refl)
 
-held_is : (w : State) (j : ℕ) (q : Whole) (s : Site) (a : Ask) (page : Option ℕ) (n : ℕ) → Sound w → Trying w j q s a n → Meets w j (with_stores (debts a n) q) s a n
+held_is : (w : State) (j : ℕ) (q : Whole) (s : Site) (a : Ask) (page : Option ℕ) (n : ℕ) → Sound w → Trying w j q s a n → (IsTried page → Meets w j (with_stores (debts a n) q) s a n)
     → RowIs w j (held_on w j (with_stores (debts a n) q) s a page n)
-held_is w j q s a None n sound t m = tried_is w j q s a n sound t m
+held_is w j q s a None n sound t m = tried_is w j q s a n sound t (m tt)
 held_is w j q s a (Some p) n sound t m = quarter_is w j q s a p n (nat_lt p quarters) sound t m
 
 unwinds_is : (w : State) (j : ℕ) (q : Whole) → Sound w → w.raw.jobs j ≡ Some q → q.job.stopped ≡ false → RowIs w j (works (unwind_one w j))

@@ -1,8 +1,9 @@
 -- A call that is tried: what its commit finds, and that it is decided on the raw machine as on the plain one, whether a
 -- close is half made or not.
-use Rattle.std.specs.Prelude.{◌≡◌, ◌==◌, ℕ, Bool, true, false, Option, Some, None, slice_index_or, refl}
+use Rattle.std.specs.Prelude.{if◌then◌else◌, ◌≡◌, ◌==◌, ℕ, Bool, true, false, Option, Some, None, slice_index_or, refl}
 use Rattle.std.proofs.Common.{◌∙◌, ap}
 use Rattle.its_word.specs.declared.calls.Ask.{Ask}
+use Rattle.its_frame.specs.declared.change.Change.{Change}
 use Rattle.its_frame.specs.declared.decision.Decision.{Decision}
 use Rattle.its_frame.specs.declared.decision.Decision.TheVariants.{Waits, Goes, Ends, Gone}
 use Rattle.its_frame.specs.declared.name.CallName.{CallName}
@@ -10,15 +11,17 @@ use Rattle.its_frame.specs.declared.name.CallName.TheVariants.{Hang, Sleep, Iot,
 use Rattle.its_plain.specs.Machine.{Chan, Shut, TtyIn, TtyOut, Reads, Writes, On, Whole, Machine}
 use Rattle.its_plain.specs.Arguments.{input}
 use Rattle.its_plain.specs.View.{View, view}
-use Rattle.its_plain.specs.CallBasic.{channel_at}
+use Rattle.its_plain.specs.CallBasic.{is_oneself, channel_at}
 use Rattle.its_plain.specs.CallTty.{iot_on, iot, siot_on, siot}
 use Rattle.its_plain.specs.CallStep.{decision}
-use Rattle.its_plain.specs.Decide.{call_named, decided_by, decided, target, reach}
+use Rattle.its_plain.specs.Decide.{call_named, tty_by, decided_by, decided, inferior_on, reached_by, target_by, argument_of, target, reach}
 use Rattle.its_stepped.specs.Sound.{IsWaitable}
 use Rattle.its_stepped.specs.State.{State, plain, seen}
 use Rattle.its_stepped.specs.Unwind.{all_unwound}
 use Rattle.its_stepped.specs.Tick.{is_disk, helps_by, helps, helped_if, prepared_for}
-use Rattle.its_stepped.proofs.FileWays.{FileWays, file_ways}
+use Rattle.its_stepped.proofs.FileWays.{OnFile, Ways, file_ways}
+use Rattle.its_stepped.proofs.UsrWays.{OnUsr, usr_ways}
+use Rattle.its_stepped.proofs.CoreWays.{OnCore, core_ways}
 use Rattle.its_stepped.proofs.ViewLaws.{StillAt, decision_plain, view_plain, reach_plain, helps_seen}
 use Rattle.its_stepped.proofs.UnseenLaws.{files_unseen}
 
@@ -42,15 +45,15 @@ decision_by w j own a false still e h = decision_unhelped w j own a still e
 pub decision_helped : (w : State) (j : ℕ) (own : Whole) (a : Ask) → StillAt w (target own a) → (helps own a ≡ true → w.mark ≡ None) → decision (plain w) j own a ≡ decision w.raw j own a
 decision_helped w j own a still h = decision_by w j own a (helps own a) still refl h
 
--- no call on files is found not ready
+-- no call on files, on an inferior or on pages is found not ready
 abbrev pub Goes_on : Decision → Type 0
 Goes_on (Waits r) = ⊥
 Goes_on (Goes cs h vs) = Unit {0}
 Goes_on (Ends cs ss e) = Unit {0}
 Goes_on (Gone cs) = Unit {0}
 
-goes_ways : (x : View) (a : Ask) → FileWays Goes_on x a
-goes_ways x a = record {
+goes_ways : (OnIt : Change → Type 0) (x : View) (a : Ask) → Ways OnIt Goes_on x a
+goes_ways OnIt x a = record {
   failing = λ k. tt;
   faulting = λ f. tt;
   stuck = tt;
@@ -59,26 +62,50 @@ goes_ways x a = record {
   going = λ cs b vs h. tt;
 }
 
-iot_goes : (x : View) (e : ℕ) (c : Chan) → is_disk c ≡ true → Goes_on (iot_on x e c)
-iot_goes x e (Reads f at) h = tt
-iot_goes x e (Writes f) h = tt
-iot_goes x e Shut h = absurd cc
-iot_goes x e TtyIn h = absurd cc
-iot_goes x e TtyOut h = absurd cc
-iot_goes x e (On s w at) h = absurd cc
+-- a channel that is on no console
+abbrev OffConsole : Chan → Type 0
+OffConsole TtyIn = ⊥
+OffConsole TtyOut = ⊥
+OffConsole _ = Unit {0}
 
-siot_goes : (x : View) (a : Ask) (c : Chan) → is_disk c ≡ true → Goes_on (siot_on x a c)
+disk_off : (c : Chan) → is_disk c ≡ true → OffConsole c
+disk_off TtyIn h = absurd cc
+disk_off TtyOut h = absurd cc
+disk_off _ h = tt
+
+inferior_off : (c : Chan) (s : ℕ) → inferior_on c ≡ Some s → OffConsole c
+inferior_off TtyIn s h = absurd cc
+inferior_off TtyOut s h = absurd cc
+inferior_off _ s h = tt
+
+iot_goes : (x : View) (e : ℕ) (c : Chan) → OffConsole c → Goes_on (iot_on x e c)
+iot_goes x e TtyIn h = absurd h
+iot_goes x e TtyOut h = absurd h
+iot_goes x e _ h = tt
+
+siot_goes : (x : View) (a : Ask) (c : Chan) → OffConsole c → Goes_on (siot_on x a c)
+siot_goes x a TtyIn h = absurd h
+siot_goes x a TtyOut h = absurd h
+siot_goes x a Shut h = tt
 siot_goes x a (Reads f at) h = tt
 siot_goes x a (Writes f) h = tt
-siot_goes x a Shut h = absurd cc
-siot_goes x a TtyIn h = absurd cc
-siot_goes x a TtyOut h = absurd cc
-siot_goes x a (On s w at) h = absurd cc
+siot_goes x a (On s w at) h = tt
+
+ways_go : (x : View) (a : Ask) (o : Option CallName) → Goes_on (tty_by x a o) → Goes_on (decided_by x a o)
+ways_go x a o h =
+    core_ways Goes_on x a o (goes_ways OnCore x a) (usr_ways Goes_on x a o (goes_ways OnUsr x a) (file_ways Goes_on x a o (goes_ways OnFile x a) h))
+
+iot_ready : (x : View) (a : Ask) → OffConsole (channel_at x.own.channels (input a 0)) → Goes_on (decided_by x a (Some Iot))
+unfolding iot
+iot_ready x a h = ways_go x a (Some Iot) (iot_goes x (slice_index_or a.outputs.items 0 0) (channel_at x.own.channels (input a 0)) h)
+
+siot_ready : (x : View) (a : Ask) → OffConsole (channel_at x.own.channels (input a 0)) → Goes_on (decided_by x a (Some Siot))
+unfolding siot
+siot_ready x a h = ways_go x a (Some Siot) (siot_goes x a (channel_at x.own.channels (input a 0)) h)
 
 named_goes : (x : View) (a : Ask) (o : Option CallName) → helps_by x.own a o ≡ true → IsWaitable o → Goes_on (decided_by x a o)
-unfolding iot siot
-named_goes x a (Some Iot) h w = file_ways Goes_on x a (Some Iot) (goes_ways x a) (iot_goes x (slice_index_or a.outputs.items 0 0) (channel_at x.own.channels (input a 0)) h)
-named_goes x a (Some Siot) h w = file_ways Goes_on x a (Some Siot) (goes_ways x a) (siot_goes x a (channel_at x.own.channels (input a 0)) h)
+named_goes x a (Some Iot) h w = iot_ready x a (disk_off (channel_at x.own.channels (input a 0)) h)
+named_goes x a (Some Siot) h w = siot_ready x a (disk_off (channel_at x.own.channels (input a 0)) h)
 named_goes x a (Some Hang) h w = absurd cc
 named_goes x a (Some Sleep) h w = absurd cc
 named_goes x a (Some Finish) h w = absurd cc
@@ -96,3 +123,31 @@ goes_by x a false z h w = rw z tt
 pub waits_unhelped : (m : Machine) (j : ℕ) (q : Whole) (a : Ask) → helps q a ≡ true → IsWaitable (call_named a.name) → Goes_on (decision m j q a)
 unfolding decision view
 waits_unhelped m j q a h w = goes_by (view m j q (target q a)) a (a.fail == 0) refl h w
+
+-- nor does it reach into another job
+reached_off : (q : Whole) (w s : ℕ) → reached_by q w ≡ Some s → OffConsole (channel_at q.channels w)
+reached_off q w s h = go (is_oneself w) h
+  where
+    go : (b : Bool) → (if b then None else inferior_on (channel_at q.channels w)) ≡ Some s → OffConsole (channel_at q.channels w)
+    go true h = absurd cc
+    go false h = inferior_off (channel_at q.channels w) s h
+
+named_reaches : (x : View) (a : Ask) (o : Option CallName) (s : ℕ) → target_by x.own a (argument_of o) ≡ Some s → IsWaitable o → Goes_on (decided_by x a o)
+named_reaches x a (Some Iot) s h w = iot_ready x a (reached_off x.own (input a 0) s h)
+named_reaches x a (Some Siot) s h w = siot_ready x a (reached_off x.own (input a 0) s h)
+named_reaches x a (Some Hang) s h w = absurd cc
+named_reaches x a (Some Sleep) s h w = absurd cc
+named_reaches x a (Some Finish) s h w = absurd cc
+named_reaches x a (Some Listen) s h w = absurd cc
+named_reaches x a _ s h w = absurd w
+
+reaches_by : (x : View) (a : Ask) (s : ℕ) (z : Bool) → (a.fail == 0) ≡ z → target x.own a ≡ Some s → IsWaitable (call_named a.name) → Goes_on (decided x a)
+unfolding decided target
+reaches_by x a s true z h w =
+    let e : target_by x.own a (argument_of (call_named a.name)) ≡ target x.own a = rw z refl in
+    rw z (named_reaches x a (call_named a.name) s (e ∙ h) w)
+reaches_by x a s false z h w = rw z tt
+
+pub waits_unreached : (m : Machine) (j : ℕ) (q : Whole) (a : Ask) (s : ℕ) → target q a ≡ Some s → IsWaitable (call_named a.name) → Goes_on (decision m j q a)
+unfolding decision view
+waits_unreached m j q a s h w = reaches_by (view m j q (target q a)) a s (a.fail == 0) refl h w

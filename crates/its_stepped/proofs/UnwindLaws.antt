@@ -22,7 +22,7 @@ use Rattle.its_plain.specs.CallStep.{with_held, among}
 use Rattle.its_plain.specs.Decide.{call_named}
 use Rattle.its_plain.proofs.MachineLaws.{machine_is}
 use Rattle.its_stepped.specs.SlotSame.{SlotSame}
-use Rattle.its_stepped.specs.State.{Part, Mark, State, helped, mine, held_at, seen, seen_jobs, plain, turn, same, reserving, holding, waiting, ending}
+use Rattle.its_stepped.specs.State.{Part, Mark, State, helped, mine, held_at, seen, seen_jobs, plain, turn, same, reserving, holding, waiting, ending, asked}
 use Rattle.its_stepped.specs.Unwind.{first_debt, less, paid, given_back, with_part, due, settled, left_by, left, unwind_by, unwind_one, unwind_times, unwound, all_unwound}
 use Rattle.its_stepped.specs.Sound.{HoldingPays, SoundFrame, SoundBy, SoundSlot, Sound, most_owed, most_owed_by}
 use Rattle.its_stepped.specs.OneChange.{OneChange, FrameAlone}
@@ -254,7 +254,7 @@ beside_paid : (w : State) (j : ℕ) (a : Ask) (n : ℕ) (f : ℕ → Frame) → 
 beside_paid w j a n f = beside_turn w j (with_stores (first_debt (debts a n))) (less n f)
 
 beside_given : (w : State) (j : ℕ) (s : Site) (a : Ask) (page : Option ℕ) (n : ℕ) → Beside w (given_back w j s a page n) j
-beside_given w j s a (Some p) n = beside_page w j (Some (holding s a None n))
+beside_given w j s a (Some p) n = beside_page w j (Some (asked s a))
 beside_given w j s a None n = beside_paid w j a n (holding s a None)
 
 beside_settled : (w : State) (j : ℕ) (s : Site) (a : Ask) (os : List Owed) → Beside w (settled w j s a os) j

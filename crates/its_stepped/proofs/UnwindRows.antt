@@ -13,12 +13,13 @@ use Rattle.its_plain.specs.Change.{in_job}
 use Rattle.its_plain.specs.Arguments.{input, debts}
 use Rattle.its_plain.specs.CallStep.{deposited, with_held}
 use Rattle.its_word.specs.Stores.{place, stored}
-use Rattle.its_stepped.specs.State.{State, mine, seen, turn, same, reserving, holding, waiting, moving}
+use Rattle.its_stepped.specs.State.{State, mine, seen, turn, same, reserving, asked, holding, waiting, moving}
 use Rattle.its_stepped.specs.Unwind.{first_debt, paid, given_back, left_by}
 use Rattle.its_stepped.specs.Sound.{Stands, Stored, Debts, SoundFrame, MarkBy, parts_in_frame}
 use Rattle.its_stepped.specs.OneChange.{OneChange, OneWord}
 use Rattle.its_stepped.proofs.FrameLaws.{stored_one, stores_none, stores_cons}
 use Rattle.its_stepped.proofs.DebtLaws.{NextOwed, debts_next, debts_none, debts_behind}
+use Rattle.its_stepped.proofs.PageLaws.{owes_reserves_none}
 use Rattle.its_stepped.proofs.RowLaws.{Rowed, job_alike, turn_row, frame_row, page_row}
 
 -- a job with a frame, and what soundness says of it
@@ -80,18 +81,20 @@ holding_none w j q s a n at =
       runs = ap (λ k. k.stopped) job ∙ at.sound.runs;
       quiet = ap deliverable job ∙ at.sound.quiet;
       standing = stands_as _ _ s a e at.sound.standing;
-      pays = record { debts = d; page_is = at.sound.pays.page_is; paged = tt };
+      pays = record { debts = d; page_is = at.sound.pays.page_is; paged = tt; has = at.sound.pays.has };
     })
 
 holding_some : (w : State) (j : ℕ) (q : Whole) (s : Site) (a : Ask) (p n : ℕ) → At w j q (holding s a (Some p) n)
-    → Rowed w (reserving (turn w j same (Some (holding s a None n))) j None) j
+    → Rowed w (reserving (turn w j same (Some (asked s a))) j None) j
 unfolding seen
 holding_some w j q s a p n at =
-    page_row w j q (Some (holding s a None n)) at.job (rw at.frame) (record {
+    let none : n ≡ 0 = at.sound.pays.paged.owes in
+    let as_is : with_stores (debts a n) q ≡ q = ap (λ k. with_stores (debts a k) q) none ∙ ap (λ ss. with_stores ss q) (debts_none a) ∙ stores_none q in
+    page_row w j q (Some (asked s a)) at.job (rw at.frame as_is) (record {
       runs = at.sound.runs;
       quiet = at.sound.quiet;
-      standing = at.sound.standing;
-      pays = record { debts = at.sound.pays.debts; page_is = refl; paged = tt };
+      standing = stands_as q (with_stores (debts a n) q) s a (sym as_is) at.sound.standing;
+      pays = refl;
     }) at.mark (λ mine. rw at.frame) (rw at.frame (omega arith))
 
 pub holding_row : (w : State) (j : ℕ) (q : Whole) (s : Site) (a : Ask) (page : Option ℕ) (n : ℕ) → At w j q (holding s a page n) → Rowed w (given_back w j s a page n) j
@@ -125,5 +128,5 @@ moving_row w j q s a h at =
       runs = at.sound.runs;
       quiet = at.sound.quiet;
       standing = at.sound.standing;
-      pays = record { debts = rw (stored_one q.core d) (debts_behind q.core (place d) d.word a 2 at.sound.pays.debts); page_is = at.sound.pays.page_is; paged = tt };
+      pays = record { debts = rw (stored_one q.core d) (debts_behind q.core (place d) d.word a 2 at.sound.pays.debts); page_is = at.sound.pays.page_is; paged = tt; has = owes_reserves_none a 2 (omega arith) at.sound.pays.debts.few };
     }) at.mark (λ mine. rw at.frame) (rw at.frame) (held_word w j q a h (Some (holding s a None 2)) at.job)

@@ -1,7 +1,5 @@
 -- USRVAR does its duty, on its own job and through a channel on an inferior.
 use Rattle.std.specs.Prelude.{if◌then◌else◌, ◌&&◌, ◌≡◌, ◌≢◌, ℕ, Bool, true, false, not, Option, Some, None, [], ◌∷◌, refl}
-use Rattle.std.proofs.Common.{sym, ◌∙◌, ap, subst}
-use Rattle.std.proofs.lemmas.Bool.{eq-eqb}
 use Rattle.its_word.specs.declared.calls.Ask.{Ask}
 use Rattle.its_word.specs.declared.calls.Site.{Site}
 use Rattle.its_frame.specs.declared.name.CallName.{CallName}
@@ -9,48 +7,17 @@ use Rattle.its_frame.specs.declared.name.CallName.TheVariants.{Usrvar, Iot}
 use Rattle.its_frame.specs.declared.variable.Variable.{Variable}
 use Rattle.its_plain.specs.Arguments.{input, has_input}
 use Rattle.its_plain.specs.CallBasic.{Oneself, is_oneself, channel_at, party_on, variable_named, by_oneself, by_superior, set_own, own_variable, set_other, value_of_other, other_variable, usrvar_of, usrvar}
-use Rattle.its_plain.specs.CallStep.{among}
-use Rattle.its_plain.specs.Decide.{call_named, inferior_on, target_by, argument_of, target, listed, reach_by, reach}
-use Rattle.its_plain.specs.Machine.{Chan, Shut, TtyIn, TtyOut, Reads, Writes, On, Whole, Machine}
+use Rattle.its_plain.specs.Decide.{call_named}
+use Rattle.its_plain.specs.Machine.{Chan, Shut, TtyIn, TtyOut, Reads, Writes, On, Machine}
 use Rattle.its_plain.specs.Own.{variable_of}
 use Rattle.its_plain.specs.Tests.{◌⇒◌, finishes, fails, out}
 use Rattle.its_plain.specs.View.{View}
 use Rattle.its_stepped.specs.State.{State}
-use Rattle.its_stepped.specs.Quiet.{IsStill, AllQuiet}
+use Rattle.its_stepped.specs.Quiet.{AllQuiet}
 use Rattle.its_stepped.specs.Duty.{AllSpare, Duty, parts_in}
 use Rattle.its_stepped.specs.Calling.{Calling}
-use Rattle.its_stepped.proofs.UnwindLaws.{among_first}
+use Rattle.its_stepped.proofs.TargetLaws.{Aimed, aimed_reached, aimed_on}
 use Rattle.its_stepped.proofs.TestLaws.{by_test, first_holds, ending_duty, fails_duty, output_duty, out_few}
-
--- whom a call reaches whose channel is on an inferior
-reach_listed : (m : Machine) (j : ℕ) (q : Whole) (a : Ask) (s : ℕ) → a.fail ≡ 0 → call_named a.name ≡ Some Usrvar → target q a ≡ Some s → reach m j q a ≡ s ∷ []
-unfolding reach
-reach_listed m j q a s z e t =
-    ap (λ (b : Bool). if b then reach_by m j q a (call_named a.name) else []) (eq-eqb a.fail 0 z)
-    ∙ ap (reach_by m j q a) e ∙ ap listed t
-
-target_on : (q : Whole) (a : Ask) (s at : ℕ) (write : Bool) → a.fail ≡ 0 → call_named a.name ≡ Some Usrvar → is_oneself (input a 0) ≡ false
-    → channel_at q.channels (input a 0) ≡ On s write at → target q a ≡ Some s
-unfolding target
-target_on q a s at write z e one c =
-    ap (λ (b : Bool). if b then target_by q a (argument_of (call_named a.name)) else None) (eq-eqb a.fail 0 z)
-    ∙ ap (λ (o : Option CallName). target_by q a (argument_of o)) e
-    ∙ ap (λ (b : Bool). if b then None else inferior_on (channel_at q.channels (input a 0))) one
-    ∙ ap inferior_on c
-
-not_among : (i k : ℕ) → among i (k ∷ []) ≡ false → k ≢ i
-not_among i k h e = let t : among i (k ∷ []) ≡ true = subst (λ (n : ℕ). among n (k ∷ []) ≡ true) e (among_first k []) in cc
-
--- its target is another job, in user mode
-pub record Aimed (v : State) (j s : ℕ) : Type 0 where
-  pub other : s ≢ j
-  pub free : v.frames s ≡ None
-
-aimed : (m : Machine) (v : State) (j : ℕ) (q : Whole) (s : Site) (a : Ask) (n k : ℕ) → Calling m v j q s a n → reach m j q a ≡ k ∷ [] → Aimed v j k
-aimed m v j q s a n k c is = record {
-  other = not_among j k (sym (ap (among j) is) ∙ c.apart);
-  free = c.reached k (ap (among k) is ∙ among_first k []);
-}
 
 -- on the own job
 set_own_duty : (m : Machine) (v : State) (j : ℕ) (x : View) (s : Site) (a : Ask) (n : ℕ) (y : Variable) (b : Bool) → Calling m v j x.own s a n → call_named a.name ≢ Some Iot
@@ -67,7 +34,7 @@ own_variable_duty m v j x s a n (Some y) c ne =
 
 -- through a channel
 set_quiet : (v : State) (j k : ℕ) (y : Variable) (w : ℕ) (b : Bool) → Aimed v j k → AllQuiet (set_other k y w b) j v
-set_quiet v j k y w true h = (record { still = subst IsStill (sym h.free) tt; other = λ ne. h.free }, tt)
+set_quiet v j k y w true h = (aimed_reached v j k h, tt)
 set_quiet v j k y w false h = tt
 
 set_spares : (v : State) (j k : ℕ) (y : Variable) (w : ℕ) (b : Bool) → Aimed v j k → AllSpare (set_other k y w b) j v
@@ -91,28 +58,28 @@ other_variable_duty m v j x s a n k write (Some y) c ne h =
     (c.fetched.output ne (value_of_other k y x.other)) (out_few a.outputs.items (value_of_other k y x.other)))
 
 channel_duty : (m : Machine) (v : State) (j : ℕ) (x : View) (s : Site) (a : Ask) (n : ℕ) (h : Chan) → Calling m v j x.own s a n → call_named a.name ≡ Some Usrvar → a.fail ≡ 0
-    → is_oneself (input a 0) ≡ false → channel_at x.own.channels (input a 0) ≡ h → Duty v j x.own s a n (usrvar_of x a (party_on h))
-channel_duty m v j x s a n Shut c e z one is = fails_duty m v j x s a n 0o4 c
-channel_duty m v j x s a n TtyIn c e z one is = fails_duty m v j x s a n 0o5 c
-channel_duty m v j x s a n TtyOut c e z one is = fails_duty m v j x s a n 0o5 c
-channel_duty m v j x s a n (Reads f at) c e z one is = fails_duty m v j x s a n 0o5 c
-channel_duty m v j x s a n (Writes f) c e z one is = fails_duty m v j x s a n 0o5 c
-channel_duty m v j x s a n (On k write at) c e z one is =
+    → channel_at x.own.channels (input a 0) ≡ h → Duty v j x.own s a n (usrvar_of x a (party_on h))
+channel_duty m v j x s a n Shut c e z is = fails_duty m v j x s a n 0o4 c
+channel_duty m v j x s a n TtyIn c e z is = fails_duty m v j x s a n 0o5 c
+channel_duty m v j x s a n TtyOut c e z is = fails_duty m v j x s a n 0o5 c
+channel_duty m v j x s a n (Reads f at) c e z is = fails_duty m v j x s a n 0o5 c
+channel_duty m v j x s a n (Writes f) c e z is = fails_duty m v j x s a n 0o5 c
+channel_duty m v j x s a n (On k write at) c e z is =
     other_variable_duty m v j x s a n k write (variable_named (input a 1)) c (λ t. named_apart (call_named a.name) e t)
-    (aimed m v j x.own s a n k c (reach_listed m j x.own a k z e (target_on x.own a k at write z e one is)))
+    (aimed_on m v j x.own s a n Usrvar 0 k at write c e z refl refl is)
   where
     named_apart : (o : Option CallName) → o ≡ Some Usrvar → o ≡ Some Iot → ⊥
     named_apart o e t = cc
 
 usrvar_by : (m : Machine) (v : State) (j : ℕ) (x : View) (s : Site) (a : Ask) (n : ℕ) (b : Bool) → Calling m v j x.own s a n → call_named a.name ≡ Some Usrvar → a.fail ≡ 0
-    → is_oneself (input a 0) ≡ b → Duty v j x.own s a n (usrvar_of x a (if b then Oneself else party_on (channel_at x.own.channels (input a 0))))
-usrvar_by m v j x s a n true c e z one = own_variable_duty m v j x s a n (variable_named (input a 1)) c (λ t. named_apart (call_named a.name) e t)
+    → Duty v j x.own s a n (usrvar_of x a (if b then Oneself else party_on (channel_at x.own.channels (input a 0))))
+usrvar_by m v j x s a n true c e z = own_variable_duty m v j x s a n (variable_named (input a 1)) c (λ t. named_apart (call_named a.name) e t)
   where
     named_apart : (o : Option CallName) → o ≡ Some Usrvar → o ≡ Some Iot → ⊥
     named_apart o e t = cc
-usrvar_by m v j x s a n false c e z one = channel_duty m v j x s a n (channel_at x.own.channels (input a 0)) c e z one refl
+usrvar_by m v j x s a n false c e z = channel_duty m v j x s a n (channel_at x.own.channels (input a 0)) c e z refl
 
 pub usrvar_duty : (m : Machine) (v : State) (j : ℕ) (x : View) (s : Site) (a : Ask) (n : ℕ) → Calling m v j x.own s a n → call_named a.name ≡ Some Usrvar → a.fail ≡ 0
     → Duty v j x.own s a n (usrvar x a)
 unfolding usrvar
-usrvar_duty m v j x s a n c e z = usrvar_by m v j x s a n (is_oneself (input a 0)) c e z refl
+usrvar_duty m v j x s a n c e z = usrvar_by m v j x s a n (is_oneself (input a 0)) c e z

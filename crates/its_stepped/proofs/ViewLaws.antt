@@ -1,18 +1,18 @@
 -- What a call looks at is the same on the raw machine and on the plain one, where the job that it reaches into is in
 -- user mode and no close is half made. So it may be decided on raw jobs.
-use Rattle.std.specs.Prelude.{if◌then◌else◌, ◌==◌, ◌≡◌, ℕ, false, Option, Some, None, [], ◌++◌, option_map, refl}
+use Rattle.std.specs.Prelude.{if◌then◌else◌, ◌==◌, ◌≡◌, ℕ, false, Option, Some, None, [], ◌∷◌, ◌++◌, option_map, refl}
 use Rattle.std.proofs.Common.{◌∙◌, ap}
 use Rattle.its_word.specs.Tree.{slots_below}
 use Rattle.its_word.specs.declared.calls.Ask.{Ask}
 use Rattle.its_frame.specs.declared.frame.Frame.{Frame}
 use Rattle.its_frame.specs.declared.name.CallName.{CallName}
-use Rattle.its_frame.specs.declared.name.CallName.TheVariants.{Logout, Close, Iot, Siot}
+use Rattle.its_frame.specs.declared.name.CallName.TheVariants.{Logout, Close, Iot, Siot, Uclose}
 use Rattle.its_plain.specs.Machine.{Whole, Machine}
 use Rattle.its_plain.specs.Change.{superiors}
 use Rattle.its_plain.specs.Arguments.{input}
 use Rattle.its_plain.specs.View.{outline, job_at, view}
 use Rattle.its_plain.specs.CallBasic.{is_oneself, channel_at}
-use Rattle.its_plain.specs.Decide.{call_named, decided, inferior_on, target_by, argument_of, target, listed, reach_by, reach}
+use Rattle.its_plain.specs.Decide.{call_named, decided, inferior_on, target_by, argument_of, target, listed, with_below, reach_by, reach}
 use Rattle.its_plain.specs.CallStep.{decision}
 use Rattle.its_stepped.specs.State.{State, helped, seen, plain}
 use Rattle.its_stepped.specs.Tick.{is_disk, helps_by, helps}
@@ -76,9 +76,14 @@ target_alike p q a e = ap (λ o. if a.fail == 0 then o else None) (target_by_ali
 pub target_seen : (f : Option Frame) (q : Whole) (a : Ask) → target (seen f q) a ≡ target q a
 target_seen f q a = target_alike (seen f q) q a (seen_channels f q)
 
+below_alike : (m n : Machine) (o : Option ℕ) → superiors m ≡ superiors n → with_below m o ≡ with_below n o
+below_alike m n (Some s) e = ap (λ sup. slots_below sup s ++ s ∷ []) e
+below_alike m n None e = refl
+
 reach_by_alike : (m n : Machine) (j : ℕ) (p q : Whole) (a : Ask) (c : Option CallName) → superiors m ≡ superiors n → p.superior ≡ q.superior → target p a ≡ target q a
     → reach_by m j p a c ≡ reach_by n j q a c
 reach_by_alike m n j p q a (Some Logout) sup s t = (λ i. slots_below (sup i) j ++ listed (s i))
+reach_by_alike m n j p q a (Some Uclose) sup s t = below_alike m n (target p a) sup ∙ ap (with_below n) t
 reach_by_alike m n j p q a _ sup s t = ap listed t
 
 pub reach_plain : (w : State) (j : ℕ) (f : Option Frame) (q : Whole) (a : Ask) → reach (plain w) j (seen f q) a ≡ reach w.raw j q a

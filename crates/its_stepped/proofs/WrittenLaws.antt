@@ -1,50 +1,86 @@
--- The lines that the monitor writes are a transcript of the plain machine, with the calls that are built, where the
--- decoding of calls looks at what it has to.
-use Rattle.std.specs.Prelude.{◌≡◌, ℕ, Bool, Option, Some, None, List, option_map}
-use Rattle.std.proofs.Common.{sym, ap, subst}
+-- The lines that the monitor writes are a transcript of the plain machine, where the decoding of calls looks at what it
+-- has to.
+use Rattle.std.specs.Prelude.{◌≡◌, ℕ, Bool, true, Option, Some, None, IfSome, List, option_map, is_some, refl}
+use Rattle.std.proofs.Common.{sym, ◌∙◌, ap, subst}
+use Rattle.std.proofs.lemmas.Option.{IfSome_then}
 use Rattle.its_word.specs.Item.{Item}
 use Rattle.its_word.specs.declared.session.Event.{Event}
 use Rattle.its_print.specs.Printing.{Line}
-use Rattle.its_plain.specs.Machine.{Whole, Machine}
+use Rattle.its_plain.specs.Change.{channel_in, superior_in}
+use Rattle.its_plain.specs.Machine.{Chan, Shut, Whole, Machine}
 use Rattle.its_plain.specs.CallOperator.{Done, lined}
 use Rattle.its_plain.specs.CallTranscript as walk
 use Rattle.its_plain.specs.Operator.{Block, Does}
-use Rattle.its_plain.proofs.CallLineLaws.{Face, face, SlotKept, Stays, Made, LineKeeps, LineKeepsBy, line_keeps}
-use Rattle.its_stepped.specs.Calling.{Decoding, ApartBy, Distinct}
+use Rattle.its_plain.proofs.CallLineLaws.{Face, face, SlotKept, Stays, Made, HolderKept, Keeps, Takes, LineKeeps, LineKeepsBy, line_keeps}
+use Rattle.its_stepped.specs.Calling.{Decoding}
+use Rattle.its_stepped.specs.Forest.{OnInferior, Forest}
 use Rattle.its_stepped.specs.Lines.{stepped}
 use Rattle.its_stepped.specs.Upkeep.{Lasting}
-use Rattle.its_stepped.proofs.DistinctLaws.{apart_same, distinct_starts}
-use Rattle.its_stepped.proofs.FitLaws.{step_distinct}
+use Rattle.its_stepped.proofs.ForestLaws.{forest_starts, same_forest}
+use Rattle.its_stepped.proofs.FitLaws.{forest_steps}
 use Rattle.its_stepped.proofs.GivenLaws.{given}
 use Rattle.its_stepped.proofs.UpkeepLaws.{session_transcript}
 
--- lines keep jobs apart
-faced_apart : (k : ℕ) (o p : Option Whole) → option_map face p ≡ option_map face o → ApartBy k o → ApartBy k p
-faced_apart k o None e a = tt
-faced_apart k None (Some q) e a = cc
-faced_apart k (Some r) (Some q) e a =
-    let same : face q ≡ face r = cc in
-    apart_same k r q (ap (λ (f : Face). f.superior) same) (ap (λ (f : Face). f.channels) same) a
+-- lines keep how jobs lie to each other: a job that LOAD makes has no superior and no channel
+abbrev face_superior : Option Face → Option ℕ
+face_superior (Some f) = f.superior
+face_superior None = None
 
-slot_apart : (k : ℕ) (o p : Option Whole) → SlotKept o p → ApartBy k o → ApartBy k p
-slot_apart k o p (Stays e) a = faced_apart k o p e a
-slot_apart k o p (Made u j console none is) a = subst (ApartBy k) (sym is) (record { superior = λ e. cc; channel = λ n s at write e. cc })
+abbrev face_channel : Option Face → ℕ → Chan
+face_channel (Some f) i = f.channels i
+face_channel None i = Shut
 
-keeps_distinct : (m n : Machine) → LineKeeps m n → Distinct m → Distinct n
-keeps_distinct m n h d = record {
-  few = λ k l. h.few k l (d.few k l);
-  apart = λ k. slot_apart k (m.jobs k) (n.jobs k) (h.slots k) (d.apart k);
-}
+superior_faced : (o : Option Whole) → superior_in o ≡ face_superior (option_map face o)
+superior_faced (Some q) = refl
+superior_faced None = refl
 
-pub line_distinct : (m n : Machine) (b c : Block) (e : Event) (out : List Line) (touched : ℕ → Bool) → Distinct m → lined m b e ≡ Done (Does n out touched c) → Distinct n
-line_distinct m n b c e out touched d is = keeps_distinct m n (subst (LineKeepsBy m) is (line_keeps m b e)) d
+channel_faced : (o : Option Whole) (i : ℕ) → channel_in o i ≡ face_channel (option_map face o) i
+channel_faced (Some q) i = refl
+channel_faced None i = refl
+
+some_faced : (o : Option Whole) → is_some o ≡ is_some (option_map face o)
+some_faced (Some q) = refl
+some_faced None = refl
+
+slot_superior : (o p : Option Whole) → SlotKept o p → superior_in p ≡ superior_in o
+slot_superior o p (Stays e) = superior_faced p ∙ ap face_superior e ∙ sym (superior_faced o)
+slot_superior o p (Made u j console none is) = ap superior_in is ∙ sym (ap superior_in none)
+
+slot_some : (o p : Option Whole) → SlotKept o p → is_some o ≡ true → is_some p ≡ true
+slot_some o p (Stays e) h = some_faced p ∙ ap is_some e ∙ sym (some_faced o) ∙ h
+slot_some o p (Made u j console none is) h = ap is_some is
+
+slot_channel : (m : Machine) (k i : ℕ) (o p : Option Whole) → SlotKept o p → OnInferior m k (channel_in o i) → OnInferior m k (channel_in p i)
+slot_channel m k i o p (Stays e) h = subst (OnInferior m k) (channel_faced o i ∙ sym (ap (λ (f : Option Face). face_channel f i) e) ∙ sym (channel_faced p i)) h
+slot_channel m k i o p (Made u j console none is) h = subst (λ (x : Option Whole). OnInferior m k (channel_in x i)) (sym is) tt
+
+-- and a job that it makes may hold its console
+holder_kept : (m n : Machine) (c : ℕ) → LineKeeps m n → HolderKept m n c → IfSome (m.holders c) (λ s. is_some (m.jobs s) ≡ true) → IfSome (n.holders c) (λ s. is_some (n.jobs s) ≡ true)
+holder_kept m n c h (Keeps e) d =
+    subst (λ (o : Option ℕ). IfSome o (λ s. is_some (n.jobs s) ≡ true)) (sym e)
+    (IfSome_then (m.holders c) d (λ s x. slot_some (m.jobs s) (n.jobs s) (h.slots s) x))
+holder_kept m n c h (Takes s u j none free is e) d = subst (λ (o : Option ℕ). IfSome o (λ s. is_some (n.jobs s) ≡ true)) (sym e) (ap is_some is)
+
+keeps_forest : (m n : Machine) → LineKeeps m n → Forest m → Forest n
+keeps_forest m n h d = same_forest m n
+    (record {
+      few = λ k l. h.few k l (d.few k l);
+      tree = λ k. slot_superior (m.jobs k) (n.jobs k) (h.slots k);
+      jobs = λ k x. slot_some (m.jobs k) (n.jobs k) (h.slots k) x;
+      channels = λ k i. slot_channel m k i (m.jobs k) (n.jobs k) (h.slots k) (d.channels k i);
+      holders = λ c. holder_kept m n c h (h.holders c) (d.holders c);
+    })
+    d
+
+pub line_forest : (m n : Machine) (b c : Block) (e : Event) (out : List Line) (touched : ℕ → Bool) → Forest m → lined m b e ≡ Done (Does n out touched c) → Forest n
+line_forest m n b c e out touched d is = keeps_forest m n (subst (LineKeepsBy m) is (line_keeps m b e)) d
 
 -- what lasts through a session
-pub lasting : Decoding → Lasting Distinct
+pub lasting : Decoding → Lasting Forest
 lasting d = record {
-  starts = distinct_starts;
-  steps = λ m n j placed e. step_distinct m n j placed e;
-  lines = λ m n b c e out touched placed is. line_distinct m n b c e out touched placed is;
+  starts = forest_starts;
+  steps = λ m n j placed e. forest_steps m n j placed e;
+  lines = λ m n b c e out touched placed is. line_forest m n b c e out touched placed is;
   duties = λ w j sound placed. given d w j placed sound;
 }
 

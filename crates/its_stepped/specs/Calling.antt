@@ -1,8 +1,7 @@
 -- What a call may rely on as it decides, beside its tests: what its decoding looked at, what it owes and has
 -- reserved, and that the jobs that it reaches are in user mode (docs/STEPS.md, "Commit").
-use Rattle.std.specs.Prelude.{◌≡◌, ◌≢◌, ◌≤◌, ℕ, ◌%◌, ◌^◌, Bool, true, false, Some, None, IfSome, [], ◌∷◌, Option, slice_index_or}
+use Rattle.std.specs.Prelude.{◌≡◌, ◌≢◌, ℕ, ◌%◌, ◌^◌, true, false, Some, None, IfSome, [], ◌∷◌, slice_index_or}
 use Rattle.its_word.specs.Core.{Core, can_store, store}
-use Rattle.its_word.specs.Limits.{slots}
 use Rattle.its_word.specs.declared.calls.Ask.{Ask}
 use Rattle.its_word.specs.declared.calls.Operand.{Operand}
 use Rattle.its_word.specs.declared.calls.Site.{Site}
@@ -13,12 +12,13 @@ use Rattle.its_plain.specs.CallStep.{among}
 use Rattle.its_plain.specs.Change.{superiors}
 use Rattle.its_plain.specs.Decide.{call_named, reach}
 use Rattle.its_plain.specs.Footprint.{variable, with_inputs}
-use Rattle.its_plain.specs.Machine.{Whole, Machine, On}
+use Rattle.its_plain.specs.Machine.{Whole, Machine}
 use Rattle.its_plain.specs.Tests.{number_at, out}
 use Rattle.its_stepped.specs.State.{State}
-use Rattle.its_stepped.specs.Tick.{helps}
+use Rattle.its_stepped.specs.Tick.{reserves, helps, quarters}
 use Rattle.its_stepped.specs.Sound.{Stands, Stored, Debts, Paged}
 use Rattle.its_stepped.specs.Quiet.{IsStill}
+use Rattle.its_stepped.specs.Forest.{Forest}
 
 -- the arguments of SIOT, whose pointer and count are at these places
 pub record Transfer (a : Ask) (p q : ℕ) : Type 0 where
@@ -49,30 +49,19 @@ pub record Decoding : Type 0 where
       → is_shared p a ≡ false → is_shared q a ≡ false → can_store c p ≡ true → can_store c q ≡ true
       → Stands (store (store c p w) q n) j s (with_inputs a (x ∷ variable w p ∷ variable n q ∷ []))
 
--- a job is not its own superior, and has no channel on itself
-pub record ApartJob (j : ℕ) (q : Whole) : Type 0 where
-  pub superior : q.superior ≢ Some j
-  pub channel : (n s at : ℕ) (write : Bool) → q.channels n ≡ On s write at → s ≢ j
-
-abbrev pub ApartBy : ℕ → Option Whole → Type 0
-ApartBy j (Some q) = ApartJob j q
-ApartBy j None = Unit {0}
-
--- jobs have the slots that there are, and each is apart from its superior and from those that it has channels on
-pub record Distinct (m : Machine) : Type 0 where
-  pub few : (k : ℕ) → slots ≤ k → m.jobs k ≡ None
-  pub apart : (k : ℕ) → ApartBy k (m.jobs k)
-
 -- the call of job own in slot j, which owes its last n arguments: m is the plain machine that it decides on, and v the
--- state that its commit finds
+-- state that its commit finds. A page that it reserves is there, and is clear
 pub record Calling (m : Machine) (v : State) (j : ℕ) (own : Whole) (s : Site) (a : Ask) (n : ℕ) : Type 0 where
   pub stands : Stands own.core own.job s a
   pub fetched : Fetched own.core a
   pub debts : Debts own.core a n
   pub page : IfSome (v.reserved j) (Paged a n)
+  pub full : reserves a ≡ true → v.reserved j ≡ Some quarters
   pub still : n ≡ 0 → IsStill (v.frames j)
   pub reached : (k : ℕ) → among k (reach m j own a) ≡ true → v.frames k ≡ None
   pub apart : among j (reach m j own a) ≡ false
+  pub here : m.jobs j ≡ Some own
   pub tree : (k : ℕ) → superiors v.raw k ≡ superiors m k
-  pub few : (k : ℕ) → slots ≤ k → m.jobs k ≡ None
+  pub forest : Forest m
+  pub empty : (k : ℕ) → m.jobs k ≡ None → v.frames k ≡ None
   pub unmarked : helps own a ≡ true → v.mark ≡ None

@@ -1,6 +1,6 @@
 -- What a call has to show of its decision. That its commit is the step of the plain machine, and that it keeps the
 -- state sound, follows from this alone (docs/STEPS.md, "Commit").
-use Rattle.std.specs.Prelude.{◌≡◌, ◌≢◌, ◌≤◌, ◌⊎◌, ℕ, ◌+◌, ◌%◌, ◌^◌, true, false, Option, Some, None, IfSome, List, [], ◌∷◌, length}
+use Rattle.std.specs.Prelude.{◌≡◌, ◌≢◌, ◌≤◌, ◌⊎◌, ℕ, ◌+◌, ◌%◌, ◌^◌, true, false, Option, Some, None, IfSome, List, [], ◌∷◌, length, nat_lt}
 use Rattle.its_word.specs.Byte.{has_size}
 use Rattle.its_word.specs.Core.{Core, can_store}
 use Rattle.its_word.specs.declared.calls.Ask.{Ask}
@@ -22,7 +22,7 @@ use Rattle.its_plain.specs.Decide.{call_named, reach}
 use Rattle.its_plain.specs.CallStep.{moved, decision, among}
 use Rattle.its_stepped.specs.State.{State, plain, seen}
 use Rattle.its_stepped.specs.Commit.{effect_on}
-use Rattle.its_stepped.specs.Tick.{prepared_for}
+use Rattle.its_stepped.specs.Tick.{reserves, prepared_for, quarters}
 use Rattle.its_stepped.specs.Sound.{Stands, Stored, Debts, IsWaitable}
 use Rattle.its_stepped.specs.Quiet.{AllQuiet}
 
@@ -119,15 +119,22 @@ Duty v j own s a n (Goes cs h vs) = Going v j own s a n cs.items h vs.items
 Duty v j own s a n (Ends cs ss e) = Ending_by v j own n cs.items ss.items
 Duty v j own s a n (Gone cs) = Leaving v j cs.items
 
--- a call that is tried reaches other jobs than its own alone, and does its duty
+-- a call that is tried reaches other jobs than its own alone, all quarters of the page that it reserves are clear, and it
+-- does its duty
 pub record Meets (w : State) (j : ℕ) (own : Whole) (s : Site) (a : Ask) (n : ℕ) : Type 0 where
   pub apart : among j (reach (plain w) j own a) ≡ false
+  pub page : reserves a ≡ true → w.reserved j ≡ Some quarters
   pub duty : Duty (prepared_for w j own a) j own s a n (decision (plain w) j own a)
+
+-- a call that is held is tried where it has no page, or all quarters of it are clear
+abbrev pub IsTried : Option ℕ → Type 0
+IsTried None = Unit {0}
+IsTried (Some p) = nat_lt p quarters ≡ false
 
 -- what the tick of a slot takes as given: the call does its duty where it is tried, and no job is its own superior
 abbrev pub GivenBy : State → ℕ → Whole → Option Frame → Type 0
 GivenBy w j q None = q.superior ≢ Some j
-GivenBy w j q (Some (Holding f)) = Meets w j (seen (Some (Holding f)) q) f.site f.ask f.owes
+GivenBy w j q (Some (Holding f)) = IsTried f.page → Meets w j (seen (Some (Holding f)) q) f.site f.ask f.owes
 GivenBy w j q (Some (Waiting f)) = Meets w j (seen (Some (Waiting f)) q) f.site f.ask f.owes
 GivenBy w j q (Some (Entered f)) = Unit {0}
 GivenBy w j q (Some (Parsed f)) = Unit {0}

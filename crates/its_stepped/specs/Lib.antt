@@ -5,6 +5,7 @@ pub mod Tick
 pub mod Sound
 pub mod OneChange
 pub mod Quiet
+pub mod Forest
 pub mod Duty
 pub mod Licence
 pub mod SlotSame

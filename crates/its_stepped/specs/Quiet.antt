@@ -1,5 +1,6 @@
 -- When a change of a call in progress is the same on the stepped machine and on the plain one: what it reaches
--- owes nothing, and no close is half made where it looks at the directory (docs/STEPS.md, "Commit").
+-- owes nothing, no close is half made where it looks at the directory, and a page of zeros that it makes is the caller's
+-- reserved one (docs/STEPS.md, "Commit").
 use Rattle.std.specs.Prelude.{◌≡◌, ◌≢◌, ℕ, true, Option, Some, None, List, [], ◌∷◌}
 use Rattle.its_frame.specs.declared.change.Change.{Change}
 use Rattle.its_frame.specs.declared.change.Change.TheVariants as changes
@@ -8,6 +9,7 @@ use Rattle.its_frame.specs.declared.frame.Frame.TheVariants.{Entered, Parsed, As
 use Rattle.its_plain.specs.Change.{superiors, is_gone}
 use Rattle.its_stepped.specs.State.{State}
 use Rattle.its_stepped.specs.Commit.{effect_on}
+use Rattle.its_stepped.specs.Tick.{quarters}
 
 -- a frame that owes no word: the job is as it stands
 abbrev pub IsStill : Option Frame → Type 0
@@ -25,6 +27,11 @@ pub record Reached (w : State) (j s : ℕ) : Type 0 where
   pub still : IsStill (w.frames s)
   pub other : s ≢ j → w.frames s ≡ None
 
+-- a page can be made for a job that the call of slot j reaches: all quarters of the page that slot j has reserved are clear
+pub record MakesPage (w : State) (j s : ℕ) : Type 0 where
+  pub reached : Reached w j s
+  pub page : w.reserved j ≡ Some quarters
+
 abbrev pub Quiet : Change → ℕ → State → Type 0
 Quiet (changes.Open n on) j w = Unit {0}
 Quiet (changes.Shut n) j w = Unit {0}
@@ -36,7 +43,7 @@ Quiet (changes.Put c b) j w = Unit {0}
 Quiet (changes.Hold c s) j w = Unit {0}
 Quiet (changes.Poke s a x) j w = Reached w j s
 Quiet (changes.Set s v x) j w = Reached w j s
-Quiet (changes.Map s k) j w = Reached w j s
+Quiet (changes.Map s k) j w = MakesPage w j s
 Quiet (changes.Unmap s k) j w = Reached w j s
 Quiet (changes.Protect s k on) j w = Reached w j s
 Quiet (changes.Make s u n) j w = w.frames s ≡ None

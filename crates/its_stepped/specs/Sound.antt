@@ -1,6 +1,6 @@
 -- What holds of a state between two calls of the monitor (docs/STEPS.md, "Soundness"). The facts of a slot speak
 -- of that slot alone: of its raw job, its frame and its reserved page.
-use Rattle.std.specs.Prelude.{◌≡◌, ◌≢◌, ◌≤◌, ◌<◌, ℕ, ◌+◌, ◌^◌, true, false, Option, Some, None, IfSome, List, [], ◌∷◌, length, Ok}
+use Rattle.std.specs.Prelude.{◌≡◌, ◌≢◌, ◌≤◌, ◌<◌, ℕ, ◌+◌, ◌^◌, true, false, Option, Some, None, IfSome, List, [], ◌∷◌, is_some, length, Ok}
 use Rattle.its_word.specs.Byte.{has_size}
 use Rattle.its_word.specs.Core.{Core, can_store}
 use Rattle.its_word.specs.declared.calls.Ask.{Ask}
@@ -93,11 +93,14 @@ backs (Link ∷ os) = backs os
 backs (Free ∷ os) = backs os
 backs (Leave e ∷ os) = backs os
 
--- what a frame owes can be paid from the raw core; and the slot has a reserved page exactly where the frame says
+-- what a frame owes can be paid from the raw core; and the slot has a reserved page exactly where the frame says. A call that
+-- is held has a page exactly where it reserves one: it got the page as it was prepared, and has it until it ends or is
+-- unwound. So a page that a call makes is the one that it has reserved. (A call that waits or holds a byte reserves none)
 pub record HoldingPays (c : Core) (r : Option ℕ) (a : Ask) (page : Option ℕ) (n : ℕ) : Type 0 where
   pub debts : Debts c a n
   pub page_is : r ≡ page
   pub paged : IfSome page (Paged a n)
+  pub has : reserves a ≡ is_some page
 
 pub record WaitingPays (c : Core) (r : Option ℕ) (a : Ask) (n : ℕ) : Type 0 where
   pub debts : Debts c a n

@@ -66,17 +66,13 @@ abbrev pub fetched_on : State → ℕ → Site → Result Ask Fault → Ticked
 fetched_on w j s (Ok a) = works (turn w j same (Some (asked s a)))
 fetched_on w j s (Err f) = faults_on w j f
 
--- CORBLK with operation 1 and no error reserves a page, which is cleared a quarter at a tick. It is not
--- built yet, and reserves none
-abbrev pub corblk_is_built : Bool
-corblk_is_built = false
-
+-- CORBLK with operation 1 whose decoding gave no error reserves a page, which is cleared a quarter at a tick
 abbrev pub makes_page : Option CallName → ℕ → Bool
 makes_page (Some Corblk) operation = operation == 1
 makes_page _ operation = false
 
 unfoldable pub reserves : Ask → Bool
-reserves a = corblk_is_built && (a.fail == 0) && makes_page (call_named a.name) (input a 0)
+reserves a = (a.fail == 0) && makes_page (call_named a.name) (input a 0)
 
 abbrev pub prepared_on : State → ℕ → Site → Ask → Bool → State
 prepared_on w j s a true = reserving (turn w j same (Some (holding s a (Some 0) 0))) j (Some 0)

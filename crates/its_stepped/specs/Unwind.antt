@@ -13,7 +13,7 @@ use Rattle.its_plain.specs.Own.{with_stores, leave}
 use Rattle.its_plain.specs.Change.{poke}
 use Rattle.its_plain.specs.Arguments.{debts}
 use Rattle.its_plain.specs.CallStep.{with_held}
-use Rattle.its_stepped.specs.State.{Part, Mark, State, part_made, mine, helped, held_at, turn, same, reserving, holding, waiting, ending}
+use Rattle.its_stepped.specs.State.{Part, Mark, State, part_made, mine, helped, held_at, turn, same, reserving, asked, holding, waiting, ending}
 
 -- a standing call that owes words stores the first of them; one that owes none drops its frame
 abbrev pub first_debt : List stores.Store → List stores.Store
@@ -58,8 +58,9 @@ settled w j s a (Link ∷ os) = with_part w.mark (turn w j same (Some (ending s 
 settled w j s a (Free ∷ os) = with_part w.mark (turn w j same (Some (ending s a os)))
 settled w j s a (Leave e ∷ os) = turn w j (leave e) None
 
+-- a call that has reserved a page gives it back, and stands as before it was prepared
 abbrev pub given_back : State → ℕ → Site → Ask → Option ℕ → ℕ → State
-given_back w j s a (Some p) n = reserving (turn w j same (Some (holding s a None n))) j None
+given_back w j s a (Some p) n = reserving (turn w j same (Some (asked s a))) j None
 given_back w j s a None n = paid w j a n (holding s a None)
 
 abbrev pub unwind_by : State → ℕ → Option Frame → State

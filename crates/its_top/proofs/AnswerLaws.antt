@@ -141,7 +141,7 @@ pub console_fits : (o : Option ℕ) → IfSome o (λ k. k ≤ 7) → IfSome o (�
 console_fits None h = tt
 console_fits (Some k) h = omega (arith, h)
 
-landed : (v v' : State) (m : Machine) → Lands v v' (Ok m) → m ≡ v'.raw
+pub landed : (v v' : State) (m : Machine) → Lands v v' (Ok m) → m ≡ v'.raw
 landed v v' m h = let k : Ok m ≡ Ok v'.raw = h.is in cc
 
 pub typed_answered : (turn : Turn) (n : ℕ) (v v' : State) (b : Block) (c k : ℕ) (bytes : List ℕ) (old new : Option (List ℕ)) → k ≡ dropped (v.raw.consoles c) bytes → Lands v v' (Ok (typed c bytes v.raw))
@@ -219,7 +219,7 @@ quietly_by (Ok x) turn n v c v' b e o old new h d f t =
 quietly_by (Err r) turn n v c v' b e o old new h d f t = refuses_quietly turn n v c v' b b b e (reason_of r) o old new h f t
 
 -- the refusal that the line finds
-refused_calmed : {T X : Type 0} (result : Result T Refusal) (w v : State) (f : Machine → Result X Reason) → IfErr result (λ e. kept.Refused w v f e) → IfErr result (λ e. f v.raw ≡ Err (reason_of e))
+pub refused_calmed : {T X : Type 0} (result : Result T Refusal) (w v : State) (f : Machine → Result X Reason) → IfErr result (λ e. kept.Refused w v f e) → IfErr result (λ e. f v.raw ≡ Err (reason_of e))
 refused_calmed (Ok x) w v f h = tt
 refused_calmed (Err e) w v f h = h.calmed
 

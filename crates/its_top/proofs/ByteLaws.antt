@@ -48,7 +48,7 @@ last_long : (kept : List ℕ) → 255 < length kept → LongFirst kept []
 last_long [] h = absurd (omega arith)
 last_long (b ∷ bs) h = record { line = b ∷ bs; lines = []; first = refl; long = h }
 
-long_first : (kept bytes : List ℕ) → 255 < length kept → LongFirst kept bytes
+pub long_first : (kept bytes : List ℕ) → 255 < length kept → LongFirst kept bytes
 long_first kept [] h = last_long kept h
 long_first kept (b ∷ bs) h = elim (cases_Bool (b == 10)) [
   | inl t ↦ record { line = kept; lines = lines_from true [] bs; first = rw t refl; long = h }
@@ -56,7 +56,7 @@ long_first kept (b ∷ bs) h = elim (cases_Bool (b == 10)) [
       record { line = r.line; lines = r.lines; first = rw t r.first; long = r.long }
 ]
 
-event_long : (place : Place) (line : List ℕ) → 255 < length line → line_event place line ≡ Err Long
+pub event_long : (place : Place) (line : List ℕ) → 255 < length line → line_event place line ≡ Err Long
 unfolding line_event
 event_long place line h = let t : nat_le (length line) 255 ≡ false = grind (arith, nat_tests) in rw t refl
 
@@ -78,7 +78,7 @@ fed_long_fault now next kept left b w more n h ne e rest =
     record { more = more; whole = ap (λ x. x.text) (fed_long now next kept left b n h ne rest) ∙ e }
 
 -- a line past the most begins
-some_line : (kept bytes : List ℕ) (b : ℕ) → (line : List ℕ) × (lines : List (List ℕ)) × (lines_from true kept (b ∷ bytes) ≡ line ∷ lines)
+pub some_line : (kept bytes : List ℕ) (b : ℕ) → (line : List ℕ) × (lines : List (List ℕ)) × (lines_from true kept (b ∷ bytes) ≡ line ∷ lines)
 some_line kept [] b = elim (cases_Bool (b == 10)) [
   | inl t ↦ (kept, [], rw t refl)
   | inr t ↦ rw t (last_some kept b)

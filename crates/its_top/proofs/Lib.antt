@@ -17,3 +17,7 @@ pub mod MoveLaws
 pub mod ShownLaws
 pub mod LedgerLaws
 pub mod FilingLaws
+pub mod CommandLaws
+pub mod CheckingLaws
+pub mod TallyLaws
+pub mod ObeyLaws

@@ -7,6 +7,7 @@ use Rattle.its_session.specs.Events.{events_of}
 use Rattle.its_plain.specs.Transcript.{Fate, Lost, TooLong}
 use Rattle.its_stepped.specs.Lines.{stepped}
 use Rattle.its_stepped.proofs.DecodingLaws.{decoding}
+use Rattle.its_stepped.proofs.StretchLaws.{stretches}
 use Rattle.its_stepped.proofs.WrittenLaws.{written_transcript}
 use Rattle.its_top.specs.declared.status.Status.{Status}
 use Rattle.its_top.specs.declared.status.Status.TheVariants as statuses
@@ -81,6 +82,7 @@ transcribed bytes old new a =
       fate = (stepped (events_of bytes)).fate;
       transcript = t;
       ledger = ledger (events_of bytes) (stepped (events_of bytes)).lines (stepped (events_of bytes)).fate t;
+      stretches = stretches (events_of bytes) (stepped (events_of bytes)).lines;
       wrote = a;
     }
 

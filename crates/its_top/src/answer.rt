@@ -77,7 +77,7 @@ fn state<K: Sink>(m: &mut Monitor, p: Progress, s: u8, out: &mut K) -> Turn
 
 /// The n words of a slot from an address on, or the first refusal.
 #[tactic(auto, using(crate::proofs::ExamLaws::exam_start, crate::proofs::ExamLaws::exam_next, crate::proofs::ExamLaws::exam_fails, crate::proofs::ExamLaws::exam_end, crate::proofs::ExamLaws::calm_start, crate::proofs::ExamLaws::calm_next))]
-fn words_of(m: &mut Monitor, s: u8, a: u32, n: u32) -> Result<ArrayVec<Word, 8>, Refusal>
+pub fn words_of(m: &mut Monitor, s: u8, a: u32, n: u32) -> Result<ArrayVec<Word, 8>, Refusal>
     requires sound { Kept m.old.world }
     requires slot { s < slots }
     requires few { n ≤ 8 }
@@ -125,7 +125,7 @@ fn examine<K: Sink>(m: &mut Monitor, p: Progress, s: u8, a: u32, n: u32, out: &m
 
 /// Loads the words of an a/ line, in order.
 #[tactic(auto, using(crate::proofs::LoadingLaws::loading_start, crate::proofs::LoadingLaws::loading_fails, crate::proofs::LoadingLaws::loading_end))]
-fn load_words(m: &mut Monitor, slot: u8, a: u32, words: &[Word]) -> Result<(), Refusal>
+pub fn load_words(m: &mut Monitor, slot: u8, a: u32, words: &[Word]) -> Result<(), Refusal>
     requires sound { Kept m.old.world }
     requires slot { slot < slots }
     requires some { 1 ≤ length words.now }
@@ -165,7 +165,7 @@ fn ticks<K: Sink>(m: &mut Monitor, p: Progress, s: u8, n: u32, out: &mut K) -> T
 
 /// The letters of n ticks of a slot.
 #[tactic(auto, using(crate::proofs::PaceLaws::pacing_start, crate::proofs::PaceLaws::pacing_next, crate::proofs::PaceLaws::pacing_end))]
-fn paces_of(m: &mut Monitor, s: u8, n: u32) -> ArrayVec<Pace, 512>
+pub fn paces_of(m: &mut Monitor, s: u8, n: u32) -> ArrayVec<Pace, 512>
     requires sound { Kept m.old.world }
     requires slot { s < slots }
     requires few { n ≤ 512 }
@@ -202,7 +202,7 @@ fn type_line<K: Sink>(m: &mut Monitor, p: Progress, c: u8, bytes: &[u8], out: &m
 
 /// Types bytes at a console, and counts those that find no room.
 #[tactic(auto, using(crate::proofs::ConsoleLaws::typing_start, crate::proofs::ConsoleLaws::typing_room, crate::proofs::ConsoleLaws::typing_full, crate::proofs::ConsoleLaws::typing_end))]
-fn type_bytes(m: &mut Monitor, c: u8, bytes: &[u8]) -> u32
+pub fn type_bytes(m: &mut Monitor, c: u8, bytes: &[u8]) -> u32
     requires sound { Kept m.old.world }
     requires console { c < 8 }
     requires some { 1 ≤ length bytes.now }
@@ -240,7 +240,7 @@ fn drain_line<K: Sink>(m: &mut Monitor, p: Progress, c: u8, n: u32, out: &mut K)
 
 /// Takes up to n bytes of output of a console.
 #[tactic(auto, using(crate::proofs::ConsoleLaws::draining_start, crate::proofs::ConsoleLaws::draining_some, crate::proofs::ConsoleLaws::draining_none, crate::proofs::ConsoleLaws::draining_end))]
-fn drain_bytes(m: &mut Monitor, c: u8, n: u32) -> ArrayVec<u8, 64>
+pub fn drain_bytes(m: &mut Monitor, c: u8, n: u32) -> ArrayVec<u8, 64>
     requires sound { Kept m.old.world }
     requires console { c < 8 }
     requires few { n ≤ 64 }

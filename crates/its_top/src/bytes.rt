@@ -18,7 +18,7 @@ use its_monitor::Monitor;
 use its_word::{Place, Reason};
 
 /// The most lines that a session may have.
-const MOST_LINES: u32 = 1 << 20;
+pub const MOST_LINES: u32 = 1 << 20;
 
 /// Takes a byte of a session. LF ends the line that is kept; any other byte is added to it, but a line
 /// of more than 255 bytes is refused as soon as byte 256 comes.

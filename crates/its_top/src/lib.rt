@@ -3,7 +3,11 @@
 
 mod answer;
 mod bytes;
+mod checking;
+mod commands;
+mod counts;
 mod filing;
+mod generating;
 mod lines;
 mod progress;
 mod run;

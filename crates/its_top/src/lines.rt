@@ -3,6 +3,7 @@ ghost use Rattle.its_io.specs.Bytes.{next_fault};
 ghost use Rattle.its_word.specs.Limits.{slots};
 ghost use Rattle.its_session.specs.Events.{most_lines, place_after, reason_of};
 ghost use Rattle.its_operator.specs.Kept.{Kept};
+ghost use Rattle.its_top.specs.Telling.{goes_on_after};
 ghost use Rattle.its_top.specs.Answer.{now_of, Lined};
 
 use super::answer::answer;
@@ -15,7 +16,7 @@ use its_session::read_line;
 use its_word::{Bad, Event, Place, Reason};
 
 /// The place of the line after an event.
-fn place_after(place: Place, event: &Event) -> Place
+pub fn place_after(place: Place, event: &Event) -> Place
     ensures { result ≡ place_after place event.now }
 {
     match event {
@@ -28,7 +29,7 @@ fn place_after(place: Place, event: &Event) -> Place
 }
 
 /// The reason of a line that is not read.
-fn unread(bad: Bad) -> Reason
+pub fn unread(bad: Bad) -> Reason
     ensures { result ≡ reason_of bad }
 {
     match bad {
@@ -36,6 +37,16 @@ fn unread(bad: Bad) -> Reason
         Bad::Syntax => Reason::Syntax,
         Bad::Range => Reason::Range,
         Bad::NoConsole => Reason::NoCons,
+    }
+}
+
+/// Whether the session goes on after an event: it is not END.
+pub fn goes_on_after(event: &Event) -> bool
+    ensures { result ≡ goes_on_after event.now }
+{
+    match event {
+        Event::End => false,
+        _ => true,
     }
 }
 

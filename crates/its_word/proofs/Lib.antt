@@ -5,6 +5,7 @@ pub mod DigitLaws
 pub mod SpacedLaws
 pub mod TextLaws
 pub mod TreeLaws
+pub mod ClimbLaws
 pub mod WordLaws
 pub mod FreeLaws
 pub mod StoreLaws

@@ -10,3 +10,5 @@ pub mod RoomLaws
 pub mod KeptLaws
 pub mod StorageLaws
 pub mod ChannelLaws
+pub mod MadeLaws
+pub mod MappedLaws

@@ -236,9 +236,12 @@ job_by : (s : Store) (c : Core) (u : Option ℕ) (o : Option Job) → is_some (r
 job_by s c u (Some j) = refl
 job_by s c u None = refl
 
-pub has_job : (w : World) (s : ℕ) → HasJob (state_of w) s → is_some (job_at w.jobs s) ≡ true
+pub raw_has : (w : World) (s : ℕ) → is_some ((state_of w).raw.jobs s) ≡ is_some (job_at w.jobs s)
 unfolding state_of
-has_job w s h = sym (job_by w.files (core_at w.core s) (superior_at w.jobs s) (job_at w.jobs s)) ∙ h
+raw_has w s = job_by w.files (core_at w.core s) (superior_at w.jobs s) (job_at w.jobs s)
+
+pub has_job : (w : World) (s : ℕ) → HasJob (state_of w) s → is_some (job_at w.jobs s) ≡ true
+has_job w s h = sym (raw_has w s) ∙ h
 
 chan_by : (s : Store) (c : Core) (u : Option ℕ) (o : Option Job) (n : ℕ) → channel_in (raw_of s c u o) n ≡ chan_of s (channel_by o n)
 chan_by s c u (Some j) n = refl

@@ -1,3 +1,5 @@
 pub mod World
 pub mod Tidy
 pub mod Storage
+pub mod Made
+pub mod Mapped

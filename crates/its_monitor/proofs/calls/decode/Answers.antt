@@ -2,7 +2,7 @@ use Rattle.std.proofs.Common.{Some, ap, ◌∙◌}
 use Rattle.its_frame.specs.declared.frame.Frame.TheVariants.{Entered, Parsed, Asked}
 use Rattle.its_pclsr.proofs.ApartLaws.{tidy_kept}
 use Rattle.its_pclsr.proofs.UnwindingLaws.{job_taken}
-use Rattle.its_monitor.proofs.CallLaws.{entered_fits, parsed_fits, parsed_words, entered_row, parsed_row, asked_row}
+use Rattle.its_monitor.proofs.CallLaws.{entered_fits, parsed_fits, parsed_words, entered_row, parsed_row, asked_row, asked_unreserved}
 use Rattle.its_monitor.proofs.calls.decode.Goals as goal
 
 pub parse-requires-clause-job : goal.parse-requires-clause-job
@@ -22,6 +22,9 @@ fetch-requires-clause-words c = parsed_words _ _ c.in-Some-Parsed.f _ c.take_fra
 
 pub prepare-requires-clause-job : goal.prepare-requires-clause-job
 prepare-requires-clause-job c = job_taken _ _ _ (Asked c.in-Some-Asked.f) _ c.take_frame.ensures.frame (c.in-Some-Asked.is ∙ ap Some c.in-Some-Asked.field-0-is) c.take_frame.ensures.taken c.requires.kept.sound
+
+pub prepare-requires-clause-page : goal.prepare-requires-clause-page
+prepare-requires-clause-page c = asked_unreserved _ _ _ _ c.in-Some-Asked.f c.take_frame.ensures.frame (c.in-Some-Asked.is ∙ ap Some c.in-Some-Asked.field-0-is) c.take_frame.ensures.taken c.requires.kept
 
 pub returns-in-Some-Entered-clause-row : goal.returns-in-Some-Entered-clause-row
 returns-in-Some-Entered-clause-row c = entered_row _ _ _ _ _ _ c.take_frame.ensures.frame c.take_frame.ensures.taken c.requires.kept c.in-Some-Entered.f (c.in-Some-Entered.is ∙ ap Some c.in-Some-Entered.field-0-is) c.parse.ensures.row

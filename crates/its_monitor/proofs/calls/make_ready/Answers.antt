@@ -2,7 +2,7 @@ use Rattle.its_monitor.proofs.TrialLaws.{reach_stands, made_ready}
 use Rattle.its_monitor.proofs.calls.make_ready.Goals as goal
 
 pub help_first-requires-clause-stands : goal.help_first-requires-clause-stands
-help_first-requires-clause-stands c = reach_stands c.args.w.now c.unwind_reach.new.w c.args.slot c.requires.kept c.requires.stands c.unwind_reach.ensures.row
+help_first-requires-clause-stands c = reach_stands c.args.w.now c.unwind_reach.new.w c.args.slot c.requires.kept c.requires.stands c.requires.clear c.unwind_reach.ensures.row
 
 pub returns-clause-row : goal.returns-clause-row
-returns-clause-row c = made_ready c.args.w.now c.unwind_reach.new.w c.args.slot c.requires.kept c.requires.stands c.unwind_reach.ensures.row c.help_first.new.w c.help_first.ensures.row
+returns-clause-row c = made_ready c.args.w.now c.unwind_reach.new.w c.args.slot c.requires.kept c.requires.stands c.requires.clear c.unwind_reach.ensures.row c.help_first.new.w c.help_first.ensures.row

@@ -1,5 +1,8 @@
-use Rattle.its_pclsr.proofs.ApartLaws.{tidy_kept}
+use Rattle.its_pclsr.proofs.ApartLaws.{tidy_backed, tidy_kept}
 use Rattle.its_monitor.proofs.calls.prepare.Goals as goal
 
-pub returns-clause-tidy : goal.returns-clause-tidy
-returns-clause-tidy c = tidy_kept _ _ _ _ _ c.put_frame.ensures c.requires.tidy
+pub returns-then-reserves-clause-tidy : goal.returns-then-reserves-clause-tidy
+returns-then-reserves-clause-tidy c = tidy_backed _ _ _ _ _ _ c.reserve.ensures c.hold.ensures c.requires.tidy
+
+pub returns-else-reserves-clause-tidy : goal.returns-else-reserves-clause-tidy
+returns-else-reserves-clause-tidy c = tidy_kept _ _ _ _ _ c.hold-else-reserves.ensures c.requires.tidy

@@ -1,13 +1,11 @@
-use Rattle.std.proofs.Common.{Some, ◌++◌, ◌∷◌, [], IfSome, is_some, length, map, ◌≡◌, sym, ap, ◌∙◌, subst}
-use Rattle.its_word.specs.declared.calls.Owed.TheVariants.{Leave}
+use Rattle.std.proofs.Common.{Some, IfSome, length, ◌≡◌, sym, ap, ◌∙◌, subst}
 use Rattle.its_frame.specs.declared.decision.Decision.{Decision}
-use Rattle.its_plain.specs.Arguments.{debts, revalued}
-use Rattle.its_stepped.specs.Commit.{effects_on, committed, gone_on, owed_parts, owed_store}
+use Rattle.its_plain.specs.Arguments.{revalued}
+use Rattle.its_stepped.specs.Commit.{effects_on, committed, gone_on}
 use Rattle.its_stepped.specs.State.{ending}
 use Rattle.its_world.specs.World.{state_of, frame_at, FrameBecomes}
-use Rattle.its_pclsr.specs.Built.{backed}
 use Rattle.its_pclsr.specs.Carried.{standing_of, Endable}
-use Rattle.its_pclsr.proofs.CommittingLaws.{ready_for, ends_built, ends_room, whole_part, stands_kept, room_kept, wait_committed, goes_committed, ends_committed, gone_committed}
+use Rattle.its_pclsr.proofs.CommittingLaws.{ready_for, ends_built, ends_room, whole_part, stands_kept, room_kept, wait_committed, goes_committed, ends_committed, gone_committed, owed_at}
 use Rattle.its_pclsr.proofs.committing.carry_out.Goals as goal
 
 pub go_on-requires-clause-stands : goal.go_on-requires-clause-stands
@@ -43,8 +41,7 @@ returns-in-Ends-clause-row c =
     subst (λ (d : Decision). IfSome (standing_of (frame_at c.args.w.now.frames.items c.args.slot)) (λ f. state_of c.end.new.w ≡ committed (state_of c.args.w.now) c.args.slot f.site f.ask f.owes d)) (sym c.in-Ends.is)
     (ends_committed c.args.w.now c.apply-in-Ends.new.w c.end.new.w c.args.slot c.in-Ends.changes.items c.in-Ends.stores.items c.in-Ends.exit (c.apply-in-Ends.ensures.row ∙ ap (λ cs. effects_on cs c.args.slot (state_of c.args.w.now)) c.deref-in-Ends.ensures.0)
     (ends_built _ _ _ _ _ c.requires.stands (ready_for _ _ _ _ _ c.in-Ends.is c.requires.ready)) c.requires.job
-    (ends_room _ _ _ _ _ (ready_for _ _ _ _ _ c.in-Ends.is c.requires.ready))
-    (subst (λ ss. IfSome (standing_of (frame_at c.apply-in-Ends.new.w.frames.items c.args.slot)) (λ f. FrameBecomes c.apply-in-Ends.new.w c.end.new.w c.args.slot (Some (ending f.site f.ask (owed_parts (state_of c.apply-in-Ends.new.w).mark c.args.slot ++ (backed (is_some f.page) ++ (map owed_store (debts f.ask f.owes ++ ss) ++ Leave c.in-Ends.exit ∷ []))))))) c.deref-in-Ends-2.ensures.0 c.end.ensures.row))
+    (subst (λ ss. IfSome (standing_of (frame_at c.apply-in-Ends.new.w.frames.items c.args.slot)) (λ f. FrameBecomes c.apply-in-Ends.new.w c.end.new.w c.args.slot (Some (ending f.site f.ask (owed_at (state_of c.apply-in-Ends.new.w) c.args.slot ss c.in-Ends.exit f))))) c.deref-in-Ends-2.ensures.0 c.end.ensures.row))
 
 pub returns-in-Gone-clause-row : goal.returns-in-Gone-clause-row
 returns-in-Gone-clause-row c =

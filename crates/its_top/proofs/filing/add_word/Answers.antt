@@ -1,5 +1,4 @@
-use Rattle.std.proofs.Common.{◌≡◌, Ok, Err, OnOk, IfErr, length, subst, sym, ap, arith}
-use Rattle.its_plain.specs.CallFile.{file_named}
+use Rattle.std.proofs.Common.{◌≡◌, Err, OnOk, IfErr, subst, arith}
 use Rattle.its_plain.specs.FileOperator.{word_added}
 use Rattle.its_stepped.specs.Unwind.{help}
 use Rattle.its_world.specs.World.{state_of}

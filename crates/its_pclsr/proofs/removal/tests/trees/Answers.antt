@@ -1,5 +1,5 @@
 use Rattle.its_pclsr.proofs.IdleLaws.{idle_tidy}
 use Rattle.its_pclsr.proofs.removal.tests.trees.Goals as goal
 
-pub remove_tree-requires-clause-tidy : goal.remove_tree-requires-clause-tidy
-remove_tree-requires-clause-tidy g c = idle_tidy _ c.in_ok-w.ensures.cores c.in_ok-w.ensures.files c.in_ok-w-2.ensures
+pub removed-requires-clause-tidy : goal.removed-requires-clause-tidy
+removed-requires-clause-tidy g c = idle_tidy _ c.in_ok-w.ensures.cores c.in_ok-w.ensures.files c.in_ok-w-2.ensures

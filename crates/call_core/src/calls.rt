@@ -1,0 +1,86 @@
+ghost use Rattle.std.specs.Prelude.{◌≡◌, ◌<◌, true, not, is_some, IfSome, None, Some};
+ghost use Rattle.its_word.specs.Limits.{slots};
+ghost use Rattle.its_jobs.specs.Table.{job_at};
+ghost use Rattle.its_plain.specs.Arguments.{input};
+ghost use Rattle.its_plain.specs.CallStep.{decision};
+ghost use Rattle.its_plain.specs.Decide.{call_named as call_named_by, decided};
+ghost use Rattle.its_stepped.specs.Forest.{Forest};
+ghost use Rattle.its_stepped.specs.Tick.{helps, makes_page, reserves};
+ghost use Rattle.its_world.specs.Tidy.{Tidy};
+ghost use Rattle.its_world.specs.World.{raw_at, state_of};
+ghost use Rattle.call_basic.specs.Seen.{is_waiting, raw_with, seen_by};
+
+use super::pages::corblk;
+use call_basic::{call_named, fails, input};
+use call_usr::decided as decided_usr;
+use its_frame::{CallName, Decision};
+use its_word::{Ask, Job};
+use its_world::World;
+
+/// What the call of a slot's job comes to.
+pub fn decide(w: &World, slot: u8, ask: &Ask) -> Decision
+    requires slot { slot < slots }
+    requires job { is_some (job_at w.now.jobs slot) ≡ true }
+    requires tidy { Tidy w.now }
+    requires forest { Forest (state_of w.now).raw }
+    requires unmarked { IfSome (raw_at w.now.files w.now.core w.now.jobs slot) (λ q. helps q ask.now ≡ true → w.now.files.mark ≡ None) }
+    ensures { IfSome (raw_at w.now.files w.now.core w.now.jobs slot) (λ q. result ≡ decision (state_of w.now).raw slot q ask.now) }
+{
+    match w.jobs.job(slot) {
+        Some(job) => decided(w, slot, job, ask),
+        None => unreachable!(),
+    }
+}
+
+/// Whether the call of a slot's job can go on.
+pub fn ready(w: &World, slot: u8, ask: &Ask) -> bool
+    requires slot { slot < slots }
+    requires job { is_some (job_at w.now.jobs slot) ≡ true }
+    requires tidy { Tidy w.now }
+    requires forest { Forest (state_of w.now).raw }
+    requires unmarked { IfSome (raw_at w.now.files w.now.core w.now.jobs slot) (λ q. helps q ask.now ≡ true → w.now.files.mark ≡ None) }
+    ensures { IfSome (raw_at w.now.files w.now.core w.now.jobs slot) (λ q. result ≡ not (is_waiting (decision (state_of w.now).raw slot q ask.now))) }
+{
+    match decide(w, slot, ask) {
+        Decision::Waits(_) => false,
+        _ => true,
+    }
+}
+
+/// What the call of a job with these registers comes to; any call that there is not fails with error 1. An error of its
+/// decoding comes first.
+#[tactic(auto, unfolding(its_plain::specs::Decide::decided, its_plain::specs::Decide::decided_usr, its_plain::specs::View::view, its_world::specs::World::state_of))]
+fn decided(w: &World, slot: u8, job: &Job, ask: &Ask) -> Decision
+    requires slot { slot < slots }
+    requires job { job_at w.now.jobs slot ≡ Some job.now }
+    requires tidy { Tidy w.now }
+    requires forest { Forest (state_of w.now).raw }
+    requires unmarked { helps (raw_with w.now slot job.now) ask.now ≡ true → w.now.files.mark ≡ None }
+    ensures { result ≡ decided (seen_by w.now slot job.now ask.now) ask.now }
+{
+    if ask.fail != 0 {
+        return fails(job, ask, ask.fail);
+    }
+    match call_named(ask.name) {
+        Some(CallName::Corblk) => corblk(w, slot, job, ask),
+        _ => decided_usr(w, slot, job, ask),
+    }
+}
+
+/// Whether a call reserves a page before it is tried: CORBLK with operation 1 whose decoding gave no error.
+#[tactic(auto, unfolding(its_stepped::specs::Tick::reserves))]
+pub fn reserves(ask: &Ask) -> bool
+    ensures { result ≡ reserves ask.now }
+{
+    ask.fail == 0 && makes_page(ask)
+}
+
+/// Whether a call is CORBLK with operation 1.
+fn makes_page(ask: &Ask) -> bool
+    ensures { result ≡ makes_page (call_named_by ask.now.name) (input ask.now 0) }
+{
+    match call_named(ask.name) {
+        Some(CallName::Corblk) => input(ask, 0).value() == 1,
+        _ => false,
+    }
+}

@@ -1,0 +1,121 @@
+//! CORBLK.
+ghost use Rattle.std.specs.Prelude.{◌≡◌, ◌<◌, not, nat_lt, Some};
+ghost use Rattle.its_word.specs.Limits.{most_pages, slots};
+ghost use Rattle.its_core.specs.Cores.{core_at};
+ghost use Rattle.its_frame.specs.declared.name.CallName.TheVariants.{Corblk};
+ghost use Rattle.its_jobs.specs.Table.{job_at};
+ghost use Rattle.its_plain.specs.Arguments.{input};
+ghost use Rattle.its_plain.specs.CallCore.{corblk, has_page, is_amiss, page_changed, pages_of};
+ghost use Rattle.its_plain.specs.Decide.{call_named};
+ghost use Rattle.its_plain.specs.Machine.{mapped};
+ghost use Rattle.its_stepped.specs.Forest.{Forest};
+ghost use Rattle.its_world.specs.Tidy.{Tidy};
+ghost use Rattle.its_world.specs.World.{state_of};
+ghost use Rattle.call_basic.specs.Seen.{seen_by};
+
+use arrayvec::ArrayVec;
+use call_basic::{channel, fails, finishes_with, input, is_oneself};
+use its_frame::{Change, Decision};
+use its_word::{Ask, Channel, Job};
+use its_world::World;
+
+/// The highest operation and the highest page.
+const OPERATIONS: u64 = 3;
+
+const PAGES: u64 = 0o377;
+
+/// How many pages all jobs have at most.
+const MAPPED: u32 = 1024;
+
+/// CORBLK operation, job, page: drops a page (0), makes one of zeros (1), or makes it read only (2) or writable (3). Errors
+/// 22, 4, 5; 22 by the page, 16 where it is there, for operation 1, or not there, for any other; 15 where all jobs together
+/// have 1024 pages.
+#[tactic(auto, using(call_basic::proofs::ChannelLaws::under, crate::proofs::OtherLaws::other_few), unfolding(its_plain::specs::CallCore::corblk, its_plain::specs::View::view, its_world::specs::World::state_of))]
+pub(crate) fn corblk(w: &World, slot: u8, job: &Job, ask: &Ask) -> Decision
+    requires slot { slot < slots }
+    requires fail { ask.now.fail ≡ 0 }
+    requires name { call_named ask.now.name ≡ Some Corblk }
+    requires job { job_at w.now.jobs slot ≡ Some job.now }
+    requires tidy { Tidy w.now }
+    requires forest { Forest (state_of w.now).raw }
+    ensures { result ≡ corblk (seen_by w.now slot job.now ask.now) ask.now }
+{
+    let party = input(ask, 1);
+    if input(ask, 0).value() > OPERATIONS {
+        return fails(job, ask, 0o22);
+    }
+    if is_oneself(party) {
+        return pages_of(w, slot, job, ask, slot);
+    }
+    match channel(job, party) {
+        Channel::Closed => fails(job, ask, 0o4),
+        Channel::Usr {
+            slot: inferior,
+            write: true,
+            ..
+        } => pages_of(w, slot, job, ask, inferior),
+        _ => fails(job, ask, 0o5),
+    }
+}
+
+/// The operation on a page of the job of a slot.
+#[tactic(auto, unfolding(its_plain::specs::View::view, its_world::specs::World::state_of))]
+fn pages_of(w: &World, slot: u8, job: &Job, ask: &Ask, target: u8) -> Decision
+    requires target { target < slots }
+    requires tidy { Tidy w.now }
+    ensures { result ≡ pages_of (seen_by w.now slot job.now ask.now) ask.now (input ask.now 0) target (core_at w.now.core target) (input ask.now 2) }
+{
+    let operation = input(ask, 0).value();
+    let page = input(ask, 2).value();
+    if page > PAGES {
+        return fails(job, ask, 0o22);
+    }
+    let page = page as u8;
+    if is_amiss(operation == 1, has_page(w, target, page)) {
+        return fails(job, ask, 0o16);
+    }
+    if operation == 1 && is_full(w) {
+        return fails(job, ask, 0o15);
+    }
+    let change = page_changed(operation, target, page);
+    finishes_with(job, change, ArrayVec::new())
+}
+
+/// Whether a page of a job is there.
+fn has_page(w: &World, slot: u8, page: u8) -> bool
+    requires { slot < slots }
+    ensures { result ≡ has_page (core_at w.now.core slot) page }
+{
+    w.core.page(slot, page).is_some()
+}
+
+/// Whether a page that is to be made is there, or any other is not.
+fn is_amiss(makes: bool, there: bool) -> bool
+    ensures { result ≡ is_amiss makes there }
+{
+    makes == there
+}
+
+/// Whether all jobs together have as many pages as there can be.
+#[tactic(auto, using(its_world::proofs::MappedLaws::mapped_raw))]
+fn is_full(w: &World) -> bool
+    requires { Tidy w.now }
+    ensures { result ≡ not (nat_lt (mapped (state_of w.now).raw) most_pages) }
+{
+    w.core.mapped() >= MAPPED
+}
+
+/// What an operation does to a page.
+fn page_changed(operation: u64, slot: u8, page: u8) -> Change
+    ensures { result ≡ page_changed operation slot page }
+{
+    match operation {
+        0 => Change::Unmap { slot, page },
+        1 => Change::Map { slot, page },
+        _ => Change::Protect {
+            slot,
+            page,
+            writable: operation == 3,
+        },
+    }
+}

@@ -1,0 +1,53 @@
+-- OPEN of an inferior: where none of its tests stops it, and the least free slot.
+use Rattle.std.specs.Prelude.{◌≡◌, ◌≤◌, ◌==◌, ◌&&◌, ℕ, true, Option, Some, None, is_some, option_map, nat_lt, unwrap_or, refl}
+use Rattle.std.proofs.Common.{sym, ◌∙◌, ap, subst}
+use Rattle.std.proofs.lemmas.Bool.{le-ltb}
+use Rattle.its_word.specs.Core.{Core}
+use Rattle.its_word.specs.Tree.{least_free}
+use Rattle.its_word.specs.declared.calls.Ask.{Ask}
+use Rattle.its_word.specs.declared.jobs.Job.{Job}
+use Rattle.its_word.proofs.FreeLaws.{least_alike}
+use Rattle.its_core.specs.Cores.{core_at}
+use Rattle.its_files.specs.Files.{Store}
+use Rattle.its_jobs.specs.Table.{job_at, superior_at}
+use Rattle.its_plain.specs.Arguments.{input}
+use Rattle.its_plain.specs.CallBasic.{channel_at}
+use Rattle.its_plain.specs.CallTty.{is_shut}
+use Rattle.its_plain.specs.CallUsr.{inferior_named, opens_job, opens_usr, usr_tests}
+use Rattle.its_plain.specs.View.{View, outline, view}
+use Rattle.its_world.specs.World.{raw_of, state_of}
+use Rattle.its_world.specs.declared.world.World.{World}
+use Rattle.call_basic.specs.Seen.{seen_by}
+use Rattle.call_tty.specs.Channels.{is_free}
+use Rattle.call_tty.specs.Waiting.{first_of}
+use Rattle.call_tty.proofs.ChannelLaws.{free}
+use Rattle.call_file.proofs.StopLaws.{unstopped}
+
+-- the channel is free, and the control argument is 0 or 1
+seen_free : (w : World) (s : ℕ) (j : Job) (a : Ask) (n : ℕ) → is_free j n ≡ (nat_lt n 16 && is_shut (channel_at (seen_by w s j a).own.channels n))
+unfolding view
+seen_free w s j a n = free w.files j n
+
+no_test : (v : View) (a : Ask) (n control : ℕ) → (nat_lt n 16 && is_shut (channel_at v.own.channels n)) ≡ true → control ≤ 1 → first_of (usr_tests v a n control) ≡ None
+no_test v a n control f l = let low = le-ltb 1 control l in rw (f, low) refl
+
+pub opens_goes : (w : World) (s : ℕ) (j : Job) (a : Ask) (n control : ℕ) → n ≡ input a 0 → control ≡ unwrap_or a.control 0 → is_free j (input a 0) ≡ true → control ≤ 1
+    → opens_job (seen_by w s j a) a n (input a 2) (input a 3) (control == 1) (inferior_named (seen_by w s j a) (input a 2) (input a 3)) ≡ opens_usr (seen_by w s j a) a
+unfolding opens_usr
+opens_goes w s j a n control en ec f l =
+    let v = seen_by w s j a in
+    let named = inferior_named v (input a 2) (input a 3) in
+    ap (λ i. opens_job v a i (input a 2) (input a 3) (control == 1) named) en
+    ∙ ap (λ (c : ℕ). opens_job v a (input a 0) (input a 2) (input a 3) (c == 1) named) ec
+    ∙ unstopped (usr_tests v a (input a 0) (unwrap_or a.control 0)) (opens_job v a (input a 0) (input a 2) (input a 3) (unwrap_or a.control 0 == 1) named)
+    (no_test v a (input a 0) (unwrap_or a.control 0) (sym (seen_free w s j a (input a 0)) ∙ f) (subst (λ (c : ℕ). c ≤ 1) ec l))
+
+-- a slot has a job where the call sees one
+outline_some : (s : Store) (c : Core) (u : Option ℕ) (o : Option Job) → is_some (option_map outline (raw_of s c u o)) ≡ is_some o
+outline_some s c u (Some j) = refl
+outline_some s c u None = refl
+
+pub outlines_free : (w : World) (s : ℕ) (j : Job) (a : Ask) → least_free (seen_by w s j a).outlines ≡ least_free (job_at w.jobs)
+unfolding view state_of
+outlines_free w s j a =
+    least_alike (seen_by w s j a).outlines (job_at w.jobs) (λ k. outline_some w.files (core_at w.core k) (superior_at w.jobs k) (job_at w.jobs k))

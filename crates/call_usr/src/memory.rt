@@ -1,0 +1,115 @@
+//! USRMEM and UCLOSE.
+ghost use Rattle.std.specs.Prelude.{◌≡◌, ◌<◌, Some};
+ghost use Rattle.its_word.specs.Limits.{slots};
+ghost use Rattle.its_jobs.specs.Table.{job_at};
+ghost use Rattle.its_frame.specs.declared.decision.Decision.TheVariants.{Ends};
+ghost use Rattle.its_frame.specs.declared.name.CallName.TheVariants.{Usrmem};
+ghost use Rattle.its_plain.specs.Arguments.{has_input, input};
+ghost use Rattle.its_plain.specs.CallUsr.{set_word, uclose, usrmem, usrmem_on};
+ghost use Rattle.its_plain.specs.Decide.{call_named};
+ghost use Rattle.its_plain.specs.Machine.{On};
+ghost use Rattle.its_plain.specs.Own.{advanced, exit_of};
+ghost use Rattle.its_plain.specs.Tests.{out};
+ghost use Rattle.its_stepped.specs.Forest.{Forest};
+ghost use Rattle.its_world.specs.World.{state_of};
+ghost use Rattle.call_basic.specs.Seen.{seen_by};
+ghost use Rattle.call_usr.specs.Targets.{Targets};
+
+use arrayvec::ArrayVec;
+use call_basic::{channel, fails, finishes, finishes_with, has_input, input, output};
+use its_frame::{Change, Decision};
+use its_word::{Ask, Channel, Job, Word};
+use its_world::World;
+
+/// The highest address.
+const HIGHEST: u64 = 0o777777;
+
+/// USRMEM channel, address, optional new word: the output gets the word of the inferior, and then the new one is stored.
+/// Errors 4, 5, 22; 5 where the channel has no leave to write, 16 where the word is absent or cannot be stored.
+#[tactic(auto, using(call_basic::proofs::ChannelLaws::under), unfolding(its_plain::specs::CallUsr::usrmem, its_plain::specs::View::view, its_world::specs::World::state_of))]
+pub(crate) fn usrmem(w: &World, slot: u8, job: &Job, ask: &Ask) -> Decision
+    requires slot { slot < slots }
+    requires fail { ask.now.fail ≡ 0 }
+    requires name { call_named ask.now.name ≡ Some Usrmem }
+    requires job { job_at w.now.jobs slot ≡ Some job.now }
+    requires forest { Forest (state_of w.now).raw }
+    ensures { result ≡ usrmem (seen_by w.now slot job.now ask.now) ask.now }
+{
+    match channel(job, input(ask, 0)) {
+        Channel::Closed => fails(job, ask, 0o4),
+        Channel::Usr {
+            slot: inferior,
+            write,
+            at,
+        } => usrmem_on(w, slot, job, ask, inferior, write, at),
+        Channel::TtyIn => fails(job, ask, 0o5),
+        Channel::TtyOut => fails(job, ask, 0o5),
+        Channel::Reading { .. } => fails(job, ask, 0o5),
+        Channel::Writing { .. } => fails(job, ask, 0o5),
+    }
+}
+
+/// The same on an inferior.
+#[tactic(auto, using(crate::proofs::OtherLaws::other_here), unfolding(its_plain::specs::View::view, its_world::specs::World::state_of))]
+fn usrmem_on(
+    w: &World,
+    slot: u8,
+    job: &Job,
+    ask: &Ask,
+    inferior: u8,
+    write: bool,
+    at: u32,
+) -> Decision
+    requires { Targets w.now slot job.now ask.now inferior }
+    ensures { result ≡ usrmem_on (seen_by w.now slot job.now ask.now) ask.now (On inferior write at) }
+{
+    let address = input(ask, 1).value();
+    let new = has_input(ask, 2);
+    if address > HIGHEST {
+        return fails(job, ask, 0o22);
+    }
+    if new && !write {
+        return fails(job, ask, 0o5);
+    }
+    let address = address as u32;
+    let Some(word) = w.core.word(inferior, address) else {
+        return fails(job, ask, 0o16);
+    };
+    if new && !w.core.is_storable(inferior, address) {
+        return fails(job, ask, 0o16);
+    }
+    set_word(job, ask, inferior, address, word)
+}
+
+/// The call finishes: the output gets a word of an inferior, and the new one is stored, where there is one.
+fn set_word(job: &Job, ask: &Ask, inferior: u8, at: u32, word: Word) -> Decision
+    ensures { result ≡ Ends (record { items = set_word inferior at (input ask.now 2) (has_input ask.now 2) }) (record { items = out ask.now.outputs.items word }) (exit_of (advanced 2 job.now)) }
+{
+    let stores = output(ask, word);
+    if !has_input(ask, 2) {
+        return finishes(job, stores);
+    }
+    let change = Change::Poke {
+        slot: inferior,
+        at,
+        word: input(ask, 2),
+    };
+    finishes_with(job, change, stores)
+}
+
+/// UCLOSE channel: the inferior and all jobs below it are removed. Errors 4, 5.
+#[tactic(auto, using(call_basic::proofs::ChannelLaws::under), unfolding(its_plain::specs::CallUsr::uclose, its_plain::specs::View::view, its_world::specs::World::state_of))]
+pub(crate) fn uclose(w: &World, slot: u8, job: &Job, ask: &Ask) -> Decision
+    ensures { result ≡ uclose (seen_by w.now slot job.now ask.now) ask.now }
+{
+    match channel(job, input(ask, 0)) {
+        Channel::Closed => fails(job, ask, 0o4),
+        Channel::Usr { slot: inferior, .. } => {
+            finishes_with(job, Change::Remove { slot: inferior }, ArrayVec::new())
+        }
+        Channel::TtyIn => fails(job, ask, 0o5),
+        Channel::TtyOut => fails(job, ask, 0o5),
+        Channel::Reading { .. } => fails(job, ask, 0o5),
+        Channel::Writing { .. } => fails(job, ask, 0o5),
+    }
+}

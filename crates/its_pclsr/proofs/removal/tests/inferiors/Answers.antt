@@ -1,0 +1,5 @@
+use Rattle.its_pclsr.proofs.IdleLaws.{idle_tidy}
+use Rattle.its_pclsr.proofs.removal.tests.inferiors.Goals as goal
+
+pub made-requires : goal.made-requires
+made-requires g c = record { tidy = idle_tidy _ c.in_ok-w.ensures.cores c.in_ok-w.ensures.files c.in_ok-w-2.ensures }

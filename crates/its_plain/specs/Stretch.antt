@@ -1,0 +1,128 @@
+-- Each byte once and in order, over a stretch of a session's run (docs/CALLS.md, "Each byte once").
+use Rattle.std.specs.Prelude.{◌≡◌, ◌==◌, ◌&&◌, ℕ, zero, suc, ◌+◌, ◌-◌, Bool, true, false, not, Option, Some, None, List, [], ◌∷◌, ◌++◌, Result, Ok, Err}
+use Rattle.its_word.specs.Core.{word_at}
+use Rattle.its_word.specs.Item.{Item}
+use Rattle.its_word.specs.declared.access.Fault.{Fault}
+use Rattle.its_word.specs.declared.calls.Ask.{Ask}
+use Rattle.its_word.specs.declared.calls.Site.{Site}
+use Rattle.its_print.specs.Printing.{Line}
+use Rattle.its_frame.specs.declared.change.Change.{Change}
+use Rattle.its_frame.specs.declared.decision.Decision.{Decision}
+use Rattle.its_frame.specs.declared.decision.Decision.TheVariants.{Waits, Goes, Ends, Gone}
+use Rattle.its_frame.specs.declared.decision.Held.{Held}
+use Rattle.its_frame.specs.declared.name.CallName.TheVariants.{Siot}
+use Rattle.its_plain.specs.Arguments.{input, place_of_input}
+use Rattle.its_plain.specs.Ask.{ask}
+use Rattle.its_plain.specs.CallStep.{decision}
+use Rattle.its_plain.specs.CallTty.{next_pointer}
+use Rattle.its_plain.specs.Course.{Deed, Lines, Steps, Moment, run_of}
+use Rattle.its_plain.specs.Decide.{call_named}
+use Rattle.its_plain.specs.Footprint.{Stands}
+use Rattle.its_plain.specs.Interrupt.{deliverable}
+use Rattle.its_plain.specs.Machine.{Whole, Machine}
+use Rattle.its_plain.specs.OneByte.{rest_of_transfer, OneByte}
+use Rattle.its_plain.specs.Unit.{Outcome, Changed, Faulted, Called, unit}
+
+-- the step of a running job is a part of its call, after which PC stays, and not the call's end
+abbrev pub is_part : Decision → Bool
+is_part (Goes cs h vs) = true
+is_part (Waits r) = false
+is_part (Ends cs ss e) = false
+is_part (Gone cs) = false
+
+abbrev pub part_asking : Machine → ℕ → Whole → Result Ask Fault → Bool
+part_asking m j q (Ok a) = is_part (decision m j q a)
+part_asking m j q (Err f) = false
+
+abbrev pub part_doing : Machine → ℕ → Whole → Outcome → Bool
+part_doing m j q (Called s) = part_asking m j q (ask q.core s)
+part_doing m j q (Changed c k) = false
+part_doing m j q (Faulted f) = false
+
+abbrev pub part_at : Machine → ℕ → Option Whole → Bool
+part_at m j (Some q) = not q.job.stopped && not (deliverable q.job) && part_doing m j q (unit q.core q.job)
+part_at m j None = false
+
+unfoldable pub steps_on : Machine → ℕ → Bool
+steps_on m j = part_at m j (m.jobs j)
+
+-- a moment of a run leaves a job with the core and the PC that it had
+abbrev pub Untouched : Option Whole → Option Whole → Type 0
+Untouched (Some p) (Some q) = (q.core ≡ p.core) × (q.job.pc ≡ p.job.pc)
+Untouched (Some p) None = ⊥
+Untouched None o = ⊥
+
+-- the machine that some moments find, after which the machine is n
+abbrev pub machine_at : List Moment → Machine → Machine
+machine_at (t ∷ ts) n = t.machine
+machine_at [] n = n
+
+-- a moment is a step of the job of slot j
+abbrev pub is_own : ℕ → Deed → Bool
+is_own j (Steps i) = i == j
+is_own j (Lines e) = false
+
+-- a stretch of a run: each moment is a step of the job of slot j that is a part of its call, or leaves its core and its PC
+-- as they are. Lines and steps of others may do what they like to all else
+abbrev pub Fits : Bool → ℕ → Machine → Machine → Type 0
+Fits true j m n = steps_on m j ≡ true
+Fits false j m n = Untouched (m.jobs j) (n.jobs j)
+
+abbrev pub Stretch : ℕ → List Moment → Machine → Type 0
+Stretch j [] n = Unit {0}
+Stretch j (t ∷ ts) n = Fits (is_own j t.deed) j t.machine (machine_at ts n) × Stretch j ts n
+
+-- how many steps the job makes in it
+abbrev pub counted : Bool → ℕ → ℕ
+counted true k = suc k
+counted false k = k
+
+abbrev pub parts_in : ℕ → List Moment → ℕ
+parts_in j [] = 0
+parts_in j (t ∷ ts) = counted (is_own j t.deed) (parts_in j ts)
+
+-- a pointer incremented k times, and the arguments of a transfer after k bytes
+abbrev pub incremented : ℕ → ℕ → ℕ
+incremented zero p = p
+incremented (suc k) p = incremented k (next_pointer p)
+
+abbrev pub rest_after : ℕ → Ask → Ask
+rest_after zero a = a
+rest_after (suc k) a = rest_after k (rest_of_transfer a)
+
+-- one byte of the transfer of slot j's job
+pub record ByteOf (m : Machine) (j : ℕ) (s : Site) (a : Ask) (n : Machine) : Type 0 where
+  pub job : Whole
+  pub there : m.jobs j ≡ Some job
+  pub changes : List Change
+  pub held : Option Held
+  pub byte : OneByte m j job s a changes held n
+
+-- each of its steps moves one byte, at the pointer incremented once more than for the one before
+abbrev pub InOrder_by : Bool → Machine → ℕ → Site → Ask → Machine → (Ask → Type 0) → Type 0
+InOrder_by true m j s a n next = ByteOf m j s a n × next (rest_of_transfer a)
+InOrder_by false m j s a n next = next a
+
+abbrev pub InOrder : ℕ → Site → List Moment → Machine → Ask → Type 0
+InOrder j s [] n a = Unit {0}
+InOrder j s (t ∷ ts) n a = InOrder_by (is_own j t.deed) t.machine j s a (machine_at ts n) (InOrder j s ts n)
+
+-- the job stands at the call with these arguments, which are its words in core
+pub record StandsAt (m : Machine) (j : ℕ) (s : Site) (a : Ask) : Type 0 where
+  pub job : Whole
+  pub there : m.jobs j ≡ Some job
+  pub stands : Stands job.core job.job s a
+  pub words : (k p : ℕ) → place_of_input a k ≡ Some p → word_at job.core p ≡ Some (input a k)
+
+-- k bytes were moved in order; then the pointer is incremented k times, and the count is k less
+pub record Transferred (j : ℕ) (s : Site) (a : Ask) (ts : List Moment) (n : Machine) : Type 0 where
+  pub each : InOrder j s ts n a
+  pub rest : StandsAt n j s (rest_after (parts_in j ts) a)
+  pub pointer : input (rest_after (parts_in j ts) a) 1 ≡ incremented (parts_in j ts) (input a 1)
+  pub count : input (rest_after (parts_in j ts) a) 2 + parts_in j ts ≡ input a 2
+
+-- in each stretch of the run of these events, which show these lines, that begins with a standing SIOT
+pub record Stretches (es : List Item) (lines : List Line) : Type 0 where
+  pub each : (j : ℕ) (before ts after : List Moment) (q : Whole) (s : Site) (a : Ask) → (run_of es lines).moments ≡ before ++ ts ++ after
+      → (machine_at ts (machine_at after (run_of es lines).last)).jobs j ≡ Some q → Stands q.core q.job s a → call_named a.name ≡ Some Siot
+      → Stretch j ts (machine_at after (run_of es lines).last) → Transferred j s a ts (machine_at after (run_of es lines).last)

@@ -1,0 +1,279 @@
+-- Each byte once and in order, over a stretch of a session's run (docs/CALLS.md, "Each byte once").
+use Rattle.std.specs.Prelude.{◌≡◌, ◌≢◌, ◌&&◌, ℕ, suc, ◌+◌, Bool, true, false, not, Option, Some, None, is_some, unwrap_or, List, [], ◌∷◌, ◌++◌, drop, length, Result, Ok, Err, refl}
+use Rattle.std.proofs.Common.{sym, ◌∙◌, ap, subst, arith, inl, inr}
+use Rattle.std.proofs.lemmas.Bool.{and_parts, cases_eq, eqb-true, not-true}
+use Rattle.its_word.specs.Item.{Item, Read, Unread, Beyond}
+use Rattle.its_word.specs.declared.calls.Ask.{Ask}
+use Rattle.its_word.specs.declared.calls.Pace.{Pace}
+use Rattle.its_word.specs.declared.calls.Pace.TheVariants.{Step, Work, Wait, Off}
+use Rattle.its_word.specs.declared.calls.Site.{Site}
+use Rattle.its_word.specs.declared.jobs.Job.{Job}
+use Rattle.its_word.specs.declared.session.Event.{Event}
+use Rattle.its_word.specs.declared.session.Event.TheVariants as events
+use Rattle.its_word.specs.declared.session.Reason.{Reason}
+use Rattle.its_word.specs.declared.show.JobShow.{JobShow}
+use Rattle.its_print.specs.Printing.{Line}
+use Rattle.its_frame.specs.declared.decision.Decision.{Decision}
+use Rattle.its_frame.specs.declared.decision.Decision.TheVariants.{Waits, Goes, Ends, Gone}
+use Rattle.its_frame.specs.declared.name.CallName.TheVariants.{Siot}
+use Rattle.its_plain.specs.Arguments.{input}
+use Rattle.its_plain.specs.CallOperator.{operate, Lined, Done, Peeks, lined}
+use Rattle.its_plain.specs.CallStep.{acted, decision, step}
+use Rattle.its_plain.specs.Course.{Deed, Lines, Steps, Moment, Course, rests, onward, after_step, paced, letters, past, course, run_of}
+use Rattle.its_plain.specs.Decide.{call_named}
+use Rattle.its_plain.specs.Footprint.{Stands}
+use Rattle.its_plain.specs.Interrupt.{deliverable}
+use Rattle.its_plain.specs.Machine.{Whole, Machine, changed}
+use Rattle.its_plain.specs.OneByte.{rest_of_transfer, ByteBy}
+use Rattle.its_plain.specs.Operator.{Block, no_block, Operated, Refuses, Does, Ticks, interrupted, stopped, continued, on_job, with_registers, on_registers, examined, state_shown, disturbs, by_exam, by_state}
+use Rattle.its_plain.specs.Operator as operator
+use Rattle.its_plain.specs.Unit.{unit}
+use Rattle.its_plain.specs.Stretch.{is_part, part_asking, part_doing, part_at, steps_on, Untouched, machine_at, is_own, Fits, Stretch, counted, parts_in, incremented, rest_after, ByteOf, InOrder_by, InOrder, StandsAt, Transferred, Stretches}
+use Rattle.its_stepped.specs.Forest.{Forest}
+use Rattle.its_stepped.proofs.DecodingLaws.{input_word, siot_inputs}
+use Rattle.its_stepped.proofs.FitLaws.{forest_steps}
+use Rattle.its_stepped.proofs.ForestLaws.{forest_starts}
+use Rattle.its_stepped.proofs.FrameLaws.{changed_only}
+use Rattle.its_stepped.proofs.OneByteLaws.{rest_pointer, rest_count, decides_error, step_is, each_byte}
+use Rattle.its_stepped.proofs.PcLaws.{stands_same}
+use Rattle.its_stepped.proofs.SiotDuty.{named_same}
+use Rattle.its_stepped.proofs.WrittenLaws.{line_forest}
+
+-- the moments of a run: each finds a forest of jobs, and one that is a step leads to the machine after the step
+abbrev Leads : Deed → Machine → Machine → Type 0
+Leads (Steps i) m n = n ≡ after_step m i
+Leads (Lines e) m n = Unit {0}
+
+record Leading (t : Moment) (n : Machine) : Type 0 where
+  forest : Forest t.machine
+  leads : Leads t.deed t.machine n
+
+abbrev Linked : List Moment → Machine → Type 0
+Linked [] n = Unit {0}
+Linked (t ∷ ts) n = Leading t (machine_at ts n) × Linked ts n
+
+-- a run from a machine on
+record RunFrom (m : Machine) (u : Course) : Type 0 where
+  begins : machine_at u.moments u.last ≡ m
+  linked : Linked u.moments u.last
+
+run_rests : (m : Machine) → RunFrom m (rests m)
+run_rests m = record { begins = refl; linked = tt }
+
+run_onward : (m n : Machine) (d : Deed) (u : Course) → Forest m → Leads d m n → RunFrom n u → RunFrom m (onward m d u)
+run_onward m n d u forest leads h = record { begins = refl; linked = (record { forest = forest; leads = subst (Leads d m) (sym h.begins) leads }, h.linked) }
+
+forest_after : (m : Machine) (i : ℕ) → Forest m → Forest (after_step m i)
+forest_after m i forest = go (step m i) refl
+  where
+    go : (o : Option Machine) → step m i ≡ o → Forest (unwrap_or o m)
+    go (Some n) e = forest_steps m n i forest e
+    go None e = forest
+
+run_paced : (m : Machine) (i : ℕ) (ps : List Pace) (next : Machine → Course) → Forest m → ((n : Machine) → Forest n → RunFrom n (next n)) → RunFrom m (paced m i ps next)
+run_paced m i [] next forest h = h m forest
+run_paced m i (Step ∷ ps) next forest h =
+    run_onward m (after_step m i) (Steps i) (paced (after_step m i) i ps next) forest refl (run_paced (after_step m i) i ps next (forest_after m i forest) h)
+run_paced m i (Work ∷ ps) next forest h = run_paced m i ps next forest h
+run_paced m i (Wait ∷ ps) next forest h = run_paced m i ps next forest h
+run_paced m i (Off ∷ ps) next forest h = run_paced m i ps next forest h
+
+run_past : (m : Machine) (b : Block) (e : Event) (l : Lined) (lines : List Line) (next : Machine → Block → List Line → Course) → lined m b e ≡ l → Forest m
+    → ((n : Machine) (c : Block) (rest : List Line) → Forest n → RunFrom n (next n c rest)) → RunFrom m (past m b e l lines next)
+run_past m b e (Done (Refuses r)) lines next is forest h = run_rests m
+run_past m b e (Done (Does n out touched c)) lines next is forest h =
+    let rest = drop (length out) lines in
+    run_onward m n (Lines e) (next n c rest) forest tt (h n c rest (line_forest m n b c e out touched forest is))
+run_past m b e (Done (Ticks s k)) lines next is forest h = run_paced m s (letters lines) (λ n. next n b (drop 1 lines)) forest (λ n f. h n b (drop 1 lines) f)
+run_past m b e (Done operator.Ends) lines next is forest h = run_rests m
+run_past m b e (Peeks s) lines next is forest h = h m b (drop 1 lines) forest
+
+run_course : (m : Machine) (b : Block) (es : List Item) (lines : List Line) → Forest m → RunFrom m (course m b es lines)
+run_course m b [] lines forest = run_rests m
+run_course m b (Read e ∷ es) lines forest =
+    run_past m b e (lined m b e) lines (λ n c rest. course n c es rest) refl forest (λ n c rest f. run_course n c es rest f)
+run_course m b (Unread r ∷ es) lines forest = run_rests m
+run_course m b (Beyond ∷ es) lines forest = run_rests m
+
+-- some of its moments, one behind the other
+at_joined : (xs ys : List Moment) (n : Machine) → machine_at (xs ++ ys) n ≡ machine_at xs (machine_at ys n)
+at_joined [] ys n = refl
+at_joined (x ∷ xs) ys n = refl
+
+linked_front : (xs ys : List Moment) (n : Machine) → Linked (xs ++ ys) n → Linked xs (machine_at ys n)
+linked_front [] ys n h = tt
+linked_front (x ∷ xs) ys n h = (subst (Leading x) (at_joined xs ys n) h.0, linked_front xs ys n h.1)
+
+linked_back : (xs ys : List Moment) (n : Machine) → Linked (xs ++ ys) n → Linked ys n
+linked_back [] ys n h = h
+linked_back (x ∷ xs) ys n h = linked_back xs ys n h.1
+
+linked_middle : (before ts after : List Moment) (n : Machine) → Linked (before ++ ts ++ after) n → Linked ts (machine_at after n)
+linked_middle before ts after n h = linked_back before ts (machine_at after n) (linked_front (before ++ ts) after n h)
+
+-- where the job stands at the call, its arguments are its words
+stands_at : (m : Machine) (j : ℕ) (q : Whole) (s : Site) (a : Ask) → m.jobs j ≡ Some q → Stands q.core q.job s a → StandsAt m j s a
+stands_at m j q s a is st = record { job = q; there = is; stands = st; words = λ k p e. input_word q.core q.job s a k p st e }
+
+-- and it stands there still where its core and its PC are as they were
+untouched : (m n : Machine) (j : ℕ) (s : Site) (a : Ask) → StandsAt m j s a → Untouched (m.jobs j) (n.jobs j) → StandsAt n j s a
+untouched m n j s a st h = go (n.jobs j) refl (subst (λ (o : Option Whole). Untouched o (n.jobs j)) st.there h)
+  where
+    go : (o : Option Whole) → n.jobs j ≡ o → Untouched (Some st.job) o → StandsAt n j s a
+    go (Some p) is h =
+        stands_at n j p s a is (stands_same p.core st.job.job p.job s a h.1 (subst (λ c. Stands c st.job.job s a) (sym h.0) st.stands))
+    go None is h = absurd h
+
+-- a step that is a part of the call
+record Part (m : Machine) (j : ℕ) (q : Whole) (a : Ask) : Type 0 where
+  quiet : deliverable q.job ≡ false
+  part : is_part (decision m j q a) ≡ true
+  steps : step m j ≡ Some (after_step m j)
+
+part_acts : (m : Machine) (j : ℕ) (a : Ask) (d : Decision) → is_part d ≡ true → is_some (acted m j a d) ≡ true
+unfolding acted
+part_acts m j a (Goes cs h vs) e = refl
+part_acts m j a (Waits r) e = cc
+part_acts m j a (Ends cs ss x) e = cc
+part_acts m j a (Gone cs) e = cc
+
+some_or : {X : Type 0} (o : Option X) (d : X) → is_some o ≡ true → o ≡ Some (unwrap_or o d)
+some_or (Some x) d h = refl
+some_or None d h = cc
+
+part_is : (m : Machine) (j : ℕ) (q : Whole) (s : Site) (a : Ask) → steps_on m j ≡ true → m.jobs j ≡ Some q → Stands q.core q.job s a → Part m j q a
+unfolding steps_on
+part_is m j q s a h is st =
+    let at = ap (part_at m j) (sym is) ∙ h in
+    let both = and_parts (not q.job.stopped && not (deliverable q.job)) (part_doing m j q (unit q.core q.job)) at in
+    let runs = and_parts (not q.job.stopped) (not (deliverable q.job)) both.0 in
+    let stopped = not-true q.job.stopped runs.0 in
+    let quiet = not-true (deliverable q.job) runs.1 in
+    let part = ap (part_asking m j q) (sym st.ask_is) ∙ ap (part_doing m j q) (sym st.unit_is) ∙ both.1 in
+    record {
+      quiet = quiet;
+      part = part;
+      steps = some_or (step m j) m (ap is_some (step_is m j q s a is stopped quiet st) ∙ part_acts m j a (decision m j q a) part);
+    }
+
+byte_of : (m n : Machine) (j : ℕ) (q : Whole) (s : Site) (a : Ask) (d : Decision) → m.jobs j ≡ Some q → is_part d ≡ true → ByteBy m j q s a d n → ByteOf m j s a n
+byte_of m n j q s a (Goes cs h vs) is e b = record { job = q; there = is; changes = cs.items; held = h; byte = b }
+byte_of m n j q s a (Waits r) is e b = cc
+byte_of m n j q s a (Ends cs ss x) is e b = cc
+byte_of m n j q s a (Gone cs) is e b = cc
+
+-- only a call whose decoding gave no error has parts
+part_fine : (m : Machine) (j : ℕ) (q : Whole) (a : Ask) → is_part (decision m j q a) ≡ true → a.fail ≡ 0
+part_fine m j q a h = elim (cases_eq a.fail 0) [
+  | inl z ↦ z
+  | inr ne ↦ absurd (let no : false ≡ true = ap is_part (sym (decides_error m j q a ne)) ∙ h in cc)
+]
+
+-- what moments have moved: this of each, and then the job stands on the rest of k bytes more
+record Moves (j : ℕ) (s : Site) (a : Ask) (k : ℕ) (n : Machine) (Each : Type 0) : Type 0 where
+  each : Each
+  rest : StandsAt n j s (rest_after k a)
+  pointer : input (rest_after k a) 1 ≡ incremented k (input a 1)
+  count : input (rest_after k a) 2 + k ≡ input a 2
+
+one_more : (j : ℕ) (s : Site) (a : Ask) (k : ℕ) (n : Machine) (One Each : Type 0) → length a.inputs.items ≡ 3 → One → input a 2 ≢ 0 → Moves j s (rest_of_transfer a) k n Each
+    → Moves j s a (suc k) n (One × Each)
+one_more j s a k n One Each three one some h = record {
+  each = (one, h.each);
+  rest = h.rest;
+  pointer = h.pointer ∙ ap (incremented k) (rest_pointer a three);
+  count = let c = h.count in let r = rest_count a three in omega arith;
+}
+
+-- a moment, and those behind it
+moment_moves : (b : Bool) (m n last : Machine) (j : ℕ) (s : Site) (a : Ask) (k : ℕ) (next : Ask → Type 0) → Forest m → (b ≡ true → n ≡ after_step m j) → StandsAt m j s a
+    → call_named a.name ≡ Some Siot → Fits b j m n → ((r : Ask) → StandsAt n j s r → call_named r.name ≡ Some Siot → Moves j s r k last (next r))
+    → Moves j s a (counted b k) last (InOrder_by b m j s a n next)
+moment_moves false m n last j s a k next forest leads st e fits h = h a (untouched m n j s a st fits) e
+moment_moves true m n last j s a k next forest leads st e fits h =
+    let p = part_is m j st.job s a fits st.there st.stands in
+    let steps = p.steps ∙ ap Some (sym (leads refl)) in
+    let byte = byte_of m n j st.job s a (decision m j st.job a) st.there p.part ((each_byte m n j forest steps).byte st.job s a st.there p.quiet st.stands e) in
+    let rest = rest_of_transfer a in
+    one_more j s a k last (ByteOf m j s a n) (next rest) (siot_inputs st.job.core s a st.stands.ask_is e (part_fine m j st.job a p.part)) byte byte.byte.counted
+    (h rest (stands_at n j byte.byte.after s rest byte.byte.there byte.byte.stands) (ap call_named (named_same a _) ∙ e))
+
+own_leads : (d : Deed) (m n : Machine) (j : ℕ) → Leads d m n → is_own j d ≡ true → n ≡ after_step m j
+own_leads (Steps i) m n j h own = h ∙ ap (after_step m) (eqb-true i j own)
+own_leads (Lines e) m n j h own = cc
+
+moments_move : (ts : List Moment) (n : Machine) (j : ℕ) (s : Site) (a : Ask) → Linked ts n → StandsAt (machine_at ts n) j s a → call_named a.name ≡ Some Siot → Stretch j ts n
+    → Moves j s a (parts_in j ts) n (InOrder j s ts n a)
+moments_move [] n j s a linked st e fits = record { each = tt; rest = st; pointer = refl; count = omega arith }
+moments_move (t ∷ ts) n j s a linked st e fits =
+    moment_moves (is_own j t.deed) t.machine (machine_at ts n) n j s a (parts_in j ts) (InOrder j s ts n) linked.0.forest
+    (own_leads t.deed t.machine (machine_at ts n) j linked.0.leads) st e fits.0
+    (λ r st' e'. moments_move ts n j s r linked.1 st' e' fits.1)
+
+transferred : (ts : List Moment) (n : Machine) (j : ℕ) (s : Site) (a : Ask) → Moves j s a (parts_in j ts) n (InOrder j s ts n a) → Transferred j s a ts n
+transferred ts n j s a h = record { each = h.each; rest = h.rest; pointer = h.pointer; count = h.count }
+
+-- each stretch of a run moves its bytes once and in order, whatever the lines are
+pub stretches : (es : List Item) (lines : List Line) → Stretches es lines
+stretches es lines = record {
+  each = λ j before ts after q s a is at st e fits.
+      let u = run_of es lines in
+      let linked = subst (λ (xs : List Moment). Linked xs u.last) is (run_course _ no_block es lines forest_starts).linked in
+      transferred ts (machine_at after u.last) j s a
+      (moments_move ts (machine_at after u.last) j s a (linked_middle before ts after u.last linked) (stands_at (machine_at ts (machine_at after u.last)) j q s a at st) e fits);
+}
+
+-- lines that end no stretch: EXAM and STATE look at a job, STOP and CONT change its stopped mark and its pending bits, and INT
+-- its pending bits
+abbrev pub SparesBy : Option Whole → ℕ → Operated → Type 0
+SparesBy o j (Does n out touched b) = Untouched o (n.jobs j)
+SparesBy o j _ = Unit {0}
+
+untouched_same : (o : Option Whole) → is_some o ≡ true → Untouched o o
+untouched_same (Some q) h = (refl, refl)
+untouched_same None h = cc
+
+job_spared : (m : Machine) (s j : ℕ) (q : Whole) (f : Job → Job) → ((k : Job) → (f k).pc ≡ k.pc) → m.jobs s ≡ Some q → is_some (m.jobs j) ≡ true
+    → Untouched (m.jobs j) (changed m.jobs s (Some (record q { job = f q.job })) j)
+job_spared m s j q f same is there =
+    let p : Whole = record q { job = f q.job } in
+    let only = changed_only m.jobs s (Some p) in
+    elim (cases_eq j s) [
+      | inl e ↦ subst (λ (i : ℕ). Untouched (m.jobs i) (changed m.jobs s (Some p) i)) (sym e)
+          (subst (λ (o : Option Whole). Untouched o (changed m.jobs s (Some p) s)) (sym is) (subst (Untouched (Some q)) (sym only.here) (refl, same q.job)))
+      | inr ne ↦ subst (Untouched (m.jobs j)) (sym (only.others j ne)) (untouched_same (m.jobs j) there)
+    ]
+
+registers_spared : (m : Machine) (b : Block) (s j : ℕ) (f : Job → Job) → ((k : Job) → (f k).pc ≡ k.pc) → is_some (m.jobs j) ≡ true
+    → SparesBy (m.jobs j) j (disturbs s b (on_registers m s f))
+unfolding on_registers
+registers_spared m b s j f same there = go (m.jobs s) refl
+  where
+    go : (o : Option Whole) → m.jobs s ≡ o → SparesBy (m.jobs j) j (disturbs s b (on_job m s (with_registers m s f) o))
+    go (Some q) is = job_spared m s j q f same is there
+    go None is = tt
+
+exam_spared : (m : Machine) (b : Block) (s j a : ℕ) (r : Result (List ℕ) Reason) → is_some (m.jobs j) ≡ true → SparesBy (m.jobs j) j (by_exam m b s a r)
+exam_spared m b s j a (Ok ws) there = untouched_same (m.jobs j) there
+exam_spared m b s j a (Err r) there = tt
+
+state_spared : (m : Machine) (b : Block) (s j : ℕ) (r : Result JobShow Reason) → is_some (m.jobs j) ≡ true → SparesBy (m.jobs j) j (by_state m b s r)
+state_spared m b s j (Ok show) there = untouched_same (m.jobs j) there
+state_spared m b s j (Err r) there = tt
+
+abbrev pub EndsNone : Event → Type 0
+EndsNone (events.Exam s a n) = Unit {0}
+EndsNone (events.State s) = Unit {0}
+EndsNone (events.Stop s) = Unit {0}
+EndsNone (events.Cont s) = Unit {0}
+EndsNone (events.Int s v w) = Unit {0}
+EndsNone _ = ⊥
+
+pub line_spared : (m : Machine) (b : Block) (e : Event) (j : ℕ) → EndsNone e → is_some (m.jobs j) ≡ true → SparesBy (m.jobs j) j (operate m b e)
+unfolding operate
+line_spared m b (events.Exam s a n) j h there = exam_spared m b s j a (examined m s a n) there
+line_spared m b (events.State s) j h there = state_spared m b s j (state_shown m s) there
+line_spared m b (events.Stop s) j h there = registers_spared m b s j stopped (λ k. refl) there
+line_spared m b (events.Cont s) j h there = registers_spared m b s j continued (λ k. refl) there
+line_spared m b (events.Int s v w) j h there = registers_spared m b s j (interrupted v w) (λ k. refl) there
+line_spared m b _ j h there = absurd h

@@ -1,0 +1,20 @@
+-- How the jobs of a machine lie to each other (docs/STEPS.md, "Soundness").
+use Rattle.std.specs.Prelude.{◌≡◌, ◌≤◌, ℕ, true, false, Some, None, IfSome, is_some}
+use Rattle.its_word.specs.Limits.{slots}
+use Rattle.its_word.specs.Tree.{climbs_to}
+use Rattle.its_plain.specs.Machine.{Chan, On, Machine}
+use Rattle.its_plain.specs.Change.{superiors, channel_in}
+
+-- a channel of the job of slot k that is on a job is on an inferior of its own
+abbrev pub OnInferior : Machine → ℕ → Chan → Type 0
+OnInferior m k (On s write at) = superiors m s ≡ Some k
+OnInferior m k _ = Unit {0}
+
+-- jobs have the slots that there are; a superior is a job, and no job is reached from itself through superiors; a channel
+-- on a job is on an inferior; and who holds a console is a job
+pub record Forest (m : Machine) : Type 0 where
+  pub few : (k : ℕ) → slots ≤ k → m.jobs k ≡ None
+  pub standing : (k : ℕ) → IfSome (superiors m k) (λ s. is_some (m.jobs s) ≡ true)
+  pub circle : (k : ℕ) → climbs_to (superiors m) k slots (superiors m k) ≡ false
+  pub channels : (k n : ℕ) → OnInferior m k (channel_in (m.jobs k) n)
+  pub holders : (c : ℕ) → IfSome (m.holders c) (λ s. is_some (m.jobs s) ≡ true)

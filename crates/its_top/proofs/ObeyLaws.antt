@@ -1,0 +1,286 @@
+-- From what the program did for a command to the promises of the top call.
+use Rattle.std.specs.Prelude.{◌≡◌, ◌≢◌, ◌⊎◌, ℕ, ◌+◌, false, Option, Some, None, IfSome, List, refl}
+use Rattle.std.proofs.Common.{sym, ◌∙◌, ap, subst, arith, inl, inr}
+use Rattle.std.specs.Io.KnownBytes.{Appends}
+use Rattle.its_print.specs.Printing.{text}
+use Rattle.its_session.specs.Events.{events_of}
+use Rattle.its_stepped.specs.Lines.{stepped}
+use Rattle.its_top.specs.declared.status.Status.{Status}
+use Rattle.its_top.specs.declared.status.Status.TheVariants as statuses
+use Rattle.its_top.specs.declared.commands.Command.{Command}
+use Rattle.its_top.specs.declared.commands.Command.TheVariants as commands
+use Rattle.its_top.specs.declared.checking.Checked.{Checked}
+use Rattle.its_top.specs.declared.checking.Checked.TheVariants as checks
+use Rattle.its_top.specs.Conclusion.{IsDone, WasRun, Session}
+use Rattle.its_top.specs.Commands.{reads, IfGenerates}
+use Rattle.its_top.specs.Checking.{checked, checked_text, Passes, Fails, GoesOn, StatusFor, WroteText, CheckOf, Check}
+use Rattle.its_top.specs.Generating.{generated_text}
+use Rattle.its_top.specs.Top.{usage, Transcribed, Completes, Refuses, RunsOn, Breaks, Begins, CheckPasses, CheckFails, CheckRunsOn, CheckBreaks, DoneFor, Obeyed}
+use Rattle.its_top.proofs.TopLaws.{session_done, session_refused, session_too_long, session_breaks, session_begins, session_written, session_transcribed, session_complete}
+use Rattle.its_top.proofs.CheckingLaws.{checked_is, checked_whole}
+
+-- what the commands came to
+as_obeys : (c : Option Command) (st : Status) (left rest old new : Option (List ℕ)) → st ≢ statuses.NoMemory → DoneFor c st left rest old new → Obeyed c st left rest old new
+as_obeys c statuses.NoMemory left rest old new n d = absurd (n refl)
+as_obeys c statuses.Done left rest old new n d = record { obeys = d }
+as_obeys c statuses.Usage left rest old new n d = record { obeys = d }
+as_obeys c statuses.Refused left rest old new n d = record { obeys = d }
+as_obeys c statuses.ReadFault left rest old new n d = record { obeys = d }
+as_obeys c statuses.WriteFault left rest old new n d = record { obeys = d }
+as_obeys c statuses.TooLong left rest old new n d = record { obeys = d }
+
+pub not_obeyed : (c : Option Command) (left old : Option (List ℕ)) → Obeyed c statuses.NoMemory left left old old
+not_obeyed c left old = record { obeys = (refl, refl) }
+
+pub obeyed_run : (st : Status) (left rest old new : Option (List ℕ)) → (st ≢ statuses.NoMemory → Session st left rest old new) → (st ≡ statuses.NoMemory → (rest ≡ left) × (new ≡ old))
+    → Obeyed (Some commands.Run) st left rest old new
+obeyed_run statuses.NoMemory left rest old new s m = record { obeys = m refl }
+obeyed_run st left rest old new s m = let n : st ≢ statuses.NoMemory = λ k. cc in as_obeys (Some commands.Run) st left rest old new n (s n)
+
+pub obeyed_check : (st : Status) (left rest old new : Option (List ℕ)) → Check st left rest old new → Obeyed (Some commands.Check) st left rest old new
+obeyed_check statuses.NoMemory left rest old new s = absurd s.ran
+obeyed_check st left rest old new s = as_obeys (Some commands.Check) st left rest old new (λ k. cc) s
+
+pub obeyed_gen : (st : Status) (n : ℕ) (left old new : Option (List ℕ)) → (st ≢ statuses.NoMemory → WroteText st statuses.Done (generated_text n) old new) → (st ≡ statuses.NoMemory → new ≡ old)
+    → Obeyed (Some (commands.Gen n)) st left left old new
+obeyed_gen statuses.NoMemory n left old new w m = record { obeys = (refl, m refl) }
+obeyed_gen st n left old new w m = let k : st ≢ statuses.NoMemory = λ k. cc in as_obeys (Some (commands.Gen n)) st left left old new k (w k, refl)
+
+pub obeyed_none : (st : Status) (left old new : Option (List ℕ)) → WroteText st statuses.Usage usage old new → Obeyed None st left left old new
+obeyed_none statuses.NoMemory left old new w = absurd (let k : statuses.NoMemory ≡ statuses.Usage = w.complete.0 in cc)
+obeyed_none st left old new w = as_obeys None st left left old new (λ k. cc) (w, refl)
+
+pub obeyed_by : (c d : Option Command) (st : Status) (left rest old new : Option (List ℕ)) → c ≡ d → Obeyed c st left rest old new → Obeyed d st left rest old new
+obeyed_by c d st left rest old new e o = subst (λ x. Obeyed x st left rest old new) e o
+
+-- back from them
+done_for : (d c : Option Command) (st : Status) (left rest old new : Option (List ℕ)) → Obeyed d st left rest old new → d ≡ c → st ≢ statuses.NoMemory → DoneFor c st left rest old new
+done_for d c st left rest old new o e n = go st n (subst (λ x. Obeyed x st left rest old new) e o)
+  where
+    go : (t : Status) → t ≢ statuses.NoMemory → Obeyed c t left rest old new → DoneFor c t left rest old new
+    go statuses.NoMemory n o = absurd (n refl)
+    go statuses.Done n o = o.obeys
+    go statuses.Usage n o = o.obeys
+    go statuses.Refused n o = o.obeys
+    go statuses.ReadFault n o = o.obeys
+    go statuses.WriteFault n o = o.obeys
+    go statuses.TooLong n o = o.obeys
+
+kept_memory : (st good : Status) → st ≡ good → good ≢ statuses.NoMemory → st ≢ statuses.NoMemory
+kept_memory st good e n k = n (sym e ∙ k)
+
+-- run
+pub run_done : (d : Option Command) (st : Status) (left rest old new : Option (List ℕ)) → Obeyed d st left rest old new → d ≡ Some commands.Run → st ≡ statuses.Done → IfSome left (λ bytes. Completes bytes old new)
+run_done d st left rest old new o c e = session_done st left rest old new e (done_for d (Some commands.Run) st left rest old new o c (λ k. cc))
+
+pub run_refused : (d : Option Command) (st : Status) (left rest old new : Option (List ℕ)) → Obeyed d st left rest old new → d ≡ Some commands.Run → st ≡ statuses.Refused → IfSome left (λ bytes. Refuses bytes old new)
+run_refused d st left rest old new o c e = session_refused st left rest old new e (done_for d (Some commands.Run) st left rest old new o c (λ k. cc))
+
+pub run_too_long : (d : Option Command) (st : Status) (left rest old new : Option (List ℕ)) → Obeyed d st left rest old new → d ≡ Some commands.Run → st ≡ statuses.TooLong → IfSome left (λ bytes. RunsOn bytes old new)
+run_too_long d st left rest old new o c e = session_too_long st left rest old new e (done_for d (Some commands.Run) st left rest old new o c (λ k. cc))
+
+pub run_breaks : (d : Option Command) (st : Status) (left rest old new : Option (List ℕ)) → Obeyed d st left rest old new → d ≡ Some commands.Run → st ≡ statuses.ReadFault → IfSome left (λ bytes. Breaks bytes rest old new)
+run_breaks d st left rest old new o c e = session_breaks st left rest old new e (done_for d (Some commands.Run) st left rest old new o c (λ k. cc))
+
+pub run_begins : (d : Option Command) (st : Status) (left rest old new : Option (List ℕ)) → Obeyed d st left rest old new → d ≡ Some commands.Run → st ≡ statuses.WriteFault
+    → IfSome left (λ bytes. Begins (text (stepped (events_of bytes)).lines) old new)
+run_begins d st left rest old new o c e = session_begins st left rest old new e (done_for d (Some commands.Run) st left rest old new o c (λ k. cc))
+
+ended : (st : Status) → (st ≡ statuses.Done) ⊎ (st ≡ statuses.Refused) → st ≢ statuses.NoMemory
+ended st (inl e) k = cc
+ended st (inr e) k = cc
+
+pub run_written : (d : Option Command) (st : Status) (left rest old new : Option (List ℕ)) → Obeyed d st left rest old new → d ≡ Some commands.Run → (st ≡ statuses.Done) ⊎ (st ≡ statuses.Refused)
+    → IfSome left (λ bytes. Appends old new (text (stepped (events_of bytes)).lines))
+run_written d st left rest old new o c e = session_written st left rest old new e (done_for d (Some commands.Run) st left rest old new o c (ended st e))
+
+pub run_transcribed : (d : Option Command) (st : Status) (left rest old new : Option (List ℕ)) → Obeyed d st left rest old new → d ≡ Some commands.Run → (st ≡ statuses.Done) ⊎ (st ≡ statuses.Refused)
+    → IfSome left (λ bytes. Transcribed bytes old new)
+run_transcribed d st left rest old new o c e = session_transcribed st left rest old new e (done_for d (Some commands.Run) st left rest old new o c (ended st e))
+
+if_all : (left : Option (List ℕ)) (P : List ℕ → Type 0) → ((b : List ℕ) → P b) → IfSome left P
+if_all None P f = tt
+if_all (Some b) P f = f b
+
+if_then : (left : Option (List ℕ)) (P Q : List ℕ → Type 0) → ((b : List ℕ) → P b → Q b) → IfSome left P → IfSome left Q
+if_then None P Q f h = tt
+if_then (Some b) P Q f h = f b h
+
+unrisen : (a b : ℕ) → a ≡ b → a ≡ b + 1 → ⊥
+unrisen a b e f = omega arith
+
+pub run_complete : (d : Option Command) (st : Status) (left rest old new : Option (List ℕ)) (sf tf kf lf : ℕ) → Obeyed d st left rest old new → (st ≡ statuses.ReadFault → tf ≡ sf + 1) → (st ≡ statuses.WriteFault → lf ≡ kf + 1)
+    → d ≡ Some commands.Run → tf ≡ sf → lf ≡ kf → IfSome left (λ bytes. IsDone (stepped (events_of bytes)).fate → (st ≡ statuses.Done) ⊎ (st ≡ statuses.NoMemory))
+run_complete d statuses.NoMemory left rest old new sf tf kf lf o r w c e f = if_all left _ (λ b i. inr refl)
+run_complete d st left rest old new sf tf kf lf o r w c e f =
+    if_then left (λ bytes. IsDone (stepped (events_of bytes)).fate → st ≡ statuses.Done) _ (λ b h i. inl (h i))
+    (session_complete st left rest old new (λ k. unrisen tf sf e (r k)) (λ k. unrisen lf kf f (w k)) (done_for d (Some commands.Run) st left rest old new o c (λ k. cc)))
+
+-- check
+check_of : (st good : Status) (left rest old new : Option (List ℕ)) → st ≡ good → Check st left rest old new → Check good left rest old new
+check_of st good left rest old new e c = subst (λ x. Check x left rest old new) e c
+
+found_as : (st good : Status) (d : Option Command) (left rest old new : Option (List ℕ)) → Obeyed d st left rest old new → d ≡ Some commands.Check → st ≡ good → good ≢ statuses.NoMemory
+    → Check good left rest old new
+found_as st good d left rest old new o c e n = check_of st good left rest old new e (done_for d (Some commands.Check) st left rest old new o c (kept_memory st good e n))
+
+pub check_done : (d : Option Command) (st : Status) (left rest old new : Option (List ℕ)) → Obeyed d st left rest old new → d ≡ Some commands.Check → st ≡ statuses.Done → IfSome left (λ bytes. CheckPasses bytes old new)
+check_done d st left rest old new o c e =
+    let k = found_as st statuses.Done d left rest old new o c e (λ k. cc) in
+    if_then left (λ bytes. CheckOf statuses.Done bytes k.read k.wrote) (λ bytes. CheckPasses bytes old new)
+    (λ bytes f. record { passes = subst Passes (checked_is bytes) f.0; wrote = subst (Appends old new) (sym f.1 ∙ ap checked_text (checked_is bytes)) k.appended }) k.found
+
+pub check_refused : (d : Option Command) (st : Status) (left rest old new : Option (List ℕ)) → Obeyed d st left rest old new → d ≡ Some commands.Check → st ≡ statuses.Refused → IfSome left (λ bytes. CheckFails bytes old new)
+check_refused d st left rest old new o c e =
+    let k = found_as st statuses.Refused d left rest old new o c e (λ k. cc) in
+    if_then left (λ bytes. CheckOf statuses.Refused bytes k.read k.wrote) (λ bytes. CheckFails bytes old new)
+    (λ bytes f. record { fails = subst Fails (checked_is bytes) f.0; wrote = subst (Appends old new) (sym f.1 ∙ ap checked_text (checked_is bytes)) k.appended }) k.found
+
+pub check_too_long : (d : Option Command) (st : Status) (left rest old new : Option (List ℕ)) → Obeyed d st left rest old new → d ≡ Some commands.Check → st ≡ statuses.TooLong → IfSome left (λ bytes. CheckRunsOn bytes old new)
+check_too_long d st left rest old new o c e =
+    let k = found_as st statuses.TooLong d left rest old new o c e (λ k. cc) in
+    if_then left (λ bytes. CheckOf statuses.TooLong bytes k.read k.wrote) (λ bytes. CheckRunsOn bytes old new)
+    (λ bytes f. record { beyond = sym (checked_is bytes) ∙ f.0; wrote = subst (Appends old new) f.1 k.appended }) k.found
+
+told_breaks : (left rest old new : Option (List ℕ)) (k : Check statuses.ReadFault left rest old new) → IfSome left (λ bytes. CheckBreaks bytes rest old new)
+told_breaks None rest old new k = tt
+told_breaks (Some bytes) rest old new k =
+    record { read = k.read; consumed = k.consumed; goes_on = subst GoesOn (checked_whole k.read) k.found.0; wrote = subst (Appends old new) k.found.1 k.appended }
+
+pub check_breaks : (d : Option Command) (st : Status) (left rest old new : Option (List ℕ)) → Obeyed d st left rest old new → d ≡ Some commands.Check → st ≡ statuses.ReadFault → IfSome left (λ bytes. CheckBreaks bytes rest old new)
+check_breaks d st left rest old new o c e = told_breaks left rest old new (found_as st statuses.ReadFault d left rest old new o c e (λ k. cc))
+
+pub check_begins : (d : Option Command) (st : Status) (left rest old new : Option (List ℕ)) → Obeyed d st left rest old new → d ≡ Some commands.Check → st ≡ statuses.WriteFault
+    → IfSome left (λ bytes. Begins (checked_text (checked (events_of bytes))) old new)
+check_begins d st left rest old new o c e =
+    let k = found_as st statuses.WriteFault d left rest old new o c e (λ k. cc) in
+    if_then left (λ bytes. CheckOf statuses.WriteFault bytes k.read k.wrote) (λ bytes. Begins (checked_text (checked (events_of bytes))) old new)
+    (λ bytes f. record { first = k.wrote; more = f.0; whole = ap checked_text (sym (checked_is bytes)) ∙ f.1; wrote = k.appended }) k.found
+
+not_failed : (c : Checked) → Passes c → Fails c → ⊥
+not_failed c p f = by c p f
+  where
+    by : (x : Checked) → Passes x → Fails x → ⊥
+    by (checks.Ended n) p f = f
+    by (checks.Open n) p f = f
+    by (checks.Refused n r) p f = p
+    by checks.Beyond p f = p
+
+passing : (st : Status) (bytes read w : List ℕ) → st ≢ statuses.ReadFault → st ≢ statuses.WriteFault → WasRun st → CheckOf st bytes read w → Passes (checked (events_of bytes)) → st ≡ statuses.Done
+passing statuses.Done bytes read w r k run f p = refl
+passing statuses.Refused bytes read w r k run f p = absurd (not_failed (checked (events_of bytes)) p (subst Fails (checked_is bytes) f.0))
+passing statuses.TooLong bytes read w r k run f p = absurd (subst Passes (sym (checked_is bytes) ∙ f.0) p)
+passing statuses.ReadFault bytes read w r k run f p = absurd (r refl)
+passing statuses.WriteFault bytes read w r k run f p = absurd (k refl)
+passing statuses.Usage bytes read w r k run f p = absurd run
+passing statuses.NoMemory bytes read w r k run f p = absurd run
+
+pub check_complete : (d : Option Command) (st : Status) (left rest old new : Option (List ℕ)) (sf tf kf lf : ℕ) → Obeyed d st left rest old new → (st ≡ statuses.ReadFault → tf ≡ sf + 1) → (st ≡ statuses.WriteFault → lf ≡ kf + 1)
+    → d ≡ Some commands.Check → tf ≡ sf → lf ≡ kf → IfSome left (λ bytes. Passes (checked (events_of bytes)) → (st ≡ statuses.Done) ⊎ (st ≡ statuses.NoMemory))
+check_complete d statuses.NoMemory left rest old new sf tf kf lf o r w c e f = if_all left _ (λ b i. inr refl)
+check_complete d st left rest old new sf tf kf lf o r w c e f =
+    let k : Check st left rest old new = done_for d (Some commands.Check) st left rest old new o c (λ k. cc) in
+    if_then left (λ bytes. CheckOf st bytes k.read k.wrote) _
+    (λ bytes h p. inl (passing st bytes k.read k.wrote (λ x. unrisen tf sf e (r x)) (λ x. unrisen lf kf f (w x)) k.ran h p)) k.found
+
+-- gen
+wrote_done : (st : Status) (bytes : List ℕ) (old new : Option (List ℕ)) → st ≡ statuses.Done → WroteText st statuses.Done bytes old new → Appends old new bytes
+wrote_done st bytes old new e w = let k = subst (λ x. WroteText x statuses.Done bytes old new) e w in subst (Appends old new) (sym k.complete.1) k.appended
+
+wrote_fault : (st good : Status) (bytes : List ℕ) (old new : Option (List ℕ)) → st ≡ statuses.WriteFault → WroteText st good bytes old new → Begins bytes old new
+wrote_fault st good bytes old new e w =
+    let k = subst (λ x. WroteText x good bytes old new) e w in record { first = k.wrote; more = k.complete.0; whole = k.complete.1; wrote = k.appended }
+
+pub gen_done : (d : Option Command) (st : Status) (left rest old new : Option (List ℕ)) → Obeyed d st left rest old new → IfGenerates d (λ n. st ≡ statuses.Done → Appends old new (generated_text n))
+gen_done None st left rest old new o = tt
+gen_done (Some commands.Run) st left rest old new o = tt
+gen_done (Some commands.Check) st left rest old new o = tt
+gen_done (Some (commands.Gen n)) st left rest old new o =
+    λ e. wrote_done st (generated_text n) old new e (done_for (Some (commands.Gen n)) (Some (commands.Gen n)) st left rest old new o refl (λ k. cc)).0
+
+pub gen_begins : (d : Option Command) (st : Status) (left rest old new : Option (List ℕ)) → Obeyed d st left rest old new → IfGenerates d (λ n. st ≡ statuses.WriteFault → Begins (generated_text n) old new)
+gen_begins None st left rest old new o = tt
+gen_begins (Some commands.Run) st left rest old new o = tt
+gen_begins (Some commands.Check) st left rest old new o = tt
+gen_begins (Some (commands.Gen n)) st left rest old new o =
+    λ e. wrote_fault st statuses.Done (generated_text n) old new e (done_for (Some (commands.Gen n)) (Some (commands.Gen n)) st left rest old new o refl (λ k. cc)).0
+
+by_status : (st : Status) (bytes w : List ℕ) → StatusFor st statuses.Done bytes w → st ≢ statuses.WriteFault → st ≡ statuses.Done
+by_status statuses.WriteFault bytes w s n = absurd (n refl)
+by_status statuses.Done bytes w s n = refl
+by_status statuses.Usage bytes w s n = s.0
+by_status statuses.Refused bytes w s n = s.0
+by_status statuses.ReadFault bytes w s n = s.0
+by_status statuses.NoMemory bytes w s n = s.0
+by_status statuses.TooLong bytes w s n = s.0
+
+gen_ends : (st : Status) (n kf lf : ℕ) (left rest old new : Option (List ℕ)) → Obeyed (Some (commands.Gen n)) st left rest old new → (st ≡ statuses.WriteFault → lf ≡ kf + 1) → lf ≡ kf
+    → (st ≡ statuses.Done) ⊎ (st ≡ statuses.NoMemory)
+gen_ends statuses.NoMemory n kf lf left rest old new o w f = inr refl
+gen_ends st n kf lf left rest old new o w f =
+    let k = (done_for (Some (commands.Gen n)) (Some (commands.Gen n)) st left rest old new o refl (λ k. cc)).0 in
+    inl (by_status st (generated_text n) k.wrote k.complete (λ x. unrisen lf kf f (w x)))
+
+pub gen_complete : (d : Option Command) (st : Status) (left rest old new : Option (List ℕ)) (kf lf : ℕ) → Obeyed d st left rest old new → (st ≡ statuses.WriteFault → lf ≡ kf + 1)
+    → IfGenerates d (λ n. lf ≡ kf → (st ≡ statuses.Done) ⊎ (st ≡ statuses.NoMemory))
+gen_complete None st left rest old new kf lf o w = tt
+gen_complete (Some commands.Run) st left rest old new kf lf o w = tt
+gen_complete (Some commands.Check) st left rest old new kf lf o w = tt
+gen_complete (Some (commands.Gen n)) st left rest old new kf lf o w = λ f. gen_ends st n kf lf left rest old new o w f
+
+-- words that are no command
+is_none : (d : Option Command) (st : Status) (left rest old new : Option (List ℕ)) → st ≡ statuses.Usage → Obeyed d st left rest old new → d ≡ None
+is_none None st left rest old new e o = refl
+is_none (Some commands.Run) st left rest old new e o = absurd (subst (λ x. Session x left rest old new) e (done_for (Some commands.Run) (Some commands.Run) st left rest old new o refl (λ k. cc))).ran
+is_none (Some commands.Check) st left rest old new e o = absurd (subst (λ x. Check x left rest old new) e (done_for (Some commands.Check) (Some commands.Check) st left rest old new o refl (λ k. cc))).ran
+is_none (Some (commands.Gen n)) st left rest old new e o =
+    let w = (done_for (Some (commands.Gen n)) (Some (commands.Gen n)) st left rest old new o refl (λ k. cc)).0 in
+    absurd (let k : statuses.Usage ≡ statuses.Done = (subst (λ x. WroteText x statuses.Done (generated_text n) old new) e w).complete.0 in cc)
+
+pub usage_only : (d : Option Command) (st : Status) (left rest old new : Option (List ℕ)) → Obeyed d st left rest old new → st ≡ statuses.Usage → d ≡ None
+usage_only d st left rest old new o e = is_none d st left rest old new e o
+
+pub usage_written : (d : Option Command) (st : Status) (left rest old new : Option (List ℕ)) → Obeyed d st left rest old new → st ≡ statuses.Usage → Appends old new usage
+usage_written d st left rest old new o e =
+    let w = (done_for d None st left rest old new o (is_none d st left rest old new e o) (λ k. cc)).0 in
+    let k = subst (λ x. WroteText x statuses.Usage usage old new) e w in subst (Appends old new) (sym k.complete.1) k.appended
+
+pub usage_begins : (d : Option Command) (st : Status) (left rest old new : Option (List ℕ)) → Obeyed d st left rest old new → d ≡ None → st ≡ statuses.WriteFault → Begins usage old new
+usage_begins d st left rest old new o c e = wrote_fault st statuses.Usage usage old new e (done_for d None st left rest old new o c (λ k. cc)).0
+
+usage_ends : (st : Status) (left rest old new : Option (List ℕ)) → Obeyed None st left rest old new → ((st ≡ statuses.Usage) ⊎ (st ≡ statuses.WriteFault)) ⊎ (st ≡ statuses.NoMemory)
+usage_ends statuses.NoMemory left rest old new o = inr refl
+usage_ends statuses.WriteFault left rest old new o = inl (inr refl)
+usage_ends statuses.Usage left rest old new o = inl (inl refl)
+usage_ends statuses.Done left rest old new o = inl (inl o.obeys.0.complete.0)
+usage_ends statuses.Refused left rest old new o = inl (inl o.obeys.0.complete.0)
+usage_ends statuses.ReadFault left rest old new o = inl (inl o.obeys.0.complete.0)
+usage_ends statuses.TooLong left rest old new o = inl (inl o.obeys.0.complete.0)
+
+pub none_obeyed : (d : Option Command) (st : Status) (left rest old new : Option (List ℕ)) → Obeyed d st left rest old new → d ≡ None
+    → ((st ≡ statuses.Usage) ⊎ (st ≡ statuses.WriteFault)) ⊎ (st ≡ statuses.NoMemory)
+none_obeyed d st left rest old new o c = usage_ends st left rest old new (subst (λ x. Obeyed x st left rest old new) c o)
+
+-- a command that reads nothing
+left_alone : (d : Option Command) (st : Status) (left rest old new : Option (List ℕ)) → reads d ≡ false → st ≢ statuses.NoMemory → Obeyed d st left rest old new → rest ≡ left
+left_alone None st left rest old new r n o = (done_for None None st left rest old new o refl n).1
+left_alone (Some commands.Run) st left rest old new r n o = cc
+left_alone (Some commands.Check) st left rest old new r n o = cc
+left_alone (Some (commands.Gen k)) st left rest old new r n o = (done_for (Some (commands.Gen k)) (Some (commands.Gen k)) st left rest old new o refl n).1
+
+pub unread : (d : Option Command) (st : Status) (left rest old new : Option (List ℕ)) → Obeyed d st left rest old new → reads d ≡ false → rest ≡ left
+unread d statuses.NoMemory left rest old new o r = o.obeys.0
+unread d st left rest old new o r = left_alone d st left rest old new r (λ k. cc) o
+
+pub not_read_fault : (d : Option Command) (st : Status) (left rest old new : Option (List ℕ)) → Obeyed d st left rest old new → reads d ≡ false → st ≢ statuses.ReadFault
+not_read_fault None st left rest old new o r e =
+    let w = (done_for None None st left rest old new o refl (λ k. cc)).0 in
+    let k : statuses.ReadFault ≡ statuses.Usage = (subst (λ x. WroteText x statuses.Usage usage old new) e w).complete.0 in cc
+not_read_fault (Some commands.Run) st left rest old new o r e = cc
+not_read_fault (Some commands.Check) st left rest old new o r e = cc
+not_read_fault (Some (commands.Gen n)) st left rest old new o r e =
+    let w = (done_for (Some (commands.Gen n)) (Some (commands.Gen n)) st left rest old new o refl (λ k. cc)).0 in
+    let k : statuses.ReadFault ≡ statuses.Done = (subst (λ x. WroteText x statuses.Done (generated_text n) old new) e w).complete.0 in cc
+
+pub no_memory : (d : Option Command) (st : Status) (left rest old new : Option (List ℕ)) → Obeyed d st left rest old new → st ≡ statuses.NoMemory → (rest ≡ left) × (new ≡ old)
+no_memory d st left rest old new o e = (subst (λ x. Obeyed d x left rest old new) e o).obeys

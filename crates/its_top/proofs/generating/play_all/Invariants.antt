@@ -1,0 +1,20 @@
+use Rattle.std.proofs.Common.{◌≤◌, ◌<◌, ◌+◌, ◌-◌, ◌*◌, length, drop}
+use Rattle.its_word.specs.Limits.{slots}
+use Rattle.its_session.specs.Generated.{generated_session}
+use Rattle.its_world.specs.World.{state_of}
+use Rattle.its_operator.specs.Kept.{Kept}
+use Rattle.its_top.specs.Generating.{generated_tally, PlaySo}
+use Rattle.its_top.proofs.generating.play_all.Given as goal
+
+abbrev pub invariant-loop-event : goal.invariant-loop-event
+invariant-loop-event l = record {
+  sound : Kept l.m.world;
+  slot : l.play.slot < slots;
+  within : l.k ≤ length (generated_session l.n);
+  steps : l.play.tally.steps ≤ 512 * l.k;
+  drained : l.play.tally.drained ≤ 64 * l.k;
+  so_far : PlaySo l.play (l.k + 1) (state_of l.m.world) (drop l.k (generated_session l.n)) (generated_tally l.n);
+}
+
+abbrev pub decreases-loop-event : goal.decreases-loop-event
+decreases-loop-event l = length (generated_session l.n) - l.k

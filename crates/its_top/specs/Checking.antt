@@ -1,0 +1,134 @@
+-- What `its check` finds in a session: it looks at its lines by the grammar alone (docs/SESSION.md, "its check").
+use Rattle.std.specs.Prelude.{if◌then◌else◌, ◌≡◌, ℕ, ◌+◌, ◌-◌, Bool, true, false, Option, Some, None, IfSome, Result, Ok, Err, List, [], ◌∷◌, ◌++◌, codes}
+use Rattle.std.specs.Io.KnownBytes.{Appends, Consumes}
+use Rattle.its_io.specs.declared.stream.Failed.{Failed}
+use Rattle.its_word.specs.Item.{Item, Read, Unread}
+use Rattle.its_word.specs.Item as items
+use Rattle.its_word.specs.declared.session.Place.TheVariants as places
+use Rattle.its_print.specs.Printing.{text_of_line}
+use Rattle.its_print.specs.Printing as printed
+use Rattle.its_session.specs.Events.{lines_from, items_from}
+use Rattle.its_top.specs.declared.checking.Checked.{Checked}
+use Rattle.its_top.specs.declared.checking.Checked.TheVariants.{Ended, Open, Refused, Beyond}
+use Rattle.its_top.specs.declared.checking.Reached.{Reached}
+use Rattle.its_top.specs.declared.status.Status.{Status}
+use Rattle.its_top.specs.declared.status.Status.TheVariants as statuses
+use Rattle.its_top.specs.Counts.{count_line}
+use Rattle.its_top.specs.Telling.{goes_on_after}
+use Rattle.its_top.specs.Conclusion.{WasRun}
+
+-- the items from line number n on
+abbrev pub checked_from : ℕ → List Item → Checked
+checked_from n [] = Open (n - 1)
+checked_from n (Read e ∷ es) = if goes_on_after e then checked_from (n + 1) es else Ended n
+checked_from n (Unread r ∷ es) = Refused n r
+checked_from n (items.Beyond ∷ es) = Beyond
+
+-- the items of a session
+unfoldable pub checked : List Item → Checked
+checked es = checked_from 1 es
+
+-- what is written of it: `OK n` with the number of lines up to END, or `? n reason`
+abbrev pub checked_text : Checked → List ℕ
+checked_text (Ended n) = count_line (codes "OK") n
+checked_text (Open n) = count_line (codes "OK") n
+checked_text (Refused n r) = text_of_line (printed.Refused n r)
+checked_text Beyond = []
+
+-- no line is refused, and none past the most begins before END
+abbrev pub Passes : Checked → Type 0
+Passes (Ended n) = Unit {0}
+Passes (Open n) = Unit {0}
+Passes (Refused n r) = ⊥
+Passes Beyond = ⊥
+
+-- a line is refused
+abbrev pub Fails : Checked → Type 0
+Fails (Refused n r) = Unit {0}
+Fails (Ended n) = ⊥
+Fails (Open n) = ⊥
+Fails Beyond = ⊥
+
+-- no line is refused or is END
+abbrev pub GoesOn : Checked → Type 0
+GoesOn (Open n) = Unit {0}
+GoesOn (Ended n) = ⊥
+GoesOn (Refused n r) = ⊥
+GoesOn Beyond = ⊥
+
+-- the lines from some point on; `whole` tells that the input ends with them
+unfoldable pub lines_check : Bool → Reached → List (List ℕ) → Checked
+lines_check whole at lines = checked_from at.number (items_from whole at.number at.place lines)
+
+-- the bytes from some point on, where some are kept of a line that has begun
+unfoldable pub bytes_check : Bool → Reached → List ℕ → List ℕ → Checked
+bytes_check whole at kept bytes = lines_check whole at (lines_from whole kept bytes)
+
+abbrev pub first_line : Reached
+first_line = record { number = 1; place = places.Plain }
+
+-- what a line came to: nothing yet, or the end of the check
+abbrev pub LineChecked : Option Checked → Reached → List ℕ → Reached → Type 0
+LineChecked None at line next = (whole : Bool) (rest : List (List ℕ)) → lines_check whole at (line ∷ rest) ≡ lines_check whole next rest
+LineChecked (Some c) at line next = (whole : Bool) (rest : List (List ℕ)) → lines_check whole at (line ∷ rest) ≡ c
+
+-- what some bytes came to
+abbrev pub BytesChecked : Option Checked → Reached → List ℕ → List ℕ → Reached → List ℕ → Type 0
+BytesChecked None at kept bytes next left = (whole : Bool) (rest : List ℕ) → bytes_check whole at kept (bytes ++ rest) ≡ bytes_check whole next left rest
+BytesChecked (Some c) at kept bytes next left = (rest : List ℕ) → bytes_check true at kept (bytes ++ rest) ≡ c
+
+-- bytes were read that leave the check here
+pub record CheckedSoFar (kept : List ℕ) (at : Reached) (left rest : Option (List ℕ)) : Type 0 where
+  pub read : List ℕ
+  pub consumed : Consumes left rest read
+  pub so_far : BytesChecked None first_line [] read at kept
+
+-- what was found in the bytes of a source, or in those that were read before it failed
+abbrev pub FoundIn : Result Checked Failed → List ℕ → List ℕ → Type 0
+FoundIn (Ok c) bytes read = bytes_check true first_line [] bytes ≡ c
+FoundIn (Err e) bytes read = GoesOn (bytes_check false first_line [] read)
+
+pub record Found (result : Result Checked Failed) (left rest : Option (List ℕ)) : Type 0 where
+  pub read : List ℕ
+  pub consumed : Consumes left rest read
+  pub found : IfSome left (λ bytes. FoundIn result bytes read)
+
+-- these bytes were to be written, after which the status would have been `good`
+abbrev pub StatusFor : Status → Status → List ℕ → List ℕ → Type 0
+StatusFor statuses.WriteFault good bytes wrote = (more : List ℕ) × (bytes ≡ wrote ++ more)
+StatusFor status good bytes wrote = (status ≡ good) × (bytes ≡ wrote)
+
+pub record WroteText (status good : Status) (bytes : List ℕ) (old new : Option (List ℕ)) : Type 0 where
+  pub wrote : List ℕ
+  pub appended : Appends old new wrote
+  pub complete : StatusFor status good bytes wrote
+
+-- a check that found this, and wrote w, has this status
+abbrev pub CheckedAs : Status → Checked → List ℕ → Type 0
+CheckedAs statuses.Done c w = Passes c × (checked_text c ≡ w)
+CheckedAs statuses.Refused c w = Fails c × (checked_text c ≡ w)
+CheckedAs statuses.TooLong c w = (c ≡ Beyond) × (w ≡ [])
+CheckedAs statuses.WriteFault c w = (more : List ℕ) × (checked_text c ≡ w ++ more)
+CheckedAs statuses.Usage c w = ⊥
+CheckedAs statuses.ReadFault c w = ⊥
+CheckedAs statuses.NoMemory c w = ⊥
+
+pub record Reported (status : Status) (c : Checked) (old new : Option (List ℕ)) : Type 0 where
+  pub ran : WasRun status
+  pub wrote : List ℕ
+  pub appended : Appends old new wrote
+  pub reported : CheckedAs status c wrote
+
+-- a check of these bytes, of which some were read, has this status, and wrote w
+abbrev pub CheckOf : Status → List ℕ → List ℕ → List ℕ → Type 0
+CheckOf statuses.ReadFault bytes read w = GoesOn (bytes_check false first_line [] read) × (w ≡ [])
+CheckOf status bytes read w = CheckedAs status (bytes_check true first_line [] bytes) w
+
+-- how a check ended, from what its source had left and had left then, and from what its sink was given
+pub record Check (status : Status) (left rest old new : Option (List ℕ)) : Type 0 where
+  pub read : List ℕ
+  pub wrote : List ℕ
+  pub consumed : Consumes left rest read
+  pub appended : Appends old new wrote
+  pub ran : WasRun status
+  pub found : IfSome left (λ bytes. CheckOf status bytes read wrote)

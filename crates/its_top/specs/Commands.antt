@@ -1,0 +1,53 @@
+-- The commands of the program, by the words after its name (docs/SESSION.md, "The program").
+use Rattle.std.specs.Prelude.{if◌then◌else◌, ◌^◌, ◌==◌, ◌&&◌, ℕ, Bool, true, false, Option, Some, None, List, [], ◌∷◌, nat_le, bytes_eq, codes}
+use Rattle.its_word.specs.Text.{is_octal, octal_value}
+use Rattle.its_top.specs.declared.commands.Command.{Command}
+use Rattle.its_top.specs.declared.commands.Command.TheVariants.{Run, Check, Gen}
+
+-- `run` and `check` stand alone
+abbrev pub bare_command : List ℕ → Option Command
+bare_command w = if bytes_eq w (codes "run") then Some Run else (if bytes_eq w (codes "check") then Some Check else None)
+
+-- a number of rounds, 1 to 10000
+abbrev pub is_rounds : List ℕ → Bool
+is_rounds n = is_octal n && (nat_le 1 (octal_value n) && nat_le (octal_value n) (2 ^ 12))
+
+-- `gen` has one
+abbrev pub counted_command : List ℕ → List ℕ → Option Command
+counted_command w n = if bytes_eq w (codes "gen") && is_rounds n then Some (Gen (octal_value n)) else None
+
+-- a word, and perhaps one more
+abbrev pub command_by : List ℕ → Option (List ℕ) → Option Command
+command_by w None = bare_command w
+command_by w (Some n) = counted_command w n
+
+-- the command that the words are, if any
+unfoldable pub command_of : List (List ℕ) → Option Command
+command_of (w ∷ []) = command_by w None
+command_of (w ∷ n ∷ []) = command_by w (Some n)
+command_of [] = None
+command_of (w ∷ n ∷ v ∷ ws) = None
+
+-- a word that begins with `-`
+abbrev pub is_option : List ℕ → Bool
+is_option [] = false
+is_option (b ∷ bs) = b == 45
+
+-- what two words that may be there say
+abbrev pub command_from : Option (List ℕ) → Option (List ℕ) → Option Command
+command_from (Some w) n = command_by w n
+command_from None n = None
+
+-- the command reads its source
+abbrev pub reads : Option Command → Bool
+reads (Some Run) = true
+reads (Some Check) = true
+reads (Some (Gen n)) = false
+reads None = false
+
+-- the command is `gen` with a number of rounds, of which this holds
+abbrev pub IfGenerates : Option Command → (ℕ → Type 0) → Type 0
+IfGenerates (Some (Gen n)) p = p n
+IfGenerates (Some Run) p = Unit {0}
+IfGenerates (Some Check) p = Unit {0}
+IfGenerates None p = Unit {0}
