@@ -8,3 +8,4 @@ pub mod UserLaws
 pub mod SparedLaws
 pub mod BesideLaws
 pub mod OneByteLaws
+pub mod LoadLaws

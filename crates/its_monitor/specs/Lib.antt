@@ -1,2 +1,3 @@
 pub mod Ticks
 pub mod Beside
+pub mod Loading

@@ -1,4 +1,4 @@
-ghost use Rattle.std.specs.Prelude.{◌≡◌, ◌<◌, ◌↔◌, ◌^◌, ◌∷◌, [], true, None, Some, is_some, length, option_map, slice_get, Ok, IsTrue, IfSome, IfOk, OnOk, OnErr, IfErr};
+ghost use Rattle.std.specs.Prelude.{◌≡◌, ◌<◌, ◌≤◌, ◌↔◌, ◌^◌, ◌∷◌, [], true, false, None, Some, is_some, length, option_map, slice_get, Ok, IsTrue, IfSome, IfOk, OnOk, OnErr, IfErr};
 ghost use Rattle.its_word.specs.Console.{most_waiting};
 ghost use Rattle.its_word.specs.Limits.{slots};
 ghost use Rattle.its_files.specs.Files.{entry_at, is_file, file_at, names_at, words_at, helped};
@@ -18,6 +18,7 @@ ghost use Rattle.its_world.specs.World.{state_of};
 ghost use Rattle.its_operator.specs.Filing.{length_if, word_if};
 ghost use Rattle.its_operator.specs.Kept.{FileRefused, Kept, Lands, Loads, Refused};
 ghost use Rattle.its_monitor.specs.Beside.{AllBeside};
+ghost use Rattle.its_monitor.specs.Loading.{no_console, LoadRefused};
 
 use super::ticks;
 use its_operator as operator;
@@ -25,7 +26,7 @@ use its_word::{FileShow, JobShow, NoMemory, Pace, Peek, Refusal, Word};
 use its_world::World;
 use std::alloc::Global;
 
-/// The jobs of 64 slots with their cores, calls in progress, the consoles and the clock.
+/// The monitor: one world, with its jobs and cores, calls in progress, consoles, files and drafts, and the clock.
 #[derive(Drop)]
 pub struct Monitor {
     pub world: World,
@@ -57,18 +58,22 @@ impl Monitor {
     }
 
     /// LOAD: makes a stopped job with these names and this console in the least free slot, which it
-    /// answers. It becomes the holder of its console, where that has none. Full where all 64 slots have a
-    /// job.
+    /// answers. It becomes the holder of its console, where that has none. NoConsole where the console is
+    /// above 7; else Full where all 64 slots have a job.
     pub fn load_job(&mut self, u: Word, j: Word, console: Option<u8>) -> Result<u8, Refusal>
-        requires console { IfSome console (λ c. c < 8) }
         requires kept { Kept self.old.world }
         ensures done { IfOk result (λ s. Loads (state_of self.old.world) (state_of self.new.world) (loaded (state_of self.old.world).raw u j console) s) }
+        ensures plain { IfOk result (λ s. loaded (plain (state_of self.old.world)) u j console ≡ Ok (plain (state_of self.new.world), s)) }
         ensures slot { IfOk result (λ s. s < slots) }
-        ensures refused { IfErr result (λ e. Refused (state_of self.old.world) (state_of self.old.world) (λ m. loaded m u j console) e) }
+        ensures there { OnOk result (no_console console ≡ false) }
+        ensures refused { IfErr result (λ e. LoadRefused (state_of self.old.world) u j console e) }
         ensures same { OnErr result (self.new ≡ self.old) }
         ensures kept { Kept self.new.world }
     {
-        operator::load_job(&mut self.world, u, j, console)
+        match console {
+            Some(c) if c > 7 => Err(Refusal::NoConsole),
+            _ => operator::load_job(&mut self.world, u, j, console),
+        }
     }
 
     /// One word of an a/ line: an absent page is made, writable and of zeros. Full where that is needed
@@ -78,6 +83,7 @@ impl Monitor {
         requires address { a < 2 ^ 18 }
         requires kept { Kept self.old.world }
         ensures done { OnOk result (Lands (unwound (state_of self.old.world) slot) (state_of self.new.world) (word_loaded (unwound (state_of self.old.world) slot).raw slot a w)) }
+        ensures plain { OnOk result (word_loaded (plain (state_of self.old.world)) slot a w ≡ Ok (plain (state_of self.new.world))) }
         ensures refused { IfErr result (λ e. Refused (state_of self.old.world) (unwound (state_of self.old.world) slot) (λ m. word_loaded m slot a w) e) }
         ensures same { OnErr result (self.new ≡ self.old) }
         ensures kept { Kept self.new.world }
@@ -91,6 +97,7 @@ impl Monitor {
         requires address { a < 2 ^ 18 }
         requires kept { Kept self.old.world }
         ensures done { OnOk result (Lands (unwound (state_of self.old.world) slot) (state_of self.new.world) (on_registers (unwound (state_of self.old.world) slot).raw slot (started a))) }
+        ensures plain { OnOk result (on_registers (plain (state_of self.old.world)) slot (started a) ≡ Ok (plain (state_of self.new.world))) }
         ensures refused { IfErr result (λ e. Refused (state_of self.old.world) (unwound (state_of self.old.world) slot) (λ m. on_registers m slot (started a)) e) }
         ensures same { OnErr result (self.new ≡ self.old) }
         ensures kept { Kept self.new.world }
@@ -103,6 +110,7 @@ impl Monitor {
         requires slot { slot < slots }
         requires kept { Kept self.old.world }
         ensures done { OnOk result (Lands (unwound (state_of self.old.world) slot) (state_of self.new.world) (on_registers (unwound (state_of self.old.world) slot).raw slot stopped)) }
+        ensures plain { OnOk result (on_registers (plain (state_of self.old.world)) slot stopped ≡ Ok (plain (state_of self.new.world))) }
         ensures refused { IfErr result (λ e. Refused (state_of self.old.world) (unwound (state_of self.old.world) slot) (λ m. on_registers m slot stopped) e) }
         ensures same { OnErr result (self.new ≡ self.old) }
         ensures kept { Kept self.new.world }
@@ -115,6 +123,7 @@ impl Monitor {
         requires slot { slot < slots }
         requires kept { Kept self.old.world }
         ensures done { OnOk result (Lands (unwound (state_of self.old.world) slot) (state_of self.new.world) (on_registers (unwound (state_of self.old.world) slot).raw slot continued)) }
+        ensures plain { OnOk result (on_registers (plain (state_of self.old.world)) slot continued ≡ Ok (plain (state_of self.new.world))) }
         ensures refused { IfErr result (λ e. Refused (state_of self.old.world) (unwound (state_of self.old.world) slot) (λ m. on_registers m slot continued) e) }
         ensures same { OnErr result (self.new ≡ self.old) }
         ensures kept { Kept self.new.world }
@@ -127,6 +136,7 @@ impl Monitor {
         requires slot { slot < slots }
         requires kept { Kept self.old.world }
         ensures done { OnOk result (Lands (unwound (state_of self.old.world) slot) (state_of self.new.world) (on_registers (unwound (state_of self.old.world) slot).raw slot (interrupted v w))) }
+        ensures plain { OnOk result (on_registers (plain (state_of self.old.world)) slot (interrupted v w) ≡ Ok (plain (state_of self.new.world))) }
         ensures refused { IfErr result (λ e. Refused (state_of self.old.world) (unwound (state_of self.old.world) slot) (λ m. on_registers m slot (interrupted v w)) e) }
         ensures same { OnErr result (self.new ≡ self.old) }
         ensures kept { Kept self.new.world }
@@ -140,6 +150,7 @@ impl Monitor {
         requires address { a < 2 ^ 18 }
         requires kept { Kept self.old.world }
         ensures done { OnOk result (Lands (unwound (state_of self.old.world) slot) (state_of self.new.world) (deposited (unwound (state_of self.old.world) slot).raw slot a w)) }
+        ensures plain { OnOk result (deposited (plain (state_of self.old.world)) slot a w ≡ Ok (plain (state_of self.new.world))) }
         ensures refused { IfErr result (λ e. Refused (state_of self.old.world) (unwound (state_of self.old.world) slot) (λ m. deposited m slot a w) e) }
         ensures same { OnErr result (self.new ≡ self.old) }
         ensures kept { Kept self.new.world }
@@ -153,6 +164,7 @@ impl Monitor {
         requires address { a < 2 ^ 18 }
         requires kept { Kept self.old.world }
         ensures word { IfOk result (λ x. word_seen (unwound (state_of self.old.world) slot).raw slot a ≡ Ok x) }
+        ensures plain { IfOk result (λ x. word_seen (plain (state_of self.old.world)) slot a ≡ Ok x) }
         ensures unwinds { OnOk result (state_of self.new.world ≡ unwound (state_of self.old.world) slot) }
         ensures refused { IfErr result (λ e. Refused (state_of self.old.world) (unwound (state_of self.old.world) slot) (λ m. word_seen m slot a) e) }
         ensures same { OnErr result (self.new ≡ self.old) }
@@ -166,6 +178,7 @@ impl Monitor {
         requires slot { slot < slots }
         requires kept { Kept self.old.world }
         ensures shown { IfOk result (λ x. state_shown (unwound (state_of self.old.world) slot).raw slot ≡ Ok x) }
+        ensures plain { IfOk result (λ x. state_shown (plain (state_of self.old.world)) slot ≡ Ok x) }
         ensures unwinds { OnOk result (state_of self.new.world ≡ unwound (state_of self.old.world) slot) }
         ensures refused { IfErr result (λ e. Refused (state_of self.old.world) (unwound (state_of self.old.world) slot) (λ m. state_shown m slot) e) }
         ensures same { OnErr result (self.new ≡ self.old) }
@@ -175,28 +188,39 @@ impl Monitor {
     }
 
     /// One byte of a TYPE line, typed at a console. False where 64 typed bytes wait; the byte is then
-    /// dropped.
-    pub fn type_in(&mut self, console: u8, b: u8) -> bool
-        requires console { console < 8 }
+    /// dropped. NoConsole where the console is above 7.
+    pub fn type_in(&mut self, console: u8, b: u8) -> Result<bool, Refusal>
         requires kept { Kept self.old.world }
-        ensures waits { IsTrue result ↔ (length ((state_of self.old.world).raw.consoles console).input < most_waiting) }
-        ensures done { Lands (state_of self.old.world) (state_of self.new.world) (Ok (typed console (b ∷ []) (state_of self.old.world).raw)) }
-        ensures plain { plain (state_of self.new.world) ≡ typed console (b ∷ []) (plain (state_of self.old.world)) }
+        ensures there { OnOk result (console < 8) }
+        ensures waits { IfOk result (λ room. IsTrue room ↔ (length ((state_of self.old.world).raw.consoles console).input < most_waiting)) }
+        ensures done { OnOk result (Lands (state_of self.old.world) (state_of self.new.world) (Ok (typed console (b ∷ []) (state_of self.old.world).raw))) }
+        ensures plain { OnOk result (plain (state_of self.new.world) ≡ typed console (b ∷ []) (plain (state_of self.old.world))) }
+        ensures refused { IfErr result (λ e. (e ≡ Refusal.NoConsole) × (8 ≤ console)) }
+        ensures same { OnErr result (self.new ≡ self.old) }
         ensures kept { Kept self.new.world }
     {
-        operator::type_in(&mut self.world, console, b)
+        if console > 7 {
+            return Err(Refusal::NoConsole);
+        }
+        Ok(operator::type_in(&mut self.world, console, b))
     }
 
     /// One byte of a DRAIN line: the byte of a console that was put out first; None where none waits.
-    pub fn drain(&mut self, console: u8) -> Option<u8>
-        requires console { console < 8 }
+    /// NoConsole where the console is above 7.
+    pub fn drain(&mut self, console: u8) -> Result<Option<u8>, Refusal>
         requires kept { Kept self.old.world }
-        ensures first { result ≡ slice_get ((state_of self.old.world).raw.consoles console).output 0 }
-        ensures done { Lands (state_of self.old.world) (state_of self.new.world) (Ok (drained console 1 (state_of self.old.world).raw)) }
-        ensures plain { plain (state_of self.new.world) ≡ drained console 1 (plain (state_of self.old.world)) }
+        ensures there { OnOk result (console < 8) }
+        ensures first { IfOk result (λ b. b ≡ slice_get ((state_of self.old.world).raw.consoles console).output 0) }
+        ensures done { OnOk result (Lands (state_of self.old.world) (state_of self.new.world) (Ok (drained console 1 (state_of self.old.world).raw))) }
+        ensures plain { OnOk result (plain (state_of self.new.world) ≡ drained console 1 (plain (state_of self.old.world))) }
+        ensures refused { IfErr result (λ e. (e ≡ Refusal.NoConsole) × (8 ≤ console)) }
+        ensures same { OnErr result (self.new ≡ self.old) }
         ensures kept { Kept self.new.world }
     {
-        operator::drain(&mut self.world, console)
+        if console > 7 {
+            return Err(Refusal::NoConsole);
+        }
+        Ok(operator::drain(&mut self.world, console))
     }
 
     /// PEEK: how far a slot's job is inside a call. Nothing changes.
@@ -266,6 +290,7 @@ impl Monitor {
         ensures done { OnOk result (Lands (help (state_of self.old.world)) (state_of self.new.world) (file_made (help (state_of self.old.world)).raw (names_of d x y))) }
         ensures plain { OnOk result (file_made (plain (state_of self.old.world)) (names_of d x y) ≡ Ok (plain (state_of self.new.world))) }
         ensures file { IfOk result (λ id. is_file (entry_at self.new.world.files id) ≡ true) }
+        ensures names { IfOk result (λ id. names_at self.new.world.files id ≡ names_of d x y) }
         ensures refused { IfErr result (λ e. FileRefused (state_of self.old.world) (λ m. file_made m (names_of d x y)) e) }
         ensures state { OnErr result (state_of self.new.world ≡ help (state_of self.old.world)) }
         ensures files { OnErr result (self.new.world.files ≡ helped self.old.world.files) }
@@ -281,6 +306,7 @@ impl Monitor {
         ensures done { OnOk result (Lands (help (state_of self.old.world)) (state_of self.new.world) (word_added (help (state_of self.old.world)).raw (names_at (helped self.old.world.files) id) w)) }
         ensures plain { OnOk result (word_added (plain (state_of self.old.world)) (names_at (helped self.old.world.files) id) w ≡ Ok (plain (state_of self.new.world))) }
         ensures file { is_file (entry_at self.new.world.files id) ≡ true }
+        ensures names { names_at self.new.world.files id ≡ names_at (helped self.old.world.files) id }
         ensures refused { IfErr result (λ e. FileRefused (state_of self.old.world) (λ m. word_added m (names_at (helped self.old.world.files) id) w) e) }
         ensures state { OnErr result (state_of self.new.world ≡ help (state_of self.old.world)) }
         ensures files { OnErr result (self.new.world.files ≡ helped self.old.world.files) }
@@ -293,6 +319,7 @@ impl Monitor {
     pub fn advance(&mut self, n: u64) -> Result<(), Refusal>
         requires kept { Kept self.old.world }
         ensures done { OnOk result (Lands (state_of self.old.world) (state_of self.new.world) (clocked (state_of self.old.world).raw n)) }
+        ensures plain { OnOk result (clocked (plain (state_of self.old.world)) n ≡ Ok (plain (state_of self.new.world))) }
         ensures refused { IfErr result (λ e. Refused (state_of self.old.world) (state_of self.old.world) (λ m. clocked m n) e) }
         ensures same { OnErr result (self.new ≡ self.old) }
         ensures kept { Kept self.new.world }

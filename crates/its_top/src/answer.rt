@@ -11,6 +11,7 @@ ghost use Rattle.its_operator.specs.Kept.{Kept, Lands, reason_of};
 ghost use Rattle.its_print.specs.Printing.{Refused, text_of_line};
 ghost use Rattle.its_top.specs.Answer.{Answered, Tells, block_of};
 
+use super::consoles::{drain, load_job, type_in};
 use super::filing::{add_words, list_files, make_file, show_words};
 use super::progress::Progress;
 use super::turn::Turn;
@@ -43,7 +44,7 @@ fn load<K: Sink>(
     ensures unfailed { result ≢ Turn.Fault → K.faults out.new ≡ K.faults out.old }
     ensures fault { result ≡ Turn.Fault → K.faults out.new ≡ next_fault (K.faults out.old) }
 {
-    match m.load_job(u, j, console) {
+    match load_job(m, u, j, console) {
         Ok(s) => {
             p.slot = s;
             let mut line = ArrayVec::new();
@@ -213,7 +214,7 @@ pub fn type_bytes(m: &mut Monitor, c: u8, bytes: &[u8]) -> u32
 {
     let mut count = 0;
     for b in bytes {
-        if !m.type_in(c, *b) {
+        if !type_in(m, c, *b) {
             count += 1;
         }
     }
@@ -251,7 +252,7 @@ pub fn drain_bytes(m: &mut Monitor, c: u8, n: u32) -> ArrayVec<u8, 64>
 {
     let mut bytes = ArrayVec::new();
     for _k in 0..n {
-        match m.drain(c) {
+        match drain(m, c) {
             Some(b) => bytes.push(b),
             None => {}
         }

@@ -13,6 +13,7 @@ ghost use Rattle.its_top.specs.Checking.{WroteText};
 ghost use Rattle.its_top.specs.Generating.{block_at, mark_of, marked, nothing, plus, uncounted, counts_text, tally_text, generated_tally, generated_text, Counted, PlayedOn};
 
 use super::answer::{drain_bytes, load_words, paces_of, type_bytes, words_of};
+use super::consoles::load_job;
 use super::counts::count_line;
 use super::status::Status;
 use its_io::{Failed, Sink, write_all};
@@ -231,7 +232,7 @@ fn play_load(m: &mut Monitor, slot: &mut u8, u: Word, j: Word, console: Option<u
     ensures slot { slot.new < slots }
     ensures few { IfSome result (λ t. (t.steps ≤ 512) × (t.drained ≤ 64)) }
 {
-    match m.load_job(u, j, console) {
+    match load_job(m, u, j, console) {
         Ok(s) => {
             *slot = s;
             Some(NOTHING)

@@ -1,10 +1,11 @@
-//! The program's loop over a session, and its top call.
+//! The commands of the program: the loop over a session, the check of its lines and the generated session; and the top call.
 #![tactic(auto)]
 
 mod answer;
 mod bytes;
 mod checking;
 mod commands;
+mod consoles;
 mod counts;
 mod filing;
 mod generating;

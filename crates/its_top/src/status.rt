@@ -1,7 +1,8 @@
 /// How a run of the program ended; `as u8` is its exit status.
 #[derive(Clone, Copy, Debug, PartialEq, Eq)]
 pub enum Status {
-    /// The session was read to END or to the end of the input, and all its lines were written.
+    /// The command was done: the session was read to END or to the end of the input, or it was a generated one; all lines
+    /// were written.
     Done,
     /// The words are no command; the usage line was written.
     Usage,
