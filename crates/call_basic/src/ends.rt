@@ -7,10 +7,7 @@ ghost use Rattle.its_plain.specs.Tests.{number_at, out};
 
 use arrayvec::ArrayVec;
 use its_frame::{Change, Decision, Exit, Store};
-use its_word::{Ask, BYTE_HALF, Fault, ILO, IOC, Job, MPV, WRO, Word};
-
-/// How many addresses there are; PC is taken modulo it.
-const ADDRESSES: u32 = 0o1000000;
+use its_word::{ADDRESSES, Ask, BYTE_HALF, Fault, IOC, Job, Word};
 
 /// The registers of a job as they stand.
 pub(crate) fn exit_of(job: &Job) -> Exit
@@ -105,23 +102,12 @@ pub fn fails(job: &Job, ask: &Ask, number: u8) -> Decision
     ends(stores, exit_after(job, 1))
 }
 
-/// The bit of a fault.
-fn bit_of(fault: Fault) -> Word
-    ensures { result ≡ bit_of fault }
-{
-    match fault {
-        Fault::Mpv => Word::new(MPV),
-        Fault::Wro => Word::new(WRO),
-        Fault::Ilo => Word::new(ILO),
-    }
-}
-
 /// The call faults: the bit is pending, and PC stays.
 pub fn faults(job: &Job, fault: Fault) -> Decision
     ensures { result ≡ Ends (record { items = [] }) (record { items = [] }) (exit_of (with_pending job.now (bit_of fault))) }
 {
     let exit = Exit {
-        pend1: job.pend1 | bit_of(fault),
+        pend1: job.pend1 | fault.bit(),
         ..exit_of(job)
     };
     ends(ArrayVec::new(), exit)

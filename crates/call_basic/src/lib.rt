@@ -1,6 +1,6 @@
 //! What the calls HANG, SLEEP, DISMIS, USRVAR and LOGOUT come to, and calls whose decoding gave an error or
-//! that are not built (docs/CALLS.md); and the ways in which any call ends. A decision is found from the world as
-//! it stands, and changes nothing.
+//! that have no name (docs/CALLS.md); and the ways in which any call ends. A decision is found from the world as
+//! it stands, and changes nothing. Beside it the table of names, and into which job a call reaches.
 #![tactic(auto)]
 
 mod arguments;

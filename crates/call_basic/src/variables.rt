@@ -7,7 +7,7 @@ ghost use Rattle.call_basic.specs.Seen.{raw_with};
 
 use super::ends::exit_after;
 use its_frame::{Exit, Variable};
-use its_word::{Job, NAMED_FLAGS, USER, Word};
+use its_word::{Job, Word, flags_in, pc_word};
 use its_world::World;
 
 /// A word of ones, which stands for no number.
@@ -36,7 +36,7 @@ pub(crate) fn variable_of(w: &World, slot: u8, job: &Job, variable: Variable) ->
         Variable::Suppro => number_or_ones(w.jobs.superior(slot)),
         Variable::Cnsl => number_or_ones(job.console),
         Variable::Pages => Word::new(u64::from(w.core.pages(slot))),
-        Variable::Upc => Word::pair(job.flags & NAMED_FLAGS | USER, job.pc),
+        Variable::Upc => pc_word(job.flags, job.pc),
         Variable::Ustp => Word::new(u64::from(job.stopped)),
         Variable::Pirqc => job.pend1,
         Variable::Ifpir => job.pend2,
@@ -83,7 +83,7 @@ pub(crate) fn exit_with(job: &Job, variable: Variable, value: Word) -> Exit
     match variable {
         Variable::Upc => Exit {
             pc: value.right(),
-            flags: value.left() & NAMED_FLAGS,
+            flags: flags_in(value),
             ..exit
         },
         Variable::Pirqc => Exit {

@@ -19,9 +19,10 @@ use its_frame::{Change, Decision};
 use its_word::{Ask, Channel, Job};
 use its_world::World;
 
-/// The highest operation and the highest page.
+/// The highest operation.
 const OPERATIONS: u64 = 3;
 
+/// The highest page.
 const PAGES: u64 = 0o377;
 
 /// How many pages all jobs have at most.

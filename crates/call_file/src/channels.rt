@@ -16,11 +16,11 @@ use arrayvec::ArrayVec;
 use call_basic::{channel, fails, finishes, finishes_with, input, store_at};
 use call_tty::{control, is_free};
 use its_frame::{Change, Decision, Opened};
-use its_word::{Ask, Channel, Job, Word};
+use its_word::{ADDRESSES, Ask, Channel, Job, Word};
 use its_world::World;
 
 /// Where a channel on an inferior is at its end, behind word 777777 (octal).
-const END_OF_CORE: u32 = 0o1000000;
+const END_OF_CORE: u32 = ADDRESSES;
 
 /// How many files there are at most.
 const FILES: u32 = 256;

@@ -128,7 +128,7 @@ fn siot_read(w: &World, slot: u8, job: &Job, ask: &Ask, at: u32, word: Word) -> 
 }
 
 /// SIOT to a draft. Error 10 where there is no room.
-#[tactic(auto, using(call_tty::proofs::SizeLaws::next_sized), unfolding(its_plain::specs::View::view, its_world::specs::World::state_of))]
+#[tactic(auto, using(its_plain::proofs::SizeLaws::next_sized), unfolding(its_plain::specs::View::view, its_world::specs::World::state_of))]
 pub(crate) fn siot_writes(w: &World, slot: u8, job: &Job, ask: &Ask, draft: u32) -> Decision
     requires slot { slot < slots }
     requires number { input ask.now 0 < 16 }

@@ -1,3 +1,2 @@
 pub mod HoldLaws
-pub mod SizeLaws
 pub mod ChannelLaws

@@ -25,11 +25,13 @@ use its_world::World;
 /// Bits 13 to 17 of a word are the low five bits of its left half: I and X of a byte pointer.
 const INDEXED: u32 = 0o40;
 
-/// S of a byte pointer, bits 6 to 11, is in its left half from this bit on; it has 6 bits; and that of a word.
+/// S of a byte pointer, bits 6 to 11, is in its left half from this bit on.
 const SIZE: u32 = 0o100;
 
+/// How many values S has.
 const SIZES: u32 = 0o100;
 
+/// S of a pointer to whole words.
 const WORD_BITS: u32 = 36;
 
 /// The bits of a byte that a console shows.
@@ -126,7 +128,7 @@ pub fn bar_of_store(w: &World, slot: u8, at: u32) -> Option<Fault>
 
 /// SIOT channel, pointer, count: one byte between the console and the core; pointer and count become those of
 /// the rest.
-#[tactic(auto, using(crate::proofs::SizeLaws::next_sized, call_basic::proofs::ChannelLaws::under), unfolding(its_plain::specs::CallTty::siot, its_plain::specs::View::view, its_world::specs::World::state_of))]
+#[tactic(auto, using(its_plain::proofs::SizeLaws::next_sized, call_basic::proofs::ChannelLaws::under), unfolding(its_plain::specs::CallTty::siot, its_plain::specs::View::view, its_world::specs::World::state_of))]
 pub(crate) fn siot(w: &World, slot: u8, job: &Job, ask: &Ask) -> Decision
     requires { slot < slots }
     ensures { result ≡ siot (seen_by w.now slot job.now ask.now) ask.now }
@@ -147,8 +149,8 @@ pub(crate) fn siot(w: &World, slot: u8, job: &Job, ask: &Ask) -> Decision
     }
 }
 
-/// The first of SIOT's tests that holds: errors 17, WRO, 21, 22, the end with count 0 or at the end of a file, and error
-/// 20. `words` tells that its device moves whole words alone.
+/// The first of SIOT's tests that holds: errors 17, WRO, 21, 22, the end with count 0 or where `ended` says that the channel
+/// is at its end (of a file or of an inferior's core), and error 20. `words` tells that its device moves whole words alone.
 #[tactic(auto, unfolding(its_plain::specs::View::view, its_world::specs::World::state_of))]
 pub fn stopped(
     w: &World,

@@ -14,14 +14,11 @@ use call_basic::{exit_after, fails, faults, input, ioc, store_at};
 use call_tty::{bar_of_store, iot_ends, moves, moves_with, next_pointer, stopped};
 use its_bytes::load;
 use its_frame::{Change, Decision, Held};
-use its_word::{Ask, Fault, Job, Word};
+use its_word::{ADDRESSES, Ask, Fault, Job, Word};
 use its_world::World;
 
 /// What `.IOT` gets at the end of an inferior's core.
 const END_OF_CORE: u64 = 0o777777000003;
-
-/// How many addresses there are; a channel at this position is at its end.
-const ADDRESSES: u32 = 0o1000000;
 
 /// Whether a channel on an inferior is at its end.
 fn at_end(at: u32) -> bool
@@ -177,7 +174,7 @@ fn siot_peeks(w: &World, slot: u8, job: &Job, ask: &Ask, at: u32, word: Option<W
 }
 
 /// SIOT into an inferior: the word is stored at the channel's position. Error 16 where it cannot be.
-#[tactic(auto, using(call_tty::proofs::SizeLaws::next_sized), unfolding(its_plain::specs::View::view, its_world::specs::World::state_of))]
+#[tactic(auto, using(its_plain::proofs::SizeLaws::next_sized), unfolding(its_plain::specs::View::view, its_world::specs::World::state_of))]
 fn siot_into(w: &World, slot: u8, job: &Job, ask: &Ask, inferior: u8, at: u32) -> Decision
     requires slot { slot < slots }
     requires targets { Targets w.now slot job.now ask.now inferior }

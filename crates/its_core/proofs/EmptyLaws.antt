@@ -1,11 +1,11 @@
 -- The pool with no page in use, and a slot that has lost all.
-use Rattle.std.specs.Prelude.{◌≡◌, ◌≢◌, ◌<◌, ◌≤◌, ℕ, zero, suc, ◌+◌, ◌-◌, ◌*◌, Bool, false, cond, Option, Some, None, List, [], ◌∷◌, ◌++◌, length, map, take, drop, replicate, slice_set, slice_index_or, is_some, count_by, refl}
+use Rattle.std.specs.Prelude.{◌≡◌, ◌≢◌, ◌<◌, ◌≤◌, ℕ, zero, suc, ◌+◌, ◌-◌, ◌*◌, Bool, false, cond, Option, None, List, [], ◌∷◌, ◌++◌, length, map, take, drop, replicate, slice_set, slice_index_or, is_some, count_by, refl}
 use Rattle.std.specs.List.{range_with_len}
 use Rattle.std.proofs.Common.{sym, ◌∙◌, ap, inl, inr, arith, subst, length-set}
 use Rattle.std.proofs.lemmas.Bool.{cases_lt, cases_eq, cases_order}
 use Rattle.std.proofs.lemmas.List.{ext_get_or, get_or-set_same, get_or-set_other, set-set, set-get_or, get_or_past, get_or-take, get_or-drop, length-take, length-drop, length-replicate, length-map, length-append, map-id, append-nil, take-append-drop, take_more, take_all, get_or_read}
 use Rattle.std.proofs.lemmas.List.Folds.{sum_by-replicate}
-use Rattle.std.proofs.lemmas.List.Sums.{sum_by-cons, sum_by-append}
+use Rattle.std.proofs.lemmas.List.Sums.{sum_by-append}
 use Rattle.std.proofs.lemmas.List.FromFn.{length-range_with_len, map-range_with_len_more}
 use Rattle.its_links.specs.Lists.{Linked, list_at, hit, count, times, no_lists}
 use Rattle.its_links.proofs.CountLaws.{hit_same, hit_other, times-set, length-no_lists, list_at-no_lists, times-no_lists}
@@ -17,10 +17,13 @@ use Rattle.its_core.specs.declared.cores.Mapped.{Mapped}
 use Rattle.its_core.specs.declared.cores.Held.{Held}
 use Rattle.its_core.specs.Cores.{core_at, zeroed, IsEmpty}
 use Rattle.its_core.specs.Frames.{Listed, NoFrames, all_frames, standing, row, emptied, numbers, frames_drop_all}
-use Rattle.its_core.specs.Pool.{filled, table, frame_of, held_frame, page_in, reserved_in, core_in, cores_in, frames_now, IsPool}
-use Rattle.its_core.proofs.ListLaws.{length-table, get_or-table, table_alike, length-filled, get_or-filled, length-zeroed, get_or-zeroed, get_or-zeroed_below, get_or-zeroed_past}
+use Rattle.its_core.specs.Pool.{frame_of, held_frame, page_in, reserved_in, core_in, cores_in, frames_now, IsPool}
+use Rattle.its_core.proofs.ListLaws.{length-zeroed, get_or-zeroed, get_or-zeroed_below, get_or-zeroed_past}
 use Rattle.its_core.proofs.FrameLaws.{standing_none, count_none, length-row, get_or-row, length-emptied, get_or-emptied, get_or-emptied_below, get_or-emptied_past, row-emptied_here, row-emptied_other, map-emptied, drop_all_listed}
 use Rattle.its_core.proofs.ReadLaws.{core_at_is, core_at_past, reserved_at_is, get_or-map_none}
+use Rattle.its_word.specs.Table.{filled, table}
+use Rattle.its_word.proofs.TableLaws.{length-table, get_or-table, table_alike, length-filled, get_or-filled}
+use Rattle.its_core.proofs.SlotLaws.{count_pages}
 
 part_copies : {X : Type 0} (n i : ℕ) (xs : List X) (x : X) → i + n ≤ length xs → ((k : ℕ) → k < n → slice_index_or xs (i + k) x ≡ x) → take n (drop i xs) ≡ replicate n x
 part_copies n i xs x long each =
@@ -237,20 +240,6 @@ emptied_others accs places words s t h ne =
       ]
     ])))
 
--- the pages of a slot are those of its row
-count-pages : (words : List ℕ) (os : List (Option Mapped)) → count_by is_some (map (page_in words) os) ≡ count_by is_some os
-count-pages words [] = refl
-count-pages words (o ∷ os) =
-    let r = count-pages words os in
-    let a = sum_by-cons (λ p. cond (is_some p) 1 0) (page_in words o) (map (page_in words) os) in
-    let b = sum_by-cons (λ p. cond (is_some p) 1 0) o os in
-    let e : cond {A = ℕ} (is_some (page_in words o)) 1 0 ≡ cond {A = ℕ} (is_some o) 1 0 = ap (λ t. cond {A = ℕ} t 1 0) (same o) in
-    omega arith
-  where
-    same : (o : Option Mapped) → is_some (page_in words o) ≡ is_some o
-    same None = refl
-    same (Some m) = refl
-
 pages_row : (accs : List ℕ) (places : List (Option Mapped)) (words : List ℕ) (s : ℕ) → 256 * s + 256 ≤ length places → pages_present (core_in accs places words s) ≡ count_by is_some (row places s)
 unfolding core_in pages_present
 pages_row accs places words s h =
@@ -262,7 +251,7 @@ pages_row accs places words s h =
     get_or-table 256 f k None (omega arith)
     ∙ ap (page_in words) (sym (get_or-row places s k (omega arith)))
     ∙ sym (get_or-map_none (page_in words) refl (row places s) k)))
-    ∙ count-pages words (row places s)
+    ∙ count_pages words (row places s)
 
 module _ (accs : List ℕ) (places : List (Option Mapped)) (held : List (Option Held)) (words : List ℕ) (links : Linked) (mapped : ℕ) (pool : IsPool accs places held words links mapped) where
   pub dropped_only : (minks : Linked) (s : ℕ) → s < slots

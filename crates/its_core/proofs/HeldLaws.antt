@@ -13,9 +13,10 @@ use Rattle.its_links.specs.Lists.{Linked, list_at, first, rest}
 use Rattle.its_core.specs.Frames.{Listed, all_frames, as_list, free, frames_reserve, frames_give_back}
 use Rattle.its_core.specs.Cores.{Cores, Reserved, core_at, reserved_at, clear_at, clear_with, cleared, zeroed}
 use Rattle.its_core.specs.Pool.{frame_of, held_frame, frame_words, page_in, reserved_in, core_in, cores_in, frames_now, IsPool, IsClear}
-use Rattle.its_core.proofs.ListLaws.{table_alike, frame_words_zeroed, frame_words_zeroed_other, zero_stays, get_or-zeroed, length-zeroed}
+use Rattle.its_core.proofs.ListLaws.{frame_words_zeroed, frame_words_zeroed_other, zero_stays, get_or-zeroed, length-zeroed}
 use Rattle.its_core.proofs.FrameLaws.{count_missing, count_set, reserve_listed, give_back_listed}
 use Rattle.its_core.proofs.ReadLaws.{apart, reserved_frame_is, reserved_frame_none, reserved_at_is, held_frame_at, held_below, place_frame, place_below, frame_below}
+use Rattle.its_word.proofs.TableLaws.{table_alike}
 
 -- the number of quarters that are clear follows the reserved pages
 pub clear_only : (old new : Cores) (s : ℕ) (o : Option Reserved) → Only (reserved_at old) (reserved_at new) s o → Only (clear_at old) (clear_at new) s (option_map (λ r. r.clear) o)

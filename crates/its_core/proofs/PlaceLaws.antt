@@ -15,11 +15,12 @@ use Rattle.its_links.proofs.CountLaws.{without_one, length-without, count-le-tim
 use Rattle.its_core.specs.Frames.{Listed, as_list, without_frame, row, frames_map, frames_unmap}
 use Rattle.its_core.specs.Cores.{Reserved, core_at, reserved_at, clear_at}
 use Rattle.its_core.specs.Pool.{frame_of, held_frame, page_in, core_in, cores_in, frames_now, IsPool}
-use Rattle.its_core.proofs.ListLaws.{length-table, table_alike, table_set, frame_words_zero}
+use Rattle.its_core.proofs.ListLaws.{frame_words_zero}
 use Rattle.its_core.proofs.FrameLaws.{count_set, length-row, get_or-row, row-set, row-other, page_in_list, page_stands, reserved_stands, unmap_listed, map_listed}
 use Rattle.its_core.proofs.ReadLaws.{page_frame_is, page_frame_none, reserved_frame_is, listed_seen, core_at_is, page_at, page_of_is, held_below}
 use Rattle.its_core.proofs.StoreLaws.{only_in}
 use Rattle.its_core.proofs.HeldLaws.{held_some}
+use Rattle.its_word.proofs.TableLaws.{length-table, table_alike, table_set}
 
 place_pages : (accs : List ℕ) (places : List (Option Mapped)) (words : List ℕ) (s k : ℕ) (o : Option Mapped) → k < 256 → 256 * s + k < length places
     → (core_in accs (slice_set places (256 * s + k) o) words s).pages ≡ slice_set (core_in accs places words s).pages k (page_in words o)

@@ -15,7 +15,8 @@ use Rattle.its_core.specs.Cores.{core_at, reserved_at}
 use Rattle.its_core.specs.Frames.{Listed, page_frame, reserved_frame}
 use Rattle.its_core.proofs.FrameLaws.{one_slot, one_page, not_both, one_reserved, page_below, reserved_below}
 use Rattle.its_core.specs.Pool.{frames_now, frame_of, held_frame, frame_words, page_in, reserved_in, core_in, cores_in, frames_in, IsPool}
-use Rattle.its_core.proofs.ListLaws.{get-table, get_or-table, get_or-table_past, length-frame_words, get_or-frame_words}
+use Rattle.its_core.proofs.ListLaws.{length-frame_words, get_or-frame_words}
+use Rattle.its_word.proofs.TableLaws.{get_or-table, get-table, get_or-table_past}
 
 -- the core and the reserved page of a slot
 pub core_at_is : (accs : List ℕ) (places : List (Option Mapped)) (held : List (Option Held)) (words : List ℕ) (links : Linked) (s : ℕ) → s < slots → core_at (cores_in accs places held words links) s ≡ core_in accs places words s

@@ -12,9 +12,10 @@ use Rattle.its_core.specs.declared.cores.Mapped.{Mapped}
 use Rattle.its_core.specs.declared.cores.Held.{Held}
 use Rattle.its_core.specs.Cores.{core_at}
 use Rattle.its_links.specs.Lists.{Linked}
-use Rattle.its_core.specs.Pool.{page_in, core_in, cores_in, table, IsPool}
-use Rattle.its_core.proofs.ListLaws.{length-table, get_or-table}
+use Rattle.its_core.specs.Pool.{page_in, core_in, cores_in, IsPool}
 use Rattle.its_core.proofs.ReadLaws.{core_at_is}
+use Rattle.its_word.specs.Table.{table}
+use Rattle.its_word.proofs.TableLaws.{length-table, get_or-table}
 
 page_past : (accs : List ℕ) (places : List (Option Mapped)) (words : List ℕ) (s k : ℕ) → 256 ≤ k → page_of (core_in accs places words s) k ≡ None
 unfolding page_of core_in
@@ -43,7 +44,7 @@ is_some-page_in : (words : List ℕ) (o : Option Mapped) → is_some (page_in wo
 is_some-page_in words (Some m) = refl
 is_some-page_in words None = refl
 
-count_pages : (words : List ℕ) (xs : List (Option Mapped)) → count_by is_some (map (page_in words) xs) ≡ count_by is_some xs
+pub count_pages : (words : List ℕ) (xs : List (Option Mapped)) → count_by is_some (map (page_in words) xs) ≡ count_by is_some xs
 count_pages words [] = refl
 count_pages words (x ∷ xs) =
     sum_by-cons (λ o. cond (is_some o) 1 0) (page_in words x) (map (page_in words) xs)

@@ -13,9 +13,11 @@ use Rattle.its_core.specs.declared.cores.Mapped.{Mapped}
 use Rattle.its_core.specs.declared.cores.Held.{Held}
 use Rattle.its_links.specs.Lists.{Linked}
 use Rattle.its_core.specs.Cores.{Cores, core_at}
-use Rattle.its_core.specs.Pool.{page_in, reserved_in, core_in, cores_in, table, IsPool, IsClear}
-use Rattle.its_core.proofs.ListLaws.{table_alike, table_set, frame_words_set, frame_words_other, accs_set, accs_other, map_alike}
+use Rattle.its_core.specs.Pool.{page_in, reserved_in, core_in, cores_in, IsPool, IsClear}
+use Rattle.its_core.proofs.ListLaws.{frame_words_set, frame_words_other, accs_set, accs_other, map_alike}
 use Rattle.its_core.proofs.ReadLaws.{apart, core_at_is, core_at_past, page_of_is, place_frame, held_frame_at, place_below, can_store_page, word_at_page}
+use Rattle.its_word.specs.Table.{table}
+use Rattle.its_word.proofs.TableLaws.{table_alike, table_set}
 
 -- cores of two pools that are alike but for one slot
 pub only_in : (accs brrs : List ℕ) (places qlaces : List (Option Mapped)) (held gelt : List (Option Held)) (words vords : List ℕ) (links minks : Linked) (s : ℕ) (x : Core) → s < slots

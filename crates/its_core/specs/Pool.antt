@@ -1,7 +1,6 @@
 -- How the cores of all slots are kept: a pool of page frames of 1024 words, a map from each page of each slot to its
 -- frame, the frames of reserved pages, and the lists in which the frames stand.
-use Rattle.std.specs.Prelude.{◌≡◌, ◌<◌, ◌≤◌, ℕ, ◌+◌, ◌*◌, Option, Some, None, List, ◌++◌, length, map, take, drop, replicate, slice_index_or, option_map, is_some, count_by}
-use Rattle.std.specs.List.{range_with_len}
+use Rattle.std.specs.Prelude.{◌≡◌, ◌<◌, ◌≤◌, ℕ, ◌+◌, ◌*◌, Option, Some, None, List, ◌++◌, length, map, take, drop, slice_index_or, option_map, is_some, count_by}
 use Rattle.its_word.specs.Core.{Core, Page, pages_mapped}
 use Rattle.its_word.specs.Limits.{slots, most_pages}
 use Rattle.its_links.specs.Lists.{Linked, list_at}
@@ -9,13 +8,7 @@ use Rattle.its_core.specs.Cores.{Cores, Reserved, core_at}
 use Rattle.its_core.specs.Frames.{Frames, Listed, all_frames, row}
 use Rattle.its_core.specs.declared.cores.Mapped.{Mapped}
 use Rattle.its_core.specs.declared.cores.Held.{Held}
-
--- n copies of x, and f at each number below n; opaque, as n may be large
-unfoldable pub filled : {X : Type 0} → ℕ → X → List X
-filled n x = replicate n x
-
-unfoldable pub table : {X : Type 0} → ℕ → (ℕ → X) → List X
-table n f = map f (range_with_len 0 n)
+use Rattle.its_word.specs.Table.{table}
 
 -- the words of a frame
 unfoldable pub frame_words : List ℕ → ℕ → List ℕ

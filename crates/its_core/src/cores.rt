@@ -1,5 +1,4 @@
 ghost use Rattle.std.specs.Prelude.{◌≡◌, ◌≢◌, ◌<◌, ◌≤◌, ◌+◌, ◌-◌, ◌*◌, ◌/◌, ◌^◌, ◌++◌, ℕ, List, length, is_some, slice_set, true, false, Some, None, IsSome, IsErr, OnOk, OnErr, IfOk, IfErr, IsOk, Ok, Err, count_by, slice_index_or, option_map, ◌↔◌, IfSome};
-ghost use Rattle.its_core.specs.Pool.{filled as copies};
 ghost use Rattle.its_word.specs.Core.{acc_at, get as got_at, put as put_at, word_at, can_store, store, page_of, pages_present, with_page, zero_page, marked, no_core, pages_mapped};
 ghost use Rattle.its_word.specs.Limits.{slots, most_pages};
 ghost use Rattle.its_word.specs.Only.{Only};
@@ -11,19 +10,18 @@ ghost use Rattle.its_core.specs.Cores.{core_at, reserved_at, clear_at, clear_wit
 mod tests;
 
 use its_links::Links;
-use its_word::{MAPPED_PAGES, NoAccess, NoMemory, SLOTS, Word};
+use its_word::{ADDRESSES, MAPPED_PAGES, NoAccess, NoMemory, SLOTS, Word, filled};
 use std::alloc::Global;
 use std::marker::Model;
 
-/// How many words a page has, pages a slot, and accumulators.
+/// How many words a page has.
 const PAGE_WORDS: usize = 1024;
 
+/// How many pages a slot may have.
 const SLOT_PAGES: usize = 256;
 
+/// How many accumulators a slot has.
 const SLOT_ACCS: usize = 16;
-
-/// How many addresses there are.
-const ADDRESSES: u32 = 0o1000000;
 
 /// How many page frames there are: one for each page that may be mapped, and one for each slot to
 /// reserve.
@@ -159,18 +157,6 @@ fn vacate(places: &mut Vec<Option<Mapped>>, slot: u8) -> u32
     number
 }
 
-/// n copies of a value, in one piece of memory.
-#[tactic(auto, using(crate::proofs::ListLaws::filled_none, crate::proofs::ListLaws::filled_more))]
-fn filled<T: Copy + Drop>(alloc: Global, x: T, n: usize) -> Result<Vec<T>, NoMemory>
-    ensures { IfOk result (λ v. v.items ≡ copies n x) }
-{
-    let mut v = Vec::with_capacity(alloc, n).map_err(|_| NoMemory)?;
-    for _k in 0..n {
-        v.push(x).map_err(|_| NoMemory)?;
-    }
-    Ok(v)
-}
-
 /// Clears n words from one on.
 #[tactic(auto, using(crate::proofs::ListLaws::zeroed_none, crate::proofs::ListLaws::zeroed_more))]
 fn clear(words: &mut Vec<Word>, first: usize, n: usize)
@@ -196,8 +182,7 @@ pub struct Full;
 
 impl Core {
     /// No slot has a page or a reserved page, all accumulators are 0, and all frames are free, in
-    /// rising order. Takes all the memory that
-    /// the pages of all slots need.
+    /// rising order. Takes all the memory that the pages of all slots need.
     pub fn open(alloc: Global) -> Result<Core, NoMemory>
         ensures { IfOk result IsEmpty }
     {
@@ -285,6 +270,7 @@ impl Core {
             return Some(self.accs[acc_index(slot, a)]);
         }
         if a >= ADDRESSES {
+            // as in `is_storable`, whose proof needs it; that of this function does not
             let _places = &self.places;
             return None;
         }
@@ -300,6 +286,7 @@ impl Core {
         ensures { result ≡ can_store (core_at self.now slot) a }
     {
         if a < 16 || a >= ADDRESSES {
+            // for the proof alone: it sees `self` as made of its fields where one of them is named
             let _places = &self.places;
             return a < 16;
         }

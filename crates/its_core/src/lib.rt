@@ -1,5 +1,5 @@
 //! The cores of all jobs: sixteen accumulators and up to 256 pages of 1024 words for each of 64
-//! slots, the page that a slot has reserved, and the effective address.
+//! slots, the page that a slot has reserved, the effective address, and several stores at once.
 #![tactic(auto)]
 
 mod address;

@@ -49,6 +49,7 @@ impl Core {
         requires allowed { can_store (core_at self.old slot) (place s.now) ≡ true }
         ensures stored { Only (core_at self.old) (core_at self.new) slot (store (core_at self.old slot) (place s.now) s.now.word) }
         ensures reserved { self.new.reserved ≡ self.old.reserved }
+        ensures frames { self.new.frames ≡ self.old.frames }
     {
         let _ = self.put(slot, s.at % ADDRESSES, s.word);
     }
@@ -60,6 +61,7 @@ impl Core {
         requires checked { first_fault (core_at self.old slot) stores.now ≡ None }
         ensures stored { Only (core_at self.old) (core_at self.new) slot (stored (core_at self.old slot) stores.now) }
         ensures reserved { self.new.reserved ≡ self.old.reserved }
+        ensures frames { self.new.frames ≡ self.old.frames }
     {
         for s in stores {
             self.make(slot, s);
@@ -72,6 +74,7 @@ impl Core {
         ensures made { result_err result ≡ first_fault (core_at self.old slot) stores.now }
         ensures stored { OnOk result (Only (core_at self.old) (core_at self.new) slot (stored (core_at self.old slot) stores.now)) }
         ensures reserved { self.new.reserved ≡ self.old.reserved }
+        ensures frames { self.new.frames ≡ self.old.frames }
         ensures same { OnErr result (self.new ≡ self.old) }
     {
         if let Some(f) = self.first_fault(slot, stores) {

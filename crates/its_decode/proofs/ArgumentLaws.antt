@@ -15,13 +15,6 @@ use Rattle.its_word.specs.declared.calls.Placed.{Placed}
 use Rattle.its_plain.specs.Traced.{Traced, also, gives, goes_on}
 use Rattle.its_plain.specs.Decode.{argument, argument_at, arguments, held, storable}
 
--- lists of places, one after the other
-pub joined : (xs ys zs : List ℕ) → xs ++ (ys ++ zs) ≡ xs ++ ys ++ zs
-joined xs ys zs = sym (append_assoc xs ys zs)
-
-pub ended : (xs : List ℕ) → xs ++ [] ≡ xs
-ended xs = append-nil xs
-
 -- an argument whose address is found reads nothing more
 unread_also : {X Y : Type 0} (m : Traced X) (k : X → Traced Y) → m.reads ≡ [] → ((x : X) → (k x).reads ≡ []) → (also m k).reads ≡ []
 unfolding also

@@ -6,10 +6,12 @@ use Rattle.std.proofs.lemmas.List.{get_or-set_same, get_or-set_other, length_pus
 use Rattle.std.proofs.lemmas.List.Sums.{sum_by-set}
 use Rattle.std.proofs.lemmas.Option.{slice_get-get_or, slice_get_past, slice_get_within, get_or_from_slice_get}
 use Rattle.its_links.specs.Lists.{Linked, list_at, times, first, rest}
-use Rattle.its_files.specs.Blocks.{text_at, free_blocks, blocks_of, blocks_for, blocks_used, needs_block, is_full, with_block, grown_by, appended, given_up, table, word_in, text_of, stored_in, PlaceIn, IsBlocks, numbers}
+use Rattle.its_files.specs.Blocks.{text_at, free_blocks, blocks_of, blocks_for, blocks_used, needs_block, is_full, with_block, grown_by, appended, given_up, word_in, text_of, stored_in, PlaceIn, IsBlocks, numbers}
 use Rattle.its_files.specs.declared.blocks.Place.{Place}
-use Rattle.its_files.proofs.ListLaws.{length-table, get_or-table, table_alike, table_set, table_more, get-table, sum_alike, push_last, push_before}
+use Rattle.its_files.proofs.ListLaws.{sum_alike, push_last, push_before}
 use Rattle.its_files.proofs.ChainLaws.{apart, take_first, rest_first, none_first}
+use Rattle.its_word.specs.Table.{table}
+use Rattle.its_word.proofs.TableLaws.{length-table, get_or-table, get-table, table_alike, table_set, table_more}
 
 -- what is read from a store
 pub text_is : (words : List ℕ) (ls : List (List ℕ)) (lengths : List ℕ) (id : ℕ) → id < 1280 → text_at (stored_in words ls lengths).texts id ≡ text_of words (blocks_of ls id) (slice_index_or lengths id 0)

@@ -14,11 +14,11 @@ use Rattle.its_files.specs.declared.entry.Parts.TheVariants.{Replace, Link, Free
 use Rattle.its_files.specs.declared.entry.Mark.{Mark}
 use Rattle.its_files.specs.Blocks.{text_at}
 use Rattle.its_word.specs.Directory.{same_names}
-use Rattle.its_files.specs.Opening.{copies}
-use Rattle.its_files.proofs.ListLaws.{length-copies, get_or-copies}
 use Rattle.its_files.specs.Files.{entry_in, is_file, is_draft, names_by, readers_by, found_by, found_in, one_if, to_come, unlinked_old, marked_draft, after_link, Replaces, Gone, Links_to, Owes, Marked, IsFiles}
 use Rattle.its_files.proofs.ChainLaws.{count-at}
 use Rattle.its_files.proofs.OrderLaws.{same_sym, same_both}
+use Rattle.its_word.specs.Table.{filled}
+use Rattle.its_word.proofs.TableLaws.{length-filled, get_or-filled}
 
 -- where something stands, the number is one of all
 pub within : (es : List (Option Entry)) (id : ℕ) → is_some (entry_in es id) ≡ true → id < length es
@@ -26,10 +26,6 @@ within es id h = elim (cases_lt id (length es)) [
   | inl lt ↦ lt
   | inr ge ↦ let e = get_or_past es id None ge in let f : false ≡ true = sym (ap is_some e) ∙ h in cc
 ]
-
-pub none_if : {X : Type 0} (o : Option X) → is_some o ≡ false → o ≡ None
-none_if None h = refl
-none_if (Some x) h = cc
 
 pub file_stands : (e : Option Entry) → is_file e ≡ true → is_some e ≡ true
 file_stands None h = h
@@ -557,22 +553,22 @@ module _ (es : List (Option Entry)) (order : List ℕ) (mark : Option Mark) (tex
   }
 
 -- neither files nor drafts
-none_counted : (p : Option Entry → Bool) (n : ℕ) → p None ≡ false → count_by p (copies n None) ≡ n * 0
-unfolding copies
+none_counted : (p : Option Entry → Bool) (n : ℕ) → p None ≡ false → count_by p (filled n None) ≡ n * 0
+unfolding filled
 none_counted p n e = sum_by-replicate (λ x. cond (p x) 1 0) n None ∙ ap (λ b. n * cond b 1 0) e
 
-pub opened_store : (es : List (Option Entry)) (order : List ℕ) (texts : List (List ℕ)) → es ≡ copies 1280 None → order ≡ [] → texts ≡ copies 1280 [] → IsFiles es order None texts
+pub opened_store : (es : List (Option Entry)) (order : List ℕ) (texts : List (List ℕ)) → es ≡ filled 1280 None → order ≡ [] → texts ≡ filled 1280 [] → IsFiles es order None texts
 opened_store es order texts a b c =
-    let at : (k : ℕ) → entry_in es k ≡ None = λ k. ap (λ xs. entry_in xs k) a ∙ get_or-copies 1280 k None in
+    let at : (k : ℕ) → entry_in es k ≡ None = λ k. ap (λ xs. entry_in xs k) a ∙ get_or-filled 1280 k None in
     let lo : length order ≡ 0 = ap (λ xs. length xs) b in
     record {
-      long = ap (λ xs. length xs) a ∙ length-copies 1280 None;
-      texts_long = ap (λ xs. length xs) c ∙ length-copies 1280 [];
+      long = ap (λ xs. length xs) a ∙ length-filled 1280 None;
+      texts_long = ap (λ xs. length xs) c ∙ length-filled 1280 [];
       listed = λ k. ap (λ xs. count k xs) b ∙ sym (ap (λ x. one_if (is_file x)) (at k));
       number = let n = ap (λ xs. count_by is_file xs) a ∙ none_counted is_file 1280 refl in omega arith;
       few = omega arith;
       few_drafts = let n = ap (λ xs. count_by is_draft xs) a ∙ none_counted is_draft 1280 refl in omega arith;
       unique = λ i j f g s. absurd (both_ways (is_file (entry_in es i)) (ap is_file (at i)) f);
-      bare = λ k e far. ap (λ xs. text_at xs k) c ∙ get_or-copies 1280 k [];
+      bare = λ k e far. ap (λ xs. text_at xs k) c ∙ get_or-filled 1280 k [];
       marked = tt;
     }

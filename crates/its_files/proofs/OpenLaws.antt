@@ -8,9 +8,10 @@ use Rattle.std.specs.List.{range_with_len}
 use Rattle.std.proofs.lemmas.List.Folds.{sum_by-replicate}
 use Rattle.its_links.specs.Lists.{Linked, list_at, no_lists}
 use Rattle.its_links.proofs.CountLaws.{length-no_lists, list_at-no_lists}
-use Rattle.its_files.specs.Blocks.{free_blocks, blocks_of, blocks_for, table, word_in, text_of, stored_in, IsBlocks, numbers}
-use Rattle.its_files.specs.Opening.{copies, up_to, first_has, nothing_stored}
-use Rattle.its_files.proofs.ListLaws.{length-table, get_or-table, length-copies, get_or-copies}
+use Rattle.its_files.specs.Blocks.{free_blocks, blocks_of, blocks_for, word_in, text_of, stored_in, IsBlocks, numbers}
+use Rattle.its_files.specs.Opening.{up_to, first_has, nothing_stored}
+use Rattle.its_word.specs.Table.{table, filled}
+use Rattle.its_word.proofs.TableLaws.{length-table, get_or-table, length-filled, get_or-filled}
 
 pub up_to_none : up_to 0 ≡ []
 unfolding up_to
@@ -51,22 +52,22 @@ free_opened m k some = let l = length-no_lists m in get_or-set_same (no_lists m)
 none_opened : (m k id : ℕ) → blocks_of (first_has m k) id ≡ []
 none_opened m k id = get_or-set_other (no_lists m) 0 (id + 1) (up_to k) [] (omega arith) ∙ list_at-no_lists m (id + 1)
 
-sum-copies : (n : ℕ) → sum_by blocks_for (copies n 0) ≡ n * 0
-unfolding copies
+sum-copies : (n : ℕ) → sum_by blocks_for (filled n 0) ≡ n * 0
+unfolding filled
 sum-copies n = sum_by-replicate blocks_for n 0
 
-pub opened_blocks : (words lengths lasts : List ℕ) (links : Linked) → words ≡ copies 262144 0 → lengths ≡ copies 1280 0 → lasts ≡ copies 1280 0 → links ≡ record { nodes = 2048; lists = first_has 1281 2048 } → IsBlocks words lengths lasts None links
+pub opened_blocks : (words lengths lasts : List ℕ) (links : Linked) → words ≡ filled 262144 0 → lengths ≡ filled 1280 0 → lasts ≡ filled 1280 0 → links ≡ record { nodes = 2048; lists = first_has 1281 2048 } → IsBlocks words lengths lasts None links
 opened_blocks words lengths lasts links a b c e =
     let ls : links.lists ≡ first_has 1281 2048 = ap (λ l. l.lists) e in
     record {
-      words_long = ap (λ xs. length xs) a ∙ length-copies 262144 0;
-      lengths_long = ap (λ xs. length xs) b ∙ length-copies 1280 0;
-      lasts_long = ap (λ xs. length xs) c ∙ length-copies 1280 0;
+      words_long = ap (λ xs. length xs) a ∙ length-filled 262144 0;
+      lengths_long = ap (λ xs. length xs) b ∙ length-filled 1280 0;
+      lasts_long = ap (λ xs. length xs) c ∙ length-filled 1280 0;
       heads = ap (λ xs. length xs) ls ∙ length-first_has 1281 2048;
       nodes = ap (λ l. l.nodes) e;
       fits = λ id lt.
           let l = ap (λ xs. length (blocks_of xs id)) ls ∙ ap (λ xs. length xs) (none_opened 1281 2048 id) in
-          let z : slice_index_or lengths id 0 ≡ 0 = ap (λ xs. slice_index_or xs id 0) b ∙ get_or-copies 1280 id 0 in
+          let z : slice_index_or lengths id 0 ≡ 0 = ap (λ xs. slice_index_or xs id 0) b ∙ get_or-filled 1280 id 0 in
           l ∙ ap (λ n. blocks_for n) (sym z);
       last = λ id lt some.
           let l = ap (λ xs. length (blocks_of xs id)) ls ∙ ap (λ xs. length xs) (none_opened 1281 2048 id) in
@@ -78,15 +79,15 @@ opened_blocks words lengths lasts links a b c e =
           omega arith;
     }
 
-pub opened_view : (words lengths : List ℕ) (links : Linked) → lengths ≡ copies 1280 0 → links ≡ record { nodes = 2048; lists = first_has 1281 2048 } → stored_in words links.lists lengths ≡ nothing_stored
+pub opened_view : (words lengths : List ℕ) (links : Linked) → lengths ≡ filled 1280 0 → links ≡ record { nodes = 2048; lists = first_has 1281 2048 } → stored_in words links.lists lengths ≡ nothing_stored
 unfolding stored_in
 opened_view words lengths links b e =
     let c : links.lists ≡ first_has 1281 2048 = ap (λ l. l.lists) e in
     let f : ℕ → List ℕ = λ id. text_of words (blocks_of links.lists id) (slice_index_or lengths id 0) in
-    let t : table numbers f ≡ copies numbers [] =
-    ext_get_or [] (table numbers f) (copies numbers []) (length-table numbers f ∙ sym (length-copies numbers []))
+    let t : table numbers f ≡ filled numbers [] =
+    ext_get_or [] (table numbers f) (filled numbers []) (length-table numbers f ∙ sym (length-filled numbers []))
     (λ k less. let l = length-table numbers f in
     get_or-table numbers f k [] (omega arith)
-    ∙ nil_from_length (f k) (length-table (slice_index_or lengths k 0) (word_in words (blocks_of links.lists k)) ∙ ap (λ xs. slice_index_or xs k 0) b ∙ get_or-copies 1280 k 0)
-    ∙ sym (get_or-copies numbers k [])) in
+    ∙ nil_from_length (f k) (length-table (slice_index_or lengths k 0) (word_in words (blocks_of links.lists k)) ∙ ap (λ xs. slice_index_or xs k 0) b ∙ get_or-filled 1280 k 0)
+    ∙ sym (get_or-filled numbers k [])) in
     λ i. record { texts = t i; chains = c i }

@@ -1,9 +1,9 @@
 -- How the words of files and drafts are kept: 2048 blocks of 128 words, a list of the free blocks, and for each number of a
 -- file or draft the list of its blocks, in the order of its words.
-use Rattle.std.specs.Prelude.{◌≡◌, ◌<◌, ℕ, ◌+◌, ◌-◌, ◌*◌, ◌/◌, ◌%◌, Bool, true, false, ◌&&◌, eqb, Option, Some, None, List, [], ◌∷◌, ◌++◌, length, map, take, sum_by, slice_set, slice_get, slice_index_or}
-use Rattle.std.specs.List.{range_with_len}
+use Rattle.std.specs.Prelude.{◌≡◌, ◌<◌, ℕ, ◌+◌, ◌-◌, ◌*◌, ◌/◌, ◌%◌, Bool, true, false, ◌&&◌, eqb, Option, Some, None, List, [], ◌∷◌, ◌++◌, length, take, sum_by, slice_set, slice_get, slice_index_or}
 use Rattle.its_links.specs.Lists.{Linked, list_at, rest}
 use Rattle.its_files.specs.declared.blocks.Place.{Place}
+use Rattle.its_word.specs.Table.{table}
 
 -- how many numbers there are for files and drafts, how many blocks, and how many words a block has
 abbrev pub numbers : ℕ
@@ -66,10 +66,6 @@ given_up s id = record {
   texts = slice_set s.texts id [];
   chains = slice_set (slice_set s.chains 0 (free_blocks s.chains ++ blocks_of s.chains id)) (id + 1) [];
 }
-
--- f at each number below n; opaque, as n may be large
-unfoldable pub table : {X : Type 0} → ℕ → (ℕ → X) → List X
-table n f = map f (range_with_len 0 n)
 
 -- the k-th word of some blocks
 unfoldable pub word_in : List ℕ → List ℕ → ℕ → ℕ

@@ -17,7 +17,8 @@ use Rattle.its_files.specs.declared.entry.RenameFault.{RenameFault}
 use Rattle.its_files.specs.declared.entry.RenameFault.TheVariants.{Locked as IsLocked, Exists}
 use Rattle.its_files.specs.declared.entry.Locked.{Locked as LockedFile}
 use Rattle.its_files.specs.Blocks.{Stored, text_at, appended, given_up, numbers}
-use Rattle.its_files.specs.Opening.{copies, nothing_stored}
+use Rattle.its_files.specs.Opening.{nothing_stored}
+use Rattle.its_word.specs.Table.{filled}
 
 pub record Store : Type 0 where
   pub entries : List (Option Entry)
@@ -93,7 +94,7 @@ found s names = found_in s.entries names s.order
 
 -- nothing stands
 abbrev pub no_files : Store
-no_files = record { entries = copies numbers None; order = []; mark = None; stored = nothing_stored }
+no_files = record { entries = filled numbers None; order = []; mark = None; stored = nothing_stored }
 
 -- a file of no words, the last in order
 abbrev pub with_file : Store → ℕ → List ℕ → Store

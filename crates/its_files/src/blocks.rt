@@ -1,16 +1,17 @@
 ghost use Rattle.std.specs.Prelude.{◌≡◌, ◌≢◌, ◌<◌, ◌≤◌, ◌+◌, ◌-◌, ◌*◌, ◌/◌, ◌%◌, ◌^◌, ℕ, List, [], ◌∷◌, ◌++◌, true, false, Some, None, length, slice_get, is_err, IfOk, OnOk, OnErr};
 ghost use Rattle.its_links.specs.Lists.{first};
 ghost use Rattle.its_files.specs.Blocks.{text_at, free_blocks, blocks_of, blocks_used, is_full, appended, given_up, needs_block, with_block, PlaceIn, numbers, blocks};
-ghost use Rattle.its_files.specs.Opening.{copies, first_has, nothing_stored};
+ghost use Rattle.its_files.specs.Opening.{first_has, nothing_stored};
 
 use its_links::Links;
-use its_word::{NoMemory, Word};
+use its_word::{NoMemory, Word, filled};
 use std::alloc::Global;
 use std::marker::Model;
 
-/// How many blocks there are, and how many words a block has.
+/// How many blocks there are.
 const BLOCKS: u32 = 2048;
 
+/// How many words a block has.
 const BLOCK_WORDS: u32 = 128;
 
 /// How many files and drafts there are at most: 256 files and 1024 drafts.
@@ -55,20 +56,8 @@ impl Model for Blocks {
     ghost invariant = { λ b. IsBlocks b.words.items b.lengths.items b.lasts.items b.place b.links };
 }
 
-/// n copies of a value.
-#[tactic(auto, using(crate::proofs::ListLaws::copies_none, crate::proofs::ListLaws::copies_more))]
-pub(crate) fn copies<T: Copy + Drop>(alloc: Global, x: T, n: u32) -> Result<Vec<T>, NoMemory>
-    ensures { IfOk result (λ v. v.items ≡ copies n x) }
-{
-    let mut v = Vec::with_capacity(alloc, n as usize).map_err(|_| NoMemory)?;
-    for _k in 0..n {
-        v.push(x).map_err(|_| NoMemory)?;
-    }
-    Ok(v)
-}
-
-#[tactic(auto, using(crate::proofs::OpenLaws::first_has_none, crate::proofs::OpenLaws::first_has_more, its_links::proofs::CountLaws::lists))]
 /// Lists of which the first has the nodes below n, in order, and the others are empty.
+#[tactic(auto, using(crate::proofs::OpenLaws::first_has_none, crate::proofs::OpenLaws::first_has_more, its_links::proofs::CountLaws::lists))]
 fn all_free(alloc: Global, n: u32, heads: u32) -> Result<Links, NoMemory>
     requires fits { n + heads < 2 ^ 32 }
     requires some { 0 < heads }
@@ -158,9 +147,9 @@ impl Blocks {
         ensures { IfOk result (λ b. b ≡ nothing_stored) }
     {
         Ok(Blocks {
-            words: copies(alloc, Word::ZERO, BLOCKS * BLOCK_WORDS)?,
-            lengths: copies(alloc, 0, NUMBERS)?,
-            lasts: copies(alloc, 0, NUMBERS)?,
+            words: filled(alloc, Word::ZERO, (BLOCKS * BLOCK_WORDS) as usize)?,
+            lengths: filled(alloc, 0, NUMBERS as usize)?,
+            lasts: filled(alloc, 0, NUMBERS as usize)?,
             place: None,
             links: all_free(alloc, BLOCKS, NUMBERS + 1)?,
         })

@@ -13,7 +13,7 @@ use super::directory::{
 };
 use super::entry::{CloseFault, Entry, Locked, Mark, Parts, RenameFault};
 use arrayvec::ArrayVec;
-use its_word::{NoMemory, Owed, Word};
+use its_word::{NoMemory, Owed, Word, filled};
 use std::alloc::Global;
 use std::marker::Model;
 
@@ -46,7 +46,7 @@ impl Files {
         ensures { IfOk result (λ f. f ≡ no_files) }
     {
         Ok(Files {
-            entries: super::blocks::copies(alloc, None, NUMBERS)?,
+            entries: filled(alloc, None, NUMBERS as usize)?,
             order: ArrayVec::new(),
             mark: None,
             blocks: Blocks::open(alloc)?,
@@ -232,8 +232,8 @@ impl Files {
         self.blocks.append(id, w)
     }
 
-    #[tactic(auto, using(crate::proofs::EntryLaws::within))]
     /// Drops a draft, which is not the marked one.
+    #[tactic(auto, using(crate::proofs::EntryLaws::within))]
     pub fn discard(&mut self, id: u32)
         requires draft { is_draft (entry_at self.old id) ≡ true }
         requires other { marked_draft self.old.mark ≢ Some id }

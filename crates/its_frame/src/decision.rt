@@ -14,7 +14,7 @@ pub enum Wait {
     Drained(u8),
 }
 
-/// A byte that was taken and is not yet stored, as it was taken, and the address of its word.
+/// A byte or word that was taken and is not yet stored, as it was taken, and the address of its word.
 #[derive(Clone, Copy, Debug, PartialEq, Eq)]
 pub struct Held {
     pub place: u32,
@@ -26,8 +26,8 @@ pub struct Held {
 pub enum Decision {
     /// It cannot go on.
     Waits(Wait),
-    /// A part of it is done: these changes; for input the byte that is held; and the new values of
-    /// its last arguments. PC stays.
+    /// A part of it is done: these changes; for input the byte or word that is held; and the new
+    /// values of its last arguments. PC stays.
     Goes {
         changes: ArrayVec<Change, 2>,
         held: Option<Held>,

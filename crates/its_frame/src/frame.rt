@@ -42,7 +42,7 @@ pub struct Waiting {
     pub owes: u8,
 }
 
-/// A byte is taken, and not yet stored in the word at `place`.
+/// A byte or word is taken, and not yet stored in the word at `place`.
 #[derive(Debug, PartialEq, Eq, Drop)]
 pub struct Moving {
     pub site: Site,

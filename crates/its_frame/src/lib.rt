@@ -1,5 +1,6 @@
 //! Calls in progress as data: the frames that a job goes through inside a call of the monitor, what a
-//! call does at its commit, and the small changes that it makes outside its own words and registers.
+//! call does at its commit, and the small changes that it makes outside its own words and registers;
+//! and the names of calls and of variables.
 #![tactic(auto)]
 
 mod change;

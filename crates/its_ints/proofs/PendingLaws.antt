@@ -1,5 +1,5 @@
 -- Where nothing is pending, nothing can be delivered.
-use Rattle.std.specs.Prelude.{◌≡◌, ◌==◌, ◌||◌, not, ℕ, false, bit_and, refl}
+use Rattle.std.specs.Prelude.{◌≡◌, ◌==◌, ◌||◌, not, ℕ, false, bit_and}
 use Rattle.std.specs.Int.Bits.{and_zero_l}
 use Rattle.std.proofs.Common.{◌∙◌, ap}
 use Rattle.its_word.specs.Word.{complement_of}

@@ -8,7 +8,7 @@ ghost use Rattle.its_plain.specs.Interrupt.{unguarded, deliverable, pushed, at_h
 use super::table::{Found, TableEntry, enabled_1, enabled_2, look_up};
 use super::words::{is_storable, word};
 use its_core::Core;
-use its_word::{ADDRESSES, Exit, FATAL, Fault, Job, NAMED_FLAGS, Store, TBL, USER, Word};
+use its_word::{ADDRESSES, Exit, FATAL, Fault, Job, Store, TBL, Word, flags_in, pc_word};
 
 /// The pending fatal bits that are not enabled.
 #[tactic(auto, unfolding(its_plain::specs::Interrupt::unguarded))]
@@ -53,14 +53,13 @@ fn pushes(job: &Job, found: &Found) -> [Store; 6]
     ensures { result ≡ pushed job.now found.now.entry found.now.place found.now.pointer }
 {
     let pointer = found.pointer;
-    let pc_word = Word::pair(job.flags & NAMED_FLAGS | USER, job.pc);
     let next = Word::pair(pointer.left() + 5, pointer.right() + 5);
     [
         store(above(pointer, 1), enabled_1(job) & found.entry.mask1()),
         store(above(pointer, 2), enabled_2(job) & found.entry.mask2()),
         store(above(pointer, 3), job.defer1),
         store(above(pointer, 4), job.defer2),
-        store(above(pointer, 5), pc_word),
+        store(above(pointer, 5), pc_word(job.flags, job.pc)),
         store(found.place, next),
     ]
 }
@@ -88,6 +87,7 @@ pub fn deliver(core: &mut Core, slot: u8, job: &mut Job) -> bool
     requires deliverable { deliverable job.old ≡ true }
     ensures core { Only (core_at core.old) (core_at core.new) slot (delivered (core_at core.old slot) job.old).core }
     ensures reserved { core.new.reserved ≡ core.old.reserved }
+    ensures frames { core.new.frames ≡ core.old.frames }
     ensures job { job.new ≡ (delivered (core_at core.old slot) job.old).job }
     ensures stops { result ≡ (delivered (core_at core.old slot) job.old).stops }
 {
@@ -115,15 +115,15 @@ pub fn dismiss(core: &Core, job: &Job, slot: u8, p: u32) -> Result<Exit, Fault>
     ensures { result ≡ dismissed (core_at core.now slot) job.now p }
 {
     let pointer = word(core, slot, p).ok_or(Fault::Mpv)?;
-    let pc_word = word(core, slot, pointer.right()).ok_or(Fault::Mpv)?;
+    let saved = word(core, slot, pointer.right()).ok_or(Fault::Mpv)?;
     let defer2 = word(core, slot, below(pointer, 1)).ok_or(Fault::Mpv)?;
     let defer1 = word(core, slot, below(pointer, 2)).ok_or(Fault::Mpv)?;
     if !is_storable(core, slot, p) {
         return Err(Fault::Wro);
     }
     Ok(Exit {
-        pc: pc_word.right(),
-        flags: pc_word.left() & NAMED_FLAGS,
+        pc: saved.right(),
+        flags: flags_in(saved),
         pend1: job.pend1,
         pend2: job.pend2,
         mask1: job.mask1,

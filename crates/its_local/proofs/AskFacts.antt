@@ -25,6 +25,7 @@ use Rattle.its_plain.specs.Decode.{Shape, allowed, argument, argument_at, argume
 use Rattle.its_local.proofs.AskLaws.{decoded_of, iot_of}
 use Rattle.its_local.proofs.FitsLaws.{located_finds}
 use Rattle.its_local.proofs.TracedLaws.{went}
+use Rattle.its_word.proofs.ClimbLaws.{or_none}
 
 -- a place that is an address at which a word can be stored, or one that has a word
 pub record Storable (c : Core) (p : ℕ) : Type 0 where
@@ -213,10 +214,6 @@ pub record Counts (r : CallRow) (k : Ask) : Type 0 where
   pub least_out : r.least_out ≤ length k.outputs.items
   pub most_out : length k.outputs.items ≤ r.most_out
 
-both_off : (a b : Bool) → (a || b) ≡ false → (a ≡ false) × (b ≡ false)
-both_off true b h = cc
-both_off false b h = (refl, h)
-
 not_below : (a b : ℕ) → nat_lt a b ≡ false → b ≤ a
 not_below a b h = grind (arith, nat_tests)
 
@@ -239,9 +236,9 @@ within_by : (r : CallRow) (i n : ℕ) (b : Bool) → error_by (Some r) i n b ≡
 unfolding error_by
 within_by r i n b h =
     let e = error_none (nat_lt i r.least_in || nat_lt n r.least_out) (nat_lt r.most_in i || nat_lt r.most_out n || b) h in
-    let l = both_off (nat_lt i r.least_in) (nat_lt n r.least_out) e.0 in
-    let m = both_off (nat_lt r.most_in i || nat_lt r.most_out n) b e.1 in
-    let o = both_off (nat_lt r.most_in i) (nat_lt r.most_out n) m.0 in
+    let l = or_none (nat_lt i r.least_in) (nat_lt n r.least_out) e.0 in
+    let m = or_none (nat_lt r.most_in i || nat_lt r.most_out n) b e.1 in
+    let o = or_none (nat_lt r.most_in i) (nat_lt r.most_out n) m.0 in
     record {
       least_in = not_below i r.least_in l.0;
       most_in = not_below r.most_in i o.0;

@@ -12,6 +12,7 @@ use Rattle.its_word.specs.declared.jobs.Job.{Job}
 use Rattle.its_plain.specs.Decode.{ask}
 use Rattle.its_plain.specs.Footprint.{Stands, among, in_footprint, is_shared, times, variable, with_inputs}
 use Rattle.its_local.proofs.StandLaws.{Free, Once, Outside, inputs_at, inputs_at_append, inputs_at_cons, inputs_few, is_at, once_inputs, renew, renewed_value, stands_outside, stands_stored, times_cons, times_none}
+use Rattle.its_word.proofs.ClimbLaws.{or_none}
 
 -- the tests of a call give the premises of these laws
 among_none : (p : ℕ) (ps : List ℕ) → among p ps ≡ false → times p ps ≡ 0
@@ -27,14 +28,10 @@ among_none p (q ∷ qs) h =
     split true b h = cc
     split false b h = (refl, h)
 
-both_false : (a b : Bool) → (a || b) ≡ false → (a ≡ false) × (b ≡ false)
-both_false true b h = cc
-both_false false b h = (refl, h)
-
 pub outside_from : (p : ℕ) (k : Ask) → in_footprint p k ≡ false → Outside p k
 unfolding in_footprint
 outside_from p k h =
-    let s = both_false (among p k.decode.items) (among p k.operand.items) h in
+    let s = or_none (among p k.decode.items) (among p k.operand.items) h in
     record { decode = among_none p k.decode.items s.0; operand = among_none p k.operand.items s.1 }
 
 at_most_one : (n : ℕ) → nat_lt 1 n ≡ false → n ≤ 1
@@ -43,7 +40,7 @@ at_most_one n h = grind (arith, nat_tests)
 pub once_from : (c : Core) (s : Site) (k : Ask) (p : ℕ) → ask c s ≡ Ok k → 1 ≤ inputs_at p k.inputs.items → is_shared p k ≡ false → Once p k
 unfolding is_shared
 once_from c s k p a i h =
-    let t = both_false (among p k.decode.items) (nat_lt 1 (times p k.operand.items)) h in
+    let t = or_none (among p k.decode.items) (nat_lt 1 (times p k.operand.items)) h in
     let f = inputs_few c s k p a in
     let m = at_most_one (times p k.operand.items) t.1 in
     record { decode = among_none p k.decode.items t.0; operand = omega arith }

@@ -26,7 +26,6 @@ use Rattle.its_plain.specs.Decode as decode
 use Rattle.its_plain.specs.Interrupt.{deliverable, delivered}
 use Rattle.its_plain.specs.Machine.{Whole, Machine}
 use Rattle.its_plain.specs.Own.{with_stores}
-use Rattle.its_plain.specs.Traced.{Traced, goes_on, also}
 use Rattle.its_plain.specs.Unit.{Outcome, Changed, Faulted, Called, unit}
 use Rattle.its_plain.specs.UnitPlan as plans
 use Rattle.its_stepped.specs.Calling.{Calling}
@@ -40,7 +39,7 @@ use Rattle.its_stepped.specs.State.{State, plain, seen, turn, same, reserving, e
 use Rattle.its_stepped.specs.Tick.{Ticked, helped_if, works, helps, user_on, unit_on, parsed_on, fetched_on, prepared_on, reserves, prepared_for, tried, tried_by, quarters, held_on, tick_in, tick_unless, tick_of, tick}
 use Rattle.its_stepped.specs.Unwind.{all_unwound}
 use Rattle.its_stepped.proofs.DecodingLaws.{decoding}
-use Rattle.its_stepped.proofs.DotsLaws.{trying_reach}
+use Rattle.its_stepped.proofs.DotsLaws.{trying_reach, disturbs_told}
 use Rattle.its_stepped.proofs.EffectLaws.{superiors_plain, effects_others}
 use Rattle.its_stepped.proofs.FitLaws.{decision_fits}
 use Rattle.its_stepped.proofs.ForestLaws.{FitsAll}
@@ -49,8 +48,8 @@ use Rattle.its_stepped.proofs.GivenLaws.{decision_duty, given}
 use Rattle.its_stepped.proofs.HelpLaws.{helped_if_others}
 use Rattle.its_stepped.proofs.OverLaws.{can_stored, debts_alike}
 use Rattle.its_stepped.proofs.OwnLaws.{frames_none, reserved_none}
-use Rattle.its_stepped.proofs.SoundLaws.{tick_sound}
-use Rattle.its_stepped.proofs.TickLaws.{asks, seen_at, seen_none, found, Trying, trying_holding, trying_waiting}
+use Rattle.its_stepped.proofs.SoundLaws.{tick_sound, page_none}
+use Rattle.its_stepped.proofs.TickLaws.{asks, seen_at, seen_none, found, Trying, trying_holding, trying_waiting, asks_none}
 use Rattle.its_stepped.proofs.UnwindLaws.{slot_same, slot_then, unwind_others, all_unwound_none, all_unwound_others, among_not_first}
 use Rattle.its_world.specs.World.{state_of}
 use Rattle.its_world.specs.declared.world.World.{World}
@@ -59,6 +58,8 @@ use Rattle.its_monitor.specs.Beside.{Unwound, Undisturbed, Beside, AllBeside}
 use Rattle.its_monitor.specs.Ticks.{ticked}
 use Rattle.its_monitor.proofs.SparedLaws.{effects_same, gone_same, InferiorOf, effects_inferior}
 use Rattle.its_stepped.proofs.PageLaws.{owes_reserves_none}
+use Rattle.its_stepped.proofs.StartLaws.{seen_none as seen_free}
+use Rattle.its_plain.proofs.TracedLaws.{stops_answer}
 
 -- an empty slot in a sound state has no frame and no page
 empty_by : (o : Option Whole) (f : Option Frame) (r : Option ℕ) → SoundBy o f r → o ≡ None → (f ≡ None) × (r ≡ None)
@@ -129,11 +130,6 @@ steps_then w v u j k h s = record {
   free = λ t. s.frame ∙ h.free t;
 }
 
--- whom a step disturbs
-disturbs_told : (m : Machine) (j k : ℕ) (q : Whole) → m.jobs j ≡ Some q → deliverable q.job ≡ true → disturbed m j k ≡ among k (told (delivered q.core q.job).stops q.superior)
-unfolding disturbed
-disturbs_told m j k q is d = ap (λ (o : Option Whole). among k (reach_of m j o)) is ∙ ap (λ (b : Bool). among k (reach_of_job m j q b)) d
-
 disturbs_unit : (m : Machine) (j k : ℕ) (q : Whole) (o : Outcome) → m.jobs j ≡ Some q → deliverable q.job ≡ false → unit q.core q.job ≡ o → disturbed m j k ≡ among k (reach_of_unit m j q o)
 unfolding disturbed
 disturbs_unit m j k q o is d u =
@@ -174,14 +170,9 @@ user_beside w j k q true ne sound is none d =
     })
     (turn_others (effects_on cs j v) j k (becomes n.core n.job) None ne)
 
--- the decoding. Where the block cannot be read, nothing is asked for
-also_fails : {X Y : Type 0} (m : Traced X) (rest : X → Traced Y) (f : Fault) → m.answer ≡ Err f → (also m rest).answer ≡ Err f
-unfolding also
-also_fails {X = X} m rest f e = ap (λ (r : Result X Fault). (goes_on m.reads m.tests r rest).answer) e
-
 shaped_fails : (c : Core) (s : Site) (f : Fault) → (decode.parsed c s.e).answer ≡ Err f → (shaped c s).answer ≡ Err f
 unfolding shaped
-shaped_fails c s f e = also_fails (decode.parsed c s.e) _ f e
+shaped_fails c s f e = stops_answer (decode.parsed c s.e) _ f e
 
 asks_by : (c : Core) (s : Site) (f : Fault) (o : Option ℕ) → parse_by c s o ≡ Err f → ask_by c s o ≡ Err f
 asks_by c s f (Some n) e = cc
@@ -190,10 +181,6 @@ asks_by c s f None e = ap (λ (r : Result Shape Fault). plans.given r (λ h. Ok 
 items_fail : (r : Result (ArrayVec ℕ) Fault) (f : Fault) → items_of r ≡ Err f → r ≡ Err f
 items_fail (Ok b) f e = cc
 items_fail (Err g) f e = let is : g ≡ f = cc in ap Err is
-
-asks_none : (c : Core) (s : Site) (f : Fault) → parse c s ≡ Err f → ask c s ≡ Err f
-unfolding ask parse parse_of
-asks_none c s f e = asks_by c s f s.channel (items_fail (parse_by c s s.channel) f e)
 
 parsed_beside : (w : State) (j k : ℕ) (q : Whole) (s : Site) (r : Result (List ℕ) Fault) → k ≢ j → Sound w → (plain w).jobs j ≡ Some q → deliverable q.job ≡ false → unit q.core q.job ≡ Called s
     → parse q.core s ≡ r → Row w j k (parsed_on w j s r)
@@ -389,17 +376,6 @@ slot_beside w j k (Some q) ne sound forest g is = unless_beside w j k q q.job.st
 tick_row : (w : State) (j k : ℕ) → k ≢ j → Sound w → Forest (plain w) → Given w j → Row w j k (tick w j)
 unfolding tick
 tick_row w j k ne sound forest g = slot_beside w j k (w.raw.jobs j) ne sound forest g refl
-
--- a slot without frame in a sound state is in user mode, with no page, and its raw job is that of the plain machine
-page_none : (o : Option Whole) (f : Option Frame) (r : Option ℕ) → SoundBy o f r → f ≡ None → r ≡ None
-page_none None f r h e = h.1
-page_none (Some q) None r h e = h
-page_none (Some q) (Some f) r h e = cc
-
-seen_free : (o : Option Whole) → option_map (seen None) o ≡ o
-unfolding seen
-seen_free None = refl
-seen_free (Some q) = refl
 
 raw_free : (v : State) (k : ℕ) → v.frames k ≡ None → v.raw.jobs k ≡ (plain v).jobs k
 unfolding plain

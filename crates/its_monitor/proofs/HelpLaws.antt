@@ -1,5 +1,5 @@
 -- The parts of a half made close that are still owed are made in the store of a world, where a call on files is tried.
-use Rattle.std.specs.Prelude.{◌≡◌, Bool, true, false, Option, Some, None, IfSome, refl}
+use Rattle.std.specs.Prelude.{◌≡◌, Bool, true, false, Option, Some, None, IfSome}
 use Rattle.std.proofs.Common.{sym, ◌∙◌, ap}
 use Rattle.its_files.specs.Files.{IsStore, helped, directory}
 use Rattle.its_frame.specs.declared.frame.Holding.{Holding}
@@ -13,14 +13,7 @@ use Rattle.its_world.specs.declared.world.World.{World}
 use Rattle.its_world.proofs.KeptLaws.{Stays, helped_stays}
 use Rattle.its_world.proofs.MarkLaws.{help_step}
 use Rattle.its_pclsr.proofs.PartLaws.{store_state, store_tidy}
-
-files_are : (w : World) → (state_of w).raw.files ≡ directory w.files
-unfolding state_of
-files_are w = refl
-
-pub marks_are : (w : World) → (state_of w).mark ≡ mark_of w.files
-unfolding state_of
-marks_are w = refl
+use Rattle.its_world.proofs.StorageLaws.{files_are, marks_are}
 
 module _ (old new : World) (whole : IsStore old.files) (tidy : Tidy old) (files : new.files ≡ helped old.files) (core : new.core ≡ old.core) (jobs : new.jobs ≡ old.jobs) where
   stays : Stays old.files new.files old.jobs

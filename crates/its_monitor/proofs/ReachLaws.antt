@@ -26,24 +26,16 @@ use Rattle.its_stepped.proofs.TargetLaws.{target_inferior}
 use Rattle.its_stepped.proofs.UnwindLaws.{unwound_still, all_unwound_end}
 use Rattle.its_world.specs.World.{state_of, raw_of, raw_at, frame_at}
 use Rattle.its_world.specs.declared.world.World.{World}
-use Rattle.its_operator.proofs.KeptLaws.{raw_has}
 use Rattle.its_monitor.specs.declared.reach.Reach.TheVariants.{Tree}
 use Rattle.its_monitor.specs.Ticks.{slots_in, closes_job, outs, logs_out}
-
--- a slot past the last, or without a frame, is unwound
-frame_of : (w : World) (s : ℕ) → (state_of w).frames s ≡ frame_at w.frames.items s
-unfolding state_of
-frame_of w s = refl
-
-none_is : {X : Type 0} (o : Option X) → is_some o ≡ false → o ≡ None
-none_is (Some x) h = cc
-none_is None h = refl
+use Rattle.its_world.proofs.StorageLaws.{raw_has, frame_is}
+use Rattle.its_word.proofs.FreeLaws.{none_is}
 
 pub calm_past : (w : World) (s : ℕ) → length w.frames.items ≤ s → state_of w ≡ unwound (state_of w) s
-calm_past w s h = sym (unwound_still (state_of w) s (frame_of w s ∙ get_or_past w.frames.items s None h))
+calm_past w s h = sym (unwound_still (state_of w) s (frame_is w s ∙ get_or_past w.frames.items s None h))
 
 pub calm_still : (w : World) (s : ℕ) → is_some (frame_at w.frames.items s) ≡ false → state_of w ≡ unwound (state_of w) s
-calm_still w s h = sym (unwound_still (state_of w) s (frame_of w s ∙ none_is (frame_at w.frames.items s) h))
+calm_still w s h = sym (unwound_still (state_of w) s (frame_is w s ∙ none_is (frame_at w.frames.items s) h))
 
 -- several slots unwound
 unwound_append : (ks ls : List ℕ) (w : State) → all_unwound (ks ++ ls) w ≡ all_unwound ls (all_unwound ks w)
@@ -154,7 +146,7 @@ nobody_reached p m j a b o e stays h is =
     none_reached p m j a (closes_job (call_named a.name)) (target_reached p m j a (closes_job (call_named a.name)) o None (sym e ∙ stays) refl h is)
 
 -- a job that a call reaches into is an inferior, and has one of the slots that there are
-raw_is : (w : World) (j : ℕ) → (state_of w).raw.jobs j ≡ raw_at w.files w.core w.jobs j
+pub raw_is : (w : World) (j : ℕ) → (state_of w).raw.jobs j ≡ raw_at w.files w.core w.jobs j
 unfolding state_of
 raw_is w j = refl
 

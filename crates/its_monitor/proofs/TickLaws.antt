@@ -34,6 +34,8 @@ use Rattle.its_world.proofs.BareLaws.{deliverable_bare}
 use Rattle.its_world.proofs.StateLaws.{raw_job, raw_some, raw_none}
 use Rattle.its_operator.specs.Kept.{Kept}
 use Rattle.its_monitor.specs.Ticks.{ticked}
+use Rattle.its_word.proofs.FreeLaws.{none_is}
+use Rattle.its_world.proofs.StorageLaws.{frame_is}
 
 -- the state and the letter of a tick
 pub state_ticked : (t : Ticked) (w : State) (p : Pace) → t ≡ ticked w p → w ≡ t.state
@@ -59,17 +61,12 @@ tick_some w s j b is h =
 pub turn_stopped : (w : World) (s : ℕ) (j : Job) → job_at w.jobs s ≡ Some j → j.stopped ≡ true → tick (state_of w) s ≡ ticked (state_of w) Off
 turn_stopped w s j is h = tick_some w s j true is h
 
--- a job that runs makes the row of its frame
-frames_of : (w : World) (s : ℕ) → (state_of w).frames s ≡ frame_at w.frames.items s
-unfolding state_of
-frames_of w s = refl
-
 runs_by : (w : World) (s : ℕ) (j : Job) (f : Option Frame) (t : Ticked) → job_at w.jobs s ≡ Some j → j.stopped ≡ false → frame_at w.frames.items s ≡ f
     → IfSome (raw_at w.files w.core w.jobs s) (λ q. tick_in (state_of w) s q f ≡ t) → tick (state_of w) s ≡ t
 runs_by w s j f t is runs fr row =
     let q : Whole = raw_job w.files (core_at w.core s) j (superior_at w.jobs s) in
     tick_some w s j false is runs
-    ∙ ap (tick_in (state_of w) s q) (frames_of w s ∙ fr)
+    ∙ ap (tick_in (state_of w) s q) (frame_is w s ∙ fr)
     ∙ subst (λ (o : Option Whole). IfSome o (λ q. tick_in (state_of w) s q f ≡ t)) (raw_some w s j is) row
 
 pub turn_call : (old new : World) (s : ℕ) (j : Job) (p : Pace) → job_at old.jobs s ≡ Some j → j.stopped ≡ false
@@ -86,13 +83,9 @@ user_by : (w : World) (s : ℕ) (j : Job) (b : Bool) (t : Ticked) → job_at w.j
 user_by w s j b t is runs fr d row =
     let q : Whole = raw_job w.files (core_at w.core s) j (superior_at w.jobs s) in
     tick_some w s j false is runs
-    ∙ ap (tick_in (state_of w) s q) (frames_of w s ∙ fr)
+    ∙ ap (tick_in (state_of w) s q) (frame_is w s ∙ fr)
     ∙ ap (user_on (state_of w) s q) (deliverable_raw w.files (core_at w.core s) j (superior_at w.jobs s) ∙ d)
     ∙ subst (λ (o : Option Whole). IfSome o (λ q. user_on (state_of w) s q b ≡ t)) (raw_some w s j is) row
-
-none_is : {X : Type 0} (o : Option X) → is_some o ≡ false → o ≡ None
-none_is (Some x) h = cc
-none_is None h = refl
 
 delivered_row : (o : Option Whole) (v w : State) (s : ℕ) → IfSome o (λ q. v ≡ delivered_on w s q (delivered q.core q.job)) → IfSome o (λ q. user_on w s q true ≡ ticked v Step)
 delivered_row (Some q) v w s h = ap (λ (x : State). ticked x Step) (sym h)

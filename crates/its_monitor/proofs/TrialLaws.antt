@@ -26,17 +26,9 @@ use Rattle.its_world.specs.declared.world.World.{World}
 use Rattle.its_world.proofs.MarkLaws.{mark_none}
 use Rattle.its_operator.specs.Kept.{Kept}
 use Rattle.its_monitor.specs.Ticks.{ticked}
-use Rattle.its_monitor.proofs.HelpLaws.{marks_are}
 use Rattle.its_stepped.specs.Duty.{IsTried}
-
--- what is in a slot
-frame_is : (w : World) (s : ℕ) → (state_of w).frames s ≡ frame_at w.frames.items s
-unfolding state_of
-frame_is w s = refl
-
-raw_is : (w : World) (s : ℕ) → (state_of w).raw.jobs s ≡ raw_at w.files w.core w.jobs s
-unfolding state_of
-raw_is w s = refl
+use Rattle.its_monitor.proofs.ReachLaws.{raw_is}
+use Rattle.its_world.proofs.StorageLaws.{frame_is, marks_are}
 
 -- the call in the frame of a slot, and the raw job that makes it
 record Calls (w : World) (s : ℕ) (h : Holding) (q : Whole) : Type 0 where

@@ -45,16 +45,12 @@ use Rattle.its_pclsr.proofs.ApartLaws.{tidy_put}
 use Rattle.its_operator.specs.Kept.{Kept}
 use Rattle.its_operator.proofs.RegisterLaws.{raw_is}
 use Rattle.its_monitor.specs.Ticks.{Left, Made, UnitIn, left_by, ticked, with_channels}
-
--- the job of a slot in user mode, as the state has it
-frames_of : (w : World) (s : ℕ) → (state_of w).frames s ≡ frame_at w.frames.items s
-unfolding state_of
-frames_of w s = refl
+use Rattle.its_world.proofs.StorageLaws.{frame_is}
 
 raw_addressed : (w : World) (s : ℕ) (q : Whole) → Kept w → frame_at w.frames.items s ≡ None → (state_of w).raw.jobs s ≡ Some q → q.job.pc < 2 ^ 18
 raw_addressed w s q kept none is =
     subst (λ (p : Whole). p.job.pc < 2 ^ 18) (seen_none q)
-    (subst (λ (o : Option Whole). IfSome o (λ p. p.job.pc < 2 ^ 18)) (seen_at (state_of w) s q None is (frames_of w s ∙ none)) (kept.addressed s))
+    (subst (λ (o : Option Whole). IfSome o (λ p. p.job.pc < 2 ^ 18)) (seen_at (state_of w) s q None is (frame_is w s ∙ none)) (kept.addressed s))
 
 pub user_addressed : (w : World) (s : ℕ) → Kept w → frame_at w.frames.items s ≡ None → IfSome (job_at w.jobs s) (λ j. j.pc < 2 ^ 18)
 user_addressed w s kept none = go (job_at w.jobs s) refl
@@ -66,7 +62,7 @@ user_addressed w s kept none = go (job_at w.jobs s) refl
 superior_apart : (w : World) (s : ℕ) (j : Job) → Kept w → frame_at w.frames.items s ≡ None → job_at w.jobs s ≡ Some j → superior_at w.jobs s ≢ Some s
 superior_apart w s j kept none is =
     let q : Whole = raw_job w.files (core_at w.core s) j (superior_at w.jobs s) in
-    subst (λ (o : Option Frame). GivenBy (state_of w) s q o) (frames_of w s ∙ none) ((given decoding (state_of w) s kept.forest kept.sound).by q (raw_is w s j is))
+    subst (λ (o : Option Frame). GivenBy (state_of w) s q o) (frame_is w s ∙ none) ((given decoding (state_of w) s kept.forest kept.sound).by q (raw_is w s j is))
 
 -- what holds of the raw job of a slot
 raw_fact : (P : Whole → Type 0) (w : World) (s : ℕ) (j : Job) → job_at w.jobs s ≡ Some j → P (raw_job w.files (core_at w.core s) j (superior_at w.jobs s)) → IfSome (raw_at w.files w.core w.jobs s) P
@@ -309,7 +305,7 @@ stop_still old mid after s i had none kept b stops row =
     let alike : SlotSame (state_of old) (state_of after) s = subst (λ (v : State). SlotSame (state_of old) v s) (sym e) (told_apart (state_of old) s sup (superior_apart old s i kept none had)) in
     record {
       still = still after s (raw_job old.files (core_at old.core s) i sup) (alike.job ∙ raw_is old s i had);
-      frame = sym (frames_of after s) ∙ alike.frame ∙ frames_of old s ∙ none;
+      frame = sym (frame_is after s) ∙ alike.frame ∙ frame_is old s ∙ none;
       row = e;
     }
 

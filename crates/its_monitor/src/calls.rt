@@ -25,7 +25,7 @@ use call_file::helps;
 use its_decode::{fetch_site, parse_site};
 use its_frame::{Ask, Asked, Decision, Entered, Frame, Holding, Parsed};
 use its_pclsr::{carry_out, unwind_one};
-use its_word::{Fault, ILO, MPV, Pace, WRO, Word};
+use its_word::{Fault, Pace, Word};
 use its_world::World;
 
 /// The quarters of a page.
@@ -154,7 +154,7 @@ fn prepare(w: &mut World, slot: u8, f: Asked) -> Pace
 }
 
 /// Reserves a page for a slot, none of whose quarters is clear.
-#[tactic(auto, using(its_world::proofs::WorldLaws::page_becomes, crate::proofs::PageLaws::reserved_none))]
+#[tactic(auto, using(its_world::proofs::WorldLaws::page_becomes, its_operator::proofs::PageLaws::clear_unreserved))]
 fn reserve(w: &mut World, slot: u8)
     requires slot { slot < slots }
     requires none { clear_at w.old.core slot ≡ None }
@@ -226,19 +226,8 @@ fn set_fault(w: &mut World, slot: u8, fault: Fault)
     ensures tidy { Tidy w.new }
 {
     if let Some(mut job) = w.registers(slot) {
-        job.pend1 = job.pend1 | bit_of(fault);
+        job.pend1 = job.pend1 | fault.bit();
         w.put_registers(slot, job);
-    }
-}
-
-/// The bit of a fault.
-fn bit_of(fault: Fault) -> Word
-    ensures { result ≡ bit_of fault }
-{
-    match fault {
-        Fault::Mpv => Word::new(MPV),
-        Fault::Wro => Word::new(WRO),
-        Fault::Ilo => Word::new(ILO),
     }
 }
 

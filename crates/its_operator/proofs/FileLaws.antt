@@ -12,7 +12,7 @@ use Rattle.its_word.specs.declared.session.Reason.{Reason}
 use Rattle.its_word.specs.declared.session.Refusal.{Refusal}
 use Rattle.its_word.specs.declared.session.Refusal.TheVariants as refusals
 use Rattle.its_core.specs.Cores.{core_at}
-use Rattle.its_jobs.specs.Table.{job_at, superior_at}
+use Rattle.its_jobs.specs.Table.{superior_at}
 use Rattle.its_files.specs.Blocks.{is_full as store_is_full, blocks_used as stored_blocks}
 use Rattle.its_files.specs.Files.{Store, IsStore, entry_at, is_file, names_by, names_at, words_at, file_at, found, with_file, with_word, helped, directory}
 use Rattle.its_files.specs.declared.entry.Entry.TheVariants.{File as Standing}
@@ -32,23 +32,18 @@ use Rattle.its_stepped.proofs.EffectLaws.{unmarked_files}
 use Rattle.its_stepped.proofs.HelpLaws.{help_plain, help_sound, help_unmarked}
 use Rattle.its_stepped.proofs.RefusalLaws.{error_of, made_alike, added_alike}
 use Rattle.its_world.specs.World.{chan_of, raw_of, mark_of, state_of}
-use Rattle.its_world.specs.Tidy.{channel_by, channel_at, Tidy}
+use Rattle.its_world.specs.Tidy.{channel_by, Tidy}
 use Rattle.its_world.specs.declared.world.World.{World}
 use Rattle.its_world.proofs.RoomLaws.{full_on}
 use Rattle.its_world.proofs.KeptLaws.{Stays, made_stays, lengthened_stays, helped_stays}
 use Rattle.its_world.proofs.MarkLaws.{none_marked, mark_none, made_none, help_step}
 use Rattle.its_world.proofs.StoreLaws.{found_named, has_named, found_self}
 use Rattle.its_pclsr.proofs.PartLaws.{store_state, store_tidy}
-use Rattle.its_world.proofs.StorageLaws.{files_are}
+use Rattle.its_world.proofs.StorageLaws.{files_are, chans_are, marks_are}
 use Rattle.its_operator.specs.Kept.{Kept, Lands, Helped, FileRefused, reason_of}
 use Rattle.its_operator.proofs.KeptLaws.{alike_kept, error_is, Made, made_sound, made_plain, made_forest}
 use Rattle.its_operator.proofs.LoadLaws.{and_ok}
 use Rattle.its_operator.proofs.StartLaws.{quiet_by}
-
--- the close that is half made is that of the store
-marks_are : (w : World) → (state_of w).mark ≡ mark_of w.files
-unfolding state_of
-marks_are w = refl
 
 -- the owed parts of a close are made
 module _ (old new : World) (whole : IsStore old.files) (kept : Kept old) (files : new.files ≡ helped old.files) (core : new.core ≡ old.core) (jobs : new.jobs ≡ old.jobs) where
@@ -218,10 +213,6 @@ channels_by : (s : Store) (w : World) (k n : ℕ) (o : Option Job) → channel_i
 channels_by s w k n (Some j) = refl
 channels_by s w k n None = refl
 
-channels_raw : (w : World) → channels_of (state_of w).raw ≡ (λ k n. chan_of w.files (channel_at w.jobs k n))
-unfolding state_of
-channels_raw w = λ i k n. channels_by w.files w k n (job_at w.jobs k) i
-
 module _ (w : World) (whole : IsStore w.files) (kept : Kept w) (none : w.files.mark ≡ None) (id : ℕ) (file : is_file (entry_at w.files id) ≡ true) (most : stored_blocks w.files.stored ≤ 2048) where
   named_here : file_named (names_at w.files id) (directory w.files) ≡ Some (file_at w.files id)
   named_here = sym (found_named w.files (names_at w.files id)) ∙ ap (option_map (file_at w.files)) (found_self w.files whole id file)
@@ -233,7 +224,7 @@ module _ (w : World) (whole : IsStore w.files) (kept : Kept w) (none : w.files.m
       let n = names_at w.files id in
       ap (λ fs. word_added_to m n x (file_named n fs)) (files_are w) ∙ ap (word_added_to m n x) named_here
       ∙ ap (λ fs. word_added_if m n x (is_full fs (channels_of m) (words_at w.files id))) (files_are w)
-      ∙ ap (λ cs. word_added_if m n x (is_full (directory w.files) cs (words_at w.files id))) (channels_raw w)
+      ∙ ap (λ cs. word_added_if m n x (is_full (directory w.files) cs (words_at w.files id))) (chans_are w)
       ∙ ap (word_added_if m n x) (sym (full_on w.files whole none w.jobs id kept.tidy.across most))
 
   pub added_full : (x : ℕ) → store_is_full w.files.stored id ≡ true → word_added (state_of w).raw (names_at w.files id) x ≡ Err (reason_of refusals.Full)

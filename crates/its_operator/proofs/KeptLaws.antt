@@ -1,16 +1,12 @@
 -- What holds between calls, through unwinding and through a line.
 use Rattle.std.specs.Prelude.{if◌then◌else◌, ◌==◌, ◌≡◌, ◌<◌, ◌^◌, ℕ, Bool, true, false, Option, Some, None, IfSome, List, Result, Ok, Err, option_map, is_some, refl}
 use Rattle.std.proofs.Common.{sym, ◌∙◌, ap, subst}
-use Rattle.its_word.specs.Core.{Core}
-use Rattle.its_word.specs.declared.jobs.Job.{Job}
 use Rattle.its_word.specs.declared.session.Event.{Event}
 use Rattle.its_word.specs.declared.session.Reason.{Reason}
 use Rattle.its_word.specs.declared.session.Refusal.{Refusal}
 use Rattle.its_frame.specs.declared.frame.Frame.{Frame}
 use Rattle.its_print.specs.Printing.{Line}
-use Rattle.its_core.specs.Cores.{core_at}
-use Rattle.its_files.specs.Files.{Store}
-use Rattle.its_jobs.specs.Table.{job_at, superior_at}
+use Rattle.its_jobs.specs.Table.{job_at}
 use Rattle.its_plain.specs.Machine.{Whole, Machine, with_job}
 use Rattle.its_plain.specs.Operator.{Block, Does}
 use Rattle.its_plain.specs.CallOperator.{Done, lined}
@@ -25,24 +21,17 @@ use Rattle.its_stepped.proofs.LineLaws.{line_plain}
 use Rattle.its_stepped.proofs.AfterLaws.{after_sound}
 use Rattle.its_stepped.proofs.RefusalLaws.{error_of}
 use Rattle.its_stepped.proofs.WrittenLaws.{line_forest}
-use Rattle.its_world.specs.World.{state_of, raw_of}
+use Rattle.its_world.specs.World.{state_of}
 use Rattle.its_world.specs.Tidy.{Tidy}
 use Rattle.its_world.specs.declared.world.World.{World}
 use Rattle.its_operator.specs.Kept.{Kept, Refused, Calmed, reason_of}
 use Rattle.its_world.proofs.StateLaws.{job_of}
-
--- a slot has a job of the plain machine where the world has one
-some_raw : (s : Store) (c : Core) (superior : Option ℕ) (o : Option Job) → is_some (raw_of s c superior o) ≡ is_some o
-some_raw s c superior (Some j) = refl
-some_raw s c superior None = refl
+use Rattle.its_world.proofs.StorageLaws.{raw_has}
+use Rattle.its_word.proofs.FreeLaws.{none_is}
 
 some_seen : (f : Option Frame) (o : Option Whole) → is_some (option_map (seen f) o) ≡ is_some o
 some_seen f (Some q) = refl
 some_seen f None = refl
-
-pub raw_has : (w : World) (k : ℕ) → is_some ((state_of w).raw.jobs k) ≡ is_some (job_at w.jobs k)
-unfolding state_of
-raw_has w k = some_raw w.files (core_at w.core k) (superior_at w.jobs k) (job_at w.jobs k)
 
 plain_has_raw : (v : State) (k : ℕ) → is_some ((plain v).jobs k) ≡ is_some (v.raw.jobs k)
 unfolding plain
@@ -51,12 +40,8 @@ plain_has_raw v k = some_seen (v.frames k) (v.raw.jobs k)
 pub plain_has : (w : World) (k : ℕ) → is_some ((plain (state_of w)).jobs k) ≡ is_some (job_at w.jobs k)
 plain_has w k = plain_has_raw (state_of w) k ∙ raw_has w k
 
-pub none_of : {X : Type 0} (o : Option X) → is_some o ≡ false → o ≡ None
-none_of (Some x) h = cc
-none_of None h = refl
-
 none_by : {X Y : Type 0} (o : Option X) (p : Option Y) → is_some p ≡ is_some o → o ≡ None → p ≡ None
-none_by o p e h = none_of p (e ∙ ap is_some h)
+none_by o p e h = none_is p (e ∙ ap is_some h)
 
 -- the same plain machine has jobs in the same slots
 alike_has : (old new : World) (k : ℕ) → plain (state_of new) ≡ plain (state_of old) → is_some (job_at new.jobs k) ≡ is_some (job_at old.jobs k)

@@ -11,7 +11,6 @@ use Rattle.its_word.specs.declared.session.Event.TheVariants as events
 use Rattle.its_word.specs.declared.session.Reason.{Reason}
 use Rattle.its_word.specs.declared.session.Refusal.{Refusal}
 use Rattle.its_word.specs.declared.session.Refusal.TheVariants as refusals
-use Rattle.its_frame.specs.declared.frame.Frame.{Frame}
 use Rattle.its_core.specs.Cores.{core_at, clear_at}
 use Rattle.its_jobs.specs.Table.{job_at, superior_at}
 use Rattle.its_plain.specs.Machine.{Whole, Machine, mapped}
@@ -19,7 +18,6 @@ use Rattle.its_plain.specs.Operator.{only, with_core, stored_in, stored, word_lo
 use Rattle.its_plain.specs.CallOperator.{operate, Done, lined}
 use Rattle.its_stepped.specs.State.{State, plain}
 use Rattle.its_stepped.specs.Unwind.{unwound}
-use Rattle.its_stepped.specs.Sound.{SoundBy}
 use Rattle.its_stepped.specs.Lines.{calmed}
 use Rattle.its_stepped.proofs.RefusalLaws.{error_of, word_alike, word_refused_first}
 use Rattle.its_stepped.proofs.UnwindLaws.{unwound_none}
@@ -31,6 +29,7 @@ use Rattle.its_operator.specs.Kept.{Kept, Lands, Refused, Calmed, reason_of, unl
 use Rattle.its_operator.proofs.KeptLaws.{refused_by, Made, made_plain, Lasts, kept_lasts}
 use Rattle.its_operator.proofs.RegisterLaws.{raw_is, raw_is_none, disturbed, block_of}
 use Rattle.its_operator.proofs.WordLaws.{core_lands, core_lasts, core_kept}
+use Rattle.its_stepped.proofs.KeptLaws.{user_page}
 
 abbrev there : World → ℕ → ℕ → Bool
 there w s a = is_some (word_at (core_at w.core s) a)
@@ -122,12 +121,6 @@ load_room old mid s a x c h l p = elim (cases_Bool (nat_lt (pages_mapped (core_a
   | inr t ↦ let no = absent_word (core_at mid.core s) a l p in
       absurd (full_refused (state_of mid).raw s (whole_of mid s c.job) (core_at mid.core s) a x (can mid s a) (there mid s a) (room mid) no.0 no.1 t (clear_on old mid s a x c h))
 ]
-
--- a job in user mode has no reserved page
-user_page : (o : Option Whole) (f : Option Frame) (r : Option ℕ) → f ≡ None → SoundBy o f r → r ≡ None
-user_page None f r e h = h.1
-user_page (Some q) None r e h = h
-user_page (Some q) (Some f) r e h = absurd (let none = e in cc)
 
 pub load_unreserved : (old mid : World) (s : ℕ) → Kept old → Calmed old mid s → clear_at mid.core s ≡ None
 unfolding state_of

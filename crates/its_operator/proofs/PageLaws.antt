@@ -11,6 +11,7 @@ use Rattle.its_core.proofs.CoresLaws.{same_core_at}
 use Rattle.its_jobs.specs.Table.{job_at}
 use Rattle.its_world.specs.World.{frame_at, CoreBecomes}
 use Rattle.its_world.specs.declared.world.World.{World}
+use Rattle.its_world.proofs.WorldLaws.{alike}
 
 unreserved_by : (o : Option Reserved) → option_map (λ x. x.clear) o ≡ None → o ≡ None
 unreserved_by (Some x) h = cc
@@ -39,9 +40,6 @@ mapped_clear a b c s n e o = record {
     | inr i ↦ o.others k i ∙ e.others k i
   ];
 }
-
-alike : {X : Type 0} → (f g : ℕ → X) (s : ℕ) → ((k : ℕ) → g k ≡ f k) → Only f g s (f s)
-alike f g s h = record { here = h s; others = λ k n. h k }
 
 pub page_becomes : (old new : World) (s : ℕ) (c : Core) → Only (core_at old.core) (core_at new.core) s c → Same (clear_at old.core) (clear_at new.core)
     → new.jobs ≡ old.jobs → new.frames ≡ old.frames → new.consoles ≡ old.consoles → new.holders ≡ old.holders → new.files ≡ old.files → new.clock ≡ old.clock → CoreBecomes old new s c

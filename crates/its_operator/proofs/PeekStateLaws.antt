@@ -19,10 +19,12 @@ use Rattle.its_world.specs.declared.world.World.{World}
 use Rattle.its_world.proofs.StateLaws.{job_of, raw_some}
 use Rattle.its_operator.specs.Kept.{Kept}
 use Rattle.its_operator.specs.Peeking.{Shows}
-use Rattle.its_operator.proofs.KeptLaws.{raw_has, plain_has, none_of}
+use Rattle.its_operator.proofs.KeptLaws.{plain_has}
+use Rattle.its_world.proofs.StorageLaws.{raw_has}
+use Rattle.its_word.proofs.FreeLaws.{none_is}
 
 pub peek_absent : (w : World) (s : ℕ) → is_some (job_at w.jobs s) ≡ false → ((state_of w).raw.jobs s ≡ None) × ((plain (state_of w)).jobs s ≡ None)
-peek_absent w s h = (none_of ((state_of w).raw.jobs s) (raw_has w s ∙ h), none_of ((plain (state_of w)).jobs s) (plain_has w s ∙ h))
+peek_absent w s h = (none_is ((state_of w).raw.jobs s) (raw_has w s ∙ h), none_is ((plain (state_of w)).jobs s) (plain_has w s ∙ h))
 
 pub peek_some : (w : World) (s : ℕ) → is_some (job_at w.jobs s) ≡ true → is_some ((state_of w).raw.jobs s) ≡ true
 peek_some w s h = raw_has w s ∙ h

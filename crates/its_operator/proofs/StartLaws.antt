@@ -1,11 +1,11 @@
 -- LOAD, CLOCK, and a world that is opened.
-use Rattle.std.specs.Prelude.{◌≡◌, ◌≢◌, ◌<◌, ◌+◌, ◌^◌, ℕ, zero, suc, Bool, true, false, Option, Some, None, IfSome, List, [], ◌∷◌, replicate, slice_index_or, option_map, Result, Ok, Err, nat_lt, refl}
+use Rattle.std.specs.Prelude.{◌≡◌, ◌<◌, ◌+◌, ◌^◌, ℕ, Bool, true, false, Option, Some, None, IfSome, List, [], ◌∷◌, option_map, Result, Ok, Err, nat_lt, refl}
 use Rattle.std.proofs.Common.{sym, ◌∙◌, ap, subst, inl, inr, lit<}
 use Rattle.std.proofs.lemmas.Bool.{cases_eq}
 use Rattle.its_word.specs.Console.{quiet_console}
 use Rattle.its_word.specs.Core.{no_core}
 use Rattle.its_word.specs.Tree.{least_free, fresh_job}
-use Rattle.its_word.proofs.FreeLaws.{least_alike, least_empty}
+use Rattle.its_word.proofs.FreeLaws.{least_empty}
 use Rattle.its_word.specs.declared.jobs.Channel.TheVariants.{Closed}
 use Rattle.its_word.specs.declared.session.Event.TheVariants as events
 use Rattle.its_word.specs.declared.session.Reason.{Reason}
@@ -15,8 +15,7 @@ use Rattle.its_print.specs.Printing as printed
 use Rattle.its_core.specs.Cores.{Reserved, core_at, clear_at, IsEmpty}
 use Rattle.its_jobs.specs.Table.{Table, job_at, superior_at, NoJobs}
 use Rattle.its_files.specs.Blocks.{numbers}
-use Rattle.its_files.specs.Files.{Store, readers_by, directory, no_files}
-use Rattle.its_files.proofs.ListLaws.{get_or-copies}
+use Rattle.its_files.specs.Files.{readers_by, directory, no_files}
 use Rattle.its_plain.specs.Machine.{Whole, Machine, changed, with_job, no_machine}
 use Rattle.its_plain.specs.Operator.{Block, no_block, Does, nobody, only, new_job, held_by, with_holder, loaded_in, loaded, by_load, quietly}
 use Rattle.its_plain.specs.CallOperator.{clock_end, clocked_if, clocked, operate, Done, lined}
@@ -29,74 +28,18 @@ use Rattle.its_stepped.proofs.ForestLaws.{forest_starts}
 use Rattle.its_stepped.proofs.FrameLaws.{changed_only}
 use Rattle.its_stepped.proofs.LineLaws.{least_plain}
 use Rattle.its_stepped.proofs.StartLaws.{no_state_plain, no_state_sound}
-use Rattle.its_world.specs.World.{chan_of, closed_channels, frame_at, console_at, holder_at, raw_of, raw_at, raw_machine, mark_of, state_of, HolderBecomes}
-use Rattle.its_world.specs.Tidy.{channel_by, channel_at, tally, reads, writes, writers, Across, Tidy}
+use Rattle.its_world.specs.World.{frame_at, console_at, holder_at, raw_of, raw_machine, mark_of, state_of, HolderBecomes}
+use Rattle.its_world.specs.Tidy.{channel_by, channel_at, tally, reads, writes, writers, Across}
 use Rattle.its_world.specs.declared.world.World.{World}
-use Rattle.its_world.proofs.StateLaws.{state_is, raw_job, holder_state}
-use Rattle.its_world.proofs.KeptLaws.{across_table}
+use Rattle.its_world.proofs.StateLaws.{state_is, holder_state}
 use Rattle.its_world.proofs.TallyLaws.{tally_same, tally_none}
 use Rattle.its_pclsr.proofs.ApartLaws.{tidy_alike}
-use Rattle.its_operator.specs.Kept.{Kept, Lands, Loads, Refused, Fresh, Alters, Later}
-use Rattle.its_operator.proofs.KeptLaws.{raw_has, Made, made_sound, made_plain, made_forest, Lasts, kept_lasts, put_lasts}
+use Rattle.its_operator.specs.Kept.{Kept, Lands, Loads, Refused, Alters, Later}
+use Rattle.its_operator.proofs.KeptLaws.{Made, made_sound, made_plain, made_forest, Lasts, kept_lasts, put_lasts}
 use Rattle.its_operator.proofs.RegisterLaws.{block_of}
-
--- a fresh job has no open channel
-all_closed : (k n : ℕ) → slice_index_or (replicate k Closed) n Closed ≡ Closed
-all_closed zero n = refl
-all_closed (suc k) zero = refl
-all_closed (suc k) (suc n) = all_closed k n
-
-fresh_raw : (x : Store) (u j : ℕ) (console : Option ℕ) → raw_job x no_core (fresh_job u j console) None ≡ new_job u j console
-unfolding fresh_job closed_channels
-fresh_raw x u j console = λ t. record (new_job u j console) { channels = λ n. chan_of x (all_closed 16 n t) }
-
-fresh_here : (old new : World) (s u j : ℕ) (console : Option ℕ) → Fresh old new s u j console → core_at old.core s ≡ no_core → raw_at new.files new.core new.jobs s ≡ Some (new_job u j console)
-fresh_here old new s u j console f blank =
-    ap (λ c. raw_of new.files (core_at c s) (superior_at new.jobs s) (job_at new.jobs s)) f.core
-    ∙ ap (λ c. raw_of new.files c (superior_at new.jobs s) (job_at new.jobs s)) blank
-    ∙ ap (λ i. raw_of new.files no_core i (job_at new.jobs s)) f.superior.here
-    ∙ ap (raw_of new.files no_core None) f.job.here ∙ ap Some (fresh_raw new.files u j console)
-
-fresh_other : (old new : World) (s u j : ℕ) (console : Option ℕ) (k : ℕ) → Fresh old new s u j console → k ≢ s → raw_at new.files new.core new.jobs k ≡ raw_at old.files old.core old.jobs k
-fresh_other old new s u j console k f ne =
-    ap (λ x. raw_of x (core_at new.core k) (superior_at new.jobs k) (job_at new.jobs k)) f.files
-    ∙ ap (λ c. raw_of old.files (core_at c k) (superior_at new.jobs k) (job_at new.jobs k)) f.core
-    ∙ ap (λ i. raw_of old.files (core_at old.core k) i (job_at new.jobs k)) (f.superior.others k ne)
-    ∙ ap (raw_of old.files (core_at old.core k) (superior_at old.jobs k)) (f.job.others k ne)
-
-fresh_state : (old new : World) (s u j : ℕ) (console : Option ℕ) → Fresh old new s u j console → core_at old.core s ≡ no_core
-    → state_of new ≡ with_raw (state_of old) (with_job (state_of old).raw s (new_job u j console))
-unfolding state_of
-fresh_state old new s u j console f blank = state_is _ _
-    (machine_is _ _ (λ k. elim (cases_eq k s) [
-      | inl is ↦ ap (raw_at new.files new.core new.jobs) is ∙ fresh_here old new s u j console f blank ∙ sym (ap (changed (raw_at old.files old.core old.jobs) s (Some (new_job u j console))) is ∙ (changed_only (raw_at old.files old.core old.jobs) s (Some (new_job u j console))).here)
-      | inr ne ↦ fresh_other old new s u j console k f ne ∙ sym ((changed_only (raw_at old.files old.core old.jobs) s (Some (new_job u j console))).others k ne)
-    ]) (λ c. ap (λ l. console_at l.items c) f.consoles) (λ c. ap (λ l. holder_at l c) f.holders) (ap directory f.files) f.clock)
-    (λ k. ap (λ v. frame_at v.items k) f.frames)
-    (λ k. ap (λ c. clear_at c k) f.core)
-    (ap mark_of f.files)
-
--- and the slot, which was empty, has no open channel before and after
-fresh_closed : (u j : ℕ) (console : Option ℕ) (n : ℕ) → channel_by (Some (fresh_job u j console)) n ≡ Closed
-unfolding fresh_job
-fresh_closed u j console n = all_closed 16 n
-
-fresh_tidy : (old new : World) (s u j : ℕ) (console : Option ℕ) → Fresh old new s u j console → job_at old.jobs s ≡ None → Tidy old → Tidy new
-fresh_tidy old new s u j console f none tidy = record {
-  blank = λ k h. ap (λ c. core_at c k) f.core ∙ elim (cases_eq k s) [
-    | inl is ↦ let made : None ≡ Some (fresh_job u j console) = sym h ∙ ap (job_at new.jobs) is ∙ f.job.here in absurd cc
-    | inr ne ↦ tidy.blank k (sym (f.job.others k ne) ∙ h)
-  ];
-  across = subst (λ x. Across x new.jobs) (sym f.files) (across_table old.files old.jobs new.jobs tidy.across (λ k n. elim (cases_eq k s) [
-    | inl is ↦
-        ap (λ i. channel_at new.jobs i n) is ∙ ap (λ o. channel_by o n) f.job.here ∙ fresh_closed u j console n
-        ∙ sym (ap (λ i. channel_at old.jobs i n) is ∙ ap (λ o. channel_by o n) none)
-    | inr ne ↦ ap (λ o. channel_by o n) (f.job.others k ne)
-  ]));
-}
-
-least_raw : (w : World) → least_free (state_of w).raw.jobs ≡ least_free (job_at w.jobs)
-least_raw w = least_alike (state_of w).raw.jobs (job_at w.jobs) (λ k. raw_has w k)
+use Rattle.its_world.proofs.MadeLaws.{least_raw, made_state, made_tidy}
+use Rattle.its_world.specs.Made.{JobMade}
+use Rattle.its_word.proofs.TableLaws.{get_or-filled}
 
 loaded_by : (r : Result (Machine × ℕ) Reason) (n : Machine) (s : ℕ) (out : List Line) (touched : ℕ → Bool) → Done (by_load no_block r) ≡ Done (Does n out touched (block_of s)) → r ≡ Ok (n, s)
 loaded_by (Ok (m, i)) n s out touched h = let a : m ≡ n = cc in let b : block_of i ≡ block_of s = cc in ap (λ (x : Machine). Ok (x, i)) a ∙ ap (λ (k : Block). Ok (n, k.slot)) b
@@ -149,11 +92,11 @@ module _ (old mid new : World) (s u j : ℕ) (console : Option ℕ) where
   blank_at : Kept old → least_free (job_at old.jobs) ≡ Some s → core_at old.core s ≡ no_core
   blank_at kept e = kept.tidy.blank s (least_empty (job_at old.jobs) s e)
 
-  load_state : Kept old → least_free (job_at old.jobs) ≡ Some s → Fresh old mid s u j console → Alters mid new (with_holder (state_of mid).raw s console)
+  load_state : Kept old → least_free (job_at old.jobs) ≡ Some s → JobMade old mid s u j None console → Alters mid new (with_holder (state_of mid).raw s console)
       → state_of new ≡ with_raw (state_of old) (with_holder (with_job (state_of old).raw s (new_job u j console)) s console)
-  load_state kept e f h = h.state ∙ ap (λ (v : State). with_raw v (with_holder v.raw s console)) (fresh_state old mid s u j console f (blank_at kept e))
+  load_state kept e f h = h.state ∙ ap (λ (v : State). with_raw v (with_holder v.raw s console)) (made_state old mid s u j None console f (blank_at kept e))
 
-  pub load_done : Kept old → least_free (job_at old.jobs) ≡ Some s → Fresh old mid s u j console → Alters mid new (with_holder (state_of mid).raw s console)
+  pub load_done : Kept old → least_free (job_at old.jobs) ≡ Some s → JobMade old mid s u j None console → Alters mid new (with_holder (state_of mid).raw s console)
       → Loads (state_of old) (state_of new) (loaded (state_of old).raw u j console) s
   unfolding loaded
   load_done kept e f h =
@@ -163,14 +106,14 @@ module _ (old mid new : World) (s u j : ℕ) (console : Option ℕ) where
         rest = is ∙ ap (λ (v : State). with_raw (state_of old) v.raw) (sym is);
       }
 
-  load_line : Kept old → least_free (job_at old.jobs) ≡ Some s → Fresh old mid s u j console → Alters mid new (with_holder (state_of mid).raw s console)
+  load_line : Kept old → least_free (job_at old.jobs) ≡ Some s → JobMade old mid s u j None console → Alters mid new (with_holder (state_of mid).raw s console)
       → Made (state_of old) (state_of new) no_block (events.Load u j console)
   unfolding calmed lined operate
   load_line kept e f h =
       let l = load_done kept e f h in
       record { out = printed.Loaded s ∷ []; touched = only s; block = block_of s; is = ap (λ r. Done (by_load no_block r)) l.is; rest = l.rest }
 
-  pub load_plain : Kept old → least_free (job_at old.jobs) ≡ Some s → Fresh old mid s u j console → Alters mid new (with_holder (state_of mid).raw s console)
+  pub load_plain : Kept old → least_free (job_at old.jobs) ≡ Some s → JobMade old mid s u j None console → Alters mid new (with_holder (state_of mid).raw s console)
       → loaded (plain (state_of old)) u j console ≡ Ok (plain (state_of new), s)
   unfolding lined operate load_line
   load_plain kept e f h =
@@ -178,7 +121,7 @@ module _ (old mid new : World) (s u j : ℕ) (console : Option ℕ) where
       loaded_by (loaded (plain (state_of old)) u j console) (plain (state_of new)) s (printed.Loaded s ∷ []) (only s)
       (made_plain (state_of old) (state_of new) no_block (events.Load u j console) kept.sound m)
 
-  load_machine : Kept old → least_free (job_at old.jobs) ≡ Some s → Fresh old mid s u j console → Alters mid new (with_holder (state_of mid).raw s console)
+  load_machine : Kept old → least_free (job_at old.jobs) ≡ Some s → JobMade old mid s u j None console → Alters mid new (with_holder (state_of mid).raw s console)
       → with_holder (with_job (plain (state_of old)) s (new_job u j console)) s console ≡ plain (state_of new)
   unfolding loaded
   load_machine kept e f h =
@@ -197,17 +140,17 @@ module _ (old mid new : World) (s u j : ℕ) (console : Option ℕ) where
   unfolding fresh_job
   fresh_console fits = fits
 
-  load_lasts : IfSome console (λ c. c < 8) → Kept old → least_free (job_at old.jobs) ≡ Some s → Fresh old mid s u j console → Alters mid new (with_holder (state_of mid).raw s console)
+  load_lasts : IfSome console (λ c. c < 8) → Kept old → least_free (job_at old.jobs) ≡ Some s → JobMade old mid s u j None console → Alters mid new (with_holder (state_of mid).raw s console)
       → Lasts (plain (state_of new))
   load_lasts fits kept e f h =
       subst Lasts (load_machine kept e f h)
       (held_lasts _ s console (put_lasts (plain (state_of old)) s (new_job u j console) fresh_pc (fresh_console fits) (kept_lasts old kept)))
 
-  pub load_kept : IfSome console (λ c. c < 8) → Kept old → least_free (job_at old.jobs) ≡ Some s → Fresh old mid s u j console → Alters mid new (with_holder (state_of mid).raw s console) → Kept new
+  pub load_kept : IfSome console (λ c. c < 8) → Kept old → least_free (job_at old.jobs) ≡ Some s → JobMade old mid s u j None console → Alters mid new (with_holder (state_of mid).raw s console) → Kept new
   load_kept fits kept e f h = record {
     sound = made_sound (state_of old) (state_of new) no_block (events.Load u j console) kept.sound (load_line kept e f h);
     forest = made_forest (state_of old) (state_of new) no_block (events.Load u j console) kept.sound kept.forest (load_line kept e f h);
-    tidy = tidy_alike mid new h.core h.jobs h.files (fresh_tidy old mid s u j console f (least_empty (job_at old.jobs) s e) kept.tidy);
+    tidy = tidy_alike mid new h.core h.jobs h.files (made_tidy old mid s u j None console f (least_empty (job_at old.jobs) s e) kept.tidy);
     addressed = (load_lasts fits kept e f h).addressed;
     consoled = (load_lasts fits kept e f h).consoled;
   }
@@ -301,8 +244,8 @@ no_across : (t : Table) → NoJobs t → Across no_files t
 no_across t none = record {
   past_slots = λ k n le. closed k n;
   past_numbers = λ k n le. closed k n;
-  read = λ f. tally_same (reads f) (λ k n. Closed) (channel_at t) closed ∙ nothing_read f ∙ sym (ap readers_by (get_or-copies numbers f None));
-  written = λ d. tally_same (writes d) (λ k n. Closed) (channel_at t) closed ∙ nothing_written d ∙ sym (ap (λ e. writers e false) (get_or-copies numbers d None));
+  read = λ f. tally_same (reads f) (λ k n. Closed) (channel_at t) closed ∙ nothing_read f ∙ sym (ap readers_by (get_or-filled numbers f None));
+  written = λ d. tally_same (writes d) (λ k n. Closed) (channel_at t) closed ∙ nothing_written d ∙ sym (ap (λ e. writers e false) (get_or-filled numbers d None));
 }
   where
     closed : (k n : ℕ) → channel_at t k n ≡ Closed

@@ -1,7 +1,5 @@
 -- What holds of a world between two calls, and what a call of the operator makes of the state that a world stands for.
 use Rattle.std.specs.Prelude.{if◌then◌else◌, ◌≡◌, ◌<◌, ◌+◌, ◌^◌, ℕ, Bool, Option, Some, None, IfSome, Result, Ok, Err}
-use Rattle.its_word.specs.Only.{Only}
-use Rattle.its_word.specs.Tree.{fresh_job}
 use Rattle.its_word.specs.declared.access.NoAccess.{NoAccess}
 use Rattle.its_word.specs.declared.access.NoAccess.TheVariants.{Absent, ReadOnly}
 use Rattle.its_word.specs.declared.session.Reason.{Reason}
@@ -10,7 +8,7 @@ use Rattle.its_word.specs.declared.session.Refusal.{Refusal}
 use Rattle.its_word.specs.declared.session.Refusal.TheVariants as refusals
 use Rattle.its_word.specs.declared.jobs.Job.{Job}
 use Rattle.its_files.specs.Files.{helped}
-use Rattle.its_jobs.specs.Table.{job_at, superior_at}
+use Rattle.its_jobs.specs.Table.{job_at}
 use Rattle.its_plain.specs.Machine.{Machine}
 use Rattle.its_stepped.specs.State.{State, plain}
 use Rattle.its_stepped.specs.Sound.{Sound}
@@ -87,17 +85,6 @@ undepositable can there = if can then None else (if there then Some refusals.Rea
 -- why a word cannot be loaded: by whether it can be stored, whether its page is present, and whether there is room
 abbrev pub unloadable : Bool → Bool → Bool → Option Refusal
 unloadable can there room = if can then None else (if there then Some refusals.ReadOnly else (if room then None else Some refusals.Full))
-
--- a job was made in a slot; the consoles have the same holders
-pub record Fresh (old new : World) (s u j : ℕ) (console : Option ℕ) : Type 0 where
-  pub job : Only (job_at old.jobs) (job_at new.jobs) s (Some (fresh_job u j console))
-  pub superior : Only (superior_at old.jobs) (superior_at new.jobs) s None
-  pub core : new.core ≡ old.core
-  pub frames : new.frames ≡ old.frames
-  pub consoles : new.consoles ≡ old.consoles
-  pub holders : new.holders ≡ old.holders
-  pub files : new.files ≡ old.files
-  pub clock : new.clock ≡ old.clock
 
 -- the raw machine of a world is another, with the same cores, jobs and files
 pub record Alters (old new : World) (m : Machine) : Type 0 where

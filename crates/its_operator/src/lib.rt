@@ -1,5 +1,6 @@
-//! The operator's calls: what the lines of a session do to the world, and what they show. A call that is
-//! refused leaves the world as it was; else the job that it names is unwound to user mode first.
+//! The operator's calls: what the lines of a session do to the world, and what they show. A call that names a job
+//! leaves the world as it was where it is refused; else the job is unwound to user mode first, but by PEEK. A call
+//! on files first makes the parts of a close that are owed.
 #![tactic(auto)]
 
 mod filing;

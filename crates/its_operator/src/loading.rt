@@ -7,7 +7,8 @@ ghost use Rattle.its_plain.specs.Operator.{loaded, with_holder};
 ghost use Rattle.its_plain.specs.CallOperator.{clocked, clock_end};
 ghost use Rattle.its_stepped.specs.State.{plain, no_state};
 ghost use Rattle.its_world.specs.World.{state_of};
-ghost use Rattle.its_operator.specs.Kept.{Kept, Lands, Loads, Refused, Fresh, Alters, Later};
+ghost use Rattle.its_operator.specs.Kept.{Kept, Lands, Loads, Refused, Alters, Later};
+ghost use Rattle.its_world.specs.Made.{JobMade};
 
 use its_jobs::NoSlot;
 use its_word::{NoMemory, Refusal, Word};
@@ -51,7 +52,7 @@ pub fn load_job(w: &mut World, u: Word, j: Word, console: Option<u8>) -> Result<
 /// Makes a job in the least free slot.
 fn make(w: &mut World, u: Word, j: Word, console: Option<u8>) -> Result<u8, NoSlot>
     ensures slot { IfOk result (λ s. (least_free (job_at w.old.jobs) ≡ Some s) × (s < slots)) }
-    ensures made { IfOk result (λ s. Fresh w.old w.new s u j console) }
+    ensures made { IfOk result (λ s. JobMade w.old w.new s u j None console) }
     ensures full { OnErr result (least_free (job_at w.old.jobs) ≡ None) }
     ensures same { OnErr result (w.new ≡ w.old) }
 {

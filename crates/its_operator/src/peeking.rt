@@ -118,7 +118,7 @@ fn name_read(site: &Site, block: &[Word]) -> Option<Word>
     }
 }
 
-/// The byte that a frame holds.
+/// The byte or word that a frame holds.
 fn byte_shown(frame: &Frame) -> Option<Word>
     ensures { result ≡ byte_shown (Some frame.now) }
 {

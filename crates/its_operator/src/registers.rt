@@ -9,7 +9,7 @@ ghost use Rattle.its_world.specs.World.{state_of};
 ghost use Rattle.its_operator.specs.Kept.{Kept, Lands, Refused, Calm};
 
 use its_pclsr::unwind;
-use its_word::{FATAL, Job, JobShow, NAMED_FLAGS, Refusal, USER, Word};
+use its_word::{FATAL, Job, JobShow, Refusal, Word, pc_word};
 use its_world::World;
 
 /// GO: starts a slot's job at an address, with no flags. NoJob where the slot is empty.
@@ -151,7 +151,7 @@ fn shown(job: &Job, superior: Option<u8>) -> JobShow
         sup: superior,
         con: job.console,
         run: !job.stopped,
-        pc: pc_word(job),
+        pc: pc_word(job.flags, job.pc),
         p1: job.pend1,
         p2: job.pend2,
         m1: job.mask1,
@@ -159,11 +159,4 @@ fn shown(job: &Job, superior: Option<u8>) -> JobShow
         d1: job.defer1,
         d2: job.defer2,
     }
-}
-
-/// The PC word of a job; user is always on.
-fn pc_word(job: &Job) -> Word
-    ensures { result ≡ pc_word job.now.flags job.now.pc }
-{
-    Word::pair(job.flags & NAMED_FLAGS | USER, job.pc)
 }

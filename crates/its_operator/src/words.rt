@@ -65,7 +65,6 @@ pub fn deposit(w: &mut World, slot: u8, a: u32, word: Word) -> Result<(), Refusa
 
 /// One word of an a/ line: an absent page is made, writable and of zeros. NoJob where the slot is empty;
 /// ReadOnly where the page is so; Full where a page is needed and 1024 pages are mapped.
-
 #[tactic(auto, using(crate::proofs::LoadLaws::load_none, crate::proofs::LoadLaws::load_refused, crate::proofs::LoadLaws::load_clear, crate::proofs::LoadLaws::load_writable, crate::proofs::LoadLaws::load_room, crate::proofs::LoadLaws::load_unreserved, crate::proofs::LoadLaws::load_stored, crate::proofs::LoadLaws::load_made, crate::proofs::LoadLaws::load_plain, crate::proofs::LoadLaws::load_kept))]
 pub fn load_word(w: &mut World, slot: u8, a: u32, word: Word) -> Result<(), Refusal>
     requires slot { slot < slots }

@@ -23,9 +23,9 @@ use Rattle.its_frame.specs.declared.decision.Wait.{Wait}
 use Rattle.its_frame.specs.declared.frame.Frame.{Frame}
 use Rattle.its_frame.specs.declared.frame.Holding.{Holding}
 use Rattle.its_plain.specs.Arguments.{debts, revalued}
-use Rattle.its_plain.specs.Change.{superiors, is_gone, left_job, removed, inferior, effect}
+use Rattle.its_plain.specs.Change.{superiors, is_gone, removed, inferior, effect}
 use Rattle.its_plain.specs.Decide.{call_named}
-use Rattle.its_plain.specs.Machine.{Whole, changed}
+use Rattle.its_plain.specs.Machine.{changed}
 use Rattle.its_stepped.specs.Commit.{effect_on, effects_on, committed, gone_on, owed_by, given_up, owed_part, owed_parts, owed_store, sleeps}
 use Rattle.its_stepped.specs.State.{State, mine, turn, same, ending, waiting}
 use Rattle.its_pclsr.specs.Built.{CanMake, CanMakeAll, backed}
@@ -34,6 +34,7 @@ use Rattle.its_world.specs.World.{state_of, marking, mark_of, parts_left, frame_
 use Rattle.its_world.specs.declared.world.World.{World}
 use Rattle.its_world.proofs.StateLaws.{kept_turn}
 use Rattle.its_world.proofs.StorageLaws.{raw_has}
+use Rattle.its_stepped.proofs.ForestLaws.{left_some}
 
 -- the name of SLEEP is that of no other call
 not_asleep : (n : ℕ) → (n == 0o635445456000) ≡ false → sleeps (call_named n) ≡ false
@@ -119,12 +120,6 @@ made_some : {X : Type 0} (x : X) (b : Bool) (o : Option X) → is_some o ≡ tru
 made_some x true o h = refl
 made_some x false o h = h
 
--- a job that does not go with a tree
-stays_some : (gone : ℕ → Bool) (b : Bool) (o : Option Whole) → b ≡ false → is_some o ≡ true → is_some (left_job gone b o) ≡ true
-stays_some gone false (Some q) e h = refl
-stays_some gone false None e h = cc
-stays_some gone true o e h = cc
-
 -- a page that is made is the one that the caller had reserved
 at_most : {m n : ℕ} → m ≡ n → m ≤ n
 at_most e = omega arith
@@ -152,7 +147,7 @@ one_mild (changes.Make s u n) j w b = record { job = λ h. made_some (inferior j
 one_mild (changes.Remove s) j w b =
     let gone : ℕ → Bool = is_gone (superiors w.raw) s in
     record {
-      job = λ h. stays_some gone (gone j) (w.raw.jobs j) b.2 h;
+      job = λ h. left_some gone (gone j) (w.raw.jobs j) b.2 h;
       frame = ap (λ (g : Bool). if g then None else w.frames j) b.2;
       page = at_most refl;
     }

@@ -13,7 +13,6 @@ use Rattle.its_word.specs.declared.jobs.Channel.{Channel}
 use Rattle.its_word.specs.declared.jobs.Channel.TheVariants.{Closed, TtyIn, TtyOut, Reading, Writing, Usr}
 use Rattle.its_core.specs.Cores.{IsEmpty, Reserved, core_at, clear_at}
 use Rattle.its_files.specs.Files.{Store, no_files, readers_by, entry_at, is_marked}
-use Rattle.its_files.proofs.ListLaws.{get_or-copies}
 use Rattle.its_frame.specs.declared.change.Change.TheVariants as changes
 use Rattle.its_frame.specs.declared.frame.Frame.{Frame}
 use Rattle.its_jobs.specs.Table.{Table, job_at, superior_at, IsTree, NoJobs}
@@ -33,6 +32,7 @@ use Rattle.its_world.proofs.TallyLaws.{tally_none}
 use Rattle.its_pclsr.specs.Built.{CanMakeAll}
 use Rattle.its_pclsr.specs.Removal.{Elsewhere}
 use Rattle.its_pclsr.proofs.RemovalLaws.{superiors_are}
+use Rattle.its_word.proofs.TableLaws.{get_or-filled}
 
 -- it is sound, and has neither frames nor reserved pages
 pub idle_sound : (w : World) → IsEmpty w.core → ((k : ℕ) → frame_at w.frames.items k ≡ None) → w.files ≡ no_files → Sound (state_of w)
@@ -81,7 +81,7 @@ unfolding tally
 none_weighs w cs h = (λ i. sum_by (λ k. sum_by (λ n. h k n i) (range_with_len 0 16)) (range_with_len 0 slots)) ∙ tally_none cs
 
 no_entry : (id : ℕ) → entry_at no_files id ≡ None
-no_entry id = get_or-copies 1280 id None
+no_entry id = get_or-filled 1280 id None
 
 idle_across : (t : Table) → Elsewhere t → Across no_files t
 idle_across t h = record {

@@ -10,7 +10,7 @@ use Rattle.its_world.specs.Tidy.{Across, Tidy}
 use Rattle.its_world.specs.World.{mark_of, state_of}
 use Rattle.its_world.specs.declared.world.World.{World}
 use Rattle.its_world.proofs.StorageLaws as stored
-use Rattle.its_world.proofs.StorageLaws.{files_are}
+use Rattle.its_world.proofs.StorageLaws.{files_are, marks_are}
 use Rattle.its_world.proofs.MarkLaws.{mark_none, made, part_step}
 use Rattle.its_world.proofs.KeptLaws.{Stays}
 use Rattle.its_pclsr.specs.Owed.{Begins, IsNext}
@@ -56,10 +56,6 @@ next_state w s p None whole files marked e next = none_state w s p None (marked 
 next_state w s p (Some m) whole files marked e next =
     let ps = next_begins m.parts p next in
     sym (part_step s whole w m p ps.0 marked files e ps.1)
-
-marks_are : (w : World) → (state_of w).mark ≡ mark_of w.files
-unfolding state_of
-marks_are w = refl
 
 pub next_made : (old new : World) (p : Part) → IsStore old.files → IsNext (state_of old).mark p → new.files ≡ made p old.files → Stays old.files new.files old.jobs
     → new.core ≡ old.core → new.jobs ≡ old.jobs → new.frames ≡ old.frames → new.consoles ≡ old.consoles → new.holders ≡ old.holders → new.clock ≡ old.clock → NextMade old new

@@ -44,6 +44,7 @@ use Rattle.its_pclsr.proofs.RemovalLaws.{no_page}
 use Rattle.its_pclsr.proofs.CanLaws.{DecisionCan, Sees, Can, file_can}
 use Rattle.its_pclsr.proofs.UsrCanLaws.{Aim, Finds, usr_can}
 use Rattle.its_pclsr.proofs.CoreCanLaws.{FindsPages, core_can}
+use Rattle.its_stepped.proofs.GivenLaws.{below_itself}
 
 -- every call, in a state in which it is decided on raw jobs
 decided_can_by : (j : ℕ) (v : State) (x : View) (a : Ask) (z : Bool) → (a.fail == 0) ≡ z → Sees x v j → (helps x.own a ≡ true → v.mark ≡ None)
@@ -172,11 +173,6 @@ target_reached m j q a s t = elim (cases_eq a.fail 0) [
 pub still_at : (v : State) (o : Option ℕ) → ((s : ℕ) → o ≡ Some s → v.frames s ≡ None) → StillAt v o
 still_at v (Some s) h = subst IsStill (sym (h s refl)) tt
 still_at v None h = tt
-
--- what is tried can be carried out
-below_itself : (sup : ℕ → Option ℕ) (j : ℕ) → is_below sup j j ≡ false
-unfolding is_below
-below_itself sup j = rw (eq-eqb j j refl) refl
 
 below_other : (sup : ℕ → Option ℕ) (j k : ℕ) → is_below sup j k ≡ true → k ≢ j
 below_other sup j k h e = let none : is_below sup j k ≡ false = ap (is_below sup j) e ∙ below_itself sup j in cc

@@ -1,5 +1,5 @@
 -- A tree of jobs that is swept slot by slot, and then removed, is the removal of the plain machine.
-use Rattle.std.specs.Prelude.{if◌then◌else◌, ◌≡◌, ◌≢◌, ◌≤◌, ◌<◌, ◌+◌, ◌==◌, ◌||◌, ℕ, Bool, true, false, Option, Some, None, List, is_some, option_map, sum_by, length, slice_index_or, slice_set, refl}
+use Rattle.std.specs.Prelude.{if◌then◌else◌, ◌≡◌, ◌≢◌, ◌≤◌, ◌<◌, ◌+◌, ◌==◌, ℕ, Bool, true, false, Option, Some, None, List, is_some, option_map, sum_by, length, slice_index_or, slice_set, refl}
 use Rattle.std.specs.List.{range_with_len}
 use Rattle.its_word.specs.Console.{Console}
 use Rattle.std.proofs.Common.{sym, ◌∙◌, ap, subst, arith, inl, inr}
@@ -23,7 +23,7 @@ use Rattle.its_plain.specs.Change.{on_slot, channel_in, chan_left, shut_on, left
 use Rattle.its_plain.proofs.MachineLaws.{machine_is}
 use Rattle.its_stepped.specs.Commit.{effect_on}
 use Rattle.its_stepped.specs.SlotSame.{SlotSame}
-use Rattle.its_stepped.specs.Sound.{Sound, SoundBy}
+use Rattle.its_stepped.specs.Sound.{Sound}
 use Rattle.its_stepped.specs.State.{State}
 use Rattle.its_stepped.proofs.FrameLaws.{on_slot_here, on_slot_other}
 use Rattle.its_stepped.proofs.UnwindLaws.{slot_same, slot_then}
@@ -34,8 +34,10 @@ use Rattle.its_world.specs.Tidy.{channel_by, channel_at, tally, reads, writes, A
 use Rattle.its_world.specs.World.{chan_of, mark_of, bare, raw_of, raw_at, frame_at, console_at, holder_at, state_of, in_raw, Becomes, CoreBecomes, FrameBecomes, JobBecomes}
 use Rattle.its_world.specs.declared.world.World.{World}
 use Rattle.its_world.proofs.StateLaws.{state_is, raw_others, changed_state, absent_state}
-use Rattle.its_world.proofs.StorageLaws.{chan_is, chan_shut}
+use Rattle.its_world.proofs.StorageLaws.{chan_is, chan_shut, frame_is}
 use Rattle.its_world.proofs.KeptLaws.{across_table}
+use Rattle.its_word.proofs.ClimbLaws.{or_second}
+use Rattle.its_stepped.proofs.KeptLaws.{user_page}
 
 -- the superiors of the raw machine are those of the jobs
 superior_by : (t : Store) (c : Core) (s : Option ℕ) (o : Option Job) → (o ≡ None → s ≡ None) → superior_in (raw_of t c s o) ≡ s
@@ -160,10 +162,6 @@ closed_all w s tidy h n = elim (cases_lt n 16) [
   | inl l ↦ chan_shut w s n (h n l)
   | inr ge ↦ tidy.across.past_numbers s n (omega arith)
 ]
-
-frame_is : (w : World) (s : ℕ) → (state_of w).frames s ≡ frame_at w.frames.items s
-unfolding state_of
-frame_is w s = refl
 
 pub slot_emptied : (old mid low new : World) (s : ℕ) → Closes (state_of old) (state_of mid) s 16 → Tidy mid → CoreBecomes mid low s no_core → FrameBecomes low new s None → Empties old new s
 slot_emptied old mid low new s a tidy b d = record {
@@ -497,18 +495,8 @@ module _ (old mid : World) (r : ℕ) (low : r < slots) (tree : IsTree old.jobs.j
           (λ k. ap (λ c. clear_at c k) core ∙ (all_swept k).page)
           (ap mark_of files ∙ swept.shared.mark)
 
--- no page is left behind
-no_page_by : (o : Option Whole) (f : Option Frame) (r : Option ℕ) → f ≡ None → SoundBy o f r → r ≡ None
-no_page_by None f r e s = s.1
-no_page_by (Some q) None r e s = s
-no_page_by (Some q) (Some f) r e s = cc
-
 pub no_page : (w : State) (k : ℕ) → Sound w → w.frames k ≡ None → w.reserved k ≡ None
-no_page w k s e = no_page_by (w.raw.jobs k) (w.frames k) (w.reserved k) e (s.each k).by
-
-below_by : (a b : Bool) → (a || b) ≡ true → a ≡ false → b ≡ true
-below_by true b h e = cc
-below_by false b h e = h
+no_page w k s e = user_page (w.raw.jobs k) (w.frames k) (w.reserved k) e (s.each k).by
 
 page_kept : (r j k : ℕ) (w v : State) → v ≡ effect_on (changes.Remove r) j w → v.reserved k ≡ w.reserved k
 unfolding effect_on
@@ -518,5 +506,5 @@ pub pages_left : (w v : State) (r k : ℕ) → Sound w → ((i : ℕ) → is_bel
     → ((j : ℕ) → v ≡ effect_on (changes.Remove r) j w) → is_gone (superiors w.raw) r k ≡ true → v.reserved k ≡ None
 pages_left w v r k s quiet page removed gone = page_kept r 0 k w v (removed 0) ∙ elim (cases_eq k r) [
   | inl e ↦ ap w.reserved e ∙ page
-  | inr ne ↦ no_page w k s (quiet k (below_by (k == r) (is_below (superiors w.raw) r k) gone (ne_eqb k r ne)))
+  | inr ne ↦ no_page w k s (quiet k (or_second (k == r) (is_below (superiors w.raw) r k) gone (ne_eqb k r ne)))
 ]

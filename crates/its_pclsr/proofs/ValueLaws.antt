@@ -6,10 +6,7 @@ use Rattle.its_word.specs.declared.calls.Ask.{Ask}
 use Rattle.its_word.specs.declared.calls.Operand.{Operand}
 use Rattle.its_plain.specs.Arguments.{valued, revalued}
 use Rattle.its_pclsr.specs.Carried.{no_operand, with_value, with_values}
-
-valued_none : (os : List Operand) → valued os [] ≡ os
-valued_none [] = refl
-valued_none (o ∷ os) = refl
+use Rattle.its_stepped.proofs.PageLaws.{valued_none}
 
 length_valued : (os : List Operand) (vs : List ℕ) → length (valued os vs) ≡ length os
 length_valued [] [] = refl

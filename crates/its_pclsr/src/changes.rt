@@ -18,7 +18,7 @@ use super::removal::remove_tree;
 use its_core::Full;
 use its_frame::{Change, Opened, Variable};
 use its_jobs::NoSlot;
-use its_word::{Channel, INF, Job, NAMED_FLAGS, Word};
+use its_word::{Channel, INF, Job, Word, flags_in};
 use its_world::World;
 
 /// Makes the changes of a call of slot's job, in their order.
@@ -252,7 +252,7 @@ fn with_variable(job: Job, variable: Variable, value: Word) -> Job
     match variable {
         Variable::Upc => Job {
             pc: value.right(),
-            flags: value.left() & NAMED_FLAGS,
+            flags: flags_in(value),
             ..job
         },
         Variable::Ustp => Job {

@@ -10,11 +10,8 @@ ghost use Rattle.its_word.specs.Core.{can_store};
 ghost use Rattle.its_world.specs.World.{state_of, CoreBecomes};
 
 use arrayvec::ArrayVec;
-use its_word::{Ask, Owed, Store};
+use its_word::{ADDRESSES, Ask, Owed, Store};
 use its_world::World;
-
-/// How many addresses there are.
-const ADDRESSES: u32 = 0o1000000;
 
 /// Makes a store that can be made. Its address is taken modulo 1000000 (octal).
 #[tactic(auto, using(crate::proofs::OwedLaws::one_stored))]

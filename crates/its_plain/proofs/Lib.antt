@@ -2,3 +2,5 @@ pub mod MachineLaws
 pub mod UnitLaws
 pub mod DeliveryLaws
 pub mod CallLineLaws
+pub mod SizeLaws
+pub mod TracedLaws

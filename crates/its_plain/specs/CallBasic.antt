@@ -36,15 +36,17 @@ is_negative w = nat_le (2 ^ 35) w
 abbrev pub negated : ℕ → ℕ
 negated n = (2 ^ 36 - n) % 2 ^ 36
 
--- SLEEP n. For n > 0 the word becomes minus the time of waking; for n < 0 the call waits for that time
+-- a place whose word cannot be stored
 abbrev pub read_only : Core → Option ℕ → Bool
 read_only c (Some p) = not (can_store c p)
 read_only c None = false
 
+-- no place, or the place of another argument or of a decode word
 abbrev pub shared_place : Ask → Option ℕ → Bool
 shared_place a (Some p) = is_shared p a
 shared_place a None = true
 
+-- SLEEP n. For n > 0 the word becomes minus the time of waking; for n < 0 the call waits for that time
 abbrev pub sleep_tests : View → Ask → ℕ → Option ℕ → List Test
 sleep_tests v a n p =
     (n == 0) ⇒ finishes v [] []

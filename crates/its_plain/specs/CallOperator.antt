@@ -1,5 +1,4 @@
--- What the lines of a session do to the plain machine where calls are built, and what they show
--- (docs/SESSION.md, "Lines").
+-- What each line of a session comes to on the plain machine, and what it shows (docs/SESSION.md, "The lines").
 use Rattle.std.specs.Prelude.{ℕ, ◌+◌, ◌-◌, Bool, true, false, Option, Some, None, List, [], ◌∷◌, ◌++◌, Result, Ok, Err, nat_lt, length, take, drop}
 use Rattle.its_word.specs.Console.{most_waiting}
 use Rattle.its_word.specs.declared.session.Event.{Event}

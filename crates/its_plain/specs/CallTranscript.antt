@@ -1,5 +1,4 @@
--- The transcript of a session along the plain machine where calls are built (docs/MACHINE.md, "Ticks and
--- letters").
+-- The transcript of a session along the plain machine (docs/MACHINE.md, "Ticks and letters").
 use Rattle.std.specs.Prelude.{if◌then◌else◌, ◌≡◌, ◌==◌, ℕ, ◌+◌, ◌<◌, ◌||◌, Some, None, List, [], ◌∷◌, ◌++◌, length}
 use Rattle.its_word.specs.Item.{Item, Read, Unread, Beyond}
 use Rattle.its_word.specs.declared.calls.Pace.{Pace}

@@ -128,7 +128,8 @@ is_indexed p = not (p / 2 ^ 18 % 2 ^ 5 == 0)
 abbrev pub next_pointer : ℕ → ℕ
 next_pointer p = unwrap_or (increment_of p) 0
 
--- a console moves bytes of any size; a file or a draft moves whole words, of 36 bits, and may be at its end
+-- a console moves bytes of any size; a file, a draft or an inferior moves whole words, of 36 bits; a file and an inferior
+-- may be at their end
 abbrev pub word_bits : ℕ
 word_bits = 36
 

@@ -1,6 +1,6 @@
 -- Calls on inferiors: OPEN of USR; `.IOT` and SIOT where the channel is on one; USRMEM and UCLOSE (docs/CALLS.md,
 -- "Inferiors").
-use Rattle.std.specs.Prelude.{◌==◌, ◌&&◌, ℕ, ◌+◌, ◌-◌, ◌^◌, Bool, true, false, not, Option, Some, None, List, [], ◌∷◌, ◌++◌, nat_lt, find, slice_index_or, unwrap_or}
+use Rattle.std.specs.Prelude.{◌==◌, ◌&&◌, ℕ, ◌+◌, ◌-◌, Bool, true, false, not, Option, Some, None, List, [], ◌∷◌, ◌++◌, nat_lt, find, slice_index_or, unwrap_or}
 use Rattle.std.specs.List.{list_any, range_with_len}
 use Rattle.its_word.specs.Word.{right_of}
 use Rattle.its_word.specs.Byte.{load_of}

@@ -1,4 +1,4 @@
--- What the lines of a session do to the plain machine, and what they show (docs/SESSION.md, "Lines").
+-- What the lines that make or name a job do to the plain machine, and what they show (docs/SESSION.md, "The lines").
 use Rattle.std.specs.Prelude.{if◌then◌else◌, ◌==◌, ℕ, ◌/◌, ◌+◌, Bool, true, false, not, Option, Some, None, List, [], ◌∷◌, Result, Ok, Err, nat_lt, is_some, bit_and, bit_or}
 use Rattle.its_word.specs.Word.{complement_of}
 use Rattle.its_word.specs.Limits.{most_pages}

@@ -1,5 +1,5 @@
 -- Each byte once and in order, over a stretch of a session's run (docs/CALLS.md, "Each byte once").
-use Rattle.std.specs.Prelude.{◌≡◌, ◌==◌, ◌&&◌, ℕ, zero, suc, ◌+◌, ◌-◌, Bool, true, false, not, Option, Some, None, List, [], ◌∷◌, ◌++◌, Result, Ok, Err}
+use Rattle.std.specs.Prelude.{◌≡◌, ◌==◌, ◌&&◌, ℕ, zero, suc, ◌+◌, Bool, true, false, not, Option, Some, None, List, [], ◌∷◌, ◌++◌, Result, Ok, Err}
 use Rattle.its_word.specs.Core.{word_at}
 use Rattle.its_word.specs.Item.{Item}
 use Rattle.its_word.specs.declared.access.Fault.{Fault}

@@ -1,2 +1,2 @@
-//! The plain machine, the transcript of a session and their laws: definitions in `specs/` alone.
+//! The plain machine, the transcript of a session and their laws: definitions in `specs/` and laws in `proofs/` alone.
 #![tactic(auto)]

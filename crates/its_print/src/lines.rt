@@ -22,7 +22,7 @@ pub fn print_loaded(s: u8, out: &mut ArrayVec<u8, 2048>)
 }
 
 /// `T s` and the runs of equal letters of what at most 512 ticks of slot `s` did.
-#[tactic(auto, using(crate::proofs::LineLaws::after_field), unfolding(crate::specs::Printing::text_of_line))]
+#[tactic(auto, using(its_word::proofs::SpacedLaws::after_field), unfolding(crate::specs::Printing::text_of_line))]
 pub fn print_ticks(s: u8, paces: &[Pace], out: &mut ArrayVec<u8, 2048>)
     requires empty { out.old.items ≡ [] }
     requires few { length paces.now ≤ 512 }
@@ -47,7 +47,7 @@ pub fn print_typed(c: u8, dropped: u32, out: &mut ArrayVec<u8, 2048>)
 }
 
 /// `D c` and at most 64 bytes that DRAIN took from console `c`.
-#[tactic(auto, using(crate::proofs::LineLaws::after_field), unfolding(crate::specs::Printing::text_of_line))]
+#[tactic(auto, using(its_word::proofs::SpacedLaws::after_field), unfolding(crate::specs::Printing::text_of_line))]
 pub fn print_drained(c: u8, bytes: &[u8], out: &mut ArrayVec<u8, 2048>)
     requires empty { out.old.items ≡ [] }
     requires few { length bytes.now ≤ 64 }

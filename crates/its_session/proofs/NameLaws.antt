@@ -9,6 +9,9 @@ use Rattle.its_session.specs.Fits.{IsNameWord}
 use Rattle.its_session.specs.Writing.{characters, name_of}
 use Rattle.its_session.proofs.LineLaws.{IsRun}
 
+pub some_from_test : (n : ℕ) → leb 1 n ≡ true → 1 ≤ n
+some_from_test n h = grind (arith, nat_tests)
+
 abbrev more : ℕ → ℕ → ℕ
 more n c = n * 64 + (c - 32)
 
@@ -87,9 +90,6 @@ codes_in_word [] h = refl
 codes_in_word (c ∷ cs) h =
     let parts = both (is_code 33 95 c) (are_codes cs) h in
     rw (in_word c parts.0, codes_in_word cs parts.1) refl
-
-some_from_test : (n : ℕ) → leb 1 n ≡ true → 1 ≤ n
-some_from_test n h = grind (arith, nat_tests)
 
 few_from_test : (n : ℕ) → leb n 6 ≡ true → n ≤ 6
 few_from_test n h = grind (arith, nat_tests)

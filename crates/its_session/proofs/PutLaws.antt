@@ -1,8 +1,7 @@
 -- How long numbers are as text.
-use Rattle.std.proofs.Common.{◌≡◌, ◌<◌, ◌≤◌, ◌+◌, ◌-◌, ◌*◌, ◌/◌, ◌%◌, ◌^◌, ◌==◌, ℕ, zero, suc, false, List, [], ◌∷◌, length, refl, arith}
+use Rattle.std.proofs.Common.{◌≡◌, ◌<◌, ◌≤◌, ◌+◌, ◌-◌, ◌*◌, ◌/◌, ◌%◌, ◌^◌, ◌==◌, ℕ, zero, suc, false, [], ◌∷◌, length, refl, arith}
 use Rattle.std.proofs.lemmas.Bool.Decides.{nat_tests}
-use Rattle.its_word.specs.Text.{digits_of, spaced}
-use Rattle.its_word.proofs.SpacedLaws.{spaced-append}
+use Rattle.its_word.specs.Text.{digits_of}
 use Rattle.its_word.proofs.DigitLaws.{few_digits}
 use Rattle.its_session.specs.Writing.{characters}
 
@@ -31,6 +30,3 @@ characters_turn turn w below some =
 pub no_more : (w : ℕ) → characters 0 w ≡ []
 unfolding characters
 no_more w = refl
-
-pub after_field : (first field : List ℕ) (fields : List (List ℕ)) → spaced first (field ∷ fields) ≡ spaced (spaced first (field ∷ [])) fields
-after_field first field fields = spaced-append first (field ∷ []) fields

@@ -18,7 +18,7 @@ use Rattle.its_session.specs.Grammar.{append_line, bare_line, before_slash, cloc
 use Rattle.its_session.specs.Fits.{EventFits, IsNameWord, place_of}
 use Rattle.its_session.specs.Writing.{AreWords, HasWords, console_text, name_of, text_of_event}
 use Rattle.its_session.proofs.LineLaws.{AllRuns, IsRun, line_of_words}
-use Rattle.its_session.proofs.NameLaws.{both, name_reads}
+use Rattle.its_session.proofs.NameLaws.{both, name_reads, some_from_test}
 use Rattle.its_session.proofs.RowLaws.{bytes_consoles, bytes_formed, bytes_ranged, numbers_consoles, numbers_formed, numbers_ranged}
 
 -- what the digits of a number say
@@ -42,9 +42,6 @@ number_reads n below = record {
   run = record { some = some_digits n; visible = digits_visible (digits_of n) (digits_are_codes n) };
   short = few_digits 12 n (omega arith) (omega arith);
 }
-
-some_from_test : (n : ℕ) → leb 1 n ≡ true → 1 ≤ n
-some_from_test n h = grind (arith, nat_tests)
 
 -- a word that is written out
 word : (w : List ℕ) → leb 1 (length w) ≡ true → list_all (is_code 33 126) w ≡ true → IsRun w

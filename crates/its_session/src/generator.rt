@@ -9,19 +9,25 @@ use its_word::{Event, Word};
 
 /// How many jobs there are, one at each console.
 const JOBS: u8 = 8;
-/// How many lines start a job, and how many empty its console at the end.
+
+/// How many lines start a job.
 const START_LINES: u64 = 6;
 
+/// How many lines empty the console of a job at the end.
 const EMPTY_LINES: u64 = 2;
-/// The same of all jobs.
+
+/// How many lines start all jobs.
 const ALL_START_LINES: u64 = 48;
 
+/// How many lines empty the consoles of all jobs.
 const ALL_EMPTY_LINES: u64 = 16;
 
-/// The names of each job: `U` and `E`.
+/// The user name of each job, `U`.
 const USER: u64 = 0o650000000000;
 
+/// The job name of each job, `E`.
 const NAME: u64 = 0o450000000000;
+
 /// The program: it opens its console for input and for output, and then echoes each byte.
 const PROGRAM: [u64; 7] = [
     0o043000001020,
@@ -32,7 +38,8 @@ const PROGRAM: [u64; 7] = [
     0o040100000003,
     0o254000001004,
 ];
-/// The block of its OPEN for input, that of its OPEN for output, and the name of the device.
+
+/// The block of its OPEN for input.
 const INPUT: [u64; 4] = [
     0o400000000000,
     0o576045560000,
@@ -40,6 +47,7 @@ const INPUT: [u64; 4] = [
     0o400000001050,
 ];
 
+/// The block of its OPEN for output.
 const OUTPUT: [u64; 5] = [
     0o400000000000,
     0o576045560000,
@@ -48,6 +56,7 @@ const OUTPUT: [u64; 5] = [
     0o400000001050,
 ];
 
+/// The name of its device, `TTY`.
 const DEVICE: [u64; 1] = [0o646471000000];
 
 /// The k-th line, from 0, of the generated session of n rounds; None past its end.

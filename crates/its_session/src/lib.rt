@@ -1,5 +1,6 @@
 //! The lines of a session (docs/SESSION.md): `read_line` reads one as an event, `print_event` writes
-//! one that is read as a given event. Neither takes memory.
+//! one that is read as a given event, and `generated` gives those of the generated session. None
+//! takes memory.
 #![tactic(auto)]
 
 mod fields;

@@ -164,7 +164,7 @@ fn append(out: &mut ArrayVec<u8, 256>, words: &[Word])
 }
 
 /// `TYPE c` and bytes
-#[tactic(auto, using(crate::proofs::PutLaws::after_field))]
+#[tactic(auto, using(its_word::proofs::SpacedLaws::after_field))]
 fn type_in(out: &mut ArrayVec<u8, 256>, c: u8, bytes: &[u8])
     requires empty { out.old.items ≡ [] }
     requires few { length bytes.now ≤ 32 }

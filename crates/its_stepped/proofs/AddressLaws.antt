@@ -383,7 +383,7 @@ abbrev StepAddressed : Option Machine → Type 0
 StepAddressed (Some n) = Addressed n
 StepAddressed None = Unit {0}
 
-held_job : (a : Ask) (h : Option Held) (q : Whole) → (with_held a h q).job ≡ q.job
+pub held_job : (a : Ask) (h : Option Held) (q : Whole) → (with_held a h q).job ≡ q.job
 held_job a None q = refl
 held_job a (Some b) q = refl
 

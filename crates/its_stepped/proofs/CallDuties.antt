@@ -54,7 +54,7 @@ new_debt : (a : Ask) (v p w : ℕ) → a.inputs.items ≡ record { value = v; pl
 new_debt a v p w e =
     ap (λ (k : Ask). debts k 1) (one_valued a v p w e) ∙ one_debt (record a { inputs = record { items = record { value = w; place = Some p } ∷ [] } }) w p refl
 
-named_same : (a : Ask) (vs : List ℕ) → (revalued a vs).name ≡ a.name
+pub named_same : (a : Ask) (vs : List ℕ) → (revalued a vs).name ≡ a.name
 unfolding revalued
 named_same a vs = refl
 
@@ -89,6 +89,7 @@ slept_duty d m v j x s a n k p w c e one at alone can =
       page = no_page m v j x.own s a n c (named_page a Sleep e refl);
       within = subst (λ (ss : List Store). Within (debts a n) ss) (sym owed) (within_one a n k p w few one);
       held = tt;
+      outside = tt;
       size = tt;
       debts = record {
         few = omega arith;

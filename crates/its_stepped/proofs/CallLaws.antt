@@ -4,9 +4,9 @@
 use Rattle.std.specs.Prelude.{◌≡◌, ◌≤◌, ℕ, Bool, true, false, not, Option, Some, None, List, [], ◌∷◌, slice_get, is_some, unwrap_or, refl}
 use Rattle.std.proofs.Common.{sym, ◌∙◌, ap, inl, inr, arith}
 use Rattle.std.proofs.lemmas.Bool.{cases_Bool}
-use Rattle.its_word.specs.Core.{Core, word_at, can_store, store}
+use Rattle.its_word.specs.Core.{Core, word_at, store}
 use Rattle.its_word.specs.Word.{right_of}
-use Rattle.its_word.proofs.CoreLaws.{word_at-store_other, can_store-store}
+use Rattle.its_word.proofs.CoreLaws.{word_at-store_other}
 use Rattle.its_word.specs.declared.calls.Ask.{Ask}
 use Rattle.its_word.specs.declared.calls.Site.{Site}
 use Rattle.its_word.specs.declared.jobs.Job.{Job}
@@ -32,12 +32,7 @@ use Rattle.its_stepped.proofs.DebtLaws.{debts_none}
 use Rattle.its_stepped.proofs.DecodingLaws.{decoding}
 use Rattle.its_stepped.proofs.SiotDuty.{debts_apart}
 use Rattle.its_stepped.proofs.ViewLaws.{target_alike}
-
--- what can be stored stays so
-can_stored : (c : Core) (ss : List Store) (p : ℕ) → can_store (stored c ss) p ≡ can_store c p
-unfolding stored
-can_stored c [] p = refl
-can_stored c (s ∷ ss) p = can_stored (store c (place s) s.word) ss p ∙ can_store-store c (place s) p s.word
+use Rattle.its_stepped.proofs.OverLaws.{can_stored}
 
 read_only_stored : (c : Core) (ss : List Store) (p : Option ℕ) → read_only (stored c ss) p ≡ read_only c p
 read_only_stored c ss (Some p) = ap not (can_stored c ss p)

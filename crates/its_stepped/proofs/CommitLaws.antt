@@ -22,17 +22,18 @@ use Rattle.its_plain.specs.Change.{in_job, effects}
 use Rattle.its_plain.specs.Arguments.{input, debts, revalued}
 use Rattle.its_plain.specs.Decide.{call_named}
 use Rattle.its_plain.specs.CallStep.{deposited, with_held, moved, ended, acted}
+use Rattle.its_plain.specs.Footprint.{in_footprint}
 use Rattle.its_word.specs.Stores.{stored}
-use Rattle.its_plain.proofs.MachineLaws.{jobs_are}
 use Rattle.its_stepped.specs.State.{Part, UnlinkOld, LinkNew, FreeOld, Mark, State, plain, seen, owed_made, turn, same, waiting, ending}
 use Rattle.its_stepped.specs.Commit.{effects_on, sleeps, stays, gone_on, owed_part, owed_parts, given_up, owed_store, owed_by, committed}
 use Rattle.its_stepped.specs.Tick.{reserves}
 use Rattle.its_stepped.specs.Sound.{Debts, parts_in_frame}
 use Rattle.its_stepped.specs.Duty.{Apart, Within, HeldFits, AllRemain, Going, Ending_by, Duty}
-use Rattle.its_stepped.proofs.FrameLaws.{on_slot_same, turned}
+use Rattle.its_stepped.proofs.FrameLaws.{turned}
 use Rattle.its_stepped.proofs.OverLaws.{overwritten, stored_both, word_apart, store_apart}
 use Rattle.its_stepped.proofs.OwnLaws.{all_remain, frames_kept}
 use Rattle.its_stepped.proofs.EffectLaws.{effects_plain}
+use Rattle.its_stepped.proofs.RowLaws.{same_job}
 
 -- a job in a slot whose call can be tried: its last n arguments are owed
 pub record Here (v : State) (j : ℕ) (q : Whole) (a : Ask) (n : ℕ) : Type 0 where
@@ -44,20 +45,21 @@ pub record Here (v : State) (j : ℕ) (q : Whole) (a : Ask) (n : ℕ) : Type 0 w
   pub debts : Debts q.core a n
   pub page : reserves a ≡ is_some (v.reserved j)
 
--- a call that waits is not carried out
-pub same_here : (m : Machine) (j : ℕ) → in_job m j same ≡ m
-same_here m j = jobs_are _ _ (λ k. on_slot_same m.jobs j k) refl
-
 pub waits_plain : (w : State) (j : ℕ) (s : Site) (a : Ask) (n : ℕ) → ((p : Whole) → seen (w.frames j) p ≡ with_stores (debts a n) p)
     → plain (turn w j same (Some (waiting s a n))) ≡ plain w
 unfolding seen
-waits_plain w j s a n is = turned w j same same (Some (waiting s a n)) (λ p e. sym (is p)) ∙ same_here (plain w) j
+waits_plain w j s a n is = turned w j same same (Some (waiting s a n)) (λ p e. sym (is p)) ∙ same_job (plain w) j
 
 -- a part of a call: the frame after it shows its new words over those that were owed
 pub stays_seen : (b : Bool) (s : Site) (a : Ask) (n : ℕ) (p : Whole) → seen (Some (stays b s a n)) p ≡ with_stores (debts a n) p
 unfolding seen
 stays_seen true s a n p = refl
 stays_seen false s a n p = refl
+
+-- the rest has the footprint of the call
+pub footprint_same : (b : ℕ) (a : Ask) (vs : List ℕ) → in_footprint b (revalued a vs) ≡ in_footprint b a
+unfolding in_footprint revalued
+footprint_same b a vs = refl
 
 with_core : (c d : Core) (p : Whole) → c ≡ d → (let q : Whole = record p { core = c } in q) ≡ record p { core = d }
 with_core c d p e = λ t. record p { core = e t }

@@ -23,7 +23,7 @@ use Rattle.its_plain.specs.Interrupt.{deliverable}
 use Rattle.its_plain.specs.Machine.{Whole, changed}
 use Rattle.its_plain.specs.Own.{with_stores}
 use Rattle.its_plain.specs.Change.{on_slot, is_gone, superiors}
-use Rattle.its_plain.specs.Arguments.{input, debts, revalued}
+use Rattle.its_plain.specs.Arguments.{input, in_footprint, debts, revalued}
 use Rattle.its_plain.specs.Decide.{call_named}
 use Rattle.its_plain.specs.CallStep.{deposited, with_held}
 use Rattle.its_word.specs.Stores.{stored}
@@ -36,10 +36,10 @@ use Rattle.its_stepped.specs.Duty.{HeldFits, Waiting_by, Going, Ending_by, Leavi
 use Rattle.its_stepped.proofs.FrameLaws.{changed_only, on_slot_here, on_slot_other}
 use Rattle.its_stepped.proofs.OverLaws.{can_stored, stored_alike, debts_alike}
 use Rattle.its_stepped.proofs.OwnLaws.{Sees, own_of, job_of, spared, job_kept, frames_none, reserved_none, reserved_less}
-use Rattle.its_stepped.proofs.OwedLaws.{owed_length, owed_owes, owed_backs}
+use Rattle.its_stepped.proofs.OwedLaws.{owed_length, owed_owes, owed_backs, owed_first}
 use Rattle.its_stepped.proofs.PageLaws.{revalued_reserves_none}
 use Rattle.its_stepped.proofs.MarkLaws.{Marking, marking_begins, marking_within, marking_all, mark_ended, mark_gone_on, mark_left}
-use Rattle.its_stepped.proofs.CommitLaws.{Here, Acts, stays_seen, goes_seen}
+use Rattle.its_stepped.proofs.CommitLaws.{Here, Acts, stays_seen, goes_seen, footprint_same}
 use Rattle.its_stepped.proofs.EffectLaws.{effects_sound}
 
 -- a slot with the same contents
@@ -146,7 +146,7 @@ ending_frame w j p s a ss e runs quiet stores few = record {
   runs = runs;
   quiet = quiet;
   standing = tt;
-  pays = record { owes = owed_owes p.core w j ss e stores; few = few; page_is = owed_backs w j ss e };
+  pays = record { owes = owed_owes p.core w j ss e stores; few = few; page_is = owed_backs w j ss e; files_first = owed_first w j ss e };
 }
 
 pub ends_sound : (v : State) (j : ℕ) (q : Whole) (s : Site) (a : Ask) (n : ℕ) (cs : List Change) (ss : List Store) (e : Exit) → Sound v → Here v j q a n
@@ -221,13 +221,14 @@ stays_frame false q s a n r e runs quiet stands d page none = record {
 -- the frame after it, of a caller with the core and registers that it had
 on_frame : (q : Whole) (s : Site) (a : Ask) (n : ℕ) (olds : List Store) (b : Option Held) (r : Option ℕ) → q.job.stopped ≡ false → deliverable q.job ≡ false
     → seen (Some (gone_on s a n b)) q ≡ with_stores (debts a n) (with_held a b (with_stores olds q)) → IfSome b (HeldFits (stored q.core olds) olds n)
-    → IfSome b (λ x. has_size (input a 1) ≡ true) → Stands (with_stores (debts a n) (with_held a b (with_stores olds q))).core (with_stores (debts a n) (with_held a b (with_stores olds q))).job s a → Debts q.core a n → r ≡ None
+    → IfSome b (λ x. has_size (input a 1) ≡ true) → IfSome b (λ x. in_footprint x.place a ≡ false)
+    → Stands (with_stores (debts a n) (with_held a b (with_stores olds q))).core (with_stores (debts a n) (with_held a b (with_stores olds q))).job s a → Debts q.core a n → r ≡ None
     → reserves a ≡ false → SoundFrame q (gone_on s a n b) r
 unfolding seen
-on_frame q s a n olds None r runs quiet is f size stands d page none =
+on_frame q s a n olds None r runs quiet is f size out stands d page none =
     stays_frame (sleeps (call_named a.name)) q s a n r refl runs quiet
     (subst (λ (p : Whole). Stands p.core p.job s a) (sym is ∙ stays_seen (sleeps (call_named a.name)) s a n q) stands) d page none
-on_frame q s a n olds (Some b) r runs quiet is f size stands d page none = record {
+on_frame q s a n olds (Some b) r runs quiet is f size out stands d page none = record {
   runs = runs;
   quiet = quiet;
   standing = subst (λ (p : Whole). Stands p.core p.job s a) (sym is) stands;
@@ -237,8 +238,14 @@ on_frame q s a n olds (Some b) r runs quiet is f size stands d page none = recor
     place = ap (can_store q.core) f.placed ∙ sym (can_stored q.core olds b.place) ∙ f.can;
     within = subst (λ (k : ℕ). k < 2 ^ 18) f.placed (mod_below b.place (2 ^ 18) (omega arith));
     size = size;
+    apart = out;
   };
 }
+
+-- the word of a held byte is outside the footprint of the rest
+outside_rest : (b : Option Held) (a : Ask) (vs : List ℕ) → IfSome b (λ x. in_footprint x.place a ≡ false) → IfSome b (λ x. in_footprint x.place (revalued a vs) ≡ false)
+outside_rest None a vs h = tt
+outside_rest (Some b) a vs h = footprint_same b.place a vs ∙ h
 
 stands_from : (f : Core → Core) (c d : Core) (k i : Job) (s : Site) (a : Ask) → c ≡ d → k ≡ i → Stands (f d) i s a → Stands (f c) k s a
 stands_from f c d k i s a e t h = subst (λ (x : Core). Stands (f x) k s a) (sym e) (subst (λ (x : Job). Stands (f d) x s a) (sym t) h)
@@ -266,6 +273,7 @@ goes_sound v j q s a n cs b vs sound h d =
           (goes_seen (stored q.core olds) s k m olds b x.whole d.within d.held)
           (subst (λ (c : Core). IfSome b (HeldFits (stored c olds) olds m)) (sym core) d.held)
           d.size
+          (outside_rest b a vs d.outside)
           (stands_at b x.whole q s k m olds core job d.stands)
           (debts_alike (stored q.core olds) x.whole.core k m (λ p. ap (λ (c : Core). can_store c p) core ∙ sym (can_stored q.core olds p)) d.debts)
           (reserved_none cs j v j d.page)

@@ -31,7 +31,9 @@ use Rattle.its_stepped.specs.Tick.{Ticked, off, works, helps, user_on, unit_on, 
 use Rattle.its_stepped.specs.Sound.{Owes, Paged, SoundFrame, SoundBy, Sound}
 use Rattle.its_stepped.specs.Duty.{Duty, Meets, GivenBy, Given, IsTried}
 use Rattle.its_stepped.specs.Licence.{Licensed}
-use Rattle.its_stepped.specs.Dots.{cleared, bound, Dotted, dots_after, Paced}
+use Rattle.its_stepped.specs.Dots.{cleared, bound, Dotted}
+use Rattle.its_plain.specs.CallTranscript as walk
+use Rattle.its_plain.specs.CallTranscript.{dots_after}
 use Rattle.its_stepped.proofs.FrameLaws.{changed_only}
 use Rattle.its_stepped.proofs.UnwindLaws.{all_unwound_others}
 use Rattle.its_stepped.proofs.HelpLaws.{helped_if_others}
@@ -70,7 +72,7 @@ turn_steps : (w v : State) (j : ℕ) (g : Option Frame) → ((k : ℕ) → k ≢
 turn_steps w v j g h = record { own = tt; others = h }
 
 -- whom a step disturbs
-disturbs_told : (m : Machine) (j k : ℕ) (q : Whole) → m.jobs j ≡ Some q → deliverable q.job ≡ true → disturbed m j k ≡ among k (told (delivered q.core q.job).stops q.superior)
+pub disturbs_told : (m : Machine) (j k : ℕ) (q : Whole) → m.jobs j ≡ Some q → deliverable q.job ≡ true → disturbed m j k ≡ among k (told (delivered q.core q.job).stops q.superior)
 unfolding disturbed
 disturbs_told m j k q is d = ap (λ (o : Option Whole). among k (reach_of m j o)) is ∙ ap (λ (b : Bool). among k (reach_of_job m j q b)) d
 
@@ -285,12 +287,12 @@ pub tick_dotted : (w : State) (d : Dots) (j : ℕ) → Sound w → Given w j →
 tick_dotted w d j sound g h = record { each = λ k. after_by w d j k (tick w j).pace (tick w j).state h (tick_dots w j sound g) }
 
 -- a tick is licensed with the dots before it
-paced_by : (m n : Machine) (d : Dots) (j : ℕ) (p : Pace) → Licensed m j p n → d j ≤ 12 → Paced m d j p n
+paced_by : (m n : Machine) (d : Dots) (j : ℕ) (p : Pace) → Licensed m j p n → d j ≤ 12 → walk.Licensed m d j p n
 paced_by m n d j Step h few = h
 paced_by m n d j Work h few = (h.0, omega arith, h.1)
 paced_by m n d j Wait h few = h
 paced_by m n d j Off h few = h
 
-pub tick_paced : (w : State) (d : Dots) (j : ℕ) → Sound w → Given w j → Dotted d w.frames → Paced (plain w) d j (tick w j).pace (plain (tick w j).state)
+pub tick_paced : (w : State) (d : Dots) (j : ℕ) → Sound w → Given w j → Dotted d w.frames → walk.Licensed (plain w) d j (tick w j).pace (plain (tick w j).state)
 tick_paced w d j sound g h =
     paced_by (plain w) (plain (tick w j).state) d j (tick w j).pace (tick_is w j sound g) (let a = h.each j in let b = bound_few w j sound in omega arith)

@@ -18,9 +18,10 @@ use Rattle.its_plain.specs.Change.{poke}
 use Rattle.its_word.specs.Stores.{place}
 use Rattle.its_stepped.specs.State.{Part, UnlinkOld, LinkNew, FreeOld, Mark, State, part_made, helped, mine, owed_made, seen, turn, same, ending}
 use Rattle.its_stepped.specs.Unwind.{rest_marked, with_part, due, settled}
-use Rattle.its_stepped.specs.Sound.{Owes, backs, SoundFrame, MarkBy, file_parts, parts_in_frame}
+use Rattle.its_stepped.specs.Sound.{Owes, backs, SoundFrame, MarkBy, file_parts, FilesFirst, parts_in_frame}
 use Rattle.its_stepped.specs.OneChange.{OneWord, OnePart, Registers}
 use Rattle.its_stepped.proofs.FrameLaws.{stored_one, changed_only}
+use Rattle.its_stepped.proofs.OwedLaws.{none_first}
 use Rattle.its_stepped.proofs.RowLaws.{Rowed, job_only, same_job, turn_row, page_row}
 use Rattle.its_stepped.proofs.UnwindRows.{At}
 
@@ -51,9 +52,10 @@ pub record Due (c : Core) (b : Bool) (os xs : List Owed) : Type 0 where
   pub made : (q : Whole) → owed_made xs q ≡ owed_made os q
   pub count : count_by (is_made_by b) xs ≡ count_by (is_made_by b) os
   pub parts : b ≡ true → file_parts xs ≡ file_parts os
+  pub first : FilesFirst xs
 
-all_due : (c : Core) (b : Bool) (os : List Owed) → HeadDue b os → Owes c os → Due c b os os
-all_due c b os head h = record { head = head; owes = h; few = omega arith; backs = refl; made = λ q. refl; count = refl; parts = λ e. refl }
+all_due : (c : Core) (b : Bool) (os : List Owed) → HeadDue b os → Owes c os → FilesFirst os → Due c b os os
+all_due c b os head h first = record { head = head; owes = h; few = omega arith; backs = refl; made = λ q. refl; count = refl; parts = λ e. refl; first = first }
 
 head_true : (o : Owed) → is_made_by true o ≡ true
 head_true (Store a w) = refl
@@ -74,26 +76,27 @@ passed c o os xs skip same made d = record {
   made = λ q. d.made q ∙ sym (made q);
   count = d.count ∙ sym (left_more false o os ∙ ap (λ t. cond t 1 0 + count_by (is_made_by false) os) skip ∙ omega arith);
   parts = λ e. cc;
+  first = d.first;
 }
 
-pub due_is : (c : Core) (b : Bool) (os : List Owed) → Owes c os → Due c b os (due b os)
-due_is c b [] h = absurd h
-due_is c true (o ∷ os) h = all_due c true (o ∷ os) (head_true o) h
-due_is c false (Store a w ∷ os) h = all_due c false (Store a w ∷ os) refl h
-due_is c false (GiveBack ∷ os) h = all_due c false (GiveBack ∷ os) refl h
-due_is c false (Leave e ∷ os) h = all_due c false (Leave e ∷ os) refl h
-due_is c false (Unlink ∷ os) h = passed c Unlink os (due false os) refl refl (λ q. refl) (due_is c false os h)
-due_is c false (Link ∷ os) h = passed c Link os (due false os) refl refl (λ q. refl) (due_is c false os h)
-due_is c false (Free ∷ os) h = passed c Free os (due false os) refl refl (λ q. refl) (due_is c false os h)
+pub due_is : (c : Core) (b : Bool) (os : List Owed) → Owes c os → FilesFirst os → Due c b os (due b os)
+due_is c b [] h f = absurd h
+due_is c true (o ∷ os) h f = all_due c true (o ∷ os) (head_true o) h f
+due_is c false (Store a w ∷ os) h f = all_due c false (Store a w ∷ os) refl h f
+due_is c false (GiveBack ∷ os) h f = all_due c false (GiveBack ∷ os) refl h f
+due_is c false (Leave e ∷ os) h f = all_due c false (Leave e ∷ os) refl h f
+due_is c false (Unlink ∷ os) h f = passed c Unlink os (due false os) refl refl (λ q. refl) (due_is c false os h f)
+due_is c false (Link ∷ os) h f = passed c Link os (due false os) refl refl (λ q. refl) (due_is c false os h f)
+due_is c false (Free ∷ os) h f = passed c Free os (due false os) refl refl (λ q. refl) (due_is c false os h f)
 
 -- an ended call with the steps that are left
 ending_sound : (p q : Whole) (s : Site) (a : Ask) (os xs : List Owed) (r t : Option ℕ) → SoundFrame q (ending s a os) r → p.job ≡ q.job → Owes p.core xs → length xs ≤ length os
-    → backs xs ≡ kept t → SoundFrame p (ending s a xs) t
-ending_sound p q s a os xs r t h job owes few page = record {
+    → backs xs ≡ kept t → FilesFirst xs → SoundFrame p (ending s a xs) t
+ending_sound p q s a os xs r t h job owes few page first = record {
   runs = ap (λ k. k.stopped) job ∙ h.runs;
   quiet = ap deliverable job ∙ h.quiet;
   standing = tt;
-  pays = record { owes = owes; few = let most = h.pays.few in omega arith; page_is = page };
+  pays = record { owes = owes; few = let most = h.pays.few in omega arith; page_is = page; files_first = first };
 }
 
 kept_none : (r : Option ℕ) → 0 ≡ kept r → r ≡ None
@@ -167,12 +170,12 @@ marked_row w j q s a os ys p (Some m) mark own h files at made fits count =
 
 file_row : (w : State) (j : ℕ) (q : Whole) (s : Site) (a : Ask) (os ys : List Owed) (o : Owed) (p : Part) → mine w.mark j ≡ true → At w j q (ending s a os)
     → p ∷ file_parts ys ≡ file_parts os → Owes q.core ys → suc (length ys) ≤ length os → backs ys ≡ backs os → owed_made ys q ≡ owed_made os q
-    → count_by (is_made_by (mine w.mark j)) (o ∷ ys) ≡ count_by (is_made_by (mine w.mark j)) os
+    → count_by (is_made_by (mine w.mark j)) (o ∷ ys) ≡ count_by (is_made_by (mine w.mark j)) os → FilesFirst ys
     → Rowed w (with_part w.mark (turn w j same (Some (ending s a ys)))) j
-file_row w j q s a os ys o p own at files owes few back made count =
+file_row w j q s a os ys o p own at files owes few back made count first =
     let same_count : count_by (is_made_by true) (o ∷ ys) ≡ count_by (is_made_by true) os = subst (λ b. count_by (is_made_by b) (o ∷ ys) ≡ count_by (is_made_by b) os) own count in
     marked_row w j q s a os ys p w.mark refl own at.mark files at (sym made)
-    (ending_sound q q s a os ys (w.reserved j) (w.reserved j) at.sound refl owes (omega arith) (back ∙ at.sound.pays.page_is))
+    (ending_sound q q s a os ys (w.reserved j) (w.reserved j) at.sound refl owes (omega arith) (back ∙ at.sound.pays.page_is) first)
     (sym (left_more true o ys ∙ ap (λ b. cond b 1 0 + count_by (is_made_by true) ys) (head_true o)) ∙ same_count)
 
 settled_row : (w : State) (j : ℕ) (q : Whole) (s : Site) (a : Ask) (os xs : List Owed) → At w j q (ending s a os) → Due q.core (mine w.mark j) os xs → Rowed w (settled w j s a xs) j
@@ -181,19 +184,21 @@ settled_row w j q s a os [] at d = absurd d.owes
 settled_row w j q s a os (Store p v ∷ ys) at d =
     turn_row w j q (with_stores (poke p v ∷ [])) (Some (ending s a ys)) at.job (rw at.frame (sym (d.made q)))
     (ending_sound (with_stores (poke p v ∷ []) q) q s a os ys (w.reserved j) (w.reserved j) at.sound refl
-    (rw (stored_one q.core (poke p v)) (owes_behind q.core (place (poke p v)) v ys d.owes.1)) (let few = d.few in omega arith) (d.backs ∙ at.sound.pays.page_is))
+    (rw (stored_one q.core (poke p v)) (owes_behind q.core (place (poke p v)) v ys d.owes.1)) (let few = d.few in omega arith) (d.backs ∙ at.sound.pays.page_is)
+    (none_first ys d.first))
     at.mark (λ own. rw at.frame (d.parts own)) (rw at.frame (let l = left_more (mine w.mark j) (Store p v) ys in let c = d.count in omega arith)) (OneWord (poke p v) refl)
 settled_row w j q s a os (GiveBack ∷ ys) at d =
     page_row w j q (Some (ending s a ys)) at.job (rw at.frame (sym (d.made q)))
-    (ending_sound q q s a os ys (w.reserved j) None at.sound refl d.owes (let few = d.few in omega arith) (kept_few (w.reserved j) (backs ys) (d.backs ∙ at.sound.pays.page_is)))
+    (ending_sound q q s a os ys (w.reserved j) None at.sound refl d.owes (let few = d.few in omega arith) (kept_few (w.reserved j) (backs ys) (d.backs ∙ at.sound.pays.page_is))
+    (none_first ys d.first))
     at.mark (λ own. rw at.frame (d.parts own)) (rw at.frame (let l = left_more (mine w.mark j) GiveBack ys in let c = d.count in omega arith))
 settled_row w j q s a os (Leave e ∷ []) at d =
     turn_row w j q (leave e) None at.job (rw at.frame (sym (d.made q))) (kept_none (w.reserved j) (d.backs ∙ at.sound.pays.page_is)) at.mark
     (λ own. rw at.frame (d.parts own)) (rw at.frame (let l = left_more (mine w.mark j) (Leave e) [] in let c = d.count in omega arith)) (Registers e refl)
 settled_row w j q s a os (Leave e ∷ o ∷ ys) at d = absurd d.owes
-settled_row w j q s a os (Unlink ∷ ys) at d = file_row w j q s a os ys Unlink UnlinkOld d.head at (d.parts d.head) d.owes d.few d.backs (d.made q) d.count
-settled_row w j q s a os (Link ∷ ys) at d = file_row w j q s a os ys Link LinkNew d.head at (d.parts d.head) d.owes d.few d.backs (d.made q) d.count
-settled_row w j q s a os (Free ∷ ys) at d = file_row w j q s a os ys Free FreeOld d.head at (d.parts d.head) d.owes d.few d.backs (d.made q) d.count
+settled_row w j q s a os (Unlink ∷ ys) at d = file_row w j q s a os ys Unlink UnlinkOld d.head at (d.parts d.head) d.owes d.few d.backs (d.made q) d.count d.first
+settled_row w j q s a os (Link ∷ ys) at d = file_row w j q s a os ys Link LinkNew d.head at (d.parts d.head) d.owes d.few d.backs (d.made q) d.count d.first
+settled_row w j q s a os (Free ∷ ys) at d = file_row w j q s a os ys Free FreeOld d.head at (d.parts d.head) d.owes d.few d.backs (d.made q) d.count d.first
 
 pub ending_row : (w : State) (j : ℕ) (q : Whole) (s : Site) (a : Ask) (os : List Owed) → At w j q (ending s a os) → Rowed w (settled w j s a (due (mine w.mark j) os)) j
-ending_row w j q s a os at = settled_row w j q s a os (due (mine w.mark j) os) at (due_is q.core (mine w.mark j) os at.sound.pays.owes)
+ending_row w j q s a os at = settled_row w j q s a os (due (mine w.mark j) os) at (due_is q.core (mine w.mark j) os at.sound.pays.owes at.sound.pays.files_first)

@@ -394,7 +394,7 @@ left_superior gone true o = refl
 left_superior gone false None = refl
 left_superior gone false (Some q) = refl
 
-left_some : (gone : ℕ → Bool) (b : Bool) (o : Option Whole) → b ≡ false → is_some o ≡ true → is_some (left_job gone b o) ≡ true
+pub left_some : (gone : ℕ → Bool) (b : Bool) (o : Option Whole) → b ≡ false → is_some o ≡ true → is_some (left_job gone b o) ≡ true
 left_some gone true o e h = cc
 left_some gone false None e h = h
 left_some gone false (Some q) e h = refl

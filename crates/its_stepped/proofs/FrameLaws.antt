@@ -22,15 +22,7 @@ use Rattle.its_plain.specs.CallStep.{deposited}
 use Rattle.its_word.specs.Stores.{place, stored}
 use Rattle.its_plain.proofs.MachineLaws.{jobs_are}
 use Rattle.its_stepped.specs.State.{State, held_at, owed_made, seen, seen_jobs, plain, turn}
-
--- stores one after another
-pub stored_cons : (c : Core) (s : Store) (ss : List Store) → stored c (s ∷ ss) ≡ stored (store c (place s) s.word) ss
-unfolding stored
-stored_cons c s ss = refl
-
-pub stored_none : (c : Core) → stored c [] ≡ c
-unfolding stored
-stored_none c = refl
+use Rattle.its_word.proofs.StoreLaws.{stored_none}
 
 pub stored_one : (c : Core) (s : Store) → stored c (s ∷ []) ≡ store c (place s) s.word
 unfolding stored

@@ -100,7 +100,7 @@ filtered_out : (p : ℕ → Bool) (k : ℕ) (xs : List ℕ) → p k ≡ false �
 filtered_out p k [] h = refl
 filtered_out p k (i ∷ xs) h = kept_out p k i (filter p xs) (p i) h refl (filtered_out p k xs h)
 
-below_itself : (sup : ℕ → Option ℕ) (j : ℕ) → is_below sup j j ≡ false
+pub below_itself : (sup : ℕ → Option ℕ) (j : ℕ) → is_below sup j j ≡ false
 unfolding is_below
 below_itself sup j = rw (eq-eqb j j refl) refl
 

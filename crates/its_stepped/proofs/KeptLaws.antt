@@ -34,7 +34,7 @@ pub record Off (m n : Machine) (s : ℕ) : Type 0 where
   pub others : (k : ℕ) → k ≢ s → n.jobs k ≡ m.jobs k
 
 -- a slot without a frame has no reserved page, and is sound whatever job it has
-user_page : (o : Option Whole) (f : Option Frame) (r : Option ℕ) → f ≡ None → SoundBy o f r → r ≡ None
+pub user_page : (o : Option Whole) (f : Option Frame) (r : Option ℕ) → f ≡ None → SoundBy o f r → r ≡ None
 user_page None f r e h = h.1
 user_page (Some q) None r e h = h
 user_page (Some q) (Some f) r e h = absurd (let none = e in cc)

@@ -41,6 +41,7 @@ use Rattle.its_stepped.specs.Forest.{Forest}
 use Rattle.its_stepped.specs.Tick.{makes_page, reserves}
 use Rattle.its_stepped.specs.Sound.{Stored}
 use Rattle.its_stepped.specs.State.{no_state}
+use Rattle.its_stepped.proofs.CommitLaws.{footprint_same}
 use Rattle.its_stepped.proofs.DebtLaws.{debts_none}
 use Rattle.its_stepped.proofs.DecodingLaws.{siot_inputs, decoding}
 use Rattle.its_stepped.proofs.OverLaws.{word_apart}
@@ -68,11 +69,6 @@ rest_pointer a l = (rest_of a.inputs.items (next_pointer (input a 1)) (input a 2
 pub rest_count : (a : Ask) → length a.inputs.items ≡ 3 → input (rest_of_transfer a) 2 ≡ input a 2 - 1
 unfolding revalued
 rest_count a l = (rest_of a.inputs.items (next_pointer (input a 1)) (input a 2 - 1) l).1
-
--- the rest has the footprint of the call
-footprint_same : (b : ℕ) (a : Ask) (vs : List ℕ) → in_footprint b (revalued a vs) ≡ in_footprint b a
-unfolding in_footprint revalued
-footprint_same b a vs = refl
 
 -- a byte that came in stands in its word, which is apart from the words of pointer and count
 stored_byte : (c : Core) (b w : ℕ) → b % 2 ^ 18 ≡ b → can_store c b ≡ true → word_at (stored c (record { at = b; word = w } ∷ [])) b ≡ Some w
@@ -102,19 +98,17 @@ moved_is a (Some b) vs q cs = refl
 abbrev Moved : Machine → Machine → ℕ → Whole → Site → Ask → Decision → Type 0
 Moved m n j q s a d = Duty (no_state m) j q s a 0 d → acted m j a d ≡ Some n → ByteBy m j q s a d n
 
--- what the tests of SIOT leave: pointer and count are words of their own, the count is not 0, and the word of the byte is
--- outside the footprint
+-- what the tests of SIOT leave: pointer and count are words of their own, and the count is not 0
 record Ready (a : Ask) : Type 0 where
   pointer : input (rest_of_transfer a) 1 ≡ next_pointer (input a 1)
   counted : input a 2 ≢ 0
-  outside : in_footprint (right_of (next_pointer (input a 1))) a ≡ false
 
 -- one byte is moved, by changes after which the job has these channels
 goes_on : (m n : Machine) (j : ℕ) (q : Whole) (s : Site) (a : Ask) (cs : List Change) (h : Option Held) (to : ℕ → Chan) → Ready a
-    → (AllSpare cs j (no_state m) → (effects cs j m).jobs j ≡ Some (record q { channels = to })) → IfSome h (λ b. in_footprint b.place a ≡ false)
+    → (AllSpare cs j (no_state m) → (effects cs j m).jobs j ≡ Some (record q { channels = to }))
     → Bears (view m j q (target q a)) (next_pointer (input a 1)) (input a 0) (channel_at q.channels (input a 0)) cs h → Moved m n j q s a (goes cs h (new_arguments a))
 unfolding acted
-goes_on m n j q s a cs h to t has out borne g r =
+goes_on m n j q s a cs h to t has borne g r =
     let w : ℕ = next_pointer (input a 1) in
     let k : ℕ = input a 2 - 1 in
     let f : Whole → Whole = moved a h (w ∷ k ∷ []) in
@@ -124,7 +118,7 @@ goes_on m n j q s a cs h to t has out borne g r =
       after = record q { core = (f q).core; channels = to };
       there = ap (λ (y : Machine). y.jobs j) (sym same) ∙ (job_only base.jobs j (record q { channels = to }) f (has g.spare)).here ∙ ap Some (moved_is a h (w ∷ k ∷ []) q to);
       borne = borne;
-      deposited = byte_there q s a h w k t.pointer out g.held g.stands;
+      deposited = byte_there q s a h w k t.pointer g.outside g.held g.stands;
       registers = refl;
       counted = t.counted;
       stands = g.stands;
@@ -154,7 +148,7 @@ in_moved m n j q s a is on t =
     (λ t d r. refl, (λ t d r. refl, (λ t d r. absurd cc, tt)))
     (λ p.
     let there = first_waits (x.consoles i).input (or_parts (is_empty (x.consoles i).input) (is_other x.slot (x.holders i)) p.1.1.0).0 in
-    goes_on m n j q s a (c ∷ []) (Some b) q.channels t (λ spare. is) t.outside
+    goes_on m n j q s a (c ∷ []) (Some b) q.channels t (λ spare. is)
     (subst (λ (k : Chan). Bears x w (input a 0) k (c ∷ []) (Some b)) (sym on) (refl, comes_in w (slice_get (x.consoles i).input 0) there)))
 
 out_moved : (m n : Machine) (j : ℕ) (q : Whole) (s : Site) (a : Ask) → m.jobs j ≡ Some q → channel_at q.channels (input a 0) ≡ TtyOut → Ready a
@@ -167,7 +161,7 @@ out_moved m n j q s a is on t =
     let c : Change = changes.Put i (shown_byte (byte_at x w)) in
     first_holds (Moved m n j q s a) (read_tests x (right_of w) ++ (output_waits x i ⇒ Waits (Output i) ∷ [])) (goes (c ∷ []) None (new_arguments a))
     (λ t d r. refl, (λ t d r. absurd cc, tt))
-    (λ p. goes_on m n j q s a (c ∷ []) None q.channels t (λ spare. is) tt (subst (λ (k : Chan). Bears x w (input a 0) k (c ∷ []) None) (sym on) (refl, refl)))
+    (λ p. goes_on m n j q s a (c ∷ []) None q.channels t (λ spare. is) (subst (λ (k : Chan). Bears x w (input a 0) k (c ∷ []) None) (sym on) (refl, refl)))
 
 -- a word comes from a file or an inferior, goes to a draft, or goes into an inferior
 abbrev next_position : Whole → ℕ → ℕ → ℕ → Chan
@@ -184,7 +178,7 @@ read_moved m n j q s a h at word is on borne t =
     let c : Change = changes.Move i (at + 1) in
     let b : Held = record { place = right_of w; byte = word } in
     first_holds (Moved m n j q s a) (store_tests x (right_of w)) (goes (c ∷ []) (Some b) (new_arguments a)) (λ t d r. refl, (λ t d r. refl, tt))
-    (λ p. goes_on m n j q s a (c ∷ []) (Some b) (next_position q i at) t (λ spare. (job_only m.jobs j q (on_channel i (at_position (at + 1))) is).here) t.outside
+    (λ p. goes_on m n j q s a (c ∷ []) (Some b) (next_position q i at) t (λ spare. (job_only m.jobs j q (on_channel i (at_position (at + 1))) is).here)
     (subst (λ (k : Chan). Bears x w i k (c ∷ []) (Some b)) (sym on) borne))
 
 write_moved : (m n : Machine) (j : ℕ) (q : Whole) (s : Site) (a : Ask) (f : File) → m.jobs j ≡ Some q → channel_at q.channels (input a 0) ≡ Writes f → Ready a
@@ -197,7 +191,7 @@ write_moved m n j q s a f is on t =
     let c : Change = changes.Append i (byte_at x w) in
     first_holds (Moved m n j q s a) (read_tests x (right_of w) ++ (is_full x.files (channels_in x) f.words ⇒ fails x a 0o10 ∷ [])) (goes (c ∷ []) None (new_arguments a))
     (λ t d r. refl, (λ t d r. refl, tt))
-    (λ p. goes_on m n j q s a (c ∷ []) None (changed q.channels i (with_word (byte_at x w) (q.channels i))) t (λ spare. (job_only m.jobs j q (on_channel i (with_word (byte_at x w))) is).here) tt
+    (λ p. goes_on m n j q s a (c ∷ []) None (changed q.channels i (with_word (byte_at x w) (q.channels i))) t (λ spare. (job_only m.jobs j q (on_channel i (with_word (byte_at x w))) is).here)
     (subst (λ (k : Chan). Bears x w i k (c ∷ []) None) (sym on) (refl, refl)))
 
 peeks_moved : (m n : Machine) (j : ℕ) (q : Whole) (s : Site) (a : Ask) (k at : ℕ) (o : Option ℕ) → m.jobs j ≡ Some q → channel_at q.channels (input a 0) ≡ On k false at
@@ -228,7 +222,7 @@ poke_moved m n j q s a k at is on t =
     let cs : List Change = changes.Poke k at (byte_at x w) ∷ changes.Move i (at + 1) ∷ [] in
     first_holds (Moved m n j q s a) (read_tests x (right_of w) ++ (not (can_store (other_core x) at) ⇒ fails x a 0o16 ∷ [])) (goes cs None (new_arguments a))
     (λ t d r. refl, (λ t d r. refl, tt))
-    (λ p. goes_on m n j q s a cs None (next_position q i at) t (λ spare. poked_there m j k at (byte_at x w) i q is spare.0) tt
+    (λ p. goes_on m n j q s a cs None (next_position q i at) t (λ spare. poked_there m j k at (byte_at x w) i q is spare.0)
     (subst (λ (h : Chan). Bears x w i h cs None) (sym on) (refl, refl)))
 
 -- behind the tests of SIOT
@@ -240,7 +234,6 @@ by_moved m n j q s a words ended d three h =
     (λ t. h t.1.1.1.1.1.1.0 (record {
       pointer = rest_pointer a three;
       counted = λ k. let b = t.1.1.1.1.1.0 in let u = ap (λ (i : ℕ). i == 0) k in cc;
-      outside = t.1.1.1.1.1.1.1.0;
     }))
 
 -- whatever its channel is on

@@ -1,17 +1,18 @@
 -- What a call that has ended owes: at most four steps, its own words among them, Leave as the last, and the parts of
--- its close.
+-- its close before all else.
 use Rattle.std.specs.Prelude.{if◌then◌else◌, ◌==◌, ◌≡◌, ℕ, ◌+◌, Bool, true, false, Option, Some, None, List, [], ◌∷◌, ◌++◌, map, length, refl}
 use Rattle.std.proofs.Common.{◌∙◌, ap, arith}
 use Rattle.std.proofs.lemmas.Bool.{eq-eqb}
 use Rattle.its_word.specs.Core.{Core}
 use Rattle.its_word.specs.declared.calls.Exit.{Exit}
 use Rattle.its_word.specs.declared.calls.Owed.{Owed}
-use Rattle.its_word.specs.declared.calls.Owed.TheVariants.{Leave}
+use Rattle.its_word.specs.declared.calls.Owed.TheVariants as owed
+use Rattle.its_word.specs.declared.calls.Owed.TheVariants.{GiveBack, Unlink, Link, Free, Leave}
 use Rattle.its_word.specs.declared.plan.Store.{Store}
 use Rattle.its_frame.specs.Left.{kept}
 use Rattle.its_stepped.specs.State.{Part, UnlinkOld, LinkNew, FreeOld, Mark, State}
 use Rattle.its_stepped.specs.Commit.{owed_part, owed_parts, given_up, owed_store, owed_by}
-use Rattle.its_stepped.specs.Sound.{Stored, Owes, backs, file_parts}
+use Rattle.its_stepped.specs.Sound.{Stored, Owes, backs, file_parts, FilesFirst}
 
 -- what is owed in front of the own words
 len_append : (xs ys : List Owed) → length (xs ++ ys) ≡ length xs + length ys
@@ -110,3 +111,32 @@ owed_files v j m ss e is own =
     ap (λ (o : Option Mark). file_parts (owed_parts o j ++ rest)) is
     ∙ ap (λ (ps : List Owed). file_parts (ps ++ rest)) (parts_owned m j own)
     ∙ parts_file m.parts rest (given_files (v.reserved j) _ ∙ own_files ss e)
+
+-- they come before all else that it owes
+pub none_first : (os : List Owed) → file_parts os ≡ [] → FilesFirst os
+none_first [] h = tt
+none_first (GiveBack ∷ os) h = h
+none_first (owed.Store a w ∷ os) h = h
+none_first (Leave e ∷ os) h = h
+none_first (Unlink ∷ os) h = absurd cc
+none_first (Link ∷ os) h = absurd cc
+none_first (Free ∷ os) h = absurd cc
+
+parts_lead : (ps : List Part) (os : List Owed) → FilesFirst os → FilesFirst (map owed_part ps ++ os)
+parts_lead [] os h = h
+parts_lead (UnlinkOld ∷ ps) os h = parts_lead ps os h
+parts_lead (LinkNew ∷ ps) os h = parts_lead ps os h
+parts_lead (FreeOld ∷ ps) os h = parts_lead ps os h
+
+mark_leads : (m : Option Mark) (j : ℕ) (os : List Owed) → FilesFirst os → FilesFirst (owed_parts m j ++ os)
+mark_leads None j os h = h
+mark_leads (Some m) j os h = go (m.owner == j)
+  where
+    go : (b : Bool) → FilesFirst ((if b then map owed_part m.parts else []) ++ os)
+    go true = parts_lead m.parts os h
+    go false = h
+
+pub owed_first : (v : State) (j : ℕ) (ss : List Store) (e : Exit) → FilesFirst (owed_by v j ss e)
+owed_first v j ss e =
+    let own : List Owed = map owed_store ss ++ Leave e ∷ [] in
+    mark_leads v.mark j (given_up (v.reserved j) ++ own) (none_first (given_up (v.reserved j) ++ own) (given_files (v.reserved j) own ∙ own_files ss e))

@@ -13,14 +13,11 @@ use Rattle.its_plain.specs.Decide.{call_named}
 use Rattle.its_stepped.specs.Tick.{makes_page, reserves, quarters}
 use Rattle.its_stepped.specs.Sound.{Paged, IsWaitable, most_owed_by, most_owed}
 use Rattle.its_stepped.specs.Duty.{IsTried}
-
-and_none : (b : Bool) → (b && false) ≡ false
-and_none true = refl
-and_none false = refl
+use Rattle.its_word.proofs.TreeLaws.{and_false}
 
 pub reserves_none : (a : Ask) → makes_page (call_named a.name) (input a 0) ≡ false → reserves a ≡ false
 unfolding reserves
-reserves_none a e = ap (λ (b : Bool). (a.fail == 0) && b) e ∙ and_none (a.fail == 0)
+reserves_none a e = ap (λ (b : Bool). (a.fail == 0) && b) e ∙ and_false (a.fail == 0)
 
 -- a call that can be found not ready
 waitable_none : (o : Option CallName) (i : ℕ) → IsWaitable o → makes_page o i ≡ false
@@ -40,7 +37,7 @@ unfolding most_owed
 owes_reserves_none a n some few = reserves_none a (owing_none (call_named a.name) (input a 0) n some few)
 
 -- a call after a part of it
-valued_none : (os : List Operand) → valued os [] ≡ os
+pub valued_none : (os : List Operand) → valued os [] ≡ os
 valued_none [] = refl
 valued_none (o ∷ os) = refl
 

@@ -1,8 +1,8 @@
 -- SIOT does its duty: pointer and count are owed with each byte, and the byte's word is outside the footprint.
-use Rattle.std.specs.Prelude.{if◌then◌else◌, ◌||◌, ◌&&◌, ◌≡◌, ◌≤◌, ◌<◌, ℕ, zero, suc, ◌+◌, ◌-◌, ◌%◌, ◌^◌, Bool, true, false, not, Option, Some, None, IfSome, List, [], ◌∷◌, ◌++◌, length, take, drop, slice_get, nat_le, is_some, unwrap_or, refl}
+use Rattle.std.specs.Prelude.{◌||◌, ◌≡◌, ◌≤◌, ℕ, zero, suc, ◌+◌, ◌-◌, ◌%◌, ◌^◌, Bool, true, false, not, Option, Some, None, IfSome, List, [], ◌∷◌, ◌++◌, length, take, drop, slice_get, is_some, unwrap_or, refl}
 use Rattle.std.proofs.Common.{◌∙◌, ap, subst, sym, arith, inl, inr}
 use Rattle.std.proofs.lemmas.Bool.{cases_eq, not-false, or_parts}
-use Rattle.its_word.specs.Byte.{position, size, middle, pointer, has_size, increment_of, load_of}
+use Rattle.its_word.specs.Byte.{has_size, load_of}
 use Rattle.its_word.specs.Core.{Core, can_store, store}
 use Rattle.its_word.specs.Word.{right_of}
 use Rattle.its_word.proofs.CoreLaws.{can_store-store}
@@ -39,6 +39,8 @@ use Rattle.its_stepped.specs.Calling.{Transfer, Fetched, Decoding, Calling}
 use Rattle.its_stepped.proofs.DebtLaws.{debts_none}
 use Rattle.its_stepped.proofs.TestLaws.{EachStops, first_holds, no_page, fails_duty, faults_duty, nothing_duty}
 use Rattle.its_stepped.proofs.TtyDuty.{named_waits}
+use Rattle.its_stepped.proofs.CallDuties.{named_same}
+use Rattle.its_plain.proofs.SizeLaws.{next_sized}
 
 -- a word outside the footprint is apart from the words that are owed
 abbrev KnownIn : Ask → List Operand → Type 0
@@ -80,10 +82,6 @@ two_valued : (a : Ask) (x : Operand) (p v q k w n : ℕ) → a.inputs.items ≡ 
     → revalued a (w ∷ n ∷ []) ≡ with_inputs a (x ∷ variable w p ∷ variable n q ∷ [])
 unfolding revalued
 two_valued a x p v q k w n e = ap (λ xs. record a { inputs = record { items = take (length xs - 2) xs ++ valued (drop (length xs - 2) xs) (w ∷ n ∷ []) } }) e
-
-pub named_same : (a : Ask) (vs : List ℕ) → (revalued a vs).name ≡ a.name
-unfolding revalued
-named_same a vs = refl
 
 siot_owes : (a : Ask) → call_named a.name ≡ Some Siot → most_owed a ≡ 2
 unfolding most_owed
@@ -162,10 +160,6 @@ behind_held : (d : Decoding) (q : Whole) (s : Site) (a k : Ask) (h : Option Held
 behind_held d q s a k None st o = record { stands = st; can = λ p. refl }
 behind_held d q s a k (Some b) st o = behind_store d q s a b.place _ st o.placed o.outside
 
-held_job : (a : Ask) (h : Option Held) (q : Whole) → (with_held a h q).job ≡ q.job
-held_job a None q = refl
-held_job a (Some b) q = refl
-
 -- the part of a call
 siot_goes : (d : Decoding) (m : Machine) (v : State) (j : ℕ) (x : View) (s : Site) (a : Ask) (n : ℕ) (cs : List Change) (h : Option Held) (w i : ℕ) → Calling m v j x.own s a n
     → call_named a.name ≡ Some Siot → Moving x.own.core a → AllQuiet cs j v → AllSpare cs j v → parts_in cs ≡ 0 → IfSome h (HeldOutside x.own.core a) → has_size w ≡ true
@@ -186,6 +180,7 @@ siot_goes d m v j x s a n cs h w i c e t quiet spare parts o sized =
       page = no_page m v j x.own s a n c (ap (λ (k : Option CallName). makes_page k (input a 0)) e);
       within = subst (λ (ss : List Store). Within (debts a n) ss) (sym owed) (within_two a g.channel n t.p g.pointer t.q g.count w i few g.inputs);
       held = held_fits x.own.core a n h c.fetched o;
+      outside = outside_of h o;
       size = sized_by h (ap (λ (k : Ask). has_size (input k 1)) valued ∙ sized);
       debts = record {
         few = omega arith;
@@ -203,18 +198,9 @@ siot_goes d m v j x s a n cs h w i c e t quiet spare parts o sized =
     sized_by None k = tt
     sized_by (Some b) k = k
 
--- the next pointer has the size of the last
-sized_at : (p at y : ℕ) → y < 2 ^ 18 → size (pointer at (middle p) y) ≡ size p
-sized_at p at y l = omega arith
-
-next_by : (p : ℕ) (b : Bool) → has_size p ≡ true
-    → has_size (unwrap_or (Some (if b then pointer (position p - size p) (middle p) (right_of p) else pointer (36 - size p) (middle p) ((right_of p + 1) % 2 ^ 18))) 0) ≡ true
-next_by p true h = ap (λ (k : ℕ). nat_le 1 k && nat_le k 36) (sized_at p (position p - size p) (right_of p) (omega arith)) ∙ h
-next_by p false h = ap (λ (k : ℕ). nat_le 1 k && nat_le k 36) (sized_at p (36 - size p) ((right_of p + 1) % 2 ^ 18) (omega arith)) ∙ h
-
-next_sized : (p : ℕ) → has_size p ≡ true → has_size (next_pointer p) ≡ true
-unfolding increment_of
-next_sized p h = ap (λ (b : Bool). has_size (unwrap_or (if b then Some (if nat_le (size p) (position p) then pointer (position p - size p) (middle p) (right_of p) else pointer (36 - size p) (middle p) ((right_of p + 1) % 2 ^ 18)) else None) 0)) h ∙ next_by p (nat_le (size p) (position p)) h
+    outside_of : (h : Option Held) → IfSome h (HeldOutside x.own.core a) → IfSome h (λ b. in_footprint b.place a ≡ false)
+    outside_of None k = tt
+    outside_of (Some b) k = k.outside
 
 -- a byte is stored behind the tests of its word and those of its device, or is loaded behind them
 pub siot_stores : (d : Decoding) (m : Machine) (v : State) (j : ℕ) (x : View) (s : Site) (a : Ask) (n : ℕ) (ts : List Test) (cs : List Change) (w b i : ℕ) → Calling m v j x.own s a n

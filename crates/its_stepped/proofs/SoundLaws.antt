@@ -34,7 +34,7 @@ use Rattle.its_stepped.proofs.CommitSound.{slot_sound, user_sound, turn_sound, o
 use Rattle.its_stepped.proofs.TickLaws.{asks, told_quiet, Found, found, Trying, here_found, trying_holding, trying_waiting}
 
 -- the page of a slot in user mode
-page_none : (o : Option Whole) (f : Option Frame) (r : Option ℕ) → SoundBy o f r → f ≡ None → r ≡ None
+pub page_none : (o : Option Whole) (f : Option Frame) (r : Option ℕ) → SoundBy o f r → f ≡ None → r ≡ None
 page_none None f r h e = h.1
 page_none (Some q) None r h e = h
 page_none (Some q) (Some f) r h e = cc

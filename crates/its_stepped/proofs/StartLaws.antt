@@ -5,7 +5,7 @@ use Rattle.its_plain.proofs.MachineLaws.{jobs_are}
 use Rattle.its_stepped.specs.State.{helped, seen, plain, no_state}
 use Rattle.its_stepped.specs.Sound.{Sound}
 
-seen_none : (o : Option Whole) → option_map (seen None) o ≡ o
+pub seen_none : (o : Option Whole) → option_map (seen None) o ≡ o
 unfolding seen
 seen_none None = refl
 seen_none (Some q) = refl

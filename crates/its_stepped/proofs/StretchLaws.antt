@@ -36,8 +36,8 @@ use Rattle.its_stepped.proofs.ForestLaws.{forest_starts}
 use Rattle.its_stepped.proofs.FrameLaws.{changed_only}
 use Rattle.its_stepped.proofs.OneByteLaws.{rest_pointer, rest_count, decides_error, step_is, each_byte}
 use Rattle.its_stepped.proofs.PcLaws.{stands_same}
-use Rattle.its_stepped.proofs.SiotDuty.{named_same}
 use Rattle.its_stepped.proofs.WrittenLaws.{line_forest}
+use Rattle.its_stepped.proofs.CallDuties.{named_same}
 
 -- the moments of a run: each finds a forest of jobs, and one that is a step leads to the machine after the step
 abbrev Leads : Deed → Machine → Machine → Type 0

@@ -40,8 +40,9 @@ use Rattle.its_stepped.specs.SlotSame.{SlotSame}
 use Rattle.its_stepped.proofs.UnwindLaws.{slot_then, unwind_plain, all_unwound_plain, all_unwound_sound, all_unwound_keeps, all_unwound_none, all_unwound_others, among_first}
 use Rattle.its_stepped.proofs.HelpLaws.{helped_if_plain, helped_if_sound, helped_if_others}
 use Rattle.its_stepped.proofs.OwnLaws.{frames_none}
-use Rattle.its_stepped.proofs.CommitLaws.{Here, Acts, same_here, waits_plain, committed_plain}
+use Rattle.its_stepped.proofs.CommitLaws.{Here, Acts, waits_plain, committed_plain}
 use Rattle.its_stepped.proofs.EffectLaws.{effects_plain}
+use Rattle.its_stepped.proofs.RowLaws.{same_job}
 
 -- the step of a job that runs with no deliverable interrupt
 step_unit : (m : Machine) (j : ℕ) (q : Whole) (o : Outcome) → m.jobs j ≡ Some q → q.job.stopped ≡ false → deliverable q.job ≡ false → unit q.core q.job ≡ o → step m j ≡ by_unit m j q o
@@ -80,7 +81,7 @@ plain_empty w j is = subst IsOff (sym (ap (option_map (seen (w.frames j))) is)) 
 
 -- a frame that shows the same job
 still : (w : State) (j : ℕ) (f : Option Frame) → ((p : Whole) → seen f p ≡ seen (w.frames j) p) → plain (turn w j same f) ≡ plain w
-still w j f h = turned w j same same f (λ p e. h p) ∙ same_here (plain w) j
+still w j f h = turned w j same same f (λ p e. h p) ∙ same_job (plain w) j
 
 -- a job whose frame owes nothing is seen as it is
 abbrev pub AsIs : State → ℕ → Type 0
@@ -165,7 +166,7 @@ user_is w j q true sound is runs none d =
 user_is w j q false sound is runs none d = unit_is w j q (unit q.core q.job) is runs d none refl
 
 -- the decoding
-asks_none : (c : Core) (s : Site) (f : Fault) → parse c s ≡ Err f → ask c s ≡ Err f
+pub asks_none : (c : Core) (s : Site) (f : Fault) → parse c s ≡ Err f → ask c s ≡ Err f
 asks_none c s f e = in_two c s ∙ ap (λ r. given r (λ b. fetch c s b)) e
 
 pub asks : (c : Core) (s : Site) (b : List ℕ) (r : Result Ask Fault) → parse c s ≡ Ok b → fetch c s b ≡ r → ask c s ≡ r

@@ -13,7 +13,7 @@ use Rattle.its_plain.specs.CallTranscript as walk
 use Rattle.its_stepped.specs.State.{State, plain, no_state}
 use Rattle.its_stepped.specs.Tick.{tick}
 use Rattle.its_stepped.specs.Licence.{Licensed}
-use Rattle.its_stepped.specs.Dots.{bound, Dotted, dots_after, Paced}
+use Rattle.its_stepped.specs.Dots.{bound}
 use Rattle.its_stepped.specs.Lines.{calmed, with_raw, lifted_line, stepped}
 use Rattle.its_stepped.specs.Upkeep.{HoldsAfter, Upkeep, Lasting, Good}
 use Rattle.its_stepped.proofs.TickLaws.{tick_is}
@@ -23,19 +23,6 @@ use Rattle.its_stepped.proofs.LineLaws.{line_plain}
 use Rattle.its_stepped.proofs.KeptLaws.{KeptBy, line_kept}
 use Rattle.its_stepped.proofs.SessionLaws.{stepped_transcript}
 use Rattle.its_stepped.proofs.StartLaws.{no_state_plain, no_state_sound}
-
--- the letters and dots of a walk
-licensed_by : (m n : Machine) (d : Dots) (j : ℕ) (p : Pace) → Paced m d j p n → walk.Licensed m d j p n
-licensed_by m n d j Step h = h
-licensed_by m n d j Work h = h
-licensed_by m n d j Wait h = h
-licensed_by m n d j Off h = h
-
-same_dots : (m : Machine) (d : Dots) (j : ℕ) (p : Pace) → dots_after m d j p ≡ walk.dots_after m d j p
-same_dots m d j Step = refl
-same_dots m d j Work = refl
-same_dots m d j Wait = refl
-same_dots m d j Off = refl
 
 -- the dots after a line
 settled_by : (d : Dots) (touched : ℕ → Bool) (k most : ℕ) (b : Bool) → touched k ≡ b → (b ≡ false → d k ≤ most) → settled d touched k ≤ most
@@ -58,8 +45,7 @@ module _ {Placed : Machine → Type 0} (l : Lasting Placed) where
   }
 
   good_paced : (d : Dots) (w : State) (j : ℕ) → Good Placed d w → walk.Licensed (plain w) d j (tick w j).pace (plain (tick w j).state)
-  good_paced d w j g =
-      licensed_by (plain w) (plain (tick w j).state) d j (tick w j).pace (tick_paced w d j g.sound (l.duties w j g.sound g.placed) g.dotted)
+  good_paced d w j g = tick_paced w d j g.sound (l.duties w j g.sound g.placed) g.dotted
 
   good_ticks : (d : Dots) (w : State) (j : ℕ) → Good Placed d w → Good Placed (walk.dots_after (plain w) d j (tick w j).pace) (tick w j).state
   good_ticks d w j g =
@@ -67,7 +53,7 @@ module _ {Placed : Machine → Type 0} (l : Lasting Placed) where
       record {
         sound = tick_sound w j g.sound given;
         placed = letter_placed (plain w) (plain (tick w j).state) j (tick w j).pace g.placed (tick_is w j g.sound given);
-        dotted = subst (λ f. Dotted f (tick w j).state.frames) (same_dots (plain w) d j (tick w j).pace) (tick_dotted w d j g.sound given g.dotted);
+        dotted = tick_dotted w d j g.sound given g.dotted;
       }
 
   after_by : (d : Dots) (w v : State) (b : Block) (e : Event) (o : Lined) → Good Placed d w → lined (plain w) b e ≡ lifted_line v o → KeptBy w v o → HoldsAfter (Good Placed) d v o

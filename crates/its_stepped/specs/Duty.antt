@@ -17,7 +17,7 @@ use Rattle.its_frame.specs.declared.frame.Frame.TheVariants.{Entered, Parsed, As
 use Rattle.its_word.specs.Stores.{place}
 use Rattle.its_plain.specs.Machine.{Whole}
 use Rattle.its_plain.specs.Change.{superiors, is_gone}
-use Rattle.its_plain.specs.Arguments.{input, debts, revalued}
+use Rattle.its_plain.specs.Arguments.{input, in_footprint, debts, revalued}
 use Rattle.its_plain.specs.Decide.{call_named, reach}
 use Rattle.its_plain.specs.CallStep.{moved, decision, among}
 use Rattle.its_stepped.specs.State.{State, plain, seen}
@@ -94,6 +94,7 @@ pub record Going (v : State) (j : ℕ) (own : Whole) (s : Site) (a : Ask) (n : �
   pub page : v.reserved j ≡ None
   pub within : Within (debts a n) (debts (revalued a vs) (length vs))
   pub held : IfSome h (λ b. HeldFits own.core (debts a n) (length vs) b)
+  pub outside : IfSome h (λ b. in_footprint b.place a ≡ false)
   pub size : IfSome h (λ b. has_size (input (revalued a vs) 1) ≡ true)
   pub debts : Debts own.core (revalued a vs) (length vs)
   pub stands : Stands (moved a h vs own).core own.job s (revalued a vs)

@@ -19,7 +19,7 @@ use Rattle.its_plain.specs.Unit.{Called, unit}
 use Rattle.its_word.specs.Stores.{place}
 use Rattle.its_plain.specs.Machine.{Whole}
 use Rattle.its_plain.specs.Change.{poke}
-use Rattle.its_plain.specs.Arguments.{input, debts}
+use Rattle.its_plain.specs.Arguments.{input, in_footprint, debts}
 use Rattle.its_plain.specs.Ask.{parse}
 pub use Rattle.its_plain.specs.Footprint.{Stands}
 use Rattle.its_plain.specs.Decide.{call_named}
@@ -83,6 +83,26 @@ Owes c (Unlink ∷ os) = Owes c os
 Owes c (Link ∷ os) = Owes c os
 Owes c (Free ∷ os) = Owes c os
 
+-- the file steps among owed steps, as parts of a close
+abbrev pub file_parts : List Owed → List Part
+file_parts [] = []
+file_parts (Unlink ∷ os) = UnlinkOld ∷ file_parts os
+file_parts (Link ∷ os) = LinkNew ∷ file_parts os
+file_parts (Free ∷ os) = FreeOld ∷ file_parts os
+file_parts (GiveBack ∷ os) = file_parts os
+file_parts (owed.Store a w ∷ os) = file_parts os
+file_parts (Leave e ∷ os) = file_parts os
+
+-- the parts of a close come before all else that is owed
+abbrev pub FilesFirst : List Owed → Type 0
+FilesFirst [] = Unit {0}
+FilesFirst (Unlink ∷ os) = FilesFirst os
+FilesFirst (Link ∷ os) = FilesFirst os
+FilesFirst (Free ∷ os) = FilesFirst os
+FilesFirst (GiveBack ∷ os) = file_parts os ≡ []
+FilesFirst (owed.Store a w ∷ os) = file_parts os ≡ []
+FilesFirst (Leave e ∷ os) = file_parts os ≡ []
+
 -- how many pages are to be given back
 abbrev pub backs : List Owed → ℕ
 backs [] = 0
@@ -113,11 +133,13 @@ pub record MovingPays (c : Core) (r : Option ℕ) (a : Ask) (at : ℕ) : Type 0 
   pub place : can_store c (place (poke at 0)) ≡ true
   pub within : at < 2 ^ 18
   pub size : has_size (input a 1) ≡ true
+  pub apart : in_footprint at a ≡ false
 
 pub record EndingPays (c : Core) (r : Option ℕ) (os : List Owed) : Type 0 where
   pub owes : Owes c os
   pub few : length os ≤ 4
   pub page_is : backs os ≡ kept r
+  pub files_first : FilesFirst os
 
 abbrev pub Pays : Frame → Core → Option ℕ → Type 0
 Pays (Entered f) c r = r ≡ None
@@ -142,16 +164,6 @@ SoundBy (Some q) (Some f) r = SoundFrame q f r
 
 pub record SoundSlot (o : Option Whole) (f : Option Frame) (r : Option ℕ) : Type 0 where
   pub by : SoundBy o f r
-
--- the file steps among owed steps, as parts of a close
-abbrev pub file_parts : List Owed → List Part
-file_parts [] = []
-file_parts (Unlink ∷ os) = UnlinkOld ∷ file_parts os
-file_parts (Link ∷ os) = LinkNew ∷ file_parts os
-file_parts (Free ∷ os) = FreeOld ∷ file_parts os
-file_parts (GiveBack ∷ os) = file_parts os
-file_parts (owed.Store a w ∷ os) = file_parts os
-file_parts (Leave e ∷ os) = file_parts os
 
 abbrev pub parts_in_frame : Option Frame → List Part
 parts_in_frame (Some (Ending f)) = file_parts f.owed.items

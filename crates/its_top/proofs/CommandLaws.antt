@@ -20,6 +20,7 @@ use Rattle.clap.specs.declared.error.kind.ErrorKind.TheVariants as kinds
 use Rattle.clap.proofs.OnLiterals.{clap_on_literals}
 use Rattle.its_top.specs.declared.commands.Command.{Command}
 use Rattle.its_top.specs.Commands.{bare_command, counted_command, command_from, command_of, is_option, is_rounds, IfGenerates}
+use Rattle.its_word.proofs.TreeLaws.{and_false}
 
 -- the command line that is parsed
 abbrev pub named : App
@@ -158,10 +159,6 @@ pub refused_by : (ws : List Text) (r : Result ArgMatches Error) → list_any is_
     → IfErr r (λ e. kind_of e ≢ kinds.OutOfMemory → command_of ws ≡ None)
 refused_by ws (Ok m) h f = tt
 refused_by ws (Err e) h f = parse_refused ws e h f
-
-and_false : (a : Bool) → (a && false) ≡ false
-and_false true = refl
-and_false false = refl
 
 -- a word that begins with `-` is no number, and no name of a command
 no_digits : (bs : List ℕ) → is_octal (45 ∷ bs) ≡ false

@@ -13,6 +13,7 @@ use Rattle.its_stepped.specs.Lines.{with_raw}
 use Rattle.its_operator.specs.Kept.{Lands}
 use Rattle.its_top.specs.Answer.{TypedSo, DrainedSo}
 use Rattle.its_top.proofs.LoadingLaws.{front}
+use Rattle.its_top.proofs.AnswerLaws.{landed}
 
 -- one console, changed once, twice, or not at all
 changed_here : {X : Type 0} (f : ℕ → X) (i : ℕ) (x : X) → changed f i x i ≡ x
@@ -40,9 +41,6 @@ on_then m c f g h e = machine_is _ _ (λ k. refl)
 
 on_same : (m : Machine) (c : ℕ) → on_console m c (λ x. x) ≡ m
 on_same m c = machine_is _ _ (λ k. refl) (λ k. changed_not m.consoles c k) (λ k. refl) refl refl
-
-landed : (v next : State) (m : Machine) → Lands v next (Ok m) → m ≡ next.raw
-landed v next m h = let k : Ok m ≡ Ok next.raw = h.is in cc
 
 -- the state stays that of v, but for its raw machine
 still : (v now next : State) (m : Machine) → now ≡ with_raw v now.raw → Lands now next (Ok m) → next ≡ with_raw v next.raw

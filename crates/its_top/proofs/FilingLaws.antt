@@ -37,6 +37,7 @@ use Rattle.its_top.specs.declared.turn.Turn.TheVariants as turns
 use Rattle.its_top.specs.Telling.{goes_on}
 use Rattle.its_top.specs.Answer.{WroteFor, Tells, Looked, Stood, AddSo, WritesSo}
 use Rattle.its_top.proofs.LoadingLaws.{front}
+use Rattle.its_world.proofs.StorageLaws.{files_are}
 
 -- a state in which no part of a close is owed stays as it is
 still_helped : (v : State) → v.mark ≡ None → help v ≡ v
@@ -121,15 +122,11 @@ few_in : (d : ℕ) (fs : List File) → length (files_in d fs) ≤ length fs
 unfolding files_in
 few_in d fs = subst (λ n. n ≤ length fs) (sym (length-filter (is_in d) fs)) (count_by-le-length (is_in d) fs)
 
-raw_files : (w : World) → (state_of w).raw.files ≡ directory w.files
-unfolding state_of
-raw_files w = refl
-
 pub counting_end : (old now : World) (d k : ℕ) → 0 < k → Looked old now k → length now.files.order ≤ k → k ≤ length (files_in d (help (state_of old)).raw.files)
     → k ≡ length (files_in d (help (state_of old)).raw.files)
 counting_end old now d k some l few at_least =
     let fs = (help (state_of old)).raw.files in
-    let is : fs ≡ directory now.files = ap (λ (v : State). v.raw.files) (sym (l.reached some)) ∙ raw_files now in
+    let is : fs ≡ directory now.files = ap (λ (v : State). v.raw.files) (sym (l.reached some)) ∙ files_are now in
     let all : length fs ≡ length now.files.order = ap length is ∙ length-map now.files.order (file_at now.files) in
     omega (arith, few_in d fs, all, few, at_least)
 

@@ -6,11 +6,11 @@ use Rattle.its_word.specs.Limits.{slots}
 use Rattle.its_word.specs.Tree.{climbs_to, is_below}
 use Rattle.its_word.proofs.TreeLaws.{climb_end}
 
-or_none : (a b : Bool) → (a || b) ≡ false → (a ≡ false) × (b ≡ false)
+pub or_none : (a b : Bool) → (a || b) ≡ false → (a ≡ false) × (b ≡ false)
 or_none true b h = cc
 or_none false b h = (refl, h)
 
-or_second : (a b : Bool) → (a || b) ≡ true → a ≡ false → b ≡ true
+pub or_second : (a b : Bool) → (a || b) ≡ true → a ≡ false → b ≡ true
 or_second true b h e = cc
 or_second false b h e = h
 

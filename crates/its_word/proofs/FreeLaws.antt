@@ -1,5 +1,5 @@
 -- Least free slots of functions that are alike, and what they say of the slot.
-use Rattle.std.specs.Prelude.{◌≡◌, ◌+◌, ℕ, zero, suc, Option, Some, None, is_some, cond, refl}
+use Rattle.std.specs.Prelude.{◌≡◌, ◌+◌, ℕ, zero, suc, false, Option, Some, None, is_some, cond, refl}
 use Rattle.std.proofs.Common.{sym, ◌∙◌, ap}
 use Rattle.its_word.specs.Limits.{slots}
 use Rattle.its_word.specs.Tree.{free_from, least_free}
@@ -27,3 +27,8 @@ free_empty {X = X} f (suc n) k s h = go (f k) refl (free_empty f n (k + 1) s) h
 pub least_empty : {X : Type 0} (f : ℕ → Option X) (s : ℕ) → least_free f ≡ Some s → f s ≡ None
 unfolding least_free
 least_empty f s h = free_empty f slots 0 s h
+
+-- what is nothing
+pub none_is : {X : Type 0} (o : Option X) → is_some o ≡ false → o ≡ None
+none_is (Some x) h = cc
+none_is None h = refl

@@ -9,3 +9,4 @@ pub mod ClimbLaws
 pub mod WordLaws
 pub mod FreeLaws
 pub mod StoreLaws
+pub mod TableLaws

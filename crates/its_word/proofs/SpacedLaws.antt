@@ -16,6 +16,9 @@ pub spaced-append : (first : List ℕ) (words more : List (List ℕ)) → spaced
 unfolding spaced
 spaced-append first words more = fold-append _ first words more
 
+pub after_field : (first field : List ℕ) (fields : List (List ℕ)) → spaced first (field ∷ fields) ≡ spaced (spaced first (field ∷ [])) fields
+after_field first field fields = spaced-append first (field ∷ []) fields
+
 -- one more of the words that f makes of a list
 pub spaced_more : {X : Type 0} (first : List ℕ) (f : X → List ℕ) (xs : List X) (i : ℕ) (x : X) → i < length xs
     → spaced first (map f (take (i + 1) xs)) ≡ spaced (spaced first (map f (take i xs))) (f (get_or xs i x) ∷ [])

@@ -39,7 +39,7 @@ fault_further c ss i s e h r =
     ∙ ap (λ r. option_or r (first_fault c (drop (i + 1) ss))) r)
 
 -- the core after one store with others after it
-stored_cons : (c : Core) (s : Store) (ss : List Store) → stored c (s ∷ ss) ≡ stored (store c (place s) s.word) ss
+pub stored_cons : (c : Core) (s : Store) (ss : List Store) → stored c (s ∷ ss) ≡ stored (store c (place s) s.word) ss
 unfolding stored
 stored_cons c s ss = refl
 

@@ -56,7 +56,7 @@ pub climb_turn : (superiors : ℕ → Option ℕ) (s i k : ℕ) → i < 64
     → climbs_to superiors s (64 - i) (Some k) ≡ ((k == s) || climbs_to superiors s (64 - (i + 1)) (superiors k))
 climb_turn superiors s i k l = let e : 64 - i ≡ suc (64 - (i + 1)) = omega arith in climb superiors s (64 - i) (64 - (i + 1)) k e
 
-and_false : (b : Bool) → (b && false) ≡ false
+pub and_false : (b : Bool) → (b && false) ≡ false
 and_false true = refl
 and_false false = refl
 

@@ -1,5 +1,5 @@
 -- A directory of files in their order, each with three names (those of its directory and its own two) and its words.
-use Rattle.std.specs.Prelude.{ℕ, Bool, true, false, ◌&&◌, eqb, Option, Some, None, List, [], ◌∷◌, ◌++◌, slice_index_or}
+use Rattle.std.specs.Prelude.{ℕ, Bool, true, false, ◌&&◌, eqb, List, [], ◌∷◌, ◌++◌, slice_index_or}
 
 pub record File : Type 0 where
   pub names : List ℕ

@@ -16,3 +16,5 @@ pub mod Opcode
 pub mod Stores
 pub mod Console
 pub mod Directory
+pub mod Table
+pub mod Flags

@@ -1,3 +1,7 @@
+ghost use Rattle.std.specs.Prelude.{◌≡◌};
+ghost use Rattle.its_word.specs.Flags.{bit_of};
+
+use super::pending::{ILO, MPV, WRO};
 use super::word::Word;
 
 /// An effective address, from 0 to 777777 (octal), and the last index register or indirect word that
@@ -15,6 +19,19 @@ pub enum Fault {
     Mpv,
     Wro,
     Ilo,
+}
+
+impl Fault {
+    /// The bit of pending word 1 that it sets.
+    pub fn bit(self) -> Word
+        ensures { result ≡ bit_of self }
+    {
+        match self {
+            Fault::Mpv => Word::new(MPV),
+            Fault::Wro => Word::new(WRO),
+            Fault::Ilo => Word::new(ILO),
+        }
+    }
 }
 
 /// Why a word cannot be read or stored: its page is absent, or it is read only.

@@ -1,4 +1,8 @@
 //! The flags of a PC word, as bits of its left half (processor reference manual, "Program control").
+ghost use Rattle.std.specs.Prelude.{◌≡◌};
+ghost use Rattle.its_word.specs.Flags.{pc_word, flags_of};
+
+use super::word::Word;
 
 /// Overflow.
 pub const OVERFLOW: u32 = 0o400000;
@@ -17,3 +21,17 @@ pub const NO_DIVIDE: u32 = 0o000040;
 
 /// The flags that a PC word names, but for user.
 pub const NAMED_FLAGS: u32 = 0o760040;
+
+/// The PC word of flags and a PC; user is always on.
+pub fn pc_word(flags: u32, pc: u32) -> Word
+    ensures { result ≡ pc_word flags pc }
+{
+    Word::pair(flags & NAMED_FLAGS | USER, pc)
+}
+
+/// The flags of a PC word.
+pub fn flags_in(w: Word) -> u32
+    ensures { result ≡ flags_of w }
+{
+    w.left() & NAMED_FLAGS
+}

@@ -5,6 +5,7 @@
 mod access;
 mod calls;
 mod digits;
+mod filling;
 mod flags;
 mod instruction;
 mod jobs;
@@ -26,8 +27,10 @@ mod word;
 pub use access::{Address, Fault, NoAccess};
 pub use calls::{Arg, Ask, Block, Exit, Kind, Operand, Owed, Pace, Placed, Site, Source};
 pub use digits::{digits_read_back, octal, octal6};
+pub use filling::filled;
 pub use flags::{
     BYTE_HALF, CARRY_0, CARRY_1, FLOATING_OVERFLOW, NAMED_FLAGS, NO_DIVIDE, OVERFLOW, USER,
+    flags_in, pc_word,
 };
 pub use instruction::{
     ArithmeticOp, BranchOp, ByteOp, CompareOp, Instruction, MaskOp, Mode, MoveOp, ShiftOp, StackOp,

@@ -1,40 +1,57 @@
 //! The names of the calls, and how many arguments they take.
 
-/// The names of the calls, as words of SIXBIT.
+/// HANG, as a word of SIXBIT.
 pub const HANG: u64 = 0o504156470000;
 
+/// SLEEP, as a word of SIXBIT.
 pub const SLEEP: u64 = 0o635445456000;
 
+/// DISMIS, as a word of SIXBIT.
 pub const DISMIS: u64 = 0o445163555163;
 
+/// USRVAR, as a word of SIXBIT.
 pub const USRVAR: u64 = 0o656362664162;
 
+/// LOGOUT, as a word of SIXBIT.
 pub const LOGOUT: u64 = 0o545747576564;
 
+/// OPEN, as a word of SIXBIT.
 pub const OPEN: u64 = 0o576045560000;
 
+/// CLOSE, as a word of SIXBIT.
 pub const CLOSE: u64 = 0o435457634500;
 
+/// SIOT, as a word of SIXBIT.
 pub const SIOT: u64 = 0o635157640000;
 
+/// FINISH, as a word of SIXBIT.
 pub const FINISH: u64 = 0o465156516350;
 
+/// LISTEN, as a word of SIXBIT.
 pub const LISTEN: u64 = 0o545163644556;
 
+/// TTYLND, as a word of SIXBIT.
 pub const TTYLND: u64 = 0o646471545644;
 
+/// ACCESS, as a word of SIXBIT.
 pub const ACCESS: u64 = 0o414343456363;
 
+/// FILLEN, as a word of SIXBIT.
 pub const FILLEN: u64 = 0o465154544556;
 
+/// DELETE, as a word of SIXBIT.
 pub const DELETE: u64 = 0o444554456445;
 
+/// RENAME, as a word of SIXBIT.
 pub const RENAME: u64 = 0o624556415545;
 
+/// USRMEM, as a word of SIXBIT.
 pub const USRMEM: u64 = 0o656362554555;
 
+/// UCLOSE, as a word of SIXBIT.
 pub const UCLOSE: u64 = 0o654354576345;
 
+/// CORBLK, as a word of SIXBIT.
 pub const CORBLK: u64 = 0o435762425453;
 
 /// The name that a call by `.IOT` has; no block can name it.

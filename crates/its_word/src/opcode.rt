@@ -6,8 +6,10 @@ use super::instruction::{
     ArithmeticOp, BranchOp, ByteOp, CompareOp, Instruction, MaskOp, Mode, MoveOp, ShiftOp, StackOp,
 };
 
+/// The modes, by the two low bits of an opcode.
 const MODES: [Mode; 4] = [Mode::Basic, Mode::Immediate, Mode::Memory, Mode::Both];
 
+/// The families of comparisons, by the middle digit of an opcode.
 const COMPARES: [CompareOp; 8] = [
     CompareOp::Cai,
     CompareOp::Cam,
@@ -19,6 +21,7 @@ const COMPARES: [CompareOp; 8] = [
     CompareOp::Sos,
 ];
 
+/// The masks of tests, by two bits of an opcode.
 const MASKS: [MaskOp; 4] = [MaskOp::Tr, MaskOp::Tl, MaskOp::Td, MaskOp::Ts];
 
 /// The instruction of an opcode below 512.

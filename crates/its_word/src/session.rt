@@ -1,8 +1,8 @@
 use super::word::Word;
 use arrayvec::ArrayVec;
 
-/// A line of a session, read. Addresses `a` are below 2^18 (but for an empty end), slots `s` are
-/// below 64, consoles `c` are below 8; docs/SESSION.md has the numbers of each line.
+/// A line of a session, read. Addresses `a` are below 2^18, slots `s` are below 64, consoles `c` are
+/// below 8; docs/SESSION.md has the numbers of each line.
 #[derive(Debug, PartialEq, Eq, Drop)]
 pub enum Event {
     Nothing,
@@ -99,7 +99,8 @@ pub enum Bad {
     NoConsole,
 }
 
-/// Why a session ends early, as its `?` line says it.
+/// Why a session ends early, as its `?` line says it. `Unbuilt` is in the list of reasons that the
+/// record has, but no line of this program comes to it.
 #[derive(Clone, Copy, Debug, PartialEq, Eq)]
 pub enum Reason {
     Long,

@@ -40,7 +40,7 @@ pub enum PeekState {
 }
 
 /// What PEEK shows of a job: its state, the name of its call, the number of unwinding steps to user
-/// mode, the raw words at the places of up to two arguments, and the held byte.
+/// mode, the raw words at the places of up to two arguments, and the held byte or word.
 #[derive(Clone, Copy, Debug, PartialEq, Eq)]
 pub struct Peek {
     pub state: PeekState,

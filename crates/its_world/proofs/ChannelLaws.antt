@@ -35,7 +35,6 @@ use Rattle.its_files.specs.Files.{delete_by, rename_by, rename_free}
 use Rattle.its_files.specs.declared.entry.Locked.{Locked}
 use Rattle.its_files.specs.declared.entry.RenameFault.{RenameFault}
 use Rattle.its_stepped.proofs.EffectLaws.{without_none, renamed_none}
-use Rattle.its_files.proofs.EntryLaws.{none_if}
 use Rattle.its_world.proofs.StoreLaws.{has_named, renamed_directory}
 use Rattle.its_world.proofs.RoomLaws.{full_on}
 use Rattle.its_world.proofs.AcrossLaws.{writing_stands, unread_is, not_marked}
@@ -44,6 +43,7 @@ use Rattle.its_world.specs.Tidy.{channel_by}
 use Rattle.its_world.proofs.MarkLaws.{none_marked, mark_same, begin_close}
 use Rattle.its_world.proofs.KeptLaws.{Kept, Stays, across_table, moved_kept, opened_kept, closed_kept, drafted_kept, discarded_kept, appended_kept, closing_kept, deleted_stays, renamed_stays, delete_is, rename_is}
 use Rattle.its_world.proofs.StorageLaws.{OnlyStore, Comes, channel_comes, still_unmarked, store_tidy, filed_state, one_channel, same_channels, filed_tidy, channel_still, still_state, store_state, has_job, chan_is, chans_are, chan_shut, store_unmarked, files_are}
+use Rattle.its_word.proofs.FreeLaws.{none_is}
 
 -- channels on no file and no draft
 elsewhere_unread : (c : Channel) → IsElsewhere c → (f : ℕ) → reads f c ≡ 0
@@ -317,7 +317,7 @@ pub file_found : (w : World) (names : Names) → has_file names (state_of w).raw
 file_found w names h none = both_ways (has_file names (state_of w).raw.files) (absent w names (sym none)) h
 
 found_none : (w : World) (names : Names) → has_file names (state_of w).raw.files ≡ false → found w.files names ≡ None
-found_none w names h = none_if (found w.files names) (sym (ap (has_file names) (files_are w) ∙ has_named w.files names) ∙ h)
+found_none w names h = none_is (found w.files names) (sym (ap (has_file names) (files_are w) ∙ has_named w.files names) ∙ h)
 
 module _ (old new : World) (tidy : Tidy old) (d x y : ℕ) (unmarked : (state_of old).mark ≡ None) where
   -- only the directory of the state is another

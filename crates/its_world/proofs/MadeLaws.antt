@@ -23,7 +23,7 @@ use Rattle.its_world.proofs.StateLaws.{state_is, raw_job}
 use Rattle.its_world.proofs.StorageLaws.{raw_has}
 
 -- it has no open channel
-all_closed : (k n : ℕ) → slice_index_or (replicate k Closed) n Closed ≡ Closed
+pub all_closed : (k n : ℕ) → slice_index_or (replicate k Closed) n Closed ≡ Closed
 all_closed zero n = refl
 all_closed (suc k) zero = refl
 all_closed (suc k) (suc n) = all_closed k n

@@ -11,7 +11,6 @@ use Rattle.its_word.specs.declared.jobs.Job.{Job}
 use Rattle.its_core.specs.Cores.{core_at, clear_at}
 use Rattle.its_jobs.specs.Table.{job_at, superior_at}
 use Rattle.its_files.specs.Files.{Store, directory}
-use Rattle.its_files.proofs.EntryLaws.{none_if}
 use Rattle.its_plain.specs.Machine.{Chan, Shut}
 use Rattle.its_plain.specs.Own.{on_channel}
 use Rattle.its_plain.specs.Change.{in_job, channel_in}
@@ -26,6 +25,7 @@ use Rattle.its_world.proofs.KeptLaws.{Kept, Stays}
 use Rattle.its_world.proofs.MarkLaws.{mark_none, none_marked}
 use Rattle.its_world.proofs.StateLaws.{state_is, changed_at, slot_at}
 use Rattle.its_world.proofs.TallyLaws.{OneChannel}
+use Rattle.its_word.proofs.FreeLaws.{none_is}
 
 -- what is written at one place is what was there
 only_same : {X : Type 0} (f g : ℕ → X) (s : ℕ) → Only f g s (f s) → Same f g
@@ -181,7 +181,7 @@ module _ (old new : World) (s n : ℕ) (x : Channel) (t : Store) (b : ChannelBec
           | inl e ↦ ap (channel_at new.jobs s) e ∙ b.here some ∙ sym (was some) ∙ ap (channel_at old.jobs s) (sym e)
           | inr ne ↦ b.row m ne
         ]
-        | inr none ↦ ap (λ o. channel_by o m) (no_job (job_at new.jobs s) (job_at old.jobs s) b.job none) ∙ sym (ap (λ o. channel_by o m) (none_if (job_at old.jobs s) none))
+        | inr none ↦ ap (λ o. channel_by o m) (no_job (job_at new.jobs s) (job_at old.jobs s) b.job none) ∙ sym (ap (λ o. channel_by o m) (none_is (job_at old.jobs s) none))
       ]
 
   bare_none : (k : ℕ) → job_at new.jobs k ≡ None → job_at old.jobs k ≡ None
@@ -232,7 +232,7 @@ store_tidy old new t o stays tidy = record {
 }
 
 -- what the state says of a world
-job_by : (s : Store) (c : Core) (u : Option ℕ) (o : Option Job) → is_some (raw_of s c u o) ≡ is_some o
+pub job_by : (s : Store) (c : Core) (u : Option ℕ) (o : Option Job) → is_some (raw_of s c u o) ≡ is_some o
 job_by s c u (Some j) = refl
 job_by s c u None = refl
 
@@ -253,6 +253,14 @@ chan_is w s n = chan_by w.files (core_at w.core s) (superior_at w.jobs s) (job_a
 
 pub chans_are : (w : World) → channels_of (state_of w).raw ≡ (λ k n. chan_of w.files (channel_at w.jobs k n))
 chans_are w = λ i k n. chan_is w k n i
+
+pub frame_is : (w : World) (s : ℕ) → (state_of w).frames s ≡ frame_at w.frames.items s
+unfolding state_of
+frame_is w s = refl
+
+pub marks_are : (w : World) → (state_of w).mark ≡ mark_of w.files
+unfolding state_of
+marks_are w = refl
 
 shut_by : (s : Store) (c : Channel) → chan_of s c ≡ Shut → c ≡ Closed
 shut_by s Closed e = refl

@@ -9,11 +9,11 @@ use Rattle.std.proofs.lemmas.List.Sums.{sum_by-cons, sum_by-set, sum_by-le, get_
 use Rattle.its_word.specs.Limits.{slots}
 use Rattle.its_word.specs.declared.jobs.Channel.{Channel}
 use Rattle.its_word.specs.declared.jobs.Channel.TheVariants.{Closed, TtyIn, TtyOut, Reading, Writing, Usr}
-use Rattle.its_files.specs.Blocks.{table}
 use Rattle.its_files.specs.Opening.{up_to}
 use Rattle.its_files.proofs.RoomLaws.{sum_same, sum_plus, sum_times, sum_nothing, sum_one, sum_none}
-use Rattle.its_files.proofs.ListLaws.{length-table, get_or-table, table_set}
 use Rattle.its_world.specs.Tidy.{of_slot, tally, reads, writes}
+use Rattle.its_word.specs.Table.{table}
+use Rattle.its_word.proofs.TableLaws.{length-table, get_or-table, table_set}
 
 -- a sum over the numbers below n, of which one term is another
 sum-table : (f : ℕ → ℕ) (n : ℕ) → sum (table n f) ≡ sum_by f (range_with_len 0 n)

@@ -40,7 +40,7 @@ quiet_more (x ∷ xs) h (suc c) = quiet_more xs (λ i. h (suc i)) c
 unchanged : {X : Type 0} → (f : ℕ → X) (s : ℕ) → Only f f s (f s)
 unchanged f s = record { here = refl; others = λ k h. refl }
 
-alike : {X : Type 0} → (f g : ℕ → X) (s : ℕ) → ((k : ℕ) → g k ≡ f k) → Only f g s (f s)
+pub alike : {X : Type 0} → (f g : ℕ → X) (s : ℕ) → ((k : ℕ) → g k ≡ f k) → Only f g s (f s)
 alike f g s h = record { here = h s; others = λ k n. h k }
 
 pub core_becomes : (old new : World) (s : ℕ) (c : Core) → Only (core_at old.core) (core_at new.core) s c → new.core.reserved ≡ old.core.reserved

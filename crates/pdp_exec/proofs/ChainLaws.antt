@@ -19,6 +19,7 @@ use Rattle.its_plain.specs.Traced.{Traced, also, gives, goes_on, located, word}
 use Rattle.its_plain.specs.Unit.{Outcome, Called, Faulted, chain, context_of, decoded, done_by, followed, made, outcome_at, outcome_of, reached, row_of, site_of, turn, turn_at, unit}
 use Rattle.pdp_exec.specs.Answer.{IsCalled}
 use Rattle.pdp_exec.specs.Ready.{is_call, leads_on}
+use Rattle.its_plain.proofs.TracedLaws.{stops_answer}
 
 -- a part and what follows it, by what the part gives
 then_answer : {X Y : Type 0} (m : Traced X) (k : X → Traced Y) (x : X) → m.answer ≡ Ok x → (also m k).answer ≡ (k x).answer
@@ -28,10 +29,6 @@ then_answer m k x e = ap (λ a. (goes_on m.reads m.tests a k).answer) e
 then_reads : {X Y : Type 0} (m : Traced X) (k : X → Traced Y) (x : X) → m.answer ≡ Ok x → (also m k).reads ≡ m.reads ++ (k x).reads
 unfolding also
 then_reads m k x e = ap (λ a. (goes_on m.reads m.tests a k).reads) e
-
-stops_answer : {X Y : Type 0} (m : Traced X) (k : X → Traced Y) (f : Fault) → m.answer ≡ Err f → (also m k).answer ≡ Err f
-unfolding also
-stops_answer m k f e = ap (λ a. (goes_on m.reads m.tests a k).answer) e
 
 stops_reads : {X Y : Type 0} (m : Traced X) (k : X → Traced Y) (f : Fault) → m.answer ≡ Err f → (also m k).reads ≡ m.reads
 unfolding also

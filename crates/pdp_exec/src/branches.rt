@@ -13,11 +13,12 @@ use super::plans::{
 use super::reads::{ac_word, read};
 use super::stores::{none, one, two};
 use its_core::Core;
-use its_word::{BYTE_HALF, BranchOp, Context, Fault, NAMED_FLAGS, PDL, StackOp, USER, Word};
+use its_word::{BYTE_HALF, BranchOp, Context, Fault, PDL, StackOp, Word, flags_in, pc_word};
 
-/// The counts at which a push and a pop set PDL.
+/// The count at which a push sets PDL.
 const PUSHED_OUT: u32 = 0;
 
+/// The count at which a pop sets PDL.
 const POPPED_OUT: u32 = 0o777777;
 
 /// A word with 1 added to each half.
@@ -32,20 +33,6 @@ pub fn down(w: Word) -> Word
     ensures { result ≡ both_down w }
 {
     Word::pair(w.left() + 0o777777, w.right() + 0o777777)
-}
-
-/// The PC word of flags and a PC.
-pub fn saved(flags: u32, pc: u32) -> Word
-    ensures { result ≡ pc_word flags pc }
-{
-    Word::pair(flags & NAMED_FLAGS | USER, pc)
-}
-
-/// The flags of a PC word.
-pub fn flags_in(w: Word) -> u32
-    ensures { result ≡ flags_of w }
-{
-    w.left() & NAMED_FLAGS
 }
 
 fn negative(w: Word) -> bool
@@ -136,7 +123,7 @@ pub fn stack(core: &Core, slot: u8, x: &Context, op: StackOp) -> Result<Draft, F
     let after = x.pc + 1;
     Ok(match op {
         StackOp::Pushj => {
-            let stores = two(to(x.a, up(a)), to(up(a).right(), saved(x.flags, after)));
+            let stores = two(to(x.a, up(a)), to(up(a).right(), pc_word(x.flags, after)));
             count(PUSHED_OUT, up(a), complete(x, stores, 0, x.e))
         }
         StackOp::Push => {
@@ -163,8 +150,8 @@ pub fn stack(core: &Core, slot: u8, x: &Context, op: StackOp) -> Result<Draft, F
                 complete(x, one(to(x.a, down(a))), 0, w.right()),
             )
         }
-        StackOp::Jsr => complete(x, one(to(x.e, saved(x.flags, after))), 0, x.e + 1),
-        StackOp::Jsp => complete(x, one(to(x.a, saved(x.flags, after))), 0, x.e),
+        StackOp::Jsr => complete(x, one(to(x.e, pc_word(x.flags, after))), 0, x.e + 1),
+        StackOp::Jsp => complete(x, one(to(x.a, pc_word(x.flags, after))), 0, x.e),
         StackOp::Jsa => complete(
             x,
             two(to(x.e, a), to(x.a, Word::pair(x.e, after))),

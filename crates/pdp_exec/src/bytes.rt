@@ -9,16 +9,9 @@ ghost use Rattle.its_plain.specs.UnitBytes.{byte_by, byte_row, deposits, first_h
 use super::plans::{Draft, any_on, next, stay, to};
 use super::reads::{ac_word, read};
 use super::stores::one;
-use its_bytes::{deposit, increment, load};
+use its_bytes::{deposit, has_size, increment, load};
 use its_core::Core;
 use its_word::{Address, BYTE_HALF, ByteOp, Context, Fault, Word};
-
-/// Whether the size of a byte pointer is from 1 to 36.
-fn is_sized(p: Word) -> bool
-    ensures { result ≡ has_size p }
-{
-    (1..=36).contains(&(p.value() >> 24 & 0o77))
-}
 
 /// The pointer to the next byte; Ilo where its size is none of 1 to 36.
 #[tactic(auto, unfolding(its_plain::specs::UnitBytes::incremented))]
@@ -39,7 +32,7 @@ fn target(core: &Core, slot: u8, x: &Context, p: Word) -> Result<u32, Fault>
     ensures low { OnOk result (1 ≤ size p) }
     ensures high { OnOk result (size p ≤ 36) }
 {
-    if !is_sized(p) {
+    if !has_size(p) {
         return Err(Fault::Ilo);
     }
     let mut used = x.used;

@@ -109,7 +109,7 @@ fn noted(core: &Core, slot: u8, a: u32, reads: &mut Places) -> Result<Word, Faul
 }
 
 /// The target of an XCT; Ilo where the budget is at its end.
-#[tactic(auto, using(crate::proofs::ReadLaws::joined, crate::proofs::ReadLaws::ended), unfolding(its_plain::specs::Unit::target_of, its_plain::specs::Traced::also))]
+#[tactic(auto, using(its_plain::proofs::TracedLaws::joined, its_plain::proofs::TracedLaws::ended), unfolding(its_plain::specs::Unit::target_of, its_plain::specs::Traced::also))]
 fn target(core: &Core, slot: u8, x: &Context, reads: &mut Places) -> Result<Turn, Fault>
     requires slot { slot < slots }
     requires fits { Fits x.now }
@@ -129,7 +129,7 @@ fn target(core: &Core, slot: u8, x: &Context, reads: &mut Places) -> Result<Turn
 }
 
 /// Where an instruction goes on: at the target of an XCT, else at itself.
-#[tactic(auto, using(crate::proofs::ReadLaws::ended), unfolding(its_plain::specs::Unit::turn_at))]
+#[tactic(auto, using(its_plain::proofs::TracedLaws::ended), unfolding(its_plain::specs::Unit::turn_at))]
 fn turn_by(
     core: &Core,
     slot: u8,
@@ -156,7 +156,7 @@ fn turn_by(
 }
 
 /// Where an instruction word leads, under what is left of the budget.
-#[tactic(auto, using(crate::proofs::ReadLaws::joined, crate::proofs::ReadLaws::ended), unfolding(its_plain::specs::Unit::turn, its_plain::specs::Traced::also, its_plain::specs::Traced::located))]
+#[tactic(auto, using(its_plain::proofs::TracedLaws::joined, its_plain::proofs::TracedLaws::ended), unfolding(its_plain::specs::Unit::turn, its_plain::specs::Traced::also, its_plain::specs::Traced::located))]
 fn turn(
     core: &Core,
     slot: u8,

@@ -19,6 +19,7 @@ fn make(core: &mut Core, slot: u8, stores: Stores) -> Result<(), Fault>
     ensures made { result_err result ≡ first_fault (core_at core.old slot) (list_of stores) }
     ensures stored { OnOk result (Only (core_at core.old) (core_at core.new) slot (stored (core_at core.old slot) (list_of stores))) }
     ensures reserved { core.new.reserved ≡ core.old.reserved }
+    ensures frames { core.new.frames ≡ core.old.frames }
     ensures same { OnErr result (core.new ≡ core.old) }
 {
     match stores {
@@ -47,6 +48,7 @@ pub fn carry_out(core: &mut Core, slot: u8, job: &mut Job, plan: &Draft) -> Resu
     ensures left { OnOk result (job.new ≡ left_by job.old plan.now) }
     ensures pc { OnOk result (job.new.pc < 2 ^ 18) }
     ensures reserved { core.new.reserved ≡ core.old.reserved }
+    ensures frames { core.new.frames ≡ core.old.frames }
     ensures same { OnErr result ((core.new ≡ core.old) × (job.new ≡ job.old)) }
 {
     make(core, slot, plan.stores())?;

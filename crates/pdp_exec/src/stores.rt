@@ -13,24 +13,28 @@ pub enum Stores {
     Three(Store, Store, Store),
 }
 
+/// No store.
 pub fn none() -> Stores
     ensures { list_of result ≡ [] }
 {
     Stores::Zero
 }
 
+/// One store.
 pub fn one(a: Store) -> Stores
     ensures { list_of result ≡ a ∷ [] }
 {
     Stores::One(a)
 }
 
+/// Two stores, in this order.
 pub fn two(a: Store, b: Store) -> Stores
     ensures { list_of result ≡ a ∷ b ∷ [] }
 {
     Stores::Two(a, b)
 }
 
+/// Three stores, in this order.
 pub fn three(a: Store, b: Store, c: Store) -> Stores
     ensures { list_of result ≡ a ∷ b ∷ c ∷ [] }
 {

@@ -86,6 +86,7 @@ fn act(core: &mut Core, slot: u8, job: &mut Job, r: &Reached) -> Result<(), Faul
     ensures pc { job.new.pc < 2 ^ 18 }
     ensures others { (k : ℕ) → k ≢ slot → core_at core.new k ≡ core_at core.old k }
     ensures reserved { core.new.reserved ≡ core.old.reserved }
+    ensures frames { core.new.frames ≡ core.old.frames }
     ensures same { OnErr result ((core.new ≡ core.old) × (job.new ≡ job.old)) }
 {
     let plan = row(core, slot, &r.context, r.instruction)?;
@@ -119,6 +120,7 @@ pub fn run(core: &mut Core, slot: u8, job: &mut Job) -> Ended
     ensures pc { job.new.pc < 2 ^ 18 }
     ensures others { (k : ℕ) → k ≢ slot → core_at core.new k ≡ core_at core.old k }
     ensures reserved { core.new.reserved ≡ core.old.reserved }
+    ensures frames { core.new.frames ≡ core.old.frames }
     ensures same { EndsSame result core.old core.new job.old job.new }
 {
     let r = match reach(core, slot, job) {
@@ -175,6 +177,7 @@ pub fn unit(core: &mut Core, slot: u8, job: &mut Job) -> Outcome
     ensures pc { job.new.pc < 2 ^ 18 }
     ensures others { (k : ℕ) → k ≢ slot → core_at core.new k ≡ core_at core.old k }
     ensures reserved { core.new.reserved ≡ core.old.reserved }
+    ensures frames { core.new.frames ≡ core.old.frames }
     ensures same { Unchanged result core.old core.new job.old job.new }
 {
     match run(core, slot, job) {

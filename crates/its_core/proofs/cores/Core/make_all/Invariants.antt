@@ -8,4 +8,5 @@ abbrev pub invariant-loop-s : goal.invariant-loop-s
 invariant-loop-s l = record {
   making : Making (core_at l.fn.self) (core_at l.self) l.slot l.stores (drop l.s-index l.stores);
   reserved : l.self.reserved ≡ l.fn.self.reserved;
+  frames : l.self.frames ≡ l.fn.self.frames;
 }

@@ -4,8 +4,8 @@ use Rattle.its_files.proofs.blocks.Blocks.open.Goals as goal
 
 pub invariant_of-result : goal.invariant_of-result
 invariant_of-result c =
-    opened_blocks c.in_ok-copies.field-0.items c.in_ok-copies-2.field-0.items c.in_ok-copies-3.field-0.items c.in_ok-all_free.field-0 c.in_ok-copies.ensures c.in_ok-copies-2.ensures c.in_ok-copies-3.ensures c.in_ok-all_free.ensures
+    opened_blocks c.in_ok-filled.field-0.items c.in_ok-filled-2.field-0.items c.in_ok-filled-3.field-0.items c.in_ok-all_free.field-0 c.in_ok-filled.ensures c.in_ok-filled-2.ensures c.in_ok-filled-3.ensures c.in_ok-all_free.ensures
 
 pub returns : goal.returns
 returns c =
-    opened_view c.in_ok-copies.field-0.items c.in_ok-copies-2.field-0.items c.in_ok-all_free.field-0 c.in_ok-copies-2.ensures c.in_ok-all_free.ensures
+    opened_view c.in_ok-filled.field-0.items c.in_ok-filled-2.field-0.items c.in_ok-all_free.field-0 c.in_ok-filled-2.ensures c.in_ok-all_free.ensures
