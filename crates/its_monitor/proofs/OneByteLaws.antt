@@ -6,7 +6,7 @@ use Rattle.its_word.specs.declared.calls.Pace.TheVariants.{Step}
 use Rattle.its_plain.specs.Machine.{Machine}
 use Rattle.its_plain.specs.OneByte.{EachByte}
 use Rattle.its_stepped.specs.Forest.{Forest}
-use Rattle.its_stepped.specs.Licence.{Licensed}
+use Rattle.its_plain.specs.Licence.{Licensed}
 use Rattle.its_stepped.proofs.OneByteLaws.{each_byte}
 
 pub tick_once : (m n : Machine) (s : ℕ) (p : Pace) → Forest m → Licensed m s p n → p ≡ Step → EachByte m s n

@@ -17,7 +17,7 @@ use Rattle.its_stepped.specs.Address.{Addressed}
 use Rattle.its_stepped.specs.Consoled.{Consoled}
 use Rattle.its_stepped.specs.Duty.{Given}
 use Rattle.its_stepped.specs.Forest.{Forest}
-use Rattle.its_stepped.specs.Licence.{Licensed}
+use Rattle.its_plain.specs.Licence.{Licensed}
 use Rattle.its_stepped.specs.Sound.{Sound}
 use Rattle.its_stepped.specs.State.{State, plain}
 use Rattle.its_stepped.specs.Tick.{Ticked, delivered_on, unit_on, user_on, tick_in, tick_unless, tick_of, tick}

@@ -11,7 +11,7 @@ ghost use Rattle.its_plain.specs.Operator.{loaded, word_loaded, on_registers, st
 ghost use Rattle.its_plain.specs.CallOperator.{clocked, typed, drained};
 ghost use Rattle.its_stepped.specs.State.{plain, no_state};
 ghost use Rattle.its_stepped.specs.Unwind.{help, unwound};
-ghost use Rattle.its_stepped.specs.Licence.{Licensed};
+ghost use Rattle.its_plain.specs.Licence.{Licensed};
 ghost use Rattle.its_stepped.specs.Tick.{tick};
 ghost use Rattle.its_stepped.specs.Lines.{peeked};
 ghost use Rattle.its_world.specs.World.{state_of};

@@ -1,7 +1,7 @@
 ghost use Rattle.std.specs.Prelude.{◌≡◌, ◌<◌, ℕ};
 ghost use Rattle.its_word.specs.Limits.{slots};
 ghost use Rattle.its_world.specs.Tidy.{Tidy};
-ghost use Rattle.its_stepped.specs.Licence.{Licensed};
+ghost use Rattle.its_plain.specs.Licence.{Licensed};
 ghost use Rattle.its_stepped.specs.State.{plain};
 ghost use Rattle.its_stepped.specs.Tick.{tick as tick_of};
 ghost use Rattle.its_world.specs.World.{state_of};

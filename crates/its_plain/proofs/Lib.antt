@@ -4,3 +4,4 @@ pub mod DeliveryLaws
 pub mod CallLineLaws
 pub mod SizeLaws
 pub mod TracedLaws
+pub mod RunLaws

@@ -25,10 +25,10 @@ pub mod CallUsr
 pub mod CallCore
 pub mod CallStep
 pub mod Operator
-pub mod Transcript
 pub mod FileOperator
 pub mod CallOperator
-pub mod CallTranscript
+pub mod Licence
+pub mod Transcript
 pub mod OneByte
 pub mod Course
 pub mod Ledger

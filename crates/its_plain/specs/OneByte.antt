@@ -18,7 +18,7 @@ use Rattle.its_plain.specs.Arguments.{input, revalued}
 use Rattle.its_plain.specs.Footprint.{Stands}
 use Rattle.its_plain.specs.View.{View, view}
 use Rattle.its_plain.specs.CallBasic.{channel_at}
-use Rattle.its_plain.specs.CallTty.{console_of, shown_byte, word_of, next_pointer}
+use Rattle.its_plain.specs.CallTty.{console_of, shown_byte, next_pointer}
 use Rattle.its_plain.specs.CallFile.{words_of}
 use Rattle.its_plain.specs.CallUsr.{other_core}
 use Rattle.its_plain.specs.Decide.{call_named, target}
@@ -29,9 +29,14 @@ abbrev pub ComesIn : ℕ → Option ℕ → Option Held → Type 0
 ComesIn pointer (Some b) h = h ≡ Some (record { place = right_of pointer; byte = b })
 ComesIn pointer None h = ⊥
 
--- the byte at a pointer, which goes out
-abbrev pub byte_at : View → ℕ → ℕ
-byte_at v pointer = load_of pointer (word_of v (right_of pointer))
+-- a byte that goes out: the word that the pointer names is there, and the byte at the pointer in it is put by these changes
+abbrev pub GoesOut : ℕ → Option ℕ → (ℕ → List Change) → List Change → Option Held → Type 0
+GoesOut pointer (Some w) puts cs h = (cs ≡ puts (load_of pointer w)) × (h ≡ None)
+GoesOut pointer None puts cs h = ⊥
+
+-- the word at a pointer, where it is there
+abbrev pub word_named : View → ℕ → Option ℕ
+word_named v pointer = word_at v.own.core (right_of pointer)
 
 -- what is moved through channel n, by what that is on: from a console the first byte that waits, and from a file or an
 -- inferior the word at the channel's position; to a console the low 7 bits of the byte at the pointer, to a draft that
@@ -39,11 +44,11 @@ byte_at v pointer = load_of pointer (word_of v (right_of pointer))
 -- closed channel
 abbrev pub Bears : View → ℕ → ℕ → Chan → List Change → Option Held → Type 0
 Bears v pointer n TtyIn cs h = (cs ≡ changes.Take (console_of v) ∷ []) × ComesIn pointer (slice_get (v.consoles (console_of v)).input 0) h
-Bears v pointer n TtyOut cs h = (cs ≡ changes.Put (console_of v) (shown_byte (byte_at v pointer)) ∷ []) × (h ≡ None)
+Bears v pointer n TtyOut cs h = GoesOut pointer (word_named v pointer) (λ b. changes.Put (console_of v) (shown_byte b) ∷ []) cs h
 Bears v pointer n (Reads names at) cs h = (cs ≡ changes.Move n (at + 1) ∷ []) × ComesIn pointer (slice_get (words_of v names) at) h
-Bears v pointer n (Writes f) cs h = (cs ≡ changes.Append n (byte_at v pointer) ∷ []) × (h ≡ None)
+Bears v pointer n (Writes f) cs h = GoesOut pointer (word_named v pointer) (λ b. changes.Append n b ∷ []) cs h
 Bears v pointer n (On s false at) cs h = (cs ≡ changes.Move n (at + 1) ∷ []) × ComesIn pointer (word_at (other_core v) at) h
-Bears v pointer n (On s true at) cs h = (cs ≡ changes.Poke s at (byte_at v pointer) ∷ changes.Move n (at + 1) ∷ []) × (h ≡ None)
+Bears v pointer n (On s true at) cs h = GoesOut pointer (word_named v pointer) (λ b. changes.Poke s at b ∷ changes.Move n (at + 1) ∷ []) cs h
 Bears v pointer n Shut cs h = ⊥
 
 -- the rest of a transfer: its pointer is incremented, and its count is one less

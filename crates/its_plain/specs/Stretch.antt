@@ -15,7 +15,7 @@ use Rattle.its_plain.specs.Arguments.{input, place_of_input}
 use Rattle.its_plain.specs.Ask.{ask}
 use Rattle.its_plain.specs.CallStep.{decision}
 use Rattle.its_plain.specs.CallTty.{next_pointer}
-use Rattle.its_plain.specs.Course.{Deed, Lines, Steps, Moment, run_of}
+use Rattle.its_plain.specs.Course.{Deed, Lines, Steps, Moment, Course, run_of}
 use Rattle.its_plain.specs.Decide.{call_named}
 use Rattle.its_plain.specs.Footprint.{Stands}
 use Rattle.its_plain.specs.Interrupt.{deliverable}
@@ -121,8 +121,31 @@ pub record Transferred (j : ℕ) (s : Site) (a : Ask) (ts : List Moment) (n : Ma
   pub pointer : input (rest_after (parts_in j ts) a) 1 ≡ incremented (parts_in j ts) (input a 1)
   pub count : input (rest_after (parts_in j ts) a) 2 + parts_in j ts ≡ input a 2
 
--- in each stretch of the run of these events, which show these lines, that begins with a standing SIOT
+-- some moments of a run that follow each other: those before them, they themselves, and those after them
+pub record Section (u : Course) : Type 0 where
+  pub before : List Moment
+  pub moments : List Moment
+  pub after : List Moment
+  pub whole : u.moments ≡ before ++ moments ++ after
+
+-- its two ends: the machine that its first moment finds, and the machine after its last
+abbrev pub end_of : (u : Course) → Section u → Machine
+end_of u x = machine_at x.after u.last
+
+abbrev pub begin_of : (u : Course) → Section u → Machine
+begin_of u x = machine_at x.moments (end_of u x)
+
+-- a stretch of a transfer of slot j's job: at its beginning the job stands at a SIOT
+pub record TransferStretch (u : Course) (j : ℕ) : Type 0 where
+  pub section : Section u
+  pub job : Whole
+  pub site : Site
+  pub ask : Ask
+  pub there : (begin_of u section).jobs j ≡ Some job
+  pub stands : Stands job.core job.job site ask
+  pub siot : call_named ask.name ≡ Some Siot
+  pub stretch : Stretch j section.moments (end_of u section)
+
+-- each stretch of a transfer, in the run of these events, which show these lines, moves its bytes once and in order
 pub record Stretches (es : List Item) (lines : List Line) : Type 0 where
-  pub each : (j : ℕ) (before ts after : List Moment) (q : Whole) (s : Site) (a : Ask) → (run_of es lines).moments ≡ before ++ ts ++ after
-      → (machine_at ts (machine_at after (run_of es lines).last)).jobs j ≡ Some q → Stands q.core q.job s a → call_named a.name ≡ Some Siot
-      → Stretch j ts (machine_at after (run_of es lines).last) → Transferred j s a ts (machine_at after (run_of es lines).last)
+  pub each : (j : ℕ) (x : TransferStretch (run_of es lines) j) → Transferred j x.site x.ask x.section.moments (end_of (run_of es lines) x.section)

@@ -1,34 +1,98 @@
--- What a transcript speaks of beside its lines: jobs that run, dots, and how a session ends (docs/MACHINE.md, "Ticks and
--- letters").
-use Rattle.std.specs.Prelude.{if◌then◌else◌, ◌≡◌, ℕ, Bool, true, false, Option, Some, None}
-use Rattle.its_plain.specs.Machine.{Whole}
+-- The transcript of a session: which lines the plain machine shows of which events, by one rule for each kind of event
+-- (docs/MACHINE.md, "The transcript").
+use Rattle.std.specs.Prelude.{◌≡◌, ◌<◌, ℕ, ◌+◌, Bool, List, [], ◌∷◌, ◌++◌, length}
+use Rattle.its_word.specs.Item.{Item, Read, Unread, Beyond}
+use Rattle.its_word.specs.declared.calls.Pace.{Pace}
+use Rattle.its_word.specs.declared.calls.Pace.TheVariants.{Work}
+use Rattle.its_word.specs.declared.session.Event.{Event}
+use Rattle.its_word.specs.declared.session.Reason.{Reason}
+use Rattle.its_word.specs.declared.show.Peek.{Peek}
+use Rattle.its_print.specs.Printing.{Line, Refused}
+use Rattle.its_print.specs.Printing as printed
+use Rattle.its_plain.specs.CallOperator.{Lined, Done, Peeks, lined}
+use Rattle.its_plain.specs.Licence.{Licensed, Dots, most_dots, dots_after, dots_after_line}
+use Rattle.its_plain.specs.Machine.{Machine, no_machine}
+use Rattle.its_plain.specs.Operator.{Block, no_block, Refuses, Does, Ticks, Ends}
 
--- the job of a slot runs
-abbrev pub IsRunning : Option Whole → Type 0
-IsRunning (Some q) = q.job.stopped ≡ false
-IsRunning None = ⊥
-
--- the slot is empty, or its job is stopped
-abbrev pub IsOff : Option Whole → Type 0
-IsOff (Some q) = q.job.stopped ≡ true
-IsOff None = Unit {0}
-
--- how many `.` came for each slot since its last `*`, its last disturbance or its making
-abbrev pub Dots : Type 0
-Dots = ℕ → ℕ
-
--- fewer `.` than this come in a row
-abbrev pub most_dots : ℕ
-most_dots = 16
-
--- the dots after a line: none for the slots that it disturbed or filled
-abbrev pub settled : Dots → (ℕ → Bool) → Dots
-settled d touched k = if touched k then 0 else d k
-
--- how a walk of a session ends: at END, at the end of the events, with a refused line, or where a line
--- past the most that a session may have begins
+-- how a session ends: at END, at the end of the events, with a refused line, or where a line past the most that a
+-- session may have begins
 pub data Fate : Type 0 where
   Ended : Fate
   Open : Fate
   Lost : Fate
   TooLong : Fate
+
+-- where a session stands between two lines: its machine, the dots of each slot, what a block of lines speaks of, and
+-- the number of the line to come
+pub record Walk : Type 0 where
+  pub machine : Machine
+  pub dots : Dots
+  pub block : Block
+  pub line : ℕ
+
+abbrev pub at_start : Walk
+at_start = record { machine = no_machine; dots = λ k. 0; block = no_block; line = 1 }
+
+-- it stands after a letter of slot i, which leads to machine n; after a line which does so, disturbs these slots and
+-- leaves this block; and at the next line
+abbrev pub after_letter : Walk → ℕ → Pace → Machine → Walk
+after_letter v i p n = record v { machine = n; dots = dots_after v.machine v.dots i p }
+
+abbrev pub after_line : Walk → Machine → (ℕ → Bool) → Block → Walk
+after_line v n touched b = record v { machine = n; dots = dots_after_line v.dots touched; block = b }
+
+abbrev pub next_line : Walk → Walk
+next_line v = record v { line = v.line + 1 }
+
+-- the letters of a `T` line of slot i: each is licensed in its turn, and `.` comes only where fewer than the most came
+pub data Paced (i : ℕ) : Walk → List Pace → Walk → Type 0 where
+  none : {v : Walk} → Paced i v [] v
+  letter : {v w : Walk} {p : Pace} {ps : List Pace} (n : Machine)
+      → Licensed v.machine i p n
+      → (p ≡ Work → v.dots i < most_dots)
+      → Paced i (after_letter v i p n) ps w
+      → Paced i v (p ∷ ps) w
+
+-- what event e comes to where the session stands
+abbrev pub Comes : Walk → Event → Lined → Type 0
+Comes v e o = lined v.machine v.block e ≡ o
+
+-- from where a session stands on, these events show these lines, no more and no fewer, and it ends so
+pub data Shows : Walk → List Item → List Line → Fate → Type 0 where
+  -- END
+  ended : {v : Walk} {e : Event} {es : List Item}
+      → Comes v e (Done Ends)
+      → Shows v (Read e ∷ es) [] Ended
+  -- the input ends
+  input_ends : {v : Walk} → Shows v [] [] Open
+  -- a line past the most that a session may have
+  too_long : {v : Walk} {es : List Item} → Shows v (Beyond ∷ es) [] TooLong
+  -- a line that is none of the session's grammar
+  unread : {v : Walk} {r : Reason} {es : List Item} → Shows v (Unread r ∷ es) (Refused v.line r ∷ []) Lost
+  -- a line that is refused
+  refused : {v : Walk} {e : Event} {r : Reason} {es : List Item}
+      → Comes v e (Done (Refuses r))
+      → Shows v (Read e ∷ es) (Refused v.line r ∷ []) Lost
+  -- a line that is obeyed: what it shows comes first
+  obeyed : {v : Walk} {e : Event} {n : Machine} {out : List Line} {touched : ℕ → Bool} {b : Block}
+      {es : List Item} {lines rest : List Line} {fate : Fate}
+      → Comes v e (Done (Does n out touched b))
+      → lines ≡ out ++ rest
+      → Shows (next_line (after_line v n touched b)) es rest fate
+      → Shows v (Read e ∷ es) lines fate
+  -- TICK: a `T` line with as many letters as there are ticks
+  ticked : {v w : Walk} {e : Event} {i k : ℕ} {ps : List Pace} {es : List Item} {rest : List Line} {fate : Fate}
+      → Comes v e (Done (Ticks i k))
+      → length ps ≡ k
+      → Paced i v ps w
+      → Shows (next_line w) es rest fate
+      → Shows v (Read e ∷ es) (printed.Ticks i ps ∷ rest) fate
+  -- PEEK: a `P` line, which may say anything
+  peeked : {v : Walk} {e : Event} {i : ℕ} {peek : Peek} {es : List Item} {rest : List Line} {fate : Fate}
+      → Comes v e (Peeks i)
+      → Shows (next_line v) es rest fate
+      → Shows v (Read e ∷ es) (printed.Peeked i peek ∷ rest) fate
+
+-- these lines are a transcript of a session of these events, which ends so
+abbrev pub Transcript : List Item → List Line → Fate → Type 0
+Transcript es lines fate = Shows at_start es lines fate

@@ -1,5 +1,5 @@
 -- The dots of a slot keep to the bound of its frame, and fewer than sixteen come in a row.
-use Rattle.std.specs.Prelude.{if◌then◌else◌, ◌≡◌, ◌≢◌, ◌≤◌, ℕ, ◌+◌, ◌-◌, Bool, true, false, Option, Some, None, IfSome, List, [], ◌∷◌, length, Result, Ok, Err, nat_lt, refl}
+use Rattle.std.specs.Prelude.{if◌then◌else◌, ◌≡◌, ◌≢◌, ◌<◌, ◌≤◌, ℕ, ◌+◌, ◌-◌, Bool, true, false, Option, Some, None, IfSome, List, [], ◌∷◌, length, Result, Ok, Err, nat_lt, refl}
 use Rattle.std.proofs.Common.{sym, ◌∙◌, ap, subst, inl, inr, arith}
 use Rattle.std.proofs.lemmas.Bool.{cases_eq, eq-eqb, ne_eqb}
 use Rattle.its_word.specs.Core.{Core}
@@ -22,7 +22,7 @@ use Rattle.its_plain.specs.Decide.{reach}
 use Rattle.its_plain.specs.Interrupt.{deliverable, delivered}
 use Rattle.its_plain.specs.Machine.{Whole, Machine, changed}
 use Rattle.its_plain.specs.Own.{with_stores}
-use Rattle.its_plain.specs.Transcript.{Dots}
+use Rattle.its_plain.specs.Licence.{Dots, most_dots, dots_after}
 use Rattle.its_plain.specs.Unit.{Outcome, Changed, Faulted, Called, unit}
 use Rattle.its_stepped.specs.State.{Part, Mark, mine, State, plain, seen, turn, same, reserving, entered, parsed, asked, holding, ending}
 use Rattle.its_stepped.specs.Unwind.{with_part, due, settled, unwind_by, unwind_one, all_unwound}
@@ -30,15 +30,31 @@ use Rattle.its_stepped.specs.Commit.{effects_on, committed}
 use Rattle.its_stepped.specs.Tick.{Ticked, off, works, helps, user_on, unit_on, parsed_on, fetched_on, prepared_on, reserves, prepared_for, tried, tried_by, quarters, held_on, tick_in, tick_unless, tick_of, tick}
 use Rattle.its_stepped.specs.Sound.{Owes, Paged, SoundFrame, SoundBy, Sound}
 use Rattle.its_stepped.specs.Duty.{Duty, Meets, GivenBy, Given, IsTried}
-use Rattle.its_stepped.specs.Licence.{Licensed}
-use Rattle.its_stepped.specs.Dots.{cleared, bound, Dotted}
-use Rattle.its_plain.specs.CallTranscript as walk
-use Rattle.its_plain.specs.CallTranscript.{dots_after}
 use Rattle.its_stepped.proofs.FrameLaws.{changed_only}
 use Rattle.its_stepped.proofs.UnwindLaws.{all_unwound_others}
 use Rattle.its_stepped.proofs.HelpLaws.{helped_if_others}
 use Rattle.its_stepped.proofs.EffectLaws.{effects_others}
-use Rattle.its_stepped.proofs.TickLaws.{told_quiet, seen_at, seen_none, tick_is, Trying, trying_holding, trying_waiting}
+use Rattle.its_stepped.proofs.TickLaws.{told_quiet, seen_at, seen_none, Trying, trying_holding, trying_waiting}
+
+-- a call that has ended owes four steps at most; then come entry, block, arguments, preparation, and the four quarters
+-- of a page. After a part of a call the count begins anew
+abbrev pub cleared : Option ℕ → ℕ
+cleared (Some p) = p
+cleared None = 0
+
+abbrev pub bound : Option Frame → ℕ
+bound None = 4
+bound (Some (Entered f)) = 5
+bound (Some (Parsed f)) = 6
+bound (Some (Asked f)) = 7
+bound (Some (Holding f)) = 8 + cleared f.page
+bound (Some (Waiting f)) = 12
+bound (Some (Moving f)) = 0
+bound (Some (Ending f)) = 4 - length f.owed.items
+
+-- the frame bounds how many `.` came since the last `*` or disturbance
+pub record Dotted (d : Dots) (frames : ℕ → Option Frame) : Type 0 where
+  pub each : (k : ℕ) → d k ≤ bound (frames k)
 
 -- what a row of a tick does to the bounds: it is one more at its own slot for a `.`, and no less for `w` and `-`;
 -- and the frames of slots that it does not disturb are as they were
@@ -286,13 +302,6 @@ after_by w d j k Off v h r = elim (cases_eq k j) [
 pub tick_dotted : (w : State) (d : Dots) (j : ℕ) → Sound w → Given w j → Dotted d w.frames → Dotted (dots_after (plain w) d j (tick w j).pace) (tick w j).state.frames
 tick_dotted w d j sound g h = record { each = λ k. after_by w d j k (tick w j).pace (tick w j).state h (tick_dots w j sound g) }
 
--- a tick is licensed with the dots before it
-paced_by : (m n : Machine) (d : Dots) (j : ℕ) (p : Pace) → Licensed m j p n → d j ≤ 12 → walk.Licensed m d j p n
-paced_by m n d j Step h few = h
-paced_by m n d j Work h few = (h.0, omega arith, h.1)
-paced_by m n d j Wait h few = h
-paced_by m n d j Off h few = h
-
-pub tick_paced : (w : State) (d : Dots) (j : ℕ) → Sound w → Given w j → Dotted d w.frames → walk.Licensed (plain w) d j (tick w j).pace (plain (tick w j).state)
-tick_paced w d j sound g h =
-    paced_by (plain w) (plain (tick w j).state) d j (tick w j).pace (tick_is w j sound g) (let a = h.each j in let b = bound_few w j sound in omega arith)
+-- a `.` comes only where fewer than the most came
+pub tick_few : (w : State) (d : Dots) (j : ℕ) → Sound w → Dotted d w.frames → d j < most_dots
+tick_few w d j sound h = let a = h.each j in let b = bound_few w j sound in omega arith

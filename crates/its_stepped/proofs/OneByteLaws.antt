@@ -3,7 +3,7 @@ use Rattle.std.specs.Prelude.{if◌then◌else◌, ◌==◌, ◌≡◌, ◌≢�
 use Rattle.std.proofs.lemmas.Bool.{cases_eq, ne_eqb, not-false, or_parts}
 use Rattle.std.proofs.lemmas.Option.{same_Some}
 use Rattle.std.proofs.Common.{◌∙◌, ap, subst, sym, arith, inl, inr}
-use Rattle.its_word.specs.Byte.{deposit_of}
+use Rattle.its_word.specs.Byte.{load_of, deposit_of}
 use Rattle.its_word.specs.Core.{Core, word_at, can_store, store}
 use Rattle.its_word.specs.Stores.{stored}
 use Rattle.its_word.specs.Word.{right_of}
@@ -30,7 +30,7 @@ use Rattle.its_plain.specs.Decide.{call_named, decided_by, decided, target}
 use Rattle.its_plain.specs.Footprint.{Stands, in_footprint}
 use Rattle.its_plain.specs.Interrupt.{deliverable}
 use Rattle.its_plain.specs.Machine.{Names, File, Chan, Shut, TtyIn, TtyOut, Reads, Writes, On, Whole, Machine, changed}
-use Rattle.its_plain.specs.OneByte.{ComesIn, byte_at, Bears, new_arguments, rest_of_transfer, ByteBy, EachByte}
+use Rattle.its_plain.specs.OneByte.{ComesIn, GoesOut, word_named, Bears, new_arguments, rest_of_transfer, ByteBy, EachByte}
 use Rattle.its_plain.specs.CallUsr.{other_core, at_end, siot_peeks, siot_pokes, siot_beside, siot_usr}
 use Rattle.its_plain.specs.Own.{with_stores, at_position, with_word, on_channel}
 use Rattle.its_plain.specs.Tests.{◌⇒◌, fails, goes}
@@ -130,6 +130,14 @@ comes_in : (pointer : ℕ) (o : Option ℕ) → is_some o ≡ true → ComesIn p
 comes_in pointer (Some b) h = refl
 comes_in pointer None h = absurd cc
 
+-- a byte that goes out is that of a word that is there
+abbrev byte_at : View → ℕ → ℕ
+byte_at v pointer = load_of pointer (unwrap_or (word_named v pointer) 0)
+
+goes_out : (pointer : ℕ) (o : Option ℕ) (puts : ℕ → List Change) → not (is_some o) ≡ false → GoesOut pointer o puts (puts (load_of pointer (unwrap_or o 0))) None
+goes_out pointer (Some w) puts h = (refl, refl)
+goes_out pointer None puts h = absurd cc
+
 first_waits : (bs : List ℕ) → is_empty bs ≡ false → is_some (slice_get bs 0) ≡ true
 first_waits (b ∷ bs) h = refl
 first_waits [] h = absurd cc
@@ -158,10 +166,11 @@ out_moved m n j q s a is on t =
     let x : View = view m j q (target q a) in
     let w : ℕ = next_pointer (input a 1) in
     let i : ℕ = console_of x in
-    let c : Change = changes.Put i (shown_byte (byte_at x w)) in
-    first_holds (Moved m n j q s a) (read_tests x (right_of w) ++ (output_waits x i ⇒ Waits (Output i) ∷ [])) (goes (c ∷ []) None (new_arguments a))
+    let puts : ℕ → List Change = λ b. changes.Put i (shown_byte b) ∷ [] in
+    first_holds (Moved m n j q s a) (read_tests x (right_of w) ++ (output_waits x i ⇒ Waits (Output i) ∷ [])) (goes (puts (byte_at x w)) None (new_arguments a))
     (λ t d r. refl, (λ t d r. absurd cc, tt))
-    (λ p. goes_on m n j q s a (c ∷ []) None q.channels t (λ spare. is) (subst (λ (k : Chan). Bears x w (input a 0) k (c ∷ []) None) (sym on) (refl, refl)))
+    (λ p. goes_on m n j q s a (puts (byte_at x w)) None q.channels t (λ spare. is)
+    (subst (λ (k : Chan). Bears x w (input a 0) k (puts (byte_at x w)) None) (sym on) (goes_out w (word_named x w) puts p.0)))
 
 -- a word comes from a file or an inferior, goes to a draft, or goes into an inferior
 abbrev next_position : Whole → ℕ → ℕ → ℕ → Chan
@@ -188,11 +197,11 @@ write_moved m n j q s a f is on t =
     let x : View = view m j q (target q a) in
     let w : ℕ = next_pointer (input a 1) in
     let i : ℕ = input a 0 in
-    let c : Change = changes.Append i (byte_at x w) in
-    first_holds (Moved m n j q s a) (read_tests x (right_of w) ++ (is_full x.files (channels_in x) f.words ⇒ fails x a 0o10 ∷ [])) (goes (c ∷ []) None (new_arguments a))
+    let puts : ℕ → List Change = λ b. changes.Append i b ∷ [] in
+    first_holds (Moved m n j q s a) (read_tests x (right_of w) ++ (is_full x.files (channels_in x) f.words ⇒ fails x a 0o10 ∷ [])) (goes (puts (byte_at x w)) None (new_arguments a))
     (λ t d r. refl, (λ t d r. refl, tt))
-    (λ p. goes_on m n j q s a (c ∷ []) None (changed q.channels i (with_word (byte_at x w) (q.channels i))) t (λ spare. (job_only m.jobs j q (on_channel i (with_word (byte_at x w))) is).here)
-    (subst (λ (k : Chan). Bears x w i k (c ∷ []) None) (sym on) (refl, refl)))
+    (λ p. goes_on m n j q s a (puts (byte_at x w)) None (changed q.channels i (with_word (byte_at x w) (q.channels i))) t (λ spare. (job_only m.jobs j q (on_channel i (with_word (byte_at x w))) is).here)
+    (subst (λ (k : Chan). Bears x w i k (puts (byte_at x w)) None) (sym on) (goes_out w (word_named x w) puts p.0)))
 
 peeks_moved : (m n : Machine) (j : ℕ) (q : Whole) (s : Site) (a : Ask) (k at : ℕ) (o : Option ℕ) → m.jobs j ≡ Some q → channel_at q.channels (input a 0) ≡ On k false at
     → word_at (other_core (view m j q (target q a))) at ≡ o → Ready a
@@ -219,11 +228,12 @@ poke_moved m n j q s a k at is on t =
     let x : View = view m j q (target q a) in
     let w : ℕ = next_pointer (input a 1) in
     let i : ℕ = input a 0 in
-    let cs : List Change = changes.Poke k at (byte_at x w) ∷ changes.Move i (at + 1) ∷ [] in
+    let puts : ℕ → List Change = λ b. changes.Poke k at b ∷ changes.Move i (at + 1) ∷ [] in
+    let cs : List Change = puts (byte_at x w) in
     first_holds (Moved m n j q s a) (read_tests x (right_of w) ++ (not (can_store (other_core x) at) ⇒ fails x a 0o16 ∷ [])) (goes cs None (new_arguments a))
     (λ t d r. refl, (λ t d r. refl, tt))
     (λ p. goes_on m n j q s a cs None (next_position q i at) t (λ spare. poked_there m j k at (byte_at x w) i q is spare.0)
-    (subst (λ (h : Chan). Bears x w i h cs None) (sym on) (refl, refl)))
+    (subst (λ (h : Chan). Bears x w i h cs None) (sym on) (goes_out w (word_named x w) puts p.0)))
 
 -- behind the tests of SIOT
 by_moved : (m n : Machine) (j : ℕ) (q : Whole) (s : Site) (a : Ask) (words ended : Bool) (d : Decision) → length a.inputs.items ≡ 3

@@ -28,7 +28,7 @@ use Rattle.its_plain.specs.OneByte.{rest_of_transfer, ByteBy}
 use Rattle.its_plain.specs.Operator.{Block, no_block, Operated, Refuses, Does, Ticks, interrupted, stopped, continued, on_job, with_registers, on_registers, examined, state_shown, disturbs, by_exam, by_state}
 use Rattle.its_plain.specs.Operator as operator
 use Rattle.its_plain.specs.Unit.{unit}
-use Rattle.its_plain.specs.Stretch.{is_part, part_asking, part_doing, part_at, steps_on, Untouched, machine_at, is_own, Fits, Stretch, counted, parts_in, incremented, rest_after, ByteOf, InOrder_by, InOrder, StandsAt, Transferred, Stretches}
+use Rattle.its_plain.specs.Stretch.{is_part, part_asking, part_doing, part_at, steps_on, Untouched, machine_at, is_own, Fits, Stretch, counted, parts_in, incremented, rest_after, ByteOf, InOrder_by, InOrder, StandsAt, Transferred, end_of, begin_of, Stretches}
 use Rattle.its_stepped.specs.Forest.{Forest}
 use Rattle.its_stepped.proofs.DecodingLaws.{input_word, siot_inputs}
 use Rattle.its_stepped.proofs.FitLaws.{forest_steps}
@@ -216,11 +216,14 @@ transferred ts n j s a h = record { each = h.each; rest = h.rest; pointer = h.po
 -- each stretch of a run moves its bytes once and in order, whatever the lines are
 pub stretches : (es : List Item) (lines : List Line) → Stretches es lines
 stretches es lines = record {
-  each = λ j before ts after q s a is at st e fits.
+  each = λ j x.
       let u = run_of es lines in
-      let linked = subst (λ (xs : List Moment). Linked xs u.last) is (run_course _ no_block es lines forest_starts).linked in
-      transferred ts (machine_at after u.last) j s a
-      (moments_move ts (machine_at after u.last) j s a (linked_middle before ts after u.last linked) (stands_at (machine_at ts (machine_at after u.last)) j q s a at st) e fits);
+      let n = end_of u x.section in
+      let ts = x.section.moments in
+      let linked = subst (λ (xs : List Moment). Linked xs u.last) x.section.whole (run_course _ no_block es lines forest_starts).linked in
+      transferred ts n j x.site x.ask
+      (moments_move ts n j x.site x.ask (linked_middle x.section.before ts x.section.after u.last linked)
+      (stands_at (begin_of u x.section) j x.job x.site x.ask x.there x.stands) x.siot x.stretch);
 }
 
 -- lines that end no stretch: EXAM and STATE look at a job, STOP and CONT change its stopped mark and its pending bits, and INT

@@ -20,7 +20,7 @@ use Rattle.its_plain.specs.Decide.{reach}
 use Rattle.its_plain.specs.Interrupt.{Delivered, deliverable, delivered}
 use Rattle.its_plain.specs.Machine.{Whole, Machine}
 use Rattle.its_plain.specs.Own.{with_stores}
-use Rattle.its_plain.specs.Transcript.{IsRunning, IsOff}
+use Rattle.its_plain.specs.Licence.{IsRunning, IsOff, Licensed}
 use Rattle.its_plain.specs.Unit.{Outcome, Changed, Faulted, Called, unit}
 use Rattle.its_word.specs.Stores.{stored}
 use Rattle.its_plain.specs.UnitPlan.{given}
@@ -32,7 +32,6 @@ use Rattle.its_stepped.specs.Tick.{Ticked, helped_if, works, delivered_on, user_
 use Rattle.its_stepped.specs.Sound.{Stands, parts_in_frame, SoundFrame, SoundBy, Sound}
 use Rattle.its_stepped.specs.Quiet.{IsStill, AllQuiet}
 use Rattle.its_stepped.specs.Duty.{Duty, Meets, GivenBy, Given, IsTried}
-use Rattle.its_stepped.specs.Licence.{Licensed}
 use Rattle.its_stepped.proofs.FrameLaws.{seen_stopped, stores_none, turned}
 use Rattle.its_stepped.proofs.DebtLaws.{debts_none}
 use Rattle.its_stepped.proofs.PageLaws.{waits_reserves_none}

@@ -1,31 +1,46 @@
 -- Upkeep from soundness: ticks and lines keep a state sound, and few `.` come in a row (docs/STEPS.md, "Lines").
-use Rattle.std.specs.Prelude.{◌≡◌, ◌≤◌, ℕ, Bool, true, false, List, refl}
+use Rattle.std.specs.Prelude.{◌≡◌, ◌≤◌, ℕ, Bool, true, false, Some, List, refl}
 use Rattle.std.proofs.Common.{sym, subst, arith}
 use Rattle.its_word.specs.Item.{Item}
 use Rattle.its_word.specs.declared.calls.Pace.{Pace}
 use Rattle.its_word.specs.declared.calls.Pace.TheVariants.{Step, Work, Wait, Off}
 use Rattle.its_word.specs.declared.session.Event.{Event}
+use Rattle.its_print.specs.Printing.{Line}
 use Rattle.its_plain.specs.Machine.{Machine, no_machine}
 use Rattle.its_plain.specs.Operator.{Block, Refuses, Does, Ticks, Ends}
-use Rattle.its_plain.specs.Transcript.{Dots, settled}
+use Rattle.its_plain.specs.CallStep.{step}
+use Rattle.its_plain.specs.Licence.{Licensed, Dots, dots_after, dots_after_line}
+use Rattle.its_plain.specs.Transcript.{Transcript}
 use Rattle.its_plain.specs.CallOperator.{Lined, Done, Peeks, lined}
-use Rattle.its_plain.specs.CallTranscript as walk
 use Rattle.its_stepped.specs.State.{State, plain, no_state}
 use Rattle.its_stepped.specs.Tick.{tick}
-use Rattle.its_stepped.specs.Licence.{Licensed}
-use Rattle.its_stepped.specs.Dots.{bound}
+use Rattle.its_stepped.specs.Sound.{Sound}
+use Rattle.its_stepped.specs.Duty.{Given}
 use Rattle.its_stepped.specs.Lines.{calmed, with_raw, lifted_line, stepped}
-use Rattle.its_stepped.specs.Upkeep.{HoldsAfter, Upkeep, Lasting, Good}
 use Rattle.its_stepped.proofs.TickLaws.{tick_is}
 use Rattle.its_stepped.proofs.SoundLaws.{tick_sound}
-use Rattle.its_stepped.proofs.DotsLaws.{tick_dotted, tick_paced}
+use Rattle.its_stepped.proofs.DotsLaws.{bound, Dotted, tick_dotted, tick_few}
 use Rattle.its_stepped.proofs.LineLaws.{line_plain}
 use Rattle.its_stepped.proofs.KeptLaws.{KeptBy, line_kept}
-use Rattle.its_stepped.proofs.SessionLaws.{stepped_transcript}
+use Rattle.its_stepped.proofs.SessionLaws.{HoldsAfter, Upkeep, stepped_transcript}
 use Rattle.its_stepped.proofs.StartLaws.{no_state_plain, no_state_sound}
 
+-- facts of the plain machine that hold at the start, that its steps and lines keep, and from which, in a sound state,
+-- each call does its duty
+pub record Lasting (Placed : Machine → Type 0) : Type 0 where
+  pub starts : Placed no_machine
+  pub steps : (m n : Machine) (j : ℕ) → Placed m → step m j ≡ Some n → Placed n
+  pub lines : (m n : Machine) (b c : Block) (e : Event) (out : List Line) (touched : ℕ → Bool) → Placed m → lined m b e ≡ Done (Does n out touched c) → Placed n
+  pub duties : (w : State) (j : ℕ) → Sound w → Placed (plain w) → Given w j
+
+-- a state that is sound, whose plain machine is placed, and in which few `.` came for each slot
+pub record Good (Placed : Machine → Type 0) (d : Dots) (w : State) : Type 0 where
+  pub sound : Sound w
+  pub placed : Placed (plain w)
+  pub dotted : Dotted d w.frames
+
 -- the dots after a line
-settled_by : (d : Dots) (touched : ℕ → Bool) (k most : ℕ) (b : Bool) → touched k ≡ b → (b ≡ false → d k ≤ most) → settled d touched k ≤ most
+settled_by : (d : Dots) (touched : ℕ → Bool) (k most : ℕ) (b : Bool) → touched k ≡ b → (b ≡ false → d k ≤ most) → dots_after_line d touched k ≤ most
 settled_by d touched k most true is h = rw is (omega arith)
 settled_by d touched k most false is h = rw is (h refl)
 
@@ -44,10 +59,10 @@ module _ {Placed : Machine → Type 0} (l : Lasting Placed) where
     dotted = record { each = λ k. omega arith };
   }
 
-  good_paced : (d : Dots) (w : State) (j : ℕ) → Good Placed d w → walk.Licensed (plain w) d j (tick w j).pace (plain (tick w j).state)
-  good_paced d w j g = tick_paced w d j g.sound (l.duties w j g.sound g.placed) g.dotted
+  good_paced : (d : Dots) (w : State) (j : ℕ) → Good Placed d w → Licensed (plain w) j (tick w j).pace (plain (tick w j).state)
+  good_paced d w j g = tick_is w j g.sound (l.duties w j g.sound g.placed)
 
-  good_ticks : (d : Dots) (w : State) (j : ℕ) → Good Placed d w → Good Placed (walk.dots_after (plain w) d j (tick w j).pace) (tick w j).state
+  good_ticks : (d : Dots) (w : State) (j : ℕ) → Good Placed d w → Good Placed (dots_after (plain w) d j (tick w j).pace) (tick w j).state
   good_ticks d w j g =
       let given = l.duties w j g.sound g.placed in
       record {
@@ -73,11 +88,12 @@ module _ {Placed : Machine → Type 0} (l : Lasting Placed) where
   upkeep = record {
     starts = good_starts;
     paced = good_paced;
+    few = λ d w j g. tick_few w d j g.sound g.dotted;
     ticks = good_ticks;
     line = λ d w b e g. line_plain w b e g.sound;
     after = λ d w b e g. after_by d w (calmed w b e) b e (lined (calmed w b e).raw b e) g (line_plain w b e g.sound) (line_kept w b e g.sound);
   }
 
   -- the lines of a session are a transcript of the plain machine
-  pub session_transcript : (es : List Item) → walk.Transcript es (stepped es).lines (stepped es).fate
+  pub session_transcript : (es : List Item) → Transcript es (stepped es).lines (stepped es).fate
   session_transcript es = stepped_transcript upkeep es

@@ -9,17 +9,16 @@ use Rattle.its_print.specs.Printing.{Line}
 use Rattle.its_plain.specs.Change.{channel_in, superior_in}
 use Rattle.its_plain.specs.Machine.{Chan, Shut, Whole, Machine}
 use Rattle.its_plain.specs.CallOperator.{Done, lined}
-use Rattle.its_plain.specs.CallTranscript as walk
+use Rattle.its_plain.specs.Transcript.{Transcript}
 use Rattle.its_plain.specs.Operator.{Block, Does}
 use Rattle.its_plain.proofs.CallLineLaws.{Face, face, SlotKept, Stays, Made, HolderKept, Keeps, Takes, LineKeeps, LineKeepsBy, line_keeps}
 use Rattle.its_stepped.specs.Calling.{Decoding}
 use Rattle.its_stepped.specs.Forest.{OnInferior, Forest}
 use Rattle.its_stepped.specs.Lines.{stepped}
-use Rattle.its_stepped.specs.Upkeep.{Lasting}
 use Rattle.its_stepped.proofs.ForestLaws.{forest_starts, same_forest}
 use Rattle.its_stepped.proofs.FitLaws.{forest_steps}
 use Rattle.its_stepped.proofs.GivenLaws.{given}
-use Rattle.its_stepped.proofs.UpkeepLaws.{session_transcript}
+use Rattle.its_stepped.proofs.UpkeepLaws.{Lasting, session_transcript}
 
 -- lines keep how jobs lie to each other: a job that LOAD makes has no superior and no channel
 abbrev face_superior : Option Face → Option ℕ
@@ -84,5 +83,5 @@ lasting d = record {
   duties = λ w j sound placed. given d w j placed sound;
 }
 
-pub written_transcript : Decoding → (es : List Item) → walk.Transcript es (stepped es).lines (stepped es).fate
+pub written_transcript : Decoding → (es : List Item) → Transcript es (stepped es).lines (stepped es).fate
 written_transcript d es = session_transcript (lasting d) es

@@ -7,11 +7,8 @@ pub mod OneChange
 pub mod Quiet
 pub mod Forest
 pub mod Duty
-pub mod Licence
 pub mod SlotSame
-pub mod Dots
 pub mod Lines
-pub mod Upkeep
 pub mod Calling
 pub mod Address
 pub mod Consoled

@@ -10,14 +10,14 @@ use Rattle.its_word.specs.declared.session.Event.{Event}
 use Rattle.its_print.specs.Printing.{Line}
 use Rattle.its_print.specs.Printing as printed
 use Rattle.its_plain.specs.CallOperator.{Lined, Done, Peeks, lined}
-use Rattle.its_plain.specs.CallTranscript.{dots_after, TicksRun, GoesOn, Run, Transcript}
 use Rattle.its_plain.specs.Course.{Inward, Outward, moves, Lines, Steps, Course, rests, onward, after_step, paced, letters, past, course, run_of}
 use Rattle.its_plain.specs.Ledger.{typed_by, typed_at, byte_of, drained_by, Balanced, Ledger}
 use Rattle.its_plain.specs.Ledger as books
 use Rattle.its_plain.specs.Machine.{Machine, no_machine}
 use Rattle.its_plain.specs.Operator.{Block, no_block, Refuses, Does, Ticks}
 use Rattle.its_plain.specs.Operator as operator
-use Rattle.its_plain.specs.Transcript.{Dots, settled, Fate}
+use Rattle.its_plain.specs.Transcript.{Fate, Walk, at_start, after_letter, after_line, next_line, Transcript}
+use Rattle.its_plain.proofs.RunLaws.{PacedOn, LinedOn, Run, shows_run}
 use Rattle.its_top.proofs.MoveLaws.{Passes, step_passes}
 use Rattle.its_top.proofs.ShownLaws.{Shows, ShowsBy, Few, line_shows}
 
@@ -75,58 +75,65 @@ step_few m n i c h few =
     omega arith
 
 -- what goes on after the letters of a `T` line goes on from here
-from_letters : (c i : ℕ) (m : Machine) (d : Dots) (ps : List Pace) (next : Machine → Dots → Type 0) (walk : Machine → Course) (lines : List Line) → Few c m
-    → TicksRun m d i ps next → ((n : Machine) (f : Dots) → Few c n → next n f → From c n (walk n) lines) → From c m (paced m i ps walk) lines
-from_letters c i m d [] next walk lines few t h = h m d few t
-from_letters c i m d (Step ∷ ps) next walk lines few t h =
+from_letters : (c i : ℕ) (v : Walk) (ps : List Pace) (next : Walk → Type 0) (walk : Machine → Course) (lines : List Line) → Few c v.machine
+    → PacedOn v i ps next → ((w : Walk) → w.block ≡ v.block → Few c w.machine → next w → From c w.machine (walk w.machine) lines) → From c v.machine (paced v.machine i ps walk) lines
+from_letters c i v [] next walk lines few t h = h v refl few t
+from_letters c i v (Step ∷ ps) next walk lines few t h =
     let n = t.0 in
-    let passes = step_passes m n i c t.1 in
-    let is : after_step m i ≡ n = ap (λ o. unwrap_or o m) t.1 in
-    subst (λ l. From c m (onward m (Steps i) (paced l i ps walk)) lines) (sym is)
-    (from_step c i m n (paced n i ps walk) lines passes (from_letters c i n (dots_after m d i Step) ps next walk lines (step_few m n i c passes few) t.2 h))
-from_letters c i m d (Work ∷ ps) next walk lines few t h =
-    subst (λ l. From c l (paced l i ps walk) lines) t.1.2 (from_letters c i t.0 (dots_after m d i Work) ps next walk lines (subst (Few c) (sym t.1.2) few) t.2 h)
-from_letters c i m d (Wait ∷ ps) next walk lines few t h =
-    subst (λ l. From c l (paced l i ps walk) lines) t.1.2 (from_letters c i t.0 (dots_after m d i Wait) ps next walk lines (subst (Few c) (sym t.1.2) few) t.2 h)
-from_letters c i m d (Off ∷ ps) next walk lines few t h =
-    subst (λ l. From c l (paced l i ps walk) lines) t.1.1 (from_letters c i t.0 (dots_after m d i Off) ps next walk lines (subst (Few c) (sym t.1.1) few) t.2 h)
+    let passes = step_passes v.machine n i c t.1 in
+    let is : after_step v.machine i ≡ n = ap (λ o. unwrap_or o v.machine) t.1 in
+    subst (λ l. From c v.machine (onward v.machine (Steps i) (paced l i ps walk)) lines) (sym is)
+    (from_step c i v.machine n (paced n i ps walk) lines passes
+    (from_letters c i (after_letter v i Step n) ps next walk lines (step_few v.machine n i c passes few) t.3 h))
+from_letters c i v (Work ∷ ps) next walk lines few t h =
+    subst (λ l. From c l (paced l i ps walk) lines) t.1.1 (from_letters c i (after_letter v i Work t.0) ps next walk lines (subst (Few c) (sym t.1.1) few) t.3 h)
+from_letters c i v (Wait ∷ ps) next walk lines few t h =
+    subst (λ l. From c l (paced l i ps walk) lines) t.1.2 (from_letters c i (after_letter v i Wait t.0) ps next walk lines (subst (Few c) (sym t.1.2) few) t.3 h)
+from_letters c i v (Off ∷ ps) next walk lines few t h =
+    subst (λ l. From c l (paced l i ps walk) lines) t.1.1 (from_letters c i (after_letter v i Off t.0) ps next walk lines (subst (Few c) (sym t.1.1) few) t.3 h)
 
 -- a line, where the lines after it go on
-from_lined : (c n : ℕ) (m : Machine) (d : Dots) (b : Block) (e : Event) (es : List Item) (lines : List Line) (fate : Fate) (l : Lined)
-    → Few c m → ShowsBy c m e l
-    → GoesOn n m d b l (λ m' d' b' rest. Run (n + 1) m' d' b' es rest fate) lines fate
-    → ((m' : Machine) (d' : Dots) (b' : Block) (rest : List Line) → Few c m' → Run (n + 1) m' d' b' es rest fate → From c m' (course m' b' es rest) rest)
-    → From c m (past m b e l lines (λ m' b' rest. course m' b' es rest)) lines
-from_lined c n m d b e es lines fate (Done (Refuses r)) few s t h = from_rest c m lines (ap (flat_map (drained_by c)) t.0)
-from_lined c n m d b e es lines fate (Done (Does l out touched b')) few s t h =
+from_lined : (c : ℕ) (v : Walk) (e : Event) (es : List Item) (lines : List Line) (fate : Fate) (l : Lined)
+    → Few c v.machine → ShowsBy c v.machine e l
+    → LinedOn v l (λ w rest. Run w es rest fate) lines fate
+    → ((w : Walk) (rest : List Line) → Few c w.machine → Run w es rest fate → From c w.machine (course w.machine w.block es rest) rest)
+    → From c v.machine (past v.machine v.block e l lines (λ m b rest. course m b es rest)) lines
+from_lined c v e es lines fate (Done (Refuses r)) few s t h = from_rest c v.machine lines (ap (flat_map (drained_by c)) t.0)
+from_lined c v e es lines fate (Done (Does l out touched b)) few s t h =
+    let m = v.machine in
     let rest = t.0 in
-    let next = from_line c m l e out (course l b' es rest) rest s (h l (settled d touched) b' rest s.few t.2) in
-    subst (λ ls. From c m (onward m (Lines e) (course l b' es (drop (length out) ls))) ls) (sym t.1)
-    (subst (λ r. From c m (onward m (Lines e) (course l b' es r)) (out ++ rest)) (sym (drop_at out rest (length out) refl)) next)
-from_lined c n m d b e es lines fate (Done (Ticks i k)) few s t h =
+    let next = from_line c m l e out (course l b es rest) rest s (h (next_line (after_line v l touched b)) rest s.few t.2) in
+    subst (λ ls. From c m (onward m (Lines e) (course l b es (drop (length out) ls))) ls) (sym t.1)
+    (subst (λ r. From c m (onward m (Lines e) (course l b es r)) (out ++ rest)) (sym (drop_at out rest (length out) refl)) next)
+from_lined c v e es lines fate (Done (Ticks i k)) few s t h =
+    let m = v.machine in
     let ps = t.0 in
     let rest = t.1 in
-    let next = from_letters c i m d ps _ (λ l. course l b es rest) rest few t.4 (λ l f few' run. h l f b rest few' run) in
-    subst (λ ls. From c m (paced m i (letters ls) (λ l. course l b es (drop 1 ls))) ls) (sym t.2)
-    (from_shown c m (paced m i ps (λ l. course l b es rest)) (printed.Ticks i ps) rest refl next)
-from_lined c n m d b e es lines fate (Done operator.Ends) few s t h = from_rest c m lines (ap (flat_map (drained_by c)) t.0)
-from_lined c n m d b e es lines fate (Peeks i) few s t h =
+    let walk : Machine → Course = λ l. course l v.block es rest in
+    let next = from_letters c i v ps (λ w. Run (next_line w) es rest fate) walk rest few t.4
+        (λ w same few' run. subst (λ b. From c w.machine (course w.machine b es rest) rest) same (h (next_line w) rest few' run)) in
+    subst (λ ls. From c m (paced m i (letters ls) (λ l. course l v.block es (drop 1 ls))) ls) (sym t.2)
+    (from_shown c m (paced m i ps walk) (printed.Ticks i ps) rest refl next)
+from_lined c v e es lines fate (Done operator.Ends) few s t h = from_rest c v.machine lines (ap (flat_map (drained_by c)) t.0)
+from_lined c v e es lines fate (Peeks i) few s t h =
+    let m = v.machine in
     let rest = t.1 in
-    subst (λ ls. From c m (course m b es (drop 1 ls)) ls) (sym t.2) (from_shown c m (course m b es rest) (printed.Peeked i t.0) rest refl (h m d b rest few t.3))
+    subst (λ ls. From c m (course m v.block es (drop 1 ls)) ls) (sym t.2)
+    (from_shown c m (course m v.block es rest) (printed.Peeked i t.0) rest refl (h (next_line v) rest few t.3))
 
-from_run : (c n : ℕ) (m : Machine) (d : Dots) (b : Block) (es : List Item) (lines : List Line) (fate : Fate) → Few c m → Run n m d b es lines fate
-    → From c m (course m b es lines) lines
-from_run c n m d b [] lines fate few t = from_rest c m lines (ap (flat_map (drained_by c)) t.0)
-from_run c n m d b (Read e ∷ es) lines fate few t =
-    from_lined c n m d b e es lines fate (lined m b e) few (line_shows c m b e few) t (λ m' d' b' rest few' run. from_run c (n + 1) m' d' b' es rest fate few' run)
-from_run c n m d b (Unread r ∷ es) lines fate few t = from_rest c m lines (ap (flat_map (drained_by c)) t.0)
-from_run c n m d b (Beyond ∷ es) lines fate few t = from_rest c m lines (ap (flat_map (drained_by c)) t.0)
+from_run : (c : ℕ) (v : Walk) (es : List Item) (lines : List Line) (fate : Fate) → Few c v.machine → Run v es lines fate
+    → From c v.machine (course v.machine v.block es lines) lines
+from_run c v [] lines fate few t = from_rest c v.machine lines (ap (flat_map (drained_by c)) t.0)
+from_run c v (Read e ∷ es) lines fate few t =
+    from_lined c v e es lines fate (lined v.machine v.block e) few (line_shows c v.machine v.block e few) t (λ w rest few' run. from_run c w es rest fate few' run)
+from_run c v (Unread r ∷ es) lines fate few t = from_rest c v.machine lines (ap (flat_map (drained_by c)) t.0)
+from_run c v (Beyond ∷ es) lines fate few t = from_rest c v.machine lines (ap (flat_map (drained_by c)) t.0)
 
 -- at the start of a session nothing waits
 balanced : (c : ℕ) (es : List Item) (lines : List Line) (fate : Fate) → Transcript es lines fate → Balanced (run_of es lines) lines c
 unfolding no_machine
 balanced c es lines fate t =
-    let f = from_run c 1 no_machine (λ _. 0) no_block es lines fate (omega arith) t in record { input = f.input; output = f.output }
+    let f = from_run c at_start es lines fate (omega arith) (shows_run at_start es lines fate t) in record { input = f.input; output = f.output }
 
 -- the lines of a transcript keep the ledger
 pub ledger : (es : List Item) (lines : List Line) (fate : Fate) → Transcript es lines fate → Ledger es lines

@@ -3,8 +3,7 @@ use Rattle.std.specs.Prelude.{◌≡◌, ℕ, Option, Some, None, List, [], ◌+
 use Rattle.std.specs.Io.KnownBytes.{Appends, Consumes}
 use Rattle.its_print.specs.Printing.{Line, text}
 use Rattle.its_session.specs.Events.{events_of, whole_events_of}
-use Rattle.its_plain.specs.Transcript.{Fate, Open, Lost, TooLong}
-use Rattle.its_plain.specs.CallTranscript.{Transcript}
+use Rattle.its_plain.specs.Transcript.{Fate, Open, Lost, TooLong, Transcript}
 use Rattle.its_plain.specs.Ledger.{Ledger}
 use Rattle.its_plain.specs.Stretch.{Stretches}
 use Rattle.its_stepped.specs.Lines.{stepped}
