@@ -4,14 +4,13 @@ ghost use Rattle.its_frame.specs.declared.decision.Decision.TheVariants.{Gone};
 ghost use Rattle.its_jobs.specs.Table.{job_at, superior_at};
 ghost use Rattle.its_plain.specs.CallBasic.{told_superior};
 ghost use Rattle.its_plain.specs.CallStep.{decision};
-ghost use Rattle.its_plain.specs.Decide.{decided_basic, reached_by, reaching, target};
+ghost use Rattle.its_plain.specs.Decide.{decided_basic, reached_by, target};
 ghost use Rattle.its_world.specs.World.{raw_at, state_of};
 ghost use Rattle.call_basic.specs.Seen.{is_waiting, raw_with, seen_by};
 
 use super::arguments::input;
 use super::dismiss::dismiss;
 use super::ends::fails;
-use super::names::call_named;
 use super::party::{channel, is_oneself};
 use super::sleep::sleep;
 use super::usrvar::usrvar;
@@ -41,27 +40,12 @@ fn target(w: &World, slot: u8, job: &Job, ask: &Ask) -> Option<u8>
     if ask.fail != 0 {
         return None;
     }
-    match call_named(ask.name) {
-        Some(name) => match reaching(name) {
+    match CallName::named(ask.name) {
+        Some(call) => match call.row().reaches {
             Some(k) => reached(w, slot, job, input(ask, k)),
             None => None,
         },
         None => None,
-    }
-}
-
-/// The argument that names the channel by which a call reaches into another job.
-fn reaching(name: CallName) -> Option<usize>
-    ensures { result ≡ reaching name }
-{
-    match name {
-        CallName::Usrvar => Some(0),
-        CallName::Iot => Some(0),
-        CallName::Siot => Some(0),
-        CallName::Usrmem => Some(0),
-        CallName::Uclose => Some(0),
-        CallName::Corblk => Some(1),
-        _ => None,
     }
 }
 
@@ -89,7 +73,7 @@ pub fn decided(w: &World, slot: u8, job: &Job, ask: &Ask) -> Decision
     if ask.fail != 0 {
         return fails(job, ask, ask.fail);
     }
-    match call_named(ask.name) {
+    match CallName::named(ask.name) {
         Some(CallName::Hang) => Decision::Waits(Wait::Hang),
         Some(CallName::Sleep) => sleep(w, slot, job, ask),
         Some(CallName::Dismis) => dismiss(w, slot, job, ask),

@@ -18,6 +18,5 @@ mod variables;
 pub use arguments::{has_input, in_footprint, input, place_of_input};
 pub use calls::{decided, target_of};
 pub use ends::{exit_after, fails, faults, finishes, finishes_with, ioc, output, store_at};
-pub use names::call_named;
 pub use party::{channel, is_oneself};
 pub use sleep::{is_negative, is_read_only, is_shared_place};

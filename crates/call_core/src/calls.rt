@@ -11,7 +11,7 @@ ghost use Rattle.its_world.specs.World.{raw_at, state_of};
 ghost use Rattle.call_basic.specs.Seen.{is_waiting, raw_with, seen_by};
 
 use super::pages::corblk;
-use call_basic::{call_named, fails, input};
+use call_basic::{fails, input};
 use call_usr::decided as decided_usr;
 use its_frame::{CallName, Decision};
 use its_word::{Ask, Job};
@@ -61,13 +61,13 @@ fn decided(w: &World, slot: u8, job: &Job, ask: &Ask) -> Decision
     if ask.fail != 0 {
         return fails(job, ask, ask.fail);
     }
-    match call_named(ask.name) {
+    match CallName::named(ask.name) {
         Some(CallName::Corblk) => corblk(w, slot, job, ask),
         _ => decided_usr(w, slot, job, ask),
     }
 }
 
-/// Whether a call reserves a page before it is tried: CORBLK with operation 1 whose decoding gave no error.
+/// Whether a call reserves a page before it is tried: one that makes a page, whose decoding gave no error.
 #[tactic(auto, unfolding(its_stepped::specs::Tick::reserves))]
 pub fn reserves(ask: &Ask) -> bool
     ensures { result ≡ reserves ask.now }
@@ -75,12 +75,12 @@ pub fn reserves(ask: &Ask) -> bool
     ask.fail == 0 && makes_page(ask)
 }
 
-/// Whether a call is CORBLK with operation 1.
+/// Whether a call makes a page, by its operation 1.
 fn makes_page(ask: &Ask) -> bool
     ensures { result ≡ makes_page (call_named_by ask.now.name) (input ask.now 0) }
 {
-    match call_named(ask.name) {
-        Some(CallName::Corblk) => input(ask, 0).value() == 1,
-        _ => false,
+    match CallName::named(ask.name) {
+        Some(call) => call.row().reserves && input(ask, 0).value() == 1,
+        None => false,
     }
 }

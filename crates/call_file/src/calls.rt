@@ -14,9 +14,9 @@ ghost use Rattle.call_file.specs.Held.{is_on_file};
 use super::channels::{access, close_draft, fillen, open_disk};
 use super::directory::{DSK, delete, rename};
 use super::transfer::{iot_reads, iot_writes, siot_reads, siot_writes};
-use call_basic::{call_named, channel, fails, input};
+use call_basic::{channel, fails, input};
 use call_tty::decided as decided_tty;
-use its_frame::{CallName, Decision};
+use its_frame::{CallName, Decision, OnFiles};
 use its_word::{Ask, Channel, Job};
 use its_world::World;
 
@@ -33,7 +33,7 @@ pub fn decided(w: &World, slot: u8, job: &Job, ask: &Ask) -> Decision
     if ask.fail != 0 {
         return fails(job, ask, ask.fail);
     }
-    match call_named(ask.name) {
+    match CallName::named(ask.name) {
         Some(CallName::Open) => open(w, slot, job, ask),
         Some(CallName::Close) => close(w, slot, job, ask),
         Some(CallName::Iot) => iot(w, slot, job, ask),
@@ -149,16 +149,14 @@ fn is_on_files(w: &World, slot: u8, job: &Job, ask: &Ask) -> bool
     if ask.fail != 0 {
         return false;
     }
-    match call_named(ask.name) {
-        Some(CallName::Open) => is_disk(ask),
-        Some(CallName::Close) => is_on_file(job, ask),
-        Some(CallName::Iot) => is_on_file(job, ask),
-        Some(CallName::Siot) => is_on_file(job, ask),
-        Some(CallName::Access) => true,
-        Some(CallName::Fillen) => true,
-        Some(CallName::Delete) => true,
-        Some(CallName::Rename) => true,
-        _ => false,
+    match CallName::named(ask.name) {
+        Some(call) => match call.row().files {
+            OnFiles::Never => false,
+            OnFiles::ByDevice => is_disk(ask),
+            OnFiles::ByChannel => is_on_file(job, ask),
+            OnFiles::Always => true,
+        },
+        None => false,
     }
 }
 

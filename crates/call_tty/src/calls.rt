@@ -6,7 +6,7 @@ ghost use Rattle.call_basic.specs.Seen.{seen_by};
 use super::open::{close, open};
 use super::transfer::{iot, siot};
 use super::waiting::{finish, listen, ttylnd};
-use call_basic::{call_named, decided as decided_basic, fails};
+use call_basic::{decided as decided_basic, fails};
 use its_frame::{CallName, Decision};
 use its_word::{Ask, Job};
 use its_world::World;
@@ -20,7 +20,7 @@ pub fn decided(w: &World, slot: u8, job: &Job, ask: &Ask) -> Decision
     if ask.fail != 0 {
         return fails(job, ask, ask.fail);
     }
-    match call_named(ask.name) {
+    match CallName::named(ask.name) {
         Some(CallName::Open) => open(w, slot, job, ask),
         Some(CallName::Close) => close(w, slot, job, ask),
         Some(CallName::Iot) => iot(w, slot, job, ask),

@@ -14,7 +14,7 @@ ghost use Rattle.call_basic.specs.Seen.{raw_with, seen_by};
 use super::memory::{uclose, usrmem};
 use super::open::open_usr;
 use super::transfer::{iot_through, siot_through};
-use call_basic::{call_named, channel, fails, input};
+use call_basic::{channel, fails, input};
 use call_file::decided as decided_file;
 use its_frame::{CallName, Decision};
 use its_word::{Ask, Channel, Job};
@@ -37,7 +37,7 @@ pub fn decided(w: &World, slot: u8, job: &Job, ask: &Ask) -> Decision
     if ask.fail != 0 {
         return fails(job, ask, ask.fail);
     }
-    match call_named(ask.name) {
+    match CallName::named(ask.name) {
         Some(CallName::Open) => open(w, slot, job, ask),
         Some(CallName::Iot) => iot(w, slot, job, ask),
         Some(CallName::Siot) => siot(w, slot, job, ask),

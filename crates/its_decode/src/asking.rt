@@ -1,6 +1,6 @@
 //! What a call asks for.
 ghost use Rattle.std.specs.Prelude.{◌≡◌, ◌==◌, ◌<◌, ◌≤◌, ◌+◌, ◌*◌, ◌%◌, ◌^◌, ◌++◌, length, map, not, slice_index, drop};
-ghost use Rattle.std.specs.List.{find, list_any, range_with_len};
+ghost use Rattle.std.specs.List.{list_any, range_with_len};
 ghost use Rattle.its_core.specs.Cores.{core_at};
 ghost use Rattle.its_word.specs.Limits.{slots};
 ghost use Rattle.its_plain.specs.Decode.{ask_of, block_places, error_by, exceeds, fetch_of, fetched, has_bit_0, iot_ask, name_of, parse_of, row_named, words_of};
@@ -11,27 +11,19 @@ use super::block::{has_bit_0, parse_block};
 use super::sorting::sort;
 use arrayvec::ArrayVec;
 use its_core::Core;
-use its_word::{ADDRESSES, Arg, Ask, Block, CALLS, CallRow, Fault, IOT, Operand, Site, Word};
+use its_frame::{CallName, CallRow};
+use its_word::{ADDRESSES, Arg, Ask, Block, Fault, Operand, Site, Word};
 
-/// The first row with a name.
-#[tactic(auto, using(crate::proofs::RowLaws::found_here, crate::proofs::RowLaws::found_further, crate::proofs::RowLaws::found_nowhere))]
-fn find_row(rows: &[CallRow], name: Word) -> Option<CallRow>
-    ensures { result ≡ find (λ r. r.name == name) rows.now }
-{
-    for row in rows {
-        if row.name == name.value() {
-            return Some(*row);
-        }
-    }
-    None
-}
-
-/// The row of a call that a block can name.
+/// The row of a call that a block can name: any but `.IOT`, which has none.
 #[tactic(auto, unfolding(its_plain::specs::Decode::row_named))]
 fn row_named(name: Word) -> Option<CallRow>
     ensures { result ≡ row_named name }
 {
-    find_row(&CALLS, name)
+    match CallName::named(name) {
+        Some(CallName::Iot) => None,
+        Some(call) => Some(call.row()),
+        None => None,
+    }
 }
 
 /// The error of a call: 1 where no call has the name, 2 where there are too few arguments, 3 where there
@@ -150,7 +142,7 @@ fn iot_ask(site: &Site, channel: u8) -> Ask
     let mut outputs = ArrayVec::new();
     outputs.push(site.e);
     Ask {
-        name: Word::new(IOT),
+        name: CallName::Iot.word(),
         fail: 0,
         inputs,
         outputs,

@@ -13,5 +13,5 @@ pub use change::{Change, Opened};
 pub use decision::{Decision, Held, Wait};
 pub use frame::{Asked, Ending, Entered, Frame, Holding, Moving, Parsed, Standing, Waiting};
 pub use its_word::{Ask, Exit, Owed, Site, Store};
-pub use name::CallName;
+pub use name::{CallName, CallRow, OnFiles};
 pub use variable::Variable;

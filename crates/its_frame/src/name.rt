@@ -1,3 +1,10 @@
+//! The calls of the monitor by their names, and what is asked of a call by its name alone.
+ghost use Rattle.std.specs.Prelude.{◌≡◌, ◌==◌};
+ghost use Rattle.std.specs.List.{find};
+ghost use Rattle.its_frame.specs.Calls.{call_named, call_row, sixbit, takes};
+
+use its_word::Word;
+
 /// A call of the monitor by its name. `Iot` is the instruction `.IOT`, whose call has no block.
 #[derive(Clone, Copy, Debug, PartialEq, Eq)]
 pub enum CallName {
@@ -20,4 +27,201 @@ pub enum CallName {
     Usrmem,
     Uclose,
     Corblk,
+}
+
+/// When a call is one on files, before which the parts of a close that are owed are made: never; where the
+/// device that it names is DSK; where its channel is on a file or a draft; or always.
+#[derive(Clone, Copy, Debug, PartialEq, Eq)]
+pub enum OnFiles {
+    Never,
+    ByDevice,
+    ByChannel,
+    Always,
+}
+
+/// What is asked of a call by its name alone (docs/CALLS.md, "The calls").
+#[derive(Clone, Copy, Debug, PartialEq, Eq)]
+pub struct CallRow {
+    /// Its name, as a word of SIXBIT.
+    pub name: u64,
+    /// The least inputs that it takes.
+    pub least_in: usize,
+    /// The most inputs.
+    pub most_in: usize,
+    /// The least outputs.
+    pub least_out: usize,
+    /// The most outputs.
+    pub most_out: usize,
+    /// Whether it can be found not ready.
+    pub waits: bool,
+    /// How many of its last inputs can have values that are not in core yet.
+    pub owes: usize,
+    /// The input that names the channel through which it reaches into another job.
+    pub reaches: Option<usize>,
+    /// When it is one on files.
+    pub files: OnFiles,
+    /// The input whose word in core PEEK shows as a.
+    pub shows_a: Option<usize>,
+    /// The input whose word in core PEEK shows as b.
+    pub shows_b: Option<usize>,
+    /// Whether it can reserve a page before it is tried.
+    pub reserves: bool,
+}
+
+/// The row of a call of which nothing is asked but its arguments.
+const fn takes(name: u64, inputs: (usize, usize), outputs: (usize, usize)) -> CallRow
+    ensures { result ≡ takes name inputs.0 inputs.1 outputs.0 outputs.1 }
+{
+    CallRow {
+        name,
+        least_in: inputs.0,
+        most_in: inputs.1,
+        least_out: outputs.0,
+        most_out: outputs.1,
+        waits: false,
+        owes: 0,
+        reaches: None,
+        files: OnFiles::Never,
+        shows_a: None,
+        shows_b: None,
+        reserves: false,
+    }
+}
+
+/// All calls.
+const CALLS: [CallName; 19] = [
+    CallName::Hang,
+    CallName::Sleep,
+    CallName::Dismis,
+    CallName::Usrvar,
+    CallName::Logout,
+    CallName::Open,
+    CallName::Close,
+    CallName::Iot,
+    CallName::Siot,
+    CallName::Finish,
+    CallName::Listen,
+    CallName::Ttylnd,
+    CallName::Access,
+    CallName::Fillen,
+    CallName::Delete,
+    CallName::Rename,
+    CallName::Usrmem,
+    CallName::Uclose,
+    CallName::Corblk,
+];
+
+impl CallName {
+    /// The call's row in the table of calls.
+    pub const fn row(self) -> CallRow
+        ensures { result ≡ call_row self }
+    {
+        match self {
+            CallName::Hang => CallRow {
+                waits: true,
+                ..takes(0o504156470000, (0, 1), (0, 0))
+            },
+            CallName::Sleep => CallRow {
+                waits: true,
+                owes: 1,
+                shows_a: Some(0),
+                ..takes(0o635445456000, (1, 1), (0, 0))
+            },
+            CallName::Dismis => takes(0o445163555163, (1, 1), (0, 0)),
+            CallName::Usrvar => CallRow {
+                reaches: Some(0),
+                ..takes(0o656362664162, (2, 3), (0, 1))
+            },
+            CallName::Logout => takes(0o545747576564, (0, 1), (0, 0)),
+            CallName::Open => CallRow {
+                files: OnFiles::ByDevice,
+                ..takes(0o576045560000, (2, 5), (0, 0))
+            },
+            CallName::Close => CallRow {
+                files: OnFiles::ByChannel,
+                ..takes(0o435457634500, (1, 1), (0, 0))
+            },
+            CallName::Iot => CallRow {
+                waits: true,
+                reaches: Some(0),
+                files: OnFiles::ByChannel,
+                ..takes(0o515764000000, (1, 1), (1, 1))
+            },
+            CallName::Siot => CallRow {
+                waits: true,
+                owes: 2,
+                reaches: Some(0),
+                files: OnFiles::ByChannel,
+                shows_a: Some(1),
+                shows_b: Some(2),
+                ..takes(0o635157640000, (3, 3), (0, 0))
+            },
+            CallName::Finish => CallRow {
+                waits: true,
+                ..takes(0o465156516350, (1, 1), (0, 0))
+            },
+            CallName::Listen => CallRow {
+                waits: true,
+                ..takes(0o545163644556, (1, 1), (1, 1))
+            },
+            CallName::Ttylnd => takes(0o646471545644, (1, 1), (0, 0)),
+            CallName::Access => CallRow {
+                files: OnFiles::Always,
+                ..takes(0o414343456363, (2, 2), (0, 0))
+            },
+            CallName::Fillen => CallRow {
+                files: OnFiles::Always,
+                ..takes(0o465154544556, (1, 1), (1, 1))
+            },
+            CallName::Delete => CallRow {
+                files: OnFiles::Always,
+                ..takes(0o444554456445, (4, 4), (0, 0))
+            },
+            CallName::Rename => CallRow {
+                files: OnFiles::Always,
+                ..takes(0o624556415545, (6, 6), (0, 0))
+            },
+            CallName::Usrmem => CallRow {
+                reaches: Some(0),
+                ..takes(0o656362554555, (2, 3), (0, 1))
+            },
+            CallName::Uclose => CallRow {
+                reaches: Some(0),
+                ..takes(0o654354576345, (1, 1), (0, 0))
+            },
+            CallName::Corblk => CallRow {
+                reaches: Some(1),
+                reserves: true,
+                ..takes(0o435762425453, (3, 3), (0, 0))
+            },
+        }
+    }
+
+    /// Its name, as a word of SIXBIT.
+    #[tactic(auto, unfolding(crate::specs::Calls::sixbit))]
+    pub fn word(self) -> Word
+        ensures { result ≡ sixbit self }
+    {
+        Word::new(self.row().name)
+    }
+
+    /// The call of a name.
+    #[tactic(auto, unfolding(crate::specs::Calls::call_named))]
+    pub fn named(name: Word) -> Option<CallName>
+        ensures { result ≡ call_named name }
+    {
+        named_among(&CALLS, name)
+    }
+}
+
+/// The first of some calls that has a name.
+fn named_among(calls: &[CallName], name: Word) -> Option<CallName>
+    ensures { result ≡ find (λ n. sixbit n == name) calls.now }
+{
+    for call in calls {
+        if call.word() == name {
+            return Some(*call);
+        }
+    }
+    None
 }

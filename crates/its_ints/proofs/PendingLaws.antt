@@ -4,7 +4,7 @@ use Rattle.std.specs.Int.Bits.{and_zero_l}
 use Rattle.std.proofs.Common.{◌∙◌, ap}
 use Rattle.its_word.specs.Word.{complement_of}
 use Rattle.its_word.specs.declared.jobs.Job.{Job}
-use Rattle.its_word.specs.declared.pending.TheConstants.{FATAL, TBL}
+use Rattle.its_word.specs.Flags.{FATAL, TBL}
 use Rattle.its_plain.specs.Interrupt.{deliverable, enabled_1, enabled_2, unguarded}
 
 -- what is left of no bits

@@ -19,7 +19,7 @@ use Rattle.its_word.specs.declared.calls.Placed.{Placed}
 use Rattle.its_word.specs.declared.calls.Site.{Site}
 use Rattle.its_word.specs.declared.calls.Source.{Source}
 use Rattle.its_word.specs.declared.calls.Source.TheVariants.{Held, Immediate}
-use Rattle.its_word.specs.declared.names.CallRow.{CallRow}
+use Rattle.its_frame.specs.declared.name.CallRow.{CallRow}
 use Rattle.its_plain.specs.Traced.{Located, also, gives, located}
 use Rattle.its_plain.specs.Decode.{Shape, allowed, argument, argument_at, arguments, ask, ask_of, control_of, error_at_of, error_by, exceeds, held, input_of, iot_ask, kind_of, name_of, output_of, parsed, place_of, row_named, shaped, storable, there, value_of, words_of}
 use Rattle.its_local.proofs.AskLaws.{decoded_of, iot_of}

@@ -11,7 +11,8 @@ use Rattle.its_word.specs.declared.calls.Ask.{Ask}
 use Rattle.its_word.specs.declared.calls.Site.{Site}
 use Rattle.its_word.specs.declared.jobs.Channel.TheVariants.{Closed}
 use Rattle.its_word.specs.declared.jobs.Job.{Job}
-use Rattle.its_word.specs.declared.names.TheConstants.{ACCESS, CLOSE, CORBLK, DELETE, DISMIS, FILLEN, FINISH, HANG, IOT, LISTEN, LOGOUT, OPEN, RENAME, SIOT, SLEEP, TTYLND, UCLOSE, USRMEM, USRVAR}
+use Rattle.its_frame.specs.declared.name.CallName.TheVariants.{Access, Close, Corblk, Delete, Dismis, Fillen, Finish, Hang, Iot, Listen, Logout, Open, Rename, Siot, Sleep, Ttylnd, Uclose, Usrmem, Usrvar}
+use Rattle.its_frame.specs.Calls.{sixbit, call_named}
 use Rattle.its_plain.specs.UnitPlan.{read_of}
 use Rattle.its_plain.specs.Traced.{also, located, word}
 use Rattle.its_plain.specs.Unit.{Called, Faulted, chain, decoded, done_by, reached, target_of, turn, turn_at, unit}
@@ -46,7 +47,7 @@ job_at pc = record {
   channels = replicate 16 Closed;
 }
 
--- the image of a job that types: an OPEN at 100, a SIOT at 102 with its block at 130 and its pointer and count at 200
+-- the image of a job that types: an sixbit Open at 100, a sixbit Siot at 102 with its block at 130 and its pointer and count at 200
 abbrev siot_core : Core
 siot_core =
     core_of
@@ -64,7 +65,7 @@ unfolding unit reached also word read_of word_at page_of chain turn decoded inst
 siot_called = refl
 
 siot_decoded : ask siot_core siot_site ≡ Ok (record {
-  name = SIOT;
+  name = sixbit Siot;
   fail = 0;
   inputs = record {
     items =
@@ -79,10 +80,10 @@ siot_decoded : ask siot_core siot_site ≡ Ok (record {
   decode = record { items = 0o102 ∷ 0o130 ∷ 0o131 ∷ 0o132 ∷ 0o133 ∷ 0o134 ∷ [] };
   operand = record { items = 0o200 ∷ 0o201 ∷ [] };
 })
-unfolding ask shaped parsed block_at argument_words also word read_of word_at page_of is_legal arguments argument located calculation index_places indexed last_used kind_of argument_at held storable can_store ask_of row_named error_by exceeds
+unfolding ask shaped parsed block_at argument_words also word read_of word_at page_of is_legal arguments argument located calculation index_places indexed last_used kind_of argument_at held storable can_store ask_of row_named call_named sixbit error_by exceeds
 siot_decoded = refl
 
--- 100 is XCT @101(1), where 101 has 200, and 200 is `.IOT 4,0(1)` with accumulator 1 = 0: the words are read in this order
+-- 100 is XCT @101(1), where 101 has 200, and 200 is `.sixbit Iot 4,0(1)` with accumulator 1 = 0: the words are read in this order
 abbrev iot_site : Site
 iot_site = record {
   pc = 0o100;
@@ -97,7 +98,7 @@ unfolding unit reached also word read_of word_at page_of chain turn decoded inst
 iot_called = refl
 
 iot_decoded : (c : Core) → ask c iot_site ≡ Ok (record {
-  name = IOT;
+  name = sixbit Iot;
   fail = 0;
   inputs = record { items = record { value = 4; place = None } ∷ [] };
   outputs = record { items = 0 ∷ [] };
@@ -134,49 +135,49 @@ block_told block =
 abbrev tells : ℕ → Option ℕ → Option ℕ → Result Told Fault
 tells fail error control = Ok (record { fail = fail; error = error; control = control })
 
--- blocks with an error: in turn no such call, also where a block names IOT; too few inputs, too few outputs; too many inputs, too many
+-- blocks with an error: in turn no such call, also where a block names sixbit Iot; too few inputs, too few outputs; too many inputs, too many
 -- outputs, two error addresses, two controls, no end within 8 words
 errors_told :
     (block_told (0o400000000000 ∷ 0o414141000000 ∷ 0o403000000120 ∷ []) ≡ tells 1 (Some 0o120) None)
-    × (block_told (0o400000000000 ∷ IOT ∷ 0o401000000004 ∷ []) ≡ tells 1 None None)
-    × (block_told (0o400000000000 ∷ CORBLK ∷ 0o001000000001 ∷ 0o401000777777 ∷ []) ≡ tells 2 None None)
-    × (block_told (0o400000000000 ∷ LISTEN ∷ 0o401000000001 ∷ []) ≡ tells 2 None None)
-    × (block_told (0o400000000000 ∷ CLOSE ∷ 0o001000000001 ∷ 0o401000000002 ∷ []) ≡ tells 3 None None)
-    × (block_told (0o400000000000 ∷ CLOSE ∷ 0o001000000001 ∷ 0o402000000002 ∷ []) ≡ tells 3 None None)
-    × (block_told (0o400000000000 ∷ CLOSE ∷ 0o001000000001 ∷ 0o003000000120 ∷ 0o403000000121 ∷ []) ≡ tells 3 (Some 0o120) None)
-    × (block_told (0o400000000000 ∷ OPEN ∷ 0o001000000001 ∷ 0o001000000002 ∷ 0o005000000001 ∷ 0o404000000120 ∷ []) ≡ tells 3 None (Some 1))
-    × (block_told (0o400000000000 ∷ RENAME ∷ 0o001000000001 ∷ 0o001000000002 ∷ 0o001000000003 ∷ 0o001000000004 ∷ 0o001000000005 ∷ 0o001000000006 ∷ 0o003000000121 ∷ 0o005000000007 ∷ 0o400000000000 ∷ [])
+    × (block_told (0o400000000000 ∷ sixbit Iot ∷ 0o401000000004 ∷ []) ≡ tells 1 None None)
+    × (block_told (0o400000000000 ∷ sixbit Corblk ∷ 0o001000000001 ∷ 0o401000777777 ∷ []) ≡ tells 2 None None)
+    × (block_told (0o400000000000 ∷ sixbit Listen ∷ 0o401000000001 ∷ []) ≡ tells 2 None None)
+    × (block_told (0o400000000000 ∷ sixbit Close ∷ 0o001000000001 ∷ 0o401000000002 ∷ []) ≡ tells 3 None None)
+    × (block_told (0o400000000000 ∷ sixbit Close ∷ 0o001000000001 ∷ 0o402000000002 ∷ []) ≡ tells 3 None None)
+    × (block_told (0o400000000000 ∷ sixbit Close ∷ 0o001000000001 ∷ 0o003000000120 ∷ 0o403000000121 ∷ []) ≡ tells 3 (Some 0o120) None)
+    × (block_told (0o400000000000 ∷ sixbit Open ∷ 0o001000000001 ∷ 0o001000000002 ∷ 0o005000000001 ∷ 0o404000000120 ∷ []) ≡ tells 3 None (Some 1))
+    × (block_told (0o400000000000 ∷ sixbit Rename ∷ 0o001000000001 ∷ 0o001000000002 ∷ 0o001000000003 ∷ 0o001000000004 ∷ 0o001000000005 ∷ 0o001000000006 ∷ 0o003000000121 ∷ 0o005000000007 ∷ 0o400000000000 ∷ [])
     ≡ tells 3 (Some 0o121) (Some 7))
-    × (block_told (0o400000000000 ∷ RENAME ∷ 0o001000000001 ∷ 0o001000000002 ∷ 0o001000000003 ∷ 0o001000000004 ∷ 0o001000000005 ∷ 0o001000000006 ∷ 0o003000000121 ∷ 0o405000000007 ∷ [])
+    × (block_told (0o400000000000 ∷ sixbit Rename ∷ 0o001000000001 ∷ 0o001000000002 ∷ 0o001000000003 ∷ 0o001000000004 ∷ 0o001000000005 ∷ 0o001000000006 ∷ 0o003000000121 ∷ 0o405000000007 ∷ [])
     ≡ tells 0 (Some 0o121) (Some 7))
-unfolding ask shaped parsed block_at argument_words also word read_of word_at page_of is_legal arguments argument located calculation index_places indexed last_used kind_of argument_at held storable can_store ask_of row_named error_by exceeds
+unfolding ask shaped parsed block_at argument_words also word read_of word_at page_of is_legal arguments argument located calculation index_places indexed last_used kind_of argument_at held storable can_store ask_of row_named call_named sixbit error_by exceeds
 errors_told = (refl, refl, refl, refl, refl, refl, refl, refl, refl, refl)
 
 -- blocks with a fault: bit 0 of the first word off; type 6; type 6 in the last word, behind an argument that would fault; a word of
 -- the block absent; an input absent; an output that is read only; an error address absent; a second error address that is read only; an
 -- argument that is an indirect word of itself
 faults_told :
-    (block_told (0o000000000000 ∷ CLOSE ∷ 0o401000000001 ∷ []) ≡ Err Ilo)
-    × (block_told (0o400000000000 ∷ CLOSE ∷ 0o406000000001 ∷ []) ≡ Err Ilo)
-    × (block_told (0o400000000000 ∷ CLOSE ∷ 0o000000004000 ∷ 0o407000000001 ∷ []) ≡ Err Ilo)
-    × (block_told (0o400000000000 ∷ CLOSE ∷ 0o001000000001 ∷ []) ≡ Err Mpv)
-    × (block_told (0o400000000000 ∷ CLOSE ∷ 0o400000004000 ∷ []) ≡ Err Mpv)
-    × (block_told (0o400000000000 ∷ CLOSE ∷ 0o402000002001 ∷ []) ≡ Err Wro)
-    × (block_told (0o400000000000 ∷ CLOSE ∷ 0o403000004000 ∷ []) ≡ Err Mpv)
-    × (block_told (0o400000000000 ∷ CLOSE ∷ 0o003000000120 ∷ 0o403000002000 ∷ []) ≡ Err Wro)
-    × (block_told (0o400000000000 ∷ CLOSE ∷ 0o400020000122 ∷ []) ≡ Err Ilo)
-unfolding ask shaped parsed block_at argument_words also word read_of word_at page_of is_legal arguments argument located calculation index_places indexed last_used kind_of argument_at held storable can_store ask_of row_named error_by exceeds
+    (block_told (0o000000000000 ∷ sixbit Close ∷ 0o401000000001 ∷ []) ≡ Err Ilo)
+    × (block_told (0o400000000000 ∷ sixbit Close ∷ 0o406000000001 ∷ []) ≡ Err Ilo)
+    × (block_told (0o400000000000 ∷ sixbit Close ∷ 0o000000004000 ∷ 0o407000000001 ∷ []) ≡ Err Ilo)
+    × (block_told (0o400000000000 ∷ sixbit Close ∷ 0o001000000001 ∷ []) ≡ Err Mpv)
+    × (block_told (0o400000000000 ∷ sixbit Close ∷ 0o400000004000 ∷ []) ≡ Err Mpv)
+    × (block_told (0o400000000000 ∷ sixbit Close ∷ 0o402000002001 ∷ []) ≡ Err Wro)
+    × (block_told (0o400000000000 ∷ sixbit Close ∷ 0o403000004000 ∷ []) ≡ Err Mpv)
+    × (block_told (0o400000000000 ∷ sixbit Close ∷ 0o003000000120 ∷ 0o403000002000 ∷ []) ≡ Err Wro)
+    × (block_told (0o400000000000 ∷ sixbit Close ∷ 0o400020000122 ∷ []) ≡ Err Ilo)
+unfolding ask shaped parsed block_at argument_words also word read_of word_at page_of is_legal arguments argument located calculation index_places indexed last_used kind_of argument_at held storable can_store ask_of row_named call_named sixbit error_by exceeds
 faults_told = (refl, refl, refl, refl, refl, refl, refl, refl, refl)
 
 -- a block at 777776 goes on at 0, which is accumulator 0
 abbrev wrapped_core : Core
 wrapped_core = record {
   accs = 0o401000000003 ∷ replicate 15 0;
-  pages = replicate 255 None ++ page true (with_words [] 0o1776 (0o400000000000 ∷ CLOSE ∷ [])) ∷ [];
+  pages = replicate 255 None ++ page true (with_words [] 0o1776 (0o400000000000 ∷ sixbit Close ∷ [])) ∷ [];
 }
 
 wrapped_decoded : ask wrapped_core (record { pc = 0o17; e = 0o777776; channel = None; used = 0; decode = record { items = 0o17 ∷ [] } }) ≡ Ok (record {
-  name = CLOSE;
+  name = sixbit Close;
   fail = 0;
   inputs = record { items = record { value = 3; place = None } ∷ [] };
   outputs = record { items = [] };
@@ -185,15 +186,15 @@ wrapped_decoded : ask wrapped_core (record { pc = 0o17; e = 0o777776; channel = 
   decode = record { items = 0o17 ∷ 0o777776 ∷ 0o777777 ∷ 0 ∷ [] };
   operand = record { items = [] };
 })
-unfolding ask shaped parsed block_at argument_words also word read_of word_at page_of is_legal arguments argument located calculation index_places indexed last_used kind_of argument_at held storable can_store ask_of row_named error_by exceeds
+unfolding ask shaped parsed block_at argument_words also word read_of word_at page_of is_legal arguments argument located calculation index_places indexed last_used kind_of argument_at held storable can_store ask_of row_named call_named sixbit error_by exceeds
 wrapped_decoded = refl
 
 -- the names of the table are what they say
 names_spelled :
-    (HANG ≡ sixbit_of (codes "HANG")) × (SLEEP ≡ sixbit_of (codes "SLEEP")) × (DISMIS ≡ sixbit_of (codes "DISMIS")) × (USRVAR ≡ sixbit_of (codes "USRVAR"))
-    × (LOGOUT ≡ sixbit_of (codes "LOGOUT")) × (OPEN ≡ sixbit_of (codes "OPEN")) × (CLOSE ≡ sixbit_of (codes "CLOSE")) × (SIOT ≡ sixbit_of (codes "SIOT"))
-    × (FINISH ≡ sixbit_of (codes "FINISH")) × (LISTEN ≡ sixbit_of (codes "LISTEN")) × (TTYLND ≡ sixbit_of (codes "TTYLND")) × (ACCESS ≡ sixbit_of (codes "ACCESS"))
-    × (FILLEN ≡ sixbit_of (codes "FILLEN")) × (DELETE ≡ sixbit_of (codes "DELETE")) × (RENAME ≡ sixbit_of (codes "RENAME")) × (USRMEM ≡ sixbit_of (codes "USRMEM"))
-    × (UCLOSE ≡ sixbit_of (codes "UCLOSE")) × (CORBLK ≡ sixbit_of (codes "CORBLK")) × (IOT ≡ sixbit_of (codes "IOT"))
-unfolding sixbit_of
+    (sixbit Hang ≡ sixbit_of (codes "HANG")) × (sixbit Sleep ≡ sixbit_of (codes "SLEEP")) × (sixbit Dismis ≡ sixbit_of (codes "DISMIS")) × (sixbit Usrvar ≡ sixbit_of (codes "USRVAR"))
+    × (sixbit Logout ≡ sixbit_of (codes "LOGOUT")) × (sixbit Open ≡ sixbit_of (codes "OPEN")) × (sixbit Close ≡ sixbit_of (codes "CLOSE")) × (sixbit Siot ≡ sixbit_of (codes "SIOT"))
+    × (sixbit Finish ≡ sixbit_of (codes "FINISH")) × (sixbit Listen ≡ sixbit_of (codes "LISTEN")) × (sixbit Ttylnd ≡ sixbit_of (codes "TTYLND")) × (sixbit Access ≡ sixbit_of (codes "ACCESS"))
+    × (sixbit Fillen ≡ sixbit_of (codes "FILLEN")) × (sixbit Delete ≡ sixbit_of (codes "DELETE")) × (sixbit Rename ≡ sixbit_of (codes "RENAME")) × (sixbit Usrmem ≡ sixbit_of (codes "USRMEM"))
+    × (sixbit Uclose ≡ sixbit_of (codes "UCLOSE")) × (sixbit Corblk ≡ sixbit_of (codes "CORBLK")) × (sixbit Iot ≡ sixbit_of (codes "IOT"))
+unfolding sixbit_of sixbit
 names_spelled = (refl, refl, refl, refl, refl, refl, refl, refl, refl, refl, refl, refl, refl, refl, refl, refl, refl, refl, refl)

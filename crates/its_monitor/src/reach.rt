@@ -11,7 +11,7 @@ ghost use Rattle.its_stepped.specs.Unwind.{all_unwound, unwound};
 ghost use Rattle.its_world.specs.World.{frame_at, raw_at, state_of};
 ghost use Rattle.its_monitor.specs.Ticks.{closes_job, logs_out, RootFits, slots_in};
 
-use call_basic::{call_named, target_of};
+use call_basic::target_of;
 use its_frame::{Ask, CallName, Frame};
 use its_pclsr::{unwind, unwind_below};
 use its_word::SLOTS;
@@ -143,12 +143,12 @@ fn reach_of(w: &World, slot: u8, ask: &Ask) -> Reach
 fn is_uclose(ask: &Ask) -> bool
     ensures { result ≡ closes_job (call_named_by ask.now.name) }
 {
-    matches!(call_named(ask.name), Some(CallName::Uclose))
+    matches!(CallName::named(ask.name), Some(CallName::Uclose))
 }
 
 /// Whether a call is LOGOUT, and its decoding gave no error.
 fn is_logout(ask: &Ask) -> bool
     ensures { result ≡ logs_out ask.now }
 {
-    ask.fail == 0 && matches!(call_named(ask.name), Some(CallName::Logout))
+    ask.fail == 0 && matches!(CallName::named(ask.name), Some(CallName::Logout))
 }

@@ -14,8 +14,8 @@ ghost use Rattle.its_operator.specs.Peeking.{Shows};
 #[cfg(test)]
 mod tests;
 
-use its_frame::{Ask, Frame};
-use its_word::{IOT, Peek, PeekState, Refusal, SIOT, SLEEP, Site, Word};
+use its_frame::{Ask, CallName, Frame};
+use its_word::{Peek, PeekState, Refusal, Site, Word};
 use its_world::World;
 
 /// PEEK: how far a slot's job is inside a call. NoJob where the slot is empty. Nothing is unwound.
@@ -113,7 +113,7 @@ fn name_read(site: &Site, block: &[Word]) -> Option<Word>
     ensures { result ≡ name_read site.now.channel block.now }
 {
     match site.channel {
-        Some(_) => Some(Word::new(IOT)),
+        Some(_) => Some(CallName::Iot.word()),
         None => block.get(1).copied(),
     }
 }
@@ -150,23 +150,31 @@ fn words_shown(w: &World, slot: u8, frame: &Frame) -> (Option<Word>, Option<Word
     }
 }
 
-/// SIOT's pointer and count, SLEEP's time, of any other call none.
-#[tactic(auto, using(crate::proofs::PeekLaws::siot_first, crate::proofs::PeekLaws::siot_second, crate::proofs::PeekLaws::sleep_first, crate::proofs::PeekLaws::sleep_second, crate::proofs::PeekLaws::other_first, crate::proofs::PeekLaws::other_second))]
+/// The words of the inputs that are shown of a call: SIOT's pointer and count, SLEEP's time.
 fn words_of(w: &World, slot: u8, ask: &Ask) -> (Option<Word>, Option<Word>)
     requires slot { slot < slots }
     ensures a { result.0 ≡ word_of_input (core_at w.now.core slot) ask.now (first_shown (call_named ask.now.name)) }
     ensures b { result.1 ≡ word_of_input (core_at w.now.core slot) ask.now (second_shown (call_named ask.now.name)) }
 {
-    if ask.name == Word::new(SIOT) {
-        return (
-            word_of_input(w, slot, ask, 1),
-            word_of_input(w, slot, ask, 2),
-        );
+    match CallName::named(ask.name) {
+        Some(call) => {
+            let row = call.row();
+            let a = word_shown(w, slot, ask, row.shows_a);
+            (a, word_shown(w, slot, ask, row.shows_b))
+        }
+        None => (None, None),
     }
-    if ask.name == Word::new(SLEEP) {
-        return (word_of_input(w, slot, ask, 0), None);
+}
+
+/// The word in core at the place of an input that is shown, where one is.
+fn word_shown(w: &World, slot: u8, ask: &Ask, input: Option<usize>) -> Option<Word>
+    requires slot { slot < slots }
+    ensures { result ≡ word_of_input (core_at w.now.core slot) ask.now input }
+{
+    match input {
+        Some(k) => word_of_input(w, slot, ask, k),
+        None => None,
     }
-    (None, None)
 }
 
 /// The word in core at the place of an input; None also where that is past the last address.

@@ -17,7 +17,7 @@ use super::changes::apply;
 use super::owed::owns_mark;
 use super::removal::remove_tree;
 use arrayvec::ArrayVec;
-use its_frame::{Decision, Ending, Frame, Held, Holding, Moving, Waiting};
+use its_frame::{CallName, Decision, Ending, Frame, Held, Holding, Moving, Waiting};
 use its_word::{Ask, Exit, Owed, Store, Word};
 use its_world::World;
 
@@ -143,11 +143,10 @@ fn gone_on(f: Holding, owes: u8, held: Option<Held>) -> Frame
 }
 
 /// Whether a call is SLEEP, whose part that is done leaves it waiting.
-#[tactic(auto, using(crate::proofs::CommittingLaws::sleeps_alone))]
 fn is_sleep(ask: &Ask) -> bool
     ensures { result ≡ sleeps (call_named ask.now.name) }
 {
-    ask.name.value() == 0o635445456000
+    matches!(CallName::named(ask.name), Some(CallName::Sleep))
 }
 
 /// Gives the last inputs of a call new values.

@@ -5,6 +5,7 @@ use Rattle.its_word.specs.declared.calls.Ask.{Ask}
 use Rattle.its_frame.specs.declared.decision.Decision.{Decision}
 use Rattle.its_frame.specs.declared.name.CallName.{CallName}
 use Rattle.its_frame.specs.declared.name.CallName.TheVariants.{Hang, Sleep, Dismis, Usrvar, Logout, Open, Close, Iot, Siot, Finish, Listen, Ttylnd, Access, Fillen, Delete, Rename, Usrmem, Uclose, Corblk}
+pub use Rattle.its_frame.specs.Calls.{call_row, call_named}
 use Rattle.its_plain.specs.Machine.{Chan, On, Whole, Machine}
 use Rattle.its_plain.specs.Change.{superiors}
 use Rattle.its_plain.specs.Arguments.{input}
@@ -15,30 +16,6 @@ use Rattle.its_plain.specs.CallTty.{opens, closes, iot, siot, finish, listen, tt
 use Rattle.its_plain.specs.CallFile.{open_call, close_call, iot_call, siot_call, access, fillen, delete, rename}
 use Rattle.its_plain.specs.CallUsr.{open_usr, iot_usr, siot_usr, usrmem, uclose}
 use Rattle.its_plain.specs.CallCore.{corblk}
-
--- the calls by their SIXBIT names
-unfoldable pub call_named : ℕ → Option CallName
-call_named w =
-    if w == 0o504156470000 then Some Hang
-    else (if w == 0o635445456000 then Some Sleep
-    else (if w == 0o445163555163 then Some Dismis
-    else (if w == 0o656362664162 then Some Usrvar
-    else (if w == 0o545747576564 then Some Logout
-    else (if w == 0o576045560000 then Some Open
-    else (if w == 0o435457634500 then Some Close
-    else (if w == 0o515764000000 then Some Iot
-    else (if w == 0o635157640000 then Some Siot
-    else (if w == 0o465156516350 then Some Finish
-    else (if w == 0o545163644556 then Some Listen
-    else (if w == 0o646471545644 then Some Ttylnd
-    else (if w == 0o414343456363 then Some Access
-    else (if w == 0o465154544556 then Some Fillen
-    else (if w == 0o444554456445 then Some Delete
-    else (if w == 0o624556415545 then Some Rename
-    else (if w == 0o656362554555 then Some Usrmem
-    else (if w == 0o654354576345 then Some Uclose
-    else (if w == 0o435762425453 then Some Corblk
-    else None))))))))))))))))))
 
 -- what a call decides whose decoding gave no error: first the calls on jobs and times alone
 abbrev pub basic_by : View → Ask → Option CallName → Decision
@@ -108,13 +85,7 @@ decided v a = if a.fail == 0 then decided_by v a (call_named a.name) else fails 
 
 -- the argument that names the channel by which a call reaches into another job
 abbrev pub reaching : CallName → Option ℕ
-reaching Usrvar = Some 0
-reaching Iot = Some 0
-reaching Siot = Some 0
-reaching Usrmem = Some 0
-reaching Uclose = Some 0
-reaching Corblk = Some 1
-reaching _ = None
+reaching n = (call_row n).reaches
 
 abbrev pub inferior_on : Chan → Option ℕ
 inferior_on (On s write at) = Some s

@@ -1,6 +1,6 @@
 -- The decoding of a symbolic call (docs/CALLS.md, "Decoding"): its block, its arguments one by one, and what is asked.
 use Rattle.std.specs.Prelude.{if◌then◌else◌, ◌==◌, ◌||◌, ◌&&◌, ℕ, zero, suc, ◌+◌, ◌/◌, ◌%◌, ◌^◌, Bool, true, false, List, [], ◌∷◌, ◌++◌, length, map, drop, not, Option, Some, None, Result, Ok, Err, nat_lt, slice_get, slice_index, unwrap_or}
-use Rattle.std.specs.List.{filter_map, find, list_all, list_any, range_with_len}
+use Rattle.std.specs.List.{filter_map, list_all, list_any, range_with_len}
 use Rattle.its_word.specs.ArrayVec.{ArrayVec}
 use Rattle.its_word.specs.Word.{pair_of}
 use Rattle.its_word.specs.Core.{Core, word_at}
@@ -17,8 +17,10 @@ use Rattle.its_word.specs.declared.calls.Placed.{Placed}
 use Rattle.its_word.specs.declared.calls.Site.{Site}
 use Rattle.its_word.specs.declared.calls.Source.{Source}
 use Rattle.its_word.specs.declared.calls.Source.TheVariants.{Held, Immediate}
-use Rattle.its_word.specs.declared.names.CallRow.{CallRow}
-use Rattle.its_word.specs.declared.names.TheConstants.{CALLS, IOT}
+use Rattle.its_frame.specs.declared.name.CallName.{CallName}
+use Rattle.its_frame.specs.declared.name.CallName.TheVariants.{Iot}
+use Rattle.its_frame.specs.declared.name.CallRow.{CallRow}
+use Rattle.its_frame.specs.Calls.{call_row, sixbit, call_named}
 use Rattle.its_plain.specs.UnitPlan.{given}
 use Rattle.its_plain.specs.Traced.{Traced, gives, faults, also, word, located}
 
@@ -155,9 +157,14 @@ operand_of (Input s) = place_of s
 operand_of (Control s) = place_of s
 operand_of _ = None
 
--- the row of a call that a block can name
+-- the row of a call that a block can name: any but `.IOT`, which has none
+abbrev pub row_by : Option CallName → Option CallRow
+row_by (Some Iot) = None
+row_by (Some n) = Some (call_row n)
+row_by None = None
+
 unfoldable pub row_named : ℕ → Option CallRow
-row_named name = find (λ r. r.name == name) CALLS
+row_named name = row_by (call_named name)
 
 -- 1 where no call has the name, else 2 where there are too few inputs or outputs, else 3 where there are too many of these, or
 -- something else is too much
@@ -195,7 +202,7 @@ ask_of c decode h =
 -- for yet
 unfoldable pub iot_ask : Site → ℕ → Ask
 iot_ask s channel = record {
-  name = IOT;
+  name = sixbit Iot;
   fail = 0;
   inputs = record { items = record { value = channel; place = None } ∷ [] };
   outputs = record { items = s.e ∷ [] };

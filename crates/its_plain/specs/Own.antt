@@ -5,7 +5,7 @@ use Rattle.its_word.specs.Core.{pages_present}
 use Rattle.its_word.specs.declared.calls.Exit.{Exit}
 use Rattle.its_word.specs.declared.jobs.Job.{Job}
 use Rattle.its_word.specs.declared.plan.Store.{Store}
-use Rattle.its_word.specs.declared.flags.TheConstants.{BYTE_HALF}
+use Rattle.its_word.specs.Flags.{BYTE_HALF}
 use Rattle.its_frame.specs.declared.change.Opened.{Opened}
 use Rattle.its_frame.specs.declared.change.Opened.TheVariants as opened
 use Rattle.its_frame.specs.declared.variable.Variable.{Variable}

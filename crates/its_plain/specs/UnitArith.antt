@@ -5,7 +5,7 @@ use Rattle.its_word.specs.Core.{Core}
 use Rattle.its_word.specs.Arith.{add_of, sub_of, imul_of, mul_of, idiv_of, div_of}
 use Rattle.its_word.specs.Shift.{ash_of, rot_of, lsh_of, ashc_of, rotc_of, lshc_of, zeros_of}
 use Rattle.its_word.specs.Logic.{boolean_of}
-use Rattle.its_word.specs.declared.flags.TheConstants.{OVERFLOW, NO_DIVIDE}
+use Rattle.its_word.specs.Flags.{OVERFLOW, NO_DIVIDE}
 use Rattle.its_word.specs.declared.result2.Result2.{Result2}
 use Rattle.its_word.specs.declared.instruction.Mode.{Mode}
 use Rattle.its_word.specs.declared.instruction.Mode.TheVariants.{Basic, Immediate, Memory, Both}

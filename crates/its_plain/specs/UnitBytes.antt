@@ -5,7 +5,7 @@ use Rattle.its_word.specs.Address.{address}
 use Rattle.its_word.specs.Byte.{has_size, increment_of, load_of, deposit_of}
 use Rattle.its_word.specs.declared.access.Fault.{Fault}
 use Rattle.its_word.specs.declared.access.Fault.TheVariants.{Ilo}
-use Rattle.its_word.specs.declared.flags.TheConstants.{BYTE_HALF}
+use Rattle.its_word.specs.Flags.{BYTE_HALF}
 use Rattle.its_word.specs.declared.instruction.ByteOp.{ByteOp}
 use Rattle.its_word.specs.declared.instruction.ByteOp.TheVariants.{Ibp, Ildb, Ldb, Idpb, Dpb}
 use Rattle.its_word.specs.declared.plan.Context.{Context}

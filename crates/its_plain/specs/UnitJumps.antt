@@ -3,7 +3,7 @@
 use Rattle.std.specs.Prelude.{if◌then◌else◌, ◌==◌, not, ℕ, ◌+◌, ◌*◌, ◌^◌, Bool, [], ◌∷◌, Option, Some, None, Ok, nat_le}
 use Rattle.its_word.specs.Word.{left_of, right_of, pair_of}
 use Rattle.its_word.specs.Core.{Core}
-use Rattle.its_word.specs.declared.flags.TheConstants.{BYTE_HALF}
+use Rattle.its_word.specs.Flags.{BYTE_HALF}
 use Rattle.its_word.specs.declared.instruction.BranchOp.{BranchOp}
 use Rattle.its_word.specs.declared.instruction.BranchOp.TheVariants.{Blt, Aobjp, Aobjn, Jrst, Jfcl}
 use Rattle.its_word.specs.declared.instruction.StackOp.{StackOp}

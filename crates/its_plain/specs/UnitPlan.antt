@@ -11,7 +11,7 @@ use Rattle.its_word.specs.declared.instruction.Mode.TheVariants.{Basic, Immediat
 use Rattle.its_word.specs.declared.plan.Context.{Context}
 use Rattle.its_word.specs.declared.plan.Store.{Store}
 use Rattle.its_word.specs.declared.plan.Plan.{Plan}
-use Rattle.its_word.specs.declared.flags.TheConstants.{BYTE_HALF}
+use Rattle.its_word.specs.Flags.{BYTE_HALF}
 
 -- a plan, or a fault
 abbrev pub Planned : Type 0

@@ -12,14 +12,14 @@ use Rattle.its_word.specs.declared.calls.Site.{Site}
 use Rattle.its_word.specs.declared.instruction.Instruction.{Instruction}
 use Rattle.its_word.specs.declared.instruction.Instruction.TheVariants as instructions
 use Rattle.its_word.specs.declared.jobs.Job.{Job}
-use Rattle.its_word.specs.declared.names.CallRow.{CallRow}
 use Rattle.its_word.specs.declared.plan.Context.{Context}
 use Rattle.its_word.specs.declared.plan.Reached.{Reached}
 use Rattle.its_frame.specs.declared.name.CallName.{CallName}
-use Rattle.its_frame.specs.declared.name.CallName.TheVariants.{Hang, Sleep, Dismis, Usrvar, Logout, Open, Close, Iot, Siot, Finish, Listen, Ttylnd, Access, Fillen, Delete, Rename, Usrmem, Uclose, Corblk}
+use Rattle.its_frame.specs.declared.name.CallName.TheVariants.{Sleep, Iot, Siot}
+use Rattle.its_frame.proofs.NameLaws.{named}
 use Rattle.its_plain.specs.Arguments.{value_in, place_in, input, place_of_input}
-use Rattle.its_plain.specs.Decide.{call_named}
-use Rattle.its_plain.specs.Decode.{ask, iot_ask, row_named}
+use Rattle.its_plain.specs.Decide.{call_row, call_named}
+use Rattle.its_plain.specs.Decode.{ask, iot_ask, row_by, row_named}
 use Rattle.its_plain.specs.Footprint.{among, times, in_footprint, variable, Stands}
 use Rattle.its_plain.specs.Tests.{number_at, out}
 use Rattle.its_plain.specs.Unit.{Called, done_by, outcome_at, reached, row_of, site_of, unit}
@@ -51,8 +51,8 @@ fitted c j s a h = ask_fits c s a (site_used c j s h.unit_is) h.ask_is
 
 -- a call of the name of `.IOT` is one by the instruction alone
 iot_named : (c : Core) (s : Site) (a : Ask) (n : ℕ) → s.channel ≡ Some n → ask c s ≡ Ok a → call_named a.name ≡ Some Iot
-unfolding call_named iot_ask
-iot_named c s a n h e = ap (λ (k : Ask). call_named k.name) (sym (iot_of c s n a h e))
+unfolding iot_ask
+iot_named c s a n h e = ap (λ (k : Ask). call_named k.name) (sym (iot_of c s n a h e)) ∙ named Iot
 
 by_block : (c : Core) (s : Site) (a : Ask) → call_named a.name ≢ Some Iot → ask c s ≡ Ok a → s.channel ≡ None
 by_block c s a n e = go s.channel refl
@@ -81,20 +81,14 @@ input_placed c (o ∷ os) (suc k) p h e = input_placed c os k p (λ i d l. h (su
 pub input_word : (c : Core) (j : Job) (s : Site) (a : Ask) (k p : ℕ) → Stands c j s a → place_of_input a k ≡ Some p → word_at c p ≡ Some (input a k)
 input_word c j s a k p h e = (input_placed c a.inputs.items k p (fitted c j s a h).inputs e).1
 
--- SLEEP's name
-other : (k : Option CallName) (b : Bool) (x o : Option CallName) → x ≢ k → o ≢ k → (if b then x else o) ≢ k
-other k true x o h n e = h e
-other k false x o h n e = n e
-
-none_other : (w : ℕ) → (if w == 0o504156470000 then Some Hang else (if w == 0o445163555163 then Some Dismis else (if w == 0o656362664162 then Some Usrvar else (if w == 0o545747576564 then Some Logout else (if w == 0o576045560000 then Some Open else (if w == 0o435457634500 then Some Close else (if w == 0o515764000000 then Some Iot else (if w == 0o635157640000 then Some Siot else (if w == 0o465156516350 then Some Finish else (if w == 0o545163644556 then Some Listen else (if w == 0o646471545644 then Some Ttylnd else (if w == 0o414343456363 then Some Access else (if w == 0o465154544556 then Some Fillen else (if w == 0o444554456445 then Some Delete else (if w == 0o624556415545 then Some Rename else (if w == 0o656362554555 then Some Usrmem else (if w == 0o654354576345 then Some Uclose else (if w == 0o435762425453 then Some Corblk else None)))))))))))))))))) ≢ Some Sleep
-none_other w = other (Some Sleep) (w == 0o504156470000) (Some Hang) _ (λ e. cc) (other (Some Sleep) (w == 0o445163555163) (Some Dismis) _ (λ e. cc) (other (Some Sleep) (w == 0o656362664162) (Some Usrvar) _ (λ e. cc) (other (Some Sleep) (w == 0o545747576564) (Some Logout) _ (λ e. cc) (other (Some Sleep) (w == 0o576045560000) (Some Open) _ (λ e. cc) (other (Some Sleep) (w == 0o435457634500) (Some Close) _ (λ e. cc) (other (Some Sleep) (w == 0o515764000000) (Some Iot) _ (λ e. cc) (other (Some Sleep) (w == 0o635157640000) (Some Siot) _ (λ e. cc) (other (Some Sleep) (w == 0o465156516350) (Some Finish) _ (λ e. cc) (other (Some Sleep) (w == 0o545163644556) (Some Listen) _ (λ e. cc) (other (Some Sleep) (w == 0o646471545644) (Some Ttylnd) _ (λ e. cc) (other (Some Sleep) (w == 0o414343456363) (Some Access) _ (λ e. cc) (other (Some Sleep) (w == 0o465154544556) (Some Fillen) _ (λ e. cc) (other (Some Sleep) (w == 0o444554456445) (Some Delete) _ (λ e. cc) (other (Some Sleep) (w == 0o624556415545) (Some Rename) _ (λ e. cc) (other (Some Sleep) (w == 0o656362554555) (Some Usrmem) _ (λ e. cc) (other (Some Sleep) (w == 0o654354576345) (Some Uclose) _ (λ e. cc) (other (Some Sleep) (w == 0o435762425453) (Some Corblk) _ (λ e. cc) (λ (e : None ≡ Some Sleep). cc))))))))))))))))))
-
-sleep_named : (w : ℕ) → call_named w ≡ Some Sleep → w ≡ 0o635445456000
-unfolding call_named
-sleep_named w h = elim (cases_Bool (w == 0o635445456000)) [
-  | inl t ↦ grind (arith, nat_tests)
-  | inr t ↦ absurd (none_other w (rw t at h))
-]
+-- the row of a call that a block names
+row_is : (w : ℕ) (n : CallName) → n ≢ Iot → call_named w ≡ Some n → row_named w ≡ Some (call_row n)
+unfolding row_named
+row_is w n ne e = ap row_by e ∙ by n ne
+  where
+    by : (n : CallName) → n ≢ Iot → row_by (Some n) ≡ Some (call_row n)
+    by Iot ne = absurd (ne refl)
+    by _ ne = refl
 
 -- the one argument of SLEEP
 one_input : (os : List Operand) (p : ℕ) → 1 ≤ length os → length os ≤ 1 → place_in (slice_get os 0) ≡ Some p → (v : ℕ) × (os ≡ variable v p ∷ [])
@@ -102,30 +96,14 @@ one_input [] p l m e = absurd (omega arith)
 one_input (o ∷ []) p l m e = (o.value, λ t. record { value = o.value; place = e t } ∷ [])
 one_input (o ∷ x ∷ os) p l m e = absurd (omega arith)
 
-sleep_row : (r : CallRow) × ((row_named 0o635445456000 ≡ Some r) × ((r.least_in ≡ 1) × (r.most_in ≡ 1)))
-unfolding row_named
-sleep_row = (_, (refl, (refl, refl)))
-
 sleeper : (c : Core) (s : Site) (a : Ask) (p : ℕ) → ask c s ≡ Ok a → call_named a.name ≡ Some Sleep → a.fail ≡ 0 → place_of_input a 0 ≡ Some p
     → (v : ℕ) × (a.inputs.items ≡ variable v p ∷ [])
 sleeper c s a p e n z h =
     let block = by_block c s a (λ i. let k : Some Iot ≡ Some Sleep = sym i ∙ n in cc) e in
-    let r = sleep_row in
-    let counts = ask_counts c s a r.0 block e (ap row_named (sleep_named a.name n) ∙ r.1.0) z in
-    one_input a.inputs.items p (subst (λ (k : ℕ). k ≤ length a.inputs.items) r.1.1.0 counts.least_in) (subst (λ (k : ℕ). length a.inputs.items ≤ k) r.1.1.1 counts.most_in) h
+    let counts = ask_counts c s a (call_row Sleep) block e (row_is a.name Sleep (λ i. cc) n) z in
+    one_input a.inputs.items p counts.least_in counts.most_in h
 
--- SIOT's name
-none_moves : (w : ℕ) → (if w == 0o504156470000 then Some Hang else (if w == 0o635445456000 then Some Sleep else (if w == 0o445163555163 then Some Dismis else (if w == 0o656362664162 then Some Usrvar else (if w == 0o545747576564 then Some Logout else (if w == 0o576045560000 then Some Open else (if w == 0o435457634500 then Some Close else (if w == 0o515764000000 then Some Iot else (if w == 0o465156516350 then Some Finish else (if w == 0o545163644556 then Some Listen else (if w == 0o646471545644 then Some Ttylnd else (if w == 0o414343456363 then Some Access else (if w == 0o465154544556 then Some Fillen else (if w == 0o444554456445 then Some Delete else (if w == 0o624556415545 then Some Rename else (if w == 0o656362554555 then Some Usrmem else (if w == 0o654354576345 then Some Uclose else (if w == 0o435762425453 then Some Corblk else None)))))))))))))))))) ≢ Some Siot
-none_moves w = other (Some Siot) (w == 0o504156470000) (Some Hang) _ (λ e. cc) (other (Some Siot) (w == 0o635445456000) (Some Sleep) _ (λ e. cc) (other (Some Siot) (w == 0o445163555163) (Some Dismis) _ (λ e. cc) (other (Some Siot) (w == 0o656362664162) (Some Usrvar) _ (λ e. cc) (other (Some Siot) (w == 0o545747576564) (Some Logout) _ (λ e. cc) (other (Some Siot) (w == 0o576045560000) (Some Open) _ (λ e. cc) (other (Some Siot) (w == 0o435457634500) (Some Close) _ (λ e. cc) (other (Some Siot) (w == 0o515764000000) (Some Iot) _ (λ e. cc) (other (Some Siot) (w == 0o465156516350) (Some Finish) _ (λ e. cc) (other (Some Siot) (w == 0o545163644556) (Some Listen) _ (λ e. cc) (other (Some Siot) (w == 0o646471545644) (Some Ttylnd) _ (λ e. cc) (other (Some Siot) (w == 0o414343456363) (Some Access) _ (λ e. cc) (other (Some Siot) (w == 0o465154544556) (Some Fillen) _ (λ e. cc) (other (Some Siot) (w == 0o444554456445) (Some Delete) _ (λ e. cc) (other (Some Siot) (w == 0o624556415545) (Some Rename) _ (λ e. cc) (other (Some Siot) (w == 0o656362554555) (Some Usrmem) _ (λ e. cc) (other (Some Siot) (w == 0o654354576345) (Some Uclose) _ (λ e. cc) (other (Some Siot) (w == 0o435762425453) (Some Corblk) _ (λ e. cc) (λ (e : None ≡ Some Siot). cc))))))))))))))))))
-
-siot_named : (w : ℕ) → call_named w ≡ Some Siot → w ≡ 0o635157640000
-unfolding call_named
-siot_named w h = elim (cases_Bool (w == 0o635157640000)) [
-  | inl t ↦ grind (arith, nat_tests)
-  | inr t ↦ absurd (none_moves w (rw t at h))
-]
-
--- its three arguments
+-- the three arguments of SIOT
 three_inputs : (a : Ask) (os : List Operand) (p q : ℕ) → a.inputs.items ≡ os → length os ≡ 3 → place_in (slice_get os 1) ≡ Some p → place_in (slice_get os 2) ≡ Some q → Transfer a p q
 three_inputs a [] p q is l e f = absurd (omega arith)
 three_inputs a (x ∷ []) p q is l e f = absurd (omega arith)
@@ -138,17 +116,12 @@ three_inputs a (x ∷ y ∷ z ∷ []) p q is l e f = record {
 }
 three_inputs a (x ∷ y ∷ z ∷ o ∷ os) p q is l e f = absurd (omega arith)
 
-siot_row : (r : CallRow) × ((row_named 0o635157640000 ≡ Some r) × ((r.least_in ≡ 3) × (r.most_in ≡ 3)))
-unfolding row_named
-siot_row = (_, (refl, (refl, refl)))
-
 pub siot_inputs : (c : Core) (s : Site) (a : Ask) → ask c s ≡ Ok a → call_named a.name ≡ Some Siot → a.fail ≡ 0 → length a.inputs.items ≡ 3
 siot_inputs c s a e n z =
     let block = by_block c s a (λ t. let k : Some Iot ≡ Some Siot = sym t ∙ n in cc) e in
-    let r = siot_row in
-    let counts = ask_counts c s a r.0 block e (ap row_named (siot_named a.name n) ∙ r.1.0) z in
-    let least = subst (λ (k : ℕ). k ≤ length a.inputs.items) r.1.1.0 counts.least_in in
-    let most = subst (λ (k : ℕ). length a.inputs.items ≤ k) r.1.1.1 counts.most_in in
+    let counts = ask_counts c s a (call_row Siot) block e (row_is a.name Siot (λ t. cc) n) z in
+    let least : 3 ≤ length a.inputs.items = counts.least_in in
+    let most : length a.inputs.items ≤ 3 = counts.most_in in
     omega arith
 
 mover : (c : Core) (s : Site) (a : Ask) (p q : ℕ) → ask c s ≡ Ok a → call_named a.name ≡ Some Siot → a.fail ≡ 0 → place_of_input a 1 ≡ Some p → place_of_input a 2 ≡ Some q → Transfer a p q

@@ -18,6 +18,7 @@ use Rattle.its_print.specs.Printing as printed
 use Rattle.its_plain.specs.Operator.{no_block, Does, loaded, on_registers}
 use Rattle.its_plain.specs.CallOperator.{clocked, operate, Lined, Done, lined}
 use Rattle.its_plain.specs.Machine.{no_machine, with_jobs, whole}
+use Rattle.its_frame.specs.Calls.{sixbit}
 use Rattle.its_plain.specs.Decide.{call_named}
 use Rattle.its_plain.specs.Own.{names_of, exit_of}
 use Rattle.its_plain.specs.CallFile.{blocks_of_drafts}
@@ -111,13 +112,13 @@ standing f = record {
 -- SLEEP after its partial step: its argument in core is still the old one
 sleeper : peeked (standing (waiting (site None) (call 0o635445456000 (at_place 1 9 ∷ [])) 1)) 0
     ≡ record { state = states.Waiting; name = Some 0o635445456000; left = 2; a = Some 6; b = None; h = None }
-unfolding peeked standing site call at_place call_named left word_at
+unfolding peeked standing site call at_place call_named sixbit left word_at
 sleeper = refl
 
 -- SIOT with a byte that is taken: pointer and count in core are still the old ones
 mover : peeked (standing (moving (site None) (call 0o635157640000 (at_place 1 9 ∷ at_place 0 8 ∷ at_place 2 3 ∷ [])) (record { place = 2; byte = 65 }))) 0
     ≡ record { state = states.Moving; name = Some 0o635157640000; left = 4; a = Some 5; b = Some 7; h = Some 65 }
-unfolding peeked standing site call at_place call_named left word_at
+unfolding peeked standing site call at_place call_named sixbit left word_at
 mover = refl
 
 -- a block that is read, and `.IOT`, which has none
@@ -127,7 +128,7 @@ unfolding peeked standing site left
 reader = refl
 
 iot : peeked (standing (parsed (site (Some 3)) [])) 0 ≡ record { state = states.Parsed; name = Some 0o515764000000; left = 1; a = None; b = None; h = None }
-unfolding peeked standing site left
+unfolding peeked standing site sixbit left
 iot = refl
 
 -- a file of two words, as it stands in its directory and by itself; a second one with its names is refused
@@ -164,5 +165,5 @@ between : told 1 closing no_block (Read (events.Peek 0) ∷ Read (events.Dir 1) 
       ∷ [];
   fate = Open;
 }
-unfolding lined operate calmed help helped peeked left site call call_named same_names files_in fresh_job file_of closing inside
+unfolding lined operate calmed help helped peeked left site call call_named sixbit same_names files_in fresh_job file_of closing inside
 between = refl

@@ -14,12 +14,13 @@ use Rattle.its_word.specs.declared.show.PeekState.TheVariants as states
 use Rattle.its_frame.specs.declared.frame.Frame.{Frame}
 use Rattle.its_frame.specs.declared.frame.Frame.TheVariants.{Entered, Parsed, Asked, Holding, Waiting, Moving, Ending}
 use Rattle.its_frame.specs.declared.name.CallName.{CallName}
-use Rattle.its_frame.specs.declared.name.CallName.TheVariants.{Siot, Sleep}
+use Rattle.its_frame.specs.declared.name.CallName.TheVariants.{Iot}
+use Rattle.its_frame.specs.Calls.{sixbit}
 use Rattle.its_print.specs.Printing.{Line, Refused}
 use Rattle.its_print.specs.Printing as printed
 use Rattle.its_plain.specs.Machine.{Machine, no_machine, core_of}
 use Rattle.its_plain.specs.Arguments.{place_of_input}
-use Rattle.its_plain.specs.Decide.{call_named}
+use Rattle.its_plain.specs.Decide.{call_row, call_named}
 use Rattle.its_plain.specs.Operator.{Block, no_block, Operated, Refuses, Does, Ticks, Ends, nobody}
 use Rattle.its_plain.specs.Transcript.{Fate, Ended, Open, Lost, TooLong}
 use Rattle.its_plain.specs.CallOperator.{Lined, Done, Peeks, lined}
@@ -50,11 +51,8 @@ ask_in (Some (Parsed f)) = None
 ask_in None = None
 
 -- its name: that of `.IOT`, which has no block, or the second word of the block; none before that is read
-abbrev pub iot_name : ℕ
-iot_name = 0o515764000000
-
 abbrev pub name_read : Option ℕ → List ℕ → Option ℕ
-name_read (Some channel) block = Some iot_name
+name_read (Some channel) block = Some (sixbit Iot)
 name_read None block = slice_get block 1
 
 abbrev pub name_asked : Option Ask → Option ℕ
@@ -67,13 +65,12 @@ name_shown f = name_asked (ask_in f)
 
 -- the inputs whose words in core are shown: SIOT's pointer and count, and SLEEP's time
 abbrev pub first_shown : Option CallName → Option ℕ
-first_shown (Some Siot) = Some 1
-first_shown (Some Sleep) = Some 0
-first_shown _ = None
+first_shown (Some n) = (call_row n).shows_a
+first_shown None = None
 
 abbrev pub second_shown : Option CallName → Option ℕ
-second_shown (Some Siot) = Some 2
-second_shown _ = None
+second_shown (Some n) = (call_row n).shows_b
+second_shown None = None
 
 -- the raw word at the place of such an input
 abbrev pub word_placed : Core → Option ℕ → Option ℕ

@@ -1,6 +1,6 @@
 -- What holds of a state between two calls of the monitor (docs/STEPS.md, "Soundness"). The facts of a slot speak
 -- of that slot alone: of its raw job, its frame and its reserved page.
-use Rattle.std.specs.Prelude.{◌≡◌, ◌≢◌, ◌≤◌, ◌<◌, ℕ, ◌+◌, ◌^◌, true, false, Option, Some, None, IfSome, List, [], ◌∷◌, is_some, length, Ok}
+use Rattle.std.specs.Prelude.{◌≡◌, ◌≢◌, ◌≤◌, ◌<◌, ℕ, ◌+◌, ◌^◌, Bool, true, false, Option, Some, None, IfSome, List, [], ◌∷◌, is_some, length, Ok}
 use Rattle.its_word.specs.Byte.{has_size}
 use Rattle.its_word.specs.Core.{Core, can_store}
 use Rattle.its_word.specs.declared.calls.Ask.{Ask}
@@ -13,7 +13,6 @@ use Rattle.its_frame.specs.Left.{kept}
 use Rattle.its_frame.specs.declared.frame.Frame.{Frame}
 use Rattle.its_frame.specs.declared.frame.Frame.TheVariants.{Entered, Parsed, Asked, Holding, Waiting, Moving, Ending}
 use Rattle.its_frame.specs.declared.name.CallName.{CallName}
-use Rattle.its_frame.specs.declared.name.CallName.TheVariants.{Hang, Sleep, Iot, Siot, Finish, Listen}
 use Rattle.its_plain.specs.Interrupt.{deliverable}
 use Rattle.its_plain.specs.Unit.{Called, unit}
 use Rattle.its_word.specs.Stores.{place}
@@ -22,7 +21,7 @@ use Rattle.its_plain.specs.Change.{poke}
 use Rattle.its_plain.specs.Arguments.{input, in_footprint, debts}
 use Rattle.its_plain.specs.Ask.{parse}
 pub use Rattle.its_plain.specs.Footprint.{Stands}
-use Rattle.its_plain.specs.Decide.{call_named}
+use Rattle.its_plain.specs.Decide.{call_row, call_named}
 use Rattle.its_stepped.specs.State.{Part, UnlinkOld, LinkNew, FreeOld, Mark, State, seen}
 use Rattle.its_stepped.specs.Tick.{reserves}
 
@@ -43,9 +42,8 @@ Stored c (s ∷ ss) = (can_store c (place s) ≡ true) × Stored c ss
 
 -- how many of its arguments a call can owe: SIOT its pointer and its count, SLEEP its time
 abbrev pub most_owed_by : Option CallName → ℕ
-most_owed_by (Some Siot) = 2
-most_owed_by (Some Sleep) = 1
-most_owed_by _ = 0
+most_owed_by (Some n) = (call_row n).owes
+most_owed_by None = 0
 
 unfoldable pub most_owed : Ask → ℕ
 most_owed a = most_owed_by (call_named a.name)
@@ -63,14 +61,13 @@ pub record Paged (a : Ask) (n clear : ℕ) : Type 0 where
   pub owes : n ≡ 0
 
 -- the calls that can be found not ready
+abbrev pub Holds : Bool → Type 0
+Holds true = Unit {0}
+Holds false = ⊥
+
 abbrev pub IsWaitable : Option CallName → Type 0
-IsWaitable (Some Hang) = Unit {0}
-IsWaitable (Some Sleep) = Unit {0}
-IsWaitable (Some Iot) = Unit {0}
-IsWaitable (Some Siot) = Unit {0}
-IsWaitable (Some Finish) = Unit {0}
-IsWaitable (Some Listen) = Unit {0}
-IsWaitable _ = ⊥
+IsWaitable (Some n) = Holds (call_row n).waits
+IsWaitable None = ⊥
 
 -- the owed steps can be made, and Leave is the last of them
 abbrev pub Owes : Core → List Owed → Type 0

@@ -10,7 +10,8 @@ use Rattle.its_frame.specs.declared.decision.Decision.TheVariants.{Waits, Goes, 
 use Rattle.its_frame.specs.declared.frame.Frame.{Frame}
 use Rattle.its_frame.specs.declared.frame.Frame.TheVariants.{Entered, Parsed, Asked, Holding, Waiting, Moving, Ending}
 use Rattle.its_frame.specs.declared.name.CallName.{CallName}
-use Rattle.its_frame.specs.declared.name.CallName.TheVariants.{Open, Close, Iot, Siot, Access, Fillen, Delete, Rename, Corblk}
+use Rattle.its_frame.specs.declared.name.OnFiles.{OnFiles}
+use Rattle.its_frame.specs.declared.name.OnFiles.TheVariants.{Never, ByDevice, ByChannel, Always}
 use Rattle.its_plain.specs.Interrupt.{Delivered, deliverable, delivered}
 use Rattle.its_plain.specs.Unit.{Outcome, Changed, Faulted, Called, unit}
 use Rattle.its_plain.specs.Machine.{Chan, Reads, Writes, Whole}
@@ -18,7 +19,7 @@ use Rattle.its_plain.specs.Ask.{parse, fetch}
 use Rattle.its_plain.specs.Arguments.{input}
 use Rattle.its_plain.specs.CallBasic.{channel_at}
 use Rattle.its_plain.specs.CallFile.{disk_device}
-use Rattle.its_plain.specs.Decide.{call_named, reach}
+use Rattle.its_plain.specs.Decide.{call_row, call_named, reach}
 use Rattle.its_plain.specs.CallStep.{becomes, faulted, informs, told, decision}
 use Rattle.its_stepped.specs.State.{State, plain, seen, turn, same, reserving, entered, parsed, asked, holding}
 use Rattle.its_stepped.specs.Unwind.{unwind_one, all_unwound, help}
@@ -66,10 +67,11 @@ abbrev pub fetched_on : State → ℕ → Site → Result Ask Fault → Ticked
 fetched_on w j s (Ok a) = works (turn w j same (Some (asked s a)))
 fetched_on w j s (Err f) = faults_on w j f
 
--- CORBLK with operation 1 whose decoding gave no error reserves a page, which is cleared a quarter at a tick
+-- a call that makes a page, by its operation 1, and whose decoding gave no error, reserves a page, which is cleared a
+-- quarter at a tick
 abbrev pub makes_page : Option CallName → ℕ → Bool
-makes_page (Some Corblk) operation = operation == 1
-makes_page _ operation = false
+makes_page (Some n) operation = (call_row n).reserves && (operation == 1)
+makes_page None operation = false
 
 unfoldable pub reserves : Ask → Bool
 reserves a = (a.fail == 0) && makes_page (call_named a.name) (input a 0)
@@ -84,16 +86,15 @@ is_disk (Reads f at) = true
 is_disk (Writes f) = true
 is_disk _ = false
 
+abbrev pub is_on_files : Whole → Ask → OnFiles → Bool
+is_on_files q a Never = false
+is_on_files q a ByDevice = input a 1 == disk_device
+is_on_files q a ByChannel = is_disk (channel_at q.channels (input a 0))
+is_on_files q a Always = true
+
 abbrev pub helps_by : Whole → Ask → Option CallName → Bool
-helps_by q a (Some Open) = input a 1 == disk_device
-helps_by q a (Some Close) = is_disk (channel_at q.channels (input a 0))
-helps_by q a (Some Iot) = is_disk (channel_at q.channels (input a 0))
-helps_by q a (Some Siot) = is_disk (channel_at q.channels (input a 0))
-helps_by q a (Some Access) = true
-helps_by q a (Some Fillen) = true
-helps_by q a (Some Delete) = true
-helps_by q a (Some Rename) = true
-helps_by q a _ = false
+helps_by q a (Some n) = is_on_files q a (call_row n).files
+helps_by q a None = false
 
 unfoldable pub helps : Whole → Ask → Bool
 helps q a = if a.fail == 0 then helps_by q a (call_named a.name) else false

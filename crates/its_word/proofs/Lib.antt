@@ -10,3 +10,4 @@ pub mod WordLaws
 pub mod FreeLaws
 pub mod StoreLaws
 pub mod TableLaws
+pub mod ConstantLaws

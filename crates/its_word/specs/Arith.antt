@@ -2,7 +2,7 @@
 -- a is AC and s the source of the row; both are words.
 use Rattle.std.specs.Prelude.{if◌then◌else◌, ◌==◌, ◌&&◌, ◌||◌, not, ℕ, ℤ, pos, negsuc, ◌+◌, ◌*◌, ◌/◌, ◌%◌, ◌^◌, ◌+ℤ◌, ◌*ℤ◌, Bool, true, false, Option, Some, None, [], ◌∷◌, nat_le, nat_lt, int_lt, int_div, int_rem, slice_index_or}
 use Rattle.std.specs.Ordering.{int_eq}
-use Rattle.its_word.specs.declared.flags.TheConstants.{CARRY_0, CARRY_1, OVERFLOW}
+use Rattle.its_word.specs.Flags.{CARRY_0, CARRY_1, OVERFLOW}
 use Rattle.its_word.specs.declared.result2.Result2.{Result2}
 use Rattle.its_word.specs.Result2.{one_word}
 use Rattle.its_word.specs.Word.{complement_of, floor_div, modulo, signed_of, word_of}

@@ -2,7 +2,7 @@
 -- zeros that JFFO counts ("Program control"). e is the effective address, a is AC and b is AC+1.
 use Rattle.std.specs.Prelude.{if◌then◌else◌, ◌==◌, ℕ, ◌+◌, ◌-◌, ◌*◌, ◌/◌, ◌%◌, ◌^◌, Bool, nat_lt}
 use Rattle.std.specs.Int.Count.{count_leading_zeros}
-use Rattle.its_word.specs.declared.flags.TheConstants.{OVERFLOW}
+use Rattle.its_word.specs.Flags.{OVERFLOW}
 use Rattle.its_word.specs.declared.result2.Result2.{Result2}
 use Rattle.its_word.specs.Result2.{one_word}
 

@@ -12,7 +12,6 @@ mod jobs;
 mod limits;
 mod location;
 mod memory;
-mod names;
 mod opcode;
 mod pending;
 mod plan;
@@ -39,10 +38,6 @@ pub use jobs::{Channel, Job};
 pub use limits::{ADDRESSES, BUDGET, MAPPED_PAGES, SLOTS};
 pub use location::Location;
 pub use memory::NoMemory;
-pub use names::{
-    ACCESS, CALLS, CLOSE, CORBLK, CallRow, DELETE, DISMIS, FILLEN, FINISH, HANG, IOT, LISTEN,
-    LOGOUT, OPEN, RENAME, SIOT, SLEEP, TTYLND, UCLOSE, USRMEM, USRVAR,
-};
 pub use opcode::decode;
 pub use pending::{BRK, FATAL, ILO, INF, IOC, MPV, PDL, TBL, WRO};
 pub use plan::{Context, Plan, Reached, Store, Turn};

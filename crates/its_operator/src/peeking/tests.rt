@@ -4,8 +4,8 @@ ghost use Rattle.its_frame.specs.Left.{Few};
 use super::inside;
 use crate::{load_job, load_word, open};
 use arrayvec::ArrayVec;
-use its_frame::{Asked, Ending, Entered, Frame, Holding, Moving, Parsed, Waiting};
-use its_word::{Ask, IOT, Operand, Owed, Peek, PeekState, SIOT, SLEEP, Site, Word};
+use its_frame::{Asked, CallName, Ending, Entered, Frame, Holding, Moving, Parsed, Waiting};
+use its_word::{Ask, Operand, Owed, Peek, PeekState, Site, Word};
 use std::process::Abort;
 use std::test::Fail;
 
@@ -21,9 +21,9 @@ fn site(channel: Option<u8>) -> Site {
 }
 
 /// A call of this name with inputs from these places.
-fn ask(rt: &impl Abort, name: u64, places: &[Option<u32>]) -> Ask {
+fn ask(rt: &impl Abort, name: CallName, places: &[Option<u32>]) -> Ask {
     let mut ask = Ask {
-        name: Word::new(name),
+        name: name.word(),
         fail: 0,
         inputs: ArrayVec::new(),
         outputs: ArrayVec::new(),
@@ -96,8 +96,6 @@ fn frame(state: PeekState, channel: Option<u8>, ask: Ask) -> Frame
     }
 }
 
-const RENAME: u64 = 0o624556415545;
-
 /// What is shown of a frame in each state, by the call's name and the places of its inputs: the word in core, none of
 /// an immediate, at an absent page and past the last address.
 #[test]
@@ -116,84 +114,84 @@ fn frames(rt: HostRuntime) -> Result<(), Fail> {
     let none = [None, None];
     let words = [Some(0o42), Some(0o43)];
     for (state, name, channel, places, left, want, shown, h) in [
-        (PeekState::Entered, SIOT, None, there, 1, None, none, None),
+        (PeekState::Entered, CallName::Siot, None, there, 1, None, none, None),
         (
             PeekState::Parsed,
-            SIOT,
+            CallName::Siot,
             None,
             there,
             1,
-            Some(SIOT),
+            Some(CallName::Siot),
             none,
             None,
         ),
         (
             PeekState::Parsed,
-            SIOT,
+            CallName::Siot,
             Some(5),
             there,
             1,
-            Some(IOT),
+            Some(CallName::Iot),
             none,
             None,
         ),
         (
             PeekState::Asked,
-            SIOT,
+            CallName::Siot,
             None,
             there,
             1,
-            Some(SIOT),
+            Some(CallName::Siot),
             words,
             None,
         ),
         (
             PeekState::Holding,
-            RENAME,
+            CallName::Rename,
             None,
             there,
             2,
-            Some(RENAME),
+            Some(CallName::Rename),
             none,
             None,
         ),
         (
             PeekState::Holding,
-            SLEEP,
+            CallName::Sleep,
             None,
             time,
             2,
-            Some(SLEEP),
+            Some(CallName::Sleep),
             [Some(0o43), None],
             None,
         ),
         (
             PeekState::Waiting,
-            SIOT,
+            CallName::Siot,
             None,
             absent,
             3,
-            Some(SIOT),
+            Some(CallName::Siot),
             none,
             None,
         ),
         (
             PeekState::Moving,
-            SIOT,
+            CallName::Siot,
             None,
             past,
             4,
-            Some(SIOT),
+            Some(CallName::Siot),
             [None, Some(0o43)],
             Some(0o101),
         ),
         (
             PeekState::Ending,
-            SIOT,
+            CallName::Siot,
             None,
             there,
             1,
-            Some(SIOT),
+            Some(CallName::Siot),
             words,
             None,
         ),
@@ -201,7 +199,7 @@ fn frames(rt: HostRuntime) -> Result<(), Fail> {
         let frame = frame(state, channel, ask(&rt, name, &places));
         let wanted = Peek {
             state,
-            name: want.map(Word::new),
+            name: want.map(CallName::word),
             left,
             a: shown[0].map(Word::new),
             b: shown[1].map(Word::new),
