@@ -10,7 +10,7 @@ use Rattle.its_word.specs.declared.session.Event.{Event}
 use Rattle.its_print.specs.Printing.{Line}
 use Rattle.its_print.specs.Printing as printed
 use Rattle.its_plain.specs.CallOperator.{Lined, Done, Peeks, lined}
-use Rattle.its_plain.specs.Course.{Inward, Outward, moves, Lines, Steps, Course, rests, onward, after_step, paced, letters, past, course, run_of}
+use Rattle.its_plain.specs.Course.{Lines, Steps, Course, rests, onward, after_step, paced, letters, past, course, run_of}
 use Rattle.its_plain.specs.Ledger.{typed_by, typed_at, byte_of, drained_by, Balanced, Ledger}
 use Rattle.its_plain.specs.Ledger as books
 use Rattle.its_plain.specs.Machine.{Machine, no_machine}
@@ -20,6 +20,8 @@ use Rattle.its_plain.specs.Transcript.{Fate, Walk, at_start, after_letter, after
 use Rattle.its_plain.proofs.RunLaws.{PacedOn, LinedOn, Run, shows_run}
 use Rattle.its_top.proofs.MoveLaws.{Passes, step_passes}
 use Rattle.its_top.proofs.ShownLaws.{Shows, ShowsBy, Few, line_shows}
+use Rattle.its_plain.specs.Moves.{Inward, Outward}
+use Rattle.its_plain.specs.CallStep.{moves}
 
 -- the ledger of console c from machine m on, along a run that shows these lines
 record From (c : ℕ) (m : Machine) (u : Course) (lines : List Line) : Type 0 where
