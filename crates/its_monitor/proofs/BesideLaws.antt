@@ -18,7 +18,7 @@ use Rattle.its_frame.specs.declared.frame.Frame.{Frame}
 use Rattle.its_frame.specs.declared.frame.Frame.TheVariants.{Entered, Parsed, Asked, Holding, Waiting, Moving, Ending}
 use Rattle.its_plain.specs.Arguments.{debts}
 use Rattle.its_plain.specs.Ask.{items_of, parse, fetch}
-use Rattle.its_plain.specs.CallStep.{becomes, faulted, informs, told, decision, among, disturbed}
+use Rattle.its_plain.specs.CallStep.{becomes, faulted, informs, informed_slots, decision, among, disturbed}
 use Rattle.its_plain.specs.Change.{superiors, with_inf, effect}
 use Rattle.its_plain.specs.Decide.{reach}
 use Rattle.its_plain.specs.Decode.{Shape, shaped, ask, ask_of, ask_by, parse_by, parse_of}
@@ -147,7 +147,7 @@ unit_beside w j k q (Faulted f) ne sound is runs none d u =
     (turn_others w j k (faulted f) None ne)
 unit_beside w j k q (Called s) ne sound is runs none d u = turn_others w j k same (Some (entered s)) ne
 
-informs_others : (b : Bool) (o : Option ℕ) (v : State) (j k : ℕ) → among k (told b o) ≡ false → SlotSame v (effects_on (informs b o) j v) k
+informs_others : (b : Bool) (o : Option ℕ) (v : State) (j k : ℕ) → among k (informed_slots b o) ≡ false → SlotSame v (effects_on (informs b o) j v) k
 unfolding effect_on effect
 informs_others true (Some s) v j k h = record { job = on_slot_other v.raw.jobs s k with_inf (among_not_first s k [] h); frame = refl; page = refl }
 informs_others true None v j k h = slot_same v k
@@ -158,7 +158,7 @@ user_beside : (w : State) (j k : ℕ) (q : Whole) (b : Bool) → k ≢ j → Sou
 user_beside w j k q false ne sound is runs none d = unit_beside w j k q (unit q.core q.job) ne sound is runs none d refl
 user_beside w j k q true ne sound is runs none d =
     let n = delivered q.core q.job in
-    let ks : List ℕ = told n.stops q.superior in
+    let ks : List ℕ = informed_slots n.stops q.superior in
     let cs : List Change = informs n.stops q.superior in
     let v : State = all_unwound ks w in
     let whom : disturbed (plain w) j k ≡ among k ks =

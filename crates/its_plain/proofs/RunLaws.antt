@@ -9,10 +9,10 @@ use Rattle.its_word.specs.declared.session.Event.{Event}
 use Rattle.its_word.specs.declared.show.Peek.{Peek}
 use Rattle.its_print.specs.Printing.{Line, Refused}
 use Rattle.its_print.specs.Printing as printed
-use Rattle.its_plain.specs.CallOperator.{Lined, Done, Peeks, lined}
+use Rattle.its_plain.specs.OperatorLines.{Lined, Done, Peeks, lined}
 use Rattle.its_plain.specs.Licence.{Licensed, most_dots}
 use Rattle.its_plain.specs.Machine.{Machine}
-use Rattle.its_plain.specs.Operator.{Refuses, Does, Ticks, Ends}
+use Rattle.its_plain.specs.Operator.{Refuses, Does, Ticks, Quits}
 use Rattle.its_plain.specs.Transcript.{Fate, Ended, Open, Lost, TooLong, Walk, after_letter, after_line, next_line, Paced, none, letter, Shows, ended, input_ends, too_long, unread, refused, obeyed, ticked, peeked}
 
 -- each letter is licensed in turn, and what follows goes on from there
@@ -26,7 +26,7 @@ LinedOn v (Done (Refuses r)) next lines fate = (lines ≡ Refused v.line r ∷ [
 LinedOn v (Done (Does n out touched b)) next lines fate = (rest : List Line) × (lines ≡ out ++ rest) × next (next_line (after_line v n touched b)) rest
 LinedOn v (Done (Ticks i k)) next lines fate =
     (ps : List Pace) × (rest : List Line) × (lines ≡ printed.Ticks i ps ∷ rest) × (length ps ≡ k) × PacedOn v i ps (λ w. next (next_line w) rest)
-LinedOn v (Done Ends) next lines fate = (lines ≡ []) × (fate ≡ Ended)
+LinedOn v (Done Quits) next lines fate = (lines ≡ []) × (fate ≡ Ended)
 LinedOn v (Peeks i) next lines fate = (peek : Peek) × (rest : List Line) × (lines ≡ printed.Peeked i peek ∷ rest) × next (next_line v) rest
 
 -- the events from here on
@@ -46,7 +46,7 @@ lined_run : (v : Walk) (e : Event) (es : List Item) (lines : List Line) (fate : 
 lined_run v e es lines fate l is h = subst (λ (l : Lined). LinedOn v l (λ w rest. Run w es rest fate) lines fate) (sym is) h
 
 pub shows_run : (v : Walk) (es : List Item) (lines : List Line) (fate : Fate) → Shows v es lines fate → Run v es lines fate
-shows_run v (Read e ∷ es) lines fate (ended is) = lined_run v e es [] Ended (Done Ends) is (refl, refl)
+shows_run v (Read e ∷ es) lines fate (ended is) = lined_run v e es [] Ended (Done Quits) is (refl, refl)
 shows_run v [] lines fate input_ends = (refl, refl)
 shows_run v (Beyond ∷ es) lines fate too_long = (refl, refl)
 shows_run v (Unread r ∷ es) lines fate unread = (refl, refl)
@@ -78,7 +78,7 @@ lined_shows v e es (Done (Does n out touched b)) lines fate is h more = obeyed i
 lined_shows v e es (Done (Ticks i k)) lines fate is h more =
     let p = on_paced v i h.0 (λ w. Run (next_line w) es h.1 fate) h.4 in
     rw h.2 (ticked is h.3 p.paces (more (next_line p.to) h.1 p.next))
-lined_shows v e es (Done Ends) lines fate is h more = rw (h.0, h.1) (ended is)
+lined_shows v e es (Done Quits) lines fate is h more = rw (h.0, h.1) (ended is)
 lined_shows v e es (Peeks i) lines fate is h more = rw h.2 (peeked is (more (next_line v) h.1 h.3))
 
 pub run_shows : (v : Walk) (es : List Item) (lines : List Line) (fate : Fate) → Run v es lines fate → Shows v es lines fate

@@ -97,10 +97,10 @@ by_unit m j q (Faulted f) = Some (alone (in_job m j (faulted f)))
 by_unit m j q (Called s) = by_ask m j q (ask q.core s)
 
 -- a delivery: where a fatal bit stops the job, INF is set in its superior
-abbrev pub told : Bool → Option ℕ → List ℕ
-told true (Some s) = s ∷ []
-told true None = []
-told false o = []
+abbrev pub informed_slots : Bool → Option ℕ → List ℕ
+informed_slots true (Some s) = s ∷ []
+informed_slots true None = []
+informed_slots false o = []
 
 abbrev pub informs : Bool → Option ℕ → List Change
 informs true (Some s) = changes.Inform s ∷ []
@@ -111,7 +111,7 @@ abbrev pub delivery : Machine → ℕ → Whole → Delivered → Transition
 delivery m j q d = record {
   machine = in_job (effects (informs d.stops q.superior) j m) j (becomes d.core d.job);
   moves = [];
-  disturbs = told d.stops q.superior;
+  disturbs = informed_slots d.stops q.superior;
   part = false;
 }
 

@@ -7,10 +7,9 @@ use Rattle.its_word.specs.declared.session.Event.{Event}
 use Rattle.its_print.specs.Printing.{Line}
 use Rattle.its_print.specs.Printing as printed
 use Rattle.its_plain.specs.Machine.{Machine, no_machine}
-use Rattle.its_plain.specs.Operator.{Block, no_block, Operated, Refuses, Does, Ticks}
-use Rattle.its_plain.specs.Operator as operator
+use Rattle.its_plain.specs.Operator.{Block, no_block, Operated, Refuses, Does, Ticks, Quits}
 use Rattle.its_plain.specs.CallStep.{step}
-use Rattle.its_plain.specs.CallOperator.{Lined, Done, Peeks, lined}
+use Rattle.its_plain.specs.OperatorLines.{Lined, Done, Peeks, lined}
 
 -- what happens at a moment of a run: a line of the session does something, or the job of a slot steps
 pub data Deed : Type 0 where
@@ -54,7 +53,7 @@ abbrev pub past : Machine → Block → Event → Lined → List Line → (Machi
 past m b e (Done (Refuses r)) lines next = rests m
 past m b e (Done (Does n out touched b')) lines next = onward m (Lines e) (next n b' (drop (length out) lines))
 past m b e (Done (Ticks s k)) lines next = paced m s (letters lines) (λ n. next n b (drop 1 lines))
-past m b e (Done operator.Ends) lines next = rests m
+past m b e (Done Quits) lines next = rests m
 past m b e (Peeks s) lines next = next m b (drop 1 lines)
 
 -- the run of these events, which show these lines, from a machine on

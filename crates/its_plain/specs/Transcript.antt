@@ -9,10 +9,10 @@ use Rattle.its_word.specs.declared.session.Reason.{Reason}
 use Rattle.its_word.specs.declared.show.Peek.{Peek}
 use Rattle.its_print.specs.Printing.{Line, Refused}
 use Rattle.its_print.specs.Printing as printed
-use Rattle.its_plain.specs.CallOperator.{Lined, Done, Peeks, lined}
+use Rattle.its_plain.specs.OperatorLines.{Lined, Done, Peeks, lined}
 use Rattle.its_plain.specs.Licence.{Licensed, Dots, most_dots, dots_after, dots_after_line}
 use Rattle.its_plain.specs.Machine.{Machine, no_machine}
-use Rattle.its_plain.specs.Operator.{Block, no_block, Refuses, Does, Ticks, Ends}
+use Rattle.its_plain.specs.Operator.{Block, no_block, Refuses, Does, Ticks, Quits}
 
 -- how a session ends: at END, at the end of the events, with a refused line, or where a line past the most that a
 -- session may have begins
@@ -61,7 +61,7 @@ Comes v e o = lined v.machine v.block e ≡ o
 pub data Shows : Walk → List Item → List Line → Fate → Type 0 where
   -- END
   ended : {v : Walk} {e : Event} {es : List Item}
-      → Comes v e (Done Ends)
+      → Comes v e (Done Quits)
       → Shows v (Read e ∷ es) [] Ended
   -- the input ends
   input_ends : {v : Walk} → Shows v [] [] Open

@@ -29,7 +29,7 @@ use Rattle.its_plain.specs.CallStep.{with_held, acted, decision, informs, step}
 use Rattle.its_plain.specs.Change.{in_job, is_gone, left_job, removed, superiors, console_in, inferior, poke, effect, effects}
 use Rattle.its_plain.specs.Interrupt.{Entry, entries_of, first_entry, pushed, at_handler, by_stores, by_pointer, by_entry, by_length, by_table, through_table, unguarded, delivered}
 use Rattle.its_plain.specs.Machine.{Shut, Whole, Machine, changed, with_job, no_machine}
-use Rattle.its_plain.specs.Operator.{new_job, with_holder, loaded_in, loaded}
+use Rattle.its_plain.specs.OperatorJobs.{new_job, with_holder, loaded_in, loaded}
 use Rattle.its_plain.specs.Own.{with_stores, leave, on_channel, with_variable}
 use Rattle.its_plain.specs.Unit.{Changed, unit}
 use Rattle.its_plain.proofs.UnitLaws.{unit_keeps}

@@ -17,7 +17,7 @@ use Rattle.its_frame.specs.declared.frame.Frame.{Frame}
 use Rattle.its_frame.specs.declared.frame.Frame.TheVariants.{Entered, Parsed, Asked, Holding, Waiting, Moving, Ending}
 use Rattle.its_plain.specs.Ask.{parse, fetch}
 use Rattle.its_plain.specs.Arguments.{debts}
-use Rattle.its_plain.specs.CallStep.{informs, told, decision, among, disturbed, Transition, acted, transition, disturbs_in}
+use Rattle.its_plain.specs.CallStep.{informs, informed_slots, decision, among, disturbed, Transition, acted, transition, disturbs_in}
 use Rattle.its_plain.specs.Decide.{reach}
 use Rattle.its_plain.specs.Interrupt.{deliverable, delivered}
 use Rattle.its_plain.specs.Machine.{Whole, Machine, changed}
@@ -112,7 +112,7 @@ user_dots : (w : State) (j : ℕ) (q : Whole) (b : Bool) → Sound w → w.raw.j
 user_dots w j q false sound is runs none d = unit_dots w j (unit q.core q.job) none
 user_dots w j q true sound is runs none d =
     let n = delivered q.core q.job in
-    let ks = told n.stops q.superior in
+    let ks = informed_slots n.stops q.superior in
     let cs = informs n.stops q.superior in
     let v = all_unwound ks w in
     turn_steps w _ j None (λ k ne t.

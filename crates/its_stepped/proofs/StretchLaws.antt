@@ -17,7 +17,7 @@ use Rattle.its_frame.specs.declared.decision.Decision.{Decision}
 use Rattle.its_frame.specs.declared.decision.Decision.TheVariants.{Waits, Goes, Ends, Gone}
 use Rattle.its_frame.specs.declared.name.CallName.TheVariants.{Siot}
 use Rattle.its_plain.specs.Arguments.{input}
-use Rattle.its_plain.specs.CallOperator.{operate, Lined, Done, Peeks, lined}
+use Rattle.its_plain.specs.OperatorLines.{operate, Lined, Done, Peeks, lined, by_exam, by_state}
 use Rattle.its_plain.specs.CallStep.{acted, decision, step, Transition, by_delivery, unless_stopped, transition_of, transition, part_in, steps_on}
 use Rattle.its_plain.specs.Course.{Deed, Lines, Steps, Moment, Course, rests, onward, after_step, paced, letters, past, course, run_of}
 use Rattle.its_plain.specs.Decide.{call_named, reach}
@@ -25,8 +25,8 @@ use Rattle.its_plain.specs.Footprint.{Stands}
 use Rattle.its_plain.specs.Interrupt.{deliverable}
 use Rattle.its_plain.specs.Machine.{Whole, Machine, changed}
 use Rattle.its_plain.specs.OneByte.{rest_of_transfer, ByteBy}
-use Rattle.its_plain.specs.Operator.{Block, no_block, Operated, Refuses, Does, Ticks, interrupted, stopped, continued, on_job, with_registers, on_registers, examined, state_shown, disturbs, by_exam, by_state}
-use Rattle.its_plain.specs.Operator as operator
+use Rattle.its_plain.specs.Operator.{Block, no_block, Operated, Refuses, Does, Ticks, Quits, disturbs}
+use Rattle.its_plain.specs.OperatorJobs.{interrupted, stopped, continued, on_job, with_registers, on_registers, examined, state_shown}
 use Rattle.its_plain.specs.Stretch.{Untouched, machine_at, is_own, Fits, Stretch, counted, parts_in, incremented, rest_after, ByteOf, InOrder_by, InOrder, StandsAt, Transferred, end_of, begin_of, Stretches}
 use Rattle.its_stepped.specs.Forest.{Forest}
 use Rattle.its_stepped.proofs.DecodingLaws.{input_word, siot_inputs}
@@ -84,7 +84,7 @@ run_past m b e (Done (Does n out touched c)) lines next is forest h =
     let rest = drop (length out) lines in
     run_onward m n (Lines e) (next n c rest) forest tt (h n c rest (line_forest m n b c e out touched forest is))
 run_past m b e (Done (Ticks s k)) lines next is forest h = run_paced m s (letters lines) (λ n. next n b (drop 1 lines)) forest (λ n f. h n b (drop 1 lines) f)
-run_past m b e (Done operator.Ends) lines next is forest h = run_rests m
+run_past m b e (Done Quits) lines next is forest h = run_rests m
 run_past m b e (Peeks s) lines next is forest h = h m b (drop 1 lines) forest
 
 run_course : (m : Machine) (b : Block) (es : List Item) (lines : List Line) → Forest m → RunFrom m (course m b es lines)

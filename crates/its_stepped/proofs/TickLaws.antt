@@ -14,7 +14,7 @@ use Rattle.its_frame.specs.declared.frame.Waiting
 use Rattle.its_frame.specs.declared.frame.Frame.TheVariants.{Entered, Parsed, Asked, Holding, Waiting, Moving, Ending}
 use Rattle.its_plain.specs.Ask.{parse, fetch, ask}
 use Rattle.its_plain.specs.Arguments.{debts}
-use Rattle.its_plain.specs.CallStep.{becomes, faulted, informs, told, delivery, acted, decision, step, among, Transition, transition}
+use Rattle.its_plain.specs.CallStep.{becomes, faulted, informs, informed_slots, delivery, acted, decision, step, among, Transition, transition}
 use Rattle.its_plain.specs.Change.{in_job, effects}
 use Rattle.its_plain.specs.Decide.{reach}
 use Rattle.its_plain.specs.Interrupt.{Delivered, deliverable, delivered}
@@ -119,17 +119,17 @@ unfolding plain
 reserving_plain w j r = refl
 
 -- a delivery: the superior that is told is unwound first
-informs_quiet : (v : State) (j : ℕ) (b : Bool) (o : Option ℕ) → ((s : ℕ) → among s (told b o) ≡ true → v.frames s ≡ None) → AllQuiet (informs b o) j v
+informs_quiet : (v : State) (j : ℕ) (b : Bool) (o : Option ℕ) → ((s : ℕ) → among s (informed_slots b o) ≡ true → v.frames s ≡ None) → AllQuiet (informs b o) j v
 informs_quiet v j true (Some s) h = (record { still = subst IsStill (sym (h s (among_first s []))) tt; other = λ ne. h s (among_first s []) }, tt)
 informs_quiet v j true None h = tt
 informs_quiet v j false o h = tt
 
-pub told_quiet : (w : State) (j : ℕ) (b : Bool) (o : Option ℕ) → Sound w → AllQuiet (informs b o) j (all_unwound (told b o) w)
-told_quiet w j b o sound = informs_quiet (all_unwound (told b o) w) j b o (λ s h. all_unwound_none (told b o) w s sound h)
+pub told_quiet : (w : State) (j : ℕ) (b : Bool) (o : Option ℕ) → Sound w → AllQuiet (informs b o) j (all_unwound (informed_slots b o) w)
+told_quiet w j b o sound = informs_quiet (all_unwound (informed_slots b o) w) j b o (λ s h. all_unwound_none (informed_slots b o) w s sound h)
 
 delivered_plain : (w : State) (j : ℕ) (q : Whole) (d : Delivered) → Sound w → w.frames j ≡ None → plain (delivered_on w j q d) ≡ (delivery (plain w) j q d).machine
 delivered_plain w j q d sound none =
-    let ks = told d.stops q.superior in
+    let ks = informed_slots d.stops q.superior in
     let cs = informs d.stops q.superior in
     let v = all_unwound ks w in
     let here : (effects_on cs j v).frames j ≡ None = frames_none cs j v j (all_unwound_keeps ks w j sound none) in

@@ -9,13 +9,12 @@ use Rattle.its_word.specs.declared.calls.Pace.TheVariants.{Step, Work, Wait, Off
 use Rattle.its_word.specs.declared.session.Event.{Event}
 use Rattle.its_print.specs.Printing.{Line}
 use Rattle.its_print.specs.Printing as printed
-use Rattle.its_plain.specs.CallOperator.{Lined, Done, Peeks, lined}
+use Rattle.its_plain.specs.OperatorLines.{Lined, Done, Peeks, lined}
 use Rattle.its_plain.specs.Course.{Lines, Steps, Course, rests, onward, after_step, paced, letters, past, course, run_of}
 use Rattle.its_plain.specs.Ledger.{typed_by, typed_at, byte_of, drained_by, Balanced, Ledger}
 use Rattle.its_plain.specs.Ledger as books
 use Rattle.its_plain.specs.Machine.{Machine, no_machine}
-use Rattle.its_plain.specs.Operator.{Block, no_block, Refuses, Does, Ticks}
-use Rattle.its_plain.specs.Operator as operator
+use Rattle.its_plain.specs.Operator.{Block, no_block, Refuses, Does, Ticks, Quits}
 use Rattle.its_plain.specs.Transcript.{Fate, Walk, at_start, after_letter, after_line, next_line, Transcript}
 use Rattle.its_plain.proofs.RunLaws.{PacedOn, LinedOn, Run, shows_run}
 use Rattle.its_top.proofs.MoveLaws.{Passes, step_passes}
@@ -116,7 +115,7 @@ from_lined c v e es lines fate (Done (Ticks i k)) few s t h =
         (λ w same few' run. subst (λ b. From c w.machine (course w.machine b es rest) rest) same (h (next_line w) rest few' run)) in
     subst (λ ls. From c m (paced m i (letters ls) (λ l. course l v.block es (drop 1 ls))) ls) (sym t.2)
     (from_shown c m (paced m i ps walk) (printed.Ticks i ps) rest refl next)
-from_lined c v e es lines fate (Done operator.Ends) few s t h = from_rest c v.machine lines (ap (flat_map (drained_by c)) t.0)
+from_lined c v e es lines fate (Done Quits) few s t h = from_rest c v.machine lines (ap (flat_map (drained_by c)) t.0)
 from_lined c v e es lines fate (Peeks i) few s t h =
     let m = v.machine in
     let rest = t.1 in
