@@ -7,7 +7,7 @@ use Rattle.its_word.specs.declared.session.Event.{Event}
 use Rattle.its_print.specs.Printing.{Line}
 use Rattle.its_print.specs.Printing as printed
 use Rattle.its_plain.specs.Machine.{Machine, no_machine}
-use Rattle.its_plain.specs.Operator.{Block, no_block, Operated, Refuses, Does, Ticks, Quits}
+use Rattle.its_plain.specs.Operator.{Block, no_block, Refuses, Does, Ticks, Quits}
 use Rattle.its_plain.specs.CallStep.{step}
 use Rattle.its_plain.specs.OperatorLines.{Lined, Done, Peeks, lined}
 

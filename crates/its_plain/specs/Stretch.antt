@@ -33,8 +33,8 @@ abbrev pub is_own : ℕ → Deed → Bool
 is_own j (Steps i) = i == j
 is_own j (Lines e) = false
 
--- a stretch of a run: each moment is a step of the job of slot j that is a part of its call, or leaves its core and its PC
--- as they are. Lines and steps of others may do what they like to all else
+-- a stretch of a run: each moment is a step of the job of slot j that is a part of its call, or leaves its core and its
+-- PC as they are. Lines and steps of others may do what they like to all else
 abbrev pub Fits : Bool → ℕ → Machine → Machine → Type 0
 Fits true j m n = steps_on m j ≡ true
 Fits false j m n = Untouched (m.jobs j) (n.jobs j)
@@ -119,4 +119,5 @@ pub record TransferStretch (u : Course) (j : ℕ) : Type 0 where
 
 -- each stretch of a transfer, in the run of these events, which show these lines, moves its bytes once and in order
 pub record Stretches (es : List Item) (lines : List Line) : Type 0 where
-  pub each : (j : ℕ) (x : TransferStretch (run_of es lines) j) → Transferred j x.site x.ask x.section.moments (end_of (run_of es lines) x.section)
+  pub each : (j : ℕ) (x : TransferStretch (run_of es lines) j)
+      → Transferred j x.site x.ask x.section.moments (end_of (run_of es lines) x.section)

@@ -60,35 +60,35 @@ Comes v e o = lined v.machine v.block e ≡ o
 -- from where a session stands on, these events show these lines, no more and no fewer, and it ends so
 pub data Shows : Walk → List Item → List Line → Fate → Type 0 where
   -- END
-  ended : {v : Walk} {e : Event} {es : List Item}
+  end_line : {v : Walk} {e : Event} {es : List Item}
       → Comes v e (Done Quits)
       → Shows v (Read e ∷ es) [] Ended
   -- the input ends
-  input_ends : {v : Walk} → Shows v [] [] Open
+  input_end : {v : Walk} → Shows v [] [] Open
   -- a line past the most that a session may have
   too_long : {v : Walk} {es : List Item} → Shows v (Beyond ∷ es) [] TooLong
   -- a line that is none of the session's grammar
-  unread : {v : Walk} {r : Reason} {es : List Item} → Shows v (Unread r ∷ es) (Refused v.line r ∷ []) Lost
-  -- a line that is refused
-  refused : {v : Walk} {e : Event} {r : Reason} {es : List Item}
+  unread_line : {v : Walk} {r : Reason} {es : List Item} → Shows v (Unread r ∷ es) (Refused v.line r ∷ []) Lost
+  -- a line that the machine refuses
+  refused_line : {v : Walk} {e : Event} {r : Reason} {es : List Item}
       → Comes v e (Done (Refuses r))
       → Shows v (Read e ∷ es) (Refused v.line r ∷ []) Lost
-  -- a line that is obeyed: what it shows comes first
-  obeyed : {v : Walk} {e : Event} {n : Machine} {out : List Line} {touched : ℕ → Bool} {b : Block}
+  -- any other line: what it shows comes first
+  obeyed_line : {v : Walk} {e : Event} {n : Machine} {out : List Line} {touched : ℕ → Bool} {b : Block}
       {es : List Item} {lines rest : List Line} {fate : Fate}
       → Comes v e (Done (Does n out touched b))
       → lines ≡ out ++ rest
       → Shows (next_line (after_line v n touched b)) es rest fate
       → Shows v (Read e ∷ es) lines fate
   -- TICK: a `T` line with as many letters as there are ticks
-  ticked : {v w : Walk} {e : Event} {i k : ℕ} {ps : List Pace} {es : List Item} {rest : List Line} {fate : Fate}
+  tick_line : {v w : Walk} {e : Event} {i k : ℕ} {ps : List Pace} {es : List Item} {rest : List Line} {fate : Fate}
       → Comes v e (Done (Ticks i k))
       → length ps ≡ k
       → Paced i v ps w
       → Shows (next_line w) es rest fate
       → Shows v (Read e ∷ es) (printed.Ticks i ps ∷ rest) fate
   -- PEEK: a `P` line, which may say anything
-  peeked : {v : Walk} {e : Event} {i : ℕ} {peek : Peek} {es : List Item} {rest : List Line} {fate : Fate}
+  peek_line : {v : Walk} {e : Event} {i : ℕ} {peek : Peek} {es : List Item} {rest : List Line} {fate : Fate}
       → Comes v e (Peeks i)
       → Shows (next_line v) es rest fate
       → Shows v (Read e ∷ es) (printed.Peeked i peek ∷ rest) fate

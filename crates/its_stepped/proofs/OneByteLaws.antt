@@ -7,7 +7,7 @@ use Rattle.its_word.specs.Byte.{load_of, deposit_of}
 use Rattle.its_word.specs.Core.{Core, word_at, can_store, store}
 use Rattle.its_word.specs.Stores.{stored}
 use Rattle.its_word.specs.Word.{right_of}
-use Rattle.its_word.proofs.CoreLaws.{word_at-store_same}
+use Rattle.its_word.proofs.CoreLaws.{word_at-store_same, word_at-can_store}
 use Rattle.its_word.specs.declared.calls.Ask.{Ask}
 use Rattle.its_word.specs.declared.calls.Operand.{Operand}
 use Rattle.its_word.specs.declared.calls.Site.{Site}
@@ -30,7 +30,7 @@ use Rattle.its_plain.specs.Decide.{call_named, decided_by, decided, target, reac
 use Rattle.its_plain.specs.Footprint.{Stands, in_footprint}
 use Rattle.its_plain.specs.Interrupt.{deliverable}
 use Rattle.its_plain.specs.Machine.{Names, File, Chan, Shut, TtyIn, TtyOut, Reads, Writes, On, Whole, Machine, changed}
-use Rattle.its_plain.specs.OneByte.{ComesIn, GoesOut, word_named, Bears, new_arguments, rest_of_transfer, ByteBy, EachByte}
+use Rattle.its_plain.specs.OneByte.{ComesIn, GoesOut, word_named, Bears, new_arguments, rest_of_transfer, ByteBy, EachByte, Deposited}
 use Rattle.its_plain.specs.CallUsr.{other_core, at_end, siot_peeks, siot_pokes, siot_beside, siot_usr}
 use Rattle.its_plain.specs.Own.{with_stores, at_position, with_word, on_channel}
 use Rattle.its_plain.specs.Tests.{◌⇒◌, fails, goes}
@@ -76,18 +76,27 @@ stored_byte : (c : Core) (b w : ℕ) → b % 2 ^ 18 ≡ b → can_store c b ≡ 
 unfolding stored
 stored_byte c b w at can = ap (λ (i : ℕ). word_at (store c i w) b) at ∙ word_at-store_same c b w can
 
+pub some_or : {X : Type 0} (o : Option X) (d : X) → is_some o ≡ true → o ≡ Some (unwrap_or o d)
+some_or (Some x) d h = refl
+some_or None d h = cc
+
 byte_there : (q : Whole) (s : Site) (a : Ask) (h : Option Held) (w i : ℕ) → input (revalued a (w ∷ i ∷ [])) 1 ≡ w → IfSome h (λ b. in_footprint b.place a ≡ false)
     → IfSome h (λ b. HeldFits q.core (debts a 0) 2 b) → Stands (moved a h (w ∷ i ∷ []) q).core q.job s (revalued a (w ∷ i ∷ []))
-    → IfSome h (λ b. word_at (moved a h (w ∷ i ∷ []) q).core b.place ≡ Some (deposit_of w (unwrap_or (word_at q.core b.place) 0) b.byte))
+    → IfSome h (Deposited q.core (moved a h (w ∷ i ∷ []) q).core w)
 byte_there q s a None w i e out f st = tt
 byte_there q s a (Some b) w i e out f st =
     let rest : Ask = revalued a (w ∷ i ∷ []) in
-    let word : ℕ → ℕ = λ (p : ℕ). deposit_of p (unwrap_or (word_at q.core b.place) 0) b.byte in
+    let was : ℕ = unwrap_or (word_at q.core b.place) 0 in
+    let word : ℕ → ℕ = λ (p : ℕ). deposit_of p was b.byte in
     let c : Core = (moved a (Some b) (w ∷ i ∷ []) q).core in
-    word_apart (with_held rest (Some b) q).core b.place (debts rest 2)
-    (debts_apart c rest 2 b.place (decoding.fetched c q.job s rest st) (footprint_same b.place a (w ∷ i ∷ []) ∙ out))
-    ∙ stored_byte q.core b.place (word (input rest 1)) f.placed f.can
-    ∙ ap (λ (p : ℕ). Some (word p)) e
+    record {
+      word = was;
+      was = some_or (word_at q.core b.place) 0 (word_at-can_store q.core b.place f.can);
+      is = word_apart (with_held rest (Some b) q).core b.place (debts rest 2)
+          (debts_apart c rest 2 b.place (decoding.fetched c q.job s rest st) (footprint_same b.place a (w ∷ i ∷ []) ∙ out))
+          ∙ stored_byte q.core b.place (word (input rest 1)) f.placed f.can
+          ∙ ap (λ (p : ℕ). Some (word p)) e;
+    }
 
 -- the stores of a part are the same whatever the channels of its job are on
 moved_is : (a : Ask) (h : Option Held) (vs : List ℕ) (q : Whole) (cs : ℕ → Chan)

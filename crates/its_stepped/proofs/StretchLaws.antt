@@ -33,7 +33,7 @@ use Rattle.its_stepped.proofs.DecodingLaws.{input_word, siot_inputs}
 use Rattle.its_stepped.proofs.FitLaws.{forest_steps}
 use Rattle.its_stepped.proofs.ForestLaws.{forest_starts}
 use Rattle.its_stepped.proofs.FrameLaws.{changed_only}
-use Rattle.its_stepped.proofs.OneByteLaws.{rest_pointer, rest_count, decides_error, each_byte, stands_acts}
+use Rattle.its_stepped.proofs.OneByteLaws.{rest_pointer, rest_count, decides_error, each_byte, stands_acts, some_or}
 use Rattle.its_stepped.proofs.PcLaws.{stands_same}
 use Rattle.its_stepped.proofs.WrittenLaws.{line_forest}
 use Rattle.its_stepped.proofs.CallDuties.{named_same}
@@ -141,10 +141,6 @@ part_acts m j a ks (Goes cs h vs) = refl
 part_acts m j a ks (Waits r) = refl
 part_acts m j a ks (Ends cs ss x) = refl
 part_acts m j a ks (Gone cs) = refl
-
-some_or : {X : Type 0} (o : Option X) (d : X) → is_some o ≡ true → o ≡ Some (unwrap_or o d)
-some_or (Some x) d h = refl
-some_or None d h = cc
 
 part_steps : (o : Option Transition) → part_in o ≡ true → is_some (option_map (λ (t : Transition). t.machine) o) ≡ true
 part_steps (Some t) h = refl
