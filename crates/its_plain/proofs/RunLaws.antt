@@ -13,7 +13,7 @@ use Rattle.its_plain.specs.OperatorLines.{Lined, Done, Peeks, lined}
 use Rattle.its_plain.specs.Licence.{Licensed, most_dots}
 use Rattle.its_plain.specs.Machine.{Machine}
 use Rattle.its_plain.specs.Operator.{Refuses, Does, Ticks, Quits}
-use Rattle.its_plain.specs.Transcript.{Fate, Ended, Open, Lost, TooLong, Walk, after_letter, after_line, next_line, Paced, none, letter, Shows, end_line, input_end, too_long, unread_line, refused_line, obeyed_line, tick_line, peek_line}
+use Rattle.its_plain.specs.Transcript.{Fate, Ended, Open, Lost, TooLong, Walk, after_letter, walk_after, next_line, Paced, none, letter, Shows, end_line, input_end, too_long, unread_line, refused_line, obeyed_line, tick_line, peek_line}
 
 -- each letter is licensed in turn, and what follows goes on from there
 abbrev pub PacedOn : Walk → ℕ → List Pace → (Walk → Type 0) → Type 0
@@ -23,7 +23,7 @@ PacedOn v i (p ∷ ps) next = (n : Machine) × Licensed v.machine i p n × (p �
 -- a line that comes to this
 abbrev pub LinedOn : Walk → Lined → (Walk → List Line → Type 0) → List Line → Fate → Type 0
 LinedOn v (Done (Refuses r)) next lines fate = (lines ≡ Refused v.line r ∷ []) × (fate ≡ Lost)
-LinedOn v (Done (Does n out touched b)) next lines fate = (rest : List Line) × (lines ≡ out ++ rest) × next (next_line (after_line v n touched b)) rest
+LinedOn v (Done (Does n out touched b)) next lines fate = (rest : List Line) × (lines ≡ out ++ rest) × next (next_line (walk_after v n touched b)) rest
 LinedOn v (Done (Ticks i k)) next lines fate =
     (ps : List Pace) × (rest : List Line) × (lines ≡ printed.Ticks i ps ∷ rest) × (length ps ≡ k) × PacedOn v i ps (λ w. next (next_line w) rest)
 LinedOn v (Done Quits) next lines fate = (lines ≡ []) × (fate ≡ Ended)
@@ -52,7 +52,7 @@ shows_run v (Beyond ∷ es) lines fate too_long = (refl, refl)
 shows_run v (Unread r ∷ es) lines fate unread_line = (refl, refl)
 shows_run v (Read e ∷ es) lines fate (refused_line {r = r} is) = lined_run v e es (Refused v.line r ∷ []) Lost (Done (Refuses r)) is (refl, refl)
 shows_run v (Read e ∷ es) lines fate (obeyed_line {n = n} {out = out} {touched = touched} {b = b} {rest = rest} is at more) =
-    lined_run v e es lines fate (Done (Does n out touched b)) is (rest, at, shows_run (next_line (after_line v n touched b)) es rest fate more)
+    lined_run v e es lines fate (Done (Does n out touched b)) is (rest, at, shows_run (next_line (walk_after v n touched b)) es rest fate more)
 shows_run v (Read e ∷ es) lines fate (tick_line {w = w} {i = i} {k = k} {ps = ps} {rest = rest} is long paces more) =
     lined_run v e es (printed.Ticks i ps ∷ rest) fate (Done (Ticks i k)) is
     (ps, rest, refl, long, paced_on paces (λ w. Run (next_line w) es rest fate) (shows_run (next_line w) es rest fate more))

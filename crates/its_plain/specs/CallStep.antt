@@ -2,7 +2,6 @@
 -- else the whole effect of its call where its decoding faults or it is ready. What it does is said at once, case by
 -- case: the machine after it, the bytes that it moves, and the jobs that it disturbs.
 use Rattle.std.specs.Prelude.{◌==◌, ℕ, Bool, true, false, Option, Some, None, List, [], ◌∷◌, length, Result, Ok, Err, option_map, unwrap_or}
-use Rattle.std.specs.List.{list_any}
 use Rattle.its_word.specs.Byte.{deposit_of}
 use Rattle.its_word.specs.Core.{Core, word_at}
 use Rattle.its_word.specs.declared.access.Fault.{Fault}
@@ -25,6 +24,7 @@ use Rattle.its_plain.specs.Arguments.{input, debts, revalued}
 use Rattle.its_plain.specs.Ask.{ask}
 use Rattle.its_plain.specs.View.{view}
 use Rattle.its_plain.specs.Decide.{decided, target, reach}
+pub use Rattle.its_plain.specs.Footprint.{among}
 
 -- the held byte in its word, by the pointer that the call then has, and the call's new arguments
 abbrev pub deposited : Core → ℕ → Held → Store
@@ -147,9 +147,6 @@ moves m j = moves_in (transition m j)
 abbrev pub disturbs_in : Option Transition → List ℕ
 disturbs_in (Some t) = t.disturbs
 disturbs_in None = []
-
-abbrev pub among : ℕ → List ℕ → Bool
-among k ks = list_any (λ i. i == k) ks
 
 unfoldable pub disturbed : Machine → ℕ → ℕ → Bool
 disturbed m j k = among k (disturbs_in (transition m j))

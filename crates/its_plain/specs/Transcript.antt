@@ -33,13 +33,13 @@ pub record Walk : Type 0 where
 abbrev pub at_start : Walk
 at_start = record { machine = no_machine; dots = λ k. 0; block = no_block; line = 1 }
 
--- it stands after a letter of slot i, which leads to machine n; after a line which does so, disturbs these slots and
--- leaves this block; and at the next line
+-- where it stands after a letter of slot i that leads to machine n
 abbrev pub after_letter : Walk → ℕ → Pace → Machine → Walk
 after_letter v i p n = record v { machine = n; dots = dots_after v.machine v.dots i p }
 
-abbrev pub after_line : Walk → Machine → (ℕ → Bool) → Block → Walk
-after_line v n touched b = record v { machine = n; dots = dots_after_line v.dots touched; block = b }
+-- where it stands after a line that leads to machine n, disturbs or fills these slots, and leaves this block
+abbrev pub walk_after : Walk → Machine → (ℕ → Bool) → Block → Walk
+walk_after v n touched b = record v { machine = n; dots = dots_after_line v.dots touched; block = b }
 
 abbrev pub next_line : Walk → Walk
 next_line v = record v { line = v.line + 1 }
@@ -78,7 +78,7 @@ pub data Shows : Walk → List Item → List Line → Fate → Type 0 where
       {es : List Item} {lines rest : List Line} {fate : Fate}
       → Comes v e (Done (Does n out touched b))
       → lines ≡ out ++ rest
-      → Shows (next_line (after_line v n touched b)) es rest fate
+      → Shows (next_line (walk_after v n touched b)) es rest fate
       → Shows v (Read e ∷ es) lines fate
   -- TICK: a `T` line with as many letters as there are ticks
   tick_line : {v w : Walk} {e : Event} {i k : ℕ} {ps : List Pace} {es : List Item} {rest : List Line} {fate : Fate}

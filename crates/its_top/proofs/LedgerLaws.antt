@@ -15,7 +15,7 @@ use Rattle.its_plain.specs.Ledger.{typed_by, typed_at, byte_of, drained_by, Bala
 use Rattle.its_plain.specs.Ledger as books
 use Rattle.its_plain.specs.Machine.{Machine, no_machine}
 use Rattle.its_plain.specs.Operator.{Block, no_block, Refuses, Does, Ticks, Quits}
-use Rattle.its_plain.specs.Transcript.{Fate, Walk, at_start, after_letter, after_line, next_line, Transcript}
+use Rattle.its_plain.specs.Transcript.{Fate, Walk, at_start, after_letter, walk_after, next_line, Transcript}
 use Rattle.its_plain.proofs.RunLaws.{PacedOn, LinedOn, Run, shows_run}
 use Rattle.its_top.proofs.MoveLaws.{Passes, step_passes}
 use Rattle.its_top.proofs.ShownLaws.{Shows, ShowsBy, Few, line_shows}
@@ -103,7 +103,7 @@ from_lined c v e es lines fate (Done (Refuses r)) few s t h = from_rest c v.mach
 from_lined c v e es lines fate (Done (Does l out touched b)) few s t h =
     let m = v.machine in
     let rest = t.0 in
-    let next = from_line c m l e out (course l b es rest) rest s (h (next_line (after_line v l touched b)) rest s.few t.2) in
+    let next = from_line c m l e out (course l b es rest) rest s (h (next_line (walk_after v l touched b)) rest s.few t.2) in
     subst (λ ls. From c m (onward m (Lines e) (course l b es (drop (length out) ls))) ls) (sym t.1)
     (subst (λ r. From c m (onward m (Lines e) (course l b es r)) (out ++ rest)) (sym (drop_at out rest (length out) refl)) next)
 from_lined c v e es lines fate (Done (Ticks i k)) few s t h =
