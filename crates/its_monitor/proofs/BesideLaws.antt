@@ -18,7 +18,7 @@ use Rattle.its_frame.specs.declared.frame.Frame.{Frame}
 use Rattle.its_frame.specs.declared.frame.Frame.TheVariants.{Entered, Parsed, Asked, Holding, Waiting, Moving, Ending}
 use Rattle.its_plain.specs.Arguments.{debts}
 use Rattle.its_plain.specs.Ask.{items_of, parse, fetch}
-use Rattle.its_plain.specs.CallStep.{becomes, faulted, informs, told, decision, among, reach_of, reach_of_job, reach_of_unit, reach_of_ask, disturbed}
+use Rattle.its_plain.specs.CallStep.{becomes, faulted, informs, informed_slots, decision, among, disturbed}
 use Rattle.its_plain.specs.Change.{superiors, with_inf, effect}
 use Rattle.its_plain.specs.Decide.{reach}
 use Rattle.its_plain.specs.Decode.{Shape, shaped, ask, ask_of, ask_by, parse_by, parse_of}
@@ -39,7 +39,7 @@ use Rattle.its_stepped.specs.State.{State, plain, seen, turn, same, reserving, e
 use Rattle.its_stepped.specs.Tick.{Ticked, helped_if, works, helps, user_on, unit_on, parsed_on, fetched_on, prepared_on, reserves, prepared_for, tried, tried_by, quarters, held_on, tick_in, tick_unless, tick_of, tick}
 use Rattle.its_stepped.specs.Unwind.{all_unwound}
 use Rattle.its_stepped.proofs.DecodingLaws.{decoding}
-use Rattle.its_stepped.proofs.DotsLaws.{trying_reach, disturbs_told}
+use Rattle.its_stepped.proofs.DotsLaws.{trying_reach, disturbs_by}
 use Rattle.its_stepped.proofs.EffectLaws.{superiors_plain, effects_others}
 use Rattle.its_stepped.proofs.FitLaws.{decision_fits}
 use Rattle.its_stepped.proofs.ForestLaws.{FitsAll}
@@ -60,6 +60,8 @@ use Rattle.its_monitor.proofs.SparedLaws.{effects_same, gone_same, InferiorOf, e
 use Rattle.its_stepped.proofs.PageLaws.{owes_reserves_none}
 use Rattle.its_stepped.proofs.StartLaws.{seen_none as seen_free}
 use Rattle.its_plain.proofs.TracedLaws.{stops_answer}
+use Rattle.its_stepped.proofs.CommitLaws.{Acts}
+use Rattle.its_plain.proofs.StepLaws.{transition_delivers, transition_unit, transition_called}
 
 -- an empty slot in a sound state has no frame and no page
 empty_by : (o : Option Whole) (f : Option Frame) (r : Option ℕ) → SoundBy o f r → o ≡ None → (f ≡ None) × (r ≡ None)
@@ -130,37 +132,37 @@ steps_then w v u j k h s = record {
   free = λ t. s.frame ∙ h.free t;
 }
 
-disturbs_unit : (m : Machine) (j k : ℕ) (q : Whole) (o : Outcome) → m.jobs j ≡ Some q → deliverable q.job ≡ false → unit q.core q.job ≡ o → disturbed m j k ≡ among k (reach_of_unit m j q o)
-unfolding disturbed
-disturbs_unit m j k q o is d u =
-    ap (λ (o : Option Whole). among k (reach_of m j o)) is ∙ ap (λ (b : Bool). among k (reach_of_job m j q b)) d ∙ ap (λ (o : Outcome). among k (reach_of_unit m j q o)) u
-
-disturbs_fault : (m : Machine) (j k : ℕ) (q : Whole) (s : Site) (f : Fault) → m.jobs j ≡ Some q → deliverable q.job ≡ false → unit q.core q.job ≡ Called s → ask q.core s ≡ Err f
-    → disturbed m j k ≡ false
-disturbs_fault m j k q s f is d u e = disturbs_unit m j k q (Called s) is d u ∙ ap (λ (r : Result Ask Fault). among k (reach_of_ask m j q r)) e
+disturbs_fault : (m : Machine) (j k : ℕ) (q : Whole) (s : Site) (f : Fault) → m.jobs j ≡ Some q → q.job.stopped ≡ false → deliverable q.job ≡ false → unit q.core q.job ≡ Called s
+    → ask q.core s ≡ Err f → disturbed m j k ≡ false
+disturbs_fault m j k q s f is runs d u e = disturbs_by m j k _ (transition_called m j q s (Err f) is runs d u e)
 
 -- user mode
-unit_beside : (w : State) (j k : ℕ) (q : Whole) (o : Outcome) → k ≢ j → Sound w → w.raw.jobs j ≡ Some q → w.frames j ≡ None → deliverable q.job ≡ false → unit q.core q.job ≡ o → Row w j k (unit_on w j o)
-unit_beside w j k q (Changed c x) ne sound is none d u =
-    steps_alone w _ j k sound (disturbs_unit (plain w) j k q (Changed c x) (seen_at w j q None is none ∙ ap Some (seen_none q)) d u) (turn_others w j k (becomes c x) None ne)
-unit_beside w j k q (Faulted f) ne sound is none d u =
-    steps_alone w _ j k sound (disturbs_unit (plain w) j k q (Faulted f) (seen_at w j q None is none ∙ ap Some (seen_none q)) d u) (turn_others w j k (faulted f) None ne)
-unit_beside w j k q (Called s) ne sound is none d u = turn_others w j k same (Some (entered s)) ne
+unit_beside : (w : State) (j k : ℕ) (q : Whole) (o : Outcome) → k ≢ j → Sound w → w.raw.jobs j ≡ Some q → q.job.stopped ≡ false → w.frames j ≡ None → deliverable q.job ≡ false
+    → unit q.core q.job ≡ o → Row w j k (unit_on w j o)
+unit_beside w j k q (Changed c x) ne sound is runs none d u =
+    steps_alone w _ j k sound (disturbs_by (plain w) j k _ (transition_unit (plain w) j q (Changed c x) (seen_at w j q None is none ∙ ap Some (seen_none q)) runs d u))
+    (turn_others w j k (becomes c x) None ne)
+unit_beside w j k q (Faulted f) ne sound is runs none d u =
+    steps_alone w _ j k sound (disturbs_by (plain w) j k _ (transition_unit (plain w) j q (Faulted f) (seen_at w j q None is none ∙ ap Some (seen_none q)) runs d u))
+    (turn_others w j k (faulted f) None ne)
+unit_beside w j k q (Called s) ne sound is runs none d u = turn_others w j k same (Some (entered s)) ne
 
-informs_others : (b : Bool) (o : Option ℕ) (v : State) (j k : ℕ) → among k (told b o) ≡ false → SlotSame v (effects_on (informs b o) j v) k
+informs_others : (b : Bool) (o : Option ℕ) (v : State) (j k : ℕ) → among k (informed_slots b o) ≡ false → SlotSame v (effects_on (informs b o) j v) k
 unfolding effect_on effect
 informs_others true (Some s) v j k h = record { job = on_slot_other v.raw.jobs s k with_inf (among_not_first s k [] h); frame = refl; page = refl }
 informs_others true None v j k h = slot_same v k
 informs_others false o v j k h = slot_same v k
 
-user_beside : (w : State) (j k : ℕ) (q : Whole) (b : Bool) → k ≢ j → Sound w → w.raw.jobs j ≡ Some q → w.frames j ≡ None → deliverable q.job ≡ b → Row w j k (user_on w j q b)
-user_beside w j k q false ne sound is none d = unit_beside w j k q (unit q.core q.job) ne sound is none d refl
-user_beside w j k q true ne sound is none d =
+user_beside : (w : State) (j k : ℕ) (q : Whole) (b : Bool) → k ≢ j → Sound w → w.raw.jobs j ≡ Some q → q.job.stopped ≡ false → w.frames j ≡ None → deliverable q.job ≡ b
+    → Row w j k (user_on w j q b)
+user_beside w j k q false ne sound is runs none d = unit_beside w j k q (unit q.core q.job) ne sound is runs none d refl
+user_beside w j k q true ne sound is runs none d =
     let n = delivered q.core q.job in
-    let ks : List ℕ = told n.stops q.superior in
+    let ks : List ℕ = informed_slots n.stops q.superior in
     let cs : List Change = informs n.stops q.superior in
     let v : State = all_unwound ks w in
-    let whom : disturbed (plain w) j k ≡ among k ks = disturbs_told (plain w) j k q (seen_at w j q None is none ∙ ap Some (seen_none q)) d in
+    let whom : disturbed (plain w) j k ≡ among k ks =
+        disturbs_by (plain w) j k _ (transition_delivers (plain w) j q (seen_at w j q None is none ∙ ap Some (seen_none q)) runs d) in
     steps_then w (effects_on cs j v) _ j k
     (record {
       spared = λ t.
@@ -182,16 +184,17 @@ items_fail : (r : Result (ArrayVec ℕ) Fault) (f : Fault) → items_of r ≡ Er
 items_fail (Ok b) f e = cc
 items_fail (Err g) f e = let is : g ≡ f = cc in ap Err is
 
-parsed_beside : (w : State) (j k : ℕ) (q : Whole) (s : Site) (r : Result (List ℕ) Fault) → k ≢ j → Sound w → (plain w).jobs j ≡ Some q → deliverable q.job ≡ false → unit q.core q.job ≡ Called s
-    → parse q.core s ≡ r → Row w j k (parsed_on w j s r)
-parsed_beside w j k q s (Ok b) ne sound is d u p = turn_others w j k same (Some (parsed s b)) ne
-parsed_beside w j k q s (Err f) ne sound is d u p = steps_alone w _ j k sound (disturbs_fault (plain w) j k q s f is d u (asks_none q.core s f p)) (turn_others w j k (faulted f) None ne)
+parsed_beside : (w : State) (j k : ℕ) (q : Whole) (s : Site) (r : Result (List ℕ) Fault) → k ≢ j → Sound w → (plain w).jobs j ≡ Some q → q.job.stopped ≡ false → deliverable q.job ≡ false
+    → unit q.core q.job ≡ Called s → parse q.core s ≡ r → Row w j k (parsed_on w j s r)
+parsed_beside w j k q s (Ok b) ne sound is runs d u p = turn_others w j k same (Some (parsed s b)) ne
+parsed_beside w j k q s (Err f) ne sound is runs d u p =
+    steps_alone w _ j k sound (disturbs_fault (plain w) j k q s f is runs d u (asks_none q.core s f p)) (turn_others w j k (faulted f) None ne)
 
-fetched_beside : (w : State) (j k : ℕ) (q : Whole) (s : Site) (b : List ℕ) (r : Result Ask Fault) → k ≢ j → Sound w → (plain w).jobs j ≡ Some q → deliverable q.job ≡ false → unit q.core q.job ≡ Called s
-    → parse q.core s ≡ Ok b → fetch q.core s b ≡ r → Row w j k (fetched_on w j s r)
-fetched_beside w j k q s b (Ok a) ne sound is d u p e = turn_others w j k same (Some (asked s a)) ne
-fetched_beside w j k q s b (Err f) ne sound is d u p e =
-    steps_alone w _ j k sound (disturbs_fault (plain w) j k q s f is d u (asks q.core s b (Err f) p e)) (turn_others w j k (faulted f) None ne)
+fetched_beside : (w : State) (j k : ℕ) (q : Whole) (s : Site) (b : List ℕ) (r : Result Ask Fault) → k ≢ j → Sound w → (plain w).jobs j ≡ Some q → q.job.stopped ≡ false → deliverable q.job ≡ false
+    → unit q.core q.job ≡ Called s → parse q.core s ≡ Ok b → fetch q.core s b ≡ r → Row w j k (fetched_on w j s r)
+fetched_beside w j k q s b (Ok a) ne sound is runs d u p e = turn_others w j k same (Some (asked s a)) ne
+fetched_beside w j k q s b (Err f) ne sound is runs d u p e =
+    steps_alone w _ j k sound (disturbs_fault (plain w) j k q s f is runs d u (asks q.core s b (Err f) p e)) (turn_others w j k (faulted f) None ne)
 
 prepared_beside : (w : State) (j k : ℕ) (s : Site) (a : Ask) (b : Bool) → k ≢ j → SlotSame w (prepared_on w j s a b) k
 prepared_beside w j k s a true ne = page_others w j k same (Some (holding s a (Some 0) 0)) (Some 0) ne
@@ -286,19 +289,19 @@ changes_beside w v u j k s cs ne sound quiet h stays = record {
         }
 
 decided_beside : (w v u : State) (j k : ℕ) (own : Whole) (s : Site) (a : Ask) (n : ℕ) (d : Decision) → k ≢ j → Sound w → Duty v j own s a n d → Duty u j own s a n d → FitsAll d j (plain v) → Forest (plain v)
-    → u.raw ≡ v.raw → Finds w v u j k s → Row w j k (tried w v j s a n d)
+    → u.raw ≡ v.raw → (Acts d → Finds w v u j k s) → Row w j k (tried w v j s a n d)
 unfolding committed
 decided_beside w v u j k own s a n (Waits r) ne sound dv du fits forest e h = turn_others w j k same (Some (waiting s a n)) ne
 decided_beside w v u j k own s a n (Goes cs b vs) ne sound dv du fits forest e h =
     steps_then w (effects_on cs.items j v) _ j k
-    (changes_beside w v u j k s cs.items ne sound dv.quiet h (λ fr. effects_same cs.items j u v k (entered s) du.quiet dv.quiet fits forest e ne fr))
+    (changes_beside w v u j k s cs.items ne sound dv.quiet (h tt) (λ fr. effects_same cs.items j u v k (entered s) du.quiet dv.quiet fits forest e ne fr))
     (turn_others (effects_on cs.items j v) j k same _ ne)
 decided_beside w v u j k own s a n (Ends cs ss x) ne sound dv du fits forest e h =
     steps_then w (effects_on cs.items j v) _ j k
-    (changes_beside w v u j k s cs.items ne sound dv.quiet h (λ fr. effects_same cs.items j u v k (entered s) du.quiet dv.quiet fits forest e ne fr))
+    (changes_beside w v u j k s cs.items ne sound dv.quiet (h tt) (λ fr. effects_same cs.items j u v k (entered s) du.quiet dv.quiet fits forest e ne fr))
     (turn_others (effects_on cs.items j v) j k same _ ne)
 decided_beside w v u j k own s a n (Gone cs) ne sound dv du fits forest e h =
-    changes_beside w v u j k s (changes.Remove j ∷ cs.items) ne sound dv.quiet h
+    changes_beside w v u j k s (changes.Remove j ∷ cs.items) ne sound dv.quiet (h tt)
     (λ fr. gone_same cs.items j u v k (entered s) du.quiet dv.quiet fits.0 fits.1 forest e ne fr)
 
 -- what its commit finds of another slot
@@ -322,16 +325,16 @@ tried_beside w j k q s a n ne sound forest t m =
     let ks : List ℕ = reach (plain w) j own a in
     let u : State = crowded v (plain w) ks s a in
     let d : Decision = decision (plain w) j own a in
-    let whom : disturbed (plain w) j k ≡ among k ks = trying_reach w j k q s a n t in
+    let whom : Acts d → disturbed (plain w) j k ≡ among k ks = trying_reach w j k q s a n d t refl in
     let here : (plain w).jobs j ≡ Some own = seen_at w j q (w.frames j) t.here.job_is refl ∙ ap Some (t.here.seen_is q) in
     let shows : plain v ≡ plain w = (found w j own a sound m.apart).plain in
     decided_beside w v u j k own s a n d ne sound m.duty
     (decision_duty decoding (plain w) u j own s a n (calling_crowded w j q s a n sound forest t m here))
     (subst (FitsAll d j) (sym shows) (decision_fits (plain w) j own a forest here)) (subst Forest (sym shows) forest) refl
-    (record {
-      same = λ x. found_others w j k own a (sym whom ∙ x);
-      inside = λ x p at. crowd_some (plain w) ks s k (seen (w.frames k) p) (sym whom ∙ x) (seen_at w k p (w.frames k) at refl);
-      free = λ x. found_free w j k own a sound (sym whom ∙ x);
+    (λ acts. record {
+      same = λ x. found_others w j k own a (sym (whom acts) ∙ x);
+      inside = λ x p at. crowd_some (plain w) ks s k (seen (w.frames k) p) (sym (whom acts) ∙ x) (seen_at w k p (w.frames k) at refl);
+      free = λ x. found_free w j k own a sound (sym (whom acts) ∙ x);
     })
 
 held_beside : (w : State) (j k : ℕ) (q : Whole) (s : Site) (a : Ask) (page : Option ℕ) (n : ℕ) → k ≢ j → Sound w → Forest (plain w) → Trying w j q s a n
@@ -347,9 +350,9 @@ held_beside w j k q s a (Some p) n ne sound forest t m = go (nat_lt p quarters) 
 frame_beside : (w : State) (j k : ℕ) (q : Whole) (f : Frame) → k ≢ j → Sound w → Forest (plain w) → w.raw.jobs j ≡ Some q → w.frames j ≡ Some f → SoundFrame q f (w.reserved j)
     → GivenBy w j q (Some f) → Row w j k (tick_in w j q (Some f))
 unfolding seen
-frame_beside w j k q (Entered f) ne sound forest is fr h g = parsed_beside w j k q f.site (parse q.core f.site) ne sound (seen_at w j q (Some (Entered f)) is fr) h.quiet h.standing refl
+frame_beside w j k q (Entered f) ne sound forest is fr h g = parsed_beside w j k q f.site (parse q.core f.site) ne sound (seen_at w j q (Some (Entered f)) is fr) h.runs h.quiet h.standing refl
 frame_beside w j k q (Parsed f) ne sound forest is fr h g =
-    fetched_beside w j k q f.site f.block.items (fetch q.core f.site f.block.items) ne sound (seen_at w j q (Some (Parsed f)) is fr) h.quiet h.standing.0 h.standing.1 refl
+    fetched_beside w j k q f.site f.block.items (fetch q.core f.site f.block.items) ne sound (seen_at w j q (Some (Parsed f)) is fr) h.runs h.quiet h.standing.0 h.standing.1 refl
 frame_beside w j k q (Asked f) ne sound forest is fr h g = prepared_beside w j k f.site f.ask (reserves f.ask) ne
 frame_beside w j k q (Holding f) ne sound forest is fr h g =
     held_beside w j k q f.site f.ask f.page f.owes ne sound forest (trying_holding w j q f is fr h) g
@@ -359,19 +362,21 @@ frame_beside w j k q (Moving f) ne sound forest is fr h g = unwind_others w j k 
 frame_beside w j k q (Ending f) ne sound forest is fr h g = unwind_others w j k ne
 
 -- a tick
-running_beside : (w : State) (j k : ℕ) (q : Whole) (o : Option Frame) → k ≢ j → Sound w → Forest (plain w) → w.raw.jobs j ≡ Some q → w.frames j ≡ o → SoundBy (Some q) o (w.reserved j)
+running_beside : (w : State) (j k : ℕ) (q : Whole) (o : Option Frame) → k ≢ j → Sound w → Forest (plain w) → w.raw.jobs j ≡ Some q → q.job.stopped ≡ false → w.frames j ≡ o
+    → SoundBy (Some q) o (w.reserved j)
     → GivenBy w j q o → Row w j k (tick_in w j q o)
-running_beside w j k q None ne sound forest is fr h g = user_beside w j k q (deliverable q.job) ne sound is fr refl
-running_beside w j k q (Some f) ne sound forest is fr h g = frame_beside w j k q f ne sound forest is fr h g
+running_beside w j k q None ne sound forest is runs fr h g = user_beside w j k q (deliverable q.job) ne sound is runs fr refl
+running_beside w j k q (Some f) ne sound forest is runs fr h g = frame_beside w j k q f ne sound forest is fr h g
 
-unless_beside : (w : State) (j k : ℕ) (q : Whole) (b : Bool) → k ≢ j → Sound w → Forest (plain w) → Given w j → w.raw.jobs j ≡ Some q → Row w j k (tick_unless w j q b)
-unless_beside w j k q true ne sound forest g is = slot_same w k
-unless_beside w j k q false ne sound forest g is =
-    running_beside w j k q (w.frames j) ne sound forest is refl (subst (λ (o : Option Whole). SoundBy o (w.frames j) (w.reserved j)) is (sound.each j).by) (g.by q is)
+unless_beside : (w : State) (j k : ℕ) (q : Whole) (b : Bool) → k ≢ j → Sound w → Forest (plain w) → Given w j → w.raw.jobs j ≡ Some q → q.job.stopped ≡ b
+    → Row w j k (tick_unless w j q b)
+unless_beside w j k q true ne sound forest g is e = slot_same w k
+unless_beside w j k q false ne sound forest g is e =
+    running_beside w j k q (w.frames j) ne sound forest is e refl (subst (λ (o : Option Whole). SoundBy o (w.frames j) (w.reserved j)) is (sound.each j).by) (g.by q is)
 
 slot_beside : (w : State) (j k : ℕ) (o : Option Whole) → k ≢ j → Sound w → Forest (plain w) → Given w j → w.raw.jobs j ≡ o → Row w j k (tick_of w j o)
 slot_beside w j k None ne sound forest g is = slot_same w k
-slot_beside w j k (Some q) ne sound forest g is = unless_beside w j k q q.job.stopped ne sound forest g is
+slot_beside w j k (Some q) ne sound forest g is = unless_beside w j k q q.job.stopped ne sound forest g is refl
 
 tick_row : (w : State) (j k : ℕ) → k ≢ j → Sound w → Forest (plain w) → Given w j → Row w j k (tick w j)
 unfolding tick

@@ -25,7 +25,7 @@ use Rattle.its_plain.specs.Job.{bit_of, with_pending}
 use Rattle.its_plain.specs.Machine.{Whole}
 use Rattle.its_stepped.specs.Sound.{Standing, SoundBy}
 use Rattle.its_stepped.specs.State.{State, plain, seen, turn, same, parsed, asked, holding, reserving}
-use Rattle.its_stepped.specs.Tick.{stepped, works, parsed_on, fetched_on, reserves, tick_in, prepared_on, held_on, tried_by}
+use Rattle.its_stepped.specs.Tick.{steps, works, parsed_on, fetched_on, reserves, tick_in, prepared_on, held_on, tried_by}
 use Rattle.its_world.specs.World.{state_of, raw_of, raw_at, frame_at, Becomes, JobBecomes, FrameBecomes, PageBecomes}
 use Rattle.its_world.specs.declared.world.World.{World}
 use Rattle.its_world.proofs.SiteLaws.{site_fits, block_words}
@@ -91,11 +91,11 @@ raw_taken old mid s f b =
 -- the rows of the decoding do not see that the frame was taken
 parsed_taken : (w : State) (s : ℕ) (t : Site) (r : Result (List ℕ) Fault) → parsed_on (turn w s same None) s t r ≡ parsed_on w s t r
 parsed_taken w s t (Ok b) = ap works (retaken w s None (Some (parsed t b)) same)
-parsed_taken w s t (Err f) = ap stepped (retaken w s None None (faulted f))
+parsed_taken w s t (Err f) = ap steps (retaken w s None None (faulted f))
 
 fetched_taken : (w : State) (s : ℕ) (t : Site) (r : Result Ask Fault) → fetched_on (turn w s same None) s t r ≡ fetched_on w s t r
 fetched_taken w s t (Ok a) = ap works (retaken w s None (Some (asked t a)) same)
-fetched_taken w s t (Err f) = ap stepped (retaken w s None None (faulted f))
+fetched_taken w s t (Err f) = ap steps (retaken w s None None (faulted f))
 
 prepared_taken : (w : State) (s : ℕ) (t : Site) (a : Ask) (b : Bool) → prepared_on (turn w s same None) s t a b ≡ prepared_on w s t a b
 prepared_taken w s t a true = ap (λ v. reserving v s (Some 0)) (retaken w s None (Some (holding t a (Some 0) 0)) same)
@@ -237,7 +237,7 @@ parse_faults old new s t r f j e i h =
     from_some (raw_at old.files old.core old.jobs s) q.0 (λ q. parsed_on (state_of old) s t (parse q.core t) ≡ ticked (state_of new) Step) q.1.0
     (ap (λ c. parsed_on (state_of old) s t (parse c t)) q.1.1
     ∙ ap (parsed_on (state_of old) s t) (items_are (core_at old.core s) t r e ∙ ap items_of i)
-    ∙ ap stepped (sym h))
+    ∙ ap steps (sym h))
 
 fetch_is : (c : Core) (t : Site) (b : ArrayVec ℕ) (r : Result Ask Fault) → r ≡ fetch_of c t b → fetch c t b.items ≡ r
 unfolding fetch
@@ -261,7 +261,7 @@ fetch_faults old new s t b r f j e i h =
     from_some (raw_at old.files old.core old.jobs s) q.0 (λ q. fetched_on (state_of old) s t (fetch q.core t b.items) ≡ ticked (state_of new) Step) q.1.0
     (ap (λ c. fetched_on (state_of old) s t (fetch c t b.items)) q.1.1
     ∙ ap (fetched_on (state_of old) s t) (fetch_is (core_at old.core s) t b r e ∙ i)
-    ∙ ap stepped (sym h))
+    ∙ ap steps (sym h))
 
 pub fault_set : (old new : World) (s : ℕ) (j : Job) (o : Option Job) (f : Fault) → frame_at old.frames.items s ≡ None → o ≡ job_at old.jobs s → o ≡ Some j
     → JobBecomes old new s (with_pending j (bit_of f)) → state_of new ≡ turn (state_of old) s (faulted f) None

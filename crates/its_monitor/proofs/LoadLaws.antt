@@ -2,7 +2,7 @@
 use Rattle.std.specs.Prelude.{◌≡◌, ◌<◌, ℕ, false, Option, Some, None, IfSome, refl}
 use Rattle.std.proofs.lemmas.Bool.{leb-false, lt-leb}
 use Rattle.its_word.specs.declared.session.Refusal.{Refusal}
-use Rattle.its_plain.specs.Operator.{loaded}
+use Rattle.its_plain.specs.OperatorJobs.{loaded}
 use Rattle.its_stepped.specs.State.{State}
 use Rattle.its_operator.specs.Kept.{Refused}
 use Rattle.its_monitor.specs.Loading.{no_console, LoadRefused, NoSuch, NoRoom}

@@ -16,7 +16,7 @@ use Rattle.its_files.specs.Files.{Store, directory}
 use Rattle.its_jobs.specs.Table.{Table, job_at, superior_at}
 use Rattle.its_frame.specs.declared.change.Change.TheVariants as changes
 use Rattle.its_frame.specs.declared.frame.Frame.{Frame}
-use Rattle.its_plain.specs.CallStep.{among, becomes, faulted, informs, told}
+use Rattle.its_plain.specs.CallStep.{among, becomes, faulted, informs, informed_slots}
 use Rattle.its_plain.specs.Change.{effect, with_inf}
 use Rattle.its_plain.specs.Interrupt.{Delivered, delivered}
 use Rattle.its_plain.specs.Job.{bit_of, with_pending}
@@ -28,7 +28,7 @@ use Rattle.its_stepped.specs.Duty.{GivenBy}
 use Rattle.its_stepped.specs.SlotSame.{SlotSame}
 use Rattle.its_stepped.specs.Sound.{Sound}
 use Rattle.its_stepped.specs.State.{State, entered, same, turn}
-use Rattle.its_stepped.specs.Tick.{delivered_on, stepped, unit_on, works}
+use Rattle.its_stepped.specs.Tick.{delivered_on, steps, unit_on, works}
 use Rattle.its_stepped.specs.Unwind.{all_unwound, unwound}
 use Rattle.its_stepped.proofs.DecodingLaws.{decoding}
 use Rattle.its_stepped.proofs.FrameLaws.{on_slot_other}
@@ -130,11 +130,11 @@ left_row : (old new : World) (s : ℕ) (i : Job) (o : Outcome) (l : Left) → jo
     → unit_on (state_of old) s (bare_outcome o) ≡ ticked (state_of new) Step
 left_row old new s i (Changed d k) l had none u is b =
     let e : record { core = d; job = k } ≡ l = cc in
-    ap stepped (sym (turned_state old new s d k i None (becomes d (bare k)) (left_becomes old new s (record { core = d; job = k }) l e none b) had
+    ap steps (sym (turned_state old new s d k i None (becomes d (bare k)) (left_becomes old new s (record { core = d; job = k }) l e none b) had
     (becomes_raw old.files (core_at old.core s) d (superior_at old.jobs s) i k (unit_channels (core_at old.core s) d i k u))))
 left_row old new s i (Faulted f) l had none u is b =
     let e : record { core = core_at old.core s; job = with_pending i (bit_of f) } ≡ l = cc in
-    ap stepped (sym (turned_state old new s (core_at old.core s) (with_pending i (bit_of f)) i None (faulted f)
+    ap steps (sym (turned_state old new s (core_at old.core s) (with_pending i (bit_of f)) i None (faulted f)
     (left_becomes old new s (record { core = core_at old.core s; job = with_pending i (bit_of f) }) l e none b) had refl))
 left_row old new s i (Called x) l had none u is b = absurd cc
 
@@ -187,10 +187,10 @@ put_at old new s j k is h = subst (λ (r : Option Job). IfSome r (λ i. JobBecom
 
 -- a delivery that does not stop the job
 delivered_by : (w : State) (s : ℕ) (q : Whole) (b : Bool) (d : Delivered) → d.stops ≡ b
-    → turn (effects_on (informs b q.superior) s (all_unwound (told b q.superior) w)) s (becomes d.core d.job) None ≡ delivered_on w s q d
-delivered_by w s q b d e = ap (λ (x : Bool). turn (effects_on (informs x q.superior) s (all_unwound (told x q.superior) w)) s (becomes d.core d.job) None) (sym e)
+    → turn (effects_on (informs b q.superior) s (all_unwound (informed_slots b q.superior) w)) s (becomes d.core d.job) None ≡ delivered_on w s q d
+delivered_by w s q b d e = ap (λ (x : Bool). turn (effects_on (informs x q.superior) s (all_unwound (informed_slots x q.superior) w)) s (becomes d.core d.job) None) (sym e)
 
-nobody_unwound : (w : State) (o : Option ℕ) → all_unwound (told false o) w ≡ w
+nobody_unwound : (w : State) (o : Option ℕ) → all_unwound (informed_slots false o) w ≡ w
 unfolding all_unwound
 nobody_unwound w o = refl
 
@@ -237,7 +237,7 @@ stop_sound old mid s i b stops kept = subst Sound (sym (stop_same old mid s i b 
 
 -- telling the superior
 abbrev told_on : State → ℕ → Option ℕ → State
-told_on w s superior = effects_on (informs true superior) s (all_unwound (told true superior) w)
+told_on w s superior = effects_on (informs true superior) s (all_unwound (informed_slots true superior) w)
 
 told_row : (w : State) (s k : ℕ) → effects_on (changes.Inform k ∷ []) s (unwound w k) ≡ told_on w s (Some k)
 unfolding all_unwound

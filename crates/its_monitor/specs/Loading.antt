@@ -2,7 +2,7 @@
 use Rattle.std.specs.Prelude.{◌≡◌, ℕ, Bool, true, false, Option, Some, None, nat_le}
 use Rattle.its_word.specs.declared.session.Refusal.{Refusal}
 use Rattle.its_word.specs.declared.session.Refusal.TheVariants as refusals
-use Rattle.its_plain.specs.Operator.{loaded}
+use Rattle.its_plain.specs.OperatorJobs.{loaded}
 use Rattle.its_stepped.specs.State.{State}
 use Rattle.its_operator.specs.Kept.{Refused}
 

@@ -4,7 +4,7 @@ ghost use Rattle.its_word.specs.Limits.{slots};
 ghost use Rattle.its_core.specs.Cores.{core_at};
 ghost use Rattle.its_jobs.specs.Table.{job_at, superior_at};
 ghost use Rattle.its_world.specs.Tidy.{Tidy};
-ghost use Rattle.its_plain.specs.CallStep.{informs, told};
+ghost use Rattle.its_plain.specs.CallStep.{informs, informed_slots};
 ghost use Rattle.its_plain.specs.Interrupt.{deliverable, delivered};
 ghost use Rattle.its_plain.specs.Unit.{Called, unit as unit_of};
 ghost use Rattle.its_stepped.specs.Commit.{effects_on};
@@ -97,7 +97,7 @@ fn tell_superior(w: &mut World, slot: u8)
     requires slot { slot < slots }
     requires sound { Sound (state_of w.old) }
     requires tidy { Tidy w.old }
-    ensures row { state_of w.new ≡ effects_on (informs true (superior_at w.old.jobs slot)) slot (all_unwound (told true (superior_at w.old.jobs slot)) (state_of w.old)) }
+    ensures row { state_of w.new ≡ effects_on (informs true (superior_at w.old.jobs slot)) slot (all_unwound (informed_slots true (superior_at w.old.jobs slot)) (state_of w.old)) }
     ensures tidy { Tidy w.new }
 {
     if let Some(superior) = w.jobs.superior(slot) {

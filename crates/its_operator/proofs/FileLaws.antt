@@ -20,9 +20,9 @@ use Rattle.its_plain.specs.Machine.{Names, File, Machine}
 use Rattle.its_plain.specs.Own.{names_of}
 use Rattle.its_plain.specs.Change.{channel_in}
 use Rattle.its_plain.specs.CallFile.{most_files, is_full, file_named, has_file}
-use Rattle.its_plain.specs.FileOperator.{channels_of, with_files, file_made_if, file_made, word_added_if, word_added_to, word_added}
+use Rattle.its_plain.specs.OperatorFiles.{channels_of, with_files, file_made_if, file_made, word_added_if, word_added_to, word_added}
 use Rattle.its_plain.specs.Operator.{Block, no_block, nobody, and_then, quietly}
-use Rattle.its_plain.specs.CallOperator.{operate, Done, lined}
+use Rattle.its_plain.specs.OperatorLines.{operate, Done, lined}
 use Rattle.its_plain.proofs.CallLineLaws.{FilesAlone, made_files, word_files}
 use Rattle.its_stepped.specs.State.{State, plain}
 use Rattle.its_stepped.specs.Unwind.{help}

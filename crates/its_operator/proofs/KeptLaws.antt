@@ -9,7 +9,7 @@ use Rattle.its_print.specs.Printing.{Line}
 use Rattle.its_jobs.specs.Table.{job_at}
 use Rattle.its_plain.specs.Machine.{Whole, Machine, with_job}
 use Rattle.its_plain.specs.Operator.{Block, Does}
-use Rattle.its_plain.specs.CallOperator.{Done, lined}
+use Rattle.its_plain.specs.OperatorLines.{Done, lined}
 use Rattle.its_stepped.specs.State.{State, plain, seen}
 use Rattle.its_stepped.specs.Sound.{Sound}
 use Rattle.its_stepped.specs.Forest.{Forest}

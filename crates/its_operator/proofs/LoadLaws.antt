@@ -14,8 +14,9 @@ use Rattle.its_word.specs.declared.session.Refusal.TheVariants as refusals
 use Rattle.its_core.specs.Cores.{core_at, clear_at}
 use Rattle.its_jobs.specs.Table.{job_at, superior_at}
 use Rattle.its_plain.specs.Machine.{Whole, Machine, mapped}
-use Rattle.its_plain.specs.Operator.{only, with_core, stored_in, stored, word_loaded_of, word_loaded, and_then, disturbs}
-use Rattle.its_plain.specs.CallOperator.{operate, Done, lined}
+use Rattle.its_plain.specs.Operator.{only, and_then, disturbs}
+use Rattle.its_plain.specs.OperatorJobs.{with_core, stored_in, stored, word_loaded_of, word_loaded}
+use Rattle.its_plain.specs.OperatorLines.{operate, Done, lined}
 use Rattle.its_stepped.specs.State.{State, plain}
 use Rattle.its_stepped.specs.Unwind.{unwound}
 use Rattle.its_stepped.specs.Lines.{calmed}

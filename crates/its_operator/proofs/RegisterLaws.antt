@@ -17,8 +17,9 @@ use Rattle.its_jobs.specs.Table.{job_at, superior_at}
 use Rattle.its_plain.specs.Machine.{Whole, Machine, changed, with_job}
 use Rattle.its_plain.specs.Change.{on_slot, in_job}
 use Rattle.its_plain.specs.Own as own
-use Rattle.its_plain.specs.Operator.{Block, no_block, Does, only, on_job, with_registers, on_registers, started, interrupted, stopped, continued, shown, state_shown, disturbs}
-use Rattle.its_plain.specs.CallOperator.{operate, Done, lined}
+use Rattle.its_plain.specs.Operator.{Block, no_block, Does, only, disturbs}
+use Rattle.its_plain.specs.OperatorJobs.{on_job, with_registers, on_registers, started, interrupted, stopped, continued, shown, state_shown}
+use Rattle.its_plain.specs.OperatorLines.{operate, Done, lined}
 use Rattle.its_plain.proofs.MachineLaws.{machine_is}
 use Rattle.its_stepped.specs.State.{State, plain}
 use Rattle.its_stepped.specs.Unwind.{unwound}

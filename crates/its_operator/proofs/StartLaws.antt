@@ -17,8 +17,10 @@ use Rattle.its_jobs.specs.Table.{Table, job_at, superior_at, NoJobs}
 use Rattle.its_files.specs.Blocks.{numbers}
 use Rattle.its_files.specs.Files.{readers_by, directory, no_files}
 use Rattle.its_plain.specs.Machine.{Whole, Machine, changed, with_job, no_machine}
-use Rattle.its_plain.specs.Operator.{Block, no_block, Does, nobody, only, new_job, held_by, with_holder, loaded_in, loaded, by_load, quietly}
-use Rattle.its_plain.specs.CallOperator.{clock_end, clocked_if, clocked, operate, Done, lined}
+use Rattle.its_plain.specs.Operator.{Block, no_block, Does, nobody, only, quietly}
+use Rattle.its_plain.specs.OperatorJobs.{new_job, held_by, with_holder, loaded_in, loaded}
+use Rattle.its_plain.specs.OperatorLines.{by_load, operate, Done, lined}
+use Rattle.its_plain.specs.OperatorClock.{clock_end, clocked_if, clocked}
 use Rattle.its_plain.proofs.MachineLaws.{machine_is}
 use Rattle.its_stepped.specs.State.{State, plain, no_state}
 use Rattle.its_stepped.specs.Sound.{Sound}

@@ -9,7 +9,8 @@ use Rattle.its_print.specs.Printing as printed
 use Rattle.its_plain.specs.Machine.{Machine}
 use Rattle.its_plain.specs.Change.{on_console}
 use Rattle.its_plain.specs.Operator.{Block, no_block, Does, nobody}
-use Rattle.its_plain.specs.CallOperator.{typed, dropped, drained, operate, Done, lined}
+use Rattle.its_plain.specs.OperatorConsoles.{typed, dropped, drained}
+use Rattle.its_plain.specs.OperatorLines.{operate, Done, lined}
 use Rattle.its_stepped.specs.State.{State, plain}
 use Rattle.its_stepped.specs.Lines.{calmed, with_raw}
 use Rattle.its_world.specs.World.{console_at, state_of, typed_at, drained_at, ConsoleBecomes}

@@ -17,8 +17,9 @@ use Rattle.its_frame.specs.declared.frame.Frame.{Frame}
 use Rattle.its_core.specs.Cores.{core_at, clear_at}
 use Rattle.its_jobs.specs.Table.{job_at, superior_at}
 use Rattle.its_plain.specs.Machine.{Whole, Machine, with_job}
-use Rattle.its_plain.specs.Operator.{Block, no_block, only, on_job, seen_word, word_seen, with_core, deposited_in, deposited, disturbs}
-use Rattle.its_plain.specs.CallOperator.{operate, Done, lined}
+use Rattle.its_plain.specs.Operator.{Block, no_block, only, disturbs}
+use Rattle.its_plain.specs.OperatorJobs.{on_job, seen_word, word_seen, with_core, deposited_in, deposited}
+use Rattle.its_plain.specs.OperatorLines.{operate, Done, lined}
 use Rattle.its_stepped.specs.State.{State, plain, seen}
 use Rattle.its_stepped.specs.Unwind.{unwound}
 use Rattle.its_stepped.specs.Lines.{calmed}

@@ -2,7 +2,7 @@ ghost use Rattle.std.specs.Prelude.{◌≡◌, ◌<◌, true, Some, None, Ok, Er
 ghost use Rattle.its_files.specs.Files.{entry_at, is_file, names_at, words_at, found, helped, directory, file_at as file_of, most_files};
 ghost use Rattle.its_plain.specs.Own.{names_of};
 ghost use Rattle.its_plain.specs.CallFile.{file_named};
-ghost use Rattle.its_plain.specs.FileOperator.{is_in, files_in, show_of, file_made, word_added};
+ghost use Rattle.its_plain.specs.OperatorFiles.{is_in, files_in, show_of, file_made, word_added};
 ghost use Rattle.its_stepped.specs.State.{plain};
 ghost use Rattle.its_stepped.specs.Unwind.{help};
 ghost use Rattle.its_world.specs.World.{state_of};

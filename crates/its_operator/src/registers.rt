@@ -2,7 +2,7 @@ ghost use Rattle.std.specs.Prelude.{◌≡◌, ◌<◌, ◌^◌, true, false, So
 ghost use Rattle.its_word.specs.Limits.{slots};
 ghost use Rattle.its_jobs.specs.Table.{job_at};
 ghost use Rattle.its_plain.specs.Job.{pc_word};
-ghost use Rattle.its_plain.specs.Operator.{on_registers, started, stopped, continued, interrupted, state_shown, shown};
+ghost use Rattle.its_plain.specs.OperatorJobs.{on_registers, started, stopped, continued, interrupted, state_shown, shown};
 ghost use Rattle.its_stepped.specs.State.{plain};
 ghost use Rattle.its_stepped.specs.Unwind.{unwound};
 ghost use Rattle.its_world.specs.World.{state_of};

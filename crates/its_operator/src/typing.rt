@@ -1,6 +1,6 @@
 ghost use Rattle.std.specs.Prelude.{◌≡◌, ◌<◌, ◌↔◌, ◌∷◌, [], Ok, IsTrue, length, slice_get};
 ghost use Rattle.its_word.specs.Console.{most_waiting};
-ghost use Rattle.its_plain.specs.CallOperator.{typed, drained};
+ghost use Rattle.its_plain.specs.OperatorConsoles.{typed, drained};
 ghost use Rattle.its_stepped.specs.State.{plain};
 ghost use Rattle.its_world.specs.World.{state_of};
 ghost use Rattle.its_operator.specs.Kept.{Kept, Lands};

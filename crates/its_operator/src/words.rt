@@ -4,7 +4,7 @@ ghost use Rattle.its_word.specs.Limits.{slots, most_pages};
 ghost use Rattle.its_word.specs.Core.{store, can_store, word_at, page_of, with_page, zero_page, pages_mapped};
 ghost use Rattle.its_core.specs.Cores.{core_at, reserved_at, clear_at};
 ghost use Rattle.its_jobs.specs.Table.{job_at};
-ghost use Rattle.its_plain.specs.Operator.{word_loaded, word_seen, deposited};
+ghost use Rattle.its_plain.specs.OperatorJobs.{word_loaded, word_seen, deposited};
 ghost use Rattle.its_stepped.specs.State.{plain};
 ghost use Rattle.its_stepped.specs.Unwind.{unwound};
 ghost use Rattle.its_world.specs.World.{state_of, CoreBecomes};

@@ -25,7 +25,7 @@ use Rattle.its_plain.specs.Interrupt.{dismissed}
 use Rattle.its_plain.specs.Machine.{Names, File, Chan, Shut, TtyIn, TtyOut, Reads, Writes, On, Console, Whole}
 use Rattle.its_plain.specs.Own.{names_of}
 use Rattle.its_plain.specs.CallFile.{most_files, disk_device, channels_by, channels_in, is_full, has_file, is_read, words_of, names_from, is_output, opens_as, disk_tests, opens_disk, closes_draft, iot_read, siot_read, siot_write, access_on, access, fillen_on, fillen, file_tests, delete, rename, open_by, open_call, close_by, close_call, iot_by, iot_call, siot_to, siot_call, access_to, end_of_core}
-use Rattle.its_plain.specs.FileOperator.{channels_of}
+use Rattle.its_plain.specs.OperatorFiles.{channels_of}
 use Rattle.its_plain.specs.Tests.{◌⇒◌, finishes, fails, goes, out}
 use Rattle.its_plain.specs.View.{View, outline, Outline}
 use Rattle.its_plain.specs.Decide.{file_by}

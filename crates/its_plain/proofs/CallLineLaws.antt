@@ -14,11 +14,14 @@ use Rattle.its_word.specs.declared.session.Reason.{Reason}
 use Rattle.its_word.specs.declared.show.JobShow.{JobShow}
 use Rattle.its_word.proofs.FreeLaws.{least_empty}
 use Rattle.its_plain.specs.Machine.{Names, File, Chan, Console, Whole, Machine, changed, with_job, mapped}
-use Rattle.its_plain.specs.Operator.{Block, Refuses, Does, Ticks, Ends, new_job, held_by, loaded_in, loaded, stored, with_core, word_loaded_of, word_loaded, and_then, words_loaded, on_job, with_registers, on_registers, started, interrupted, stopped, continued, examined, state_shown, deposited_in, deposited, disturbs, quietly, by_load, by_exam, by_state}
+use Rattle.its_plain.specs.Operator.{Block, Refuses, Does, Ticks, Quits, and_then, disturbs, quietly}
+use Rattle.its_plain.specs.OperatorJobs.{new_job, held_by, loaded_in, loaded, stored, with_core, word_loaded_of, word_loaded, words_loaded, on_job, with_registers, on_registers, started, interrupted, stopped, continued, examined, state_shown, deposited_in, deposited}
+use Rattle.its_plain.specs.OperatorLines.{by_load, by_exam, by_state, operate, shows, Lined, Done, Peeks, peeked_at, lined}
 use Rattle.its_plain.specs.Own.{names_of}
 use Rattle.its_plain.specs.CallFile.{most_files, is_full, file_named, has_file}
-use Rattle.its_plain.specs.FileOperator.{channels_of, with_files, file_made_if, file_made, word_added_if, word_added_to, word_added, words_added, file_shown}
-use Rattle.its_plain.specs.CallOperator.{clock_end, clocked_if, clocked, typed, drained, operate, shows, Lined, Done, Peeks, peeked_at, lined}
+use Rattle.its_plain.specs.OperatorFiles.{channels_of, with_files, file_made_if, file_made, word_added_if, word_added_to, word_added, words_added, file_shown}
+use Rattle.its_plain.specs.OperatorClock.{clock_end, clocked_if, clocked}
+use Rattle.its_plain.specs.OperatorConsoles.{typed, drained}
 use Rattle.its_print.specs.Printing.{Line}
 
 -- what no line changes of a job
@@ -59,7 +62,7 @@ abbrev pub LineKeepsBy : Machine → Lined → Type 0
 LineKeepsBy m (Done (Does n out touched b)) = LineKeeps m n
 LineKeepsBy m (Done (Refuses r)) = Unit {0}
 LineKeepsBy m (Done (Ticks s k)) = Unit {0}
-LineKeepsBy m (Done Ends) = Unit {0}
+LineKeepsBy m (Done Quits) = Unit {0}
 LineKeepsBy m (Peeks s) = Unit {0}
 
 -- the same, but for words and registers

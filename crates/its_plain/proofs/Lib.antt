@@ -5,3 +5,4 @@ pub mod CallLineLaws
 pub mod SizeLaws
 pub mod TracedLaws
 pub mod RunLaws
+pub mod StepLaws

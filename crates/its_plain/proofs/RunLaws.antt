@@ -9,11 +9,11 @@ use Rattle.its_word.specs.declared.session.Event.{Event}
 use Rattle.its_word.specs.declared.show.Peek.{Peek}
 use Rattle.its_print.specs.Printing.{Line, Refused}
 use Rattle.its_print.specs.Printing as printed
-use Rattle.its_plain.specs.CallOperator.{Lined, Done, Peeks, lined}
+use Rattle.its_plain.specs.OperatorLines.{Lined, Done, Peeks, lined}
 use Rattle.its_plain.specs.Licence.{Licensed, most_dots}
 use Rattle.its_plain.specs.Machine.{Machine}
-use Rattle.its_plain.specs.Operator.{Refuses, Does, Ticks, Ends}
-use Rattle.its_plain.specs.Transcript.{Fate, Ended, Open, Lost, TooLong, Walk, after_letter, after_line, next_line, Paced, none, letter, Shows, ended, input_ends, too_long, unread, refused, obeyed, ticked, peeked}
+use Rattle.its_plain.specs.Operator.{Refuses, Does, Ticks, Quits}
+use Rattle.its_plain.specs.Transcript.{Fate, Ended, Open, Lost, TooLong, Walk, after_letter, walk_after, next_line, Paced, none, letter, Shows, end_line, input_end, too_long, unread_line, refused_line, obeyed_line, tick_line, peek_line}
 
 -- each letter is licensed in turn, and what follows goes on from there
 abbrev pub PacedOn : Walk → ℕ → List Pace → (Walk → Type 0) → Type 0
@@ -23,10 +23,10 @@ PacedOn v i (p ∷ ps) next = (n : Machine) × Licensed v.machine i p n × (p �
 -- a line that comes to this
 abbrev pub LinedOn : Walk → Lined → (Walk → List Line → Type 0) → List Line → Fate → Type 0
 LinedOn v (Done (Refuses r)) next lines fate = (lines ≡ Refused v.line r ∷ []) × (fate ≡ Lost)
-LinedOn v (Done (Does n out touched b)) next lines fate = (rest : List Line) × (lines ≡ out ++ rest) × next (next_line (after_line v n touched b)) rest
+LinedOn v (Done (Does n out touched b)) next lines fate = (rest : List Line) × (lines ≡ out ++ rest) × next (next_line (walk_after v n touched b)) rest
 LinedOn v (Done (Ticks i k)) next lines fate =
     (ps : List Pace) × (rest : List Line) × (lines ≡ printed.Ticks i ps ∷ rest) × (length ps ≡ k) × PacedOn v i ps (λ w. next (next_line w) rest)
-LinedOn v (Done Ends) next lines fate = (lines ≡ []) × (fate ≡ Ended)
+LinedOn v (Done Quits) next lines fate = (lines ≡ []) × (fate ≡ Ended)
 LinedOn v (Peeks i) next lines fate = (peek : Peek) × (rest : List Line) × (lines ≡ printed.Peeked i peek ∷ rest) × next (next_line v) rest
 
 -- the events from here on
@@ -46,17 +46,17 @@ lined_run : (v : Walk) (e : Event) (es : List Item) (lines : List Line) (fate : 
 lined_run v e es lines fate l is h = subst (λ (l : Lined). LinedOn v l (λ w rest. Run w es rest fate) lines fate) (sym is) h
 
 pub shows_run : (v : Walk) (es : List Item) (lines : List Line) (fate : Fate) → Shows v es lines fate → Run v es lines fate
-shows_run v (Read e ∷ es) lines fate (ended is) = lined_run v e es [] Ended (Done Ends) is (refl, refl)
-shows_run v [] lines fate input_ends = (refl, refl)
+shows_run v (Read e ∷ es) lines fate (end_line is) = lined_run v e es [] Ended (Done Quits) is (refl, refl)
+shows_run v [] lines fate input_end = (refl, refl)
 shows_run v (Beyond ∷ es) lines fate too_long = (refl, refl)
-shows_run v (Unread r ∷ es) lines fate unread = (refl, refl)
-shows_run v (Read e ∷ es) lines fate (refused {r = r} is) = lined_run v e es (Refused v.line r ∷ []) Lost (Done (Refuses r)) is (refl, refl)
-shows_run v (Read e ∷ es) lines fate (obeyed {n = n} {out = out} {touched = touched} {b = b} {rest = rest} is at more) =
-    lined_run v e es lines fate (Done (Does n out touched b)) is (rest, at, shows_run (next_line (after_line v n touched b)) es rest fate more)
-shows_run v (Read e ∷ es) lines fate (ticked {w = w} {i = i} {k = k} {ps = ps} {rest = rest} is long paces more) =
+shows_run v (Unread r ∷ es) lines fate unread_line = (refl, refl)
+shows_run v (Read e ∷ es) lines fate (refused_line {r = r} is) = lined_run v e es (Refused v.line r ∷ []) Lost (Done (Refuses r)) is (refl, refl)
+shows_run v (Read e ∷ es) lines fate (obeyed_line {n = n} {out = out} {touched = touched} {b = b} {rest = rest} is at more) =
+    lined_run v e es lines fate (Done (Does n out touched b)) is (rest, at, shows_run (next_line (walk_after v n touched b)) es rest fate more)
+shows_run v (Read e ∷ es) lines fate (tick_line {w = w} {i = i} {k = k} {ps = ps} {rest = rest} is long paces more) =
     lined_run v e es (printed.Ticks i ps ∷ rest) fate (Done (Ticks i k)) is
     (ps, rest, refl, long, paced_on paces (λ w. Run (next_line w) es rest fate) (shows_run (next_line w) es rest fate more))
-shows_run v (Read e ∷ es) lines fate (peeked {i = i} {peek = peek} {rest = rest} is more) =
+shows_run v (Read e ∷ es) lines fate (peek_line {i = i} {peek = peek} {rest = rest} is more) =
     lined_run v e es (printed.Peeked i peek ∷ rest) fate (Peeks i) is (peek, rest, refl, shows_run (next_line v) es rest fate more)
 
 -- and the walk to the rules
@@ -73,16 +73,16 @@ on_paced v i (p ∷ ps) next h =
 
 lined_shows : (v : Walk) (e : Event) (es : List Item) (l : Lined) (lines : List Line) (fate : Fate) → lined v.machine v.block e ≡ l
     → LinedOn v l (λ w rest. Run w es rest fate) lines fate → ((w : Walk) (rest : List Line) → Run w es rest fate → Shows w es rest fate) → Shows v (Read e ∷ es) lines fate
-lined_shows v e es (Done (Refuses r)) lines fate is h more = rw (h.0, h.1) (refused is)
-lined_shows v e es (Done (Does n out touched b)) lines fate is h more = obeyed is h.1 (more _ h.0 h.2)
+lined_shows v e es (Done (Refuses r)) lines fate is h more = rw (h.0, h.1) (refused_line is)
+lined_shows v e es (Done (Does n out touched b)) lines fate is h more = obeyed_line is h.1 (more _ h.0 h.2)
 lined_shows v e es (Done (Ticks i k)) lines fate is h more =
     let p = on_paced v i h.0 (λ w. Run (next_line w) es h.1 fate) h.4 in
-    rw h.2 (ticked is h.3 p.paces (more (next_line p.to) h.1 p.next))
-lined_shows v e es (Done Ends) lines fate is h more = rw (h.0, h.1) (ended is)
-lined_shows v e es (Peeks i) lines fate is h more = rw h.2 (peeked is (more (next_line v) h.1 h.3))
+    rw h.2 (tick_line is h.3 p.paces (more (next_line p.to) h.1 p.next))
+lined_shows v e es (Done Quits) lines fate is h more = rw (h.0, h.1) (end_line is)
+lined_shows v e es (Peeks i) lines fate is h more = rw h.2 (peek_line is (more (next_line v) h.1 h.3))
 
 pub run_shows : (v : Walk) (es : List Item) (lines : List Line) (fate : Fate) → Run v es lines fate → Shows v es lines fate
-run_shows v [] lines fate h = rw (h.0, h.1) input_ends
+run_shows v [] lines fate h = rw (h.0, h.1) input_end
 run_shows v (Read e ∷ es) lines fate h = lined_shows v e es (lined v.machine v.block e) lines fate refl h (λ w rest r. run_shows w es rest fate r)
-run_shows v (Unread r ∷ es) lines fate h = rw (h.0, h.1) unread
+run_shows v (Unread r ∷ es) lines fate h = rw (h.0, h.1) unread_line
 run_shows v (Beyond ∷ es) lines fate h = rw (h.0, h.1) too_long

@@ -1,7 +1,7 @@
--- One step of one job that may call the monitor: the delivery of an interrupt where one is deliverable, else
--- a unit, else the whole effect of its call where its decoding faults or it is ready.
-use Rattle.std.specs.Prelude.{◌==◌, ℕ, Bool, true, false, Option, Some, None, List, [], ◌∷◌, length, Result, Ok, Err, unwrap_or}
-use Rattle.std.specs.List.{list_any}
+-- One step of one job that may call the monitor: the delivery of an interrupt where one is deliverable, else a unit,
+-- else the whole effect of its call where its decoding faults or it is ready. What it does is said at once, case by
+-- case: the machine after it, the bytes that it moves, and the jobs that it disturbs.
+use Rattle.std.specs.Prelude.{◌==◌, ℕ, Bool, true, false, Option, Some, None, List, [], ◌∷◌, length, Result, Ok, Err, option_map, unwrap_or}
 use Rattle.its_word.specs.Byte.{deposit_of}
 use Rattle.its_word.specs.Core.{Core, word_at}
 use Rattle.its_word.specs.declared.access.Fault.{Fault}
@@ -19,10 +19,12 @@ use Rattle.its_plain.specs.Unit.{Outcome, Changed, Faulted, Called, unit}
 use Rattle.its_plain.specs.Machine.{Whole, Machine}
 use Rattle.its_plain.specs.Own.{with_stores, with_registers, leave}
 use Rattle.its_plain.specs.Change.{in_job, effects}
+use Rattle.its_plain.specs.Moves.{Move, moves_of_all}
 use Rattle.its_plain.specs.Arguments.{input, debts, revalued}
 use Rattle.its_plain.specs.Ask.{ask}
 use Rattle.its_plain.specs.View.{view}
 use Rattle.its_plain.specs.Decide.{decided, target, reach}
+pub use Rattle.its_plain.specs.Footprint.{among}
 
 -- the held byte in its word, by the pointer that the call then has, and the call's new arguments
 abbrev pub deposited : Core → ℕ → Held → Store
@@ -35,15 +37,43 @@ with_held a None q = q
 abbrev pub moved : Ask → Option Held → List ℕ → Whole → Whole
 moved a h vs q = with_stores (debts (revalued a vs) (length vs)) (with_held (revalued a vs) h q)
 
--- what a decision comes to: first its changes, then the stores into the own core, then the registers
+-- what a step does: the machine after it; the bytes that it moves; the slots, other than its own, of the jobs that it
+-- disturbs; and whether it is a part of a call that goes on
+pub record Transition : Type 0 where
+  pub machine : Machine
+  pub moves : List Move
+  pub disturbs : List ℕ
+  pub part : Bool
+
+-- a step that moves no byte and disturbs nobody
+abbrev pub alone : Machine → Transition
+alone n = record { machine = n; moves = []; disturbs = []; part = false }
+
+-- what a decision comes to, of a call that reaches the jobs of these slots: first its changes, then the stores into the
+-- own core, then the registers. A call that waits has no step
 abbrev pub ended : List Store → (Whole → Whole) → Whole → Whole
 ended ss f q = f (with_stores ss q)
 
-unfoldable pub acted : Machine → ℕ → Ask → Decision → Option Machine
-acted m j a (Waits r) = None
-acted m j a (Goes cs h vs) = Some (in_job (effects cs.items j m) j (moved a h vs.items))
-acted m j a (Ends cs ss e) = Some (in_job (effects cs.items j m) j (ended ss.items (leave e)))
-acted m j a (Gone cs) = Some (effects (changes.Remove j ∷ cs.items) j m)
+unfoldable pub acted : Machine → ℕ → Ask → List ℕ → Decision → Option Transition
+acted m j a ks (Waits r) = None
+acted m j a ks (Goes cs h vs) = Some (record {
+  machine = in_job (effects cs.items j m) j (moved a h vs.items);
+  moves = moves_of_all cs.items j m;
+  disturbs = ks;
+  part = true;
+})
+acted m j a ks (Ends cs ss e) = Some (record {
+  machine = in_job (effects cs.items j m) j (ended ss.items (leave e));
+  moves = moves_of_all cs.items j m;
+  disturbs = ks;
+  part = false;
+})
+acted m j a ks (Gone cs) = Some (record {
+  machine = effects (changes.Remove j ∷ cs.items) j m;
+  moves = moves_of_all (changes.Remove j ∷ cs.items) j m;
+  disturbs = ks;
+  part = false;
+})
 
 -- the decision of the call of job q in slot j
 unfoldable pub decision : Machine → ℕ → Whole → Ask → Decision
@@ -53,69 +83,78 @@ decision m j q a = decided (view m j q (target q a)) a
 abbrev pub faulted : Fault → Whole → Whole
 faulted f q = with_registers (λ j. with_pending j (bit_of f)) q
 
-abbrev pub by_ask : Machine → ℕ → Whole → Result Ask Fault → Option Machine
-by_ask m j q (Ok a) = acted m j a (decision m j q a)
-by_ask m j q (Err f) = Some (in_job m j (faulted f))
+abbrev pub by_ask : Machine → ℕ → Whole → Result Ask Fault → Option Transition
+by_ask m j q (Ok a) = acted m j a (reach m j q a) (decision m j q a)
+by_ask m j q (Err f) = Some (alone (in_job m j (faulted f)))
 
 -- a unit that is done
 abbrev pub becomes : Core → Job → Whole → Whole
 becomes c j q = record q { core = c; job = j }
 
-abbrev pub by_unit : Machine → ℕ → Whole → Outcome → Option Machine
-by_unit m j q (Changed c k) = Some (in_job m j (becomes c k))
-by_unit m j q (Faulted f) = Some (in_job m j (faulted f))
+abbrev pub by_unit : Machine → ℕ → Whole → Outcome → Option Transition
+by_unit m j q (Changed c k) = Some (alone (in_job m j (becomes c k)))
+by_unit m j q (Faulted f) = Some (alone (in_job m j (faulted f)))
 by_unit m j q (Called s) = by_ask m j q (ask q.core s)
 
 -- a delivery: where a fatal bit stops the job, INF is set in its superior
+abbrev pub informed_slots : Bool → Option ℕ → List ℕ
+informed_slots true (Some s) = s ∷ []
+informed_slots true None = []
+informed_slots false o = []
+
 abbrev pub informs : Bool → Option ℕ → List Change
 informs true (Some s) = changes.Inform s ∷ []
 informs true None = []
 informs false o = []
 
-abbrev pub delivery : Machine → ℕ → Whole → Delivered → Machine
-delivery m j q d = in_job (effects (informs d.stops q.superior) j m) j (becomes d.core d.job)
+abbrev pub delivery : Machine → ℕ → Whole → Delivered → Transition
+delivery m j q d = record {
+  machine = in_job (effects (informs d.stops q.superior) j m) j (becomes d.core d.job);
+  moves = [];
+  disturbs = informed_slots d.stops q.superior;
+  part = false;
+}
 
-abbrev pub by_delivery : Machine → ℕ → Whole → Bool → Option Machine
+abbrev pub by_delivery : Machine → ℕ → Whole → Bool → Option Transition
 by_delivery m j q true = Some (delivery m j q (delivered q.core q.job))
 by_delivery m j q false = by_unit m j q (unit q.core q.job)
 
-abbrev pub unless_stopped : Machine → ℕ → Whole → Bool → Option Machine
+abbrev pub unless_stopped : Machine → ℕ → Whole → Bool → Option Transition
 unless_stopped m j q true = None
 unless_stopped m j q false = by_delivery m j q (deliverable q.job)
 
-abbrev pub step_of : Machine → ℕ → Option Whole → Option Machine
-step_of m j (Some q) = unless_stopped m j q q.job.stopped
-step_of m j None = None
+abbrev pub transition_of : Machine → ℕ → Option Whole → Option Transition
+transition_of m j (Some q) = unless_stopped m j q q.job.stopped
+transition_of m j None = None
 
--- the machine after a step of the job of a slot; none where the slot is empty, its job is stopped, or its call
--- cannot go on
+-- what a step of the job of a slot does; none where the slot is empty, its job is stopped, or its call cannot go on
+unfoldable pub transition : Machine → ℕ → Option Transition
+transition m j = transition_of m j (m.jobs j)
+
+-- the machine after a step of the job of a slot, where it has one
 unfoldable pub step : Machine → ℕ → Option Machine
-step m j = step_of m j (m.jobs j)
+step m j = option_map (λ (t : Transition). t.machine) (transition m j)
 
--- the slots, other than its own, of the jobs that a step disturbs
-abbrev pub reach_of_ask : Machine → ℕ → Whole → Result Ask Fault → List ℕ
-reach_of_ask m j q (Ok a) = reach m j q a
-reach_of_ask m j q (Err f) = []
+-- the bytes that it moves
+abbrev pub moves_in : Option Transition → List Move
+moves_in (Some t) = t.moves
+moves_in None = []
 
-abbrev pub reach_of_unit : Machine → ℕ → Whole → Outcome → List ℕ
-reach_of_unit m j q (Called s) = reach_of_ask m j q (ask q.core s)
-reach_of_unit m j q _ = []
+unfoldable pub moves : Machine → ℕ → List Move
+moves m j = moves_in (transition m j)
 
-abbrev pub told : Bool → Option ℕ → List ℕ
-told true (Some s) = s ∷ []
-told true None = []
-told false o = []
-
-abbrev pub reach_of_job : Machine → ℕ → Whole → Bool → List ℕ
-reach_of_job m j q true = told (delivered q.core q.job).stops q.superior
-reach_of_job m j q false = reach_of_unit m j q (unit q.core q.job)
-
-abbrev pub reach_of : Machine → ℕ → Option Whole → List ℕ
-reach_of m j (Some q) = reach_of_job m j q (deliverable q.job)
-reach_of m j None = []
-
-abbrev pub among : ℕ → List ℕ → Bool
-among k ks = list_any (λ i. i == k) ks
+-- a slot, other than its own, whose job it disturbs
+abbrev pub disturbs_in : Option Transition → List ℕ
+disturbs_in (Some t) = t.disturbs
+disturbs_in None = []
 
 unfoldable pub disturbed : Machine → ℕ → ℕ → Bool
-disturbed m j k = among k (reach_of m j (m.jobs j))
+disturbed m j k = among k (disturbs_in (transition m j))
+
+-- it is a part of its call, after which PC stays, and not the call's end
+abbrev pub part_in : Option Transition → Bool
+part_in (Some t) = t.part
+part_in None = false
+
+unfoldable pub steps_on : Machine → ℕ → Bool
+steps_on m j = part_in (transition m j)

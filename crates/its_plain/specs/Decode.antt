@@ -48,8 +48,8 @@ abbrev pub type_of : ℕ → ℕ
 type_of w = w / 2 ^ 27 % 8
 
 -- the first word of a block, its name, and its argument words
-abbrev pub first_of : List ℕ → ℕ
-first_of block = slice_index block 0
+abbrev pub first_word : List ℕ → ℕ
+first_word block = slice_index block 0
 
 abbrev pub name_of : List ℕ → ℕ
 name_of block = slice_index block 1
@@ -76,7 +76,7 @@ block_at c e =
 
 -- bit 0 of the first word is on, and no argument has type 6 or 7
 unfoldable pub is_legal : List ℕ → Bool
-is_legal block = has_bit_0 (first_of block) && list_all (λ w. nat_lt (type_of w) 6) (words_of block)
+is_legal block = has_bit_0 (first_word block) && list_all (λ w. nat_lt (type_of w) 6) (words_of block)
 
 abbrev pub checked : Bool → ArrayVec ℕ → Traced (ArrayVec ℕ)
 checked true block = gives block

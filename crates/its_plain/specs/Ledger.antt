@@ -7,7 +7,9 @@ use Rattle.its_word.specs.declared.session.Event.TheVariants as events
 use Rattle.its_print.specs.Printing.{Line}
 use Rattle.its_print.specs.Printing as printed
 use Rattle.its_plain.specs.Machine.{Console, Machine}
-use Rattle.its_plain.specs.Course.{Way, Inward, Outward, Move, moves, Deed, Lines, Steps, Moment, Course, run_of}
+use Rattle.its_plain.specs.CallStep.{moves}
+use Rattle.its_plain.specs.Course.{Deed, Lines, Steps, Moment, Course, run_of}
+use Rattle.its_plain.specs.Moves.{Way, Inward, Outward, Move}
 
 -- of the bytes of a TYPE line those that are not dropped
 abbrev pub taken_in : Console → List ℕ → List ℕ

@@ -23,10 +23,14 @@ pub mod CallTty
 pub mod CallFile
 pub mod CallUsr
 pub mod CallCore
+pub mod Moves
 pub mod CallStep
 pub mod Operator
-pub mod FileOperator
-pub mod CallOperator
+pub mod OperatorJobs
+pub mod OperatorConsoles
+pub mod OperatorFiles
+pub mod OperatorClock
+pub mod OperatorLines
 pub mod Licence
 pub mod Transcript
 pub mod OneByte

@@ -1,8 +1,8 @@
 -- Each byte once: what one step of a transfer does (docs/CALLS.md, "Each byte once").
-use Rattle.std.specs.Prelude.{◌≡◌, ◌≢◌, ℕ, ◌+◌, ◌-◌, true, false, Option, Some, None, IfSome, List, [], ◌∷◌, slice_get, unwrap_or}
+use Rattle.std.specs.Prelude.{◌≡◌, ◌≢◌, ℕ, ◌+◌, ◌-◌, true, false, Option, Some, None, IfSome, List, [], ◌∷◌, slice_get}
 use Rattle.its_word.specs.Word.{right_of}
 use Rattle.its_word.specs.Byte.{load_of, deposit_of}
-use Rattle.its_word.specs.Core.{word_at}
+use Rattle.its_word.specs.Core.{Core, word_at}
 use Rattle.its_word.specs.declared.calls.Ask.{Ask}
 use Rattle.its_word.specs.declared.calls.Site.{Site}
 use Rattle.its_frame.specs.declared.change.Change.{Change}
@@ -29,7 +29,13 @@ abbrev pub ComesIn : ℕ → Option ℕ → Option Held → Type 0
 ComesIn pointer (Some b) h = h ≡ Some (record { place = right_of pointer; byte = b })
 ComesIn pointer None h = ⊥
 
--- a byte that goes out: the word that the pointer names is there, and the byte at the pointer in it is put by these changes
+-- a byte that came in stands in its word, which was there
+pub record Deposited (before after : Core) (pointer : ℕ) (b : Held) : Type 0 where
+  pub word : ℕ
+  pub was : word_at before b.place ≡ Some word
+  pub is : word_at after b.place ≡ Some (deposit_of pointer word b.byte)
+
+-- a byte that goes out: the word that the pointer names is there, and these changes put the byte at the pointer in it
 abbrev pub GoesOut : ℕ → Option ℕ → (ℕ → List Change) → List Change → Option Held → Type 0
 GoesOut pointer (Some w) puts cs h = (cs ≡ puts (load_of pointer w)) × (h ≡ None)
 GoesOut pointer None puts cs h = ⊥
@@ -43,12 +49,17 @@ word_named v pointer = word_at v.own.core (right_of pointer)
 -- byte, and into an inferior likewise, at the channel's position. A position is then one more. Nothing is moved through a
 -- closed channel
 abbrev pub Bears : View → ℕ → ℕ → Chan → List Change → Option Held → Type 0
-Bears v pointer n TtyIn cs h = (cs ≡ changes.Take (console_of v) ∷ []) × ComesIn pointer (slice_get (v.consoles (console_of v)).input 0) h
-Bears v pointer n TtyOut cs h = GoesOut pointer (word_named v pointer) (λ b. changes.Put (console_of v) (shown_byte b) ∷ []) cs h
-Bears v pointer n (Reads names at) cs h = (cs ≡ changes.Move n (at + 1) ∷ []) × ComesIn pointer (slice_get (words_of v names) at) h
+Bears v pointer n TtyIn cs h =
+    (cs ≡ changes.Take (console_of v) ∷ []) × ComesIn pointer (slice_get (v.consoles (console_of v)).input 0) h
+Bears v pointer n TtyOut cs h =
+    GoesOut pointer (word_named v pointer) (λ b. changes.Put (console_of v) (shown_byte b) ∷ []) cs h
+Bears v pointer n (Reads names at) cs h =
+    (cs ≡ changes.Move n (at + 1) ∷ []) × ComesIn pointer (slice_get (words_of v names) at) h
 Bears v pointer n (Writes f) cs h = GoesOut pointer (word_named v pointer) (λ b. changes.Append n b ∷ []) cs h
-Bears v pointer n (On s false at) cs h = (cs ≡ changes.Move n (at + 1) ∷ []) × ComesIn pointer (word_at (other_core v) at) h
-Bears v pointer n (On s true at) cs h = GoesOut pointer (word_named v pointer) (λ b. changes.Poke s at b ∷ changes.Move n (at + 1) ∷ []) cs h
+Bears v pointer n (On s false at) cs h =
+    (cs ≡ changes.Move n (at + 1) ∷ []) × ComesIn pointer (word_at (other_core v) at) h
+Bears v pointer n (On s true at) cs h =
+    GoesOut pointer (word_named v pointer) (λ b. changes.Poke s at b ∷ changes.Move n (at + 1) ∷ []) cs h
 Bears v pointer n Shut cs h = ⊥
 
 -- the rest of a transfer: its pointer is incremented, and its count is one less
@@ -58,22 +69,24 @@ new_arguments a = next_pointer (input a 1) ∷ (input a 2 - 1) ∷ []
 abbrev pub rest_of_transfer : Ask → Ask
 rest_of_transfer a = revalued a (new_arguments a)
 
--- one byte of the SIOT of job q in slot j, at this site and with these arguments, after which the machine is n: the byte
--- is moved at the pointer incremented; one that comes in stands there afterwards; and the job, whose registers are as
--- they were, stands at the same call on the rest. Machine n differs by the change that moves the byte, and by the words of
--- byte, pointer and count, and by nothing else
-pub record OneByte (m : Machine) (j : ℕ) (q : Whole) (s : Site) (a : Ask) (cs : List Change) (h : Option Held) (n : Machine) : Type 0 where
+-- one byte of the SIOT of job q in slot j, at this site and with these arguments, after which the machine is n: the
+-- byte is moved at the pointer incremented; one that comes in stands there afterwards; and the job, whose registers are
+-- as they were, stands at the same call on the rest. Machine n differs by the change that moves the byte, and by the
+-- words of byte, pointer and count, and by nothing else
+pub record OneByte (m : Machine) (j : ℕ) (q : Whole) (s : Site) (a : Ask) (cs : List Change) (h : Option Held) (n : Machine)
+    : Type 0 where
   pub after : Whole
   pub there : n.jobs j ≡ Some after
-  pub borne : Bears (view m j q (target q a)) (next_pointer (input a 1)) (input a 0) (channel_at q.channels (input a 0)) cs h
-  pub deposited : IfSome h (λ b. word_at after.core b.place ≡ Some (deposit_of (next_pointer (input a 1)) (unwrap_or (word_at q.core b.place) 0) b.byte))
+  pub borne :
+      Bears (view m j q (target q a)) (next_pointer (input a 1)) (input a 0) (channel_at q.channels (input a 0)) cs h
+  pub deposited : IfSome h (Deposited q.core after.core (next_pointer (input a 1)))
   pub registers : after.job ≡ q.job
   pub counted : input a 2 ≢ 0
   pub stands : Stands after.core after.job s (rest_of_transfer a)
   pub others : n ≡ in_job (effects cs j m) j (moved a h (new_arguments a))
 
--- a step moves one byte, or it ends the call and moves none: it makes no change. A SIOT that waits has no step, and none
--- removes its job
+-- a step moves one byte, or it ends the call and moves none: it makes no change. A SIOT that waits has no step, and
+-- none removes its job
 abbrev pub ByteBy : Machine → ℕ → Whole → Site → Ask → Decision → Machine → Type 0
 ByteBy m j q s a (Goes cs h vs) n = OneByte m j q s a cs.items h n
 ByteBy m j q s a (Waits r) n = ⊥
@@ -82,5 +95,6 @@ ByteBy m j q s a (Gone cs) n = ⊥
 
 -- a step of the job of slot j takes machine m to n: where the job stands at a SIOT, it is one byte or the end
 pub record EachByte (m : Machine) (j : ℕ) (n : Machine) : Type 0 where
-  pub byte : (q : Whole) (s : Site) (a : Ask) → m.jobs j ≡ Some q → deliverable q.job ≡ false → Stands q.core q.job s a → call_named a.name ≡ Some Siot
+  pub byte : (q : Whole) (s : Site) (a : Ask)
+      → m.jobs j ≡ Some q → deliverable q.job ≡ false → Stands q.core q.job s a → call_named a.name ≡ Some Siot
       → ByteBy m j q s a (decision m j q a) n

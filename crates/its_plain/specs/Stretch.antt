@@ -1,50 +1,21 @@
 -- Each byte once and in order, over a stretch of a session's run (docs/CALLS.md, "Each byte once").
-use Rattle.std.specs.Prelude.{◌≡◌, ◌==◌, ◌&&◌, ℕ, zero, suc, ◌+◌, Bool, true, false, not, Option, Some, None, List, [], ◌∷◌, ◌++◌, Result, Ok, Err}
+use Rattle.std.specs.Prelude.{◌≡◌, ◌==◌, ℕ, zero, suc, ◌+◌, Bool, true, false, Option, Some, None, List, [], ◌∷◌, ◌++◌}
 use Rattle.its_word.specs.Core.{word_at}
 use Rattle.its_word.specs.Item.{Item}
-use Rattle.its_word.specs.declared.access.Fault.{Fault}
 use Rattle.its_word.specs.declared.calls.Ask.{Ask}
 use Rattle.its_word.specs.declared.calls.Site.{Site}
 use Rattle.its_print.specs.Printing.{Line}
 use Rattle.its_frame.specs.declared.change.Change.{Change}
-use Rattle.its_frame.specs.declared.decision.Decision.{Decision}
-use Rattle.its_frame.specs.declared.decision.Decision.TheVariants.{Waits, Goes, Ends, Gone}
 use Rattle.its_frame.specs.declared.decision.Held.{Held}
 use Rattle.its_frame.specs.declared.name.CallName.TheVariants.{Siot}
 use Rattle.its_plain.specs.Arguments.{input, place_of_input}
-use Rattle.its_plain.specs.Ask.{ask}
-use Rattle.its_plain.specs.CallStep.{decision}
+use Rattle.its_plain.specs.CallStep.{steps_on}
 use Rattle.its_plain.specs.CallTty.{next_pointer}
 use Rattle.its_plain.specs.Course.{Deed, Lines, Steps, Moment, Course, run_of}
 use Rattle.its_plain.specs.Decide.{call_named}
 use Rattle.its_plain.specs.Footprint.{Stands}
-use Rattle.its_plain.specs.Interrupt.{deliverable}
 use Rattle.its_plain.specs.Machine.{Whole, Machine}
 use Rattle.its_plain.specs.OneByte.{rest_of_transfer, OneByte}
-use Rattle.its_plain.specs.Unit.{Outcome, Changed, Faulted, Called, unit}
-
--- the step of a running job is a part of its call, after which PC stays, and not the call's end
-abbrev pub is_part : Decision → Bool
-is_part (Goes cs h vs) = true
-is_part (Waits r) = false
-is_part (Ends cs ss e) = false
-is_part (Gone cs) = false
-
-abbrev pub part_asking : Machine → ℕ → Whole → Result Ask Fault → Bool
-part_asking m j q (Ok a) = is_part (decision m j q a)
-part_asking m j q (Err f) = false
-
-abbrev pub part_doing : Machine → ℕ → Whole → Outcome → Bool
-part_doing m j q (Called s) = part_asking m j q (ask q.core s)
-part_doing m j q (Changed c k) = false
-part_doing m j q (Faulted f) = false
-
-abbrev pub part_at : Machine → ℕ → Option Whole → Bool
-part_at m j (Some q) = not q.job.stopped && not (deliverable q.job) && part_doing m j q (unit q.core q.job)
-part_at m j None = false
-
-unfoldable pub steps_on : Machine → ℕ → Bool
-steps_on m j = part_at m j (m.jobs j)
 
 -- a moment of a run leaves a job with the core and the PC that it had
 abbrev pub Untouched : Option Whole → Option Whole → Type 0
@@ -62,8 +33,8 @@ abbrev pub is_own : ℕ → Deed → Bool
 is_own j (Steps i) = i == j
 is_own j (Lines e) = false
 
--- a stretch of a run: each moment is a step of the job of slot j that is a part of its call, or leaves its core and its PC
--- as they are. Lines and steps of others may do what they like to all else
+-- a stretch of a run: each moment is a step of the job of slot j that is a part of its call, or leaves its core and its
+-- PC as they are. Lines and steps of others may do what they like to all else
 abbrev pub Fits : Bool → ℕ → Machine → Machine → Type 0
 Fits true j m n = steps_on m j ≡ true
 Fits false j m n = Untouched (m.jobs j) (n.jobs j)
@@ -148,4 +119,5 @@ pub record TransferStretch (u : Course) (j : ℕ) : Type 0 where
 
 -- each stretch of a transfer, in the run of these events, which show these lines, moves its bytes once and in order
 pub record Stretches (es : List Item) (lines : List Line) : Type 0 where
-  pub each : (j : ℕ) (x : TransferStretch (run_of es lines) j) → Transferred j x.site x.ask x.section.moments (end_of (run_of es lines) x.section)
+  pub each : (j : ℕ) (x : TransferStretch (run_of es lines) j)
+      → Transferred j x.site x.ask x.section.moments (end_of (run_of es lines) x.section)

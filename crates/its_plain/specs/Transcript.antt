@@ -9,10 +9,10 @@ use Rattle.its_word.specs.declared.session.Reason.{Reason}
 use Rattle.its_word.specs.declared.show.Peek.{Peek}
 use Rattle.its_print.specs.Printing.{Line, Refused}
 use Rattle.its_print.specs.Printing as printed
-use Rattle.its_plain.specs.CallOperator.{Lined, Done, Peeks, lined}
+use Rattle.its_plain.specs.OperatorLines.{Lined, Done, Peeks, lined}
 use Rattle.its_plain.specs.Licence.{Licensed, Dots, most_dots, dots_after, dots_after_line}
 use Rattle.its_plain.specs.Machine.{Machine, no_machine}
-use Rattle.its_plain.specs.Operator.{Block, no_block, Refuses, Does, Ticks, Ends}
+use Rattle.its_plain.specs.Operator.{Block, no_block, Refuses, Does, Ticks, Quits}
 
 -- how a session ends: at END, at the end of the events, with a refused line, or where a line past the most that a
 -- session may have begins
@@ -33,13 +33,13 @@ pub record Walk : Type 0 where
 abbrev pub at_start : Walk
 at_start = record { machine = no_machine; dots = λ k. 0; block = no_block; line = 1 }
 
--- it stands after a letter of slot i, which leads to machine n; after a line which does so, disturbs these slots and
--- leaves this block; and at the next line
+-- where it stands after a letter of slot i that leads to machine n
 abbrev pub after_letter : Walk → ℕ → Pace → Machine → Walk
 after_letter v i p n = record v { machine = n; dots = dots_after v.machine v.dots i p }
 
-abbrev pub after_line : Walk → Machine → (ℕ → Bool) → Block → Walk
-after_line v n touched b = record v { machine = n; dots = dots_after_line v.dots touched; block = b }
+-- where it stands after a line that leads to machine n, disturbs or fills these slots, and leaves this block
+abbrev pub walk_after : Walk → Machine → (ℕ → Bool) → Block → Walk
+walk_after v n touched b = record v { machine = n; dots = dots_after_line v.dots touched; block = b }
 
 abbrev pub next_line : Walk → Walk
 next_line v = record v { line = v.line + 1 }
@@ -60,35 +60,35 @@ Comes v e o = lined v.machine v.block e ≡ o
 -- from where a session stands on, these events show these lines, no more and no fewer, and it ends so
 pub data Shows : Walk → List Item → List Line → Fate → Type 0 where
   -- END
-  ended : {v : Walk} {e : Event} {es : List Item}
-      → Comes v e (Done Ends)
+  end_line : {v : Walk} {e : Event} {es : List Item}
+      → Comes v e (Done Quits)
       → Shows v (Read e ∷ es) [] Ended
   -- the input ends
-  input_ends : {v : Walk} → Shows v [] [] Open
+  input_end : {v : Walk} → Shows v [] [] Open
   -- a line past the most that a session may have
   too_long : {v : Walk} {es : List Item} → Shows v (Beyond ∷ es) [] TooLong
   -- a line that is none of the session's grammar
-  unread : {v : Walk} {r : Reason} {es : List Item} → Shows v (Unread r ∷ es) (Refused v.line r ∷ []) Lost
-  -- a line that is refused
-  refused : {v : Walk} {e : Event} {r : Reason} {es : List Item}
+  unread_line : {v : Walk} {r : Reason} {es : List Item} → Shows v (Unread r ∷ es) (Refused v.line r ∷ []) Lost
+  -- a line that the machine refuses
+  refused_line : {v : Walk} {e : Event} {r : Reason} {es : List Item}
       → Comes v e (Done (Refuses r))
       → Shows v (Read e ∷ es) (Refused v.line r ∷ []) Lost
-  -- a line that is obeyed: what it shows comes first
-  obeyed : {v : Walk} {e : Event} {n : Machine} {out : List Line} {touched : ℕ → Bool} {b : Block}
+  -- any other line: what it shows comes first
+  obeyed_line : {v : Walk} {e : Event} {n : Machine} {out : List Line} {touched : ℕ → Bool} {b : Block}
       {es : List Item} {lines rest : List Line} {fate : Fate}
       → Comes v e (Done (Does n out touched b))
       → lines ≡ out ++ rest
-      → Shows (next_line (after_line v n touched b)) es rest fate
+      → Shows (next_line (walk_after v n touched b)) es rest fate
       → Shows v (Read e ∷ es) lines fate
   -- TICK: a `T` line with as many letters as there are ticks
-  ticked : {v w : Walk} {e : Event} {i k : ℕ} {ps : List Pace} {es : List Item} {rest : List Line} {fate : Fate}
+  tick_line : {v w : Walk} {e : Event} {i k : ℕ} {ps : List Pace} {es : List Item} {rest : List Line} {fate : Fate}
       → Comes v e (Done (Ticks i k))
       → length ps ≡ k
       → Paced i v ps w
       → Shows (next_line w) es rest fate
       → Shows v (Read e ∷ es) (printed.Ticks i ps ∷ rest) fate
   -- PEEK: a `P` line, which may say anything
-  peeked : {v : Walk} {e : Event} {i : ℕ} {peek : Peek} {es : List Item} {rest : List Line} {fate : Fate}
+  peek_line : {v : Walk} {e : Event} {i : ℕ} {peek : Peek} {es : List Item} {rest : List Line} {fate : Fate}
       → Comes v e (Peeks i)
       → Shows (next_line v) es rest fate
       → Shows v (Read e ∷ es) (printed.Peeked i peek ∷ rest) fate

@@ -21,18 +21,17 @@ use Rattle.its_frame.specs.declared.name.CallName.TheVariants.{Hang, Sleep, Dism
 use Rattle.its_frame.specs.declared.variable.Variable.{Variable}
 use Rattle.its_frame.specs.declared.variable.Variable.TheVariants.{Uname, Jname, Uind, Suppro, Cnsl, Pages, Upc, Ustp, Pirqc, Ifpir, Mask, Msk2, Df1, Df2}
 use Rattle.its_plain.specs.Arguments.{input, has_input, place_of_input, revalued}
-use Rattle.its_plain.specs.Ask.{ask}
 use Rattle.its_plain.specs.CallBasic.{negated, sleep_tests, sleep, dismissed_by, dismiss_at, dismiss, Party, Oneself, Nobody, Channel, variable_named, by_oneself, by_superior, set_own, own_variable, set_other, value_of_other, other_variable, usrvar_of, channel_at, party, usrvar}
 use Rattle.its_plain.specs.CallTty.{console_of, has_console, input_waits, output_waits, output_left, first_typed, shown_byte, opens_on, open_tests, opens, close_on, closes, store_tests, read_tests, word_of, iot_ends, iot_in, iot_out, iot_on, iot, next_pointer, siot_in, siot_out, siot_by, siot_on, siot, finish_on, finish, listens, listen_on, listen, can_take, is_holder, lands, ttylnd_of, ttylnd}
-use Rattle.its_plain.specs.CallStep.{with_held, acted, decision, by_ask, by_unit, informs, delivery, by_delivery, unless_stopped, step_of, step}
+use Rattle.its_plain.specs.CallStep.{with_held, acted, decision, informs, step}
 use Rattle.its_plain.specs.Change.{in_job, is_gone, left_job, removed, superiors, inferior, effect, effects}
-use Rattle.its_plain.specs.Decide.{call_named, tty_by, decided_by, decided, target}
+use Rattle.its_plain.specs.Decide.{call_named, tty_by, decided_by, decided, target, reach}
 use Rattle.its_plain.specs.Interrupt as interrupt
 use Rattle.its_plain.specs.Interrupt.{Delivered, deliverable, delivered, dismissed, dismissed_at, below}
 use Rattle.its_plain.specs.Machine.{Chan, Shut, TtyIn, TtyOut, Reads, Writes, On, Whole, Machine, changed, no_machine}
 use Rattle.its_plain.specs.Own.{on_channel, with_variable, advanced}
 use Rattle.its_plain.specs.Tests.{◌⇒◌, finishes, fails, goes, out}
-use Rattle.its_plain.specs.Unit.{Outcome, Changed, Faulted, Called, unit}
+use Rattle.its_plain.specs.Unit.{Changed, unit}
 use Rattle.its_plain.specs.View.{View, view}
 use Rattle.its_plain.proofs.DeliveryLaws.{delivered_placed}
 use Rattle.its_plain.proofs.UnitLaws.{unit_keeps}
@@ -41,6 +40,7 @@ use Rattle.its_stepped.proofs.TestLaws.{by_test, first_holds}
 use Rattle.its_stepped.proofs.FileWays.{OnFile, Ways, siot_by_ways, file_ways}
 use Rattle.its_stepped.proofs.UsrWays.{OnUsr, usr_ways}
 use Rattle.its_stepped.proofs.CoreWays.{OnCore, core_ways}
+use Rattle.its_plain.proofs.StepLaws.{AllOf, step_has}
 
 -- at the start of a session
 pub addressed_starts : Addressed no_machine
@@ -379,56 +379,35 @@ unfolding decision view
 decision_leaves m j q a h = decided_leaves (view m j q (target q a)) a h
 
 -- a call
-abbrev StepAddressed : Option Machine → Type 0
-StepAddressed (Some n) = Addressed n
-StepAddressed None = Unit {0}
-
 pub held_job : (a : Ask) (h : Option Held) (q : Whole) → (with_held a h q).job ≡ q.job
 held_job a None q = refl
 held_job a (Some b) q = refl
 
-acted_addressed : (m : Machine) (j : ℕ) (a : Ask) (d : Decision) → LeavesAddress d → Addressed m → StepAddressed (acted m j a d)
+acted_addressed : (m : Machine) (j : ℕ) (a : Ask) (ks : List ℕ) (d : Decision) → LeavesAddress d → Addressed m → AllOf (λ t. Addressed t.machine) (acted m j a ks d)
 unfolding acted
-acted_addressed m j a (Waits r) l h = tt
-acted_addressed m j a (Goes cs b vs) l h =
+acted_addressed m j a ks (Waits r) l h = tt
+acted_addressed m j a ks (Goes cs b vs) l h =
     job_addressed (effects cs.items j m) j _ (λ q x. subst (λ (i : Job). i.pc < 2 ^ 18) (sym (held_job (revalued a vs.items) b q)) x) (effects_addressed cs.items j m h)
-acted_addressed m j a (Ends cs ss e) l h = job_addressed (effects cs.items j m) j _ (λ q x. l) (effects_addressed cs.items j m h)
-acted_addressed m j a (Gone cs) l h = effects_addressed (changes.Remove j ∷ cs.items) j m h
-
-ask_addressed : (m : Machine) (j : ℕ) (q : Whole) (r : Result Ask Fault) → q.job.pc < 2 ^ 18 → Addressed m → StepAddressed (by_ask m j q r)
-ask_addressed m j q (Ok a) p h = acted_addressed m j a (decision m j q a) (decision_leaves m j q a p) h
-ask_addressed m j q (Err f) p h = job_addressed m j _ (λ i x. x) h
+acted_addressed m j a ks (Ends cs ss e) l h = job_addressed (effects cs.items j m) j _ (λ q x. l) (effects_addressed cs.items j m h)
+acted_addressed m j a ks (Gone cs) l h = effects_addressed (changes.Remove j ∷ cs.items) j m h
 
 -- a unit
 pub unit_addressed : (c : Core) (j : Job) (d : Core) (k : Job) → unit c j ≡ Changed d k → k.pc < 2 ^ 18
 unit_addressed c j d k e = (unit_keeps c j d k e).pc
 
-by_unit_addressed : (m : Machine) (j : ℕ) (q : Whole) (o : Outcome) → unit q.core q.job ≡ o → q.job.pc < 2 ^ 18 → Addressed m → StepAddressed (by_unit m j q o)
-by_unit_addressed m j q (Changed c k) e p h = job_addressed m j _ (λ i x. unit_addressed q.core q.job c k e) h
-by_unit_addressed m j q (Faulted f) e p h = job_addressed m j _ (λ i x. x) h
-by_unit_addressed m j q (Called s) e p h = ask_addressed m j q (ask q.core s) p h
-
--- a delivery
-delivery_addressed : (m : Machine) (j : ℕ) (q : Whole) (d : Delivered) → d.job.pc < 2 ^ 18 → Addressed m → Addressed (delivery m j q d)
-delivery_addressed m j q d p h = job_addressed (effects (informs d.stops q.superior) j m) j _ (λ i x. p) (effects_addressed (informs d.stops q.superior) j m h)
-
 -- a step
-user_addressed : (m : Machine) (j : ℕ) (q : Whole) (b : Bool) → q.job.pc < 2 ^ 18 → Addressed m → StepAddressed (by_delivery m j q b)
-user_addressed m j q true p h = delivery_addressed m j q (delivered q.core q.job) (delivered_placed q.core q.job p) h
-user_addressed m j q false p h = by_unit_addressed m j q (unit q.core q.job) refl p h
-
-running_addressed : (m : Machine) (j : ℕ) (q : Whole) (b : Bool) → q.job.pc < 2 ^ 18 → Addressed m → StepAddressed (unless_stopped m j q b)
-running_addressed m j q true p h = tt
-running_addressed m j q false p h = user_addressed m j q (deliverable q.job) p h
-
-slot_addressed : (m : Machine) (j : ℕ) (o : Option Whole) → AddressedBy o → Addressed m → StepAddressed (step_of m j o)
-slot_addressed m j None p h = tt
-slot_addressed m j (Some q) p h = running_addressed m j q q.job.stopped p h
-
-by_step : (m : Machine) (j : ℕ) → Addressed m → StepAddressed (step m j)
-unfolding step
-by_step m j h = slot_addressed m j (m.jobs j) (h.each j) h
+job_pc : (m : Machine) (j : ℕ) (q : Whole) → Addressed m → m.jobs j ≡ Some q → q.job.pc < 2 ^ 18
+job_pc m j q h is = subst AddressedBy is (h.each j)
 
 -- each PC stays an address
 pub step_addressed : (m n : Machine) (j : ℕ) → Addressed m → step m j ≡ Some n → Addressed n
-step_addressed m n j h e = subst StepAddressed e (by_step m j h)
+step_addressed m n j h e = step_has Addressed m n j (λ q is.
+    let p = job_pc m j q h is in
+    let d = delivered q.core q.job in
+    let informed = effects (informs d.stops q.superior) j m in
+    record {
+      delivers = job_addressed informed j _ (λ i x. delivered_placed q.core q.job p) (effects_addressed (informs d.stops q.superior) j m h);
+      changes = λ c k u. job_addressed m j _ (λ i x. unit_addressed q.core q.job c k u) h;
+      faults = λ f. job_addressed m j _ (λ i x. x) h;
+      calls = λ a. acted_addressed m j a (reach m j q a) (decision m j q a) (decision_leaves m j q a p) h;
+    }) e

@@ -3,8 +3,8 @@
 use Rattle.std.specs.Prelude.{◌≡◌, ℕ, false, refl}
 use Rattle.std.proofs.Common.{sym, ◌∙◌, ap}
 use Rattle.its_word.specs.declared.session.Event.{Event}
-use Rattle.its_plain.specs.Operator.{Block, Refuses, Does, Ticks, Ends}
-use Rattle.its_plain.specs.CallOperator.{Lined, Done, Peeks, lined}
+use Rattle.its_plain.specs.Operator.{Block, Refuses, Does, Ticks, Quits}
+use Rattle.its_plain.specs.OperatorLines.{Lined, Done, Peeks, lined}
 use Rattle.its_stepped.specs.State.{State, plain}
 use Rattle.its_stepped.specs.Sound.{Sound}
 use Rattle.its_stepped.specs.Tick.{helped_if}
@@ -17,7 +17,7 @@ sound_by : (w u v : State) (l : Lined) → Sound u → KeptBy w v l → Sound (s
 sound_by w u v (Done (Does m out touched b)) sound h = h.sound
 sound_by w u v (Done (Refuses r)) sound h = sound
 sound_by w u v (Done (Ticks s k)) sound h = sound
-sound_by w u v (Done Ends) sound h = sound
+sound_by w u v (Done Quits) sound h = sound
 sound_by w u v (Peeks s) sound h = sound
 
 pub after_sound : (w : State) (b : Block) (e : Event) → Sound w → Sound (after_line w b e)
@@ -29,7 +29,7 @@ plain_by : (w v : State) (l : Lined) → plain (state_after w v l) ≡ machine_a
 plain_by w v (Done (Does m out touched b)) = refl
 plain_by w v (Done (Refuses r)) = refl
 plain_by w v (Done (Ticks s k)) = refl
-plain_by w v (Done Ends) = refl
+plain_by w v (Done Quits) = refl
 plain_by w v (Peeks s) = refl
 
 pub after_plain : (w : State) (b : Block) (e : Event) → Sound w → plain (after_line w b e) ≡ machine_after (plain w) (lined (plain w) b e)
@@ -43,7 +43,7 @@ frames_by : (w u v : State) (l : Lined) (k : ℕ) → u.frames k ≡ w.frames k 
 frames_by w u v (Done (Does m out touched b)) k same away h = h.spares k away
 frames_by w u v (Done (Refuses r)) k same away h = same
 frames_by w u v (Done (Ticks s n)) k same away h = same
-frames_by w u v (Done Ends) k same away h = same
+frames_by w u v (Done Quits) k same away h = same
 frames_by w u v (Peeks s) k same away h = same
 
 pub after_frames : (w : State) (b : Block) (e : Event) (k : ℕ) → Sound w → touched_by (lined (plain w) b e) k ≡ false → (after_line w b e).frames k ≡ w.frames k

@@ -1,5 +1,5 @@
 -- The commit of a call, seen as a plain machine, is what the plain machine makes of its decision.
-use Rattle.std.specs.Prelude.{if◌then◌else◌, ◌==◌, ◌≡◌, ℕ, ◌%◌, ◌^◌, Bool, true, false, Option, Some, None, IfSome, List, [], ◌∷◌, ◌++◌, map, length, unwrap_or, refl, is_some}
+use Rattle.std.specs.Prelude.{if◌then◌else◌, ◌==◌, ◌≡◌, ℕ, ◌%◌, ◌^◌, Bool, true, false, Option, Some, None, IfSome, List, [], ◌∷◌, ◌++◌, map, length, unwrap_or, refl, is_some, option_map}
 use Rattle.std.proofs.Common.{sym, ◌∙◌, ap, subst, inl, inr}
 use Rattle.its_word.specs.Byte.{deposit_of}
 use Rattle.its_word.specs.Core.{Core, word_at, store}
@@ -21,7 +21,7 @@ use Rattle.its_plain.specs.Own.{with_stores, leave}
 use Rattle.its_plain.specs.Change.{in_job, effects}
 use Rattle.its_plain.specs.Arguments.{input, debts, revalued}
 use Rattle.its_plain.specs.Decide.{call_named}
-use Rattle.its_plain.specs.CallStep.{deposited, with_held, moved, ended, acted}
+use Rattle.its_plain.specs.CallStep.{deposited, with_held, moved, ended, acted, Transition}
 use Rattle.its_plain.specs.Footprint.{in_footprint}
 use Rattle.its_word.specs.Stores.{stored}
 use Rattle.its_stepped.specs.State.{Part, UnlinkOld, LinkNew, FreeOld, Mark, State, plain, seen, owed_made, turn, same, waiting, ending}
@@ -148,10 +148,11 @@ abbrev pub Acts : Decision → Type 0
 Acts (Waits r) = ⊥
 Acts _ = Unit {0}
 
-pub committed_plain : (v : State) (j : ℕ) (own : Whole) (s : Site) (a : Ask) (n : ℕ) (d : Decision) → ((p : Whole) → seen (v.frames j) p ≡ with_stores (debts a n) p)
-    → Duty v j own s a n d → Acts d → acted (plain v) j a d ≡ Some (plain (committed v j s a n d))
+pub committed_plain : (v : State) (j : ℕ) (own : Whole) (s : Site) (a : Ask) (n : ℕ) (ks : List ℕ) (d : Decision)
+    → ((p : Whole) → seen (v.frames j) p ≡ with_stores (debts a n) p) → Duty v j own s a n d → Acts d
+    → option_map (λ (t : Transition). t.machine) (acted (plain v) j a ks d) ≡ Some (plain (committed v j s a n d))
 unfolding committed acted
-committed_plain v j own s a n (Waits r) is h t = absurd t
-committed_plain v j own s a n (Goes cs b vs) is h t = ap Some (sym (goes_plain v j own s a n cs.items b vs.items is h))
-committed_plain v j own s a n (Ends cs ss e) is h t = ap Some (sym (ends_plain v j own s a n cs.items ss.items e is h))
-committed_plain v j own s a n (Gone cs) is h t = ap Some (sym (effects_plain (changes.Remove j ∷ cs.items) j v h.quiet))
+committed_plain v j own s a n ks (Waits r) is h t = absurd t
+committed_plain v j own s a n ks (Goes cs b vs) is h t = ap Some (sym (goes_plain v j own s a n cs.items b vs.items is h))
+committed_plain v j own s a n ks (Ends cs ss e) is h t = ap Some (sym (ends_plain v j own s a n cs.items ss.items e is h))
+committed_plain v j own s a n ks (Gone cs) is h t = ap Some (sym (effects_plain (changes.Remove j ∷ cs.items) j v h.quiet))

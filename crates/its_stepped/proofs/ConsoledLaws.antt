@@ -25,17 +25,18 @@ use Rattle.its_frame.specs.declared.frame.Frame.TheVariants.{Entered, Parsed, As
 use Rattle.its_frame.specs.declared.variable.Variable.{Variable}
 use Rattle.its_frame.specs.declared.variable.Variable.TheVariants.{Uname, Jname, Uind, Suppro, Cnsl, Pages, Upc, Ustp, Pirqc, Ifpir, Mask, Msk2, Df1, Df2}
 use Rattle.its_plain.specs.Arguments.{revalued}
-use Rattle.its_plain.specs.Ask.{ask}
-use Rattle.its_plain.specs.CallStep.{with_held, acted, decision, by_ask, by_unit, informs, delivery, by_delivery, unless_stopped, step_of, step}
+use Rattle.its_plain.specs.CallStep.{with_held, acted, decision, informs, step}
 use Rattle.its_plain.specs.Change.{in_job, is_gone, left_job, removed, superiors, console_in, inferior, poke, effect, effects}
-use Rattle.its_plain.specs.Interrupt.{Entry, Delivered, entries_of, first_entry, pushed, at_handler, by_stores, by_pointer, by_entry, by_length, by_table, through_table, unguarded, deliverable, delivered}
+use Rattle.its_plain.specs.Interrupt.{Entry, entries_of, first_entry, pushed, at_handler, by_stores, by_pointer, by_entry, by_length, by_table, through_table, unguarded, delivered}
 use Rattle.its_plain.specs.Machine.{Shut, Whole, Machine, changed, with_job, no_machine}
-use Rattle.its_plain.specs.Operator.{new_job, with_holder, loaded_in, loaded}
+use Rattle.its_plain.specs.OperatorJobs.{new_job, with_holder, loaded_in, loaded}
 use Rattle.its_plain.specs.Own.{with_stores, leave, on_channel, with_variable}
-use Rattle.its_plain.specs.Unit.{Outcome, Changed, Faulted, Called, unit}
+use Rattle.its_plain.specs.Unit.{Changed, unit}
 use Rattle.its_plain.proofs.UnitLaws.{unit_keeps}
 use Rattle.its_stepped.specs.Consoled.{Consoled}
 use Rattle.its_stepped.specs.State.{State, owed_made, seen, plain}
+use Rattle.its_plain.proofs.StepLaws.{AllOf, step_has}
+use Rattle.its_plain.specs.Decide.{reach}
 
 -- one job
 abbrev pub Housed : Option ℕ → Type 0
@@ -161,33 +162,20 @@ effects_consoled [] j m a = a
 effects_consoled (c ∷ cs) j m a = effects_consoled cs j (effect c j m) (effect_consoled c j m a)
 
 -- a call
-abbrev StepConsoled : Option Machine → Type 0
-StepConsoled (Some n) = Consoled n
-StepConsoled None = Unit {0}
-
 held_console : (a : Ask) (h : Option Held) (q : Whole) → (with_held a h q).job.console ≡ q.job.console
 held_console a None q = refl
 held_console a (Some b) q = refl
 
-acted_consoled : (m : Machine) (j : ℕ) (a : Ask) (d : Decision) → Consoled m → StepConsoled (acted m j a d)
+acted_consoled : (m : Machine) (j : ℕ) (a : Ask) (ks : List ℕ) (d : Decision) → Consoled m → AllOf (λ t. Consoled t.machine) (acted m j a ks d)
 unfolding acted
-acted_consoled m j a (Waits r) h = tt
-acted_consoled m j a (Goes cs b vs) h = job_consoled (effects cs.items j m) j _ (λ q. held_console (revalued a vs.items) b q) (effects_consoled cs.items j m h)
-acted_consoled m j a (Ends cs ss e) h = job_consoled (effects cs.items j m) j _ (λ q. refl) (effects_consoled cs.items j m h)
-acted_consoled m j a (Gone cs) h = effects_consoled (changes.Remove j ∷ cs.items) j m h
-
-ask_consoled : (m : Machine) (j : ℕ) (q : Whole) (r : Result Ask Fault) → Consoled m → StepConsoled (by_ask m j q r)
-ask_consoled m j q (Ok a) h = acted_consoled m j a (decision m j q a) h
-ask_consoled m j q (Err f) h = job_consoled m j _ (λ i. refl) h
+acted_consoled m j a ks (Waits r) h = tt
+acted_consoled m j a ks (Goes cs b vs) h = job_consoled (effects cs.items j m) j _ (λ q. held_console (revalued a vs.items) b q) (effects_consoled cs.items j m h)
+acted_consoled m j a ks (Ends cs ss e) h = job_consoled (effects cs.items j m) j _ (λ q. refl) (effects_consoled cs.items j m h)
+acted_consoled m j a ks (Gone cs) h = effects_consoled (changes.Remove j ∷ cs.items) j m h
 
 -- a unit
 unit_console : (c : Core) (j : Job) (d : Core) (k : Job) → unit c j ≡ Changed d k → k.console ≡ j.console
 unit_console c j d k e = (unit_keeps c j d k e).registers.console
-
-unit_consoled : (m : Machine) (j : ℕ) (q : Whole) (o : Outcome) → unit q.core q.job ≡ o → Housed q.job.console → Consoled m → StepConsoled (by_unit m j q o)
-unit_consoled m j q (Changed c k) e p h = changed_consoled m j _ (λ i x. subst Housed (sym (unit_console q.core q.job c k e)) p) h
-unit_consoled m j q (Faulted f) e p h = job_consoled m j _ (λ i. refl) h
-unit_consoled m j q (Called s) e p h = ask_consoled m j q (ask q.core s) h
 
 -- a delivery
 stores_console : (c : Core) (j : Job) (e : Entry) (ss : List Store) (o : Option Fault) → (by_stores c j e ss o).job.console ≡ j.console
@@ -216,29 +204,18 @@ delivered_console : (c : Core) (j : Job) → (delivered c j).job.console ≡ j.c
 unfolding delivered through_table
 delivered_console c j = elim (cases_Bool (unguarded j == 0)) [ inl t ↦ rw t (table_console c j (word_at c 0o42)) | inr t ↦ rw t refl ]
 
-delivery_consoled : (m : Machine) (j : ℕ) (q : Whole) (d : Delivered) → Housed d.job.console → Consoled m → Consoled (delivery m j q d)
-delivery_consoled m j q d p h = changed_consoled (effects (informs d.stops q.superior) j m) j _ (λ i x. p) (effects_consoled (informs d.stops q.superior) j m h)
-
--- a step
-user_consoled : (m : Machine) (j : ℕ) (q : Whole) (b : Bool) → Housed q.job.console → Consoled m → StepConsoled (by_delivery m j q b)
-user_consoled m j q true p h = delivery_consoled m j q (delivered q.core q.job) (subst Housed (sym (delivered_console q.core q.job)) p) h
-user_consoled m j q false p h = unit_consoled m j q (unit q.core q.job) refl p h
-
-running_consoled : (m : Machine) (j : ℕ) (q : Whole) (b : Bool) → Housed q.job.console → Consoled m → StepConsoled (unless_stopped m j q b)
-running_consoled m j q true p h = tt
-running_consoled m j q false p h = user_consoled m j q (deliverable q.job) p h
-
-slot_consoled : (m : Machine) (j : ℕ) (o : Option Whole) → HousedBy o → Consoled m → StepConsoled (step_of m j o)
-slot_consoled m j None p h = tt
-slot_consoled m j (Some q) p h = running_consoled m j q q.job.stopped p h
-
-by_step : (m : Machine) (j : ℕ) → Consoled m → StepConsoled (step m j)
-unfolding step
-by_step m j h = slot_consoled m j (m.jobs j) (h.each j) h
-
 -- each console stays one of eight
 pub step_consoled : (m n : Machine) (j : ℕ) → Consoled m → step m j ≡ Some n → Consoled n
-step_consoled m n j h e = subst StepConsoled e (by_step m j h)
+step_consoled m n j h e = step_has Consoled m n j (λ q is.
+    let p : Housed q.job.console = subst HousedBy is (h.each j) in
+    let d = delivered q.core q.job in
+    let informed = effects (informs d.stops q.superior) j m in
+    record {
+      delivers = changed_consoled informed j _ (λ i x. subst Housed (sym (delivered_console q.core q.job)) p) (effects_consoled (informs d.stops q.superior) j m h);
+      changes = λ c k u. changed_consoled m j _ (λ i x. subst Housed (sym (unit_console q.core q.job c k u)) p) h;
+      faults = λ f. job_consoled m j _ (λ i. refl) h;
+      calls = λ a. acted_consoled m j a (reach m j q a) (decision m j q a) h;
+    }) e
 
 -- a raw job has the console of the job that it stands for
 owed_console : (os : List Owed) (q : Whole) → (owed_made os q).job.console ≡ q.job.console

@@ -15,9 +15,9 @@ use Rattle.its_frame.specs.declared.decision.Decision.{Decision}
 use Rattle.its_frame.specs.declared.decision.Decision.TheVariants.{Waits, Goes, Ends, Gone}
 use Rattle.its_frame.specs.declared.frame.Frame.{Frame}
 use Rattle.its_frame.specs.declared.frame.Frame.TheVariants.{Entered, Parsed, Asked, Holding, Waiting, Moving, Ending}
-use Rattle.its_plain.specs.Ask.{parse, fetch, ask}
+use Rattle.its_plain.specs.Ask.{parse, fetch}
 use Rattle.its_plain.specs.Arguments.{debts}
-use Rattle.its_plain.specs.CallStep.{informs, told, decision, among, reach_of, reach_of_job, reach_of_unit, reach_of_ask, disturbed}
+use Rattle.its_plain.specs.CallStep.{informs, informed_slots, decision, among, disturbed, Transition, acted, transition, disturbs_in}
 use Rattle.its_plain.specs.Decide.{reach}
 use Rattle.its_plain.specs.Interrupt.{deliverable, delivered}
 use Rattle.its_plain.specs.Machine.{Whole, Machine, changed}
@@ -34,7 +34,9 @@ use Rattle.its_stepped.proofs.FrameLaws.{changed_only}
 use Rattle.its_stepped.proofs.UnwindLaws.{all_unwound_others}
 use Rattle.its_stepped.proofs.HelpLaws.{helped_if_others}
 use Rattle.its_stepped.proofs.EffectLaws.{effects_others}
-use Rattle.its_stepped.proofs.TickLaws.{told_quiet, seen_at, seen_none, Trying, trying_holding, trying_waiting}
+use Rattle.its_stepped.proofs.TickLaws.{told_quiet, seen_at, seen_none, Trying, trying_holding, trying_waiting, trying_acts}
+use Rattle.its_plain.proofs.StepLaws.{transition_delivers}
+use Rattle.its_stepped.proofs.CommitLaws.{Acts}
 
 -- a call that has ended owes four steps at most; then come entry, block, arguments, preparation, and the four quarters
 -- of a page. After a part of a call the count begins anew
@@ -88,16 +90,16 @@ turn_steps : (w v : State) (j : ℕ) (g : Option Frame) → ((k : ℕ) → k ≢
 turn_steps w v j g h = record { own = tt; others = h }
 
 -- whom a step disturbs
-pub disturbs_told : (m : Machine) (j k : ℕ) (q : Whole) → m.jobs j ≡ Some q → deliverable q.job ≡ true → disturbed m j k ≡ among k (told (delivered q.core q.job).stops q.superior)
+pub disturbs_by : (m : Machine) (j k : ℕ) (o : Option Transition) → transition m j ≡ o → disturbed m j k ≡ among k (disturbs_in o)
 unfolding disturbed
-disturbs_told m j k q is d = ap (λ (o : Option Whole). among k (reach_of m j o)) is ∙ ap (λ (b : Bool). among k (reach_of_job m j q b)) d
+disturbs_by m j k o e = ap (λ (o : Option Transition). among k (disturbs_in o)) e
 
-disturbs_reach : (m : Machine) (j k : ℕ) (q : Whole) (s : Site) (a : Ask) → m.jobs j ≡ Some q → deliverable q.job ≡ false → unit q.core q.job ≡ Called s → ask q.core s ≡ Ok a
-    → disturbed m j k ≡ among k (reach m j q a)
-unfolding disturbed
-disturbs_reach m j k q s a is d u e =
-    ap (λ (o : Option Whole). among k (reach_of m j o)) is ∙ ap (λ (b : Bool). among k (reach_of_job m j q b)) d
-    ∙ ap (λ (o : Outcome). among k (reach_of_unit m j q o)) u ∙ ap (λ (r : Result Ask Fault). among k (reach_of_ask m j q r)) e
+acted_disturbs : (m : Machine) (j : ℕ) (a : Ask) (ks : List ℕ) (d : Decision) → Acts d → disturbs_in (acted m j a ks d) ≡ ks
+unfolding acted
+acted_disturbs m j a ks (Waits r) t = absurd t
+acted_disturbs m j a ks (Goes cs h vs) t = refl
+acted_disturbs m j a ks (Ends cs ss e) t = refl
+acted_disturbs m j a ks (Gone cs) t = refl
 
 -- user mode
 unit_dots : (w : State) (j : ℕ) (o : Outcome) → w.frames j ≡ None → RowDots w j (unit_on w j o)
@@ -105,17 +107,19 @@ unit_dots w j (Changed c k) none = turn_steps w _ j None (λ i ne t. (changed_on
 unit_dots w j (Faulted f) none = turn_steps w _ j None (λ i ne t. (changed_only w.frames j None).others i ne)
 unit_dots w j (Called s) none = turn_works w _ j None (Some (entered s)) refl none (omega arith)
 
-user_dots : (w : State) (j : ℕ) (q : Whole) (b : Bool) → Sound w → w.raw.jobs j ≡ Some q → w.frames j ≡ None → deliverable q.job ≡ b → RowDots w j (user_on w j q b)
-user_dots w j q false sound is none d = unit_dots w j (unit q.core q.job) none
-user_dots w j q true sound is none d =
+user_dots : (w : State) (j : ℕ) (q : Whole) (b : Bool) → Sound w → w.raw.jobs j ≡ Some q → q.job.stopped ≡ false → w.frames j ≡ None → deliverable q.job ≡ b
+    → RowDots w j (user_on w j q b)
+user_dots w j q false sound is runs none d = unit_dots w j (unit q.core q.job) none
+user_dots w j q true sound is runs none d =
     let n = delivered q.core q.job in
-    let ks = told n.stops q.superior in
+    let ks = informed_slots n.stops q.superior in
     let cs = informs n.stops q.superior in
     let v = all_unwound ks w in
     turn_steps w _ j None (λ k ne t.
     (changed_only (effects_on cs j v).frames j None).others k ne
     ∙ (effects_others cs j v k (told_quiet w j n.stops q.superior sound) ne).frame
-    ∙ (all_unwound_others ks w k (sym (disturbs_told (plain w) j k q (seen_at w j q None is none ∙ ap Some (seen_none q)) d) ∙ t)).frame)
+    ∙ (all_unwound_others ks w k
+    (sym (disturbs_by (plain w) j k _ (transition_delivers (plain w) j q (seen_at w j q None is none ∙ ap Some (seen_none q)) runs d)) ∙ t)).frame)
 
 -- the decoding
 parsed_dots : (w : State) (j : ℕ) (s : Site) (f : Option Frame) (r : Result (List ℕ) Fault) → w.frames j ≡ f → bound f ≡ 5 → RowDots w j (parsed_on w j s r)
@@ -137,32 +141,33 @@ found_others w j k own a h =
     let u = all_unwound (reach (plain w) j own a) w in
     (helped_if_others (helps own a) u k).frame ∙ (all_unwound_others (reach (plain w) j own a) w k h).frame
 
-pub trying_reach : (w : State) (j k : ℕ) (q : Whole) (s : Site) (a : Ask) (n : ℕ) → Trying w j q s a n
+pub trying_reach : (w : State) (j k : ℕ) (q : Whole) (s : Site) (a : Ask) (n : ℕ) (d : Decision) → Trying w j q s a n → decision (plain w) j (with_stores (debts a n) q) a ≡ d → Acts d
     → disturbed (plain w) j k ≡ among k (reach (plain w) j (with_stores (debts a n) q) a)
-trying_reach w j k q s a n t =
-    disturbs_reach (plain w) j k (with_stores (debts a n) q) s a
-    (seen_at w j q (w.frames j) t.here.job_is refl ∙ ap Some (t.here.seen_is q)) t.here.quiet t.stands.unit_is t.stands.ask_is
+trying_reach w j k q s a n d t e acts =
+    disturbs_by (plain w) j k _ (trying_acts w j q s a n d t e)
+    ∙ ap (among k) (acted_disturbs (plain w) j a (reach (plain w) j (with_stores (debts a n) q) a) d acts)
 
 decided_dots : (w v : State) (j : ℕ) (own : Whole) (s : Site) (a : Ask) (n : ℕ) (d : Decision) → Duty v j own s a n d
-    → ((k : ℕ) → k ≢ j → disturbed (plain w) j k ≡ false → v.frames k ≡ w.frames k) → bound (w.frames j) ≤ 12 → RowDots w j (tried w v j s a n d)
+    → (Acts d → (k : ℕ) → k ≢ j → disturbed (plain w) j k ≡ false → v.frames k ≡ w.frames k) → bound (w.frames j) ≤ 12 → RowDots w j (tried w v j s a n d)
 unfolding committed
 decided_dots w v j own s a n (Waits r) duty h few = record {
   own = subst (λ (f : Option Frame). bound (w.frames j) ≤ bound f) (sym (changed_only w.frames j _).here) few;
   others = λ k ne t. (changed_only w.frames j _).others k ne;
 }
 decided_dots w v j own s a n (Goes cs b vs) duty h few =
-    turn_steps w _ j None (λ k ne t. (changed_only (effects_on cs.items j v).frames j _).others k ne ∙ (effects_others cs.items j v k duty.quiet ne).frame ∙ h k ne t)
+    turn_steps w _ j None (λ k ne t. (changed_only (effects_on cs.items j v).frames j _).others k ne ∙ (effects_others cs.items j v k duty.quiet ne).frame ∙ h tt k ne t)
 decided_dots w v j own s a n (Ends cs ss e) duty h few =
-    turn_steps w _ j None (λ k ne t. (changed_only (effects_on cs.items j v).frames j _).others k ne ∙ (effects_others cs.items j v k duty.quiet ne).frame ∙ h k ne t)
+    turn_steps w _ j None (λ k ne t. (changed_only (effects_on cs.items j v).frames j _).others k ne ∙ (effects_others cs.items j v k duty.quiet ne).frame ∙ h tt k ne t)
 decided_dots w v j own s a n (Gone cs) duty h few =
-    turn_steps w _ j None (λ k ne t. (effects_others (changes.Remove j ∷ cs.items) j v k duty.quiet ne).frame ∙ h k ne t)
+    turn_steps w _ j None (λ k ne t. (effects_others (changes.Remove j ∷ cs.items) j v k duty.quiet ne).frame ∙ h tt k ne t)
 
 tried_dots : (w : State) (j : ℕ) (q : Whole) (s : Site) (a : Ask) (n : ℕ) → Trying w j q s a n → Meets w j (with_stores (debts a n) q) s a n → bound (w.frames j) ≤ 12
     → RowDots w j (tried_by w j (with_stores (debts a n) q) s a n)
 tried_dots w j q s a n t m few =
     let own : Whole = with_stores (debts a n) q in
-    decided_dots w (prepared_for w j own a) j own s a n (decision (plain w) j own a) m.duty
-    (λ k ne d. found_others w j k own a (sym (trying_reach w j k q s a n t) ∙ d)) few
+    let d : Decision = decision (plain w) j own a in
+    decided_dots w (prepared_for w j own a) j own s a n d m.duty
+    (λ acts k ne x. found_others w j k own a (sym (trying_reach w j k q s a n d t refl acts) ∙ x)) few
 
 held_dots : (w : State) (j : ℕ) (q : Whole) (s : Site) (a : Ask) (page : Option ℕ) (n : ℕ) → Trying w j q s a n → (IsTried page → Meets w j (with_stores (debts a n) q) s a n)
     → w.frames j ≡ Some (holding s a page n) → bound (w.frames j) ≤ 12 → RowDots w j (held_on w j (with_stores (debts a n) q) s a page n)
@@ -255,19 +260,19 @@ bound_few w k s = bound_by (w.raw.jobs k) (w.frames k) (w.reserved k) (s.each k)
 off_dots : (w : State) (j : ℕ) → RowDots w j (off w)
 off_dots w j = record { own = omega arith; others = λ k ne t. refl }
 
-running_dots : (w : State) (j : ℕ) (q : Whole) (o : Option Frame) → Sound w → w.raw.jobs j ≡ Some q → w.frames j ≡ o → SoundBy (Some q) o (w.reserved j) → GivenBy w j q o
+running_dots : (w : State) (j : ℕ) (q : Whole) (o : Option Frame) → Sound w → w.raw.jobs j ≡ Some q → q.job.stopped ≡ false → w.frames j ≡ o → SoundBy (Some q) o (w.reserved j) → GivenBy w j q o
     → RowDots w j (tick_in w j q o)
-running_dots w j q None sound is fr h g = user_dots w j q (deliverable q.job) sound is fr refl
-running_dots w j q (Some f) sound is fr h g = frame_dots w j q f sound is fr h g (bound_few w j sound)
+running_dots w j q None sound is runs fr h g = user_dots w j q (deliverable q.job) sound is runs fr refl
+running_dots w j q (Some f) sound is runs fr h g = frame_dots w j q f sound is fr h g (bound_few w j sound)
 
-unless_dots : (w : State) (j : ℕ) (q : Whole) (b : Bool) → Sound w → Given w j → w.raw.jobs j ≡ Some q → RowDots w j (tick_unless w j q b)
-unless_dots w j q true sound g is = off_dots w j
-unless_dots w j q false sound g is =
-    running_dots w j q (w.frames j) sound is refl (subst (λ (o : Option Whole). SoundBy o (w.frames j) (w.reserved j)) is (sound.each j).by) (g.by q is)
+unless_dots : (w : State) (j : ℕ) (q : Whole) (b : Bool) → Sound w → Given w j → w.raw.jobs j ≡ Some q → q.job.stopped ≡ b → RowDots w j (tick_unless w j q b)
+unless_dots w j q true sound g is e = off_dots w j
+unless_dots w j q false sound g is e =
+    running_dots w j q (w.frames j) sound is e refl (subst (λ (o : Option Whole). SoundBy o (w.frames j) (w.reserved j)) is (sound.each j).by) (g.by q is)
 
 slot_dots : (w : State) (j : ℕ) (o : Option Whole) → Sound w → Given w j → w.raw.jobs j ≡ o → RowDots w j (tick_of w j o)
 slot_dots w j None sound g is = off_dots w j
-slot_dots w j (Some q) sound g is = unless_dots w j q q.job.stopped sound g is
+slot_dots w j (Some q) sound g is = unless_dots w j q q.job.stopped sound g is refl
 
 pub tick_dots : (w : State) (j : ℕ) → Sound w → Given w j → RowDots w j (tick w j)
 unfolding tick

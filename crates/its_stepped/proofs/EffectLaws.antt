@@ -20,7 +20,7 @@ use Rattle.its_plain.specs.Arguments.{input, debts}
 use Rattle.its_plain.specs.CallStep.{deposited}
 use Rattle.its_plain.proofs.MachineLaws.{machine_is, jobs_are}
 use Rattle.its_plain.specs.CallFile.{file_named, has_file}
-use Rattle.its_stepped.specs.State.{State, helped, parts_of, parts_made, marked, held_at, owed_made, seen, seen_jobs, plain}
+use Rattle.its_stepped.specs.State.{State, helped, parts_of, parts_made, mark_of_close, held_at, owed_made, seen, seen_jobs, plain}
 use Rattle.its_stepped.specs.Commit.{effect_on, effects_on}
 use Rattle.its_stepped.specs.Sound.{Standing, SoundFrame, SoundSlot}
 use Rattle.its_stepped.specs.Quiet.{IsStill, Reached, MakesPage, Quiet, AllQuiet}
@@ -111,7 +111,7 @@ closed_parts : (f : File) (b : Bool) (fs : List File) → has_file f.names fs �
 closed_parts f true fs e = refl
 closed_parts f false fs e = ap (λ gs. gs ++ f ∷ []) (sym (without_none f.names fs e))
 
-pub closed_helps : (j : ℕ) (c : Chan) (fs : List File) → helped (marked j c fs) fs ≡ files_closed c fs
+pub closed_helps : (j : ℕ) (c : Chan) (fs : List File) → helped (mark_of_close j c fs) fs ≡ files_closed c fs
 unfolding helped
 closed_helps j (Writes f) fs = closed_parts f (has_file f.names fs) fs refl
 closed_helps j Shut fs = refl

@@ -1,11 +1,10 @@
 -- How jobs lie to each other: what it says of one job, and that the steps of the plain machine keep it.
-use Rattle.std.specs.Prelude.{if◌then◌else◌, ◌==◌, ◌≡◌, ◌≢◌, ◌≤◌, ◌<◌, ◌||◌, nat_lt, ℕ, suc, Bool, true, false, Option, Some, None, IfSome, is_some, option_map, List, [], ◌∷◌, Result, Ok, Err, refl}
+use Rattle.std.specs.Prelude.{if◌then◌else◌, ◌==◌, ◌≡◌, ◌≢◌, ◌≤◌, ◌<◌, ◌||◌, nat_lt, ℕ, suc, Bool, true, false, Option, Some, None, IfSome, is_some, option_map, List, [], ◌∷◌, refl}
 use Rattle.std.proofs.Common.{sym, ◌∙◌, ap, subst, inl, inr, arith, eq-eqb}
 use Rattle.std.proofs.lemmas.Bool.{cases_Bool, cases_eq, cases_lt, ne_eqb, or_parts}
 use Rattle.std.proofs.lemmas.Option.{IfSome_then}
 use Rattle.its_word.specs.Limits.{slots}
 use Rattle.its_word.specs.Tree.{climbs_to, is_below}
-use Rattle.its_word.specs.declared.access.Fault.{Fault}
 use Rattle.its_word.specs.declared.calls.Ask.{Ask}
 use Rattle.its_word.proofs.TreeLaws.{climb_end}
 use Rattle.its_word.proofs.ClimbLaws.{circle_cut, never, unpassed, enough, below_through}
@@ -17,19 +16,19 @@ use Rattle.its_frame.specs.declared.decision.Decision.{Decision}
 use Rattle.its_frame.specs.declared.decision.Decision.TheVariants.{Waits, Goes, Ends, Gone}
 use Rattle.its_frame.specs.declared.decision.Held.{Held}
 use Rattle.its_frame.specs.declared.frame.Frame.{Frame}
-use Rattle.its_plain.specs.Ask.{ask}
 use Rattle.its_plain.specs.Arguments.{revalued}
 use Rattle.its_plain.specs.CallBasic.{told_superior, channel_at}
-use Rattle.its_plain.specs.CallStep.{with_held, acted, decision, by_ask, by_unit, informs, delivery, by_delivery, unless_stopped, step_of, step}
+use Rattle.its_plain.specs.CallStep.{with_held, acted, decision, informs, step}
 use Rattle.its_plain.specs.Change.{on_slot, in_job, is_gone, chan_left, shut_on, left_job, passed_on, removed, channel_in, superior_in, superiors, inferior, effect, effects}
-use Rattle.its_plain.specs.Interrupt.{Delivered, deliverable, delivered}
+use Rattle.its_plain.specs.Interrupt.{delivered}
 use Rattle.its_plain.specs.Machine.{Chan, Shut, TtyIn, TtyOut, Reads, Writes, On, Whole, Machine, changed, no_machine}
 use Rattle.its_plain.specs.Own.{opened_on, at_position, with_word, on_channel}
-use Rattle.its_plain.specs.Unit.{Outcome, Changed, Faulted, Called, unit}
 use Rattle.its_stepped.specs.Forest.{OnInferior, Forest}
 use Rattle.its_stepped.specs.State.{State, seen, plain}
 use Rattle.its_stepped.proofs.FrameLaws.{changed_only, on_slot_here, on_slot_other}
 use Rattle.its_stepped.proofs.EffectLaws.{channel_seen, superiors_plain}
+use Rattle.its_plain.proofs.StepLaws.{AllOf, step_has}
+use Rattle.its_plain.specs.Decide.{reach}
 
 -- a job is not its own superior, and has no channel on itself
 pub record ApartJob (j : ℕ) (q : Whole) : Type 0 where
@@ -508,10 +507,6 @@ FitsAll (Goes cs h vs) j m = AllFit cs.items j m
 FitsAll (Ends cs ss e) j m = AllFit cs.items j m
 FitsAll (Gone cs) j m = AllFit cs.items j (effect (changes.Remove j) j m) × (cs.items ≡ told_superior (superiors m j))
 
-abbrev ForestBy : Option Machine → Type 0
-ForestBy (Some n) = Forest n
-ForestBy None = Unit {0}
-
 held_superior : (a : Ask) (h : Option Held) (q : Whole) → (with_held a h q).superior ≡ q.superior
 held_superior a None q = refl
 held_superior a (Some b) q = refl
@@ -520,16 +515,16 @@ held_channels : (a : Ask) (h : Option Held) (q : Whole) → (with_held a h q).ch
 held_channels a None q = refl
 held_channels a (Some b) q = refl
 
-acted_forest : (m : Machine) (j : ℕ) (a : Ask) (e : Decision) → FitsAll e j m → Forest m → ForestBy (acted m j a e)
+acted_forest : (m : Machine) (j : ℕ) (a : Ask) (ks : List ℕ) (e : Decision) → FitsAll e j m → Forest m → AllOf (λ t. Forest t.machine) (acted m j a ks e)
 unfolding acted
-acted_forest m j a (Waits r) f d = tt
-acted_forest m j a (Goes cs h vs) f d =
+acted_forest m j a ks (Waits r) f d = tt
+acted_forest m j a ks (Goes cs h vs) f d =
     let n = effects cs.items j m in
     job_forest n j _ (calm n j _ (λ q. held_superior (revalued a vs.items) h q) (λ q. held_channels (revalued a vs.items) h q)) (effects_forest cs.items j m f d)
-acted_forest m j a (Ends cs ss e) f d =
+acted_forest m j a ks (Ends cs ss e) f d =
     let n = effects cs.items j m in
     job_forest n j _ (calm n j _ (λ q. refl) (λ q. refl)) (effects_forest cs.items j m f d)
-acted_forest m j a (Gone cs) f d = effects_forest cs.items j (effect (changes.Remove j) j m) f.0 (gone_forest m j j d)
+acted_forest m j a ks (Gone cs) f d = effects_forest cs.items j (effect (changes.Remove j) j m) f.0 (gone_forest m j j d)
 
 -- a step
 informs_fit : (b : Bool) (o : Option ℕ) (j : ℕ) (m : Machine) → AllFit (informs b o) j m
@@ -537,38 +532,15 @@ informs_fit true (Some s) j m = (tt, tt)
 informs_fit true None j m = tt
 informs_fit false o j m = tt
 
-delivered_forest : (m : Machine) (j : ℕ) (q : Whole) (n : Delivered) → Forest m → Forest (delivery m j q n)
-delivered_forest m j q n d =
-    let told = effects (informs n.stops q.superior) j m in
-    job_forest told j _ (calm told j _ (λ p. refl) (λ p. refl)) (effects_forest (informs n.stops q.superior) j m (informs_fit n.stops q.superior j m) d)
-
-module _ (fits : (m : Machine) (j : ℕ) (q : Whole) (a : Ask) → Forest m → m.jobs j ≡ Some q → FitsAll (decision m j q a) j m) where
-  ask_forest : (m : Machine) (j : ℕ) (q : Whole) (r : Result Ask Fault) → m.jobs j ≡ Some q → Forest m → ForestBy (by_ask m j q r)
-  ask_forest m j q (Ok a) is d = acted_forest m j a (decision m j q a) (fits m j q a d is) d
-  ask_forest m j q (Err f) is d = job_forest m j _ (calm m j _ (λ p. refl) (λ p. refl)) d
-
-  unit_forest : (m : Machine) (j : ℕ) (q : Whole) (o : Outcome) → m.jobs j ≡ Some q → Forest m → ForestBy (by_unit m j q o)
-  unit_forest m j q (Changed c k) is d = job_forest m j _ (calm m j _ (λ p. refl) (λ p. refl)) d
-  unit_forest m j q (Faulted f) is d = job_forest m j _ (calm m j _ (λ p. refl) (λ p. refl)) d
-  unit_forest m j q (Called s) is d = ask_forest m j q (ask q.core s) is d
-
-  user_forest : (m : Machine) (j : ℕ) (q : Whole) (b : Bool) → m.jobs j ≡ Some q → Forest m → ForestBy (by_delivery m j q b)
-  user_forest m j q true is d = delivered_forest m j q (delivered q.core q.job) d
-  user_forest m j q false is d = unit_forest m j q (unit q.core q.job) is d
-
-  running_forest : (m : Machine) (j : ℕ) (q : Whole) (b : Bool) → m.jobs j ≡ Some q → Forest m → ForestBy (unless_stopped m j q b)
-  running_forest m j q true is d = tt
-  running_forest m j q false is d = user_forest m j q (deliverable q.job) is d
-
-  slot_forest : (m : Machine) (j : ℕ) (o : Option Whole) → m.jobs j ≡ o → Forest m → ForestBy (step_of m j o)
-  slot_forest m j None is d = tt
-  slot_forest m j (Some q) is d = running_forest m j q q.job.stopped is d
-
-  step_forest : (m : Machine) (j : ℕ) → Forest m → ForestBy (step m j)
-  unfolding step
-  step_forest m j d = slot_forest m j (m.jobs j) refl d
-
 -- where each decision keeps jobs as they lie, so does a step
 pub steps_where : ((m : Machine) (j : ℕ) (q : Whole) (a : Ask) → Forest m → m.jobs j ≡ Some q → FitsAll (decision m j q a) j m)
     → (m n : Machine) (j : ℕ) → Forest m → step m j ≡ Some n → Forest n
-steps_where fits m n j d e = subst ForestBy e (step_forest fits m j d)
+steps_where fits m n j h e = step_has Forest m n j (λ q is.
+    let cs = informs (delivered q.core q.job).stops q.superior in
+    let informed = effects cs j m in
+    record {
+      delivers = job_forest informed j _ (calm informed j _ (λ p. refl) (λ p. refl)) (effects_forest cs j m (informs_fit _ _ j m) h);
+      changes = λ c k u. job_forest m j _ (calm m j _ (λ p. refl) (λ p. refl)) h;
+      faults = λ f. job_forest m j _ (calm m j _ (λ p. refl) (λ p. refl)) h;
+      calls = λ a. acted_forest m j a (reach m j q a) (decision m j q a) (fits m j q a h is) h;
+    }) e

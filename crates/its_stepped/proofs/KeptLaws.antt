@@ -14,10 +14,13 @@ use Rattle.its_word.proofs.FreeLaws.{least_empty}
 use Rattle.its_frame.specs.declared.frame.Frame.{Frame}
 use Rattle.its_print.specs.Printing.{Line}
 use Rattle.its_plain.specs.Machine.{File, Whole, Machine, with_job, mapped}
-use Rattle.its_plain.specs.Operator.{Block, Refuses, Does, Ticks, Ends, nobody, only, new_job, with_holder, loaded_in, loaded, stored, with_core, word_loaded_of, word_loaded, and_then, words_loaded, on_job, with_registers, on_registers, started, interrupted, stopped, continued, examined, state_shown, deposited_in, deposited, disturbs, quietly, by_load, by_exam, by_state}
-use Rattle.its_plain.specs.CallOperator.{clock_end, clocked_if, clocked, typed, drained, operate, shows, Lined, Done, Peeks, peeked_at, lined}
+use Rattle.its_plain.specs.Operator.{Block, Refuses, Does, Ticks, Quits, nobody, only, and_then, disturbs, quietly}
+use Rattle.its_plain.specs.OperatorJobs.{new_job, with_holder, loaded_in, loaded, stored, with_core, word_loaded_of, word_loaded, words_loaded, on_job, with_registers, on_registers, started, interrupted, stopped, continued, examined, state_shown, deposited_in, deposited}
+use Rattle.its_plain.specs.OperatorLines.{by_load, by_exam, by_state, operate, shows, Lined, Done, Peeks, peeked_at, lined}
+use Rattle.its_plain.specs.OperatorClock.{clock_end, clocked_if, clocked}
+use Rattle.its_plain.specs.OperatorConsoles.{typed, drained}
 use Rattle.its_plain.specs.Own.{names_of}
-use Rattle.its_plain.specs.FileOperator.{with_files, file_made, words_added, file_shown}
+use Rattle.its_plain.specs.OperatorFiles.{with_files, file_made, words_added, file_shown}
 use Rattle.its_plain.proofs.CallLineLaws.{FilesAlone, made_files, added_files}
 use Rattle.its_stepped.specs.State.{State}
 use Rattle.its_stepped.specs.Unwind.{unwound, help}
@@ -105,7 +108,7 @@ abbrev pub KeptBy : State → State → Lined → Type 0
 KeptBy w v (Done (Does m out touched b)) = Kept w v m touched
 KeptBy w v (Done (Refuses r)) = Unit {0}
 KeptBy w v (Done (Ticks s k)) = Unit {0}
-KeptBy w v (Done Ends) = Unit {0}
+KeptBy w v (Done Quits) = Unit {0}
 KeptBy w v (Peeks s) = Unit {0}
 
 not_only : (s k : ℕ) → only s k ≡ false → k ≢ s

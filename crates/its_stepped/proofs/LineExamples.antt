@@ -15,14 +15,16 @@ use Rattle.its_word.specs.declared.show.Peek.{Peek}
 use Rattle.its_word.specs.declared.show.PeekState.TheVariants as states
 use Rattle.its_frame.specs.declared.frame.Frame.{Frame}
 use Rattle.its_print.specs.Printing as printed
-use Rattle.its_plain.specs.Operator.{no_block, Does, loaded, on_registers}
-use Rattle.its_plain.specs.CallOperator.{clocked, operate, Lined, Done, lined}
+use Rattle.its_plain.specs.Operator.{no_block, Does}
+use Rattle.its_plain.specs.OperatorJobs.{loaded, on_registers}
+use Rattle.its_plain.specs.OperatorClock.{clocked}
+use Rattle.its_plain.specs.OperatorLines.{operate, Lined, Done, lined}
 use Rattle.its_plain.specs.Machine.{no_machine, with_jobs, whole}
 use Rattle.its_frame.specs.Calls.{sixbit}
 use Rattle.its_plain.specs.Decide.{call_named}
 use Rattle.its_plain.specs.Own.{names_of, exit_of}
 use Rattle.its_plain.specs.CallFile.{blocks_of_drafts}
-use Rattle.its_plain.specs.FileOperator.{file_made, word_added, files_in, file_shown}
+use Rattle.its_plain.specs.OperatorFiles.{file_made, word_added, files_in, file_shown}
 use Rattle.its_plain.specs.Transcript.{Ended, Open, Lost}
 use Rattle.its_stepped.specs.State.{LinkNew, FreeOld, State, helped, no_state, parsed, waiting, moving, ending}
 use Rattle.its_stepped.specs.Unwind.{help, left, unwound, unwind_times}

@@ -15,11 +15,13 @@ use Rattle.its_word.proofs.FreeLaws.{least_alike, least_empty}
 use Rattle.its_frame.specs.declared.frame.Frame.{Frame}
 use Rattle.its_print.specs.Printing.{Line}
 use Rattle.its_plain.specs.Machine.{Names, File, Whole, Machine, changed, with_job, mapped, words_at}
-use Rattle.its_plain.specs.Operator.{Block, Does, nobody, new_job, with_holder, loaded_in, loaded, stored, with_core, word_loaded_of, word_loaded, and_then, words_loaded, on_job, with_registers, on_registers, started, interrupted, stopped, continued, seen, examined, shown, state_shown, deposited_in, deposited, disturbs, quietly, by_load, by_exam, by_state}
-use Rattle.its_plain.specs.CallOperator.{clock_end, clocked_if, clocked, operate, shows, Done, peeked_at, lined}
+use Rattle.its_plain.specs.Operator.{Block, Does, nobody, and_then, disturbs, quietly}
+use Rattle.its_plain.specs.OperatorJobs.{new_job, with_holder, loaded_in, loaded, stored, with_core, word_loaded_of, word_loaded, words_loaded, on_job, with_registers, on_registers, started, interrupted, stopped, continued, seen, examined, shown, state_shown, deposited_in, deposited}
+use Rattle.its_plain.specs.OperatorLines.{by_load, by_exam, by_state, operate, shows, Done, peeked_at, lined}
+use Rattle.its_plain.specs.OperatorClock.{clock_end, clocked_if, clocked}
 use Rattle.its_plain.specs.Own.{names_of}
 use Rattle.its_plain.specs.CallFile.{most_files, is_full, file_named, has_file}
-use Rattle.its_plain.specs.FileOperator.{channels_of, file_made_if, file_made, word_added_if, word_added_to, word_added, words_added, files_in, listing, shown_by, file_shown}
+use Rattle.its_plain.specs.OperatorFiles.{channels_of, file_made_if, file_made, word_added_if, word_added_to, word_added, words_added, files_in, listing, shown_by, file_shown}
 use Rattle.its_plain.proofs.MachineLaws.{jobs_are}
 use Rattle.its_stepped.specs.State.{State, seen_jobs, plain}
 use Rattle.its_stepped.specs.State as state

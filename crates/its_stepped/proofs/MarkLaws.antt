@@ -13,7 +13,7 @@ use Rattle.its_frame.specs.declared.frame.Frame.{Frame}
 use Rattle.its_plain.specs.Machine.{File, Chan, Shut, TtyIn, TtyOut, Reads, Writes, On, changed}
 use Rattle.its_plain.specs.Change.{is_gone, superiors, channel_in}
 use Rattle.its_plain.specs.CallFile.{has_file}
-use Rattle.its_stepped.specs.State.{Part, Mark, State, parts_of, marked, ending}
+use Rattle.its_stepped.specs.State.{Part, Mark, State, parts_of, mark_of_close, ending}
 use Rattle.its_stepped.specs.Commit.{effect_on, effects_on, owed_part, owed_parts, owed_by}
 use Rattle.its_stepped.specs.Sound.{parts_in_frame, MarkBy}
 use Rattle.its_stepped.specs.Quiet.{Quiet, AllQuiet}
@@ -56,7 +56,7 @@ closing_few j m b e p =
     let same : length (owed_parts (Some m) j) ≡ length (map owed_part (parts_of b)) = ap (λ (os : List Owed). length os) (parts_owned m j e) ∙ ap (λ (ps : List Part). length (map owed_part ps)) p in
     omega arith
 
-closing : (j : ℕ) (frames : ℕ → Option Frame) (c : Chan) (fs : List File) (most : ℕ) → Marking j (marked j c fs) frames (3 + most)
+closing : (j : ℕ) (frames : ℕ → Option Frame) (c : Chan) (fs : List File) (most : ℕ) → Marking j (mark_of_close j c fs) frames (3 + most)
 closing j frames Shut fs most = record { at = tt; few = omega arith }
 closing j frames TtyIn fs most = record { at = tt; few = omega arith }
 closing j frames TtyOut fs most = record { at = tt; few = omega arith }

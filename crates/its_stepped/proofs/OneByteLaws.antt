@@ -1,5 +1,5 @@
 -- Each step of a SIOT moves one byte and leaves the call standing on the rest, or ends the call and moves none.
-use Rattle.std.specs.Prelude.{if◌then◌else◌, ◌==◌, ◌≡◌, ◌≢◌, ℕ, ◌+◌, ◌-◌, ◌%◌, ◌^◌, Bool, true, false, Option, Some, None, IfSome, not, is_some, List, [], ◌∷◌, ◌++◌, length, take, drop, slice_get, unwrap_or, refl}
+use Rattle.std.specs.Prelude.{if◌then◌else◌, ◌==◌, ◌≡◌, ◌≢◌, ℕ, ◌+◌, ◌-◌, ◌%◌, ◌^◌, Bool, true, false, Option, Some, None, IfSome, not, is_some, List, [], ◌∷◌, ◌++◌, length, take, drop, slice_get, unwrap_or, refl, option_map, Ok}
 use Rattle.std.proofs.lemmas.Bool.{cases_eq, ne_eqb, not-false, or_parts}
 use Rattle.std.proofs.lemmas.Option.{same_Some}
 use Rattle.std.proofs.Common.{◌∙◌, ap, subst, sym, arith, inl, inr}
@@ -7,7 +7,7 @@ use Rattle.its_word.specs.Byte.{load_of, deposit_of}
 use Rattle.its_word.specs.Core.{Core, word_at, can_store, store}
 use Rattle.its_word.specs.Stores.{stored}
 use Rattle.its_word.specs.Word.{right_of}
-use Rattle.its_word.proofs.CoreLaws.{word_at-store_same}
+use Rattle.its_word.proofs.CoreLaws.{word_at-store_same, word_at-can_store}
 use Rattle.its_word.specs.declared.calls.Ask.{Ask}
 use Rattle.its_word.specs.declared.calls.Operand.{Operand}
 use Rattle.its_word.specs.declared.calls.Site.{Site}
@@ -23,14 +23,14 @@ use Rattle.its_frame.specs.declared.name.CallName.TheVariants.{Siot}
 use Rattle.its_plain.specs.Arguments.{value_in, valued, input, debts, revalued}
 use Rattle.its_plain.specs.CallBasic.{channel_at}
 use Rattle.its_plain.specs.CallFile.{is_full, channels_in, words_of, siot_read, siot_reads, siot_write, siot_to, siot_call}
-use Rattle.its_plain.specs.CallStep.{with_held, moved, acted, decision, by_ask, by_unit, by_delivery, unless_stopped, step_of, step}
+use Rattle.its_plain.specs.CallStep.{with_held, moved, acted, decision, unless_stopped, step, Transition, transition_of, transition}
 use Rattle.its_plain.specs.CallTty.{console_of, is_empty, is_other, input_waits, output_waits, first_typed, shown_byte, store_tests, read_tests, next_pointer, siot_tests, siot_in, siot_out, siot_by, siot_on, siot}
 use Rattle.its_plain.specs.Change.{in_job, poke, effect, effects}
-use Rattle.its_plain.specs.Decide.{call_named, decided_by, decided, target}
+use Rattle.its_plain.specs.Decide.{call_named, decided_by, decided, target, reach}
 use Rattle.its_plain.specs.Footprint.{Stands, in_footprint}
 use Rattle.its_plain.specs.Interrupt.{deliverable}
 use Rattle.its_plain.specs.Machine.{Names, File, Chan, Shut, TtyIn, TtyOut, Reads, Writes, On, Whole, Machine, changed}
-use Rattle.its_plain.specs.OneByte.{ComesIn, GoesOut, word_named, Bears, new_arguments, rest_of_transfer, ByteBy, EachByte}
+use Rattle.its_plain.specs.OneByte.{ComesIn, GoesOut, word_named, Bears, new_arguments, rest_of_transfer, ByteBy, EachByte, Deposited}
 use Rattle.its_plain.specs.CallUsr.{other_core, at_end, siot_peeks, siot_pokes, siot_beside, siot_usr}
 use Rattle.its_plain.specs.Own.{with_stores, at_position, with_word, on_channel}
 use Rattle.its_plain.specs.Tests.{◌⇒◌, fails, goes}
@@ -52,6 +52,7 @@ use Rattle.its_stepped.proofs.SiotDuty.{debts_apart}
 use Rattle.its_stepped.proofs.UsrDuty.{siot_usr_duty}
 use Rattle.its_stepped.proofs.PageLaws.{reserves_none}
 use Rattle.its_stepped.proofs.TestLaws.{first_holds}
+use Rattle.its_plain.proofs.StepLaws.{transition_called, step_by}
 
 -- the rest of a transfer has the new pointer and the new count
 rest_of : (os : List Operand) (w i : ℕ) → length os ≡ 3
@@ -75,18 +76,27 @@ stored_byte : (c : Core) (b w : ℕ) → b % 2 ^ 18 ≡ b → can_store c b ≡ 
 unfolding stored
 stored_byte c b w at can = ap (λ (i : ℕ). word_at (store c i w) b) at ∙ word_at-store_same c b w can
 
+pub some_or : {X : Type 0} (o : Option X) (d : X) → is_some o ≡ true → o ≡ Some (unwrap_or o d)
+some_or (Some x) d h = refl
+some_or None d h = cc
+
 byte_there : (q : Whole) (s : Site) (a : Ask) (h : Option Held) (w i : ℕ) → input (revalued a (w ∷ i ∷ [])) 1 ≡ w → IfSome h (λ b. in_footprint b.place a ≡ false)
     → IfSome h (λ b. HeldFits q.core (debts a 0) 2 b) → Stands (moved a h (w ∷ i ∷ []) q).core q.job s (revalued a (w ∷ i ∷ []))
-    → IfSome h (λ b. word_at (moved a h (w ∷ i ∷ []) q).core b.place ≡ Some (deposit_of w (unwrap_or (word_at q.core b.place) 0) b.byte))
+    → IfSome h (Deposited q.core (moved a h (w ∷ i ∷ []) q).core w)
 byte_there q s a None w i e out f st = tt
 byte_there q s a (Some b) w i e out f st =
     let rest : Ask = revalued a (w ∷ i ∷ []) in
-    let word : ℕ → ℕ = λ (p : ℕ). deposit_of p (unwrap_or (word_at q.core b.place) 0) b.byte in
+    let was : ℕ = unwrap_or (word_at q.core b.place) 0 in
+    let word : ℕ → ℕ = λ (p : ℕ). deposit_of p was b.byte in
     let c : Core = (moved a (Some b) (w ∷ i ∷ []) q).core in
-    word_apart (with_held rest (Some b) q).core b.place (debts rest 2)
-    (debts_apart c rest 2 b.place (decoding.fetched c q.job s rest st) (footprint_same b.place a (w ∷ i ∷ []) ∙ out))
-    ∙ stored_byte q.core b.place (word (input rest 1)) f.placed f.can
-    ∙ ap (λ (p : ℕ). Some (word p)) e
+    record {
+      word = was;
+      was = some_or (word_at q.core b.place) 0 (word_at-can_store q.core b.place f.can);
+      is = word_apart (with_held rest (Some b) q).core b.place (debts rest 2)
+          (debts_apart c rest 2 b.place (decoding.fetched c q.job s rest st) (footprint_same b.place a (w ∷ i ∷ []) ∙ out))
+          ∙ stored_byte q.core b.place (word (input rest 1)) f.placed f.can
+          ∙ ap (λ (p : ℕ). Some (word p)) e;
+    }
 
 -- the stores of a part are the same whatever the channels of its job are on
 moved_is : (a : Ask) (h : Option Held) (vs : List ℕ) (q : Whole) (cs : ℕ → Chan)
@@ -94,9 +104,13 @@ moved_is : (a : Ask) (h : Option Held) (vs : List ℕ) (q : Whole) (cs : ℕ →
 moved_is a None vs q cs = refl
 moved_is a (Some b) vs q cs = refl
 
+-- what a decision comes to is machine n
+abbrev Acted : Machine → Machine → ℕ → Ask → List ℕ → Decision → Type 0
+Acted m n j a ks d = option_map (λ (t : Transition). t.machine) (acted m j a ks d) ≡ Some n
+
 -- what is to be shown of a decision that does its duty, and whose step comes to machine n
 abbrev Moved : Machine → Machine → ℕ → Whole → Site → Ask → Decision → Type 0
-Moved m n j q s a d = Duty (no_state m) j q s a 0 d → acted m j a d ≡ Some n → ByteBy m j q s a d n
+Moved m n j q s a d = Duty (no_state m) j q s a 0 d → Acted m n j a (reach m j q a) d → ByteBy m j q s a d n
 
 -- what the tests of SIOT leave: pointer and count are words of their own, and the count is not 0
 record Ready (a : Ask) : Type 0 where
@@ -332,7 +346,7 @@ calling m j q s a forest is st none = record {
 }
 
 siot_moved : (m n : Machine) (j : ℕ) (q : Whole) (s : Site) (a : Ask) → Forest m → m.jobs j ≡ Some q → Stands q.core q.job s a → call_named a.name ≡ Some Siot → a.fail ≡ 0
-    → acted m j a (siot_usr (view m j q (target q a)) a) ≡ Some n → ByteBy m j q s a (siot_usr (view m j q (target q a)) a) n
+    → Acted m n j a (reach m j q a) (siot_usr (view m j q (target q a)) a) → ByteBy m j q s a (siot_usr (view m j q (target q a)) a) n
 unfolding siot_usr view
 siot_moved m n j q s a forest is st e z r =
     beside_moved m n j q s a (channel_at q.channels (input a 0)) is refl (siot_inputs q.core s a st.ask_is e z)
@@ -352,32 +366,30 @@ decides_error m j q a ne =
     ap (λ (b : Bool). if b then decided_by x a (call_named a.name) else fails x a a.fail) (ne_eqb a.fail 0 ne)
 
 decided_moved : (m n : Machine) (j : ℕ) (q : Whole) (s : Site) (a : Ask) → Forest m → m.jobs j ≡ Some q → Stands q.core q.job s a → call_named a.name ≡ Some Siot
-    → acted m j a (decision m j q a) ≡ Some n → ByteBy m j q s a (decision m j q a) n
+    → Acted m n j a (reach m j q a) (decision m j q a) → ByteBy m j q s a (decision m j q a) n
 decided_moved m n j q s a forest is st e r = elim (cases_eq a.fail 0) [
   | inl z ↦
       let at = decides_siot m j q a e z in
-      subst (λ (k : Decision). ByteBy m j q s a k n) (sym at) (siot_moved m n j q s a forest is st e z (ap (acted m j a) (sym at) ∙ r))
+      subst (λ (k : Decision). ByteBy m j q s a k n) (sym at) (siot_moved m n j q s a forest is st e z (subst (Acted m n j a (reach m j q a)) at r))
   | inr ne ↦ subst (λ (k : Decision). ByteBy m j q s a k n) (sym (decides_error m j q a ne)) refl
 ]
 
 -- the step of a running job that stands at a call
-pub step_is : (m : Machine) (j : ℕ) (q : Whole) (s : Site) (a : Ask) → m.jobs j ≡ Some q → q.job.stopped ≡ false → deliverable q.job ≡ false → Stands q.core q.job s a
-    → step m j ≡ acted m j a (decision m j q a)
-unfolding step
-step_is m j q s a is runs d st =
-    ap (step_of m j) is ∙ ap (unless_stopped m j q) runs ∙ ap (by_delivery m j q) d ∙ ap (by_unit m j q) st.unit_is ∙ ap (by_ask m j q) st.ask_is
+pub stands_acts : (m : Machine) (j : ℕ) (q : Whole) (s : Site) (a : Ask) → m.jobs j ≡ Some q → q.job.stopped ≡ false → deliverable q.job ≡ false → Stands q.core q.job s a
+    → transition m j ≡ acted m j a (reach m j q a) (decision m j q a)
+stands_acts m j q s a is runs d st = transition_called m j q s (Ok a) is runs d st.unit_is st.ask_is
 
 runs_stepping : (m n : Machine) (j : ℕ) (q : Whole) → step m j ≡ Some n → m.jobs j ≡ Some q → q.job.stopped ≡ false
-unfolding step
-runs_stepping m n j q r is = go q.job.stopped (ap (step_of m j) (sym is) ∙ r)
+unfolding step transition
+runs_stepping m n j q r is = go q.job.stopped (ap (λ (o : Option Whole). option_map (λ (t : Transition). t.machine) (transition_of m j o)) (sym is) ∙ r)
   where
-    go : (b : Bool) → unless_stopped m j q b ≡ Some n → b ≡ false
+    go : (b : Bool) → option_map (λ (t : Transition). t.machine) (unless_stopped m j q b) ≡ Some n → b ≡ false
     go false e = refl
     go true e = cc
 
 step_acts : (m n : Machine) (j : ℕ) (q : Whole) (s : Site) (a : Ask) → step m j ≡ Some n → m.jobs j ≡ Some q → deliverable q.job ≡ false → Stands q.core q.job s a
-    → acted m j a (decision m j q a) ≡ Some n
-step_acts m n j q s a r is d st = sym (step_is m j q s a is (runs_stepping m n j q r is) d st) ∙ r
+    → Acted m n j a (reach m j q a) (decision m j q a)
+step_acts m n j q s a r is d st = sym (step_by m j _ (stands_acts m j q s a is (runs_stepping m n j q r is) d st)) ∙ r
 
 pub each_byte : (m n : Machine) (j : ℕ) → Forest m → step m j ≡ Some n → EachByte m j n
 each_byte m n j forest r = record { byte = λ q s a is d st e. decided_moved m n j q s a forest is st e (step_acts m n j q s a r is d st) }

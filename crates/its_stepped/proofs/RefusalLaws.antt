@@ -13,10 +13,12 @@ use Rattle.its_word.specs.declared.show.JobShow.{JobShow}
 use Rattle.its_frame.specs.declared.frame.Frame.{Frame}
 use Rattle.its_print.specs.Printing.{Line}
 use Rattle.its_plain.specs.Machine.{Names, Whole, Machine, mapped, joined, words_at}
-use Rattle.its_plain.specs.Operator.{Block, Refuses, Does, Ticks, Ends, loaded_in, loaded, stored_in, stored, with_core, word_loaded_of, word_loaded, on_job, with_registers, on_registers, started, interrupted, stopped, continued, seen, examined, shown, state_shown, deposited_in, deposited, disturbs, quietly, by_load, by_exam, by_state}
-use Rattle.its_plain.specs.CallOperator.{clock_end, clocked_if, clocked, operate, shows, Lined, Done, Peeks, peeked_at, lined}
+use Rattle.its_plain.specs.Operator.{Block, Refuses, Does, Ticks, Quits, disturbs, quietly}
+use Rattle.its_plain.specs.OperatorJobs.{loaded_in, loaded, stored_in, stored, with_core, word_loaded_of, word_loaded, on_job, with_registers, on_registers, started, interrupted, stopped, continued, seen, examined, shown, state_shown, deposited_in, deposited}
+use Rattle.its_plain.specs.OperatorLines.{by_load, by_exam, by_state, operate, shows, Lined, Done, Peeks, peeked_at, lined}
+use Rattle.its_plain.specs.OperatorClock.{clock_end, clocked_if, clocked}
 use Rattle.its_plain.specs.Own.{names_of}
-use Rattle.its_plain.specs.FileOperator.{file_made, word_added, words_added, file_shown}
+use Rattle.its_plain.specs.OperatorFiles.{file_made, word_added, words_added, file_shown}
 use Rattle.its_stepped.specs.State.{State, plain}
 use Rattle.its_stepped.specs.State as state
 use Rattle.its_stepped.specs.Unwind.{unwound}
@@ -227,7 +229,7 @@ refusal_lifted : (v : State) (l : Lined) → refusal (lifted_line v l) ≡ refus
 refusal_lifted v (Done (Refuses r)) = refl
 refusal_lifted v (Done (Does m out touched b)) = refl
 refusal_lifted v (Done (Ticks s k)) = refl
-refusal_lifted v (Done Ends) = refl
+refusal_lifted v (Done Quits) = refl
 refusal_lifted v (Peeks s) = refl
 
 -- a line is refused before anything is unwound exactly where it is refused afterwards, and for the same reason; one that

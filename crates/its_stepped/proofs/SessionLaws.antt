@@ -3,10 +3,10 @@ use Rattle.std.specs.Prelude.{◌≡◌, ◌<◌, ℕ, zero, suc, ◌+◌, List,
 use Rattle.std.proofs.Common.{sym, ap, subst}
 use Rattle.its_word.specs.Item.{Item, Read, Unread, Beyond}
 use Rattle.its_word.specs.declared.session.Event.{Event}
-use Rattle.its_plain.specs.CallOperator.{Lined, Done, Peeks, lined}
+use Rattle.its_plain.specs.OperatorLines.{Lined, Done, Peeks, lined}
 use Rattle.its_plain.specs.Licence.{Licensed, Dots, most_dots, dots_after, dots_after_line}
 use Rattle.its_plain.specs.Machine.{no_machine}
-use Rattle.its_plain.specs.Operator.{Block, no_block, Refuses, Does, Ticks, Ends}
+use Rattle.its_plain.specs.Operator.{Block, no_block, Refuses, Does, Ticks, Quits}
 use Rattle.its_plain.specs.Transcript.{Walk, at_start, Transcript}
 use Rattle.its_plain.proofs.RunLaws.{PacedOn, LinedOn, Run, run_shows}
 use Rattle.its_stepped.specs.State.{State, plain, no_state}
@@ -19,7 +19,7 @@ abbrev pub HoldsAfter : (Dots → State → Type 0) → Dots → State → Lined
 HoldsAfter Good d v (Done (Does m out touched b)) = Good (dots_after_line d touched) (with_raw v m)
 HoldsAfter Good d v (Done (Refuses r)) = Unit {0}
 HoldsAfter Good d v (Done (Ticks s k)) = Unit {0}
-HoldsAfter Good d v (Done Ends) = Unit {0}
+HoldsAfter Good d v (Done Quits) = Unit {0}
 HoldsAfter Good d v (Peeks s) = Unit {0}
 
 -- a predicate that holds at the start and that ticks and lines keep; where it holds, the letter of a tick is licensed,
@@ -58,7 +58,7 @@ module _ {Good : Dots → State → Type 0} (u : Upkeep Good) where
       ((told (n + 1) (with_raw v m) b' es).lines, refl, h (with_raw v m) (dots_after_line d touched) b' a)
   line_runs n w v d b (Done (Ticks s k)) es g a h =
       (paces_of w s k, (told (n + 1) (ticked w s k) b es).lines, refl, paces_length w s k, ticks_run n w d b s k _ g (λ f good. h (ticked w s k) f b good))
-  line_runs n w v d b (Done Ends) es g a h = (refl, refl)
+  line_runs n w v d b (Done Quits) es g a h = (refl, refl)
   line_runs n w v d b (Peeks s) es g a h = (peeked w s, (told (n + 1) w b es).lines, refl, h w d b g)
 
   pub told_runs : (n : ℕ) (w : State) (d : Dots) (b : Block) (es : List Item) → Good d w → Run (walk n w d b) es (told n w b es).lines (told n w b es).fate

@@ -13,7 +13,7 @@ use Rattle.its_frame.specs.declared.frame.Frame.{Frame}
 use Rattle.its_frame.specs.declared.frame.Frame.TheVariants.{Entered, Parsed, Asked, Holding, Waiting, Moving, Ending}
 use Rattle.its_plain.specs.Ask.{parse, fetch}
 use Rattle.its_plain.specs.Arguments.{debts}
-use Rattle.its_plain.specs.CallStep.{becomes, faulted, informs, told, decision}
+use Rattle.its_plain.specs.CallStep.{becomes, faulted, informs, informed_slots, decision}
 use Rattle.its_plain.specs.Interrupt.{Delivered, deliverable, delivered}
 use Rattle.its_plain.specs.Machine.{Whole, changed}
 use Rattle.its_plain.specs.Own.{with_stores}
@@ -77,7 +77,7 @@ informs_part false o = refl
 
 delivered_sound : (w : State) (j : ℕ) (q : Whole) (d : Delivered) → Sound w → w.frames j ≡ None → Sound (delivered_on w j q d)
 delivered_sound w j q d sound none =
-    let ks = told d.stops q.superior in
+    let ks = informed_slots d.stops q.superior in
     let cs = informs d.stops q.superior in
     let v = all_unwound ks w in
     let u = effects_on cs j v in

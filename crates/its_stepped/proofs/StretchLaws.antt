@@ -1,7 +1,7 @@
 -- Each byte once and in order, over a stretch of a session's run (docs/CALLS.md, "Each byte once").
-use Rattle.std.specs.Prelude.{◌≡◌, ◌≢◌, ◌&&◌, ℕ, suc, ◌+◌, Bool, true, false, not, Option, Some, None, is_some, unwrap_or, List, [], ◌∷◌, ◌++◌, drop, length, Result, Ok, Err, refl}
+use Rattle.std.specs.Prelude.{◌≡◌, ◌≢◌, ℕ, suc, ◌+◌, Bool, true, false, Option, Some, None, is_some, unwrap_or, List, [], ◌∷◌, ◌++◌, drop, length, Result, Ok, Err, refl, option_map}
 use Rattle.std.proofs.Common.{sym, ◌∙◌, ap, subst, arith, inl, inr}
-use Rattle.std.proofs.lemmas.Bool.{and_parts, cases_eq, eqb-true, not-true}
+use Rattle.std.proofs.lemmas.Bool.{cases_eq, eqb-true}
 use Rattle.its_word.specs.Item.{Item, Read, Unread, Beyond}
 use Rattle.its_word.specs.declared.calls.Ask.{Ask}
 use Rattle.its_word.specs.declared.calls.Pace.{Pace}
@@ -17,24 +17,23 @@ use Rattle.its_frame.specs.declared.decision.Decision.{Decision}
 use Rattle.its_frame.specs.declared.decision.Decision.TheVariants.{Waits, Goes, Ends, Gone}
 use Rattle.its_frame.specs.declared.name.CallName.TheVariants.{Siot}
 use Rattle.its_plain.specs.Arguments.{input}
-use Rattle.its_plain.specs.CallOperator.{operate, Lined, Done, Peeks, lined}
-use Rattle.its_plain.specs.CallStep.{acted, decision, step}
+use Rattle.its_plain.specs.OperatorLines.{operate, Lined, Done, Peeks, lined, by_exam, by_state}
+use Rattle.its_plain.specs.CallStep.{acted, decision, step, Transition, by_delivery, unless_stopped, transition_of, transition, part_in, steps_on}
 use Rattle.its_plain.specs.Course.{Deed, Lines, Steps, Moment, Course, rests, onward, after_step, paced, letters, past, course, run_of}
-use Rattle.its_plain.specs.Decide.{call_named}
+use Rattle.its_plain.specs.Decide.{call_named, reach}
 use Rattle.its_plain.specs.Footprint.{Stands}
 use Rattle.its_plain.specs.Interrupt.{deliverable}
 use Rattle.its_plain.specs.Machine.{Whole, Machine, changed}
 use Rattle.its_plain.specs.OneByte.{rest_of_transfer, ByteBy}
-use Rattle.its_plain.specs.Operator.{Block, no_block, Operated, Refuses, Does, Ticks, interrupted, stopped, continued, on_job, with_registers, on_registers, examined, state_shown, disturbs, by_exam, by_state}
-use Rattle.its_plain.specs.Operator as operator
-use Rattle.its_plain.specs.Unit.{unit}
-use Rattle.its_plain.specs.Stretch.{is_part, part_asking, part_doing, part_at, steps_on, Untouched, machine_at, is_own, Fits, Stretch, counted, parts_in, incremented, rest_after, ByteOf, InOrder_by, InOrder, StandsAt, Transferred, end_of, begin_of, Stretches}
+use Rattle.its_plain.specs.Operator.{Block, no_block, Operated, Refuses, Does, Ticks, Quits, disturbs}
+use Rattle.its_plain.specs.OperatorJobs.{interrupted, stopped, continued, on_job, with_registers, on_registers, examined, state_shown}
+use Rattle.its_plain.specs.Stretch.{Untouched, machine_at, is_own, Fits, Stretch, counted, parts_in, incremented, rest_after, ByteOf, InOrder_by, InOrder, StandsAt, Transferred, end_of, begin_of, Stretches}
 use Rattle.its_stepped.specs.Forest.{Forest}
 use Rattle.its_stepped.proofs.DecodingLaws.{input_word, siot_inputs}
 use Rattle.its_stepped.proofs.FitLaws.{forest_steps}
 use Rattle.its_stepped.proofs.ForestLaws.{forest_starts}
 use Rattle.its_stepped.proofs.FrameLaws.{changed_only}
-use Rattle.its_stepped.proofs.OneByteLaws.{rest_pointer, rest_count, decides_error, step_is, each_byte}
+use Rattle.its_stepped.proofs.OneByteLaws.{rest_pointer, rest_count, decides_error, each_byte, stands_acts, some_or}
 use Rattle.its_stepped.proofs.PcLaws.{stands_same}
 use Rattle.its_stepped.proofs.WrittenLaws.{line_forest}
 use Rattle.its_stepped.proofs.CallDuties.{named_same}
@@ -85,7 +84,7 @@ run_past m b e (Done (Does n out touched c)) lines next is forest h =
     let rest = drop (length out) lines in
     run_onward m n (Lines e) (next n c rest) forest tt (h n c rest (line_forest m n b c e out touched forest is))
 run_past m b e (Done (Ticks s k)) lines next is forest h = run_paced m s (letters lines) (λ n. next n b (drop 1 lines)) forest (λ n f. h n b (drop 1 lines) f)
-run_past m b e (Done operator.Ends) lines next is forest h = run_rests m
+run_past m b e (Done Quits) lines next is forest h = run_rests m
 run_past m b e (Peeks s) lines next is forest h = h m b (drop 1 lines) forest
 
 run_course : (m : Machine) (b : Block) (es : List Item) (lines : List Line) → Forest m → RunFrom m (course m b es lines)
@@ -124,36 +123,47 @@ untouched m n j s a st h = go (n.jobs j) refl (subst (λ (o : Option Whole). Unt
         stands_at n j p s a is (stands_same p.core st.job.job p.job s a h.1 (subst (λ c. Stands c st.job.job s a) (sym h.0) st.stands))
     go None is h = absurd h
 
--- a step that is a part of the call
+-- a decision that is a part of the call
+abbrev is_part : Decision → Bool
+is_part (Goes cs h vs) = true
+is_part (Waits r) = false
+is_part (Ends cs ss e) = false
+is_part (Gone cs) = false
+
 record Part (m : Machine) (j : ℕ) (q : Whole) (a : Ask) : Type 0 where
   quiet : deliverable q.job ≡ false
   part : is_part (decision m j q a) ≡ true
   steps : step m j ≡ Some (after_step m j)
 
-part_acts : (m : Machine) (j : ℕ) (a : Ask) (d : Decision) → is_part d ≡ true → is_some (acted m j a d) ≡ true
+part_acts : (m : Machine) (j : ℕ) (a : Ask) (ks : List ℕ) (d : Decision) → part_in (acted m j a ks d) ≡ is_part d
 unfolding acted
-part_acts m j a (Goes cs h vs) e = refl
-part_acts m j a (Waits r) e = cc
-part_acts m j a (Ends cs ss x) e = cc
-part_acts m j a (Gone cs) e = cc
+part_acts m j a ks (Goes cs h vs) = refl
+part_acts m j a ks (Waits r) = refl
+part_acts m j a ks (Ends cs ss x) = refl
+part_acts m j a ks (Gone cs) = refl
 
-some_or : {X : Type 0} (o : Option X) (d : X) → is_some o ≡ true → o ≡ Some (unwrap_or o d)
-some_or (Some x) d h = refl
-some_or None d h = cc
+part_steps : (o : Option Transition) → part_in o ≡ true → is_some (option_map (λ (t : Transition). t.machine) o) ≡ true
+part_steps (Some t) h = refl
+part_steps None h = cc
+
+part_runs : (m : Machine) (j : ℕ) (q : Whole) (b : Bool) → part_in (unless_stopped m j q b) ≡ true → b ≡ false
+part_runs m j q false h = refl
+part_runs m j q true h = cc
+
+part_quiet : (m : Machine) (j : ℕ) (q : Whole) (b : Bool) → part_in (by_delivery m j q b) ≡ true → b ≡ false
+part_quiet m j q false h = refl
+part_quiet m j q true h = cc
 
 part_is : (m : Machine) (j : ℕ) (q : Whole) (s : Site) (a : Ask) → steps_on m j ≡ true → m.jobs j ≡ Some q → Stands q.core q.job s a → Part m j q a
-unfolding steps_on
+unfolding steps_on transition step
 part_is m j q s a h is st =
-    let at = ap (part_at m j) (sym is) ∙ h in
-    let both = and_parts (not q.job.stopped && not (deliverable q.job)) (part_doing m j q (unit q.core q.job)) at in
-    let runs = and_parts (not q.job.stopped) (not (deliverable q.job)) both.0 in
-    let stopped = not-true q.job.stopped runs.0 in
-    let quiet = not-true (deliverable q.job) runs.1 in
-    let part = ap (part_asking m j q) (sym st.ask_is) ∙ ap (part_doing m j q) (sym st.unit_is) ∙ both.1 in
+    let at : part_in (unless_stopped m j q q.job.stopped) ≡ true = ap (λ (o : Option Whole). part_in (transition_of m j o)) (sym is) ∙ h in
+    let runs = part_runs m j q q.job.stopped at in
+    let quiet = part_quiet m j q (deliverable q.job) (ap (λ (b : Bool). part_in (unless_stopped m j q b)) (sym runs) ∙ at) in
     record {
       quiet = quiet;
-      part = part;
-      steps = some_or (step m j) m (ap is_some (step_is m j q s a is stopped quiet st) ∙ part_acts m j a (decision m j q a) part);
+      part = sym (part_acts m j a (reach m j q a) (decision m j q a)) ∙ ap part_in (sym (stands_acts m j q s a is runs quiet st)) ∙ h;
+      steps = some_or (step m j) m (part_steps (transition m j) h);
     }
 
 byte_of : (m n : Machine) (j : ℕ) (q : Whole) (s : Site) (a : Ask) (d : Decision) → m.jobs j ≡ Some q → is_part d ≡ true → ByteBy m j q s a d n → ByteOf m j s a n

@@ -14,7 +14,7 @@ use Rattle.its_frame.specs.declared.frame.Waiting
 use Rattle.its_frame.specs.declared.frame.Frame.TheVariants.{Entered, Parsed, Asked, Holding, Waiting, Moving, Ending}
 use Rattle.its_plain.specs.Ask.{parse, fetch, ask}
 use Rattle.its_plain.specs.Arguments.{debts}
-use Rattle.its_plain.specs.CallStep.{becomes, faulted, informs, told, delivery, by_delivery, by_unit, by_ask, unless_stopped, acted, decision, step_of, step, among}
+use Rattle.its_plain.specs.CallStep.{becomes, faulted, informs, informed_slots, delivery, acted, decision, step, among, Transition, transition}
 use Rattle.its_plain.specs.Change.{in_job, effects}
 use Rattle.its_plain.specs.Decide.{reach}
 use Rattle.its_plain.specs.Interrupt.{Delivered, deliverable, delivered}
@@ -42,20 +42,7 @@ use Rattle.its_stepped.proofs.OwnLaws.{frames_none}
 use Rattle.its_stepped.proofs.CommitLaws.{Here, Acts, waits_plain, committed_plain}
 use Rattle.its_stepped.proofs.EffectLaws.{effects_plain}
 use Rattle.its_stepped.proofs.RowLaws.{same_job}
-
--- the step of a job that runs with no deliverable interrupt
-step_unit : (m : Machine) (j : ℕ) (q : Whole) (o : Outcome) → m.jobs j ≡ Some q → q.job.stopped ≡ false → deliverable q.job ≡ false → unit q.core q.job ≡ o → step m j ≡ by_unit m j q o
-unfolding step
-step_unit m j q o is runs quiet e = ap (step_of m j) is ∙ ap (unless_stopped m j q) runs ∙ ap (by_delivery m j q) quiet ∙ ap (by_unit m j q) e
-
-step_delivery : (m : Machine) (j : ℕ) (q : Whole) → m.jobs j ≡ Some q → q.job.stopped ≡ false → deliverable q.job ≡ true
-    → step m j ≡ Some (delivery m j q (delivered q.core q.job))
-unfolding step
-step_delivery m j q is runs d = ap (step_of m j) is ∙ ap (unless_stopped m j q) runs ∙ ap (by_delivery m j q) d
-
-step_called : (m : Machine) (j : ℕ) (q : Whole) (s : Site) (r : Result Ask Fault) → m.jobs j ≡ Some q → q.job.stopped ≡ false → deliverable q.job ≡ false
-    → unit q.core q.job ≡ Called s → ask q.core s ≡ r → step m j ≡ by_ask m j q r
-step_called m j q s r is runs quiet u e = step_unit m j q (Called s) is runs quiet u ∙ ap (by_ask m j q) e
+use Rattle.its_plain.proofs.StepLaws.{transition_delivers, transition_unit, transition_called, step_by}
 
 -- a job that runs is seen to run
 pub seen_at : (w : State) (j : ℕ) (q : Whole) (f : Option Frame) → w.raw.jobs j ≡ Some q → w.frames j ≡ f → (plain w).jobs j ≡ Some (seen f q)
@@ -132,17 +119,17 @@ unfolding plain
 reserving_plain w j r = refl
 
 -- a delivery: the superior that is told is unwound first
-informs_quiet : (v : State) (j : ℕ) (b : Bool) (o : Option ℕ) → ((s : ℕ) → among s (told b o) ≡ true → v.frames s ≡ None) → AllQuiet (informs b o) j v
+informs_quiet : (v : State) (j : ℕ) (b : Bool) (o : Option ℕ) → ((s : ℕ) → among s (informed_slots b o) ≡ true → v.frames s ≡ None) → AllQuiet (informs b o) j v
 informs_quiet v j true (Some s) h = (record { still = subst IsStill (sym (h s (among_first s []))) tt; other = λ ne. h s (among_first s []) }, tt)
 informs_quiet v j true None h = tt
 informs_quiet v j false o h = tt
 
-pub told_quiet : (w : State) (j : ℕ) (b : Bool) (o : Option ℕ) → Sound w → AllQuiet (informs b o) j (all_unwound (told b o) w)
-told_quiet w j b o sound = informs_quiet (all_unwound (told b o) w) j b o (λ s h. all_unwound_none (told b o) w s sound h)
+pub told_quiet : (w : State) (j : ℕ) (b : Bool) (o : Option ℕ) → Sound w → AllQuiet (informs b o) j (all_unwound (informed_slots b o) w)
+told_quiet w j b o sound = informs_quiet (all_unwound (informed_slots b o) w) j b o (λ s h. all_unwound_none (informed_slots b o) w s sound h)
 
-delivered_plain : (w : State) (j : ℕ) (q : Whole) (d : Delivered) → Sound w → w.frames j ≡ None → plain (delivered_on w j q d) ≡ delivery (plain w) j q d
+delivered_plain : (w : State) (j : ℕ) (q : Whole) (d : Delivered) → Sound w → w.frames j ≡ None → plain (delivered_on w j q d) ≡ (delivery (plain w) j q d).machine
 delivered_plain w j q d sound none =
-    let ks = told d.stops q.superior in
+    let ks = informed_slots d.stops q.superior in
     let cs = informs d.stops q.superior in
     let v = all_unwound ks w in
     let here : (effects_on cs j v).frames j ≡ None = frames_none cs j v j (all_unwound_keeps ks w j sound none) in
@@ -152,15 +139,15 @@ delivered_plain w j q d sound none =
 unit_is : (w : State) (j : ℕ) (q : Whole) (o : Outcome) → w.raw.jobs j ≡ Some q → q.job.stopped ≡ false → deliverable q.job ≡ false → w.frames j ≡ None → unit q.core q.job ≡ o
     → RowIs w j (unit_on w j o)
 unit_is w j q (Changed c k) is runs quiet none u =
-    step_unit (plain w) j q _ (seen_at w j q None is none ∙ ap Some (seen_none q)) runs quiet u ∙ ap Some (sym (becomes_plain w j (becomes c k) (as_is w j None none seen_none)))
+    step_by (plain w) j _ (transition_unit (plain w) j q _ (seen_at w j q None is none ∙ ap Some (seen_none q)) runs quiet u) ∙ ap Some (sym (becomes_plain w j (becomes c k) (as_is w j None none seen_none)))
 unit_is w j q (Faulted f) is runs quiet none u =
-    step_unit (plain w) j q _ (seen_at w j q None is none ∙ ap Some (seen_none q)) runs quiet u ∙ ap Some (sym (becomes_plain w j (faulted f) (as_is w j None none seen_none)))
+    step_by (plain w) j _ (transition_unit (plain w) j q _ (seen_at w j q None is none ∙ ap Some (seen_none q)) runs quiet u) ∙ ap Some (sym (becomes_plain w j (faulted f) (as_is w j None none seen_none)))
 unit_is w j q (Called s) is runs quiet none u =
     works_is w _ j q is runs (still w j (Some (entered s)) (λ p. seen_entered s p ∙ sym (as_is w j None none seen_none p)))
 
 user_is : (w : State) (j : ℕ) (q : Whole) (b : Bool) → Sound w → w.raw.jobs j ≡ Some q → q.job.stopped ≡ false → w.frames j ≡ None → deliverable q.job ≡ b → RowIs w j (user_on w j q b)
 user_is w j q true sound is runs none d =
-    step_delivery (plain w) j q (seen_at w j q None is none ∙ ap Some (seen_none q)) runs d
+    step_by (plain w) j _ (transition_delivers (plain w) j q (seen_at w j q None is none ∙ ap Some (seen_none q)) runs d)
     ∙ ap Some (sym (delivered_plain w j q (delivered q.core q.job) sound none))
 user_is w j q false sound is runs none d = unit_is w j q (unit q.core q.job) is runs d none refl
 
@@ -174,7 +161,7 @@ asks c s b r e f = in_two c s ∙ ap (λ r. given r (λ b. fetch c s b)) e ∙ f
 fault_is : (w : State) (j : ℕ) (q : Whole) (s : Site) (f : Fault) → w.raw.jobs j ≡ Some q → q.job.stopped ≡ false → deliverable q.job ≡ false → AsIs w j
     → unit q.core q.job ≡ Called s → ask q.core s ≡ Err f → step (plain w) j ≡ Some (plain (turn w j (faulted f) None))
 fault_is w j q s f is runs quiet e u a =
-    step_called (plain w) j q s (Err f) (seen_at w j q (w.frames j) is refl ∙ ap Some (e q)) runs quiet u a
+    step_by (plain w) j _ (transition_called (plain w) j q s (Err f) (seen_at w j q (w.frames j) is refl ∙ ap Some (e q)) runs quiet u a)
     ∙ ap Some (sym (becomes_plain w j (faulted f) e))
 
 parsed_is : (w : State) (j : ℕ) (q : Whole) (s : Site) (r : Result (List ℕ) Fault) → w.raw.jobs j ≡ Some q → q.job.stopped ≡ false → deliverable q.job ≡ false → AsIs w j
@@ -258,24 +245,27 @@ trying_waiting w j q f is fr h = record {
 }
 
 -- the step of a job whose call is tried is what its decision comes to
-trying_step : (w : State) (j : ℕ) (q : Whole) (s : Site) (a : Ask) (n : ℕ) → Trying w j q s a n
-    → step (plain w) j ≡ acted (plain w) j a (decision (plain w) j (with_stores (debts a n) q) a)
-trying_step w j q s a n t =
-    step_called (plain w) j (with_stores (debts a n) q) s (Ok a)
+pub trying_acts : (w : State) (j : ℕ) (q : Whole) (s : Site) (a : Ask) (n : ℕ) (d : Decision) → Trying w j q s a n → decision (plain w) j (with_stores (debts a n) q) a ≡ d
+    → transition (plain w) j ≡ acted (plain w) j a (reach (plain w) j (with_stores (debts a n) q) a) d
+trying_acts w j q s a n d t e =
+    let own : Whole = with_stores (debts a n) q in
+    transition_called (plain w) j own s (Ok a)
     (seen_at w j q (w.frames j) t.here.job_is refl ∙ ap Some (t.here.seen_is q)) t.here.runs t.here.quiet t.stands.unit_is t.stands.ask_is
+    ∙ ap (acted (plain w) j a (reach (plain w) j own a)) e
 
 acts_is : (w v : State) (j : ℕ) (q : Whole) (s : Site) (a : Ask) (n : ℕ) (d : Decision) → Trying w j q s a n → Found w v j
     → decision (plain w) j (with_stores (debts a n) q) a ≡ d → Duty v j (with_stores (debts a n) q) s a n d → Acts d
     → step (plain w) j ≡ Some (plain (committed v j s a n d))
 acts_is w v j q s a n d t f e duty acts =
-    trying_step w j q s a n t
-    ∙ ap (acted (plain w) j a) e
-    ∙ ap (λ (m : Machine). acted m j a d) (sym f.plain)
-    ∙ committed_plain v j (with_stores (debts a n) q) s a n d (here_found w v j q a n f.slot t.here).seen_is duty acts
+    let own : Whole = with_stores (debts a n) q in
+    let ks : List ℕ = reach (plain w) j own a in
+    step_by (plain w) j _ (trying_acts w j q s a n d t e)
+    ∙ ap (λ (m : Machine). option_map (λ (x : Transition). x.machine) (acted m j a ks d)) (sym f.plain)
+    ∙ committed_plain v j own s a n ks d (here_found w v j q a n f.slot t.here).seen_is duty acts
 
-acted_waits : (m : Machine) (j : ℕ) (a : Ask) (r : Wait.Wait) → acted m j a (Waits r) ≡ None
+acted_waits : (m : Machine) (j : ℕ) (a : Ask) (ks : List ℕ) (r : Wait.Wait) → acted m j a ks (Waits r) ≡ None
 unfolding acted
-acted_waits m j a r = refl
+acted_waits m j a ks r = refl
 
 decided_is : (w v : State) (j : ℕ) (q : Whole) (s : Site) (a : Ask) (n : ℕ) (d : Decision) → Trying w j q s a n → Found w v j
     → decision (plain w) j (with_stores (debts a n) q) a ≡ d → Duty v j (with_stores (debts a n) q) s a n d → RowIs w j (tried w v j s a n d)
@@ -284,7 +274,7 @@ decided_is w v j q s a n (Waits r) t f e duty =
     (plain_runs w j q t.here.job_is t.here.runs, waits_none, waits_plain w j s a n t.here.seen_is)
   where
     waits_none : step (plain w) j ≡ None
-    waits_none = trying_step w j q s a n t ∙ ap (acted (plain w) j a) e ∙ acted_waits (plain w) j a r
+    waits_none = step_by (plain w) j _ (trying_acts w j q s a n (Waits r) t e ∙ acted_waits (plain w) j a (reach (plain w) j (with_stores (debts a n) q) a) r)
 decided_is w v j q s a n (Goes cs h vs) t f e duty = acts_is w v j q s a n (Goes cs h vs) t f e duty tt
 decided_is w v j q s a n (Ends cs ss x) t f e duty = acts_is w v j q s a n (Ends cs ss x) t f e duty tt
 decided_is w v j q s a n (Gone cs) t f e duty = acts_is w v j q s a n (Gone cs) t f e duty tt

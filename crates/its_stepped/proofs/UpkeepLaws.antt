@@ -7,11 +7,11 @@ use Rattle.its_word.specs.declared.calls.Pace.TheVariants.{Step, Work, Wait, Off
 use Rattle.its_word.specs.declared.session.Event.{Event}
 use Rattle.its_print.specs.Printing.{Line}
 use Rattle.its_plain.specs.Machine.{Machine, no_machine}
-use Rattle.its_plain.specs.Operator.{Block, Refuses, Does, Ticks, Ends}
+use Rattle.its_plain.specs.Operator.{Block, Refuses, Does, Ticks, Quits}
 use Rattle.its_plain.specs.CallStep.{step}
 use Rattle.its_plain.specs.Licence.{Licensed, Dots, dots_after, dots_after_line}
 use Rattle.its_plain.specs.Transcript.{Transcript}
-use Rattle.its_plain.specs.CallOperator.{Lined, Done, Peeks, lined}
+use Rattle.its_plain.specs.OperatorLines.{Lined, Done, Peeks, lined}
 use Rattle.its_stepped.specs.State.{State, plain, no_state}
 use Rattle.its_stepped.specs.Tick.{tick}
 use Rattle.its_stepped.specs.Sound.{Sound}
@@ -81,7 +81,7 @@ module _ {Placed : Machine → Type 0} (l : Lasting Placed) where
   }
   after_by d w v b e (Done (Refuses r)) g is h = tt
   after_by d w v b e (Done (Ticks s k)) g is h = tt
-  after_by d w v b e (Done Ends) g is h = tt
+  after_by d w v b e (Done Quits) g is h = tt
   after_by d w v b e (Peeks s) g is h = tt
 
   pub upkeep : Upkeep (Good Placed)

@@ -8,7 +8,7 @@ use Rattle.its_word.specs.declared.session.Event.{Event}
 use Rattle.its_print.specs.Printing.{Line}
 use Rattle.its_plain.specs.Change.{channel_in, superior_in}
 use Rattle.its_plain.specs.Machine.{Chan, Shut, Whole, Machine}
-use Rattle.its_plain.specs.CallOperator.{Done, lined}
+use Rattle.its_plain.specs.OperatorLines.{Done, lined}
 use Rattle.its_plain.specs.Transcript.{Transcript}
 use Rattle.its_plain.specs.Operator.{Block, Does}
 use Rattle.its_plain.proofs.CallLineLaws.{Face, face, SlotKept, Stays, Made, HolderKept, Keeps, Takes, LineKeeps, LineKeepsBy, line_keeps}

@@ -21,12 +21,12 @@ use Rattle.its_plain.specs.Own.{on_channel}
 use Rattle.its_plain.specs.Change.{in_job, channel_in, superiors, is_gone, effect}
 use Rattle.its_plain.specs.Arguments.{debts, revalued}
 use Rattle.its_plain.specs.Decide.{call_named}
-use Rattle.its_stepped.specs.State.{Part, UnlinkOld, LinkNew, FreeOld, Mark, State, marked, turn, same, holding, waiting, moving, ending}
+use Rattle.its_stepped.specs.State.{Part, UnlinkOld, LinkNew, FreeOld, Mark, State, mark_of_close, turn, same, holding, waiting, moving, ending}
 
 -- a change on the stepped machine: a close is marked, and its parts are owed; a page that is made is the
 -- reserved one; a removed job has no frame
 unfoldable pub effect_on : Change → ℕ → State → State
-effect_on (changes.Close n) j w = record w { raw = in_job w.raw j (on_channel n (λ c. Shut)); mark = marked j (channel_in (w.raw.jobs j) n) w.raw.files }
+effect_on (changes.Close n) j w = record w { raw = in_job w.raw j (on_channel n (λ c. Shut)); mark = mark_of_close j (channel_in (w.raw.jobs j) n) w.raw.files }
 effect_on (changes.Map s k) j w = record w { raw = effect (changes.Map s k) j w.raw; reserved = changed w.reserved j None }
 effect_on (changes.Remove s) j w = record w {
   raw = effect (changes.Remove s) j w.raw;

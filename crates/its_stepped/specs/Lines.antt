@@ -21,9 +21,9 @@ use Rattle.its_print.specs.Printing as printed
 use Rattle.its_plain.specs.Machine.{Machine, no_machine, core_of}
 use Rattle.its_plain.specs.Arguments.{place_of_input}
 use Rattle.its_plain.specs.Decide.{call_row, call_named}
-use Rattle.its_plain.specs.Operator.{Block, no_block, Operated, Refuses, Does, Ticks, Ends, nobody}
+use Rattle.its_plain.specs.Operator.{Block, no_block, Operated, Refuses, Does, Ticks, nobody, Quits}
 use Rattle.its_plain.specs.Transcript.{Fate, Ended, Open, Lost, TooLong}
-use Rattle.its_plain.specs.CallOperator.{Lined, Done, Peeks, lined}
+use Rattle.its_plain.specs.OperatorLines.{Lined, Done, Peeks, lined}
 use Rattle.its_stepped.specs.State.{State, plain, no_state}
 use Rattle.its_stepped.specs.Unwind.{left, unwound}
 use Rattle.its_stepped.specs.Tick.{helped_if, tick}
@@ -140,7 +140,7 @@ abbrev pub state_after : State → State → Lined → State
 state_after w v (Done (Does m out touched b)) = with_raw v m
 state_after w v (Done (Refuses r)) = w
 state_after w v (Done (Ticks s k)) = w
-state_after w v (Done Ends) = w
+state_after w v (Done Quits) = w
 state_after w v (Peeks s) = w
 
 unfoldable pub after_line : State → Block → Event → State
@@ -151,7 +151,7 @@ abbrev pub lifted : State → Operated → Operated
 lifted v (Does m out touched b) = Does (plain (with_raw v m)) out touched b
 lifted v (Refuses r) = Refuses r
 lifted v (Ticks s k) = Ticks s k
-lifted v Ends = Ends
+lifted v Quits = Quits
 
 abbrev pub lifted_line : State → Lined → Lined
 lifted_line v (Done o) = Done (lifted v o)
@@ -162,7 +162,7 @@ abbrev pub machine_after : Machine → Lined → Machine
 machine_after m (Done (Does n out touched b)) = n
 machine_after m (Done (Refuses r)) = m
 machine_after m (Done (Ticks s k)) = m
-machine_after m (Done Ends) = m
+machine_after m (Done Quits) = m
 machine_after m (Peeks s) = m
 
 -- the slots that it disturbs
@@ -170,7 +170,7 @@ abbrev pub touched_by : Lined → ℕ → Bool
 touched_by (Done (Does n out touched b)) = touched
 touched_by (Done (Refuses r)) = nobody
 touched_by (Done (Ticks s k)) = nobody
-touched_by (Done Ends) = nobody
+touched_by (Done Quits) = nobody
 touched_by (Peeks s) = nobody
 
 -- why a line is refused, where it is
@@ -178,7 +178,7 @@ abbrev pub refusal : Lined → Option Reason
 refusal (Done (Refuses r)) = Some r
 refusal (Done (Does m out touched b)) = None
 refusal (Done (Ticks s k)) = None
-refusal (Done Ends) = None
+refusal (Done Quits) = None
 refusal (Peeks s) = None
 
 -- n ticks: their letters, and the state afterwards
@@ -203,7 +203,7 @@ abbrev pub told_by : ℕ → State → State → Block → Lined → (State → 
 told_by n w v b (Done (Refuses r)) next = record { lines = Refused n r ∷ []; fate = Lost }
 told_by n w v b (Done (Does m out touched b')) next = telling out (next (with_raw v m) b')
 told_by n w v b (Done (Ticks s k)) next = telling (printed.Ticks s (paces_of w s k) ∷ []) (next (ticked w s k) b)
-told_by n w v b (Done Ends) next = record { lines = []; fate = Ended }
+told_by n w v b (Done Quits) next = record { lines = []; fate = Ended }
 told_by n w v b (Peeks s) next = telling (printed.Peeked s (peeked w s) ∷ []) (next w b)
 
 -- the events from line number n on

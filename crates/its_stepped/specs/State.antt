@@ -54,9 +54,9 @@ abbrev pub parts_of : Bool → List Part
 parts_of true = UnlinkOld ∷ LinkNew ∷ FreeOld ∷ []
 parts_of false = LinkNew ∷ []
 
-abbrev pub marked : ℕ → Chan → List File → Option Mark
-marked j (Writes f) fs = Some (record { owner = j; draft = f; parts = parts_of (has_file f.names fs) })
-marked j _ fs = None
+abbrev pub mark_of_close : ℕ → Chan → List File → Option Mark
+mark_of_close j (Writes f) fs = Some (record { owner = j; draft = f; parts = parts_of (has_file f.names fs) })
+mark_of_close j _ fs = None
 
 abbrev pub mine : Option Mark → ℕ → Bool
 mine (Some m) j = m.owner == j

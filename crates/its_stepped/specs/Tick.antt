@@ -20,7 +20,7 @@ use Rattle.its_plain.specs.Arguments.{input}
 use Rattle.its_plain.specs.CallBasic.{channel_at}
 use Rattle.its_plain.specs.CallFile.{disk_device}
 use Rattle.its_plain.specs.Decide.{call_row, call_named, reach}
-use Rattle.its_plain.specs.CallStep.{becomes, faulted, informs, told, decision}
+use Rattle.its_plain.specs.CallStep.{becomes, faulted, informs, decision, informed_slots}
 use Rattle.its_stepped.specs.State.{State, plain, seen, turn, same, reserving, entered, parsed, asked, holding}
 use Rattle.its_stepped.specs.Unwind.{unwind_one, all_unwound, help}
 use Rattle.its_stepped.specs.Commit.{effects_on, committed}
@@ -29,8 +29,8 @@ pub record Ticked : Type 0 where
   pub state : State
   pub pace : Pace
 
-abbrev pub stepped : State → Ticked
-stepped w = record { state = w; pace = Step }
+abbrev pub steps : State → Ticked
+steps w = record { state = w; pace = Step }
 
 abbrev pub works : State → Ticked
 works w = record { state = w; pace = Work }
@@ -43,19 +43,19 @@ off w = record { state = w; pace = Off }
 
 -- a fault of the unit or of the decoding sets its bit and drops the frame
 abbrev pub faults_on : State → ℕ → Fault → Ticked
-faults_on w j f = stepped (turn w j (faulted f) None)
+faults_on w j f = steps (turn w j (faulted f) None)
 
 -- user mode
 abbrev pub delivered_on : State → ℕ → Whole → Delivered → State
-delivered_on w j q d = turn (effects_on (informs d.stops q.superior) j (all_unwound (told d.stops q.superior) w)) j (becomes d.core d.job) None
+delivered_on w j q d = turn (effects_on (informs d.stops q.superior) j (all_unwound (informed_slots d.stops q.superior) w)) j (becomes d.core d.job) None
 
 abbrev pub unit_on : State → ℕ → Outcome → Ticked
-unit_on w j (Changed c k) = stepped (turn w j (becomes c k) None)
+unit_on w j (Changed c k) = steps (turn w j (becomes c k) None)
 unit_on w j (Faulted f) = faults_on w j f
 unit_on w j (Called s) = works (turn w j same (Some (entered s)))
 
 abbrev pub user_on : State → ℕ → Whole → Bool → Ticked
-user_on w j q true = stepped (delivered_on w j q (delivered q.core q.job))
+user_on w j q true = steps (delivered_on w j q (delivered q.core q.job))
 user_on w j q false = unit_on w j (unit q.core q.job)
 
 -- the decoding in its two ticks
@@ -110,9 +110,9 @@ prepared_for w j own a = helped_if (helps own a) (all_unwound (reach (plain w) j
 -- a call is tried: it waits, or is carried out
 abbrev pub tried : State → State → ℕ → Site → Ask → ℕ → Decision → Ticked
 tried w v j s a n (Waits r) = waits (committed w j s a n (Waits r))
-tried w v j s a n (Goes cs h vs) = stepped (committed v j s a n (Goes cs h vs))
-tried w v j s a n (Ends cs ss e) = stepped (committed v j s a n (Ends cs ss e))
-tried w v j s a n (Gone cs) = stepped (committed v j s a n (Gone cs))
+tried w v j s a n (Goes cs h vs) = steps (committed v j s a n (Goes cs h vs))
+tried w v j s a n (Ends cs ss e) = steps (committed v j s a n (Ends cs ss e))
+tried w v j s a n (Gone cs) = steps (committed v j s a n (Gone cs))
 
 abbrev pub tried_by : State → ℕ → Whole → Site → Ask → ℕ → Ticked
 tried_by w j own s a n = tried w (prepared_for w j own a) j s a n (decision (plain w) j own a)

@@ -15,9 +15,12 @@ use Rattle.its_print.specs.Printing as printed
 use Rattle.its_plain.specs.Machine.{File, Whole, Machine}
 use Rattle.its_plain.specs.Own.{names_of}
 use Rattle.its_plain.specs.CallFile.{file_named}
-use Rattle.its_plain.specs.FileOperator.{file_made, words_added, files_in, listing, shown_lines, shown_by, file_shown}
-use Rattle.its_plain.specs.Operator.{Block, Does, Refuses, nobody, only, disturbs, quietly, by_load, by_exam, by_state, loaded, words_loaded, on_registers, started, interrupted, stopped, continued, examined, state_shown, deposited}
-use Rattle.its_plain.specs.CallOperator.{Done, Peeks, peeked_at, clocked, typed, dropped, drained, shows, operate, lined}
+use Rattle.its_plain.specs.OperatorFiles.{file_made, words_added, files_in, listing, shown_lines, shown_by, file_shown}
+use Rattle.its_plain.specs.Operator.{Block, Does, Refuses, nobody, only, disturbs, quietly}
+use Rattle.its_plain.specs.OperatorJobs.{loaded, words_loaded, on_registers, started, interrupted, stopped, continued, examined, state_shown, deposited}
+use Rattle.its_plain.specs.OperatorLines.{by_load, by_exam, by_state, Done, Peeks, peeked_at, shows, operate, lined}
+use Rattle.its_plain.specs.OperatorClock.{clocked}
+use Rattle.its_plain.specs.OperatorConsoles.{typed, dropped, drained}
 use Rattle.its_stepped.specs.State.{State, plain}
 use Rattle.its_stepped.specs.Unwind.{unwound, help}
 use Rattle.its_stepped.specs.Lines.{calmed, with_raw, peeked, paces_of, ticked}

@@ -6,7 +6,7 @@ use Rattle.std.proofs.lemmas.List.{drop-drop, length-append, length-take-le, tak
 use Rattle.its_word.specs.Console.{Console, most_waiting}
 use Rattle.its_plain.specs.Machine.{Machine, changed}
 use Rattle.its_plain.specs.Change.{on_console}
-use Rattle.its_plain.specs.CallOperator.{typed, dropped, drained}
+use Rattle.its_plain.specs.OperatorConsoles.{typed, dropped, drained}
 use Rattle.its_plain.proofs.MachineLaws.{machine_is}
 use Rattle.its_stepped.specs.State.{State}
 use Rattle.its_stepped.specs.Lines.{with_raw}

@@ -9,8 +9,8 @@ use Rattle.its_word.specs.declared.session.Reason.{Reason}
 use Rattle.its_print.specs.Printing.{Line, Refused, text_of_line, text}
 use Rattle.its_print.specs.Printing as printed
 use Rattle.its_plain.specs.Machine.{Machine}
-use Rattle.its_plain.specs.Operator.{Block, Does, Refuses, Ticks, Ends}
-use Rattle.its_plain.specs.CallOperator.{Lined, Done, Peeks, operate, lined}
+use Rattle.its_plain.specs.Operator.{Block, Does, Refuses, Ticks, Quits}
+use Rattle.its_plain.specs.OperatorLines.{Lined, Done, Peeks, operate, lined}
 use Rattle.its_plain.specs.Transcript.{Fate, Lost}
 use Rattle.its_stepped.specs.State.{State}
 use Rattle.its_stepped.specs.Lines.{Told, telling, calmed, with_raw, peeked, paces_of, ticked, told_by, told}
@@ -49,15 +49,15 @@ says_by n v c b e o items h =
     ∙ ap (λ x. said (told_by n v c b x (λ v' b'. told (n + 1) v' b' items))) h.is
 
 -- only END ends
-end_goes : (m : Machine) (b : Block) → lined m b events.End ≡ Done Ends
+end_goes : (m : Machine) (b : Block) → lined m b events.End ≡ Done Quits
 unfolding lined operate
 end_goes m b = refl
 
-pub end_comes : (v : State) (b : Block) → Comes v b events.End v (Done Ends)
+pub end_comes : (v : State) (b : Block) → Comes v b events.End v (Done Quits)
 unfolding calmed
 end_comes v b = record { calm = refl; is = end_goes v.raw b }
 
-goes_unless : (m : Machine) (b : Block) (e : Event) → lined m b e ≢ Done Ends → goes_on_after e ≡ true
+goes_unless : (m : Machine) (b : Block) (e : Event) → lined m b e ≢ Done Quits → goes_on_after e ≡ true
 goes_unless m b events.End h = absurd (h (end_goes m b))
 goes_unless m b _ h = refl
 
@@ -65,7 +65,7 @@ pub does_on : (n : ℕ) (v c v' : State) (m : Machine) (b b' : Block) (e : Event
     → v' ≡ with_raw c m → Answers turns.On n v b e v' b' (text out)
 unfolding items_say
 does_on n v c v' m b b' e out touched h k = (
-  goes_unless c.raw b e (λ x. let l : Done (Does m out touched b') ≡ Done Ends = sym h.is ∙ x in cc),
+  goes_unless c.raw b e (λ x. let l : Done (Does m out touched b') ≡ Done Quits = sym h.is ∙ x in cc),
   λ items. says_by n v c b e (Done (Does m out touched b')) items h ∙ said_telling out (told (n + 1) (with_raw c m) b' items)
       ∙ ap (λ x. after (text out) (said (told (n + 1) x b' items))) (sym k),
 )
@@ -74,7 +74,7 @@ pub ticks_on : (n : ℕ) (v c : State) (b : Block) (e : Event) (s k : ℕ) → C
     → Answers turns.On n v b e (ticked v s k) b (text (printed.Ticks s (paces_of v s k) ∷ []))
 unfolding items_say
 ticks_on n v c b e s k h = (
-  goes_unless c.raw b e (λ x. let l : Done (Ticks s k) ≡ Done Ends = sym h.is ∙ x in cc),
+  goes_unless c.raw b e (λ x. let l : Done (Ticks s k) ≡ Done Quits = sym h.is ∙ x in cc),
   λ items. says_by n v c b e (Done (Ticks s k)) items h ∙ said_telling (printed.Ticks s (paces_of v s k) ∷ []) (told (n + 1) (ticked v s k) b items),
 )
 
@@ -82,7 +82,7 @@ pub peeks_on : (n : ℕ) (v c : State) (b : Block) (e : Event) (s : ℕ) → Com
     → Answers turns.On n v b e v b (text (printed.Peeked s (peeked v s) ∷ []))
 unfolding items_say
 peeks_on n v c b e s h = (
-  goes_unless c.raw b e (λ x. let l : Peeks s ≡ Done Ends = sym h.is ∙ x in cc),
+  goes_unless c.raw b e (λ x. let l : Peeks s ≡ Done Quits = sym h.is ∙ x in cc),
   λ items. says_by n v c b e (Peeks s) items h ∙ said_telling (printed.Peeked s (peeked v s) ∷ []) (told (n + 1) v b items),
 )
 
@@ -92,7 +92,7 @@ refuses n v c v' b b' e r h items = says_by n v c b e (Done (Refuses r)) items h
 
 pub ends : (n : ℕ) (v v' : State) (b b' : Block) → Answers turns.Ended n v b events.End v' b' []
 unfolding text
-ends n v v' b b' items = says_by n v v b events.End (Done Ends) items (end_comes v b)
+ends n v v' b b' items = says_by n v v b events.End (Done Quits) items (end_comes v b)
 
 -- a write that failed
 begins_after : (v w more : List ℕ) (s t : Says) → s ≡ after v t → v ≡ w ++ more → Begins s w

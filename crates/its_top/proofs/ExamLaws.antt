@@ -4,7 +4,7 @@ use Rattle.std.proofs.Common.{sym, ◌∙◌, ap, subst, arith, append_assoc, ap
 use Rattle.its_word.specs.Core.{Core, word_at}
 use Rattle.its_word.specs.declared.session.Reason.{Reason}
 use Rattle.its_plain.specs.Machine.{Whole, Machine, joined, words_at}
-use Rattle.its_plain.specs.Operator.{on_job, seen, seen_word, word_seen, examined}
+use Rattle.its_plain.specs.OperatorJobs.{on_job, seen, seen_word, word_seen, examined}
 use Rattle.its_stepped.specs.State.{State}
 use Rattle.its_stepped.specs.Unwind.{unwound}
 use Rattle.its_stepped.specs.Sound.{Sound}

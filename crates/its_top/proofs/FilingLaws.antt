@@ -21,7 +21,7 @@ use Rattle.its_plain.specs.Own.{names_of}
 use Rattle.its_plain.specs.CallFile.{is_full, file_named}
 use Rattle.its_plain.specs.Machine.{Names, File, Machine}
 use Rattle.its_plain.specs.Operator.{and_then}
-use Rattle.its_plain.specs.FileOperator.{channels_of, with_files, word_added_if, word_added_to, word_added, words_added, is_in, files_in, show_of, filed_line, rows}
+use Rattle.its_plain.specs.OperatorFiles.{channels_of, with_files, word_added_if, word_added_to, word_added, words_added, is_in, files_in, show_of, filed_line, rows}
 use Rattle.its_stepped.specs.State.{State, plain}
 use Rattle.its_stepped.specs.State as state
 use Rattle.its_stepped.specs.Unwind.{help}

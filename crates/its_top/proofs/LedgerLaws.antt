@@ -9,17 +9,18 @@ use Rattle.its_word.specs.declared.calls.Pace.TheVariants.{Step, Work, Wait, Off
 use Rattle.its_word.specs.declared.session.Event.{Event}
 use Rattle.its_print.specs.Printing.{Line}
 use Rattle.its_print.specs.Printing as printed
-use Rattle.its_plain.specs.CallOperator.{Lined, Done, Peeks, lined}
-use Rattle.its_plain.specs.Course.{Inward, Outward, moves, Lines, Steps, Course, rests, onward, after_step, paced, letters, past, course, run_of}
+use Rattle.its_plain.specs.OperatorLines.{Lined, Done, Peeks, lined}
+use Rattle.its_plain.specs.Course.{Lines, Steps, Course, rests, onward, after_step, paced, letters, past, course, run_of}
 use Rattle.its_plain.specs.Ledger.{typed_by, typed_at, byte_of, drained_by, Balanced, Ledger}
 use Rattle.its_plain.specs.Ledger as books
 use Rattle.its_plain.specs.Machine.{Machine, no_machine}
-use Rattle.its_plain.specs.Operator.{Block, no_block, Refuses, Does, Ticks}
-use Rattle.its_plain.specs.Operator as operator
-use Rattle.its_plain.specs.Transcript.{Fate, Walk, at_start, after_letter, after_line, next_line, Transcript}
+use Rattle.its_plain.specs.Operator.{Block, no_block, Refuses, Does, Ticks, Quits}
+use Rattle.its_plain.specs.Transcript.{Fate, Walk, at_start, after_letter, walk_after, next_line, Transcript}
 use Rattle.its_plain.proofs.RunLaws.{PacedOn, LinedOn, Run, shows_run}
 use Rattle.its_top.proofs.MoveLaws.{Passes, step_passes}
 use Rattle.its_top.proofs.ShownLaws.{Shows, ShowsBy, Few, line_shows}
+use Rattle.its_plain.specs.Moves.{Inward, Outward}
+use Rattle.its_plain.specs.CallStep.{moves}
 
 -- the ledger of console c from machine m on, along a run that shows these lines
 record From (c : ℕ) (m : Machine) (u : Course) (lines : List Line) : Type 0 where
@@ -102,7 +103,7 @@ from_lined c v e es lines fate (Done (Refuses r)) few s t h = from_rest c v.mach
 from_lined c v e es lines fate (Done (Does l out touched b)) few s t h =
     let m = v.machine in
     let rest = t.0 in
-    let next = from_line c m l e out (course l b es rest) rest s (h (next_line (after_line v l touched b)) rest s.few t.2) in
+    let next = from_line c m l e out (course l b es rest) rest s (h (next_line (walk_after v l touched b)) rest s.few t.2) in
     subst (λ ls. From c m (onward m (Lines e) (course l b es (drop (length out) ls))) ls) (sym t.1)
     (subst (λ r. From c m (onward m (Lines e) (course l b es r)) (out ++ rest)) (sym (drop_at out rest (length out) refl)) next)
 from_lined c v e es lines fate (Done (Ticks i k)) few s t h =
@@ -114,7 +115,7 @@ from_lined c v e es lines fate (Done (Ticks i k)) few s t h =
         (λ w same few' run. subst (λ b. From c w.machine (course w.machine b es rest) rest) same (h (next_line w) rest few' run)) in
     subst (λ ls. From c m (paced m i (letters ls) (λ l. course l v.block es (drop 1 ls))) ls) (sym t.2)
     (from_shown c m (paced m i ps walk) (printed.Ticks i ps) rest refl next)
-from_lined c v e es lines fate (Done operator.Ends) few s t h = from_rest c v.machine lines (ap (flat_map (drained_by c)) t.0)
+from_lined c v e es lines fate (Done Quits) few s t h = from_rest c v.machine lines (ap (flat_map (drained_by c)) t.0)
 from_lined c v e es lines fate (Peeks i) few s t h =
     let m = v.machine in
     let rest = t.1 in

@@ -3,7 +3,8 @@ use Rattle.std.specs.Prelude.{◌≡◌, ◌<◌, ◌+◌, ℕ, None, Result, Ok
 use Rattle.std.proofs.Common.{sym, ◌∙◌, ap, arith, drop-cons, add-one}
 use Rattle.its_word.specs.declared.session.Reason.{Reason}
 use Rattle.its_plain.specs.Machine.{Machine}
-use Rattle.its_plain.specs.Operator.{and_then, word_loaded, words_loaded}
+use Rattle.its_plain.specs.Operator.{and_then}
+use Rattle.its_plain.specs.OperatorJobs.{word_loaded, words_loaded}
 use Rattle.its_stepped.specs.State.{State}
 use Rattle.its_stepped.specs.Unwind.{unwound}
 use Rattle.its_stepped.specs.Lines.{with_raw}

@@ -15,13 +15,15 @@ use Rattle.its_word.specs.declared.session.Reason.{Reason}
 use Rattle.its_word.specs.declared.show.JobShow.{JobShow}
 use Rattle.its_print.specs.Printing.{Line}
 use Rattle.its_print.specs.Printing as printed
-use Rattle.its_plain.specs.CallOperator.{clock_end, clocked_if, clocked, typed, dropped, drained, shows, operate, Lined, Done, Peeks, peeked_at, lined}
+use Rattle.its_plain.specs.OperatorClock.{clock_end, clocked_if, clocked}
+use Rattle.its_plain.specs.OperatorConsoles.{typed, dropped, drained}
+use Rattle.its_plain.specs.OperatorLines.{shows, operate, Lined, Done, Peeks, peeked_at, lined, by_load, by_exam, by_state}
 use Rattle.its_plain.specs.CallFile.{file_named}
-use Rattle.its_plain.specs.FileOperator.{file_made, words_added, files_in, filed_line, listing, rows, shown_lines, shown_by, file_shown}
+use Rattle.its_plain.specs.OperatorFiles.{file_made, words_added, files_in, filed_line, listing, rows, shown_lines, shown_by, file_shown}
 use Rattle.its_plain.specs.Ledger.{typed_by, drained_by}
 use Rattle.its_plain.specs.Machine.{File, Whole, Machine, mapped}
-use Rattle.its_plain.specs.Operator.{Block, Refuses, Does, Ticks, stored, with_core, word_loaded_of, word_loaded, and_then, words_loaded, on_job, with_registers, on_registers, started, interrupted, stopped, continued, deposited_in, deposited, disturbs, quietly, by_load, loaded_in, loaded, by_exam, examined, by_state, state_shown}
-use Rattle.its_plain.specs.Operator as operator
+use Rattle.its_plain.specs.Operator.{Block, Refuses, Does, Ticks, Quits, and_then, disturbs, quietly}
+use Rattle.its_plain.specs.OperatorJobs.{stored, with_core, word_loaded_of, word_loaded, words_loaded, on_job, with_registers, on_registers, started, interrupted, stopped, continued, deposited_in, deposited, loaded_in, loaded, examined, state_shown}
 use Rattle.its_plain.specs.Own.{names_of}
 use Rattle.its_plain.proofs.CallLineLaws.{FilesAlone, made_files, added_files}
 
@@ -35,7 +37,7 @@ abbrev pub ShowsBy : ℕ → Machine → Event → Lined → Type 0
 ShowsBy c m e (Done (Does n out touched b)) = Shows c m n e out
 ShowsBy c m e (Done (Refuses r)) = Unit {0}
 ShowsBy c m e (Done (Ticks s k)) = Unit {0}
-ShowsBy c m e (Done operator.Ends) = Unit {0}
+ShowsBy c m e (Done Quits) = Unit {0}
 ShowsBy c m e (Peeks s) = Unit {0}
 
 -- at most so many bytes wait as input of console c

@@ -14,8 +14,10 @@ use Rattle.its_print.specs.Printing.{Line, Refused}
 use Rattle.its_print.specs.Printing as printed
 use Rattle.its_session.specs.Generated.{generated_session}
 use Rattle.its_plain.specs.Machine.{Machine, no_machine}
-use Rattle.its_plain.specs.Operator.{Block, Does, Refuses, Ticks, Ends, nobody, only, disturbs, by_load, by_exam, loaded, words_loaded, on_registers, started, examined}
-use Rattle.its_plain.specs.CallOperator.{Lined, Done, typed, dropped, drained, operate, lined}
+use Rattle.its_plain.specs.Operator.{Block, Does, Refuses, Ticks, Quits, nobody, only, disturbs}
+use Rattle.its_plain.specs.OperatorJobs.{loaded, words_loaded, on_registers, started, examined}
+use Rattle.its_plain.specs.OperatorLines.{by_load, by_exam, Lined, Done, operate, lined}
+use Rattle.its_plain.specs.OperatorConsoles.{typed, dropped, drained}
 use Rattle.its_stepped.specs.State.{State, no_state}
 use Rattle.its_stepped.specs.Unwind.{unwound}
 use Rattle.its_stepped.specs.Lines.{Told, calmed, with_raw, paces_of, ticked, told_by, told}
@@ -85,7 +87,7 @@ refuses_counted v c v' b b' e r h = record {
 
 pub end_counted : (v v' : State) (b b' : Block) → Counted None v b events.End v' b'
 end_counted v v' b b' = record {
-  counts = λ n items. ap (λ (x : Told). tally x.lines) (told_comes n v v b events.End (Done Ends) items (end_comes v b)) ∙ tally_none;
+  counts = λ n items. ap (λ (x : Told). tally x.lines) (told_comes n v v b events.End (Done Quits) items (end_comes v b)) ∙ tally_none;
 }
 
 -- the events, one after another

@@ -4,13 +4,14 @@ use Rattle.std.specs.Io.KnownBytes.{Appends}
 use Rattle.its_word.specs.declared.session.Event.{Event}
 use Rattle.its_word.specs.declared.calls.Pace.{Pace}
 use Rattle.its_plain.specs.Machine.{Names, Machine}
-use Rattle.its_plain.specs.CallOperator.{typed, dropped, drained}
-use Rattle.its_plain.specs.FileOperator.{words_added}
+use Rattle.its_plain.specs.OperatorConsoles.{typed, dropped, drained}
+use Rattle.its_plain.specs.OperatorFiles.{words_added}
 use Rattle.its_stepped.specs.State.{State}
 use Rattle.its_stepped.specs.Unwind.{unwound, help}
 use Rattle.its_stepped.specs.Lines.{with_raw, paces_of, ticked}
 use Rattle.its_word.specs.declared.session.Reason.{Reason}
-use Rattle.its_plain.specs.Operator.{Block, words_loaded, examined}
+use Rattle.its_plain.specs.Operator.{Block}
+use Rattle.its_plain.specs.OperatorJobs.{words_loaded, examined}
 use Rattle.its_monitor.specs.declared.monitor.Monitor.{Monitor}
 use Rattle.its_word.specs.declared.session.Refusal.{Refusal}
 use Rattle.its_print.specs.Printing.{Line, Refused, text_of_line, text}

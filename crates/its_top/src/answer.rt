@@ -2,8 +2,8 @@ ghost use Rattle.std.specs.Prelude.{◌≡◌, ◌≢◌, ◌≤◌, ◌<◌, �
 ghost use Rattle.its_io.specs.Bytes.{next_fault};
 ghost use Rattle.its_word.specs.Limits.{slots};
 ghost use Rattle.its_session.specs.Fits.{EventFits};
-ghost use Rattle.its_plain.specs.Operator.{words_loaded, examined};
-ghost use Rattle.its_plain.specs.CallOperator.{typed, dropped, drained};
+ghost use Rattle.its_plain.specs.OperatorJobs.{words_loaded, examined};
+ghost use Rattle.its_plain.specs.OperatorConsoles.{typed, dropped, drained};
 ghost use Rattle.its_stepped.specs.Unwind.{unwound};
 ghost use Rattle.its_stepped.specs.Lines.{paces_of, ticked};
 ghost use Rattle.its_world.specs.World.{state_of};

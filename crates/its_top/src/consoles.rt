@@ -2,8 +2,8 @@
 ghost use Rattle.std.specs.Prelude.{◌≡◌, ◌<◌, ◌↔◌, ◌∷◌, [], Ok, IsTrue, IfSome, IfOk, IfErr, OnErr, length, slice_get};
 ghost use Rattle.its_word.specs.Console.{most_waiting};
 ghost use Rattle.its_word.specs.Limits.{slots};
-ghost use Rattle.its_plain.specs.Operator.{loaded};
-ghost use Rattle.its_plain.specs.CallOperator.{typed, drained};
+ghost use Rattle.its_plain.specs.OperatorJobs.{loaded};
+ghost use Rattle.its_plain.specs.OperatorConsoles.{typed, drained};
 ghost use Rattle.its_world.specs.World.{state_of};
 ghost use Rattle.its_operator.specs.Kept.{Kept, Lands, Loads, Refused};
 

@@ -3,7 +3,7 @@
 ghost use Rattle.std.specs.Prelude.{◌≡◌, ◌≢◌, ◌≤◌, ◌<◌, ◌+◌, ◌-◌, ◌/◌, ◌^◌, true, None, Ok, Err, IfErr, OnOk, length, map, min, take, drop};
 ghost use Rattle.its_io.specs.Bytes.{next_fault};
 ghost use Rattle.its_files.specs.Files.{entry_at, is_file, words_at};
-ghost use Rattle.its_plain.specs.FileOperator.{word_added, words_added, files_in, filed_line, shown_lines, rows};
+ghost use Rattle.its_plain.specs.OperatorFiles.{word_added, words_added, files_in, filed_line, shown_lines, rows};
 ghost use Rattle.its_stepped.specs.Unwind.{help};
 ghost use Rattle.its_world.specs.World.{state_of};
 ghost use Rattle.its_operator.specs.Kept.{Kept, Lands, reason_of};

@@ -27,7 +27,7 @@ use Rattle.its_files.specs.declared.entry.Parts.TheVariants.{Replace, Link}
 use Rattle.its_files.specs.declared.entry.CloseFault.{CloseFault}
 use Rattle.its_plain.specs.CallFile.{is_full}
 use Rattle.its_plain.specs.Change.{in_job}
-use Rattle.its_stepped.specs.State.{marked}
+use Rattle.its_stepped.specs.State.{mark_of_close}
 use Rattle.std.proofs.lemmas.List.{length-map}
 use Rattle.its_word.specs.Directory.{File as PlainFile}
 use Rattle.std.specs.Prelude.{slice_index_or}
@@ -277,8 +277,8 @@ module _ (old new : World) (s n : ℕ) (ls : s < slots) (ln : n < 16) (tidy : Ti
     unfolding effect_on
     begin_close_row =
         let c : chan_in (state_of old) s n ≡ Writes (file_at old.files k) = chan_is old s n ∙ ap (chan_of old.files) (sym was) in
-        let m : mark_of t ≡ marked s (chan_in (state_of old) s n) (state_of old).raw.files =
-        begin_close old.files t k s made ∙ sym (λ i. marked s (c i) (files_are old i)) in
+        let m : mark_of t ≡ mark_of_close s (chan_in (state_of old) s n) (state_of old).raw.files =
+        begin_close old.files t k s made ∙ sym (λ i. mark_of_close s (c i) (files_are old i)) in
         filed_state old new s n Closed t b (λ c. Shut) begin_close_kept.chans (λ some. refl)
         ∙ (λ i. record (state_of old) { raw = record (in_job (state_of old).raw s (on_channel n (λ c. Shut))) { files = (files ∙ sym (files_are old)) i }; mark = m i })
 

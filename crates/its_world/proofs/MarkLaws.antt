@@ -15,7 +15,7 @@ use Rattle.its_files.proofs.EntryLaws.{within, draft_stands, draft_no_file, unli
 use Rattle.its_files.proofs.DirectoryLaws.{words_stand, without_same, file_is, file_apart, texts_apart, directory_same, directory_more, directory_without, plain_unlinked_is, plain_linked_is, plain_freed_is, helped_unmarked}
 use Rattle.its_plain.specs.Machine.{File, Writes}
 use Rattle.its_plain.specs.Change.{without_file}
-use Rattle.its_stepped.specs.State.{Part, UnlinkOld, LinkNew, FreeOld, Mark, State, part_made, parts_made, helped, parts_of, marked}
+use Rattle.its_stepped.specs.State.{Part, UnlinkOld, LinkNew, FreeOld, Mark, State, part_made, parts_made, helped, parts_of, mark_of_close}
 use Rattle.its_stepped.specs.Unwind.{rest_marked, with_part, help}
 use Rattle.its_world.specs.World.{no_file, parts_left, last_file, draft_left, marking, mark_of}
 use Rattle.its_world.proofs.StoreLaws.{has_named}
@@ -51,24 +51,24 @@ unfolding mark_of
 mark_same s t m d h = ap (marking t) m ∙ marking_same s t s.mark d h
 
 -- a close that is begun
-close_begun : (s t : Store) (id slot : ℕ) (o : Option ℕ) → found s (names_at s id) ≡ o → close_by o s slot id ≡ Ok t → mark_of t ≡ marked slot (Writes (file_at s id)) (directory s)
+close_begun : (s t : Store) (id slot : ℕ) (o : Option ℕ) → found s (names_at s id) ≡ o → close_by o s slot id ≡ Ok t → mark_of t ≡ mark_of_close slot (Writes (file_at s id)) (directory s)
 unfolding mark_of
 close_begun s t id slot (Some old) f e = replaced (readers_at s old) e
   where
-    replaced : (n : ℕ) → close_old n s slot id old ≡ Ok t → mark_of t ≡ marked slot (Writes (file_at s id)) (directory s)
+    replaced : (n : ℕ) → close_old n s slot id old ≡ Ok t → mark_of t ≡ mark_of_close slot (Writes (file_at s id)) (directory s)
     replaced zero e =
         let same : marked_with s slot (Replace old id) ≡ t = cc in
         ap mark_of (sym same) ∙ ap (λ b. Some (record { owner = slot; draft = file_at s id; parts = parts_of b })) (sym (has_named s (names_at s id) ∙ ap is_some f))
     replaced (suc n) e = cc
 close_begun s t id slot None f e = linked_new (nat_lt (length s.order) 256) e
   where
-    linked_new : (b : Bool) → close_new b s slot id ≡ Ok t → mark_of t ≡ marked slot (Writes (file_at s id)) (directory s)
+    linked_new : (b : Bool) → close_new b s slot id ≡ Ok t → mark_of t ≡ mark_of_close slot (Writes (file_at s id)) (directory s)
     linked_new true e =
         let same : marked_with s slot (Link None id) ≡ t = cc in
         ap mark_of (sym same) ∙ ap (λ b. Some (record { owner = slot; draft = file_at s id; parts = parts_of b })) (sym (has_named s (names_at s id) ∙ ap is_some f))
     linked_new false e = cc
 
-pub begin_close : (s t : Store) (id slot : ℕ) → close s id slot ≡ Ok t → mark_of t ≡ marked slot (Writes (file_at s id)) (directory s)
+pub begin_close : (s t : Store) (id slot : ℕ) → close s id slot ≡ Ok t → mark_of t ≡ mark_of_close slot (Writes (file_at s id)) (directory s)
 begin_close s t id slot e = close_begun s t id slot (found s (names_at s id)) refl e
 
 -- the store after a part, and what the files and the mark of the machine are then

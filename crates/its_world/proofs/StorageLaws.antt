@@ -14,7 +14,7 @@ use Rattle.its_files.specs.Files.{Store, directory}
 use Rattle.its_plain.specs.Machine.{Chan, Shut}
 use Rattle.its_plain.specs.Own.{on_channel}
 use Rattle.its_plain.specs.Change.{in_job, channel_in}
-use Rattle.its_plain.specs.FileOperator.{channels_of}
+use Rattle.its_plain.specs.OperatorFiles.{channels_of}
 use Rattle.its_plain.proofs.MachineLaws.{machine_is}
 use Rattle.its_stepped.specs.State.{State}
 use Rattle.its_world.specs.World.{chan_of, chans_of, bare, raw_of, raw_at, frame_at, console_at, holder_at, mark_of, state_of, in_raw, JobBecomes}

@@ -6,7 +6,7 @@ use Rattle.its_word.specs.declared.jobs.Channel.TheVariants.{Closed, TtyIn, TtyO
 use Rattle.its_plain.specs.Machine.{Names, Chan, Writes}
 use Rattle.its_plain.specs.Change.{channel_in}
 use Rattle.its_plain.specs.CallFile.{most_files, is_full, has_file, is_read}
-use Rattle.its_plain.specs.FileOperator.{channels_of}
+use Rattle.its_plain.specs.OperatorFiles.{channels_of}
 use Rattle.its_stepped.specs.State.{State}
 use Rattle.its_core.specs.Cores.{core_at, clear_at}
 use Rattle.its_jobs.specs.Table.{job_at}

@@ -1,5 +1,5 @@
 use Rattle.std.proofs.Common.{◌≡◌, Err, OnOk, IfErr, subst, arith}
-use Rattle.its_plain.specs.FileOperator.{word_added}
+use Rattle.its_plain.specs.OperatorFiles.{word_added}
 use Rattle.its_stepped.specs.Unwind.{help}
 use Rattle.its_world.specs.World.{state_of}
 use Rattle.its_operator.specs.Kept.{Lands, reason_of}

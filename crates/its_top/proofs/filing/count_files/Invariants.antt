@@ -1,5 +1,5 @@
 use Rattle.std.proofs.Common.{◌≤◌, length}
-use Rattle.its_plain.specs.FileOperator.{files_in}
+use Rattle.its_plain.specs.OperatorFiles.{files_in}
 use Rattle.its_stepped.specs.Unwind.{help}
 use Rattle.its_world.specs.World.{state_of}
 use Rattle.its_operator.specs.Kept.{Kept}

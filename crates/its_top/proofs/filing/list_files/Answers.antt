@@ -1,6 +1,6 @@
 use Rattle.std.proofs.Common.{◌∙◌, sym, ap, map}
 use Rattle.its_print.specs.Printing.{Dir, text_of_line, text}
-use Rattle.its_plain.specs.FileOperator.{files_in, filed_line}
+use Rattle.its_plain.specs.OperatorFiles.{files_in, filed_line}
 use Rattle.its_top.proofs.AnswerLaws.{dir_answered}
 use Rattle.its_top.proofs.FilingLaws.{tells_then}
 use Rattle.its_top.proofs.WritingLaws.{told_as}

@@ -1,7 +1,7 @@
 use Rattle.std.proofs.Common.{◌+◌, ◌/◌, ◌∙◌, sym, ap, length}
 use Rattle.its_files.specs.Files.{words_at}
 use Rattle.its_print.specs.Printing.{Shown, text_of_line, text}
-use Rattle.its_plain.specs.FileOperator.{rows}
+use Rattle.its_plain.specs.OperatorFiles.{rows}
 use Rattle.its_top.proofs.FilingLaws.{stood, length_stood, tells_then}
 use Rattle.its_top.proofs.WritingLaws.{told_as}
 use Rattle.its_top.proofs.filing.show_file_words.Goals as goal

@@ -1,5 +1,5 @@
 use Rattle.std.proofs.Common.{◌≡◌, map}
-use Rattle.its_plain.specs.FileOperator.{files_in, filed_line}
+use Rattle.its_plain.specs.OperatorFiles.{files_in, filed_line}
 use Rattle.its_world.specs.World.{state_of}
 use Rattle.its_operator.specs.Kept.{Kept}
 use Rattle.its_top.specs.Answer.{Stood, WritesSo}

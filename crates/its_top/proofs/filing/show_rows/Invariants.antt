@@ -1,6 +1,6 @@
 use Rattle.std.proofs.Common.{◌≡◌, ◌+◌, ◌/◌}
 use Rattle.its_files.specs.Files.{words_at}
-use Rattle.its_plain.specs.FileOperator.{rows}
+use Rattle.its_plain.specs.OperatorFiles.{rows}
 use Rattle.its_operator.specs.Kept.{Kept}
 use Rattle.its_top.specs.Answer.{Stood, WritesSo}
 use Rattle.its_top.proofs.FilingLaws.{rows_from}

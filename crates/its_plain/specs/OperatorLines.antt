@@ -1,39 +1,32 @@
--- What each line of a session comes to on the plain machine, and what it shows (docs/SESSION.md, "The lines").
-use Rattle.std.specs.Prelude.{ℕ, ◌+◌, ◌-◌, Bool, true, false, Option, Some, None, List, [], ◌∷◌, ◌++◌, Result, Ok, Err, nat_lt, length, take, drop}
-use Rattle.its_word.specs.Console.{most_waiting}
+-- Each line of a session, and what it comes to on the plain machine (docs/SESSION.md, "The lines").
+use Rattle.std.specs.Prelude.{ℕ, Option, Some, None, List, [], ◌∷◌, Result, Ok, Err, take}
 use Rattle.its_word.specs.declared.session.Event.{Event}
 use Rattle.its_word.specs.declared.session.Event.TheVariants.{Nothing, Load, Words, Go, File, Append, EndFile, Tick, TypeIn, Drain, Clock, Int, Exam, State, Deposit, Stop, Cont, Peek, Dir, Show, End}
 use Rattle.its_word.specs.declared.session.Reason.{Reason}
-use Rattle.its_word.specs.declared.session.Reason.TheVariants.{NoJob, Range}
+use Rattle.its_word.specs.declared.session.Reason.TheVariants.{NoJob}
+use Rattle.its_word.specs.declared.show.JobShow.{JobShow}
 use Rattle.its_print.specs.Printing.{Line}
 use Rattle.its_print.specs.Printing as printed
-use Rattle.its_plain.specs.Machine.{Console, Whole, Machine}
-use Rattle.its_plain.specs.Change.{on_console}
+use Rattle.its_plain.specs.Machine.{Whole, Machine}
 use Rattle.its_plain.specs.Own.{names_of}
-use Rattle.its_plain.specs.FileOperator.{file_made, words_added, files_in, listing, file_shown}
-use Rattle.its_plain.specs.Operator.{Block, Operated, Refuses, Does, Ticks, Ends, nobody, loaded, words_loaded, started, interrupted, stopped, continued, on_registers, examined, state_shown, deposited, disturbs, quietly, by_load, by_exam, by_state}
+use Rattle.its_plain.specs.Operator.{Block, Operated, Refuses, Does, Ticks, Quits, nobody, only, disturbs, quietly}
+use Rattle.its_plain.specs.OperatorClock.{clocked}
+use Rattle.its_plain.specs.OperatorConsoles.{typed, dropped, drained}
+use Rattle.its_plain.specs.OperatorFiles.{file_made, words_added, files_in, listing, file_shown}
+use Rattle.its_plain.specs.OperatorJobs.{loaded, words_loaded, started, interrupted, stopped, continued, on_registers, examined, state_shown, deposited}
 
--- CLOCK: the clock gains n, and stays below 2 ^ 34
-abbrev pub clock_end : ℕ
-clock_end = 0o200000000000
+-- lines that show something of a job
+abbrev pub by_load : Block → Result (Machine × ℕ) Reason → Operated
+by_load b (Ok (m, s)) = Does m (printed.Loaded s ∷ []) (only s) (record b { slot = s })
+by_load b (Err r) = Refuses r
 
-abbrev pub clocked_if : Machine → ℕ → Bool → Result Machine Reason
-clocked_if m n true = Ok (record m { clock = m.clock + n })
-clocked_if m n false = Err Range
+abbrev pub by_exam : Machine → Block → ℕ → ℕ → Result (List ℕ) Reason → Operated
+by_exam m b s a (Ok ws) = Does m (printed.Words s a ws ∷ []) (only s) b
+by_exam m b s a (Err r) = Refuses r
 
-unfoldable pub clocked : Machine → ℕ → Result Machine Reason
-clocked m n = clocked_if m n (nat_lt (m.clock + n) clock_end)
-
--- TYPE: the bytes that have room wait as input, at most 64 in all; those beyond that room are dropped. DRAIN: up to n bytes of
--- the output
-abbrev pub typed : ℕ → List ℕ → Machine → Machine
-typed c bytes m = on_console m c (λ x. record x { input = take most_waiting (x.input ++ bytes) })
-
-abbrev pub dropped : Console → List ℕ → ℕ
-dropped x bytes = length bytes - (most_waiting - length x.input)
-
-abbrev pub drained : ℕ → ℕ → Machine → Machine
-drained c n m = on_console m c (λ x. record x { output = drop n x.output })
+abbrev pub by_state : Machine → Block → ℕ → Result JobShow Reason → Operated
+by_state m b s (Ok show) = Does m (printed.State s show ∷ []) (only s) b
+by_state m b s (Err r) = Refuses r
 
 -- lines that only show something
 abbrev pub shows : Machine → Block → Result (List Line) Reason → Operated
@@ -63,7 +56,7 @@ operate m b (Cont s) = disturbs s b (on_registers m s continued)
 operate m b (Peek s) = Does m [] nobody b
 operate m b (Dir d) = Does m (listing d (files_in d m.files)) nobody b
 operate m b (Show d x y) = shows m b (file_shown m d x y)
-operate m b End = Ends
+operate m b End = Quits
 
 -- PEEK shows how far a job is inside a call, of which the plain machine knows nothing: it is passed over
 pub data Lined : Type 0 where

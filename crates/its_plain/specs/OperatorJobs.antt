@@ -1,0 +1,131 @@
+-- The lines that make or name a job: LOAD with its a/ lines and GO, INT, EXAM, STATE, DEPOSIT, STOP and CONT
+-- (docs/SESSION.md, "The lines").
+use Rattle.std.specs.Prelude.{if◌then◌else◌, ℕ, ◌/◌, ◌+◌, Bool, true, false, not, Option, Some, None, List, [], ◌∷◌, Result, Ok, Err, nat_lt, is_some, bit_and, bit_or}
+use Rattle.its_word.specs.Word.{complement_of}
+use Rattle.its_word.specs.Limits.{most_pages}
+use Rattle.its_word.specs.Core.{Core, no_core, word_at, can_store, store, with_page, zero_page}
+use Rattle.its_word.specs.Tree.{least_free, fresh_job}
+use Rattle.its_word.specs.declared.jobs.Job.{Job}
+use Rattle.its_word.specs.declared.show.JobShow.{JobShow}
+use Rattle.its_word.specs.declared.session.Reason.{Reason}
+use Rattle.its_word.specs.declared.session.Reason.TheVariants.{NoJob, NoPage, ReadOnly, Full}
+use Rattle.its_plain.specs.Job.{pc_word, FATAL}
+use Rattle.its_plain.specs.Machine.{Whole, Machine, whole, with_job, changed, mapped, words_at}
+use Rattle.its_plain.specs.Operator.{and_then}
+
+-- LOAD: a new job in the least free slot, stopped, with no page and no superior
+abbrev pub new_job : ℕ → ℕ → Option ℕ → Whole
+new_job u j console = whole no_core (fresh_job u j console) None
+
+-- it becomes the holder of its console where that has none
+abbrev pub held_by : ℕ → Option ℕ → Option ℕ
+held_by s (Some h) = Some h
+held_by s None = Some s
+
+abbrev pub with_holder : Machine → ℕ → Option ℕ → Machine
+with_holder m s (Some c) = record m { holders = changed m.holders c (held_by s (m.holders c)) }
+with_holder m s None = m
+
+abbrev pub loaded_in : Machine → ℕ → ℕ → Option ℕ → Option ℕ → Result (Machine × ℕ) Reason
+loaded_in m u j console (Some s) = Ok (with_holder (with_job m s (new_job u j console)) s console, s)
+loaded_in m u j console None = Err Full
+
+unfoldable pub loaded : Machine → ℕ → ℕ → Option ℕ → Result (Machine × ℕ) Reason
+loaded m u j console = loaded_in m u j console (least_free m.jobs)
+
+-- one word of an a/ line: an absent page is made, writable and of zeros, where fewer than the most pages are mapped
+abbrev pub stored_in : Core → ℕ → ℕ → Bool → Bool → Bool → Result Core Reason
+stored_in c a w can there room =
+    if can then Ok (store c a w)
+    else (if there then Err ReadOnly
+    else (if room then Ok (store (with_page c (a / 1024) (Some zero_page)) a w) else Err Full))
+
+unfoldable pub stored : ℕ → Core → ℕ → ℕ → Result Core Reason
+stored pages c a w = stored_in c a w (can_store c a) (is_some (word_at c a)) (nat_lt pages most_pages)
+
+-- a job in a slot with its core changed
+abbrev pub with_core : Machine → ℕ → Whole → Result Core Reason → Result Machine Reason
+with_core m s q (Ok c) = Ok (with_job m s (record q { core = c }))
+with_core m s q (Err r) = Err r
+
+abbrev pub word_loaded_of : Machine → ℕ → ℕ → ℕ → Option Whole → Result Machine Reason
+word_loaded_of m s a w (Some q) = with_core m s q (stored (mapped m) q.core a w)
+word_loaded_of m s a w None = Err NoJob
+
+unfoldable pub word_loaded : Machine → ℕ → ℕ → ℕ → Result Machine Reason
+word_loaded m s a w = word_loaded_of m s a w (m.jobs s)
+
+-- the words of an a/ line, in order
+abbrev pub words_loaded : Machine → ℕ → ℕ → List ℕ → Result Machine Reason
+words_loaded m s a [] = Ok m
+words_loaded m s a (w ∷ ws) = and_then (word_loaded m s a w) (λ n. words_loaded n s (a + 1) ws)
+
+-- what a line does to the job that it names, or NOJOB where the slot is empty
+abbrev pub on_job : {X : Type 0} → Machine → ℕ → (Whole → Result X Reason) → Option Whole → Result X Reason
+on_job m s f (Some q) = f q
+on_job m s f None = Err NoJob
+
+-- the registers of a job changed
+abbrev pub with_registers : Machine → ℕ → (Job → Job) → Whole → Result Machine Reason
+with_registers m s f q = Ok (with_job m s (record q { job = f q.job }))
+
+unfoldable pub on_registers : Machine → ℕ → (Job → Job) → Result Machine Reason
+on_registers m s f = on_job m s (with_registers m s f) (m.jobs s)
+
+-- GO: the PC, no flags, and the job runs
+abbrev pub started : ℕ → Job → Job
+started a j = record j { pc = a; flags = 0; stopped = false }
+
+-- INT: the bits are added to those that are pending
+abbrev pub interrupted : ℕ → ℕ → Job → Job
+interrupted v w j = record j { pend1 = bit_or j.pend1 v; pend2 = bit_or j.pend2 w }
+
+abbrev pub stopped : Job → Job
+stopped j = record j { stopped = true }
+
+-- CONT: the job runs, and no fatal bit is pending
+abbrev pub continued : Job → Job
+continued j = record j { stopped = false; pend1 = bit_and j.pend1 (complement_of FATAL) }
+
+-- EXAM: n words, all of whose pages must be present
+abbrev pub seen : Option (List ℕ) → Result (List ℕ) Reason
+seen (Some ws) = Ok ws
+seen None = Err NoPage
+
+-- one word of it
+abbrev pub seen_word : Option ℕ → Result ℕ Reason
+seen_word (Some w) = Ok w
+seen_word None = Err NoPage
+
+unfoldable pub word_seen : Machine → ℕ → ℕ → Result ℕ Reason
+word_seen m s a = on_job m s (λ q. seen_word (word_at q.core a)) (m.jobs s)
+
+unfoldable pub examined : Machine → ℕ → ℕ → ℕ → Result (List ℕ) Reason
+examined m s a n = on_job m s (λ q. seen (words_at q.core a n)) (m.jobs s)
+
+-- STATE
+abbrev pub shown : Job → Option ℕ → JobShow
+shown j superior = record {
+  u = j.uname;
+  j = j.jname;
+  sup = superior;
+  con = j.console;
+  run = not j.stopped;
+  pc = pc_word j.flags j.pc;
+  p1 = j.pend1;
+  p2 = j.pend2;
+  m1 = j.mask1;
+  m2 = j.mask2;
+  d1 = j.defer1;
+  d2 = j.defer2;
+}
+
+unfoldable pub state_shown : Machine → ℕ → Result JobShow Reason
+state_shown m s = on_job m s (λ q. Ok (shown q.job q.superior)) (m.jobs s)
+
+-- DEPOSIT
+abbrev pub deposited_in : Core → ℕ → ℕ → Bool → Bool → Result Core Reason
+deposited_in c a w can there = if can then Ok (store c a w) else (if there then Err ReadOnly else Err NoPage)
+
+unfoldable pub deposited : Machine → ℕ → ℕ → ℕ → Result Machine Reason
+deposited m s a w = on_job m s (λ q. with_core m s q (deposited_in q.core a w (can_store q.core a) (is_some (word_at q.core a)))) (m.jobs s)
