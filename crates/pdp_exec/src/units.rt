@@ -9,10 +9,10 @@ ghost use Rattle.its_plain.specs.Unit.{Called, Changed, Faulted, break_row, outc
 ghost use Rattle.pdp_exec.specs.Answer.{Answers, Ends, EndsSame, InPlace, IsCalled, Unchanged};
 ghost use Rattle.pdp_exec.specs.Ready.{IsReady, is_call};
 
+use super::acting::frequent;
 use super::arithmetic::{arithmetic, booleans, shifts};
 use super::branches::{branches, stack};
 use super::bytes::bytes;
-use super::acting::frequent;
 use super::chain::{Places, at_hand, find, reach};
 use super::comparisons::{comparisons, tests_of};
 use super::making::carry_out;
