@@ -1,6 +1,7 @@
 //! From an instruction word to the instruction at the end of its chain of XCTs.
 ghost use Rattle.std.specs.Prelude.{◌≡◌, ◌<◌, ◌≤◌, ◌+◌, ◌*◌, ◌^◌, ◌++◌, [], length, Ok, IfOk, IfSome};
 ghost use Rattle.its_core.specs.Cores.{core_at};
+ghost use Rattle.its_word.specs.Address.{is_indirect};
 ghost use Rattle.its_word.specs.Limits.{budget, slots};
 ghost use Rattle.its_word.specs.Opcode.{IsRow, ac_of, opcode_of};
 ghost use Rattle.its_plain.specs.UnitPlan.{Fits};
@@ -65,6 +66,13 @@ fn instruction(w: Word) -> Result<Instruction, Fault>
     }
 }
 
+/// I of an address word.
+fn is_indirect(w: Word) -> bool
+    ensures { result ≡ is_indirect w }
+{
+    w.value() >> 22 & 1 == 1
+}
+
 /// What stands at a PC: the opcode of its word, and what the row of the word finds.
 #[derive(Clone, Copy, Debug, PartialEq, Eq)]
 pub struct AtHand {
@@ -72,7 +80,8 @@ pub struct AtHand {
     pub context: Context,
 }
 
-/// What stands at the PC of a job; then no place that is read has to be noted. None at a fault.
+/// What stands at the PC of a job; then no place that is read has to be noted. None at a fault, and
+/// where its address is indirect.
 #[inline(always)]
 #[tactic(auto, using(crate::proofs::ChainLaws::stands_at))]
 pub fn at_hand(core: &Core, slot: u8, job: &Job) -> Option<AtHand>
@@ -82,6 +91,9 @@ pub fn at_hand(core: &Core, slot: u8, job: &Job) -> Option<AtHand>
     ensures fits { IfSome result (λ f. Fits f.context) }
 {
     let w = read(core, slot, job.pc).ok()?;
+    if is_indirect(w) {
+        return None;
+    }
     let mut used = 0;
     let Address { e, flags_word } = core.effective(slot, w, &mut used).ok()?;
     Some(AtHand {
