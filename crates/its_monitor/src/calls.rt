@@ -32,6 +32,7 @@ use its_world::World;
 const QUARTERS: u8 = 4;
 
 /// A tick of a slot's job that is inside a call.
+#[inline(never)]
 pub fn in_call(w: &mut World, slot: u8) -> Pace
     requires slot { slot < slots }
     requires kept { Kept w.old }

@@ -26,6 +26,7 @@ use its_world::World;
 use pdp_exec::{Ended, run, site};
 
 /// The delivery of an interrupt to a slot's job with these registers.
+#[inline(never)]
 pub fn deliver_to(w: &mut World, slot: u8, job: Job)
     requires slot { slot < slots }
     requires kept { Kept w.old }

@@ -3,6 +3,7 @@ use Rattle.std.proofs.Common.{◌≡◌, ◌<◌, ◌≤◌, ℕ, zero, suc, ◌
 use Rattle.std.proofs.lemmas.List.{append-nil, append_assoc}
 use Rattle.its_word.specs.Core.{Core}
 use Rattle.its_word.specs.Address.{address}
+use Rattle.its_word.specs.Opcode.{ac_of, instruction_of, opcode_of}
 use Rattle.its_word.specs.declared.access.Address.{Address}
 use Rattle.its_word.specs.declared.access.Fault.{Fault}
 use Rattle.its_word.specs.declared.access.Fault.TheVariants.{Ilo}
@@ -16,9 +17,9 @@ use Rattle.its_word.specs.declared.plan.Turn.TheVariants.{Found, Target}
 use Rattle.its_word.specs.Stores.{first_fault}
 use Rattle.its_plain.specs.UnitPlan.{Planned, read_of}
 use Rattle.its_plain.specs.Traced.{Traced, also, gives, goes_on, located, word}
-use Rattle.its_plain.specs.Unit.{Outcome, Called, Faulted, chain, context_of, decoded, done_by, followed, made, outcome_at, outcome_of, reached, row_of, site_of, turn, turn_at, unit}
+use Rattle.its_plain.specs.Unit.{Outcome, Called, Faulted, chain, context_of, decoded, done_by, followed, has_row, made, outcome_at, outcome_of, reached, row_of, site_of, turn, turn_at, unit}
 use Rattle.pdp_exec.specs.Answer.{IsCalled}
-use Rattle.pdp_exec.specs.Ready.{is_call, leads_on}
+use Rattle.pdp_exec.specs.Ready.{Stands, is_call, leads_on}
 use Rattle.its_plain.proofs.TracedLaws.{stops_answer}
 
 -- a part and what follows it, by what the part gives
@@ -150,7 +151,7 @@ plain_turn : (c : Core) (j : Job) (w : ℕ) (i : Instruction) (e : Address) → 
 unfolding turn also located
 plain_turn c j w i e d p a = rw (d, a) (ap (λ m. m.answer) (turn_plain c i (context_of j w e (address c w 0).used) p))
 
-pub plain_reached : (c : Core) (j : Job) (w : ℕ) (i : Instruction) (e : Address) → read_of c j.pc ≡ Ok w → decoded w ≡ Ok i → leads_on i ≡ false
+plain_reached : (c : Core) (j : Job) (w : ℕ) (i : Instruction) (e : Address) → read_of c j.pc ≡ Ok w → decoded w ≡ Ok i → leads_on i ≡ false
     → (address c w 0).answer ≡ Ok e → (reached c j).answer ≡ Ok (record { instruction = i; context = context_of j w e (address c w 0).used })
 unfolding word
 plain_reached c j w i e r d p a =
@@ -181,6 +182,21 @@ pub unit_by : (c : Core) (j : Job) (r : Reached) (o : Outcome) → (reached c j)
     → outcome_of c j (row_of c r.context r.instruction) ≡ o → unit c j ≡ o
 unfolding unit
 unit_by c j r o e h p = ap (outcome_at c j (reached c j).reads) e ∙ planned_by c j (reached c j).reads r.context r.instruction h ∙ p
+
+-- what stands at the PC
+is_decoded : (w : ℕ) (i : Instruction) → instruction_of (opcode_of w) ≡ i → has_row i (ac_of w) ≡ true → decoded w ≡ Ok i
+unfolding decoded
+is_decoded w i e h = rw (e, h) refl
+
+pub stands_at : (c : Core) (j : Job) (w : ℕ) (e : Address) → read_of c j.pc ≡ Ok w → (address c w 0).answer ≡ Ok e
+    → Stands c j (opcode_of w) (context_of j w e (address c w 0).used)
+stands_at c j w e r a = record {
+  does = λ i o h p q. sym (unit_by c j (record { instruction = i; context = context_of j w e (address c w 0).used }) _ (plain_reached c j w i e r (is_decoded w i o h) p a) q refl);
+}
+
+pub stands : (c : Core) (j : Job) (o : ℕ) (x : Context) (p : Planned) → Stands c j o x → has_row (instruction_of o) x.a ≡ true
+    → leads_on (instruction_of o) ≡ false → is_call (instruction_of o) ≡ false → row_of c x (instruction_of o) ≡ p → outcome_of c j p ≡ unit c j
+stands c j o x p s h l q r = ap (λ p. outcome_of c j p) (sym r) ∙ s.does (instruction_of o) refl h l q
 
 -- the unit, where the way to its instruction is known
 unit_at : (c : Core) (j : Job) (a : Result Reached Fault) (reads : List ℕ) → a ≡ (reached c j).answer → reads ≡ (reached c j).reads → unit c j ≡ outcome_at c j reads a

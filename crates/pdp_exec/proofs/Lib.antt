@@ -1,4 +1,5 @@
 pub mod ByteLaws
 pub mod ChainLaws
+pub mod MakingLaws
 pub mod ReadLaws
 pub mod TestLaws

@@ -1,9 +1,9 @@
 -- What the answer of a unit says.
-use Rattle.std.specs.Prelude.{◌≡◌, ℕ}
+use Rattle.std.specs.Prelude.{◌≡◌, ◌≢◌, ◌<◌, ◌^◌, ℕ}
 use Rattle.its_word.specs.Core.{Core}
 use Rattle.its_word.specs.declared.access.Fault.{Fault}
 use Rattle.its_word.specs.declared.jobs.Job.{Job}
-use Rattle.its_core.specs.Cores.{Cores}
+use Rattle.its_core.specs.Cores.{Cores, core_at}
 use Rattle.its_plain.specs.Job.{bit_of}
 use Rattle.its_plain.specs.Unit.{Outcome, Changed, Faulted, Called}
 use Rattle.pdp_exec.specs.declared.units.Ended.{Ended}
@@ -45,3 +45,12 @@ abbrev pub EndsSame : Ended → Cores → Cores → Job → Job → Type 0
 EndsSame ends.Done old new j k = Unit {0}
 EndsSame (ends.Fault b) old new j k = (new ≡ old) × (k ≡ j)
 EndsSame ends.Call old new j k = (new ≡ old) × (k ≡ j)
+
+-- the unit of a slot's job, made in place: it is answered so, and nothing else changes
+pub record InPlace (e : Ended) (o : Outcome) (old new : Cores) (slot : ℕ) (j k : Job) : Type 0 where
+  pub unit : Ends e o (core_at new slot) k
+  pub pc : k.pc < 2 ^ 18
+  pub others : (i : ℕ) → i ≢ slot → core_at new i ≡ core_at old i
+  pub reserved : new.reserved ≡ old.reserved
+  pub frames : new.frames ≡ old.frames
+  pub same : EndsSame e old new j k

@@ -1,11 +1,15 @@
 -- The ranges that the tables need of what is reached, and which instructions are calls or lead on.
-use Rattle.std.specs.Prelude.{◌≤◌, ◌+◌, ◌*◌, ℕ, Bool, true, false}
+use Rattle.std.specs.Prelude.{◌≡◌, ◌≤◌, ◌+◌, ◌*◌, ℕ, Bool, true, false}
+use Rattle.its_word.specs.Core.{Core}
 use Rattle.its_word.specs.Limits.{budget}
-use Rattle.its_word.specs.Opcode.{IsRow}
+use Rattle.its_word.specs.Opcode.{IsRow, instruction_of}
 use Rattle.its_word.specs.declared.instruction.Instruction.{Instruction}
 use Rattle.its_word.specs.declared.instruction.Instruction.TheVariants.{Xct, Iot, Call}
+use Rattle.its_word.specs.declared.jobs.Job.{Job}
+use Rattle.its_word.specs.declared.plan.Context.{Context}
 use Rattle.its_word.specs.declared.plan.Turn.{Turn}
 use Rattle.its_word.specs.declared.plan.Turn.TheVariants.{Found, Target}
+use Rattle.its_plain.specs.Unit.{has_row, outcome_of, row_of, unit}
 use Rattle.its_plain.specs.UnitPlan.{Fits}
 
 -- an instruction with the numbers of its row and of its context, or a word with some of the budget used
@@ -28,3 +32,8 @@ is_call _ = false
 abbrev pub leads_on : Instruction → Bool
 leads_on Xct = true
 leads_on _ = false
+
+-- the word at the PC of a job has this opcode, and its row finds this: so its unit does what the row of the opcode
+-- plans, where that is no call and leads to no other word
+pub record Stands (c : Core) (j : Job) (opcode : ℕ) (x : Context) : Type 0 where
+  pub does : (i : Instruction) → instruction_of opcode ≡ i → has_row i x.a ≡ true → leads_on i ≡ false → is_call i ≡ false → outcome_of c j (row_of c x i) ≡ unit c j

@@ -32,6 +32,7 @@ fn source(core: &Core, slot: u8, x: &Context, mode: Mode) -> Result<Word, Fault>
 }
 
 /// Where its one result goes.
+#[inline(always)]
 #[tactic(auto, unfolding(its_plain::specs::UnitPlan::worked_to))]
 fn stores(x: &Context, mode: Mode, w: Word) -> Stores
     ensures { list_of result ≡ worked_to x.now mode w }
@@ -45,6 +46,7 @@ fn stores(x: &Context, mode: Mode, w: Word) -> Stores
 }
 
 /// Where its two results go.
+#[inline(always)]
 #[tactic(auto, unfolding(its_plain::specs::UnitPlan::two_to))]
 fn stores_of_two(x: &Context, mode: Mode, w: Word, v: Word) -> Stores
     requires { Fits x.now }
@@ -59,6 +61,7 @@ fn stores_of_two(x: &Context, mode: Mode, w: Word, v: Word) -> Stores
     }
 }
 
+#[inline(always)]
 fn one_word(x: &Context, mode: Mode, r: &Result2) -> Draft
     requires { Fits x.now }
     ensures { result ≡ one_result x.now mode r.now }
@@ -66,6 +69,7 @@ fn one_word(x: &Context, mode: Mode, r: &Result2) -> Draft
     next(x, stores(x, mode, r.first), r.flags)
 }
 
+#[inline(always)]
 fn two_words(x: &Context, mode: Mode, r: &Result2) -> Draft
     requires { Fits x.now }
     ensures { result ≡ two_results x.now mode r.now }
@@ -98,6 +102,7 @@ fn quotient(x: &Context, mode: Mode, s: Word, r: Option<Result2>) -> Draft
 }
 
 /// An operation on AC and the source.
+#[inline(always)]
 #[tactic(auto, unfolding(its_plain::specs::UnitArith::worked))]
 fn work(core: &Core, slot: u8, x: &Context, op: ArithmeticOp, mode: Mode, s: Word) -> Draft
     requires slot { slot < slots }
@@ -116,6 +121,7 @@ fn work(core: &Core, slot: u8, x: &Context, op: ArithmeticOp, mode: Mode, s: Wor
 }
 
 /// ADD, SUB, IMUL, MUL, IDIV, DIV.
+#[inline(always)]
 #[tactic(auto, unfolding(its_plain::specs::UnitArith::arithmetic_row))]
 pub fn arithmetic(
     core: &Core,
@@ -132,6 +138,7 @@ pub fn arithmetic(
     Ok(work(core, slot, x, op, mode, s))
 }
 
+#[inline(always)]
 fn one_place(x: &Context, r: &Result2) -> Draft
     requires { Fits x.now }
     ensures { result ≡ one_shifted x.now r.now }
@@ -151,6 +158,7 @@ fn two_places(x: &Context, r: &Result2) -> Draft
 }
 
 /// ASH, ROT, LSH, JFFO, ASHC, ROTC, LSHC.
+#[inline(always)]
 #[tactic(auto, unfolding(its_plain::specs::UnitArith::shift_row))]
 pub fn shifts(core: &Core, slot: u8, x: &Context, op: ShiftOp) -> Result<Draft, Fault>
     requires slot { slot < slots }
@@ -176,6 +184,7 @@ pub fn shifts(core: &Core, slot: u8, x: &Context, op: ShiftOp) -> Result<Draft, 
 }
 
 /// SETZ, SETA, SETCA and SETO do not use their source.
+#[inline(always)]
 fn is_fixed(k: u32) -> bool
     ensures { result ≡ is_constant k }
 {
@@ -183,6 +192,7 @@ fn is_fixed(k: u32) -> bool
 }
 
 /// SETZ to SETO, by their place in the order of the opcodes.
+#[inline(always)]
 #[tactic(auto, unfolding(its_plain::specs::UnitArith::boolean_row))]
 pub fn booleans(core: &Core, slot: u8, x: &Context, k: u32, mode: Mode) -> Result<Draft, Fault>
     requires slot { slot < slots }

@@ -22,6 +22,7 @@ const PUSHED_OUT: u32 = 0;
 const POPPED_OUT: u32 = 0o777777;
 
 /// A word with 1 added to each half.
+#[inline(always)]
 pub fn up(w: Word) -> Word
     ensures { result ≡ both_up w }
 {
@@ -29,6 +30,7 @@ pub fn up(w: Word) -> Word
 }
 
 /// A word with 1 taken from each half.
+#[inline(always)]
 pub fn down(w: Word) -> Word
     ensures { result ≡ both_down w }
 {
@@ -42,6 +44,7 @@ fn negative(w: Word) -> bool
 }
 
 /// One word of BLT.
+#[inline(always)]
 fn transfer(x: &Context, pointer: Word, w: Word) -> Draft
     requires { Fits x.now }
     ensures { result ≡ transferred x.now pointer w }
@@ -73,6 +76,7 @@ fn named(a: u32) -> u32
 }
 
 /// BLT, AOBJP, AOBJN, JRST, JFCL.
+#[inline(always)]
 #[tactic(auto, unfolding(its_plain::specs::UnitJumps::branch_row))]
 pub fn branches(core: &Core, slot: u8, x: &Context, op: BranchOp) -> Result<Draft, Fault>
     requires slot { slot < slots }
@@ -101,6 +105,7 @@ pub fn branches(core: &Core, slot: u8, x: &Context, op: BranchOp) -> Result<Draf
 }
 
 /// A plan with PDL set where the count in the left half of a stack pointer came to its end.
+#[inline(always)]
 fn count(end: u32, pointer: Word, plan: Draft) -> Draft
     ensures { result ≡ counted end pointer plan }
 {
@@ -113,6 +118,7 @@ fn count(end: u32, pointer: Word, plan: Draft) -> Draft
 }
 
 /// PUSHJ, PUSH, POP, POPJ, JSR, JSP, JSA, JRA.
+#[inline(always)]
 #[tactic(auto, unfolding(its_plain::specs::UnitJumps::stack_row))]
 pub fn stack(core: &Core, slot: u8, x: &Context, op: StackOp) -> Result<Draft, Fault>
     requires slot { slot < slots }

@@ -14,6 +14,7 @@ use its_core::Core;
 use its_word::{Address, BYTE_HALF, ByteOp, Context, Fault, Word};
 
 /// The pointer to the next byte; Ilo where its size is none of 1 to 36.
+#[inline(always)]
 #[tactic(auto, unfolding(its_plain::specs::UnitBytes::incremented))]
 fn step(p: Word) -> Result<Word, Fault>
     ensures { result ≡ incremented p }
@@ -23,6 +24,7 @@ fn step(p: Word) -> Result<Word, Fault>
 
 /// The address of a pointer's word, under what is left of the budget; Ilo where its size is none of 1
 /// to 36.
+#[inline(always)]
 #[tactic(auto, unfolding(its_plain::specs::UnitBytes::pointed_to))]
 fn target(core: &Core, slot: u8, x: &Context, p: Word) -> Result<u32, Fault>
     requires slot { slot < slots }
@@ -71,6 +73,7 @@ fn deposits_byte(core: &Core, slot: u8, x: &Context, p: Word) -> Result<Draft, F
 }
 
 /// The first half of ILDB and IDPB.
+#[inline(always)]
 #[tactic(auto, unfolding(its_plain::specs::UnitBytes::first_half))]
 fn first_part(x: &Context, p: Word) -> Result<Draft, Fault>
     ensures { result ≡ first_half x.now p }
@@ -78,6 +81,7 @@ fn first_part(x: &Context, p: Word) -> Result<Draft, Fault>
     Ok(stay(x, one(to(x.e, step(p)?)), x.flags | BYTE_HALF))
 }
 
+#[inline(always)]
 #[tactic(auto, unfolding(its_plain::specs::UnitBytes::byte_by))]
 fn by_pointer(core: &Core, slot: u8, x: &Context, op: ByteOp, p: Word) -> Result<Draft, Fault>
     requires slot { slot < slots }
@@ -96,6 +100,7 @@ fn by_pointer(core: &Core, slot: u8, x: &Context, op: ByteOp, p: Word) -> Result
 }
 
 /// IBP, ILDB, LDB, IDPB, DPB.
+#[inline(always)]
 #[tactic(auto, unfolding(its_plain::specs::UnitBytes::byte_row))]
 pub fn bytes(core: &Core, slot: u8, x: &Context, op: ByteOp) -> Result<Draft, Fault>
     requires slot { slot < slots }

@@ -1,12 +1,13 @@
 //! From an instruction word to the instruction at the end of its chain of XCTs.
 ghost use Rattle.std.specs.Prelude.{◌≡◌, ◌<◌, ◌≤◌, ◌+◌, ◌*◌, ◌^◌, ◌++◌, [], length, Ok, IfOk, IfSome};
 ghost use Rattle.its_core.specs.Cores.{core_at};
+ghost use Rattle.its_word.specs.Address.{is_indirect};
 ghost use Rattle.its_word.specs.Limits.{budget, slots};
-ghost use Rattle.its_word.specs.Opcode.{IsRow, ac_of};
+ghost use Rattle.its_word.specs.Opcode.{IsRow, ac_of, opcode_of};
 ghost use Rattle.its_plain.specs.UnitPlan.{Fits};
 ghost use Rattle.its_plain.specs.Traced.{word as word_of};
 ghost use Rattle.its_plain.specs.Unit.{chain, decoded, has_row, reached, target_of, turn as turn_of, turn_at};
-ghost use Rattle.pdp_exec.specs.Ready.{HasFew, IsReady, leads_on};
+ghost use Rattle.pdp_exec.specs.Ready.{HasFew, IsReady, Stands};
 
 use super::reads::read;
 use arrayvec::ArrayVec;
@@ -29,6 +30,14 @@ fn ac_field(w: Word) -> u32
     (w.value() >> 23 & 0o17) as u32
 }
 
+/// The opcode of an instruction word.
+fn opcode(w: Word) -> u32
+    ensures value { result ≡ opcode_of w }
+    ensures below { result < 512 }
+{
+    (w.value() >> 27) as u32
+}
+
 /// Whether an instruction is in the tables with this A.
 fn is_legal(i: Instruction, a: u32) -> bool
     ensures { result ≡ has_row i a }
@@ -49,7 +58,7 @@ fn instruction(w: Word) -> Result<Instruction, Fault>
     ensures instruction { result ≡ decoded w }
     ensures numbers { IfOk result IsRow }
 {
-    let i = decode((w.value() >> 27) as u32);
+    let i = decode(opcode(w));
     if is_legal(i, ac_field(w)) {
         Ok(i)
     } else {
@@ -57,32 +66,38 @@ fn instruction(w: Word) -> Result<Instruction, Fault>
     }
 }
 
-/// Whether an instruction leads to another word.
-fn is_xct(i: Instruction) -> bool
-    ensures { result ≡ leads_on i }
+/// I of an address word.
+fn is_indirect(w: Word) -> bool
+    ensures { result ≡ is_indirect w }
 {
-    matches!(i, Instruction::Xct)
+    w.value() >> 22 & 1 == 1
 }
 
-/// The instruction of a job's unit, where it is the one at its PC: then no place that is read has to be
-/// noted. None where that is an XCT, and at a fault.
+/// What stands at a PC: the opcode of its word, and what the row of the word finds.
+#[derive(Clone, Copy, Debug, PartialEq, Eq)]
+pub struct AtHand {
+    pub opcode: u32,
+    pub context: Context,
+}
+
+/// What stands at the PC of a job; then no place that is read has to be noted. None at a fault, and
+/// where its address is indirect.
 #[inline(always)]
-#[tactic(auto, using(crate::proofs::ChainLaws::plain_reached))]
-fn at_hand(core: &Core, slot: u8, job: &Job) -> Option<Reached>
+#[tactic(auto, using(crate::proofs::ChainLaws::stands_at))]
+pub fn at_hand(core: &Core, slot: u8, job: &Job) -> Option<AtHand>
     requires slot { slot < slots }
     requires pc { job.now.pc < 2 ^ 18 }
-    ensures found { IfSome result (λ r. (reached (core_at core.now slot) job.now).answer ≡ Ok r) }
-    ensures ready { IfSome result (λ r. IsReady (Turn.Found r)) }
+    ensures stands { IfSome result (λ f. Stands (core_at core.now slot) job.now f.opcode f.context) }
+    ensures fits { IfSome result (λ f. Fits f.context) }
 {
     let w = read(core, slot, job.pc).ok()?;
-    let i = instruction(w).ok()?;
-    if is_xct(i) {
+    if is_indirect(w) {
         return None;
     }
     let mut used = 0;
     let Address { e, flags_word } = core.effective(slot, w, &mut used).ok()?;
-    Some(Reached {
-        instruction: i,
+    Some(AtHand {
+        opcode: opcode(w),
         context: Context {
             pc: job.pc,
             flags: job.flags,
@@ -214,9 +229,8 @@ pub fn find(core: &Core, slot: u8, job: &Job, reads: &mut Places) -> Result<Reac
     Err(Fault::Ilo)
 }
 
-/// The same, with the places thrown away.
-#[inline(never)]
-fn find_only(core: &Core, slot: u8, job: &Job) -> Result<Reached, Fault>
+/// The same, with no note of what is read.
+pub fn reach(core: &Core, slot: u8, job: &Job) -> Result<Reached, Fault>
     requires slot { slot < slots }
     requires pc { job.now.pc < 2 ^ 18 }
     ensures found { result ≡ (reached (core_at core.now slot) job.now).answer }
@@ -224,19 +238,4 @@ fn find_only(core: &Core, slot: u8, job: &Job) -> Result<Reached, Fault>
 {
     let mut reads = Places::new();
     find(core, slot, job, &mut reads)
-}
-
-/// The instruction of a job's unit, with no note of what is read.
-#[inline(always)]
-pub fn reach(core: &Core, slot: u8, job: &Job) -> Result<Reached, Fault>
-    requires slot { slot < slots }
-    requires pc { job.now.pc < 2 ^ 18 }
-    ensures found { result ≡ (reached (core_at core.now slot) job.now).answer }
-    ensures ready { IfOk result (λ r. IsReady (Turn.Found r)) }
-{
-    if let Some(r) = at_hand(core, slot, job) {
-        return Ok(r);
-    }
-    let r = find_only(core, slot, job)?;
-    Ok(r)
 }

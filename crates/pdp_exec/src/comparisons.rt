@@ -16,6 +16,7 @@ use pdp_arith::{add, compares};
 use pdp_logic::{changed, tested};
 
 /// A sum to AC, and a jump where it compares so with 0.
+#[inline(always)]
 fn count_and_jump(x: &Context, k: u32, r: &Result2) -> Draft
     requires fits { Fits x.now }
     requires k { k < 8 }
@@ -30,6 +31,7 @@ fn count_and_jump(x: &Context, k: u32, r: &Result2) -> Draft
 }
 
 /// A sum to C(E), and to AC where A is not 0, and a skip where it compares so with 0.
+#[inline(always)]
 fn count_and_skip(x: &Context, k: u32, r: &Result2) -> Draft
     requires fits { Fits x.now }
     requires k { k < 8 }
@@ -45,6 +47,7 @@ fn count_and_skip(x: &Context, k: u32, r: &Result2) -> Draft
 }
 
 /// CAI, CAM, JUMP, SKIP, AOJ, AOS, SOJ, SOS, with condition k.
+#[inline(always)]
 #[tactic(auto, unfolding(its_plain::specs::UnitTests::compare_row))]
 pub fn comparisons(
     core: &Core,
@@ -76,6 +79,7 @@ pub fn comparisons(
 }
 
 /// The mask of a test.
+#[inline(always)]
 #[tactic(auto, unfolding(its_plain::specs::UnitTests::mask_for))]
 fn mask(core: &Core, slot: u8, x: &Context, op: MaskOp) -> Result<Word, Fault>
     requires slot { slot < slots }
@@ -91,6 +95,7 @@ fn mask(core: &Core, slot: u8, x: &Context, op: MaskOp) -> Result<Word, Fault>
 }
 
 /// TRN to TSON: k says when it skips, `change` what it does to the masked bits.
+#[inline(always)]
 #[tactic(auto, unfolding(its_plain::specs::UnitTests::test_row))]
 pub fn tests_of(
     core: &Core,

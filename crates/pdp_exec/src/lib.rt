@@ -2,6 +2,7 @@
 //! reference manual, "User operations").
 #![tactic(auto)]
 
+mod acting;
 mod arithmetic;
 mod branches;
 mod bytes;

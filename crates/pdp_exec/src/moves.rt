@@ -32,6 +32,7 @@ fn source(core: &Core, slot: u8, x: &Context, mode: Mode) -> Result<Word, Fault>
 }
 
 /// Where the result of a move or a half move goes.
+#[inline(always)]
 #[tactic(auto, unfolding(its_plain::specs::UnitPlan::moved_to))]
 fn stores(x: &Context, mode: Mode, w: Word) -> Stores
     ensures { list_of result ≡ moved_to x.now mode w }
@@ -46,12 +47,14 @@ fn stores(x: &Context, mode: Mode, w: Word) -> Stores
 }
 
 /// A word with its halves swapped.
+#[inline(always)]
 pub fn swap(w: Word) -> Word
     ensures { result ≡ swapped w }
 {
     Word::pair(w.right(), w.left())
 }
 
+#[inline(always)]
 #[tactic(auto, unfolding(its_plain::specs::UnitMoves::moved))]
 fn moved_by(op: MoveOp, s: Word) -> Result2
     ensures { result ≡ moved op s }
@@ -65,6 +68,7 @@ fn moved_by(op: MoveOp, s: Word) -> Result2
 }
 
 /// MOVE, MOVS, MOVN, MOVM.
+#[inline(always)]
 #[tactic(auto, unfolding(its_plain::specs::UnitMoves::move_row))]
 pub fn moves(core: &Core, slot: u8, x: &Context, op: MoveOp, mode: Mode) -> Result<Draft, Fault>
     requires slot { slot < slots }
@@ -77,6 +81,7 @@ pub fn moves(core: &Core, slot: u8, x: &Context, op: MoveOp, mode: Mode) -> Resu
 }
 
 /// EXCH.
+#[inline(always)]
 #[tactic(auto, unfolding(its_plain::specs::UnitMoves::exch_row))]
 pub fn exchange(core: &Core, slot: u8, x: &Context) -> Result<Draft, Fault>
     requires slot { slot < slots }
@@ -89,6 +94,7 @@ pub fn exchange(core: &Core, slot: u8, x: &Context) -> Result<Draft, Fault>
 }
 
 /// The destination of a half move, whose other half may stay.
+#[inline(always)]
 #[tactic(auto, unfolding(its_plain::specs::UnitMoves::half_to))]
 fn destination(core: &Core, slot: u8, x: &Context, mode: Mode) -> Result<Word, Fault>
     requires slot { slot < slots }
@@ -104,6 +110,7 @@ fn destination(core: &Core, slot: u8, x: &Context, mode: Mode) -> Result<Word, F
 }
 
 /// HLL to HLRE, by their place in the order of the opcodes.
+#[inline(always)]
 #[tactic(auto, unfolding(its_plain::specs::UnitMoves::half_row))]
 pub fn halves(core: &Core, slot: u8, x: &Context, k: u32, mode: Mode) -> Result<Draft, Fault>
     requires slot { slot < slots }

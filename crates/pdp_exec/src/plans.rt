@@ -57,6 +57,7 @@ impl Draft {
 }
 
 /// A word at a place.
+#[inline(always)]
 pub fn to(at: u32, word: Word) -> Store
     ensures { result ≡ to_place at word }
 {
@@ -64,6 +65,7 @@ pub fn to(at: u32, word: Word) -> Store
 }
 
 /// The plan of an instruction that completes: its stores, the flags that it sets, and the PC after it.
+#[inline(always)]
 pub fn complete(x: &Context, stores: Stores, set: u32, pc: u32) -> Draft
     ensures { result ≡ completes x.now (list_of stores) set pc }
 {
@@ -76,6 +78,7 @@ pub fn complete(x: &Context, stores: Stores, set: u32, pc: u32) -> Draft
 }
 
 /// The same, on to the next instruction.
+#[inline(always)]
 pub fn next(x: &Context, stores: Stores, set: u32) -> Draft
     requires { Fits x.now }
     ensures { result ≡ next_of x.now (list_of stores) set }
@@ -84,6 +87,7 @@ pub fn next(x: &Context, stores: Stores, set: u32) -> Draft
 }
 
 /// The same, to E where a jump is taken.
+#[inline(always)]
 pub fn jump(x: &Context, stores: Stores, set: u32, taken: bool) -> Draft
     requires { Fits x.now }
     ensures { result ≡ jump_of x.now (list_of stores) set taken }
@@ -92,6 +96,7 @@ pub fn jump(x: &Context, stores: Stores, set: u32, taken: bool) -> Draft
 }
 
 /// The same, over the next instruction where a skip is taken.
+#[inline(always)]
 pub fn skip(x: &Context, stores: Stores, set: u32, taken: bool) -> Draft
     requires { Fits x.now }
     ensures { result ≡ skip_of x.now (list_of stores) set taken }
@@ -100,6 +105,7 @@ pub fn skip(x: &Context, stores: Stores, set: u32, taken: bool) -> Draft
 }
 
 /// A plan that stays at the instruction, with these flags.
+#[inline(always)]
 pub fn stay(x: &Context, stores: Stores, flags: u32) -> Draft
     ensures { result ≡ record { stores = record { items = list_of stores }; pc = x.now.pc; flags = flags; pending = 0 } }
 {
@@ -112,6 +118,7 @@ pub fn stay(x: &Context, stores: Stores, flags: u32) -> Draft
 }
 
 /// A plan with other flags.
+#[inline(always)]
 pub fn with_flags(plan: Draft, flags: u32) -> Draft
     ensures { result ≡ record plan { flags = flags } }
 {
@@ -119,6 +126,7 @@ pub fn with_flags(plan: Draft, flags: u32) -> Draft
 }
 
 /// A plan with these bits of pending word 1.
+#[inline(always)]
 pub fn with_pending(plan: Draft, pending: Word) -> Draft
     ensures { result ≡ record plan { pending = pending } }
 {
@@ -126,6 +134,7 @@ pub fn with_pending(plan: Draft, pending: Word) -> Draft
 }
 
 /// A word for AC, where A is not 0.
+#[inline(always)]
 pub fn ac_but_0(x: &Context, w: Word) -> Stores
     ensures { list_of result ≡ to_ac_but_0 x.now w }
 {

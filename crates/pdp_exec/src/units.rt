@@ -6,13 +6,14 @@ ghost use Rattle.its_word.specs.Opcode.{IsRow};
 ghost use Rattle.its_plain.specs.Job.{bit_of};
 ghost use Rattle.its_plain.specs.UnitPlan.{Fits};
 ghost use Rattle.its_plain.specs.Unit.{Called, Changed, Faulted, break_row, outcome_of, reached, row_of, site_of, unit as unit_of};
-ghost use Rattle.pdp_exec.specs.Answer.{Answers, Ends, EndsSame, IsCalled, Unchanged};
+ghost use Rattle.pdp_exec.specs.Answer.{Answers, Ends, EndsSame, InPlace, IsCalled, Unchanged};
 ghost use Rattle.pdp_exec.specs.Ready.{IsReady, is_call};
 
+use super::acting::frequent;
 use super::arithmetic::{arithmetic, booleans, shifts};
 use super::branches::{branches, stack};
 use super::bytes::bytes;
-use super::chain::{Places, find, reach};
+use super::chain::{Places, at_hand, find, reach};
 use super::comparisons::{comparisons, tests_of};
 use super::making::carry_out;
 use super::moves::{exchange, halves, moves};
@@ -66,7 +67,7 @@ fn row(core: &Core, slot: u8, x: &Context, i: Instruction) -> Result<Draft, Faul
 }
 
 /// The bit of pending word 1 of a fault.
-fn fault_bit(f: Fault) -> u32
+pub fn fault_bit(f: Fault) -> u32
     ensures { result ≡ bit_of f }
 {
     match f {
@@ -109,19 +110,13 @@ fn is_call(i: Instruction) -> bool
     matches!(i, Instruction::Iot | Instruction::Call)
 }
 
-/// One unit of the job of a slot, as `unit` makes it, without the site of a call. At a fault and at a
-/// call the core and the job are as they were.
-#[inline]
+/// The unit of a job, whichever instruction it has, and wherever that stands.
+#[inline(never)]
 #[tactic(auto, using(crate::proofs::ChainLaws::unit_by, crate::proofs::ChainLaws::unit_lost, crate::proofs::ChainLaws::is_called))]
-pub fn run(core: &mut Core, slot: u8, job: &mut Job) -> Ended
+pub fn rarely(core: &mut Core, slot: u8, job: &mut Job) -> Ended
     requires slot { slot < slots }
     requires pc { job.old.pc < 2 ^ 18 }
-    ensures unit { Ends result (unit_of (core_at core.old slot) job.old) (core_at core.new slot) job.new }
-    ensures pc { job.new.pc < 2 ^ 18 }
-    ensures others { (k : ℕ) → k ≢ slot → core_at core.new k ≡ core_at core.old k }
-    ensures reserved { core.new.reserved ≡ core.old.reserved }
-    ensures frames { core.new.frames ≡ core.old.frames }
-    ensures same { EndsSame result core.old core.new job.old job.new }
+    ensures { InPlace result (unit_of (core_at core.old slot) job.old) core.old core.new slot job.old job.new }
 {
     let r = match reach(core, slot, job) {
         Ok(r) => r,
@@ -133,6 +128,25 @@ pub fn run(core: &mut Core, slot: u8, job: &mut Job) -> Ended
     match act(core, slot, job, &r) {
         Ok(()) => Ended::Done,
         Err(f) => Ended::Fault(fault_bit(f)),
+    }
+}
+
+/// One unit of the job of a slot, as `unit` makes it, without the site of a call. At a fault and at a
+/// call the core and the job are as they were.
+#[inline]
+pub fn run(core: &mut Core, slot: u8, job: &mut Job) -> Ended
+    requires slot { slot < slots }
+    requires pc { job.old.pc < 2 ^ 18 }
+    ensures unit { Ends result (unit_of (core_at core.old slot) job.old) (core_at core.new slot) job.new }
+    ensures pc { job.new.pc < 2 ^ 18 }
+    ensures others { (k : ℕ) → k ≢ slot → core_at core.new k ≡ core_at core.old k }
+    ensures reserved { core.new.reserved ≡ core.old.reserved }
+    ensures frames { core.new.frames ≡ core.old.frames }
+    ensures same { EndsSame result core.old core.new job.old job.new }
+{
+    match at_hand(core, slot, job) {
+        Some(f) => frequent(core, slot, job, f.opcode, &f.context),
+        None => rarely(core, slot, job),
     }
 }
 

@@ -1,0 +1,316 @@
+//! The units of frequent instructions. Each operation and mode has an arm of its own: there its row is
+//! known, so its plan stays in registers, and its stores are made in place.
+ghost use Rattle.std.specs.Prelude.{◌≡◌, ◌<◌, ◌^◌};
+ghost use Rattle.its_core.specs.Cores.{core_at};
+ghost use Rattle.its_word.specs.Limits.{slots};
+ghost use Rattle.its_plain.specs.Unit.{outcome_of, unit as unit_of};
+ghost use Rattle.its_plain.specs.UnitArith.{arithmetic_row, boolean_row, shift_row};
+ghost use Rattle.its_plain.specs.UnitBytes.{byte_row};
+ghost use Rattle.its_plain.specs.UnitJumps.{branch_row, stack_row};
+ghost use Rattle.its_plain.specs.UnitMoves.{half_row, move_row};
+ghost use Rattle.its_plain.specs.UnitPlan.{Fits};
+ghost use Rattle.its_plain.specs.UnitTests.{compare_row, test_row};
+ghost use Rattle.pdp_exec.specs.Answer.{InPlace};
+ghost use Rattle.pdp_exec.specs.Ready.{Stands};
+
+use super::arithmetic::{arithmetic, booleans, shifts};
+use super::branches::{branches, stack};
+use super::bytes::bytes;
+use super::comparisons::{comparisons, tests_of};
+use super::making::carry_out;
+use super::moves::{halves, moves};
+use super::plans::Draft;
+use super::units::{Ended, fault_bit, rarely};
+use its_core::Core;
+use its_word::{
+    ArithmeticOp, BranchOp, ByteOp, CompareOp, Context, Fault, Job, MaskOp, Mode, MoveOp, ShiftOp,
+    StackOp,
+};
+
+/// Does what is planned for the unit of a job.
+#[inline(always)]
+fn made(planned: Result<Draft, Fault>, core: &mut Core, slot: u8, job: &mut Job) -> Ended
+    requires slot { slot < slots }
+    requires pc { job.old.pc < 2 ^ 18 }
+    requires unit { outcome_of (core_at core.old slot) job.old planned ≡ unit_of (core_at core.old slot) job.old }
+    ensures { InPlace result (unit_of (core_at core.old slot) job.old) core.old core.new slot job.old job.new }
+{
+    let plan = match planned {
+        Ok(plan) => plan,
+        Err(f) => return Ended::Fault(fault_bit(f)),
+    };
+    match carry_out(core, slot, job, &plan) {
+        Ok(()) => Ended::Done,
+        Err(f) => Ended::Fault(fault_bit(f)),
+    }
+}
+
+/// MOVE, MOVS, MOVN, MOVM.
+#[inline(always)]
+fn moving(core: &mut Core, slot: u8, job: &mut Job, x: &Context, op: MoveOp, mode: Mode) -> Ended
+    requires slot { slot < slots }
+    requires pc { job.old.pc < 2 ^ 18 }
+    requires fits { Fits x.now }
+    requires unit { outcome_of (core_at core.old slot) job.old (move_row (core_at core.old slot) x.now op mode) ≡ unit_of (core_at core.old slot) job.old }
+    ensures { InPlace result (unit_of (core_at core.old slot) job.old) core.old core.new slot job.old job.new }
+{
+    made(moves(core, slot, x, op, mode), core, slot, job)
+}
+
+/// HLL to HLRE.
+#[inline(always)]
+fn halving(core: &mut Core, slot: u8, job: &mut Job, x: &Context, k: u32, mode: Mode) -> Ended
+    requires slot { slot < slots }
+    requires pc { job.old.pc < 2 ^ 18 }
+    requires fits { Fits x.now }
+    requires k { k < 16 }
+    requires unit { outcome_of (core_at core.old slot) job.old (half_row (core_at core.old slot) x.now k mode) ≡ unit_of (core_at core.old slot) job.old }
+    ensures { InPlace result (unit_of (core_at core.old slot) job.old) core.old core.new slot job.old job.new }
+{
+    made(halves(core, slot, x, k, mode), core, slot, job)
+}
+
+/// ADD, SUB, IMUL, MUL, IDIV, DIV.
+#[inline(always)]
+fn working(
+    core: &mut Core,
+    slot: u8,
+    job: &mut Job,
+    x: &Context,
+    op: ArithmeticOp,
+    mode: Mode,
+) -> Ended
+    requires slot { slot < slots }
+    requires pc { job.old.pc < 2 ^ 18 }
+    requires fits { Fits x.now }
+    requires unit { outcome_of (core_at core.old slot) job.old (arithmetic_row (core_at core.old slot) x.now op mode) ≡ unit_of (core_at core.old slot) job.old }
+    ensures { InPlace result (unit_of (core_at core.old slot) job.old) core.old core.new slot job.old job.new }
+{
+    made(arithmetic(core, slot, x, op, mode), core, slot, job)
+}
+
+/// ASH, ROT, LSH, JFFO, ASHC, ROTC, LSHC.
+#[inline(always)]
+fn shifting(core: &mut Core, slot: u8, job: &mut Job, x: &Context, op: ShiftOp) -> Ended
+    requires slot { slot < slots }
+    requires pc { job.old.pc < 2 ^ 18 }
+    requires fits { Fits x.now }
+    requires unit { outcome_of (core_at core.old slot) job.old (shift_row (core_at core.old slot) x.now op) ≡ unit_of (core_at core.old slot) job.old }
+    ensures { InPlace result (unit_of (core_at core.old slot) job.old) core.old core.new slot job.old job.new }
+{
+    made(shifts(core, slot, x, op), core, slot, job)
+}
+
+/// SETZ to SETO.
+#[inline(always)]
+fn combining(core: &mut Core, slot: u8, job: &mut Job, x: &Context, k: u32, mode: Mode) -> Ended
+    requires slot { slot < slots }
+    requires pc { job.old.pc < 2 ^ 18 }
+    requires fits { Fits x.now }
+    requires k { k < 16 }
+    requires unit { outcome_of (core_at core.old slot) job.old (boolean_row (core_at core.old slot) x.now k mode) ≡ unit_of (core_at core.old slot) job.old }
+    ensures { InPlace result (unit_of (core_at core.old slot) job.old) core.old core.new slot job.old job.new }
+{
+    made(booleans(core, slot, x, k, mode), core, slot, job)
+}
+
+/// BLT, AOBJP, AOBJN, JRST, JFCL.
+#[inline(always)]
+fn jumping(core: &mut Core, slot: u8, job: &mut Job, x: &Context, op: BranchOp) -> Ended
+    requires slot { slot < slots }
+    requires pc { job.old.pc < 2 ^ 18 }
+    requires fits { Fits x.now }
+    requires unit { outcome_of (core_at core.old slot) job.old (branch_row (core_at core.old slot) x.now op) ≡ unit_of (core_at core.old slot) job.old }
+    ensures { InPlace result (unit_of (core_at core.old slot) job.old) core.old core.new slot job.old job.new }
+{
+    made(branches(core, slot, x, op), core, slot, job)
+}
+
+/// PUSHJ, PUSH, POP, POPJ, JSR, JSP, JSA, JRA.
+#[inline(always)]
+fn stacking(core: &mut Core, slot: u8, job: &mut Job, x: &Context, op: StackOp) -> Ended
+    requires slot { slot < slots }
+    requires pc { job.old.pc < 2 ^ 18 }
+    requires fits { Fits x.now }
+    requires unit { outcome_of (core_at core.old slot) job.old (stack_row (core_at core.old slot) x.now op) ≡ unit_of (core_at core.old slot) job.old }
+    ensures { InPlace result (unit_of (core_at core.old slot) job.old) core.old core.new slot job.old job.new }
+{
+    made(stack(core, slot, x, op), core, slot, job)
+}
+
+/// CAI, CAM, JUMP, SKIP, AOJ, AOS, SOJ, SOS, with condition k.
+#[inline(always)]
+fn comparing(core: &mut Core, slot: u8, job: &mut Job, x: &Context, op: CompareOp, k: u32) -> Ended
+    requires slot { slot < slots }
+    requires pc { job.old.pc < 2 ^ 18 }
+    requires fits { Fits x.now }
+    requires k { k < 8 }
+    requires unit { outcome_of (core_at core.old slot) job.old (compare_row (core_at core.old slot) x.now op k) ≡ unit_of (core_at core.old slot) job.old }
+    ensures { InPlace result (unit_of (core_at core.old slot) job.old) core.old core.new slot job.old job.new }
+{
+    made(comparisons(core, slot, x, op, k), core, slot, job)
+}
+
+/// TRN to TSON.
+#[inline(always)]
+fn testing(
+    core: &mut Core,
+    slot: u8,
+    job: &mut Job,
+    x: &Context,
+    op: MaskOp,
+    k: u32,
+    change: u32,
+) -> Ended
+    requires slot { slot < slots }
+    requires pc { job.old.pc < 2 ^ 18 }
+    requires fits { Fits x.now }
+    requires k { k < 4 }
+    requires change { change < 4 }
+    requires unit { outcome_of (core_at core.old slot) job.old (test_row (core_at core.old slot) x.now op k change) ≡ unit_of (core_at core.old slot) job.old }
+    ensures { InPlace result (unit_of (core_at core.old slot) job.old) core.old core.new slot job.old job.new }
+{
+    made(tests_of(core, slot, x, op, k, change), core, slot, job)
+}
+
+/// IBP, ILDB, LDB, IDPB, DPB.
+#[inline(always)]
+fn picking(core: &mut Core, slot: u8, job: &mut Job, x: &Context, op: ByteOp) -> Ended
+    requires slot { slot < slots }
+    requires pc { job.old.pc < 2 ^ 18 }
+    requires fits { Fits x.now }
+    requires unit { outcome_of (core_at core.old slot) job.old (byte_row (core_at core.old slot) x.now op) ≡ unit_of (core_at core.old slot) job.old }
+    ensures { InPlace result (unit_of (core_at core.old slot) job.old) core.old core.new slot job.old job.new }
+{
+    made(bytes(core, slot, x, op), core, slot, job)
+}
+
+/// Jumps, the stack and bytes; and all that comes seldom.
+#[inline(always)]
+#[tactic(auto, using(crate::proofs::ChainLaws::stands), unfolding(its_plain::specs::Unit::row_of, its_word::specs::Opcode::instruction_of, its_word::specs::Opcode::mode_of, its_word::specs::Opcode::full_word_opcode, its_word::specs::Opcode::branch_opcode, its_word::specs::Opcode::stack_opcode, its_word::specs::Opcode::byte_opcode))]
+fn by_jump(core: &mut Core, slot: u8, job: &mut Job, opcode: u32, x: &Context) -> Ended
+    requires slot { slot < slots }
+    requires pc { job.old.pc < 2 ^ 18 }
+    requires fits { Fits x.now }
+    requires stands { Stands (core_at core.old slot) job.old opcode x.now }
+    ensures { InPlace result (unit_of (core_at core.old slot) job.old) core.old core.new slot job.old job.new }
+{
+    match opcode {
+        0o253 => jumping(core, slot, job, x, BranchOp::Aobjn),
+        0o254 if x.a == 0 => jumping(core, slot, job, x, BranchOp::Jrst),
+        0o255 => jumping(core, slot, job, x, BranchOp::Jfcl),
+        0o260 => stacking(core, slot, job, x, StackOp::Pushj),
+        0o261 => stacking(core, slot, job, x, StackOp::Push),
+        0o262 => stacking(core, slot, job, x, StackOp::Pop),
+        0o263 => stacking(core, slot, job, x, StackOp::Popj),
+        0o265 => stacking(core, slot, job, x, StackOp::Jsp),
+        0o134 => picking(core, slot, job, x, ByteOp::Ildb),
+        0o135 => picking(core, slot, job, x, ByteOp::Ldb),
+        0o136 => picking(core, slot, job, x, ByteOp::Idpb),
+        0o137 => picking(core, slot, job, x, ByteOp::Dpb),
+        _ => rarely(core, slot, job),
+    }
+}
+
+/// Comparisons that skip, and tests; else `by_jump`.
+#[inline(always)]
+#[tactic(auto, using(crate::proofs::ChainLaws::stands), unfolding(its_plain::specs::Unit::row_of, its_word::specs::Opcode::instruction_of, its_word::specs::Opcode::compare_opcode, its_word::specs::Opcode::test_opcode, its_word::specs::Opcode::mask_of))]
+fn by_skip(core: &mut Core, slot: u8, job: &mut Job, opcode: u32, x: &Context) -> Ended
+    requires slot { slot < slots }
+    requires pc { job.old.pc < 2 ^ 18 }
+    requires fits { Fits x.now }
+    requires stands { Stands (core_at core.old slot) job.old opcode x.now }
+    ensures { InPlace result (unit_of (core_at core.old slot) job.old) core.old core.new slot job.old job.new }
+{
+    match opcode {
+        0o301 => comparing(core, slot, job, x, CompareOp::Cai, 1),
+        0o302 => comparing(core, slot, job, x, CompareOp::Cai, 2),
+        0o303 => comparing(core, slot, job, x, CompareOp::Cai, 3),
+        0o305 => comparing(core, slot, job, x, CompareOp::Cai, 5),
+        0o306 => comparing(core, slot, job, x, CompareOp::Cai, 6),
+        0o307 => comparing(core, slot, job, x, CompareOp::Cai, 7),
+        0o311 => comparing(core, slot, job, x, CompareOp::Cam, 1),
+        0o312 => comparing(core, slot, job, x, CompareOp::Cam, 2),
+        0o313 => comparing(core, slot, job, x, CompareOp::Cam, 3),
+        0o315 => comparing(core, slot, job, x, CompareOp::Cam, 5),
+        0o316 => comparing(core, slot, job, x, CompareOp::Cam, 6),
+        0o317 => comparing(core, slot, job, x, CompareOp::Cam, 7),
+        0o331 => comparing(core, slot, job, x, CompareOp::Skip, 1),
+        0o332 => comparing(core, slot, job, x, CompareOp::Skip, 2),
+        0o333 => comparing(core, slot, job, x, CompareOp::Skip, 3),
+        0o335 => comparing(core, slot, job, x, CompareOp::Skip, 5),
+        0o336 => comparing(core, slot, job, x, CompareOp::Skip, 6),
+        0o337 => comparing(core, slot, job, x, CompareOp::Skip, 7),
+        0o602 => testing(core, slot, job, x, MaskOp::Tr, 1, 0),
+        0o603 => testing(core, slot, job, x, MaskOp::Tl, 1, 0),
+        0o606 => testing(core, slot, job, x, MaskOp::Tr, 3, 0),
+        0o607 => testing(core, slot, job, x, MaskOp::Tl, 3, 0),
+        0o620 => testing(core, slot, job, x, MaskOp::Tr, 0, 1),
+        0o621 => testing(core, slot, job, x, MaskOp::Tl, 0, 1),
+        0o660 => testing(core, slot, job, x, MaskOp::Tr, 0, 3),
+        0o661 => testing(core, slot, job, x, MaskOp::Tl, 0, 3),
+        _ => by_jump(core, slot, job, opcode, x),
+    }
+}
+
+/// Comparisons that jump, and counts; else `by_skip`.
+#[inline(always)]
+#[tactic(auto, using(crate::proofs::ChainLaws::stands), unfolding(its_plain::specs::Unit::row_of, its_word::specs::Opcode::instruction_of, its_word::specs::Opcode::compare_opcode))]
+fn by_count(core: &mut Core, slot: u8, job: &mut Job, opcode: u32, x: &Context) -> Ended
+    requires slot { slot < slots }
+    requires pc { job.old.pc < 2 ^ 18 }
+    requires fits { Fits x.now }
+    requires stands { Stands (core_at core.old slot) job.old opcode x.now }
+    ensures { InPlace result (unit_of (core_at core.old slot) job.old) core.old core.new slot job.old job.new }
+{
+    match opcode {
+        0o321 => comparing(core, slot, job, x, CompareOp::Jump, 1),
+        0o322 => comparing(core, slot, job, x, CompareOp::Jump, 2),
+        0o323 => comparing(core, slot, job, x, CompareOp::Jump, 3),
+        0o325 => comparing(core, slot, job, x, CompareOp::Jump, 5),
+        0o326 => comparing(core, slot, job, x, CompareOp::Jump, 6),
+        0o327 => comparing(core, slot, job, x, CompareOp::Jump, 7),
+        0o340 => comparing(core, slot, job, x, CompareOp::Aoj, 0),
+        0o344 => comparing(core, slot, job, x, CompareOp::Aoj, 4),
+        0o350 => comparing(core, slot, job, x, CompareOp::Aos, 0),
+        0o360 => comparing(core, slot, job, x, CompareOp::Soj, 0),
+        0o364 => comparing(core, slot, job, x, CompareOp::Soj, 4),
+        0o365 => comparing(core, slot, job, x, CompareOp::Soj, 5),
+        0o367 => comparing(core, slot, job, x, CompareOp::Soj, 7),
+        0o370 => comparing(core, slot, job, x, CompareOp::Sos, 0),
+        _ => by_skip(core, slot, job, opcode, x),
+    }
+}
+
+/// The unit of a job, whose instruction word has this opcode and finds this. What comes often is done here: moves,
+/// sums and Boolean functions, and what `by_count` has.
+#[inline(always)]
+#[tactic(auto, using(crate::proofs::ChainLaws::stands), unfolding(its_plain::specs::Unit::row_of, its_word::specs::Opcode::instruction_of, its_word::specs::Opcode::mode_of, its_word::specs::Opcode::full_word_opcode, its_word::specs::Opcode::shift_opcode))]
+pub fn frequent(core: &mut Core, slot: u8, job: &mut Job, opcode: u32, x: &Context) -> Ended
+    requires slot { slot < slots }
+    requires pc { job.old.pc < 2 ^ 18 }
+    requires fits { Fits x.now }
+    requires stands { Stands (core_at core.old slot) job.old opcode x.now }
+    ensures { InPlace result (unit_of (core_at core.old slot) job.old) core.old core.new slot job.old job.new }
+{
+    match opcode {
+        0o200 => moving(core, slot, job, x, MoveOp::Plain, Mode::Basic),
+        0o201 => moving(core, slot, job, x, MoveOp::Plain, Mode::Immediate),
+        0o202 => moving(core, slot, job, x, MoveOp::Plain, Mode::Memory),
+        0o205 => moving(core, slot, job, x, MoveOp::Swap, Mode::Immediate),
+        0o550 => halving(core, slot, job, x, 10, Mode::Basic),
+        0o554 => halving(core, slot, job, x, 11, Mode::Basic),
+        0o270 => working(core, slot, job, x, ArithmeticOp::Add, Mode::Basic),
+        0o271 => working(core, slot, job, x, ArithmeticOp::Add, Mode::Immediate),
+        0o274 => working(core, slot, job, x, ArithmeticOp::Sub, Mode::Basic),
+        0o275 => working(core, slot, job, x, ArithmeticOp::Sub, Mode::Immediate),
+        0o242 => shifting(core, slot, job, x, ShiftOp::Lsh),
+        0o400 => combining(core, slot, job, x, 0, Mode::Basic),
+        0o402 => combining(core, slot, job, x, 0, Mode::Memory),
+        0o404 => combining(core, slot, job, x, 1, Mode::Basic),
+        0o405 => combining(core, slot, job, x, 1, Mode::Immediate),
+        0o434 => combining(core, slot, job, x, 7, Mode::Basic),
+        0o474 => combining(core, slot, job, x, 15, Mode::Basic),
+        _ => by_count(core, slot, job, opcode, x),
+    }
+}
