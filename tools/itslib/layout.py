@@ -1,0 +1,157 @@
+"""The layout of a picture: rows of pieces, each with its place."""
+
+from dataclasses import dataclass, field
+from typing import List, Optional, Tuple
+
+from .story import Lane, Mark, Piece, Run, Story
+
+LEFT, EDGE = 150, 16                     # where rows begin, and the margin
+COLUMN = 16                              # the width of a mark
+LONGEST = 320                            # the width of a run; a longer one is drawn so wide, with a break
+MANY = 4                                 # up to so many equal lines in a row have a mark each
+BAR, GAP, AXIS = 18, 12, 26              # the height of a bar, the room below it, and the room for numbers below a row
+LABEL = 24                               # the longest label of a mark, in characters
+WORD = 7                                 # the longest label where marks have their first word alone
+CHAR = 6.7                               # the width of a character of 11 px
+SCALES = (16, 14, 12, 10, 8, 6, 5, 4, 3, 2, 1.5, 1, 0.5, 0.25)     # widths of a tick
+COMFORT = 10                             # a tick need not be wider than this, where that would take one row more
+ALWAYS = 6                               # up to so many jobs, each row shows all that there are then
+
+
+@dataclass
+class Shape:
+    """What a picture should look like."""
+    span: int = 1020         # how wide rows are
+    tallest: int = 900       # how high all rows together should be
+    enlarged: float = 1      # how much larger all is drawn
+    legend: bool = True      # what letters and marks mean stands below
+
+
+@dataclass
+class Row:
+    """A row of the picture: pieces with their left edge."""
+    placed: List[Tuple[float, Piece]] = field(default_factory=list)
+    end: float = float(LEFT)
+
+    def put(self, piece: Piece, width: float) -> None:
+        """Adds a piece at the end of the row."""
+        self.placed.append((self.end, piece))
+        self.end += width
+
+
+@dataclass
+class Layout:
+    """The rows, the lanes of each (None is the operator's), the width of a tick and the longest label."""
+    rows: List[Row]
+    lanes: List[List[Optional[Lane]]]
+    tick: float
+    longest: int
+
+
+def cut(mark: Mark, longest: int) -> str:
+    """The label of a mark, which is not too long: cut, or its first word alone. What is no word of a session stays."""
+    if longest == WORD and mark.kind != "refused" and not mark.label[0].isdigit():
+        return mark.label.split(" ")[0].strip(",:")
+    return mark.label if len(mark.label) <= LABEL else mark.label[:LABEL - 1] + "…"
+
+
+def alike(one: Piece, other: Piece) -> bool:
+    """Whether two pieces are marks of the same lines on the same job."""
+    return (isinstance(one, Mark) and isinstance(other, Mark) and one.lane is other.lane and one.kind == other.kind
+            and one.kind in ("disturb", "look", "other") and one.label.split(" ")[0] == other.label.split(" ")[0])
+
+
+def gathered(pieces: List[Piece]) -> List[Piece]:
+    """The pieces, where one mark stands for many equal lines in a row."""
+    out, at = [], 0
+    while at < len(pieces):
+        end = at + 1
+        while end < len(pieces) and alike(pieces[at], pieces[end]):
+            end += 1
+        if end - at <= MANY:
+            out += pieces[at:end]
+        else:
+            one = pieces[at]
+            label = "%o × %s" % (end - at, one.label.split(" ")[0])
+            tip = "%s: from '%s' to '%s'" % (label, one.tip, pieces[end - 1].tip)
+            out.append(Mark(one.lane, one.kind, label, tip, one.at, one.line))
+        at = end
+    return out
+
+
+def width_of(run: Run, tick: float) -> float:
+    """How wide a run is drawn."""
+    return min(run.count * tick, LONGEST)
+
+
+def rows_of(pieces: List[Piece], tick: float, span: int) -> List[Row]:
+    """The pieces in rows, where a tick is so wide. A run that meets the end of its row goes on in the next one; one with a
+    break is not parted."""
+    rows = [Row()]
+    for piece in pieces:
+        if isinstance(piece, Mark) or piece.count * tick > LONGEST:
+            width = COLUMN if isinstance(piece, Mark) else LONGEST
+            if rows[-1].end + width > LEFT + span:
+                rows.append(Row())
+            rows[-1].put(piece, width)
+            continue
+        done = 0
+        while done < piece.count:
+            room = int((LEFT + span - rows[-1].end) / tick)
+            if room == 0:
+                rows.append(Row())
+                continue
+            n = min(room, piece.count - done)
+            rows[-1].put(Run(piece.lane, piece.letter, n, piece.start + done, piece.line), n * tick)
+            done += n
+    return rows
+
+
+def lanes_of_rows(story: Story, rows: List[Row]) -> List[List[Optional[Lane]]]:
+    """For each row its lanes: those with a piece in it; and, where jobs are few, all that live then."""
+    first, last = {}, {}
+    for at, row in enumerate(rows):
+        for _, piece in row.placed:
+            if piece.lane:
+                first.setdefault(id(piece.lane), at)
+                last[id(piece.lane)] = at
+    gone = {id(piece.lane) for piece in story.pieces if isinstance(piece, Mark) and piece.kind == "gone"}
+    order = sorted(story.lanes, key=lambda lane: lane.slot)
+    shown = []
+    for at, row in enumerate(rows):
+        touched = {id(piece.lane) for _, piece in row.placed if piece.lane}
+        living = {id(lane) for lane in order
+                  if id(lane) in first and first[id(lane)] <= at and (id(lane) not in gone or at <= last[id(lane)])}
+        keep = living if len(living) <= ALWAYS else touched
+        general = [None] if any(piece.lane is None for _, piece in row.placed) else []
+        shown.append(general + [lane for lane in order if id(lane) in keep | touched])
+    return shown
+
+
+def head_of(row: Row, lane: Optional[Lane], longest: int) -> float:
+    """The height of the labels over a lane in a row."""
+    labels = [len(cut(piece, longest)) for _, piece in row.placed if isinstance(piece, Mark) and piece.lane is lane]
+    return CHAR * max(labels) + 14 if labels else 8
+
+
+def height_of(layout: Layout) -> float:
+    """The height of all rows."""
+    return sum(sum(head_of(row, lane, layout.longest) + BAR + GAP for lane in own) + AXIS
+               for row, own in zip(layout.rows, layout.lanes))
+
+
+def laid_out(story: Story, shape: Shape) -> Layout:
+    """The layout of a story. Whole labels and wide ticks are best, as long as the picture does not grow too high; where it
+    does in any case, ticks are as wide as costs little height."""
+    layouts, pieces = [], gathered(story.pieces)
+    fewest = len(rows_of(pieces, COMFORT, shape.span))
+    for longest, scales in ((LABEL, SCALES[:10]), (WORD, SCALES)):
+        for tick in scales:
+            rows = rows_of(pieces, tick, shape.span)
+            layout = Layout(rows, lanes_of_rows(story, rows), tick, longest)
+            height = height_of(layout)
+            if height <= shape.tallest and (tick <= COMFORT or len(rows) == fewest):
+                return layout
+            layouts.append((height, layout))
+    lowest = min(height for height, _ in layouts)
+    return next(layout for height, layout in layouts if height <= 1.25 * lowest)
