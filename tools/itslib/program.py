@@ -14,6 +14,7 @@ from .session import Wrong
 
 TOP = os.path.dirname(os.path.dirname(os.path.dirname(os.path.abspath(__file__))))
 AT_ONCE = 2               # so many runs stand side by side
+MANY = 20                 # more runs than these take minutes without the proved build
 SECONDS = 300             # a run of the proved program may take no longer
 
 # What the exit statuses of the program say (docs/SESSION.md)
@@ -54,7 +55,8 @@ def run_unproved(sessions: List[bytes]) -> List[Outcome]:
     """Runs sessions by one unproved build, which takes about a minute."""
     if not shutil.which("rt"):
         raise Wrong("there is no proved build of these sources, and rt, which would build them, is not found")
-    print("its: no proved build of these sources; building them unproved, about a minute ('rt ci' proves them)",
+    many = "; %d runs take their time" % len(sessions) if len(sessions) > MANY else ""
+    print("its: no proved build of these sources; building them unproved, about a minute%s ('rt ci' proves them)" % many,
           file=sys.stderr, flush=True)
     with tempfile.TemporaryDirectory() as folder:
         for at, session in enumerate(sessions):
