@@ -1,0 +1,202 @@
+"""The lines of a session and of its transcript, and which lines of the transcript answer which line of the session.
+
+Nothing here decides whether a line is a good one: the program does (docs/SESSION.md). A session is matched with the
+transcript that the program wrote for it, and where the two do not fit that is said.
+"""
+
+from dataclasses import dataclass, field
+from typing import Dict, List, Optional, Tuple
+
+from .words import number
+
+
+class Wrong(Exception):
+    """What was given is wrong, with one line that says why."""
+
+
+# How many words each line has, its first word included, and the letter of its answer. TYPE has any number of bytes.
+LINES = {"LOAD": (4, "J"), "GO": (2, ""), "FILE": (4, ""), "EOF": (1, ""), "TICK": (3, "T"), "TYPE": (0, "Y"),
+         "DRAIN": (3, "D"), "CLOCK": (2, ""), "INT": (4, ""), "EXAM": (4, "E"), "STATE": (2, "S"), "DEPOSIT": (4, ""),
+         "STOP": (2, ""), "CONT": (2, ""), "PEEK": (2, "P"), "DIR": (2, "R"), "SHOW": (4, "W"), "END": (1, "")}
+
+# The lines that name a job's slot as their first number and need a job there
+JOB_LINES = ("EXAM", "STATE", "DEPOSIT", "STOP", "CONT", "INT", "PEEK")
+
+# Which line opens a block, and which closes it
+CLOSES = {"LOAD": "GO", "FILE": "EOF"}
+
+
+@dataclass
+class Line:
+    """A line of a session. After the last line comes one without text, where a refusal as CUT stands."""
+    number: int                  # from 1
+    text: str                    # as it stands, without its LF
+    words: List[str]
+    kind: str                    # its first word; "a/" or "/" for words of a block; "" for an empty line or a comment
+    block: str = ""              # the block in which it stands: LOAD, FILE or none. GO and EOF stand in theirs
+    since: int = 0               # the number of the line that opened the block
+    ended: bool = False          # the input is at its end here
+
+
+@dataclass
+class Exchange:
+    """A line of a session with the lines of the transcript that answer it."""
+    line: Line
+    answer: List[str] = field(default_factory=list)     # whole lines of the transcript
+    reason: str = ""                                    # why it is refused; then `answer` is the `?` line
+    at: int = 0                                         # how many lines of the transcript came before
+
+    @property
+    def words(self) -> List[str]:
+        """The words of the first line that answers."""
+        return self.answer[0].split(" ") if self.answer else []
+
+    @property
+    def slot(self) -> Optional[int]:
+        """The slot that the line is about, where it names one or LOAD made it."""
+        if self.line.kind == "LOAD" and self.answer and not self.reason:
+            return number(self.words[1])
+        if self.line.kind in JOB_LINES + ("TICK",) and len(self.line.words) > 1:
+            return number(self.line.words[1])
+        return None
+
+
+def kind_of(words: List[str]) -> str:
+    """The kind of a line with these words."""
+    if not words or words[0].startswith(";"):
+        return ""
+    if words[0].endswith("/"):
+        return "/" if words[0] == "/" else "a/"
+    return words[0]
+
+
+def split(text: str) -> List[str]:
+    """The lines of a text, without their LF. A last line without LF counts where it is not empty."""
+    lines = text.split("\n")
+    if lines[-1] == "":
+        lines.pop()
+    return lines
+
+
+def lines_of(text: str) -> List[Line]:
+    """The lines of a session with their blocks, and the end of the input behind them."""
+    lines, block, since = [], "", 0
+    for at, one in enumerate(split(text), 1):
+        words = [word for word in one.split(" ") if word]
+        kind = kind_of(words)
+        lines.append(Line(at, one, words, kind, block, since))
+        if not block and kind in CLOSES:
+            block, since = kind, at
+        elif block and kind == CLOSES[block]:
+            block, since = "", 0
+    lines.append(Line(len(lines) + 1, "", [], "", block, since, ended=True))
+    return lines
+
+
+class Transcript:
+    """The lines of a transcript, taken one after the other."""
+
+    def __init__(self, name: str, text: str):
+        self.name, self.lines, self.at = name, split(text), 0
+
+    def place(self) -> str:
+        """Where the next line stands, for a complaint."""
+        return "%s, line %d" % (self.name, self.at + 1)
+
+    def words(self) -> List[str]:
+        """The words of the next line, none at the end."""
+        return self.lines[self.at].split(" ") if self.at < len(self.lines) else []
+
+    def take(self, letter: str) -> List[str]:
+        """Takes the next line, which has to begin with the letter."""
+        words = self.words()
+        if not words or words[0] != letter:
+            found = "'%s'" % self.lines[self.at] if words else "the end"
+            raise Wrong("%s: here is %s, where the session asks for a line %s" % (self.place(), found, letter))
+        self.at += 1
+        return words
+
+    def refusal(self, line_number: int) -> str:
+        """The reason, where the line of this number is refused here, else nothing."""
+        words = self.words()
+        if len(words) == 3 and words[0] == "?" and words[1] == "%o" % line_number:
+            self.at += 1
+            return words[2]
+        return ""
+
+
+def take_answer(transcript: Transcript, line: Line) -> None:
+    """Takes what answers a line that is not refused."""
+    size, letter = LINES.get(line.kind, (None, ""))
+    if size is None or size not in (0, len(line.words)):
+        raise Wrong("'%s' is no line of a session, but is not refused" % " ".join(line.words))
+    answer = transcript.take(letter) if letter else []
+    if letter == "R":
+        for _ in range(number(answer[2])):
+            transcript.take("F")
+    if letter == "W":
+        for _ in range((number(answer[4]) + 7) // 8):
+            transcript.take("/")
+
+
+def exchanges(name: str, lines: List[Line], transcript: Transcript) -> List[Exchange]:
+    """Each line of the session up to its END, its end or the line that is refused, with its answer."""
+    told = []
+    for line in lines:
+        start = transcript.at
+        try:
+            reason = transcript.refusal(line.number)
+            if not reason and line.kind not in ("", "a/", "/"):
+                take_answer(transcript, line)
+        except (Wrong, ValueError, IndexError) as problem:
+            raise misfit(name, line, problem)
+        told.append(Exchange(line, transcript.lines[start:transcript.at], reason, start))
+        if reason or line.kind == "END":
+            break
+    if transcript.words():
+        raise Wrong("%s: nothing in %s asks for this line" % (transcript.place(), name))
+    return told
+
+
+def misfit(name: str, line: Line, problem: Exception) -> Wrong:
+    """The complaint that a line and its answer do not fit."""
+    why = str(problem) if not isinstance(problem, IndexError) else "the transcript's answer is too short"
+    return Wrong("%s, line %d: %s" % (name, line.number, why))
+
+
+def runs_of(exchange: Exchange) -> List[Tuple[int, str]]:
+    """The runs that answer a TICK line: how many ticks, and their letter."""
+    line, words = exchange.line, exchange.words
+    runs = [(number(run[:-1]), run[-1:]) for run in words[2:]]
+    if (number(words[1]) != number(line.words[1]) or sum(n for n, _ in runs) != number(line.words[2])
+            or any(x not in "*.w-" for _, x in runs)):
+        raise Wrong("'%s' does not answer '%s'" % (" ".join(words), " ".join(line.words)))
+    return runs
+
+
+@dataclass
+class Peek:
+    """What a P line says: how far a job is inside a call."""
+    slot: int
+    state: str       # USER, ENTERED, .. ENDING
+    call: str        # the word of the call's name, or -
+    left: int        # steps of unwinding that would bring it to user mode
+    a: str           # the word at the pointer of SIOT or at the argument of SLEEP, or -
+    b: str           # the word at the count of SIOT, or -
+    held: str        # the byte or word that a MOVING job holds, or -
+
+
+def peek_of(words: List[str]) -> Peek:
+    """A P line."""
+    return Peek(number(words[1]), words[2], words[3], number(words[4]), *words[5:8])
+
+
+# The registers of an S line, in their order
+STATE_WORDS = ("user", "job", "superior", "console", "run", "pc", "pending1", "pending2", "mask1", "mask2", "defer1", "defer2")
+
+
+def state_of(words: List[str]) -> Dict[str, str]:
+    """An S line: each register by its name."""
+    if len(words) != 2 + len(STATE_WORDS):
+        raise IndexError(words)
+    return dict(zip(STATE_WORDS, words[2:]))
