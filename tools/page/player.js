@@ -1,0 +1,549 @@
+// The page of a session: steps through its moments, and shows what was recorded at each. tools/itslib/page.py says what the
+// record holds; each moment has what is other than at the one before. Words and numbers are octal, as text.
+"use strict";
+
+const record = JSON.parse(document.getElementById("recorded").textContent);
+const moments = record.moments;
+const BAR = 18;                    // the height of a bar of the picture
+const TITLE = 34;                  // so much of the picture, its title, is cut off at the top
+const ACCUMULATORS = 16;           // words that each job has, and that are in no page
+const PAGE = 1024;                 // words of a page
+const CHANGED = 8;                 // so many changed words are listed
+const LETTERS = 48;                // so many letters of a TICK line stand on each side of the one at the cursor
+
+const at = {moment: 0};            // where the reader is
+const looking = new Set();         // slots whose jobs are looked at
+const watched = [...record.watch]; // addresses that are shown besides, as the reader typed them
+const cards = new Map();           // slot -> the parts of its card
+
+
+// ---------------------------------------------------------------------------------------------------------------------
+// The record: what holds at a moment
+// ---------------------------------------------------------------------------------------------------------------------
+
+let ticks = 0;
+for (const moment of moments) {
+  if (moment.letter) ticks += 1;
+  moment.tick = ticks;             // how many ticks of the session are made
+}
+
+let known = null;                  // what holds at the moment `known.moment`
+
+function nothing() {
+  return {moment: -1, peek: {}, state: {}, words: {}, pages: {}, ranges: {}, call: {}, queue: {}};
+}
+
+// What holds at a moment: that of the one before it, with its changes.
+function holding(moment) {
+  if (!known || known.moment > moment) known = nothing();
+  while (known.moment < moment) {
+    known.moment += 1;
+    change(moments[known.moment]);
+  }
+  return known;
+}
+
+function change(moment) {
+  for (const [slot, peek] of Object.entries(moment.peek || {})) {
+    if (peek !== null) known.peek[slot] = peek;
+    else for (const kept of ["peek", "state", "words", "pages", "ranges", "call"]) delete known[kept][slot];
+  }
+  for (const kept of ["state", "pages", "call", "queue"]) Object.assign(known[kept], moment[kept]);
+  for (const [slot, ranges] of Object.entries(moment.ranges || {})) {
+    known.ranges[slot] = ranges.map(range => range.map(value));
+    for (const address of Object.keys(known.words[slot] || {})) {
+      if (!isRecorded(slot, value(address))) delete known.words[slot][address];
+    }
+  }
+  for (const [slot, words] of Object.entries(moment.words || {})) {
+    known.words[slot] = Object.assign(known.words[slot] || {}, words);
+  }
+}
+
+function isRecorded(slot, address) {
+  return (known.ranges[slot] || []).some(([start, count]) => start <= address && address < start + count);
+}
+
+// The word that somebody finds at an address: {word}, or {why} there is none.
+function wordAt(slot, address) {
+  if (isRecorded(slot, address)) return {word: (known.words[slot] || {})[octal(address)] || "0"};
+  const page = octal(Math.floor(address / PAGE));
+  if (!(known.pages[slot] || []).includes(page)) return {why: "no page here: EXAM would be refused as NOPAGE"};
+  return {why: "not recorded; tools/player --look " + octal(address) + ",1 records it"};
+}
+
+// The parts of what PEEK shows.
+function framed(peek) {
+  const [state, call, left, a, b, held] = peek.split(" ");
+  return {state, call, left, a, b, held};
+}
+
+const REGISTERS = ["user", "job", "superior", "console", "run", "pc", "pending1", "pending2", "mask1", "mask2", "defer1", "defer2"];
+
+// The registers that STATE shows.
+function registers(state) {
+  const words = state.split(" ");
+  return Object.fromEntries(REGISTERS.map((name, at) => [name, words[at]]));
+}
+
+
+// ---------------------------------------------------------------------------------------------------------------------
+// Words, and what they mean
+// ---------------------------------------------------------------------------------------------------------------------
+
+function value(word) { return parseInt(word, 8); }
+function octal(number) { return number.toString(8); }
+
+// Some bits of a word, numbered from the left; 36 bits are too many for JavaScript's own.
+function bits(word, first, last) { return Math.floor(value(word) / 2 ** (35 - last)) % 2 ** (last - first + 1); }
+
+function sixbit(word) {
+  return [0, 1, 2, 3, 4, 5].map(at => String.fromCharCode(bits(word, 6 * at, 6 * at + 5) + 32)).join("").trimEnd();
+}
+
+// The characters of a word that holds text, five of 7 bits with zeros at the end; nothing where it holds none.
+function ascii(word) {
+  const codes = [0, 1, 2, 3, 4].map(at => bits(word, 7 * at, 7 * at + 6));
+  while (codes.length && codes[codes.length - 1] === 0) codes.pop();
+  const isText = bits(word, 35, 35) === 0 && codes.length && codes.every(code => code >= 32 && code < 127);
+  return isText ? '"' + String.fromCharCode(...codes) + '"' : "";
+}
+
+function character(word) {
+  const code = value(word);
+  return code >= 32 && code < 127 ? "'" + String.fromCharCode(code) + "'" : "";
+}
+
+function bytePointer(word) {
+  const place = bits(word, 0, 5), size = bits(word, 6, 11), address = octal(bits(word, 18, 35));
+  if (size === 0 || size > 36 || bits(word, 13, 17) || place > 36) return "";
+  const where = place === 36 ? "before the first byte of " + address : "at the byte of " + address + " with " + octal(place) + " bits behind it";
+  return where + ", " + octal(size) + " bits each";
+}
+
+function texts(word) {
+  const name = sixbit(word);
+  return [ascii(word) && ascii(word) + " in ASCII", /^[A-Z][A-Z0-9]*$/.test(name) && name + " in SIXBIT"].filter(Boolean).join(", ");
+}
+
+// What a word means to its call.
+function meaning(role, word) {
+  if (role === "pointer") return bytePointer(word);
+  if (role === "count") return word === "0" ? "none to go" : word + " to go";
+  if (role === "time") return bits(word, 0, 0) ? "minus the time of waking, " + octal(2 ** 36 - value(word)) : word + " thirtieths of a second";
+  if (/^(device|variable|directory|name \d|new name \d)$/.test(role)) return sixbit(word) && sixbit(word) + " in SIXBIT";
+  if (role === "byte" || role === "word") return character(word) || texts(word);
+  return texts(word);
+}
+
+function names(table, word) {
+  const on = table.filter(([bit]) => Math.floor(value(word) / value(bit)) % 2).map(([, name]) => name);
+  return on.join(", ");
+}
+
+function callName(word) { return record.says.calls[word] || sixbit(word); }
+function plural(count, word) { return count + " " + word + (count === "1" ? "" : "s"); }
+
+
+// ---------------------------------------------------------------------------------------------------------------------
+// Elements
+// ---------------------------------------------------------------------------------------------------------------------
+
+// A new element with a class, and texts or elements in it.
+function element(tag, kind, ...parts) {
+  const made = document.createElement(tag);
+  if (kind) made.className = kind;
+  made.append(...parts);
+  return made;
+}
+
+// A word of 12 digits, its halves a little apart.
+function wordElement(word, kind) {
+  const digits = word.padStart(12, "0");
+  return element("span", "word" + (kind ? " " + kind : ""), element("span", "", digits.slice(0, 6)), element("span", "", digits.slice(6)));
+}
+
+function tag(words) { return element("span", "tag " + words, words); }
+
+function wordCell(label, word, kind, means) {
+  const cell = element("td", "", wordElement(word, kind));
+  cell.dataset.label = label;
+  if (kind) cell.append(tag(kind));
+  if (means) cell.append(element("span", "means", means));
+  return cell;
+}
+
+function textCell(label, words) {
+  const cell = element("td", "place", words);
+  cell.dataset.label = label;
+  return cell;
+}
+
+
+// ---------------------------------------------------------------------------------------------------------------------
+// A job
+// ---------------------------------------------------------------------------------------------------------------------
+
+const RAW = "Raw, as PEEK shows it", FOUND = "Found by somebody who looks";
+
+// The card of a slot, made once so that its button and its field keep the focus.
+function cardOf(slot) {
+  if (cards.has(slot)) return cards.get(slot);
+  const card = {
+    title: element("h3"), frame: element("div", "frame"), head: element("tr"), body: element("tbody"), verdict: element("p", "verdict"),
+    registers: element("p", "registers"), button: element("button", "look", "Look here"), ask: element("form", "ask"),
+    field: element("input"), said: element("output")};
+  card.table = element("table", "", element("thead", "", card.head), card.body);
+  card.button.type = "button";
+  card.button.addEventListener("click", () => { toggle(looking, slot); show(); });
+  fillForm(card, slot);
+  card.verdict.setAttribute("aria-live", "polite");
+  card.whole = element("article", "job", element("header", "", card.title, card.button), card.frame, card.verdict, card.table,
+                       card.registers, card.ask);
+  card.whole.dataset.slot = slot;
+  cards.set(slot, card);
+  const after = [...cards.keys()].filter(other => value(other) > value(slot)).sort((one, other) => value(one) - value(other))[0];
+  document.getElementById("jobs").insertBefore(card.whole, after ? cards.get(after).whole : null);
+  return card;
+}
+
+function toggle(set, one) { if (!set.delete(one)) set.add(one); }
+
+// The form that asks for the address of another word.
+function fillForm(card, slot) {
+  const label = element("label", "", "Another word, at address");
+  label.htmlFor = card.field.id = "address-" + slot;
+  card.field.type = "text";
+  card.field.inputMode = "numeric";
+  card.field.autocomplete = "off";
+  card.field.maxLength = 6;
+  const button = element("button", "", "Show it");
+  button.type = "submit";
+  card.said.setAttribute("aria-live", "polite");
+  card.ask.append(label, card.field, button, card.said);
+  card.ask.addEventListener("submit", event => {
+    event.preventDefault();
+    const typed = card.field.value.trim();
+    card.said.textContent = /^[0-7]{1,6}$/.test(typed) ? "" : "An address is 1 to 6 octal digits.";
+    if (card.said.textContent) return;
+    if (!watched.includes(octal(value(typed)))) watched.push(octal(value(typed)));
+    card.field.value = "";
+    show();
+  });
+}
+
+// Shows a job: where it stands, and the words of its call.
+function showJob(slot, moment) {
+  const card = cardOf(slot), peek = framed(known.peek[slot]), state = registers(known.state[slot]), call = known.call[slot];
+  const looks = looking.has(slot);
+  card.whole.hidden = false;
+  card.whole.classList.toggle("ticked", moment.slot === slot);
+  const notes = [state.superior !== "-" && "inferior of slot " + state.superior, state.console !== "-" && "console " + state.console,
+                 state.run === "STOP" && "stopped"].filter(Boolean).join(", ");
+  card.title.replaceChildren("Slot " + slot + "  " + sixbit(state.user) + " " + sixbit(state.job) + " ", element("span", "note", notes));
+  card.button.setAttribute("aria-pressed", looks);
+  showFrame(card, peek, call);
+  const rows = rowsOf(slot, peek, state, call, moment, looks);
+  card.table.hidden = rows.length === 0;
+  card.head.replaceChildren(element("th", "", "Word"), element("th", "", RAW), ...(looks ? [element("th", "", FOUND)] : []));
+  card.body.replaceChildren(...rows);
+  card.verdict.textContent = looks ? verdict(peek, state, call, card.body.querySelector(".restored")) : "";
+  card.registers.textContent = looks ? stateText(state) : "";
+  card.ask.hidden = !looks;
+}
+
+// Where the job stands in its call, in words.
+function showFrame(card, peek, call) {
+  const inside = peek.state !== "USER", parts = [element("span", inside ? "where-in" : "where-in user", peek.state)];
+  if (inside) {
+    const name = peek.call === "-" ? "a call" : callName(peek.call);
+    const immediate = call ? call.arguments.filter(argument => argument.length === 3).map(([role, , word]) => role + " " + word) : [];
+    parts.push(element("strong", "", name + (call ? " at " + call.at : "")), record.says.states[peek.state]);
+    if (peek.call !== "-" && immediate.length) parts.push(element("span", "note", "(" + immediate.join(", ") + ")"));
+    const boxes = element("span", "steps", "■".repeat(value(peek.left)));
+    boxes.setAttribute("aria-hidden", "true");
+    parts.push(element("span", "", plural(peek.left, "step") + " from user mode ", boxes));
+  } else {
+    parts.push(record.says.states.USER);
+  }
+  card.frame.replaceChildren(...parts);
+}
+
+// The rows of a job's table.
+function rowsOf(slot, peek, state, call, moment, looks) {
+  const rows = [], seen = new Set();
+  const row = (role, address, raw) => {
+    if (address !== null) seen.add(address);
+    if (looks || raw !== "-") rows.push(rowOf(slot, role, address, raw, looks));
+  };
+  if (looks) rows.push(pcRow(peek, state, call));
+  for (const [role, address] of call ? call.arguments.filter(argument => argument.length === 2) : []) {
+    row(role, address, role === "pointer" || role === "time" ? peek.a : role === "count" ? peek.b : "-");
+  }
+  if (peek.held !== "-") rows.push(heldRow(peek, looks));
+  const pointer = call && call.arguments.find(([role, address]) => role === "pointer" && address);
+  const target = pointer && wordAt(slot, value(pointer[1])).word;
+  if (target) row("where the pointer points", octal(bits(target, 18, 35)), "-");
+  for (const address of watched) if (!seen.has(address)) row("watched", address, "-");
+  const changed = moment.ranges && moment.ranges[slot] ? [] : Object.keys((moment.words || {})[slot] || {});
+  for (const address of changed.filter(one => !seen.has(one)).slice(0, CHANGED)) row("changed at this moment", address, "-");
+  return rows;
+}
+
+// The row of a word: what PEEK shows of it, and what somebody finds.
+function rowOf(slot, role, address, raw, looks) {
+  const found = wordAt(slot, value(address)), word = found.word;
+  const stale = raw !== "-" && word !== undefined && value(raw) !== value(word);
+  const head = element("th", "", role + " ", element("span", "place", "word " + address));
+  head.scope = "row";
+  if (role === "watched" && !record.watch.includes(address)) head.append(dropButton(address));
+  const row = element("tr", "", head);
+  row.dataset.address = address;
+  const bare = raw === "-" ? null : octal(value(raw));
+  row.append(bare === null ? textCell(RAW, "not shown") : wordCell(RAW, raw, looks && stale ? "stale" : "", meaning(role, bare)));
+  if (looks && word === undefined) row.append(textCell(FOUND, found.why));
+  else if (looks) row.append(wordCell(FOUND, word, stale ? "restored" : "", meaning(role, word)));
+  return row;
+}
+
+function dropButton(address) {
+  const button = element("button", "drop", "drop");
+  button.type = "button";
+  button.setAttribute("aria-label", "Show word " + address + " no more");
+  button.addEventListener("click", () => { watched.splice(watched.indexOf(address), 1); show(); });
+  return button;
+}
+
+function pcRow(peek, state, call) {
+  const pc = octal(value(state.pc.slice(6))), inside = peek.state !== "USER";
+  const where = inside && call ? (pc === call.at ? "at the call" : "behind the call") : "";
+  const head = element("th", "", "PC");
+  head.scope = "row";
+  const found = element("td", "", element("span", "word", pc.padStart(6, "0")));
+  found.dataset.label = FOUND;
+  if (where) found.append(element("span", "means", where));
+  return element("tr", "", head, textCell(RAW, inside ? "inside the call" : "not shown"), found);
+}
+
+function heldRow(peek, looks) {
+  const word = octal(value(peek.held)), isByte = value(word) < 128, head = element("th", "", isByte ? "held byte" : "held word");
+  head.scope = "row";
+  const row = element("tr", "", head, wordCell(RAW, word, "", meaning("byte", word)));
+  row.dataset.held = word;
+  if (looks) row.append(textCell(FOUND, "stored where the pointer points"));
+  return row;
+}
+
+// What somebody finds, in a sentence.
+function verdict(peek, state, call, restored) {
+  if (peek.state === "USER") return "In user mode already: looking changes nothing.";
+  const pc = octal(value(state.pc.slice(6))), steps = "After " + plural(peek.left, "small step") + " it is in user mode, ";
+  if (!call) return steps + "with its PC at " + pc + ".";
+  if (pc !== call.at) return steps + "behind its call, which is over.";
+  return steps + (restored ? "at its call, which says what remains." : "at its call, as if it had not been made.");
+}
+
+function stateText(state) {
+  const word = name => octal(value(state[name]));
+  const list = [state.run, "flags " + (names(record.says.flags, state.pc.slice(0, 6)) || "none")];
+  const pending = names(record.says.pending, state.pending1);
+  list.push("pending " + word("pending1") + " " + word("pending2") + (pending && " (" + pending + ")"));
+  list.push("masks " + word("mask1") + " " + word("mask2"), "deferrals " + word("defer1") + " " + word("defer2"));
+  return "STATE shows: " + list.join("; ") + ".";
+}
+
+
+// ---------------------------------------------------------------------------------------------------------------------
+// Consoles, the session and the picture
+// ---------------------------------------------------------------------------------------------------------------------
+
+function showConsoles() {
+  const line = bytes => bytes.length ? bytes.map(byte => character(byte) || "<" + byte + ">").join(" ") + "  (" + bytes.join(" ") + ")" : "nothing";
+  const shown = Object.keys(known.queue).sort().map(console => {
+    const [input, output] = known.queue[console], list = element("dl", "console", element("h3", "", "Console " + console));
+    list.append(element("dt", "", "typed, waits"), element("dd", "", line(input)), element("dt", "", "put out, waits"), element("dd", "", line(output)));
+    list.dataset.console = console;
+    return list;
+  });
+  document.getElementById("consoles").replaceChildren(...shown);
+}
+
+const lineElements = [];
+
+// The lines of the session with their answers; a click on one goes to its end.
+function listLines() {
+  const list = document.getElementById("lines");
+  const count = Math.max(record.lines.length, ...Object.keys(record.answers).map(Number));
+  for (let number = 1; number <= count; number += 1) {
+    const text = record.lines[number - 1], answers = record.answers[number] || [];
+    const source = element("span", /^\s*(;|$)/.test(text || "") ? "source comment" : "source", text === undefined ? "(the input ends)" : text);
+    const item = element("li", "", element("span", "number", octal(number)), source);
+    item.dataset.line = number;
+    for (const answer of answers) item.append(element("span", "answer", answer));
+    if (answers.some(answer => answer.startsWith("?"))) item.classList.add("refused");
+    item.addEventListener("click", () => {
+      const last = moments.findLastIndex(moment => moment.line <= number);
+      go(last);
+    });
+    lineElements[number] = item;
+    list.append(item);
+  }
+}
+
+let lineShown = null;
+
+function showLine(moment) {
+  if (lineShown) {
+    lineShown.removeAttribute("aria-current");
+    const letters = lineShown.querySelector(".letters");
+    if (letters) letters.remove();
+  }
+  const item = lineShown = lineElements[moment.line] || null, list = document.getElementById("lines");
+  if (!item) { list.scrollTop = 0; return; }
+  item.setAttribute("aria-current", "step");
+  if (moment.letter) item.append(lettersOf(moment));
+  scrollInto(list, item.offsetTop, item.offsetTop + item.offsetHeight, 60);
+}
+
+// The letters of the TICK line at the cursor, with the one of this tick marked.
+function lettersOf(moment) {
+  const own = moments.filter(other => other.line === moment.line), place = own.indexOf(moment);
+  const from = Math.max(0, place - LETTERS), to = place + 1 + LETTERS;
+  const text = part => part.map(other => other.letter).join("");
+  const letters = element("span", "letters", (from ? "…" : "") + text(own.slice(from, place)), element("b", "", moment.letter),
+                          text(own.slice(place + 1, to)) + (to < own.length ? "…" : ""));
+  letters.setAttribute("aria-label", "tick " + octal(place + 1) + " of " + octal(own.length) + " of this line");
+  return letters;
+}
+
+// Scrolls a box, so that what stands from `top` to `bottom` in it is in sight, with some room.
+function scrollInto(box, top, bottom, room) {
+  if (top - room < box.scrollTop) box.scrollTop = top - room;
+  else if (bottom + room > box.scrollTop + box.clientHeight) box.scrollTop = Math.min(top, bottom + room - box.clientHeight);
+}
+
+function showCursor(moment) {
+  const cursor = document.getElementById("cursor"), box = document.getElementById("picture");
+  cursor.hidden = !moment.place;
+  if (!moment.place) { box.scrollTop = box.scrollLeft = 0; return; }
+  const [row, x, width, top] = moment.place, [rowTop, rowBottom] = record.rows[row], wide = Math.max(width, 4);
+  Object.assign(cursor.style, {left: x - (wide - width) / 2 - 2 + "px", top: top - TITLE - 3 + "px", width: wide + 4 + "px", height: BAR + 6 + "px"});
+  scrollInto(box, rowTop - TITLE, rowBottom - TITLE + 24, 0);
+  scrollInto(box, top - TITLE, top - TITLE + BAR, 20);
+  if (x - 60 < box.scrollLeft) box.scrollLeft = x - 160;
+  else if (x + width + 60 > box.scrollLeft + box.clientWidth) box.scrollLeft = x + width + 160 - box.clientWidth;
+}
+
+// Goes to the moment whose place in the picture is next to a click.
+function goToPlace(event) {
+  const sheet = event.currentTarget.getBoundingClientRect(), x = event.clientX - sheet.left, y = event.clientY - sheet.top + TITLE;
+  const row = record.rows.findIndex(([, bottom]) => y <= bottom + 20);
+  const far = moment => Math.abs(x - moment.place[1] - moment.place[2] / 2) + Math.abs(y - moment.place[3] - BAR / 2) / 100;
+  const near = moments.filter(moment => moment.place && moment.place[0] === row);
+  if (near.length) go(moments.indexOf(near.reduce((best, one) => far(one) < far(best) ? one : best)));
+}
+
+
+// ---------------------------------------------------------------------------------------------------------------------
+// Steps
+// ---------------------------------------------------------------------------------------------------------------------
+
+// Where the job of a slot stands, in a sentence.
+function whereabouts(slot) {
+  if (!known.peek[slot]) return " No job is in slot " + slot + ".";
+  const peek = framed(known.peek[slot]);
+  if (peek.state === "USER") return " Slot " + slot + " is in user mode.";
+  return " Slot " + slot + ": " + peek.state + (peek.call === "-" ? "" : " in " + callName(peek.call)) + ", " + plural(peek.left, "step") + " from user mode.";
+}
+
+// The moment in a sentence.
+function sentence(moment) {
+  const after = "after tick " + octal(moment.tick) + " of " + octal(ticks), now = moment.slot === undefined ? "" : whereabouts(moment.slot);
+  if (moment.line === 0) return "Before the first line. " + plural(octal(ticks), "tick") + " to come.";
+  if (moment.letter) return "Tick " + octal(moment.tick) + " of " + octal(ticks) + ":  " + moment.letter + "  " + record.says.letters[moment.letter] + "." + now;
+  const line = record.lines[moment.line - 1];
+  return "Line " + octal(moment.line) + ", " + (line === undefined ? "the end of the input" : line.trim()) + ", " + after + "." + now;
+}
+
+// The moment to which a step leads.
+function next(step) {
+  const here = at.moment, last = moments.length - 1;
+  const isEnd = index => index === last || moments[index + 1].line !== moments[index].line;
+  const search = (from, by, holds) => {
+    for (let index = from; index >= 0 && index <= last; index += by) if (holds(index)) return index;
+    return here;
+  };
+  switch (step) {
+    case "first": return 0;
+    case "last": return last;
+    case "tick": return Math.min(here + 1, last);
+    case "tick-back": return Math.max(here - 1, 0);
+    case "star": return search(here + 1, 1, index => moments[index].letter === "*");
+    case "star-back": return search(here - 1, -1, index => moments[index].letter === "*");
+    case "line": return search(here + 1, 1, isEnd);
+    default: return search(here - 1, -1, isEnd);
+  }
+}
+
+function go(moment) {
+  at.moment = Math.max(0, Math.min(moments.length - 1, moment));
+  show();
+}
+
+// Shows the moment at which the reader is.
+function show() {
+  const moment = moments[at.moment];
+  holding(at.moment);
+  document.getElementById("where").textContent = sentence(moment);
+  for (const card of cards.values()) card.whole.hidden = true;
+  for (const slot of Object.keys(known.peek)) showJob(slot, moment);
+  showConsoles();
+  showLine(moment);
+  showCursor(moment);
+  const slider = document.getElementById("slider");
+  slider.value = at.moment;
+  slider.setAttribute("aria-valuetext", sentence(moment));
+  for (const button of document.querySelectorAll("[data-step]")) {
+    button.setAttribute("aria-disabled", next(button.dataset.step) === at.moment);
+  }
+  remember();
+}
+
+// The address of the page says where the reader is, so that it can be sent to others.
+function remember() {
+  const words = watched.filter(address => !record.watch.includes(address));
+  const hash = "#moment=" + at.moment + (looking.size ? "&look=" + [...looking].join(",") : "") + (words.length ? "&words=" + words.join(",") : "");
+  try { history.replaceState(null, "", hash); } catch (refused) { /* some browsers keep the address of a file */ }
+}
+
+function recall() {
+  const said = new URLSearchParams(location.hash.slice(1)), list = name => (said.get(name) || "").split(",").filter(word => /^[0-7]+$/.test(word));
+  if (!said.has("moment")) return;
+  looking.clear();
+  list("look").forEach(slot => looking.add(slot));
+  watched.splice(record.watch.length, watched.length, ...list("words").filter(address => !record.watch.includes(address)));
+  at.moment = Math.max(0, Math.min(moments.length - 1, Math.floor(Number(said.get("moment"))) || 0));
+}
+
+const KEYS = {ArrowRight: "tick", ArrowLeft: "tick-back", ArrowDown: "line", ArrowUp: "line-back", Home: "first", End: "last"};
+
+function pressed(event) {
+  if (event.ctrlKey || event.altKey || event.metaKey || event.target.closest("input, #lines, #picture")) return;
+  const step = event.shiftKey ? {ArrowRight: "star", ArrowLeft: "star-back"}[event.key] : KEYS[event.key];
+  if (!step) return;
+  event.preventDefault();
+  go(next(step));
+}
+
+document.getElementById("recorded-words").textContent = record.whole ?
+  "All words of the jobs' pages were recorded at each moment, so any address can be typed." :
+  "The jobs have too many words to record all. Those that the session loads were recorded, and those that --look named.";
+listLines();
+document.getElementById("slider").max = moments.length - 1;
+document.getElementById("slider").addEventListener("input", event => go(Number(event.target.value)));
+document.querySelector(".sheet").addEventListener("click", goToPlace);
+document.addEventListener("keydown", pressed);
+for (const button of document.querySelectorAll("[data-step]")) button.addEventListener("click", () => go(next(button.dataset.step)));
+window.addEventListener("hashchange", () => { recall(); show(); });
+recall();
+show();
