@@ -9,7 +9,7 @@ from .session import Wrong
 
 
 class Parser(argparse.ArgumentParser):
-    """A parser of words that says what is wrong in one line. The tool's docstring is its help."""
+    """A parser of words that says what is wrong in one line. The tool's docstring, which says what it does, is its help."""
 
     def __init__(self, name: str, about: str):
         super().__init__(prog=name, description=about, allow_abbrev=False,

@@ -38,6 +38,7 @@ STATES = {"USER": "in user mode", "ENTERED": "the call was entered", "PARSED": "
           "ASKED": "its arguments are found", "HOLDING": "it is ready to be tried", "WAITING": "it waits",
           "MOVING": "a byte or word is taken and not stored yet", "ENDING": "it is decided, and owes its end"}
 
+# What a tick of each letter is, one and several
 LETTERS = {"*": ("step", "steps"), ".": ("tick of the monitor's work", "ticks of the monitor's work"),
            "w": ("tick of waiting", "ticks of waiting"), "-": ("tick with no job that runs", "ticks with no job that runs")}
 
