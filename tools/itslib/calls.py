@@ -116,7 +116,7 @@ def call_at(pc: int, memory: Memory) -> Optional[Call]:
     try:
         opcode, accumulator, address = reader.instruction(pc)
         if opcode == IOT:
-            return Call(pc, ".IOT", [Argument("channel", None, accumulator), Argument("word", address, None)])
+            return Call(pc, ".IOT", [Argument("channel", None, accumulator), Argument("its word", address, None)])
         return reader.block(pc, address) if opcode == CALL else None
     except Unreadable:
         return None

@@ -25,6 +25,7 @@ class Shape:
     tallest: int = 900       # how high all rows together should be
     enlarged: float = 1      # how much larger all is drawn
     legend: bool = True      # what letters and marks mean stands below
+    brief: bool = False      # marks have their first word alone
 
 
 @dataclass
@@ -145,7 +146,7 @@ def laid_out(story: Story, shape: Shape) -> Layout:
     does in any case, ticks are as wide as costs little height."""
     layouts, pieces = [], gathered(story.pieces)
     fewest = len(rows_of(pieces, COMFORT, shape.span))
-    for longest, scales in ((LABEL, SCALES[:10]), (WORD, SCALES)):
+    for longest, scales in ((LABEL, SCALES[:10]), (WORD, SCALES))[shape.brief:]:
         for tick in scales:
             rows = rows_of(pieces, tick, shape.span)
             layout = Layout(rows, lanes_of_rows(story, rows), tick, longest)

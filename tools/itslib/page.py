@@ -4,6 +4,7 @@ timeline, the style and the script of tools/page."""
 import html
 import json
 import os
+import re
 from typing import Dict, List, Optional, Tuple
 
 from .calls import Call
@@ -107,7 +108,7 @@ def record(name: str, session: str, watch: List[Tuple[int, int]]) -> Tuple[dict,
     found = looks.run()
     title = os.path.basename(name)
     story = tell(name, told)
-    drawn = picture(story, title, Shape(legend=False))
+    drawn = picture(story, title, Shape(legend=False, brief=True))
     data = {"name": title, "lines": split(session), "answers": answers_of(told), "moments": moments_data(moments, found, drawn),
             "rows": [[round(top, 1), round(bottom, 1)] for top, bottom in drawn.rows],
             "watch": ["%o" % address for start, count in watch for address in range(start, start + count)],
@@ -154,7 +155,5 @@ def page(name: str, session: str, watch: List[Tuple[int, int]]) -> str:
     parts = {"<!-- name -->": html.escape(data["name"]), "/* style */": part("player.css"), "<!-- picture -->": drawn.svg,
              "<!-- legend -->": legend(story), "<!-- recorded -->": recorded.replace("<", "\\u003c"),
              "/* script */": part("player.js")}
-    text = part("player.html")
-    for mark, content in parts.items():
-        text = text.replace(mark, content.rstrip("\n"))
-    return text
+    marks = "|".join(map(re.escape, parts))
+    return re.sub(marks, lambda mark: parts[mark.group()].rstrip("\n"), part("player.html"))

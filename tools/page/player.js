@@ -114,16 +114,19 @@ function character(word) {
   return code >= 32 && code < 127 ? "'" + String.fromCharCode(code) + "'" : "";
 }
 
+// A byte pointer: before the first byte of a word, at one of its bytes, or somewhere else in it.
 function bytePointer(word) {
-  const place = bits(word, 0, 5), size = bits(word, 6, 11), address = octal(bits(word, 18, 35));
+  const place = bits(word, 0, 5), size = bits(word, 6, 11), address = octal(bits(word, 18, 35)), each = ", " + octal(size) + " bits each";
   if (size === 0 || size > 36 || bits(word, 13, 17) || place > 36) return "";
-  const where = place === 36 ? "before the first byte of " + address : "at the byte of " + address + " with " + octal(place) + " bits behind it";
-  return where + ", " + octal(size) + " bits each";
+  if (place === 36) return "before the first byte of " + address + each;
+  if ((36 - place) % size) return "in " + address + ", " + octal(place) + " bits behind it" + each;
+  return "at byte " + octal((36 - place) / size) + " of " + address + each;
 }
 
+// A word as text: in ASCII; in SIXBIT too, where it has one character in ASCII at most.
 function texts(word) {
-  const name = sixbit(word);
-  return [ascii(word) && ascii(word) + " in ASCII", /^[A-Z][A-Z0-9]*$/.test(name) && name + " in SIXBIT"].filter(Boolean).join(", ");
+  const text = ascii(word), name = sixbit(word), isName = /^[A-Z][A-Z0-9]*$/.test(name) && text.length < 4;
+  return [text && text + " in ASCII", isName && name + " in SIXBIT"].filter(Boolean).join(", ");
 }
 
 // What a word means to its call.
@@ -132,13 +135,12 @@ function meaning(role, word) {
   if (role === "count") return word === "0" ? "none to go" : word + " to go";
   if (role === "time") return bits(word, 0, 0) ? "minus the time of waking, " + octal(2 ** 36 - value(word)) : word + " thirtieths of a second";
   if (/^(device|variable|directory|name \d|new name \d)$/.test(role)) return sixbit(word) && sixbit(word) + " in SIXBIT";
-  if (role === "byte" || role === "word") return character(word) || texts(word);
+  if (role === "byte" || role === "its word") return character(word) || texts(word);
   return texts(word);
 }
 
 function names(table, word) {
-  const on = table.filter(([bit]) => Math.floor(value(word) / value(bit)) % 2).map(([, name]) => name);
-  return on.join(", ");
+  return table.filter(([bit]) => Math.floor(value(word) / value(bit)) % 2).map(([, name]) => name).filter(name => name !== "user").join(", ");
 }
 
 function callName(word) { return record.says.calls[word] || sixbit(word); }
@@ -165,19 +167,14 @@ function wordElement(word, kind) {
 
 function tag(words) { return element("span", "tag " + words, words); }
 
-function wordCell(label, word, kind, means) {
+function wordCell(word, kind, means) {
   const cell = element("td", "", wordElement(word, kind));
-  cell.dataset.label = label;
   if (kind) cell.append(tag(kind));
   if (means) cell.append(element("span", "means", means));
   return cell;
 }
 
-function textCell(label, words) {
-  const cell = element("td", "place", words);
-  cell.dataset.label = label;
-  return cell;
-}
+function textCell(words) { return element("td", "place", words); }
 
 
 // ---------------------------------------------------------------------------------------------------------------------
@@ -258,11 +255,11 @@ function showFrame(card, peek, call) {
   if (inside) {
     const name = peek.call === "-" ? "a call" : callName(peek.call);
     const immediate = call ? call.arguments.filter(argument => argument.length === 3).map(([role, , word]) => role + " " + word) : [];
-    parts.push(element("strong", "", name + (call ? " at " + call.at : "")), record.says.states[peek.state]);
-    if (peek.call !== "-" && immediate.length) parts.push(element("span", "note", "(" + immediate.join(", ") + ")"));
+    parts.push(element("strong", "", name + (call ? " at " + call.at : "")));
+    if (peek.call !== "-" && immediate.length) parts.push(element("span", "note", immediate.join(", ")));
     const boxes = element("span", "steps", "■".repeat(value(peek.left)));
     boxes.setAttribute("aria-hidden", "true");
-    parts.push(element("span", "", plural(peek.left, "step") + " from user mode ", boxes));
+    parts.push(element("span", "", plural(peek.left, "step") + " from user mode ", boxes), element("span", "note", record.says.states[peek.state]));
   } else {
     parts.push(record.says.states.USER);
   }
@@ -283,7 +280,7 @@ function rowsOf(slot, peek, state, call, moment, looks) {
   if (peek.held !== "-") rows.push(heldRow(peek, looks));
   const pointer = call && call.arguments.find(([role, address]) => role === "pointer" && address);
   const target = pointer && wordAt(slot, value(pointer[1])).word;
-  if (target) row("where the pointer points", octal(bits(target, 18, 35)), "-");
+  if (target) row("byte's word", octal(bits(target, 18, 35)), "-");
   for (const address of watched) if (!seen.has(address)) row("watched", address, "-");
   const changed = moment.ranges && moment.ranges[slot] ? [] : Object.keys((moment.words || {})[slot] || {});
   for (const address of changed.filter(one => !seen.has(one)).slice(0, CHANGED)) row("changed at this moment", address, "-");
@@ -300,9 +297,9 @@ function rowOf(slot, role, address, raw, looks) {
   const row = element("tr", "", head);
   row.dataset.address = address;
   const bare = raw === "-" ? null : octal(value(raw));
-  row.append(bare === null ? textCell(RAW, "not shown") : wordCell(RAW, raw, looks && stale ? "stale" : "", meaning(role, bare)));
-  if (looks && word === undefined) row.append(textCell(FOUND, found.why));
-  else if (looks) row.append(wordCell(FOUND, word, stale ? "restored" : "", meaning(role, word)));
+  row.append(bare === null ? textCell("not shown") : wordCell(raw, looks && stale ? "stale" : "", meaning(role, bare)));
+  if (looks && word === undefined) row.append(textCell(found.why));
+  else if (looks) row.append(wordCell(word, stale ? "restored" : "", meaning(role, word)));
   return row;
 }
 
@@ -320,17 +317,16 @@ function pcRow(peek, state, call) {
   const head = element("th", "", "PC");
   head.scope = "row";
   const found = element("td", "", element("span", "word", pc.padStart(6, "0")));
-  found.dataset.label = FOUND;
   if (where) found.append(element("span", "means", where));
-  return element("tr", "", head, textCell(RAW, inside ? "inside the call" : "not shown"), found);
+  return element("tr", "", head, textCell(inside ? "inside the call" : "not shown"), found);
 }
 
 function heldRow(peek, looks) {
   const word = octal(value(peek.held)), isByte = value(word) < 128, head = element("th", "", isByte ? "held byte" : "held word");
   head.scope = "row";
-  const row = element("tr", "", head, wordCell(RAW, word, "", meaning("byte", word)));
+  const row = element("tr", "", head, wordCell(word, "", meaning("byte", word)));
   row.dataset.held = word;
-  if (looks) row.append(textCell(FOUND, "stored where the pointer points"));
+  if (looks) row.append(textCell("stored in the byte's word"));
   return row;
 }
 
@@ -402,7 +398,7 @@ function showLine(moment) {
   if (!item) { list.scrollTop = 0; return; }
   item.setAttribute("aria-current", "step");
   if (moment.letter) item.append(lettersOf(moment));
-  scrollInto(list, item.offsetTop, item.offsetTop + item.offsetHeight, 60);
+  scrollInto(list, item.offsetTop, item.offsetTop + item.offsetHeight, 80);
 }
 
 // The letters of the TICK line at the cursor, with the one of this tick marked.
@@ -460,7 +456,8 @@ function whereabouts(slot) {
 function sentence(moment) {
   const after = "after tick " + octal(moment.tick) + " of " + octal(ticks), now = moment.slot === undefined ? "" : whereabouts(moment.slot);
   if (moment.line === 0) return "Before the first line. " + plural(octal(ticks), "tick") + " to come.";
-  if (moment.letter) return "Tick " + octal(moment.tick) + " of " + octal(ticks) + ":  " + moment.letter + "  " + record.says.letters[moment.letter] + "." + now;
+  const letter = "“" + moment.letter + "”, " + record.says.letters[moment.letter];
+  if (moment.letter) return "Tick " + octal(moment.tick) + " of " + octal(ticks) + " is " + letter + "." + now;
   const line = record.lines[moment.line - 1];
   return "Line " + octal(moment.line) + ", " + (line === undefined ? "the end of the input" : line.trim()) + ", " + after + "." + now;
 }
