@@ -10,11 +10,12 @@ COLUMN = 16                              # the width of a mark
 LONGEST = 320                            # the width of a run; a longer one is drawn so wide, with a break
 MANY = 4                                 # up to so many equal lines in a row have a mark each
 BAR, GAP, AXIS = 18, 12, 26              # the height of a bar, the room below it, and the room for numbers below a row
-LABEL = 24                               # the longest label of a mark, in characters
-WORD = 7                                 # the longest label where marks have their first word alone
+LABELS = (36, 24, 7)                     # the longest label of a mark, in characters: whole labels where there is room for them
 CHAR = 6.7                               # the width of a character of 11 px
-SCALES = (16, 14, 12, 10, 8, 6, 5, 4, 3, 2, 1.5, 1, 0.5, 0.25)     # widths of a tick
+SCALES = (40, 32, 24, 20, 16, 14, 12, 10, 8, 6, 5, 4, 3, 2, 1.5, 1, 0.5, 0.25)     # widths of a tick
 COMFORT = 10                             # a tick need not be wider than this, where that would take one row more
+NARROW = 3                               # with labels of more than one word, ticks are at least so wide
+HIGHER = 1.15                            # so much higher a picture may grow by whole labels
 ALWAYS = 6                               # up to so many jobs, each row shows all that there are then
 
 
@@ -23,6 +24,7 @@ class Shape:
     """What a picture should look like."""
     span: int = 1020         # how wide rows are
     tallest: int = 900       # how high all rows together should be
+    widest: int = 16         # how wide a tick may be
     enlarged: float = 1      # how much larger all is drawn
     legend: bool = True      # what letters and marks mean stands below
     brief: bool = False      # marks have their first word alone
@@ -41,6 +43,20 @@ class Row:
 
 
 @dataclass
+class Life:
+    """Where in the rows a job is there for certain: a row and a place in it each."""
+    begins: Tuple[int, float]        # it was made, or seen first
+    ends: Tuple[int, float]          # it was seen last
+    gone: Tuple[int, float]          # it was seen to be gone; where it never was, past the last row
+
+    def part(self, row: int, since: Tuple[int, float], until: Tuple[int, float], end: float) -> Optional[Tuple[float, float]]:
+        """From where to where in a row, which ends at `end`, the part between two of these places is."""
+        if not since[0] <= row <= until[0]:
+            return None
+        return (since[1] if since[0] == row else float(LEFT)), (until[1] if until[0] == row else end)
+
+
+@dataclass
 class Layout:
     """The rows, the lanes of each (None is the operator's), the width of a tick and the longest label."""
     rows: List[Row]
@@ -49,17 +65,49 @@ class Layout:
     longest: int
 
 
+def life_of(rows: List[Row], lane: Lane, tick: float) -> Life:
+    """Where in the rows the job of a lane is there."""
+    life = Life((0, float(LEFT)), (0, float(LEFT)), (len(rows), 0.0))
+    for at, row in enumerate(rows):
+        for x, piece in row.placed:
+            if piece.lane is not lane:
+                continue
+            if isinstance(piece, Mark) and piece.kind in ("made", "seen"):
+                life.begins = life.ends = (at, x + COLUMN / 2)
+            elif isinstance(piece, Mark) and piece.kind == "gone":
+                life.gone = (at, x + COLUMN / 2)
+            elif isinstance(piece, Mark):
+                life.ends = (at, x + COLUMN / 2)
+            elif piece.letter != "-":
+                life.ends = (at, x + width_of(piece, tick))
+    return life
+
+
 def cut(mark: Mark, longest: int) -> str:
-    """The label of a mark, which is not too long: cut, or its first word alone. What is no word of a session stays."""
-    if longest == WORD and mark.kind != "refused" and not mark.label[0].isdigit():
-        return mark.label.split(" ")[0].strip(",:")
-    return mark.label if len(mark.label) <= LABEL else mark.label[:LABEL - 1] + "…"
+    """The longest label of a mark that is not too long. Where each is, the shortest one, cut at the middle length."""
+    label = next((label for label in mark.labels if len(label) <= longest), mark.labels[-1])
+    most = max(longest, LABELS[1])
+    return label if len(label) <= most else label[:most - 1] + "…"
+
+
+def first_word(mark: Mark) -> str:
+    """The first word of the line of a mark."""
+    return mark.tip.split(" ")[0]
 
 
 def alike(one: Piece, other: Piece) -> bool:
     """Whether two pieces are marks of the same lines on the same job."""
     return (isinstance(one, Mark) and isinstance(other, Mark) and one.lane is other.lane and one.kind == other.kind
-            and one.kind in ("disturb", "look", "other") and one.label.split(" ")[0] == other.label.split(" ")[0])
+            and one.kind in ("disturb", "look", "other") and first_word(one) == first_word(other))
+
+
+def label_of_many(marks: List[Mark]) -> str:
+    """The label of one mark that stands for many: with TYPE and DRAIN, on which consoles."""
+    word, which = first_word(marks[0]), ""
+    if word in ("TYPE", "DRAIN"):
+        consoles = sorted({mark.tip.split(" ")[1] for mark in marks})
+        which = " " + (consoles[0] if len(consoles) == 1 else "%s-%s" % (consoles[0], consoles[-1]))
+    return "%d × %s%s" % (len(marks), word, which)
 
 
 def gathered(pieces: List[Piece]) -> List[Piece]:
@@ -72,10 +120,9 @@ def gathered(pieces: List[Piece]) -> List[Piece]:
         if end - at <= MANY:
             out += pieces[at:end]
         else:
-            one = pieces[at]
-            label = "%o × %s" % (end - at, one.label.split(" ")[0])
+            one, label = pieces[at], label_of_many(pieces[at:end])
             tip = "%s: from '%s' to '%s'" % (label, one.tip, pieces[end - 1].tip)
-            out.append(Mark(one.lane, one.kind, label, tip, one.at, one.line))
+            out.append(Mark(one.lane, one.kind, [label], tip, one.at, one.line))
         at = end
     return out
 
@@ -141,18 +188,34 @@ def height_of(layout: Layout) -> float:
                for row, own in zip(layout.rows, layout.lanes))
 
 
+def laid_out_so(story: Story, pieces: List[Piece], tick: float, longest: int, span: int) -> Layout:
+    """The layout of a story with a width of a tick and a longest label."""
+    rows = rows_of(pieces, tick, span)
+    return Layout(rows, lanes_of_rows(story, rows), tick, longest)
+
+
+def with_words(story: Story, pieces: List[Piece], layout: Layout, shape: Shape) -> Layout:
+    """The layout with whole labels, where that makes the picture little higher."""
+    if layout.longest != LABELS[1]:
+        return layout
+    whole = laid_out_so(story, pieces, layout.tick, LABELS[0], shape.span)
+    return whole if height_of(whole) <= max(HIGHER * shape.tallest, HIGHER * height_of(layout)) else layout
+
+
 def laid_out(story: Story, shape: Shape) -> Layout:
     """The layout of a story. Whole labels and wide ticks are best, as long as the picture does not grow too high; where it
     does in any case, ticks are as wide as costs little height."""
     layouts, pieces = [], gathered(story.pieces)
+    scales = [tick for tick in SCALES if tick <= shape.widest]
     fewest = len(rows_of(pieces, COMFORT, shape.span))
-    for longest, scales in ((LABEL, SCALES[:10]), (WORD, SCALES))[shape.brief:]:
+    for longest in LABELS[2 if shape.brief else 1:]:
         for tick in scales:
-            rows = rows_of(pieces, tick, shape.span)
-            layout = Layout(rows, lanes_of_rows(story, rows), tick, longest)
+            if longest == LABELS[1] and tick < NARROW:
+                continue
+            layout = laid_out_so(story, pieces, tick, longest, shape.span)
             height = height_of(layout)
-            if height <= shape.tallest and (tick <= COMFORT or len(rows) == fewest):
-                return layout
+            if height <= shape.tallest and (tick <= COMFORT or len(layout.rows) == fewest):
+                return with_words(story, pieces, layout, shape)
             layouts.append((height, layout))
     lowest = min(height for height, _ in layouts)
-    return next(layout for height, layout in layouts if height <= 1.25 * lowest)
+    return with_words(story, pieces, next(layout for height, layout in layouts if height <= 1.25 * lowest), shape)

@@ -1,11 +1,12 @@
 """The picture of a story, as SVG; where each tick and each mark stands in it."""
 
+import textwrap
 from dataclasses import dataclass
 from typing import List, Optional, Tuple
 from xml.sax.saxutils import escape
 
 from .layout import (AXIS, BAR, CHAR, COLUMN, EDGE, GAP, LEFT, LONGEST, Layout, Row, Shape, cut, head_of, laid_out,
-                     width_of)
+                     life_of, width_of)
 from .story import Lane, Mark, Piece, Run, Story
 
 STYLE = """text { font-family: "DejaVu Sans", Verdana, sans-serif; font-size: 12px; fill: #1a1a1a }
@@ -33,9 +34,12 @@ KINDS = {"made": "LOAD makes the job",
          "refused": "the line is refused, and the session is over"}
 
 NOTES = ["Numbers are octal. Those below a row say how many ticks came before, those in bars how many ticks the bar has.",
-         "A transcript has no line for a job that OPEN makes or that LOGOUT or UCLOSE removes, nor for a job that another",
-         "job's call disturbs: what cannot be seen there is not drawn, and a lane may be of two jobs, one after the other."]
+         "A transcript has no line for a job that OPEN makes or that LOGOUT or UCLOSE removes, nor for a job that another"
+         " job's call disturbs: what cannot be seen there is not drawn, and a lane may be of two jobs, one after the other."]
+ENDED = "Dots lead from where a job was seen last to where it is seen to be gone."
 BROKEN = "A bar with two white cuts is drawn shorter than its ticks."
+NOTE = 6.6                               # the width of a character of a note
+MANY = "Of many equal lines in a row, one mark says how many there are, in decimal."
 
 
 def num(x: float) -> str:
@@ -108,25 +112,27 @@ def draw_bars(row: Row, lane: Optional[Lane], bar: float, tick: float) -> List[s
             for letter in LETTERS if paths[letter]] + texts
 
 
-def life_of(row: Row, lane: Lane) -> Tuple[Optional[float], Optional[float]]:
-    """Where in a row the job of a lane begins and ends: x, or None where it is there before or after."""
-    own = [(x, piece) for x, piece in row.placed if isinstance(piece, Mark) and piece.lane is lane]
-    begins = [x for x, piece in own if piece.kind in ("made", "seen")]
-    ends = [x for x, piece in own if piece.kind == "gone"]
-    return (begins[0] + COLUMN / 2 if begins else None), (ends[0] + COLUMN / 2 if ends else None)
+def draw_life(layout: Layout, at: int, lane: Lane, y: float) -> List[str]:
+    """The line of the life of a lane's job in a row. Where the job is gone later, dots lead from where it was seen last to
+    where the transcript shows that it is gone."""
+    row, life = layout.rows[at], life_of(layout.rows, lane, layout.tick)
+    gone = life.gone[0] < len(layout.rows)
+    certain = life.part(at, life.begins, life.ends if gone else life.gone, row.end)
+    out = [line(certain[0], y, certain[1], y, "#999", ' stroke-width="2"')] if certain else []
+    open_end = life.part(at, life.ends, life.gone, row.end) if gone else None
+    return out + ([line(open_end[0], y, open_end[1], y, "#999", ' stroke-dasharray="1 4"')] if open_end else [])
 
 
-def draw_lane(row: Row, lane: Optional[Lane], bar: float, layout: Layout) -> List[str]:
+def draw_lane(layout: Layout, at: int, lane: Optional[Lane], bar: float) -> List[str]:
     """A lane in a row: its names at the left, the line of its job's life, its bars and its marks."""
+    row = layout.rows[at]
     if lane is None:
         out = [text(EDGE, bar + 7, "operator", "bold"), text(EDGE, bar + 20, "consoles, clock, files", "small")]
         out.append(line(LEFT, bar + BAR / 2, row.end, bar + BAR / 2, "#bbb"))
     else:
-        out = [text(EDGE, bar + 7, ("slot %o  %s" % (lane.slot, lane.names)).strip(), "bold"),
+        out = [text(EDGE, bar + 7, "slot %o" % lane.slot + (": " + lane.names if lane.names else ""), "bold"),
                text(EDGE, bar + 20, lane.note if lane.seen else "no job seen", "small")]
-        begin, end = life_of(row, lane)
-        if lane.seen:
-            out.append(line(begin or LEFT, bar + BAR / 2, end or row.end, bar + BAR / 2, "#999", ' stroke-width="2"'))
+        out += draw_life(layout, at, lane, bar + BAR / 2) if lane.seen else []
     out += draw_bars(row, lane, bar, layout.tick)
     for x, piece in row.placed:
         if isinstance(piece, Mark) and piece.lane is lane:
@@ -153,13 +159,23 @@ def draw_axis(row: Row, y: float, tick: float) -> List[str]:
     return out
 
 
-def draw_legend(story: Story, y: float, tick: float, span: int) -> Tuple[List[str], float]:
+def notes_of(story: Story, layout: Layout) -> List[str]:
+    """What stands below the legend."""
+    pieces = [piece for row in layout.rows for _, piece in row.placed]
+    marks = [piece for piece in pieces if isinstance(piece, Mark)]
+    broken = any(isinstance(piece, Run) and piece.count * layout.tick > LONGEST for piece in story.pieces)
+    return NOTES + [BROKEN] * broken + [ENDED] * any(mark.kind == "gone" for mark in marks) + \
+        [MANY] * any(" × " in mark.label for mark in marks)
+
+
+def draw_legend(story: Story, y: float, layout: Layout, span: int) -> Tuple[List[str], float]:
     """What letters and marks mean, of those that come; returns its parts and where it ends."""
     out, used = [line(EDGE, y, LEFT + span, y, "#ccc")], {piece.kind for piece in story.pieces if isinstance(piece, Mark)}
     items = [(letter, LETTERS[letter][2]) for letter in LETTERS] + [(kind, KINDS[kind]) for kind in KINDS if kind in used]
+    columns = 2 if span > 900 else 1
     y += 22
     for at, (what, words) in enumerate(items):
-        x = EDGE + (at % 2) * (LEFT + span - EDGE) / 2
+        x = EDGE + (at % columns) * (LEFT + span - EDGE) / columns
         if what in LETTERS:
             fill, edge, _ = LETTERS[what]
             out.append('<rect x="%s" y="%s" width="22" height="14" fill="%s" stroke="%s"/>' % (num(x), num(y - 11), fill, edge))
@@ -167,12 +183,12 @@ def draw_legend(story: Story, y: float, tick: float, span: int) -> Tuple[List[st
         else:
             out.append(symbol(what, x + 11, y))
         out.append(text(x + 30, y, words))
-        if at % 2 or at == len(items) - 1:
+        if at % columns == columns - 1 or at == len(items) - 1:
             y += 20
-    broken = any(isinstance(piece, Run) and piece.count * tick > LONGEST for piece in story.pieces)
-    for words in NOTES + [BROKEN] * broken:
-        out.append(text(EDGE, y, words, "small"))
-        y += 16
+    for note in notes_of(story, layout):
+        for words in textwrap.wrap(note, int((LEFT + span) / NOTE)):
+            out.append(text(EDGE, y, words, "small"))
+            y += 16
     return out, y
 
 
@@ -213,9 +229,11 @@ def spots_of(row: Row, at: int, lane: Optional[Lane], bar: float, tick: float) -
 
 def heading(story: Story, name: str) -> List[str]:
     """The name of the session, and what is in it."""
-    jobs = sum(lane.seen for lane in story.lanes)
+    shown = {id(piece.lane) for piece in story.pieces}
+    jobs = sum(lane.seen and id(lane) in shown for lane in story.lanes)
+    ticks = sum(piece.count for piece in story.pieces if isinstance(piece, Run))
     return [text(EDGE, 26, name, "title"),
-            text(EDGE + 9.2 * len(name) + 14, 26, "jobs seen: %o   ticks: %o" % (jobs, story.ticks), "small")]
+            text(EDGE + 9.2 * len(name) + 14, 26, "jobs seen: %d, ticks: %o (octal)" % (jobs, ticks), "small")]
 
 
 def framed(parts: List[str], name: str, width: float, height: float, enlarged: float) -> str:
@@ -235,14 +253,14 @@ def picture(story: Story, name: str, shape: Shape = Shape()) -> Picture:
         top = y
         for lane in own:
             y += head_of(row, lane, layout.longest)
-            out += draw_lane(row, lane, y, layout)
+            out += draw_lane(layout, at, lane, y)
             spots += spots_of(row, at, lane, y, layout.tick)
             y += BAR + GAP
         out += draw_axis(row, y - 4, layout.tick)
         y += AXIS
         rows.append((top, y - AXIS))
     if shape.legend:
-        legend, y = draw_legend(story, y, layout.tick, shape.span)
+        legend, y = draw_legend(story, y, layout, shape.span)
         out += legend
     width, height = LEFT + shape.span + EDGE, y + 4
     spots.sort(key=lambda spot: (spot.row, spot.x))

@@ -3,9 +3,9 @@
 from dataclasses import dataclass, field
 from typing import Dict, List, Optional, Union
 
-from .session import (JOB_LINES, Exchange, Line, Transcript, Wrong, exchanges, lines_of, misfit, peek_of, runs_of,
+from .session import (JOB_LINES, Exchange, Transcript, Wrong, exchanges, lines_of, misfit, peek_of, runs_of,
                       state_of)
-from .words import number, pc_of, short, sixbit, typed
+from .words import call_name, character, number, pc_of, short, sixbit, typed
 
 
 @dataclass
@@ -32,10 +32,15 @@ class Mark:
     """Something that falls between two ticks. Without a lane it is about no single job."""
     lane: Optional[Lane]
     kind: str                # made, seen, gone, disturb, look, other or refused
-    label: str
+    labels: List[str]        # what is written at it: the longest label first, then shorter ones
     tip: str                 # the whole line of the session, and what the transcript answers
     at: int                  # how many ticks of the session came before
     line: int                # the line of the session
+
+    @property
+    def label(self) -> str:
+        """Its whole label."""
+        return self.labels[0]
 
 
 Piece = Union[Run, Mark]
@@ -43,7 +48,9 @@ Piece = Union[Run, Mark]
 
 @dataclass
 class Story:
-    """All that happens in a session, in its order."""
+    """All that happens in a session, in its order; or between two of its lines."""
+    first: int = 1                                             # the first line that is told, and the last one
+    last: int = 1 << 30
     pieces: List[Piece] = field(default_factory=list)
     lanes: List[Lane] = field(default_factory=list)
     current: Dict[int, Lane] = field(default_factory=dict)     # slot -> its lane now
@@ -51,18 +58,24 @@ class Story:
     line: int = 0                                              # the line of the session that is told
     loading: Optional[Mark] = None                             # the mark of the LOAD block that is open
 
-    def mark(self, lane: Optional[Lane], kind: str, label: str, tip: str = "") -> Mark:
+    @property
+    def is_told(self) -> bool:
+        """Whether the line is one of those that are told."""
+        return self.first <= self.line <= self.last
+
+    def mark(self, lane: Optional[Lane], kind: str, *labels: str, tip: str = "") -> Mark:
         """Adds a mark, and returns it."""
-        mark = Mark(lane, kind, label, tip or label, self.ticks, self.line)
-        self.pieces.append(mark)
+        mark = Mark(lane, kind, list(labels), tip or labels[0], self.ticks, self.line)
+        if self.is_told:
+            self.pieces.append(mark)
         return mark
 
     def run(self, lane: Lane, letter: str, count: int) -> None:
         """Adds ticks of a lane; those that go on with a run are added to it."""
         last = self.pieces[-1] if self.pieces else None
-        if isinstance(last, Run) and last.lane is lane and last.letter == letter:
+        if isinstance(last, Run) and last.lane is lane and last.letter == letter and self.is_told:
             last.count += count
-        else:
+        elif self.is_told:
             self.pieces.append(Run(lane, letter, count, self.ticks, self.line))
         self.ticks += count
 
@@ -76,7 +89,7 @@ class Story:
     def gone(self, slot: int) -> None:
         """The job of the slot was removed at some time before."""
         if slot in self.current and self.current[slot].seen:
-            self.mark(self.current.pop(slot), "gone", "gone by now")
+            self.mark(self.current.pop(slot), "gone", "gone by now", "gone")
 
     def made(self, slot: int, names: str, console: str) -> Lane:
         """LOAD made a job in the slot, so that the one that was there before is gone."""
@@ -91,7 +104,7 @@ class Story:
         lane = self.lane_of(slot)
         if not lane.seen:
             lane.seen, lane.note = True, "made by a call"
-            self.mark(lane, "seen", "seen first")
+            self.mark(lane, "seen", "seen first", "seen")
         return lane
 
     def named(self, slot: int, names: str, superior: str, console: str) -> Lane:
@@ -118,7 +131,24 @@ def tell_load(story: Story, exchange: Exchange, tip: str) -> None:
     """LOAD u j c: a new job. Its mark is given the place of GO later."""
     words = exchange.line.words
     lane = story.made(number(exchange.words[1]), words[1] + " " + words[2], words[3])
-    story.loading = story.mark(lane, "made", "LOAD", tip)
+    story.loading = story.mark(lane, "made", "LOAD", "LOAD", tip=tip)
+
+
+def exam_labels(answer: List[str]) -> List[str]:
+    """EXAM: the addresses and the words, or the addresses alone."""
+    first, words = number(answer[2]), answer[3:]
+    place = "EXAM %o" % first + ("-%o" % (first + len(words) - 1) if len(words) > 1 else "")
+    return ["%s = %s" % (place, " ".join(short(word) for word in words)), place, "EXAM"]
+
+
+def peek_labels(answer: List[str]) -> List[str]:
+    """PEEK: the call, the state, the steps to user mode and what is held."""
+    peek = peek_of(answer)
+    if peek.state == "USER":
+        return ["PEEK USER", "USER"]
+    held = "" if peek.held == "-" else " " + (character(number(peek.held)) if number(peek.held) < 128 else short(peek.held))
+    call = "" if peek.call == "-" else call_name(peek.call) + " "
+    return ["PEEK %s%s %o%s" % (call, peek.state, peek.left, held), "PEEK %s %o" % (peek.state, peek.left), "PEEK"]
 
 
 def tell_job_line(story: Story, exchange: Exchange, tip: str) -> None:
@@ -126,33 +156,33 @@ def tell_job_line(story: Story, exchange: Exchange, tip: str) -> None:
     words, answer = exchange.line.words, exchange.words
     first, slot = words[0], number(words[1])
     lane = story.job_of(slot)
-    label = " ".join([first] + words[2:])
-    if first == "EXAM" and len(answer) == 4 and len(short(answer[3])) <= 6:
-        label = "EXAM %s = %s" % (words[2], short(answer[3]))
+    labels = [" ".join([first] + words[2:]), first]
+    if first == "EXAM":
+        labels = exam_labels(answer)
     elif first == "STATE":
         state = state_of(answer)
         names = sixbit(state["user"]) + " " + sixbit(state["job"])
         lane = story.named(slot, names, state["superior"], state["console"])
-        label = "STATE %s at %s" % (state["run"], pc_of(state["pc"]))
+        labels = ["STATE %s at %s" % (state["run"], pc_of(state["pc"])), "STATE"]
     elif first == "PEEK":
-        peek = peek_of(answer)
-        label = "PEEK " + peek.state + ("" if peek.state == "USER" else ", %o" % peek.left)
-    story.mark(lane, "look" if first == "PEEK" else "disturb", label, tip)
+        labels = peek_labels(answer)
+    story.mark(lane, "look" if first == "PEEK" else "disturb", *labels, tip=tip)
 
 
 def tell_other_line(story: Story, exchange: Exchange, tip: str) -> None:
     """A line on a console, the clock or files, which disturbs no job."""
     words, answer = exchange.line.words, exchange.words
-    label = " ".join(words)
+    brief = " ".join(words[:2])
+    labels = [" ".join(words), words[0]]
     if words[0] == "TYPE":
-        label = "TYPE %s %s" % (words[1], typed(words[2:]))
+        labels = ["%s %s" % (brief, typed(words[2:])), brief]
         if answer[2] != "0":
-            label = "%s lost of %s" % (answer[2], label)
+            labels = ["%s lost of %s" % (answer[2], one) for one in labels]
     elif words[0] == "DRAIN":
-        label = "DRAIN %s %s" % (words[1], typed(answer[2:]))
+        labels = ["%s %s" % (brief, typed(answer[2:])), brief]
     elif words[0] == "DIR":
-        label = "DIR %s: %s" % (words[1], answer[2])
-    story.mark(None, "other", label, tip)
+        labels = ["%s: %s" % (brief, answer[2]), "DIR"]
+    story.mark(None, "other", *labels, tip=tip)
 
 
 def tell_refusal(story: Story, exchange: Exchange) -> None:
@@ -162,7 +192,7 @@ def tell_refusal(story: Story, exchange: Exchange) -> None:
         lane = story.current.get(number(line.words[1]))
         if reason == "NOJOB":
             story.gone(number(line.words[1]))
-    story.mark(lane, "refused", "refused: " + reason, "%s -> %s" % (line.text or "the input ends", reason))
+    story.mark(lane, "refused", "refused: " + reason, reason, tip="%s -> %s" % (line.text or "the input ends", reason))
 
 
 def tell_one(story: Story, exchange: Exchange) -> None:
@@ -175,7 +205,7 @@ def tell_one(story: Story, exchange: Exchange) -> None:
     elif line.kind == "LOAD":
         tell_load(story, exchange, tip)
     elif line.kind == "GO" and story.loading:
-        story.loading.label += ", GO " + line.words[1]
+        story.loading.labels[0] += ", GO " + line.words[1]
     elif line.kind == "TICK":
         tell_ticks(story, exchange)
     elif line.kind in JOB_LINES:
@@ -184,9 +214,9 @@ def tell_one(story: Story, exchange: Exchange) -> None:
         tell_other_line(story, exchange, tip)
 
 
-def tell(name: str, told: List[Exchange]) -> Story:
-    """The story of a session, from its lines with their answers."""
-    story = Story()
+def tell(name: str, told: List[Exchange], first: int = 1, last: int = 1 << 30) -> Story:
+    """The story of a session, from its lines with their answers; or of its lines from the first to the last."""
+    story = Story(first, last)
     for exchange in told:
         try:
             tell_one(story, exchange)
@@ -195,6 +225,6 @@ def tell(name: str, told: List[Exchange]) -> Story:
     return story
 
 
-def story_of(name: str, session: str, transcript: Transcript) -> Story:
+def story_of(name: str, session: str, transcript: Transcript, first: int = 1, last: int = 1 << 30) -> Story:
     """The story of a session (its text) and its transcript."""
-    return tell(name, exchanges(name, lines_of(session), transcript))
+    return tell(name, exchanges(name, lines_of(session), transcript), first, last)
