@@ -5,6 +5,7 @@ import html
 import json
 import os
 import re
+from dataclasses import dataclass
 from typing import Dict, List, Optional, Tuple
 
 from .calls import Call
@@ -94,37 +95,49 @@ def moments_data(moments: List[Moment], looks: List[Look], drawn: Picture) -> Li
     return data
 
 
-def record(name: str, session: str, watch: List[Tuple[int, int]]) -> Tuple[dict, Picture, Story]:
-    """Runs a session in all the ways that its page needs. What was recorded, and the timeline."""
+@dataclass
+class Recording:
+    """What the runs of a session show."""
+    told: List[Exchange]         # its lines with their answers
+    moments: List[Moment]
+    looks: List[Look]            # for each moment
+    whole: bool                  # whether all words of the jobs' pages were looked at
+
+
+def run_session(name: str, session: str, watch: List[Tuple[int, int]]) -> Recording:
+    """Runs a session as it is, cut into single ticks, and up to each of its moments."""
     outcome = run_all([session.encode("latin-1")])[0]
     if outcome.problem:
         raise Wrong("%s: %s" % (name, outcome.problem))
     told = exchanges(name, lines_of(session), Transcript("its transcript", outcome.transcript))
     moments = moments_of(told)
+    if all(moment.refused or moment.line == 0 for moment in moments):
+        last = told[-1]
+        why = "line %d is refused as %s" % (last.line.number, last.reason) if last.reason else "it has no lines"
+        raise Wrong("%s: there is nothing to show: %s" % (name, why))
     if len(moments) > MOST:
         raise Wrong("%s: a page has at most %d moments, and this session has %d" % (name, MOST, len(moments)))
     Cut(name, told, moments).run()
     looks = Looks(name, told, moments, watch)
-    found = looks.run()
-    title = os.path.basename(name)
-    story = tell(name, told)
-    drawn = picture(story, title, Shape(legend=False, brief=True))
-    data = {"name": title, "lines": split(session), "answers": answers_of(told), "moments": moments_data(moments, found, drawn),
+    return Recording(told, moments, looks.run(), looks.whole)
+
+
+def record_of(name: str, session: str, recording: Recording, drawn: Picture, watch: List[Tuple[int, int]]) -> str:
+    """The record of a page, as JSON with a line for each moment."""
+    answers = {str(exchange.line.number): exchange.answer for exchange in recording.told if exchange.answer}
+    says = {"states": STATES, "letters": {letter: LETTERS[letter][2] for letter in LETTERS}, "calls": CALLS,
+            "pending": names_of(PENDING), "flags": names_of(FLAGS)}
+    head = {"name": name, "lines": split(session), "answers": answers, "whole": recording.whole, "says": says,
             "rows": [[round(top, 1), round(bottom, 1)] for top, bottom in drawn.rows],
-            "watch": ["%o" % address for start, count in watch for address in range(start, start + count)],
-            "whole": looks.whole, "says": {"states": STATES, "letters": {letter: LETTERS[letter][2] for letter in LETTERS},
-                                           "calls": CALLS, "pending": names_of(PENDING), "flags": names_of(FLAGS)}}
-    return data, drawn, story
+            "watch": ["%o" % address for start, count in watch for address in range(start, start + count)]}
+    moments = moments_data(recording.moments, recording.looks, drawn)
+    lines = ",\n".join(json.dumps(moment, separators=(",", ":")) for moment in moments)
+    return json.dumps(head, separators=(",", ":"))[:-1] + ',"moments":[\n' + lines + "\n]}"
 
 
 def names_of(table: dict) -> List[List[str]]:
     """Bits with their names."""
     return [["%o" % bit, name if isinstance(name, str) else name[0]] for bit, name in table.items()]
-
-
-def answers_of(told: List[Exchange]) -> Dict[str, List[str]]:
-    """The lines of the transcript that answer each line of the session, by its number in decimal."""
-    return {str(exchange.line.number): exchange.answer for exchange in told if exchange.answer}
 
 
 def legend(story: Story) -> str:
@@ -149,11 +162,11 @@ def part(name: str) -> str:
 
 def page(name: str, session: str, watch: List[Tuple[int, int]]) -> str:
     """The page of a session. Of each job the words from `watch` (address, number) are shown where somebody looks."""
-    data, drawn, story = record(name, session, watch)
-    moments = ",\n".join(json.dumps(moment, separators=(",", ":")) for moment in data.pop("moments"))
-    recorded = json.dumps(data, separators=(",", ":"))[:-1] + ',"moments":[\n' + moments + "\n]}"
-    parts = {"<!-- name -->": html.escape(data["name"]), "/* style */": part("player.css"), "<!-- picture -->": drawn.svg,
-             "<!-- legend -->": legend(story), "<!-- recorded -->": recorded.replace("<", "\\u003c"),
-             "/* script */": part("player.js")}
+    recording, title = run_session(name, session, watch), os.path.basename(name)
+    story = tell(name, recording.told)
+    drawn = picture(story, title, Shape(legend=False, brief=True))
+    parts = {"<!-- name -->": html.escape(title), "/* style */": part("player.css"), "<!-- picture -->": drawn.svg,
+             "<!-- legend -->": legend(story), "/* script */": part("player.js"),
+             "<!-- recorded -->": record_of(title, session, recording, drawn, watch).replace("<", "\\u003c")}
     marks = "|".join(map(re.escape, parts))
     return re.sub(marks, lambda mark: parts[mark.group()].rstrip("\n"), part("player.html"))

@@ -494,6 +494,7 @@ function show() {
   document.getElementById("where").textContent = sentence(moment);
   for (const card of cards.values()) card.whole.hidden = true;
   for (const slot of Object.keys(known.peek)) showJob(slot, moment);
+  document.getElementById("none").hidden = Object.keys(known.peek).length > 0;
   showConsoles();
   showLine(moment);
   showCursor(moment);
