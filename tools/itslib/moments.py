@@ -220,10 +220,11 @@ class Looks:
     """Looks at all moments, one after the other, and keeps what changes from one to the next."""
 
     def __init__(self, name: str, told: List[Exchange], moments: List[Moment], watch: List[Tuple[int, int]]):
-        self.name, self.moments, self.watch = name, moments, watch
+        self.name, self.moments = name, moments
         self.answers = {exchange.line.number: exchange.words for exchange in told}
         self.consoles = consoles_of(told)
         self.image = image_of(told)                         # line of a GO -> the groups that its LOAD block stores to
+        self.named = named_in(told, watch)                  # the groups that are looked at where not all are
         self.pages: Dict[int, List[int]] = {}               # slot -> its pages
         self.states: Dict[int, List[str]] = {}
         self.lines: Dict[int, Dict[int, List[str]]] = {}    # slot -> group -> its words as EXAM shows them
@@ -286,10 +287,7 @@ class Looks:
         if self.whole:
             own = [group for page in pages for group in range(page * PAGE // GROUP, (page + 1) * PAGE // GROUP)]
         else:
-            wanted = {group for groups in self.image.values() for group in groups}
-            for start, count in self.watch:
-                wanted |= set(range(start // GROUP, (start + count - 1) // GROUP + 1))
-            own = [group for group in sorted(wanted) if group * GROUP // PAGE in pages]
+            own = [group for group in self.named if group * GROUP // PAGE in pages]
         return list(range(first)) + [group for group in own if group >= first]
 
     def word(self, slot: int, address: int) -> Optional[int]:
@@ -372,6 +370,18 @@ def image_of(told: List[Exchange]) -> Dict[int, List[int]]:
         elif line.kind == "GO" and not exchange.reason:
             image[line.number] = sorted(groups)
     return image
+
+
+def named_in(told: List[Exchange], watch: List[Tuple[int, int]]) -> List[int]:
+    """The groups of words that a session names in its `a/`, EXAM and DEPOSIT lines, and those that are to be watched."""
+    named = list(watch)
+    for exchange in told:
+        words = exchange.line.words
+        if exchange.line.kind == "a/" and not exchange.reason:
+            named.append((number(words[0][:-1]), len(words) - 1))
+        elif exchange.line.kind in ("EXAM", "DEPOSIT") and not exchange.reason:
+            named.append((number(words[2]), number(words[3]) if exchange.line.kind == "EXAM" else 1))
+    return sorted({address // GROUP for start, count in named for address in range(start, start + count)})
 
 
 def pages_of(groups: List[int]) -> List[int]:

@@ -105,7 +105,7 @@ function sixbit(word) {
 function ascii(word) {
   const codes = [0, 1, 2, 3, 4].map(at => bits(word, 7 * at, 7 * at + 6));
   while (codes.length && codes[codes.length - 1] === 0) codes.pop();
-  const isText = bits(word, 35, 35) === 0 && codes.length && codes.every(code => code >= 32 && code < 127);
+  const isText = bits(word, 35, 35) === 0 && codes.length && codes.every(code => code >= 32 && code < 127) && codes[codes.length - 1] !== 32;
   return isText ? '"' + String.fromCharCode(...codes) + '"' : "";
 }
 
@@ -118,6 +118,7 @@ function character(word) {
 function bytePointer(word) {
   const place = bits(word, 0, 5), size = bits(word, 6, 11), address = octal(bits(word, 18, 35)), each = ", " + octal(size) + " bits each";
   if (size === 0 || size > 36 || bits(word, 13, 17) || place > 36) return "";
+  if (size === 36 && place % 36 === 0) return (place ? "before word " : "at word ") + address;
   if (place === 36) return "before the first byte of " + address + each;
   if ((36 - place) % size) return "in " + address + ", " + octal(place) + " bits behind it" + each;
   return "at byte " + octal((36 - place) / size) + " of " + address + each;
@@ -535,7 +536,7 @@ function pressed(event) {
 
 document.getElementById("recorded-words").textContent = record.whole ?
   "All words of the jobs' pages were recorded at each moment, so any address can be typed." :
-  "The jobs have too many words to record all. Those that the session loads were recorded, and those that --look named.";
+  "The jobs have too many words to record all. Those that lines of the session name were recorded, and those that --look names.";
 listLines();
 document.getElementById("slider").max = moments.length - 1;
 document.getElementById("slider").addEventListener("input", event => go(Number(event.target.value)));
