@@ -294,7 +294,7 @@ function rowOf(slot, role, address, raw, looks) {
   const stale = raw !== "-" && word !== undefined && value(raw) !== value(word);
   const head = element("th", "", role + " ", element("span", "place", "word " + address));
   head.scope = "row";
-  if (role === "watched" && !record.watch.includes(address)) head.append(dropButton(address));
+  if (role === "watched" && !record.watch.includes(address)) head.append(dropButton(slot, address));
   const row = element("tr", "", head);
   row.dataset.address = address;
   const bare = raw === "-" ? null : octal(value(raw));
@@ -304,11 +304,15 @@ function rowOf(slot, role, address, raw, looks) {
   return row;
 }
 
-function dropButton(address) {
+function dropButton(slot, address) {
   const button = element("button", "drop", "drop");
   button.type = "button";
   button.setAttribute("aria-label", "Show word " + address + " no more");
-  button.addEventListener("click", () => { watched.splice(watched.indexOf(address), 1); show(); });
+  button.addEventListener("click", () => {
+    watched.splice(watched.indexOf(address), 1);
+    show();
+    cardOf(slot).field.focus();
+  });
   return button;
 }
 
@@ -527,7 +531,7 @@ function recall() {
 const KEYS = {ArrowRight: "tick", ArrowLeft: "tick-back", ArrowDown: "line", ArrowUp: "line-back", Home: "first", End: "last"};
 
 function pressed(event) {
-  if (event.ctrlKey || event.altKey || event.metaKey || event.target.closest("input, #lines, #picture")) return;
+  if (event.ctrlKey || event.altKey || event.metaKey || event.target.closest("input")) return;
   const step = event.shiftKey ? {ArrowRight: "star", ArrowLeft: "star-back"}[event.key] : KEYS[event.key];
   if (!step) return;
   event.preventDefault();
