@@ -256,7 +256,7 @@ class Looks:
         return peek is not None and peek.call == as_sixbit("CORBLK")
 
     def find_page(self, at: int) -> None:
-        """Finds out, by copies that end there, which jobs have the page that a CORBLK names; any page, where it cannot be read."""
+        """Finds out, by copies that end there, which jobs have the page that a CORBLK names; where it cannot be read, each page."""
         moment = self.moments[at]
         call = self.calls.get(moment.slot)
         page = call.value("page", lambda address: self.word(moment.slot, address)) if call else None

@@ -147,8 +147,8 @@ def legend(story: Story) -> str:
         LETTERS[letter][0], LETTERS[letter][1], " white" if letter == "*" else "", letter) for letter in LETTERS]
     texts = [LETTERS[letter][2] for letter in LETTERS] + [KINDS[kind] for kind in KINDS if kind in used]
     items += [symbol(kind, 12, 14) for kind in KINDS if kind in used]
-    return "\n".join('<li><svg class="sign" width="24" height="18" aria-hidden="true">%s</svg> %s</li>' % (item, html.escape(words))
-                     for item, words in zip(items, texts))
+    sign = '<li><svg class="sign" width="24" height="18" aria-hidden="true">%s</svg> %s</li>'
+    return "\n".join(sign % (item, html.escape(words)) for item, words in zip(items, texts))
 
 
 def part(name: str) -> str:

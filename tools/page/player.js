@@ -78,7 +78,8 @@ function framed(peek) {
   return {state, call, left, a, b, held};
 }
 
-const REGISTERS = ["user", "job", "superior", "console", "run", "pc", "pending1", "pending2", "mask1", "mask2", "defer1", "defer2"];
+const REGISTERS = ["user", "job", "superior", "console", "run", "pc", "pending1", "pending2", "mask1", "mask2", "defer1",
+                   "defer2"];
 
 // The registers that STATE shows.
 function registers(state) {
@@ -105,8 +106,8 @@ function sixbit(word) {
 function ascii(word) {
   const codes = [0, 1, 2, 3, 4].map(at => bits(word, 7 * at, 7 * at + 6));
   while (codes.length && codes[codes.length - 1] === 0) codes.pop();
-  const isText = bits(word, 35, 35) === 0 && codes.length && codes.every(code => code >= 32 && code < 127) && codes[codes.length - 1] !== 32;
-  return isText ? '"' + String.fromCharCode(...codes) + '"' : "";
+  const printed = codes.length && codes.every(code => code >= 32 && code < 127) && codes[codes.length - 1] !== 32;
+  return printed && bits(word, 35, 35) === 0 ? '"' + String.fromCharCode(...codes) + '"' : "";
 }
 
 function character(word) {
@@ -116,7 +117,8 @@ function character(word) {
 
 // A byte pointer: before the first byte of a word, at one of its bytes, or somewhere else in it.
 function bytePointer(word) {
-  const place = bits(word, 0, 5), size = bits(word, 6, 11), address = octal(bits(word, 18, 35)), each = ", " + octal(size) + " bits each";
+  const place = bits(word, 0, 5), size = bits(word, 6, 11), address = octal(bits(word, 18, 35));
+  const each = ", " + octal(size) + " bits each";
   if (size === 0 || size > 36 || bits(word, 13, 17) || place > 36) return "";
   if (size === 36 && place % 36 === 0) return (place ? "before word " : "at word ") + address;
   if (place === 36) return "before the first byte of " + address + each;
@@ -130,18 +132,22 @@ function texts(word) {
   return [text && text + " in ASCII", isName && name + " in SIXBIT"].filter(Boolean).join(", ");
 }
 
+function negated(word) { return octal(2 ** 36 - value(word)); }
+
 // What a word means to its call.
 function meaning(role, word) {
   if (role === "pointer") return bytePointer(word);
   if (role === "count") return word === "0" ? "none to go" : word + " to go";
-  if (role === "time") return bits(word, 0, 0) ? "minus the time of waking, " + octal(2 ** 36 - value(word)) : word + " thirtieths of a second";
+  if (role === "time") return bits(word, 0, 0) ? "minus the time of waking, " + negated(word) : word + " thirtieths of a second";
   if (/^(device|variable|directory|name \d|new name \d)$/.test(role)) return sixbit(word) && sixbit(word) + " in SIXBIT";
   if (role === "byte" || role === "its word") return character(word) || texts(word);
   return texts(word);
 }
 
+// The names of the bits that are on; without `user`, which is on in each PC word.
 function names(table, word) {
-  return table.filter(([bit]) => Math.floor(value(word) / value(bit)) % 2).map(([, name]) => name).filter(name => name !== "user").join(", ");
+  const on = table.filter(([bit, name]) => Math.floor(value(word) / value(bit)) % 2 && name !== "user");
+  return on.map(([, name]) => name).join(", ");
 }
 
 function callName(word) { return record.says.calls[word] || sixbit(word); }
@@ -162,8 +168,8 @@ function element(tag, kind, ...parts) {
 
 // A word of 12 digits, its halves a little apart.
 function wordElement(word, kind) {
-  const digits = word.padStart(12, "0");
-  return element("span", "word" + (kind ? " " + kind : ""), element("span", "", digits.slice(0, 6)), element("span", "", digits.slice(6)));
+  const digits = word.padStart(12, "0"), halves = [digits.slice(0, 6), digits.slice(6)];
+  return element("span", ("word " + (kind || "")).trim(), ...halves.map(half => element("span", "", half)));
 }
 
 function tag(words) { return element("span", "tag " + words, words); }
@@ -188,9 +194,9 @@ const RAW = "Raw, as PEEK shows it", FOUND = "Found by somebody who looks";
 function cardOf(slot) {
   if (cards.has(slot)) return cards.get(slot);
   const card = {
-    title: element("h3"), frame: element("div", "frame"), head: element("tr"), body: element("tbody"), verdict: element("p", "verdict"),
-    registers: element("p", "registers"), button: element("button", "look", "Look here"), ask: element("form", "ask"),
-    field: element("input"), said: element("output")};
+    title: element("h3"), button: element("button", "look", "Look here"), frame: element("div", "frame"),
+    verdict: element("p", "verdict"), head: element("tr"), body: element("tbody"), registers: element("p", "registers"),
+    ask: element("form", "ask"), field: element("input"), said: element("output")};
   card.table = element("table", "", element("thead", "", card.head), card.body);
   card.button.type = "button";
   card.button.addEventListener("click", () => { toggle(looking, slot); show(); });
@@ -236,9 +242,8 @@ function showJob(slot, moment) {
   const looks = looking.has(slot);
   card.whole.hidden = false;
   card.whole.classList.toggle("ticked", moment.slot === slot);
-  const notes = [state.superior !== "-" && "inferior of slot " + state.superior, state.console !== "-" && "console " + state.console,
-                 state.run === "STOP" && "stopped"].filter(Boolean).join(", ");
-  card.title.replaceChildren("Slot " + slot + "  " + sixbit(state.user) + " " + sixbit(state.job) + " ", element("span", "note", notes));
+  const title = "Slot " + slot + "  " + sixbit(state.user) + " " + sixbit(state.job) + " ";
+  card.title.replaceChildren(title, element("span", "note", notesOf(state)));
   card.button.setAttribute("aria-pressed", looks);
   showFrame(card, peek, call);
   const rows = rowsOf(slot, peek, state, call, moment, looks);
@@ -250,21 +255,29 @@ function showJob(slot, moment) {
   card.ask.hidden = !looks;
 }
 
+function notesOf(state) {
+  const notes = [];
+  if (state.superior !== "-") notes.push("inferior of slot " + state.superior);
+  if (state.console !== "-") notes.push("console " + state.console);
+  if (state.run === "STOP") notes.push("stopped");
+  return notes.join(", ");
+}
+
 // Where the job stands in its call, in words.
 function showFrame(card, peek, call) {
-  const inside = peek.state !== "USER", parts = [element("span", inside ? "where-in" : "where-in user", peek.state)];
-  if (inside) {
-    const name = peek.call === "-" ? "a call" : callName(peek.call);
-    const immediate = call ? call.arguments.filter(argument => argument.length === 3).map(([role, , word]) => role + " " + word) : [];
-    parts.push(element("strong", "", name + (call ? " at " + call.at : "")));
-    if (peek.call !== "-" && immediate.length) parts.push(element("span", "note", immediate.join(", ")));
-    const boxes = element("span", "steps", "■".repeat(value(peek.left)));
-    boxes.setAttribute("aria-hidden", "true");
-    parts.push(element("span", "", plural(peek.left, "step") + " from user mode ", boxes), element("span", "note", record.says.states[peek.state]));
-  } else {
-    parts.push(record.says.states.USER);
+  if (peek.state === "USER") {
+    card.frame.replaceChildren(element("span", "where-in user", peek.state), record.says.states.USER);
+    return;
   }
-  card.frame.replaceChildren(...parts);
+  const name = (peek.call === "-" ? "a call" : callName(peek.call)) + (call ? " at " + call.at : "");
+  const immediate = call && peek.call !== "-" ? call.arguments.filter(argument => argument.length === 3) : [];
+  const boxes = element("span", "steps", "■".repeat(value(peek.left)));
+  boxes.setAttribute("aria-hidden", "true");
+  card.frame.replaceChildren(
+    element("span", "where-in", peek.state), element("strong", "", name),
+    element("span", "note", immediate.map(([role, , word]) => role + " " + word).join(", ")),
+    element("span", "", plural(peek.left, "step") + " from user mode ", boxes),
+    element("span", "note", record.says.states[peek.state]));
 }
 
 // The rows of a job's table.
@@ -358,11 +371,17 @@ function stateText(state) {
 // Consoles, the session and the picture
 // ---------------------------------------------------------------------------------------------------------------------
 
+function bytesText(bytes) {
+  if (bytes.length === 0) return "nothing";
+  return bytes.map(byte => character(byte) || "<" + byte + ">").join(" ") + "  (" + bytes.join(" ") + ")";
+}
+
 function showConsoles() {
-  const line = bytes => bytes.length ? bytes.map(byte => character(byte) || "<" + byte + ">").join(" ") + "  (" + bytes.join(" ") + ")" : "nothing";
   const shown = Object.keys(known.queue).sort().map(console => {
-    const [input, output] = known.queue[console], list = element("dl", "console", element("h3", "", "Console " + console));
-    list.append(element("dt", "", "typed, waits"), element("dd", "", line(input)), element("dt", "", "put out, waits"), element("dd", "", line(output)));
+    const list = element("dl", "console", element("h3", "", "Console " + console));
+    known.queue[console].forEach((bytes, out) => {
+      list.append(element("dt", "", out ? "put out, waits" : "typed, waits"), element("dd", "", bytesText(bytes)));
+    });
     list.dataset.console = console;
     return list;
   });
@@ -371,24 +390,25 @@ function showConsoles() {
 
 const lineElements = [];
 
-// The lines of the session with their answers; a click on one goes to its end.
+// The lines of the session with their answers.
 function listLines() {
-  const list = document.getElementById("lines");
   const count = Math.max(record.lines.length, ...Object.keys(record.answers).map(Number));
   for (let number = 1; number <= count; number += 1) {
-    const text = record.lines[number - 1], answers = record.answers[number] || [];
-    const source = element("span", /^\s*(;|$)/.test(text || "") ? "source comment" : "source", text === undefined ? "(the input ends)" : text);
-    const item = element("li", "", element("span", "number", octal(number)), source);
-    item.dataset.line = number;
-    for (const answer of answers) item.append(element("span", "answer", answer));
-    if (answers.some(answer => answer.startsWith("?"))) item.classList.add("refused");
-    item.addEventListener("click", () => {
-      const last = moments.findLastIndex(moment => moment.line <= number);
-      go(last);
-    });
-    lineElements[number] = item;
-    list.append(item);
+    lineElements[number] = lineElement(number, record.lines[number - 1], record.answers[number] || []);
   }
+  document.getElementById("lines").append(...lineElements.slice(1));
+}
+
+// A line of the session. A click on it goes to its end.
+function lineElement(number, text, answers) {
+  const isComment = text !== undefined && /^ *(;|$)/.test(text);
+  const source = element("span", isComment ? "source comment" : "source", text === undefined ? "(the input ends)" : text);
+  const item = element("li", "", element("span", "number", octal(number)), source);
+  item.append(...answers.map(one => element("span", "answer", one)));
+  item.dataset.line = number;
+  item.classList.toggle("refused", answers.some(one => one.startsWith("?")));
+  item.addEventListener("click", () => go(moments.findLastIndex(moment => moment.line <= number)));
+  return item;
 }
 
 let lineShown = null;
@@ -428,7 +448,8 @@ function showCursor(moment) {
   cursor.hidden = !moment.place;
   if (!moment.place) { box.scrollTop = box.scrollLeft = 0; return; }
   const [row, x, width, top] = moment.place, [rowTop, rowBottom] = record.rows[row], wide = Math.max(width, 4);
-  Object.assign(cursor.style, {left: x - (wide - width) / 2 - 2 + "px", top: top - TITLE - 3 + "px", width: wide + 4 + "px", height: BAR + 6 + "px"});
+  const place = {left: x - (wide - width) / 2 - 2, top: top - TITLE - 3, width: wide + 4, height: BAR + 6};
+  for (const [name, pixels] of Object.entries(place)) cursor.style[name] = pixels + "px";
   scrollInto(box, rowTop - TITLE, rowBottom - TITLE + 24, 0);
   scrollInto(box, top - TITLE, top - TITLE + BAR, 20);
   if (x - 60 < box.scrollLeft) box.scrollLeft = x - 160;
@@ -437,7 +458,8 @@ function showCursor(moment) {
 
 // Goes to the moment whose place in the picture is next to a click.
 function goToPlace(event) {
-  const sheet = event.currentTarget.getBoundingClientRect(), x = event.clientX - sheet.left, y = event.clientY - sheet.top + TITLE;
+  const sheet = event.currentTarget.getBoundingClientRect();
+  const x = event.clientX - sheet.left, y = event.clientY - sheet.top + TITLE;
   const row = record.rows.findIndex(([, bottom]) => y <= bottom + 20);
   const far = moment => Math.abs(x - moment.place[1] - moment.place[2] / 2) + Math.abs(y - moment.place[3] - BAR / 2) / 100;
   const near = moments.filter(moment => moment.place && moment.place[0] === row);
@@ -454,17 +476,17 @@ function whereabouts(slot) {
   if (!known.peek[slot]) return " No job is in slot " + slot + ".";
   const peek = framed(known.peek[slot]);
   if (peek.state === "USER") return " Slot " + slot + " is in user mode.";
-  return " Slot " + slot + ": " + peek.state + (peek.call === "-" ? "" : " in " + callName(peek.call)) + ", " + plural(peek.left, "step") + " from user mode.";
+  const call = peek.call === "-" ? "" : " in " + callName(peek.call);
+  return " Slot " + slot + ": " + peek.state + call + ", " + plural(peek.left, "step") + " from user mode.";
 }
 
 // The moment in a sentence.
 function sentence(moment) {
-  const after = "after tick " + octal(moment.tick) + " of " + octal(ticks), now = moment.slot === undefined ? "" : whereabouts(moment.slot);
   if (moment.line === 0) return "Before the first line. " + plural(octal(ticks), "tick") + " to come.";
-  const letter = "“" + moment.letter + "”, " + record.says.letters[moment.letter];
-  if (moment.letter) return "Tick " + octal(moment.tick) + " of " + octal(ticks) + " is " + letter + "." + now;
-  const line = record.lines[moment.line - 1];
-  return "Line " + octal(moment.line) + ", " + (line === undefined ? "the end of the input" : line.trim()) + ", " + after + "." + now;
+  const now = moment.slot === undefined ? "" : whereabouts(moment.slot), of = octal(moment.tick) + " of " + octal(ticks);
+  if (moment.letter) return "Tick " + of + " is “" + moment.letter + "”, " + record.says.letters[moment.letter] + "." + now;
+  const line = record.lines[moment.line - 1], text = line === undefined ? "the end of the input" : line.trim();
+  return "Line " + octal(moment.line) + ", " + text + ", after tick " + of + "." + now;
 }
 
 // The moment to which a step leads.
@@ -515,12 +537,15 @@ function show() {
 // The address of the page says where the reader is, so that it can be sent to others.
 function remember() {
   const words = watched.filter(address => !record.watch.includes(address));
-  const hash = "#moment=" + at.moment + (looking.size ? "&look=" + [...looking].join(",") : "") + (words.length ? "&words=" + words.join(",") : "");
-  try { history.replaceState(null, "", hash); } catch (refused) { /* some browsers keep the address of a file */ }
+  const parts = ["moment=" + at.moment];
+  if (looking.size) parts.push("look=" + [...looking].join(","));
+  if (words.length) parts.push("words=" + words.join(","));
+  try { history.replaceState(null, "", "#" + parts.join("&")); } catch (refused) { /* some browsers keep the address of a file */ }
 }
 
 function recall() {
-  const said = new URLSearchParams(location.hash.slice(1)), list = name => (said.get(name) || "").split(",").filter(word => /^[0-7]+$/.test(word));
+  const said = new URLSearchParams(location.hash.slice(1));
+  const list = name => (said.get(name) || "").split(",").filter(word => /^[0-7]{1,6}$/.test(word));
   if (!said.has("moment")) return;
   looking.clear();
   list("look").forEach(slot => looking.add(slot));
@@ -546,7 +571,9 @@ document.getElementById("slider").max = moments.length - 1;
 document.getElementById("slider").addEventListener("input", event => go(Number(event.target.value)));
 document.querySelector(".sheet").addEventListener("click", goToPlace);
 document.addEventListener("keydown", pressed);
-for (const button of document.querySelectorAll("[data-step]")) button.addEventListener("click", () => go(next(button.dataset.step)));
+for (const button of document.querySelectorAll("[data-step]")) {
+  button.addEventListener("click", () => go(next(button.dataset.step)));
+}
 window.addEventListener("hashchange", () => { recall(); show(); });
 recall();
 show();
