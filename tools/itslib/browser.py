@@ -87,6 +87,7 @@ class Browser:
                                         stdin=subprocess.DEVNULL, stdout=subprocess.DEVNULL, stderr=subprocess.DEVNULL)
         self.events: List[dict] = []
         self.asked = 0
+        self.width = 0
         self.socket = Socket(self.address())
         for domain in ("Page", "Runtime", "Network"):
             self.ask(domain + ".enable")
@@ -130,6 +131,7 @@ class Browser:
 
     def shape(self, width: int, height: int, dark: bool = False) -> None:
         """How large the window is, and whether its reader wants it dark."""
+        self.width = width
         self.ask("Emulation.setDeviceMetricsOverride", width=width, height=height, deviceScaleFactor=1, mobile=width < 600)
         self.ask("Emulation.setEmulatedMedia", features=[{"name": "prefers-color-scheme", "value": "dark" if dark else "light"}])
 

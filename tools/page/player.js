@@ -176,8 +176,8 @@ function tag(words) { return element("span", "tag " + words, words); }
 
 function wordCell(word, kind, means) {
   const cell = element("td", "", wordElement(word, kind));
-  if (kind) cell.append(tag(kind));
-  if (means) cell.append(element("span", "means", means));
+  if (kind) cell.append(" ", tag(kind));
+  if (means) cell.append(" ", element("span", "means", means));
   return cell;
 }
 
@@ -199,7 +199,7 @@ function cardOf(slot) {
     ask: element("form", "ask"), field: element("input"), said: element("output")};
   card.table = element("table", "", element("thead", "", card.head), card.body);
   card.button.type = "button";
-  card.button.addEventListener("click", () => { toggle(looking, slot); show(); });
+  card.button.addEventListener("click", () => { toggle(looking, slot); update(); });
   fillForm(card, slot);
   card.verdict.setAttribute("aria-live", "polite");
   card.whole = element("article", "job", element("header", "", card.title, card.button), card.frame, card.verdict, card.table,
@@ -232,7 +232,7 @@ function fillForm(card, slot) {
     if (card.said.textContent) return;
     if (!watched.includes(octal(value(typed)))) watched.push(octal(value(typed)));
     card.field.value = "";
-    show();
+    update();
   });
 }
 
@@ -323,7 +323,7 @@ function dropButton(slot, address) {
   button.setAttribute("aria-label", "Show word " + address + " no more");
   button.addEventListener("click", () => {
     watched.splice(watched.indexOf(address), 1);
-    show();
+    update();
     cardOf(slot).field.focus();
   });
   return button;
@@ -335,7 +335,7 @@ function pcRow(peek, state, call) {
   const head = element("th", "", "PC");
   head.scope = "row";
   const found = element("td", "", element("span", "word", pc.padStart(6, "0")));
-  if (where) found.append(element("span", "means", where));
+  if (where) found.append(" ", element("span", "means", where));
   return element("tr", "", head, textCell(inside ? "inside the call" : "not shown"), found);
 }
 
@@ -511,7 +511,7 @@ function next(step) {
 
 function go(moment) {
   at.moment = Math.max(0, Math.min(moments.length - 1, moment));
-  show();
+  update();
 }
 
 // Shows the moment at which the reader is.
@@ -531,6 +531,11 @@ function show() {
   for (const button of document.querySelectorAll("[data-step]")) {
     button.setAttribute("aria-disabled", next(button.dataset.step) === at.moment);
   }
+}
+
+// Shows what the reader has changed, and remembers it.
+function update() {
+  show();
   remember();
 }
 
