@@ -131,7 +131,7 @@ class Cut:
         """The lines from the last moment to the one that is refused."""
         since = self.moments[-2].line
         return [exchange.line.text for exchange in self.told
-                if exchange.line.number > since and exchange.line.kind and not exchange.line.ended]
+                if exchange.line.number > since and (exchange.line.kind or exchange.reason) and not exchange.line.ended]
 
     def run(self) -> None:
         """Fills in what PEEK shows at each moment, and finds out which jobs stand there."""
@@ -178,9 +178,8 @@ class Cut:
 
     def compare(self, told: List[Exchange], whose: List[Tuple[int, int]]) -> None:
         """All lines but the PEEKs that were put in have to come out as in the session that is not cut."""
-        cut = [exchange for exchange, (_, slot) in zip(told, whose + [(-1, -1)]) if slot < 0 and exchange.line.kind]
-        if told[-1].line.ended:
-            cut.append(told[-1])
+        cut = [exchange for exchange, (_, slot) in zip(told, whose + [(-1, -1)])
+               if slot < 0 and (exchange.line.kind or exchange.reason)]
         if answers_of(cut) != answers_of(self.told):
             raise Wrong("%s: cut into single ticks with PEEKs, it does not come out the same" % self.name)
 
