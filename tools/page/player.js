@@ -486,7 +486,9 @@ function sentence(moment) {
   const now = moment.slot === undefined ? "" : whereabouts(moment.slot), of = octal(moment.tick) + " of " + octal(ticks);
   if (moment.letter) return "Tick " + of + " is “" + moment.letter + "”, " + record.says.letters[moment.letter] + "." + now;
   const line = record.lines[moment.line - 1], text = line === undefined ? "the end of the input" : line.trim();
-  return "Line " + octal(moment.line) + ", " + text + ", after tick " + of + "." + now;
+  const refused = (record.answers[moment.line] || []).find(answer => answer.startsWith("? "));
+  const what = refused ? "is refused as " + refused.split(" ")[2] + ", and the session is over" : "after tick " + of;
+  return "Line " + octal(moment.line) + ", " + text + ", " + what + "." + (refused ? "" : now);
 }
 
 // The moment to which a step leads.
