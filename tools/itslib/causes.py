@@ -3,7 +3,7 @@ looks for the cause in the text of the line and in the lines before it, and neve
 
 import difflib
 from dataclasses import dataclass
-from typing import List, Optional, Tuple
+from typing import List, Optional
 
 from .meaning import Known
 from .session import CLOSES, LINES, Exchange, Line

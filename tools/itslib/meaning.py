@@ -6,7 +6,7 @@ from typing import Callable, Dict, List, Set
 
 from .session import Exchange, peek_of, runs_of, state_of
 from .words import (CALLS, ERRORS, FATAL, LETTERS, PENDING, STATES, ascii_of, byte_pointer, call_name, character,
-                    flags_of, number, pc_of, pending, short, signed, sixbit, typed)
+                    flags_of, number, pc_of, pc_word, pending, short, signed, sixbit, typed)
 
 # Words that stand for themselves: devices, and the variables of USRVAR
 NAMES = {"TTY", "DSK", "USR", "UNAME", "JNAME", "UIND", "SUPPRO", "CNSL", "PAGES", "UPC", "USTP", "PIRQC", "IFPIR",
@@ -63,8 +63,8 @@ def reading(word: str) -> str:
     pointer = byte_pointer(word) if word[2:4] in ("07", "44") and word[4:6] == "00" else None
     if pointer:
         return "a byte pointer " + pointer
-    text = ascii_of(word)
-    return "text " + text if text else instruction(word)
+    text, pc = ascii_of(word), pc_word(word)
+    return "a PC word, " + pc if pc else instruction(word) or ("text " + text if text else "")
 
 
 def error_words(loaded: Dict[int, str]) -> Set[int]:

@@ -14,6 +14,7 @@ from .session import Wrong
 
 TOP = os.path.dirname(os.path.dirname(os.path.dirname(os.path.abspath(__file__))))
 AT_ONCE = 2               # so many runs stand side by side
+MANY = 20                 # more runs than these take minutes without the proved build
 SECONDS = 300             # a run of the proved program may take no longer
 
 # What the exit statuses of the program say (docs/SESSION.md)
@@ -54,7 +55,8 @@ def run_unproved(sessions: List[bytes]) -> List[Outcome]:
     """Runs sessions by one unproved build, which takes about a minute."""
     if not shutil.which("rt"):
         raise Wrong("there is no proved build of these sources, and rt, which would build them, is not found")
-    print("its: no proved build of these sources; building them unproved, about a minute ('rt ci' proves them)",
+    many = "; %d runs take their time" % len(sessions) if len(sessions) > MANY else ""
+    print("its: no proved build of these sources; building them unproved, about a minute%s ('rt ci' proves them)" % many,
           file=sys.stderr, flush=True)
     with tempfile.TemporaryDirectory() as folder:
         for at, session in enumerate(sessions):
@@ -66,13 +68,16 @@ def run_unproved(sessions: List[bytes]) -> List[Outcome]:
     said = done.stderr.decode("latin-1")
     how = {name: (result, status) for name, result, status in
            re.findall(r"^case=(\d+) run=(\S+)(?: status=(\d+))?", said, flags=re.M)}
-    if len(how) != len(sessions):
+    if not how:
         raise Wrong("the sources could not be built: " + (said.strip().split("\n")[-1] or "rt says nothing"))
-    return [unproved_outcome(written.get("%06d" % at, ""), *how["%06d" % at]) for at in range(len(sessions))]
+    names = ["%06d" % at for at in range(len(sessions))]
+    return [unproved_outcome(written.get(name, ""), *how.get(name, ("", ""))) for name in names]
 
 
 def unproved_outcome(written: str, result: str, status: str) -> Outcome:
     """The outcome of one case of an unproved build."""
+    if not result:
+        return Outcome(-1, "", "rt ended before this run; make fewer at a time, or the proved build ('rt ci')")
     if result != "ended":
         return Outcome(-1, "", "the unproved run was stopped (%s): it may take 60 seconds and write 1 MiB" % result)
     return ended(int(status), written.encode("latin-1"))

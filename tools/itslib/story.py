@@ -135,10 +135,11 @@ def tell_load(story: Story, exchange: Exchange, tip: str) -> None:
 
 
 def exam_labels(answer: List[str]) -> List[str]:
-    """EXAM: the addresses and the words, or the addresses alone."""
-    first, words = number(answer[2]), answer[3:]
+    """EXAM: the addresses and the words, as many whole words as there is room for; or the addresses alone."""
+    first, words = number(answer[2]), [short(word) for word in answer[3:]]
     place = "EXAM %o" % first + ("-%o" % (first + len(words) - 1) if len(words) > 1 else "")
-    return ["%s = %s" % (place, " ".join(short(word) for word in words)), place, "EXAM"]
+    some = ["%s = %s …" % (place, " ".join(words[:count])) for count in range(len(words) - 1, 0, -1)]
+    return ["%s = %s" % (place, " ".join(words))] + some + [place, "EXAM"]
 
 
 def peek_labels(answer: List[str]) -> List[str]:

@@ -82,7 +82,7 @@ def ascii_of(word: str) -> str:
     codes = [value >> (29 - 7 * i) & 0o177 for i in range(5)]
     while codes and codes[-1] == 0:
         codes.pop()
-    if value & 1 or not codes or any(not 32 <= c < 127 and c not in (9, 10, 13) for c in codes):
+    if value & 1 or not codes or codes[-1] == 32 or any(not 32 <= c < 127 and c not in (9, 10, 13) for c in codes):
         return ""
     return typed(["%o" % c for c in codes])
 
@@ -127,10 +127,20 @@ def byte_pointer(word: str) -> Optional[str]:
     """A byte pointer in words; None where the word is none that SIOT takes."""
     value = number(word)
     place, size, more, address = value >> 30, value >> 24 & 0o77, value >> 18 & 0o77, value & 0o777777
-    if not 0 < size <= 36 or more:
+    if not 0 < size <= 36 or more or place > 36:
         return None
+    if size == 36 and place in (0, 36):
+        return "%s the word at %o" % ("before" if place else "at", address)
     if place == 36:
         return "before the first byte of %o, bytes of %d bits" % (address, size)
-    if place > 36:
-        return None
+    if (36 - place) % size == 0:
+        return "at byte %d of %o, bytes of %d bits" % ((36 - place) // size, address, size)
     return "at the byte of %o with %d bits to its right, bytes of %d bits" % (address, place, size)
+
+
+def pc_word(word: str) -> str:
+    """A PC word in words, where the word is one: the flag `user` is on, and nothing but flags stands at its left."""
+    left = number(word[:6])
+    if not left & 0o010000 or left & ~sum(FLAGS):
+        return ""
+    return ", ".join(["PC " + pc_of(word)] + flags_of(word))
