@@ -310,6 +310,7 @@ function rowOf(slot, role, address, raw, looks) {
   if (role === "watched" && !record.watch.includes(address)) head.append(dropButton(slot, address));
   const row = element("tr", "", head);
   row.dataset.address = address;
+  row.dataset.role = role;
   const bare = raw === "-" ? null : octal(value(raw));
   row.append(bare === null ? textCell("not shown") : wordCell(raw, looks && stale ? "stale" : "", meaning(role, bare)));
   if (looks && word === undefined) row.append(textCell(found.why));
