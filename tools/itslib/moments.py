@@ -71,12 +71,13 @@ def moments_of(told: List[Exchange]) -> List[Moment]:
         block = block + [line.text]
         if line.kind == "LOAD":
             made = exchange.slot
+        if line.kind in INSIDE:
+            continue
         if line.kind == "TICK":
             moments += ticks_of(exchange, before)
-        elif line.kind not in INSIDE:
+        else:
             moments.append(Moment(line.number, before, block, exchange.slot if made is None else made, made=made))
-        if line.kind not in INSIDE:
-            before, block, made = before + block, [], None
+        before, block, made = before + block, [], None
     return moments
 
 
