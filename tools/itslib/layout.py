@@ -27,6 +27,7 @@ class Shape:
     widest: int = 16         # how wide a tick may be
     enlarged: float = 1      # how much larger all is drawn
     legend: bool = True      # what letters and marks mean stands below
+    brief: bool = False      # marks have their first word alone
 
 
 @dataclass
@@ -207,7 +208,7 @@ def laid_out(story: Story, shape: Shape) -> Layout:
     layouts, pieces = [], gathered(story.pieces)
     scales = [tick for tick in SCALES if tick <= shape.widest]
     fewest = len(rows_of(pieces, COMFORT, shape.span))
-    for longest in LABELS[1:]:
+    for longest in LABELS[2 if shape.brief else 1:]:
         for tick in scales:
             if longest == LABELS[1] and tick < NARROW:
                 continue
