@@ -1,0 +1,159 @@
+-- The operand of a typed word as the operand of an instruction.
+use Rattle.std.proofs.Common.{◌≡◌, ◌<◌, ◌≤◌, ◌+◌, ◌-◌, ◌*◌, ◌%◌, ◌/◌, ◌^◌, ◌==◌, ◌&&◌, ◌||◌, ℕ, zero, suc, Bool, true, false, not, nat_eq, nat_le, Option, Some, None, Result, Ok, List, [], ◌∷◌, ◌++◌, length, take, drop, slice_index, refl, sym, ap, ◌∙◌, arith, codes, inl, inr, append_assoc}
+use Rattle.std.specs.List.{list_all}
+use Rattle.std.proofs.lemmas.Bool.{cases_Bool, le-leb, and_from, eqb-true}
+use Rattle.std.proofs.lemmas.Bool.Decides.{nat_tests}
+use Rattle.std.proofs.lemmas.List.{append-nil}
+use Rattle.std.proofs.lemmas.List.Folds.{list_all-append}
+use Rattle.its_word.specs.Text.{digits_of, is_code}
+use Rattle.its_word.specs.Word.{pair_of}
+use Rattle.its_asm.specs.declared.reason.AsmReason.{AsmReason}
+use Rattle.its_asm.specs.declared.instruction.Item.{Item}
+use Rattle.its_asm.specs.Text.{closed, cut, is_mark}
+use Rattle.its_asm.specs.Expression.{Scope, expression, register}
+use Rattle.its_asm.specs.Instruction.{address, alone, indexed, instruction, place, whole}
+use Rattle.its_asm.specs.TypeOut.{typed_ac, typed_index, typed_indirect}
+use Rattle.its_asm.proofs.NumberLaws.{IsNumber, all_imp, closed_last, cut_marked, cut_unmarked, digits_number, expression_number, first_digit, register_number, unmarked}
+
+-- the bytes of an address: digits, `@` and parentheses; with the comma, those of an operand
+abbrev pub is_inner : ℕ → Bool
+is_inner b = is_code 48 55 b || (is_code 40 41 b || nat_eq b 64)
+
+abbrev pub is_operand : ℕ → Bool
+is_operand b = is_inner b || nat_eq b 44
+
+bracket_free : (b : ℕ) → is_code 48 55 b ≡ true → unmarked (codes "(") b ≡ true
+bracket_free b h = grind (arith, nat_tests)
+
+comma_free : (b : ℕ) → is_inner b ≡ true → unmarked (codes ",[") b ≡ true
+comma_free b h = grind (arith, nat_tests)
+
+digit_comma_free : (b : ℕ) → is_code 48 55 b ≡ true → unmarked (codes ",[") b ≡ true
+digit_comma_free b h = grind (arith, nat_tests)
+
+lone_comma_free : (b : ℕ) → is_code 48 55 b ≡ true → unmarked (codes ",") b ≡ true
+lone_comma_free b h = grind (arith, nat_tests)
+
+digit_inner : (b : ℕ) → is_code 48 55 b ≡ true → is_inner b ≡ true
+digit_inner b h = grind (arith, nat_tests)
+
+inner_operand : (b : ℕ) → is_inner b ≡ true → is_operand b ≡ true
+inner_operand b h = grind (arith, nat_tests)
+
+place_number : (s : Scope) (n : ℕ) (t : List ℕ) → n < 2 ^ 18 → IsNumber n t → place s t ≡ Ok (alone n)
+place_number s n [] h k = let some = k.some in absurd (omega arith)
+place_number s n (d ∷ ds) h k =
+    let digit = first_digit d ds k.digits in
+    let bracket : (d == 91) ≡ false = grind (arith, nat_tests) in
+    let one : expression s (d ∷ ds) ≡ Ok n = expression_number s n (d ∷ ds) h k in
+    rw (bracket, one) refl
+
+-- an address behind its `@`
+indexed_number : (s : Scope) (i y x : ℕ) → y < 2 ^ 18 → x < 16 → indexed s i (digits_of y ++ typed_index x) ≡ Ok (alone (i * 2 ^ 22 + x * 2 ^ 18 + y))
+indexed_number s i y x hy hx =
+    let ny = digits_number y hy in
+    let nx = digits_number x (omega arith) in
+    let py : place s (digits_of y) ≡ Ok (alone y) = place_number s y (digits_of y) hy ny in
+    let free = all_imp (is_code 48 55) (unmarked (codes "(")) bracket_free (digits_of y) ny.digits in
+    elim (cases_Bool (x == 0)) [
+      | inl hit ↦
+          (let none : x ≡ 0 = eqb-true x 0 hit in
+          let one : cut (codes "(") (digits_of y) ≡ None = cut_unmarked (codes "(") (digits_of y) free in
+          let nil : digits_of y ++ [] ≡ digits_of y = append-nil (digits_of y) in
+          rw (none) (rw (nil, one, py) refl))
+      | inr miss ↦
+          (let two : cut (codes "(") (digits_of y ++ 40 ∷ (digits_of x ++ 41 ∷ [])) ≡ Some (digits_of y, 40, digits_of x ++ 41 ∷ []) = cut_marked (codes "(") (digits_of y) 40 (digits_of x ++ 41 ∷ []) free refl in
+          let last : closed 41 (digits_of x ++ 41 ∷ []) ≡ Some (digits_of x) = closed_last (digits_of x) 41 in
+          let rx : register s (digits_of x) ≡ Ok x = register_number s x (digits_of x) (omega arith) nx in
+          rw (miss, two, py, last, rx) refl)
+    ]
+
+-- the first byte of a number is no `@`
+no_at : (n : ℕ) (t u : List ℕ) → IsNumber n t → (slice_index (t ++ u) 0 == 64) ≡ false
+no_at n [] u k = let some = k.some in absurd (omega arith)
+no_at n (d ∷ ds) u k =
+    let digit = first_digit d ds k.digits in
+    grind (arith, nat_tests)
+
+pub address_number : (s : Scope) (i y x : ℕ) → i < 2 → y < 2 ^ 18 → x < 16 → address s (typed_indirect i ++ (digits_of y ++ typed_index x)) ≡ Ok (alone (i * 2 ^ 22 + x * 2 ^ 18 + y))
+unfolding address
+address_number s zero y x hi hy hx = rw (no_at y (digits_of y) (typed_index x) (digits_number y hy)) (indexed_number s 0 y x hy hx)
+address_number s (suc zero) y x hi hy hx = indexed_number s 1 y x hy hx
+address_number s (suc (suc i)) y x hi hy hx = absurd (omega arith)
+
+-- the bytes of an address and of an operand
+all_append : (p : ℕ → Bool) (xs ys : List ℕ) → list_all p xs ≡ true → list_all p ys ≡ true → list_all p (xs ++ ys) ≡ true
+all_append p xs ys h k = rw (list_all-append p xs ys) (and_from (list_all p xs) (list_all p ys) h k)
+
+inner_digits : (n : ℕ) → n < 2 ^ 18 → list_all is_inner (digits_of n) ≡ true
+inner_digits n h = all_imp (is_code 48 55) is_inner digit_inner (digits_of n) ((digits_number n h).digits)
+
+inner_index : (x : ℕ) → x < 16 → list_all is_inner (typed_index x) ≡ true
+inner_index x h =
+    elim (cases_Bool (x == 0)) [
+      | inl hit ↦ rw hit refl
+      | inr miss ↦ (let more : list_all is_inner (digits_of x ++ 41 ∷ []) ≡ true = all_append is_inner (digits_of x) (41 ∷ []) (inner_digits x (omega arith)) refl in rw miss more)
+    ]
+
+inner_indirect : (i : ℕ) → list_all is_inner (typed_indirect i) ≡ true
+inner_indirect i =
+    elim (cases_Bool (i == 0)) [
+      | inl hit ↦ rw hit refl
+      | inr miss ↦ rw miss refl
+    ]
+
+inner_address : (i y x : ℕ) → y < 2 ^ 18 → x < 16 → list_all is_inner (typed_indirect i ++ (digits_of y ++ typed_index x)) ≡ true
+inner_address i y x hy hx =
+    all_append is_inner (typed_indirect i) (digits_of y ++ typed_index x) (inner_indirect i)
+    (all_append is_inner (digits_of y) (typed_index x) (inner_digits y hy) (inner_index x hx))
+
+-- the operand of an instruction
+pub instruction_number : (s : Scope) (op a i y x : ℕ) → a < 16 → i < 2 → y < 2 ^ 18 → x < 16
+    → instruction s op (typed_ac a ++ (typed_indirect i ++ (digits_of y ++ typed_index x))) ≡ Ok (alone (op * 2 ^ 27 + a * 2 ^ 23 + (i * 2 ^ 22 + x * 2 ^ 18 + y)))
+unfolding instruction
+instruction_number s op a i y x ha hi hy hx =
+    let rest = typed_indirect i ++ (digits_of y ++ typed_index x) in
+    let found : address s rest ≡ Ok (alone (i * 2 ^ 22 + x * 2 ^ 18 + y)) = address_number s i y x hi hy hx in
+    elim (cases_Bool (a == 0)) [
+      | inl hit ↦
+          (let none : a ≡ 0 = eqb-true a 0 hit in
+          let free = all_imp is_inner (unmarked (codes ",[")) comma_free rest (inner_address i y x hy hx) in
+          let one : cut (codes ",[") rest ≡ None = cut_unmarked (codes ",[") rest free in
+          rw none (rw (one, found) refl))
+      | inr miss ↦
+          (let na = digits_number a (omega arith) in
+          let free = all_imp (is_code 48 55) (unmarked (codes ",[")) digit_comma_free (digits_of a) na.digits in
+          let two : cut (codes ",[") (digits_of a ++ 44 ∷ rest) ≡ Some (digits_of a, 44, rest) = cut_marked (codes ",[") (digits_of a) 44 rest free refl in
+          let ra : register s (digits_of a) ≡ Ok a = register_number s a (digits_of a) (omega arith) na in
+          let grouped : (digits_of a ++ codes ",") ++ rest ≡ digits_of a ++ 44 ∷ rest = append_assoc (digits_of a) (codes ",") rest in
+          rw (miss, grouped, two, ra, found) refl)
+    ]
+
+pub operand_bytes : (a i y x : ℕ) → a < 16 → y < 2 ^ 18 → x < 16 → list_all is_operand (typed_ac a ++ (typed_indirect i ++ (digits_of y ++ typed_index x))) ≡ true
+operand_bytes a i y x ha hy hx =
+    let inner = all_imp is_inner is_operand inner_operand (typed_indirect i ++ (digits_of y ++ typed_index x)) (inner_address i y x hy hx) in
+    elim (cases_Bool (a == 0)) [
+      | inl hit ↦ rw hit inner
+      | inr miss ↦
+          (let digits = all_imp is_inner is_operand inner_operand (digits_of a) (inner_digits a (omega arith)) in
+          let ac : list_all is_operand (digits_of a ++ codes ",") ≡ true = all_append is_operand (digits_of a) (codes ",") digits refl in
+          rw miss (all_append is_operand (digits_of a ++ codes ",") (typed_indirect i ++ (digits_of y ++ typed_index x)) ac inner))
+    ]
+
+-- two halves
+pub whole_number : (s : Scope) (l r : ℕ) → l < 2 ^ 18 → r < 2 ^ 18 → whole s (digits_of l ++ (codes ",," ++ digits_of r)) ≡ Ok (pair_of l r)
+unfolding whole
+whole_number s l r hl hr =
+    let nl = digits_number l hl in
+    let nr = digits_number r hr in
+    let free = all_imp (is_code 48 55) (unmarked (codes ",")) lone_comma_free (digits_of l) nl.digits in
+    let two : cut (codes ",") (digits_of l ++ 44 ∷ (44 ∷ digits_of r)) ≡ Some (digits_of l, 44, 44 ∷ digits_of r) = cut_marked (codes ",") (digits_of l) 44 (44 ∷ digits_of r) free refl in
+    let el : expression s (digits_of l) ≡ Ok l = expression_number s l (digits_of l) hl nl in
+    let er : expression s (digits_of r) ≡ Ok r = expression_number s r (digits_of r) hr nr in
+    rw (two, el, er) refl
+
+pub halves_bytes : (l r : ℕ) → l < 2 ^ 18 → r < 2 ^ 18 → list_all is_operand (digits_of l ++ (codes ",," ++ digits_of r)) ≡ true
+halves_bytes l r hl hr =
+    let dl = all_imp is_inner is_operand inner_operand (digits_of l) (inner_digits l hl) in
+    let dr = all_imp is_inner is_operand inner_operand (digits_of r) (inner_digits r hr) in
+    all_append is_operand (digits_of l) (44 ∷ (44 ∷ digits_of r)) dl dr

@@ -1,0 +1,63 @@
+-- Texts cut at marks, the words of a line, and symbols (docs/ASM.md). Characters are their ASCII codes.
+use Rattle.std.specs.Prelude.{if◌then◌else◌, ℕ, ◌-◌, Bool, true, false, not, ◌&&◌, ◌||◌, ◌==◌, Option, Some, None, List, [], ◌∷◌, length, filter, take, slice_index, nat_eq, nat_le, codes}
+use Rattle.std.specs.List.{list_all, list_any, slice_split}
+use Rattle.its_word.specs.Text.{is_code, is_octal, is_text, sixbit_of}
+
+abbrev pub is_mark : List ℕ → ℕ → Bool
+is_mark marks b = list_any (λ m. nat_eq m b) marks
+
+-- a byte that is a mark or not, before the rest of a text and what that is cut into
+abbrev pub cut_at : Bool → ℕ → List ℕ → Option (List ℕ × ℕ × List ℕ) → Option (List ℕ × ℕ × List ℕ)
+cut_at true b rest parts = Some ([], b, rest)
+cut_at false b rest None = None
+cut_at false b rest (Some p) = Some (b ∷ p.0, p.1, p.2)
+
+-- a text cut at its first mark: what stands before it, that mark, and what stands behind it
+abbrev pub cut : List ℕ → List ℕ → Option (List ℕ × ℕ × List ℕ)
+cut marks [] = None
+cut marks (b ∷ rest) = cut_at (is_mark marks b) b rest (cut marks rest)
+
+-- the runs of a text between its marks
+abbrev pub pieces : List ℕ → List ℕ → List (List ℕ)
+pieces marks text = slice_split (is_mark marks) text
+
+-- a text without its last byte, where that is this one
+abbrev pub closed : ℕ → List ℕ → Option (List ℕ)
+closed mark text = if slice_index text (length text - 1) == mark then Some (take (length text - 1) text) else None
+
+-- a text up to its first mark
+abbrev pub before : List ℕ → Option (List ℕ × ℕ × List ℕ) → List ℕ
+before text None = text
+before text (Some p) = p.0
+
+abbrev pub up_to : List ℕ → List ℕ → List ℕ
+up_to marks text = before text (cut marks text)
+
+-- a line's words are the runs of bytes other than space before its comment
+unfoldable pub words_of : List ℕ → List (List ℕ)
+words_of line = filter (λ run. not (length run == 0)) (pieces (codes " ") (up_to (codes ";") line))
+
+-- all bytes of a line are from 40 to 176, in its comment too
+abbrev pub is_printable : List ℕ → Bool
+is_printable line = list_all (is_code 32 126) line
+
+-- a letter, a digit or `.`
+abbrev pub is_symbol_byte : ℕ → Bool
+is_symbol_byte b = is_code 65 90 b || is_code 48 57 b || b == 46
+
+-- a symbol has 1 to 6 bytes: a letter, then letters, digits or `.`
+unfoldable pub is_symbol : List ℕ → Bool
+is_symbol [] = false
+is_symbol (b ∷ rest) = is_code 65 90 b && nat_le (length rest) 5 && list_all is_symbol_byte rest
+
+-- a symbol's name as a word of SIXBIT
+abbrev pub symbol_of : List ℕ → Option ℕ
+symbol_of text = if is_symbol text then Some (sixbit_of text) else None
+
+-- the symbol of a label, which is directly followed by `:`
+abbrev pub label_by : Option (List ℕ) → Option ℕ
+label_by None = None
+label_by (Some name) = symbol_of name
+
+abbrev pub label_of : List ℕ → Option ℕ
+label_of word = label_by (closed 58 word)
