@@ -9,13 +9,14 @@ use Rattle.its_print.specs.Printing.{Line}
 use Rattle.its_jobs.specs.Table.{job_at}
 use Rattle.its_plain.specs.Machine.{Whole, Machine, with_job}
 use Rattle.its_plain.specs.Operator.{Block, Does}
-use Rattle.its_plain.specs.CallOperator.{Done, lined}
+use Rattle.its_plain.specs.CallOperator.{clock_end, Done, lined}
 use Rattle.its_stepped.specs.State.{State, plain, seen}
 use Rattle.its_stepped.specs.Sound.{Sound}
 use Rattle.its_stepped.specs.Forest.{Forest}
 use Rattle.its_stepped.specs.Unwind.{unwound}
 use Rattle.its_stepped.specs.Tick.{helped_if}
 use Rattle.its_stepped.specs.Lines.{looks_at_files, calmed, with_raw, state_after, after_line, lifted_line}
+use Rattle.its_stepped.proofs.ClockLaws.{line_timed}
 use Rattle.its_stepped.proofs.UnwindLaws.{unwound_plain, unwound_sound}
 use Rattle.its_stepped.proofs.LineLaws.{line_plain}
 use Rattle.its_stepped.proofs.AfterLaws.{after_sound}
@@ -62,6 +63,7 @@ alike_kept old new kept same sound tidy = record {
   tidy = tidy;
   addressed = λ k. subst (λ (m : Machine). IfSome (m.jobs k) (λ q. q.job.pc < 2 ^ 18)) (sym same) (kept.addressed k);
   consoled = λ k. subst (λ (m : Machine). IfSome (m.jobs k) (λ q. IfSome q.job.console (λ c. c < 8))) (sym same) (kept.consoled k);
+  timed = subst (λ (m : Machine). m.clock < clock_end) (sym same) kept.timed;
 }
 
 pub unwound_kept : (old new : World) (s : ℕ) → Kept old → state_of new ≡ unwound (state_of old) s → Tidy new → Kept new
@@ -88,6 +90,9 @@ made_plain w new b e sound h =
 
 pub made_forest : (w new : State) (b : Block) (e : Event) → Sound w → Forest (plain w) → Made w new b e → Forest (plain new)
 made_forest w new b e sound d h = line_forest (plain w) (plain new) b h.block e h.out h.touched d (made_plain w new b e sound h)
+
+pub made_timed : (w new : State) (b : Block) (e : Event) → Sound w → (plain w).clock < clock_end → Made w new b e → (plain new).clock < clock_end
+made_timed w new b e sound below h = line_timed (plain w) (plain new) b h.block e h.out h.touched below (made_plain w new b e sound h)
 
 -- what a line keeps of each job: its PC is an address, and its console is one of eight
 pub record Lasts (m : Machine) : Type 0 where

@@ -9,6 +9,7 @@ use Rattle.its_word.specs.declared.session.Refusal.TheVariants as refusals
 use Rattle.its_word.specs.declared.jobs.Job.{Job}
 use Rattle.its_files.specs.Files.{helped}
 use Rattle.its_jobs.specs.Table.{job_at}
+use Rattle.its_plain.specs.CallOperator.{clock_end}
 use Rattle.its_plain.specs.Machine.{Machine}
 use Rattle.its_stepped.specs.State.{State, plain}
 use Rattle.its_stepped.specs.Sound.{Sound}
@@ -21,13 +22,14 @@ use Rattle.its_world.specs.declared.world.World.{World}
 
 -- the state is sound, and the jobs of its plain machine are a forest; files and drafts have the channels that they say, and
 -- the core of an empty slot is that of no job; the PC of each job of the plain machine is an address, and its console is one
--- of eight
+-- of eight; and the clock is below its end
 pub record Kept (w : World) : Type 0 where
   pub sound : Sound (state_of w)
   pub forest : Forest (plain (state_of w))
   pub tidy : Tidy w
   pub addressed : (k : ℕ) → IfSome ((plain (state_of w)).jobs k) (λ q. q.job.pc < 2 ^ 18)
   pub consoled : (k : ℕ) → IfSome ((plain (state_of w)).jobs k) (λ q. IfSome q.job.console (λ c. c < 8))
+  pub timed : (plain (state_of w)).clock < clock_end
 
 -- state v after a line that comes to a raw machine: its frames, reserved pages and mark stay
 pub record Lands (v new : State) (r : Result Machine Reason) : Type 0 where

@@ -117,7 +117,7 @@ made_consoled : (m : Machine) (j s u n : ℕ) → Consoled m → Consoled (recor
 made_consoled m j s u n a = record { each = λ k. either_housed (k == s) (Some (inferior j (m.jobs j) u n)) (m.jobs k) (inferior_housed j (m.jobs j) u n (a.each j)) (a.each k) }
 
 -- a variable that is set
-variable_console : (v : Variable) (w : ℕ) (j : Job) → (with_variable v w j).console ≡ j.console
+pub variable_console : (v : Variable) (w : ℕ) (j : Job) → (with_variable v w j).console ≡ j.console
 unfolding with_variable
 variable_console Upc w j = refl
 variable_console Ustp w j = refl
@@ -165,7 +165,7 @@ abbrev StepConsoled : Option Machine → Type 0
 StepConsoled (Some n) = Consoled n
 StepConsoled None = Unit {0}
 
-held_console : (a : Ask) (h : Option Held) (q : Whole) → (with_held a h q).job.console ≡ q.job.console
+pub held_console : (a : Ask) (h : Option Held) (q : Whole) → (with_held a h q).job.console ≡ q.job.console
 held_console a None q = refl
 held_console a (Some b) q = refl
 
@@ -181,7 +181,7 @@ ask_consoled m j q (Ok a) h = acted_consoled m j a (decision m j q a) h
 ask_consoled m j q (Err f) h = job_consoled m j _ (λ i. refl) h
 
 -- a unit
-unit_console : (c : Core) (j : Job) (d : Core) (k : Job) → unit c j ≡ Changed d k → k.console ≡ j.console
+pub unit_console : (c : Core) (j : Job) (d : Core) (k : Job) → unit c j ≡ Changed d k → k.console ≡ j.console
 unit_console c j d k e = (unit_keeps c j d k e).registers.console
 
 unit_consoled : (m : Machine) (j : ℕ) (q : Whole) (o : Outcome) → unit q.core q.job ≡ o → Housed q.job.console → Consoled m → StepConsoled (by_unit m j q o)
@@ -212,7 +212,7 @@ table_console : (c : Core) (j : Job) (o : Option ℕ) → (by_table c j o).job.c
 table_console c j (Some w) = length_console c j (right_of w) (entries_of w)
 table_console c j None = refl
 
-delivered_console : (c : Core) (j : Job) → (delivered c j).job.console ≡ j.console
+pub delivered_console : (c : Core) (j : Job) → (delivered c j).job.console ≡ j.console
 unfolding delivered through_table
 delivered_console c j = elim (cases_Bool (unguarded j == 0)) [ inl t ↦ rw t (table_console c j (word_at c 0o42)) | inr t ↦ rw t refl ]
 
