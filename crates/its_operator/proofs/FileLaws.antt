@@ -57,6 +57,7 @@ module _ (old new : World) (whole : IsStore old.files) (kept : Kept old) (files 
       ∙ ap (λ t. record (state_of old) { raw = record (state_of old).raw { files = directory t }; mark = mark_of t }) files
       ∙ sym (help_step old.files whole (state_of old) (marks_are old) (files_are old)) in
       record {
+        alone = record { core = core; jobs = jobs; frames = frames; consoles = consoles; holders = holders; clock = clock; files = files };
         files = files;
         state = state;
         kept = alike_kept old new kept (ap plain state ∙ help_plain (state_of old)) (subst Sound (sym state) (help_sound (state_of old) kept.sound)) (store_tidy old new stays core jobs kept.tidy);
