@@ -1,9 +1,9 @@
 //! What a call asks for.
-ghost use Rattle.std.specs.Prelude.{◌≡◌, ◌==◌, ◌<◌, ◌≤◌, ◌+◌, ◌*◌, ◌%◌, ◌^◌, ◌++◌, length, map, not, slice_index, drop};
+ghost use Rattle.std.specs.Prelude.{◌≡◌, ◌==◌, ◌<◌, ◌≤◌, ◌+◌, ◌*◌, ◌%◌, ◌^◌, ◌++◌, length, map, not, slice_index, drop, Ok, Err, IfErr};
 ghost use Rattle.std.specs.List.{list_any, range_with_len};
 ghost use Rattle.its_core.specs.Cores.{core_at};
 ghost use Rattle.its_word.specs.Limits.{slots};
-ghost use Rattle.its_plain.specs.Decode.{ask_of, block_places, error_by, exceeds, fetch_of, fetched, has_bit_0, iot_ask, name_of, parse_of, row_named, words_of};
+ghost use Rattle.its_plain.specs.Decode.{ask, ask_of, block_places, error_by, exceeds, fetch_of, fetched, has_bit_0, iot_ask, name_of, parse_of, row_named, words_of};
 ghost use Rattle.its_plain.specs.Footprint.{SiteFits};
 
 use super::arguments::find_arguments;
@@ -153,12 +153,13 @@ fn iot_ask(site: &Site, channel: u8) -> Ask
     }
 }
 
-/// The first part of a call's decoding: its block is read. `.IOT` has none.
-#[tactic(auto, unfolding(its_plain::specs::Decode::parse_of))]
+/// The first part of a call's decoding: its block is read. `.IOT` has none. A fault of it is that of the decoding.
+#[tactic(auto, unfolding(its_plain::specs::Decode::parse_of), using(its_local::proofs::TwoLaws::ask_unparsed))]
 pub fn parse_site(core: &Core, slot: u8, site: &Site) -> Result<Block, Fault>
     requires slot { slot < slots }
     requires address { site.now.e < 2 ^ 18 }
-    ensures { result ≡ parse_of (core_at core.now slot) site.now }
+    ensures block { result ≡ parse_of (core_at core.now slot) site.now }
+    ensures fault { IfErr result (λ f. ask (core_at core.now slot) site.now ≡ Err f) }
 {
     match site.channel {
         Some(_) => Ok(ArrayVec::new()),
@@ -166,13 +167,15 @@ pub fn parse_site(core: &Core, slot: u8, site: &Site) -> Result<Block, Fault>
     }
 }
 
-/// The second part: the arguments of a call whose block is read are found, and their values are taken.
+/// The second part: the arguments of a call whose block is read are found, and their values are taken. Of the block that
+/// the first part has read this is the whole decoding.
 #[tactic(auto, unfolding(its_plain::specs::Decode::fetch_of))]
 pub fn fetch_site(core: &Core, slot: u8, site: &Site, block: &Block) -> Result<Ask, Fault>
     requires slot { slot < slots }
     requires fits { SiteFits site.now }
     requires words { site.now.channel ≡ None → 2 ≤ length block.now.items }
-    ensures { result ≡ fetch_of (core_at core.now slot) site.now block.now }
+    ensures fetched { result ≡ fetch_of (core_at core.now slot) site.now block.now }
+    ensures asks { parse_of (core_at core.now slot) site.now ≡ Ok block.now → result ≡ ask (core_at core.now slot) site.now }
 {
     match site.channel {
         Some(channel) => Ok(iot_ask(site, channel)),

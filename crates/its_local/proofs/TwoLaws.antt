@@ -6,6 +6,7 @@ use Rattle.its_word.specs.ArrayVec.{ArrayVec}
 use Rattle.its_word.specs.Core.{Core}
 use Rattle.its_word.specs.declared.access.Fault.{Fault}
 use Rattle.its_word.specs.declared.calls.Arg.{Arg}
+use Rattle.its_word.specs.declared.calls.Ask.{Ask}
 use Rattle.its_word.specs.declared.calls.Site.{Site}
 use Rattle.its_plain.specs.Ask.{items_of as block_of, parse, fetch}
 use Rattle.its_plain.specs.UnitPlan.{given}
@@ -179,6 +180,13 @@ parse_least c s b h n = parsed_least c s.e b (sym (ap (parse_by c s) n) ∙ h)
 -- what follows the first part, where it is done
 pub ask_after_parse : (c : Core) (s : Site) (b : ArrayVec ℕ) → parse_of c s ≡ Ok b → ask c s ≡ fetch_of c s b
 ask_after_parse c s b h = ask_in_parts c s ∙ ap (λ r. given r (λ b. fetch_of c s b)) h
+
+pub ask_fetched : (c : Core) (s : Site) (b : ArrayVec ℕ) (r : Result Ask Fault) → r ≡ fetch_of c s b → parse_of c s ≡ Ok b → r ≡ ask c s
+ask_fetched c s b r e h = e ∙ sym (ask_after_parse c s b h)
+
+-- and where it ends with a fault
+pub ask_unparsed : (c : Core) (s : Site) (r : Result (ArrayVec ℕ) Fault) (f : Fault) → r ≡ parse_of c s → r ≡ Err f → ask c s ≡ Err f
+ask_unparsed c s r f e h = ask_in_parts c s ∙ ap (λ r. given r (λ b. fetch_of c s b)) (sym e ∙ h)
 
 -- the same over the words of the block
 items_given : (c : Core) (s : Site) (r : Result (ArrayVec ℕ) Fault) → given r (λ b. fetch_of c s b) ≡ given (block_of r) (λ b. fetch_of c s (record { items = b }))

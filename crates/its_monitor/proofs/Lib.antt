@@ -9,3 +9,4 @@ pub mod SparedLaws
 pub mod BesideLaws
 pub mod OneByteLaws
 pub mod LoadLaws
+pub mod FramesLaws

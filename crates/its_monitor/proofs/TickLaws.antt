@@ -1,5 +1,5 @@
 -- The rows of a tick of a world, and what a tick keeps.
-use Rattle.std.specs.Prelude.{◌≡◌, ℕ, Bool, true, false, Option, Some, None, IfSome, is_some, refl}
+use Rattle.std.specs.Prelude.{◌≡◌, ◌<◌, ℕ, Bool, true, false, Option, Some, None, IfSome, is_some, refl}
 use Rattle.std.proofs.Common.{sym, ◌∙◌, ap, subst}
 use Rattle.its_word.specs.Core.{Core}
 use Rattle.its_word.specs.declared.calls.Pace.{Pace}
@@ -10,6 +10,7 @@ use Rattle.its_files.specs.Files.{Store}
 use Rattle.its_jobs.specs.Table.{job_at, superior_at}
 use Rattle.its_frame.specs.declared.frame.Frame.{Frame}
 use Rattle.its_world.specs.Tidy.{Tidy}
+use Rattle.its_plain.specs.CallOperator.{clock_end}
 use Rattle.its_plain.specs.Interrupt.{deliverable, delivered}
 use Rattle.its_plain.specs.Machine.{Whole, Machine}
 use Rattle.its_plain.specs.Unit.{unit}
@@ -22,6 +23,7 @@ use Rattle.its_stepped.specs.Sound.{Sound}
 use Rattle.its_stepped.specs.State.{State, plain}
 use Rattle.its_stepped.specs.Tick.{Ticked, delivered_on, unit_on, user_on, tick_in, tick_unless, tick_of, tick}
 use Rattle.its_stepped.proofs.AddressLaws.{step_addressed}
+use Rattle.its_stepped.proofs.ClockLaws.{step_clock}
 use Rattle.its_stepped.proofs.ConsoledLaws.{step_consoled}
 use Rattle.its_stepped.proofs.DecodingLaws.{decoding}
 use Rattle.its_stepped.proofs.FitLaws.{forest_steps}
@@ -114,12 +116,14 @@ pub record Lasts (m : Machine) : Type 0 where
   pub forest : Forest m
   pub addressed : Addressed m
   pub consoled : Consoled m
+  pub timed : m.clock < clock_end
 
 lasts : (m n : Machine) (s : ℕ) (p : Pace) → Lasts m → Licensed m s p n → Lasts n
 lasts m n s Step h l = record {
   forest = forest_steps m n s h.forest l;
   addressed = step_addressed m n s h.addressed l;
   consoled = step_consoled m n s h.consoled l;
+  timed = subst (λ (t : ℕ). t < clock_end) (sym (step_clock m n s l)) h.timed;
 }
 lasts m n s Work h (r, e) = subst Lasts (sym e) h
 lasts m n s Wait h (r, d, e) = subst Lasts (sym e) h
@@ -127,7 +131,7 @@ lasts m n s Off h (r, e) = subst Lasts (sym e) h
 
 pub tick_kept : (old new : World) (s : ℕ) (p : Pace) → Kept old → tick (state_of old) s ≡ ticked (state_of new) p → Tidy new → Kept new
 tick_kept old new s p kept e tidy =
-    let h : Lasts (plain (state_of old)) = record { forest = kept.forest; addressed = record { each = kept.addressed }; consoled = record { each = kept.consoled } } in
+    let h : Lasts (plain (state_of old)) = record { forest = kept.forest; addressed = record { each = kept.addressed }; consoled = record { each = kept.consoled }; timed = kept.timed } in
     let l = lasts (plain (state_of old)) (plain (state_of new)) s p h (tick_licensed old new s p kept e) in
     record {
       sound = subst (λ (t : Ticked). Sound t.state) e (tick_sound (state_of old) s kept.sound (given_of old s kept));
@@ -135,4 +139,5 @@ tick_kept old new s p kept e tidy =
       tidy = tidy;
       addressed = l.addressed.each;
       consoled = l.consoled.each;
+      timed = l.timed;
     }

@@ -6,6 +6,10 @@ use Rattle.its_jobs.specs.Table.{job_at}
 use Rattle.its_frame.specs.declared.decision.Decision.{Decision}
 use Rattle.its_frame.specs.declared.frame.Frame.{Frame}
 use Rattle.its_frame.specs.declared.frame.Holding.{Holding}
+use Rattle.its_core.specs.Cores.{Cores}
+use Rattle.its_pclsr.specs.Pages.{pages_carried, pages_unwound}
+use Rattle.its_monitor.specs.Pages.{pages_tried, pages_in}
+use Rattle.its_monitor.proofs.FramesLaws.{tried_pages}
 use Rattle.its_pclsr.specs.Carried.{standing_of, pace_of, Ready}
 use Rattle.its_pclsr.proofs.TriesLaws.{Cleared, Tries, prepared, cleared, tries, job_there, ready_there}
 use Rattle.its_plain.specs.CallStep.{decision}
@@ -92,6 +96,13 @@ Reaches old mid s = OnCall old s (λ f q. state_of mid ≡ all_unwound (reach (s
 abbrev pub Helps : World → World → ℕ → Type 0
 Helps mid new s = OnCall mid s (λ f q. state_of new ≡ helped_if (helps q f.ask) (state_of mid))
 
+-- the frames of pages then
+abbrev pub ReachPages : World → World → ℕ → Type 0
+ReachPages old mid s = OnCall old s (λ f q. mid.core.frames ≡ pages_unwound (reach (state_of old).raw s q f.ask) (state_of old) old.core.frames)
+
+pub ready_pages : (old mid new : World) (s : ℕ) → new.core ≡ mid.core → ReachPages old mid s → ReachPages old new s
+ready_pages old mid new s e h = subst (λ (k : Cores). OnCall old s (λ f q. k.frames ≡ pages_unwound (reach (state_of old).raw s q f.ask) (state_of old) old.core.frames)) (sym e) h
+
 -- both: what its commit finds
 abbrev pub Readies : World → World → ℕ → Type 0
 Readies old new s = OnCall old s (λ f q. state_of new ≡ prepared (state_of old) s q f.ask)
@@ -172,3 +183,18 @@ module _ (old mid : World) (s : ℕ) (kept : Kept old) (e : is_some (standing_of
       subst (λ (o : Option Holding). IfSome o (λ f. state_of new ≡ committed (state_of mid) s f.site f.ask f.owes d)) (ap standing_of (sym (frame_is mid s)) ∙ (found c).stands) carried in
       subst (λ (o : Option Whole). IfSome o (λ q. tick_in (state_of old) s q (frame_at old.frames.items s) ≡ ticked (state_of new) p)) (sym c.calls.raw ∙ raw_is old s)
       (ap (tick_in (state_of old) s c.job) (sym (frame_is old s)) ∙ t.row ∙ (λ i. record { state = sym made i; pace = sym pace i }))
+
+  pub trial_pages : (new : World) (d : Decision) → Decides mid s d → ReachPages old mid s → new.core.frames ≡ pages_carried d s (state_of mid) mid.core.frames
+      → IfSome (raw_at old.files old.core old.jobs s) (λ q. new.core.frames ≡ pages_in (state_of old) s q (frame_at old.frames.items s) old.core.frames)
+  trial_pages new d h reaches carried =
+      let c = caller old s kept.sound e in
+      let w : State = state_of old in
+      let g : mid.core.frames ≡ pages_unwound (reach w.raw s c.job c.call.ask) w old.core.frames =
+      of_call old s (λ f q. mid.core.frames ≡ pages_unwound (reach w.raw s q f.ask) w old.core.frames) c.call c.job c.calls reaches in
+      let is : d ≡ decision (state_of mid).raw s c.job c.call.ask = of_call mid s (λ f q. d ≡ decision (state_of mid).raw s q f.ask) c.call c.job (still c) h in
+      let made : new.core.frames ≡ pages_tried w s c.job c.call.ask old.core.frames =
+      carried ∙ (λ t. pages_carried (is t) s (state_of mid) (g t))
+      ∙ ap (λ (v : State). pages_carried (decision v.raw s c.job c.call.ask) s v (pages_unwound (reach w.raw s c.job c.call.ask) w old.core.frames)) (ready_is c) in
+      subst (λ (o : Option Whole). IfSome o (λ q. new.core.frames ≡ pages_in w s q (frame_at old.frames.items s) old.core.frames)) (sym c.calls.raw ∙ raw_is old s)
+      (made ∙ sym (ap (λ (o : Option Frame). pages_in w s c.job o old.core.frames) (sym (frame_is old s))
+      ∙ tried_pages w s c.job (w.frames s) c.call old.core.frames c.calls.stands (clear_call old s c.call c.job c.calls clear)))

@@ -65,13 +65,13 @@ superior_apart w s j kept none is =
     subst (λ (o : Option Frame). GivenBy (state_of w) s q o) (frame_is w s ∙ none) ((given decoding (state_of w) s kept.forest kept.sound).by q (raw_is w s j is))
 
 -- what holds of the raw job of a slot
-raw_fact : (P : Whole → Type 0) (w : World) (s : ℕ) (j : Job) → job_at w.jobs s ≡ Some j → P (raw_job w.files (core_at w.core s) j (superior_at w.jobs s)) → IfSome (raw_at w.files w.core w.jobs s) P
+pub raw_fact : (P : Whole → Type 0) (w : World) (s : ℕ) (j : Job) → job_at w.jobs s ≡ Some j → P (raw_job w.files (core_at w.core s) j (superior_at w.jobs s)) → IfSome (raw_at w.files w.core w.jobs s) P
 raw_fact P w s j is h = subst (λ (x : Option Whole). IfSome x P) (sym (raw_some w s j is)) h
 
 -- the core of a slot is written, and then its registers
 put_then : (old mid new : World) (s : ℕ) (c : Core) (j : Job) → CoreBecomes old mid s c → JobBecomes mid new s j
     → Becomes old new s c (Some j) (frame_at old.frames.items s) (clear_at old.core s)
-put_then old mid new s c j a b = then_becomes old mid new s c c (job_at old.jobs s) (Some j) (frame_at old.frames.items s) (frame_at old.frames.items s) (clear_at old.core s) (clear_at old.core s) a
+put_then old mid new s c j a b = then_becomes old mid new s c c (job_at old.jobs s) (Some j) (frame_at old.frames.items s) (frame_at old.frames.items s) (clear_at old.core s) a
     (subst (λ (x : Core). Becomes mid new s x (Some j) (frame_at old.frames.items s) (clear_at old.core s)) a.core.here
     (subst (λ (x : Option Frame). Becomes mid new s (core_at mid.core s) (Some j) x (clear_at old.core s)) a.frame.here
     (subst (λ (x : Option ℕ). Becomes mid new s (core_at mid.core s) (Some j) (frame_at mid.frames.items s) x) a.reserved.here b)))
@@ -98,19 +98,19 @@ put_same w s c i j size count had core job =
     ∙ (λ t. record w { core = core t; jobs = put_back w.jobs s j (had ∙ ap Some (sym job)) t })
 
 pub unit_in : (w : World) (s : ℕ) (c : Cores) (i j : Job) (size : vec_len w.frames ≡ 64) (count : vec_len w.consoles ≡ 8) (b : Bool) → job_at w.jobs s ≡ Some i
-    → ((k : ℕ) → k ≢ s → core_at c k ≡ core_at w.core k) → c.reserved ≡ w.core.reserved
+    → ((k : ℕ) → k ≢ s → core_at c k ≡ core_at w.core k) → c.reserved ≡ w.core.reserved → c.frames ≡ w.core.frames
     → left_by (unit (core_at w.core s) i) (core_at w.core s) i ≡ (if b then Some (record { core = core_at c s; job = j }) else None) → (b ≡ false → (c ≡ w.core) × (j ≡ i))
     → UnitIn w (record w { core = c; jobs = record w.jobs { jobs = slice_set w.jobs.jobs s (Some j) }; slots = size; consoles_count = count }) s (λ k. unit (core_at w.core s) k) b
-unit_in w s c i j size count true had others reserved left same = record {
+unit_in w s c i j size count true had others reserved pages left same = record {
   job = i;
   left = record { core = core_at c s; job = j };
   had = had;
   is = left;
   becomes = put_then w (record w { core = c }) _ s (core_at c s) j
-      (core_becomes w (record w { core = c }) s (core_at c s) (record { here = refl; others = others }) reserved refl refl refl refl refl refl)
+      (core_becomes w (record w { core = c }) s (core_at c s) (record { here = refl; others = others }) reserved pages refl refl refl refl refl refl)
       (job_becomes (record w { core = c }) _ s j (job_put w.jobs s i j had) refl refl refl refl refl refl refl);
 }
-unit_in w s c i j size count false had others reserved left same = record {
+unit_in w s c i j size count false had others reserved pages left same = record {
   same = let e = same refl in put_same w s c i j size count had e.0 e.1;
   called = subst (λ (o : Option Job). IfSome o (λ k. left_by (unit (core_at w.core s) k) (core_at w.core s) k ≡ None)) (sym had) left;
 }
@@ -229,7 +229,7 @@ core_same old mid s c b e =
     (all_same (clear_at old.core) (clear_at mid.core) s b.reserved)
     (ap mark_of b.files)
 
-stop_same : (old mid : World) (s : ℕ) (i : Job) → CoreBecomes old mid s (delivered (core_at old.core s) i).core → (delivered (core_at old.core s) i).stops ≡ true → state_of mid ≡ state_of old
+pub stop_same : (old mid : World) (s : ℕ) (i : Job) → CoreBecomes old mid s (delivered (core_at old.core s) i).core → (delivered (core_at old.core s) i).stops ≡ true → state_of mid ≡ state_of old
 stop_same old mid s i b stops = core_same old mid s (delivered (core_at old.core s) i).core b (delivered_stops (core_at old.core s) i stops)
 
 pub stop_sound : (old mid : World) (s : ℕ) (i : Job) → CoreBecomes old mid s (delivered (core_at old.core s) i).core → (delivered (core_at old.core s) i).stops ≡ true → Kept old → Sound (state_of mid)

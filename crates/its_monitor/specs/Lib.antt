@@ -1,3 +1,4 @@
 pub mod Ticks
 pub mod Beside
 pub mod Loading
+pub mod Pages

@@ -1,10 +1,12 @@
 //! Ticks of a job inside a call: its decoding in two steps, its preparation, its trials, and what it owes.
-ghost use Rattle.std.specs.Prelude.{◌≡◌, ◌≤◌, ◌<◌, ◌+◌, ◌^◌, Some, None, IfSome, is_some, true, length};
+ghost use Rattle.std.specs.Prelude.{if◌then◌else◌, ◌≡◌, ◌≤◌, ◌<◌, ◌+◌, ◌^◌, Some, None, IfSome, is_some, true, length};
 ghost use Rattle.its_word.specs.Limits.{slots};
 ghost use Rattle.its_core.specs.Cores.{clear_at};
 ghost use Rattle.its_jobs.specs.Table.{job_at};
 ghost use Rattle.its_world.specs.Tidy.{Tidy};
 ghost use Rattle.its_pclsr.specs.Carried.{standing_of};
+ghost use Rattle.its_pclsr.specs.Pages.{pages_unwound};
+ghost use Rattle.its_core.specs.Frames.{frames_reserve};
 ghost use Rattle.its_plain.specs.Ask.{fetch as fetched_by, parse as parsed_by};
 ghost use Rattle.its_plain.specs.CallStep.{decision, faulted};
 ghost use Rattle.its_plain.specs.Decide.{reach};
@@ -15,8 +17,9 @@ ghost use Rattle.its_stepped.specs.Duty.{IsTried};
 ghost use Rattle.its_stepped.specs.State.{holding, same, turn};
 ghost use Rattle.its_stepped.specs.Tick.{fetched_on, helped_if, helps, parsed_on, prepared_on, reserves, tick_in};
 ghost use Rattle.its_stepped.specs.Unwind.{all_unwound, help, unwind_one as unwind_one_of};
-ghost use Rattle.its_world.specs.World.{frame_at, raw_at, state_of, FrameBecomes, PageBecomes};
+ghost use Rattle.its_world.specs.World.{frame_at, frames_after, raw_at, state_of, FrameBecomes, PageBecomes};
 ghost use Rattle.its_operator.specs.Kept.{Kept};
+ghost use Rattle.its_monitor.specs.Pages.{pages_in};
 ghost use Rattle.its_monitor.specs.Ticks.{is_decoded, pace_of, page_held, ticked};
 
 use super::reach::unwind_reach;
@@ -38,6 +41,7 @@ pub fn in_call(w: &mut World, slot: u8) -> Pace
     requires kept { Kept w.old }
     requires frame { is_some (frame_at w.old.frames.items slot) ≡ true }
     ensures row { IfSome (raw_at w.old.files w.old.core w.old.jobs slot) (λ q. tick_in (state_of w.old) slot q (frame_at w.old.frames.items slot) ≡ ticked (state_of w.new) result) }
+    ensures pages { IfSome (raw_at w.old.files w.old.core w.old.jobs slot) (λ q. w.new.core.frames ≡ pages_in (state_of w.old) slot q (frame_at w.old.frames.items slot) w.old.core.frames) }
     ensures tidy { Tidy w.new }
 {
     match &w.frames[usize::from(slot)] {
@@ -60,6 +64,7 @@ fn pay(w: &mut World, slot: u8) -> Pace
     requires frame { is_some (frame_at w.old.frames.items slot) ≡ true }
     ensures row { state_of w.new ≡ unwind_one_of (state_of w.old) slot }
     ensures pace { result ≡ Pace.Work }
+    ensures pages { w.new.core.frames ≡ frames_after ((state_of w.old).reserved slot) ((unwind_one_of (state_of w.old) slot).reserved slot) slot w.old.core.frames }
     ensures tidy { Tidy w.new }
 {
     unwind_one(w, slot);
@@ -73,6 +78,7 @@ fn decode(w: &mut World, slot: u8) -> Pace
     requires kept { Kept w.old }
     requires frame { is_decoded (frame_at w.old.frames.items slot) ≡ true }
     ensures row { IfSome (raw_at w.old.files w.old.core w.old.jobs slot) (λ q. tick_in (state_of w.old) slot q (frame_at w.old.frames.items slot) ≡ ticked (state_of w.new) result) }
+    ensures pages { IfSome (raw_at w.old.files w.old.core w.old.jobs slot) (λ q. w.new.core.frames ≡ pages_in (state_of w.old) slot q (frame_at w.old.frames.items slot) w.old.core.frames) }
     ensures tidy { Tidy w.new }
 {
     match w.take_frame(slot) {
@@ -84,6 +90,7 @@ fn decode(w: &mut World, slot: u8) -> Pace
 }
 
 /// The block of a call is read.
+#[tactic(auto, using(its_pclsr::proofs::ApartLaws::becomes_pages))]
 fn parse(w: &mut World, slot: u8, f: Entered) -> Pace
     requires slot { slot < slots }
     requires job { is_some (job_at w.old.jobs slot) ≡ true }
@@ -91,6 +98,7 @@ fn parse(w: &mut World, slot: u8, f: Entered) -> Pace
     requires fits { SiteFits f.site }
     requires tidy { Tidy w.old }
     ensures row { IfSome (raw_at w.old.files w.old.core w.old.jobs slot) (λ q. parsed_on (state_of w.old) slot f.site (parsed_by q.core f.site) ≡ ticked (state_of w.new) result) }
+    ensures pages { w.new.core.frames ≡ w.old.core.frames }
     ensures tidy { Tidy w.new }
 {
     match parse_site(&w.core, slot, &f.site) {
@@ -112,6 +120,7 @@ fn parse(w: &mut World, slot: u8, f: Entered) -> Pace
 }
 
 /// The addresses and values of a call's arguments are found.
+#[tactic(auto, using(its_pclsr::proofs::ApartLaws::becomes_pages))]
 fn fetch(w: &mut World, slot: u8, f: Parsed) -> Pace
     requires slot { slot < slots }
     requires job { is_some (job_at w.old.jobs slot) ≡ true }
@@ -120,6 +129,7 @@ fn fetch(w: &mut World, slot: u8, f: Parsed) -> Pace
     requires words { f.site.channel ≡ None → 2 ≤ length f.block.items }
     requires tidy { Tidy w.old }
     ensures row { IfSome (raw_at w.old.files w.old.core w.old.jobs slot) (λ q. fetched_on (state_of w.old) slot f.site (fetched_by q.core f.site f.block.items) ≡ ticked (state_of w.new) result) }
+    ensures pages { w.new.core.frames ≡ w.old.core.frames }
     ensures tidy { Tidy w.new }
 {
     match fetch_site(&w.core, slot, &f.site, &f.block) {
@@ -143,6 +153,7 @@ fn prepare(w: &mut World, slot: u8, f: Asked) -> Pace
     requires tidy { Tidy w.old }
     ensures row { state_of w.new ≡ prepared_on (state_of w.old) slot f.site f.ask (reserves f.ask) }
     ensures pace { result ≡ Pace.Work }
+    ensures pages { w.new.core.frames ≡ (if reserves f.ask then frames_reserve slot w.old.core.frames else w.old.core.frames) }
     ensures tidy { Tidy w.new }
 {
     if reserves(&f.ask) {
@@ -155,7 +166,7 @@ fn prepare(w: &mut World, slot: u8, f: Asked) -> Pace
 }
 
 /// Reserves a page for a slot, none of whose quarters is clear.
-#[tactic(auto, using(its_world::proofs::WorldLaws::page_becomes, its_operator::proofs::PageLaws::clear_unreserved))]
+#[tactic(auto, using(its_operator::proofs::PageLaws::clear_unreserved))]
 fn reserve(w: &mut World, slot: u8)
     requires slot { slot < slots }
     requires none { clear_at w.old.core slot ≡ None }
@@ -187,6 +198,7 @@ fn clear_next(w: &mut World, slot: u8, clear: u8) -> Pace
     requires quarter { clear < 4 }
     requires holds { page_held (frame_at w.old.frames.items slot) ≡ Some clear }
     ensures row { IfSome (raw_at w.old.files w.old.core w.old.jobs slot) (λ q. tick_in (state_of w.old) slot q (frame_at w.old.frames.items slot) ≡ ticked (state_of w.new) result) }
+    ensures pages { IfSome (raw_at w.old.files w.old.core w.old.jobs slot) (λ q. w.new.core.frames ≡ pages_in (state_of w.old) slot q (frame_at w.old.frames.items slot) w.old.core.frames) }
     ensures tidy { Tidy w.new }
 {
     match w.take_frame(slot) {
@@ -206,7 +218,7 @@ fn clear_next(w: &mut World, slot: u8, clear: u8) -> Pace
 }
 
 /// Clears the next quarter of the page that a slot has reserved.
-#[tactic(auto, using(its_world::proofs::WorldLaws::page_becomes, its_world::proofs::WorldLaws::reserved_some, crate::proofs::PageLaws::quarter_cleared))]
+#[tactic(auto, using(its_world::proofs::WorldLaws::reserved_some, crate::proofs::PageLaws::quarter_cleared))]
 fn clear_quarter(w: &mut World, slot: u8, q: u8)
     requires slot { slot < slots }
     requires quarter { q < 4 }
@@ -217,13 +229,14 @@ fn clear_quarter(w: &mut World, slot: u8, q: u8)
 }
 
 /// Sets the bit of a fault in a slot's job.
-#[tactic(auto, using(crate::proofs::CallLaws::fault_set))]
+#[tactic(auto, using(its_pclsr::proofs::ApartLaws::becomes_pages, crate::proofs::CallLaws::fault_set))]
 fn set_fault(w: &mut World, slot: u8, fault: Fault)
     requires slot { slot < slots }
     requires job { is_some (job_at w.old.jobs slot) ≡ true }
     requires frame { frame_at w.old.frames.items slot ≡ None }
     requires tidy { Tidy w.old }
     ensures row { state_of w.new ≡ turn (state_of w.old) slot (faulted fault) None }
+    ensures pages { w.new.core.frames ≡ w.old.core.frames }
     ensures tidy { Tidy w.new }
 {
     if let Some(mut job) = w.registers(slot) {
@@ -239,6 +252,7 @@ fn attempt(w: &mut World, slot: u8) -> Pace
     requires stands { is_some (standing_of (frame_at w.old.frames.items slot)) ≡ true }
     requires clear { IfSome (standing_of (frame_at w.old.frames.items slot)) (λ f. IsTried f.page) }
     ensures row { IfSome (raw_at w.old.files w.old.core w.old.jobs slot) (λ q. tick_in (state_of w.old) slot q (frame_at w.old.frames.items slot) ≡ ticked (state_of w.new) result) }
+    ensures pages { IfSome (raw_at w.old.files w.old.core w.old.jobs slot) (λ q. w.new.core.frames ≡ pages_in (state_of w.old) slot q (frame_at w.old.frames.items slot) w.old.core.frames) }
     ensures tidy { Tidy w.new }
 {
     make_ready(w, slot);
@@ -257,6 +271,7 @@ fn make_ready(w: &mut World, slot: u8)
     requires stands { is_some (standing_of (frame_at w.old.frames.items slot)) ≡ true }
     requires clear { IfSome (standing_of (frame_at w.old.frames.items slot)) (λ f. IsTried f.page) }
     ensures row { IfSome (standing_of (frame_at w.old.frames.items slot)) (λ f. IfSome (raw_at w.old.files w.old.core w.old.jobs slot) (λ q. state_of w.new ≡ helped_if (helps q f.ask) (all_unwound (reach (state_of w.old).raw slot q f.ask) (state_of w.old)))) }
+    ensures pages { IfSome (standing_of (frame_at w.old.frames.items slot)) (λ f. IfSome (raw_at w.old.files w.old.core w.old.jobs slot) (λ q. w.new.core.frames ≡ pages_unwound (reach (state_of w.old).raw slot q f.ask) (state_of w.old) w.old.core.frames)) }
     ensures tidy { Tidy w.new }
 {
     unwind_reach(w, slot);
@@ -270,6 +285,7 @@ fn help_first(w: &mut World, slot: u8)
     requires stands { is_some (standing_of (frame_at w.old.frames.items slot)) ≡ true }
     requires tidy { Tidy w.old }
     ensures row { IfSome (standing_of (frame_at w.old.frames.items slot)) (λ f. IfSome (raw_at w.old.files w.old.core w.old.jobs slot) (λ q. state_of w.new ≡ helped_if (helps q f.ask) (state_of w.old))) }
+    ensures core { w.new.core ≡ w.old.core }
     ensures tidy { Tidy w.new }
 {
     if helps_in(w, slot) {
@@ -282,6 +298,7 @@ fn help_first(w: &mut World, slot: u8)
 fn help(w: &mut World)
     requires tidy { Tidy w.old }
     ensures row { state_of w.new ≡ help (state_of w.old) }
+    ensures core { w.new.core ≡ w.old.core }
     ensures tidy { Tidy w.new }
 {
     w.files.seen();

@@ -1,10 +1,12 @@
-ghost use Rattle.std.specs.Prelude.{◌≡◌, ◌<◌, ◌≤◌, ◌↔◌, ◌^◌, ◌∷◌, [], true, false, None, Some, is_some, length, option_map, slice_get, Ok, IsTrue, IfSome, IfOk, OnOk, OnErr, IfErr};
+ghost use Rattle.std.specs.Prelude.{◌≡◌, ◌<◌, ◌≤◌, ◌↔◌, ◌/◌, ◌^◌, ◌∷◌, [], true, false, None, Some, is_some, length, option_map, slice_get, Ok, IsTrue, IfSome, IfOk, OnOk, OnErr, IfErr};
 ghost use Rattle.its_word.specs.Console.{most_waiting};
+ghost use Rattle.its_word.specs.Core.{word_at};
+ghost use Rattle.its_core.specs.Cores.{clear_at};
 ghost use Rattle.its_word.specs.Limits.{slots};
 ghost use Rattle.its_files.specs.Files.{entry_at, is_file, file_at, names_at, words_at, helped};
 ghost use Rattle.its_plain.specs.CallFile.{file_named};
 ghost use Rattle.its_plain.specs.OperatorFiles.{files_in, show_of, file_made, word_added};
-ghost use Rattle.its_plain.specs.Machine.{no_machine};
+ghost use Rattle.its_plain.specs.Machine.{no_machine, core_of};
 ghost use Rattle.its_plain.specs.OneByte.{EachByte};
 ghost use Rattle.its_plain.specs.Own.{names_of};
 ghost use Rattle.its_plain.specs.OperatorJobs.{loaded, word_loaded, on_registers, started, stopped, continued, interrupted, word_seen, state_shown, deposited};
@@ -15,10 +17,12 @@ ghost use Rattle.its_stepped.specs.Unwind.{help, unwound};
 ghost use Rattle.its_plain.specs.Licence.{Licensed};
 ghost use Rattle.its_stepped.specs.Tick.{tick};
 ghost use Rattle.its_stepped.specs.Lines.{peeked};
-ghost use Rattle.its_world.specs.World.{state_of};
+ghost use Rattle.its_world.specs.World.{state_of, frames_after};
+ghost use Rattle.its_pclsr.specs.Apart.{CoresOff};
 ghost use Rattle.its_operator.specs.Filing.{length_if, word_if};
-ghost use Rattle.its_operator.specs.Kept.{FileRefused, Kept, Lands, Loads, Refused};
+ghost use Rattle.its_operator.specs.Kept.{FileRefused, Kept, Lands, Loads, Refused, CloseMade, frames_loaded};
 ghost use Rattle.its_monitor.specs.Beside.{AllBeside};
+ghost use Rattle.its_monitor.specs.Pages.{pages_ticked};
 ghost use Rattle.its_monitor.specs.Loading.{no_console, LoadRefused};
 
 use super::ticks;
@@ -53,6 +57,7 @@ impl Monitor {
         ensures licensed { Licensed (plain (state_of self.old.world)) slot result (plain (state_of self.new.world)) }
         ensures once { result ≡ Pace.Step → EachByte (plain (state_of self.old.world)) slot (plain (state_of self.new.world)) }
         ensures others { AllBeside (state_of self.old.world) (state_of self.new.world) slot result }
+        ensures pages { self.new.world.core.frames ≡ pages_ticked (state_of self.old.world) slot self.old.world.core.frames }
         ensures kept { Kept self.new.world }
     {
         ticks::tick(&mut self.world, slot)
@@ -69,6 +74,7 @@ impl Monitor {
         ensures there { OnOk result (no_console console ≡ false) }
         ensures refused { IfErr result (λ e. LoadRefused (state_of self.old.world) u j console e) }
         ensures same { OnErr result (self.new ≡ self.old) }
+        ensures core { self.new.world.core ≡ self.old.world.core }
         ensures kept { Kept self.new.world }
     {
         match console {
@@ -87,6 +93,7 @@ impl Monitor {
         ensures plain { OnOk result (word_loaded (plain (state_of self.old.world)) slot a w ≡ Ok (plain (state_of self.new.world))) }
         ensures refused { IfErr result (λ e. Refused (state_of self.old.world) (unwound (state_of self.old.world) slot) (λ m. word_loaded m slot a w) e) }
         ensures same { OnErr result (self.new ≡ self.old) }
+        ensures pages { OnOk result (self.new.world.core.frames ≡ frames_loaded (is_some (word_at (core_of ((unwound (state_of self.old.world) slot).raw.jobs slot)) a)) slot (a / 1024) (frames_after (clear_at self.old.world.core slot) None slot self.old.world.core.frames)) }
         ensures kept { Kept self.new.world }
     {
         operator::load_word(&mut self.world, slot, a, w)
@@ -101,6 +108,7 @@ impl Monitor {
         ensures plain { OnOk result (on_registers (plain (state_of self.old.world)) slot (started a) ≡ Ok (plain (state_of self.new.world))) }
         ensures refused { IfErr result (λ e. Refused (state_of self.old.world) (unwound (state_of self.old.world) slot) (λ m. on_registers m slot (started a)) e) }
         ensures same { OnErr result (self.new ≡ self.old) }
+        ensures cores { OnOk result (CoresOff self.old.world self.new.world slot) }
         ensures kept { Kept self.new.world }
     {
         operator::go(&mut self.world, slot, a)
@@ -114,6 +122,7 @@ impl Monitor {
         ensures plain { OnOk result (on_registers (plain (state_of self.old.world)) slot stopped ≡ Ok (plain (state_of self.new.world))) }
         ensures refused { IfErr result (λ e. Refused (state_of self.old.world) (unwound (state_of self.old.world) slot) (λ m. on_registers m slot stopped) e) }
         ensures same { OnErr result (self.new ≡ self.old) }
+        ensures cores { OnOk result (CoresOff self.old.world self.new.world slot) }
         ensures kept { Kept self.new.world }
     {
         operator::stop(&mut self.world, slot)
@@ -127,6 +136,7 @@ impl Monitor {
         ensures plain { OnOk result (on_registers (plain (state_of self.old.world)) slot continued ≡ Ok (plain (state_of self.new.world))) }
         ensures refused { IfErr result (λ e. Refused (state_of self.old.world) (unwound (state_of self.old.world) slot) (λ m. on_registers m slot continued) e) }
         ensures same { OnErr result (self.new ≡ self.old) }
+        ensures cores { OnOk result (CoresOff self.old.world self.new.world slot) }
         ensures kept { Kept self.new.world }
     {
         operator::cont(&mut self.world, slot)
@@ -140,6 +150,7 @@ impl Monitor {
         ensures plain { OnOk result (on_registers (plain (state_of self.old.world)) slot (interrupted v w) ≡ Ok (plain (state_of self.new.world))) }
         ensures refused { IfErr result (λ e. Refused (state_of self.old.world) (unwound (state_of self.old.world) slot) (λ m. on_registers m slot (interrupted v w)) e) }
         ensures same { OnErr result (self.new ≡ self.old) }
+        ensures cores { OnOk result (CoresOff self.old.world self.new.world slot) }
         ensures kept { Kept self.new.world }
     {
         operator::interrupt(&mut self.world, slot, v, w)
@@ -154,6 +165,7 @@ impl Monitor {
         ensures plain { OnOk result (deposited (plain (state_of self.old.world)) slot a w ≡ Ok (plain (state_of self.new.world))) }
         ensures refused { IfErr result (λ e. Refused (state_of self.old.world) (unwound (state_of self.old.world) slot) (λ m. deposited m slot a w) e) }
         ensures same { OnErr result (self.new ≡ self.old) }
+        ensures cores { OnOk result (CoresOff self.old.world self.new.world slot) }
         ensures kept { Kept self.new.world }
     {
         operator::deposit(&mut self.world, slot, a, w)
@@ -167,8 +179,10 @@ impl Monitor {
         ensures word { IfOk result (λ x. word_seen (unwound (state_of self.old.world) slot).raw slot a ≡ Ok x) }
         ensures plain { IfOk result (λ x. word_seen (plain (state_of self.old.world)) slot a ≡ Ok x) }
         ensures unwinds { OnOk result (state_of self.new.world ≡ unwound (state_of self.old.world) slot) }
+        ensures leaves { plain (state_of self.new.world) ≡ plain (state_of self.old.world) }
         ensures refused { IfErr result (λ e. Refused (state_of self.old.world) (unwound (state_of self.old.world) slot) (λ m. word_seen m slot a) e) }
         ensures same { OnErr result (self.new ≡ self.old) }
+        ensures cores { OnOk result (CoresOff self.old.world self.new.world slot) }
         ensures kept { Kept self.new.world }
     {
         operator::exam(&mut self.world, slot, a)
@@ -181,8 +195,10 @@ impl Monitor {
         ensures shown { IfOk result (λ x. state_shown (unwound (state_of self.old.world) slot).raw slot ≡ Ok x) }
         ensures plain { IfOk result (λ x. state_shown (plain (state_of self.old.world)) slot ≡ Ok x) }
         ensures unwinds { OnOk result (state_of self.new.world ≡ unwound (state_of self.old.world) slot) }
+        ensures leaves { plain (state_of self.new.world) ≡ plain (state_of self.old.world) }
         ensures refused { IfErr result (λ e. Refused (state_of self.old.world) (unwound (state_of self.old.world) slot) (λ m. state_shown m slot) e) }
         ensures same { OnErr result (self.new ≡ self.old) }
+        ensures cores { OnOk result (CoresOff self.old.world self.new.world slot) }
         ensures kept { Kept self.new.world }
     {
         operator::state(&mut self.world, slot)
@@ -198,6 +214,7 @@ impl Monitor {
         ensures plain { OnOk result (plain (state_of self.new.world) ≡ typed console (b ∷ []) (plain (state_of self.old.world))) }
         ensures refused { IfErr result (λ e. (e ≡ Refusal.NoConsole) × (8 ≤ console)) }
         ensures same { OnErr result (self.new ≡ self.old) }
+        ensures core { self.new.world.core ≡ self.old.world.core }
         ensures kept { Kept self.new.world }
     {
         if console > 7 {
@@ -216,6 +233,7 @@ impl Monitor {
         ensures plain { OnOk result (plain (state_of self.new.world) ≡ drained console 1 (plain (state_of self.old.world))) }
         ensures refused { IfErr result (λ e. (e ≡ Refusal.NoConsole) × (8 ≤ console)) }
         ensures same { OnErr result (self.new ≡ self.old) }
+        ensures core { self.new.world.core ≡ self.old.world.core }
         ensures kept { Kept self.new.world }
     {
         if console > 7 {
@@ -242,6 +260,7 @@ impl Monitor {
         ensures plain { plain (state_of self.new.world) ≡ plain (state_of self.old.world) }
         ensures state { state_of self.new.world ≡ help (state_of self.old.world) }
         ensures files { self.new.world.files ≡ helped self.old.world.files }
+        ensures alone { CloseMade self.old.world self.new.world }
         ensures kept { Kept self.new.world }
     {
         operator::dir(&mut self.world, d, k)
@@ -256,6 +275,7 @@ impl Monitor {
         ensures plain { plain (state_of self.new.world) ≡ plain (state_of self.old.world) }
         ensures state { state_of self.new.world ≡ help (state_of self.old.world) }
         ensures files { self.new.world.files ≡ helped self.old.world.files }
+        ensures alone { CloseMade self.old.world self.new.world }
         ensures kept { Kept self.new.world }
     {
         operator::file(&mut self.world, d, x, y)
@@ -268,6 +288,7 @@ impl Monitor {
         ensures plain { plain (state_of self.new.world) ≡ plain (state_of self.old.world) }
         ensures state { state_of self.new.world ≡ help (state_of self.old.world) }
         ensures files { self.new.world.files ≡ helped self.old.world.files }
+        ensures alone { CloseMade self.old.world self.new.world }
         ensures kept { Kept self.new.world }
     {
         operator::file_word(&mut self.world, id, k)
@@ -280,6 +301,7 @@ impl Monitor {
         ensures plain { plain (state_of self.new.world) ≡ plain (state_of self.old.world) }
         ensures state { state_of self.new.world ≡ help (state_of self.old.world) }
         ensures files { self.new.world.files ≡ helped self.old.world.files }
+        ensures alone { CloseMade self.old.world self.new.world }
         ensures kept { Kept self.new.world }
     {
         operator::file_length(&mut self.world, id)
@@ -295,6 +317,8 @@ impl Monitor {
         ensures refused { IfErr result (λ e. FileRefused (state_of self.old.world) (λ m. file_made m (names_of d x y)) e) }
         ensures state { OnErr result (state_of self.new.world ≡ help (state_of self.old.world)) }
         ensures files { OnErr result (self.new.world.files ≡ helped self.old.world.files) }
+        ensures alone { OnErr result (CloseMade self.old.world self.new.world) }
+        ensures core { self.new.world.core ≡ self.old.world.core }
         ensures kept { Kept self.new.world }
     {
         operator::file_new(&mut self.world, d, x, y)
@@ -311,6 +335,8 @@ impl Monitor {
         ensures refused { IfErr result (λ e. FileRefused (state_of self.old.world) (λ m. word_added m (names_at (helped self.old.world.files) id) w) e) }
         ensures state { OnErr result (state_of self.new.world ≡ help (state_of self.old.world)) }
         ensures files { OnErr result (self.new.world.files ≡ helped self.old.world.files) }
+        ensures alone { OnErr result (CloseMade self.old.world self.new.world) }
+        ensures core { self.new.world.core ≡ self.old.world.core }
         ensures kept { Kept self.new.world }
     {
         operator::file_add(&mut self.world, id, w)
@@ -323,6 +349,7 @@ impl Monitor {
         ensures plain { OnOk result (clocked (plain (state_of self.old.world)) n ≡ Ok (plain (state_of self.new.world))) }
         ensures refused { IfErr result (λ e. Refused (state_of self.old.world) (state_of self.old.world) (λ m. clocked m n) e) }
         ensures same { OnErr result (self.new ≡ self.old) }
+        ensures core { self.new.world.core ≡ self.old.world.core }
         ensures kept { Kept self.new.world }
     {
         operator::advance(&mut self.world, n)

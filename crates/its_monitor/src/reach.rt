@@ -1,14 +1,15 @@
 //! The jobs that the commit of a call disturbs, beside its caller.
-ghost use Rattle.std.specs.Prelude.{◌≡◌, ◌<◌, Some, IfSome, is_some, true};
+ghost use Rattle.std.specs.Prelude.{◌≡◌, ◌<◌, Some, None, IfSome, is_some, true};
 ghost use Rattle.its_word.specs.Limits.{slots};
 ghost use Rattle.its_jobs.specs.Table.{job_at, superior_at};
 ghost use Rattle.its_world.specs.Tidy.{Tidy};
 ghost use Rattle.its_pclsr.specs.Carried.{standing_of};
+ghost use Rattle.its_pclsr.specs.Pages.{pages_unwound};
 ghost use Rattle.its_plain.specs.Decide.{call_named as call_named_by, reach, with_below};
 ghost use Rattle.its_stepped.specs.Forest.{Forest};
 ghost use Rattle.its_stepped.specs.Sound.{Sound};
 ghost use Rattle.its_stepped.specs.Unwind.{all_unwound, unwound};
-ghost use Rattle.its_world.specs.World.{frame_at, raw_at, state_of};
+ghost use Rattle.its_world.specs.World.{frame_at, frames_after, raw_at, state_of};
 ghost use Rattle.its_monitor.specs.Ticks.{closes_job, logs_out, RootFits, slots_in};
 
 use call_basic::target_of;
@@ -28,7 +29,7 @@ enum Reach {
 }
 
 /// Unwinds the jobs that the call in the frame of a slot reaches.
-#[tactic(auto, using(crate::proofs::ReachLaws::reach_unwound))]
+#[tactic(auto, using(crate::proofs::FramesLaws::reach_pages, crate::proofs::ReachLaws::reach_unwound))]
 pub fn unwind_reach(w: &mut World, slot: u8)
     requires slot { slot < slots }
     requires sound { Sound (state_of w.old) }
@@ -37,6 +38,7 @@ pub fn unwind_reach(w: &mut World, slot: u8)
     requires job { is_some (job_at w.old.jobs slot) ≡ true }
     requires stands { is_some (standing_of (frame_at w.old.frames.items slot)) ≡ true }
     ensures row { IfSome (standing_of (frame_at w.old.frames.items slot)) (λ f. IfSome (raw_at w.old.files w.old.core w.old.jobs slot) (λ q. state_of w.new ≡ all_unwound (reach (state_of w.old).raw slot q f.ask) (state_of w.old))) }
+    ensures pages { IfSome (standing_of (frame_at w.old.frames.items slot)) (λ f. IfSome (raw_at w.old.files w.old.core w.old.jobs slot) (λ q. w.new.core.frames ≡ pages_unwound (reach (state_of w.old).raw slot q f.ask) (state_of w.old) w.old.core.frames)) }
     ensures tidy { Tidy w.new }
 {
     let reach = reach_in(w, slot);
@@ -51,6 +53,7 @@ fn unwind_all(w: &mut World, slot: u8, reach: Reach)
     requires sound { Sound (state_of w.old) }
     requires tidy { Tidy w.old }
     ensures row { state_of w.new ≡ all_unwound (slots_in reach (state_of w.old).raw slot (superior_at w.old.jobs slot)) (state_of w.old) }
+    ensures pages { w.new.core.frames ≡ pages_unwound (slots_in reach (state_of w.old).raw slot (superior_at w.old.jobs slot)) (state_of w.old) w.old.core.frames }
     ensures tidy { Tidy w.new }
 {
     match reach {
@@ -68,6 +71,7 @@ fn unwind_branch(w: &mut World, root: u8)
     requires sound { Sound (state_of w.old) }
     requires tidy { Tidy w.old }
     ensures row { state_of w.new ≡ all_unwound (with_below (state_of w.old).raw (Some root)) (state_of w.old) }
+    ensures pages { w.new.core.frames ≡ pages_unwound (with_below (state_of w.old).raw (Some root)) (state_of w.old) w.old.core.frames }
     ensures tidy { Tidy w.new }
 {
     unwind_below(w, root);
@@ -75,12 +79,13 @@ fn unwind_branch(w: &mut World, root: u8)
 }
 
 /// Unwinds the jobs below a slot's job, and its superior.
-#[tactic(auto, using(crate::proofs::ReachLaws::tree_unwound, crate::proofs::ReachLaws::root_unwound))]
+#[tactic(auto, using(crate::proofs::FramesLaws::root_pages, crate::proofs::ReachLaws::tree_unwound, crate::proofs::ReachLaws::root_unwound))]
 fn unwind_tree(w: &mut World, slot: u8)
     requires slot { slot < slots }
     requires sound { Sound (state_of w.old) }
     requires tidy { Tidy w.old }
     ensures row { state_of w.new ≡ all_unwound (slots_in Reach.Tree (state_of w.old).raw slot (superior_at w.old.jobs slot)) (state_of w.old) }
+    ensures pages { w.new.core.frames ≡ pages_unwound (slots_in Reach.Tree (state_of w.old).raw slot (superior_at w.old.jobs slot)) (state_of w.old) w.old.core.frames }
     ensures tidy { Tidy w.new }
 {
     let superior = w.jobs.superior(slot);
@@ -91,12 +96,13 @@ fn unwind_tree(w: &mut World, slot: u8)
 }
 
 /// Unwinds the job of a slot, where there is one and it is inside a call.
-#[tactic(auto, using(crate::proofs::ReachLaws::calm_past, crate::proofs::ReachLaws::calm_still))]
+#[tactic(auto, using(crate::proofs::FramesLaws::past_pages, crate::proofs::FramesLaws::still_pages, crate::proofs::ReachLaws::calm_past, crate::proofs::ReachLaws::calm_still))]
 pub fn calm(w: &mut World, slot: u8)
     requires sound { Sound (state_of w.old) }
     requires tidy { Tidy w.old }
     ensures row { state_of w.new ≡ unwound (state_of w.old) slot }
     ensures sound { Sound (state_of w.new) }
+    ensures pages { w.new.core.frames ≡ frames_after ((state_of w.old).reserved slot) None slot w.old.core.frames }
     ensures tidy { Tidy w.new }
 {
     if usize::from(slot) < SLOTS && w.has_frame(slot) {

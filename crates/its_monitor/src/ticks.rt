@@ -7,6 +7,7 @@ ghost use Rattle.its_stepped.specs.Tick.{tick as tick_of};
 ghost use Rattle.its_world.specs.World.{state_of};
 ghost use Rattle.its_operator.specs.Kept.{Kept};
 ghost use Rattle.its_monitor.specs.Beside.{AllBeside};
+ghost use Rattle.its_monitor.specs.Pages.{pages_ticked};
 ghost use Rattle.its_monitor.specs.Ticks.{ticked};
 
 use super::calls::in_call;
@@ -26,6 +27,7 @@ pub fn tick(w: &mut World, slot: u8) -> Pace
     ensures pace { result ≡ (tick_of (state_of w.old) slot).pace }
     ensures licensed { Licensed (plain (state_of w.old)) slot result (plain (state_of w.new)) }
     ensures others { AllBeside (state_of w.old) (state_of w.new) slot result }
+    ensures pages { w.new.core.frames ≡ pages_ticked (state_of w.old) slot w.old.core.frames }
     ensures kept { Kept w.new }
 {
     turn(w, slot)
@@ -33,11 +35,12 @@ pub fn tick(w: &mut World, slot: u8) -> Pace
 
 /// What a tick does, and its letter.
 #[inline(always)]
-#[tactic(auto, using(crate::proofs::TickLaws::turn_absent, crate::proofs::TickLaws::turn_stopped, crate::proofs::TickLaws::turn_call, crate::proofs::TickLaws::turn_delivery, crate::proofs::TickLaws::turn_unit))]
+#[tactic(auto, using(crate::proofs::FramesLaws::frames_absent, crate::proofs::FramesLaws::frames_stopped, crate::proofs::TickLaws::turn_absent, crate::proofs::TickLaws::turn_stopped, crate::proofs::TickLaws::turn_call, crate::proofs::TickLaws::turn_delivery, crate::proofs::TickLaws::turn_unit))]
 fn turn(w: &mut World, slot: u8) -> Pace
     requires slot { slot < slots }
     requires kept { Kept w.old }
     ensures row { tick_of (state_of w.old) slot ≡ ticked (state_of w.new) result }
+    ensures pages { w.new.core.frames ≡ pages_ticked (state_of w.old) slot w.old.core.frames }
     ensures tidy { Tidy w.new }
 {
     let Some(job) = w.jobs.job(slot) else {

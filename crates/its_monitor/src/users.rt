@@ -13,6 +13,7 @@ ghost use Rattle.its_stepped.specs.Tick.{delivered_on, unit_on};
 ghost use Rattle.its_stepped.specs.Unwind.{all_unwound};
 ghost use Rattle.its_world.specs.World.{state_of, frame_at, raw_at, CoreBecomes, JobBecomes};
 ghost use Rattle.its_operator.specs.Kept.{Kept};
+ghost use Rattle.its_pclsr.specs.Pages.{pages_unwound};
 ghost use Rattle.pdp_exec.specs.Answer.{IsCalled};
 ghost use Rattle.its_monitor.specs.Ticks.{ticked, left_by, with_channels, UnitIn};
 
@@ -34,6 +35,7 @@ pub fn deliver_to(w: &mut World, slot: u8, job: Job)
     requires frame { frame_at w.old.frames.items slot ≡ None }
     requires deliverable { deliverable job ≡ true }
     ensures row { IfSome (raw_at w.old.files w.old.core w.old.jobs slot) (λ q. state_of w.new ≡ delivered_on (state_of w.old) slot q (delivered q.core q.job)) }
+    ensures pages { IfSome (raw_at w.old.files w.old.core w.old.jobs slot) (λ q. w.new.core.frames ≡ pages_unwound (told (delivered q.core q.job).stops q.superior) (state_of w.old) w.old.core.frames) }
     ensures tidy { Tidy w.new }
 {
     let mut after = job;
@@ -58,12 +60,13 @@ fn run_delivery(w: &mut World, slot: u8, job: &mut Job) -> bool
 }
 
 /// Writes the registers of a slot's job but for its channels.
-#[tactic(auto, using(crate::proofs::UserLaws::written_back))]
+#[tactic(auto, using(its_pclsr::proofs::ApartLaws::becomes_pages, crate::proofs::UserLaws::written_back))]
 fn put_back(w: &mut World, slot: u8, job: Job)
     requires slot { slot < slots }
     requires some { is_some (job_at w.old.jobs slot) ≡ true }
     requires tidy { Tidy w.old }
     ensures registers { IfSome (job_at w.old.jobs slot) (λ j. JobBecomes w.old w.new slot (with_channels j.channels job)) }
+    ensures pages { w.new.core.frames ≡ w.old.core.frames }
     ensures tidy { Tidy w.new }
 {
     if let Some(now) = w.registers(slot) {
@@ -93,12 +96,13 @@ fn with_channels(now: Job, job: Job) -> Job
 }
 
 /// Sets INF in the superior of a slot's job, where it has one. It is unwound first.
-#[tactic(auto, using(crate::proofs::UserLaws::superior_told, crate::proofs::UserLaws::nobody_told))]
+#[tactic(auto, using(crate::proofs::FramesLaws::superior_frames, crate::proofs::FramesLaws::nobody_frames, crate::proofs::UserLaws::superior_told, crate::proofs::UserLaws::nobody_told))]
 fn tell_superior(w: &mut World, slot: u8)
     requires slot { slot < slots }
     requires sound { Sound (state_of w.old) }
     requires tidy { Tidy w.old }
     ensures row { state_of w.new ≡ effects_on (informs true (superior_at w.old.jobs slot)) slot (all_unwound (informed_slots true (superior_at w.old.jobs slot)) (state_of w.old)) }
+    ensures pages { w.new.core.frames ≡ pages_unwound (informed_slots true (superior_at w.old.jobs slot)) (state_of w.old) w.old.core.frames }
     ensures tidy { Tidy w.new }
 {
     if let Some(superior) = w.jobs.superior(slot) {
@@ -115,6 +119,7 @@ pub fn make_unit(w: &mut World, slot: u8) -> Pace
     requires job { is_some (job_at w.old.jobs slot) ≡ true }
     requires frame { frame_at w.old.frames.items slot ≡ None }
     ensures row { IfSome (raw_at w.old.files w.old.core w.old.jobs slot) (λ q. unit_on (state_of w.old) slot (unit_of q.core q.job) ≡ ticked (state_of w.new) result) }
+    ensures pages { w.new.core.frames ≡ w.old.core.frames }
     ensures tidy { Tidy w.new }
 {
     if unit_in_place(w, slot) {
@@ -145,6 +150,7 @@ fn run_unit(core: &mut Core, slot: u8, job: &mut Job) -> bool
     ensures left { left_by (unit_of (core_at core.old slot) job.old) (core_at core.old slot) job.old ≡ (if result then Some (record { core = core_at core.new slot; job = job.new }) else None) }
     ensures others { (k : ℕ) → k ≢ slot → core_at core.new k ≡ core_at core.old k }
     ensures reserved { core.new.reserved ≡ core.old.reserved }
+    ensures frames { core.new.frames ≡ core.old.frames }
     ensures same { result ≡ false → (core.new ≡ core.old) × (job.new ≡ job.old) }
 {
     match run(core, slot, job) {
@@ -159,6 +165,7 @@ fn run_unit(core: &mut Core, slot: u8, job: &mut Job) -> bool
 
 /// The job of a slot enters the monitor.
 #[inline(never)]
+#[tactic(auto, using(its_pclsr::proofs::ApartLaws::becomes_pages))]
 fn enter(w: &mut World, slot: u8)
     requires slot { slot < slots }
     requires job { is_some (job_at w.old.jobs slot) ≡ true }
@@ -166,6 +173,7 @@ fn enter(w: &mut World, slot: u8)
     requires called { IfSome (job_at w.old.jobs slot) (λ j. IsCalled (unit_of (core_at w.old.core slot) j)) }
     requires tidy { Tidy w.old }
     ensures row { IfSome (raw_at w.old.files w.old.core w.old.jobs slot) (λ q. unit_on (state_of w.old) slot (unit_of q.core q.job) ≡ ticked (state_of w.new) Pace.Work) }
+    ensures pages { w.new.core.frames ≡ w.old.core.frames }
     ensures tidy { Tidy w.new }
 {
     let site = site_of(w, slot);

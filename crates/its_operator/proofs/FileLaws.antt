@@ -41,7 +41,7 @@ use Rattle.its_world.proofs.StoreLaws.{found_named, has_named, found_self}
 use Rattle.its_pclsr.proofs.PartLaws.{store_state, store_tidy}
 use Rattle.its_world.proofs.StorageLaws.{files_are, chans_are, marks_are}
 use Rattle.its_operator.specs.Kept.{Kept, Lands, Helped, FileRefused, reason_of}
-use Rattle.its_operator.proofs.KeptLaws.{alike_kept, error_is, Made, made_sound, made_plain, made_forest}
+use Rattle.its_operator.proofs.KeptLaws.{alike_kept, error_is, Made, made_sound, made_plain, made_forest, made_timed}
 use Rattle.its_operator.proofs.LoadLaws.{and_ok}
 use Rattle.its_operator.proofs.StartLaws.{quiet_by}
 
@@ -57,6 +57,7 @@ module _ (old new : World) (whole : IsStore old.files) (kept : Kept old) (files 
       ∙ ap (λ t. record (state_of old) { raw = record (state_of old).raw { files = directory t }; mark = mark_of t }) files
       ∙ sym (help_step old.files whole (state_of old) (marks_are old) (files_are old)) in
       record {
+        alone = record { core = core; jobs = jobs; frames = frames; consoles = consoles; holders = holders; clock = clock; files = files };
         files = files;
         state = state;
         kept = alike_kept old new kept (ap plain state ∙ help_plain (state_of old)) (subst Sound (sym state) (help_sound (state_of old) kept.sound)) (store_tidy old new stays core jobs kept.tidy);
@@ -131,6 +132,7 @@ files_kept e b old new kept made is tidy = record {
   tidy = tidy;
   addressed = λ k. subst (λ (m : Machine). IfSome (m.jobs k) (λ q. q.job.pc < 2 ^ 18)) (sym is) (kept.addressed k);
   consoled = λ k. subst (λ (m : Machine). IfSome (m.jobs k) (λ q. IfSome q.job.console (λ c. c < 8))) (sym is) (kept.consoled k);
+  timed = made_timed (state_of old) (state_of new) b e kept.sound kept.timed made;
 }
 
 alone_is : (m n : Machine) (r : Result Machine Reason) → r ≡ Ok n → FilesAlone m r → n ≡ with_files m n.files

@@ -4,28 +4,36 @@ use Rattle.std.proofs.Common.{sym, ◌∙◌, ap, subst}
 use Rattle.its_word.specs.declared.session.Event.{Event}
 use Rattle.its_word.specs.declared.session.Reason.{Reason}
 use Rattle.its_word.specs.declared.session.Refusal.{Refusal}
+use Rattle.its_word.specs.declared.jobs.Job.{Job}
 use Rattle.its_frame.specs.declared.frame.Frame.{Frame}
 use Rattle.its_print.specs.Printing.{Line}
+use Rattle.its_word.specs.Core.{Core}
+use Rattle.its_core.specs.Frames.{Frames}
 use Rattle.its_jobs.specs.Table.{job_at}
 use Rattle.its_plain.specs.Machine.{Whole, Machine, with_job}
 use Rattle.its_plain.specs.Operator.{Block, Does}
 use Rattle.its_plain.specs.OperatorLines.{Done, lined}
+use Rattle.its_plain.specs.CallOperator.{clock_end}
 use Rattle.its_stepped.specs.State.{State, plain, seen}
 use Rattle.its_stepped.specs.Sound.{Sound}
 use Rattle.its_stepped.specs.Forest.{Forest}
 use Rattle.its_stepped.specs.Unwind.{unwound}
 use Rattle.its_stepped.specs.Tick.{helped_if}
 use Rattle.its_stepped.specs.Lines.{looks_at_files, calmed, with_raw, state_after, after_line, lifted_line}
+use Rattle.its_stepped.proofs.ClockLaws.{line_timed}
 use Rattle.its_stepped.proofs.UnwindLaws.{unwound_plain, unwound_sound}
 use Rattle.its_stepped.proofs.LineLaws.{line_plain}
 use Rattle.its_stepped.proofs.AfterLaws.{after_sound}
 use Rattle.its_stepped.proofs.RefusalLaws.{error_of}
 use Rattle.its_stepped.proofs.WrittenLaws.{line_forest}
-use Rattle.its_world.specs.World.{state_of}
+use Rattle.its_world.specs.World.{state_of, with_frames, CoreBecomes, JobBecomes}
 use Rattle.its_world.specs.Tidy.{Tidy}
 use Rattle.its_world.specs.declared.world.World.{World}
-use Rattle.its_operator.specs.Kept.{Kept, Refused, Calmed, reason_of}
-use Rattle.its_world.proofs.StateLaws.{job_of}
+use Rattle.its_operator.specs.Kept.{Kept, Refused, Calm, Calmed, reason_of}
+use Rattle.its_world.proofs.StateLaws.{job_of, frames_state}
+use Rattle.its_world.proofs.MappedLaws.{frames_tidy}
+use Rattle.its_pclsr.specs.Apart.{CoresOff}
+use Rattle.its_pclsr.proofs.ApartLaws.{off_one, off_then}
 use Rattle.its_world.proofs.StorageLaws.{raw_has}
 use Rattle.its_word.proofs.FreeLaws.{none_is}
 
@@ -62,10 +70,44 @@ alike_kept old new kept same sound tidy = record {
   tidy = tidy;
   addressed = λ k. subst (λ (m : Machine). IfSome (m.jobs k) (λ q. q.job.pc < 2 ^ 18)) (sym same) (kept.addressed k);
   consoled = λ k. subst (λ (m : Machine). IfSome (m.jobs k) (λ q. IfSome q.job.console (λ c. c < 8))) (sym same) (kept.consoled k);
+  timed = subst (λ (m : Machine). m.clock < clock_end) (sym same) kept.timed;
 }
 
 pub unwound_kept : (old new : World) (s : ℕ) → Kept old → state_of new ≡ unwound (state_of old) s → Tidy new → Kept new
 unwound_kept old new s kept e tidy = alike_kept old new kept (unwound_same old new s kept e) (subst Sound (sym e) (unwound_sound (state_of old) s kept.sound)) tidy
+
+-- a slot that was unwound leaves the plain machine as it was
+pub calm_same : (old mid : World) (s : ℕ) (j : Job) → Kept old → Calm old mid s j → plain (state_of mid) ≡ plain (state_of old)
+calm_same old mid s j kept c = unwound_same old mid s kept c.unwinds
+
+pub calmed_same : (old mid : World) (s : ℕ) → Kept old → Calmed old mid s → plain (state_of mid) ≡ plain (state_of old)
+calmed_same old mid s kept c = calm_same old mid s c.job kept c.calm
+
+-- the cores of all others, and the frames of pages, where a slot was unwound and then written
+pub calm_off : (old mid : World) (s : ℕ) (j : Job) → Calm old mid s j → CoresOff old mid s
+calm_off old mid s j c = c.cores
+
+pub calmed_off : (old mid : World) (s : ℕ) → Calmed old mid s → CoresOff old mid s
+calmed_off old mid s c = c.calm.cores
+
+pub registers_off : (old mid new : World) (s : ℕ) (j i : Job) → Calm old mid s j → JobBecomes mid new s i → CoresOff old new s
+registers_off old mid new s j i c b = off_then old mid new s c.cores (off_one mid new s _ _ _ b)
+
+pub stored_off : (old mid new : World) (s : ℕ) (d : Core) → Calmed old mid s → CoreBecomes mid new s d → CoresOff old new s
+stored_off old mid new s d c b = off_then old mid new s c.calm.cores (off_one mid new s _ _ _ b)
+
+-- the frames in which pages stand do not matter to it
+pub frames_kept : (w : World) (f : Frames) → Kept (with_frames w f) → Kept w
+frames_kept w f k =
+    let e = frames_state w f in
+    record {
+      sound = subst Sound e k.sound;
+      forest = subst (λ (v : State). Forest (plain v)) e k.forest;
+      tidy = frames_tidy w f k.tidy;
+      addressed = λ i. subst (λ (v : State). IfSome ((plain v).jobs i) (λ q. q.job.pc < 2 ^ 18)) e (k.addressed i);
+      consoled = λ i. subst (λ (v : State). IfSome ((plain v).jobs i) (λ q. IfSome q.job.console (λ c. c < 8))) e (k.consoled i);
+      timed = subst (λ (v : State). (plain v).clock < clock_end) e k.timed;
+    }
 
 -- a line that is done: the state v that it finds has another raw machine then
 pub record Made (w new : State) (b : Block) (e : Event) : Type 0 where
@@ -88,6 +130,9 @@ made_plain w new b e sound h =
 
 pub made_forest : (w new : State) (b : Block) (e : Event) → Sound w → Forest (plain w) → Made w new b e → Forest (plain new)
 made_forest w new b e sound d h = line_forest (plain w) (plain new) b h.block e h.out h.touched d (made_plain w new b e sound h)
+
+pub made_timed : (w new : State) (b : Block) (e : Event) → Sound w → (plain w).clock < clock_end → Made w new b e → (plain new).clock < clock_end
+made_timed w new b e sound below h = line_timed (plain w) (plain new) b h.block e h.out h.touched below (made_plain w new b e sound h)
 
 -- what a line keeps of each job: its PC is an address, and its console is one of eight
 pub record Lasts (m : Machine) : Type 0 where
@@ -134,7 +179,7 @@ unwound_missing old mid s kept some e none =
     let has : is_some (job_at mid.jobs s) ≡ true = unwound_has old mid s kept e ∙ some in
     let no : is_some (job_at mid.jobs s) ≡ false = ap is_some none in absurd cc
 
-pub unwound_calm : (old mid : World) (s : ℕ) → Kept old → is_some (job_at old.jobs s) ≡ true → state_of mid ≡ unwound (state_of old) s → Tidy mid → Calmed old mid s
-unwound_calm old mid s kept some e tidy =
+pub unwound_calm : (old mid : World) (s : ℕ) → Kept old → is_some (job_at old.jobs s) ≡ true → state_of mid ≡ unwound (state_of old) s → CoresOff old mid s → Tidy mid → Calmed old mid s
+unwound_calm old mid s kept some e cores tidy =
     let j = job_of (job_at mid.jobs s) (unwound_has old mid s kept e ∙ some) in
-    record { job = j.0; calm = record { kept = unwound_kept old mid s kept e tidy; unwinds = e; job = j.1 } }
+    record { job = j.0; calm = record { kept = unwound_kept old mid s kept e tidy; cores = cores; unwinds = e; job = j.1 } }

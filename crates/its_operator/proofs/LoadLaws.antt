@@ -11,9 +11,11 @@ use Rattle.its_word.specs.declared.session.Event.TheVariants as events
 use Rattle.its_word.specs.declared.session.Reason.{Reason}
 use Rattle.its_word.specs.declared.session.Refusal.{Refusal}
 use Rattle.its_word.specs.declared.session.Refusal.TheVariants as refusals
+use Rattle.its_word.proofs.CoreLaws.{word_at-can_store}
 use Rattle.its_core.specs.Cores.{core_at, clear_at}
+use Rattle.its_core.specs.Frames.{frames_map, frames_reserve}
 use Rattle.its_jobs.specs.Table.{job_at, superior_at}
-use Rattle.its_plain.specs.Machine.{Whole, Machine, mapped}
+use Rattle.its_plain.specs.Machine.{Whole, Machine, mapped, core_of}
 use Rattle.its_plain.specs.Operator.{only, and_then, disturbs}
 use Rattle.its_plain.specs.OperatorJobs.{with_core, stored_in, stored, word_loaded_of, word_loaded}
 use Rattle.its_plain.specs.OperatorLines.{operate, Done, lined}
@@ -22,12 +24,13 @@ use Rattle.its_stepped.specs.Unwind.{unwound}
 use Rattle.its_stepped.specs.Lines.{calmed}
 use Rattle.its_stepped.proofs.RefusalLaws.{error_of, word_alike, word_refused_first}
 use Rattle.its_stepped.proofs.UnwindLaws.{unwound_none}
-use Rattle.its_world.specs.World.{state_of, raw_at, CoreBecomes}
+use Rattle.its_world.specs.World.{state_of, raw_at, frames_after, with_frames, CoreBecomes}
 use Rattle.its_world.specs.declared.world.World.{World}
-use Rattle.its_world.proofs.MappedLaws.{mapped_raw}
-use Rattle.its_world.proofs.StateLaws.{raw_job, job_of}
-use Rattle.its_operator.specs.Kept.{Kept, Lands, Refused, Calmed, reason_of, unloadable}
-use Rattle.its_operator.proofs.KeptLaws.{refused_by, Made, made_plain, Lasts, kept_lasts}
+use Rattle.its_world.proofs.MappedLaws.{core_raw, mapped_raw}
+use Rattle.its_world.proofs.StateLaws.{raw_job, job_of, frames_state}
+use Rattle.its_world.proofs.WorldLaws.{frames_still}
+use Rattle.its_operator.specs.Kept.{Kept, Lands, Refused, Calmed, reason_of, unloadable, frames_loaded}
+use Rattle.its_operator.proofs.KeptLaws.{refused_by, frames_kept, Made, made_plain, Lasts, kept_lasts}
 use Rattle.its_operator.proofs.RegisterLaws.{raw_is, raw_is_none, disturbed, block_of}
 use Rattle.its_operator.proofs.WordLaws.{core_lands, core_lasts, core_kept}
 use Rattle.its_stepped.proofs.KeptLaws.{user_page}
@@ -129,9 +132,9 @@ load_unreserved old mid s kept c =
     user_page (raw_at mid.files mid.core mid.jobs s) ((state_of mid).frames s) (clear_at mid.core s) (ap (λ (v : State). v.frames s) c.calm.unwinds ∙ unwound_none (state_of old) s kept.sound) (c.calm.kept.sound.each s).by
 
 -- the same of a world under another name
-pub made_as : (mid same new : World) (s a x : ℕ) → same ≡ mid → CoreBecomes same new s (store (with_page (core_at same.core s) (a / 1024) (Some zero_page)) a x)
-    → CoreBecomes mid new s (store (with_page (core_at mid.core s) (a / 1024) (Some zero_page)) a x)
-made_as mid same new s a x e b = subst (λ (w : World). CoreBecomes w new s (store (with_page (core_at w.core s) (a / 1024) (Some zero_page)) a x)) e b
+pub made_as : (mid same new : World) (s a x : ℕ) → same ≡ mid → CoreBecomes same (with_frames new same.core.frames) s (store (with_page (core_at same.core s) (a / 1024) (Some zero_page)) a x)
+    → CoreBecomes mid (with_frames new mid.core.frames) s (store (with_page (core_at mid.core s) (a / 1024) (Some zero_page)) a x)
+made_as mid same new s a x e b = subst (λ (w : World). CoreBecomes w (with_frames new w.core.frames) s (store (with_page (core_at w.core s) (a / 1024) (Some zero_page)) a x)) e b
 
 -- the state after it
 pub and_ok : (r : Result Machine Reason) (n : Machine) → and_then r (λ m. Ok m) ≡ Ok n → r ≡ Ok n
@@ -154,17 +157,18 @@ module _ (old mid new : World) (s a x : ℕ) where
       ∙ ap (λ b. with_core (state_of mid).raw s (whole_of mid s c.job) (stored_in (core_at mid.core s) a x b (there mid s a) (room mid))) writes)
 
   pub load_made : Kept old → Calmed old mid s → Clear mid s a x → 16 ≤ a → page_of (core_at mid.core s) (a / 1024) ≡ None
-      → CoreBecomes mid new s (store (with_page (core_at mid.core s) (a / 1024) (Some zero_page)) a x)
+      → CoreBecomes mid (with_frames new mid.core.frames) s (store (with_page (core_at mid.core s) (a / 1024) (Some zero_page)) a x)
       → Lands (unwound (state_of old) s) (state_of new) (word_loaded (unwound (state_of old) s).raw s a x)
   load_made kept c h l p r =
       let no = absent_word (core_at mid.core s) a l p in
       let fits = load_room old mid s a x c h l p in
       let t : nat_lt (pages_mapped (core_at mid.core)) most_pages ≡ true = grind (arith, nat_tests) in
-      core_lands old mid new s c.job (store (with_page (core_at mid.core s) (a / 1024) (Some zero_page)) a x) (λ v. word_loaded v.raw s a x) c.calm r
+      subst (λ (v : State). Lands (unwound (state_of old) s) v (word_loaded (unwound (state_of old) s).raw s a x)) (frames_state new mid.core.frames)
+      (core_lands old mid (with_frames new mid.core.frames) s c.job (store (with_page (core_at mid.core s) (a / 1024) (Some zero_page)) a x) (λ v. word_loaded v.raw s a x) c.calm r
       (loaded_on mid s a x c.job c.calm.job c.calm.kept
       ∙ ap (λ b. with_core (state_of mid).raw s (whole_of mid s c.job) (stored_in (core_at mid.core s) a x b (there mid s a) (room mid))) no.0
       ∙ ap (λ b. with_core (state_of mid).raw s (whole_of mid s c.job) (stored_in (core_at mid.core s) a x false b (room mid))) no.1
-      ∙ ap (λ b. with_core (state_of mid).raw s (whole_of mid s c.job) (stored_in (core_at mid.core s) a x false false b)) t)
+      ∙ ap (λ b. with_core (state_of mid).raw s (whole_of mid s c.job) (stored_in (core_at mid.core s) a x false false b)) t))
 
   load_line : Lands (unwound (state_of old) s) (state_of new) (word_loaded (unwound (state_of old) s).raw s a x)
       → Made (state_of old) (state_of new) (block_of s) (events.Words a (record { items = x ∷ [] }))
@@ -189,3 +193,32 @@ module _ (old mid new : World) (s a x : ℕ) where
       → Lands (unwound (state_of old) s) (state_of new) (word_loaded (unwound (state_of old) s).raw s a x) → Kept new
   load_kept d kept c r l = core_kept (events.Words a (record { items = x ∷ [] })) (block_of s) old mid new s c.job d kept c.calm r (load_line l)
       (loaded_lasts (plain (state_of old)) (plain (state_of new)) s a x (load_plain kept l) (kept_lasts old kept))
+
+-- the same where its page was made
+pub made_kept : (old mid new : World) (s a x : ℕ) (d : Core) → Kept old → Calmed old mid s → CoreBecomes mid (with_frames new mid.core.frames) s d
+    → Lands (unwound (state_of old) s) (state_of new) (word_loaded (unwound (state_of old) s).raw s a x) → Kept new
+made_kept old mid new s a x d kept c r l =
+    frames_kept new mid.core.frames
+    (load_kept old mid (with_frames new mid.core.frames) s a x d kept c r
+    (subst (λ (v : State). Lands (unwound (state_of old) s) v (word_loaded (unwound (state_of old) s).raw s a x)) (sym (frames_state new mid.core.frames)) l))
+
+-- the frames of pages: that of the page which the slot has reserved is free once it is unwound, and a page that is made has the
+-- first free one
+module _ (old mid new : World) (s a : ℕ) (kept : Kept old) (c : Calmed old mid s) where
+  there_in : is_some (word_at (core_of ((unwound (state_of old) s).raw.jobs s)) a) ≡ there mid s a
+  there_in = ap (λ (v : State). is_some (word_at (core_of (v.raw.jobs s)) a)) (sym c.calm.unwinds) ∙ ap (λ (k : Core). is_some (word_at k a)) (core_raw mid s c.calm.kept.tidy)
+
+  frames_calm : mid.core.frames ≡ frames_after (clear_at old.core s) None s old.core.frames
+  frames_calm = c.calm.cores.pages ∙ ap (λ (o : Option ℕ). frames_after (clear_at old.core s) o s old.core.frames) (load_unreserved old mid s kept c)
+
+  loaded_frames : (b : Bool) → there mid s a ≡ b → new.core.frames ≡ frames_loaded b s (a / 1024) mid.core.frames
+      → new.core.frames ≡ frames_loaded (is_some (word_at (core_of ((unwound (state_of old) s).raw.jobs s)) a)) s (a / 1024) (frames_after (clear_at old.core s) None s old.core.frames)
+  loaded_frames b t e = e ∙ (λ i. frames_loaded ((sym t ∙ sym there_in) i) s (a / 1024) (frames_calm i))
+
+  pub stored_frames : (d : Core) → can_store (core_at mid.core s) a ≡ true → CoreBecomes mid new s d
+      → new.core.frames ≡ frames_loaded (is_some (word_at (core_of ((unwound (state_of old) s).raw.jobs s)) a)) s (a / 1024) (frames_after (clear_at old.core s) None s old.core.frames)
+  stored_frames d writes b = loaded_frames true (word_at-can_store (core_at mid.core s) a writes) (b.pages ∙ frames_still (clear_at mid.core s) s mid.core.frames)
+
+  pub made_frames : 16 ≤ a → page_of (core_at mid.core s) (a / 1024) ≡ None → new.core.frames ≡ frames_map s s (a / 1024) (frames_reserve s mid.core.frames)
+      → new.core.frames ≡ frames_loaded (is_some (word_at (core_of ((unwound (state_of old) s).raw.jobs s)) a)) s (a / 1024) (frames_after (clear_at old.core s) None s old.core.frames)
+  made_frames l p e = loaded_frames false (absent_word (core_at mid.core s) a l p).1 e

@@ -1,4 +1,4 @@
--- A page of zeros that is made: it is reserved and cleared, and then mapped.
+-- A page of zeros that is made: it is reserved and cleared, and then mapped. So it has the first of the free frames.
 use Rattle.std.specs.Prelude.{◌≡◌, ◌≤◌, ◌/◌, ◌%◌, ℕ, true, false, Option, Some, None, option_map, is_some, nat_lt, refl}
 use Rattle.std.proofs.Common.{sym, ◌∙◌, ap, arith, inl, inr}
 use Rattle.std.proofs.lemmas.Bool.{cases_eq}
@@ -9,9 +9,9 @@ use Rattle.its_word.proofs.PageLaws.{get-copies}
 use Rattle.its_core.specs.Cores.{Cores, Reserved, core_at, reserved_at, clear_at}
 use Rattle.its_core.proofs.CoresLaws.{same_core_at}
 use Rattle.its_jobs.specs.Table.{job_at}
-use Rattle.its_world.specs.World.{frame_at, CoreBecomes}
+use Rattle.its_world.specs.World.{frame_at, with_frames, CoreBecomes}
 use Rattle.its_world.specs.declared.world.World.{World}
-use Rattle.its_world.proofs.WorldLaws.{alike}
+use Rattle.its_world.proofs.WorldLaws.{alike, frames_still}
 
 unreserved_by : (o : Option Reserved) → option_map (λ x. x.clear) o ≡ None → o ≡ None
 unreserved_by (Some x) h = cc
@@ -41,27 +41,34 @@ mapped_clear a b c s n e o = record {
   ];
 }
 
+-- where the frames of pages were as they are, the core of its slot alone would be another
 pub page_becomes : (old new : World) (s : ℕ) (c : Core) → Only (core_at old.core) (core_at new.core) s c → Same (clear_at old.core) (clear_at new.core)
-    → new.jobs ≡ old.jobs → new.frames ≡ old.frames → new.consoles ≡ old.consoles → new.holders ≡ old.holders → new.files ≡ old.files → new.clock ≡ old.clock → CoreBecomes old new s c
+    → new.jobs ≡ old.jobs → new.frames ≡ old.frames → new.consoles ≡ old.consoles → new.holders ≡ old.holders → new.files ≡ old.files → new.clock ≡ old.clock
+    → CoreBecomes old (with_frames new old.core.frames) s c
+unfolding core_at reserved_at
 page_becomes old new s c core reserved jobs frames consoles holders files clock = record {
   core = core;
   job = alike _ _ s (λ k. ap (λ t. job_at t k) jobs);
   superiors = ap (λ t. t.superiors) jobs;
   frame = alike _ _ s (λ k. ap (λ t. frame_at t.items k) frames);
   reserved = alike _ _ s (reserved.each);
+  pages = sym (frames_still (clear_at old.core s) s old.core.frames);
   consoles = consoles;
   holders = holders;
   files = files;
   clock = clock;
 }
 
-pub page_then_store : (old mid new : World) (s a x : ℕ) (c : Core) → CoreBecomes old mid s c → CoreBecomes mid new s (store (core_at mid.core s) a x) → CoreBecomes old new s (store c a x)
+pub page_then_store : (old mid new : World) (s a x : ℕ) (c : Core) → CoreBecomes old (with_frames mid old.core.frames) s c → CoreBecomes mid new s (store (core_at mid.core s) a x)
+    → CoreBecomes old (with_frames new old.core.frames) s (store c a x)
+unfolding core_at reserved_at
 page_then_store old mid new s a x c h t = record {
   core = record { here = t.core.here ∙ ap (λ d. store d a x) h.core.here; others = λ k n. t.core.others k n ∙ h.core.others k n };
   job = record { here = t.job.here ∙ h.job.here; others = λ k n. t.job.others k n ∙ h.job.others k n };
   superiors = t.superiors ∙ h.superiors;
   frame = record { here = t.frame.here ∙ h.frame.here; others = λ k n. t.frame.others k n ∙ h.frame.others k n };
   reserved = record { here = t.reserved.here ∙ h.reserved.here; others = λ k n. t.reserved.others k n ∙ h.reserved.others k n };
+  pages = sym (frames_still (clear_at old.core s) s old.core.frames);
   consoles = t.consoles ∙ h.consoles;
   holders = t.holders ∙ h.holders;
   files = t.files ∙ h.files;

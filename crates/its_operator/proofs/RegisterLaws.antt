@@ -33,7 +33,7 @@ use Rattle.its_world.specs.declared.world.World.{World}
 use Rattle.its_world.proofs.StateLaws.{raw_job, raw_some, raw_none, changed_state}
 use Rattle.its_pclsr.proofs.ApartLaws.{tidy_put}
 use Rattle.its_operator.specs.Kept.{Kept, Lands, Refused, Calm, reason_of}
-use Rattle.its_operator.proofs.KeptLaws.{refused_by, Made, made_sound, made_plain, made_forest, Lasts, kept_lasts, put_lasts, lasts_address, lasts_console}
+use Rattle.its_operator.proofs.KeptLaws.{refused_by, Made, made_sound, made_plain, made_forest, made_timed, Lasts, kept_lasts, put_lasts, lasts_address, lasts_console}
 
 -- the raw job of a slot
 pub raw_is : (w : World) (s : ℕ) (j : Job) → job_at w.jobs s ≡ Some j → (state_of w).raw.jobs s ≡ Some (raw_job w.files (core_at w.core s) j (superior_at w.jobs s))
@@ -102,6 +102,7 @@ registers_kept f e b old mid new s j kept c r made is keeps same shut = record {
   tidy = tidy_put mid new s _ j (f j) _ _ c.job (shut j) r c.kept.tidy;
   addressed = (registers_lasts (plain (state_of old)) (plain (state_of new)) s f is keeps same (kept_lasts old kept)).addressed;
   consoled = (registers_lasts (plain (state_of old)) (plain (state_of new)) s f is keeps same (kept_lasts old kept)).consoled;
+  timed = made_timed (state_of old) (state_of new) b e kept.sound kept.timed made;
 }
 
 -- the slot is empty

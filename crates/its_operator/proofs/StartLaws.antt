@@ -37,7 +37,7 @@ use Rattle.its_world.proofs.StateLaws.{state_is, holder_state}
 use Rattle.its_world.proofs.TallyLaws.{tally_same, tally_none}
 use Rattle.its_pclsr.proofs.ApartLaws.{tidy_alike}
 use Rattle.its_operator.specs.Kept.{Kept, Lands, Loads, Refused, Alters, Later}
-use Rattle.its_operator.proofs.KeptLaws.{Made, made_sound, made_plain, made_forest, Lasts, kept_lasts, put_lasts}
+use Rattle.its_operator.proofs.KeptLaws.{Made, made_sound, made_plain, made_forest, made_timed, Lasts, kept_lasts, put_lasts}
 use Rattle.its_operator.proofs.RegisterLaws.{block_of}
 use Rattle.its_world.proofs.MadeLaws.{least_raw, made_state, made_tidy}
 use Rattle.its_world.specs.Made.{JobMade}
@@ -155,6 +155,7 @@ module _ (old mid new : World) (s u j : ℕ) (console : Option ℕ) where
     tidy = tidy_alike mid new h.core h.jobs h.files (made_tidy old mid s u j None console f (least_empty (job_at old.jobs) s e) kept.tidy);
     addressed = (load_lasts fits kept e f h).addressed;
     consoled = (load_lasts fits kept e f h).consoled;
+    timed = made_timed (state_of old) (state_of new) no_block (events.Load u j console) kept.sound kept.timed (load_line kept e f h);
   }
 
 pub load_full : (w : World) (u j : ℕ) (console : Option ℕ) → least_free (job_at w.jobs) ≡ None → Refused (state_of w) (state_of w) (λ m. loaded m u j console) refusals.Full
@@ -223,6 +224,7 @@ module _ (old new : World) (n : ℕ) (b : Bool) where
     tidy = tidy_alike old new l.core l.jobs l.files kept.tidy;
     addressed = λ k. subst (λ (o : Option Whole). IfSome o (λ q. q.job.pc < 2 ^ 18)) (sym (later_jobs l k)) (kept.addressed k);
     consoled = λ k. subst (λ (o : Option Whole). IfSome o (λ q. IfSome q.job.console (λ c. c < 8))) (sym (later_jobs l k)) (kept.consoled k);
+    timed = made_timed (state_of old) (state_of new) no_block (events.Clock n) kept.sound kept.timed (clock_line h t l);
   }
 
 pub clock_refused : (w : World) (n : ℕ) (b : Bool) → b ≡ nat_lt (w.clock + n) clock_end → b ≡ false → Refused (state_of w) (state_of w) (λ m. clocked m n) refusals.Range
@@ -276,6 +278,7 @@ open_kept w e n f consoles holders files c =
       tidy = record { blank = λ k h. e.cores k; across = subst (λ s. Across s w.jobs) (sym files) (no_across w.jobs n) };
       addressed = λ k. subst (λ (m : Machine). IfSome (m.jobs k) (λ q. q.job.pc < 2 ^ 18)) (sym machine) (nobody_there k);
       consoled = λ k. subst (λ (m : Machine). IfSome (m.jobs k) (λ q. IfSome q.job.console (λ c. c < 8))) (sym machine) (none_there k);
+      timed = subst (λ (m : Machine). m.clock < clock_end) (sym machine) (lit< tt);
     }
   where
     nobody_there : (k : ℕ) → IfSome (no_machine.jobs k) (λ q. q.job.pc < 2 ^ 18)

@@ -32,7 +32,7 @@ use Rattle.its_world.specs.declared.world.World.{World}
 use Rattle.its_world.proofs.StateLaws.{raw_job, job_of, changed_state}
 use Rattle.its_pclsr.proofs.ApartLaws.{tidy_core}
 use Rattle.its_operator.specs.Kept.{Kept, Lands, Refused, Calm, Calmed, reason_of, refusal_of, undepositable}
-use Rattle.its_operator.proofs.KeptLaws.{refused_by, Made, made_sound, made_plain, made_forest, Lasts, kept_lasts, put_lasts, lasts_address, lasts_console}
+use Rattle.its_operator.proofs.KeptLaws.{refused_by, Made, made_sound, made_plain, made_forest, made_timed, Lasts, kept_lasts, put_lasts, lasts_address, lasts_console}
 use Rattle.its_operator.proofs.RegisterLaws.{raw_is, raw_is_none, placed_lands, disturbed}
 
 -- EXAM is refused alike, with a frame and without
@@ -133,6 +133,7 @@ core_kept e b old mid new s j c kept calm r made a = record {
   tidy = tidy_core mid new s c _ _ (ap is_some calm.job) r calm.kept.tidy;
   addressed = a.addressed;
   consoled = a.consoled;
+  timed = made_timed (state_of old) (state_of new) b e kept.sound kept.timed made;
 }
 
 -- DEPOSIT

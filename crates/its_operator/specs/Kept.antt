@@ -1,5 +1,5 @@
 -- What holds of a world between two calls, and what a call of the operator makes of the state that a world stands for.
-use Rattle.std.specs.Prelude.{if◌then◌else◌, ◌≡◌, ◌<◌, ◌+◌, ◌^◌, ℕ, Bool, Option, Some, None, IfSome, Result, Ok, Err}
+use Rattle.std.specs.Prelude.{if◌then◌else◌, ◌≡◌, ◌<◌, ◌+◌, ◌^◌, ℕ, Bool, true, false, Option, Some, None, IfSome, Result, Ok, Err}
 use Rattle.its_word.specs.declared.access.NoAccess.{NoAccess}
 use Rattle.its_word.specs.declared.access.NoAccess.TheVariants.{Absent, ReadOnly}
 use Rattle.its_word.specs.declared.session.Reason.{Reason}
@@ -8,7 +8,9 @@ use Rattle.its_word.specs.declared.session.Refusal.{Refusal}
 use Rattle.its_word.specs.declared.session.Refusal.TheVariants as refusals
 use Rattle.its_word.specs.declared.jobs.Job.{Job}
 use Rattle.its_files.specs.Files.{helped}
+use Rattle.its_core.specs.Frames.{Frames, frames_map, frames_reserve}
 use Rattle.its_jobs.specs.Table.{job_at}
+use Rattle.its_plain.specs.CallOperator.{clock_end}
 use Rattle.its_plain.specs.Machine.{Machine}
 use Rattle.its_stepped.specs.State.{State, plain}
 use Rattle.its_stepped.specs.Sound.{Sound}
@@ -16,18 +18,21 @@ use Rattle.its_stepped.specs.Forest.{Forest}
 use Rattle.its_stepped.specs.Lines.{with_raw}
 use Rattle.its_stepped.specs.Unwind.{unwound, help}
 use Rattle.its_world.specs.World.{state_of}
+use Rattle.its_pclsr.specs.Apart.{CoresOff}
+use Rattle.its_world.specs.Storage.{OnlyStore}
 use Rattle.its_world.specs.Tidy.{Tidy}
 use Rattle.its_world.specs.declared.world.World.{World}
 
 -- the state is sound, and the jobs of its plain machine are a forest; files and drafts have the channels that they say, and
 -- the core of an empty slot is that of no job; the PC of each job of the plain machine is an address, and its console is one
--- of eight
+-- of eight; and the clock is below its end
 pub record Kept (w : World) : Type 0 where
   pub sound : Sound (state_of w)
   pub forest : Forest (plain (state_of w))
   pub tidy : Tidy w
   pub addressed : (k : ℕ) → IfSome ((plain (state_of w)).jobs k) (λ q. q.job.pc < 2 ^ 18)
   pub consoled : (k : ℕ) → IfSome ((plain (state_of w)).jobs k) (λ q. IfSome q.job.console (λ c. c < 8))
+  pub timed : (plain (state_of w)).clock < clock_end
 
 -- state v after a line that comes to a raw machine: its frames, reserved pages and mark stay
 pub record Lands (v new : State) (r : Result Machine Reason) : Type 0 where
@@ -68,9 +73,15 @@ pub record FileRefused {X : Type 0} (w : State) (f : Machine → Result X Reason
   pub plain : f (plain w) ≡ Err (reason_of e)
   pub calmed : f (help w).raw ≡ Err (reason_of e)
 
+-- the frames of pages after a word of an a/ line of slot s: by whether page k is there, which else is made
+abbrev pub frames_loaded : Bool → ℕ → ℕ → Frames → Frames
+frames_loaded true s k f = f
+frames_loaded false s k f = frames_map s s k (frames_reserve s f)
+
 -- a slot of a world was unwound, and has this job
 pub record Calm (old mid : World) (s : ℕ) (j : Job) : Type 0 where
   pub kept : Kept mid
+  pub cores : CoresOff old mid s
   pub unwinds : state_of mid ≡ unwound (state_of old) s
   pub job : job_at mid.jobs s ≡ Some j
 
@@ -103,8 +114,14 @@ pub record Later (old new : World) (n : ℕ) : Type 0 where
   pub files : new.files ≡ old.files
   pub clock : new.clock ≡ old.clock + n
 
+-- of a world the owed parts of a close are made, and nothing else: jobs, cores, pages and the frames in which they stand are as they
+-- were
+abbrev pub CloseMade : World → World → Type 0
+CloseMade old new = OnlyStore old new (helped old.files)
+
 -- the parts of a close that are still owed are made
 pub record Helped (old new : World) : Type 0 where
+  pub alone : CloseMade old new
   pub files : new.files ≡ helped old.files
   pub state : state_of new ≡ help (state_of old)
   pub kept : Kept new

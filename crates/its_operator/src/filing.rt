@@ -7,7 +7,7 @@ ghost use Rattle.its_stepped.specs.State.{plain};
 ghost use Rattle.its_stepped.specs.Unwind.{help};
 ghost use Rattle.its_world.specs.World.{state_of};
 ghost use Rattle.its_world.specs.Tidy.{Tidy};
-ghost use Rattle.its_operator.specs.Kept.{Kept, Lands, Helped, FileRefused, reason_of};
+ghost use Rattle.its_operator.specs.Kept.{Kept, Lands, Helped, FileRefused, CloseMade, reason_of};
 ghost use Rattle.its_operator.specs.Filing.{word_if, length_if};
 
 use its_word::{FileShow, Refusal, Word};
@@ -25,6 +25,7 @@ pub fn dir(w: &mut World, d: Word, k: u32) -> Option<FileShow>
     ensures plain { plain (state_of w.new) ≡ plain (state_of w.old) }
     ensures state { state_of w.new ≡ help (state_of w.old) }
     ensures files { w.new.files ≡ helped w.old.files }
+    ensures alone { CloseMade w.old w.new }
     ensures kept { Kept w.new }
 {
     help(w);
@@ -45,6 +46,7 @@ pub fn file(w: &mut World, d: Word, x: Word, y: Word) -> Result<u32, Refusal>
     ensures plain { plain (state_of w.new) ≡ plain (state_of w.old) }
     ensures state { state_of w.new ≡ help (state_of w.old) }
     ensures files { w.new.files ≡ helped w.old.files }
+    ensures alone { CloseMade w.old w.new }
     ensures kept { Kept w.new }
 {
     help(w);
@@ -63,6 +65,7 @@ pub fn file_word(w: &mut World, id: u32, k: u32) -> Option<Word>
     ensures plain { plain (state_of w.new) ≡ plain (state_of w.old) }
     ensures state { state_of w.new ≡ help (state_of w.old) }
     ensures files { w.new.files ≡ helped w.old.files }
+    ensures alone { CloseMade w.old w.new }
     ensures kept { Kept w.new }
 {
     help(w);
@@ -80,6 +83,7 @@ pub fn file_length(w: &mut World, id: u32) -> Option<u32>
     ensures plain { plain (state_of w.new) ≡ plain (state_of w.old) }
     ensures state { state_of w.new ≡ help (state_of w.old) }
     ensures files { w.new.files ≡ helped w.old.files }
+    ensures alone { CloseMade w.old w.new }
     ensures kept { Kept w.new }
 {
     help(w);
@@ -101,6 +105,8 @@ pub fn file_new(w: &mut World, d: Word, x: Word, y: Word) -> Result<u32, Refusal
     ensures refused { IfErr result (λ e. FileRefused (state_of w.old) (λ m. file_made m (names_of d x y)) e) }
     ensures state { OnErr result (state_of w.new ≡ help (state_of w.old)) }
     ensures files { OnErr result (w.new.files ≡ helped w.old.files) }
+    ensures alone { OnErr result (CloseMade w.old w.new) }
+    ensures core { w.new.core ≡ w.old.core }
     ensures kept { Kept w.new }
 {
     help(w);
@@ -126,6 +132,8 @@ pub fn file_add(w: &mut World, id: u32, word: Word) -> Result<(), Refusal>
     ensures refused { IfErr result (λ e. FileRefused (state_of w.old) (λ m. word_added m (names_at (helped w.old.files) id) word) e) }
     ensures state { OnErr result (state_of w.new ≡ help (state_of w.old)) }
     ensures files { OnErr result (w.new.files ≡ helped w.old.files) }
+    ensures alone { OnErr result (CloseMade w.old w.new) }
+    ensures core { w.new.core ≡ w.old.core }
     ensures kept { Kept w.new }
 {
     help(w);
@@ -197,6 +205,7 @@ fn make_file(w: &mut World, d: Word, x: Word, y: Word) -> u32
     ensures done { Lands (state_of w.old) (state_of w.new) (file_made (state_of w.old).raw (names_of d x y)) }
     ensures file { is_file (entry_at w.new.files result) ≡ true }
     ensures names { names_at w.new.files result ≡ names_of d x y }
+    ensures core { w.new.core ≡ w.old.core }
     ensures tidy { Tidy w.new }
 {
     w.files.new_file(d, x, y)
@@ -212,6 +221,7 @@ fn add_word(w: &mut World, id: u32, word: Word) -> Result<(), Refusal>
     ensures refused { IfErr result (λ e. word_added (state_of w.old).raw (names_at w.old.files id) word ≡ Err (reason_of e)) }
     ensures file { is_file (entry_at w.new.files id) ≡ true }
     ensures names { names_at w.new.files id ≡ names_at w.old.files id }
+    ensures core { w.new.core ≡ w.old.core }
     ensures tidy { Tidy w.new }
     ensures same { OnErr result (w.new ≡ w.old) }
 {

@@ -38,6 +38,7 @@ pub fn load_job(w: &mut World, u: Word, j: Word, console: Option<u8>) -> Result<
     ensures plain { IfOk result (λ s. loaded (plain (state_of w.old)) u j console ≡ Ok (plain (state_of w.new), s)) }
     ensures refused { IfErr result (λ e. Refused (state_of w.old) (state_of w.old) (λ m. loaded m u j console) e) }
     ensures same { OnErr result (w.new ≡ w.old) }
+    ensures core { w.new.core ≡ w.old.core }
     ensures kept { Kept w.new }
 {
     match make(w, u, j, console) {
@@ -95,6 +96,7 @@ pub fn advance(w: &mut World, n: u64) -> Result<(), Refusal>
     ensures plain { OnOk result (clocked (plain (state_of w.old)) n ≡ Ok (plain (state_of w.new))) }
     ensures refused { IfErr result (λ e. Refused (state_of w.old) (state_of w.old) (λ m. clocked m n) e) }
     ensures same { OnErr result (w.new ≡ w.old) }
+    ensures core { w.new.core ≡ w.old.core }
     ensures kept { Kept w.new }
 {
     if in_time(w.clock, n) {

@@ -6,6 +6,7 @@ ghost use Rattle.its_plain.specs.OperatorJobs.{on_registers, started, stopped, c
 ghost use Rattle.its_stepped.specs.State.{plain};
 ghost use Rattle.its_stepped.specs.Unwind.{unwound};
 ghost use Rattle.its_world.specs.World.{state_of};
+ghost use Rattle.its_pclsr.specs.Apart.{CoresOff};
 ghost use Rattle.its_operator.specs.Kept.{Kept, Lands, Refused, Calm};
 
 use its_pclsr::unwind;
@@ -13,7 +14,7 @@ use its_word::{FATAL, Job, JobShow, Refusal, Word, pc_word};
 use its_world::World;
 
 /// GO: starts a slot's job at an address, with no flags. NoJob where the slot is empty.
-#[tactic(auto, using(crate::proofs::RegisterLaws::go_done, crate::proofs::RegisterLaws::go_plain, crate::proofs::RegisterLaws::go_kept, crate::proofs::RegisterLaws::registers_refused))]
+#[tactic(auto, using(crate::proofs::RegisterLaws::go_done, crate::proofs::RegisterLaws::go_plain, crate::proofs::RegisterLaws::go_kept, crate::proofs::RegisterLaws::registers_refused, crate::proofs::KeptLaws::registers_off))]
 pub fn go(w: &mut World, slot: u8, a: u32) -> Result<(), Refusal>
     requires slot { slot < slots }
     requires address { a < 2 ^ 18 }
@@ -22,6 +23,7 @@ pub fn go(w: &mut World, slot: u8, a: u32) -> Result<(), Refusal>
     ensures plain { OnOk result (on_registers (plain (state_of w.old)) slot (started a) ≡ Ok (plain (state_of w.new))) }
     ensures refused { IfErr result (λ e. Refused (state_of w.old) (unwound (state_of w.old) slot) (λ m. on_registers m slot (started a)) e) }
     ensures same { OnErr result (w.new ≡ w.old) }
+    ensures cores { OnOk result (CoresOff w.old w.new slot) }
     ensures kept { Kept w.new }
 {
     let mut job = calmed(w, slot)?;
@@ -33,7 +35,7 @@ pub fn go(w: &mut World, slot: u8, a: u32) -> Result<(), Refusal>
 }
 
 /// STOP: sets the stopped mark of a slot's job. NoJob where the slot is empty.
-#[tactic(auto, using(crate::proofs::RegisterLaws::stop_done, crate::proofs::RegisterLaws::stop_plain, crate::proofs::RegisterLaws::stop_kept, crate::proofs::RegisterLaws::registers_refused))]
+#[tactic(auto, using(crate::proofs::RegisterLaws::stop_done, crate::proofs::RegisterLaws::stop_plain, crate::proofs::RegisterLaws::stop_kept, crate::proofs::RegisterLaws::registers_refused, crate::proofs::KeptLaws::registers_off))]
 pub fn stop(w: &mut World, slot: u8) -> Result<(), Refusal>
     requires slot { slot < slots }
     requires kept { Kept w.old }
@@ -41,6 +43,7 @@ pub fn stop(w: &mut World, slot: u8) -> Result<(), Refusal>
     ensures plain { OnOk result (on_registers (plain (state_of w.old)) slot stopped ≡ Ok (plain (state_of w.new))) }
     ensures refused { IfErr result (λ e. Refused (state_of w.old) (unwound (state_of w.old) slot) (λ m. on_registers m slot stopped) e) }
     ensures same { OnErr result (w.new ≡ w.old) }
+    ensures cores { OnOk result (CoresOff w.old w.new slot) }
     ensures kept { Kept w.new }
 {
     let mut job = calmed(w, slot)?;
@@ -50,7 +53,7 @@ pub fn stop(w: &mut World, slot: u8) -> Result<(), Refusal>
 }
 
 /// CONT: lets a slot's job run, with no fatal bit pending. NoJob where the slot is empty.
-#[tactic(auto, using(crate::proofs::RegisterLaws::cont_done, crate::proofs::RegisterLaws::cont_plain, crate::proofs::RegisterLaws::cont_kept, crate::proofs::RegisterLaws::registers_refused))]
+#[tactic(auto, using(crate::proofs::RegisterLaws::cont_done, crate::proofs::RegisterLaws::cont_plain, crate::proofs::RegisterLaws::cont_kept, crate::proofs::RegisterLaws::registers_refused, crate::proofs::KeptLaws::registers_off))]
 pub fn cont(w: &mut World, slot: u8) -> Result<(), Refusal>
     requires slot { slot < slots }
     requires kept { Kept w.old }
@@ -58,6 +61,7 @@ pub fn cont(w: &mut World, slot: u8) -> Result<(), Refusal>
     ensures plain { OnOk result (on_registers (plain (state_of w.old)) slot continued ≡ Ok (plain (state_of w.new))) }
     ensures refused { IfErr result (λ e. Refused (state_of w.old) (unwound (state_of w.old) slot) (λ m. on_registers m slot continued) e) }
     ensures same { OnErr result (w.new ≡ w.old) }
+    ensures cores { OnOk result (CoresOff w.old w.new slot) }
     ensures kept { Kept w.new }
 {
     let job = calmed(w, slot)?;
@@ -67,7 +71,7 @@ pub fn cont(w: &mut World, slot: u8) -> Result<(), Refusal>
 
 /// INT: sets bits of the pending words of a slot's job beside those that are set. NoJob where the slot is
 /// empty.
-#[tactic(auto, using(crate::proofs::RegisterLaws::interrupt_done, crate::proofs::RegisterLaws::interrupt_plain, crate::proofs::RegisterLaws::interrupt_kept, crate::proofs::RegisterLaws::registers_refused))]
+#[tactic(auto, using(crate::proofs::RegisterLaws::interrupt_done, crate::proofs::RegisterLaws::interrupt_plain, crate::proofs::RegisterLaws::interrupt_kept, crate::proofs::RegisterLaws::registers_refused, crate::proofs::KeptLaws::registers_off))]
 pub fn interrupt(w: &mut World, slot: u8, v: Word, x: Word) -> Result<(), Refusal>
     requires slot { slot < slots }
     requires kept { Kept w.old }
@@ -75,6 +79,7 @@ pub fn interrupt(w: &mut World, slot: u8, v: Word, x: Word) -> Result<(), Refusa
     ensures plain { OnOk result (on_registers (plain (state_of w.old)) slot (interrupted v x) ≡ Ok (plain (state_of w.new))) }
     ensures refused { IfErr result (λ e. Refused (state_of w.old) (unwound (state_of w.old) slot) (λ m. on_registers m slot (interrupted v x)) e) }
     ensures same { OnErr result (w.new ≡ w.old) }
+    ensures cores { OnOk result (CoresOff w.old w.new slot) }
     ensures kept { Kept w.new }
 {
     let job = calmed(w, slot)?;
@@ -83,15 +88,17 @@ pub fn interrupt(w: &mut World, slot: u8, v: Word, x: Word) -> Result<(), Refusa
 }
 
 /// STATE: what is shown of a slot's job. NoJob where the slot is empty.
-#[tactic(auto, using(crate::proofs::RegisterLaws::state_found, crate::proofs::RegisterLaws::state_plain, crate::proofs::RegisterLaws::state_refused))]
+#[tactic(auto, using(crate::proofs::RegisterLaws::state_found, crate::proofs::RegisterLaws::state_plain, crate::proofs::RegisterLaws::state_refused, crate::proofs::KeptLaws::calm_same, crate::proofs::KeptLaws::calm_off))]
 pub fn state(w: &mut World, slot: u8) -> Result<JobShow, Refusal>
     requires slot { slot < slots }
     requires kept { Kept w.old }
     ensures shown { IfOk result (λ show. state_shown (unwound (state_of w.old) slot).raw slot ≡ Ok show) }
     ensures plain { IfOk result (λ show. state_shown (plain (state_of w.old)) slot ≡ Ok show) }
     ensures unwinds { OnOk result (state_of w.new ≡ unwound (state_of w.old) slot) }
+    ensures leaves { plain (state_of w.new) ≡ plain (state_of w.old) }
     ensures refused { IfErr result (λ e. Refused (state_of w.old) (unwound (state_of w.old) slot) (λ m. state_shown m slot) e) }
     ensures same { OnErr result (w.new ≡ w.old) }
+    ensures cores { OnOk result (CoresOff w.old w.new slot) }
     ensures kept { Kept w.new }
 {
     let job = calmed(w, slot)?;

@@ -15,6 +15,7 @@ pub fn type_in(w: &mut World, console: u8, b: u8) -> bool
     ensures waits { IsTrue result ↔ (length ((state_of w.old).raw.consoles console).input < most_waiting) }
     ensures done { Lands (state_of w.old) (state_of w.new) (Ok (typed console (b ∷ []) (state_of w.old).raw)) }
     ensures plain { plain (state_of w.new) ≡ typed console (b ∷ []) (plain (state_of w.old)) }
+    ensures core { w.new.core ≡ w.old.core }
     ensures kept { Kept w.new }
 {
     w.type_in(console, b)
@@ -28,6 +29,7 @@ pub fn drain(w: &mut World, console: u8) -> Option<u8>
     ensures first { result ≡ slice_get ((state_of w.old).raw.consoles console).output 0 }
     ensures done { Lands (state_of w.old) (state_of w.new) (Ok (drained console 1 (state_of w.old).raw)) }
     ensures plain { plain (state_of w.new) ≡ drained console 1 (plain (state_of w.old)) }
+    ensures core { w.new.core ≡ w.old.core }
     ensures kept { Kept w.new }
 {
     w.drain(console)

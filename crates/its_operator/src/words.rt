@@ -3,12 +3,15 @@ ghost use Rattle.its_word.specs.Only.{Only, Same};
 ghost use Rattle.its_word.specs.Limits.{slots, most_pages};
 ghost use Rattle.its_word.specs.Core.{store, can_store, word_at, page_of, with_page, zero_page, pages_mapped};
 ghost use Rattle.its_core.specs.Cores.{core_at, reserved_at, clear_at};
+ghost use Rattle.its_core.specs.Frames.{frames_map, frames_reserve};
 ghost use Rattle.its_jobs.specs.Table.{job_at};
 ghost use Rattle.its_plain.specs.OperatorJobs.{word_loaded, word_seen, deposited};
+ghost use Rattle.its_plain.specs.Machine.{core_of};
 ghost use Rattle.its_stepped.specs.State.{plain};
 ghost use Rattle.its_stepped.specs.Unwind.{unwound};
-ghost use Rattle.its_world.specs.World.{state_of, CoreBecomes};
-ghost use Rattle.its_operator.specs.Kept.{Kept, Lands, Refused, Calm, Calmed, refusal_of, undepositable, unloadable};
+ghost use Rattle.its_world.specs.World.{state_of, frames_after, with_frames, CoreBecomes};
+ghost use Rattle.its_pclsr.specs.Apart.{CoresOff};
+ghost use Rattle.its_operator.specs.Kept.{Kept, Lands, Refused, Calm, Calmed, refusal_of, undepositable, unloadable, frames_loaded};
 
 use its_core::{Core, Full};
 use its_pclsr::unwind;
@@ -16,7 +19,7 @@ use its_word::{Fault, MAPPED_PAGES, NoAccess, Refusal, Word};
 use its_world::World;
 
 /// EXAM: the word at an address of a slot. NoJob where the slot is empty, NoPage where the page is absent.
-#[tactic(auto, using(crate::proofs::WordLaws::exam_none, crate::proofs::WordLaws::exam_refused, crate::proofs::WordLaws::exam_there, crate::proofs::WordLaws::exam_found, crate::proofs::WordLaws::exam_plain))]
+#[tactic(auto, using(crate::proofs::WordLaws::exam_none, crate::proofs::WordLaws::exam_refused, crate::proofs::WordLaws::exam_there, crate::proofs::WordLaws::exam_found, crate::proofs::WordLaws::exam_plain, crate::proofs::KeptLaws::calmed_same, crate::proofs::KeptLaws::calmed_off))]
 pub fn exam(w: &mut World, slot: u8, a: u32) -> Result<Word, Refusal>
     requires slot { slot < slots }
     requires address { a < 2 ^ 18 }
@@ -24,8 +27,10 @@ pub fn exam(w: &mut World, slot: u8, a: u32) -> Result<Word, Refusal>
     ensures word { IfOk result (λ x. word_seen (unwound (state_of w.old) slot).raw slot a ≡ Ok x) }
     ensures plain { IfOk result (λ x. word_seen (plain (state_of w.old)) slot a ≡ Ok x) }
     ensures unwinds { OnOk result (state_of w.new ≡ unwound (state_of w.old) slot) }
+    ensures leaves { plain (state_of w.new) ≡ plain (state_of w.old) }
     ensures refused { IfErr result (λ e. Refused (state_of w.old) (unwound (state_of w.old) slot) (λ m. word_seen m slot a) e) }
     ensures same { OnErr result (w.new ≡ w.old) }
+    ensures cores { OnOk result (CoresOff w.old w.new slot) }
     ensures kept { Kept w.new }
 {
     present(w, slot)?;
@@ -42,7 +47,7 @@ pub fn exam(w: &mut World, slot: u8, a: u32) -> Result<Word, Refusal>
 
 /// DEPOSIT: stores a word of a slot. NoJob where the slot is empty; NoPage where the page is absent, ReadOnly
 /// where it is so.
-#[tactic(auto, using(crate::proofs::WordLaws::deposit_none, crate::proofs::WordLaws::deposit_refused, crate::proofs::WordLaws::deposit_can, crate::proofs::WordLaws::deposit_done, crate::proofs::WordLaws::deposit_plain, crate::proofs::WordLaws::deposit_kept))]
+#[tactic(auto, using(crate::proofs::WordLaws::deposit_none, crate::proofs::WordLaws::deposit_refused, crate::proofs::WordLaws::deposit_can, crate::proofs::WordLaws::deposit_done, crate::proofs::WordLaws::deposit_plain, crate::proofs::WordLaws::deposit_kept, crate::proofs::KeptLaws::stored_off))]
 pub fn deposit(w: &mut World, slot: u8, a: u32, word: Word) -> Result<(), Refusal>
     requires slot { slot < slots }
     requires address { a < 2 ^ 18 }
@@ -51,6 +56,7 @@ pub fn deposit(w: &mut World, slot: u8, a: u32, word: Word) -> Result<(), Refusa
     ensures plain { OnOk result (deposited (plain (state_of w.old)) slot a word ≡ Ok (plain (state_of w.new))) }
     ensures refused { IfErr result (λ e. Refused (state_of w.old) (unwound (state_of w.old) slot) (λ m. deposited m slot a word) e) }
     ensures same { OnErr result (w.new ≡ w.old) }
+    ensures cores { OnOk result (CoresOff w.old w.new slot) }
     ensures kept { Kept w.new }
 {
     present(w, slot)?;
@@ -74,6 +80,7 @@ pub fn load_word(w: &mut World, slot: u8, a: u32, word: Word) -> Result<(), Refu
     ensures plain { OnOk result (word_loaded (plain (state_of w.old)) slot a word ≡ Ok (plain (state_of w.new))) }
     ensures refused { IfErr result (λ e. Refused (state_of w.old) (unwound (state_of w.old) slot) (λ m. word_loaded m slot a word) e) }
     ensures same { OnErr result (w.new ≡ w.old) }
+    ensures pages { OnOk result (w.new.core.frames ≡ frames_loaded (is_some (word_at (core_of ((unwound (state_of w.old) slot).raw.jobs slot)) a)) slot (a / 1024) (frames_after (clear_at w.old.core slot) None slot w.old.core.frames)) }
     ensures kept { Kept w.new }
 {
     present(w, slot)?;
@@ -126,7 +133,7 @@ fn unloadable(w: &World, slot: u8, a: u32) -> Option<Refusal>
 }
 
 /// Makes the page of an address, and stores a word there.
-#[tactic(auto, using(crate::proofs::PageLaws::zero_stores, crate::proofs::PageLaws::page_then_store))]
+#[tactic(auto, using(crate::proofs::PageLaws::zero_stores))]
 fn load_page(w: &mut World, slot: u8, a: u32, word: Word)
     requires slot { slot < slots }
     requires address { a < 2 ^ 18 }
@@ -134,20 +141,21 @@ fn load_page(w: &mut World, slot: u8, a: u32, word: Word)
     requires absent { page_of (core_at w.old.core slot) (a / 1024) ≡ None }
     requires room { pages_mapped (core_at w.old.core) < most_pages }
     requires unreserved { clear_at w.old.core slot ≡ None }
-    ensures { CoreBecomes w.old w.new slot (store (with_page (core_at w.old.core slot) (a / 1024) (Some zero_page)) a word) }
+    ensures loaded { CoreBecomes w.old (with_frames w.new w.old.core.frames) slot (store (with_page (core_at w.old.core slot) (a / 1024) (Some zero_page)) a word) }
+    ensures frames { w.new.core.frames ≡ frames_map slot slot (a / 1024) (frames_reserve slot w.old.core.frames) }
 {
     make_page(w, slot, (a / 1024) as u8);
     w.store(slot, a, word);
 }
 
 /// Makes a page of zeros of a slot.
-#[tactic(auto, using(crate::proofs::PageLaws::page_becomes))]
 fn make_page(w: &mut World, slot: u8, page: u8)
     requires slot { slot < slots }
     requires absent { page_of (core_at w.old.core slot) page ≡ None }
     requires room { pages_mapped (core_at w.old.core) < most_pages }
     requires unreserved { clear_at w.old.core slot ≡ None }
-    ensures made { CoreBecomes w.old w.new slot (with_page (core_at w.old.core slot) page (Some zero_page)) }
+    ensures made { CoreBecomes w.old (with_frames w.new w.old.core.frames) slot (with_page (core_at w.old.core slot) page (Some zero_page)) }
+    ensures frames { w.new.core.frames ≡ frames_map slot slot page (frames_reserve slot w.old.core.frames) }
     ensures there { page_of (core_at w.new.core slot) page ≡ Some zero_page }
 {
     map_zeros(&mut w.core, slot, page);
@@ -163,6 +171,7 @@ fn map_zeros(core: &mut Core, slot: u8, page: u8)
     ensures made { Only (core_at core.old) (core_at core.new) slot (with_page (core_at core.old slot) page (Some zero_page)) }
     ensures there { page_of (core_at core.new slot) page ≡ Some zero_page }
     ensures reserved { Same (clear_at core.old) (clear_at core.new) }
+    ensures frames { core.new.frames ≡ frames_map slot slot page (frames_reserve slot core.old.frames) }
 {
     reserve_zeros(core, slot);
     match core.map(slot, slot, page) {
@@ -178,6 +187,7 @@ fn reserve_zeros(core: &mut Core, slot: u8)
     requires none { clear_at core.old slot ≡ None }
     ensures clear { Only (clear_at core.old) (clear_at core.new) slot (Some 4) }
     ensures cores { core.new.cores ≡ core.old.cores }
+    ensures frames { core.new.frames ≡ frames_reserve slot core.old.frames }
 {
     core.reserve(slot);
     core.clear_quarter(slot, 0);

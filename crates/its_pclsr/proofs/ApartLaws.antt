@@ -8,24 +8,68 @@ use Rattle.its_word.specs.declared.jobs.Channel.TheVariants.{Closed}
 use Rattle.its_word.specs.declared.jobs.Job.{Job}
 use Rattle.its_frame.specs.declared.frame.Frame.{Frame}
 use Rattle.its_core.specs.Cores.{core_at, clear_at}
+use Rattle.its_core.specs.Frames.{Frames}
 use Rattle.its_files.specs.Files.{Store}
 use Rattle.its_jobs.specs.Table.{Table, job_at}
 use Rattle.its_word.specs.declared.calls.Exit.{Exit}
 use Rattle.its_plain.specs.Own.{left_with}
 use Rattle.its_world.specs.Tidy.{channel_by, channel_at, Across, Tidy}
-use Rattle.its_world.specs.World.{frame_at, Becomes, CoreBecomes, JobBecomes, FrameBecomes, PageBecomes, ConsoleBecomes, HolderBecomes}
+use Rattle.its_world.specs.World.{frame_at, frames_after, Becomes, CoreBecomes, JobBecomes, FrameBecomes, PageBecomes, ConsoleBecomes, HolderBecomes}
 use Rattle.its_world.specs.declared.world.World.{World}
 use Rattle.its_world.proofs.KeptLaws.{across_table}
+use Rattle.its_world.proofs.WorldLaws.{frames_still}
 use Rattle.its_pclsr.specs.Apart.{CoresOff}
 
 pub off_same : (w : World) (s : ℕ) → CoresOff w w s
-off_same w s = record { others = λ k n. refl }
+off_same w s = record { others = λ k n. refl; unreserved = λ h. h; pages = sym (frames_still (clear_at w.core s) s w.core.frames) }
 
-pub off_one : (old new : World) (s : ℕ) (c : Core) (j : Option Job) (f : Option Frame) (r : Option ℕ) → Becomes old new s c j f r → CoresOff old new s
-off_one old new s c j f r b = record { others = b.core.others }
+-- each page stays in its frame where no page is reserved and none given back
+pub becomes_pages : (old new : World) (s : ℕ) (c : Core) (j : Option Job) (f : Option Frame) → Becomes old new s c j f (clear_at old.core s) → new.core.frames ≡ old.core.frames
+becomes_pages old new s c j f b = b.pages ∙ frames_still (clear_at old.core s) s old.core.frames
+
+pub console_pages : (old new : World) (c : ℕ) (x : Console) → ConsoleBecomes old new c x → new.core.frames ≡ old.core.frames
+console_pages old new c x b = ap (λ k. k.frames) b.core
+
+pub holder_pages : (old new : World) (c : ℕ) (h : Option ℕ) → HolderBecomes old new c h → new.core.frames ≡ old.core.frames
+holder_pages old new c h b = ap (λ k. k.frames) b.core
+
+off_by : (old new : World) (s : ℕ) (c : Core) (j : Option Job) (f : Option Frame) (r : Option ℕ) → (clear_at old.core s ≡ None → r ≡ None) → Becomes old new s c j f r → CoresOff old new s
+off_by old new s c j f r less b = record {
+  others = b.core.others;
+  unreserved = λ h. b.reserved.here ∙ less h;
+  pages = b.pages ∙ ap (λ o. frames_after (clear_at old.core s) o s old.core.frames) (sym b.reserved.here);
+}
+
+pub off_one : (old new : World) (s : ℕ) (c : Core) (j : Option Job) (f : Option Frame) → Becomes old new s c j f (clear_at old.core s) → CoresOff old new s
+off_one old new s c j f b = off_by old new s c j f (clear_at old.core s) (λ h. h) b
+
+pub off_back : (old new : World) (s : ℕ) (c : Core) (j : Option Job) (f : Option Frame) → Becomes old new s c j f None → CoresOff old new s
+off_back old new s c j f b = off_by old new s c j f None (λ h. refl) b
+
+pub off_alike : (old new : World) (s : ℕ) → new.core ≡ old.core → CoresOff old new s
+off_alike old new s e = record {
+  others = λ k n. ap (λ c. core_at c k) e;
+  unreserved = λ h. ap (λ c. clear_at c s) e ∙ h;
+  pages = ap (λ c. c.frames) e ∙ sym (frames_still (clear_at old.core s) s old.core.frames) ∙ ap (λ c. frames_after (clear_at old.core s) (clear_at c s) s old.core.frames) (sym e);
+}
+
+-- a page that is given back is not reserved anew
+frames_then : (o p r : Option ℕ) (s : ℕ) (f : Frames) → (o ≡ None → p ≡ None) → (p ≡ None → r ≡ None) → frames_after p r s (frames_after o p s f) ≡ frames_after o r s f
+frames_then None None None s f a b = refl
+frames_then (Some i) (Some k) (Some n) s f a b = refl
+frames_then (Some i) (Some k) None s f a b = refl
+frames_then (Some i) None None s f a b = refl
+frames_then None None (Some n) s f a b = let no : Some n ≡ None = b refl in absurd cc
+frames_then (Some i) None (Some n) s f a b = let no : Some n ≡ None = b refl in absurd cc
+frames_then None (Some k) r s f a b = let no : Some k ≡ None = a refl in absurd cc
 
 pub off_then : (old mid new : World) (s : ℕ) → CoresOff old mid s → CoresOff mid new s → CoresOff old new s
-off_then old mid new s a b = record { others = λ k n. b.others k n ∙ a.others k n }
+off_then old mid new s a b = record {
+  others = λ k n. b.others k n ∙ a.others k n;
+  unreserved = λ h. b.unreserved (a.unreserved h);
+  pages = b.pages ∙ ap (frames_after (clear_at mid.core s) (clear_at new.core s) s) a.pages
+      ∙ frames_then (clear_at old.core s) (clear_at mid.core s) (clear_at new.core s) s old.core.frames a.unreserved b.unreserved;
+}
 
 -- one slot is written, whose job keeps its channels; where it has no job then, its core is that of none
 pub tidy_becomes : (old new : World) (s : ℕ) (c : Core) (o : Option Job) (f : Option Frame) (r : Option ℕ) → Becomes old new s c o f r

@@ -15,7 +15,8 @@ use Rattle.its_stepped.specs.Unwind.{unwound, all_unwound}
 use Rattle.its_stepped.proofs.EffectLaws.{superiors_plain}
 use Rattle.its_stepped.proofs.UnwindLaws.{all_unwound_turn, all_unwound_end, all_unwound_plain}
 use Rattle.its_pclsr.proofs.RemovalLaws.{superiors_are}
-use Rattle.its_world.specs.World.{state_of}
+use Rattle.its_pclsr.specs.Pages.{pages_unwound}
+use Rattle.its_world.specs.World.{state_of, frames_after}
 use Rattle.its_world.specs.declared.world.World.{World}
 
 -- the k-th of a list
@@ -51,17 +52,18 @@ pub record Unwinding (old new : World) (s k : ℕ) : Type 0 where
   pub sound : Sound (state_of new)
   pub tree : superiors (state_of new).raw ≡ superiors (state_of old).raw
   pub rest : all_unwound (drop k (slots_below (superiors (state_of new).raw) s)) (state_of new) ≡ all_unwound (slots_below (superiors (state_of old).raw) s) (state_of old)
+  pub pages : pages_unwound (drop k (slots_below (superiors (state_of new).raw) s)) (state_of new) new.core.frames ≡ pages_unwound (slots_below (superiors (state_of old).raw) s) (state_of old) old.core.frames
 
 pub unwinding_start : (w : World) (s : ℕ) → Sound (state_of w) → Unwinding w w s 0
-unwinding_start w s sound = record { sound = sound; tree = refl; rest = refl }
+unwinding_start w s sound = record { sound = sound; tree = refl; rest = refl; pages = refl }
 
 same_superiors : (w v : State) → plain v ≡ plain w → superiors v.raw ≡ superiors w.raw
 same_superiors w v e = sym (superiors_plain v) ∙ ap (λ (m : Machine). superiors m) e ∙ superiors_plain w
 
 pub unwinding_more : (old mid new : World) (s k b : ℕ) → Unwinding old mid s k → IsTree mid.jobs.jobs mid.jobs.superiors
     → Some b ≡ slice_get (slots_below (superior_at mid.jobs) s) k → state_of new ≡ unwound (state_of mid) b → plain (state_of new) ≡ plain (state_of mid)
-    → Sound (state_of new) → Unwinding old new s (k + 1)
-unwinding_more old mid new s k b u t h e p sound =
+    → Sound (state_of new) → new.core.frames ≡ frames_after ((state_of mid).reserved b) None b mid.core.frames → Unwinding old new s (k + 1)
+unwinding_more old mid new s k b u t h e p sound g =
     let up = same_superiors (state_of mid) (state_of new) p in
     let xs : List ℕ = slots_below (superiors (state_of mid).raw) s in
     let here : slice_get xs k ≡ Some b = ap (λ sup. slice_get (slots_below sup s) k) (superiors_are mid t) ∙ sym h in
@@ -75,6 +77,11 @@ unwinding_more old mid new s k b u t h e p sound =
           ∙ all_unwound_turn b (drop (suc k) xs) (state_of mid)
           ∙ ap (λ ys. all_unwound ys (state_of mid)) (sym (first_of_rest xs k b here))
           ∙ u.rest;
+      pages = ap (λ sup. pages_unwound (drop (k + 1) (slots_below sup s)) (state_of new) new.core.frames) up
+          ∙ ap (λ n. pages_unwound (drop n xs) (state_of new) new.core.frames) one
+          ∙ (λ i. pages_unwound (drop (suc k) xs) (e i) (g i))
+          ∙ ap (λ ys. pages_unwound ys (state_of mid) mid.core.frames) (sym (first_of_rest xs k b here))
+          ∙ u.pages;
     }
 
 pub unwinding_end : (old mid : World) (s k : ℕ) → Unwinding old mid s k → IsTree mid.jobs.jobs mid.jobs.superiors
@@ -83,6 +90,13 @@ unwinding_end old mid s k u t h =
     let xs : List ℕ = slots_below (superiors (state_of mid).raw) s in
     let here : slice_get xs k ≡ None = ap (λ sup. slice_get (slots_below sup s) k) (superiors_are mid t) ∙ sym h in
     sym (ap (λ ys. all_unwound ys (state_of mid)) (none_of_rest xs k here) ∙ all_unwound_end (state_of mid)) ∙ u.rest
+
+pub unwinding_pages : (old mid : World) (s k : ℕ) → Unwinding old mid s k → IsTree mid.jobs.jobs mid.jobs.superiors
+    → None ≡ slice_get (slots_below (superior_at mid.jobs) s) k → mid.core.frames ≡ pages_unwound (slots_below (superiors (state_of old).raw) s) (state_of old) old.core.frames
+unwinding_pages old mid s k u t h =
+    let xs : List ℕ = slots_below (superiors (state_of mid).raw) s in
+    let here : slice_get xs k ≡ None = ap (λ sup. slice_get (slots_below sup s) k) (superiors_are mid t) ∙ sym h in
+    sym (ap (λ ys. pages_unwound ys (state_of mid) mid.core.frames) (none_of_rest xs k here)) ∙ u.pages
 
 pub below_same : (old new : World) (s : ℕ) → Sound (state_of old) → state_of new ≡ all_unwound (slots_below (superiors (state_of old).raw) s) (state_of old)
     → plain (state_of new) ≡ plain (state_of old)

@@ -25,17 +25,19 @@ use Rattle.its_stepped.specs.State.{State}
 use Rattle.its_stepped.specs.Commit.{effect_on, effects_on}
 use Rattle.its_pclsr.proofs.ApartLaws.{tidy_core, tidy_put}
 use Rattle.its_pclsr.proofs.OwedLaws.{one_stored}
+use Rattle.its_core.specs.Frames.{Frames}
+use Rattle.its_pclsr.specs.Pages.{all_pages_changed, pages_changed}
 use Rattle.its_pclsr.specs.Built.{HasPage, Maps, CanMake, CanMakeAll}
 use Rattle.its_world.specs.Made.{JobMade}
 use Rattle.its_world.specs.Mapped.{PageMapped}
 use Rattle.its_world.specs.Storage.{HasJob, chan_in, IsElsewhere}
 use Rattle.its_world.specs.Tidy.{channel_at, Tidy}
-use Rattle.its_world.specs.World.{state_of, bare, chan_of, raw_of, frame_at, in_raw, console_at, Becomes, CoreBecomes, JobBecomes, ConsoleBecomes}
+use Rattle.its_world.specs.World.{state_of, bare, chan_of, raw_of, frame_at, in_raw, console_at, with_frames, Becomes, CoreBecomes, JobBecomes, ConsoleBecomes}
 use Rattle.its_world.specs.declared.world.World.{World}
-use Rattle.its_world.proofs.MappedLaws.{core_raw, mapped_raw, mapped_state, mapped_tidy}
+use Rattle.its_world.proofs.MappedLaws.{core_raw, mapped_raw, mapped_state, mapped_tidy, frames_tidy}
 use Rattle.its_world.proofs.MadeLaws.{made_state, made_tidy, least_raw, least_blank}
 use Rattle.its_world.proofs.StorageLaws.{chan_shut, has_job}
-use Rattle.its_world.proofs.StateLaws.{raw_job, job_of, changed_state, absent_state, console_state}
+use Rattle.its_world.proofs.StateLaws.{raw_job, job_of, changed_state, absent_state, console_state, frames_state}
 
 pub inf_set : (old new : World) (s : ℕ) (j : Job) (o : Option Job) → o ≡ job_at old.jobs s → o ≡ Some j → JobBecomes old new s (with_pending j INF)
     → state_of new ≡ in_raw (state_of old) s with_inf
@@ -114,6 +116,15 @@ next_made cs i s c w l h =
     step : suc i ≡ i + 1
     step = omega arith
 
+pub pages_next : (cs : List Change) (i s : ℕ) (c : Change) (w : State) (f : Frames) → i < length cs → c ≡ slice_index_or cs i c
+    → all_pages_changed (drop i cs) s w f ≡ all_pages_changed (drop (i + 1) cs) s (effect_on c s w) (pages_changed c s w f)
+pages_next cs i s c w f l h =
+    let e : drop i cs ≡ c ∷ drop (i + 1) cs = drop-cons cs i c l ∙ (λ t. sym h t ∷ drop (step t) cs) in
+    ap (λ ds. all_pages_changed ds s w f) e
+  where
+    step : suc i ≡ i + 1
+    step = omega arith
+
 can_at : (ds : List Change) (c : Change) (rest : List Change) (j : ℕ) (w : State) → ds ≡ c ∷ rest → CanMakeAll ds j w → CanMake c j w × CanMakeAll rest j (effect_on c j w)
 can_at ds c rest j w e h = subst (λ xs. CanMakeAll xs j w) e h
 
@@ -168,9 +179,9 @@ word_poked old new s a x l job b =
     let d : CoreBecomes old new s c = one_stored old new s (core_at old.core s) (poke a x) (subst (λ (k : ℕ). CoreBecomes old new s (store (core_at old.core s) k x)) (sym at) b) in
     core_written old new s c (with_stores (poke a x ∷ [])) job d (λ j. refl)
 
-pub page_dropped : (old new : World) (s k : ℕ) → HasPage (state_of old) s k → CoreBecomes old new s (with_page (core_at old.core s) k None)
+pub page_dropped : (old new : World) (s k : ℕ) → HasPage (state_of old) s k → CoreBecomes old (with_frames new old.core.frames) s (with_page (core_at old.core s) k None)
     → state_of new ≡ in_raw (state_of old) s (with_page_at k None)
-page_dropped old new s k can b = core_written old new s _ (with_page_at k None) can.job b (λ j. refl)
+page_dropped old new s k can b = sym (frames_state new old.core.frames) ∙ core_written old (with_frames new old.core.frames) s _ (with_page_at k None) can.job b (λ j. refl)
 
 pub page_protected : (old new : World) (s k : ℕ) (on : Bool) → HasPage (state_of old) s k
     → CoreBecomes old new s (with_page (core_at old.core s) k (marked (page_of (core_at old.core s) k) on)) → state_of new ≡ in_raw (state_of old) s (protected k on)
@@ -182,6 +193,9 @@ tidy_written old new s c job b tidy = tidy_core old new s c (frame_at old.frames
 -- a page that is there, and one that can be mapped
 pub page_written : (old new : World) (s k : ℕ) (c : Core) → HasPage (state_of old) s k → CoreBecomes old new s c → Tidy old → Tidy new
 page_written old new s k c can b tidy = tidy_written old new s c can.job b tidy
+
+pub page_left : (old new : World) (s k : ℕ) (c : Core) → HasPage (state_of old) s k → CoreBecomes old (with_frames new old.core.frames) s c → Tidy old → Tidy new
+page_left old new s k c can b tidy = frames_tidy new old.core.frames (page_written old (with_frames new old.core.frames) s k c can b tidy)
 
 pub page_there : (w : World) (s k : ℕ) → Tidy w → HasPage (state_of w) s k → IsSome (page_of (core_at w.core s) k)
 page_there w s k tidy can = ap (λ (c : Core). is_some (page_of c k)) (sym (core_raw w s tidy)) ∙ can.there
@@ -199,12 +213,12 @@ never_full w j s k tidy can full =
     let same = mapped_raw w tidy in
     omega arith
 
-pub page_mapped : (old new : World) (j s k : ℕ) → PageMapped old new j s (with_page (core_at old.core s) k (Some zero_page)) → state_of new ≡ effect_on (changes.Map s k) j (state_of old)
+pub page_mapped : (old new : World) (j s k : ℕ) → PageMapped old new j s k (with_page (core_at old.core s) k (Some zero_page)) → state_of new ≡ effect_on (changes.Map s k) j (state_of old)
 unfolding effect_on effect
-page_mapped old new j s k page = mapped_state old new j s _ page (with_page_at k (Some zero_page)) (λ i. refl)
+page_mapped old new j s k page = mapped_state old new j s k _ page (with_page_at k (Some zero_page)) (λ i. refl)
 
-pub page_tidy : (old new : World) (j s k : ℕ) → Maps (state_of old) j s k → PageMapped old new j s (with_page (core_at old.core s) k (Some zero_page)) → Tidy old → Tidy new
-page_tidy old new j s k can page tidy = mapped_tidy old new j s _ page (has_job old s can.job) tidy
+pub page_tidy : (old new : World) (j s k : ℕ) → Maps (state_of old) j s k → PageMapped old new j s k (with_page (core_at old.core s) k (Some zero_page)) → Tidy old → Tidy new
+page_tidy old new j s k can page tidy = mapped_tidy old new j s k _ page (has_job old s can.job) tidy
 
 -- the console of a job
 pub console_some : (w : World) (s : ℕ) (j : Job) → Some j ≡ job_at w.jobs s → j.console ≡ console_in ((state_of w).raw.jobs s)

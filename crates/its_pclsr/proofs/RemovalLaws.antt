@@ -1,5 +1,5 @@
 -- A tree of jobs that is swept slot by slot, and then removed, is the removal of the plain machine.
-use Rattle.std.specs.Prelude.{if◌then◌else◌, ◌≡◌, ◌≢◌, ◌≤◌, ◌<◌, ◌+◌, ◌==◌, ℕ, Bool, true, false, Option, Some, None, List, is_some, option_map, sum_by, length, slice_index_or, slice_set, refl}
+use Rattle.std.specs.Prelude.{if◌then◌else◌, ◌≡◌, ◌≢◌, ◌≤◌, ◌<◌, ◌+◌, ◌==◌, ℕ, suc, Bool, true, false, Option, Some, None, List, is_some, option_map, sum_by, length, slice_index_or, slice_set, refl}
 use Rattle.std.specs.List.{range_with_len}
 use Rattle.its_word.specs.Console.{Console}
 use Rattle.std.proofs.Common.{sym, ◌∙◌, ap, subst, arith, inl, inr}
@@ -12,6 +12,9 @@ use Rattle.its_word.specs.declared.jobs.Channel.{Channel}
 use Rattle.its_word.specs.declared.jobs.Channel.TheVariants as channels
 use Rattle.its_word.specs.declared.jobs.Job.{Job}
 use Rattle.its_core.specs.Cores.{core_at, clear_at}
+use Rattle.its_core.specs.Frames.{Frames, frames_drop_all}
+use Rattle.its_pclsr.specs.Pages.{pages_swept}
+use Rattle.its_world.proofs.WorldLaws.{frames_still}
 use Rattle.its_files.specs.Files.{Store, directory}
 use Rattle.its_frame.specs.declared.change.Change.TheVariants as changes
 use Rattle.its_frame.specs.declared.frame.Frame.{Frame}
@@ -31,9 +34,10 @@ use Rattle.its_pclsr.specs.Removal.{channel_left, Shared, Alone, Closes, Bare, E
 use Rattle.its_pclsr.proofs.ApartLaws.{tidy_becomes}
 use Rattle.its_world.specs.Storage.{chan_in}
 use Rattle.its_world.specs.Tidy.{channel_by, channel_at, tally, reads, writes, Across, Tidy}
-use Rattle.its_world.specs.World.{chan_of, mark_of, bare, raw_of, raw_at, frame_at, console_at, holder_at, state_of, in_raw, Becomes, CoreBecomes, FrameBecomes, JobBecomes}
+use Rattle.its_world.specs.World.{chan_of, mark_of, bare, raw_of, raw_at, frame_at, console_at, holder_at, state_of, in_raw, with_frames, Becomes, CoreBecomes, FrameBecomes, JobBecomes}
 use Rattle.its_world.specs.declared.world.World.{World}
-use Rattle.its_world.proofs.StateLaws.{state_is, raw_others, changed_state, absent_state}
+use Rattle.its_world.proofs.StateLaws.{state_is, raw_others, changed_state, absent_state, frames_state, frames_core}
+use Rattle.its_world.proofs.MappedLaws.{frames_tidy}
 use Rattle.its_world.proofs.StorageLaws.{chan_is, chan_shut, frame_is}
 use Rattle.its_world.proofs.KeptLaws.{across_table}
 use Rattle.its_word.proofs.ClimbLaws.{or_second}
@@ -163,22 +167,27 @@ closed_all w s tidy h n = elim (cases_lt n 16) [
   | inr ge ↦ tidy.across.past_numbers s n (omega arith)
 ]
 
-pub slot_emptied : (old mid low new : World) (s : ℕ) → Closes (state_of old) (state_of mid) s 16 → Tidy mid → CoreBecomes mid low s no_core → FrameBecomes low new s None → Empties old new s
-slot_emptied old mid low new s a tidy b d = record {
+pub slot_emptied : (old mid low new : World) (s : ℕ) → Closes (state_of old) (state_of mid) s 16 → Tidy mid → CoreBecomes mid (with_frames low mid.core.frames) s no_core → FrameBecomes low new s None
+    → mid.core.frames ≡ old.core.frames → low.core.frames ≡ frames_drop_all s mid.core.frames → Empties old new s
+slot_emptied old mid low new s a tidy b d same dropped = record {
   alone =
       alone_then (state_of old) (state_of mid) (state_of new) s a.alone
       (alone_then (state_of mid) (state_of low) (state_of new) s
-      (becomes_alone mid low s no_core (job_at mid.jobs s) (frame_at mid.frames.items s) b refl)
+      (subst (λ v. Alone (state_of mid) v s) (frames_state low mid.core.frames)
+      (becomes_alone mid (with_frames low mid.core.frames) s no_core (job_at mid.jobs s) (frame_at mid.frames.items s) b refl))
       (becomes_alone low new s (core_at low.core s) (job_at low.jobs s) None d refl));
   frame = frame_is new s ∙ d.frame.here;
   bare = record {
-    core = d.core.here ∙ b.core.here;
+    core = d.core.here ∙ sym (frames_core low mid.core.frames s) ∙ b.core.here;
     channels = λ n. ap (λ j. channel_by j n) (d.job.here ∙ b.job.here) ∙ closed_all mid s tidy a.closed n;
   };
+  pages = d.pages ∙ frames_still (clear_at low.core s) s low.core.frames ∙ dropped ∙ ap (frames_drop_all s) same;
 }
 
-pub tidy_bare : (old new : World) (s : ℕ) → CoreBecomes old new s no_core → Tidy old → Tidy new
-tidy_bare old new s b tidy = tidy_becomes old new s no_core (job_at old.jobs s) (frame_at old.frames.items s) (clear_at old.core s) b (λ h. refl) (λ n. refl) tidy
+pub tidy_bare : (old new : World) (s : ℕ) → CoreBecomes old (with_frames new old.core.frames) s no_core → Tidy old → Tidy new
+tidy_bare old new s b tidy =
+    frames_tidy new old.core.frames
+    (tidy_becomes old (with_frames new old.core.frames) s no_core (job_at old.jobs s) (frame_at old.frames.items s) (clear_at old.core s) b (λ h. refl) (λ n. refl) tidy)
 
 -- the channels of a job that stays
 chan_gone_by : (t : Store) (b : Bool) (s : ℕ) (w : Bool) (at : ℕ) → chan_of t (if b then channels.Closed else channels.Usr s w at) ≡ (if b then chan_of t channels.Closed else chan_of t (channels.Usr s w at))
@@ -287,10 +296,11 @@ swept_gone gone old new s g e = record {
   };
   bare = λ t. e.bare;
   alone = e.alone;
+  pages = e.pages ∙ sym (ap (λ (b : Bool). if b then frames_drop_all s old.core.frames else old.core.frames) g);
 }
 
-swept_left : (gone : ℕ → Bool) (old new : World) (s : ℕ) → gone s ≡ false → state_of new ≡ in_raw (state_of old) s (shut_on gone) → Sweeps gone old new s
-swept_left gone old new s g e = record {
+swept_left : (gone : ℕ → Bool) (old new : World) (s : ℕ) → gone s ≡ false → state_of new ≡ in_raw (state_of old) s (shut_on gone) → new.core.frames ≡ old.core.frames → Sweeps gone old new s
+swept_left gone old new s g e same = record {
   here = record {
     job = λ f. ap (λ (w : State). w.raw.jobs s) e ∙ on_slot_here (state_of old).raw.jobs s (shut_on gone);
     frame = ap (λ (w : State). w.frames s) e ∙ sym (ap (λ (b : Bool). if b then None else (state_of old).frames s) g);
@@ -298,6 +308,7 @@ swept_left gone old new s g e = record {
   };
   bare = λ t. absurd (let wrong : true ≡ false = sym t ∙ g in cc);
   alone = subst (λ w. Alone (state_of old) w s) (sym e) (in_raw_alone (state_of old) s (shut_on gone) (λ q. refl));
+  pages = same ∙ sym (ap (λ (b : Bool). if b then frames_drop_all s old.core.frames else old.core.frames) g);
 }
 
 pub sweeps_gone : (old new : World) (r s : ℕ) (b : Bool) → IsTree old.jobs.jobs old.jobs.superiors → b ≡ in_tree (superior_at old.jobs) r s → b ≡ true → Empties old new s
@@ -305,9 +316,10 @@ pub sweeps_gone : (old new : World) (r s : ℕ) (b : Bool) → IsTree old.jobs.j
 sweeps_gone old new r s b t e g h = swept_gone _ old new s (ap (λ (f : ℕ → Bool). f s) (sym (tree_gone old r t)) ∙ sym e ∙ g) h
 
 pub sweeps_left : (old new : World) (r s : ℕ) (b : Bool) → IsTree old.jobs.jobs old.jobs.superiors → b ≡ in_tree (superior_at old.jobs) r s → b ≡ false
-    → state_of new ≡ in_raw (state_of old) s (shut_on (in_tree (superior_at old.jobs) r)) → Sweeps (is_gone (superiors (state_of old).raw) r) old new s
-sweeps_left old new r s b t e g h =
-    swept_left _ old new s (ap (λ (f : ℕ → Bool). f s) (sym (tree_gone old r t)) ∙ sym e ∙ g) (h ∙ ap (λ f. in_raw (state_of old) s (shut_on f)) (tree_gone old r t))
+    → state_of new ≡ in_raw (state_of old) s (shut_on (in_tree (superior_at old.jobs) r)) → new.core.frames ≡ old.core.frames
+    → Sweeps (is_gone (superiors (state_of old).raw) r) old new s
+sweeps_left old new r s b t e g h same =
+    swept_left _ old new s (ap (λ (f : ℕ → Bool). f s) (sym (tree_gone old r t)) ∙ sym e ∙ g) (h ∙ ap (λ f. in_raw (state_of old) s (shut_on f)) (tree_gone old r t)) same
 
 -- slot after slot
 kept_then : (gone : ℕ → Bool) (w v u : State) (k : ℕ) → SlotSame w v k → SlotSwept gone v u k → SlotSwept gone w u k
@@ -347,12 +359,24 @@ bare_kept mid new k b e tidy = record {
   channels = λ n. chan_shut new k n (ap (λ o. channel_in o n) e ∙ chan_is mid k n ∙ ap (chan_of mid.files) (b.channels n));
 }
 
+none_swept : (gone : ℕ → Bool) (f : Frames) → pages_swept gone 0 f ≡ f
+unfolding pages_swept
+none_swept gone f = refl
+
+one_swept : (gone : ℕ → Bool) (n : ℕ) (f : Frames) → pages_swept gone (suc n) f ≡ (if gone n then frames_drop_all n (pages_swept gone n f) else pages_swept gone n f)
+unfolding pages_swept
+one_swept gone n f = refl
+
+more_swept : (gone : ℕ → Bool) (n : ℕ) (f : Frames) → pages_swept gone (n + 1) f ≡ (if gone n then frames_drop_all n (pages_swept gone n f) else pages_swept gone n f)
+more_swept gone n f = let e : n + 1 ≡ suc n = omega arith in ap (λ k. pages_swept gone k f) e ∙ one_swept gone n f
+
 pub swept_start : (gone : ℕ → Bool) (w : World) → Swept gone w w 0
 swept_start gone w = record {
   done = λ k l. absurd (omega arith);
   bare = λ k l g. absurd (omega arith);
   rest = λ k l. slot_same (state_of w) k;
   shared = shared_same (state_of w);
+  pages = sym (none_swept gone w.core.frames);
 }
 
 swept_next : (gone : ℕ → Bool) (old mid new : World) (n : ℕ) → Swept gone old mid n → Sweeps gone mid new n → Tidy new → Swept gone old new (n + 1)
@@ -367,6 +391,7 @@ swept_next gone old mid new n a b tidy = record {
   ];
   rest = λ k l. slot_then (state_of old) (state_of mid) (state_of new) k (a.rest k (omega arith)) (b.alone.others k (λ e. omega arith));
   shared = shared_then (state_of old) (state_of mid) (state_of new) a.shared b.alone.shared;
+  pages = b.pages ∙ ap (λ (f : Frames). if gone n then frames_drop_all n f else f) a.pages ∙ sym (more_swept gone n old.core.frames);
 }
 
 pub swept_more : (old mid new : World) (r n : ℕ) → Swept (is_gone (superiors (state_of old).raw) r) old mid n → Sweeps (is_gone (superiors (state_of mid).raw) r) mid new n → Tidy new

@@ -34,13 +34,13 @@ use Rattle.its_stepped.specs.Unwind.{first_debt, paid, due, with_part, settled, 
 use Rattle.its_stepped.specs.Sound.{Owes, backs, EndingPays, MovingPays, file_parts}
 use Rattle.its_world.specs.World.{state_of, frame_at, Becomes, CoreBecomes, FrameBecomes, PageBecomes, JobBecomes}
 use Rattle.its_world.specs.declared.world.World.{World}
-use Rattle.its_world.proofs.WorldLaws.{then_becomes}
+use Rattle.its_world.proofs.WorldLaws.{frames_still, then_becomes}
 use Rattle.its_world.proofs.StateLaws.{job_of, turned_state, kept_state, kept_turn, stored_turn, left_turn}
 
 -- a store, and then a frame
 paid_becomes : (old mid new : World) (s : ℕ) (c : Core) (f : Option Frame) → CoreBecomes old mid s c → FrameBecomes mid new s f
     → Becomes old new s c (job_at old.jobs s) f (clear_at old.core s)
-paid_becomes old mid new s c f a b = then_becomes old mid new s c c (job_at old.jobs s) (job_at old.jobs s) (frame_at old.frames.items s) f (clear_at old.core s) (clear_at old.core s) a
+paid_becomes old mid new s c f a b = then_becomes old mid new s c c (job_at old.jobs s) (job_at old.jobs s) (frame_at old.frames.items s) f (clear_at old.core s) a
     (subst (λ x. Becomes mid new s x (job_at old.jobs s) f (clear_at old.core s)) a.core.here
     (subst (λ x. Becomes mid new s (core_at mid.core s) x f (clear_at old.core s)) a.job.here
     (subst (λ x. Becomes mid new s (core_at mid.core s) (job_at mid.jobs s) f x) a.reserved.here b)))
@@ -48,7 +48,7 @@ paid_becomes old mid new s c f a b = then_becomes old mid new s c c (job_at old.
 -- a reserved page, and then a frame
 pub paged_becomes : (old mid new : World) (s : ℕ) (r : Option ℕ) (f : Option Frame) → PageBecomes old mid s r → FrameBecomes mid new s f
     → Becomes old new s (core_at old.core s) (job_at old.jobs s) f r
-paged_becomes old mid new s r f a b = then_becomes old mid new s (core_at old.core s) (core_at old.core s) (job_at old.jobs s) (job_at old.jobs s) (frame_at old.frames.items s) f r r a
+paged_becomes old mid new s r f a b = then_becomes old mid new s (core_at old.core s) (core_at old.core s) (job_at old.jobs s) (job_at old.jobs s) (frame_at old.frames.items s) f r a
     (subst (λ x. Becomes mid new s x (job_at old.jobs s) f r) a.core.here
     (subst (λ x. Becomes mid new s (core_at mid.core s) x f r) a.job.here
     (subst (λ x. Becomes mid new s (core_at mid.core s) (job_at mid.jobs s) f x) a.reserved.here b)))
@@ -77,6 +77,7 @@ unmoved w s none = record {
   superiors = refl;
   frame = record { here = none; others = λ k n. refl };
   reserved = record { here = refl; others = λ k n. refl };
+  pages = sym (frames_still (clear_at w.core s) s w.core.frames);
   consoles = refl;
   holders = refl;
   files = refl;

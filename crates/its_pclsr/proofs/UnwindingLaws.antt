@@ -31,8 +31,10 @@ use Rattle.its_stepped.specs.OneChange.{OneChange}
 use Rattle.its_stepped.specs.Sound.{Pays, SoundBy, MarkBy, Sound, parts_in_frame}
 use Rattle.its_stepped.specs.SlotSame.{SlotSame}
 use Rattle.its_stepped.proofs.UnwindLaws.{unwind_fewer, left_none, unwind_plain, unwind_sound, one_change, few_left, unwound_turn, unwound_plain, unwound_sound, unwound_none, unwound_others}
+use Rattle.its_stepped.proofs.KeptLaws.{user_page}
+use Rattle.its_pclsr.specs.Apart.{CoresOff}
 use Rattle.its_pclsr.specs.Owed.{Marks}
-use Rattle.its_world.specs.World.{state_of, mark_of, raw_of, frame_at, FrameBecomes}
+use Rattle.its_world.specs.World.{state_of, mark_of, raw_of, raw_at, frame_at, frames_after, FrameBecomes}
 use Rattle.its_world.specs.declared.world.World.{World}
 use Rattle.its_world.proofs.StateLaws.{kept_turn, retaken}
 
@@ -216,3 +218,22 @@ all_left old new s sound e =
     sym (user_seen (state_of new) s ((state_of new).frames s) refl (all_none old new s sound e))
     ∙ ap (λ (m : Machine). m.jobs s) (ap plain e ∙ unwound_plain (state_of old) s sound)
     ∙ seen_jobs_at (state_of old) s
+
+-- a page that it had reserved is given back
+pub all_pages : (old new : World) (s : ℕ) → Sound (state_of old) → state_of new ≡ unwound (state_of old) s → CoresOff old new s
+    → new.core.frames ≡ frames_after ((state_of old).reserved s) None s old.core.frames
+unfolding state_of
+all_pages old new s sound e cores =
+    cores.pages
+    ∙ ap (λ (o : Option ℕ). frames_after (clear_at old.core s) o s old.core.frames)
+    (user_page (raw_at new.files new.core new.jobs s) ((state_of new).frames s) (clear_at new.core s) (all_none old new s sound e) ((all_keeps old new s sound e).each s).by)
+
+page_at : (w : World) (s : ℕ) → (state_of w).reserved s ≡ clear_at w.core s
+unfolding state_of
+page_at w s = refl
+
+pub one_pages : (old new : World) (s : ℕ) → state_of new ≡ unwind_one (state_of old) s → CoresOff old new s
+    → new.core.frames ≡ frames_after ((state_of old).reserved s) ((unwind_one (state_of old) s).reserved s) s old.core.frames
+one_pages old new s e cores =
+    cores.pages ∙ ap (λ (o : Option ℕ). frames_after o (clear_at new.core s) s old.core.frames) (sym (page_at old s))
+    ∙ ap (λ (o : Option ℕ). frames_after ((state_of old).reserved s) o s old.core.frames) (sym (page_at new s) ∙ ap (λ (v : State). v.reserved s) e)

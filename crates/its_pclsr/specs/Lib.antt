@@ -4,3 +4,4 @@ pub mod Removal
 pub mod Carried
 pub mod Apart
 pub mod Parts
+pub mod Pages

@@ -4,6 +4,7 @@ use Rattle.its_word.specs.Core.{no_core}
 use Rattle.its_word.specs.declared.jobs.Channel.{Channel}
 use Rattle.its_word.specs.declared.jobs.Channel.TheVariants as channels
 use Rattle.its_core.specs.Cores.{core_at}
+use Rattle.its_core.specs.Frames.{frames_drop_all}
 use Rattle.its_word.specs.Limits.{slots}
 use Rattle.its_jobs.specs.Table.{Table}
 use Rattle.its_plain.specs.Change.{shut_on, superiors}
@@ -13,6 +14,7 @@ use Rattle.its_stepped.specs.State.{State}
 use Rattle.its_world.specs.Storage.{chan_in, IsElsewhere}
 use Rattle.its_world.specs.Tidy.{channel_at}
 use Rattle.its_world.specs.World.{state_of}
+use Rattle.its_pclsr.specs.Pages.{pages_swept}
 use Rattle.its_world.specs.declared.world.World.{World}
 
 -- a channel on a job that is gone is closed
@@ -45,7 +47,7 @@ pub record Closes (old new : State) (s m : ℕ) : Type 0 where
   pub frame : new.frames s ≡ old.frames s
   pub closed : (n : ℕ) → n < m → chan_in new s n ≡ Shut
 
--- the slot of a job that is to go: no page is left, no channel is open, and it has no frame
+-- the slot of a job that is to go: no page is left, no channel is open, and it has no frame. The frames of its pages are free
 pub record Bare (w : World) (k : ℕ) : Type 0 where
   pub core : core_at w.core k ≡ no_core
   pub channels : (n : ℕ) → channel_at w.jobs k n ≡ channels.Closed
@@ -54,6 +56,7 @@ pub record Empties (old new : World) (s : ℕ) : Type 0 where
   pub alone : Alone (state_of old) (state_of new) s
   pub frame : (state_of new).frames s ≡ None
   pub bare : Bare new s
+  pub pages : new.core.frames ≡ frames_drop_all s old.core.frames
 
 -- slot k, in which this is done where its job is to go; else its channels on jobs that go are closed
 pub record SlotSwept (gone : ℕ → Bool) (old new : State) (k : ℕ) : Type 0 where
@@ -66,6 +69,7 @@ pub record Sweeps (gone : ℕ → Bool) (old new : World) (s : ℕ) : Type 0 whe
   pub here : SlotSwept gone (state_of old) (state_of new) s
   pub bare : gone s ≡ true → Bare new s
   pub alone : Alone (state_of old) (state_of new) s
+  pub pages : new.core.frames ≡ (if gone s then frames_drop_all s old.core.frames else old.core.frames)
 
 -- it is done in the slots below n
 pub record Swept (gone : ℕ → Bool) (old new : World) (n : ℕ) : Type 0 where
@@ -73,6 +77,7 @@ pub record Swept (gone : ℕ → Bool) (old new : World) (n : ℕ) : Type 0 wher
   pub bare : (k : ℕ) → k < n → gone k ≡ true → Bare new k
   pub rest : (k : ℕ) → n ≤ k → SlotSame (state_of old) (state_of new) k
   pub shared : Shared (state_of old) (state_of new)
+  pub pages : new.core.frames ≡ pages_swept gone n old.core.frames
 
 -- no channel of a job is on a file or a draft, and all channels are among the 16 of the slots
 pub record Elsewhere (t : Table) : Type 0 where

@@ -3,6 +3,7 @@ ghost use Rattle.its_word.specs.Console.{most_waiting};
 ghost use Rattle.its_word.specs.Limits.{slots};
 ghost use Rattle.its_word.specs.Core.{can_store};
 ghost use Rattle.its_word.specs.Tree.{least_free};
+ghost use Rattle.its_core.specs.Frames.{frames_map, frames_unmap};
 ghost use Rattle.its_plain.specs.Change.{console_in, on_console, poke, protected, put_to, taken_from, with_inf, with_page_at};
 ghost use Rattle.its_frame.specs.declared.change.Change.TheVariants.{Make, Map, Open};
 ghost use Rattle.its_plain.specs.Machine.{Shut, changed, core_of};
@@ -11,6 +12,7 @@ ghost use Rattle.its_stepped.specs.Commit.{effect_on, effects_on};
 ghost use Rattle.its_stepped.specs.Lines.{with_raw};
 ghost use Rattle.its_world.specs.Tidy.{Tidy};
 ghost use Rattle.its_pclsr.specs.Built.{CanMake, CanMakeAll, CanOpen, HasPage, Maps};
+ghost use Rattle.its_pclsr.specs.Pages.{all_pages_changed, pages_changed};
 ghost use Rattle.its_world.specs.Storage.{HasJob, chan_in};
 ghost use Rattle.its_world.specs.World.{state_of, in_raw};
 
@@ -22,12 +24,13 @@ use its_word::{Channel, INF, Job, Word, flags_in};
 use its_world::World;
 
 /// Makes the changes of a call of slot's job, in their order.
-#[tactic(auto, using(crate::proofs::ChangeLaws::next_made, crate::proofs::ChangeLaws::can_first, crate::proofs::ChangeLaws::can_next))]
+#[tactic(auto, using(crate::proofs::ChangeLaws::next_made, crate::proofs::ChangeLaws::pages_next, crate::proofs::ChangeLaws::can_first, crate::proofs::ChangeLaws::can_next))]
 pub fn apply(w: &mut World, slot: u8, changes: &[Change])
     requires slot { slot < slots }
     requires can { CanMakeAll changes.now slot (state_of w.old) }
     requires tidy { Tidy w.old }
     ensures row { state_of w.new ≡ effects_on changes.now slot (state_of w.old) }
+    ensures pages { w.new.core.frames ≡ all_pages_changed changes.now slot (state_of w.old) w.old.core.frames }
     ensures tidy { Tidy w.new }
 {
     for change in changes {
@@ -42,6 +45,7 @@ fn apply_one(w: &mut World, slot: u8, change: &Change)
     requires can { CanMake change.now slot (state_of w.old) }
     requires tidy { Tidy w.old }
     ensures row { state_of w.new ≡ effect_on change.now slot (state_of w.old) }
+    ensures pages { w.new.core.frames ≡ pages_changed change.now slot (state_of w.old) w.old.core.frames }
     ensures tidy { Tidy w.new }
 {
     match change {
@@ -90,6 +94,7 @@ fn open(w: &mut World, slot: u8, n: u8, on: Opened)
     requires can { CanOpen on (state_of w.old) }
     requires tidy { Tidy w.old }
     ensures row { state_of w.new ≡ effect_on (Open n on) slot (state_of w.old) }
+    ensures pages { w.new.core.frames ≡ w.old.core.frames }
     ensures tidy { Tidy w.new }
 {
     match on {
@@ -110,44 +115,48 @@ fn open(w: &mut World, slot: u8, n: u8, on: Opened)
 }
 
 /// Takes the first byte of a console's input.
-#[tactic(auto, using(crate::proofs::ChangeLaws::byte_taken, crate::proofs::ApartLaws::tidy_console))]
+#[tactic(auto, using(crate::proofs::ApartLaws::console_pages, crate::proofs::ChangeLaws::byte_taken, crate::proofs::ApartLaws::tidy_console))]
 fn take(w: &mut World, console: u8)
     requires console { console < 8 }
     requires tidy { Tidy w.old }
     ensures row { state_of w.new ≡ with_raw (state_of w.old) (on_console (state_of w.old).raw console taken_from) }
+    ensures pages { w.new.core.frames ≡ w.old.core.frames }
     ensures tidy { Tidy w.new }
 {
     w.take(console);
 }
 
 /// Puts a byte behind a console's output, which has room.
-#[tactic(auto, using(crate::proofs::ChangeLaws::byte_put, crate::proofs::ChangeLaws::console_room, crate::proofs::ApartLaws::tidy_console))]
+#[tactic(auto, using(crate::proofs::ApartLaws::console_pages, crate::proofs::ChangeLaws::byte_put, crate::proofs::ChangeLaws::console_room, crate::proofs::ApartLaws::tidy_console))]
 fn put(w: &mut World, console: u8, byte: u8)
     requires console { console < 8 }
     requires room { length ((state_of w.old).raw.consoles console).output < most_waiting }
     requires tidy { Tidy w.old }
     ensures row { state_of w.new ≡ with_raw (state_of w.old) (on_console (state_of w.old).raw console (put_to byte)) }
+    ensures pages { w.new.core.frames ≡ w.old.core.frames }
     ensures tidy { Tidy w.new }
 {
     w.put(console, byte);
 }
 
 /// Makes a slot's job the holder of a console.
-#[tactic(auto, using(its_world::proofs::StateLaws::holder_state, crate::proofs::ApartLaws::tidy_holder))]
+#[tactic(auto, using(crate::proofs::ApartLaws::holder_pages, its_world::proofs::StateLaws::holder_state, crate::proofs::ApartLaws::tidy_holder))]
 fn hold(w: &mut World, console: u8, slot: u8)
     requires console { console < 8 }
     requires tidy { Tidy w.old }
     ensures row { state_of w.new ≡ with_raw (state_of w.old) (record (state_of w.old).raw { holders = changed (state_of w.old).raw.holders console (Some slot) }) }
+    ensures pages { w.new.core.frames ≡ w.old.core.frames }
     ensures tidy { Tidy w.new }
 {
     w.hold(console, Some(slot));
 }
 
 /// Sets INF in a slot's job, where it has one.
-#[tactic(auto, using(crate::proofs::ChangeLaws::inf_set, crate::proofs::ChangeLaws::inf_missing))]
+#[tactic(auto, using(crate::proofs::ApartLaws::becomes_pages, crate::proofs::ChangeLaws::inf_set, crate::proofs::ChangeLaws::inf_missing))]
 fn inform(w: &mut World, slot: u8)
     requires tidy { Tidy w.old }
     ensures row { state_of w.new ≡ in_raw (state_of w.old) slot with_inf }
+    ensures pages { w.new.core.frames ≡ w.old.core.frames }
     ensures tidy { Tidy w.new }
 {
     if let Some(mut job) = w.jobs.job(slot).copied() {
@@ -157,6 +166,7 @@ fn inform(w: &mut World, slot: u8)
 }
 
 /// Stores a word of a slot's job.
+#[tactic(auto, using(crate::proofs::ApartLaws::becomes_pages))]
 fn poke(w: &mut World, slot: u8, at: u32, word: Word)
     requires slot { slot < slots }
     requires address { at < 2 ^ 18 }
@@ -164,6 +174,7 @@ fn poke(w: &mut World, slot: u8, at: u32, word: Word)
     requires job { HasJob (state_of w.old) slot }
     requires tidy { Tidy w.old }
     ensures row { state_of w.new ≡ in_raw (state_of w.old) slot (with_stores (poke at word ∷ [])) }
+    ensures pages { w.new.core.frames ≡ w.old.core.frames }
     ensures tidy { Tidy w.new }
 {
     w.store(slot, at, word);
@@ -176,6 +187,7 @@ fn make(w: &mut World, maker: u8, slot: u8, u: Word, j: Word)
     requires free { least_free (state_of w.old).raw.jobs ≡ Some slot }
     requires tidy { Tidy w.old }
     ensures row { state_of w.new ≡ effect_on (Make slot u j) maker (state_of w.old) }
+    ensures pages { w.new.core.frames ≡ w.old.core.frames }
     ensures tidy { Tidy w.new }
 {
     let console = console_of(w, maker);
@@ -202,6 +214,7 @@ fn map(w: &mut World, slot: u8, target: u8, page: u8)
     requires can { Maps (state_of w.old) slot target page }
     requires tidy { Tidy w.old }
     ensures row { state_of w.new ≡ effect_on (Map target page) slot (state_of w.old) }
+    ensures pages { w.new.core.frames ≡ frames_map slot target page w.old.core.frames }
     ensures tidy { Tidy w.new }
 {
     match w.core.map(slot, target, page) {
@@ -216,6 +229,7 @@ fn unmap(w: &mut World, slot: u8, page: u8)
     requires can { HasPage (state_of w.old) slot page }
     requires tidy { Tidy w.old }
     ensures row { state_of w.new ≡ in_raw (state_of w.old) slot (with_page_at page None) }
+    ensures pages { w.new.core.frames ≡ frames_unmap slot page w.old.core.frames }
     ensures tidy { Tidy w.new }
 {
     w.core.unmap(slot, page);
@@ -227,16 +241,18 @@ fn protect(w: &mut World, slot: u8, page: u8, writable: bool)
     requires can { HasPage (state_of w.old) slot page }
     requires tidy { Tidy w.old }
     ensures row { state_of w.new ≡ in_raw (state_of w.old) slot (protected page writable) }
+    ensures pages { w.new.core.frames ≡ w.old.core.frames }
     ensures tidy { Tidy w.new }
 {
     w.core.protect(slot, page, writable);
 }
 
 /// Sets a variable of a slot's job, where it has one.
-#[tactic(auto, using(crate::proofs::ChangeLaws::variable_set, crate::proofs::ChangeLaws::variable_missing))]
+#[tactic(auto, using(crate::proofs::ApartLaws::becomes_pages, crate::proofs::ChangeLaws::variable_set, crate::proofs::ChangeLaws::variable_missing))]
 fn set(w: &mut World, slot: u8, variable: Variable, value: Word)
     requires tidy { Tidy w.old }
     ensures row { state_of w.new ≡ in_raw (state_of w.old) slot (with_registers (with_variable variable value)) }
+    ensures pages { w.new.core.frames ≡ w.old.core.frames }
     ensures tidy { Tidy w.new }
 {
     if let Some(job) = w.jobs.job(slot).copied() {

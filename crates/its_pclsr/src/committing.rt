@@ -9,6 +9,7 @@ ghost use Rattle.its_stepped.specs.Commit.{committed, gone_on, owed_parts, owed_
 ghost use Rattle.its_stepped.specs.State.{ending, waiting};
 ghost use Rattle.its_world.specs.Tidy.{Tidy};
 ghost use Rattle.its_pclsr.specs.Built.{backed};
+ghost use Rattle.its_pclsr.specs.Pages.{pages_carried};
 ghost use Rattle.its_pclsr.specs.Carried.{standing_of, with_value, Ready, Endable};
 ghost use Rattle.its_world.specs.World.{state_of, frame_at, FrameBecomes};
 
@@ -30,6 +31,7 @@ pub fn carry_out(w: &mut World, slot: u8, decision: Decision)
     requires ready { IfSome (standing_of (frame_at w.old.frames.items slot)) (λ f. Ready (state_of w.old) slot f decision) }
     requires tidy { Tidy w.old }
     ensures row { IfSome (standing_of (frame_at w.old.frames.items slot)) (λ f. state_of w.new ≡ committed (state_of w.old) slot f.site f.ask f.owes decision) }
+    ensures pages { w.new.core.frames ≡ pages_carried decision slot (state_of w.old) w.old.core.frames }
     ensures tidy { Tidy w.new }
 {
     match decision {
@@ -58,13 +60,14 @@ pub fn carry_out(w: &mut World, slot: u8, decision: Decision)
 }
 
 /// Takes the call of a slot out of its frame.
-#[tactic(auto, using(crate::proofs::ApartLaws::tidy_kept))]
+#[tactic(auto, using(crate::proofs::ApartLaws::tidy_kept, crate::proofs::ApartLaws::becomes_pages))]
 fn take_call(w: &mut World, slot: u8) -> Holding
     requires slot { slot < slots }
     requires stands { is_some (standing_of (frame_at w.old.frames.items slot)) ≡ true }
     requires tidy { Tidy w.old }
     ensures call { standing_of (frame_at w.old.frames.items slot) ≡ Some result }
     ensures taken { FrameBecomes w.old w.new slot None }
+    ensures pages { w.new.core.frames ≡ w.old.core.frames }
     ensures tidy { Tidy w.new }
 {
     match w.take_frame(slot) {
@@ -80,12 +83,13 @@ fn take_call(w: &mut World, slot: u8) -> Holding
 }
 
 /// The call waits.
-#[tactic(auto, using(crate::proofs::ApartLaws::tidy_kept))]
+#[tactic(auto, using(crate::proofs::ApartLaws::tidy_kept, crate::proofs::ApartLaws::becomes_pages))]
 fn wait(w: &mut World, slot: u8)
     requires slot { slot < slots }
     requires stands { is_some (standing_of (frame_at w.old.frames.items slot)) ≡ true }
     requires tidy { Tidy w.old }
     ensures row { IfSome (standing_of (frame_at w.old.frames.items slot)) (λ f. FrameBecomes w.old w.new slot (Some (waiting f.site f.ask f.owes))) }
+    ensures pages { w.new.core.frames ≡ w.old.core.frames }
     ensures tidy { Tidy w.new }
 {
     let f = take_call(w, slot);
@@ -100,13 +104,14 @@ fn wait(w: &mut World, slot: u8)
 }
 
 /// A part of the call is done: its last arguments have new values, which it owes.
-#[tactic(auto, using(crate::proofs::ApartLaws::tidy_kept))]
+#[tactic(auto, using(crate::proofs::ApartLaws::tidy_kept, crate::proofs::ApartLaws::becomes_pages))]
 fn go_on(w: &mut World, slot: u8, held: Option<Held>, values: &[Word])
     requires slot { slot < slots }
     requires stands { is_some (standing_of (frame_at w.old.frames.items slot)) ≡ true }
     requires few { length values.now ≤ 2 }
     requires tidy { Tidy w.old }
     ensures row { IfSome (standing_of (frame_at w.old.frames.items slot)) (λ f. FrameBecomes w.old w.new slot (Some (gone_on f.site (revalued f.ask values.now) (length values.now) held))) }
+    ensures pages { w.new.core.frames ≡ w.old.core.frames }
     ensures tidy { Tidy w.new }
 {
     let mut f = take_call(w, slot);
@@ -170,13 +175,14 @@ fn set_value(ask: &mut Ask, k: usize, value: Word)
 }
 
 /// The call ends: the parts of its close, its reserved page, its arguments, its stores and its registers are owed.
-#[tactic(auto, using(crate::proofs::ApartLaws::tidy_kept, crate::proofs::CommittingLaws::page_reserved))]
+#[tactic(auto, using(crate::proofs::ApartLaws::tidy_kept, crate::proofs::CommittingLaws::page_reserved, crate::proofs::ApartLaws::becomes_pages))]
 fn end(w: &mut World, slot: u8, stores: &[Store], exit: Exit)
     requires slot { slot < slots }
     requires stands { is_some (standing_of (frame_at w.old.frames.items slot)) ≡ true }
     requires room { IfSome (standing_of (frame_at w.old.frames.items slot)) (λ f. Endable (state_of w.old) slot f (length stores.now)) }
     requires tidy { Tidy w.old }
     ensures row { IfSome (standing_of (frame_at w.old.frames.items slot)) (λ f. FrameBecomes w.old w.new slot (Some (ending f.site f.ask (owed_parts (state_of w.old).mark slot ++ (backed (is_some ((state_of w.old).reserved slot)) ++ (map owed_store (debts f.ask f.owes ++ stores.now) ++ Leave exit ∷ [])))))) }
+    ensures pages { w.new.core.frames ≡ w.old.core.frames }
     ensures tidy { Tidy w.new }
 {
     let parts = owed_parts(w, slot);

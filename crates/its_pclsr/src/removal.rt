@@ -4,6 +4,7 @@ ghost use Rattle.its_word.specs.Limits.{slots};
 ghost use Rattle.its_word.specs.Tree.{is_below, slots_below};
 ghost use Rattle.its_word.specs.declared.jobs.Channel.TheVariants.{Closed};
 ghost use Rattle.its_core.specs.Cores.{core_at, clear_at};
+ghost use Rattle.its_core.specs.Frames.{frames_drop_all};
 ghost use Rattle.its_frame.specs.declared.change.Change.TheVariants.{Remove};
 ghost use Rattle.its_jobs.specs.Table.{job_at, superior_at, in_tree};
 ghost use Rattle.its_plain.specs.Change.{superiors, shut_on, is_gone, passed_on};
@@ -12,8 +13,9 @@ ghost use Rattle.its_stepped.specs.Sound.{Sound};
 ghost use Rattle.its_stepped.specs.State.{plain};
 ghost use Rattle.its_stepped.specs.Unwind.{all_unwound};
 ghost use Rattle.its_world.specs.Tidy.{Tidy};
+ghost use Rattle.its_pclsr.specs.Pages.{pages_swept, pages_unwound};
 ghost use Rattle.its_pclsr.specs.Removal.{channel_left, Closes, Empties, Sweeps, Swept};
-ghost use Rattle.its_world.specs.World.{state_of, in_raw, CoreBecomes};
+ghost use Rattle.its_world.specs.World.{state_of, in_raw, with_frames, CoreBecomes};
 
 #[cfg(test)]
 mod tests;
@@ -34,6 +36,7 @@ pub fn unwind_below(w: &mut World, slot: u8)
     ensures unwinds { state_of w.new ≡ all_unwound (slots_below (superiors (state_of w.old).raw) slot) (state_of w.old) }
     ensures same { plain (state_of w.new) ≡ plain (state_of w.old) }
     ensures sound { Sound (state_of w.new) }
+    ensures pages { w.new.core.frames ≡ pages_unwound (slots_below (superiors (state_of w.old).raw) slot) (state_of w.old) w.old.core.frames }
     ensures tidy { Tidy w.new }
 {
     let mut k = 0;
@@ -58,6 +61,7 @@ pub fn remove_tree(w: &mut World, slot: u8)
     ensures removed { (j : ℕ) → state_of w.new ≡ effect_on (Remove slot) j (state_of w.old) }
     ensures pages { (k : ℕ) → is_gone (superiors (state_of w.old).raw) slot k ≡ true → (state_of w.new).reserved k ≡ None }
     ensures cores { (k : ℕ) → is_gone (superiors (state_of w.old).raw) slot k ≡ true → core_at w.new.core k ≡ no_core }
+    ensures frames { w.new.core.frames ≡ pages_swept (is_gone (superiors (state_of w.old).raw) slot) slots w.old.core.frames }
     ensures tidy { Tidy w.new }
 {
     w.jobs.tree();
@@ -113,6 +117,7 @@ fn shut_all(w: &mut World, slot: u8)
     requires slot { slot < slots }
     requires tidy { Tidy w.old }
     ensures closed { Closes (state_of w.old) (state_of w.new) slot 16 }
+    ensures pages { w.new.core.frames ≡ w.old.core.frames }
     ensures tidy { Tidy w.new }
 {
     for n in 0..CHANNELS {
@@ -123,16 +128,19 @@ fn shut_all(w: &mut World, slot: u8)
 /// Gives up all pages of a slot.
 fn drop_core(w: &mut World, slot: u8)
     requires slot { slot < slots }
-    ensures { CoreBecomes w.old w.new slot no_core }
+    ensures dropped { CoreBecomes w.old (with_frames w.new w.old.core.frames) slot no_core }
+    ensures frames { w.new.core.frames ≡ frames_drop_all slot w.old.core.frames }
 {
     w.core.drop_all(slot);
 }
 
 /// Closes the channels of a slot's job that are on jobs of a tree.
+#[tactic(auto, using(crate::proofs::ApartLaws::becomes_pages))]
 fn shut_channels(w: &mut World, root: u8, slot: u8)
     requires slot { slot < slots }
     requires tidy { Tidy w.old }
     ensures row { state_of w.new ≡ in_raw (state_of w.old) slot (shut_on (in_tree (superior_at w.old.jobs) root)) }
+    ensures pages { w.new.core.frames ≡ w.old.core.frames }
     ensures tidy { Tidy w.new }
 {
     if let Some(mut job) = w.registers(slot) {

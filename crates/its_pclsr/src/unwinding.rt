@@ -11,7 +11,7 @@ ghost use Rattle.its_stepped.specs.Unwind.{given_back, paid, settled, due, left,
 ghost use Rattle.its_stepped.specs.OneChange.{OneChange};
 ghost use Rattle.its_stepped.specs.SlotSame.{SlotSame};
 ghost use Rattle.its_stepped.specs.Sound.{HoldingPays, WaitingPays, MovingPays, EndingPays, Sound};
-ghost use Rattle.its_world.specs.World.{state_of, frame_at, CoreBecomes, JobBecomes};
+ghost use Rattle.its_world.specs.World.{state_of, frame_at, frames_after, CoreBecomes, JobBecomes};
 ghost use Rattle.its_pclsr.specs.Apart.{CoresOff};
 ghost use Rattle.its_pclsr.specs.Owed.{Marks, IsNext};
 ghost use Rattle.its_pclsr.specs.Parts.{NextMade};
@@ -25,7 +25,7 @@ use its_world::World;
 
 /// One step of unwinding of a slot's job, which is inside a call: at most one word of core, one page's
 /// place, one part of a close or the registers change, and the plain machine does not.
-#[tactic(auto, using(crate::proofs::UnwindingLaws::one_fewer, crate::proofs::UnwindingLaws::one_changes, crate::proofs::UnwindingLaws::one_same, crate::proofs::UnwindingLaws::unwind_keeps))]
+#[tactic(auto, using(crate::proofs::UnwindingLaws::one_fewer, crate::proofs::UnwindingLaws::one_changes, crate::proofs::UnwindingLaws::one_same, crate::proofs::UnwindingLaws::unwind_keeps, crate::proofs::UnwindingLaws::one_pages))]
 pub fn unwind_one(w: &mut World, slot: u8)
     requires slot { slot < slots }
     requires frame { is_some (frame_at w.old.frames.items slot) ≡ true }
@@ -36,6 +36,7 @@ pub fn unwind_one(w: &mut World, slot: u8)
     ensures change { OneChange (state_of w.old) (state_of w.new) slot }
     ensures same { plain (state_of w.new) ≡ plain (state_of w.old) }
     ensures cores { CoresOff w.old w.new slot }
+    ensures pages { w.new.core.frames ≡ frames_after ((state_of w.old).reserved slot) ((unwind_one_of (state_of w.old) slot).reserved slot) slot w.old.core.frames }
     ensures tidy { Tidy w.new }
     ensures sound { Sound (state_of w.new) }
 {
@@ -67,7 +68,7 @@ fn step(w: &mut World, slot: u8)
 
 /// A call that has reserved a page gives it back, and stands as before it was prepared; one that owes words
 /// stores the first; else its frame is dropped.
-#[tactic(auto, using(crate::proofs::ApartLaws::off_one, crate::proofs::ApartLaws::off_then, crate::proofs::RowLaws::holding_backed, crate::proofs::RowLaws::holding_dropped, crate::proofs::RowLaws::holding_paid))]
+#[tactic(auto, using(crate::proofs::ApartLaws::off_one, crate::proofs::ApartLaws::off_back, crate::proofs::ApartLaws::off_then, crate::proofs::RowLaws::holding_backed, crate::proofs::RowLaws::holding_dropped, crate::proofs::RowLaws::holding_paid))]
 fn unwind_holding(w: &mut World, slot: u8, mut f: Holding)
     requires slot { slot < slots }
     requires job { is_some (job_at w.old.jobs slot) ≡ true }
@@ -160,7 +161,7 @@ fn store_held(w: &mut World, slot: u8, f: &Moving)
 }
 
 /// The first step that is still owed is made.
-#[tactic(auto, using(crate::proofs::ApartLaws::off_one, crate::proofs::ApartLaws::off_then, crate::proofs::RowLaws::settled_store, crate::proofs::RowLaws::settled_back))]
+#[tactic(auto, using(crate::proofs::ApartLaws::off_one, crate::proofs::ApartLaws::off_back, crate::proofs::ApartLaws::off_alike, crate::proofs::ApartLaws::off_then, crate::proofs::RowLaws::settled_store, crate::proofs::RowLaws::settled_back))]
 fn unwind_ending(w: &mut World, slot: u8, mut f: Ending)
     requires slot { slot < slots }
     requires job { is_some (job_at w.old.jobs slot) ≡ true }
@@ -267,7 +268,7 @@ fn left_with(job: Job, e: &Exit) -> Job
 /// they are. The job is left with what its frame says (`seen`): before the call is tried as it was, with PC
 /// at the call (unstarted); then with the words of its last arguments stored, so that the call does the rest
 /// when it is made again; once the call has ended with all of it done (finished).
-#[tactic(auto, using(crate::proofs::UnwindingLaws::all_same, crate::proofs::UnwindingLaws::all_keeps, crate::proofs::UnwindingLaws::all_none, crate::proofs::UnwindingLaws::all_others, crate::proofs::UnwindingLaws::all_few, crate::proofs::UnwindingLaws::all_left))]
+#[tactic(auto, using(crate::proofs::UnwindingLaws::all_same, crate::proofs::UnwindingLaws::all_keeps, crate::proofs::UnwindingLaws::all_none, crate::proofs::UnwindingLaws::all_others, crate::proofs::UnwindingLaws::all_few, crate::proofs::UnwindingLaws::all_left, crate::proofs::UnwindingLaws::all_pages))]
 pub fn unwind(w: &mut World, slot: u8)
     requires slot { slot < slots }
     requires sound { Sound (state_of w.old) }
@@ -279,6 +280,7 @@ pub fn unwind(w: &mut World, slot: u8)
     ensures same { plain (state_of w.new) ≡ plain (state_of w.old) }
     ensures others { (k : ℕ) → k ≢ slot → SlotSame (state_of w.old) (state_of w.new) k }
     ensures cores { CoresOff w.old w.new slot }
+    ensures pages { w.new.core.frames ≡ frames_after ((state_of w.old).reserved slot) None slot w.old.core.frames }
     ensures tidy { Tidy w.new }
     ensures sound { Sound (state_of w.new) }
 {

@@ -89,6 +89,7 @@ slept_duty d m v j x s a n k p w c e one at alone can =
       page = no_page m v j x.own s a n c (named_page a Sleep e refl);
       within = subst (λ (ss : List Store). Within (debts a n) ss) (sym owed) (within_one a n k p w few one);
       held = tt;
+      transfers = tt;
       outside = tt;
       size = tt;
       debts = record {

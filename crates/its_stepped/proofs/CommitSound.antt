@@ -30,7 +30,7 @@ use Rattle.its_word.specs.Stores.{stored}
 use Rattle.its_stepped.specs.State.{State, seen, turn, same, waiting, ending}
 use Rattle.its_stepped.specs.Commit.{effect_on, effects_on, sleeps, stays, gone_on, owed_parts, owed_by, committed}
 use Rattle.its_stepped.specs.Tick.{reserves}
-use Rattle.its_stepped.specs.Sound.{Stands, Stored, Debts, IsWaitable, WaitingPays, SoundFrame, SoundBy, SoundSlot, MarkBy, Sound}
+use Rattle.its_stepped.specs.Sound.{Stands, Stored, Debts, IsWaitable, Transfers, WaitingPays, SoundFrame, SoundBy, SoundSlot, MarkBy, Sound}
 use Rattle.its_stepped.specs.Quiet.{AllQuiet}
 use Rattle.its_stepped.specs.Duty.{HeldFits, Waiting_by, Going, Ending_by, Leaving, Duty, parts_in}
 use Rattle.its_stepped.proofs.FrameLaws.{changed_only, on_slot_here, on_slot_other}
@@ -221,14 +221,14 @@ stays_frame false q s a n r e runs quiet stands d page none = record {
 -- the frame after it, of a caller with the core and registers that it had
 on_frame : (q : Whole) (s : Site) (a : Ask) (n : ℕ) (olds : List Store) (b : Option Held) (r : Option ℕ) → q.job.stopped ≡ false → deliverable q.job ≡ false
     → seen (Some (gone_on s a n b)) q ≡ with_stores (debts a n) (with_held a b (with_stores olds q)) → IfSome b (HeldFits (stored q.core olds) olds n)
-    → IfSome b (λ x. has_size (input a 1) ≡ true) → IfSome b (λ x. in_footprint x.place a ≡ false)
+    → IfSome b (λ x. has_size (input a 1) ≡ true) → IfSome b (λ x. Transfers a) → IfSome b (λ x. in_footprint x.place a ≡ false)
     → Stands (with_stores (debts a n) (with_held a b (with_stores olds q))).core (with_stores (debts a n) (with_held a b (with_stores olds q))).job s a → Debts q.core a n → r ≡ None
     → reserves a ≡ false → SoundFrame q (gone_on s a n b) r
 unfolding seen
-on_frame q s a n olds None r runs quiet is f size out stands d page none =
+on_frame q s a n olds None r runs quiet is f size moves out stands d page none =
     stays_frame (sleeps (call_named a.name)) q s a n r refl runs quiet
     (subst (λ (p : Whole). Stands p.core p.job s a) (sym is ∙ stays_seen (sleeps (call_named a.name)) s a n q) stands) d page none
-on_frame q s a n olds (Some b) r runs quiet is f size out stands d page none = record {
+on_frame q s a n olds (Some b) r runs quiet is f size moves out stands d page none = record {
   runs = runs;
   quiet = quiet;
   standing = subst (λ (p : Whole). Stands p.core p.job s a) (sym is) stands;
@@ -238,9 +238,16 @@ on_frame q s a n olds (Some b) r runs quiet is f size out stands d page none = r
     place = ap (can_store q.core) f.placed ∙ sym (can_stored q.core olds b.place) ∙ f.can;
     within = subst (λ (k : ℕ). k < 2 ^ 18) f.placed (mod_below b.place (2 ^ 18) (omega arith));
     size = size;
+    transfers = moves;
     apart = out;
   };
 }
+
+-- the rest is of the same call
+transfers_rest : (b : Option Held) (a : Ask) (vs : List ℕ) → IfSome b (λ x. Transfers a) → IfSome b (λ x. Transfers (revalued a vs))
+unfolding revalued
+transfers_rest None a vs h = tt
+transfers_rest (Some b) a vs h = record { siot = h.siot; no_error = h.no_error }
 
 -- the word of a held byte is outside the footprint of the rest
 outside_rest : (b : Option Held) (a : Ask) (vs : List ℕ) → IfSome b (λ x. in_footprint x.place a ≡ false) → IfSome b (λ x. in_footprint x.place (revalued a vs) ≡ false)
@@ -273,6 +280,7 @@ goes_sound v j q s a n cs b vs sound h d =
           (goes_seen (stored q.core olds) s k m olds b x.whole d.within d.held)
           (subst (λ (c : Core). IfSome b (HeldFits (stored c olds) olds m)) (sym core) d.held)
           d.size
+          (transfers_rest b a vs d.transfers)
           (outside_rest b a vs d.outside)
           (stands_at b x.whole q s k m olds core job d.stands)
           (debts_alike (stored q.core olds) x.whole.core k m (λ p. ap (λ (c : Core). can_store c p) core ∙ sym (can_stored q.core olds p)) d.debts)

@@ -118,7 +118,7 @@ made_consoled : (m : Machine) (j s u n : ℕ) → Consoled m → Consoled (recor
 made_consoled m j s u n a = record { each = λ k. either_housed (k == s) (Some (inferior j (m.jobs j) u n)) (m.jobs k) (inferior_housed j (m.jobs j) u n (a.each j)) (a.each k) }
 
 -- a variable that is set
-variable_console : (v : Variable) (w : ℕ) (j : Job) → (with_variable v w j).console ≡ j.console
+pub variable_console : (v : Variable) (w : ℕ) (j : Job) → (with_variable v w j).console ≡ j.console
 unfolding with_variable
 variable_console Upc w j = refl
 variable_console Ustp w j = refl
@@ -162,7 +162,7 @@ effects_consoled [] j m a = a
 effects_consoled (c ∷ cs) j m a = effects_consoled cs j (effect c j m) (effect_consoled c j m a)
 
 -- a call
-held_console : (a : Ask) (h : Option Held) (q : Whole) → (with_held a h q).job.console ≡ q.job.console
+pub held_console : (a : Ask) (h : Option Held) (q : Whole) → (with_held a h q).job.console ≡ q.job.console
 held_console a None q = refl
 held_console a (Some b) q = refl
 
@@ -174,7 +174,7 @@ acted_consoled m j a ks (Ends cs ss e) h = job_consoled (effects cs.items j m) j
 acted_consoled m j a ks (Gone cs) h = effects_consoled (changes.Remove j ∷ cs.items) j m h
 
 -- a unit
-unit_console : (c : Core) (j : Job) (d : Core) (k : Job) → unit c j ≡ Changed d k → k.console ≡ j.console
+pub unit_console : (c : Core) (j : Job) (d : Core) (k : Job) → unit c j ≡ Changed d k → k.console ≡ j.console
 unit_console c j d k e = (unit_keeps c j d k e).registers.console
 
 -- a delivery
@@ -200,7 +200,7 @@ table_console : (c : Core) (j : Job) (o : Option ℕ) → (by_table c j o).job.c
 table_console c j (Some w) = length_console c j (right_of w) (entries_of w)
 table_console c j None = refl
 
-delivered_console : (c : Core) (j : Job) → (delivered c j).job.console ≡ j.console
+pub delivered_console : (c : Core) (j : Job) → (delivered c j).job.console ≡ j.console
 unfolding delivered through_table
 delivered_console c j = elim (cases_Bool (unguarded j == 0)) [ inl t ↦ rw t (table_console c j (word_at c 0o42)) | inr t ↦ rw t refl ]
 

@@ -129,7 +129,7 @@ superior_seen : (f : Option Frame) (o : Option Whole) → superior_in (option_ma
 superior_seen f None = refl
 superior_seen f (Some q) = seen_superior f q
 
-console_seen : (f : Option Frame) (o : Option Whole) → console_in (option_map (seen f) o) ≡ console_in o
+pub console_seen : (f : Option Frame) (o : Option Whole) → console_in (option_map (seen f) o) ≡ console_in o
 console_seen f None = refl
 console_seen f (Some q) = (seen_names f q).console
 

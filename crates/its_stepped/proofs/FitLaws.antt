@@ -3,7 +3,7 @@
 use Rattle.std.specs.Prelude.{if◌then◌else◌, ◌==◌, ◌&&◌, ◌≡◌, ℕ, ◌+◌, ◌-◌, Bool, true, false, not, Option, Some, None, List, [], ◌∷◌, ◌++◌, find, cond, option_map, is_some, zero, suc, ◌<◌, refl, length, slice_index_or, unwrap_or, Result, Ok, Err}
 use Rattle.std.specs.List.{range_with_len}
 use Rattle.std.proofs.Common.{sym, ◌∙◌, ap, arith}
-use Rattle.std.proofs.lemmas.Bool.{and_parts, eqb-true}
+use Rattle.std.proofs.lemmas.Bool.{and_parts, eqb-true, not-false}
 use Rattle.its_word.specs.Byte.{load_of}
 use Rattle.its_word.specs.Core.{word_at, can_store}
 use Rattle.its_word.specs.Limits.{slots}
@@ -28,7 +28,7 @@ use Rattle.its_plain.specs.CallBasic.{negated, sleep_tests, sleep, dismissed_by,
 use Rattle.its_plain.specs.CallFile.{open_call, iot_call, siot_call}
 use Rattle.its_plain.specs.CallTty.{console_of, has_console, input_waits, output_waits, output_left, first_typed, shown_byte, opens_on, open_tests, opens, close_on, closes, store_tests, read_tests, word_of, iot_ends, iot_in, iot_out, iot_on, iot, next_pointer, siot_in, siot_out, siot_by, siot_on, siot, finish_on, finish, listens, listen_on, listen, can_take, is_superior, is_holder, lands, ttylnd_of, ttylnd}
 use Rattle.its_plain.specs.CallUsr.{usr_device, has_names, inferior_named, any_named, makes_job, opens_job, usr_tests, opens_usr, other_core, at_end, iot_peeks, iot_through, iot_beside, iot_usr, siot_peeks, siot_pokes, siot_beside, siot_usr, set_word, usrmem_tests, usrmem_on, usrmem, uclose_on, uclose, open_beside, open_usr}
-use Rattle.its_plain.specs.Change.{superior_in, superiors, effect}
+use Rattle.its_plain.specs.Change.{superior_in, superiors, console_in, effect}
 use Rattle.its_plain.specs.CallStep.{step, decision}
 use Rattle.its_plain.specs.Decide.{call_named, tty_by, file_by, usr_by, decided_by, decided, target}
 use Rattle.its_plain.specs.Interrupt.{dismissed}
@@ -39,7 +39,7 @@ use Rattle.its_stepped.specs.Forest.{OnInferior, Forest}
 use Rattle.its_stepped.proofs.TestLaws.{by_test, first_holds}
 use Rattle.its_stepped.proofs.FileWays.{AllOn, Ways, OpensFile, OnFile, FileWays, siot_by_ways, file_ways}
 use Rattle.its_stepped.proofs.CoreWays.{OnCore, core_ways}
-use Rattle.its_stepped.proofs.ForestLaws.{OpensInferior, MakesInferior, Fits, AllFit, FitsAll, channel_of, inferior_stands, made_inferior, steps_where}
+use Rattle.its_stepped.proofs.ForestLaws.{CanOpen, MakesInferior, Fits, AllFit, FitsAll, channel_of, inferior_stands, made_inferior, steps_where}
 
 sleep_fits : (x : View) (a : Ask) (j : ℕ) (m : Machine) → FitsAll (sleep x a) j m
 unfolding sleep
@@ -99,11 +99,11 @@ told_fits (Some k) j m = (tt, tt)
 told_fits None j m = tt
 
 -- a call on files opens none
-opens_fit : (on : Opened) (j : ℕ) (m : Machine) → OpensFile on → OpensInferior on j m
+opens_fit : (on : Opened) (j : ℕ) (m : Machine) → OpensFile on → CanOpen on j m
 opens_fit (opened.Reading d x y) j m h = tt
 opens_fit (opened.Writing d x y) j m h = tt
-opens_fit opened.TtyIn j m h = tt
-opens_fit opened.TtyOut j m h = tt
+opens_fit opened.TtyIn j m h = absurd h
+opens_fit opened.TtyOut j m h = absurd h
 opens_fit (opened.Usr s write) j m h = absurd h
 
 file_fits : (c : Change) (j : ℕ) (m : Machine) → OnFile c → Fits c j m
@@ -131,17 +131,17 @@ ways_where OnIt j each x a m = record {
 ways_fit : (x : View) (a : Ask) (j : ℕ) (m : Machine) → FileWays (λ d. FitsAll d j m) x a
 ways_fit x a j m = ways_where OnFile j (λ c n h. file_fits c j n h) x a m
 
--- the calls on consoles
-opened_fits : (b : Bool) (j : ℕ) (m : Machine) → OpensInferior (if b then opened.TtyOut else opened.TtyIn) j m
-opened_fits true j m = tt
-opened_fits false j m = tt
+-- the calls on consoles: a channel on a console is opened where the job has one
+opened_fits : (b : Bool) (j : ℕ) (m : Machine) → is_some (console_in (m.jobs j)) ≡ true → CanOpen (if b then opened.TtyOut else opened.TtyIn) j m
+opened_fits true j m h = h
+opened_fits false j m h = h
 
-opens_fits : (x : View) (a : Ask) (j : ℕ) (m : Machine) → FitsAll (opens x a) j m
+opens_fits : (x : View) (a : Ask) (j : ℕ) (m : Machine) → x.own.job.console ≡ console_in (m.jobs j) → FitsAll (opens x a) j m
 unfolding opens
-opens_fits x a j m =
+opens_fits x a j m same =
     let control = unwrap_or a.control 0 in
     first_holds (λ d. FitsAll d j m) (open_tests x a (input a 0) (input a 1) control) (finishes x (changes.Open (input a 0) (opens_on control) ∷ []) [])
-    (λ t. tt, (λ t. tt, (λ t. tt, (λ t. tt, tt)))) (λ t. (opened_fits (control == 1) j m, tt))
+    (λ t. tt, (λ t. tt, (λ t. tt, (λ t. tt, tt)))) (λ t. (opened_fits (control == 1) j m (ap is_some (sym same) ∙ not-false (has_console x) t.1.1.1.0), tt))
 
 closes_fits : (x : View) (a : Ask) (j : ℕ) (m : Machine) → FitsAll (closes x a) j m
 unfolding closes
@@ -248,6 +248,7 @@ record Sees (x : View) (j : ℕ) (m : Machine) : Type 0 where
   outlines : (k : ℕ) → x.outlines k ≡ option_map outline (m.jobs k)
   channels : (n : ℕ) → OnInferior m j (channel_at x.own.channels n)
   superior : superiors m j ≡ x.own.superior
+  console : x.own.job.console ≡ console_in (m.jobs j)
 
 -- TTYLND: a channel on a job is on an inferior, which is a job
 lands_fits : (x : View) (a : Ask) (may : Bool) (error k j : ℕ) (m : Machine) → is_some (m.jobs k) ≡ true → FitsAll (lands x a may error k) j m
@@ -296,7 +297,7 @@ named_fits x a j m see (Some Sleep) = sleep_fits x a j m
 named_fits x a j m see (Some Dismis) = dismiss_fits x a j m
 named_fits x a j m see (Some Usrvar) = usrvar_fits x a j m
 named_fits x a j m see (Some Logout) = (told_fits x.own.superior j (effect (changes.Remove j) j m), ap told_superior (sym see.superior))
-named_fits x a j m see (Some Open) = opens_fits x a j m
+named_fits x a j m see (Some Open) = opens_fits x a j m see.console
 named_fits x a j m see (Some Close) = closes_fits x a j m
 named_fits x a j m see (Some Iot) = iot_fits x a j m
 named_fits x a j m see (Some Siot) = siot_fits x a j m
@@ -505,6 +506,7 @@ sees m j q t d is = record {
   outlines = λ k. refl;
   channels = λ n. channel_of m j q n d is;
   superior = ap superior_in is;
+  console = sym (ap console_in is);
 }
 
 pub decision_fits : (m : Machine) (j : ℕ) (q : Whole) (a : Ask) → Forest m → m.jobs j ≡ Some q → FitsAll (decision m j q a) j m

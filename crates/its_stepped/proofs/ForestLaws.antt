@@ -19,16 +19,17 @@ use Rattle.its_frame.specs.declared.frame.Frame.{Frame}
 use Rattle.its_plain.specs.Arguments.{revalued}
 use Rattle.its_plain.specs.CallBasic.{told_superior, channel_at}
 use Rattle.its_plain.specs.CallStep.{with_held, acted, decision, informs, step}
-use Rattle.its_plain.specs.Change.{on_slot, in_job, is_gone, chan_left, shut_on, left_job, passed_on, removed, channel_in, superior_in, superiors, inferior, effect, effects}
+use Rattle.its_plain.specs.Change.{on_slot, in_job, is_gone, chan_left, shut_on, left_job, passed_on, removed, channel_in, superior_in, superiors, inferior, effect, effects, console_in, with_inf}
 use Rattle.its_plain.specs.Interrupt.{delivered}
 use Rattle.its_plain.specs.Machine.{Chan, Shut, TtyIn, TtyOut, Reads, Writes, On, Whole, Machine, changed, no_machine}
 use Rattle.its_plain.specs.Own.{opened_on, at_position, with_word, on_channel}
-use Rattle.its_stepped.specs.Forest.{OnInferior, Forest}
+use Rattle.its_stepped.specs.Forest.{OnInferior, Forest, OnConsole}
 use Rattle.its_stepped.specs.State.{State, seen, plain}
 use Rattle.its_stepped.proofs.FrameLaws.{changed_only, on_slot_here, on_slot_other}
-use Rattle.its_stepped.proofs.EffectLaws.{channel_seen, superiors_plain}
+use Rattle.its_stepped.proofs.EffectLaws.{channel_seen, superiors_plain, console_seen}
 use Rattle.its_plain.proofs.StepLaws.{AllOf, step_has}
 use Rattle.its_plain.specs.Decide.{reach}
+use Rattle.its_stepped.proofs.ConsoledLaws.{variable_console, held_console, unit_console, delivered_console}
 
 -- a job is not its own superior, and has no channel on itself
 pub record ApartJob (j : ℕ) (q : Whole) : Type 0 where
@@ -115,15 +116,18 @@ forest_starts = record {
   standing = λ k. tt;
   circle = λ k. climb_end (λ i. None) k slots;
   channels = λ k n. tt;
+  consoles = λ k n. tt;
   holders = λ c. tt;
 }
 
--- a machine with the superiors of another and with all its jobs, whose channels are on inferiors and whose holders are jobs
+-- a machine with the superiors of another and with all its jobs, whose channels are on inferiors and on the consoles of their
+-- jobs, and whose holders are jobs
 pub record SameTree (m n : Machine) : Type 0 where
   pub few : (k : ℕ) → slots ≤ k → n.jobs k ≡ None
   pub tree : (k : ℕ) → superiors n k ≡ superiors m k
   pub jobs : (k : ℕ) → is_some (m.jobs k) ≡ true → is_some (n.jobs k) ≡ true
   pub channels : (k i : ℕ) → OnInferior m k (channel_in (n.jobs k) i)
+  pub consoles : (k i : ℕ) → OnConsole (console_in (n.jobs k)) (channel_in (n.jobs k) i)
   pub holders : (c : ℕ) → IfSome (n.holders c) (λ s. is_some (n.jobs s) ≡ true)
 
 on_alike : (m n : Machine) (k : ℕ) (c : Chan) → ((s : ℕ) → superiors m s ≡ Some k → superiors n s ≡ Some k) → OnInferior m k c → OnInferior n k c
@@ -140,6 +144,7 @@ same_forest m n h d = record {
   standing = λ k. subst (λ (o : Option ℕ). IfSome o (λ s. is_some (n.jobs s) ≡ true)) (sym (h.tree k)) (IfSome_then (superiors m k) (d.standing k) (λ s x. h.jobs s x));
   circle = λ k. subst (λ (sup : ℕ → Option ℕ). climbs_to sup k slots (sup k) ≡ false) (λ t i. sym (h.tree i) t) (d.circle k);
   channels = λ k i. on_alike m n k (channel_in (n.jobs k) i) (λ s e. h.tree s ∙ e) (h.channels k i);
+  consoles = h.consoles;
   holders = h.holders;
 }
 
@@ -151,10 +156,15 @@ jobs_forest m n e f d = same_forest m n
       tree = λ k. ap (λ (jobs : ℕ → Option Whole). superior_in (jobs k)) e;
       jobs = λ k h. ap (λ (jobs : ℕ → Option Whole). is_some (jobs k)) e ∙ h;
       channels = λ k i. subst (λ (jobs : ℕ → Option Whole). OnInferior m k (channel_in (jobs k) i)) (sym e) (d.channels k i);
+      consoles = λ k i. subst (λ (jobs : ℕ → Option Whole). OnConsole (console_in (jobs k)) (channel_in (jobs k) i)) (sym e) (d.consoles k i);
       holders = λ c. subst (λ (o : Option ℕ). IfSome o (λ s. is_some (n.jobs s) ≡ true)) (sym (ap (λ (h : ℕ → Option ℕ). h c) f))
           (IfSome_then (m.holders c) (d.holders c) (λ s h. ap (λ (jobs : ℕ → Option Whole). is_some (jobs s)) e ∙ h));
     })
     d
+
+-- a channel of the same job under other names
+on_console : {c e : Option ℕ} {a b : Chan} → c ≡ e → a ≡ b → OnConsole c a → OnConsole e b
+on_console {e = e} {a = a} h g o = subst (OnConsole e) g (subst (λ (x : Option ℕ). OnConsole x a) h o)
 
 -- the raw machine
 seen_none : (f : Option Frame) (o : Option Whole) → option_map (seen f) o ≡ None → o ≡ None
@@ -173,14 +183,16 @@ forest_raw w d = same_forest (plain w) w.raw
       tree = λ k. ap (λ (sup : ℕ → Option ℕ). sup k) (sym (superiors_plain w));
       jobs = λ k h. seen_some (w.frames k) (w.raw.jobs k) h;
       channels = λ k i. subst (OnInferior (plain w) k) (channel_seen (w.frames k) (w.raw.jobs k) i) (d.channels k i);
+      consoles = λ k i. on_console (console_seen (w.frames k) (w.raw.jobs k)) (channel_seen (w.frames k) (w.raw.jobs k) i) (d.consoles k i);
       holders = λ c. IfSome_then (w.raw.holders c) (d.holders c) (λ s h. seen_some (w.frames s) (w.raw.jobs s) h);
     })
     d
 
--- one job changed: its superior stays, and its channels are on inferiors
+-- one job changed: its superior stays, and its channels are on inferiors and on its console
 record Keeps (m : Machine) (s : ℕ) (f : Whole → Whole) : Type 0 where
   superior : (q : Whole) → (f q).superior ≡ q.superior
   channels : (q : Whole) → ((i : ℕ) → OnInferior m s (q.channels i)) → (i : ℕ) → OnInferior m s ((f q).channels i)
+  consoles : (q : Whole) → m.jobs s ≡ Some q → ((i : ℕ) → OnConsole q.job.console (q.channels i)) → (i : ℕ) → OnConsole (f q).job.console ((f q).channels i)
 
 slot_few : (jobs : ℕ → Option Whole) (s k : ℕ) (f : Whole → Whole) → jobs k ≡ None → on_slot jobs s f k ≡ None
 slot_few jobs s k f h = elim (cases_eq k s) [
@@ -209,6 +221,18 @@ slot_channels m s k i f h d = elim (cases_eq k s) [
   | inr ne ↦ subst (λ (o : Option Whole). OnInferior m k (channel_in o i)) (sym (on_slot_other m.jobs s k f ne)) (d.channels k i)
 ]
 
+job_consoles : (m : Machine) (s : ℕ) (f : Whole → Whole) → Keeps m s f → (o : Option Whole) → m.jobs s ≡ o → ((i : ℕ) → OnConsole (console_in o) (channel_in o i))
+    → (i : ℕ) → OnConsole (console_in (option_map f o)) (channel_in (option_map f o) i)
+job_consoles m s f h (Some q) is on i = h.consoles q is on i
+job_consoles m s f h None is on i = tt
+
+slot_consoles : (m : Machine) (s k i : ℕ) (f : Whole → Whole) → Keeps m s f → Forest m → OnConsole (console_in (on_slot m.jobs s f k)) (channel_in (on_slot m.jobs s f k) i)
+slot_consoles m s k i f h d = elim (cases_eq k s) [
+  | inl e ↦ subst (λ (x : ℕ). OnConsole (console_in (on_slot m.jobs s f x)) (channel_in (on_slot m.jobs s f x) i)) (sym e)
+      (subst (λ (o : Option Whole). OnConsole (console_in o) (channel_in o i)) (sym (on_slot_here m.jobs s f)) (job_consoles m s f h (m.jobs s) refl (d.consoles s) i))
+  | inr ne ↦ subst (λ (o : Option Whole). OnConsole (console_in o) (channel_in o i)) (sym (on_slot_other m.jobs s k f ne)) (d.consoles k i)
+]
+
 job_forest : (m : Machine) (s : ℕ) (f : Whole → Whole) → Keeps m s f → Forest m → Forest (in_job m s f)
 job_forest m s f h d = same_forest m (in_job m s f)
     (record {
@@ -216,36 +240,51 @@ job_forest m s f h d = same_forest m (in_job m s f)
       tree = λ k. slot_superior f (k == s) (m.jobs k) h.superior;
       jobs = λ k x. slot_some f (k == s) (m.jobs k) x;
       channels = λ k i. slot_channels m s k i f h d;
+      consoles = λ k i. slot_consoles m s k i f h d;
       holders = λ c. IfSome_then (m.holders c) (d.holders c) (λ i x. slot_some f (i == s) (m.jobs i) x);
     })
     d
 
--- the same superior and channels
-calm : (m : Machine) (s : ℕ) (f : Whole → Whole) → ((q : Whole) → (f q).superior ≡ q.superior) → ((q : Whole) → (f q).channels ≡ q.channels) → Keeps m s f
-calm m s f e g = record {
+-- the same superior, channels and console
+calm : (m : Machine) (s : ℕ) (f : Whole → Whole) → ((q : Whole) → (f q).superior ≡ q.superior) → ((q : Whole) → (f q).channels ≡ q.channels)
+    → ((q : Whole) → m.jobs s ≡ Some q → (f q).job.console ≡ q.job.console) → Keeps m s f
+calm m s f e g h = record {
   superior = e;
   channels = λ q on i. subst (λ (c : ℕ → Chan). OnInferior m s (c i)) (sym (g q)) (on i);
+  consoles = λ q is on i. on_console (sym (h q is)) (ap (λ (c : ℕ → Chan). c i) (sym (g q))) (on i);
 }
 
 -- a channel
-abbrev KeepsOn : Machine → ℕ → (Chan → Chan) → Type 0
-KeepsOn m j g = (c : Chan) → OnInferior m j c → OnInferior m j (g c)
+record KeepsOn (m : Machine) (j : ℕ) (g : Chan → Chan) : Type 0 where
+  inferior : (c : Chan) → OnInferior m j c → OnInferior m j (g c)
+  console : (c : Chan) → OnConsole (console_in (m.jobs j)) c → OnConsole (console_in (m.jobs j)) (g c)
 
 either_on : (m : Machine) (j : ℕ) (b : Bool) (c e : Chan) → OnInferior m j c → OnInferior m j e → OnInferior m j (if b then c else e)
 either_on m j true c e x y = x
 either_on m j false c e x y = y
 
+either_console : (o : Option ℕ) (b : Bool) (c e : Chan) → OnConsole o c → OnConsole o e → OnConsole o (if b then c else e)
+either_console o true c e x y = x
+either_console o false c e x y = y
+
 channel_keeps : (m : Machine) (j n : ℕ) (g : Chan → Chan) → KeepsOn m j g → Keeps m j (on_channel n g)
 channel_keeps m j n g h = record {
   superior = λ q. refl;
-  channels = λ q on i. either_on m j (i == n) (g (q.channels n)) (q.channels i) (h (q.channels n) (on n)) (on i);
+  channels = λ q on i. either_on m j (i == n) (g (q.channels n)) (q.channels i) (h.inferior (q.channels n) (on n)) (on i);
+  consoles = λ q is on i. either_console q.job.console (i == n) (g (q.channels n)) (q.channels i)
+      (subst (λ (o : Option Whole). OnConsole (console_in o) (q.channels n) → OnConsole (console_in o) (g (q.channels n))) is (h.console (q.channels n)) (on n)) (on i);
 }
 
--- a change that keeps jobs as they lie: a channel on a job is opened on an inferior, a job that exists makes another in a
--- free slot, an inferior is removed, and a console is held by a job
-abbrev pub OpensInferior : Opened → ℕ → Machine → Type 0
-OpensInferior (opened.Usr s write) j m = superiors m s ≡ Some j
-OpensInferior _ j m = Unit {0}
+shut_keeps : (m : Machine) (j : ℕ) → KeepsOn m j (λ c. Shut)
+shut_keeps m j = record { inferior = λ c h. tt; console = λ c h. tt }
+
+-- a change that keeps jobs as they lie: a channel on a job is opened on an inferior, one on a console where the job has one, a
+-- job that exists makes another in a free slot, an inferior is removed, and a console is held by a job
+abbrev pub CanOpen : Opened → ℕ → Machine → Type 0
+CanOpen (opened.Usr s write) j m = superiors m s ≡ Some j
+CanOpen opened.TtyIn j m = is_some (console_in (m.jobs j)) ≡ true
+CanOpen opened.TtyOut j m = is_some (console_in (m.jobs j)) ≡ true
+CanOpen _ j m = Unit {0}
 
 pub record MakesInferior (s j : ℕ) (m : Machine) : Type 0 where
   pub few : s < slots
@@ -253,7 +292,7 @@ pub record MakesInferior (s j : ℕ) (m : Machine) : Type 0 where
   pub maker : is_some (m.jobs j) ≡ true
 
 abbrev pub Fits : Change → ℕ → Machine → Type 0
-Fits (changes.Open n on) j m = OpensInferior on j m
+Fits (changes.Open n on) j m = CanOpen on j m
 Fits (changes.Make s u n) j m = MakesInferior s j m
 Fits (changes.Remove s) j m = superiors m s ≡ Some j
 Fits (changes.Hold c s) j m = is_some (m.jobs s) ≡ true
@@ -263,28 +302,50 @@ abbrev pub AllFit : List Change → ℕ → Machine → Type 0
 AllFit [] j m = Unit {0}
 AllFit (c ∷ cs) j m = Fits c j m × AllFit cs j (effect c j m)
 
-opened_keeps : (m : Machine) (j : ℕ) (on : Opened) → OpensInferior on j m → KeepsOn m j (λ c. opened_on on)
-opened_keeps m j opened.TtyIn f c h = tt
-opened_keeps m j opened.TtyOut f c h = tt
-opened_keeps m j (opened.Reading d x y) f c h = tt
-opened_keeps m j (opened.Writing d x y) f c h = tt
-opened_keeps m j (opened.Usr s write) f c h = f
+opened_keeps : (m : Machine) (j : ℕ) (on : Opened) → CanOpen on j m → KeepsOn m j (λ c. opened_on on)
+opened_keeps m j opened.TtyIn f = record { inferior = λ c h. tt; console = λ c h. f }
+opened_keeps m j opened.TtyOut f = record { inferior = λ c h. tt; console = λ c h. f }
+opened_keeps m j (opened.Reading d x y) f = record { inferior = λ c h. tt; console = λ c h. tt }
+opened_keeps m j (opened.Writing d x y) f = record { inferior = λ c h. tt; console = λ c h. tt }
+opened_keeps m j (opened.Usr s write) f = record { inferior = λ c h. f; console = λ c h. tt }
 
 moved_keeps : (m : Machine) (j at : ℕ) → KeepsOn m j (at_position at)
-moved_keeps m j at (On k w p) h = h
-moved_keeps m j at (Reads f p) h = tt
-moved_keeps m j at Shut h = tt
-moved_keeps m j at TtyIn h = tt
-moved_keeps m j at TtyOut h = tt
-moved_keeps m j at (Writes f) h = tt
+moved_keeps m j at = record { inferior = inferior; console = console }
+  where
+    inferior : (c : Chan) → OnInferior m j c → OnInferior m j (at_position at c)
+    inferior (On k w p) h = h
+    inferior (Reads f p) h = tt
+    inferior Shut h = tt
+    inferior TtyIn h = tt
+    inferior TtyOut h = tt
+    inferior (Writes f) h = tt
+
+    console : (c : Chan) → OnConsole (console_in (m.jobs j)) c → OnConsole (console_in (m.jobs j)) (at_position at c)
+    console (On k w p) h = tt
+    console (Reads f p) h = tt
+    console Shut h = tt
+    console TtyIn h = h
+    console TtyOut h = h
+    console (Writes f) h = tt
 
 word_keeps : (m : Machine) (j x : ℕ) → KeepsOn m j (with_word x)
-word_keeps m j x (On k w p) h = h
-word_keeps m j x (Reads f p) h = tt
-word_keeps m j x Shut h = tt
-word_keeps m j x TtyIn h = tt
-word_keeps m j x TtyOut h = tt
-word_keeps m j x (Writes f) h = tt
+word_keeps m j x = record { inferior = inferior; console = console }
+  where
+    inferior : (c : Chan) → OnInferior m j c → OnInferior m j (with_word x c)
+    inferior (On k w p) h = h
+    inferior (Reads f p) h = tt
+    inferior Shut h = tt
+    inferior TtyIn h = tt
+    inferior TtyOut h = tt
+    inferior (Writes f) h = tt
+
+    console : (c : Chan) → OnConsole (console_in (m.jobs j)) c → OnConsole (console_in (m.jobs j)) (with_word x c)
+    console (On k w p) h = tt
+    console (Reads f p) h = tt
+    console Shut h = tt
+    console TtyIn h = h
+    console TtyOut h = h
+    console (Writes f) h = tt
 
 -- a console is held
 either_some : (b : Bool) (s : ℕ) (o : Option ℕ) (P : ℕ → Type 0) → P s → IfSome o P → IfSome (if b then Some s else o) P
@@ -298,6 +359,7 @@ held_forest m c s h d = same_forest m _
       tree = λ k. refl;
       jobs = λ k x. x;
       channels = d.channels;
+      consoles = d.consoles;
       holders = λ k. either_some (k == c) s (m.holders k) (λ i. is_some (m.jobs i) ≡ true) h (d.holders k);
     })
     d
@@ -358,12 +420,19 @@ module _ (m n : Machine) (s j : ℕ) (made : Made m n s j) (fits : MakesInferior
         (on_alike m n k (channel_in (m.jobs k) i) (λ x e. kept_superior x k e) (d.channels k i))
   ]
 
+  made_consoles : (k i : ℕ) → OnConsole (console_in (n.jobs k)) (channel_in (n.jobs k) i)
+  made_consoles k i = elim (cases_eq k s) [
+    | inl at ↦ subst (λ (x : ℕ). OnConsole (console_in (n.jobs x)) (channel_in (n.jobs x) i)) (sym at) (subst (OnConsole (console_in (n.jobs s))) (sym (made.shut i)) tt)
+    | inr ne ↦ subst (λ (o : Option Whole). OnConsole (console_in o) (channel_in o i)) (sym (made.others k ne)) (d.consoles k i)
+  ]
+
   made_forest : Forest n
   made_forest = record {
     few = λ k l. made.others k (λ at. let few = fits.few in omega (arith, few)) ∙ d.few k l;
     standing = made_standing;
     circle = made_circle;
     channels = made_channels;
+    consoles = made_consoles;
     holders = λ c. subst (λ (o : Option ℕ). IfSome o (λ i. is_some (n.jobs i) ≡ true)) (sym (made.holders c)) (IfSome_then (m.holders c) (d.holders c) (λ i h. still_job i h));
   }
 
@@ -446,6 +515,24 @@ module _ (m : Machine) (r : ℕ) (d : Forest m) where
   left_channel k i false None h = tt
   left_channel k i false (Some q) h = left_on k (q.channels i) h
 
+  left_open : (o : Option ℕ) (c : Chan) → OnConsole o c → OnConsole o (chan_left (is_gone (superiors m) r) c)
+  left_open o (On s write at) h = go (is_gone (superiors m) r s)
+    where
+      go : (b : Bool) → OnConsole o (if b then Shut else On s write at)
+      go true = tt
+      go false = tt
+  left_open o Shut h = tt
+  left_open o TtyIn h = h
+  left_open o TtyOut h = h
+  left_open o (Reads f at) h = tt
+  left_open o (Writes f) h = tt
+
+  left_console : (i : ℕ) (b : Bool) (o : Option Whole) → OnConsole (console_in o) (channel_in o i)
+      → OnConsole (console_in (left_job (is_gone (superiors m) r) b o)) (channel_in (left_job (is_gone (superiors m) r) b o) i)
+  left_console i true o h = tt
+  left_console i false None h = tt
+  left_console i false (Some q) h = left_open q.job.console (q.channels i) h
+
   heir_stays : (o : Option ℕ) → superiors m r ≡ o → IfSome o (λ i. is_some (m.jobs i) ≡ true) → IfSome o (λ i. is_some ((removed (superiors m) r m).jobs i) ≡ true)
   heir_stays (Some i) e h = left_job_some i (forest_below m r i d e) h
   heir_stays None e h = tt
@@ -466,6 +553,7 @@ module _ (m : Machine) (r : ℕ) (d : Forest m) where
     standing = left_standing;
     circle = circle_cut (superiors m) (superiors (removed (superiors m) r m)) (is_gone (superiors m) r) left_tree d.circle;
     channels = λ k i. left_channel k i (is_gone (superiors m) r k) (m.jobs k) (d.channels k i);
+    consoles = λ k i. left_console i (is_gone (superiors m) r k) (m.jobs k) (d.consoles k i);
     holders = λ c. left_holder (m.holders c) (d.holders c);
   }
 
@@ -473,22 +561,22 @@ module _ (m : Machine) (r : ℕ) (d : Forest m) where
 pub effect_forest : (c : Change) (j : ℕ) (m : Machine) → Fits c j m → Forest m → Forest (effect c j m)
 unfolding effect
 effect_forest (changes.Open n on) j m f d = job_forest m j _ (channel_keeps m j n (λ c. opened_on on) (opened_keeps m j on f)) d
-effect_forest (changes.Shut n) j m f d = job_forest m j _ (channel_keeps m j n (λ c. Shut) (λ c h. tt)) d
+effect_forest (changes.Shut n) j m f d = job_forest m j _ (channel_keeps m j n (λ c. Shut) (shut_keeps m j)) d
 effect_forest (changes.Move n at) j m f d = job_forest m j _ (channel_keeps m j n (at_position at) (moved_keeps m j at)) d
 effect_forest (changes.Append n x) j m f d = job_forest m j _ (channel_keeps m j n (with_word x) (word_keeps m j x)) d
 effect_forest (changes.Close n) j m f d =
-    jobs_forest (in_job m j (on_channel n (λ c. Shut))) _ refl refl (job_forest m j _ (channel_keeps m j n (λ c. Shut) (λ c h. tt)) d)
+    jobs_forest (in_job m j (on_channel n (λ c. Shut))) _ refl refl (job_forest m j _ (channel_keeps m j n (λ c. Shut) (shut_keeps m j)) d)
 effect_forest (changes.Take c) j m f d = jobs_forest m _ refl refl d
 effect_forest (changes.Put c b) j m f d = jobs_forest m _ refl refl d
 effect_forest (changes.Hold c s) j m f d = held_forest m c s f d
-effect_forest (changes.Poke s a x) j m f d = job_forest m s _ (calm m s _ (λ q. refl) (λ q. refl)) d
-effect_forest (changes.Set s v x) j m f d = job_forest m s _ (calm m s _ (λ q. refl) (λ q. refl)) d
-effect_forest (changes.Map s k) j m f d = job_forest m s _ (calm m s _ (λ q. refl) (λ q. refl)) d
-effect_forest (changes.Unmap s k) j m f d = job_forest m s _ (calm m s _ (λ q. refl) (λ q. refl)) d
-effect_forest (changes.Protect s k on) j m f d = job_forest m s _ (calm m s _ (λ q. refl) (λ q. refl)) d
+effect_forest (changes.Poke s a x) j m f d = job_forest m s _ (calm m s _ (λ q. refl) (λ q. refl) (λ q is. refl)) d
+effect_forest (changes.Set s v x) j m f d = job_forest m s _ (calm m s _ (λ q. refl) (λ q. refl) (λ q is. variable_console v x q.job)) d
+effect_forest (changes.Map s k) j m f d = job_forest m s _ (calm m s _ (λ q. refl) (λ q. refl) (λ q is. refl)) d
+effect_forest (changes.Unmap s k) j m f d = job_forest m s _ (calm m s _ (λ q. refl) (λ q. refl) (λ q is. refl)) d
+effect_forest (changes.Protect s k on) j m f d = job_forest m s _ (calm m s _ (λ q. refl) (λ q. refl) (λ q is. refl)) d
 effect_forest (changes.Make s u n) j m f d = made_forest m _ s j (makes m s j u n) f d
 effect_forest (changes.Remove s) j m f d = removed_forest m s d
-effect_forest (changes.Inform s) j m f d = job_forest m s _ (calm m s _ (λ q. refl) (λ q. refl)) d
+effect_forest (changes.Inform s) j m f d = job_forest m s _ (calm m s _ (λ q. refl) (λ q. refl) (λ q is. refl)) d
 effect_forest (changes.Delete x y z) j m f d = jobs_forest m _ refl refl d
 effect_forest (changes.Rename x y z u v) j m f d = jobs_forest m _ refl refl d
 
@@ -520,10 +608,10 @@ unfolding acted
 acted_forest m j a ks (Waits r) f d = tt
 acted_forest m j a ks (Goes cs h vs) f d =
     let n = effects cs.items j m in
-    job_forest n j _ (calm n j _ (λ q. held_superior (revalued a vs.items) h q) (λ q. held_channels (revalued a vs.items) h q)) (effects_forest cs.items j m f d)
+    job_forest n j _ (calm n j _ (λ q. held_superior (revalued a vs.items) h q) (λ q. held_channels (revalued a vs.items) h q) (λ q is. held_console (revalued a vs.items) h q)) (effects_forest cs.items j m f d)
 acted_forest m j a ks (Ends cs ss e) f d =
     let n = effects cs.items j m in
-    job_forest n j _ (calm n j _ (λ q. refl) (λ q. refl)) (effects_forest cs.items j m f d)
+    job_forest n j _ (calm n j _ (λ q. refl) (λ q. refl) (λ q is. refl)) (effects_forest cs.items j m f d)
 acted_forest m j a ks (Gone cs) f d = effects_forest cs.items j (effect (changes.Remove j) j m) f.0 (gone_forest m j j d)
 
 -- a step
@@ -532,6 +620,17 @@ informs_fit true (Some s) j m = (tt, tt)
 informs_fit true None j m = tt
 informs_fit false o j m = tt
 
+slot_console : (f : Whole → Whole) (b : Bool) (o : Option Whole) → ((q : Whole) → (f q).job.console ≡ q.job.console) → console_in (if b then option_map f o else o) ≡ console_in o
+slot_console f true (Some q) h = h q
+slot_console f true None h = refl
+slot_console f false o h = refl
+
+informs_console : (b : Bool) (o : Option ℕ) (j k : ℕ) (m : Machine) → console_in ((effects (informs b o) j m).jobs k) ≡ console_in (m.jobs k)
+unfolding effect
+informs_console true (Some s) j k m = slot_console with_inf (k == s) (m.jobs k) (λ q. refl)
+informs_console true None j k m = refl
+informs_console false o j k m = refl
+
 -- where each decision keeps jobs as they lie, so does a step
 pub steps_where : ((m : Machine) (j : ℕ) (q : Whole) (a : Ask) → Forest m → m.jobs j ≡ Some q → FitsAll (decision m j q a) j m)
     → (m n : Machine) (j : ℕ) → Forest m → step m j ≡ Some n → Forest n
@@ -539,8 +638,13 @@ steps_where fits m n j h e = step_has Forest m n j (λ q is.
     let cs = informs (delivered q.core q.job).stops q.superior in
     let informed = effects cs j m in
     record {
-      delivers = job_forest informed j _ (calm informed j _ (λ p. refl) (λ p. refl)) (effects_forest cs j m (informs_fit _ _ j m) h);
-      changes = λ c k u. job_forest m j _ (calm m j _ (λ p. refl) (λ p. refl)) h;
-      faults = λ f. job_forest m j _ (calm m j _ (λ p. refl) (λ p. refl)) h;
+      delivers =
+        job_forest informed j _
+        (calm informed j _ (λ p. refl) (λ p. refl)
+          (λ p at. delivered_console q.core q.job ∙ sym (ap console_in is) ∙ sym (informs_console (delivered q.core q.job).stops q.superior j j m) ∙ ap console_in at))
+        (effects_forest cs j m (informs_fit _ _ j m) h);
+      changes = λ c k u.
+        job_forest m j _ (calm m j _ (λ p. refl) (λ p. refl) (λ p at. unit_console q.core q.job c k u ∙ ap console_in (sym is ∙ at))) h;
+      faults = λ f. job_forest m j _ (calm m j _ (λ p. refl) (λ p. refl) (λ p at. refl)) h;
       calls = λ a. acted_forest m j a (reach m j q a) (decision m j q a) (fits m j q a h is) h;
     }) e

@@ -13,6 +13,7 @@ pub mod MarkLaws
 pub mod EffectLaws
 pub mod ViewLaws
 pub mod StartLaws
+pub mod ClockLaws
 pub mod CommitLaws
 pub mod TickLaws
 pub mod CommitSound

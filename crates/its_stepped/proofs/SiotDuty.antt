@@ -32,7 +32,7 @@ use Rattle.its_plain.specs.View.{View}
 use Rattle.its_word.specs.Stores.{stored}
 use Rattle.its_stepped.specs.State.{State}
 use Rattle.its_stepped.specs.Tick.{makes_page}
-use Rattle.its_stepped.specs.Sound.{Stands, Stored, most_owed_by, most_owed}
+use Rattle.its_stepped.specs.Sound.{Stands, Stored, most_owed_by, most_owed, Transfers}
 use Rattle.its_stepped.specs.Quiet.{AllQuiet}
 use Rattle.its_stepped.specs.Duty.{AllSpare, parts_in, Apart, Within, HeldFits, Going, Duty}
 use Rattle.its_stepped.specs.Calling.{Transfer, Fetched, Decoding, Calling}
@@ -102,7 +102,7 @@ stored_two : (c : Core) (p v q k : ℕ) → p % 2 ^ 18 ≡ p → q % 2 ^ 18 ≡ 
 unfolding stored
 stored_two c p v q k e f = ap (λ (i : ℕ). store (store c i v) (q % 2 ^ 18) k) e ∙ ap (λ (i : ℕ). store (store c p v) i k) f
 
--- what its tests say of pointer and count
+-- what its tests say of pointer and count, where its decoding gave no error
 pub record Moving (c : Core) (a : Ask) : Type 0 where
   p : ℕ
   q : ℕ
@@ -113,6 +113,7 @@ pub record Moving (c : Core) (a : Ask) : Type 0 where
   count_alone : is_shared q a ≡ false
   pointer_can : can_store c p ≡ true
   count_can : can_store c q ≡ true
+  no_error : a.fail ≡ 0
 
 moving_by : (c : Core) (a : Ask) (o r : Option ℕ) → Fetched c a → call_named a.name ≡ Some Siot → a.fail ≡ 0 → place_of_input a 1 ≡ o → place_of_input a 2 ≡ r
     → (shared_place a o || shared_place a r) ≡ false → (read_only c o || read_only c r) ≡ false → Moving c a
@@ -131,6 +132,7 @@ moving_by c a (Some p) (Some q) f e z i k alone can =
       count_alone = apart.1;
       pointer_can = not-false (can_store c p) write.0;
       count_can = not-false (can_store c q) write.1;
+      no_error = z;
     }
 
 -- a held byte's word is outside the footprint, and allows a store
@@ -180,6 +182,7 @@ siot_goes d m v j x s a n cs h w i c e t quiet spare parts o sized =
       page = no_page m v j x.own s a n c (ap (λ (k : Option CallName). makes_page k (input a 0)) e);
       within = subst (λ (ss : List Store). Within (debts a n) ss) (sym owed) (within_two a g.channel n t.p g.pointer t.q g.count w i few g.inputs);
       held = held_fits x.own.core a n h c.fetched o;
+      transfers = transfers_with h;
       outside = outside_of h o;
       size = sized_by h (ap (λ (k : Ask). has_size (input k 1)) valued ∙ sized);
       debts = record {
@@ -197,6 +200,10 @@ siot_goes d m v j x s a n cs h w i c e t quiet spare parts o sized =
     sized_by : (h : Option Held) → has_size (input (revalued a (w ∷ i ∷ [])) 1) ≡ true → IfSome h (λ b. has_size (input (revalued a (w ∷ i ∷ [])) 1) ≡ true)
     sized_by None k = tt
     sized_by (Some b) k = k
+
+    transfers_with : (h : Option Held) → IfSome h (λ b. Transfers a)
+    transfers_with None = tt
+    transfers_with (Some b) = record { siot = e; no_error = t.no_error }
 
     outside_of : (h : Option Held) → IfSome h (HeldOutside x.own.core a) → IfSome h (λ b. in_footprint b.place a ≡ false)
     outside_of None k = tt

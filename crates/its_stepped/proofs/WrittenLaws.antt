@@ -6,14 +6,14 @@ use Rattle.std.proofs.lemmas.Option.{IfSome_then}
 use Rattle.its_word.specs.Item.{Item}
 use Rattle.its_word.specs.declared.session.Event.{Event}
 use Rattle.its_print.specs.Printing.{Line}
-use Rattle.its_plain.specs.Change.{channel_in, superior_in}
+use Rattle.its_plain.specs.Change.{channel_in, superior_in, console_in}
 use Rattle.its_plain.specs.Machine.{Chan, Shut, Whole, Machine}
 use Rattle.its_plain.specs.OperatorLines.{Done, lined}
 use Rattle.its_plain.specs.Transcript.{Transcript}
 use Rattle.its_plain.specs.Operator.{Block, Does}
 use Rattle.its_plain.proofs.CallLineLaws.{Face, face, SlotKept, Stays, Made, HolderKept, Keeps, Takes, LineKeeps, LineKeepsBy, line_keeps}
 use Rattle.its_stepped.specs.Calling.{Decoding}
-use Rattle.its_stepped.specs.Forest.{OnInferior, Forest}
+use Rattle.its_stepped.specs.Forest.{OnInferior, OnConsole, Forest}
 use Rattle.its_stepped.specs.Lines.{stepped}
 use Rattle.its_stepped.proofs.ForestLaws.{forest_starts, same_forest}
 use Rattle.its_stepped.proofs.FitLaws.{forest_steps}
@@ -37,6 +37,14 @@ channel_faced : (o : Option Whole) (i : ℕ) → channel_in o i ≡ face_channel
 channel_faced (Some q) i = refl
 channel_faced None i = refl
 
+abbrev face_console : Option Face → Option ℕ
+face_console (Some f) = f.console
+face_console None = None
+
+console_faced : (o : Option Whole) → console_in o ≡ face_console (option_map face o)
+console_faced (Some q) = refl
+console_faced None = refl
+
 some_faced : (o : Option Whole) → is_some o ≡ is_some (option_map face o)
 some_faced (Some q) = refl
 some_faced None = refl
@@ -53,6 +61,12 @@ slot_channel : (m : Machine) (k i : ℕ) (o p : Option Whole) → SlotKept o p �
 slot_channel m k i o p (Stays e) h = subst (OnInferior m k) (channel_faced o i ∙ sym (ap (λ (f : Option Face). face_channel f i) e) ∙ sym (channel_faced p i)) h
 slot_channel m k i o p (Made u j console none is) h = subst (λ (x : Option Whole). OnInferior m k (channel_in x i)) (sym is) tt
 
+slot_console : (i : ℕ) (o p : Option Whole) → SlotKept o p → OnConsole (console_in o) (channel_in o i) → OnConsole (console_in p) (channel_in p i)
+slot_console i o p (Stays e) h =
+    subst (OnConsole (console_in p)) (channel_faced o i ∙ sym (ap (λ (f : Option Face). face_channel f i) e) ∙ sym (channel_faced p i))
+    (subst (λ (c : Option ℕ). OnConsole c (channel_in o i)) (console_faced o ∙ sym (ap face_console e) ∙ sym (console_faced p)) h)
+slot_console i o p (Made u j console none is) h = subst (λ (x : Option Whole). OnConsole (console_in x) (channel_in x i)) (sym is) tt
+
 -- and a job that it makes may hold its console
 holder_kept : (m n : Machine) (c : ℕ) → LineKeeps m n → HolderKept m n c → IfSome (m.holders c) (λ s. is_some (m.jobs s) ≡ true) → IfSome (n.holders c) (λ s. is_some (n.jobs s) ≡ true)
 holder_kept m n c h (Keeps e) d =
@@ -67,6 +81,7 @@ keeps_forest m n h d = same_forest m n
       tree = λ k. slot_superior (m.jobs k) (n.jobs k) (h.slots k);
       jobs = λ k x. slot_some (m.jobs k) (n.jobs k) (h.slots k) x;
       channels = λ k i. slot_channel m k i (m.jobs k) (n.jobs k) (h.slots k) (d.channels k i);
+      consoles = λ k i. slot_console i (m.jobs k) (n.jobs k) (h.slots k) (d.consoles k i);
       holders = λ c. holder_kept m n c h (h.holders c) (d.holders c);
     })
     d

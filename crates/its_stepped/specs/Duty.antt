@@ -23,7 +23,7 @@ use Rattle.its_plain.specs.CallStep.{moved, decision, among}
 use Rattle.its_stepped.specs.State.{State, plain, seen}
 use Rattle.its_stepped.specs.Commit.{effect_on}
 use Rattle.its_stepped.specs.Tick.{reserves, prepared_for, quarters}
-use Rattle.its_stepped.specs.Sound.{Stands, Stored, Debts, IsWaitable}
+use Rattle.its_stepped.specs.Sound.{Stands, Stored, Debts, IsWaitable, Transfers}
 use Rattle.its_stepped.specs.Quiet.{AllQuiet}
 
 -- a change after which the caller is there with the registers that it had; its words and pages may be others
@@ -94,6 +94,7 @@ pub record Going (v : State) (j : ℕ) (own : Whole) (s : Site) (a : Ask) (n : �
   pub page : v.reserved j ≡ None
   pub within : Within (debts a n) (debts (revalued a vs) (length vs))
   pub held : IfSome h (λ b. HeldFits own.core (debts a n) (length vs) b)
+  pub transfers : IfSome h (λ b. Transfers a)
   pub outside : IfSome h (λ b. in_footprint b.place a ≡ false)
   pub size : IfSome h (λ b. has_size (input (revalued a vs) 1) ≡ true)
   pub debts : Debts own.core (revalued a vs) (length vs)

@@ -124,7 +124,13 @@ pub record WaitingPays (c : Core) (r : Option ℕ) (a : Ask) (n : ℕ) : Type 0 
   pub page_is : r ≡ None
   pub waitable : IsWaitable (call_named a.name)
 
+-- the call that can hold a byte: SIOT, whose decoding gave no error
+pub record Transfers (a : Ask) : Type 0 where
+  pub siot : call_named a.name ≡ Some Siot
+  pub no_error : a.fail ≡ 0
+
 pub record MovingPays (c : Core) (r : Option ℕ) (a : Ask) (at : ℕ) : Type 0 where
+  pub transfers : Transfers a
   pub debts : Debts c a 2
   pub page_is : r ≡ None
   pub place : can_store c (place (poke at 0)) ≡ true

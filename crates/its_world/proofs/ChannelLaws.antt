@@ -19,7 +19,7 @@ use Rattle.its_plain.specs.CallFile.{has_file, is_read}
 use Rattle.its_stepped.specs.Commit.{effect_on}
 use Rattle.its_world.specs.World.{chan_of, mark_of, state_of, in_raw}
 use Rattle.its_world.specs.Tidy.{channel_at, reads, writes, Tidy}
-use Rattle.its_world.specs.Storage.{HasJob, chan_in, IsElsewhere, IsDraft, Unread, HasRoom, Closes, ChannelBecomes}
+use Rattle.its_world.specs.Storage.{HasJob, chan_in, IsElsewhere, IsDraft, Unread, HasRoom, Closes, ChannelBecomes, OnlyStore}
 use Rattle.its_world.specs.declared.world.World.{World}
 use Rattle.its_files.specs.Blocks.{blocks_used as stored_blocks, is_full as store_is_full}
 use Rattle.its_files.specs.Files.{file_at, close_by, close_old, close_new, marked_with}
@@ -42,7 +42,7 @@ use Rattle.its_word.specs.declared.jobs.Job.{Job}
 use Rattle.its_world.specs.Tidy.{channel_by}
 use Rattle.its_world.proofs.MarkLaws.{none_marked, mark_same, begin_close}
 use Rattle.its_world.proofs.KeptLaws.{Kept, Stays, across_table, moved_kept, opened_kept, closed_kept, drafted_kept, discarded_kept, appended_kept, closing_kept, deleted_stays, renamed_stays, delete_is, rename_is}
-use Rattle.its_world.proofs.StorageLaws.{OnlyStore, Comes, channel_comes, still_unmarked, store_tidy, filed_state, one_channel, same_channels, filed_tidy, channel_still, still_state, store_state, has_job, chan_is, chans_are, chan_shut, store_unmarked, files_are}
+use Rattle.its_world.proofs.StorageLaws.{Comes, channel_comes, still_unmarked, store_tidy, filed_state, one_channel, same_channels, filed_tidy, channel_still, still_state, store_state, has_job, chan_is, chans_are, chan_shut, store_unmarked, files_are}
 use Rattle.its_word.proofs.FreeLaws.{none_is}
 
 -- channels on no file and no draft

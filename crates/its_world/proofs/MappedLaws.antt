@@ -8,13 +8,14 @@ use Rattle.its_word.specs.Only.{Only}
 use Rattle.its_word.specs.declared.jobs.Job.{Job}
 use Rattle.its_word.proofs.PageLaws.{pages_mapped-same}
 use Rattle.its_core.specs.Cores.{core_at, clear_at}
+use Rattle.its_core.specs.Frames.{Frames, frames_map}
 use Rattle.its_files.specs.Files.{Store, directory}
 use Rattle.its_jobs.specs.Table.{Table, job_at, superior_at}
 use Rattle.its_plain.specs.Machine.{Whole, core_of, mapped, changed}
 use Rattle.its_plain.proofs.MachineLaws.{machine_is}
 use Rattle.its_world.specs.Mapped.{PageMapped}
 use Rattle.its_world.specs.Tidy.{Across, Tidy}
-use Rattle.its_world.specs.World.{mark_of, raw_of, raw_at, frame_at, console_at, holder_at, state_of, in_raw}
+use Rattle.its_world.specs.World.{mark_of, raw_of, raw_at, frame_at, console_at, holder_at, state_of, in_raw, with_frames}
 use Rattle.its_world.specs.declared.world.World.{World}
 use Rattle.its_world.proofs.StateLaws.{state_is, raw_job, changed_at, slot_at}
 
@@ -30,17 +31,24 @@ core_raw w k tidy = core_by w.files (core_at w.core k) (superior_at w.jobs k) (j
 pub mapped_raw : (w : World) → Tidy w → mapped (state_of w).raw ≡ pages_mapped (core_at w.core)
 mapped_raw w tidy = pages_mapped-same (core_at w.core) (λ k. core_of ((state_of w).raw.jobs k)) (record { each = λ k. core_raw w k tidy })
 
+-- nor do they matter to what holds of the world besides
+pub frames_tidy : (w : World) (f : Frames) → Tidy (with_frames w f) → Tidy w
+unfolding core_at
+frames_tidy w f tidy = record { blank = tidy.blank; across = tidy.across }
+
 -- a job with another core
 recored : (x : Store) (b c : Core) (u : Option ℕ) (h : Whole → Whole) (o : Option Job) → ((i : Job) → h (raw_job x b i u) ≡ raw_job x c i u)
     → raw_of x c u o ≡ option_map h (raw_of x b u o)
 recored x b c u h (Some i) e = ap Some (sym (e i))
 recored x b c u h None e = refl
 
-pub mapped_becomes : (old new : World) (s t : ℕ) (c : Core) → Only (core_at old.core) (core_at new.core) t c → Only (clear_at old.core) (clear_at new.core) s None
-    → new.jobs ≡ old.jobs → new.frames ≡ old.frames → new.consoles ≡ old.consoles → new.holders ≡ old.holders → new.files ≡ old.files → new.clock ≡ old.clock → PageMapped old new s t c
-mapped_becomes old new s t c core reserved jobs frames consoles holders files clock = record {
+pub mapped_becomes : (old new : World) (s t k : ℕ) (c : Core) → Only (core_at old.core) (core_at new.core) t c → Only (clear_at old.core) (clear_at new.core) s None
+    → new.core.frames ≡ frames_map s t k old.core.frames
+    → new.jobs ≡ old.jobs → new.frames ≡ old.frames → new.consoles ≡ old.consoles → new.holders ≡ old.holders → new.files ≡ old.files → new.clock ≡ old.clock → PageMapped old new s t k c
+mapped_becomes old new s t k c core reserved pages jobs frames consoles holders files clock = record {
   core = core;
   reserved = reserved;
+  pages = pages;
   jobs = jobs;
   frames = frames;
   consoles = consoles;
@@ -49,7 +57,7 @@ mapped_becomes old new s t c core reserved jobs frames consoles holders files cl
   clock = clock;
 }
 
-module _ (old new : World) (s t : ℕ) (c : Core) (page : PageMapped old new s t c) where
+module _ (old new : World) (s t n : ℕ) (c : Core) (page : PageMapped old new s t n c) where
   raw_alike : (k : ℕ) → raw_at new.files new.core new.jobs k ≡ raw_of old.files (core_at new.core k) (superior_at old.jobs k) (job_at old.jobs k)
   raw_alike k =
       ap (λ x. raw_of x (core_at new.core k) (superior_at new.jobs k) (job_at new.jobs k)) page.files

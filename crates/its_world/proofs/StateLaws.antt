@@ -8,7 +8,8 @@ use Rattle.its_word.specs.Core.{Core}
 use Rattle.its_word.specs.declared.jobs.Job.{Job}
 use Rattle.its_word.specs.declared.calls.Exit.{Exit}
 use Rattle.its_word.specs.declared.plan.Store.{Store}
-use Rattle.its_core.specs.Cores.{core_at, clear_at}
+use Rattle.its_core.specs.Cores.{core_at, reserved_at, clear_at}
+use Rattle.its_core.specs.Frames.{Frames}
 use Rattle.its_plain.specs.Own.{with_stores, left_with, leave}
 use Rattle.its_word.specs.Stores.{stored}
 use Rattle.its_files.specs.Files.{Store as Files, directory}
@@ -19,7 +20,7 @@ use Rattle.its_plain.specs.Change.{on_slot, on_console}
 use Rattle.its_plain.proofs.MachineLaws.{machine_is}
 use Rattle.its_stepped.specs.Lines.{with_raw}
 use Rattle.its_stepped.specs.State.{State, turn, same, reserving}
-use Rattle.its_world.specs.World.{chans_of, mark_of, bare, raw_of, raw_at, frame_at, console_at, holder_at, state_of, in_raw, Becomes, FrameBecomes, ConsoleBecomes, HolderBecomes}
+use Rattle.its_world.specs.World.{chans_of, mark_of, bare, raw_of, raw_at, frame_at, console_at, holder_at, state_of, in_raw, with_frames, Becomes, FrameBecomes, ConsoleBecomes, HolderBecomes}
 use Rattle.its_world.specs.declared.world.World.{World}
 
 pub state_is : (a b : State) → a.raw ≡ b.raw → ((k : ℕ) → a.frames k ≡ b.frames k) → ((k : ℕ) → a.reserved k ≡ b.reserved k) → a.mark ≡ b.mark → a ≡ b
@@ -95,6 +96,15 @@ turned_state old new s c i j f h b job e = state_is _ _
       | inr t ↦ let n : k ≢ s = grind (arith, nat_tests) in b.reserved.others k n
     ])
     (ap mark_of b.files)
+
+-- the frames in which pages stand are no part of the state
+pub frames_state : (w : World) (f : Frames) → state_of (with_frames w f) ≡ state_of w
+unfolding state_of core_at reserved_at
+frames_state w f = refl
+
+pub frames_core : (w : World) (f : Frames) (k : ℕ) → core_at (with_frames w f).core k ≡ core_at w.core k
+unfolding core_at
+frames_core w f k = refl
 
 -- the changes of one slot that rows are made of
 pub job_of : (o : Option Job) → is_some o ≡ true → (j : Job) × (o ≡ Some j)

@@ -19,10 +19,11 @@ use Rattle.its_plain.proofs.MachineLaws.{machine_is}
 use Rattle.its_stepped.specs.State.{State}
 use Rattle.its_world.specs.World.{chan_of, chans_of, bare, raw_of, raw_at, frame_at, console_at, holder_at, mark_of, state_of, in_raw, JobBecomes}
 use Rattle.its_world.specs.Tidy.{channel_by, channel_at, Across, Tidy}
-use Rattle.its_world.specs.Storage.{HasJob, chan_in, ChannelBecomes}
+use Rattle.its_world.specs.Storage.{HasJob, chan_in, ChannelBecomes, OnlyStore}
 use Rattle.its_world.specs.declared.world.World.{World}
 use Rattle.its_world.proofs.KeptLaws.{Kept, Stays}
 use Rattle.its_world.proofs.MarkLaws.{mark_none, none_marked}
+use Rattle.its_world.proofs.WorldLaws.{frames_still}
 use Rattle.its_world.proofs.StateLaws.{state_is, changed_at, slot_at}
 use Rattle.its_world.proofs.TallyLaws.{OneChannel}
 use Rattle.its_word.proofs.FreeLaws.{none_is}
@@ -47,6 +48,7 @@ channel_becomes old new s n x j was lt b = record {
   superiors = b.superiors;
   core = only_same (core_at old.core) (core_at new.core) s b.core;
   reserved = only_same (clear_at old.core) (clear_at new.core) s b.reserved;
+  pages = b.pages ∙ frames_still (clear_at old.core s) s old.core.frames;
   frames = only_same (frame_at old.frames.items) (frame_at new.frames.items) s b.frame;
   consoles = b.consoles;
   holders = b.holders;
@@ -63,22 +65,13 @@ channel_missing w s n x none = record {
   superiors = refl;
   core = record { each = λ k. refl };
   reserved = record { each = λ k. refl };
+  pages = refl;
   frames = record { each = λ k. refl };
   consoles = refl;
   holders = refl;
   clock = refl;
   files = refl;
 }
-
--- of the world only the store is another
-pub record OnlyStore (old new : World) (t : Store) : Type 0 where
-  pub core : new.core ≡ old.core
-  pub jobs : new.jobs ≡ old.jobs
-  pub frames : new.frames ≡ old.frames
-  pub consoles : new.consoles ≡ old.consoles
-  pub holders : new.holders ≡ old.holders
-  pub clock : new.clock ≡ old.clock
-  pub files : new.files ≡ t
 
 -- a channel is set behind the store, or left as it is
 pub store_first : (old mid new : World) (s n : ℕ) (x : Channel) (t : Store) → OnlyStore old mid t → ChannelBecomes mid new s n x t → ChannelBecomes old new s n x t
@@ -90,6 +83,7 @@ store_first old mid new s n x t o b = record {
   superiors = b.superiors ∙ ap (λ j. j.superiors) o.jobs;
   core = record { each = λ k. b.core.each k ∙ ap (λ c. core_at c k) o.core };
   reserved = record { each = λ k. b.reserved.each k ∙ ap (λ c. clear_at c k) o.core };
+  pages = b.pages ∙ ap (λ c. c.frames) o.core;
   frames = record { each = λ k. b.frames.each k ∙ ap (λ l. frame_at l.items k) o.frames };
   consoles = b.consoles ∙ o.consoles;
   holders = b.holders ∙ o.holders;
@@ -106,6 +100,7 @@ channel_still old new s n t o = record {
   superiors = ap (λ j. j.superiors) o.jobs;
   core = record { each = λ k. ap (λ c. core_at c k) o.core };
   reserved = record { each = λ k. ap (λ c. clear_at c k) o.core };
+  pages = ap (λ c. c.frames) o.core;
   frames = record { each = λ k. ap (λ l. frame_at l.items k) o.frames };
   consoles = o.consoles;
   holders = o.holders;

@@ -9,9 +9,10 @@ use Rattle.its_word.specs.declared.jobs.Job.{Job}
 use Rattle.its_frame.specs.declared.frame.Frame.{Frame}
 use Rattle.its_jobs.specs.Table.{job_at}
 use Rattle.its_plain.specs.Change.{rest_of}
-use Rattle.its_world.specs.World.{frame_at, console_at, holder_at, Becomes, CoreBecomes, JobBecomes, FrameBecomes, PageBecomes, ConsoleBecomes, HolderBecomes, typed_at}
+use Rattle.its_world.specs.World.{frame_at, console_at, holder_at, frames_after, with_frames, Becomes, CoreBecomes, JobBecomes, FrameBecomes, PageBecomes, ConsoleBecomes, HolderBecomes, typed_at}
 use Rattle.its_world.specs.declared.world.World.{World}
 use Rattle.its_core.specs.Cores.{Cores, Reserved, core_at, reserved_at, clear_at}
+use Rattle.its_core.specs.Frames.{Frames, frames_reserve, frames_give_back}
 
 same_reserved : (a b : Cores) (k : ℕ) → b.reserved ≡ a.reserved → reserved_at b k ≡ reserved_at a k
 unfolding reserved_at
@@ -43,14 +44,24 @@ unchanged f s = record { here = refl; others = λ k h. refl }
 pub alike : {X : Type 0} → (f g : ℕ → X) (s : ℕ) → ((k : ℕ) → g k ≡ f k) → Only f g s (f s)
 alike f g s h = record { here = h s; others = λ k n. h k }
 
-pub core_becomes : (old new : World) (s : ℕ) (c : Core) → Only (core_at old.core) (core_at new.core) s c → new.core.reserved ≡ old.core.reserved
+-- the frames of pages stay where no page is reserved and none given back
+pub frames_still : (o : Option ℕ) (s : ℕ) (f : Frames) → frames_after o o s f ≡ f
+frames_still None s f = refl
+frames_still (Some n) s f = refl
+
+pub frames_backed : (o : Option ℕ) (s : ℕ) (f : Frames) → is_some o ≡ true → frames_after o None s f ≡ frames_give_back s f
+frames_backed (Some n) s f h = refl
+frames_backed None s f h = cc
+
+pub core_becomes : (old new : World) (s : ℕ) (c : Core) → Only (core_at old.core) (core_at new.core) s c → new.core.reserved ≡ old.core.reserved → new.core.frames ≡ old.core.frames
     → new.jobs ≡ old.jobs → new.frames ≡ old.frames → new.consoles ≡ old.consoles → new.holders ≡ old.holders → new.files ≡ old.files → new.clock ≡ old.clock → CoreBecomes old new s c
-core_becomes old new s c core reserved jobs frames consoles holders files clock = record {
+core_becomes old new s c core reserved pages jobs frames consoles holders files clock = record {
   core = core;
   job = alike _ _ s (λ k. ap (λ t. job_at t k) jobs);
   superiors = ap (λ t. t.superiors) jobs;
   frame = alike _ _ s (λ k. ap (λ t. frame_at t.items k) frames);
   reserved = alike _ _ s ((same_clear old.core new.core reserved).each);
+  pages = pages ∙ sym (frames_still (clear_at old.core s) s old.core.frames);
   consoles = consoles;
   holders = holders;
   files = files;
@@ -65,6 +76,7 @@ job_becomes old new s j job superiors core frames consoles holders files clock =
   superiors = superiors;
   frame = alike _ _ s (λ k. ap (λ t. frame_at t.items k) frames);
   reserved = alike _ _ s (λ k. ap (λ t. clear_at t k) core);
+  pages = ap (λ t. t.frames) core ∙ sym (frames_still (clear_at old.core s) s old.core.frames);
   consoles = consoles;
   holders = holders;
   files = files;
@@ -79,24 +91,34 @@ frame_becomes old new s f frame core jobs consoles holders files clock = record 
   superiors = ap (λ t. t.superiors) jobs;
   frame = frame;
   reserved = alike _ _ s (λ k. ap (λ t. clear_at t k) core);
+  pages = ap (λ t. t.frames) core ∙ sym (frames_still (clear_at old.core s) s old.core.frames);
   consoles = consoles;
   holders = holders;
   files = files;
   clock = clock;
 }
 
--- two changes of one slot, one after the other
+-- a core is written, and its pages stand in other frames then
+pub framed_becomes : (old new : World) (s : ℕ) (c : Core) → Only (core_at old.core) (core_at new.core) s c → new.core.reserved ≡ old.core.reserved
+    → new.jobs ≡ old.jobs → new.frames ≡ old.frames → new.consoles ≡ old.consoles → new.holders ≡ old.holders → new.files ≡ old.files → new.clock ≡ old.clock
+    → CoreBecomes old (with_frames new old.core.frames) s c
+unfolding core_at reserved_at
+framed_becomes old new s c core reserved jobs frames consoles holders files clock =
+    core_becomes old (with_frames new old.core.frames) s c core reserved refl jobs frames consoles holders files clock
+
+-- two changes of one slot, one after the other, of which the second reserves no page and gives none back
 only_then : {X : Type 0} → (f g h : ℕ → X) (s : ℕ) (x y : X) → Only f g s x → Only g h s y → Only f h s y
 only_then f g h s x y a b = record { here = b.here; others = λ k n. b.others k n ∙ a.others k n }
 
-pub then_becomes : (old mid new : World) (s : ℕ) (c d : Core) (i j : Option Job) (f g : Option Frame) (r t : Option ℕ)
-    → Becomes old mid s c i f r → Becomes mid new s d j g t → Becomes old new s d j g t
-then_becomes old mid new s c d i j f g r t a b = record {
+pub then_becomes : (old mid new : World) (s : ℕ) (c d : Core) (i j : Option Job) (f g : Option Frame) (r : Option ℕ)
+    → Becomes old mid s c i f r → Becomes mid new s d j g r → Becomes old new s d j g r
+then_becomes old mid new s c d i j f g r a b = record {
   core = only_then _ _ _ s c d a.core b.core;
   job = only_then _ _ _ s i j a.job b.job;
   superiors = b.superiors ∙ a.superiors;
   frame = only_then _ _ _ s f g a.frame b.frame;
-  reserved = only_then _ _ _ s r t a.reserved b.reserved;
+  reserved = only_then _ _ _ s r r a.reserved b.reserved;
+  pages = b.pages ∙ ap (λ o. frames_after o r s mid.core.frames) a.reserved.here ∙ frames_still r s mid.core.frames ∙ a.pages;
   consoles = b.consoles ∙ a.consoles;
   holders = b.holders ∙ a.holders;
   files = b.files ∙ a.files;
@@ -104,13 +126,14 @@ then_becomes old mid new s c d i j f g r t a b = record {
 }
 
 pub page_becomes : (old new : World) (s : ℕ) (r : Option ℕ) → Only (clear_at old.core) (clear_at new.core) s r → new.core.cores ≡ old.core.cores
-    → new.jobs ≡ old.jobs → new.frames ≡ old.frames → new.consoles ≡ old.consoles → new.holders ≡ old.holders → new.files ≡ old.files → new.clock ≡ old.clock → PageBecomes old new s r
-page_becomes old new s r page cores jobs frames consoles holders files clock = record {
+    → new.core.frames ≡ frames_after (clear_at old.core s) r s old.core.frames → new.jobs ≡ old.jobs → new.frames ≡ old.frames → new.consoles ≡ old.consoles → new.holders ≡ old.holders → new.files ≡ old.files → new.clock ≡ old.clock → PageBecomes old new s r
+page_becomes old new s r page cores pages jobs frames consoles holders files clock = record {
   core = alike _ _ s (λ k. same_core old.core new.core k cores);
   job = alike _ _ s (λ k. ap (λ t. job_at t k) jobs);
   superiors = ap (λ t. t.superiors) jobs;
   frame = alike _ _ s (λ k. ap (λ t. frame_at t.items k) frames);
   reserved = page;
+  pages = pages;
   consoles = consoles;
   holders = holders;
   files = files;

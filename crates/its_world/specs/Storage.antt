@@ -61,7 +61,18 @@ pub record ChannelBecomes (old new : World) (s n : ℕ) (x : Channel) (t : Store
   pub superiors : new.jobs.superiors ≡ old.jobs.superiors
   pub core : Same (core_at old.core) (core_at new.core)
   pub reserved : Same (clear_at old.core) (clear_at new.core)
+  pub pages : new.core.frames ≡ old.core.frames
   pub frames : Same (frame_at old.frames.items) (frame_at new.frames.items)
+  pub consoles : new.consoles ≡ old.consoles
+  pub holders : new.holders ≡ old.holders
+  pub clock : new.clock ≡ old.clock
+  pub files : new.files ≡ t
+
+-- of the world only the store is another: jobs, cores, the frames of their pages and all else are as they were
+pub record OnlyStore (old new : World) (t : Store) : Type 0 where
+  pub core : new.core ≡ old.core
+  pub jobs : new.jobs ≡ old.jobs
+  pub frames : new.frames ≡ old.frames
   pub consoles : new.consoles ≡ old.consoles
   pub holders : new.holders ≡ old.holders
   pub clock : new.clock ≡ old.clock

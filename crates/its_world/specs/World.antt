@@ -8,6 +8,7 @@ use Rattle.its_word.specs.declared.jobs.Channel.{Channel}
 use Rattle.its_word.specs.declared.jobs.Channel.TheVariants as channels
 use Rattle.its_word.specs.declared.jobs.Job.{Job}
 use Rattle.its_core.specs.Cores.{Cores, core_at, clear_at}
+use Rattle.its_core.specs.Frames.{Frames, frames_reserve, frames_give_back}
 use Rattle.its_jobs.specs.Table.{Table, job_at, superior_at}
 use Rattle.its_files.specs.Files.{Store, names_at, file_at, directory}
 use Rattle.its_files.specs.declared.entry.Mark.{Mark as FilesMark}
@@ -104,14 +105,27 @@ state_of w = record {
 abbrev pub in_raw : State → ℕ → (Whole → Whole) → State
 in_raw w s h = record w { raw = in_job w.raw s h }
 
+-- the frames of pages, as slot s reserves a page or gives back the one that it has; else they stay. (The first is how many
+-- quarters of its reserved page were clear, the second how many are)
+abbrev pub frames_after : Option ℕ → Option ℕ → ℕ → Frames → Frames
+frames_after None (Some n) s f = frames_reserve s f
+frames_after (Some n) None s f = frames_give_back s f
+frames_after None None s f = f
+frames_after (Some n) (Some k) s f = f
+
+-- a world whose pages stand in other frames
+abbrev pub with_frames : World → Frames → World
+with_frames w f = record w { core = record w.core { frames = f } }
+
 -- of the world only slot s changes: its core, its job with the same superior, its frame, and how many quarters of its
--- reserved page are clear. Consoles, their holders and files stay
+-- reserved page are clear. Consoles, their holders and files stay, and each page stays in its frame
 pub record Becomes (old new : World) (s : ℕ) (c : Core) (j : Option Job) (f : Option Frame) (r : Option ℕ) : Type 0 where
   pub core : Only (core_at old.core) (core_at new.core) s c
   pub job : Only (job_at old.jobs) (job_at new.jobs) s j
   pub superiors : new.jobs.superiors ≡ old.jobs.superiors
   pub frame : Only (frame_at old.frames.items) (frame_at new.frames.items) s f
   pub reserved : Only (clear_at old.core) (clear_at new.core) s r
+  pub pages : new.core.frames ≡ frames_after (clear_at old.core s) r s old.core.frames
   pub consoles : new.consoles ≡ old.consoles
   pub holders : new.holders ≡ old.holders
   pub files : new.files ≡ old.files

@@ -50,6 +50,7 @@ impl World {
         requires tidy { Tidy self.old }
         ensures row { state_of self.new ≡ in_raw (state_of self.old) slot (on_channel n (λ c. chan_of self.old.files channel)) }
         ensures tidy { Tidy self.new }
+        ensures pages { self.new.core.frames ≡ self.old.core.frames }
     {
         self.set_channel(slot, n, channel);
     }
@@ -65,6 +66,7 @@ impl World {
         requires tidy { Tidy self.old }
         ensures row { state_of self.new ≡ effect_on (Open n (Reads d x y)) slot (state_of self.old) }
         ensures tidy { Tidy self.new }
+        ensures pages { self.new.core.frames ≡ self.old.core.frames }
     {
         if let Some(file) = self.files.find(d, x, y) {
             self.files.open_read(file);
@@ -82,6 +84,7 @@ impl World {
         requires tidy { Tidy self.old }
         ensures row { state_of self.new ≡ effect_on (Open n (Writes d x y)) slot (state_of self.old) }
         ensures tidy { Tidy self.new }
+        ensures pages { self.new.core.frames ≡ self.old.core.frames }
     {
         let draft = self.files.draft(d, x, y);
         self.set_channel(slot, n, Channel::Writing { draft });
@@ -94,6 +97,7 @@ impl World {
         requires tidy { Tidy self.old }
         ensures row { state_of self.new ≡ effect_on (Shuts n) slot (state_of self.old) }
         ensures tidy { Tidy self.new }
+        ensures pages { self.new.core.frames ≡ self.old.core.frames }
     {
         match self.channel(slot, n) {
             Channel::Reading { file, .. } => {
@@ -115,6 +119,7 @@ impl World {
         requires tidy { Tidy self.old }
         ensures row { state_of self.new ≡ effect_on (Move n at) slot (state_of self.old) }
         ensures tidy { Tidy self.new }
+        ensures pages { self.new.core.frames ≡ self.old.core.frames }
     {
         match self.channel(slot, n) {
             Channel::Reading { file, .. } => {
@@ -137,6 +142,7 @@ impl World {
         requires tidy { Tidy self.old }
         ensures row { state_of self.new ≡ effect_on (Append n word) slot (state_of self.old) }
         ensures tidy { Tidy self.new }
+        ensures pages { self.new.core.frames ≡ self.old.core.frames }
     {
         self.files.seen();
         if let Channel::Writing { draft } = self.channel(slot, n) {
@@ -157,6 +163,7 @@ impl World {
         requires tidy { Tidy self.old }
         ensures row { state_of self.new ≡ effect_on (Close n) slot (state_of self.old) }
         ensures tidy { Tidy self.new }
+        ensures pages { self.new.core.frames ≡ self.old.core.frames }
     {
         self.files.seen();
         if let Channel::Writing { draft } = self.channel(slot, n) {
@@ -175,6 +182,7 @@ impl World {
         requires tidy { Tidy self.old }
         ensures row { (j : ℕ) → state_of self.new ≡ effect_on (Delete d x y) j (state_of self.old) }
         ensures tidy { Tidy self.new }
+        ensures pages { self.new.core.frames ≡ self.old.core.frames }
     {
         self.files.seen();
         if let Some(file) = self.files.find(d, x, y) {
@@ -193,6 +201,7 @@ impl World {
         requires tidy { Tidy self.old }
         ensures row { (j : ℕ) → state_of self.new ≡ effect_on (Rename d x y new_x new_y) j (state_of self.old) }
         ensures tidy { Tidy self.new }
+        ensures pages { self.new.core.frames ≡ self.old.core.frames }
     {
         self.files.seen();
         if let Some(file) = self.files.find(d, x, y) {

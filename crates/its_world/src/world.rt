@@ -116,7 +116,7 @@ impl World {
     }
 
     /// Gives up the page that a slot has reserved.
-    #[tactic(auto, using(crate::proofs::WorldLaws::page_becomes, crate::proofs::WorldLaws::reserved_some))]
+    #[tactic(auto, using(crate::proofs::WorldLaws::page_becomes, crate::proofs::WorldLaws::reserved_some, crate::proofs::WorldLaws::frames_backed))]
     pub fn give_back(&mut self, slot: u8)
         requires slot { slot < slots }
         requires page { is_some (clear_at self.old.core slot) ≡ true }

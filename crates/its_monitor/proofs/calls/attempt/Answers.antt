@@ -1,4 +1,5 @@
 use Rattle.its_monitor.proofs.TrialLaws.{mid_job, mid_stands, mid_unmarked, mid_forest, mid_ready, trial_made}
+use Rattle.its_monitor.proofs.TrialLaws.{trial_pages}
 use Rattle.its_monitor.proofs.calls.attempt.Goals as goal
 
 pub decide_in-decision-requires-clause-job : goal.decide_in-decision-requires-clause-job
@@ -27,3 +28,8 @@ pub returns-clause-row : goal.returns-clause-row
 returns-clause-row c =
     trial_made c.args.w.now c.make_ready.new.w c.args.slot c.requires.kept c.requires.stands c.requires.clear c.make_ready.ensures.row
     c.carry_out.new.w c.decide_in-decision.result c.pace_of-pace.result c.decide_in-decision.ensures c.carry_out.ensures.row c.pace_of-pace.ensures
+
+pub returns-clause-pages : goal.returns-clause-pages
+returns-clause-pages c =
+    trial_pages c.args.w.now c.make_ready.new.w c.args.slot c.requires.kept c.requires.stands c.requires.clear c.make_ready.ensures.row
+    c.carry_out.new.w c.decide_in-decision.result c.decide_in-decision.ensures c.make_ready.ensures.pages c.carry_out.ensures.pages

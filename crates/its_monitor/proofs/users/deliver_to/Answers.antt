@@ -7,6 +7,8 @@ use Rattle.its_world.specs.declared.world.World.{World}
 use Rattle.its_monitor.specs.Ticks.{with_channels}
 use Rattle.its_monitor.proofs.UserLaws.{delivery_done, some_is, stop_done, stop_sound, stop_stands}
 use Rattle.its_monitor.proofs.users.deliver_to.Goals.{then-run_delivery, else-run_delivery}
+use Rattle.its_pclsr.proofs.ApartLaws.{becomes_pages}
+use Rattle.its_monitor.proofs.FramesLaws.{stop_frames, quiet_frames}
 use Rattle.its_monitor.proofs.users.deliver_to.Goals as goal
 
 pub run_delivery-requires-clause-some : goal.run_delivery-requires-clause-some
@@ -38,4 +40,14 @@ returns-clause-row c = elim c.if-run_delivery.branch [
       delivery_done _ _ _ _ _ _ c.requires.job c.requires.frame c.run_delivery.ensures.core c.run_delivery.ensures.job
       (subst (λ (x : World). IfSome (job_at x.jobs c.args.slot) (λ k. JobBecomes x c.put_back.new.w c.args.slot (with_channels k.channels c.run_delivery.new.job))) w.w-is c.put_back.ensures.registers)
       (sym c.run_delivery.ensures.stops ∙ w.if-run_delivery.false)
+]
+
+pub returns-clause-pages : goal.returns-clause-pages
+returns-clause-pages c = elim c.if-run_delivery.branch [
+  | then-run_delivery w ↦
+      stop_frames c.args.w.now c.run_delivery.new.w c.args.slot c.args.job _ c.requires.job c.run_delivery.ensures.core (sym c.run_delivery.ensures.stops ∙ w.if-run_delivery.true)
+      (c.put_back.ensures.pages ∙ ap (λ (x : World). x.core.frames) w.w-is ∙ w.tell_superior.ensures.pages)
+  | else-run_delivery w ↦
+      quiet_frames c.args.w.now c.args.slot c.args.job _ c.requires.job (sym c.run_delivery.ensures.stops ∙ w.if-run_delivery.false)
+      (c.put_back.ensures.pages ∙ ap (λ (x : World). x.core.frames) w.w-is ∙ becomes_pages _ _ _ _ _ _ c.run_delivery.ensures.core)
 ]

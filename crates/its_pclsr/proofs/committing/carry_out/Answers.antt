@@ -4,6 +4,7 @@ use Rattle.its_plain.specs.Arguments.{revalued}
 use Rattle.its_stepped.specs.Commit.{effects_on, committed, gone_on}
 use Rattle.its_stepped.specs.State.{ending}
 use Rattle.its_world.specs.World.{state_of, frame_at, FrameBecomes}
+use Rattle.its_pclsr.specs.Pages.{all_pages_changed, pages_carried}
 use Rattle.its_pclsr.specs.Carried.{standing_of, Endable}
 use Rattle.its_pclsr.proofs.CommittingLaws.{ready_for, ends_built, ends_room, whole_part, stands_kept, room_kept, wait_committed, goes_committed, ends_committed, gone_committed, owed_at}
 use Rattle.its_pclsr.proofs.committing.carry_out.Goals as goal
@@ -48,3 +49,22 @@ returns-in-Gone-clause-row c =
     subst (λ (d : Decision). IfSome (standing_of (frame_at c.args.w.now.frames.items c.args.slot)) (λ f. state_of c.apply-in-Gone.new.w ≡ committed (state_of c.args.w.now) c.args.slot f.site f.ask f.owes d)) (sym c.in-Gone.is)
     (gone_committed c.args.w.now c.remove_tree.new.w c.apply-in-Gone.new.w c.args.slot c.in-Gone.changes.items (c.remove_tree.ensures.removed c.args.slot)
     (c.apply-in-Gone.ensures.row ∙ ap (λ cs. effects_on cs c.args.slot (state_of c.remove_tree.new.w)) c.deref-in-Gone.ensures.0))
+
+pub returns-in-Goes-clause-pages : goal.returns-in-Goes-clause-pages
+returns-in-Goes-clause-pages c =
+    c.go_on.ensures.pages ∙ c.apply.ensures.pages
+    ∙ ap (λ cs. all_pages_changed cs c.args.slot (state_of c.args.w.now) c.args.w.now.core.frames) c.deref.ensures.0
+    ∙ ap (λ (d : Decision). pages_carried d c.args.slot (state_of c.args.w.now) c.args.w.now.core.frames) (sym c.in-Goes.is)
+
+pub returns-in-Ends-clause-pages : goal.returns-in-Ends-clause-pages
+returns-in-Ends-clause-pages c =
+    c.end.ensures.pages ∙ c.apply-in-Ends.ensures.pages
+    ∙ ap (λ cs. all_pages_changed cs c.args.slot (state_of c.args.w.now) c.args.w.now.core.frames) c.deref-in-Ends.ensures.0
+    ∙ ap (λ (d : Decision). pages_carried d c.args.slot (state_of c.args.w.now) c.args.w.now.core.frames) (sym c.in-Ends.is)
+
+pub returns-in-Gone-clause-pages : goal.returns-in-Gone-clause-pages
+returns-in-Gone-clause-pages c =
+    c.apply-in-Gone.ensures.pages
+    ∙ ap (λ cs. all_pages_changed cs c.args.slot (state_of c.remove_tree.new.w) c.remove_tree.new.w.core.frames) c.deref-in-Gone.ensures.0
+    ∙ (λ t. all_pages_changed c.in-Gone.changes.items c.args.slot (c.remove_tree.ensures.removed c.args.slot t) (c.remove_tree.ensures.frames t))
+    ∙ ap (λ (d : Decision). pages_carried d c.args.slot (state_of c.args.w.now) c.args.w.now.core.frames) (sym c.in-Gone.is)

@@ -3,7 +3,8 @@ use Rattle.its_pclsr.proofs.RemovalLaws.{slot_emptied, tidy_bare}
 use Rattle.its_pclsr.proofs.removal.empty.Goals as goal
 
 pub returns-clause-empty : goal.returns-clause-empty
-returns-clause-empty c = slot_emptied c.args.w.now c.shut_all.new.w c.drop_core.new.w _ c.args.slot c.shut_all.ensures.closed c.shut_all.ensures.tidy c.drop_core.ensures c.take_frame.ensures.taken
+returns-clause-empty c = slot_emptied c.args.w.now c.shut_all.new.w c.drop_core.new.w _ c.args.slot c.shut_all.ensures.closed c.shut_all.ensures.tidy c.drop_core.ensures.dropped c.take_frame.ensures.taken
+    c.shut_all.ensures.pages c.drop_core.ensures.frames
 
 pub returns-clause-tidy : goal.returns-clause-tidy
-returns-clause-tidy c = tidy_kept _ _ _ _ _ c.take_frame.ensures.taken (tidy_bare _ _ _ c.drop_core.ensures c.shut_all.ensures.tidy)
+returns-clause-tidy c = tidy_kept _ _ _ _ _ c.take_frame.ensures.taken (tidy_bare _ _ _ c.drop_core.ensures.dropped c.shut_all.ensures.tidy)

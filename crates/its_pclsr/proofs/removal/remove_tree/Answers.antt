@@ -16,3 +16,6 @@ returns-clause-cores c = λ k. cores_left c.args.w.now c.sweep.new.w c.args.slot
 pub returns-clause-tidy : goal.returns-clause-tidy
 returns-clause-tidy c =
     tidy_removed c.args.w.now c.sweep.new.w c.args.slot c.requires.slot c.tree.ensures c.sweep.ensures.swept _ c.tree-2.ensures c.remove_tree.ensures.job refl refl c.sweep.ensures.tidy
+
+pub returns-clause-frames : goal.returns-clause-frames
+returns-clause-frames c = c.sweep.ensures.swept.pages

@@ -22,7 +22,7 @@ returns-in-Ok c =
     let e = c.in-Ok.ensures in
     let b = store_first c.args.self.now _ _ _ _ _ _ (record { core = refl; jobs = refl; frames = refl; consoles = refl; holders = refl; clock = refl; files = refl }) c.set_channel.ensures in
     let k = begin_close_comes c.args.self.now c.set_channel.new.self c.args.slot c.args.n r.slot r.channel r.tidy c.begin_close.new.self c.in-Writing.draft b c.in-Writing.ensures r.unmarked e.ok e.directory e.entry e.words in
-    record { row = k.row; tidy = k.tidy }
+    record { row = k.row; tidy = k.tidy; pages = c.set_channel.ensures.pages }
 
 pub returns-in_default : goal.returns-in_default
 returns-in_default c = absurd (no_draft c.args.self.now c.args.slot c.args.n c.channel.result c.channel.ensures c.in_default.not-Writing c.requires.writes)

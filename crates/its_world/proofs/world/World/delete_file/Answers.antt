@@ -19,11 +19,11 @@ returns-in-Ok c =
     let f = c.in-Some.ensures in
     let k = delete_comes c.args.self.now _ r.tidy c.args.d c.args.x c.args.y r.unmarked c.delete.new.self c.in-Some.file f.names f.file e.ok e.directory e.entry e.words
     (record { core = refl; jobs = refl; frames = refl; consoles = refl; holders = refl; clock = refl; files = refl }) in
-    record { row = λ j. (k j).row; tidy = (k 0).tidy }
+    record { row = λ j. (k j).row; tidy = (k 0).tidy; pages = refl }
 
 pub returns-in_default : goal.returns-in_default
 returns-in_default c =
     let r = c.requires in
     let w = c.args.self.now in
     let k = delete_none w w r.tidy c.args.d c.args.x c.args.y r.unmarked (sym c.in_default.ensures.found) in
-    record { row = λ j. (k j).row; tidy = r.tidy }
+    record { row = λ j. (k j).row; tidy = r.tidy; pages = refl }

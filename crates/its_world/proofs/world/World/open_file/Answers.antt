@@ -18,7 +18,7 @@ returns-in-Some c =
     let f = c.in-Some.ensures in
     let b = store_first c.args.self.now _ _ _ _ _ _ (record { core = refl; jobs = refl; frames = refl; consoles = refl; holders = refl; clock = refl; files = refl }) c.set_channel.ensures in
     let k = open_file_comes c.args.self.now c.set_channel.new.self c.args.slot c.args.n r.slot r.channel r.tidy c.open_read.new.self c.in-Some.file c.args.d c.args.x c.args.y b r.job r.closed r.unmarked f.file f.names e.read e.directory e.entry e.words in
-    record { row = k.row; tidy = k.tidy }
+    record { row = k.row; tidy = k.tidy; pages = c.set_channel.ensures.pages }
 
 pub returns-in_default-clause-row : goal.returns-in_default-clause-row
 returns-in_default-clause-row c = absurd (file_found c.args.self.now (c.args.d ∷ c.args.x ∷ c.args.y ∷ []) c.requires.file c.in_default.ensures.found)
