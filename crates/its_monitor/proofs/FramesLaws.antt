@@ -18,7 +18,7 @@ use Rattle.its_frame.specs.declared.frame.Entered as entereds
 use Rattle.its_frame.specs.declared.frame.Holding.{Holding}
 use Rattle.its_frame.specs.declared.frame.Parsed as parseds
 use Rattle.its_frame.specs.declared.frame.Frame.TheVariants as frames
-use Rattle.its_plain.specs.CallStep.{told}
+use Rattle.its_plain.specs.CallStep.{informed_slots}
 use Rattle.its_plain.specs.Change.{superiors}
 use Rattle.its_plain.specs.Decide.{reach, listed}
 use Rattle.its_plain.specs.Interrupt.{Delivered, deliverable, delivered}
@@ -198,7 +198,7 @@ user_run w s j b g is runs fr d h =
     ∙ ap (λ (x : Bool). pages_user (state_of w) s q x w.core.frames) (deliverable_bare j ∙ d))
 
 pub frames_delivery : (w : World) (s : ℕ) (j : Job) (g : Frames) → job_at w.jobs s ≡ Some j → j.stopped ≡ false → is_some (frame_at w.frames.items s) ≡ false → deliverable j ≡ true
-    → IfSome (raw_at w.files w.core w.jobs s) (λ q. g ≡ pages_unwound (told (delivered q.core q.job).stops q.superior) (state_of w) w.core.frames) → g ≡ pages_ticked (state_of w) s w.core.frames
+    → IfSome (raw_at w.files w.core w.jobs s) (λ q. g ≡ pages_unwound (informed_slots (delivered q.core q.job).stops q.superior) (state_of w) w.core.frames) → g ≡ pages_ticked (state_of w) s w.core.frames
 frames_delivery w s j g is runs fr d h = user_run w s j true g is runs fr d h
 
 pub frames_unit : (w : World) (s : ℕ) (j : Job) (g : Frames) → job_at w.jobs s ≡ Some j → j.stopped ≡ false → is_some (frame_at w.frames.items s) ≡ false → deliverable j ≡ false
@@ -207,27 +207,27 @@ frames_unit w s j g is runs fr d h = user_run w s j false g is runs fr d (all_of
 
 -- a delivery: a superior in which INF is set is unwound first
 pub superior_frames : (old mid : World) (s k : ℕ) (o : Option ℕ) (g : Frames) → o ≡ superior_at old.jobs s → o ≡ Some k → mid.core.frames ≡ frames_after ((state_of old).reserved k) None k old.core.frames → g ≡ mid.core.frames
-    → g ≡ pages_unwound (told true (superior_at old.jobs s)) (state_of old) old.core.frames
-superior_frames old mid s k o g e is back same = same ∙ back ∙ ap (λ (x : Option ℕ). pages_unwound (told true x) (state_of old) old.core.frames) (sym is ∙ e)
+    → g ≡ pages_unwound (informed_slots true (superior_at old.jobs s)) (state_of old) old.core.frames
+superior_frames old mid s k o g e is back same = same ∙ back ∙ ap (λ (x : Option ℕ). pages_unwound (informed_slots true x) (state_of old) old.core.frames) (sym is ∙ e)
 
-pub nobody_frames : (w : World) (s : ℕ) (o : Option ℕ) → o ≡ superior_at w.jobs s → o ≡ None → w.core.frames ≡ pages_unwound (told true (superior_at w.jobs s)) (state_of w) w.core.frames
-nobody_frames w s o e is = ap (λ (x : Option ℕ). pages_unwound (told true x) (state_of w) w.core.frames) (sym is ∙ e)
+pub nobody_frames : (w : World) (s : ℕ) (o : Option ℕ) → o ≡ superior_at w.jobs s → o ≡ None → w.core.frames ≡ pages_unwound (informed_slots true (superior_at w.jobs s)) (state_of w) w.core.frames
+nobody_frames w s o e is = ap (λ (x : Option ℕ). pages_unwound (informed_slots true x) (state_of w) w.core.frames) (sym is ∙ e)
 
 stops_raw : (c : Core) (i : Job) (b : Bool) → (delivered c i).stops ≡ b → (delivered c (bare i)).stops ≡ b
 stops_raw c i b e = ap (λ (x : Delivered). x.stops) (delivered_bare c i) ∙ e
 
 pub stop_frames : (old mid : World) (s : ℕ) (i : Job) (g : Frames) → job_at old.jobs s ≡ Some i → CoreBecomes old mid s (delivered (core_at old.core s) i).core → (delivered (core_at old.core s) i).stops ≡ true
-    → g ≡ pages_unwound (told true (superior_at mid.jobs s)) (state_of mid) mid.core.frames
-    → IfSome (raw_at old.files old.core old.jobs s) (λ q. g ≡ pages_unwound (told (delivered q.core q.job).stops q.superior) (state_of old) old.core.frames)
+    → g ≡ pages_unwound (informed_slots true (superior_at mid.jobs s)) (state_of mid) mid.core.frames
+    → IfSome (raw_at old.files old.core old.jobs s) (λ q. g ≡ pages_unwound (informed_slots (delivered q.core q.job).stops q.superior) (state_of old) old.core.frames)
 stop_frames old mid s i g had b stops e =
     let same = stop_same old mid s i b stops in
     let still = becomes_pages old mid s _ _ _ b in
-    raw_fact (λ q. g ≡ pages_unwound (told (delivered q.core q.job).stops q.superior) (state_of old) old.core.frames) old s i had
-    (e ∙ (λ t. pages_unwound (told true (slice_index_or (b.superiors t) s None)) (same t) (still t))
-    ∙ sym (ap (λ (x : Bool). pages_unwound (told x (superior_at old.jobs s)) (state_of old) old.core.frames) (stops_raw (core_at old.core s) i true stops)))
+    raw_fact (λ q. g ≡ pages_unwound (informed_slots (delivered q.core q.job).stops q.superior) (state_of old) old.core.frames) old s i had
+    (e ∙ (λ t. pages_unwound (informed_slots true (slice_index_or (b.superiors t) s None)) (same t) (still t))
+    ∙ sym (ap (λ (x : Bool). pages_unwound (informed_slots x (superior_at old.jobs s)) (state_of old) old.core.frames) (stops_raw (core_at old.core s) i true stops)))
 
 pub quiet_frames : (old : World) (s : ℕ) (i : Job) (g : Frames) → job_at old.jobs s ≡ Some i → (delivered (core_at old.core s) i).stops ≡ false → g ≡ old.core.frames
-    → IfSome (raw_at old.files old.core old.jobs s) (λ q. g ≡ pages_unwound (told (delivered q.core q.job).stops q.superior) (state_of old) old.core.frames)
+    → IfSome (raw_at old.files old.core old.jobs s) (λ q. g ≡ pages_unwound (informed_slots (delivered q.core q.job).stops q.superior) (state_of old) old.core.frames)
 quiet_frames old s i g had stops e =
-    raw_fact (λ q. g ≡ pages_unwound (told (delivered q.core q.job).stops q.superior) (state_of old) old.core.frames) old s i had
-    (e ∙ sym (ap (λ (x : Bool). pages_unwound (told x (superior_at old.jobs s)) (state_of old) old.core.frames) (stops_raw (core_at old.core s) i false stops)))
+    raw_fact (λ q. g ≡ pages_unwound (informed_slots (delivered q.core q.job).stops q.superior) (state_of old) old.core.frames) old s i had
+    (e ∙ sym (ap (λ (x : Bool). pages_unwound (informed_slots x (superior_at old.jobs s)) (state_of old) old.core.frames) (stops_raw (core_at old.core s) i false stops)))

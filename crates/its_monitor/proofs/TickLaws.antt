@@ -10,7 +10,7 @@ use Rattle.its_files.specs.Files.{Store}
 use Rattle.its_jobs.specs.Table.{job_at, superior_at}
 use Rattle.its_frame.specs.declared.frame.Frame.{Frame}
 use Rattle.its_world.specs.Tidy.{Tidy}
-use Rattle.its_plain.specs.CallOperator.{clock_end}
+use Rattle.its_plain.specs.OperatorClock.{clock_end}
 use Rattle.its_plain.specs.Interrupt.{deliverable, delivered}
 use Rattle.its_plain.specs.Machine.{Whole, Machine}
 use Rattle.its_plain.specs.Unit.{unit}

@@ -5,7 +5,7 @@ use Rattle.its_word.specs.declared.calls.Ask.{Ask}
 use Rattle.its_core.specs.Frames.{Frames, frames_reserve}
 use Rattle.its_frame.specs.declared.frame.Frame.{Frame}
 use Rattle.its_frame.specs.declared.frame.Frame.TheVariants.{Entered, Parsed, Asked, Holding, Waiting, Moving, Ending}
-use Rattle.its_plain.specs.CallStep.{decision, told}
+use Rattle.its_plain.specs.CallStep.{decision, informed_slots}
 use Rattle.its_plain.specs.Decide.{reach}
 use Rattle.its_plain.specs.Interrupt.{deliverable, delivered}
 use Rattle.its_plain.specs.Machine.{Whole}
@@ -26,7 +26,7 @@ pages_held w j q a (Some p) f = if nat_lt p quarters then f else pages_tried w j
 
 -- in user mode a superior in which INF is set is unwound first
 abbrev pub pages_user : State → ℕ → Whole → Bool → Frames → Frames
-pages_user w j q true f = pages_unwound (told (delivered q.core q.job).stops q.superior) w f
+pages_user w j q true f = pages_unwound (informed_slots (delivered q.core q.job).stops q.superior) w f
 pages_user w j q false f = f
 
 abbrev pub pages_in : State → ℕ → Whole → Option Frame → Frames → Frames

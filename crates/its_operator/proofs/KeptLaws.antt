@@ -13,7 +13,7 @@ use Rattle.its_jobs.specs.Table.{job_at}
 use Rattle.its_plain.specs.Machine.{Whole, Machine, with_job}
 use Rattle.its_plain.specs.Operator.{Block, Does}
 use Rattle.its_plain.specs.OperatorLines.{Done, lined}
-use Rattle.its_plain.specs.CallOperator.{clock_end}
+use Rattle.its_plain.specs.OperatorClock.{clock_end}
 use Rattle.its_stepped.specs.State.{State, plain, seen}
 use Rattle.its_stepped.specs.Sound.{Sound}
 use Rattle.its_stepped.specs.Forest.{Forest}

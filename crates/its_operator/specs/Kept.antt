@@ -10,7 +10,7 @@ use Rattle.its_word.specs.declared.jobs.Job.{Job}
 use Rattle.its_files.specs.Files.{helped}
 use Rattle.its_core.specs.Frames.{Frames, frames_map, frames_reserve}
 use Rattle.its_jobs.specs.Table.{job_at}
-use Rattle.its_plain.specs.CallOperator.{clock_end}
+use Rattle.its_plain.specs.OperatorClock.{clock_end}
 use Rattle.its_plain.specs.Machine.{Machine}
 use Rattle.its_stepped.specs.State.{State, plain}
 use Rattle.its_stepped.specs.Sound.{Sound}
