@@ -1,6 +1,6 @@
 -- Texts cut at marks.
-use Rattle.std.proofs.Common.{◌≡◌, ◌<◌, ◌≤◌, ◌+◌, ◌-◌, ℕ, zero, suc, Bool, true, false, nat_lt, ltb, Option, Some, None, List, [], ◌∷◌, ◌++◌, length, take, drop, slice_index, refl, sym, ap, ◌∙◌, arith, position, filter, inl, inr, add-one}
-use Rattle.std.specs.List.{slice_split, position_or_len}
+use Rattle.std.proofs.Common.{◌≡◌, ◌<◌, ◌≤◌, ◌+◌, ◌-◌, ℕ, zero, suc, Bool, true, false, ltb, Option, Some, None, List, [], ◌∷◌, length, take, drop, slice_index, refl, sym, arith, position, filter, inl, inr, add-one}
+use Rattle.std.specs.List.{position_or_len}
 use Rattle.std.proofs.lemmas.Bool.{cases_Bool, ltb-true, ltb-false}
 use Rattle.std.proofs.lemmas.List.{take_rest}
 use Rattle.its_asm.specs.Text.{cut, cut_at, is_mark, pieces}

@@ -4,3 +4,4 @@ pub mod ChartLaws
 pub mod NumberLaws
 pub mod WordLaws
 pub mod TypeLaws
+pub mod TableLaws

@@ -1,5 +1,5 @@
 -- The digits of a number as an expression, and texts without marks.
-use Rattle.std.proofs.Common.{◌≡◌, ◌<◌, ◌≤◌, ◌+◌, ◌-◌, ◌*◌, ◌%◌, ◌^◌, ◌==◌, ◌&&◌, ◌||◌, ℕ, zero, suc, Bool, true, false, not, nat_eq, nat_le, Option, Some, None, Result, Ok, List, [], ◌∷◌, ◌++◌, length, take, slice_index, refl, sym, ap, ◌∙◌, arith, codes, inl, inr}
+use Rattle.std.proofs.Common.{◌≡◌, ◌<◌, ◌≤◌, ◌+◌, ◌-◌, ◌%◌, ◌^◌, ◌==◌, ℕ, Bool, true, false, not, nat_eq, nat_le, Some, None, Ok, List, [], ◌∷◌, ◌++◌, length, take, slice_index, refl, ◌∙◌, arith, codes, inl, inr}
 use Rattle.std.specs.List.{list_all}
 use Rattle.std.proofs.lemmas.Bool.{cases_Bool, le-leb, and_from}
 use Rattle.std.proofs.lemmas.Bool.Decides.{nat_tests}
@@ -7,9 +7,8 @@ use Rattle.std.proofs.lemmas.List.{get_or_push, length_push}
 use Rattle.std.proofs.Math.Seq.{take-append_seam}
 use Rattle.its_word.specs.Text.{digits_of, is_code, is_octal, octal_value}
 use Rattle.its_word.proofs.DigitLaws.{digits_are_codes, digits_are_octal, digits_value, few_digits, some_digits}
-use Rattle.its_asm.specs.declared.reason.AsmReason.{AsmReason}
 use Rattle.its_asm.specs.Text.{closed, cut, is_mark, is_symbol}
-use Rattle.its_asm.specs.Expression.{Scope, expression, register, sum_with, term}
+use Rattle.its_asm.specs.Expression.{Scope, expression, register, term}
 use Rattle.its_asm.proofs.ReadingLaws.{both_true, summed_whole}
 
 abbrev pub unmarked : List ℕ → ℕ → Bool

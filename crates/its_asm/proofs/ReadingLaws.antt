@@ -1,12 +1,12 @@
 -- The words of a line and the terms of an expression, taken off one after another; symbols.
-use Rattle.std.proofs.Common.{◌≡◌, ◌<◌, ◌≤◌, ◌+◌, ◌-◌, ◌==◌, ◌&&◌, ℕ, zero, suc, Bool, true, false, not, Option, Some, None, Result, Ok, List, [], ◌∷◌, ◌++◌, length, refl, sym, ap, ◌∙◌, arith, filter, codes, nat_le, inl, inr}
+use Rattle.std.proofs.Common.{◌≡◌, ◌==◌, ◌&&◌, ℕ, suc, Bool, true, false, not, Some, None, Result, List, [], ◌∷◌, ◌++◌, length, refl, arith, filter, codes, nat_le, inl, inr}
 use Rattle.std.specs.List.{list_all}
 use Rattle.std.proofs.lemmas.Bool.{cases_Bool}
 use Rattle.std.proofs.lemmas.Bool.Decides.{nat_tests}
-use Rattle.its_word.specs.Text.{is_code, is_name, is_text}
+use Rattle.its_word.specs.Text.{is_code, is_name}
 use Rattle.its_asm.specs.declared.reason.AsmReason.{AsmReason}
-use Rattle.its_asm.specs.Text.{cut, is_mark, is_symbol, is_symbol_byte, pieces}
-use Rattle.its_asm.specs.Expression.{Scope, added, sum_with, summed, term}
+use Rattle.its_asm.specs.Text.{cut, is_symbol, is_symbol_byte, pieces}
+use Rattle.its_asm.specs.Expression.{Scope, added, sum_with, term}
 use Rattle.its_asm.specs.Reading.{word_in, words_in}
 use Rattle.its_asm.proofs.CutLaws.{cut_split, cut_whole}
 

@@ -1,5 +1,5 @@
 -- What a typed word reads as.
-use Rattle.std.proofs.Common.{if◌then◌else◌, ◌≡◌, ◌<◌, ◌≤◌, ◌+◌, ◌-◌, ◌*◌, ◌%◌, ◌/◌, ◌^◌, ◌==◌, ◌&&◌, ◌||◌, ℕ, zero, suc, Bool, true, false, not, nat_eq, nat_le, Option, Some, None, Result, Ok, List, [], ◌∷◌, ◌++◌, length, slice_get, refl, sym, ap, ◌∙◌, arith, codes, bytes_eq, inl, inr, append_assoc, length-append}
+use Rattle.std.proofs.Common.{if◌then◌else◌, ◌≡◌, ◌<◌, ◌≤◌, ◌+◌, ◌*◌, ◌^◌, ◌==◌, ◌&&◌, ◌||◌, ℕ, suc, Bool, true, false, not, nat_eq, nat_le, Option, Some, None, Ok, List, [], ◌∷◌, ◌++◌, length, slice_get, refl, ap, ◌∙◌, arith, codes, bytes_eq, inl, inr, length-append}
 use Rattle.std.specs.List.{list_all, position_or_len}
 use Rattle.std.proofs.lemmas.Bool.{agree_below_at, cases_Bool, cases_lt, le-leb, leb-true, and_from, eqb-true, not-true, or_parts}
 use Rattle.std.proofs.lemmas.Bool.Decides.{nat_tests}
@@ -7,13 +7,11 @@ use Rattle.its_word.specs.Text.{digits_of, is_code}
 use Rattle.its_word.specs.Word.{left_of, right_of, pair_of}
 use Rattle.its_word.specs.Opcode.{ac_of, opcode_of}
 use Rattle.its_word.proofs.DigitLaws.{few_digits, some_digits}
-use Rattle.its_asm.specs.declared.reason.AsmReason.{AsmReason}
-use Rattle.its_asm.specs.Text.{cut, is_mark, is_printable, up_to, words_of}
-use Rattle.its_asm.specs.Expression.{Scope}
+use Rattle.its_asm.specs.Text.{cut, words_of}
 use Rattle.its_asm.specs.Instruction.{alone, instruction, whole}
 use Rattle.its_asm.specs.Mnemonic.{is_name, mnemonic_of, named, names, opcode_named}
 use Rattle.its_asm.specs.Reading.{first_named, word_in, words_in}
-use Rattle.its_asm.specs.Statement.{body, no_names, statement_of, with_one, word_of}
+use Rattle.its_asm.specs.Statement.{body, no_names, statement_of, with_one}
 use Rattle.its_asm.specs.declared.statements.Statement.TheVariants.{Gives}
 use Rattle.its_asm.specs.TypeOut.{index_of, indirect_of, typed, typed_ac, typed_by, typed_index, typed_indirect, typed_operand}
 use Rattle.its_asm.proofs.ChartLaws.{named_first, no_more_names}
@@ -196,13 +194,19 @@ read_operation w n h below some op first =
     read_line n (typed_operand w) w long short size.0 size.1 bytes.0 (operand_bytes (ac_of w) (indirect_of w) (right_of w) (index_of w) a y x)
     (operation_made n (typed_operand w) (opcode_of w) w other (named_first n (opcode_of w) below some first) made)
 
+pub stood_first : (op : ℕ) (n : List ℕ) → op < 448 → slice_get names op ≡ Some n → is_name n ≡ true → first_named n ≡ op
+unfolding first_named
+stood_first op n below e some =
+    let stood = names_stand op below in
+    let both : (is_op n && nat_eq (first_named n) op) ≡ true = rw (e, some) at stood in
+    eqb-true _ _ (both_true (is_op n) (nat_eq (first_named n) op) both).1
+
 read_named : (w : ℕ) (n : List ℕ) → w < 2 ^ 36 → opcode_of w < 448 → slice_get names (opcode_of w) ≡ Some n → is_name n ≡ true → statement_of (typed_by (Some n) w) ≡ Some w
 unfolding first_named
 read_named w n h below e some =
     let stood = names_stand (opcode_of w) below in
     let both : (is_op n && nat_eq (first_named n) (opcode_of w)) ≡ true = rw (e, some) at stood in
-    let parts = both_true (is_op n) (nat_eq (first_named n) (opcode_of w)) both in
-    read_operation w n h below some parts.0 (eqb-true _ _ parts.1)
+    read_operation w n h below some (both_true (is_op n) (nat_eq (first_named n) (opcode_of w)) both).0 (stood_first (opcode_of w) n below e some)
 
 read_by : (w : ℕ) (r : Option (List ℕ)) → w < 2 ^ 36 → slice_get names (opcode_of w) ≡ r → statement_of (typed_by (named r) w) ≡ Some w
 read_by w None h e = read_halves w h

@@ -1,15 +1,13 @@
 -- The operand of a typed word as the operand of an instruction.
-use Rattle.std.proofs.Common.{◌≡◌, ◌<◌, ◌≤◌, ◌+◌, ◌-◌, ◌*◌, ◌%◌, ◌/◌, ◌^◌, ◌==◌, ◌&&◌, ◌||◌, ℕ, zero, suc, Bool, true, false, not, nat_eq, nat_le, Option, Some, None, Result, Ok, List, [], ◌∷◌, ◌++◌, length, take, drop, slice_index, refl, sym, ap, ◌∙◌, arith, codes, inl, inr, append_assoc}
+use Rattle.std.proofs.Common.{◌≡◌, ◌<◌, ◌+◌, ◌*◌, ◌^◌, ◌==◌, ◌||◌, ℕ, zero, suc, Bool, true, false, nat_eq, Some, None, Ok, List, [], ◌∷◌, ◌++◌, slice_index, refl, arith, codes, inl, inr, append_assoc}
 use Rattle.std.specs.List.{list_all}
-use Rattle.std.proofs.lemmas.Bool.{cases_Bool, le-leb, and_from, eqb-true}
+use Rattle.std.proofs.lemmas.Bool.{cases_Bool, and_from, eqb-true}
 use Rattle.std.proofs.lemmas.Bool.Decides.{nat_tests}
 use Rattle.std.proofs.lemmas.List.{append-nil}
 use Rattle.std.proofs.lemmas.List.Folds.{list_all-append}
 use Rattle.its_word.specs.Text.{digits_of, is_code}
 use Rattle.its_word.specs.Word.{pair_of}
-use Rattle.its_asm.specs.declared.reason.AsmReason.{AsmReason}
-use Rattle.its_asm.specs.declared.instruction.Item.{Item}
-use Rattle.its_asm.specs.Text.{closed, cut, is_mark}
+use Rattle.its_asm.specs.Text.{closed, cut}
 use Rattle.its_asm.specs.Expression.{Scope, expression, register}
 use Rattle.its_asm.specs.Instruction.{address, alone, indexed, instruction, place, whole}
 use Rattle.its_asm.specs.TypeOut.{typed_ac, typed_index, typed_indirect}

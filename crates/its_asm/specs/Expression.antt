@@ -1,12 +1,12 @@
 -- Expressions: sums and differences of terms, modulo 1000000 (docs/ASM.md, "Expressions").
-use Rattle.std.specs.Prelude.{if◌then◌else◌, ℕ, ◌+◌, ◌-◌, ◌%◌, ◌^◌, Bool, ◌&&◌, ◌==◌, Option, Some, None, Result, Ok, Err, List, [], ◌∷◌, length, filter, nat_eq, nat_le, bytes_eq, codes}
+use Rattle.std.specs.Prelude.{if◌then◌else◌, ℕ, ◌+◌, ◌-◌, ◌%◌, ◌^◌, ◌&&◌, ◌==◌, Option, Result, Ok, Err, List, ◌∷◌, length, filter, nat_eq, nat_le, bytes_eq, codes}
 use Rattle.std.specs.Map.{lookup}
 use Rattle.std.specs.Option.{ok_or}
 use Rattle.its_word.specs.Text.{is_octal, octal_value, sixbit_of}
 use Rattle.its_word.specs.Word.{right_of}
 use Rattle.its_asm.specs.Text.{is_mark, pieces, is_symbol}
 use Rattle.its_asm.specs.declared.reason.AsmReason.{AsmReason}
-use Rattle.its_asm.specs.declared.reason.AsmReason.TheVariants.{Long, Syntax, Range, Undef, Twice, Full, Cut}
+use Rattle.its_asm.specs.declared.reason.AsmReason.TheVariants.{Syntax, Range, Undef}
 
 -- what an expression may name: symbols with their values, and the location, where there is one
 pub record Scope : Type 0 where

@@ -5,4 +5,5 @@ pub mod Instruction
 pub mod Mnemonic
 pub mod Statement
 pub mod TypeOut
+pub mod Table
 pub mod Reading

@@ -9,7 +9,7 @@ use Rattle.its_asm.specs.declared.instruction.Item.{Item}
 use Rattle.its_asm.specs.declared.statements.Statement.{Statement}
 use Rattle.its_asm.specs.declared.statements.Statement.TheVariants.{Nothing, Job, Equals, Loc, Gives, Go}
 use Rattle.its_asm.specs.declared.reason.AsmReason.{AsmReason}
-use Rattle.its_asm.specs.declared.reason.AsmReason.TheVariants.{Long, Syntax, Range, Undef, Twice, Full, Cut}
+use Rattle.its_asm.specs.declared.reason.AsmReason.TheVariants.{Syntax}
 
 -- a value makes a statement unless its text is none; whatever else is against it the statement says
 abbrev pub formed : {A : Type 0} → (Result A AsmReason → Statement) → Result A AsmReason → Option Statement

@@ -1,7 +1,7 @@
 -- Texts cut at marks, the words of a line, and symbols (docs/ASM.md). Characters are their ASCII codes.
 use Rattle.std.specs.Prelude.{if◌then◌else◌, ℕ, ◌-◌, Bool, true, false, not, ◌&&◌, ◌||◌, ◌==◌, Option, Some, None, List, [], ◌∷◌, length, filter, take, slice_index, nat_eq, nat_le, codes}
 use Rattle.std.specs.List.{list_all, list_any, slice_split}
-use Rattle.its_word.specs.Text.{is_code, is_octal, is_text, sixbit_of}
+use Rattle.its_word.specs.Text.{is_code, sixbit_of}
 
 abbrev pub is_mark : List ℕ → ℕ → Bool
 is_mark marks b = list_any (λ m. nat_eq m b) marks

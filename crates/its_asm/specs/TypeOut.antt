@@ -1,5 +1,5 @@
 -- A word typed out (docs/ASM.md, "Words as text").
-use Rattle.std.specs.Prelude.{if◌then◌else◌, ℕ, ◌/◌, ◌%◌, ◌^◌, ◌==◌, Option, Some, None, List, [], ◌∷◌, ◌++◌, codes}
+use Rattle.std.specs.Prelude.{if◌then◌else◌, ℕ, ◌/◌, ◌%◌, ◌^◌, ◌==◌, Option, Some, None, List, [], ◌++◌, codes}
 use Rattle.its_word.specs.Text.{digits_of}
 use Rattle.its_word.specs.Word.{left_of, right_of}
 use Rattle.its_word.specs.Opcode.{opcode_of, ac_of}

@@ -9,9 +9,12 @@ mod reason;
 mod single;
 mod statements;
 mod symbols;
+#[cfg(test)]
+mod tests;
 mod typing;
 mod words;
 
+pub use mnemonic::each_opcode_named;
 pub use reason::{AsmFault, AsmReason};
 pub use single::statement;
 pub use symbols::Symbols;

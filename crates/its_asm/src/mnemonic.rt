@@ -1,5 +1,6 @@
 //! The names of opcodes (processor reference manual, "User operations").
-ghost use Rattle.std.specs.Prelude.{◌≡◌, ◌<◌, ◌≤◌, true, Some, length, slice_get, option_map, IfSome};
+ghost use Rattle.std.specs.Prelude.{◌≡◌, ◌<◌, ◌≤◌, ℕ, true, Some, length, slice_get, option_map, IfSome};
+ghost use Rattle.its_asm.specs.Table.{IsNamed};
 ghost use Rattle.its_asm.specs.Mnemonic.{is_name, mnemonic_of, names, opcode_named};
 
 use super::words::up_to;
@@ -136,3 +137,8 @@ pub fn opcode_named(wanted: &[u8]) -> Option<u32>
         None
     }
 }
+
+/// The opcodes that have names are those that are instructions, and no name stands twice.
+pub fn each_opcode_named()
+    ensures { (op : ℕ) → op < 512 → IsNamed op }
+{}

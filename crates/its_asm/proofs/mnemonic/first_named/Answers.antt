@@ -1,4 +1,4 @@
-use Rattle.std.proofs.Common.{◌≡◌, sym}
+use Rattle.std.proofs.Common.{sym}
 use Rattle.its_asm.proofs.ChartLaws.{found_here}
 use Rattle.its_asm.proofs.mnemonic.first_named.Goals as goal
 
