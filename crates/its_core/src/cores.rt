@@ -214,7 +214,7 @@ impl Core {
     }
 
     /// Stores a word, unless its page is absent or read only.
-    #[inline]
+    #[inline(always)]
     #[tactic(auto, using(crate::proofs::ReadLaws::can_store_acc, crate::proofs::ReadLaws::can_store_page, crate::proofs::ReadLaws::can_store_absent, crate::proofs::ReadLaws::word_at_page, crate::proofs::ReadLaws::word_at_absent, crate::proofs::ReadLaws::page_at))]
     pub fn put(&mut self, slot: u8, a: u32, w: Word) -> Result<(), NoAccess>
         requires slot { slot < slots }

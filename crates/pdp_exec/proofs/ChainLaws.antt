@@ -188,16 +188,6 @@ is_decoded : (w : ℕ) (i : Instruction) → instruction_of (opcode_of w) ≡ i 
 unfolding decoded
 is_decoded w i e h = rw (e, h) refl
 
-pub stands_at : (c : Core) (j : Job) (w : ℕ) (e : Address) → read_of c j.pc ≡ Ok w → (address c w 0).answer ≡ Ok e
-    → Stands c j (opcode_of w) (context_of j w e (address c w 0).used)
-stands_at c j w e r a = record {
-  does = λ i o h p q. sym (unit_by c j (record { instruction = i; context = context_of j w e (address c w 0).used }) _ (plain_reached c j w i e r (is_decoded w i o h) p a) q refl);
-}
-
-pub stands : (c : Core) (j : Job) (o : ℕ) (x : Context) (p : Planned) → Stands c j o x → has_row (instruction_of o) x.a ≡ true
-    → leads_on (instruction_of o) ≡ false → is_call (instruction_of o) ≡ false → row_of c x (instruction_of o) ≡ p → outcome_of c j p ≡ unit c j
-stands c j o x p s h l q r = ap (λ p. outcome_of c j p) (sym r) ∙ s.does (instruction_of o) refl h l q
-
 -- the unit, where the way to its instruction is known
 unit_at : (c : Core) (j : Job) (a : Result Reached Fault) (reads : List ℕ) → a ≡ (reached c j).answer → reads ≡ (reached c j).reads → unit c j ≡ outcome_at c j reads a
 unfolding unit
@@ -239,6 +229,22 @@ is_called c j r e h = subst IsCalled (sym (ap (outcome_at c j (reached c j).read
     go (Byte op) h = cc
     go Break h = cc
     go Illegal h = cc
+
+-- what stands at the PC: its unit
+pub stands_at : (c : Core) (j : Job) (w : ℕ) (e : Address) → read_of c j.pc ≡ Ok w → (address c w 0).answer ≡ Ok e
+    → Stands c j (opcode_of w) (context_of j w e (address c w 0).used)
+stands_at c j w e r a = record {
+  does = λ i o h p q. sym (unit_by c j (record { instruction = i; context = context_of j w e (address c w 0).used }) _ (plain_reached c j w i e r (is_decoded w i o h) p a) q refl);
+  calls = λ i o h p q. is_called c j (record { instruction = i; context = context_of j w e (address c w 0).used }) (plain_reached c j w i e r (is_decoded w i o h) p a) q;
+}
+
+pub stands : (c : Core) (j : Job) (o : ℕ) (x : Context) (p : Planned) → Stands c j o x → has_row (instruction_of o) x.a ≡ true
+    → leads_on (instruction_of o) ≡ false → is_call (instruction_of o) ≡ false → row_of c x (instruction_of o) ≡ p → outcome_of c j p ≡ unit c j
+stands c j o x p s h l q r = ap (λ p. outcome_of c j p) (sym r) ∙ s.does (instruction_of o) refl h l q
+
+pub stands_call : (c : Core) (j : Job) (o : ℕ) (x : Context) → Stands c j o x → has_row (instruction_of o) x.a ≡ true
+    → leads_on (instruction_of o) ≡ false → is_call (instruction_of o) ≡ true → IsCalled (unit c j)
+stands_call c j o x s h l q = s.calls (instruction_of o) refl h l q
 
 never_called : (c : Core) (j : Job) (p : Planned) → IsCalled (outcome_of c j p) → ⊥
 never_called c j (Ok p) h = go (first_fault c p.stores.items) h

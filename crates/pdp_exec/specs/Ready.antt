@@ -11,6 +11,7 @@ use Rattle.its_word.specs.declared.plan.Turn.{Turn}
 use Rattle.its_word.specs.declared.plan.Turn.TheVariants.{Found, Target}
 use Rattle.its_plain.specs.Unit.{has_row, outcome_of, row_of, unit}
 use Rattle.its_plain.specs.UnitPlan.{Fits}
+use Rattle.pdp_exec.specs.Answer.{IsCalled}
 
 -- an instruction with the numbers of its row and of its context, or a word with some of the budget used
 abbrev pub IsReady : Turn → Type 0
@@ -34,6 +35,7 @@ leads_on Xct = true
 leads_on _ = false
 
 -- the word at the PC of a job has this opcode, and its row finds this: so its unit does what the row of the opcode
--- plans, where that is no call and leads to no other word
+-- plans, where that is no call and leads to no other word; and it is a call where its row is one
 pub record Stands (c : Core) (j : Job) (opcode : ℕ) (x : Context) : Type 0 where
   pub does : (i : Instruction) → instruction_of opcode ≡ i → has_row i x.a ≡ true → leads_on i ≡ false → is_call i ≡ false → outcome_of c j (row_of c x i) ≡ unit c j
+  pub calls : (i : Instruction) → instruction_of opcode ≡ i → has_row i x.a ≡ true → leads_on i ≡ false → is_call i ≡ true → IsCalled (unit c j)

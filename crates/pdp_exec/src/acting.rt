@@ -9,22 +9,21 @@ ghost use Rattle.its_plain.specs.UnitBytes.{byte_row};
 ghost use Rattle.its_plain.specs.UnitJumps.{branch_row, stack_row};
 ghost use Rattle.its_plain.specs.UnitMoves.{half_row, move_row};
 ghost use Rattle.its_plain.specs.UnitPlan.{Fits};
-ghost use Rattle.its_plain.specs.UnitTests.{compare_row, test_row};
+ghost use Rattle.its_plain.specs.UnitTests.{test_row};
 ghost use Rattle.pdp_exec.specs.Answer.{InPlace};
 ghost use Rattle.pdp_exec.specs.Ready.{Stands};
 
 use super::arithmetic::{arithmetic, booleans, shifts};
 use super::branches::{branches, stack};
 use super::bytes::bytes;
-use super::comparisons::{comparisons, tests_of};
+use super::comparisons::{aoj, aos, cai, cam, jumps, skips, soj, sos, tests_of};
 use super::making::carry_out;
 use super::moves::{halves, moves};
 use super::plans::Draft;
 use super::units::{Ended, fault_bit, rarely};
 use its_core::Core;
 use its_word::{
-    ArithmeticOp, BranchOp, ByteOp, CompareOp, Context, Fault, Job, MaskOp, Mode, MoveOp, ShiftOp,
-    StackOp,
+    ArithmeticOp, BranchOp, ByteOp, Context, Fault, Job, MaskOp, Mode, MoveOp, ShiftOp, StackOp,
 };
 
 /// Does what is planned for the unit of a job.
@@ -138,19 +137,6 @@ fn stacking(core: &mut Core, slot: u8, job: &mut Job, x: &Context, op: StackOp) 
     made(stack(core, slot, x, op), core, slot, job)
 }
 
-/// CAI, CAM, JUMP, SKIP, AOJ, AOS, SOJ, SOS, with condition k.
-#[inline(always)]
-fn comparing(core: &mut Core, slot: u8, job: &mut Job, x: &Context, op: CompareOp, k: u32) -> Ended
-    requires slot { slot < slots }
-    requires pc { job.old.pc < 2 ^ 18 }
-    requires fits { Fits x.now }
-    requires k { k < 8 }
-    requires unit { outcome_of (core_at core.old slot) job.old (compare_row (core_at core.old slot) x.now op k) ≡ unit_of (core_at core.old slot) job.old }
-    ensures { InPlace result (unit_of (core_at core.old slot) job.old) core.old core.new slot job.old job.new }
-{
-    made(comparisons(core, slot, x, op, k), core, slot, job)
-}
-
 /// TRN to TSON.
 #[inline(always)]
 fn testing(
@@ -185,9 +171,9 @@ fn picking(core: &mut Core, slot: u8, job: &mut Job, x: &Context, op: ByteOp) ->
     made(bytes(core, slot, x, op), core, slot, job)
 }
 
-/// Jumps, the stack and bytes; and all that comes seldom.
+/// Jumps, the stack, bytes and calls; and all that comes seldom.
 #[inline(always)]
-#[tactic(auto, using(crate::proofs::ChainLaws::stands), unfolding(its_plain::specs::Unit::row_of, its_word::specs::Opcode::instruction_of, its_word::specs::Opcode::mode_of, its_word::specs::Opcode::full_word_opcode, its_word::specs::Opcode::branch_opcode, its_word::specs::Opcode::stack_opcode, its_word::specs::Opcode::byte_opcode))]
+#[tactic(auto, using(crate::proofs::ChainLaws::stands, crate::proofs::ChainLaws::stands_call), unfolding(its_plain::specs::Unit::row_of, its_word::specs::Opcode::instruction_of, its_word::specs::Opcode::mode_of, its_word::specs::Opcode::full_word_opcode, its_word::specs::Opcode::monitor_opcode, its_word::specs::Opcode::branch_opcode, its_word::specs::Opcode::stack_opcode, its_word::specs::Opcode::byte_opcode))]
 fn by_jump(core: &mut Core, slot: u8, job: &mut Job, opcode: u32, x: &Context) -> Ended
     requires slot { slot < slots }
     requires pc { job.old.pc < 2 ^ 18 }
@@ -208,6 +194,8 @@ fn by_jump(core: &mut Core, slot: u8, job: &mut Job, opcode: u32, x: &Context) -
         0o135 => picking(core, slot, job, x, ByteOp::Ldb),
         0o136 => picking(core, slot, job, x, ByteOp::Idpb),
         0o137 => picking(core, slot, job, x, ByteOp::Dpb),
+        0o040 => Ended::Call,
+        0o043 if x.a == 0 => Ended::Call,
         _ => rarely(core, slot, job),
     }
 }
@@ -223,24 +211,24 @@ fn by_skip(core: &mut Core, slot: u8, job: &mut Job, opcode: u32, x: &Context) -
     ensures { InPlace result (unit_of (core_at core.old slot) job.old) core.old core.new slot job.old job.new }
 {
     match opcode {
-        0o301 => comparing(core, slot, job, x, CompareOp::Cai, 1),
-        0o302 => comparing(core, slot, job, x, CompareOp::Cai, 2),
-        0o303 => comparing(core, slot, job, x, CompareOp::Cai, 3),
-        0o305 => comparing(core, slot, job, x, CompareOp::Cai, 5),
-        0o306 => comparing(core, slot, job, x, CompareOp::Cai, 6),
-        0o307 => comparing(core, slot, job, x, CompareOp::Cai, 7),
-        0o311 => comparing(core, slot, job, x, CompareOp::Cam, 1),
-        0o312 => comparing(core, slot, job, x, CompareOp::Cam, 2),
-        0o313 => comparing(core, slot, job, x, CompareOp::Cam, 3),
-        0o315 => comparing(core, slot, job, x, CompareOp::Cam, 5),
-        0o316 => comparing(core, slot, job, x, CompareOp::Cam, 6),
-        0o317 => comparing(core, slot, job, x, CompareOp::Cam, 7),
-        0o331 => comparing(core, slot, job, x, CompareOp::Skip, 1),
-        0o332 => comparing(core, slot, job, x, CompareOp::Skip, 2),
-        0o333 => comparing(core, slot, job, x, CompareOp::Skip, 3),
-        0o335 => comparing(core, slot, job, x, CompareOp::Skip, 5),
-        0o336 => comparing(core, slot, job, x, CompareOp::Skip, 6),
-        0o337 => comparing(core, slot, job, x, CompareOp::Skip, 7),
+        0o301 => made(cai(core, slot, x, 1), core, slot, job),
+        0o302 => made(cai(core, slot, x, 2), core, slot, job),
+        0o303 => made(cai(core, slot, x, 3), core, slot, job),
+        0o305 => made(cai(core, slot, x, 5), core, slot, job),
+        0o306 => made(cai(core, slot, x, 6), core, slot, job),
+        0o307 => made(cai(core, slot, x, 7), core, slot, job),
+        0o311 => made(cam(core, slot, x, 1), core, slot, job),
+        0o312 => made(cam(core, slot, x, 2), core, slot, job),
+        0o313 => made(cam(core, slot, x, 3), core, slot, job),
+        0o315 => made(cam(core, slot, x, 5), core, slot, job),
+        0o316 => made(cam(core, slot, x, 6), core, slot, job),
+        0o317 => made(cam(core, slot, x, 7), core, slot, job),
+        0o331 => made(skips(core, slot, x, 1), core, slot, job),
+        0o332 => made(skips(core, slot, x, 2), core, slot, job),
+        0o333 => made(skips(core, slot, x, 3), core, slot, job),
+        0o335 => made(skips(core, slot, x, 5), core, slot, job),
+        0o336 => made(skips(core, slot, x, 6), core, slot, job),
+        0o337 => made(skips(core, slot, x, 7), core, slot, job),
         0o602 => testing(core, slot, job, x, MaskOp::Tr, 1, 0),
         0o603 => testing(core, slot, job, x, MaskOp::Tl, 1, 0),
         0o606 => testing(core, slot, job, x, MaskOp::Tr, 3, 0),
@@ -264,20 +252,20 @@ fn by_count(core: &mut Core, slot: u8, job: &mut Job, opcode: u32, x: &Context) 
     ensures { InPlace result (unit_of (core_at core.old slot) job.old) core.old core.new slot job.old job.new }
 {
     match opcode {
-        0o321 => comparing(core, slot, job, x, CompareOp::Jump, 1),
-        0o322 => comparing(core, slot, job, x, CompareOp::Jump, 2),
-        0o323 => comparing(core, slot, job, x, CompareOp::Jump, 3),
-        0o325 => comparing(core, slot, job, x, CompareOp::Jump, 5),
-        0o326 => comparing(core, slot, job, x, CompareOp::Jump, 6),
-        0o327 => comparing(core, slot, job, x, CompareOp::Jump, 7),
-        0o340 => comparing(core, slot, job, x, CompareOp::Aoj, 0),
-        0o344 => comparing(core, slot, job, x, CompareOp::Aoj, 4),
-        0o350 => comparing(core, slot, job, x, CompareOp::Aos, 0),
-        0o360 => comparing(core, slot, job, x, CompareOp::Soj, 0),
-        0o364 => comparing(core, slot, job, x, CompareOp::Soj, 4),
-        0o365 => comparing(core, slot, job, x, CompareOp::Soj, 5),
-        0o367 => comparing(core, slot, job, x, CompareOp::Soj, 7),
-        0o370 => comparing(core, slot, job, x, CompareOp::Sos, 0),
+        0o321 => made(jumps(core, slot, x, 1), core, slot, job),
+        0o322 => made(jumps(core, slot, x, 2), core, slot, job),
+        0o323 => made(jumps(core, slot, x, 3), core, slot, job),
+        0o325 => made(jumps(core, slot, x, 5), core, slot, job),
+        0o326 => made(jumps(core, slot, x, 6), core, slot, job),
+        0o327 => made(jumps(core, slot, x, 7), core, slot, job),
+        0o340 => made(aoj(core, slot, x, 0), core, slot, job),
+        0o344 => made(aoj(core, slot, x, 4), core, slot, job),
+        0o350 => made(aos(core, slot, x, 0), core, slot, job),
+        0o360 => made(soj(core, slot, x, 0), core, slot, job),
+        0o364 => made(soj(core, slot, x, 4), core, slot, job),
+        0o365 => made(soj(core, slot, x, 5), core, slot, job),
+        0o367 => made(soj(core, slot, x, 7), core, slot, job),
+        0o370 => made(sos(core, slot, x, 0), core, slot, job),
         _ => by_skip(core, slot, job, opcode, x),
     }
 }

@@ -4,6 +4,7 @@ ghost use Rattle.std.specs.Prelude.{◌≡◌, ◌<◌, ◌^◌};
 ghost use Rattle.its_core.specs.Cores.{core_at};
 ghost use Rattle.its_word.specs.Limits.{slots};
 ghost use Rattle.its_plain.specs.UnitPlan.{Fits};
+ghost use Rattle.its_word.specs.declared.instruction.CompareOp.TheVariants.{Cai, Cam, Jump, Skip, Aoj, Aos, Soj, Sos};
 ghost use Rattle.its_plain.specs.UnitTests.{compare_row, counts_jump, counts_skip, mask_for, test_row};
 
 use super::moves::swap;
@@ -46,9 +47,112 @@ fn count_and_skip(x: &Context, k: u32, r: &Result2) -> Draft
     skip(x, stores, r.flags, compares(k, r.first, Word::ZERO))
 }
 
-/// CAI, CAM, JUMP, SKIP, AOJ, AOS, SOJ, SOS, with condition k.
+/// CAI with condition k.
 #[inline(always)]
 #[tactic(auto, unfolding(its_plain::specs::UnitTests::compare_row))]
+pub fn cai(core: &Core, slot: u8, x: &Context, k: u32) -> Result<Draft, Fault>
+    requires slot { slot < slots }
+    requires fits { Fits x.now }
+    requires k { k < 8 }
+    ensures { result ≡ compare_row (core_at core.now slot) x.now Cai k }
+{
+    let a = ac_word(core, slot, x);
+    Ok(skip(x, none(), 0, compares(k, a, Word::pair(0, x.e))))
+}
+
+/// CAM with condition k.
+#[inline(always)]
+#[tactic(auto, unfolding(its_plain::specs::UnitTests::compare_row))]
+pub fn cam(core: &Core, slot: u8, x: &Context, k: u32) -> Result<Draft, Fault>
+    requires slot { slot < slots }
+    requires fits { Fits x.now }
+    requires k { k < 8 }
+    ensures { result ≡ compare_row (core_at core.now slot) x.now Cam k }
+{
+    let w = read(core, slot, x.e)?;
+    let a = ac_word(core, slot, x);
+    Ok(skip(x, none(), 0, compares(k, a, w)))
+}
+
+/// JUMP with condition k.
+#[inline(always)]
+#[tactic(auto, unfolding(its_plain::specs::UnitTests::compare_row))]
+pub fn jumps(core: &Core, slot: u8, x: &Context, k: u32) -> Result<Draft, Fault>
+    requires slot { slot < slots }
+    requires fits { Fits x.now }
+    requires k { k < 8 }
+    ensures { result ≡ compare_row (core_at core.now slot) x.now Jump k }
+{
+    let a = ac_word(core, slot, x);
+    Ok(jump(x, none(), 0, compares(k, a, Word::ZERO)))
+}
+
+/// SKIP with condition k.
+#[inline(always)]
+#[tactic(auto, unfolding(its_plain::specs::UnitTests::compare_row))]
+pub fn skips(core: &Core, slot: u8, x: &Context, k: u32) -> Result<Draft, Fault>
+    requires slot { slot < slots }
+    requires fits { Fits x.now }
+    requires k { k < 8 }
+    ensures { result ≡ compare_row (core_at core.now slot) x.now Skip k }
+{
+    let w = read(core, slot, x.e)?;
+    Ok(skip(x, ac_but_0(x, w), 0, compares(k, w, Word::ZERO)))
+}
+
+/// AOJ with condition k.
+#[inline(always)]
+#[tactic(auto, unfolding(its_plain::specs::UnitTests::compare_row))]
+pub fn aoj(core: &Core, slot: u8, x: &Context, k: u32) -> Result<Draft, Fault>
+    requires slot { slot < slots }
+    requires fits { Fits x.now }
+    requires k { k < 8 }
+    ensures { result ≡ compare_row (core_at core.now slot) x.now Aoj k }
+{
+    let a = ac_word(core, slot, x);
+    Ok(count_and_jump(x, k, &add(a, Word::new(1))))
+}
+
+/// AOS with condition k.
+#[inline(always)]
+#[tactic(auto, unfolding(its_plain::specs::UnitTests::compare_row))]
+pub fn aos(core: &Core, slot: u8, x: &Context, k: u32) -> Result<Draft, Fault>
+    requires slot { slot < slots }
+    requires fits { Fits x.now }
+    requires k { k < 8 }
+    ensures { result ≡ compare_row (core_at core.now slot) x.now Aos k }
+{
+    let w = read(core, slot, x.e)?;
+    Ok(count_and_skip(x, k, &add(w, Word::new(1))))
+}
+
+/// SOJ with condition k.
+#[inline(always)]
+#[tactic(auto, unfolding(its_plain::specs::UnitTests::compare_row))]
+pub fn soj(core: &Core, slot: u8, x: &Context, k: u32) -> Result<Draft, Fault>
+    requires slot { slot < slots }
+    requires fits { Fits x.now }
+    requires k { k < 8 }
+    ensures { result ≡ compare_row (core_at core.now slot) x.now Soj k }
+{
+    let a = ac_word(core, slot, x);
+    Ok(count_and_jump(x, k, &add(a, Word::ONES)))
+}
+
+/// SOS with condition k.
+#[inline(always)]
+#[tactic(auto, unfolding(its_plain::specs::UnitTests::compare_row))]
+pub fn sos(core: &Core, slot: u8, x: &Context, k: u32) -> Result<Draft, Fault>
+    requires slot { slot < slots }
+    requires fits { Fits x.now }
+    requires k { k < 8 }
+    ensures { result ≡ compare_row (core_at core.now slot) x.now Sos k }
+{
+    let w = read(core, slot, x.e)?;
+    Ok(count_and_skip(x, k, &add(w, Word::ONES)))
+}
+
+/// CAI, CAM, JUMP, SKIP, AOJ, AOS, SOJ, SOS, with condition k.
 pub fn comparisons(
     core: &Core,
     slot: u8,
@@ -61,21 +165,16 @@ pub fn comparisons(
     requires k { k < 8 }
     ensures { result ≡ compare_row (core_at core.now slot) x.now op k }
 {
-    let a = ac_word(core, slot, x);
-    let plus_one = Word::new(1);
-    Ok(match op {
-        CompareOp::Cai => skip(x, none(), 0, compares(k, a, Word::pair(0, x.e))),
-        CompareOp::Cam => skip(x, none(), 0, compares(k, a, read(core, slot, x.e)?)),
-        CompareOp::Jump => jump(x, none(), 0, compares(k, a, Word::ZERO)),
-        CompareOp::Skip => {
-            let w = read(core, slot, x.e)?;
-            skip(x, ac_but_0(x, w), 0, compares(k, w, Word::ZERO))
-        }
-        CompareOp::Aoj => count_and_jump(x, k, &add(a, plus_one)),
-        CompareOp::Aos => count_and_skip(x, k, &add(read(core, slot, x.e)?, plus_one)),
-        CompareOp::Soj => count_and_jump(x, k, &add(a, Word::ONES)),
-        CompareOp::Sos => count_and_skip(x, k, &add(read(core, slot, x.e)?, Word::ONES)),
-    })
+    match op {
+        CompareOp::Cai => cai(core, slot, x, k),
+        CompareOp::Cam => cam(core, slot, x, k),
+        CompareOp::Jump => jumps(core, slot, x, k),
+        CompareOp::Skip => skips(core, slot, x, k),
+        CompareOp::Aoj => aoj(core, slot, x, k),
+        CompareOp::Aos => aos(core, slot, x, k),
+        CompareOp::Soj => soj(core, slot, x, k),
+        CompareOp::Sos => sos(core, slot, x, k),
+    }
 }
 
 /// The mask of a test.
