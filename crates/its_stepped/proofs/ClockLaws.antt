@@ -11,9 +11,9 @@ use Rattle.its_frame.specs.declared.decision.Decision.{Decision}
 use Rattle.its_frame.specs.declared.decision.Decision.TheVariants.{Waits, Goes, Ends, Gone}
 use Rattle.its_plain.specs.Ask.{ask}
 use Rattle.its_plain.specs.CallOperator.{clock_end, Done, lined}
-use Rattle.its_plain.specs.CallStep.{acted, decision, by_ask, by_unit, informs, delivery, by_delivery, unless_stopped, step_of, step}
+use Rattle.its_plain.specs.CallStep.{acted, decision, by_ask, by_unit, informs, by_delivery, unless_stopped, step_of, step}
 use Rattle.its_plain.specs.Change.{removed, effect, effects}
-use Rattle.its_plain.specs.Interrupt.{Delivered, deliverable, delivered}
+use Rattle.its_plain.specs.Interrupt.{deliverable, delivered}
 use Rattle.its_plain.specs.Machine.{Whole, Machine}
 use Rattle.its_plain.specs.Operator.{Block, Does}
 use Rattle.its_plain.specs.Unit.{Outcome, Changed, Faulted, Called, unit}
