@@ -1,5 +1,5 @@
 -- In which frames pages stand after the changes of a call, and which frames are free.
-use Rattle.std.specs.Prelude.{if◌then◌else◌, ℕ, zero, suc, Bool, Option, None, List, [], ◌∷◌}
+use Rattle.std.specs.Prelude.{if◌then◌else◌, ℕ, zero, suc, Bool, None, List, [], ◌∷◌}
 use Rattle.its_word.specs.Limits.{slots}
 use Rattle.its_core.specs.Frames.{Frames, frames_map, frames_unmap, frames_drop_all}
 use Rattle.its_frame.specs.declared.change.Change.{Change}

@@ -12,7 +12,7 @@ use Rattle.its_plain.specs.Change.{rest_of}
 use Rattle.its_world.specs.World.{frame_at, console_at, holder_at, frames_after, with_frames, Becomes, CoreBecomes, JobBecomes, FrameBecomes, PageBecomes, ConsoleBecomes, HolderBecomes, typed_at}
 use Rattle.its_world.specs.declared.world.World.{World}
 use Rattle.its_core.specs.Cores.{Cores, Reserved, core_at, reserved_at, clear_at}
-use Rattle.its_core.specs.Frames.{Frames, frames_reserve, frames_give_back}
+use Rattle.its_core.specs.Frames.{Frames, frames_give_back}
 
 same_reserved : (a b : Cores) (k : ℕ) → b.reserved ≡ a.reserved → reserved_at b k ≡ reserved_at a k
 unfolding reserved_at
