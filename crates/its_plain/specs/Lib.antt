@@ -23,6 +23,7 @@ pub mod CallTty
 pub mod CallFile
 pub mod CallUsr
 pub mod CallCore
+pub mod CallDevice
 pub mod CallStep
 pub mod Operator
 pub mod Transcript

@@ -26,9 +26,7 @@ pub mod RefusalLaws
 pub mod AfterLaws
 pub mod LineExamples
 pub mod TestLaws
-pub mod FileWays
-pub mod UsrWays
-pub mod CoreWays
+pub mod CallWays
 pub mod CallDuties
 pub mod TargetLaws
 pub mod UsrvarDuty
@@ -37,6 +35,7 @@ pub mod TtyDuty
 pub mod FileDuty
 pub mod SiotDuty
 pub mod UsrDuty
+pub mod DeviceDuty
 pub mod CoreDuty
 pub mod GivenLaws
 pub mod ForestLaws

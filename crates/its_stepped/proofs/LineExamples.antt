@@ -18,8 +18,7 @@ use Rattle.its_print.specs.Printing as printed
 use Rattle.its_plain.specs.Operator.{no_block, Does, loaded, on_registers}
 use Rattle.its_plain.specs.CallOperator.{clocked, operate, Lined, Done, lined}
 use Rattle.its_plain.specs.Machine.{no_machine, with_jobs, whole}
-use Rattle.its_frame.specs.Calls.{sixbit}
-use Rattle.its_plain.specs.Decide.{call_named}
+use Rattle.its_frame.specs.Calls.{sixbit, call_named}
 use Rattle.its_plain.specs.Own.{names_of, exit_of}
 use Rattle.its_plain.specs.CallFile.{blocks_of_drafts}
 use Rattle.its_plain.specs.FileOperator.{file_made, word_added, files_in, file_shown}
