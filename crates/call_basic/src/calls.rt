@@ -1,21 +1,16 @@
-ghost use Rattle.std.specs.Prelude.{◌≡◌, ◌<◌, true, not, is_some, IfSome, ◌∷◌, [], None, Some};
+ghost use Rattle.std.specs.Prelude.{◌≡◌, ◌<◌, true, is_some, IfSome};
 ghost use Rattle.its_word.specs.Limits.{slots};
 ghost use Rattle.its_frame.specs.declared.decision.Decision.TheVariants.{Gone};
 ghost use Rattle.its_jobs.specs.Table.{job_at, superior_at};
 ghost use Rattle.its_plain.specs.CallBasic.{told_superior};
-ghost use Rattle.its_plain.specs.CallStep.{decision};
-ghost use Rattle.its_plain.specs.Decide.{decided_basic, reached_by, target};
-ghost use Rattle.its_world.specs.World.{raw_at, state_of};
-ghost use Rattle.call_basic.specs.Seen.{is_waiting, raw_with, seen_by};
+ghost use Rattle.its_plain.specs.Decide.{reached_by, target};
+ghost use Rattle.its_world.specs.World.{raw_at};
+ghost use Rattle.call_basic.specs.Seen.{raw_with};
 
 use super::arguments::input;
-use super::dismiss::dismiss;
-use super::ends::fails;
 use super::party::{channel, is_oneself};
-use super::sleep::sleep;
-use super::usrvar::usrvar;
 use arrayvec::ArrayVec;
-use its_frame::{CallName, Change, Decision, Wait};
+use its_frame::{CallName, Change, Decision};
 use its_word::{Ask, Channel, Job, Word};
 use its_world::World;
 
@@ -63,28 +58,8 @@ fn reached(w: &World, slot: u8, job: &Job, party: Word) -> Option<u8>
     }
 }
 
-/// What the call of a slot's job with these registers comes to, where it is on jobs and times alone; any other
-/// fails with error 1. An error of its decoding comes first.
-#[tactic(auto, unfolding(its_plain::specs::Decide::decided_basic, its_plain::specs::View::view, its_world::specs::World::state_of))]
-pub fn decided(w: &World, slot: u8, job: &Job, ask: &Ask) -> Decision
-    requires { slot < slots }
-    ensures { result ≡ decided_basic (seen_by w.now slot job.now ask.now) ask.now }
-{
-    if ask.fail != 0 {
-        return fails(job, ask, ask.fail);
-    }
-    match CallName::named(ask.name) {
-        Some(CallName::Hang) => Decision::Waits(Wait::Hang),
-        Some(CallName::Sleep) => sleep(w, slot, job, ask),
-        Some(CallName::Dismis) => dismiss(w, slot, job, ask),
-        Some(CallName::Usrvar) => usrvar(w, slot, job, ask),
-        Some(CallName::Logout) => logout(w, slot),
-        _ => fails(job, ask, 1),
-    }
-}
-
 /// LOGOUT: the job and all jobs below it are removed, and INF is set in its superior.
-fn logout(w: &World, slot: u8) -> Decision
+pub fn logout(w: &World, slot: u8) -> Decision
     ensures { result ≡ Gone (record { items = told_superior (superior_at w.now.jobs slot) }) }
 {
     let mut changes = ArrayVec::new();

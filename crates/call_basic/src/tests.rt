@@ -1,10 +1,10 @@
 ghost use Rattle.std.specs.Prelude.{◌≡◌, None, OnOk};
 ghost use Rattle.its_core.specs.Cores.{reserved_at};
 
-use super::{decided, target_of};
+use super::{dismiss, fails, logout, sleep, target_of, usrvar};
 use arrayvec::ArrayVec;
 use its_core::Core;
-use its_frame::{Change, Decision, Exit, Store, Variable, Wait};
+use its_frame::{CallName, Change, Decision, Exit, Store, Variable, Wait, error};
 use its_jobs::Jobs;
 use its_word::{Ask, BYTE_HALF, Channel, Operand, Word};
 use its_world::World;
@@ -89,9 +89,9 @@ fn world(rt: &impl Abort, alloc: Global) -> Result<World, Fail> {
 }
 
 /// A call of this name with these inputs and outputs, and 300 as its error address.
-fn ask(rt: &impl Abort, name: u64, inputs: &[(u64, Option<u32>)], outputs: &[u32]) -> Ask {
+fn ask(rt: &impl Abort, name: CallName, inputs: &[(u64, Option<u32>)], outputs: &[u32]) -> Ask {
     let mut ask = Ask {
-        name: Word::new(name),
+        name: name.word(),
         fail: 0,
         inputs: ArrayVec::new(),
         outputs: ArrayVec::new(),
@@ -150,20 +150,6 @@ fn ends(rt: &impl Abort, change: Option<Change>, stores: &[(u32, u64)], exit: Ex
         exit,
     }
 }
-
-const HANG: u64 = 0o504156470000;
-
-const SLEEP: u64 = 0o635445456000;
-
-const DISMIS: u64 = 0o445163555163;
-
-const USRVAR: u64 = 0o656362664162;
-
-const LOGOUT: u64 = 0o545747576564;
-
-const OPEN: u64 = 0o576045560000;
-
-const IOT: u64 = 0o515764000000;
 
 const MASK: u64 = 0o554163530000;
 
@@ -224,13 +210,20 @@ fn wanted(rt: &impl Abort, want: Want) -> Decision {
     }
 }
 
-/// What a call of slot 1 comes to.
+/// What a call of slot 1 comes to whose decoding gave no error.
 fn decision(rt: &impl Abort, w: &World, ask: &Ask) -> Decision {
-    decided(w, 1, w.jobs.job(1).expect(rt, "slot 1 has a job"), ask)
+    let job = w.jobs.job(1).expect(rt, "slot 1 has a job");
+    assert!(rt; ask.fail == 0);
+    match CallName::named(ask.name) {
+        Some(CallName::Sleep) => sleep(w, 1, job, ask),
+        Some(CallName::Dismis) => dismiss(w, 1, job, ask),
+        Some(CallName::Usrvar) => usrvar(w, 1, job, ask),
+        Some(CallName::Logout) => logout(w, 1),
+        _ => fails(job, ask, error::NO_CALL),
+    }
 }
 
-/// Each call at its errors, in waiting and as it finishes, and whom it reaches into; those that are not on jobs and
-/// times alone fail.
+/// Each call at its errors, in waiting and as it finishes, and whom it reaches into.
 #[test]
 fn calls(rt: HostRuntime) -> Result<(), Fail> {
     let w = world(&rt, rt.alloc())?;
@@ -238,197 +231,207 @@ fn calls(rt: HostRuntime) -> Result<(), Fail> {
     let none: [u32; 0] = [];
     let out = [0o310];
     for (name, inputs, outputs, want, target) in [
-        (HANG, &[][..], &none[..], Want::Waits(Wait::Hang), None),
         (
-            SLEEP,
+            CallName::Sleep,
             &[(0, None)][..],
             &none[..],
             Want::Finishes(None),
             None,
         ),
         (
-            SLEEP,
+            CallName::Sleep,
             &[(50, Some(0o320))][..],
             &none[..],
             Want::Goes(0o777777777552),
             None,
         ),
         (
-            SLEEP,
+            CallName::Sleep,
             &[(0o200000000000, Some(0o320))][..],
             &none[..],
             Want::Goes(0o577777777634),
             None,
         ),
         (
-            SLEEP,
+            CallName::Sleep,
             &[(0o200000000001, Some(0o320))][..],
             &none[..],
             Want::Fails(0o22),
             None,
         ),
-        (SLEEP, &[(50, None)][..], &none[..], Want::Fails(0o17), None),
         (
-            SLEEP,
+            CallName::Sleep,
+            &[(50, None)][..],
+            &none[..],
+            Want::Fails(0o17),
+            None,
+        ),
+        (
+            CallName::Sleep,
             &[(50, Some(0o320)), (50, Some(0o320))][..],
             &none[..],
             Want::Fails(0o17),
             None,
         ),
         (
-            SLEEP,
+            CallName::Sleep,
             &[(50, Some(0o4000))][..],
             &none[..],
             Want::Faults(0o10),
             None,
         ),
         (
-            SLEEP,
+            CallName::Sleep,
             &[(50, Some(0o1000000))][..],
             &none[..],
             Want::Faults(0o10),
             None,
         ),
         (
-            SLEEP,
+            CallName::Sleep,
             &[(0o777777777634, None)][..],
             &none[..],
             Want::Finishes(None),
             None,
         ),
         (
-            SLEEP,
+            CallName::Sleep,
             &[(0o777777777633, None)][..],
             &none[..],
             Want::Waits(Wait::Clock),
             None,
         ),
-        (DISMIS, &[(0, None)][..], &none[..], Want::Fails(0o17), None),
         (
-            DISMIS,
+            CallName::Dismis,
+            &[(0, None)][..],
+            &none[..],
+            Want::Fails(0o17),
+            None,
+        ),
+        (
+            CallName::Dismis,
             &[(0, Some(0o2000))][..],
             &none[..],
             Want::Faults(0o4),
             None,
         ),
         (
-            DISMIS,
+            CallName::Dismis,
             &[(0, Some(0o1000017))][..],
             &none[..],
             Want::Faults(0o4),
             None,
         ),
         (
-            DISMIS,
+            CallName::Dismis,
             &[(0, Some(0o4000))][..],
             &none[..],
             Want::Faults(0o4),
             None,
         ),
         (
-            USRVAR,
+            CallName::Usrvar,
             &[(SELF, None), (MASK, None)][..],
             &out[..],
             Want::Finishes(Some((0o310, 5))),
             None,
         ),
         (
-            USRVAR,
+            CallName::Usrvar,
             &[(SELF, None), (PAGES, None)][..],
             &out[..],
             Want::Finishes(Some((0o310, 2))),
             None,
         ),
         (
-            USRVAR,
+            CallName::Usrvar,
             &[(SELF, None), (SUPPRO, None)][..],
             &out[..],
             Want::Finishes(Some((0o310, 0))),
             None,
         ),
         (
-            USRVAR,
+            CallName::Usrvar,
             &[(SELF, None), (UPC, None), (7, None)][..],
             &out[..],
             Want::Fails(0o22),
             None,
         ),
         (
-            USRVAR,
+            CallName::Usrvar,
             &[(SELF, None), (USTP + 1, None)][..],
             &out[..],
             Want::Fails(0o22),
             None,
         ),
         (
-            USRVAR,
+            CallName::Usrvar,
             &[(0o20, None), (MASK, None)][..],
             &out[..],
             Want::Fails(0o4),
             None,
         ),
         (
-            USRVAR,
+            CallName::Usrvar,
             &[(3, None), (MASK, None)][..],
             &out[..],
             Want::Fails(0o4),
             None,
         ),
         (
-            USRVAR,
+            CallName::Usrvar,
             &[(2, None), (MASK, None)][..],
             &out[..],
             Want::Fails(0o5),
             None,
         ),
         (
-            USRVAR,
+            CallName::Usrvar,
             &[(1, None), (MASK, None), (7, None)][..],
             &out[..],
             Want::Fails(0o5),
             Some(2),
         ),
         (
-            USRVAR,
+            CallName::Usrvar,
             &[(1, None), (SUPPRO, None)][..],
             &out[..],
             Want::Finishes(Some((0o310, 1))),
             Some(2),
         ),
         (
-            USRVAR,
+            CallName::Usrvar,
             &[(0, None), (UIND, None), (7, None)][..],
             &out[..],
             Want::Fails(0o22),
             Some(2),
         ),
         (
-            USRVAR,
+            CallName::Usrvar,
             &[(0, None), (USTP, None), (0, None)][..],
             &none[..],
             Want::Sets(Variable::Ustp, 0),
             Some(2),
         ),
-        (IOT, &[(0, None)][..], &none[..], Want::Fails(0o1), Some(2)),
-        (OPEN, &[(0, None)][..], &none[..], Want::Fails(0o1), None),
     ] {
         let ask = ask(&rt, name, inputs, outputs);
         let wanted = wanted(&rt, want);
-        assert_eq!(rt; target_of(&w, 1, &ask), target, "{name:o}");
-        assert_eq!(rt; decision(&rt, &w, &ask), wanted, "{name:o}");
+        assert_eq!(rt; target_of(&w, 1, &ask), target, "{name:?}");
+        assert_eq!(rt; decision(&rt, &w, &ask), wanted, "{name:?}");
     }
+    let iot = ask(&rt, CallName::Iot, &[(0, None)], &none);
+    assert_eq!(rt; target_of(&w, 1, &iot), Some(2));
     Ok(())
 }
 
-/// What leaves other registers: a variable of one's own that is set, the return from a handler, a removal,
-/// and an error of the decoding of any call.
+/// What leaves other registers: a variable of one's own that is set, the return from a handler, and a removal.
 #[test]
 fn registers(rt: HostRuntime) -> Result<(), Fail> {
     let w = world(&rt, rt.alloc())?;
     assert!(rt; w.jobs.job(1).is_some());
     let set = ask(
         &rt,
-        USRVAR,
+        CallName::Usrvar,
         &[(0o777777777777, None), (MASK, None), (6, None)],
         &[0o310],
     );
@@ -440,7 +443,7 @@ fn registers(rt: HostRuntime) -> Result<(), Fail> {
         decision(&rt, &w, &set),
         ends(&rt, None, &[(0o310, 5)], left)
     );
-    let back = ask(&rt, DISMIS, &[(0o777700_000505, Some(0o17))], &[]);
+    let back = ask(&rt, CallName::Dismis, &[(0o777700_000505, Some(0o17))], &[]);
     let left = Exit {
         flags: 0o400000,
         defer1: Word::new(0o1004),
@@ -451,14 +454,9 @@ fn registers(rt: HostRuntime) -> Result<(), Fail> {
         decision(&rt, &w, &back),
         ends(&rt, None, &[(0o17, 0o777673_000500)], left)
     );
-    let mut out = ask(&rt, LOGOUT, &[], &[]);
+    let out = ask(&rt, CallName::Logout, &[], &[]);
     let mut changes = ArrayVec::new();
     changes.push(Change::Inform { slot: 0 });
     assert_eq!(rt; decision(&rt, &w, &out), Decision::Gone { changes });
-    out.fail = 2;
-    assert_eq!(rt;
-        decision(&rt, &w, &out),
-        ends(&rt, None, &[(0o300, 2)], exit(0o201, 0))
-    );
     Ok(())
 }

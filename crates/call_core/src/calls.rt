@@ -10,10 +10,13 @@ ghost use Rattle.its_world.specs.Tidy.{Tidy};
 ghost use Rattle.its_world.specs.World.{raw_at, state_of};
 ghost use Rattle.call_basic.specs.Seen.{is_waiting, raw_with, seen_by};
 
+use super::devices::{close, iot, open, siot};
 use super::pages::corblk;
-use call_basic::{fails, input};
-use call_usr::decided as decided_usr;
-use its_frame::{CallName, Decision};
+use call_basic::{dismiss, fails, input, logout, sleep, usrvar};
+use call_file::{access, delete, fillen, rename};
+use call_tty::{finish, listen, ttylnd};
+use call_usr::{uclose, usrmem};
+use its_frame::{CallName, Decision, Wait, error};
 use its_word::{Ask, Job};
 use its_world::World;
 
@@ -47,9 +50,9 @@ pub fn ready(w: &World, slot: u8, ask: &Ask) -> bool
     }
 }
 
-/// What the call of a job with these registers comes to; any call that there is not fails with error 1. An error of its
-/// decoding comes first.
-#[tactic(auto, unfolding(its_plain::specs::Decide::decided, its_plain::specs::Decide::decided_usr, its_plain::specs::View::view, its_world::specs::World::state_of))]
+/// What the call of a job with these registers comes to: the one place that says which function, of which crate, serves a
+/// call. An error of its decoding comes first.
+#[tactic(auto, unfolding(its_plain::specs::Decide::decided, its_plain::specs::View::view, its_world::specs::World::state_of))]
 fn decided(w: &World, slot: u8, job: &Job, ask: &Ask) -> Decision
     requires slot { slot < slots }
     requires job { job_at w.now.jobs slot ≡ Some job.now }
@@ -62,8 +65,26 @@ fn decided(w: &World, slot: u8, job: &Job, ask: &Ask) -> Decision
         return fails(job, ask, ask.fail);
     }
     match CallName::named(ask.name) {
+        Some(CallName::Hang) => Decision::Waits(Wait::Hang),
+        Some(CallName::Sleep) => sleep(w, slot, job, ask),
+        Some(CallName::Dismis) => dismiss(w, slot, job, ask),
+        Some(CallName::Usrvar) => usrvar(w, slot, job, ask),
+        Some(CallName::Logout) => logout(w, slot),
+        Some(CallName::Open) => open(w, slot, job, ask),
+        Some(CallName::Close) => close(w, slot, job, ask),
+        Some(CallName::Iot) => iot(w, slot, job, ask),
+        Some(CallName::Siot) => siot(w, slot, job, ask),
+        Some(CallName::Finish) => finish(w, slot, job, ask),
+        Some(CallName::Listen) => listen(w, slot, job, ask),
+        Some(CallName::Ttylnd) => ttylnd(w, slot, job, ask),
+        Some(CallName::Access) => access(w, slot, job, ask),
+        Some(CallName::Fillen) => fillen(w, slot, job, ask),
+        Some(CallName::Delete) => delete(w, slot, job, ask),
+        Some(CallName::Rename) => rename(w, slot, job, ask),
+        Some(CallName::Usrmem) => usrmem(w, slot, job, ask),
+        Some(CallName::Uclose) => uclose(w, slot, job, ask),
         Some(CallName::Corblk) => corblk(w, slot, job, ask),
-        _ => decided_usr(w, slot, job, ask),
+        None => fails(job, ask, error::NO_CALL),
     }
 }
 

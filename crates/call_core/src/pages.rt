@@ -15,7 +15,7 @@ ghost use Rattle.call_basic.specs.Seen.{seen_by};
 
 use arrayvec::ArrayVec;
 use call_basic::{channel, fails, finishes_with, input, is_oneself};
-use its_frame::{Change, Decision};
+use its_frame::{Change, Decision, error};
 use its_word::{Ask, Channel, Job};
 use its_world::World;
 
@@ -43,19 +43,19 @@ pub(crate) fn corblk(w: &World, slot: u8, job: &Job, ask: &Ask) -> Decision
 {
     let party = input(ask, 1);
     if input(ask, 0).value() > OPERATIONS {
-        return fails(job, ask, 0o22);
+        return fails(job, ask, error::OUT_OF_RANGE);
     }
     if is_oneself(party) {
         return pages_of(w, slot, job, ask, slot);
     }
     match channel(job, party) {
-        Channel::Closed => fails(job, ask, 0o4),
+        Channel::Closed => fails(job, ask, error::BAD_CHANNEL),
         Channel::Usr {
             slot: inferior,
             write: true,
             ..
         } => pages_of(w, slot, job, ask, inferior),
-        _ => fails(job, ask, 0o5),
+        _ => fails(job, ask, error::WRONG_DEVICE),
     }
 }
 
@@ -69,14 +69,14 @@ fn pages_of(w: &World, slot: u8, job: &Job, ask: &Ask, target: u8) -> Decision
     let operation = input(ask, 0).value();
     let page = input(ask, 2).value();
     if page > PAGES {
-        return fails(job, ask, 0o22);
+        return fails(job, ask, error::OUT_OF_RANGE);
     }
     let page = page as u8;
     if is_amiss(operation == 1, has_page(w, target, page)) {
-        return fails(job, ask, 0o16);
+        return fails(job, ask, error::BAD_PAGE);
     }
     if operation == 1 && is_full(w) {
-        return fails(job, ask, 0o15);
+        return fails(job, ask, error::NO_CORE);
     }
     let change = page_changed(operation, target, page);
     finishes_with(job, change, ArrayVec::new())

@@ -1,4 +1,3 @@
 pub mod RawLaws
 pub mod HeldLaws
-pub mod StopLaws
 pub mod SeenLaws

@@ -15,7 +15,7 @@ use super::directory::{has_file, is_read, names_from};
 use arrayvec::ArrayVec;
 use call_basic::{channel, fails, finishes, finishes_with, input, store_at};
 use call_tty::{control, is_free};
-use its_frame::{Change, Decision, Opened};
+use its_frame::{Change, Decision, Opened, error};
 use its_word::{ADDRESSES, Ask, Channel, Job, Word};
 use its_world::World;
 
@@ -27,19 +27,19 @@ const FILES: u32 = 256;
 
 /// OPEN channel, DSK, name 1, name 2, directory: a file for input, or a new draft with control 1. Errors 4, 22, 6.
 #[tactic(auto, using(call_tty::proofs::ChannelLaws::free), unfolding(its_plain::specs::CallFile::opens_disk, its_plain::specs::View::view, its_world::specs::World::state_of))]
-pub(crate) fn open_disk(w: &World, slot: u8, job: &Job, ask: &Ask) -> Decision
+pub fn open_disk(w: &World, slot: u8, job: &Job, ask: &Ask) -> Decision
     ensures { result ≡ opens_disk (seen_by w.now slot job.now ask.now) ask.now }
 {
     let number = input(ask, 0);
     let control = control(ask);
     if !is_free(job, number) {
-        return fails(job, ask, 0o4);
+        return fails(job, ask, error::BAD_CHANNEL);
     }
     if control > 1 {
-        return fails(job, ask, 0o22);
+        return fails(job, ask, error::OUT_OF_RANGE);
     }
     if control != 1 && !has_file(w, names_from(ask, 2)) {
-        return fails(job, ask, 0o6);
+        return fails(job, ask, error::NO_FILE);
     }
     let change = Change::Open {
         channel: number.value() as u8,
@@ -62,7 +62,7 @@ fn opened(control: u64, d: Word, x: Word, y: Word) -> Opened
 /// CLOSE of a draft. Errors 11 where a channel reads the file that it would replace, 7 where it replaces none and there
 /// are 256 files.
 #[tactic(auto, using(its_files::proofs::EntryLaws::draft_stands, crate::proofs::SeenLaws::seen_count), unfolding(its_plain::specs::CallFile::closes_draft, its_plain::specs::View::view, its_world::specs::World::state_of))]
-pub(crate) fn close_draft(w: &World, slot: u8, job: &Job, ask: &Ask, draft: u32) -> Decision
+pub fn close_draft(w: &World, slot: u8, job: &Job, ask: &Ask, draft: u32) -> Decision
     requires number { input ask.now 0 < 16 }
     requires draft { is_draft (entry_at w.now.files draft) ≡ true }
     requires tidy { Tidy w.now }
@@ -70,10 +70,10 @@ pub(crate) fn close_draft(w: &World, slot: u8, job: &Job, ask: &Ask, draft: u32)
 {
     let names = w.files.names(draft);
     if is_read(w, slot, job, ask, names) {
-        return fails(job, ask, 0o11);
+        return fails(job, ask, error::FILE_LOCKED);
     }
     if !has_file(w, names) && w.files.count() >= FILES {
-        return fails(job, ask, 0o7);
+        return fails(job, ask, error::DIRECTORY_FULL);
     }
     let change = Change::Close {
         channel: input(ask, 0).value() as u8,
@@ -84,17 +84,17 @@ pub(crate) fn close_draft(w: &World, slot: u8, job: &Job, ask: &Ask, draft: u32)
 /// ACCESS channel, position: the next word that a file gives, or that a channel on an inferior is at. Errors 4, 5, 22 where
 /// the position is past the end.
 #[tactic(auto, using(crate::proofs::HeldLaws::reading), unfolding(its_plain::specs::CallFile::access, its_plain::specs::View::view, its_world::specs::World::state_of))]
-pub(crate) fn access(w: &World, slot: u8, job: &Job, ask: &Ask) -> Decision
+pub fn access(w: &World, slot: u8, job: &Job, ask: &Ask) -> Decision
     requires job { job_at w.now.jobs slot ≡ Some job.now }
     requires tidy { Tidy w.now }
     ensures { result ≡ access (seen_by w.now slot job.now ask.now) ask.now }
 {
     match channel(job, input(ask, 0)) {
-        Channel::Closed => fails(job, ask, 0o4),
+        Channel::Closed => fails(job, ask, error::BAD_CHANNEL),
         Channel::Reading { file, at } => moved(w, slot, job, ask, file, at),
-        Channel::Writing { .. } => fails(job, ask, 0o5),
-        Channel::TtyIn => fails(job, ask, 0o5),
-        Channel::TtyOut => fails(job, ask, 0o5),
+        Channel::Writing { .. } => fails(job, ask, error::WRONG_DEVICE),
+        Channel::TtyIn => fails(job, ask, error::WRONG_DEVICE),
+        Channel::TtyOut => fails(job, ask, error::WRONG_DEVICE),
         Channel::Usr { .. } => access_to(w, slot, job, ask, END_OF_CORE),
     }
 }
@@ -118,7 +118,7 @@ fn access_to(w: &World, slot: u8, job: &Job, ask: &Ask, most: u32) -> Decision
 {
     let at = input(ask, 1).value();
     if at > u64::from(most) {
-        return fails(job, ask, 0o22);
+        return fails(job, ask, error::OUT_OF_RANGE);
     }
     let change = Change::Move {
         channel: input(ask, 0).value() as u8,
@@ -129,18 +129,18 @@ fn access_to(w: &World, slot: u8, job: &Job, ask: &Ask, most: u32) -> Decision
 
 /// FILLEN channel: how many words a file or a draft has. Errors 4, 5.
 #[tactic(auto, using(crate::proofs::HeldLaws::reading, crate::proofs::HeldLaws::writing, its_files::proofs::EntryLaws::draft_stands), unfolding(its_plain::specs::CallFile::fillen, its_plain::specs::View::view, its_world::specs::World::state_of))]
-pub(crate) fn fillen(w: &World, slot: u8, job: &Job, ask: &Ask) -> Decision
+pub fn fillen(w: &World, slot: u8, job: &Job, ask: &Ask) -> Decision
     requires job { job_at w.now.jobs slot ≡ Some job.now }
     requires tidy { Tidy w.now }
     ensures { result ≡ fillen (seen_by w.now slot job.now ask.now) ask.now }
 {
     match channel(job, input(ask, 0)) {
-        Channel::Closed => fails(job, ask, 0o4),
+        Channel::Closed => fails(job, ask, error::BAD_CHANNEL),
         Channel::Reading { file, at } => file_measured(w, slot, job, ask, file, at),
         Channel::Writing { draft } => measured(w, job, ask, draft),
-        Channel::TtyIn => fails(job, ask, 0o5),
-        Channel::TtyOut => fails(job, ask, 0o5),
-        Channel::Usr { .. } => fails(job, ask, 0o5),
+        Channel::TtyIn => fails(job, ask, error::WRONG_DEVICE),
+        Channel::TtyOut => fails(job, ask, error::WRONG_DEVICE),
+        Channel::Usr { .. } => fails(job, ask, error::WRONG_DEVICE),
     }
 }
 

@@ -9,7 +9,7 @@ ghost use Rattle.call_file.specs.Held.{has_readers};
 
 use arrayvec::ArrayVec;
 use call_basic::{fails, finishes_with, input};
-use its_frame::{Change, Decision};
+use its_frame::{Change, Decision, error};
 use its_word::{Ask, Job, Word};
 use its_world::World;
 
@@ -69,20 +69,20 @@ fn barred(w: &World, slot: u8, job: &Job, ask: &Ask) -> Option<Decision>
 {
     let names = names_from(ask, 1);
     if input(ask, 0).value() != DSK {
-        return Some(fails(job, ask, 0o5));
+        return Some(fails(job, ask, error::WRONG_DEVICE));
     }
     if !has_file(w, names) {
-        return Some(fails(job, ask, 0o6));
+        return Some(fails(job, ask, error::NO_FILE));
     }
     if is_read(w, slot, job, ask, names) {
-        return Some(fails(job, ask, 0o11));
+        return Some(fails(job, ask, error::FILE_LOCKED));
     }
     None
 }
 
 /// DELETE device, name 1, name 2, directory. Errors 5, 6, 11.
 #[tactic(auto, unfolding(its_plain::specs::CallFile::delete, its_plain::specs::View::view, its_world::specs::World::state_of))]
-pub(crate) fn delete(w: &World, slot: u8, job: &Job, ask: &Ask) -> Decision
+pub fn delete(w: &World, slot: u8, job: &Job, ask: &Ask) -> Decision
     requires { Tidy w.now }
     ensures { result ≡ delete (seen_by w.now slot job.now ask.now) ask.now }
 {
@@ -100,7 +100,7 @@ pub(crate) fn delete(w: &World, slot: u8, job: &Job, ask: &Ask) -> Decision
 /// RENAME device, name 1, name 2, directory, new name 1, new name 2. Errors 5, 6, 11, and 23 where a file of the
 /// directory has the new names, itself included.
 #[tactic(auto, unfolding(its_plain::specs::CallFile::rename, its_plain::specs::View::view, its_world::specs::World::state_of))]
-pub(crate) fn rename(w: &World, slot: u8, job: &Job, ask: &Ask) -> Decision
+pub fn rename(w: &World, slot: u8, job: &Job, ask: &Ask) -> Decision
     requires { Tidy w.now }
     ensures { result ≡ rename (seen_by w.now slot job.now ask.now) ask.now }
 {
@@ -109,7 +109,7 @@ pub(crate) fn rename(w: &World, slot: u8, job: &Job, ask: &Ask) -> Decision
     }
     let (d, new_x, new_y) = (input(ask, 3), input(ask, 4), input(ask, 5));
     if has_file(w, [d, new_x, new_y]) {
-        return fails(job, ask, 0o23);
+        return fails(job, ask, error::FILE_EXISTS);
     }
     let change = Change::Rename {
         d,

@@ -1,6 +1,5 @@
 //! What the calls on files come to: OPEN, CLOSE, `.IOT` and SIOT where their device is DSK; ACCESS, FILLEN, DELETE and
-//! RENAME (docs/CALLS.md, "Files"). Any other call is left to `call_tty`. A decision is found from the world as it stands,
-//! and changes nothing. Beside it which calls are those on files.
+//! RENAME (docs/CALLS.md, "Files"). A decision is found from the world as it stands, and changes nothing. Beside it which calls are those on files.
 #![tactic(auto)]
 
 mod calls;
@@ -8,4 +7,7 @@ mod channels;
 mod directory;
 mod transfer;
 
-pub use calls::{decided, helps};
+pub use calls::{helps, is_disk};
+pub use channels::{access, close_draft, fillen, open_disk};
+pub use directory::{delete, rename};
+pub use transfer::{iot_reads, iot_writes, siot_reads, siot_writes};

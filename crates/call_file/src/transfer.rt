@@ -13,7 +13,7 @@ use arrayvec::ArrayVec;
 use call_basic::{fails, faults, input, ioc};
 use call_tty::{bar_of_store, iot_ends, moves, next_pointer, stopped};
 use its_bytes::load;
-use its_frame::{Change, Decision, Held, Store};
+use its_frame::{Change, Decision, Held, Store, error};
 use its_word::{Ask, Fault, Job, Word};
 use its_world::World;
 
@@ -34,7 +34,7 @@ fn word_at(w: &World, file: u32, at: u32) -> Option<Word>
 /// `.IOT` from a file: the word at its position, which is then one more; 777777000003 at its end. MPV or WRO by the word at
 /// E.
 #[tactic(auto, unfolding(its_plain::specs::View::view, its_world::specs::World::state_of))]
-pub(crate) fn iot_reads(w: &World, slot: u8, job: &Job, ask: &Ask, file: u32, at: u32) -> Decision
+pub fn iot_reads(w: &World, slot: u8, job: &Job, ask: &Ask, file: u32, at: u32) -> Decision
     requires slot { slot < slots }
     requires number { input ask.now 0 < 16 }
     requires file { is_file (entry_at w.now.files file) ≡ true }
@@ -68,7 +68,7 @@ fn one_store(at: u32, word: Word) -> ArrayVec<Store, 2>
 
 /// `.IOT` to a draft: the word at E is appended. MPV by that word; IOC where there is no room.
 #[tactic(auto, using(crate::proofs::SeenLaws::seen_full, its_files::proofs::EntryLaws::draft_stands), unfolding(its_plain::specs::View::view, its_world::specs::World::state_of))]
-pub(crate) fn iot_writes(w: &World, slot: u8, job: &Job, ask: &Ask, draft: u32) -> Decision
+pub fn iot_writes(w: &World, slot: u8, job: &Job, ask: &Ask, draft: u32) -> Decision
     requires slot { slot < slots }
     requires number { input ask.now 0 < 16 }
     requires draft { is_draft (entry_at w.now.files draft) ≡ true }
@@ -93,7 +93,7 @@ pub(crate) fn iot_writes(w: &World, slot: u8, job: &Job, ask: &Ask, draft: u32) 
 
 /// SIOT from a file: the word at its position is held, and stored by the next step.
 #[tactic(auto, unfolding(its_plain::specs::View::view, its_world::specs::World::state_of))]
-pub(crate) fn siot_reads(w: &World, slot: u8, job: &Job, ask: &Ask, file: u32, at: u32) -> Decision
+pub fn siot_reads(w: &World, slot: u8, job: &Job, ask: &Ask, file: u32, at: u32) -> Decision
     requires slot { slot < slots }
     requires number { input ask.now 0 < 16 }
     requires file { is_file (entry_at w.now.files file) ≡ true }
@@ -129,7 +129,7 @@ fn siot_read(w: &World, slot: u8, job: &Job, ask: &Ask, at: u32, word: Word) -> 
 
 /// SIOT to a draft. Error 10 where there is no room.
 #[tactic(auto, using(its_plain::proofs::SizeLaws::next_sized), unfolding(its_plain::specs::View::view, its_world::specs::World::state_of))]
-pub(crate) fn siot_writes(w: &World, slot: u8, job: &Job, ask: &Ask, draft: u32) -> Decision
+pub fn siot_writes(w: &World, slot: u8, job: &Job, ask: &Ask, draft: u32) -> Decision
     requires slot { slot < slots }
     requires number { input ask.now 0 < 16 }
     requires draft { is_draft (entry_at w.now.files draft) ≡ true }
@@ -144,7 +144,7 @@ pub(crate) fn siot_writes(w: &World, slot: u8, job: &Job, ask: &Ask, draft: u32)
 }
 
 /// The same where no test stops it.
-#[tactic(auto, using(crate::proofs::StopLaws::loaded_fits, crate::proofs::SeenLaws::seen_full, its_files::proofs::EntryLaws::draft_stands), unfolding(its_plain::specs::View::view, its_world::specs::World::state_of))]
+#[tactic(auto, using(call_tty::proofs::StopLaws::loaded_fits, crate::proofs::SeenLaws::seen_full, its_files::proofs::EntryLaws::draft_stands), unfolding(its_plain::specs::View::view, its_world::specs::World::state_of))]
 fn siot_write(w: &World, slot: u8, job: &Job, ask: &Ask, draft: u32) -> Decision
     requires slot { slot < slots }
     requires number { input ask.now 0 < 16 }
@@ -160,7 +160,7 @@ fn siot_write(w: &World, slot: u8, job: &Job, ask: &Ask, draft: u32) -> Decision
         return faults(job, Fault::Mpv);
     };
     if w.files.is_full(draft) {
-        return fails(job, ask, 0o10);
+        return fails(job, ask, error::DEVICE_FULL);
     }
     let change = Change::Append {
         channel: input(ask, 0).value() as u8,

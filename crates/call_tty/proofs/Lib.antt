@@ -1,2 +1,3 @@
 pub mod HoldLaws
 pub mod ChannelLaws
+pub mod StopLaws

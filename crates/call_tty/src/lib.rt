@@ -1,9 +1,7 @@
-//! What the calls on consoles come to: OPEN, CLOSE, `.IOT`, SIOT, FINISH, LISTEN and TTYLND (docs/CALLS.md,
-//! "Consoles"). Any other call is left to `call_basic`. A decision is found from the world as it stands, and
-//! changes nothing.
+//! What the calls on consoles come to: OPEN, `.IOT` and SIOT where they are on one, FINISH, LISTEN and TTYLND
+//! (docs/CALLS.md, "Consoles"). A decision is found from the world as it stands, and changes nothing.
 #![tactic(auto)]
 
-mod calls;
 mod consoles;
 mod open;
 #[cfg(test)]
@@ -11,7 +9,9 @@ mod tests;
 mod transfer;
 mod waiting;
 
-pub use calls::decided;
-pub use open::{control, is_free};
-pub use transfer::{bar_of_store, iot_ends, moves, moves_with, next_pointer, stopped};
-pub use waiting::is_superior;
+pub use open::{control, is_free, open_tty};
+pub use transfer::{
+    bar_of_store, iot_ends, iot_in, iot_out, moves, moves_with, next_pointer, siot_in, siot_out,
+    stopped,
+};
+pub use waiting::{finish, is_superior, listen, ttylnd};

@@ -1,12 +1,12 @@
 ghost use Rattle.std.specs.Prelude.{◌≡◌, ◌<◌, ◌∷◌, [], not, unwrap_or};
 ghost use Rattle.its_word.specs.Limits.{slots};
-ghost use Rattle.its_plain.specs.CallTty.{closes, opens, opens_on};
+ghost use Rattle.its_plain.specs.CallTty.{opens, opens_on};
 ghost use Rattle.call_basic.specs.Seen.{seen_by};
 ghost use Rattle.call_tty.specs.Channels.{is_closed, is_free};
 
 use arrayvec::ArrayVec;
 use call_basic::{channel, fails, finishes_with, input};
-use its_frame::{Change, Decision, Opened};
+use its_frame::{Change, Decision, Opened, error};
 use its_word::{Ask, Channel, Job, Word};
 use its_world::World;
 
@@ -16,23 +16,23 @@ const TTY: u64 = 0o646471000000;
 /// OPEN channel, device: input, or output with control 1. Errors 4, 5 where the device is not TTY, 22, and 5 where the
 /// job has no console.
 #[tactic(auto, using(crate::proofs::ChannelLaws::free), unfolding(its_plain::specs::CallTty::opens, its_plain::specs::View::view, its_world::specs::World::state_of))]
-pub(crate) fn open(w: &World, slot: u8, job: &Job, ask: &Ask) -> Decision
+pub fn open_tty(w: &World, slot: u8, job: &Job, ask: &Ask) -> Decision
     requires { slot < slots }
     ensures { result ≡ opens (seen_by w.now slot job.now ask.now) ask.now }
 {
     let number = input(ask, 0);
     let control = control(ask);
     if !is_free(job, number) {
-        return fails(job, ask, 0o4);
+        return fails(job, ask, error::BAD_CHANNEL);
     }
     if input(ask, 1).value() != TTY {
-        return fails(job, ask, 0o5);
+        return fails(job, ask, error::WRONG_DEVICE);
     }
     if control > 1 {
-        return fails(job, ask, 0o22);
+        return fails(job, ask, error::OUT_OF_RANGE);
     }
     if job.console.is_none() {
-        return fails(job, ask, 0o5);
+        return fails(job, ask, error::WRONG_DEVICE);
     }
     let change = Change::Open {
         channel: number.value() as u8,
@@ -81,20 +81,4 @@ fn is_closed(channel: Channel) -> bool
         Channel::TtyOut => false,
         Channel::Usr { .. } => false,
     }
-}
-
-/// CLOSE channel. Error 4.
-#[tactic(auto, using(crate::proofs::ChannelLaws::closed), unfolding(its_plain::specs::CallTty::closes, its_plain::specs::View::view, its_world::specs::World::state_of))]
-pub(crate) fn close(w: &World, slot: u8, job: &Job, ask: &Ask) -> Decision
-    requires { slot < slots }
-    ensures { result ≡ closes (seen_by w.now slot job.now ask.now) ask.now }
-{
-    let number = input(ask, 0);
-    if is_closed(channel(job, number)) {
-        return fails(job, ask, 0o4);
-    }
-    let change = Change::Shut {
-        channel: number.value() as u8,
-    };
-    finishes_with(job, change, ArrayVec::new())
 }

@@ -4,22 +4,20 @@
 ghost use Rattle.std.specs.Prelude.{◌≡◌, None, OnOk};
 ghost use Rattle.its_core.specs.Cores.{reserved_at};
 
-use super::decided;
+use super::{finish, iot_in, iot_out, listen, open_tty, siot_in, siot_out, ttylnd};
 use arrayvec::ArrayVec;
+use call_basic::{channel, input};
 use its_core::Core;
-use its_frame::{Change, Decision, Exit, Held, Opened, Store, Wait};
+use its_frame::{CallName, Change, Decision, Exit, Held, Opened, Store, Wait};
 use its_jobs::Jobs;
-use its_word::{Ask, BYTE_HALF, Channel, Operand, Word, read_octal};
+use its_word::{Ask, BYTE_HALF, Channel, Job, Operand, Word, read_octal};
 use its_world::World;
 use std::alloc::Global;
 use std::process::Abort;
 use std::test::Fail;
 
 /// SIOT's tests, in their order.
-static TESTS: &str = "SIOT 1 0 - | 0 10700001000@320 3@321 | fails 4;
-SIOT 1 0 - | 20 10700001000@320 3@321 | fails 4;
-SIOT 1 0 - | 3 10700001000@320 3@321 | fails 5;
-SIOT 1 0 - | 1 10700001000 3@321 | fails 17;
+static TESTS: &str = "SIOT 1 0 - | 1 10700001000 3@321 | fails 17;
 SIOT 1 0 - | 1 10700001000@320 3 | fails 17;
 SIOT 1 0 - | 1 10700001000@320 10700001000@320 | fails 17;
 SIOT 1 0 - | 2 10700001000@330 3@321 | fails 17;
@@ -52,9 +50,7 @@ SIOT 1 0 2 | 1 10700001000@320 3@321 | waits input;
 .IOT 2 0 - | 1 | stores 310;
 .IOT 1 0 1 | 1 | stores 310;
 .IOT 0 0 - | 1 | waits input;
-.IOT 1 0 0 | 1 | waits input;
-.IOT 1 0 - | 0 | ioc;
-.IOT 1 0 - | 3 | ioc";
+.IOT 1 0 0 | 1 | waits input";
 
 /// Bytes to the console.
 static OUTPUT: &str = "SIOT 0 0 - | 2 440100001001@320 3@321 | puts 1 430100001001 2;
@@ -76,9 +72,6 @@ static OTHERS: &str = "OPEN 0 0 - | 0 646471000000 | opens 0;
 OPEN 0 0 - | 1 646471000000 | fails 4;
 OPEN 0 0 - | 20 646471000000 | fails 4;
 OPEN 0 0 - | 0 446353000000 | fails 5;
-CLOSE 0 0 - | 1 | shuts 1;
-CLOSE 0 0 - | 3 | shuts 3;
-CLOSE 0 0 - | 0 | fails 4;
 FINISH 0 0 - | 0 | fails 4;
 FINISH 0 0 - | 1 | fails 5;
 FINISH 0 1 - | 2 | waits drained;
@@ -97,9 +90,7 @@ TTYLND 0 0 1 | 3 | holds 2;
 TTYLND 0 0 - | 3 | fails 5;
 TTYLND 0 0 2 | 3 | fails 5;
 TTYLND 0 0 1 | 1 | fails 5;
-TTYLND 0 0 1 | 0 | fails 4;
-HANG 0 0 - | | waits hang;
-OTHER 0 0 - | | fails 1";
+TTYLND 0 0 1 | 0 | fails 4";
 
 /// Five characters of 7 bits, 101 to 105, from the left.
 const CHARACTERS: u64 = 0o406050_342212;
@@ -267,9 +258,9 @@ fn operand(rt: &impl Abort, text: &str) -> Operand {
 
 /// A call of slot 1 with these inputs. Its error address is 300, its output or the word of `.IOT` is at 310, and 330 is
 /// a decode word.
-fn ask(rt: &impl Abort, name: u64, inputs: &str) -> Ask {
+fn ask(rt: &impl Abort, name: CallName, inputs: &str) -> Ask {
     let mut ask = Ask {
-        name: Word::new(name),
+        name: name.word(),
         fail: 0,
         inputs: ArrayVec::new(),
         outputs: ArrayVec::new(),
@@ -291,19 +282,34 @@ fn ask(rt: &impl Abort, name: u64, inputs: &str) -> Ask {
     ask
 }
 
-/// The SIXBIT name of a call.
-fn sixbit(call: &str) -> u64 {
-    match call {
-        "HANG" => 0o504156470000,
-        "OPEN" => OPEN,
-        "CLOSE" => 0o435457634500,
-        ".IOT" => IOT,
-        "SIOT" => 0o635157640000,
-        "FINISH" => 0o465156516350,
-        "LISTEN" => 0o545163644556,
-        "TTYLND" => TTYLND,
-        _ => 0,
-    }
+/// A call by its name.
+fn call(rt: &impl Abort, name: Option<&str>) -> CallName {
+    let call = match name {
+        Some("OPEN") => Some(CallName::Open),
+        Some(".IOT") => Some(CallName::Iot),
+        Some("SIOT") => Some(CallName::Siot),
+        Some("FINISH") => Some(CallName::Finish),
+        Some("LISTEN") => Some(CallName::Listen),
+        Some("TTYLND") => Some(CallName::Ttylnd),
+        _ => None,
+    };
+    call.expect(rt, "a call on consoles")
+}
+
+/// What a call of slot 1 on a console comes to.
+fn decided(rt: &impl Abort, w: &World, job: &Job, ask: &Ask) -> Decision {
+    let decision = match (CallName::named(ask.name), channel(job, input(ask, 0))) {
+        (Some(CallName::Open), _) => Some(open_tty(w, 1, job, ask)),
+        (Some(CallName::Iot), Channel::TtyIn) => Some(iot_in(w, 1, job, ask)),
+        (Some(CallName::Iot), Channel::TtyOut) => Some(iot_out(w, 1, job, ask)),
+        (Some(CallName::Siot), Channel::TtyIn) => Some(siot_in(w, 1, job, ask)),
+        (Some(CallName::Siot), Channel::TtyOut) => Some(siot_out(w, 1, job, ask)),
+        (Some(CallName::Finish), _) => Some(finish(w, 1, job, ask)),
+        (Some(CallName::Listen), _) => Some(listen(w, 1, job, ask)),
+        (Some(CallName::Ttylnd), _) => Some(ttylnd(w, 1, job, ask)),
+        _ => None,
+    };
+    decision.expect(rt, "a channel on a console")
 }
 
 /// What waits for console 3.
@@ -334,7 +340,6 @@ fn wanted(rt: &impl Abort, text: &str) -> Decision {
     match kind {
         "fails" => ends(None, Some((0o300, first)), exit(0o201, 0)),
         "faults" => ends(None, None, exit(0o200, first.value())),
-        "ioc" => ends(None, None, exit(0o201, 0o20)),
         "gives" => ends(None, Some((0o310, first)), exit(0o202, 0)),
         "stores" => ends(
             Some(taken),
@@ -355,7 +360,6 @@ fn change(kind: &str, number: u8) -> Option<Change> {
             channel: number,
             on: Opened::TtyIn,
         }),
-        "shuts" => Some(Change::Shut { channel: number }),
         "holds" => Some(Change::Hold {
             console: 3,
             slot: number,
@@ -367,7 +371,7 @@ fn change(kind: &str, number: u8) -> Option<Change> {
 /// The call of slot 1 comes to what is wanted.
 fn comes_to(rt: &impl Abort, w: &World, ask: &Ask, wanted: &Decision, row: &str) {
     let job = w.jobs.job(1).expect(rt, "a job");
-    assert!(rt; decided(w, 1, job, ask) == *wanted, "{row}");
+    assert!(rt; decided(rt, w, job, ask) == *wanted, "{row}");
 }
 
 /// Makes the calls of rows.
@@ -375,7 +379,7 @@ fn make(rt: &impl Abort, w: &mut World, rows: &str) {
     for row in rows.split(';') {
         let mut fields = row.split('|');
         let mut start = fields.next().expect(rt, "a call").split_whitespace();
-        let name = sixbit(start.next().expect(rt, "a name"));
+        let name = call(rt, start.next());
         let (typed, put) = (small(rt, start.next()), small(rt, start.next()));
         let holder = match start.next() {
             Some("-") => None,
@@ -388,12 +392,6 @@ fn make(rt: &impl Abort, w: &mut World, rows: &str) {
         clear(w);
     }
 }
-
-const OPEN: u64 = 0o576045560000;
-
-const IOT: u64 = 0o515764000000;
-
-const TTYLND: u64 = 0o646471545644;
 
 #[test]
 fn tests_of_siot(rt: HostRuntime) -> Result<(), Fail> {
@@ -427,7 +425,7 @@ fn words_of_iot(rt: HostRuntime) -> Result<(), Fail> {
         ("2", 0o2000, "faults 4"),
         ("2", 0o4000, "shows 12"),
     ] {
-        let mut ask = ask(&rt, IOT, channel);
+        let mut ask = ask(&rt, CallName::Iot, channel);
         ask.outputs.clear();
         assert!(rt; ask.outputs.try_push(at).is_ok());
         comes_to(&rt, &w, &ask, &wanted(&rt, want), want);
@@ -435,11 +433,11 @@ fn words_of_iot(rt: HostRuntime) -> Result<(), Fail> {
     Ok(())
 }
 
-/// What is opened by the control argument, calls of a job without a console, and an error of the decoding.
+/// What is opened by the control argument, and calls of a job without a console.
 #[test]
 fn strays(rt: HostRuntime) -> Result<(), Fail> {
     let mut w = world(&rt, rt.alloc())?;
-    let mut open = ask(&rt, OPEN, "0 646471000000");
+    let mut open = ask(&rt, CallName::Open, "0 646471000000");
     open.control = Some(Word::new(1));
     let change = Change::Open {
         channel: 0,
@@ -459,7 +457,7 @@ fn strays(rt: HostRuntime) -> Result<(), Fail> {
         job.console = None;
     }
     comes_to(&rt, &w, &open, &wanted(&rt, "fails 5"), "no console");
-    let take = ask(&rt, TTYLND, "777777");
+    let take = ask(&rt, CallName::Ttylnd, "777777");
     comes_to(
         &rt,
         &w,
@@ -467,7 +465,5 @@ fn strays(rt: HostRuntime) -> Result<(), Fail> {
         &wanted(&rt, "fails 5"),
         "no console to take",
     );
-    open.fail = 3;
-    comes_to(&rt, &w, &open, &wanted(&rt, "fails 3"), "error 3");
     Ok(())
 }

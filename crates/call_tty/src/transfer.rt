@@ -1,4 +1,4 @@
-ghost use Rattle.std.specs.Prelude.{◌≡◌, ◌==◌, ◌<◌, ◌∷◌, ◌-◌, [], true, unwrap_or};
+ghost use Rattle.std.specs.Prelude.{◌≡◌, ◌==◌, ◌<◌, ◌∷◌, ◌-◌, [], true, false, slice_index_or, unwrap_or};
 ghost use Rattle.std.specs.Option.{option_to_list};
 ghost use Rattle.its_word.specs.Byte.{has_size, size};
 ghost use Rattle.its_frame.specs.declared.decision.Decision.TheVariants.{Ends, Goes};
@@ -7,19 +7,19 @@ ghost use Rattle.its_plain.specs.Tests.{goes};
 ghost use Rattle.its_word.specs.Limits.{slots};
 ghost use Rattle.its_core.specs.Cores.{core_at};
 ghost use Rattle.its_plain.specs.Arguments.{input};
-ghost use Rattle.its_plain.specs.CallTty.{iot, iot_in, iot_out, is_indexed, next_pointer, shown_byte, siot, siot_in, siot_out, siot_tests, word_bits};
+ghost use Rattle.its_plain.specs.CallTty.{iot_in, iot_out, is_indexed, next_pointer, shown_byte, siot_by, siot_in, siot_out, siot_tests, word_bits};
 ghost use Rattle.call_basic.specs.Seen.{seen_by};
 ghost use Rattle.call_tty.specs.Waiting.{bar_of, first_of};
 
 use super::consoles::{console_of, first_typed, input_waits, output_waits};
 use arrayvec::ArrayVec;
 use call_basic::{
-    channel, exit_after, fails, faults, finishes, input, ioc, is_negative, is_read_only,
-    is_shared_place, place_of_input,
+    exit_after, fails, faults, finishes, input, is_negative, is_read_only, is_shared_place,
+    place_of_input,
 };
 use its_bytes::{has_size, increment, load};
-use its_frame::{Change, Decision, Held, Store, Wait};
-use its_word::{Ask, Channel, Fault, Job, Word};
+use its_frame::{Change, Decision, Held, Store, Wait, error};
+use its_word::{Ask, Fault, Job, Word};
 use its_world::World;
 
 /// Bits 13 to 17 of a word are the low five bits of its left half: I and X of a byte pointer.
@@ -37,28 +37,14 @@ const WORD_BITS: u32 = 36;
 /// The bits of a byte that a console shows.
 const SHOWN: u64 = 0o177;
 
-/// `.IOT`: one byte between the console and the word at E, right-justified. IOC where the channel is on no
-/// console; MPV or WRO by the word.
-#[tactic(auto, using(call_basic::proofs::ChannelLaws::under), unfolding(its_plain::specs::CallTty::iot, its_plain::specs::View::view, its_world::specs::World::state_of))]
-pub(crate) fn iot(w: &World, slot: u8, job: &Job, ask: &Ask) -> Decision
-    requires { slot < slots }
-    ensures { result ≡ iot (seen_by w.now slot job.now ask.now) ask.now }
-{
-    let e = ask.outputs.first().copied().unwrap_or(0);
-    match channel(job, input(ask, 0)) {
-        Channel::TtyIn => iot_in(w, slot, job, ask, e),
-        Channel::TtyOut => iot_out(w, slot, job, ask, e),
-        _ => ioc(job),
-    }
-}
-
-/// `.IOT` from a console.
+/// `.IOT` from a console: its first byte becomes the word at E, right-justified. MPV or WRO by the word.
 #[tactic(auto, unfolding(its_plain::specs::View::view, its_world::specs::World::state_of))]
-fn iot_in(w: &World, slot: u8, job: &Job, ask: &Ask, e: u32) -> Decision
+pub fn iot_in(w: &World, slot: u8, job: &Job, ask: &Ask) -> Decision
     requires { slot < slots }
-    ensures { result ≡ iot_in (seen_by w.now slot job.now ask.now) e (unwrap_or job.now.console 0) }
+    ensures { result ≡ iot_in (seen_by w.now slot job.now ask.now) (slice_index_or ask.now.outputs.items 0 0) (unwrap_or job.now.console 0) }
 {
     let console = console_of(job);
+    let e = ask.outputs.first().copied().unwrap_or(0);
     if let Some(fault) = bar_of_store(w, slot, e) {
         return faults(job, fault);
     }
@@ -73,13 +59,14 @@ fn iot_in(w: &World, slot: u8, job: &Job, ask: &Ask, e: u32) -> Decision
     iot_ends(job, Some(Change::Take { console }), stores)
 }
 
-/// `.IOT` to a console.
+/// `.IOT` to a console: the byte in the word at E is put out. MPV by the word.
 #[tactic(auto, unfolding(its_plain::specs::View::view, its_world::specs::World::state_of))]
-fn iot_out(w: &World, slot: u8, job: &Job, ask: &Ask, e: u32) -> Decision
+pub fn iot_out(w: &World, slot: u8, job: &Job, ask: &Ask) -> Decision
     requires { slot < slots }
-    ensures { result ≡ iot_out (seen_by w.now slot job.now ask.now) e (unwrap_or job.now.console 0) }
+    ensures { result ≡ iot_out (seen_by w.now slot job.now ask.now) (slice_index_or ask.now.outputs.items 0 0) (unwrap_or job.now.console 0) }
 {
     let console = console_of(job);
+    let e = ask.outputs.first().copied().unwrap_or(0);
     let Some(word) = w.core.word(slot, e) else {
         return faults(job, Fault::Mpv);
     };
@@ -126,26 +113,25 @@ pub fn bar_of_store(w: &World, slot: u8, at: u32) -> Option<Fault>
     None
 }
 
-/// SIOT channel, pointer, count: one byte between the console and the core; pointer and count become those of
-/// the rest.
-#[tactic(auto, using(its_plain::proofs::SizeLaws::next_sized, call_basic::proofs::ChannelLaws::under), unfolding(its_plain::specs::CallTty::siot, its_plain::specs::View::view, its_world::specs::World::state_of))]
-pub(crate) fn siot(w: &World, slot: u8, job: &Job, ask: &Ask) -> Decision
+/// SIOT from a console: one byte, which is held and stored by the next step; pointer and count become those of the rest.
+pub fn siot_in(w: &World, slot: u8, job: &Job, ask: &Ask) -> Decision
     requires { slot < slots }
-    ensures { result ≡ siot (seen_by w.now slot job.now ask.now) ask.now }
+    ensures { result ≡ siot_by (seen_by w.now slot job.now ask.now) ask.now false false (siot_in (seen_by w.now slot job.now ask.now) ask.now (next_pointer (input ask.now 1)) (input ask.now 2) (unwrap_or job.now.console 0)) }
 {
-    match channel(job, input(ask, 0)) {
-        Channel::Closed => fails(job, ask, 0o4),
-        Channel::TtyIn => match stopped(w, slot, job, ask, false, false) {
-            Some(decision) => decision,
-            None => siot_in(w, slot, job, ask),
-        },
-        Channel::TtyOut => match stopped(w, slot, job, ask, false, false) {
-            Some(decision) => decision,
-            None => siot_out(w, slot, job, ask),
-        },
-        Channel::Reading { .. } => fails(job, ask, 0o5),
-        Channel::Writing { .. } => fails(job, ask, 0o5),
-        Channel::Usr { .. } => fails(job, ask, 0o5),
+    match stopped(w, slot, job, ask, false, false) {
+        Some(decision) => decision,
+        None => takes_byte(w, slot, job, ask),
+    }
+}
+
+/// SIOT to a console: one byte; pointer and count become those of the rest.
+pub fn siot_out(w: &World, slot: u8, job: &Job, ask: &Ask) -> Decision
+    requires { slot < slots }
+    ensures { result ≡ siot_by (seen_by w.now slot job.now ask.now) ask.now false false (siot_out (seen_by w.now slot job.now ask.now) ask.now (next_pointer (input ask.now 1)) (input ask.now 2) (unwrap_or job.now.console 0)) }
+{
+    match stopped(w, slot, job, ask, false, false) {
+        Some(decision) => decision,
+        None => puts_byte(w, slot, job, ask),
     }
 }
 
@@ -166,25 +152,25 @@ pub fn stopped(
     let (pointer, count) = (input(ask, 1), input(ask, 2));
     let (p, k) = (place_of_input(ask, 1), place_of_input(ask, 2));
     if is_shared_place(ask, p) || is_shared_place(ask, k) {
-        return Some(fails(job, ask, 0o17));
+        return Some(fails(job, ask, error::NO_WORD));
     }
     if is_read_only(w, slot, p) || is_read_only(w, slot, k) {
         return Some(faults(job, Fault::Wro));
     }
     if !has_size(pointer) || is_indexed(pointer) {
-        return Some(fails(job, ask, 0o21));
+        return Some(fails(job, ask, error::BAD_POINTER));
     }
     if words && !is_word_sized(pointer) {
-        return Some(fails(job, ask, 0o21));
+        return Some(fails(job, ask, error::BAD_POINTER));
     }
     if is_negative(count.value()) {
-        return Some(fails(job, ask, 0o22));
+        return Some(fails(job, ask, error::OUT_OF_RANGE));
     }
     if count == Word::ZERO || ended {
         return Some(finishes(job, ArrayVec::new()));
     }
     if call_basic::in_footprint(next_pointer(pointer).right(), ask) {
-        return Some(fails(job, ask, 0o20));
+        return Some(fails(job, ask, error::WORD_IN_USE));
     }
     None
 }
@@ -238,9 +224,9 @@ pub fn moves_with(
     }
 }
 
-/// SIOT from a console: the byte is held, and stored by the next step.
+/// SIOT from a console where no test of its arguments stops it.
 #[tactic(auto, unfolding(its_plain::specs::View::view, its_world::specs::World::state_of))]
-fn siot_in(w: &World, slot: u8, job: &Job, ask: &Ask) -> Decision
+fn takes_byte(w: &World, slot: u8, job: &Job, ask: &Ask) -> Decision
     requires { slot < slots }
     ensures { result ≡ siot_in (seen_by w.now slot job.now ask.now) ask.now (next_pointer (input ask.now 1)) (input ask.now 2) (unwrap_or job.now.console 0) }
 {
@@ -260,9 +246,9 @@ fn siot_in(w: &World, slot: u8, job: &Job, ask: &Ask) -> Decision
     moves(Change::Take { console }, Some(held), next, input(ask, 2))
 }
 
-/// SIOT to a console.
+/// SIOT to a console where no test of its arguments stops it.
 #[tactic(auto, unfolding(its_plain::specs::View::view, its_world::specs::World::state_of))]
-fn siot_out(w: &World, slot: u8, job: &Job, ask: &Ask) -> Decision
+fn puts_byte(w: &World, slot: u8, job: &Job, ask: &Ask) -> Decision
     requires slot { slot < slots }
     requires size { has_size (next_pointer (input ask.now 1)) ≡ true }
     ensures { result ≡ siot_out (seen_by w.now slot job.now ask.now) ask.now (next_pointer (input ask.now 1)) (input ask.now 2) (unwrap_or job.now.console 0) }

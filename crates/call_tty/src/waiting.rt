@@ -8,20 +8,20 @@ ghost use Rattle.call_tty.specs.Holding.{holds, may_take, outline_at};
 use super::consoles::{console_of, holder, output_left, typed};
 use arrayvec::ArrayVec;
 use call_basic::{channel, fails, finishes, finishes_with, input, is_oneself, store_at};
-use its_frame::{Change, Decision, Wait};
+use its_frame::{Change, Decision, Wait, error};
 use its_word::{Ask, Channel, Job, Word};
 use its_world::World;
 
 /// FINISH channel: waits until all output of the console is drained. Errors 4, 5.
 #[tactic(auto, using(call_basic::proofs::ChannelLaws::under), unfolding(its_plain::specs::CallTty::finish, its_plain::specs::View::view, its_world::specs::World::state_of))]
-pub(crate) fn finish(w: &World, slot: u8, job: &Job, ask: &Ask) -> Decision
+pub fn finish(w: &World, slot: u8, job: &Job, ask: &Ask) -> Decision
     requires { slot < slots }
     ensures { result ≡ finish (seen_by w.now slot job.now ask.now) ask.now }
 {
     match channel(job, input(ask, 0)) {
-        Channel::Closed => fails(job, ask, 0o4),
-        Channel::Reading { .. } => fails(job, ask, 0o5),
-        Channel::Writing { .. } => fails(job, ask, 0o5),
+        Channel::Closed => fails(job, ask, error::BAD_CHANNEL),
+        Channel::Reading { .. } => fails(job, ask, error::WRONG_DEVICE),
+        Channel::Writing { .. } => fails(job, ask, error::WRONG_DEVICE),
         Channel::TtyOut => {
             let console = console_of(job);
             if output_left(w, console) {
@@ -30,24 +30,24 @@ pub(crate) fn finish(w: &World, slot: u8, job: &Job, ask: &Ask) -> Decision
                 finishes(job, ArrayVec::new())
             }
         }
-        Channel::TtyIn => fails(job, ask, 0o5),
-        Channel::Usr { .. } => fails(job, ask, 0o5),
+        Channel::TtyIn => fails(job, ask, error::WRONG_DEVICE),
+        Channel::Usr { .. } => fails(job, ask, error::WRONG_DEVICE),
     }
 }
 
 /// LISTEN channel: waits likewise, and gives the number of bytes of input. Errors 4, 5.
 #[tactic(auto, using(call_basic::proofs::ChannelLaws::under), unfolding(its_plain::specs::CallTty::listen, its_plain::specs::View::view, its_world::specs::World::state_of))]
-pub(crate) fn listen(w: &World, slot: u8, job: &Job, ask: &Ask) -> Decision
+pub fn listen(w: &World, slot: u8, job: &Job, ask: &Ask) -> Decision
     requires { slot < slots }
     ensures { result ≡ listen (seen_by w.now slot job.now ask.now) ask.now }
 {
     match channel(job, input(ask, 0)) {
-        Channel::Closed => fails(job, ask, 0o4),
-        Channel::Reading { .. } => fails(job, ask, 0o5),
-        Channel::Writing { .. } => fails(job, ask, 0o5),
+        Channel::Closed => fails(job, ask, error::BAD_CHANNEL),
+        Channel::Reading { .. } => fails(job, ask, error::WRONG_DEVICE),
+        Channel::Writing { .. } => fails(job, ask, error::WRONG_DEVICE),
         Channel::TtyIn => listened(w, slot, job, ask),
         Channel::TtyOut => listened(w, slot, job, ask),
-        Channel::Usr { .. } => fails(job, ask, 0o5),
+        Channel::Usr { .. } => fails(job, ask, error::WRONG_DEVICE),
     }
 }
 
@@ -68,25 +68,25 @@ fn listened(w: &World, slot: u8, job: &Job, ask: &Ask) -> Decision
 /// TTYLND job: the job becomes the holder of the caller's console. Errors 4, 5; 5 where the caller has no
 /// console; for oneself 13 where a stranger holds it; for an inferior 5 where the caller does not hold it.
 #[tactic(auto, using(crate::proofs::HoldLaws::takes, crate::proofs::HoldLaws::holds_it, call_basic::proofs::ChannelLaws::under), unfolding(its_plain::specs::CallTty::ttylnd, its_plain::specs::View::view, its_world::specs::World::state_of))]
-pub(crate) fn ttylnd(w: &World, slot: u8, job: &Job, ask: &Ask) -> Decision
+pub fn ttylnd(w: &World, slot: u8, job: &Job, ask: &Ask) -> Decision
     requires { slot < slots }
     ensures { result ≡ ttylnd (seen_by w.now slot job.now ask.now) ask.now }
 {
     let party = input(ask, 0);
     if is_oneself(party) {
         let may = can_take(w, slot, console_of(job));
-        return lands(w, slot, job, ask, may, 0o13, slot);
+        return lands(w, slot, job, ask, may, error::NOT_INFERIOR, slot);
     }
     match channel(job, party) {
-        Channel::Closed => fails(job, ask, 0o4),
-        Channel::Reading { .. } => fails(job, ask, 0o5),
-        Channel::Writing { .. } => fails(job, ask, 0o5),
+        Channel::Closed => fails(job, ask, error::BAD_CHANNEL),
+        Channel::Reading { .. } => fails(job, ask, error::WRONG_DEVICE),
+        Channel::Writing { .. } => fails(job, ask, error::WRONG_DEVICE),
         Channel::Usr { slot: inferior, .. } => {
             let may = is_holder(w, slot, console_of(job));
-            lands(w, slot, job, ask, may, 0o5, inferior)
+            lands(w, slot, job, ask, may, error::WRONG_DEVICE, inferior)
         }
-        Channel::TtyIn => fails(job, ask, 0o5),
-        Channel::TtyOut => fails(job, ask, 0o5),
+        Channel::TtyIn => fails(job, ask, error::WRONG_DEVICE),
+        Channel::TtyOut => fails(job, ask, error::WRONG_DEVICE),
     }
 }
 
@@ -122,15 +122,15 @@ fn is_holder(w: &World, slot: u8, console: u8) -> bool
 
 /// A job becomes the holder of the caller's console, where it may.
 #[tactic(auto, unfolding(its_plain::specs::View::view, its_world::specs::World::state_of))]
-fn lands(w: &World, slot: u8, job: &Job, ask: &Ask, may: bool, error: u8, holder: u8) -> Decision
+fn lands(w: &World, slot: u8, job: &Job, ask: &Ask, may: bool, number: u8, holder: u8) -> Decision
     requires { slot < slots }
-    ensures { result ≡ lands (seen_by w.now slot job.now ask.now) ask.now may error holder }
+    ensures { result ≡ lands (seen_by w.now slot job.now ask.now) ask.now may number holder }
 {
     if job.console.is_none() {
-        return fails(job, ask, 0o5);
+        return fails(job, ask, error::WRONG_DEVICE);
     }
     if !may {
-        return fails(job, ask, error);
+        return fails(job, ask, number);
     }
     let change = Change::Hold {
         console: console_of(job),

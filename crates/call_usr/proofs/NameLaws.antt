@@ -21,7 +21,7 @@ use Rattle.call_basic.specs.Seen.{seen_by}
 use Rattle.call_tty.specs.Channels.{is_free}
 use Rattle.call_tty.specs.Waiting.{first_of}
 use Rattle.call_tty.proofs.ChannelLaws.{free}
-use Rattle.call_file.proofs.StopLaws.{unstopped}
+use Rattle.call_tty.proofs.StopLaws.{unstopped}
 
 -- the channel is free, and the control argument is 0 or 1
 seen_free : (w : World) (s : ℕ) (j : Job) (a : Ask) (n : ℕ) → is_free j n ≡ (nat_lt n 16 && is_shut (channel_at (seen_by w s j a).own.channels n))

@@ -17,7 +17,7 @@ ghost use Rattle.call_usr.specs.Targets.{Targets};
 
 use arrayvec::ArrayVec;
 use call_basic::{channel, fails, finishes, finishes_with, has_input, input, output};
-use its_frame::{Change, Decision};
+use its_frame::{Change, Decision, error};
 use its_word::{Ask, Channel, Job, Word};
 use its_world::World;
 
@@ -27,7 +27,7 @@ const HIGHEST: u64 = 0o777777;
 /// USRMEM channel, address, optional new word: the output gets the word of the inferior, and then the new one is stored.
 /// Errors 4, 5, 22; 5 where the channel has no leave to write, 16 where the word is absent or cannot be stored.
 #[tactic(auto, using(call_basic::proofs::ChannelLaws::under), unfolding(its_plain::specs::CallUsr::usrmem, its_plain::specs::View::view, its_world::specs::World::state_of))]
-pub(crate) fn usrmem(w: &World, slot: u8, job: &Job, ask: &Ask) -> Decision
+pub fn usrmem(w: &World, slot: u8, job: &Job, ask: &Ask) -> Decision
     requires slot { slot < slots }
     requires fail { ask.now.fail ≡ 0 }
     requires name { call_named ask.now.name ≡ Some Usrmem }
@@ -36,16 +36,16 @@ pub(crate) fn usrmem(w: &World, slot: u8, job: &Job, ask: &Ask) -> Decision
     ensures { result ≡ usrmem (seen_by w.now slot job.now ask.now) ask.now }
 {
     match channel(job, input(ask, 0)) {
-        Channel::Closed => fails(job, ask, 0o4),
+        Channel::Closed => fails(job, ask, error::BAD_CHANNEL),
         Channel::Usr {
             slot: inferior,
             write,
             at,
         } => usrmem_on(w, slot, job, ask, inferior, write, at),
-        Channel::TtyIn => fails(job, ask, 0o5),
-        Channel::TtyOut => fails(job, ask, 0o5),
-        Channel::Reading { .. } => fails(job, ask, 0o5),
-        Channel::Writing { .. } => fails(job, ask, 0o5),
+        Channel::TtyIn => fails(job, ask, error::WRONG_DEVICE),
+        Channel::TtyOut => fails(job, ask, error::WRONG_DEVICE),
+        Channel::Reading { .. } => fails(job, ask, error::WRONG_DEVICE),
+        Channel::Writing { .. } => fails(job, ask, error::WRONG_DEVICE),
     }
 }
 
@@ -66,17 +66,17 @@ fn usrmem_on(
     let address = input(ask, 1).value();
     let new = has_input(ask, 2);
     if address > HIGHEST {
-        return fails(job, ask, 0o22);
+        return fails(job, ask, error::OUT_OF_RANGE);
     }
     if new && !write {
-        return fails(job, ask, 0o5);
+        return fails(job, ask, error::WRONG_DEVICE);
     }
     let address = address as u32;
     let Some(word) = w.core.word(inferior, address) else {
-        return fails(job, ask, 0o16);
+        return fails(job, ask, error::BAD_PAGE);
     };
     if new && !w.core.is_storable(inferior, address) {
-        return fails(job, ask, 0o16);
+        return fails(job, ask, error::BAD_PAGE);
     }
     set_word(job, ask, inferior, address, word)
 }
@@ -99,17 +99,17 @@ fn set_word(job: &Job, ask: &Ask, inferior: u8, at: u32, word: Word) -> Decision
 
 /// UCLOSE channel: the inferior and all jobs below it are removed. Errors 4, 5.
 #[tactic(auto, using(call_basic::proofs::ChannelLaws::under), unfolding(its_plain::specs::CallUsr::uclose, its_plain::specs::View::view, its_world::specs::World::state_of))]
-pub(crate) fn uclose(w: &World, slot: u8, job: &Job, ask: &Ask) -> Decision
+pub fn uclose(w: &World, slot: u8, job: &Job, ask: &Ask) -> Decision
     ensures { result ≡ uclose (seen_by w.now slot job.now ask.now) ask.now }
 {
     match channel(job, input(ask, 0)) {
-        Channel::Closed => fails(job, ask, 0o4),
+        Channel::Closed => fails(job, ask, error::BAD_CHANNEL),
         Channel::Usr { slot: inferior, .. } => {
             finishes_with(job, Change::Remove { slot: inferior }, ArrayVec::new())
         }
-        Channel::TtyIn => fails(job, ask, 0o5),
-        Channel::TtyOut => fails(job, ask, 0o5),
-        Channel::Reading { .. } => fails(job, ask, 0o5),
-        Channel::Writing { .. } => fails(job, ask, 0o5),
+        Channel::TtyIn => fails(job, ask, error::WRONG_DEVICE),
+        Channel::TtyOut => fails(job, ask, error::WRONG_DEVICE),
+        Channel::Reading { .. } => fails(job, ask, error::WRONG_DEVICE),
+        Channel::Writing { .. } => fails(job, ask, error::WRONG_DEVICE),
     }
 }

@@ -7,7 +7,7 @@ ghost use Rattle.its_frame.specs.declared.change.Opened.TheVariants.{Usr};
 ghost use Rattle.its_frame.specs.declared.decision.Decision.TheVariants.{Ends};
 ghost use Rattle.its_plain.specs.Arguments.{input};
 ghost use Rattle.its_plain.specs.CallTty.{is_superior};
-ghost use Rattle.its_plain.specs.CallUsr.{any_named, has_names, inferior_named, makes_job, opens_job, opens_usr};
+ghost use Rattle.its_plain.specs.CallUsr.{any_named, has_names, inferior_named, makes_job, opens_job, opens_usr, usr_device};
 ghost use Rattle.its_plain.specs.Own.{advanced, exit_of};
 ghost use Rattle.call_basic.specs.Seen.{seen_by};
 ghost use Rattle.call_tty.specs.Holding.{outline_at};
@@ -15,24 +15,24 @@ ghost use Rattle.call_tty.specs.Holding.{outline_at};
 use arrayvec::ArrayVec;
 use call_basic::{exit_after, fails, finishes_with, input};
 use call_tty::{control, is_free, is_superior};
-use its_frame::{Change, Decision, Opened};
+use its_frame::{Change, Decision, Opened, error};
 use its_word::{Ask, Job, Word};
 use its_world::World;
 
 /// OPEN channel, USR, user name, job name: the caller's inferior with these names. Errors 4, 22; 13 where they are those of
 /// another job, 12 for input where no job has them, 14 where all slots have jobs.
 #[tactic(auto, using(call_tty::proofs::ChannelLaws::free), unfolding(its_plain::specs::CallUsr::opens_usr, its_plain::specs::View::view, its_world::specs::World::state_of))]
-pub(crate) fn open_usr(w: &World, slot: u8, job: &Job, ask: &Ask) -> Decision
+pub fn open_usr(w: &World, slot: u8, job: &Job, ask: &Ask) -> Decision
     requires { slot < slots }
     ensures { result ≡ opens_usr (seen_by w.now slot job.now ask.now) ask.now }
 {
     let number = input(ask, 0);
     let control = control(ask);
     if !is_free(job, number) {
-        return fails(job, ask, 0o4);
+        return fails(job, ask, error::BAD_CHANNEL);
     }
     if control > 1 {
-        return fails(job, ask, 0o22);
+        return fails(job, ask, error::OUT_OF_RANGE);
     }
     opens_job(w, slot, job, ask, number.value() as u8, control == 1)
 }
@@ -52,10 +52,10 @@ fn opens_job(w: &World, slot: u8, job: &Job, ask: &Ask, n: u8, write: bool) -> D
         return finishes_with(job, Change::Open { channel: n, on }, ArrayVec::new());
     }
     if any_named(w, slot, job, ask, u, x) {
-        return fails(job, ask, 0o13);
+        return fails(job, ask, error::NOT_INFERIOR);
     }
     if !write {
-        return fails(job, ask, 0o12);
+        return fails(job, ask, error::NO_JOB);
     }
     makes_job(w, slot, job, ask, n, u, x)
 }
@@ -67,7 +67,7 @@ fn makes_job(w: &World, slot: u8, job: &Job, ask: &Ask, n: u8, u: Word, x: Word)
 {
     match w.jobs.free() {
         Some(free) => made(job, n, free, u, x),
-        None => fails(job, ask, 0o14),
+        None => fails(job, ask, error::NO_SLOT),
     }
 }
 
@@ -119,4 +119,14 @@ fn has_names(w: &World, slot: u8, u: Word, x: Word) -> bool
         Some(job) => job.uname == u && job.jname == x,
         None => false,
     }
+}
+
+/// The device of inferiors, in SIXBIT.
+const USR: u64 = 0o656362000000;
+
+/// Whether the device of OPEN is USR.
+pub fn is_usr(ask: &Ask) -> bool
+    ensures { result ≡ (input ask.now 1 == usr_device) }
+{
+    input(ask, 1).value() == USR
 }

@@ -13,7 +13,7 @@ use arrayvec::ArrayVec;
 use call_basic::{exit_after, fails, faults, input, ioc, store_at};
 use call_tty::{bar_of_store, iot_ends, moves, moves_with, next_pointer, stopped};
 use its_bytes::load;
-use its_frame::{Change, Decision, Held};
+use its_frame::{Change, Decision, Held, error};
 use its_word::{ADDRESSES, Ask, Fault, Job, Word};
 use its_world::World;
 
@@ -28,7 +28,7 @@ fn at_end(at: u32) -> bool
 }
 
 /// `.IOT` through a channel on an inferior: into it, where the channel has leave to write, else from it.
-pub(crate) fn iot_through(
+pub fn iot_through(
     w: &World,
     slot: u8,
     job: &Job,
@@ -116,7 +116,7 @@ fn poke_and_move(ask: &Ask, inferior: u8, at: u32, word: Word) -> ArrayVec<Chang
 }
 
 /// SIOT through a channel on an inferior: into it, where the channel has leave to write, else from it.
-pub(crate) fn siot_through(
+pub fn siot_through(
     w: &World,
     slot: u8,
     job: &Job,
@@ -163,7 +163,7 @@ fn siot_peeks(w: &World, slot: u8, job: &Job, ask: &Ask, at: u32, word: Option<W
         return faults(job, fault);
     }
     let Some(word) = word else {
-        return fails(job, ask, 0o16);
+        return fails(job, ask, error::BAD_PAGE);
     };
     let held = Held { place, byte: word };
     let change = Change::Move {
@@ -187,7 +187,7 @@ fn siot_into(w: &World, slot: u8, job: &Job, ask: &Ask, inferior: u8, at: u32) -
 }
 
 /// The same where no test of its arguments stops it.
-#[tactic(auto, using(call_file::proofs::StopLaws::loaded_fits, crate::proofs::OtherLaws::other_here), unfolding(its_plain::specs::View::view, its_world::specs::World::state_of))]
+#[tactic(auto, using(call_tty::proofs::StopLaws::loaded_fits, crate::proofs::OtherLaws::other_here), unfolding(its_plain::specs::View::view, its_world::specs::World::state_of))]
 fn siot_pokes(w: &World, slot: u8, job: &Job, ask: &Ask, inferior: u8, at: u32) -> Decision
     requires slot { slot < slots }
     requires below { at < 2 ^ 18 }
@@ -200,7 +200,7 @@ fn siot_pokes(w: &World, slot: u8, job: &Job, ask: &Ask, inferior: u8, at: u32) 
         return faults(job, Fault::Mpv);
     };
     if !w.core.is_storable(inferior, at) {
-        return fails(job, ask, 0o16);
+        return fails(job, ask, error::BAD_PAGE);
     }
     let changes = poke_and_move(ask, inferior, at, Word::new(load(next, word)));
     moves_with(changes, None, next, input(ask, 2))

@@ -11,7 +11,7 @@ use super::block::{has_bit_0, parse_block};
 use super::sorting::sort;
 use arrayvec::ArrayVec;
 use its_core::Core;
-use its_frame::{CallName, CallRow};
+use its_frame::{CallName, CallRow, error};
 use its_word::{ADDRESSES, Arg, Ask, Block, Fault, Operand, Site, Word};
 
 /// The row of a call that a block can name: any but `.IOT`, which has none.
@@ -33,12 +33,12 @@ fn error_by(row: Option<CallRow>, inputs: usize, outputs: usize, excess: bool) -
     ensures { result ≡ error_by row inputs outputs excess }
 {
     let Some(r) = row else {
-        return 1;
+        return error::NO_CALL;
     };
     if inputs < r.least_in || outputs < r.least_out {
-        2
+        error::TOO_FEW
     } else if inputs > r.most_in || outputs > r.most_out || excess {
-        3
+        error::TOO_MANY
     } else {
         0
     }

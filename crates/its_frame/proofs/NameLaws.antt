@@ -5,7 +5,7 @@ use Rattle.std.proofs.lemmas.Bool.{eqb-true}
 use Rattle.std.proofs.lemmas.List.{drop_more}
 use Rattle.std.proofs.Math.ListN.{drop_of_length-le}
 use Rattle.its_frame.specs.declared.name.CallName.{CallName}
-use Rattle.its_frame.specs.declared.name.CallName.TheVariants.{Hang, Sleep, Dismis, Usrvar, Logout, Open, Close, Iot, Siot, Finish, Listen, Ttylnd, Access, Fillen, Delete, Rename, Usrmem, Uclose, Corblk}
+use Rattle.its_frame.specs.declared.name.CallName.TheVariants.{Hang}
 use Rattle.its_frame.specs.Calls.{sixbit, calls, call_named}
 
 -- the table is searched row by row
@@ -48,21 +48,4 @@ name_is w n e = sym (found_has w calls n e)
 pub named : (n : CallName) → call_named (sixbit n) ≡ Some n
 unfolding call_named sixbit
 named Hang = refl
-named Sleep = refl
-named Dismis = refl
-named Usrvar = refl
-named Logout = refl
-named Open = refl
-named Close = refl
-named Iot = refl
-named Siot = refl
-named Finish = refl
-named Listen = refl
-named Ttylnd = refl
-named Access = refl
-named Fillen = refl
-named Delete = refl
-named Rename = refl
-named Usrmem = refl
-named Uclose = refl
-named Corblk = refl
+named _ = refl

@@ -5,6 +5,7 @@
 
 mod change;
 mod decision;
+pub mod error;
 mod frame;
 mod name;
 mod variable;

@@ -1,5 +1,5 @@
 -- What calls decide can be made: those on jobs and times, on consoles and on files.
-use Rattle.std.specs.Prelude.{if◌then◌else◌, ◌||◌, ◌&&◌, ◌==◌, ◌≡◌, ◌<◌, ℕ, ◌+◌, ◌-◌, Bool, true, false, not, Option, Some, None, IfSome, is_some, List, [], slice_get, option_map, ◌∷◌, ◌++◌, length, slice_index_or, unwrap_or, Result, Ok, Err, nat_lt, refl}
+use Rattle.std.specs.Prelude.{if◌then◌else◌, ◌||◌, ◌&&◌, ◌==◌, ◌≡◌, ◌<◌, ℕ, ◌+◌, ◌-◌, Bool, true, false, not, Option, Some, None, IfSome, is_some, List, [], option_map, ◌∷◌, ◌++◌, length, unwrap_or, Result, Ok, Err, nat_lt, refl}
 use Rattle.std.proofs.Common.{sym, ◌∙◌, ap, subst, arith}
 use Rattle.std.proofs.lemmas.Bool.{ltb-true}
 use Rattle.its_word.specs.Byte.{load_of}
@@ -13,25 +13,22 @@ use Rattle.its_frame.specs.declared.change.Opened.{Opened}
 use Rattle.its_frame.specs.declared.change.Opened.TheVariants as opened
 use Rattle.its_frame.specs.declared.decision.Decision.{Decision}
 use Rattle.its_frame.specs.declared.decision.Decision.TheVariants.{Waits, Goes, Ends, Gone}
-use Rattle.its_frame.specs.declared.decision.Wait.TheVariants.{Input, Output, Drained}
-use Rattle.its_frame.specs.declared.name.CallName.{CallName}
-use Rattle.its_frame.specs.declared.name.CallName.TheVariants.{Hang, Sleep, Dismis, Usrvar, Logout, Open, Close, Iot, Siot, Finish, Listen, Ttylnd, Access, Fillen, Delete, Rename}
+use Rattle.its_frame.specs.declared.decision.Wait.TheVariants.{Input, Output}
 use Rattle.its_frame.specs.declared.variable.Variable.{Variable}
 use Rattle.its_plain.specs.Arguments.{input, has_input, place_of_input}
-use Rattle.its_plain.specs.CallBasic.{negated, sleep_tests, sleep, dismissed_by, dismiss_at, dismiss, Party, Oneself, Nobody, Channel, variable_named, by_oneself, by_superior, channel_at, ioc, party, set_own, own_variable, set_other, value_of_other, other_variable, usrvar_of, usrvar, told_superior}
-use Rattle.its_plain.specs.CallTty.{console_of, has_console, is_other, input_waits, output_waits, output_left, first_typed, shown_byte, is_shut, opens_on, open_tests, opens, close_on, closes, store_tests, read_tests, word_of, iot_ends, iot_in, iot_out, iot_on, iot, next_pointer, siot_tests, siot_in, siot_out, siot_by, siot_on, siot, finish_on, finish, listens, listen_on, listen, can_take, is_holder, lands, ttylnd_of, ttylnd}
+use Rattle.its_plain.specs.CallBasic.{negated, sleep_tests, sleep, dismissed_by, dismiss_at, dismiss, Party, Oneself, Nobody, Channel, variable_named, by_oneself, by_superior, channel_at, party, set_own, own_variable, set_other, value_of_other, other_variable, usrvar_of, usrvar, told_superior}
+use Rattle.its_plain.specs.CallTty.{console_of, has_console, is_other, input_waits, output_waits, first_typed, shown_byte, is_shut, opens_on, open_tests, opens, store_tests, read_tests, word_of, iot_ends, iot_in, iot_out, siot_tests, siot_in, siot_out, siot_by, can_take, is_holder, lands, ttylnd_of, ttylnd}
 use Rattle.its_plain.specs.Change.{channel_in}
 use Rattle.its_plain.specs.Interrupt.{dismissed}
 use Rattle.its_plain.specs.Machine.{Names, File, Chan, Shut, TtyIn, TtyOut, Reads, Writes, On, Console, Whole}
 use Rattle.its_plain.specs.Own.{names_of}
-use Rattle.its_plain.specs.CallFile.{most_files, disk_device, channels_by, channels_in, is_full, has_file, is_read, words_of, names_from, is_output, opens_as, disk_tests, opens_disk, closes_draft, iot_read, siot_read, siot_write, access_on, access, fillen_on, fillen, file_tests, delete, rename, open_by, open_call, close_by, close_call, iot_by, iot_call, siot_to, siot_call, access_to, end_of_core}
+use Rattle.its_plain.specs.CallFile.{most_files, channels_by, channels_in, is_full, has_file, is_read, words_of, names_from, is_output, opens_as, disk_tests, opens_disk, closes_draft, iot_read, siot_read, siot_write, access_on, access, file_tests, delete, rename, access_to, end_of_core}
 use Rattle.its_plain.specs.OperatorFiles.{channels_of}
 use Rattle.its_plain.specs.Tests.{◌⇒◌, finishes, fails, goes, out}
 use Rattle.its_plain.specs.View.{View, outline, Outline}
-use Rattle.its_plain.specs.Decide.{file_by}
-use Rattle.its_stepped.specs.Tick.{is_disk, helps_by}
 use Rattle.its_stepped.specs.Commit.{effect_on}
 use Rattle.its_stepped.specs.State.{State}
+use Rattle.its_stepped.proofs.CallWays.{Answering}
 use Rattle.its_stepped.proofs.TestLaws.{by_test, first_holds}
 use Rattle.its_world.specs.Storage.{HasJob, chan_in, IsDraft, Unread, HasRoom, Closes}
 use Rattle.its_pclsr.specs.Built.{CanOpen, CanMake, CanMakeAll}
@@ -56,7 +53,7 @@ or_first : (b c : Bool) → (b || c) ≡ false → b ≡ false
 or_first true c h = cc
 or_first false c h = refl
 
-abbrev IsOpen : Chan → Type 0
+abbrev pub IsOpen : Chan → Type 0
 IsOpen Shut = ⊥
 IsOpen _ = Unit {0}
 
@@ -118,7 +115,7 @@ below_eight : (o : Option ℕ) → IfSome o (λ c. c < 8) → unwrap_or o 0 < 8
 below_eight (Some c) h = h
 below_eight None h = omega arith
 
-console_below : (x : View) (v : State) (j : ℕ) → Sees x v j → console_of x < 8
+pub console_below : (x : View) (v : State) (j : ℕ) → Sees x v j → console_of x < 8
 console_below x v j s = below_eight x.own.job.console s.own
 
 has_room : (x : View) (v : State) (j i : ℕ) → Sees x v j → output_waits x i ≡ false → length (v.raw.consoles i).output < most_waiting
@@ -131,7 +128,7 @@ has_room x v j i s h =
 abbrev pub Can : ℕ → State → Decision → Type 0
 Can j v d = DecisionCan d j v
 
-sleep_can : (j : ℕ) (v : State) (x : View) (a : Ask) → Can j v (sleep x a)
+pub sleep_can : (j : ℕ) (v : State) (x : View) (a : Ask) → Can j v (sleep x a)
 unfolding sleep
 sleep_can j v x a =
     first_holds (Can j v) (sleep_tests x a (input a 0) (place_of_input a 0)) (goes [] None (negated (x.clock + input a 0) ∷ []))
@@ -141,7 +138,7 @@ dismissed_can : (j : ℕ) (v : State) (x : View) (p w : ℕ) (r : Result Exit Fa
 dismissed_can j v x p w (Ok e) = tt
 dismissed_can j v x p w (Err f) = tt
 
-dismiss_can : (j : ℕ) (v : State) (x : View) (a : Ask) → Can j v (dismiss x a)
+pub dismiss_can : (j : ℕ) (v : State) (x : View) (a : Ask) → Can j v (dismiss x a)
 unfolding dismiss
 dismiss_can j v x a = go (place_of_input a 0)
   where
@@ -171,7 +168,7 @@ other_variable_can j v x a k write (Some y) =
     (finishes x (set_other k y (input a 2) (has_input a 2)) (out a.outputs.items (value_of_other k y x.other)))
     (λ t. tt, (λ t. tt, tt)) (λ t. set_can j v k y (input a 2) (has_input a 2))
 
-usrvar_can : (j : ℕ) (v : State) (x : View) (a : Ask) → Can j v (usrvar x a)
+pub usrvar_can : (j : ℕ) (v : State) (x : View) (a : Ask) → Can j v (usrvar x a)
 unfolding usrvar
 usrvar_can j v x a = go (party x (input a 0))
   where
@@ -185,7 +182,7 @@ usrvar_can j v x a = go (party x (input a 0))
     go (Channel (Reads f at)) = tt
     go (Channel (Writes f)) = tt
 
-told_can : (j : ℕ) (v : State) (o : Option ℕ) → CanMakeAll (told_superior o) j v
+pub told_can : (j : ℕ) (v : State) (o : Option ℕ) → CanMakeAll (told_superior o) j v
 told_can j v (Some k) = (tt, tt)
 told_can j v None = tt
 
@@ -196,7 +193,7 @@ opening x v j n on s t can =
     let shut : channel_at x.own.channels n ≡ Shut = shut_is (channel_at x.own.channels n) (and_second (nat_lt n 16) (is_shut (channel_at x.own.channels n)) t) in
     (ltb-true n 16 l, has_job x v j s, chan_is x v j n Shut s l shut, can)
 
-opens_can : (j : ℕ) (v : State) (x : View) (a : Ask) → Sees x v j → Can j v (opens x a)
+pub opens_can : (j : ℕ) (v : State) (x : View) (a : Ask) → Sees x v j → Can j v (opens x a)
 unfolding opens
 opens_can j v x a s =
     let n = input a 0 in
@@ -205,58 +202,25 @@ opens_can j v x a s =
     (λ t. tt, (λ t. tt, (λ t. tt, (λ t. tt, tt))))
     (λ t. (opening x v j n (opens_on control) s t.0 (opened_can (control == 1) v), tt))
 
-closes_can : (j : ℕ) (v : State) (x : View) (a : Ask) → Can j v (closes x a)
-unfolding closes
-closes_can j v x a = go (channel_at x.own.channels (input a 0)) refl
-  where
-    n : ℕ
-    n = input a 0
-
-    number : (c : Chan) → channel_at x.own.channels n ≡ c → IsOpen c → n < 16
-    number c e h = open_number x.own.channels n c e h
-
-    go : (c : Chan) → channel_at x.own.channels n ≡ c → Can j v (close_on x a c)
-    go Shut e = tt
-    go TtyIn e = (number TtyIn e tt, tt)
-    go TtyOut e = (number TtyOut e tt, tt)
-    go (Reads f at) e = (number (Reads f at) e tt, tt)
-    go (Writes f) e = (number (Writes f) e tt, tt)
-    go (On k write at) e = (number (On k write at) e tt, tt)
-
 -- `.IOT`
-iot_in_can : (j : ℕ) (v : State) (x : View) (e i : ℕ) → i < 8 → Can j v (iot_in x e i)
+pub iot_in_can : (j : ℕ) (v : State) (x : View) (e i : ℕ) → i < 8 → Can j v (iot_in x e i)
 iot_in_can j v x e i l =
     first_holds (Can j v) (store_tests x e ++ (input_waits x i ⇒ Waits (Input i) ∷ [])) (iot_ends x (changes.Take i ∷ []) (record { at = e; word = first_typed x i } ∷ []))
     (λ t. tt, (λ t. tt, (λ t. tt, tt))) (λ t. (l, tt))
 
-iot_out_can : (j : ℕ) (v : State) (x : View) (e i : ℕ) → i < 8 → Sees x v j → Can j v (iot_out x e i)
+pub iot_out_can : (j : ℕ) (v : State) (x : View) (e i : ℕ) → i < 8 → Sees x v j → Can j v (iot_out x e i)
 iot_out_can j v x e i l s =
     first_holds (Can j v) (read_tests x e ++ (output_waits x i ⇒ Waits (Output i) ∷ [])) (iot_ends x (changes.Put i (shown_byte (word_of x e)) ∷ []) [])
     (λ t. tt, (λ t. tt, tt)) (λ t. ((l, has_room x v j i s t.1.0), tt))
 
-iot_can : (j : ℕ) (v : State) (x : View) (a : Ask) → Sees x v j → Can j v (iot x a)
-unfolding iot
-iot_can j v x a s = go (channel_at x.own.channels (input a 0))
-  where
-    e : ℕ
-    e = slice_index_or a.outputs.items 0 0
-
-    go : (c : Chan) → Can j v (iot_on x e c)
-    go TtyIn = iot_in_can j v x e (console_of x) (console_below x v j s)
-    go TtyOut = iot_out_can j v x e (console_of x) (console_below x v j s) s
-    go Shut = tt
-    go (Reads f at) = tt
-    go (Writes f) = tt
-    go (On k write at) = tt
-
 -- SIOT
-siot_in_can : (j : ℕ) (v : State) (x : View) (a : Ask) (next k i : ℕ) → i < 8 → Can j v (siot_in x a next k i)
+pub siot_in_can : (j : ℕ) (v : State) (x : View) (a : Ask) (next k i : ℕ) → i < 8 → Can j v (siot_in x a next k i)
 siot_in_can j v x a next k i l =
     first_holds (Can j v) (store_tests x (right_of next) ++ (input_waits x i ⇒ Waits (Input i) ∷ []))
     (goes (changes.Take i ∷ []) (Some (record { place = right_of next; byte = first_typed x i })) (next ∷ (k - 1) ∷ []))
     (λ t. tt, (λ t. tt, (λ t. tt, tt))) (λ t. (l, tt))
 
-siot_out_can : (j : ℕ) (v : State) (x : View) (a : Ask) (next k i : ℕ) → i < 8 → Sees x v j → Can j v (siot_out x a next k i)
+pub siot_out_can : (j : ℕ) (v : State) (x : View) (a : Ask) (next k i : ℕ) → i < 8 → Sees x v j → Can j v (siot_out x a next k i)
 siot_out_can j v x a next k i l s =
     first_holds (Can j v) (read_tests x (right_of next) ++ (output_waits x i ⇒ Waits (Output i) ∷ []))
     (goes (changes.Put i (shown_byte (load_of next (word_of x (right_of next)))) ∷ []) None (next ∷ (k - 1) ∷ []))
@@ -266,60 +230,13 @@ pub siot_by_can : (j : ℕ) (v : State) (x : View) (a : Ask) (words ended : Bool
 siot_by_can j v x a words ended d h =
     first_holds (Can j v) (siot_tests x a (input a 1) (input a 2) words ended) d (λ t. tt, (λ t. tt, (λ t. tt, (λ t. tt, (λ t. tt, (λ t. tt, (λ t. tt, (λ t. tt, tt)))))))) (λ t. h t.1.1.1.1.1.1.0)
 
-siot_can : (j : ℕ) (v : State) (x : View) (a : Ask) → Sees x v j → Can j v (siot x a)
-unfolding siot
-siot_can j v x a s = go (channel_at x.own.channels (input a 0))
-  where
-    p : ℕ
-    p = input a 1
-
-    k : ℕ
-    k = input a 2
-
-    go : (c : Chan) → Can j v (siot_on x a c)
-    go TtyIn = siot_by_can j v x a false false (siot_in x a (next_pointer p) k (console_of x)) (λ e. siot_in_can j v x a (next_pointer p) k (console_of x) (console_below x v j s))
-    go TtyOut = siot_by_can j v x a false false (siot_out x a (next_pointer p) k (console_of x)) (λ e. siot_out_can j v x a (next_pointer p) k (console_of x) (console_below x v j s) s)
-    go Shut = tt
-    go (Reads f at) = tt
-    go (Writes f) = tt
-    go (On i write at) = tt
-
--- FINISH and LISTEN
-finish_can : (j : ℕ) (v : State) (x : View) (a : Ask) → Can j v (finish x a)
-unfolding finish
-finish_can j v x a = go (channel_at x.own.channels (input a 0))
-  where
-    go : (c : Chan) → Can j v (finish_on x a c)
-    go TtyOut = first_holds (Can j v) (output_left x (console_of x) ⇒ Waits (Drained (console_of x)) ∷ []) (finishes x [] []) (λ t. tt, tt) (λ t. tt)
-    go Shut = tt
-    go TtyIn = tt
-    go (Reads f at) = tt
-    go (Writes f) = tt
-    go (On k write at) = tt
-
-listens_can : (j : ℕ) (v : State) (x : View) (a : Ask) (i : ℕ) → Can j v (listens x a i)
-listens_can j v x a i =
-    first_holds (Can j v) (output_left x i ⇒ Waits (Drained i) ∷ []) (finishes x [] (out a.outputs.items (length (x.consoles i).input))) (λ t. tt, tt) (λ t. tt)
-
-listen_can : (j : ℕ) (v : State) (x : View) (a : Ask) → Can j v (listen x a)
-unfolding listen
-listen_can j v x a = go (channel_at x.own.channels (input a 0))
-  where
-    go : (c : Chan) → Can j v (listen_on x a c)
-    go TtyIn = listens_can j v x a (console_of x)
-    go TtyOut = listens_can j v x a (console_of x)
-    go Shut = tt
-    go (Reads f at) = tt
-    go (Writes f) = tt
-    go (On k write at) = tt
-
 -- TTYLND
 lands_can : (j : ℕ) (v : State) (x : View) (a : Ask) (may : Bool) (error k : ℕ) → Sees x v j → Can j v (lands x a may error k)
 lands_can j v x a may error k s =
     first_holds (Can j v) (not (has_console x) ⇒ fails x a 0o5 ∷ not may ⇒ fails x a error ∷ []) (finishes x (changes.Hold (console_of x) k ∷ []) [])
     (λ t. tt, (λ t. tt, tt)) (λ t. (console_below x v j s, tt))
 
-ttylnd_can : (j : ℕ) (v : State) (x : View) (a : Ask) → Sees x v j → Can j v (ttylnd x a)
+pub ttylnd_can : (j : ℕ) (v : State) (x : View) (a : Ask) → Sees x v j → Can j v (ttylnd x a)
 unfolding ttylnd
 ttylnd_can j v x a s = go (party x (input a 0))
   where
@@ -333,13 +250,17 @@ ttylnd_can j v x a s = go (party x (input a 0))
     go (Channel (Reads f at)) = tt
     go (Channel (Writes f)) = tt
 
+-- a call that changes nothing but the word of its output
+pub answering_can : (j : ℕ) (v : State) (x : View) (a : Ask) → Answering (Can j v) x a
+answering_can j v x a = record { failing = λ k. tt; faulting = λ f. tt; finishing = tt; giving = λ w. tt }
+
 -- the calls on files: where a call is one of them, no close is half made
 disk_can : (out : Bool) (v : State) (x : View) (d n m : ℕ) → x.files ≡ v.raw.files → v.mark ≡ None → (not out && not (has_file (names_of d n m) x.files)) ≡ false
     → CanOpen (opens_as out d n m) v
 disk_can true v x d n m e u t = u
 disk_can false v x d n m e u t = (ap (has_file (names_of d n m)) (sym e) ∙ not_false (has_file (names_of d n m) x.files) t, u)
 
-opens_disk_can : (j : ℕ) (v : State) (x : View) (a : Ask) → Sees x v j → v.mark ≡ None → Can j v (opens_disk x a)
+pub opens_disk_can : (j : ℕ) (v : State) (x : View) (a : Ask) → Sees x v j → v.mark ≡ None → Can j v (opens_disk x a)
 unfolding opens_disk
 opens_disk_can j v x a s u =
     let n = input a 0 in
@@ -355,7 +276,7 @@ rooms : (b c : Bool) → (not b && not c) ≡ false → (b || c) ≡ true
 rooms true c h = refl
 rooms false c h = not_false c h
 
-closes_draft_can : (j : ℕ) (v : State) (x : View) (a : Ask) (f : File) → Sees x v j → v.mark ≡ None → channel_at x.own.channels (input a 0) ≡ Writes f → Can j v (closes_draft x a f)
+pub closes_draft_can : (j : ℕ) (v : State) (x : View) (a : Ask) (f : File) → Sees x v j → v.mark ≡ None → channel_at x.own.channels (input a 0) ≡ Writes f → Can j v (closes_draft x a f)
 unfolding closes_draft
 closes_draft_can j v x a f s u e =
     let n = input a 0 in
@@ -369,15 +290,7 @@ closes_draft_can j v x a f s u e =
     ap (λ (fs : List File). has_file f.names fs || nat_lt (length fs) most_files) (sym s.files) ∙ rooms (has_file f.names x.files) (nat_lt (length x.files) most_files) t.1.0 in
     ((ltb-true n 16 l, has_job x v j s, u, subst IsDraft (sym on) tt, subst (Closes v) (sym on) (unread_is x v j f.names s t.0, fits)), tt))
 
-close_by_can : (j : ℕ) (v : State) (x : View) (a : Ask) (c : Chan) → Sees x v j → (is_disk c ≡ true → v.mark ≡ None) → channel_at x.own.channels (input a 0) ≡ c → Can j v (close_by x a c)
-close_by_can j v x a (Writes f) s u e = closes_draft_can j v x a f s (u refl) e
-close_by_can j v x a Shut s u e = closes_can j v x a
-close_by_can j v x a TtyIn s u e = closes_can j v x a
-close_by_can j v x a TtyOut s u e = closes_can j v x a
-close_by_can j v x a (Reads f at) s u e = closes_can j v x a
-close_by_can j v x a (On k write at) s u e = closes_can j v x a
-
-roomy : (x : View) (v : State) (j n : ℕ) (f : File) → Sees x v j → v.mark ≡ None → channel_at x.own.channels n ≡ Writes f → is_full x.files (channels_in x) f.words ≡ false
+pub roomy : (x : View) (v : State) (j n : ℕ) (f : File) → Sees x v j → v.mark ≡ None → channel_at x.own.channels n ≡ Writes f → is_full x.files (channels_in x) f.words ≡ false
     → (w : ℕ) → CanMake (changes.Append n w) j v
 roomy x v j n f s u e full w =
     let l : nat_lt n 16 ≡ true = open_true x.own.channels n (Writes f) e tt in
@@ -386,54 +299,23 @@ roomy x v j n f s u e full w =
     let room : is_full v.raw.files (channels_of v.raw) f.words ≡ false = sym (λ i. is_full (s.files i) (channels i) f.words) ∙ full in
     (ltb-true n 16 l, u, subst (HasRoom v) (sym on) room)
 
-iot_read_can : (j : ℕ) (v : State) (x : View) (e n at : ℕ) (o : Option ℕ) → n < 16 → Can j v (iot_read x e n at o)
+pub iot_read_can : (j : ℕ) (v : State) (x : View) (e n at : ℕ) (o : Option ℕ) → n < 16 → Can j v (iot_read x e n at o)
 iot_read_can j v x e n at (Some w) l = (l, tt)
 iot_read_can j v x e n at None l = tt
 
-iot_by_can : (j : ℕ) (v : State) (x : View) (a : Ask) (e : ℕ) (c : Chan) → Sees x v j → (is_disk c ≡ true → v.mark ≡ None) → channel_at x.own.channels (input a 0) ≡ c
-    → Can j v (iot_by x a e (input a 0) c)
-iot_by_can j v x a e (Reads f at) s u is =
-    let n = input a 0 in
-    first_holds (Can j v) (store_tests x e) (iot_read x e n at (slice_get (words_of x f) at)) (λ t. tt, (λ t. tt, tt))
-    (λ t. iot_read_can j v x e n at (slice_get (words_of x f) at) (open_number x.own.channels n (Reads f at) is tt))
-iot_by_can j v x a e (Writes f) s u is =
-    let n = input a 0 in
-    first_holds (Can j v) (read_tests x e ++ (is_full x.files (channels_in x) f.words ⇒ ioc x ∷ [])) (iot_ends x (changes.Append n (word_of x e) ∷ []) []) (λ t. tt, (λ t. tt, tt))
-    (λ t. (roomy x v j n f s (u refl) is t.1.0 (word_of x e), tt))
-iot_by_can j v x a e Shut s u is = iot_can j v x a s
-iot_by_can j v x a e TtyIn s u is = iot_can j v x a s
-iot_by_can j v x a e TtyOut s u is = iot_can j v x a s
-iot_by_can j v x a e (On k write at) s u is = iot_can j v x a s
-
-siot_read_can : (j : ℕ) (v : State) (x : View) (next k n at w : ℕ) → n < 16 → Can j v (siot_read x next k n at w)
+pub siot_read_can : (j : ℕ) (v : State) (x : View) (next k n at w : ℕ) → n < 16 → Can j v (siot_read x next k n at w)
 siot_read_can j v x next k n at w l =
     first_holds (Can j v) (store_tests x (right_of next)) (goes (changes.Move n (at + 1) ∷ []) (Some (record { place = right_of next; byte = w })) (next ∷ (k - 1) ∷ []))
     (λ t. tt, (λ t. tt, tt)) (λ t. (l, tt))
 
-siot_write_can : (j : ℕ) (v : State) (x : View) (a : Ask) (next k n : ℕ) (f : File) → Sees x v j → v.mark ≡ None → channel_at x.own.channels n ≡ Writes f
+pub siot_write_can : (j : ℕ) (v : State) (x : View) (a : Ask) (next k n : ℕ) (f : File) → Sees x v j → v.mark ≡ None → channel_at x.own.channels n ≡ Writes f
     → Can j v (siot_write x a next k n f)
 siot_write_can j v x a next k n f s u is =
     first_holds (Can j v) (read_tests x (right_of next) ++ (is_full x.files (channels_in x) f.words ⇒ fails x a 0o10 ∷ []))
     (goes (changes.Append n (load_of next (word_of x (right_of next))) ∷ []) None (next ∷ (k - 1) ∷ []))
     (λ t. tt, (λ t. tt, tt)) (λ t. (roomy x v j n f s u is t.1.0 (load_of next (word_of x (right_of next))), tt))
 
-siot_to_can : (j : ℕ) (v : State) (x : View) (a : Ask) (c : Chan) → Sees x v j → (is_disk c ≡ true → v.mark ≡ None) → channel_at x.own.channels (input a 0) ≡ c
-    → Can j v (siot_to x a (input a 0) c)
-siot_to_can j v x a (Reads f at) s u is =
-    let n = input a 0 in
-    let o = slice_get (words_of x f) at in
-    siot_by_can j v x a true (not (is_some o)) (siot_read x (next_pointer (input a 1)) (input a 2) n at (unwrap_or o 0))
-    (λ e. siot_read_can j v x (next_pointer (input a 1)) (input a 2) n at (unwrap_or o 0) (open_number x.own.channels n (Reads f at) is tt))
-siot_to_can j v x a (Writes f) s u is =
-    let n = input a 0 in
-    siot_by_can j v x a true false (siot_write x a (next_pointer (input a 1)) (input a 2) n f)
-    (λ e. siot_write_can j v x a (next_pointer (input a 1)) (input a 2) n f s (u refl) is)
-siot_to_can j v x a Shut s u is = siot_can j v x a s
-siot_to_can j v x a TtyIn s u is = siot_can j v x a s
-siot_to_can j v x a TtyOut s u is = siot_can j v x a s
-siot_to_can j v x a (On k write at) s u is = siot_can j v x a s
-
-access_can : (j : ℕ) (v : State) (x : View) (a : Ask) → Can j v (access x a)
+pub access_can : (j : ℕ) (v : State) (x : View) (a : Ask) → Can j v (access x a)
 unfolding access
 access_can j v x a = go (channel_at x.own.channels (input a 0)) refl
   where
@@ -451,53 +333,16 @@ access_can j v x a = go (channel_at x.own.channels (input a 0)) refl
     go TtyOut e = tt
     go (Writes f) e = tt
 
-fillen_can : (j : ℕ) (v : State) (x : View) (a : Ask) → Can j v (fillen x a)
-unfolding fillen
-fillen_can j v x a = go (channel_at x.own.channels (input a 0))
-  where
-    go : (c : Chan) → Can j v (fillen_on x a c)
-    go (Reads f at) = tt
-    go (Writes f) = tt
-    go Shut = tt
-    go TtyIn = tt
-    go TtyOut = tt
-    go (On k write at) = tt
-
-delete_can : (j : ℕ) (v : State) (x : View) (a : Ask) → Sees x v j → v.mark ≡ None → Can j v (delete x a)
+pub delete_can : (j : ℕ) (v : State) (x : View) (a : Ask) → Sees x v j → v.mark ≡ None → Can j v (delete x a)
 unfolding delete
 delete_can j v x a s u =
     first_holds (Can j v) (file_tests x a (names_from a 1)) (finishes x (changes.Delete (input a 3) (input a 1) (input a 2) ∷ []) []) (λ t. tt, (λ t. tt, (λ t. tt, tt)))
     (λ t. ((u, unread_is x v j (names_from a 1) s t.1.1.0), tt))
 
-rename_can : (j : ℕ) (v : State) (x : View) (a : Ask) → Sees x v j → v.mark ≡ None → Can j v (rename x a)
+pub rename_can : (j : ℕ) (v : State) (x : View) (a : Ask) → Sees x v j → v.mark ≡ None → Can j v (rename x a)
 unfolding rename
 rename_can j v x a s u =
     let fresh = names_of (input a 3) (input a 4) (input a 5) in
     first_holds (Can j v) (file_tests x a (names_from a 1) ++ (has_file fresh x.files ⇒ fails x a 0o23 ∷ []))
     (finishes x (changes.Rename (input a 3) (input a 1) (input a 2) (input a 4) (input a 5) ∷ []) []) (λ t. tt, (λ t. tt, (λ t. tt, (λ t. tt, tt))))
     (λ t. ((u, unread_is x v j (names_from a 1) s t.1.1.0, ap (has_file fresh) (sym s.files) ∙ t.1.1.1.0), tt))
-
-open_by_can : (j : ℕ) (v : State) (x : View) (a : Ask) (disk : Bool) → Sees x v j → (disk ≡ true → v.mark ≡ None) → Can j v (open_by x a disk)
-open_by_can j v x a true s u = opens_disk_can j v x a s (u refl)
-open_by_can j v x a false s u = opens_can j v x a s
-
--- the calls by their names, but for those on inferiors
-pub file_can : (j : ℕ) (v : State) (x : View) (a : Ask) (o : Option CallName) → Sees x v j → (helps_by x.own a o ≡ true → v.mark ≡ None) → Can j v (file_by x a o)
-unfolding open_call close_call iot_call siot_call
-file_can j v x a (Some Hang) s u = tt
-file_can j v x a (Some Sleep) s u = sleep_can j v x a
-file_can j v x a (Some Dismis) s u = dismiss_can j v x a
-file_can j v x a (Some Usrvar) s u = usrvar_can j v x a
-file_can j v x a (Some Logout) s u = told_can j (effect_on (changes.Remove j) j v) x.own.superior
-file_can j v x a (Some Open) s u = open_by_can j v x a (input a 1 == disk_device) s u
-file_can j v x a (Some Close) s u = close_by_can j v x a (channel_at x.own.channels (input a 0)) s u refl
-file_can j v x a (Some Iot) s u = iot_by_can j v x a (slice_index_or a.outputs.items 0 0) (channel_at x.own.channels (input a 0)) s u refl
-file_can j v x a (Some Siot) s u = siot_to_can j v x a (channel_at x.own.channels (input a 0)) s u refl
-file_can j v x a (Some Access) s u = access_can j v x a
-file_can j v x a (Some Fillen) s u = fillen_can j v x a
-file_can j v x a (Some Delete) s u = delete_can j v x a s (u refl)
-file_can j v x a (Some Rename) s u = rename_can j v x a s (u refl)
-file_can j v x a (Some Finish) s u = finish_can j v x a
-file_can j v x a (Some Listen) s u = listen_can j v x a
-file_can j v x a (Some Ttylnd) s u = ttylnd_can j v x a s
-file_can j v x a _ s u = tt

@@ -7,13 +7,10 @@ use Rattle.its_word.specs.Core.{Core, Page, page_of}
 use Rattle.its_word.specs.Limits.{slots, most_pages}
 use Rattle.its_word.specs.declared.calls.Ask.{Ask}
 use Rattle.its_frame.specs.declared.change.Change.TheVariants as changes
-use Rattle.its_frame.specs.declared.name.CallName.{CallName}
-use Rattle.its_frame.specs.declared.name.CallName.TheVariants.{Corblk}
 use Rattle.its_plain.specs.Arguments.{input}
 use Rattle.its_plain.specs.CallBasic.{Oneself, is_oneself, channel_at, party_on, party}
 use Rattle.its_plain.specs.CallCore.{page_changed, highest_operation, makes, has_page, is_amiss, page_tests, pages_of, corblk_of, corblk}
 use Rattle.its_plain.specs.CallUsr.{other_core}
-use Rattle.its_plain.specs.Decide.{usr_by, decided_by}
 use Rattle.its_plain.specs.Machine.{Chan, Shut, TtyIn, TtyOut, Reads, Writes, On, core_of, mapped}
 use Rattle.its_plain.specs.Tests.{◌⇒◌, fails, finishes}
 use Rattle.its_plain.specs.View.{View}
@@ -99,7 +96,7 @@ channel_can j v x a TtyOut f is = tt
 channel_can j v x a (Reads names at) f is = tt
 channel_can j v x a (Writes d) f is = tt
 
-corblk_can : (j : ℕ) (v : State) (x : View) (a : Ask) → FindsPages x v j a → Can j v (corblk x a)
+pub corblk_can : (j : ℕ) (v : State) (x : View) (a : Ask) → FindsPages x v j a → Can j v (corblk x a)
 unfolding corblk
 corblk_can j v x a f =
     first_holds (Can j v) (nat_lt highest_operation (input a 0) ⇒ fails x a 0o22 ∷ []) (corblk_of x a (party x (input a 1))) (λ t. tt, tt) (λ t. go (is_oneself (input a 1)))
@@ -107,8 +104,3 @@ corblk_can j v x a f =
     go : (b : Bool) → Can j v (corblk_of x a (if b then Oneself else party_on (channel_at x.own.channels (input a 1))))
     go true = pages_can j v x a x.slot x.own.core f f.own
     go false = channel_can j v x a (channel_at x.own.channels (input a 1)) f refl
-
--- the calls by their names
-pub core_can : (j : ℕ) (v : State) (x : View) (a : Ask) (o : Option CallName) → (o ≡ Some Corblk → FindsPages x v j a) → Can j v (usr_by x a o) → Can j v (decided_by x a o)
-core_can j v x a (Some Corblk) f h = corblk_can j v x a (f refl)
-core_can j v x a _ f h = h

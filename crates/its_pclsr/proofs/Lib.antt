@@ -11,6 +11,7 @@ pub mod ApartLaws
 pub mod CanLaws
 pub mod UsrCanLaws
 pub mod CoreCanLaws
+pub mod DecidedCanLaws
 pub mod ReadyLaws
 pub mod PartLaws
 pub mod IdleLaws

@@ -41,9 +41,10 @@ use Rattle.its_pclsr.specs.Built.{CanMake}
 use Rattle.its_pclsr.specs.Carried.{standing_of, Ready}
 use Rattle.its_pclsr.proofs.CommittingLaws.{all_mild}
 use Rattle.its_pclsr.proofs.RemovalLaws.{no_page}
-use Rattle.its_pclsr.proofs.CanLaws.{DecisionCan, Sees, Can, file_can}
-use Rattle.its_pclsr.proofs.UsrCanLaws.{Aim, Finds, usr_can}
-use Rattle.its_pclsr.proofs.CoreCanLaws.{FindsPages, core_can}
+use Rattle.its_pclsr.proofs.CanLaws.{DecisionCan, Sees, Can}
+use Rattle.its_pclsr.proofs.UsrCanLaws.{Aim, Finds}
+use Rattle.its_pclsr.proofs.CoreCanLaws.{FindsPages}
+use Rattle.its_pclsr.proofs.DecidedCanLaws.{call_can}
 use Rattle.its_stepped.proofs.GivenLaws.{below_itself}
 
 -- every call, in a state in which it is decided on raw jobs
@@ -54,7 +55,7 @@ decided_can_by j v x a true z s u f g =
     let o = call_named a.name in
     let none : a.fail ≡ 0 = eqb-true a.fail 0 z in
     let e : helps x.own a ≡ helps_by x.own a o = rw z refl in
-    rw z (core_can j v x a o (g none) (usr_can j v x a o s (f none) (file_can j v x a o s (λ h. u (e ∙ h)))))
+    rw z (call_can j v x a o s (λ h. u (e ∙ h)) (f none) (g none))
 decided_can_by j v x a false z s u f g = rw z tt
 
 -- the state in which the call of slot j's job is carried out: it is sound, the jobs that the call reaches are in user mode,

@@ -1,6 +1,6 @@
 -- What the calls on inferiors decide can be made: an inferior that a call reaches is there, and those that it removes are in
 -- user mode.
-use Rattle.std.specs.Prelude.{◌&&◌, ◌==◌, ◌≡◌, ◌<◌, ◌+◌, ◌-◌, ◌^◌, ℕ, Bool, true, false, not, Option, Some, None, is_some, [], ◌∷◌, ◌++◌, option_map, slice_index_or, unwrap_or, nat_lt, refl}
+use Rattle.std.specs.Prelude.{◌&&◌, ◌==◌, ◌≡◌, ◌<◌, ◌+◌, ◌-◌, ◌^◌, ℕ, Bool, true, false, not, Option, Some, None, is_some, [], ◌∷◌, ◌++◌, option_map, unwrap_or, nat_lt, refl}
 use Rattle.std.proofs.Common.{sym, ◌∙◌, ap, arith}
 use Rattle.std.proofs.lemmas.Bool.{not-false, ltb-true, ltb-false}
 use Rattle.its_word.specs.Byte.{load_of}
@@ -13,14 +13,14 @@ use Rattle.its_word.proofs.FreeLaws.{least_alike, least_empty}
 use Rattle.its_frame.specs.declared.change.Change.TheVariants as changes
 use Rattle.its_frame.specs.declared.change.Opened.TheVariants as opened
 use Rattle.its_frame.specs.declared.name.CallName.{CallName}
-use Rattle.its_frame.specs.declared.name.CallName.TheVariants.{Open, Iot, Siot, Usrmem, Uclose}
+use Rattle.its_frame.specs.declared.name.CallName.TheVariants.{Usrmem, Uclose}
 use Rattle.its_plain.specs.Arguments.{input, has_input}
 use Rattle.its_plain.specs.CallBasic.{channel_at, ioc}
-use Rattle.its_plain.specs.CallFile.{end_of_core, open_call, iot_call, siot_call}
-use Rattle.its_plain.specs.CallTty.{is_shut, store_tests, read_tests, word_of, iot_ends, next_pointer}
-use Rattle.its_plain.specs.CallUsr.{usr_device, inferior_named, any_named, makes_job, opens_job, usr_tests, opens_usr, other_core, at_end, iot_peeks, iot_from, iot_into, iot_beside, iot_usr, siot_peeks, siot_pokes, siot_beside, siot_usr, set_word, highest_address, usrmem_tests, usrmem_on, usrmem, uclose_on, uclose, open_beside, open_usr}
+use Rattle.its_plain.specs.CallFile.{end_of_core}
+use Rattle.its_plain.specs.CallTty.{is_shut, store_tests, read_tests, word_of, iot_ends}
+use Rattle.its_plain.specs.CallUsr.{inferior_named, any_named, makes_job, opens_job, usr_tests, opens_usr, other_core, at_end, iot_peeks, iot_from, iot_into, siot_peeks, siot_pokes, set_word, highest_address, usrmem_tests, usrmem_on, usrmem, uclose_on, uclose}
 use Rattle.its_plain.specs.Change.{channel_in, inferior, effect}
-use Rattle.its_plain.specs.Decide.{reaching, file_by, usr_by}
+use Rattle.its_plain.specs.Decide.{reaching}
 use Rattle.its_plain.specs.Machine.{Chan, Shut, TtyIn, TtyOut, Reads, Writes, On, Whole, core_of}
 use Rattle.its_plain.specs.Tests.{◌⇒◌, fails, finishes, goes, out}
 use Rattle.its_plain.specs.View.{View, Outline, outline}
@@ -30,7 +30,7 @@ use Rattle.its_stepped.proofs.FrameLaws.{changed_only}
 use Rattle.its_stepped.proofs.TestLaws.{first_holds}
 use Rattle.its_world.specs.Storage.{HasJob}
 use Rattle.its_pclsr.specs.Built.{Pokes, CanMake, CanMakeAll}
-use Rattle.its_pclsr.proofs.CanLaws.{open_number, Sees, has_job, Can, opening, siot_by_can}
+use Rattle.its_pclsr.proofs.CanLaws.{Sees, has_job, Can, opening}
 
 -- the inferior of a slot, which a call reaches through a channel: the view has it, and it is there
 pub record Aim (x : View) (v : State) (s : ℕ) : Type 0 where
@@ -73,21 +73,13 @@ opens_job_can j v x a n u y write None s t =
     first_holds (Can j v) (any_named x u y ⇒ fails x a 0o13 ∷ not write ⇒ fails x a 0o12 ∷ []) (makes_job x a n u y (least_free x.outlines)) (λ t. tt, (λ t. tt, tt))
     (λ r. makes_job_can j v x a n u y (least_free x.outlines) s t refl)
 
-opens_usr_can : (j : ℕ) (v : State) (x : View) (a : Ask) → Sees x v j → Can j v (opens_usr x a)
+pub opens_usr_can : (j : ℕ) (v : State) (x : View) (a : Ask) → Sees x v j → Can j v (opens_usr x a)
 unfolding opens_usr
 opens_usr_can j v x a s =
     let control = unwrap_or a.control 0 in
     let named = inferior_named x (input a 2) (input a 3) in
     first_holds (Can j v) (usr_tests x a (input a 0) control) (opens_job x a (input a 0) (input a 2) (input a 3) (control == 1) named) (λ t. tt, (λ t. tt, tt))
     (λ t. opens_job_can j v x a (input a 0) (input a 2) (input a 3) (control == 1) named s t.0)
-
-open_usr_can : (j : ℕ) (v : State) (x : View) (a : Ask) → Sees x v j → Can j v (open_call x a) → Can j v (open_usr x a)
-unfolding open_usr
-open_usr_can j v x a s h = go (input a 1 == usr_device)
-  where
-    go : (b : Bool) → Can j v (open_beside x a b)
-    go true = opens_usr_can j v x a s
-    go false = h
 
 -- a word of the inferior at an address that there is
 below_end : (at : ℕ) → at_end at ≡ false → at < 2 ^ 18
@@ -102,78 +94,36 @@ iot_peeks_can j v x e n at true o l = tt
 iot_peeks_can j v x e n at false (Some w) l = (l, tt)
 iot_peeks_can j v x e n at false None l = tt
 
-iot_from_can : (j : ℕ) (v : State) (x : View) (e n at : ℕ) → n < 16 → Can j v (iot_from x e n at)
+pub iot_from_can : (j : ℕ) (v : State) (x : View) (e n at : ℕ) → n < 16 → Can j v (iot_from x e n at)
 iot_from_can j v x e n at l =
     first_holds (Can j v) (store_tests x e) (iot_peeks x e n at (at_end at) (word_at (other_core x) at)) (λ t. tt, (λ t. tt, tt))
     (λ t. iot_peeks_can j v x e n at (at_end at) (word_at (other_core x) at) l)
 
-iot_into_can : (j : ℕ) (v : State) (x : View) (e n s at : ℕ) → n < 16 → Aim x v s → Can j v (iot_into x e n s at)
+pub iot_into_can : (j : ℕ) (v : State) (x : View) (e n s at : ℕ) → n < 16 → Aim x v s → Can j v (iot_into x e n s at)
 iot_into_can j v x e n s at l m =
     first_holds (Can j v) (read_tests x e ++ (at_end at ⇒ ioc x ∷ not (can_store (other_core x) at) ⇒ ioc x ∷ []))
     (iot_ends x (changes.Poke s at (word_of x e) ∷ changes.Move n (at + 1) ∷ []) []) (λ t. tt, (λ t. tt, (λ t. tt, tt)))
     (λ t. (pokes x v s at m (below_end at t.1.0) (not-false (can_store (other_core x) at) t.1.1.0), (l, tt)))
 
-iot_usr_can : (j : ℕ) (v : State) (x : View) (a : Ask) → Finds x v j a (Some Iot) → Can j v (iot_call x a) → Can j v (iot_usr x a)
-unfolding iot_usr
-iot_usr_can j v x a f h = go (channel_at x.own.channels (input a 0)) refl
-  where
-    e : ℕ
-    e = slice_index_or a.outputs.items 0 0
-
-    n : ℕ
-    n = input a 0
-
-    go : (c : Chan) → channel_at x.own.channels n ≡ c → Can j v (iot_beside x a e n c)
-    go (On s true at) is = iot_into_can j v x e n s at (open_number x.own.channels n (On s true at) is tt) (f.inferior Iot refl refl s at true is)
-    go (On s false at) is = iot_from_can j v x e n at (open_number x.own.channels n (On s false at) is tt)
-    go Shut is = h
-    go TtyIn is = h
-    go TtyOut is = h
-    go (Reads names at) is = h
-    go (Writes d) is = h
-
 -- SIOT
-siot_peeks_can : (j : ℕ) (v : State) (x : View) (a : Ask) (next k n at : ℕ) (o : Option ℕ) → n < 16 → Can j v (siot_peeks x a next k n at o)
+pub siot_peeks_can : (j : ℕ) (v : State) (x : View) (a : Ask) (next k n at : ℕ) (o : Option ℕ) → n < 16 → Can j v (siot_peeks x a next k n at o)
 siot_peeks_can j v x a next k n at (Some w) l =
     first_holds (Can j v) (store_tests x (right_of next)) (goes (changes.Move n (at + 1) ∷ []) (Some (record { place = right_of next; byte = w })) (next ∷ (k - 1) ∷ [])) (λ t. tt, (λ t. tt, tt))
     (λ t. (l, tt))
 siot_peeks_can j v x a next k n at None l = first_holds (Can j v) (store_tests x (right_of next)) (fails x a 0o16) (λ t. tt, (λ t. tt, tt)) (λ t. tt)
 
-siot_pokes_can : (j : ℕ) (v : State) (x : View) (a : Ask) (next k n s at : ℕ) → n < 16 → Aim x v s → at_end at ≡ false → Can j v (siot_pokes x a next k n s at)
+pub siot_pokes_can : (j : ℕ) (v : State) (x : View) (a : Ask) (next k n s at : ℕ) → n < 16 → Aim x v s → at_end at ≡ false → Can j v (siot_pokes x a next k n s at)
 siot_pokes_can j v x a next k n s at l m within =
     first_holds (Can j v) (read_tests x (right_of next) ++ (not (can_store (other_core x) at) ⇒ fails x a 0o16 ∷ []))
     (goes (changes.Poke s at (load_of next (word_of x (right_of next))) ∷ changes.Move n (at + 1) ∷ []) None (next ∷ (k - 1) ∷ [])) (λ t. tt, (λ t. tt, tt))
     (λ t. (pokes x v s at m (below_end at within) (not-false (can_store (other_core x) at) t.1.0), (l, tt)))
-
-siot_usr_can : (j : ℕ) (v : State) (x : View) (a : Ask) → Finds x v j a (Some Siot) → Can j v (siot_call x a) → Can j v (siot_usr x a)
-unfolding siot_usr
-siot_usr_can j v x a f h = go (channel_at x.own.channels (input a 0)) refl
-  where
-    n : ℕ
-    n = input a 0
-
-    next : ℕ
-    next = next_pointer (input a 1)
-
-    go : (c : Chan) → channel_at x.own.channels n ≡ c → Can j v (siot_beside x a n c)
-    go (On s true at) is =
-        siot_by_can j v x a true (at_end at) (siot_pokes x a next (input a 2) n s at)
-        (siot_pokes_can j v x a next (input a 2) n s at (open_number x.own.channels n (On s true at) is tt) (f.inferior Siot refl refl s at true is))
-    go (On s false at) is =
-        siot_by_can j v x a true (at_end at) (siot_peeks x a next (input a 2) n at (word_at (other_core x) at))
-        (λ t. siot_peeks_can j v x a next (input a 2) n at (word_at (other_core x) at) (open_number x.own.channels n (On s false at) is tt))
-    go Shut is = h
-    go TtyIn is = h
-    go TtyOut is = h
-    go (Reads names at) is = h
-    go (Writes d) is = h
 
 -- USRMEM and UCLOSE
 set_word_can : (j : ℕ) (v : State) (x : View) (s p w : ℕ) (new : Bool) → Aim x v s → p < 2 ^ 18 → (new && not (can_store (other_core x) p)) ≡ false → CanMakeAll (set_word s p w new) j v
 set_word_can j v x s p w true m l can = (pokes x v s p m l (not-false (can_store (other_core x) p) can), tt)
 set_word_can j v x s p w false m l can = tt
 
-usrmem_can : (j : ℕ) (v : State) (x : View) (a : Ask) → Finds x v j a (Some Usrmem) → Can j v (usrmem x a)
+pub usrmem_can : (j : ℕ) (v : State) (x : View) (a : Ask) → Finds x v j a (Some Usrmem) → Can j v (usrmem x a)
 unfolding usrmem
 usrmem_can j v x a f = go (channel_at x.own.channels (input a 0)) refl
   where
@@ -194,7 +144,7 @@ usrmem_can j v x a f = go (channel_at x.own.channels (input a 0)) refl
     go (Reads names at) is = tt
     go (Writes d) is = tt
 
-uclose_can : (j : ℕ) (v : State) (x : View) (a : Ask) → Finds x v j a (Some Uclose) → Can j v (uclose x a)
+pub uclose_can : (j : ℕ) (v : State) (x : View) (a : Ask) → Finds x v j a (Some Uclose) → Can j v (uclose x a)
 unfolding uclose
 uclose_can j v x a f = go (channel_at x.own.channels (input a 0)) refl
   where
@@ -205,12 +155,3 @@ uclose_can j v x a f = go (channel_at x.own.channels (input a 0)) refl
     go TtyOut is = tt
     go (Reads names at) is = tt
     go (Writes d) is = tt
-
--- the calls by their names, but for that on pages
-pub usr_can : (j : ℕ) (v : State) (x : View) (a : Ask) (o : Option CallName) → Sees x v j → Finds x v j a o → Can j v (file_by x a o) → Can j v (usr_by x a o)
-usr_can j v x a (Some Open) s f h = open_usr_can j v x a s h
-usr_can j v x a (Some Iot) s f h = iot_usr_can j v x a f h
-usr_can j v x a (Some Siot) s f h = siot_usr_can j v x a f h
-usr_can j v x a (Some Usrmem) s f h = usrmem_can j v x a f
-usr_can j v x a (Some Uclose) s f h = uclose_can j v x a f
-usr_can j v x a _ s f h = h

@@ -13,6 +13,7 @@ use Rattle.its_frame.specs.declared.decision.Decision.TheVariants.{Waits, Ends, 
 use Rattle.its_frame.specs.declared.decision.Wait.TheVariants.{Hang, Clock}
 use Rattle.its_frame.specs.declared.variable.Variable.{Variable}
 use Rattle.its_frame.specs.declared.variable.Variable.TheVariants.{Uname, Jname, Uind, Suppro, Cnsl, Pages, Upc, Ustp, Pirqc, Ifpir, Mask, Msk2, Df1, Df2}
+use Rattle.its_frame.specs.Errors as error
 use Rattle.its_plain.specs.Interrupt.{dismissed}
 use Rattle.its_plain.specs.Job.{IOC, with_pending}
 use Rattle.its_plain.specs.Machine.{Chan, Shut, On, Whole}
@@ -52,8 +53,8 @@ sleep_tests v a n p =
     (n == 0) ⇒ finishes v [] []
     ∷ (is_negative n && nat_lt v.clock (2 ^ 36 - n)) ⇒ Waits Clock
     ∷ is_negative n ⇒ finishes v [] []
-    ∷ nat_lt longest_sleep n ⇒ fails v a 0o22
-    ∷ shared_place a p ⇒ fails v a 0o17
+    ∷ nat_lt longest_sleep n ⇒ fails v a error.OUT_OF_RANGE
+    ∷ shared_place a p ⇒ fails v a error.NO_WORD
     ∷ read_only v.own.core p ⇒ faults v Wro
     ∷ []
 
@@ -70,7 +71,7 @@ dismissed_by v p w (Err f) = faults v f
 
 abbrev pub dismiss_at : View → Ask → Option ℕ → Decision
 dismiss_at v a (Some p) = dismissed_by v p (input a 0) (dismissed v.own.core v.own.job p)
-dismiss_at v a None = fails v a 0o17
+dismiss_at v a None = fails v a error.NO_WORD
 
 unfoldable pub dismiss : View → Ask → Decision
 dismiss v a = dismiss_at v a (place_of_input a 0)
@@ -134,8 +135,8 @@ set_own v a x true = Ends (record { items = [] }) (record { items = out a.output
 set_own v a x false = finishes v [] (out a.outputs.items (variable_of v.slot v.own x))
 
 abbrev pub own_variable : View → Ask → Option Variable → Decision
-own_variable v a (Some x) = if has_input a 2 && not (by_oneself x) then fails v a 0o22 else set_own v a x (has_input a 2)
-own_variable v a None = fails v a 0o22
+own_variable v a (Some x) = if has_input a 2 && not (by_oneself x) then fails v a error.OUT_OF_RANGE else set_own v a x (has_input a 2)
+own_variable v a None = fails v a error.OUT_OF_RANGE
 
 abbrev pub set_other : ℕ → Variable → ℕ → Bool → List Change
 set_other s x w true = changes.Set s x w ∷ []
@@ -147,15 +148,15 @@ value_of_other s x None = 0
 
 abbrev pub other_variable : View → Ask → ℕ → Bool → Option Variable → Decision
 other_variable v a s write (Some x) =
-    first (((has_input a 2 && not write) ⇒ fails v a 0o5) ∷ ((has_input a 2 && not (by_superior x)) ⇒ fails v a 0o22) ∷ [])
+    first (((has_input a 2 && not write) ⇒ fails v a error.WRONG_DEVICE) ∷ ((has_input a 2 && not (by_superior x)) ⇒ fails v a error.OUT_OF_RANGE) ∷ [])
     (finishes v (set_other s x (input a 2) (has_input a 2)) (out a.outputs.items (value_of_other s x v.other)))
-other_variable v a s write None = fails v a 0o22
+other_variable v a s write None = fails v a error.OUT_OF_RANGE
 
 abbrev pub usrvar_of : View → Ask → Party → Decision
 usrvar_of v a Oneself = own_variable v a (variable_named (input a 1))
-usrvar_of v a Nobody = fails v a 0o4
+usrvar_of v a Nobody = fails v a error.BAD_CHANNEL
 usrvar_of v a (Channel (On s write at)) = other_variable v a s write (variable_named (input a 1))
-usrvar_of v a (Channel c) = fails v a 0o5
+usrvar_of v a (Channel c) = fails v a error.WRONG_DEVICE
 
 unfoldable pub usrvar : View → Ask → Decision
 usrvar v a = usrvar_of v a (party v (input a 0))

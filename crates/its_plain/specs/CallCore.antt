@@ -6,6 +6,7 @@ use Rattle.its_word.specs.declared.calls.Ask.{Ask}
 use Rattle.its_frame.specs.declared.change.Change.{Change}
 use Rattle.its_frame.specs.declared.change.Change.TheVariants as changes
 use Rattle.its_frame.specs.declared.decision.Decision.{Decision}
+use Rattle.its_frame.specs.Errors as error
 use Rattle.its_plain.specs.Machine.{On}
 use Rattle.its_plain.specs.View.{View}
 use Rattle.its_plain.specs.Arguments.{input}
@@ -40,9 +41,9 @@ is_amiss false there = not there
 
 abbrev pub page_tests : View → Ask → ℕ → Core → ℕ → List Test
 page_tests v a op c k =
-    nat_lt highest_page k ⇒ fails v a 0o22
-    ∷ is_amiss (makes op) (has_page c k) ⇒ fails v a 0o16
-    ∷ (makes op && not (nat_lt v.pages most_pages)) ⇒ fails v a 0o15
+    nat_lt highest_page k ⇒ fails v a error.OUT_OF_RANGE
+    ∷ is_amiss (makes op) (has_page c k) ⇒ fails v a error.BAD_PAGE
+    ∷ (makes op && not (nat_lt v.pages most_pages)) ⇒ fails v a error.NO_CORE
     ∷ []
 
 abbrev pub pages_of : View → Ask → ℕ → ℕ → Core → ℕ → Decision
@@ -50,9 +51,9 @@ pages_of v a op s c k = first (page_tests v a op c k) (finishes v (page_changed 
 
 abbrev pub corblk_of : View → Ask → Party → Decision
 corblk_of v a Oneself = pages_of v a (input a 0) v.slot v.own.core (input a 2)
-corblk_of v a Nobody = fails v a 0o4
+corblk_of v a Nobody = fails v a error.BAD_CHANNEL
 corblk_of v a (Channel (On s true at)) = pages_of v a (input a 0) s (other_core v) (input a 2)
-corblk_of v a (Channel c) = fails v a 0o5
+corblk_of v a (Channel c) = fails v a error.WRONG_DEVICE
 
 unfoldable pub corblk : View → Ask → Decision
-corblk v a = first (nat_lt highest_operation (input a 0) ⇒ fails v a 0o22 ∷ []) (corblk_of v a (party v (input a 1)))
+corblk v a = first (nat_lt highest_operation (input a 0) ⇒ fails v a error.OUT_OF_RANGE ∷ []) (corblk_of v a (party v (input a 1)))

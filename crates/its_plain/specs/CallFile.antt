@@ -1,6 +1,6 @@
 -- Calls on files and drafts: OPEN, CLOSE, `.IOT` and SIOT where their device is DSK; ACCESS, FILLEN, DELETE and RENAME
 -- (docs/CALLS.md, "Files").
-use Rattle.std.specs.Prelude.{◌==◌, ◌&&◌, ℕ, ◌+◌, ◌-◌, ◌/◌, ◌%◌, Bool, true, false, not, Option, Some, None, List, [], ◌∷◌, ◌++◌, nat_lt, is_some, length, find, sum_by, slice_get, slice_index_or, unwrap_or}
+use Rattle.std.specs.Prelude.{◌==◌, ◌&&◌, ℕ, ◌+◌, ◌-◌, ◌/◌, ◌%◌, Bool, true, false, not, Option, Some, None, List, [], ◌∷◌, ◌++◌, nat_lt, is_some, length, find, sum_by, slice_get, unwrap_or}
 use Rattle.std.specs.List.{list_any, range_with_len}
 use Rattle.its_word.specs.Word.{right_of}
 use Rattle.its_word.specs.Byte.{load_of}
@@ -10,6 +10,7 @@ use Rattle.its_frame.specs.declared.change.Change.TheVariants as changes
 use Rattle.its_frame.specs.declared.change.Opened.{Opened}
 use Rattle.its_frame.specs.declared.change.Opened.TheVariants as opened
 use Rattle.its_frame.specs.declared.decision.Decision.{Decision}
+use Rattle.its_frame.specs.Errors as error
 use Rattle.its_plain.specs.Machine.{Names, File, Chan, Shut, Reads, Writes, On, all_shut}
 use Rattle.its_plain.specs.Own.{names_of}
 use Rattle.its_plain.specs.Change.{same_names}
@@ -17,7 +18,7 @@ use Rattle.its_plain.specs.View.{View, Outline}
 use Rattle.its_plain.specs.Arguments.{input}
 use Rattle.its_plain.specs.Tests.{Test, ◌⇒◌, first, finishes, fails, goes, out}
 use Rattle.its_plain.specs.CallBasic.{channel_at, ioc}
-use Rattle.its_plain.specs.CallTty.{is_shut, opens, closes, iot, siot, iot_ends, store_tests, read_tests, word_of, siot_by, next_pointer}
+use Rattle.its_plain.specs.CallTty.{is_shut, iot_ends, store_tests, read_tests, word_of, siot_by, next_pointer}
 
 -- the device of files
 abbrev pub disk_device : ℕ
@@ -102,9 +103,9 @@ opens_as false d x y = opened.Reading d x y
 
 abbrev pub disk_tests : View → Ask → ℕ → ℕ → List Test
 disk_tests v a n control =
-    not (nat_lt n 16 && is_shut (channel_at v.own.channels n)) ⇒ fails v a 0o4
-    ∷ nat_lt 1 control ⇒ fails v a 0o22
-    ∷ (not (is_output control) && not (has_file (names_from a 2) v.files)) ⇒ fails v a 0o6
+    not (nat_lt n 16 && is_shut (channel_at v.own.channels n)) ⇒ fails v a error.BAD_CHANNEL
+    ∷ nat_lt 1 control ⇒ fails v a error.OUT_OF_RANGE
+    ∷ (not (is_output control) && not (has_file (names_from a 2) v.files)) ⇒ fails v a error.NO_FILE
     ∷ []
 
 unfoldable pub opens_disk : View → Ask → Decision
@@ -115,7 +116,7 @@ opens_disk v a =
 -- CLOSE of a draft: it becomes the last file, in place of one with its names that no channel reads
 unfoldable pub closes_draft : View → Ask → File → Decision
 closes_draft v a f =
-    first (is_read f.names (channels_in v) ⇒ fails v a 0o11 ∷ (not (has_file f.names v.files) && not (nat_lt (length v.files) most_files)) ⇒ fails v a 0o7 ∷ [])
+    first (is_read f.names (channels_in v) ⇒ fails v a error.FILE_LOCKED ∷ (not (has_file f.names v.files) && not (nat_lt (length v.files) most_files)) ⇒ fails v a error.DIRECTORY_FULL ∷ [])
     (finishes v (changes.Close (input a 0) ∷ []) [])
 
 -- `.IOT` of the word at E from a file, at whose end it gets 777777000003, and to a draft
@@ -145,7 +146,7 @@ siot_reads v a n at o = siot_by v a true (not (is_some o)) (siot_read v (next_po
 
 abbrev pub siot_write : View → Ask → ℕ → ℕ → ℕ → File → Decision
 siot_write v a next k n f =
-    first (read_tests v (right_of next) ++ (is_full v.files (channels_in v) f.words ⇒ fails v a 0o10 ∷ []))
+    first (read_tests v (right_of next) ++ (is_full v.files (channels_in v) f.words ⇒ fails v a error.DEVICE_FULL ∷ []))
     (goes (changes.Append n (load_of next (word_of v (right_of next))) ∷ []) None (next ∷ (k - 1) ∷ []))
 
 abbrev pub siot_writes : View → Ask → ℕ → File → Decision
@@ -157,23 +158,23 @@ abbrev pub end_of_core : ℕ
 end_of_core = 0o1000000
 
 abbrev pub access_to : View → Ask → ℕ → Decision
-access_to v a most = first (nat_lt most (input a 1) ⇒ fails v a 0o22 ∷ []) (finishes v (changes.Move (input a 0) (input a 1) ∷ []) [])
+access_to v a most = first (nat_lt most (input a 1) ⇒ fails v a error.OUT_OF_RANGE ∷ []) (finishes v (changes.Move (input a 0) (input a 1) ∷ []) [])
 
 abbrev pub access_on : View → Ask → Chan → Decision
-access_on v a Shut = fails v a 0o4
+access_on v a Shut = fails v a error.BAD_CHANNEL
 access_on v a (Reads names at) = access_to v a (length (words_of v names))
 access_on v a (On s write at) = access_to v a end_of_core
-access_on v a _ = fails v a 0o5
+access_on v a _ = fails v a error.WRONG_DEVICE
 
 unfoldable pub access : View → Ask → Decision
 access v a = access_on v a (channel_at v.own.channels (input a 0))
 
 -- FILLEN channel: how many words a file or a draft has
 abbrev pub fillen_on : View → Ask → Chan → Decision
-fillen_on v a Shut = fails v a 0o4
+fillen_on v a Shut = fails v a error.BAD_CHANNEL
 fillen_on v a (Reads names at) = finishes v [] (out a.outputs.items (length (words_of v names)))
 fillen_on v a (Writes f) = finishes v [] (out a.outputs.items (length f.words))
-fillen_on v a _ = fails v a 0o5
+fillen_on v a _ = fails v a error.WRONG_DEVICE
 
 unfoldable pub fillen : View → Ask → Decision
 fillen v a = fillen_on v a (channel_at v.own.channels (input a 0))
@@ -182,9 +183,9 @@ fillen v a = fillen_on v a (channel_at v.own.channels (input a 0))
 -- reads. It keeps its place under its new names, which no file has in its directory
 abbrev pub file_tests : View → Ask → Names → List Test
 file_tests v a names =
-    not (input a 0 == disk_device) ⇒ fails v a 0o5
-    ∷ not (has_file names v.files) ⇒ fails v a 0o6
-    ∷ is_read names (channels_in v) ⇒ fails v a 0o11
+    not (input a 0 == disk_device) ⇒ fails v a error.WRONG_DEVICE
+    ∷ not (has_file names v.files) ⇒ fails v a error.NO_FILE
+    ∷ is_read names (channels_in v) ⇒ fails v a error.FILE_LOCKED
     ∷ []
 
 unfoldable pub delete : View → Ask → Decision
@@ -192,36 +193,5 @@ delete v a = first (file_tests v a (names_from a 1)) (finishes v (changes.Delete
 
 unfoldable pub rename : View → Ask → Decision
 rename v a =
-    first (file_tests v a (names_from a 1) ++ (has_file (names_of (input a 3) (input a 4) (input a 5)) v.files ⇒ fails v a 0o23 ∷ []))
+    first (file_tests v a (names_from a 1) ++ (has_file (names_of (input a 3) (input a 4) (input a 5)) v.files ⇒ fails v a error.FILE_EXISTS ∷ []))
     (finishes v (changes.Rename (input a 3) (input a 1) (input a 2) (input a 4) (input a 5) ∷ []) [])
-
--- the calls that consoles have too: OPEN by its device, the others by what the channel is on
-abbrev pub open_by : View → Ask → Bool → Decision
-open_by v a true = opens_disk v a
-open_by v a false = opens v a
-
-unfoldable pub open_call : View → Ask → Decision
-open_call v a = open_by v a (input a 1 == disk_device)
-
-abbrev pub close_by : View → Ask → Chan → Decision
-close_by v a (Writes f) = closes_draft v a f
-close_by v a _ = closes v a
-
-unfoldable pub close_call : View → Ask → Decision
-close_call v a = close_by v a (channel_at v.own.channels (input a 0))
-
-abbrev pub iot_by : View → Ask → ℕ → ℕ → Chan → Decision
-iot_by v a e n (Reads names at) = iot_reads v e n names at
-iot_by v a e n (Writes f) = iot_writes v e n f
-iot_by v a e n _ = iot v a
-
-unfoldable pub iot_call : View → Ask → Decision
-iot_call v a = iot_by v a (slice_index_or a.outputs.items 0 0) (input a 0) (channel_at v.own.channels (input a 0))
-
-abbrev pub siot_to : View → Ask → ℕ → Chan → Decision
-siot_to v a n (Reads names at) = siot_reads v a n at (slice_get (words_of v names) at)
-siot_to v a n (Writes f) = siot_writes v a n f
-siot_to v a n _ = siot v a
-
-unfoldable pub siot_call : View → Ask → Decision
-siot_call v a = siot_to v a (input a 0) (channel_at v.own.channels (input a 0))

@@ -1,5 +1,6 @@
--- OPEN, CLOSE, `.IOT`, SIOT, FINISH, LISTEN and TTYLND on consoles (docs/CALLS.md, "Consoles").
-use Rattle.std.specs.Prelude.{if◌then◌else◌, ◌==◌, ◌||◌, ◌&&◌, ℕ, ◌-◌, ◌/◌, ◌%◌, ◌^◌, Bool, true, false, not, Option, Some, None, List, [], ◌∷◌, ◌++◌, nat_lt, is_some, length, slice_get, slice_index_or, unwrap_or}
+-- Calls on consoles: OPEN, `.IOT` and SIOT where they are on one; FINISH, LISTEN and TTYLND (docs/CALLS.md, "Consoles"); and
+-- the tests of SIOT, whatever its channel is on.
+use Rattle.std.specs.Prelude.{if◌then◌else◌, ◌==◌, ◌||◌, ◌&&◌, ℕ, ◌-◌, ◌/◌, ◌%◌, ◌^◌, Bool, true, false, not, Option, Some, None, List, [], ◌∷◌, ◌++◌, nat_lt, is_some, length, slice_get, unwrap_or}
 use Rattle.its_word.specs.Word.{right_of}
 use Rattle.its_word.specs.Byte.{size, has_size, increment_of, load_of}
 use Rattle.its_word.specs.Console.{most_waiting}
@@ -14,12 +15,13 @@ use Rattle.its_frame.specs.declared.change.Opened.TheVariants as opened
 use Rattle.its_frame.specs.declared.decision.Decision.{Decision}
 use Rattle.its_frame.specs.declared.decision.Decision.TheVariants.{Waits, Ends}
 use Rattle.its_frame.specs.declared.decision.Wait.TheVariants.{Input, Output, Drained}
+use Rattle.its_frame.specs.Errors as error
 use Rattle.its_plain.specs.Machine.{Chan, Shut, TtyIn, TtyOut, On}
 use Rattle.its_plain.specs.Own.{exit_of, advanced}
 use Rattle.its_plain.specs.View.{View, Outline}
 use Rattle.its_plain.specs.Arguments.{input, place_of_input, in_footprint}
 use Rattle.its_plain.specs.Tests.{Test, ◌⇒◌, first, finishes, fails, faults, goes, out}
-use Rattle.its_plain.specs.CallBasic.{is_negative, read_only, shared_place, channel_at, Party, Oneself, Nobody, Channel, party, ioc}
+use Rattle.its_plain.specs.CallBasic.{is_negative, read_only, shared_place, channel_at, Party, Oneself, Nobody, Channel, party}
 
 -- the console of a job. A channel on a console is opened only where its job has one
 abbrev pub console_of : View → ℕ
@@ -53,7 +55,7 @@ first_typed v c = unwrap_or (slice_get (v.consoles c).input 0) 0
 abbrev pub shown_byte : ℕ → ℕ
 shown_byte w = w % 2 ^ 7
 
--- OPEN channel, device: input, or output with control 1
+-- OPEN channel, TTY: input, or output with control 1
 abbrev pub tty_device : ℕ
 tty_device = 0o646471000000
 
@@ -66,24 +68,16 @@ opens_on control = if control == 1 then opened.TtyOut else opened.TtyIn
 
 abbrev pub open_tests : View → Ask → ℕ → ℕ → ℕ → List Test
 open_tests v a n device control =
-    not (nat_lt n 16 && is_shut (channel_at v.own.channels n)) ⇒ fails v a 0o4
-    ∷ not (device == tty_device) ⇒ fails v a 0o5
-    ∷ nat_lt 1 control ⇒ fails v a 0o22
-    ∷ not (has_console v) ⇒ fails v a 0o5
+    not (nat_lt n 16 && is_shut (channel_at v.own.channels n)) ⇒ fails v a error.BAD_CHANNEL
+    ∷ not (device == tty_device) ⇒ fails v a error.WRONG_DEVICE
+    ∷ nat_lt 1 control ⇒ fails v a error.OUT_OF_RANGE
+    ∷ not (has_console v) ⇒ fails v a error.WRONG_DEVICE
     ∷ []
 
 unfoldable pub opens : View → Ask → Decision
 opens v a =
     first (open_tests v a (input a 0) (input a 1) (unwrap_or a.control 0))
     (finishes v (changes.Open (input a 0) (opens_on (unwrap_or a.control 0)) ∷ []) [])
-
--- CLOSE channel
-abbrev pub close_on : View → Ask → Chan → Decision
-close_on v a Shut = fails v a 0o4
-close_on v a _ = finishes v (changes.Shut (input a 0) ∷ []) []
-
-unfoldable pub closes : View → Ask → Decision
-closes v a = close_on v a (channel_at v.own.channels (input a 0))
 
 -- the words that a transfer stores to or reads: MPV where one is absent, WRO where it is to be stored and is read only
 abbrev pub is_absent : Core → ℕ → Bool
@@ -112,14 +106,6 @@ iot_out v e c =
     first (read_tests v e ++ (output_waits v c ⇒ Waits (Output c) ∷ []))
     (iot_ends v (changes.Put c (shown_byte (word_of v e)) ∷ []) [])
 
-abbrev pub iot_on : View → ℕ → Chan → Decision
-iot_on v e TtyIn = iot_in v e (console_of v)
-iot_on v e TtyOut = iot_out v e (console_of v)
-iot_on v e _ = ioc v
-
-unfoldable pub iot : View → Ask → Decision
-iot v a = iot_on v (slice_index_or a.outputs.items 0 0) (channel_at v.own.channels (input a 0))
-
 -- SIOT channel, pointer, count: one byte; pointer and count become those of the rest. I and X, bits 13 to 17 of the
 -- pointer, have to be 0
 abbrev pub is_indexed : ℕ → Bool
@@ -135,14 +121,14 @@ word_bits = 36
 
 abbrev pub siot_tests : View → Ask → ℕ → ℕ → Bool → Bool → List Test
 siot_tests v a p k words ended =
-    (shared_place a (place_of_input a 1) || shared_place a (place_of_input a 2)) ⇒ fails v a 0o17
+    (shared_place a (place_of_input a 1) || shared_place a (place_of_input a 2)) ⇒ fails v a error.NO_WORD
     ∷ (read_only v.own.core (place_of_input a 1) || read_only v.own.core (place_of_input a 2)) ⇒ faults v Wro
-    ∷ (not (has_size p) || is_indexed p) ⇒ fails v a 0o21
-    ∷ (words && not (size p == word_bits)) ⇒ fails v a 0o21
-    ∷ is_negative k ⇒ fails v a 0o22
+    ∷ (not (has_size p) || is_indexed p) ⇒ fails v a error.BAD_POINTER
+    ∷ (words && not (size p == word_bits)) ⇒ fails v a error.BAD_POINTER
+    ∷ is_negative k ⇒ fails v a error.OUT_OF_RANGE
     ∷ (k == 0) ⇒ finishes v [] []
     ∷ ended ⇒ finishes v [] []
-    ∷ in_footprint (right_of (next_pointer p)) a ⇒ fails v a 0o20
+    ∷ in_footprint (right_of (next_pointer p)) a ⇒ fails v a error.WORD_IN_USE
     ∷ []
 
 abbrev pub siot_in : View → Ask → ℕ → ℕ → ℕ → Decision
@@ -158,20 +144,11 @@ siot_out v a next k c =
 abbrev pub siot_by : View → Ask → Bool → Bool → Decision → Decision
 siot_by v a words ended moves = first (siot_tests v a (input a 1) (input a 2) words ended) moves
 
-abbrev pub siot_on : View → Ask → Chan → Decision
-siot_on v a Shut = fails v a 0o4
-siot_on v a TtyIn = siot_by v a false false (siot_in v a (next_pointer (input a 1)) (input a 2) (console_of v))
-siot_on v a TtyOut = siot_by v a false false (siot_out v a (next_pointer (input a 1)) (input a 2) (console_of v))
-siot_on v a _ = fails v a 0o5
-
-unfoldable pub siot : View → Ask → Decision
-siot v a = siot_on v a (channel_at v.own.channels (input a 0))
-
 -- FINISH channel, and LISTEN channel: they wait until all output is drained; LISTEN gives the number of input bytes
 abbrev pub finish_on : View → Ask → Chan → Decision
-finish_on v a Shut = fails v a 0o4
+finish_on v a Shut = fails v a error.BAD_CHANNEL
 finish_on v a TtyOut = first (output_left v (console_of v) ⇒ Waits (Drained (console_of v)) ∷ []) (finishes v [] [])
-finish_on v a _ = fails v a 0o5
+finish_on v a _ = fails v a error.WRONG_DEVICE
 
 unfoldable pub finish : View → Ask → Decision
 finish v a = finish_on v a (channel_at v.own.channels (input a 0))
@@ -180,10 +157,10 @@ abbrev pub listens : View → Ask → ℕ → Decision
 listens v a c = first (output_left v c ⇒ Waits (Drained c) ∷ []) (finishes v [] (out a.outputs.items (length (v.consoles c).input)))
 
 abbrev pub listen_on : View → Ask → Chan → Decision
-listen_on v a Shut = fails v a 0o4
+listen_on v a Shut = fails v a error.BAD_CHANNEL
 listen_on v a TtyIn = listens v a (console_of v)
 listen_on v a TtyOut = listens v a (console_of v)
-listen_on v a _ = fails v a 0o5
+listen_on v a _ = fails v a error.WRONG_DEVICE
 
 unfoldable pub listen : View → Ask → Decision
 listen v a = listen_on v a (channel_at v.own.channels (input a 0))
@@ -207,14 +184,14 @@ is_holder v None = false
 is_holder v (Some h) = h == v.slot
 
 abbrev pub lands : View → Ask → Bool → ℕ → ℕ → Decision
-lands v a may error s =
-    first (not (has_console v) ⇒ fails v a 0o5 ∷ not may ⇒ fails v a error ∷ []) (finishes v (changes.Hold (console_of v) s ∷ []) [])
+lands v a may number s =
+    first (not (has_console v) ⇒ fails v a error.WRONG_DEVICE ∷ not may ⇒ fails v a number ∷ []) (finishes v (changes.Hold (console_of v) s ∷ []) [])
 
 abbrev pub ttylnd_of : View → Ask → Party → Decision
-ttylnd_of v a Oneself = lands v a (can_take v (v.holders (console_of v))) 0o13 v.slot
-ttylnd_of v a Nobody = fails v a 0o4
-ttylnd_of v a (Channel (On s write at)) = lands v a (is_holder v (v.holders (console_of v))) 0o5 s
-ttylnd_of v a (Channel c) = fails v a 0o5
+ttylnd_of v a Oneself = lands v a (can_take v (v.holders (console_of v))) error.NOT_INFERIOR v.slot
+ttylnd_of v a Nobody = fails v a error.BAD_CHANNEL
+ttylnd_of v a (Channel (On s write at)) = lands v a (is_holder v (v.holders (console_of v))) error.WRONG_DEVICE s
+ttylnd_of v a (Channel c) = fails v a error.WRONG_DEVICE
 
 unfoldable pub ttylnd : View → Ask → Decision
 ttylnd v a = ttylnd_of v a (party v (input a 0))

@@ -1,6 +1,6 @@
 -- Calls on inferiors: OPEN of USR; `.IOT` and SIOT where the channel is on one; USRMEM and UCLOSE (docs/CALLS.md,
 -- "Inferiors").
-use Rattle.std.specs.Prelude.{◌==◌, ◌&&◌, ℕ, ◌+◌, ◌-◌, Bool, true, false, not, Option, Some, None, List, [], ◌∷◌, ◌++◌, nat_lt, find, slice_index_or, unwrap_or}
+use Rattle.std.specs.Prelude.{◌==◌, ◌&&◌, ℕ, ◌+◌, ◌-◌, Bool, true, false, not, Option, Some, None, List, [], ◌∷◌, ◌++◌, nat_lt, find, unwrap_or}
 use Rattle.std.specs.List.{list_any, range_with_len}
 use Rattle.its_word.specs.Word.{right_of}
 use Rattle.its_word.specs.Byte.{load_of}
@@ -12,13 +12,14 @@ use Rattle.its_frame.specs.declared.change.Change.{Change}
 use Rattle.its_frame.specs.declared.change.Change.TheVariants as changes
 use Rattle.its_frame.specs.declared.change.Opened.TheVariants as opened
 use Rattle.its_frame.specs.declared.decision.Decision.{Decision}
+use Rattle.its_frame.specs.Errors as error
 use Rattle.its_plain.specs.Machine.{Chan, Shut, On, core_of}
 use Rattle.its_plain.specs.View.{View, Outline}
 use Rattle.its_plain.specs.Arguments.{input, has_input}
 use Rattle.its_plain.specs.Tests.{Test, ◌⇒◌, first, finishes, fails, goes, out}
 use Rattle.its_plain.specs.CallBasic.{channel_at, ioc}
 use Rattle.its_plain.specs.CallTty.{is_shut, is_superior, is_absent, iot_ends, store_tests, read_tests, word_of, siot_by, next_pointer}
-use Rattle.its_plain.specs.CallFile.{end_of_file, end_of_core, open_call, iot_call, siot_call}
+use Rattle.its_plain.specs.CallFile.{end_of_file, end_of_core}
 
 -- the device of inferiors
 abbrev pub usr_device : ℕ
@@ -38,16 +39,16 @@ any_named v u n = list_any (λ k. has_names u n (v.outlines k)) (range_with_len 
 
 abbrev pub makes_job : View → Ask → ℕ → ℕ → ℕ → Option ℕ → Decision
 makes_job v a n u x (Some s) = finishes v (changes.Make s u x ∷ changes.Open n (opened.Usr s true) ∷ []) []
-makes_job v a n u x None = fails v a 0o14
+makes_job v a n u x None = fails v a error.NO_SLOT
 
 abbrev pub opens_job : View → Ask → ℕ → ℕ → ℕ → Bool → Option ℕ → Decision
 opens_job v a n u x write (Some s) = finishes v (changes.Open n (opened.Usr s write) ∷ []) []
-opens_job v a n u x write None = first (any_named v u x ⇒ fails v a 0o13 ∷ not write ⇒ fails v a 0o12 ∷ []) (makes_job v a n u x (least_free v.outlines))
+opens_job v a n u x write None = first (any_named v u x ⇒ fails v a error.NOT_INFERIOR ∷ not write ⇒ fails v a error.NO_JOB ∷ []) (makes_job v a n u x (least_free v.outlines))
 
 abbrev pub usr_tests : View → Ask → ℕ → ℕ → List Test
 usr_tests v a n control =
-    not (nat_lt n 16 && is_shut (channel_at v.own.channels n)) ⇒ fails v a 0o4
-    ∷ nat_lt 1 control ⇒ fails v a 0o22
+    not (nat_lt n 16 && is_shut (channel_at v.own.channels n)) ⇒ fails v a error.BAD_CHANNEL
+    ∷ nat_lt 1 control ⇒ fails v a error.OUT_OF_RANGE
     ∷ []
 
 unfoldable pub opens_usr : View → Ask → Decision
@@ -82,25 +83,18 @@ abbrev pub iot_through : View → ℕ → ℕ → ℕ → Bool → ℕ → Decis
 iot_through v e n s true at = iot_into v e n s at
 iot_through v e n s false at = iot_from v e n at
 
-abbrev pub iot_beside : View → Ask → ℕ → ℕ → Chan → Decision
-iot_beside v a e n (On s write at) = iot_through v e n s write at
-iot_beside v a e n _ = iot_call v a
-
-unfoldable pub iot_usr : View → Ask → Decision
-iot_usr v a = iot_beside v a (slice_index_or a.outputs.items 0 0) (input a 0) (channel_at v.own.channels (input a 0))
-
 -- SIOT of one word: from the inferior, or into it; error 16 where its word is absent, or cannot be stored
 abbrev pub siot_peeks : View → Ask → ℕ → ℕ → ℕ → ℕ → Option ℕ → Decision
 siot_peeks v a next k n at (Some w) =
     first (store_tests v (right_of next)) (goes (changes.Move n (at + 1) ∷ []) (Some (record { place = right_of next; byte = w })) (next ∷ (k - 1) ∷ []))
-siot_peeks v a next k n at None = first (store_tests v (right_of next)) (fails v a 0o16)
+siot_peeks v a next k n at None = first (store_tests v (right_of next)) (fails v a error.BAD_PAGE)
 
 abbrev pub siot_from : View → Ask → ℕ → ℕ → Decision
 siot_from v a n at = siot_by v a true (at_end at) (siot_peeks v a (next_pointer (input a 1)) (input a 2) n at (word_at (other_core v) at))
 
 abbrev pub siot_pokes : View → Ask → ℕ → ℕ → ℕ → ℕ → ℕ → Decision
 siot_pokes v a next k n s at =
-    first (read_tests v (right_of next) ++ (not (can_store (other_core v) at) ⇒ fails v a 0o16 ∷ []))
+    first (read_tests v (right_of next) ++ (not (can_store (other_core v) at) ⇒ fails v a error.BAD_PAGE ∷ []))
     (goes (changes.Poke s at (load_of next (word_of v (right_of next))) ∷ changes.Move n (at + 1) ∷ []) None (next ∷ (k - 1) ∷ []))
 
 abbrev pub siot_into : View → Ask → ℕ → ℕ → ℕ → Decision
@@ -109,13 +103,6 @@ siot_into v a n s at = siot_by v a true (at_end at) (siot_pokes v a (next_pointe
 abbrev pub siot_through : View → Ask → ℕ → ℕ → Bool → ℕ → Decision
 siot_through v a n s true at = siot_into v a n s at
 siot_through v a n s false at = siot_from v a n at
-
-abbrev pub siot_beside : View → Ask → ℕ → Chan → Decision
-siot_beside v a n (On s write at) = siot_through v a n s write at
-siot_beside v a n _ = siot_call v a
-
-unfoldable pub siot_usr : View → Ask → Decision
-siot_usr v a = siot_beside v a (input a 0) (channel_at v.own.channels (input a 0))
 
 -- USRMEM channel, address, optional new word: the output gets the word of the inferior, and then the new one is stored
 abbrev pub set_word : ℕ → ℕ → ℕ → Bool → List Change
@@ -127,35 +114,27 @@ highest_address = 0o777777
 
 abbrev pub usrmem_tests : View → Ask → Bool → ℕ → Bool → List Test
 usrmem_tests v a write p new =
-    nat_lt highest_address p ⇒ fails v a 0o22
-    ∷ (new && not write) ⇒ fails v a 0o5
-    ∷ is_absent (other_core v) p ⇒ fails v a 0o16
-    ∷ (new && not (can_store (other_core v) p)) ⇒ fails v a 0o16
+    nat_lt highest_address p ⇒ fails v a error.OUT_OF_RANGE
+    ∷ (new && not write) ⇒ fails v a error.WRONG_DEVICE
+    ∷ is_absent (other_core v) p ⇒ fails v a error.BAD_PAGE
+    ∷ (new && not (can_store (other_core v) p)) ⇒ fails v a error.BAD_PAGE
     ∷ []
 
 abbrev pub usrmem_on : View → Ask → Chan → Decision
-usrmem_on v a Shut = fails v a 0o4
+usrmem_on v a Shut = fails v a error.BAD_CHANNEL
 usrmem_on v a (On s write at) =
     first (usrmem_tests v a write (input a 1) (has_input a 2))
     (finishes v (set_word s (input a 1) (input a 2) (has_input a 2)) (out a.outputs.items (unwrap_or (word_at (other_core v) (input a 1)) 0)))
-usrmem_on v a _ = fails v a 0o5
+usrmem_on v a _ = fails v a error.WRONG_DEVICE
 
 unfoldable pub usrmem : View → Ask → Decision
 usrmem v a = usrmem_on v a (channel_at v.own.channels (input a 0))
 
 -- UCLOSE channel: the inferior and all jobs below it are removed. No INF is set
 abbrev pub uclose_on : View → Ask → Chan → Decision
-uclose_on v a Shut = fails v a 0o4
+uclose_on v a Shut = fails v a error.BAD_CHANNEL
 uclose_on v a (On s write at) = finishes v (changes.Remove s ∷ []) []
-uclose_on v a _ = fails v a 0o5
+uclose_on v a _ = fails v a error.WRONG_DEVICE
 
 unfoldable pub uclose : View → Ask → Decision
 uclose v a = uclose_on v a (channel_at v.own.channels (input a 0))
-
--- OPEN by its device
-abbrev pub open_beside : View → Ask → Bool → Decision
-open_beside v a true = opens_usr v a
-open_beside v a false = open_call v a
-
-unfoldable pub open_usr : View → Ask → Decision
-open_usr v a = open_beside v a (input a 1 == usr_device)

@@ -5,6 +5,7 @@ use Rattle.its_word.specs.declared.calls.Ask.{Ask}
 use Rattle.its_frame.specs.declared.decision.Decision.{Decision}
 use Rattle.its_frame.specs.declared.name.CallName.{CallName}
 use Rattle.its_frame.specs.declared.name.CallName.TheVariants.{Hang, Sleep, Dismis, Usrvar, Logout, Open, Close, Iot, Siot, Finish, Listen, Ttylnd, Access, Fillen, Delete, Rename, Usrmem, Uclose, Corblk}
+use Rattle.its_frame.specs.Errors as error
 pub use Rattle.its_frame.specs.Calls.{call_row, call_named}
 use Rattle.its_plain.specs.Machine.{Chan, On, Whole, Machine}
 use Rattle.its_plain.specs.Change.{superiors}
@@ -12,72 +13,34 @@ use Rattle.its_plain.specs.Arguments.{input}
 use Rattle.its_plain.specs.View.{View}
 use Rattle.its_plain.specs.Tests.{fails}
 use Rattle.its_plain.specs.CallBasic.{is_oneself, channel_at, hang, sleep, dismiss, usrvar, logout}
-use Rattle.its_plain.specs.CallTty.{opens, closes, iot, siot, finish, listen, ttylnd}
-use Rattle.its_plain.specs.CallFile.{open_call, close_call, iot_call, siot_call, access, fillen, delete, rename}
-use Rattle.its_plain.specs.CallUsr.{open_usr, iot_usr, siot_usr, usrmem, uclose}
+use Rattle.its_plain.specs.CallTty.{finish, listen, ttylnd}
+use Rattle.its_plain.specs.CallFile.{access, fillen, delete, rename}
+use Rattle.its_plain.specs.CallUsr.{usrmem, uclose}
 use Rattle.its_plain.specs.CallCore.{corblk}
+use Rattle.its_plain.specs.CallDevice.{open_call, close_call, iot_call, siot_call}
 
--- what a call decides whose decoding gave no error: first the calls on jobs and times alone
-abbrev pub basic_by : View → Ask → Option CallName → Decision
-basic_by v a (Some Hang) = hang
-basic_by v a (Some Sleep) = sleep v a
-basic_by v a (Some Dismis) = dismiss v a
-basic_by v a (Some Usrvar) = usrvar v a
-basic_by v a (Some Logout) = logout v
-basic_by v a _ = fails v a 0o1
-
--- the calls on consoles beside them
-abbrev pub tty_by : View → Ask → Option CallName → Decision
-tty_by v a (Some Open) = opens v a
-tty_by v a (Some Close) = closes v a
-tty_by v a (Some Iot) = iot v a
-tty_by v a (Some Siot) = siot v a
-tty_by v a (Some Finish) = finish v a
-tty_by v a (Some Listen) = listen v a
-tty_by v a (Some Ttylnd) = ttylnd v a
-tty_by v a o = basic_by v a o
-
--- and those on files
-abbrev pub file_by : View → Ask → Option CallName → Decision
-file_by v a (Some Open) = open_call v a
-file_by v a (Some Close) = close_call v a
-file_by v a (Some Iot) = iot_call v a
-file_by v a (Some Siot) = siot_call v a
-file_by v a (Some Access) = access v a
-file_by v a (Some Fillen) = fillen v a
-file_by v a (Some Delete) = delete v a
-file_by v a (Some Rename) = rename v a
-file_by v a o = tty_by v a o
-
--- and those on inferiors
-abbrev pub usr_by : View → Ask → Option CallName → Decision
-usr_by v a (Some Open) = open_usr v a
-usr_by v a (Some Iot) = iot_usr v a
-usr_by v a (Some Siot) = siot_usr v a
-usr_by v a (Some Usrmem) = usrmem v a
-usr_by v a (Some Uclose) = uclose v a
-usr_by v a o = file_by v a o
-
--- and that on pages
+-- what a call decides whose decoding gave no error, by its name
 abbrev pub decided_by : View → Ask → Option CallName → Decision
+decided_by v a (Some Hang) = hang
+decided_by v a (Some Sleep) = sleep v a
+decided_by v a (Some Dismis) = dismiss v a
+decided_by v a (Some Usrvar) = usrvar v a
+decided_by v a (Some Logout) = logout v
+decided_by v a (Some Open) = open_call v a
+decided_by v a (Some Close) = close_call v a
+decided_by v a (Some Iot) = iot_call v a
+decided_by v a (Some Siot) = siot_call v a
+decided_by v a (Some Finish) = finish v a
+decided_by v a (Some Listen) = listen v a
+decided_by v a (Some Ttylnd) = ttylnd v a
+decided_by v a (Some Access) = access v a
+decided_by v a (Some Fillen) = fillen v a
+decided_by v a (Some Delete) = delete v a
+decided_by v a (Some Rename) = rename v a
+decided_by v a (Some Usrmem) = usrmem v a
+decided_by v a (Some Uclose) = uclose v a
 decided_by v a (Some Corblk) = corblk v a
-decided_by v a o = usr_by v a o
-
--- that of the calls on jobs and times alone
-unfoldable pub decided_basic : View → Ask → Decision
-decided_basic v a = if a.fail == 0 then basic_by v a (call_named a.name) else fails v a a.fail
-
--- and that of the calls on consoles
-unfoldable pub decided_tty : View → Ask → Decision
-decided_tty v a = if a.fail == 0 then tty_by v a (call_named a.name) else fails v a a.fail
-
--- and that of the calls on files
-unfoldable pub decided_file : View → Ask → Decision
-decided_file v a = if a.fail == 0 then file_by v a (call_named a.name) else fails v a a.fail
-
--- and that of the calls on inferiors
-unfoldable pub decided_usr : View → Ask → Decision
-decided_usr v a = if a.fail == 0 then usr_by v a (call_named a.name) else fails v a a.fail
+decided_by v a None = fails v a error.NO_CALL
 
 -- an error of the decoding comes first
 unfoldable pub decided : View → Ask → Decision

@@ -21,6 +21,7 @@ use Rattle.its_frame.specs.declared.name.CallName.{CallName}
 use Rattle.its_frame.specs.declared.name.CallName.TheVariants.{Iot}
 use Rattle.its_frame.specs.declared.name.CallRow.{CallRow}
 use Rattle.its_frame.specs.Calls.{call_row, sixbit, call_named}
+use Rattle.its_frame.specs.Errors as error
 use Rattle.its_plain.specs.UnitPlan.{given}
 use Rattle.its_plain.specs.Traced.{Traced, gives, faults, also, word, located}
 
@@ -166,13 +167,13 @@ row_by None = None
 unfoldable pub row_named : ℕ → Option CallRow
 row_named name = row_by (call_named name)
 
--- 1 where no call has the name, else 2 where there are too few inputs or outputs, else 3 where there are too many of these, or
--- something else is too much
+-- no call has the name; else there are too few inputs or outputs; else there are too many of these, or something else is
+-- too much
 unfoldable pub error_by : Option CallRow → ℕ → ℕ → Bool → ℕ
-error_by None inputs outputs excess = 1
+error_by None inputs outputs excess = error.NO_CALL
 error_by (Some r) inputs outputs excess =
-    if nat_lt inputs r.least_in || nat_lt outputs r.least_out then 2
-    else (if nat_lt r.most_in inputs || nat_lt r.most_out outputs || excess then 3 else 0)
+    if nat_lt inputs r.least_in || nat_lt outputs r.least_out then error.TOO_FEW
+    else (if nat_lt r.most_in inputs || nat_lt r.most_out outputs || excess then error.TOO_MANY else 0)
 
 -- what else is too much: a second error address, a second control, or no end of the argument words
 unfoldable pub exceeds : ℕ → ℕ → List ℕ → Bool

@@ -24,6 +24,7 @@ pub mod CallFile
 pub mod CallUsr
 pub mod CallCore
 pub mod Moves
+pub mod CallDevice
 pub mod CallStep
 pub mod Operator
 pub mod OperatorJobs

@@ -1,10 +1,9 @@
 -- The PC of each job stays an address through the steps of the plain machine.
-use Rattle.std.specs.Prelude.{if◌then◌else◌, ◌==◌, ◌&&◌, ◌≡◌, ◌<◌, ℕ, ◌+◌, ◌-◌, ◌^◌, Bool, true, false, not, Option, Some, None, IfSome, List, [], ◌∷◌, ◌++◌, length, slice_index_or, unwrap_or, Result, Ok, Err, option_map, refl}
+use Rattle.std.specs.Prelude.{if◌then◌else◌, ◌==◌, ◌&&◌, ◌≡◌, ◌<◌, ℕ, ◌+◌, ◌-◌, ◌^◌, Bool, true, false, not, Option, Some, None, IfSome, List, [], ◌∷◌, unwrap_or, Result, Ok, Err, option_map, refl}
 use Rattle.std.proofs.Common.{sym, subst, arith}
 use Rattle.std.proofs.lemmas.Nat.{mod_below}
-use Rattle.its_word.specs.Byte.{load_of}
 use Rattle.its_word.specs.Core.{Core, can_store, word_at}
-use Rattle.its_word.specs.Tree.{fresh_job}
+use Rattle.its_word.specs.Tree.{fresh_job, least_free}
 use Rattle.its_word.specs.Word.{right_of}
 use Rattle.its_word.specs.declared.access.Fault.{Fault}
 use Rattle.its_word.specs.declared.calls.Ask.{Ask}
@@ -15,17 +14,16 @@ use Rattle.its_frame.specs.declared.change.Change.TheVariants as changes
 use Rattle.its_frame.specs.declared.decision.Decision.{Decision}
 use Rattle.its_frame.specs.declared.decision.Decision.TheVariants.{Waits, Goes, Ends, Gone}
 use Rattle.its_frame.specs.declared.decision.Held.{Held}
-use Rattle.its_frame.specs.declared.decision.Wait.TheVariants.{Input, Output, Drained}
-use Rattle.its_frame.specs.declared.name.CallName.{CallName}
-use Rattle.its_frame.specs.declared.name.CallName.TheVariants.{Hang, Sleep, Dismis, Usrvar, Logout, Open, Close, Iot, Siot, Finish, Listen, Ttylnd}
+use Rattle.its_frame.specs.declared.name.CallName.TheVariants.{Open, Close}
 use Rattle.its_frame.specs.declared.variable.Variable.{Variable}
 use Rattle.its_frame.specs.declared.variable.Variable.TheVariants.{Uname, Jname, Uind, Suppro, Cnsl, Pages, Upc, Ustp, Pirqc, Ifpir, Mask, Msk2, Df1, Df2}
 use Rattle.its_plain.specs.Arguments.{input, has_input, place_of_input, revalued}
-use Rattle.its_plain.specs.CallBasic.{negated, sleep_tests, sleep, dismissed_by, dismiss_at, dismiss, Party, Oneself, Nobody, Channel, variable_named, by_oneself, by_superior, set_own, own_variable, set_other, value_of_other, other_variable, usrvar_of, channel_at, party, usrvar}
-use Rattle.its_plain.specs.CallTty.{console_of, has_console, input_waits, output_waits, output_left, first_typed, shown_byte, opens_on, open_tests, opens, close_on, closes, store_tests, read_tests, word_of, iot_ends, iot_in, iot_out, iot_on, iot, next_pointer, siot_in, siot_out, siot_by, siot_on, siot, finish_on, finish, listens, listen_on, listen, can_take, is_holder, lands, ttylnd_of, ttylnd}
+use Rattle.its_plain.specs.CallBasic.{dismissed_by, dismiss_at, dismiss, Party, Oneself, Nobody, Channel, variable_named, by_oneself, by_superior, set_own, own_variable, set_other, value_of_other, other_variable, usrvar_of, channel_at, party, usrvar}
+use Rattle.its_plain.specs.CallTty.{console_of, has_console, can_take, is_holder, lands, ttylnd_of, ttylnd}
 use Rattle.its_plain.specs.CallStep.{with_held, acted, decision, informs, step}
+use Rattle.its_plain.specs.CallUsr.{inferior_named, any_named, makes_job, opens_job, usr_tests, opens_usr, uclose_on, uclose}
 use Rattle.its_plain.specs.Change.{in_job, is_gone, left_job, removed, superiors, inferior, effect, effects}
-use Rattle.its_plain.specs.Decide.{call_named, tty_by, decided_by, decided, target, reach}
+use Rattle.its_plain.specs.Decide.{call_named, decided_by, decided, target, reach}
 use Rattle.its_plain.specs.Interrupt as interrupt
 use Rattle.its_plain.specs.Interrupt.{Delivered, deliverable, delivered, dismissed, dismissed_at, below}
 use Rattle.its_plain.specs.Machine.{Chan, Shut, TtyIn, TtyOut, Reads, Writes, On, Whole, Machine, changed, no_machine}
@@ -37,10 +35,8 @@ use Rattle.its_plain.proofs.DeliveryLaws.{delivered_placed}
 use Rattle.its_plain.proofs.UnitLaws.{unit_keeps}
 use Rattle.its_stepped.specs.Address.{Addressed}
 use Rattle.its_stepped.proofs.TestLaws.{by_test, first_holds}
-use Rattle.its_stepped.proofs.FileWays.{OnFile, Ways, siot_by_ways, file_ways}
-use Rattle.its_stepped.proofs.UsrWays.{OnUsr, usr_ways}
-use Rattle.its_stepped.proofs.CoreWays.{OnCore, core_ways}
 use Rattle.its_plain.proofs.StepLaws.{AllOf, step_has}
+use Rattle.its_stepped.proofs.CallWays.{Ways, Apart, call_ways}
 
 -- at the start of a session
 pub addressed_starts : Addressed no_machine
@@ -139,13 +135,6 @@ LeavesAddress (Gone cs) = Unit {0}
 pub advanced_addressed : (n : ℕ) (j : Job) → (advanced n j).pc < 2 ^ 18
 advanced_addressed n j = mod_below (j.pc + n) (2 ^ 18) (omega arith)
 
-sleep_leaves : (x : View) (a : Ask) → x.own.job.pc < 2 ^ 18 → LeavesAddress (sleep x a)
-unfolding sleep
-sleep_leaves x a h =
-    first_holds LeavesAddress (sleep_tests x a (input a 0) (place_of_input a 0)) (goes [] None (negated (x.clock + input a 0) ∷ []))
-    (λ t. advanced_addressed 2 x.own.job, (λ t. tt, (λ t. advanced_addressed 2 x.own.job, (λ t. advanced_addressed 1 x.own.job, (λ t. advanced_addressed 1 x.own.job, (λ t. h, tt))))))
-    (λ t. tt)
-
 -- DISMIS
 abbrev PopsAddress : Result Exit Fault → Type 0
 PopsAddress (Ok e) = e.pc < 2 ^ 18
@@ -211,124 +200,46 @@ usrvar_leaves x a = go (party x (input a 0))
     go (Channel (Writes f)) = advanced_addressed 1 x.own.job
 
 -- the ways in which a call goes on or ends
-ways_leave : (OnIt : Change → Type 0) (x : View) (a : Ask) → x.own.job.pc < 2 ^ 18 → Ways OnIt LeavesAddress x a
-ways_leave OnIt x a h = record {
+ways_leave : (x : View) (a : Ask) → x.own.job.pc < 2 ^ 18 → Ways LeavesAddress x a
+ways_leave x a h = record {
   failing = λ k. advanced_addressed 1 x.own.job;
   faulting = λ f. h;
   stuck = advanced_addressed 1 x.own.job;
+  opening = λ t b. advanced_addressed 2 x.own.job;
   ending = λ cs ss t. advanced_addressed 2 x.own.job;
   moved = λ cs ss t. advanced_addressed 1 x.own.job;
   going = λ cs o vs t. tt;
 }
 
--- the calls on consoles
-opens_leaves : (x : View) (a : Ask) → LeavesAddress (opens x a)
-unfolding opens
-opens_leaves x a =
+-- OPEN of an inferior
+makes_leaves : (x : View) (a : Ask) (n u y : ℕ) (o : Option ℕ) → LeavesAddress (makes_job x a n u y o)
+makes_leaves x a n u y (Some s) = advanced_addressed 2 x.own.job
+makes_leaves x a n u y None = advanced_addressed 1 x.own.job
+
+job_leaves : (x : View) (a : Ask) (n u y : ℕ) (write : Bool) (o : Option ℕ) → LeavesAddress (opens_job x a n u y write o)
+job_leaves x a n u y write (Some s) = advanced_addressed 2 x.own.job
+job_leaves x a n u y write None =
+    let one = advanced_addressed 1 x.own.job in
+    first_holds LeavesAddress (any_named x u y ⇒ fails x a 0o13 ∷ not write ⇒ fails x a 0o12 ∷ []) (makes_job x a n u y (least_free x.outlines)) (λ t. one, (λ t. one, tt))
+    (λ t. makes_leaves x a n u y (least_free x.outlines))
+
+opens_usr_leaves : (x : View) (a : Ask) → LeavesAddress (opens_usr x a)
+unfolding opens_usr
+opens_usr_leaves x a =
     let control = unwrap_or a.control 0 in
     let one = advanced_addressed 1 x.own.job in
-    first_holds LeavesAddress (open_tests x a (input a 0) (input a 1) control) (finishes x (changes.Open (input a 0) (opens_on control) ∷ []) [])
-    (λ t. one, (λ t. one, (λ t. one, (λ t. one, tt)))) (λ t. advanced_addressed 2 x.own.job)
+    let o = inferior_named x (input a 2) (input a 3) in
+    first_holds LeavesAddress (usr_tests x a (input a 0) control) (opens_job x a (input a 0) (input a 2) (input a 3) (control == 1) o) (λ t. one, (λ t. one, tt))
+    (λ t. job_leaves x a (input a 0) (input a 2) (input a 3) (control == 1) o)
 
-closes_leaves : (x : View) (a : Ask) → LeavesAddress (closes x a)
-unfolding closes
-closes_leaves x a = go (channel_at x.own.channels (input a 0))
+-- UCLOSE and TTYLND
+uclose_leaves : (x : View) (a : Ask) → LeavesAddress (uclose x a)
+unfolding uclose
+uclose_leaves x a = go (channel_at x.own.channels (input a 0))
   where
-    go : (c : Chan) → LeavesAddress (close_on x a c)
-    go Shut = advanced_addressed 1 x.own.job
-    go TtyIn = advanced_addressed 2 x.own.job
-    go TtyOut = advanced_addressed 2 x.own.job
-    go (Reads f at) = advanced_addressed 2 x.own.job
-    go (Writes f) = advanced_addressed 2 x.own.job
-    go (On k write at) = advanced_addressed 2 x.own.job
-
-iot_in_leaves : (x : View) (e i : ℕ) → x.own.job.pc < 2 ^ 18 → LeavesAddress (iot_in x e i)
-iot_in_leaves x e i h =
-    first_holds LeavesAddress (store_tests x e ++ (input_waits x i ⇒ Waits (Input i) ∷ [])) (iot_ends x (changes.Take i ∷ []) (record { at = e; word = first_typed x i } ∷ []))
-    (λ t. h, (λ t. h, (λ t. tt, tt))) (λ t. advanced_addressed 1 x.own.job)
-
-iot_out_leaves : (x : View) (e i : ℕ) → x.own.job.pc < 2 ^ 18 → LeavesAddress (iot_out x e i)
-iot_out_leaves x e i h =
-    first_holds LeavesAddress (read_tests x e ++ (output_waits x i ⇒ Waits (Output i) ∷ [])) (iot_ends x (changes.Put i (shown_byte (word_of x e)) ∷ []) [])
-    (λ t. h, (λ t. tt, tt)) (λ t. advanced_addressed 1 x.own.job)
-
-iot_leaves : (x : View) (a : Ask) → x.own.job.pc < 2 ^ 18 → LeavesAddress (iot x a)
-unfolding iot
-iot_leaves x a h = go (channel_at x.own.channels (input a 0))
-  where
-    e : ℕ
-    e = slice_index_or a.outputs.items 0 0
-
-    go : (c : Chan) → LeavesAddress (iot_on x e c)
-    go TtyIn = iot_in_leaves x e (console_of x) h
-    go TtyOut = iot_out_leaves x e (console_of x) h
-    go Shut = advanced_addressed 1 x.own.job
-    go (Reads f at) = advanced_addressed 1 x.own.job
-    go (Writes f) = advanced_addressed 1 x.own.job
-    go (On k write at) = advanced_addressed 1 x.own.job
-
-siot_in_leaves : (x : View) (a : Ask) (next k i : ℕ) → x.own.job.pc < 2 ^ 18 → LeavesAddress (siot_in x a next k i)
-siot_in_leaves x a next k i h =
-    first_holds LeavesAddress (store_tests x (right_of next) ++ (input_waits x i ⇒ Waits (Input i) ∷ []))
-    (goes (changes.Take i ∷ []) (Some (record { place = right_of next; byte = first_typed x i })) (next ∷ (k - 1) ∷ []))
-    (λ t. h, (λ t. h, (λ t. tt, tt))) (λ t. tt)
-
-siot_out_leaves : (x : View) (a : Ask) (next k i : ℕ) → x.own.job.pc < 2 ^ 18 → LeavesAddress (siot_out x a next k i)
-siot_out_leaves x a next k i h =
-    first_holds LeavesAddress (read_tests x (right_of next) ++ (output_waits x i ⇒ Waits (Output i) ∷ []))
-    (goes (changes.Put i (shown_byte (load_of next (word_of x (right_of next)))) ∷ []) None (next ∷ (k - 1) ∷ []))
-    (λ t. h, (λ t. tt, tt)) (λ t. tt)
-
-siot_leaves : (x : View) (a : Ask) → x.own.job.pc < 2 ^ 18 → LeavesAddress (siot x a)
-unfolding siot
-siot_leaves x a h = go (channel_at x.own.channels (input a 0))
-  where
-    p : ℕ
-    p = input a 1
-
-    k : ℕ
-    k = input a 2
-
-    behind : (d : Decision) → LeavesAddress d → LeavesAddress (siot_by x a false false d)
-    behind d l = siot_by_ways LeavesAddress x a false false d (ways_leave OnFile x a h) l
-
-    go : (c : Chan) → LeavesAddress (siot_on x a c)
-    go TtyIn = behind (siot_in x a (next_pointer p) k (console_of x)) (siot_in_leaves x a (next_pointer p) k (console_of x) h)
-    go TtyOut = behind (siot_out x a (next_pointer p) k (console_of x)) (siot_out_leaves x a (next_pointer p) k (console_of x) h)
-    go Shut = advanced_addressed 1 x.own.job
-    go (Reads f at) = advanced_addressed 1 x.own.job
-    go (Writes f) = advanced_addressed 1 x.own.job
-    go (On i write at) = advanced_addressed 1 x.own.job
-
-finish_leaves : (x : View) (a : Ask) → LeavesAddress (finish x a)
-unfolding finish
-finish_leaves x a = go (channel_at x.own.channels (input a 0))
-  where
-    go : (c : Chan) → LeavesAddress (finish_on x a c)
-    go TtyOut =
-        first_holds LeavesAddress (output_left x (console_of x) ⇒ Waits (Drained (console_of x)) ∷ []) (finishes x [] []) (λ t. tt, tt) (λ t. advanced_addressed 2 x.own.job)
-    go Shut = advanced_addressed 1 x.own.job
-    go TtyIn = advanced_addressed 1 x.own.job
-    go (Reads f at) = advanced_addressed 1 x.own.job
-    go (Writes f) = advanced_addressed 1 x.own.job
-    go (On k write at) = advanced_addressed 1 x.own.job
-
-listens_leaves : (x : View) (a : Ask) (i : ℕ) → LeavesAddress (listens x a i)
-listens_leaves x a i =
-    first_holds LeavesAddress (output_left x i ⇒ Waits (Drained i) ∷ []) (finishes x [] (out a.outputs.items (length (x.consoles i).input))) (λ t. tt, tt)
-    (λ t. advanced_addressed 2 x.own.job)
-
-listen_leaves : (x : View) (a : Ask) → LeavesAddress (listen x a)
-unfolding listen
-listen_leaves x a = go (channel_at x.own.channels (input a 0))
-  where
-    go : (c : Chan) → LeavesAddress (listen_on x a c)
-    go TtyIn = listens_leaves x a (console_of x)
-    go TtyOut = listens_leaves x a (console_of x)
-    go Shut = advanced_addressed 1 x.own.job
-    go (Reads f at) = advanced_addressed 1 x.own.job
-    go (Writes f) = advanced_addressed 1 x.own.job
-    go (On k write at) = advanced_addressed 1 x.own.job
+    go : (c : Chan) → LeavesAddress (uclose_on x a c)
+    go (On s write at) = advanced_addressed 2 x.own.job
+    go _ = advanced_addressed 1 x.own.job
 
 lands_leaves : (x : View) (a : Ask) (may : Bool) (error k : ℕ) → LeavesAddress (lands x a may error k)
 lands_leaves x a may error k =
@@ -349,29 +260,21 @@ ttylnd_leaves x a = go (party x (input a 0))
     go (Channel (Reads f at)) = advanced_addressed 1 x.own.job
     go (Channel (Writes f)) = advanced_addressed 1 x.own.job
 
--- the calls by their names, but for those on files, on inferiors and on pages
-named_leaves : (x : View) (a : Ask) (o : Option CallName) → x.own.job.pc < 2 ^ 18 → LeavesAddress (tty_by x a o)
-named_leaves x a (Some Hang) h = tt
-named_leaves x a (Some Sleep) h = sleep_leaves x a h
-named_leaves x a (Some Dismis) h = dismiss_leaves x a h
-named_leaves x a (Some Usrvar) h = usrvar_leaves x a
-named_leaves x a (Some Logout) h = tt
-named_leaves x a (Some Open) h = opens_leaves x a
-named_leaves x a (Some Close) h = closes_leaves x a
-named_leaves x a (Some Iot) h = iot_leaves x a h
-named_leaves x a (Some Siot) h = siot_leaves x a h
-named_leaves x a (Some Finish) h = finish_leaves x a
-named_leaves x a (Some Listen) h = listen_leaves x a
-named_leaves x a (Some Ttylnd) h = ttylnd_leaves x a
-named_leaves x a _ h = advanced_addressed 1 x.own.job
+apart_leaves : (x : View) (a : Ask) → x.own.job.pc < 2 ^ 18 → Apart LeavesAddress x a
+apart_leaves x a h = record {
+  dismiss = dismiss_leaves x a h;
+  usrvar = usrvar_leaves x a;
+  logout = tt;
+  opens_usr = opens_usr_leaves x a;
+  ttylnd = ttylnd_leaves x a;
+  uclose = uclose_leaves x a;
+}
 
 pub decided_leaves : (x : View) (a : Ask) → x.own.job.pc < 2 ^ 18 → LeavesAddress (decided x a)
 unfolding decided
 decided_leaves x a h =
     let o = call_named a.name in
-    by_test LeavesAddress (a.fail == 0) (decided_by x a o) (fails x a a.fail)
-    (λ t. core_ways LeavesAddress x a o (ways_leave OnCore x a h)
-    (usr_ways LeavesAddress x a o (ways_leave OnUsr x a h) (file_ways LeavesAddress x a o (ways_leave OnFile x a h) (named_leaves x a o h))))
+    by_test LeavesAddress (a.fail == 0) (decided_by x a o) (fails x a a.fail) (λ t. call_ways LeavesAddress x a o (ways_leave x a h) (λ r. tt) (apart_leaves x a h))
     (λ t. advanced_addressed 1 x.own.job)
 
 pub decision_leaves : (m : Machine) (j : ℕ) (q : Whole) (a : Ask) → q.job.pc < 2 ^ 18 → LeavesAddress (decision m j q a)

@@ -13,13 +13,14 @@ use Rattle.its_word.specs.declared.jobs.Job.{Job}
 use Rattle.its_word.specs.declared.plan.Store.{Store}
 use Rattle.its_frame.specs.declared.decision.Decision.{Decision}
 use Rattle.its_frame.specs.declared.name.CallName.{CallName}
-use Rattle.its_frame.specs.declared.name.CallName.TheVariants.{Hang, Sleep, Dismis, Usrvar, Logout, Open, Close, Iot, Siot, Finish, Listen, Ttylnd, Access, Fillen, Delete, Rename, Usrmem, Uclose, Corblk}
+use Rattle.its_frame.specs.declared.name.CallName.TheVariants.{Sleep, Siot}
 use Rattle.its_plain.specs.Arguments.{input, in_footprint, debts}
 use Rattle.its_plain.specs.CallBasic.{channel_at, read_only, sleep}
 use Rattle.its_plain.specs.CallStep.{decision}
-use Rattle.its_plain.specs.CallTty.{console_of, next_pointer, siot_in, siot_out, siot_by, siot_on, siot}
-use Rattle.its_plain.specs.CallFile.{words_of, siot_read, siot_write, siot_to, siot_call}
-use Rattle.its_plain.specs.CallUsr.{other_core, at_end, siot_peeks, siot_pokes, siot_through, siot_beside, siot_usr}
+use Rattle.its_plain.specs.CallTty.{console_of, next_pointer, siot_in, siot_out, siot_by}
+use Rattle.its_plain.specs.CallFile.{words_of, siot_read, siot_write}
+use Rattle.its_plain.specs.CallUsr.{other_core, at_end, siot_peeks, siot_pokes, siot_through}
+use Rattle.its_plain.specs.CallDevice.{siot_on, siot_call}
 use Rattle.its_plain.specs.Decide.{call_named, decided_by, decided, target}
 use Rattle.its_plain.specs.Machine.{File, Chan, Shut, TtyIn, TtyOut, Reads, Writes, On, Whole, Machine}
 use Rattle.its_plain.specs.Own.{with_stores}
@@ -98,42 +99,6 @@ siot_by_stored m j q t a n words ended c d e f same =
       | inr h ↦ tests_stored m j q t a (debts a n) words ended d ∙ ap (siot_by (view m j q t) a words ended) (same (word_stored q.core (debts a n) b (debts_apart c a n b f h)))
     ]
 
-siot_on_stored : (m : Machine) (j : ℕ) (q : Whole) (t : Option ℕ) (a : Ask) (n : ℕ) (c : Core) (h : Chan) → Fetched c a
-    → siot_on (view m j (with_stores (debts a n) q) t) a h ≡ siot_on (view m j q t) a h
-unfolding view
-siot_on_stored m j q t a n c TtyIn f =
-    siot_by_stored m j q t a n false false c _ _ f
-    (λ e. siot_in_stored m j q t a (debts a n) (next_pointer (input a 1)) (input a 2) (console_of (view m j q t)) e)
-siot_on_stored m j q t a n c TtyOut f =
-    siot_by_stored m j q t a n false false c _ _ f
-    (λ e. siot_out_stored m j q t a (debts a n) (next_pointer (input a 1)) (input a 2) (console_of (view m j q t)) e)
-siot_on_stored m j q t a n c Shut f = refl
-siot_on_stored m j q t a n c (Reads r at) f = refl
-siot_on_stored m j q t a n c (Writes r) f = refl
-siot_on_stored m j q t a n c (On k write at) f = refl
-
-siot_stored : (m : Machine) (j : ℕ) (q : Whole) (t : Option ℕ) (a : Ask) (n : ℕ) (c : Core) → Fetched c a → siot (view m j (with_stores (debts a n) q) t) a ≡ siot (view m j q t) a
-unfolding siot view
-siot_stored m j q t a n c f = siot_on_stored m j q t a n c (channel_at q.channels (input a 0)) f
-
-siot_to_stored : (m : Machine) (j : ℕ) (q : Whole) (t : Option ℕ) (a : Ask) (n i : ℕ) (c : Core) (h : Chan) → Fetched c a
-    → siot_to (view m j (with_stores (debts a n) q) t) a i h ≡ siot_to (view m j q t) a i h
-unfolding view
-siot_to_stored m j q t a n i c (Reads r at) f =
-    let o = slice_get (words_of (view m j q t) r) at in
-    siot_by_stored m j q t a n true (not (is_some o)) c _ _ f (λ e. siot_read_stored m j q t (debts a n) (next_pointer (input a 1)) (input a 2) i at (unwrap_or o 0) e)
-siot_to_stored m j q t a n i c (Writes r) f =
-    siot_by_stored m j q t a n true false c _ _ f (λ e. siot_write_stored m j q t a (debts a n) (next_pointer (input a 1)) (input a 2) i r e)
-siot_to_stored m j q t a n i c Shut f = siot_stored m j q t a n c f
-siot_to_stored m j q t a n i c TtyIn f = siot_stored m j q t a n c f
-siot_to_stored m j q t a n i c TtyOut f = siot_stored m j q t a n c f
-siot_to_stored m j q t a n i c (On k write at) f = siot_stored m j q t a n c f
-
-siot_call_stored : (m : Machine) (j : ℕ) (q : Whole) (t : Option ℕ) (a : Ask) (n : ℕ) (c : Core) → Fetched c a
-    → siot_call (view m j (with_stores (debts a n) q) t) a ≡ siot_call (view m j q t) a
-unfolding siot_call view
-siot_call_stored m j q t a n c f = siot_to_stored m j q t a n (input a 0) c (channel_at q.channels (input a 0)) f
-
 siot_through_stored : (m : Machine) (j : ℕ) (q : Whole) (t : Option ℕ) (a : Ask) (n i s : ℕ) (write : Bool) (at : ℕ) (c : Core) → Fetched c a
     → siot_through (view m j (with_stores (debts a n) q) t) a i s write at ≡ siot_through (view m j q t) a i s write at
 unfolding view
@@ -143,15 +108,27 @@ siot_through_stored m j q t a n i s false at c f =
     let o = word_at (other_core (view m j q t)) at in
     siot_by_stored m j q t a n true (at_end at) c _ _ f (λ e. siot_peeks_stored m j q t a (debts a n) (next_pointer (input a 1)) (input a 2) i at o e)
 
-siot_beside_stored : (m : Machine) (j : ℕ) (q : Whole) (t : Option ℕ) (a : Ask) (n i : ℕ) (c : Core) (h : Chan) → Fetched c a
-    → siot_beside (view m j (with_stores (debts a n) q) t) a i h ≡ siot_beside (view m j q t) a i h
-siot_beside_stored m j q t a n i c (On s write at) f = siot_through_stored m j q t a n i s write at c f
-siot_beside_stored m j q t a n i c _ f = siot_call_stored m j q t a n c f
+siot_on_stored : (m : Machine) (j : ℕ) (q : Whole) (t : Option ℕ) (a : Ask) (n i : ℕ) (c : Core) (h : Chan) → Fetched c a
+    → siot_on (view m j (with_stores (debts a n) q) t) a i h ≡ siot_on (view m j q t) a i h
+unfolding view
+siot_on_stored m j q t a n i c Shut f = refl
+siot_on_stored m j q t a n i c TtyIn f =
+    siot_by_stored m j q t a n false false c _ _ f
+    (λ e. siot_in_stored m j q t a (debts a n) (next_pointer (input a 1)) (input a 2) (console_of (view m j q t)) e)
+siot_on_stored m j q t a n i c TtyOut f =
+    siot_by_stored m j q t a n false false c _ _ f
+    (λ e. siot_out_stored m j q t a (debts a n) (next_pointer (input a 1)) (input a 2) (console_of (view m j q t)) e)
+siot_on_stored m j q t a n i c (Reads r at) f =
+    let o = slice_get (words_of (view m j q t) r) at in
+    siot_by_stored m j q t a n true (not (is_some o)) c _ _ f (λ e. siot_read_stored m j q t (debts a n) (next_pointer (input a 1)) (input a 2) i at (unwrap_or o 0) e)
+siot_on_stored m j q t a n i c (Writes r) f =
+    siot_by_stored m j q t a n true false c _ _ f (λ e. siot_write_stored m j q t a (debts a n) (next_pointer (input a 1)) (input a 2) i r e)
+siot_on_stored m j q t a n i c (On s write at) f = siot_through_stored m j q t a n i s write at c f
 
-siot_usr_stored : (m : Machine) (j : ℕ) (q : Whole) (t : Option ℕ) (a : Ask) (n : ℕ) (c : Core) → Fetched c a
-    → siot_usr (view m j (with_stores (debts a n) q) t) a ≡ siot_usr (view m j q t) a
-unfolding siot_usr view
-siot_usr_stored m j q t a n c f = siot_beside_stored m j q t a n (input a 0) c (channel_at q.channels (input a 0)) f
+siot_stored : (m : Machine) (j : ℕ) (q : Whole) (t : Option ℕ) (a : Ask) (n : ℕ) (c : Core) → Fetched c a
+    → siot_call (view m j (with_stores (debts a n) q) t) a ≡ siot_call (view m j q t) a
+unfolding siot_call view
+siot_stored m j q t a n c f = siot_on_stored m j q t a n (input a 0) c (channel_at q.channels (input a 0)) f
 
 -- a call that owes nothing
 no_stores : (a : Ask) (n : ℕ) (q : Whole) → n ≤ 0 → with_stores (debts a n) q ≡ q
@@ -166,25 +143,8 @@ by_name : (m : Machine) (j : ℕ) (q : Whole) (t : Option ℕ) (a : Ask) (n : �
     → decided_by (view m j (with_stores (debts a n) q) t) a c ≡ decided_by (view m j q t) a c
 unfolding view
 by_name m j q t a n i (Some Sleep) f h = sleep_stored m j q t a (debts a n)
-by_name m j q t a n i (Some Siot) f h = siot_usr_stored m j q t a n i f
-by_name m j q t a n i (Some Hang) f h = owes_none m j q t a n (Some Hang) h
-by_name m j q t a n i (Some Dismis) f h = owes_none m j q t a n (Some Dismis) h
-by_name m j q t a n i (Some Usrvar) f h = owes_none m j q t a n (Some Usrvar) h
-by_name m j q t a n i (Some Logout) f h = owes_none m j q t a n (Some Logout) h
-by_name m j q t a n i (Some Open) f h = owes_none m j q t a n (Some Open) h
-by_name m j q t a n i (Some Close) f h = owes_none m j q t a n (Some Close) h
-by_name m j q t a n i (Some Iot) f h = owes_none m j q t a n (Some Iot) h
-by_name m j q t a n i (Some Finish) f h = owes_none m j q t a n (Some Finish) h
-by_name m j q t a n i (Some Listen) f h = owes_none m j q t a n (Some Listen) h
-by_name m j q t a n i (Some Ttylnd) f h = owes_none m j q t a n (Some Ttylnd) h
-by_name m j q t a n i (Some Access) f h = owes_none m j q t a n (Some Access) h
-by_name m j q t a n i (Some Fillen) f h = owes_none m j q t a n (Some Fillen) h
-by_name m j q t a n i (Some Delete) f h = owes_none m j q t a n (Some Delete) h
-by_name m j q t a n i (Some Rename) f h = owes_none m j q t a n (Some Rename) h
-by_name m j q t a n i (Some Usrmem) f h = owes_none m j q t a n (Some Usrmem) h
-by_name m j q t a n i (Some Uclose) f h = owes_none m j q t a n (Some Uclose) h
-by_name m j q t a n i (Some Corblk) f h = owes_none m j q t a n (Some Corblk) h
-by_name m j q t a n i None f h = owes_none m j q t a n None h
+by_name m j q t a n i (Some Siot) f h = siot_stored m j q t a n i f
+by_name m j q t a n i c f h = owes_none m j q t a n c h
 
 decided_behind : (m : Machine) (j : ℕ) (q : Whole) (t : Option ℕ) (a : Ask) (n : ℕ) (c : Core) → Fetched c a → n ≤ most_owed a
     → decided (view m j (with_stores (debts a n) q) t) a ≡ decided (view m j q t) a

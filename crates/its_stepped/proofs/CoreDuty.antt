@@ -23,7 +23,7 @@ use Rattle.its_stepped.specs.Duty.{Remains, Duty, parts_in}
 use Rattle.its_stepped.specs.Calling.{Calling}
 use Rattle.its_stepped.proofs.TargetLaws.{aimed_reached, aimed_on}
 use Rattle.its_stepped.proofs.TestLaws.{first_holds, room, fails_duty}
-use Rattle.its_stepped.proofs.CoreWays.{page_by}
+use Rattle.its_stepped.proofs.CallWays.{page_by}
 
 -- it owes no argument
 most_none : (a : Ask) → call_named a.name ≡ Some Corblk → most_owed a ≡ 0

@@ -1,6 +1,6 @@
 -- OPEN, CLOSE and `.IOT` where their device is DSK, ACCESS, FILLEN, DELETE and RENAME do their duty: no close is half made
 -- where one of them changes the directory.
-use Rattle.std.specs.Prelude.{◌≡◌, ◌≢◌, ℕ, ◌+◌, ◌%◌, ◌^◌, ◌==◌, ◌&&◌, Bool, true, false, not, Option, Some, None, [], ◌∷◌, ◌++◌, nat_lt, length, slice_get, slice_index_or, unwrap_or, refl}
+use Rattle.std.specs.Prelude.{◌≡◌, ℕ, ◌+◌, ◌%◌, ◌^◌, ◌&&◌, true, not, Option, Some, None, [], ◌∷◌, ◌++◌, nat_lt, length, slice_get, unwrap_or, refl}
 use Rattle.std.proofs.Common.{◌∙◌, ap, arith, inl}
 use Rattle.std.proofs.lemmas.Bool.{eq-eqb, not-false}
 use Rattle.its_word.specs.Core.{can_store}
@@ -11,31 +11,30 @@ use Rattle.its_frame.specs.Left.{kept}
 use Rattle.its_frame.specs.declared.change.Change.{Change}
 use Rattle.its_frame.specs.declared.change.Change.TheVariants as changes
 use Rattle.its_frame.specs.declared.name.CallName.{CallName}
-use Rattle.its_frame.specs.declared.name.CallName.TheVariants.{Close, Iot, Fillen, Delete, Rename}
+use Rattle.its_frame.specs.declared.name.CallName.TheVariants.{Close, Delete, Rename}
 use Rattle.its_plain.specs.Arguments.{input}
 use Rattle.its_plain.specs.CallBasic.{channel_at, ioc}
 use Rattle.its_plain.specs.CallTty.{store_tests, read_tests, word_of, iot_ends}
-use Rattle.its_plain.specs.CallFile.{disk_device, most_files, is_full, channels_in, has_file, is_read, words_of, names_from, is_output, opens_as, disk_tests, opens_disk, closes_draft, end_of_file, iot_read, iot_reads, iot_writes, end_of_core, access_to, access_on, access, fillen_on, fillen, file_tests, delete, rename, open_by, open_call, close_by, close_call, iot_by, iot_call}
+use Rattle.its_plain.specs.CallFile.{most_files, is_full, channels_in, has_file, is_read, words_of, names_from, is_output, opens_as, disk_tests, opens_disk, closes_draft, end_of_file, iot_read, iot_reads, iot_writes, end_of_core, access_to, access_on, access, file_tests, delete, rename}
 use Rattle.its_plain.specs.Decide.{call_named}
 use Rattle.its_plain.specs.Machine.{Names, File, Chan, Shut, TtyIn, TtyOut, Reads, Writes, On, Whole, Machine}
 use Rattle.its_plain.specs.Own.{names_of}
 use Rattle.its_plain.specs.Tests.{◌⇒◌, finishes, fails}
 use Rattle.its_plain.specs.View.{View}
 use Rattle.its_stepped.specs.State.{State}
-use Rattle.its_stepped.specs.Tick.{makes_page, is_disk, helps_by, helps}
+use Rattle.its_stepped.specs.Tick.{makes_page, helps_by, helps}
 use Rattle.its_stepped.specs.Sound.{most_owed_by, most_owed}
 use Rattle.its_stepped.specs.Quiet.{Quiet}
 use Rattle.its_stepped.specs.Duty.{Spares, parts_in, Ending_by, Duty}
 use Rattle.its_stepped.specs.Calling.{Calling}
-use Rattle.its_stepped.proofs.TestLaws.{first_holds, no_page, ending_duty, fails_duty, faults_duty, nothing_duty, output_duty}
-use Rattle.its_stepped.proofs.TtyDuty.{opens_duty, closes_duty, iot_duty}
+use Rattle.its_stepped.proofs.TestLaws.{first_holds, no_page, ending_duty, fails_duty, faults_duty, nothing_duty}
 
 -- a call on files finds no close half made
 helps_named : (q : Whole) (a : Ask) (k : CallName) → a.fail ≡ 0 → call_named a.name ≡ Some k → helps_by q a (Some k) ≡ true → helps q a ≡ true
 unfolding helps
 helps_named q a k z e h = rw (eq-eqb a.fail 0 z) (ap (helps_by q a) e ∙ h)
 
-unmarked : (m : Machine) (v : State) (j : ℕ) (x : View) (s : Site) (a : Ask) (n : ℕ) (k : CallName) → Calling m v j x.own s a n → call_named a.name ≡ Some k → a.fail ≡ 0
+pub unmarked : (m : Machine) (v : State) (j : ℕ) (x : View) (s : Site) (a : Ask) (n : ℕ) (k : CallName) → Calling m v j x.own s a n → call_named a.name ≡ Some k → a.fail ≡ 0
     → helps_by x.own a (Some k) ≡ true → v.mark ≡ None
 unmarked m v j x s a n k c e z h = c.unmarked (helps_named x.own a k z e h)
 
@@ -45,21 +44,13 @@ pub changes_duty : (m : Machine) (v : State) (j : ℕ) (x : View) (s : Site) (a 
 changes_duty m v j x s a n g c quiet spare parts = ending_duty m v j x.own s a n (g ∷ []) [] c (quiet, tt) (spare, tt) parts tt (omega arith)
 
 -- OPEN
-opens_disk_duty : (m : Machine) (v : State) (j : ℕ) (x : View) (s : Site) (a : Ask) (n : ℕ) → Calling m v j x.own s a n → Duty v j x.own s a n (opens_disk x a)
+pub opens_disk_duty : (m : Machine) (v : State) (j : ℕ) (x : View) (s : Site) (a : Ask) (n : ℕ) → Calling m v j x.own s a n → Duty v j x.own s a n (opens_disk x a)
 unfolding opens_disk
 opens_disk_duty m v j x s a n c =
     let control = unwrap_or a.control 0 in
     let change = changes.Open (input a 0) (opens_as (is_output control) (input a 4) (input a 2) (input a 3)) in
     first_holds (Duty v j x.own s a n) (disk_tests x a (input a 0) control) (finishes x (change ∷ []) [])
     (λ t. fails_duty m v j x s a n 0o4 c, (λ t. fails_duty m v j x s a n 0o22 c, (λ t. fails_duty m v j x s a n 0o6 c, tt))) (λ t. changes_duty m v j x s a n change c tt tt refl)
-
-open_by_duty : (m : Machine) (v : State) (j : ℕ) (x : View) (s : Site) (a : Ask) (n : ℕ) (b : Bool) → Calling m v j x.own s a n → Duty v j x.own s a n (open_by x a b)
-open_by_duty m v j x s a n true c = opens_disk_duty m v j x s a n c
-open_by_duty m v j x s a n false c = opens_duty m v j x s a n c
-
-pub open_call_duty : (m : Machine) (v : State) (j : ℕ) (x : View) (s : Site) (a : Ask) (n : ℕ) → Calling m v j x.own s a n → Duty v j x.own s a n (open_call x a)
-unfolding open_call
-open_call_duty m v j x s a n c = open_by_duty m v j x s a n (input a 1 == disk_device) c
 
 -- CLOSE: the parts of the close of a draft are owed, and nothing else
 closing_duty : (m : Machine) (v : State) (j : ℕ) (x : View) (s : Site) (a : Ask) (n i : ℕ) → Calling m v j x.own s a n → call_named a.name ≡ Some Close → v.mark ≡ None
@@ -74,7 +65,7 @@ closing_duty m v j x s a n i c e unmarked =
       few = let r = ap kept none in let o = c.debts.few in omega arith;
     }
 
-closes_draft_duty : (m : Machine) (v : State) (j : ℕ) (x : View) (s : Site) (a : Ask) (n : ℕ) (f : File) → Calling m v j x.own s a n → call_named a.name ≡ Some Close → v.mark ≡ None
+pub closes_draft_duty : (m : Machine) (v : State) (j : ℕ) (x : View) (s : Site) (a : Ask) (n : ℕ) (f : File) → Calling m v j x.own s a n → call_named a.name ≡ Some Close → v.mark ≡ None
     → Duty v j x.own s a n (closes_draft x a f)
 unfolding closes_draft
 closes_draft_duty m v j x s a n f c e unmarked =
@@ -82,20 +73,6 @@ closes_draft_duty m v j x s a n f c e unmarked =
     (is_read f.names (channels_in x) ⇒ fails x a 0o11 ∷ (not (has_file f.names x.files) && not (nat_lt (length x.files) most_files)) ⇒ fails x a 0o7 ∷ [])
     (finishes x (changes.Close (input a 0) ∷ []) []) (λ t. fails_duty m v j x s a n 0o11 c, (λ t. fails_duty m v j x s a n 0o7 c, tt))
     (λ t. closing_duty m v j x s a n (input a 0) c e unmarked)
-
-close_by_duty : (m : Machine) (v : State) (j : ℕ) (x : View) (s : Site) (a : Ask) (n : ℕ) (h : Chan) → Calling m v j x.own s a n → call_named a.name ≡ Some Close
-    → (is_disk h ≡ true → v.mark ≡ None) → Duty v j x.own s a n (close_by x a h)
-close_by_duty m v j x s a n (Writes f) c e u = closes_draft_duty m v j x s a n f c e (u refl)
-close_by_duty m v j x s a n Shut c e u = closes_duty m v j x s a n c
-close_by_duty m v j x s a n TtyIn c e u = closes_duty m v j x s a n c
-close_by_duty m v j x s a n TtyOut c e u = closes_duty m v j x s a n c
-close_by_duty m v j x s a n (Reads f at) c e u = closes_duty m v j x s a n c
-close_by_duty m v j x s a n (On k write at) c e u = closes_duty m v j x s a n c
-
-pub close_call_duty : (m : Machine) (v : State) (j : ℕ) (x : View) (s : Site) (a : Ask) (n : ℕ) → Calling m v j x.own s a n → call_named a.name ≡ Some Close → a.fail ≡ 0
-    → Duty v j x.own s a n (close_call x a)
-unfolding close_call
-close_call_duty m v j x s a n c e z = close_by_duty m v j x s a n (channel_at x.own.channels (input a 0)) c e (λ h. unmarked m v j x s a n Close c e z h)
 
 -- `.IOT`
 pub iot_read_duty : (m : Machine) (v : State) (j : ℕ) (x : View) (s : Site) (a : Ask) (n e i at : ℕ) (o : Option ℕ) → Calling m v j x.own s a n → e % 2 ^ 18 ≡ e
@@ -105,30 +82,17 @@ iot_read_duty m v j x s a n e i at (Some w) c is can =
 iot_read_duty m v j x s a n e i at None c is can =
     ending_duty m v j x.own s a n [] (record { at = e; word = end_of_file } ∷ []) c tt tt refl (ap (can_store x.own.core) is ∙ can, tt) (omega arith)
 
-iot_reads_duty : (m : Machine) (v : State) (j : ℕ) (x : View) (s : Site) (a : Ask) (n e i at : ℕ) (names : Names) → Calling m v j x.own s a n → e % 2 ^ 18 ≡ e
+pub iot_reads_duty : (m : Machine) (v : State) (j : ℕ) (x : View) (s : Site) (a : Ask) (n e i at : ℕ) (names : Names) → Calling m v j x.own s a n → e % 2 ^ 18 ≡ e
     → Duty v j x.own s a n (iot_reads x e i names at)
 iot_reads_duty m v j x s a n e i at names c is =
     let o = slice_get (words_of x names) at in
     first_holds (Duty v j x.own s a n) (store_tests x e) (iot_read x e i at o) (λ t. faults_duty m v j x s a n Mpv c, (λ t. faults_duty m v j x s a n Wro c, tt))
     (λ t. iot_read_duty m v j x s a n e i at o c is (not-false (can_store x.own.core e) t.1.0))
 
-iot_writes_duty : (m : Machine) (v : State) (j : ℕ) (x : View) (s : Site) (a : Ask) (n e i : ℕ) (f : File) → Calling m v j x.own s a n → Duty v j x.own s a n (iot_writes x e i f)
+pub iot_writes_duty : (m : Machine) (v : State) (j : ℕ) (x : View) (s : Site) (a : Ask) (n e i : ℕ) (f : File) → Calling m v j x.own s a n → Duty v j x.own s a n (iot_writes x e i f)
 iot_writes_duty m v j x s a n e i f c =
     first_holds (Duty v j x.own s a n) (read_tests x e ++ (is_full x.files (channels_in x) f.words ⇒ ioc x ∷ [])) (iot_ends x (changes.Append i (word_of x e) ∷ []) [])
     (λ t. faults_duty m v j x s a n Mpv c, (λ t. nothing_duty m v j x s a n c, tt)) (λ t. changes_duty m v j x s a n (changes.Append i (word_of x e)) c tt tt refl)
-
-iot_by_duty : (m : Machine) (v : State) (j : ℕ) (x : View) (s : Site) (a : Ask) (n e i : ℕ) (h : Chan) → Calling m v j x.own s a n → call_named a.name ≡ Some Iot → e % 2 ^ 18 ≡ e
-    → Duty v j x.own s a n (iot_by x a e i h)
-iot_by_duty m v j x s a n e i (Reads f at) c is here = iot_reads_duty m v j x s a n e i at f c here
-iot_by_duty m v j x s a n e i (Writes f) c is here = iot_writes_duty m v j x s a n e i f c
-iot_by_duty m v j x s a n e i Shut c is here = iot_duty m v j x s a n c is
-iot_by_duty m v j x s a n e i TtyIn c is here = iot_duty m v j x s a n c is
-iot_by_duty m v j x s a n e i TtyOut c is here = iot_duty m v j x s a n c is
-iot_by_duty m v j x s a n e i (On k write at) c is here = iot_duty m v j x s a n c is
-
-pub iot_call_duty : (m : Machine) (v : State) (j : ℕ) (x : View) (s : Site) (a : Ask) (n : ℕ) → Calling m v j x.own s a n → call_named a.name ≡ Some Iot → Duty v j x.own s a n (iot_call x a)
-unfolding iot_call
-iot_call_duty m v j x s a n c is = iot_by_duty m v j x s a n (slice_index_or a.outputs.items 0 0) (input a 0) (channel_at x.own.channels (input a 0)) c is c.fetched.address
 
 -- ACCESS
 access_to_duty : (m : Machine) (v : State) (j : ℕ) (x : View) (s : Site) (a : Ask) (n most : ℕ) → Calling m v j x.own s a n → Duty v j x.own s a n (access_to x a most)
@@ -147,23 +111,6 @@ access_on_duty m v j x s a n (On k write at) c = access_to_duty m v j x s a n en
 pub access_duty : (m : Machine) (v : State) (j : ℕ) (x : View) (s : Site) (a : Ask) (n : ℕ) → Calling m v j x.own s a n → Duty v j x.own s a n (access x a)
 unfolding access
 access_duty m v j x s a n c = access_on_duty m v j x s a n (channel_at x.own.channels (input a 0)) c
-
--- FILLEN
-fillen_on_duty : (m : Machine) (v : State) (j : ℕ) (x : View) (s : Site) (a : Ask) (n : ℕ) (h : Chan) → Calling m v j x.own s a n → call_named a.name ≢ Some Iot
-    → Duty v j x.own s a n (fillen_on x a h)
-fillen_on_duty m v j x s a n (Reads f at) c other = output_duty m v j x s a n (length (words_of x f)) c other
-fillen_on_duty m v j x s a n (Writes f) c other = output_duty m v j x s a n (length f.words) c other
-fillen_on_duty m v j x s a n Shut c other = fails_duty m v j x s a n 0o4 c
-fillen_on_duty m v j x s a n TtyIn c other = fails_duty m v j x s a n 0o5 c
-fillen_on_duty m v j x s a n TtyOut c other = fails_duty m v j x s a n 0o5 c
-fillen_on_duty m v j x s a n (On k write at) c other = fails_duty m v j x s a n 0o5 c
-
-fillen_apart : (o : Option CallName) → o ≡ Some Fillen → o ≢ Some Iot
-fillen_apart o e t = cc
-
-pub fillen_duty : (m : Machine) (v : State) (j : ℕ) (x : View) (s : Site) (a : Ask) (n : ℕ) → Calling m v j x.own s a n → call_named a.name ≡ Some Fillen → Duty v j x.own s a n (fillen x a)
-unfolding fillen
-fillen_duty m v j x s a n c is = fillen_on_duty m v j x s a n (channel_at x.own.channels (input a 0)) c (fillen_apart (call_named a.name) is)
 
 -- DELETE and RENAME
 pub delete_duty : (m : Machine) (v : State) (j : ℕ) (x : View) (s : Site) (a : Ask) (n : ℕ) → Calling m v j x.own s a n → call_named a.name ≡ Some Delete → a.fail ≡ 0

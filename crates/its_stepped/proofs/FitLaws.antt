@@ -1,14 +1,11 @@
 -- Every call keeps how jobs lie to each other: OPEN makes inferiors of the caller and opens channels on them alone, UCLOSE removes
 -- one of them, and TTYLND gives a console to the caller or to one of them.
-use Rattle.std.specs.Prelude.{if◌then◌else◌, ◌==◌, ◌&&◌, ◌≡◌, ℕ, ◌+◌, ◌-◌, Bool, true, false, not, Option, Some, None, List, [], ◌∷◌, ◌++◌, find, cond, option_map, is_some, zero, suc, ◌<◌, refl, length, slice_index_or, unwrap_or, Result, Ok, Err}
+use Rattle.std.specs.Prelude.{if◌then◌else◌, ◌==◌, ◌&&◌, ◌≡◌, ℕ, ◌+◌, ◌-◌, Bool, true, false, not, Option, Some, None, List, [], ◌∷◌, find, cond, option_map, is_some, zero, suc, ◌<◌, refl, unwrap_or, Result, Ok, Err}
 use Rattle.std.specs.List.{range_with_len}
 use Rattle.std.proofs.Common.{sym, ◌∙◌, ap, arith}
 use Rattle.std.proofs.lemmas.Bool.{and_parts, eqb-true, not-false}
-use Rattle.its_word.specs.Byte.{load_of}
-use Rattle.its_word.specs.Core.{word_at, can_store}
 use Rattle.its_word.specs.Limits.{slots}
 use Rattle.its_word.specs.Tree.{free_from, least_free}
-use Rattle.its_word.specs.Word.{right_of}
 use Rattle.its_word.specs.declared.access.Fault.{Fault}
 use Rattle.its_word.specs.declared.calls.Ask.{Ask}
 use Rattle.its_word.specs.declared.calls.Exit.{Exit}
@@ -17,35 +14,23 @@ use Rattle.its_frame.specs.declared.change.Change.{Change}
 use Rattle.its_frame.specs.declared.change.Change.TheVariants as changes
 use Rattle.its_frame.specs.declared.change.Opened.{Opened}
 use Rattle.its_frame.specs.declared.change.Opened.TheVariants as opened
-use Rattle.its_frame.specs.declared.decision.Decision.{Decision}
-use Rattle.its_frame.specs.declared.decision.Decision.TheVariants.{Waits}
-use Rattle.its_frame.specs.declared.decision.Wait.TheVariants.{Input, Output, Drained}
-use Rattle.its_frame.specs.declared.name.CallName.{CallName}
-use Rattle.its_frame.specs.declared.name.CallName.TheVariants.{Hang, Sleep, Dismis, Usrvar, Logout, Open, Close, Iot, Siot, Finish, Listen, Ttylnd, Usrmem, Uclose}
+use Rattle.its_frame.specs.declared.name.CallName.TheVariants.{Open}
 use Rattle.its_frame.specs.declared.variable.Variable.{Variable}
 use Rattle.its_plain.specs.Arguments.{input, has_input, place_of_input}
-use Rattle.its_plain.specs.CallBasic.{negated, sleep_tests, sleep, dismissed_by, dismiss_at, dismiss, Party, Oneself, Nobody, Channel, variable_named, by_oneself, by_superior, set_own, own_variable, set_other, value_of_other, other_variable, usrvar_of, party_on, party, is_oneself, usrvar, told_superior, channel_at, ioc}
-use Rattle.its_plain.specs.CallFile.{open_call, iot_call, siot_call}
-use Rattle.its_plain.specs.CallTty.{console_of, has_console, input_waits, output_waits, output_left, first_typed, shown_byte, opens_on, open_tests, opens, close_on, closes, store_tests, read_tests, word_of, iot_ends, iot_in, iot_out, iot_on, iot, next_pointer, siot_in, siot_out, siot_by, siot_on, siot, finish_on, finish, listens, listen_on, listen, can_take, is_superior, is_holder, lands, ttylnd_of, ttylnd}
-use Rattle.its_plain.specs.CallUsr.{usr_device, has_names, inferior_named, any_named, makes_job, opens_job, usr_tests, opens_usr, other_core, at_end, iot_peeks, iot_through, iot_beside, iot_usr, siot_peeks, siot_pokes, siot_beside, siot_usr, set_word, usrmem_tests, usrmem_on, usrmem, uclose_on, uclose, open_beside, open_usr}
+use Rattle.its_plain.specs.CallBasic.{dismissed_by, dismiss_at, dismiss, Party, Oneself, Nobody, Channel, variable_named, by_oneself, by_superior, set_own, own_variable, set_other, value_of_other, other_variable, usrvar_of, party_on, party, is_oneself, usrvar, told_superior, channel_at}
+use Rattle.its_plain.specs.CallTty.{console_of, has_console, can_take, is_superior, is_holder, lands, ttylnd_of, ttylnd}
+use Rattle.its_plain.specs.CallUsr.{has_names, inferior_named, any_named, makes_job, opens_job, usr_tests, opens_usr, uclose_on, uclose}
 use Rattle.its_plain.specs.Change.{superior_in, superiors, console_in, effect}
 use Rattle.its_plain.specs.CallStep.{step, decision}
-use Rattle.its_plain.specs.Decide.{call_named, tty_by, file_by, usr_by, decided_by, decided, target}
+use Rattle.its_plain.specs.Decide.{call_named, decided_by, decided, target}
 use Rattle.its_plain.specs.Interrupt.{dismissed}
 use Rattle.its_plain.specs.Machine.{Chan, Shut, TtyIn, TtyOut, Reads, Writes, On, Whole, Machine}
-use Rattle.its_plain.specs.Tests.{◌⇒◌, finishes, fails, goes, out}
+use Rattle.its_plain.specs.Tests.{◌⇒◌, finishes, fails, out}
 use Rattle.its_plain.specs.View.{View, Outline, outline, view}
 use Rattle.its_stepped.specs.Forest.{OnInferior, Forest}
 use Rattle.its_stepped.proofs.TestLaws.{by_test, first_holds}
-use Rattle.its_stepped.proofs.FileWays.{AllOn, Ways, OpensFile, OnFile, FileWays, siot_by_ways, file_ways}
-use Rattle.its_stepped.proofs.CoreWays.{OnCore, core_ways}
 use Rattle.its_stepped.proofs.ForestLaws.{CanOpen, MakesInferior, Fits, AllFit, FitsAll, channel_of, inferior_stands, made_inferior, steps_where}
-
-sleep_fits : (x : View) (a : Ask) (j : ℕ) (m : Machine) → FitsAll (sleep x a) j m
-unfolding sleep
-sleep_fits x a j m =
-    first_holds (λ d. FitsAll d j m) (sleep_tests x a (input a 0) (place_of_input a 0)) (goes [] None (negated (x.clock + input a 0) ∷ []))
-    (λ t. tt, (λ t. tt, (λ t. tt, (λ t. tt, (λ t. tt, (λ t. tt, tt)))))) (λ t. tt)
+use Rattle.its_stepped.proofs.CallWays.{OpensMildly, Mild, AllMild, Ways, Apart, call_ways}
 
 dismissed_fits : (x : View) (p w j : ℕ) (m : Machine) (r : Result Exit Fault) → FitsAll (dismissed_by x p w r) j m
 dismissed_fits x p w j m (Ok e) = tt
@@ -98,148 +83,24 @@ told_fits : (o : Option ℕ) (j : ℕ) (m : Machine) → AllFit (told_superior o
 told_fits (Some k) j m = (tt, tt)
 told_fits None j m = tt
 
--- a call on files opens none
-opens_fit : (on : Opened) (j : ℕ) (m : Machine) → OpensFile on → CanOpen on j m
+-- a mild change
+opens_fit : (on : Opened) (j : ℕ) (m : Machine) → OpensMildly on → CanOpen on j m
 opens_fit (opened.Reading d x y) j m h = tt
 opens_fit (opened.Writing d x y) j m h = tt
 opens_fit opened.TtyIn j m h = absurd h
 opens_fit opened.TtyOut j m h = absurd h
 opens_fit (opened.Usr s write) j m h = absurd h
 
-file_fits : (c : Change) (j : ℕ) (m : Machine) → OnFile c → Fits c j m
-file_fits (changes.Open n on) j m h = opens_fit on j m h
-file_fits (changes.Make s u n) j m h = absurd h
-file_fits (changes.Hold c s) j m h = absurd h
-file_fits (changes.Remove s) j m h = absurd h
-file_fits _ j m h = tt
+mild_fits : (c : Change) (j : ℕ) (m : Machine) → Mild c → Fits c j m
+mild_fits (changes.Open n on) j m h = opens_fit on j m h
+mild_fits (changes.Make s u n) j m h = absurd h
+mild_fits (changes.Hold c s) j m h = absurd h
+mild_fits (changes.Remove s) j m h = absurd h
+mild_fits _ j m h = tt
 
--- each change of a call fits, whatever machine the changes before it leave
-all_fit : (OnIt : Change → Type 0) (j : ℕ) → ((c : Change) (m : Machine) → OnIt c → Fits c j m) → (cs : List Change) (m : Machine) → AllOn OnIt cs → AllFit cs j m
-all_fit OnIt j each [] m h = tt
-all_fit OnIt j each (c ∷ cs) m h = (each c m h.0, all_fit OnIt j each cs (effect c j m) h.1)
-
-ways_where : (OnIt : Change → Type 0) (j : ℕ) → ((c : Change) (m : Machine) → OnIt c → Fits c j m) → (x : View) (a : Ask) (m : Machine) → Ways OnIt (λ d. FitsAll d j m) x a
-ways_where OnIt j each x a m = record {
-  failing = λ k. tt;
-  faulting = λ f. tt;
-  stuck = tt;
-  ending = λ cs ss h. all_fit OnIt j each cs m h;
-  moved = λ cs ss h. all_fit OnIt j each cs m h;
-  going = λ cs o vs h. all_fit OnIt j each cs m h;
-}
-
-ways_fit : (x : View) (a : Ask) (j : ℕ) (m : Machine) → FileWays (λ d. FitsAll d j m) x a
-ways_fit x a j m = ways_where OnFile j (λ c n h. file_fits c j n h) x a m
-
--- the calls on consoles: a channel on a console is opened where the job has one
-opened_fits : (b : Bool) (j : ℕ) (m : Machine) → is_some (console_in (m.jobs j)) ≡ true → CanOpen (if b then opened.TtyOut else opened.TtyIn) j m
-opened_fits true j m h = h
-opened_fits false j m h = h
-
-opens_fits : (x : View) (a : Ask) (j : ℕ) (m : Machine) → x.own.job.console ≡ console_in (m.jobs j) → FitsAll (opens x a) j m
-unfolding opens
-opens_fits x a j m same =
-    let control = unwrap_or a.control 0 in
-    first_holds (λ d. FitsAll d j m) (open_tests x a (input a 0) (input a 1) control) (finishes x (changes.Open (input a 0) (opens_on control) ∷ []) [])
-    (λ t. tt, (λ t. tt, (λ t. tt, (λ t. tt, tt)))) (λ t. (opened_fits (control == 1) j m (ap is_some (sym same) ∙ not-false (has_console x) t.1.1.1.0), tt))
-
-closes_fits : (x : View) (a : Ask) (j : ℕ) (m : Machine) → FitsAll (closes x a) j m
-unfolding closes
-closes_fits x a j m = go (channel_at x.own.channels (input a 0))
-  where
-    go : (c : Chan) → FitsAll (close_on x a c) j m
-    go Shut = tt
-    go TtyIn = (tt, tt)
-    go TtyOut = (tt, tt)
-    go (Reads f at) = (tt, tt)
-    go (Writes f) = (tt, tt)
-    go (On k write at) = (tt, tt)
-
-iot_in_fits : (x : View) (e i j : ℕ) (m : Machine) → FitsAll (iot_in x e i) j m
-iot_in_fits x e i j m =
-    first_holds (λ d. FitsAll d j m) (store_tests x e ++ (input_waits x i ⇒ Waits (Input i) ∷ [])) (iot_ends x (changes.Take i ∷ []) (record { at = e; word = first_typed x i } ∷ []))
-    (λ t. tt, (λ t. tt, (λ t. tt, tt))) (λ t. (tt, tt))
-
-iot_out_fits : (x : View) (e i j : ℕ) (m : Machine) → FitsAll (iot_out x e i) j m
-iot_out_fits x e i j m =
-    first_holds (λ d. FitsAll d j m) (read_tests x e ++ (output_waits x i ⇒ Waits (Output i) ∷ [])) (iot_ends x (changes.Put i (shown_byte (word_of x e)) ∷ []) [])
-    (λ t. tt, (λ t. tt, tt)) (λ t. (tt, tt))
-
-iot_fits : (x : View) (a : Ask) (j : ℕ) (m : Machine) → FitsAll (iot x a) j m
-unfolding iot
-iot_fits x a j m = go (channel_at x.own.channels (input a 0))
-  where
-    e : ℕ
-    e = slice_index_or a.outputs.items 0 0
-
-    go : (c : Chan) → FitsAll (iot_on x e c) j m
-    go TtyIn = iot_in_fits x e (console_of x) j m
-    go TtyOut = iot_out_fits x e (console_of x) j m
-    go Shut = tt
-    go (Reads f at) = tt
-    go (Writes f) = tt
-    go (On k write at) = tt
-
-siot_in_fits : (x : View) (a : Ask) (next k i j : ℕ) (m : Machine) → FitsAll (siot_in x a next k i) j m
-siot_in_fits x a next k i j m =
-    first_holds (λ d. FitsAll d j m) (store_tests x (right_of next) ++ (input_waits x i ⇒ Waits (Input i) ∷ []))
-    (goes (changes.Take i ∷ []) (Some (record { place = right_of next; byte = first_typed x i })) (next ∷ (k - 1) ∷ []))
-    (λ t. tt, (λ t. tt, (λ t. tt, tt))) (λ t. (tt, tt))
-
-siot_out_fits : (x : View) (a : Ask) (next k i j : ℕ) (m : Machine) → FitsAll (siot_out x a next k i) j m
-siot_out_fits x a next k i j m =
-    first_holds (λ d. FitsAll d j m) (read_tests x (right_of next) ++ (output_waits x i ⇒ Waits (Output i) ∷ []))
-    (goes (changes.Put i (shown_byte (load_of next (word_of x (right_of next)))) ∷ []) None (next ∷ (k - 1) ∷ []))
-    (λ t. tt, (λ t. tt, tt)) (λ t. (tt, tt))
-
-siot_fits : (x : View) (a : Ask) (j : ℕ) (m : Machine) → FitsAll (siot x a) j m
-unfolding siot
-siot_fits x a j m = go (channel_at x.own.channels (input a 0))
-  where
-    p : ℕ
-    p = input a 1
-
-    k : ℕ
-    k = input a 2
-
-    behind : (d : Decision) → FitsAll d j m → FitsAll (siot_by x a false false d) j m
-    behind d h = siot_by_ways (λ d. FitsAll d j m) x a false false d (ways_fit x a j m) h
-
-    go : (c : Chan) → FitsAll (siot_on x a c) j m
-    go TtyIn = behind (siot_in x a (next_pointer p) k (console_of x)) (siot_in_fits x a (next_pointer p) k (console_of x) j m)
-    go TtyOut = behind (siot_out x a (next_pointer p) k (console_of x)) (siot_out_fits x a (next_pointer p) k (console_of x) j m)
-    go Shut = tt
-    go (Reads f at) = tt
-    go (Writes f) = tt
-    go (On i write at) = tt
-
-finish_fits : (x : View) (a : Ask) (j : ℕ) (m : Machine) → FitsAll (finish x a) j m
-unfolding finish
-finish_fits x a j m = go (channel_at x.own.channels (input a 0))
-  where
-    go : (c : Chan) → FitsAll (finish_on x a c) j m
-    go TtyOut = first_holds (λ d. FitsAll d j m) (output_left x (console_of x) ⇒ Waits (Drained (console_of x)) ∷ []) (finishes x [] []) (λ t. tt, tt) (λ t. tt)
-    go Shut = tt
-    go TtyIn = tt
-    go (Reads f at) = tt
-    go (Writes f) = tt
-    go (On k write at) = tt
-
-listens_fits : (x : View) (a : Ask) (i j : ℕ) (m : Machine) → FitsAll (listens x a i) j m
-listens_fits x a i j m =
-    first_holds (λ d. FitsAll d j m) (output_left x i ⇒ Waits (Drained i) ∷ []) (finishes x [] (out a.outputs.items (length (x.consoles i).input))) (λ t. tt, tt) (λ t. tt)
-
-listen_fits : (x : View) (a : Ask) (j : ℕ) (m : Machine) → FitsAll (listen x a) j m
-unfolding listen
-listen_fits x a j m = go (channel_at x.own.channels (input a 0))
-  where
-    go : (c : Chan) → FitsAll (listen_on x a c) j m
-    go TtyIn = listens_fits x a (console_of x) j m
-    go TtyOut = listens_fits x a (console_of x) j m
-    go Shut = tt
-    go (Reads f at) = tt
-    go (Writes f) = tt
-    go (On k write at) = tt
+all_fit : (j : ℕ) (cs : List Change) (m : Machine) → AllMild cs → AllFit cs j m
+all_fit j [] m h = tt
+all_fit j (c ∷ cs) m h = (mild_fits c j m h.0, all_fit j cs (effect c j m) h.1)
 
 -- what a call sees of the machine that it is in
 record Sees (x : View) (j : ℕ) (m : Machine) : Type 0 where
@@ -249,6 +110,21 @@ record Sees (x : View) (j : ℕ) (m : Machine) : Type 0 where
   channels : (n : ℕ) → OnInferior m j (channel_at x.own.channels n)
   superior : superiors m j ≡ x.own.superior
   console : x.own.job.console ≡ console_in (m.jobs j)
+
+opened_fits : (b : Bool) (j : ℕ) (m : Machine) → is_some (console_in (m.jobs j)) ≡ true → CanOpen (if b then opened.TtyOut else opened.TtyIn) j m
+opened_fits true j m h = h
+opened_fits false j m h = h
+
+ways_fit : (x : View) (a : Ask) (j : ℕ) (m : Machine) → Sees x j m → Ways (λ d. FitsAll d j m) x a
+ways_fit x a j m see = record {
+  failing = λ k. tt;
+  faulting = λ f. tt;
+  stuck = tt;
+  opening = λ h b. (opened_fits b j m (ap is_some (sym see.console) ∙ h), tt);
+  ending = λ cs ss h. all_fit j cs m h;
+  moved = λ cs ss h. all_fit j cs m h;
+  going = λ cs o vs h. all_fit j cs m h;
+}
 
 -- TTYLND: a channel on a job is on an inferior, which is a job
 lands_fits : (x : View) (a : Ask) (may : Bool) (error k j : ℕ) (m : Machine) → is_some (m.jobs k) ≡ true → FitsAll (lands x a may error k) j m
@@ -289,22 +165,6 @@ ttylnd_fits x a j m see = go (party x (input a 0)) (party_inferior x (input a 0)
     go (Channel TtyOut) h = tt
     go (Channel (Reads f at)) h = tt
     go (Channel (Writes f)) h = tt
-
--- the calls by their names, but for those on files and on inferiors
-named_fits : (x : View) (a : Ask) (j : ℕ) (m : Machine) → Sees x j m → (o : Option CallName) → FitsAll (tty_by x a o) j m
-named_fits x a j m see (Some Hang) = tt
-named_fits x a j m see (Some Sleep) = sleep_fits x a j m
-named_fits x a j m see (Some Dismis) = dismiss_fits x a j m
-named_fits x a j m see (Some Usrvar) = usrvar_fits x a j m
-named_fits x a j m see (Some Logout) = (told_fits x.own.superior j (effect (changes.Remove j) j m), ap told_superior (sym see.superior))
-named_fits x a j m see (Some Open) = opens_fits x a j m see.console
-named_fits x a j m see (Some Close) = closes_fits x a j m
-named_fits x a j m see (Some Iot) = iot_fits x a j m
-named_fits x a j m see (Some Siot) = siot_fits x a j m
-named_fits x a j m see (Some Finish) = finish_fits x a j m
-named_fits x a j m see (Some Listen) = listen_fits x a j m
-named_fits x a j m see (Some Ttylnd) = ttylnd_fits x a j m see
-named_fits x a j m see _ = tt
 
 -- OPEN of an inferior
 found_passes : (p : ℕ → Bool) (ks : List ℕ) (s : ℕ) → find p ks ≡ Some s → p s ≡ true
@@ -371,96 +231,7 @@ opens_usr_fits x a j m see =
     first_holds (λ d. FitsAll d j m) (usr_tests x a (input a 0) control) (opens_job x a (input a 0) (input a 2) (input a 3) (control == 1) named)
     (λ t. tt, (λ t. tt, tt)) (λ t. job_fits x a (input a 0) (input a 2) (input a 3) j m (control == 1) see named refl)
 
-open_fits : (x : View) (a : Ask) (j : ℕ) (m : Machine) → Sees x j m → FitsAll (open_call x a) j m → FitsAll (open_usr x a) j m
-unfolding open_usr
-open_fits x a j m see h = go (input a 1 == usr_device)
-  where
-    go : (b : Bool) → FitsAll (open_beside x a b) j m
-    go true = opens_usr_fits x a j m see
-    go false = h
-
--- words of an inferior
-peeks_fit : (x : View) (e n at j : ℕ) (m : Machine) (b : Bool) (o : Option ℕ) → FitsAll (iot_peeks x e n at b o) j m
-peeks_fit x e n at j m true o = tt
-peeks_fit x e n at j m false (Some w) = (tt, tt)
-peeks_fit x e n at j m false None = tt
-
-iot_through_fits : (x : View) (e n s at j : ℕ) (m : Machine) (write : Bool) → FitsAll (iot_through x e n s write at) j m
-iot_through_fits x e n s at j m true =
-    first_holds (λ d. FitsAll d j m) (read_tests x e ++ (at_end at ⇒ ioc x ∷ not (can_store (other_core x) at) ⇒ ioc x ∷ []))
-    (iot_ends x (changes.Poke s at (word_of x e) ∷ changes.Move n (at + 1) ∷ []) []) (λ t. tt, (λ t. tt, (λ t. tt, tt))) (λ t. (tt, (tt, tt)))
-iot_through_fits x e n s at j m false =
-    let o = word_at (other_core x) at in
-    first_holds (λ d. FitsAll d j m) (store_tests x e) (iot_peeks x e n at (at_end at) o) (λ t. tt, (λ t. tt, tt)) (λ t. peeks_fit x e n at j m (at_end at) o)
-
-iot_usr_fits : (x : View) (a : Ask) (j : ℕ) (m : Machine) → FitsAll (iot_call x a) j m → FitsAll (iot_usr x a) j m
-unfolding iot_usr
-iot_usr_fits x a j m h = go (channel_at x.own.channels (input a 0))
-  where
-    e : ℕ
-    e = slice_index_or a.outputs.items 0 0
-
-    go : (c : Chan) → FitsAll (iot_beside x a e (input a 0) c) j m
-    go (On s write at) = iot_through_fits x e (input a 0) s at j m write
-    go Shut = h
-    go TtyIn = h
-    go TtyOut = h
-    go (Reads f at) = h
-    go (Writes f) = h
-
-siot_peeks_fit : (x : View) (a : Ask) (next k n at j : ℕ) (m : Machine) (o : Option ℕ) → FitsAll (siot_peeks x a next k n at o) j m
-siot_peeks_fit x a next k n at j m (Some w) =
-    first_holds (λ d. FitsAll d j m) (store_tests x (right_of next)) (goes (changes.Move n (at + 1) ∷ []) (Some (record { place = right_of next; byte = w })) (next ∷ (k - 1) ∷ []))
-    (λ t. tt, (λ t. tt, tt)) (λ t. (tt, tt))
-siot_peeks_fit x a next k n at j m None = first_holds (λ d. FitsAll d j m) (store_tests x (right_of next)) (fails x a 0o16) (λ t. tt, (λ t. tt, tt)) (λ t. tt)
-
-siot_pokes_fit : (x : View) (a : Ask) (next k n s at j : ℕ) (m : Machine) → FitsAll (siot_pokes x a next k n s at) j m
-siot_pokes_fit x a next k n s at j m =
-    first_holds (λ d. FitsAll d j m) (read_tests x (right_of next) ++ (not (can_store (other_core x) at) ⇒ fails x a 0o16 ∷ []))
-    (goes (changes.Poke s at (load_of next (word_of x (right_of next))) ∷ changes.Move n (at + 1) ∷ []) None (next ∷ (k - 1) ∷ []))
-    (λ t. tt, (λ t. tt, tt)) (λ t. (tt, (tt, tt)))
-
-siot_usr_fits : (x : View) (a : Ask) (j : ℕ) (m : Machine) → FitsAll (siot_call x a) j m → FitsAll (siot_usr x a) j m
-unfolding siot_usr
-siot_usr_fits x a j m h = go (channel_at x.own.channels (input a 0))
-  where
-    next : ℕ
-    next = next_pointer (input a 1)
-
-    n : ℕ
-    n = input a 0
-
-    behind : (ended : Bool) (d : Decision) → FitsAll d j m → FitsAll (siot_by x a true ended d) j m
-    behind ended d h = siot_by_ways (λ d. FitsAll d j m) x a true ended d (ways_fit x a j m) h
-
-    go : (c : Chan) → FitsAll (siot_beside x a n c) j m
-    go (On s true at) = behind (at_end at) (siot_pokes x a next (input a 2) n s at) (siot_pokes_fit x a next (input a 2) n s at j m)
-    go (On s false at) = behind (at_end at) (siot_peeks x a next (input a 2) n at (word_at (other_core x) at)) (siot_peeks_fit x a next (input a 2) n at j m (word_at (other_core x) at))
-    go Shut = h
-    go TtyIn = h
-    go TtyOut = h
-    go (Reads f at) = h
-    go (Writes f) = h
-
-word_fits : (s p w j : ℕ) (m : Machine) (b : Bool) → AllFit (set_word s p w b) j m
-word_fits s p w j m true = (tt, tt)
-word_fits s p w j m false = tt
-
-usrmem_fits : (x : View) (a : Ask) (j : ℕ) (m : Machine) → FitsAll (usrmem x a) j m
-unfolding usrmem
-usrmem_fits x a j m = go (channel_at x.own.channels (input a 0))
-  where
-    go : (c : Chan) → FitsAll (usrmem_on x a c) j m
-    go (On s write at) =
-        first_holds (λ d. FitsAll d j m) (usrmem_tests x a write (input a 1) (has_input a 2))
-        (finishes x (set_word s (input a 1) (input a 2) (has_input a 2)) (out a.outputs.items (unwrap_or (word_at (other_core x) (input a 1)) 0)))
-        (λ t. tt, (λ t. tt, (λ t. tt, (λ t. tt, tt)))) (λ t. word_fits s (input a 1) (input a 2) j m (has_input a 2))
-    go Shut = tt
-    go TtyIn = tt
-    go TtyOut = tt
-    go (Reads f at) = tt
-    go (Writes f) = tt
-
+-- UCLOSE
 uclose_fits : (x : View) (a : Ask) (j : ℕ) (m : Machine) → Sees x j m → FitsAll (uclose x a) j m
 unfolding uclose
 uclose_fits x a j m see = go (channel_at x.own.channels (input a 0)) (see.channels (input a 0))
@@ -473,30 +244,22 @@ uclose_fits x a j m see = go (channel_at x.own.channels (input a 0)) (see.channe
     go (Reads f at) h = tt
     go (Writes f) h = tt
 
--- a page is changed
-core_fits : (c : Change) (j : ℕ) (m : Machine) → OnCore c → Fits c j m
-core_fits (changes.Map s k) j m h = tt
-core_fits (changes.Unmap s k) j m h = tt
-core_fits (changes.Protect s k on) j m h = tt
-core_fits _ j m h = absurd h
-
--- all calls by their names, but for that on pages
-beside_fits : (x : View) (a : Ask) (j : ℕ) (m : Machine) → Sees x j m → (o : Option CallName) → FitsAll (file_by x a o) j m → FitsAll (usr_by x a o) j m
-beside_fits x a j m see (Some Open) h = open_fits x a j m see h
-beside_fits x a j m see (Some Iot) h = iot_usr_fits x a j m h
-beside_fits x a j m see (Some Siot) h = siot_usr_fits x a j m h
-beside_fits x a j m see (Some Usrmem) h = usrmem_fits x a j m
-beside_fits x a j m see (Some Uclose) h = uclose_fits x a j m see
-beside_fits x a j m see _ h = h
+apart_fits : (x : View) (a : Ask) (j : ℕ) (m : Machine) → Sees x j m → Apart (λ d. FitsAll d j m) x a
+apart_fits x a j m see = record {
+  dismiss = dismiss_fits x a j m;
+  usrvar = usrvar_fits x a j m;
+  logout = (told_fits x.own.superior j (effect (changes.Remove j) j m), ap told_superior (sym see.superior));
+  opens_usr = opens_usr_fits x a j m see;
+  ttylnd = ttylnd_fits x a j m see;
+  uclose = uclose_fits x a j m see;
+}
 
 decided_fits : (x : View) (a : Ask) (j : ℕ) (m : Machine) → Sees x j m → FitsAll (decided x a) j m
 unfolding decided
 decided_fits x a j m see =
     let o = call_named a.name in
     by_test (λ d. FitsAll d j m) (a.fail == 0) (decided_by x a o) (fails x a a.fail)
-    (λ t. core_ways (λ d. FitsAll d j m) x a o (ways_where OnCore j (λ c n h. core_fits c j n h) x a m)
-    (beside_fits x a j m see o (file_ways (λ d. FitsAll d j m) x a o (ways_fit x a j m) (named_fits x a j m see o))))
-    (λ t. tt)
+    (λ t. call_ways (λ d. FitsAll d j m) x a o (ways_fit x a j m see) (λ r. tt) (apart_fits x a j m see)) (λ t. tt)
 
 sees : (m : Machine) (j : ℕ) (q : Whole) (t : Option ℕ) → Forest m → m.jobs j ≡ Some q → Sees (view m j q t) j m
 unfolding view

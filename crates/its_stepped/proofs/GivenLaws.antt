@@ -41,11 +41,18 @@ use Rattle.its_stepped.proofs.TestLaws.{fails_duty}
 use Rattle.its_stepped.proofs.CallDuties.{hang_duty, sleep_duty, dismiss_duty}
 use Rattle.its_stepped.proofs.UsrvarDuty.{usrvar_duty}
 use Rattle.its_stepped.proofs.LogoutDuty.{logout_duty}
-use Rattle.its_stepped.proofs.TtyDuty.{finish_duty, listen_duty, ttylnd_duty}
-use Rattle.its_stepped.proofs.UsrDuty.{unmapped, Outlined, open_usr_duty, iot_usr_duty, siot_usr_duty, usrmem_duty, uclose_duty}
+use Rattle.its_stepped.proofs.TtyDuty.{named_waits, ttylnd_duty, answering_duty}
+use Rattle.its_stepped.proofs.CallWays.{Answering, finish_ways, listen_ways, fillen_ways}
+use Rattle.its_stepped.proofs.UsrDuty.{unmapped, Outlined, usrmem_duty, uclose_duty}
+use Rattle.its_stepped.proofs.DeviceDuty.{open_duty, close_duty, iot_duty, siot_duty}
 use Rattle.its_stepped.proofs.CoreDuty.{corblk_duty}
 use Rattle.its_stepped.proofs.PageLaws.{waits_reserves_none, page_full}
-use Rattle.its_stepped.proofs.FileDuty.{close_call_duty, access_duty, fillen_duty, delete_duty, rename_duty}
+use Rattle.its_stepped.proofs.FileDuty.{access_duty, delete_duty, rename_duty}
+
+-- a call other than `.IOT` that changes nothing but the word of its output
+answers : (m : Machine) (v : State) (j : ℕ) (x : View) (s : Site) (a : Ask) (n : ℕ) (k : CallName) → Calling m v j x.own s a n → Some k ≢ Some Iot → call_named a.name ≡ Some k
+    → Answering (Duty v j x.own s a n) x a
+answers m v j x s a n k c other e = answering_duty m v j x s a n c (λ i. other (sym e ∙ i))
 
 -- every call
 named_duty : (d : Decoding) (m : Machine) (v : State) (j : ℕ) (x : View) (s : Site) (a : Ask) (n : ℕ) (o : Option CallName) → Calling m v j x.own s a n
@@ -55,15 +62,17 @@ named_duty d m v j x s a n (Some Sleep) c here same e z = sleep_duty d m v j x s
 named_duty d m v j x s a n (Some Dismis) c here same e z = dismiss_duty m v j x s a n c
 named_duty d m v j x s a n (Some Usrvar) c here same e z = usrvar_duty m v j x s a n c e z
 named_duty d m v j x s a n (Some Logout) c here same e z = logout_duty m v j x s a n c e z
-named_duty d m v j x s a n (Some Open) c here same e z = open_usr_duty m v j x s a n c same
-named_duty d m v j x s a n (Some Close) c here same e z = close_call_duty m v j x s a n c e z
-named_duty d m v j x s a n (Some Iot) c here same e z = iot_usr_duty m v j x s a n c e z
-named_duty d m v j x s a n (Some Siot) c here same e z = siot_usr_duty d m v j x s a n c e z
-named_duty d m v j x s a n (Some Finish) c here same e z = finish_duty m v j x s a n c e
-named_duty d m v j x s a n (Some Listen) c here same e z = listen_duty m v j x s a n c e
+named_duty d m v j x s a n (Some Open) c here same e z = open_duty m v j x s a n c same
+named_duty d m v j x s a n (Some Close) c here same e z = close_duty m v j x s a n c e z
+named_duty d m v j x s a n (Some Iot) c here same e z = iot_duty m v j x s a n c e z
+named_duty d m v j x s a n (Some Siot) c here same e z = siot_duty d m v j x s a n c e z
+named_duty d m v j x s a n (Some Finish) c here same e z =
+    finish_ways (Duty v j x.own s a n) x a (answers m v j x s a n Finish c (λ i. cc) e) (λ r. named_waits m v j x s a n Finish c e refl tt)
+named_duty d m v j x s a n (Some Listen) c here same e z =
+    listen_ways (Duty v j x.own s a n) x a (answers m v j x s a n Listen c (λ i. cc) e) (λ r. named_waits m v j x s a n Listen c e refl tt)
 named_duty d m v j x s a n (Some Ttylnd) c here same e z = ttylnd_duty m v j x s a n c
 named_duty d m v j x s a n (Some Access) c here same e z = access_duty m v j x s a n c
-named_duty d m v j x s a n (Some Fillen) c here same e z = fillen_duty m v j x s a n c e
+named_duty d m v j x s a n (Some Fillen) c here same e z = fillen_ways (Duty v j x.own s a n) x a (answers m v j x s a n Fillen c (λ i. cc) e)
 named_duty d m v j x s a n (Some Delete) c here same e z = delete_duty m v j x s a n c e z
 named_duty d m v j x s a n (Some Rename) c here same e z = rename_duty m v j x s a n c e z
 named_duty d m v j x s a n (Some Usrmem) c here same e z = usrmem_duty m v j x s a n c e z

@@ -27,9 +27,7 @@ pub mod RefusalLaws
 pub mod AfterLaws
 pub mod LineExamples
 pub mod TestLaws
-pub mod FileWays
-pub mod UsrWays
-pub mod CoreWays
+pub mod CallWays
 pub mod CallDuties
 pub mod TargetLaws
 pub mod UsrvarDuty
@@ -38,6 +36,7 @@ pub mod TtyDuty
 pub mod FileDuty
 pub mod SiotDuty
 pub mod UsrDuty
+pub mod DeviceDuty
 pub mod CoreDuty
 pub mod GivenLaws
 pub mod ForestLaws

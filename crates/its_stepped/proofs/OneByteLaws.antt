@@ -22,16 +22,17 @@ use Rattle.its_frame.specs.declared.name.CallName.{CallName}
 use Rattle.its_frame.specs.declared.name.CallName.TheVariants.{Siot}
 use Rattle.its_plain.specs.Arguments.{value_in, valued, input, debts, revalued}
 use Rattle.its_plain.specs.CallBasic.{channel_at}
-use Rattle.its_plain.specs.CallFile.{is_full, channels_in, words_of, siot_read, siot_reads, siot_write, siot_to, siot_call}
+use Rattle.its_plain.specs.CallFile.{is_full, channels_in, words_of, siot_read, siot_reads, siot_write}
 use Rattle.its_plain.specs.CallStep.{with_held, moved, acted, decision, unless_stopped, step, Transition, transition_of, transition}
-use Rattle.its_plain.specs.CallTty.{console_of, is_empty, is_other, input_waits, output_waits, first_typed, shown_byte, store_tests, read_tests, next_pointer, siot_tests, siot_in, siot_out, siot_by, siot_on, siot}
+use Rattle.its_plain.specs.CallTty.{console_of, is_empty, is_other, input_waits, output_waits, first_typed, shown_byte, store_tests, read_tests, next_pointer, siot_tests, siot_in, siot_out, siot_by}
+use Rattle.its_plain.specs.CallDevice.{siot_on, siot_call}
 use Rattle.its_plain.specs.Change.{in_job, poke, effect, effects}
 use Rattle.its_plain.specs.Decide.{call_named, decided_by, decided, target, reach}
 use Rattle.its_plain.specs.Footprint.{Stands, in_footprint}
 use Rattle.its_plain.specs.Interrupt.{deliverable}
 use Rattle.its_plain.specs.Machine.{Names, File, Chan, Shut, TtyIn, TtyOut, Reads, Writes, On, Whole, Machine, changed}
 use Rattle.its_plain.specs.OneByte.{ComesIn, GoesOut, word_named, Bears, new_arguments, rest_of_transfer, ByteBy, EachByte, Deposited}
-use Rattle.its_plain.specs.CallUsr.{other_core, at_end, siot_peeks, siot_pokes, siot_beside, siot_usr}
+use Rattle.its_plain.specs.CallUsr.{other_core, at_end, siot_peeks, siot_pokes}
 use Rattle.its_plain.specs.Own.{with_stores, at_position, with_word, on_channel}
 use Rattle.its_plain.specs.Tests.{◌⇒◌, fails, goes}
 use Rattle.its_plain.specs.View.{View, view}
@@ -49,7 +50,7 @@ use Rattle.its_stepped.proofs.RowLaws.{job_only}
 use Rattle.its_stepped.proofs.FrameLaws.{on_slot_other}
 use Rattle.its_stepped.proofs.GivenLaws.{reach_apart}
 use Rattle.its_stepped.proofs.SiotDuty.{debts_apart}
-use Rattle.its_stepped.proofs.UsrDuty.{siot_usr_duty}
+use Rattle.its_stepped.proofs.DeviceDuty.{siot_duty}
 use Rattle.its_stepped.proofs.PageLaws.{reserves_none}
 use Rattle.its_stepped.proofs.TestLaws.{first_holds}
 use Rattle.its_plain.proofs.StepLaws.{transition_called, step_by}
@@ -260,25 +261,6 @@ by_moved m n j q s a words ended d three h =
       counted = λ k. let b = t.1.1.1.1.1.0 in let u = ap (λ (i : ℕ). i == 0) k in cc;
     }))
 
--- whatever its channel is on
-on_moved : (m n : Machine) (j : ℕ) (q : Whole) (s : Site) (a : Ask) (h : Chan) → m.jobs j ≡ Some q → channel_at q.channels (input a 0) ≡ h → length a.inputs.items ≡ 3
-    → Moved m n j q s a (siot_on (view m j q (target q a)) a h)
-on_moved m n j q s a TtyIn is on three =
-    let x : View = view m j q (target q a) in
-    by_moved m n j q s a false false (siot_in x a (next_pointer (input a 1)) (input a 2) (console_of x)) three (λ l. in_moved m n j q s a is on)
-on_moved m n j q s a TtyOut is on three =
-    let x : View = view m j q (target q a) in
-    by_moved m n j q s a false false (siot_out x a (next_pointer (input a 1)) (input a 2) (console_of x)) three (λ l. out_moved m n j q s a is on)
-on_moved m n j q s a Shut is on three = λ d r. refl
-on_moved m n j q s a (Reads names at) is on three = λ d r. refl
-on_moved m n j q s a (Writes file) is on three = λ d r. refl
-on_moved m n j q s a (On k write at) is on three = λ d r. refl
-
-tty_moved : (m n : Machine) (j : ℕ) (q : Whole) (s : Site) (a : Ask) → m.jobs j ≡ Some q → length a.inputs.items ≡ 3
-    → Moved m n j q s a (siot (view m j q (target q a)) a)
-unfolding siot view
-tty_moved m n j q s a is three = on_moved m n j q s a (channel_at q.channels (input a 0)) is refl three
-
 reads_moved : (m n : Machine) (j : ℕ) (q : Whole) (s : Site) (a : Ask) (names : Names) (at : ℕ) (o : Option ℕ) → m.jobs j ≡ Some q → channel_at q.channels (input a 0) ≡ Reads names at
     → slice_get (words_of (view m j q (target q a)) names) at ≡ o → length a.inputs.items ≡ 3
     → Moved m n j q s a (siot_reads (view m j q (target q a)) a (input a 0) at o)
@@ -290,37 +272,28 @@ reads_moved m n j q s a names at o is on got three =
     (λ l. read_moved m n j q s a (Reads names at) at (unwrap_or o 0) is on
     (refl, subst (λ (k : Option ℕ). ComesIn w k (Some b)) (sym got) (comes_in w o (not-false (is_some o) l))))
 
-to_moved : (m n : Machine) (j : ℕ) (q : Whole) (s : Site) (a : Ask) (h : Chan) → m.jobs j ≡ Some q → channel_at q.channels (input a 0) ≡ h → length a.inputs.items ≡ 3
-    → Moved m n j q s a (siot_to (view m j q (target q a)) a (input a 0) h)
-to_moved m n j q s a (Reads names at) is on three =
+-- whatever its channel is on
+on_moved : (m n : Machine) (j : ℕ) (q : Whole) (s : Site) (a : Ask) (h : Chan) → m.jobs j ≡ Some q → channel_at q.channels (input a 0) ≡ h → length a.inputs.items ≡ 3
+    → Moved m n j q s a (siot_on (view m j q (target q a)) a (input a 0) h)
+on_moved m n j q s a Shut is on three = λ d r. refl
+on_moved m n j q s a TtyIn is on three =
+    let x : View = view m j q (target q a) in
+    by_moved m n j q s a false false (siot_in x a (next_pointer (input a 1)) (input a 2) (console_of x)) three (λ l. in_moved m n j q s a is on)
+on_moved m n j q s a TtyOut is on three =
+    let x : View = view m j q (target q a) in
+    by_moved m n j q s a false false (siot_out x a (next_pointer (input a 1)) (input a 2) (console_of x)) three (λ l. out_moved m n j q s a is on)
+on_moved m n j q s a (Reads names at) is on three =
     reads_moved m n j q s a names at (slice_get (words_of (view m j q (target q a)) names) at) is on refl three
-to_moved m n j q s a (Writes file) is on three =
+on_moved m n j q s a (Writes file) is on three =
     let x : View = view m j q (target q a) in
     by_moved m n j q s a true false (siot_write x a (next_pointer (input a 1)) (input a 2) (input a 0) file) three (λ l. write_moved m n j q s a file is on)
-to_moved m n j q s a Shut is on three = tty_moved m n j q s a is three
-to_moved m n j q s a TtyIn is on three = tty_moved m n j q s a is three
-to_moved m n j q s a TtyOut is on three = tty_moved m n j q s a is three
-to_moved m n j q s a (On k write at) is on three = tty_moved m n j q s a is three
-
-call_moved : (m n : Machine) (j : ℕ) (q : Whole) (s : Site) (a : Ask) → m.jobs j ≡ Some q → length a.inputs.items ≡ 3
-    → Moved m n j q s a (siot_call (view m j q (target q a)) a)
-unfolding siot_call view
-call_moved m n j q s a is three = to_moved m n j q s a (channel_at q.channels (input a 0)) is refl three
-
-beside_moved : (m n : Machine) (j : ℕ) (q : Whole) (s : Site) (a : Ask) (h : Chan) → m.jobs j ≡ Some q → channel_at q.channels (input a 0) ≡ h → length a.inputs.items ≡ 3
-    → Moved m n j q s a (siot_beside (view m j q (target q a)) a (input a 0) h)
-beside_moved m n j q s a (On k true at) is on three =
+on_moved m n j q s a (On k true at) is on three =
     let x : View = view m j q (target q a) in
     by_moved m n j q s a true (at_end at) (siot_pokes x a (next_pointer (input a 1)) (input a 2) (input a 0) k at) three (λ l. poke_moved m n j q s a k at is on)
-beside_moved m n j q s a (On k false at) is on three =
+on_moved m n j q s a (On k false at) is on three =
     let x : View = view m j q (target q a) in
     let o : Option ℕ = word_at (other_core x) at in
     by_moved m n j q s a true (at_end at) (siot_peeks x a (next_pointer (input a 1)) (input a 2) (input a 0) at o) three (λ l. peeks_moved m n j q s a k at o is on refl)
-beside_moved m n j q s a Shut is on three = call_moved m n j q s a is three
-beside_moved m n j q s a TtyIn is on three = call_moved m n j q s a is three
-beside_moved m n j q s a TtyOut is on three = call_moved m n j q s a is three
-beside_moved m n j q s a (Reads names at) is on three = call_moved m n j q s a is three
-beside_moved m n j q s a (Writes file) is on three = call_moved m n j q s a is three
 
 -- where no call is in progress, a call that reserves no page may rely on all that its commit has
 calling : (m : Machine) (j : ℕ) (q : Whole) (s : Site) (a : Ask) → Forest m → m.jobs j ≡ Some q → Stands q.core q.job s a → reserves a ≡ false → Calling m (no_state m) j q s a 0
@@ -346,14 +319,14 @@ calling m j q s a forest is st none = record {
 }
 
 siot_moved : (m n : Machine) (j : ℕ) (q : Whole) (s : Site) (a : Ask) → Forest m → m.jobs j ≡ Some q → Stands q.core q.job s a → call_named a.name ≡ Some Siot → a.fail ≡ 0
-    → Acted m n j a (reach m j q a) (siot_usr (view m j q (target q a)) a) → ByteBy m j q s a (siot_usr (view m j q (target q a)) a) n
-unfolding siot_usr view
+    → Acted m n j a (reach m j q a) (siot_call (view m j q (target q a)) a) → ByteBy m j q s a (siot_call (view m j q (target q a)) a) n
+unfolding siot_call view
 siot_moved m n j q s a forest is st e z r =
-    beside_moved m n j q s a (channel_at q.channels (input a 0)) is refl (siot_inputs q.core s a st.ask_is e z)
-    (siot_usr_duty decoding m (no_state m) j (view m j q (target q a)) s a 0 (calling m j q s a forest is st (reserves_none a (ap (λ (o : Option CallName). makes_page o (input a 0)) e))) e z) r
+    on_moved m n j q s a (channel_at q.channels (input a 0)) is refl (siot_inputs q.core s a st.ask_is e z)
+    (siot_duty decoding m (no_state m) j (view m j q (target q a)) s a 0 (calling m j q s a forest is st (reserves_none a (ap (λ (o : Option CallName). makes_page o (input a 0)) e))) e z) r
 
 -- what a SIOT decides: an error of its decoding ends it
-decides_siot : (m : Machine) (j : ℕ) (q : Whole) (a : Ask) → call_named a.name ≡ Some Siot → a.fail ≡ 0 → decision m j q a ≡ siot_usr (view m j q (target q a)) a
+decides_siot : (m : Machine) (j : ℕ) (q : Whole) (a : Ask) → call_named a.name ≡ Some Siot → a.fail ≡ 0 → decision m j q a ≡ siot_call (view m j q (target q a)) a
 unfolding decision decided
 decides_siot m j q a e z =
     let x : View = view m j q (target q a) in

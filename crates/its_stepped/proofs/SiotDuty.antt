@@ -20,13 +20,13 @@ use Rattle.its_frame.specs.declared.decision.Wait.TheVariants.{Input, Output}
 use Rattle.its_frame.specs.declared.name.CallName.{CallName}
 use Rattle.its_frame.specs.declared.name.CallName.TheVariants.{Siot}
 use Rattle.its_plain.specs.Arguments.{store_of, stores_of, valued, input, place_in, place_of_input, in_footprint, is_shared, debts, revalued}
-use Rattle.its_plain.specs.CallBasic.{shared_place, read_only, channel_at}
+use Rattle.its_plain.specs.CallBasic.{shared_place, read_only}
 use Rattle.its_plain.specs.CallStep.{with_held}
-use Rattle.its_plain.specs.CallTty.{console_of, input_waits, output_waits, first_typed, shown_byte, store_tests, read_tests, word_of, is_indexed, next_pointer, siot_tests, siot_in, siot_out, siot_by, siot_on, siot}
-use Rattle.its_plain.specs.CallFile.{is_full, channels_in, words_of, siot_read, siot_reads, siot_write, siot_writes, siot_to, siot_call}
+use Rattle.its_plain.specs.CallTty.{console_of, input_waits, output_waits, first_typed, shown_byte, store_tests, read_tests, word_of, is_indexed, next_pointer, siot_tests, siot_in, siot_out, siot_by}
+use Rattle.its_plain.specs.CallFile.{is_full, channels_in, siot_read, siot_reads, siot_write, siot_writes}
 use Rattle.its_plain.specs.Decide.{call_named}
 use Rattle.its_plain.specs.Footprint.{variable, with_inputs}
-use Rattle.its_plain.specs.Machine.{File, Chan, Shut, TtyIn, TtyOut, Reads, Writes, On, Whole, Machine}
+use Rattle.its_plain.specs.Machine.{File, Whole, Machine}
 use Rattle.its_plain.specs.Tests.{Test, ◌⇒◌, first, fails, goes}
 use Rattle.its_plain.specs.View.{View}
 use Rattle.its_word.specs.Stores.{stored}
@@ -242,54 +242,33 @@ siot_by_duty m v j x s a n words ended moves c e z h =
     t.1.1.1.1.1.1.1.0)
 
 -- a console
-siot_on_duty : (d : Decoding) (m : Machine) (v : State) (j : ℕ) (x : View) (s : Site) (a : Ask) (n : ℕ) (h : Chan) → Calling m v j x.own s a n → call_named a.name ≡ Some Siot
-    → a.fail ≡ 0 → Duty v j x.own s a n (siot_on x a h)
-siot_on_duty d m v j x s a n TtyIn c e z =
+pub siot_in_duty : (d : Decoding) (m : Machine) (v : State) (j : ℕ) (x : View) (s : Site) (a : Ask) (n : ℕ) → Calling m v j x.own s a n → call_named a.name ≡ Some Siot → a.fail ≡ 0
+    → let moves = siot_in x a (next_pointer (input a 1)) (input a 2) (console_of x) in Duty v j x.own s a n (siot_by x a false false moves)
+siot_in_duty d m v j x s a n c e z =
     let i = console_of x in
     siot_by_duty m v j x s a n false false (siot_in x a (next_pointer (input a 1)) (input a 2) i) c e z
     (λ t sized out. siot_stores d m v j x s a n (input_waits x i ⇒ Waits (Input i) ∷ []) (changes.Take i ∷ []) (next_pointer (input a 1)) (first_typed x i) (input a 2 - 1) c e t sized out (tt, tt) (tt, tt)
     refl (λ t. named_waits m v j x s a n Siot c e refl tt, tt))
-siot_on_duty d m v j x s a n TtyOut c e z =
+
+pub siot_out_duty : (d : Decoding) (m : Machine) (v : State) (j : ℕ) (x : View) (s : Site) (a : Ask) (n : ℕ) → Calling m v j x.own s a n → call_named a.name ≡ Some Siot → a.fail ≡ 0
+    → let moves = siot_out x a (next_pointer (input a 1)) (input a 2) (console_of x) in Duty v j x.own s a n (siot_by x a false false moves)
+siot_out_duty d m v j x s a n c e z =
     let i = console_of x in
     siot_by_duty m v j x s a n false false (siot_out x a (next_pointer (input a 1)) (input a 2) i) c e z
     (λ t sized out. siot_loads d m v j x s a n (output_waits x i ⇒ Waits (Output i) ∷ []) (changes.Put i (shown_byte (load_of (next_pointer (input a 1)) (word_of x (right_of (next_pointer (input a 1)))))) ∷ [])
     (next_pointer (input a 1)) (input a 2 - 1) c e t sized (tt, tt) (tt, tt) refl (λ t. named_waits m v j x s a n Siot c e refl tt, tt))
-siot_on_duty d m v j x s a n Shut c e z = fails_duty m v j x s a n 0o4 c
-siot_on_duty d m v j x s a n (Reads f at) c e z = fails_duty m v j x s a n 0o5 c
-siot_on_duty d m v j x s a n (Writes f) c e z = fails_duty m v j x s a n 0o5 c
-siot_on_duty d m v j x s a n (On k write at) c e z = fails_duty m v j x s a n 0o5 c
-
-siot_tty_duty : (d : Decoding) (m : Machine) (v : State) (j : ℕ) (x : View) (s : Site) (a : Ask) (n : ℕ) → Calling m v j x.own s a n → call_named a.name ≡ Some Siot → a.fail ≡ 0
-    → Duty v j x.own s a n (siot x a)
-unfolding siot
-siot_tty_duty d m v j x s a n c e z = siot_on_duty d m v j x s a n (channel_at x.own.channels (input a 0)) c e z
 
 -- a file and a draft
-siot_reads_duty : (d : Decoding) (m : Machine) (v : State) (j : ℕ) (x : View) (s : Site) (a : Ask) (n i at : ℕ) (o : Option ℕ) → Calling m v j x.own s a n
+pub siot_reads_duty : (d : Decoding) (m : Machine) (v : State) (j : ℕ) (x : View) (s : Site) (a : Ask) (n i at : ℕ) (o : Option ℕ) → Calling m v j x.own s a n
     → call_named a.name ≡ Some Siot → a.fail ≡ 0 → Duty v j x.own s a n (siot_reads x a i at o)
 siot_reads_duty d m v j x s a n i at o c e z =
     siot_by_duty m v j x s a n true (not (is_some o)) (siot_read x (next_pointer (input a 1)) (input a 2) i at (unwrap_or o 0)) c e z
     (λ t sized out. siot_stores d m v j x s a n [] (changes.Move i (at + 1) ∷ []) (next_pointer (input a 1)) (unwrap_or o 0) (input a 2 - 1) c e t sized out (tt, tt) (tt, tt) refl tt)
 
-siot_writes_duty : (d : Decoding) (m : Machine) (v : State) (j : ℕ) (x : View) (s : Site) (a : Ask) (n i : ℕ) (f : File) → Calling m v j x.own s a n → call_named a.name ≡ Some Siot
+pub siot_writes_duty : (d : Decoding) (m : Machine) (v : State) (j : ℕ) (x : View) (s : Site) (a : Ask) (n i : ℕ) (f : File) → Calling m v j x.own s a n → call_named a.name ≡ Some Siot
     → a.fail ≡ 0 → Duty v j x.own s a n (siot_writes x a i f)
 siot_writes_duty d m v j x s a n i f c e z =
     siot_by_duty m v j x s a n true false (siot_write x a (next_pointer (input a 1)) (input a 2) i f) c e z
     (λ t sized out. siot_loads d m v j x s a n (is_full x.files (channels_in x) f.words ⇒ fails x a 0o10 ∷ [])
     (changes.Append i (load_of (next_pointer (input a 1)) (word_of x (right_of (next_pointer (input a 1))))) ∷ []) (next_pointer (input a 1)) (input a 2 - 1) c e t sized (tt, tt) (tt, tt) refl
     (λ t. fails_duty m v j x s a n 0o10 c, tt))
-
-siot_to_duty : (d : Decoding) (m : Machine) (v : State) (j : ℕ) (x : View) (s : Site) (a : Ask) (n i : ℕ) (h : Chan) → Calling m v j x.own s a n → call_named a.name ≡ Some Siot
-    → a.fail ≡ 0 → Duty v j x.own s a n (siot_to x a i h)
-siot_to_duty d m v j x s a n i (Reads f at) c e z = siot_reads_duty d m v j x s a n i at (slice_get (words_of x f) at) c e z
-siot_to_duty d m v j x s a n i (Writes f) c e z = siot_writes_duty d m v j x s a n i f c e z
-siot_to_duty d m v j x s a n i Shut c e z = siot_tty_duty d m v j x s a n c e z
-siot_to_duty d m v j x s a n i TtyIn c e z = siot_tty_duty d m v j x s a n c e z
-siot_to_duty d m v j x s a n i TtyOut c e z = siot_tty_duty d m v j x s a n c e z
-siot_to_duty d m v j x s a n i (On k write at) c e z = siot_tty_duty d m v j x s a n c e z
-
--- whatever its channel is on
-pub siot_duty : (d : Decoding) (m : Machine) (v : State) (j : ℕ) (x : View) (s : Site) (a : Ask) (n : ℕ) → Calling m v j x.own s a n → call_named a.name ≡ Some Siot → a.fail ≡ 0
-    → Duty v j x.own s a n (siot_call x a)
-unfolding siot_call
-siot_duty d m v j x s a n c e z = siot_to_duty d m v j x s a n (input a 0) (channel_at x.own.channels (input a 0)) c e z

@@ -3,25 +3,22 @@
 use Rattle.std.specs.Prelude.{if◌then◌else◌, ◌≡◌, ◌==◌, ℕ, Bool, true, false, Option, Some, None, slice_index_or, refl}
 use Rattle.std.proofs.Common.{◌∙◌, ap}
 use Rattle.its_word.specs.declared.calls.Ask.{Ask}
-use Rattle.its_frame.specs.declared.change.Change.{Change}
 use Rattle.its_frame.specs.declared.decision.Decision.{Decision}
 use Rattle.its_frame.specs.declared.decision.Decision.TheVariants.{Waits, Goes, Ends, Gone}
 use Rattle.its_frame.specs.declared.name.CallName.{CallName}
 use Rattle.its_frame.specs.declared.name.CallName.TheVariants.{Hang, Sleep, Iot, Siot, Finish, Listen}
-use Rattle.its_plain.specs.Machine.{Chan, Shut, TtyIn, TtyOut, Reads, Writes, On, Whole, Machine}
+use Rattle.its_plain.specs.Machine.{Chan, TtyIn, TtyOut, Whole, Machine}
 use Rattle.its_plain.specs.Arguments.{input}
 use Rattle.its_plain.specs.View.{View, view}
 use Rattle.its_plain.specs.CallBasic.{is_oneself, channel_at}
-use Rattle.its_plain.specs.CallTty.{iot_on, iot, siot_on, siot}
+use Rattle.its_plain.specs.CallDevice.{iot_call, siot_call}
 use Rattle.its_plain.specs.CallStep.{decision}
-use Rattle.its_plain.specs.Decide.{call_named, tty_by, decided_by, decided, inferior_on, reached_by, target_by, argument_of, target, reach}
+use Rattle.its_plain.specs.Decide.{call_named, decided_by, decided, inferior_on, reached_by, target_by, argument_of, target, reach}
 use Rattle.its_stepped.specs.Sound.{IsWaitable}
 use Rattle.its_stepped.specs.State.{State, plain, seen}
 use Rattle.its_stepped.specs.Unwind.{all_unwound}
 use Rattle.its_stepped.specs.Tick.{is_disk, helps_by, helps, helped_if, prepared_for}
-use Rattle.its_stepped.proofs.FileWays.{OnFile, Ways, file_ways}
-use Rattle.its_stepped.proofs.UsrWays.{OnUsr, usr_ways}
-use Rattle.its_stepped.proofs.CoreWays.{OnCore, core_ways}
+use Rattle.its_stepped.proofs.CallWays.{Ways, OnConsole, iot_ways, siot_ways}
 use Rattle.its_stepped.proofs.ViewLaws.{StillAt, decision_plain, view_plain, reach_plain, helps_seen}
 use Rattle.its_stepped.proofs.UnseenLaws.{files_unseen}
 
@@ -52,56 +49,35 @@ Goes_on (Goes cs h vs) = Unit {0}
 Goes_on (Ends cs ss e) = Unit {0}
 Goes_on (Gone cs) = Unit {0}
 
-goes_ways : (OnIt : Change → Type 0) (x : View) (a : Ask) → Ways OnIt Goes_on x a
-goes_ways OnIt x a = record {
+goes_ways : (x : View) (a : Ask) → Ways Goes_on x a
+goes_ways x a = record {
   failing = λ k. tt;
   faulting = λ f. tt;
   stuck = tt;
+  opening = λ h b. tt;
   ending = λ cs ss h. tt;
   moved = λ cs ss h. tt;
   going = λ cs b vs h. tt;
 }
 
 -- a channel that is on no console
-abbrev OffConsole : Chan → Type 0
-OffConsole TtyIn = ⊥
-OffConsole TtyOut = ⊥
-OffConsole _ = Unit {0}
+disk_off : (c : Chan) → is_disk c ≡ true → OnConsole c → ⊥
+disk_off TtyIn h k = cc
+disk_off TtyOut h k = cc
+disk_off _ h k = k
 
-disk_off : (c : Chan) → is_disk c ≡ true → OffConsole c
-disk_off TtyIn h = absurd cc
-disk_off TtyOut h = absurd cc
-disk_off _ h = tt
+inferior_off : (c : Chan) (s : ℕ) → inferior_on c ≡ Some s → OnConsole c → ⊥
+inferior_off TtyIn s h k = cc
+inferior_off TtyOut s h k = cc
+inferior_off _ s h k = k
 
-inferior_off : (c : Chan) (s : ℕ) → inferior_on c ≡ Some s → OffConsole c
-inferior_off TtyIn s h = absurd cc
-inferior_off TtyOut s h = absurd cc
-inferior_off _ s h = tt
+iot_ready : (x : View) (a : Ask) → (OnConsole (channel_at x.own.channels (input a 0)) → ⊥) → Goes_on (decided_by x a (Some Iot))
+unfolding iot_call
+iot_ready x a h = iot_ways Goes_on x a (slice_index_or a.outputs.items 0 0) (input a 0) (channel_at x.own.channels (input a 0)) (goes_ways x a) (λ k r. h k)
 
-iot_goes : (x : View) (e : ℕ) (c : Chan) → OffConsole c → Goes_on (iot_on x e c)
-iot_goes x e TtyIn h = absurd h
-iot_goes x e TtyOut h = absurd h
-iot_goes x e _ h = tt
-
-siot_goes : (x : View) (a : Ask) (c : Chan) → OffConsole c → Goes_on (siot_on x a c)
-siot_goes x a TtyIn h = absurd h
-siot_goes x a TtyOut h = absurd h
-siot_goes x a Shut h = tt
-siot_goes x a (Reads f at) h = tt
-siot_goes x a (Writes f) h = tt
-siot_goes x a (On s w at) h = tt
-
-ways_go : (x : View) (a : Ask) (o : Option CallName) → Goes_on (tty_by x a o) → Goes_on (decided_by x a o)
-ways_go x a o h =
-    core_ways Goes_on x a o (goes_ways OnCore x a) (usr_ways Goes_on x a o (goes_ways OnUsr x a) (file_ways Goes_on x a o (goes_ways OnFile x a) h))
-
-iot_ready : (x : View) (a : Ask) → OffConsole (channel_at x.own.channels (input a 0)) → Goes_on (decided_by x a (Some Iot))
-unfolding iot
-iot_ready x a h = ways_go x a (Some Iot) (iot_goes x (slice_index_or a.outputs.items 0 0) (channel_at x.own.channels (input a 0)) h)
-
-siot_ready : (x : View) (a : Ask) → OffConsole (channel_at x.own.channels (input a 0)) → Goes_on (decided_by x a (Some Siot))
-unfolding siot
-siot_ready x a h = ways_go x a (Some Siot) (siot_goes x a (channel_at x.own.channels (input a 0)) h)
+siot_ready : (x : View) (a : Ask) → (OnConsole (channel_at x.own.channels (input a 0)) → ⊥) → Goes_on (decided_by x a (Some Siot))
+unfolding siot_call
+siot_ready x a h = siot_ways Goes_on x a (input a 0) (channel_at x.own.channels (input a 0)) (goes_ways x a) (λ k r. h k)
 
 named_goes : (x : View) (a : Ask) (o : Option CallName) → helps_by x.own a o ≡ true → IsWaitable o → Goes_on (decided_by x a o)
 named_goes x a (Some Iot) h w = iot_ready x a (disk_off (channel_at x.own.channels (input a 0)) h)
@@ -125,10 +101,10 @@ unfolding decision view
 waits_unhelped m j q a h w = goes_by (view m j q (target q a)) a (a.fail == 0) refl h w
 
 -- nor does it reach into another job
-reached_off : (q : Whole) (w s : ℕ) → reached_by q w ≡ Some s → OffConsole (channel_at q.channels w)
+reached_off : (q : Whole) (w s : ℕ) → reached_by q w ≡ Some s → OnConsole (channel_at q.channels w) → ⊥
 reached_off q w s h = go (is_oneself w) h
   where
-    go : (b : Bool) → (if b then None else inferior_on (channel_at q.channels w)) ≡ Some s → OffConsole (channel_at q.channels w)
+    go : (b : Bool) → (if b then None else inferior_on (channel_at q.channels w)) ≡ Some s → OnConsole (channel_at q.channels w) → ⊥
     go true h = absurd cc
     go false h = inferior_off (channel_at q.channels w) s h
 

@@ -1,5 +1,5 @@
--- OPEN, CLOSE, `.IOT`, FINISH, LISTEN and TTYLND do their duty.
-use Rattle.std.specs.Prelude.{◌≡◌, ◌≢◌, ℕ, ◌%◌, ◌^◌, Bool, false, not, Option, Some, [], ◌∷◌, ◌++◌, length, slice_index_or, unwrap_or, refl}
+-- The calls on consoles do their duty: OPEN, `.IOT` and TTYLND; and a call that changes nothing.
+use Rattle.std.specs.Prelude.{◌≡◌, ◌≢◌, ℕ, ◌%◌, ◌^◌, Bool, false, not, Option, Some, [], ◌∷◌, ◌++◌, unwrap_or, refl}
 use Rattle.std.proofs.Common.{◌∙◌, ap, subst, sym, arith}
 use Rattle.std.proofs.lemmas.Bool.{not-false}
 use Rattle.its_word.specs.Core.{can_store}
@@ -8,21 +8,22 @@ use Rattle.its_word.specs.declared.calls.Ask.{Ask}
 use Rattle.its_word.specs.declared.calls.Site.{Site}
 use Rattle.its_frame.specs.declared.change.Change.TheVariants as changes
 use Rattle.its_frame.specs.declared.decision.Decision.TheVariants.{Waits}
-use Rattle.its_frame.specs.declared.decision.Wait.TheVariants.{Input, Output, Drained}
+use Rattle.its_frame.specs.declared.decision.Wait.TheVariants.{Input, Output}
 use Rattle.its_frame.specs.declared.name.CallName.{CallName}
-use Rattle.its_frame.specs.declared.name.CallName.TheVariants.{Iot, Finish, Listen}
+use Rattle.its_frame.specs.declared.name.CallName.TheVariants.{Iot}
 use Rattle.its_plain.specs.Arguments.{input}
-use Rattle.its_plain.specs.CallBasic.{Party, Oneself, Nobody, Channel, channel_at, party}
-use Rattle.its_plain.specs.CallTty.{console_of, has_console, input_waits, output_waits, output_left, first_typed, shown_byte, opens_on, open_tests, opens, close_on, closes, store_tests, read_tests, word_of, iot_ends, iot_in, iot_out, iot_on, iot, finish_on, finish, listens, listen_on, listen, can_take, is_holder, lands, ttylnd_of, ttylnd}
+use Rattle.its_plain.specs.CallBasic.{Party, Oneself, Nobody, Channel, party}
+use Rattle.its_plain.specs.CallTty.{console_of, has_console, input_waits, output_waits, first_typed, shown_byte, opens_on, open_tests, opens, store_tests, read_tests, word_of, iot_ends, iot_in, iot_out, can_take, is_holder, lands, ttylnd_of, ttylnd}
 use Rattle.its_plain.specs.Decide.{call_named}
-use Rattle.its_plain.specs.Machine.{Chan, Shut, TtyIn, TtyOut, Reads, Writes, On, Machine}
-use Rattle.its_plain.specs.Tests.{◌⇒◌, finishes, fails, out}
+use Rattle.its_plain.specs.Machine.{Shut, TtyIn, TtyOut, Reads, Writes, On, Machine}
+use Rattle.its_plain.specs.Tests.{◌⇒◌, finishes, fails}
 use Rattle.its_plain.specs.View.{View}
 use Rattle.its_stepped.specs.State.{State}
 use Rattle.its_stepped.specs.Tick.{makes_page}
 use Rattle.its_stepped.specs.Sound.{IsWaitable}
 use Rattle.its_stepped.specs.Duty.{Waiting_by, Duty}
 use Rattle.its_stepped.specs.Calling.{Calling}
+use Rattle.its_stepped.proofs.CallWays.{Answering}
 use Rattle.its_stepped.proofs.TestLaws.{first_holds, waits_duty, ending_duty, fails_duty, faults_duty, nothing_duty, output_duty}
 
 -- a call by its name that can be found not ready, and makes no page
@@ -31,7 +32,7 @@ pub named_waits : (m : Machine) (v : State) (j : ℕ) (x : View) (s : Site) (a :
 named_waits m v j x s a n k c e page w =
     waits_duty m v j x.own s a n c (ap (λ (o : Option CallName). makes_page o (input a 0)) e ∙ page) (subst IsWaitable (sym e) w)
 
--- OPEN and CLOSE
+-- OPEN
 pub opens_duty : (m : Machine) (v : State) (j : ℕ) (x : View) (s : Site) (a : Ask) (n : ℕ) → Calling m v j x.own s a n → Duty v j x.own s a n (opens x a)
 unfolding opens
 opens_duty m v j x s a n c =
@@ -40,24 +41,8 @@ opens_duty m v j x s a n c =
     (λ t. fails_duty m v j x s a n 0o4 c, (λ t. fails_duty m v j x s a n 0o5 c, (λ t. fails_duty m v j x s a n 0o22 c, (λ t. fails_duty m v j x s a n 0o5 c, tt))))
     (λ t. ending_duty m v j x.own s a n (changes.Open (input a 0) (opens_on (unwrap_or a.control 0)) ∷ []) [] c (tt, tt) (tt, tt) refl tt (omega arith))
 
-shut_duty : (m : Machine) (v : State) (j : ℕ) (x : View) (s : Site) (a : Ask) (n : ℕ) → Calling m v j x.own s a n
-    → Duty v j x.own s a n (finishes x (changes.Shut (input a 0) ∷ []) [])
-shut_duty m v j x s a n c = ending_duty m v j x.own s a n (changes.Shut (input a 0) ∷ []) [] c (tt, tt) (tt, tt) refl tt (omega arith)
-
-close_on_duty : (m : Machine) (v : State) (j : ℕ) (x : View) (s : Site) (a : Ask) (n : ℕ) (h : Chan) → Calling m v j x.own s a n → Duty v j x.own s a n (close_on x a h)
-close_on_duty m v j x s a n Shut c = fails_duty m v j x s a n 0o4 c
-close_on_duty m v j x s a n TtyIn c = shut_duty m v j x s a n c
-close_on_duty m v j x s a n TtyOut c = shut_duty m v j x s a n c
-close_on_duty m v j x s a n (Reads f at) c = shut_duty m v j x s a n c
-close_on_duty m v j x s a n (Writes f) c = shut_duty m v j x s a n c
-close_on_duty m v j x s a n (On k write at) c = shut_duty m v j x s a n c
-
-pub closes_duty : (m : Machine) (v : State) (j : ℕ) (x : View) (s : Site) (a : Ask) (n : ℕ) → Calling m v j x.own s a n → Duty v j x.own s a n (closes x a)
-unfolding closes
-closes_duty m v j x s a n c = close_on_duty m v j x s a n (channel_at x.own.channels (input a 0)) c
-
 -- `.IOT`: the word that it stores allows it, as its tests found
-iot_in_duty : (m : Machine) (v : State) (j : ℕ) (x : View) (s : Site) (a : Ask) (n e i : ℕ) → Calling m v j x.own s a n → call_named a.name ≡ Some Iot → e % 2 ^ 18 ≡ e
+pub iot_in_duty : (m : Machine) (v : State) (j : ℕ) (x : View) (s : Site) (a : Ask) (n e i : ℕ) → Calling m v j x.own s a n → call_named a.name ≡ Some Iot → e % 2 ^ 18 ≡ e
     → Duty v j x.own s a n (iot_in x e i)
 iot_in_duty m v j x s a n e i c is at =
     first_holds (Duty v j x.own s a n) (store_tests x e ++ (input_waits x i ⇒ Waits (Input i) ∷ []))
@@ -66,67 +51,13 @@ iot_in_duty m v j x s a n e i c is at =
     (λ t. ending_duty m v j x.own s a n (changes.Take i ∷ []) (record { at = e; word = first_typed x i } ∷ []) c (tt, tt) (tt, tt) refl
     (ap (can_store x.own.core) at ∙ not-false (can_store x.own.core e) t.1.0, tt) (omega arith))
 
-iot_out_duty : (m : Machine) (v : State) (j : ℕ) (x : View) (s : Site) (a : Ask) (n e i : ℕ) → Calling m v j x.own s a n → call_named a.name ≡ Some Iot
+pub iot_out_duty : (m : Machine) (v : State) (j : ℕ) (x : View) (s : Site) (a : Ask) (n e i : ℕ) → Calling m v j x.own s a n → call_named a.name ≡ Some Iot
     → Duty v j x.own s a n (iot_out x e i)
 iot_out_duty m v j x s a n e i c is =
     first_holds (Duty v j x.own s a n) (read_tests x e ++ (output_waits x i ⇒ Waits (Output i) ∷ []))
     (iot_ends x (changes.Put i (shown_byte (word_of x e)) ∷ []) [])
     (λ t. faults_duty m v j x s a n Mpv c, (λ t. named_waits m v j x s a n Iot c is refl tt, tt))
     (λ t. ending_duty m v j x.own s a n (changes.Put i (shown_byte (word_of x e)) ∷ []) [] c (tt, tt) (tt, tt) refl tt (omega arith))
-
-iot_on_duty : (m : Machine) (v : State) (j : ℕ) (x : View) (s : Site) (a : Ask) (n e : ℕ) (h : Chan) → Calling m v j x.own s a n → call_named a.name ≡ Some Iot → e % 2 ^ 18 ≡ e
-    → Duty v j x.own s a n (iot_on x e h)
-iot_on_duty m v j x s a n e TtyIn c is at = iot_in_duty m v j x s a n e (console_of x) c is at
-iot_on_duty m v j x s a n e TtyOut c is at = iot_out_duty m v j x s a n e (console_of x) c is
-iot_on_duty m v j x s a n e Shut c is at = nothing_duty m v j x s a n c
-iot_on_duty m v j x s a n e (Reads f p) c is at = nothing_duty m v j x s a n c
-iot_on_duty m v j x s a n e (Writes f) c is at = nothing_duty m v j x s a n c
-iot_on_duty m v j x s a n e (On k write p) c is at = nothing_duty m v j x s a n c
-
-pub iot_duty : (m : Machine) (v : State) (j : ℕ) (x : View) (s : Site) (a : Ask) (n : ℕ) → Calling m v j x.own s a n → call_named a.name ≡ Some Iot → Duty v j x.own s a n (iot x a)
-unfolding iot
-iot_duty m v j x s a n c is = iot_on_duty m v j x s a n (slice_index_or a.outputs.items 0 0) (channel_at x.own.channels (input a 0)) c is c.fetched.address
-
--- FINISH and LISTEN
-finish_on_duty : (m : Machine) (v : State) (j : ℕ) (x : View) (s : Site) (a : Ask) (n : ℕ) (h : Chan) → Calling m v j x.own s a n → call_named a.name ≡ Some Finish
-    → Duty v j x.own s a n (finish_on x a h)
-finish_on_duty m v j x s a n TtyOut c is =
-    first_holds (Duty v j x.own s a n) (output_left x (console_of x) ⇒ Waits (Drained (console_of x)) ∷ []) (finishes x [] [])
-    (λ t. named_waits m v j x s a n Finish c is refl tt, tt) (λ t. nothing_duty m v j x s a n c)
-finish_on_duty m v j x s a n Shut c is = fails_duty m v j x s a n 0o4 c
-finish_on_duty m v j x s a n TtyIn c is = fails_duty m v j x s a n 0o5 c
-finish_on_duty m v j x s a n (Reads f at) c is = fails_duty m v j x s a n 0o5 c
-finish_on_duty m v j x s a n (Writes f) c is = fails_duty m v j x s a n 0o5 c
-finish_on_duty m v j x s a n (On k write at) c is = fails_duty m v j x s a n 0o5 c
-
-pub finish_duty : (m : Machine) (v : State) (j : ℕ) (x : View) (s : Site) (a : Ask) (n : ℕ) → Calling m v j x.own s a n → call_named a.name ≡ Some Finish
-    → Duty v j x.own s a n (finish x a)
-unfolding finish
-finish_duty m v j x s a n c is = finish_on_duty m v j x s a n (channel_at x.own.channels (input a 0)) c is
-
-listen_apart : (o : Option CallName) → o ≡ Some Listen → o ≢ Some Iot
-listen_apart o e t = cc
-
-listens_duty : (m : Machine) (v : State) (j : ℕ) (x : View) (s : Site) (a : Ask) (n i : ℕ) → Calling m v j x.own s a n → call_named a.name ≡ Some Listen
-    → Duty v j x.own s a n (listens x a i)
-listens_duty m v j x s a n i c is =
-    first_holds (Duty v j x.own s a n) (output_left x i ⇒ Waits (Drained i) ∷ []) (finishes x [] (out a.outputs.items (length (x.consoles i).input)))
-    (λ t. named_waits m v j x s a n Listen c is refl tt, tt)
-    (λ t. output_duty m v j x s a n (length (x.consoles i).input) c (listen_apart (call_named a.name) is))
-
-listen_on_duty : (m : Machine) (v : State) (j : ℕ) (x : View) (s : Site) (a : Ask) (n : ℕ) (h : Chan) → Calling m v j x.own s a n → call_named a.name ≡ Some Listen
-    → Duty v j x.own s a n (listen_on x a h)
-listen_on_duty m v j x s a n TtyIn c is = listens_duty m v j x s a n (console_of x) c is
-listen_on_duty m v j x s a n TtyOut c is = listens_duty m v j x s a n (console_of x) c is
-listen_on_duty m v j x s a n Shut c is = fails_duty m v j x s a n 0o4 c
-listen_on_duty m v j x s a n (Reads f at) c is = fails_duty m v j x s a n 0o5 c
-listen_on_duty m v j x s a n (Writes f) c is = fails_duty m v j x s a n 0o5 c
-listen_on_duty m v j x s a n (On k write at) c is = fails_duty m v j x s a n 0o5 c
-
-pub listen_duty : (m : Machine) (v : State) (j : ℕ) (x : View) (s : Site) (a : Ask) (n : ℕ) → Calling m v j x.own s a n → call_named a.name ≡ Some Listen
-    → Duty v j x.own s a n (listen x a)
-unfolding listen
-listen_duty m v j x s a n c is = listen_on_duty m v j x s a n (channel_at x.own.channels (input a 0)) c is
 
 -- TTYLND
 lands_duty : (m : Machine) (v : State) (j : ℕ) (x : View) (s : Site) (a : Ask) (n : ℕ) (may : Bool) (error k : ℕ) → Calling m v j x.own s a n
@@ -149,3 +80,13 @@ ttylnd_of_duty m v j x s a n (Channel (Writes f)) c = fails_duty m v j x s a n 0
 pub ttylnd_duty : (m : Machine) (v : State) (j : ℕ) (x : View) (s : Site) (a : Ask) (n : ℕ) → Calling m v j x.own s a n → Duty v j x.own s a n (ttylnd x a)
 unfolding ttylnd
 ttylnd_duty m v j x s a n c = ttylnd_of_duty m v j x s a n (party x (input a 0)) c
+
+-- a call that changes nothing but the word of its output
+pub answering_duty : (m : Machine) (v : State) (j : ℕ) (x : View) (s : Site) (a : Ask) (n : ℕ) → Calling m v j x.own s a n → call_named a.name ≢ Some Iot
+    → Answering (Duty v j x.own s a n) x a
+answering_duty m v j x s a n c other = record {
+  failing = λ k. fails_duty m v j x s a n k c;
+  faulting = λ f. faults_duty m v j x s a n f c;
+  finishing = nothing_duty m v j x s a n c;
+  giving = λ w. output_duty m v j x s a n w c other;
+}

@@ -13,13 +13,13 @@ use Rattle.its_frame.specs.Left.{is_made_by, kept, left_of, Few}
 use Rattle.its_frame.specs.declared.frame.Frame.{Frame}
 use Rattle.its_frame.specs.declared.frame.Frame.TheVariants.{Entered, Parsed, Asked, Holding, Waiting, Moving, Ending}
 use Rattle.its_frame.specs.declared.name.CallName.{CallName}
-use Rattle.its_frame.specs.declared.name.CallName.TheVariants.{Hang, Sleep, Dismis, Usrvar, Logout, Open, Close, Iot, Siot, Finish, Listen, Ttylnd, Access, Fillen, Delete, Rename, Usrmem, Uclose, Corblk}
+use Rattle.its_frame.specs.declared.name.CallName.TheVariants.{Siot}
 use Rattle.its_plain.specs.Machine.{Whole}
 use Rattle.its_plain.specs.Own.{with_stores, leave}
 use Rattle.its_plain.specs.Change.{poke}
 use Rattle.its_plain.specs.Arguments.{debts}
 use Rattle.its_plain.specs.CallStep.{with_held, among}
-use Rattle.its_plain.specs.Decide.{call_named}
+use Rattle.its_plain.specs.Decide.{call_row, call_named}
 use Rattle.its_plain.proofs.MachineLaws.{machine_is}
 use Rattle.its_stepped.specs.SlotSame.{SlotSame}
 use Rattle.its_stepped.specs.State.{Part, Mark, State, helped, mine, held_at, seen, seen_jobs, plain, turn, same, reserving, holding, waiting, ending, asked}
@@ -133,25 +133,11 @@ none_left w j s e = go (w.frames j) refl
 -- four steps are enough
 most_by : (n : Option CallName) → most_owed_by n ≤ 2
 most_by None = omega arith
-most_by (Some Siot) = omega arith
-most_by (Some Sleep) = omega arith
-most_by (Some Hang) = omega arith
-most_by (Some Dismis) = omega arith
-most_by (Some Usrvar) = omega arith
-most_by (Some Logout) = omega arith
-most_by (Some Open) = omega arith
-most_by (Some Close) = omega arith
-most_by (Some Iot) = omega arith
-most_by (Some Finish) = omega arith
-most_by (Some Listen) = omega arith
-most_by (Some Ttylnd) = omega arith
-most_by (Some Access) = omega arith
-most_by (Some Fillen) = omega arith
-most_by (Some Delete) = omega arith
-most_by (Some Rename) = omega arith
-most_by (Some Usrmem) = omega arith
-most_by (Some Uclose) = omega arith
-most_by (Some Corblk) = omega arith
+most_by (Some n) = most_row n
+  where
+    most_row : (n : CallName) → (call_row n).owes ≤ 2
+    most_row Siot = omega arith
+    most_row _ = omega arith
 
 pub most_few : (a : Ask) → most_owed a ≤ 2
 unfolding most_owed

@@ -1,5 +1,5 @@
 -- The calls on inferiors do their duty: OPEN of USR; `.IOT` and SIOT where the channel is on one; USRMEM and UCLOSE.
-use Rattle.std.specs.Prelude.{◌≡◌, ◌≢◌, ◌==◌, ℕ, ◌+◌, ◌-◌, ◌%◌, ◌^◌, Bool, true, false, not, Option, Some, None, [], ◌∷◌, ◌++◌, option_map, slice_index_or, unwrap_or, refl}
+use Rattle.std.specs.Prelude.{◌≡◌, ◌≢◌, ◌==◌, ℕ, ◌+◌, ◌-◌, ◌%◌, ◌^◌, Bool, true, false, not, Option, Some, None, [], ◌∷◌, ◌++◌, option_map, unwrap_or, refl}
 use Rattle.std.proofs.Common.{sym, ◌∙◌, ap, subst, inl, inr, arith}
 use Rattle.std.proofs.lemmas.Bool.{cases_eq, not-false}
 use Rattle.its_word.specs.Word.{right_of}
@@ -18,7 +18,7 @@ use Rattle.its_plain.specs.Arguments.{input, has_input, in_footprint}
 use Rattle.its_plain.specs.CallBasic.{channel_at, ioc}
 use Rattle.its_plain.specs.CallStep.{among}
 use Rattle.its_plain.specs.CallTty.{store_tests, read_tests, word_of, iot_ends, next_pointer}
-use Rattle.its_plain.specs.CallUsr.{usr_device, inferior_named, any_named, makes_job, opens_job, usr_tests, opens_usr, other_core, at_end, iot_peeks, iot_from, iot_into, iot_beside, iot_usr, siot_peeks, siot_from, siot_pokes, siot_into, siot_beside, siot_usr, set_word, usrmem_tests, usrmem_on, usrmem, uclose_on, uclose, open_beside, open_usr}
+use Rattle.its_plain.specs.CallUsr.{inferior_named, any_named, makes_job, opens_job, usr_tests, opens_usr, other_core, at_end, iot_peeks, iot_from, iot_into, siot_peeks, siot_from, siot_pokes, siot_into, set_word, usrmem_tests, usrmem_on, usrmem, uclose_on, uclose}
 use Rattle.its_plain.specs.Change.{superiors, is_gone}
 use Rattle.its_plain.specs.Decide.{call_named, with_below, reach}
 use Rattle.its_plain.specs.Machine.{Chan, Shut, TtyIn, TtyOut, Reads, Writes, On, Whole, Machine}
@@ -33,8 +33,8 @@ use Rattle.its_stepped.proofs.ForestLaws.{forest_below, on_inferior}
 use Rattle.its_stepped.proofs.TargetLaws.{target_on, reach_named, Aimed, aimed_reached, aimed_on}
 use Rattle.its_stepped.proofs.TestLaws.{first_holds, ending_duty, fails_duty, faults_duty, nothing_duty, out_few}
 use Rattle.its_stepped.proofs.LogoutDuty.{among_left, among_right, among_below, gone_below}
-use Rattle.its_stepped.proofs.FileDuty.{changes_duty, open_call_duty, iot_read_duty, iot_call_duty}
-use Rattle.its_stepped.proofs.SiotDuty.{Moving, siot_stores, siot_loads, siot_by_duty, siot_duty}
+use Rattle.its_stepped.proofs.FileDuty.{changes_duty, iot_read_duty}
+use Rattle.its_stepped.proofs.SiotDuty.{Moving, siot_stores, siot_loads, siot_by_duty}
 
 -- there is none where nothing is seen of it
 pub unmapped : {X Y : Type 0} (g : X → Y) (o : Option X) → option_map g o ≡ None → o ≡ None
@@ -65,7 +65,7 @@ opens_job_duty m v j x s a n i u name write None c same =
     first_holds (Duty v j x.own s a n) (any_named x u name ⇒ fails x a 0o13 ∷ not write ⇒ fails x a 0o12 ∷ []) (makes_job x a i u name (least_free x.outlines))
     (λ t. fails_duty m v j x s a n 0o13 c, (λ t. fails_duty m v j x s a n 0o12 c, tt)) (λ t. makes_job_duty m v j x s a n i u name (least_free x.outlines) c same refl)
 
-opens_usr_duty : (m : Machine) (v : State) (j : ℕ) (x : View) (s : Site) (a : Ask) (n : ℕ) → Calling m v j x.own s a n → Outlined m x
+pub opens_usr_duty : (m : Machine) (v : State) (j : ℕ) (x : View) (s : Site) (a : Ask) (n : ℕ) → Calling m v j x.own s a n → Outlined m x
     → Duty v j x.own s a n (opens_usr x a)
 unfolding opens_usr
 opens_usr_duty m v j x s a n c same =
@@ -75,16 +75,6 @@ opens_usr_duty m v j x s a n c same =
     (λ t. fails_duty m v j x s a n 0o4 c, (λ t. fails_duty m v j x s a n 0o22 c, tt))
     (λ t. opens_job_duty m v j x s a n (input a 0) (input a 2) (input a 3) (control == 1) named c same)
 
-open_beside_duty : (m : Machine) (v : State) (j : ℕ) (x : View) (s : Site) (a : Ask) (n : ℕ) (b : Bool) → Calling m v j x.own s a n → Outlined m x
-    → Duty v j x.own s a n (open_beside x a b)
-open_beside_duty m v j x s a n true c same = opens_usr_duty m v j x s a n c same
-open_beside_duty m v j x s a n false c same = open_call_duty m v j x s a n c
-
-pub open_usr_duty : (m : Machine) (v : State) (j : ℕ) (x : View) (s : Site) (a : Ask) (n : ℕ) → Calling m v j x.own s a n → Outlined m x
-    → Duty v j x.own s a n (open_usr x a)
-unfolding open_usr
-open_usr_duty m v j x s a n c same = open_beside_duty m v j x s a n (input a 1 == usr_device) c same
-
 -- `.IOT`: from an inferior as from a file, and into it, which is in user mode
 iot_peeks_duty : (m : Machine) (v : State) (j : ℕ) (x : View) (s : Site) (a : Ask) (n e i at : ℕ) (ended : Bool) (o : Option ℕ) → Calling m v j x.own s a n → e % 2 ^ 18 ≡ e
     → can_store x.own.core e ≡ true → Duty v j x.own s a n (iot_peeks x e i at ended o)
@@ -92,35 +82,18 @@ iot_peeks_duty m v j x s a n e i at true o c is can = iot_read_duty m v j x s a 
 iot_peeks_duty m v j x s a n e i at false (Some w) c is can = iot_read_duty m v j x s a n e i at (Some w) c is can
 iot_peeks_duty m v j x s a n e i at false None c is can = nothing_duty m v j x s a n c
 
-iot_from_duty : (m : Machine) (v : State) (j : ℕ) (x : View) (s : Site) (a : Ask) (n e i at : ℕ) → Calling m v j x.own s a n → e % 2 ^ 18 ≡ e → Duty v j x.own s a n (iot_from x e i at)
+pub iot_from_duty : (m : Machine) (v : State) (j : ℕ) (x : View) (s : Site) (a : Ask) (n e i at : ℕ) → Calling m v j x.own s a n → e % 2 ^ 18 ≡ e → Duty v j x.own s a n (iot_from x e i at)
 iot_from_duty m v j x s a n e i at c is =
     let o = word_at (other_core x) at in
     first_holds (Duty v j x.own s a n) (store_tests x e) (iot_peeks x e i at (at_end at) o) (λ t. faults_duty m v j x s a n Mpv c, (λ t. faults_duty m v j x s a n Wro c, tt))
     (λ t. iot_peeks_duty m v j x s a n e i at (at_end at) o c is (not-false (can_store x.own.core e) t.1.0))
 
-iot_into_duty : (m : Machine) (v : State) (j : ℕ) (x : View) (s : Site) (a : Ask) (n e i k at : ℕ) → Calling m v j x.own s a n → Aimed v j k → Duty v j x.own s a n (iot_into x e i k at)
+pub iot_into_duty : (m : Machine) (v : State) (j : ℕ) (x : View) (s : Site) (a : Ask) (n e i k at : ℕ) → Calling m v j x.own s a n → Aimed v j k → Duty v j x.own s a n (iot_into x e i k at)
 iot_into_duty m v j x s a n e i k at c h =
     first_holds (Duty v j x.own s a n) (read_tests x e ++ (at_end at ⇒ ioc x ∷ not (can_store (other_core x) at) ⇒ ioc x ∷ []))
     (iot_ends x (changes.Poke k at (word_of x e) ∷ changes.Move i (at + 1) ∷ []) [])
     (λ t. faults_duty m v j x s a n Mpv c, (λ t. nothing_duty m v j x s a n c, (λ t. nothing_duty m v j x s a n c, tt)))
     (λ t. ending_duty m v j x.own s a n (changes.Poke k at (word_of x e) ∷ changes.Move i (at + 1) ∷ []) [] c (aimed_reached v j k h, (tt, tt)) (h.other, (tt, tt)) refl tt (omega arith))
-
-iot_beside_duty : (m : Machine) (v : State) (j : ℕ) (x : View) (s : Site) (a : Ask) (n e i : ℕ) (h : Chan) → Calling m v j x.own s a n → call_named a.name ≡ Some Iot → e % 2 ^ 18 ≡ e
-    → ((k at : ℕ) (write : Bool) → h ≡ On k write at → Aimed v j k) → Duty v j x.own s a n (iot_beside x a e i h)
-iot_beside_duty m v j x s a n e i (On k true at) c is here t = iot_into_duty m v j x s a n e i k at c (t k at true refl)
-iot_beside_duty m v j x s a n e i (On k false at) c is here t = iot_from_duty m v j x s a n e i at c here
-iot_beside_duty m v j x s a n e i Shut c is here t = iot_call_duty m v j x s a n c is
-iot_beside_duty m v j x s a n e i TtyIn c is here t = iot_call_duty m v j x s a n c is
-iot_beside_duty m v j x s a n e i TtyOut c is here t = iot_call_duty m v j x s a n c is
-iot_beside_duty m v j x s a n e i (Reads f at) c is here t = iot_call_duty m v j x s a n c is
-iot_beside_duty m v j x s a n e i (Writes f) c is here t = iot_call_duty m v j x s a n c is
-
-pub iot_usr_duty : (m : Machine) (v : State) (j : ℕ) (x : View) (s : Site) (a : Ask) (n : ℕ) → Calling m v j x.own s a n → call_named a.name ≡ Some Iot → a.fail ≡ 0
-    → Duty v j x.own s a n (iot_usr x a)
-unfolding iot_usr
-iot_usr_duty m v j x s a n c is z =
-    iot_beside_duty m v j x s a n (slice_index_or a.outputs.items 0 0) (input a 0) (channel_at x.own.channels (input a 0)) c is c.fetched.address
-    (λ k at write e. aimed_on m v j x.own s a n Iot 0 k at write c is z refl refl e)
 
 -- SIOT
 siot_peeks_duty : (d : Decoding) (m : Machine) (v : State) (j : ℕ) (x : View) (s : Site) (a : Ask) (n w k i at : ℕ) (o : Option ℕ) → Calling m v j x.own s a n → call_named a.name ≡ Some Siot
@@ -131,14 +104,14 @@ siot_peeks_duty d m v j x s a n w k i at None c e t sized out =
     first_holds (Duty v j x.own s a n) (store_tests x (right_of w)) (fails x a 0o16) (λ t. faults_duty m v j x s a n Mpv c, (λ t. faults_duty m v j x s a n Wro c, tt))
     (λ t. fails_duty m v j x s a n 0o16 c)
 
-siot_from_duty : (d : Decoding) (m : Machine) (v : State) (j : ℕ) (x : View) (s : Site) (a : Ask) (n i at : ℕ) → Calling m v j x.own s a n → call_named a.name ≡ Some Siot → a.fail ≡ 0
+pub siot_from_duty : (d : Decoding) (m : Machine) (v : State) (j : ℕ) (x : View) (s : Site) (a : Ask) (n i at : ℕ) → Calling m v j x.own s a n → call_named a.name ≡ Some Siot → a.fail ≡ 0
     → Duty v j x.own s a n (siot_from x a i at)
 siot_from_duty d m v j x s a n i at c e z =
     let w = next_pointer (input a 1) in
     let o = word_at (other_core x) at in
     siot_by_duty m v j x s a n true (at_end at) (siot_peeks x a w (input a 2) i at o) c e z (λ t sized out. siot_peeks_duty d m v j x s a n w (input a 2) i at o c e t sized out)
 
-siot_into_duty : (d : Decoding) (m : Machine) (v : State) (j : ℕ) (x : View) (s : Site) (a : Ask) (n i k at : ℕ) → Calling m v j x.own s a n → call_named a.name ≡ Some Siot → a.fail ≡ 0
+pub siot_into_duty : (d : Decoding) (m : Machine) (v : State) (j : ℕ) (x : View) (s : Site) (a : Ask) (n i k at : ℕ) → Calling m v j x.own s a n → call_named a.name ≡ Some Siot → a.fail ≡ 0
     → Aimed v j k → Duty v j x.own s a n (siot_into x a i k at)
 siot_into_duty d m v j x s a n i k at c e z h =
     let w = next_pointer (input a 1) in
@@ -146,22 +119,6 @@ siot_into_duty d m v j x s a n i k at c e z h =
     siot_by_duty m v j x s a n true (at_end at) (siot_pokes x a w (input a 2) i k at) c e z
     (λ t sized out. siot_loads d m v j x s a n (not (can_store (other_core x) at) ⇒ fails x a 0o16 ∷ []) (changes.Poke k at word ∷ changes.Move i (at + 1) ∷ []) w (input a 2 - 1) c e t sized
     (aimed_reached v j k h, (tt, tt)) (h.other, (tt, tt)) refl (λ t. fails_duty m v j x s a n 0o16 c, tt))
-
-siot_beside_duty : (d : Decoding) (m : Machine) (v : State) (j : ℕ) (x : View) (s : Site) (a : Ask) (n i : ℕ) (h : Chan) → Calling m v j x.own s a n → call_named a.name ≡ Some Siot → a.fail ≡ 0
-    → ((k at : ℕ) (write : Bool) → h ≡ On k write at → Aimed v j k) → Duty v j x.own s a n (siot_beside x a i h)
-siot_beside_duty d m v j x s a n i (On k true at) c e z t = siot_into_duty d m v j x s a n i k at c e z (t k at true refl)
-siot_beside_duty d m v j x s a n i (On k false at) c e z t = siot_from_duty d m v j x s a n i at c e z
-siot_beside_duty d m v j x s a n i Shut c e z t = siot_duty d m v j x s a n c e z
-siot_beside_duty d m v j x s a n i TtyIn c e z t = siot_duty d m v j x s a n c e z
-siot_beside_duty d m v j x s a n i TtyOut c e z t = siot_duty d m v j x s a n c e z
-siot_beside_duty d m v j x s a n i (Reads f at) c e z t = siot_duty d m v j x s a n c e z
-siot_beside_duty d m v j x s a n i (Writes f) c e z t = siot_duty d m v j x s a n c e z
-
-pub siot_usr_duty : (d : Decoding) (m : Machine) (v : State) (j : ℕ) (x : View) (s : Site) (a : Ask) (n : ℕ) → Calling m v j x.own s a n → call_named a.name ≡ Some Siot → a.fail ≡ 0
-    → Duty v j x.own s a n (siot_usr x a)
-unfolding siot_usr
-siot_usr_duty d m v j x s a n c e z =
-    siot_beside_duty d m v j x s a n (input a 0) (channel_at x.own.channels (input a 0)) c e z (λ k at write h. aimed_on m v j x.own s a n Siot 0 k at write c e z refl refl h)
 
 -- USRMEM
 word_quiet : (v : State) (j k p w : ℕ) (b : Bool) → Aimed v j k → AllQuiet (set_word k p w b) j v

@@ -6,16 +6,18 @@ use Rattle.its_word.specs.Tree.{slots_below}
 use Rattle.its_word.specs.declared.calls.Ask.{Ask}
 use Rattle.its_frame.specs.declared.frame.Frame.{Frame}
 use Rattle.its_frame.specs.declared.name.CallName.{CallName}
-use Rattle.its_frame.specs.declared.name.CallName.TheVariants.{Logout, Close, Iot, Siot, Uclose}
+use Rattle.its_frame.specs.declared.name.CallName.TheVariants.{Logout, Uclose}
+use Rattle.its_frame.specs.declared.name.OnFiles.{OnFiles}
+use Rattle.its_frame.specs.declared.name.OnFiles.TheVariants.{ByChannel}
 use Rattle.its_plain.specs.Machine.{Whole, Machine}
 use Rattle.its_plain.specs.Change.{superiors}
 use Rattle.its_plain.specs.Arguments.{input}
 use Rattle.its_plain.specs.View.{outline, job_at, view}
 use Rattle.its_plain.specs.CallBasic.{is_oneself, channel_at}
-use Rattle.its_plain.specs.Decide.{call_named, decided, inferior_on, target_by, argument_of, target, listed, with_below, reach_by, reach}
+use Rattle.its_plain.specs.Decide.{call_row, call_named, decided, inferior_on, target_by, argument_of, target, listed, with_below, reach_by, reach}
 use Rattle.its_plain.specs.CallStep.{decision}
 use Rattle.its_stepped.specs.State.{State, helped, seen, plain}
-use Rattle.its_stepped.specs.Tick.{is_disk, helps_by, helps}
+use Rattle.its_stepped.specs.Tick.{is_disk, is_on_files, helps_by, helps}
 use Rattle.its_stepped.specs.Quiet.{IsStill}
 use Rattle.its_stepped.proofs.FrameLaws.{seen_superior, seen_channels, seen_names, SameNames, mapped_plain}
 use Rattle.its_stepped.proofs.EffectLaws.{still_seen, superiors_plain, unmarked_files}
@@ -92,11 +94,13 @@ reach_plain w j f q a =
     ap (λ ks. if a.fail == 0 then ks else [])
     (reach_by_alike (plain w) w.raw j (seen f q) q a (call_named a.name) (superiors_plain w) (seen_superior f q) (target_seen f q a))
 
+files_alike : (p q : Whole) (a : Ask) (f : OnFiles) → p.channels ≡ q.channels → is_on_files p a f ≡ is_on_files q a f
+files_alike p q a ByChannel e = ap (λ cs. is_disk (channel_at cs (input a 0))) e
+files_alike p q a _ e = refl
+
 helps_by_alike : (p q : Whole) (a : Ask) (c : Option CallName) → p.channels ≡ q.channels → helps_by p a c ≡ helps_by q a c
-helps_by_alike p q a (Some Close) e = ap (λ cs. is_disk (channel_at cs (input a 0))) e
-helps_by_alike p q a (Some Iot) e = ap (λ cs. is_disk (channel_at cs (input a 0))) e
-helps_by_alike p q a (Some Siot) e = ap (λ cs. is_disk (channel_at cs (input a 0))) e
-helps_by_alike p q a _ e = refl
+helps_by_alike p q a (Some n) e = files_alike p q a (call_row n).files e
+helps_by_alike p q a None e = refl
 
 pub helps_seen : (f : Option Frame) (q : Whole) (a : Ask) → helps (seen f q) a ≡ helps q a
 unfolding helps

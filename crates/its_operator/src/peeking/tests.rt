@@ -114,7 +114,16 @@ fn frames(rt: HostRuntime) -> Result<(), Fail> {
     let none = [None, None];
     let words = [Some(0o42), Some(0o43)];
     for (state, name, channel, places, left, want, shown, h) in [
-        (PeekState::Entered, CallName::Siot, None, there, 1, None, none, None),
+        (
+            PeekState::Entered,
+            CallName::Siot,
+            None,
+            there,
+            1,
+            None,
+            none,
+            None,
+        ),
         (
             PeekState::Parsed,
             CallName::Siot,

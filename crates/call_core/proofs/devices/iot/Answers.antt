@@ -3,7 +3,7 @@ use Rattle.std.proofs.Common.{sym, ◌∙◌, ap, refl}
 use Rattle.its_frame.specs.declared.name.CallName.TheVariants.{Iot}
 use Rattle.call_basic.specs.Seen.{channel_under}
 use Rattle.call_usr.proofs.OtherLaws.{targets}
-use Rattle.call_usr.proofs.calls.iot.Goals as goal
+use Rattle.call_core.proofs.devices.iot.Goals as goal
 
 pub iot_through-requires-clause-targets : goal.iot_through-requires-clause-targets
 iot_through-requires-clause-targets c =

@@ -6,7 +6,7 @@ use Rattle.its_stepped.proofs.TargetLaws.{target_on}
 use Rattle.its_world.specs.World.{chan_of, chans_of}
 use Rattle.call_basic.specs.Seen.{raw_with}
 use Rattle.call_basic.proofs.ChannelLaws.{under}
-use Rattle.call_basic.proofs.usrvar.usrvar.Goals as goal
+use Rattle.call_basic.proofs.setting.usrvar.Goals as goal
 
 pub other_variable-requires : goal.other_variable-requires
 other_variable-requires c = record {

@@ -8,7 +8,7 @@ ghost use Rattle.call_basic.specs.Seen.{seen_by};
 use super::arguments::{input, is_shared, place_of_input};
 use super::ends::{fails, faults, finishes};
 use arrayvec::ArrayVec;
-use its_frame::{Decision, Wait};
+use its_frame::{Decision, Wait, error};
 use its_word::{Ask, Fault, Job, Word};
 use its_world::World;
 
@@ -21,7 +21,7 @@ const WORDS: u64 = 0o1000000000000;
 /// SLEEP n: for n above 0 its argument becomes minus the time of waking; for n below 0 it waits for
 /// that time. Errors 22 where n is too long, 17 where n is no word of its own, and WRO.
 #[tactic(auto, unfolding(its_plain::specs::CallBasic::sleep, its_plain::specs::View::view, its_world::specs::World::state_of))]
-pub(crate) fn sleep(w: &World, slot: u8, job: &Job, ask: &Ask) -> Decision
+pub fn sleep(w: &World, slot: u8, job: &Job, ask: &Ask) -> Decision
     requires { slot < slots }
     ensures { result ≡ sleep (seen_by w.now slot job.now ask.now) ask.now }
 {
@@ -37,10 +37,10 @@ pub(crate) fn sleep(w: &World, slot: u8, job: &Job, ask: &Ask) -> Decision
         return finishes(job, ArrayVec::new());
     }
     if n > LONGEST_SLEEP {
-        return fails(job, ask, 0o22);
+        return fails(job, ask, error::OUT_OF_RANGE);
     }
     if is_shared_place(ask, place) {
-        return fails(job, ask, 0o17);
+        return fails(job, ask, error::NO_WORD);
     }
     if is_read_only(w, slot, place) {
         return faults(job, Fault::Wro);

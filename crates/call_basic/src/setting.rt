@@ -15,7 +15,7 @@ use super::names::variable_named;
 use super::party::{channel, is_oneself};
 use super::variables::{by_oneself, by_superior, exit_with, variable_of};
 use arrayvec::ArrayVec;
-use its_frame::{Change, Decision, Store, Variable};
+use its_frame::{Change, Decision, Store, Variable, error};
 use its_word::{Ask, Channel, Job, Word};
 use its_world::World;
 
@@ -23,7 +23,7 @@ use its_world::World;
 /// Errors 4 where the channel is closed, 5 where it is on no job, 22 where no variable has the name, 5
 /// where the channel has no leave to write, and 22 where the variable cannot be set so.
 #[tactic(auto, using(crate::proofs::ChannelLaws::under), unfolding(its_plain::specs::CallBasic::usrvar, its_plain::specs::View::view, its_world::specs::World::state_of))]
-pub(crate) fn usrvar(w: &World, slot: u8, job: &Job, ask: &Ask) -> Decision
+pub fn usrvar(w: &World, slot: u8, job: &Job, ask: &Ask) -> Decision
     requires slot { slot < slots }
     requires fail { ask.now.fail ≡ 0 }
     requires name { call_named_by ask.now.name ≡ Some Usrvar }
@@ -39,11 +39,11 @@ pub(crate) fn usrvar(w: &World, slot: u8, job: &Job, ask: &Ask) -> Decision
             write,
             ..
         } => other_variable(w, slot, job, ask, inferior, write),
-        Channel::TtyIn => fails(job, ask, 0o5),
-        Channel::TtyOut => fails(job, ask, 0o5),
-        Channel::Reading { .. } => fails(job, ask, 0o5),
-        Channel::Writing { .. } => fails(job, ask, 0o5),
-        Channel::Closed => fails(job, ask, 0o4),
+        Channel::TtyIn => fails(job, ask, error::WRONG_DEVICE),
+        Channel::TtyOut => fails(job, ask, error::WRONG_DEVICE),
+        Channel::Reading { .. } => fails(job, ask, error::WRONG_DEVICE),
+        Channel::Writing { .. } => fails(job, ask, error::WRONG_DEVICE),
+        Channel::Closed => fails(job, ask, error::BAD_CHANNEL),
     }
 }
 
@@ -54,10 +54,10 @@ fn own_variable(w: &World, slot: u8, job: &Job, ask: &Ask) -> Decision
     ensures { result ≡ own_variable (seen_by w.now slot job.now ask.now) ask.now (variable_named (input ask.now 1)) }
 {
     let Some(variable) = variable_named(input(ask, 1)) else {
-        return fails(job, ask, 0o22);
+        return fails(job, ask, error::OUT_OF_RANGE);
     };
     if has_input(ask, 2) && !by_oneself(variable) {
-        return fails(job, ask, 0o22);
+        return fails(job, ask, error::OUT_OF_RANGE);
     }
     set_own(w, slot, job, ask, variable)
 }
@@ -83,13 +83,13 @@ fn other_variable(w: &World, slot: u8, job: &Job, ask: &Ask, inferior: u8, write
     ensures { result ≡ other_variable (seen_by w.now slot job.now ask.now) ask.now inferior write (variable_named (input ask.now 1)) }
 {
     let Some(variable) = variable_named(input(ask, 1)) else {
-        return fails(job, ask, 0o22);
+        return fails(job, ask, error::OUT_OF_RANGE);
     };
     if has_input(ask, 2) && !write {
-        return fails(job, ask, 0o5);
+        return fails(job, ask, error::WRONG_DEVICE);
     }
     if has_input(ask, 2) && !by_superior(variable) {
-        return fails(job, ask, 0o22);
+        return fails(job, ask, error::OUT_OF_RANGE);
     }
     let stores = output(ask, value_of_other(w, inferior, variable));
     set_other(job, ask, inferior, variable, stores)

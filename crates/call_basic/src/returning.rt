@@ -8,7 +8,7 @@ ghost use Rattle.call_basic.specs.Seen.{seen_by};
 
 use super::arguments::{input, place_of_input};
 use super::ends::{ends, fails, faults, store_at};
-use its_frame::{Decision, Exit};
+use its_frame::{Decision, Exit, error};
 use its_word::{Ask, Fault, Job, Word};
 use its_world::World;
 
@@ -19,7 +19,7 @@ const FIVE_LESS: u32 = 0o1000000 - 5;
 /// half of the stack pointer word at p. Error 17 where p is immediate; MPV where one of the words is
 /// absent, else WRO where p is read only.
 #[tactic(auto, unfolding(its_plain::specs::CallBasic::dismiss, its_plain::specs::View::view, its_world::specs::World::state_of))]
-pub(crate) fn dismiss(w: &World, slot: u8, job: &Job, ask: &Ask) -> Decision
+pub fn dismiss(w: &World, slot: u8, job: &Job, ask: &Ask) -> Decision
     requires { slot < slots }
     ensures { result ≡ dismiss (seen_by w.now slot job.now ask.now) ask.now }
 {
@@ -28,7 +28,7 @@ pub(crate) fn dismiss(w: &World, slot: u8, job: &Job, ask: &Ask) -> Decision
             Ok(exit) => ends(store_at(Some(p), popped(input(ask, 0))), exit),
             Err(fault) => faults(job, fault),
         },
-        None => fails(job, ask, 0o17),
+        None => fails(job, ask, error::NO_WORD),
     }
 }
 

@@ -2,11 +2,13 @@
 use Rattle.std.specs.Prelude.{if◌then◌else◌, ◌≡◌, ◌<◌, ◌/◌, ◌%◌, ◌^◌, ℕ, zero, suc, Bool, true, false, not, Option, Some, None, IfSome, is_some, List, [], ◌∷◌, refl}
 use Rattle.std.proofs.Common.{sym, ◌∙◌, ap, arith}
 use Rattle.std.proofs.Math.Nat.{mod-le, div-le_self}
-use Rattle.its_word.specs.Byte.{load_of, position, size}
+use Rattle.std.proofs.lemmas.Bool.{not-false, or_parts}
+use Rattle.its_word.specs.Byte.{has_size, load_of, position, size}
 use Rattle.its_word.specs.declared.calls.Ask.{Ask}
 use Rattle.its_frame.specs.declared.decision.Decision.{Decision}
 use Rattle.its_plain.specs.Arguments.{input}
-use Rattle.its_plain.specs.CallTty.{siot_by, siot_tests}
+use Rattle.its_plain.specs.CallTty.{is_indexed, next_pointer, siot_by, siot_tests}
+use Rattle.its_plain.proofs.SizeLaws.{next_sized}
 use Rattle.its_plain.specs.Tests.{Test, first}
 use Rattle.its_plain.specs.View.{View}
 use Rattle.call_tty.specs.Waiting.{first_of}
@@ -58,6 +60,12 @@ few_by None at false e f few = cc
 pub few_left : (v : View) (a : Ask) (at : ℕ) (o : Option ℕ) (b : Bool) → is_some o ≡ not b → first_of (siot_tests v a (input a 1) (input a 2) true b) ≡ None
     → IfSome o (λ w. at < 2 ^ 18) → at < 2 ^ 18
 few_left v a at o b e h few = few_by o at b e (none_held (siot_tests v a (input a 1) (input a 2) true b) 6 h) few
+
+-- the pointer to the next byte has a size where no test stops it
+pub next_left : (v : View) (a : Ask) (words b : Bool) → first_of (siot_tests v a (input a 1) (input a 2) words b) ≡ None → has_size (next_pointer (input a 1)) ≡ true
+next_left v a words b h =
+    let p = input a 1 in
+    next_sized p (not-false (has_size p) (or_parts (not (has_size p)) (is_indexed p) (none_held (siot_tests v a p (input a 2) words b) 2 h)).0)
 
 -- what SIOT comes to where a test stops it, and where none does
 module _ (v : View) (a : Ask) (words at_end b : Bool) (moves : Decision) (e : b ≡ at_end) where

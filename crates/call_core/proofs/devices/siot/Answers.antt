@@ -3,7 +3,7 @@ use Rattle.std.proofs.Common.{sym, ◌∙◌, ap, refl}
 use Rattle.its_frame.specs.declared.name.CallName.TheVariants.{Siot}
 use Rattle.call_basic.specs.Seen.{channel_under}
 use Rattle.call_usr.proofs.OtherLaws.{targets}
-use Rattle.call_usr.proofs.calls.siot.Goals as goal
+use Rattle.call_core.proofs.devices.siot.Goals as goal
 
 pub siot_through-requires-clause-targets : goal.siot_through-requires-clause-targets
 siot_through-requires-clause-targets c =

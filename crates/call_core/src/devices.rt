@@ -1,0 +1,121 @@
+//! The calls that devices share: OPEN by its device; CLOSE, `.IOT` and SIOT by what the channel is on.
+ghost use Rattle.std.specs.Prelude.{◌≡◌, ◌<◌, ◌∷◌, [], true, None, Some};
+ghost use Rattle.its_word.specs.Limits.{slots};
+ghost use Rattle.its_frame.specs.declared.change.Change.TheVariants.{Shut};
+ghost use Rattle.its_frame.specs.declared.decision.Decision.TheVariants.{Ends};
+ghost use Rattle.its_frame.specs.declared.name.CallName.TheVariants.{Iot, Siot};
+ghost use Rattle.its_jobs.specs.Table.{job_at};
+ghost use Rattle.its_plain.specs.Arguments.{input};
+ghost use Rattle.its_plain.specs.CallDevice.{close_call, iot_call, open_call, siot_call};
+ghost use Rattle.its_plain.specs.Decide.{call_named};
+ghost use Rattle.its_plain.specs.Own.{advanced, exit_of};
+ghost use Rattle.its_stepped.specs.Forest.{Forest};
+ghost use Rattle.its_stepped.specs.Tick.{helps};
+ghost use Rattle.its_world.specs.Tidy.{Tidy};
+ghost use Rattle.its_world.specs.World.{state_of};
+ghost use Rattle.call_basic.specs.Seen.{raw_with, seen_by};
+
+use arrayvec::ArrayVec;
+use call_basic::{channel, fails, finishes_with, input, ioc};
+use call_file::{close_draft, iot_reads, iot_writes, is_disk, open_disk, siot_reads, siot_writes};
+use call_tty::{iot_in, iot_out, open_tty, siot_in, siot_out};
+use call_usr::{iot_through, is_usr, open_usr, siot_through};
+use its_frame::{Change, Decision, error};
+use its_word::{Ask, Channel, Job};
+use its_world::World;
+
+/// OPEN by its device: any but DSK and USR has to be TTY.
+#[tactic(auto, unfolding(its_plain::specs::CallDevice::open_call))]
+pub(crate) fn open(w: &World, slot: u8, job: &Job, ask: &Ask) -> Decision
+    requires { slot < slots }
+    ensures { result ≡ open_call (seen_by w.now slot job.now ask.now) ask.now }
+{
+    if is_disk(ask) {
+        open_disk(w, slot, job, ask)
+    } else if is_usr(ask) {
+        open_usr(w, slot, job, ask)
+    } else {
+        open_tty(w, slot, job, ask)
+    }
+}
+
+/// CLOSE by what the channel is on: a draft becomes a file, any other channel is closed alone. Error 4, and those of a draft.
+#[tactic(auto, using(call_file::proofs::HeldLaws::reading, call_file::proofs::HeldLaws::writing, crate::proofs::DeviceLaws::numbers), unfolding(its_plain::specs::CallDevice::close_call, its_plain::specs::View::view, its_world::specs::World::state_of))]
+pub(crate) fn close(w: &World, slot: u8, job: &Job, ask: &Ask) -> Decision
+    requires slot { slot < slots }
+    requires job { job_at w.now.jobs slot ≡ Some job.now }
+    requires tidy { Tidy w.now }
+    ensures { result ≡ close_call (seen_by w.now slot job.now ask.now) ask.now }
+{
+    match channel(job, input(ask, 0)) {
+        Channel::Closed => fails(job, ask, error::BAD_CHANNEL),
+        Channel::TtyIn => shut(job, ask),
+        Channel::TtyOut => shut(job, ask),
+        Channel::Reading { .. } => shut(job, ask),
+        Channel::Writing { draft } => close_draft(w, slot, job, ask, draft),
+        Channel::Usr { .. } => shut(job, ask),
+    }
+}
+
+/// The channel of a call is closed.
+fn shut(job: &Job, ask: &Ask) -> Decision
+    requires { input ask.now 0 < 16 }
+    ensures { result ≡ Ends (record { items = Shut (input ask.now 0) ∷ [] }) (record { items = [] }) (exit_of (advanced 2 job.now)) }
+{
+    let change = Change::Shut {
+        channel: input(ask, 0).value() as u8,
+    };
+    finishes_with(job, change, ArrayVec::new())
+}
+
+/// `.IOT` by what the channel is on; IOC where it is closed.
+#[tactic(auto, using(call_file::proofs::HeldLaws::reading, call_file::proofs::HeldLaws::writing, call_file::proofs::RawLaws::iot_helps), unfolding(its_plain::specs::CallDevice::iot_call, its_plain::specs::View::view, its_world::specs::World::state_of))]
+pub(crate) fn iot(w: &World, slot: u8, job: &Job, ask: &Ask) -> Decision
+    requires slot { slot < slots }
+    requires fail { ask.now.fail ≡ 0 }
+    requires name { call_named ask.now.name ≡ Some Iot }
+    requires job { job_at w.now.jobs slot ≡ Some job.now }
+    requires tidy { Tidy w.now }
+    requires forest { Forest (state_of w.now).raw }
+    requires unmarked { helps (raw_with w.now slot job.now) ask.now ≡ true → w.now.files.mark ≡ None }
+    ensures { result ≡ iot_call (seen_by w.now slot job.now ask.now) ask.now }
+{
+    match channel(job, input(ask, 0)) {
+        Channel::Closed => ioc(job),
+        Channel::TtyIn => iot_in(w, slot, job, ask),
+        Channel::TtyOut => iot_out(w, slot, job, ask),
+        Channel::Reading { file, at } => iot_reads(w, slot, job, ask, file, at),
+        Channel::Writing { draft } => iot_writes(w, slot, job, ask, draft),
+        Channel::Usr {
+            slot: inferior,
+            write,
+            at,
+        } => iot_through(w, slot, job, ask, inferior, write, at),
+    }
+}
+
+/// SIOT by what the channel is on. Error 4.
+#[tactic(auto, using(call_file::proofs::HeldLaws::reading, call_file::proofs::HeldLaws::writing, call_file::proofs::RawLaws::siot_helps), unfolding(its_plain::specs::CallDevice::siot_call, its_plain::specs::View::view, its_world::specs::World::state_of))]
+pub(crate) fn siot(w: &World, slot: u8, job: &Job, ask: &Ask) -> Decision
+    requires slot { slot < slots }
+    requires fail { ask.now.fail ≡ 0 }
+    requires name { call_named ask.now.name ≡ Some Siot }
+    requires job { job_at w.now.jobs slot ≡ Some job.now }
+    requires tidy { Tidy w.now }
+    requires forest { Forest (state_of w.now).raw }
+    requires unmarked { helps (raw_with w.now slot job.now) ask.now ≡ true → w.now.files.mark ≡ None }
+    ensures { result ≡ siot_call (seen_by w.now slot job.now ask.now) ask.now }
+{
+    match channel(job, input(ask, 0)) {
+        Channel::Closed => fails(job, ask, error::BAD_CHANNEL),
+        Channel::TtyIn => siot_in(w, slot, job, ask),
+        Channel::TtyOut => siot_out(w, slot, job, ask),
+        Channel::Reading { file, at } => siot_reads(w, slot, job, ask, file, at),
+        Channel::Writing { draft } => siot_writes(w, slot, job, ask, draft),
+        Channel::Usr {
+            slot: inferior,
+            write,
+            at,
+        } => siot_through(w, slot, job, ask, inferior, write, at),
+    }
+}

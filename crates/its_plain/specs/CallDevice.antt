@@ -1,0 +1,62 @@
+-- The calls that devices share: OPEN by its device; CLOSE, `.IOT` and SIOT by what the channel is on (docs/CALLS.md).
+use Rattle.std.specs.Prelude.{◌==◌, ℕ, Bool, true, false, [], ◌∷◌, slice_get, slice_index_or}
+use Rattle.its_word.specs.declared.calls.Ask.{Ask}
+use Rattle.its_frame.specs.declared.change.Change.TheVariants as changes
+use Rattle.its_frame.specs.declared.decision.Decision.{Decision}
+use Rattle.its_frame.specs.Errors as error
+use Rattle.its_plain.specs.Machine.{Chan, Shut, TtyIn, TtyOut, Reads, Writes, On}
+use Rattle.its_plain.specs.Arguments.{input}
+use Rattle.its_plain.specs.View.{View}
+use Rattle.its_plain.specs.Tests.{finishes, fails}
+use Rattle.its_plain.specs.CallBasic.{channel_at, ioc}
+use Rattle.its_plain.specs.CallTty.{console_of, opens, iot_in, iot_out, next_pointer, siot_by, siot_in, siot_out}
+use Rattle.its_plain.specs.CallFile.{disk_device, opens_disk, closes_draft, words_of, iot_reads, iot_writes, siot_reads, siot_writes}
+use Rattle.its_plain.specs.CallUsr.{usr_device, opens_usr, iot_through, siot_through}
+
+-- OPEN: whether the device is DSK, or USR; any other has to be TTY
+abbrev pub open_by : View → Ask → Bool → Bool → Decision
+open_by v a true usr = opens_disk v a
+open_by v a false true = opens_usr v a
+open_by v a false false = opens v a
+
+unfoldable pub open_call : View → Ask → Decision
+open_call v a = open_by v a (input a 1 == disk_device) (input a 1 == usr_device)
+
+-- CLOSE: a draft becomes a file; any other channel is closed alone
+abbrev pub shuts : View → Ask → Decision
+shuts v a = finishes v (changes.Shut (input a 0) ∷ []) []
+
+abbrev pub close_on : View → Ask → Chan → Decision
+close_on v a Shut = fails v a error.BAD_CHANNEL
+close_on v a TtyIn = shuts v a
+close_on v a TtyOut = shuts v a
+close_on v a (Reads names at) = shuts v a
+close_on v a (Writes f) = closes_draft v a f
+close_on v a (On s write at) = shuts v a
+
+unfoldable pub close_call : View → Ask → Decision
+close_call v a = close_on v a (channel_at v.own.channels (input a 0))
+
+-- `.IOT` of the word at e through channel n
+abbrev pub iot_on : View → ℕ → ℕ → Chan → Decision
+iot_on v e n Shut = ioc v
+iot_on v e n TtyIn = iot_in v e (console_of v)
+iot_on v e n TtyOut = iot_out v e (console_of v)
+iot_on v e n (Reads names at) = iot_reads v e n names at
+iot_on v e n (Writes f) = iot_writes v e n f
+iot_on v e n (On s write at) = iot_through v e n s write at
+
+unfoldable pub iot_call : View → Ask → Decision
+iot_call v a = iot_on v (slice_index_or a.outputs.items 0 0) (input a 0) (channel_at v.own.channels (input a 0))
+
+-- SIOT through channel n
+abbrev pub siot_on : View → Ask → ℕ → Chan → Decision
+siot_on v a n Shut = fails v a error.BAD_CHANNEL
+siot_on v a n TtyIn = siot_by v a false false (siot_in v a (next_pointer (input a 1)) (input a 2) (console_of v))
+siot_on v a n TtyOut = siot_by v a false false (siot_out v a (next_pointer (input a 1)) (input a 2) (console_of v))
+siot_on v a n (Reads names at) = siot_reads v a n at (slice_get (words_of v names) at)
+siot_on v a n (Writes f) = siot_writes v a n f
+siot_on v a n (On s write at) = siot_through v a n s write at
+
+unfoldable pub siot_call : View → Ask → Decision
+siot_call v a = siot_on v a (input a 0) (channel_at v.own.channels (input a 0))

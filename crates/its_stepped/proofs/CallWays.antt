@@ -1,0 +1,430 @@
+-- The ways in which a call goes on or ends, and the one walk over what calls decide: what holds of each of these ways holds
+-- of every decision, where it holds of those that are walked apart.
+use Rattle.std.specs.Prelude.{if◌then◌else◌, ◌==◌, ◌≡◌, ◌&&◌, ℕ, ◌+◌, ◌-◌, Bool, true, false, not, Option, Some, None, List, [], ◌∷◌, ◌++◌, nat_lt, is_some, length, slice_get, slice_index_or, unwrap_or, refl}
+use Rattle.std.proofs.lemmas.Bool.{not-false}
+use Rattle.its_word.specs.Byte.{load_of}
+use Rattle.its_word.specs.Core.{Core, word_at, can_store}
+use Rattle.its_word.specs.Word.{right_of}
+use Rattle.its_word.specs.declared.access.Fault.{Fault}
+use Rattle.its_word.specs.declared.access.Fault.TheVariants.{Mpv, Wro}
+use Rattle.its_word.specs.declared.calls.Ask.{Ask}
+use Rattle.its_word.specs.declared.plan.Store.{Store}
+use Rattle.its_frame.specs.declared.change.Change.{Change}
+use Rattle.its_frame.specs.declared.change.Change.TheVariants as changes
+use Rattle.its_frame.specs.declared.change.Opened.{Opened}
+use Rattle.its_frame.specs.declared.change.Opened.TheVariants as opened
+use Rattle.its_frame.specs.declared.decision.Decision.{Decision}
+use Rattle.its_frame.specs.declared.decision.Decision.TheVariants.{Waits}
+use Rattle.its_frame.specs.declared.decision.Held.{Held}
+use Rattle.its_frame.specs.declared.decision.Wait.{Wait}
+use Rattle.its_frame.specs.declared.decision.Wait.TheVariants.{Hang, Clock, Input, Output, Drained}
+use Rattle.its_frame.specs.declared.name.CallName.{CallName}
+use Rattle.its_frame.specs.declared.name.CallName.TheVariants as calls
+use Rattle.its_frame.specs.Errors as error
+use Rattle.its_plain.specs.Arguments.{input, has_input, place_of_input}
+use Rattle.its_plain.specs.CallBasic.{Party, Oneself, Nobody, Channel, party, channel_at, ioc, negated, sleep_tests, sleep, dismiss, usrvar, logout}
+use Rattle.its_plain.specs.CallTty.{console_of, has_console, input_waits, output_waits, output_left, first_typed, shown_byte, opens_on, open_tests, opens, store_tests, read_tests, word_of, iot_ends, next_pointer, siot_tests, siot_in, siot_out, siot_by, finish_on, finish, listens, listen_on, listen, ttylnd}
+use Rattle.its_plain.specs.CallFile.{disk_device, most_files, is_full, channels_in, has_file, is_read, words_of, names_from, is_output, opens_as, disk_tests, opens_disk, closes_draft, end_of_file, iot_read, siot_read, siot_write, end_of_core, access_to, access_on, access, fillen_on, fillen, file_tests, delete, rename}
+use Rattle.its_plain.specs.CallUsr.{usr_device, opens_usr, other_core, at_end, iot_peeks, iot_through, siot_peeks, siot_pokes, siot_through, set_word, usrmem_tests, usrmem_on, usrmem, uclose}
+use Rattle.its_plain.specs.CallCore.{page_changed, highest_operation, page_tests, pages_of, corblk_of, corblk}
+use Rattle.its_plain.specs.CallDevice.{open_by, open_call, shuts, close_on, close_call, iot_on, iot_call, siot_on, siot_call}
+use Rattle.its_plain.specs.Decide.{decided_by}
+use Rattle.its_plain.specs.Machine.{File, Chan, Shut, TtyIn, TtyOut, Reads, Writes, On}
+use Rattle.its_plain.specs.Own.{names_of}
+use Rattle.its_plain.specs.Tests.{◌⇒◌, finishes, fails, faults, goes, out}
+use Rattle.its_plain.specs.View.{View}
+use Rattle.its_stepped.proofs.TestLaws.{first_holds}
+
+-- a change that makes no job and removes none, opens no channel on one or on a console, and gives none a console
+abbrev pub OpensMildly : Opened → Type 0
+OpensMildly (opened.Reading d x y) = Unit {0}
+OpensMildly (opened.Writing d x y) = Unit {0}
+OpensMildly _ = ⊥
+
+abbrev pub Mild : Change → Type 0
+Mild (changes.Open n on) = OpensMildly on
+Mild (changes.Make s u n) = ⊥
+Mild (changes.Hold c s) = ⊥
+Mild (changes.Remove s) = ⊥
+Mild _ = Unit {0}
+
+abbrev pub AllMild : List Change → Type 0
+AllMild [] = Unit {0}
+AllMild (c ∷ cs) = Mild c × AllMild cs
+
+-- the ways of a call that is found ready: each of its changes is mild, or it opens a channel on the console that its job has
+pub record Ways (P : Decision → Type 0) (x : View) (a : Ask) : Type 0 where
+  pub failing : (k : ℕ) → P (fails x a k)
+  pub faulting : (f : Fault) → P (faults x f)
+  pub stuck : P (ioc x)
+  pub opening : has_console x ≡ true → (b : Bool) → P (finishes x (changes.Open (input a 0) (if b then opened.TtyOut else opened.TtyIn) ∷ []) [])
+  pub ending : (cs : List Change) (ss : List Store) → AllMild cs → P (finishes x cs ss)
+  pub moved : (cs : List Change) (ss : List Store) → AllMild cs → P (iot_ends x cs ss)
+  pub going : (cs : List Change) (h : Option Held) (vs : List ℕ) → AllMild cs → P (goes cs h vs)
+
+-- those of a call that changes nothing but the word of its output
+pub record Answering (P : Decision → Type 0) (x : View) (a : Ask) : Type 0 where
+  pub failing : (k : ℕ) → P (fails x a k)
+  pub faulting : (f : Fault) → P (faults x f)
+  pub finishing : P (finishes x [] [])
+  pub giving : (w : ℕ) → P (finishes x [] (out a.outputs.items w))
+
+answering : (P : Decision → Type 0) (x : View) (a : Ask) → Ways P x a → Answering P x a
+answering P x a w = record {
+  failing = w.failing;
+  faulting = w.faulting;
+  finishing = w.ending [] [] tt;
+  giving = λ i. w.ending [] (out a.outputs.items i) tt;
+}
+
+-- and the way of one that is found not ready
+abbrev pub Waiting : (Decision → Type 0) → Type 0
+Waiting P = (r : Wait) → P (Waits r)
+
+-- SLEEP
+sleep_ways : (P : Decision → Type 0) (x : View) (a : Ask) → Ways P x a → Waiting P → P (sleep x a)
+unfolding sleep
+sleep_ways P x a w r =
+    let n = input a 0 in
+    let p = place_of_input a 0 in
+    first_holds P (sleep_tests x a n p) (goes [] None (negated (x.clock + n) ∷ []))
+    (λ t. w.ending [] [] tt, (λ t. r Clock, (λ t. w.ending [] [] tt, (λ t. w.failing 0o22, (λ t. w.failing 0o17, (λ t. w.faulting Wro, tt))))))
+    (λ t. w.going [] None (negated (x.clock + n) ∷ []) tt)
+
+-- OPEN
+opens_tty_ways : (P : Decision → Type 0) (x : View) (a : Ask) → Ways P x a → P (opens x a)
+unfolding opens
+opens_tty_ways P x a w =
+    let control = unwrap_or a.control 0 in
+    first_holds P (open_tests x a (input a 0) (input a 1) control) (finishes x (changes.Open (input a 0) (opens_on control) ∷ []) [])
+    (λ t. w.failing 0o4, (λ t. w.failing 0o5, (λ t. w.failing 0o22, (λ t. w.failing 0o5, tt))))
+    (λ t. w.opening (not-false (has_console x) t.1.1.1.0) (control == 1))
+
+opens_file : (b : Bool) (d x y : ℕ) → OpensMildly (opens_as b d x y)
+opens_file true d x y = tt
+opens_file false d x y = tt
+
+opens_disk_ways : (P : Decision → Type 0) (x : View) (a : Ask) → Ways P x a → P (opens_disk x a)
+unfolding opens_disk
+opens_disk_ways P x a w =
+    let control = unwrap_or a.control 0 in
+    let change = changes.Open (input a 0) (opens_as (is_output control) (input a 4) (input a 2) (input a 3)) in
+    first_holds P (disk_tests x a (input a 0) control) (finishes x (change ∷ []) []) (λ t. w.failing 0o4, (λ t. w.failing 0o22, (λ t. w.failing 0o6, tt)))
+    (λ t. w.ending (change ∷ []) [] (opens_file (is_output control) (input a 4) (input a 2) (input a 3), tt))
+
+open_ways : (P : Decision → Type 0) (x : View) (a : Ask) → Ways P x a → P (opens_usr x a) → P (open_call x a)
+unfolding open_call
+open_ways P x a w h = go (input a 1 == disk_device) (input a 1 == usr_device)
+  where
+    go : (disk usr : Bool) → P (open_by x a disk usr)
+    go true usr = opens_disk_ways P x a w
+    go false true = h
+    go false false = opens_tty_ways P x a w
+
+-- CLOSE
+draft_ways : (P : Decision → Type 0) (x : View) (a : Ask) (f : File) → Ways P x a → P (closes_draft x a f)
+unfolding closes_draft
+draft_ways P x a f w =
+    first_holds P (is_read f.names (channels_in x) ⇒ fails x a 0o11 ∷ (not (has_file f.names x.files) && not (nat_lt (length x.files) most_files)) ⇒ fails x a 0o7 ∷ [])
+    (finishes x (changes.Close (input a 0) ∷ []) []) (λ t. w.failing 0o11, (λ t. w.failing 0o7, tt)) (λ t. w.ending (changes.Close (input a 0) ∷ []) [] (tt, tt))
+
+close_ways : (P : Decision → Type 0) (x : View) (a : Ask) → Ways P x a → P (close_call x a)
+unfolding close_call
+close_ways P x a w = go (channel_at x.own.channels (input a 0))
+  where
+    shut : P (shuts x a)
+    shut = w.ending (changes.Shut (input a 0) ∷ []) [] (tt, tt)
+
+    go : (c : Chan) → P (close_on x a c)
+    go Shut = w.failing 0o4
+    go TtyIn = shut
+    go TtyOut = shut
+    go (Reads f at) = shut
+    go (Writes f) = draft_ways P x a f w
+    go (On k write at) = shut
+
+-- a channel that is on a console, through which a call can be found not ready
+abbrev pub OnConsole : Chan → Type 0
+OnConsole TtyIn = Unit {0}
+OnConsole TtyOut = Unit {0}
+OnConsole _ = ⊥
+
+-- `.IOT`
+iot_read_ways : (P : Decision → Type 0) (x : View) (a : Ask) (e n at : ℕ) (o : Option ℕ) → Ways P x a → P (iot_read x e n at o)
+iot_read_ways P x a e n at (Some i) w = w.moved (changes.Move n (at + 1) ∷ []) (record { at = e; word = i } ∷ []) (tt, tt)
+iot_read_ways P x a e n at None w = w.moved [] (record { at = e; word = end_of_file } ∷ []) tt
+
+iot_peeks_ways : (P : Decision → Type 0) (x : View) (a : Ask) (e n at : ℕ) (ended : Bool) (o : Option ℕ) → Ways P x a → P (iot_peeks x e n at ended o)
+iot_peeks_ways P x a e n at true o w = w.moved [] (record { at = e; word = end_of_file } ∷ []) tt
+iot_peeks_ways P x a e n at false (Some i) w = w.moved (changes.Move n (at + 1) ∷ []) (record { at = e; word = i } ∷ []) (tt, tt)
+iot_peeks_ways P x a e n at false None w = w.stuck
+
+iot_through_ways : (P : Decision → Type 0) (x : View) (a : Ask) (e n s : ℕ) (write : Bool) (at : ℕ) → Ways P x a → P (iot_through x e n s write at)
+iot_through_ways P x a e n s false at w =
+    let o = word_at (other_core x) at in
+    first_holds P (store_tests x e) (iot_peeks x e n at (at_end at) o) (λ t. w.faulting Mpv, (λ t. w.faulting Wro, tt)) (λ t. iot_peeks_ways P x a e n at (at_end at) o w)
+iot_through_ways P x a e n s true at w =
+    let cs = changes.Poke s at (word_of x e) ∷ changes.Move n (at + 1) ∷ [] in
+    first_holds P (read_tests x e ++ (at_end at ⇒ ioc x ∷ not (can_store (other_core x) at) ⇒ ioc x ∷ [])) (iot_ends x cs [])
+    (λ t. w.faulting Mpv, (λ t. w.stuck, (λ t. w.stuck, tt))) (λ t. w.moved cs [] (tt, (tt, tt)))
+
+pub iot_ways : (P : Decision → Type 0) (x : View) (a : Ask) (e n : ℕ) (c : Chan) → Ways P x a → (OnConsole c → Waiting P) → P (iot_on x e n c)
+iot_ways P x a e n Shut w r = w.stuck
+iot_ways P x a e n TtyIn w r =
+    let i = console_of x in
+    first_holds P (store_tests x e ++ (input_waits x i ⇒ Waits (Input i) ∷ [])) (iot_ends x (changes.Take i ∷ []) (record { at = e; word = first_typed x i } ∷ []))
+    (λ t. w.faulting Mpv, (λ t. w.faulting Wro, (λ t. r tt (Input i), tt))) (λ t. w.moved (changes.Take i ∷ []) (record { at = e; word = first_typed x i } ∷ []) (tt, tt))
+iot_ways P x a e n TtyOut w r =
+    let i = console_of x in
+    let change = changes.Put i (shown_byte (word_of x e)) in
+    first_holds P (read_tests x e ++ (output_waits x i ⇒ Waits (Output i) ∷ [])) (iot_ends x (change ∷ []) []) (λ t. w.faulting Mpv, (λ t. r tt (Output i), tt))
+    (λ t. w.moved (change ∷ []) [] (tt, tt))
+iot_ways P x a e n (Reads f at) w r =
+    let o = slice_get (words_of x f) at in
+    first_holds P (store_tests x e) (iot_read x e n at o) (λ t. w.faulting Mpv, (λ t. w.faulting Wro, tt)) (λ t. iot_read_ways P x a e n at o w)
+iot_ways P x a e n (Writes f) w r =
+    first_holds P (read_tests x e ++ (is_full x.files (channels_in x) f.words ⇒ ioc x ∷ [])) (iot_ends x (changes.Append n (word_of x e) ∷ []) [])
+    (λ t. w.faulting Mpv, (λ t. w.stuck, tt)) (λ t. w.moved (changes.Append n (word_of x e) ∷ []) [] (tt, tt))
+iot_ways P x a e n (On s write at) w r = iot_through_ways P x a e n s write at w
+
+-- SIOT
+siot_read_ways : (P : Decision → Type 0) (x : View) (a : Ask) (next k n at i : ℕ) → Ways P x a → P (siot_read x next k n at i)
+siot_read_ways P x a next k n at i w =
+    let held = Some (record { place = right_of next; byte = i }) in
+    first_holds P (store_tests x (right_of next)) (goes (changes.Move n (at + 1) ∷ []) held (next ∷ (k - 1) ∷ [])) (λ t. w.faulting Mpv, (λ t. w.faulting Wro, tt))
+    (λ t. w.going (changes.Move n (at + 1) ∷ []) held (next ∷ (k - 1) ∷ []) (tt, tt))
+
+siot_write_ways : (P : Decision → Type 0) (x : View) (a : Ask) (next k n : ℕ) (f : File) → Ways P x a → P (siot_write x a next k n f)
+siot_write_ways P x a next k n f w =
+    let change = changes.Append n (load_of next (word_of x (right_of next))) in
+    first_holds P (read_tests x (right_of next) ++ (is_full x.files (channels_in x) f.words ⇒ fails x a 0o10 ∷ [])) (goes (change ∷ []) None (next ∷ (k - 1) ∷ []))
+    (λ t. w.faulting Mpv, (λ t. w.failing 0o10, tt)) (λ t. w.going (change ∷ []) None (next ∷ (k - 1) ∷ []) (tt, tt))
+
+siot_peeks_ways : (P : Decision → Type 0) (x : View) (a : Ask) (next k n at : ℕ) (o : Option ℕ) → Ways P x a → P (siot_peeks x a next k n at o)
+siot_peeks_ways P x a next k n at (Some i) w =
+    let held = Some (record { place = right_of next; byte = i }) in
+    first_holds P (store_tests x (right_of next)) (goes (changes.Move n (at + 1) ∷ []) held (next ∷ (k - 1) ∷ [])) (λ t. w.faulting Mpv, (λ t. w.faulting Wro, tt))
+    (λ t. w.going (changes.Move n (at + 1) ∷ []) held (next ∷ (k - 1) ∷ []) (tt, tt))
+siot_peeks_ways P x a next k n at None w =
+    first_holds P (store_tests x (right_of next)) (fails x a 0o16) (λ t. w.faulting Mpv, (λ t. w.faulting Wro, tt)) (λ t. w.failing 0o16)
+
+siot_pokes_ways : (P : Decision → Type 0) (x : View) (a : Ask) (next k n s at : ℕ) → Ways P x a → P (siot_pokes x a next k n s at)
+siot_pokes_ways P x a next k n s at w =
+    let cs = changes.Poke s at (load_of next (word_of x (right_of next))) ∷ changes.Move n (at + 1) ∷ [] in
+    first_holds P (read_tests x (right_of next) ++ (not (can_store (other_core x) at) ⇒ fails x a 0o16 ∷ [])) (goes cs None (next ∷ (k - 1) ∷ []))
+    (λ t. w.faulting Mpv, (λ t. w.failing 0o16, tt)) (λ t. w.going cs None (next ∷ (k - 1) ∷ []) (tt, (tt, tt)))
+
+-- the tests of its arguments, whatever the device
+pub siot_by_ways : (P : Decision → Type 0) (x : View) (a : Ask) (words ended : Bool) (d : Decision) → Ways P x a → P d → P (siot_by x a words ended d)
+siot_by_ways P x a words ended d w h =
+    let ends = w.ending [] [] tt in
+    first_holds P (siot_tests x a (input a 1) (input a 2) words ended) d (
+      λ t. w.failing 0o17,
+      (λ t. w.faulting Wro, (λ t. w.failing 0o21, (λ t. w.failing 0o21, (λ t. w.failing 0o22, (λ t. ends, (λ t. ends, (λ t. w.failing 0o20, tt))))))),
+    )
+    (λ t. h)
+
+siot_through_ways : (P : Decision → Type 0) (x : View) (a : Ask) (n s : ℕ) (write : Bool) (at : ℕ) → Ways P x a → P (siot_through x a n s write at)
+siot_through_ways P x a n s false at w =
+    let next = next_pointer (input a 1) in
+    let o = word_at (other_core x) at in
+    siot_by_ways P x a true (at_end at) (siot_peeks x a next (input a 2) n at o) w (siot_peeks_ways P x a next (input a 2) n at o w)
+siot_through_ways P x a n s true at w =
+    let next = next_pointer (input a 1) in
+    siot_by_ways P x a true (at_end at) (siot_pokes x a next (input a 2) n s at) w (siot_pokes_ways P x a next (input a 2) n s at w)
+
+pub siot_ways : (P : Decision → Type 0) (x : View) (a : Ask) (n : ℕ) (c : Chan) → Ways P x a → (OnConsole c → Waiting P) → P (siot_on x a n c)
+siot_ways P x a n Shut w r = w.failing 0o4
+siot_ways P x a n TtyIn w r =
+    let next = next_pointer (input a 1) in
+    let i = console_of x in
+    let held = Some (record { place = right_of next; byte = first_typed x i }) in
+    siot_by_ways P x a false false (siot_in x a next (input a 2) i) w
+    (first_holds P (store_tests x (right_of next) ++ (input_waits x i ⇒ Waits (Input i) ∷ [])) (goes (changes.Take i ∷ []) held (next ∷ (input a 2 - 1) ∷ []))
+    (λ t. w.faulting Mpv, (λ t. w.faulting Wro, (λ t. r tt (Input i), tt))) (λ t. w.going (changes.Take i ∷ []) held (next ∷ (input a 2 - 1) ∷ []) (tt, tt)))
+siot_ways P x a n TtyOut w r =
+    let next = next_pointer (input a 1) in
+    let i = console_of x in
+    let change = changes.Put i (shown_byte (load_of next (word_of x (right_of next)))) in
+    siot_by_ways P x a false false (siot_out x a next (input a 2) i) w
+    (first_holds P (read_tests x (right_of next) ++ (output_waits x i ⇒ Waits (Output i) ∷ [])) (goes (change ∷ []) None (next ∷ (input a 2 - 1) ∷ []))
+    (λ t. w.faulting Mpv, (λ t. r tt (Output i), tt)) (λ t. w.going (change ∷ []) None (next ∷ (input a 2 - 1) ∷ []) (tt, tt)))
+siot_ways P x a n (Reads f at) w r =
+    let next = next_pointer (input a 1) in
+    let o = slice_get (words_of x f) at in
+    siot_by_ways P x a true (not (is_some o)) (siot_read x next (input a 2) n at (unwrap_or o 0)) w (siot_read_ways P x a next (input a 2) n at (unwrap_or o 0) w)
+siot_ways P x a n (Writes f) w r =
+    let next = next_pointer (input a 1) in
+    siot_by_ways P x a true false (siot_write x a next (input a 2) n f) w (siot_write_ways P x a next (input a 2) n f w)
+siot_ways P x a n (On s write at) w r = siot_through_ways P x a n s write at w
+
+-- FINISH and LISTEN
+pub finish_ways : (P : Decision → Type 0) (x : View) (a : Ask) → Answering P x a → Waiting P → P (finish x a)
+unfolding finish
+finish_ways P x a w r = go (channel_at x.own.channels (input a 0))
+  where
+    i : ℕ
+    i = console_of x
+
+    go : (c : Chan) → P (finish_on x a c)
+    go TtyOut = first_holds P (output_left x i ⇒ Waits (Drained i) ∷ []) (finishes x [] []) (λ t. r (Drained i), tt) (λ t. w.finishing)
+    go Shut = w.failing 0o4
+    go TtyIn = w.failing 0o5
+    go (Reads f at) = w.failing 0o5
+    go (Writes f) = w.failing 0o5
+    go (On k write at) = w.failing 0o5
+
+pub listen_ways : (P : Decision → Type 0) (x : View) (a : Ask) → Answering P x a → Waiting P → P (listen x a)
+unfolding listen
+listen_ways P x a w r = go (channel_at x.own.channels (input a 0))
+  where
+    i : ℕ
+    i = console_of x
+
+    hears : P (listens x a i)
+    hears =
+        let n = length (x.consoles i).input in
+        first_holds P (output_left x i ⇒ Waits (Drained i) ∷ []) (finishes x [] (out a.outputs.items n)) (λ t. r (Drained i), tt) (λ t. w.giving n)
+
+    go : (c : Chan) → P (listen_on x a c)
+    go TtyIn = hears
+    go TtyOut = hears
+    go Shut = w.failing 0o4
+    go (Reads f at) = w.failing 0o5
+    go (Writes f) = w.failing 0o5
+    go (On k write at) = w.failing 0o5
+
+-- ACCESS and FILLEN
+access_to_ways : (P : Decision → Type 0) (x : View) (a : Ask) (most : ℕ) → Ways P x a → P (access_to x a most)
+access_to_ways P x a most w =
+    let change = changes.Move (input a 0) (input a 1) in
+    first_holds P (nat_lt most (input a 1) ⇒ fails x a 0o22 ∷ []) (finishes x (change ∷ []) []) (λ t. w.failing 0o22, tt) (λ t. w.ending (change ∷ []) [] (tt, tt))
+
+access_ways : (P : Decision → Type 0) (x : View) (a : Ask) → Ways P x a → P (access x a)
+unfolding access
+access_ways P x a w = go (channel_at x.own.channels (input a 0))
+  where
+    go : (c : Chan) → P (access_on x a c)
+    go (Reads f at) = access_to_ways P x a (length (words_of x f)) w
+    go Shut = w.failing 0o4
+    go TtyIn = w.failing 0o5
+    go TtyOut = w.failing 0o5
+    go (Writes f) = w.failing 0o5
+    go (On k write at) = access_to_ways P x a end_of_core w
+
+pub fillen_ways : (P : Decision → Type 0) (x : View) (a : Ask) → Answering P x a → P (fillen x a)
+unfolding fillen
+fillen_ways P x a w = go (channel_at x.own.channels (input a 0))
+  where
+    go : (c : Chan) → P (fillen_on x a c)
+    go (Reads f at) = w.giving (length (words_of x f))
+    go (Writes f) = w.giving (length f.words)
+    go Shut = w.failing 0o4
+    go TtyIn = w.failing 0o5
+    go TtyOut = w.failing 0o5
+    go (On k write at) = w.failing 0o5
+
+-- DELETE and RENAME
+delete_ways : (P : Decision → Type 0) (x : View) (a : Ask) → Ways P x a → P (delete x a)
+unfolding delete
+delete_ways P x a w =
+    let change = changes.Delete (input a 3) (input a 1) (input a 2) in
+    first_holds P (file_tests x a (names_from a 1)) (finishes x (change ∷ []) []) (λ t. w.failing 0o5, (λ t. w.failing 0o6, (λ t. w.failing 0o11, tt)))
+    (λ t. w.ending (change ∷ []) [] (tt, tt))
+
+rename_ways : (P : Decision → Type 0) (x : View) (a : Ask) → Ways P x a → P (rename x a)
+unfolding rename
+rename_ways P x a w =
+    let change = changes.Rename (input a 3) (input a 1) (input a 2) (input a 4) (input a 5) in
+    first_holds P (file_tests x a (names_from a 1) ++ (has_file (names_of (input a 3) (input a 4) (input a 5)) x.files ⇒ fails x a 0o23 ∷ [])) (finishes x (change ∷ []) [])
+    (λ t. w.failing 0o5, (λ t. w.failing 0o6, (λ t. w.failing 0o11, (λ t. w.failing 0o23, tt)))) (λ t. w.ending (change ∷ []) [] (tt, tt))
+
+-- USRMEM
+set_word_ways : (s p i : ℕ) (new : Bool) → AllMild (set_word s p i new)
+set_word_ways s p i true = (tt, tt)
+set_word_ways s p i false = tt
+
+usrmem_ways : (P : Decision → Type 0) (x : View) (a : Ask) → Ways P x a → P (usrmem x a)
+unfolding usrmem
+usrmem_ways P x a w = go (channel_at x.own.channels (input a 0))
+  where
+    p : ℕ
+    p = input a 1
+
+    new : Bool
+    new = has_input a 2
+
+    go : (c : Chan) → P (usrmem_on x a c)
+    go (On s write at) =
+        let ss = out a.outputs.items (unwrap_or (word_at (other_core x) p) 0) in
+        first_holds P (usrmem_tests x a write p new) (finishes x (set_word s p (input a 2) new) ss)
+        (λ t. w.failing 0o22, (λ t. w.failing 0o5, (λ t. w.failing 0o16, (λ t. w.failing 0o16, tt))))
+        (λ t. w.ending (set_word s p (input a 2) new) ss (set_word_ways s p (input a 2) new))
+    go Shut = w.failing 0o4
+    go TtyIn = w.failing 0o5
+    go TtyOut = w.failing 0o5
+    go (Reads f at) = w.failing 0o5
+    go (Writes f) = w.failing 0o5
+
+-- CORBLK: a page is dropped, made by operation 1 alone, or protected
+pub page_by : (P : Change → Type 0) (op s k : ℕ) → P (changes.Unmap s k) → ((op == 1) ≡ true → P (changes.Map s k)) → P (changes.Protect s k (op == 3)) → P (page_changed op s k)
+page_by P op s k drops makes protects = go (op == 0) (op == 1) makes
+  where
+    go : (d m : Bool) → (m ≡ true → P (changes.Map s k)) → P (if d then changes.Unmap s k else (if m then changes.Map s k else changes.Protect s k (op == 3)))
+    go true m h = drops
+    go false true h = h refl
+    go false false h = protects
+
+pages_ways : (P : Decision → Type 0) (x : View) (a : Ask) (op s k : ℕ) (c : Core) → Ways P x a → P (pages_of x a op s c k)
+pages_ways P x a op s k c w =
+    first_holds P (page_tests x a op c k) (finishes x (page_changed op s k ∷ []) []) (λ t. w.failing 0o22, (λ t. w.failing 0o16, (λ t. w.failing 0o15, tt)))
+    (λ t. w.ending (page_changed op s k ∷ []) [] (page_by Mild op s k tt (λ e. tt) tt, tt))
+
+corblk_ways : (P : Decision → Type 0) (x : View) (a : Ask) → Ways P x a → P (corblk x a)
+unfolding corblk
+corblk_ways P x a w =
+    first_holds P (nat_lt highest_operation (input a 0) ⇒ fails x a 0o22 ∷ []) (corblk_of x a (party x (input a 1))) (λ t. w.failing 0o22, tt) (λ t. go (party x (input a 1)))
+  where
+    go : (p : Party) → P (corblk_of x a p)
+    go Oneself = pages_ways P x a (input a 0) x.slot (input a 2) x.own.core w
+    go Nobody = w.failing 0o4
+    go (Channel (On s true at)) = pages_ways P x a (input a 0) s (input a 2) (other_core x) w
+    go (Channel (On s false at)) = w.failing 0o5
+    go (Channel Shut) = w.failing 0o5
+    go (Channel TtyIn) = w.failing 0o5
+    go (Channel TtyOut) = w.failing 0o5
+    go (Channel (Reads f at)) = w.failing 0o5
+    go (Channel (Writes f)) = w.failing 0o5
+
+-- the decisions that are walked apart: their changes are not mild, or they leave registers of their own
+pub record Apart (P : Decision → Type 0) (x : View) (a : Ask) : Type 0 where
+  pub dismiss : P (dismiss x a)
+  pub usrvar : P (usrvar x a)
+  pub logout : P (logout x)
+  pub opens_usr : P (opens_usr x a)
+  pub ttylnd : P (ttylnd x a)
+  pub uclose : P (uclose x a)
+
+-- the calls by their names
+pub call_ways : (P : Decision → Type 0) (x : View) (a : Ask) (o : Option CallName) → Ways P x a → Waiting P → Apart P x a → P (decided_by x a o)
+unfolding iot_call siot_call
+call_ways P x a (Some calls.Hang) w r p = r Hang
+call_ways P x a (Some calls.Sleep) w r p = sleep_ways P x a w r
+call_ways P x a (Some calls.Dismis) w r p = p.dismiss
+call_ways P x a (Some calls.Usrvar) w r p = p.usrvar
+call_ways P x a (Some calls.Logout) w r p = p.logout
+call_ways P x a (Some calls.Open) w r p = open_ways P x a w p.opens_usr
+call_ways P x a (Some calls.Close) w r p = close_ways P x a w
+call_ways P x a (Some calls.Iot) w r p = iot_ways P x a (slice_index_or a.outputs.items 0 0) (input a 0) (channel_at x.own.channels (input a 0)) w (λ k. r)
+call_ways P x a (Some calls.Siot) w r p = siot_ways P x a (input a 0) (channel_at x.own.channels (input a 0)) w (λ k. r)
+call_ways P x a (Some calls.Finish) w r p = finish_ways P x a (answering P x a w) r
+call_ways P x a (Some calls.Listen) w r p = listen_ways P x a (answering P x a w) r
+call_ways P x a (Some calls.Ttylnd) w r p = p.ttylnd
+call_ways P x a (Some calls.Access) w r p = access_ways P x a w
+call_ways P x a (Some calls.Fillen) w r p = fillen_ways P x a (answering P x a w)
+call_ways P x a (Some calls.Delete) w r p = delete_ways P x a w
+call_ways P x a (Some calls.Rename) w r p = rename_ways P x a w
+call_ways P x a (Some calls.Usrmem) w r p = usrmem_ways P x a w
+call_ways P x a (Some calls.Uclose) w r p = p.uclose
+call_ways P x a (Some calls.Corblk) w r p = corblk_ways P x a w
+call_ways P x a None w r p = w.failing 0o1
