@@ -162,7 +162,7 @@ user_beside w j k q true ne sound is runs none d =
     let cs : List Change = informs n.stops q.superior in
     let v : State = all_unwound ks w in
     let whom : disturbed (plain w) j k ≡ among k ks =
-        disturbs_by (plain w) j k _ (transition_delivers (plain w) j q (seen_at w j q None is none ∙ ap Some (seen_none q)) runs d) in
+    disturbs_by (plain w) j k _ (transition_delivers (plain w) j q (seen_at w j q None is none ∙ ap Some (seen_none q)) runs d) in
     steps_then w (effects_on cs j v) _ j k
     (record {
       spared = λ t.

@@ -6,3 +6,4 @@ pub mod SizeLaws
 pub mod TracedLaws
 pub mod RunLaws
 pub mod StepLaws
+pub mod TranscriptExamples

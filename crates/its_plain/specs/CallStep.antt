@@ -1,7 +1,7 @@
 -- One step of one job that may call the monitor: the delivery of an interrupt where one is deliverable, else a unit,
 -- else the whole effect of its call where its decoding faults or it is ready. What it does is said at once, case by
 -- case: the machine after it, the bytes that it moves, and the jobs that it disturbs.
-use Rattle.std.specs.Prelude.{◌==◌, ℕ, Bool, true, false, Option, Some, None, List, [], ◌∷◌, length, Result, Ok, Err, option_map, unwrap_or}
+use Rattle.std.specs.Prelude.{ℕ, Bool, true, false, Option, Some, None, List, [], ◌∷◌, length, Result, Ok, Err, option_map, unwrap_or}
 use Rattle.its_word.specs.Byte.{deposit_of}
 use Rattle.its_word.specs.Core.{Core, word_at}
 use Rattle.its_word.specs.declared.access.Fault.{Fault}

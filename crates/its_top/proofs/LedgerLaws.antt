@@ -112,7 +112,7 @@ from_lined c v e es lines fate (Done (Ticks i k)) few s t h =
     let rest = t.1 in
     let walk : Machine → Course = λ l. course l v.block es rest in
     let next = from_letters c i v ps (λ w. Run (next_line w) es rest fate) walk rest few t.4
-        (λ w same few' run. subst (λ b. From c w.machine (course w.machine b es rest) rest) same (h (next_line w) rest few' run)) in
+    (λ w same few' run. subst (λ b. From c w.machine (course w.machine b es rest) rest) same (h (next_line w) rest few' run)) in
     subst (λ ls. From c m (paced m i (letters ls) (λ l. course l v.block es (drop 1 ls))) ls) (sym t.2)
     (from_shown c m (paced m i ps walk) (printed.Ticks i ps) rest refl next)
 from_lined c v e es lines fate (Done Quits) few s t h = from_rest c v.machine lines (ap (flat_map (drained_by c)) t.0)
