@@ -1,0 +1,44 @@
+-- The bytes of a source, one by one.
+use Rattle.std.specs.Prelude.{◌≡◌, ◌≤◌, ℕ, Option, Some, None, Result, Ok, Err, List, [], ◌∷◌, ◌++◌, length, take, drop}
+use Rattle.std.specs.Io.KnownBytes.{Consumes, Keeps, IsAtEnd}
+use Rattle.its_io.specs.declared.stream.Failed.{Failed}
+use Rattle.its_reader.specs.declared.buffer.Buffer.{Buffer}
+
+-- the bytes that were read and are not taken
+abbrev pub pending : Buffer → List ℕ
+pending b = drop b.start (take b.stop b.bytes)
+
+abbrev pub Fits : Buffer → Type 0
+Fits b = (b.start ≤ b.stop) × (b.stop ≤ length b.bytes) × (length b.bytes ≡ 512)
+
+-- the first of some bytes, and those behind it; none where there is none
+abbrev pub Given : Option ℕ → List ℕ → List ℕ → Type 0
+Given (Some b) before after = before ≡ b ∷ after
+Given None before after = (before ≡ []) × (after ≡ [])
+
+-- bytes were read behind those that were pending, and none only at the end of the source
+pub record FilledOn (old new : Buffer) (left rest : Option (List ℕ)) : Type 0 where
+  pub read : List ℕ
+  pub consumed : Consumes left rest read
+  pub behind : pending new ≡ pending old ++ read
+  pub empty : pending new ≡ [] → IsAtEnd rest
+
+-- the source failed, and none was pending
+pub record Broke (old new : Buffer) (left rest : Option (List ℕ)) : Type 0 where
+  pub kept : Keeps left rest
+  pub none : pending old ≡ []
+
+abbrev pub Filled : Result (Unit {0}) Failed → Buffer → Buffer → Option (List ℕ) → Option (List ℕ) → Type 0
+Filled (Ok x) old new left rest = FilledOn old new left rest
+Filled (Err e) old new left rest = Broke old new left rest
+
+-- the next byte of the source, behind those that were pending; none only at its end
+pub record Taken (b : Option ℕ) (old new : Buffer) (left rest : Option (List ℕ)) : Type 0 where
+  pub read : List ℕ
+  pub consumed : Consumes left rest read
+  pub given : Given b (pending old ++ read) (pending new)
+  pub end : b ≡ None → IsAtEnd rest
+
+abbrev pub Took : Result (Option ℕ) Failed → Buffer → Buffer → Option (List ℕ) → Option (List ℕ) → Type 0
+Took (Ok b) old new left rest = Taken b old new left rest
+Took (Err e) old new left rest = Broke old new left rest

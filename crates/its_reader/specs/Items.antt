@@ -1,0 +1,114 @@
+-- The items that the lines of a session come to, one by one.
+use Rattle.std.specs.Prelude.{◌≡◌, ◌+◌, ℕ, Bool, true, false, Option, Some, Result, Ok, Err, List, [], ◌∷◌, ◌++◌, ◌⊎◌, IfSome, IfOk, Contains}
+use Rattle.std.specs.Io.KnownBytes.{Consumes}
+use Rattle.its_io.specs.declared.stream.Failed.{Failed}
+use Rattle.its_word.specs.Item.{Item, Read, Unread}
+use Rattle.its_word.specs.Item as items
+use Rattle.its_word.specs.declared.session.Event.{Event}
+use Rattle.its_word.specs.declared.session.Event.TheVariants as events
+use Rattle.its_word.specs.declared.session.Place.{Place}
+use Rattle.its_word.specs.declared.session.Place.TheVariants as places
+use Rattle.its_word.specs.declared.session.Bad.{Bad as BadLine}
+use Rattle.its_word.specs.declared.session.Reason.TheVariants as reasons
+use Rattle.its_session.specs.Events.{lines_from, items_from, item_then, place_after, reason_of, events_of, whole_events_of}
+use Rattle.its_session.specs.Fits.{EventFits}
+use Rattle.its_reader.specs.declared.items.Items.{Items}
+use Rattle.its_reader.specs.declared.items.Found.{Found}
+use Rattle.its_reader.specs.declared.items.Found.TheVariants.{Line, Bad, Beyond, End}
+use Rattle.its_reader.specs.Lines.{Facing, ahead}
+
+-- what a line comes to, and the place of the line behind it
+abbrev pub found_of : Result Event BadLine → Found
+found_of (Ok e) = Line e
+found_of (Err bad) = Bad (reason_of bad)
+
+abbrev pub place_found : Place → Found → Place
+place_found place (Line e) = place_after place e
+place_found place _ = place
+
+-- the end of the input inside a block is CUT
+abbrev pub end_found : Place → Found
+end_found places.Plain = End
+end_found places.Load = Bad reasons.Cut
+end_found places.File = Bad reasons.Cut
+
+abbrev pub found_fits : Found → Type 0
+found_fits (Line e) = EventFits e
+found_fits (Bad r) = Unit {0}
+found_fits Beyond = Unit {0}
+found_fits End = Unit {0}
+
+abbrev pub is_line : Found → Bool
+is_line (Line e) = true
+is_line (Bad r) = false
+is_line Beyond = false
+is_line End = false
+
+-- the end of the input outside a block, or the line END
+abbrev pub is_end : Found → Bool
+is_end (Line events.End) = true
+is_end (Line e) = false
+is_end End = true
+is_end (Bad r) = false
+is_end Beyond = false
+
+-- nothing comes behind it
+abbrev pub is_last : Found → Bool
+is_last (Line e) = is_end (Line e)
+is_last (Bad r) = true
+is_last Beyond = true
+is_last End = true
+
+-- the items that are still to come, where these bytes are still to be read
+abbrev pub items_ahead : Bool → Items → List ℕ → List Item
+items_ahead whole r more = items_from whole (r.lines.number + 1) r.place (ahead whole r.lines more)
+
+-- what stands last of all items, where this was found
+abbrev pub last_items : Found → List Item
+last_items (Line e) = Read e ∷ []
+last_items (Bad r) = Unread r ∷ []
+last_items Beyond = items.Beyond ∷ []
+last_items End = []
+
+-- what was found is the next item, and the last one unless it is a line other than END
+abbrev pub FoundOf : Result Found Failed → Items → Items → List ℕ → Type 0
+FoundOf (Ok (Line e)) old new read = Facing new.lines.ended (λ whole more. items_ahead whole old (read ++ more) ≡ item_then (Ok e) (λ _. items_ahead whole new more))
+FoundOf (Ok (Bad r)) old new read = Facing new.lines.ended (λ _ more. items_ahead true old (read ++ more) ≡ Unread r ∷ [])
+FoundOf (Ok Beyond) old new read = Facing new.lines.ended (λ _ more. items_ahead true old (read ++ more) ≡ items.Beyond ∷ [])
+FoundOf (Ok End) old new read = (new.lines.ended ≡ true) × Facing new.lines.ended (λ _ more. items_ahead true old (read ++ more) ≡ [])
+FoundOf (Err e) old new read = (old.lines.ended ≡ false) × (items_ahead false old read ≡ [])
+
+pub record Finds (result : Result Found Failed) (old new : Items) (left rest : Option (List ℕ)) : Type 0 where
+  pub read : List ℕ
+  pub consumed : Consumes left rest read
+  pub over : old.lines.ended ≡ true → (read ≡ []) × (new.lines.ended ≡ true)
+  pub found : FoundOf result old new read
+
+-- the items of a session so far, none of which ends it, and what was read of it
+pub record FoundSoFar (es : List Item) (r : Items) (left rest : Option (List ℕ)) : Type 0 where
+  pub read : List ℕ
+  pub consumed : Consumes left rest read
+  pub so_far : Facing r.lines.ended (λ whole more. items_from whole 1 places.Plain (lines_from whole [] (read ++ more)) ≡ es ++ items_ahead whole r more)
+
+-- the input was read to its end, or END is among its whole lines that were read
+pub record ReadOut (bytes : List ℕ) (rest : Option (List ℕ)) : Type 0 where
+  pub read : List ℕ
+  pub consumed : Consumes (Some bytes) rest read
+  pub out : (read ≡ bytes) ⊎ Contains (whole_events_of read) (Read events.End)
+
+-- what all items of a session are, where these were found and then this
+abbrev pub AllFound : Result Found Failed → List Item → List ℕ → List ℕ → Type 0
+AllFound (Ok f) es bytes read = events_of bytes ≡ es ++ last_items f
+AllFound (Err e) es bytes read = whole_events_of read ≡ es
+
+pub record Ended (result : Result Found Failed) (es : List Item) (left rest : Option (List ℕ)) : Type 0 where
+  pub read : List ℕ
+  pub consumed : Consumes left rest read
+  pub all : IfSome left (λ bytes. AllFound result es bytes read)
+  pub out : IfOk result (λ f. is_end f ≡ true → IfSome left (λ bytes. ReadOut bytes rest))
+
+-- all items of a session, where these were found and then this: what comes behind it is nothing where it is the last
+pub record Behind (f : Found) (es : List Item) (bytes : List ℕ) : Type 0 where
+  pub tail : List Item
+  pub all : events_of bytes ≡ es ++ (last_items f ++ tail)
+  pub last : is_last f ≡ true → tail ≡ []

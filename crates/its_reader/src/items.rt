@@ -1,0 +1,124 @@
+ghost use Rattle.std.specs.Prelude.{◌≡◌, ◌≤◌, ◌+◌, [], false, IfOk};
+ghost use Rattle.its_io.specs.Bytes.{HasCause};
+ghost use Rattle.its_session.specs.Events.{most_lines, place_after, reason_of};
+ghost use Rattle.its_session.specs.Fits.{EventFits};
+ghost use Rattle.its_reader.specs.Bytes.{pending, Fits};
+ghost use Rattle.its_reader.specs.Lines.{Ready};
+ghost use Rattle.its_session.specs.Grammar.{line_event};
+ghost use Rattle.its_reader.specs.Items.{Finds, end_found, found_fits, found_of, is_last, place_found};
+
+use super::lines::{Lines, Next};
+use its_io::{Failed, Source};
+use its_session::read_line;
+use its_word::{Bad, Event, Place, Reason};
+
+/// What is found next in a session.
+#[derive(Debug, PartialEq, Eq, Drop)]
+pub enum Found {
+    /// A line that is read.
+    Line(Event),
+    /// A line that is not read, or the end of the input inside a block: the session ends with a `?` line.
+    Bad(Reason),
+    /// A line past the most that a session may have begins.
+    Beyond,
+    /// The end of the input.
+    End,
+}
+
+/// The items of a session.
+#[derive(Debug, Drop)]
+pub struct Items {
+    /// Its lines.
+    pub lines: Lines,
+    /// The place of the line to come.
+    pub place: Place,
+}
+
+impl Items {
+    /// The items of a session of which nothing was read.
+    pub fn new() -> Items
+        ensures number { result.lines.number ≡ 0 }
+        ensures fits { Fits result.lines.buffer }
+        ensures empty { pending result.lines.buffer ≡ [] }
+        ensures open { result.lines.ended ≡ false }
+        ensures plain { result.place ≡ Place.Plain }
+    {
+        Items {
+            lines: Lines::new(),
+            place: Place::Plain,
+        }
+    }
+
+    /// What comes next; `lines.number` is then the number of its line. The end of the input inside a block is refused
+    /// as CUT. Nothing is to be asked for behind END or behind what is no line.
+    #[tactic(auto, using(crate::proofs::ItemsLaws::finds_line, crate::proofs::ItemsLaws::finds_long, crate::proofs::ItemsLaws::finds_beyond, crate::proofs::ItemsLaws::finds_end, crate::proofs::ItemsLaws::finds_broken))]
+    pub fn next<S: Source>(&mut self, src: &mut S) -> Result<Found, Failed>
+        requires ready { Ready self.old.lines (S.left src.old) }
+        requires few { self.old.lines.number ≤ most_lines }
+        ensures finds { Finds result self.old self.new (S.left src.old) (S.left src.new) }
+        ensures fits { IfOk result found_fits }
+        ensures ready { IfOk result (λ _. Ready self.new.lines (S.left src.new)) }
+        ensures number { self.new.lines.number ≡ self.old.lines.number + 1 }
+        ensures few { IfOk result (λ f. is_last f ≡ false → self.new.lines.number ≤ most_lines) }
+        ensures cause { HasCause (S.faults src.old) (S.faults src.new) result }
+    {
+        match self.lines.next(src)? {
+            Next::Line => Ok(self.read()),
+            Next::Long => Ok(Found::Bad(Reason::Long)),
+            Next::Beyond => Ok(Found::Beyond),
+            Next::End => Ok(at_end(self.place)),
+        }
+    }
+
+    /// What the line that was given last comes to.
+    fn read(&mut self) -> Found
+        ensures read { result ≡ found_of (line_event self.old.place self.old.lines.line.items) }
+        ensures place { self.new.place ≡ place_found self.old.place result }
+        ensures lines { self.new.lines ≡ self.old.lines }
+        ensures fits { found_fits result }
+    {
+        match read_line(&self.lines.line, self.place) {
+            Ok(event) => {
+                self.place = place_after(self.place, &event);
+                Found::Line(event)
+            }
+            Err(bad) => Found::Bad(reason_of(bad)),
+        }
+    }
+}
+
+/// What the end of the input comes to at a place: inside a block it is refused as CUT.
+fn at_end(place: Place) -> Found
+    ensures { result ≡ end_found place }
+{
+    match place {
+        Place::Plain => Found::End,
+        Place::Load => Found::Bad(Reason::Cut),
+        Place::File => Found::Bad(Reason::Cut),
+    }
+}
+
+/// The place of the line after an event.
+fn place_after(place: Place, event: &Event) -> Place
+    ensures { result ≡ place_after place event.now }
+{
+    match event {
+        Event::Load { .. } => Place::Load,
+        Event::File { .. } => Place::File,
+        Event::Go { .. } => Place::Plain,
+        Event::EndFile => Place::Plain,
+        _ => place,
+    }
+}
+
+/// The reason of a line that is not read.
+fn reason_of(bad: Bad) -> Reason
+    ensures { result ≡ reason_of bad }
+{
+    match bad {
+        Bad::Long => Reason::Long,
+        Bad::Syntax => Reason::Syntax,
+        Bad::Range => Reason::Range,
+        Bad::NoConsole => Reason::NoCons,
+    }
+}

@@ -1,0 +1,10 @@
+//! The lines of a source of bytes, one by one, and the items that the lines of a session come to. What reads lines
+//! shares this: it takes no memory, and a line is given as soon as its LF was read.
+#![tactic(auto)]
+
+mod buffer;
+mod items;
+mod lines;
+
+pub use items::{Found, Items};
+pub use lines::{Lines, Next};
