@@ -14,7 +14,7 @@ use Rattle.its_plain.specs.Course.{Lines, Steps, Course, rests, onward, after_st
 use Rattle.its_plain.specs.Ledger.{typed_by, typed_at, byte_of, drained_by, Balanced, Ledger}
 use Rattle.its_plain.specs.Ledger as books
 use Rattle.its_plain.specs.Machine.{Machine, no_machine}
-use Rattle.its_plain.specs.Operator.{Block, no_block, Refuses, Does, Ticks, Quits}
+use Rattle.its_plain.specs.Operator.{Refuses, Does, Ticks, Quits}
 use Rattle.its_plain.specs.Transcript.{Fate, Walk, at_start, after_letter, walk_after, next_line, Transcript}
 use Rattle.its_plain.proofs.RunLaws.{PacedOn, LinedOn, Run, shows_run}
 use Rattle.its_top.proofs.MoveLaws.{Passes, step_passes}
