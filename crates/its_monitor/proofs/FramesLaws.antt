@@ -1,16 +1,14 @@
 -- In which frames pages stand after each step of a tick.
-use Rattle.std.specs.Prelude.{if◌then◌else◌, ◌≡◌, ◌≤◌, ℕ, ◌+◌, Bool, true, false, Option, Some, None, IfSome, List, [], ◌∷◌, ◌++◌, is_some, length, nat_lt, slice_index_or, refl}
+use Rattle.std.specs.Prelude.{if◌then◌else◌, ◌≡◌, ◌≤◌, ℕ, Bool, true, false, Option, Some, None, IfSome, List, [], ◌∷◌, ◌++◌, is_some, length, nat_lt, slice_index_or, refl}
 use Rattle.std.proofs.Common.{sym, ◌∙◌, ap, subst}
-use Rattle.std.proofs.lemmas.Option.{IfSome_then}
 use Rattle.std.proofs.lemmas.List.{get_or_past}
 use Rattle.its_word.specs.declared.calls.Ask.{Ask}
 use Rattle.its_word.specs.declared.jobs.Job.{Job}
 use Rattle.its_word.specs.Core.{Core}
 use Rattle.its_word.specs.Tree.{slots_below}
 use Rattle.its_word.proofs.FreeLaws.{none_is}
-use Rattle.its_core.specs.Cores.{Cores, core_at, clear_at}
+use Rattle.its_core.specs.Cores.{core_at, clear_at}
 use Rattle.its_core.specs.Frames.{Frames, frames_reserve}
-use Rattle.its_files.specs.Files.{Store}
 use Rattle.its_jobs.specs.Table.{job_at, superior_at}
 use Rattle.its_frame.specs.declared.frame.Frame.{Frame}
 use Rattle.its_frame.specs.declared.frame.Asked as askeds
@@ -30,17 +28,16 @@ use Rattle.its_stepped.specs.State.{State}
 use Rattle.its_stepped.specs.Tick.{quarters, reserves}
 use Rattle.its_stepped.specs.Unwind.{unwound, all_unwound}
 use Rattle.its_stepped.proofs.KeptLaws.{user_page}
-use Rattle.its_world.specs.World.{state_of, bare, raw_of, raw_at, frame_at, frames_after, CoreBecomes, FrameBecomes, PageBecomes}
+use Rattle.its_world.specs.World.{state_of, bare, raw_at, frame_at, frames_after, CoreBecomes, FrameBecomes, PageBecomes}
 use Rattle.its_world.specs.declared.world.World.{World}
 use Rattle.its_world.proofs.BareLaws.{deliverable_bare, delivered_bare}
 use Rattle.its_world.proofs.StateLaws.{raw_job, raw_some, raw_none}
 use Rattle.its_world.proofs.StorageLaws.{frame_is}
-use Rattle.its_world.proofs.WorldLaws.{frames_still}
 use Rattle.its_pclsr.specs.Carried.{standing_of}
 use Rattle.its_pclsr.specs.Pages.{pages_unwound}
 use Rattle.its_pclsr.proofs.ApartLaws.{becomes_pages}
 use Rattle.its_monitor.specs.Pages.{pages_tried, pages_held, pages_user, pages_in, pages_unless, pages_of, pages_ticked}
-use Rattle.its_monitor.specs.Ticks.{Made, Called_in, UnitIn}
+use Rattle.its_monitor.specs.Ticks.{UnitIn}
 use Rattle.its_monitor.proofs.UserLaws.{raw_fact, stop_same}
 
 -- a slot in user mode has reserved no page
