@@ -1,63 +1,146 @@
--- From what the bytes read so far did to how a session ends.
-use Rattle.std.specs.Prelude.{◌≡◌, ℕ, Bool, true, false, Option, Some, None, IfSome, List, [], ◌∷◌, ◌++◌, refl}
+-- From what each item of a session did to how the session ends.
+use Rattle.std.specs.Prelude.{◌≡◌, ◌≢◌, ℕ, ◌+◌, true, false, Option, Some, None, IfSome, Ok, Err, List, [], ◌∷◌, ◌++◌, refl}
 use Rattle.std.proofs.Common.{sym, ◌∙◌, ap, subst, append_assoc, append-nil}
-use Rattle.std.specs.Io.KnownBytes.{Consumes, Keeps, IsAtEnd}
-use Rattle.std.proofs.KnownBytes.{Appends-nil, Consumes-nil, Appends-trans, Consumes-trans, Consumes-kept}
-use Rattle.its_word.specs.declared.session.Place.{Place}
+use Rattle.std.specs.Io.KnownBytes.{Consumes}
+use Rattle.std.proofs.KnownBytes.{Appends-nil, Appends-trans}
+use Rattle.its_io.specs.declared.stream.Failed.{Failed}
+use Rattle.its_word.specs.Item.{Item, Read, Unread}
+use Rattle.its_word.specs.declared.session.Event.{Event}
+use Rattle.its_word.specs.declared.session.Event.TheVariants as events
 use Rattle.its_word.specs.declared.session.Place.TheVariants as places
-use Rattle.its_word.specs.declared.session.Reason.TheVariants as reasons
-use Rattle.its_print.specs.Printing.{Refused, text}
-use Rattle.its_session.specs.Events.{end_of, events_of, whole_events_of}
+use Rattle.its_word.specs.declared.session.Reason.{Reason}
+use Rattle.its_print.specs.Printing.{Refused, text_of_line, text}
+use Rattle.its_session.specs.Events.{events_of, whole_events_of}
+use Rattle.its_reader.specs.declared.items.Found.{Found}
+use Rattle.its_reader.specs.declared.items.Found.TheVariants as founds
+use Rattle.its_reader.specs.declared.items.Items.{Items}
+use Rattle.its_reader.specs.Bytes.{pending}
+use Rattle.its_reader.specs.Lines.{Ready}
+use Rattle.its_reader.specs.Items.{is_last, is_end, last_items, Finds, FoundSoFar, ReadOut, AllFound, Ended as EndFound, Behind}
+use Rattle.its_reader.proofs.ItemsLaws as reader
+use Rattle.its_plain.specs.Machine.{no_machine}
+use Rattle.its_plain.specs.Operator.{Block}
+use Rattle.its_plain.specs.Own.{names_of}
 use Rattle.its_plain.specs.Transcript.{Fate, Ended, Open, Lost, TooLong}
+use Rattle.its_stepped.specs.State.{State, no_state}
 use Rattle.its_stepped.specs.Lines.{stepped}
 use Rattle.its_top.specs.declared.status.Status.{Status}
 use Rattle.its_top.specs.declared.status.Status.TheVariants as statuses
 use Rattle.its_top.specs.declared.turn.Turn.{Turn}
 use Rattle.its_top.specs.declared.turn.Turn.TheVariants as turns
-use Rattle.its_top.specs.Telling.{Now, at_start, Says, said, after, saying, items_say, lines_say, bytes_say, Lines, Fed, goes_on}
-use Rattle.its_top.specs.Conclusion.{IsDone, Finished, Concluded, WasRun, Session, SoFar, Feeds, Finishes, status_of}
-use Rattle.its_top.proofs.ByteLaws.{fed_then}
+use Rattle.its_top.specs.Telling.{Says, said, after, saying, Begins, items_say, goes_on_after, Answers, goes_on}
+use Rattle.its_top.specs.Answer.{WroteFor, Tells, Answered, block_of}
+use Rattle.its_top.specs.Conclusion.{IsDone, Finished, Concluded, WasRun, Session, SoFar, status_of, Over, TakenBy, Takes}
+use Rattle.its_top.proofs.EventLaws.{after_after, text_one}
 
--- the end of input outside any line
-pub no_line : (now : Now) → bytes_say true now [] [] ≡ items_say now.number now.state now.block (end_of true now.place)
-unfolding bytes_say lines_say
-no_line now = refl
+pub on_of : (turn : Turn) → goes_on turn ≡ true → turn ≡ turns.On
+on_of turns.On h = refl
+on_of turns.Ended h = cc
+on_of turns.Refused h = cc
+on_of turns.Beyond h = cc
+on_of turns.Fault h = cc
 
-pub end_done : (now : Now) → now.place ≡ places.Plain → Finished statuses.Done (bytes_say true now [] []) []
-unfolding items_say text
-end_done now h =
-    let e : bytes_say true now [] [] ≡ saying [] Open = no_line now ∙ ap (λ p. items_say now.number now.state now.block (end_of true p)) h in
-    subst (λ s. Finished statuses.Done s []) (sym e) (refl, tt)
+pub not_fault : (turn : Turn) → goes_on turn ≡ true → turn ≢ turns.Fault
+not_fault turn h e = let k : false ≡ true = sym (ap goes_on e) ∙ h in cc
 
--- inside a block it is CUT
-cut_item : (n : ℕ) (now : Now) (p : Place) → now.place ≡ p → end_of true p ≡ end_of true places.Load → n ≡ now.number
-    → bytes_say true now [] [] ≡ saying (text (Refused n reasons.Cut ∷ [])) Lost
+-- END alone ends a session
+not_last : (e : Event) → goes_on_after e ≡ true → is_last (founds.Line e) ≡ false
+not_last events.End h = cc
+not_last _ h = refl
+
+is_the_end : (e : Event) → goes_on_after e ≡ false → is_end (founds.Line e) ≡ true
+is_the_end events.End h = refl
+is_the_end _ h = cc
+
+-- what each item did
+saying_ends : (st : Status) (f : Fate) (s : Says) (w : List ℕ) → s ≡ saying w f → Finished st (saying w f) w → Finished st s w
+saying_ends st f s w e h = subst (λ x. Finished st x w) (sym e) h
+
+by_answer : (turn : Turn) (n : ℕ) (v v' : State) (b b' : Block) (e : Event) (w : List ℕ) → Answers turn n v b e v' b' w → TakenBy turn n v b (founds.Line e) v' b' w
+by_answer turns.On n v v' b b' e w a = (not_last e a.0, a.1)
+by_answer turns.Ended n v v' b b' e w a = (is_the_end e a.0, λ behind l. saying_ends statuses.Done Ended _ w (a.1 behind) (refl, tt))
+by_answer turns.Refused n v v' b b' e w a = λ behind l. saying_ends statuses.Refused Lost _ w (a behind) (refl, refl)
+by_answer turns.Beyond n v v' b b' e w a = absurd a
+by_answer turns.Fault n v v' b b' e w a = λ behind l. a behind
+
+pub takes_line : (turn : Turn) (n : ℕ) (v v' : State) (b b' : Block) (f : Found) (e : Event) (old new : Option (List ℕ)) → f ≡ founds.Line e → Answered turn n v b e v' b' old new → Takes turn n v b f v' b' old new
+takes_line turn n v v' b b' f e old new h a =
+    subst (λ x. Takes turn n v b x v' b' old new) (sym h) (record { wrote = a.wrote; appended = a.appended; taken = by_answer turn n v v' b b' e a.wrote a.answers })
+
+says_bad : (n : ℕ) (v : State) (b : Block) (r : Reason) (behind : List Item) → items_say n v b (Unread r ∷ behind) ≡ saying (text (Refused n r ∷ [])) Lost
 unfolding items_say
-cut_item n now p h e k =
-    no_line now ∙ ap (λ q. items_say now.number now.state now.block (end_of true q)) h
-    ∙ ap (items_say now.number now.state now.block) e ∙ ap (λ j. saying (text (Refused j reasons.Cut ∷ [])) Lost) (sym k)
+says_bad n v b r behind = refl
 
-pub end_cut_load : (now : Now) → now.place ≡ places.Load → Finished statuses.Refused (bytes_say true now [] []) (text (Refused now.number reasons.Cut ∷ []))
-end_cut_load now h =
-    subst (λ s. Finished statuses.Refused s (text (Refused now.number reasons.Cut ∷ []))) (sym (cut_item now.number now places.Load h refl refl)) (refl, refl)
+by_refusal : (turn : Turn) (n : ℕ) (v v' : State) (b b' : Block) (r : Reason) (l w : List ℕ) → text (Refused n r ∷ []) ≡ l → WroteFor turn turns.Refused l w → TakenBy turn n v b (founds.Bad r) v' b' w
+by_refusal turns.Refused n v v' b b' r l w e c = λ behind k. (ap (λ x. x.text) (says_bad n v b r behind) ∙ e ∙ c.1, ap (λ x. x.fate) (says_bad n v b r behind))
+by_refusal turns.Fault n v v' b b' r l w e c = λ behind k. record { more = c.0; whole = ap (λ x. x.text) (says_bad n v b r behind) ∙ e ∙ c.1 }
+by_refusal turns.On n v v' b b' r l w e c = absurd (let k : turns.On ≡ turns.Refused = c.0 in cc)
+by_refusal turns.Ended n v v' b b' r l w e c = absurd (let k : turns.Ended ≡ turns.Refused = c.0 in cc)
+by_refusal turns.Beyond n v v' b b' r l w e c = absurd (let k : turns.Beyond ≡ turns.Refused = c.0 in cc)
 
-pub end_cut_file : (now : Now) → now.place ≡ places.File → Finished statuses.Refused (bytes_say true now [] []) (text (Refused now.number reasons.Cut ∷ []))
-end_cut_file now h =
-    subst (λ s. Finished statuses.Refused s (text (Refused now.number reasons.Cut ∷ []))) (sym (cut_item now.number now places.File h refl refl)) (refl, refl)
+pub takes_bad : (turn : Turn) (n : ℕ) (v v' : State) (b b' : Block) (f : Found) (r : Reason) (old new : Option (List ℕ)) → f ≡ founds.Bad r → Tells turn turns.Refused (text_of_line (Refused n r)) old new
+    → Takes turn n v b f v' b' old new
+takes_bad turn n v v' b b' f r old new h t =
+    subst (λ x. Takes turn n v b x v' b' old new) (sym h)
+    (record { wrote = t.wrote; appended = t.appended; taken = by_refusal turn n v v' b b' r (text_of_line (Refused n r)) t.wrote (text_one (Refused n r)) t.complete })
 
--- a write of the `?` line that failed
-pub finished_fault : (s : Says) (v w more : List ℕ) → Finished statuses.Refused s v → v ≡ w ++ more → Finished statuses.WriteFault s w
-finished_fault s v w more f e = record { more = more; whole = f.0 ∙ e }
+pub takes_beyond : (n : ℕ) (v v' : State) (b b' : Block) (f : Found) (out : Option (List ℕ)) → f ≡ founds.Beyond → Takes turns.Beyond n v b f v' b' out out
+unfolding items_say text
+takes_beyond n v v' b b' f out h =
+    subst (λ x. Takes turns.Beyond n v b x v' b' out out) (sym h) (record { wrote = []; appended = Appends-nil out; taken = λ behind l. (refl, refl) })
 
--- a line at the end of input: what it did, and what the end did then
-says_open : (whole : Bool) (now : Now) (b : ℕ) (bs : List ℕ) → bytes_say true now (b ∷ bs) [] ≡ lines_say true now ((b ∷ bs) ∷ [])
-unfolding bytes_say
-says_open whole now b bs = refl
+says_nothing : (n : ℕ) (v : State) (b : Block) → items_say n v b [] ≡ saying [] Open
+unfolding items_say text
+says_nothing n v b = refl
 
-says_none : (now : Now) → bytes_say true now [] [] ≡ lines_say true now []
-unfolding bytes_say
-says_none now = refl
+pub takes_end : (n : ℕ) (v v' : State) (b b' : Block) (f : Found) (out : Option (List ℕ)) → f ≡ founds.End → Takes turns.Ended n v b f v' b' out out
+takes_end n v v' b b' f out h =
+    subst (λ x. Takes turns.Ended n v b x v' b' out out) (sym h)
+    (record { wrote = []; appended = Appends-nil out; taken = (refl, λ behind l. saying_ends statuses.Done Open _ [] (ap (items_say n v b) (l refl) ∙ says_nothing n v b) (refl, tt)) })
 
+-- the start of a session
+says_all : (n : ℕ) (v : State) (behind : List Item) → n ≡ 1 → v ≡ no_state no_machine → said (stepped behind) ≡ items_say n v (block_of 0 (names_of 0 0 0)) behind
+unfolding items_say
+says_all n v behind e h =
+    ap (λ k. items_say k (no_state no_machine) (block_of 0 (names_of 0 0 0)) behind) (sym e) ∙ ap (λ k. items_say n k (block_of 0 (names_of 0 0 0)) behind) (sym h)
+
+pub so_start : (r : Items) (v : State) (left out : Option (List ℕ)) → v ≡ no_state no_machine → r.lines.number ≡ 0 → r.lines.ended ≡ false → pending r.lines.buffer ≡ [] → r.place ≡ places.Plain
+    → SoFar r (r.lines.number + 1) v (block_of 0 (names_of 0 0 0)) left left out out
+so_start r v left out e n o p q = record {
+  items = [];
+  found = reader.so_start r left n o p q;
+  wrote = [];
+  appended = Appends-nil out;
+  says = λ behind. says_all (r.lines.number + 1) v behind (ap (λ k. k + 1) n) e;
+}
+
+-- the session goes on
+found_on : (f : Found) (es : List Item) (old new : Items) (left mid rest : Option (List ℕ)) → is_last f ≡ false → FoundSoFar es old left mid → Finds (Ok f) old new mid rest → FoundSoFar (es ++ last_items f) new left rest
+found_on (founds.Line e) es old new left mid rest l s f = reader.so_next es e old new left mid rest l s f
+found_on (founds.Bad r) es old new left mid rest l s f = cc
+found_on founds.Beyond es old new left mid rest l s f = cc
+found_on founds.End es old new left mid rest l s f = cc
+
+on_next : (f : Found) (n : ℕ) (v v' : State) (b b' : Block) (r r' : Items) (left mid rest old out new : Option (List ℕ)) → SoFar r n v b left mid old out → Finds (Ok f) r r' mid rest → Takes turns.On n v b f v' b' out new
+    → SoFar r' (n + 1) v' b' left rest old new
+on_next f n v v' b b' r r' left mid rest old out new s t k = record {
+  items = s.items ++ last_items f;
+  found = found_on f s.items r r' left mid rest k.taken.0 s.found t;
+  wrote = s.wrote ++ k.wrote;
+  appended = Appends-trans old out new s.wrote k.wrote s.appended k.appended;
+  says = λ behind. ap (λ x. said (stepped x)) (append_assoc s.items (last_items f) behind) ∙ s.says (last_items f ++ behind) ∙ ap (after s.wrote) (k.taken.1 behind)
+      ∙ after_after s.wrote k.wrote (items_say (n + 1) v' b' behind);
+}
+
+pub not_last_by : (turn : Turn) (n : ℕ) (v v' : State) (b b' : Block) (f : Found) (out new : Option (List ℕ)) → goes_on turn ≡ true → Takes turn n v b f v' b' out new → is_last f ≡ false
+not_last_by turn n v v' b b' f out new g t = (subst (λ x. Takes x n v b f v' b' out new) (on_of turn g) t).taken.0
+
+pub so_next : (turn : Turn) (f : Found) (n k : ℕ) (v v' : State) (b b' : Block) (r r' : Items) (left mid rest old out new : Option (List ℕ)) → goes_on turn ≡ true → k ≡ n → SoFar r k v b left mid old out → Finds (Ok f) r r' mid rest
+    → Takes turn n v b f v' b' out new → SoFar r' (n + 1) v' b' left rest old new
+so_next turn f n k v v' b b' r r' left mid rest old out new g e s t w =
+    on_next f n v v' b b' r r' left mid rest old out new (subst (λ x. SoFar r x v b left mid old out) e s) t (subst (λ x. Takes x n v b f v' b' out new) (on_of turn g) w)
+
+-- the session is over
 finished_after : (st : Status) (s t : Says) (v w : List ℕ) → s ≡ after v t → Finished st t w → Finished st s (v ++ w)
 finished_after statuses.Done s t v w e f = (ap (λ x. x.text) e ∙ ap (λ x. v ++ x) f.0, subst IsDone (sym (ap (λ x. x.fate) e)) f.1)
 finished_after statuses.Refused s t v w e f = (ap (λ x. x.text) e ∙ ap (λ x. v ++ x) f.0, ap (λ x. x.fate) e ∙ f.1)
@@ -68,149 +151,81 @@ finished_after statuses.Usage s t v w e f = absurd f
 finished_after statuses.ReadFault s t v w e f = absurd f
 finished_after statuses.NoMemory s t v w e f = absurd f
 
-pub last_on : (st : Status) (now next : Now) (b : ℕ) (bs v w : List ℕ) → Lines turns.On now (b ∷ bs) next v → Finished st (bytes_say true next [] []) w
-    → Finished st (bytes_say true now (b ∷ bs) []) (v ++ w)
-last_on st now next b bs v w a f =
-    finished_after st _ _ v w (says_open true now b bs ∙ a true [] ∙ ap (after v) (sym (says_none next))) f
+over_of : (turn : Turn) (n : ℕ) (v v' : State) (b b' : Block) (f : Found) (w : List ℕ) → goes_on turn ≡ false → TakenBy turn n v b f v' b' w → Over turn n v b f w
+over_of turns.On n v v' b b' f w g t = cc
+over_of turns.Ended n v v' b b' f w g t = t.1
+over_of turns.Refused n v v' b b' f w g t = t
+over_of turns.Beyond n v v' b b' f w g t = t
+over_of turns.Fault n v v' b b' f w g t = t
 
-pub last_ended : (now next : Now) (b : ℕ) (bs w : List ℕ) → Lines turns.Ended now (b ∷ bs) next w → Finished statuses.Done (bytes_say true now (b ∷ bs) []) w
-last_ended now next b bs w a =
-    subst (λ s. Finished statuses.Done s w) (sym (says_open true now b bs ∙ a true [])) (refl, tt)
-
-pub last_refused : (now next : Now) (b : ℕ) (bs w : List ℕ) → Lines turns.Refused now (b ∷ bs) next w → Finished statuses.Refused (bytes_say true now (b ∷ bs) []) w
-last_refused now next b bs w a =
-    subst (λ s. Finished statuses.Refused s w) (sym (says_open true now b bs ∙ a true [])) (refl, refl)
-
-pub last_fault : (now next : Now) (b : ℕ) (bs w : List ℕ) → Lines turns.Fault now (b ∷ bs) next w → Finished statuses.WriteFault (bytes_say true now (b ∷ bs) []) w
-last_fault now next b bs w a = let k = a true [] in record { more = k.more; whole = ap (λ x. x.text) (says_open true now b bs) ∙ k.whole }
-
--- the session is over before the end of its bytes
-by_saying : (st : Status) (f : Fate) (s : Says) (w : List ℕ) → s ≡ saying w f → Finished st (saying w f) w → Finished st s w
-by_saying st f s w e h = subst (λ x. Finished st x w) (sym e) h
-
-over : (t : Turn) (bytes read rest w : List ℕ) (next : Now) (left : List ℕ) → goes_on t ≡ false → bytes ≡ read ++ rest → Fed t at_start [] read next left w
-    → Concluded (status_of t) bytes read w
-over turns.On bytes read rest w next left g e f = cc
-over turns.Ended bytes read rest w next left g e f = by_saying statuses.Done Ended _ w (ap (bytes_say true at_start []) e ∙ f rest) (refl, tt)
-over turns.Refused bytes read rest w next left g e f = by_saying statuses.Refused Lost _ w (ap (bytes_say true at_start []) e ∙ f rest) (refl, refl)
-over turns.Beyond bytes read rest w next left g e f = by_saying statuses.TooLong TooLong _ w (ap (bytes_say true at_start []) e ∙ f rest) (refl, refl)
-over turns.Fault bytes read rest w next left g e f =
-    let k = f rest in record { more = k.more; whole = ap (λ b. (bytes_say true at_start [] b).text) e ∙ k.whole }
-
-told_over : (t : Turn) (left rest : Option (List ℕ)) (read w : List ℕ) (next : Now) (kept : List ℕ) → goes_on t ≡ false → Consumes left rest read
-    → Fed t at_start [] read next kept w → IfSome left (λ bytes. Concluded (status_of t) bytes read w)
-told_over t None rest read w next kept g c f = tt
-told_over t (Some bytes) None read w next kept g c f = absurd c
-told_over t (Some bytes) (Some ys) read w next kept g c f = over t bytes read ys w next kept g c f
-
-pub was_run : (t : Turn) → WasRun (status_of t)
+was_run : (turn : Turn) → WasRun (status_of turn)
 was_run turns.On = tt
 was_run turns.Ended = tt
 was_run turns.Refused = tt
 was_run turns.Beyond = tt
 was_run turns.Fault = tt
 
-pub session_over : (t : Turn) (now next : Now) (kept after_them bytes : List ℕ) (left mid rest old now_out new : Option (List ℕ)) → goes_on t ≡ false
-    → SoFar kept now left mid old now_out → Consumes mid rest bytes → Feeds t now kept bytes next after_them now_out new → Session (status_of t) left rest old new
-session_over t now next kept after_them bytes left mid rest old now_out new g s c f = record {
-  read = s.read ++ bytes;
-  wrote = s.wrote ++ f.wrote;
-  consumed = Consumes-trans left mid rest s.read bytes s.consumed c;
-  appended = Appends-trans old now_out new s.wrote f.wrote s.appended f.appended;
-  ran = was_run t;
-  concluded = told_over t left rest _ _ next after_them g (Consumes-trans left mid rest s.read bytes s.consumed c)
-      (fed_then t at_start now next [] kept after_them s.read bytes s.wrote f.wrote s.fed f.fed);
+as_concluded : (st : Status) (bytes read w : List ℕ) → Finished st (said (stepped (events_of bytes))) w → Concluded st bytes read w
+as_concluded statuses.ReadFault bytes read w f = absurd f
+as_concluded statuses.Done bytes read w f = f
+as_concluded statuses.Refused bytes read w f = f
+as_concluded statuses.TooLong bytes read w f = f
+as_concluded statuses.WriteFault bytes read w f = f
+as_concluded statuses.Usage bytes read w f = absurd f
+as_concluded statuses.NoMemory bytes read w f = absurd f
+
+told_over : (turn : Turn) (n : ℕ) (v : State) (b : Block) (f : Found) (es : List Item) (left : Option (List ℕ)) (read v1 w : List ℕ) → ((behind : List Item) → said (stepped (es ++ behind)) ≡ after v1 (items_say n v b behind))
+    → Over turn n v b f w → IfSome left (λ bytes. Behind f es bytes) → IfSome left (λ bytes. Concluded (status_of turn) bytes read (v1 ++ w))
+told_over turn n v b f es None read v1 w s o h = tt
+told_over turn n v b f es (Some bytes) read v1 w s o h =
+    as_concluded (status_of turn) bytes read (v1 ++ w)
+    (finished_after (status_of turn) _ _ v1 w (ap (λ x. said (stepped x)) h.all ∙ s (last_items f ++ h.tail)) (o h.tail h.last))
+
+told_input : (turn : Turn) (n : ℕ) (v v' : State) (b b' : Block) (f : Found) (es : List Item) (w : List ℕ) (r r' : Items) (left mid rest : Option (List ℕ)) → goes_on turn ≡ false → TakenBy turn n v b f v' b' w
+    → Ready r'.lines rest → FoundSoFar es r left mid → Finds (Ok f) r r' mid rest → status_of turn ≡ statuses.Done → IfSome left (λ bytes. ReadOut bytes rest)
+told_input turns.On n v v' b b' f es w r r' left mid rest g t y s k e = cc
+told_input turns.Ended n v v' b b' f es w r r' left mid rest g t y s k e = reader.out_of f es r r' left mid rest y s k t.0
+told_input turns.Refused n v v' b b' f es w r r' left mid rest g t y s k e = cc
+told_input turns.Beyond n v v' b b' f es w r r' left mid rest g t y s k e = cc
+told_input turns.Fault n v v' b b' f es w r r' left mid rest g t y s k e = cc
+
+over_by : (turn : Turn) (f : Found) (n : ℕ) (v v' : State) (b b' : Block) (r r' : Items) (left mid rest old out new : Option (List ℕ)) → goes_on turn ≡ false → Ready r'.lines rest → SoFar r n v b left mid old out
+    → Finds (Ok f) r r' mid rest → Takes turn n v b f v' b' out new → Session (status_of turn) left rest old new
+over_by turn f n v v' b b' r r' left mid rest old out new g y s t w = record {
+  read = s.found.read ++ t.read;
+  wrote = s.wrote ++ w.wrote;
+  consumed = reader.consumed_then s.items f r r' left mid rest s.found t;
+  appended = Appends-trans old out new s.wrote w.wrote s.appended w.appended;
+  ran = was_run turn;
+  concluded = told_over turn n v b f s.items left (s.found.read ++ t.read) s.wrote w.wrote s.says (over_of turn n v v' b b' f w.wrote g w.taken) (reader.behind_by f s.items r r' left mid rest y s.found t);
+  input = told_input turn n v v' b b' f s.items w.wrote r r' left mid rest g w.taken y s.found t;
 }
 
--- a session that goes on
-pub so_far_next : (now next : Now) (kept after_them bytes : List ℕ) (left mid rest old now_out new : Option (List ℕ))
-    → SoFar kept now left mid old now_out → Consumes mid rest bytes → Feeds turns.On now kept bytes next after_them now_out new → SoFar after_them next left rest old new
-so_far_next now next kept after_them bytes left mid rest old now_out new s c f = record {
-  read = s.read ++ bytes;
-  wrote = s.wrote ++ f.wrote;
-  consumed = Consumes-trans left mid rest s.read bytes s.consumed c;
-  appended = Appends-trans old now_out new s.wrote f.wrote s.appended f.appended;
-  fed = fed_then turns.On at_start now next [] kept after_them s.read bytes s.wrote f.wrote s.fed f.fed;
-}
-
-pub so_far_none : (left old : Option (List ℕ)) → SoFar [] at_start left left old old
-so_far_none left old = record {
-  read = [];
-  wrote = [];
-  consumed = Consumes-nil left;
-  appended = Appends-nil old;
-  fed = λ whole rest. refl;
-}
-
--- the input came to its end
-all_read : (left rest : Option (List ℕ)) (read : List ℕ) → Consumes left rest read → IsAtEnd rest → IfSome left (λ bytes. bytes ≡ read)
-all_read None rest read c e = tt
-all_read (Some bytes) None read c e = absurd c
-all_read (Some bytes) (Some ys) read c e = c ∙ ap (λ x. read ++ x) e ∙ append-nil read
-
-as_concluded : (st : Status) (bytes read w : List ℕ) → WasRun st → Finished st (bytes_say true at_start [] bytes) w → Concluded st bytes read w
-as_concluded statuses.Done bytes read w r f = f
-as_concluded statuses.Refused bytes read w r f = f
-as_concluded statuses.TooLong bytes read w r f = f
-as_concluded statuses.WriteFault bytes read w r f = f
-as_concluded statuses.ReadFault bytes read w r f = absurd f
-as_concluded statuses.Usage bytes read w r f = absurd f
-as_concluded statuses.NoMemory bytes read w r f = absurd f
-
-at_end : (st : Status) (now : Now) (kept read v w : List ℕ) → Fed turns.On at_start [] read now kept v → Finished st (bytes_say true now kept []) w
-    → Finished st (bytes_say true at_start [] read) (v ++ w)
-at_end st now kept read v w f h =
-    finished_after st _ _ v w (ap (bytes_say true at_start []) (sym (append-nil read)) ∙ f true []) h
-
-told_end : (st : Status) (left : Option (List ℕ)) (now : Now) (kept read v w : List ℕ) → WasRun st → IfSome left (λ bytes. bytes ≡ read)
-    → Fed turns.On at_start [] read now kept v → Finished st (bytes_say true now kept []) w → IfSome left (λ bytes. Concluded st bytes read (v ++ w))
-told_end st None now kept read v w r e f h = tt
-told_end st (Some bytes) now kept read v w r e f h =
-    as_concluded st bytes read (v ++ w) r (subst (λ b. Finished st (bytes_say true at_start [] b) (v ++ w)) (sym e) (at_end st now kept read v w f h))
-
-pub session_end : (st : Status) (now : Now) (kept : List ℕ) (left mid rest old now_out new : Option (List ℕ))
-    → SoFar kept now left mid old now_out → Consumes mid rest [] → IsAtEnd rest → Finishes st now kept now_out new → Session st left rest old new
-session_end st now kept left mid rest old now_out new s c e f =
-    let d = Consumes-trans left mid rest s.read [] s.consumed c in
-    let n = append-nil s.read in
-    let k : Consumes left rest s.read = subst (Consumes left rest) n d in
-    record {
-      read = s.read;
-      wrote = s.wrote ++ f.wrote;
-      consumed = k;
-      appended = Appends-trans old now_out new s.wrote f.wrote s.appended f.appended;
-      ran = f.ran;
-      concluded = told_end st left now kept s.read s.wrote f.wrote f.ran (all_read left rest s.read k e) s.fed f.finished;
-    }
+pub session_over : (st : Status) (turn : Turn) (f : Found) (n k : ℕ) (v v' : State) (b b' : Block) (r r' : Items) (left mid rest old out new : Option (List ℕ)) → st ≡ status_of turn → goes_on turn ≡ false → k ≡ n → Ready r'.lines rest
+    → SoFar r k v b left mid old out → Finds (Ok f) r r' mid rest → Takes turn n v b f v' b' out new → Session st left rest old new
+session_over st turn f n k v v' b b' r r' left mid rest old out new h g e y s t w =
+    subst (λ x. Session x left rest old new) (sym h) (over_by turn f n v v' b b' r r' left mid rest old out new g y (subst (λ x. SoFar r x v b left mid old out) e s) t w)
 
 -- the source failed
-broken : (now : Now) (kept : List ℕ) → bytes_say false now kept [] ≡ saying [] Open
-unfolding bytes_say lines_say items_say text
-broken now [] = refl
-broken now (b ∷ bs) = refl
+told_fault : (x : Failed) (n : ℕ) (v : State) (b : Block) (es : List Item) (left : Option (List ℕ)) (read w : List ℕ) → ((behind : List Item) → said (stepped (es ++ behind)) ≡ after w (items_say n v b behind))
+    → IfSome left (λ bytes. AllFound (Err x) es bytes read) → IfSome left (λ bytes. Concluded statuses.ReadFault bytes read w)
+told_fault x n v b es None read w s a = tt
+told_fault x n v b es (Some bytes) read w s a =
+    ap (λ i. said (stepped i)) (a ∙ sym (append-nil es)) ∙ s [] ∙ ap (after w) (says_nothing n v b) ∙ ap (λ t. saying t Open) (append-nil w)
 
-told_broken : (left : Option (List ℕ)) (now : Now) (kept read w : List ℕ) → Fed turns.On at_start [] read now kept w
-    → IfSome left (λ bytes. bytes_say false at_start [] read ≡ saying w Open)
-told_broken None now kept read w f = tt
-told_broken (Some bytes) now kept read w f =
-    ap (bytes_say false at_start []) (sym (append-nil read)) ∙ f false [] ∙ ap (after w) (broken now kept) ∙ ap (λ x. saying x Open) (append-nil w)
+pub session_fault : (x : Failed) (n : ℕ) (v : State) (b : Block) (r r' : Items) (left mid rest old out : Option (List ℕ)) → SoFar r n v b left mid old out → Finds (Err x) r r' mid rest → Session statuses.ReadFault left rest old out
+session_fault x n v b r r' left mid rest old out s t =
+    let e = reader.ended_broken x s.items r r' left mid rest s.found t in
+    record {
+      read = e.read;
+      wrote = s.wrote;
+      consumed = e.consumed;
+      appended = s.appended;
+      ran = tt;
+      concluded = told_fault x n v b s.items left e.read s.wrote s.says e.all;
+      input = λ k. cc;
+    }
 
-pub session_fault : (now : Now) (kept : List ℕ) (left mid rest old new : Option (List ℕ)) → SoFar kept now left mid old new → Keeps mid rest
-    → Session statuses.ReadFault left rest old new
-session_fault now kept left mid rest old new s k = record {
-  read = s.read;
-  wrote = s.wrote;
-  consumed = Consumes-kept left mid rest s.read s.consumed k;
-  appended = s.appended;
-  ran = tt;
-  concluded = told_broken left now kept s.read s.wrote s.fed;
-}
-
--- what is said of a session's bytes is `stepped` of its events
-pub says_stepped : (bytes : List ℕ) → bytes_say true at_start [] bytes ≡ said (stepped (events_of bytes))
-unfolding bytes_say lines_say items_say events_of
-says_stepped bytes = refl
-
-pub says_whole : (bytes : List ℕ) → bytes_say false at_start [] bytes ≡ said (stepped (whole_events_of bytes))
-unfolding bytes_say lines_say items_say whole_events_of
-says_whole bytes = refl
+-- a session that is done was read to END or to the end of its input
+pub ended_input : (st : Status) (left rest old new : Option (List ℕ)) → Session st left rest old new → st ≡ statuses.Done → IfSome left (λ bytes. ReadOut bytes rest)
+ended_input st left rest old new s e = s.input e

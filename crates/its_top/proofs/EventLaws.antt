@@ -92,7 +92,7 @@ refuses n v c v' b b' e r h items = says_by n v c b e (Done (Refuses r)) items h
 
 pub ends : (n : ℕ) (v v' : State) (b b' : Block) → Answers turns.Ended n v b events.End v' b' []
 unfolding text
-ends n v v' b b' items = says_by n v v b events.End (Done Quits) items (end_comes v b)
+ends n v v' b b' = (refl, λ items. says_by n v v b events.End (Done Quits) items (end_comes v b))
 
 -- a write that failed
 begins_after : (v w more : List ℕ) (s t : Says) → s ≡ after v t → v ≡ w ++ more → Begins s w

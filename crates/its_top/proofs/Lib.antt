@@ -1,14 +1,8 @@
 pub mod EventLaws
-pub mod LineLaws
-pub mod ByteLaws
 pub mod ConclusionLaws
 pub mod AnswerLaws
 pub mod ExamLaws
 pub mod TopLaws
-pub mod SessionLaws
-pub mod FeedLaws
-pub mod FinishLaws
-pub mod LinedLaws
 pub mod PaceLaws
 pub mod LoadingLaws
 pub mod ConsoleLaws

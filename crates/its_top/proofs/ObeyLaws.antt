@@ -1,9 +1,10 @@
 -- From what the program did for a command to the promises of the top call.
-use Rattle.std.specs.Prelude.{◌≡◌, ◌≢◌, ◌⊎◌, ℕ, ◌+◌, false, Option, Some, None, IfSome, List, refl}
+use Rattle.std.specs.Prelude.{◌≡◌, ◌≢◌, ◌⊎◌, ℕ, ◌+◌, true, false, Option, Some, None, IfSome, List, refl}
 use Rattle.std.proofs.Common.{sym, ◌∙◌, ap, subst, arith, inl, inr}
 use Rattle.std.specs.Io.KnownBytes.{Appends}
 use Rattle.its_print.specs.Printing.{text}
 use Rattle.its_session.specs.Events.{events_of}
+use Rattle.its_reader.specs.Items.{ReadOut}
 use Rattle.its_stepped.specs.Lines.{stepped}
 use Rattle.its_top.specs.declared.status.Status.{Status}
 use Rattle.its_top.specs.declared.status.Status.TheVariants as statuses
@@ -16,8 +17,7 @@ use Rattle.its_top.specs.Commands.{reads, IfGenerates}
 use Rattle.its_top.specs.Checking.{checked, checked_text, Passes, Fails, GoesOn, StatusFor, WroteText, CheckOf, Check}
 use Rattle.its_top.specs.Generating.{generated_text}
 use Rattle.its_top.specs.Top.{usage, Transcribed, Completes, Refuses, RunsOn, Breaks, Begins, CheckPasses, CheckFails, CheckRunsOn, CheckBreaks, DoneFor, Obeyed}
-use Rattle.its_top.proofs.TopLaws.{session_done, session_refused, session_too_long, session_breaks, session_begins, session_written, session_transcribed, session_complete}
-use Rattle.its_top.proofs.CheckingLaws.{checked_is, checked_whole}
+use Rattle.its_top.proofs.TopLaws.{session_done, session_refused, session_too_long, session_breaks, session_begins, session_written, session_transcribed, one_of, session_complete}
 
 -- what the commands came to
 as_obeys : (c : Option Command) (st : Status) (left rest old new : Option (List ℕ)) → st ≢ statuses.NoMemory → DoneFor c st left rest old new → Obeyed c st left rest old new
@@ -86,16 +86,17 @@ pub run_begins : (d : Option Command) (st : Status) (left rest old new : Option 
     → IfSome left (λ bytes. Begins (text (stepped (events_of bytes)).lines) old new)
 run_begins d st left rest old new o c e = session_begins st left rest old new e (done_for d (Some commands.Run) st left rest old new o c (λ k. cc))
 
-ended : (st : Status) → (st ≡ statuses.Done) ⊎ (st ≡ statuses.Refused) → st ≢ statuses.NoMemory
-ended st (inl e) k = cc
+ended : (st : Status) → ((st ≡ statuses.Done) ⊎ (st ≡ statuses.Refused)) ⊎ (st ≡ statuses.TooLong) → st ≢ statuses.NoMemory
+ended st (inl (inl e)) k = cc
+ended st (inl (inr e)) k = cc
 ended st (inr e) k = cc
 
-pub run_written : (d : Option Command) (st : Status) (left rest old new : Option (List ℕ)) → Obeyed d st left rest old new → d ≡ Some commands.Run → (st ≡ statuses.Done) ⊎ (st ≡ statuses.Refused)
-    → IfSome left (λ bytes. Appends old new (text (stepped (events_of bytes)).lines))
+pub run_written : (d : Option Command) (st : Status) (left rest old new : Option (List ℕ)) → Obeyed d st left rest old new → d ≡ Some commands.Run
+    → ((st ≡ statuses.Done) ⊎ (st ≡ statuses.Refused)) ⊎ (st ≡ statuses.TooLong) → IfSome left (λ bytes. Appends old new (text (stepped (events_of bytes)).lines))
 run_written d st left rest old new o c e = session_written st left rest old new e (done_for d (Some commands.Run) st left rest old new o c (ended st e))
 
-pub run_transcribed : (d : Option Command) (st : Status) (left rest old new : Option (List ℕ)) → Obeyed d st left rest old new → d ≡ Some commands.Run → (st ≡ statuses.Done) ⊎ (st ≡ statuses.Refused)
-    → IfSome left (λ bytes. Transcribed bytes old new)
+pub run_transcribed : (d : Option Command) (st : Status) (left rest old new : Option (List ℕ)) → Obeyed d st left rest old new → d ≡ Some commands.Run
+    → ((st ≡ statuses.Done) ⊎ (st ≡ statuses.Refused)) ⊎ (st ≡ statuses.TooLong) → IfSome left (λ bytes. Transcribed st bytes old new)
 run_transcribed d st left rest old new o c e = session_transcribed st left rest old new e (done_for d (Some commands.Run) st left rest old new o c (ended st e))
 
 if_all : (left : Option (List ℕ)) (P : List ℕ → Type 0) → ((b : List ℕ) → P b) → IfSome left P
@@ -116,6 +117,14 @@ run_complete d st left rest old new sf tf kf lf o r w c e f =
     if_then left (λ bytes. IsDone (stepped (events_of bytes)).fate → st ≡ statuses.Done) _ (λ b h i. inl (h i))
     (session_complete st left rest old new (λ k. unrisen tf sf e (r k)) (λ k. unrisen lf kf f (w k)) (done_for d (Some commands.Run) st left rest old new o c (λ k. cc)))
 
+pub run_answered : (d : Option Command) (st : Status) (left rest old new : Option (List ℕ)) (sf tf kf lf : ℕ) → Obeyed d st left rest old new → (st ≡ statuses.ReadFault → tf ≡ sf + 1) → (st ≡ statuses.WriteFault → lf ≡ kf + 1)
+    → d ≡ Some commands.Run → tf ≡ sf → lf ≡ kf → IfSome left (λ bytes. Transcribed st bytes old new ⊎ (st ≡ statuses.NoMemory))
+run_answered d statuses.NoMemory left rest old new sf tf kf lf o r w c e f = if_all left _ (λ b. inr refl)
+run_answered d st left rest old new sf tf kf lf o r w c e f =
+    let s = done_for d (Some commands.Run) st left rest old new o c (λ k. cc) in
+    if_then left (λ bytes. Transcribed st bytes old new) _ (λ b h. inl h)
+    (session_transcribed st left rest old new (one_of st left rest old new (λ k. unrisen tf sf e (r k)) (λ k. unrisen lf kf f (w k)) s) s)
+
 -- check
 check_of : (st good : Status) (left rest old new : Option (List ℕ)) → st ≡ good → Check st left rest old new → Check good left rest old new
 check_of st good left rest old new e c = subst (λ x. Check x left rest old new) e c
@@ -128,24 +137,24 @@ pub check_done : (d : Option Command) (st : Status) (left rest old new : Option 
 check_done d st left rest old new o c e =
     let k = found_as st statuses.Done d left rest old new o c e (λ k. cc) in
     if_then left (λ bytes. CheckOf statuses.Done bytes k.read k.wrote) (λ bytes. CheckPasses bytes old new)
-    (λ bytes f. record { passes = subst Passes (checked_is bytes) f.0; wrote = subst (Appends old new) (sym f.1 ∙ ap checked_text (checked_is bytes)) k.appended }) k.found
+    (λ bytes f. record { passes = f.0; wrote = subst (Appends old new) (sym f.1) k.appended }) k.found
 
 pub check_refused : (d : Option Command) (st : Status) (left rest old new : Option (List ℕ)) → Obeyed d st left rest old new → d ≡ Some commands.Check → st ≡ statuses.Refused → IfSome left (λ bytes. CheckFails bytes old new)
 check_refused d st left rest old new o c e =
     let k = found_as st statuses.Refused d left rest old new o c e (λ k. cc) in
     if_then left (λ bytes. CheckOf statuses.Refused bytes k.read k.wrote) (λ bytes. CheckFails bytes old new)
-    (λ bytes f. record { fails = subst Fails (checked_is bytes) f.0; wrote = subst (Appends old new) (sym f.1 ∙ ap checked_text (checked_is bytes)) k.appended }) k.found
+    (λ bytes f. record { fails = f.0; wrote = subst (Appends old new) (sym f.1) k.appended }) k.found
 
 pub check_too_long : (d : Option Command) (st : Status) (left rest old new : Option (List ℕ)) → Obeyed d st left rest old new → d ≡ Some commands.Check → st ≡ statuses.TooLong → IfSome left (λ bytes. CheckRunsOn bytes old new)
 check_too_long d st left rest old new o c e =
     let k = found_as st statuses.TooLong d left rest old new o c e (λ k. cc) in
     if_then left (λ bytes. CheckOf statuses.TooLong bytes k.read k.wrote) (λ bytes. CheckRunsOn bytes old new)
-    (λ bytes f. record { beyond = sym (checked_is bytes) ∙ f.0; wrote = subst (Appends old new) f.1 k.appended }) k.found
+    (λ bytes f. record { beyond = f.0; wrote = subst (Appends old new) f.1 k.appended }) k.found
 
 told_breaks : (left rest old new : Option (List ℕ)) (k : Check statuses.ReadFault left rest old new) → IfSome left (λ bytes. CheckBreaks bytes rest old new)
 told_breaks None rest old new k = tt
 told_breaks (Some bytes) rest old new k =
-    record { read = k.read; consumed = k.consumed; goes_on = subst GoesOn (checked_whole k.read) k.found.0; wrote = subst (Appends old new) k.found.1 k.appended }
+    record { read = k.read; consumed = k.consumed; goes_on = k.found.0; wrote = subst (Appends old new) k.found.1 k.appended }
 
 pub check_breaks : (d : Option Command) (st : Status) (left rest old new : Option (List ℕ)) → Obeyed d st left rest old new → d ≡ Some commands.Check → st ≡ statuses.ReadFault → IfSome left (λ bytes. CheckBreaks bytes rest old new)
 check_breaks d st left rest old new o c e = told_breaks left rest old new (found_as st statuses.ReadFault d left rest old new o c e (λ k. cc))
@@ -155,7 +164,7 @@ pub check_begins : (d : Option Command) (st : Status) (left rest old new : Optio
 check_begins d st left rest old new o c e =
     let k = found_as st statuses.WriteFault d left rest old new o c e (λ k. cc) in
     if_then left (λ bytes. CheckOf statuses.WriteFault bytes k.read k.wrote) (λ bytes. Begins (checked_text (checked (events_of bytes))) old new)
-    (λ bytes f. record { first = k.wrote; more = f.0; whole = ap checked_text (sym (checked_is bytes)) ∙ f.1; wrote = k.appended }) k.found
+    (λ bytes f. record { first = k.wrote; more = f.0; whole = f.1; wrote = k.appended }) k.found
 
 not_failed : (c : Checked) → Passes c → Fails c → ⊥
 not_failed c p f = by c p f
@@ -168,8 +177,8 @@ not_failed c p f = by c p f
 
 passing : (st : Status) (bytes read w : List ℕ) → st ≢ statuses.ReadFault → st ≢ statuses.WriteFault → WasRun st → CheckOf st bytes read w → Passes (checked (events_of bytes)) → st ≡ statuses.Done
 passing statuses.Done bytes read w r k run f p = refl
-passing statuses.Refused bytes read w r k run f p = absurd (not_failed (checked (events_of bytes)) p (subst Fails (checked_is bytes) f.0))
-passing statuses.TooLong bytes read w r k run f p = absurd (subst Passes (sym (checked_is bytes) ∙ f.0) p)
+passing statuses.Refused bytes read w r k run f p = absurd (not_failed (checked (events_of bytes)) p (f.0))
+passing statuses.TooLong bytes read w r k run f p = absurd (subst Passes (f.0) p)
 passing statuses.ReadFault bytes read w r k run f p = absurd (r refl)
 passing statuses.WriteFault bytes read w r k run f p = absurd (k refl)
 passing statuses.Usage bytes read w r k run f p = absurd run
@@ -260,6 +269,16 @@ usage_ends statuses.TooLong left rest old new o = inl (inl o.obeys.0.complete.0)
 pub none_obeyed : (d : Option Command) (st : Status) (left rest old new : Option (List ℕ)) → Obeyed d st left rest old new → d ≡ None
     → ((st ≡ statuses.Usage) ⊎ (st ≡ statuses.WriteFault)) ⊎ (st ≡ statuses.NoMemory)
 none_obeyed d st left rest old new o c = usage_ends st left rest old new (subst (λ x. Obeyed x st left rest old new) c o)
+
+-- a session that was read, and is done
+by_input : (d : Option Command) (left rest old new : Option (List ℕ)) → Obeyed d statuses.Done left rest old new → reads d ≡ true → IfSome left (λ bytes. ReadOut bytes rest)
+by_input None left rest old new o r = cc
+by_input (Some commands.Run) left rest old new o r = o.obeys.input refl
+by_input (Some commands.Check) left rest old new o r = o.obeys.input refl
+by_input (Some (commands.Gen n)) left rest old new o r = cc
+
+pub input_read : (d : Option Command) (st : Status) (left rest old new : Option (List ℕ)) → Obeyed d st left rest old new → reads d ≡ true → st ≡ statuses.Done → IfSome left (λ bytes. ReadOut bytes rest)
+input_read d st left rest old new o r e = by_input d left rest old new (subst (λ x. Obeyed d x left rest old new) e o) r
 
 -- a command that reads nothing
 left_alone : (d : Option Command) (st : Status) (left rest old new : Option (List ℕ)) → reads d ≡ false → st ≢ statuses.NoMemory → Obeyed d st left rest old new → rest ≡ left

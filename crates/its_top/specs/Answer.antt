@@ -21,15 +21,11 @@ use Rattle.its_operator.specs.Kept.{reason_of}
 use Rattle.its_top.specs.declared.turn.Turn.{Turn}
 use Rattle.its_top.specs.declared.turn.Turn.TheVariants as turns
 use Rattle.its_top.specs.declared.progress.Progress.{Progress}
-use Rattle.its_top.specs.Telling.{Now, Answers, Lines}
+use Rattle.its_top.specs.Telling.{Answers}
 
 -- the block of the slot that the last LOAD line made, and of the file that the last FILE line made
 abbrev pub block_of : ℕ → Names → Block
 block_of s f = record { slot = s; file = f }
-
--- the session between two lines
-abbrev pub now_of : Monitor → Progress → Now
-now_of m p = record { number = p.number; state = state_of m.world; block = block_of p.slot p.file; place = p.place }
 
 -- these bytes were to be written, after which the turn would have been `good`
 abbrev pub WroteFor : Turn → Turn → List ℕ → List ℕ → Type 0
@@ -50,12 +46,6 @@ pub record Answered (turn : Turn) (n : ℕ) (v : State) (b : Block) (e : Event) 
 abbrev pub Settled : {T : Type 0} → Result T Refusal → Turn → ℕ → Option (List ℕ) → Option (List ℕ) → Type 0
 Settled (Ok x) turn n old new = (turn ≡ turns.On) × (new ≡ old)
 Settled (Err e) turn n old new = Tells turn turns.Refused (text_of_line (Refused n (reason_of e))) old new
-
--- what a line did, with what the sink was given
-pub record Lined (turn : Turn) (now : Now) (line : List ℕ) (next : Now) (old new : Option (List ℕ)) : Type 0 where
-  pub wrote : List ℕ
-  pub appended : Appends old new wrote
-  pub lines : Lines turn now line next wrote
 
 -- words in front of those that are found
 abbrev pub behind : List ℕ → Result (List ℕ) Reason → Result (List ℕ) Reason

@@ -1,5 +1,5 @@
 -- What `its check` finds in a session: it looks at its lines by the grammar alone (docs/SESSION.md, "its check").
-use Rattle.std.specs.Prelude.{if◌then◌else◌, ◌≡◌, ℕ, ◌+◌, ◌-◌, Bool, true, false, Option, Some, None, IfSome, Result, Ok, Err, List, [], ◌∷◌, ◌++◌, codes}
+use Rattle.std.specs.Prelude.{if◌then◌else◌, ◌≡◌, ℕ, ◌+◌, ◌-◌, Bool, true, false, Option, Some, None, IfSome, IfOk, Result, Ok, Err, List, [], ◌∷◌, ◌++◌, codes}
 use Rattle.std.specs.Io.KnownBytes.{Appends, Consumes}
 use Rattle.its_io.specs.declared.stream.Failed.{Failed}
 use Rattle.its_word.specs.Item.{Item, Read, Unread}
@@ -7,10 +7,12 @@ use Rattle.its_word.specs.Item as items
 use Rattle.its_word.specs.declared.session.Place.TheVariants as places
 use Rattle.its_print.specs.Printing.{text_of_line}
 use Rattle.its_print.specs.Printing as printed
-use Rattle.its_session.specs.Events.{lines_from, items_from}
+use Rattle.its_session.specs.Events.{events_of, whole_events_of}
+use Rattle.its_reader.specs.declared.items.Found.{Found}
+use Rattle.its_reader.specs.declared.items.Items.{Items}
+use Rattle.its_reader.specs.Items.{is_last, last_items, FoundSoFar, ReadOut}
 use Rattle.its_top.specs.declared.checking.Checked.{Checked}
 use Rattle.its_top.specs.declared.checking.Checked.TheVariants.{Ended, Open, Refused, Beyond}
-use Rattle.its_top.specs.declared.checking.Reached.{Reached}
 use Rattle.its_top.specs.declared.status.Status.{Status}
 use Rattle.its_top.specs.declared.status.Status.TheVariants as statuses
 use Rattle.its_top.specs.Counts.{count_line}
@@ -56,42 +58,27 @@ GoesOn (Ended n) = ⊥
 GoesOn (Refused n r) = ⊥
 GoesOn Beyond = ⊥
 
--- the lines from some point on; `whole` tells that the input ends with them
-unfoldable pub lines_check : Bool → Reached → List (List ℕ) → Checked
-lines_check whole at lines = checked_from at.number (items_from whole at.number at.place lines)
+-- what was found comes to this: nothing yet, or the end of the check
+abbrev pub CheckedBy : Option Checked → ℕ → Found → Type 0
+CheckedBy None n f = (is_last f ≡ false) × ((behind : List Item) → checked_from n (last_items f ++ behind) ≡ checked_from (n + 1) behind)
+CheckedBy (Some c) n f = (is_last f ≡ true) × (checked_from n (last_items f) ≡ c)
 
--- the bytes from some point on, where some are kept of a line that has begun
-unfoldable pub bytes_check : Bool → Reached → List ℕ → List ℕ → Checked
-bytes_check whole at kept bytes = lines_check whole at (lines_from whole kept bytes)
-
-abbrev pub first_line : Reached
-first_line = record { number = 1; place = places.Plain }
-
--- what a line came to: nothing yet, or the end of the check
-abbrev pub LineChecked : Option Checked → Reached → List ℕ → Reached → Type 0
-LineChecked None at line next = (whole : Bool) (rest : List (List ℕ)) → lines_check whole at (line ∷ rest) ≡ lines_check whole next rest
-LineChecked (Some c) at line next = (whole : Bool) (rest : List (List ℕ)) → lines_check whole at (line ∷ rest) ≡ c
-
--- what some bytes came to
-abbrev pub BytesChecked : Option Checked → Reached → List ℕ → List ℕ → Reached → List ℕ → Type 0
-BytesChecked None at kept bytes next left = (whole : Bool) (rest : List ℕ) → bytes_check whole at kept (bytes ++ rest) ≡ bytes_check whole next left rest
-BytesChecked (Some c) at kept bytes next left = (rest : List ℕ) → bytes_check true at kept (bytes ++ rest) ≡ c
-
--- bytes were read that leave the check here
-pub record CheckedSoFar (kept : List ℕ) (at : Reached) (left rest : Option (List ℕ)) : Type 0 where
-  pub read : List ℕ
-  pub consumed : Consumes left rest read
-  pub so_far : BytesChecked None first_line [] read at kept
+-- a check so far: the items that were found, before line number n is looked at
+pub record CheckSoFar (r : Items) (n : ℕ) (left rest : Option (List ℕ)) : Type 0 where
+  pub items : List Item
+  pub found : FoundSoFar items r left rest
+  pub checks : (behind : List Item) → checked (items ++ behind) ≡ checked_from n behind
 
 -- what was found in the bytes of a source, or in those that were read before it failed
 abbrev pub FoundIn : Result Checked Failed → List ℕ → List ℕ → Type 0
-FoundIn (Ok c) bytes read = bytes_check true first_line [] bytes ≡ c
-FoundIn (Err e) bytes read = GoesOn (bytes_check false first_line [] read)
+FoundIn (Ok c) bytes read = checked (events_of bytes) ≡ c
+FoundIn (Err e) bytes read = GoesOn (checked (whole_events_of read))
 
-pub record Found (result : Result Checked Failed) (left rest : Option (List ℕ)) : Type 0 where
+pub record Finding (result : Result Checked Failed) (left rest : Option (List ℕ)) : Type 0 where
   pub read : List ℕ
   pub consumed : Consumes left rest read
   pub found : IfSome left (λ bytes. FoundIn result bytes read)
+  pub input : IfOk result (λ c. Passes c → IfSome left (λ bytes. ReadOut bytes rest))
 
 -- these bytes were to be written, after which the status would have been `good`
 abbrev pub StatusFor : Status → Status → List ℕ → List ℕ → Type 0
@@ -121,8 +108,8 @@ pub record Reported (status : Status) (c : Checked) (old new : Option (List ℕ)
 
 -- a check of these bytes, of which some were read, has this status, and wrote w
 abbrev pub CheckOf : Status → List ℕ → List ℕ → List ℕ → Type 0
-CheckOf statuses.ReadFault bytes read w = GoesOn (bytes_check false first_line [] read) × (w ≡ [])
-CheckOf status bytes read w = CheckedAs status (bytes_check true first_line [] bytes) w
+CheckOf statuses.ReadFault bytes read w = GoesOn (checked (whole_events_of read)) × (w ≡ [])
+CheckOf status bytes read w = CheckedAs status (checked (events_of bytes)) w
 
 -- how a check ended, from what its source had left and had left then, and from what its sink was given
 pub record Check (status : Status) (left rest old new : Option (List ℕ)) : Type 0 where
@@ -132,3 +119,4 @@ pub record Check (status : Status) (left rest old new : Option (List ℕ)) : Typ
   pub appended : Appends old new wrote
   pub ran : WasRun status
   pub found : IfSome left (λ bytes. CheckOf status bytes read wrote)
+  pub input : status ≡ statuses.Done → IfSome left (λ bytes. ReadOut bytes rest)

@@ -1,12 +1,20 @@
 -- How a session ends, and what it has written then.
-use Rattle.std.specs.Prelude.{◌≡◌, ℕ, true, false, Option, IfSome, List, []}
+use Rattle.std.specs.Prelude.{◌≡◌, ℕ, ◌+◌, true, false, Option, IfSome, List, [], ◌++◌}
 use Rattle.std.specs.Io.KnownBytes.{Appends, Consumes}
+use Rattle.its_word.specs.Item.{Item}
+use Rattle.its_session.specs.Events.{events_of, whole_events_of}
+use Rattle.its_reader.specs.declared.items.Found.{Found}
+use Rattle.its_reader.specs.declared.items.Items.{Items}
+use Rattle.its_reader.specs.Items.{is_last, is_end, last_items, FoundSoFar, ReadOut}
+use Rattle.its_plain.specs.Operator.{Block}
 use Rattle.its_plain.specs.Transcript.{Fate, Ended, Open, Lost, TooLong}
+use Rattle.its_stepped.specs.State.{State}
+use Rattle.its_stepped.specs.Lines.{stepped}
 use Rattle.its_top.specs.declared.status.Status.{Status}
 use Rattle.its_top.specs.declared.status.Status.TheVariants as statuses
 use Rattle.its_top.specs.declared.turn.Turn.{Turn}
 use Rattle.its_top.specs.declared.turn.Turn.TheVariants as turns
-use Rattle.its_top.specs.Telling.{Now, at_start, Says, saying, Begins, bytes_say, Fed}
+use Rattle.its_top.specs.Telling.{Says, said, after, saying, Begins, items_say}
 
 -- no line was refused, and none past the most began
 abbrev pub IsDone : Fate → Type 0
@@ -27,13 +35,8 @@ Finished statuses.NoMemory s w = ⊥
 
 -- a session of these bytes, of which some were read, has this status, and wrote w
 abbrev pub Concluded : Status → List ℕ → List ℕ → List ℕ → Type 0
-Concluded statuses.ReadFault bytes read w = bytes_say false at_start [] read ≡ saying w Open
-Concluded statuses.Done bytes read w = Finished statuses.Done (bytes_say true at_start [] bytes) w
-Concluded statuses.Refused bytes read w = Finished statuses.Refused (bytes_say true at_start [] bytes) w
-Concluded statuses.TooLong bytes read w = Finished statuses.TooLong (bytes_say true at_start [] bytes) w
-Concluded statuses.WriteFault bytes read w = Finished statuses.WriteFault (bytes_say true at_start [] bytes) w
-Concluded statuses.Usage bytes read w = ⊥
-Concluded statuses.NoMemory bytes read w = ⊥
+Concluded statuses.ReadFault bytes read w = said (stepped (whole_events_of read)) ≡ saying w Open
+Concluded st bytes read w = Finished st (said (stepped (events_of bytes))) w
 
 -- a session was begun and ended so
 abbrev pub WasRun : Status → Type 0
@@ -53,27 +56,15 @@ pub record Session (status : Status) (left rest old new : Option (List ℕ)) : T
   pub appended : Appends old new wrote
   pub ran : WasRun status
   pub concluded : IfSome left (λ bytes. Concluded status bytes read wrote)
+  pub input : status ≡ statuses.Done → IfSome left (λ bytes. ReadOut bytes rest)
 
--- a session so far
-pub record SoFar (kept : List ℕ) (now : Now) (left rest old new : Option (List ℕ)) : Type 0 where
-  pub read : List ℕ
-  pub wrote : List ℕ
-  pub consumed : Consumes left rest read
-  pub appended : Appends old new wrote
-  pub fed : Fed turns.On at_start [] read now kept wrote
-
--- what some bytes did, with what the sink was given
-pub record Feeds (turn : Turn) (now : Now) (kept bytes : List ℕ) (next : Now) (left : List ℕ) (old new : Option (List ℕ)) : Type 0 where
+-- a session so far: the items that were found, and what is written of them before line number n is taken
+pub record SoFar (r : Items) (n : ℕ) (v : State) (b : Block) (left rest old new : Option (List ℕ)) : Type 0 where
+  pub items : List Item
+  pub found : FoundSoFar items r left rest
   pub wrote : List ℕ
   pub appended : Appends old new wrote
-  pub fed : Fed turn now kept bytes next left wrote
-
--- how the end of input ended a session, with what the sink was given
-pub record Finishes (status : Status) (now : Now) (kept : List ℕ) (old new : Option (List ℕ)) : Type 0 where
-  pub wrote : List ℕ
-  pub appended : Appends old new wrote
-  pub ran : WasRun status
-  pub finished : Finished status (bytes_say true now kept []) wrote
+  pub says : (behind : List Item) → said (stepped (items ++ behind)) ≡ after wrote (items_say n v b behind)
 
 abbrev pub status_of : Turn → Status
 status_of turns.On = statuses.Done
@@ -81,3 +72,19 @@ status_of turns.Ended = statuses.Done
 status_of turns.Refused = statuses.Refused
 status_of turns.Beyond = statuses.TooLong
 status_of turns.Fault = statuses.WriteFault
+
+-- what was found ended the session, whatever comes behind it
+abbrev pub Over : Turn → ℕ → State → Block → Found → List ℕ → Type 0
+Over turn n v b f w = (behind : List Item) → (is_last f ≡ true → behind ≡ []) → Finished (status_of turn) (items_say n v b (last_items f ++ behind)) w
+
+-- what was found did this, and wrote w: the session goes on with another state and block, or it is over
+abbrev pub TakenBy : Turn → ℕ → State → Block → Found → State → Block → List ℕ → Type 0
+TakenBy turns.On n v b f v' b' w = (is_last f ≡ false) × ((behind : List Item) → items_say n v b (last_items f ++ behind) ≡ after w (items_say (n + 1) v' b' behind))
+TakenBy turns.Ended n v b f v' b' w = (is_end f ≡ true) × Over turns.Ended n v b f w
+TakenBy turn n v b f v' b' w = Over turn n v b f w
+
+-- the same, with what the sink was given
+pub record Takes (turn : Turn) (n : ℕ) (v : State) (b : Block) (f : Found) (v' : State) (b' : Block) (old new : Option (List ℕ)) : Type 0 where
+  pub wrote : List ℕ
+  pub appended : Appends old new wrote
+  pub taken : TakenBy turn n v b f v' b' wrote

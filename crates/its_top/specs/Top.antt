@@ -3,7 +3,7 @@ use Rattle.std.specs.Prelude.{◌≡◌, ℕ, Option, Some, None, List, [], ◌+
 use Rattle.std.specs.Io.KnownBytes.{Appends, Consumes}
 use Rattle.its_print.specs.Printing.{Line, text}
 use Rattle.its_session.specs.Events.{events_of, whole_events_of}
-use Rattle.its_plain.specs.Transcript.{Fate, Open, Lost, TooLong, Transcript}
+use Rattle.its_plain.specs.Transcript.{Fate, Open, Lost, TooLong, Transcript, Ended}
 use Rattle.its_plain.specs.Ledger.{Ledger}
 use Rattle.its_plain.specs.Stretch.{Stretches}
 use Rattle.its_stepped.specs.Lines.{stepped}
@@ -19,12 +19,20 @@ use Rattle.its_top.specs.Generating.{generated_text}
 abbrev pub usage : List ℕ
 usage = codes "usage: its run | its check | its gen N\n"
 
--- what was written is the text of lines that are a transcript of the session of these bytes, and along whose run the ledger
--- of each console holds, and each stretch of a transfer moves its bytes once and in order
-pub record Transcribed (bytes : List ℕ) (old new : Option (List ℕ)) : Type 0 where
+-- the answer to a session that ends so
+abbrev pub answer_of : Fate → Status
+answer_of Ended = statuses.Done
+answer_of Open = statuses.Done
+answer_of Lost = statuses.Refused
+answer_of TooLong = statuses.TooLong
+
+-- what was written is the text of lines that are a transcript of the session of these bytes, whose end this is the answer to,
+-- and along whose run the ledger of each console holds, and each stretch of a transfer moves its bytes once and in order
+pub record Transcribed (status : Status) (bytes : List ℕ) (old new : Option (List ℕ)) : Type 0 where
   pub lines : List Line
   pub fate : Fate
   pub transcript : Transcript (events_of bytes) lines fate
+  pub answer : status ≡ answer_of fate
   pub ledger : Ledger (events_of bytes) lines
   pub stretches : Stretches (events_of bytes) lines
   pub wrote : Appends old new (text lines)

@@ -39,7 +39,7 @@ fn load<K: Sink>(
     ensures answered { Answered result p.old.number (state_of m.old.world) (block_of p.old.slot p.old.file) (Event.Load u j console) (state_of m.new.world) (block_of p.new.slot p.new.file) (K.written out.old) (K.written out.new) }
     ensures sound { Kept m.new.world }
     ensures slot { p.old.slot < slots → p.new.slot < slots }
-    ensures kept { (p.new.number ≡ p.old.number) × (p.new.place ≡ p.old.place) }
+    ensures kept { p.new.number ≡ p.old.number }
     ensures later { K.faults out.old ≤ K.faults out.new }
     ensures unfailed { result ≢ Turn.Fault → K.faults out.new ≡ K.faults out.old }
     ensures fault { result ≡ Turn.Fault → K.faults out.new ≡ next_fault (K.faults out.old) }
@@ -290,7 +290,7 @@ pub fn answer<K: Sink>(m: &mut Monitor, p: &mut Progress, event: &Event, out: &m
     ensures answered { Answered result p.old.number (state_of m.old.world) (block_of p.old.slot p.old.file) event.now (state_of m.new.world) (block_of p.new.slot p.new.file) (K.written out.old) (K.written out.new) }
     ensures sound { Kept m.new.world }
     ensures slot { p.new.slot < slots }
-    ensures kept { (p.new.number ≡ p.old.number) × (p.new.place ≡ p.old.place) }
+    ensures kept { p.new.number ≡ p.old.number }
     ensures later { K.faults out.old ≤ K.faults out.new }
     ensures unfailed { result ≢ Turn.Fault → K.faults out.new ≡ K.faults out.old }
     ensures fault { result ≡ Turn.Fault → K.faults out.new ≡ next_fault (K.faults out.old) }

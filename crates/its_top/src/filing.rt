@@ -38,7 +38,7 @@ pub fn make_file<K: Sink>(
     requires sound { Kept m.old.world }
     ensures answered { Answered result p.old.number (state_of m.old.world) (block_of p.old.slot p.old.file) (Event.File d x y) (state_of m.new.world) (block_of p.new.slot p.new.file) (K.written out.old) (K.written out.new) }
     ensures sound { Kept m.new.world }
-    ensures kept { (p.new.number ≡ p.old.number) × (p.new.place ≡ p.old.place) × (p.new.slot ≡ p.old.slot) }
+    ensures kept { (p.new.number ≡ p.old.number) × (p.new.slot ≡ p.old.slot) }
     ensures later { K.faults out.old ≤ K.faults out.new }
     ensures unfailed { result ≢ Turn.Fault → K.faults out.new ≡ K.faults out.old }
     ensures fault { result ≡ Turn.Fault → K.faults out.new ≡ next_fault (K.faults out.old) }

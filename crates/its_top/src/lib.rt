@@ -2,14 +2,12 @@
 #![tactic(auto)]
 
 mod answer;
-mod bytes;
 mod checking;
 mod commands;
 mod consoles;
 mod counts;
 mod filing;
 mod generating;
-mod lines;
 mod progress;
 mod run;
 mod status;

@@ -1,30 +1,46 @@
-ghost use Rattle.std.specs.Prelude.{◌≡◌, ◌≢◌, ◌≤◌, ◌<◌, ◌+◌, ◌-◌, ◌*◌, ◌^◌, [], length};
+ghost use Rattle.std.specs.Prelude.{◌≡◌, ◌≢◌, ◌≤◌, ◌<◌, ◌+◌, ◌-◌, ◌*◌, ◌^◌, ◌⊎◌, [], IfSome, length};
+ghost use Rattle.std.specs.Io.KnownBytes.{Appends};
 ghost use Rattle.its_io.specs.Bytes.{Rose, next_fault};
 ghost use Rattle.its_word.specs.Limits.{slots};
+ghost use Rattle.its_print.specs.Printing.{text};
+ghost use Rattle.its_session.specs.Events.{events_of};
 ghost use Rattle.its_plain.specs.Machine.{no_machine};
 ghost use Rattle.its_stepped.specs.State.{no_state};
+ghost use Rattle.its_stepped.specs.Lines.{stepped};
 ghost use Rattle.its_world.specs.World.{state_of};
 ghost use Rattle.its_operator.specs.Kept.{Kept};
-ghost use Rattle.its_top.specs.Telling.{at_start};
-ghost use Rattle.its_top.specs.Answer.{now_of};
-ghost use Rattle.its_top.specs.Conclusion.{Session};
+ghost use Rattle.its_reader.specs.Items.{found_fits, ReadOut};
+ghost use Rattle.its_top.specs.Answer.{block_of};
+ghost use Rattle.its_top.specs.Conclusion.{IsDone, Session, Takes};
+ghost use Rattle.its_top.specs.Top.{Transcribed, Completes, Refuses, RunsOn, Breaks, Begins};
 
-use super::bytes::{feed, finish, status_of};
+use super::answer::answer;
 use super::progress::Progress;
 use super::status::Status;
-use arrayvec::ArrayVec;
+use super::turn::Turn;
+use super::writing::refuse;
 use its_io::{Sink, Source};
 use its_monitor::Monitor;
-use its_word::{Place, Word};
+use its_reader::{Found, Items};
+use its_word::Word;
 
-/// Runs a session: reads it through a buffer of 512 bytes, keeps one line of it at most, and writes
-/// what each line shows before it looks at the next. It takes no memory. The monitor is as
+/// Runs a session: takes its items one by one, and writes what each line shows before it looks at the next. It takes no memory. The monitor is as
 /// `Monitor::open` gives it.
-#[tactic(auto, using(crate::proofs::SessionLaws::start_is))]
+#[tactic(auto, using(crate::proofs::ConclusionLaws::ended_input, crate::proofs::TopLaws::session_transcribed, crate::proofs::TopLaws::session_written, crate::proofs::TopLaws::session_done, crate::proofs::TopLaws::session_refused, crate::proofs::TopLaws::session_too_long, crate::proofs::TopLaws::session_breaks, crate::proofs::TopLaws::session_begins, crate::proofs::TopLaws::session_finishes, crate::proofs::TopLaws::session_answered))]
 pub fn session<S: Source, K: Sink>(m: &mut Monitor, src: &mut S, out: &mut K) -> Status
     requires machine { state_of m.old.world ≡ no_state no_machine }
     requires sound { Kept m.old.world }
     ensures ended { Session result (S.left src.old) (S.left src.new) (K.written out.old) (K.written out.new) }
+    ensures transcript { ((result ≡ Status.Done) ⊎ (result ≡ Status.Refused)) ⊎ (result ≡ Status.TooLong) → IfSome (S.left src.old) (λ bytes. Transcribed result bytes (K.written out.old) (K.written out.new)) }
+    ensures written { ((result ≡ Status.Done) ⊎ (result ≡ Status.Refused)) ⊎ (result ≡ Status.TooLong) → IfSome (S.left src.old) (λ bytes. Appends (K.written out.old) (K.written out.new) (text (stepped (events_of bytes)).lines)) }
+    ensures done { result ≡ Status.Done → IfSome (S.left src.old) (λ bytes. Completes bytes (K.written out.old) (K.written out.new)) }
+    ensures input { result ≡ Status.Done → IfSome (S.left src.old) (λ bytes. ReadOut bytes (S.left src.new)) }
+    ensures refused { result ≡ Status.Refused → IfSome (S.left src.old) (λ bytes. Refuses bytes (K.written out.old) (K.written out.new)) }
+    ensures too_long { result ≡ Status.TooLong → IfSome (S.left src.old) (λ bytes. RunsOn bytes (K.written out.old) (K.written out.new)) }
+    ensures broken { result ≡ Status.ReadFault → IfSome (S.left src.old) (λ bytes. Breaks bytes (S.left src.new) (K.written out.old) (K.written out.new)) }
+    ensures begun { result ≡ Status.WriteFault → IfSome (S.left src.old) (λ bytes. Begins (text (stepped (events_of bytes)).lines) (K.written out.old) (K.written out.new)) }
+    ensures complete { S.faults src.old < 2 ^ 64 - 1 → K.faults out.old < 2 ^ 64 - 1 → S.faults src.new ≡ S.faults src.old → K.faults out.new ≡ K.faults out.old → IfSome (S.left src.old) (λ bytes. IsDone (stepped (events_of bytes)).fate → result ≡ Status.Done) }
+    ensures answered { S.faults src.old < 2 ^ 64 - 1 → K.faults out.old < 2 ^ 64 - 1 → S.faults src.new ≡ S.faults src.old → K.faults out.new ≡ K.faults out.old → IfSome (S.left src.old) (λ bytes. Transcribed result bytes (K.written out.old) (K.written out.new)) }
     ensures read_fault { result ≡ Status.ReadFault → Rose (S.faults src.old) (S.faults src.new) }
     ensures write_fault { result ≡ Status.WriteFault → Rose (K.faults out.old) (K.faults out.new) }
     ensures read_later { S.faults src.old ≤ S.faults src.new }
@@ -35,53 +51,60 @@ pub fn session<S: Source, K: Sink>(m: &mut Monitor, src: &mut S, out: &mut K) ->
     ensures write_unfailed { result ≢ Status.WriteFault → K.faults out.new ≡ K.faults out.old }
     ensures sound { Kept m.new.world }
 {
-    let mut buf = [0u8; 512];
-    let mut kept = ArrayVec::new();
-    let file = [Word::ZERO; 3];
-    let mut p = Progress {
-        number: 1,
-        slot: 0,
-        file,
-        place: Place::Plain,
-    };
-    take_all(m, &mut p, &mut kept, &mut buf, src, out)
+    run_items(m, src, out)
 }
 
-/// Reads and takes the bytes of a session, until it is over.
-fn take_all<S: Source, K: Sink>(
-    m: &mut Monitor,
-    p: &mut Progress,
-    kept: &mut ArrayVec<u8, 255>,
-    buf: &mut [u8],
-    src: &mut S,
-    out: &mut K,
-) -> Status
+/// Takes the items of a session one by one, until it is over.
+#[tactic(auto, using(crate::proofs::ConclusionLaws::so_start, crate::proofs::ConclusionLaws::so_next, crate::proofs::ConclusionLaws::session_over, crate::proofs::ConclusionLaws::session_fault))]
+fn run_items<S: Source, K: Sink>(m: &mut Monitor, src: &mut S, out: &mut K) -> Status
+    requires machine { state_of m.old.world ≡ no_state no_machine }
     requires sound { Kept m.old.world }
-    requires start { now_of m.old p.old ≡ at_start }
-    requires slot { p.old.slot < slots }
-    requires kept { kept.old.items ≡ [] }
-    requires room { 0 < length buf.old }
     ensures ended { Session result (S.left src.old) (S.left src.new) (K.written out.old) (K.written out.new) }
-    ensures read_fault { result ≡ Status.ReadFault → Rose (S.faults src.old) (S.faults src.new) }
-    ensures write_fault { result ≡ Status.WriteFault → Rose (K.faults out.old) (K.faults out.new) }
-    ensures read_later { S.faults src.old ≤ S.faults src.new }
-    ensures write_later { K.faults out.old ≤ K.faults out.new }
     ensures read_once { result ≡ Status.ReadFault → S.faults src.new ≡ next_fault (S.faults src.old) }
     ensures write_once { result ≡ Status.WriteFault → K.faults out.new ≡ next_fault (K.faults out.old) }
     ensures read_unfailed { result ≢ Status.ReadFault → S.faults src.new ≡ S.faults src.old }
     ensures write_unfailed { result ≢ Status.WriteFault → K.faults out.new ≡ K.faults out.old }
+    ensures read_later { S.faults src.old ≤ S.faults src.new }
+    ensures write_later { K.faults out.old ≤ K.faults out.new }
     ensures sound { Kept m.new.world }
 {
+    let mut items = Items::new();
+    let file = [Word::ZERO; 3];
+    let mut p = Progress {
+        number: 0,
+        slot: 0,
+        file,
+    };
     loop {
-        let Ok(count) = src.read(buf) else {
+        let Ok(found) = items.next(src) else {
             return Status::ReadFault;
         };
-        if count == 0 {
-            return finish(m, p, kept, out);
-        }
-        let turn = feed(m, p, kept, &buf[..count], out);
+        p.number = items.lines.number;
+        let turn = take(m, &mut p, &found, out);
         if !turn.goes_on() {
-            return status_of(turn);
+            return turn.status();
         }
+    }
+}
+
+/// Takes what was found next of a session, where `p` has the number of its line.
+#[tactic(auto, using(crate::proofs::ConclusionLaws::takes_line, crate::proofs::ConclusionLaws::takes_bad, crate::proofs::ConclusionLaws::takes_beyond, crate::proofs::ConclusionLaws::takes_end))]
+fn take<K: Sink>(m: &mut Monitor, p: &mut Progress, found: &Found, out: &mut K) -> Turn
+    requires sound { Kept m.old.world }
+    requires slot { p.old.slot < slots }
+    requires fits { found_fits found.now }
+    ensures takes { Takes result p.old.number (state_of m.old.world) (block_of p.old.slot p.old.file) found.now (state_of m.new.world) (block_of p.new.slot p.new.file) (K.written out.old) (K.written out.new) }
+    ensures sound { Kept m.new.world }
+    ensures slot { p.new.slot < slots }
+    ensures number { p.new.number ≡ p.old.number }
+    ensures later { K.faults out.old ≤ K.faults out.new }
+    ensures unfailed { result ≢ Turn.Fault → K.faults out.new ≡ K.faults out.old }
+    ensures fault { result ≡ Turn.Fault → K.faults out.new ≡ next_fault (K.faults out.old) }
+{
+    match found {
+        Found::Line(event) => answer(m, p, event, out),
+        Found::Bad(reason) => refuse(out, p.number, *reason),
+        Found::Beyond => Turn::Beyond,
+        Found::End => Turn::Ended,
     }
 }

@@ -1,7 +1,8 @@
-ghost use Rattle.std.specs.Prelude.{◌≡◌, ◌≢◌, ◌≤◌, ◌<◌, ◌+◌, ◌-◌, ◌^◌, ◌⊎◌, false, map, string_bytes, IfSome, Some, None};
+ghost use Rattle.std.specs.Prelude.{◌≡◌, ◌≢◌, ◌≤◌, ◌<◌, ◌+◌, ◌-◌, ◌^◌, ◌⊎◌, true, false, map, string_bytes, IfSome, Some, None};
 ghost use Rattle.std.specs.Io.KnownBytes.{Appends};
 ghost use Rattle.its_print.specs.Printing.{text};
 ghost use Rattle.its_session.specs.Events.{events_of};
+ghost use Rattle.its_reader.specs.Items.{ReadOut};
 ghost use Rattle.its_stepped.specs.Lines.{stepped};
 ghost use Rattle.its_io.specs.Bytes.{next_fault};
 ghost use Rattle.its_top.specs.Commands.{command_of, reads, IfGenerates};
@@ -24,13 +25,14 @@ const USAGE: &[u8] = b"usage: its run | its check | its gen N\n";
 
 /// The program: the words after its name, the session that `src` gives, and what `out` takes. The words `run` and
 /// `check` read a session; `gen` and a number run a generated one, and read nothing.
-#[tactic(auto, using(crate::proofs::ObeyLaws::run_transcribed, crate::proofs::ObeyLaws::run_written, crate::proofs::ObeyLaws::run_done, crate::proofs::ObeyLaws::run_refused, crate::proofs::ObeyLaws::run_too_long, crate::proofs::ObeyLaws::run_breaks, crate::proofs::ObeyLaws::run_begins, crate::proofs::ObeyLaws::run_complete, crate::proofs::ObeyLaws::check_done, crate::proofs::ObeyLaws::check_refused, crate::proofs::ObeyLaws::check_too_long, crate::proofs::ObeyLaws::check_breaks, crate::proofs::ObeyLaws::check_begins, crate::proofs::ObeyLaws::check_complete, crate::proofs::ObeyLaws::gen_done, crate::proofs::ObeyLaws::gen_begins, crate::proofs::ObeyLaws::gen_complete, crate::proofs::ObeyLaws::usage_written, crate::proofs::ObeyLaws::usage_only, crate::proofs::ObeyLaws::usage_begins, crate::proofs::ObeyLaws::none_obeyed, crate::proofs::ObeyLaws::unread, crate::proofs::ObeyLaws::not_read_fault, crate::proofs::ObeyLaws::no_memory))]
+#[tactic(auto, using(crate::proofs::ObeyLaws::run_transcribed, crate::proofs::ObeyLaws::run_written, crate::proofs::ObeyLaws::run_done, crate::proofs::ObeyLaws::run_refused, crate::proofs::ObeyLaws::run_too_long, crate::proofs::ObeyLaws::run_breaks, crate::proofs::ObeyLaws::run_begins, crate::proofs::ObeyLaws::run_complete, crate::proofs::ObeyLaws::run_answered, crate::proofs::ObeyLaws::check_done, crate::proofs::ObeyLaws::check_refused, crate::proofs::ObeyLaws::check_too_long, crate::proofs::ObeyLaws::check_breaks, crate::proofs::ObeyLaws::check_begins, crate::proofs::ObeyLaws::check_complete, crate::proofs::ObeyLaws::gen_done, crate::proofs::ObeyLaws::gen_begins, crate::proofs::ObeyLaws::gen_complete, crate::proofs::ObeyLaws::usage_written, crate::proofs::ObeyLaws::usage_only, crate::proofs::ObeyLaws::usage_begins, crate::proofs::ObeyLaws::none_obeyed, crate::proofs::ObeyLaws::input_read, crate::proofs::ObeyLaws::unread, crate::proofs::ObeyLaws::not_read_fault, crate::proofs::ObeyLaws::no_memory))]
 pub fn its<S: Source, K: Sink>(alloc: Global, words: &[String], src: &mut S, out: &mut K) -> Status
     requires source { S.faults src.old < 2 ^ 64 - 1 }
     requires sink { K.faults out.old < 2 ^ 64 - 1 }
-    ensures transcript { command_of (map string_bytes words.now) ≡ Some Command.Run → (result ≡ Status.Done) ⊎ (result ≡ Status.Refused) → IfSome (S.left src.old) (λ bytes. Transcribed bytes (K.written out.old) (K.written out.new)) }
-    ensures written { command_of (map string_bytes words.now) ≡ Some Command.Run → (result ≡ Status.Done) ⊎ (result ≡ Status.Refused) → IfSome (S.left src.old) (λ bytes. Appends (K.written out.old) (K.written out.new) (text (stepped (events_of bytes)).lines)) }
+    ensures transcript { command_of (map string_bytes words.now) ≡ Some Command.Run → ((result ≡ Status.Done) ⊎ (result ≡ Status.Refused)) ⊎ (result ≡ Status.TooLong) → IfSome (S.left src.old) (λ bytes. Transcribed result bytes (K.written out.old) (K.written out.new)) }
+    ensures written { command_of (map string_bytes words.now) ≡ Some Command.Run → ((result ≡ Status.Done) ⊎ (result ≡ Status.Refused)) ⊎ (result ≡ Status.TooLong) → IfSome (S.left src.old) (λ bytes. Appends (K.written out.old) (K.written out.new) (text (stepped (events_of bytes)).lines)) }
     ensures done { command_of (map string_bytes words.now) ≡ Some Command.Run → result ≡ Status.Done → IfSome (S.left src.old) (λ bytes. Completes bytes (K.written out.old) (K.written out.new)) }
+    ensures input { reads (command_of (map string_bytes words.now)) ≡ true → result ≡ Status.Done → IfSome (S.left src.old) (λ bytes. ReadOut bytes (S.left src.new)) }
     ensures refused { command_of (map string_bytes words.now) ≡ Some Command.Run → result ≡ Status.Refused → IfSome (S.left src.old) (λ bytes. Refuses bytes (K.written out.old) (K.written out.new)) }
     ensures too_long { command_of (map string_bytes words.now) ≡ Some Command.Run → result ≡ Status.TooLong → IfSome (S.left src.old) (λ bytes. RunsOn bytes (K.written out.old) (K.written out.new)) }
     ensures broken { command_of (map string_bytes words.now) ≡ Some Command.Run → result ≡ Status.ReadFault → IfSome (S.left src.old) (λ bytes. Breaks bytes (S.left src.new) (K.written out.old) (K.written out.new)) }
@@ -56,6 +58,9 @@ pub fn its<S: Source, K: Sink>(alloc: Global, words: &[String], src: &mut S, out
     ensures read_unfailed { result ≢ Status.ReadFault → S.faults src.new ≡ S.faults src.old }
     ensures write_unfailed { result ≢ Status.WriteFault → K.faults out.new ≡ K.faults out.old }
     ensures complete { command_of (map string_bytes words.now) ≡ Some Command.Run → S.faults src.new ≡ S.faults src.old → K.faults out.new ≡ K.faults out.old → IfSome (S.left src.old) (λ bytes. IsDone (stepped (events_of bytes)).fate → (result ≡ Status.Done) ⊎ (result ≡ Status.NoMemory)) }
+    ensures answered { command_of (map string_bytes words.now) ≡ Some Command.Run → S.faults src.new ≡ S.faults src.old → K.faults out.new ≡ K.faults out.old → IfSome (S.left src.old) (λ bytes. Transcribed result bytes (K.written out.old) (K.written out.new) ⊎ (result ≡ Status.NoMemory)) }
+    ensures safe_source { ((a b : S) → S.faults a ≡ S.faults b) → result ≢ Status.ReadFault }
+    ensures safe_sink { ((a b : K) → K.faults a ≡ K.faults b) → result ≢ Status.WriteFault }
     ensures check_complete { command_of (map string_bytes words.now) ≡ Some Command.Check → S.faults src.new ≡ S.faults src.old → K.faults out.new ≡ K.faults out.old → IfSome (S.left src.old) (λ bytes. Passes (checked (events_of bytes)) → (result ≡ Status.Done) ⊎ (result ≡ Status.NoMemory)) }
     ensures gen_complete { IfGenerates (command_of (map string_bytes words.now)) (λ n. K.faults out.new ≡ K.faults out.old → (result ≡ Status.Done) ⊎ (result ≡ Status.NoMemory)) }
 {
@@ -125,7 +130,6 @@ fn generate_rounds<K: Sink>(alloc: Global, n: u32, out: &mut K) -> Status
 }
 
 /// Runs the session that the source gives.
-#[tactic(auto, using(crate::proofs::TopLaws::session_transcribed, crate::proofs::TopLaws::session_done, crate::proofs::TopLaws::session_refused, crate::proofs::TopLaws::session_too_long, crate::proofs::TopLaws::session_breaks, crate::proofs::TopLaws::session_begins, crate::proofs::TopLaws::session_complete))]
 fn run<S: Source, K: Sink>(alloc: Global, src: &mut S, out: &mut K) -> Status
     requires source { S.faults src.old < 2 ^ 64 - 1 }
     requires sink { K.faults out.old < 2 ^ 64 - 1 }

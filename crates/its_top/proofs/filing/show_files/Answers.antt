@@ -1,7 +1,7 @@
 use Rattle.std.proofs.Common.{◌∙◌, sym, ap, subst, arith}
 use Rattle.its_top.specs.Answer.{WritesSo}
 use Rattle.its_top.proofs.FilingLaws.{standing_next, listing_some, listing_none, listing_end, writes_next, writes_cut}
-use Rattle.its_top.proofs.FinishLaws.{not_fault}
+use Rattle.its_top.proofs.ConclusionLaws.{not_fault}
 use Rattle.its_top.proofs.filing.show_files.Goals.{in-Some+else-not-goes_on, in_default}
 use Rattle.its_top.proofs.filing.show_files.Goals as goal
 

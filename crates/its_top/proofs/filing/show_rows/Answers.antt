@@ -2,7 +2,7 @@ use Rattle.std.proofs.Common.{◌*◌, ◌∙◌, sym, ap, arith, take, drop}
 use Rattle.its_files.specs.Files.{words_at}
 use Rattle.its_print.specs.Printing.{Row, text_of_line}
 use Rattle.its_top.proofs.FilingLaws.{standing_then, rows_count, rows_next, rows_end, writes_next, writes_cut}
-use Rattle.its_top.proofs.FinishLaws.{not_fault}
+use Rattle.its_top.proofs.ConclusionLaws.{not_fault}
 use Rattle.its_top.proofs.WritingLaws.{told_as}
 use Rattle.its_top.proofs.filing.show_rows.Goals as goal
 
