@@ -28,7 +28,9 @@ def read(path: str) -> bytes:
     """The bytes of a file; of standard input where the path is `-`."""
     try:
         if path == "-":
-            return sys.stdin.buffer.read() if sys.stdin else b""
+            if sys.stdin is None:
+                raise Wrong("standard input is closed")
+            return sys.stdin.buffer.read()
         with open(path, "rb") as file:
             return file.read()
     except OSError as problem:

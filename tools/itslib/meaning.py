@@ -5,8 +5,8 @@ from dataclasses import dataclass, field
 from typing import Callable, Dict, List, Set
 
 from .session import Exchange, peek_of, runs_of, state_of
-from .words import (CALLS, ERRORS, FATAL, LETTERS, PENDING, STATES, ascii_of, byte_pointer, call_name, character,
-                    flags_of, number, pc_of, pc_word, pending, short, signed, sixbit, typed)
+from .words import (CALLS, DIGITS, ERRORS, FATAL, LETTERS, PENDING, STATES, ascii_of, byte_pointer, call_name, character,
+                    flags_of, held, number, pc_of, pc_word, pending, short, signed, sixbit, typed)
 
 # Words that stand for themselves: devices, and the variables of USRVAR
 NAMES = {"TTY", "DSK", "USR", "UNAME", "JNAME", "UIND", "SUPPRO", "CNSL", "PAGES", "UPC", "USTP", "PIRQC", "IFPIR",
@@ -218,12 +218,6 @@ def says_cont(exchange: Exchange, known: Known) -> List[str]:
     return ["the job in slot %s may run, and its fatal pending bits are cleared; found in user mode" % exchange.line.words[1]]
 
 
-def held_as(word: str) -> str:
-    """The byte or word that a MOVING job holds."""
-    value = number(word)
-    return "the byte %s (%s)" % (character(value), short(word)) if value < 128 else "the word " + word
-
-
 def frame(words: List[str]) -> List[str]:
     """A P line: where a job stands in a call."""
     peek = peek_of(words)
@@ -239,7 +233,8 @@ def frame(words: List[str]) -> List[str]:
         told = reading(peek.a)
         said.append("in core stands the argument %s%s" % (peek.a, " (%s)" % told if told else ""))
     if peek.held != "-":
-        said.append("it holds " + held_as(peek.held))
+        what = held(peek.held, peek.a)
+        said.append("it holds the word " + what if what[0] in DIGITS else "it holds the byte %s (%s)" % (what, short(peek.held)))
     return said
 
 

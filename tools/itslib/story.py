@@ -5,7 +5,7 @@ from typing import Dict, List, Optional, Union
 
 from .session import (JOB_LINES, Exchange, Transcript, Wrong, exchanges, lines_of, misfit, peek_of, runs_of,
                       state_of)
-from .words import call_name, character, number, pc_of, short, sixbit, typed
+from .words import call_name, held, number, pc_of, short, sixbit, typed
 
 
 @dataclass
@@ -147,9 +147,9 @@ def peek_labels(answer: List[str]) -> List[str]:
     peek = peek_of(answer)
     if peek.state == "USER":
         return ["PEEK USER", "USER"]
-    held = "" if peek.held == "-" else " " + (character(number(peek.held)) if number(peek.held) < 128 else short(peek.held))
+    taken = "" if peek.held == "-" else " " + held(peek.held, peek.a)
     call = "" if peek.call == "-" else call_name(peek.call) + " "
-    return ["PEEK %s%s %o%s" % (call, peek.state, peek.left, held), "PEEK %s %o" % (peek.state, peek.left), "PEEK"]
+    return ["PEEK %s%s %o%s" % (call, peek.state, peek.left, taken), "PEEK %s %o" % (peek.state, peek.left), "PEEK"]
 
 
 def tell_job_line(story: Story, exchange: Exchange, tip: str) -> None:

@@ -138,6 +138,11 @@ def byte_pointer(word: str) -> Optional[str]:
     return "at the byte of %o with %d bits to its right, bytes of %d bits" % (address, place, size)
 
 
+def held(word: str, pointer: str) -> str:
+    """What a MOVING job holds, by its pointer: a byte as a character, a word of a file or an inferior without leading zeros."""
+    return short(word) if pointer[2:4] == "44" or number(word) > 127 else character(number(word))
+
+
 def pc_word(word: str) -> str:
     """A PC word in words, where the word is one: the flag `user` is on, and nothing but flags stands at its left."""
     left = number(word[:6])
