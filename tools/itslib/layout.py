@@ -15,7 +15,7 @@ CHAR = 6.7                               # the width of a character of 11 px
 SCALES = (40, 32, 24, 20, 16, 14, 12, 10, 8, 6, 5, 4, 3, 2, 1.5, 1, 0.5, 0.25)     # widths of a tick
 COMFORT = 10                             # a tick need not be wider than this, where that would take one row more
 NARROW = 3                               # with labels of more than one word, ticks are at least so wide
-HIGHER = 1.15                            # so much higher a picture may grow by whole labels
+HIGHER = 1.15                            # so much higher a picture may grow by whole labels; a slide may not
 ALWAYS = 6                               # up to so many jobs, each row shows all that there are then
 
 
@@ -199,7 +199,8 @@ def with_words(story: Story, pieces: List[Piece], layout: Layout, shape: Shape) 
     if layout.longest != LABELS[1]:
         return layout
     whole = laid_out_so(story, pieces, layout.tick, LABELS[0], shape.span)
-    return whole if height_of(whole) <= max(HIGHER * shape.tallest, HIGHER * height_of(layout)) else layout
+    most = max(shape.tallest, height_of(layout))
+    return whole if height_of(whole) <= (most if shape.enlarged > 1 else HIGHER * most) else layout
 
 
 def laid_out(story: Story, shape: Shape) -> Layout:

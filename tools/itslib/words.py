@@ -23,7 +23,7 @@ ERRORS = {0o1: "no such call", 0o2: "too few arguments", 0o3: "too many argument
           0o23: "file exists"}
 
 # Bits of pending word 1, and of its mask and deferral; those up to 40 are fatal
-PENDING = {0o1: ("BRK", "a .BREAK 16,"), 0o2: ("ILO", "an illegal operation"), 0o4: ("MPV", "an absent page"),
+PENDING = {0o1: ("BRK", "a .BREAK"), 0o2: ("ILO", "an illegal operation"), 0o4: ("MPV", "an absent page"),
            0o10: ("WRO", "a store to a read-only page"), 0o20: ("IOC", "an .IOT that failed"),
            0o40: ("TBL", "a delivery that cannot be made"), 0o100: ("PDL", "a pushdown count ran out"),
            0o200: ("INF", "an inferior was stopped or logged out")}
