@@ -133,7 +133,8 @@ class Browser:
         """How large the window is, and whether its reader wants it dark."""
         self.width = width
         self.ask("Emulation.setDeviceMetricsOverride", width=width, height=height, deviceScaleFactor=1, mobile=width < 600)
-        self.ask("Emulation.setEmulatedMedia", features=[{"name": "prefers-color-scheme", "value": "dark" if dark else "light"}])
+        scheme = {"name": "prefers-color-scheme", "value": "dark" if dark else "light"}
+        self.ask("Emulation.setEmulatedMedia", features=[scheme])
 
     def open(self, path: str, fragment: str = "") -> None:
         """Opens a file, and waits for it."""

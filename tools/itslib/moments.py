@@ -10,6 +10,7 @@ from dataclasses import dataclass, field
 from typing import Dict, List, Optional, Tuple
 
 from .calls import Call, call_at
+from .cutting import text_of
 from .program import Outcome, run_all
 from .session import (Exchange, Peek, Transcript, Wrong, exchanges, lines_of, peek_of, runs_of, state_of)
 from .words import as_sixbit, number
@@ -40,7 +41,7 @@ class Moment:
 
     def session(self, inspection: List[str]) -> bytes:
         """The session up to this moment, and then these lines."""
-        return "".join(line + "\n" for line in self.before + self.now + inspection).encode("latin-1")
+        return text_of(self.before + self.now + inspection)
 
 
 @dataclass
@@ -138,11 +139,11 @@ class Cut:
         """Fills in what PEEK shows at each moment, and finds out which jobs stand there."""
         while True:
             lines, whose = self.script()
-            text = "".join(line + "\n" for line in lines)
-            outcome = run_all([text.encode("latin-1")])[0]
+            text = text_of(lines)
+            outcome = run_all([text])[0]
             if outcome.problem:
                 raise Wrong("%s: cut into single ticks: %s" % (self.name, outcome.problem))
-            told = exchanges(self.name + " cut into single ticks", lines_of(text),
+            told = exchanges(self.name + " cut into single ticks", lines_of(text.decode("latin-1")),
                              Transcript("its transcript", outcome.transcript))
             last = told[-1]
             if last.reason == "NOJOB" and last.line.kind == "PEEK" and whose[last.line.number - 1][1] >= 0:
@@ -256,7 +257,8 @@ class Looks:
         return peek is not None and peek.call == as_sixbit("CORBLK")
 
     def find_page(self, at: int) -> None:
-        """Finds out, by copies that end there, which jobs have the page that a CORBLK names; where it cannot be read, each page."""
+        """Finds out, by copies that end there, which jobs have the page that a CORBLK names; of a call that cannot be read, each
+        page."""
         moment = self.moments[at]
         call = self.calls.get(moment.slot)
         page = call.value("page", lambda address: self.word(moment.slot, address)) if call else None

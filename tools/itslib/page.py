@@ -9,9 +9,9 @@ from dataclasses import dataclass
 from typing import Dict, List, Optional, Tuple
 
 from .calls import Call
-from .layout import Shape
+from .layout import LONGEST, Shape
 from .moments import GROUP, MOST, Cut, Look, Looks, Moment, moments_of
-from .picture import KINDS, LETTERS, Picture, Spot, picture, symbol
+from .picture import BROKEN, KINDS, LETTERS, Picture, Spot, picture, symbol
 from .program import TOP, run_all
 from .session import Exchange, Transcript, Wrong, exchanges, lines_of, split
 from .story import Mark, Run, Story, tell
@@ -140,15 +140,19 @@ def names_of(table: dict) -> List[List[str]]:
     return [["%o" % bit, name if isinstance(name, str) else name[0]] for bit, name in table.items()]
 
 
-def legend(story: Story) -> str:
+BAR_SIGN = '<rect x="1" y="1" width="22" height="16" fill="%s" stroke="%s"/><text x="12" y="13" class="middle%s">%s</text>'
+
+
+def legend(story: Story, drawn: Picture) -> str:
     """What letters and marks of the timeline mean, of those that come, as items of a list."""
     used = {piece.kind for piece in story.pieces if isinstance(piece, Mark)}
-    items = ['<rect x="1" y="1" width="22" height="16" fill="%s" stroke="%s"/><text x="12" y="13" class="middle%s">%s</text>' % (
-        LETTERS[letter][0], LETTERS[letter][1], " white" if letter == "*" else "", letter) for letter in LETTERS]
-    texts = [LETTERS[letter][2] for letter in LETTERS] + [KINDS[kind] for kind in KINDS if kind in used]
-    items += [symbol(kind, 12, 14) for kind in KINDS if kind in used]
+    items = [(BAR_SIGN % (fill, edge, " white" if letter == "*" else "", letter), words)
+             for letter, (fill, edge, words) in LETTERS.items()]
+    items += [(symbol(kind, 12, 14), words) for kind, words in KINDS.items() if kind in used]
+    if any(isinstance(spot.piece, Run) and spot.width >= LONGEST for spot in drawn.spots):
+        items.append(("", BROKEN))
     sign = '<li><svg class="sign" width="24" height="18" aria-hidden="true">%s</svg> %s</li>'
-    return "\n".join(sign % (item, html.escape(words)) for item, words in zip(items, texts))
+    return "\n".join(sign % (item, html.escape(words)) for item, words in items)
 
 
 def part(name: str) -> str:
@@ -166,7 +170,7 @@ def page(name: str, session: str, watch: List[Tuple[int, int]]) -> str:
     story = tell(name, recording.told)
     drawn = picture(story, title, Shape(legend=False, brief=True))
     parts = {"<!-- name -->": html.escape(title), "/* style */": part("player.css"), "<!-- picture -->": drawn.svg,
-             "<!-- legend -->": legend(story), "/* script */": part("player.js"),
+             "<!-- legend -->": legend(story, drawn), "/* script */": part("player.js"),
              "<!-- recorded -->": record_of(title, session, recording, drawn, watch).replace("<", "\\u003c")}
     marks = "|".join(map(re.escape, parts))
     return re.sub(marks, lambda mark: parts[mark.group()].rstrip("\n"), part("player.html"))

@@ -9,6 +9,7 @@ const TITLE = 34;                  // so much of the picture, its title, is cut 
 const ACCUMULATORS = 16;           // words that each job has, and that are in no page
 const PAGE = 1024;                 // words of a page
 const CHANGED = 8;                 // so many changed words are listed
+const MANY = 4;                    // where more jobs stand, the one that is ticked and those that are looked at come first
 const LETTERS = 48;                // so many letters of a TICK line stand on each side of the one at the cursor
 
 const at = {moment: 0};            // where the reader is
@@ -242,6 +243,7 @@ function showJob(slot, moment) {
   const looks = looking.has(slot);
   card.whole.hidden = false;
   card.whole.classList.toggle("ticked", moment.slot === slot);
+  card.whole.classList.toggle("looked", looks);
   const title = "Slot " + slot + "  " + sixbit(state.user) + " " + sixbit(state.job) + " ";
   card.title.replaceChildren(title, element("span", "note", notesOf(state)));
   card.button.setAttribute("aria-pressed", looks);
@@ -523,8 +525,10 @@ function show() {
   holding(at.moment);
   document.getElementById("where").textContent = sentence(moment);
   for (const card of cards.values()) card.whole.hidden = true;
-  for (const slot of Object.keys(known.peek)) showJob(slot, moment);
-  document.getElementById("none").hidden = Object.keys(known.peek).length > 0;
+  const slots = Object.keys(known.peek);
+  for (const slot of slots) showJob(slot, moment);
+  document.getElementById("jobs").className = slots.length > MANY ? "many" : "";
+  document.getElementById("none").hidden = slots.length > 0;
   showConsoles();
   showLine(moment);
   showCursor(moment);
