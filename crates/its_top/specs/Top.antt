@@ -1,4 +1,4 @@
--- What the program promises of its answers (README, "What is proved").
+-- What the program promises of its answers (docs/PROVED.md).
 use Rattle.std.specs.Prelude.{◌≡◌, ℕ, Option, Some, None, List, [], ◌++◌, codes}
 use Rattle.std.specs.Io.KnownBytes.{Appends, Consumes}
 use Rattle.its_print.specs.Printing.{Line, text}
