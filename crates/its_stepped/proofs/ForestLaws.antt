@@ -639,12 +639,12 @@ steps_where fits m n j h e = step_has Forest m n j (λ q is.
     let informed = effects cs j m in
     record {
       delivers =
-        job_forest informed j _
-        (calm informed j _ (λ p. refl) (λ p. refl)
+          job_forest informed j _
+          (calm informed j _ (λ p. refl) (λ p. refl)
           (λ p at. delivered_console q.core q.job ∙ sym (ap console_in is) ∙ sym (informs_console (delivered q.core q.job).stops q.superior j j m) ∙ ap console_in at))
-        (effects_forest cs j m (informs_fit _ _ j m) h);
+          (effects_forest cs j m (informs_fit _ _ j m) h);
       changes = λ c k u.
-        job_forest m j _ (calm m j _ (λ p. refl) (λ p. refl) (λ p at. unit_console q.core q.job c k u ∙ ap console_in (sym is ∙ at))) h;
+          job_forest m j _ (calm m j _ (λ p. refl) (λ p. refl) (λ p at. unit_console q.core q.job c k u ∙ ap console_in (sym is ∙ at))) h;
       faults = λ f. job_forest m j _ (calm m j _ (λ p. refl) (λ p. refl) (λ p at. refl)) h;
       calls = λ a. acted_forest m j a (reach m j q a) (decision m j q a) (fits m j q a h is) h;
     }) e
