@@ -64,7 +64,7 @@ digits_number n h = record {
   octal = digits_are_octal n (omega arith);
   value = digits_value n;
   some = some_digits n;
-  short = few_digits 6 n (omega arith) (omega arith)
+  short = few_digits 6 n (omega arith) (omega arith);
 }
 
 pub first_digit : (d : ℕ) (ds : List ℕ) → list_all (is_code 48 55) (d ∷ ds) ≡ true → is_code 48 55 d ≡ true

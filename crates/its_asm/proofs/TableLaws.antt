@@ -22,9 +22,9 @@ once_by op None e = tt
 once_by op (Some n) e =
     elim (cases_Bool (is_name n)) [
       | inl some ↦ rw some (elim (cases_lt op 448) [
-          | inl below ↦ named_first n op below some (stood_first op n below e some)
-          | inr above ↦ (let none = no_more_names op above in cc)
-        ])
+        | inl below ↦ named_first n op below some (stood_first op n below e some)
+        | inr above ↦ (let none = no_more_names op above in cc)
+      ])
       | inr miss ↦ rw miss tt
     ]
 

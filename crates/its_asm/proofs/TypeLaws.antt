@@ -85,10 +85,10 @@ word_some (b ∷ bs) h =
 two_words : (n t : List ℕ) → 1 ≤ length n → 1 ≤ length t → list_all is_letter n ≡ true → list_all is_operand t ≡ true → words_of (n ++ 32 ∷ t) ≡ n ∷ t ∷ []
 two_words n t some more h k =
     let plain : cut (codes ";") (n ++ 32 ∷ t) ≡ None =
-        cut_unmarked (codes ";") (n ++ 32 ∷ t)
-        (all_two (unmarked (codes ";")) n t (all_imp is_letter (unmarked (codes ";")) letter_code_free n h) (all_imp is_operand (unmarked (codes ";")) operand_code_free t k) refl) in
+    cut_unmarked (codes ";") (n ++ 32 ∷ t)
+    (all_two (unmarked (codes ";")) n t (all_imp is_letter (unmarked (codes ";")) letter_code_free n h) (all_imp is_operand (unmarked (codes ";")) operand_code_free t k) refl) in
     let space : cut (codes " ") (n ++ 32 ∷ t) ≡ Some (n, 32, t) =
-        cut_marked (codes " ") n 32 t (all_imp is_letter (unmarked (codes " ")) letter_free n h) refl in
+    cut_marked (codes " ") n 32 t (all_imp is_letter (unmarked (codes " ")) letter_free n h) refl in
     let end : cut (codes " ") t ≡ None = cut_unmarked (codes " ") t (all_imp is_operand (unmarked (codes " ")) operand_free t k) in
     let first : word_in n ≡ n ∷ [] = word_some n some in
     let last : words_in t ≡ t ∷ [] = words_whole t end ∙ word_some t more in
@@ -102,7 +102,7 @@ read_line n t w some few more short h k made =
     let long = length-append n (32 ∷ t) in
     let fits : nat_le (length (n ++ 32 ∷ t)) 255 ≡ true = le-leb (length (n ++ 32 ∷ t)) 255 (omega arith) in
     let shown : list_all (is_code 32 126) (n ++ 32 ∷ t) ≡ true =
-        all_two (is_code 32 126) n t (all_imp is_letter (is_code 32 126) letter_printable n h) (all_imp is_operand (is_code 32 126) operand_printable t k) refl in
+    all_two (is_code 32 126) n t (all_imp is_letter (is_code 32 126) letter_printable n h) (all_imp is_operand (is_code 32 126) operand_printable t k) refl in
     let two : words_of (n ++ 32 ∷ t) ≡ n ∷ t ∷ [] = two_words n t some more h k in
     rw (fits, shown, two, made) refl
 
@@ -190,7 +190,7 @@ read_operation w n h below some op first =
     let y : right_of w < 2 ^ 18 = omega arith in
     let size = operand_length (ac_of w) (indirect_of w) (right_of w) (index_of w) a y x in
     let made : instruction no_names (opcode_of w) (typed_operand w) ≡ Ok (alone w) =
-        instruction_number no_names (opcode_of w) (ac_of w) (indirect_of w) (right_of w) (index_of w) a i y x ∙ ap (λ (v : ℕ). Ok (alone v)) (fields w h) in
+    instruction_number no_names (opcode_of w) (ac_of w) (indirect_of w) (right_of w) (index_of w) a i y x ∙ ap (λ (v : ℕ). Ok (alone v)) (fields w h) in
     read_line n (typed_operand w) w long short size.0 size.1 bytes.0 (operand_bytes (ac_of w) (indirect_of w) (right_of w) (index_of w) a y x)
     (operation_made n (typed_operand w) (opcode_of w) w other (named_first n (opcode_of w) below some first) made)
 
@@ -213,9 +213,9 @@ read_by w None h e = read_halves w h
 read_by w (Some n) h e =
     elim (cases_Bool (is_name n)) [
       | inl some ↦ rw some (elim (cases_lt (opcode_of w) 448) [
-          | inl below ↦ read_named w n h below e some
-          | inr above ↦ (let none = no_more_names (opcode_of w) above in cc)
-        ])
+        | inl below ↦ read_named w n h below e some
+        | inr above ↦ (let none = no_more_names (opcode_of w) above in cc)
+      ])
       | inr miss ↦ rw miss (read_halves w h)
     ]
 

@@ -136,7 +136,9 @@ fn joined(
 {
     let (a, y) = both(a, y)?;
     Ok(Item {
-        word: Word::new(u64::from(opcode) * 0o1000000000 + u64::from(a) * 0o40000000 + y.word.value()),
+        word: Word::new(
+            u64::from(opcode) * 0o1000000000 + u64::from(a) * 0o40000000 + y.word.value(),
+        ),
         literal: y.literal,
     })
 }

@@ -31,11 +31,17 @@ pub enum Statement {
         value: Result<u32, AsmReason>,
     },
     /// `LOC e`
-    Loc { to: Result<u32, AsmReason> },
+    Loc {
+        to: Result<u32, AsmReason>,
+    },
     /// A statement that gives a word.
-    Gives { item: Result<Item, AsmReason> },
+    Gives {
+        item: Result<Item, AsmReason>,
+    },
     /// `GO e`
-    Go { start: Result<u32, AsmReason> },
+    Go {
+        start: Result<u32, AsmReason>,
+    },
 }
 
 /// `NAME = e`
