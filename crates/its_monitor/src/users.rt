@@ -35,7 +35,7 @@ pub fn deliver_to(w: &mut World, slot: u8, job: Job)
     requires frame { frame_at w.old.frames.items slot ≡ None }
     requires deliverable { deliverable job ≡ true }
     ensures row { IfSome (raw_at w.old.files w.old.core w.old.jobs slot) (λ q. state_of w.new ≡ delivered_on (state_of w.old) slot q (delivered q.core q.job)) }
-    ensures pages { IfSome (raw_at w.old.files w.old.core w.old.jobs slot) (λ q. w.new.core.frames ≡ pages_unwound (told (delivered q.core q.job).stops q.superior) (state_of w.old) w.old.core.frames) }
+    ensures pages { IfSome (raw_at w.old.files w.old.core w.old.jobs slot) (λ q. w.new.core.frames ≡ pages_unwound (informed_slots (delivered q.core q.job).stops q.superior) (state_of w.old) w.old.core.frames) }
     ensures tidy { Tidy w.new }
 {
     let mut after = job;
