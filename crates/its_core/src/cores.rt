@@ -197,6 +197,7 @@ impl Core {
     }
 
     /// The word at an address of a slot: of an accumulator, or of a page that is present.
+    #[inline(always)]
     #[tactic(auto, using(crate::proofs::ReadLaws::word_at_acc, crate::proofs::ReadLaws::word_at_page, crate::proofs::ReadLaws::word_at_absent, crate::proofs::ReadLaws::word_below, crate::proofs::ReadLaws::can_store_acc))]
     pub fn get(&self, slot: u8, a: u32) -> Result<Word, NoAccess>
         requires slot { slot < slots }

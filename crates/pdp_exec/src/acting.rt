@@ -11,11 +11,11 @@ ghost use Rattle.its_plain.specs.UnitMoves.{half_row, move_row};
 ghost use Rattle.its_plain.specs.UnitPlan.{Fits};
 ghost use Rattle.its_plain.specs.UnitTests.{test_row};
 ghost use Rattle.pdp_exec.specs.Answer.{InPlace};
-ghost use Rattle.pdp_exec.specs.Ready.{Stands};
 
 use super::arithmetic::{arithmetic, booleans, shifts};
 use super::branches::{branches, stack};
 use super::bytes::bytes;
+use super::chain::{AtHand, at_hand};
 use super::comparisons::{aoj, aos, cai, cam, jumps, skips, soj, sos, tests_of};
 use super::making::carry_out;
 use super::moves::{halves, moves};
@@ -171,46 +171,51 @@ fn picking(core: &mut Core, slot: u8, job: &mut Job, x: &Context, op: ByteOp) ->
     made(bytes(core, slot, x, op), core, slot, job)
 }
 
-/// Jumps, the stack, bytes and calls; and all that comes seldom.
-#[inline(always)]
-#[tactic(auto, using(crate::proofs::ChainLaws::stands, crate::proofs::ChainLaws::stands_call), unfolding(its_plain::specs::Unit::row_of, its_word::specs::Opcode::instruction_of, its_word::specs::Opcode::mode_of, its_word::specs::Opcode::full_word_opcode, its_word::specs::Opcode::monitor_opcode, its_word::specs::Opcode::branch_opcode, its_word::specs::Opcode::stack_opcode, its_word::specs::Opcode::byte_opcode))]
-fn by_jump(core: &mut Core, slot: u8, job: &mut Job, opcode: u32, x: &Context) -> Ended
+/// One unit of the job of a slot. Its arms are the opcodes that come often, each with its operation, mode and
+/// condition; any other unit is made by `rarely`.
+#[inline(never)]
+#[tactic(auto, using(crate::proofs::ChainLaws::stands, crate::proofs::ChainLaws::stands_call), unfolding(its_plain::specs::Unit::row_of, its_word::specs::Opcode::instruction_of, its_word::specs::Opcode::mode_of, its_word::specs::Opcode::full_word_opcode, its_word::specs::Opcode::shift_opcode, its_word::specs::Opcode::branch_opcode, its_word::specs::Opcode::stack_opcode, its_word::specs::Opcode::compare_opcode, its_word::specs::Opcode::test_opcode, its_word::specs::Opcode::mask_of, its_word::specs::Opcode::byte_opcode, its_word::specs::Opcode::monitor_opcode))]
+pub fn frequent(core: &mut Core, slot: u8, job: &mut Job) -> Ended
     requires slot { slot < slots }
     requires pc { job.old.pc < 2 ^ 18 }
-    requires fits { Fits x.now }
-    requires stands { Stands (core_at core.old slot) job.old opcode x.now }
     ensures { InPlace result (unit_of (core_at core.old slot) job.old) core.old core.new slot job.old job.new }
 {
+    let Some(AtHand { opcode, context }) = at_hand(core, slot, job) else {
+        return rarely(core, slot, job);
+    };
+    let x = &context;
     match opcode {
-        0o253 => jumping(core, slot, job, x, BranchOp::Aobjn),
-        0o254 if x.a == 0 => jumping(core, slot, job, x, BranchOp::Jrst),
-        0o255 => jumping(core, slot, job, x, BranchOp::Jfcl),
-        0o260 => stacking(core, slot, job, x, StackOp::Pushj),
-        0o261 => stacking(core, slot, job, x, StackOp::Push),
-        0o262 => stacking(core, slot, job, x, StackOp::Pop),
-        0o263 => stacking(core, slot, job, x, StackOp::Popj),
-        0o265 => stacking(core, slot, job, x, StackOp::Jsp),
-        0o134 => picking(core, slot, job, x, ByteOp::Ildb),
-        0o135 => picking(core, slot, job, x, ByteOp::Ldb),
-        0o136 => picking(core, slot, job, x, ByteOp::Idpb),
-        0o137 => picking(core, slot, job, x, ByteOp::Dpb),
-        0o040 => Ended::Call,
-        0o043 if x.a == 0 => Ended::Call,
-        _ => rarely(core, slot, job),
-    }
-}
-
-/// Comparisons that skip, and tests; else `by_jump`.
-#[inline(always)]
-#[tactic(auto, using(crate::proofs::ChainLaws::stands), unfolding(its_plain::specs::Unit::row_of, its_word::specs::Opcode::instruction_of, its_word::specs::Opcode::compare_opcode, its_word::specs::Opcode::test_opcode, its_word::specs::Opcode::mask_of))]
-fn by_skip(core: &mut Core, slot: u8, job: &mut Job, opcode: u32, x: &Context) -> Ended
-    requires slot { slot < slots }
-    requires pc { job.old.pc < 2 ^ 18 }
-    requires fits { Fits x.now }
-    requires stands { Stands (core_at core.old slot) job.old opcode x.now }
-    ensures { InPlace result (unit_of (core_at core.old slot) job.old) core.old core.new slot job.old job.new }
-{
-    match opcode {
+        0o200 => moving(core, slot, job, x, MoveOp::Plain, Mode::Basic),
+        0o201 => moving(core, slot, job, x, MoveOp::Plain, Mode::Immediate),
+        0o202 => moving(core, slot, job, x, MoveOp::Plain, Mode::Memory),
+        0o205 => moving(core, slot, job, x, MoveOp::Swap, Mode::Immediate),
+        0o550 => halving(core, slot, job, x, 10, Mode::Basic),
+        0o554 => halving(core, slot, job, x, 11, Mode::Basic),
+        0o270 => working(core, slot, job, x, ArithmeticOp::Add, Mode::Basic),
+        0o271 => working(core, slot, job, x, ArithmeticOp::Add, Mode::Immediate),
+        0o274 => working(core, slot, job, x, ArithmeticOp::Sub, Mode::Basic),
+        0o275 => working(core, slot, job, x, ArithmeticOp::Sub, Mode::Immediate),
+        0o242 => shifting(core, slot, job, x, ShiftOp::Lsh),
+        0o400 => combining(core, slot, job, x, 0, Mode::Basic),
+        0o402 => combining(core, slot, job, x, 0, Mode::Memory),
+        0o404 => combining(core, slot, job, x, 1, Mode::Basic),
+        0o405 => combining(core, slot, job, x, 1, Mode::Immediate),
+        0o434 => combining(core, slot, job, x, 7, Mode::Basic),
+        0o474 => combining(core, slot, job, x, 15, Mode::Basic),
+        0o321 => made(jumps(core, slot, x, 1), core, slot, job),
+        0o322 => made(jumps(core, slot, x, 2), core, slot, job),
+        0o323 => made(jumps(core, slot, x, 3), core, slot, job),
+        0o325 => made(jumps(core, slot, x, 5), core, slot, job),
+        0o326 => made(jumps(core, slot, x, 6), core, slot, job),
+        0o327 => made(jumps(core, slot, x, 7), core, slot, job),
+        0o340 => made(aoj(core, slot, x, 0), core, slot, job),
+        0o344 => made(aoj(core, slot, x, 4), core, slot, job),
+        0o350 => made(aos(core, slot, x, 0), core, slot, job),
+        0o360 => made(soj(core, slot, x, 0), core, slot, job),
+        0o364 => made(soj(core, slot, x, 4), core, slot, job),
+        0o365 => made(soj(core, slot, x, 5), core, slot, job),
+        0o367 => made(soj(core, slot, x, 7), core, slot, job),
+        0o370 => made(sos(core, slot, x, 0), core, slot, job),
         0o301 => made(cai(core, slot, x, 1), core, slot, job),
         0o302 => made(cai(core, slot, x, 2), core, slot, job),
         0o303 => made(cai(core, slot, x, 3), core, slot, job),
@@ -237,68 +242,20 @@ fn by_skip(core: &mut Core, slot: u8, job: &mut Job, opcode: u32, x: &Context) -
         0o621 => testing(core, slot, job, x, MaskOp::Tl, 0, 1),
         0o660 => testing(core, slot, job, x, MaskOp::Tr, 0, 3),
         0o661 => testing(core, slot, job, x, MaskOp::Tl, 0, 3),
-        _ => by_jump(core, slot, job, opcode, x),
-    }
-}
-
-/// Comparisons that jump, and counts; else `by_skip`.
-#[inline(always)]
-#[tactic(auto, using(crate::proofs::ChainLaws::stands), unfolding(its_plain::specs::Unit::row_of, its_word::specs::Opcode::instruction_of, its_word::specs::Opcode::compare_opcode))]
-fn by_count(core: &mut Core, slot: u8, job: &mut Job, opcode: u32, x: &Context) -> Ended
-    requires slot { slot < slots }
-    requires pc { job.old.pc < 2 ^ 18 }
-    requires fits { Fits x.now }
-    requires stands { Stands (core_at core.old slot) job.old opcode x.now }
-    ensures { InPlace result (unit_of (core_at core.old slot) job.old) core.old core.new slot job.old job.new }
-{
-    match opcode {
-        0o321 => made(jumps(core, slot, x, 1), core, slot, job),
-        0o322 => made(jumps(core, slot, x, 2), core, slot, job),
-        0o323 => made(jumps(core, slot, x, 3), core, slot, job),
-        0o325 => made(jumps(core, slot, x, 5), core, slot, job),
-        0o326 => made(jumps(core, slot, x, 6), core, slot, job),
-        0o327 => made(jumps(core, slot, x, 7), core, slot, job),
-        0o340 => made(aoj(core, slot, x, 0), core, slot, job),
-        0o344 => made(aoj(core, slot, x, 4), core, slot, job),
-        0o350 => made(aos(core, slot, x, 0), core, slot, job),
-        0o360 => made(soj(core, slot, x, 0), core, slot, job),
-        0o364 => made(soj(core, slot, x, 4), core, slot, job),
-        0o365 => made(soj(core, slot, x, 5), core, slot, job),
-        0o367 => made(soj(core, slot, x, 7), core, slot, job),
-        0o370 => made(sos(core, slot, x, 0), core, slot, job),
-        _ => by_skip(core, slot, job, opcode, x),
-    }
-}
-
-/// The unit of a job, whose instruction word has this opcode and finds this. What comes often is done here: moves,
-/// sums and Boolean functions, and what `by_count` has.
-#[inline(always)]
-#[tactic(auto, using(crate::proofs::ChainLaws::stands), unfolding(its_plain::specs::Unit::row_of, its_word::specs::Opcode::instruction_of, its_word::specs::Opcode::mode_of, its_word::specs::Opcode::full_word_opcode, its_word::specs::Opcode::shift_opcode))]
-pub fn frequent(core: &mut Core, slot: u8, job: &mut Job, opcode: u32, x: &Context) -> Ended
-    requires slot { slot < slots }
-    requires pc { job.old.pc < 2 ^ 18 }
-    requires fits { Fits x.now }
-    requires stands { Stands (core_at core.old slot) job.old opcode x.now }
-    ensures { InPlace result (unit_of (core_at core.old slot) job.old) core.old core.new slot job.old job.new }
-{
-    match opcode {
-        0o200 => moving(core, slot, job, x, MoveOp::Plain, Mode::Basic),
-        0o201 => moving(core, slot, job, x, MoveOp::Plain, Mode::Immediate),
-        0o202 => moving(core, slot, job, x, MoveOp::Plain, Mode::Memory),
-        0o205 => moving(core, slot, job, x, MoveOp::Swap, Mode::Immediate),
-        0o550 => halving(core, slot, job, x, 10, Mode::Basic),
-        0o554 => halving(core, slot, job, x, 11, Mode::Basic),
-        0o270 => working(core, slot, job, x, ArithmeticOp::Add, Mode::Basic),
-        0o271 => working(core, slot, job, x, ArithmeticOp::Add, Mode::Immediate),
-        0o274 => working(core, slot, job, x, ArithmeticOp::Sub, Mode::Basic),
-        0o275 => working(core, slot, job, x, ArithmeticOp::Sub, Mode::Immediate),
-        0o242 => shifting(core, slot, job, x, ShiftOp::Lsh),
-        0o400 => combining(core, slot, job, x, 0, Mode::Basic),
-        0o402 => combining(core, slot, job, x, 0, Mode::Memory),
-        0o404 => combining(core, slot, job, x, 1, Mode::Basic),
-        0o405 => combining(core, slot, job, x, 1, Mode::Immediate),
-        0o434 => combining(core, slot, job, x, 7, Mode::Basic),
-        0o474 => combining(core, slot, job, x, 15, Mode::Basic),
-        _ => by_count(core, slot, job, opcode, x),
+        0o253 => jumping(core, slot, job, x, BranchOp::Aobjn),
+        0o254 if x.a == 0 => jumping(core, slot, job, x, BranchOp::Jrst),
+        0o255 => jumping(core, slot, job, x, BranchOp::Jfcl),
+        0o260 => stacking(core, slot, job, x, StackOp::Pushj),
+        0o261 => stacking(core, slot, job, x, StackOp::Push),
+        0o262 => stacking(core, slot, job, x, StackOp::Pop),
+        0o263 => stacking(core, slot, job, x, StackOp::Popj),
+        0o265 => stacking(core, slot, job, x, StackOp::Jsp),
+        0o134 => picking(core, slot, job, x, ByteOp::Ildb),
+        0o135 => picking(core, slot, job, x, ByteOp::Ldb),
+        0o136 => picking(core, slot, job, x, ByteOp::Idpb),
+        0o137 => picking(core, slot, job, x, ByteOp::Dpb),
+        0o040 => Ended::Call,
+        0o043 if x.a == 0 => Ended::Call,
+        _ => rarely(core, slot, job),
     }
 }

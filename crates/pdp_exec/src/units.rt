@@ -13,7 +13,7 @@ use super::acting::frequent;
 use super::arithmetic::{arithmetic, booleans, shifts};
 use super::branches::{branches, stack};
 use super::bytes::bytes;
-use super::chain::{Places, at_hand, find, reach};
+use super::chain::{Places, find, reach};
 use super::comparisons::{comparisons, tests_of};
 use super::making::carry_out;
 use super::moves::{exchange, halves, moves};
@@ -133,7 +133,7 @@ pub fn rarely(core: &mut Core, slot: u8, job: &mut Job) -> Ended
 
 /// One unit of the job of a slot, as `unit` makes it, without the site of a call. At a fault and at a
 /// call the core and the job are as they were.
-#[inline(never)]
+#[inline]
 pub fn run(core: &mut Core, slot: u8, job: &mut Job) -> Ended
     requires slot { slot < slots }
     requires pc { job.old.pc < 2 ^ 18 }
@@ -144,10 +144,7 @@ pub fn run(core: &mut Core, slot: u8, job: &mut Job) -> Ended
     ensures frames { core.new.frames ≡ core.old.frames }
     ensures same { EndsSame result core.old core.new job.old job.new }
 {
-    match at_hand(core, slot, job) {
-        Some(f) => frequent(core, slot, job, f.opcode, &f.context),
-        None => rarely(core, slot, job),
-    }
+    frequent(core, slot, job)
 }
 
 /// The site of a context, with these places that were read on the way to it.
