@@ -1,8 +1,7 @@
 -- Words by address as a list in rising order of address.
-use Rattle.std.proofs.Common.{if◌then◌else◌, ◌≡◌, ◌<◌, ◌≤◌, ◌+◌, ◌-◌, ◌^◌, ℕ, zero, suc, Bool, true, false, nat_eq, nat_lt, Option, Some, None, is_some, List, [], ◌∷◌, ◌++◌, length, take, drop, get_or, slice_get, slice_set, replicate, refl, sym, ap, ◌∙◌, arith, inl, inr, add-one}
+use Rattle.std.proofs.Common.{◌≡◌, ◌<◌, ◌+◌, ℕ, zero, suc, true, false, nat_eq, nat_lt, Option, Some, None, is_some, List, [], ◌∷◌, ◌++◌, length, take, get_or, slice_get, slice_set, replicate, refl, sym, ap, ◌∙◌, arith, add-one}
 use Rattle.std.specs.Map.{lookup}
-use Rattle.std.proofs.lemmas.Bool.{cases_Bool, lt-ltb, le-ltb, eq-eqb, ne_eqb}
-use Rattle.std.proofs.lemmas.Bool.Decides.{nat_tests}
+use Rattle.std.proofs.lemmas.Bool.{lt-ltb, le-ltb, eq-eqb, ne_eqb}
 use Rattle.its_word.specs.Table.{filled}
 use Rattle.its_word.proofs.TableLaws.{length-filled}
 use Rattle.its_asm.specs.Assembly.{inserted, is_given}

@@ -1,5 +1,5 @@
 -- Labels one after another.
-use Rattle.std.proofs.Common.{◌≡◌, ◌<◌, ◌≤◌, ◌+◌, ◌-◌, ◌||◌, ℕ, zero, suc, Bool, true, false, Option, Some, None, List, [], ◌∷◌, ◌++◌, length, get_or, take, drop, map, refl, sym, ap, ◌∙◌, arith, fold, add-one}
+use Rattle.std.proofs.Common.{◌≡◌, ◌<◌, ◌+◌, ◌-◌, ◌||◌, ℕ, zero, suc, Bool, true, false, Some, None, List, [], ◌∷◌, length, get_or, take, drop, map, refl, ap, ◌∙◌, arith, add-one}
 use Rattle.std.proofs.lemmas.List.{take_rest}
 use Rattle.its_asm.specs.Text.{label_of}
 use Rattle.its_asm.specs.Statement.{labels_of}

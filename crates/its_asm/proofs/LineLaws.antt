@@ -1,5 +1,5 @@
 -- The lines of a text, taken off one after another.
-use Rattle.std.proofs.Common.{◌≡◌, ◌<◌, ◌≤◌, ◌+◌, ◌-◌, ◌^◌, ℕ, zero, suc, Bool, true, false, Option, Some, None, Err, List, [], ◌∷◌, ◌++◌, length, get_or, take, refl, sym, ap, ◌∙◌, arith, fold, add-one, inl, inr}
+use Rattle.std.proofs.Common.{◌≡◌, ◌<◌, ◌≤◌, ◌+◌, ◌^◌, ℕ, zero, suc, true, false, Option, Some, None, Err, List, [], ◌∷◌, length, get_or, take, refl, arith, add-one, inl, inr}
 use Rattle.std.proofs.lemmas.Bool.{cases_lt, ltb-false, or_from, or_right}
 use Rattle.its_asm.specs.declared.layout.Layout.{Layout}
 use Rattle.its_asm.specs.Text.{cut, pieces}

@@ -1,9 +1,9 @@
 -- Symbols that are defined.
-use Rattle.std.proofs.Common.{◌≡◌, ℕ, Bool, true, false, Option, Some, None, List, [], ◌∷◌, ◌++◌, refl, sym, ap, ◌∙◌, inl, inr, nat_eq, is_some}
+use Rattle.std.proofs.Common.{◌≡◌, ℕ, Some, None, List, [], ◌∷◌, ◌++◌, refl, sym, ◌∙◌, inl, inr, nat_eq}
 use Rattle.std.proofs.lemmas.Bool.{cases_Bool}
 use Rattle.std.specs.Map.{lookup}
 use Rattle.indexmap.specs.IndexMap.{insert_entry}
-use Rattle.its_asm.specs.Layout.{defined, is_defined}
+use Rattle.its_asm.specs.Layout.{defined}
 
 goes_last : (symbols : List (ℕ × ℕ)) (name value : ℕ) → lookup (nat_eq name) symbols ≡ None → insert_entry nat_eq symbols name value ≡ symbols ++ (name, value) ∷ []
 goes_last [] name value none = refl

@@ -5,13 +5,12 @@ use Rattle.std.specs.Map.{lookup}
 use Rattle.its_word.specs.Word.{left_of, pair_of}
 use Rattle.its_asm.specs.Text.{pieces}
 use Rattle.its_asm.specs.Layout.{before_all, defined, is_defined, labelled, laid_out, passed, read, symbols_after}
-use Rattle.its_asm.specs.declared.instruction.Item.{Item}
 use Rattle.its_asm.specs.declared.layout.Layout.{Layout}
 use Rattle.its_asm.specs.declared.layout.Line.{Line as Spoken}
 use Rattle.its_asm.specs.declared.layout.Stage.{Stage}
-use Rattle.its_asm.specs.declared.layout.Stage.TheVariants.{Begin, Body, After}
+use Rattle.its_asm.specs.declared.layout.Stage.TheVariants.{After}
 use Rattle.its_asm.specs.declared.statements.Statement.{Statement}
-use Rattle.its_asm.specs.declared.statements.Statement.TheVariants.{Nothing, Job, Equals, Loc, Gives, Go}
+use Rattle.its_asm.specs.declared.statements.Statement.TheVariants.{Job, Equals, Loc, Gives, Go}
 use Rattle.its_asm.specs.declared.assembly.Image.{Image}
 use Rattle.its_asm.specs.declared.reason.AsmFault.{AsmFault}
 use Rattle.its_asm.specs.declared.reason.AsmFault.TheVariants.{Line}

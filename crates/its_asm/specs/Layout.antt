@@ -1,5 +1,5 @@
 -- Where lines stand, and the symbols that they define (docs/ASM.md, "Locations and symbols").
-use Rattle.std.specs.Prelude.{if◌then◌else◌, ℕ, ◌+◌, ◌%◌, ◌^◌, Bool, true, false, not, ◌||◌, Option, Some, None, Result, Ok, Err, List, [], ◌∷◌, ◌++◌, length, drop, map, fold, nat_le, nat_eq, is_some}
+use Rattle.std.specs.Prelude.{if◌then◌else◌, ℕ, ◌+◌, ◌%◌, ◌^◌, Bool, true, false, Option, Some, None, Ok, List, [], ◌∷◌, ◌++◌, length, drop, fold, nat_le, nat_eq, is_some}
 use Rattle.std.specs.Map.{lookup}
 use Rattle.its_asm.specs.Text.{is_printable, words_of}
 use Rattle.its_asm.specs.Expression.{Scope}

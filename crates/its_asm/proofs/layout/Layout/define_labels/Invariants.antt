@@ -1,4 +1,4 @@
-use Rattle.std.proofs.Common.{◌≡◌, ◌%◌, ◌^◌, take}
+use Rattle.std.proofs.Common.{◌≡◌, take}
 use Rattle.its_asm.specs.Layout.{labelled}
 use Rattle.its_asm.specs.Assembly.{any_defined}
 use Rattle.its_asm.proofs.layout.Layout.define_labels.Given as goal
