@@ -5,3 +5,7 @@ pub mod NumberLaws
 pub mod WordLaws
 pub mod TypeLaws
 pub mod TableLaws
+pub mod SymbolLaws
+pub mod LayoutLaws
+pub mod LineLaws
+pub mod CellLaws

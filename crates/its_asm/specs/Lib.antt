@@ -5,5 +5,9 @@ pub mod Instruction
 pub mod Mnemonic
 pub mod Statement
 pub mod TypeOut
+pub mod Layout
+pub mod Assembly
+pub mod Cells
+pub mod Making
 pub mod Table
 pub mod Reading

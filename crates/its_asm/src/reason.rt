@@ -1,4 +1,6 @@
 //! Why a text is not assembled.
+ghost use Rattle.std.specs.Prelude.{◌≡◌};
+
 use std::alloc::AllocError;
 use thiserror::Error;
 
@@ -32,6 +34,10 @@ pub enum AsmFault {
 }
 
 impl From<AllocError> for AsmFault {
+    ghost use Rattle.its_asm.specs.declared.reason.AsmFault.TheVariants.{NoMemory};
+
+    ghost from_gives = { λ _ e. e ≡ NoMemory };
+
     fn from(_refused: AllocError) -> AsmFault {
         AsmFault::NoMemory
     }

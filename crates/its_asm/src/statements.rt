@@ -44,6 +44,36 @@ pub enum Statement {
     },
 }
 
+/// A console from 0 to 7, or `-` for none.
+fn console(word: &[u8]) -> Option<Option<u8>>
+    ensures { result ≡ console_of word.now }
+{
+    if is(word, b"-") {
+        return Some(None);
+    }
+    match read_octal(word).ok()?.value() {
+        c @ ..=7 => Some(Some(c as u8)),
+        _ => None,
+    }
+}
+
+/// `JOB u j c`
+#[tactic(auto, unfolding(crate::specs::Statement::job))]
+pub fn job(words: &[&[u8]]) -> Option<Statement>
+    ensures { result ≡ job (map (λ w. w.now) words.now) }
+{
+    let [first, u, j, c] = words else {
+        return None;
+    };
+    if !is(first, b"JOB") {
+        return None;
+    }
+    let console = console(c)?;
+    let u = read_sixbit(u).ok()?;
+    let j = read_sixbit(j).ok()?;
+    Some(Statement::Job { u, j, console })
+}
+
 /// `NAME = e`
 fn equals(names: Names, name: &[u8], sign: &[u8], e: &[u8]) -> Option<Statement>
     ensures { result ≡ equals (scope_of names.entry) name.now sign.now e.now }

@@ -1,7 +1,8 @@
 //! Symbols and their values.
-ghost use Rattle.std.specs.Prelude.{◌≡◌, ◌<◌, ◌^◌, ℕ, Some, None, [], length, nat_eq, slice_get, OnOk};
+ghost use Rattle.std.specs.Prelude.{◌≡◌, ◌<◌, ◌^◌, ℕ, Some, None, [], length, nat_eq, slice_get, IfOk, OnOk};
 ghost use Rattle.std.specs.List.{list_all};
 ghost use Rattle.std.specs.Map.{lookup};
+ghost use Rattle.its_asm.specs.Layout.{defined, is_defined};
 ghost use Rattle.its_asm.specs.Text.{is_symbol, is_symbol_byte, label_of, symbol_of};
 
 use super::words::closed;
@@ -41,6 +42,26 @@ impl Symbols {
     {
         let (name, value) = self.values.get_index(k as usize)?;
         Some((*name, *value))
+    }
+
+    /// How many there are.
+    pub(crate) fn len(&self) -> usize
+        ensures { result ≡ length self.now }
+    {
+        self.values.len()
+    }
+
+    /// Defines a symbol, unless it is defined: then its first value stays. Whether it was defined.
+    #[tactic(auto, using(crate::proofs::SymbolLaws::defines, crate::proofs::SymbolLaws::keeps))]
+    pub(crate) fn define(&mut self, name: Word, value: u32) -> Result<bool, AllocError>
+        ensures symbols { OnOk result (self.new ≡ defined self.old name value) }
+        ensures stood { IfOk result (λ b. b ≡ is_defined self.old name) }
+    {
+        if self.value(name).is_some() {
+            return Ok(true);
+        }
+        let _none = self.values.insert(name, value).map_err(|_| AllocError)?;
+        Ok(false)
     }
 
     /// The value of a symbol; None where it is not defined.

@@ -146,3 +146,145 @@ fn typed(rt: HostRuntime) {
     both_ways(&rt, b"WORD 247000,,5", Word::new(0o247000000005));
     both_ways(&rt, b"WORD 777777,,777777", Word::ONES);
 }
+
+/// Texts behind what they give: the names and the console of the job, where it starts, its words at
+/// their addresses, and its symbols; or the fault.
+const TEXTS: &str =
+    "650000000000 520000000000 None 100 100/201040000005 101/202040000200 102/45700000000 700000000000=200
+JOB U J -
+LOC 100
+MOVEI 1,5
+MOVEM 1,X
+.BREAK 16,
+X = 200
+GO 100
+%650000000000 520000000000 Some(3) 100 100/201040000005 101/202040000200 636441626400=100 700000000000=200
+
+JOB U J 3 ; the console is 3
+LOC 77+1
+START: MOVEI 1,5
+       MOVEM 1,X
+X = 100+100
+GO START
+%line 4 is refused: Undef
+JOB U J -
+LOC 100
+MOVEI 1,5
+MOVEM 1,Y
+.BREAK 16,
+X = 200
+GO 100
+%650000000000 520000000000 None 100 100/200040000104 101/270040000105 102/274040000104 103/254000000101 104/5 105/1000002
+JOB U J -
+LOC 100
+MOVE 1,[5]
+ADD 1,[1,,2]
+SUB 1,[5]
+JRST .-2
+GO 100
+%line 5 is refused: Twice
+JOB U J -
+LOC 100
+MOVE 1,[5]
+LOC 100
+GO 100
+%line 4 is refused: Twice
+JOB U J -
+X = 1
+WORD 0,,X
+X: WORD 2
+GO 0
+%line 4 is refused: Twice
+JOB U J -
+WORD 1
+LOC 0
+WORD 2
+GO 0
+%line 4 is refused: Range
+JOB U J -
+LOC 777777
+WORD 1
+WORD 2
+GO 0
+%line 4 is refused: Range
+JOB U J -
+LOC 777777
+MOVE 1,[5]
+GO 0
+%line 2 is refused: Undef
+JOB U J -
+A: X = A
+GO 0
+%line 3 is refused: Syntax
+JOB U J -
+GO 0
+WORD 1
+%line 1 is refused: Syntax
+LOC 100
+%line 3 is refused: Cut
+JOB U J -
+WORD 1";
+
+/// What `TEXTS` has before a text.
+fn shown(alloc: Global, text: &[u8]) -> Result<String, Fail> {
+    if text.len() > 100_000 {
+        return Ok(String::new(alloc));
+    }
+    let image = match assemble(alloc, text) {
+        Ok(image) => image,
+        Err(fault) => return Ok(format!(in alloc; "{fault}")?),
+    };
+    let (u, j, start) = (image.u.value(), image.j.value(), image.start);
+    let mut out = format!(in alloc; "{u:o} {j:o} {:?} {start:o}", image.console)?;
+    for k in 0..9 {
+        if let Some((a, w)) = image.words.at(k) {
+            let w = w.value();
+            let cell = format!(in alloc; " {a:o}/{w:o}")?;
+            out.push_str(&cell)?;
+        }
+    }
+    for k in 0..9 {
+        if let Some((name, value)) = image.symbols.at(k) {
+            let name = name.value();
+            let symbol = format!(in alloc; " {name:o}={value:o}")?;
+            out.push_str(&symbol)?;
+        }
+    }
+    Ok(out)
+}
+
+#[test]
+fn texts(rt: HostRuntime) -> Result<(), Fail> {
+    let alloc = rt.alloc();
+    for row in TEXTS.split('%') {
+        let (wanted, text) = row.split_once("\n").expect(&rt, "a text");
+        let made = shown(alloc, text.as_bytes())?;
+        assert_eq!(rt; made.as_str(), wanted, "at {text:?}");
+    }
+    Ok(())
+}
+
+/// As many symbols as a text may define, and one more; a line of 255 bytes, and one of 256.
+#[test]
+fn limits(rt: HostRuntime) -> Result<(), Fail> {
+    let alloc = rt.alloc();
+    let mut text = format!(in alloc; "JOB U J -\n")?;
+    for k in 1..512u32 {
+        let symbol = format!(in alloc; "S{k:o} = {k:o}\n")?;
+        text.push_str(&symbol)?;
+    }
+    let full = format!(in alloc; "{text}LAST:\nGO S777")?;
+    let made = shown(alloc, full.as_bytes())?;
+    assert!(rt;
+        made.as_bytes()
+            .starts_with(b"650000000000 520000000000 None 777 ")
+    );
+    let more = format!(in alloc; "{text}LAST: MORE:\nGO S777")?;
+    let made = shown(alloc, more.as_bytes())?;
+    assert_eq!(rt; made.as_str(), "line 513 is refused: Full");
+    let made = shown(alloc, &[b' '; 255])?;
+    assert_eq!(rt; made.as_str(), "line 2 is refused: Cut");
+    let made = shown(alloc, &[b' '; 256])?;
+    assert_eq!(rt; made.as_str(), "line 1 is refused: Long");
+    Ok(())
+}
