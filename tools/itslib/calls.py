@@ -15,7 +15,8 @@ MOST = 8                                      # argument words of a block
 XCT, CALL, IOT = 0o256, 0o043, 0o040          # opcodes
 
 # What the inputs of each call are, in their order
-INPUTS = {"SLEEP": ["time"], "DISMIS": ["stack pointer"], "USRVAR": ["job", "variable", "new value"],
+INPUTS = {"SLEEP": ["time"], "REALT": ["period"], "DISMIS": ["stack pointer"],
+          "USRVAR": ["job", "variable", "new value"],
           "OPEN": ["channel", "device", "name 1", "name 2", "directory"], "CLOSE": ["channel"],
           "SIOT": ["channel", "pointer", "count"], "FINISH": ["channel"], "LISTEN": ["channel"], "TTYLND": ["job"],
           "ACCESS": ["channel", "position"], "FILLEN": ["channel"],

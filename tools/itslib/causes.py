@@ -6,27 +6,27 @@ from dataclasses import dataclass
 from typing import List, Optional
 
 from .meaning import Known
-from .session import CLOSES, LINES, Exchange, Line
+from .session import CLOSES, JOB_LINES, LINES, Exchange, Line
 from .words import DIGITS
 
 # What stands behind the first word of each line: n a number, name a name, con a console or `-`
-FORMS = {"LOAD": "name name con", "GO": "n", "FILE": "name name name", "EOF": "", "TICK": "n n", "TYPE": "n n",
-         "DRAIN": "n n", "CLOCK": "n", "INT": "n n n", "EXAM": "n n n", "STATE": "n", "DEPOSIT": "n n n", "STOP": "n",
-         "CONT": "n", "PEEK": "n", "DIR": "name", "SHOW": "name name name", "END": ""}
+FORMS = {"VERSION": "n", "LOAD": "name name con", "RO": "n", "SYM": "name n", "GO": "n", "FILE": "name name name", "EOF": "",
+         "TICK": "n n", "TYPE": "n n", "DRAIN": "n n", "CLOCK": "n", "INT": "n n n", "EXAM": "n n n", "STATE": "n",
+         "DEPOSIT": "n n n", "STOP": "n", "CONT": "n", "PEEK": "n", "DIR": "name", "SHOW": "name name name", "END": ""}
 
 # How each line is written
-WRITTEN = {"LOAD": "LOAD u j c", "GO": "GO a", "FILE": "FILE d x y", "EOF": "EOF", "TICK": "TICK s n",
-           "TYPE": "TYPE c and 1 to 32 bytes", "DRAIN": "DRAIN c n", "CLOCK": "CLOCK n", "INT": "INT s v w",
-           "EXAM": "EXAM s a n", "STATE": "STATE s", "DEPOSIT": "DEPOSIT s a w", "STOP": "STOP s", "CONT": "CONT s",
-           "PEEK": "PEEK s", "DIR": "DIR d", "SHOW": "SHOW d x y", "END": "END", "a/": "a/ and 1 to 16 words",
-           "/": "/ and 1 to 16 words"}
+WRITTEN = {"VERSION": "VERSION v", "LOAD": "LOAD u j c", "RO": "RO p", "SYM": "SYM name a", "GO": "GO a",
+           "FILE": "FILE d x y", "EOF": "EOF", "TICK": "TICK s n", "TYPE": "TYPE c and 1 to 32 bytes", "DRAIN": "DRAIN c n",
+           "CLOCK": "CLOCK n", "INT": "INT s v w", "EXAM": "EXAM s a n", "STATE": "STATE s", "DEPOSIT": "DEPOSIT s a w",
+           "STOP": "STOP s", "CONT": "CONT s", "PEEK": "PEEK s", "DIR": "DIR d", "SHOW": "SHOW d x y", "END": "END",
+           "a/": "a/ and 1 to 16 words", "/": "/ and 1 to 16 words"}
 
 # The numbers with a range of their own: which word of the line, least, most, and what it is
-RANGES = {"GO": [(1, 0, 0o777777, "an address")], "TICK": [(1, 0, 0o77, "a slot"), (2, 1, 0o1000, "the count of ticks")],
-          "DRAIN": [(2, 1, 0o100, "the count of bytes")], "INT": [(1, 0, 0o77, "a slot")],
-          "EXAM": [(1, 0, 0o77, "a slot"), (2, 0, 0o777777, "an address"), (3, 1, 0o10, "the count of words")],
-          "STATE": [(1, 0, 0o77, "a slot")], "DEPOSIT": [(1, 0, 0o77, "a slot"), (2, 0, 0o777777, "an address")],
-          "STOP": [(1, 0, 0o77, "a slot")], "CONT": [(1, 0, 0o77, "a slot")], "PEEK": [(1, 0, 0o77, "a slot")]}
+RANGES = {"VERSION": [(1, 1, 2, "the version")], "RO": [(1, 0, 0o377, "a page")], "SYM": [(2, 0, 0o777777, "an address")],
+          "GO": [(1, 0, 0o777777, "an address")], "TICK": [(2, 1, 0o1000, "the count of ticks")],
+          "DRAIN": [(2, 1, 0o100, "the count of bytes")],
+          "EXAM": [(2, 0, 0o777777, "an address"), (3, 1, 0o10, "the count of words")],
+          "DEPOSIT": [(2, 0, 0o777777, "an address")]}
 
 
 @dataclass
@@ -73,15 +73,20 @@ def foreign(rest: bytes) -> str:
 
 def wrong_place(line: Line) -> Optional[Cause]:
     """A line that may not stand where it stands."""
-    inside = {"a/": "LOAD", "GO": "LOAD", "/": "FILE", "EOF": "FILE"}
+    inside = {"a/": "LOAD", "RO": "LOAD", "SYM": "LOAD", "GO": "LOAD", "/": "FILE", "EOF": "FILE"}
     if line.kind not in LINES and line.kind not in inside:
         return None
+    if line.kind == "VERSION" and line.number > 1:
+        return Cause("not allowed here: VERSION stands in line 1 alone", starts(line)[0])
+    if line.kind in ("RO", "SYM") and line.version == 1:
+        return Cause("%s lines are of version 2 of the session text: line 1 has to be VERSION 2" % line.kind, starts(line)[0])
     wanted = inside.get(line.kind, "")
     if wanted == line.block:
         return None
     if line.block:
+        loads = "a/, RO and SYM lines" if line.version == 2 else "a/ lines"
         return Cause("not allowed here: the block of %s is open since line %d, and up to its %s only %s may stand in it" % (
-            line.block, line.since, CLOSES[line.block], "a/ lines" if line.block == "LOAD" else "/ lines"), starts(line)[0])
+            line.block, line.since, CLOSES[line.block], loads if line.block == "LOAD" else "/ lines"), starts(line)[0])
     if line.kind == CLOSES[wanted]:
         return Cause("not allowed here: %s closes the block of %s, and none is open" % (line.kind, wanted), starts(line)[0])
     return Cause("not allowed here: %s lines stand only behind a %s line, up to its %s" % (
@@ -191,6 +196,8 @@ def out_of_range(line: Line, known: Known) -> Cause:
     """The cause of RANGE."""
     values, columns = numbers(line), starts(line)
     ranges = RANGES.get(line.kind, [])
+    if line.kind in JOB_LINES + ("TICK",):
+        ranges = [(1, 0, 0o137 if line.version == 2 else 0o77, "a slot")] + ranges
     if line.kind == "TYPE":
         ranges = [(at, 0, 0o177, "a byte") for at in range(2, len(values))]
     for at, least, most, what in ranges:
@@ -209,6 +216,8 @@ def out_of_range(line: Line, known: Known) -> Cause:
 def absent(line: Line) -> Cause:
     """The cause of NOPAGE."""
     values = numbers(line)
+    if line.kind == "RO":
+        return Cause("page %o is not there: load a word into it first" % values[1], starts(line)[1])
     last = values[2] + (values[3] - 1 if line.kind == "EXAM" else 0)
     pages = sorted({values[2] >> 10, last >> 10})
     return Cause("slot %o has not every page of these words: page %s" % (values[1], " and ".join(
@@ -223,7 +232,7 @@ def no_job(line: Line, known: Known) -> Cause:
         else "has made none"), starts(line)[1])
 
 
-FULL = {"LOAD": "64 jobs stand, the most that there can be", "FILE": "256 files stand, the most that there can be",
+FULL = {"SYM": "the job has 512 symbols, the most that it can have", "FILE": "256 files stand, the most that there can be",
         "a/": "1024 pages are mapped, the most that there can be", "/": "all 2048 blocks of files are in use"}
 
 
@@ -246,12 +255,17 @@ def cause_of(exchange: Exchange, known: Known) -> Cause:
         return no_job(line, known)
     if reason == "NOPAGE":
         return absent(line)
+    if reason == "READONLY" and line.kind == "a/":
+        return Cause("a word of this line lies on a page that is read only", columns[0])
     if reason == "READONLY":
         return Cause("the page of this word is read only", columns[2])
     if reason == "NOFILE":
         return Cause("no file has these names: directory, name 1, name 2", columns[1])
     if reason == "EXISTS":
         return Cause("a file with these names stands already", columns[1])
+    if reason == "FULL" and line.kind == "LOAD":
+        most = 96 if line.version == 2 else 64
+        return Cause("%d jobs stand, the most that there can be in version %d" % (most, line.version), columns[0])
     if reason == "FULL":
         return Cause(FULL.get(line.kind, "there is no room"), columns[0])
     return Cause("docs/SESSION.md, \"Refusals\", has the reasons")

@@ -100,6 +100,11 @@ def says_load(exchange: Exchange, known: Known) -> List[str]:
                                                    "without a console" if console == "-" else "with console " + console)]
 
 
+def says_version(exchange: Exchange, known: Known) -> List[str]:
+    """VERSION v"""
+    return ["96 jobs, read-only pages and symbols" if exchange.line.version == 2 else "what holds without this line too"]
+
+
 def says_words(exchange: Exchange, known: Known) -> List[str]:
     """a/ and words"""
     words = exchange.line.words
@@ -113,6 +118,17 @@ def says_words(exchange: Exchange, known: Known) -> List[str]:
         if told:
             said.append("%o: %s" % (first + at, told))
     return ["; ".join(said)] if said else []
+
+
+def says_read_only(exchange: Exchange, known: Known) -> List[str]:
+    """RO p"""
+    page = number(exchange.line.words[1])
+    return ["page %o (addresses %o to %o) of slot %o becomes read only" % (page, page << 10, (page << 10) + 0o1777, known.slot)]
+
+
+def says_symbol(exchange: Exchange, known: Known) -> List[str]:
+    """SYM name a"""
+    return ["STATE of slot %o may name %s for %s" % (known.slot, short(exchange.line.words[2]), exchange.line.words[1])]
 
 
 def says_go(exchange: Exchange, known: Known) -> List[str]:
@@ -185,6 +201,13 @@ def bits_in_words(name: str, one: str, two: str) -> List[str]:
     return said
 
 
+def symbol_in(state: Dict[str, str]) -> str:
+    """The symbol nearest below the PC, where an S line has one."""
+    if state.get("symbol", "-") == "-":
+        return ""
+    return " (%s%s)" % (sixbit(state["symbol"]), "" if state["past"] == "0" else "+" + state["past"])
+
+
 def says_state(exchange: Exchange, known: Known) -> List[str]:
     """STATE s"""
     state = state_of(exchange.words)
@@ -193,7 +216,7 @@ def says_state(exchange: Exchange, known: Known) -> List[str]:
         "no superior" if state["superior"] == "-" else "its superior is slot " + state["superior"],
         "no console" if state["console"] == "-" else "console " + state["console"])]
     flags = flags_of(state["pc"])
-    said.append("%s, PC %s, %s" % ("it runs" if state["run"] == "RUN" else "it is stopped", pc_of(state["pc"]),
+    said.append("%s, PC %s%s, %s" % ("it runs" if state["run"] == "RUN" else "it is stopped", pc_of(state["pc"]), symbol_in(state),
                                    "flags: " + ", ".join(flags) if flags else "no flag on"))
     for name, key in (("pending", "pending"), ("mask", "mask"), ("deferred", "defer")):
         said += bits_in_words(name, state[key + "1"], state[key + "2"])
@@ -264,9 +287,9 @@ def says_show(exchange: Exchange, known: Known) -> List[str]:
 
 
 SAYS: Dict[str, Callable[[Exchange, Known], List[str]]] = {
-    "LOAD": says_load, "a/": says_words, "GO": says_go, "FILE": says_file, "TICK": says_ticks, "TYPE": says_type,
-    "DRAIN": says_drain, "CLOCK": says_clock, "INT": says_interrupt, "EXAM": says_exam, "STATE": says_state,
-    "DEPOSIT": says_deposit, "STOP": says_stop, "CONT": says_cont, "PEEK": says_peek, "DIR": says_dir, "SHOW": says_show}
+    "VERSION": says_version, "LOAD": says_load, "a/": says_words, "RO": says_read_only, "SYM": says_symbol,
+    "GO": says_go, "FILE": says_file, "TICK": says_ticks, "TYPE": says_type, "DRAIN": says_drain, "CLOCK": says_clock,
+    "INT": says_interrupt, "EXAM": says_exam, "STATE": says_state, "DEPOSIT": says_deposit, "STOP": says_stop, "CONT": says_cont, "PEEK": says_peek, "DIR": says_dir, "SHOW": says_show}
 
 
 def meaning(exchange: Exchange, known: Known) -> List[str]:

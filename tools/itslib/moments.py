@@ -22,7 +22,7 @@ GROUP = 8                    # words that one EXAM shows; a group of words has t
 ACCUMULATORS = 16            # words that each job has, and that are in no page
 PAGES = 256
 ZEROS = ["000000000000"] * GROUP
-INSIDE = ("LOAD", "FILE", "a/", "/")     # lines behind which a block is open
+INSIDE = ("LOAD", "FILE", "a/", "RO", "SYM", "/")     # lines behind which a block is open
 WHOLE = 4_000_000            # words of all looks together; where they were more, not all words are looked at
 ROOM = 64                    # bytes that a console keeps of its input, and of its output
 

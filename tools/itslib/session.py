@@ -15,9 +15,9 @@ class Wrong(Exception):
 
 
 # How many words each line has, its first word included, and the letter of its answer. TYPE has any number of bytes.
-LINES = {"LOAD": (4, "J"), "GO": (2, ""), "FILE": (4, ""), "EOF": (1, ""), "TICK": (3, "T"), "TYPE": (0, "Y"),
-         "DRAIN": (3, "D"), "CLOCK": (2, ""), "INT": (4, ""), "EXAM": (4, "E"), "STATE": (2, "S"), "DEPOSIT": (4, ""),
-         "STOP": (2, ""), "CONT": (2, ""), "PEEK": (2, "P"), "DIR": (2, "R"), "SHOW": (4, "W"), "END": (1, "")}
+LINES = {"VERSION": (2, ""), "LOAD": (4, "J"), "RO": (2, ""), "SYM": (3, ""), "GO": (2, ""), "FILE": (4, ""), "EOF": (1, ""),
+         "TICK": (3, "T"), "TYPE": (0, "Y"), "DRAIN": (3, "D"), "CLOCK": (2, ""), "INT": (4, ""), "EXAM": (4, "E"),
+         "STATE": (2, "S"), "DEPOSIT": (4, ""), "STOP": (2, ""), "CONT": (2, ""), "PEEK": (2, "P"), "DIR": (2, "R"), "SHOW": (4, "W"), "END": (1, "")}
 
 # The lines that name a job's slot as their first number and need a job there
 JOB_LINES = ("EXAM", "STATE", "DEPOSIT", "STOP", "CONT", "INT", "PEEK")
@@ -36,6 +36,7 @@ class Line:
     block: str = ""              # the block in which it stands: LOAD, FILE or none. GO and EOF stand in theirs
     since: int = 0               # the number of the line that opened the block
     ended: bool = False          # the input is at its end here
+    version: int = 1             # of the session text, which line 1 may say
 
 
 @dataclass
@@ -80,16 +81,18 @@ def split(text: str) -> List[str]:
 
 def lines_of(text: str) -> List[Line]:
     """The lines of a session with their blocks, and the end of the input behind them."""
-    lines, block, since = [], "", 0
+    lines, block, since, version = [], "", 0, 1
     for at, one in enumerate(split(text), 1):
         words = [word for word in one.split(" ") if word]
         kind = kind_of(words)
-        lines.append(Line(at, one, words, kind, block, since))
+        if at == 1 and kind == "VERSION" and [word.lstrip("0") for word in words[1:]] == ["2"]:
+            version = 2
+        lines.append(Line(at, one, words, kind, block, since, version=version))
         if not block and kind in CLOSES:
             block, since = kind, at
         elif block and kind == CLOSES[block]:
             block, since = "", 0
-    lines.append(Line(len(lines) + 1, "", [], "", block, since, ended=True))
+    lines.append(Line(len(lines) + 1, "", [], "", block, since, ended=True, version=version))
     return lines
 
 
@@ -191,12 +194,14 @@ def peek_of(words: List[str]) -> Peek:
     return Peek(number(words[1]), words[2], words[3], number(words[4]), *words[5:8])
 
 
-# The registers of an S line, in their order
+# The registers of an S line, in their order; and what version 2 has behind them: the symbol and how far the PC is past it
 STATE_WORDS = ("user", "job", "superior", "console", "run", "pc", "pending1", "pending2", "mask1", "mask2", "defer1", "defer2")
+SYMBOL_WORDS = ("symbol", "past")
 
 
 def state_of(words: List[str]) -> Dict[str, str]:
-    """An S line: each register by its name."""
-    if len(words) != 2 + len(STATE_WORDS):
+    """An S line: each register by its name, and the symbol where it has one or says that there is none."""
+    names = STATE_WORDS + SYMBOL_WORDS
+    if len(words) - 2 not in (len(STATE_WORDS), len(names)):
         raise IndexError(words)
-    return dict(zip(STATE_WORDS, words[2:]))
+    return dict(zip(names, words[2:]))

@@ -211,7 +211,7 @@ def tell_one(story: Story, exchange: Exchange) -> None:
         tell_ticks(story, exchange)
     elif line.kind in JOB_LINES:
         tell_job_line(story, exchange, tip)
-    elif line.kind not in ("", "a/", "/", "EOF", "END"):
+    elif line.kind not in ("", "VERSION", "a/", "RO", "SYM", "/", "EOF", "END"):
         tell_other_line(story, exchange, tip)
 
 

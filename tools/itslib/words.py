@@ -12,7 +12,7 @@ CALLS = {"504156470000": "HANG", "635445456000": "SLEEP", "445163555163": "DISMI
          "545747576564": "LOGOUT", "576045560000": "OPEN", "435457634500": "CLOSE", "635157640000": "SIOT",
          "465156516350": "FINISH", "545163644556": "LISTEN", "646471545644": "TTYLND", "414343456363": "ACCESS",
          "465154544556": "FILLEN", "444554456445": "DELETE", "624556415545": "RENAME", "656362554555": "USRMEM",
-         "654354576345": "UCLOSE", "435762425453": "CORBLK", "515764000000": ".IOT"}
+         "654354576345": "UCLOSE", "435762425453": "CORBLK", "624541546400": "REALT", "515764000000": ".IOT"}
 
 # Error numbers of calls
 ERRORS = {0o1: "no such call", 0o2: "too few arguments", 0o3: "too many arguments", 0o4: "bad channel",
@@ -26,7 +26,7 @@ ERRORS = {0o1: "no such call", 0o2: "too few arguments", 0o3: "too many argument
 PENDING = {0o1: ("BRK", "a .BREAK"), 0o2: ("ILO", "an illegal operation"), 0o4: ("MPV", "an absent page"),
            0o10: ("WRO", "a store to a read-only page"), 0o20: ("IOC", "an .IOT that failed"),
            0o40: ("TBL", "a delivery that cannot be made"), 0o100: ("PDL", "a pushdown count ran out"),
-           0o200: ("INF", "an inferior was stopped or logged out")}
+           0o200: ("INF", "an inferior was stopped or logged out"), 0o400: ("ALR", "an alarm is due")}
 FATAL = 0o77
 
 # Flags, in the left half of a PC word

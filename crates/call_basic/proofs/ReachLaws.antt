@@ -7,12 +7,12 @@ use Rattle.its_core.specs.Cores.{core_at}
 use Rattle.its_jobs.specs.Table.{job_at, superior_at}
 use Rattle.its_plain.specs.CallBasic.{value_of_other}
 use Rattle.its_plain.specs.Own.{variable_of}
-use Rattle.its_world.specs.World.{raw_of, raw_at}
+use Rattle.its_world.specs.World.{alarm_at, raw_of, raw_at}
 use Rattle.its_world.specs.declared.world.World.{World}
 use Rattle.call_basic.specs.Seen.{raw_with}
 
-pub value_some : (w : World) (s : ℕ) (x : Variable) (j : Job) → job_at w.jobs s ≡ Some j → variable_of s (raw_with w s j) x ≡ value_of_other s x (raw_at w.files w.core w.jobs s)
-value_some w s x j h = ap (λ o. value_of_other s x (raw_of w.files (core_at w.core s) (superior_at w.jobs s) o)) (sym h)
+pub value_some : (w : World) (s : ℕ) (x : Variable) (j : Job) → job_at w.jobs s ≡ Some j → variable_of s (raw_with w s j) x ≡ value_of_other s x (raw_at w.files w.core w.jobs w.alarms.items s)
+value_some w s x j h = ap (λ o. value_of_other s x (raw_of w.files (core_at w.core s) (superior_at w.jobs s) (alarm_at w.alarms.items s) o)) (sym h)
 
-pub value_none : (w : World) (s : ℕ) (x : Variable) → job_at w.jobs s ≡ None → 0 ≡ value_of_other s x (raw_at w.files w.core w.jobs s)
-value_none w s x h = ap (λ o. value_of_other s x (raw_of w.files (core_at w.core s) (superior_at w.jobs s) o)) (sym h)
+pub value_none : (w : World) (s : ℕ) (x : Variable) → job_at w.jobs s ≡ None → 0 ≡ value_of_other s x (raw_at w.files w.core w.jobs w.alarms.items s)
+value_none w s x h = ap (λ o. value_of_other s x (raw_of w.files (core_at w.core s) (superior_at w.jobs s) (alarm_at w.alarms.items s) o)) (sym h)

@@ -11,7 +11,7 @@ use Rattle.its_frame.specs.declared.decision.Decision.TheVariants.{Waits}
 use Rattle.its_plain.specs.Decide.{target}
 use Rattle.its_plain.specs.Machine.{Whole}
 use Rattle.its_plain.specs.View.{View, view}
-use Rattle.its_world.specs.World.{bare, chans_of, state_of}
+use Rattle.its_world.specs.World.{alarm_at, bare, chans_of, state_of}
 use Rattle.its_world.specs.declared.world.World.{World}
 
 -- the channel of some registers under a number; above 17 (octal) there is none that is open
@@ -20,7 +20,7 @@ channel_under j n = if nat_lt n 16 then slice_index_or j.channels n Closed else 
 
 -- the raw job of a slot with these registers
 abbrev pub raw_with : World → ℕ → Job → Whole
-raw_with w s j = record { core = core_at w.core s; job = bare j; superior = superior_at w.jobs s; channels = chans_of w.files j }
+raw_with w s j = record { core = core_at w.core s; job = bare j; superior = superior_at w.jobs s; channels = chans_of w.files j; alarm = alarm_at w.alarms.items s }
 
 -- what its call looks at
 abbrev pub seen_by : World → ℕ → Job → Ask → View

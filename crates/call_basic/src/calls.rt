@@ -19,7 +19,7 @@ use its_world::World;
 pub fn target_of(w: &World, slot: u8, ask: &Ask) -> Option<u8>
     requires slot { slot < slots }
     requires job { is_some (job_at w.now.jobs slot) ≡ true }
-    ensures { IfSome (raw_at w.now.files w.now.core w.now.jobs slot) (λ q. result ≡ target q ask.now) }
+    ensures { IfSome (raw_at w.now.files w.now.core w.now.jobs w.now.alarms.items slot) (λ q. result ≡ target q ask.now) }
 {
     match w.jobs.job(slot) {
         Some(job) => target(w, slot, job, ask),

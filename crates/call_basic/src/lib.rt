@@ -1,8 +1,9 @@
-//! What the calls SLEEP, DISMIS, USRVAR and LOGOUT come to (docs/CALLS.md), and the ways in which any call ends.
+//! What the calls SLEEP, DISMIS, USRVAR, LOGOUT and REALT come to (docs/CALLS.md), and the ways in which any call ends.
 //! A decision is found from the world as it stands, and changes nothing. Beside it into which job a call reaches.
 #![tactic(auto)]
 
 mod arguments;
+mod arming;
 mod calls;
 mod ends;
 mod names;
@@ -15,6 +16,7 @@ mod tests;
 mod variables;
 
 pub use arguments::{has_input, in_footprint, input, place_of_input};
+pub use arming::realt;
 pub use calls::{logout, target_of};
 pub use ends::{exit_after, fails, faults, finishes, finishes_with, ioc, output, store_at};
 pub use party::{channel, is_oneself};

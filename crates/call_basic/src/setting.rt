@@ -98,7 +98,7 @@ fn other_variable(w: &World, slot: u8, job: &Job, ask: &Ask, inferior: u8, write
 /// The value of a variable of an inferior.
 #[tactic(auto, using(crate::proofs::ReachLaws::value_some, crate::proofs::ReachLaws::value_none))]
 fn value_of_other(w: &World, inferior: u8, variable: Variable) -> Word
-    ensures { result ≡ value_of_other inferior variable (raw_at w.now.files w.now.core w.now.jobs inferior) }
+    ensures { result ≡ value_of_other inferior variable (raw_at w.now.files w.now.core w.now.jobs w.now.alarms.items inferior) }
 {
     match w.jobs.job(inferior) {
         Some(job) => variable_of(w, inferior, job, variable),

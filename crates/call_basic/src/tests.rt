@@ -6,7 +6,7 @@ use arrayvec::ArrayVec;
 use its_core::Core;
 use its_frame::{CallName, Change, Decision, Exit, Store, Variable, Wait, error};
 use its_jobs::Jobs;
-use its_word::{Ask, BYTE_HALF, Channel, Operand, Word};
+use its_word::{Ask, BYTE_HALF, Channel, Operand, SLOTS, Word};
 use its_world::World;
 use std::alloc::Global;
 use std::process::Abort;
@@ -50,11 +50,12 @@ fn cores(rt: &impl Abort, alloc: Global) -> Result<Core, Fail> {
 
 /// Jobs of slots 0, 1 and 2, each the superior of the next. Of slot 1 channel 0 is on slot 2 with leave to
 /// write, channel 1 without, and channel 2 is a console's input.
-fn jobs(rt: &impl Abort, alloc: Global) -> Result<Jobs, Fail> {
-    let mut jobs = Jobs::open(alloc)?;
+fn jobs(rt: &impl Abort, jobs: &mut Jobs) -> Result<(), Fail>
+    ensures { jobs.new.limit ≡ jobs.old.limit }
+{
     for (slot, superior) in [None, Some(0), Some(1)].into_iter().enumerate() {
         if let Some(s) = superior {
-            assert!(rt; s < 64);
+            assert!(rt; usize::from(s) < SLOTS);
             assert!(rt; jobs.job(s).is_some());
         }
         let made = jobs.create(Word::new(7), Word::new(slot as u64), superior, Some(3))?;
@@ -76,14 +77,14 @@ fn jobs(rt: &impl Abort, alloc: Global) -> Result<Jobs, Fail> {
         };
         job.channels[2] = Channel::TtyIn;
     }
-    Ok(jobs)
+    Ok(())
 }
 
 /// A world of these at clock 100 (decimal).
 fn world(rt: &impl Abort, alloc: Global) -> Result<World, Fail> {
     let mut w = World::open(alloc)?;
     w.core = cores(rt, alloc)?;
-    w.jobs = jobs(rt, alloc)?;
+    jobs(rt, &mut w.jobs)?;
     w.clock = 100;
     Ok(w)
 }

@@ -12,7 +12,7 @@ ghost use Rattle.call_basic.specs.Seen.{is_waiting, raw_with, seen_by};
 
 use super::devices::{close, iot, open, siot};
 use super::pages::corblk;
-use call_basic::{dismiss, fails, input, logout, sleep, usrvar};
+use call_basic::{dismiss, fails, input, logout, realt, sleep, usrvar};
 use call_file::{access, delete, fillen, rename};
 use call_tty::{finish, listen, ttylnd};
 use call_usr::{uclose, usrmem};
@@ -26,8 +26,8 @@ pub fn decide(w: &World, slot: u8, ask: &Ask) -> Decision
     requires job { is_some (job_at w.now.jobs slot) ≡ true }
     requires tidy { Tidy w.now }
     requires forest { Forest (state_of w.now).raw }
-    requires unmarked { IfSome (raw_at w.now.files w.now.core w.now.jobs slot) (λ q. helps q ask.now ≡ true → w.now.files.mark ≡ None) }
-    ensures { IfSome (raw_at w.now.files w.now.core w.now.jobs slot) (λ q. result ≡ decision (state_of w.now).raw slot q ask.now) }
+    requires unmarked { IfSome (raw_at w.now.files w.now.core w.now.jobs w.now.alarms.items slot) (λ q. helps q ask.now ≡ true → w.now.files.mark ≡ None) }
+    ensures { IfSome (raw_at w.now.files w.now.core w.now.jobs w.now.alarms.items slot) (λ q. result ≡ decision (state_of w.now).raw slot q ask.now) }
 {
     match w.jobs.job(slot) {
         Some(job) => decided(w, slot, job, ask),
@@ -41,8 +41,8 @@ pub fn ready(w: &World, slot: u8, ask: &Ask) -> bool
     requires job { is_some (job_at w.now.jobs slot) ≡ true }
     requires tidy { Tidy w.now }
     requires forest { Forest (state_of w.now).raw }
-    requires unmarked { IfSome (raw_at w.now.files w.now.core w.now.jobs slot) (λ q. helps q ask.now ≡ true → w.now.files.mark ≡ None) }
-    ensures { IfSome (raw_at w.now.files w.now.core w.now.jobs slot) (λ q. result ≡ not (is_waiting (decision (state_of w.now).raw slot q ask.now))) }
+    requires unmarked { IfSome (raw_at w.now.files w.now.core w.now.jobs w.now.alarms.items slot) (λ q. helps q ask.now ≡ true → w.now.files.mark ≡ None) }
+    ensures { IfSome (raw_at w.now.files w.now.core w.now.jobs w.now.alarms.items slot) (λ q. result ≡ not (is_waiting (decision (state_of w.now).raw slot q ask.now))) }
 {
     match decide(w, slot, ask) {
         Decision::Waits(_) => false,
@@ -84,6 +84,7 @@ fn decided(w: &World, slot: u8, job: &Job, ask: &Ask) -> Decision
         Some(CallName::Usrmem) => usrmem(w, slot, job, ask),
         Some(CallName::Uclose) => uclose(w, slot, job, ask),
         Some(CallName::Corblk) => corblk(w, slot, job, ask),
+        Some(CallName::Realt) => realt(w, slot, job, ask),
         None => fails(job, ask, error::NO_CALL),
     }
 }

@@ -17,7 +17,7 @@ use Rattle.its_plain.specs.Machine.{Names}
 use Rattle.its_plain.specs.CallFile.{channels_by, channels_in, file_named, is_full as has_no_room, is_read, words_by}
 use Rattle.its_plain.specs.View.{outline, view}
 use Rattle.its_world.specs.Tidy.{Tidy, channel_at, channel_by}
-use Rattle.its_world.specs.World.{chan_of, raw_of, state_of}
+use Rattle.its_world.specs.World.{alarm_at, chan_of, raw_of, state_of}
 use Rattle.its_world.specs.declared.world.World.{World}
 use Rattle.its_world.proofs.AcrossLaws.{read_is, reader_found}
 use Rattle.its_world.proofs.RoomLaws.{full_on}
@@ -26,13 +26,13 @@ use Rattle.call_basic.specs.Seen.{seen_by}
 use Rattle.call_file.specs.Held.{has_readers}
 
 -- the channels of all jobs
-chan_seen : (s : Store) (c : Core) (superior : Option ℕ) (o : Option Job) (n : ℕ) → channels_by (option_map outline (raw_of s c superior o)) n ≡ chan_of s (channel_by o n)
-chan_seen s c superior (Some j) n = refl
-chan_seen s c superior None n = refl
+chan_seen : (s : Store) (c : Core) (superior : Option ℕ) (a : Option (ℕ × ℕ)) (o : Option Job) (n : ℕ) → channels_by (option_map outline (raw_of s c superior a o)) n ≡ chan_of s (channel_by o n)
+chan_seen s c superior a (Some j) n = refl
+chan_seen s c superior a None n = refl
 
 pub seen_channels : (w : World) (s : ℕ) (j : Job) (a : Ask) → channels_in (seen_by w s j a) ≡ (λ k n. chan_of w.files (channel_at w.jobs k n))
 unfolding view state_of
-seen_channels w s j a = λ i k n. chan_seen w.files (core_at w.core k) (superior_at w.jobs k) (job_at w.jobs k) n i
+seen_channels w s j a = λ i k n. chan_seen w.files (core_at w.core k) (superior_at w.jobs k) (alarm_at w.alarms.items k) (job_at w.jobs k) n i
 
 -- whether a channel reads the file with some names
 read_by : (w : World) (names : Names) (o : Option ℕ) → Tidy w → IsStore w.files → found w.files names ≡ o

@@ -23,7 +23,7 @@ pub fn is_disk(ask: &Ask) -> bool
 /// Whether a call of a slot's job is one on files, before whose commit the parts of a half made close are made that are
 /// still owed.
 pub fn helps(w: &World, slot: u8, ask: &Ask) -> bool
-    ensures { IfSome (raw_at w.now.files w.now.core w.now.jobs slot) (λ q. result ≡ helps q ask.now) }
+    ensures { IfSome (raw_at w.now.files w.now.core w.now.jobs w.now.alarms.items slot) (λ q. result ≡ helps q ask.now) }
 {
     match w.jobs.job(slot) {
         Some(job) => is_on_files(w, slot, job, ask),

@@ -7,7 +7,7 @@ use Rattle.its_world.specs.declared.world.World.{World}
 
 -- what all calls see of a slot's job
 abbrev pub outline_at : World → ℕ → Option Outline
-outline_at w k = option_map outline (raw_at w.files w.core w.jobs k)
+outline_at w k = option_map outline (raw_at w.files w.core w.jobs w.alarms.items k)
 
 -- whether job j may take a console for itself
 abbrev pub may_take : World → ℕ → Option ℕ → Bool

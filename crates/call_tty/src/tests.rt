@@ -10,7 +10,7 @@ use call_basic::{channel, input};
 use its_core::Core;
 use its_frame::{CallName, Change, Decision, Exit, Held, Opened, Store, Wait};
 use its_jobs::Jobs;
-use its_word::{Ask, BYTE_HALF, Channel, Job, Operand, Word, read_octal};
+use its_word::{Ask, BYTE_HALF, Channel, Job, Operand, SLOTS, Word, read_octal};
 use its_world::World;
 use std::alloc::Global;
 use std::process::Abort;
@@ -136,11 +136,12 @@ fn cores(rt: &impl Abort, alloc: Global) -> Result<Core, Fail> {
 
 /// Jobs of slots 0, 1 and 2, each the superior of the next, at console 3. Of slot 1 channel 1 is the console's
 /// input, channel 2 its output, and channel 3 is on slot 2.
-fn jobs(rt: &impl Abort, alloc: Global) -> Result<Jobs, Fail> {
-    let mut jobs = Jobs::open(alloc)?;
+fn jobs(rt: &impl Abort, jobs: &mut Jobs) -> Result<(), Fail>
+    ensures { jobs.new.limit ≡ jobs.old.limit }
+{
     for (slot, superior) in [None, Some(0), Some(1)].into_iter().enumerate() {
         if let Some(s) = superior {
-            assert!(rt; s < 64);
+            assert!(rt; usize::from(s) < SLOTS);
             assert!(rt; jobs.job(s).is_some());
         }
         let made = jobs.create(Word::new(7), Word::new(slot as u64), superior, Some(3))?;
@@ -157,14 +158,14 @@ fn jobs(rt: &impl Abort, alloc: Global) -> Result<Jobs, Fail> {
             at: 0,
         };
     }
-    Ok(jobs)
+    Ok(())
 }
 
 /// A world of these.
 fn world(rt: &impl Abort, alloc: Global) -> Result<World, Fail> {
     let mut w = World::open(alloc)?;
     w.core = cores(rt, alloc)?;
-    w.jobs = jobs(rt, alloc)?;
+    jobs(rt, &mut w.jobs)?;
     Ok(w)
 }
 

@@ -15,7 +15,7 @@ use Rattle.its_plain.specs.CallBasic.{channel_at}
 use Rattle.its_plain.specs.CallTty.{is_shut}
 use Rattle.its_plain.specs.CallUsr.{inferior_named, opens_job, opens_usr, usr_tests}
 use Rattle.its_plain.specs.View.{View, outline, view}
-use Rattle.its_world.specs.World.{raw_of, state_of}
+use Rattle.its_world.specs.World.{alarm_at, raw_of, state_of}
 use Rattle.its_world.specs.declared.world.World.{World}
 use Rattle.call_basic.specs.Seen.{seen_by}
 use Rattle.call_tty.specs.Channels.{is_free}
@@ -43,11 +43,12 @@ opens_goes w s j a n control en ec f l =
     (no_test v a (input a 0) (unwrap_or a.control 0) (sym (seen_free w s j a (input a 0)) ∙ f) (subst (λ (c : ℕ). c ≤ 1) ec l))
 
 -- a slot has a job where the call sees one
-outline_some : (s : Store) (c : Core) (u : Option ℕ) (o : Option Job) → is_some (option_map outline (raw_of s c u o)) ≡ is_some o
-outline_some s c u (Some j) = refl
-outline_some s c u None = refl
+outline_some : (s : Store) (c : Core) (u : Option ℕ) (a : Option (ℕ × ℕ)) (o : Option Job) → is_some (option_map outline (raw_of s c u a o)) ≡ is_some o
+outline_some s c u a (Some j) = refl
+outline_some s c u a None = refl
 
-pub outlines_free : (w : World) (s : ℕ) (j : Job) (a : Ask) → least_free (seen_by w s j a).outlines ≡ least_free (job_at w.jobs)
+pub outlines_free : (w : World) (s : ℕ) (j : Job) (a : Ask) → least_free (seen_by w s j a).limit (seen_by w s j a).outlines ≡ least_free w.jobs.limit (job_at w.jobs)
 unfolding view state_of
 outlines_free w s j a =
-    least_alike (seen_by w s j a).outlines (job_at w.jobs) (λ k. outline_some w.files (core_at w.core k) (superior_at w.jobs k) (job_at w.jobs k))
+    ap (λ (n : ℕ). least_free n (seen_by w s j a).outlines) (sym w.limited)
+    ∙ least_alike w.jobs.limit (seen_by w s j a).outlines (job_at w.jobs) (λ k. outline_some w.files (core_at w.core k) (superior_at w.jobs k) (alarm_at w.alarms.items k) (job_at w.jobs k))

@@ -19,7 +19,7 @@ use Rattle.its_stepped.specs.Forest.{Forest}
 use Rattle.its_stepped.proofs.ForestLaws.{inferior_stands, job_few, on_inferior}
 use Rattle.its_stepped.proofs.TargetLaws.{target_on}
 use Rattle.its_world.specs.Storage.{HasJob}
-use Rattle.its_world.specs.World.{chan_of, chans_of, raw_of, state_of}
+use Rattle.its_world.specs.World.{alarm_at, chan_of, chans_of, raw_of, state_of}
 use Rattle.its_world.specs.declared.world.World.{World}
 use Rattle.its_world.proofs.StateLaws.{raw_some}
 use Rattle.its_world.proofs.StorageLaws.{has_job}
@@ -48,11 +48,11 @@ targets w s j a c k at b f h z n r e =
     }
 
 -- the core of the inferior, as the call sees it
-core_by : (s : Store) (c : Core) (u : Option ℕ) (o : Option Job) → is_some o ≡ true → core_of (raw_of s c u o) ≡ c
-core_by s c u (Some j) h = refl
-core_by s c u None h = cc
+core_by : (s : Store) (c : Core) (u : Option ℕ) (a : Option (ℕ × ℕ)) (o : Option Job) → is_some o ≡ true → core_of (raw_of s c u a o) ≡ c
+core_by s c u a (Some j) h = refl
+core_by s c u a None h = cc
 
 pub other_here : (w : World) (s : ℕ) (j : Job) (a : Ask) (k : ℕ) → Targets w s j a k → other_core (seen_by w s j a) ≡ core_at w.core k
 unfolding view state_of
 other_here w s j a k t =
-    ap (λ o. core_of (job_seen (state_of w).raw o)) t.target ∙ core_by w.files (core_at w.core k) (superior_at w.jobs k) (job_at w.jobs k) t.job
+    ap (λ o. core_of (job_seen (state_of w).raw o)) t.target ∙ core_by w.files (core_at w.core k) (superior_at w.jobs k) (alarm_at w.alarms.items k) (job_at w.jobs k) t.job

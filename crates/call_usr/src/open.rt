@@ -16,11 +16,11 @@ use arrayvec::ArrayVec;
 use call_basic::{exit_after, fails, finishes_with, input};
 use call_tty::{control, is_free, is_superior};
 use its_frame::{Change, Decision, Opened, error};
-use its_word::{Ask, Job, Word};
+use its_word::{Ask, Job, SLOTS, Word};
 use its_world::World;
 
 /// OPEN channel, USR, user name, job name: the caller's inferior with these names. Errors 4, 22; 13 where they are those of
-/// another job, 12 for input where no job has them, 14 where all slots have jobs.
+/// another job, 12 for input where no job has them, 14 where all slots below the limit have jobs.
 #[tactic(auto, using(call_tty::proofs::ChannelLaws::free), unfolding(its_plain::specs::CallUsr::opens_usr, its_plain::specs::View::view, its_world::specs::World::state_of))]
 pub fn open_usr(w: &World, slot: u8, job: &Job, ask: &Ask) -> Decision
     requires { slot < slots }
@@ -63,7 +63,7 @@ fn opens_job(w: &World, slot: u8, job: &Job, ask: &Ask, n: u8, write: bool) -> D
 /// An inferior with these names is made in the least free slot, and opened.
 #[tactic(auto, unfolding(its_plain::specs::View::view, its_world::specs::World::state_of))]
 fn makes_job(w: &World, slot: u8, job: &Job, ask: &Ask, n: u8, u: Word, x: Word) -> Decision
-    ensures { result ≡ makes_job (seen_by w.now slot job.now ask.now) ask.now n u x (least_free (seen_by w.now slot job.now ask.now).outlines) }
+    ensures { result ≡ makes_job (seen_by w.now slot job.now ask.now) ask.now n u x (least_free (seen_by w.now slot job.now ask.now).limit (seen_by w.now slot job.now ask.now).outlines) }
 {
     match w.jobs.free() {
         Some(free) => made(job, n, free, u, x),
@@ -93,7 +93,7 @@ fn inferior_named(w: &World, slot: u8, job: &Job, ask: &Ask, u: Word, x: Word) -
     requires { slot < slots }
     ensures { result ≡ inferior_named (seen_by w.now slot job.now ask.now) u x }
 {
-    (0..64u8).find(|k| is_named_inferior(w, slot, *k, u, x))
+    (0..SLOTS as u8).find(|k| is_named_inferior(w, slot, *k, u, x))
 }
 
 /// Whether the job of a slot is an inferior of the caller with these names.
@@ -108,7 +108,7 @@ fn is_named_inferior(w: &World, slot: u8, inferior: u8, u: Word, x: Word) -> boo
 fn any_named(w: &World, slot: u8, job: &Job, ask: &Ask, u: Word, x: Word) -> bool
     ensures { result ≡ any_named (seen_by w.now slot job.now ask.now) u x }
 {
-    (0..64u8).any(|k| has_names(w, k, u, x))
+    (0..SLOTS as u8).any(|k| has_names(w, k, u, x))
 }
 
 /// Whether the job of a slot has these names.

@@ -17,7 +17,7 @@ use Rattle.its_core.specs.declared.cores.Mapped.{Mapped}
 use Rattle.its_core.specs.declared.cores.Held.{Held}
 use Rattle.its_core.specs.Cores.{core_at, zeroed, IsEmpty}
 use Rattle.its_core.specs.Frames.{Listed, NoFrames, all_frames, standing, row, emptied, numbers, frames_drop_all}
-use Rattle.its_core.specs.Pool.{frame_of, held_frame, page_in, reserved_in, core_in, cores_in, frames_now, IsPool}
+use Rattle.its_core.specs.Pool.{frame_of, held_frame, page_in, reserved_in, core_in, cores_in, frames_now, IsPool, all_accs, all_places, all_words}
 use Rattle.its_core.proofs.ListLaws.{length-zeroed, get_or-zeroed, get_or-zeroed_below, get_or-zeroed_past}
 use Rattle.its_core.proofs.FrameLaws.{standing_none, count_none, length-row, get_or-row, length-emptied, get_or-emptied, get_or-emptied_below, get_or-emptied_past, row-emptied_here, row-emptied_other, map-emptied, drop_all_listed}
 use Rattle.its_core.proofs.ReadLaws.{core_at_is, core_at_past, reserved_at_is, get_or-map_none}
@@ -152,7 +152,7 @@ row_none os s h none i =
     let l = length-row os s h in
     elim (cases_lt i 256) [ inl lt ↦ get_or-row os s i lt ∙ none (256 * s + i) | inr ge ↦ get_or_past (row os s) i None (omega arith) ]
 
-listed_none : (b c : ℕ) → b ≡ 16384 → Listed (frames_now (filled b None) (filled c None) all_free)
+listed_none : (b c : ℕ) → b ≡ all_places → Listed (frames_now (filled b None) (filled c None) all_free)
 listed_none b c bi =
     let lb = length-filled {X = Option Mapped} b None in
     let lm = length-map (filled b None) frame_of in
@@ -170,7 +170,7 @@ no_frames : (a b c d : ℕ) → NoFrames (cores_in (filled a 0) (filled b None) 
 unfolding cores_in
 no_frames a b c d = record { free_in_order = free_list; no_lists = other_list; no_pages = λ s k. frames_filled b (256 * s + k); none_reserved = held_filled c }
 
-pub empty : (a b c d : ℕ) → a ≡ 1024 → IsEmpty (cores_in (filled a 0) (filled b None) (filled c None) (filled d 0) all_free)
+pub empty : (a b c d : ℕ) → a ≡ all_accs → IsEmpty (cores_in (filled a 0) (filled b None) (filled c None) (filled d 0) all_free)
 empty a b c d e = record {
   cores = λ k. elim (cases_lt k slots) [
     | inl lt ↦
@@ -183,7 +183,7 @@ empty a b c d e = record {
   frames = no_frames a b c d;
 }
 
-pub empty_pool : (a b c d : ℕ) → a ≡ 1024 → b ≡ 16384 → c ≡ 64 → d ≡ 1114112 → IsPool (filled a 0) (filled b None) (filled c None) (filled d 0) all_free 0
+pub empty_pool : (a b c d : ℕ) → a ≡ all_accs → b ≡ all_places → c ≡ slots → d ≡ all_words → IsPool (filled a 0) (filled b None) (filled c None) (filled d 0) all_free 0
 empty_pool a b c d ai bi ci di =
     let y = count_filled {X = Option Held} is_some c None refl in
     let lb = length-filled {X = Option Mapped} b None in

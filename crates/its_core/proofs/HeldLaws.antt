@@ -12,7 +12,7 @@ use Rattle.its_core.specs.declared.cores.Held.{Held}
 use Rattle.its_links.specs.Lists.{Linked, list_at, first, rest}
 use Rattle.its_core.specs.Frames.{Listed, all_frames, as_list, free, frames_reserve, frames_give_back}
 use Rattle.its_core.specs.Cores.{Cores, Reserved, core_at, reserved_at, clear_at, clear_with, cleared, zeroed}
-use Rattle.its_core.specs.Pool.{frame_of, held_frame, frame_words, page_in, reserved_in, core_in, cores_in, frames_now, IsPool, IsClear}
+use Rattle.its_core.specs.Pool.{frame_of, held_frame, frame_words, page_in, reserved_in, core_in, cores_in, frames_now, IsPool, IsClear, all_places, all_words}
 use Rattle.its_core.proofs.ListLaws.{frame_words_zeroed, frame_words_zeroed_other, zero_stays, get_or-zeroed, length-zeroed}
 use Rattle.its_core.proofs.FrameLaws.{count_missing, count_set, reserve_listed, give_back_listed}
 use Rattle.its_core.proofs.ReadLaws.{apart, reserved_frame_is, reserved_frame_none, reserved_at_is, held_frame_at, held_below, place_frame, place_below, frame_below}
@@ -98,7 +98,7 @@ module _ (accs : List ℕ) (places : List (Option Mapped)) (held : List (Option 
   ]
 
   -- a pool with another reserved page of a slot
-  held_pool : (s : ℕ) (o : Option Held) (vords : List ℕ) (minks : Linked) → s < slots → length vords ≡ 1114112 → minks.nodes ≡ all_frames → length minks.lists ≡ slots + 1
+  held_pool : (s : ℕ) (o : Option Held) (vords : List ℕ) (minks : Linked) → s < slots → length vords ≡ all_words → minks.nodes ≡ all_frames → length minks.lists ≡ slots + 1
       → Listed (frames_now places (slice_set held s o) minks) → ((t : ℕ) → list_at minks.lists (t + 1) ≡ list_at links.lists (t + 1))
       → ((k : ℕ) (h : Held) → slice_index_or (slice_set held s o) k None ≡ Some h → IsClear vords h)
       → mapped ≡ pages_mapped (core_at (cores_in accs places (slice_set held s o) vords minks))
@@ -225,7 +225,7 @@ module _ (accs : List ℕ) (places : List (Option Mapped)) (held : List (Option 
           let pb = place_below accs places held words links mapped pool p m r in
           ap (λ ws. Some (record { words = ws; writable = m.writable }))
           (frame_words_zeroed_other words h.frame m.frame i 256 (omega arith) (omega arith) le (λ same.
-          let x = apart accs places held words links mapped pool p (16384 + s) h.frame (place_frame accs places held words links mapped pool p m r ∙ ap Some same) (held_frame_at accs places held words links mapped pool s h e) in
+          let x = apart accs places held words links mapped pool p (all_places + s) h.frame (place_frame accs places held words links mapped pool p m r ∙ ap Some same) (held_frame_at accs places held words links mapped pool s h e) in
           omega arith))
 
   core_alike : (s i t : ℕ) (h : Held) → slice_index_or held s None ≡ Some h → i + 256 ≤ 1024 → core_in accs places (zeroed (1024 * h.frame + i) 256 words) t ≡ core_in accs places words t
@@ -257,7 +257,7 @@ module _ (accs : List ℕ) (places : List (Option Mapped)) (held : List (Option 
           let b = held_below accs places held words links mapped pool k g r in
           ap (λ ws. Some (record { clear = g.clear; words = ws }))
           (frame_words_zeroed_other words h.frame g.frame i 256 (omega arith) (omega arith) le (λ same.
-          let x = apart accs places held words links mapped pool (16384 + k) (16384 + s) h.frame (held_frame_at accs places held words links mapped pool k g r ∙ ap Some same) (held_frame_at accs places held words links mapped pool s h e) in
+          let x = apart accs places held words links mapped pool (all_places + k) (all_places + s) h.frame (held_frame_at accs places held words links mapped pool k g r ∙ ap Some same) (held_frame_at accs places held words links mapped pool s h e) in
           ne (omega arith)))
 
   pub clear_quarter_only : (s q : ℕ) (h : Held) → s < slots → q < 4 → slice_index_or held s None ≡ Some h

@@ -12,9 +12,9 @@ use Rattle.its_core.specs.declared.cores.Mapped.{Mapped}
 use Rattle.its_core.specs.declared.cores.Held.{Held}
 use Rattle.its_links.specs.Lists.{Linked}
 use Rattle.its_core.specs.Cores.{core_at, reserved_at}
-use Rattle.its_core.specs.Frames.{Listed, page_frame, reserved_frame}
+use Rattle.its_core.specs.Frames.{Listed, page_frame, reserved_frame, all_frames}
 use Rattle.its_core.proofs.FrameLaws.{one_slot, one_page, not_both, one_reserved, page_below, reserved_below}
-use Rattle.its_core.specs.Pool.{frames_now, frame_of, held_frame, frame_words, page_in, reserved_in, core_in, cores_in, frames_in, IsPool}
+use Rattle.its_core.specs.Pool.{frames_now, frame_of, held_frame, frame_words, page_in, reserved_in, core_in, cores_in, frames_in, IsPool, all_places}
 use Rattle.its_core.proofs.ListLaws.{length-frame_words, get_or-frame_words}
 use Rattle.its_word.proofs.TableLaws.{get_or-table, get-table, get_or-table_past}
 
@@ -65,11 +65,11 @@ frame_at_place places held p h =
     let l = length-map places frame_of in
     get_or_append_left (map frame_of places) (map held_frame held) None p (omega arith) ∙ get_or-map_none frame_of refl places p
 
-pub frame_at_held : (places : List (Option Mapped)) (held : List (Option Held)) (s : ℕ) → length places ≡ 16384 → slice_index_or (frames_in places held) (16384 + s) None ≡ held_frame (slice_index_or held s None)
+pub frame_at_held : (places : List (Option Mapped)) (held : List (Option Held)) (s : ℕ) → length places ≡ all_places → slice_index_or (frames_in places held) (all_places + s) None ≡ held_frame (slice_index_or held s None)
 unfolding frames_in
 frame_at_held places held s h =
     let l = length-map places frame_of in
-    get_or-append_right (map frame_of places) (map held_frame held) 16384 (16384 + s) None (l ∙ h) (omega arith)
+    get_or-append_right (map frame_of places) (map held_frame held) all_places (all_places + s) None (l ∙ h) (omega arith)
     ∙ ap (λ k. slice_index_or (map held_frame held) k None) (omega arith)
     ∙ get_or-map_none held_frame refl held s
 
@@ -89,8 +89,8 @@ module _ (accs : List ℕ) (places : List (Option Mapped)) (held : List (Option 
   ]
 
   -- the frame of a page of a slot
-  pub place_below : (p : ℕ) (m : Mapped) → slice_index_or places p None ≡ Some m → p < 16384
-  place_below p m e = elim (cases_lt p 16384) [
+  pub place_below : (p : ℕ) (m : Mapped) → slice_index_or places p None ≡ Some m → p < all_places
+  place_below p m e = elim (cases_lt p all_places) [
     | inl lt ↦ lt
     | inr ge ↦ let l = pool.places_long in let n : slice_index_or places p None ≡ None = get_or_past places p None (omega arith) in cc
   ]
@@ -117,22 +117,22 @@ module _ (accs : List ℕ) (places : List (Option Mapped)) (held : List (Option 
   reserved_frame_none s e = get_or-map_none held_frame refl held s ∙ ap held_frame e
 
   -- the frame of a place is that of a page, or of a reserved page
-  in_pages : (p f : ℕ) → p < 16384 → slice_index_or (frames_in places held) p None ≡ Some f → page_frame (frames_now places held links) (p / 256) (p % 256) ≡ Some f
+  in_pages : (p f : ℕ) → p < all_places → slice_index_or (frames_in places held) p None ≡ Some f → page_frame (frames_now places held links) (p / 256) (p % 256) ≡ Some f
   in_pages p f lt e =
       let l = pool.places_long in
       ap (λ i. slice_index_or (map frame_of places) i None) (omega arith) ∙ get_or-map_none frame_of refl places p ∙ sym (frame_at_place places held p (omega arith)) ∙ e
 
-  in_reserved : (p f : ℕ) → 16384 ≤ p → slice_index_or (frames_in places held) p None ≡ Some f → reserved_frame (frames_now places held links) (p - 16384) ≡ Some f
+  in_reserved : (p f : ℕ) → all_places ≤ p → slice_index_or (frames_in places held) p None ≡ Some f → reserved_frame (frames_now places held links) (p - all_places) ≡ Some f
   in_reserved p f ge e =
-      get_or-map_none held_frame refl held (p - 16384)
-      ∙ sym (frame_at_held places held (p - 16384) pool.places_long)
+      get_or-map_none held_frame refl held (p - all_places)
+      ∙ sym (frame_at_held places held (p - all_places) pool.places_long)
       ∙ ap (λ i. slice_index_or (frames_in places held) i None) (omega arith)
       ∙ e
 
   -- each frame stands at one place
   pub apart : (p q f : ℕ) → slice_index_or (frames_in places held) p None ≡ Some f → slice_index_or (frames_in places held) q None ≡ Some f → p ≡ q
-  apart p q f e d = elim (cases_lt p 16384) [
-    | inl lp ↦ elim (cases_lt q 16384) [
+  apart p q f e d = elim (cases_lt p all_places) [
+    | inl lp ↦ elim (cases_lt q all_places) [
       | inl lq ↦
           let a = in_pages p f lp e in
           let b = in_pages q f lq d in
@@ -140,15 +140,15 @@ module _ (accs : List ℕ) (places : List (Option Mapped)) (held : List (Option 
           let c : page_frame (frames_now places held links) (p / 256) (q % 256) ≡ Some f = ap (λ i. page_frame (frames_now places held links) i (q % 256)) s ∙ b in
           let k = one_page (frames_now places held links) pool.listed (p / 256) (p % 256) (q % 256) f (omega arith) (omega arith) (omega arith) a c in
           omega arith
-      | inr gq ↦ absurd (not_both (frames_now places held links) pool.listed (p / 256) (p % 256) (q - 16384) f (omega arith) (omega arith) (in_pages p f lp e) (in_reserved q f gq d))
+      | inr gq ↦ absurd (not_both (frames_now places held links) pool.listed (p / 256) (p % 256) (q - all_places) f (omega arith) (omega arith) (in_pages p f lp e) (in_reserved q f gq d))
     ]
-    | inr gp ↦ elim (cases_lt q 16384) [
-      | inl lq ↦ absurd (not_both (frames_now places held links) pool.listed (q / 256) (q % 256) (p - 16384) f (omega arith) (omega arith) (in_pages q f lq d) (in_reserved p f gp e))
-      | inr gq ↦ let r = one_reserved (frames_now places held links) pool.listed (p - 16384) (q - 16384) f (in_reserved p f gp e) (in_reserved q f gq d) in omega arith
+    | inr gp ↦ elim (cases_lt q all_places) [
+      | inl lq ↦ absurd (not_both (frames_now places held links) pool.listed (q / 256) (q % 256) (p - all_places) f (omega arith) (omega arith) (in_pages q f lq d) (in_reserved p f gp e))
+      | inr gq ↦ let r = one_reserved (frames_now places held links) pool.listed (p - all_places) (q - all_places) f (in_reserved p f gp e) (in_reserved q f gq d) in omega arith
     ]
   ]
 
-  pub frame_below : (p : ℕ) (m : Mapped) → slice_index_or places p None ≡ Some m → m.frame < 1088
+  pub frame_below : (p : ℕ) (m : Mapped) → slice_index_or places p None ≡ Some m → m.frame < all_frames
   frame_below p m e =
       let b = place_below p m e in
       page_below (frames_now places held links) pool.listed (p / 256) (p % 256) m.frame (omega arith) (omega arith) (page_frame_at p m e)
@@ -158,10 +158,10 @@ module _ (accs : List ℕ) (places : List (Option Mapped)) (held : List (Option 
       → (slice_index_or places p None ≡ slice_index_or places p None) × (1024 * m.frame + k < length words)
   word_below p m k e h = let b = frame_below p m e in let l = pool.words_long in (refl, omega arith)
 
-  pub held_frame_at : (s : ℕ) (h : Held) → slice_index_or held s None ≡ Some h → slice_index_or (frames_in places held) (16384 + s) None ≡ Some h.frame
+  pub held_frame_at : (s : ℕ) (h : Held) → slice_index_or held s None ≡ Some h → slice_index_or (frames_in places held) (all_places + s) None ≡ Some h.frame
   held_frame_at s h e = frame_at_held places held s pool.places_long ∙ ap held_frame e
 
-  pub held_below : (s : ℕ) (h : Held) → slice_index_or held s None ≡ Some h → h.frame < 1088
+  pub held_below : (s : ℕ) (h : Held) → slice_index_or held s None ≡ Some h → h.frame < all_frames
   held_below s h e = reserved_below (frames_now places held links) pool.listed s h.frame (reserved_frame_is s h e)
 
   -- the frames that contracts see
@@ -179,7 +179,7 @@ module _ (accs : List ℕ) (places : List (Option Mapped)) (held : List (Option 
       in_page (core_at (cores_in accs places held words links) s) a (le-ltb a 16 ge)
       ∙ ap (λ p. word_in p (a % 1024)) (page_at s (a / 1024) lt (omega arith) ∙ ap (page_in words) e)
 
-  word_of_frame : (f k d : ℕ) → f < 1088 → k < 1024 → slice_get (frame_words words f) k ≡ Some (slice_index_or words (1024 * f + k) d)
+  word_of_frame : (f k d : ℕ) → f < all_frames → k < 1024 → slice_get (frame_words words f) k ≡ Some (slice_index_or words (1024 * f + k) d)
   word_of_frame f k d lt h =
       let l = pool.words_long in
       let n = length-frame_words words f (omega arith) in

@@ -13,7 +13,7 @@ use Rattle.its_core.specs.declared.cores.Mapped.{Mapped}
 use Rattle.its_core.specs.declared.cores.Held.{Held}
 use Rattle.its_links.specs.Lists.{Linked}
 use Rattle.its_core.specs.Cores.{Cores, core_at}
-use Rattle.its_core.specs.Pool.{page_in, reserved_in, core_in, cores_in, IsPool, IsClear}
+use Rattle.its_core.specs.Pool.{page_in, reserved_in, core_in, cores_in, IsPool, IsClear, all_places}
 use Rattle.its_core.proofs.ListLaws.{frame_words_set, frame_words_other, accs_set, accs_other, map_alike}
 use Rattle.its_core.proofs.ReadLaws.{apart, core_at_is, core_at_past, page_of_is, place_frame, held_frame_at, place_below, can_store_page, word_at_page}
 use Rattle.its_word.specs.Table.{table}
@@ -93,7 +93,7 @@ module _ (accs : List ℕ) (places : List (Option Mapped)) (held : List (Option 
           ap (λ ws. Some (record { clear = n.clear; words = ws }))
           (frame_words_other words m.frame n.frame k w h (λ same.
           let b = place_below accs places held words links mapped pool p m e in
-          let x = apart accs places held words links mapped pool (16384 + s) p m.frame (held_frame_at accs places held words links mapped pool s n r ∙ ap Some same) (place_frame accs places held words links mapped pool p m e) in
+          let x = apart accs places held words links mapped pool (all_places + s) p m.frame (held_frame_at accs places held words links mapped pool s n r ∙ ap Some same) (place_frame accs places held words links mapped pool p m e) in
           omega arith))
 
   pub page_reserved : (p k w : ℕ) (m : Mapped) → slice_index_or places p None ≡ Some m → k < 1024 → (cores_in accs places held (slice_set words (1024 * m.frame + k) w) links).reserved ≡ (cores_in accs places held words links).reserved
@@ -145,7 +145,7 @@ module _ (accs : List ℕ) (places : List (Option Mapped)) (held : List (Option 
         let b = place_below accs places held words links mapped pool p m e in
         let most = c.most in
         let apart : h.frame ≢ m.frame = λ same.
-        let x = apart accs places held words links mapped pool (16384 + i) p m.frame (held_frame_at accs places held words links mapped pool i h r ∙ ap Some same) (place_frame accs places held words links mapped pool p m e) in
+        let x = apart accs places held words links mapped pool (all_places + i) p m.frame (held_frame_at accs places held words links mapped pool i h r ∙ ap Some same) (place_frame accs places held words links mapped pool p m e) in
         omega arith in
         get_or-set_other words (1024 * m.frame + k) (1024 * h.frame + j) w 0 (λ same. apart (omega arith)) ∙ c.zeros j less;
   }

@@ -3,11 +3,11 @@
 use Rattle.std.specs.Prelude.{◌≡◌, ◌<◌, ◌≤◌, ℕ, ◌+◌, ◌*◌, Option, Some, None, List, [], ◌∷◌, ◌++◌, take, drop, replicate, slice_set, slice_index_or}
 use Rattle.std.specs.List.{range_with_len}
 use Rattle.its_links.specs.Lists.{list_at, hit, count, times, first, rest, without}
-use Rattle.its_word.specs.Limits.{slots}
+use Rattle.its_word.specs.Limits.{slots, most_pages}
 
 -- how many frames there are: one for each page that may be mapped, and one for each slot to reserve
 abbrev pub all_frames : ℕ
-all_frames = 1088
+all_frames = most_pages + slots
 
 -- the lists, the free frames first; the frame of page k of slot s, at 256s + k; the frame of the page that slot s has reserved
 pub record Frames : Type 0 where

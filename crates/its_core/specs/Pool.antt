@@ -10,6 +10,16 @@ use Rattle.its_core.specs.declared.cores.Mapped.{Mapped}
 use Rattle.its_core.specs.declared.cores.Held.{Held}
 use Rattle.its_word.specs.Table.{table}
 
+-- how many accumulators all slots have, how many places for pages, and how many words the frames have
+abbrev pub all_accs : ℕ
+all_accs = 16 * slots
+
+abbrev pub all_places : ℕ
+all_places = 256 * slots
+
+abbrev pub all_words : ℕ
+all_words = 1024 * all_frames
+
 -- the words of a frame
 unfoldable pub frame_words : List ℕ → ℕ → List ℕ
 frame_words words f = take 1024 (drop (1024 * f) words)
@@ -56,10 +66,10 @@ pub record IsClear (words : List ℕ) (h : Held) : Type 0 where
   pub zeros : (k : ℕ) → k < 256 * h.clear → slice_index_or words (1024 * h.frame + k) 0 ≡ 0
 
 pub record IsPool (accs : List ℕ) (places : List (Option Mapped)) (held : List (Option Held)) (words : List ℕ) (links : Linked) (mapped : ℕ) : Type 0 where
-  pub accs_long : length accs ≡ 1024
-  pub places_long : length places ≡ 16384
-  pub held_long : length held ≡ 64
-  pub words_long : length words ≡ 1114112
+  pub accs_long : length accs ≡ all_accs
+  pub places_long : length places ≡ all_places
+  pub held_long : length held ≡ slots
+  pub words_long : length words ≡ all_words
   pub nodes : links.nodes ≡ all_frames
   pub heads : length links.lists ≡ slots + 1
   pub listed : Listed (frames_now places held links)

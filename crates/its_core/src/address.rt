@@ -96,7 +96,7 @@ impl Core {
 
     /// The effective address as `address` has it, for one who does not need the places that are read.
     /// Nearly all address words have I = 0: nothing but an index register is looked at then.
-    #[inline]
+    #[inline(always)]
     #[tactic(auto, using(its_word::proofs::AddressLaws::direct_answer, its_word::proofs::AddressLaws::direct_used))]
     pub fn effective(&self, slot: u8, w: Word, used: &mut u32) -> Result<Address, Fault>
         requires slot { slot < slots }

@@ -25,7 +25,7 @@ const SLOT_ACCS: usize = 16;
 
 /// How many page frames there are: one for each page that may be mapped, and one for each slot to
 /// reserve.
-const FRAMES: u32 = 1088;
+const FRAMES: u32 = MAPPED_PAGES + SLOTS as u32;
 
 /// The list of the free frames.
 const FREE: u32 = 0;

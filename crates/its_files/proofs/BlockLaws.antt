@@ -14,18 +14,18 @@ use Rattle.its_word.specs.Table.{table}
 use Rattle.its_word.proofs.TableLaws.{length-table, get_or-table, get-table, table_alike, table_set, table_more}
 
 -- what is read from a store
-pub text_is : (words : List ℕ) (ls : List (List ℕ)) (lengths : List ℕ) (id : ℕ) → id < 1280 → text_at (stored_in words ls lengths).texts id ≡ text_of words (blocks_of ls id) (slice_index_or lengths id 0)
+pub text_is : (words : List ℕ) (ls : List (List ℕ)) (lengths : List ℕ) (id : ℕ) → id < numbers → text_at (stored_in words ls lengths).texts id ≡ text_of words (blocks_of ls id) (slice_index_or lengths id 0)
 unfolding stored_in
 text_is words ls lengths id h = get_or-table numbers _ id [] h
 
-pub length_is : (words : List ℕ) (ls : List (List ℕ)) (lengths : List ℕ) (id : ℕ) → id < 1280 → length (text_at (stored_in words ls lengths).texts id) ≡ slice_index_or lengths id 0
+pub length_is : (words : List ℕ) (ls : List (List ℕ)) (lengths : List ℕ) (id : ℕ) → id < numbers → length (text_at (stored_in words ls lengths).texts id) ≡ slice_index_or lengths id 0
 length_is words ls lengths id h = ap (λ t. length t) (text_is words ls lengths id h) ∙ length-table _ _
 
 pub chains_are : (words : List ℕ) (ls : List (List ℕ)) (lengths : List ℕ) → (stored_in words ls lengths).chains ≡ ls
 unfolding stored_in
 chains_are words ls lengths = refl
 
-pub used_is : (words : List ℕ) (ls : List (List ℕ)) (lengths : List ℕ) → length lengths ≡ 1280 → blocks_used (stored_in words ls lengths) ≡ sum_by blocks_for lengths
+pub used_is : (words : List ℕ) (ls : List (List ℕ)) (lengths : List ℕ) → length lengths ≡ numbers → blocks_used (stored_in words ls lengths) ≡ sum_by blocks_for lengths
 unfolding stored_in
 used_is words ls lengths long =
     sum_alike (λ t. blocks_for (length t)) blocks_for (table numbers (λ k. text_of words (blocks_of ls k) (slice_index_or lengths k 0))) lengths [] 0
@@ -36,7 +36,7 @@ used_is words ls lengths long =
 
 -- lists of blocks of which one has room for a word more
 pub record Grown (ls ms : List (List ℕ)) (id n b : ℕ) : Type 0 where
-  pub heads : length ms ≡ 1281
+  pub heads : length ms ≡ numbers + 1
   pub here : slice_get (blocks_of ms id) (n / 128) ≡ Some b
   pub long : length (blocks_of ms id) ≡ blocks_for (n + 1)
   pub before : (i : ℕ) → i < length (blocks_of ls id) → slice_get (blocks_of ms id) i ≡ slice_get (blocks_of ls id) i
@@ -44,7 +44,7 @@ pub record Grown (ls ms : List (List ℕ)) (id n b : ℕ) : Type 0 where
   pub free : length (free_blocks ms) + blocks_for (n + 1) ≡ length (free_blocks ls) + blocks_for n
 
 -- where no block is needed
-pub grown_same : (ls : List (List ℕ)) (id n b : ℕ) → length ls ≡ 1281 → needs_block n ≡ false → length (blocks_of ls id) ≡ blocks_for n → slice_get (blocks_of ls id) (length (blocks_of ls id) - 1) ≡ Some b → Grown ls ls id n b
+pub grown_same : (ls : List (List ℕ)) (id n b : ℕ) → length ls ≡ numbers + 1 → needs_block n ≡ false → length (blocks_of ls id) ≡ blocks_for n → slice_get (blocks_of ls id) (length (blocks_of ls id) - 1) ≡ Some b → Grown ls ls id n b
 grown_same ls id n b heads need long at =
     let some : n % 128 ≢ 0 = eqb-false (n % 128) 0 need in
     let i : length (blocks_of ls id) - 1 ≡ n / 128 = omega arith in
@@ -58,7 +58,7 @@ grown_same ls id n b heads need long at =
     }
 
 -- where one is
-pub grown_new : (ls ms : List (List ℕ)) (id n b : ℕ) → length ls ≡ 1281 → id < 1280 → needs_block n ≡ true → length (blocks_of ls id) ≡ blocks_for n → first (free_blocks ls) ≡ Some b → ms ≡ with_block ls id → Grown ls ms id n b
+pub grown_new : (ls ms : List (List ℕ)) (id n b : ℕ) → length ls ≡ numbers + 1 → id < numbers → needs_block n ≡ true → length (blocks_of ls id) ≡ blocks_for n → first (free_blocks ls) ≡ Some b → ms ≡ with_block ls id → Grown ls ms id n b
 unfolding with_block
 grown_new ls ms id n b heads lt need long at e =
     let none : n % 128 ≡ 0 = eqb-true (n % 128) 0 need in
@@ -98,20 +98,20 @@ other_word words ms id n b w k j once here ne within =
     let q = s.place in
     ne (omega arith) (omega arith))
 
-module _ (words lengths lasts : List ℕ) (place : Option Place) (nodes knots : ℕ) (ls ms : List (List ℕ)) (id n b w : ℕ) (h : IsBlocks words lengths lasts place (record { nodes = nodes; lists = ls })) (knots_are : knots ≡ nodes) (lt : id < 1280) (n_is : n ≡ slice_index_or lengths id 0) (g : Grown ls ms id n b) (once : (x : ℕ) → times x ms ≤ 1) (b_below : b < 2048) where
+module _ (words lengths lasts : List ℕ) (place : Option Place) (nodes knots : ℕ) (ls ms : List (List ℕ)) (id n b w : ℕ) (h : IsBlocks words lengths lasts place (record { nodes = nodes; lists = ls })) (knots_are : knots ≡ nodes) (lt : id < numbers) (n_is : n ≡ slice_index_or lengths id 0) (g : Grown ls ms id n b) (once : (x : ℕ) → times x ms ≤ 1) (b_below : b < 2048) where
   length_here : slice_index_or (slice_set lengths id (n + 1)) id 0 ≡ n + 1
   length_here = let l = h.lengths_long in get_or-set_same lengths id (n + 1) 0 (omega arith)
 
   length_other : (k : ℕ) → k ≢ id → slice_index_or (slice_set lengths id (n + 1)) k 0 ≡ slice_index_or lengths k 0
   length_other k ne = get_or-set_other lengths id k (n + 1) 0 ne
 
-  fits : (k : ℕ) → k < 1280 → length (blocks_of ms k) ≡ blocks_for (slice_index_or (slice_set lengths id (n + 1)) k 0)
+  fits : (k : ℕ) → k < numbers → length (blocks_of ms k) ≡ blocks_for (slice_index_or (slice_set lengths id (n + 1)) k 0)
   fits k kl = elim (cases_eq k id) [
     | inl e ↦ let l = length_here in let a = g.long in rw e (omega arith)
     | inr ne ↦ let l = length_other k ne in let a = ap (λ xs. length xs) (g.others k ne) in let f = h.fits k kl in omega arith
   ]
 
-  last_at : (k : ℕ) → k < 1280 → 0 < length (blocks_of ms k) → slice_get (blocks_of ms k) (length (blocks_of ms k) - 1) ≡ Some (slice_index_or (slice_set lasts id b) k 0)
+  last_at : (k : ℕ) → k < numbers → 0 < length (blocks_of ms k) → slice_get (blocks_of ms k) (length (blocks_of ms k) - 1) ≡ Some (slice_index_or (slice_set lasts id b) k 0)
   last_at k kl some = elim (cases_eq k id) [
     | inl e ↦
         let l = h.lasts_long in
@@ -171,7 +171,7 @@ module _ (words lengths lasts : List ℕ) (place : Option Place) (nodes knots : 
       (get_or_from_slice_get (blocks_of ms id) (j / 128) (slice_index_or (blocks_of ls id) (j / 128) 0) 0
       (g.before (j / 128) (omega arith) ∙ slice_get-get_or (blocks_of ls id) (j / 128) 0 (omega arith))))
 
-  text_other : (k : ℕ) → k < 1280 → k ≢ id → text_of (slice_set words (128 * b + n % 128) w) (blocks_of ms k) (slice_index_or (slice_set lengths id (n + 1)) k 0) ≡ text_of words (blocks_of ls k) (slice_index_or lengths k 0)
+  text_other : (k : ℕ) → k < numbers → k ≢ id → text_of (slice_set words (128 * b + n % 128) w) (blocks_of ms k) (slice_index_or (slice_set lengths id (n + 1)) k 0) ≡ text_of words (blocks_of ls k) (slice_index_or lengths k 0)
   text_other k kl ne =
       let f = fits k kl in
       let o = length_other k ne in
@@ -205,7 +205,7 @@ module _ (words lengths lasts : List ℕ) (place : Option Place) (nodes knots : 
         λ i. record { texts = t i; chains = c i }
 
 -- a number loses its words
-module _ (words lengths lasts : List ℕ) (place : Option Place) (nodes knots : ℕ) (ls ms : List (List ℕ)) (id : ℕ) (h : IsBlocks words lengths lasts place (record { nodes = nodes; lists = ls })) (knots_are : knots ≡ nodes) (lt : id < 1280) (ms_is : ms ≡ slice_set (slice_set ls 0 (free_blocks ls ++ blocks_of ls id)) (id + 1) []) where
+module _ (words lengths lasts : List ℕ) (place : Option Place) (nodes knots : ℕ) (ls ms : List (List ℕ)) (id : ℕ) (h : IsBlocks words lengths lasts place (record { nodes = nodes; lists = ls })) (knots_are : knots ≡ nodes) (lt : id < numbers) (ms_is : ms ≡ slice_set (slice_set ls 0 (free_blocks ls ++ blocks_of ls id)) (id + 1) []) where
   here_none : blocks_of ms id ≡ []
   here_none =
       let l = h.heads in
@@ -275,7 +275,7 @@ module _ (words lengths lasts : List ℕ) (place : Option Place) (nodes knots : 
       ∙ ap (λ xs. slice_set (slice_set xs 0 (free_blocks xs ++ blocks_of xs id)) (id + 1) []) (sym (chains_are words ls lengths)) in
       λ i. record { texts = given_texts i; chains = c i }
 
-module _ (words lengths lasts : List ℕ) (place : Option Place) (links : Linked) (id : ℕ) (h : IsBlocks words lengths lasts place links) (lt : id < 1280) where
+module _ (words lengths lasts : List ℕ) (place : Option Place) (links : Linked) (id : ℕ) (h : IsBlocks words lengths lasts place links) (lt : id < numbers) where
   -- the lists after a block was found for a word more
   pub grown : (new : Linked) (n b last : ℕ) → n ≡ slice_index_or lengths id 0 → last ≡ slice_index_or lasts id 0 → (needs_block n ≡ false → (new ≡ links) × (b ≡ last)) → (needs_block n ≡ true → (first (free_blocks links.lists) ≡ Some b) × (new ≡ record links { lists = with_block links.lists id })) → Grown links.lists new.lists id n b
   grown new n b last n_is last_is same fresh =

@@ -12,7 +12,7 @@ use Rattle.its_files.specs.declared.entry.Entry.TheVariants.{File, Draft}
 use Rattle.its_files.specs.declared.entry.Parts.{Parts}
 use Rattle.its_files.specs.declared.entry.Parts.TheVariants.{Replace, Link, Free}
 use Rattle.its_files.specs.declared.entry.Mark.{Mark}
-use Rattle.its_files.specs.Blocks.{Stored, text_at, given_up}
+use Rattle.its_files.specs.Blocks.{Stored, text_at, given_up, numbers}
 use Rattle.its_files.specs.Files.{Store, entry_at, entry_in, is_file, is_draft, names_by, names_at, words_by, words_at, unlinked_old, with_file, with_draft, with_word, discarded, deleted, renamed, with_readers, marked_with, helped, marked_draft, unlinked, linked, freed, found, file_at, directory, plain_directory, readers_by, file_names_by, draft_file_by, is_marked, But, IsFiles}
 use Rattle.its_files.proofs.OrderLaws.{same_sym, same_refl, same_self}
 use Rattle.its_files.proofs.EntryLaws.{within, file_stands, draft_no_file, draft_stands, found_file, found_fresh, ordered, count_other}
@@ -136,7 +136,7 @@ module _ (s : Store) (h : IsFiles s.entries s.order s.mark s.stored.texts) where
       let a = entries_apart id k e ne in
       file_is (record s { entries = slice_set s.entries id e }) k (ap names_by a) (ap (λ x. words_by x (text_at s.stored.texts k)) a)
 
-  pub with_file_directory : (id : ℕ) (names : List ℕ) → entry_at s id ≡ None → id < 1280 → s.mark ≡ None → directory (with_file s id names) ≡ directory s ++ record { names = names; words = [] } ∷ []
+  pub with_file_directory : (id : ℕ) (names : List ℕ) → entry_at s id ≡ None → id < numbers → s.mark ≡ None → directory (with_file s id names) ≡ directory s ++ record { names = names; words = [] } ∷ []
   with_file_directory id names free lt none =
       let l = h.long in
       let a : entry_in (slice_set s.entries id (Some (File names 0))) id ≡ Some (File names 0) = get_or-set_same s.entries id (Some (File names 0)) None (omega arith) in

@@ -12,7 +12,7 @@ use Rattle.its_files.specs.declared.entry.Entry.TheVariants.{File, Draft}
 use Rattle.its_files.specs.declared.entry.Parts.{Parts}
 use Rattle.its_files.specs.declared.entry.Parts.TheVariants.{Replace, Link, Free}
 use Rattle.its_files.specs.declared.entry.Mark.{Mark}
-use Rattle.its_files.specs.Blocks.{text_at}
+use Rattle.its_files.specs.Blocks.{text_at, numbers, most_drafts}
 use Rattle.its_word.specs.Directory.{same_names}
 use Rattle.its_files.specs.Files.{entry_in, is_file, is_draft, names_by, readers_by, found_by, found_in, one_if, to_come, unlinked_old, marked_draft, after_link, Replaces, Gone, Links_to, Owes, Marked, IsFiles}
 use Rattle.its_files.proofs.ChainLaws.{count-at}
@@ -108,13 +108,13 @@ carried x a y b e f s = sym (ap (λ t. same_names (names_by t) (names_by y)) e �
 -- a change at one number
 module _ (es : List (Option Entry)) (order : List ℕ) (mark : Option Mark) (texts : List (List ℕ)) (h : IsFiles es order mark texts) (id : ℕ) (e : Option Entry) (ks : List ℕ) (m : Option Mark) (ts : List (List ℕ)) where
   pub record Change : Type 0 where
-    pub lt : id < 1280
+    pub lt : id < numbers
     pub long : length ts ≡ length texts
     pub here : count id ks ≡ one_if (is_file e)
     pub others : (k : ℕ) → k ≢ id → count k ks ≡ count k order
     pub number : length ks + one_if (is_file (entry_in es id)) ≡ length order + one_if (is_file e)
     pub few : length ks + to_come m ≤ 256
-    pub few_drafts : count_by is_draft es + one_if (is_draft e) ≤ 1024 + one_if (is_draft (entry_in es id))
+    pub few_drafts : count_by is_draft es + one_if (is_draft e) ≤ most_drafts + one_if (is_draft (entry_in es id))
     pub fresh : is_file e ≡ true → (k : ℕ) → k ≢ id → is_file (entry_in es k) ≡ true → same_names (names_by e) (names_by (entry_in es k)) ≡ false
     pub bare_here : e ≡ None → unlinked_old m ≢ Some id → text_at ts id ≡ []
     pub bare : (k : ℕ) → k ≢ id → entry_in es k ≡ None → unlinked_old m ≢ Some k → text_at ts k ≡ []
@@ -200,7 +200,7 @@ module _ (es : List (Option Entry)) (order : List ℕ) (mark : Option Mark) (tex
   ]
 
   -- there is a free number where there are few files or few drafts
-  pub room : mark ≡ None → (length order < 256) ⊎ (count_by is_draft es < 1024) → count_by is_some es < length es
+  pub room : mark ≡ None → (length order < 256) ⊎ (count_by is_draft es < most_drafts) → count_by is_some es < length es
   room none few =
       let s = stand_or es in
       let n = h.number in
@@ -309,7 +309,7 @@ module _ (es : List (Option Entry)) (order : List ℕ) (mark : Option Mark) (tex
       })
 
   -- a file of no words, or a draft of none
-  pub made_file : (id : ℕ) (names : List ℕ) → entry_in es id ≡ None → id < 1280 → mark ≡ None → length order < 256 → found_in es names order ≡ None → IsFiles (slice_set es id (Some (File names 0))) (order ++ id ∷ []) mark texts
+  pub made_file : (id : ℕ) (names : List ℕ) → entry_in es id ≡ None → id < numbers → mark ≡ None → length order < 256 → found_in es names order ≡ None → IsFiles (slice_set es id (Some (File names 0))) (order ++ id ∷ []) mark texts
   made_file id names free lt none few fresh =
       let nf = none_file (entry_in es id) free in
       let lo = length-append order (id ∷ []) in
@@ -328,7 +328,7 @@ module _ (es : List (Option Entry)) (order : List ℕ) (mark : Option Mark) (tex
         marked = subst (λ m. Marked (slice_set es id (Some (File names 0))) m) (sym none) tt;
       })
 
-  pub made_draft : (id : ℕ) (names : List ℕ) → entry_in es id ≡ None → id < 1280 → mark ≡ None → count_by is_draft es < 1024 → IsFiles (slice_set es id (Some (Draft names))) order mark texts
+  pub made_draft : (id : ℕ) (names : List ℕ) → entry_in es id ≡ None → id < numbers → mark ≡ None → count_by is_draft es < most_drafts → IsFiles (slice_set es id (Some (Draft names))) order mark texts
   made_draft id names free lt none few =
       let nf = none_file (entry_in es id) free in
       changed es order mark texts h id (Some (Draft names)) order mark texts (record {
@@ -557,18 +557,18 @@ none_counted : (p : Option Entry → Bool) (n : ℕ) → p None ≡ false → co
 unfolding filled
 none_counted p n e = sum_by-replicate (λ x. cond (p x) 1 0) n None ∙ ap (λ b. n * cond b 1 0) e
 
-pub opened_store : (es : List (Option Entry)) (order : List ℕ) (texts : List (List ℕ)) → es ≡ filled 1280 None → order ≡ [] → texts ≡ filled 1280 [] → IsFiles es order None texts
+pub opened_store : (es : List (Option Entry)) (order : List ℕ) (texts : List (List ℕ)) → es ≡ filled numbers None → order ≡ [] → texts ≡ filled numbers [] → IsFiles es order None texts
 opened_store es order texts a b c =
-    let at : (k : ℕ) → entry_in es k ≡ None = λ k. ap (λ xs. entry_in xs k) a ∙ get_or-filled 1280 k None in
+    let at : (k : ℕ) → entry_in es k ≡ None = λ k. ap (λ xs. entry_in xs k) a ∙ get_or-filled numbers k None in
     let lo : length order ≡ 0 = ap (λ xs. length xs) b in
     record {
-      long = ap (λ xs. length xs) a ∙ length-filled 1280 None;
-      texts_long = ap (λ xs. length xs) c ∙ length-filled 1280 [];
+      long = ap (λ xs. length xs) a ∙ length-filled numbers None;
+      texts_long = ap (λ xs. length xs) c ∙ length-filled numbers [];
       listed = λ k. ap (λ xs. count k xs) b ∙ sym (ap (λ x. one_if (is_file x)) (at k));
-      number = let n = ap (λ xs. count_by is_file xs) a ∙ none_counted is_file 1280 refl in omega arith;
+      number = let n = ap (λ xs. count_by is_file xs) a ∙ none_counted is_file numbers refl in omega arith;
       few = omega arith;
-      few_drafts = let n = ap (λ xs. count_by is_draft xs) a ∙ none_counted is_draft 1280 refl in omega arith;
+      few_drafts = let n = ap (λ xs. count_by is_draft xs) a ∙ none_counted is_draft numbers refl in omega arith;
       unique = λ i j f g s. absurd (both_ways (is_file (entry_in es i)) (ap is_file (at i)) f);
-      bare = λ k e far. ap (λ xs. text_at xs k) c ∙ get_or-filled 1280 k [];
+      bare = λ k e far. ap (λ xs. text_at xs k) c ∙ get_or-filled numbers k [];
       marked = tt;
     }

@@ -56,38 +56,38 @@ sum-copies : (n : ℕ) → sum_by blocks_for (filled n 0) ≡ n * 0
 unfolding filled
 sum-copies n = sum_by-replicate blocks_for n 0
 
-pub opened_blocks : (words lengths lasts : List ℕ) (links : Linked) → words ≡ filled 262144 0 → lengths ≡ filled 1280 0 → lasts ≡ filled 1280 0 → links ≡ record { nodes = 2048; lists = first_has 1281 2048 } → IsBlocks words lengths lasts None links
+pub opened_blocks : (words lengths lasts : List ℕ) (links : Linked) → words ≡ filled 262144 0 → lengths ≡ filled numbers 0 → lasts ≡ filled numbers 0 → links ≡ record { nodes = 2048; lists = first_has (numbers + 1) 2048 } → IsBlocks words lengths lasts None links
 opened_blocks words lengths lasts links a b c e =
-    let ls : links.lists ≡ first_has 1281 2048 = ap (λ l. l.lists) e in
+    let ls : links.lists ≡ first_has (numbers + 1) 2048 = ap (λ l. l.lists) e in
     record {
       words_long = ap (λ xs. length xs) a ∙ length-filled 262144 0;
-      lengths_long = ap (λ xs. length xs) b ∙ length-filled 1280 0;
-      lasts_long = ap (λ xs. length xs) c ∙ length-filled 1280 0;
-      heads = ap (λ xs. length xs) ls ∙ length-first_has 1281 2048;
+      lengths_long = ap (λ xs. length xs) b ∙ length-filled numbers 0;
+      lasts_long = ap (λ xs. length xs) c ∙ length-filled numbers 0;
+      heads = ap (λ xs. length xs) ls ∙ length-first_has (numbers + 1) 2048;
       nodes = ap (λ l. l.nodes) e;
       fits = λ id lt.
-          let l = ap (λ xs. length (blocks_of xs id)) ls ∙ ap (λ xs. length xs) (none_opened 1281 2048 id) in
-          let z : slice_index_or lengths id 0 ≡ 0 = ap (λ xs. slice_index_or xs id 0) b ∙ get_or-filled 1280 id 0 in
+          let l = ap (λ xs. length (blocks_of xs id)) ls ∙ ap (λ xs. length xs) (none_opened (numbers + 1) 2048 id) in
+          let z : slice_index_or lengths id 0 ≡ 0 = ap (λ xs. slice_index_or xs id 0) b ∙ get_or-filled numbers id 0 in
           l ∙ ap (λ n. blocks_for n) (sym z);
       last = λ id lt some.
-          let l = ap (λ xs. length (blocks_of xs id)) ls ∙ ap (λ xs. length xs) (none_opened 1281 2048 id) in
+          let l = ap (λ xs. length (blocks_of xs id)) ls ∙ ap (λ xs. length xs) (none_opened (numbers + 1) 2048 id) in
           absurd (omega arith);
       kept = tt;
       used =
-          let l = ap (λ xs. length (free_blocks xs)) ls ∙ ap (λ xs. length xs) (free_opened 1281 2048 (omega arith)) ∙ length-up_to 2048 in
-          let s = ap (λ xs. sum_by blocks_for xs) b ∙ sum-copies 1280 in
+          let l = ap (λ xs. length (free_blocks xs)) ls ∙ ap (λ xs. length xs) (free_opened (numbers + 1) 2048 (omega arith)) ∙ length-up_to 2048 in
+          let s = ap (λ xs. sum_by blocks_for xs) b ∙ sum-copies numbers in
           omega arith;
     }
 
-pub opened_view : (words lengths : List ℕ) (links : Linked) → lengths ≡ filled 1280 0 → links ≡ record { nodes = 2048; lists = first_has 1281 2048 } → stored_in words links.lists lengths ≡ nothing_stored
+pub opened_view : (words lengths : List ℕ) (links : Linked) → lengths ≡ filled numbers 0 → links ≡ record { nodes = 2048; lists = first_has (numbers + 1) 2048 } → stored_in words links.lists lengths ≡ nothing_stored
 unfolding stored_in
 opened_view words lengths links b e =
-    let c : links.lists ≡ first_has 1281 2048 = ap (λ l. l.lists) e in
+    let c : links.lists ≡ first_has (numbers + 1) 2048 = ap (λ l. l.lists) e in
     let f : ℕ → List ℕ = λ id. text_of words (blocks_of links.lists id) (slice_index_or lengths id 0) in
     let t : table numbers f ≡ filled numbers [] =
     ext_get_or [] (table numbers f) (filled numbers []) (length-table numbers f ∙ sym (length-filled numbers []))
     (λ k less. let l = length-table numbers f in
     get_or-table numbers f k [] (omega arith)
-    ∙ nil_from_length (f k) (length-table (slice_index_or lengths k 0) (word_in words (blocks_of links.lists k)) ∙ ap (λ xs. slice_index_or xs k 0) b ∙ get_or-filled 1280 k 0)
+    ∙ nil_from_length (f k) (length-table (slice_index_or lengths k 0) (word_in words (blocks_of links.lists k)) ∙ ap (λ xs. slice_index_or xs k 0) b ∙ get_or-filled numbers k 0)
     ∙ sym (get_or-filled numbers k [])) in
     λ i. record { texts = t i; chains = c i }

@@ -3,11 +3,19 @@
 use Rattle.std.specs.Prelude.{◌≡◌, ◌<◌, ℕ, ◌+◌, ◌-◌, ◌*◌, ◌/◌, ◌%◌, Bool, true, false, ◌&&◌, eqb, Option, Some, None, List, [], ◌∷◌, ◌++◌, length, take, sum_by, slice_set, slice_get, slice_index_or}
 use Rattle.its_links.specs.Lists.{Linked, list_at, rest}
 use Rattle.its_files.specs.declared.blocks.Place.{Place}
+use Rattle.its_word.specs.Limits.{slots}
 use Rattle.its_word.specs.Table.{table}
+
+-- how many files there may be, and how many drafts: one for each channel of each slot
+abbrev pub most_files : ℕ
+most_files = 256
+
+abbrev pub most_drafts : ℕ
+most_drafts = 16 * slots
 
 -- how many numbers there are for files and drafts, how many blocks, and how many words a block has
 abbrev pub numbers : ℕ
-numbers = 1280
+numbers = most_files + most_drafts
 
 abbrev pub blocks : ℕ
 blocks = 2048
@@ -88,11 +96,11 @@ PlaceIn chains (Some p) = slice_get (blocks_of chains p.id) p.index ≡ Some p.b
 
 pub record IsBlocks (words : List ℕ) (lengths : List ℕ) (lasts : List ℕ) (place : Option Place) (links : Linked) : Type 0 where
   pub words_long : length words ≡ 262144
-  pub lengths_long : length lengths ≡ 1280
-  pub lasts_long : length lasts ≡ 1280
-  pub heads : length links.lists ≡ 1281
+  pub lengths_long : length lengths ≡ numbers
+  pub lasts_long : length lasts ≡ numbers
+  pub heads : length links.lists ≡ numbers + 1
   pub nodes : links.nodes ≡ 2048
-  pub fits : (id : ℕ) → id < 1280 → length (blocks_of links.lists id) ≡ blocks_for (slice_index_or lengths id 0)
-  pub last : (id : ℕ) → id < 1280 → 0 < length (blocks_of links.lists id) → slice_get (blocks_of links.lists id) (length (blocks_of links.lists id) - 1) ≡ Some (slice_index_or lasts id 0)
+  pub fits : (id : ℕ) → id < numbers → length (blocks_of links.lists id) ≡ blocks_for (slice_index_or lengths id 0)
+  pub last : (id : ℕ) → id < numbers → 0 < length (blocks_of links.lists id) → slice_get (blocks_of links.lists id) (length (blocks_of links.lists id) - 1) ≡ Some (slice_index_or lasts id 0)
   pub kept : PlaceIn links.lists place
   pub used : length (free_blocks links.lists) + sum_by blocks_for lengths ≡ 2048

@@ -17,6 +17,7 @@ use Rattle.its_files.specs.declared.entry.RenameFault.{RenameFault}
 use Rattle.its_files.specs.declared.entry.RenameFault.TheVariants.{Locked as IsLocked, Exists}
 use Rattle.its_files.specs.declared.entry.Locked.{Locked as LockedFile}
 use Rattle.its_files.specs.Blocks.{Stored, text_at, appended, given_up, numbers}
+pub use Rattle.its_files.specs.Blocks.{most_files, most_drafts}
 use Rattle.its_files.specs.Opening.{nothing_stored}
 use Rattle.its_word.specs.Table.{filled}
 
@@ -25,13 +26,6 @@ pub record Store : Type 0 where
   pub order : List ℕ
   pub mark : Option Mark
   pub stored : Stored
-
--- files and drafts there may be
-abbrev pub most_files : ℕ
-most_files = 256
-
-abbrev pub most_drafts : ℕ
-most_drafts = 1024
 
 -- what stands under a number
 abbrev pub entry_in : List (Option Entry) → ℕ → Option Entry
@@ -298,12 +292,12 @@ abbrev pub one_if : Bool → ℕ
 one_if b = cond b 1 0
 
 pub record IsFiles (entries : List (Option Entry)) (order : List ℕ) (mark : Option Mark) (texts : List (List ℕ)) : Type 0 where
-  pub long : length entries ≡ 1280
-  pub texts_long : length texts ≡ 1280
+  pub long : length entries ≡ numbers
+  pub texts_long : length texts ≡ numbers
   pub listed : (id : ℕ) → count id order ≡ one_if (is_file (entry_in entries id))
   pub number : length order ≡ count_by is_file entries
   pub few : length order + to_come mark ≤ 256
-  pub few_drafts : count_by is_draft entries ≤ 1024
+  pub few_drafts : count_by is_draft entries ≤ most_drafts
   pub unique : (i j : ℕ) → is_file (entry_in entries i) ≡ true → is_file (entry_in entries j) ≡ true → same_names (names_by (entry_in entries i)) (names_by (entry_in entries j)) ≡ true → i ≡ j
   pub bare : (id : ℕ) → entry_in entries id ≡ None → unlinked_old mark ≢ Some id → text_at texts id ≡ []
   pub marked : Marked entries mark

@@ -1,5 +1,5 @@
 -- A store as it is made: every block is free, and no number has words.
-use Rattle.std.specs.Prelude.{ℕ, List, [], slice_set}
+use Rattle.std.specs.Prelude.{◌+◌, ℕ, List, [], slice_set}
 use Rattle.std.specs.List.{range_with_len}
 use Rattle.its_links.specs.Lists.{no_lists}
 use Rattle.its_files.specs.Blocks.{Stored, numbers, blocks}
@@ -15,4 +15,4 @@ first_has m n = slice_set (no_lists m) 0 (up_to n)
 
 -- no number has words, and all blocks are free, in the order of their numbers
 abbrev pub nothing_stored : Stored
-nothing_stored = record { texts = filled numbers []; chains = first_has 1281 blocks }
+nothing_stored = record { texts = filled numbers []; chains = first_has (numbers + 1) blocks }

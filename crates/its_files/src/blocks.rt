@@ -4,7 +4,7 @@ ghost use Rattle.its_files.specs.Blocks.{text_at, free_blocks, blocks_of, blocks
 ghost use Rattle.its_files.specs.Opening.{first_has, nothing_stored};
 
 use its_links::Links;
-use its_word::{NoMemory, Word, filled};
+use its_word::{NoMemory, SLOTS, Word, filled};
 use std::alloc::Global;
 use std::marker::Model;
 
@@ -14,8 +14,9 @@ const BLOCKS: u32 = 2048;
 /// How many words a block has.
 const BLOCK_WORDS: u32 = 128;
 
-/// How many files and drafts there are at most: 256 files and 1024 drafts.
-pub(crate) const NUMBERS: u32 = 1280;
+/// How many files and drafts there are at most: 256 files, and a draft for each of the 16 channels of
+/// each slot.
+pub(crate) const NUMBERS: u32 = 256 + 16 * SLOTS as u32;
 
 /// The list of the free blocks; that of a number stands behind it.
 const FREE: u32 = 0;

@@ -1,7 +1,7 @@
 ghost use Rattle.std.specs.Prelude.{◌≡◌};
 
 use super::{CloseFault, Files, Full, Locked, RenameFault};
-use its_word::Word;
+use its_word::{SLOTS, Word};
 use std::process::Abort;
 use std::test::Fail;
 
@@ -16,7 +16,7 @@ fn word(n: u32) -> Word
 
 fn draft(rt: &impl Abort, files: &mut Files, x: u32) -> u32 {
     assert!(rt; files.owner().is_none());
-    assert!(rt; files.drafts() < 1024);
+    assert!(rt; files.drafts() < 16 * SLOTS as u32);
     files.draft(word(1), word(x), word(0))
 }
 

@@ -2,7 +2,7 @@
 use Rattle.std.specs.Prelude.{◌==◌, ℕ, true, false, List, [], ◌∷◌, Option, Some, None}
 use Rattle.std.specs.List.{find}
 use Rattle.its_frame.specs.declared.name.CallName.{CallName}
-use Rattle.its_frame.specs.declared.name.CallName.TheVariants.{Hang, Sleep, Dismis, Usrvar, Logout, Open, Close, Iot, Siot, Finish, Listen, Ttylnd, Access, Fillen, Delete, Rename, Usrmem, Uclose, Corblk}
+use Rattle.its_frame.specs.declared.name.CallName.TheVariants.{Hang, Sleep, Dismis, Usrvar, Logout, Open, Close, Iot, Siot, Finish, Listen, Ttylnd, Access, Fillen, Delete, Rename, Usrmem, Uclose, Corblk, Realt}
 use Rattle.its_frame.specs.declared.name.CallRow.{CallRow}
 use Rattle.its_frame.specs.declared.name.OnFiles.TheVariants.{Never, ByDevice, ByChannel, Always}
 
@@ -47,9 +47,10 @@ call_row Rename = record (takes 0o624556415545 6 6 0 0) { files = Always }
 call_row Usrmem = record (takes 0o656362554555 2 3 0 1) { reaches = Some 0 }
 call_row Uclose = record (takes 0o654354576345 1 1 0 0) { reaches = Some 0 }
 call_row Corblk = record (takes 0o435762425453 3 3 0 0) { reaches = Some 1; reserves = true }
+call_row Realt = takes 0o624541546400 1 1 0 0
 
 abbrev pub calls : List CallName
-calls = Hang ∷ Sleep ∷ Dismis ∷ Usrvar ∷ Logout ∷ Open ∷ Close ∷ Iot ∷ Siot ∷ Finish ∷ Listen ∷ Ttylnd ∷ Access ∷ Fillen ∷ Delete ∷ Rename ∷ Usrmem ∷ Uclose ∷ Corblk ∷ []
+calls = Hang ∷ Sleep ∷ Dismis ∷ Usrvar ∷ Logout ∷ Open ∷ Close ∷ Iot ∷ Siot ∷ Finish ∷ Listen ∷ Ttylnd ∷ Access ∷ Fillen ∷ Delete ∷ Rename ∷ Usrmem ∷ Uclose ∷ Corblk ∷ Realt ∷ []
 
 -- the SIXBIT name of a call, and the call of a name
 unfoldable pub sixbit : CallName → ℕ

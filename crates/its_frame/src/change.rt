@@ -99,6 +99,10 @@ pub enum Change {
     Inform {
         slot: u8,
     },
+    /// The caller has this alarm from now on, or none: its period and its next time, in thirtieths.
+    Arm {
+        alarm: Option<(u64, u64)>,
+    },
     /// A file is deleted.
     Delete {
         d: Word,

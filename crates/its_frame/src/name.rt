@@ -27,6 +27,7 @@ pub enum CallName {
     Usrmem,
     Uclose,
     Corblk,
+    Realt,
 }
 
 /// When a call is one on files, before which the parts of a close that are owed are made: never; where the
@@ -89,7 +90,7 @@ const fn takes(name: u64, inputs: (usize, usize), outputs: (usize, usize)) -> Ca
 }
 
 /// All calls.
-const CALLS: [CallName; 19] = [
+const CALLS: [CallName; 20] = [
     CallName::Hang,
     CallName::Sleep,
     CallName::Dismis,
@@ -109,6 +110,7 @@ const CALLS: [CallName; 19] = [
     CallName::Usrmem,
     CallName::Uclose,
     CallName::Corblk,
+    CallName::Realt,
 ];
 
 impl CallName {
@@ -194,6 +196,7 @@ impl CallName {
                 reserves: true,
                 ..takes(0o435762425453, (3, 3), (0, 0))
             },
+            CallName::Realt => takes(0o624541546400, (1, 1), (0, 0)),
         }
     }
 

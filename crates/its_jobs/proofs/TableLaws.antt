@@ -58,7 +58,7 @@ removed jobs superiors s t h leaf =
 -- no job is below one that has no first below it
 pub none_at_all : (superiors : List (Option ℕ)) (s : ℕ) → length superiors ≡ slots → slice_get (slots_below (λ i. slice_index_or superiors i None) s) 0 ≡ None
     → (j : ℕ) → is_below (λ i. slice_index_or superiors i None) s j ≡ false
-none_at_all superiors s n h j = elim (cases_lt j 64) [
+none_at_all superiors s n h j = elim (cases_lt j slots) [
   | inl l ↦ none_below (λ i. slice_index_or superiors i None) s j h l
   | inr l ↦ below_none (λ i. slice_index_or superiors i None) s j (get_or_past superiors j None (omega arith))
 ]

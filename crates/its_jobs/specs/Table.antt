@@ -1,5 +1,6 @@
--- What contracts see of the jobs: for each slot a job, where it has one, and its superior.
-use Rattle.std.specs.Prelude.{if◌then◌else◌, ◌≡◌, ◌<◌, ◌==◌, ◌||◌, ℕ, Bool, true, false, Option, None, List, length, slice_index_or, is_some, IfSome}
+-- What contracts see of the jobs: for each slot a job, where it has one, and its superior; and the limit below which jobs
+-- are made.
+use Rattle.std.specs.Prelude.{if◌then◌else◌, ◌≡◌, ◌≤◌, ◌<◌, ◌==◌, ◌||◌, ℕ, Bool, true, false, Option, None, List, length, slice_index_or, is_some, IfSome}
 use Rattle.its_word.specs.Limits.{slots}
 use Rattle.its_word.specs.Tree.{climbs_to, is_below}
 use Rattle.its_word.specs.declared.jobs.Job.{Job}
@@ -7,6 +8,7 @@ use Rattle.its_word.specs.declared.jobs.Job.{Job}
 pub record Table : Type 0 where
   pub jobs : List (Option Job)
   pub superiors : List (Option ℕ)
+  pub limit : ℕ
 
 -- the job of a slot
 abbrev pub job_at : Table → ℕ → Option Job
@@ -28,6 +30,11 @@ pub record IsTree (jobs : List (Option Job)) (superiors : List (Option ℕ)) : T
   pub standing : (k : ℕ) → IfSome (slice_index_or superiors k None) (λ s. is_some (slice_index_or jobs s None) ≡ true)
   pub owned : (k : ℕ) → slice_index_or jobs k None ≡ None → slice_index_or superiors k None ≡ None
   pub circle : (k : ℕ) → climbs_to (superior_in superiors) k slots (superior_in superiors k) ≡ false
+
+-- what holds of the jobs at any time: they are a tree, and there is a place for each slot below the limit
+pub record IsJobs (jobs : List (Option Job)) (superiors : List (Option ℕ)) (limit : ℕ) : Type 0 where
+  pub tree : IsTree jobs superiors
+  pub few : limit ≤ slots
 
 -- the slots of a job and of all below it
 abbrev pub in_tree : (ℕ → Option ℕ) → ℕ → ℕ → Bool

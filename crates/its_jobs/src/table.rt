@@ -1,4 +1,4 @@
-ghost use Rattle.std.specs.Prelude.{◌≡◌, ◌≢◌, ◌≤◌, ◌<◌, ◌+◌, ◌||◌, ◌==◌, ◌↔◌, ℕ, true, Some, None, IfOk, OnOk, OnErr, IfSome, IsErr, is_some, length, slice_set, slice_index_or, slice_get, false, is_none, option_copied};
+ghost use Rattle.std.specs.Prelude.{◌≡◌, ◌≢◌, ◌≤◌, ◌<◌, ◌+◌, ◌⊎◌, ◌||◌, ◌==◌, ◌↔◌, ℕ, true, Some, None, IfOk, OnOk, OnErr, IfSome, IsErr, is_some, length, slice_set, slice_index_or, slice_get, false, is_none, option_copied};
 ghost use Rattle.std.specs.Option.{option_copied_mut};
 ghost use Rattle.std.specs.Borrow.{LendsIf, sem};
 ghost use Rattle.its_word.specs.contracts.jobs.Job.{the_row as job_row};
@@ -12,47 +12,69 @@ use its_word::{Channel, Job, NoMemory, SLOTS, Word};
 use std::alloc::Global;
 use std::marker::Model;
 
-/// All 64 slots have a job.
+/// All slots below the limit have a job.
 #[derive(Clone, Copy, Debug, PartialEq, Eq)]
 pub struct NoSlot;
 
-/// The jobs of 64 slots, each with its superior where it has one.
+/// How many jobs there can be until another number is set.
+const FIRST_LIMIT: u8 = 64;
+
+/// The number of places, as slots are counted.
+const PLACES: u8 = SLOTS as u8;
+
+/// The jobs by slot, each with its superior where it has one. There are 96 places, and jobs are made in the slots below a
+/// limit.
 #[derive(Drop)]
 pub struct Jobs {
     jobs: Vec<Option<Job>>,
     superiors: Vec<Option<u8>>,
+    limit: u8,
 }
 
 impl Model for Jobs {
-    ghost use Rattle.its_jobs.specs.Table.{Table, IsTree};
+    ghost use Rattle.its_jobs.specs.Table.{Table, IsJobs};
 
     ghost Value = { Table };
 
-    ghost view = { λ a. record { jobs = a.jobs.items; superiors = a.superiors.items } };
+    ghost view = { λ a. record { jobs = a.jobs.items; superiors = a.superiors.items; limit = a.limit } };
 
-    ghost invariant = { λ a. IsTree a.jobs.items a.superiors.items };
+    ghost invariant = { λ a. IsJobs a.jobs.items a.superiors.items a.limit };
 }
 
 impl Jobs {
-    /// No slot has a job. Takes the memory of all of them.
+    /// No slot has a job, and there can be 64. Takes the memory of all places.
     #[tactic(auto, using(crate::proofs::TreeLaws::no_tree))]
     pub fn open(alloc: Global) -> Result<Jobs, NoMemory>
-        ensures { IfOk result NoJobs }
+        ensures jobs { IfOk result NoJobs }
+        ensures limit { IfOk result (λ t. t.limit ≡ 64) }
     {
         let jobs = vec![in alloc; None; SLOTS].map_err(|_| NoMemory)?;
         let superiors = no_superiors(alloc)?;
-        Ok(Jobs { jobs, superiors })
+        Ok(Jobs {
+            jobs,
+            superiors,
+            limit: FIRST_LIMIT,
+        })
     }
 
-    /// The least free slot; None where all 64 have a job.
+    /// Sets how many jobs there can be: 64 or 96. No slot past them has a job.
+    pub fn set_limit(&mut self, n: u8)
+        requires limit { (n ≡ 64) ⊎ (n ≡ slots) }
+        requires jobs { (k : ℕ) → n ≤ k → job_at self.old k ≡ None }
+        ensures { self.new ≡ record self.old { limit = n } }
+    {
+        self.limit = n;
+    }
+
+    /// The least free slot below the limit; None where all of them have a job.
     pub fn free(&self) -> Option<u8>
-        ensures slot { result ≡ least_free (job_at self.now) }
+        ensures slot { result ≡ least_free self.now.limit (job_at self.now) }
         ensures below { IfSome result (λ s. s < slots) }
     {
-        free_slot(&self.jobs)
+        free_slot(&self.jobs, self.limit)
     }
 
-    /// Makes a job in the least free slot: stopped, with closed channels, its other registers 0.
+    /// Makes a job in the least free slot below the limit: stopped, with closed channels, its other registers 0.
     pub fn create(
         &mut self,
         uname: Word,
@@ -61,14 +83,15 @@ impl Jobs {
         console: Option<u8>,
     ) -> Result<u8, NoSlot>
         requires standing { IfSome superior (λ s. (s < slots) × (is_some (job_at self.old s) ≡ true)) }
-        ensures slot { IfOk result (λ s. least_free (job_at self.old) ≡ Some s) }
+        ensures slot { IfOk result (λ s. least_free self.old.limit (job_at self.old) ≡ Some s) }
         ensures below { IfOk result (λ s. s < slots) }
         ensures job { IfOk result (λ s. Only (job_at self.old) (job_at self.new) s (Some (fresh_job uname jname console))) }
         ensures superior { IfOk result (λ s. Only (superior_at self.old) (superior_at self.new) s superior) }
-        ensures full { OnErr result (least_free (job_at self.old) ≡ None) }
+        ensures full { OnErr result (least_free self.old.limit (job_at self.old) ≡ None) }
+        ensures limit { self.new.limit ≡ self.old.limit }
         ensures same { OnErr result (self.new ≡ self.old) }
     {
-        let slot = free_slot(&self.jobs).ok_or(NoSlot)?;
+        let slot = free_slot(&self.jobs, self.limit).ok_or(NoSlot)?;
         self.jobs[slot as usize] = Some(fresh_job(uname, jname, console));
         self.superiors[slot as usize] = superior;
         Ok(slot)
@@ -101,6 +124,7 @@ impl Jobs {
         requires leaf { (k : ℕ) → is_below (superior_at self.old) slot k ≡ false }
         ensures job { Only (job_at self.old) (job_at self.new) slot None }
         ensures superior { Only (superior_at self.old) (superior_at self.new) slot None }
+        ensures limit { self.new.limit ≡ self.old.limit }
     {
         self.jobs[slot as usize] = None;
         self.superiors[slot as usize] = None;
@@ -111,6 +135,7 @@ impl Jobs {
         requires { slot < slots }
         ensures job { Without (in_tree (superior_at self.old) slot) (job_at self.old) (job_at self.new) }
         ensures superior { Without (in_tree (superior_at self.old) slot) (superior_at self.old) (superior_at self.new) }
+        ensures limit { self.new.limit ≡ self.old.limit }
     {
         clear_tree(&mut self.jobs, &self.superiors, slot);
         clear_superiors(&mut self.superiors, &self.jobs);
@@ -164,14 +189,15 @@ fn no_superiors(alloc: Global) -> Result<Vec<Option<u8>>, NoMemory>
     Ok(superiors)
 }
 
-/// The least slot that is empty.
+/// The least slot below a limit that is empty.
 #[tactic(auto, using(its_word::proofs::TreeLaws::least_start, its_word::proofs::TreeLaws::least_next, its_word::proofs::TreeLaws::least_found, its_word::proofs::TreeLaws::least_end))]
-fn free_slot(jobs: &[Option<Job>]) -> Option<u8>
-    requires { length jobs.now ≡ slots }
-    ensures slot { result ≡ least_free (λ k. slice_index_or jobs.now k None) }
+fn free_slot(jobs: &[Option<Job>], limit: u8) -> Option<u8>
+    requires jobs { length jobs.now ≡ slots }
+    requires limit { limit ≤ slots }
+    ensures slot { result ≡ least_free limit (λ k. slice_index_or jobs.now k None) }
     ensures below { IfSome result (λ s. (s < slots) × (is_some (slice_index_or jobs.now s None) ≡ false)) }
 {
-    for slot in 0..64u8 {
+    for slot in 0..limit {
         if jobs[slot as usize].is_none() {
             return Some(slot);
         }
@@ -179,8 +205,8 @@ fn free_slot(jobs: &[Option<Job>]) -> Option<u8>
     None
 }
 
-/// Whether the job of a slot is below that of another: it is climbed from job to superior, at most 64
-/// times.
+/// Whether the job of a slot is below that of another: it is climbed from job to superior, at most
+/// as many times as there are slots.
 #[tactic(auto, using(its_word::proofs::TreeLaws::climb_spent, its_word::proofs::TreeLaws::climb_end, its_word::proofs::TreeLaws::climb_turn), unfolding(its_word::specs::Tree::is_below))]
 fn is_below(superiors: &[Option<u8>], slot: u8, job: u8) -> bool
     requires job { job < slots }
@@ -210,7 +236,7 @@ fn clear_tree(jobs: &mut Vec<Option<Job>>, superiors: &[Option<u8>], slot: u8)
     ensures length { length jobs.new.items ≡ slots }
     ensures left { Without (in_tree (superior_in superiors.now) slot) (λ k. slice_index_or jobs.old.items k None) (λ k. slice_index_or jobs.new.items k None) }
 {
-    for job in 0..64u8 {
+    for job in 0..PLACES {
         if job == slot || is_below(superiors, slot, job) {
             jobs[job as usize] = None;
         }
@@ -224,7 +250,7 @@ fn clear_superiors(superiors: &mut Vec<Option<u8>>, jobs: &[Option<Job>])
     ensures length { length superiors.new.items ≡ slots }
     ensures left { Without (λ k. is_none (slice_index_or jobs.now k None)) (λ k. slice_index_or superiors.old.items k None) (λ k. slice_index_or superiors.new.items k None) }
 {
-    for job in 0..64u8 {
+    for job in 0..PLACES {
         if jobs[job as usize].is_none() {
             superiors[job as usize] = None;
         }
@@ -242,7 +268,7 @@ fn nth_below(superiors: &[Option<u8>], slot: u8, k: u32) -> Option<u8>
     ensures none { k ≡ 0 → result ≡ None → (j : ℕ) → is_below (λ k. slice_index_or superiors.now k None) slot j ≡ false }
 {
     let mut left = k;
-    for other in 0..64u8 {
+    for other in 0..PLACES {
         if is_below(superiors, slot, other) {
             if left == 0 {
                 return Some(other);

@@ -1,12 +1,12 @@
 use super::{Job, Jobs, NoSlot};
-use its_word::{Channel, Word};
+use its_word::{Channel, SLOTS, Word};
 use std::process::Abort;
 use std::test::Fail;
 
 /// Makes a job, below another where one is given.
 fn made(rt: &impl Abort, jobs: &mut Jobs, superior: Option<u8>) -> Result<u8, NoSlot> {
     if let Some(s) = superior {
-        assert!(rt; s < 64);
+        assert!(rt; usize::from(s) < SLOTS);
         assert!(rt; jobs.job(s).is_some());
     }
     jobs.create(Word::new(7), Word::new(0o107), superior, Some(3))
@@ -91,5 +91,27 @@ fn tree(rt: HostRuntime) -> Result<(), Fail> {
     ] {
         assert_eq!(rt; jobs.job(slot).is_some(), want, "job {slot}");
     }
+    Ok(())
+}
+
+/// Makes jobs in all slots below a limit; there are no more then.
+fn fill(rt: &impl Abort, jobs: &mut Jobs, limit: u8) -> Result<(), NoSlot> {
+    for slot in 0..limit {
+        assert_eq!(rt; jobs.free(), Some(slot), "{slot} of {limit}");
+        assert_eq!(rt; made(rt, jobs, None)?, slot, "{slot} of {limit}");
+    }
+    assert_eq!(rt; jobs.free(), None, "{limit}");
+    assert_eq!(rt; made(rt, jobs, None), Err(NoSlot), "{limit}");
+    Ok(())
+}
+
+/// There are as many jobs as the limit says, and no more.
+#[test]
+fn limits(rt: HostRuntime) -> Result<(), Fail> {
+    let mut jobs = Jobs::open(rt.alloc())?;
+    fill(&rt, &mut jobs, 64)?;
+    let mut more = Jobs::open(rt.alloc())?;
+    more.set_limit(96);
+    fill(&rt, &mut more, 96)?;
     Ok(())
 }

@@ -26,7 +26,7 @@ use Rattle.its_plain.specs.Machine.{Whole}
 use Rattle.its_stepped.specs.Sound.{Standing, SoundBy}
 use Rattle.its_stepped.specs.State.{State, plain, seen, turn, same, parsed, asked, holding, reserving}
 use Rattle.its_stepped.specs.Tick.{steps, works, parsed_on, fetched_on, reserves, tick_in, prepared_on, held_on, tried_by}
-use Rattle.its_world.specs.World.{state_of, raw_of, raw_at, frame_at, Becomes, JobBecomes, FrameBecomes, PageBecomes}
+use Rattle.its_world.specs.World.{alarm_at, state_of, raw_of, raw_at, frame_at, Becomes, JobBecomes, FrameBecomes, PageBecomes}
 use Rattle.its_world.specs.declared.world.World.{World}
 use Rattle.its_world.proofs.SiteLaws.{site_fits, block_words}
 use Rattle.its_world.proofs.StateLaws.{raw_job, raw_some, job_of, kept_turn, retaken, turned_state, kept_state}
@@ -60,9 +60,9 @@ shown : (w : World) (s : ℕ) (f : Frame) (o : Option Frame) → o ≡ frame_at 
 unfolding plain state_of
 shown w s f o e i k =
     let is : frame_at w.frames.items s ≡ Some f = sym e ∙ i in
-    shown_by (raw_at w.files w.core w.jobs s) f (clear_at w.core s)
-    (subst (λ x. SoundBy (raw_at w.files w.core w.jobs s) x (clear_at w.core s)) is (k.sound.each s).by)
-    (subst (λ x. IfSome (option_map (seen x) (raw_at w.files w.core w.jobs s)) (λ q. q.job.pc < 2 ^ 18)) is (k.addressed s))
+    shown_by (raw_at w.files w.core w.jobs w.alarms.items s) f (clear_at w.core s)
+    (subst (λ x. SoundBy (raw_at w.files w.core w.jobs w.alarms.items s) x (clear_at w.core s)) is (k.sound.each s).by)
+    (subst (λ x. IfSome (option_map (seen x) (raw_at w.files w.core w.jobs w.alarms.items s)) (λ q. q.job.pc < 2 ^ 18)) is (k.addressed s))
 
 pub entered_fits : (w : World) (s : ℕ) (f : entereds.Entered) (o : Option Frame) → o ≡ frame_at w.frames.items s → o ≡ Some (Entered f) → Kept w → SiteFits f.site
 entered_fits w s f o e i k =
@@ -81,12 +81,13 @@ parsed_words w s f o e i k n =
     block_words x.whole.core f.site f.block.items x.standing.1 n
 
 -- the job is there as it was, once the frame is taken
-raw_taken : (old mid : World) (s : ℕ) (f : Option Frame) → FrameBecomes old mid s f → raw_at mid.files mid.core mid.jobs s ≡ raw_at old.files old.core old.jobs s
+raw_taken : (old mid : World) (s : ℕ) (f : Option Frame) → FrameBecomes old mid s f → raw_at mid.files mid.core mid.jobs mid.alarms.items s ≡ raw_at old.files old.core old.jobs old.alarms.items s
 raw_taken old mid s f b =
-    ap (λ x. raw_of x (core_at mid.core s) (superior_at mid.jobs s) (job_at mid.jobs s)) b.files
-    ∙ ap (λ x. raw_of old.files x (superior_at mid.jobs s) (job_at mid.jobs s)) b.core.here
-    ∙ ap (λ x. raw_of old.files (core_at old.core s) (slice_index_or x s None) (job_at mid.jobs s)) b.superiors
-    ∙ ap (raw_of old.files (core_at old.core s) (superior_at old.jobs s)) b.job.here
+    ap (λ x. raw_of x (core_at mid.core s) (superior_at mid.jobs s) (alarm_at mid.alarms.items s) (job_at mid.jobs s)) b.files
+    ∙ ap (λ x. raw_of old.files x (superior_at mid.jobs s) (alarm_at mid.alarms.items s) (job_at mid.jobs s)) b.core.here
+    ∙ ap (λ x. raw_of old.files (core_at old.core s) (slice_index_or x s None) (alarm_at mid.alarms.items s) (job_at mid.jobs s)) b.superiors
+    ∙ ap (λ x. raw_of old.files (core_at old.core s) (superior_at old.jobs s) (alarm_at x.items s) (job_at mid.jobs s)) b.alarms
+    ∙ ap (raw_of old.files (core_at old.core s) (superior_at old.jobs s) (alarm_at old.alarms.items s)) b.job.here
 
 -- the rows of the decoding do not see that the frame was taken
 parsed_taken : (w : State) (s : ℕ) (t : Site) (r : Result (List ℕ) Fault) → parsed_on (turn w s same None) s t r ≡ parsed_on w s t r
@@ -106,10 +107,10 @@ module _ (old mid new : World) (s : ℕ) (p : Pace) (o : Option Frame) (e : o �
   mid_is f i = kept_turn old mid s None (stands_at old s f k.sound (sym e ∙ i)).0 b
 
   pub entered_row : (f : entereds.Entered) → o ≡ Some (Entered f)
-      → IfSome (raw_at mid.files mid.core mid.jobs s) (λ q. parsed_on (state_of mid) s f.site (parse q.core f.site) ≡ ticked (state_of new) p)
-      → IfSome (raw_at old.files old.core old.jobs s) (λ q. tick_in (state_of old) s q (frame_at old.frames.items s) ≡ ticked (state_of new) p)
+      → IfSome (raw_at mid.files mid.core mid.jobs mid.alarms.items s) (λ q. parsed_on (state_of mid) s f.site (parse q.core f.site) ≡ ticked (state_of new) p)
+      → IfSome (raw_at old.files old.core old.jobs old.alarms.items s) (λ q. tick_in (state_of old) s q (frame_at old.frames.items s) ≡ ticked (state_of new) p)
   entered_row f i h =
-      with_some (raw_at old.files old.core old.jobs s) (λ q. parsed_on (state_of mid) s f.site (parse q.core f.site) ≡ ticked (state_of new) p) _
+      with_some (raw_at old.files old.core old.jobs old.alarms.items s) (λ q. parsed_on (state_of mid) s f.site (parse q.core f.site) ≡ ticked (state_of new) p) _
       (λ q x. ap (tick_in (state_of old) s q) (sym e ∙ i)
       ∙ sym (parsed_taken (state_of old) s f.site (parse q.core f.site))
       ∙ ap (λ v. parsed_on v s f.site (parse q.core f.site)) (sym (mid_is (Entered f) i))
@@ -117,10 +118,10 @@ module _ (old mid new : World) (s : ℕ) (p : Pace) (o : Option Frame) (e : o �
       (subst (λ r. IfSome r (λ q. parsed_on (state_of mid) s f.site (parse q.core f.site) ≡ ticked (state_of new) p)) (raw_taken old mid s None b) h)
 
   pub parsed_row : (f : parseds.Parsed) → o ≡ Some (Parsed f)
-      → IfSome (raw_at mid.files mid.core mid.jobs s) (λ q. fetched_on (state_of mid) s f.site (fetch q.core f.site f.block.items) ≡ ticked (state_of new) p)
-      → IfSome (raw_at old.files old.core old.jobs s) (λ q. tick_in (state_of old) s q (frame_at old.frames.items s) ≡ ticked (state_of new) p)
+      → IfSome (raw_at mid.files mid.core mid.jobs mid.alarms.items s) (λ q. fetched_on (state_of mid) s f.site (fetch q.core f.site f.block.items) ≡ ticked (state_of new) p)
+      → IfSome (raw_at old.files old.core old.jobs old.alarms.items s) (λ q. tick_in (state_of old) s q (frame_at old.frames.items s) ≡ ticked (state_of new) p)
   parsed_row f i h =
-      with_some (raw_at old.files old.core old.jobs s) (λ q. fetched_on (state_of mid) s f.site (fetch q.core f.site f.block.items) ≡ ticked (state_of new) p) _
+      with_some (raw_at old.files old.core old.jobs old.alarms.items s) (λ q. fetched_on (state_of mid) s f.site (fetch q.core f.site f.block.items) ≡ ticked (state_of new) p) _
       (λ q x. ap (tick_in (state_of old) s q) (sym e ∙ i)
       ∙ sym (fetched_taken (state_of old) s f.site (fetch q.core f.site f.block.items))
       ∙ ap (λ v. fetched_on v s f.site (fetch q.core f.site f.block.items)) (sym (mid_is (Parsed f) i))
@@ -128,9 +129,9 @@ module _ (old mid new : World) (s : ℕ) (p : Pace) (o : Option Frame) (e : o �
       (subst (λ r. IfSome r (λ q. fetched_on (state_of mid) s f.site (fetch q.core f.site f.block.items) ≡ ticked (state_of new) p)) (raw_taken old mid s None b) h)
 
   pub asked_row : (f : askeds.Asked) → o ≡ Some (Asked f) → state_of new ≡ prepared_on (state_of mid) s f.site f.ask (reserves f.ask) → p ≡ Work
-      → IfSome (raw_at old.files old.core old.jobs s) (λ q. tick_in (state_of old) s q (frame_at old.frames.items s) ≡ ticked (state_of new) p)
+      → IfSome (raw_at old.files old.core old.jobs old.alarms.items s) (λ q. tick_in (state_of old) s q (frame_at old.frames.items s) ≡ ticked (state_of new) p)
   asked_row f i h n =
-      all_some (raw_at old.files old.core old.jobs s) _
+      all_some (raw_at old.files old.core old.jobs old.alarms.items s) _
       (λ q. ap (tick_in (state_of old) s q) (sym e ∙ i)
       ∙ ap works (sym (h ∙ ap (λ v. prepared_on v s f.site f.ask (reserves f.ask)) (mid_is (Asked f) i) ∙ prepared_taken (state_of old) s f.site f.ask (reserves f.ask)))
       ∙ ap (ticked (state_of new)) (sym n))
@@ -192,7 +193,7 @@ module _ (old mid : World) (s c : ℕ) (o : Option Frame) (f : holdings.Holding)
 
   -- the next quarter of its page is cleared, and it is held on
   pub clear_row : (page new : World) → c < 4 → PageBecomes mid page s (Some (c + 1)) → FrameBecomes page new s (Some (holding f.site f.ask (Some (c + 1)) f.owes))
-      → IfSome (raw_at old.files old.core old.jobs s) (λ q. tick_in (state_of old) s q (frame_at old.frames.items s) ≡ ticked (state_of new) Work)
+      → IfSome (raw_at old.files old.core old.jobs old.alarms.items s) (λ q. tick_in (state_of old) s q (frame_at old.frames.items s) ≡ ticked (state_of new) Work)
   unfolding seen
   clear_row page new l paged framed =
       let g : Option Frame = Some (holding f.site f.ask (Some (c + 1)) f.owes) in
@@ -201,7 +202,7 @@ module _ (old mid : World) (s c : ℕ) (o : Option Frame) (f : holdings.Holding)
       kept_state mid new s g (Some (c + 1)) (ap is_some b.job.here ∙ has) (paged_becomes mid page new s (Some (c + 1)) g paged framed)
       ∙ ap (λ v. reserving (turn v s same g) s (Some (c + 1))) (kept_turn old mid s None has b)
       ∙ ap (λ v. reserving v s (Some (c + 1))) (retaken (state_of old) s None g same) in
-      all_some (raw_at old.files old.core old.jobs s) _
+      all_some (raw_at old.files old.core old.jobs old.alarms.items s) _
       (λ q. ap (tick_in (state_of old) s q) (sym e ∙ i)
       ∙ held_quarter (state_of old) s (seen (Some (Holding f)) q) f.site f.ask f.page f.owes c page_is l
       ∙ ap works (sym is))
@@ -210,10 +211,10 @@ module _ (old mid : World) (s c : ℕ) (o : Option Frame) (f : holdings.Holding)
 from_some : {X : Type 0} (o : Option X) (x : X) (P : X → Type 0) → o ≡ Some x → P x → IfSome o P
 from_some o x P e h = subst (λ r. IfSome r P) (sym e) h
 
-raw_has : (w : World) (s : ℕ) → is_some (job_at w.jobs s) ≡ true → (q : Whole) × ((raw_at w.files w.core w.jobs s ≡ Some q) × (q.core ≡ core_at w.core s))
+raw_has : (w : World) (s : ℕ) → is_some (job_at w.jobs s) ≡ true → (q : Whole) × ((raw_at w.files w.core w.jobs w.alarms.items s ≡ Some q) × (q.core ≡ core_at w.core s))
 raw_has w s h =
     let j = job_of (job_at w.jobs s) h in
-    (raw_job w.files (core_at w.core s) j.0 (superior_at w.jobs s), (raw_some w s j.0 j.1, refl))
+    (raw_job w.files (core_at w.core s) j.0 (superior_at w.jobs s) (alarm_at w.alarms.items s), (raw_some w s j.0 j.1, refl))
 
 items_are : (c : Core) (t : Site) (r : Result (ArrayVec ℕ) Fault) → r ≡ parse_of c t → parse c t ≡ items_of r
 unfolding parse
@@ -221,20 +222,20 @@ items_are c t r e = ap items_of (sym e)
 
 pub parse_done : (old new : World) (s : ℕ) (t : Site) (r : Result (ArrayVec ℕ) Fault) (b : ArrayVec ℕ) → is_some (job_at old.jobs s) ≡ true
     → r ≡ parse_of (core_at old.core s) t → r ≡ Ok b → FrameBecomes old new s (Some (parsed t b.items))
-    → IfSome (raw_at old.files old.core old.jobs s) (λ q. parsed_on (state_of old) s t (parse q.core t) ≡ ticked (state_of new) Work)
+    → IfSome (raw_at old.files old.core old.jobs old.alarms.items s) (λ q. parsed_on (state_of old) s t (parse q.core t) ≡ ticked (state_of new) Work)
 parse_done old new s t r b j e i f =
     let q = raw_has old s j in
-    from_some (raw_at old.files old.core old.jobs s) q.0 (λ q. parsed_on (state_of old) s t (parse q.core t) ≡ ticked (state_of new) Work) q.1.0
+    from_some (raw_at old.files old.core old.jobs old.alarms.items s) q.0 (λ q. parsed_on (state_of old) s t (parse q.core t) ≡ ticked (state_of new) Work) q.1.0
     (ap (λ c. parsed_on (state_of old) s t (parse c t)) q.1.1
     ∙ ap (parsed_on (state_of old) s t) (items_are (core_at old.core s) t r e ∙ ap items_of i)
     ∙ ap works (sym (kept_turn old new s (Some (parsed t b.items)) j f)))
 
 pub parse_faults : (old new : World) (s : ℕ) (t : Site) (r : Result (ArrayVec ℕ) Fault) (f : Fault) → is_some (job_at old.jobs s) ≡ true
     → r ≡ parse_of (core_at old.core s) t → r ≡ Err f → state_of new ≡ turn (state_of old) s (faulted f) None
-    → IfSome (raw_at old.files old.core old.jobs s) (λ q. parsed_on (state_of old) s t (parse q.core t) ≡ ticked (state_of new) Step)
+    → IfSome (raw_at old.files old.core old.jobs old.alarms.items s) (λ q. parsed_on (state_of old) s t (parse q.core t) ≡ ticked (state_of new) Step)
 parse_faults old new s t r f j e i h =
     let q = raw_has old s j in
-    from_some (raw_at old.files old.core old.jobs s) q.0 (λ q. parsed_on (state_of old) s t (parse q.core t) ≡ ticked (state_of new) Step) q.1.0
+    from_some (raw_at old.files old.core old.jobs old.alarms.items s) q.0 (λ q. parsed_on (state_of old) s t (parse q.core t) ≡ ticked (state_of new) Step) q.1.0
     (ap (λ c. parsed_on (state_of old) s t (parse c t)) q.1.1
     ∙ ap (parsed_on (state_of old) s t) (items_are (core_at old.core s) t r e ∙ ap items_of i)
     ∙ ap steps (sym h))
@@ -245,20 +246,20 @@ fetch_is c t b r e = sym e
 
 pub fetch_done : (old new : World) (s : ℕ) (t : Site) (b : ArrayVec ℕ) (r : Result Ask Fault) (a : Ask) → is_some (job_at old.jobs s) ≡ true
     → r ≡ fetch_of (core_at old.core s) t b → r ≡ Ok a → FrameBecomes old new s (Some (asked t a))
-    → IfSome (raw_at old.files old.core old.jobs s) (λ q. fetched_on (state_of old) s t (fetch q.core t b.items) ≡ ticked (state_of new) Work)
+    → IfSome (raw_at old.files old.core old.jobs old.alarms.items s) (λ q. fetched_on (state_of old) s t (fetch q.core t b.items) ≡ ticked (state_of new) Work)
 fetch_done old new s t b r a j e i f =
     let q = raw_has old s j in
-    from_some (raw_at old.files old.core old.jobs s) q.0 (λ q. fetched_on (state_of old) s t (fetch q.core t b.items) ≡ ticked (state_of new) Work) q.1.0
+    from_some (raw_at old.files old.core old.jobs old.alarms.items s) q.0 (λ q. fetched_on (state_of old) s t (fetch q.core t b.items) ≡ ticked (state_of new) Work) q.1.0
     (ap (λ c. fetched_on (state_of old) s t (fetch c t b.items)) q.1.1
     ∙ ap (fetched_on (state_of old) s t) (fetch_is (core_at old.core s) t b r e ∙ i)
     ∙ ap works (sym (kept_turn old new s (Some (asked t a)) j f)))
 
 pub fetch_faults : (old new : World) (s : ℕ) (t : Site) (b : ArrayVec ℕ) (r : Result Ask Fault) (f : Fault) → is_some (job_at old.jobs s) ≡ true
     → r ≡ fetch_of (core_at old.core s) t b → r ≡ Err f → state_of new ≡ turn (state_of old) s (faulted f) None
-    → IfSome (raw_at old.files old.core old.jobs s) (λ q. fetched_on (state_of old) s t (fetch q.core t b.items) ≡ ticked (state_of new) Step)
+    → IfSome (raw_at old.files old.core old.jobs old.alarms.items s) (λ q. fetched_on (state_of old) s t (fetch q.core t b.items) ≡ ticked (state_of new) Step)
 fetch_faults old new s t b r f j e i h =
     let q = raw_has old s j in
-    from_some (raw_at old.files old.core old.jobs s) q.0 (λ q. fetched_on (state_of old) s t (fetch q.core t b.items) ≡ ticked (state_of new) Step) q.1.0
+    from_some (raw_at old.files old.core old.jobs old.alarms.items s) q.0 (λ q. fetched_on (state_of old) s t (fetch q.core t b.items) ≡ ticked (state_of new) Step) q.1.0
     (ap (λ c. fetched_on (state_of old) s t (fetch c t b.items)) q.1.1
     ∙ ap (fetched_on (state_of old) s t) (fetch_is (core_at old.core s) t b r e ∙ i)
     ∙ ap steps (sym h))

@@ -28,7 +28,7 @@ use Rattle.its_stepped.specs.State.{State}
 use Rattle.its_stepped.specs.Tick.{quarters, reserves}
 use Rattle.its_stepped.specs.Unwind.{unwound, all_unwound}
 use Rattle.its_stepped.proofs.KeptLaws.{user_page}
-use Rattle.its_world.specs.World.{state_of, bare, raw_at, frame_at, frames_after, CoreBecomes, FrameBecomes, PageBecomes}
+use Rattle.its_world.specs.World.{alarm_at, state_of, bare, raw_at, frame_at, frames_after, CoreBecomes, FrameBecomes, PageBecomes}
 use Rattle.its_world.specs.declared.world.World.{World}
 use Rattle.its_world.proofs.BareLaws.{deliverable_bare, delivered_bare}
 use Rattle.its_world.proofs.StateLaws.{raw_job, raw_some, raw_none}
@@ -159,7 +159,7 @@ unit_frames old new s o true h = becomes_pages old new s _ _ _ h.becomes
 unit_frames old new s o false h = ap (λ (w : World). w.core.frames) h.same
 
 -- the tick
-ticked_at : (w : World) (s : ℕ) (o : Option Whole) (f : Frames) → raw_at w.files w.core w.jobs s ≡ o → pages_ticked (state_of w) s f ≡ pages_of (state_of w) s o f
+ticked_at : (w : World) (s : ℕ) (o : Option Whole) (f : Frames) → raw_at w.files w.core w.jobs w.alarms.items s ≡ o → pages_ticked (state_of w) s f ≡ pages_of (state_of w) s o f
 unfolding pages_ticked state_of
 ticked_at w s o f e = ap (λ (x : Option Whole). pages_of (state_of w) s x f) e
 
@@ -167,40 +167,40 @@ pub frames_absent : (w : World) (s : ℕ) → job_at w.jobs s ≡ None → w.cor
 frames_absent w s none = sym (ticked_at w s None w.core.frames (raw_none w s none))
 
 ticked_some : (w : World) (s : ℕ) (j : Job) (b : Bool) (f : Frames) → job_at w.jobs s ≡ Some j → j.stopped ≡ b
-    → pages_ticked (state_of w) s f ≡ pages_unless (state_of w) s (raw_job w.files (core_at w.core s) j (superior_at w.jobs s)) b f
+    → pages_ticked (state_of w) s f ≡ pages_unless (state_of w) s (raw_job w.files (core_at w.core s) j (superior_at w.jobs s) (alarm_at w.alarms.items s)) b f
 ticked_some w s j b f is h =
-    let q : Whole = raw_job w.files (core_at w.core s) j (superior_at w.jobs s) in
+    let q : Whole = raw_job w.files (core_at w.core s) j (superior_at w.jobs s) (alarm_at w.alarms.items s) in
     ticked_at w s (Some q) f (raw_some w s j is) ∙ ap (λ (x : Bool). pages_unless (state_of w) s q x f) h
 
 pub frames_stopped : (w : World) (s : ℕ) (j : Job) → job_at w.jobs s ≡ Some j → j.stopped ≡ true → w.core.frames ≡ pages_ticked (state_of w) s w.core.frames
 frames_stopped w s j is h = sym (ticked_some w s j true w.core.frames is h)
 
 frames_run : (w : World) (s : ℕ) (j : Job) (o : Option Frame) (f g : Frames) → job_at w.jobs s ≡ Some j → j.stopped ≡ false → frame_at w.frames.items s ≡ o
-    → IfSome (raw_at w.files w.core w.jobs s) (λ q. g ≡ pages_in (state_of w) s q o f) → g ≡ pages_ticked (state_of w) s f
+    → IfSome (raw_at w.files w.core w.jobs w.alarms.items s) (λ q. g ≡ pages_in (state_of w) s q o f) → g ≡ pages_ticked (state_of w) s f
 frames_run w s j o f g is runs e h =
-    let q : Whole = raw_job w.files (core_at w.core s) j (superior_at w.jobs s) in
+    let q : Whole = raw_job w.files (core_at w.core s) j (superior_at w.jobs s) (alarm_at w.alarms.items s) in
     subst (λ (p : Option Whole). IfSome p (λ q. g ≡ pages_in (state_of w) s q o f)) (raw_some w s j is) h
     ∙ sym (ticked_some w s j false f is runs ∙ ap (λ (x : Option Frame). pages_in (state_of w) s q x f) (frame_is w s ∙ e))
 
 pub frames_call : (w : World) (s : ℕ) (j : Job) (g : Frames) → job_at w.jobs s ≡ Some j → j.stopped ≡ false
-    → IfSome (raw_at w.files w.core w.jobs s) (λ q. g ≡ pages_in (state_of w) s q (frame_at w.frames.items s) w.core.frames) → g ≡ pages_ticked (state_of w) s w.core.frames
+    → IfSome (raw_at w.files w.core w.jobs w.alarms.items s) (λ q. g ≡ pages_in (state_of w) s q (frame_at w.frames.items s) w.core.frames) → g ≡ pages_ticked (state_of w) s w.core.frames
 frames_call w s j g is runs h = frames_run w s j (frame_at w.frames.items s) w.core.frames g is runs refl h
 
 user_run : (w : World) (s : ℕ) (j : Job) (b : Bool) (g : Frames) → job_at w.jobs s ≡ Some j → j.stopped ≡ false → is_some (frame_at w.frames.items s) ≡ false → deliverable j ≡ b
-    → IfSome (raw_at w.files w.core w.jobs s) (λ q. g ≡ pages_user (state_of w) s q b w.core.frames) → g ≡ pages_ticked (state_of w) s w.core.frames
+    → IfSome (raw_at w.files w.core w.jobs w.alarms.items s) (λ q. g ≡ pages_user (state_of w) s q b w.core.frames) → g ≡ pages_ticked (state_of w) s w.core.frames
 user_run w s j b g is runs fr d h =
-    let q : Whole = raw_job w.files (core_at w.core s) j (superior_at w.jobs s) in
+    let q : Whole = raw_job w.files (core_at w.core s) j (superior_at w.jobs s) (alarm_at w.alarms.items s) in
     subst (λ (p : Option Whole). IfSome p (λ q. g ≡ pages_user (state_of w) s q b w.core.frames)) (raw_some w s j is) h
     ∙ sym (ticked_some w s j false w.core.frames is runs ∙ ap (λ (x : Option Frame). pages_in (state_of w) s q x w.core.frames) (frame_is w s ∙ none_is (frame_at w.frames.items s) fr)
     ∙ ap (λ (x : Bool). pages_user (state_of w) s q x w.core.frames) (deliverable_bare j ∙ d))
 
 pub frames_delivery : (w : World) (s : ℕ) (j : Job) (g : Frames) → job_at w.jobs s ≡ Some j → j.stopped ≡ false → is_some (frame_at w.frames.items s) ≡ false → deliverable j ≡ true
-    → IfSome (raw_at w.files w.core w.jobs s) (λ q. g ≡ pages_unwound (informed_slots (delivered q.core q.job).stops q.superior) (state_of w) w.core.frames) → g ≡ pages_ticked (state_of w) s w.core.frames
+    → IfSome (raw_at w.files w.core w.jobs w.alarms.items s) (λ q. g ≡ pages_unwound (informed_slots (delivered q.core q.job).stops q.superior) (state_of w) w.core.frames) → g ≡ pages_ticked (state_of w) s w.core.frames
 frames_delivery w s j g is runs fr d h = user_run w s j true g is runs fr d h
 
 pub frames_unit : (w : World) (s : ℕ) (j : Job) (g : Frames) → job_at w.jobs s ≡ Some j → j.stopped ≡ false → is_some (frame_at w.frames.items s) ≡ false → deliverable j ≡ false
     → g ≡ w.core.frames → g ≡ pages_ticked (state_of w) s w.core.frames
-frames_unit w s j g is runs fr d h = user_run w s j false g is runs fr d (all_of (raw_at w.files w.core w.jobs s) (λ q. g ≡ w.core.frames) (λ q. h))
+frames_unit w s j g is runs fr d h = user_run w s j false g is runs fr d (all_of (raw_at w.files w.core w.jobs w.alarms.items s) (λ q. g ≡ w.core.frames) (λ q. h))
 
 -- a delivery: a superior in which INF is set is unwound first
 pub superior_frames : (old mid : World) (s k : ℕ) (o : Option ℕ) (g : Frames) → o ≡ superior_at old.jobs s → o ≡ Some k → mid.core.frames ≡ frames_after ((state_of old).reserved k) None k old.core.frames → g ≡ mid.core.frames
@@ -215,7 +215,7 @@ stops_raw c i b e = ap (λ (x : Delivered). x.stops) (delivered_bare c i) ∙ e
 
 pub stop_frames : (old mid : World) (s : ℕ) (i : Job) (g : Frames) → job_at old.jobs s ≡ Some i → CoreBecomes old mid s (delivered (core_at old.core s) i).core → (delivered (core_at old.core s) i).stops ≡ true
     → g ≡ pages_unwound (informed_slots true (superior_at mid.jobs s)) (state_of mid) mid.core.frames
-    → IfSome (raw_at old.files old.core old.jobs s) (λ q. g ≡ pages_unwound (informed_slots (delivered q.core q.job).stops q.superior) (state_of old) old.core.frames)
+    → IfSome (raw_at old.files old.core old.jobs old.alarms.items s) (λ q. g ≡ pages_unwound (informed_slots (delivered q.core q.job).stops q.superior) (state_of old) old.core.frames)
 stop_frames old mid s i g had b stops e =
     let same = stop_same old mid s i b stops in
     let still = becomes_pages old mid s _ _ _ b in
@@ -224,7 +224,7 @@ stop_frames old mid s i g had b stops e =
     ∙ sym (ap (λ (x : Bool). pages_unwound (informed_slots x (superior_at old.jobs s)) (state_of old) old.core.frames) (stops_raw (core_at old.core s) i true stops)))
 
 pub quiet_frames : (old : World) (s : ℕ) (i : Job) (g : Frames) → job_at old.jobs s ≡ Some i → (delivered (core_at old.core s) i).stops ≡ false → g ≡ old.core.frames
-    → IfSome (raw_at old.files old.core old.jobs s) (λ q. g ≡ pages_unwound (informed_slots (delivered q.core q.job).stops q.superior) (state_of old) old.core.frames)
+    → IfSome (raw_at old.files old.core old.jobs old.alarms.items s) (λ q. g ≡ pages_unwound (informed_slots (delivered q.core q.job).stops q.superior) (state_of old) old.core.frames)
 quiet_frames old s i g had stops e =
     raw_fact (λ q. g ≡ pages_unwound (informed_slots (delivered q.core q.job).stops q.superior) (state_of old) old.core.frames) old s i had
     (e ∙ sym (ap (λ (x : Bool). pages_unwound (informed_slots x (superior_at old.jobs s)) (state_of old) old.core.frames) (stops_raw (core_at old.core s) i false stops)))

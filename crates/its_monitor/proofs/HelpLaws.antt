@@ -15,16 +15,17 @@ use Rattle.its_world.proofs.MarkLaws.{help_step}
 use Rattle.its_pclsr.proofs.PartLaws.{store_state, store_tidy}
 use Rattle.its_world.proofs.StorageLaws.{files_are, marks_are}
 
-module _ (old new : World) (whole : IsStore old.files) (tidy : Tidy old) (files : new.files ≡ helped old.files) (core : new.core ≡ old.core) (jobs : new.jobs ≡ old.jobs) where
+module _ (old new : World) (whole : IsStore old.files) (tidy : Tidy old) (files : new.files ≡ helped old.files) (core : new.core ≡ old.core) (jobs : new.jobs ≡ old.jobs)
+    (clock : new.clock ≡ old.clock) (alarms : new.alarms ≡ old.alarms) (symbols : new.symbols ≡ old.symbols) where
   stays : Stays old.files new.files old.jobs
   stays = helped_stays old.files new.files old.jobs whole tidy.across files
 
   pub help_tidy : Tidy new
-  help_tidy = store_tidy old new stays core jobs tidy
+  help_tidy = store_tidy old new stays core jobs alarms clock symbols tidy
 
-  pub help_state : new.frames ≡ old.frames → new.consoles ≡ old.consoles → new.holders ≡ old.holders → new.clock ≡ old.clock → state_of new ≡ help (state_of old)
-  help_state frames consoles holders clock =
-      store_state old new stays core jobs frames consoles holders clock
+  pub help_state : new.frames ≡ old.frames → new.consoles ≡ old.consoles → new.holders ≡ old.holders → new.version ≡ old.version → state_of new ≡ help (state_of old)
+  help_state frames consoles holders version =
+      store_state old new stays core jobs frames consoles holders clock alarms version symbols
       ∙ ap (λ t. record (state_of old) { raw = record (state_of old).raw { files = directory t }; mark = mark_of t }) files
       ∙ sym (help_step old.files whole (state_of old) (marks_are old) (files_are old))
 

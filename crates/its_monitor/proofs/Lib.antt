@@ -10,3 +10,4 @@ pub mod BesideLaws
 pub mod OneByteLaws
 pub mod LoadLaws
 pub mod FramesLaws
+pub mod StepsLaws

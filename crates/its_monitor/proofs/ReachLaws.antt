@@ -24,7 +24,7 @@ use Rattle.its_stepped.specs.Unwind.{all_unwound, unwound}
 use Rattle.its_stepped.proofs.ForestLaws.{job_few, inferior_stands}
 use Rattle.its_stepped.proofs.TargetLaws.{target_inferior}
 use Rattle.its_stepped.proofs.UnwindLaws.{unwound_still, all_unwound_end}
-use Rattle.its_world.specs.World.{state_of, raw_of, raw_at, frame_at}
+use Rattle.its_world.specs.World.{state_of, alarm_at, raw_of, raw_at, frame_at}
 use Rattle.its_world.specs.declared.world.World.{World}
 use Rattle.its_monitor.specs.declared.reach.Reach.TheVariants.{Tree}
 use Rattle.its_monitor.specs.Ticks.{slots_in, closes_job, outs, logs_out}
@@ -115,14 +115,14 @@ reached_to m j q a b o e c is =
     let f = λ (b : Bool). if b then slots_below (superiors m) j ++ listed q.superior else reach_to m (closes_job (call_named a.name)) (target q a) in
     sym (reach_is m j q a ∙ ap f e ∙ (λ i. reach_to m (c i) (is i)))
 
-tree_of : (s : Store) (c : Core) (o : Option ℕ) (i : Option Job) (m : Machine) (j : ℕ) (a : Ask) → logs_out a ≡ true
-    → IfSome (raw_of s c o i) (λ q. slots_in Tree m j o ≡ reach m j q a)
-tree_of s c o (Some i) m j a e = reached_tree m j _ a e
-tree_of s c o None m j a e = tt
+tree_of : (s : Store) (c : Core) (o : Option ℕ) (l : Option (ℕ × ℕ)) (i : Option Job) (m : Machine) (j : ℕ) (a : Ask) → logs_out a ≡ true
+    → IfSome (raw_of s c o l i) (λ q. slots_in Tree m j o ≡ reach m j q a)
+tree_of s c o l (Some i) m j a e = reached_tree m j _ a e
+tree_of s c o l None m j a e = tt
 
-pub tree_reached : (s : Store) (c : Cores) (t : Table) (m : Machine) (j : ℕ) (a : Ask) (b : Bool) → b ≡ logs_out a → b ≡ true
-    → IfSome (raw_at s c t j) (λ q. slots_below (superiors m) j ++ listed (superior_at t j) ≡ reach m j q a)
-tree_reached s c t m j a b e is = tree_of s (core_at c j) (superior_at t j) (job_at t j) m j a (sym e ∙ is)
+pub tree_reached : (s : Store) (c : Cores) (t : Table) (ls : List (Option (ℕ × ℕ))) (m : Machine) (j : ℕ) (a : Ask) (b : Bool) → b ≡ logs_out a → b ≡ true
+    → IfSome (raw_at s c t ls j) (λ q. slots_below (superiors m) j ++ listed (superior_at t j) ≡ reach m j q a)
+tree_reached s c t ls m j a b e is = tree_of s (core_at c j) (superior_at t j) (alarm_at ls j) (job_at t j) m j a (sym e ∙ is)
 
 target_reached : (p : Option Whole) (m : Machine) (j : ℕ) (a : Ask) (b : Bool) (o r : Option ℕ) → logs_out a ≡ false → closes_job (call_named a.name) ≡ b → IfSome p (λ q. o ≡ target q a) → o ≡ r
     → IfSome p (λ q. reach_to m b r ≡ reach m j q a)
@@ -146,7 +146,7 @@ nobody_reached p m j a b o e stays h is =
     none_reached p m j a (closes_job (call_named a.name)) (target_reached p m j a (closes_job (call_named a.name)) o None (sym e ∙ stays) refl h is)
 
 -- a job that a call reaches into is an inferior, and has one of the slots that there are
-pub raw_is : (w : World) (j : ℕ) → (state_of w).raw.jobs j ≡ raw_at w.files w.core w.jobs j
+pub raw_is : (w : World) (j : ℕ) → (state_of w).raw.jobs j ≡ raw_at w.files w.core w.jobs w.alarms.items j
 unfolding state_of
 raw_is w j = refl
 
@@ -155,9 +155,9 @@ target_below m j a o k (Some q) forest at some h is = job_few m forest k (inferi
 target_below m j a o k None forest at some h is = cc
 
 pub target_few : (w : World) (j : ℕ) (a : Ask) (o : Option ℕ) (k : ℕ) → Forest (state_of w).raw → is_some (job_at w.jobs j) ≡ true
-    → IfSome (raw_at w.files w.core w.jobs j) (λ q. o ≡ target q a) → o ≡ Some k → k < slots
+    → IfSome (raw_at w.files w.core w.jobs w.alarms.items j) (λ q. o ≡ target q a) → o ≡ Some k → k < slots
 target_few w j a o k forest some h is =
-    target_below (state_of w).raw j a o k (raw_at w.files w.core w.jobs j) forest (raw_is w j) (ap is_some (sym (raw_is w j)) ∙ raw_has w j ∙ some) h is
+    target_below (state_of w).raw j a o k (raw_at w.files w.core w.jobs w.alarms.items j) forest (raw_is w j) (ap is_some (sym (raw_is w j)) ∙ raw_has w j ∙ some) h is
 
 -- a call's jobs are unwound where those of its reach are
 unwound_by : (p : Option Whole) (ks : List ℕ) (w v : State) (j : ℕ) (a : Ask) → v ≡ all_unwound ks w → IfSome p (λ q. ks ≡ reach w.raw j q a) → IfSome p (λ q. v ≡ all_unwound (reach w.raw j q a) w)

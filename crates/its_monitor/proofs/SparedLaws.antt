@@ -10,7 +10,7 @@ use Rattle.its_frame.specs.declared.change.Change.{Change}
 use Rattle.its_frame.specs.declared.change.Change.TheVariants as changes
 use Rattle.its_frame.specs.declared.frame.Frame.{Frame}
 use Rattle.its_plain.specs.CallBasic.{told_superior}
-use Rattle.its_plain.specs.Change.{on_slot, in_job, channel_in, chan_left, shut_on, left_job, is_gone, superiors, inferior, with_page_at, protected, poke, with_inf, removed, effect}
+use Rattle.its_plain.specs.Change.{on_slot, in_job, channel_in, chan_left, shut_on, left_job, is_gone, superiors, inferior, with_page_at, protected, poke, with_alarm, with_inf, removed, effect}
 use Rattle.its_plain.specs.Machine.{Chan, Shut, TtyIn, TtyOut, Reads, Writes, On, Whole, Machine, changed}
 use Rattle.its_plain.specs.Own.{with_stores, with_registers, on_channel, with_variable}
 use Rattle.its_stepped.specs.Commit.{effect_on, effects_on}
@@ -102,6 +102,7 @@ effect_same (changes.Make s x n) j u v k f h fits forest e ne fr =
 effect_same (changes.Remove s) j u v k f h fits forest e ne fr =
     removed_same j u v s k f h (λ at. let same : Some j ≡ Some k = sym fits ∙ at in let is : j ≡ k = cc in ne (sym is)) forest e ne fr
 effect_same (changes.Inform s) j u v k f h fits forest e ne fr = on_slot_other v.raw.jobs s k with_inf (reached_other u j s k f h ne fr)
+effect_same (changes.Arm alarm) j u v k f h fits forest e ne fr = on_slot_other v.raw.jobs j k (with_alarm alarm) ne
 effect_same (changes.Delete d x y) j u v k f h fits forest e ne fr = refl
 effect_same (changes.Rename d x y a b) j u v k f h fits forest e ne fr = refl
 
@@ -183,6 +184,7 @@ effect_inferior (changes.Protect s p b) j v k x = slot_inferior v.raw.jobs j s k
 effect_inferior (changes.Make s u n) j v k x = made_inferior v.raw.jobs j s k u n x
 effect_inferior (changes.Remove s) j v k x = left_inferior j (is_gone (superiors v.raw) s) (is_gone (superiors v.raw) s k) (v.raw.jobs k) x
 effect_inferior (changes.Inform s) j v k x = slot_inferior v.raw.jobs j s k _ (λ q. refl) x
+effect_inferior (changes.Arm alarm) j v k x = slot_inferior v.raw.jobs j j k _ (λ q. refl) x
 effect_inferior (changes.Delete d a b) j v k x = x
 effect_inferior (changes.Rename d a b y z) j v k x = x
 

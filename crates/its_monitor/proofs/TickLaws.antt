@@ -17,6 +17,7 @@ use Rattle.its_plain.specs.Unit.{unit}
 use Rattle.its_stepped.specs.Address.{Addressed}
 use Rattle.its_stepped.specs.Consoled.{Consoled}
 use Rattle.its_stepped.specs.Duty.{Given}
+use Rattle.its_stepped.specs.Alarmed.{Alarmed}
 use Rattle.its_stepped.specs.Forest.{Forest}
 use Rattle.its_plain.specs.Licence.{Licensed}
 use Rattle.its_stepped.specs.Sound.{Sound}
@@ -24,13 +25,14 @@ use Rattle.its_stepped.specs.State.{State, plain}
 use Rattle.its_stepped.specs.Tick.{Ticked, delivered_on, unit_on, user_on, tick_in, tick_unless, tick_of, tick}
 use Rattle.its_stepped.proofs.AddressLaws.{step_addressed}
 use Rattle.its_stepped.proofs.ClockLaws.{step_clock}
+use Rattle.its_stepped.proofs.AlarmLaws.{step_alarmed}
 use Rattle.its_stepped.proofs.ConsoledLaws.{step_consoled}
 use Rattle.its_stepped.proofs.DecodingLaws.{decoding}
 use Rattle.its_stepped.proofs.FitLaws.{forest_steps}
 use Rattle.its_stepped.proofs.GivenLaws.{given}
 use Rattle.its_stepped.proofs.SoundLaws.{tick_sound}
 use Rattle.its_stepped.proofs.TickLaws.{tick_is}
-use Rattle.its_world.specs.World.{state_of, raw_at, frame_at}
+use Rattle.its_world.specs.World.{alarm_at, state_of, raw_at, frame_at}
 use Rattle.its_world.specs.declared.world.World.{World}
 use Rattle.its_world.proofs.BareLaws.{deliverable_bare}
 use Rattle.its_world.proofs.StateLaws.{raw_job, raw_some, raw_none}
@@ -47,7 +49,7 @@ pub pace_ticked : (t : Ticked) (w : State) (p : Pace) → t ≡ ticked w p → p
 pace_ticked t w p e = sym (ap (λ (x : Ticked). x.pace) e)
 
 -- a slot without a job, and one whose job is stopped
-tick_at : (w : World) (s : ℕ) (o : Option Whole) → raw_at w.files w.core w.jobs s ≡ o → tick (state_of w) s ≡ tick_of (state_of w) s o
+tick_at : (w : World) (s : ℕ) (o : Option Whole) → raw_at w.files w.core w.jobs w.alarms.items s ≡ o → tick (state_of w) s ≡ tick_of (state_of w) s o
 unfolding tick state_of
 tick_at w s o e = ap (tick_of (state_of w) s) e
 
@@ -55,38 +57,38 @@ pub turn_absent : (w : World) (s : ℕ) → job_at w.jobs s ≡ None → tick (s
 turn_absent w s none = tick_at w s None (raw_none w s none)
 
 tick_some : (w : World) (s : ℕ) (j : Job) (b : Bool) → job_at w.jobs s ≡ Some j → j.stopped ≡ b
-    → tick (state_of w) s ≡ tick_unless (state_of w) s (raw_job w.files (core_at w.core s) j (superior_at w.jobs s)) b
+    → tick (state_of w) s ≡ tick_unless (state_of w) s (raw_job w.files (core_at w.core s) j (superior_at w.jobs s) (alarm_at w.alarms.items s)) b
 tick_some w s j b is h =
-    let q : Whole = raw_job w.files (core_at w.core s) j (superior_at w.jobs s) in
+    let q : Whole = raw_job w.files (core_at w.core s) j (superior_at w.jobs s) (alarm_at w.alarms.items s) in
     tick_at w s (Some q) (raw_some w s j is) ∙ ap (tick_unless (state_of w) s q) h
 
 pub turn_stopped : (w : World) (s : ℕ) (j : Job) → job_at w.jobs s ≡ Some j → j.stopped ≡ true → tick (state_of w) s ≡ ticked (state_of w) Off
 turn_stopped w s j is h = tick_some w s j true is h
 
 runs_by : (w : World) (s : ℕ) (j : Job) (f : Option Frame) (t : Ticked) → job_at w.jobs s ≡ Some j → j.stopped ≡ false → frame_at w.frames.items s ≡ f
-    → IfSome (raw_at w.files w.core w.jobs s) (λ q. tick_in (state_of w) s q f ≡ t) → tick (state_of w) s ≡ t
+    → IfSome (raw_at w.files w.core w.jobs w.alarms.items s) (λ q. tick_in (state_of w) s q f ≡ t) → tick (state_of w) s ≡ t
 runs_by w s j f t is runs fr row =
-    let q : Whole = raw_job w.files (core_at w.core s) j (superior_at w.jobs s) in
+    let q : Whole = raw_job w.files (core_at w.core s) j (superior_at w.jobs s) (alarm_at w.alarms.items s) in
     tick_some w s j false is runs
     ∙ ap (tick_in (state_of w) s q) (frame_is w s ∙ fr)
     ∙ subst (λ (o : Option Whole). IfSome o (λ q. tick_in (state_of w) s q f ≡ t)) (raw_some w s j is) row
 
 pub turn_call : (old new : World) (s : ℕ) (j : Job) (p : Pace) → job_at old.jobs s ≡ Some j → j.stopped ≡ false
-    → IfSome (raw_at old.files old.core old.jobs s) (λ q. tick_in (state_of old) s q (frame_at old.frames.items s) ≡ ticked (state_of new) p)
+    → IfSome (raw_at old.files old.core old.jobs old.alarms.items s) (λ q. tick_in (state_of old) s q (frame_at old.frames.items s) ≡ ticked (state_of new) p)
     → tick (state_of old) s ≡ ticked (state_of new) p
 turn_call old new s j p is runs row = runs_by old s j (frame_at old.frames.items s) (ticked (state_of new) p) is runs refl row
 
 -- in user mode an interrupt is delivered, or a unit is made
-deliverable_raw : (s : Store) (c : Core) (j : Job) (o : Option ℕ) → deliverable (raw_job s c j o).job ≡ deliverable j
-deliverable_raw s c j o = deliverable_bare j
+deliverable_raw : (s : Store) (c : Core) (j : Job) (o : Option ℕ) (a : Option (ℕ × ℕ)) → deliverable (raw_job s c j o a).job ≡ deliverable j
+deliverable_raw s c j o a = deliverable_bare j
 
 user_by : (w : World) (s : ℕ) (j : Job) (b : Bool) (t : Ticked) → job_at w.jobs s ≡ Some j → j.stopped ≡ false → frame_at w.frames.items s ≡ None → deliverable j ≡ b
-    → IfSome (raw_at w.files w.core w.jobs s) (λ q. user_on (state_of w) s q b ≡ t) → tick (state_of w) s ≡ t
+    → IfSome (raw_at w.files w.core w.jobs w.alarms.items s) (λ q. user_on (state_of w) s q b ≡ t) → tick (state_of w) s ≡ t
 user_by w s j b t is runs fr d row =
-    let q : Whole = raw_job w.files (core_at w.core s) j (superior_at w.jobs s) in
+    let q : Whole = raw_job w.files (core_at w.core s) j (superior_at w.jobs s) (alarm_at w.alarms.items s) in
     tick_some w s j false is runs
     ∙ ap (tick_in (state_of w) s q) (frame_is w s ∙ fr)
-    ∙ ap (user_on (state_of w) s q) (deliverable_raw w.files (core_at w.core s) j (superior_at w.jobs s) ∙ d)
+    ∙ ap (user_on (state_of w) s q) (deliverable_raw w.files (core_at w.core s) j (superior_at w.jobs s) (alarm_at w.alarms.items s) ∙ d)
     ∙ subst (λ (o : Option Whole). IfSome o (λ q. user_on (state_of w) s q b ≡ t)) (raw_some w s j is) row
 
 delivered_row : (o : Option Whole) (v w : State) (s : ℕ) → IfSome o (λ q. v ≡ delivered_on w s q (delivered q.core q.job)) → IfSome o (λ q. user_on w s q true ≡ ticked v Step)
@@ -94,12 +96,12 @@ delivered_row (Some q) v w s h = ap (λ (x : State). ticked x Step) (sym h)
 delivered_row None v w s h = tt
 
 pub turn_delivery : (old new : World) (s : ℕ) (j : Job) → job_at old.jobs s ≡ Some j → j.stopped ≡ false → is_some (frame_at old.frames.items s) ≡ false → deliverable j ≡ true
-    → IfSome (raw_at old.files old.core old.jobs s) (λ q. state_of new ≡ delivered_on (state_of old) s q (delivered q.core q.job)) → tick (state_of old) s ≡ ticked (state_of new) Step
+    → IfSome (raw_at old.files old.core old.jobs old.alarms.items s) (λ q. state_of new ≡ delivered_on (state_of old) s q (delivered q.core q.job)) → tick (state_of old) s ≡ ticked (state_of new) Step
 turn_delivery old new s j is runs fr d row =
-    user_by old s j true (ticked (state_of new) Step) is runs (none_is (frame_at old.frames.items s) fr) d (delivered_row (raw_at old.files old.core old.jobs s) (state_of new) (state_of old) s row)
+    user_by old s j true (ticked (state_of new) Step) is runs (none_is (frame_at old.frames.items s) fr) d (delivered_row (raw_at old.files old.core old.jobs old.alarms.items s) (state_of new) (state_of old) s row)
 
 pub turn_unit : (old new : World) (s : ℕ) (j : Job) (p : Pace) → job_at old.jobs s ≡ Some j → j.stopped ≡ false → is_some (frame_at old.frames.items s) ≡ false → deliverable j ≡ false
-    → IfSome (raw_at old.files old.core old.jobs s) (λ q. unit_on (state_of old) s (unit q.core q.job) ≡ ticked (state_of new) p) → tick (state_of old) s ≡ ticked (state_of new) p
+    → IfSome (raw_at old.files old.core old.jobs old.alarms.items s) (λ q. unit_on (state_of old) s (unit q.core q.job) ≡ ticked (state_of new) p) → tick (state_of old) s ≡ ticked (state_of new) p
 turn_unit old new s j p is runs fr d row = user_by old s j false (ticked (state_of new) p) is runs (none_is (frame_at old.frames.items s) fr) d row
 
 -- a tick is licensed by its letter
@@ -117,13 +119,15 @@ pub record Lasts (m : Machine) : Type 0 where
   pub addressed : Addressed m
   pub consoled : Consoled m
   pub timed : m.clock < clock_end
+  pub alarmed : Alarmed m
 
-lasts : (m n : Machine) (s : ℕ) (p : Pace) → Lasts m → Licensed m s p n → Lasts n
+pub lasts : (m n : Machine) (s : ℕ) (p : Pace) → Lasts m → Licensed m s p n → Lasts n
 lasts m n s Step h l = record {
   forest = forest_steps m n s h.forest l;
   addressed = step_addressed m n s h.addressed l;
   consoled = step_consoled m n s h.consoled l;
   timed = subst (λ (t : ℕ). t < clock_end) (sym (step_clock m n s l)) h.timed;
+  alarmed = step_alarmed m n s h.forest h.alarmed l;
 }
 lasts m n s Work h (r, e) = subst Lasts (sym e) h
 lasts m n s Wait h (r, d, e) = subst Lasts (sym e) h
@@ -131,7 +135,7 @@ lasts m n s Off h (r, e) = subst Lasts (sym e) h
 
 pub tick_kept : (old new : World) (s : ℕ) (p : Pace) → Kept old → tick (state_of old) s ≡ ticked (state_of new) p → Tidy new → Kept new
 tick_kept old new s p kept e tidy =
-    let h : Lasts (plain (state_of old)) = record { forest = kept.forest; addressed = record { each = kept.addressed }; consoled = record { each = kept.consoled }; timed = kept.timed } in
+    let h : Lasts (plain (state_of old)) = record { forest = kept.forest; addressed = record { each = kept.addressed }; consoled = record { each = kept.consoled }; timed = kept.timed; alarmed = kept.alarmed } in
     let l = lasts (plain (state_of old)) (plain (state_of new)) s p h (tick_licensed old new s p kept e) in
     record {
       sound = subst (λ (t : Ticked). Sound t.state) e (tick_sound (state_of old) s kept.sound (given_of old s kept));
@@ -140,4 +144,5 @@ tick_kept old new s p kept e tidy =
       addressed = l.addressed.each;
       consoled = l.consoled.each;
       timed = l.timed;
+      alarmed = l.alarmed;
     }

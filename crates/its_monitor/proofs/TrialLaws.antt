@@ -76,17 +76,17 @@ clear_call w s h q c t = subst (λ (o : Option Holding). IfSome o (λ f. IsTried
 
 -- a fact on the two
 abbrev pub OnCall : World → ℕ → (Holding → Whole → Type 0) → Type 0
-OnCall w s P = IfSome (standing_of (frame_at w.frames.items s)) (λ f. IfSome (raw_at w.files w.core w.jobs s) (λ q. P f q))
+OnCall w s P = IfSome (standing_of (frame_at w.frames.items s)) (λ f. IfSome (raw_at w.files w.core w.jobs w.alarms.items s) (λ q. P f q))
 
 of_call : (w : World) (s : ℕ) (P : Holding → Whole → Type 0) (h : Holding) (q : Whole) → Calls w s h q → OnCall w s P → P h q
 unfolding state_of
 of_call w s P h q c x =
-    subst (λ (o : Option Whole). IfSome o (P h)) c.raw (subst (λ (o : Option Holding). IfSome o (λ f. IfSome (raw_at w.files w.core w.jobs s) (λ q. P f q))) c.stands x)
+    subst (λ (o : Option Whole). IfSome o (P h)) c.raw (subst (λ (o : Option Holding). IfSome o (λ f. IfSome (raw_at w.files w.core w.jobs w.alarms.items s) (λ q. P f q))) c.stands x)
 
 on_call : (w : World) (s : ℕ) (P : Holding → Whole → Type 0) (h : Holding) (q : Whole) → Calls w s h q → P h q → OnCall w s P
 unfolding state_of
 on_call w s P h q c x =
-    subst (λ (o : Option Holding). IfSome o (λ f. IfSome (raw_at w.files w.core w.jobs s) (λ q. P f q))) (sym c.stands) (subst (λ (o : Option Whole). IfSome o (P h)) (sym c.raw) x)
+    subst (λ (o : Option Holding). IfSome o (λ f. IfSome (raw_at w.files w.core w.jobs w.alarms.items s) (λ q. P f q))) (sym c.stands) (subst (λ (o : Option Whole). IfSome o (P h)) (sym c.raw) x)
 
 -- the jobs are unwound that it reaches
 abbrev pub Reaches : World → World → ℕ → Type 0
@@ -175,7 +175,7 @@ module _ (old mid : World) (s : ℕ) (kept : Kept old) (e : is_some (standing_of
   mid_ready d h = let c = caller old s kept.sound e in ready_there old mid s c.job c.call d (found_tries c d h)
 
   pub trial_made : (new : World) (d : Decision) (p : Pace) → Decides mid s d → IfSome (standing_of (frame_at mid.frames.items s)) (λ f. state_of new ≡ committed (state_of mid) s f.site f.ask f.owes d)
-      → p ≡ pace_of d → IfSome (raw_at old.files old.core old.jobs s) (λ q. tick_in (state_of old) s q (frame_at old.frames.items s) ≡ ticked (state_of new) p)
+      → p ≡ pace_of d → IfSome (raw_at old.files old.core old.jobs old.alarms.items s) (λ q. tick_in (state_of old) s q (frame_at old.frames.items s) ≡ ticked (state_of new) p)
   trial_made new d p h carried pace =
       let c = caller old s kept.sound e in
       let t = found_tries c d h in
@@ -185,7 +185,7 @@ module _ (old mid : World) (s : ℕ) (kept : Kept old) (e : is_some (standing_of
       (ap (tick_in (state_of old) s c.job) (sym (frame_is old s)) ∙ t.row ∙ (λ i. record { state = sym made i; pace = sym pace i }))
 
   pub trial_pages : (new : World) (d : Decision) → Decides mid s d → ReachPages old mid s → new.core.frames ≡ pages_carried d s (state_of mid) mid.core.frames
-      → IfSome (raw_at old.files old.core old.jobs s) (λ q. new.core.frames ≡ pages_in (state_of old) s q (frame_at old.frames.items s) old.core.frames)
+      → IfSome (raw_at old.files old.core old.jobs old.alarms.items s) (λ q. new.core.frames ≡ pages_in (state_of old) s q (frame_at old.frames.items s) old.core.frames)
   trial_pages new d h reaches carried =
       let c = caller old s kept.sound e in
       let w : State = state_of old in

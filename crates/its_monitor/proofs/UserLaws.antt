@@ -1,9 +1,11 @@
 -- A tick in user mode: what a unit or a delivery makes of a world is its row on the state that the world stands for.
 use Rattle.std.specs.Prelude.{if◌then◌else◌, ◌≡◌, ◌≢◌, ◌<◌, ◌≤◌, ◌^◌, ◌⊎◌, ℕ, Bool, true, false, Option, Some, None, IfSome, is_some, List, [], ◌∷◌, length, slice_index_or, slice_set, vec_len, refl}
 use Rattle.std.proofs.Common.{sym, ◌∙◌, ap, subst, inl, inr}
+use Rattle.std.proofs.Math.Bridge.{le_prop}
 use Rattle.std.proofs.Math.Nat.{ℕ_set}
 use Rattle.std.proofs.lemmas.Bool.{cases_eq, cases_lt, ne_eqb}
 use Rattle.std.proofs.lemmas.List.{get_or-set_same, get_or-set_other, get_or_past, set-get_or}
+use Rattle.its_word.specs.Limits.{slots, limit_of}
 use Rattle.its_word.specs.Only.{Only}
 use Rattle.its_word.specs.Core.{Core}
 use Rattle.its_word.specs.declared.calls.Pace.TheVariants.{Step, Work}
@@ -36,7 +38,7 @@ use Rattle.its_stepped.proofs.GivenLaws.{given}
 use Rattle.its_stepped.proofs.TickLaws.{seen_at, seen_none}
 use Rattle.its_stepped.proofs.UnwindLaws.{all_unwound_others, slot_same, slot_then}
 use Rattle.its_world.specs.Tidy.{Tidy}
-use Rattle.its_world.specs.World.{bare, chan_of, chans_of, mark_of, raw_of, raw_at, frame_at, state_of, Becomes, CoreBecomes, FrameBecomes, JobBecomes, console_at, holder_at}
+use Rattle.its_world.specs.World.{symbols_at, alarm_at, bare, chan_of, chans_of, mark_of, raw_of, raw_at, frame_at, state_of, Becomes, CoreBecomes, FrameBecomes, JobBecomes, console_at, holder_at}
 use Rattle.its_world.specs.declared.world.World.{World}
 use Rattle.its_world.proofs.BareLaws.{bare_delivered, bare_outcome, delivered_bare, delivered_channels, delivered_stops, unit_bare, unit_channels}
 use Rattle.its_world.proofs.StateLaws.{kept_turn, raw_job, raw_some, state_is, turned_state}
@@ -56,20 +58,20 @@ pub user_addressed : (w : World) (s : ℕ) → Kept w → frame_at w.frames.item
 user_addressed w s kept none = go (job_at w.jobs s) refl
   where
     go : (o : Option Job) → job_at w.jobs s ≡ o → IfSome o (λ j. j.pc < 2 ^ 18)
-    go (Some j) is = raw_addressed w s (raw_job w.files (core_at w.core s) j (superior_at w.jobs s)) kept none (raw_is w s j is)
+    go (Some j) is = raw_addressed w s (raw_job w.files (core_at w.core s) j (superior_at w.jobs s) (alarm_at w.alarms.items s)) kept none (raw_is w s j is)
     go None is = tt
 
 superior_apart : (w : World) (s : ℕ) (j : Job) → Kept w → frame_at w.frames.items s ≡ None → job_at w.jobs s ≡ Some j → superior_at w.jobs s ≢ Some s
 superior_apart w s j kept none is =
-    let q : Whole = raw_job w.files (core_at w.core s) j (superior_at w.jobs s) in
+    let q : Whole = raw_job w.files (core_at w.core s) j (superior_at w.jobs s) (alarm_at w.alarms.items s) in
     subst (λ (o : Option Frame). GivenBy (state_of w) s q o) (frame_is w s ∙ none) ((given decoding (state_of w) s kept.forest kept.sound).by q (raw_is w s j is))
 
 -- what holds of the raw job of a slot
-pub raw_fact : (P : Whole → Type 0) (w : World) (s : ℕ) (j : Job) → job_at w.jobs s ≡ Some j → P (raw_job w.files (core_at w.core s) j (superior_at w.jobs s)) → IfSome (raw_at w.files w.core w.jobs s) P
+pub raw_fact : (P : Whole → Type 0) (w : World) (s : ℕ) (j : Job) → job_at w.jobs s ≡ Some j → P (raw_job w.files (core_at w.core s) j (superior_at w.jobs s) (alarm_at w.alarms.items s)) → IfSome (raw_at w.files w.core w.jobs w.alarms.items s) P
 raw_fact P w s j is h = subst (λ (x : Option Whole). IfSome x P) (sym (raw_some w s j is)) h
 
 -- the core of a slot is written, and then its registers
-put_then : (old mid new : World) (s : ℕ) (c : Core) (j : Job) → CoreBecomes old mid s c → JobBecomes mid new s j
+pub put_then : (old mid new : World) (s : ℕ) (c : Core) (j : Job) → CoreBecomes old mid s c → JobBecomes mid new s j
     → Becomes old new s c (Some j) (frame_at old.frames.items s) (clear_at old.core s)
 put_then old mid new s c j a b = then_becomes old mid new s c c (job_at old.jobs s) (Some j) (frame_at old.frames.items s) (frame_at old.frames.items s) (clear_at old.core s) a
     (subst (λ (x : Core). Becomes mid new s x (Some j) (frame_at old.frames.items s) (clear_at old.core s)) a.core.here
@@ -77,7 +79,7 @@ put_then old mid new s c j a b = then_becomes old mid new s c c (job_at old.jobs
     (subst (λ (x : Option ℕ). Becomes mid new s (core_at mid.core s) (Some j) (frame_at mid.frames.items s) x) a.reserved.here b)))
 
 -- a unit, on the core and the registers in place
-job_put : (t : Table) (s : ℕ) (i j : Job) → job_at t s ≡ Some i → Only (job_at t) (job_at (record t { jobs = slice_set t.jobs s (Some j) })) s (Some j)
+pub job_put : (t : Table) (s : ℕ) (i j : Job) → job_at t s ≡ Some i → Only (job_at t) (job_at (record t { jobs = slice_set t.jobs s (Some j) })) s (Some j)
 job_put t s i j h = record {
   here = get_or-set_same t.jobs s (Some j) None (within (cases_lt s (length t.jobs)));
   others = λ k ne. get_or-set_other t.jobs s k (Some j) None ne;
@@ -87,37 +89,34 @@ job_put t s i j h = record {
     within (inl lt) = lt
     within (inr ge) = let n : slice_index_or t.jobs s None ≡ None = get_or_past t.jobs s None ge in cc
 
-put_back : (t : Table) (s : ℕ) (j : Job) → job_at t s ≡ Some j → record t { jobs = slice_set t.jobs s (Some j) } ≡ t
-put_back t s j h = ap (λ (xs : List (Option Job)). record t { jobs = xs }) (ap (slice_set t.jobs s) (sym h) ∙ set-get_or t.jobs s None)
+put_back : (t : Table) (s : ℕ) (j : Job) → job_at t s ≡ Some j → slice_set t.jobs s (Some j) ≡ t.jobs
+put_back t s j h = ap (slice_set t.jobs s) (sym h) ∙ set-get_or t.jobs s None
 
-put_same : (w : World) (s : ℕ) (c : Cores) (i j : Job) (size : vec_len w.frames ≡ 64) (count : vec_len w.consoles ≡ 8) → job_at w.jobs s ≡ Some i → c ≡ w.core → j ≡ i
-    → record w { core = c; jobs = record w.jobs { jobs = slice_set w.jobs.jobs s (Some j) }; slots = size; consoles_count = count } ≡ w
-put_same w s c i j size count had core job =
-    ap (λ (x : vec_len w.frames ≡ 64). record w { core = c; jobs = record w.jobs { jobs = slice_set w.jobs.jobs s (Some j) }; slots = x; consoles_count = count }) (ℕ_set (vec_len w.frames) 64 size w.slots)
-    ∙ ap (λ (x : vec_len w.consoles ≡ 8). record w { core = c; jobs = record w.jobs { jobs = slice_set w.jobs.jobs s (Some j) }; consoles_count = x }) (ℕ_set (vec_len w.consoles) 8 count w.consoles_count)
-    ∙ (λ t. record w { core = core t; jobs = put_back w.jobs s j (had ∙ ap Some (sym job)) t })
+-- the version of a world is 1 or 2 in one way
+numbers_are : {v : ℕ} (a b : (1 ≤ v) × (v ≤ 2)) → a ≡ b
+numbers_are a b = λ t. (le_prop a.0 b.0 t, le_prop a.1 b.1 t)
 
-pub unit_in : (w : World) (s : ℕ) (c : Cores) (i j : Job) (size : vec_len w.frames ≡ 64) (count : vec_len w.consoles ≡ 8) (b : Bool) → job_at w.jobs s ≡ Some i
-    → ((k : ℕ) → k ≢ s → core_at c k ≡ core_at w.core k) → c.reserved ≡ w.core.reserved → c.frames ≡ w.core.frames
-    → left_by (unit (core_at w.core s) i) (core_at w.core s) i ≡ (if b then Some (record { core = core_at c s; job = j }) else None) → (b ≡ false → (c ≡ w.core) × (j ≡ i))
-    → UnitIn w (record w { core = c; jobs = record w.jobs { jobs = slice_set w.jobs.jobs s (Some j) }; slots = size; consoles_count = count }) s (λ k. unit (core_at w.core s) k) b
-unit_in w s c i j size count true had others reserved pages left same = record {
-  job = i;
-  left = record { core = core_at c s; job = j };
-  had = had;
-  is = left;
-  becomes = put_then w (record w { core = c }) _ s (core_at c s) j
-      (core_becomes w (record w { core = c }) s (core_at c s) (record { here = refl; others = others }) reserved pages refl refl refl refl refl refl)
-      (job_becomes (record w { core = c }) _ s j (job_put w.jobs s i j had) refl refl refl refl refl refl refl);
-}
-unit_in w s c i j size count false had others reserved pages left same = record {
-  same = let e = same refl in put_same w s c i j size count had e.0 e.1;
-  called = subst (λ (o : Option Job). IfSome o (λ k. left_by (unit (core_at w.core s) k) (core_at w.core s) k ≡ None)) (sym had) left;
-}
+pub put_same : (w : World) (s : ℕ) (c : Cores) (i j : Job) (named : vec_len w.symbols ≡ slots) (places : vec_len w.alarms ≡ slots) (size : vec_len w.frames ≡ slots) (count : vec_len w.consoles ≡ 8) (limit : w.jobs.limit ≡ limit_of w.version) (number : (1 ≤ w.version) × (w.version ≤ 2)) → job_at w.jobs s ≡ Some i
+    → c ≡ w.core → j ≡ i
+    → record w { core = c; jobs = record w.jobs { jobs = slice_set w.jobs.jobs s (Some j) }; lists = named; alarm_places = places; slots = size; consoles_count = count; limited = limit; numbered = number } ≡ w
+put_same w s c i j named places size count limit number had core job =
+    ap (λ (x : vec_len w.symbols ≡ slots). record w { core = c; jobs = record w.jobs { jobs = slice_set w.jobs.jobs s (Some j) }; lists = x; alarm_places = places; slots = size; consoles_count = count; limited = limit; numbered = number })
+    (ℕ_set (vec_len w.symbols) slots named w.lists)
+    ∙ ap (λ (x : vec_len w.alarms ≡ slots). record w { core = c; jobs = record w.jobs { jobs = slice_set w.jobs.jobs s (Some j) }; alarm_places = x; slots = size; consoles_count = count; limited = limit; numbered = number })
+    (ℕ_set (vec_len w.alarms) slots places w.alarm_places)
+    ∙ ap (λ (x : vec_len w.frames ≡ slots). record w { core = c; jobs = record w.jobs { jobs = slice_set w.jobs.jobs s (Some j) }; slots = x; consoles_count = count; limited = limit; numbered = number })
+    (ℕ_set (vec_len w.frames) slots size w.slots)
+    ∙ ap (λ (x : vec_len w.consoles ≡ 8). record w { core = c; jobs = record w.jobs { jobs = slice_set w.jobs.jobs s (Some j) }; consoles_count = x; limited = limit; numbered = number })
+    (ℕ_set (vec_len w.consoles) 8 count w.consoles_count)
+    ∙ ap (λ (x : w.jobs.limit ≡ limit_of w.version). record w { core = c; jobs = record w.jobs { jobs = slice_set w.jobs.jobs s (Some j) }; limited = x; numbered = number })
+    (ℕ_set w.jobs.limit (limit_of w.version) limit w.limited)
+    ∙ ap (λ (x : (1 ≤ w.version) × (w.version ≤ 2)). record w { core = c; jobs = record w.jobs { jobs = slice_set w.jobs.jobs s (Some j) }; numbered = x })
+    (numbers_are number w.numbered)
+    ∙ (λ t. record w { core = core t; jobs = record w.jobs { jobs = put_back w.jobs s j (had ∙ ap Some (sym job)) t } })
 
 -- what a unit leaves of a job is its row
-becomes_raw : (s : Store) (c d : Core) (superior : Option ℕ) (i k : Job) → k.channels ≡ i.channels → becomes d (bare k) (raw_job s c i superior) ≡ raw_job s d k superior
-becomes_raw s c d superior i k h = λ t. record { core = d; job = bare k; superior = superior; channels = λ n. chan_of s (slice_index_or (sym h t) n channels.Closed) }
+pub becomes_raw : (s : Store) (c d : Core) (superior : Option ℕ) (a : Option (ℕ × ℕ)) (i k : Job) → k.channels ≡ i.channels → becomes d (bare k) (raw_job s c i superior a) ≡ raw_job s d k superior a
+becomes_raw s c d superior a i k h = λ t. record { core = d; job = bare k; superior = superior; channels = λ n. chan_of s (slice_index_or (sym h t) n channels.Closed); alarm = a }
 
 left_becomes : (old new : World) (s : ℕ) (l m : Left) → l ≡ m → frame_at old.frames.items s ≡ None → Becomes old new s m.core (Some m.job) (frame_at old.frames.items s) (clear_at old.core s)
     → Becomes old new s l.core (Some l.job) None (clear_at old.core s)
@@ -131,7 +130,7 @@ left_row : (old new : World) (s : ℕ) (i : Job) (o : Outcome) (l : Left) → jo
 left_row old new s i (Changed d k) l had none u is b =
     let e : record { core = d; job = k } ≡ l = cc in
     ap steps (sym (turned_state old new s d k i None (becomes d (bare k)) (left_becomes old new s (record { core = d; job = k }) l e none b) had
-    (becomes_raw old.files (core_at old.core s) d (superior_at old.jobs s) i k (unit_channels (core_at old.core s) d i k u))))
+    (becomes_raw old.files (core_at old.core s) d (superior_at old.jobs s) (alarm_at old.alarms.items s) i k (unit_channels (core_at old.core s) d i k u))))
 left_row old new s i (Faulted f) l had none u is b =
     let e : record { core = core_at old.core s; job = with_pending i (bit_of f) } ≡ l = cc in
     ap steps (sym (turned_state old new s (core_at old.core s) (with_pending i (bit_of f)) i None (faulted f)
@@ -139,7 +138,7 @@ left_row old new s i (Faulted f) l had none u is b =
 left_row old new s i (Called x) l had none u is b = absurd cc
 
 pub unit_row : (old new : World) (s : ℕ) → Made old new s (λ j. unit (core_at old.core s) j) → frame_at old.frames.items s ≡ None
-    → IfSome (raw_at old.files old.core old.jobs s) (λ q. unit_on (state_of old) s (unit q.core q.job) ≡ ticked (state_of new) Step)
+    → IfSome (raw_at old.files old.core old.jobs old.alarms.items s) (λ q. unit_on (state_of old) s (unit q.core q.job) ≡ ticked (state_of new) Step)
 unit_row old new s m none =
     raw_fact (λ q. unit_on (state_of old) s (unit q.core q.job) ≡ ticked (state_of new) Step) old s m.job m.had
     (ap (unit_on (state_of old) s) (unit_bare (core_at old.core s) m.job)
@@ -162,14 +161,14 @@ unit_tidy old new s m tidy =
 
 -- the job enters the monitor
 pub call_row : (old new : World) (s : ℕ) (x : Site) → is_some (job_at old.jobs s) ≡ true → IfSome (job_at old.jobs s) (λ j. unit (core_at old.core s) j ≡ Called x)
-    → FrameBecomes old new s (Some (entered x)) → IfSome (raw_at old.files old.core old.jobs s) (λ q. unit_on (state_of old) s (unit q.core q.job) ≡ ticked (state_of new) Work)
+    → FrameBecomes old new s (Some (entered x)) → IfSome (raw_at old.files old.core old.jobs old.alarms.items s) (λ q. unit_on (state_of old) s (unit q.core q.job) ≡ ticked (state_of new) Work)
 call_row old new s x some h b = go (job_at old.jobs s) refl h
   where
     row : state_of new ≡ turn (state_of old) s same (Some (entered x))
     row = kept_turn old new s (Some (entered x)) some b
 
     go : (o : Option Job) → job_at old.jobs s ≡ o → IfSome o (λ j. unit (core_at old.core s) j ≡ Called x)
-        → IfSome (raw_of old.files (core_at old.core s) (superior_at old.jobs s) o) (λ q. unit_on (state_of old) s (unit q.core q.job) ≡ ticked (state_of new) Work)
+        → IfSome (raw_of old.files (core_at old.core s) (superior_at old.jobs s) (alarm_at old.alarms.items s) o) (λ q. unit_on (state_of old) s (unit q.core q.job) ≡ ticked (state_of new) Work)
     go (Some j) is u = ap (unit_on (state_of old) s) (unit_bare (core_at old.core s) j ∙ ap bare_outcome u) ∙ ap works (sym row)
     go None is u = tt
 
@@ -197,15 +196,15 @@ nobody_unwound w o = refl
 pub delivery_done : (old mid new : World) (s : ℕ) (i j : Job) → job_at old.jobs s ≡ Some i → frame_at old.frames.items s ≡ None
     → CoreBecomes old mid s (delivered (core_at old.core s) i).core → j ≡ (delivered (core_at old.core s) i).job
     → IfSome (job_at mid.jobs s) (λ k. JobBecomes mid new s (with_channels k.channels j)) → (delivered (core_at old.core s) i).stops ≡ false
-    → IfSome (raw_at old.files old.core old.jobs s) (λ q. state_of new ≡ delivered_on (state_of old) s q (delivered q.core q.job))
+    → IfSome (raw_at old.files old.core old.jobs old.alarms.items s) (λ q. state_of new ≡ delivered_on (state_of old) s q (delivered q.core q.job))
 delivery_done old mid new s i j had none a e b quiet =
     let d : Delivered = delivered (core_at old.core s) i in
-    let q : Whole = raw_job old.files (core_at old.core s) i (superior_at old.jobs s) in
+    let q : Whole = raw_job old.files (core_at old.core s) i (superior_at old.jobs s) (alarm_at old.alarms.items s) in
     let put : JobBecomes mid new s d.job = subst (JobBecomes mid new s) (ap (with_channels i.channels) e ∙ channels_kept (core_at old.core s) i) (put_at mid new s j i (a.job.here ∙ had) b) in
     raw_fact (λ q. state_of new ≡ delivered_on (state_of old) s q (delivered q.core q.job)) old s i had
     (turned_state old new s d.core d.job i None (becomes d.core (bare d.job))
     (subst (λ (f : Option Frame). Becomes old new s d.core (Some d.job) f (clear_at old.core s)) none (put_then old mid new s d.core d.job a put)) had
-    (becomes_raw old.files (core_at old.core s) d.core (superior_at old.jobs s) i d.job (delivered_channels (core_at old.core s) i))
+    (becomes_raw old.files (core_at old.core s) d.core (superior_at old.jobs s) (alarm_at old.alarms.items s) i d.job (delivered_channels (core_at old.core s) i))
     ∙ ap (λ (v : State). turn v s (becomes d.core (bare d.job)) None) (sym (nobody_unwound (state_of old) (superior_at old.jobs s)))
     ∙ delivered_by (state_of old) s q false (bare_delivered d) quiet
     ∙ ap (delivered_on (state_of old) s q) (sym (delivered_bare (core_at old.core s) i)))
@@ -223,8 +222,8 @@ core_same old mid s c b e =
     let cores : (k : ℕ) → core_at mid.core k ≡ core_at old.core k = all_same (core_at old.core) (core_at mid.core) s (subst (λ (x : Core). Only (core_at old.core) (core_at mid.core) s x) e b.core) in
     let jobs : (k : ℕ) → job_at mid.jobs k ≡ job_at old.jobs k = all_same (job_at old.jobs) (job_at mid.jobs) s b.job in
     state_is _ _
-    (machine_is _ _ (λ k t. raw_of (b.files t) (cores k t) (slice_index_or (b.superiors t) k None) (jobs k t)) (λ c. ap (λ l. console_at l.items c) b.consoles) (λ c. ap (λ l. holder_at l c) b.holders)
-    (ap directory b.files) b.clock)
+    (machine_is _ _ (λ k t. raw_of (b.files t) (cores k t) (slice_index_or (b.superiors t) k None) (alarm_at (b.alarms t).items k) (jobs k t)) (λ c. ap (λ l. console_at l.items c) b.consoles) (λ c. ap (λ l. holder_at l c) b.holders)
+    (ap directory b.files) b.clock b.version (λ k. ap (λ l. symbols_at l.items k) b.symbols))
     (all_same (frame_at old.frames.items) (frame_at mid.frames.items) s b.frame)
     (all_same (clear_at old.core) (clear_at mid.core) s b.reserved)
     (ap mark_of b.files)
@@ -279,9 +278,9 @@ told_apart w j None ne = slot_same w j
 record Still (w : World) (s : ℕ) (q : Whole) : Type 0 where
   job : Job
   had : job_at w.jobs s ≡ Some job
-  raw : raw_job w.files (core_at w.core s) job (superior_at w.jobs s) ≡ q
+  raw : raw_job w.files (core_at w.core s) job (superior_at w.jobs s) (alarm_at w.alarms.items s) ≡ q
 
-still_by : (w : World) (s : ℕ) (q : Whole) (o : Option Job) → job_at w.jobs s ≡ o → raw_of w.files (core_at w.core s) (superior_at w.jobs s) o ≡ Some q → Still w s q
+still_by : (w : World) (s : ℕ) (q : Whole) (o : Option Job) → job_at w.jobs s ≡ o → raw_of w.files (core_at w.core s) (superior_at w.jobs s) (alarm_at w.alarms.items s) o ≡ Some q → Still w s q
 still_by w s q (Some k) had is = record { job = k; had = had; raw = cc }
 still_by w s q None had is = absurd cc
 
@@ -291,7 +290,7 @@ still w s q is = still_by w s q (job_at w.jobs s) refl is
 
 -- a job that was stopped, after its superior was told
 record StillAt (old after : World) (s : ℕ) (i : Job) : Type 0 where
-  still : Still after s (raw_job old.files (core_at old.core s) i (superior_at old.jobs s))
+  still : Still after s (raw_job old.files (core_at old.core s) i (superior_at old.jobs s) (alarm_at old.alarms.items s))
   frame : frame_at after.frames.items s ≡ None
   row : state_of after ≡ told_on (state_of old) s (superior_at old.jobs s)
 
@@ -304,7 +303,7 @@ stop_still old mid after s i had none kept b stops row =
     let e : state_of after ≡ told_on (state_of old) s sup = row ∙ (λ t. told_on (stop_same old mid s i b stops t) s (slice_index_or (b.superiors t) s None)) in
     let alike : SlotSame (state_of old) (state_of after) s = subst (λ (v : State). SlotSame (state_of old) v s) (sym e) (told_apart (state_of old) s sup (superior_apart old s i kept none had)) in
     record {
-      still = still after s (raw_job old.files (core_at old.core s) i sup) (alike.job ∙ raw_is old s i had);
+      still = still after s (raw_job old.files (core_at old.core s) i sup (alarm_at old.alarms.items s)) (alike.job ∙ raw_is old s i had);
       frame = sym (frame_is after s) ∙ alike.frame ∙ frame_is old s ∙ none;
       row = e;
     }
@@ -321,21 +320,21 @@ stop_stands old mid after s i had none kept b stops row = let h = stop_still old
 -- its registers are written then. (Files have no numbers in a state, so what unwinding says of a state does not tell that its
 -- channels have the same ones: they are those that the world has)
 still_becomes : (w : World) (s : ℕ) (q : Whole) (d : Delivered) (h : Still w s q) → d.core ≡ q.core
-    → becomes d.core (bare d.job) (raw_job w.files (core_at w.core s) h.job (superior_at w.jobs s))
-    ≡ raw_job w.files (core_at w.core s) (with_channels h.job.channels d.job) (superior_at w.jobs s)
+    → becomes d.core (bare d.job) (raw_job w.files (core_at w.core s) h.job (superior_at w.jobs s) (alarm_at w.alarms.items s))
+    ≡ raw_job w.files (core_at w.core s) (with_channels h.job.channels d.job) (superior_at w.jobs s) (alarm_at w.alarms.items s)
 still_becomes w s q d h e =
     let core : d.core ≡ core_at w.core s = e ∙ sym (ap (λ (p : Whole). p.core) h.raw) in
-    λ t. record { core = core t; job = bare d.job; superior = superior_at w.jobs s; channels = chans_of w.files h.job }
+    λ t. record { core = core t; job = bare d.job; superior = superior_at w.jobs s; channels = chans_of w.files h.job; alarm = alarm_at w.alarms.items s }
 
 pub stop_done : (old mid after new : World) (s : ℕ) (i j : Job) → job_at old.jobs s ≡ Some i → frame_at old.frames.items s ≡ None → Kept old
     → CoreBecomes old mid s (delivered (core_at old.core s) i).core → (delivered (core_at old.core s) i).stops ≡ true
     → state_of after ≡ told_on (state_of mid) s (superior_at mid.jobs s)
     → j ≡ (delivered (core_at old.core s) i).job → IfSome (job_at after.jobs s) (λ k. JobBecomes after new s (with_channels k.channels j))
-    → IfSome (raw_at old.files old.core old.jobs s) (λ q. state_of new ≡ delivered_on (state_of old) s q (delivered q.core q.job))
+    → IfSome (raw_at old.files old.core old.jobs old.alarms.items s) (λ q. state_of new ≡ delivered_on (state_of old) s q (delivered q.core q.job))
 stop_done old mid after new s i j had none kept b stops row e put =
     let c : Core = core_at old.core s in
     let d : Delivered = delivered c i in
-    let q : Whole = raw_job old.files c i (superior_at old.jobs s) in
+    let q : Whole = raw_job old.files c i (superior_at old.jobs s) (alarm_at old.alarms.items s) in
     let h = stop_still old mid after s i had none kept b stops row in
     let k : Job = with_channels h.still.job.channels d.job in
     let written : JobBecomes after new s k = subst (λ (x : Job). JobBecomes after new s (with_channels h.still.job.channels x)) e (put_at after new s j h.still.job h.still.had put) in

@@ -1,5 +1,5 @@
 -- What the parts of a tick do to a world.
-use Rattle.std.specs.Prelude.{◌≡◌, ◌==◌, ◌<◌, ◌&&◌, ℕ, Bool, true, false, Option, Some, None, IfSome, List, [], ◌∷◌, ◌++◌}
+use Rattle.std.specs.Prelude.{if◌then◌else◌, ◌≡◌, ◌==◌, ◌<◌, ◌&&◌, ℕ, zero, suc, Bool, true, false, Option, Some, None, IfSome, List, [], ◌∷◌, ◌++◌}
 use Rattle.its_word.specs.Core.{Core}
 use Rattle.its_word.specs.Limits.{slots}
 use Rattle.its_word.specs.Tree.{slots_below}
@@ -17,8 +17,9 @@ use Rattle.its_frame.specs.declared.name.CallName.TheVariants.{Logout, Uclose}
 use Rattle.its_plain.specs.Change.{superiors}
 use Rattle.its_plain.specs.Decide.{call_named, listed, with_below}
 use Rattle.its_plain.specs.Job.{bit_of, with_pending}
-use Rattle.its_plain.specs.Machine.{Machine}
-use Rattle.its_plain.specs.Unit.{Outcome, Changed, Faulted, Called}
+use Rattle.its_plain.specs.Machine.{Machine, Whole}
+use Rattle.its_plain.specs.Interrupt.{deliverable}
+use Rattle.its_plain.specs.Unit.{Outcome, Changed, Faulted, Called, unit}
 use Rattle.its_stepped.specs.State.{State}
 use Rattle.its_stepped.specs.Tick.{Ticked}
 use Rattle.its_world.specs.World.{frame_at, Becomes}
@@ -51,6 +52,47 @@ pub record Made (old new : World) (s : ℕ) (o : Job → Outcome) : Type 0 where
   pub had : job_at old.jobs s ≡ Some job
   pub is : left_by (o job) (core_at old.core s) job ≡ Some left
   pub becomes : Becomes old new s left.core (Some left.job) (frame_at old.frames.items s) (clear_at old.core s)
+
+-- the core and the registers after a unit; none where an interrupt is deliverable before it, or it is a call
+abbrev pub unit_unless : Bool → Left → Option Left
+unit_unless true l = None
+unit_unless false l = left_by (unit l.core l.job) l.core l.job
+
+abbrev pub after_unit : Option Left → Option Left
+after_unit (Some l) = unit_unless (deliverable l.job) l
+after_unit None = None
+
+-- the same after n units
+abbrev pub after_units : ℕ → Option Left → Option Left
+after_units zero o = o
+after_units (suc n) o = after_units n (after_unit o)
+
+-- a core and registers
+abbrev pub left : Core → Job → Left
+left c j = record { core = c; job = j }
+
+-- n units of the job of slot s are made, of k at most; where they are fewer, no other can be made
+pub record UnitsMade (old new : World) (s n k : ℕ) : Type 0 where
+  pub job : Job
+  pub left : Left
+  pub had : job_at old.jobs s ≡ Some job
+  pub is : after_units n (Some (record { core = core_at old.core s; job = job })) ≡ Some left
+  pub becomes : Becomes old new s left.core (Some left.job) (frame_at old.frames.items s) (clear_at old.core s)
+  pub most : n < k → after_unit (Some left) ≡ None
+
+-- whether the next tick of a slot makes a unit: its job runs in user mode, no interrupt is deliverable, and the unit is no call
+abbrev pub is_made : Outcome → Bool
+is_made (Changed c k) = true
+is_made (Faulted f) = true
+is_made (Called s) = false
+
+abbrev pub due_of : Option Whole → Option Frame → Bool
+due_of (Some q) None = if q.job.stopped then false else (if deliverable q.job then false else is_made (unit q.core q.job))
+due_of (Some q) (Some f) = false
+due_of None f = false
+
+unfoldable pub unit_due : State → ℕ → Bool
+unit_due w s = due_of (w.raw.jobs s) (w.frames s)
 
 -- it is a call, and nothing is changed
 pub record Called_in (old new : World) (s : ℕ) (o : Job → Outcome) : Type 0 where

@@ -40,8 +40,8 @@ pub fn in_call(w: &mut World, slot: u8) -> Pace
     requires slot { slot < slots }
     requires kept { Kept w.old }
     requires frame { is_some (frame_at w.old.frames.items slot) ≡ true }
-    ensures row { IfSome (raw_at w.old.files w.old.core w.old.jobs slot) (λ q. tick_in (state_of w.old) slot q (frame_at w.old.frames.items slot) ≡ ticked (state_of w.new) result) }
-    ensures pages { IfSome (raw_at w.old.files w.old.core w.old.jobs slot) (λ q. w.new.core.frames ≡ pages_in (state_of w.old) slot q (frame_at w.old.frames.items slot) w.old.core.frames) }
+    ensures row { IfSome (raw_at w.old.files w.old.core w.old.jobs w.old.alarms.items slot) (λ q. tick_in (state_of w.old) slot q (frame_at w.old.frames.items slot) ≡ ticked (state_of w.new) result) }
+    ensures pages { IfSome (raw_at w.old.files w.old.core w.old.jobs w.old.alarms.items slot) (λ q. w.new.core.frames ≡ pages_in (state_of w.old) slot q (frame_at w.old.frames.items slot) w.old.core.frames) }
     ensures tidy { Tidy w.new }
 {
     match &w.frames[usize::from(slot)] {
@@ -77,8 +77,8 @@ fn decode(w: &mut World, slot: u8) -> Pace
     requires slot { slot < slots }
     requires kept { Kept w.old }
     requires frame { is_decoded (frame_at w.old.frames.items slot) ≡ true }
-    ensures row { IfSome (raw_at w.old.files w.old.core w.old.jobs slot) (λ q. tick_in (state_of w.old) slot q (frame_at w.old.frames.items slot) ≡ ticked (state_of w.new) result) }
-    ensures pages { IfSome (raw_at w.old.files w.old.core w.old.jobs slot) (λ q. w.new.core.frames ≡ pages_in (state_of w.old) slot q (frame_at w.old.frames.items slot) w.old.core.frames) }
+    ensures row { IfSome (raw_at w.old.files w.old.core w.old.jobs w.old.alarms.items slot) (λ q. tick_in (state_of w.old) slot q (frame_at w.old.frames.items slot) ≡ ticked (state_of w.new) result) }
+    ensures pages { IfSome (raw_at w.old.files w.old.core w.old.jobs w.old.alarms.items slot) (λ q. w.new.core.frames ≡ pages_in (state_of w.old) slot q (frame_at w.old.frames.items slot) w.old.core.frames) }
     ensures tidy { Tidy w.new }
 {
     match w.take_frame(slot) {
@@ -97,7 +97,7 @@ fn parse(w: &mut World, slot: u8, f: Entered) -> Pace
     requires frame { frame_at w.old.frames.items slot ≡ None }
     requires fits { SiteFits f.site }
     requires tidy { Tidy w.old }
-    ensures row { IfSome (raw_at w.old.files w.old.core w.old.jobs slot) (λ q. parsed_on (state_of w.old) slot f.site (parsed_by q.core f.site) ≡ ticked (state_of w.new) result) }
+    ensures row { IfSome (raw_at w.old.files w.old.core w.old.jobs w.old.alarms.items slot) (λ q. parsed_on (state_of w.old) slot f.site (parsed_by q.core f.site) ≡ ticked (state_of w.new) result) }
     ensures pages { w.new.core.frames ≡ w.old.core.frames }
     ensures tidy { Tidy w.new }
 {
@@ -128,7 +128,7 @@ fn fetch(w: &mut World, slot: u8, f: Parsed) -> Pace
     requires fits { SiteFits f.site }
     requires words { f.site.channel ≡ None → 2 ≤ length f.block.items }
     requires tidy { Tidy w.old }
-    ensures row { IfSome (raw_at w.old.files w.old.core w.old.jobs slot) (λ q. fetched_on (state_of w.old) slot f.site (fetched_by q.core f.site f.block.items) ≡ ticked (state_of w.new) result) }
+    ensures row { IfSome (raw_at w.old.files w.old.core w.old.jobs w.old.alarms.items slot) (λ q. fetched_on (state_of w.old) slot f.site (fetched_by q.core f.site f.block.items) ≡ ticked (state_of w.new) result) }
     ensures pages { w.new.core.frames ≡ w.old.core.frames }
     ensures tidy { Tidy w.new }
 {
@@ -197,8 +197,8 @@ fn clear_next(w: &mut World, slot: u8, clear: u8) -> Pace
     requires kept { Kept w.old }
     requires quarter { clear < 4 }
     requires holds { page_held (frame_at w.old.frames.items slot) ≡ Some clear }
-    ensures row { IfSome (raw_at w.old.files w.old.core w.old.jobs slot) (λ q. tick_in (state_of w.old) slot q (frame_at w.old.frames.items slot) ≡ ticked (state_of w.new) result) }
-    ensures pages { IfSome (raw_at w.old.files w.old.core w.old.jobs slot) (λ q. w.new.core.frames ≡ pages_in (state_of w.old) slot q (frame_at w.old.frames.items slot) w.old.core.frames) }
+    ensures row { IfSome (raw_at w.old.files w.old.core w.old.jobs w.old.alarms.items slot) (λ q. tick_in (state_of w.old) slot q (frame_at w.old.frames.items slot) ≡ ticked (state_of w.new) result) }
+    ensures pages { IfSome (raw_at w.old.files w.old.core w.old.jobs w.old.alarms.items slot) (λ q. w.new.core.frames ≡ pages_in (state_of w.old) slot q (frame_at w.old.frames.items slot) w.old.core.frames) }
     ensures tidy { Tidy w.new }
 {
     match w.take_frame(slot) {
@@ -251,8 +251,8 @@ fn attempt(w: &mut World, slot: u8) -> Pace
     requires kept { Kept w.old }
     requires stands { is_some (standing_of (frame_at w.old.frames.items slot)) ≡ true }
     requires clear { IfSome (standing_of (frame_at w.old.frames.items slot)) (λ f. IsTried f.page) }
-    ensures row { IfSome (raw_at w.old.files w.old.core w.old.jobs slot) (λ q. tick_in (state_of w.old) slot q (frame_at w.old.frames.items slot) ≡ ticked (state_of w.new) result) }
-    ensures pages { IfSome (raw_at w.old.files w.old.core w.old.jobs slot) (λ q. w.new.core.frames ≡ pages_in (state_of w.old) slot q (frame_at w.old.frames.items slot) w.old.core.frames) }
+    ensures row { IfSome (raw_at w.old.files w.old.core w.old.jobs w.old.alarms.items slot) (λ q. tick_in (state_of w.old) slot q (frame_at w.old.frames.items slot) ≡ ticked (state_of w.new) result) }
+    ensures pages { IfSome (raw_at w.old.files w.old.core w.old.jobs w.old.alarms.items slot) (λ q. w.new.core.frames ≡ pages_in (state_of w.old) slot q (frame_at w.old.frames.items slot) w.old.core.frames) }
     ensures tidy { Tidy w.new }
 {
     make_ready(w, slot);
@@ -270,8 +270,8 @@ fn make_ready(w: &mut World, slot: u8)
     requires kept { Kept w.old }
     requires stands { is_some (standing_of (frame_at w.old.frames.items slot)) ≡ true }
     requires clear { IfSome (standing_of (frame_at w.old.frames.items slot)) (λ f. IsTried f.page) }
-    ensures row { IfSome (standing_of (frame_at w.old.frames.items slot)) (λ f. IfSome (raw_at w.old.files w.old.core w.old.jobs slot) (λ q. state_of w.new ≡ helped_if (helps q f.ask) (all_unwound (reach (state_of w.old).raw slot q f.ask) (state_of w.old)))) }
-    ensures pages { IfSome (standing_of (frame_at w.old.frames.items slot)) (λ f. IfSome (raw_at w.old.files w.old.core w.old.jobs slot) (λ q. w.new.core.frames ≡ pages_unwound (reach (state_of w.old).raw slot q f.ask) (state_of w.old) w.old.core.frames)) }
+    ensures row { IfSome (standing_of (frame_at w.old.frames.items slot)) (λ f. IfSome (raw_at w.old.files w.old.core w.old.jobs w.old.alarms.items slot) (λ q. state_of w.new ≡ helped_if (helps q f.ask) (all_unwound (reach (state_of w.old).raw slot q f.ask) (state_of w.old)))) }
+    ensures pages { IfSome (standing_of (frame_at w.old.frames.items slot)) (λ f. IfSome (raw_at w.old.files w.old.core w.old.jobs w.old.alarms.items slot) (λ q. w.new.core.frames ≡ pages_unwound (reach (state_of w.old).raw slot q f.ask) (state_of w.old) w.old.core.frames)) }
     ensures tidy { Tidy w.new }
 {
     unwind_reach(w, slot);
@@ -284,7 +284,7 @@ fn help_first(w: &mut World, slot: u8)
     requires slot { slot < slots }
     requires stands { is_some (standing_of (frame_at w.old.frames.items slot)) ≡ true }
     requires tidy { Tidy w.old }
-    ensures row { IfSome (standing_of (frame_at w.old.frames.items slot)) (λ f. IfSome (raw_at w.old.files w.old.core w.old.jobs slot) (λ q. state_of w.new ≡ helped_if (helps q f.ask) (state_of w.old))) }
+    ensures row { IfSome (standing_of (frame_at w.old.frames.items slot)) (λ f. IfSome (raw_at w.old.files w.old.core w.old.jobs w.old.alarms.items slot) (λ q. state_of w.new ≡ helped_if (helps q f.ask) (state_of w.old))) }
     ensures core { w.new.core ≡ w.old.core }
     ensures tidy { Tidy w.new }
 {
@@ -309,7 +309,7 @@ fn help(w: &mut World)
 fn helps_in(w: &World, slot: u8) -> bool
     requires slot { slot < slots }
     requires stands { is_some (standing_of (frame_at w.now.frames.items slot)) ≡ true }
-    ensures { IfSome (standing_of (frame_at w.now.frames.items slot)) (λ f. IfSome (raw_at w.now.files w.now.core w.now.jobs slot) (λ q. result ≡ helps q f.ask)) }
+    ensures { IfSome (standing_of (frame_at w.now.frames.items slot)) (λ f. IfSome (raw_at w.now.files w.now.core w.now.jobs w.now.alarms.items slot) (λ q. result ≡ helps q f.ask)) }
 {
     match &w.frames[usize::from(slot)] {
         Some(Frame::Holding(f)) => helps(w, slot, &f.ask),
@@ -325,8 +325,8 @@ fn decide_in(w: &World, slot: u8) -> Decision
     requires stands { is_some (standing_of (frame_at w.now.frames.items slot)) ≡ true }
     requires tidy { Tidy w.now }
     requires forest { Forest (state_of w.now).raw }
-    requires unmarked { IfSome (standing_of (frame_at w.now.frames.items slot)) (λ f. IfSome (raw_at w.now.files w.now.core w.now.jobs slot) (λ q. helps q f.ask ≡ true → w.now.files.mark ≡ None)) }
-    ensures { IfSome (standing_of (frame_at w.now.frames.items slot)) (λ f. IfSome (raw_at w.now.files w.now.core w.now.jobs slot) (λ q. result ≡ decision (state_of w.now).raw slot q f.ask)) }
+    requires unmarked { IfSome (standing_of (frame_at w.now.frames.items slot)) (λ f. IfSome (raw_at w.now.files w.now.core w.now.jobs w.now.alarms.items slot) (λ q. helps q f.ask ≡ true → w.now.files.mark ≡ None)) }
+    ensures { IfSome (standing_of (frame_at w.now.frames.items slot)) (λ f. IfSome (raw_at w.now.files w.now.core w.now.jobs w.now.alarms.items slot) (λ q. result ≡ decision (state_of w.now).raw slot q f.ask)) }
 {
     match &w.frames[usize::from(slot)] {
         Some(Frame::Holding(f)) => decide(w, slot, &f.ask),

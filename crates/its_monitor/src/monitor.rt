@@ -1,4 +1,4 @@
-ghost use Rattle.std.specs.Prelude.{◌≡◌, ◌<◌, ◌≤◌, ◌↔◌, ◌/◌, ◌^◌, ◌∷◌, [], true, false, None, Some, is_some, length, option_map, slice_get, Ok, IsTrue, IfSome, IfOk, OnOk, OnErr, IfErr};
+ghost use Rattle.std.specs.Prelude.{◌≡◌, ◌<◌, ◌≤◌, ◌↔◌, ◌/◌, ◌+◌, ◌^◌, ◌∷◌, [], true, false, None, Some, is_some, length, option_map, replicate, slice_get, Ok, IsTrue, IfSome, IfOk, OnOk, OnErr, IfErr};
 ghost use Rattle.its_word.specs.Console.{most_waiting};
 ghost use Rattle.its_word.specs.Core.{word_at};
 ghost use Rattle.its_core.specs.Cores.{clear_at};
@@ -9,20 +9,25 @@ ghost use Rattle.its_plain.specs.OperatorFiles.{files_in, show_of, file_made, wo
 ghost use Rattle.its_plain.specs.Machine.{no_machine, core_of};
 ghost use Rattle.its_plain.specs.OneByte.{EachByte};
 ghost use Rattle.its_plain.specs.Own.{names_of};
-ghost use Rattle.its_plain.specs.OperatorJobs.{loaded, word_loaded, on_registers, started, stopped, continued, interrupted, word_seen, state_shown, deposited};
-ghost use Rattle.its_plain.specs.OperatorClock.{clocked};
+ghost use Rattle.its_plain.specs.OperatorJobs.{loaded, word_loaded, words_barred, page_protected, on_registers, started, stopped, continued, interrupted, word_seen, state_shown, deposited};
+ghost use Rattle.its_plain.specs.OperatorClock.{clocked, due_slots};
+ghost use Rattle.its_plain.specs.OperatorSymbols.{symbol_kept};
+ghost use Rattle.its_plain.specs.OperatorVersion.{versioned};
 ghost use Rattle.its_plain.specs.OperatorConsoles.{typed, drained};
 ghost use Rattle.its_stepped.specs.State.{plain, no_state};
 ghost use Rattle.its_stepped.specs.Unwind.{help, unwound};
 ghost use Rattle.its_plain.specs.Licence.{Licensed};
 ghost use Rattle.its_stepped.specs.Tick.{tick};
-ghost use Rattle.its_stepped.specs.Lines.{peeked};
+ghost use Rattle.its_stepped.specs.Lines.{paces_of, peeked, ticked};
 ghost use Rattle.its_world.specs.World.{state_of, frames_after};
 ghost use Rattle.its_pclsr.specs.Apart.{CoresOff};
+ghost use Rattle.its_pclsr.specs.Pages.{pages_unwound};
 ghost use Rattle.its_operator.specs.Filing.{length_if, word_if};
 ghost use Rattle.its_operator.specs.Kept.{FileRefused, Kept, Lands, Loads, Refused, CloseMade, frames_loaded};
+ghost use Rattle.its_operator.specs.Rung.{roused};
 ghost use Rattle.its_monitor.specs.Beside.{AllBeside};
 ghost use Rattle.its_monitor.specs.Pages.{pages_ticked};
+ghost use Rattle.its_monitor.specs.Ticks.{unit_due};
 ghost use Rattle.its_monitor.specs.Loading.{no_console, LoadRefused};
 
 use super::ticks;
@@ -63,9 +68,24 @@ impl Monitor {
         ticks::tick(&mut self.world, slot)
     }
 
+    /// As many units of a slot's job as can be made in user mode while nothing else is due, n at most; how many. The state is
+    /// that of so many ticks, each letter `*`.
+    pub fn steps(&mut self, slot: u8, n: u32) -> u32
+        requires slot { slot < slots }
+        requires kept { Kept self.old.world }
+        ensures few { result ≤ n }
+        ensures state { state_of self.new.world ≡ ticked (state_of self.old.world) slot result }
+        ensures paces { paces_of (state_of self.old.world) slot result ≡ replicate result Pace.Step }
+        ensures most { result < n → unit_due (state_of self.new.world) slot ≡ false }
+        ensures pages { self.new.world.core.frames ≡ self.old.world.core.frames }
+        ensures kept { Kept self.new.world }
+    {
+        ticks::steps(&mut self.world, slot, n)
+    }
+
     /// LOAD: makes a stopped job with these names and this console in the least free slot, which it
     /// answers. It becomes the holder of its console, where that has none. NoConsole where the console is
-    /// above 7; else Full where all 64 slots have a job.
+    /// above 7; else Full where as many jobs stand as there can be, 64, or 96 in version 2.
     pub fn load_job(&mut self, u: Word, j: Word, console: Option<u8>) -> Result<u8, Refusal>
         requires kept { Kept self.old.world }
         ensures done { IfOk result (λ s. Loads (state_of self.old.world) (state_of self.new.world) (loaded (state_of self.old.world).raw u j console) s) }
@@ -97,6 +117,58 @@ impl Monitor {
         ensures kept { Kept self.new.world }
     {
         operator::load_word(&mut self.world, slot, a, w)
+    }
+
+    /// Whether any of n words of a slot from an address on is on a read-only page: then an `a/` line of n words
+    /// there is ReadOnly, before any of them is loaded. False where the slot is empty.
+    pub fn barred(&self, slot: u8, a: u32, n: u32) -> bool
+        requires slot { slot < slots }
+        requires end { a + n ≤ 2 ^ 18 }
+        requires kept { Kept self.now.world }
+        ensures calmed { result ≡ words_barred (unwound (state_of self.now.world) slot).raw slot a n }
+        ensures plain { result ≡ words_barred (plain (state_of self.now.world)) slot a n }
+    {
+        operator::barred(&self.world, slot, a, n)
+    }
+
+    /// RO: a page of a slot becomes read only. NoPage where it is absent.
+    pub fn read_only(&mut self, slot: u8, page: u8) -> Result<(), Refusal>
+        requires slot { slot < slots }
+        requires kept { Kept self.old.world }
+        ensures done { OnOk result (Lands (unwound (state_of self.old.world) slot) (state_of self.new.world) (page_protected (unwound (state_of self.old.world) slot).raw slot page)) }
+        ensures plain { OnOk result (page_protected (plain (state_of self.old.world)) slot page ≡ Ok (plain (state_of self.new.world))) }
+        ensures refused { IfErr result (λ e. Refused (state_of self.old.world) (unwound (state_of self.old.world) slot) (λ m. page_protected m slot page) e) }
+        ensures same { OnErr result (self.new ≡ self.old) }
+        ensures cores { OnOk result (CoresOff self.old.world self.new.world slot) }
+        ensures kept { Kept self.new.world }
+    {
+        operator::read_only(&mut self.world, slot, page)
+    }
+
+    /// SYM: a slot's job keeps a symbol, the last. Full where it has 512. The job is not disturbed.
+    pub fn symbol(&mut self, slot: u8, name: Word, a: u32) -> Result<(), Refusal>
+        requires slot { slot < slots }
+        requires kept { Kept self.old.world }
+        ensures done { OnOk result (Lands (state_of self.old.world) (state_of self.new.world) (symbol_kept (state_of self.old.world).raw slot name a)) }
+        ensures plain { OnOk result (symbol_kept (plain (state_of self.old.world)) slot name a ≡ Ok (plain (state_of self.new.world))) }
+        ensures refused { IfErr result (λ e. Refused (state_of self.old.world) (state_of self.old.world) (λ m. symbol_kept m slot name a) e) }
+        ensures same { OnErr result (self.new ≡ self.old) }
+        ensures core { self.new.world.core ≡ self.old.world.core }
+        ensures kept { Kept self.new.world }
+    {
+        operator::symbol(&mut self.world, slot, name, a)
+    }
+
+    /// VERSION: in version 2 there can be 96 jobs. It is called before a job is made.
+    pub fn version(&mut self, v: u8)
+        requires known { (1 ≤ v) × (v ≤ 2) }
+        requires kept { Kept self.old.world }
+        ensures done { Lands (state_of self.old.world) (state_of self.new.world) (Ok (versioned (state_of self.old.world).raw v)) }
+        ensures plain { versioned (plain (state_of self.old.world)) v ≡ plain (state_of self.new.world) }
+        ensures core { self.new.world.core ≡ self.old.world.core }
+        ensures kept { Kept self.new.world }
+    {
+        operator::version(&mut self.world, v);
     }
 
     /// GO: starts a slot's job at an address, with no flags.
@@ -342,14 +414,15 @@ impl Monitor {
         operator::file_add(&mut self.world, id, w)
     }
 
-    /// CLOCK: the clock gains n thirtieths. Range where it would reach its end.
+    /// CLOCK: the clock gains n thirtieths. The jobs whose alarm is due at the new clock are unwound, by slot number, and their
+    /// alarms go. Range where the clock would reach its end; then nothing changes.
     pub fn advance(&mut self, n: u64) -> Result<(), Refusal>
         requires kept { Kept self.old.world }
-        ensures done { OnOk result (Lands (state_of self.old.world) (state_of self.new.world) (clocked (state_of self.old.world).raw n)) }
+        ensures done { OnOk result (Lands (roused (state_of self.old.world) n) (state_of self.new.world) (clocked (roused (state_of self.old.world) n).raw n)) }
         ensures plain { OnOk result (clocked (plain (state_of self.old.world)) n ≡ Ok (plain (state_of self.new.world))) }
-        ensures refused { IfErr result (λ e. Refused (state_of self.old.world) (state_of self.old.world) (λ m. clocked m n) e) }
+        ensures refused { IfErr result (λ e. Refused (state_of self.old.world) (roused (state_of self.old.world) n) (λ m. clocked m n) e) }
         ensures same { OnErr result (self.new ≡ self.old) }
-        ensures core { self.new.world.core ≡ self.old.world.core }
+        ensures pages { OnOk result (self.new.world.core.frames ≡ pages_unwound (due_slots (self.old.world.clock + n) (state_of self.old.world).raw.jobs) (state_of self.old.world) self.old.world.core.frames) }
         ensures kept { Kept self.new.world }
     {
         operator::advance(&mut self.world, n)

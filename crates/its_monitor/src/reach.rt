@@ -37,8 +37,8 @@ pub fn unwind_reach(w: &mut World, slot: u8)
     requires tidy { Tidy w.old }
     requires job { is_some (job_at w.old.jobs slot) ≡ true }
     requires stands { is_some (standing_of (frame_at w.old.frames.items slot)) ≡ true }
-    ensures row { IfSome (standing_of (frame_at w.old.frames.items slot)) (λ f. IfSome (raw_at w.old.files w.old.core w.old.jobs slot) (λ q. state_of w.new ≡ all_unwound (reach (state_of w.old).raw slot q f.ask) (state_of w.old))) }
-    ensures pages { IfSome (standing_of (frame_at w.old.frames.items slot)) (λ f. IfSome (raw_at w.old.files w.old.core w.old.jobs slot) (λ q. w.new.core.frames ≡ pages_unwound (reach (state_of w.old).raw slot q f.ask) (state_of w.old) w.old.core.frames)) }
+    ensures row { IfSome (standing_of (frame_at w.old.frames.items slot)) (λ f. IfSome (raw_at w.old.files w.old.core w.old.jobs w.old.alarms.items slot) (λ q. state_of w.new ≡ all_unwound (reach (state_of w.old).raw slot q f.ask) (state_of w.old))) }
+    ensures pages { IfSome (standing_of (frame_at w.old.frames.items slot)) (λ f. IfSome (raw_at w.old.files w.old.core w.old.jobs w.old.alarms.items slot) (λ q. w.new.core.frames ≡ pages_unwound (reach (state_of w.old).raw slot q f.ask) (state_of w.old) w.old.core.frames)) }
     ensures tidy { Tidy w.new }
 {
     let reach = reach_in(w, slot);
@@ -116,7 +116,7 @@ fn reach_in(w: &World, slot: u8) -> Reach
     requires job { is_some (job_at w.now.jobs slot) ≡ true }
     requires stands { is_some (standing_of (frame_at w.now.frames.items slot)) ≡ true }
     requires forest { Forest (state_of w.now).raw }
-    ensures slots { IfSome (standing_of (frame_at w.now.frames.items slot)) (λ f. IfSome (raw_at w.now.files w.now.core w.now.jobs slot) (λ q. slots_in result (state_of w.now).raw slot (superior_at w.now.jobs slot) ≡ reach (state_of w.now).raw slot q f.ask)) }
+    ensures slots { IfSome (standing_of (frame_at w.now.frames.items slot)) (λ f. IfSome (raw_at w.now.files w.now.core w.now.jobs w.now.alarms.items slot) (λ q. slots_in result (state_of w.now).raw slot (superior_at w.now.jobs slot) ≡ reach (state_of w.now).raw slot q f.ask)) }
     ensures root { RootFits result }
 {
     match &w.frames[usize::from(slot)] {
@@ -132,7 +132,7 @@ fn reach_of(w: &World, slot: u8, ask: &Ask) -> Reach
     requires slot { slot < slots }
     requires job { is_some (job_at w.now.jobs slot) ≡ true }
     requires forest { Forest (state_of w.now).raw }
-    ensures slots { IfSome (raw_at w.now.files w.now.core w.now.jobs slot) (λ q. slots_in result (state_of w.now).raw slot (superior_at w.now.jobs slot) ≡ reach (state_of w.now).raw slot q ask.now) }
+    ensures slots { IfSome (raw_at w.now.files w.now.core w.now.jobs w.now.alarms.items slot) (λ q. slots_in result (state_of w.now).raw slot (superior_at w.now.jobs slot) ≡ reach (state_of w.now).raw slot q ask.now) }
     ensures root { RootFits result }
 {
     if is_logout(ask) {

@@ -1,17 +1,18 @@
-ghost use Rattle.std.specs.Prelude.{◌≡◌, ◌<◌, ℕ};
+ghost use Rattle.std.specs.Prelude.{◌≡◌, ◌<◌, ◌≤◌, ℕ, false, replicate};
 ghost use Rattle.its_word.specs.Limits.{slots};
 ghost use Rattle.its_world.specs.Tidy.{Tidy};
 ghost use Rattle.its_plain.specs.Licence.{Licensed};
 ghost use Rattle.its_stepped.specs.State.{plain};
 ghost use Rattle.its_stepped.specs.Tick.{tick as tick_of};
+ghost use Rattle.its_stepped.specs.Lines.{paces_of, ticked as so_many};
 ghost use Rattle.its_world.specs.World.{state_of};
 ghost use Rattle.its_operator.specs.Kept.{Kept};
 ghost use Rattle.its_monitor.specs.Beside.{AllBeside};
 ghost use Rattle.its_monitor.specs.Pages.{pages_ticked};
-ghost use Rattle.its_monitor.specs.Ticks.{ticked};
+ghost use Rattle.its_monitor.specs.Ticks.{ticked, unit_due};
 
 use super::calls::in_call;
-use super::users::{deliver_to, make_unit};
+use super::users::{deliver_to, make_unit, units_in_place};
 use its_ints::deliverable;
 use its_word::Pace;
 use its_world::World;
@@ -58,4 +59,30 @@ fn turn(w: &mut World, slot: u8) -> Pace
         return Pace::Step;
     }
     make_unit(w, slot)
+}
+
+/// As many units of a slot's job as can be made in user mode while nothing else is due, n at most; how many. The state is that
+/// of so many ticks, each letter `*`. None is made where the slot is empty, its job is stopped or inside a call, or an
+/// interrupt is deliverable.
+#[tactic(auto, using(crate::proofs::UserLaws::user_addressed, crate::proofs::StepsLaws::due_absent, crate::proofs::StepsLaws::due_stopped, crate::proofs::StepsLaws::due_framed))]
+pub fn steps(w: &mut World, slot: u8, n: u32) -> u32
+    requires slot { slot < slots }
+    requires kept { Kept w.old }
+    ensures few { result ≤ n }
+    ensures state { state_of w.new ≡ so_many (state_of w.old) slot result }
+    ensures paces { paces_of (state_of w.old) slot result ≡ replicate result Pace.Step }
+    ensures most { result < n → unit_due (state_of w.new) slot ≡ false }
+    ensures pages { w.new.core.frames ≡ w.old.core.frames }
+    ensures kept { Kept w.new }
+{
+    let Some(job) = w.jobs.job(slot) else {
+        return 0;
+    };
+    if job.stopped {
+        return 0;
+    }
+    if w.has_frame(slot) {
+        return 0;
+    }
+    units_in_place(w, slot, n)
 }

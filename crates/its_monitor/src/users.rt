@@ -1,5 +1,5 @@
 //! Ticks of a job in user mode.
-ghost use Rattle.std.specs.Prelude.{◌≡◌, ◌≢◌, ◌<◌, ◌^◌, ℕ, true, false, Some, None, IfSome, is_some, if◌then◌else◌};
+ghost use Rattle.std.specs.Prelude.{◌≡◌, ◌≢◌, ◌<◌, ◌≤◌, ◌^◌, ℕ, true, false, Some, None, IfSome, is_some, if◌then◌else◌};
 ghost use Rattle.its_word.specs.Limits.{slots};
 ghost use Rattle.its_core.specs.Cores.{core_at};
 ghost use Rattle.its_jobs.specs.Table.{job_at, superior_at};
@@ -15,12 +15,12 @@ ghost use Rattle.its_world.specs.World.{state_of, frame_at, raw_at, CoreBecomes,
 ghost use Rattle.its_operator.specs.Kept.{Kept};
 ghost use Rattle.its_pclsr.specs.Pages.{pages_unwound};
 ghost use Rattle.pdp_exec.specs.Answer.{IsCalled};
-ghost use Rattle.its_monitor.specs.Ticks.{ticked, left_by, with_channels, UnitIn};
+ghost use Rattle.its_monitor.specs.Ticks.{ticked, left, left_by, after_unit, after_units, with_channels, UnitIn, UnitsMade};
 
 use super::reach::calm;
 use its_core::Core;
 use its_frame::{Change, Entered, Frame, Site};
-use its_ints::deliver;
+use its_ints::{deliver, deliverable};
 use its_pclsr::apply;
 use its_word::{Job, Pace, Word};
 use its_world::World;
@@ -34,8 +34,8 @@ pub fn deliver_to(w: &mut World, slot: u8, job: Job)
     requires job { job_at w.old.jobs slot ≡ Some job }
     requires frame { frame_at w.old.frames.items slot ≡ None }
     requires deliverable { deliverable job ≡ true }
-    ensures row { IfSome (raw_at w.old.files w.old.core w.old.jobs slot) (λ q. state_of w.new ≡ delivered_on (state_of w.old) slot q (delivered q.core q.job)) }
-    ensures pages { IfSome (raw_at w.old.files w.old.core w.old.jobs slot) (λ q. w.new.core.frames ≡ pages_unwound (informed_slots (delivered q.core q.job).stops q.superior) (state_of w.old) w.old.core.frames) }
+    ensures row { IfSome (raw_at w.old.files w.old.core w.old.jobs w.old.alarms.items slot) (λ q. state_of w.new ≡ delivered_on (state_of w.old) slot q (delivered q.core q.job)) }
+    ensures pages { IfSome (raw_at w.old.files w.old.core w.old.jobs w.old.alarms.items slot) (λ q. w.new.core.frames ≡ pages_unwound (informed_slots (delivered q.core q.job).stops q.superior) (state_of w.old) w.old.core.frames) }
     ensures tidy { Tidy w.new }
 {
     let mut after = job;
@@ -118,7 +118,8 @@ pub fn make_unit(w: &mut World, slot: u8) -> Pace
     requires kept { Kept w.old }
     requires job { is_some (job_at w.old.jobs slot) ≡ true }
     requires frame { frame_at w.old.frames.items slot ≡ None }
-    ensures row { IfSome (raw_at w.old.files w.old.core w.old.jobs slot) (λ q. unit_on (state_of w.old) slot (unit_of q.core q.job) ≡ ticked (state_of w.new) result) }
+    requires quiet { IfSome (job_at w.old.jobs slot) (λ j. deliverable j ≡ false) }
+    ensures row { IfSome (raw_at w.old.files w.old.core w.old.jobs w.old.alarms.items slot) (λ q. unit_on (state_of w.old) slot (unit_of q.core q.job) ≡ ticked (state_of w.new) result) }
     ensures pages { w.new.core.frames ≡ w.old.core.frames }
     ensures tidy { Tidy w.new }
 {
@@ -135,12 +136,10 @@ fn unit_in_place(w: &mut World, slot: u8) -> bool
     requires slot { slot < slots }
     requires job { is_some (job_at w.old.jobs slot) ≡ true }
     requires pc { IfSome (job_at w.old.jobs slot) (λ j. j.pc < 2 ^ 18) }
+    requires quiet { IfSome (job_at w.old.jobs slot) (λ j. deliverable j ≡ false) }
     ensures { UnitIn w.old w.new slot (λ j. unit_of (core_at w.old.core slot) j) result }
 {
-    match w.jobs.job_mut(slot) {
-        Some(job) => run_unit(&mut w.core, slot, job),
-        None => unreachable!(),
-    }
+    units_in_place(w, slot, 1) == 1
 }
 
 /// Runs the unit of a job on its core and its registers. A fault sets its bit; a call is not made (false).
@@ -152,6 +151,7 @@ fn run_unit(core: &mut Core, slot: u8, job: &mut Job) -> bool
     ensures reserved { core.new.reserved ≡ core.old.reserved }
     ensures frames { core.new.frames ≡ core.old.frames }
     ensures same { result ≡ false → (core.new ≡ core.old) × (job.new ≡ job.old) }
+    ensures pc { job.new.pc < 2 ^ 18 }
 {
     match run(core, slot, job) {
         Ended::Done => true,
@@ -163,6 +163,62 @@ fn run_unit(core: &mut Core, slot: u8, job: &mut Job) -> bool
     }
 }
 
+/// Makes up to n units of a slot's job on its core and its registers in place, as long as no interrupt is deliverable and
+/// none is a call; how many were made.
+pub fn units_in_place(w: &mut World, slot: u8, n: u32) -> u32
+    requires slot { slot < slots }
+    requires job { is_some (job_at w.old.jobs slot) ≡ true }
+    requires pc { IfSome (job_at w.old.jobs slot) (λ j. j.pc < 2 ^ 18) }
+    ensures few { result ≤ n }
+    ensures made { UnitsMade w.old w.new slot result n }
+    ensures same { result ≡ 0 → w.new ≡ w.old }
+{
+    match w.jobs.job_mut(slot) {
+        Some(job) => run_units(&mut w.core, slot, job, n),
+        None => unreachable!(),
+    }
+}
+
+/// Makes up to n units of a job on its core and its registers; how many were made.
+#[tactic(auto, using(crate::proofs::StepsLaws::units_start, crate::proofs::StepsLaws::none_left))]
+fn run_units(core: &mut Core, slot: u8, job: &mut Job, n: u32) -> u32
+    requires slot { slot < slots }
+    requires pc { job.old.pc < 2 ^ 18 }
+    ensures few { result ≤ n }
+    ensures same { result ≡ 0 → (core.new ≡ core.old) × (job.new ≡ job.old) }
+    ensures left { after_units result (Some (left (core_at core.old slot) job.old)) ≡ Some (left (core_at core.new slot) job.new) }
+    ensures most { result < n → after_unit (Some (left (core_at core.new slot) job.new)) ≡ None }
+    ensures others { (k : ℕ) → k ≢ slot → core_at core.new k ≡ core_at core.old k }
+    ensures reserved { core.new.reserved ≡ core.old.reserved }
+    ensures frames { core.new.frames ≡ core.old.frames }
+{
+    for made in 0..n {
+        if !run_next(core, slot, job) {
+            return made;
+        }
+    }
+    n
+}
+
+/// Runs the unit of a job, unless an interrupt is deliverable or it is a call (false).
+#[inline(always)]
+#[tactic(auto, using(crate::proofs::StepsLaws::none_due, crate::proofs::StepsLaws::unit_made))]
+fn run_next(core: &mut Core, slot: u8, job: &mut Job) -> bool
+    requires slot { slot < slots }
+    requires pc { job.old.pc < 2 ^ 18 }
+    ensures left { after_unit (Some (left (core_at core.old slot) job.old)) ≡ (if result then Some (left (core_at core.new slot) job.new) else None) }
+    ensures others { (k : ℕ) → k ≢ slot → core_at core.new k ≡ core_at core.old k }
+    ensures reserved { core.new.reserved ≡ core.old.reserved }
+    ensures frames { core.new.frames ≡ core.old.frames }
+    ensures same { result ≡ false → (core.new ≡ core.old) × (job.new ≡ job.old) }
+    ensures pc { job.new.pc < 2 ^ 18 }
+{
+    if deliverable(job) {
+        return false;
+    }
+    run_unit(core, slot, job)
+}
+
 /// The job of a slot enters the monitor.
 #[inline(never)]
 #[tactic(auto, using(its_pclsr::proofs::ApartLaws::becomes_pages))]
@@ -172,7 +228,7 @@ fn enter(w: &mut World, slot: u8)
     requires pc { IfSome (job_at w.old.jobs slot) (λ j. j.pc < 2 ^ 18) }
     requires called { IfSome (job_at w.old.jobs slot) (λ j. IsCalled (unit_of (core_at w.old.core slot) j)) }
     requires tidy { Tidy w.old }
-    ensures row { IfSome (raw_at w.old.files w.old.core w.old.jobs slot) (λ q. unit_on (state_of w.old) slot (unit_of q.core q.job) ≡ ticked (state_of w.new) Pace.Work) }
+    ensures row { IfSome (raw_at w.old.files w.old.core w.old.jobs w.old.alarms.items slot) (λ q. unit_on (state_of w.old) slot (unit_of q.core q.job) ≡ ticked (state_of w.new) Pace.Work) }
     ensures pages { w.new.core.frames ≡ w.old.core.frames }
     ensures tidy { Tidy w.new }
 {

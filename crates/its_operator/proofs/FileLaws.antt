@@ -31,7 +31,7 @@ use Rattle.its_stepped.specs.Lines.{calmed, with_raw}
 use Rattle.its_stepped.proofs.EffectLaws.{unmarked_files}
 use Rattle.its_stepped.proofs.HelpLaws.{help_plain, help_sound, help_unmarked}
 use Rattle.its_stepped.proofs.RefusalLaws.{error_of, made_alike, added_alike}
-use Rattle.its_world.specs.World.{chan_of, raw_of, mark_of, state_of}
+use Rattle.its_world.specs.World.{alarm_at, chan_of, raw_of, mark_of, state_of}
 use Rattle.its_world.specs.Tidy.{channel_by, Tidy}
 use Rattle.its_world.specs.declared.world.World.{World}
 use Rattle.its_world.proofs.RoomLaws.{full_on}
@@ -41,7 +41,7 @@ use Rattle.its_world.proofs.StoreLaws.{found_named, has_named, found_self}
 use Rattle.its_pclsr.proofs.PartLaws.{store_state, store_tidy}
 use Rattle.its_world.proofs.StorageLaws.{files_are, chans_are, marks_are}
 use Rattle.its_operator.specs.Kept.{Kept, Lands, Helped, FileRefused, reason_of}
-use Rattle.its_operator.proofs.KeptLaws.{alike_kept, error_is, Made, made_sound, made_plain, made_forest, made_timed}
+use Rattle.its_operator.proofs.KeptLaws.{alike_kept, error_is, Made, made_sound, made_plain, made_forest, made_timed, made_alarmed}
 use Rattle.its_operator.proofs.LoadLaws.{and_ok}
 use Rattle.its_operator.proofs.StartLaws.{quiet_by}
 
@@ -50,17 +50,17 @@ module _ (old new : World) (whole : IsStore old.files) (kept : Kept old) (files 
   stays : Stays old.files new.files old.jobs
   stays = helped_stays old.files new.files old.jobs whole kept.tidy.across files
 
-  pub helped_is : new.frames ≡ old.frames → new.consoles ≡ old.consoles → new.holders ≡ old.holders → new.clock ≡ old.clock → Helped old new
-  helped_is frames consoles holders clock =
+  pub helped_is : new.frames ≡ old.frames → new.consoles ≡ old.consoles → new.holders ≡ old.holders → new.clock ≡ old.clock → new.alarms ≡ old.alarms → new.version ≡ old.version → new.symbols ≡ old.symbols → Helped old new
+  helped_is frames consoles holders clock alarms version symbols =
       let state : state_of new ≡ help (state_of old) =
-      store_state old new stays core jobs frames consoles holders clock
+      store_state old new stays core jobs frames consoles holders clock alarms version symbols
       ∙ ap (λ t. record (state_of old) { raw = record (state_of old).raw { files = directory t }; mark = mark_of t }) files
       ∙ sym (help_step old.files whole (state_of old) (marks_are old) (files_are old)) in
       record {
-        alone = record { core = core; jobs = jobs; frames = frames; consoles = consoles; holders = holders; clock = clock; files = files };
+        alone = record { core = core; jobs = jobs; frames = frames; consoles = consoles; holders = holders; clock = clock; alarms = alarms; version = version; symbols = symbols; files = files };
         files = files;
         state = state;
-        kept = alike_kept old new kept (ap plain state ∙ help_plain (state_of old)) (subst Sound (sym state) (help_sound (state_of old) kept.sound)) (store_tidy old new stays core jobs kept.tidy);
+        kept = alike_kept old new kept (ap plain state ∙ help_plain (state_of old)) (subst Sound (sym state) (help_sound (state_of old) kept.sound)) (store_tidy old new stays core jobs alarms clock symbols kept.tidy);
       }
 
 -- the plain machine is the same then, and no close is half made
@@ -109,13 +109,13 @@ record Filed (old new : World) (fs : List File) : Type 0 where
   tidy : Tidy new
 
 module _ (old new : World) (fs : List File) (core : new.core ≡ old.core) (jobs : new.jobs ≡ old.jobs) (frames : new.frames ≡ old.frames)
-    (consoles : new.consoles ≡ old.consoles) (holders : new.holders ≡ old.holders) (clock : new.clock ≡ old.clock) where
+    (consoles : new.consoles ≡ old.consoles) (holders : new.holders ≡ old.holders) (clock : new.clock ≡ old.clock) (alarms : new.alarms ≡ old.alarms) (version : new.version ≡ old.version) (symbols : new.symbols ≡ old.symbols) where
   filed : Tidy old → Stays old.files new.files old.jobs → old.files.mark ≡ None → new.files.mark ≡ None → directory new.files ≡ fs → Filed old new fs
   filed tidy stays none still files =
       let m : mark_of new.files ≡ (state_of old).mark = none_marked new.files still ∙ sym (marks_are old ∙ none_marked old.files none) in
       record {
-        state = store_state old new stays core jobs frames consoles holders clock ∙ (λ i. record (state_of old) { raw = record (state_of old).raw { files = files i }; mark = m i });
-        tidy = store_tidy old new stays core jobs tidy;
+        state = store_state old new stays core jobs frames consoles holders clock alarms version symbols ∙ (λ i. record (state_of old) { raw = record (state_of old).raw { files = files i }; mark = m i });
+        tidy = store_tidy old new stays core jobs alarms clock symbols tidy;
       }
 
 filed_lands : (old new : World) (fs : List File) (r : Result Machine Reason) → Filed old new fs → r ≡ Ok (with_files (state_of old).raw fs) → Lands (state_of old) (state_of new) r
@@ -133,6 +133,7 @@ files_kept e b old new kept made is tidy = record {
   addressed = λ k. subst (λ (m : Machine). IfSome (m.jobs k) (λ q. q.job.pc < 2 ^ 18)) (sym is) (kept.addressed k);
   consoled = λ k. subst (λ (m : Machine). IfSome (m.jobs k) (λ q. IfSome q.job.console (λ c. c < 8))) (sym is) (kept.consoled k);
   timed = made_timed (state_of old) (state_of new) b e kept.sound kept.timed made;
+  alarmed = made_alarmed (state_of old) (state_of new) b e kept.sound kept.forest kept.alarmed made;
 }
 
 alone_is : (m n : Machine) (r : Result Machine Reason) → r ≡ Ok n → FilesAlone m r → n ≡ with_files m n.files
@@ -153,10 +154,10 @@ module _ (old new : World) (id d x y : ℕ) (kept : Kept old) (none : old.files.
     (free : entry_at old.files id ≡ None) (made : new.files ≡ with_file old.files id (names_of d x y)) (entry : Only (entry_at old.files) (entry_at new.files) id (Some (Standing (names_of d x y) 0)))
     (words : Only (words_at old.files) (words_at new.files) id []) (files : directory new.files ≡ directory old.files ++ new_file (names_of d x y) ∷ [])
     (core : new.core ≡ old.core) (jobs : new.jobs ≡ old.jobs) (frames : new.frames ≡ old.frames)
-    (consoles : new.consoles ≡ old.consoles) (holders : new.holders ≡ old.holders) (clock : new.clock ≡ old.clock) where
+    (consoles : new.consoles ≡ old.consoles) (holders : new.holders ≡ old.holders) (clock : new.clock ≡ old.clock) (alarms : new.alarms ≡ old.alarms) (version : new.version ≡ old.version) (symbols : new.symbols ≡ old.symbols) where
   made_filed : Filed old new (directory old.files ++ new_file (names_of d x y) ∷ [])
   made_filed =
-      filed old new (directory old.files ++ new_file (names_of d x y) ∷ []) core jobs frames consoles holders clock kept.tidy
+      filed old new (directory old.files ++ new_file (names_of d x y) ∷ []) core jobs frames consoles holders clock alarms version symbols kept.tidy
       (made_stays old.files new.files old.jobs id kept.tidy.across (names_of d x y) [] free made entry words) none (ap (λ (s : Store). s.mark) made ∙ none) files
 
   pub made_lands : Lands (state_of old) (state_of new) (file_made (state_of old).raw (names_of d x y))
@@ -211,7 +212,7 @@ module _ (old mid : World) (n : Names) (h : Helped old mid) where
   new_full t le = new_err false false refusals.Full t (le-ltb (length mid.files.order) most_files le) refl
 
 -- a word more of a file: the channels of the machine are those of the store
-channels_by : (s : Store) (w : World) (k n : ℕ) (o : Option Job) → channel_in (raw_of s (core_at w.core k) (superior_at w.jobs k) o) n ≡ chan_of s (channel_by o n)
+channels_by : (s : Store) (w : World) (k n : ℕ) (o : Option Job) → channel_in (raw_of s (core_at w.core k) (superior_at w.jobs k) (alarm_at w.alarms.items k) o) n ≡ chan_of s (channel_by o n)
 channels_by s w k n (Some j) = refl
 channels_by s w k n None = refl
 
@@ -235,10 +236,10 @@ module _ (w : World) (whole : IsStore w.files) (kept : Kept w) (none : w.files.m
   module _ (new : World) (x : ℕ) (made : new.files ≡ with_word w.files id x) (entry : Same (entry_at w.files) (entry_at new.files))
       (words : Only (words_at w.files) (words_at new.files) id (words_at w.files id ++ x ∷ [])) (files : directory new.files ≡ with_changed (names_at w.files id) (longer x) (directory w.files))
       (core : new.core ≡ w.core) (jobs : new.jobs ≡ w.jobs) (frames : new.frames ≡ w.frames)
-      (consoles : new.consoles ≡ w.consoles) (holders : new.holders ≡ w.holders) (clock : new.clock ≡ w.clock) where
+      (consoles : new.consoles ≡ w.consoles) (holders : new.holders ≡ w.holders) (clock : new.clock ≡ w.clock) (alarms : new.alarms ≡ w.alarms) (version : new.version ≡ w.version) (symbols : new.symbols ≡ w.symbols) where
     added_filed : Filed w new (with_changed (names_at w.files id) (longer x) (directory w.files))
     added_filed =
-        filed w new (with_changed (names_at w.files id) (longer x) (directory w.files)) core jobs frames consoles holders clock kept.tidy
+        filed w new (with_changed (names_at w.files id) (longer x) (directory w.files)) core jobs frames consoles holders clock alarms version symbols kept.tidy
         (lengthened_stays w.files new.files w.jobs id kept.tidy.across x (words_at w.files id ++ x ∷ []) file made entry words) none (ap (λ (s : Store). s.mark) made ∙ none) files
 
     pub added_lands : store_is_full w.files.stored id ≡ false → Lands (state_of w) (state_of new) (word_added (state_of w).raw (names_at w.files id) x)

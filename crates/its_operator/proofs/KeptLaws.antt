@@ -16,10 +16,12 @@ use Rattle.its_plain.specs.OperatorLines.{Done, lined}
 use Rattle.its_plain.specs.OperatorClock.{clock_end}
 use Rattle.its_stepped.specs.State.{State, plain, seen}
 use Rattle.its_stepped.specs.Sound.{Sound}
+use Rattle.its_stepped.specs.Alarmed.{Alarmed}
 use Rattle.its_stepped.specs.Forest.{Forest}
 use Rattle.its_stepped.specs.Unwind.{unwound}
 use Rattle.its_stepped.specs.Tick.{helped_if}
 use Rattle.its_stepped.specs.Lines.{looks_at_files, calmed, with_raw, state_after, after_line, lifted_line}
+use Rattle.its_stepped.proofs.AlarmLaws.{line_alarmed}
 use Rattle.its_stepped.proofs.ClockLaws.{line_timed}
 use Rattle.its_stepped.proofs.UnwindLaws.{unwound_plain, unwound_sound}
 use Rattle.its_stepped.proofs.LineLaws.{line_plain}
@@ -71,6 +73,7 @@ alike_kept old new kept same sound tidy = record {
   addressed = λ k. subst (λ (m : Machine). IfSome (m.jobs k) (λ q. q.job.pc < 2 ^ 18)) (sym same) (kept.addressed k);
   consoled = λ k. subst (λ (m : Machine). IfSome (m.jobs k) (λ q. IfSome q.job.console (λ c. c < 8))) (sym same) (kept.consoled k);
   timed = subst (λ (m : Machine). m.clock < clock_end) (sym same) kept.timed;
+  alarmed = subst Alarmed (sym same) kept.alarmed;
 }
 
 pub unwound_kept : (old new : World) (s : ℕ) → Kept old → state_of new ≡ unwound (state_of old) s → Tidy new → Kept new
@@ -107,6 +110,7 @@ frames_kept w f k =
       addressed = λ i. subst (λ (v : State). IfSome ((plain v).jobs i) (λ q. q.job.pc < 2 ^ 18)) e (k.addressed i);
       consoled = λ i. subst (λ (v : State). IfSome ((plain v).jobs i) (λ q. IfSome q.job.console (λ c. c < 8))) e (k.consoled i);
       timed = subst (λ (v : State). (plain v).clock < clock_end) e k.timed;
+      alarmed = subst (λ (v : State). Alarmed (plain v)) e k.alarmed;
     }
 
 -- a line that is done: the state v that it finds has another raw machine then
@@ -133,6 +137,9 @@ made_forest w new b e sound d h = line_forest (plain w) (plain new) b h.block e 
 
 pub made_timed : (w new : State) (b : Block) (e : Event) → Sound w → (plain w).clock < clock_end → Made w new b e → (plain new).clock < clock_end
 made_timed w new b e sound below h = line_timed (plain w) (plain new) b h.block e h.out h.touched below (made_plain w new b e sound h)
+
+pub made_alarmed : (w new : State) (b : Block) (e : Event) → Sound w → Forest (plain w) → Alarmed (plain w) → Made w new b e → Alarmed (plain new)
+made_alarmed w new b e sound d a h = line_alarmed (plain w) (plain new) b h.block e h.out h.touched d a (made_plain w new b e sound h)
 
 -- what a line keeps of each job: its PC is an address, and its console is one of eight
 pub record Lasts (m : Machine) : Type 0 where

@@ -9,3 +9,7 @@ pub mod PeekStateLaws
 pub mod TypingLaws
 pub mod FileLaws
 pub mod DirLaws
+pub mod RungLaws
+pub mod ClockLaws
+pub mod ProtectLaws
+pub mod SymbolLaws

@@ -1,5 +1,5 @@
 -- The words of a LOAD block: a word is stored, where its page is absent into a page of zeros that is made.
-use Rattle.std.specs.Prelude.{◌≡◌, ◌<◌, ◌≤◌, ◌/◌, ℕ, Bool, true, false, Option, Some, None, [], ◌∷◌, Result, Ok, Err, is_some, nat_lt, refl}
+use Rattle.std.specs.Prelude.{◌≡◌, ◌<◌, ◌≤◌, ◌/◌, ◌&&◌, ◌||◌, not, ℕ, Bool, true, false, Option, Some, None, [], ◌∷◌, Result, Ok, Err, is_some, nat_lt, refl}
 use Rattle.std.proofs.Common.{sym, ◌∙◌, ap, subst, arith, inl, inr}
 use Rattle.std.proofs.lemmas.Bool.{cases_Bool}
 use Rattle.std.proofs.lemmas.Bool.Decides.{nat_tests}
@@ -17,14 +17,14 @@ use Rattle.its_core.specs.Frames.{frames_map, frames_reserve}
 use Rattle.its_jobs.specs.Table.{job_at, superior_at}
 use Rattle.its_plain.specs.Machine.{Whole, Machine, mapped, core_of}
 use Rattle.its_plain.specs.Operator.{only, and_then, disturbs}
-use Rattle.its_plain.specs.OperatorJobs.{with_core, stored_in, stored, word_loaded_of, word_loaded}
+use Rattle.its_plain.specs.OperatorJobs.{with_core, stored_in, stored, word_loaded_of, word_loaded, any_barred, barred_in, words_barred, words_loaded_if, words_loaded}
 use Rattle.its_plain.specs.OperatorLines.{operate, Done, lined}
 use Rattle.its_stepped.specs.State.{State, plain}
 use Rattle.its_stepped.specs.Unwind.{unwound}
 use Rattle.its_stepped.specs.Lines.{calmed}
 use Rattle.its_stepped.proofs.RefusalLaws.{error_of, word_alike, word_refused_first}
 use Rattle.its_stepped.proofs.UnwindLaws.{unwound_none}
-use Rattle.its_world.specs.World.{state_of, raw_at, frames_after, with_frames, CoreBecomes}
+use Rattle.its_world.specs.World.{alarm_at, state_of, raw_at, frames_after, with_frames, CoreBecomes}
 use Rattle.its_world.specs.declared.world.World.{World}
 use Rattle.its_world.proofs.MappedLaws.{core_raw, mapped_raw}
 use Rattle.its_world.proofs.StateLaws.{raw_job, job_of, frames_state}
@@ -45,7 +45,7 @@ abbrev room : World → Bool
 room w = nat_lt (pages_mapped (core_at w.core)) most_pages
 
 abbrev whole_of : World → ℕ → Job → Whole
-whole_of w s j = raw_job w.files (core_at w.core s) j (superior_at w.jobs s)
+whole_of w s j = raw_job w.files (core_at w.core s) j (superior_at w.jobs s) (alarm_at w.alarms.items s)
 
 loaded_on : (w : World) (s a x : ℕ) (j : Job) → job_at w.jobs s ≡ Some j → Kept w
     → word_loaded (state_of w).raw s a x ≡ with_core (state_of w).raw s (whole_of w s j) (stored_in (core_at w.core s) a x (can w s a) (there w s a) (room w))
@@ -129,7 +129,7 @@ load_room old mid s a x c h l p = elim (cases_Bool (nat_lt (pages_mapped (core_a
 pub load_unreserved : (old mid : World) (s : ℕ) → Kept old → Calmed old mid s → clear_at mid.core s ≡ None
 unfolding state_of
 load_unreserved old mid s kept c =
-    user_page (raw_at mid.files mid.core mid.jobs s) ((state_of mid).frames s) (clear_at mid.core s) (ap (λ (v : State). v.frames s) c.calm.unwinds ∙ unwound_none (state_of old) s kept.sound) (c.calm.kept.sound.each s).by
+    user_page (raw_at mid.files mid.core mid.jobs mid.alarms.items s) ((state_of mid).frames s) (clear_at mid.core s) (ap (λ (v : State). v.frames s) c.calm.unwinds ∙ unwound_none (state_of old) s kept.sound) (c.calm.kept.sound.each s).by
 
 -- the same of a world under another name
 pub made_as : (mid same new : World) (s a x : ℕ) → same ≡ mid → CoreBecomes same (with_frames new same.core.frames) s (store (with_page (core_at same.core s) (a / 1024) (Some zero_page)) a x)
@@ -148,6 +148,33 @@ loaded_lasts m n s a x is h = go (m.jobs s) refl is
     go : (o : Option Whole) → m.jobs s ≡ o → word_loaded_of m s a x o ≡ Ok n → Lasts n
     go (Some q) at e = core_lasts m n s q (stored (mapped m) q.core a x) at e h
     go None at e = absurd cc
+
+-- an a/ line of one word that can be stored
+unbarred_by : (m n : Machine) (s : ℕ) (q : Whole) (c : Core) (a x : ℕ) (b t r : Bool) → with_core m s q (stored_in c a x b t r) ≡ Ok n → ((t && not b) || false) ≡ false
+unbarred_by m n s q c a x true true r h = refl
+unbarred_by m n s q c a x true false r h = refl
+unbarred_by m n s q c a x false true r h = cc
+unbarred_by m n s q c a x false false r h = refl
+
+unbarred : (m n : Machine) (s a x : ℕ) → word_loaded m s a x ≡ Ok n → words_barred m s a 1 ≡ false
+unfolding word_loaded stored any_barred
+unbarred m n s a x h = go (m.jobs s) h
+  where
+    go : (o : Option Whole) → word_loaded_of m s a x o ≡ Ok n → barred_in o a 1 ≡ false
+    go (Some q) e = unbarred_by m n s q q.core a x (can_store q.core a) (is_some (word_at q.core a)) (nat_lt (mapped m) most_pages) e
+    go None e = refl
+
+one_line : (m n : Machine) (s a x : ℕ) → word_loaded m s a x ≡ Ok n → words_loaded m s a (x ∷ []) ≡ Ok n
+unfolding words_loaded
+one_line m n s a x h = ap (words_loaded_if m s a (x ∷ [])) (unbarred m n s a x h) ∙ ap (λ r. and_then r (λ k. Ok k)) h
+
+line_one : (m n : Machine) (s a x : ℕ) → words_loaded m s a (x ∷ []) ≡ Ok n → word_loaded m s a x ≡ Ok n
+unfolding words_loaded
+line_one m n s a x h = go (words_barred m s a 1) h
+  where
+    go : (b : Bool) → words_loaded_if m s a (x ∷ []) b ≡ Ok n → word_loaded m s a x ≡ Ok n
+    go true e = cc
+    go false e = and_ok (word_loaded m s a x) n e
 
 module _ (old mid new : World) (s a x : ℕ) where
   pub load_stored : Kept old → Calmed old mid s → can_store (core_at mid.core s) a ≡ true → CoreBecomes mid new s (store (core_at mid.core s) a x)
@@ -177,7 +204,7 @@ module _ (old mid new : World) (s a x : ℕ) where
     out = [];
     touched = only s;
     block = block_of s;
-    is = ap (λ r. Done (disturbs s (block_of s) (and_then r (λ n. Ok n)))) l.is;
+    is = ap (λ r. Done (disturbs s (block_of s) r)) (one_line (unwound (state_of old) s).raw (state_of new).raw s a x l.is);
     rest = l.rest;
   }
 
@@ -185,8 +212,8 @@ module _ (old mid new : World) (s a x : ℕ) where
   unfolding lined operate
   load_plain kept l =
       let m = load_line l in
-      and_ok (word_loaded (plain (state_of old)) s a x) (plain (state_of new))
-      (disturbed s (block_of s) (and_then (word_loaded (plain (state_of old)) s a x) (λ n. Ok n)) (plain (state_of new)) m.out m.touched m.block
+      line_one (plain (state_of old)) (plain (state_of new)) s a x
+      (disturbed s (block_of s) (words_loaded (plain (state_of old)) s a (x ∷ [])) (plain (state_of new)) m.out m.touched m.block
       (made_plain (state_of old) (state_of new) (block_of s) (events.Words a (record { items = x ∷ [] })) kept.sound m))
 
   pub load_kept : (d : Core) → Kept old → Calmed old mid s → CoreBecomes mid new s d

@@ -43,10 +43,10 @@ mapped_clear a b c s n e o = record {
 
 -- where the frames of pages were as they are, the core of its slot alone would be another
 pub page_becomes : (old new : World) (s : ℕ) (c : Core) → Only (core_at old.core) (core_at new.core) s c → Same (clear_at old.core) (clear_at new.core)
-    → new.jobs ≡ old.jobs → new.frames ≡ old.frames → new.consoles ≡ old.consoles → new.holders ≡ old.holders → new.files ≡ old.files → new.clock ≡ old.clock
+    → new.jobs ≡ old.jobs → new.frames ≡ old.frames → new.consoles ≡ old.consoles → new.holders ≡ old.holders → new.files ≡ old.files → new.clock ≡ old.clock → new.alarms ≡ old.alarms → new.version ≡ old.version → new.symbols ≡ old.symbols
     → CoreBecomes old (with_frames new old.core.frames) s c
 unfolding core_at reserved_at
-page_becomes old new s c core reserved jobs frames consoles holders files clock = record {
+page_becomes old new s c core reserved jobs frames consoles holders files clock alarms version symbols = record {
   core = core;
   job = alike _ _ s (λ k. ap (λ t. job_at t k) jobs);
   superiors = ap (λ t. t.superiors) jobs;
@@ -57,6 +57,9 @@ page_becomes old new s c core reserved jobs frames consoles holders files clock 
   holders = holders;
   files = files;
   clock = clock;
+  alarms = alarms;
+  version = version;
+  symbols = symbols;
 }
 
 pub page_then_store : (old mid new : World) (s a x : ℕ) (c : Core) → CoreBecomes old (with_frames mid old.core.frames) s c → CoreBecomes mid new s (store (core_at mid.core s) a x)
@@ -73,4 +76,7 @@ page_then_store old mid new s a x c h t = record {
   holders = t.holders ∙ h.holders;
   files = t.files ∙ h.files;
   clock = t.clock ∙ h.clock;
+  alarms = t.alarms ∙ h.alarms;
+  version = t.version ∙ h.version;
+  symbols = t.symbols ∙ h.symbols;
 }

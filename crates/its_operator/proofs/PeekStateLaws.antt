@@ -21,6 +21,7 @@ use Rattle.its_operator.specs.Kept.{Kept}
 use Rattle.its_operator.specs.Peeking.{Shows}
 use Rattle.its_operator.proofs.KeptLaws.{plain_has}
 use Rattle.its_world.proofs.StorageLaws.{raw_has}
+use Rattle.its_word.specs.Limits.{slots}
 use Rattle.its_word.proofs.FreeLaws.{none_is}
 
 pub peek_absent : (w : World) (s : ℕ) → is_some (job_at w.jobs s) ≡ false → ((state_of w).raw.jobs s ≡ None) × ((plain (state_of w)).jobs s ≡ None)
@@ -30,15 +31,15 @@ pub peek_some : (w : World) (s : ℕ) → is_some (job_at w.jobs s) ≡ true →
 peek_some w s h = raw_has w s ∙ h
 
 -- the frame of a slot, read by index
-frame_read : (w : World) (s : ℕ) (x o : Option Frame) → x ≡ slice_index_or w.frames.items s x → s < 64 → x ≡ o → frame_at w.frames.items s ≡ o
-frame_read w s x o read lt is = sym (get_or_read_under w.frames.items s 64 x None read lt (sym w.slots ∙ w.frames.ok.0)) ∙ is
+frame_read : (w : World) (s : ℕ) (x o : Option Frame) → x ≡ slice_index_or w.frames.items s x → s < slots → x ≡ o → frame_at w.frames.items s ≡ o
+frame_read w s x o read lt is = sym (get_or_read_under w.frames.items s slots x None read lt (sym w.slots ∙ w.frames.ok.0)) ∙ is
 
-pub peek_few : (w : World) (s : ℕ) (x : Option Frame) (f : Frame) → Kept w → x ≡ slice_index_or w.frames.items s x → s < 64 → x ≡ Some f → Few f
+pub peek_few : (w : World) (s : ℕ) (x : Option Frame) (f : Frame) → Kept w → x ≡ slice_index_or w.frames.items s x → s < slots → x ≡ Some f → Few f
 unfolding state_of
 peek_few w s x f kept read lt is = few_frame (state_of w) s f kept.sound (frame_read w s x (Some f) read lt is)
 
 -- the parts of what is shown
-peek_is : (w : World) (s : ℕ) (o : Option Frame) (c : Core) (p : Peek) → frame_at w.frames.items s ≡ o → core_of (raw_at w.files w.core w.jobs s) ≡ c
+peek_is : (w : World) (s : ℕ) (o : Option Frame) (c : Core) (p : Peek) → frame_at w.frames.items s ≡ o → core_of (raw_at w.files w.core w.jobs w.alarms.items s) ≡ c
     → p ≡ record { state = state_shown o; name = name_shown o; left = left_by (mine (state_of w).mark s) o; a = word_shown c first_shown (ask_in o); b = word_shown c second_shown (ask_in o); h = byte_shown o }
     → p ≡ peeked (state_of w) s
 unfolding peeked left state_of
@@ -51,14 +52,14 @@ peek_is w s o c p f k is = is ∙ (λ t. record {
   h = byte_shown (sym f t);
 })
 
-core_there : (w : World) (s : ℕ) → is_some (job_at w.jobs s) ≡ true → core_of (raw_at w.files w.core w.jobs s) ≡ core_at w.core s
+core_there : (w : World) (s : ℕ) → is_some (job_at w.jobs s) ≡ true → core_of (raw_at w.files w.core w.jobs w.alarms.items s) ≡ core_at w.core s
 core_there w s some = let j = job_of (job_at w.jobs s) some in ap core_of (raw_some w s j.0 j.1)
 
-pub peek_user : (w : World) (s : ℕ) (x : Option Frame) (p : Peek) → is_some (job_at w.jobs s) ≡ true → x ≡ slice_index_or w.frames.items s x → s < 64 → x ≡ None
+pub peek_user : (w : World) (s : ℕ) (x : Option Frame) (p : Peek) → is_some (job_at w.jobs s) ≡ true → x ≡ slice_index_or w.frames.items s x → s < slots → x ≡ None
     → p ≡ record { state = User; name = None; left = 0; a = None; b = None; h = None } → p ≡ peeked (state_of w) s
 peek_user w s x p some read lt is shown = peek_is w s None (core_at w.core s) p (frame_read w s x None read lt is) (core_there w s some) shown
 
-pub peek_frame : (w : World) (s : ℕ) (x : Option Frame) (f : Frame) (p : Peek) → is_some (job_at w.jobs s) ≡ true → x ≡ slice_index_or w.frames.items s x → s < 64 → x ≡ Some f
+pub peek_frame : (w : World) (s : ℕ) (x : Option Frame) (f : Frame) (p : Peek) → is_some (job_at w.jobs s) ≡ true → x ≡ slice_index_or w.frames.items s x → s < slots → x ≡ Some f
     → Shows (core_at w.core s) (mine (state_of w).mark s) f p → p ≡ peeked (state_of w) s
 peek_frame w s x f p some read lt is m = peek_is w s (Some f) (core_at w.core s) p (frame_read w s x (Some f) read lt is) (core_there w s some)
     (λ t. record { state = m.state t; name = m.name t; left = m.left t; a = m.a t; b = m.b t; h = m.h t })

@@ -14,11 +14,12 @@ use Rattle.its_word.specs.declared.show.JobShow.{JobShow}
 use Rattle.its_core.specs.Cores.{core_at}
 use Rattle.its_files.specs.Files.{Store}
 use Rattle.its_jobs.specs.Table.{job_at, superior_at}
-use Rattle.its_plain.specs.Machine.{Whole, Machine, changed, with_job}
+use Rattle.its_plain.specs.Machine.{Symbol, Whole, Machine, changed, with_job}
 use Rattle.its_plain.specs.Change.{on_slot, in_job}
 use Rattle.its_plain.specs.Own as own
 use Rattle.its_plain.specs.Operator.{Block, no_block, Does, only, disturbs}
 use Rattle.its_plain.specs.OperatorJobs.{on_job, with_registers, on_registers, started, interrupted, stopped, continued, shown, state_shown}
+use Rattle.its_plain.specs.OperatorSymbols.{symbol_shown}
 use Rattle.its_plain.specs.OperatorLines.{operate, Done, lined}
 use Rattle.its_plain.proofs.MachineLaws.{machine_is}
 use Rattle.its_stepped.specs.State.{State, plain}
@@ -28,15 +29,15 @@ use Rattle.its_stepped.proofs.FrameLaws.{changed_only, on_slot_here, on_slot_oth
 use Rattle.its_stepped.proofs.LineLaws.{state_plain as calm_state_plain}
 use Rattle.its_stepped.proofs.RefusalLaws.{registers_alike, shown_alike}
 use Rattle.its_stepped.proofs.UnwindLaws.{unwound_plain, unwound_none}
-use Rattle.its_world.specs.World.{state_of, in_raw, JobBecomes}
+use Rattle.its_world.specs.World.{alarm_at, symbols_at, state_of, in_raw, JobBecomes}
 use Rattle.its_world.specs.declared.world.World.{World}
 use Rattle.its_world.proofs.StateLaws.{raw_job, raw_some, raw_none, changed_state}
 use Rattle.its_pclsr.proofs.ApartLaws.{tidy_put}
 use Rattle.its_operator.specs.Kept.{Kept, Lands, Refused, Calm, reason_of}
-use Rattle.its_operator.proofs.KeptLaws.{refused_by, Made, made_sound, made_plain, made_forest, made_timed, Lasts, kept_lasts, put_lasts, lasts_address, lasts_console}
+use Rattle.its_operator.proofs.KeptLaws.{refused_by, Made, made_sound, made_plain, made_forest, made_timed, made_alarmed, Lasts, kept_lasts, put_lasts, lasts_address, lasts_console}
 
 -- the raw job of a slot
-pub raw_is : (w : World) (s : ℕ) (j : Job) → job_at w.jobs s ≡ Some j → (state_of w).raw.jobs s ≡ Some (raw_job w.files (core_at w.core s) j (superior_at w.jobs s))
+pub raw_is : (w : World) (s : ℕ) (j : Job) → job_at w.jobs s ≡ Some j → (state_of w).raw.jobs s ≡ Some (raw_job w.files (core_at w.core s) j (superior_at w.jobs s) (alarm_at w.alarms.items s))
 unfolding state_of
 raw_is w s j h = raw_some w s j h
 
@@ -52,7 +53,7 @@ in_place m s k q h e = elim (cases_eq k s) [
 ]
 
 pub job_placed : (m : Machine) (s : ℕ) (q : Whole) (h : Whole → Whole) → m.jobs s ≡ Some q → in_job m s h ≡ with_job m s (h q)
-job_placed m s q h e = machine_is _ _ (λ k. in_place m s k q h e) (λ k. refl) (λ k. refl) refl refl
+job_placed m s q h e = machine_is _ _ (λ k. in_place m s k q h e) (λ k. refl) (λ k. refl) refl refl refl (λ k. refl)
 
 -- a state in which the job of a slot is changed by h lands where that job is put
 pub placed_lands : (v new : State) (s : ℕ) (q : Whole) (h : Whole → Whole) (r : Result Machine Reason) → v.raw.jobs s ≡ Some q → new ≡ in_raw v s h → r ≡ Ok (with_job v.raw s (h q)) → Lands v new r
@@ -61,13 +62,13 @@ placed_lands v new s q h r job e is = record {
   rest = e ∙ ap (λ (x : State). with_raw v x.raw) (sym e);
 }
 
-pub registers_land : (f : Job → Job) (old mid new : World) (s : ℕ) (j : Job) → ((x : Store) (c : Core) (sup : Option ℕ) → own.with_registers f (raw_job x c j sup) ≡ raw_job x c (f j) sup) → Calm old mid s j
+pub registers_land : (f : Job → Job) (old mid new : World) (s : ℕ) (j : Job) → ((x : Store) (c : Core) (sup : Option ℕ) (a : Option (ℕ × ℕ)) → own.with_registers f (raw_job x c j sup a) ≡ raw_job x c (f j) sup a) → Calm old mid s j
     → JobBecomes mid new s (f j) → Lands (unwound (state_of old) s) (state_of new) (on_registers (unwound (state_of old) s).raw s f)
 unfolding on_registers
 registers_land f old mid new s j fits c b =
     subst (λ (v : State). Lands v (state_of new) (on_job v.raw s (with_registers v.raw s f) (v.raw.jobs s))) c.unwinds
-    (placed_lands (state_of mid) (state_of new) s (raw_job mid.files (core_at mid.core s) j (superior_at mid.jobs s)) (own.with_registers f) _ (raw_is mid s j c.job)
-    (changed_state mid new s (core_at mid.core s) (f j) j (own.with_registers f) b c.job (fits mid.files (core_at mid.core s) (superior_at mid.jobs s)))
+    (placed_lands (state_of mid) (state_of new) s (raw_job mid.files (core_at mid.core s) j (superior_at mid.jobs s) (alarm_at mid.alarms.items s)) (own.with_registers f) _ (raw_is mid s j c.job)
+    (changed_state mid new s (core_at mid.core s) (f j) j (own.with_registers f) b c.job (fits mid.files (core_at mid.core s) (superior_at mid.jobs s) (alarm_at mid.alarms.items s)))
     (ap (on_job (state_of mid).raw s (with_registers (state_of mid).raw s f)) (raw_is mid s j c.job)))
 
 -- registers under another name
@@ -103,6 +104,7 @@ registers_kept f e b old mid new s j kept c r made is keeps same shut = record {
   addressed = (registers_lasts (plain (state_of old)) (plain (state_of new)) s f is keeps same (kept_lasts old kept)).addressed;
   consoled = (registers_lasts (plain (state_of old)) (plain (state_of new)) s f is keeps same (kept_lasts old kept)).consoled;
   timed = made_timed (state_of old) (state_of new) b e kept.sound kept.timed made;
+  alarmed = made_alarmed (state_of old) (state_of new) b e kept.sound kept.forest kept.alarmed made;
 }
 
 -- the slot is empty
@@ -124,7 +126,7 @@ block_of s = record no_block { slot = s }
 -- the four calls
 module _ (old mid new : World) (s : ℕ) (j : Job) where
   pub go_done : (a : ℕ) → a < 2 ^ 18 → Kept old → Calm old mid s j → JobBecomes mid new s (started a j) → Lands (unwound (state_of old) s) (state_of new) (on_registers (unwound (state_of old) s).raw s (started a))
-  go_done a p kept c r = registers_land (started a) old mid new s j (λ x c sup. refl) c r
+  go_done a p kept c r = registers_land (started a) old mid new s j (λ x c sup a. refl) c r
 
   go_made : (a : ℕ) → a < 2 ^ 18 → Kept old → Calm old mid s j → JobBecomes mid new s (started a j) → Made (state_of old) (state_of new) (block_of s) (events.Go a)
   unfolding calmed lined operate
@@ -142,7 +144,7 @@ module _ (old mid new : World) (s : ℕ) (j : Job) where
   go_kept a p kept c r = registers_kept (started a) (events.Go a) (block_of s) old mid new s j kept c r (go_made a p kept c r) (go_plain a p kept c r) (λ i l. p) (λ i. refl) (λ i. refl)
 
   pub stop_done : Kept old → Calm old mid s j → JobBecomes mid new s (stopped j) → Lands (unwound (state_of old) s) (state_of new) (on_registers (unwound (state_of old) s).raw s stopped)
-  stop_done kept c r = registers_land stopped old mid new s j (λ x c sup. refl) c r
+  stop_done kept c r = registers_land stopped old mid new s j (λ x c sup a. refl) c r
 
   stop_made : Kept old → Calm old mid s j → JobBecomes mid new s (stopped j) → Made (state_of old) (state_of new) no_block (events.Stop s)
   unfolding calmed lined operate
@@ -160,7 +162,7 @@ module _ (old mid new : World) (s : ℕ) (j : Job) where
   stop_kept kept c r = registers_kept stopped (events.Stop s) no_block old mid new s j kept c r (stop_made kept c r) (stop_plain kept c r) (λ i l. l) (λ i. refl) (λ i. refl)
 
   pub cont_done : Kept old → Calm old mid s j → JobBecomes mid new s (continued j) → Lands (unwound (state_of old) s) (state_of new) (on_registers (unwound (state_of old) s).raw s continued)
-  cont_done kept c r = registers_land continued old mid new s j (λ x c sup. refl) c r
+  cont_done kept c r = registers_land continued old mid new s j (λ x c sup a. refl) c r
 
   cont_made : Kept old → Calm old mid s j → JobBecomes mid new s (continued j) → Made (state_of old) (state_of new) no_block (events.Cont s)
   unfolding calmed lined operate
@@ -178,7 +180,7 @@ module _ (old mid new : World) (s : ℕ) (j : Job) where
   cont_kept kept c r = registers_kept continued (events.Cont s) no_block old mid new s j kept c r (cont_made kept c r) (cont_plain kept c r) (λ i l. l) (λ i. refl) (λ i. refl)
 
   pub interrupt_done : (x y : ℕ) → Kept old → Calm old mid s j → JobBecomes mid new s (interrupted x y j) → Lands (unwound (state_of old) s) (state_of new) (on_registers (unwound (state_of old) s).raw s (interrupted x y))
-  interrupt_done x y kept c r = registers_land (interrupted x y) old mid new s j (λ x c sup. refl) c r
+  interrupt_done x y kept c r = registers_land (interrupted x y) old mid new s j (λ x c sup a. refl) c r
 
   interrupt_made : (x y : ℕ) → Kept old → Calm old mid s j → JobBecomes mid new s (interrupted x y j) → Made (state_of old) (state_of new) no_block (events.Int s x y)
   unfolding calmed lined operate
@@ -196,19 +198,26 @@ module _ (old mid new : World) (s : ℕ) (j : Job) where
   interrupt_kept x y kept c r = registers_kept (interrupted x y) (events.Int s x y) no_block old mid new s j kept c r (interrupt_made x y kept c r) (interrupt_plain x y kept c r) (λ i l. l) (λ i. refl) (λ i. refl)
 
 -- STATE
-pub state_found : (old mid : World) (s : ℕ) (j : Job) (x : JobShow) (o : Option ℕ) → Calm old mid s j → o ≡ superior_at mid.jobs s → x ≡ shown j o → state_shown (unwound (state_of old) s).raw s ≡ Ok x
-unfolding state_shown
-state_found old mid s j x o c e is =
-    ap (λ (v : State). on_job v.raw s (λ q. Ok (shown q.job q.superior)) (v.raw.jobs s)) (sym c.unwinds)
-    ∙ ap (on_job (state_of mid).raw s (λ q. Ok (shown q.job q.superior))) (raw_is mid s j c.job)
-    ∙ ap (λ i. Ok (shown j i)) (sym e) ∙ ap Ok (sym is)
+symbols_raw : (w : World) (s : ℕ) → (state_of w).raw.symbols s ≡ symbols_at w.symbols.items s
+unfolding state_of
+symbols_raw w s = refl
 
-pub state_plain : (old mid : World) (s : ℕ) (j : Job) (x : JobShow) (o : Option ℕ) → Kept old → Calm old mid s j → o ≡ superior_at mid.jobs s → x ≡ shown j o → state_shown (plain (state_of old)) s ≡ Ok x
-state_plain old mid s j x o kept c e is =
+pub state_found : (old mid : World) (s : ℕ) (j : Job) (x : JobShow) (o : Option ℕ) (y : Option Symbol) → Calm old mid s j → o ≡ superior_at mid.jobs s
+    → y ≡ symbol_shown j.pc (symbols_at mid.symbols.items s) → x ≡ shown j o y → state_shown (unwound (state_of old) s).raw s ≡ Ok x
+unfolding state_shown
+state_found old mid s j x o y c e f is =
+    ap (λ (v : State). on_job v.raw s (λ q. Ok (shown q.job q.superior (symbol_shown q.job.pc (v.raw.symbols s)))) (v.raw.jobs s)) (sym c.unwinds)
+    ∙ ap (on_job (state_of mid).raw s (λ q. Ok (shown q.job q.superior (symbol_shown q.job.pc ((state_of mid).raw.symbols s))))) (raw_is mid s j c.job)
+    ∙ ap (λ (ss : List Symbol). Ok (shown j (superior_at mid.jobs s) (symbol_shown j.pc ss))) (symbols_raw mid s)
+    ∙ ap (λ i. Ok (shown j i (symbol_shown j.pc (symbols_at mid.symbols.items s)))) (sym e) ∙ ap (λ i. Ok (shown j o i)) (sym f) ∙ ap Ok (sym is)
+
+pub state_plain : (old mid : World) (s : ℕ) (j : Job) (x : JobShow) (o : Option ℕ) (y : Option Symbol) → Kept old → Calm old mid s j → o ≡ superior_at mid.jobs s
+    → y ≡ symbol_shown j.pc (symbols_at mid.symbols.items s) → x ≡ shown j o y → state_shown (plain (state_of old)) s ≡ Ok x
+state_plain old mid s j x o y kept c e f is =
     ap (λ m. state_shown m s) (sym (unwound_plain (state_of old) s kept.sound))
-    ∙ calm_state_plain (unwound (state_of old) s) s (unwound_none (state_of old) s kept.sound) ∙ state_found old mid s j x o c e is
+    ∙ calm_state_plain (unwound (state_of old) s) s (unwound_none (state_of old) s kept.sound) ∙ state_found old mid s j x o y c e f is
 
 pub state_refused : (w : World) (s : ℕ) (x : Refusal) → (x ≡ refusals.NoJob) × (job_at w.jobs s ≡ None) → Kept w → Refused (state_of w) (unwound (state_of w) s) (λ m. state_shown m s) x
 unfolding state_shown
 state_refused w s x h kept = refused_by (λ m. state_shown m s) (state_of w) s x (λ u. shown_alike u s) kept.sound
-    (ap (on_job (state_of w).raw s (λ q. Ok (shown q.job q.superior))) (raw_is_none w s h.1) ∙ ap (λ y. Err (reason_of y)) (sym h.0))
+    (ap (on_job (state_of w).raw s (λ q. Ok (shown q.job q.superior (symbol_shown q.job.pc ((state_of w).raw.symbols s))))) (raw_is_none w s h.1) ∙ ap (λ y. Err (reason_of y)) (sym h.0))

@@ -1,4 +1,4 @@
--- LOAD, CLOCK, and a world that is opened.
+-- LOAD, and a world that is opened.
 use Rattle.std.specs.Prelude.{◌≡◌, ◌<◌, ◌+◌, ◌^◌, ℕ, Bool, true, false, Option, Some, None, IfSome, List, [], ◌∷◌, option_map, Result, Ok, Err, nat_lt, refl}
 use Rattle.std.proofs.Common.{sym, ◌∙◌, ap, subst, inl, inr, lit<}
 use Rattle.std.proofs.lemmas.Bool.{cases_eq}
@@ -16,7 +16,7 @@ use Rattle.its_core.specs.Cores.{Reserved, core_at, clear_at, IsEmpty}
 use Rattle.its_jobs.specs.Table.{Table, job_at, superior_at, NoJobs}
 use Rattle.its_files.specs.Blocks.{numbers}
 use Rattle.its_files.specs.Files.{readers_by, directory, no_files}
-use Rattle.its_plain.specs.Machine.{Whole, Machine, changed, with_job, no_machine}
+use Rattle.its_plain.specs.Machine.{Whole, Machine, changed, with_job, no_machine, limit}
 use Rattle.its_plain.specs.Operator.{Block, no_block, Does, nobody, only, quietly}
 use Rattle.its_plain.specs.OperatorJobs.{new_job, held_by, with_holder, loaded_in, loaded}
 use Rattle.its_plain.specs.OperatorLines.{by_load, operate, Done, lined}
@@ -24,20 +24,22 @@ use Rattle.its_plain.specs.OperatorClock.{clock_end, clocked_if, clocked}
 use Rattle.its_plain.proofs.MachineLaws.{machine_is}
 use Rattle.its_stepped.specs.State.{State, plain, no_state}
 use Rattle.its_stepped.specs.Sound.{Sound}
+use Rattle.its_stepped.specs.Alarmed.{Alarmed}
 use Rattle.its_stepped.specs.Forest.{Forest}
 use Rattle.its_stepped.specs.Lines.{calmed, with_raw}
+use Rattle.its_stepped.proofs.AlarmLaws.{alarmed_starts}
 use Rattle.its_stepped.proofs.ForestLaws.{forest_starts}
 use Rattle.its_stepped.proofs.FrameLaws.{changed_only}
 use Rattle.its_stepped.proofs.LineLaws.{least_plain}
 use Rattle.its_stepped.proofs.StartLaws.{no_state_plain, no_state_sound}
-use Rattle.its_world.specs.World.{frame_at, console_at, holder_at, raw_of, raw_machine, mark_of, state_of, HolderBecomes}
+use Rattle.its_world.specs.World.{alarm_at, frame_at, console_at, holder_at, symbols_at, raw_of, raw_machine, mark_of, state_of, HolderBecomes}
 use Rattle.its_world.specs.Tidy.{channel_by, channel_at, tally, reads, writes, writers, Across}
 use Rattle.its_world.specs.declared.world.World.{World}
 use Rattle.its_world.proofs.StateLaws.{state_is, holder_state}
 use Rattle.its_world.proofs.TallyLaws.{tally_same, tally_none}
 use Rattle.its_pclsr.proofs.ApartLaws.{tidy_alike}
-use Rattle.its_operator.specs.Kept.{Kept, Lands, Loads, Refused, Alters, Later}
-use Rattle.its_operator.proofs.KeptLaws.{Made, made_sound, made_plain, made_forest, made_timed, Lasts, kept_lasts, put_lasts}
+use Rattle.its_operator.specs.Kept.{Kept, Loads, Refused, Alters}
+use Rattle.its_operator.proofs.KeptLaws.{Made, made_sound, made_plain, made_forest, made_timed, made_alarmed, Lasts, kept_lasts, put_lasts}
 use Rattle.its_operator.proofs.RegisterLaws.{block_of}
 use Rattle.its_world.proofs.MadeLaws.{least_raw, made_state, made_tidy}
 use Rattle.its_world.specs.Made.{JobMade}
@@ -61,10 +63,13 @@ same_holder holders c s h k e = elim (cases_eq k c) [
 pub console_held : (w : World) (c s h : ℕ) (o : Option ℕ) → o ≡ holder_at w.holders c → o ≡ Some h → Alters w w (with_holder (state_of w).raw s (Some c))
 unfolding state_of
 console_held w c s h o i f = record {
-  state = state_is _ _ (machine_is _ _ (λ k. refl) (λ k. refl) (λ k. same_holder (holder_at w.holders) c s h k (sym i ∙ f)) refl refl) (λ k. refl) (λ k. refl) refl;
+  state = state_is _ _ (machine_is _ _ (λ k. refl) (λ k. refl) (λ k. same_holder (holder_at w.holders) c s h k (sym i ∙ f)) refl refl refl (λ k. refl)) (λ k. refl) (λ k. refl) refl;
   core = refl;
   jobs = refl;
   files = refl;
+  clock = refl;
+  alarms = refl;
+  symbols = refl;
 }
 
 pub console_given : (old new : World) (c s : ℕ) (o : Option ℕ) → o ≡ holder_at old.holders c → o ≡ None → HolderBecomes old new c (Some s) → Alters old new (with_holder (state_of old).raw s (Some c))
@@ -75,6 +80,9 @@ console_given old new c s o i f b = record {
   core = b.core;
   jobs = b.jobs;
   files = b.files;
+  clock = b.clock;
+  alarms = b.alarms;
+  symbols = b.symbols;
 }
 
 pub console_some : (old new : World) (s c : ℕ) (console : Option ℕ) → console ≡ Some c → Alters old new (with_holder (state_of old).raw s (Some c))
@@ -83,7 +91,7 @@ console_some old new s c console e h = subst (λ (o : Option ℕ). Alters old ne
 
 pub console_none : (w : World) (s : ℕ) (console : Option ℕ) → console ≡ None → Alters w w (with_holder (state_of w).raw s console)
 console_none w s console e =
-    subst (λ (o : Option ℕ). Alters w w (with_holder (state_of w).raw s o)) (sym e) (record { state = refl; core = refl; jobs = refl; files = refl })
+    subst (λ (o : Option ℕ). Alters w w (with_holder (state_of w).raw s o)) (sym e) (record { state = refl; core = refl; jobs = refl; files = refl; clock = refl; alarms = refl; symbols = refl })
 
 held_lasts : (m : Machine) (s : ℕ) (console : Option ℕ) → Lasts m → Lasts (with_holder m s console)
 held_lasts m s (Some c) a = record { addressed = a.addressed; consoled = a.consoled }
@@ -91,14 +99,14 @@ held_lasts m s None a = a
 
 -- LOAD
 module _ (old mid new : World) (s u j : ℕ) (console : Option ℕ) where
-  blank_at : Kept old → least_free (job_at old.jobs) ≡ Some s → core_at old.core s ≡ no_core
-  blank_at kept e = kept.tidy.blank s (least_empty (job_at old.jobs) s e)
+  blank_at : Kept old → least_free old.jobs.limit (job_at old.jobs) ≡ Some s → core_at old.core s ≡ no_core
+  blank_at kept e = kept.tidy.blank s (least_empty old.jobs.limit (job_at old.jobs) s e)
 
-  load_state : Kept old → least_free (job_at old.jobs) ≡ Some s → JobMade old mid s u j None console → Alters mid new (with_holder (state_of mid).raw s console)
+  load_state : Kept old → least_free old.jobs.limit (job_at old.jobs) ≡ Some s → JobMade old mid s u j None console → Alters mid new (with_holder (state_of mid).raw s console)
       → state_of new ≡ with_raw (state_of old) (with_holder (with_job (state_of old).raw s (new_job u j console)) s console)
-  load_state kept e f h = h.state ∙ ap (λ (v : State). with_raw v (with_holder v.raw s console)) (made_state old mid s u j None console f (blank_at kept e))
+  load_state kept e f h = h.state ∙ ap (λ (v : State). with_raw v (with_holder v.raw s console)) (made_state old mid s u j None console f (blank_at kept e) (kept.tidy.quiet s (least_empty old.jobs.limit (job_at old.jobs) s e)))
 
-  pub load_done : Kept old → least_free (job_at old.jobs) ≡ Some s → JobMade old mid s u j None console → Alters mid new (with_holder (state_of mid).raw s console)
+  pub load_done : Kept old → least_free old.jobs.limit (job_at old.jobs) ≡ Some s → JobMade old mid s u j None console → Alters mid new (with_holder (state_of mid).raw s console)
       → Loads (state_of old) (state_of new) (loaded (state_of old).raw u j console) s
   unfolding loaded
   load_done kept e f h =
@@ -108,14 +116,14 @@ module _ (old mid new : World) (s u j : ℕ) (console : Option ℕ) where
         rest = is ∙ ap (λ (v : State). with_raw (state_of old) v.raw) (sym is);
       }
 
-  load_line : Kept old → least_free (job_at old.jobs) ≡ Some s → JobMade old mid s u j None console → Alters mid new (with_holder (state_of mid).raw s console)
+  load_line : Kept old → least_free old.jobs.limit (job_at old.jobs) ≡ Some s → JobMade old mid s u j None console → Alters mid new (with_holder (state_of mid).raw s console)
       → Made (state_of old) (state_of new) no_block (events.Load u j console)
   unfolding calmed lined operate
   load_line kept e f h =
       let l = load_done kept e f h in
       record { out = printed.Loaded s ∷ []; touched = only s; block = block_of s; is = ap (λ r. Done (by_load no_block r)) l.is; rest = l.rest }
 
-  pub load_plain : Kept old → least_free (job_at old.jobs) ≡ Some s → JobMade old mid s u j None console → Alters mid new (with_holder (state_of mid).raw s console)
+  pub load_plain : Kept old → least_free old.jobs.limit (job_at old.jobs) ≡ Some s → JobMade old mid s u j None console → Alters mid new (with_holder (state_of mid).raw s console)
       → loaded (plain (state_of old)) u j console ≡ Ok (plain (state_of new), s)
   unfolding lined operate load_line
   load_plain kept e f h =
@@ -123,12 +131,12 @@ module _ (old mid new : World) (s u j : ℕ) (console : Option ℕ) where
       loaded_by (loaded (plain (state_of old)) u j console) (plain (state_of new)) s (printed.Loaded s ∷ []) (only s)
       (made_plain (state_of old) (state_of new) no_block (events.Load u j console) kept.sound m)
 
-  load_machine : Kept old → least_free (job_at old.jobs) ≡ Some s → JobMade old mid s u j None console → Alters mid new (with_holder (state_of mid).raw s console)
+  load_machine : Kept old → least_free old.jobs.limit (job_at old.jobs) ≡ Some s → JobMade old mid s u j None console → Alters mid new (with_holder (state_of mid).raw s console)
       → with_holder (with_job (plain (state_of old)) s (new_job u j console)) s console ≡ plain (state_of new)
   unfolding loaded
   load_machine kept e f h =
       first_is (with_holder (with_job (plain (state_of old)) s (new_job u j console)) s console) (plain (state_of new))
-      (loaded_in (plain (state_of old)) u j console (least_free (plain (state_of old)).jobs))
+      (loaded_in (plain (state_of old)) u j console (least_free (limit (plain (state_of old))) (plain (state_of old)).jobs))
       (ap (loaded_in (plain (state_of old)) u j console) (least_plain (state_of old) ∙ least_raw old ∙ e)) (load_plain kept e f h)
     where
       first_is : (m n : Machine) (r : Result (Machine × ℕ) Reason) → r ≡ Ok (m, s) → r ≡ Ok (n, s) → m ≡ n
@@ -142,23 +150,24 @@ module _ (old mid new : World) (s u j : ℕ) (console : Option ℕ) where
   unfolding fresh_job
   fresh_console fits = fits
 
-  load_lasts : IfSome console (λ c. c < 8) → Kept old → least_free (job_at old.jobs) ≡ Some s → JobMade old mid s u j None console → Alters mid new (with_holder (state_of mid).raw s console)
+  load_lasts : IfSome console (λ c. c < 8) → Kept old → least_free old.jobs.limit (job_at old.jobs) ≡ Some s → JobMade old mid s u j None console → Alters mid new (with_holder (state_of mid).raw s console)
       → Lasts (plain (state_of new))
   load_lasts fits kept e f h =
       subst Lasts (load_machine kept e f h)
       (held_lasts _ s console (put_lasts (plain (state_of old)) s (new_job u j console) fresh_pc (fresh_console fits) (kept_lasts old kept)))
 
-  pub load_kept : IfSome console (λ c. c < 8) → Kept old → least_free (job_at old.jobs) ≡ Some s → JobMade old mid s u j None console → Alters mid new (with_holder (state_of mid).raw s console) → Kept new
+  pub load_kept : IfSome console (λ c. c < 8) → Kept old → least_free old.jobs.limit (job_at old.jobs) ≡ Some s → JobMade old mid s u j None console → Alters mid new (with_holder (state_of mid).raw s console) → Kept new
   load_kept fits kept e f h = record {
     sound = made_sound (state_of old) (state_of new) no_block (events.Load u j console) kept.sound (load_line kept e f h);
     forest = made_forest (state_of old) (state_of new) no_block (events.Load u j console) kept.sound kept.forest (load_line kept e f h);
-    tidy = tidy_alike mid new h.core h.jobs h.files (made_tidy old mid s u j None console f (least_empty (job_at old.jobs) s e) kept.tidy);
+    tidy = tidy_alike mid new h.core h.jobs h.files h.alarms h.clock h.symbols (made_tidy old mid s u j None console f (least_empty old.jobs.limit (job_at old.jobs) s e) kept.tidy);
     addressed = (load_lasts fits kept e f h).addressed;
     consoled = (load_lasts fits kept e f h).consoled;
     timed = made_timed (state_of old) (state_of new) no_block (events.Load u j console) kept.sound kept.timed (load_line kept e f h);
+    alarmed = made_alarmed (state_of old) (state_of new) no_block (events.Load u j console) kept.sound kept.forest kept.alarmed (load_line kept e f h);
   }
 
-pub load_full : (w : World) (u j : ℕ) (console : Option ℕ) → least_free (job_at w.jobs) ≡ None → Refused (state_of w) (state_of w) (λ m. loaded m u j console) refusals.Full
+pub load_full : (w : World) (u j : ℕ) (console : Option ℕ) → least_free w.jobs.limit (job_at w.jobs) ≡ None → Refused (state_of w) (state_of w) (λ m. loaded m u j console) refusals.Full
 unfolding loaded
 load_full w u j console e = record {
   plain = ap (loaded_in (plain (state_of w)) u j console) (least_plain (state_of w) ∙ least_raw w ∙ e);
@@ -166,74 +175,10 @@ load_full w u j console e = record {
   calmed = ap (loaded_in (state_of w).raw u j console) (least_raw w ∙ e);
 }
 
--- CLOCK
-later_state : (old new : World) (n : ℕ) → Later old new n → state_of new ≡ with_raw (state_of old) (record (state_of old).raw { clock = (state_of old).raw.clock + n })
-unfolding state_of
-later_state old new n l = λ t. record {
-  raw = raw_machine (l.files t) (l.core t) (l.jobs t) (l.consoles t).items (l.holders t) (l.clock t);
-  frames = frame_at (l.frames t).items;
-  reserved = clear_at (l.core t);
-  mark = mark_of (l.files t);
-}
-
-raw_clock : (w : World) → (state_of w).raw.clock ≡ w.clock
-unfolding state_of
-raw_clock w = refl
-
-plain_clock : (v : State) → (plain v).clock ≡ v.raw.clock
-unfolding plain
-plain_clock v = refl
-
-test_raw : (w : World) (n : ℕ) (b : Bool) → b ≡ nat_lt (w.clock + n) clock_end → nat_lt ((state_of w).raw.clock + n) clock_end ≡ b
-test_raw w n b h = ap (λ c. nat_lt (c + n) clock_end) (raw_clock w) ∙ sym h
-
+-- a line of a block
 pub quiet_by : (r : Result Machine Reason) (n : Machine) (out : List Line) (touched : ℕ → Bool) (b c : Block) → Done (quietly b r) ≡ Done (Does n out touched c) → r ≡ Ok n
 quiet_by (Ok m) n out touched b c h = let a : m ≡ n = cc in ap Ok a
 quiet_by (Err x) n out touched b c h = absurd cc
-
-module _ (old new : World) (n : ℕ) (b : Bool) where
-  pub clock_done : b ≡ nat_lt (old.clock + n) clock_end → b ≡ true → Later old new n → Lands (state_of old) (state_of new) (clocked (state_of old).raw n)
-  unfolding clocked
-  clock_done h t l =
-      let is = later_state old new n l in
-      record {
-        is = ap (clocked_if (state_of old).raw n) (test_raw old n b h ∙ t) ∙ ap (λ (v : State). Ok v.raw) (sym is);
-        rest = is ∙ ap (λ (v : State). with_raw (state_of old) v.raw) (sym is);
-      }
-
-  clock_line : b ≡ nat_lt (old.clock + n) clock_end → b ≡ true → Later old new n → Made (state_of old) (state_of new) no_block (events.Clock n)
-  unfolding calmed lined operate
-  clock_line h t l =
-      let d = clock_done h t l in
-      record { out = []; touched = nobody; block = no_block; is = ap (λ r. Done (quietly no_block r)) d.is; rest = d.rest }
-
-  pub clock_plain : Kept old → b ≡ nat_lt (old.clock + n) clock_end → b ≡ true → Later old new n → clocked (plain (state_of old)) n ≡ Ok (plain (state_of new))
-  unfolding lined operate
-  clock_plain kept h t l =
-      let m = clock_line h t l in
-      quiet_by (clocked (plain (state_of old)) n) (plain (state_of new)) m.out m.touched no_block m.block (made_plain (state_of old) (state_of new) no_block (events.Clock n) kept.sound m)
-
-  later_jobs : Later old new n → (k : ℕ) → (plain (state_of new)).jobs k ≡ (plain (state_of old)).jobs k
-  unfolding plain
-  later_jobs l k = ap (λ (v : State). (plain v).jobs k) (later_state old new n l)
-
-  pub clock_kept : Kept old → b ≡ nat_lt (old.clock + n) clock_end → b ≡ true → Later old new n → Kept new
-  clock_kept kept h t l = record {
-    sound = made_sound (state_of old) (state_of new) no_block (events.Clock n) kept.sound (clock_line h t l);
-    forest = made_forest (state_of old) (state_of new) no_block (events.Clock n) kept.sound kept.forest (clock_line h t l);
-    tidy = tidy_alike old new l.core l.jobs l.files kept.tidy;
-    addressed = λ k. subst (λ (o : Option Whole). IfSome o (λ q. q.job.pc < 2 ^ 18)) (sym (later_jobs l k)) (kept.addressed k);
-    consoled = λ k. subst (λ (o : Option Whole). IfSome o (λ q. IfSome q.job.console (λ c. c < 8))) (sym (later_jobs l k)) (kept.consoled k);
-    timed = made_timed (state_of old) (state_of new) no_block (events.Clock n) kept.sound kept.timed (clock_line h t l);
-  }
-
-pub clock_refused : (w : World) (n : ℕ) (b : Bool) → b ≡ nat_lt (w.clock + n) clock_end → b ≡ false → Refused (state_of w) (state_of w) (λ m. clocked m n) refusals.Range
-unfolding clocked
-clock_refused w n b h t = record {
-  plain = ap (λ c. clocked_if (plain (state_of w)) n (nat_lt (c + n) clock_end)) (plain_clock (state_of w)) ∙ ap (clocked_if (plain (state_of w)) n) (test_raw w n b h ∙ t);
-  raw = ap (clocked_if (state_of w).raw n) (test_raw w n b h ∙ t);
-  calmed = ap (clocked_if (state_of w).raw n) (test_raw w n b h ∙ t);
-}
 
 -- a world that is opened: no channel is open, and no file and no draft stands
 nothing_read : (f : ℕ) → tally (reads f) (λ k n. Closed) ≡ 0
@@ -260,25 +205,26 @@ unfolding mark_of
 nothing_marked = refl
 
 pub open_state : (w : World) → IsEmpty w.core → NoJobs w.jobs → ((k : ℕ) → frame_at w.frames.items k ≡ None)
-    → ((c : ℕ) → console_at w.consoles.items c ≡ quiet_console) → ((c : ℕ) → holder_at w.holders c ≡ None) → w.files ≡ no_files → w.clock ≡ 0 → state_of w ≡ no_state no_machine
+    → ((c : ℕ) → console_at w.consoles.items c ≡ quiet_console) → ((c : ℕ) → holder_at w.holders c ≡ None) → w.files ≡ no_files → w.clock ≡ 0 → w.version ≡ 1 → ((k : ℕ) → symbols_at w.symbols.items k ≡ []) → state_of w ≡ no_state no_machine
 unfolding state_of no_state no_machine
-open_state w e n f consoles holders files c = state_is _ _
-    (machine_is _ _ (λ k. ap (raw_of w.files (core_at w.core k) (superior_at w.jobs k)) (n.jobs k)) consoles holders (ap directory files) c)
+open_state w e n f consoles holders files c v symbols = state_is _ _
+    (machine_is _ _ (λ k. ap (raw_of w.files (core_at w.core k) (superior_at w.jobs k) (alarm_at w.alarms.items k)) (n.jobs k)) consoles holders (ap directory files) c v symbols)
     f (λ k. ap (option_map (λ (r : Reserved). r.clear)) (e.reserved k)) (ap mark_of files ∙ nothing_marked)
 
 pub open_kept : (w : World) → IsEmpty w.core → NoJobs w.jobs → ((k : ℕ) → frame_at w.frames.items k ≡ None)
-    → ((c : ℕ) → console_at w.consoles.items c ≡ quiet_console) → ((c : ℕ) → holder_at w.holders c ≡ None) → w.files ≡ no_files → w.clock ≡ 0 → Kept w
+    → ((c : ℕ) → console_at w.consoles.items c ≡ quiet_console) → ((c : ℕ) → holder_at w.holders c ≡ None) → w.files ≡ no_files → w.clock ≡ 0 → ((k : ℕ) → alarm_at w.alarms.items k ≡ None) → w.version ≡ 1 → ((k : ℕ) → symbols_at w.symbols.items k ≡ []) → Kept w
 unfolding no_machine
-open_kept w e n f consoles holders files c =
-    let is = open_state w e n f consoles holders files c in
+open_kept w e n f consoles holders files c alarms v symbols =
+    let is = open_state w e n f consoles holders files c v symbols in
     let machine : plain (state_of w) ≡ no_machine = ap plain is ∙ no_state_plain no_machine in
     record {
       sound = subst Sound (sym is) no_state_sound;
       forest = subst Forest (sym machine) forest_starts;
-      tidy = record { blank = λ k h. e.cores k; across = subst (λ s. Across s w.jobs) (sym files) (no_across w.jobs n) };
+      tidy = record { blank = λ k h. e.cores k; quiet = λ k h. alarms k; timed = subst (λ t. t < clock_end) (sym c) (lit< tt); across = subst (λ s. Across s w.jobs) (sym files) (no_across w.jobs n); nameless = λ k h. symbols k };
       addressed = λ k. subst (λ (m : Machine). IfSome (m.jobs k) (λ q. q.job.pc < 2 ^ 18)) (sym machine) (nobody_there k);
       consoled = λ k. subst (λ (m : Machine). IfSome (m.jobs k) (λ q. IfSome q.job.console (λ c. c < 8))) (sym machine) (none_there k);
       timed = subst (λ (m : Machine). m.clock < clock_end) (sym machine) (lit< tt);
+      alarmed = subst Alarmed (sym machine) alarmed_starts;
     }
   where
     nobody_there : (k : ℕ) → IfSome (no_machine.jobs k) (λ q. q.job.pc < 2 ^ 18)

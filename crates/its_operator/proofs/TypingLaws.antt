@@ -18,7 +18,7 @@ use Rattle.its_world.specs.declared.world.World.{World}
 use Rattle.its_world.proofs.StateLaws.{console_state}
 use Rattle.its_pclsr.proofs.ApartLaws.{tidy_alike}
 use Rattle.its_operator.specs.Kept.{Kept, Lands}
-use Rattle.its_operator.proofs.KeptLaws.{Made, made_sound, made_plain, made_forest, made_timed}
+use Rattle.its_operator.proofs.KeptLaws.{Made, made_sound, made_plain, made_forest, made_timed, made_alarmed}
 
 -- a console of the state is that of the world
 pub type_room : (w : World) (c : ℕ) (r : Bool) → (IsTrue r ↔ (length (console_at w.consoles.items c).input < most_waiting))
@@ -62,10 +62,11 @@ module _ (old new : World) (c : ℕ) (f : Console → Console) (e : Event) (out 
   kept_done kept = record {
     sound = made_sound (state_of old) (state_of new) no_block e kept.sound made;
     forest = made_forest (state_of old) (state_of new) no_block e kept.sound kept.forest made;
-    tidy = tidy_alike old new b.core b.jobs b.files kept.tidy;
+    tidy = tidy_alike old new b.core b.jobs b.files b.alarms b.clock b.symbols kept.tidy;
     addressed = λ k. subst (λ (m : Machine). IfSome (m.jobs k) (λ q. q.job.pc < 2 ^ 18)) (sym (plain_done kept)) (kept.addressed k);
     consoled = λ k. subst (λ (m : Machine). IfSome (m.jobs k) (λ q. IfSome q.job.console (λ c. c < 8))) (sym (plain_done kept)) (kept.consoled k);
     timed = made_timed (state_of old) (state_of new) no_block e kept.sound kept.timed made;
+    alarmed = made_alarmed (state_of old) (state_of new) no_block e kept.sound kept.forest kept.alarmed made;
   }
 
 -- TYPE

@@ -27,12 +27,12 @@ use Rattle.its_stepped.proofs.FrameLaws.{seen_present}
 use Rattle.its_stepped.proofs.LineLaws.{job_here}
 use Rattle.its_stepped.proofs.RefusalLaws.{error_of, deposited_alike}
 use Rattle.its_stepped.proofs.UnwindLaws.{unwound_plain, unwound_none}
-use Rattle.its_world.specs.World.{state_of, in_raw, frame_at, Becomes, CoreBecomes}
+use Rattle.its_world.specs.World.{alarm_at, state_of, in_raw, frame_at, Becomes, CoreBecomes}
 use Rattle.its_world.specs.declared.world.World.{World}
 use Rattle.its_world.proofs.StateLaws.{raw_job, job_of, changed_state}
 use Rattle.its_pclsr.proofs.ApartLaws.{tidy_core}
 use Rattle.its_operator.specs.Kept.{Kept, Lands, Refused, Calm, Calmed, reason_of, refusal_of, undepositable}
-use Rattle.its_operator.proofs.KeptLaws.{refused_by, Made, made_sound, made_plain, made_forest, made_timed, Lasts, kept_lasts, put_lasts, lasts_address, lasts_console}
+use Rattle.its_operator.proofs.KeptLaws.{refused_by, Made, made_sound, made_plain, made_forest, made_timed, made_alarmed, Lasts, kept_lasts, put_lasts, lasts_address, lasts_console}
 use Rattle.its_operator.proofs.RegisterLaws.{raw_is, raw_is_none, placed_lands, disturbed}
 
 -- EXAM is refused alike, with a frame and without
@@ -113,10 +113,10 @@ stored_becomes mid new s j c h b =
     changed_state mid new s c j j (λ q. record q { core = c }) (subst (λ (o : Option Job). Becomes mid new s c o (frame_at mid.frames.items s) (clear_at mid.core s)) h b) h refl
 
 pub core_lands : (old mid new : World) (s : ℕ) (j : Job) (c : Core) (r : State → Result Machine Reason) → Calm old mid s j → CoreBecomes mid new s c
-    → r (state_of mid) ≡ with_core (state_of mid).raw s (raw_job mid.files (core_at mid.core s) j (superior_at mid.jobs s)) (Ok c) → Lands (unwound (state_of old) s) (state_of new) (r (unwound (state_of old) s))
+    → r (state_of mid) ≡ with_core (state_of mid).raw s (raw_job mid.files (core_at mid.core s) j (superior_at mid.jobs s) (alarm_at mid.alarms.items s)) (Ok c) → Lands (unwound (state_of old) s) (state_of new) (r (unwound (state_of old) s))
 core_lands old mid new s j c r calm b is =
     subst (λ (v : State). Lands v (state_of new) (r v)) calm.unwinds
-    (placed_lands (state_of mid) (state_of new) s (raw_job mid.files (core_at mid.core s) j (superior_at mid.jobs s)) (λ q. record q { core = c }) (r (state_of mid)) (raw_is mid s j calm.job)
+    (placed_lands (state_of mid) (state_of new) s (raw_job mid.files (core_at mid.core s) j (superior_at mid.jobs s) (alarm_at mid.alarms.items s)) (λ q. record q { core = c }) (r (state_of mid)) (raw_is mid s j calm.job)
     (stored_becomes mid new s j c calm.job b) is)
 
 pub core_lasts : (m n : Machine) (s : ℕ) (q : Whole) (r : Result Core Reason) → m.jobs s ≡ Some q → with_core m s q r ≡ Ok n → Lasts m → Lasts n
@@ -134,12 +134,13 @@ core_kept e b old mid new s j c kept calm r made a = record {
   addressed = a.addressed;
   consoled = a.consoled;
   timed = made_timed (state_of old) (state_of new) b e kept.sound kept.timed made;
+  alarmed = made_alarmed (state_of old) (state_of new) b e kept.sound kept.forest kept.alarmed made;
 }
 
 -- DEPOSIT
 deposited_on : (w : World) (s a x : ℕ) (j : Job) → job_at w.jobs s ≡ Some j
     → deposited (state_of w).raw s a x
-    ≡ with_core (state_of w).raw s (raw_job w.files (core_at w.core s) j (superior_at w.jobs s)) (deposited_in (core_at w.core s) a x (can_store (core_at w.core s) a) (is_some (word_at (core_at w.core s) a)))
+    ≡ with_core (state_of w).raw s (raw_job w.files (core_at w.core s) j (superior_at w.jobs s) (alarm_at w.alarms.items s)) (deposited_in (core_at w.core s) a x (can_store (core_at w.core s) a) (is_some (word_at (core_at w.core s) a)))
 unfolding deposited
 deposited_on w s a x j h =
     ap (on_job (state_of w).raw s (λ q. with_core (state_of w).raw s q (deposited_in q.core a x (can_store q.core a) (is_some (word_at q.core a))))) (raw_is w s j h)
@@ -157,7 +158,7 @@ module _ (old mid new : World) (s a x : ℕ) where
       → Lands (unwound (state_of old) s) (state_of new) (deposited (unwound (state_of old) s).raw s a x)
   deposit_done kept c can r = core_lands old mid new s c.job (store (core_at mid.core s) a x) (λ v. deposited v.raw s a x) c.calm r
       (deposited_on mid s a x c.job c.calm.job
-      ∙ ap (λ b. with_core (state_of mid).raw s (raw_job mid.files (core_at mid.core s) c.job (superior_at mid.jobs s)) (deposited_in (core_at mid.core s) a x b (is_some (word_at (core_at mid.core s) a)))) can)
+      ∙ ap (λ b. with_core (state_of mid).raw s (raw_job mid.files (core_at mid.core s) c.job (superior_at mid.jobs s) (alarm_at mid.alarms.items s)) (deposited_in (core_at mid.core s) a x b (is_some (word_at (core_at mid.core s) a)))) can)
 
   deposit_made : Kept old → Calmed old mid s → can_store (core_at mid.core s) a ≡ true → CoreBecomes mid new s (store (core_at mid.core s) a x)
       → Made (state_of old) (state_of new) no_block (events.Deposit s a x)
@@ -212,7 +213,7 @@ pub deposit_refused : (w : World) (s a x : ℕ) (o : Option Refusal) (r : Refusa
 deposit_refused w s a x o r some is e kept =
     let had = job_of (job_at w.jobs s) some in
     refused_by (λ m. deposited m s a x) (state_of w) s r (λ u. deposited_alike u s a x) kept.sound
-    (deposited_on w s a x had.0 had.1 ∙ barred (state_of w).raw s (raw_job w.files (core_at w.core s) had.0 (superior_at w.jobs s)) (core_at w.core s) a x (can_store (core_at w.core s) a) (is_some (word_at (core_at w.core s) a)) r (sym is ∙ e))
+    (deposited_on w s a x had.0 had.1 ∙ barred (state_of w).raw s (raw_job w.files (core_at w.core s) had.0 (superior_at w.jobs s) (alarm_at w.alarms.items s)) (core_at w.core s) a x (can_store (core_at w.core s) a) (is_some (word_at (core_at w.core s) a)) r (sym is ∙ e))
 
 pub deposit_none : (w : World) (s a x : ℕ) (r : Refusal) → r ≡ refusals.NoJob → job_at w.jobs s ≡ None → Kept w → Refused (state_of w) (unwound (state_of w) s) (λ m. deposited m s a x) r
 unfolding deposited
@@ -233,8 +234,8 @@ pub deposit_can : (old mid : World) (s a : ℕ) (o : Option Refusal) → Kept ol
     → o ≡ undepositable (can_store (core_at old.core s) a) (is_some (word_at (core_at old.core s) a)) → o ≡ None → can_store (core_at mid.core s) a ≡ true
 deposit_can old mid s a o kept some c is e =
     let had = job_of (job_at old.jobs s) some in
-    can_by (state_of mid).raw s (raw_job mid.files (core_at mid.core s) c.job (superior_at mid.jobs s)) (core_at mid.core s) a 0 (can_store (core_at mid.core s) a) (is_some (word_at (core_at mid.core s) a))
+    can_by (state_of mid).raw s (raw_job mid.files (core_at mid.core s) c.job (superior_at mid.jobs s) (alarm_at mid.alarms.items s)) (core_at mid.core s) a 0 (can_store (core_at mid.core s) a) (is_some (word_at (core_at mid.core s) a))
     (ap error_of (sym (deposited_on mid s a 0 c.job c.calm.job)) ∙ sym (deposited_alike (state_of mid) s a 0)
     ∙ ap (λ (v : State). error_of (deposited (plain v) s a 0)) c.calm.unwinds ∙ ap (λ m. error_of (deposited m s a 0)) (unwound_plain (state_of old) s kept.sound)
     ∙ deposited_alike (state_of old) s a 0 ∙ ap error_of (deposited_on old s a 0 had.0 had.1)
-    ∙ allowed (state_of old).raw s (raw_job old.files (core_at old.core s) had.0 (superior_at old.jobs s)) (core_at old.core s) a 0 (can_store (core_at old.core s) a) (is_some (word_at (core_at old.core s) a)) (sym is ∙ e))
+    ∙ allowed (state_of old).raw s (raw_job old.files (core_at old.core s) had.0 (superior_at old.jobs s) (alarm_at old.alarms.items s)) (core_at old.core s) a 0 (can_store (core_at old.core s) a) (is_some (word_at (core_at old.core s) a)) (sym is ∙ e))

@@ -14,6 +14,7 @@ use Rattle.its_plain.specs.OperatorClock.{clock_end}
 use Rattle.its_plain.specs.Machine.{Machine}
 use Rattle.its_stepped.specs.State.{State, plain}
 use Rattle.its_stepped.specs.Sound.{Sound}
+use Rattle.its_stepped.specs.Alarmed.{Alarmed}
 use Rattle.its_stepped.specs.Forest.{Forest}
 use Rattle.its_stepped.specs.Lines.{with_raw}
 use Rattle.its_stepped.specs.Unwind.{unwound, help}
@@ -25,7 +26,7 @@ use Rattle.its_world.specs.declared.world.World.{World}
 
 -- the state is sound, and the jobs of its plain machine are a forest; files and drafts have the channels that they say, and
 -- the core of an empty slot is that of no job; the PC of each job of the plain machine is an address, and its console is one
--- of eight; and the clock is below its end
+-- of eight; the clock is below its end, and each alarm is to come
 pub record Kept (w : World) : Type 0 where
   pub sound : Sound (state_of w)
   pub forest : Forest (plain (state_of w))
@@ -33,6 +34,7 @@ pub record Kept (w : World) : Type 0 where
   pub addressed : (k : ℕ) → IfSome ((plain (state_of w)).jobs k) (λ q. q.job.pc < 2 ^ 18)
   pub consoled : (k : ℕ) → IfSome ((plain (state_of w)).jobs k) (λ q. IfSome q.job.console (λ c. c < 8))
   pub timed : (plain (state_of w)).clock < clock_end
+  pub alarmed : Alarmed (plain (state_of w))
 
 -- state v after a line that comes to a raw machine: its frames, reserved pages and mark stay
 pub record Lands (v new : State) (r : Result Machine Reason) : Type 0 where
@@ -97,22 +99,15 @@ undepositable can there = if can then None else (if there then Some refusals.Rea
 abbrev pub unloadable : Bool → Bool → Bool → Option Refusal
 unloadable can there room = if can then None else (if there then Some refusals.ReadOnly else (if room then None else Some refusals.Full))
 
--- the raw machine of a world is another, with the same cores, jobs and files
+-- the raw machine of a world is another, with the same cores, jobs, files, clock and alarms
 pub record Alters (old new : World) (m : Machine) : Type 0 where
   pub state : state_of new ≡ with_raw (state_of old) m
   pub core : new.core ≡ old.core
   pub jobs : new.jobs ≡ old.jobs
   pub files : new.files ≡ old.files
-
--- the clock of a world gained n
-pub record Later (old new : World) (n : ℕ) : Type 0 where
-  pub core : new.core ≡ old.core
-  pub jobs : new.jobs ≡ old.jobs
-  pub frames : new.frames ≡ old.frames
-  pub consoles : new.consoles ≡ old.consoles
-  pub holders : new.holders ≡ old.holders
-  pub files : new.files ≡ old.files
-  pub clock : new.clock ≡ old.clock + n
+  pub symbols : new.symbols ≡ old.symbols
+  pub clock : new.clock ≡ old.clock
+  pub alarms : new.alarms ≡ old.alarms
 
 -- of a world the owed parts of a close are made, and nothing else: jobs, cores, pages and the frames in which they stand are as they
 -- were

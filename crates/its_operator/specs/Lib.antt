@@ -1,3 +1,4 @@
 pub mod Kept
 pub mod Filing
 pub mod Peeking
+pub mod Rung

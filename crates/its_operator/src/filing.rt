@@ -147,6 +147,13 @@ fn help(w: &mut World)
     ensures { Helped w.old w.new }
 {
     w.files.seen();
+    make_parts(w);
+}
+
+/// The same of the files alone.
+fn make_parts(w: &mut World)
+    ensures { CloseMade w.old w.new }
+{
     w.files.help();
 }
 

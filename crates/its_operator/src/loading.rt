@@ -4,19 +4,15 @@ ghost use Rattle.its_word.specs.Tree.{least_free};
 ghost use Rattle.its_jobs.specs.Table.{job_at};
 ghost use Rattle.its_plain.specs.Machine.{no_machine};
 ghost use Rattle.its_plain.specs.OperatorJobs.{loaded, with_holder};
-ghost use Rattle.its_plain.specs.OperatorClock.{clocked, clock_end};
 ghost use Rattle.its_stepped.specs.State.{plain, no_state};
 ghost use Rattle.its_world.specs.World.{state_of};
-ghost use Rattle.its_operator.specs.Kept.{Kept, Lands, Loads, Refused, Alters, Later};
+ghost use Rattle.its_operator.specs.Kept.{Kept, Loads, Refused, Alters};
 ghost use Rattle.its_world.specs.Made.{JobMade};
 
 use its_jobs::NoSlot;
 use its_word::{NoMemory, Refusal, Word};
 use its_world::World;
 use std::alloc::Global;
-
-/// The clock stays below this many thirtieths.
-const CLOCK_END: u64 = 0o200000000000;
 
 /// The world at the start of a session. Takes all the memory that it needs.
 #[tactic(auto, using(crate::proofs::StartLaws::open_state, crate::proofs::StartLaws::open_kept))]
@@ -28,7 +24,7 @@ pub fn open(alloc: Global) -> Result<World, NoMemory>
 }
 
 /// LOAD: makes a stopped job with these names and this console in the least free slot, which it answers.
-/// It becomes the holder of its console, where that has none. Full where all 64 slots have a job.
+/// It becomes the holder of its console, where that has none. Full where all slots below the limit have a job.
 #[tactic(auto, using(crate::proofs::StartLaws::load_done, crate::proofs::StartLaws::load_plain, crate::proofs::StartLaws::load_kept, crate::proofs::StartLaws::load_full))]
 pub fn load_job(w: &mut World, u: Word, j: Word, console: Option<u8>) -> Result<u8, Refusal>
     requires console { IfSome console (λ c. c < 8) }
@@ -52,9 +48,9 @@ pub fn load_job(w: &mut World, u: Word, j: Word, console: Option<u8>) -> Result<
 
 /// Makes a job in the least free slot.
 fn make(w: &mut World, u: Word, j: Word, console: Option<u8>) -> Result<u8, NoSlot>
-    ensures slot { IfOk result (λ s. (least_free (job_at w.old.jobs) ≡ Some s) × (s < slots)) }
+    ensures slot { IfOk result (λ s. (least_free w.old.jobs.limit (job_at w.old.jobs) ≡ Some s) × (s < slots)) }
     ensures made { IfOk result (λ s. JobMade w.old w.new s u j None console) }
-    ensures full { OnErr result (least_free (job_at w.old.jobs) ≡ None) }
+    ensures full { OnErr result (least_free w.old.jobs.limit (job_at w.old.jobs) ≡ None) }
     ensures same { OnErr result (w.new ≡ w.old) }
 {
     match w.jobs.create(u, j, None, console) {
@@ -86,38 +82,4 @@ fn hold_free(w: &mut World, slot: u8, c: u8)
         Some(_) => {}
         None => w.hold(c, Some(slot)),
     }
-}
-
-/// CLOCK: the clock gains n thirtieths. Range where it would come to 2^34.
-#[tactic(auto, using(crate::proofs::StartLaws::clock_done, crate::proofs::StartLaws::clock_plain, crate::proofs::StartLaws::clock_kept, crate::proofs::StartLaws::clock_refused))]
-pub fn advance(w: &mut World, n: u64) -> Result<(), Refusal>
-    requires kept { Kept w.old }
-    ensures done { OnOk result (Lands (state_of w.old) (state_of w.new) (clocked (state_of w.old).raw n)) }
-    ensures plain { OnOk result (clocked (plain (state_of w.old)) n ≡ Ok (plain (state_of w.new))) }
-    ensures refused { IfErr result (λ e. Refused (state_of w.old) (state_of w.old) (λ m. clocked m n) e) }
-    ensures same { OnErr result (w.new ≡ w.old) }
-    ensures core { w.new.core ≡ w.old.core }
-    ensures kept { Kept w.new }
-{
-    if in_time(w.clock, n) {
-        gain(w, n);
-        Ok(())
-    } else {
-        Err(Refusal::Range)
-    }
-}
-
-/// Whether a clock that gains n thirtieths stays below its end.
-fn in_time(clock: u64, n: u64) -> bool
-    ensures { result ≡ nat_lt (clock + n) clock_end }
-{
-    clock < CLOCK_END && n < CLOCK_END - clock
-}
-
-/// The clock gains n thirtieths.
-fn gain(w: &mut World, n: u64)
-    requires room { w.old.clock + n < clock_end }
-    ensures { Later w.old w.new n }
-{
-    w.clock += n;
 }

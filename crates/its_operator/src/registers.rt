@@ -9,6 +9,7 @@ ghost use Rattle.its_world.specs.World.{state_of};
 ghost use Rattle.its_pclsr.specs.Apart.{CoresOff};
 ghost use Rattle.its_operator.specs.Kept.{Kept, Lands, Refused, Calm};
 
+use super::symbols::near;
 use its_pclsr::unwind;
 use its_word::{FATAL, Job, JobShow, Refusal, Word, pc_word};
 use its_world::World;
@@ -103,7 +104,8 @@ pub fn state(w: &mut World, slot: u8) -> Result<JobShow, Refusal>
 {
     let job = calmed(w, slot)?;
     let superior = w.jobs.superior(slot);
-    Ok(shown(&job, superior))
+    let symbol = near(w, slot, job.pc);
+    Ok(shown(&job, superior, symbol))
 }
 
 /// The registers of a slot's job, which is unwound first. NoJob where the slot is empty.
@@ -148,9 +150,9 @@ fn interrupted(job: Job, v: Word, x: Word) -> Job
     }
 }
 
-/// What STATE shows of a job with this superior.
-fn shown(job: &Job, superior: Option<u8>) -> JobShow
-    ensures { result ≡ shown job.now superior }
+/// What STATE shows of a job with this superior and this nearest symbol.
+fn shown(job: &Job, superior: Option<u8>, symbol: Option<(Word, u32)>) -> JobShow
+    ensures { result ≡ shown job.now superior symbol }
 {
     JobShow {
         u: job.uname,
@@ -165,5 +167,6 @@ fn shown(job: &Job, superior: Option<u8>) -> JobShow
         m2: job.mask2,
         d1: job.defer1,
         d2: job.defer2,
+        symbol,
     }
 }

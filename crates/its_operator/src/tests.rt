@@ -3,8 +3,9 @@ ghost use Rattle.its_word.specs.Limits.{slots};
 ghost use Rattle.its_operator.specs.Kept.{Kept};
 
 use super::{
-    advance, cont, deposit, dir, drain, exam, file, file_add, file_length, file_new, file_word, go,
-    interrupt, load_job, load_word, open, peek, state, stop, type_in,
+    advance, barred, cont, deposit, dir, drain, exam, file, file_add, file_length, file_new,
+    file_word, go, interrupt, load_job, load_word, open, peek, read_only, state, stop, symbol,
+    type_in, version,
 };
 use its_word::{FileShow, JobShow, Peek, PeekState, Refusal, SLOTS, Word};
 use its_world::World;
@@ -24,6 +25,10 @@ enum Line {
     Exam(u32),
     State,
     Peek,
+    Version(u8),
+    ReadOnly(u8),
+    Barred(u32),
+    Symbol(u64, u32),
     Clock(u64),
     Type(u8, u8),
     Drain(u8),
@@ -43,6 +48,7 @@ enum Answer {
     State(JobShow),
     Peek(Peek),
     Waits(bool),
+    Barred(bool),
     Byte(Option<u8>),
     Length(Option<u32>),
     Read(Option<Word>),
@@ -116,6 +122,23 @@ fn run_line(rt: &impl Abort, w: &mut World, slot: u8, line: Line) -> Result<Answ
             let show = peek(w, slot)?;
             Ok(Answer::Peek(show))
         }
+        Line::Version(v) => {
+            assert!(rt; v == 2);
+            version(w, v);
+            Ok(Answer::Done)
+        }
+        Line::ReadOnly(page) => {
+            read_only(w, slot, page)?;
+            Ok(Answer::Done)
+        }
+        Line::Barred(a) => {
+            assert!(rt; a < 0o777777);
+            Ok(Answer::Barred(barred(w, slot, a, 2)))
+        }
+        Line::Symbol(name, a) => {
+            symbol(w, slot, Word::new(name), a)?;
+            Ok(Answer::Done)
+        }
         Line::Clock(n) => {
             advance(w, n)?;
             Ok(Answer::Done)
@@ -173,6 +196,26 @@ fn shown(run: bool, p1: u64, p2: u64) -> Answer {
         m2: Word::ZERO,
         d1: Word::ZERO,
         d2: Word::ZERO,
+        symbol: None,
+    })
+}
+
+/// What STATE shows of a job that LOAD made, with this nearest symbol.
+fn near(symbol: Option<(u64, u32)>) -> Answer {
+    Answer::State(JobShow {
+        u: Word::new(7),
+        j: Word::new(0o107),
+        sup: None,
+        con: None,
+        run: false,
+        pc: Word::new(0o010000_000000),
+        p1: Word::ZERO,
+        p2: Word::ZERO,
+        m1: Word::ZERO,
+        m2: Word::ZERO,
+        d1: Word::ZERO,
+        d2: Word::ZERO,
+        symbol: symbol.map(|(name, at)| (Word::new(name), at)),
     })
 }
 
@@ -203,6 +246,7 @@ fn session(rt: HostRuntime) -> Result<(), Fail> {
     };
     let mut w = open(rt.alloc())?;
     for (slot, line, want) in [
+        (0, Line::Version(2), Ok(Answer::Done)),
         (0, Line::Go(0o2000), Err(Refusal::NoJob)),
         (0, Line::Load(Some(3)), Ok(Answer::Slot(0))),
         (0, Line::Load(None), Ok(Answer::Slot(1))),
@@ -249,6 +293,23 @@ fn session(rt: HostRuntime) -> Result<(), Fail> {
         (0, Line::Read(1, 2, 1), Ok(read(0o20))),
         (0, Line::Read(1, 2, 2), Ok(Answer::Read(None))),
         (0, Line::Read(3, 3, 0), Err(Refusal::NoFile)),
+        (0, Line::Barred(0o1777), Ok(Answer::Barred(false))),
+        (0, Line::ReadOnly(2), Err(Refusal::NoPage)),
+        (0, Line::ReadOnly(1), Ok(Answer::Done)),
+        (0, Line::Barred(0o1777), Ok(Answer::Barred(true))),
+        (0, Line::Barred(0o4000), Ok(Answer::Barred(false))),
+        (95, Line::Barred(0o1777), Ok(Answer::Barred(false))),
+        (0, Line::Word(0o2000, 1), Err(Refusal::ReadOnly)),
+        (0, Line::Deposit(0o2000, 1), Err(Refusal::ReadOnly)),
+        (0, Line::Exam(0o2000), Ok(Answer::Word(0o42))),
+        (95, Line::ReadOnly(1), Err(Refusal::NoJob)),
+        (95, Line::Symbol(1, 0), Err(Refusal::NoJob)),
+        (1, Line::Symbol(1, 1), Ok(Answer::Done)),
+        (1, Line::State, Ok(near(None))),
+        (1, Line::Symbol(2, 0), Ok(Answer::Done)),
+        (1, Line::State, Ok(near(Some((2, 0))))),
+        (1, Line::Symbol(3, 0), Ok(Answer::Done)),
+        (1, Line::State, Ok(near(Some((3, 0))))),
     ] {
         assert!(rt; usize::from(slot) < SLOTS);
         let got = run_line(&rt, &mut w, slot, line);

@@ -198,7 +198,7 @@ fn reserve_zeros(core: &mut Core, slot: u8)
 
 /// Unwinds the job of a slot.
 #[tactic(auto, using(crate::proofs::KeptLaws::unwound_calm))]
-fn calm(w: &mut World, slot: u8)
+pub fn calm(w: &mut World, slot: u8)
     requires slot { slot < slots }
     requires some { is_some (job_at w.old.jobs slot) ≡ true }
     requires kept { Kept w.old }
@@ -208,7 +208,7 @@ fn calm(w: &mut World, slot: u8)
 }
 
 /// NoJob where a slot is empty.
-fn present(w: &World, slot: u8) -> Result<(), Refusal>
+pub fn present(w: &World, slot: u8) -> Result<(), Refusal>
     requires slot { slot < slots }
     ensures refused { IfErr result (λ e. (e ≡ Refusal.NoJob) × (job_at w.now.jobs slot ≡ None)) }
     ensures some { OnOk result (is_some (job_at w.now.jobs slot) ≡ true) }

@@ -36,7 +36,7 @@ within_list [] k b h = cc
 within_list (x ∷ xs) zero b h = omega arith
 within_list (x ∷ xs) (suc k) b h = let rest = within_list xs k b h in omega arith
 
-few_below : (sup : ℕ → Option ℕ) (s : ℕ) → length (slots_below sup s) ≤ 64
+few_below : (sup : ℕ → Option ℕ) (s : ℕ) → length (slots_below sup s) ≤ slots
 unfolding slots_below
 few_below sup s =
     let a = length-filter (is_below sup s) (range_with_len 0 slots) in
@@ -44,7 +44,7 @@ few_below sup s =
     let c = length-range_with_len 0 slots in
     omega arith
 
-pub within_below : (sup : ℕ → Option ℕ) (s k b : ℕ) → Some b ≡ slice_get (slots_below sup s) k → k < 64
+pub within_below : (sup : ℕ → Option ℕ) (s k b : ℕ) → Some b ≡ slice_get (slots_below sup s) k → k < slots
 within_below sup s k b h = let in_list = within_list (slots_below sup s) k b (sym h) in let few = few_below sup s in omega arith
 
 -- k of them are done

@@ -16,11 +16,11 @@ use Rattle.its_frame.specs.declared.decision.Decision.TheVariants.{Waits, Goes, 
 use Rattle.its_frame.specs.declared.decision.Wait.TheVariants.{Input, Output}
 use Rattle.its_frame.specs.declared.variable.Variable.{Variable}
 use Rattle.its_plain.specs.Arguments.{input, has_input, place_of_input}
-use Rattle.its_plain.specs.CallBasic.{negated, sleep_tests, sleep, dismissed_by, dismiss_at, dismiss, Party, Oneself, Nobody, Channel, variable_named, by_oneself, by_superior, channel_at, party, set_own, own_variable, set_other, value_of_other, other_variable, usrvar_of, usrvar, told_superior}
+use Rattle.its_plain.specs.CallBasic.{negated, sleep_tests, sleep, dismissed_by, dismiss_at, dismiss, Party, Oneself, Nobody, Channel, variable_named, by_oneself, by_superior, channel_at, party, set_own, own_variable, set_other, value_of_other, other_variable, usrvar_of, usrvar, told_superior, is_negative, longest_period, alarm_of, realt}
 use Rattle.its_plain.specs.CallTty.{console_of, has_console, is_other, input_waits, output_waits, first_typed, shown_byte, is_shut, opens_on, open_tests, opens, store_tests, read_tests, word_of, iot_ends, iot_in, iot_out, siot_tests, siot_in, siot_out, siot_by, can_take, is_holder, lands, ttylnd_of, ttylnd}
 use Rattle.its_plain.specs.Change.{channel_in}
 use Rattle.its_plain.specs.Interrupt.{dismissed}
-use Rattle.its_plain.specs.Machine.{Names, File, Chan, Shut, TtyIn, TtyOut, Reads, Writes, On, Console, Whole}
+use Rattle.its_plain.specs.Machine.{Names, File, Chan, Shut, TtyIn, TtyOut, Reads, Writes, On, Console, Whole, limit}
 use Rattle.its_plain.specs.Own.{names_of}
 use Rattle.its_plain.specs.CallFile.{most_files, channels_by, channels_in, is_full, has_file, is_read, words_of, names_from, is_output, opens_as, disk_tests, opens_disk, closes_draft, iot_read, siot_read, siot_write, access_on, access, file_tests, delete, rename, access_to, end_of_core}
 use Rattle.its_plain.specs.OperatorFiles.{channels_of}
@@ -76,6 +76,7 @@ pub record Sees (x : View) (v : State) (j : ℕ) : Type 0 where
   pub job : v.raw.jobs j ≡ Some x.own
   pub files : x.files ≡ v.raw.files
   pub outlines : x.outlines ≡ (λ k. option_map outline (v.raw.jobs k))
+  pub limit : x.limit ≡ limit v.raw
 
 -- the channels that a call sees are those of the machine
 channels_seen_by : (o : Option Whole) → channels_by (option_map outline o) ≡ channel_in o
@@ -133,6 +134,12 @@ unfolding sleep
 sleep_can j v x a =
     first_holds (Can j v) (sleep_tests x a (input a 0) (place_of_input a 0)) (goes [] None (negated (x.clock + input a 0) ∷ []))
     (λ t. tt, (λ t. tt, (λ t. tt, (λ t. tt, (λ t. tt, (λ t. tt, tt)))))) (λ t. tt)
+
+pub realt_can : (j : ℕ) (v : State) (x : View) (a : Ask) → Can j v (realt x a)
+unfolding realt
+realt_can j v x a =
+    first_holds (Can j v) ((is_negative (input a 0) || nat_lt longest_period (input a 0)) ⇒ fails x a 0o22 ∷ []) (finishes x (changes.Arm (alarm_of x.clock (input a 0)) ∷ []) [])
+    (λ t. tt, tt) (λ t. (tt, tt))
 
 dismissed_can : (j : ℕ) (v : State) (x : View) (p w : ℕ) (r : Result Exit Fault) → Can j v (dismissed_by x p w r)
 dismissed_can j v x p w (Ok e) = tt

@@ -1,5 +1,5 @@
 -- Each change in code is its effect on the state.
-use Rattle.std.specs.Prelude.{◌≡◌, ◌<◌, ◌+◌, ◌%◌, ◌^◌, ℕ, suc, Bool, true, length, Option, Some, None, IsSome, is_some, List, [], ◌∷◌, ◌++◌, slice_index_or, refl}
+use Rattle.std.specs.Prelude.{◌≡◌, ◌<◌, ◌+◌, ◌%◌, ◌^◌, ℕ, suc, Bool, true, false, length, Option, Some, None, IsSome, is_some, List, [], ◌∷◌, ◌++◌, slice_index_or, refl}
 use Rattle.std.proofs.Common.{sym, ap, ◌∙◌, subst, arith, drop, drop-cons}
 use Rattle.its_word.specs.Console.{most_waiting}
 use Rattle.its_word.specs.Core.{Core, no_core, zero_page, page_of, with_page, marked, can_store, store, pages_mapped}
@@ -8,7 +8,7 @@ use Rattle.its_word.specs.Stores.{stored}
 use Rattle.its_word.specs.Tree.{least_free, fresh_job}
 use Rattle.its_word.specs.declared.jobs.Channel.TheVariants as channels
 use Rattle.its_word.specs.declared.jobs.Job.{Job}
-use Rattle.its_word.proofs.FreeLaws.{least_empty}
+use Rattle.its_word.proofs.FreeLaws.{least_empty, none_is}
 use Rattle.its_core.specs.Cores.{core_at, clear_at}
 use Rattle.its_files.specs.Files.{Store}
 use Rattle.its_jobs.specs.Table.{job_at, superior_at}
@@ -16,10 +16,10 @@ use Rattle.its_frame.specs.declared.change.Change.{Change}
 use Rattle.its_frame.specs.declared.change.Change.TheVariants as changes
 use Rattle.its_frame.specs.declared.variable.Variable.{Variable}
 use Rattle.its_frame.specs.declared.variable.Variable.TheVariants.{Uname, Jname, Uind, Suppro, Cnsl, Pages, Upc, Ustp, Pirqc, Ifpir, Mask, Msk2, Df1, Df2}
-use Rattle.its_plain.specs.Change.{with_inf, taken_from, put_to, on_console, poke, console_in, with_page_at, protected, effect}
+use Rattle.its_plain.specs.Change.{with_alarm, with_inf, taken_from, put_to, on_console, poke, console_in, with_page_at, protected, effect}
 use Rattle.its_plain.specs.Job.{INF, with_pending}
 use Rattle.its_plain.specs.Own.{with_registers, with_stores, with_variable}
-use Rattle.its_plain.specs.Machine.{Shut, Whole, whole, with_job, core_of, mapped}
+use Rattle.its_plain.specs.Machine.{Shut, Whole, whole, with_job, core_of, mapped, limit}
 use Rattle.its_stepped.specs.Lines.{with_raw}
 use Rattle.its_stepped.specs.State.{State}
 use Rattle.its_stepped.specs.Commit.{effect_on, effects_on}
@@ -32,10 +32,11 @@ use Rattle.its_world.specs.Made.{JobMade}
 use Rattle.its_world.specs.Mapped.{PageMapped}
 use Rattle.its_world.specs.Storage.{HasJob, chan_in, IsElsewhere}
 use Rattle.its_world.specs.Tidy.{channel_at, Tidy}
-use Rattle.its_world.specs.World.{state_of, bare, chan_of, raw_of, frame_at, in_raw, console_at, with_frames, Becomes, CoreBecomes, JobBecomes, ConsoleBecomes}
+use Rattle.its_world.specs.World.{alarm_at, AlarmBecomes, state_of, bare, chan_of, raw_of, frame_at, in_raw, console_at, with_frames, Becomes, CoreBecomes, JobBecomes, ConsoleBecomes}
 use Rattle.its_world.specs.declared.world.World.{World}
 use Rattle.its_world.proofs.MappedLaws.{core_raw, mapped_raw, mapped_state, mapped_tidy, frames_tidy}
-use Rattle.its_world.proofs.MadeLaws.{made_state, made_tidy, least_raw, least_blank}
+use Rattle.its_world.proofs.AlarmLaws.{alarm_tidy}
+use Rattle.its_world.proofs.MadeLaws.{made_state, made_tidy, least_raw, least_blank, least_quiet}
 use Rattle.its_world.proofs.StorageLaws.{chan_shut, has_job}
 use Rattle.its_world.proofs.StateLaws.{raw_job, job_of, changed_state, absent_state, console_state, frames_state}
 
@@ -81,15 +82,15 @@ same_channels Suppro v j = refl
 same_channels Cnsl v j = refl
 same_channels Pages v j = refl
 
-raw_variable : (files : Store) (c : Core) (sup : Option ℕ) (j i k : Job) → k ≡ bare i → j.channels ≡ i.channels
-    → record { core = c; job = k; superior = sup; channels = λ n. chan_of files (slice_index_or j.channels n channels.Closed) } ≡ raw_job files c i sup
-raw_variable files c sup j i k e f = λ t. record { core = c; job = e t; superior = sup; channels = λ n. chan_of files (slice_index_or (f t) n channels.Closed) }
+raw_variable : (files : Store) (c : Core) (sup : Option ℕ) (a : Option (ℕ × ℕ)) (j i k : Job) → k ≡ bare i → j.channels ≡ i.channels
+    → record { core = c; job = k; superior = sup; channels = λ n. chan_of files (slice_index_or j.channels n channels.Closed); alarm = a } ≡ raw_job files c i sup a
+raw_variable files c sup a j i k e f = λ t. record { core = c; job = e t; superior = sup; channels = λ n. chan_of files (slice_index_or (f t) n channels.Closed); alarm = a }
 
 pub variable_set : (old new : World) (s v : ℕ) (x : Variable) (j : Job) (o : Option Job) → o ≡ job_at old.jobs s → o ≡ Some j → JobBecomes old new s (with_variable x v j)
     → state_of new ≡ in_raw (state_of old) s (with_registers (with_variable x v))
 variable_set old new s v x j o e i b =
     changed_state old new s _ (with_variable x v j) j (with_registers (with_variable x v)) b (sym e ∙ i)
-    (raw_variable old.files (core_at old.core s) (superior_at old.jobs s) j (with_variable x v j) _ (apart x v j) (sym (same_channels x v j)))
+    (raw_variable old.files (core_at old.core s) (superior_at old.jobs s) (alarm_at old.alarms.items s) j (with_variable x v j) _ (apart x v j) (sym (same_channels x v j)))
 
 pub variable_tidy : (old new : World) (s v : ℕ) (x : Variable) (i j : Job) (o : Option Job) → o ≡ job_at old.jobs s → o ≡ Some j → i ≡ with_variable x v j → JobBecomes old new s i
     → Tidy old → Tidy new
@@ -163,7 +164,7 @@ console_room w c h = h
 
 -- a word of a job, and a page
 core_written : (old new : World) (s : ℕ) (c : Core) (h : Whole → Whole) → HasJob (state_of old) s → CoreBecomes old new s c
-    → ((j : Job) → h (raw_job old.files (core_at old.core s) j (superior_at old.jobs s)) ≡ raw_job old.files c j (superior_at old.jobs s)) → state_of new ≡ in_raw (state_of old) s h
+    → ((j : Job) → h (raw_job old.files (core_at old.core s) j (superior_at old.jobs s) (alarm_at old.alarms.items s)) ≡ raw_job old.files c j (superior_at old.jobs s) (alarm_at old.alarms.items s)) → state_of new ≡ in_raw (state_of old) s h
 core_written old new s c h job b e =
     let j = job_of (job_at old.jobs s) (has_job old s job) in
     changed_state old new s c j.0 j.0 h (subst (λ (o : Option Job). Becomes old new s c o (frame_at old.frames.items s) (clear_at old.core s)) j.1 b) j.1 (e j.0)
@@ -223,25 +224,35 @@ page_tidy old new j s k can page tidy = mapped_tidy old new j s k _ page (has_jo
 -- the console of a job
 pub console_some : (w : World) (s : ℕ) (j : Job) → Some j ≡ job_at w.jobs s → j.console ≡ console_in ((state_of w).raw.jobs s)
 unfolding state_of
-console_some w s j e = ap (λ (o : Option Job). console_in (raw_of w.files (core_at w.core s) (superior_at w.jobs s) o)) e
+console_some w s j e = ap (λ (o : Option Job). console_in (raw_of w.files (core_at w.core s) (superior_at w.jobs s) (alarm_at w.alarms.items s) o)) e
 
 pub console_none : (w : World) (s : ℕ) → None ≡ job_at w.jobs s → None ≡ console_in ((state_of w).raw.jobs s)
 unfolding state_of
-console_none w s e = ap (λ (o : Option Job). console_in (raw_of w.files (core_at w.core s) (superior_at w.jobs s) o)) e
+console_none w s e = ap (λ (o : Option Job). console_in (raw_of w.files (core_at w.core s) (superior_at w.jobs s) (alarm_at w.alarms.items s) o)) e
 
 -- the slot that is free in the raw machine is the one in which a job is made
-same_free : (w : World) (s k : ℕ) → least_free (state_of w).raw.jobs ≡ Some s → least_free (job_at w.jobs) ≡ Some k → k ≡ s
+same_free : (w : World) (s k : ℕ) → least_free (limit (state_of w).raw) (state_of w).raw.jobs ≡ Some s → least_free w.jobs.limit (job_at w.jobs) ≡ Some k → k ≡ s
 same_free w s k e f = let same : Some k ≡ Some s = sym f ∙ sym (least_raw w) ∙ e in cc
 
-pub none_full : (w : World) (s : ℕ) → least_free (state_of w).raw.jobs ≡ Some s → least_free (job_at w.jobs) ≡ None → ⊥
+pub none_full : (w : World) (s : ℕ) → least_free (limit (state_of w).raw) (state_of w).raw.jobs ≡ Some s → least_free w.jobs.limit (job_at w.jobs) ≡ None → ⊥
 none_full w s e f = let same : None ≡ Some s = sym f ∙ sym (least_raw w) ∙ e in cc
 
-module _ (old new : World) (j k u n : ℕ) (console : Option ℕ) (made : JobMade old new k u n (Some j) console) (free : least_free (job_at old.jobs) ≡ Some k) (tidy : Tidy old) where
-  pub inferior_made : (s : ℕ) → least_free (state_of old).raw.jobs ≡ Some s → console ≡ console_in ((state_of old).raw.jobs j) → state_of new ≡ effect_on (changes.Make s u n) j (state_of old)
+module _ (old new : World) (j k u n : ℕ) (console : Option ℕ) (made : JobMade old new k u n (Some j) console) (free : least_free old.jobs.limit (job_at old.jobs) ≡ Some k) (tidy : Tidy old) where
+  pub inferior_made : (s : ℕ) → least_free (limit (state_of old).raw) (state_of old).raw.jobs ≡ Some s → console ≡ console_in ((state_of old).raw.jobs j) → state_of new ≡ effect_on (changes.Make s u n) j (state_of old)
   unfolding effect_on effect
   inferior_made s e c =
-      made_state old new k u n (Some j) console made (least_blank old k tidy free)
+      made_state old new k u n (Some j) console made (least_blank old k tidy free) (least_quiet old k tidy free)
       ∙ (λ t. with_raw (state_of old) (with_job (state_of old).raw (same_free old s k e free t) (whole no_core (fresh_job u n (c t)) (Some j))))
 
   pub inferior_tidy : Tidy new
-  inferior_tidy = made_tidy old new k u n (Some j) console made (least_empty (job_at old.jobs) k free) tidy
+  inferior_tidy = made_tidy old new k u n (Some j) console made (least_empty old.jobs.limit (job_at old.jobs) k free) tidy
+
+-- an alarm, which a slot without a job does not get
+pub armed_missing : (w : World) (s : ℕ) (a : Option (ℕ × ℕ)) (o : Option Job) → o ≡ job_at w.jobs s → is_some o ≡ false → state_of w ≡ in_raw (state_of w) s (with_alarm a)
+armed_missing w s a o e i = absent_state w s (with_alarm a) (none_is (job_at w.jobs s) (ap is_some (sym e) ∙ i))
+
+pub armed_tidy : (old new : World) (s : ℕ) (a : Option (ℕ × ℕ)) → is_some (job_at old.jobs s) ≡ true → AlarmBecomes old new s a → Tidy old → Tidy new
+armed_tidy old new s a some b tidy = alarm_tidy old new s a b (λ none. let wrong : true ≡ false = sym some ∙ ap is_some none in absurd cc) tidy
+
+pub armed_pages : (old new : World) (s : ℕ) (a : Option (ℕ × ℕ)) → AlarmBecomes old new s a → new.core.frames ≡ old.core.frames
+armed_pages old new s a b = ap (λ k. k.frames) b.core

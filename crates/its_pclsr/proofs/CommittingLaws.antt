@@ -61,6 +61,7 @@ taken_page reserved j = rw (eq-eqb j j refl) (omega arith)
 one_mild : (c : Change) (j : ℕ) (w : State) → CanMake c j w → Mild w (effect_on c j w) j
 unfolding effect_on effect removed
 one_mild (changes.Inform s) j w b = record { job = λ h. slot_some _ (j == s) (w.raw.jobs j) h; frame = refl; page = at_most refl }
+one_mild (changes.Arm alarm) j w b = record { job = λ h. slot_some _ (j == j) (w.raw.jobs j) h; frame = refl; page = at_most refl }
 one_mild (changes.Set s v x) j w b = record { job = λ h. slot_some _ (j == s) (w.raw.jobs j) h; frame = refl; page = at_most refl }
 one_mild (changes.Open n o) j w b = record { job = λ h. slot_some _ (j == j) (w.raw.jobs j) h; frame = refl; page = at_most refl }
 one_mild (changes.Shut n) j w b = record { job = λ h. slot_some _ (j == j) (w.raw.jobs j) h; frame = refl; page = at_most refl }

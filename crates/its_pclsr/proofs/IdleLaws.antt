@@ -1,7 +1,7 @@
 -- A world as it is opened, with jobs whose channels are on no file and no draft.
 use Rattle.std.specs.Prelude.{◌≡◌, ◌≢◌, ◌<◌, ◌||◌, ℕ, Bool, true, false, is_some, Option, Some, None, List, [], ◌∷◌, IfSome, length, option_map, slice_set, slice_index_or, sum_by, refl}
 use Rattle.std.specs.List.{range_with_len}
-use Rattle.std.proofs.Common.{sym, ◌∙◌, ap, subst, arith, inl, inr}
+use Rattle.std.proofs.Common.{lit<, sym, ◌∙◌, ap, subst, arith, inl, inr}
 use Rattle.std.proofs.lemmas.Bool.{cases_eq, cases_lt, ne_eqb}
 use Rattle.std.proofs.lemmas.List.{get_or-set_same, get_or-set_other, get_or_past}
 use Rattle.its_word.specs.Core.{Core, can_store}
@@ -12,6 +12,7 @@ use Rattle.its_word.specs.Tree.{least_free, fresh_job, is_below}
 use Rattle.its_word.specs.declared.jobs.Channel.{Channel}
 use Rattle.its_word.specs.declared.jobs.Channel.TheVariants.{Closed, TtyIn, TtyOut, Reading, Writing, Usr}
 use Rattle.its_core.specs.Cores.{IsEmpty, Reserved, core_at, clear_at}
+use Rattle.its_files.specs.Blocks.{numbers}
 use Rattle.its_files.specs.Files.{Store, no_files, readers_by, entry_at, is_marked}
 use Rattle.its_frame.specs.declared.change.Change.TheVariants as changes
 use Rattle.its_frame.specs.declared.frame.Frame.{Frame}
@@ -21,8 +22,9 @@ use Rattle.its_plain.specs.Machine.{Whole}
 use Rattle.its_stepped.specs.Sound.{Sound, SoundBy, MarkBy}
 use Rattle.its_stepped.specs.State.{Mark}
 use Rattle.its_world.specs.Storage.{HasJob, IsElsewhere}
+use Rattle.its_plain.specs.OperatorClock.{clock_end}
 use Rattle.its_world.specs.Tidy.{channel_by, channel_at, tally, reads, writes, writers, Across, Tidy}
-use Rattle.its_world.specs.World.{mark_of, raw_at, frame_at, state_of}
+use Rattle.its_world.specs.World.{alarm_at, mark_of, raw_at, frame_at, symbols_at, state_of}
 use Rattle.its_world.specs.declared.world.World.{World}
 use Rattle.its_world.proofs.MappedLaws.{core_raw}
 use Rattle.its_world.proofs.MadeLaws.{fresh_closed, least_raw}
@@ -38,7 +40,7 @@ use Rattle.its_word.proofs.TableLaws.{get_or-filled}
 pub idle_sound : (w : World) → IsEmpty w.core → ((k : ℕ) → frame_at w.frames.items k ≡ None) → w.files ≡ no_files → Sound (state_of w)
 unfolding state_of
 idle_sound w core frames files = record {
-  each = λ k. record { by = idle_slot (raw_at w.files w.core w.jobs k) (frame_at w.frames.items k) (clear_at w.core k) (frames k) (ap (option_map (λ (r : Reserved). r.clear)) (core.reserved k)) };
+  each = λ k. record { by = idle_slot (raw_at w.files w.core w.jobs w.alarms.items k) (frame_at w.frames.items k) (clear_at w.core k) (frames k) (ap (option_map (λ (r : Reserved). r.clear)) (core.reserved k)) };
   mark = idle_mark (mark_of w.files) (none_marked w.files (ap (λ (t : Store). t.mark) files));
 }
   where
@@ -81,7 +83,7 @@ unfolding tally
 none_weighs w cs h = (λ i. sum_by (λ k. sum_by (λ n. h k n i) (range_with_len 0 16)) (range_with_len 0 slots)) ∙ tally_none cs
 
 no_entry : (id : ℕ) → entry_at no_files id ≡ None
-no_entry id = get_or-filled 1280 id None
+no_entry id = get_or-filled numbers id None
 
 idle_across : (t : Table) → Elsewhere t → Across no_files t
 idle_across t h = record {
@@ -91,10 +93,13 @@ idle_across t h = record {
   written = λ d. none_weighs (writes d) (channel_at t) (λ k n. elsewhere_writes d (channel_at t k n) (h.each k n)) ∙ sym (ap (λ e. writers e (is_marked no_files d)) (no_entry d));
 }
 
-pub idle_tidy : (w : World) → IsEmpty w.core → w.files ≡ no_files → Elsewhere w.jobs → Tidy w
-idle_tidy w core files h = record {
+pub idle_tidy : (w : World) → IsEmpty w.core → w.files ≡ no_files → ((k : ℕ) → alarm_at w.alarms.items k ≡ None) → w.clock ≡ 0 → ((k : ℕ) → symbols_at w.symbols.items k ≡ []) → Elsewhere w.jobs → Tidy w
+idle_tidy w core files alarms clock symbols h = record {
   blank = λ k none. core.cores k;
+  quiet = λ k none. alarms k;
+  timed = subst (λ t. t < clock_end) (sym clock) (lit< tt);
   across = subst (λ (s : Store). Across s w.jobs) (sym files) (idle_across w.jobs h);
+  nameless = λ k none. symbols k;
 }
 
 -- jobs one after another
@@ -166,7 +171,7 @@ module _ (t : Table) (k : ℕ) (j i : Job) (x : Channel) (low : k < slots) (was 
   }
 
 -- the changes of a call that tests make
-pub can_made : (w : World) (j s u n : ℕ) → is_some (job_at w.jobs j) ≡ true → least_free (job_at w.jobs) ≡ Some s → CanMakeAll (changes.Make s u n ∷ []) j (state_of w)
+pub can_made : (w : World) (j s u n : ℕ) → is_some (job_at w.jobs j) ≡ true → least_free w.jobs.limit (job_at w.jobs) ≡ Some s → CanMakeAll (changes.Make s u n ∷ []) j (state_of w)
 can_made w j s u n some free = ((raw_has w j ∙ some, least_raw w ∙ free), tt)
 
 pub can_poked : (w : World) (j s a x : ℕ) → s < slots → a < 16 → is_some (job_at w.jobs s) ≡ true → Tidy w → can_store (core_at w.core s) a ≡ true → CanMakeAll (changes.Poke s a x ∷ []) j (state_of w)

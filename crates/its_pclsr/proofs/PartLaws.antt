@@ -1,13 +1,14 @@
 -- The next part of a close is made in the store of a world.
-use Rattle.std.specs.Prelude.{◌≡◌, Option, Some, None, List, [], ◌∷◌, refl}
+use Rattle.std.specs.Prelude.{◌≡◌, ◌<◌, Option, Some, None, List, [], ◌∷◌, refl}
 use Rattle.std.proofs.Common.{sym, ap, ◌∙◌, subst}
 use Rattle.its_core.specs.Cores.{core_at}
 use Rattle.its_files.specs.Files.{Store, IsStore, directory, unlinked_at, linked_at, freed_at}
 use Rattle.its_jobs.specs.Table.{job_at}
 use Rattle.its_stepped.specs.State.{Part, UnlinkOld, LinkNew, FreeOld, Mark, State}
 use Rattle.its_stepped.specs.Unwind.{with_part}
+use Rattle.its_plain.specs.OperatorClock.{clock_end}
 use Rattle.its_world.specs.Tidy.{Across, Tidy}
-use Rattle.its_world.specs.World.{mark_of, state_of}
+use Rattle.its_world.specs.World.{alarm_at, mark_of, state_of, symbols_at}
 use Rattle.its_world.specs.declared.world.World.{World}
 use Rattle.its_world.proofs.StorageLaws as stored
 use Rattle.its_world.proofs.StorageLaws.{files_are, marks_are}
@@ -18,15 +19,18 @@ use Rattle.its_pclsr.specs.Parts.{NextMade}
 
 -- another store that shows the same to all channels
 pub store_state : (old new : World) → Stays old.files new.files old.jobs → new.core ≡ old.core → new.jobs ≡ old.jobs → new.frames ≡ old.frames
-    → new.consoles ≡ old.consoles → new.holders ≡ old.holders → new.clock ≡ old.clock
+    → new.consoles ≡ old.consoles → new.holders ≡ old.holders → new.clock ≡ old.clock → new.alarms ≡ old.alarms → new.version ≡ old.version → new.symbols ≡ old.symbols
     → state_of new ≡ record (state_of old) { raw = record (state_of old).raw { files = directory new.files }; mark = mark_of new.files }
-store_state old new stays core jobs frames consoles holders clock = stored.store_state old new new.files (record {
+store_state old new stays core jobs frames consoles holders clock alarms version symbols = stored.store_state old new new.files (record {
   core = core;
   jobs = jobs;
   frames = frames;
   consoles = consoles;
   holders = holders;
   clock = clock;
+  alarms = alarms;
+  version = version;
+  symbols = symbols;
   files = refl;
 }) stays
 
@@ -58,19 +62,23 @@ next_state w s p (Some m) whole files marked e next =
     sym (part_step s whole w m p ps.0 marked files e ps.1)
 
 pub next_made : (old new : World) (p : Part) → IsStore old.files → IsNext (state_of old).mark p → new.files ≡ made p old.files → Stays old.files new.files old.jobs
-    → new.core ≡ old.core → new.jobs ≡ old.jobs → new.frames ≡ old.frames → new.consoles ≡ old.consoles → new.holders ≡ old.holders → new.clock ≡ old.clock → NextMade old new
-next_made old new p whole next files stays core jobs frames consoles holders clock = record {
+    → new.core ≡ old.core → new.jobs ≡ old.jobs → new.frames ≡ old.frames → new.consoles ≡ old.consoles → new.holders ≡ old.holders → new.clock ≡ old.clock → new.alarms ≡ old.alarms → new.version ≡ old.version → new.symbols ≡ old.symbols → NextMade old new
+next_made old new p whole next files stays core jobs frames consoles holders clock alarms version symbols = record {
   row =
-      store_state old new stays core jobs frames consoles holders clock
+      store_state old new stays core jobs frames consoles holders clock alarms version symbols
       ∙ ap (λ t. record (state_of old) { raw = record (state_of old).raw { files = directory t }; mark = mark_of t }) files
       ∙ next_state (state_of old) old.files p (mark_of old.files) whole (files_are old) (marks_are old) refl (subst (λ m. IsNext m p) (marks_are old) next);
   core = core;
   jobs = jobs;
+  symbols = symbols;
 }
 
 -- and the world stays tidy
-pub store_tidy : (old new : World) → Stays old.files new.files old.jobs → new.core ≡ old.core → new.jobs ≡ old.jobs → Tidy old → Tidy new
-store_tidy old new stays core jobs tidy = record {
+pub store_tidy : (old new : World) → Stays old.files new.files old.jobs → new.core ≡ old.core → new.jobs ≡ old.jobs → new.alarms ≡ old.alarms → new.clock ≡ old.clock → new.symbols ≡ old.symbols → Tidy old → Tidy new
+store_tidy old new stays core jobs alarms clock symbols tidy = record {
   blank = λ k h. ap (λ c. core_at c k) core ∙ tidy.blank k (sym (ap (λ t. job_at t k) jobs) ∙ h);
+  quiet = λ k h. ap (λ l. alarm_at l.items k) alarms ∙ tidy.quiet k (sym (ap (λ t. job_at t k) jobs) ∙ h);
+  timed = subst (λ t. t < clock_end) (sym clock) tidy.timed;
   across = subst (λ t. Across new.files t) (sym jobs) stays.across;
+  nameless = λ k h. ap (λ l. symbols_at l.items k) symbols ∙ tidy.nameless k (sym (ap (λ t. job_at t k) jobs) ∙ h);
 }

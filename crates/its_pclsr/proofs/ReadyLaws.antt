@@ -32,7 +32,7 @@ use Rattle.its_stepped.specs.Forest.{Forest}
 use Rattle.its_stepped.proofs.MarkLaws.{marking_begins, marking_all}
 use Rattle.its_stepped.proofs.UnwindLaws.{among_first}
 use Rattle.its_stepped.proofs.ViewLaws.{StillAt}
-use Rattle.its_stepped.proofs.ForestLaws.{job_few, forest_below, on_inferior, inferior_stands}
+use Rattle.its_stepped.proofs.ForestLaws.{job_few, forest_few, forest_below, on_inferior, inferior_stands}
 use Rattle.its_stepped.proofs.LogoutDuty.{among_left, among_right, among_below}
 use Rattle.its_stepped.proofs.TargetLaws.{target_on, reach_named}
 use Rattle.its_stepped.proofs.CoreDuty.{makes_reserves}
@@ -90,7 +90,7 @@ module _ (v : State) (j s at : ℕ) (q : Whole) (a : Ask) (write : Bool) (c : Pr
   removal_reach = reach_named v.raw j q a Uclose z e ∙ ap (with_below v.raw) (target_on q a Uclose 0 s at write z e refl is)
 
   below_free : (k : ℕ) → is_below (superiors v.raw) s k ≡ true → v.frames k ≡ None
-  below_free k h = c.free k (ap (among k) removal_reach ∙ among_left k (slots_below (superiors v.raw) s) (s ∷ []) (among_below v.raw s k c.forest.few h))
+  below_free k h = c.free k (ap (among k) removal_reach ∙ among_left k (slots_below (superiors v.raw) s) (s ∷ []) (among_below v.raw s k (forest_few v.raw c.forest) h))
 
   root_free : v.frames s ≡ None
   root_free = c.free s (ap (among s) removal_reach ∙ among_right s (slots_below (superiors v.raw) s) (s ∷ []) (among_first s []))
@@ -124,7 +124,7 @@ finds_pages v j q a c z e =
 pub decision_can : (v : State) (j : ℕ) (q : Whole) (a : Ask) → Prepared v j q a → IfSome q.job.console (λ c. c < 8) → DecisionCan (decision v.raw j q a) j v
 unfolding decision view finds finds_pages
 decision_can v j q a c h =
-    decided_can_by j v (view v.raw j q (target q a)) a (a.fail == 0) refl (record { consoles = refl; own = h; job = c.job; files = refl; outlines = refl }) c.unmarked (finds v j q a c)
+    decided_can_by j v (view v.raw j q (target q a)) a (a.fail == 0) refl (record { consoles = refl; own = h; job = c.job; files = refl; outlines = refl; limit = refl }) c.unmarked (finds v j q a c)
     (finds_pages v j q a c)
 
 -- a call that has no argument for a channel on a job reaches into none

@@ -1,10 +1,11 @@
 -- A tree of jobs that is swept slot by slot, and then removed, is the removal of the plain machine.
-use Rattle.std.specs.Prelude.{if◌then◌else◌, ◌≡◌, ◌≢◌, ◌≤◌, ◌<◌, ◌+◌, ◌==◌, ℕ, suc, Bool, true, false, Option, Some, None, List, is_some, option_map, sum_by, length, slice_index_or, slice_set, refl}
+use Rattle.std.specs.Prelude.{if◌then◌else◌, ◌≡◌, ◌≢◌, ◌≤◌, ◌<◌, ◌+◌, ◌==◌, ℕ, suc, Bool, true, false, Option, Some, None, List, [], is_some, is_none, option_map, sum_by, length, slice_index_or, slice_set, refl}
 use Rattle.std.specs.List.{range_with_len}
 use Rattle.its_word.specs.Console.{Console}
 use Rattle.std.proofs.Common.{sym, ◌∙◌, ap, subst, arith, inl, inr}
 use Rattle.std.proofs.lemmas.Bool.{cases_Bool, cases_eq, cases_lt, eq-eqb, ne_eqb}
 use Rattle.std.proofs.lemmas.List.{get_or-set_same, get_or-set_other, get_or_past}
+use Rattle.its_word.specs.ArrayVec.{ArrayVec}
 use Rattle.its_word.specs.Core.{Core, no_core}
 use Rattle.its_word.specs.Limits.{slots}
 use Rattle.its_word.specs.Tree.{is_below}
@@ -20,9 +21,10 @@ use Rattle.its_frame.specs.declared.change.Change.TheVariants as changes
 use Rattle.its_frame.specs.declared.frame.Frame.{Frame}
 use Rattle.its_jobs.specs.Table.{Table, job_at, superior_at, in_tree, IsTree, Without}
 use Rattle.its_jobs.proofs.TreeLaws.{past_none}
-use Rattle.its_plain.specs.Machine.{Shut, Whole}
+use Rattle.its_plain.specs.Machine.{Shut, Symbol, Whole}
 use Rattle.its_plain.specs.Own.{on_channel}
-use Rattle.its_plain.specs.Change.{on_slot, channel_in, chan_left, shut_on, left_job, superior_in, superiors, is_gone, passed_on, removed, effect}
+use Rattle.its_plain.specs.Change.{with_alarm, on_slot, channel_in, chan_left, shut_on, left_job, superior_in, superiors, is_gone, passed_on, symbols_left, removed, effect}
+use Rattle.its_plain.specs.OperatorClock.{alarm_in, clock_end}
 use Rattle.its_plain.proofs.MachineLaws.{machine_is}
 use Rattle.its_stepped.specs.Commit.{effect_on}
 use Rattle.its_stepped.specs.SlotSame.{SlotSame}
@@ -34,30 +36,35 @@ use Rattle.its_pclsr.specs.Removal.{channel_left, Shared, Alone, Closes, Bare, E
 use Rattle.its_pclsr.proofs.ApartLaws.{tidy_becomes}
 use Rattle.its_world.specs.Storage.{chan_in}
 use Rattle.its_world.specs.Tidy.{channel_by, channel_at, tally, reads, writes, Across, Tidy}
-use Rattle.its_world.specs.World.{chan_of, mark_of, bare, raw_of, raw_at, frame_at, console_at, holder_at, state_of, in_raw, with_frames, Becomes, CoreBecomes, FrameBecomes, JobBecomes}
+use Rattle.its_world.specs.World.{chan_of, mark_of, bare, alarm_at, AlarmBecomes, raw_of, raw_at, frame_at, console_at, holder_at, symbols_at, state_of, in_raw, with_frames, Becomes, CoreBecomes, FrameBecomes, JobBecomes}
 use Rattle.its_world.specs.declared.world.World.{World}
 use Rattle.its_world.proofs.StateLaws.{state_is, raw_others, changed_state, absent_state, frames_state, frames_core}
+use Rattle.its_world.proofs.AlarmLaws.{alarm_state}
 use Rattle.its_world.proofs.MappedLaws.{frames_tidy}
 use Rattle.its_world.proofs.StorageLaws.{chan_is, chan_shut, frame_is}
 use Rattle.its_world.proofs.KeptLaws.{across_table}
 use Rattle.its_word.proofs.ClimbLaws.{or_second}
 use Rattle.its_stepped.proofs.KeptLaws.{user_page}
 
+-- lists of symbols of which those of slots without a job are emptied
+abbrev Forgotten : Table → List (ArrayVec Symbol) → List (ArrayVec Symbol) → Type 0
+Forgotten t old new = (k : ℕ) → symbols_at new k ≡ symbols_left (is_none (job_at t k)) (symbols_at old k)
+
 -- the superiors of the raw machine are those of the jobs
-superior_by : (t : Store) (c : Core) (s : Option ℕ) (o : Option Job) → (o ≡ None → s ≡ None) → superior_in (raw_of t c s o) ≡ s
-superior_by t c s (Some j) h = refl
-superior_by t c s None h = sym (h refl)
+superior_by : (t : Store) (c : Core) (s : Option ℕ) (a : Option (ℕ × ℕ)) (o : Option Job) → (o ≡ None → s ≡ None) → superior_in (raw_of t c s a o) ≡ s
+superior_by t c s a (Some j) h = refl
+superior_by t c s a None h = sym (h refl)
 
 pub superiors_are : (w : World) → IsTree w.jobs.jobs w.jobs.superiors → superiors (state_of w).raw ≡ superior_at w.jobs
 unfolding state_of
-superiors_are w t = λ i k. superior_by w.files (core_at w.core k) (superior_at w.jobs k) (job_at w.jobs k) (t.owned k) i
+superiors_are w t = λ i k. superior_by w.files (core_at w.core k) (superior_at w.jobs k) (alarm_at w.alarms.items k) (job_at w.jobs k) (t.owned k) i
 
 tree_gone : (w : World) (r : ℕ) → IsTree w.jobs.jobs w.jobs.superiors → in_tree (superior_at w.jobs) r ≡ is_gone (superiors (state_of w).raw) r
 tree_gone w r t = ap (λ sup. in_tree sup r) (sym (superiors_are w t))
 
 -- what slots share, and what one slot alone does
 shared_same : (w : State) → Shared w w
-shared_same w = record { superiors = λ k. refl; consoles = refl; holders = refl; files = refl; clock = refl; mark = refl }
+shared_same w = record { superiors = λ k. refl; consoles = refl; holders = refl; files = refl; clock = refl; version = refl; symbols = refl; mark = refl }
 
 shared_then : (w v u : State) → Shared w v → Shared v u → Shared w u
 shared_then w v u a b = record {
@@ -66,6 +73,8 @@ shared_then w v u a b = record {
   holders = b.holders ∙ a.holders;
   files = b.files ∙ a.files;
   clock = b.clock ∙ a.clock;
+  version = b.version ∙ a.version;
+  symbols = b.symbols ∙ a.symbols;
   mark = b.mark ∙ a.mark;
 }
 
@@ -97,16 +106,18 @@ in_raw_alone w s h same = record {
     holders = refl;
     files = refl;
     clock = refl;
+    version = refl;
+    symbols = refl;
     mark = refl;
   };
 }
 
 -- the core, the registers or the frame of a slot are written
-superior_same : (t u : Store) (c d : Core) (s : Option ℕ) (o p : Option Job) → is_some p ≡ is_some o → superior_in (raw_of u d s p) ≡ superior_in (raw_of t c s o)
-superior_same t u c d s (Some j) (Some i) e = refl
-superior_same t u c d s None None e = refl
-superior_same t u c d s (Some j) None e = cc
-superior_same t u c d s None (Some i) e = cc
+superior_same : (t u : Store) (c d : Core) (s : Option ℕ) (x y : Option (ℕ × ℕ)) (o p : Option Job) → is_some p ≡ is_some o → superior_in (raw_of u d s y p) ≡ superior_in (raw_of t c s x o)
+superior_same t u c d s x y (Some j) (Some i) e = refl
+superior_same t u c d s x y None None e = refl
+superior_same t u c d s x y (Some j) None e = cc
+superior_same t u c d s x y None (Some i) e = cc
 
 becomes_alone : (old new : World) (s : ℕ) (c : Core) (j : Option Job) (f : Option Frame) → Becomes old new s c j f (clear_at old.core s) → is_some j ≡ is_some (job_at old.jobs s)
     → Alone (state_of old) (state_of new) s
@@ -117,16 +128,18 @@ becomes_alone old new s c j f b some = record {
   shared = record {
     superiors = λ k. elim (cases_eq k s) [
       | inl e ↦
-          ap (λ i. superior_in (raw_at new.files new.core new.jobs i)) e
-          ∙ ap (λ xs. superior_in (raw_of new.files (core_at new.core s) (slice_index_or xs s None) (job_at new.jobs s))) b.superiors
-          ∙ superior_same old.files new.files (core_at old.core s) (core_at new.core s) (superior_at old.jobs s) (job_at old.jobs s) (job_at new.jobs s) (ap is_some b.job.here ∙ some)
-          ∙ ap (λ i. superior_in (raw_at old.files old.core old.jobs i)) (sym e)
+          ap (λ i. superior_in (raw_at new.files new.core new.jobs new.alarms.items i)) e
+          ∙ ap (λ xs. superior_in (raw_of new.files (core_at new.core s) (slice_index_or xs s None) (alarm_at new.alarms.items s) (job_at new.jobs s))) b.superiors
+          ∙ superior_same old.files new.files (core_at old.core s) (core_at new.core s) (superior_at old.jobs s) (alarm_at old.alarms.items s) (alarm_at new.alarms.items s) (job_at old.jobs s) (job_at new.jobs s) (ap is_some b.job.here ∙ some)
+          ∙ ap (λ i. superior_in (raw_at old.files old.core old.jobs old.alarms.items i)) (sym e)
       | inr ne ↦ ap superior_in (raw_others old new s c j f (clear_at old.core s) b k ne)
     ];
     consoles = ap (λ cs c. console_at cs.items c) b.consoles;
     holders = ap (λ hs c. holder_at hs c) b.holders;
     files = ap directory b.files;
     clock = b.clock;
+    version = b.version;
+    symbols = ap (λ l k. symbols_at l.items k) b.symbols;
     mark = ap mark_of b.files;
   };
 }
@@ -167,27 +180,32 @@ closed_all w s tidy h n = elim (cases_lt n 16) [
   | inr ge ↦ tidy.across.past_numbers s n (omega arith)
 ]
 
-pub slot_emptied : (old mid low new : World) (s : ℕ) → Closes (state_of old) (state_of mid) s 16 → Tidy mid → CoreBecomes mid (with_frames low mid.core.frames) s no_core → FrameBecomes low new s None
-    → mid.core.frames ≡ old.core.frames → low.core.frames ≡ frames_drop_all s mid.core.frames → Empties old new s
-slot_emptied old mid low new s a tidy b d same dropped = record {
+-- an alarm is taken away
+alarm_alone : (old new : World) (s : ℕ) (a : Option (ℕ × ℕ)) → AlarmBecomes old new s a → Alone (state_of old) (state_of new) s
+alarm_alone old new s a b = subst (λ w. Alone (state_of old) w s) (sym (alarm_state old new s a b)) (in_raw_alone (state_of old) s (with_alarm a) (λ q. refl))
+
+pub slot_emptied : (old mid low off new : World) (s : ℕ) → Closes (state_of old) (state_of mid) s 16 → Tidy mid → CoreBecomes mid (with_frames low mid.core.frames) s no_core → FrameBecomes low off s None
+    → AlarmBecomes off new s None → mid.core.frames ≡ old.core.frames → low.core.frames ≡ frames_drop_all s mid.core.frames → Empties old new s
+slot_emptied old mid low off new s a tidy b d e same dropped = record {
   alone =
       alone_then (state_of old) (state_of mid) (state_of new) s a.alone
       (alone_then (state_of mid) (state_of low) (state_of new) s
       (subst (λ v. Alone (state_of mid) v s) (frames_state low mid.core.frames)
       (becomes_alone mid (with_frames low mid.core.frames) s no_core (job_at mid.jobs s) (frame_at mid.frames.items s) b refl))
-      (becomes_alone low new s (core_at low.core s) (job_at low.jobs s) None d refl));
-  frame = frame_is new s ∙ d.frame.here;
+      (alone_then (state_of low) (state_of off) (state_of new) s (becomes_alone low off s (core_at low.core s) (job_at low.jobs s) None d refl) (alarm_alone off new s None e)));
+  frame = frame_is new s ∙ ap (λ l. frame_at l.items s) e.frames ∙ d.frame.here;
   bare = record {
-    core = d.core.here ∙ sym (frames_core low mid.core.frames s) ∙ b.core.here;
-    channels = λ n. ap (λ j. channel_by j n) (d.job.here ∙ b.job.here) ∙ closed_all mid s tidy a.closed n;
+    core = ap (λ c. core_at c s) e.core ∙ d.core.here ∙ sym (frames_core low mid.core.frames s) ∙ b.core.here;
+    channels = λ n. ap (λ t. channel_at t s n) e.jobs ∙ ap (λ j. channel_by j n) (d.job.here ∙ b.job.here) ∙ closed_all mid s tidy a.closed n;
+    alarm = e.alarms.here;
   };
-  pages = d.pages ∙ frames_still (clear_at low.core s) s low.core.frames ∙ dropped ∙ ap (frames_drop_all s) same;
+  pages = ap (λ c. c.frames) e.core ∙ d.pages ∙ frames_still (clear_at low.core s) s low.core.frames ∙ dropped ∙ ap (frames_drop_all s) same;
 }
 
 pub tidy_bare : (old new : World) (s : ℕ) → CoreBecomes old (with_frames new old.core.frames) s no_core → Tidy old → Tidy new
 tidy_bare old new s b tidy =
     frames_tidy new old.core.frames
-    (tidy_becomes old (with_frames new old.core.frames) s no_core (job_at old.jobs s) (frame_at old.frames.items s) (clear_at old.core s) b (λ h. refl) (λ n. refl) tidy)
+    (tidy_becomes old (with_frames new old.core.frames) s no_core (job_at old.jobs s) (frame_at old.frames.items s) (clear_at old.core s) b (λ h. refl) (λ h. h) (λ n. refl) tidy)
 
 -- the channels of a job that stays
 chan_gone_by : (t : Store) (b : Bool) (s : ℕ) (w : Bool) (at : ℕ) → chan_of t (if b then channels.Closed else channels.Usr s w at) ≡ (if b then chan_of t channels.Closed else chan_of t (channels.Usr s w at))
@@ -209,6 +227,7 @@ shut_some gone old new s j i is e h b = changed_state old new s (core_at old.cor
   core = core_at old.core s;
   job = sym e t;
   superior = superior_at old.jobs s;
+  alarm = alarm_at old.alarms.items s;
   channels = λ n. sym (ap (chan_of old.files) (h n) ∙ chan_gone old.files gone (slice_index_or j.channels n channels.Closed)) t;
 })
 
@@ -276,6 +295,11 @@ shut_tidy gone old new s j i is h b tidy = record {
     | inl e ↦ let wrong : None ≡ Some i = sym none ∙ ap (job_at new.jobs) e ∙ b.job.here in absurd cc
     | inr ne ↦ b.core.others k ne ∙ tidy.blank k (sym (b.job.others k ne) ∙ none)
   ];
+  quiet = λ k none. ap (λ l. alarm_at l.items k) b.alarms ∙ elim (cases_eq k s) [
+    | inl e ↦ let wrong : None ≡ Some i = sym none ∙ ap (job_at new.jobs) e ∙ b.job.here in absurd cc
+    | inr ne ↦ tidy.quiet k (sym (b.job.others k ne) ∙ none)
+  ];
+  timed = subst (λ t. t < clock_end) (sym b.clock) tidy.timed;
   across = subst (λ (t : Store). Across t new.jobs) (sym b.files)
       (left_across old.files old.jobs new.jobs gone (λ k n. elim (cases_eq k s) [
         | inl e ↦
@@ -284,6 +308,10 @@ shut_tidy gone old new s j i is h b tidy = record {
             ∙ ap (λ o. channel_left gone (channel_by o n)) (sym is) ∙ ap (λ m. channel_left gone (channel_at old.jobs m n)) (sym e))
         | inr ne ↦ left_same gone (channel_at old.jobs k n) (channel_at new.jobs k n) (ap (λ o. channel_by o n) (b.job.others k ne))
       ]) tidy.across);
+  nameless = λ k none. ap (λ l. symbols_at l.items k) b.symbols ∙ tidy.nameless k (elim (cases_eq k s) [
+    | inl e ↦ let wrong : None ≡ Some i = sym none ∙ ap (job_at new.jobs) e ∙ b.job.here in absurd cc
+    | inr ne ↦ sym (b.job.others k ne) ∙ none
+  ]);
 }
 
 -- one slot swept
@@ -337,26 +365,43 @@ abbrev core_in : Option Whole → Core
 core_in (Some q) = q.core
 core_in None = no_core
 
-core_there : (t : Store) (c : Core) (u : Option ℕ) (o : Option Job) → (o ≡ None → c ≡ no_core) → c ≡ core_in (raw_of t c u o)
-core_there t c u (Some j) h = refl
-core_there t c u None h = h refl
+core_there : (t : Store) (c : Core) (u : Option ℕ) (a : Option (ℕ × ℕ)) (o : Option Job) → (o ≡ None → c ≡ no_core) → c ≡ core_in (raw_of t c u a o)
+core_there t c u a (Some j) h = refl
+core_there t c u a None h = h refl
 
-core_none : (t : Store) (c : Core) (u : Option ℕ) (o : Option Job) → c ≡ no_core → core_in (raw_of t c u o) ≡ no_core
-core_none t c u (Some j) h = h
-core_none t c u None h = refl
+core_none : (t : Store) (c : Core) (u : Option ℕ) (a : Option (ℕ × ℕ)) (o : Option Job) → c ≡ no_core → core_in (raw_of t c u a o) ≡ no_core
+core_none t c u a (Some j) h = h
+core_none t c u a None h = refl
+
+alarm_there : (t : Store) (c : Core) (u : Option ℕ) (a : Option (ℕ × ℕ)) (o : Option Job) → (o ≡ None → a ≡ None) → a ≡ alarm_in (raw_of t c u a o)
+alarm_there t c u a (Some j) h = refl
+alarm_there t c u a None h = h refl
+
+alarm_none : (t : Store) (c : Core) (u : Option ℕ) (a : Option (ℕ × ℕ)) (o : Option Job) → a ≡ None → alarm_in (raw_of t c u a o) ≡ None
+alarm_none t c u a (Some j) h = h
+alarm_none t c u a None h = refl
+
+pub alarm_shown : (w : World) (k : ℕ) → Tidy w → alarm_at w.alarms.items k ≡ alarm_in ((state_of w).raw.jobs k)
+unfolding state_of
+alarm_shown w k tidy = alarm_there w.files (core_at w.core k) (superior_at w.jobs k) (alarm_at w.alarms.items k) (job_at w.jobs k) (tidy.quiet k)
+
+alarm_bare : (w : World) (k : ℕ) → alarm_at w.alarms.items k ≡ None → alarm_in ((state_of w).raw.jobs k) ≡ None
+unfolding state_of
+alarm_bare w k h = alarm_none w.files (core_at w.core k) (superior_at w.jobs k) (alarm_at w.alarms.items k) (job_at w.jobs k) h
 
 core_shown : (w : World) (k : ℕ) → Tidy w → core_at w.core k ≡ core_in ((state_of w).raw.jobs k)
 unfolding state_of
-core_shown w k tidy = core_there w.files (core_at w.core k) (superior_at w.jobs k) (job_at w.jobs k) (tidy.blank k)
+core_shown w k tidy = core_there w.files (core_at w.core k) (superior_at w.jobs k) (alarm_at w.alarms.items k) (job_at w.jobs k) (tidy.blank k)
 
 core_bare : (w : World) (k : ℕ) → core_at w.core k ≡ no_core → core_in ((state_of w).raw.jobs k) ≡ no_core
 unfolding state_of
-core_bare w k h = core_none w.files (core_at w.core k) (superior_at w.jobs k) (job_at w.jobs k) h
+core_bare w k h = core_none w.files (core_at w.core k) (superior_at w.jobs k) (alarm_at w.alarms.items k) (job_at w.jobs k) h
 
 bare_kept : (mid new : World) (k : ℕ) → Bare mid k → (state_of new).raw.jobs k ≡ (state_of mid).raw.jobs k → Tidy new → Bare new k
 bare_kept mid new k b e tidy = record {
   core = core_shown new k tidy ∙ ap core_in e ∙ core_bare mid k b.core;
   channels = λ n. chan_shut new k n (ap (λ o. channel_in o n) e ∙ chan_is mid k n ∙ ap (chan_of mid.files) (b.channels n));
+  alarm = alarm_shown new k tidy ∙ ap alarm_in e ∙ alarm_bare mid k b.alarm;
 }
 
 none_swept : (gone : ℕ → Bool) (f : Frames) → pages_swept gone 0 f ≡ f
@@ -430,7 +475,7 @@ none_there : (w : World) (k : ℕ) → IsTree w.jobs.jobs w.jobs.superiors → s
 unfolding state_of
 none_there w k t past =
     let none : job_at w.jobs k ≡ None = get_or_past w.jobs.jobs k None (let n = t.job_count in omega arith) in
-    ap (raw_of w.files (core_at w.core k) (superior_at w.jobs k)) none
+    ap (raw_of w.files (core_at w.core k) (superior_at w.jobs k) (alarm_at w.alarms.items k)) none
 
 past_left : (w : World) (r k : ℕ) → r < slots → IsTree w.jobs.jobs w.jobs.superiors → slots ≤ k → is_gone (superiors (state_of w).raw) r k ≡ false
 past_left w r k l t past = ap (λ (f : ℕ → Bool). f k) (sym (tree_gone w r t)) ∙ past_none w.jobs.superiors r k t.superior_count l past
@@ -478,44 +523,68 @@ module _ (old mid : World) (r : ℕ) (low : r < slots) (tree : IsTree old.jobs.j
     job_left : (k : ℕ) → is_gone (superiors (state_of old).raw) r k ≡ false → job_at new.jobs k ≡ job_at mid.jobs k
     job_left k g = job.each k ∙ ap (λ (b : Bool). if b then None else job_at mid.jobs k) (ap (λ (f : ℕ → Bool). f k) gone_same ∙ g)
 
-    pub tidy_removed : new.core ≡ mid.core → new.files ≡ mid.files → Tidy mid → Tidy new
-    tidy_removed core files tidy = record {
+    -- and their symbols with them: what is left of those of a slot, by whether it is gone, and by what job it has
+    symbols_by : (k : ℕ) (b : Bool) (o : Option Job) → is_gone (superiors (state_of old).raw) r k ≡ b → job_at new.jobs k ≡ o → Tidy mid
+        → symbols_left (is_none o) (symbols_at mid.symbols.items k) ≡ symbols_left b (symbols_at mid.symbols.items k)
+    symbols_by k true None g is tidy = refl
+    symbols_by k true (Some j) g is tidy = let wrong : Some j ≡ None = sym is ∙ job_gone k g in absurd cc
+    symbols_by k false None g is tidy = sym (tidy.nameless k (sym (job_left k g) ∙ is))
+    symbols_by k false (Some j) g is tidy = refl
+
+    symbols_gone : Forgotten new.jobs mid.symbols.items new.symbols.items → Tidy mid
+        → (k : ℕ) → symbols_at new.symbols.items k ≡ symbols_left (is_gone (superiors (state_of old).raw) r k) (symbols_at mid.symbols.items k)
+    symbols_gone forgets tidy k = forgets k ∙ symbols_by k (is_gone (superiors (state_of old).raw) r k) (job_at new.jobs k) refl refl tidy
+
+    none_left : (o : Option Job) (ss : List Symbol) → o ≡ None → symbols_left (is_none o) ss ≡ []
+    none_left None ss e = refl
+    none_left (Some j) ss e = cc
+
+    pub tidy_removed : new.core ≡ mid.core → new.files ≡ mid.files → new.alarms ≡ mid.alarms → new.clock ≡ mid.clock → Forgotten new.jobs mid.symbols.items new.symbols.items → Tidy mid → Tidy new
+    tidy_removed core files alarms clock forgets tidy = record {
       blank = λ k none. ap (λ c. core_at c k) core ∙ elim (cases_Bool (is_gone (superiors (state_of old).raw) r k)) [
         | inl g ↦ cores_left k g
         | inr g ↦ tidy.blank k (sym (job_left k g) ∙ none)
       ];
+      quiet = λ k none. ap (λ l. alarm_at l.items k) alarms ∙ elim (cases_Bool (is_gone (superiors (state_of old).raw) r k)) [
+        | inl g ↦ (all_bare k g).alarm
+        | inr g ↦ tidy.quiet k (sym (job_left k g) ∙ none)
+      ];
+      timed = subst (λ t. t < clock_end) (sym clock) tidy.timed;
       across = subst (λ (t : Store). Across t new.jobs) (sym files) (across_table mid.files mid.jobs new.jobs tidy.across (λ k n. elim (cases_Bool (is_gone (superiors (state_of old).raw) r k)) [
         | inl g ↦ ap (λ o. channel_by o n) (job_gone k g) ∙ sym ((all_bare k g).channels n)
         | inr g ↦ ap (λ o. channel_by o n) (job_left k g)
       ]));
+      nameless = λ k none. forgets k ∙ none_left (job_at new.jobs k) (symbols_at mid.symbols.items k) none;
     }
 
-    module _ (superior : Without (in_tree (superior_at mid.jobs) r) (superior_at mid.jobs) (superior_at new.jobs)) (core : new.core ≡ mid.core) (files : new.files ≡ mid.files) where
+    module _ (superior : Without (in_tree (superior_at mid.jobs) r) (superior_at mid.jobs) (superior_at new.jobs)) (core : new.core ≡ mid.core) (files : new.files ≡ mid.files) (alarms : new.alarms ≡ mid.alarms) where
       raw_left : (k : ℕ) (b : Bool) → is_gone (superiors (state_of old).raw) r k ≡ b
-          → raw_at new.files new.core new.jobs k ≡ left_job (is_gone (superiors (state_of old).raw) r) b ((state_of old).raw.jobs k)
+          → raw_at new.files new.core new.jobs new.alarms.items k ≡ left_job (is_gone (superiors (state_of old).raw) r) b ((state_of old).raw.jobs k)
       unfolding state_of
-      raw_left k true g = ap (raw_of new.files (core_at new.core k) (superior_at new.jobs k)) (job_gone k g)
+      raw_left k true g = ap (raw_of new.files (core_at new.core k) (superior_at new.jobs k) (alarm_at new.alarms.items k)) (job_gone k g)
       raw_left k false g =
           let above : superior_at new.jobs k ≡ superior_at mid.jobs k =
           superior.each k ∙ ap (λ (b : Bool). if b then None else superior_at mid.jobs k) (ap (λ (f : ℕ → Bool). f k) gone_same ∙ g) in
-          ap (raw_of new.files (core_at new.core k) (superior_at new.jobs k)) (job_left k g)
-          ∙ ap (λ t. raw_of t (core_at new.core k) (superior_at new.jobs k) (job_at mid.jobs k)) files
-          ∙ ap (λ c. raw_of mid.files (core_at c k) (superior_at new.jobs k) (job_at mid.jobs k)) core
-          ∙ ap (λ s. raw_of mid.files (core_at mid.core k) s (job_at mid.jobs k)) above
+          ap (raw_of new.files (core_at new.core k) (superior_at new.jobs k) (alarm_at new.alarms.items k)) (job_left k g)
+          ∙ ap (λ t. raw_of t (core_at new.core k) (superior_at new.jobs k) (alarm_at new.alarms.items k) (job_at mid.jobs k)) files
+          ∙ ap (λ c. raw_of mid.files (core_at c k) (superior_at new.jobs k) (alarm_at new.alarms.items k) (job_at mid.jobs k)) core
+          ∙ ap (λ s. raw_of mid.files (core_at mid.core k) s (alarm_at new.alarms.items k) (job_at mid.jobs k)) above
+          ∙ ap (λ l. raw_of mid.files (core_at mid.core k) (superior_at mid.jobs k) (alarm_at l.items k) (job_at mid.jobs k)) alarms
           ∙ (all_swept k).job g
 
       pub tree_removed : new.frames ≡ mid.frames → new.consoles ≡ mid.consoles
-          → ((c : ℕ) → holder_at new.holders c ≡ passed_on (in_tree (superior_at mid.jobs) r) (superior_at mid.jobs r) (holder_at mid.holders c)) → new.clock ≡ mid.clock
+          → ((c : ℕ) → holder_at new.holders c ≡ passed_on (in_tree (superior_at mid.jobs) r) (superior_at mid.jobs r) (holder_at mid.holders c)) → new.clock ≡ mid.clock → new.version ≡ mid.version → Forgotten new.jobs mid.symbols.items new.symbols.items → Tidy mid
           → (j : ℕ) → state_of new ≡ effect_on (changes.Remove r) j (state_of old)
       unfolding state_of effect_on effect removed
-      tree_removed frames consoles holders clock j = state_is _ _
+      tree_removed frames consoles holders clock version forgets tidy j = state_is _ _
           (machine_is _ _ (λ k. raw_left k (is_gone (superiors (state_of old).raw) r k) refl)
           (λ c. ap (λ l. console_at l.items c) consoles ∙ ap (λ (f : ℕ → Console). f c) swept.shared.consoles)
           (λ c.
           holders c
           ∙ (λ i. passed_on (gone_same i) (heir_same i) (holder_at mid.holders c))
           ∙ ap (λ (f : ℕ → Option ℕ). passed_on (is_gone (superiors (state_of old).raw) r) (superiors (state_of old).raw r) (f c)) swept.shared.holders)
-          (ap directory files ∙ swept.shared.files) (clock ∙ swept.shared.clock))
+          (ap directory files ∙ swept.shared.files) (clock ∙ swept.shared.clock) (version ∙ swept.shared.version)
+          (λ k. symbols_gone forgets tidy k ∙ ap (λ (f : ℕ → List Symbol). symbols_left (is_gone (superiors (state_of old).raw) r k) (f k)) swept.shared.symbols))
           (λ k. ap (λ f. frame_at f.items k) frames ∙ (all_swept k).frame)
           (λ k. ap (λ c. clear_at c k) core ∙ (all_swept k).page)
           (ap mark_of files ∙ swept.shared.mark)

@@ -82,6 +82,9 @@ unmoved w s none = record {
   holders = refl;
   files = refl;
   clock = refl;
+  alarms = refl;
+  version = refl;
+  symbols = refl;
 }
 
 pub paid_none : (w : World) (s n : ℕ) (a : Ask) (f : ℕ → Frame) → is_some (job_at w.jobs s) ≡ true → frame_at w.frames.items s ≡ None → n ≡ 0

@@ -37,7 +37,7 @@ use Rattle.its_stepped.proofs.HelpLaws.{helped_if_plain, helped_if_sound, helped
 use Rattle.its_stepped.proofs.TriedLaws.{prepared_seen, decision_helped, Goes_on, waits_unhelped, waits_unreached}
 use Rattle.its_stepped.proofs.ViewLaws.{StillAt, target_seen, reach_plain, helps_seen}
 use Rattle.its_stepped.proofs.ForestLaws.{forest_raw}
-use Rattle.its_world.specs.World.{raw_of, raw_at, frame_at, state_of}
+use Rattle.its_world.specs.World.{alarm_at, raw_of, raw_at, frame_at, state_of}
 use Rattle.its_world.specs.declared.world.World.{World}
 use Rattle.its_pclsr.specs.Carried.{standing_of, pace_of, Ready}
 use Rattle.its_pclsr.proofs.ReadyLaws.{still_at, target_reached, waits_reach, ready_by, decision_can}
@@ -237,15 +237,15 @@ tries w v j q h d sound forest is housed stands tried e f =
 
 -- the same of worlds: the job of the slot is there, its call is decided by its raw job, it can be carried out, and then
 -- the tick is made
-some_job : (s : Store) (c : Core) (o : Option ℕ) (j : Option Job) (q : Whole) → raw_of s c o j ≡ Some q → is_some j ≡ true
-some_job s c o (Some x) q e = refl
-some_job s c o None q e = cc
+some_job : (s : Store) (c : Core) (o : Option ℕ) (a : Option (ℕ × ℕ)) (j : Option Job) (q : Whole) → raw_of s c o a j ≡ Some q → is_some j ≡ true
+some_job s c o a (Some x) q e = refl
+some_job s c o a None q e = cc
 
 pub job_there : (w : World) (s : ℕ) (q : Whole) → (state_of w).raw.jobs s ≡ Some q → is_some (job_at w.jobs s) ≡ true
 unfolding state_of
-job_there w s q e = some_job w.files (core_at w.core s) (superior_at w.jobs s) (job_at w.jobs s) q e
+job_there w s q e = some_job w.files (core_at w.core s) (superior_at w.jobs s) (alarm_at w.alarms.items s) (job_at w.jobs s) q e
 
-pub decided_there : (w : World) (s : ℕ) (q : Whole) (a : Ask) (d : Decision) → (state_of w).raw.jobs s ≡ Some q → IfSome (raw_at w.files w.core w.jobs s) (λ q. d ≡ decision (state_of w).raw s q a)
+pub decided_there : (w : World) (s : ℕ) (q : Whole) (a : Ask) (d : Decision) → (state_of w).raw.jobs s ≡ Some q → IfSome (raw_at w.files w.core w.jobs w.alarms.items s) (λ q. d ≡ decision (state_of w).raw s q a)
     → d ≡ decision (state_of w).raw s q a
 unfolding state_of
 decided_there w s q a d e h = subst (λ (o : Option Whole). IfSome o (λ q. d ≡ decision (state_of w).raw s q a)) e h

@@ -34,7 +34,7 @@ use Rattle.its_stepped.proofs.UnwindLaws.{unwind_fewer, left_none, unwind_plain,
 use Rattle.its_stepped.proofs.KeptLaws.{user_page}
 use Rattle.its_pclsr.specs.Apart.{CoresOff}
 use Rattle.its_pclsr.specs.Owed.{Marks}
-use Rattle.its_world.specs.World.{state_of, mark_of, raw_of, raw_at, frame_at, frames_after, FrameBecomes}
+use Rattle.its_world.specs.World.{state_of, mark_of, alarm_at, raw_of, raw_at, frame_at, frames_after, FrameBecomes}
 use Rattle.its_world.specs.declared.world.World.{World}
 use Rattle.its_world.proofs.StateLaws.{kept_turn, retaken}
 
@@ -53,16 +53,16 @@ settled_taken w s t a (Free ∷ os) = ap (with_part w.mark) (retaken w s None (S
 settled_taken w s t a (Leave e ∷ os) = retaken w s None None (leave e)
 
 -- a slot with a frame has a job, and its frame can be paid
-by_job : (t : Store) (c : Core) (sup : Option ℕ) (o : Option Job) (f : Frame) (r : Option ℕ) → SoundBy (raw_of t c sup o) (Some f) r → (is_some o ≡ true) × Pays f c r
-by_job t c sup (Some j) f r h = (refl, h.pays)
-by_job t c sup None f r h = cc (h.0)
+by_job : (t : Store) (c : Core) (sup : Option ℕ) (a : Option (ℕ × ℕ)) (o : Option Job) (f : Frame) (r : Option ℕ) → SoundBy (raw_of t c sup a o) (Some f) r → (is_some o ≡ true) × Pays f c r
+by_job t c sup a (Some j) f r h = (refl, h.pays)
+by_job t c sup a None f r h = cc (h.0)
 
-by_frame : (t : Store) (c : Core) (sup : Option ℕ) (o : Option Job) (f : Option Frame) (g : Frame) (r : Option ℕ) → f ≡ Some g → SoundBy (raw_of t c sup o) f r → (is_some o ≡ true) × Pays g c r
-by_frame t c sup o f g r e h = by_job t c sup o g r (subst (λ x. SoundBy (raw_of t c sup o) x r) e h)
+by_frame : (t : Store) (c : Core) (sup : Option ℕ) (a : Option (ℕ × ℕ)) (o : Option Job) (f : Option Frame) (g : Frame) (r : Option ℕ) → f ≡ Some g → SoundBy (raw_of t c sup a o) f r → (is_some o ≡ true) × Pays g c r
+by_frame t c sup a o f g r e h = by_job t c sup a o g r (subst (λ x. SoundBy (raw_of t c sup a o) x r) e h)
 
 pub stands_at : (w : World) (s : ℕ) (f : Frame) → Sound (state_of w) → frame_at w.frames.items s ≡ Some f → (is_some (job_at w.jobs s) ≡ true) × Pays f (core_at w.core s) (clear_at w.core s)
 unfolding state_of
-stands_at w s f sound e = by_frame w.files (core_at w.core s) (superior_at w.jobs s) (job_at w.jobs s) (frame_at w.frames.items s) f (clear_at w.core s) e (sound.each s).by
+stands_at w s f sound e = by_frame w.files (core_at w.core s) (superior_at w.jobs s) (alarm_at w.alarms.items s) (job_at w.jobs s) (frame_at w.frames.items s) f (clear_at w.core s) e (sound.each s).by
 
 -- the same once the frame is taken out
 pub job_taken : (old mid : World) (s : ℕ) (f : Frame) (o : Option Frame) → o ≡ frame_at old.frames.items s → o ≡ Some f → FrameBecomes old mid s None → Sound (state_of old)
@@ -226,7 +226,7 @@ unfolding state_of
 all_pages old new s sound e cores =
     cores.pages
     ∙ ap (λ (o : Option ℕ). frames_after (clear_at old.core s) o s old.core.frames)
-    (user_page (raw_at new.files new.core new.jobs s) ((state_of new).frames s) (clear_at new.core s) (all_none old new s sound e) ((all_keeps old new s sound e).each s).by)
+    (user_page (raw_at new.files new.core new.jobs new.alarms.items s) ((state_of new).frames s) (clear_at new.core s) (all_none old new s sound e) ((all_keeps old new s sound e).each s).by)
 
 page_at : (w : World) (s : ℕ) → (state_of w).reserved s ≡ clear_at w.core s
 unfolding state_of

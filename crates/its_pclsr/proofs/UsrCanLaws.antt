@@ -21,7 +21,7 @@ use Rattle.its_plain.specs.CallTty.{is_shut, store_tests, read_tests, word_of, i
 use Rattle.its_plain.specs.CallUsr.{inferior_named, any_named, makes_job, opens_job, usr_tests, opens_usr, other_core, at_end, iot_peeks, iot_from, iot_into, siot_peeks, siot_pokes, set_word, highest_address, usrmem_tests, usrmem_on, usrmem, uclose_on, uclose}
 use Rattle.its_plain.specs.Change.{channel_in, inferior, effect}
 use Rattle.its_plain.specs.Decide.{reaching}
-use Rattle.its_plain.specs.Machine.{Chan, Shut, TtyIn, TtyOut, Reads, Writes, On, Whole, core_of}
+use Rattle.its_plain.specs.Machine.{Chan, Shut, TtyIn, TtyOut, Reads, Writes, On, Whole, core_of, limit}
 use Rattle.its_plain.specs.Tests.{◌⇒◌, fails, finishes, goes, out}
 use Rattle.its_plain.specs.View.{View, Outline, outline}
 use Rattle.its_stepped.specs.Commit.{effect_on}
@@ -48,20 +48,22 @@ outlined_some : (o : Option Whole) → is_some (option_map outline o) ≡ is_som
 outlined_some (Some q) = refl
 outlined_some None = refl
 
-least_seen : (x : View) (v : State) (j : ℕ) → Sees x v j → least_free x.outlines ≡ least_free v.raw.jobs
-least_seen x v j s = ap (λ (o : ℕ → Option Outline). least_free o) s.outlines ∙ least_alike (λ k. option_map outline (v.raw.jobs k)) v.raw.jobs (λ k. outlined_some (v.raw.jobs k))
+least_seen : (x : View) (v : State) (j : ℕ) → Sees x v j → least_free x.limit x.outlines ≡ least_free (limit v.raw) v.raw.jobs
+least_seen x v j s =
+    (λ t. least_free (s.limit t) (s.outlines t))
+    ∙ least_alike (limit v.raw) (λ k. option_map outline (v.raw.jobs k)) v.raw.jobs (λ k. outlined_some (v.raw.jobs k))
 
-caller_kept : (x : View) (v : State) (j k u n : ℕ) → Sees x v j → least_free v.raw.jobs ≡ Some k → (effect_on (changes.Make k u n) j v).raw.jobs j ≡ v.raw.jobs j
+caller_kept : (x : View) (v : State) (j k u n : ℕ) → Sees x v j → least_free (limit v.raw) v.raw.jobs ≡ Some k → (effect_on (changes.Make k u n) j v).raw.jobs j ≡ v.raw.jobs j
 unfolding effect_on effect
 caller_kept x v j k u n s e =
     (changed_only v.raw.jobs k (Some (inferior j (v.raw.jobs j) u n))).others j
-    (λ same. let wrong : None ≡ Some x.own = sym (least_empty v.raw.jobs k e) ∙ ap v.raw.jobs (sym same) ∙ s.job in cc)
+    (λ same. let wrong : None ≡ Some x.own = sym (least_empty (limit v.raw) v.raw.jobs k e) ∙ ap v.raw.jobs (sym same) ∙ s.job in cc)
 
 makes_job_can : (j : ℕ) (v : State) (x : View) (a : Ask) (n u y : ℕ) (o : Option ℕ) → Sees x v j → not (nat_lt n 16 && is_shut (channel_at x.own.channels n)) ≡ false
-    → least_free x.outlines ≡ o → Can j v (makes_job x a n u y o)
+    → least_free x.limit x.outlines ≡ o → Can j v (makes_job x a n u y o)
 makes_job_can j v x a n u y None s t e = tt
 makes_job_can j v x a n u y (Some k) s t e =
-    let free : least_free v.raw.jobs ≡ Some k = sym (least_seen x v j s) ∙ e in
+    let free : least_free (limit v.raw) v.raw.jobs ≡ Some k = sym (least_seen x v j s) ∙ e in
     let same = caller_kept x v j k u y s free in
     let opens = opening x v j n (opened.Usr k true) s t tt in
     ((has_job x v j s, free), ((opens.0, ap is_some same ∙ opens.1, ap (λ (o : Option Whole). channel_in o n) same ∙ opens.2, tt), tt))
@@ -70,8 +72,8 @@ opens_job_can : (j : ℕ) (v : State) (x : View) (a : Ask) (n u y : ℕ) (write 
     → Can j v (opens_job x a n u y write o)
 opens_job_can j v x a n u y write (Some k) s t = (opening x v j n (opened.Usr k write) s t tt, tt)
 opens_job_can j v x a n u y write None s t =
-    first_holds (Can j v) (any_named x u y ⇒ fails x a 0o13 ∷ not write ⇒ fails x a 0o12 ∷ []) (makes_job x a n u y (least_free x.outlines)) (λ t. tt, (λ t. tt, tt))
-    (λ r. makes_job_can j v x a n u y (least_free x.outlines) s t refl)
+    first_holds (Can j v) (any_named x u y ⇒ fails x a 0o13 ∷ not write ⇒ fails x a 0o12 ∷ []) (makes_job x a n u y (least_free x.limit x.outlines)) (λ t. tt, (λ t. tt, tt))
+    (λ r. makes_job_can j v x a n u y (least_free x.limit x.outlines) s t refl)
 
 pub opens_usr_can : (j : ℕ) (v : State) (x : View) (a : Ask) → Sees x v j → Can j v (opens_usr x a)
 unfolding opens_usr

@@ -12,7 +12,7 @@ use Rattle.its_frame.specs.declared.change.Opened.{Opened}
 use Rattle.its_frame.specs.declared.change.Opened.TheVariants as opened
 use Rattle.its_plain.specs.CallFile.{has_file}
 use Rattle.its_plain.specs.Change.{superiors, is_gone}
-use Rattle.its_plain.specs.Machine.{Shut, core_of, mapped}
+use Rattle.its_plain.specs.Machine.{Shut, core_of, mapped, limit}
 use Rattle.its_plain.specs.Own.{names_of}
 use Rattle.its_stepped.specs.Commit.{effect_on}
 use Rattle.its_stepped.specs.Sound.{Sound}
@@ -70,9 +70,10 @@ CanMake (changes.Take c) j w = c < 8
 CanMake (changes.Put c b) j w = (c < 8) × (length (w.raw.consoles c).output < most_waiting)
 CanMake (changes.Hold c s) j w = c < 8
 CanMake (changes.Inform s) j w = Unit {0}
+CanMake (changes.Arm alarm) j w = Unit {0}
 CanMake (changes.Set s v x) j w = Unit {0}
 CanMake (changes.Poke s a x) j w = Pokes w s a
-CanMake (changes.Make s u n) j w = HasJob w j × (least_free w.raw.jobs ≡ Some s)
+CanMake (changes.Make s u n) j w = HasJob w j × (least_free (limit w.raw) w.raw.jobs ≡ Some s)
 CanMake (changes.Remove s) j w = (s < slots) × HasJob w s × (is_gone (superiors w.raw) s j ≡ false) × Removable w s
 CanMake (changes.Map s k) j w = Maps w j s k
 CanMake (changes.Unmap s k) j w = HasPage w s k

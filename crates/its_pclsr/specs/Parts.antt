@@ -8,3 +8,4 @@ pub record NextMade (old new : World) : Type 0 where
   pub row : state_of new ≡ with_part (state_of old).mark (state_of old)
   pub core : new.core ≡ old.core
   pub jobs : new.jobs ≡ old.jobs
+  pub symbols : new.symbols ≡ old.symbols

@@ -13,7 +13,7 @@ use Rattle.its_stepped.specs.SlotSame.{SlotSame}
 use Rattle.its_stepped.specs.State.{State}
 use Rattle.its_world.specs.Storage.{chan_in, IsElsewhere}
 use Rattle.its_world.specs.Tidy.{channel_at}
-use Rattle.its_world.specs.World.{state_of}
+use Rattle.its_world.specs.World.{alarm_at, state_of}
 use Rattle.its_pclsr.specs.Pages.{pages_swept}
 use Rattle.its_world.specs.declared.world.World.{World}
 
@@ -33,6 +33,8 @@ pub record Shared (old new : State) : Type 0 where
   pub holders : new.raw.holders ≡ old.raw.holders
   pub files : new.raw.files ≡ old.raw.files
   pub clock : new.raw.clock ≡ old.raw.clock
+  pub version : new.raw.version ≡ old.raw.version
+  pub symbols : new.raw.symbols ≡ old.raw.symbols
   pub mark : new.mark ≡ old.mark
 
 -- nothing but slot s changes, and it keeps its page
@@ -47,10 +49,11 @@ pub record Closes (old new : State) (s m : ℕ) : Type 0 where
   pub frame : new.frames s ≡ old.frames s
   pub closed : (n : ℕ) → n < m → chan_in new s n ≡ Shut
 
--- the slot of a job that is to go: no page is left, no channel is open, and it has no frame. The frames of its pages are free
+-- the slot of a job that is to go: no page is left, no channel is open, it has no alarm and no frame. The frames of its pages are free
 pub record Bare (w : World) (k : ℕ) : Type 0 where
   pub core : core_at w.core k ≡ no_core
   pub channels : (n : ℕ) → channel_at w.jobs k n ≡ channels.Closed
+  pub alarm : alarm_at w.alarms.items k ≡ None
 
 pub record Empties (old new : World) (s : ℕ) : Type 0 where
   pub alone : Alone (state_of old) (state_of new) s

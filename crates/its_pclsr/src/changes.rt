@@ -4,9 +4,9 @@ ghost use Rattle.its_word.specs.Limits.{slots};
 ghost use Rattle.its_word.specs.Core.{can_store};
 ghost use Rattle.its_word.specs.Tree.{least_free};
 ghost use Rattle.its_core.specs.Frames.{frames_map, frames_unmap};
-ghost use Rattle.its_plain.specs.Change.{console_in, on_console, poke, protected, put_to, taken_from, with_inf, with_page_at};
+ghost use Rattle.its_plain.specs.Change.{console_in, on_console, poke, protected, put_to, taken_from, with_alarm, with_inf, with_page_at};
 ghost use Rattle.its_frame.specs.declared.change.Change.TheVariants.{Make, Map, Open};
-ghost use Rattle.its_plain.specs.Machine.{Shut, changed, core_of};
+ghost use Rattle.its_plain.specs.Machine.{Shut, changed, core_of, limit};
 ghost use Rattle.its_plain.specs.Own.{with_registers, with_stores, with_variable};
 ghost use Rattle.its_stepped.specs.Commit.{effect_on, effects_on};
 ghost use Rattle.its_stepped.specs.Lines.{with_raw};
@@ -66,6 +66,7 @@ fn apply_one(w: &mut World, slot: u8, change: &Change)
         Change::Put { console, byte } => put(w, *console, *byte),
         Change::Hold { console, slot: s } => hold(w, *console, *s),
         Change::Inform { slot: s } => inform(w, *s),
+        Change::Arm { alarm } => arm(w, slot, *alarm),
         Change::Set {
             slot: s,
             variable,
@@ -165,6 +166,20 @@ fn inform(w: &mut World, slot: u8)
     }
 }
 
+/// Gives a slot's job another alarm, or none.
+#[tactic(auto, using(its_world::proofs::AlarmLaws::alarm_state, crate::proofs::ChangeLaws::armed_missing, crate::proofs::ChangeLaws::armed_tidy, crate::proofs::ChangeLaws::armed_pages))]
+fn arm(w: &mut World, slot: u8, alarm: Option<(u64, u64)>)
+    requires slot { slot < slots }
+    requires tidy { Tidy w.old }
+    ensures row { state_of w.new ≡ in_raw (state_of w.old) slot (with_alarm alarm) }
+    ensures pages { w.new.core.frames ≡ w.old.core.frames }
+    ensures tidy { Tidy w.new }
+{
+    if w.registers(slot).is_some() {
+        w.put_alarm(slot, alarm);
+    }
+}
+
 /// Stores a word of a slot's job.
 #[tactic(auto, using(crate::proofs::ApartLaws::becomes_pages))]
 fn poke(w: &mut World, slot: u8, at: u32, word: Word)
@@ -184,7 +199,7 @@ fn poke(w: &mut World, slot: u8, at: u32, word: Word)
 fn make(w: &mut World, maker: u8, slot: u8, u: Word, j: Word)
     requires maker { maker < slots }
     requires job { HasJob (state_of w.old) maker }
-    requires free { least_free (state_of w.old).raw.jobs ≡ Some slot }
+    requires free { least_free (limit (state_of w.old).raw) (state_of w.old).raw.jobs ≡ Some slot }
     requires tidy { Tidy w.old }
     ensures row { state_of w.new ≡ effect_on (Make slot u j) maker (state_of w.old) }
     ensures pages { w.new.core.frames ≡ w.old.core.frames }

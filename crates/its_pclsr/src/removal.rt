@@ -22,8 +22,8 @@ mod tests;
 
 use super::unwinding::unwind;
 use its_jobs::Jobs;
-use its_word::Channel;
-use its_world::World;
+use its_word::{Channel, SLOTS};
+use its_world::{World, forget_removed};
 
 /// How many channels a job has.
 const CHANNELS: u8 = 16;
@@ -47,7 +47,7 @@ pub fn unwind_below(w: &mut World, slot: u8)
 }
 
 /// Removes the job of a slot and all jobs below it: their drafts are dropped, their channels closed, and
-/// their pages given up; every channel on one of them is closed. A console that one of them holds passes to
+/// their pages and symbols given up; every channel on one of them is closed. A console that one of them holds passes to
 /// the superior of the job, where it has one, else to nobody. No INF is set. The jobs below have been
 /// unwound; what is left of a call of the job itself is dropped, but a page that it has reserved is given
 /// back before.
@@ -69,6 +69,7 @@ pub fn remove_tree(w: &mut World, slot: u8)
     w.jobs.tree();
     pass_on(&w.jobs, slot, &mut w.holders);
     w.jobs.remove_tree(slot);
+    forget_removed(&mut w.symbols, &w.jobs);
 }
 
 /// Gives up what the jobs of a tree have, and closes the channels on them.
@@ -79,7 +80,7 @@ fn sweep(w: &mut World, root: u8)
     ensures swept { Swept (is_gone (superiors (state_of w.old).raw) root) w.old w.new slots }
     ensures tidy { Tidy w.new }
 {
-    for slot in 0..64u8 {
+    for slot in 0..SLOTS as u8 {
         sweep_slot(w, root, slot);
     }
 }
@@ -99,7 +100,7 @@ fn sweep_slot(w: &mut World, root: u8, slot: u8)
     }
 }
 
-/// Closes the channels of a slot's job, and gives up its pages and its frame.
+/// Closes the channels of a slot's job, and gives up its pages, its frame and its alarm.
 fn empty(w: &mut World, slot: u8)
     requires slot { slot < slots }
     requires tidy { Tidy w.old }
@@ -109,6 +110,7 @@ fn empty(w: &mut World, slot: u8)
     shut_all(w, slot);
     drop_core(w, slot);
     w.take_frame(slot);
+    w.put_alarm(slot, None);
 }
 
 /// Closes all channels of a slot's job: its drafts are dropped, and it reads no file any more.

@@ -1,26 +1,29 @@
 -- What the lines of a session leave of the plain machine: names, superiors and channels, and how consoles and
 -- their holders change. What holds of these alone is kept by every line.
-use Rattle.std.specs.Prelude.{◌≡◌, ◌≢◌, ◌<◌, ◌≤◌, ◌⊎◌, ℕ, zero, suc, cond, ◌+◌, Bool, true, false, Option, Some, None, List, [], ◌∷◌, ◌++◌, Result, Ok, Err, option_map, is_some, nat_lt, length, take, drop, refl}
+use Rattle.std.specs.Prelude.{◌≡◌, ◌≢◌, ◌<◌, ◌≤◌, ◌⊎◌, ℕ, ◌+◌, ◌==◌, Bool, true, false, Option, Some, None, List, [], ◌∷◌, ◌++◌, Result, Ok, Err, option_map, is_some, nat_lt, length, take, drop, refl}
 use Rattle.std.proofs.Common.{sym, ◌∙◌, ap, subst, inl, inr, arith}
-use Rattle.std.proofs.lemmas.Bool.{cases_eq, eq-eqb, ne_eqb, ltb-true}
+use Rattle.std.proofs.lemmas.Bool.{cases_Bool, cases_eq, eq-eqb, ne_eqb, ltb-true}
 use Rattle.its_word.specs.Console.{most_waiting}
-use Rattle.its_word.specs.Core.{Core, word_at, can_store}
-use Rattle.its_word.specs.Limits as limits
-use Rattle.its_word.specs.Tree.{free_from, least_free}
+use Rattle.its_word.specs.Core.{Core, Page, page_of, word_at, can_store}
+use Rattle.its_word.specs.Limits.{most_symbols}
+use Rattle.its_word.specs.Tree.{least_free}
 use Rattle.its_word.specs.declared.jobs.Job.{Job}
 use Rattle.its_word.specs.declared.session.Event.{Event}
 use Rattle.its_word.specs.declared.session.Event.TheVariants as events
 use Rattle.its_word.specs.declared.session.Reason.{Reason}
 use Rattle.its_word.specs.declared.show.JobShow.{JobShow}
-use Rattle.its_word.proofs.FreeLaws.{least_empty}
-use Rattle.its_plain.specs.Machine.{Names, File, Chan, Console, Whole, Machine, changed, with_job, mapped}
+use Rattle.its_word.proofs.FreeLaws.{least_empty, least_below}
+use Rattle.its_plain.specs.Machine.{Names, File, Chan, Console, Whole, Machine, changed, with_job, mapped, limit}
 use Rattle.its_plain.specs.Operator.{Block, Refuses, Does, Ticks, Quits, and_then, disturbs, quietly}
-use Rattle.its_plain.specs.OperatorJobs.{new_job, held_by, loaded_in, loaded, stored, with_core, word_loaded_of, word_loaded, words_loaded, on_job, with_registers, on_registers, started, interrupted, stopped, continued, examined, state_shown, deposited_in, deposited}
-use Rattle.its_plain.specs.OperatorLines.{by_load, by_exam, by_state, operate, shows, Lined, Done, Peeks, peeked_at, lined}
+use Rattle.its_plain.specs.OperatorJobs.{new_job, held_by, loaded_in, loaded, stored, with_core, word_loaded_of, word_loaded, words_stored, words_barred, words_loaded_if, words_loaded, page_protected_in, page_protected, on_job, with_registers, on_registers, started, interrupted, stopped, continued, examined, state_shown, deposited_in, deposited}
+use Rattle.its_plain.specs.OperatorSymbols.{symbol_kept_if, symbol_kept_of, symbol_kept}
+use Rattle.its_plain.specs.OperatorVersion.{versioned}
+use Rattle.its_plain.specs.Change.{protected}
+use Rattle.its_plain.specs.OperatorLines.{by_load, by_exam, by_state, by_clock, operate, shows, Lined, Done, Peeks, peeked_at, lined}
 use Rattle.its_plain.specs.Own.{names_of}
 use Rattle.its_plain.specs.CallFile.{most_files, is_full, file_named, has_file}
 use Rattle.its_plain.specs.OperatorFiles.{channels_of, with_files, file_made_if, file_made, word_added_if, word_added_to, word_added, words_added, file_shown}
-use Rattle.its_plain.specs.OperatorClock.{clock_end, clocked_if, clocked}
+use Rattle.its_plain.specs.OperatorClock.{alarm_in, due, rung, rung_if, at_clock, clock_end, clocked_if, clocked}
 use Rattle.its_plain.specs.OperatorConsoles.{typed, drained}
 use Rattle.its_print.specs.Printing.{Line}
 
@@ -51,12 +54,19 @@ pub data HolderKept (m n : Machine) (c : ℕ) : Type 0 where
   Keeps : n.holders c ≡ m.holders c → HolderKept m n c
   Takes : (s u j : ℕ) → m.holders c ≡ None → m.jobs s ≡ None → n.jobs s ≡ Some (new_job u j (Some c)) → n.holders c ≡ Some s → HolderKept m n c
 
+-- the clock is as it was, and each job that stays has its alarm; or CLOCK made the alarms go that were due
+pub data AlarmsKept (m n : Machine) : Type 0 where
+  Same : n.clock ≡ m.clock → ((k : ℕ) → (alarm_in (n.jobs k) ≡ alarm_in (m.jobs k)) ⊎ (alarm_in (n.jobs k) ≡ None)) → AlarmsKept m n
+  Went : (c : ℕ) → m.clock ≤ c → n ≡ at_clock c m → AlarmsKept m n
+
 pub record LineKeeps (m n : Machine) : Type 0 where
   pub slots : (k : ℕ) → SlotKept (m.jobs k) (n.jobs k)
-  pub few : (k : ℕ) → limits.slots ≤ k → m.jobs k ≡ None → n.jobs k ≡ None
+  pub few : (k : ℕ) → limit m ≤ k → m.jobs k ≡ None → n.jobs k ≡ None
   pub consoles : (c : ℕ) → ConsoleKept (m.consoles c) (n.consoles c)
   pub holders : (c : ℕ) → HolderKept m n c
   pub clock : (n.clock ≡ m.clock) ⊎ (n.clock < clock_end)
+  pub version : (n.version ≡ m.version) ⊎ (n.version ≡ 2)
+  pub alarms : AlarmsKept m n
 
 abbrev pub LineKeepsBy : Machine → Lined → Type 0
 LineKeepsBy m (Done (Does n out touched b)) = LineKeeps m n
@@ -68,10 +78,12 @@ LineKeepsBy m (Peeks s) = Unit {0}
 -- the same, but for words and registers
 pub record Alike (m n : Machine) : Type 0 where
   pub slots : (k : ℕ) → option_map face (n.jobs k) ≡ option_map face (m.jobs k)
+  pub alarms : (k : ℕ) → alarm_in (n.jobs k) ≡ alarm_in (m.jobs k)
   pub consoles : n.consoles ≡ m.consoles
   pub holders : n.holders ≡ m.holders
   pub files : n.files ≡ m.files
   pub clock : n.clock ≡ m.clock
+  pub version : n.version ≡ m.version
 
 -- an empty slot has no face
 faceless : (p o : Option Whole) → option_map face p ≡ option_map face o → o ≡ None → p ≡ None
@@ -85,30 +97,39 @@ alike_keeps m n h = record {
   consoles = λ c. Quiet (ap (λ (f : ℕ → Console). f c) h.consoles);
   holders = λ c. Keeps (ap (λ (f : ℕ → Option ℕ). f c) h.holders);
   clock = inl h.clock;
+  version = inl h.version;
+  alarms = Same h.clock (λ k. inl (h.alarms k));
 }
 
 alike_same : (m : Machine) → Alike m m
-alike_same m = record { slots = λ k. refl; consoles = refl; holders = refl; files = refl; clock = refl }
+alike_same m = record { slots = λ k. refl; alarms = λ k. refl; consoles = refl; holders = refl; files = refl; clock = refl; version = refl }
 
 alike_then : (m n l : Machine) → Alike m n → Alike n l → Alike m l
 alike_then m n l a b = record {
   slots = λ k. b.slots k ∙ a.slots k;
+  alarms = λ k. b.alarms k ∙ a.alarms k;
   consoles = b.consoles ∙ a.consoles;
   holders = b.holders ∙ a.holders;
   files = b.files ∙ a.files;
   clock = b.clock ∙ a.clock;
+  version = b.version ∙ a.version;
 }
 
-put_alike : (m : Machine) (s : ℕ) (q p : Whole) → m.jobs s ≡ Some q → face p ≡ face q → Alike m (with_job m s p)
-put_alike m s q p is e = record {
+put_alike : (m : Machine) (s : ℕ) (q p : Whole) → m.jobs s ≡ Some q → face p ≡ face q → p.alarm ≡ q.alarm → Alike m (with_job m s p)
+put_alike m s q p is e alarm = record {
   slots = λ k. elim (cases_eq k s) [
     | inl at ↦ rw (at, eq-eqb s s refl) (ap Some e ∙ sym (ap (option_map face) is))
+    | inr ne ↦ rw (ne_eqb k s ne) refl
+  ];
+  alarms = λ k. elim (cases_eq k s) [
+    | inl at ↦ rw (at, eq-eqb s s refl) (alarm ∙ sym (ap alarm_in is))
     | inr ne ↦ rw (ne_eqb k s ne) refl
   ];
   consoles = refl;
   holders = refl;
   files = refl;
   clock = refl;
+  version = refl;
 }
 
 abbrev AlikeBy : Machine → Result Machine Reason → Type 0
@@ -116,7 +137,7 @@ AlikeBy m (Ok n) = Alike m n
 AlikeBy m (Err r) = Unit {0}
 
 core_alike : (m : Machine) (s : ℕ) (q : Whole) (r : Result Core Reason) → m.jobs s ≡ Some q → AlikeBy m (with_core m s q r)
-core_alike m s q (Ok c) is = put_alike m s q (record q { core = c }) is refl
+core_alike m s q (Ok c) is = put_alike m s q (record q { core = c }) is refl refl
 core_alike m s q (Err r) is = tt
 
 registers_alike : (m : Machine) (s : ℕ) (f : Job → Job) → ((q : Whole) → face (record q { job = f q.job }) ≡ face q) → AlikeBy m (on_registers m s f)
@@ -124,7 +145,7 @@ unfolding on_registers
 registers_alike m s f same = go (m.jobs s) refl
   where
     go : (o : Option Whole) → m.jobs s ≡ o → AlikeBy m (on_job m s (with_registers m s f) o)
-    go (Some q) is = put_alike m s q (record q { job = f q.job }) is (same q)
+    go (Some q) is = put_alike m s q (record q { job = f q.job }) is (same q) refl
     go None is = tt
 
 deposited_alike : (m : Machine) (s a w : ℕ) → AlikeBy m (deposited m s a w)
@@ -148,18 +169,70 @@ alike_further : (m n : Machine) (r : Result Machine Reason) → Alike m n → Al
 alike_further m n (Ok l) a b = alike_then m n l a b
 alike_further m n (Err r) a b = tt
 
-words_alike : (m : Machine) (s a : ℕ) (ws : List ℕ) → AlikeBy m (words_loaded m s a ws)
-words_alike m s a [] = alike_same m
-words_alike m s a (w ∷ ws) = go (word_loaded m s a w) (word_alike m s a w) (λ n. words_alike n s (a + 1) ws)
+stored_alike : (m : Machine) (s a : ℕ) (ws : List ℕ) → AlikeBy m (words_stored m s a ws)
+stored_alike m s a [] = alike_same m
+stored_alike m s a (w ∷ ws) = go (word_loaded m s a w) (word_alike m s a w) (λ n. stored_alike n s (a + 1) ws)
   where
-    go : (r : Result Machine Reason) → AlikeBy m r → ((n : Machine) → AlikeBy n (words_loaded n s (a + 1) ws)) → AlikeBy m (and_then r (λ n. words_loaded n s (a + 1) ws))
-    go (Ok n) first h = alike_further m n (words_loaded n s (a + 1) ws) first (h n)
+    go : (r : Result Machine Reason) → AlikeBy m r → ((n : Machine) → AlikeBy n (words_stored n s (a + 1) ws)) → AlikeBy m (and_then r (λ n. words_stored n s (a + 1) ws))
+    go (Ok n) first h = alike_further m n (words_stored n s (a + 1) ws) first (h n)
     go (Err r) first h = tt
+
+words_alike_if : (m : Machine) (s a : ℕ) (ws : List ℕ) (barred : Bool) → AlikeBy m (words_loaded_if m s a ws barred)
+words_alike_if m s a ws true = tt
+words_alike_if m s a ws false = stored_alike m s a ws
+
+words_alike : (m : Machine) (s a : ℕ) (ws : List ℕ) → AlikeBy m (words_loaded m s a ws)
+unfolding words_loaded
+words_alike m s a ws = words_alike_if m s a ws (words_barred m s a (length ws))
+
+page_alike : (m : Machine) (s k : ℕ) → AlikeBy m (page_protected m s k)
+unfolding page_protected
+page_alike m s k = go (m.jobs s) refl
+  where
+    put : (q : Whole) (o : Option Page) → m.jobs s ≡ Some q → AlikeBy m (page_protected_in m s k q o)
+    put q (Some p) is = put_alike m s q (protected k false q) is refl refl
+    put q None is = tt
+
+    go : (o : Option Whole) → m.jobs s ≡ o → AlikeBy m (on_job m s (λ q. page_protected_in m s k q (page_of q.core k)) o)
+    go (Some q) is = put q (page_of q.core k) is
+    go None is = tt
+
+symbol_alike : (m : Machine) (s name a : ℕ) → AlikeBy m (symbol_kept m s name a)
+unfolding symbol_kept
+symbol_alike m s name a = go (m.jobs s)
+  where
+    put : (room : Bool) → AlikeBy m (symbol_kept_if m s (name, a) room)
+    put true = record { slots = λ k. refl; alarms = λ k. refl; consoles = refl; holders = refl; files = refl; clock = refl; version = refl }
+    put false = tt
+
+    go : (o : Option Whole) → AlikeBy m (symbol_kept_of m s (name, a) o)
+    go (Some q) = put (nat_lt (length (m.symbols s)) most_symbols)
+    go None = tt
 
 -- what a result comes to
 disturbs_keeps : (m : Machine) (s : ℕ) (b : Block) (r : Result Machine Reason) → AlikeBy m r → LineKeepsBy m (Done (disturbs s b r))
 disturbs_keeps m s b (Ok n) h = alike_keeps m n h
 disturbs_keeps m s b (Err r) h = tt
+
+quiet_keeps : (m : Machine) (b : Block) (r : Result Machine Reason) → AlikeBy m r → LineKeepsBy m (Done (quietly b r))
+quiet_keeps m b (Ok n) h = alike_keeps m n h
+quiet_keeps m b (Err r) h = tt
+
+-- VERSION changes the version alone, to the second
+version_keeps : (m : Machine) (v : ℕ) → LineKeeps m (versioned m v)
+unfolding versioned
+version_keeps m v = elim (cases_Bool (v == 2)) [
+  | inl is ↦ rw is (record {
+    slots = λ k. Stays refl;
+    few = λ k l e. e;
+    consoles = λ c. Quiet refl;
+    holders = λ c. Keeps refl;
+    clock = inl refl;
+    version = inr refl;
+    alarms = Same refl (λ k. inl refl);
+  })
+  | inr is ↦ rw is (alike_keeps m m (alike_same m))
+]
 
 exam_keeps : (m : Machine) (b : Block) (s a : ℕ) (r : Result (List ℕ) Reason) → LineKeepsBy m (Done (by_exam m b s a r))
 exam_keeps m b s a (Ok ws) = alike_keeps m m (alike_same m)
@@ -173,29 +246,23 @@ peek_keeps : (m : Machine) (s : ℕ) (o : Option Whole) → LineKeepsBy m (peeke
 peek_keeps m s (Some q) = tt
 peek_keeps m s None = tt
 
--- the least free slot is one of the slots that there are
-free_below : (f : ℕ → Option Whole) (n k s : ℕ) → free_from f n k ≡ Some s → s < k + n
-unfolding free_from
-free_below f zero k s h = absurd (let none = h in cc)
-free_below f (suc n) k s h = go (is_some (f k)) h (λ t. free_below f n (k + 1) s t)
-  where
-    go : (b : Bool) → cond b (free_from f n (k + 1)) (Some k) ≡ Some s → (free_from f n (k + 1) ≡ Some s → s < k + 1 + n) → s < k + suc n
-    go true t rest = let l = rest t in omega arith
-    go false t rest = let e : k ≡ s = cc in omega arith
-
-least_below : (f : ℕ → Option Whole) (s : ℕ) → least_free f ≡ Some s → s < limits.slots
-unfolding least_free
-least_below f s h = let l = free_below f limits.slots 0 s h in omega arith
-
-made_slots : (m : Machine) (u j : ℕ) (console : Option ℕ) (s k : ℕ) → least_free m.jobs ≡ Some s → SlotKept (m.jobs k) (changed m.jobs s (Some (new_job u j console)) k)
+-- LOAD makes a job in the least free slot
+made_slots : (m : Machine) (u j : ℕ) (console : Option ℕ) (s k : ℕ) → least_free (limit m) m.jobs ≡ Some s → SlotKept (m.jobs k) (changed m.jobs s (Some (new_job u j console)) k)
 made_slots m u j console s k is = elim (cases_eq k s) [
-  | inl at ↦ rw at (Made u j console (least_empty m.jobs s is) (rw (eq-eqb s s refl) refl))
+  | inl at ↦ rw at (Made u j console (least_empty (limit m) m.jobs s is) (rw (eq-eqb s s refl) refl))
   | inr ne ↦ Stays (rw (ne_eqb k s ne) refl)
 ]
 
-made_few : (m : Machine) (q : Whole) (s k : ℕ) → least_free m.jobs ≡ Some s → limits.slots ≤ k → m.jobs k ≡ None → changed m.jobs s (Some q) k ≡ None
+made_few : (m : Machine) (q : Whole) (s k : ℕ) → least_free (limit m) m.jobs ≡ Some s → limit m ≤ k → m.jobs k ≡ None → changed m.jobs s (Some q) k ≡ None
 made_few m q s k is l e =
-    let below : s < limits.slots = least_below m.jobs s is in let ne : k ≢ s = λ at. omega arith in rw (ne_eqb k s ne) e
+    let below : s < limit m = least_below (limit m) m.jobs s is in let ne : k ≢ s = λ at. omega arith in rw (ne_eqb k s ne) e
+
+made_alarms : (m : Machine) (u j : ℕ) (console : Option ℕ) (s k : ℕ)
+    → (alarm_in (changed m.jobs s (Some (new_job u j console)) k) ≡ alarm_in (m.jobs k)) ⊎ (alarm_in (changed m.jobs s (Some (new_job u j console)) k) ≡ None)
+made_alarms m u j console s k = elim (cases_eq k s) [
+  | inl at ↦ rw at (inr (rw (eq-eqb s s refl) refl))
+  | inr ne ↦ inl (rw (ne_eqb k s ne) refl)
+]
 
 -- the holder of the console of a job that LOAD makes, and of every other one
 held_kept : (m n : Machine) (u j c s : ℕ) (o : Option ℕ) → m.holders c ≡ o → m.jobs s ≡ None → n.jobs s ≡ Some (new_job u j (Some c)) → n.holders c ≡ held_by s o → HolderKept m n c
@@ -210,13 +277,15 @@ holder_kept m n u j c s k none is holds = elim (cases_eq k c) [
   | inr ne ↦ Keeps (holds k ∙ rw (ne_eqb k c ne) refl)
 ]
 
-load_keeps : (m : Machine) (b : Block) (u j : ℕ) (console o : Option ℕ) → least_free m.jobs ≡ o → LineKeepsBy m (Done (by_load b (loaded_in m u j console o)))
+load_keeps : (m : Machine) (b : Block) (u j : ℕ) (console o : Option ℕ) → least_free (limit m) m.jobs ≡ o → LineKeepsBy m (Done (by_load b (loaded_in m u j console o)))
 load_keeps m b u j (Some c) (Some s) is = record {
   slots = λ k. made_slots m u j (Some c) s k is;
   few = λ k l e. made_few m (new_job u j (Some c)) s k is l e;
   consoles = λ k. Quiet refl;
-  holders = λ k. holder_kept m _ u j c s k (least_empty m.jobs s is) (rw (eq-eqb s s refl) refl) (λ i. refl);
+  holders = λ k. holder_kept m _ u j c s k (least_empty (limit m) m.jobs s is) (rw (eq-eqb s s refl) refl) (λ i. refl);
   clock = inl refl;
+  version = inl refl;
+  alarms = Same refl (λ k. made_alarms m u j (Some c) s k);
 }
 load_keeps m b u j None (Some s) is = record {
   slots = λ k. made_slots m u j None s k is;
@@ -224,6 +293,8 @@ load_keeps m b u j None (Some s) is = record {
   consoles = λ k. Quiet refl;
   holders = λ k. Keeps refl;
   clock = inl refl;
+  version = inl refl;
+  alarms = Same refl (λ k. made_alarms m u j None s k);
 }
 load_keeps m b u j console None is = tt
 
@@ -241,6 +312,8 @@ typed_keeps m c bytes = record {
   consoles = λ k. console_kept m c k _ (Gains bytes refl);
   holders = λ k. Keeps refl;
   clock = inl refl;
+  version = inl refl;
+  alarms = Same refl (λ k. inl refl);
 }
 
 drained_keeps : (m : Machine) (c n : ℕ) → LineKeeps m (drained c n m)
@@ -250,15 +323,29 @@ drained_keeps m c n = record {
   consoles = λ k. console_kept m c k _ (Loses n refl);
   holders = λ k. Keeps refl;
   clock = inl refl;
+  version = inl refl;
+  alarms = Same refl (λ k. inl refl);
 }
 
-clock_keeps : (m : Machine) (b : Block) (n : ℕ) (fits : Bool) → nat_lt (m.clock + n) clock_end ≡ fits → LineKeepsBy m (Done (quietly b (clocked_if m n fits)))
+-- CLOCK: ALR and a next time are no part of the face of a job
+rung_face : (c : ℕ) (b : Bool) (o : Option Whole) → option_map face (rung_if c b o) ≡ option_map face o
+rung_face c true (Some q) = refl
+rung_face c true None = refl
+rung_face c false o = refl
+
+rung_few : (c : ℕ) (b : Bool) (o : Option Whole) → o ≡ None → rung_if c b o ≡ None
+rung_few c true o e = ap (option_map (rung c)) e
+rung_few c false o e = e
+
+clock_keeps : (m : Machine) (b : Block) (n : ℕ) (fits : Bool) → nat_lt (m.clock + n) clock_end ≡ fits → LineKeepsBy m (Done (by_clock m b n (clocked_if m n fits)))
 clock_keeps m b n true is = record {
-  slots = λ k. Stays refl;
-  few = λ k l e. e;
+  slots = λ k. Stays (rung_face (m.clock + n) (due (m.clock + n) m.jobs k) (m.jobs k));
+  few = λ k l e. rung_few (m.clock + n) (due (m.clock + n) m.jobs k) (m.jobs k) e;
   consoles = λ c. Quiet refl;
   holders = λ c. Keeps refl;
   clock = inr (ltb-true (m.clock + n) clock_end is);
+  version = inl refl;
+  alarms = Went (m.clock + n) (omega arith) refl;
 }
 clock_keeps m b n false is = tt
 
@@ -270,6 +357,8 @@ files_keep m fs = record {
   consoles = λ c. Quiet refl;
   holders = λ c. Keeps refl;
   clock = inl refl;
+  version = inl refl;
+  alarms = Same refl (λ k. inl refl);
 }
 
 abbrev pub FilesAlone : Machine → Result Machine Reason → Type 0
@@ -320,8 +409,11 @@ shown_keeps m b (Err r) = tt
 
 pub line_keeps : (m : Machine) (b : Block) (e : Event) → LineKeepsBy m (lined m b e)
 unfolding lined operate loaded clocked
-line_keeps m b (events.Load u j console) = load_keeps m b u j console (least_free m.jobs) refl
+line_keeps m b (events.Load u j console) = load_keeps m b u j console (least_free (limit m) m.jobs) refl
 line_keeps m b (events.Words a words) = disturbs_keeps m b.slot b (words_loaded m b.slot a words.items) (words_alike m b.slot a words.items)
+line_keeps m b (events.Version v) = version_keeps m v
+line_keeps m b (events.ReadOnly page) = disturbs_keeps m b.slot b (page_protected m b.slot page) (page_alike m b.slot page)
+line_keeps m b (events.Symbol name a) = quiet_keeps m b (symbol_kept m b.slot name a) (symbol_alike m b.slot name a)
 line_keeps m b (events.Go a) = disturbs_keeps m b.slot b (on_registers m b.slot (started a)) (registers_alike m b.slot (started a) (λ q. refl))
 line_keeps m b (events.Int s x y) = disturbs_keeps m s b (on_registers m s (interrupted x y)) (registers_alike m s (interrupted x y) (λ q. refl))
 line_keeps m b (events.Stop s) = disturbs_keeps m s b (on_registers m s stopped) (registers_alike m s stopped (λ q. refl))

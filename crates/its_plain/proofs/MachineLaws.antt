@@ -4,13 +4,15 @@ use Rattle.std.proofs.Common.{◌∙◌}
 use Rattle.its_plain.specs.Machine.{Machine}
 
 pub machine_is : (m n : Machine) → ((k : ℕ) → m.jobs k ≡ n.jobs k) → ((k : ℕ) → m.consoles k ≡ n.consoles k) → ((k : ℕ) → m.holders k ≡ n.holders k)
-    → m.files ≡ n.files → m.clock ≡ n.clock → m ≡ n
-machine_is m n jobs consoles holders files clock = λ t. record {
+    → m.files ≡ n.files → m.clock ≡ n.clock → m.version ≡ n.version → ((k : ℕ) → m.symbols k ≡ n.symbols k) → m ≡ n
+machine_is m n jobs consoles holders files clock version symbols = λ t. record {
   jobs = λ k. jobs k t;
   consoles = λ k. consoles k t;
   holders = λ k. holders k t;
   files = files t;
   clock = clock t;
+  version = version t;
+  symbols = λ k. symbols k t;
 }
 
 -- the same where all but their jobs is alike

@@ -1,4 +1,4 @@
--- HANG, SLEEP, DISMIS, USRVAR and LOGOUT (docs/CALLS.md).
+-- HANG, SLEEP, DISMIS, USRVAR, LOGOUT and REALT (docs/CALLS.md).
 use Rattle.std.specs.Prelude.{if◌then◌else◌, ◌==◌, ◌||◌, ◌&&◌, ℕ, ◌+◌, ◌-◌, ◌%◌, ◌^◌, Bool, true, false, not, Option, Some, None, List, [], ◌∷◌, Result, Ok, Err, nat_lt, nat_le}
 use Rattle.its_word.specs.Word.{left_of, right_of, pair_of}
 use Rattle.its_word.specs.Core.{Core, can_store}
@@ -168,6 +168,16 @@ told_superior None = []
 
 abbrev pub logout : View → Decision
 logout v = Gone (record { items = told_superior v.own.superior })
+
+-- REALT n: the alarm of the job has period n, and its next time is n from now; with 0 it has none
+abbrev pub longest_period : ℕ
+longest_period = 0o200000000000
+
+abbrev pub alarm_of : ℕ → ℕ → Option (ℕ × ℕ)
+alarm_of c n = if n == 0 then None else Some (n, c + n)
+
+unfoldable pub realt : View → Ask → Decision
+realt v a = first ((is_negative (input a 0) || nat_lt longest_period (input a 0)) ⇒ fails v a error.OUT_OF_RANGE ∷ []) (finishes v (changes.Arm (alarm_of v.clock (input a 0)) ∷ []) [])
 
 -- `.IOT` that fails: IOC is set, and PC gains 1
 abbrev pub ioc : View → Decision

@@ -43,7 +43,7 @@ makes_job v a n u x None = fails v a error.NO_SLOT
 
 abbrev pub opens_job : View → Ask → ℕ → ℕ → ℕ → Bool → Option ℕ → Decision
 opens_job v a n u x write (Some s) = finishes v (changes.Open n (opened.Usr s write) ∷ []) []
-opens_job v a n u x write None = first (any_named v u x ⇒ fails v a error.NOT_INFERIOR ∷ not write ⇒ fails v a error.NO_JOB ∷ []) (makes_job v a n u x (least_free v.outlines))
+opens_job v a n u x write None = first (any_named v u x ⇒ fails v a error.NOT_INFERIOR ∷ not write ⇒ fails v a error.NO_JOB ∷ []) (makes_job v a n u x (least_free v.limit v.outlines))
 
 abbrev pub usr_tests : View → Ask → ℕ → ℕ → List Test
 usr_tests v a n control =

@@ -9,7 +9,7 @@ use Rattle.its_word.specs.declared.plan.Store.{Store}
 use Rattle.its_frame.specs.declared.change.Change.{Change}
 use Rattle.its_frame.specs.declared.change.Change.TheVariants as changes
 use Rattle.its_plain.specs.Job.{INF, with_pending}
-use Rattle.its_plain.specs.Machine.{Names, File, Chan, Shut, Writes, On, Whole, Console, Machine, changed, all_shut}
+use Rattle.its_plain.specs.Machine.{Symbol, Names, File, Chan, Shut, Writes, On, Whole, Console, Machine, changed, all_shut}
 use Rattle.its_plain.specs.Own.{with_stores, with_registers, names_of, opened_on, at_position, with_word, on_channel, with_variable}
 
 -- the job of slot s changed, where there is one
@@ -61,8 +61,8 @@ superior_in None = None
 abbrev pub superiors : Machine → ℕ → Option ℕ
 superiors m k = superior_in (m.jobs k)
 
--- a removal: a job and all below it are gone; channels on them are closed; a console that one of them
--- held passes to the nearest superior that is not removed, else to nobody
+-- a removal: a job and all below it are gone, and their symbols with them; channels on them are closed; a console that one of
+-- them held passes to the nearest superior that is not removed, else to nobody
 abbrev pub is_gone : (ℕ → Option ℕ) → ℕ → ℕ → Bool
 is_gone sup r k = (k == r) || is_below sup r k
 
@@ -81,19 +81,24 @@ abbrev pub passed_on : (ℕ → Bool) → Option ℕ → Option ℕ → Option �
 passed_on gone heir (Some h) = if gone h then heir else Some h
 passed_on gone heir None = None
 
+abbrev pub symbols_left : Bool → List Symbol → List Symbol
+symbols_left true ss = []
+symbols_left false ss = ss
+
 unfoldable pub removed : (ℕ → Option ℕ) → ℕ → Machine → Machine
 removed sup r m = record m {
   jobs = λ k. left_job (is_gone sup r) (is_gone sup r k) (m.jobs k);
   holders = λ c. passed_on (is_gone sup r) (sup r) (m.holders c);
+  symbols = λ k. symbols_left (is_gone sup r k) (m.symbols k);
 }
 
--- an inferior as OPEN makes it: stopped, with no page and closed channels, and with its maker's console
+-- an inferior as OPEN makes it: stopped, with no page, closed channels and no alarm, and with its maker's console
 abbrev pub console_in : Option Whole → Option ℕ
 console_in (Some q) = q.job.console
 console_in None = None
 
 abbrev pub inferior : ℕ → Option Whole → ℕ → ℕ → Whole
-inferior j o u n = record { core = no_core; job = fresh_job u n (console_in o); superior = Some j; channels = all_shut }
+inferior j o u n = record { core = no_core; job = fresh_job u n (console_in o); superior = Some j; channels = all_shut; alarm = None }
 
 -- pages
 abbrev pub with_page_at : ℕ → Option Page → Whole → Whole
@@ -107,6 +112,10 @@ poke a w = record { at = a; word = w }
 
 abbrev pub with_inf : Whole → Whole
 with_inf q = with_registers (λ j. with_pending j INF) q
+
+-- alarms
+abbrev pub with_alarm : Option (ℕ × ℕ) → Whole → Whole
+with_alarm alarm q = record q { alarm = alarm }
 
 -- what a change of slot j's call does
 unfoldable pub effect : Change → ℕ → Machine → Machine
@@ -126,6 +135,7 @@ effect (changes.Protect s k w) j m = in_job m s (protected k w)
 effect (changes.Make s u n) j m = record m { jobs = changed m.jobs s (Some (inferior j (m.jobs j) u n)) }
 effect (changes.Remove s) j m = removed (superiors m) s m
 effect (changes.Inform s) j m = in_job m s with_inf
+effect (changes.Arm alarm) j m = in_job m j (with_alarm alarm)
 effect (changes.Delete d x y) j m = record m { files = without_file (names_of d x y) m.files }
 effect (changes.Rename d x y u v) j m = record m { files = renamed (names_of d x y) u v m.files }
 

@@ -4,7 +4,7 @@ use Rattle.its_word.specs.Tree.{slots_below}
 use Rattle.its_word.specs.declared.calls.Ask.{Ask}
 use Rattle.its_frame.specs.declared.decision.Decision.{Decision}
 use Rattle.its_frame.specs.declared.name.CallName.{CallName}
-use Rattle.its_frame.specs.declared.name.CallName.TheVariants.{Hang, Sleep, Dismis, Usrvar, Logout, Open, Close, Iot, Siot, Finish, Listen, Ttylnd, Access, Fillen, Delete, Rename, Usrmem, Uclose, Corblk}
+use Rattle.its_frame.specs.declared.name.CallName.TheVariants.{Hang, Sleep, Dismis, Usrvar, Logout, Open, Close, Iot, Siot, Finish, Listen, Ttylnd, Access, Fillen, Delete, Rename, Usrmem, Uclose, Corblk, Realt}
 use Rattle.its_frame.specs.Errors as error
 pub use Rattle.its_frame.specs.Calls.{call_row, call_named}
 use Rattle.its_plain.specs.Machine.{Chan, On, Whole, Machine}
@@ -12,7 +12,7 @@ use Rattle.its_plain.specs.Change.{superiors}
 use Rattle.its_plain.specs.Arguments.{input}
 use Rattle.its_plain.specs.View.{View}
 use Rattle.its_plain.specs.Tests.{fails}
-use Rattle.its_plain.specs.CallBasic.{is_oneself, channel_at, hang, sleep, dismiss, usrvar, logout}
+use Rattle.its_plain.specs.CallBasic.{is_oneself, channel_at, hang, sleep, dismiss, usrvar, logout, realt}
 use Rattle.its_plain.specs.CallTty.{finish, listen, ttylnd}
 use Rattle.its_plain.specs.CallFile.{access, fillen, delete, rename}
 use Rattle.its_plain.specs.CallUsr.{usrmem, uclose}
@@ -40,6 +40,7 @@ decided_by v a (Some Rename) = rename v a
 decided_by v a (Some Usrmem) = usrmem v a
 decided_by v a (Some Uclose) = uclose v a
 decided_by v a (Some Corblk) = corblk v a
+decided_by v a (Some Realt) = realt v a
 decided_by v a None = fails v a error.NO_CALL
 
 -- an error of the decoding comes first

@@ -1,7 +1,7 @@
 -- A job's registers: the PC word, and the bits of pending word 1 (docs/MACHINE.md, "Interrupts").
 use Rattle.std.specs.Prelude.{ℕ, bit_or}
 use Rattle.its_word.specs.declared.jobs.Job.{Job}
-pub use Rattle.its_word.specs.Flags.{named_flags, pc_word, flags_of, bit_of, BRK, ILO, MPV, WRO, IOC, TBL, PDL, INF, FATAL}
+pub use Rattle.its_word.specs.Flags.{named_flags, pc_word, flags_of, bit_of, BRK, ILO, MPV, WRO, IOC, TBL, PDL, INF, ALR, FATAL}
 
 -- the job with bits of pending word 1 set besides
 abbrev pub with_pending : Job → ℕ → Job

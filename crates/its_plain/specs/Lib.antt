@@ -1,5 +1,6 @@
 pub mod Job
 pub mod Machine
+pub mod Alarm
 pub mod UnitPlan
 pub mod Traced
 pub mod UnitMoves
@@ -27,6 +28,8 @@ pub mod Moves
 pub mod CallDevice
 pub mod CallStep
 pub mod Operator
+pub mod OperatorSymbols
+pub mod OperatorVersion
 pub mod OperatorJobs
 pub mod OperatorConsoles
 pub mod OperatorFiles

@@ -2,6 +2,7 @@
 -- it speaks of a call in progress.
 use Rattle.std.specs.Prelude.{if◌then◌else◌, ◌==◌, ℕ, zero, suc, ◌+◌, ◌%◌, ◌^◌, Bool, Option, Some, None, List, [], ◌∷◌}
 use Rattle.its_word.specs.Core.{Core, no_core, word_at, pages_mapped}
+use Rattle.its_word.specs.Limits.{limit_of}
 use Rattle.its_word.specs.declared.jobs.Job.{Job}
 pub use Rattle.its_word.specs.Console.{Console}
 -- the names of a file: its directory, name 1 and name 2, in this order. A file or a draft has its names and its words
@@ -20,21 +21,30 @@ pub data Chan : Type 0 where
   Writes : File → Chan
   On : ℕ → Bool → ℕ → Chan
 
--- a job: its core, its registers, the slot of its superior where it has one, and its 16 channels. (The
--- channels of its registers are the monitor's own, and are closed here)
+-- a symbol: its name and its address
+abbrev pub Symbol : Type 0
+Symbol = ℕ × ℕ
+
+-- a job: its core, its registers, the slot of its superior where it has one, its 16 channels, and its alarm where it has
+-- one, as a period and a next time. (The channels of its registers are the monitor's own, and are closed here)
 pub record Whole : Type 0 where
   pub core : Core
   pub job : Job
   pub superior : Option ℕ
   pub channels : ℕ → Chan
+  pub alarm : Option (ℕ × ℕ)
 
--- jobs by slot, consoles and their holders by number, files in their order, and the clock in thirtieths
+-- jobs by slot, consoles and their holders by number, files in their order, the clock in thirtieths, the version of the
+-- session text, 1 or 2, on which it depends how many jobs there can be, and the symbols of the job of each slot, in the order in
+-- which they were kept
 pub record Machine : Type 0 where
   pub jobs : ℕ → Option Whole
   pub consoles : ℕ → Console
   pub holders : ℕ → Option ℕ
   pub files : List File
   pub clock : ℕ
+  pub version : ℕ
+  pub symbols : ℕ → List Symbol
 
 -- no channel is open
 abbrev pub all_shut : ℕ → Chan
@@ -43,13 +53,13 @@ all_shut n = Shut
 abbrev pub no_bytes : Console
 no_bytes = record { input = []; output = [] }
 
--- a job with these parts and closed channels
+-- a job with these parts, closed channels and no alarm
 abbrev pub whole : Core → Job → Option ℕ → Whole
-whole c j superior = record { core = c; job = j; superior = superior; channels = all_shut }
+whole c j superior = record { core = c; job = j; superior = superior; channels = all_shut; alarm = None }
 
 -- a machine with these jobs, and else as at the start of a session
 abbrev pub with_jobs : (ℕ → Option Whole) → Machine
-with_jobs jobs = record { jobs = jobs; consoles = λ _. no_bytes; holders = λ _. None; files = []; clock = 0 }
+with_jobs jobs = record { jobs = jobs; consoles = λ _. no_bytes; holders = λ _. None; files = []; clock = 0; version = 1; symbols = λ _. [] }
 
 -- the machine at the start of a session
 unfoldable pub no_machine : Machine
@@ -67,6 +77,10 @@ with_job m s q = record m { jobs = changed m.jobs s (Some q) }
 abbrev pub core_of : Option Whole → Core
 core_of (Some q) = q.core
 core_of None = no_core
+
+-- how many jobs it can have; they have the slots below
+abbrev pub limit : Machine → ℕ
+limit m = limit_of m.version
 
 -- how many pages all jobs have
 abbrev pub mapped : Machine → ℕ

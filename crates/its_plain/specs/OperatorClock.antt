@@ -1,15 +1,43 @@
--- The line CLOCK (docs/SESSION.md, "The lines").
-use Rattle.std.specs.Prelude.{ℕ, ◌+◌, Bool, true, false, Result, Ok, Err, nat_lt}
+-- The line CLOCK, and the alarms that it makes go (docs/SESSION.md, "The lines").
+use Rattle.std.specs.Prelude.{if◌then◌else◌, ℕ, ◌+◌, ◌&&◌, Bool, true, false, Option, Some, None, List, filter, option_map, Result, Ok, Err, nat_lt}
+use Rattle.std.specs.List.{range_with_len}
+use Rattle.its_word.specs.Limits.{slots}
 use Rattle.its_word.specs.declared.session.Reason.{Reason}
 use Rattle.its_word.specs.declared.session.Reason.TheVariants.{Range}
-use Rattle.its_plain.specs.Machine.{Machine}
+use Rattle.its_plain.specs.Alarm.{is_due, renewed}
+use Rattle.its_plain.specs.Job.{ALR, with_pending}
+use Rattle.its_plain.specs.Machine.{Whole, Machine}
+
+-- the alarm of the job of a slot
+abbrev pub alarm_in : Option Whole → Option (ℕ × ℕ)
+alarm_in (Some q) = q.alarm
+alarm_in None = None
+
+-- the slots of the jobs whose alarm is due at clock c, and the same in their order
+abbrev pub due : ℕ → (ℕ → Option Whole) → ℕ → Bool
+due c jobs k = nat_lt k slots && is_due c (alarm_in (jobs k))
+
+unfoldable pub due_slots : ℕ → (ℕ → Option Whole) → List ℕ
+due_slots c jobs = filter (due c jobs) (range_with_len 0 slots)
+
+-- the alarm of a job goes at clock c: ALR is set in it, once, and the alarm has its next time
+abbrev pub rung : ℕ → Whole → Whole
+rung c q = record q { job = with_pending q.job ALR; alarm = renewed c q.alarm }
+
+abbrev pub rung_if : ℕ → Bool → Option Whole → Option Whole
+rung_if c true o = option_map (rung c) o
+rung_if c false o = o
+
+-- the clock becomes c, and the alarms that are due go
+abbrev pub at_clock : ℕ → Machine → Machine
+at_clock c m = record m { jobs = λ k. rung_if c (due c m.jobs k) (m.jobs k); clock = c }
 
 -- CLOCK: the clock gains n, and stays below 2 ^ 34
 abbrev pub clock_end : ℕ
 clock_end = 0o200000000000
 
 abbrev pub clocked_if : Machine → ℕ → Bool → Result Machine Reason
-clocked_if m n true = Ok (record m { clock = m.clock + n })
+clocked_if m n true = Ok (at_clock (m.clock + n) m)
 clocked_if m n false = Err Range
 
 unfoldable pub clocked : Machine → ℕ → Result Machine Reason

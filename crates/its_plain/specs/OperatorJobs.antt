@@ -1,19 +1,26 @@
--- The lines that make or name a job: LOAD with its a/ lines and GO, INT, EXAM, STATE, DEPOSIT, STOP and CONT
+-- The lines that make or name a job: LOAD with its a/ lines, RO and GO, INT, EXAM, STATE, DEPOSIT, STOP and CONT
 -- (docs/SESSION.md, "The lines").
-use Rattle.std.specs.Prelude.{if◌then◌else◌, ℕ, ◌/◌, ◌+◌, Bool, true, false, not, Option, Some, None, List, [], ◌∷◌, Result, Ok, Err, nat_lt, is_some, bit_and, bit_or}
+use Rattle.std.specs.Prelude.{if◌then◌else◌, ℕ, zero, suc, ◌/◌, ◌+◌, ◌&&◌, ◌||◌, Bool, true, false, not, length, Option, Some, None, List, [], ◌∷◌, Result, Ok, Err, nat_lt, is_some, bit_and, bit_or}
 use Rattle.its_word.specs.Word.{complement_of}
 use Rattle.its_word.specs.Limits.{most_pages}
-use Rattle.its_word.specs.Core.{Core, no_core, word_at, can_store, store, with_page, zero_page}
+use Rattle.its_word.specs.Core.{Core, Page, no_core, word_at, can_store, store, page_of, with_page, zero_page}
 use Rattle.its_word.specs.Tree.{least_free, fresh_job}
 use Rattle.its_word.specs.declared.jobs.Job.{Job}
 use Rattle.its_word.specs.declared.show.JobShow.{JobShow}
 use Rattle.its_word.specs.declared.session.Reason.{Reason}
 use Rattle.its_word.specs.declared.session.Reason.TheVariants.{NoJob, NoPage, ReadOnly, Full}
 use Rattle.its_plain.specs.Job.{pc_word, FATAL}
-use Rattle.its_plain.specs.Machine.{Whole, Machine, whole, with_job, changed, mapped, words_at}
+use Rattle.its_plain.specs.Change.{protected}
+use Rattle.its_plain.specs.Machine.{Symbol, Whole, Machine, whole, with_job, changed, mapped, limit, words_at}
 use Rattle.its_plain.specs.Operator.{and_then}
+use Rattle.its_plain.specs.OperatorSymbols.{symbol_shown}
 
--- LOAD: a new job in the least free slot, stopped, with no page and no superior
+-- what a line does to the job that it names, or NOJOB where the slot is empty
+abbrev pub on_job : {X : Type 0} → Machine → ℕ → (Whole → Result X Reason) → Option Whole → Result X Reason
+on_job m s f (Some q) = f q
+on_job m s f None = Err NoJob
+
+-- LOAD: a new job in the least free slot of the machine's version, stopped, with no page, no superior and no symbols
 abbrev pub new_job : ℕ → ℕ → Option ℕ → Whole
 new_job u j console = whole no_core (fresh_job u j console) None
 
@@ -31,7 +38,7 @@ loaded_in m u j console (Some s) = Ok (with_holder (with_job m s (new_job u j co
 loaded_in m u j console None = Err Full
 
 unfoldable pub loaded : Machine → ℕ → ℕ → Option ℕ → Result (Machine × ℕ) Reason
-loaded m u j console = loaded_in m u j console (least_free m.jobs)
+loaded m u j console = loaded_in m u j console (least_free (limit m) m.jobs)
 
 -- one word of an a/ line: an absent page is made, writable and of zeros, where fewer than the most pages are mapped
 abbrev pub stored_in : Core → ℕ → ℕ → Bool → Bool → Bool → Result Core Reason
@@ -56,14 +63,41 @@ unfoldable pub word_loaded : Machine → ℕ → ℕ → ℕ → Result Machine 
 word_loaded m s a w = word_loaded_of m s a w (m.jobs s)
 
 -- the words of an a/ line, in order
-abbrev pub words_loaded : Machine → ℕ → ℕ → List ℕ → Result Machine Reason
-words_loaded m s a [] = Ok m
-words_loaded m s a (w ∷ ws) = and_then (word_loaded m s a w) (λ n. words_loaded n s (a + 1) ws)
+abbrev pub words_stored : Machine → ℕ → ℕ → List ℕ → Result Machine Reason
+words_stored m s a [] = Ok m
+words_stored m s a (w ∷ ws) = and_then (word_loaded m s a w) (λ n. words_stored n s (a + 1) ws)
 
--- what a line does to the job that it names, or NOJOB where the slot is empty
-abbrev pub on_job : {X : Type 0} → Machine → ℕ → (Whole → Result X Reason) → Option Whole → Result X Reason
-on_job m s f (Some q) = f q
-on_job m s f None = Err NoJob
+-- a page that is there and read only has the word at an address
+abbrev pub is_barred : Core → ℕ → Bool
+is_barred c a = is_some (word_at c a) && not (can_store c a)
+
+-- the same of any of n words from an address on
+unfoldable pub any_barred : Core → ℕ → ℕ → Bool
+any_barred c a zero = false
+any_barred c a (suc n) = is_barred c a || any_barred c (a + 1) n
+
+abbrev pub barred_in : Option Whole → ℕ → ℕ → Bool
+barred_in (Some q) a n = any_barred q.core a n
+barred_in None a n = false
+
+abbrev pub words_barred : Machine → ℕ → ℕ → ℕ → Bool
+words_barred m s a n = barred_in (m.jobs s) a n
+
+-- an a/ line: all its words are tested for read-only pages before the first is stored
+abbrev pub words_loaded_if : Machine → ℕ → ℕ → List ℕ → Bool → Result Machine Reason
+words_loaded_if m s a ws true = Err ReadOnly
+words_loaded_if m s a ws false = words_stored m s a ws
+
+unfoldable pub words_loaded : Machine → ℕ → ℕ → List ℕ → Result Machine Reason
+words_loaded m s a ws = words_loaded_if m s a ws (words_barred m s a (length ws))
+
+-- RO: a page that is there becomes read only
+abbrev pub page_protected_in : Machine → ℕ → ℕ → Whole → Option Page → Result Machine Reason
+page_protected_in m s k q (Some p) = Ok (with_job m s (protected k false q))
+page_protected_in m s k q None = Err NoPage
+
+unfoldable pub page_protected : Machine → ℕ → ℕ → Result Machine Reason
+page_protected m s k = on_job m s (λ q. page_protected_in m s k q (page_of q.core k)) (m.jobs s)
 
 -- the registers of a job changed
 abbrev pub with_registers : Machine → ℕ → (Job → Job) → Whole → Result Machine Reason
@@ -104,8 +138,8 @@ unfoldable pub examined : Machine → ℕ → ℕ → ℕ → Result (List ℕ) 
 examined m s a n = on_job m s (λ q. seen (words_at q.core a n)) (m.jobs s)
 
 -- STATE
-abbrev pub shown : Job → Option ℕ → JobShow
-shown j superior = record {
+abbrev pub shown : Job → Option ℕ → Option Symbol → JobShow
+shown j superior symbol = record {
   u = j.uname;
   j = j.jname;
   sup = superior;
@@ -118,10 +152,11 @@ shown j superior = record {
   m2 = j.mask2;
   d1 = j.defer1;
   d2 = j.defer2;
+  symbol = symbol;
 }
 
 unfoldable pub state_shown : Machine → ℕ → Result JobShow Reason
-state_shown m s = on_job m s (λ q. Ok (shown q.job q.superior)) (m.jobs s)
+state_shown m s = on_job m s (λ q. Ok (shown q.job q.superior (symbol_shown q.job.pc (m.symbols s)))) (m.jobs s)
 
 -- DEPOSIT
 abbrev pub deposited_in : Core → ℕ → ℕ → Bool → Bool → Result Core Reason

@@ -1,7 +1,7 @@
 -- Each line of a session, and what it comes to on the plain machine (docs/SESSION.md, "The lines").
-use Rattle.std.specs.Prelude.{ℕ, Option, Some, None, List, [], ◌∷◌, Result, Ok, Err, take}
+use Rattle.std.specs.Prelude.{ℕ, ◌+◌, Option, Some, None, List, [], ◌∷◌, Result, Ok, Err, take}
 use Rattle.its_word.specs.declared.session.Event.{Event}
-use Rattle.its_word.specs.declared.session.Event.TheVariants.{Nothing, Load, Words, Go, File, Append, EndFile, Tick, TypeIn, Drain, Clock, Int, Exam, State, Deposit, Stop, Cont, Peek, Dir, Show, End}
+use Rattle.its_word.specs.declared.session.Event.TheVariants.{Nothing, Version, Load, Words, ReadOnly, Symbol, Go, File, Append, EndFile, Tick, TypeIn, Drain, Clock, Int, Exam, State, Deposit, Stop, Cont, Peek, Dir, Show, End}
 use Rattle.its_word.specs.declared.session.Reason.{Reason}
 use Rattle.its_word.specs.declared.session.Reason.TheVariants.{NoJob}
 use Rattle.its_word.specs.declared.show.JobShow.{JobShow}
@@ -10,10 +10,12 @@ use Rattle.its_print.specs.Printing as printed
 use Rattle.its_plain.specs.Machine.{Whole, Machine}
 use Rattle.its_plain.specs.Own.{names_of}
 use Rattle.its_plain.specs.Operator.{Block, Operated, Refuses, Does, Ticks, Quits, nobody, only, disturbs, quietly}
-use Rattle.its_plain.specs.OperatorClock.{clocked}
+use Rattle.its_plain.specs.OperatorClock.{due, clocked}
+use Rattle.its_plain.specs.OperatorSymbols.{symbol_kept}
+use Rattle.its_plain.specs.OperatorVersion.{versioned}
 use Rattle.its_plain.specs.OperatorConsoles.{typed, dropped, drained}
 use Rattle.its_plain.specs.OperatorFiles.{file_made, words_added, files_in, listing, file_shown}
-use Rattle.its_plain.specs.OperatorJobs.{loaded, words_loaded, started, interrupted, stopped, continued, on_registers, examined, state_shown, deposited}
+use Rattle.its_plain.specs.OperatorJobs.{loaded, words_loaded, page_protected, started, interrupted, stopped, continued, on_registers, examined, state_shown, deposited}
 
 -- lines that show something of a job
 abbrev pub by_load : Block → Result (Machine × ℕ) Reason → Operated
@@ -25,7 +27,7 @@ by_exam m b s a (Ok ws) = Does m (printed.Words s a ws ∷ []) (only s) b
 by_exam m b s a (Err r) = Refuses r
 
 abbrev pub by_state : Machine → Block → ℕ → Result JobShow Reason → Operated
-by_state m b s (Ok show) = Does m (printed.State s show ∷ []) (only s) b
+by_state m b s (Ok show) = Does m (printed.State m.version s show ∷ []) (only s) b
 by_state m b s (Err r) = Refuses r
 
 -- lines that only show something
@@ -33,12 +35,20 @@ abbrev pub shows : Machine → Block → Result (List Line) Reason → Operated
 shows m b (Ok out) = Does m out nobody b
 shows m b (Err r) = Refuses r
 
+-- CLOCK disturbs the jobs whose alarm is due at the new clock
+abbrev pub by_clock : Machine → Block → ℕ → Result Machine Reason → Operated
+by_clock m b n (Ok k) = Does k [] (due (m.clock + n) m.jobs) b
+by_clock m b n (Err r) = Refuses r
+
 -- what each line comes to. The lines of a LOAD block disturb the job that LOAD has just made: no `.` came for it,
 -- so this says of a session no more than that LOAD disturbs it. PEEK does nothing to the machine
 unfoldable pub operate : Machine → Block → Event → Operated
 operate m b Nothing = Does m [] nobody b
+operate m b (Version v) = Does (versioned m v) [] nobody b
 operate m b (Load u j console) = by_load b (loaded m u j console)
 operate m b (Words a words) = disturbs b.slot b (words_loaded m b.slot a words.items)
+operate m b (ReadOnly page) = disturbs b.slot b (page_protected m b.slot page)
+operate m b (Symbol name a) = quietly b (symbol_kept m b.slot name a)
 operate m b (Go a) = disturbs b.slot b (on_registers m b.slot (started a))
 operate m b (File d x y) = quietly (record b { file = names_of d x y }) (file_made m (names_of d x y))
 operate m b (Append words) = quietly b (words_added m b.file words.items)
@@ -46,7 +56,7 @@ operate m b EndFile = Does m [] nobody b
 operate m b (Tick s n) = Ticks s n
 operate m b (TypeIn c bytes) = Does (typed c bytes.items m) (printed.Typed c (dropped (m.consoles c) bytes.items) ∷ []) nobody b
 operate m b (Drain c n) = Does (drained c n m) (printed.Drained c (take n (m.consoles c).output) ∷ []) nobody b
-operate m b (Clock n) = quietly b (clocked m n)
+operate m b (Clock n) = by_clock m b n (clocked m n)
 operate m b (Int s v w) = disturbs s b (on_registers m s (interrupted v w))
 operate m b (Exam s a n) = by_exam m b s a (examined m s a n)
 operate m b (State s) = by_state m b s (state_shown m s)

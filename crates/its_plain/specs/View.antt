@@ -1,7 +1,7 @@
 -- What a call looks at as it decides: its own job, the job that it reaches into, of all jobs their names,
--- superiors and channels, and what all jobs share.
+-- superiors and channels, what all jobs share, and how many jobs there can be.
 use Rattle.std.specs.Prelude.{ℕ, Option, Some, None, List, option_map}
-use Rattle.its_plain.specs.Machine.{Chan, File, Console, Whole, Machine, mapped}
+use Rattle.its_plain.specs.Machine.{Chan, File, Console, Whole, Machine, mapped, limit}
 
 pub record Outline : Type 0 where
   pub uname : ℕ
@@ -19,6 +19,7 @@ pub record View : Type 0 where
   pub holders : ℕ → Option ℕ
   pub files : List File
   pub clock : ℕ
+  pub limit : ℕ
 
 abbrev pub outline : Whole → Outline
 outline q = record { uname = q.job.uname; jname = q.job.jname; superior = q.superior; channels = q.channels }
@@ -39,4 +40,5 @@ view m j q target = record {
   holders = m.holders;
   files = m.files;
   clock = m.clock;
+  limit = limit m;
 }

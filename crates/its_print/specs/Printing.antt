@@ -23,8 +23,8 @@ pub data Line : Type 0 where
   Drained : (c : ℕ) (bytes : List ℕ) → Line
   -- the words that EXAM found in slot s from address a on
   Words : (s a : ℕ) (words : List ℕ) → Line
-  -- what STATE shows of slot s
-  State : (s : ℕ) (show : JobShow) → Line
+  -- what STATE shows of slot s in a session of version v
+  State : (v s : ℕ) (show : JobShow) → Line
   -- what PEEK shows of slot s
   Peeked : (s : ℕ) (peek : Peek) → Line
   -- DIR found n files in directory d
@@ -105,6 +105,15 @@ job_fields j =
     octal12_of j.u ∷ octal12_of j.j ∷ number_or_dash j.sup ∷ number_or_dash j.con ∷ run_or_stop j.run ∷ octal12_of j.pc
     ∷ octal12_of j.p1 ∷ octal12_of j.p2 ∷ octal12_of j.m1 ∷ octal12_of j.m2 ∷ octal12_of j.d1 ∷ octal12_of j.d2 ∷ []
 
+-- the name of a symbol and how far the PC is past it, or two `-`
+abbrev pub symbol_or_dashes : Option (ℕ × ℕ) → List (List ℕ)
+symbol_or_dashes (Some x) = octal12_of x.0 ∷ digits_of x.1 ∷ []
+symbol_or_dashes None = codes "-" ∷ codes "-" ∷ []
+
+-- version 2 shows it, behind the other fields of a job
+abbrev pub symbol_fields : ℕ → Option (ℕ × ℕ) → List (List ℕ)
+symbol_fields v symbol = if v == 2 then symbol_or_dashes symbol else []
+
 -- the fields of a peek after its slot: state, call, unwinding steps, two words at arguments and the held byte
 abbrev pub peek_fields : Peek → List (List ℕ)
 peek_fields p = state_name p.state ∷ word_or_dash p.name ∷ digits_of p.left ∷ word_or_dash p.a ∷ word_or_dash p.b ∷ word_or_dash p.h ∷ []
@@ -116,7 +125,7 @@ fields_of (Ticks s paces) = digits_of s ∷ runs_of paces
 fields_of (Typed c dropped) = digits_of c ∷ digits_of dropped ∷ []
 fields_of (Drained c bytes) = digits_of c ∷ map digits_of bytes
 fields_of (Words s a words) = digits_of s ∷ octal6_of a ∷ map octal12_of words
-fields_of (State s show) = digits_of s ∷ job_fields show
+fields_of (State v s show) = digits_of s ∷ job_fields show ++ symbol_fields v show.symbol
 fields_of (Peeked s peek) = digits_of s ∷ peek_fields peek
 fields_of (Dir d n) = octal12_of d ∷ digits_of n ∷ []
 fields_of (Filed show) = octal12_of show.x ∷ octal12_of show.y ∷ digits_of show.length ∷ []
@@ -131,7 +140,7 @@ first_of (Ticks s paces) = codes "T"
 first_of (Typed c dropped) = codes "Y"
 first_of (Drained c bytes) = codes "D"
 first_of (Words s a words) = codes "E"
-first_of (State s show) = codes "S"
+first_of (State v s show) = codes "S"
 first_of (Peeked s peek) = codes "P"
 first_of (Dir d n) = codes "R"
 first_of (Filed show) = codes "F"

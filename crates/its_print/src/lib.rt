@@ -5,6 +5,7 @@
 mod lines;
 mod names;
 mod put;
+mod runs;
 #[cfg(test)]
 mod tests;
 
@@ -12,3 +13,4 @@ pub use lines::{
     longest_line, print_dir, print_drained, print_file, print_loaded, print_peek, print_refusal,
     print_row, print_show, print_state, print_ticks, print_typed, print_words,
 };
+pub use runs::Run;

@@ -1,14 +1,18 @@
-ghost use Rattle.std.specs.Prelude.{◌≡◌, ◌≤◌, [], length};
-ghost use Rattle.its_print.specs.Printing.{Dir, Drained, Filed, Line, Loaded, Peeked, Refused, Row, Shown, State, Ticks, Typed, Words, text_of_line};
+ghost use Rattle.std.specs.Prelude.{◌≡◌, ◌≤◌, ◌<◌, ◌+◌, [], length};
+ghost use Rattle.arrayvec.specs.ArrayVec.{array_vec_len};
+ghost use Rattle.its_word.specs.Text.{spaced};
+ghost use Rattle.its_print.specs.Printing.{Dir, Drained, Filed, Line, Loaded, Peeked, Refused, Row, Shown, State, Ticks, Typed, Words, job_fields, text_of_line};
+ghost use Rattle.its_print.specs.Runs.{paces_in};
 ghost use Rattle.its_print.specs.Sizes.{IsPrinted};
 
 use super::names::{reason_word, run_word, state_word};
 use super::put::{
-    put, put_address, put_bytes, put_number, put_number_or_dash, put_runs, put_word,
+    put, put_address, put_bytes, put_number, put_number_or_dash, put_runs, put_symbol, put_word,
     put_word_or_dash, put_words,
 };
+use super::runs::Run;
 use arrayvec::ArrayVec;
-use its_word::{FileShow, JobShow, Pace, Peek, Reason, Word};
+use its_word::{FileShow, JobShow, Peek, Reason, Word};
 
 /// `J s`: LOAD made a job in slot `s`.
 #[tactic(auto, unfolding(crate::specs::Printing::text_of_line, its_word::specs::Text::spaced))]
@@ -23,14 +27,14 @@ pub fn print_loaded(s: u8, out: &mut ArrayVec<u8, 2048>)
 
 /// `T s` and the runs of equal letters of what at most 512 ticks of slot `s` did.
 #[tactic(auto, using(its_word::proofs::SpacedLaws::after_field), unfolding(crate::specs::Printing::text_of_line))]
-pub fn print_ticks(s: u8, paces: &[Pace], out: &mut ArrayVec<u8, 2048>)
+pub fn print_ticks(s: u8, runs: &[Run], out: &mut ArrayVec<u8, 2048>)
     requires empty { out.old.items ≡ [] }
-    requires few { length paces.now ≤ 512 }
-    ensures { out.new.items ≡ text_of_line (Ticks s paces.now) }
+    requires few { length (paces_in runs.now) ≤ 512 }
+    ensures { out.new.items ≡ text_of_line (Ticks s (paces_in runs.now)) }
 {
     out.push(b'T');
     put_number(out, u64::from(s));
-    put_runs(out, paces);
+    put_runs(out, runs);
     out.push(b'\n');
 }
 
@@ -73,14 +77,25 @@ pub fn print_words(s: u8, a: u32, words: &[Word], out: &mut ArrayVec<u8, 2048>)
     out.push(b'\n');
 }
 
-/// `S s u j sup con run pc p1 p2 m1 m2 d1 d2`: what STATE shows of slot `s`.
-#[tactic(auto, unfolding(crate::specs::Printing::text_of_line, its_word::specs::Text::spaced))]
-pub fn print_state(s: u8, show: &JobShow, out: &mut ArrayVec<u8, 2048>)
+/// `S s u j sup con run pc p1 p2 m1 m2 d1 d2`: what STATE shows of slot `s`. In version 2 the symbol stands behind it.
+pub fn print_state(version: u8, s: u8, show: &JobShow, out: &mut ArrayVec<u8, 2048>)
     requires { out.old.items ≡ [] }
-    ensures { out.new.items ≡ text_of_line (State s show.now) }
+    ensures { out.new.items ≡ text_of_line (State version s show.now) }
 {
     out.push(b'S');
     put_number(out, u64::from(s));
+    put_job(out, show);
+    put_symbol(out, version, show.symbol);
+    out.push(b'\n');
+}
+
+/// The fields of a job.
+#[tactic(auto, unfolding(its_word::specs::Text::spaced))]
+fn put_job(out: &mut ArrayVec<u8, 2048>, show: &JobShow)
+    requires { array_vec_len out.old + 181 < 2048 }
+    ensures text { out.new.items ≡ spaced out.old.items (job_fields show.now) }
+    ensures len { array_vec_len out.new ≤ array_vec_len out.old + 181 }
+{
     put_word(out, show.u);
     put_word(out, show.j);
     put_number_or_dash(out, show.sup);
@@ -93,7 +108,6 @@ pub fn print_state(s: u8, show: &JobShow, out: &mut ArrayVec<u8, 2048>)
     put_word(out, show.m2);
     put_word(out, show.d1);
     put_word(out, show.d2);
-    out.push(b'\n');
 }
 
 /// `P s state name left a b h`: what PEEK shows of slot `s`.

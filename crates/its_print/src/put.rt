@@ -2,11 +2,13 @@
 ghost use Rattle.std.specs.Prelude.{◌≡◌, ◌+◌, ◌*◌, ◌<◌, ◌≤◌, [], ◌∷◌, length, map};
 ghost use Rattle.arrayvec.specs.ArrayVec.{array_vec_len};
 ghost use Rattle.its_word.specs.Text.{digits_of, octal12_of, octal6_of, spaced};
-ghost use Rattle.its_print.specs.Printing.{number_or_dash, run_of, runs_of, word_or_dash};
+ghost use Rattle.its_print.specs.Printing.{number_or_dash, run_of, runs_of, symbol_fields, symbol_or_dashes, word_or_dash};
+ghost use Rattle.its_print.specs.Runs.{paces_in};
 
 use super::names::letter;
+use super::runs::Run;
 use arrayvec::ArrayVec;
-use its_word::{Pace, Word, octal, octal6};
+use its_word::{Word, octal, octal6};
 
 /// A word as it is.
 #[tactic(auto, unfolding(its_word::specs::Text::spaced))]
@@ -70,6 +72,37 @@ pub fn put_number_or_dash(out: &mut ArrayVec<u8, 2048>, n: Option<u8>)
     }
 }
 
+/// In version 2 the symbol, and else nothing.
+#[tactic(auto, using(its_word::proofs::SpacedLaws::spaced_none))]
+pub fn put_symbol(out: &mut ArrayVec<u8, 2048>, version: u8, symbol: Option<(Word, u32)>)
+    requires { array_vec_len out.old + 36 < 2048 }
+    ensures text { out.new.items ≡ spaced out.old.items (symbol_fields version symbol) }
+    ensures len { array_vec_len out.new ≤ array_vec_len out.old + 36 }
+{
+    if version == 2 {
+        put_symbol_or_dashes(out, symbol);
+    }
+}
+
+/// The name of a symbol and how far the PC is past it, or two `-`.
+#[tactic(auto, unfolding(its_word::specs::Text::spaced))]
+fn put_symbol_or_dashes(out: &mut ArrayVec<u8, 2048>, symbol: Option<(Word, u32)>)
+    requires { array_vec_len out.old + 36 < 2048 }
+    ensures text { out.new.items ≡ spaced out.old.items (symbol_or_dashes symbol) }
+    ensures len { array_vec_len out.new ≤ array_vec_len out.old + 36 }
+{
+    match symbol {
+        Some((name, past)) => {
+            put_word(out, name);
+            put_number(out, u64::from(past));
+        }
+        None => {
+            put(out, b"-");
+            put(out, b"-");
+        }
+    }
+}
+
 /// Words of 12 digits, at most eight.
 #[tactic(auto, using(its_word::proofs::SpacedLaws::spaced_none, its_word::proofs::SpacedLaws::spaced_more))]
 pub fn put_words(out: &mut ArrayVec<u8, 2048>, words: &[Word])
@@ -108,26 +141,26 @@ fn put_run(out: &mut ArrayVec<u8, 2048>, n: u32, letter: u8)
     out.push(letter);
 }
 
-/// The runs of equal letters of at most 512 paces.
-#[tactic(auto, using(its_word::proofs::SpacedLaws::spaced_none, crate::proofs::PutLaws::run_goes_on, crate::proofs::PutLaws::run_ends), unfolding(crate::specs::Printing::runs_of))]
-pub fn put_runs(out: &mut ArrayVec<u8, 2048>, paces: &[Pace])
-    requires few { length paces.now ≤ 512 }
+/// The runs of equal letters of at most 512 ticks. Where runs with the same letter stand side by side, they are one.
+#[tactic(auto, using(crate::proofs::PutLaws::runs_none, crate::proofs::PutLaws::runs_length))]
+pub fn put_runs(out: &mut ArrayVec<u8, 2048>, runs: &[Run])
+    requires few { length (paces_in runs.now) ≤ 512 }
     requires room { array_vec_len out.old + 1536 < 2048 }
-    ensures text { out.new.items ≡ spaced out.old.items (runs_of paces.now) }
+    ensures text { out.new.items ≡ spaced out.old.items (runs_of (paces_in runs.now)) }
     ensures len { array_vec_len out.new ≤ array_vec_len out.old + 1536 }
 {
-    let [first, rest @ ..] = paces else { return };
-    let mut run = 1;
-    let mut last = letter(*first);
-    for pace in rest {
-        let next = letter(*pace);
+    let [first, rest @ ..] = runs else { return };
+    let mut count = 1 + first.more;
+    let mut last = letter(first.pace);
+    for run in rest {
+        let next = letter(run.pace);
         if next == last {
-            run += 1;
+            count += 1 + run.more;
         } else {
-            put_run(out, run, last);
-            run = 1;
+            put_run(out, count, last);
+            count = 1 + run.more;
             last = next;
         }
     }
-    put_run(out, run, last);
+    put_run(out, count, last);
 }

@@ -14,11 +14,25 @@ macro_rules! prints {
 fn prints_ticks(rt: HostRuntime) {
     prints!(rt; b"J 0\n"; print_loaded(0));
     prints!(rt; b"J 77\n"; print_loaded(0o77));
-    prints!(rt; b"T 0 2*\n"; print_ticks(0, &[Pace::Step, Pace::Step]));
-    prints!(rt; b"T 5 3-\n"; print_ticks(5, &[Pace::Off; 3]));
-    prints!(rt; b"T 0 2. 1* 1. 1w\n"; print_ticks(0, &[Pace::Work, Pace::Work, Pace::Step, Pace::Work, Pace::Wait]));
-    prints!(rt; b"T 0 10.\n"; print_ticks(0, &[Pace::Work; 8]));
-    prints!(rt; b"T 0 100w\n"; print_ticks(0, &[Pace::Wait; 64]));
+    let (step, work, wait) = (
+        Run {
+            pace: Pace::Step,
+            more: 0,
+        },
+        Run {
+            pace: Pace::Work,
+            more: 0,
+        },
+        Run {
+            pace: Pace::Wait,
+            more: 0,
+        },
+    );
+    prints!(rt; b"T 0 2*\n"; print_ticks(0, &[Run { more: 1, ..step }]));
+    prints!(rt; b"T 5 3-\n"; print_ticks(5, &[Run { pace: Pace::Off, more: 2 }]));
+    prints!(rt; b"T 0 2. 1* 1. 1w\n"; print_ticks(0, &[work, work, step, work, wait]));
+    prints!(rt; b"T 0 10.\n"; print_ticks(0, &[Run { more: 2, ..work }, Run { more: 4, ..work }]));
+    prints!(rt; b"T 0 100w\n"; print_ticks(0, &[Run { more: 63, ..wait }]));
 }
 
 #[test]
@@ -49,8 +63,9 @@ fn prints_jobs(rt: HostRuntime) {
         m2: Word::ZERO,
         d1: Word::ZERO,
         d2: Word::ZERO,
+        symbol: None,
     };
-    prints!(rt; b"S 0 650000000000 520000000000 - - RUN 010000000102 000000000000 000000000000 000000000000 000000000000 000000000000 000000000000\n"; print_state(0, &job));
+    prints!(rt; b"S 0 650000000000 520000000000 - - RUN 010000000102 000000000000 000000000000 000000000000 000000000000 000000000000 000000000000\n"; print_state(1, 0, &job));
     let inferior = JobShow {
         sup: Some(0),
         con: Some(0),
@@ -63,7 +78,14 @@ fn prints_jobs(rt: HostRuntime) {
         d2: Word::new(6),
         ..job
     };
-    prints!(rt; b"S 1 650000000000 520000000000 0 0 STOP 010000000102 000000000004 000000000001 000000000002 000000000003 000000000005 000000000006\n"; print_state(1, &inferior));
+    prints!(rt; b"S 1 650000000000 520000000000 0 0 STOP 010000000102 000000000004 000000000001 000000000002 000000000003 000000000005 000000000006\n"; print_state(1, 1, &inferior));
+    let symbolic = JobShow {
+        symbol: Some((Word::new(0o465757000000), 0o12)),
+        ..inferior
+    };
+    prints!(rt; b"S 1 650000000000 520000000000 0 0 STOP 010000000102 000000000004 000000000001 000000000002 000000000003 000000000005 000000000006\n"; print_state(1, 1, &symbolic));
+    prints!(rt; b"S 137 650000000000 520000000000 0 0 STOP 010000000102 000000000004 000000000001 000000000002 000000000003 000000000005 000000000006 465757000000 12\n"; print_state(2, 0o137, &symbolic));
+    prints!(rt; b"S 0 650000000000 520000000000 - - RUN 010000000102 000000000000 000000000000 000000000000 000000000000 000000000000 000000000000 - -\n"; print_state(2, 0, &job));
 }
 
 #[test]

@@ -17,7 +17,7 @@ use Rattle.its_word.specs.declared.session.Bad.{Bad as BadLine}
 use Rattle.its_word.specs.declared.session.Bad.TheVariants as bads
 use Rattle.its_word.specs.declared.session.Reason.TheVariants as reasons
 use Rattle.its_session.specs.Grammar.{line_event}
-use Rattle.its_session.specs.Events.{most_lines, lines_from, items_from, item_then, place_after, end_of, events_of, whole_events_of}
+use Rattle.its_session.specs.Events.{most_lines, lines_from, items_from, item_then, place_after, version_after, end_of, events_of, whole_events_of}
 use Rattle.its_reader.specs.declared.lines.Lines.{Lines}
 use Rattle.its_reader.specs.declared.lines.Next.TheVariants as nexts
 use Rattle.its_reader.specs.declared.items.Items.{Items}
@@ -25,7 +25,7 @@ use Rattle.its_reader.specs.declared.items.Found.{Found}
 use Rattle.its_reader.specs.declared.items.Found.TheVariants.{Line, Bad, Beyond, End}
 use Rattle.its_reader.specs.Bytes.{pending}
 use Rattle.its_reader.specs.Lines.{Ready, Facing, ahead, NextOf, Reads}
-use Rattle.its_reader.specs.Items.{found_of, place_found, end_found, is_last, is_end, items_ahead, last_items, FoundOf, Finds, FoundSoFar, ReadOut, AllFound, Ended, Behind}
+use Rattle.its_reader.specs.Items.{found_of, place_found, version_found, end_found, is_last, is_end, items_ahead, last_items, FoundOf, Finds, FoundSoFar, ReadOut, AllFound, Ended, Behind}
 use Rattle.its_reader.proofs.LinesLaws.{facing}
 
 facing_map : (b : Bool) (P Q : Bool → List ℕ → Type 0) → ((whole : Bool) (more : List ℕ) → P whole more → Q whole more) → Facing b P → Facing b Q
@@ -38,68 +38,68 @@ facing_whole false P Q f p = λ whole more. f whole more (p true more)
 facing_whole true P Q f p = f true [] p
 
 -- one line
-one_line : (whole : Bool) (n : ℕ) (place : Place) (line : List ℕ) (rest : List (List ℕ)) → n ≤ most_lines
-    → items_from whole n place (line ∷ rest) ≡ item_then (line_event place line) (λ e. items_from whole (n + 1) (place_after place e) rest)
-one_line whole n place line rest h = let t : nat_lt most_lines n ≡ false = grind (arith, nat_tests) in rw t refl
+one_line : (whole : Bool) (n : ℕ) (place : Place) (v : ℕ) (line : List ℕ) (rest : List (List ℕ)) → n ≤ most_lines
+    → items_from whole n place v (line ∷ rest) ≡ item_then (line_event place v line) (λ e. items_from whole (n + 1) (place_after place e) (version_after v e) rest)
+one_line whole n place v line rest h = let t : nat_lt most_lines n ≡ false = grind (arith, nat_tests) in rw t refl
 
 then_at : (e : Event) (f : Event → List Item) → item_then (Ok e) f ≡ item_then (Ok e) (λ _. f e)
 then_at events.End f = refl
 then_at _ f = refl
 
-event_long : (place : Place) (line : List ℕ) → 255 < length line → line_event place line ≡ Err bads.Long
+event_long : (place : Place) (v : ℕ) (line : List ℕ) → 255 < length line → line_event place v line ≡ Err bads.Long
 unfolding line_event
-event_long place line h = let t : nat_le (length line) 255 ≡ false = grind (arith, nat_tests) in rw t refl
+event_long place v line h = let t : nat_le (length line) 255 ≡ false = grind (arith, nat_tests) in rw t refl
 
-line_found : (le : Result Event BadLine) (old : Items) (mid : Lines) (read : List ℕ) → le ≡ line_event old.place mid.line.items → mid.number ≡ old.lines.number + 1 → mid.number ≤ most_lines
-    → NextOf (Ok nexts.Line) old.lines mid read → FoundOf (Ok (found_of le)) old (record { lines = mid; place = place_found old.place (found_of le) }) read
+line_found : (le : Result Event BadLine) (old : Items) (mid : Lines) (read : List ℕ) → le ≡ line_event old.place old.version mid.line.items → mid.number ≡ old.lines.number + 1 → mid.number ≤ most_lines
+    → NextOf (Ok nexts.Line) old.lines mid read → FoundOf (Ok (found_of le)) old (record { lines = mid; place = place_found old.place (found_of le); version = version_found old.version (found_of le) }) read
 line_found (Ok e) old mid read l n h r = facing_map mid.ended _ _ (λ whole more p.
-    ap (items_from whole (old.lines.number + 1) old.place) p
-    ∙ ap (λ k. items_from whole k old.place (mid.line.items ∷ ahead whole mid more)) (sym n)
-    ∙ one_line whole mid.number old.place mid.line.items (ahead whole mid more) h
-    ∙ ap (λ x. item_then x (λ e. items_from whole (mid.number + 1) (place_after old.place e) (ahead whole mid more))) (sym l)
-    ∙ then_at e (λ e. items_from whole (mid.number + 1) (place_after old.place e) (ahead whole mid more))) r
+    ap (items_from whole (old.lines.number + 1) old.place old.version) p
+    ∙ ap (λ k. items_from whole k old.place old.version (mid.line.items ∷ ahead whole mid more)) (sym n)
+    ∙ one_line whole mid.number old.place old.version mid.line.items (ahead whole mid more) h
+    ∙ ap (λ x. item_then x (λ e. items_from whole (mid.number + 1) (place_after old.place e) (version_after old.version e) (ahead whole mid more))) (sym l)
+    ∙ then_at e (λ e. items_from whole (mid.number + 1) (place_after old.place e) (version_after old.version e) (ahead whole mid more))) r
 line_found (Err bad) old mid read l n h r = facing_whole mid.ended _ _ (λ whole more p.
-    ap (items_from true (old.lines.number + 1) old.place) p
-    ∙ ap (λ k. items_from true k old.place (mid.line.items ∷ ahead true mid more)) (sym n)
-    ∙ one_line true mid.number old.place mid.line.items (ahead true mid more) h
-    ∙ ap (λ x. item_then x (λ e. items_from true (mid.number + 1) (place_after old.place e) (ahead true mid more))) (sym l)) r
+    ap (items_from true (old.lines.number + 1) old.place old.version) p
+    ∙ ap (λ k. items_from true k old.place old.version (mid.line.items ∷ ahead true mid more)) (sym n)
+    ∙ one_line true mid.number old.place old.version mid.line.items (ahead true mid more) h
+    ∙ ap (λ x. item_then x (λ e. items_from true (mid.number + 1) (place_after old.place e) (version_after old.version e) (ahead true mid more))) (sym l)) r
 
-pub finds_line : (f : Found) (line : List ℕ) (old new : Items) (mid : Lines) (left rest : Option (List ℕ)) → line ≡ mid.line.items → f ≡ found_of (line_event old.place line) → new.place ≡ place_found old.place f → new.lines ≡ mid
+pub finds_line : (f : Found) (line : List ℕ) (old new : Items) (mid : Lines) (left rest : Option (List ℕ)) → line ≡ mid.line.items → f ≡ found_of (line_event old.place old.version line) → new.place ≡ place_found old.place f → new.version ≡ version_found old.version f → new.lines ≡ mid
     → mid.number ≡ old.lines.number + 1 → mid.number ≤ most_lines → Reads (Ok nexts.Line) old.lines mid left rest → Finds (Ok f) old new left rest
-finds_line f line old new mid left rest s e p l n h r =
-    let k : f ≡ found_of (line_event old.place mid.line.items) = e ∙ ap (λ x. found_of (line_event old.place x)) s in
-    let at : record { lines = mid; place = place_found old.place (found_of (line_event old.place mid.line.items)) } ≡ new = ap (λ x. record { lines = mid; place = place_found old.place x }) (sym k) ∙ ap (λ x. record { lines = mid; place = x }) (sym p) ∙ ap (λ x. record { lines = x; place = new.place }) (sym l) in
-    subst (λ x. Finds (Ok x) old new left rest) (sym k) (subst (λ x. Finds (Ok (found_of (line_event old.place mid.line.items))) old x left rest) at (record {
+finds_line f line old new mid left rest s e p v l n h r =
+    let k : f ≡ found_of (line_event old.place old.version mid.line.items) = e ∙ ap (λ x. found_of (line_event old.place old.version x)) s in
+    let at : record { lines = mid; place = place_found old.place (found_of (line_event old.place old.version mid.line.items)); version = version_found old.version (found_of (line_event old.place old.version mid.line.items)) } ≡ new = ap (λ x. record { lines = mid; place = place_found old.place x; version = version_found old.version x }) (sym k) ∙ ap (λ x. record { lines = mid; place = x; version = version_found old.version f }) (sym p) ∙ ap (λ x. record { lines = mid; place = new.place; version = x }) (sym v) ∙ ap (λ x. record { lines = x; place = new.place; version = new.version }) (sym l) in
+    subst (λ x. Finds (Ok x) old new left rest) (sym k) (subst (λ x. Finds (Ok (found_of (line_event old.place old.version mid.line.items))) old x left rest) at (record {
       read = r.read;
       consumed = r.consumed;
       over = r.over;
-      found = line_found (line_event old.place mid.line.items) old mid r.read refl n h r.next;
+      found = line_found (line_event old.place old.version mid.line.items) old mid r.read refl n h r.next;
     }))
 
 pub finds_long : (old : Items) (mid : Lines) (left rest : Option (List ℕ)) → mid.number ≡ old.lines.number + 1 → Reads (Ok nexts.Long) old.lines mid left rest
-    → Finds (Ok (Bad reasons.Long)) old (record { lines = mid; place = old.place }) left rest
+    → Finds (Ok (Bad reasons.Long)) old (record { lines = mid; place = old.place; version = old.version }) left rest
 finds_long old mid left rest n r = record {
   read = r.read;
   consumed = r.consumed;
   over = r.over;
   found = facing mid.ended _ (λ whole more. let l = r.next.1 more in
-      ap (items_from true (old.lines.number + 1) old.place) l.is
-      ∙ one_line true (old.lines.number + 1) old.place l.first l.behind (subst (λ k. k ≤ most_lines) n r.next.0)
-      ∙ ap (λ x. item_then x (λ e. items_from true (old.lines.number + 1 + 1) (place_after old.place e) l.behind)) (event_long old.place l.first l.holds));
+      ap (items_from true (old.lines.number + 1) old.place old.version) l.is
+      ∙ one_line true (old.lines.number + 1) old.place old.version l.first l.behind (subst (λ k. k ≤ most_lines) n r.next.0)
+      ∙ ap (λ x. item_then x (λ e. items_from true (old.lines.number + 1 + 1) (place_after old.place e) (version_after old.version e) l.behind)) (event_long old.place old.version l.first l.holds));
 }
 
-beyond : (n : ℕ) (place : Place) (line : List ℕ) (rest : List (List ℕ)) → most_lines < n → items_from true n place (line ∷ rest) ≡ items.Beyond ∷ []
-beyond n place line rest h = let t : nat_lt most_lines n ≡ true = grind (arith, nat_tests) in rw t refl
+beyond : (n : ℕ) (place : Place) (v : ℕ) (line : List ℕ) (rest : List (List ℕ)) → most_lines < n → items_from true n place v (line ∷ rest) ≡ items.Beyond ∷ []
+beyond n place v line rest h = let t : nat_lt most_lines n ≡ true = grind (arith, nat_tests) in rw t refl
 
 pub finds_beyond : (old : Items) (mid : Lines) (left rest : Option (List ℕ)) → mid.number ≡ old.lines.number + 1 → Reads (Ok nexts.Beyond) old.lines mid left rest
-    → Finds (Ok Beyond) old (record { lines = mid; place = old.place }) left rest
+    → Finds (Ok Beyond) old (record { lines = mid; place = old.place; version = old.version }) left rest
 finds_beyond old mid left rest n r = record {
   read = r.read;
   consumed = r.consumed;
   over = r.over;
   found = facing mid.ended _ (λ whole more. let l = r.next.1 more in
-      ap (items_from true (old.lines.number + 1) old.place) l.is
-      ∙ beyond (old.lines.number + 1) old.place l.first l.behind (subst (λ k. most_lines < k) n r.next.0));
+      ap (items_from true (old.lines.number + 1) old.place old.version) l.is
+      ∙ beyond (old.lines.number + 1) old.place old.version l.first l.behind (subst (λ k. most_lines < k) n r.next.0));
 }
 
 -- the end of the input
@@ -107,43 +107,49 @@ over_at : (b : Bool) (P : List ℕ → Type 0) → b ≡ true → P [] → Facin
 over_at false P e p = cc
 over_at true P e p = p
 
-end_found_of : (place : Place) (old : Items) (mid : Lines) (read : List ℕ) → place ≡ old.place → mid.ended ≡ true → ahead true old.lines read ≡ [] → FoundOf (Ok (end_found place)) old (record { lines = mid; place = old.place }) read
+end_found_of : (place : Place) (old : Items) (mid : Lines) (read : List ℕ) → place ≡ old.place → mid.ended ≡ true → ahead true old.lines read ≡ [] → FoundOf (Ok (end_found place)) old (record { lines = mid; place = old.place; version = old.version }) read
+end_found_of places.First old mid read e d a = (
+  d,
+  over_at mid.ended (λ more. items_ahead true old (read ++ more) ≡ []) d
+      (ap (items_ahead true old) (append-nil read) ∙ ap (items_from true (old.lines.number + 1) old.place old.version) a ∙ ap (end_of true) (sym e)),
+)
 end_found_of places.Plain old mid read e d a = (
   d,
   over_at mid.ended (λ more. items_ahead true old (read ++ more) ≡ []) d
-      (ap (items_ahead true old) (append-nil read) ∙ ap (items_from true (old.lines.number + 1) old.place) a ∙ ap (end_of true) (sym e)),
+      (ap (items_ahead true old) (append-nil read) ∙ ap (items_from true (old.lines.number + 1) old.place old.version) a ∙ ap (end_of true) (sym e)),
 )
 end_found_of places.Load old mid read e d a = over_at mid.ended (λ more. items_ahead true old (read ++ more) ≡ Unread reasons.Cut ∷ []) d
-    (ap (items_ahead true old) (append-nil read) ∙ ap (items_from true (old.lines.number + 1) old.place) a ∙ ap (end_of true) (sym e))
+    (ap (items_ahead true old) (append-nil read) ∙ ap (items_from true (old.lines.number + 1) old.place old.version) a ∙ ap (end_of true) (sym e))
 end_found_of places.File old mid read e d a = over_at mid.ended (λ more. items_ahead true old (read ++ more) ≡ Unread reasons.Cut ∷ []) d
-    (ap (items_ahead true old) (append-nil read) ∙ ap (items_from true (old.lines.number + 1) old.place) a ∙ ap (end_of true) (sym e))
+    (ap (items_ahead true old) (append-nil read) ∙ ap (items_from true (old.lines.number + 1) old.place old.version) a ∙ ap (end_of true) (sym e))
 
 pub finds_end : (f : Found) (old : Items) (mid : Lines) (left rest : Option (List ℕ)) → f ≡ end_found old.place → Reads (Ok nexts.End) old.lines mid left rest
-    → Finds (Ok f) old (record { lines = mid; place = old.place }) left rest
-finds_end f old mid left rest e r = subst (λ x. Finds (Ok x) old (record { lines = mid; place = old.place }) left rest) (sym e) (record {
+    → Finds (Ok f) old (record { lines = mid; place = old.place; version = old.version }) left rest
+finds_end f old mid left rest e r = subst (λ x. Finds (Ok x) old (record { lines = mid; place = old.place; version = old.version }) left rest) (sym e) (record {
   read = r.read;
   consumed = r.consumed;
   over = r.over;
   found = end_found_of old.place old mid r.read refl r.next.0 r.next.1;
 })
 
-pub finds_broken : (e : Failed) (old : Items) (mid : Lines) (left rest : Option (List ℕ)) → Reads (Err e) old.lines mid left rest → Finds (Err e) old (record { lines = mid; place = old.place }) left rest
+pub finds_broken : (e : Failed) (old : Items) (mid : Lines) (left rest : Option (List ℕ)) → Reads (Err e) old.lines mid left rest → Finds (Err e) old (record { lines = mid; place = old.place; version = old.version }) left rest
 finds_broken e old mid left rest r = record {
   read = r.read;
   consumed = r.consumed;
   over = r.over;
-  found = (r.next.0, ap (items_from false (old.lines.number + 1) old.place) r.next.1);
+  found = (r.next.0, ap (items_from false (old.lines.number + 1) old.place old.version) r.next.1);
 }
 
 -- a session of which nothing was read
-pub so_start : (r : Items) (left : Option (List ℕ)) → r.lines.number ≡ 0 → r.lines.ended ≡ false → pending r.lines.buffer ≡ [] → r.place ≡ places.Plain → FoundSoFar [] r left left
-so_start r left n e p q = record {
+pub so_start : (r : Items) (left : Option (List ℕ)) → r.lines.number ≡ 0 → r.lines.ended ≡ false → pending r.lines.buffer ≡ [] → r.place ≡ places.First → r.version ≡ 1 → FoundSoFar [] r left left
+so_start r left n e p q v = record {
   read = [];
   consumed = Consumes-nil left;
   so_far = facing r.lines.ended _ (λ whole more.
-      ap (λ k. items_from whole (k + 1) places.Plain (lines_from whole [] more)) (sym n)
-      ∙ ap (λ k. items_from whole (r.lines.number + 1) k (lines_from whole [] more)) (sym q)
-      ∙ ap (λ k. items_from whole (r.lines.number + 1) r.place (lines_from whole [] (k ++ more))) (sym p));
+      ap (λ k. items_from whole (k + 1) places.First 1 (lines_from whole [] more)) (sym n)
+      ∙ ap (λ k. items_from whole (r.lines.number + 1) k 1 (lines_from whole [] more)) (sym q)
+      ∙ ap (λ k. items_from whole (r.lines.number + 1) r.place k (lines_from whole [] more)) (sym v)
+      ∙ ap (λ k. items_from whole (r.lines.number + 1) r.place r.version (lines_from whole [] (k ++ more))) (sym p));
 }
 
 -- what was read before, and now
@@ -164,7 +170,7 @@ last_step true false P Q R t o k p q = let x : false ≡ true = (o refl).1 in cc
 last_step true true P Q R t o k p q = k true [] (subst (P true) (sym (append-nil t)) (subst (P true) (sym (o refl).0) p)) q
 
 abbrev all_items : Bool → List ℕ → List Item
-all_items whole bytes = items_from whole 1 places.Plain (lines_from whole [] bytes)
+all_items whole bytes = items_from whole 1 places.First 1 (lines_from whole [] bytes)
 
 on_event : (e : Event) (rest : List Item) → is_end (Line e) ≡ false → item_then (Ok e) (λ _. rest) ≡ Read e ∷ rest
 on_event events.End rest h = cc

@@ -10,14 +10,14 @@ use Rattle.its_word.specs.declared.session.Place.{Place}
 use Rattle.its_word.specs.declared.session.Place.TheVariants as places
 use Rattle.its_word.specs.declared.session.Bad.{Bad as BadLine}
 use Rattle.its_word.specs.declared.session.Reason.TheVariants as reasons
-use Rattle.its_session.specs.Events.{lines_from, items_from, item_then, place_after, reason_of, events_of, whole_events_of}
-use Rattle.its_session.specs.Fits.{EventFits}
+use Rattle.its_session.specs.Events.{lines_from, items_from, item_then, place_after, version_after, reason_of, events_of, whole_events_of}
+use Rattle.its_session.specs.Fits.{EventFits, Stands}
 use Rattle.its_reader.specs.declared.items.Items.{Items}
 use Rattle.its_reader.specs.declared.items.Found.{Found}
 use Rattle.its_reader.specs.declared.items.Found.TheVariants.{Line, Bad, Beyond, End}
 use Rattle.its_reader.specs.Lines.{Facing, ahead}
 
--- what a line comes to, and the place of the line behind it
+-- what a line comes to, and the place and the version of the line behind it
 abbrev pub found_of : Result Event BadLine → Found
 found_of (Ok e) = Line e
 found_of (Err bad) = Bad (reason_of bad)
@@ -26,17 +26,30 @@ abbrev pub place_found : Place → Found → Place
 place_found place (Line e) = place_after place e
 place_found place _ = place
 
+abbrev pub version_found : ℕ → Found → ℕ
+version_found v (Line e) = version_after v e
+version_found v _ = v
+
 -- the end of the input inside a block is CUT
 abbrev pub end_found : Place → Found
+end_found places.First = End
 end_found places.Plain = End
 end_found places.Load = Bad reasons.Cut
 end_found places.File = Bad reasons.Cut
 
-abbrev pub found_fits : Found → Type 0
-found_fits (Line e) = EventFits e
-found_fits (Bad r) = Unit {0}
-found_fits Beyond = Unit {0}
-found_fits End = Unit {0}
+-- a line that is read is one of a session of version v
+abbrev pub found_fits : ℕ → Found → Type 0
+found_fits v (Line e) = EventFits v e
+found_fits v (Bad r) = Unit {0}
+found_fits v Beyond = Unit {0}
+found_fits v End = Unit {0}
+
+-- and may stand at its place
+abbrev pub found_stands : Place → Found → Type 0
+found_stands place (Line e) = Stands place e
+found_stands place (Bad r) = Unit {0}
+found_stands place Beyond = Unit {0}
+found_stands place End = Unit {0}
 
 abbrev pub is_line : Found → Bool
 is_line (Line e) = true
@@ -61,7 +74,7 @@ is_last End = true
 
 -- the items that are still to come, where these bytes are still to be read
 abbrev pub items_ahead : Bool → Items → List ℕ → List Item
-items_ahead whole r more = items_from whole (r.lines.number + 1) r.place (ahead whole r.lines more)
+items_ahead whole r more = items_from whole (r.lines.number + 1) r.place r.version (ahead whole r.lines more)
 
 -- what stands last of all items, where this was found
 abbrev pub last_items : Found → List Item
@@ -88,7 +101,7 @@ pub record Finds (result : Result Found Failed) (old new : Items) (left rest : O
 pub record FoundSoFar (es : List Item) (r : Items) (left rest : Option (List ℕ)) : Type 0 where
   pub read : List ℕ
   pub consumed : Consumes left rest read
-  pub so_far : Facing r.lines.ended (λ whole more. items_from whole 1 places.Plain (lines_from whole [] (read ++ more)) ≡ es ++ items_ahead whole r more)
+  pub so_far : Facing r.lines.ended (λ whole more. items_from whole 1 places.First 1 (lines_from whole [] (read ++ more)) ≡ es ++ items_ahead whole r more)
 
 -- the input was read to its end, or END is among its whole lines that were read
 pub record ReadOut (bytes : List ℕ) (rest : Option (List ℕ)) : Type 0 where

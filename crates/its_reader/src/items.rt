@@ -1,11 +1,11 @@
 ghost use Rattle.std.specs.Prelude.{◌≡◌, ◌≤◌, ◌+◌, [], false, IfOk};
 ghost use Rattle.its_io.specs.Bytes.{HasCause};
-ghost use Rattle.its_session.specs.Events.{most_lines, place_after, reason_of};
+ghost use Rattle.its_session.specs.Events.{most_lines, place_after, reason_of, version_after};
 ghost use Rattle.its_session.specs.Fits.{EventFits};
 ghost use Rattle.its_reader.specs.Bytes.{pending, Fits};
 ghost use Rattle.its_reader.specs.Lines.{Ready};
 ghost use Rattle.its_session.specs.Grammar.{line_event};
-ghost use Rattle.its_reader.specs.Items.{Finds, end_found, found_fits, found_of, is_last, place_found};
+ghost use Rattle.its_reader.specs.Items.{Finds, end_found, found_fits, found_of, found_stands, is_last, place_found, version_found};
 
 use super::lines::{Lines, Next};
 use its_io::{Failed, Source};
@@ -32,6 +32,8 @@ pub struct Items {
     pub lines: Lines,
     /// The place of the line to come.
     pub place: Place,
+    /// The version of the session text: 1, unless line 1 says 2.
+    pub version: u8,
 }
 
 impl Items {
@@ -41,11 +43,13 @@ impl Items {
         ensures fits { Fits result.lines.buffer }
         ensures empty { pending result.lines.buffer ≡ [] }
         ensures open { result.lines.ended ≡ false }
-        ensures plain { result.place ≡ Place.Plain }
+        ensures first { result.place ≡ Place.First }
+        ensures version { result.version ≡ 1 }
     {
         Items {
             lines: Lines::new(),
-            place: Place::Plain,
+            place: Place::First,
+            version: 1,
         }
     }
 
@@ -56,7 +60,9 @@ impl Items {
         requires ready { Ready self.old.lines (S.left src.old) }
         requires few { self.old.lines.number ≤ most_lines }
         ensures finds { Finds result self.old self.new (S.left src.old) (S.left src.new) }
-        ensures fits { IfOk result found_fits }
+        ensures fits { IfOk result (found_fits self.old.version) }
+        ensures stands { IfOk result (found_stands self.old.place) }
+        ensures place { IfOk result (λ f. self.new.place ≡ place_found self.old.place f) }
         ensures ready { IfOk result (λ _. Ready self.new.lines (S.left src.new)) }
         ensures number { self.new.lines.number ≡ self.old.lines.number + 1 }
         ensures few { IfOk result (λ f. is_last f ≡ false → self.new.lines.number ≤ most_lines) }
@@ -72,14 +78,17 @@ impl Items {
 
     /// What the line that was given last comes to.
     fn read(&mut self) -> Found
-        ensures read { result ≡ found_of (line_event self.old.place self.old.lines.line.items) }
+        ensures read { result ≡ found_of (line_event self.old.place self.old.version self.old.lines.line.items) }
         ensures place { self.new.place ≡ place_found self.old.place result }
+        ensures version { self.new.version ≡ version_found self.old.version result }
         ensures lines { self.new.lines ≡ self.old.lines }
-        ensures fits { found_fits result }
+        ensures fits { found_fits self.old.version result }
+        ensures stands { found_stands self.old.place result }
     {
-        match read_line(&self.lines.line, self.place) {
+        match read_line(&self.lines.line, self.place, self.version) {
             Ok(event) => {
                 self.place = place_after(self.place, &event);
+                self.version = version_after(self.version, &event);
                 Found::Line(event)
             }
             Err(bad) => Found::Bad(reason_of(bad)),
@@ -92,6 +101,7 @@ fn at_end(place: Place) -> Found
     ensures { result ≡ end_found place }
 {
     match place {
+        Place::First => Found::End,
         Place::Plain => Found::End,
         Place::Load => Found::Bad(Reason::Cut),
         Place::File => Found::Bad(Reason::Cut),
@@ -107,7 +117,27 @@ fn place_after(place: Place, event: &Event) -> Place
         Event::File { .. } => Place::File,
         Event::Go { .. } => Place::Plain,
         Event::EndFile => Place::Plain,
+        _ => behind(place),
+    }
+}
+
+/// The place behind a line that begins no block and ends none: line 1 is over.
+fn behind(place: Place) -> Place
+    ensures { result ≡ place_after place Event.Nothing }
+{
+    match place {
+        Place::First => Place::Plain,
         _ => place,
+    }
+}
+
+/// The version of the session text after an event.
+fn version_after(version: u8, event: &Event) -> u8
+    ensures { result ≡ version_after version event.now }
+{
+    match event {
+        Event::Version { v } => *v,
+        _ => version,
     }
 }
 

@@ -1,5 +1,5 @@
 -- An event that was read fits the table of lines.
-use Rattle.std.proofs.Common.{if◌then◌else◌, ◌≡◌, ◌<◌, ◌≤◌, ◌+◌, ◌-◌, ◌*◌, ◌^◌, ℕ, Bool, true, false, ◌&&◌, Option, Some, None, Result, Ok, Err, List, [], ◌∷◌, length, map, leb, refl, subst, arith, lit≤, All, IfOk, IfSome}
+use Rattle.std.proofs.Common.{if◌then◌else◌, ◌≡◌, ◌<◌, ◌≤◌, ◌+◌, ◌-◌, ◌*◌, ◌^◌, ◌==◌, ◌∙◌, ap, ℕ, Bool, true, false, ◌&&◌, Option, Some, None, Result, Ok, Err, List, [], ◌∷◌, length, map, leb, refl, subst, arith, lit≤, All, IfOk, IfSome}
 use Rattle.std.specs.List.{list_all, fold}
 use Rattle.std.proofs.Math.Nat.{mul-le-mul_right, pow-le-pow_right, pow-suc}
 use Rattle.std.proofs.lemmas.Bool.Decides.{nat_tests}
@@ -9,12 +9,13 @@ use Rattle.its_word.specs.Text.{is_code, is_octal, octal_value, sixbit_of}
 use Rattle.its_word.specs.declared.session.Event.{Event}
 use Rattle.its_word.specs.declared.session.Event.TheVariants as events
 use Rattle.its_word.specs.declared.session.Place.{Place}
+use Rattle.its_word.specs.declared.session.Place.TheVariants as places
 use Rattle.its_word.specs.declared.session.Bad.{Bad}
 use Rattle.its_word.specs.declared.session.Bad.TheVariants as bads
 use Rattle.its_session.specs.declared.kind.Kind.{Kind}
 use Rattle.its_session.specs.declared.kind.Kind.TheVariants as kinds
-use Rattle.its_session.specs.Fits.{EventFits, IsNameWord}
-use Rattle.its_session.specs.Grammar.{Field, with_fields, with_count, number, number_to, count_to, slot, address, name, console, is_dash, console_or_dash, console_of, of_slot, load_line, words_line, go_line, file_line, append_line, bare_line, tick_line, type_line, drain_line, clock_line, int_line, exam_line, deposit_line, slot_line, dir_line, show_line, before_slash, kind_of, place_of_kind, is_at, line_of_kind, line_of_first, is_comment, event_of_words}
+use Rattle.its_session.specs.Fits.{EventFits, IsNameWord, place_of, Stands}
+use Rattle.its_session.specs.Grammar.{Field, with_fields, with_count, number, number_to, count_to, last_slot, slot, page, address, name, console, is_dash, console_or_dash, console_of, of_slot, load_line, words_line, go_line, file_line, append_line, bare_line, tick_line, type_line, drain_line, clock_line, int_line, exam_line, deposit_line, slot_line, dir_line, show_line, version_line, read_only_line, symbol_line, before_slash, kind_of, may_stand, is_at, place_of_kind, version_of_kind, line_of_kind, line_of_first, is_comment, event_of_words}
 use Rattle.its_session.proofs.NameLaws.{both}
 
 le_of : (a b : ℕ) → leb a b ≡ true → a ≤ b
@@ -70,9 +71,14 @@ met fields d e h = go (list_all (λ f. f.formed) fields) (list_all (λ f. f.rang
     go true false c x y z h = cc
     go false b c x y z h = cc
 
+-- an event that was read fits the table, and its line stands at a place
+record ReadAt (v : ℕ) (place : Place) (e : Event) : Type 0 where
+  pub fits : EventFits v e
+  pub at : place_of e ≡ place
+
 -- an event fits where its fields are met
-fits_by : (fields : List Field) (d e : Event) → (AllMet fields → EventFits d) → with_fields fields d ≡ Ok e → EventFits e
-fits_by fields d e fits h = let m = met fields d e h in subst EventFits m.1 (fits m.0)
+fits_by : (v : ℕ) (fields : List Field) (d e : Event) → (AllMet fields → EventFits v d) → with_fields fields d ≡ Ok e → ReadAt v (place_of d) e
+fits_by v fields d e fits h = let m = met fields d e h in subst (ReadAt v (place_of d)) m.1 (record { fits = fits m.0; at = refl })
 
 counted : (most : ℕ) (ws : List (List ℕ)) (r : Result Event Bad) (e : Event) → with_count most ws r ≡ Ok e → (r ≡ Ok e) × (1 ≤ length ws) × (length ws ≤ most)
 counted most ws r e h = go (leb 1 (length ws) && leb (length ws) most) refl h
@@ -111,187 +117,240 @@ are_bytes [] f = λ k d below. absurd (omega arith)
 are_bytes (w ∷ ws) f = All-cons (λ b. b ≤ 127) (octal_value w) (map octal_value ws) (at_most 127 w f.0) (are_bytes ws f.1)
 
 -- the rows of the table
-load_fits : (ws : List (List ℕ)) (e : Event) → load_line ws ≡ Ok e → EventFits e
+load_fits : (v : ℕ) (ws : List (List ℕ)) (e : Event) → load_line ws ≡ Ok e → ReadAt v places.Plain e
 unfolding load_line
-load_fits (u ∷ j ∷ c ∷ []) e h =
-    fits_by (name u ∷ name j ∷ console_or_dash c ∷ []) (events.Load (sixbit_of u) (sixbit_of j) (console_of c)) e (λ f. (is_name_word u f.0, is_name_word j f.1.0, may_be_console c f.1.1.0)) h
-load_fits [] e h = cc
-load_fits (u ∷ []) e h = cc
-load_fits (u ∷ j ∷ []) e h = cc
-load_fits (u ∷ j ∷ c ∷ x ∷ ws) e h = cc
+load_fits v (u ∷ j ∷ c ∷ []) e h =
+    fits_by v (name u ∷ name j ∷ console_or_dash c ∷ []) (events.Load (sixbit_of u) (sixbit_of j) (console_of c)) e (λ f. (is_name_word u f.0, is_name_word j f.1.0, may_be_console c f.1.1.0)) h
+load_fits v [] e h = cc
+load_fits v (u ∷ []) e h = cc
+load_fits v (u ∷ j ∷ []) e h = cc
+load_fits v (u ∷ j ∷ c ∷ x ∷ ws) e h = cc
 
-words_fits : (a : List ℕ) (ws : List (List ℕ)) (e : Event) → words_line a ws ≡ Ok e → EventFits e
+words_fits : (v : ℕ) (a : List ℕ) (ws : List (List ℕ)) (e : Event) → words_line a ws ≡ Ok e → ReadAt v places.Load e
 unfolding words_line
-words_fits a ws e h =
+words_fits v a ws e h =
     let c = counted 16 ws _ e h in
     let some = c.1 in
     let few = c.2 in
     let l = length-map ws octal_value in
-    fits_by (number_to (2 ^ 18 - length ws) a ∷ map number ws) (events.Words (octal_value a) (record { items = map octal_value ws })) e
+    fits_by v (number_to (2 ^ 18 - length ws) a ∷ map number ws) (events.Words (octal_value a) (record { items = map octal_value ws })) e
     (λ f. (let most : octal_value a ≤ 2 ^ 18 - length ws = at_most (2 ^ 18 - length ws) a f.0 in
     (omega arith, omega arith, omega arith))) c.0
 
-go_fits : (ws : List (List ℕ)) (e : Event) → go_line ws ≡ Ok e → EventFits e
+go_fits : (v : ℕ) (ws : List (List ℕ)) (e : Event) → go_line ws ≡ Ok e → ReadAt v places.Load e
 unfolding go_line
-go_fits (a ∷ []) e h = fits_by (address a ∷ []) (events.Go (octal_value a)) e (λ f. is_address a f.0) h
-go_fits [] e h = cc
-go_fits (a ∷ b ∷ ws) e h = cc
+go_fits v (a ∷ []) e h = fits_by v (address a ∷ []) (events.Go (octal_value a)) e (λ f. is_address a f.0) h
+go_fits v [] e h = cc
+go_fits v (a ∷ b ∷ ws) e h = cc
 
-file_fits : (ws : List (List ℕ)) (e : Event) → file_line ws ≡ Ok e → EventFits e
+file_fits : (v : ℕ) (ws : List (List ℕ)) (e : Event) → file_line ws ≡ Ok e → ReadAt v places.Plain e
 unfolding file_line
-file_fits (d ∷ x ∷ y ∷ []) e h =
-    fits_by (name d ∷ name x ∷ name y ∷ []) (events.File (sixbit_of d) (sixbit_of x) (sixbit_of y)) e (λ f. (is_name_word d f.0, is_name_word x f.1.0, is_name_word y f.1.1.0)) h
-file_fits [] e h = cc
-file_fits (d ∷ []) e h = cc
-file_fits (d ∷ x ∷ []) e h = cc
-file_fits (d ∷ x ∷ y ∷ z ∷ ws) e h = cc
+file_fits v (d ∷ x ∷ y ∷ []) e h =
+    fits_by v (name d ∷ name x ∷ name y ∷ []) (events.File (sixbit_of d) (sixbit_of x) (sixbit_of y)) e (λ f. (is_name_word d f.0, is_name_word x f.1.0, is_name_word y f.1.1.0)) h
+file_fits v [] e h = cc
+file_fits v (d ∷ []) e h = cc
+file_fits v (d ∷ x ∷ []) e h = cc
+file_fits v (d ∷ x ∷ y ∷ z ∷ ws) e h = cc
 
-append_fits : (ws : List (List ℕ)) (e : Event) → append_line ws ≡ Ok e → EventFits e
+append_fits : (v : ℕ) (ws : List (List ℕ)) (e : Event) → append_line ws ≡ Ok e → ReadAt v places.File e
 unfolding append_line
-append_fits ws e h =
+append_fits v ws e h =
     let c = counted 16 ws _ e h in
     let some = c.1 in
     let few = c.2 in
     let l = length-map ws octal_value in
-    fits_by (map number ws) (events.Append (record { items = map octal_value ws })) e (λ f. (omega arith, omega arith)) c.0
+    fits_by v (map number ws) (events.Append (record { items = map octal_value ws })) e (λ f. (omega arith, omega arith)) c.0
 
-tick_fits : (ws : List (List ℕ)) (e : Event) → tick_line ws ≡ Ok e → EventFits e
+tick_fits : (v : ℕ) (ws : List (List ℕ)) (e : Event) → tick_line v ws ≡ Ok e → ReadAt v places.Plain e
 unfolding tick_line
-tick_fits (s ∷ n ∷ []) e h =
-    fits_by (slot s ∷ count_to 512 n ∷ []) (events.Tick (octal_value s) (octal_value n)) e (λ f. (let n_in = from_one 512 n f.1.0 in (at_most 63 s f.0, n_in.0, n_in.1))) h
-tick_fits [] e h = cc
-tick_fits (s ∷ []) e h = cc
-tick_fits (s ∷ n ∷ m ∷ ws) e h = cc
+tick_fits v (s ∷ n ∷ []) e h =
+    fits_by v (slot v s ∷ count_to 512 n ∷ []) (events.Tick (octal_value s) (octal_value n)) e (λ f. (let n_in = from_one 512 n f.1.0 in (at_most (last_slot v) s f.0, n_in.0, n_in.1))) h
+tick_fits v [] e h = cc
+tick_fits v (s ∷ []) e h = cc
+tick_fits v (s ∷ n ∷ m ∷ ws) e h = cc
 
-type_fits : (ws : List (List ℕ)) (e : Event) → type_line ws ≡ Ok e → EventFits e
+type_fits : (v : ℕ) (ws : List (List ℕ)) (e : Event) → type_line ws ≡ Ok e → ReadAt v places.Plain e
 unfolding type_line
-type_fits [] e h = cc
-type_fits (k ∷ bs) e h =
+type_fits v [] e h = cc
+type_fits v (k ∷ bs) e h =
     let c = counted 32 bs _ e h in
     let some = c.1 in
     let few = c.2 in
     let l = length-map bs octal_value in
-    fits_by (console k ∷ map (number_to 127) bs) (events.TypeIn (octal_value k) (record { items = map octal_value bs })) e
+    fits_by v (console k ∷ map (number_to 127) bs) (events.TypeIn (octal_value k) (record { items = map octal_value bs })) e
     (λ f. (is_console k f.0, omega arith, omega arith, are_bytes bs f.1)) c.0
 
-drain_fits : (ws : List (List ℕ)) (e : Event) → drain_line ws ≡ Ok e → EventFits e
+drain_fits : (v : ℕ) (ws : List (List ℕ)) (e : Event) → drain_line ws ≡ Ok e → ReadAt v places.Plain e
 unfolding drain_line
-drain_fits (c ∷ n ∷ []) e h =
-    fits_by (console c ∷ count_to 64 n ∷ []) (events.Drain (octal_value c) (octal_value n)) e (λ f. (let n_in = from_one 64 n f.1.0 in (is_console c f.0, n_in.0, n_in.1))) h
-drain_fits [] e h = cc
-drain_fits (c ∷ []) e h = cc
-drain_fits (c ∷ n ∷ x ∷ ws) e h = cc
+drain_fits v (c ∷ n ∷ []) e h =
+    fits_by v (console c ∷ count_to 64 n ∷ []) (events.Drain (octal_value c) (octal_value n)) e (λ f. (let n_in = from_one 64 n f.1.0 in (is_console c f.0, n_in.0, n_in.1))) h
+drain_fits v [] e h = cc
+drain_fits v (c ∷ []) e h = cc
+drain_fits v (c ∷ n ∷ x ∷ ws) e h = cc
 
-clock_fits : (ws : List (List ℕ)) (e : Event) → clock_line ws ≡ Ok e → EventFits e
+clock_fits : (v : ℕ) (ws : List (List ℕ)) (e : Event) → clock_line ws ≡ Ok e → ReadAt v places.Plain e
 unfolding clock_line
-clock_fits (n ∷ []) e h = fits_by (number n ∷ []) (events.Clock (octal_value n)) e (λ f. number_below n f.0.formed) h
-clock_fits [] e h = cc
-clock_fits (n ∷ x ∷ ws) e h = cc
+clock_fits v (n ∷ []) e h = fits_by v (number n ∷ []) (events.Clock (octal_value n)) e (λ f. number_below n f.0.formed) h
+clock_fits v [] e h = cc
+clock_fits v (n ∷ x ∷ ws) e h = cc
 
-int_fits : (ws : List (List ℕ)) (e : Event) → int_line ws ≡ Ok e → EventFits e
+int_fits : (v : ℕ) (ws : List (List ℕ)) (e : Event) → int_line v ws ≡ Ok e → ReadAt v places.Plain e
 unfolding int_line
-int_fits (s ∷ v ∷ w ∷ []) e h =
-    fits_by (slot s ∷ number v ∷ number w ∷ []) (events.Int (octal_value s) (octal_value v) (octal_value w)) e (λ f. at_most 63 s f.0) h
-int_fits [] e h = cc
-int_fits (s ∷ []) e h = cc
-int_fits (s ∷ v ∷ []) e h = cc
-int_fits (s ∷ v ∷ w ∷ x ∷ ws) e h = cc
+int_fits v (s ∷ p ∷ q ∷ []) e h =
+    fits_by v (slot v s ∷ number p ∷ number q ∷ []) (events.Int (octal_value s) (octal_value p) (octal_value q)) e (λ f. at_most (last_slot v) s f.0) h
+int_fits v [] e h = cc
+int_fits v (s ∷ []) e h = cc
+int_fits v (s ∷ p ∷ []) e h = cc
+int_fits v (s ∷ p ∷ q ∷ x ∷ ws) e h = cc
 
-exam_fits : (ws : List (List ℕ)) (e : Event) → exam_line ws ≡ Ok e → EventFits e
+exam_fits : (v : ℕ) (ws : List (List ℕ)) (e : Event) → exam_line v ws ≡ Ok e → ReadAt v places.Plain e
 unfolding exam_line
-exam_fits (s ∷ a ∷ n ∷ []) e h =
-    fits_by (slot s ∷ number_to (2 ^ 18 - octal_value n) a ∷ count_to 8 n ∷ []) (events.Exam (octal_value s) (octal_value a) (octal_value n)) e
+exam_fits v (s ∷ a ∷ n ∷ []) e h =
+    fits_by v (slot v s ∷ number_to (2 ^ 18 - octal_value n) a ∷ count_to 8 n ∷ []) (events.Exam (octal_value s) (octal_value a) (octal_value n)) e
     (λ f. (let n_in = from_one 8 n f.1.1.0 in
     let few = n_in.1 in
     let most = at_most (2 ^ 18 - octal_value n) a f.1.0 in
-    (at_most 63 s f.0, n_in.0, n_in.1, omega arith))) h
-exam_fits [] e h = cc
-exam_fits (s ∷ []) e h = cc
-exam_fits (s ∷ a ∷ []) e h = cc
-exam_fits (s ∷ a ∷ n ∷ x ∷ ws) e h = cc
+    (at_most (last_slot v) s f.0, n_in.0, n_in.1, omega arith))) h
+exam_fits v [] e h = cc
+exam_fits v (s ∷ []) e h = cc
+exam_fits v (s ∷ a ∷ []) e h = cc
+exam_fits v (s ∷ a ∷ n ∷ x ∷ ws) e h = cc
 
-deposit_fits : (ws : List (List ℕ)) (e : Event) → deposit_line ws ≡ Ok e → EventFits e
+deposit_fits : (v : ℕ) (ws : List (List ℕ)) (e : Event) → deposit_line v ws ≡ Ok e → ReadAt v places.Plain e
 unfolding deposit_line
-deposit_fits (s ∷ a ∷ w ∷ []) e h =
-    fits_by (slot s ∷ address a ∷ number w ∷ []) (events.Deposit (octal_value s) (octal_value a) (octal_value w)) e (λ f. (at_most 63 s f.0, is_address a f.1.0)) h
-deposit_fits [] e h = cc
-deposit_fits (s ∷ []) e h = cc
-deposit_fits (s ∷ a ∷ []) e h = cc
-deposit_fits (s ∷ a ∷ w ∷ x ∷ ws) e h = cc
+deposit_fits v (s ∷ a ∷ w ∷ []) e h =
+    fits_by v (slot v s ∷ address a ∷ number w ∷ []) (events.Deposit (octal_value s) (octal_value a) (octal_value w)) e (λ f. (at_most (last_slot v) s f.0, is_address a f.1.0)) h
+deposit_fits v [] e h = cc
+deposit_fits v (s ∷ []) e h = cc
+deposit_fits v (s ∷ a ∷ []) e h = cc
+deposit_fits v (s ∷ a ∷ w ∷ x ∷ ws) e h = cc
 
-slot_is : (ws : List (List ℕ)) (s : ℕ) → slot_line ws ≡ Ok s → s ≤ 63
+slot_is : (v : ℕ) (ws : List (List ℕ)) (s : ℕ) → slot_line v ws ≡ Ok s → s ≤ last_slot v
 unfolding slot_line
-slot_is (w ∷ []) s h = let m = met (slot w ∷ []) (octal_value w) s h in subst (λ k. k ≤ 63) m.1 (at_most 63 w m.0.0)
-slot_is [] s h = cc
-slot_is (w ∷ x ∷ ws) s h = cc
+slot_is v (w ∷ []) s h = let m = met (slot v w ∷ []) (octal_value w) s h in subst (λ k. k ≤ last_slot v) m.1 (at_most (last_slot v) w m.0.0)
+slot_is v [] s h = cc
+slot_is v (w ∷ x ∷ ws) s h = cc
 
-slot_fits : (event : ℕ → Event) (ws : List (List ℕ)) (e : Event) → ((s : ℕ) → s ≤ 63 → EventFits (event s)) → of_slot event (slot_line ws) ≡ Ok e → EventFits e
-slot_fits event ws e fits h = go (slot_line ws) refl h
+slot_fits : (v : ℕ) (event : ℕ → Event) (ws : List (List ℕ)) (e : Event) → ((s : ℕ) → s ≤ last_slot v → ReadAt v places.Plain (event s)) → of_slot event (slot_line v ws) ≡ Ok e → ReadAt v places.Plain e
+slot_fits v event ws e fits h = go (slot_line v ws) refl h
   where
-    go : (r : Result ℕ Bad) → slot_line ws ≡ r → of_slot event r ≡ Ok e → EventFits e
-    go (Ok s) t h = let k : event s ≡ e = cc in subst EventFits k (fits s (slot_is ws s t))
+    go : (r : Result ℕ Bad) → slot_line v ws ≡ r → of_slot event r ≡ Ok e → ReadAt v places.Plain e
+    go (Ok s) t h = let k : event s ≡ e = cc in subst (ReadAt v places.Plain) k (fits s (slot_is v ws s t))
     go (Err bad) t h = cc
 
-dir_fits : (ws : List (List ℕ)) (e : Event) → dir_line ws ≡ Ok e → EventFits e
+dir_fits : (v : ℕ) (ws : List (List ℕ)) (e : Event) → dir_line ws ≡ Ok e → ReadAt v places.Plain e
 unfolding dir_line
-dir_fits (d ∷ []) e h = fits_by (name d ∷ []) (events.Dir (sixbit_of d)) e (λ f. is_name_word d f.0) h
-dir_fits [] e h = cc
-dir_fits (d ∷ x ∷ ws) e h = cc
+dir_fits v (d ∷ []) e h = fits_by v (name d ∷ []) (events.Dir (sixbit_of d)) e (λ f. is_name_word d f.0) h
+dir_fits v [] e h = cc
+dir_fits v (d ∷ x ∷ ws) e h = cc
 
-show_fits : (ws : List (List ℕ)) (e : Event) → show_line ws ≡ Ok e → EventFits e
+show_fits : (v : ℕ) (ws : List (List ℕ)) (e : Event) → show_line ws ≡ Ok e → ReadAt v places.Plain e
 unfolding show_line
-show_fits (d ∷ x ∷ y ∷ []) e h =
-    fits_by (name d ∷ name x ∷ name y ∷ []) (events.Show (sixbit_of d) (sixbit_of x) (sixbit_of y)) e (λ f. (is_name_word d f.0, is_name_word x f.1.0, is_name_word y f.1.1.0)) h
-show_fits [] e h = cc
-show_fits (d ∷ []) e h = cc
-show_fits (d ∷ x ∷ []) e h = cc
-show_fits (d ∷ x ∷ y ∷ z ∷ ws) e h = cc
+show_fits v (d ∷ x ∷ y ∷ []) e h =
+    fits_by v (name d ∷ name x ∷ name y ∷ []) (events.Show (sixbit_of d) (sixbit_of x) (sixbit_of y)) e (λ f. (is_name_word d f.0, is_name_word x f.1.0, is_name_word y f.1.1.0)) h
+show_fits v [] e h = cc
+show_fits v (d ∷ []) e h = cc
+show_fits v (d ∷ x ∷ []) e h = cc
+show_fits v (d ∷ x ∷ y ∷ z ∷ ws) e h = cc
 
-bare_fits : (d : Event) (ws : List (List ℕ)) (e : Event) → EventFits d → bare_line d ws ≡ Ok e → EventFits e
+bare_fits : (v : ℕ) (d : Event) (ws : List (List ℕ)) (e : Event) → EventFits v d → bare_line d ws ≡ Ok e → ReadAt v (place_of d) e
 unfolding bare_line
-bare_fits d [] e fits h = let k : d ≡ e = cc in subst EventFits k fits
-bare_fits d (x ∷ ws) e fits h = cc
+bare_fits v d [] e fits h = let k : d ≡ e = cc in subst (ReadAt v (place_of d)) k (record { fits = fits; at = refl })
+bare_fits v d (x ∷ ws) e fits h = cc
+
+version_fits : (v : ℕ) (ws : List (List ℕ)) (e : Event) → version_line ws ≡ Ok e → ReadAt v places.First e
+unfolding version_line
+version_fits v (n ∷ []) e h = fits_by v (count_to 2 n ∷ []) (events.Version (octal_value n)) e (λ f. from_one 2 n f.0) h
+version_fits v [] e h = cc
+version_fits v (n ∷ x ∷ ws) e h = cc
+
+read_only_fits : (v : ℕ) (ws : List (List ℕ)) (e : Event) → read_only_line ws ≡ Ok e → ReadAt v places.Load e
+unfolding read_only_line
+read_only_fits v (p ∷ []) e h = fits_by v (page p ∷ []) (events.ReadOnly (octal_value p)) e (λ f. at_most 255 p f.0) h
+read_only_fits v [] e h = cc
+read_only_fits v (p ∷ x ∷ ws) e h = cc
+
+symbol_fits : (v : ℕ) (ws : List (List ℕ)) (e : Event) → symbol_line ws ≡ Ok e → ReadAt v places.Load e
+unfolding symbol_line
+symbol_fits v (x ∷ a ∷ []) e h = fits_by v (name x ∷ address a ∷ []) (events.Symbol (sixbit_of x) (octal_value a)) e (λ f. (is_name_word x f.0, is_address a f.1.0)) h
+symbol_fits v [] e h = cc
+symbol_fits v (x ∷ []) e h = cc
+symbol_fits v (x ∷ a ∷ y ∷ ws) e h = cc
+
+-- an event whose place is this one stands there
+stands_by : (place : Place) (e : Event) → is_at place (place_of e) ≡ true → Stands place e
+stands_by place events.Nothing h = tt
+stands_by place _ h = h
 
 -- from the row to the line
-kind_fits : (k : Kind) (first : List ℕ) (ws : List (List ℕ)) (e : Event) → line_of_kind k first ws ≡ Ok e → EventFits e
-kind_fits kinds.Load first ws e h = load_fits ws e h
-kind_fits kinds.Words first ws e h = words_fits (before_slash first) ws e h
-kind_fits kinds.Go first ws e h = go_fits ws e h
-kind_fits kinds.File first ws e h = file_fits ws e h
-kind_fits kinds.Append first ws e h = append_fits ws e h
-kind_fits kinds.EndFile first ws e h = bare_fits events.EndFile ws e tt h
-kind_fits kinds.Tick first ws e h = tick_fits ws e h
-kind_fits kinds.TypeIn first ws e h = type_fits ws e h
-kind_fits kinds.Drain first ws e h = drain_fits ws e h
-kind_fits kinds.Clock first ws e h = clock_fits ws e h
-kind_fits kinds.Int first ws e h = int_fits ws e h
-kind_fits kinds.Exam first ws e h = exam_fits ws e h
-kind_fits kinds.State first ws e h = slot_fits events.State ws e (λ s i. i) h
-kind_fits kinds.Deposit first ws e h = deposit_fits ws e h
-kind_fits kinds.Stop first ws e h = slot_fits events.Stop ws e (λ s i. i) h
-kind_fits kinds.Cont first ws e h = slot_fits events.Cont ws e (λ s i. i) h
-kind_fits kinds.Peek first ws e h = slot_fits events.Peek ws e (λ s i. i) h
-kind_fits kinds.Dir first ws e h = dir_fits ws e h
-kind_fits kinds.Show first ws e h = show_fits ws e h
-kind_fits kinds.End first ws e h = bare_fits events.End ws e tt h
+kind_fits : (v : ℕ) (k : Kind) (first : List ℕ) (ws : List (List ℕ)) (e : Event) → line_of_kind v k first ws ≡ Ok e → ReadAt v (place_of_kind k) e
+kind_fits v kinds.Version first ws e h = version_fits v ws e h
+kind_fits v kinds.Load first ws e h = load_fits v ws e h
+kind_fits v kinds.Words first ws e h = words_fits v (before_slash first) ws e h
+kind_fits v kinds.ReadOnly first ws e h = read_only_fits v ws e h
+kind_fits v kinds.Symbol first ws e h = symbol_fits v ws e h
+kind_fits v kinds.Go first ws e h = go_fits v ws e h
+kind_fits v kinds.File first ws e h = file_fits v ws e h
+kind_fits v kinds.Append first ws e h = append_fits v ws e h
+kind_fits v kinds.EndFile first ws e h = bare_fits v events.EndFile ws e tt h
+kind_fits v kinds.Tick first ws e h = tick_fits v ws e h
+kind_fits v kinds.TypeIn first ws e h = type_fits v ws e h
+kind_fits v kinds.Drain first ws e h = drain_fits v ws e h
+kind_fits v kinds.Clock first ws e h = clock_fits v ws e h
+kind_fits v kinds.Int first ws e h = int_fits v ws e h
+kind_fits v kinds.Exam first ws e h = exam_fits v ws e h
+kind_fits v kinds.State first ws e h = slot_fits v events.State ws e (λ s i. record { fits = i; at = refl }) h
+kind_fits v kinds.Deposit first ws e h = deposit_fits v ws e h
+kind_fits v kinds.Stop first ws e h = slot_fits v events.Stop ws e (λ s i. record { fits = i; at = refl }) h
+kind_fits v kinds.Cont first ws e h = slot_fits v events.Cont ws e (λ s i. record { fits = i; at = refl }) h
+kind_fits v kinds.Peek first ws e h = slot_fits v events.Peek ws e (λ s i. record { fits = i; at = refl }) h
+kind_fits v kinds.Dir first ws e h = dir_fits v ws e h
+kind_fits v kinds.Show first ws e h = show_fits v ws e h
+kind_fits v kinds.End first ws e h = bare_fits v events.End ws e tt h
 
-first_fits : (place : Place) (k : Option Kind) (first : List ℕ) (ws : List (List ℕ)) (e : Event) → line_of_first place k first ws ≡ Ok e → EventFits e
-first_fits place None first ws e h = cc
-first_fits place (Some k) first ws e h = go (is_at place (place_of_kind k)) h
+first_fits : (v : ℕ) (place : Place) (k : Option Kind) (first : List ℕ) (ws : List (List ℕ)) (e : Event) → line_of_first place v k first ws ≡ Ok e → EventFits v e × Stands place e
+first_fits v place None first ws e h = cc
+first_fits v place (Some k) first ws e h = go (may_stand place v k) refl h
   where
-    go : (b : Bool) → (if b then line_of_kind k first ws else Err bads.Syntax) ≡ Ok e → EventFits e
-    go true h = kind_fits k first ws e h
-    go false h = cc
+    go : (b : Bool) → may_stand place v k ≡ b → (if b then line_of_kind v k first ws else Err bads.Syntax) ≡ Ok e → EventFits v e × Stands place e
+    go true t h =
+        let r = kind_fits v k first ws e h in
+        (r.fits, stands_by place e (ap (is_at place) r.at ∙ (both (is_at place (place_of_kind k)) (leb (version_of_kind k) v) t).0))
+    go false t h = cc
 
-words_of_fits : (place : Place) (ws : List (List ℕ)) (e : Event) → event_of_words place ws ≡ Ok e → EventFits e
+words_of_fits : (v : ℕ) (place : Place) (ws : List (List ℕ)) (e : Event) → event_of_words place v ws ≡ Ok e → EventFits v e × Stands place e
 unfolding event_of_words
-words_of_fits place [] e h = let k : events.Nothing ≡ e = cc in subst EventFits k tt
-words_of_fits place (first ∷ ws) e h = go (is_comment first) h
+words_of_fits v place [] e h = let k : events.Nothing ≡ e = cc in subst (λ x. EventFits v x × Stands place x) k (tt, tt)
+words_of_fits v place (first ∷ ws) e h = go (is_comment first) h
   where
-    go : (b : Bool) → (if b then Ok events.Nothing else line_of_first place (kind_of first) first ws) ≡ Ok e → EventFits e
-    go true h = let k : events.Nothing ≡ e = cc in subst EventFits k tt
-    go false h = first_fits place (kind_of first) first ws e h
+    go : (b : Bool) → (if b then Ok events.Nothing else line_of_first place v (kind_of first) first ws) ≡ Ok e → EventFits v e × Stands place e
+    go true h = let k : events.Nothing ≡ e = cc in subst (λ x. EventFits v x × Stands place x) k (tt, tt)
+    go false h = first_fits v place (kind_of first) first ws e h
 
-pub words_fit : (place : Place) (ws : List (List ℕ)) (r : Result Event Bad) → r ≡ event_of_words place ws → IfOk r EventFits
-words_fit place ws (Ok e) h = let k : event_of_words place ws ≡ Ok e = cc in words_of_fits place ws e k
-words_fit place ws (Err bad) h = tt
+pub words_fit : (place : Place) (v : ℕ) (ws : List (List ℕ)) (r : Result Event Bad) → r ≡ event_of_words place v ws → IfOk r (EventFits v)
+words_fit place v ws (Ok e) h = let k : event_of_words place v ws ≡ Ok e = cc in (words_of_fits v place ws e k).0
+words_fit place v ws (Err bad) h = tt
+
+pub words_stand : (place : Place) (v : ℕ) (ws : List (List ℕ)) (r : Result Event Bad) → r ≡ event_of_words place v ws → IfOk r (Stands place)
+words_stand place v ws (Ok e) h = let k : event_of_words place v ws ≡ Ok e = cc in (words_of_fits v place ws e k).1
+words_stand place v ws (Err bad) h = tt
+
+-- what fits a version fits version 2
+slot_later : (v s : ℕ) → s ≤ last_slot v → s ≤ last_slot 2
+unfolding last_slot
+slot_later v s h = go (v == 2) h
+  where
+    go : (b : Bool) → s ≤ (if b then 95 else 63) → s ≤ 95
+    go true h = h
+    go false h = omega arith
+
+pub later_fits : (v : ℕ) (e : Event) → EventFits v e → EventFits 2 e
+later_fits v (events.Tick s n) h = (slot_later v s h.0, h.1, h.2)
+later_fits v (events.Int s p q) h = slot_later v s h
+later_fits v (events.Exam s a n) h = (slot_later v s h.0, h.1, h.2, h.3)
+later_fits v (events.State s) h = slot_later v s h
+later_fits v (events.Deposit s a w) h = (slot_later v s h.0, h.1)
+later_fits v (events.Stop s) h = slot_later v s h
+later_fits v (events.Cont s) h = slot_later v s h
+later_fits v (events.Peek s) h = slot_later v s h
+later_fits v _ h = h

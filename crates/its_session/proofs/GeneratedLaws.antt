@@ -9,6 +9,7 @@ use Rattle.its_word.specs.Text.{is_name, sixbit_of}
 use Rattle.its_word.specs.declared.session.Event.{Event}
 use Rattle.its_word.specs.declared.session.Event.TheVariants as events
 use Rattle.its_session.specs.Fits.{IsNameWord, EventFits}
+use Rattle.its_session.specs.Grammar.{last_slot}
 use Rattle.its_session.specs.Generated.{for_each, jobs, placed, letter, started, looked_at, echoed, emptied, all_started, round, all_emptied, generated_session, IsGenerated}
 
 -- a place in the first of two lists, and one in the second
@@ -176,7 +177,7 @@ job = record { text = codes "E"; formed = refl; coded = refl }
 
 -- what holds of each line
 abbrev Fine : Event → Type 0
-Fine e = EventFits e × IsGenerated e
+Fine e = EventFits 1 e × IsGenerated e
 
 load_fit : (c : ℕ) → c < 8 → Fine (events.Load (sixbit_of (codes "U")) (sixbit_of (codes "E")) (Some c))
 load_fit c h = ((user, job, omega arith), tt)
@@ -185,6 +186,7 @@ words_fit : (a : ℕ) (ws : List ℕ) → 1 ≤ length ws → length ws ≤ 16 �
 words_fit a ws l m h = ((l, m, h), tt)
 
 tick_fit : (s n : ℕ) → s < 8 → 1 ≤ n → n ≤ 512 → Fine (events.Tick s n)
+unfolding last_slot
 tick_fit s n h l m = ((omega arith, l, m), tt)
 
 drain_fit : (c n : ℕ) → c < 8 → 1 ≤ n → n ≤ 64 → Fine (events.Drain c n)
@@ -194,6 +196,7 @@ type_fit : (r c : ℕ) → c < 8 → Fine (events.TypeIn c (record { items = let
 type_fit r c h = ((omega arith, omega arith, omega arith, All-cons (λ b. b ≤ 127) (letter r c) [] (omega arith) (All-nil (λ b. b ≤ 127))), tt)
 
 exam_fit : (c : ℕ) → c < 8 → Fine (events.Exam c 3 1)
+unfolding last_slot
 exam_fit c h = ((omega arith, omega arith, omega arith, omega arith), tt)
 
 started_fit : (c : ℕ) → c < 8 → All Fine (started c)
@@ -245,7 +248,7 @@ all_get P (x ∷ xs) (suc k) a = all_get P xs k (All-tail P x xs a)
 fine_at : (n k : ℕ) (o : Option Event) → o ≡ slice_get (generated_session n) k → IfSome o Fine
 fine_at n k o h = subst (λ x. IfSome x Fine) (sym h) (all_get Fine (generated_session n) k (session_fits n))
 
-first : (o : Option Event) → IfSome o Fine → IfSome o (λ e. EventFits e)
+first : (o : Option Event) → IfSome o Fine → IfSome o (λ e. EventFits 1 e)
 first (Some e) h = h.0
 first None h = tt
 
@@ -253,7 +256,7 @@ second : (o : Option Event) → IfSome o Fine → IfSome o (λ e. IsGenerated e)
 second (Some e) h = h.1
 second None h = tt
 
-pub generated_fits : (n k : ℕ) (o : Option Event) → o ≡ slice_get (generated_session n) k → IfSome o (λ e. EventFits e)
+pub generated_fits : (n k : ℕ) (o : Option Event) → o ≡ slice_get (generated_session n) k → IfSome o (λ e. EventFits 1 e)
 generated_fits n k o h = first o (fine_at n k o h)
 
 pub generated_kinds : (n k : ℕ) (o : Option Event) → o ≡ slice_get (generated_session n) k → IfSome o (λ e. IsGenerated e)

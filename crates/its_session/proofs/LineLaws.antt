@@ -52,10 +52,10 @@ visible_spaced first (w ∷ words) f ws =
     rw (spaced_cons first w words, list_all-append (is_code 32 126) first (32 ∷ spaced w words), run_in_line first f.visible) (visible_spaced w words ws.0 ws.1)
 
 -- the event of such a line is that of its words
-pub line_of_words : (place : Place) (first : List ℕ) (words : List (List ℕ)) → IsRun first → AllRuns words → length first + room_of words ≤ 255
-    → line_event place (spaced first words) ≡ event_of_words place (first ∷ words)
+pub line_of_words : (place : Place) (v : ℕ) (first : List ℕ) (words : List (List ℕ)) → IsRun first → AllRuns words → length first + room_of words ≤ 255
+    → line_event place v (spaced first words) ≡ event_of_words place v (first ∷ words)
 unfolding line_event
-line_of_words place first words f ws short =
+line_of_words place v first words f ws short =
     let size : length (spaced first words) ≤ 255 = omega (arith, length_spaced first words) in
     let test : leb (length (spaced first words)) 255 ≡ true = grind (arith, nat_tests) in
     rw (test, visible_spaced first words f ws, words_spaced first words f ws) refl

@@ -1,31 +1,35 @@
 -- The line that is written for an event is read as that event.
-use Rattle.std.proofs.Common.{◌≡◌, ◌<◌, ◌≤◌, ◌+◌, ◌-◌, ◌*◌, ◌^◌, ◌==◌, ℕ, suc, true, false, leb, Option, Some, None, Ok, List, [], ◌∷◌, ◌++◌, length, map, get_or, refl, ◌∙◌, arith, codes, lit≤, IfSome, All, bytes_eq}
+use Rattle.std.proofs.Common.{◌≡◌, ◌<◌, ◌≤◌, ◌+◌, ◌-◌, ◌*◌, ◌/◌, ◌^◌, ◌==◌, ◌&&◌, ap, sym, ℕ, suc, true, false, leb, Option, Some, None, Ok, List, [], ◌∷◌, ◌++◌, length, map, get_or, refl, ◌∙◌, arith, codes, lit≤, IfSome, All, bytes_eq}
 use Rattle.std.specs.List.{list_all}
 use Rattle.std.proofs.lemmas.Bool.{le-leb}
 use Rattle.std.proofs.lemmas.Bool.Decides.{nat_tests}
 use Rattle.std.proofs.lemmas.List.{get_or_push, length-append, length-map}
 use Rattle.std.proofs.lemmas.List.Folds.{list_all-append}
+use Rattle.std.proofs.Math.Nat.{div-eq_of_lt}
 use Rattle.std.proofs.Math.Seq.{take-append_seam}
-use Rattle.its_word.specs.Text.{digits_of, is_code, is_octal, octal_value, spaced}
+use Rattle.its_word.specs.Text.{digits_of, octal6_of, octal12_of, is_code, is_octal, octal_value, spaced}
 use Rattle.its_word.specs.declared.session.Event.{Event}
 use Rattle.its_word.specs.declared.session.Event.TheVariants as events
 use Rattle.its_word.specs.declared.session.Place.{Place}
 use Rattle.its_word.specs.declared.session.Place.TheVariants as places
 use Rattle.its_word.proofs.DigitLaws.{digits_are_codes, digits_are_octal, digits_value, few_digits, some_digits}
 use Rattle.its_word.proofs.SpacedLaws.{room_of}
+use Rattle.its_word.proofs.TextLaws.{octal12_reads}
 use Rattle.its_session.specs.declared.kind.Kind.TheVariants as kinds
-use Rattle.its_session.specs.Grammar.{append_line, bare_line, before_slash, clock_line, deposit_line, dir_line, drain_line, event_of_words, exam_line, file_line, go_line, int_line, is_comment, is_place, kind_of, line_event, load_line, show_line, slot_line, tick_line, type_line, words_line, words_of}
+use Rattle.its_session.specs.Grammar.{append_line, bare_line, before_slash, clock_line, deposit_line, dir_line, drain_line, event_of_words, exam_line, file_line, go_line, int_line, is_comment, is_place, kind_of, line_event, load_line, show_line, last_slot, read_only_line, slot_line, symbol_line, tick_line, type_line, version_line, words_line, words_of}
 use Rattle.its_session.specs.Fits.{EventFits, IsNameWord, place_of}
 use Rattle.its_session.specs.Writing.{AreWords, HasWords, console_text, name_of, text_of_event}
 use Rattle.its_session.proofs.LineLaws.{AllRuns, IsRun, line_of_words}
 use Rattle.its_session.proofs.NameLaws.{both, name_reads, some_from_test}
 use Rattle.its_session.proofs.RowLaws.{bytes_consoles, bytes_formed, bytes_ranged, numbers_consoles, numbers_formed, numbers_ranged}
 
--- what the digits of a number say
-record IsNumber (n : ℕ) : Type 0 where
-  pub formed : is_octal (digits_of n) ≡ true
-  pub run : IsRun (digits_of n)
-  pub short : length (digits_of n) ≤ 12
+-- digits that are read as a number
+record Reads (digits : List ℕ) (n : ℕ) : Type 0 where
+  pub formed : is_octal digits ≡ true
+  pub value : octal_value digits ≡ n
+  pub codes : list_all (is_code 48 55) digits ≡ true
+  pub run : IsRun digits
+  pub short : length digits ≤ 12
 
 digit_visible : (c : ℕ) → is_code 48 55 c ≡ true → is_code 33 126 c ≡ true
 digit_visible c h = grind (arith, nat_tests)
@@ -36,129 +40,205 @@ digits_visible (d ∷ ds) h =
     let parts = both (is_code 48 55 d) (list_all (is_code 48 55) ds) h in
     rw (digit_visible d parts.0, digits_visible ds parts.1) refl
 
-number_reads : (n : ℕ) → n < 2 ^ 36 → IsNumber n
+number_reads : (n : ℕ) → n < 2 ^ 36 → Reads (digits_of n) n
 number_reads n below = record {
   formed = digits_are_octal n below;
+  value = digits_value n;
+  codes = digits_are_codes n;
   run = record { some = some_digits n; visible = digits_visible (digits_of n) (digits_are_codes n) };
   short = few_digits 12 n (omega arith) (omega arith);
+}
+
+length-octal12 : (w : ℕ) → length (octal12_of w) ≡ 12
+unfolding octal12_of
+length-octal12 w = refl
+
+octal_codes : (digits : List ℕ) → is_octal digits ≡ true → list_all (is_code 48 55) digits ≡ true
+unfolding is_octal
+octal_codes digits h = (both (leb 1 (length digits) && leb (length digits) 12) (list_all (is_code 48 55) digits) h).1
+
+word_reads : (w : ℕ) → w < 2 ^ 36 → Reads (octal12_of w) w
+word_reads w below =
+    let reads = octal12_reads w below in
+    let formed : is_octal (octal12_of w) ≡ true = reads.0 in
+    let codes = octal_codes (octal12_of w) formed in
+    record {
+      formed = formed;
+      value = reads.1;
+      codes = codes;
+      run = record { some = omega (arith, length-octal12 w); visible = digits_visible (octal12_of w) codes };
+      short = omega (arith, length-octal12 w);
+    }
+
+-- the digits of an address are the last six of its word, before which stand zeros
+length-octal6 : (a : ℕ) → length (octal6_of a) ≡ 6
+unfolding octal6_of
+length-octal6 a = refl
+
+zeros_before : (a : ℕ) → a < 2 ^ 18 → octal12_of a ≡ 48 ∷ 48 ∷ 48 ∷ 48 ∷ 48 ∷ 48 ∷ octal6_of a
+unfolding octal12_of octal6_of
+zeros_before a below =
+    let none : (k : ℕ) → 2 ^ 18 ≤ k → a / k ≡ 0 = λ k h. div-eq_of_lt (omega arith) in
+    rw (none (2 ^ 33) (lit≤ tt), none (2 ^ 30) (lit≤ tt), none (2 ^ 27) (lit≤ tt), none (2 ^ 24) (lit≤ tt), none (2 ^ 21) (lit≤ tt), none (2 ^ 18) (lit≤ tt)) refl
+
+value_behind_zeros : (ds : List ℕ) → octal_value (48 ∷ 48 ∷ 48 ∷ 48 ∷ 48 ∷ 48 ∷ ds) ≡ octal_value ds
+unfolding octal_value
+value_behind_zeros ds = refl
+
+address_codes : (a : ℕ) → a < 2 ^ 18 → list_all (is_code 48 55) (octal6_of a) ≡ true
+address_codes a below = ap (list_all (is_code 48 55)) (sym (zeros_before a below)) ∙ (word_reads a (omega arith)).codes
+
+address_formed : (a : ℕ) → a < 2 ^ 18 → is_octal (octal6_of a) ≡ true
+unfolding is_octal
+address_formed a below = rw (length-octal6 a, address_codes a below) refl
+
+address_reads : (a : ℕ) → a < 2 ^ 18 → Reads (octal6_of a) a
+address_reads a below = record {
+  formed = address_formed a below;
+  value = sym (value_behind_zeros (octal6_of a)) ∙ ap octal_value (sym (zeros_before a below)) ∙ (word_reads a (omega arith)).value;
+  codes = address_codes a below;
+  run = record { some = omega (arith, length-octal6 a); visible = digits_visible (octal6_of a) (address_codes a below) };
+  short = omega (arith, length-octal6 a);
 }
 
 -- a word that is written out
 word : (w : List ℕ) → leb 1 (length w) ≡ true → list_all (is_code 33 126) w ≡ true → IsRun w
 word w some visible = record { some = some_from_test (length w) some; visible = visible }
 
-nothing_again : (place : Place) → line_event place [] ≡ Ok events.Nothing
+nothing_again : (place : Place) → line_event place 2 [] ≡ Ok events.Nothing
 unfolding line_event words_of event_of_words
 nothing_again place = refl
 
-go_again : (a : ℕ) → a < 2 ^ 18 → line_event places.Load (spaced (codes "GO") (digits_of a ∷ [])) ≡ Ok (events.Go a)
+go_again : (a : ℕ) → a < 2 ^ 18 → line_event places.Load 2 (spaced (codes "GO") (octal6_of a ∷ [])) ≡ Ok (events.Go a)
 unfolding event_of_words kind_of go_line
 go_again a below =
-    let read_a = number_reads a (omega arith) in
-    line_of_words places.Load (codes "GO") (digits_of a ∷ []) (word (codes "GO") refl refl) (read_a.run, tt) (omega (arith, read_a.short))
-    ∙ rw (read_a.formed, digits_value a) (grind (arith, nat_tests))
+    let read_a = address_reads a below in
+    line_of_words places.Load 2 (codes "GO") (octal6_of a ∷ []) (word (codes "GO") refl refl) (read_a.run, tt) (omega (arith, read_a.short))
+    ∙ rw (read_a.formed, read_a.value) (grind (arith, nat_tests))
 
-tick_again : (s n : ℕ) → s ≤ 63 → 1 ≤ n → n ≤ 512 → line_event places.Plain (spaced (codes "TICK") (digits_of s ∷ digits_of n ∷ [])) ≡ Ok (events.Tick s n)
-unfolding event_of_words kind_of tick_line
+version_again : (v : ℕ) → 1 ≤ v → v ≤ 2 → line_event places.First 2 (spaced (codes "VERSION") (digits_of v ∷ [])) ≡ Ok (events.Version v)
+unfolding event_of_words kind_of version_line
+version_again v some few =
+    let read_v = number_reads v (omega arith) in
+    line_of_words places.First 2 (codes "VERSION") (digits_of v ∷ []) (word (codes "VERSION") refl refl) (read_v.run, tt) (omega (arith, read_v.short))
+    ∙ rw (read_v.formed, digits_value v) (grind (arith, nat_tests))
+
+read_only_again : (p : ℕ) → p ≤ 255 → line_event places.Load 2 (spaced (codes "RO") (digits_of p ∷ [])) ≡ Ok (events.ReadOnly p)
+unfolding event_of_words kind_of read_only_line
+read_only_again p few =
+    let read_p = number_reads p (omega arith) in
+    line_of_words places.Load 2 (codes "RO") (digits_of p ∷ []) (word (codes "RO") refl refl) (read_p.run, tt) (omega (arith, read_p.short))
+    ∙ rw (read_p.formed, digits_value p) (grind (arith, nat_tests))
+
+symbol_again : (x a : ℕ) → IsNameWord x → a < 2 ^ 18 → line_event places.Load 2 (spaced (codes "SYM") (name_of x ∷ octal6_of a ∷ [])) ≡ Ok (events.Symbol x a)
+unfolding event_of_words kind_of symbol_line
+symbol_again x a named_x below =
+    let read_x = name_reads x named_x in
+    let read_a = address_reads a below in
+    line_of_words places.Load 2 (codes "SYM") (name_of x ∷ octal6_of a ∷ []) (word (codes "SYM") refl refl) (read_x.run, (read_a.run, tt)) (omega (arith, read_x.short, read_a.short))
+    ∙ rw (read_x.formed, read_x.coded, read_a.formed, read_a.value) (grind (arith, nat_tests))
+
+tick_again : (s n : ℕ) → s ≤ 95 → 1 ≤ n → n ≤ 512 → line_event places.Plain 2 (spaced (codes "TICK") (digits_of s ∷ digits_of n ∷ [])) ≡ Ok (events.Tick s n)
+unfolding event_of_words kind_of tick_line last_slot
 tick_again s n slot some few =
     let read_s = number_reads s (omega arith) in
     let read_n = number_reads n (omega arith) in
-    line_of_words places.Plain (codes "TICK") (digits_of s ∷ digits_of n ∷ []) (word (codes "TICK") refl refl) (read_s.run, (read_n.run, tt)) (omega (arith, read_s.short, read_n.short))
+    line_of_words places.Plain 2 (codes "TICK") (digits_of s ∷ digits_of n ∷ []) (word (codes "TICK") refl refl) (read_s.run, (read_n.run, tt)) (omega (arith, read_s.short, read_n.short))
     ∙ rw (read_s.formed, read_n.formed, digits_value s, digits_value n) (grind (arith, nat_tests))
 
-drain_again : (c n : ℕ) → c ≤ 7 → 1 ≤ n → n ≤ 64 → line_event places.Plain (spaced (codes "DRAIN") (digits_of c ∷ digits_of n ∷ [])) ≡ Ok (events.Drain c n)
+drain_again : (c n : ℕ) → c ≤ 7 → 1 ≤ n → n ≤ 64 → line_event places.Plain 2 (spaced (codes "DRAIN") (digits_of c ∷ digits_of n ∷ [])) ≡ Ok (events.Drain c n)
 unfolding event_of_words kind_of drain_line
 drain_again c n console some few =
     let read_c = number_reads c (omega arith) in
     let read_n = number_reads n (omega arith) in
-    line_of_words places.Plain (codes "DRAIN") (digits_of c ∷ digits_of n ∷ []) (word (codes "DRAIN") refl refl) (read_c.run, (read_n.run, tt)) (omega (arith, read_c.short, read_n.short))
+    line_of_words places.Plain 2 (codes "DRAIN") (digits_of c ∷ digits_of n ∷ []) (word (codes "DRAIN") refl refl) (read_c.run, (read_n.run, tt)) (omega (arith, read_c.short, read_n.short))
     ∙ rw (read_c.formed, read_n.formed, digits_value c, digits_value n) (grind (arith, nat_tests))
 
-clock_again : (n : ℕ) → n < 2 ^ 36 → line_event places.Plain (spaced (codes "CLOCK") (digits_of n ∷ [])) ≡ Ok (events.Clock n)
+clock_again : (n : ℕ) → n < 2 ^ 36 → line_event places.Plain 2 (spaced (codes "CLOCK") (digits_of n ∷ [])) ≡ Ok (events.Clock n)
 unfolding event_of_words kind_of clock_line
 clock_again n below =
     let read_n = number_reads n (omega arith) in
-    line_of_words places.Plain (codes "CLOCK") (digits_of n ∷ []) (word (codes "CLOCK") refl refl) (read_n.run, tt) (omega (arith, read_n.short))
+    line_of_words places.Plain 2 (codes "CLOCK") (digits_of n ∷ []) (word (codes "CLOCK") refl refl) (read_n.run, tt) (omega (arith, read_n.short))
     ∙ rw (read_n.formed, digits_value n) (grind (arith, nat_tests))
 
-int_again : (s v w : ℕ) → s ≤ 63 → v < 2 ^ 36 → w < 2 ^ 36 → line_event places.Plain (spaced (codes "INT") (digits_of s ∷ digits_of v ∷ digits_of w ∷ [])) ≡ Ok (events.Int s v w)
-unfolding event_of_words kind_of int_line
+int_again : (s v w : ℕ) → s ≤ 95 → v < 2 ^ 36 → w < 2 ^ 36 → line_event places.Plain 2 (spaced (codes "INT") (digits_of s ∷ octal12_of v ∷ octal12_of w ∷ [])) ≡ Ok (events.Int s v w)
+unfolding event_of_words kind_of int_line last_slot
 int_again s v w slot word_v word_w =
     let read_s = number_reads s (omega arith) in
-    let read_v = number_reads v (omega arith) in
-    let read_w = number_reads w (omega arith) in
-    line_of_words places.Plain (codes "INT") (digits_of s ∷ digits_of v ∷ digits_of w ∷ []) (word (codes "INT") refl refl) (read_s.run, (read_v.run, (read_w.run, tt))) (omega (arith, read_s.short, read_v.short, read_w.short))
-    ∙ rw (read_s.formed, read_v.formed, read_w.formed, digits_value s, digits_value v, digits_value w) (grind (arith, nat_tests))
+    let read_v = word_reads v word_v in
+    let read_w = word_reads w word_w in
+    line_of_words places.Plain 2 (codes "INT") (digits_of s ∷ octal12_of v ∷ octal12_of w ∷ []) (word (codes "INT") refl refl) (read_s.run, (read_v.run, (read_w.run, tt))) (omega (arith, read_s.short, read_v.short, read_w.short))
+    ∙ rw (read_s.formed, read_v.formed, read_w.formed, digits_value s, read_v.value, read_w.value) (grind (arith, nat_tests))
 
-exam_again : (s a n : ℕ) → s ≤ 63 → 1 ≤ n → n ≤ 8 → a + n ≤ 2 ^ 18 → line_event places.Plain (spaced (codes "EXAM") (digits_of s ∷ digits_of a ∷ digits_of n ∷ [])) ≡ Ok (events.Exam s a n)
-unfolding event_of_words kind_of exam_line
+exam_again : (s a n : ℕ) → s ≤ 95 → 1 ≤ n → n ≤ 8 → a + n ≤ 2 ^ 18 → line_event places.Plain 2 (spaced (codes "EXAM") (digits_of s ∷ octal6_of a ∷ digits_of n ∷ [])) ≡ Ok (events.Exam s a n)
+unfolding event_of_words kind_of exam_line last_slot
 exam_again s a n slot some few within =
     let read_s = number_reads s (omega arith) in
-    let read_a = number_reads a (omega arith) in
+    let read_a = address_reads a (omega arith) in
     let read_n = number_reads n (omega arith) in
-    line_of_words places.Plain (codes "EXAM") (digits_of s ∷ digits_of a ∷ digits_of n ∷ []) (word (codes "EXAM") refl refl) (read_s.run, (read_a.run, (read_n.run, tt))) (omega (arith, read_s.short, read_a.short, read_n.short))
-    ∙ rw (read_s.formed, read_a.formed, read_n.formed, digits_value s, digits_value a, digits_value n) (grind (arith, nat_tests))
+    line_of_words places.Plain 2 (codes "EXAM") (digits_of s ∷ octal6_of a ∷ digits_of n ∷ []) (word (codes "EXAM") refl refl) (read_s.run, (read_a.run, (read_n.run, tt))) (omega (arith, read_s.short, read_a.short, read_n.short))
+    ∙ rw (read_s.formed, read_a.formed, read_n.formed, digits_value s, read_a.value, digits_value n) (grind (arith, nat_tests))
 
-deposit_again : (s a w : ℕ) → s ≤ 63 → a < 2 ^ 18 → w < 2 ^ 36 → line_event places.Plain (spaced (codes "DEPOSIT") (digits_of s ∷ digits_of a ∷ digits_of w ∷ [])) ≡ Ok (events.Deposit s a w)
-unfolding event_of_words kind_of deposit_line
+deposit_again : (s a w : ℕ) → s ≤ 95 → a < 2 ^ 18 → w < 2 ^ 36 → line_event places.Plain 2 (spaced (codes "DEPOSIT") (digits_of s ∷ octal6_of a ∷ octal12_of w ∷ [])) ≡ Ok (events.Deposit s a w)
+unfolding event_of_words kind_of deposit_line last_slot
 deposit_again s a w slot below word_w =
     let read_s = number_reads s (omega arith) in
-    let read_a = number_reads a (omega arith) in
-    let read_w = number_reads w (omega arith) in
-    line_of_words places.Plain (codes "DEPOSIT") (digits_of s ∷ digits_of a ∷ digits_of w ∷ []) (word (codes "DEPOSIT") refl refl) (read_s.run, (read_a.run, (read_w.run, tt))) (omega (arith, read_s.short, read_a.short, read_w.short))
-    ∙ rw (read_s.formed, read_a.formed, read_w.formed, digits_value s, digits_value a, digits_value w) (grind (arith, nat_tests))
+    let read_a = address_reads a below in
+    let read_w = word_reads w word_w in
+    line_of_words places.Plain 2 (codes "DEPOSIT") (digits_of s ∷ octal6_of a ∷ octal12_of w ∷ []) (word (codes "DEPOSIT") refl refl) (read_s.run, (read_a.run, (read_w.run, tt))) (omega (arith, read_s.short, read_a.short, read_w.short))
+    ∙ rw (read_s.formed, read_a.formed, read_w.formed, digits_value s, read_a.value, read_w.value) (grind (arith, nat_tests))
 
-state_again : (s : ℕ) → s ≤ 63 → line_event places.Plain (spaced (codes "STATE") (digits_of s ∷ [])) ≡ Ok (events.State s)
-unfolding event_of_words kind_of slot_line
+state_again : (s : ℕ) → s ≤ 95 → line_event places.Plain 2 (spaced (codes "STATE") (digits_of s ∷ [])) ≡ Ok (events.State s)
+unfolding event_of_words kind_of slot_line last_slot
 state_again s slot =
     let read_s = number_reads s (omega arith) in
-    line_of_words places.Plain (codes "STATE") (digits_of s ∷ []) (word (codes "STATE") refl refl) (read_s.run, tt) (omega (arith, read_s.short))
+    line_of_words places.Plain 2 (codes "STATE") (digits_of s ∷ []) (word (codes "STATE") refl refl) (read_s.run, tt) (omega (arith, read_s.short))
     ∙ rw (read_s.formed, digits_value s) (grind (arith, nat_tests))
 
-stop_again : (s : ℕ) → s ≤ 63 → line_event places.Plain (spaced (codes "STOP") (digits_of s ∷ [])) ≡ Ok (events.Stop s)
-unfolding event_of_words kind_of slot_line
+stop_again : (s : ℕ) → s ≤ 95 → line_event places.Plain 2 (spaced (codes "STOP") (digits_of s ∷ [])) ≡ Ok (events.Stop s)
+unfolding event_of_words kind_of slot_line last_slot
 stop_again s slot =
     let read_s = number_reads s (omega arith) in
-    line_of_words places.Plain (codes "STOP") (digits_of s ∷ []) (word (codes "STOP") refl refl) (read_s.run, tt) (omega (arith, read_s.short))
+    line_of_words places.Plain 2 (codes "STOP") (digits_of s ∷ []) (word (codes "STOP") refl refl) (read_s.run, tt) (omega (arith, read_s.short))
     ∙ rw (read_s.formed, digits_value s) (grind (arith, nat_tests))
 
-cont_again : (s : ℕ) → s ≤ 63 → line_event places.Plain (spaced (codes "CONT") (digits_of s ∷ [])) ≡ Ok (events.Cont s)
-unfolding event_of_words kind_of slot_line
+cont_again : (s : ℕ) → s ≤ 95 → line_event places.Plain 2 (spaced (codes "CONT") (digits_of s ∷ [])) ≡ Ok (events.Cont s)
+unfolding event_of_words kind_of slot_line last_slot
 cont_again s slot =
     let read_s = number_reads s (omega arith) in
-    line_of_words places.Plain (codes "CONT") (digits_of s ∷ []) (word (codes "CONT") refl refl) (read_s.run, tt) (omega (arith, read_s.short))
+    line_of_words places.Plain 2 (codes "CONT") (digits_of s ∷ []) (word (codes "CONT") refl refl) (read_s.run, tt) (omega (arith, read_s.short))
     ∙ rw (read_s.formed, digits_value s) (grind (arith, nat_tests))
 
-peek_again : (s : ℕ) → s ≤ 63 → line_event places.Plain (spaced (codes "PEEK") (digits_of s ∷ [])) ≡ Ok (events.Peek s)
-unfolding event_of_words kind_of slot_line
+peek_again : (s : ℕ) → s ≤ 95 → line_event places.Plain 2 (spaced (codes "PEEK") (digits_of s ∷ [])) ≡ Ok (events.Peek s)
+unfolding event_of_words kind_of slot_line last_slot
 peek_again s slot =
     let read_s = number_reads s (omega arith) in
-    line_of_words places.Plain (codes "PEEK") (digits_of s ∷ []) (word (codes "PEEK") refl refl) (read_s.run, tt) (omega (arith, read_s.short))
+    line_of_words places.Plain 2 (codes "PEEK") (digits_of s ∷ []) (word (codes "PEEK") refl refl) (read_s.run, tt) (omega (arith, read_s.short))
     ∙ rw (read_s.formed, digits_value s) (grind (arith, nat_tests))
 
-file_again : (d x y : ℕ) → IsNameWord d → IsNameWord x → IsNameWord y → line_event places.Plain (spaced (codes "FILE") (name_of d ∷ name_of x ∷ name_of y ∷ [])) ≡ Ok (events.File d x y)
+file_again : (d x y : ℕ) → IsNameWord d → IsNameWord x → IsNameWord y → line_event places.Plain 2 (spaced (codes "FILE") (name_of d ∷ name_of x ∷ name_of y ∷ [])) ≡ Ok (events.File d x y)
 unfolding event_of_words kind_of file_line
 file_again d x y named_d named_x named_y =
     let read_d = name_reads d named_d in
     let read_x = name_reads x named_x in
     let read_y = name_reads y named_y in
-    line_of_words places.Plain (codes "FILE") (name_of d ∷ name_of x ∷ name_of y ∷ []) (word (codes "FILE") refl refl) (read_d.run, (read_x.run, (read_y.run, tt))) (omega (arith, read_d.short, read_x.short, read_y.short))
+    line_of_words places.Plain 2 (codes "FILE") (name_of d ∷ name_of x ∷ name_of y ∷ []) (word (codes "FILE") refl refl) (read_d.run, (read_x.run, (read_y.run, tt))) (omega (arith, read_d.short, read_x.short, read_y.short))
     ∙ rw (read_d.formed, read_x.formed, read_y.formed, read_d.coded, read_x.coded, read_y.coded) refl
 
-dir_again : (d : ℕ) → IsNameWord d → line_event places.Plain (spaced (codes "DIR") (name_of d ∷ [])) ≡ Ok (events.Dir d)
+dir_again : (d : ℕ) → IsNameWord d → line_event places.Plain 2 (spaced (codes "DIR") (name_of d ∷ [])) ≡ Ok (events.Dir d)
 unfolding event_of_words kind_of dir_line
 dir_again d named_d =
     let read_d = name_reads d named_d in
-    line_of_words places.Plain (codes "DIR") (name_of d ∷ []) (word (codes "DIR") refl refl) (read_d.run, tt) (omega (arith, read_d.short))
+    line_of_words places.Plain 2 (codes "DIR") (name_of d ∷ []) (word (codes "DIR") refl refl) (read_d.run, tt) (omega (arith, read_d.short))
     ∙ rw (read_d.formed, read_d.coded) refl
 
-show_again : (d x y : ℕ) → IsNameWord d → IsNameWord x → IsNameWord y → line_event places.Plain (spaced (codes "SHOW") (name_of d ∷ name_of x ∷ name_of y ∷ [])) ≡ Ok (events.Show d x y)
+show_again : (d x y : ℕ) → IsNameWord d → IsNameWord x → IsNameWord y → line_event places.Plain 2 (spaced (codes "SHOW") (name_of d ∷ name_of x ∷ name_of y ∷ [])) ≡ Ok (events.Show d x y)
 unfolding event_of_words kind_of show_line
 show_again d x y named_d named_x named_y =
     let read_d = name_reads d named_d in
     let read_x = name_reads x named_x in
     let read_y = name_reads y named_y in
-    line_of_words places.Plain (codes "SHOW") (name_of d ∷ name_of x ∷ name_of y ∷ []) (word (codes "SHOW") refl refl) (read_d.run, (read_x.run, (read_y.run, tt))) (omega (arith, read_d.short, read_x.short, read_y.short))
+    line_of_words places.Plain 2 (codes "SHOW") (name_of d ∷ name_of x ∷ name_of y ∷ []) (word (codes "SHOW") refl refl) (read_d.run, (read_x.run, (read_y.run, tt))) (omega (arith, read_d.short, read_x.short, read_y.short))
     ∙ rw (read_d.formed, read_x.formed, read_y.formed, read_d.coded, read_x.coded, read_y.coded) refl
 
 console_run : (o : Option ℕ) → IfSome o (λ c. c ≤ 7) → IsRun (console_text o)
@@ -205,12 +285,12 @@ load_row u j None named_u named_j h = none_row u j named_u named_j
 load_row u j (Some c) named_u named_j h = some_row u j c named_u named_j h
 
 load_again : (u j : ℕ) (o : Option ℕ) → IsNameWord u → IsNameWord j → IfSome o (λ c. c ≤ 7)
-    → line_event places.Plain (spaced (codes "LOAD") (name_of u ∷ name_of j ∷ console_text o ∷ [])) ≡ Ok (events.Load u j o)
+    → line_event places.Plain 2 (spaced (codes "LOAD") (name_of u ∷ name_of j ∷ console_text o ∷ [])) ≡ Ok (events.Load u j o)
 unfolding event_of_words kind_of
 load_again u j o named_u named_j h =
     let read_u = name_reads u named_u in
     let read_j = name_reads j named_j in
-    line_of_words places.Plain (codes "LOAD") (name_of u ∷ name_of j ∷ console_text o ∷ []) (word (codes "LOAD") refl refl) (read_u.run, (read_j.run, (console_run o h, tt))) (omega (arith, read_u.short, read_j.short, console_short o h))
+    line_of_words places.Plain 2 (codes "LOAD") (name_of u ∷ name_of j ∷ console_text o ∷ []) (word (codes "LOAD") refl refl) (read_u.run, (read_j.run, (console_run o h, tt))) (omega (arith, read_u.short, read_j.short, console_short o h))
     ∙ load_row u j o named_u named_j h
 
 -- the numbers of a list
@@ -241,6 +321,26 @@ room_of_numbers : (k : ℕ) (ws : List ℕ) → 1 ≤ k → Below (8 ^ k) ws →
 unfolding Below
 room_of_numbers k [] some h = omega arith
 room_of_numbers k (w ∷ ws) some h = omega (arith, few_digits k w some h.0, room_of_numbers k ws some h.1)
+
+-- machine words of a list
+words_are_octal : (ws : List ℕ) → Below (2 ^ 36) ws → list_all is_octal (map octal12_of ws) ≡ true
+unfolding Below
+words_are_octal [] h = refl
+words_are_octal (w ∷ ws) h = rw ((word_reads w h.0).formed, words_are_octal ws h.1) refl
+
+values_again : (ws : List ℕ) → Below (2 ^ 36) ws → map octal_value (map octal12_of ws) ≡ ws
+unfolding Below
+values_again [] h = refl
+values_again (w ∷ ws) h = rw ((word_reads w h.0).value, values_again ws h.1) refl
+
+word_runs : (ws : List ℕ) → Below (2 ^ 36) ws → AllRuns (map octal12_of ws)
+unfolding Below
+word_runs [] h = tt
+word_runs (w ∷ ws) h = ((word_reads w h.0).run, word_runs ws h.1)
+
+room_of_words : (ws : List ℕ) → room_of (map octal12_of ws) ≡ 13 * length ws
+room_of_words [] = refl
+room_of_words (w ∷ ws) = omega (arith, length-octal12 w, room_of_words ws)
 
 below_more : (m n : ℕ) (ws : List ℕ) → m ≤ n → Below m ws → Below n ws
 unfolding Below
@@ -275,7 +375,7 @@ digits_kind [] some h octal = absurd (omega arith)
 digits_kind (d ∷ ds) some h octal =
     let digit = (both (is_code 48 55 d) (list_all (is_code 48 55) ds) h).0 in
     let place : is_place ((d ∷ ds) ++ 47 ∷ []) ≡ true = place_again (d ∷ ds) octal in
-    rw (digit_above 76 d digit (lit≤ tt), digit_above 71 d digit (lit≤ tt), digit_above 70 d digit (lit≤ tt), digit_below 47 d digit (lit≤ tt), digit_above 69 d digit (lit≤ tt), digit_above 84 d digit (lit≤ tt), digit_above 68 d digit (lit≤ tt), digit_above 67 d digit (lit≤ tt), digit_above 73 d digit (lit≤ tt), digit_above 83 d digit (lit≤ tt), digit_above 80 d digit (lit≤ tt), place) refl
+    rw (digit_above 86 d digit (lit≤ tt), digit_above 76 d digit (lit≤ tt), digit_above 82 d digit (lit≤ tt), digit_above 83 d digit (lit≤ tt), digit_above 71 d digit (lit≤ tt), digit_above 70 d digit (lit≤ tt), digit_below 47 d digit (lit≤ tt), digit_above 69 d digit (lit≤ tt), digit_above 84 d digit (lit≤ tt), digit_above 68 d digit (lit≤ tt), digit_above 67 d digit (lit≤ tt), digit_above 73 d digit (lit≤ tt), digit_above 80 d digit (lit≤ tt), place) refl
 
 place_run : (ds : List ℕ) → IsRun ds → IsRun (ds ++ 47 ∷ [])
 place_run ds run = record {
@@ -284,32 +384,32 @@ place_run ds run = record {
 }
 
 words_row : (a : ℕ) (ws : List ℕ) → 1 ≤ length ws → length ws ≤ 16 → a + length ws ≤ 2 ^ 18 → Below (2 ^ 36) ws
-    → words_line (digits_of a) (map digits_of ws) ≡ Ok (events.Words a (record { items = ws }))
+    → words_line (octal6_of a) (map octal12_of ws) ≡ Ok (events.Words a (record { items = ws }))
 unfolding words_line
 words_row a ws some few within below =
-    let read_a = number_reads a (omega arith) in
-    rw (length-map ws digits_of, le-leb 1 (length ws) some, le-leb (length ws) 16 few, read_a.formed, numbers_formed (map digits_of ws), numbers_are_octal ws below, digits_value a, le-leb a (2 ^ 18 - length ws) (omega arith), numbers_ranged (map digits_of ws), numbers_consoles (map digits_of ws), numbers_again ws) refl
+    let read_a = address_reads a (omega arith) in
+    rw (length-map ws octal12_of, le-leb 1 (length ws) some, le-leb (length ws) 16 few, read_a.formed, numbers_formed (map octal12_of ws), words_are_octal ws below, read_a.value, le-leb a (2 ^ 18 - length ws) (omega arith), numbers_ranged (map octal12_of ws), numbers_consoles (map octal12_of ws), values_again ws below) refl
 
 words_again : (a : ℕ) (ws : List ℕ) → 1 ≤ length ws → length ws ≤ 16 → a + length ws ≤ 2 ^ 18 → AreWords ws
-    → line_event places.Load (spaced (digits_of a ++ codes "/") (map digits_of ws)) ≡ Ok (events.Words a (record { items = ws }))
+    → line_event places.Load 2 (spaced (octal6_of a ++ codes "/") (map octal12_of ws)) ≡ Ok (events.Words a (record { items = ws }))
 unfolding event_of_words
 words_again a ws some few within are =
-    let read_a = number_reads a (omega arith) in
+    let read_a = address_reads a (omega arith) in
     let below = below_each (2 ^ 36) ws are in
-    line_of_words places.Load (digits_of a ++ codes "/") (map digits_of ws) (place_run (digits_of a) read_a.run) (number_runs ws below) (omega (arith, read_a.short, length-append (digits_of a) (47 ∷ []), room_of_numbers 12 ws (lit≤ tt) below))
-    ∙ rw (digits_no_comment (digits_of a) (some_digits a) (digits_are_codes a), digits_kind (digits_of a) (some_digits a) (digits_are_codes a) read_a.formed, before_again (digits_of a)) (words_row a ws some few within below)
+    line_of_words places.Load 2 (octal6_of a ++ codes "/") (map octal12_of ws) (place_run (octal6_of a) read_a.run) (word_runs ws below) (omega (arith, read_a.short, length-append (octal6_of a) (47 ∷ []), room_of_words ws))
+    ∙ rw (digits_no_comment (octal6_of a) read_a.run.some read_a.codes, digits_kind (octal6_of a) read_a.run.some read_a.codes read_a.formed, before_again (octal6_of a)) (words_row a ws some few within below)
 
-append_row : (ws : List ℕ) → 1 ≤ length ws → length ws ≤ 16 → Below (2 ^ 36) ws → append_line (map digits_of ws) ≡ Ok (events.Append (record { items = ws }))
+append_row : (ws : List ℕ) → 1 ≤ length ws → length ws ≤ 16 → Below (2 ^ 36) ws → append_line (map octal12_of ws) ≡ Ok (events.Append (record { items = ws }))
 unfolding append_line
 append_row ws some few below =
-    rw (length-map ws digits_of, le-leb 1 (length ws) some, le-leb (length ws) 16 few, numbers_formed (map digits_of ws), numbers_are_octal ws below, numbers_ranged (map digits_of ws), numbers_consoles (map digits_of ws), numbers_again ws) refl
+    rw (length-map ws octal12_of, le-leb 1 (length ws) some, le-leb (length ws) 16 few, numbers_formed (map octal12_of ws), words_are_octal ws below, numbers_ranged (map octal12_of ws), numbers_consoles (map octal12_of ws), values_again ws below) refl
 
 append_again : (ws : List ℕ) → 1 ≤ length ws → length ws ≤ 16 → AreWords ws
-    → line_event places.File (spaced (codes "/") (map digits_of ws)) ≡ Ok (events.Append (record { items = ws }))
+    → line_event places.File 2 (spaced (codes "/") (map octal12_of ws)) ≡ Ok (events.Append (record { items = ws }))
 unfolding event_of_words kind_of
 append_again ws some few are =
     let below = below_each (2 ^ 36) ws are in
-    line_of_words places.File (codes "/") (map digits_of ws) (word (codes "/") refl refl) (number_runs ws below) (omega (arith, room_of_numbers 12 ws (lit≤ tt) below))
+    line_of_words places.File 2 (codes "/") (map octal12_of ws) (word (codes "/") refl refl) (word_runs ws below) (omega (arith, room_of_words ws))
     ∙ append_row ws some few below
 
 type_row : (c : ℕ) (bs : List ℕ) → c ≤ 7 → 1 ≤ length bs → length bs ≤ 32 → Below 128 bs → type_line (digits_of c ∷ map digits_of bs) ≡ Ok (events.TypeIn c (record { items = bs }))
@@ -319,26 +419,30 @@ type_row c bs console some few below =
     rw (length-map bs digits_of, le-leb 1 (length bs) some, le-leb (length bs) 32 few, read_c.formed, bytes_formed (map digits_of bs), numbers_are_octal bs (below_more 128 (2 ^ 36) bs (lit≤ tt) below), bytes_ranged (map digits_of bs), bytes_ranged_again bs below, digits_value c, le-leb c 7 console, bytes_consoles (map digits_of bs), numbers_again bs) refl
 
 type_again : (c : ℕ) (bs : List ℕ) → c ≤ 7 → 1 ≤ length bs → length bs ≤ 32 → All (λ b. b ≤ 127) bs
-    → line_event places.Plain (spaced (codes "TYPE") (digits_of c ∷ map digits_of bs)) ≡ Ok (events.TypeIn c (record { items = bs }))
+    → line_event places.Plain 2 (spaced (codes "TYPE") (digits_of c ∷ map digits_of bs)) ≡ Ok (events.TypeIn c (record { items = bs }))
 unfolding event_of_words kind_of
 type_again c bs console some few small =
     let below = below_each 128 bs (λ k at. omega (arith, small k 0 at)) in
     let read_c = number_reads c (omega arith) in
-    line_of_words places.Plain (codes "TYPE") (digits_of c ∷ map digits_of bs) (word (codes "TYPE") refl refl) (read_c.run, number_runs bs (below_more 128 (2 ^ 36) bs (lit≤ tt) below)) (omega (arith, read_c.short, room_of_numbers 3 bs (lit≤ tt) (below_more 128 (8 ^ 3) bs (lit≤ tt) below)))
+    line_of_words places.Plain 2 (codes "TYPE") (digits_of c ∷ map digits_of bs) (word (codes "TYPE") refl refl) (read_c.run, number_runs bs (below_more 128 (2 ^ 36) bs (lit≤ tt) below)) (omega (arith, read_c.short, room_of_numbers 3 bs (lit≤ tt) (below_more 128 (8 ^ 3) bs (lit≤ tt) below)))
     ∙ type_row c bs console some few below
 
-end_file_again : line_event places.File (codes "EOF") ≡ Ok events.EndFile
+end_file_again : line_event places.File 2 (codes "EOF") ≡ Ok events.EndFile
 unfolding event_of_words kind_of bare_line spaced
-end_file_again = line_of_words places.File (codes "EOF") [] (word (codes "EOF") refl refl) tt (lit≤ tt)
+end_file_again = line_of_words places.File 2 (codes "EOF") [] (word (codes "EOF") refl refl) tt (lit≤ tt)
 
-end_again : line_event places.Plain (codes "END") ≡ Ok events.End
+end_again : line_event places.Plain 2 (codes "END") ≡ Ok events.End
 unfolding event_of_words kind_of bare_line spaced
-end_again = line_of_words places.Plain (codes "END") [] (word (codes "END") refl refl) tt (lit≤ tt)
+end_again = line_of_words places.Plain 2 (codes "END") [] (word (codes "END") refl refl) tt (lit≤ tt)
 
-pub reads_back : (e : Event) → EventFits e → HasWords e → line_event (place_of e) (text_of_event e) ≡ Ok e
+pub reads_back : (e : Event) → EventFits 2 e → HasWords e → line_event (place_of e) 2 (text_of_event e) ≡ Ok e
+unfolding last_slot
 reads_back events.Nothing f h = nothing_again places.Plain
+reads_back (events.Version v) f h = version_again v f.0 f.1
 reads_back (events.Load u j c) f h = load_again u j c f.0 f.1 f.2
 reads_back (events.Words a ws) f h = words_again a ws.items f.0 f.1 f.2 h
+reads_back (events.ReadOnly p) f h = read_only_again p f
+reads_back (events.Symbol x a) f h = symbol_again x a f.0 f.1
 reads_back (events.Go a) f h = go_again a f
 reads_back (events.File d x y) f h = file_again d x y f.0 f.1 f.2
 reads_back (events.Append ws) f h = append_again ws.items f.0 f.1 h
@@ -359,5 +463,5 @@ reads_back (events.Show d x y) f h = show_again d x y f.0 f.1 f.2
 reads_back events.End f h = end_again
 
 -- the empty line of the event of nothing is read so anywhere
-pub reads_anywhere : (e : Event) (place : Place) → e ≡ events.Nothing → line_event place (text_of_event e) ≡ Ok e
+pub reads_anywhere : (e : Event) (place : Place) → e ≡ events.Nothing → line_event place 2 (text_of_event e) ≡ Ok e
 reads_anywhere e place is = rw is (nothing_again place)

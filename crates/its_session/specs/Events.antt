@@ -27,18 +27,25 @@ abbrev pub lines_from : Bool → List ℕ → List ℕ → List (List ℕ)
 lines_from whole kept [] = last_line whole kept
 lines_from whole kept (b ∷ bs) = if b == 10 then kept ∷ lines_from whole [] bs else lines_from whole (kept ++ b ∷ []) bs
 
--- the place after a line: LOAD and FILE begin a block, GO and EOF end it
+-- the place after a line: LOAD and FILE begin a block, GO and EOF end it, and line 1 is over
 abbrev pub place_after : Place → Event → Place
 place_after place (events.Load u j c) = places.Load
 place_after place (events.Go a) = places.Plain
 place_after place (events.File d x y) = places.File
 place_after place events.EndFile = places.Plain
+place_after places.First _ = places.Plain
 place_after place _ = place
+
+-- the version of the session text after a line
+abbrev pub version_after : ℕ → Event → ℕ
+version_after v (events.Version w) = w
+version_after v _ = v
 
 -- the end of input inside a block is CUT
 abbrev pub end_of : Bool → Place → List Item
 end_of true places.Load = Unread reasons.Cut ∷ []
 end_of true places.File = Unread reasons.Cut ∷ []
+end_of true places.First = []
 end_of true places.Plain = []
 end_of false place = []
 
@@ -54,18 +61,18 @@ item_then (Ok events.End) rest = Read events.End ∷ []
 item_then (Ok e) rest = Read e ∷ rest e
 item_then (Err bad) rest = Unread (reason_of bad) ∷ []
 
--- the items of lines from line number n on, at a place: up to END, the first line that is not read, or
+-- the items of lines from line number n on, at a place of a session of version v: up to END, the first line that is not read, or
 -- the line past the most
-abbrev pub items_from : Bool → ℕ → Place → List (List ℕ) → List Item
-items_from whole n place [] = end_of whole place
-items_from whole n place (line ∷ rest) =
+abbrev pub items_from : Bool → ℕ → Place → ℕ → List (List ℕ) → List Item
+items_from whole n place v [] = end_of whole place
+items_from whole n place v (line ∷ rest) =
     if nat_lt most_lines n then Beyond ∷ []
-    else item_then (line_event place line) (λ e. items_from whole (n + 1) (place_after place e) rest)
+    else item_then (line_event place v line) (λ e. items_from whole (n + 1) (place_after place e) (version_after v e) rest)
 
--- the events of a session of these bytes
+-- the events of a session of these bytes, which is of version 1 unless its first line says otherwise
 unfoldable pub events_of : List ℕ → List Item
-events_of bytes = items_from true 1 places.Plain (lines_from true [] bytes)
+events_of bytes = items_from true 1 places.First 1 (lines_from true [] bytes)
 
 -- the events of the whole lines of bytes, after which the reading broke off
 unfoldable pub whole_events_of : List ℕ → List Item
-whole_events_of bytes = items_from false 1 places.Plain (lines_from false [] bytes)
+whole_events_of bytes = items_from false 1 places.First 1 (lines_from false [] bytes)

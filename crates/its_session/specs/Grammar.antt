@@ -48,9 +48,17 @@ count_to most w = record (number w) { ranged = nat_le 1 (octal_value w) && nat_l
 abbrev pub name : List ℕ → Field
 name w = record { formed = is_name w; ranged = true; console = true }
 
--- a slot, 0 to 77
-abbrev pub slot : List ℕ → Field
-slot w = number_to 63 w
+-- the last slot: 77 in version 1, 137 in version 2
+unfoldable pub last_slot : ℕ → ℕ
+last_slot v = if v == 2 then 95 else 63
+
+-- a slot
+abbrev pub slot : ℕ → List ℕ → Field
+slot v w = number_to (last_slot v) w
+
+-- a page, 0 to 377
+abbrev pub page : List ℕ → Field
+page w = number_to 255 w
 
 -- an address, 0 to 777777
 abbrev pub address : List ℕ → Field
@@ -75,7 +83,12 @@ console_of w = if is_dash w then None else Some (octal_value w)
 abbrev pub with_count : ℕ → List (List ℕ) → Result Event Bad → Result Event Bad
 with_count most ws line = if nat_le 1 (length ws) && nat_le (length ws) most then line else Err Syntax
 
--- The table of lines: what may follow each first word, a definition a row.
+-- The table of lines: what may follow each first word, a definition a row. The version v counts where a slot is named.
+
+-- `VERSION v`, 1 or 2
+unfoldable pub version_line : List (List ℕ) → Result Event Bad
+version_line (v ∷ []) = with_fields (count_to 2 v ∷ []) (events.Version (octal_value v))
+version_line _ = Err Syntax
 
 -- `LOAD u j c`
 unfoldable pub load_line : List (List ℕ) → Result Event Bad
@@ -85,6 +98,16 @@ load_line _ = Err Syntax
 -- `a/` and 1 to 16 words, which end at the last address
 unfoldable pub words_line : List ℕ → List (List ℕ) → Result Event Bad
 words_line a ws = with_count 16 ws (with_fields (number_to (2 ^ 18 - length ws) a ∷ map number ws) (events.Words (octal_value a) (record { items = map octal_value ws })))
+
+-- `RO p`
+unfoldable pub read_only_line : List (List ℕ) → Result Event Bad
+read_only_line (p ∷ []) = with_fields (page p ∷ []) (events.ReadOnly (octal_value p))
+read_only_line _ = Err Syntax
+
+-- `SYM name a`
+unfoldable pub symbol_line : List (List ℕ) → Result Event Bad
+symbol_line (x ∷ a ∷ []) = with_fields (name x ∷ address a ∷ []) (events.Symbol (sixbit_of x) (octal_value a))
+symbol_line _ = Err Syntax
 
 -- `GO a`
 unfoldable pub go_line : List (List ℕ) → Result Event Bad
@@ -106,9 +129,9 @@ bare_line e [] = Ok e
 bare_line e _ = Err Syntax
 
 -- `TICK s n`
-unfoldable pub tick_line : List (List ℕ) → Result Event Bad
-tick_line (s ∷ n ∷ []) = with_fields (slot s ∷ count_to 512 n ∷ []) (events.Tick (octal_value s) (octal_value n))
-tick_line _ = Err Syntax
+unfoldable pub tick_line : ℕ → List (List ℕ) → Result Event Bad
+tick_line v (s ∷ n ∷ []) = with_fields (slot v s ∷ count_to 512 n ∷ []) (events.Tick (octal_value s) (octal_value n))
+tick_line v _ = Err Syntax
 
 -- `TYPE c` and 1 to 32 bytes
 unfoldable pub type_line : List (List ℕ) → Result Event Bad
@@ -125,25 +148,25 @@ unfoldable pub clock_line : List (List ℕ) → Result Event Bad
 clock_line (n ∷ []) = with_fields (number n ∷ []) (events.Clock (octal_value n))
 clock_line _ = Err Syntax
 
--- `INT s v w`
-unfoldable pub int_line : List (List ℕ) → Result Event Bad
-int_line (s ∷ v ∷ w ∷ []) = with_fields (slot s ∷ number v ∷ number w ∷ []) (events.Int (octal_value s) (octal_value v) (octal_value w))
-int_line _ = Err Syntax
+-- `INT s p q`
+unfoldable pub int_line : ℕ → List (List ℕ) → Result Event Bad
+int_line v (s ∷ p ∷ q ∷ []) = with_fields (slot v s ∷ number p ∷ number q ∷ []) (events.Int (octal_value s) (octal_value p) (octal_value q))
+int_line v _ = Err Syntax
 
 -- `EXAM s a n`, whose words end at the last address
-unfoldable pub exam_line : List (List ℕ) → Result Event Bad
-exam_line (s ∷ a ∷ n ∷ []) = with_fields (slot s ∷ number_to (2 ^ 18 - octal_value n) a ∷ count_to 8 n ∷ []) (events.Exam (octal_value s) (octal_value a) (octal_value n))
-exam_line _ = Err Syntax
+unfoldable pub exam_line : ℕ → List (List ℕ) → Result Event Bad
+exam_line v (s ∷ a ∷ n ∷ []) = with_fields (slot v s ∷ number_to (2 ^ 18 - octal_value n) a ∷ count_to 8 n ∷ []) (events.Exam (octal_value s) (octal_value a) (octal_value n))
+exam_line v _ = Err Syntax
 
 -- `DEPOSIT s a w`
-unfoldable pub deposit_line : List (List ℕ) → Result Event Bad
-deposit_line (s ∷ a ∷ w ∷ []) = with_fields (slot s ∷ address a ∷ number w ∷ []) (events.Deposit (octal_value s) (octal_value a) (octal_value w))
-deposit_line _ = Err Syntax
+unfoldable pub deposit_line : ℕ → List (List ℕ) → Result Event Bad
+deposit_line v (s ∷ a ∷ w ∷ []) = with_fields (slot v s ∷ address a ∷ number w ∷ []) (events.Deposit (octal_value s) (octal_value a) (octal_value w))
+deposit_line v _ = Err Syntax
 
 -- `STATE s`, `STOP s`, `CONT s`, `PEEK s`
-unfoldable pub slot_line : List (List ℕ) → Result ℕ Bad
-slot_line (s ∷ []) = with_fields (slot s ∷ []) (octal_value s)
-slot_line _ = Err Syntax
+unfoldable pub slot_line : ℕ → List (List ℕ) → Result ℕ Bad
+slot_line v (s ∷ []) = with_fields (slot v s ∷ []) (octal_value s)
+slot_line v _ = Err Syntax
 
 -- the event of a slot
 abbrev pub of_slot : (ℕ → Event) → Result ℕ Bad → Result Event Bad
@@ -171,7 +194,10 @@ is_place w = is_octal (before_slash w) && slice_index w (length w - 1) == 47
 -- which kind of line a first word begins, if any
 unfoldable pub kind_of : List ℕ → Option Kind
 kind_of w =
-    if bytes_eq w (codes "LOAD") then Some kinds.Load
+    if bytes_eq w (codes "VERSION") then Some kinds.Version
+    else (if bytes_eq w (codes "LOAD") then Some kinds.Load
+    else (if bytes_eq w (codes "RO") then Some kinds.ReadOnly
+    else (if bytes_eq w (codes "SYM") then Some kinds.Symbol
     else (if bytes_eq w (codes "GO") then Some kinds.Go
     else (if bytes_eq w (codes "FILE") then Some kinds.File
     else (if bytes_eq w (codes "/") then Some kinds.Append
@@ -191,62 +217,81 @@ kind_of w =
     else (if bytes_eq w (codes "SHOW") then Some kinds.Show
     else (if bytes_eq w (codes "END") then Some kinds.End
     else (if is_place w then Some kinds.Words
-    else None)))))))))))))))))))
+    else None))))))))))))))))))))))
 
--- where each kind of line may stand: after LOAD until GO, after FILE until EOF, or elsewhere
+-- where each kind of line may stand: in line 1, after LOAD until GO, after FILE until EOF, or elsewhere
 abbrev pub place_of_kind : Kind → Place
+place_of_kind kinds.Version = places.First
 place_of_kind kinds.Words = places.Load
+place_of_kind kinds.ReadOnly = places.Load
+place_of_kind kinds.Symbol = places.Load
 place_of_kind kinds.Go = places.Load
 place_of_kind kinds.Append = places.File
 place_of_kind kinds.EndFile = places.File
 place_of_kind _ = places.Plain
 
+-- line 1 stands outside any block
 abbrev pub is_at : Place → Place → Bool
+is_at places.First places.First = true
+is_at places.First places.Plain = true
 is_at places.Plain places.Plain = true
 is_at places.Load places.Load = true
 is_at places.File places.File = true
 is_at _ _ = false
 
+-- the version from which on there is a kind of line
+abbrev pub version_of_kind : Kind → ℕ
+version_of_kind kinds.ReadOnly = 2
+version_of_kind kinds.Symbol = 2
+version_of_kind _ = 1
+
+-- a line of this kind may stand at a place of a session of version v
+abbrev pub may_stand : Place → ℕ → Kind → Bool
+may_stand place v kind = is_at place (place_of_kind kind) && nat_le (version_of_kind kind) v
+
 -- the line of a kind with its first word and the words that follow
-abbrev pub line_of_kind : Kind → List ℕ → List (List ℕ) → Result Event Bad
-line_of_kind kinds.Load first ws = load_line ws
-line_of_kind kinds.Words first ws = words_line (before_slash first) ws
-line_of_kind kinds.Go first ws = go_line ws
-line_of_kind kinds.File first ws = file_line ws
-line_of_kind kinds.Append first ws = append_line ws
-line_of_kind kinds.EndFile first ws = bare_line events.EndFile ws
-line_of_kind kinds.Tick first ws = tick_line ws
-line_of_kind kinds.TypeIn first ws = type_line ws
-line_of_kind kinds.Drain first ws = drain_line ws
-line_of_kind kinds.Clock first ws = clock_line ws
-line_of_kind kinds.Int first ws = int_line ws
-line_of_kind kinds.Exam first ws = exam_line ws
-line_of_kind kinds.State first ws = of_slot events.State (slot_line ws)
-line_of_kind kinds.Deposit first ws = deposit_line ws
-line_of_kind kinds.Stop first ws = of_slot events.Stop (slot_line ws)
-line_of_kind kinds.Cont first ws = of_slot events.Cont (slot_line ws)
-line_of_kind kinds.Peek first ws = of_slot events.Peek (slot_line ws)
-line_of_kind kinds.Dir first ws = dir_line ws
-line_of_kind kinds.Show first ws = show_line ws
-line_of_kind kinds.End first ws = bare_line events.End ws
+abbrev pub line_of_kind : ℕ → Kind → List ℕ → List (List ℕ) → Result Event Bad
+line_of_kind v kinds.Version first ws = version_line ws
+line_of_kind v kinds.Load first ws = load_line ws
+line_of_kind v kinds.Words first ws = words_line (before_slash first) ws
+line_of_kind v kinds.ReadOnly first ws = read_only_line ws
+line_of_kind v kinds.Symbol first ws = symbol_line ws
+line_of_kind v kinds.Go first ws = go_line ws
+line_of_kind v kinds.File first ws = file_line ws
+line_of_kind v kinds.Append first ws = append_line ws
+line_of_kind v kinds.EndFile first ws = bare_line events.EndFile ws
+line_of_kind v kinds.Tick first ws = tick_line v ws
+line_of_kind v kinds.TypeIn first ws = type_line ws
+line_of_kind v kinds.Drain first ws = drain_line ws
+line_of_kind v kinds.Clock first ws = clock_line ws
+line_of_kind v kinds.Int first ws = int_line v ws
+line_of_kind v kinds.Exam first ws = exam_line v ws
+line_of_kind v kinds.State first ws = of_slot events.State (slot_line v ws)
+line_of_kind v kinds.Deposit first ws = deposit_line v ws
+line_of_kind v kinds.Stop first ws = of_slot events.Stop (slot_line v ws)
+line_of_kind v kinds.Cont first ws = of_slot events.Cont (slot_line v ws)
+line_of_kind v kinds.Peek first ws = of_slot events.Peek (slot_line v ws)
+line_of_kind v kinds.Dir first ws = dir_line ws
+line_of_kind v kinds.Show first ws = show_line ws
+line_of_kind v kinds.End first ws = bare_line events.End ws
 
 -- the line of a first word of this kind, where that kind may stand
-abbrev pub line_of_first : Place → Option Kind → List ℕ → List (List ℕ) → Result Event Bad
-line_of_first place None first ws = Err Syntax
-line_of_first place (Some kind) first ws = if is_at place (place_of_kind kind) then line_of_kind kind first ws else Err Syntax
+abbrev pub line_of_first : Place → ℕ → Option Kind → List ℕ → List (List ℕ) → Result Event Bad
+line_of_first place v None first ws = Err Syntax
+line_of_first place v (Some kind) first ws = if may_stand place v kind then line_of_kind v kind first ws else Err Syntax
 
 -- a first word that begins with `;` makes the line a comment
 abbrev pub is_comment : List ℕ → Bool
 is_comment w = slice_index w 0 == 59
 
 -- a line without words is empty, as a comment is; either may stand anywhere
-unfoldable pub event_of_words : Place → List (List ℕ) → Result Event Bad
-event_of_words place [] = Ok events.Nothing
-event_of_words place (first ∷ ws) = if is_comment first then Ok events.Nothing else line_of_first place (kind_of first) first ws
+unfoldable pub event_of_words : Place → ℕ → List (List ℕ) → Result Event Bad
+event_of_words place v [] = Ok events.Nothing
+event_of_words place v (first ∷ ws) = if is_comment first then Ok events.Nothing else line_of_first place v (kind_of first) first ws
 
--- a line: at most 255 bytes, all from 40 to 176
-unfoldable pub line_event : Place → List ℕ → Result Event Bad
-line_event place line =
+-- a line of a session of version v: at most 255 bytes, all from 40 to 176
+unfoldable pub line_event : Place → ℕ → List ℕ → Result Event Bad
+line_event place v line =
     if nat_le (length line) 255 then
-    (if list_all (is_code 32 126) line then event_of_words place (words_of line) else Err Syntax)
+    (if list_all (is_code 32 126) line then event_of_words place v (words_of line) else Err Syntax)
     else Err Long

@@ -1,6 +1,6 @@
 -- The line that is written for an event.
 use Rattle.std.specs.Prelude.{if◌then◌else◌, ◌==◌, ℕ, zero, suc, ◌+◌, ◌*◌, ◌/◌, ◌%◌, ◌^◌, ◌<◌, Option, Some, None, List, [], ◌∷◌, ◌++◌, length, map, codes, slice_index}
-use Rattle.its_word.specs.Text.{digits_of, spaced}
+use Rattle.its_word.specs.Text.{digits_of, octal6_of, octal12_of, spaced}
 use Rattle.its_word.specs.declared.session.Event.{Event}
 use Rattle.its_word.specs.declared.session.Event.TheVariants as events
 
@@ -17,23 +17,26 @@ abbrev pub console_text : Option ℕ → List ℕ
 console_text None = codes "-"
 console_text (Some c) = digits_of c
 
--- an event's line, with numbers without leading zeros
+-- an event's line: an address has six digits, a machine word twelve, and any other number no leading zeros
 abbrev pub text_of_event : Event → List ℕ
 text_of_event events.Nothing = []
+text_of_event (events.Version v) = spaced (codes "VERSION") (digits_of v ∷ [])
 text_of_event (events.Load u j c) = spaced (codes "LOAD") (name_of u ∷ name_of j ∷ console_text c ∷ [])
-text_of_event (events.Words a ws) = spaced (digits_of a ++ codes "/") (map digits_of ws.items)
-text_of_event (events.Go a) = spaced (codes "GO") (digits_of a ∷ [])
+text_of_event (events.Words a ws) = spaced (octal6_of a ++ codes "/") (map octal12_of ws.items)
+text_of_event (events.ReadOnly p) = spaced (codes "RO") (digits_of p ∷ [])
+text_of_event (events.Symbol x a) = spaced (codes "SYM") (name_of x ∷ octal6_of a ∷ [])
+text_of_event (events.Go a) = spaced (codes "GO") (octal6_of a ∷ [])
 text_of_event (events.File d x y) = spaced (codes "FILE") (name_of d ∷ name_of x ∷ name_of y ∷ [])
-text_of_event (events.Append ws) = spaced (codes "/") (map digits_of ws.items)
+text_of_event (events.Append ws) = spaced (codes "/") (map octal12_of ws.items)
 text_of_event events.EndFile = codes "EOF"
 text_of_event (events.Tick s n) = spaced (codes "TICK") (digits_of s ∷ digits_of n ∷ [])
 text_of_event (events.TypeIn c bs) = spaced (codes "TYPE") (digits_of c ∷ map digits_of bs.items)
 text_of_event (events.Drain c n) = spaced (codes "DRAIN") (digits_of c ∷ digits_of n ∷ [])
 text_of_event (events.Clock n) = spaced (codes "CLOCK") (digits_of n ∷ [])
-text_of_event (events.Int s v w) = spaced (codes "INT") (digits_of s ∷ digits_of v ∷ digits_of w ∷ [])
-text_of_event (events.Exam s a n) = spaced (codes "EXAM") (digits_of s ∷ digits_of a ∷ digits_of n ∷ [])
+text_of_event (events.Int s v w) = spaced (codes "INT") (digits_of s ∷ octal12_of v ∷ octal12_of w ∷ [])
+text_of_event (events.Exam s a n) = spaced (codes "EXAM") (digits_of s ∷ octal6_of a ∷ digits_of n ∷ [])
 text_of_event (events.State s) = spaced (codes "STATE") (digits_of s ∷ [])
-text_of_event (events.Deposit s a w) = spaced (codes "DEPOSIT") (digits_of s ∷ digits_of a ∷ digits_of w ∷ [])
+text_of_event (events.Deposit s a w) = spaced (codes "DEPOSIT") (digits_of s ∷ octal6_of a ∷ octal12_of w ∷ [])
 text_of_event (events.Stop s) = spaced (codes "STOP") (digits_of s ∷ [])
 text_of_event (events.Cont s) = spaced (codes "CONT") (digits_of s ∷ [])
 text_of_event (events.Peek s) = spaced (codes "PEEK") (digits_of s ∷ [])

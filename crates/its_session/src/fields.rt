@@ -1,5 +1,6 @@
 //! The fields of a line: each of these reads one, or gives the reason against it.
 ghost use Rattle.std.specs.Prelude.{◌≡◌, ◌≤◌, ◌&&◌, if◌then◌else◌, map, nat_le};
+ghost use Rattle.its_session.specs.Grammar.{last_slot};
 ghost use Rattle.its_session.specs.Reading.{bytes_in, console_at, name_in, number_in, numbers_in, ranged_to};
 
 use arrayvec::ArrayVec;
@@ -19,12 +20,31 @@ pub fn name(word: &[u8]) -> Result<Word, Bad>
     read_sixbit(word).map_err(|_| Bad::Syntax)
 }
 
-/// A slot.
-pub fn slot(n: Word) -> Result<u8, Bad>
-    ensures { result ≡ ranged_to 63 n }
+/// The last slot of a session of this version: 77 in version 1, 137 in version 2.
+#[tactic(auto, unfolding(crate::specs::Grammar::last_slot))]
+fn last_slot(version: u8) -> u8
+    ensures { result ≡ last_slot version }
+{
+    if version == 2 { 0o137 } else { 0o77 }
+}
+
+/// A slot of a session of this version.
+pub fn slot(version: u8, n: Word) -> Result<u8, Bad>
+    ensures { result ≡ ranged_to (last_slot version) n }
+{
+    if n.value() <= u64::from(last_slot(version)) {
+        Ok(n.value() as u8)
+    } else {
+        Err(Bad::Range)
+    }
+}
+
+/// A page of a job.
+pub fn page(n: Word) -> Result<u8, Bad>
+    ensures { result ≡ ranged_to 255 n }
 {
     match n.value() {
-        n @ ..=0o77 => Ok(n as u8),
+        n @ ..=0o377 => Ok(n as u8),
         _ => Err(Bad::Range),
     }
 }

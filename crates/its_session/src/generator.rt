@@ -63,7 +63,7 @@ const DEVICE: [u64; 1] = [0o646471000000];
 #[tactic(auto, using(crate::proofs::GeneratedLaws::generated_fits, crate::proofs::GeneratedLaws::generated_kinds))]
 pub fn generated(n: u32, k: u32) -> Option<Event>
     ensures event { result ≡ slice_get (generated_session n) k }
-    ensures fits { IfSome result (λ e. EventFits e) }
+    ensures fits { IfSome result (λ e. EventFits 1 e) }
     ensures kind { IfSome result (λ e. IsGenerated e) }
 {
     line(u64::from(n), u64::from(k))

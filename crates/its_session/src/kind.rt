@@ -1,6 +1,6 @@
 //! The kinds of line, and where each may stand.
 ghost use Rattle.std.specs.Prelude.{◌≡◌, bytes_eq};
-ghost use Rattle.its_session.specs.Grammar.{before_slash, is_at, is_place, kind_of, place_of_kind};
+ghost use Rattle.its_session.specs.Grammar.{before_slash, is_at, is_place, kind_of, may_stand, place_of_kind, version_of_kind};
 
 use its_word::{Place, read_octal};
 
@@ -8,8 +8,11 @@ use its_word::{Place, read_octal};
 /// and for the others a name of their own.
 #[derive(Clone, Copy, Debug, PartialEq, Eq)]
 pub enum Kind {
+    Version,
     Load,
     Words,
+    ReadOnly,
+    Symbol,
     Go,
     File,
     Append,
@@ -35,8 +38,14 @@ pub enum Kind {
 pub fn kind_of(first: &[u8]) -> Option<Kind>
     ensures { result ≡ kind_of first.now }
 {
-    if is(first, b"LOAD") {
+    if is(first, b"VERSION") {
+        Some(Kind::Version)
+    } else if is(first, b"LOAD") {
         Some(Kind::Load)
+    } else if is(first, b"RO") {
+        Some(Kind::ReadOnly)
+    } else if is(first, b"SYM") {
+        Some(Kind::Symbol)
     } else if is(first, b"GO") {
         Some(Kind::Go)
     } else if is(first, b"FILE") {
@@ -107,19 +116,45 @@ pub fn before_slash(first: &[u8]) -> &[u8]
     }
 }
 
-/// Whether a line of this kind may stand at this place.
-pub fn may_stand(kind: Kind, place: Place) -> bool
-    ensures { result ≡ is_at place (place_of_kind kind) }
+/// Where a line of this kind stands.
+fn place_of_kind(kind: Kind) -> Place
+    ensures { result ≡ place_of_kind kind }
 {
-    let at = match kind {
-        Kind::Words | Kind::Go => Place::Load,
+    match kind {
+        Kind::Version => Place::First,
+        Kind::Words | Kind::ReadOnly | Kind::Symbol | Kind::Go => Place::Load,
         Kind::Append | Kind::EndFile => Place::File,
         _ => Place::Plain,
-    };
+    }
+}
+
+/// Whether one place is the other; line 1 stands outside any block.
+fn is_at(place: Place, at: Place) -> bool
+    ensures { result ≡ is_at place at }
+{
     match (place, at) {
+        (Place::First, Place::First) => true,
+        (Place::First, Place::Plain) => true,
         (Place::Plain, Place::Plain) => true,
         (Place::Load, Place::Load) => true,
         (Place::File, Place::File) => true,
         _ => false,
     }
+}
+
+/// The version of the session text from which on there is this kind of line.
+fn version_of_kind(kind: Kind) -> u8
+    ensures { result ≡ version_of_kind kind }
+{
+    match kind {
+        Kind::ReadOnly | Kind::Symbol => 2,
+        _ => 1,
+    }
+}
+
+/// Whether a line of this kind may stand at this place of a session of this version.
+pub fn may_stand(kind: Kind, place: Place, version: u8) -> bool
+    ensures { result ≡ may_stand place version kind }
+{
+    is_at(place, place_of_kind(kind)) && version_of_kind(kind) <= version
 }

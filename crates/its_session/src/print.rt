@@ -1,39 +1,43 @@
 //! Writing the line of an event.
 ghost use Rattle.std.specs.Prelude.{◌≡◌, ◌<◌, ◌≤◌, ◌^◌, [], ◌∷◌, ◌++◌, length, map, codes};
 ghost use Rattle.arrayvec.specs.ArrayVec.{array_vec_len};
-ghost use Rattle.its_word.specs.Text.{digits_of, spaced};
+ghost use Rattle.its_word.specs.Text.{digits_of, octal6_of, octal12_of, spaced};
 ghost use Rattle.its_word.specs.declared.session.Place.{Place};
 ghost use Rattle.its_session.specs.Fits.{EventFits, place_of};
 ghost use Rattle.its_session.specs.Grammar.{line_event};
 ghost use Rattle.its_session.specs.Writing.{AreWords, HasWords, console_text, name_of, text_of_event};
 
-use super::put::{put_bytes, put_console, put_name, put_number, put_numbers};
+use super::put::{put_address, put_bytes, put_console, put_name, put_number, put_word, put_words};
 use arrayvec::ArrayVec;
-use its_word::{Event, Word, octal};
+use its_word::{Event, Word, octal6};
 
-/// Writes the line of an event, without LF. `read_line` reads it as that event at the event's place, and
-/// `Nothing` at any place. The event's numbers and names are in the ranges of its line.
+/// Writes the line of an event of version 2, without LF: addresses with six digits, machine words with twelve. `read_line` reads it in version 2 as that event at
+/// the event's place, and `Nothing` at any place. The event's numbers and names are in the ranges of its line.
 #[tactic(auto, using(crate::proofs::RoundTrip::reads_back, crate::proofs::RoundTrip::reads_anywhere))]
 pub fn print_event(e: &Event, out: &mut ArrayVec<u8, 256>)
     requires empty { out.old.items ≡ [] }
-    requires fits { EventFits e.now }
-    ensures read { line_event (place_of e.now) out.new.items ≡ Ok e.now }
-    ensures anywhere { e.now ≡ Event.Nothing → (place : Place) → line_event place out.new.items ≡ Ok e.now }
+    requires fits { EventFits 2 e.now }
+    ensures text { out.new.items ≡ text_of_event e.now }
+    ensures read { line_event (place_of e.now) 2 out.new.items ≡ Ok e.now }
+    ensures anywhere { e.now ≡ Event.Nothing → (place : Place) → line_event place 2 out.new.items ≡ Ok e.now }
 {
     write(e, out);
 }
 
 fn write(e: &Event, out: &mut ArrayVec<u8, 256>)
     requires empty { out.old.items ≡ [] }
-    requires fits { EventFits e.now }
+    requires fits { EventFits 2 e.now }
     ensures text { out.new.items ≡ text_of_event e.now }
     ensures words { HasWords e.now }
 {
     match e {
         Event::Nothing => {}
+        Event::Version { v } => number(out, b"VERSION", u64::from(*v)),
         Event::Load { u, j, console } => load(out, *u, *j, *console),
         Event::Words { a, words } => words_from(out, *a, words.as_slice()),
-        Event::Go { a } => number(out, b"GO", u64::from(*a)),
+        Event::ReadOnly { page } => number(out, b"RO", u64::from(*page)),
+        Event::Symbol { name, a } => symbol(out, *name, *a),
+        Event::Go { a } => go(out, *a),
         Event::File { d, x, y } => names(out, b"FILE", *d, *x, *y),
         Event::Append { words } => append(out, words.as_slice()),
         Event::EndFile => first(out, b"EOF"),
@@ -41,10 +45,10 @@ fn write(e: &Event, out: &mut ArrayVec<u8, 256>)
         Event::TypeIn { c, bytes } => type_in(out, *c, bytes.as_slice()),
         Event::Drain { c, n } => two_numbers(out, b"DRAIN", u64::from(*c), u64::from(*n)),
         Event::Clock { n } => number(out, b"CLOCK", *n),
-        Event::Int { s, v, w } => numbers(out, b"INT", *s, v.value(), w.value()),
-        Event::Exam { s, a, n } => numbers(out, b"EXAM", *s, u64::from(*a), u64::from(*n)),
+        Event::Int { s, v, w } => interrupt(out, *s, *v, *w),
+        Event::Exam { s, a, n } => exam(out, *s, *a, *n),
         Event::State { s } => number(out, b"STATE", u64::from(*s)),
-        Event::Deposit { s, a, w } => numbers(out, b"DEPOSIT", *s, u64::from(*a), w.value()),
+        Event::Deposit { s, a, w } => deposit(out, *s, *a, *w),
         Event::Stop { s } => number(out, b"STOP", u64::from(*s)),
         Event::Cont { s } => number(out, b"CONT", u64::from(*s)),
         Event::Peek { s } => number(out, b"PEEK", u64::from(*s)),
@@ -89,19 +93,51 @@ fn two_numbers(out: &mut ArrayVec<u8, 256>, word: &[u8], m: u64, n: u64)
     put_number(out, n);
 }
 
-/// A first word, a slot and two numbers.
-#[tactic(auto, unfolding(its_word::specs::Text::spaced))]
-fn numbers(out: &mut ArrayVec<u8, 256>, word: &[u8], s: u8, m: u64, n: u64)
-    requires empty { out.old.items ≡ [] }
-    requires short { length word.now ≤ 16 }
-    requires first_number { m < 2 ^ 36 }
-    requires second_number { n < 2 ^ 36 }
-    ensures { out.new.items ≡ spaced word.now (digits_of s ∷ digits_of m ∷ digits_of n ∷ []) }
+/// `GO a`
+fn go(out: &mut ArrayVec<u8, 256>, a: u32)
+    requires { out.old.items ≡ [] }
+    ensures { out.new.items ≡ spaced (codes "GO") (octal6_of a ∷ []) }
 {
-    first(out, word);
+    first(out, b"GO");
+    put_address(out, a);
+}
+
+/// `INT s v w`
+#[tactic(auto, unfolding(its_word::specs::Text::spaced))]
+fn interrupt(out: &mut ArrayVec<u8, 256>, s: u8, v: Word, w: Word)
+    requires { out.old.items ≡ [] }
+    ensures text { out.new.items ≡ spaced (codes "INT") (digits_of s ∷ octal12_of v ∷ octal12_of w ∷ []) }
+    ensures words { (v < 2 ^ 36) × (w < 2 ^ 36) }
+{
+    first(out, b"INT");
     put_number(out, u64::from(s));
-    put_number(out, m);
-    put_number(out, n);
+    put_word(out, v);
+    put_word(out, w);
+}
+
+/// `EXAM s a n`
+#[tactic(auto, unfolding(its_word::specs::Text::spaced))]
+fn exam(out: &mut ArrayVec<u8, 256>, s: u8, a: u32, n: u32)
+    requires { out.old.items ≡ [] }
+    ensures { out.new.items ≡ spaced (codes "EXAM") (digits_of s ∷ octal6_of a ∷ digits_of n ∷ []) }
+{
+    first(out, b"EXAM");
+    put_number(out, u64::from(s));
+    put_address(out, a);
+    put_number(out, u64::from(n));
+}
+
+/// `DEPOSIT s a w`
+#[tactic(auto, unfolding(its_word::specs::Text::spaced))]
+fn deposit(out: &mut ArrayVec<u8, 256>, s: u8, a: u32, w: Word)
+    requires { out.old.items ≡ [] }
+    ensures text { out.new.items ≡ spaced (codes "DEPOSIT") (digits_of s ∷ octal6_of a ∷ octal12_of w ∷ []) }
+    ensures word { w < 2 ^ 36 }
+{
+    first(out, b"DEPOSIT");
+    put_number(out, u64::from(s));
+    put_address(out, a);
+    put_word(out, w);
 }
 
 /// A first word and a name.
@@ -139,28 +175,38 @@ fn load(out: &mut ArrayVec<u8, 256>, u: Word, j: Word, console: Option<u8>)
     put_console(out, console);
 }
 
+/// `SYM name a`
+#[tactic(auto, unfolding(its_word::specs::Text::spaced))]
+fn symbol(out: &mut ArrayVec<u8, 256>, name: Word, a: u32)
+    requires { out.old.items ≡ [] }
+    ensures { out.new.items ≡ spaced (codes "SYM") (name_of name ∷ octal6_of a ∷ []) }
+{
+    first(out, b"SYM");
+    put_name(out, name);
+    put_address(out, a);
+}
+
 /// `a/` and words
-#[tactic(auto, using(crate::proofs::PutLaws::twelve_digits))]
 fn words_from(out: &mut ArrayVec<u8, 256>, a: u32, words: &[Word])
     requires empty { out.old.items ≡ [] }
     requires few { length words.now ≤ 16 }
-    ensures text { out.new.items ≡ spaced (digits_of a ++ codes "/") (map digits_of words.now) }
+    ensures text { out.new.items ≡ spaced (octal6_of a ++ codes "/") (map octal12_of words.now) }
     ensures words { AreWords words.now }
 {
-    first(out, octal(u64::from(a)).as_slice());
+    first(out, &octal6(a));
     out.push(b'/');
-    put_numbers(out, words);
+    put_words(out, words);
 }
 
 /// `/` and words
 fn append(out: &mut ArrayVec<u8, 256>, words: &[Word])
     requires empty { out.old.items ≡ [] }
     requires few { length words.now ≤ 16 }
-    ensures text { out.new.items ≡ spaced (codes "/") (map digits_of words.now) }
+    ensures text { out.new.items ≡ spaced (codes "/") (map octal12_of words.now) }
     ensures words { AreWords words.now }
 {
     first(out, b"/");
-    put_numbers(out, words);
+    put_words(out, words);
 }
 
 /// `TYPE c` and bytes

@@ -2,11 +2,11 @@
 //! each of a list.
 ghost use Rattle.std.specs.Prelude.{◌≡◌, ◌+◌, ◌*◌, ◌<◌, ◌≤◌, ◌^◌, ℕ, [], ◌∷◌, length, map, slice_index};
 ghost use Rattle.arrayvec.specs.ArrayVec.{array_vec_len};
-ghost use Rattle.its_word.specs.Text.{digits_of, spaced};
+ghost use Rattle.its_word.specs.Text.{digits_of, octal6_of, octal12_of, spaced};
 ghost use Rattle.its_session.specs.Writing.{characters, console_text, name_of};
 
 use arrayvec::ArrayVec;
-use its_word::{Word, octal};
+use its_word::{Word, octal, octal6};
 
 /// A word as it is.
 #[tactic(auto, unfolding(its_word::specs::Text::spaced))]
@@ -28,6 +28,25 @@ pub fn put_number(out: &mut ArrayVec<u8, 256>, n: u64)
     ensures len { array_vec_len out.new ≤ array_vec_len out.old + 13 }
 {
     put(out, octal(n).as_slice());
+}
+
+/// An address of six digits.
+pub fn put_address(out: &mut ArrayVec<u8, 256>, a: u32)
+    requires { array_vec_len out.old + 6 < 256 }
+    ensures text { out.new.items ≡ spaced out.old.items (octal6_of a ∷ []) }
+    ensures len { array_vec_len out.new ≤ array_vec_len out.old + 7 }
+{
+    put(out, &octal6(a));
+}
+
+/// A machine word of twelve digits.
+pub fn put_word(out: &mut ArrayVec<u8, 256>, w: Word)
+    requires { array_vec_len out.old + 12 < 256 }
+    ensures text { out.new.items ≡ spaced out.old.items (octal12_of w ∷ []) }
+    ensures len { array_vec_len out.new ≤ array_vec_len out.old + 13 }
+    ensures word { w < 2 ^ 36 }
+{
+    put(out, &w.octal12());
 }
 
 /// A console, or `-`.
@@ -69,16 +88,16 @@ fn name(w: Word) -> ArrayVec<u8, 6>
     characters
 }
 
-/// Words as numbers, at most 16.
+/// Machine words of twelve digits, at most 16.
 #[tactic(auto, using(its_word::proofs::SpacedLaws::spaced_none, its_word::proofs::SpacedLaws::spaced_more))]
-pub fn put_numbers(out: &mut ArrayVec<u8, 256>, words: &[Word])
+pub fn put_words(out: &mut ArrayVec<u8, 256>, words: &[Word])
     requires few { length words.now ≤ 16 }
     requires room { array_vec_len out.old + 208 < 256 }
-    ensures text { out.new.items ≡ spaced out.old.items (map digits_of words.now) }
+    ensures text { out.new.items ≡ spaced out.old.items (map octal12_of words.now) }
     ensures bound { (k : ℕ) → k < length words.now → slice_index words.now k < 2 ^ 36 }
 {
     for w in words {
-        put_number(out, w.value());
+        put_word(out, *w);
     }
 }
 

@@ -2,7 +2,7 @@
 ghost use Rattle.std.specs.Prelude.{◌≡◌, ◌==◌, map, slice_index, IfOk};
 ghost use Rattle.std.specs.List.{list_all};
 ghost use Rattle.its_word.specs.Text.{is_code};
-ghost use Rattle.its_session.specs.Fits.{EventFits};
+ghost use Rattle.its_session.specs.Fits.{EventFits, Stands};
 ghost use Rattle.its_session.specs.Grammar.{event_of_words, is_comment, line_event, line_of_kind};
 
 use super::kind::{Kind, before_slash, kind_of, may_stand};
@@ -10,13 +10,14 @@ use super::rows;
 use super::words::words;
 use its_word::{Bad, Event, Place};
 
-/// The event of a line (without its LF) at a place, or the first reason why it is none: `Long` for more
+/// The event of a line (without its LF) at a place of a session of this version, or the first reason why it is none: `Long` for more
 /// than 255 bytes, `Syntax` for a line that may not stand there, `Range` for a number outside its
-/// range, `NoConsole` for a console above 7. What is read fits the table of lines.
-#[tactic(auto, using(crate::proofs::FitsLaws::words_fit), unfolding(crate::specs::Grammar::line_event))]
-pub fn read_line(line: &[u8], place: Place) -> Result<Event, Bad>
-    ensures event { result ≡ line_event place line.now }
-    ensures fits { IfOk result EventFits }
+/// range, `NoConsole` for a console above 7. What is read fits the table of lines, and may stand there.
+#[tactic(auto, using(crate::proofs::FitsLaws::words_fit, crate::proofs::FitsLaws::words_stand), unfolding(crate::specs::Grammar::line_event))]
+pub fn read_line(line: &[u8], place: Place, version: u8) -> Result<Event, Bad>
+    ensures event { result ≡ line_event place version line.now }
+    ensures fits { IfOk result (EventFits version) }
+    ensures stands { IfOk result (Stands place) }
 {
     if line.len() > 255 {
         return Err(Bad::Long);
@@ -24,7 +25,7 @@ pub fn read_line(line: &[u8], place: Place) -> Result<Event, Bad>
     if !is_printable(line) {
         return Err(Bad::Syntax);
     }
-    event_of_words(place, words(line).as_slice())
+    event_of_words(place, version, words(line).as_slice())
 }
 
 /// Whether all bytes are from 40 to 176.
@@ -36,8 +37,8 @@ fn is_printable(line: &[u8]) -> bool
 
 /// The event of a line's words.
 #[tactic(auto, unfolding(crate::specs::Grammar::event_of_words))]
-fn event_of_words(place: Place, words: &[&[u8]]) -> Result<Event, Bad>
-    ensures { result ≡ event_of_words place (map (λ w. w.now) words.now) }
+fn event_of_words(place: Place, version: u8, words: &[&[u8]]) -> Result<Event, Bad>
+    ensures { result ≡ event_of_words place version (map (λ w. w.now) words.now) }
 {
     let [first, rest @ ..] = words else {
         return Ok(Event::Nothing);
@@ -46,7 +47,7 @@ fn event_of_words(place: Place, words: &[&[u8]]) -> Result<Event, Bad>
         return Ok(Event::Nothing);
     }
     match kind_of(first) {
-        Some(kind) if may_stand(kind, place) => line_of_kind(kind, first, rest),
+        Some(kind) if may_stand(kind, place, version) => line_of_kind(version, kind, first, rest),
         _ => Err(Bad::Syntax),
     }
 }
@@ -62,27 +63,30 @@ fn is_comment(first: &[u8]) -> bool
 }
 
 /// The line of a kind, with its first word and those that follow.
-fn line_of_kind(kind: Kind, first: &[u8], words: &[&[u8]]) -> Result<Event, Bad>
-    ensures { result ≡ line_of_kind kind first.now (map (λ w. w.now) words.now) }
+fn line_of_kind(version: u8, kind: Kind, first: &[u8], words: &[&[u8]]) -> Result<Event, Bad>
+    ensures { result ≡ line_of_kind version kind first.now (map (λ w. w.now) words.now) }
 {
     match kind {
+        Kind::Version => rows::version(words),
         Kind::Load => rows::load(words),
         Kind::Words => rows::words(before_slash(first), words),
+        Kind::ReadOnly => rows::read_only(words),
+        Kind::Symbol => rows::symbol(words),
         Kind::Go => rows::go(words),
         Kind::File => rows::file(words),
         Kind::Append => rows::append(words),
         Kind::EndFile => rows::bare(Event::EndFile, words),
-        Kind::Tick => rows::tick(words),
+        Kind::Tick => rows::tick(version, words),
         Kind::TypeIn => rows::type_in(words),
         Kind::Drain => rows::drain(words),
         Kind::Clock => rows::clock(words),
-        Kind::Int => rows::int(words),
-        Kind::Exam => rows::exam(words),
-        Kind::State => rows::only_slot(words).map(|s| Event::State { s }),
-        Kind::Deposit => rows::deposit(words),
-        Kind::Stop => rows::only_slot(words).map(|s| Event::Stop { s }),
-        Kind::Cont => rows::only_slot(words).map(|s| Event::Cont { s }),
-        Kind::Peek => rows::only_slot(words).map(|s| Event::Peek { s }),
+        Kind::Int => rows::int(version, words),
+        Kind::Exam => rows::exam(version, words),
+        Kind::State => rows::only_slot(version, words).map(|s| Event::State { s }),
+        Kind::Deposit => rows::deposit(version, words),
+        Kind::Stop => rows::only_slot(version, words).map(|s| Event::Stop { s }),
+        Kind::Cont => rows::only_slot(version, words).map(|s| Event::Cont { s }),
+        Kind::Peek => rows::only_slot(version, words).map(|s| Event::Peek { s }),
         Kind::Dir => rows::dir(words),
         Kind::Show => rows::show(words),
         Kind::End => rows::bare(Event::End, words),

@@ -1,9 +1,9 @@
 //! The rows of the table of lines: each of these reads the words that follow a first word.
 ghost use Rattle.std.specs.Prelude.{◌≡◌, if◌then◌else◌, map};
-ghost use Rattle.its_session.specs.Grammar.{append_line, bare_line, clock_line, console_of, is_dash, deposit_line, dir_line, drain_line, exam_line, file_line, go_line, int_line, load_line, show_line, slot_line, tick_line, type_line, words_line};
+ghost use Rattle.its_session.specs.Grammar.{append_line, bare_line, clock_line, console_of, is_dash, deposit_line, dir_line, drain_line, exam_line, file_line, go_line, int_line, load_line, read_only_line, show_line, slot_line, symbol_line, tick_line, type_line, version_line, words_line};
 ghost use Rattle.its_session.specs.Reading.{console_in};
 
-use super::fields::{at_most, bytes, console, count, name, number, numbers, slot};
+use super::fields::{at_most, bytes, console, count, name, number, numbers, page, slot};
 use its_word::{Bad, Event};
 
 /// `LOAD u j c`
@@ -27,6 +27,43 @@ fn console_or_dash(word: &[u8]) -> Result<Option<u8>, Bad>
         b"-" => Ok(None),
         _ => Ok(Some(console(number(word)?)?)),
     }
+}
+
+/// `VERSION v`
+#[tactic(auto, unfolding(crate::specs::Grammar::version_line))]
+pub fn version(words: &[&[u8]]) -> Result<Event, Bad>
+    ensures { result ≡ version_line (map (λ w. w.now) words.now) }
+{
+    let [v] = words else {
+        return Err(Bad::Syntax);
+    };
+    let v = count(2, number(v)?)? as u8;
+    Ok(Event::Version { v })
+}
+
+/// `RO p`
+#[tactic(auto, unfolding(crate::specs::Grammar::read_only_line))]
+pub fn read_only(words: &[&[u8]]) -> Result<Event, Bad>
+    ensures { result ≡ read_only_line (map (λ w. w.now) words.now) }
+{
+    let [p] = words else {
+        return Err(Bad::Syntax);
+    };
+    let page = page(number(p)?)?;
+    Ok(Event::ReadOnly { page })
+}
+
+/// `SYM name a`
+#[tactic(auto, unfolding(crate::specs::Grammar::symbol_line))]
+pub fn symbol(words: &[&[u8]]) -> Result<Event, Bad>
+    ensures { result ≡ symbol_line (map (λ w. w.now) words.now) }
+{
+    let [x, a] = words else {
+        return Err(Bad::Syntax);
+    };
+    let (name, a) = (name(x)?, number(a)?);
+    let a = at_most(0o777777, a)?;
+    Ok(Event::Symbol { name, a })
 }
 
 /// `GO a`
@@ -55,14 +92,14 @@ pub fn file(words: &[&[u8]]) -> Result<Event, Bad>
 
 /// `TICK s n`
 #[tactic(auto, unfolding(crate::specs::Grammar::tick_line))]
-pub fn tick(words: &[&[u8]]) -> Result<Event, Bad>
-    ensures { result ≡ tick_line (map (λ w. w.now) words.now) }
+pub fn tick(version: u8, words: &[&[u8]]) -> Result<Event, Bad>
+    ensures { result ≡ tick_line version (map (λ w. w.now) words.now) }
 {
     let [s, n] = words else {
         return Err(Bad::Syntax);
     };
     let (s, n) = (number(s)?, number(n)?);
-    let (s, n) = (slot(s)?, count(0o1000, n)?);
+    let (s, n) = (slot(version, s)?, count(0o1000, n)?);
     Ok(Event::Tick { s, n })
 }
 
@@ -92,55 +129,55 @@ pub fn clock(words: &[&[u8]]) -> Result<Event, Bad>
     Ok(Event::Clock { n })
 }
 
-/// `INT s v w`
+/// `INT s p q`
 #[tactic(auto, using(crate::proofs::RowLaws::three_words), unfolding(crate::specs::Grammar::int_line))]
-pub fn int(words: &[&[u8]]) -> Result<Event, Bad>
-    ensures { result ≡ int_line (map (λ w. w.now) words.now) }
+pub fn int(version: u8, words: &[&[u8]]) -> Result<Event, Bad>
+    ensures { result ≡ int_line version (map (λ w. w.now) words.now) }
 {
     let [s, v, w] = words else {
         return Err(Bad::Syntax);
     };
     let (s, v, w) = (number(s)?, number(v)?, number(w)?);
-    let s = slot(s)?;
+    let s = slot(version, s)?;
     Ok(Event::Int { s, v, w })
 }
 
 /// `EXAM s a n`
 #[tactic(auto, using(crate::proofs::RowLaws::three_words), unfolding(crate::specs::Grammar::exam_line))]
-pub fn exam(words: &[&[u8]]) -> Result<Event, Bad>
-    ensures { result ≡ exam_line (map (λ w. w.now) words.now) }
+pub fn exam(version: u8, words: &[&[u8]]) -> Result<Event, Bad>
+    ensures { result ≡ exam_line version (map (λ w. w.now) words.now) }
 {
     let [s, a, n] = words else {
         return Err(Bad::Syntax);
     };
     let (s, a, n) = (number(s)?, number(a)?, number(n)?);
-    let (s, n) = (slot(s)?, count(0o10, n)?);
+    let (s, n) = (slot(version, s)?, count(0o10, n)?);
     let a = at_most(0o1000000 - n, a)?;
     Ok(Event::Exam { s, a, n })
 }
 
 /// `DEPOSIT s a w`
 #[tactic(auto, using(crate::proofs::RowLaws::three_words), unfolding(crate::specs::Grammar::deposit_line))]
-pub fn deposit(words: &[&[u8]]) -> Result<Event, Bad>
-    ensures { result ≡ deposit_line (map (λ w. w.now) words.now) }
+pub fn deposit(version: u8, words: &[&[u8]]) -> Result<Event, Bad>
+    ensures { result ≡ deposit_line version (map (λ w. w.now) words.now) }
 {
     let [s, a, w] = words else {
         return Err(Bad::Syntax);
     };
     let (s, a, w) = (number(s)?, number(a)?, number(w)?);
-    let (s, a) = (slot(s)?, at_most(0o777777, a)?);
+    let (s, a) = (slot(version, s)?, at_most(0o777777, a)?);
     Ok(Event::Deposit { s, a, w })
 }
 
 /// The slot of `STATE s`, `STOP s`, `CONT s` and `PEEK s`.
 #[tactic(auto, unfolding(crate::specs::Grammar::slot_line))]
-pub fn only_slot(words: &[&[u8]]) -> Result<u8, Bad>
-    ensures { result ≡ slot_line (map (λ w. w.now) words.now) }
+pub fn only_slot(version: u8, words: &[&[u8]]) -> Result<u8, Bad>
+    ensures { result ≡ slot_line version (map (λ w. w.now) words.now) }
 {
     let [s] = words else {
         return Err(Bad::Syntax);
     };
-    slot(number(s)?)
+    slot(version, number(s)?)
 }
 
 /// `DIR d`

@@ -5,15 +5,13 @@ use std::process::Abort;
 
 macro_rules! reads {
     ($rt:expr; $place:expr, $line:literal, $event:expr) => {
-        assert_eq!($rt; read_line($line, $place), Ok($event));
+        assert_eq!($rt; read_line($line, $place, 1), Ok($event));
     };
 }
 
-macro_rules! prints {
-    ($rt:expr; $event:expr, $line:literal) => {
-        let mut out = ArrayVec::new();
-        print_event(&$event, &mut out);
-        assert_eq!($rt; out.as_slice(), $line.as_slice());
+macro_rules! reads_in_two {
+    ($rt:expr; $place:expr, $line:literal, $event:expr) => {
+        assert_eq!($rt; read_line($line, $place, 2), Ok($event));
     };
 }
 
@@ -31,10 +29,10 @@ fn bytes(values: &[u8]) -> ArrayVec<u8, 32> {
     bytes
 }
 
-/// Each line of a text is refused at this place for this reason.
-fn refuses(rt: &impl Abort, place: Place, lines: &str, bad: Bad) {
+/// Each line of a text is refused at this place of a session of this version for this reason.
+fn refuses(rt: &impl Abort, place: Place, version: u8, lines: &str, bad: Bad) {
     for line in lines.as_bytes().split(|b| *b == b'\n') {
-        assert_eq!(rt; read_line(line, place), Err(bad), "at {line:?}");
+        assert_eq!(rt; read_line(line, place, version), Err(bad), "at {line:?}");
     }
 }
 
@@ -92,8 +90,66 @@ fn reads_operator_lines(rt: HostRuntime) {
 }
 
 #[test]
+fn reads_version_two(rt: HostRuntime) {
+    let name = Word::new(0o465757000000);
+    reads!(rt; Place::First, b"VERSION 1", Event::Version { v: 1 });
+    reads!(rt; Place::First, b" VERSION  002", Event::Version { v: 2 });
+    reads!(rt; Place::First, b"TICK 77 1", Event::Tick { s: 0o77, n: 1 });
+    reads_in_two!(rt; Place::Load, b"RO 0", Event::ReadOnly { page: 0 });
+    reads_in_two!(rt; Place::Load, b"RO 377", Event::ReadOnly { page: 0o377 });
+    reads_in_two!(rt; Place::Load, b"SYM FOO 777777", Event::Symbol { name, a: 0o777777 });
+    reads_in_two!(rt; Place::Plain, b"TICK 137 1", Event::Tick { s: 0o137, n: 1 });
+    reads_in_two!(rt; Place::Plain, b"INT 137 1 0", Event::Int { s: 0o137, v: Word::new(1), w: Word::ZERO });
+    reads_in_two!(rt; Place::Plain, b"EXAM 100 0 1", Event::Exam { s: 0o100, a: 0, n: 1 });
+    reads_in_two!(rt; Place::Plain, b"DEPOSIT 137 0 1", Event::Deposit { s: 0o137, a: 0, w: Word::new(1) });
+    reads_in_two!(rt; Place::Plain, b"STATE 137", Event::State { s: 0o137 });
+    reads_in_two!(rt; Place::Plain, b"STOP 137", Event::Stop { s: 0o137 });
+    reads_in_two!(rt; Place::Plain, b"CONT 137", Event::Cont { s: 0o137 });
+    reads_in_two!(rt; Place::Plain, b"PEEK 137", Event::Peek { s: 0o137 });
+    refuses(
+        &rt,
+        Place::First,
+        1,
+        "VERSION\nVERSION 1 2\nVERSION A\nGO 1\n1/ 1\n/ 1\nEOF\nRO 1",
+        Bad::Syntax,
+    );
+    refuses(
+        &rt,
+        Place::First,
+        1,
+        "VERSION 0\nVERSION 3\nVERSION 777777777777\nTICK 100 1",
+        Bad::Range,
+    );
+    refuses(&rt, Place::Plain, 1, "VERSION 1\nVERSION 2", Bad::Syntax);
+    refuses(
+        &rt,
+        Place::Plain,
+        2,
+        "VERSION 2\nRO 1\nSYM A 1",
+        Bad::Syntax,
+    );
+    refuses(
+        &rt,
+        Place::Plain,
+        2,
+        "TICK 140 1\nINT 140 0 0\nEXAM 140 0 1\nDEPOSIT 140 0 0\nSTATE 140\nSTOP 140\nCONT 140\nPEEK 140",
+        Bad::Range,
+    );
+    refuses(&rt, Place::Load, 1, "VERSION 1\nRO 1\nSYM A 1", Bad::Syntax);
+    refuses(
+        &rt,
+        Place::Load,
+        2,
+        "VERSION 2\nRO\nRO 1 2\nRO A\nSYM A\nSYM a 1\nSYM A 1 1\nSYM A 8\nSYM ABCDEFG 1",
+        Bad::Syntax,
+    );
+    refuses(&rt, Place::Load, 2, "RO 400\nSYM A 1000000", Bad::Range);
+    refuses(&rt, Place::File, 2, "VERSION 2\nRO 1\nSYM A 1", Bad::Syntax);
+}
+
+#[test]
 fn reads_empty_lines(rt: HostRuntime) {
-    for place in [Place::Plain, Place::Load, Place::File] {
+    for place in [Place::First, Place::Plain, Place::Load, Place::File] {
         for line in [
             b"".as_slice(),
             b" ",
@@ -103,7 +159,11 @@ fn reads_empty_lines(rt: HostRuntime) {
             b"  ;x ~",
             b";TICK 0",
         ] {
-            assert_eq!(rt; read_line(line, place), Ok(Event::Nothing), "at {line:?}");
+            assert_eq!(rt;
+                read_line(line, place, 1),
+                Ok(Event::Nothing),
+                "at {line:?}"
+            );
         }
     }
 }
@@ -121,13 +181,13 @@ fn refuses_long_lines(rt: HostRuntime) {
             let _fits = line.try_push(byte);
         }
         assert_eq!(rt;
-            read_line(line.as_slice(), Place::Plain),
+            read_line(line.as_slice(), Place::Plain, 1),
             short,
             "255 of {byte}"
         );
         let _fits = line.try_push(byte);
         assert_eq!(rt;
-            read_line(line.as_slice(), Place::Plain),
+            read_line(line.as_slice(), Place::Plain, 1),
             Err(Bad::Long),
             "256 of {byte}"
         );
@@ -221,9 +281,9 @@ END\n\
 
 #[test]
 fn refuses_syntax(rt: HostRuntime) {
-    refuses(&rt, Place::Plain, SYNTAX, Bad::Syntax);
-    refuses(&rt, Place::Load, SYNTAX_IN_LOAD, Bad::Syntax);
-    refuses(&rt, Place::File, SYNTAX_IN_FILE, Bad::Syntax);
+    refuses(&rt, Place::Plain, 1, SYNTAX, Bad::Syntax);
+    refuses(&rt, Place::Load, 1, SYNTAX_IN_LOAD, Bad::Syntax);
+    refuses(&rt, Place::File, 1, SYNTAX_IN_FILE, Bad::Syntax);
     for line in [
         b"GO\t100".as_slice(),
         b";\t",
@@ -232,7 +292,7 @@ fn refuses_syntax(rt: HostRuntime) {
         b"END\x80",
     ] {
         assert_eq!(rt;
-            read_line(line, Place::Plain),
+            read_line(line, Place::Plain, 1),
             Err(Bad::Syntax),
             "at {line:?}"
         );
@@ -286,16 +346,45 @@ INT 100 8 0";
 
 #[test]
 fn refuses_numbers(rt: HostRuntime) {
-    refuses(&rt, Place::Plain, RANGE, Bad::Range);
-    refuses(&rt, Place::Load, RANGE_IN_LOAD, Bad::Range);
-    refuses(&rt, Place::Plain, NO_CONSOLE, Bad::NoConsole);
-    refuses(&rt, Place::Plain, SYNTAX_FIRST, Bad::Syntax);
+    refuses(&rt, Place::Plain, 1, RANGE, Bad::Range);
+    refuses(&rt, Place::Load, 1, RANGE_IN_LOAD, Bad::Range);
+    refuses(&rt, Place::Plain, 1, NO_CONSOLE, Bad::NoConsole);
+    refuses(&rt, Place::Plain, 1, SYNTAX_FIRST, Bad::Syntax);
 }
+
+/// Lines as they are read, and as they are printed.
+const PRINTED: [(Place, &[u8], &[u8]); 12] = [
+    (Place::First, b"VERSION 02", b"VERSION 2"),
+    (Place::Plain, b" LOAD  U J 07", b"LOAD U J 7"),
+    (Place::Load, b"RO 0377", b"RO 377"),
+    (Place::Load, b"SYM FOO 100", b"SYM FOO 000100"),
+    (Place::Load, b"GO 100", b"GO 000100"),
+    (
+        Place::Load,
+        b"00100/ 01 777777777777",
+        b"000100/ 000000000001 777777777777",
+    ),
+    (Place::File, b"EOF ", b"EOF"),
+    (Place::Plain, b"TICK 137 10", b"TICK 137 10"),
+    (Place::Plain, b"TYPE 0 001", b"TYPE 0 1"),
+    (
+        Place::Plain,
+        b"DEPOSIT 0 202 7",
+        b"DEPOSIT 0 000202 000000000007",
+    ),
+    (Place::Plain, b"SHOW  D A B", b"SHOW D A B"),
+    (Place::Plain, b"; none", b""),
+];
 
 #[test]
 fn prints_events(rt: HostRuntime) {
-    prints!(rt; Event::Go { a: 0o100 }, b"GO 100");
-    prints!(rt; Event::EndFile, b"EOF");
-    prints!(rt; Event::Tick { s: 0o77, n: 8 }, b"TICK 77 10");
-    prints!(rt; Event::Deposit { s: 0, a: 0o202, w: Word::ONES }, b"DEPOSIT 0 202 777777777777");
+    for (place, line, printed) in PRINTED {
+        let mut out = ArrayVec::new();
+        let event = read_line(line, place, 2);
+        assert!(rt; event.is_ok());
+        if let Ok(event) = event {
+            print_event(&event, &mut out);
+        }
+        assert_eq!(rt; out.as_slice(), printed);
+    }
 }

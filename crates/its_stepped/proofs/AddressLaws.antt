@@ -118,6 +118,7 @@ effect_addressed (changes.Protect s k on) j m a = job_addressed m s _ (λ q x. x
 effect_addressed (changes.Make s u n) j m a = made_addressed m j s u n a
 effect_addressed (changes.Remove s) j m a = removed_addressed (superiors m) s m a
 effect_addressed (changes.Inform s) j m a = job_addressed m s _ (λ q x. x) a
+effect_addressed (changes.Arm alarm) j m a = job_addressed m j _ (λ q x. x) a
 effect_addressed (changes.Delete x y z) j m a = jobs_addressed m _ refl a
 effect_addressed (changes.Rename x y z u v) j m a = jobs_addressed m _ refl a
 
@@ -206,6 +207,7 @@ ways_leave x a h = record {
   faulting = λ f. h;
   stuck = advanced_addressed 1 x.own.job;
   opening = λ t b. advanced_addressed 2 x.own.job;
+  arming = λ n t. advanced_addressed 2 x.own.job;
   ending = λ cs ss t. advanced_addressed 2 x.own.job;
   moved = λ cs ss t. advanced_addressed 1 x.own.job;
   going = λ cs o vs t. tt;
@@ -220,8 +222,8 @@ job_leaves : (x : View) (a : Ask) (n u y : ℕ) (write : Bool) (o : Option ℕ) 
 job_leaves x a n u y write (Some s) = advanced_addressed 2 x.own.job
 job_leaves x a n u y write None =
     let one = advanced_addressed 1 x.own.job in
-    first_holds LeavesAddress (any_named x u y ⇒ fails x a 0o13 ∷ not write ⇒ fails x a 0o12 ∷ []) (makes_job x a n u y (least_free x.outlines)) (λ t. one, (λ t. one, tt))
-    (λ t. makes_leaves x a n u y (least_free x.outlines))
+    first_holds LeavesAddress (any_named x u y ⇒ fails x a 0o13 ∷ not write ⇒ fails x a 0o12 ∷ []) (makes_job x a n u y (least_free x.limit x.outlines)) (λ t. one, (λ t. one, tt))
+    (λ t. makes_leaves x a n u y (least_free x.limit x.outlines))
 
 opens_usr_leaves : (x : View) (a : Ask) → LeavesAddress (opens_usr x a)
 unfolding opens_usr

@@ -1,5 +1,5 @@
--- HANG, SLEEP and DISMIS do their duty.
-use Rattle.std.specs.Prelude.{◌≡◌, ◌≤◌, ℕ, ◌+◌, ◌-◌, ◌%◌, ◌^◌, Bool, true, false, Option, Some, None, List, [], ◌∷◌, ◌++◌, length, take, drop, Result, Ok, Err, refl}
+-- HANG, SLEEP, DISMIS and REALT do their duty.
+use Rattle.std.specs.Prelude.{◌≡◌, ◌≤◌, ℕ, ◌+◌, ◌-◌, ◌%◌, ◌^◌, Bool, true, false, Option, Some, None, List, [], ◌∷◌, ◌++◌, length, take, drop, Result, Ok, Err, ◌||◌, nat_lt, refl}
 use Rattle.std.proofs.Common.{sym, ◌∙◌, ap, subst, inl, inr, arith}
 use Rattle.std.proofs.lemmas.Bool.{cases_eq, not-false}
 use Rattle.its_word.specs.Core.{Core, word_at, can_store, store}
@@ -10,15 +10,16 @@ use Rattle.its_word.specs.declared.calls.Exit.{Exit}
 use Rattle.its_word.specs.declared.calls.Site.{Site}
 use Rattle.its_word.specs.declared.jobs.Job.{Job}
 use Rattle.its_word.specs.declared.plan.Store.{Store}
+use Rattle.its_frame.specs.declared.change.Change.TheVariants as changes
 use Rattle.its_frame.specs.declared.name.CallName.{CallName}
 use Rattle.its_frame.specs.declared.name.CallName.TheVariants.{Hang, Sleep}
 use Rattle.its_plain.specs.Arguments.{stores_of, valued, input, place_of_input, is_shared, debts, revalued}
-use Rattle.its_plain.specs.CallBasic.{hang, sleep_tests, sleep, negated, shared_place, read_only, popped, dismissed_by, dismiss_at, dismiss}
+use Rattle.its_plain.specs.CallBasic.{hang, sleep_tests, sleep, negated, shared_place, read_only, popped, dismissed_by, dismiss_at, dismiss, is_negative, longest_period, alarm_of, realt}
 use Rattle.its_plain.specs.Decide.{call_named}
 use Rattle.its_plain.specs.Interrupt.{dismissed, dismissed_at, below}
 use Rattle.its_plain.specs.Interrupt as interrupts
 use Rattle.its_plain.specs.Machine.{Machine}
-use Rattle.its_plain.specs.Tests.{goes}
+use Rattle.its_plain.specs.Tests.{◌⇒◌, finishes, fails, goes}
 use Rattle.its_word.specs.Stores.{stored}
 use Rattle.its_plain.specs.View.{View}
 use Rattle.its_stepped.specs.State.{State}
@@ -154,3 +155,11 @@ dismiss_at_duty m v j x s a n None c is = fails_duty m v j x s a n 0o17 c
 pub dismiss_duty : (m : Machine) (v : State) (j : ℕ) (x : View) (s : Site) (a : Ask) (n : ℕ) → Calling m v j x.own s a n → Duty v j x.own s a n (dismiss x a)
 unfolding dismiss
 dismiss_duty m v j x s a n c = dismiss_at_duty m v j x s a n (place_of_input a 0) c refl
+
+-- REALT
+pub realt_duty : (m : Machine) (v : State) (j : ℕ) (x : View) (s : Site) (a : Ask) (n : ℕ) → Calling m v j x.own s a n → Duty v j x.own s a n (realt x a)
+unfolding realt
+realt_duty m v j x s a n c =
+    let arm = changes.Arm (alarm_of x.clock (input a 0)) in
+    first_holds (Duty v j x.own s a n) ((is_negative (input a 0) || nat_lt longest_period (input a 0)) ⇒ fails x a 0o22 ∷ []) (finishes x (arm ∷ []) [])
+    (λ t. fails_duty m v j x s a n 0o22 c, tt) (λ t. ending_duty m v j x.own s a n (arm ∷ []) [] c (tt, tt) (tt, tt) refl tt (omega arith))

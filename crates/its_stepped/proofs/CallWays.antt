@@ -1,7 +1,7 @@
 -- The ways in which a call goes on or ends, and the one walk over what calls decide: what holds of each of these ways holds
 -- of every decision, where it holds of those that are walked apart.
-use Rattle.std.specs.Prelude.{if◌then◌else◌, ◌==◌, ◌≡◌, ◌&&◌, ℕ, ◌+◌, ◌-◌, Bool, true, false, not, Option, Some, None, List, [], ◌∷◌, ◌++◌, nat_lt, is_some, length, slice_get, slice_index_or, unwrap_or, refl}
-use Rattle.std.proofs.lemmas.Bool.{not-false}
+use Rattle.std.specs.Prelude.{if◌then◌else◌, ◌==◌, ◌≡◌, ◌&&◌, ◌||◌, ℕ, ◌+◌, ◌-◌, Bool, true, false, not, Option, Some, None, List, [], ◌∷◌, ◌++◌, nat_lt, is_some, length, slice_get, slice_index_or, unwrap_or, refl}
+use Rattle.std.proofs.lemmas.Bool.{not-false, or_parts}
 use Rattle.its_word.specs.Byte.{load_of}
 use Rattle.its_word.specs.Core.{Core, word_at, can_store}
 use Rattle.its_word.specs.Word.{right_of}
@@ -22,7 +22,7 @@ use Rattle.its_frame.specs.declared.name.CallName.{CallName}
 use Rattle.its_frame.specs.declared.name.CallName.TheVariants as calls
 use Rattle.its_frame.specs.Errors as error
 use Rattle.its_plain.specs.Arguments.{input, has_input, place_of_input}
-use Rattle.its_plain.specs.CallBasic.{Party, Oneself, Nobody, Channel, party, channel_at, ioc, negated, sleep_tests, sleep, dismiss, usrvar, logout}
+use Rattle.its_plain.specs.CallBasic.{Party, Oneself, Nobody, Channel, party, channel_at, ioc, negated, is_negative, sleep_tests, sleep, dismiss, usrvar, logout, longest_period, alarm_of, realt}
 use Rattle.its_plain.specs.CallTty.{console_of, has_console, input_waits, output_waits, output_left, first_typed, shown_byte, opens_on, open_tests, opens, store_tests, read_tests, word_of, iot_ends, next_pointer, siot_tests, siot_in, siot_out, siot_by, finish_on, finish, listens, listen_on, listen, ttylnd}
 use Rattle.its_plain.specs.CallFile.{disk_device, most_files, is_full, channels_in, has_file, is_read, words_of, names_from, is_output, opens_as, disk_tests, opens_disk, closes_draft, end_of_file, iot_read, siot_read, siot_write, end_of_core, access_to, access_on, access, fillen_on, fillen, file_tests, delete, rename}
 use Rattle.its_plain.specs.CallUsr.{usr_device, opens_usr, other_core, at_end, iot_peeks, iot_through, siot_peeks, siot_pokes, siot_through, set_word, usrmem_tests, usrmem_on, usrmem, uclose}
@@ -35,7 +35,7 @@ use Rattle.its_plain.specs.Tests.{◌⇒◌, finishes, fails, faults, goes, out}
 use Rattle.its_plain.specs.View.{View}
 use Rattle.its_stepped.proofs.TestLaws.{first_holds}
 
--- a change that makes no job and removes none, opens no channel on one or on a console, and gives none a console
+-- a change that makes no job and removes none, opens no channel on one or on a console, gives none a console, and sets no alarm
 abbrev pub OpensMildly : Opened → Type 0
 OpensMildly (opened.Reading d x y) = Unit {0}
 OpensMildly (opened.Writing d x y) = Unit {0}
@@ -46,18 +46,21 @@ Mild (changes.Open n on) = OpensMildly on
 Mild (changes.Make s u n) = ⊥
 Mild (changes.Hold c s) = ⊥
 Mild (changes.Remove s) = ⊥
+Mild (changes.Arm alarm) = ⊥
 Mild _ = Unit {0}
 
 abbrev pub AllMild : List Change → Type 0
 AllMild [] = Unit {0}
 AllMild (c ∷ cs) = Mild c × AllMild cs
 
--- the ways of a call that is found ready: each of its changes is mild, or it opens a channel on the console that its job has
+-- the ways of a call that is found ready: each of its changes is mild, or it opens a channel on the console that its job has, or it
+-- sets the job's alarm
 pub record Ways (P : Decision → Type 0) (x : View) (a : Ask) : Type 0 where
   pub failing : (k : ℕ) → P (fails x a k)
   pub faulting : (f : Fault) → P (faults x f)
   pub stuck : P (ioc x)
   pub opening : has_console x ≡ true → (b : Bool) → P (finishes x (changes.Open (input a 0) (if b then opened.TtyOut else opened.TtyIn) ∷ []) [])
+  pub arming : (n : ℕ) → nat_lt longest_period n ≡ false → P (finishes x (changes.Arm (alarm_of x.clock n) ∷ []) [])
   pub ending : (cs : List Change) (ss : List Store) → AllMild cs → P (finishes x cs ss)
   pub moved : (cs : List Change) (ss : List Store) → AllMild cs → P (iot_ends x cs ss)
   pub going : (cs : List Change) (h : Option Held) (vs : List ℕ) → AllMild cs → P (goes cs h vs)
@@ -396,6 +399,14 @@ corblk_ways P x a w =
     go (Channel (Reads f at)) = w.failing 0o5
     go (Channel (Writes f)) = w.failing 0o5
 
+-- REALT
+realt_ways : (P : Decision → Type 0) (x : View) (a : Ask) → Ways P x a → P (realt x a)
+unfolding realt
+realt_ways P x a w =
+    let n = input a 0 in
+    first_holds P ((is_negative n || nat_lt longest_period n) ⇒ fails x a 0o22 ∷ []) (finishes x (changes.Arm (alarm_of x.clock n) ∷ []) [])
+    (λ t. w.failing 0o22, tt) (λ t. w.arming n (or_parts (is_negative n) (nat_lt longest_period n) t.0).1)
+
 -- the decisions that are walked apart: their changes are not mild, or they leave registers of their own
 pub record Apart (P : Decision → Type 0) (x : View) (a : Ask) : Type 0 where
   pub dismiss : P (dismiss x a)
@@ -427,4 +438,5 @@ call_ways P x a (Some calls.Rename) w r p = rename_ways P x a w
 call_ways P x a (Some calls.Usrmem) w r p = usrmem_ways P x a w
 call_ways P x a (Some calls.Uclose) w r p = p.uclose
 call_ways P x a (Some calls.Corblk) w r p = corblk_ways P x a w
+call_ways P x a (Some calls.Realt) w r p = realt_ways P x a w
 call_ways P x a None w r p = w.failing 0o1

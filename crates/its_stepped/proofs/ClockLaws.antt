@@ -38,6 +38,7 @@ effect_clock (changes.Protect s k on) j m = refl
 effect_clock (changes.Make s u n) j m = refl
 effect_clock (changes.Remove s) j m = refl
 effect_clock (changes.Inform s) j m = refl
+effect_clock (changes.Arm alarm) j m = refl
 effect_clock (changes.Delete x y z) j m = refl
 effect_clock (changes.Rename x y z u v) j m = refl
 

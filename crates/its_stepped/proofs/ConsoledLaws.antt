@@ -28,7 +28,7 @@ use Rattle.its_plain.specs.Arguments.{revalued}
 use Rattle.its_plain.specs.CallStep.{with_held, acted, decision, informs, step}
 use Rattle.its_plain.specs.Change.{in_job, is_gone, left_job, removed, superiors, console_in, inferior, poke, effect, effects}
 use Rattle.its_plain.specs.Interrupt.{Entry, entries_of, first_entry, pushed, at_handler, by_stores, by_pointer, by_entry, by_length, by_table, through_table, unguarded, delivered}
-use Rattle.its_plain.specs.Machine.{Shut, Whole, Machine, changed, with_job, no_machine}
+use Rattle.its_plain.specs.Machine.{Shut, Whole, Machine, changed, with_job, no_machine, limit}
 use Rattle.its_plain.specs.OperatorJobs.{new_job, with_holder, loaded_in, loaded}
 use Rattle.its_plain.specs.Own.{with_stores, leave, on_channel, with_variable}
 use Rattle.its_plain.specs.Unit.{Changed, unit}
@@ -93,7 +93,7 @@ load_consoled m u j console None h a = tt
 
 pub loaded_consoled : (m n : Machine) (u j s : ℕ) (console : Option ℕ) → IfSome console (λ c. c < 8) → Consoled m → loaded m u j console ≡ Ok (n, s) → Consoled n
 unfolding loaded
-loaded_consoled m n u j s console h a e = subst LoadConsoled e (load_consoled m u j console (least_free m.jobs) h a)
+loaded_consoled m n u j s console h a e = subst LoadConsoled e (load_consoled m u j console (least_free (limit m) m.jobs) h a)
 
 -- a removal
 removed_job : (gone : ℕ → Bool) (b : Bool) (o : Option Whole) → HousedBy o → HousedBy (left_job gone b o)
@@ -154,6 +154,7 @@ effect_consoled (changes.Protect s k on) j m a = job_consoled m s _ (λ q. refl)
 effect_consoled (changes.Make s u n) j m a = made_consoled m j s u n a
 effect_consoled (changes.Remove s) j m a = removed_consoled (superiors m) s m a
 effect_consoled (changes.Inform s) j m a = job_consoled m s _ (λ q. refl) a
+effect_consoled (changes.Arm alarm) j m a = job_consoled m j _ (λ q. refl) a
 effect_consoled (changes.Delete x y z) j m a = jobs_consoled m _ refl a
 effect_consoled (changes.Rename x y z u v) j m a = jobs_consoled m _ refl a
 

@@ -15,7 +15,7 @@ use Rattle.its_frame.specs.declared.frame.Frame.{Frame}
 use Rattle.its_frame.specs.declared.frame.Frame.TheVariants.{Entered, Parsed, Asked, Holding, Waiting, Moving, Ending}
 use Rattle.its_plain.specs.Machine.{Names, File, Chan, Shut, TtyIn, TtyOut, Reads, Writes, On, Whole, whole, changed}
 use Rattle.its_plain.specs.Own.{with_stores, leave, with_registers, names_of, opened_on, at_position, with_word, on_channel, with_variable}
-use Rattle.its_plain.specs.Change.{on_slot, in_job, same_names, without_file, filed, renamed, channel_in, files_closed, superior_in, superiors, is_gone, shut_on, left_job, removed, console_in, inferior, with_page_at, protected, poke, with_inf, effect, effects}
+use Rattle.its_plain.specs.Change.{on_slot, in_job, same_names, without_file, filed, renamed, channel_in, files_closed, superior_in, superiors, is_gone, shut_on, left_job, removed, console_in, inferior, with_page_at, protected, poke, with_inf, with_alarm, effect, effects}
 use Rattle.its_plain.specs.Arguments.{input, debts}
 use Rattle.its_plain.specs.CallStep.{deposited}
 use Rattle.its_plain.proofs.MachineLaws.{machine_is, jobs_are}
@@ -58,6 +58,9 @@ seen_channel n g f q = frame_moves (on_channel n g) (λ p. refl) (λ ss p. refl)
 
 pub seen_shut_on : (gone : ℕ → Bool) (f : Option Frame) (q : Whole) → seen f (shut_on gone q) ≡ shut_on gone (seen f q)
 seen_shut_on gone f q = frame_moves (shut_on gone) (λ p. refl) (λ ss p. refl) (λ e p. refl) f q
+
+pub seen_armed : (alarm : Option (ℕ × ℕ)) (f : Option Frame) (q : Whole) → seen f (with_alarm alarm q) ≡ with_alarm alarm (seen f q)
+seen_armed alarm f q = frame_moves (with_alarm alarm) (λ p. refl) (λ ss p. refl) (λ e p. refl) f q
 
 -- a frame that owes nothing
 pub still_seen : (f : Option Frame) (q : Whole) → IsStill f → seen f q ≡ q
@@ -151,7 +154,7 @@ close_plain n j w e =
     (closed_helps j (channel_in (w.raw.jobs j) n) w.raw.files
     ∙ ap (λ c. files_closed c w.raw.files) (sym (channel_seen (w.frames j) (w.raw.jobs j) n))
     ∙ ap (files_closed (channel_in (option_map (seen (w.frames j)) (w.raw.jobs j)) n)) (sym (unmarked_files w e)))
-    refl
+    refl refl (λ k. refl)
 
 made_job : (f : Option Frame) (o : Option Whole) (g : Option Frame) (j u n : ℕ) → g ≡ None
     → option_map (seen g) (Some (inferior j o u n)) ≡ Some (inferior j (option_map (seen f) o) u n)
@@ -171,7 +174,7 @@ make_plain s u n j w e =
       | inr ne ↦ ap (option_map (seen (w.frames k))) ((changed_only w.raw.jobs s (Some (inferior j (w.raw.jobs j) u n))).others k ne)
           ∙ sym ((changed_only (seen_jobs w.frames w.raw.jobs) s (Some (inferior j (option_map (seen (w.frames j)) (w.raw.jobs j)) u n))).others k ne)
     ])
-    (λ k. refl) (λ k. refl) refl refl
+    (λ k. refl) (λ k. refl) refl refl refl (λ k. refl)
 
 shut_seen : (gone : ℕ → Bool) (f : Option Frame) (o : Option Whole) → option_map (seen f) (option_map (shut_on gone) o) ≡ option_map (shut_on gone) (option_map (seen f) o)
 shut_seen gone f None = refl
@@ -187,14 +190,14 @@ unfolding effect_on effect plain removed
 remove_plain s j w =
     let sup = superiors w.raw in
     let p : plain (effect_on (changes.Remove s) j w) ≡ removed sup s (plain w) =
-    machine_is _ _ (λ k. left_seen (is_gone sup s) (is_gone sup s k) (w.frames k) (w.raw.jobs k)) (λ k. refl) (λ k. refl) refl refl in
+    machine_is _ _ (λ k. left_seen (is_gone sup s) (is_gone sup s k) (w.frames k) (w.raw.jobs k)) (λ k. refl) (λ k. refl) refl refl refl (λ k. refl) in
     p ∙ ap (λ f. removed f s (plain w)) (sym (superiors_plain w))
 
 pub files_plain : (w : State) (g : List File → List File) → w.mark ≡ None
     → plain (record w { raw = record w.raw { files = g w.raw.files } }) ≡ record (plain w) { files = g (plain w).files }
 unfolding plain helped
 files_plain w g e =
-    machine_is _ _ (λ k. refl) (λ k. refl) (λ k. refl) (ap (λ o. helped o (g w.raw.files)) e ∙ ap (λ o. g (helped o w.raw.files)) (sym e)) refl
+    machine_is _ _ (λ k. refl) (λ k. refl) (λ k. refl) (ap (λ o. helped o (g w.raw.files)) e ∙ ap (λ o. g (helped o w.raw.files)) (sym e)) refl refl (λ k. refl)
 
 -- consoles and holders, which no frame touches; a page, whose reservation the plain machine has not
 take_plain : (c j : ℕ) (w : State) → plain (effect_on (changes.Take c) j w) ≡ effect (changes.Take c) j (plain w)
@@ -237,6 +240,7 @@ effect_plain (changes.Protect s k b) j w h = reached_plain w j s (protected k b)
 effect_plain (changes.Make s u n) j w h = make_plain s u n j w h
 effect_plain (changes.Remove s) j w h = remove_plain s j w
 effect_plain (changes.Inform s) j w h = reached_plain w j s with_inf h
+effect_plain (changes.Arm alarm) j w h = in_job_plain w j (with_alarm alarm) (seen_armed alarm (w.frames j))
 effect_plain (changes.Delete d x y) j w h = files_plain w (without_file (names_of d x y)) h
 effect_plain (changes.Rename d x y u v) j w h = files_plain w (renamed (names_of d x y) u v) h
 
@@ -328,6 +332,7 @@ effect_sound (changes.Make i u n) j w k h ne s = slot_new w i k (inferior j (w.r
 effect_sound (changes.Remove i) j w k h ne s =
     slot_left (is_gone (superiors w.raw) i) (is_gone (superiors w.raw) i k) (w.raw.jobs k) (w.frames k) (w.reserved k) (λ gone. h k gone ne) s
 effect_sound (changes.Inform i) j w k h ne s = slot_reached w j i k with_inf h ne s
+effect_sound (changes.Arm alarm) j w k h ne s = slot_own w j k (with_alarm alarm) ne s
 effect_sound (changes.Delete d x y) j w k h ne s = s
 effect_sound (changes.Rename d x y u v) j w k h ne s = s
 

@@ -149,7 +149,7 @@ part_row w j q s a os ys owner draft p ps mark own files at made fits count =
       jobs = job_only w.raw.jobs j q same at.job;
       frames = o;
       pages = record { here = refl; others = λ k ne. refl };
-      shares = record { consoles = refl; holders = refl; clock = refl; files = rw mark (helped_rest owner draft p ps w.raw.files) };
+      shares = record { consoles = refl; holders = refl; clock = refl; version = refl; symbols = refl; files = rw mark (helped_rest owner draft p ps w.raw.files) };
       seen_as = rw (at.job, at.frame) (ap Some made);
       fits = fits;
       mark = mark_rest owner draft p ps (changed w.frames j f) (ap (λ k. parts_in_frame (changed w.frames j f k)) (eqb-true owner j own) ∙ ap parts_in_frame o.here ∙ files);

@@ -1,15 +1,15 @@
 -- Every call keeps how jobs lie to each other: OPEN makes inferiors of the caller and opens channels on them alone, UCLOSE removes
 -- one of them, and TTYLND gives a console to the caller or to one of them.
-use Rattle.std.specs.Prelude.{if◌then◌else◌, ◌==◌, ◌&&◌, ◌≡◌, ℕ, ◌+◌, ◌-◌, Bool, true, false, not, Option, Some, None, List, [], ◌∷◌, find, cond, option_map, is_some, zero, suc, ◌<◌, refl, unwrap_or, Result, Ok, Err}
+use Rattle.std.specs.Prelude.{if◌then◌else◌, ◌==◌, ◌&&◌, ◌≡◌, ℕ, ◌+◌, ◌-◌, Bool, true, false, not, Option, Some, None, IfSome, List, [], ◌∷◌, find, cond, option_map, is_some, zero, suc, ◌<◌, ◌≤◌, nat_lt, refl, unwrap_or, Result, Ok, Err}
 use Rattle.std.specs.List.{range_with_len}
-use Rattle.std.proofs.Common.{sym, ◌∙◌, ap, arith}
-use Rattle.std.proofs.lemmas.Bool.{and_parts, eqb-true, not-false}
+use Rattle.std.proofs.Common.{sym, ◌∙◌, ap, subst, inl, inr, arith, subst}
+use Rattle.std.proofs.lemmas.Bool.{and_parts, cases_eq, eq-eqb, eqb-true, ltb-false, ne_eqb, not-false}
 use Rattle.its_word.specs.Limits.{slots}
 use Rattle.its_word.specs.Tree.{free_from, least_free}
 use Rattle.its_word.specs.declared.access.Fault.{Fault}
 use Rattle.its_word.specs.declared.calls.Ask.{Ask}
 use Rattle.its_word.specs.declared.calls.Exit.{Exit}
-use Rattle.its_word.proofs.FreeLaws.{least_empty}
+use Rattle.its_word.proofs.FreeLaws.{least_empty, least_below}
 use Rattle.its_frame.specs.declared.change.Change.{Change}
 use Rattle.its_frame.specs.declared.change.Change.TheVariants as changes
 use Rattle.its_frame.specs.declared.change.Opened.{Opened}
@@ -17,16 +17,17 @@ use Rattle.its_frame.specs.declared.change.Opened.TheVariants as opened
 use Rattle.its_frame.specs.declared.name.CallName.TheVariants.{Open}
 use Rattle.its_frame.specs.declared.variable.Variable.{Variable}
 use Rattle.its_plain.specs.Arguments.{input, has_input, place_of_input}
-use Rattle.its_plain.specs.CallBasic.{dismissed_by, dismiss_at, dismiss, Party, Oneself, Nobody, Channel, variable_named, by_oneself, by_superior, set_own, own_variable, set_other, value_of_other, other_variable, usrvar_of, party_on, party, is_oneself, usrvar, told_superior, channel_at}
+use Rattle.its_plain.specs.CallBasic.{dismissed_by, dismiss_at, dismiss, Party, Oneself, Nobody, Channel, variable_named, by_oneself, by_superior, set_own, own_variable, set_other, value_of_other, other_variable, usrvar_of, party_on, party, is_oneself, usrvar, told_superior, channel_at, longest_period, alarm_of}
 use Rattle.its_plain.specs.CallTty.{console_of, has_console, can_take, is_superior, is_holder, lands, ttylnd_of, ttylnd}
 use Rattle.its_plain.specs.CallUsr.{has_names, inferior_named, any_named, makes_job, opens_job, usr_tests, opens_usr, uclose_on, uclose}
 use Rattle.its_plain.specs.Change.{superior_in, superiors, console_in, effect}
 use Rattle.its_plain.specs.CallStep.{step, decision}
 use Rattle.its_plain.specs.Decide.{call_named, decided_by, decided, target}
 use Rattle.its_plain.specs.Interrupt.{dismissed}
-use Rattle.its_plain.specs.Machine.{Chan, Shut, TtyIn, TtyOut, Reads, Writes, On, Whole, Machine}
+use Rattle.its_plain.specs.Machine.{Chan, Shut, TtyIn, TtyOut, Reads, Writes, On, Whole, Machine, limit}
 use Rattle.its_plain.specs.Tests.{◌⇒◌, finishes, fails, out}
 use Rattle.its_plain.specs.View.{View, Outline, outline, view}
+use Rattle.its_stepped.specs.Alarmed.{Coming}
 use Rattle.its_stepped.specs.Forest.{OnInferior, Forest}
 use Rattle.its_stepped.proofs.TestLaws.{by_test, first_holds}
 use Rattle.its_stepped.proofs.ForestLaws.{CanOpen, MakesInferior, Fits, AllFit, FitsAll, channel_of, inferior_stands, made_inferior, steps_where}
@@ -96,6 +97,7 @@ mild_fits (changes.Open n on) j m h = opens_fit on j m h
 mild_fits (changes.Make s u n) j m h = absurd h
 mild_fits (changes.Hold c s) j m h = absurd h
 mild_fits (changes.Remove s) j m h = absurd h
+mild_fits (changes.Arm alarm) j m h = absurd h
 mild_fits _ j m h = tt
 
 all_fit : (j : ℕ) (cs : List Change) (m : Machine) → AllMild cs → AllFit cs j m
@@ -106,14 +108,23 @@ all_fit j (c ∷ cs) m h = (mild_fits c j m h.0, all_fit j cs (effect c j m) h.1
 record Sees (x : View) (j : ℕ) (m : Machine) : Type 0 where
   slot : x.slot ≡ j
   job : is_some (m.jobs j) ≡ true
+  limit : x.limit ≡ limit m
   outlines : (k : ℕ) → x.outlines k ≡ option_map outline (m.jobs k)
   channels : (n : ℕ) → OnInferior m j (channel_at x.own.channels n)
   superior : superiors m j ≡ x.own.superior
   console : x.own.job.console ≡ console_in (m.jobs j)
+  clock : x.clock ≡ m.clock
 
 opened_fits : (b : Bool) (j : ℕ) (m : Machine) → is_some (console_in (m.jobs j)) ≡ true → CanOpen (if b then opened.TtyOut else opened.TtyIn) j m
 opened_fits true j m h = h
 opened_fits false j m h = h
+
+-- an alarm that REALT sets is to come
+armed_fits : (c n : ℕ) → nat_lt longest_period n ≡ false → IfSome (alarm_of c n) (λ a. Coming c a)
+armed_fits c n h = elim (cases_eq n 0) [
+  | inl z ↦ rw (eq-eqb n 0 z) tt
+  | inr ne ↦ let some : 1 ≤ n = omega arith in rw (ne_eqb n 0 ne) (record { some = some; most = ltb-false longest_period n h; next = omega arith })
+]
 
 ways_fit : (x : View) (a : Ask) (j : ℕ) (m : Machine) → Sees x j m → Ways (λ d. FitsAll d j m) x a
 ways_fit x a j m see = record {
@@ -121,6 +132,7 @@ ways_fit x a j m see = record {
   faulting = λ f. tt;
   stuck = tt;
   opening = λ h b. (opened_fits b j m (ap is_some (sym see.console) ∙ h), tt);
+  arming = λ n h. (subst (λ (c : ℕ). IfSome (alarm_of x.clock n) (λ a. Coming c a)) see.clock (armed_fits x.clock n h), tt);
   ending = λ cs ss h. all_fit j cs m h;
   moved = λ cs ss h. all_fit j cs m h;
   going = λ cs o vs h. all_fit j cs m h;
@@ -189,39 +201,26 @@ named_inferior x j u n s m slot outlines h =
     let both = and_parts (has_names u n (x.outlines s)) (is_superior x.slot (x.outlines s)) passes in
     superior_outlined j (m.jobs s) (ap (λ (o : Option Outline). is_superior j o) (sym (outlines s)) ∙ ap (λ (i : ℕ). is_superior i (x.outlines s)) (sym slot) ∙ both.1)
 
-free_below : {X : Type 0} (f : ℕ → Option X) (n k s : ℕ) → free_from f n k ≡ Some s → s < k + n
-unfolding free_from
-free_below f zero k s h = cc
-free_below f (suc n) k s h = go (is_some (f k)) h (λ t. free_below f n (k + 1) s t)
-  where
-    go : (b : Bool) → cond b (free_from f n (k + 1)) (Some k) ≡ Some s → (free_from f n (k + 1) ≡ Some s → s < k + 1 + n) → s < k + suc n
-    go true t rest = let l = rest t in omega arith
-    go false t rest = let e : k ≡ s = cc in omega arith
-
-least_below : {X : Type 0} (f : ℕ → Option X) (s : ℕ) → least_free f ≡ Some s → s < slots
-unfolding least_free
-least_below f s h = let l = free_below f slots 0 s h in omega arith
-
 no_outline : (o : Option Whole) → option_map outline o ≡ None → o ≡ None
 no_outline None h = refl
 no_outline (Some q) h = cc
 
-least_fits : (x : View) (s j : ℕ) (m : Machine) → Sees x j m → least_free x.outlines ≡ Some s → MakesInferior s j m
+least_fits : (x : View) (s j : ℕ) (m : Machine) → Sees x j m → least_free x.limit x.outlines ≡ Some s → MakesInferior s j m
 least_fits x s j m see h = record {
-  few = least_below x.outlines s h;
-  free = no_outline (m.jobs s) (sym (see.outlines s) ∙ least_empty x.outlines s h);
+  few = subst (λ (n : ℕ). s < n) see.limit (least_below x.limit x.outlines s h);
+  free = no_outline (m.jobs s) (sym (see.outlines s) ∙ least_empty x.limit x.outlines s h);
   maker = see.job;
 }
 
-makes_fits : (x : View) (a : Ask) (n u y j : ℕ) (m : Machine) → Sees x j m → (o : Option ℕ) → least_free x.outlines ≡ o → FitsAll (makes_job x a n u y o) j m
+makes_fits : (x : View) (a : Ask) (n u y j : ℕ) (m : Machine) → Sees x j m → (o : Option ℕ) → least_free x.limit x.outlines ≡ o → FitsAll (makes_job x a n u y o) j m
 makes_fits x a n u y j m see (Some s) is = (least_fits x s j m see is, (made_inferior m s j u y, tt))
 makes_fits x a n u y j m see None is = tt
 
 job_fits : (x : View) (a : Ask) (n u y j : ℕ) (m : Machine) (write : Bool) → Sees x j m → (o : Option ℕ) → inferior_named x u y ≡ o → FitsAll (opens_job x a n u y write o) j m
 job_fits x a n u y j m write see (Some s) is = (named_inferior x j u y s m see.slot see.outlines is, tt)
 job_fits x a n u y j m write see None is =
-    first_holds (λ d. FitsAll d j m) (any_named x u y ⇒ fails x a 0o13 ∷ not write ⇒ fails x a 0o12 ∷ []) (makes_job x a n u y (least_free x.outlines))
-    (λ t. tt, (λ t. tt, tt)) (λ t. makes_fits x a n u y j m see (least_free x.outlines) refl)
+    first_holds (λ d. FitsAll d j m) (any_named x u y ⇒ fails x a 0o13 ∷ not write ⇒ fails x a 0o12 ∷ []) (makes_job x a n u y (least_free x.limit x.outlines))
+    (λ t. tt, (λ t. tt, tt)) (λ t. makes_fits x a n u y j m see (least_free x.limit x.outlines) refl)
 
 opens_usr_fits : (x : View) (a : Ask) (j : ℕ) (m : Machine) → Sees x j m → FitsAll (opens_usr x a) j m
 unfolding opens_usr
@@ -266,10 +265,12 @@ unfolding view
 sees m j q t d is = record {
   slot = refl;
   job = ap is_some is;
+  limit = refl;
   outlines = λ k. refl;
   channels = λ n. channel_of m j q n d is;
   superior = ap superior_in is;
   console = sym (ap console_in is);
+  clock = refl;
 }
 
 pub decision_fits : (m : Machine) (j : ℕ) (q : Whole) (a : Ask) → Forest m → m.jobs j ≡ Some q → FitsAll (decision m j q a) j m

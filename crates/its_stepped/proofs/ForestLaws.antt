@@ -3,10 +3,11 @@ use Rattle.std.specs.Prelude.{if◌then◌else◌, ◌==◌, ◌≡◌, ◌≢�
 use Rattle.std.proofs.Common.{sym, ◌∙◌, ap, subst, inl, inr, arith, eq-eqb}
 use Rattle.std.proofs.lemmas.Bool.{cases_Bool, cases_eq, cases_lt, ne_eqb, or_parts}
 use Rattle.std.proofs.lemmas.Option.{IfSome_then}
-use Rattle.its_word.specs.Limits.{slots}
+use Rattle.its_word.specs.Limits.{slots, limit_of}
 use Rattle.its_word.specs.Tree.{climbs_to, is_below}
 use Rattle.its_word.specs.declared.calls.Ask.{Ask}
 use Rattle.its_word.proofs.TreeLaws.{climb_end}
+use Rattle.its_word.proofs.FreeLaws.{limit_few}
 use Rattle.its_word.proofs.ClimbLaws.{circle_cut, never, unpassed, enough, below_through}
 use Rattle.its_frame.specs.declared.change.Change.{Change}
 use Rattle.its_frame.specs.declared.change.Change.TheVariants as changes
@@ -21,8 +22,9 @@ use Rattle.its_plain.specs.CallBasic.{told_superior, channel_at}
 use Rattle.its_plain.specs.CallStep.{with_held, acted, decision, informs, step}
 use Rattle.its_plain.specs.Change.{on_slot, in_job, is_gone, chan_left, shut_on, left_job, passed_on, removed, channel_in, superior_in, superiors, inferior, effect, effects, console_in, with_inf}
 use Rattle.its_plain.specs.Interrupt.{delivered}
-use Rattle.its_plain.specs.Machine.{Chan, Shut, TtyIn, TtyOut, Reads, Writes, On, Whole, Machine, changed, no_machine}
+use Rattle.its_plain.specs.Machine.{Chan, Shut, TtyIn, TtyOut, Reads, Writes, On, Whole, Machine, changed, no_machine, limit}
 use Rattle.its_plain.specs.Own.{opened_on, at_position, with_word, on_channel}
+use Rattle.its_stepped.specs.Alarmed.{Coming}
 use Rattle.its_stepped.specs.Forest.{OnInferior, Forest, OnConsole}
 use Rattle.its_stepped.specs.State.{State, seen, plain}
 use Rattle.its_stepped.proofs.FrameLaws.{changed_only, on_slot_here, on_slot_other}
@@ -36,11 +38,15 @@ pub record ApartJob (j : ℕ) (q : Whole) : Type 0 where
   pub superior : q.superior ≢ Some j
   pub channel : (n s at : ℕ) (write : Bool) → q.channels n ≡ On s write at → s ≢ j
 
+-- no job has a slot past those that there are
+pub forest_few : (m : Machine) → Forest m → (k : ℕ) → slots ≤ k → m.jobs k ≡ None
+forest_few m d k l = let few = limit_few m.version in d.few k (omega arith)
+
 -- a superior has one of the slots that there are
 pub job_few : (m : Machine) → Forest m → (s : ℕ) → is_some (m.jobs s) ≡ true → s < slots
 job_few m d s h = elim (cases_lt s slots) [
   | inl t ↦ t
-  | inr f ↦ absurd (let none : false ≡ true = ap is_some (sym (d.few s f)) ∙ h in cc)
+  | inr f ↦ absurd (let none : false ≡ true = ap is_some (sym (forest_few m d s f)) ∙ h in cc)
 ]
 
 superior_few : (m : Machine) → Forest m → (k : ℕ) → IfSome (superiors m k) (λ s. s < slots)
@@ -123,7 +129,7 @@ forest_starts = record {
 -- a machine with the superiors of another and with all its jobs, whose channels are on inferiors and on the consoles of their
 -- jobs, and whose holders are jobs
 pub record SameTree (m n : Machine) : Type 0 where
-  pub few : (k : ℕ) → slots ≤ k → n.jobs k ≡ None
+  pub few : (k : ℕ) → limit n ≤ k → n.jobs k ≡ None
   pub tree : (k : ℕ) → superiors n k ≡ superiors m k
   pub jobs : (k : ℕ) → is_some (m.jobs k) ≡ true → is_some (n.jobs k) ≡ true
   pub channels : (k i : ℕ) → OnInferior m k (channel_in (n.jobs k) i)
@@ -149,10 +155,10 @@ same_forest m n h d = record {
 }
 
 -- another machine with the same jobs and holders
-jobs_forest : (m n : Machine) → n.jobs ≡ m.jobs → n.holders ≡ m.holders → Forest m → Forest n
-jobs_forest m n e f d = same_forest m n
+jobs_forest : (m n : Machine) → n.jobs ≡ m.jobs → n.holders ≡ m.holders → n.version ≡ m.version → Forest m → Forest n
+jobs_forest m n e f v d = same_forest m n
     (record {
-      few = λ k l. ap (λ (jobs : ℕ → Option Whole). jobs k) e ∙ d.few k l;
+      few = λ k l. ap (λ (jobs : ℕ → Option Whole). jobs k) e ∙ d.few k (subst (λ (i : ℕ). limit_of i ≤ k) v l);
       tree = λ k. ap (λ (jobs : ℕ → Option Whole). superior_in (jobs k)) e;
       jobs = λ k h. ap (λ (jobs : ℕ → Option Whole). is_some (jobs k)) e ∙ h;
       channels = λ k i. subst (λ (jobs : ℕ → Option Whole). OnInferior m k (channel_in (jobs k) i)) (sym e) (d.channels k i);
@@ -279,7 +285,8 @@ shut_keeps : (m : Machine) (j : ℕ) → KeepsOn m j (λ c. Shut)
 shut_keeps m j = record { inferior = λ c h. tt; console = λ c h. tt }
 
 -- a change that keeps jobs as they lie: a channel on a job is opened on an inferior, one on a console where the job has one, a
--- job that exists makes another in a free slot, an inferior is removed, and a console is held by a job
+-- job that exists makes another in a free slot, an inferior is removed, and a console is held by a job; and an alarm that is set is
+-- to come
 abbrev pub CanOpen : Opened → ℕ → Machine → Type 0
 CanOpen (opened.Usr s write) j m = superiors m s ≡ Some j
 CanOpen opened.TtyIn j m = is_some (console_in (m.jobs j)) ≡ true
@@ -287,7 +294,7 @@ CanOpen opened.TtyOut j m = is_some (console_in (m.jobs j)) ≡ true
 CanOpen _ j m = Unit {0}
 
 pub record MakesInferior (s j : ℕ) (m : Machine) : Type 0 where
-  pub few : s < slots
+  pub few : s < limit m
   pub free : m.jobs s ≡ None
   pub maker : is_some (m.jobs j) ≡ true
 
@@ -296,6 +303,7 @@ Fits (changes.Open n on) j m = CanOpen on j m
 Fits (changes.Make s u n) j m = MakesInferior s j m
 Fits (changes.Remove s) j m = superiors m s ≡ Some j
 Fits (changes.Hold c s) j m = is_some (m.jobs s) ≡ true
+Fits (changes.Arm alarm) j m = IfSome alarm (λ a. Coming m.clock a)
 Fits _ j m = Unit {0}
 
 abbrev pub AllFit : List Change → ℕ → Machine → Type 0
@@ -371,6 +379,7 @@ record Made (m n : Machine) (s j : ℕ) : Type 0 where
   shut : (i : ℕ) → channel_in (n.jobs s) i ≡ Shut
   others : (k : ℕ) → k ≢ s → n.jobs k ≡ m.jobs k
   holders : (c : ℕ) → n.holders c ≡ m.holders c
+  version : n.version ≡ m.version
 
 module _ (m n : Machine) (s j : ℕ) (made : Made m n s j) (fits : MakesInferior s j m) (d : Forest m) where
   other_slot : (k : ℕ) → is_some (m.jobs k) ≡ true → k ≢ s
@@ -428,7 +437,9 @@ module _ (m n : Machine) (s j : ℕ) (made : Made m n s j) (fits : MakesInferior
 
   made_forest : Forest n
   made_forest = record {
-    few = λ k l. made.others k (λ at. let few = fits.few in omega (arith, few)) ∙ d.few k l;
+    few = λ k l.
+        let past : limit m ≤ k = subst (λ (i : ℕ). limit_of i ≤ k) made.version l in
+        made.others k (λ at. let few = fits.few in omega (arith, few)) ∙ d.few k past;
     standing = made_standing;
     circle = made_circle;
     channels = made_channels;
@@ -445,6 +456,7 @@ makes m s j u n =
       shut = λ i. ap (λ (o : Option Whole). channel_in o i) only.here;
       others = only.others;
       holders = λ c. refl;
+      version = refl;
     }
 
 -- what OPEN makes is an inferior of the caller
@@ -565,9 +577,9 @@ effect_forest (changes.Shut n) j m f d = job_forest m j _ (channel_keeps m j n (
 effect_forest (changes.Move n at) j m f d = job_forest m j _ (channel_keeps m j n (at_position at) (moved_keeps m j at)) d
 effect_forest (changes.Append n x) j m f d = job_forest m j _ (channel_keeps m j n (with_word x) (word_keeps m j x)) d
 effect_forest (changes.Close n) j m f d =
-    jobs_forest (in_job m j (on_channel n (λ c. Shut))) _ refl refl (job_forest m j _ (channel_keeps m j n (λ c. Shut) (shut_keeps m j)) d)
-effect_forest (changes.Take c) j m f d = jobs_forest m _ refl refl d
-effect_forest (changes.Put c b) j m f d = jobs_forest m _ refl refl d
+    jobs_forest (in_job m j (on_channel n (λ c. Shut))) _ refl refl refl (job_forest m j _ (channel_keeps m j n (λ c. Shut) (shut_keeps m j)) d)
+effect_forest (changes.Take c) j m f d = jobs_forest m _ refl refl refl d
+effect_forest (changes.Put c b) j m f d = jobs_forest m _ refl refl refl d
 effect_forest (changes.Hold c s) j m f d = held_forest m c s f d
 effect_forest (changes.Poke s a x) j m f d = job_forest m s _ (calm m s _ (λ q. refl) (λ q. refl) (λ q is. refl)) d
 effect_forest (changes.Set s v x) j m f d = job_forest m s _ (calm m s _ (λ q. refl) (λ q. refl) (λ q is. variable_console v x q.job)) d
@@ -577,8 +589,9 @@ effect_forest (changes.Protect s k on) j m f d = job_forest m s _ (calm m s _ (�
 effect_forest (changes.Make s u n) j m f d = made_forest m _ s j (makes m s j u n) f d
 effect_forest (changes.Remove s) j m f d = removed_forest m s d
 effect_forest (changes.Inform s) j m f d = job_forest m s _ (calm m s _ (λ q. refl) (λ q. refl) (λ q is. refl)) d
-effect_forest (changes.Delete x y z) j m f d = jobs_forest m _ refl refl d
-effect_forest (changes.Rename x y z u v) j m f d = jobs_forest m _ refl refl d
+effect_forest (changes.Arm alarm) j m f d = job_forest m j _ (calm m j _ (λ q. refl) (λ q. refl) (λ q is. refl)) d
+effect_forest (changes.Delete x y z) j m f d = jobs_forest m _ refl refl refl d
+effect_forest (changes.Rename x y z u v) j m f d = jobs_forest m _ refl refl refl d
 
 effects_forest : (cs : List Change) (j : ℕ) (m : Machine) → AllFit cs j m → Forest m → Forest (effects cs j m)
 effects_forest [] j m f d = d
@@ -615,7 +628,7 @@ acted_forest m j a ks (Ends cs ss e) f d =
 acted_forest m j a ks (Gone cs) f d = effects_forest cs.items j (effect (changes.Remove j) j m) f.0 (gone_forest m j j d)
 
 -- a step
-informs_fit : (b : Bool) (o : Option ℕ) (j : ℕ) (m : Machine) → AllFit (informs b o) j m
+pub informs_fit : (b : Bool) (o : Option ℕ) (j : ℕ) (m : Machine) → AllFit (informs b o) j m
 informs_fit true (Some s) j m = (tt, tt)
 informs_fit true None j m = tt
 informs_fit false o j m = tt

@@ -3,14 +3,14 @@ use Rattle.std.specs.Prelude.{if◌then◌else◌, ◌==◌, ◌≡◌, ◌≢�
 use Rattle.std.specs.List.{range_with_len}
 use Rattle.std.proofs.Common.{sym, ◌∙◌, ap, inl, inr}
 use Rattle.std.proofs.lemmas.Bool.{cases_eq, eq-eqb, ne_eqb}
-use Rattle.its_word.specs.Core.{Core, word_at, can_store, store, pages_present, pages_mapped}
+use Rattle.its_word.specs.Core.{Core, Page, page_stored, word_at, can_store, store, page_of, pages_present, pages_mapped}
 use Rattle.its_word.specs.Limits.{slots}
 use Rattle.its_word.specs.Only.{Only}
 use Rattle.its_word.specs.declared.calls.Exit.{Exit}
 use Rattle.its_word.specs.declared.calls.Owed.{Owed}
 use Rattle.its_word.specs.declared.calls.Owed.TheVariants as owed
 use Rattle.its_word.specs.declared.plan.Store.{Store}
-use Rattle.its_word.proofs.CoreLaws.{can_store-store, is_some-store}
+use Rattle.its_word.proofs.CoreLaws.{page_alike, can_store-store, is_some-store}
 use Rattle.its_word.proofs.PageLaws.{pages_present-store}
 use Rattle.its_frame.specs.declared.frame.Frame.{Frame}
 use Rattle.its_frame.specs.declared.frame.Frame.TheVariants.{Entered, Parsed, Asked, Holding, Waiting, Moving, Ending}
@@ -100,6 +100,14 @@ seen_can_store f q a =
 pub seen_present : (f : Option Frame) (q : Whole) (a : ℕ) → is_some (word_at (seen f q).core a) ≡ is_some (word_at q.core a)
 seen_present f q a =
     seen_alike (λ p. is_some (word_at p.core a)) (λ s p. ap (λ c. is_some (word_at c a)) (stored_one p.core s) ∙ is_some-store p.core (place s) a s.word) (λ e p. refl) f q
+
+page_stored_some : (p : Option Page) (i w : ℕ) → is_some (page_stored p i w) ≡ is_some p
+page_stored_some (Some p) i w = refl
+page_stored_some None i w = refl
+
+pub seen_page : (f : Option Frame) (q : Whole) (k : ℕ) → is_some (page_of (seen f q).core k) ≡ is_some (page_of q.core k)
+seen_page f q k =
+    seen_alike (λ p. is_some (page_of p.core k)) (λ s p. ap (λ c. is_some (page_of c k)) (stored_one p.core s) ∙ page_alike is_some page_stored_some p.core (place s) s.word k) (λ e p. refl) f q
 
 -- the pages of all jobs
 core_pages : (f : Option Frame) (o : Option Whole) → pages_present (core_of (option_map (seen f) o)) ≡ pages_present (core_of o)

@@ -11,7 +11,7 @@ use Rattle.its_word.specs.declared.calls.Site.{Site}
 use Rattle.its_frame.specs.declared.frame.Frame.{Frame}
 use Rattle.its_frame.specs.declared.frame.Frame.TheVariants.{Entered, Parsed, Asked, Holding, Waiting, Moving, Ending}
 use Rattle.its_frame.specs.declared.name.CallName.{CallName}
-use Rattle.its_frame.specs.declared.name.CallName.TheVariants.{Hang, Sleep, Dismis, Usrvar, Logout, Open, Close, Iot, Siot, Finish, Listen, Ttylnd, Access, Fillen, Delete, Rename, Usrmem, Uclose, Corblk}
+use Rattle.its_frame.specs.declared.name.CallName.TheVariants.{Hang, Sleep, Dismis, Usrvar, Logout, Open, Close, Iot, Siot, Finish, Listen, Ttylnd, Access, Fillen, Delete, Rename, Usrmem, Uclose, Corblk, Realt}
 use Rattle.its_plain.specs.Arguments.{debts}
 use Rattle.its_plain.specs.CallStep.{among, decision}
 use Rattle.its_plain.specs.Change.{superiors}
@@ -29,7 +29,7 @@ use Rattle.its_stepped.specs.Forest.{Forest}
 use Rattle.its_stepped.specs.Duty.{Duty, Meets, GivenBy, Given}
 use Rattle.its_stepped.specs.Calling.{Decoding, Calling}
 use Rattle.its_stepped.proofs.FrameLaws.{seen_superior}
-use Rattle.its_stepped.proofs.UnwindLaws.{all_unwound_none}
+use Rattle.its_stepped.proofs.UnwindLaws.{filtered_out, all_unwound_none}
 use Rattle.its_stepped.proofs.HelpLaws.{helped_if_others, help_unmarked}
 use Rattle.its_stepped.proofs.EffectLaws.{superiors_plain}
 use Rattle.its_stepped.proofs.OverLaws.{can_stored, debts_alike}
@@ -38,7 +38,7 @@ use Rattle.its_stepped.proofs.ForestLaws.{forest_below, apart_job}
 use Rattle.its_stepped.proofs.LineLaws.{free_frame}
 use Rattle.its_stepped.proofs.TargetLaws.{target_inferior}
 use Rattle.its_stepped.proofs.TestLaws.{fails_duty}
-use Rattle.its_stepped.proofs.CallDuties.{hang_duty, sleep_duty, dismiss_duty}
+use Rattle.its_stepped.proofs.CallDuties.{hang_duty, sleep_duty, dismiss_duty, realt_duty}
 use Rattle.its_stepped.proofs.UsrvarDuty.{usrvar_duty}
 use Rattle.its_stepped.proofs.LogoutDuty.{logout_duty}
 use Rattle.its_stepped.proofs.TtyDuty.{named_waits, ttylnd_duty, answering_duty}
@@ -78,6 +78,7 @@ named_duty d m v j x s a n (Some Rename) c here same e z = rename_duty m v j x s
 named_duty d m v j x s a n (Some Usrmem) c here same e z = usrmem_duty m v j x s a n c e z
 named_duty d m v j x s a n (Some Uclose) c here same e z = uclose_duty m v j x s a n c e z
 named_duty d m v j x s a n (Some Corblk) c here same e z = corblk_duty m v j x s a n c here e z
+named_duty d m v j x s a n (Some Realt) c here same e z = realt_duty m v j x s a n c
 named_duty d m v j x s a n _ c here same e z = fails_duty m v j x s a n 0o1 c
 
 pub decided_duty : (d : Decoding) (m : Machine) (v : State) (j : ℕ) (x : View) (s : Site) (a : Ask) (n : ℕ) → Calling m v j x.own s a n → x.slot ≡ j → Outlined m x
@@ -100,14 +101,6 @@ neither false c d h e = h e
 among_neither : (k : ℕ) (xs ys : List ℕ) → among k xs ≡ false → among k ys ≡ false → among k (xs ++ ys) ≡ false
 among_neither k [] ys h e = e
 among_neither k (i ∷ xs) ys h e = neither (i == k) (among k xs) (among k (xs ++ ys)) (λ t. among_neither k xs ys t e) h
-
-kept_out : (p : ℕ → Bool) (k i : ℕ) (ys : List ℕ) (b : Bool) → p k ≡ false → p i ≡ b → among k ys ≡ false → among k (if b then i ∷ ys else ys) ≡ false
-kept_out p k i ys true h e t = let ne : i ≢ k = λ same. (let g : p i ≡ p k = ap p same in cc) in rw (ne_eqb i k ne) t
-kept_out p k i ys false h e t = t
-
-filtered_out : (p : ℕ → Bool) (k : ℕ) (xs : List ℕ) → p k ≡ false → among k (filter p xs) ≡ false
-filtered_out p k [] h = refl
-filtered_out p k (i ∷ xs) h = kept_out p k i (filter p xs) (p i) h refl (filtered_out p k xs h)
 
 pub below_itself : (sup : ℕ → Option ℕ) (j : ℕ) → is_below sup j j ≡ false
 unfolding is_below

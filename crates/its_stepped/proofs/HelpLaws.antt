@@ -23,7 +23,7 @@ help_others w k = record { job = refl; frame = refl; page = refl }
 
 pub help_shared : (w : State) → Shares w (help w)
 unfolding help helped
-help_shared w = record { consoles = refl; holders = refl; clock = refl; files = refl }
+help_shared w = record { consoles = refl; holders = refl; clock = refl; version = refl; symbols = refl; files = refl }
 
 pub help_unmarked : (w : State) → (help w).mark ≡ None
 unfolding help

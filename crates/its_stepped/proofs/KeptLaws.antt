@@ -1,9 +1,10 @@
 -- A line of a session keeps the stepped machine sound, and the frame of each slot that it does not disturb
 -- (docs/STEPS.md, "Lines").
-use Rattle.std.specs.Prelude.{◌≡◌, ◌≢◌, ℕ, ◌+◌, Bool, true, false, Option, Some, None, List, [], ◌∷◌, Result, Ok, Err, is_some, nat_lt, refl}
-use Rattle.std.proofs.Common.{sym, ◌∙◌, subst, inl, inr}
-use Rattle.std.proofs.lemmas.Bool.{cases_eq, eq-eqb}
-use Rattle.its_word.specs.Core.{Core, word_at, can_store}
+use Rattle.std.specs.Prelude.{◌≡◌, ◌≢◌, ℕ, ◌+◌, ◌==◌, Bool, true, false, Option, Some, None, List, [], ◌∷◌, Result, Ok, Err, is_some, length, nat_lt, refl}
+use Rattle.std.proofs.Common.{sym, ◌∙◌, ap, subst, inl, inr}
+use Rattle.std.proofs.lemmas.Bool.{cases_Bool, cases_eq, eq-eqb}
+use Rattle.its_word.specs.Core.{Core, Page, page_of, word_at, can_store}
+use Rattle.its_word.specs.Limits.{most_symbols}
 use Rattle.its_word.specs.Tree.{least_free}
 use Rattle.its_word.specs.declared.jobs.Job.{Job}
 use Rattle.its_word.specs.declared.session.Event.{Event}
@@ -13,24 +14,28 @@ use Rattle.its_word.specs.declared.show.JobShow.{JobShow}
 use Rattle.its_word.proofs.FreeLaws.{least_empty}
 use Rattle.its_frame.specs.declared.frame.Frame.{Frame}
 use Rattle.its_print.specs.Printing.{Line}
-use Rattle.its_plain.specs.Machine.{File, Whole, Machine, with_job, mapped}
+use Rattle.its_plain.specs.Machine.{File, Symbol, Whole, Machine, with_job, mapped, limit}
 use Rattle.its_plain.specs.Operator.{Block, Refuses, Does, Ticks, Quits, nobody, only, and_then, disturbs, quietly}
-use Rattle.its_plain.specs.OperatorJobs.{new_job, with_holder, loaded_in, loaded, stored, with_core, word_loaded_of, word_loaded, words_loaded, on_job, with_registers, on_registers, started, interrupted, stopped, continued, examined, state_shown, deposited_in, deposited}
-use Rattle.its_plain.specs.OperatorLines.{by_load, by_exam, by_state, operate, shows, Lined, Done, Peeks, peeked_at, lined}
-use Rattle.its_plain.specs.OperatorClock.{clock_end, clocked_if, clocked}
+use Rattle.its_plain.specs.OperatorJobs.{new_job, with_holder, loaded_in, loaded, stored, with_core, word_loaded_of, word_loaded, words_stored, words_barred, words_loaded_if, words_loaded, page_protected_in, page_protected, on_job, with_registers, on_registers, started, interrupted, stopped, continued, examined, state_shown, deposited_in, deposited}
+use Rattle.its_plain.specs.OperatorLines.{by_load, by_exam, by_state, by_clock, operate, shows, Lined, Done, Peeks, peeked_at, lined}
+use Rattle.its_plain.specs.Change.{protected}
+use Rattle.its_plain.specs.OperatorSymbols.{symbol_kept_if, symbol_kept_of, symbol_kept}
+use Rattle.its_plain.specs.OperatorVersion.{versioned}
+use Rattle.its_plain.specs.OperatorClock.{due, due_slots, rung_if, at_clock, clock_end, clocked_if, clocked}
 use Rattle.its_plain.specs.OperatorConsoles.{typed, drained}
 use Rattle.its_plain.specs.Own.{names_of}
 use Rattle.its_plain.specs.OperatorFiles.{with_files, file_made, words_added, file_shown}
 use Rattle.its_plain.proofs.CallLineLaws.{FilesAlone, made_files, added_files}
-use Rattle.its_stepped.specs.State.{State}
-use Rattle.its_stepped.specs.Unwind.{unwound, help}
-use Rattle.its_stepped.specs.Sound.{SoundBy, Sound}
+use Rattle.its_stepped.specs.State.{State, plain}
+use Rattle.its_stepped.specs.Unwind.{unwound, all_unwound, help}
+use Rattle.its_stepped.specs.Sound.{SoundBy, SoundSlot, Sound}
 use Rattle.its_stepped.specs.Lines.{calmed, with_raw}
 use Rattle.its_stepped.proofs.FrameLaws.{changed_only}
 use Rattle.its_stepped.proofs.HelpLaws.{help_sound, help_others}
-use Rattle.its_stepped.proofs.UnwindLaws.{unwound_sound, unwound_none, unwound_others}
+use Rattle.its_stepped.proofs.DueLaws.{due_same, clock_same, Hushed, undue_frame}
+use Rattle.its_stepped.proofs.UnwindLaws.{unwound_sound, unwound_none, unwound_others, all_unwound_plain, all_unwound_sound}
 use Rattle.its_stepped.proofs.CommitSound.{user_sound}
-use Rattle.its_stepped.proofs.LineLaws.{free_frame}
+use Rattle.its_stepped.proofs.LineLaws.{free_frame, calmed_hushed}
 
 -- the jobs of all slots but one are the same
 pub record Off (m n : Machine) (s : ℕ) : Type 0 where
@@ -91,13 +96,33 @@ off_then : (m n : Machine) (s : ℕ) (r : Result Machine Reason) → Off m n s �
 off_then m n s (Ok l) a b = record { others = λ k ne. b.others k ne ∙ a.others k ne }
 off_then m n s (Err r) a b = tt
 
-words_off : (m : Machine) (s a : ℕ) (ws : List ℕ) → OffBy m s (words_loaded m s a ws)
-words_off m s a [] = record { others = λ k ne. refl }
-words_off m s a (w ∷ ws) = go (word_loaded m s a w) (word_off m s a w) (λ n. words_off n s (a + 1) ws)
+words_stored_off : (m : Machine) (s a : ℕ) (ws : List ℕ) → OffBy m s (words_stored m s a ws)
+words_stored_off m s a [] = record { others = λ k ne. refl }
+words_stored_off m s a (w ∷ ws) = go (word_loaded m s a w) (word_off m s a w) (λ n. words_stored_off n s (a + 1) ws)
   where
-    go : (r : Result Machine Reason) → OffBy m s r → ((n : Machine) → OffBy n s (words_loaded n s (a + 1) ws)) → OffBy m s (and_then r (λ n. words_loaded n s (a + 1) ws))
-    go (Ok n) off h = off_then m n s (words_loaded n s (a + 1) ws) off (h n)
+    go : (r : Result Machine Reason) → OffBy m s r → ((n : Machine) → OffBy n s (words_stored n s (a + 1) ws)) → OffBy m s (and_then r (λ n. words_stored n s (a + 1) ws))
+    go (Ok n) off h = off_then m n s (words_stored n s (a + 1) ws) off (h n)
     go (Err r) off h = tt
+
+words_off_if : (m : Machine) (s a : ℕ) (ws : List ℕ) (barred : Bool) → OffBy m s (words_loaded_if m s a ws barred)
+words_off_if m s a ws true = tt
+words_off_if m s a ws false = words_stored_off m s a ws
+
+words_off : (m : Machine) (s a : ℕ) (ws : List ℕ) → OffBy m s (words_loaded m s a ws)
+unfolding words_loaded
+words_off m s a ws = words_off_if m s a ws (words_barred m s a (length ws))
+
+page_off : (m : Machine) (s k : ℕ) → OffBy m s (page_protected m s k)
+unfolding page_protected
+page_off m s k = go (m.jobs s)
+  where
+    put : (q : Whole) (p : Option Page) → OffBy m s (page_protected_in m s k q p)
+    put q (Some p) = put_off m s (protected k false q)
+    put q None = tt
+
+    go : (o : Option Whole) → OffBy m s (on_job m s (λ q. page_protected_in m s k q (page_of q.core k)) o)
+    go (Some q) = put q (page_of q.core k)
+    go None = tt
 
 -- what a line leaves that comes to machine m in state v, and w is the state before it
 pub record Kept (w v : State) (m : Machine) (touched : ℕ → Bool) : Type 0 where
@@ -141,17 +166,58 @@ held_off : (m : Machine) (s : ℕ) (q : Whole) (console : Option ℕ) → Off m 
 held_off m s q (Some c) = record { others = (put_off m s q).others }
 held_off m s q None = put_off m s q
 
-load_kept : (w : State) (b : Block) (u j : ℕ) (console o : Option ℕ) → Sound w → least_free w.raw.jobs ≡ o → KeptBy w w (Done (by_load b (loaded_in w.raw u j console o)))
+load_kept : (w : State) (b : Block) (u j : ℕ) (console o : Option ℕ) → Sound w → least_free (limit w.raw) w.raw.jobs ≡ o → KeptBy w w (Done (by_load b (loaded_in w.raw u j console o)))
 load_kept w b u j console (Some s) sound is = record {
-  sound = off_sound w (with_holder (with_job w.raw s (new_job u j console)) s console) s sound (free_frame w s sound (least_empty w.raw.jobs s is))
+  sound = off_sound w (with_holder (with_job w.raw s (new_job u j console)) s console) s sound (free_frame w s sound (least_empty (limit w.raw) w.raw.jobs s is))
       (held_off w.raw s (new_job u j console) console);
   spares = λ k h. refl;
 }
 load_kept w b u j console None sound is = tt
 
-clock_kept : (w : State) (b : Block) (n : ℕ) (fits : Bool) → Sound w → KeptBy w w (Done (quietly b (clocked_if w.raw n fits)))
-clock_kept w b n true sound = record { sound = record { each = sound.each; mark = sound.mark }; spares = λ k h. refl }
-clock_kept w b n false sound = tt
+symbol_kept_by : (w : State) (b : Block) (s : ℕ) (x : Symbol) (room : Bool) → Sound w → KeptBy w w (Done (quietly b (symbol_kept_if w.raw s x room)))
+symbol_kept_by w b s x true sound = record { sound = record { each = sound.each; mark = sound.mark }; spares = λ k h. refl }
+symbol_kept_by w b s x false sound = tt
+
+symbol_line_kept : (w : State) (b : Block) (s name a : ℕ) → Sound w → KeptBy w w (Done (quietly b (symbol_kept w.raw s name a)))
+unfolding symbol_kept
+symbol_line_kept w b s name a sound = go (w.raw.jobs s)
+  where
+    go : (o : Option Whole) → KeptBy w w (Done (quietly b (symbol_kept_of w.raw s (name, a) o)))
+    go (Some q) = symbol_kept_by w b s (name, a) (nat_lt (length (w.raw.symbols s)) most_symbols) sound
+    go None = tt
+
+version_kept : (w : State) (v : ℕ) → Sound w → Kept w w (versioned w.raw v) nobody
+unfolding versioned
+version_kept w v sound = elim (cases_Bool (v == 2)) [
+  | inl is ↦ rw is (record { sound = record { each = sound.each; mark = sound.mark }; spares = λ k h. refl })
+  | inr is ↦ rw is (record { sound = sound; spares = λ k h. refl })
+]
+
+-- CLOCK: the jobs whose alarm goes are in user mode, and no other job changes
+rung_sound : (c : ℕ) (b : Bool) (o : Option Whole) (f : Option Frame) (r : Option ℕ) → (b ≡ true → f ≡ None) → SoundSlot o f r → SoundSlot (rung_if c b o) f r
+rung_sound c true o f r h s = user_sound (rung_if c true o) f r (h refl) (user_page o f r (h refl) s.by)
+rung_sound c false o f r h s = s
+
+at_sound : (v : State) (c : ℕ) → Hushed c v → Sound v → Sound (with_raw v (at_clock c v.raw))
+at_sound v c hushed sound = record {
+  each = λ k. rung_sound c (due c v.raw.jobs k) (v.raw.jobs k) (v.frames k) (v.reserved k) (hushed.each k) (sound.each k);
+  mark = sound.mark;
+}
+
+clock_kept : (w v : State) (b : Block) (n : ℕ) (fits : Bool) → Hushed (v.raw.clock + n) v → Sound v → ((k : ℕ) → due (v.raw.clock + n) v.raw.jobs k ≡ false → v.frames k ≡ w.frames k)
+    → KeptBy w v (Done (by_clock v.raw b n (clocked_if v.raw n fits)))
+clock_kept w v b n true hushed sound spares = record { sound = at_sound v (v.raw.clock + n) hushed sound; spares = spares }
+clock_kept w v b n false hushed sound spares = tt
+
+due_unwound : (w : State) (n k : ℕ) → Sound w
+    → let v = all_unwound (due_slots (w.raw.clock + n) w.raw.jobs) w in
+    due (v.raw.clock + n) v.raw.jobs k ≡ false → v.frames k ≡ w.frames k
+due_unwound w n k sound h =
+    let c = w.raw.clock + n in
+    let v = all_unwound (due_slots c w.raw.jobs) w in
+    let same : plain v ≡ plain w = all_unwound_plain (due_slots c w.raw.jobs) w sound in
+    undue_frame w c k
+    (ap (λ (f : ℕ → Bool). f k) (sym (due_same w v c same)) ∙ ap (λ (t : ℕ). due (t + n) v.raw.jobs k) (sym (clock_same w v same)) ∙ h)
 
 -- a line that looks at files, which makes the parts of a close and changes the directory alone
 files_sound : (v : State) (fs : List File) → Sound v → Sound (with_raw v (with_files v.raw fs))
@@ -181,11 +247,21 @@ peek_kept : (w : State) (s : ℕ) (o : Option Whole) → KeptBy w w (peeked_at s
 peek_kept w s (Some q) = tt
 peek_kept w s None = tt
 
+hushed_for : (w : State) (b : Block) (n : ℕ) → Sound w
+    → let v = all_unwound (due_slots (w.raw.clock + n) w.raw.jobs) w in
+    Hushed (v.raw.clock + n) v
+unfolding calmed
+hushed_for w b n sound = calmed_hushed w b (events.Clock n) sound
+
 pub line_kept : (w : State) (b : Block) (e : Event) → Sound w → KeptBy w (calmed w b e) (lined (calmed w b e).raw b e)
 unfolding lined operate calmed loaded clocked
-line_kept w b (events.Load u j console) sound = load_kept w b u j console (least_free w.raw.jobs) sound refl
+line_kept w b (events.Load u j console) sound = load_kept w b u j console (least_free (limit w.raw) w.raw.jobs) sound refl
 line_kept w b (events.Words a words) sound =
     disturbs_kept w b.slot b (words_loaded (unwound w b.slot).raw b.slot a words.items) sound (words_off (unwound w b.slot).raw b.slot a words.items)
+line_kept w b (events.Version v) sound = version_kept w v sound
+line_kept w b (events.ReadOnly page) sound =
+    disturbs_kept w b.slot b (page_protected (unwound w b.slot).raw b.slot page) sound (page_off (unwound w b.slot).raw b.slot page)
+line_kept w b (events.Symbol name a) sound = symbol_line_kept w b b.slot name a sound
 line_kept w b (events.Go a) sound =
     disturbs_kept w b.slot b (on_registers (unwound w b.slot).raw b.slot (started a)) sound (registers_off (unwound w b.slot).raw b.slot (started a))
 line_kept w b (events.Int s x y) sound = disturbs_kept w s b (on_registers (unwound w s).raw s (interrupted x y)) sound (registers_off (unwound w s).raw s (interrupted x y))
@@ -194,7 +270,10 @@ line_kept w b (events.Cont s) sound = disturbs_kept w s b (on_registers (unwound
 line_kept w b (events.Deposit s a x) sound = disturbs_kept w s b (deposited (unwound w s).raw s a x) sound (deposited_off (unwound w s).raw s a x)
 line_kept w b (events.Exam s a n) sound = exam_kept w s a b (examined (unwound w s).raw s a n) sound
 line_kept w b (events.State s) sound = show_kept w s b (state_shown (unwound w s).raw s) sound
-line_kept w b (events.Clock n) sound = clock_kept w b n (nat_lt (w.raw.clock + n) clock_end) sound
+line_kept w b (events.Clock n) sound =
+    let v = all_unwound (due_slots (w.raw.clock + n) w.raw.jobs) w in
+    clock_kept w v b n (nat_lt (v.raw.clock + n) clock_end) (hushed_for w b n sound) (all_unwound_sound (due_slots (w.raw.clock + n) w.raw.jobs) w sound)
+    (λ k h. due_unwound w n k sound h)
 line_kept w b (events.Peek s) sound = peek_kept w s (w.raw.jobs s)
 line_kept w b (events.Tick s n) sound = tt
 line_kept w b events.Nothing sound = record { sound = sound; spares = λ k h. refl }

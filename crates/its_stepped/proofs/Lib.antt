@@ -5,6 +5,7 @@ pub mod RowLaws
 pub mod UnwindRows
 pub mod EndingRows
 pub mod UnwindLaws
+pub mod DueLaws
 pub mod HelpLaws
 pub mod OverLaws
 pub mod OwnLaws
@@ -51,3 +52,4 @@ pub mod TriedLaws
 pub mod OneByteLaws
 pub mod PcLaws
 pub mod StretchLaws
+pub mod AlarmLaws

@@ -3,6 +3,7 @@ use Rattle.std.specs.Prelude.{◌≡◌, ℕ, Option, Some, None, List, [], ◌�
 use Rattle.its_word.specs.Core.{no_core, word_at}
 use Rattle.its_word.specs.Directory.{File, same_names}
 use Rattle.its_word.specs.Item.{Read}
+use Rattle.its_word.specs.Limits.{limit_of}
 use Rattle.its_word.specs.Tree.{free_from, least_free, fresh_job}
 use Rattle.its_word.specs.declared.calls.Ask.{Ask}
 use Rattle.its_word.specs.declared.calls.Operand.{Operand}
@@ -17,7 +18,7 @@ use Rattle.its_frame.specs.declared.frame.Frame.{Frame}
 use Rattle.its_print.specs.Printing as printed
 use Rattle.its_plain.specs.Operator.{no_block, Does}
 use Rattle.its_plain.specs.OperatorJobs.{loaded, on_registers}
-use Rattle.its_plain.specs.OperatorClock.{clocked}
+use Rattle.its_plain.specs.OperatorClock.{due_slots, clocked}
 use Rattle.its_plain.specs.OperatorLines.{operate, Lined, Done, lined}
 use Rattle.its_plain.specs.Machine.{no_machine, with_jobs, whole}
 use Rattle.its_frame.specs.Calls.{sixbit, call_named}
@@ -26,7 +27,7 @@ use Rattle.its_plain.specs.CallFile.{blocks_of_drafts}
 use Rattle.its_plain.specs.OperatorFiles.{file_made, word_added, files_in, file_shown}
 use Rattle.its_plain.specs.Transcript.{Ended, Open, Lost}
 use Rattle.its_stepped.specs.State.{LinkNew, FreeOld, State, helped, no_state, parsed, waiting, moving, ending}
-use Rattle.its_stepped.specs.Unwind.{help, left, unwound, unwind_times}
+use Rattle.its_stepped.specs.Unwind.{help, left, unwound, all_unwound, unwind_times}
 use Rattle.its_stepped.specs.Tick.{tick}
 use Rattle.its_stepped.specs.Lines.{peeked, calmed, told, stepped}
 
@@ -38,7 +39,7 @@ idle : stepped (Read (events.Load 1 2 None) ∷ Read (events.Peek 0) ∷ Read (e
       ∷ [];
   fate = Ended;
 }
-unfolding lined operate loaded least_free free_from calmed tick unwound unwind_times left on_registers clocked peeked no_state no_machine fresh_job
+unfolding lined operate loaded least_free limit_of free_from calmed tick unwound unwind_times all_unwound left on_registers due_slots clocked peeked no_state no_machine fresh_job
 idle = refl
 
 -- an empty slot, and a clock that would reach its end
@@ -47,7 +48,7 @@ unfolding lined operate calmed no_state no_machine
 empty = refl
 
 late : stepped (Read (events.Clock 0o177777777777) ∷ Read (events.Clock 1) ∷ []) ≡ record { lines = printed.Refused 2 reasons.Range ∷ []; fate = Lost }
-unfolding lined operate calmed clocked no_state no_machine
+unfolding lined operate calmed due_slots all_unwound clocked no_state no_machine
 late = refl
 
 -- a console of a job: bytes that wait as input, as many as have room, and no output
@@ -58,7 +59,7 @@ talk : stepped (Read (events.Load 1 2 (Some 3)) ∷ Read (events.TypeIn 3 (recor
   lines = printed.Loaded 0 ∷ printed.Typed 3 0 ∷ printed.Typed 3 2 ∷ printed.Drained 3 [] ∷ [];
   fate = Ended;
 }
-unfolding lined operate loaded least_free free_from calmed no_state no_machine fresh_job
+unfolding lined operate loaded least_free limit_of free_from calmed no_state no_machine fresh_job
 talk = refl
 
 -- the first job that LOAD makes with a console holds it, and one that it makes later does not
@@ -67,11 +68,11 @@ holder_after (Done (Does m out touched b)) c = m.holders c
 holder_after l c = None
 
 first_load : holder_after (lined no_machine no_block (events.Load 1 2 (Some 3))) 3 ≡ Some 0
-unfolding lined operate loaded least_free free_from no_machine
+unfolding lined operate loaded least_free limit_of free_from no_machine
 first_load = refl
 
 later_load : holder_after (lined (record no_machine { holders = λ c. Some 7 }) no_block (events.Load 1 2 (Some 3))) 3 ≡ Some 7
-unfolding lined operate loaded least_free free_from no_machine
+unfolding lined operate loaded least_free limit_of free_from no_machine
 later_load = refl
 
 -- what is drained is shown, and only the rest waits

@@ -1,9 +1,10 @@
 -- A line of a session is the same on the stepped machine and on the plain one that it stands for (docs/STEPS.md,
 -- "Lines").
-use Rattle.std.specs.Prelude.{◌≡◌, ℕ, ◌+◌, Bool, true, false, Option, Some, None, IfSome, List, [], ◌∷◌, ◌++◌, Result, Ok, Err, option_map, is_some, length, nat_lt, refl}
+use Rattle.std.specs.Prelude.{◌≡◌, ℕ, ◌+◌, ◌==◌, Bool, true, false, Option, Some, None, IfSome, List, [], ◌∷◌, ◌++◌, Result, Ok, Err, option_map, is_some, length, nat_lt, refl}
 use Rattle.std.proofs.Common.{sym, ◌∙◌, ap, subst, inl, inr}
-use Rattle.std.proofs.lemmas.Bool.{cases_eq, eq-eqb, ne_eqb}
-use Rattle.its_word.specs.Core.{Core, word_at, can_store}
+use Rattle.std.proofs.lemmas.Bool.{cases_Bool, cases_eq, eq-eqb, ne_eqb}
+use Rattle.its_word.specs.Core.{Core, Page, page_of, word_at, can_store}
+use Rattle.its_word.specs.Limits.{most_symbols}
 use Rattle.its_word.specs.Directory.{with_changed, longer}
 use Rattle.its_word.specs.Tree.{least_free}
 use Rattle.its_word.specs.declared.jobs.Job.{Job}
@@ -14,11 +15,14 @@ use Rattle.its_word.specs.declared.show.JobShow.{JobShow}
 use Rattle.its_word.proofs.FreeLaws.{least_alike, least_empty}
 use Rattle.its_frame.specs.declared.frame.Frame.{Frame}
 use Rattle.its_print.specs.Printing.{Line}
-use Rattle.its_plain.specs.Machine.{Names, File, Whole, Machine, changed, with_job, mapped, words_at}
+use Rattle.its_plain.specs.Machine.{Names, File, Symbol, Whole, Machine, changed, with_job, mapped, words_at, limit}
 use Rattle.its_plain.specs.Operator.{Block, Does, nobody, and_then, disturbs, quietly}
-use Rattle.its_plain.specs.OperatorJobs.{new_job, with_holder, loaded_in, loaded, stored, with_core, word_loaded_of, word_loaded, words_loaded, on_job, with_registers, on_registers, started, interrupted, stopped, continued, seen, examined, shown, state_shown, deposited_in, deposited}
-use Rattle.its_plain.specs.OperatorLines.{by_load, by_exam, by_state, operate, shows, Done, peeked_at, lined}
-use Rattle.its_plain.specs.OperatorClock.{clock_end, clocked_if, clocked}
+use Rattle.its_plain.specs.OperatorJobs.{new_job, with_holder, loaded_in, loaded, stored, with_core, word_loaded_of, word_loaded, words_stored, barred_in, words_barred, words_loaded_if, words_loaded, page_protected_in, page_protected, on_job, with_registers, on_registers, started, interrupted, stopped, continued, seen, examined, shown, state_shown, deposited_in, deposited}
+use Rattle.its_plain.specs.OperatorLines.{by_load, by_exam, by_state, by_clock, operate, shows, Done, peeked_at, lined}
+use Rattle.its_plain.specs.Change.{protected}
+use Rattle.its_plain.specs.OperatorSymbols.{symbol_shown, symbol_kept_if, symbol_kept_of, symbol_kept}
+use Rattle.its_plain.specs.OperatorVersion.{versioned}
+use Rattle.its_plain.specs.OperatorClock.{due, due_slots, at_clock, clock_end, clocked_if, clocked}
 use Rattle.its_plain.specs.Own.{names_of}
 use Rattle.its_plain.specs.CallFile.{most_files, is_full, file_named, has_file}
 use Rattle.its_plain.specs.OperatorFiles.{channels_of, file_made_if, file_made, word_added_if, word_added_to, word_added, words_added, files_in, listing, shown_by, file_shown}
@@ -26,13 +30,14 @@ use Rattle.its_plain.proofs.MachineLaws.{jobs_are}
 use Rattle.its_stepped.specs.State.{State, seen_jobs, plain}
 use Rattle.its_stepped.specs.State as state
 use Rattle.its_stepped.specs.Sound.{SoundBy, Sound}
-use Rattle.its_stepped.specs.Unwind.{unwound}
+use Rattle.its_stepped.specs.Unwind.{unwound, all_unwound}
 use Rattle.its_stepped.specs.Tick.{helped_if}
-use Rattle.its_stepped.specs.Lines.{called_on, unwound_at, looks_at_files, calmed, with_raw, lifted, lifted_line}
+use Rattle.its_stepped.specs.Lines.{called_on, unwound_at, unwound_for, looks_at_files, calmed, with_raw, lifted, lifted_line}
 use Rattle.its_stepped.proofs.FrameLaws.{mapped_plain}
 use Rattle.its_stepped.proofs.EffectLaws.{channel_seen, unmarked_files, files_plain}
 use Rattle.its_stepped.proofs.HelpLaws.{helped_if_plain, helped_if_sound, helped_if_others, helped_if_unmarked}
-use Rattle.its_stepped.proofs.UnwindLaws.{unwound_plain, unwound_sound, unwound_none}
+use Rattle.its_stepped.proofs.DueLaws.{due_plain, clock_same, Hushed, unwound_hushed, rung_plain}
+use Rattle.its_stepped.proofs.UnwindLaws.{unwound_plain, unwound_sound, unwound_none, all_unwound_plain, all_unwound_sound}
 
 -- a job in user mode is itself
 user_job : (f : Option Frame) (o : Option Whole) → f ≡ None → option_map (state.seen f) o ≡ o
@@ -102,11 +107,55 @@ then_lifted : (v : State) (r : Result Machine Reason) (f : Machine → Result Ma
 then_lifted v (Ok n) f h = h n ∙ lift_again v n (f n)
 then_lifted v (Err r) f h = refl
 
+pub stored_lifted : (v : State) (s a : ℕ) (ws : List ℕ) → v.frames s ≡ None → words_stored (plain v) s a ws ≡ lift v (words_stored v.raw s a ws)
+stored_lifted v s a [] e = refl
+stored_lifted v s a (w ∷ ws) e =
+    ap (λ r. and_then r (λ n. words_stored n s (a + 1) ws)) (word_lifted v s a w e)
+    ∙ then_lifted v (word_loaded v.raw s a w) (λ n. words_stored n s (a + 1) ws) (λ n. stored_lifted (with_raw v n) s (a + 1) ws e)
+
+words_lifted_if : (v : State) (s a : ℕ) (ws : List ℕ) (barred : Bool) → v.frames s ≡ None → words_loaded_if (plain v) s a ws barred ≡ lift v (words_loaded_if v.raw s a ws barred)
+words_lifted_if v s a ws true e = refl
+words_lifted_if v s a ws false e = stored_lifted v s a ws e
+
 pub words_lifted : (v : State) (s a : ℕ) (ws : List ℕ) → v.frames s ≡ None → words_loaded (plain v) s a ws ≡ lift v (words_loaded v.raw s a ws)
-words_lifted v s a [] e = refl
-words_lifted v s a (w ∷ ws) e =
-    ap (λ r. and_then r (λ n. words_loaded n s (a + 1) ws)) (word_lifted v s a w e)
-    ∙ then_lifted v (word_loaded v.raw s a w) (λ n. words_loaded n s (a + 1) ws) (λ n. words_lifted (with_raw v n) s (a + 1) ws e)
+unfolding words_loaded
+words_lifted v s a ws e =
+    ap (λ (o : Option Whole). words_loaded_if (plain v) s a ws (barred_in o a (length ws))) (job_here v s e) ∙ words_lifted_if v s a ws (words_barred v.raw s a (length ws)) e
+
+-- RO, and SYM of a job that may be inside a call
+page_lifted_in : (v : State) (s k : ℕ) (q : Whole) (p : Option Page) → v.frames s ≡ None
+    → page_protected_in (plain v) s k q p ≡ lift v (page_protected_in v.raw s k q p)
+page_lifted_in v s k q (Some p) e = ap Ok (sym (put_plain v s (protected k false q) e))
+page_lifted_in v s k q None e = refl
+
+pub page_lifted : (v : State) (s k : ℕ) → v.frames s ≡ None → page_protected (plain v) s k ≡ lift v (page_protected v.raw s k)
+unfolding page_protected
+page_lifted v s k e = ap (on_job (plain v) s (λ q. page_protected_in (plain v) s k q (page_of q.core k))) (job_here v s e) ∙ go (v.raw.jobs s)
+  where
+    go : (o : Option Whole)
+        → on_job (plain v) s (λ q. page_protected_in (plain v) s k q (page_of q.core k)) o ≡ lift v (on_job v.raw s (λ q. page_protected_in v.raw s k q (page_of q.core k)) o)
+    go (Some q) = page_lifted_in v s k q (page_of q.core k) e
+    go None = refl
+
+symbol_lifted_if : (v : State) (s : ℕ) (x : Symbol) (room : Bool) → symbol_kept_if (plain v) s x room ≡ lift v (symbol_kept_if v.raw s x room)
+unfolding plain
+symbol_lifted_if v s x true = refl
+symbol_lifted_if v s x false = refl
+
+symbol_lifted_of : (v : State) (s : ℕ) (x : Symbol) (f : Option Frame) (o : Option Whole)
+    → symbol_kept_of (plain v) s x (option_map (state.seen f) o) ≡ lift v (symbol_kept_of v.raw s x o)
+unfolding plain
+symbol_lifted_of v s x f (Some q) = symbol_lifted_if v s x (nat_lt (length (v.raw.symbols s)) most_symbols)
+symbol_lifted_of v s x f None = refl
+
+pub symbol_lifted : (v : State) (s name a : ℕ) → symbol_kept (plain v) s name a ≡ lift v (symbol_kept v.raw s name a)
+unfolding symbol_kept plain
+symbol_lifted v s name a = symbol_lifted_of v s (name, a) (v.frames s) (v.raw.jobs s)
+
+-- VERSION
+pub version_lifted : (v : State) (n : ℕ) → versioned (plain v) n ≡ plain (with_raw v (versioned v.raw n))
+unfolding versioned plain
+version_lifted v n = elim (cases_Bool (n == 2)) [ inl is ↦ rw is refl | inr is ↦ rw is refl ]
 
 -- what EXAM and STATE find
 pub examined_plain : (v : State) (s a n : ℕ) → v.frames s ≡ None → examined (plain v) s a n ≡ examined v.raw s a n
@@ -118,10 +167,12 @@ examined_plain v s a n e = ap (on_job (plain v) s (λ q. seen (words_at q.core a
     go None = refl
 
 pub state_plain : (v : State) (s : ℕ) → v.frames s ≡ None → state_shown (plain v) s ≡ state_shown v.raw s
-unfolding state_shown
-state_plain v s e = ap (on_job (plain v) s (λ q. Ok (shown q.job q.superior))) (job_here v s e) ∙ go (v.raw.jobs s)
+unfolding state_shown plain
+state_plain v s e = ap (on_job (plain v) s (λ q. Ok (shown q.job q.superior (symbol_shown q.job.pc ((plain v).symbols s))))) (job_here v s e) ∙ go (v.raw.jobs s)
   where
-    go : (o : Option Whole) → on_job (plain v) s (λ q. Ok (shown q.job q.superior)) o ≡ on_job v.raw s (λ q. Ok (shown q.job q.superior)) o
+    go : (o : Option Whole)
+        → on_job (plain v) s (λ q. Ok (shown q.job q.superior (symbol_shown q.job.pc ((plain v).symbols s)))) o
+        ≡ on_job v.raw s (λ q. Ok (shown q.job q.superior (symbol_shown q.job.pc (v.raw.symbols s)))) o
     go (Some q) = refl
     go None = refl
 
@@ -177,9 +228,9 @@ some_alike : (f : Option Frame) (o : Option Whole) → is_some (option_map (stat
 some_alike f (Some q) = refl
 some_alike f None = refl
 
-pub least_plain : (v : State) → least_free (plain v).jobs ≡ least_free v.raw.jobs
+pub least_plain : (v : State) → least_free (limit (plain v)) (plain v).jobs ≡ least_free (limit v.raw) v.raw.jobs
 unfolding plain
-least_plain v = least_alike (plain v).jobs v.raw.jobs (λ k. some_alike (v.frames k) (v.raw.jobs k))
+least_plain v = least_alike (limit v.raw) (plain v).jobs v.raw.jobs (λ k. some_alike (v.frames k) (v.raw.jobs k))
 
 held_plain : (v : State) (s : ℕ) (q : Whole) (console : Option ℕ) → v.frames s ≡ None
     → plain (with_raw v (with_holder (with_job v.raw s q) s console)) ≡ with_holder (with_job (plain v) s q) s console
@@ -187,10 +238,10 @@ unfolding plain
 held_plain v s q (Some c) e = jobs_are _ _ (λ k. job_put v s q k e) refl
 held_plain v s q None e = put_plain v s q e
 
-load_lifted : (v : State) (b : Block) (u j : ℕ) (console o : Option ℕ) → Sound v → least_free v.raw.jobs ≡ o
+load_lifted : (v : State) (b : Block) (u j : ℕ) (console o : Option ℕ) → Sound v → least_free (limit v.raw) v.raw.jobs ≡ o
     → by_load b (loaded_in (plain v) u j console o) ≡ lifted v (by_load b (loaded_in v.raw u j console o))
 load_lifted v b u j console (Some s) sound is =
-    ap (λ m. by_load b (Ok (m, s))) (sym (held_plain v s (new_job u j console) console (free_frame v s sound (least_empty v.raw.jobs s is))))
+    ap (λ m. by_load b (Ok (m, s))) (sym (held_plain v s (new_job u j console) console (free_frame v s sound (least_empty (limit v.raw) v.raw.jobs s is))))
 load_lifted v b u j console None sound is = refl
 
 -- what a result comes to
@@ -202,8 +253,12 @@ exam_lifted : (v : State) (b : Block) (s a : ℕ) (r : Result (List ℕ) Reason)
 exam_lifted v b s a (Ok ws) = refl
 exam_lifted v b s a (Err r) = refl
 
+show_same : (v : State) (b : Block) (s : ℕ) (show : JobShow) → by_state (plain v) b s (Ok show) ≡ lifted v (by_state v.raw b s (Ok show))
+unfolding plain
+show_same v b s show = refl
+
 show_lifted : (v : State) (b : Block) (s : ℕ) (r : Result JobShow Reason) → by_state (plain v) b s r ≡ lifted v (by_state v.raw b s r)
-show_lifted v b s (Ok show) = refl
+show_lifted v b s (Ok show) = show_same v b s show
 show_lifted v b s (Err r) = refl
 
 quietly_lifted : (v : State) (b : Block) (r : Result Machine Reason) → quietly b (lift v r) ≡ lifted v (quietly b r)
@@ -214,86 +269,120 @@ shows_lifted : (v : State) (b : Block) (r : Result (List Line) Reason) → shows
 shows_lifted v b (Ok out) = refl
 shows_lifted v b (Err r) = refl
 
-clock_lifted : (v : State) (n : ℕ) (fits : Bool) → clocked_if (plain v) n fits ≡ lift v (clocked_if v.raw n fits)
+-- CLOCK, where the jobs whose alarm is due are in user mode
+clock_lifted : (v : State) (b : Block) (n : ℕ) (fits : Bool) → Hushed (v.raw.clock + n) v
+    → by_clock (plain v) b n (clocked_if (plain v) n fits) ≡ lifted v (by_clock v.raw b n (clocked_if v.raw n fits))
 unfolding plain
-clock_lifted v n true = refl
-clock_lifted v n false = refl
+clock_lifted v b n true h =
+    let c = v.raw.clock + n in
+    ap (λ (m : Machine). Does m [] (due c (plain v).jobs) b) (sym (rung_plain v c h))
+    ∙ ap (λ (f : ℕ → Bool). Does (plain (with_raw v (at_clock c v.raw))) [] f b) (due_plain v c)
+clock_lifted v b n false h = refl
+
+-- what CLOCK needs of the state that it finds
+abbrev pub HushedFor : State → Event → Type 0
+HushedFor v (events.Clock n) = Hushed (v.raw.clock + n) v
+HushedFor v _ = Unit {0}
 
 peek_lifted : (v : State) (s : ℕ) (f : Option Frame) (o : Option Whole) → peeked_at s (option_map (state.seen f) o) ≡ lifted_line v (peeked_at s o)
 peek_lifted v s f (Some q) = refl
 peek_lifted v s f None = refl
 
 -- the line of a state in which the job that it speaks of is in user mode, and what it looks at is whole
-pub line_calm : (v : State) (b : Block) (e : Event) → Sound v → IfSome (called_on b e) (λ s. v.frames s ≡ None) → (looks_at_files e ≡ true → v.mark ≡ None)
+pub line_calm : (v : State) (b : Block) (e : Event) → Sound v → IfSome (called_on b e) (λ s. v.frames s ≡ None) → HushedFor v e → (looks_at_files e ≡ true → v.mark ≡ None)
     → lined (plain v) b e ≡ lifted_line v (lined v.raw b e)
 unfolding lined operate plain loaded clocked
-line_calm v b (events.Load u j console) sound h whole =
-    ap (λ o. Done (by_load b (loaded_in (plain v) u j console o))) (least_plain v) ∙ ap Done (load_lifted v b u j console (least_free v.raw.jobs) sound refl)
-line_calm v b (events.Words a words) sound h whole =
+line_calm v b (events.Load u j console) sound h hush whole =
+    ap (λ o. Done (by_load b (loaded_in (plain v) u j console o))) (least_plain v) ∙ ap Done (load_lifted v b u j console (least_free (limit v.raw) v.raw.jobs) sound refl)
+line_calm v b (events.Words a words) sound h hush whole =
     ap (λ r. Done (disturbs b.slot b r)) (words_lifted v b.slot a words.items h) ∙ ap Done (disturbs_lifted v b.slot b (words_loaded v.raw b.slot a words.items))
-line_calm v b (events.Go a) sound h whole =
+line_calm v b (events.Version n) sound h hush whole = ap (λ m. Done (Does m [] nobody b)) (version_lifted v n)
+line_calm v b (events.ReadOnly page) sound h hush whole =
+    ap (λ r. Done (disturbs b.slot b r)) (page_lifted v b.slot page h) ∙ ap Done (disturbs_lifted v b.slot b (page_protected v.raw b.slot page))
+line_calm v b (events.Symbol name a) sound h hush whole =
+    ap (λ r. Done (quietly b r)) (symbol_lifted v b.slot name a) ∙ ap Done (quietly_lifted v b (symbol_kept v.raw b.slot name a))
+line_calm v b (events.Go a) sound h hush whole =
     ap (λ r. Done (disturbs b.slot b r)) (registers_lifted v b.slot (started a) h) ∙ ap Done (disturbs_lifted v b.slot b (on_registers v.raw b.slot (started a)))
-line_calm v b (events.Int s x y) sound h whole =
+line_calm v b (events.Int s x y) sound h hush whole =
     ap (λ r. Done (disturbs s b r)) (registers_lifted v s (interrupted x y) h) ∙ ap Done (disturbs_lifted v s b (on_registers v.raw s (interrupted x y)))
-line_calm v b (events.Stop s) sound h whole =
+line_calm v b (events.Stop s) sound h hush whole =
     ap (λ r. Done (disturbs s b r)) (registers_lifted v s stopped h) ∙ ap Done (disturbs_lifted v s b (on_registers v.raw s stopped))
-line_calm v b (events.Cont s) sound h whole =
+line_calm v b (events.Cont s) sound h hush whole =
     ap (λ r. Done (disturbs s b r)) (registers_lifted v s continued h) ∙ ap Done (disturbs_lifted v s b (on_registers v.raw s continued))
-line_calm v b (events.Deposit s a w) sound h whole =
+line_calm v b (events.Deposit s a w) sound h hush whole =
     ap (λ r. Done (disturbs s b r)) (deposited_lifted v s a w h) ∙ ap Done (disturbs_lifted v s b (deposited v.raw s a w))
-line_calm v b (events.Exam s a n) sound h whole =
+line_calm v b (events.Exam s a n) sound h hush whole =
     ap (λ r. Done (by_exam (plain v) b s a r)) (examined_plain v s a n h) ∙ ap Done (exam_lifted v b s a (examined v.raw s a n))
-line_calm v b (events.State s) sound h whole =
+line_calm v b (events.State s) sound h hush whole =
     ap (λ r. Done (by_state (plain v) b s r)) (state_plain v s h) ∙ ap Done (show_lifted v b s (state_shown v.raw s))
-line_calm v b (events.Clock n) sound h whole =
-    let fits = nat_lt (v.raw.clock + n) clock_end in
-    ap (λ r. Done (quietly b r)) (clock_lifted v n fits) ∙ ap Done (quietly_lifted v b (clocked_if v.raw n fits))
-line_calm v b (events.Peek s) sound h whole = peek_lifted v s (v.frames s) (v.raw.jobs s)
-line_calm v b (events.Tick s n) sound h whole = refl
-line_calm v b events.Nothing sound h whole = refl
-line_calm v b events.End sound h whole = refl
-line_calm v b (events.File d x y) sound h whole =
+line_calm v b (events.Clock n) sound h hush whole =
+    ap Done (clock_lifted v b n (nat_lt (v.raw.clock + n) clock_end) hush)
+line_calm v b (events.Peek s) sound h hush whole = peek_lifted v s (v.frames s) (v.raw.jobs s)
+line_calm v b (events.Tick s n) sound h hush whole = refl
+line_calm v b events.Nothing sound h hush whole = refl
+line_calm v b events.End sound h hush whole = refl
+line_calm v b (events.File d x y) sound h hush whole =
     let n = names_of d x y in
     ap (λ r. Done (quietly (record b { file = n }) r)) (made_lifted v n (whole refl)) ∙ ap Done (quietly_lifted v (record b { file = n }) (file_made v.raw n))
-line_calm v b (events.Append words) sound h whole =
+line_calm v b (events.Append words) sound h hush whole =
     ap (λ r. Done (quietly b r)) (words_added_lifted v b.file words.items (whole refl)) ∙ ap Done (quietly_lifted v b (words_added v.raw b.file words.items))
-line_calm v b events.EndFile sound h whole = refl
-line_calm v b (events.TypeIn c bytes) sound h whole = refl
-line_calm v b (events.Drain c n) sound h whole = refl
-line_calm v b (events.Dir d) sound h whole = ap (λ fs. Done (Does (plain v) (listing d (files_in d fs)) nobody b)) (unmarked_files v (whole refl))
-line_calm v b (events.Show d x y) sound h whole =
+line_calm v b events.EndFile sound h hush whole = refl
+line_calm v b (events.TypeIn c bytes) sound h hush whole = refl
+line_calm v b (events.Drain c n) sound h hush whole = refl
+line_calm v b (events.Dir d) sound h hush whole = ap (λ fs. Done (Does (plain v) (listing d (files_in d fs)) nobody b)) (unmarked_files v (whole refl))
+line_calm v b (events.Show d x y) sound h hush whole =
     ap (λ r. Done (shows (plain v) b r)) (shown_plain v d x y (whole refl)) ∙ ap Done (shows_lifted v b (file_shown v.raw d x y))
+
+-- the jobs that a line disturbs are unwound, and the state is sound and the same plain machine
+at_plain : (w : State) (o : Option ℕ) → Sound w → plain (unwound_at o w) ≡ plain w
+at_plain w (Some s) sound = unwound_plain w s sound
+at_plain w None sound = refl
+
+at_sound : (w : State) (o : Option ℕ) → Sound w → Sound (unwound_at o w)
+at_sound w (Some s) sound = unwound_sound w s sound
+at_sound w None sound = sound
+
+at_none : (w : State) (o : Option ℕ) (h : Bool) → Sound w → IfSome o (λ s. (helped_if h (unwound_at o w)).frames s ≡ None)
+at_none w (Some s) h sound = (helped_if_others h (unwound w s) s).frame ∙ unwound_none w s sound
+at_none w None h sound = tt
+
+for_plain : (w : State) (b : Block) (e : Event) → Sound w → plain (unwound_for w b e) ≡ plain w
+for_plain w b (events.Clock n) sound = all_unwound_plain (due_slots (w.raw.clock + n) w.raw.jobs) w sound
+for_plain w b e sound = at_plain w (called_on b e) sound
+
+for_sound : (w : State) (b : Block) (e : Event) → Sound w → Sound (unwound_for w b e)
+for_sound w b (events.Clock n) sound = all_unwound_sound (due_slots (w.raw.clock + n) w.raw.jobs) w sound
+for_sound w b e sound = at_sound w (called_on b e) sound
+
+for_none : (w : State) (b : Block) (e : Event) (h : Bool) → Sound w → IfSome (called_on b e) (λ s. (helped_if h (unwound_for w b e)).frames s ≡ None)
+for_none w b (events.Clock n) h sound = tt
+for_none w b e h sound = at_none w (called_on b e) h sound
 
 -- what a line disturbs is in user mode, what it looks at is whole, and the state is sound and the same plain machine
 pub calmed_plain : (w : State) (b : Block) (e : Event) → Sound w → plain (calmed w b e) ≡ plain w
 unfolding calmed
-calmed_plain w b e sound = helped_if_plain (looks_at_files e) (unwound_at (called_on b e) w) ∙ go (called_on b e)
-  where
-    go : (o : Option ℕ) → plain (unwound_at o w) ≡ plain w
-    go (Some s) = unwound_plain w s sound
-    go None = refl
+calmed_plain w b e sound = helped_if_plain (looks_at_files e) (unwound_for w b e) ∙ for_plain w b e sound
 
 pub calmed_sound : (w : State) (b : Block) (e : Event) → Sound w → Sound (calmed w b e)
 unfolding calmed
-calmed_sound w b e sound = helped_if_sound (looks_at_files e) (unwound_at (called_on b e) w) (go (called_on b e))
-  where
-    go : (o : Option ℕ) → Sound (unwound_at o w)
-    go (Some s) = unwound_sound w s sound
-    go None = sound
+calmed_sound w b e sound = helped_if_sound (looks_at_files e) (unwound_for w b e) (for_sound w b e sound)
 
 pub calmed_none : (w : State) (b : Block) (e : Event) → Sound w → IfSome (called_on b e) (λ s. (calmed w b e).frames s ≡ None)
 unfolding calmed
-calmed_none w b e sound = go (looks_at_files e) (called_on b e)
-  where
-    go : (h : Bool) (o : Option ℕ) → IfSome o (λ s. (helped_if h (unwound_at o w)).frames s ≡ None)
-    go h (Some s) = (helped_if_others h (unwound w s) s).frame ∙ unwound_none w s sound
-    go h None = tt
+calmed_none w b e sound = for_none w b e (looks_at_files e) sound
+
+pub calmed_hushed : (w : State) (b : Block) (e : Event) → Sound w → HushedFor (calmed w b e) e
+unfolding calmed
+calmed_hushed w b (events.Clock n) sound =
+    let ks = due_slots (w.raw.clock + n) w.raw.jobs in
+    subst (λ (c : ℕ). Hushed (c + n) (all_unwound ks w)) (sym (clock_same w (all_unwound ks w) (all_unwound_plain ks w sound))) (unwound_hushed w (w.raw.clock + n) sound)
+calmed_hushed w b _ sound = tt
 
 pub calmed_whole : (w : State) (b : Block) (e : Event) → looks_at_files e ≡ true → (calmed w b e).mark ≡ None
 unfolding calmed
-calmed_whole w b e h = helped_if_unmarked (looks_at_files e) (unwound_at (called_on b e) w) h
+calmed_whole w b e h = helped_if_unmarked (looks_at_files e) (unwound_for w b e) h
 
 -- every line of the stepped machine is that of the plain machine
 pub line_plain : (w : State) (b : Block) (e : Event) → Sound w → lined (plain w) b e ≡ lifted_line (calmed w b e) (lined (calmed w b e).raw b e)
 line_plain w b e sound =
-    ap (λ m. lined m b e) (sym (calmed_plain w b e sound)) ∙ line_calm (calmed w b e) b e (calmed_sound w b e sound) (calmed_none w b e sound) (calmed_whole w b e)
+    ap (λ m. lined m b e) (sym (calmed_plain w b e sound)) ∙ line_calm (calmed w b e) b e (calmed_sound w b e sound) (calmed_none w b e sound) (calmed_hushed w b e sound) (calmed_whole w b e)

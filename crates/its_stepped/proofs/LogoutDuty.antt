@@ -24,10 +24,11 @@ use Rattle.its_stepped.specs.Tick.{makes_page}
 use Rattle.its_stepped.specs.Quiet.{IsStill, AllQuiet}
 use Rattle.its_stepped.specs.Duty.{Duty, parts_in}
 use Rattle.its_stepped.specs.Calling.{Calling}
-use Rattle.its_stepped.proofs.UnwindLaws.{among_first, among_later, among_more}
+use Rattle.its_stepped.proofs.UnwindLaws.{among_first, among_later, among_more, among_filter, among_range}
 use Rattle.its_stepped.proofs.OwnLaws.{frame_none}
 use Rattle.its_stepped.proofs.TargetLaws.{reach_named}
 use Rattle.its_stepped.proofs.TestLaws.{no_page}
+use Rattle.its_stepped.proofs.ForestLaws.{forest_few}
 
 -- slots in lists
 pub among_left : (k : ℕ) (xs ys : List ℕ) → among k xs ≡ true → among k (xs ++ ys) ≡ true
@@ -40,26 +41,6 @@ among_left k (i ∷ xs) ys h = elim (cases_eq i k) [
 pub among_right : (k : ℕ) (xs ys : List ℕ) → among k ys ≡ true → among k (xs ++ ys) ≡ true
 among_right k [] ys h = h
 among_right k (i ∷ xs) ys h = among_more i k (xs ++ ys) (among_right k xs ys h)
-
-kept_filter : (b : Bool) (k i : ℕ) (ys : List ℕ) → among k ys ≡ true → among k (if b then i ∷ ys else ys) ≡ true
-kept_filter true k i ys h = among_more i k ys h
-kept_filter false k i ys h = h
-
-pub among_filter : (p : ℕ → Bool) (k : ℕ) (xs : List ℕ) → p k ≡ true → among k xs ≡ true → among k (filter p xs) ≡ true
-among_filter p k [] h a = a
-among_filter p k (i ∷ xs) h a = elim (cases_eq i k) [
-  | inl e ↦
-      ap (λ (b : Bool). among k (if b then i ∷ filter p xs else filter p xs)) (ap p e ∙ h)
-      ∙ subst (λ (n : ℕ). among n (i ∷ filter p xs) ≡ true) e (among_first i (filter p xs))
-  | inr ne ↦ kept_filter (p i) k i (filter p xs) (among_filter p k xs h (among_later i k xs (λ e. ne (sym e)) a))
-]
-
-pub among_range : (k from n : ℕ) → from ≤ k → k < from + n → among k (range_with_len from n) ≡ true
-among_range k from zero h l = absurd (omega arith)
-among_range k from (suc n) h l = elim (cases_eq from k) [
-  | inl e ↦ subst (λ (i : ℕ). among i (from ∷ range_with_len (from + 1) n) ≡ true) e (among_first from (range_with_len (from + 1) n))
-  | inr ne ↦ among_more from k (range_with_len (from + 1) n) (among_range k (from + 1) n (omega arith) (omega arith))
-]
 
 -- the slots below a job
 is_slot : (m : Machine) (j k : ℕ) → ((i : ℕ) → slots ≤ i → m.jobs i ≡ None) → is_below (superiors m) j k ≡ true → k < slots
@@ -83,7 +64,7 @@ below_free : (m : Machine) (v : State) (j : ℕ) (q : Whole) (s : Site) (a : Ask
 below_free m v j q s a n k c z e ne gone =
     let same : is_gone (superiors v.raw) j k ≡ is_gone (superiors m) j k = (λ t. is_gone (λ i. c.tree i t) j k) in
     let below : is_below (superiors m) j k ≡ true = gone_below (superiors m) j k ne (sym same ∙ gone) in
-    c.reached k (ap (among k) (reach_named m j q a Logout z e) ∙ among_left k (slots_below (superiors m) j) (listed q.superior) (among_below m j k c.forest.few below))
+    c.reached k (ap (among k) (reach_named m j q a Logout z e) ∙ among_left k (slots_below (superiors m) j) (listed q.superior) (among_below m j k (forest_few m c.forest) below))
 
 told_quiet : (m : Machine) (v : State) (j : ℕ) (q : Whole) (s : Site) (a : Ask) (n : ℕ) (o : Option ℕ) → Calling m v j q s a n
     → ((k : ℕ) → among k (listed o) ≡ true → v.frames k ≡ None) → AllQuiet (told_superior o) j (effect_on (changes.Remove j) j v)

@@ -58,6 +58,7 @@ spared_one (changes.Protect s k on) j w q h e = sees_it own_of _ q (on_slot_othe
 spared_one (changes.Make s u n) j w q h e = sees_it own_of _ q ((changed_only w.raw.jobs s _).others j (λ t. h (sym t)) ∙ e)
 spared_one (changes.Remove s) j w q h e = sees_left own_of (is_gone (superiors w.raw) s) _ _ q (λ p. refl) h e
 spared_one (changes.Inform s) j w q h e = sees_it own_of _ q (on_slot_other w.raw.jobs s j _ (λ t. h (sym t)) ∙ e)
+spared_one (changes.Arm alarm) j w q h e = sees_slot own_of w.raw.jobs j j _ q (λ p. refl) e
 spared_one (changes.Delete d x y) j w q h e = sees_it own_of _ q e
 spared_one (changes.Rename d x y u v) j w q h e = sees_it own_of _ q e
 
@@ -90,6 +91,7 @@ kept_one (changes.Protect s k on) j w q h e = sees_slot job_of w.raw.jobs s j _ 
 kept_one (changes.Make s u n) j w q h e = sees_it job_of _ q ((changed_only w.raw.jobs s _).others j (λ t. h (sym t)) ∙ e)
 kept_one (changes.Remove s) j w q h e = sees_left job_of (is_gone (superiors w.raw) s) _ _ q (λ p. refl) h e
 kept_one (changes.Inform s) j w q h e = sees_it job_of _ q (on_slot_other w.raw.jobs s j _ (λ t. h (sym t)) ∙ e)
+kept_one (changes.Arm alarm) j w q h e = sees_slot job_of w.raw.jobs j j _ q (λ p. refl) e
 kept_one (changes.Delete d x y) j w q h e = sees_it job_of _ q e
 kept_one (changes.Rename d x y u v) j w q h e = sees_it job_of _ q e
 

@@ -1,8 +1,8 @@
 -- A line is refused alike by the raw machine, by the one that it finds calmed, and by the plain one: so its refusal is
 -- tested first (docs/STEPS.md, "Lines").
-use Rattle.std.specs.Prelude.{◌≡◌, ℕ, zero, suc, ◌+◌, ◌%◌, ◌^◌, ◌&&◌, Bool, true, false, Option, Some, None, List, Result, Ok, Err, option_map, is_some, nat_lt, refl}
+use Rattle.std.specs.Prelude.{◌≡◌, ℕ, zero, suc, ◌+◌, ◌%◌, ◌^◌, ◌&&◌, ◌||◌, not, Bool, true, false, Option, Some, None, List, Result, Ok, Err, option_map, is_some, nat_lt, refl}
 use Rattle.std.proofs.Common.{sym, ◌∙◌, ap}
-use Rattle.its_word.specs.Core.{Core, word_at, can_store}
+use Rattle.its_word.specs.Core.{Core, Page, page_of, word_at, can_store}
 use Rattle.its_word.specs.Limits.{most_pages}
 use Rattle.its_word.specs.Tree.{least_free}
 use Rattle.its_word.specs.declared.jobs.Job.{Job}
@@ -12,10 +12,11 @@ use Rattle.its_word.specs.declared.session.Reason.{Reason}
 use Rattle.its_word.specs.declared.show.JobShow.{JobShow}
 use Rattle.its_frame.specs.declared.frame.Frame.{Frame}
 use Rattle.its_print.specs.Printing.{Line}
-use Rattle.its_plain.specs.Machine.{Names, Whole, Machine, mapped, joined, words_at}
+use Rattle.its_plain.specs.Machine.{Names, Whole, Machine, mapped, joined, words_at, limit}
 use Rattle.its_plain.specs.Operator.{Block, Refuses, Does, Ticks, Quits, disturbs, quietly}
-use Rattle.its_plain.specs.OperatorJobs.{loaded_in, loaded, stored_in, stored, with_core, word_loaded_of, word_loaded, on_job, with_registers, on_registers, started, interrupted, stopped, continued, seen, examined, shown, state_shown, deposited_in, deposited}
-use Rattle.its_plain.specs.OperatorLines.{by_load, by_exam, by_state, operate, shows, Lined, Done, Peeks, peeked_at, lined}
+use Rattle.its_plain.specs.OperatorJobs.{loaded_in, loaded, stored_in, stored, with_core, word_loaded_of, word_loaded, is_barred, any_barred, barred_in, words_barred, page_protected_in, page_protected, on_job, with_registers, on_registers, started, interrupted, stopped, continued, seen, examined, shown, state_shown, deposited_in, deposited}
+use Rattle.its_plain.specs.OperatorLines.{by_load, by_exam, by_state, by_clock, operate, shows, Lined, Done, Peeks, peeked_at, lined}
+use Rattle.its_plain.specs.OperatorSymbols.{symbol_shown, symbol_kept}
 use Rattle.its_plain.specs.OperatorClock.{clock_end, clocked_if, clocked}
 use Rattle.its_plain.specs.Own.{names_of}
 use Rattle.its_plain.specs.OperatorFiles.{file_made, word_added, words_added, file_shown}
@@ -25,10 +26,10 @@ use Rattle.its_stepped.specs.Unwind.{unwound}
 use Rattle.its_stepped.specs.Sound.{Sound}
 use Rattle.its_stepped.specs.Tick.{helped_if}
 use Rattle.its_stepped.specs.Lines.{looks_at_files, calmed, lifted_line, refusal}
-use Rattle.its_stepped.proofs.FrameLaws.{seen_can_store, seen_present, mapped_plain}
+use Rattle.its_stepped.proofs.FrameLaws.{seen_can_store, seen_present, seen_page, mapped_plain}
 use Rattle.its_stepped.proofs.UnwindLaws.{unwound_plain}
 use Rattle.its_stepped.proofs.HelpLaws.{helped_if_plain, helped_if_unmarked}
-use Rattle.its_stepped.proofs.LineLaws.{lift, made_lifted, added_lifted, words_added_lifted, shown_plain, least_plain, line_plain}
+use Rattle.its_stepped.proofs.LineLaws.{lift, symbol_lifted, made_lifted, added_lifted, words_added_lifted, shown_plain, least_plain, line_plain}
 
 -- why a result is none
 abbrev pub error_of : {X : Type 0} → Result X Reason → Option Reason
@@ -103,6 +104,37 @@ pub word_alike : (w : State) (s a x : ℕ) → error_of (word_loaded (plain w) s
 unfolding word_loaded
 word_alike w s a x = ap (λ (o : Option Whole). error_of (word_loaded_of (plain w) s a x o)) (jobs_at w s) ∙ word_of_alike w s a x (w.frames s) (w.raw.jobs s)
 
+-- the words of a line of words that are on a read-only page
+barred_alike : (c d : Core) (a n : ℕ) → ((p : ℕ) → is_some (word_at c p) ≡ is_some (word_at d p)) → ((p : ℕ) → can_store c p ≡ can_store d p)
+    → any_barred c a n ≡ any_barred d a n
+unfolding any_barred
+barred_alike c d a zero h g = refl
+barred_alike c d a (suc n) h g =
+    ap (λ b. (b && not (can_store c a)) || any_barred c (a + 1) n) (h a)
+    ∙ ap (λ b. (is_some (word_at d a) && not b) || any_barred c (a + 1) n) (g a)
+    ∙ ap (λ b. is_barred d a || b) (barred_alike c d (a + 1) n h g)
+
+barred_seen : (f : Option Frame) (o : Option Whole) (a n : ℕ) → barred_in (option_map (state.seen f) o) a n ≡ barred_in o a n
+barred_seen f None a n = refl
+barred_seen f (Some q) a n = barred_alike (state.seen f q).core q.core a n (λ p. seen_present f q p) (λ p. seen_can_store f q p)
+
+pub barred_plain : (w : State) (s a n : ℕ) → words_barred (plain w) s a n ≡ words_barred w.raw s a n
+barred_plain w s a n = ap (λ (o : Option Whole). barred_in o a n) (jobs_at w s) ∙ barred_seen (w.frames s) (w.raw.jobs s) a n
+
+-- a page that becomes read only, and a symbol that is kept
+page_alike_in : (m n : Machine) (s k : ℕ) (q p : Whole) (x y : Option Page) → is_some x ≡ is_some y
+    → error_of (page_protected_in m s k q x) ≡ error_of (page_protected_in n s k p y)
+page_alike_in m n s k q p (Some x) (Some y) e = refl
+page_alike_in m n s k q p None None e = refl
+page_alike_in m n s k q p (Some x) None e = cc
+page_alike_in m n s k q p None (Some y) e = cc
+
+pub page_alike : (w : State) (s k : ℕ) → error_of (page_protected (plain w) s k) ≡ error_of (page_protected w.raw s k)
+unfolding page_protected plain
+page_alike w s k =
+    on_job_alike (plain w) w.raw s (λ q. page_protected_in (plain w) s k q (page_of q.core k)) (λ q. page_protected_in w.raw s k q (page_of q.core k)) (w.frames s) (w.raw.jobs s)
+    (λ q. page_alike_in (plain w) w.raw s k (state.seen (w.frames s) q) q (page_of (state.seen (w.frames s) q).core k) (page_of q.core k) (seen_page (w.frames s) q k))
+
 -- the words that EXAM wants are present in both
 joined_some : (x : Option ℕ) (y : Option (List ℕ)) → is_some (joined x y) ≡ (is_some x && is_some y)
 joined_some (Some w) (Some ws) = refl
@@ -130,7 +162,8 @@ examined_alike w s a n =
 
 pub shown_alike : (w : State) (s : ℕ) → error_of (state_shown (plain w) s) ≡ error_of (state_shown w.raw s)
 unfolding state_shown plain
-shown_alike w s = on_job_alike (plain w) w.raw s (λ q. Ok (shown q.job q.superior)) (λ q. Ok (shown q.job q.superior)) (w.frames s) (w.raw.jobs s) (λ q. refl)
+shown_alike w s =
+    on_job_alike (plain w) w.raw s (λ q. Ok (shown q.job q.superior (symbol_shown q.job.pc (w.raw.symbols s)))) (λ q. Ok (shown q.job q.superior (symbol_shown q.job.pc (w.raw.symbols s)))) (w.frames s) (w.raw.jobs s) (λ q. refl)
 
 -- what a result comes to
 disturbs_alike : (s : ℕ) (b : Block) (r x : Result Machine Reason) → error_of r ≡ error_of x → refusal (Done (disturbs s b r)) ≡ refusal (Done (disturbs s b x))
@@ -156,9 +189,9 @@ load_alike : (m n : Machine) (b : Block) (u j : ℕ) (console o : Option ℕ)
 load_alike m n b u j console (Some s) = refl
 load_alike m n b u j console None = refl
 
-clock_alike : (m n : Machine) (k : ℕ) (fits : Bool) → error_of (clocked_if m k fits) ≡ error_of (clocked_if n k fits)
-clock_alike m n k true = refl
-clock_alike m n k false = refl
+clock_alike : (m n : Machine) (b : Block) (k : ℕ) (fits : Bool) → refusal (Done (by_clock m b k (clocked_if m k fits))) ≡ refusal (Done (by_clock n b k (clocked_if n k fits)))
+clock_alike m n b k true = refl
+clock_alike m n b k false = refl
 
 quietly_alike : (b : Block) (r x : Result Machine Reason) → error_of r ≡ error_of x → refusal (Done (quietly b r)) ≡ refusal (Done (quietly b x))
 quietly_alike b (Ok m) (Ok n) e = refl
@@ -172,11 +205,14 @@ shows_alike m n b (Ok v) (Err y) e = e
 shows_alike m n b (Err y) (Ok w) e = e
 shows_alike m n b (Err y) (Err z) e = e
 
--- lines on files, where no close is half made
 lift_alike : (v : State) (r : Result Machine Reason) → error_of (lift v r) ≡ error_of r
 lift_alike v (Ok m) = refl
 lift_alike v (Err r) = refl
 
+pub symbol_alike : (w : State) (s name a : ℕ) → error_of (symbol_kept (plain w) s name a) ≡ error_of (symbol_kept w.raw s name a)
+symbol_alike w s name a = ap error_of (symbol_lifted w s name a) ∙ lift_alike w (symbol_kept w.raw s name a)
+
+-- lines on files, where no close is half made
 pub made_alike : (v : State) (n : Names) → v.mark ≡ None → error_of (file_made (plain v) n) ≡ error_of (file_made v.raw n)
 made_alike v n e = ap error_of (made_lifted v n e) ∙ lift_alike v (file_made v.raw n)
 
@@ -198,8 +234,13 @@ IsSingle _ = Unit {0}
 pub line_alike : (w : State) (b : Block) (e : Event) → IsSingle e → (looks_at_files e ≡ true → w.mark ≡ None) → refusal (lined (plain w) b e) ≡ refusal (lined w.raw b e)
 unfolding lined operate plain loaded clocked
 line_alike w b (events.Load u j console) h whole =
-    ap (λ o. refusal (Done (by_load b (loaded_in (plain w) u j console o)))) (least_plain w) ∙ load_alike (plain w) w.raw b u j console (least_free w.raw.jobs)
+    ap (λ o. refusal (Done (by_load b (loaded_in (plain w) u j console o)))) (least_plain w) ∙ load_alike (plain w) w.raw b u j console (least_free (limit w.raw) w.raw.jobs)
 line_alike w b (events.Words a words) h whole = absurd h
+line_alike w b (events.Version v) h whole = refl
+line_alike w b (events.ReadOnly page) h whole =
+    disturbs_alike b.slot b (page_protected (plain w) b.slot page) (page_protected w.raw b.slot page) (page_alike w b.slot page)
+line_alike w b (events.Symbol name a) h whole =
+    quietly_alike b (symbol_kept (plain w) b.slot name a) (symbol_kept w.raw b.slot name a) (symbol_alike w b.slot name a)
 line_alike w b (events.Go a) h whole = disturbs_alike b.slot b (on_registers (plain w) b.slot (started a)) (on_registers w.raw b.slot (started a)) (registers_alike w b.slot (started a))
 line_alike w b (events.Int s x y) h whole = disturbs_alike s b (on_registers (plain w) s (interrupted x y)) (on_registers w.raw s (interrupted x y)) (registers_alike w s (interrupted x y))
 line_alike w b (events.Stop s) h whole = disturbs_alike s b (on_registers (plain w) s stopped) (on_registers w.raw s stopped) (registers_alike w s stopped)
@@ -208,8 +249,7 @@ line_alike w b (events.Deposit s a x) h whole = disturbs_alike s b (deposited (p
 line_alike w b (events.Exam s a n) h whole = exam_alike (plain w) w.raw b s a (examined (plain w) s a n) (examined w.raw s a n) (examined_alike w s a n)
 line_alike w b (events.State s) h whole = show_alike (plain w) w.raw b s (state_shown (plain w) s) (state_shown w.raw s) (shown_alike w s)
 line_alike w b (events.Clock n) h whole =
-    quietly_alike b (clocked_if (plain w) n (nat_lt (w.raw.clock + n) clock_end)) (clocked_if w.raw n (nat_lt (w.raw.clock + n) clock_end))
-    (clock_alike (plain w) w.raw n (nat_lt (w.raw.clock + n) clock_end))
+    clock_alike (plain w) w.raw b n (nat_lt (w.raw.clock + n) clock_end)
 line_alike w b (events.Peek s) h whole = peek_alike s (w.frames s) (w.raw.jobs s)
 line_alike w b (events.Tick s n) h whole = refl
 line_alike w b events.Nothing h whole = refl
@@ -242,6 +282,11 @@ pub refused_first : (w : State) (b : Block) (e : Event) → Sound w → IsSingle
 refused_first w b e sound h =
     sym (line_alike (helped_if (looks_at_files e) w) b e h (helped_if_unmarked (looks_at_files e) w))
     ∙ ap (λ m. refusal (lined m b e)) (helped_if_plain (looks_at_files e) w) ∙ refused_calmed w b e sound
+
+-- whether a line of words is barred is the same before and after the unwinding
+pub barred_first : (w : State) (s a n : ℕ) → Sound w → words_barred w.raw s a n ≡ words_barred (unwound w s).raw s a n
+barred_first w s a n sound =
+    sym (barred_plain w s a n) ∙ ap (λ m. words_barred m s a n) (sym (unwound_plain w s sound)) ∙ barred_plain (unwound w s) s a n
 
 -- the same for one word
 pub word_refused_first : (w : State) (s a x : ℕ) → Sound w → error_of (word_loaded w.raw s a x) ≡ error_of (word_loaded (unwound w s).raw s a x)

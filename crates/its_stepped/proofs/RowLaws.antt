@@ -19,6 +19,8 @@ pub record Shares (w v : State) : Type 0 where
   pub consoles : v.raw.consoles ≡ w.raw.consoles
   pub holders : v.raw.holders ≡ w.raw.holders
   pub clock : v.raw.clock ≡ w.raw.clock
+  pub version : v.raw.version ≡ w.raw.version
+  pub symbols : v.raw.symbols ≡ w.raw.symbols
   pub files : helped v.mark v.raw.files ≡ helped w.mark w.raw.files
 
 pub record Rowed (w v : State) (j : ℕ) : Type 0 where
@@ -80,7 +82,7 @@ turn_row w j q h f is alike fits mark parts fewer one = record {
   jobs = job_only w.raw.jobs j q h is;
   frames = changed_only w.frames j f;
   pages = record { here = refl; others = λ k ne. refl };
-  shares = record { consoles = refl; holders = refl; clock = refl; files = refl };
+  shares = record { consoles = refl; holders = refl; clock = refl; version = refl; symbols = refl; files = refl };
   seen_as = ap (option_map (seen (w.frames j))) is ∙ ap Some alike;
   fits = fits;
   mark = mark_kept w.mark w.frames (changed w.frames j f) j f (changed_only w.frames j f) parts mark;
@@ -108,7 +110,7 @@ page_row w j q f is alike fits mark parts fewer = record {
   jobs = job_only w.raw.jobs j q same is;
   frames = changed_only w.frames j f;
   pages = changed_only w.reserved j None;
-  shares = record { consoles = refl; holders = refl; clock = refl; files = refl };
+  shares = record { consoles = refl; holders = refl; clock = refl; version = refl; symbols = refl; files = refl };
   seen_as = ap (option_map (seen (w.frames j))) is ∙ ap Some alike;
   fits = fits;
   mark = mark_kept w.mark w.frames (changed w.frames j f) j f (changed_only w.frames j f) parts mark;

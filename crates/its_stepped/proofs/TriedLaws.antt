@@ -55,6 +55,7 @@ goes_ways x a = record {
   faulting = λ f. tt;
   stuck = tt;
   opening = λ h b. tt;
+  arming = λ n h. tt;
   ending = λ cs ss h. tt;
   moved = λ cs ss h. tt;
   going = λ cs b vs h. tt;

@@ -7,7 +7,7 @@ use Rattle.its_frame.specs.declared.name.CallName.TheVariants.{Open, Close, Iot,
 use Rattle.its_plain.specs.Machine.{File, Chan, Reads, Writes}
 use Rattle.its_plain.specs.Arguments.{input}
 use Rattle.its_plain.specs.View.{View}
-use Rattle.its_plain.specs.CallBasic.{channel_at, sleep, dismiss, usrvar}
+use Rattle.its_plain.specs.CallBasic.{channel_at, sleep, dismiss, usrvar, realt}
 use Rattle.its_plain.specs.CallTty.{opens, finish, listen, ttylnd}
 use Rattle.its_plain.specs.CallFile.{disk_device}
 use Rattle.its_plain.specs.CallUsr.{usr_device, opens_usr, usrmem, uclose}
@@ -42,7 +42,7 @@ siot_unseen v fs a n (Writes f) h = absurd cc
 siot_unseen v fs a n _ h = refl
 
 named_unseen : (v : View) (fs : List File) (a : Ask) (o : Option CallName) → helps_by v.own a o ≡ false → decided_by (with_files v fs) a o ≡ decided_by v a o
-unfolding open_call close_call iot_call siot_call sleep dismiss usrvar finish listen ttylnd usrmem uclose corblk
+unfolding open_call close_call iot_call siot_call sleep dismiss usrvar realt finish listen ttylnd usrmem uclose corblk
 named_unseen v fs a (Some Open) h = open_unseen v fs a (input a 1 == disk_device) (input a 1 == usr_device) h
 named_unseen v fs a (Some Close) h = close_unseen v fs a (channel_at v.own.channels (input a 0)) h
 named_unseen v fs a (Some Iot) h = iot_unseen v fs (slice_index_or a.outputs.items 0 0) (input a 0) (channel_at v.own.channels (input a 0)) h

@@ -1,6 +1,7 @@
 -- Unwinding: it changes nothing that the plain machine has, keeps soundness, and leaves other slots alone; four
 -- steps are enough (docs/STEPS.md, "Unwinding").
-use Rattle.std.specs.Prelude.{◌≡◌, ◌≢◌, ◌≤◌, ℕ, zero, suc, ◌+◌, Bool, true, false, Option, Some, None, List, [], ◌∷◌, option_map, refl}
+use Rattle.std.specs.Prelude.{if◌then◌else◌, ◌≡◌, ◌≢◌, ◌≤◌, ◌<◌, ℕ, zero, suc, ◌+◌, Bool, true, false, Option, Some, None, List, [], ◌∷◌, filter, option_map, refl}
+use Rattle.std.specs.List.{range_with_len}
 use Rattle.std.proofs.Common.{sym, ◌∙◌, ap, subst, inl, inr, arith}
 use Rattle.std.proofs.lemmas.Bool.{cases_eq, eq-eqb, ne_eqb}
 use Rattle.std.proofs.lemmas.List.Sums.{count_by-le-length}
@@ -73,7 +74,8 @@ plain_at w v j r k = elim (cases_eq k j) [
 row_plain : (w v : State) (j : ℕ) → Rowed w v j → plain v ≡ plain w
 unfolding plain
 row_plain w v j r =
-    machine_is _ _ (plain_at w v j r) (λ k. ap (λ f. f k) r.shares.consoles) (λ k. ap (λ f. f k) r.shares.holders) r.shares.files r.shares.clock
+    machine_is _ _ (plain_at w v j r) (λ k. ap (λ f. f k) r.shares.consoles) (λ k. ap (λ f. f k) r.shares.holders) r.shares.files r.shares.clock r.shares.version
+    (λ k. ap (λ f. f k) r.shares.symbols)
 
 slot_is : (o p : Option Whole) (f g : Option Frame) (r t : Option ℕ) → o ≡ p → f ≡ g → r ≡ t → SoundSlot p g t → SoundSlot o f r
 slot_is o p f g r t job frame page s = rw (job, frame, page) s
@@ -174,10 +176,10 @@ pub slot_then : (w v u : State) (k : ℕ) → SlotSame w v k → SlotSame v u k 
 slot_then w v u k a b = record { job = b.job ∙ a.job; frame = b.frame ∙ a.frame; page = b.page ∙ a.page }
 
 pub shares_same : (w : State) → Shares w w
-shares_same w = record { consoles = refl; holders = refl; clock = refl; files = refl }
+shares_same w = record { consoles = refl; holders = refl; clock = refl; version = refl; symbols = refl; files = refl }
 
 pub shares_then : (w v u : State) → Shares w v → Shares v u → Shares w u
-shares_then w v u a b = record { consoles = b.consoles ∙ a.consoles; holders = b.holders ∙ a.holders; clock = b.clock ∙ a.clock; files = b.files ∙ a.files }
+shares_then w v u a b = record { consoles = b.consoles ∙ a.consoles; holders = b.holders ∙ a.holders; clock = b.clock ∙ a.clock; version = b.version ∙ a.version; symbols = b.symbols ∙ a.symbols; files = b.files ∙ a.files }
 
 pub record Beside (w v : State) (j : ℕ) : Type 0 where
   pub slots : (k : ℕ) → k ≢ j → SlotSame w v k
@@ -190,7 +192,7 @@ beside_same w j = record { slots = λ k ne. slot_same w k; shares = shares_same 
 beside_turn : (w : State) (j : ℕ) (h : Whole → Whole) (f : Option Frame) → Beside w (turn w j h f) j
 beside_turn w j h f = record {
   slots = λ k ne. record { job = on_slot_other w.raw.jobs j k h ne; frame = (changed_only w.frames j f).others k ne; page = refl };
-  shares = record { consoles = refl; holders = refl; clock = refl; files = refl };
+  shares = record { consoles = refl; holders = refl; clock = refl; version = refl; symbols = refl; files = refl };
   unmarked = λ e. e;
 }
 
@@ -201,7 +203,7 @@ beside_page w j f = record {
     frame = (changed_only w.frames j f).others k ne;
     page = (changed_only w.reserved j None).others k ne;
   };
-  shares = record { consoles = refl; holders = refl; clock = refl; files = refl };
+  shares = record { consoles = refl; holders = refl; clock = refl; version = refl; symbols = refl; files = refl };
   unmarked = λ e. e;
 }
 
@@ -214,6 +216,8 @@ parted w v j m (p ∷ []) mark still b = record {
     consoles = b.shares.consoles;
     holders = b.shares.holders;
     clock = b.shares.clock;
+    version = b.shares.version;
+    symbols = b.shares.symbols;
     files = sym (ap (λ o. helped o v.raw.files) (still ∙ mark)) ∙ b.shares.files;
   };
   unmarked = λ e. refl;
@@ -224,6 +228,8 @@ parted w v j m (p ∷ x ∷ ps) mark still b = record {
     consoles = b.shares.consoles;
     holders = b.shares.holders;
     clock = b.shares.clock;
+    version = b.shares.version;
+    symbols = b.shares.symbols;
     files = sym (ap (λ o. helped o v.raw.files) (still ∙ mark)) ∙ b.shares.files;
   };
   unmarked = λ e. cc;
@@ -290,6 +296,35 @@ among_not_later i k ks h = rw (ne_eqb i k (λ e. among_not_first i k ks h (sym e
 
 pub among_more : (i k : ℕ) (ks : List ℕ) → among k ks ≡ true → among k (i ∷ ks) ≡ true
 among_more i k ks h = elim (cases_eq i k) [ inl e ↦ subst (λ n. among n (i ∷ ks) ≡ true) e (among_first i ks) | inr ne ↦ rw (ne_eqb i k ne) h ]
+
+-- those of a list that pass a test
+kept_filter : (b : Bool) (k i : ℕ) (ys : List ℕ) → among k ys ≡ true → among k (if b then i ∷ ys else ys) ≡ true
+kept_filter true k i ys h = among_more i k ys h
+kept_filter false k i ys h = h
+
+pub among_filter : (p : ℕ → Bool) (k : ℕ) (xs : List ℕ) → p k ≡ true → among k xs ≡ true → among k (filter p xs) ≡ true
+among_filter p k [] h a = a
+among_filter p k (i ∷ xs) h a = elim (cases_eq i k) [
+  | inl e ↦
+      ap (λ (b : Bool). among k (if b then i ∷ filter p xs else filter p xs)) (ap p e ∙ h)
+      ∙ subst (λ (n : ℕ). among n (i ∷ filter p xs) ≡ true) e (among_first i (filter p xs))
+  | inr ne ↦ kept_filter (p i) k i (filter p xs) (among_filter p k xs h (among_later i k xs (λ e. ne (sym e)) a))
+]
+
+pub among_range : (k from n : ℕ) → from ≤ k → k < from + n → among k (range_with_len from n) ≡ true
+among_range k from zero h l = absurd (omega arith)
+among_range k from (suc n) h l = elim (cases_eq from k) [
+  | inl e ↦ subst (λ (i : ℕ). among i (from ∷ range_with_len (from + 1) n) ≡ true) e (among_first from (range_with_len (from + 1) n))
+  | inr ne ↦ among_more from k (range_with_len (from + 1) n) (among_range k (from + 1) n (omega arith) (omega arith))
+]
+
+kept_out : (p : ℕ → Bool) (k i : ℕ) (ys : List ℕ) (b : Bool) → p k ≡ false → p i ≡ b → among k ys ≡ false → among k (if b then i ∷ ys else ys) ≡ false
+kept_out p k i ys true h e t = let ne : i ≢ k = λ same. (let g : p i ≡ p k = ap p same in cc) in rw (ne_eqb i k ne) t
+kept_out p k i ys false h e t = t
+
+pub filtered_out : (p : ℕ → Bool) (k : ℕ) (xs : List ℕ) → p k ≡ false → among k (filter p xs) ≡ false
+filtered_out p k [] h = refl
+filtered_out p k (i ∷ xs) h = kept_out p k i (filter p xs) (p i) h refl (filtered_out p k xs h)
 
 -- many steps
 times_plain : (n : ℕ) (w : State) (j : ℕ) → Sound w → plain (unwind_times n w j) ≡ plain w

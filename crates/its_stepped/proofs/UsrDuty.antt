@@ -29,7 +29,7 @@ use Rattle.its_stepped.specs.Quiet.{AllQuiet}
 use Rattle.its_stepped.specs.Duty.{AllSpare, Duty, parts_in}
 use Rattle.its_stepped.specs.Calling.{Decoding, Calling}
 use Rattle.its_stepped.proofs.UnwindLaws.{among_first}
-use Rattle.its_stepped.proofs.ForestLaws.{forest_below, on_inferior}
+use Rattle.its_stepped.proofs.ForestLaws.{forest_below, on_inferior, forest_few}
 use Rattle.its_stepped.proofs.TargetLaws.{target_on, reach_named, Aimed, aimed_reached, aimed_on}
 use Rattle.its_stepped.proofs.TestLaws.{first_holds, ending_duty, fails_duty, faults_duty, nothing_duty, out_few}
 use Rattle.its_stepped.proofs.LogoutDuty.{among_left, among_right, among_below, gone_below}
@@ -46,13 +46,13 @@ abbrev pub Outlined : Machine → View → Type 0
 Outlined m x = x.outlines ≡ (λ k. option_map outline (m.jobs k))
 
 -- OPEN: an inferior that is made gets an empty slot, where no call is in progress
-vacant : (m : Machine) (v : State) (j : ℕ) (x : View) (s : Site) (a : Ask) (n k : ℕ) → Calling m v j x.own s a n → Outlined m x → least_free x.outlines ≡ Some k → Aimed v j k
+vacant : (m : Machine) (v : State) (j : ℕ) (x : View) (s : Site) (a : Ask) (n k : ℕ) → Calling m v j x.own s a n → Outlined m x → least_free x.limit x.outlines ≡ Some k → Aimed v j k
 vacant m v j x s a n k c same is =
-    let none : m.jobs k ≡ None = unmapped outline (m.jobs k) (ap (λ (f : ℕ → Option Outline). f k) (sym same) ∙ least_empty x.outlines k is) in
+    let none : m.jobs k ≡ None = unmapped outline (m.jobs k) (ap (λ (f : ℕ → Option Outline). f k) (sym same) ∙ least_empty x.limit x.outlines k is) in
     record { other = λ e. (let no : None ≡ Some x.own = sym none ∙ ap m.jobs e ∙ c.here in cc); free = c.empty k none }
 
 makes_job_duty : (m : Machine) (v : State) (j : ℕ) (x : View) (s : Site) (a : Ask) (n i u name : ℕ) (o : Option ℕ) → Calling m v j x.own s a n
-    → Outlined m x → least_free x.outlines ≡ o → Duty v j x.own s a n (makes_job x a i u name o)
+    → Outlined m x → least_free x.limit x.outlines ≡ o → Duty v j x.own s a n (makes_job x a i u name o)
 makes_job_duty m v j x s a n i u name None c same is = fails_duty m v j x s a n 0o14 c
 makes_job_duty m v j x s a n i u name (Some k) c same is =
     let h = vacant m v j x s a n k c same is in
@@ -62,8 +62,8 @@ opens_job_duty : (m : Machine) (v : State) (j : ℕ) (x : View) (s : Site) (a : 
     → Outlined m x → Duty v j x.own s a n (opens_job x a i u name write o)
 opens_job_duty m v j x s a n i u name write (Some k) c same = changes_duty m v j x s a n (changes.Open i (opened.Usr k write)) c tt tt refl
 opens_job_duty m v j x s a n i u name write None c same =
-    first_holds (Duty v j x.own s a n) (any_named x u name ⇒ fails x a 0o13 ∷ not write ⇒ fails x a 0o12 ∷ []) (makes_job x a i u name (least_free x.outlines))
-    (λ t. fails_duty m v j x s a n 0o13 c, (λ t. fails_duty m v j x s a n 0o12 c, tt)) (λ t. makes_job_duty m v j x s a n i u name (least_free x.outlines) c same refl)
+    first_holds (Duty v j x.own s a n) (any_named x u name ⇒ fails x a 0o13 ∷ not write ⇒ fails x a 0o12 ∷ []) (makes_job x a i u name (least_free x.limit x.outlines))
+    (λ t. fails_duty m v j x s a n 0o13 c, (λ t. fails_duty m v j x s a n 0o12 c, tt)) (λ t. makes_job_duty m v j x s a n i u name (least_free x.limit x.outlines) c same refl)
 
 pub opens_usr_duty : (m : Machine) (v : State) (j : ℕ) (x : View) (s : Site) (a : Ask) (n : ℕ) → Calling m v j x.own s a n → Outlined m x
     → Duty v j x.own s a n (opens_usr x a)
@@ -173,7 +173,7 @@ gone_free m v j q s a n i k at write c e z is gone =
     let below : is_gone (superiors m) i k ≡ true = subst (λ (sup : ℕ → Option ℕ). is_gone sup i k ≡ true) (λ t l. c.tree l t) gone in
     c.reached k (ap (among k) reached ∙ elim (cases_eq k i) [
       | inl same ↦ subst (λ (l : ℕ). among l (slots_below (superiors m) i ++ i ∷ []) ≡ true) (sym same) (among_right i (slots_below (superiors m) i) (i ∷ []) (among_first i []))
-      | inr other ↦ among_left k (slots_below (superiors m) i) (i ∷ []) (among_below m i k c.forest.few (gone_below (superiors m) i k other below))
+      | inr other ↦ among_left k (slots_below (superiors m) i) (i ∷ []) (among_below m i k (forest_few m c.forest) (gone_below (superiors m) i k other below))
     ])
 
 caller_stays : (m : Machine) (v : State) (j : ℕ) (q : Whole) (s : Site) (a : Ask) (n i at : ℕ) (write : Bool) → Calling m v j q s a n → channel_at q.channels (input a 0) ≡ On i write at

@@ -9,7 +9,7 @@ use Rattle.its_frame.specs.declared.name.CallName.{CallName}
 use Rattle.its_frame.specs.declared.name.CallName.TheVariants.{Logout, Uclose}
 use Rattle.its_frame.specs.declared.name.OnFiles.{OnFiles}
 use Rattle.its_frame.specs.declared.name.OnFiles.TheVariants.{ByChannel}
-use Rattle.its_plain.specs.Machine.{Whole, Machine}
+use Rattle.its_plain.specs.Machine.{Whole, Machine, limit}
 use Rattle.its_plain.specs.Change.{superiors}
 use Rattle.its_plain.specs.Arguments.{input}
 use Rattle.its_plain.specs.View.{outline, job_at, view}
@@ -56,6 +56,7 @@ view_plain w j own t h = λ i. record {
   holders = w.raw.holders;
   files = helped w.mark w.raw.files;
   clock = w.raw.clock;
+  limit = limit w.raw;
 }
 
 pub view_unmarked : (w : State) (j : ℕ) (own : Whole) (t : Option ℕ) → StillAt w t → w.mark ≡ None → view (plain w) j own t ≡ view w.raw j own t

@@ -1,13 +1,13 @@
 -- The lines that the monitor writes are a transcript of the plain machine, where the decoding of calls looks at what it
 -- has to.
-use Rattle.std.specs.Prelude.{◌≡◌, ℕ, Bool, true, Option, Some, None, IfSome, List, option_map, is_some, refl}
-use Rattle.std.proofs.Common.{sym, ◌∙◌, ap, subst}
+use Rattle.std.specs.Prelude.{◌≡◌, ◌≤◌, ◌⊎◌, ℕ, Bool, true, Option, Some, None, IfSome, List, option_map, is_some, refl}
+use Rattle.std.proofs.Common.{sym, ◌∙◌, ap, subst, inl, inr, arith}
 use Rattle.std.proofs.lemmas.Option.{IfSome_then}
 use Rattle.its_word.specs.Item.{Item}
 use Rattle.its_word.specs.declared.session.Event.{Event}
 use Rattle.its_print.specs.Printing.{Line}
 use Rattle.its_plain.specs.Change.{channel_in, superior_in, console_in}
-use Rattle.its_plain.specs.Machine.{Chan, Shut, Whole, Machine}
+use Rattle.its_plain.specs.Machine.{Chan, Shut, Whole, Machine, limit}
 use Rattle.its_plain.specs.OperatorLines.{Done, lined}
 use Rattle.its_plain.specs.Transcript.{Transcript}
 use Rattle.its_plain.specs.Operator.{Block, Does}
@@ -19,6 +19,8 @@ use Rattle.its_stepped.proofs.ForestLaws.{forest_starts, same_forest}
 use Rattle.its_stepped.proofs.FitLaws.{forest_steps}
 use Rattle.its_stepped.proofs.GivenLaws.{given}
 use Rattle.its_stepped.proofs.UpkeepLaws.{Lasting, session_transcript}
+use Rattle.its_word.specs.Limits.{slots, limit_of}
+use Rattle.its_word.proofs.FreeLaws.{limit_few}
 
 -- lines keep how jobs lie to each other: a job that LOAD makes has no superior and no channel
 abbrev face_superior : Option Face → Option ℕ
@@ -74,10 +76,21 @@ holder_kept m n c h (Keeps e) d =
     (IfSome_then (m.holders c) d (λ s x. slot_some (m.jobs s) (n.jobs s) (h.slots s) x))
 holder_kept m n c h (Takes s u j none free is e) d = subst (λ (o : Option ℕ). IfSome o (λ s. is_some (n.jobs s) ≡ true)) (sym e) (ap is_some is)
 
+-- the number of jobs that there can be never falls
+limit_second : (k : ℕ) → limit_of 2 ≤ k → slots ≤ k
+unfolding limit_of
+limit_second k l = l
+
+limit_rises : (m n : Machine) (k : ℕ) → (n.version ≡ m.version) ⊎ (n.version ≡ 2) → limit n ≤ k → limit m ≤ k
+limit_rises m n k h l = elim h [
+  | inl same ↦ subst (λ (i : ℕ). limit_of i ≤ k) same l
+  | inr second ↦ let few = limit_few m.version in let top : slots ≤ k = limit_second k (subst (λ (i : ℕ). limit_of i ≤ k) second l) in omega arith
+]
+
 keeps_forest : (m n : Machine) → LineKeeps m n → Forest m → Forest n
 keeps_forest m n h d = same_forest m n
     (record {
-      few = λ k l. h.few k l (d.few k l);
+      few = λ k l. let past : limit m ≤ k = limit_rises m n k h.version l in h.few k past (d.few k past);
       tree = λ k. slot_superior (m.jobs k) (n.jobs k) (h.slots k);
       jobs = λ k x. slot_some (m.jobs k) (n.jobs k) (h.slots k) x;
       channels = λ k i. slot_channel m k i (m.jobs k) (n.jobs k) (h.slots k) (d.channels k i);

@@ -2,7 +2,7 @@
 use Rattle.std.specs.Prelude.{◌≡◌, ◌≤◌, ℕ, true, false, Option, Some, None, IfSome, is_some}
 use Rattle.its_word.specs.Limits.{slots}
 use Rattle.its_word.specs.Tree.{climbs_to}
-use Rattle.its_plain.specs.Machine.{Chan, TtyIn, TtyOut, On, Machine}
+use Rattle.its_plain.specs.Machine.{Chan, TtyIn, TtyOut, On, Machine, limit}
 use Rattle.its_plain.specs.Change.{superiors, channel_in, console_in}
 
 -- a channel of the job of slot k that is on a job is on an inferior of its own
@@ -16,10 +16,10 @@ OnConsole console TtyIn = is_some console ≡ true
 OnConsole console TtyOut = is_some console ≡ true
 OnConsole console _ = Unit {0}
 
--- jobs have the slots that there are; a superior is a job, and no job is reached from itself through superiors; a channel
+-- jobs have the slots below the limit; a superior is a job, and no job is reached from itself through superiors; a channel
 -- on a job is on an inferior; a job with a channel on a console has one; and who holds a console is a job
 pub record Forest (m : Machine) : Type 0 where
-  pub few : (k : ℕ) → slots ≤ k → m.jobs k ≡ None
+  pub few : (k : ℕ) → limit m ≤ k → m.jobs k ≡ None
   pub standing : (k : ℕ) → IfSome (superiors m k) (λ s. is_some (m.jobs s) ≡ true)
   pub circle : (k : ℕ) → climbs_to (superiors m) k slots (superiors m k) ≡ false
   pub channels : (k n : ℕ) → OnInferior m k (channel_in (m.jobs k) n)

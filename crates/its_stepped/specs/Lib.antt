@@ -6,6 +6,7 @@ pub mod Sound
 pub mod OneChange
 pub mod Quiet
 pub mod Forest
+pub mod Alarmed
 pub mod Duty
 pub mod SlotSame
 pub mod Lines

@@ -21,11 +21,12 @@ use Rattle.its_print.specs.Printing as printed
 use Rattle.its_plain.specs.Machine.{Machine, no_machine, core_of}
 use Rattle.its_plain.specs.Arguments.{place_of_input}
 use Rattle.its_plain.specs.Decide.{call_row, call_named}
+use Rattle.its_plain.specs.OperatorClock.{due_slots}
 use Rattle.its_plain.specs.Operator.{Block, no_block, Operated, Refuses, Does, Ticks, nobody, Quits}
 use Rattle.its_plain.specs.Transcript.{Fate, Ended, Open, Lost, TooLong}
 use Rattle.its_plain.specs.OperatorLines.{Lined, Done, Peeks, lined}
 use Rattle.its_stepped.specs.State.{State, plain, no_state}
-use Rattle.its_stepped.specs.Unwind.{left, unwound}
+use Rattle.its_stepped.specs.Unwind.{left, unwound, all_unwound}
 use Rattle.its_stepped.specs.Tick.{helped_if, tick}
 
 -- how far a job is inside a call
@@ -101,9 +102,10 @@ peeked w s = record {
   h = byte_shown (w.frames s);
 }
 
--- the slot whose job a line finds in user mode
+-- the slot of the one job that a line names and finds in user mode
 abbrev pub called_on : Block → Event → Option ℕ
 called_on b (events.Words a words) = Some b.slot
+called_on b (events.ReadOnly page) = Some b.slot
 called_on b (events.Go a) = Some b.slot
 called_on b (events.Int s v w) = Some s
 called_on b (events.Exam s a n) = Some s
@@ -117,6 +119,11 @@ abbrev pub unwound_at : Option ℕ → State → State
 unwound_at (Some s) w = unwound w s
 unwound_at None w = w
 
+-- the state with what a line disturbs unwound: of CLOCK the jobs whose alarm is due at the new clock, by slot number
+abbrev pub unwound_for : State → Block → Event → State
+unwound_for w b (events.Clock n) = all_unwound (due_slots (w.raw.clock + n) w.raw.jobs) w
+unwound_for w b e = unwound_at (called_on b e) w
+
 -- a line that looks at the directory first makes the parts of a close that are still owed; the job that stands in the
 -- close is not disturbed by it
 abbrev pub looks_at_files : Event → Bool
@@ -128,7 +135,7 @@ looks_at_files _ = false
 
 -- the state that a line finds: what it disturbs is unwound, and what it looks at is whole
 unfoldable pub calmed : State → Block → Event → State
-calmed w b e = helped_if (looks_at_files e) (unwound_at (called_on b e) w)
+calmed w b e = helped_if (looks_at_files e) (unwound_for w b e)
 
 -- the state with another raw machine
 abbrev pub with_raw : State → Machine → State

@@ -49,6 +49,7 @@ Quiet (changes.Protect s k on) j w = Reached w j s
 Quiet (changes.Make s u n) j w = w.frames s ≡ None
 Quiet (changes.Remove s) j w = (k : ℕ) → is_gone (superiors w.raw) s k ≡ true → k ≢ j → w.frames k ≡ None
 Quiet (changes.Inform s) j w = Reached w j s
+Quiet (changes.Arm alarm) j w = Unit {0}
 Quiet (changes.Delete d x y) j w = w.mark ≡ None
 Quiet (changes.Rename d x y u v) j w = w.mark ≡ None
 

@@ -1,5 +1,5 @@
 -- From what the monitor answered and what was written to what the event did.
-use Rattle.std.specs.Prelude.{◌≡◌, ◌<◌, ◌≤◌, ℕ, Bool, true, Option, Some, None, IfSome, is_some, Result, Ok, Err, OnOk, IfErr, List, [], ◌∷◌, take, refl}
+use Rattle.std.specs.Prelude.{◌≡◌, ◌<◌, ◌≤◌, ◌+◌, ℕ, Bool, true, Option, Some, None, IfSome, is_some, Result, Ok, Err, OnOk, IfErr, List, [], ◌∷◌, take, refl}
 use Rattle.std.proofs.Common.{sym, ◌∙◌, ap, subst, arith}
 use Rattle.std.proofs.KnownBytes.{Appends-nil}
 use Rattle.its_word.specs.declared.session.Event.{Event}
@@ -17,15 +17,20 @@ use Rattle.its_plain.specs.Own.{names_of}
 use Rattle.its_plain.specs.CallFile.{file_named}
 use Rattle.its_plain.specs.OperatorFiles.{file_made, words_added, files_in, listing, shown_lines, shown_by, file_shown}
 use Rattle.its_plain.specs.Operator.{Block, Does, Refuses, nobody, only, disturbs, quietly}
-use Rattle.its_plain.specs.OperatorJobs.{loaded, words_loaded, on_registers, started, interrupted, stopped, continued, examined, state_shown, deposited}
-use Rattle.its_plain.specs.OperatorLines.{by_load, by_exam, by_state, Done, Peeks, peeked_at, shows, operate, lined}
-use Rattle.its_plain.specs.OperatorClock.{clocked}
+use Rattle.its_plain.specs.OperatorJobs.{loaded, words_loaded, page_protected, on_registers, started, interrupted, stopped, continued, examined, state_shown, deposited}
+use Rattle.its_plain.specs.OperatorLines.{by_load, by_exam, by_state, by_clock, Done, Peeks, peeked_at, shows, operate, lined}
+use Rattle.its_plain.specs.OperatorClock.{due, clocked}
+use Rattle.its_plain.specs.OperatorSymbols.{symbol_kept}
+use Rattle.its_plain.specs.OperatorVersion.{versioned}
 use Rattle.its_plain.specs.OperatorConsoles.{typed, dropped, drained}
 use Rattle.its_stepped.specs.State.{State, plain}
 use Rattle.its_stepped.specs.Unwind.{unwound, help}
 use Rattle.its_stepped.specs.Lines.{calmed, with_raw, peeked, paces_of, ticked}
+use Rattle.its_world.specs.World.{state_of}
+use Rattle.its_world.specs.declared.world.World.{World}
 use Rattle.its_operator.specs.Kept.{Lands, Loads, reason_of}
 use Rattle.its_operator.specs.Kept as kept
+use Rattle.its_operator.specs.Rung.{roused}
 use Rattle.its_top.specs.declared.turn.Turn.{Turn}
 use Rattle.its_top.specs.declared.turn.Turn.TheVariants as turns
 use Rattle.its_top.specs.Telling.{Answers}
@@ -81,6 +86,12 @@ pub nothing_answered : (n : ℕ) (v : State) (b : Block) (out : Option (List ℕ
 unfolding lined operate calmed
 nothing_answered n v b out = does_nothing n v v v v.raw b b events.Nothing nobody out (record { calm = refl; is = refl }) refl
 
+pub version_answered : (n : ℕ) (v v' : State) (b : Block) (k : ℕ) (out : Option (List ℕ)) → Lands v v' (Ok (versioned v.raw k)) → Answered turns.On n v b (events.Version k) v' b out out
+unfolding lined operate calmed
+version_answered n v v' b k out h =
+    let l : versioned v.raw k ≡ v'.raw = let o : Ok (versioned v.raw k) ≡ Ok v'.raw = h.is in cc in
+    does_nothing n v v v' v'.raw b b (events.Version k) nobody out (record { calm = refl; is = ap (λ m. Done (Does m [] nobody b)) l }) h.rest
+
 pub end_file_answered : (n : ℕ) (v : State) (b : Block) (out : Option (List ℕ)) → Answered turns.On n v b events.EndFile v b out out
 unfolding lined operate calmed
 end_file_answered n v b out = does_nothing n v v v v.raw b b events.EndFile nobody out (record { calm = refl; is = refl }) refl
@@ -113,12 +124,21 @@ unfolding lined operate calmed
 exam_refused turn n v v' b b' s a k r old new h t =
     refuses_line turn n v (unwound v s) v' b b' (events.Exam s a k) r old new (record { calm = refl; is = ap (λ x. Done (by_exam (unwound v s).raw b s a x)) h }) t
 
-pub state_answered : (turn : Turn) (n : ℕ) (v v' : State) (b : Block) (s : ℕ) (show : JobShow) (old new : Option (List ℕ)) → state_shown (unwound v s).raw s ≡ Ok show → v' ≡ unwound v s
-    → Tells turn turns.On (text_of_line (printed.State s show)) old new → Answered turn n v b (events.State s) v' b old new
+pub state_answered : (turn : Turn) (n : ℕ) (v v' : State) (b : Block) (s version : ℕ) (show : JobShow) (old new : Option (List ℕ)) → state_shown (unwound v s).raw s ≡ Ok show → v' ≡ unwound v s
+    → version ≡ v'.raw.version → Tells turn turns.On (text_of_line (printed.State version s show)) old new → Answered turn n v b (events.State s) v' b old new
 unfolding lined operate calmed
-state_answered turn n v v' b s show old new h e t =
-    does_line turn n v (unwound v s) v' (unwound v s).raw b b (events.State s) (printed.State s show) (only s) old new
-    (record { calm = refl; is = ap (λ x. Done (by_state (unwound v s).raw b s x)) h }) e t
+state_answered turn n v v' b s version show old new h e k t =
+    let is : version ≡ (unwound v s).raw.version = k ∙ ap (λ (x : State). x.raw.version) e in
+    does_line turn n v (unwound v s) v' (unwound v s).raw b b (events.State s) (printed.State version s show) (only s) old new
+    (record {
+      calm = refl;
+      is = ap (λ x. Done (by_state (unwound v s).raw b s x)) h ∙ ap (λ x. Done (Does (unwound v s).raw (printed.State x s show ∷ []) (only s) b)) (sym is);
+    }) e t
+
+-- the version of a world is that of the machine that it stands for
+pub version_shown : (w : World) → w.version ≡ (state_of w).raw.version
+unfolding state_of
+version_shown w = refl
 
 pub state_refused : (turn : Turn) (n : ℕ) (v v' : State) (b b' : Block) (s : ℕ) (r : Reason) (old new : Option (List ℕ)) → state_shown (unwound v s).raw s ≡ Err r
     → Tells turn turns.Refused (text_of_line (Refused n r)) old new → Answered turn n v b (events.State s) v' b' old new
@@ -221,6 +241,18 @@ quietly_by (Ok x) turn n v c v' b e o old new h d f t =
     (does_quietly n v c v' b b e o old h d))
 quietly_by (Err r) turn n v c v' b e o old new h d f t = refuses_quietly turn n v c v' b b b e (reason_of r) o old new h f t
 
+-- CLOCK, which disturbs the jobs whose alarm is due
+clock_by : {T : Type 0} (result : Result T Refusal) (turn : Turn) (n : ℕ) (v c v' : State) (b : Block) (k : ℕ) (o : Result Machine Reason) (old new : Option (List ℕ))
+    → Comes v b (events.Clock k) c (Done (by_clock c.raw b k o)) → OnOk result (Lands c v' o) → IfErr result (λ r. o ≡ Err (reason_of r)) → Settled result turn n old new
+    → Answered turn n v b (events.Clock k) v' b old new
+clock_by (Ok x) turn n v c v' b k o old new h d f t =
+    let touched : ℕ → Bool = due (c.raw.clock + k) c.raw.jobs in
+    subst (λ i. Answered i n v b (events.Clock k) v' b old new) (sym t.0)
+    (subst (Answered turns.On n v b (events.Clock k) v' b old) (sym t.1)
+    (does_nothing n v c v' v'.raw b b (events.Clock k) touched old (record { calm = h.calm; is = h.is ∙ ap (λ x. Done (by_clock c.raw b k x)) d.is }) d.rest))
+clock_by (Err r) turn n v c v' b k o old new h d f t =
+    refuses_line turn n v c v' b b (events.Clock k) (reason_of r) old new (record { calm = h.calm; is = h.is ∙ ap (λ x. Done (by_clock c.raw b k x)) f }) t
+
 -- the refusal that the line finds
 pub refused_calmed : {T X : Type 0} (result : Result T Refusal) (w v : State) (f : Machine → Result X Reason) → IfErr result (λ e. kept.Refused w v f e) → IfErr result (λ e. f v.raw ≡ Err (reason_of e))
 refused_calmed (Ok x) w v f h = tt
@@ -269,11 +301,25 @@ cont_answered result turn n v v' b s old new o f t =
     disturbs_by result turn n v (unwound v s) v' b (events.Cont s) s _ old new (record { calm = refl; is = refl }) o (refused_calmed result v (unwound v s) (λ m. on_registers m s continued) f) t
 
 pub clock_answered : {T : Type 0} (result : Result T Refusal) (turn : Turn) (n : ℕ) (v v' : State) (b : Block) (k : ℕ) (old new : Option (List ℕ))
-    → OnOk result (Lands v v' (clocked v.raw k)) → IfErr result (λ e. kept.Refused v v (λ m. clocked m k) e) → Settled result turn n old new
+    → OnOk result (Lands (roused v k) v' (clocked (roused v k).raw k)) → IfErr result (λ e. kept.Refused v (roused v k) (λ m. clocked m k) e) → Settled result turn n old new
     → Answered turn n v b (events.Clock k) v' b old new
 unfolding lined operate calmed
 clock_answered result turn n v v' b k old new o f t =
-    quietly_by result turn n v v v' b (events.Clock k) _ old new (record { calm = refl; is = refl }) o (refused_calmed result v v (λ m. clocked m k) f) t
+    clock_by result turn n v (roused v k) v' b k _ old new (record { calm = refl; is = refl }) o (refused_calmed result v (roused v k) (λ m. clocked m k) f) t
+
+pub read_only_answered : {T : Type 0} (result : Result T Refusal) (turn : Turn) (n : ℕ) (v v' : State) (b : Block) (p : ℕ) (old new : Option (List ℕ))
+    → OnOk result (Lands (unwound v b.slot) v' (page_protected (unwound v b.slot).raw b.slot p)) → IfErr result (λ e. kept.Refused v (unwound v b.slot) (λ m. page_protected m b.slot p) e) → Settled result turn n old new
+    → Answered turn n v b (events.ReadOnly p) v' b old new
+unfolding lined operate calmed
+read_only_answered result turn n v v' b p old new o f t =
+    disturbs_by result turn n v (unwound v b.slot) v' b (events.ReadOnly p) b.slot _ old new (record { calm = refl; is = refl }) o (refused_calmed result v (unwound v b.slot) (λ m. page_protected m b.slot p) f) t
+
+pub symbol_answered : {T : Type 0} (result : Result T Refusal) (turn : Turn) (n : ℕ) (v v' : State) (b : Block) (name a : ℕ) (old new : Option (List ℕ))
+    → OnOk result (Lands v v' (symbol_kept v.raw b.slot name a)) → IfErr result (λ e. kept.Refused v v (λ m. symbol_kept m b.slot name a) e) → Settled result turn n old new
+    → Answered turn n v b (events.Symbol name a) v' b old new
+unfolding lined operate calmed
+symbol_answered result turn n v v' b name a old new o f t =
+    quietly_by result turn n v v v' b (events.Symbol name a) _ old new (record { calm = refl; is = refl }) o (refused_calmed result v v (λ m. symbol_kept m b.slot name a) f) t
 
 -- lines on files
 pub file_answered : (n : ℕ) (v v' : State) (b : Block) (d x y : ℕ) (out : Option (List ℕ)) → Lands (help v) v' (file_made (help v).raw (names_of d x y))

@@ -42,9 +42,9 @@ line_ends n f e h g = subst (CheckedBy (Some (Ended n)) n) (sym h) (by e g)
     by _ g = cc
 
 -- the start of a check
-pub so_start : (r : Items) (left : Option (List ℕ)) → r.lines.number ≡ 0 → r.lines.ended ≡ false → pending r.lines.buffer ≡ [] → r.place ≡ places.Plain → CheckSoFar r (r.lines.number + 1) left left
+pub so_start : (r : Items) (left : Option (List ℕ)) → r.lines.number ≡ 0 → r.lines.ended ≡ false → pending r.lines.buffer ≡ [] → r.place ≡ places.First → r.version ≡ 1 → CheckSoFar r (r.lines.number + 1) left left
 unfolding checked
-so_start r left n o p q = record { items = []; found = reader.so_start r left n o p q; checks = λ behind. ap (λ k. checked_from (k + 1) behind) (sym n) }
+so_start r left n o p q v = record { items = []; found = reader.so_start r left n o p q v; checks = λ behind. ap (λ k. checked_from (k + 1) behind) (sym n) }
 
 -- the check goes on
 found_on : (f : Found) (es : List Item) (old new : Items) (left mid rest : Option (List ℕ)) → is_last f ≡ false → FoundSoFar es old left mid → Finds (Ok f) old new mid rest → FoundSoFar (es ++ last_items f) new left rest

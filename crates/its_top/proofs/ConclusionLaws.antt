@@ -104,11 +104,11 @@ unfolding items_say
 says_all n v behind e h =
     ap (λ k. items_say k (no_state no_machine) (block_of 0 (names_of 0 0 0)) behind) (sym e) ∙ ap (λ k. items_say n k (block_of 0 (names_of 0 0 0)) behind) (sym h)
 
-pub so_start : (r : Items) (v : State) (left out : Option (List ℕ)) → v ≡ no_state no_machine → r.lines.number ≡ 0 → r.lines.ended ≡ false → pending r.lines.buffer ≡ [] → r.place ≡ places.Plain
+pub so_start : (r : Items) (v : State) (left out : Option (List ℕ)) → v ≡ no_state no_machine → r.lines.number ≡ 0 → r.lines.ended ≡ false → pending r.lines.buffer ≡ [] → r.place ≡ places.First → r.version ≡ 1
     → SoFar r (r.lines.number + 1) v (block_of 0 (names_of 0 0 0)) left left out out
-so_start r v left out e n o p q = record {
+so_start r v left out e n o p q k = record {
   items = [];
-  found = reader.so_start r left n o p q;
+  found = reader.so_start r left n o p q k;
   wrote = [];
   appended = Appends-nil out;
   says = λ behind. says_all (r.lines.number + 1) v behind (ap (λ k. k + 1) n) e;

@@ -37,10 +37,10 @@ console_here m c f = changed_here m.consoles c (f (m.consoles c))
 on_then : (m : Machine) (c : ℕ) (f g h : Console → Console) → ((x : Console) → g (f x) ≡ h x) → on_console (on_console m c f) c g ≡ on_console m c h
 on_then m c f g h e = machine_is _ _ (λ k. refl)
     (λ k. changed_twice m.consoles c _ _ k ∙ ap (λ x. changed m.consoles c (g x) k) (console_here m c f) ∙ ap (λ x. changed m.consoles c x k) (e (m.consoles c)))
-    (λ k. refl) refl refl
+    (λ k. refl) refl refl refl (λ k. refl)
 
 on_same : (m : Machine) (c : ℕ) → on_console m c (λ x. x) ≡ m
-on_same m c = machine_is _ _ (λ k. refl) (λ k. changed_not m.consoles c k) (λ k. refl) refl refl
+on_same m c = machine_is _ _ (λ k. refl) (λ k. changed_not m.consoles c k) (λ k. refl) refl refl refl (λ k. refl)
 
 -- the state stays that of v, but for its raw machine
 still : (v now next : State) (m : Machine) → now ≡ with_raw v now.raw → Lands now next (Ok m) → next ≡ with_raw v next.raw

@@ -1,7 +1,9 @@
 pub mod EventLaws
+pub mod StartLaws
 pub mod ConclusionLaws
 pub mod AnswerLaws
 pub mod ExamLaws
+pub mod FewDotsLaws
 pub mod TopLaws
 pub mod PaceLaws
 pub mod LoadingLaws
@@ -15,3 +17,4 @@ pub mod CommandLaws
 pub mod CheckingLaws
 pub mod TallyLaws
 pub mod ObeyLaws
+pub mod NearestLaws

@@ -104,6 +104,7 @@ change_passes (changes.Protect s k w) j m c = passes_still (m.consoles c) c
 change_passes (changes.Make s u n) j m c = passes_still (m.consoles c) c
 change_passes (changes.Remove s) j m c = passes_still (m.consoles c) c
 change_passes (changes.Inform s) j m c = passes_still (m.consoles c) c
+change_passes (changes.Arm alarm) j m c = passes_still (m.consoles c) c
 change_passes (changes.Delete d x y) j m c = passes_still (m.consoles c) c
 change_passes (changes.Rename d x y u v) j m c = passes_still (m.consoles c) c
 

@@ -1,12 +1,13 @@
 -- What a line of a session does to the consoles: TYPE adds what has room, DRAIN takes what it shows, and any other line
 -- leaves them and shows no byte of them (docs/MACHINE.md, "The ledger").
-use Rattle.std.specs.Prelude.{◌≡◌, ◌≤◌, ℕ, zero, suc, ◌+◌, ◌-◌, ◌/◌, Bool, true, false, Option, Some, None, List, [], ◌∷◌, ◌++◌, Result, Ok, Err, length, map, take, drop, min, flat_map, is_some, nat_lt, refl}
+use Rattle.std.specs.Prelude.{if◌then◌else◌, ◌==◌, ◌≡◌, ◌≤◌, ℕ, zero, suc, ◌+◌, ◌-◌, ◌/◌, Bool, true, false, Option, Some, None, List, [], ◌∷◌, ◌++◌, Result, Ok, Err, length, map, take, drop, min, flat_map, is_some, nat_lt, refl}
 use Rattle.std.proofs.Common.{sym, ◌∙◌, ap, subst, inl, inr, arith, append-nil, take-append-drop}
 use Rattle.std.proofs.Math.Seq.{take-append-add}
 use Rattle.std.proofs.lemmas.Bool.{cases_eq, eq-eqb, ne_eqb}
 use Rattle.std.proofs.lemmas.List.{length-take}
 use Rattle.its_word.specs.Console.{Console, most_waiting}
-use Rattle.its_word.specs.Core.{Core, word_at, can_store}
+use Rattle.its_word.specs.Core.{Core, Page, word_at, can_store, page_of}
+use Rattle.its_word.specs.Limits.{most_symbols}
 use Rattle.its_word.specs.Tree.{least_free}
 use Rattle.its_word.specs.declared.jobs.Job.{Job}
 use Rattle.its_word.specs.declared.session.Event.{Event}
@@ -17,13 +18,15 @@ use Rattle.its_print.specs.Printing.{Line}
 use Rattle.its_print.specs.Printing as printed
 use Rattle.its_plain.specs.OperatorClock.{clock_end, clocked_if, clocked}
 use Rattle.its_plain.specs.OperatorConsoles.{typed, dropped, drained}
-use Rattle.its_plain.specs.OperatorLines.{shows, operate, Lined, Done, Peeks, peeked_at, lined, by_load, by_exam, by_state}
+use Rattle.its_plain.specs.OperatorLines.{shows, operate, Lined, Done, Peeks, peeked_at, lined, by_load, by_exam, by_state, by_clock}
 use Rattle.its_plain.specs.CallFile.{file_named}
 use Rattle.its_plain.specs.OperatorFiles.{file_made, words_added, files_in, filed_line, listing, rows, shown_lines, shown_by, file_shown}
 use Rattle.its_plain.specs.Ledger.{typed_by, drained_by}
-use Rattle.its_plain.specs.Machine.{File, Whole, Machine, mapped}
+use Rattle.its_plain.specs.Machine.{File, Whole, Machine, mapped, limit}
 use Rattle.its_plain.specs.Operator.{Block, Refuses, Does, Ticks, Quits, and_then, disturbs, quietly}
-use Rattle.its_plain.specs.OperatorJobs.{stored, with_core, word_loaded_of, word_loaded, words_loaded, on_job, with_registers, on_registers, started, interrupted, stopped, continued, deposited_in, deposited, loaded_in, loaded, examined, state_shown}
+use Rattle.its_plain.specs.OperatorSymbols.{symbol_kept_if, symbol_kept_of, symbol_kept}
+use Rattle.its_plain.specs.OperatorVersion.{versioned}
+use Rattle.its_plain.specs.OperatorJobs.{stored, with_core, word_loaded_of, word_loaded, words_stored, words_barred, words_loaded_if, words_loaded, page_protected_in, page_protected, on_job, with_registers, on_registers, started, interrupted, stopped, continued, deposited_in, deposited, loaded_in, loaded, examined, state_shown}
 use Rattle.its_plain.specs.Own.{names_of}
 use Rattle.its_plain.proofs.CallLineLaws.{FilesAlone, made_files, added_files}
 
@@ -90,13 +93,53 @@ same_further : (m n : Machine) (r : Result Machine Reason) → n.consoles ≡ m.
 same_further m n (Ok l) a b = b ∙ a
 same_further m n (Err r) a b = tt
 
-words_same : (m : Machine) (s a : ℕ) (ws : List ℕ) → SameBy m (words_loaded m s a ws)
-words_same m s a [] = refl
-words_same m s a (w ∷ ws) = go (word_loaded m s a w) (word_same m s a w) (λ n. words_same n s (a + 1) ws)
+stored_same : (m : Machine) (s a : ℕ) (ws : List ℕ) → SameBy m (words_stored m s a ws)
+stored_same m s a [] = refl
+stored_same m s a (w ∷ ws) = go (word_loaded m s a w) (word_same m s a w) (λ n. stored_same n s (a + 1) ws)
   where
-    go : (r : Result Machine Reason) → SameBy m r → ((n : Machine) → SameBy n (words_loaded n s (a + 1) ws)) → SameBy m (and_then r (λ n. words_loaded n s (a + 1) ws))
-    go (Ok n) first h = same_further m n (words_loaded n s (a + 1) ws) first (h n)
+    go : (r : Result Machine Reason) → SameBy m r → ((n : Machine) → SameBy n (words_stored n s (a + 1) ws)) → SameBy m (and_then r (λ n. words_stored n s (a + 1) ws))
+    go (Ok n) first h = same_further m n (words_stored n s (a + 1) ws) first (h n)
     go (Err r) first h = tt
+
+words_same : (m : Machine) (s a : ℕ) (ws : List ℕ) → SameBy m (words_loaded m s a ws)
+unfolding words_loaded
+words_same m s a ws = go (words_barred m s a (length ws))
+  where
+    go : (b : Bool) → SameBy m (words_loaded_if m s a ws b)
+    go true = tt
+    go false = stored_same m s a ws
+
+page_same : (m : Machine) (s k : ℕ) → SameBy m (page_protected m s k)
+unfolding page_protected
+page_same m s k = go (m.jobs s)
+  where
+    there : (q : Whole) (o : Option Page) → SameBy m (page_protected_in m s k q o)
+    there q (Some p) = refl
+    there q None = tt
+
+    go : (o : Option Whole) → SameBy m (on_job m s (λ q. page_protected_in m s k q (page_of q.core k)) o)
+    go (Some q) = there q (page_of q.core k)
+    go None = tt
+
+symbol_same : (m : Machine) (s name a : ℕ) → SameBy m (symbol_kept m s name a)
+unfolding symbol_kept
+symbol_same m s name a = go (m.jobs s)
+  where
+    fits : (b : Bool) → SameBy m (symbol_kept_if m s (name, a) b)
+    fits true = refl
+    fits false = tt
+
+    go : (o : Option Whole) → SameBy m (symbol_kept_of m s (name, a) o)
+    go (Some q) = fits (nat_lt (length (m.symbols s)) most_symbols)
+    go None = tt
+
+version_same : (m : Machine) (v : ℕ) → (versioned m v).consoles ≡ m.consoles
+unfolding versioned
+version_same m v = go (v == 2)
+  where
+    go : (b : Bool) → (if b then record m { version = 2 } else m).consoles ≡ m.consoles
+    go true = refl
+    go false = refl
 
 -- what a result comes to
 disturbs_shows : (c : ℕ) (m : Machine) (e : Event) (s : ℕ) (b : Block) (r : Result Machine Reason) → Few c m → typed_by c m e ≡ [] → SameBy m r
@@ -109,7 +152,7 @@ exam_shows c m b s a k (Ok ws) few = shows_still c m m (events.Exam s a k) (prin
 exam_shows c m b s a k (Err r) few = tt
 
 state_shows : (c : ℕ) (m : Machine) (b : Block) (s : ℕ) (r : Result JobShow Reason) → Few c m → ShowsBy c m (events.State s) (Done (by_state m b s r))
-state_shows c m b s (Ok show) few = shows_still c m m (events.State s) (printed.State s show ∷ []) few refl refl refl
+state_shows c m b s (Ok show) few = shows_still c m m (events.State s) (printed.State m.version s show ∷ []) few refl refl refl
 state_shows c m b s (Err r) few = tt
 
 peek_shows : (c : ℕ) (m : Machine) (s : ℕ) (o : Option Whole) → ShowsBy c m (events.Peek s) (peeked_at s o)
@@ -126,9 +169,9 @@ quiet_shows : (c : ℕ) (m : Machine) (e : Event) (b : Block) (r : Result Machin
 quiet_shows c m e b (Ok n) few none h = shows_still c m n e [] few h none refl
 quiet_shows c m e b (Err r) few none h = tt
 
-clock_same : (m : Machine) (n : ℕ) (fits : Bool) → SameBy m (clocked_if m n fits)
-clock_same m n true = refl
-clock_same m n false = tt
+clock_shows : (c : ℕ) (m : Machine) (b : Block) (n : ℕ) (fits : Bool) → Few c m → ShowsBy c m (events.Clock n) (Done (by_clock m b n (clocked_if m n fits)))
+clock_shows c m b n true few = shows_still c m _ (events.Clock n) [] few refl refl refl
+clock_shows c m b n false few = tt
 
 -- lines on files
 files_same : (m : Machine) (r : Result Machine Reason) → FilesAlone m r → SameBy m r
@@ -199,9 +242,12 @@ drained_shows c d m n few = elim (cases_eq d c) [
 -- each line
 pub line_shows : (c : ℕ) (m : Machine) (b : Block) (e : Event) → Few c m → ShowsBy c m e (lined m b e)
 unfolding lined operate loaded clocked file_shown
-line_shows c m b (events.Load u j console) few = load_shows c m b u j console (least_free m.jobs) few
+line_shows c m b (events.Load u j console) few = load_shows c m b u j console (least_free (limit m) m.jobs) few
 line_shows c m b (events.Words a words) few =
     disturbs_shows c m (events.Words a words) b.slot b (words_loaded m b.slot a words.items) few refl (words_same m b.slot a words.items)
+line_shows c m b (events.Version v) few = shows_still c m (versioned m v) (events.Version v) [] few (version_same m v) refl refl
+line_shows c m b (events.ReadOnly p) few = disturbs_shows c m (events.ReadOnly p) b.slot b (page_protected m b.slot p) few refl (page_same m b.slot p)
+line_shows c m b (events.Symbol x a) few = quiet_shows c m (events.Symbol x a) b (symbol_kept m b.slot x a) few refl (symbol_same m b.slot x a)
 line_shows c m b (events.Go a) few = disturbs_shows c m (events.Go a) b.slot b (on_registers m b.slot (started a)) few refl (registers_same m b.slot (started a))
 line_shows c m b (events.Int s x y) few = disturbs_shows c m (events.Int s x y) s b (on_registers m s (interrupted x y)) few refl (registers_same m s (interrupted x y))
 line_shows c m b (events.Stop s) few = disturbs_shows c m (events.Stop s) s b (on_registers m s stopped) few refl (registers_same m s stopped)
@@ -209,7 +255,7 @@ line_shows c m b (events.Cont s) few = disturbs_shows c m (events.Cont s) s b (o
 line_shows c m b (events.Deposit s a x) few = disturbs_shows c m (events.Deposit s a x) s b (deposited m s a x) few refl (deposited_same m s a x)
 line_shows c m b (events.Exam s a n) few = exam_shows c m b s a n (examined m s a n) few
 line_shows c m b (events.State s) few = state_shows c m b s (state_shown m s) few
-line_shows c m b (events.Clock n) few = quiet_shows c m (events.Clock n) b (clocked m n) few refl (clock_same m n (nat_lt (m.clock + n) clock_end))
+line_shows c m b (events.Clock n) few = clock_shows c m b n (nat_lt (m.clock + n) clock_end) few
 line_shows c m b (events.Peek s) few = peek_shows c m s (m.jobs s)
 line_shows c m b (events.Tick s n) few = tt
 line_shows c m b events.Nothing few = shows_still c m m events.Nothing [] few refl refl refl

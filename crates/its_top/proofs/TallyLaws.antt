@@ -1,11 +1,15 @@
 -- What the events of a generated session count for.
-use Rattle.std.specs.Prelude.{◌≡◌, ◌<◌, ◌≤◌, ℕ, zero, suc, ◌+◌, ◌^◌, Bool, true, false, Option, Some, None, Result, Ok, Err, OnOk, OnErr, IfErr, List, [], ◌∷◌, ◌++◌, length, take, drop, get_or, slice_get, refl}
-use Rattle.std.proofs.Common.{sym, ◌∙◌, ap, ap₂, subst, arith, append_assoc, take_all}
-use Rattle.std.proofs.lemmas.List.{take_more}
+use Rattle.std.specs.Prelude.{◌≡◌, ◌<◌, ◌≤◌, ℕ, zero, suc, ◌+◌, ◌*◌, ◌^◌, Bool, true, false, Option, Some, None, Result, Ok, Err, OnOk, OnErr, IfErr, List, [], ◌∷◌, ◌++◌, length, take, drop, get_or, replicate, slice_get, refl}
+use Rattle.std.proofs.Common.{sym, ◌∙◌, ap, ap₂, subst, arith, append_assoc, append-nil, take_all}
+use Rattle.std.proofs.lemmas.List.{length-append, take_more, take-append-drop}
+use Rattle.its_print.specs.Runs.{paces_in}
+use Rattle.its_print.specs.declared.runs.Run.{Run}
+use Rattle.its_top.proofs.PaceLaws.{runs_more}
 use Rattle.std.specs.Io.KnownBytes.{Appends}
 use Rattle.std.proofs.KnownBytes.{Appends-trans}
 use Rattle.its_word.specs.Item.{Item, Read}
 use Rattle.its_word.specs.declared.calls.Pace.{Pace}
+use Rattle.its_word.specs.declared.calls.Pace.TheVariants as paces
 use Rattle.its_word.specs.declared.session.Event.{Event}
 use Rattle.its_word.specs.declared.session.Event.TheVariants as events
 use Rattle.its_word.specs.declared.session.Reason.{Reason}
@@ -215,14 +219,55 @@ marked_append : (a b : List Pace) → marked (a ++ b) ≡ marked a + marked b
 marked_append [] b = let e : 0 + marked b ≡ marked b = omega arith in sym e
 marked_append (p ∷ ps) b = ap (λ x. mark_of p + x) (marked_append ps b) ∙ (let e : mark_of p + (marked ps + marked b) ≡ (mark_of p + marked ps) + marked b = omega arith in e)
 
-pub marked_next : (ps : List Pace) (i k m : ℕ) (d : Pace) → i < length ps → m ≡ mark_of (get_or ps i d) → k ≡ marked (take i ps) → k + m ≡ marked (take (i + 1) ps)
-marked_next ps i k m d h g f =
-    let one : marked (get_or ps i d ∷ []) ≡ mark_of (get_or ps i d) = (let o : mark_of (get_or ps i d) + 0 ≡ mark_of (get_or ps i d) = omega arith in o) in
-    ap₂ (λ x y. x + y) f g ∙ ap (λ x. marked (take i ps) + x) (sym one)
-    ∙ sym (marked_append (take i ps) (get_or ps i d ∷ [])) ∙ ap marked (sym (take_more ps i d h))
+marked_most : (ps : List Pace) → marked ps ≤ length ps
+marked_most [] = omega arith
+marked_most (p ∷ ps) = by_pace p (marked_most ps)
+  where
+    by_pace : (q : Pace) → marked ps ≤ length ps → mark_of q + marked ps ≤ length (q ∷ ps)
+    by_pace paces.Step h = omega (arith, h)
+    by_pace paces.Work h = omega (arith, h)
+    by_pace paces.Wait h = omega (arith, h)
+    by_pace paces.Off h = omega (arith, h)
 
-pub marked_all : (ps : List Pace) (i k : ℕ) → i ≡ length ps → k ≡ marked (take i ps) → k ≡ marked ps
-marked_all ps i k e f = f ∙ ap (λ j. marked (take j ps)) e ∙ ap marked (take_all (length ps) ps (omega arith))
+-- the ticks of a run are alike
+marked_alike : (n : ℕ) (p : Pace) (k : ℕ) → mark_of p ≡ k → marked (replicate n p) ≡ n * k
+marked_alike zero p k e = omega arith
+marked_alike (suc n) p k e = (λ t. e t + marked_alike n p k e t) ∙ (let o : k + n * k ≡ suc n * k = grind arith in o)
+
+run_marks : (r : Run) → marked (paces_in (r ∷ [])) ≡ mark_of r.pace + marked (replicate r.more r.pace)
+run_marks r = ap (λ ps. mark_of r.pace + marked ps) (append-nil (replicate r.more r.pace))
+
+pub run_marked : (r : Run) → r.pace ≡ paces.Step → 1 + r.more ≡ marked (paces_in (r ∷ []))
+run_marked r e =
+    let one : mark_of r.pace ≡ 1 = ap mark_of e in
+    let o : r.more * 1 ≡ r.more = omega arith in
+    sym (run_marks r ∙ (λ t. one t + (marked_alike r.more r.pace 1 one ∙ o) t))
+
+pub run_unmarked : (r : Run) (p : Pace) → r.pace ≡ p → mark_of p ≡ 0 → 0 ≡ marked (paces_in (r ∷ []))
+run_unmarked r p e z =
+    let none : mark_of r.pace ≡ 0 = ap mark_of e ∙ z in
+    let o : r.more * 0 ≡ 0 = omega arith in
+    sym (run_marks r ∙ (λ t. none t + (marked_alike r.more r.pace 0 none ∙ o) t))
+
+pub marked_next : (rs : List Run) (i k m : ℕ) (d : Run) → i < length rs → m ≡ marked (paces_in (get_or rs i d ∷ [])) → k ≡ marked (paces_in (take i rs)) → k + m ≡ marked (paces_in (take (i + 1) rs))
+marked_next rs i k m d h g f =
+    ap₂ (λ x y. x + y) f g
+    ∙ sym (marked_append (paces_in (take i rs)) (paces_in (get_or rs i d ∷ [])))
+    ∙ ap marked (sym (runs_more (take i rs) (get_or rs i d)))
+    ∙ ap (λ xs. marked (paces_in xs)) (sym (take_more rs i d h))
+
+paces_split : (a b : List Run) → length (paces_in (a ++ b)) ≡ length (paces_in a) + length (paces_in b)
+paces_split [] b = omega arith
+paces_split (r ∷ rs) b =
+    omega (arith, paces_split rs b, length-append (replicate r.more r.pace) (paces_in (rs ++ b)), length-append (replicate r.more r.pace) (paces_in rs))
+
+pub marked_few : (rs : List Run) (i k : ℕ) → length (paces_in rs) ≤ 512 → k ≡ marked (paces_in (take i rs)) → k ≤ 512
+marked_few rs i k h e =
+    let whole : length (paces_in (take i rs ++ drop i rs)) ≡ length (paces_in rs) = ap (λ xs. length (paces_in xs)) (take-append-drop i rs) in
+    omega (arith, h, e, whole, paces_split (take i rs) (drop i rs), marked_most (paces_in (take i rs)))
+
+pub marked_all : (rs : List Run) (i k : ℕ) → i ≡ length rs → k ≡ marked (paces_in (take i rs)) → k ≡ marked (paces_in rs)
+marked_all rs i k e f = f ∙ ap (λ j. marked (paces_in (take j rs))) e ∙ ap (λ xs. marked (paces_in xs)) (take_all (length rs) rs (omega arith))
 
 pub drained_by : (v v' : State) (b : Block) (c k n : ℕ) (bytes : List ℕ) → n ≡ length bytes → bytes ≡ take k (v.raw.consoles c).output → Lands v v' (Ok (drained c k v.raw))
     → Counted (Some (record { steps = 0; drained = n })) v b (events.Drain c k) v' b

@@ -10,6 +10,7 @@ use Rattle.its_stepped.specs.Lines.{stepped}
 use Rattle.its_stepped.proofs.DecodingLaws.{decoding}
 use Rattle.its_stepped.proofs.StretchLaws.{stretches}
 use Rattle.its_stepped.proofs.WrittenLaws.{written_transcript}
+use Rattle.its_top.proofs.FewDotsLaws.{few_dots}
 use Rattle.its_top.specs.declared.status.Status.{Status}
 use Rattle.its_top.specs.declared.status.Status.TheVariants as statuses
 use Rattle.its_top.specs.Telling.{Says}
@@ -89,6 +90,7 @@ transcribed st bytes old new e a =
       answer = e;
       ledger = ledger (events_of bytes) (stepped (events_of bytes)).lines (stepped (events_of bytes)).fate t;
       stretches = stretches (events_of bytes) (stepped (events_of bytes)).lines;
+      dots = few_dots decoding (events_of bytes);
       wrote = a;
     }
 

@@ -2,6 +2,9 @@
 use Rattle.std.specs.Prelude.{◌≡◌, ◌<◌, ◌+◌, ◌-◌, ℕ, true, is_some, Option, None, Result, Ok, Err, List, [], ◌++◌, take}
 use Rattle.std.specs.Io.KnownBytes.{Appends}
 use Rattle.its_word.specs.declared.session.Event.{Event}
+use Rattle.its_word.specs.declared.session.Event.TheVariants as events
+use Rattle.its_reader.specs.declared.items.Found.{Found}
+use Rattle.its_reader.specs.declared.items.Found.TheVariants as founds
 use Rattle.its_word.specs.declared.calls.Pace.{Pace}
 use Rattle.its_plain.specs.Machine.{Names, Machine}
 use Rattle.its_plain.specs.OperatorConsoles.{typed, dropped, drained}
@@ -11,7 +14,7 @@ use Rattle.its_stepped.specs.Unwind.{unwound, help}
 use Rattle.its_stepped.specs.Lines.{with_raw, paces_of, ticked}
 use Rattle.its_word.specs.declared.session.Reason.{Reason}
 use Rattle.its_plain.specs.Operator.{Block}
-use Rattle.its_plain.specs.OperatorJobs.{words_loaded, examined}
+use Rattle.its_plain.specs.OperatorJobs.{words_stored, examined}
 use Rattle.its_monitor.specs.declared.monitor.Monitor.{Monitor}
 use Rattle.its_word.specs.declared.session.Refusal.{Refusal}
 use Rattle.its_print.specs.Printing.{Line, Refused, text_of_line, text}
@@ -41,6 +44,17 @@ pub record Answered (turn : Turn) (n : ℕ) (v : State) (b : Block) (e : Event) 
   pub wrote : List ℕ
   pub appended : Appends old new wrote
   pub answers : Answers turn n v b e v' b' wrote
+
+-- VERSION finds a machine without jobs
+abbrev pub FindsStart : Event → State → Type 0
+FindsStart (events.Version k) v = (s : ℕ) → v.raw.jobs s ≡ None
+FindsStart e v = Unit {0}
+
+abbrev pub FoundStart : Found → State → Type 0
+FoundStart (founds.Line e) v = FindsStart e v
+FoundStart (founds.Bad r) v = Unit {0}
+FoundStart founds.Beyond v = Unit {0}
+FoundStart founds.End v = Unit {0}
 
 -- a call that answers nothing, and what was written of its refusal
 abbrev pub Settled : {T : Type 0} → Result T Refusal → Turn → ℕ → Option (List ℕ) → Option (List ℕ) → Type 0
@@ -85,11 +99,11 @@ pub record WritesSo (lines rest : List Line) (old now : Option (List ℕ)) : Typ
   pub appended : Appends old now wrote
   pub whole : text lines ≡ wrote ++ text rest
 
--- k of these words were loaded from an address on, where v is the state with the job of slot s unwound
+-- k of these words were stored from an address on, where v is the state with the job of slot s unwound
 pub record LoadSo (v now : State) (s a k : ℕ) (words rest : List ℕ) : Type 0 where
   pub raw : unwound now s ≡ with_raw v (unwound now s).raw
   pub reached : 0 < k → now ≡ unwound now s
-  pub whole : words_loaded (unwound now s).raw s (a + k) rest ≡ words_loaded v.raw s a words
+  pub whole : words_stored (unwound now s).raw s (a + k) rest ≡ words_stored v.raw s a words
 
 -- k of n ticks of a slot were made
 pub record PacesSo (v now : State) (s n k : ℕ) (ps : List Pace) : Type 0 where

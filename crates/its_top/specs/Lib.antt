@@ -5,4 +5,5 @@ pub mod Commands
 pub mod Counts
 pub mod Checking
 pub mod Generating
+pub mod FewDots
 pub mod Top

@@ -13,6 +13,7 @@ use Rattle.its_top.specs.declared.commands.Command.{Command}
 use Rattle.its_top.specs.declared.commands.Command.TheVariants.{Run, Check as CheckCommand, Gen}
 use Rattle.its_top.specs.declared.checking.Checked.TheVariants.{Beyond}
 use Rattle.its_top.specs.Conclusion.{IsDone, Session}
+use Rattle.its_top.specs.FewDots.{FewDots}
 use Rattle.its_top.specs.Checking.{checked, checked_text, Passes, Fails, GoesOn, WroteText, Check}
 use Rattle.its_top.specs.Generating.{generated_text}
 
@@ -27,7 +28,8 @@ answer_of Lost = statuses.Refused
 answer_of TooLong = statuses.TooLong
 
 -- what was written is the text of lines that are a transcript of the session of these bytes, whose end this is the answer to,
--- and along whose run the ledger of each console holds, and each stretch of a transfer moves its bytes once and in order
+-- and along whose run the ledger of each console holds, each stretch of a transfer moves its bytes once and in order, and at
+-- most twelve `.` come in a row
 pub record Transcribed (status : Status) (bytes : List ℕ) (old new : Option (List ℕ)) : Type 0 where
   pub lines : List Line
   pub fate : Fate
@@ -35,6 +37,7 @@ pub record Transcribed (status : Status) (bytes : List ℕ) (old new : Option (L
   pub answer : status ≡ answer_of fate
   pub ledger : Ledger (events_of bytes) lines
   pub stretches : Stretches (events_of bytes) lines
+  pub dots : FewDots (events_of bytes) lines
   pub wrote : Appends old new (text lines)
 
 -- no line is refused, and no line past the most begins before END; all lines were written

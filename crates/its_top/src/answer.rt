@@ -1,15 +1,16 @@
-ghost use Rattle.std.specs.Prelude.{◌≡◌, ◌≢◌, ◌≤◌, ◌<◌, ◌+◌, ◌-◌, ◌^◌, Ok, Err, IfSome, IfOk, IfErr, OnOk, OnErr, length, take};
+ghost use Rattle.std.specs.Prelude.{◌≡◌, ◌≢◌, ◌↔◌, ◌≤◌, ◌<◌, ◌+◌, ◌-◌, ◌^◌, IsTrue, Ok, Err, IfSome, IfOk, IfErr, OnOk, OnErr, ◌∷◌, [], length, take};
 ghost use Rattle.its_io.specs.Bytes.{next_fault};
 ghost use Rattle.its_word.specs.Limits.{slots};
 ghost use Rattle.its_session.specs.Fits.{EventFits};
-ghost use Rattle.its_plain.specs.OperatorJobs.{words_loaded, examined};
+ghost use Rattle.its_plain.specs.OperatorJobs.{words_loaded, words_stored, words_barred, examined};
 ghost use Rattle.its_plain.specs.OperatorConsoles.{typed, dropped, drained};
 ghost use Rattle.its_stepped.specs.Unwind.{unwound};
 ghost use Rattle.its_stepped.specs.Lines.{paces_of, ticked};
 ghost use Rattle.its_world.specs.World.{state_of};
 ghost use Rattle.its_operator.specs.Kept.{Kept, Lands, reason_of};
 ghost use Rattle.its_print.specs.Printing.{Refused, text_of_line};
-ghost use Rattle.its_top.specs.Answer.{Answered, Tells, block_of};
+ghost use Rattle.its_print.specs.Runs.{paces_in};
+ghost use Rattle.its_top.specs.Answer.{Answered, FindsStart, Tells, block_of};
 
 use super::consoles::{drain, load_job, type_in};
 use super::filing::{add_words, list_files, make_file, show_words};
@@ -20,7 +21,8 @@ use arrayvec::ArrayVec;
 use its_io::Sink;
 use its_monitor::Monitor;
 use its_print::{
-    print_drained, print_loaded, print_peek, print_state, print_ticks, print_typed, print_words,
+    Run, print_drained, print_loaded, print_peek, print_state, print_ticks, print_typed,
+    print_words,
 };
 use its_word::{Event, Pace, Refusal, Word};
 
@@ -69,7 +71,7 @@ fn state<K: Sink>(m: &mut Monitor, p: Progress, s: u8, out: &mut K) -> Turn
     match m.state(s) {
         Ok(show) => {
             let mut line = ArrayVec::new();
-            print_state(s, &show, &mut line);
+            print_state(m.world.version, s, &show, &mut line);
             tell(out, &line, Turn::On)
         }
         Err(e) => refuse_by(out, p.number, e),
@@ -124,8 +126,8 @@ fn examine<K: Sink>(m: &mut Monitor, p: Progress, s: u8, a: u32, n: u32, out: &m
     }
 }
 
-/// Loads the words of an a/ line, in order.
-#[tactic(auto, using(crate::proofs::LoadingLaws::loading_start, crate::proofs::LoadingLaws::loading_fails, crate::proofs::LoadingLaws::loading_end))]
+/// Loads the words of an a/ line, in order; all are tested for read-only pages before the first is stored.
+#[tactic(auto, using(crate::proofs::LoadingLaws::barred, crate::proofs::LoadingLaws::stored, crate::proofs::LoadingLaws::not_stored))]
 pub fn load_words(m: &mut Monitor, slot: u8, a: u32, words: &[Word]) -> Result<(), Refusal>
     requires sound { Kept m.old.world }
     requires slot { slot < slots }
@@ -133,6 +135,23 @@ pub fn load_words(m: &mut Monitor, slot: u8, a: u32, words: &[Word]) -> Result<(
     requires end { a + length words.now ≤ 2 ^ 18 }
     ensures done { OnOk result (Lands (unwound (state_of m.old.world) slot) (state_of m.new.world) (words_loaded (unwound (state_of m.old.world) slot).raw slot a words.now)) }
     ensures refused { IfErr result (λ e. words_loaded (unwound (state_of m.old.world) slot).raw slot a words.now ≡ Err (reason_of e)) }
+    ensures sound { Kept m.new.world }
+{
+    if m.barred(slot, a, words.len() as u32) {
+        return Err(Refusal::ReadOnly);
+    }
+    store_words(m, slot, a, words)
+}
+
+/// Stores the words of an a/ line, in order, and makes the pages that they need.
+#[tactic(auto, using(crate::proofs::LoadingLaws::loading_start, crate::proofs::LoadingLaws::loading_fails, crate::proofs::LoadingLaws::loading_end))]
+fn store_words(m: &mut Monitor, slot: u8, a: u32, words: &[Word]) -> Result<(), Refusal>
+    requires sound { Kept m.old.world }
+    requires slot { slot < slots }
+    requires some { 1 ≤ length words.now }
+    requires end { a + length words.now ≤ 2 ^ 18 }
+    ensures done { OnOk result (Lands (unwound (state_of m.old.world) slot) (state_of m.new.world) (words_stored (unwound (state_of m.old.world) slot).raw slot a words.now)) }
+    ensures refused { IfErr result (λ e. words_stored (unwound (state_of m.old.world) slot).raw slot a words.now ≡ Err (reason_of e)) }
     ensures sound { Kept m.new.world }
 {
     let mut at = a;
@@ -158,28 +177,62 @@ fn ticks<K: Sink>(m: &mut Monitor, p: Progress, s: u8, n: u32, out: &mut K) -> T
     ensures unfailed { result ≢ Turn.Fault → K.faults out.new ≡ K.faults out.old }
     ensures fault { result ≡ Turn.Fault → K.faults out.new ≡ next_fault (K.faults out.old) }
 {
-    let paces = paces_of(m, s, n);
+    let mut runs = ArrayVec::new();
+    paces_of(m, s, n, &mut runs);
     let mut line = ArrayVec::new();
-    print_ticks(s, &paces, &mut line);
+    print_ticks(s, &runs, &mut line);
     tell(out, &line, Turn::On)
 }
 
-/// The letters of n ticks of a slot.
-#[tactic(auto, using(crate::proofs::PaceLaws::pacing_start, crate::proofs::PaceLaws::pacing_next, crate::proofs::PaceLaws::pacing_end))]
-pub fn paces_of(m: &mut Monitor, s: u8, n: u32) -> ArrayVec<Pace, 512>
+/// The letters of n ticks of a slot, as runs, which are put into an empty array.
+#[tactic(auto, using(crate::proofs::PaceLaws::pacing_start, crate::proofs::PaceLaws::pacing_end))]
+pub fn paces_of(m: &mut Monitor, s: u8, n: u32, runs: &mut ArrayVec<Run, 512>)
     requires sound { Kept m.old.world }
     requires slot { s < slots }
     requires few { n ≤ 512 }
-    ensures paces { result.items ≡ paces_of (state_of m.old.world) s n }
-    ensures count { length result.items ≡ n }
+    requires empty { runs.old.items ≡ [] }
+    ensures paces { paces_in runs.new.items ≡ paces_of (state_of m.old.world) s n }
+    ensures count { length (paces_in runs.new.items) ≡ n }
     ensures state { state_of m.new.world ≡ ticked (state_of m.old.world) s n }
     ensures sound { Kept m.new.world }
 {
-    let mut paces = ArrayVec::new();
-    for _k in 0..n {
-        paces.push(m.tick(s));
+    let mut made = 0;
+    let mut stepped = false;
+    while made < n {
+        let run = run_of(m, s, n - made, stepped);
+        runs.push(run);
+        made += 1 + run.more;
+        stepped = is_step(run.pace);
     }
-    paces
+}
+
+/// Whether a tick was a step.
+fn is_step(pace: Pace) -> bool
+    ensures { IsTrue result ↔ (pace ≡ Pace.Step) }
+{
+    matches!(pace, Pace::Step)
+}
+
+/// The letters of the first ticks of a slot, n at most: of one; and where that is a step, and the tick before it was one too, of
+/// all steps that follow it in user mode. (Behind a call's one step the job is inside the call.)
+#[tactic(auto, using(crate::proofs::PaceLaws::one_more, crate::proofs::PaceLaws::one_and_steps))]
+fn run_of(m: &mut Monitor, s: u8, n: u32, stepped: bool) -> Run
+    requires sound { Kept m.old.world }
+    requires slot { s < slots }
+    requires some { 0 < n }
+    ensures few { 1 + result.more ≤ n }
+    ensures paces { paces_in (result ∷ []) ≡ paces_of (state_of m.old.world) s (1 + result.more) }
+    ensures state { state_of m.new.world ≡ ticked (state_of m.old.world) s (1 + result.more) }
+    ensures sound { Kept m.new.world }
+{
+    let pace = m.tick(s);
+    match pace {
+        Pace::Step if stepped => {
+            let more = m.steps(s, n - 1);
+            Run { pace, more }
+        }
+        _ => Run { pace, more: 0 },
+    }
 }
 
 /// TYPE: bytes of input of a console, and how many were dropped.
@@ -282,11 +335,12 @@ fn peek<K: Sink>(m: &mut Monitor, p: Progress, s: u8, out: &mut K) -> Turn
 }
 
 /// The answer to an event: what it does to the monitor and to the block, and what it shows.
-#[tactic(auto, using(crate::proofs::AnswerLaws::nothing_answered, crate::proofs::AnswerLaws::end_answered, crate::proofs::AnswerLaws::end_file_answered, crate::proofs::AnswerLaws::append_answered, crate::proofs::AnswerLaws::go_answered, crate::proofs::AnswerLaws::words_answered, crate::proofs::AnswerLaws::int_answered, crate::proofs::AnswerLaws::deposit_answered, crate::proofs::AnswerLaws::stop_answered, crate::proofs::AnswerLaws::cont_answered, crate::proofs::AnswerLaws::clock_answered, crate::proofs::AnswerLaws::console_fits))]
+#[tactic(auto, using(crate::proofs::AnswerLaws::nothing_answered, crate::proofs::AnswerLaws::end_answered, crate::proofs::AnswerLaws::end_file_answered, crate::proofs::AnswerLaws::append_answered, crate::proofs::AnswerLaws::version_answered, crate::proofs::AnswerLaws::go_answered, crate::proofs::AnswerLaws::words_answered, crate::proofs::AnswerLaws::read_only_answered, crate::proofs::AnswerLaws::symbol_answered, crate::proofs::AnswerLaws::int_answered, crate::proofs::AnswerLaws::deposit_answered, crate::proofs::AnswerLaws::stop_answered, crate::proofs::AnswerLaws::cont_answered, crate::proofs::AnswerLaws::clock_answered, crate::proofs::AnswerLaws::console_fits), unfolding(its_session::specs::Grammar::last_slot))]
 pub fn answer<K: Sink>(m: &mut Monitor, p: &mut Progress, event: &Event, out: &mut K) -> Turn
     requires sound { Kept m.old.world }
     requires slot { p.old.slot < slots }
-    requires fits { EventFits event.now }
+    requires fits { EventFits 2 event.now }
+    requires start { FindsStart event.now (state_of m.old.world) }
     ensures answered { Answered result p.old.number (state_of m.old.world) (block_of p.old.slot p.old.file) event.now (state_of m.new.world) (block_of p.new.slot p.new.file) (K.written out.old) (K.written out.new) }
     ensures sound { Kept m.new.world }
     ensures slot { p.new.slot < slots }
@@ -298,10 +352,22 @@ pub fn answer<K: Sink>(m: &mut Monitor, p: &mut Progress, event: &Event, out: &m
     let (number, block) = (p.number, p.slot);
     match event {
         Event::Nothing => Turn::On,
+        Event::Version { v } => {
+            m.version(*v);
+            Turn::On
+        }
         Event::Load { u, j, console } => load(m, p, *u, *j, *console, out),
         Event::Words { a, words } => {
             let loaded = load_words(m, block, *a, words);
             settle(out, number, loaded)
+        }
+        Event::ReadOnly { page } => {
+            let protected = m.read_only(block, *page);
+            settle(out, number, protected)
+        }
+        Event::Symbol { name, a } => {
+            let kept = m.symbol(block, *name, *a);
+            settle(out, number, kept)
         }
         Event::Go { a } => {
             let started = m.go(block, *a);

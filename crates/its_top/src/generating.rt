@@ -9,15 +9,18 @@ ghost use Rattle.its_plain.specs.Machine.{no_machine};
 ghost use Rattle.its_stepped.specs.State.{no_state};
 ghost use Rattle.its_world.specs.World.{state_of};
 ghost use Rattle.its_operator.specs.Kept.{Kept};
+ghost use Rattle.its_print.specs.Runs.{paces_in};
 ghost use Rattle.its_top.specs.Checking.{WroteText};
-ghost use Rattle.its_top.specs.Generating.{block_at, mark_of, marked, nothing, plus, uncounted, counts_text, tally_text, generated_tally, generated_text, Counted, PlayedOn};
+ghost use Rattle.its_top.specs.Generating.{block_at, marked, nothing, plus, uncounted, counts_text, tally_text, generated_tally, generated_text, Counted, PlayedOn};
 
 use super::answer::{drain_bytes, load_words, paces_of, type_bytes, words_of};
 use super::consoles::load_job;
 use super::counts::count_line;
 use super::status::Status;
+use arrayvec::ArrayVec;
 use its_io::{Failed, Sink, write_all};
 use its_monitor::Monitor;
+use its_print::Run;
 use its_session::generated;
 use its_word::{Event, Pace, Refusal, Word};
 
@@ -130,7 +133,7 @@ fn play_all(m: &mut Monitor, n: u32) -> (u32, Tally)
 fn play_on(m: &mut Monitor, play: &mut Play, event: &Event)
     requires sound { Kept m.old.world }
     requires slot { play.old.slot < slots }
-    requires fits { EventFits event.now }
+    requires fits { EventFits 1 event.now }
     requires kind { IsGenerated event.now }
     requires steps { play.old.tally.steps < 2 ^ 63 }
     requires drained { play.old.tally.drained < 2 ^ 63 }
@@ -153,11 +156,11 @@ fn play_on(m: &mut Monitor, play: &mut Play, event: &Event)
 }
 
 /// Gives an event of a generated session to the monitor: what it counts for, or None where the session is over.
-#[tactic(auto, using(crate::proofs::TallyLaws::end_counted))]
+#[tactic(auto, using(crate::proofs::TallyLaws::end_counted), unfolding(its_session::specs::Grammar::last_slot))]
 fn play_event(m: &mut Monitor, slot: &mut u8, event: &Event) -> Option<Tally>
     requires sound { Kept m.old.world }
     requires slot { slot.old < slots }
-    requires fits { EventFits event.now }
+    requires fits { EventFits 1 event.now }
     requires kind { IsGenerated event.now }
     ensures counted { Counted result (state_of m.old.world) (block_at slot.old) event.now (state_of m.new.world) (block_at slot.new) }
     ensures sound { Kept m.new.world }
@@ -251,35 +254,39 @@ fn play_ticks(m: &mut Monitor, slot: u8, s: u8, n: u32) -> Option<Tally>
     ensures sound { Kept m.new.world }
     ensures few { IfSome result (λ t. (t.steps ≤ 512) × (t.drained ≤ 64)) }
 {
-    let paces = paces_of(m, s, n);
+    let mut runs = ArrayVec::new();
+    paces_of(m, s, n, &mut runs);
     Some(Tally {
-        steps: marked(&paces),
+        steps: marked(&runs),
         drained: 0,
     })
 }
 
-/// How many of these are marked.
-#[tactic(auto, using(crate::proofs::TallyLaws::marked_next, crate::proofs::TallyLaws::marked_all))]
-fn marked(paces: &[Pace]) -> u64
-    requires few { length paces.now ≤ 512 }
-    ensures count { result ≡ marked paces.now }
+/// How many ticks of these are marked.
+#[tactic(auto, using(crate::proofs::TallyLaws::marked_all))]
+fn marked(runs: &[Run]) -> u64
+    requires few { length (paces_in runs.now) ≤ 512 }
+    ensures count { result ≡ marked (paces_in runs.now) }
     ensures few { result ≤ 512 }
 {
     let mut count = 0;
-    for pace in paces {
-        count += mark(*pace);
+    for run in runs {
+        count += mark(*run);
     }
     count
 }
 
-/// 1 for a tick that is marked, and else 0.
-fn mark(pace: Pace) -> u64
-    ensures count { result ≡ mark_of pace }
-    ensures few { result ≤ 1 }
+/// How many ticks of a run are marked: all, or none.
+#[tactic(auto, using(crate::proofs::TallyLaws::run_marked, crate::proofs::TallyLaws::run_unmarked))]
+fn mark(run: Run) -> u64
+    ensures count { result ≡ marked (paces_in (run ∷ [])) }
+    ensures few { result ≤ 2 ^ 32 }
 {
-    match pace {
-        Pace::Step => 1,
-        _ => 0,
+    match run.pace {
+        Pace::Step => 1 + u64::from(run.more),
+        Pace::Work => 0,
+        Pace::Wait => 0,
+        Pace::Off => 0,
     }
 }
 

@@ -10,7 +10,7 @@ ghost use Rattle.its_stepped.specs.Lines.{stepped};
 ghost use Rattle.its_world.specs.World.{state_of};
 ghost use Rattle.its_operator.specs.Kept.{Kept};
 ghost use Rattle.its_reader.specs.Items.{found_fits, ReadOut};
-ghost use Rattle.its_top.specs.Answer.{block_of};
+ghost use Rattle.its_top.specs.Answer.{FoundStart, block_of};
 ghost use Rattle.its_top.specs.Conclusion.{IsDone, Session, Takes};
 ghost use Rattle.its_top.specs.Top.{Transcribed, Completes, Refuses, RunsOn, Breaks, Begins};
 
@@ -55,7 +55,7 @@ pub fn session<S: Source, K: Sink>(m: &mut Monitor, src: &mut S, out: &mut K) ->
 }
 
 /// Takes the items of a session one by one, until it is over.
-#[tactic(auto, using(crate::proofs::ConclusionLaws::so_start, crate::proofs::ConclusionLaws::so_next, crate::proofs::ConclusionLaws::session_over, crate::proofs::ConclusionLaws::session_fault))]
+#[tactic(auto, using(crate::proofs::ConclusionLaws::so_start, crate::proofs::ConclusionLaws::so_next, crate::proofs::ConclusionLaws::session_over, crate::proofs::ConclusionLaws::session_fault, crate::proofs::StartLaws::found_start, crate::proofs::StartLaws::found_later))]
 fn run_items<S: Source, K: Sink>(m: &mut Monitor, src: &mut S, out: &mut K) -> Status
     requires machine { state_of m.old.world ≡ no_state no_machine }
     requires sound { Kept m.old.world }
@@ -92,7 +92,8 @@ fn run_items<S: Source, K: Sink>(m: &mut Monitor, src: &mut S, out: &mut K) -> S
 fn take<K: Sink>(m: &mut Monitor, p: &mut Progress, found: &Found, out: &mut K) -> Turn
     requires sound { Kept m.old.world }
     requires slot { p.old.slot < slots }
-    requires fits { found_fits found.now }
+    requires fits { found_fits 2 found.now }
+    requires start { FoundStart found.now (state_of m.old.world) }
     ensures takes { Takes result p.old.number (state_of m.old.world) (block_of p.old.slot p.old.file) found.now (state_of m.new.world) (block_of p.new.slot p.new.file) (K.written out.old) (K.written out.new) }
     ensures sound { Kept m.new.world }
     ensures slot { p.new.slot < slots }

@@ -1,7 +1,8 @@
 //! Sessions with their transcripts and statuses, as the program's description gives them.
 
-ghost use Rattle.std.specs.Prelude.{◌≤◌};
+ghost use Rattle.std.specs.Prelude.{◌≤◌, ◌≢◌};
 
+mod alarms;
 mod commands;
 mod consoles;
 mod files;
@@ -9,6 +10,7 @@ mod inferiors;
 mod pages;
 mod places;
 mod targets;
+mod versions;
 
 use super::{Status, its};
 use consoles::{CONSOLES, ECHO, TYPED};
@@ -22,95 +24,228 @@ const FIRST: &str =
 
 const FIRST_OUT: &str = "J 0\nT 0 2*\nE 0 000200 000000000005\n";
 
-/// Sessions, transcripts and statuses.
-static ROWS: [(&str, &str, Status); 24] = [
-    (FIRST, FIRST_OUT, Status::Done),
-    ("", "", Status::Done),
-    ("END", "", Status::Done),
-    ("LOAD U J -\n100/ 2010", "J 0\n? 3 CUT\n", Status::Refused),
-    ("TICK 0\n", "? 1 SYNTAX\n", Status::Refused),
-    ("TICK 5 3\n", "T 5 3-\n", Status::Done),
-    (
-        "LOAD U J -\n100/ 045700000000\nGO 100\nTICK 0 4\n",
-        "J 0\nT 0 2* 2-\n",
-        Status::Done,
-    ),
-    (
-        "LOAD U J -\n100/ 201040000005 202040000200\nGO 100\nTICK 0 2\nEXAM 0 2000 1\nEND\n",
-        "J 0\nT 0 2*\n? 5 NOPAGE\n",
-        Status::Refused,
-    ),
-    ("STATE 0\n", "? 1 NOJOB\n", Status::Refused),
-    ("DRAIN 10 1\n", "? 1 NOCONS\n", Status::Refused),
-    ("DIR U\n", "R 650000000000 0\n", Status::Done),
-    ("\n; a comment\nPEEK 0\n", "? 3 NOJOB\n", Status::Refused),
-    // a block transfer whose accumulator is its last destination
-    (
-        "LOAD U X 0\n17/ 001000000000\n100/ 251740000017\n1000/ 1 2 3 4 5 6 7 10 11 12 13 14 15 16 17 20\nGO 100\nTICK 0 3\nEXAM 0 17 1\nTICK 0 15\nEXAM 0 16 2\n",
-        "J 0\nT 0 3*\nE 0 000017 001003000003\nT 0 15*\nE 0 000016 000000000017 000000000020\n",
-        Status::Done,
-    ),
-    // ILDB whose second half faults, twice: the pointer is incremented once
-    (
-        "LOAD U J -\n10/ 440700002000\n100/ 134040000010\nGO 100\nTICK 0 4\nEXAM 0 10 1\nSTATE 0\nCONT 0\nTICK 0 3\nEXAM 0 10 1\n",
-        "J 0\nT 0 3* 1-\nE 0 000010 350700002000\nS 0 650000000000 520000000000 - - STOP 030000000100 000000000004 000000000000 000000000000 000000000000 000000000000 000000000000\nT 0 2* 1-\nE 0 000010 350700002000\n",
-        Status::Done,
-    ),
-    // what STATE shows, and an interrupt that stops the job
-    (
-        "LOAD U J -\n100/ 201040000005 202040000200\nGO 100\nTICK 0 2\nSTATE 0\nINT 0 4 0\nTICK 0 2\nSTATE 0\nCONT 0\nSTATE 0\n",
-        "J 0\nT 0 2*\nS 0 650000000000 520000000000 - - RUN 010000000102 000000000000 000000000000 000000000000 000000000000 000000000000 000000000000\nT 0 1* 1-\nS 0 650000000000 520000000000 - - STOP 010000000102 000000000004 000000000000 000000000000 000000000000 000000000000 000000000000\nS 0 650000000000 520000000000 - - RUN 010000000102 000000000000 000000000000 000000000000 000000000000 000000000000 000000000000\n",
-        Status::Done,
-    ),
-    // DEPOSIT changes a program that stands stopped
-    (
-        "LOAD U J 3\n100/ 0\nGO 100\nSTOP 0\nTICK 0 1\nDEPOSIT 0 100 201040000007\nDEPOSIT 0 5 1\nCONT 0\nTICK 0 1\nEXAM 0 1 1\nEXAM 0 5 1\nDEPOSIT 0 4000 1\n",
-        "J 0\nT 0 1-\nT 0 1*\nE 0 000001 000000000007\nE 0 000005 000000000001\n? 14 NOPAGE\n",
-        Status::Refused,
-    ),
-    // the last address, an a/ line that crosses a page, and the clean page behind it
-    (
-        "LOAD U J -\n777777/ 1\n1777/ 2 3\nGO 0\nEXAM 0 777777 1\nEXAM 0 1777 2\nEXAM 0 3777 1\nEXAM 0 3777 2\n",
-        "J 0\nE 0 777777 000000000001\nE 0 001777 000000000002 000000000003\nE 0 003777 000000000000\n? 10 NOPAGE\n",
-        Status::Refused,
-    ),
-    (
-        "LOAD U J -\n777777/ 1 2\n",
-        "J 0\n? 2 RANGE\n",
-        Status::Refused,
-    ),
-    // two jobs that take turns
-    (
-        "LOAD A X -\n100/ 271040000001 254000000100\nGO 100\nLOAD B X -\n100/ 271040000002 254000000100\nGO 100\nTICK 0 3\nTICK 1 5\nTICK 0 1\nEXAM 0 1 1\nEXAM 1 1 1\nTICK 2 1\n",
-        "J 0\nJ 1\nT 0 3*\nT 1 5*\nT 0 1*\nE 0 000001 000000000002\nE 1 000001 000000000006\nT 2 1-\n",
-        Status::Done,
-    ),
-    // a sort of eight words, 318 units and the stop by `.BREAK`
-    (
-        "LOAD U J -\n100/ 201040000007 201100000000 200142000200 317142000201 254000000107 250142000201 202142000200 271100000001 305100000007 254000000102 367040000101 045700000000\n200/ 5 3 7 1 777777777777 2 6 4\nGO 100\nTICK 0 1000\nEXAM 0 200 10\n",
-        "J 0\nT 0 477* 301-\nE 0 000200 777777777777 000000000001 000000000002 000000000003 000000000004 000000000005 000000000006 000000000007\n",
-        Status::Done,
-    ),
-    ("GO 0\n", "? 1 SYNTAX\n", Status::Refused),
-    // the clock stays below 2^34
-    (
-        "CLOCK 177777777777\nCLOCK 1\n",
-        "? 2 RANGE\n",
-        Status::Refused,
-    ),
-    // bytes beyond the 64 that wait are dropped; nothing waits as output
-    (
-        "TYPE 0 101 101 101 101 101 101 101 101 101 101 101 101 101 101 101 101 101 101 101 101 101 101 101 101 101 101 101 101 101 101 101 101\nTYPE 0 102 102 102 102 102 102 102 102 102 102 102 102 102 102 102 102 102 102 102 102 102 102 102 102 102 102 102 102\nTYPE 0 103 103 103 103 103 103 103 103 103 103 103 103 103 103 103 103 103 103 103 103 103 103 103 103 103 103 103 103 103 103 103 103\nTYPE 0 104\nTYPE 7 0 177\nDRAIN 0 100\nDRAIN 7 1\nDRAIN 10 1\n",
-        "Y 0 0\nY 0 0\nY 0 34\nY 0 1\nY 7 0\nD 0\nD 7\n? 10 NOCONS\n",
-        Status::Refused,
-    ),
-    // jobs with the same console
-    (
-        "LOAD A X 3\nGO 0\nLOAD B X 3\nGO 0\nSTATE 0\nSTATE 1\nTYPE 3 101\nLOAD C X 10\n",
-        "J 0\nJ 1\nS 0 410000000000 700000000000 - 3 RUN 010000000000 000000000000 000000000000 000000000000 000000000000 000000000000 000000000000\nS 1 420000000000 700000000000 - 3 RUN 010000000000 000000000000 000000000000 000000000000 000000000000 000000000000 000000000000\nY 3 0\n? 10 NOCONS\n",
-        Status::Refused,
-    ),
-];
+/// Sessions and transcripts of all kinds of lines, parted as those of the calls.
+static ROWS: &str = "LOAD U J -
+100/ 201040000005 202040000200
+GO 100
+TICK 0 2
+EXAM 0 200 1
+END
+=
+J 0
+T 0 2*
+E 0 000200 000000000005
+#=
+#END=
+#LOAD U J -
+100/ 2010=
+J 0
+? 3 CUT
+#TICK 0
+=
+? 1 SYNTAX
+#TICK 5 3
+=
+T 5 3-
+#LOAD U J -
+100/ 045700000000
+GO 100
+TICK 0 4
+=
+J 0
+T 0 2* 2-
+#LOAD U J -
+100/ 201040000005 202040000200
+GO 100
+TICK 0 2
+EXAM 0 2000 1
+END
+=
+J 0
+T 0 2*
+? 5 NOPAGE
+#STATE 0
+=
+? 1 NOJOB
+#DRAIN 10 1
+=
+? 1 NOCONS
+#DIR U
+=
+R 650000000000 0
+#
+; a comment
+PEEK 0
+=
+? 3 NOJOB
+#; a block transfer whose accumulator is its last destination
+LOAD U X 0
+17/ 001000000000
+100/ 251740000017
+1000/ 1 2 3 4 5 6 7 10 11 12 13 14 15 16 17 20
+GO 100
+TICK 0 3
+EXAM 0 17 1
+TICK 0 15
+EXAM 0 16 2
+=
+J 0
+T 0 3*
+E 0 000017 001003000003
+T 0 15*
+E 0 000016 000000000017 000000000020
+#; ILDB whose second half faults, twice: the pointer is incremented once
+LOAD U J -
+10/ 440700002000
+100/ 134040000010
+GO 100
+TICK 0 4
+EXAM 0 10 1
+STATE 0
+CONT 0
+TICK 0 3
+EXAM 0 10 1
+=
+J 0
+T 0 3* 1-
+E 0 000010 350700002000
+S 0 650000000000 520000000000 - - STOP 030000000100 000000000004 000000000000 000000000000 000000000000 000000000000 000000000000
+T 0 2* 1-
+E 0 000010 350700002000
+#; what STATE shows, and an interrupt that stops the job
+LOAD U J -
+100/ 201040000005 202040000200
+GO 100
+TICK 0 2
+STATE 0
+INT 0 4 0
+TICK 0 2
+STATE 0
+CONT 0
+STATE 0
+=
+J 0
+T 0 2*
+S 0 650000000000 520000000000 - - RUN 010000000102 000000000000 000000000000 000000000000 000000000000 000000000000 000000000000
+T 0 1* 1-
+S 0 650000000000 520000000000 - - STOP 010000000102 000000000004 000000000000 000000000000 000000000000 000000000000 000000000000
+S 0 650000000000 520000000000 - - RUN 010000000102 000000000000 000000000000 000000000000 000000000000 000000000000 000000000000
+#; DEPOSIT changes a program that stands stopped
+LOAD U J 3
+100/ 0
+GO 100
+STOP 0
+TICK 0 1
+DEPOSIT 0 100 201040000007
+DEPOSIT 0 5 1
+CONT 0
+TICK 0 1
+EXAM 0 1 1
+EXAM 0 5 1
+DEPOSIT 0 4000 1
+=
+J 0
+T 0 1-
+T 0 1*
+E 0 000001 000000000007
+E 0 000005 000000000001
+? 15 NOPAGE
+#; the last address, an a/ line that crosses a page, and the clean page behind it
+LOAD U J -
+777777/ 1
+1777/ 2 3
+GO 0
+EXAM 0 777777 1
+EXAM 0 1777 2
+EXAM 0 3777 1
+EXAM 0 3777 2
+=
+J 0
+E 0 777777 000000000001
+E 0 001777 000000000002 000000000003
+E 0 003777 000000000000
+? 11 NOPAGE
+#LOAD U J -
+777777/ 1 2
+=
+J 0
+? 2 RANGE
+#; two jobs that take turns
+LOAD A X -
+100/ 271040000001 254000000100
+GO 100
+LOAD B X -
+100/ 271040000002 254000000100
+GO 100
+TICK 0 3
+TICK 1 5
+TICK 0 1
+EXAM 0 1 1
+EXAM 1 1 1
+TICK 2 1
+=
+J 0
+J 1
+T 0 3*
+T 1 5*
+T 0 1*
+E 0 000001 000000000002
+E 1 000001 000000000006
+T 2 1-
+#; a sort of eight words, 318 units and the stop by `.BREAK`
+LOAD U J -
+100/ 201040000007 201100000000 200142000200 317142000201 254000000107 250142000201 202142000200 271100000001 305100000007 254000000102 367040000101 045700000000
+200/ 5 3 7 1 777777777777 2 6 4
+GO 100
+TICK 0 1000
+EXAM 0 200 10
+=
+J 0
+T 0 477* 301-
+E 0 000200 777777777777 000000000001 000000000002 000000000003 000000000004 000000000005 000000000006 000000000007
+#GO 0
+=
+? 1 SYNTAX
+#; the clock stays below 2^34
+CLOCK 177777777777
+CLOCK 1
+=
+? 3 RANGE
+#; bytes beyond the 64 that wait are dropped; nothing waits as output
+TYPE 0 101 101 101 101 101 101 101 101 101 101 101 101 101 101 101 101 101 101 101 101 101 101 101 101 101 101 101 101 101 101 101 101
+TYPE 0 102 102 102 102 102 102 102 102 102 102 102 102 102 102 102 102 102 102 102 102 102 102 102 102 102 102 102 102
+TYPE 0 103 103 103 103 103 103 103 103 103 103 103 103 103 103 103 103 103 103 103 103 103 103 103 103 103 103 103 103 103 103 103 103
+TYPE 0 104
+TYPE 7 0 177
+DRAIN 0 100
+DRAIN 7 1
+DRAIN 10 1
+=
+Y 0 0
+Y 0 0
+Y 0 34
+Y 0 1
+Y 7 0
+D 0
+D 7
+? 11 NOCONS
+#; jobs with the same console
+LOAD A X 3
+GO 0
+LOAD B X 3
+GO 0
+STATE 0
+STATE 1
+TYPE 3 101
+LOAD C X 10
+=
+J 0
+J 1
+S 0 410000000000 700000000000 - 3 RUN 010000000000 000000000000 000000000000 000000000000 000000000000 000000000000 000000000000
+S 1 420000000000 700000000000 - 3 RUN 010000000000 000000000000 000000000000 000000000000 000000000000 000000000000 000000000000
+Y 3 0
+? 11 NOCONS
+";
 
 /// Sessions of calls and their transcripts.
 static CALLS: &str =
@@ -520,6 +655,13 @@ USRVAR
 400000000000 656362664162 1000777777 146 402000000010 = 4. 1* 2. 3* = 10000000100 = RUN 10000000102 0
 400000000000 656362664162 1000777777 147 402000000010 = 4. 1* 2. 3* = 0 = RUN 10000000102 0
 400000000000 656362664162 1000777777 150 401000000001 = 4. 1* 1. 1* 3- = 777 = STOP 10000000102 1
+REALT
+400000000000 624541546400 403000000010 = 4. 1* 2. 3* = 2 = RUN 10000000101 0
+400000000000 624541546400 4 4 403000000010 = 4. 1* 2. 3* = 3 = RUN 10000000101 0
+400000000000 624541546400 6 403000000010 = 4. 1* 2. 3* = 22 = RUN 10000000101 0
+400000000000 624541546400 13 403000000010 = 4. 1* 2. 3* = 22 = RUN 10000000101 0
+400000000000 624541546400 400000000007 = 4. 1* 1. 4* = 777 = RUN 10000000102 0
+400000000000 624541546400 401000000000 = 4. 1* 1. 4* = 777 = RUN 10000000102 0
 LOGOUT
 400000000000 545747576564 1000000001 1000000001 403000000010 = 4. 1* 2. 3* = 3 = RUN 10000000101 0
 400000000000 545747576564 2000000011 403000000010 = 4. 1* 2. 3* = 3 = RUN 10000000101 0
@@ -563,36 +705,52 @@ EXAM 0 10 2
 STATE 0
 ";
 
-/// Runs a session from a source that gives so many bytes a call.
-fn run(
-    alloc: Global,
-    session: &[u8],
-    piece: usize,
-    words: &[String],
-) -> Result<(Status, Vec<u8>), Fail>
-    requires { 1 ≤ piece }
-{
-    let mut src = MemSource::open(alloc, session, piece, &[])?;
-    let mut out = MemSink::open(alloc, 16384, &[])?;
-    let status = its(alloc, words, &mut src, &mut out);
-    Ok((status, out.written().to_vec(alloc)?))
+/// What the program answers, what it writes, and whether it leaves its source as it was.
+#[derive(Drop)]
+struct Outcome {
+    status: Status,
+    wrote: Vec<u8>,
+    is_left: bool,
 }
 
-fn run_word(alloc: Global) -> Result<Vec<String>, Fail> {
-    let mut words = Vec::new(alloc);
-    words.push("run".to_string(alloc)?)?;
-    Ok(words)
+/// Runs the program by words, before each of which a space stands, from a source that gives so many bytes a call, and where these calls of the
+/// source and of the sink fail.
+fn tried(
+    alloc: Global,
+    words: &str,
+    session: &[u8],
+    piece: usize,
+    fails: (&[u64], &[u64]),
+) -> Result<Outcome, Fail>
+    requires { 1 ≤ piece }
+{
+    let mut list = Vec::new(alloc);
+    for word in words.split(' ').skip(1) {
+        list.push(word.to_string(alloc)?)?;
+    }
+    let mut src = MemSource::open(alloc, session, piece, fails.0)?;
+    let mut out = MemSink::open(alloc, 131072, fails.1)?;
+    let status = its(alloc, &list, &mut src, &mut out);
+    Ok(Outcome {
+        status,
+        wrote: out.written().to_vec(alloc)?,
+        is_left: src.rest() == session,
+    })
+}
+
+/// A session has this transcript, and is refused exactly where that shows it.
+fn shows(alloc: Global, rt: &impl Abort, session: &str, transcript: &str) -> Result<(), Fail> {
+    let got = tried(alloc, " run", session.as_bytes(), 512, (&[], &[]))?;
+    assert_eq!(rt; got.wrote.as_slice(), transcript.as_bytes(), "in {session}");
+    let refused = transcript.contains('?');
+    assert_eq!(rt; got.status == Status::Refused, refused, "in {session}");
+    assert_eq!(rt; got.status == Status::Done, !refused, "in {session}");
+    Ok(())
 }
 
 #[test]
 fn rows(rt: HostRuntime) -> Result<(), Fail> {
-    let words = run_word(rt.alloc())?;
-    for (session, transcript, status) in ROWS.iter() {
-        let (got, wrote) = run(rt.alloc(), session.as_bytes(), 512, &words)?;
-        assert_eq!(rt; wrote.as_slice(), transcript.as_bytes(), "in {session}");
-        assert_eq!(rt; got, *status, "in {session}");
-    }
-    Ok(())
+    compare(rt.alloc(), &rt, ROWS)
 }
 
 /// Appends a line to a session.
@@ -602,16 +760,11 @@ fn line(session: &mut String, text: &str) -> Result<(), Fail> {
     Ok(())
 }
 
-/// Each session has its transcript, and is refused exactly where that shows it.
+/// Each session has its transcript.
 fn compare(alloc: Global, rt: &impl Abort, rows: &str) -> Result<(), Fail> {
-    let words = run_word(alloc)?;
     for row in rows.split('#') {
         let (session, transcript) = row.split_once("=\n").expect(rt, "a transcript");
-        let refused = transcript.contains('?');
-        let (got, wrote) = run(alloc, session.as_bytes(), 512, &words)?;
-        assert_eq!(rt; wrote.as_slice(), transcript.as_bytes(), "in {session}");
-        assert_eq!(rt; got == Status::Refused, refused, "in {session}");
-        assert_eq!(rt; got == Status::Done, !refused, "in {session}");
+        shows(alloc, rt, session, transcript)?;
     }
     Ok(())
 }
@@ -639,7 +792,6 @@ fn echoed(text: &mut String, bytes: u32) -> Result<(), Fail> {
 #[test]
 fn full_lists(rt: HostRuntime) -> Result<(), Fail> {
     let alloc = rt.alloc();
-    let words = run_word(alloc)?;
     let mut session = String::new(alloc);
     let mut transcript = String::new(alloc);
     session.push_str(ECHO)?;
@@ -656,9 +808,7 @@ fn full_lists(rt: HostRuntime) -> Result<(), Fail> {
         transcript.push_str(" 101")?;
     }
     line(&mut transcript, " 103")?;
-    let (status, wrote) = run(alloc, session.as_bytes(), 512, &words)?;
-    assert_eq!(rt; wrote.as_slice(), transcript.as_bytes());
-    assert_eq!(rt; status, Status::Done);
+    shows(alloc, &rt, &session, &transcript)?;
     Ok(())
 }
 
@@ -674,7 +824,6 @@ fn word(text: &mut String, digits: &str) -> Result<(), Fail> {
 #[test]
 fn blocks(rt: HostRuntime) -> Result<(), Fail> {
     let alloc = rt.alloc();
-    let words = run_word(alloc)?;
     for row in BLOCKS.split('\n') {
         if let Some((block, told)) = row.split_once(" = ") {
             let (ticks, told) = told.split_once(" = ").expect(&rt, "letters");
@@ -700,9 +849,7 @@ fn blocks(rt: HostRuntime) -> Result<(), Fail> {
                 &mut shown,
                 " 000000000000 000000000000 000000000000 000000000000 000000000000",
             )?;
-            let (got, wrote) = run(alloc, session.as_bytes(), 512, &words)?;
-            assert_eq!(rt; wrote.as_slice(), shown.as_bytes(), "in {session}");
-            assert_eq!(rt; got, Status::Done, "in {session}");
+            shows(alloc, &rt, &session, &shown)?;
         }
     }
     Ok(())
@@ -711,7 +858,6 @@ fn blocks(rt: HostRuntime) -> Result<(), Fail> {
 #[test]
 fn limits(rt: HostRuntime) -> Result<(), Fail> {
     let alloc = rt.alloc();
-    let words = run_word(alloc)?;
     // 64 jobs, and one more
     let mut session = String::new(alloc);
     let mut transcript = String::new(alloc);
@@ -723,91 +869,88 @@ fn limits(rt: HostRuntime) -> Result<(), Fail> {
     }
     line(&mut session, "LOAD U J -")?;
     line(&mut transcript, "? 201 FULL")?;
-    let (status, wrote) = run(alloc, session.as_bytes(), 512, &words)?;
-    assert_eq!(rt; wrote.as_slice(), transcript.as_bytes());
-    assert_eq!(rt; status, Status::Refused);
+    shows(alloc, &rt, &session, &transcript)?;
     // lines of 255 and of 256 bytes
     let mut long = String::new(alloc);
     for _ in 0..255u32 {
         long.push(';')?;
     }
-    let (status, wrote) = run(alloc, long.as_bytes(), 512, &words)?;
-    assert_eq!(rt; (status, wrote.len()), (Status::Done, 0));
+    shows(alloc, &rt, &long, "")?;
     long.push(';')?;
-    let (status, wrote) = run(alloc, long.as_bytes(), 512, &words)?;
-    assert_eq!(rt; wrote.as_slice(), b"? 1 LONG\n".as_slice());
-    assert_eq!(rt; status, Status::Refused);
+    shows(alloc, &rt, &long, "? 1 LONG\n")?;
     // line 1048577 begins
     let mut lines = String::new(alloc);
     for _ in 0..1048576u32 {
         lines.push('\n')?;
     }
-    let (status, wrote) = run(alloc, lines.as_bytes(), 512, &words)?;
-    assert_eq!(rt; (status, wrote.len()), (Status::Done, 0));
+    shows(alloc, &rt, &lines, "")?;
     lines.push('\n')?;
-    let (status, wrote) = run(alloc, lines.as_bytes(), 512, &words)?;
-    assert_eq!(rt; (status, wrote.len()), (Status::TooLong, 0));
+    let got = tried(alloc, " run", lines.as_bytes(), 512, (&[], &[]))?;
+    assert_eq!(rt; (got.status, got.wrote.len()), (Status::TooLong, 0));
     Ok(())
 }
 
-/// A session whose job at 100 goes along a chain of 64 indirect words; 277 holds the last.
-fn chain(alloc: Global, program: &str, last: &str, rest: &str) -> Result<String, Fail> {
+/// A session whose job at 100 goes along a chain of 64 indirect words, of which `memory` has the last.
+fn chain(alloc: Global, memory: &str, rest: &str) -> Result<String, Fail> {
     let mut session = String::new(alloc);
-    line(&mut session, "LOAD U J -")?;
-    line(&mut session, program)?;
+    session.push_str("LOAD U J -\n")?;
     for k in 0..63u32 {
         let word = format!(in alloc; "{:o}/ {:o}", 0o200 + k, 0o20000000 + 0o201 + k)?;
         line(&mut session, &word)?;
     }
-    line(&mut session, last)?;
-    line(&mut session, "300/ 0")?;
-    line(&mut session, "GO 100")?;
-    line(&mut session, rest)?;
+    session.push_str(memory)?;
+    session.push_str("300/ 0\nGO 100\nTICK")?;
+    session.push_str(rest)?;
     Ok(session)
 }
+
+/// A program, the last word of its chain, and its transcript behind the first line.
+static CHAINS: &str = "100/ 200060000200
+277/ 300
+TICK 0 1
+STATE 0
+=T 0 1*
+S 0 650000000000 520000000000 - - RUN 010000000101 000000000000 000000000000 000000000000 000000000000 000000000000 000000000000
+#100/ 200060000200
+277/ 20000300
+TICK 0 3
+STATE 0
+=T 0 2* 1-
+S 0 650000000000 520000000000 - - STOP 010000000100 000000000002 000000000000 000000000000 000000000000 000000000000 000000000000
+#; HANG with an argument at the end of the chain, and the same by XCT
+100/ 43000000110
+110/ 400000000000 504156470000 400020000200
+277/ 300
+TICK 0 6
+=T 0 4. 2w
+#100/ 256000000104
+104/ 43000000110
+110/ 400000000000 504156470000 400020000200
+277/ 300
+TICK 0 6
+STATE 0
+=T 0 2. 2* 2-
+S 0 650000000000 520000000000 - - STOP 010000000100 000000000002 000000000000 000000000000 000000000000 000000000000 000000000000
+#; a second argument needs one indirect word more
+100/ 43000000110
+110/ 400000000000 504156470000 20000200 404020000277
+277/ 300
+TICK 0 6
+=T 0 2. 2* 2-
+";
 
 /// A step reads at most 64 indirect words and targets of XCT, those of a call and of its arguments together.
 #[test]
 fn indirect_chains(rt: HostRuntime) -> Result<(), Fail> {
     let alloc = rt.alloc();
-    let words = run_word(alloc)?;
-    for (program, last, rest, transcript) in [
-        (
-            "100/ 200060000200",
-            "277/ 300",
-            "TICK 0 1\nSTATE 0",
-            "J 0\nT 0 1*\nS 0 650000000000 520000000000 - - RUN 010000000101 000000000000 000000000000 000000000000 000000000000 000000000000 000000000000\n",
-        ),
-        (
-            "100/ 200060000200",
-            "277/ 20000300",
-            "TICK 0 3\nSTATE 0",
-            "J 0\nT 0 2* 1-\nS 0 650000000000 520000000000 - - STOP 010000000100 000000000002 000000000000 000000000000 000000000000 000000000000 000000000000\n",
-        ),
-        // HANG with an argument at the end of the chain, and the same by XCT
-        (
-            "100/ 43000000110\n110/ 400000000000 504156470000 400020000200",
-            "277/ 300",
-            "TICK 0 6",
-            "J 0\nT 0 4. 2w\n",
-        ),
-        (
-            "100/ 256000000104\n104/ 43000000110\n110/ 400000000000 504156470000 400020000200",
-            "277/ 300",
-            "TICK 0 6\nSTATE 0",
-            "J 0\nT 0 2. 2* 2-\nS 0 650000000000 520000000000 - - STOP 010000000100 000000000002 000000000000 000000000000 000000000000 000000000000 000000000000\n",
-        ),
-        // a second argument needs one indirect word more
-        (
-            "100/ 43000000110\n110/ 400000000000 504156470000 20000200 404020000277",
-            "277/ 300",
-            "TICK 0 6",
-            "J 0\nT 0 2. 2* 2-\n",
-        ),
-    ] {
-        let session = chain(alloc, program, last, rest)?;
-        let (_, wrote) = run(alloc, session.as_bytes(), 512, &words)?;
-        assert_eq!(rt; wrote.as_slice(), transcript.as_bytes(), "in {session}");
+    for row in CHAINS.split('#') {
+        let (program, told) = row.split_once("=").expect(&rt, "a transcript");
+        let (memory, rest) = program.split_once("TICK").expect(&rt, "a TICK line");
+        let session = chain(alloc, memory, rest)?;
+        let mut shown = String::new(alloc);
+        shown.push_str("J 0\n")?;
+        shown.push_str(told)?;
+        shows(alloc, &rt, &session, &shown)?;
     }
     Ok(())
 }
@@ -817,7 +960,6 @@ fn indirect_chains(rt: HostRuntime) -> Result<(), Fail> {
 #[test]
 fn moments(rt: HostRuntime) -> Result<(), Fail> {
     let alloc = rt.alloc();
-    let words = run_word(alloc)?;
     let long = [b';'; 512];
     let first = FIRST.as_bytes();
     for (session, piece, transcript, status) in [
@@ -828,10 +970,9 @@ fn moments(rt: HostRuntime) -> Result<(), Fail> {
         (first, 58, "J 0\nT 0 2*\n", Status::ReadFault),
         (first, 57, "J 0\n", Status::ReadFault),
     ] {
-        let mut src = MemSource::open(alloc, session, piece, &[1])?;
-        let mut out = MemSink::open(alloc, 1024, &[])?;
-        assert_eq!(rt; its(alloc, &words, &mut src, &mut out), status);
-        assert_eq!(rt; out.written(), transcript.as_bytes());
+        let got = tried(alloc, " run", session, piece, (&[1], &[]))?;
+        assert_eq!(rt; got.status, status);
+        assert_eq!(rt; got.wrote.as_slice(), transcript.as_bytes());
     }
     Ok(())
 }
@@ -839,33 +980,40 @@ fn moments(rt: HostRuntime) -> Result<(), Fail> {
 #[test]
 fn objects(rt: HostRuntime) -> Result<(), Fail> {
     let alloc = rt.alloc();
-    let words = run_word(alloc)?;
-    // however the source cuts the session
-    for piece in [1, 2, 3, 511] {
-        let (got, wrote) = run(alloc, FIRST.as_bytes(), piece, &words)?;
-        assert_eq!(rt; wrote.as_slice(), FIRST_OUT.as_bytes());
-        assert_eq!(rt; got, Status::Done);
+    let first = FIRST.as_bytes();
+    // however the source cuts the session, and where the source or the sink fails
+    for (piece, fails, transcript, status) in [
+        (1, (&[][..], &[][..]), FIRST_OUT, Status::Done),
+        (2, (&[][..], &[][..]), FIRST_OUT, Status::Done),
+        (3, (&[][..], &[][..]), FIRST_OUT, Status::Done),
+        (511, (&[][..], &[][..]), FIRST_OUT, Status::Done),
+        (512, (&[][..], &[1][..]), "J 0\n", Status::WriteFault),
+        (512, (&[0][..], &[][..]), "", Status::ReadFault),
+    ] {
+        let got = tried(alloc, " run", first, piece, fails)?;
+        assert_eq!(rt; got.status, status);
+        assert_eq!(rt; got.wrote.as_slice(), transcript.as_bytes());
     }
-    // a sink that fails at its second call, and a source that fails at its first
-    let mut src = MemSource::open(alloc, FIRST.as_bytes(), 512, &[])?;
-    let mut out = MemSink::open(alloc, 1024, &[1])?;
-    assert_eq!(rt; its(alloc, &words, &mut src, &mut out), Status::WriteFault);
-    assert_eq!(rt; out.written(), b"J 0\n".as_slice());
-    let mut src = MemSource::open(alloc, FIRST.as_bytes(), 512, &[0])?;
-    let mut out = MemSink::open(alloc, 1024, &[])?;
-    assert_eq!(rt; its(alloc, &words, &mut src, &mut out), Status::ReadFault);
-    // objects that never fail
+    Ok(())
+}
+
+/// Over objects that never fail, no fault is answered.
+fn safely(alloc: Global, words: &[String], src: &mut SafeSource, out: &mut SafeSink) -> Status
+    ensures read { result ≢ Status.ReadFault }
+    ensures written { result ≢ Status.WriteFault }
+{
+    its(alloc, words, src, out)
+}
+
+#[test]
+fn safe_objects(rt: HostRuntime) -> Result<(), Fail> {
+    let alloc = rt.alloc();
+    let mut words = Vec::new(alloc);
+    words.push("run".to_string(alloc)?)?;
     let mut src = SafeSource::open(alloc, FIRST.as_bytes())?;
-    let mut out = SafeSink::new();
-    assert_eq!(rt; its(alloc, &words, &mut src, &mut out), Status::Done);
-    // words that are no command
-    let mut words = run_word(alloc)?;
-    words.push("x".to_string(alloc)?)?;
-    let (status, wrote) = run(alloc, FIRST.as_bytes(), 512, &words)?;
-    assert_eq!(rt; status, Status::Usage);
     assert_eq!(rt;
-        wrote.as_slice(),
-        b"usage: its run | its check | its gen N\n".as_slice()
+        safely(alloc, &words, &mut src, &mut SafeSink::new()),
+        Status::Done
     );
     Ok(())
 }

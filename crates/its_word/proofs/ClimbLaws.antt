@@ -1,4 +1,4 @@
--- Climbing from a job to its superior, and so on: what a removal leaves of it, and that 64 steps are enough.
+-- Climbing from a job to its superior, and so on: what a removal leaves of it, and that as many steps as there are slots are enough.
 use Rattle.std.specs.Prelude.{if◌then◌else◌, ◌≡◌, ◌≢◌, ◌≤◌, ◌<◌, ◌+◌, ◌==◌, ◌||◌, ◌&&◌, not, ℕ, zero, suc, Bool, true, false, Option, Some, None, IfSome, refl}
 use Rattle.std.proofs.Common.{sym, ◌∙◌, ap, subst, arith, inl, inr, eq-eqb}
 use Rattle.std.proofs.lemmas.Bool.{cases_Bool, cases_eq, ne_eqb}
@@ -148,19 +148,19 @@ levels sup r (suc n) few l =
     let one = grown sup r n below in
     omega arith
 
-most : (sup : ℕ → Option ℕ) (r n : ℕ) → reaching sup r n ≤ 64
+most : (sup : ℕ → Option ℕ) (r n : ℕ) → reaching sup r n ≤ slots
 unfolding reaching
 most sup r n = at_most (λ k. climbs_to sup r n (Some k)) 0 slots
 
-no_level : (sup : ℕ → Option ℕ) (r n : ℕ) → ((k : ℕ) → IfSome (sup k) (λ s. s < slots)) → 64 ≤ n → Level sup r n → ⊥
+no_level : (sup : ℕ → Option ℕ) (r n : ℕ) → ((k : ℕ) → IfSome (sup k) (λ s. s < slots)) → slots ≤ n → Level sup r n → ⊥
 no_level sup r n few long l =
     let a = levels sup r n few l in
     let b = grown sup r n l in
     let c = most sup r (suc n) in
     absurd (omega arith)
 
--- 64 steps are enough: there are no more jobs
-pub enough : (sup : ℕ → Option ℕ) (r n i : ℕ) → ((k : ℕ) → IfSome (sup k) (λ s. s < slots)) → i < slots → 64 ≤ n
+-- as many steps as there are slots are enough: there are no more jobs
+pub enough : (sup : ℕ → Option ℕ) (r n i : ℕ) → ((k : ℕ) → IfSome (sup k) (λ s. s < slots)) → i < slots → slots ≤ n
     → climbs_to sup r (suc n) (Some i) ≡ true → climbs_to sup r n (Some i) ≡ true
 enough sup r n i few w long h = elim (cases_Bool (climbs_to sup r n (Some i))) [
   | inl t ↦ t

@@ -1,7 +1,7 @@
--- Least free slots of functions that are alike, and what they say of the slot.
-use Rattle.std.specs.Prelude.{◌≡◌, ◌+◌, ℕ, zero, suc, false, Option, Some, None, is_some, cond, refl}
-use Rattle.std.proofs.Common.{sym, ◌∙◌, ap}
-use Rattle.its_word.specs.Limits.{slots}
+-- Least free slots of functions that are alike, what they say of the slot, and how many slots jobs can have.
+use Rattle.std.specs.Prelude.{if◌then◌else◌, ◌==◌, ◌≡◌, ◌≤◌, ◌<◌, ◌+◌, ℕ, zero, suc, true, false, Option, Some, None, is_some, cond, refl}
+use Rattle.std.proofs.Common.{sym, ◌∙◌, ap, arith}
+use Rattle.its_word.specs.Limits.{slots, limit_of}
 use Rattle.its_word.specs.Tree.{free_from, least_free}
 
 -- only which slots are empty counts
@@ -10,9 +10,9 @@ unfolding free_from
 free_alike f g zero k h = refl
 free_alike f g (suc n) k h = ap (λ b. cond b (free_from f n (k + 1)) (Some k)) (h k) ∙ ap (λ r. cond (is_some (g k)) r (Some k)) (free_alike f g n (k + 1) h)
 
-pub least_alike : {X Y : Type 0} (f : ℕ → Option X) (g : ℕ → Option Y) → ((i : ℕ) → is_some (f i) ≡ is_some (g i)) → least_free f ≡ least_free g
+pub least_alike : {X Y : Type 0} (limit : ℕ) (f : ℕ → Option X) (g : ℕ → Option Y) → ((i : ℕ) → is_some (f i) ≡ is_some (g i)) → least_free limit f ≡ least_free limit g
 unfolding least_free
-least_alike f g h = free_alike f g slots 0 h
+least_alike limit f g h = free_alike f g limit 0 h
 
 -- the least free slot is empty
 free_empty : {X : Type 0} (f : ℕ → Option X) (n k s : ℕ) → free_from f n k ≡ Some s → f s ≡ None
@@ -24,9 +24,36 @@ free_empty {X = X} f (suc n) k s h = go (f k) refl (free_empty f n (k + 1) s) h
     go (Some x) e later h = later h
     go None e later h = let q : k ≡ s = cc in ap f (sym q) ∙ e
 
-pub least_empty : {X : Type 0} (f : ℕ → Option X) (s : ℕ) → least_free f ≡ Some s → f s ≡ None
+pub least_empty : {X : Type 0} (limit : ℕ) (f : ℕ → Option X) (s : ℕ) → least_free limit f ≡ Some s → f s ≡ None
 unfolding least_free
-least_empty f s h = free_empty f slots 0 s h
+least_empty limit f s h = free_empty f limit 0 s h
+
+-- the least free slot is below the limit
+free_below : {X : Type 0} (f : ℕ → Option X) (n k s : ℕ) → free_from f n k ≡ Some s → s < k + n
+unfolding free_from
+free_below f zero k s h = cc
+free_below {X = X} f (suc n) k s h = go (f k) (λ later. let l = free_below f n (k + 1) s later in omega arith) h
+  where
+    go : (o : Option X) → (free_from f n (k + 1) ≡ Some s → s < k + suc n) → cond (is_some o) (free_from f n (k + 1)) (Some k) ≡ Some s → s < k + suc n
+    go (Some x) later h = later h
+    go None later h = let q : k ≡ s = cc in omega arith
+
+pub least_below : {X : Type 0} (limit : ℕ) (f : ℕ → Option X) (s : ℕ) → least_free limit f ≡ Some s → s < limit
+unfolding least_free
+least_below limit f s h = let l = free_below f limit 0 s h in omega arith
+
+-- how many jobs a session can have is one of two numbers
+pub limit_few : (version : ℕ) → limit_of version ≤ slots
+unfolding limit_of
+limit_few version = elim (version == 2) as (λ b. (if b then slots else 64) ≤ slots) [ true ↦ omega arith | false ↦ omega arith ]
+
+pub limit_first : limit_of 1 ≡ 64
+unfolding limit_of
+limit_first = refl
+
+pub limit_second : limit_of 2 ≡ slots
+unfolding limit_of
+limit_second = refl
 
 -- what is nothing
 pub none_is : {X : Type 0} (o : Option X) → is_some o ≡ false → o ≡ None

@@ -57,6 +57,9 @@ PDL = 0o100
 abbrev pub INF : ℕ
 INF = 0o200
 
+abbrev pub ALR : ℕ
+ALR = 0o400
+
 -- the fatal ones, which stop a job that has not enabled them: BRK, ILO, MPV, WRO, IOC and TBL
 abbrev pub FATAL : ℕ
 FATAL = 0o77

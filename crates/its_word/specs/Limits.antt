@@ -1,13 +1,22 @@
 -- How many there can be of each thing.
-use Rattle.std.specs.Prelude.{ℕ}
+use Rattle.std.specs.Prelude.{if◌then◌else◌, ◌==◌, ℕ}
 
--- jobs; slots are the numbers below
+-- places for jobs; slots are the numbers below
 abbrev pub slots : ℕ
-slots = 64
+slots = 96
+
+-- jobs that a session can have: 64 in version 1 of the session text, one for each place in version 2. The slots of jobs
+-- are below this number
+unfoldable pub limit_of : ℕ → ℕ
+limit_of version = if version == 2 then slots else 64
 
 -- pages of all jobs together
 abbrev pub most_pages : ℕ
 most_pages = 1024
+
+-- symbols of a job
+abbrev pub most_symbols : ℕ
+most_symbols = 512
 
 -- indirect words and XCT targets of one unit, its call's argument addresses with them
 abbrev pub budget : ℕ

@@ -10,9 +10,9 @@ unfoldable pub free_from : {X : Type 0} → (ℕ → Option X) → ℕ → ℕ �
 free_from jobs zero k = None
 free_from jobs (suc n) k = cond (is_some (jobs k)) (free_from jobs n (k + 1)) (Some k)
 
--- the least free slot, where there is one
-unfoldable pub least_free : {X : Type 0} → (ℕ → Option X) → Option ℕ
-least_free jobs = free_from jobs slots 0
+-- the least free slot below a limit, where there is one
+unfoldable pub least_free : {X : Type 0} → ℕ → (ℕ → Option X) → Option ℕ
+least_free limit jobs = free_from jobs limit 0
 
 -- a job as it is made: stopped, with closed channels; its names and console are given, all else is 0
 unfoldable pub fresh_job : ℕ → ℕ → Option ℕ → Job

@@ -39,7 +39,7 @@ pub use limits::{ADDRESSES, BUDGET, MAPPED_PAGES, SLOTS};
 pub use location::Location;
 pub use memory::NoMemory;
 pub use opcode::decode;
-pub use pending::{BRK, FATAL, ILO, INF, IOC, MPV, PDL, TBL, WRO};
+pub use pending::{ALR, BRK, FATAL, ILO, INF, IOC, MPV, PDL, TBL, WRO};
 pub use plan::{Context, Plan, Reached, Store, Turn};
 pub use result2::Result2;
 pub use session::{Bad, Event, Place, Reason, Refusal};

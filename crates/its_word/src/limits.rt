@@ -1,5 +1,6 @@
-/// How many jobs there can be; slots are the numbers below it.
-pub const SLOTS: usize = 64;
+/// How many places there are for jobs; slots are the numbers below it. A session of version 1 has fewer
+/// jobs.
+pub const SLOTS: usize = 96;
 
 /// How many addresses there are; addresses are the numbers below it.
 pub const ADDRESSES: u32 = 0o1000000;

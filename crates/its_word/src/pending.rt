@@ -17,5 +17,7 @@ pub const TBL: u64 = 0o40;
 pub const PDL: u64 = 0o100;
 /// An inferior was stopped by a fatal bit, or logged out.
 pub const INF: u64 = 0o200;
+/// A due alarm. It is not fatal.
+pub const ALR: u64 = 0o400;
 /// The fatal bits.
 pub const FATAL: u64 = 0o77;

@@ -1,11 +1,16 @@
 use super::word::Word;
 use arrayvec::ArrayVec;
 
-/// A line of a session, read. Addresses `a` are below 2^18, slots `s` are below 64, consoles `c` are
-/// below 8; docs/SESSION.md has the numbers of each line.
+/// A line of a session, read. Addresses `a` are below 2^18, slots `s` are below 64 in version 1 of the
+/// session text and below 96 in version 2, consoles `c` are below 8; docs/SESSION.md has the numbers of
+/// each line.
 #[derive(Debug, PartialEq, Eq, Drop)]
 pub enum Event {
     Nothing,
+    /// Line 1 alone: the version of the session text, 1 or 2.
+    Version {
+        v: u8,
+    },
     Load {
         u: Word,
         j: Word,
@@ -14,6 +19,15 @@ pub enum Event {
     Words {
         a: u32,
         words: ArrayVec<Word, 16>,
+    },
+    /// In version 2: a page of the job becomes read only.
+    ReadOnly {
+        page: u8,
+    },
+    /// In version 2: the job keeps a symbol.
+    Symbol {
+        name: Word,
+        a: u32,
     },
     Go {
         a: u32,
@@ -80,10 +94,11 @@ pub enum Event {
     End,
 }
 
-/// Where a line of a session stands: outside any block, after LOAD and before its GO, or after FILE
-/// and before its EOF.
+/// Where a line of a session stands: it is line 1, which may have the version; or outside any block,
+/// after LOAD and before its GO, or after FILE and before its EOF.
 #[derive(Clone, Copy, Debug, PartialEq, Eq)]
 pub enum Place {
+    First,
     Plain,
     Load,
     File,

@@ -1,7 +1,8 @@
 use super::word::Word;
 
-/// What STATE shows of a job: its names, superior and console, whether it runs, its PC word, and its
-/// pending words, masks and deferrals.
+/// What STATE shows of a job: its names, superior and console, whether it runs, its PC word, its
+/// pending words, masks and deferrals; and of its symbols the one nearest to its PC, where there is one
+/// at an address at most the PC: its name, and how far the PC is past it.
 #[derive(Clone, Copy, Debug, PartialEq, Eq)]
 pub struct JobShow {
     pub u: Word,
@@ -16,6 +17,7 @@ pub struct JobShow {
     pub m2: Word,
     pub d1: Word,
     pub d2: Word,
+    pub symbol: Option<(Word, u32)>,
 }
 
 /// What DIR shows of a file: its two names and its length in words.

@@ -89,7 +89,7 @@ module _ (s : Store) (t : Table) (a : Across s t) where
   pub reading_file : (k n f at : ℕ) → channel_at t k n ≡ Reading f at → is_file (entry_at s f) ≡ true
   reading_file k n f at e = reader_file (entry_at s f) (reading_stands k n f at e)
 
-  pub readers_few : (f : ℕ) → readers_at s f ≤ 1024
+  pub readers_few : (f : ℕ) → readers_at s f ≤ 16 * slots
   readers_few f = let r = a.read f in let l = tally_few (reads f) (channel_at t) (reads_few f) in omega arith
 
   -- one that writes is on a draft that stands and is not marked, and no other channel is on it
@@ -223,7 +223,7 @@ one_few : (b : Bool) → one_if b ≤ 1
 one_few true = omega arith
 one_few false = omega arith
 
-pub drafts_below : (s : Store) (t : Table) (j n : ℕ) → Across s t → s.mark ≡ None → j < slots → n < 16 → channel_at t j n ≡ Closed → drafts s < 1024
+pub drafts_below : (s : Store) (t : Table) (j n : ℕ) → Across s t → s.mark ≡ None → j < slots → n < 16 → channel_at t j n ≡ Closed → drafts s < 16 * slots
 drafts_below s t j n a none lj ln closed =
     let v : ℕ → ℕ = λ d. one_if (is_draft (entry_at s d)) in
     let past = λ (d : ℕ) (le : length s.entries ≤ d). ap (λ e. one_if (is_draft e)) (get_or_past s.entries d None le) in

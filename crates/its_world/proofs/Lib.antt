@@ -12,3 +12,5 @@ pub mod StorageLaws
 pub mod ChannelLaws
 pub mod MadeLaws
 pub mod MappedLaws
+pub mod SymbolLaws
+pub mod AlarmLaws

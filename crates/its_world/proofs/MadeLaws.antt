@@ -1,6 +1,6 @@
 -- A job that is made in an empty slot, whose core is that of no job: the state that the world then stands for, and that
 -- the world is tidy.
-use Rattle.std.specs.Prelude.{◌≡◌, ◌≢◌, ℕ, zero, suc, Option, Some, None, replicate, slice_index_or, refl}
+use Rattle.std.specs.Prelude.{◌≡◌, ◌<◌, ◌≢◌, ℕ, zero, suc, Option, Some, None, replicate, slice_index_or, refl}
 use Rattle.std.proofs.Common.{sym, ◌∙◌, ap, subst, inl, inr}
 use Rattle.std.proofs.lemmas.Bool.{cases_eq}
 use Rattle.its_word.specs.Core.{no_core}
@@ -10,13 +10,14 @@ use Rattle.its_word.specs.declared.jobs.Channel.TheVariants.{Closed}
 use Rattle.its_core.specs.Cores.{core_at, clear_at}
 use Rattle.its_files.specs.Files.{Store, directory}
 use Rattle.its_jobs.specs.Table.{job_at, superior_at}
-use Rattle.its_plain.specs.Machine.{Whole, whole, changed, with_job}
+use Rattle.its_plain.specs.Machine.{Whole, whole, changed, with_job, limit}
 use Rattle.its_plain.proofs.MachineLaws.{machine_is}
 use Rattle.its_stepped.specs.Lines.{with_raw}
 use Rattle.its_stepped.proofs.FrameLaws.{changed_only}
 use Rattle.its_world.specs.Made.{JobMade}
+use Rattle.its_plain.specs.OperatorClock.{clock_end}
 use Rattle.its_world.specs.Tidy.{channel_by, channel_at, Across, Tidy}
-use Rattle.its_world.specs.World.{chan_of, closed_channels, raw_of, raw_at, frame_at, console_at, holder_at, mark_of, state_of}
+use Rattle.its_world.specs.World.{chan_of, closed_channels, alarm_at, raw_of, raw_at, frame_at, console_at, holder_at, mark_of, state_of, symbols_at}
 use Rattle.its_world.specs.declared.world.World.{World}
 use Rattle.its_world.proofs.KeptLaws.{across_table}
 use Rattle.its_world.proofs.StateLaws.{state_is, raw_job}
@@ -32,35 +33,38 @@ pub fresh_closed : (u n : ℕ) (console : Option ℕ) (i : ℕ) → channel_by (
 unfolding fresh_job
 fresh_closed u n console i = all_closed 16 i
 
-fresh_raw : (x : Store) (u n : ℕ) (superior console : Option ℕ) → raw_job x no_core (fresh_job u n console) superior ≡ whole no_core (fresh_job u n console) superior
+fresh_raw : (x : Store) (u n : ℕ) (superior console : Option ℕ) → raw_job x no_core (fresh_job u n console) superior None ≡ whole no_core (fresh_job u n console) superior
 unfolding fresh_job closed_channels
 fresh_raw x u n superior console = λ t. record (whole no_core (fresh_job u n console) superior) { channels = λ i. chan_of x (all_closed 16 i t) }
 
 module _ (old new : World) (s u n : ℕ) (superior console : Option ℕ) (made : JobMade old new s u n superior console) where
-  made_here : core_at old.core s ≡ no_core → raw_at new.files new.core new.jobs s ≡ Some (whole no_core (fresh_job u n console) superior)
-  made_here blank =
-      ap (λ c. raw_of new.files (core_at c s) (superior_at new.jobs s) (job_at new.jobs s)) made.core
-      ∙ ap (λ c. raw_of new.files c (superior_at new.jobs s) (job_at new.jobs s)) blank
-      ∙ ap (λ i. raw_of new.files no_core i (job_at new.jobs s)) made.superior.here
-      ∙ ap (raw_of new.files no_core superior) made.job.here ∙ ap Some (fresh_raw new.files u n superior console)
+  made_here : core_at old.core s ≡ no_core → alarm_at old.alarms.items s ≡ None → raw_at new.files new.core new.jobs new.alarms.items s ≡ Some (whole no_core (fresh_job u n console) superior)
+  made_here blank quiet =
+      ap (λ c. raw_of new.files (core_at c s) (superior_at new.jobs s) (alarm_at new.alarms.items s) (job_at new.jobs s)) made.core
+      ∙ ap (λ c. raw_of new.files c (superior_at new.jobs s) (alarm_at new.alarms.items s) (job_at new.jobs s)) blank
+      ∙ ap (λ i. raw_of new.files no_core i (alarm_at new.alarms.items s) (job_at new.jobs s)) made.superior.here
+      ∙ ap (λ l. raw_of new.files no_core superior (alarm_at l.items s) (job_at new.jobs s)) made.alarms
+      ∙ ap (λ a. raw_of new.files no_core superior a (job_at new.jobs s)) quiet
+      ∙ ap (raw_of new.files no_core superior None) made.job.here ∙ ap Some (fresh_raw new.files u n superior console)
 
-  made_other : (k : ℕ) → k ≢ s → raw_at new.files new.core new.jobs k ≡ raw_at old.files old.core old.jobs k
+  made_other : (k : ℕ) → k ≢ s → raw_at new.files new.core new.jobs new.alarms.items k ≡ raw_at old.files old.core old.jobs old.alarms.items k
   made_other k ne =
-      ap (λ x. raw_of x (core_at new.core k) (superior_at new.jobs k) (job_at new.jobs k)) made.files
-      ∙ ap (λ c. raw_of old.files (core_at c k) (superior_at new.jobs k) (job_at new.jobs k)) made.core
-      ∙ ap (λ i. raw_of old.files (core_at old.core k) i (job_at new.jobs k)) (made.superior.others k ne)
-      ∙ ap (raw_of old.files (core_at old.core k) (superior_at old.jobs k)) (made.job.others k ne)
+      ap (λ x. raw_of x (core_at new.core k) (superior_at new.jobs k) (alarm_at new.alarms.items k) (job_at new.jobs k)) made.files
+      ∙ ap (λ c. raw_of old.files (core_at c k) (superior_at new.jobs k) (alarm_at new.alarms.items k) (job_at new.jobs k)) made.core
+      ∙ ap (λ i. raw_of old.files (core_at old.core k) i (alarm_at new.alarms.items k) (job_at new.jobs k)) (made.superior.others k ne)
+      ∙ ap (λ l. raw_of old.files (core_at old.core k) (superior_at old.jobs k) (alarm_at l.items k) (job_at new.jobs k)) made.alarms
+      ∙ ap (raw_of old.files (core_at old.core k) (superior_at old.jobs k) (alarm_at old.alarms.items k)) (made.job.others k ne)
 
-  pub made_state : core_at old.core s ≡ no_core → state_of new ≡ with_raw (state_of old) (with_job (state_of old).raw s (whole no_core (fresh_job u n console) superior))
+  pub made_state : core_at old.core s ≡ no_core → alarm_at old.alarms.items s ≡ None → state_of new ≡ with_raw (state_of old) (with_job (state_of old).raw s (whole no_core (fresh_job u n console) superior))
   unfolding state_of
-  made_state blank =
+  made_state blank quiet =
       let q : Whole = whole no_core (fresh_job u n console) superior in
-      let only = changed_only (raw_at old.files old.core old.jobs) s (Some q) in
+      let only = changed_only (raw_at old.files old.core old.jobs old.alarms.items) s (Some q) in
       state_is _ _
       (machine_is _ _ (λ k. elim (cases_eq k s) [
-        | inl is ↦ ap (raw_at new.files new.core new.jobs) is ∙ made_here blank ∙ sym (ap (changed (raw_at old.files old.core old.jobs) s (Some q)) is ∙ only.here)
+        | inl is ↦ ap (raw_at new.files new.core new.jobs new.alarms.items) is ∙ made_here blank quiet ∙ sym (ap (changed (raw_at old.files old.core old.jobs old.alarms.items) s (Some q)) is ∙ only.here)
         | inr ne ↦ made_other k ne ∙ sym (only.others k ne)
-      ]) (λ c. ap (λ l. console_at l.items c) made.consoles) (λ c. ap (λ l. holder_at l c) made.holders) (ap directory made.files) made.clock)
+      ]) (λ c. ap (λ l. console_at l.items c) made.consoles) (λ c. ap (λ l. holder_at l c) made.holders) (ap directory made.files) made.clock made.version (λ k. ap (λ l. symbols_at l.items k) made.symbols))
       (λ k. ap (λ v. frame_at v.items k) made.frames)
       (λ k. ap (λ c. clear_at c k) made.core)
       (ap mark_of made.files)
@@ -71,17 +75,35 @@ module _ (old new : World) (s u n : ℕ) (superior console : Option ℕ) (made :
       | inl is ↦ let wrong : None ≡ Some (fresh_job u n console) = sym h ∙ ap (job_at new.jobs) is ∙ made.job.here in absurd cc
       | inr ne ↦ tidy.blank k (sym (made.job.others k ne) ∙ h)
     ];
+    quiet = λ k h. ap (λ l. alarm_at l.items k) made.alarms ∙ elim (cases_eq k s) [
+      | inl is ↦ let wrong : None ≡ Some (fresh_job u n console) = sym h ∙ ap (job_at new.jobs) is ∙ made.job.here in absurd cc
+      | inr ne ↦ tidy.quiet k (sym (made.job.others k ne) ∙ h)
+    ];
+    timed = subst (λ t. t < clock_end) (sym made.clock) tidy.timed;
     across = subst (λ x. Across x new.jobs) (sym made.files) (across_table old.files old.jobs new.jobs tidy.across (λ k i. elim (cases_eq k s) [
       | inl is ↦
           ap (λ x. channel_at new.jobs x i) is ∙ ap (λ o. channel_by o i) made.job.here ∙ fresh_closed u n console i
           ∙ sym (ap (λ x. channel_at old.jobs x i) is ∙ ap (λ o. channel_by o i) none)
       | inr ne ↦ ap (λ o. channel_by o i) (made.job.others k ne)
     ]));
+    nameless = λ k h. ap (λ l. symbols_at l.items k) made.symbols ∙ elim (cases_eq k s) [
+      | inl is ↦ let wrong : None ≡ Some (fresh_job u n console) = sym h ∙ ap (job_at new.jobs) is ∙ made.job.here in absurd cc
+      | inr ne ↦ tidy.nameless k (sym (made.job.others k ne) ∙ h)
+    ];
   }
 
--- the least free slot of the raw machine is that of the jobs; it is empty, and its core is that of no job
-pub least_raw : (w : World) → least_free (state_of w).raw.jobs ≡ least_free (job_at w.jobs)
-least_raw w = least_alike (state_of w).raw.jobs (job_at w.jobs) (raw_has w)
+-- the jobs have the limit of the raw machine; its least free slot is that of the jobs; it is empty, and its core is that of no job
+pub limit_raw : (w : World) → w.jobs.limit ≡ limit (state_of w).raw
+unfolding state_of
+limit_raw w = w.limited
 
-pub least_blank : (w : World) (s : ℕ) → Tidy w → least_free (job_at w.jobs) ≡ Some s → core_at w.core s ≡ no_core
-least_blank w s tidy e = tidy.blank s (least_empty (job_at w.jobs) s e)
+pub least_raw : (w : World) → least_free (limit (state_of w).raw) (state_of w).raw.jobs ≡ least_free w.jobs.limit (job_at w.jobs)
+least_raw w =
+    ap (λ (n : ℕ). least_free n (state_of w).raw.jobs) (sym (limit_raw w))
+    ∙ least_alike w.jobs.limit (state_of w).raw.jobs (job_at w.jobs) (raw_has w)
+
+pub least_blank : (w : World) (s : ℕ) → Tidy w → least_free w.jobs.limit (job_at w.jobs) ≡ Some s → core_at w.core s ≡ no_core
+least_blank w s tidy e = tidy.blank s (least_empty w.jobs.limit (job_at w.jobs) s e)
+
+pub least_quiet : (w : World) (s : ℕ) → Tidy w → least_free w.jobs.limit (job_at w.jobs) ≡ Some s → alarm_at w.alarms.items s ≡ None
+least_quiet w s tidy e = tidy.quiet s (least_empty w.jobs.limit (job_at w.jobs) s e)

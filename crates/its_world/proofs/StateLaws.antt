@@ -20,7 +20,7 @@ use Rattle.its_plain.specs.Change.{on_slot, on_console}
 use Rattle.its_plain.proofs.MachineLaws.{machine_is}
 use Rattle.its_stepped.specs.Lines.{with_raw}
 use Rattle.its_stepped.specs.State.{State, turn, same, reserving}
-use Rattle.its_world.specs.World.{chans_of, mark_of, bare, raw_of, raw_at, frame_at, console_at, holder_at, state_of, in_raw, with_frames, Becomes, FrameBecomes, ConsoleBecomes, HolderBecomes}
+use Rattle.its_world.specs.World.{chans_of, mark_of, bare, alarm_at, raw_of, raw_at, frame_at, console_at, holder_at, state_of, in_raw, with_frames, Becomes, FrameBecomes, ConsoleBecomes, HolderBecomes, symbols_at}
 use Rattle.its_world.specs.declared.world.World.{World}
 
 pub state_is : (a b : State) → a.raw ≡ b.raw → ((k : ℕ) → a.frames k ≡ b.frames k) → ((k : ℕ) → a.reserved k ≡ b.reserved k) → a.mark ≡ b.mark → a ≡ b
@@ -31,15 +31,15 @@ state_is a b raw frames reserved mark = λ t. record {
   mark = mark t;
 }
 
--- a job with its core, its registers and its superior
-abbrev pub raw_job : Files → Core → Job → Option ℕ → Whole
-raw_job s c j superior = record { core = c; job = bare j; superior = superior; channels = chans_of s j }
+-- a job with its core, its registers, its superior and its alarm
+abbrev pub raw_job : Files → Core → Job → Option ℕ → Option (ℕ × ℕ) → Whole
+raw_job s c j superior alarm = record { core = c; job = bare j; superior = superior; channels = chans_of s j; alarm = alarm }
 
-pub raw_some : (w : World) (s : ℕ) (j : Job) → job_at w.jobs s ≡ Some j → raw_at w.files w.core w.jobs s ≡ Some (raw_job w.files (core_at w.core s) j (superior_at w.jobs s))
-raw_some w s j h = ap (raw_of w.files (core_at w.core s) (superior_at w.jobs s)) h
+pub raw_some : (w : World) (s : ℕ) (j : Job) → job_at w.jobs s ≡ Some j → raw_at w.files w.core w.jobs w.alarms.items s ≡ Some (raw_job w.files (core_at w.core s) j (superior_at w.jobs s) (alarm_at w.alarms.items s))
+raw_some w s j h = ap (raw_of w.files (core_at w.core s) (superior_at w.jobs s) (alarm_at w.alarms.items s)) h
 
-pub raw_none : (w : World) (s : ℕ) → job_at w.jobs s ≡ None → raw_at w.files w.core w.jobs s ≡ None
-raw_none w s h = ap (raw_of w.files (core_at w.core s) (superior_at w.jobs s)) h
+pub raw_none : (w : World) (s : ℕ) → job_at w.jobs s ≡ None → raw_at w.files w.core w.jobs w.alarms.items s ≡ None
+raw_none w s h = ap (raw_of w.files (core_at w.core s) (superior_at w.jobs s) (alarm_at w.alarms.items s)) h
 
 -- a function that is another but at one place
 pub changed_at : {X : Type 0} (f g : ℕ → X) (s : ℕ) (x : X) → f s ≡ x → ((k : ℕ) → k ≢ s → f k ≡ g k) → (k : ℕ) → f k ≡ changed g s x k
@@ -55,41 +55,43 @@ slot_at f g s h here others k = elim (cases_Bool (k == s)) [
 ]
 
 pub raw_others : (old new : World) (s : ℕ) (c : Core) (j : Option Job) (f : Option Frame) (r : Option ℕ) → Becomes old new s c j f r
-    → (k : ℕ) → k ≢ s → raw_at new.files new.core new.jobs k ≡ raw_at old.files old.core old.jobs k
+    → (k : ℕ) → k ≢ s → raw_at new.files new.core new.jobs new.alarms.items k ≡ raw_at old.files old.core old.jobs old.alarms.items k
 raw_others old new s c j f r b k n =
-    ap (λ x. raw_of x (core_at new.core k) (superior_at new.jobs k) (job_at new.jobs k)) b.files
-    ∙ ap (λ x. raw_of old.files x (superior_at new.jobs k) (job_at new.jobs k)) (b.core.others k n)
-    ∙ ap (λ x. raw_of old.files (core_at old.core k) (slice_index_or x k None) (job_at new.jobs k)) b.superiors
-    ∙ ap (raw_of old.files (core_at old.core k) (superior_at old.jobs k)) (b.job.others k n)
+    ap (λ x. raw_of x (core_at new.core k) (superior_at new.jobs k) (alarm_at new.alarms.items k) (job_at new.jobs k)) b.files
+    ∙ ap (λ x. raw_of old.files x (superior_at new.jobs k) (alarm_at new.alarms.items k) (job_at new.jobs k)) (b.core.others k n)
+    ∙ ap (λ x. raw_of old.files (core_at old.core k) (slice_index_or x k None) (alarm_at new.alarms.items k) (job_at new.jobs k)) b.superiors
+    ∙ ap (λ x. raw_of old.files (core_at old.core k) (superior_at old.jobs k) (alarm_at x.items k) (job_at new.jobs k)) b.alarms
+    ∙ ap (raw_of old.files (core_at old.core k) (superior_at old.jobs k) (alarm_at old.alarms.items k)) (b.job.others k n)
 
 raw_here : (old new : World) (s : ℕ) (c : Core) (i j : Job) (f : Option Frame) (r : Option ℕ) (h : Whole → Whole) → Becomes old new s c (Some i) f r
-    → job_at old.jobs s ≡ Some j → h (raw_job old.files (core_at old.core s) j (superior_at old.jobs s)) ≡ raw_job old.files c i (superior_at old.jobs s)
-    → raw_at new.files new.core new.jobs s ≡ option_map h (raw_at old.files old.core old.jobs s)
+    → job_at old.jobs s ≡ Some j → h (raw_job old.files (core_at old.core s) j (superior_at old.jobs s) (alarm_at old.alarms.items s)) ≡ raw_job old.files c i (superior_at old.jobs s) (alarm_at old.alarms.items s)
+    → raw_at new.files new.core new.jobs new.alarms.items s ≡ option_map h (raw_at old.files old.core old.jobs old.alarms.items s)
 raw_here old new s c i j f r h b job e =
-    ap (λ x. raw_of x (core_at new.core s) (superior_at new.jobs s) (job_at new.jobs s)) b.files
-    ∙ ap (λ x. raw_of old.files x (superior_at new.jobs s) (job_at new.jobs s)) b.core.here
-    ∙ ap (λ x. raw_of old.files c (slice_index_or x s None) (job_at new.jobs s)) b.superiors
-    ∙ ap (raw_of old.files c (superior_at old.jobs s)) b.job.here
+    ap (λ x. raw_of x (core_at new.core s) (superior_at new.jobs s) (alarm_at new.alarms.items s) (job_at new.jobs s)) b.files
+    ∙ ap (λ x. raw_of old.files x (superior_at new.jobs s) (alarm_at new.alarms.items s) (job_at new.jobs s)) b.core.here
+    ∙ ap (λ x. raw_of old.files c (slice_index_or x s None) (alarm_at new.alarms.items s) (job_at new.jobs s)) b.superiors
+    ∙ ap (λ x. raw_of old.files c (superior_at old.jobs s) (alarm_at x.items s) (job_at new.jobs s)) b.alarms
+    ∙ ap (raw_of old.files c (superior_at old.jobs s) (alarm_at old.alarms.items s)) b.job.here
     ∙ ap Some (sym e)
     ∙ ap (option_map h) (sym (raw_some old s j job))
 
 -- the job of a slot is changed by h, its frame is f, and of its reserved page r quarters are clear
 pub written_state : (old new : World) (s : ℕ) (c : Core) (i j : Job) (f : Option Frame) (r : Option ℕ) (h : Whole → Whole) → Becomes old new s c (Some i) f r
-    → job_at old.jobs s ≡ Some j → h (raw_job old.files (core_at old.core s) j (superior_at old.jobs s)) ≡ raw_job old.files c i (superior_at old.jobs s)
+    → job_at old.jobs s ≡ Some j → h (raw_job old.files (core_at old.core s) j (superior_at old.jobs s) (alarm_at old.alarms.items s)) ≡ raw_job old.files c i (superior_at old.jobs s) (alarm_at old.alarms.items s)
     → state_of new ≡ reserving (turn (state_of old) s h f) s r
 unfolding state_of
 written_state old new s c i j f r h b job e = state_is _ _
-    (machine_is _ _ (slot_at _ _ s h (raw_here old new s c i j f r h b job e) (raw_others old new s c (Some i) f r b)) (λ k. ap (λ l. console_at l.items k) b.consoles) (λ k. ap (λ l. holder_at l k) b.holders) (ap directory b.files) b.clock)
+    (machine_is _ _ (slot_at _ _ s h (raw_here old new s c i j f r h b job e) (raw_others old new s c (Some i) f r b)) (λ k. ap (λ l. console_at l.items k) b.consoles) (λ k. ap (λ l. holder_at l k) b.holders) (ap directory b.files) b.clock b.version (λ k. ap (λ l. symbols_at l.items k) b.symbols))
     (changed_at _ _ s f b.frame.here b.frame.others)
     (changed_at _ _ s r b.reserved.here b.reserved.others)
     (ap mark_of b.files)
 
 pub turned_state : (old new : World) (s : ℕ) (c : Core) (i j : Job) (f : Option Frame) (h : Whole → Whole) → Becomes old new s c (Some i) f (clear_at old.core s)
-    → job_at old.jobs s ≡ Some j → h (raw_job old.files (core_at old.core s) j (superior_at old.jobs s)) ≡ raw_job old.files c i (superior_at old.jobs s)
+    → job_at old.jobs s ≡ Some j → h (raw_job old.files (core_at old.core s) j (superior_at old.jobs s) (alarm_at old.alarms.items s)) ≡ raw_job old.files c i (superior_at old.jobs s) (alarm_at old.alarms.items s)
     → state_of new ≡ turn (state_of old) s h f
 unfolding state_of
 turned_state old new s c i j f h b job e = state_is _ _
-    (machine_is _ _ (slot_at _ _ s h (raw_here old new s c i j f _ h b job e) (raw_others old new s c (Some i) f _ b)) (λ k. ap (λ l. console_at l.items k) b.consoles) (λ k. ap (λ l. holder_at l k) b.holders) (ap directory b.files) b.clock)
+    (machine_is _ _ (slot_at _ _ s h (raw_here old new s c i j f _ h b job e) (raw_others old new s c (Some i) f _ b)) (λ k. ap (λ l. console_at l.items k) b.consoles) (λ k. ap (λ l. holder_at l k) b.holders) (ap directory b.files) b.clock b.version (λ k. ap (λ l. symbols_at l.items k) b.symbols))
     (changed_at _ _ s f b.frame.here b.frame.others)
     (λ k. elim (cases_Bool (k == s)) [
       | inl t ↦ let n : k ≡ s = grind (arith, nat_tests) in ap (clear_at new.core) n ∙ b.reserved.here ∙ ap (clear_at old.core) (sym n)
@@ -135,7 +137,7 @@ left_turn old new s j e f h b = turned_state old new s (core_at old.core s) (lef
 
 -- a frame that was taken out and another put in its place
 pub retaken : (w : State) (s : ℕ) (f g : Option Frame) (h : Whole → Whole) → turn (turn w s same f) s h g ≡ turn w s h g
-retaken w s f g h = state_is _ _ (machine_is _ _ (λ k. twice (k == s) (w.raw.jobs k)) (λ k. refl) (λ k. refl) refl refl) (λ k. over (k == s) (w.frames k)) (λ k. refl) refl
+retaken w s f g h = state_is _ _ (machine_is _ _ (λ k. twice (k == s) (w.raw.jobs k)) (λ k. refl) (λ k. refl) refl refl refl (λ k. refl)) (λ k. over (k == s) (w.frames k)) (λ k. refl) refl
   where
     twice : (b : Bool) (o : Option Whole) → (if b then option_map h (if b then option_map same o else o) else (if b then option_map same o else o)) ≡ (if b then option_map h o else o)
     twice true (Some q) = refl
@@ -147,7 +149,7 @@ retaken w s f g h = state_is _ _ (machine_is _ _ (λ k. twice (k == s) (w.raw.jo
     over false o = refl
 
 pub changed_state : (old new : World) (s : ℕ) (c : Core) (i j : Job) (h : Whole → Whole) → Becomes old new s c (Some i) (frame_at old.frames.items s) (clear_at old.core s)
-    → job_at old.jobs s ≡ Some j → h (raw_job old.files (core_at old.core s) j (superior_at old.jobs s)) ≡ raw_job old.files c i (superior_at old.jobs s)
+    → job_at old.jobs s ≡ Some j → h (raw_job old.files (core_at old.core s) j (superior_at old.jobs s) (alarm_at old.alarms.items s)) ≡ raw_job old.files c i (superior_at old.jobs s) (alarm_at old.alarms.items s)
     → state_of new ≡ in_raw (state_of old) s h
 unfolding state_of
 changed_state old new s c i j h b job e =
@@ -165,23 +167,32 @@ unfolding state_of
 absent_state w s h none = state_is _ _
     (machine_is _ _ (λ k. elim (cases_Bool (k == s)) [
       | inl t ↦ let n : k ≡ s = grind (arith, nat_tests) in
-          let e : raw_at w.files w.core w.jobs k ≡ None = ap (raw_at w.files w.core w.jobs) n ∙ raw_none w s none in
+          let e : raw_at w.files w.core w.jobs w.alarms.items k ≡ None = ap (raw_at w.files w.core w.jobs w.alarms.items) n ∙ raw_none w s none in
           rw t (e ∙ ap (option_map h) (sym e))
       | inr t ↦ rw t refl
-    ]) (λ k. refl) (λ k. refl) refl refl)
+    ]) (λ k. refl) (λ k. refl) refl refl refl (λ k. refl))
     (λ k. refl) (λ k. refl) refl
+
+-- the same store, cores, jobs and alarms
+pub raw_same : (old new : World) → new.files ≡ old.files → new.core ≡ old.core → new.jobs ≡ old.jobs → new.alarms ≡ old.alarms
+    → (k : ℕ) → raw_at new.files new.core new.jobs new.alarms.items k ≡ raw_at old.files old.core old.jobs old.alarms.items k
+raw_same old new files core jobs alarms k =
+    ap (λ t. raw_at t new.core new.jobs new.alarms.items k) files
+    ∙ ap (λ t. raw_at old.files t new.jobs new.alarms.items k) core
+    ∙ ap (λ t. raw_at old.files old.core t new.alarms.items k) jobs
+    ∙ ap (λ t. raw_at old.files old.core old.jobs t.items k) alarms
 
 -- a console changed, and another holder of one
 pub console_state : (old new : World) (c : ℕ) (f : Console → Console) → ConsoleBecomes old new c (f (console_at old.consoles.items c))
     → state_of new ≡ with_raw (state_of old) (on_console (state_of old).raw c f)
 unfolding state_of
 console_state old new c f b = state_is _ _
-    (machine_is _ _ (λ k. ap (λ t. raw_at t new.core new.jobs k) b.files ∙ ap (λ t. raw_at old.files t new.jobs k) b.core ∙ ap (λ t. raw_at old.files old.core t k) b.jobs) (changed_at _ _ c _ b.consoles.here b.consoles.others) (λ k. ap (λ l. holder_at l k) b.holders) (ap directory b.files) b.clock)
+    (machine_is _ _ (raw_same old new b.files b.core b.jobs b.alarms) (changed_at _ _ c _ b.consoles.here b.consoles.others) (λ k. ap (λ l. holder_at l k) b.holders) (ap directory b.files) b.clock b.version (λ k. ap (λ l. symbols_at l.items k) b.symbols))
     (λ k. ap (λ l. frame_at l.items k) b.frames) (λ k. ap (λ t. clear_at t k) b.core) (ap mark_of b.files)
 
 pub holder_state : (old new : World) (c : ℕ) (h : Option ℕ) → HolderBecomes old new c h
     → state_of new ≡ with_raw (state_of old) (record (state_of old).raw { holders = changed (state_of old).raw.holders c h })
 unfolding state_of
 holder_state old new c h b = state_is _ _
-    (machine_is _ _ (λ k. ap (λ t. raw_at t new.core new.jobs k) b.files ∙ ap (λ t. raw_at old.files t new.jobs k) b.core ∙ ap (λ t. raw_at old.files old.core t k) b.jobs) (λ k. ap (λ l. console_at l.items k) b.consoles) (changed_at _ _ c _ b.holders.here b.holders.others) (ap directory b.files) b.clock)
+    (machine_is _ _ (raw_same old new b.files b.core b.jobs b.alarms) (λ k. ap (λ l. console_at l.items k) b.consoles) (changed_at _ _ c _ b.holders.here b.holders.others) (ap directory b.files) b.clock b.version (λ k. ap (λ l. symbols_at l.items k) b.symbols))
     (λ k. ap (λ l. frame_at l.items k) b.frames) (λ k. ap (λ t. clear_at t k) b.core) (ap mark_of b.files)

@@ -17,7 +17,8 @@ use Rattle.its_plain.specs.Change.{in_job, channel_in}
 use Rattle.its_plain.specs.OperatorFiles.{channels_of}
 use Rattle.its_plain.proofs.MachineLaws.{machine_is}
 use Rattle.its_stepped.specs.State.{State}
-use Rattle.its_world.specs.World.{chan_of, chans_of, bare, raw_of, raw_at, frame_at, console_at, holder_at, mark_of, state_of, in_raw, JobBecomes}
+use Rattle.its_world.specs.World.{chan_of, chans_of, bare, alarm_at, raw_of, raw_at, frame_at, console_at, holder_at, mark_of, state_of, in_raw, JobBecomes, symbols_at}
+use Rattle.its_plain.specs.OperatorClock.{clock_end}
 use Rattle.its_world.specs.Tidy.{channel_by, channel_at, Across, Tidy}
 use Rattle.its_world.specs.Storage.{HasJob, chan_in, ChannelBecomes, OnlyStore}
 use Rattle.its_world.specs.declared.world.World.{World}
@@ -53,6 +54,9 @@ channel_becomes old new s n x j was lt b = record {
   consoles = b.consoles;
   holders = b.holders;
   clock = b.clock;
+  version = b.version;
+  symbols = b.symbols;
+  alarms = b.alarms;
   files = b.files;
 }
 
@@ -70,6 +74,9 @@ channel_missing w s n x none = record {
   consoles = refl;
   holders = refl;
   clock = refl;
+  version = refl;
+  symbols = refl;
+  alarms = refl;
   files = refl;
 }
 
@@ -88,6 +95,9 @@ store_first old mid new s n x t o b = record {
   consoles = b.consoles ∙ o.consoles;
   holders = b.holders ∙ o.holders;
   clock = b.clock ∙ o.clock;
+  version = b.version ∙ o.version;
+  symbols = b.symbols ∙ o.symbols;
+  alarms = b.alarms ∙ o.alarms;
   files = b.files;
 }
 
@@ -105,32 +115,36 @@ channel_still old new s n t o = record {
   consoles = o.consoles;
   holders = o.holders;
   clock = o.clock;
+  version = o.version;
+  symbols = o.symbols;
+  alarms = o.alarms;
   files = o.files;
 }
 
 -- raw jobs, where what their channels are on is the same, and where one channel is on something else
-raw_alike : (s t : Store) (c : Core) (u : Option ℕ) (o : Option Job) → ((m : ℕ) → chan_of t (channel_by o m) ≡ chan_of s (channel_by o m)) → raw_of t c u o ≡ raw_of s c u o
-raw_alike s t c u (Some j) h = λ i. Some (record { core = c; job = bare j; superior = u; channels = λ m. h m i })
-raw_alike s t c u None h = refl
+raw_alike : (s t : Store) (c : Core) (u : Option ℕ) (a : Option (ℕ × ℕ)) (o : Option Job) → ((m : ℕ) → chan_of t (channel_by o m) ≡ chan_of s (channel_by o m)) → raw_of t c u a o ≡ raw_of s c u a o
+raw_alike s t c u a (Some j) h = λ i. Some (record { core = c; job = bare j; superior = u; channels = λ m. h m i; alarm = a })
+raw_alike s t c u a None h = refl
 
-raw_set : (s t : Store) (c : Core) (u : Option ℕ) (n : ℕ) (g : Chan → Chan) (i j : Option Job) → option_map bare i ≡ option_map bare j
+raw_set : (s t : Store) (c : Core) (u : Option ℕ) (a : Option (ℕ × ℕ)) (n : ℕ) (g : Chan → Chan) (i j : Option Job) → option_map bare i ≡ option_map bare j
     → ((m : ℕ) → m ≢ n → chan_of t (channel_by i m) ≡ chan_of s (channel_by j m)) → (is_some j ≡ true → chan_of t (channel_by i n) ≡ g (chan_of s (channel_by j n)))
-    → raw_of t c u i ≡ option_map (on_channel n g) (raw_of s c u j)
-raw_set s t c u n g (Some i) (Some j) same others here =
+    → raw_of t c u a i ≡ option_map (on_channel n g) (raw_of s c u a j)
+raw_set s t c u a n g (Some i) (Some j) same others here =
     let b : bare i ≡ bare j = cc in
     let at = changed_at (chans_of t i) (chans_of s j) n (g (chans_of s j n)) (here refl) others in
-    λ k. Some (record { core = c; job = b k; superior = u; channels = λ m. at m k })
-raw_set s t c u n g None None same others here = refl
-raw_set s t c u n g (Some i) None same others here = cc
-raw_set s t c u n g None (Some j) same others here = cc
+    λ k. Some (record { core = c; job = b k; superior = u; channels = λ m. at m k; alarm = a })
+raw_set s t c u a n g None None same others here = refl
+raw_set s t c u a n g (Some i) None same others here = cc
+raw_set s t c u a n g None (Some j) same others here = cc
 
 module _ (old new : World) (s n : ℕ) (x : Channel) (t : Store) (b : ChannelBecomes old new s n x t) where
   -- the state, where all other channels are on what they were on
-  parts_are : (k : ℕ) → raw_at new.files new.core new.jobs k ≡ raw_of t (core_at old.core k) (superior_at old.jobs k) (job_at new.jobs k)
+  parts_are : (k : ℕ) → raw_at new.files new.core new.jobs new.alarms.items k ≡ raw_of t (core_at old.core k) (superior_at old.jobs k) (alarm_at old.alarms.items k) (job_at new.jobs k)
   parts_are k =
-      ap (λ f. raw_of f (core_at new.core k) (superior_at new.jobs k) (job_at new.jobs k)) b.files
-      ∙ ap (λ c. raw_of t c (superior_at new.jobs k) (job_at new.jobs k)) (b.core.each k)
-      ∙ ap (λ u. raw_of t (core_at old.core k) (slice_index_or u k None) (job_at new.jobs k)) b.superiors
+      ap (λ f. raw_of f (core_at new.core k) (superior_at new.jobs k) (alarm_at new.alarms.items k) (job_at new.jobs k)) b.files
+      ∙ ap (λ c. raw_of t c (superior_at new.jobs k) (alarm_at new.alarms.items k) (job_at new.jobs k)) (b.core.each k)
+      ∙ ap (λ u. raw_of t (core_at old.core k) (slice_index_or u k None) (alarm_at new.alarms.items k) (job_at new.jobs k)) b.superiors
+      ∙ ap (λ l. raw_of t (core_at old.core k) (superior_at old.jobs k) (alarm_at l.items k) (job_at new.jobs k)) b.alarms
 
   pub filed_state : (g : Chan → Chan) → ((k m : ℕ) → (k ≡ s → m ≢ n) → chan_of t (channel_at new.jobs k m) ≡ chan_of old.files (channel_at old.jobs k m))
       → (is_some (job_at old.jobs s) ≡ true → chan_of t x ≡ g (chan_of old.files (channel_at old.jobs s n)))
@@ -138,12 +152,12 @@ module _ (old new : World) (s n : ℕ) (x : Channel) (t : Store) (b : ChannelBec
   unfolding state_of
   filed_state g others here = state_is _ _
       (machine_is _ _ (slot_at _ _ s (on_channel n g)
-      (parts_are s ∙ raw_set old.files t (core_at old.core s) (superior_at old.jobs s) n g (job_at new.jobs s) (job_at old.jobs s) b.job
+      (parts_are s ∙ raw_set old.files t (core_at old.core s) (superior_at old.jobs s) (alarm_at old.alarms.items s) n g (job_at new.jobs s) (job_at old.jobs s) b.job
       (λ m ne. others s m (λ e. ne)) (λ some. ap (chan_of t) (b.here some) ∙ here some))
-      (λ k ne. parts_are k ∙ ap (raw_of t (core_at old.core k) (superior_at old.jobs k)) (b.rows k ne)
-      ∙ raw_alike old.files t (core_at old.core k) (superior_at old.jobs k) (job_at old.jobs k)
+      (λ k ne. parts_are k ∙ ap (raw_of t (core_at old.core k) (superior_at old.jobs k) (alarm_at old.alarms.items k)) (b.rows k ne)
+      ∙ raw_alike old.files t (core_at old.core k) (superior_at old.jobs k) (alarm_at old.alarms.items k) (job_at old.jobs k)
       (λ m. sym (ap (λ o. chan_of t (channel_by o m)) (b.rows k ne)) ∙ others k m (λ e. absurd (ne e)))))
-      (λ k. ap (λ l. console_at l.items k) b.consoles) (λ k. ap (λ l. holder_at l k) b.holders) (ap directory b.files) b.clock)
+      (λ k. ap (λ l. console_at l.items k) b.consoles) (λ k. ap (λ l. holder_at l k) b.holders) (ap directory b.files) b.clock b.version (λ k. ap (λ l. symbols_at l.items k) b.symbols))
       (λ k. b.frames.each k) (λ k. b.reserved.each k) (ap mark_of b.files)
 
   -- and where the directory and the mark are the same
@@ -188,7 +202,10 @@ module _ (old new : World) (s n : ℕ) (x : Channel) (t : Store) (b : ChannelBec
   pub filed_tidy : Tidy old → Across t new.jobs → Tidy new
   filed_tidy tidy a = record {
     blank = λ k none. b.core.each k ∙ tidy.blank k (bare_none k none);
+    quiet = λ k none. ap (λ l. alarm_at l.items k) b.alarms ∙ tidy.quiet k (bare_none k none);
+    timed = subst (λ t. t < clock_end) (sym b.clock) tidy.timed;
     across = subst (λ f. Across f new.jobs) (sym b.files) a;
+    nameless = λ k none. ap (λ l. symbols_at l.items k) b.symbols ∙ tidy.nameless k (bare_none k none);
   }
 
 -- what a world comes to: a state, and it is tidy
@@ -206,7 +223,7 @@ channel_comes old new s n x t b tidy kept g here files mark = record {
 
 pub still_state : (w : World) (s n : ℕ) (g : Chan → Chan) → chan_of w.files (channel_at w.jobs s n) ≡ g (chan_of w.files (channel_at w.jobs s n)) → state_of w ≡ in_raw (state_of w) s (on_channel n g)
 still_state w s n g e =
-    let b = channel_still w w s n w.files (record { core = refl; jobs = refl; frames = refl; consoles = refl; holders = refl; clock = refl; files = refl }) in
+    let b = channel_still w w s n w.files (record { core = refl; jobs = refl; frames = refl; consoles = refl; holders = refl; clock = refl; version = refl; symbols = refl; alarms = refl; files = refl }) in
     channel_state w w s n (channel_at w.jobs s n) w.files b g (λ k m apart. refl) (λ some. e) refl refl
 
 -- a store that shows the same to all channels
@@ -215,36 +232,40 @@ pub store_state : (old new : World) (t : Store) → OnlyStore old new t → Stay
 unfolding state_of
 store_state old new t o stays = state_is _ _
     (machine_is _ _
-    (λ k. ap (λ f. raw_at f new.core new.jobs k) o.files ∙ ap (λ c. raw_at t c new.jobs k) o.core ∙ ap (λ j. raw_at t old.core j k) o.jobs
-    ∙ raw_alike old.files t (core_at old.core k) (superior_at old.jobs k) (job_at old.jobs k) (stays.chans k))
-    (λ k. ap (λ l. console_at l.items k) o.consoles) (λ k. ap (λ l. holder_at l k) o.holders) (ap directory o.files) o.clock)
+    (λ k. ap (λ f. raw_at f new.core new.jobs new.alarms.items k) o.files ∙ ap (λ c. raw_at t c new.jobs new.alarms.items k) o.core
+    ∙ ap (λ j. raw_at t old.core j new.alarms.items k) o.jobs ∙ ap (λ l. raw_at t old.core old.jobs l.items k) o.alarms
+    ∙ raw_alike old.files t (core_at old.core k) (superior_at old.jobs k) (alarm_at old.alarms.items k) (job_at old.jobs k) (stays.chans k))
+    (λ k. ap (λ l. console_at l.items k) o.consoles) (λ k. ap (λ l. holder_at l k) o.holders) (ap directory o.files) o.clock o.version (λ k. ap (λ l. symbols_at l.items k) o.symbols))
     (λ k. ap (λ l. frame_at l.items k) o.frames) (λ k. ap (λ c. clear_at c k) o.core) (ap mark_of o.files)
 
 pub store_tidy : (old new : World) (t : Store) → OnlyStore old new t → Stays old.files t old.jobs → Tidy old → Tidy new
 store_tidy old new t o stays tidy = record {
   blank = λ k none. ap (λ c. core_at c k) o.core ∙ tidy.blank k (sym (ap (λ j. job_at j k) o.jobs) ∙ none);
+  quiet = λ k none. ap (λ l. alarm_at l.items k) o.alarms ∙ tidy.quiet k (sym (ap (λ j. job_at j k) o.jobs) ∙ none);
+  timed = subst (λ t. t < clock_end) (sym o.clock) tidy.timed;
   across = subst (λ f. Across f new.jobs) (sym o.files) (subst (λ j. Across t j) (sym o.jobs) stays.across);
+  nameless = λ k none. ap (λ l. symbols_at l.items k) o.symbols ∙ tidy.nameless k (sym (ap (λ j. job_at j k) o.jobs) ∙ none);
 }
 
 -- what the state says of a world
-pub job_by : (s : Store) (c : Core) (u : Option ℕ) (o : Option Job) → is_some (raw_of s c u o) ≡ is_some o
-job_by s c u (Some j) = refl
-job_by s c u None = refl
+pub job_by : (s : Store) (c : Core) (u : Option ℕ) (a : Option (ℕ × ℕ)) (o : Option Job) → is_some (raw_of s c u a o) ≡ is_some o
+job_by s c u a (Some j) = refl
+job_by s c u a None = refl
 
 pub raw_has : (w : World) (s : ℕ) → is_some ((state_of w).raw.jobs s) ≡ is_some (job_at w.jobs s)
 unfolding state_of
-raw_has w s = job_by w.files (core_at w.core s) (superior_at w.jobs s) (job_at w.jobs s)
+raw_has w s = job_by w.files (core_at w.core s) (superior_at w.jobs s) (alarm_at w.alarms.items s) (job_at w.jobs s)
 
 pub has_job : (w : World) (s : ℕ) → HasJob (state_of w) s → is_some (job_at w.jobs s) ≡ true
 has_job w s h = sym (raw_has w s) ∙ h
 
-chan_by : (s : Store) (c : Core) (u : Option ℕ) (o : Option Job) (n : ℕ) → channel_in (raw_of s c u o) n ≡ chan_of s (channel_by o n)
-chan_by s c u (Some j) n = refl
-chan_by s c u None n = refl
+chan_by : (s : Store) (c : Core) (u : Option ℕ) (a : Option (ℕ × ℕ)) (o : Option Job) (n : ℕ) → channel_in (raw_of s c u a o) n ≡ chan_of s (channel_by o n)
+chan_by s c u a (Some j) n = refl
+chan_by s c u a None n = refl
 
 pub chan_is : (w : World) (s n : ℕ) → chan_in (state_of w) s n ≡ chan_of w.files (channel_at w.jobs s n)
 unfolding state_of
-chan_is w s n = chan_by w.files (core_at w.core s) (superior_at w.jobs s) (job_at w.jobs s) n
+chan_is w s n = chan_by w.files (core_at w.core s) (superior_at w.jobs s) (alarm_at w.alarms.items s) (job_at w.jobs s) n
 
 pub chans_are : (w : World) → channels_of (state_of w).raw ≡ (λ k n. chan_of w.files (channel_at w.jobs k n))
 chans_are w = λ i k n. chan_is w k n i

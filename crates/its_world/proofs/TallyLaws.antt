@@ -118,7 +118,7 @@ pub weight_within : (w : Channel → ℕ) (cs : ℕ → ℕ → Channel) (j n : 
 unfolding tally
 weight_within w cs j n lj ln = rows_within slots 16 w cs j n lj ln
 
-pub tally_few : (w : Channel → ℕ) (cs : ℕ → ℕ → Channel) → ((c : Channel) → w c ≤ 1) → tally w cs ≤ 1024
+pub tally_few : (w : Channel → ℕ) (cs : ℕ → ℕ → Channel) → ((c : Channel) → w c ≤ 1) → tally w cs ≤ 16 * slots
 unfolding tally
 tally_few w cs h = rows_few slots 16 w cs h
 
@@ -193,7 +193,7 @@ no_other w cs j n k m none lj ln lk lm apart all =
     omega arith
 
 -- where a channel weighs nothing, the tally is less than the most that it may be
-pub tally_below : (w : Channel → ℕ) (cs : ℕ → ℕ → Channel) (j n : ℕ) → ((c : Channel) → w c ≤ 1) → j < slots → n < 16 → w (cs j n) ≡ 0 → tally w cs < 1024
+pub tally_below : (w : Channel → ℕ) (cs : ℕ → ℕ → Channel) (j n : ℕ) → ((c : Channel) → w c ≤ 1) → j < slots → n < 16 → w (cs j n) ≡ 0 → tally w cs < 16 * slots
 tally_below w cs j n few lj ln none =
     let all = tally_few (λ c. w c + (1 - w c)) cs (λ c. let h = few c in omega arith) in
     let both = tally_both w (λ c. 1 - w c) cs in

@@ -54,8 +54,8 @@ frames_backed (Some n) s f h = refl
 frames_backed None s f h = cc
 
 pub core_becomes : (old new : World) (s : ℕ) (c : Core) → Only (core_at old.core) (core_at new.core) s c → new.core.reserved ≡ old.core.reserved → new.core.frames ≡ old.core.frames
-    → new.jobs ≡ old.jobs → new.frames ≡ old.frames → new.consoles ≡ old.consoles → new.holders ≡ old.holders → new.files ≡ old.files → new.clock ≡ old.clock → CoreBecomes old new s c
-core_becomes old new s c core reserved pages jobs frames consoles holders files clock = record {
+    → new.jobs ≡ old.jobs → new.frames ≡ old.frames → new.consoles ≡ old.consoles → new.holders ≡ old.holders → new.files ≡ old.files → new.clock ≡ old.clock → new.version ≡ old.version → new.symbols ≡ old.symbols → new.alarms ≡ old.alarms → CoreBecomes old new s c
+core_becomes old new s c core reserved pages jobs frames consoles holders files clock version symbols alarms = record {
   core = core;
   job = alike _ _ s (λ k. ap (λ t. job_at t k) jobs);
   superiors = ap (λ t. t.superiors) jobs;
@@ -66,11 +66,14 @@ core_becomes old new s c core reserved pages jobs frames consoles holders files 
   holders = holders;
   files = files;
   clock = clock;
+  version = version;
+  symbols = symbols;
+  alarms = alarms;
 }
 
 pub job_becomes : (old new : World) (s : ℕ) (j : Job) → Only (job_at old.jobs) (job_at new.jobs) s (Some j) → new.jobs.superiors ≡ old.jobs.superiors
-    → new.core ≡ old.core → new.frames ≡ old.frames → new.consoles ≡ old.consoles → new.holders ≡ old.holders → new.files ≡ old.files → new.clock ≡ old.clock → JobBecomes old new s j
-job_becomes old new s j job superiors core frames consoles holders files clock = record {
+    → new.core ≡ old.core → new.frames ≡ old.frames → new.consoles ≡ old.consoles → new.holders ≡ old.holders → new.files ≡ old.files → new.clock ≡ old.clock → new.version ≡ old.version → new.symbols ≡ old.symbols → new.alarms ≡ old.alarms → JobBecomes old new s j
+job_becomes old new s j job superiors core frames consoles holders files clock version symbols alarms = record {
   core = alike _ _ s (λ k. ap (λ t. core_at t k) core);
   job = job;
   superiors = superiors;
@@ -81,11 +84,14 @@ job_becomes old new s j job superiors core frames consoles holders files clock =
   holders = holders;
   files = files;
   clock = clock;
+  version = version;
+  symbols = symbols;
+  alarms = alarms;
 }
 
 pub frame_becomes : (old new : World) (s : ℕ) (f : Option Frame) → Only (frame_at old.frames.items) (frame_at new.frames.items) s f
-    → new.core ≡ old.core → new.jobs ≡ old.jobs → new.consoles ≡ old.consoles → new.holders ≡ old.holders → new.files ≡ old.files → new.clock ≡ old.clock → FrameBecomes old new s f
-frame_becomes old new s f frame core jobs consoles holders files clock = record {
+    → new.core ≡ old.core → new.jobs ≡ old.jobs → new.consoles ≡ old.consoles → new.holders ≡ old.holders → new.files ≡ old.files → new.clock ≡ old.clock → new.version ≡ old.version → new.symbols ≡ old.symbols → new.alarms ≡ old.alarms → FrameBecomes old new s f
+frame_becomes old new s f frame core jobs consoles holders files clock version symbols alarms = record {
   core = alike _ _ s (λ k. ap (λ t. core_at t k) core);
   job = alike _ _ s (λ k. ap (λ t. job_at t k) jobs);
   superiors = ap (λ t. t.superiors) jobs;
@@ -96,15 +102,18 @@ frame_becomes old new s f frame core jobs consoles holders files clock = record 
   holders = holders;
   files = files;
   clock = clock;
+  version = version;
+  symbols = symbols;
+  alarms = alarms;
 }
 
 -- a core is written, and its pages stand in other frames then
 pub framed_becomes : (old new : World) (s : ℕ) (c : Core) → Only (core_at old.core) (core_at new.core) s c → new.core.reserved ≡ old.core.reserved
-    → new.jobs ≡ old.jobs → new.frames ≡ old.frames → new.consoles ≡ old.consoles → new.holders ≡ old.holders → new.files ≡ old.files → new.clock ≡ old.clock
+    → new.jobs ≡ old.jobs → new.frames ≡ old.frames → new.consoles ≡ old.consoles → new.holders ≡ old.holders → new.files ≡ old.files → new.clock ≡ old.clock → new.version ≡ old.version → new.symbols ≡ old.symbols → new.alarms ≡ old.alarms
     → CoreBecomes old (with_frames new old.core.frames) s c
 unfolding core_at reserved_at
-framed_becomes old new s c core reserved jobs frames consoles holders files clock =
-    core_becomes old (with_frames new old.core.frames) s c core reserved refl jobs frames consoles holders files clock
+framed_becomes old new s c core reserved jobs frames consoles holders files clock version symbols alarms =
+    core_becomes old (with_frames new old.core.frames) s c core reserved refl jobs frames consoles holders files clock version symbols alarms
 
 -- two changes of one slot, one after the other, of which the second reserves no page and gives none back
 only_then : {X : Type 0} → (f g h : ℕ → X) (s : ℕ) (x y : X) → Only f g s x → Only g h s y → Only f h s y
@@ -123,11 +132,14 @@ then_becomes old mid new s c d i j f g r a b = record {
   holders = b.holders ∙ a.holders;
   files = b.files ∙ a.files;
   clock = b.clock ∙ a.clock;
+  version = b.version ∙ a.version;
+  symbols = b.symbols ∙ a.symbols;
+  alarms = b.alarms ∙ a.alarms;
 }
 
 pub page_becomes : (old new : World) (s : ℕ) (r : Option ℕ) → Only (clear_at old.core) (clear_at new.core) s r → new.core.cores ≡ old.core.cores
-    → new.core.frames ≡ frames_after (clear_at old.core s) r s old.core.frames → new.jobs ≡ old.jobs → new.frames ≡ old.frames → new.consoles ≡ old.consoles → new.holders ≡ old.holders → new.files ≡ old.files → new.clock ≡ old.clock → PageBecomes old new s r
-page_becomes old new s r page cores pages jobs frames consoles holders files clock = record {
+    → new.core.frames ≡ frames_after (clear_at old.core s) r s old.core.frames → new.jobs ≡ old.jobs → new.frames ≡ old.frames → new.consoles ≡ old.consoles → new.holders ≡ old.holders → new.files ≡ old.files → new.clock ≡ old.clock → new.version ≡ old.version → new.symbols ≡ old.symbols → new.alarms ≡ old.alarms → PageBecomes old new s r
+page_becomes old new s r page cores pages jobs frames consoles holders files clock version symbols alarms = record {
   core = alike _ _ s (λ k. same_core old.core new.core k cores);
   job = alike _ _ s (λ k. ap (λ t. job_at t k) jobs);
   superiors = ap (λ t. t.superiors) jobs;
@@ -138,6 +150,9 @@ page_becomes old new s r page cores pages jobs frames consoles holders files clo
   holders = holders;
   files = files;
   clock = clock;
+  version = version;
+  symbols = symbols;
+  alarms = alarms;
 }
 
 some_by : (o : Option Reserved) → is_some (option_map (λ x. x.clear) o) ≡ true → IsSome o
@@ -149,8 +164,8 @@ reserved_some c s h = some_by (reserved_at c s) h
 
 -- consoles
 pub console_becomes : (old new : World) (c : ℕ) (x : Console) → Only (console_at old.consoles.items) (console_at new.consoles.items) c x
-    → new.holders ≡ old.holders → new.core ≡ old.core → new.jobs ≡ old.jobs → new.frames ≡ old.frames → new.files ≡ old.files → new.clock ≡ old.clock → ConsoleBecomes old new c x
-console_becomes old new c x consoles holders core jobs frames files clock = record {
+    → new.holders ≡ old.holders → new.core ≡ old.core → new.jobs ≡ old.jobs → new.frames ≡ old.frames → new.files ≡ old.files → new.clock ≡ old.clock → new.version ≡ old.version → new.symbols ≡ old.symbols → new.alarms ≡ old.alarms → ConsoleBecomes old new c x
+console_becomes old new c x consoles holders core jobs frames files clock version symbols alarms = record {
   consoles = consoles;
   holders = holders;
   core = core;
@@ -158,11 +173,14 @@ console_becomes old new c x consoles holders core jobs frames files clock = reco
   frames = frames;
   files = files;
   clock = clock;
+  version = version;
+  symbols = symbols;
+  alarms = alarms;
 }
 
 pub holder_becomes : (old new : World) (c : ℕ) (h : Option ℕ) → Only (holder_at old.holders) (holder_at new.holders) c h
-    → new.consoles ≡ old.consoles → new.core ≡ old.core → new.jobs ≡ old.jobs → new.frames ≡ old.frames → new.files ≡ old.files → new.clock ≡ old.clock → HolderBecomes old new c h
-holder_becomes old new c h holders consoles core jobs frames files clock = record {
+    → new.consoles ≡ old.consoles → new.core ≡ old.core → new.jobs ≡ old.jobs → new.frames ≡ old.frames → new.files ≡ old.files → new.clock ≡ old.clock → new.version ≡ old.version → new.symbols ≡ old.symbols → new.alarms ≡ old.alarms → HolderBecomes old new c h
+holder_becomes old new c h holders consoles core jobs frames files clock version symbols alarms = record {
   holders = holders;
   consoles = consoles;
   core = core;
@@ -170,6 +188,9 @@ holder_becomes old new c h holders consoles core jobs frames files clock = recor
   frames = frames;
   files = files;
   clock = clock;
+  version = version;
+  symbols = symbols;
+  alarms = alarms;
 }
 
 pub rest_is : (bs : List ℕ) → drop 1 bs ≡ rest_of bs

@@ -15,3 +15,6 @@ pub record JobMade (old new : World) (s u n : ℕ) (above console : Option ℕ) 
   pub holders : new.holders ≡ old.holders
   pub files : new.files ≡ old.files
   pub clock : new.clock ≡ old.clock
+  pub version : new.version ≡ old.version
+  pub symbols : new.symbols ≡ old.symbols
+  pub alarms : new.alarms ≡ old.alarms

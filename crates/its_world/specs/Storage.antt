@@ -66,6 +66,9 @@ pub record ChannelBecomes (old new : World) (s n : ℕ) (x : Channel) (t : Store
   pub consoles : new.consoles ≡ old.consoles
   pub holders : new.holders ≡ old.holders
   pub clock : new.clock ≡ old.clock
+  pub version : new.version ≡ old.version
+  pub symbols : new.symbols ≡ old.symbols
+  pub alarms : new.alarms ≡ old.alarms
   pub files : new.files ≡ t
 
 -- of the world only the store is another: jobs, cores, the frames of their pages and all else are as they were
@@ -76,4 +79,7 @@ pub record OnlyStore (old new : World) (t : Store) : Type 0 where
   pub consoles : new.consoles ≡ old.consoles
   pub holders : new.holders ≡ old.holders
   pub clock : new.clock ≡ old.clock
+  pub version : new.version ≡ old.version
+  pub symbols : new.symbols ≡ old.symbols
+  pub alarms : new.alarms ≡ old.alarms
   pub files : new.files ≡ t

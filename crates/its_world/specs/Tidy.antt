@@ -1,5 +1,5 @@
 -- What holds of a world whatever state it stands for: facts on numbers of files and drafts, and on slots without a job.
-use Rattle.std.specs.Prelude.{if◌then◌else◌, ◌≡◌, ◌==◌, ◌≤◌, ℕ, Bool, true, false, Option, Some, None, sum_by, slice_index_or}
+use Rattle.std.specs.Prelude.{if◌then◌else◌, ◌≡◌, ◌==◌, ◌≤◌, ◌<◌, ℕ, Bool, true, false, Option, Some, None, [], sum_by, slice_index_or}
 use Rattle.std.specs.List.{range_with_len}
 use Rattle.its_word.specs.Core.{no_core}
 use Rattle.its_word.specs.Limits.{slots}
@@ -11,6 +11,9 @@ use Rattle.its_jobs.specs.Table.{Table, job_at}
 use Rattle.its_files.specs.Files.{Store, entry_at, readers_at, is_marked}
 use Rattle.its_files.specs.declared.entry.Entry.{Entry}
 use Rattle.its_files.specs.declared.entry.Entry.TheVariants.{File, Draft}
+use Rattle.its_plain.specs.OperatorClock.{clock_end}
+use Rattle.its_world.specs.World.{symbols_at}
+use Rattle.its_world.specs.World.{alarm_at}
 use Rattle.its_world.specs.declared.world.World.{World}
 
 -- channel n of the job of slot k; closed where the slot is empty
@@ -53,7 +56,10 @@ pub record Across (s : Store) (t : Table) : Type 0 where
   pub read : (f : ℕ) → tally (reads f) (channel_at t) ≡ readers_at s f
   pub written : (d : ℕ) → tally (writes d) (channel_at t) ≡ writers (entry_at s d) (is_marked s d)
 
--- and the core of a slot without a job is that of no job
+-- and the core of a slot without a job is that of no job, and it has no symbols, and such a slot has no alarm; and the clock is below its end
 pub record Tidy (w : World) : Type 0 where
   pub blank : (k : ℕ) → job_at w.jobs k ≡ None → core_at w.core k ≡ no_core
+  pub quiet : (k : ℕ) → job_at w.jobs k ≡ None → alarm_at w.alarms.items k ≡ None
+  pub timed : w.clock < clock_end
   pub across : Across w.files w.jobs
+  pub nameless : (k : ℕ) → job_at w.jobs k ≡ None → symbols_at w.symbols.items k ≡ []

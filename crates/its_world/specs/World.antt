@@ -1,8 +1,9 @@
 -- The state of the stepped machine that a world stands for.
 use Rattle.std.specs.Prelude.{◌≡◌, ℕ, Option, Some, None, List, [], ◌∷◌, ◌++◌, take, drop, replicate, slice_index_or, unwrap_or}
 use Rattle.std.specs.List.{last_or}
-use Rattle.its_word.specs.Only.{Only}
+use Rattle.its_word.specs.Only.{Only, Same}
 use Rattle.its_word.specs.Console.{Console, quiet_console, most_waiting}
+use Rattle.its_word.specs.ArrayVec.{ArrayVec}
 use Rattle.its_word.specs.Core.{Core}
 use Rattle.its_word.specs.declared.jobs.Channel.{Channel}
 use Rattle.its_word.specs.declared.jobs.Channel.TheVariants as channels
@@ -15,7 +16,7 @@ use Rattle.its_files.specs.declared.entry.Mark.{Mark as FilesMark}
 use Rattle.its_files.specs.declared.entry.Parts.{Parts}
 use Rattle.its_files.specs.declared.entry.Parts.TheVariants.{Replace, Link, Free}
 use Rattle.its_frame.specs.declared.frame.Frame.{Frame}
-use Rattle.its_plain.specs.Machine.{File, Chan, Shut, TtyIn, TtyOut, Reads, Writes, On, Whole, Machine}
+use Rattle.its_plain.specs.Machine.{Symbol, File, Chan, Shut, TtyIn, TtyOut, Reads, Writes, On, Whole, Machine}
 use Rattle.its_plain.specs.Change.{in_job}
 use Rattle.its_stepped.specs.State.{Part, UnlinkOld, LinkNew, FreeOld, Mark, State}
 use Rattle.its_world.specs.declared.world.World.{World}
@@ -41,12 +42,16 @@ bare j = record j { channels = closed_channels }
 abbrev pub chans_of : Store → Job → ℕ → Chan
 chans_of s j n = chan_of s (slice_index_or j.channels n channels.Closed)
 
-abbrev pub raw_of : Store → Core → Option ℕ → Option Job → Option Whole
-raw_of s c superior (Some j) = Some (record { core = c; job = bare j; superior = superior; channels = chans_of s j })
-raw_of s c superior None = None
+abbrev pub raw_of : Store → Core → Option ℕ → Option (ℕ × ℕ) → Option Job → Option Whole
+raw_of s c superior alarm (Some j) = Some (record { core = c; job = bare j; superior = superior; channels = chans_of s j; alarm = alarm })
+raw_of s c superior alarm None = None
 
-abbrev pub raw_at : Store → Cores → Table → ℕ → Option Whole
-raw_at s cores table k = raw_of s (core_at cores k) (superior_at table k) (job_at table k)
+-- the alarm of a slot: a period and a next time
+abbrev pub alarm_at : List (Option (ℕ × ℕ)) → ℕ → Option (ℕ × ℕ)
+alarm_at alarms k = slice_index_or alarms k None
+
+abbrev pub raw_at : Store → Cores → Table → List (Option (ℕ × ℕ)) → ℕ → Option Whole
+raw_at s cores table alarms k = raw_of s (core_at cores k) (superior_at table k) (alarm_at alarms k) (job_at table k)
 
 abbrev pub frame_at : List (Option Frame) → ℕ → Option Frame
 frame_at frames k = slice_index_or frames k None
@@ -58,13 +63,22 @@ console_at consoles c = slice_index_or consoles c quiet_console
 abbrev pub holder_at : List (Option ℕ) → ℕ → Option ℕ
 holder_at holders c = slice_index_or holders c None
 
-abbrev pub raw_machine : Store → Cores → Table → List Console → List (Option ℕ) → ℕ → Machine
-raw_machine s cores table consoles holders clock = record {
-  jobs = raw_at s cores table;
+-- the symbols of the job of a slot
+abbrev pub no_symbols : ArrayVec Symbol
+no_symbols = record { items = [] }
+
+abbrev pub symbols_at : List (ArrayVec Symbol) → ℕ → List Symbol
+symbols_at symbols k = (slice_index_or symbols k no_symbols).items
+
+abbrev pub raw_machine : Store → Cores → Table → List (Option (ℕ × ℕ)) → List Console → List (Option ℕ) → ℕ → ℕ → List (ArrayVec Symbol) → Machine
+raw_machine s cores table alarms consoles holders clock version symbols = record {
+  jobs = raw_at s cores table alarms;
   consoles = console_at consoles;
   holders = holder_at holders;
   files = directory s;
   clock = clock;
+  version = version;
+  symbols = symbols_at symbols;
 }
 
 -- a close that is half made: its draft becomes the last file; where that is done, it is the last file
@@ -95,7 +109,7 @@ mark_of s = marking s s.mark
 -- the state that a world stands for
 unfoldable pub state_of : World → State
 state_of w = record {
-  raw = raw_machine w.files w.core w.jobs w.consoles.items w.holders w.clock;
+  raw = raw_machine w.files w.core w.jobs w.alarms.items w.consoles.items w.holders w.clock w.version w.symbols.items;
   frames = frame_at w.frames.items;
   reserved = clear_at w.core;
   mark = mark_of w.files;
@@ -118,7 +132,7 @@ abbrev pub with_frames : World → Frames → World
 with_frames w f = record w { core = record w.core { frames = f } }
 
 -- of the world only slot s changes: its core, its job with the same superior, its frame, and how many quarters of its
--- reserved page are clear. Consoles, their holders and files stay, and each page stays in its frame
+-- reserved page are clear. Consoles, their holders, files, alarms, the version and symbols stay, and each page stays in its frame
 pub record Becomes (old new : World) (s : ℕ) (c : Core) (j : Option Job) (f : Option Frame) (r : Option ℕ) : Type 0 where
   pub core : Only (core_at old.core) (core_at new.core) s c
   pub job : Only (job_at old.jobs) (job_at new.jobs) s j
@@ -130,6 +144,9 @@ pub record Becomes (old new : World) (s : ℕ) (c : Core) (j : Option Job) (f : 
   pub holders : new.holders ≡ old.holders
   pub files : new.files ≡ old.files
   pub clock : new.clock ≡ old.clock
+  pub version : new.version ≡ old.version
+  pub symbols : new.symbols ≡ old.symbols
+  pub alarms : new.alarms ≡ old.alarms
 
 -- the same, where only its core, only its registers, or only its frame is written
 abbrev pub CoreBecomes : World → World → ℕ → Core → Type 0
@@ -153,6 +170,9 @@ pub record ConsoleBecomes (old new : World) (c : ℕ) (x : Console) : Type 0 whe
   pub frames : new.frames ≡ old.frames
   pub files : new.files ≡ old.files
   pub clock : new.clock ≡ old.clock
+  pub version : new.version ≡ old.version
+  pub symbols : new.symbols ≡ old.symbols
+  pub alarms : new.alarms ≡ old.alarms
 
 pub record HolderBecomes (old new : World) (c : ℕ) (h : Option ℕ) : Type 0 where
   pub holders : Only (holder_at old.holders) (holder_at new.holders) c h
@@ -162,6 +182,36 @@ pub record HolderBecomes (old new : World) (c : ℕ) (h : Option ℕ) : Type 0 w
   pub frames : new.frames ≡ old.frames
   pub files : new.files ≡ old.files
   pub clock : new.clock ≡ old.clock
+  pub version : new.version ≡ old.version
+  pub symbols : new.symbols ≡ old.symbols
+  pub alarms : new.alarms ≡ old.alarms
+
+-- of the world only the symbols of slot s change
+pub record SymbolsBecome (old new : World) (s : ℕ) (ss : List Symbol) : Type 0 where
+  pub symbols : Only (symbols_at old.symbols.items) (symbols_at new.symbols.items) s ss
+  pub core : new.core ≡ old.core
+  pub jobs : new.jobs ≡ old.jobs
+  pub frames : new.frames ≡ old.frames
+  pub consoles : new.consoles ≡ old.consoles
+  pub holders : new.holders ≡ old.holders
+  pub files : new.files ≡ old.files
+  pub clock : new.clock ≡ old.clock
+  pub version : new.version ≡ old.version
+  pub alarms : new.alarms ≡ old.alarms
+
+-- of the world only the version changes, and with it the limit of its jobs
+pub record VersionBecomes (old new : World) (v : ℕ) : Type 0 where
+  pub version : new.version ≡ v
+  pub jobs : Same (job_at old.jobs) (job_at new.jobs)
+  pub superiors : new.jobs.superiors ≡ old.jobs.superiors
+  pub core : new.core ≡ old.core
+  pub frames : new.frames ≡ old.frames
+  pub consoles : new.consoles ≡ old.consoles
+  pub holders : new.holders ≡ old.holders
+  pub files : new.files ≡ old.files
+  pub clock : new.clock ≡ old.clock
+  pub symbols : new.symbols ≡ old.symbols
+  pub alarms : new.alarms ≡ old.alarms
 
 -- a console at which a byte was typed, where it has room, and one that a byte was drained from
 abbrev pub typed_at : ℕ → Console → Console
@@ -169,3 +219,16 @@ typed_at b x = record x { input = take most_waiting (x.input ++ b ∷ []) }
 
 abbrev pub drained_at : Console → Console
 drained_at x = record x { output = drop 1 x.output }
+
+-- of the world only the alarm of slot s changes
+pub record AlarmBecomes (old new : World) (s : ℕ) (a : Option (ℕ × ℕ)) : Type 0 where
+  pub alarms : Only (alarm_at old.alarms.items) (alarm_at new.alarms.items) s a
+  pub core : new.core ≡ old.core
+  pub jobs : new.jobs ≡ old.jobs
+  pub frames : new.frames ≡ old.frames
+  pub consoles : new.consoles ≡ old.consoles
+  pub holders : new.holders ≡ old.holders
+  pub files : new.files ≡ old.files
+  pub clock : new.clock ≡ old.clock
+  pub version : new.version ≡ old.version
+  pub symbols : new.symbols ≡ old.symbols

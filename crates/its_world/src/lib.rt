@@ -1,10 +1,13 @@
 //! The whole state of the monitor: cores, jobs, frames of calls in progress, consoles with their holders, files
-//! and drafts, and the clock. What it stands for is a state of the stepped machine.
+//! and drafts, the clock, and alarms. What it stands for is a state of the stepped machine.
 #![tactic(auto)]
 
+mod alarms;
 mod consoles;
 mod storage;
+mod symbols;
 mod world;
 
 pub use its_word::NoMemory;
+pub use symbols::forget_removed;
 pub use world::World;

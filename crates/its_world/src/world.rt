@@ -1,8 +1,11 @@
-ghost use Rattle.std.specs.Prelude.{◌≡◌, ◌<◌, ◌≤◌, ◌≢◌, ◌↔◌, ◌/◌, ◌^◌, ℕ, vec_len, length, slice_get, slice_index_or, true, false, Some, None, Ok, Err, IfOk, IfErr, OnOk, OnErr, IsTrue, is_some, option_copied};
+ghost use Rattle.std.specs.Prelude.{◌≡◌, ◌<◌, ◌≤◌, ◌≢◌, ◌↔◌, ◌/◌, ◌^◌, ℕ, [], ◌∷◌, ◌++◌, vec_len, length, slice_get, slice_index_or, true, false, Some, None, Ok, Err, IfOk, IfErr, OnOk, OnErr, IsTrue, is_some, option_copied};
 ghost use Rattle.its_word.specs.Console.{quiet_console, most_waiting};
-ghost use Rattle.its_word.specs.Limits.{slots};
+ghost use Rattle.its_word.specs.Limits.{slots, limit_of, most_symbols};
 
+use super::alarms::no_alarms;
 use super::consoles::{quiet_consoles, type_at};
+use super::symbols::no_symbols;
+use arrayvec::ArrayVec;
 use its_console::Console;
 use its_core::Core;
 use its_files::Files;
@@ -15,8 +18,10 @@ use std::alloc::Global;
 const CONSOLES: usize = 8;
 
 /// The whole state: cores, jobs, for each slot the frame of its call in progress where it is in one, the
-/// consoles, for each of them the slot of the job that holds it, the files and drafts, and the clock in
-/// thirtieths.
+/// consoles, for each of them the slot of the job that holds it, the files and drafts, the clock in thirtieths,
+/// the version of the session text, on which it depends how many jobs there can be, for each slot the symbols of
+/// its job, in the order in which they were kept, and the alarm of its job where it has one: its period and its
+/// next time.
 #[derive(Drop)]
 pub struct World {
     pub core: Core,
@@ -26,20 +31,28 @@ pub struct World {
     pub holders: [Option<u8>; 8],
     pub files: Files,
     pub clock: u64,
-    ghost slots: { vec_len frames ≡ 64 },
+    pub version: u8,
+    pub symbols: Vec<ArrayVec<(Word, u32), 512>>,
+    pub alarms: Vec<Option<(u64, u64)>>,
+    ghost lists: { vec_len symbols ≡ slots },
+    ghost alarm_places: { vec_len alarms ≡ slots },
+    ghost slots: { vec_len frames ≡ slots },
     ghost consoles_count: { vec_len consoles ≡ 8 },
+    ghost limited: { jobs.limit ≡ limit_of version },
+    ghost numbered: { (1 ≤ version) × (version ≤ 2) },
 }
 
 impl World {
     ghost use Rattle.its_core.specs.Cores.{core_at, clear_at, IsEmpty};
     ghost use Rattle.its_jobs.specs.Table.{job_at, superior_at, NoJobs};
     ghost use Rattle.its_word.specs.Core.{store, can_store, put as put_at, page_of};
-    ghost use Rattle.its_world.specs.World.{frame_at, console_at, holder_at, CoreBecomes, JobBecomes, FrameBecomes, PageBecomes, ConsoleBecomes, HolderBecomes, typed_at, drained_at};
+    ghost use Rattle.its_world.specs.World.{frame_at, console_at, holder_at, alarm_at, CoreBecomes, JobBecomes, FrameBecomes, PageBecomes, ConsoleBecomes, HolderBecomes, symbols_at, SymbolsBecome, VersionBecomes, typed_at, drained_at};
     ghost use Rattle.its_plain.specs.Change.{taken_from, put_to};
     ghost use Rattle.its_files.specs.Files.{no_files};
 
     /// The world at the start of a session: no job, no page, no frame, nothing that waits at a console, no
-    /// holder of one, clock 0. Takes all the memory that it needs.
+    /// holder of one, clock 0, version 1, no symbol, no alarm. Takes all the memory that it needs.
+    #[tactic(auto, using(its_word::proofs::FreeLaws::limit_first))]
     pub fn open(alloc: Global) -> Result<World, NoMemory>
         ensures cores { IfOk result (λ w. IsEmpty w.core) }
         ensures jobs { IfOk result (λ w. NoJobs w.jobs) }
@@ -48,12 +61,17 @@ impl World {
         ensures holders { IfOk result (λ w. (c : ℕ) → holder_at w.holders c ≡ None) }
         ensures files { IfOk result (λ w. w.files ≡ no_files) }
         ensures clock { IfOk result (λ w. w.clock ≡ 0) }
+        ensures version { IfOk result (λ w. w.version ≡ 1) }
+        ensures symbols { IfOk result (λ w. (k : ℕ) → symbols_at w.symbols.items k ≡ []) }
+        ensures alarms { IfOk result (λ w. (k : ℕ) → alarm_at w.alarms.items k ≡ None) }
     {
         let core = Core::open(alloc)?;
         let jobs = Jobs::open(alloc)?;
         let frames = no_frames(alloc, SLOTS)?;
         let consoles = quiet_consoles(alloc, CONSOLES)?;
         let files = Files::open(alloc)?;
+        let symbols = no_symbols(alloc, SLOTS)?;
+        let alarms = no_alarms(alloc, SLOTS)?;
         Ok(World {
             core,
             jobs,
@@ -62,6 +80,9 @@ impl World {
             holders: [None; CONSOLES],
             files,
             clock: 0,
+            version: 1,
+            symbols,
+            alarms,
         })
     }
 
@@ -191,6 +212,26 @@ impl World {
         ensures rest { ConsoleBecomes self.old self.new console (drained_at (console_at self.old.consoles.items console)) }
     {
         self.consoles[usize::from(console)].drain()
+    }
+
+    /// Keeps a symbol of a slot's job, the last; there is room for it.
+    #[tactic(auto, using(crate::proofs::SymbolLaws::list_here))]
+    pub fn keep_symbol(&mut self, slot: u8, name: Word, a: u32)
+        requires slot { slot < slots }
+        requires room { length (symbols_at self.old.symbols.items slot) < most_symbols }
+        ensures { SymbolsBecome self.old self.new slot (symbols_at self.old.symbols.items slot ++ (name, a) ∷ []) }
+    {
+        self.symbols[usize::from(slot)].push((name, a));
+    }
+
+    /// Makes the world one of version 2, in which there can be 96 jobs.
+    #[tactic(auto, using(its_word::proofs::FreeLaws::limit_second))]
+    pub fn second_version(&mut self)
+        ensures { VersionBecomes self.old self.new 2 }
+    {
+        self.jobs.tree();
+        self.jobs.set_limit(SLOTS as u8);
+        self.version = 2;
     }
 
     /// Gives a console another holder, or none.

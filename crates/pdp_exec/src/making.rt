@@ -45,7 +45,7 @@ fn put(core: &mut Core, slot: u8, s: Store)
 }
 
 /// Makes two stores, in this order, or none of them.
-#[inline(never)]
+#[inline(always)]
 #[tactic(auto, using(crate::proofs::MakingLaws::storable, crate::proofs::MakingLaws::still_storable), unfolding(its_word::specs::Stores::first_fault))]
 fn make_two(core: &mut Core, slot: u8, s: Store, t: Store) -> Result<(), Fault>
     requires slot { slot < slots }

@@ -1,5 +1,6 @@
 ghost use Rattle.std.specs.Prelude.{◌≡◌, ◌≢◌, ◌<◌, ℕ, None};
 ghost use Rattle.its_word.specs.Limits.{slots};
+ghost use Rattle.its_core.specs.Frames.{all_frames};
 ghost use Rattle.its_core.specs.Cores.{reserved_at};
 
 use super::*;
@@ -9,7 +10,7 @@ use std::test::Fail;
 /// The frame behind a frame, in whichever list that stands; None where it ends a list or stands in
 /// none.
 fn behind(core: &Core, frame: u32) -> Option<u32>
-    requires { frame < 1088 }
+    requires { frame < all_frames }
 {
     if core.lists.linked(frame) {
         core.lists.next(frame)
@@ -39,7 +40,7 @@ fn frames_are_taken_and_given_up_in_order(rt: HostRuntime) -> Result<(), Fail> {
     let mut core = Core::open(rt.alloc())?;
     assert_eq!(rt; core.lists.front(FREE), Some(0));
     assert_eq!(rt; behind(&core, 0), Some(1));
-    assert_eq!(rt; behind(&core, 1087), None);
+    assert_eq!(rt; behind(&core, FRAMES - 1), None);
     add_page(&mut core, 6, 9);
     add_page(&mut core, 6, 3);
     core.reserve(7);
@@ -51,7 +52,7 @@ fn frames_are_taken_and_given_up_in_order(rt: HostRuntime) -> Result<(), Fail> {
     assert!(rt; core.page(6, 9).is_some());
     core.unmap(6, 9);
     core.give_back(7);
-    assert_eq!(rt; behind(&core, 1087), Some(0));
+    assert_eq!(rt; behind(&core, FRAMES - 1), Some(0));
     assert_eq!(rt; behind(&core, 0), Some(2));
     add_page(&mut core, 6, 9);
     assert_eq!(rt; core.lists.front(list_of(6)), Some(1));

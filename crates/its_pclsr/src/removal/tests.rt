@@ -29,7 +29,8 @@ fn on(slot: u8) -> Channel
 
 /// Jobs in slots 0 to 3 with these superiors; the first channel of each is open on a slot.
 fn jobs(rt: &impl Abort, alloc: Global, superiors: [Option<u8>; 4], slot: u8) -> Result<Jobs, Fail>
-    ensures { IfOk result Elsewhere }
+    ensures jobs { IfOk result Elsewhere }
+    ensures limit { IfOk result (λ t. t.limit ≡ 64) }
 {
     let mut jobs = Jobs::open(alloc)?;
     for superior in superiors {
@@ -41,7 +42,8 @@ fn jobs(rt: &impl Abort, alloc: Global, superiors: [Option<u8>; 4], slot: u8) ->
 /// A job more, whose first channel is open on a slot.
 fn add(rt: &impl Abort, jobs: &mut Jobs, superior: Option<u8>, slot: u8)
     requires { Elsewhere jobs.old }
-    ensures { Elsewhere jobs.new }
+    ensures jobs { Elsewhere jobs.new }
+    ensures limit { jobs.new.limit ≡ jobs.old.limit }
 {
     if let Some(s) = superior {
         assert!(rt; usize::from(s) < SLOTS);
@@ -57,7 +59,8 @@ fn add(rt: &impl Abort, jobs: &mut Jobs, superior: Option<u8>, slot: u8)
 fn open_on(jobs: &mut Jobs, k: u8, slot: u8)
     requires slot { k < slots }
     requires jobs { Elsewhere jobs.old }
-    ensures { Elsewhere jobs.new }
+    ensures jobs { Elsewhere jobs.new }
+    ensures limit { jobs.new.limit ≡ jobs.old.limit }
 {
     if let Some(job) = jobs.job_mut(k) {
         *job = opened(*job, slot);
@@ -124,6 +127,7 @@ fn poked(rt: &impl Abort, w: &mut World, caller: u8, slot: u8, at: u32)
 
 /// Jobs make inferiors, each in the least free slot, and store words in them.
 #[test]
+#[tactic(auto, using(its_word::proofs::FreeLaws::limit_first))]
 fn inferiors(rt: HostRuntime) -> Result<(), Fail> {
     let mut w = World::open(rt.alloc())?;
     w.jobs = jobs(&rt, rt.alloc(), [None, Some(0), Some(1), None], 1)?;
@@ -139,7 +143,7 @@ fn inferiors(rt: HostRuntime) -> Result<(), Fail> {
 /// are closed. Each of the first four consoles is held by the job with its number: those that are gone leave it to
 /// the superior of the root, or to nobody.
 #[test]
-#[tactic(auto, using(crate::proofs::IdleLaws::idle_sound, crate::proofs::IdleLaws::idle_frames, crate::proofs::IdleLaws::idle_page, crate::proofs::IdleLaws::idle_tidy))]
+#[tactic(auto, using(crate::proofs::IdleLaws::idle_sound, crate::proofs::IdleLaws::idle_frames, crate::proofs::IdleLaws::idle_page, crate::proofs::IdleLaws::idle_tidy, its_word::proofs::FreeLaws::limit_first))]
 fn trees(rt: HostRuntime) -> Result<(), Fail> {
     let open = Some(on(1));
     let shut = Some(Channel::Closed);
@@ -189,7 +193,7 @@ fn trees(rt: HostRuntime) -> Result<(), Fail> {
 
 /// Jobs that are in no call stay as they are.
 #[test]
-#[tactic(auto, using(crate::proofs::IdleLaws::idle_sound, crate::proofs::IdleLaws::idle_frames, crate::proofs::IdleLaws::idle_page, crate::proofs::IdleLaws::idle_tidy))]
+#[tactic(auto, using(crate::proofs::IdleLaws::idle_sound, crate::proofs::IdleLaws::idle_frames, crate::proofs::IdleLaws::idle_page, crate::proofs::IdleLaws::idle_tidy, its_word::proofs::FreeLaws::limit_first))]
 fn nothing_to_unwind(rt: HostRuntime) -> Result<(), Fail> {
     let mut w = World::open(rt.alloc())?;
     w.jobs = jobs(&rt, rt.alloc(), [None, Some(0), Some(1), None], 1)?;

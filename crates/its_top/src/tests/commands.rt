@@ -1,116 +1,93 @@
 //! The commands of the program: which words are one, and what `check` and `gen` write.
 
-use super::super::{Status, its};
-use super::FIRST;
-use its_io::{MemSink, MemSource};
-use std::alloc::Global;
+use super::super::Status;
+use super::{FIRST, tried};
 use std::test::Fail;
 
 const USAGE: &str = "usage: its run | its check | its gen N\n";
 
-/// Words, a session, what is written, the status, and whether the source is left as it was.
-static ROWS: [(&[&str], &str, &str, Status, bool); 30] = [
-    (&["run"], "TICK 0 1\n", "T 0 1-\n", Status::Done, false),
-    // words that are no command
-    (&[], "TICK 0 1\n", USAGE, Status::Usage, true),
-    (&[""], "TICK 0 1\n", USAGE, Status::Usage, true),
-    (&["run", "x"], "TICK 0 1\n", USAGE, Status::Usage, true),
-    (&["run", "1"], "TICK 0 1\n", USAGE, Status::Usage, true),
-    (&["check", "1"], "TICK 0 1\n", USAGE, Status::Usage, true),
-    (&["-run"], "TICK 0 1\n", USAGE, Status::Usage, true),
-    (&["--", "run"], "TICK 0 1\n", USAGE, Status::Usage, true),
-    (&["run", "-"], "TICK 0 1\n", USAGE, Status::Usage, true),
-    (&["--help"], "TICK 0 1\n", USAGE, Status::Usage, true),
-    (&["-V"], "TICK 0 1\n", USAGE, Status::Usage, true),
-    (&["help"], "TICK 0 1\n", USAGE, Status::Usage, true),
-    (&["Run"], "TICK 0 1\n", USAGE, Status::Usage, true),
-    (&["gen"], "TICK 0 1\n", USAGE, Status::Usage, true),
-    (&["gen", ""], "TICK 0 1\n", USAGE, Status::Usage, true),
-    (&["gen", "0"], "TICK 0 1\n", USAGE, Status::Usage, true),
-    (&["gen", "8"], "TICK 0 1\n", USAGE, Status::Usage, true),
-    (&["gen", "10001"], "TICK 0 1\n", USAGE, Status::Usage, true),
-    (&["gen", "-1"], "TICK 0 1\n", USAGE, Status::Usage, true),
-    (&["gen", "1", "1"], "TICK 0 1\n", USAGE, Status::Usage, true),
-    (
-        &["gen", "0000000000001"],
-        "TICK 0 1\n",
-        USAGE,
-        Status::Usage,
-        true,
-    ),
-    // a generated session
-    (
-        &["gen", "1"],
-        "TICK 0 1\n",
-        "LINES 134\nSTEPS 50\nDRAINED 10\n",
-        Status::Done,
-        true,
-    ),
-    (
-        &["gen", "000000000001"],
-        "",
-        "LINES 134\nSTEPS 50\nDRAINED 10\n",
-        Status::Done,
-        true,
-    ),
-    // the lines of a session, by the grammar alone
-    (&["check"], FIRST, "OK 6\n", Status::Done, false),
-    (&["check"], "", "OK 0\n", Status::Done, false),
-    (
-        &["check"],
-        "STATE 0\nPEEK 77\nEND\nx\n",
-        "OK 3\n",
-        Status::Done,
-        false,
-    ),
-    (&["check"], "END", "OK 1\n", Status::Done, false),
-    (
-        &["check"],
-        "; all\nTICK 0\n",
-        "? 2 SYNTAX\n",
-        Status::Refused,
-        false,
-    ),
-    (
-        &["check"],
-        "CLOCK 777777777777\nTYPE 10 200\n",
-        "? 2 RANGE\n",
-        Status::Refused,
-        false,
-    ),
-    (
-        &["check"],
-        "LOAD U J -\n100/ 2010",
-        "? 3 CUT\n",
-        Status::Refused,
-        false,
-    ),
-];
+/// Words that are no command, a row each; the first has none, and the second one without a letter.
+static NO_COMMANDS: &str = "
+ 
+ run x
+ run 1
+ check 1
+ -run
+ -- run
+ run -
+ --help
+ -V
+ help
+ Run
+ gen
+ gen 
+ gen 0
+ gen 8
+ gen 10001
+ gen -1
+ gen 1 1
+ gen 0000000000001";
 
-/// The words as the program has them.
-fn strings(alloc: Global, texts: &[&str]) -> Result<Vec<String>, Fail> {
-    let mut words = Vec::new(alloc);
-    for text in texts {
-        words.push(text.to_string(alloc)?)?;
+/// Words, a session and what is written.
+static COMMANDS: &str = " run = TICK 0 1
+= T 0 1-
+# gen 1 = TICK 0 1
+= LINES 134
+STEPS 50
+DRAINED 10
+# gen 000000000001 = END= LINES 134
+STEPS 50
+DRAINED 10
+# check = LOAD U J -
+100/ 201040000005 202040000200
+GO 100
+TICK 0 2
+EXAM 0 200 1
+END
+= OK 6
+# check = = OK 0
+# check = STATE 0
+PEEK 77
+END
+x
+= OK 3
+# check = END= OK 1
+# check = ; all
+TICK 0
+= ? 2 SYNTAX
+# check = CLOCK 777777777777
+TYPE 10 200
+= ? 2 RANGE
+# check = LOAD U J -
+100/ 2010= ? 3 CUT
+";
+
+#[test]
+fn no_commands(rt: HostRuntime) -> Result<(), Fail> {
+    for words in NO_COMMANDS.split('\n') {
+        let got = tried(rt.alloc(), words, b"TICK 0 1\n", 512, (&[], &[]))?;
+        assert_eq!(rt; got.wrote.as_slice(), USAGE.as_bytes(), "at {words}");
+        assert_eq!(rt;
+            (got.status, got.is_left),
+            (Status::Usage, true),
+            "at {words}"
+        );
     }
-    Ok(words)
+    Ok(())
 }
 
 #[test]
 fn commands(rt: HostRuntime) -> Result<(), Fail> {
-    let alloc = rt.alloc();
-    for (texts, session, wanted, status, is_left) in ROWS.iter() {
-        let words = strings(alloc, texts)?;
-        let mut src = MemSource::open(alloc, session.as_bytes(), 512, &[])?;
-        let mut out = MemSink::open(alloc, 1024, &[])?;
-        let got = its(alloc, &words, &mut src, &mut out);
-        assert_eq!(rt; out.written(), wanted.as_bytes(), "at {texts:?} {session}");
-        assert_eq!(rt; got, *status, "at {texts:?} {session}");
-        let left = src.rest() == session.as_bytes();
-        assert!(rt;
-            left == *is_left || session.is_empty(),
-            "at {texts:?} {session}"
-        );
+    for row in COMMANDS.split('#') {
+        let (words, rest) = row.split_once(" = ").expect(&rt, "a session");
+        let (session, wanted) = rest.split_once("= ").expect(&rt, "what is written");
+        let got = tried(rt.alloc(), words, session.as_bytes(), 512, (&[], &[]))?;
+        assert_eq!(rt; got.wrote.as_slice(), wanted.as_bytes(), "at {row}");
+        let refused = wanted.contains('?');
+        assert_eq!(rt; got.status == Status::Refused, refused, "at {row}");
+        assert_eq!(rt; got.status == Status::Done, !refused, "at {row}");
+        let reads = !words.starts_with(" gen");
+        assert_eq!(rt; got.is_left, !reads || session.is_empty(), "at {row}");
     }
     Ok(())
 }
@@ -119,35 +96,46 @@ fn commands(rt: HostRuntime) -> Result<(), Fail> {
 #[test]
 fn longest(rt: HostRuntime) -> Result<(), Fail> {
     let alloc = rt.alloc();
-    let words = strings(alloc, &["gen", "10000"])?;
-    let mut src = MemSource::open(alloc, b"END", 512, &[])?;
-    let mut first = MemSink::open(alloc, 1024, &[])?;
-    assert_eq!(rt; its(alloc, &words, &mut src, &mut first), Status::Done);
-    let mut second = MemSink::open(alloc, 1024, &[])?;
-    assert_eq!(rt; its(alloc, &words, &mut src, &mut second), Status::Done);
-    assert_eq!(rt; first.written(), second.written());
-    assert!(rt; first.written().starts_with(b"LINES 325"));
+    let first = tried(alloc, " gen 10000", b"END", 512, (&[], &[]))?;
+    let second = tried(alloc, " gen 10000", b"END", 512, (&[], &[]))?;
+    assert_eq!(rt; (first.status, second.status), (Status::Done, Status::Done));
+    assert_eq!(rt; first.wrote.as_slice(), second.wrote.as_slice());
+    assert!(rt; first.wrote.starts_with(b"LINES 325"));
     Ok(())
 }
 
 /// A sink that fails at each of its calls in turn, and a source that fails.
 #[test]
 fn faults(rt: HostRuntime) -> Result<(), Fail> {
-    let alloc = rt.alloc();
-    let words = strings(alloc, &["gen", "1"])?;
-    for (call, wanted) in [(0, ""), (1, "LINES 134\n"), (2, "LINES 134\nSTEPS 50\n")] {
-        let mut src = MemSource::open(alloc, b"END", 512, &[0])?;
-        let mut out = MemSink::open(alloc, 1024, &[call])?;
-        assert_eq!(rt; its(alloc, &words, &mut src, &mut out), Status::WriteFault);
-        assert_eq!(rt; out.written(), wanted.as_bytes());
+    let first = FIRST.as_bytes();
+    for (words, session, fails, wanted, status) in [
+        (
+            " gen 1",
+            &b"END"[..],
+            (&[0][..], &[0][..]),
+            "",
+            Status::WriteFault,
+        ),
+        (
+            " gen 1",
+            &b"END"[..],
+            (&[0][..], &[1][..]),
+            "LINES 134\n",
+            Status::WriteFault,
+        ),
+        (
+            " gen 1",
+            &b"END"[..],
+            (&[0][..], &[2][..]),
+            "LINES 134\nSTEPS 50\n",
+            Status::WriteFault,
+        ),
+        (" check", first, (&[2][..], &[][..]), "", Status::ReadFault),
+        (" check", first, (&[][..], &[0][..]), "", Status::WriteFault),
+    ] {
+        let got = tried(rt.alloc(), words, session, 16, fails)?;
+        assert_eq!(rt; got.wrote.as_slice(), wanted.as_bytes(), "at {words}");
+        assert_eq!(rt; got.status, status, "at {words}");
     }
-    let words = strings(alloc, &["check"])?;
-    let mut src = MemSource::open(alloc, FIRST.as_bytes(), 16, &[2])?;
-    let mut out = MemSink::open(alloc, 1024, &[])?;
-    assert_eq!(rt; its(alloc, &words, &mut src, &mut out), Status::ReadFault);
-    assert_eq!(rt; out.written(), b"".as_slice());
-    let mut src = MemSource::open(alloc, FIRST.as_bytes(), 16, &[])?;
-    let mut out = MemSink::open(alloc, 1024, &[0])?;
-    assert_eq!(rt; its(alloc, &words, &mut src, &mut out), Status::WriteFault);
     Ok(())
 }

@@ -1,7 +1,6 @@
 //! Sessions on files, with their transcripts.
 
-use super::super::Status;
-use super::{compare, line, run, run_word, word};
+use super::{compare, line, shows, word};
 use std::test::Fail;
 
 /// Sessions and transcripts, parted as those of the other calls.
@@ -946,7 +945,6 @@ fn files(rt: HostRuntime) -> Result<(), Fail> {
 #[test]
 fn errors(rt: HostRuntime) -> Result<(), Fail> {
     let alloc = rt.alloc();
-    let words = run_word(alloc)?;
     let mut session = String::new(alloc);
     let mut ticks = String::new(alloc);
     let mut shown = String::new(alloc);
@@ -974,9 +972,7 @@ fn errors(rt: HostRuntime) -> Result<(), Fail> {
     let end = format!(in alloc; "{end:o}/ 43000002000\nGO 100\nTICK 0 23")?;
     line(&mut session, &end)?;
     session.push_str(&ticks)?;
-    let (status, wrote) = run(alloc, session.as_bytes(), 512, &words)?;
-    assert_eq!(rt; wrote.as_slice(), shown.as_bytes(), "in {session}");
-    assert_eq!(rt; status, Status::Done);
+    shows(alloc, &rt, &session, &shown)?;
     Ok(())
 }
 
@@ -984,7 +980,6 @@ fn errors(rt: HostRuntime) -> Result<(), Fail> {
 #[test]
 fn helpers(rt: HostRuntime) -> Result<(), Fail> {
     let alloc = rt.alloc();
-    let words = run_word(alloc)?;
     let mut session = String::new(alloc);
     let mut shown = String::new(alloc);
     session.push_str(CLOSER)?;
@@ -1005,9 +1000,7 @@ fn helpers(rt: HostRuntime) -> Result<(), Fail> {
         line(&mut shown, &told)?;
         slot = slot.wrapping_add(1);
     }
-    let (status, wrote) = run(alloc, session.as_bytes(), 512, &words)?;
-    assert_eq!(rt; wrote.as_slice(), shown.as_bytes(), "in {session}");
-    assert_eq!(rt; status, Status::Done);
+    shows(alloc, &rt, &session, &shown)?;
     Ok(())
 }
 
@@ -1048,7 +1041,6 @@ F 410000000000 430000000000 1
 #[test]
 fn full_directory(rt: HostRuntime) -> Result<(), Fail> {
     let alloc = rt.alloc();
-    let words = run_word(alloc)?;
     let mut session = String::new(alloc);
     let mut shown = String::new(alloc);
     session.push_str("FILE A X P\nEOF\n")?;
@@ -1059,9 +1051,7 @@ fn full_directory(rt: HostRuntime) -> Result<(), Fail> {
     session.push_str(LAST)?;
     shown.push_str(LAST_OUT)?;
     line(&mut shown, "? 1017 FULL")?;
-    let (status, wrote) = run(alloc, session.as_bytes(), 512, &words)?;
-    assert_eq!(rt; wrote.as_slice(), shown.as_bytes());
-    assert_eq!(rt; status, Status::Refused);
+    shows(alloc, &rt, &session, &shown)?;
     Ok(())
 }
 
@@ -1095,7 +1085,6 @@ S 0 650000000000 700000000000 - - STOP 010000000105 000000000020 000000000000 00
 #[test]
 fn full_blocks(rt: HostRuntime) -> Result<(), Fail> {
     let alloc = rt.alloc();
-    let words = run_word(alloc)?;
     let mut session = String::new(alloc);
     let mut shown = String::new(alloc);
     session.push_str("FILE D A B\n")?;
@@ -1106,8 +1095,6 @@ fn full_blocks(rt: HostRuntime) -> Result<(), Fail> {
     session.push_str(MORE)?;
     shown.push_str(MORE_OUT)?;
     line(&mut shown, "? 40021 FULL")?;
-    let (status, wrote) = run(alloc, session.as_bytes(), 512, &words)?;
-    assert_eq!(rt; wrote.as_slice(), shown.as_bytes());
-    assert_eq!(rt; status, Status::Refused);
+    shows(alloc, &rt, &session, &shown)?;
     Ok(())
 }

@@ -1,7 +1,6 @@
 //! Sessions of jobs that make inferiors, with their transcripts.
 
-use super::super::Status;
-use super::{compare, run, run_word};
+use super::{compare, shows};
 use std::alloc::Global;
 use std::process::Abort;
 use std::test::Fail;
@@ -384,6 +383,33 @@ W 440000000000 410000000000 420000000000 1
 T 0 5. 1* 1.
 R 440000000000 1
 F 720000000000 720000000000 0
+#; an inferior's alarm is gone with it, and the next job in its slot has none
+114/ 43000000320 0 0
+246/ 12
+320/ 400000000000 654354576345 401000000001
+400/ 43000000104 0 43000000107 0 400000000000 624541546400 401000000001 400000000000
+410/ 504156470000 405000000000
+GO 100
+TICK 0 64
+TICK 1 14
+PEEK 1
+TICK 0 6
+LOAD N N -
+0/ 43000000003 0 0 400000000000 504156470000 405000000000
+GO 0
+TICK 1 5
+CLOCK 1
+PEEK 1
+STATE 1
+=
+T 0 4. 1* 11. 1* 5. 1* 5. 13* 7. 1* 5. 1* 1.
+T 1 4. 1* 5. 2w
+P 1 WAITING 504156470000 1 - - -
+T 0 4. 1* 1.
+J 1
+T 1 4. 1w
+P 1 WAITING 504156470000 1 - - -
+S 1 560000000000 560000000000 - - RUN 010000000000 000000000000 000000000000 000000000000 000000000000 000000000000 000000000000
 ";
 
 /// Each session behind a text that it begins with, and each transcript behind the line of its LOAD.
@@ -393,14 +419,11 @@ pub(super) fn compare_after(
     before: &str,
     rows: &str,
 ) -> Result<(), Fail> {
-    let words = run_word(alloc)?;
     for row in rows.split('#') {
         let (rest, told) = row.split_once("=\n").expect(rt, "a transcript");
         let session = format!(in alloc; "{before}{rest}")?;
         let shown = format!(in alloc; "J 0\n{told}")?;
-        let (got, wrote) = run(alloc, session.as_bytes(), 512, &words)?;
-        assert_eq!(rt; wrote.as_slice(), shown.as_bytes(), "in {session}");
-        assert_eq!(rt; got == Status::Refused, told.contains('?'), "in {session}");
+        shows(alloc, rt, &session, &shown)?;
     }
     Ok(())
 }

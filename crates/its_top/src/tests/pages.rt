@@ -1,9 +1,8 @@
 //! Sessions of jobs that make, drop and protect pages, with their transcripts.
 
-use super::super::Status;
 use super::inferiors::{MAKER, compare_after};
 use super::targets::compare_ends;
-use super::{compare, line, run, run_word, word};
+use super::{compare, line, shows, word};
 use std::test::Fail;
 
 /// Calls of CORBLK and how each ends, as those on inferiors. `makes` is an end of operation 1, which clears its page before,
@@ -108,7 +107,6 @@ STATE 0
 #[test]
 fn protected_page(rt: HostRuntime) -> Result<(), Fail> {
     let alloc = rt.alloc();
-    let words = run_word(alloc)?;
     for row in PROTECTED.split('\n') {
         if let Some((call, told)) = row.split_once(" = ") {
             let (at, block) = call.split_once(" ").expect(&rt, "a block");
@@ -128,9 +126,7 @@ fn protected_page(rt: HostRuntime) -> Result<(), Fail> {
                 &mut shown,
                 " 000000000000 000000000000 000000000000 000000000000 000000000000",
             )?;
-            let (status, wrote) = run(alloc, session.as_bytes(), 512, &words)?;
-            assert_eq!(rt; wrote.as_slice(), shown.as_bytes(), "in {session}");
-            assert_eq!(rt; status, Status::Done);
+            shows(alloc, &rt, &session, &shown)?;
         }
     }
     Ok(())
@@ -332,7 +328,7 @@ fn sessions(rt: HostRuntime) -> Result<(), Fail> {
 }
 
 /// A job that makes its page 377, and how it goes on.
-const TAKER: &str = "100/ 43000000110 254000000101 254000000102
+pub const TAKER: &str = "100/ 43000000110 254000000101 254000000102
 110/ 400000000000 435762425453 1000000001 1000777777 1000000377 403000000010
 ";
 
@@ -381,7 +377,6 @@ E 0 000010 000000000015
 #[test]
 fn last_of_all_pages(rt: HostRuntime) -> Result<(), Fail> {
     let alloc = rt.alloc();
-    let words = run_word(alloc)?;
     let mut jobs = String::new(alloc);
     for count in [255u32, 255, 256, 256, 1] {
         line(&mut jobs, "LOAD U X -")?;
@@ -396,9 +391,7 @@ fn last_of_all_pages(rt: HostRuntime) -> Result<(), Fail> {
     for (rest, told, last) in [(FIRST, FIRST_OUT, 1049u32), (SECOND, SECOND_OUT, 1048)] {
         let session = format!(in alloc; "{jobs}{rest}LOAD V X -\n0/ 1\n100/ 1\n")?;
         let shown = format!(in alloc; "J 0\nJ 1\nJ 2\nJ 3\nJ 4\n{told}J 5\n? {last:o} FULL\n")?;
-        let (status, wrote) = run(alloc, session.as_bytes(), 512, &words)?;
-        assert_eq!(rt; wrote.as_slice(), shown.as_bytes());
-        assert_eq!(rt; status, Status::Refused);
+        shows(alloc, &rt, &session, &shown)?;
     }
     Ok(())
 }

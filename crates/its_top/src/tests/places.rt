@@ -1,9 +1,7 @@
 //! Jobs that a superior disturbs at each place inside a call, those that it does not, and a tree of jobs that it removes.
 
-use super::super::{Status, its};
 use super::inferiors::MAKER;
-use super::{line, run, run_word, word};
-use its_io::{MemSink, MemSource};
+use super::{line, shows, word};
 use std::alloc::Global;
 use std::process::Abort;
 use std::test::Fail;
@@ -127,7 +125,6 @@ fn left(
 #[test]
 fn places(rt: HostRuntime) -> Result<(), Fail> {
     let alloc = rt.alloc();
-    let words = run_word(alloc)?;
     for row in CALLS.split('\n') {
         let (call, told) = row.split_once(" = ").expect(&rt, "words");
         for place in PLACES.split('\n') {
@@ -136,9 +133,7 @@ fn places(rt: HostRuntime) -> Result<(), Fail> {
                 "TICK 0 5\nPEEK 1\nEXAM 0 10 1\nEXAM 1 122 2\nEXAM 1 130 1\nSTATE 1\n",
             )?;
             left(alloc, &rt, &mut shown, place, told)?;
-            let (status, wrote) = run(alloc, session.as_bytes(), 512, &words)?;
-            assert_eq!(rt; wrote.as_slice(), shown.as_bytes(), "in {session}");
-            assert_eq!(rt; status, Status::Done);
+            shows(alloc, &rt, &session, &shown)?;
         }
     }
     Ok(())
@@ -148,15 +143,12 @@ fn places(rt: HostRuntime) -> Result<(), Fail> {
 #[test]
 fn places_removed(rt: HostRuntime) -> Result<(), Fail> {
     let alloc = rt.alloc();
-    let words = run_word(alloc)?;
     for place in PLACES.split('\n') {
         let call = "43000000300 400000000000 654354576345 401000000001";
         let (mut session, mut shown) = placed(alloc, &rt, call, place)?;
         session.push_str("TICK 0 5\nTICK 1 1\nTICK 0 1\nLOAD N N -\nGO 0\nPEEK 1\n")?;
         shown.push_str("T 0 4. 1*\nT 1 1-\nT 0 1.\nJ 1\nP 1 USER - 0 - - -\n")?;
-        let (status, wrote) = run(alloc, session.as_bytes(), 512, &words)?;
-        assert_eq!(rt; wrote.as_slice(), shown.as_bytes(), "in {session}");
-        assert_eq!(rt; status, Status::Done);
+        shows(alloc, &rt, &session, &shown)?;
     }
     Ok(())
 }
@@ -211,7 +203,6 @@ CORBLK with 22 for its operation, 5, 22 for its page, 16, and without an error
 #[test]
 fn reached(rt: HostRuntime) -> Result<(), Fail> {
     let alloc = rt.alloc();
-    let words = run_word(alloc)?;
     let place = "- = 13 4. 1* 5. 1w = WAITING 635157640000 1 440700000130 000000000002 - = -";
     for row in REACHED.split('\n') {
         if let Some((call, told)) = row.split_once(" = ") {
@@ -227,9 +218,7 @@ fn reached(rt: HostRuntime) -> Result<(), Fail> {
             };
             let told = format!(in alloc; "T 0 {letters}\nP 1 {peek}")?;
             line(&mut shown, &told)?;
-            let (status, wrote) = run(alloc, session.as_bytes(), 512, &words)?;
-            assert_eq!(rt; wrote.as_slice(), shown.as_bytes(), "in {session}");
-            assert_eq!(rt; status, Status::Done);
+            shows(alloc, &rt, &session, &shown)?;
         }
     }
     Ok(())
@@ -281,7 +270,6 @@ S 0 650000000000 700000000000 - - RUN 010000000120 000000000000 000000000000 000
 #[test]
 fn deep_tree(rt: HostRuntime) -> Result<(), Fail> {
     let alloc = rt.alloc();
-    let words = run_word(alloc)?;
     let mut session = String::new(alloc);
     let mut shown = String::new(alloc);
     session.push_str(TREE)?;
@@ -298,10 +286,5 @@ fn deep_tree(rt: HostRuntime) -> Result<(), Fail> {
     }
     session.push_str(FELLED)?;
     shown.push_str(FELLED_OUT)?;
-    let mut src = MemSource::open(alloc, session.as_bytes(), 512, &[])?;
-    let mut out = MemSink::open(alloc, 131072, &[])?;
-    let status = its(alloc, &words, &mut src, &mut out);
-    assert_eq!(rt; out.written(), shown.as_bytes());
-    assert_eq!(rt; status, Status::Done);
-    Ok(())
+    shows(alloc, &rt, &session, &shown)
 }

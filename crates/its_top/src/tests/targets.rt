@@ -1,8 +1,7 @@
 //! What calls on inferiors come to, and whom they disturb.
 
-use super::super::Status;
 use super::inferiors::MAKER;
-use super::{line, run, run_word, word};
+use super::{line, shows, word};
 use std::alloc::Global;
 use std::process::Abort;
 use std::test::Fail;
@@ -182,7 +181,6 @@ fn ending(kind: &str) -> (&str, &str) {
 
 /// A job makes the calls of these rows one after another, and each ends as its row says.
 pub(super) fn compare_ends(alloc: Global, rt: &impl Abort, rows: &str) -> Result<(), Fail> {
-    let words = run_word(alloc)?;
     let mut session = String::new(alloc);
     let mut ticks = String::new(alloc);
     let mut shown = String::new(alloc);
@@ -211,9 +209,7 @@ pub(super) fn compare_ends(alloc: Global, rt: &impl Abort, rows: &str) -> Result
     let end = 0o1000u32.wrapping_add(k.wrapping_mul(3));
     let end = format!(in alloc; "{end:o}/ 43000002000\n{STARTED}{ticks}")?;
     session.push_str(&end)?;
-    let (status, wrote) = run(alloc, session.as_bytes(), 512, &words)?;
-    assert_eq!(rt; wrote.as_slice(), shown.as_bytes(), "in {session}");
-    assert_eq!(rt; status, Status::Done);
+    shows(alloc, rt, &session, &shown)?;
     Ok(())
 }
 
@@ -263,7 +259,6 @@ const POSITIONED: &str = "10/ 777
 #[test]
 fn transfers(rt: HostRuntime) -> Result<(), Fail> {
     let alloc = rt.alloc();
-    let words = run_word(alloc)?;
     for row in TRANSFERS.split('\n') {
         let (given, told) = row.split_once(" = ").expect(&rt, "letters");
         let (letters, told) = told.split_once(" = ").expect(&rt, "words");
@@ -291,9 +286,7 @@ fn transfers(rt: HostRuntime) -> Result<(), Fail> {
             &mut shown,
             " 000000000000 000000000000 000000000000 000000000000 000000000000",
         )?;
-        let (status, wrote) = run(alloc, session.as_bytes(), 512, &words)?;
-        assert_eq!(rt; wrote.as_slice(), shown.as_bytes(), "in {session}");
-        assert_eq!(rt; status, Status::Done);
+        shows(alloc, &rt, &session, &shown)?;
     }
     Ok(())
 }

@@ -5,7 +5,7 @@ use Rattle.its_jobs.proofs.table.is_below.Given as goal
 
 abbrev pub invariant-loop-step : goal.invariant-loop-step
 invariant-loop-step l = record {
-  climbs : climbs_to (λ k. slice_index_or l.superiors k None) l.slot (64 - l._step) l.superior
-      ≡ climbs_to (λ k. slice_index_or l.superiors k None) l.slot 64 (slice_index_or l.superiors l.job None);
+  climbs : climbs_to (λ k. slice_index_or l.superiors k None) l.slot (slots - l._step) l.superior
+      ≡ climbs_to (λ k. slice_index_or l.superiors k None) l.slot slots (slice_index_or l.superiors l.job None);
   within : IfSome l.superior (λ s. s < slots);
 }

@@ -1,5 +1,6 @@
 use Rattle.std.proofs.Common.{◌∙◌, sym}
 use Rattle.its_monitor.proofs.TickLaws.{turn_call, turn_unit}
+use Rattle.its_monitor.proofs.StepsLaws.{quiet_at}
 use Rattle.its_monitor.proofs.FramesLaws.{frames_call, frames_delivery, frames_unit}
 use Rattle.its_monitor.proofs.ticks.turn.Goals as goal
 
@@ -24,3 +25,6 @@ pub returns-then-deliverable-clause-pages : goal.returns-then-deliverable-clause
 returns-then-deliverable-clause-pages c =
     frames_delivery c.args.w.now c.args.slot c.in-Some.job.now _ (sym c.in-Some.ensures.job) c.if-job.false
     (sym c.has_frame.ensures ∙ c.if-has_frame.false) (sym c.deliverable.ensures ∙ c.if-deliverable.true) c.deliver_to.ensures.pages
+
+pub make_unit-requires-clause-quiet : goal.make_unit-requires-clause-quiet
+make_unit-requires-clause-quiet c = quiet_at _ _ (sym c.in-Some.ensures.job) (sym c.deliverable.ensures ∙ c.if-deliverable.false)

@@ -1,6 +1,5 @@
-use Rattle.std.proofs.Common.{sym}
-use Rattle.its_monitor.proofs.UserLaws.{unit_in}
+use Rattle.its_monitor.proofs.StepsLaws.{unit_of_units}
 use Rattle.its_monitor.proofs.users.unit_in_place.Goals as goal
 
 pub returns : goal.returns
-returns c = unit_in _ _ _ _ _ _ _ _ (sym c.in-Some.ensures.value) c.run_unit.ensures.others c.run_unit.ensures.reserved c.run_unit.ensures.frames c.run_unit.ensures.left c.run_unit.ensures.same
+returns c = unit_of_units _ _ _ _ c.requires.quiet c.units_in_place.ensures.few c.units_in_place.ensures.same c.units_in_place.ensures.made

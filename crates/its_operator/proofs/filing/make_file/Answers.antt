@@ -5,4 +5,4 @@ use Rattle.its_operator.proofs.filing.make_file.Goals as goal
 pub returns-clause-done : goal.returns-clause-done
 returns-clause-done c =
     let h = c.new_file.ensures in
-    made_lands c.args.w.now _ _ c.args.d c.args.x c.args.y c.requires.kept c.requires.unmarked c.requires.few c.requires.fresh h.free h.made h.entry h.words h.directory refl refl refl refl refl refl
+    made_lands c.args.w.now _ _ c.args.d c.args.x c.args.y c.requires.kept c.requires.unmarked c.requires.few c.requires.fresh h.free h.made h.entry h.words h.directory refl refl refl refl refl refl refl refl refl

@@ -21,6 +21,9 @@ returns-clause-row c =
       holders = refl;
       files = refl;
       clock = refl;
+      alarms = refl;
+      version = refl;
+      symbols = refl;
     })
     c.in-Ok.ensures.slot c.requires.tidy c.args.slot c.requires.free c.console_of-console.ensures
 
@@ -36,5 +39,8 @@ returns-clause-tidy c =
       holders = refl;
       files = refl;
       clock = refl;
+      alarms = refl;
+      version = refl;
+      symbols = refl;
     })
     c.in-Ok.ensures.slot c.requires.tidy

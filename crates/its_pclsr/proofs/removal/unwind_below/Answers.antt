@@ -1,15 +1,16 @@
 use Rattle.std.proofs.Common.{◌<◌, arith}
+use Rattle.its_word.specs.Limits.{slots}
 use Rattle.its_pclsr.proofs.BelowLaws.{within_below, unwinding_more, unwinding_end, unwinding_pages, below_same}
 use Rattle.its_pclsr.proofs.removal.unwind_below.Goals as goal
 
 pub overflow_add-k : goal.overflow_add-k
 overflow_add-k c =
-    let few : c.loop-inferior.k < 64 = within_below _ _ _ _ c.in-Some.ensures.job in
+    let few : c.loop-inferior.k < slots = within_below _ _ _ _ c.in-Some.ensures.job in
     omega arith
 
 pub loop-inferior-smaller : goal.loop-inferior-smaller
 loop-inferior-smaller c =
-    let few : c.loop-inferior.k < 64 = within_below _ _ _ _ c.in-Some.ensures.job in
+    let few : c.loop-inferior.k < slots = within_below _ _ _ _ c.in-Some.ensures.job in
     omega arith
 
 pub loop-inferior-preserved : goal.loop-inferior-preserved

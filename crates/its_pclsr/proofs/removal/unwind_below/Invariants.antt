@@ -1,4 +1,5 @@
 use Rattle.std.proofs.Common.{◌-◌}
+use Rattle.its_word.specs.Limits.{slots}
 use Rattle.its_world.specs.Tidy.{Tidy}
 use Rattle.its_pclsr.proofs.BelowLaws.{Unwinding}
 use Rattle.its_pclsr.proofs.removal.unwind_below.Given as goal
@@ -10,4 +11,4 @@ invariant-loop-inferior l = record {
 }
 
 abbrev pub decreases-loop-inferior : goal.decreases-loop-inferior
-decreases-loop-inferior l = 64 - l.k
+decreases-loop-inferior l = slots - l.k

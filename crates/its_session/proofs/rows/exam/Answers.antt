@@ -7,3 +7,7 @@ use Rattle.its_session.proofs.rows.exam.Goals as goal
 pub returns-in_err-n-2 : goal.returns-in_err-n-2
 unfolding exam_line
 returns-in_err-n-2 c = rw (three_words c.args.words.now (omega arith) (omega arith)) (grind (arith, common_steps))
+
+pub returns : goal.returns
+unfolding exam_line
+returns c = rw (three_words c.args.words.now (omega arith) (omega arith)) (grind (arith, common_steps))

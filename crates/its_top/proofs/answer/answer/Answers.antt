@@ -1,6 +1,6 @@
 use Rattle.std.proofs.Common.{sym, ◌∙◌, ap}
 use Rattle.its_word.specs.declared.session.Event.TheVariants.{Words, Append, TypeIn}
-use Rattle.its_top.proofs.AnswerLaws.{words_answered, go_answered, append_answered, at_event}
+use Rattle.its_top.proofs.AnswerLaws.{words_answered, read_only_answered, symbol_answered, go_answered, append_answered, at_event}
 use Rattle.its_top.proofs.answer.answer.Goals as goal
 
 pub returns-in-Words-clause-answered : goal.returns-in-Words-clause-answered
@@ -21,3 +21,13 @@ pub returns-in-Append-clause-answered : goal.returns-in-Append-clause-answered
 returns-in-Append-clause-answered g c =
     at_event _ _ _ _ _ _ _ _ _ _ (c.in-Append.is ∙ ap (λ ws. Append (record { items = ws })) (sym c.deref-in-Append.ensures.0))
     (append_answered _ _ _ _ _ _ _ _ _ c.add_words-added.ensures.done c.add_words-added.ensures.refused c.settle-in-Append.ensures.settled)
+
+pub returns-in-ReadOnly-clause-answered : goal.returns-in-ReadOnly-clause-answered
+returns-in-ReadOnly-clause-answered g c =
+    at_event _ _ _ _ _ _ _ _ _ _ c.in-ReadOnly.is
+    (read_only_answered _ _ _ _ _ _ _ _ _ c.read_only-protected.ensures.done c.read_only-protected.ensures.refused c.settle-in-ReadOnly.ensures.settled)
+
+pub returns-in-Symbol-clause-answered : goal.returns-in-Symbol-clause-answered
+returns-in-Symbol-clause-answered g c =
+    at_event _ _ _ _ _ _ _ _ _ _ c.in-Symbol.is
+    (symbol_answered _ _ _ _ _ _ _ _ _ _ c.symbol-kept.ensures.done c.symbol-kept.ensures.refused c.settle-in-Symbol.ensures.settled)

@@ -1,5 +1,6 @@
 use Rattle.std.proofs.Common.{sym, ◌∙◌}
 use Rattle.its_top.proofs.ConclusionLaws.{not_fault, not_last_by, so_next, session_over, session_fault}
+use Rattle.its_top.proofs.StartLaws.{found_start, start_over}
 use Rattle.its_top.proofs.run.run_items.Goals as goal
 
 pub returns-in_default-clause-ended : goal.returns-in_default-clause-ended
@@ -10,12 +11,16 @@ returns-then-not-goes_on-clause-ended g c =
     session_over _ _ c.in-Ok.found _ _ _ _ _ _ c.loop-found.items c.next.new.self _ _ _ _ _ _ c.status.ensures (sym c.goes_on.ensures ∙ c.if-not-goes_on.true) (sym c.in-Ok.ensures.number)
     c.in-Ok.ensures.ready c.loop-found.invariant.so_far c.in-Ok.ensures.finds c.take-turn.ensures.takes
 
+pub take-turn-requires-clause-start : goal.take-turn-requires-clause-start
+take-turn-requires-clause-start g c = found_start c.loop-found.items.place c.in-Ok.found _ c.in-Ok.ensures.stands c.loop-found.invariant.begun
+
 pub loop-found-preserved : goal.loop-found-preserved
 loop-found-preserved g c = record {
   sound = c.take-turn.ensures.sound;
   slot = c.take-turn.ensures.slot;
   few = c.in-Ok.ensures.few (not_last_by _ _ _ _ _ _ _ _ _ (sym c.goes_on.ensures ∙ c.if-not-goes_on.false) c.take-turn.ensures.takes);
   ready = c.in-Ok.ensures.ready;
+  begun = start_over _ _ c.in-Ok.found _ c.in-Ok.ensures.place (not_last_by _ _ _ _ _ _ _ _ _ (sym c.goes_on.ensures ∙ c.if-not-goes_on.false) c.take-turn.ensures.takes);
   so_far = so_next _ c.in-Ok.found _ _ _ _ _ _ c.loop-found.items c.next.new.self _ _ _ _ _ _ (sym c.goes_on.ensures ∙ c.if-not-goes_on.false) (sym c.in-Ok.ensures.number)
       c.loop-found.invariant.so_far c.in-Ok.ensures.finds c.take-turn.ensures.takes;
   read_unfailed = c.in-Ok.ensures.cause.kept ∙ c.loop-found.invariant.read_unfailed;

@@ -2,4 +2,4 @@ use Rattle.its_pclsr.proofs.IdleLaws.{idle_tidy}
 use Rattle.its_pclsr.proofs.removal.tests.inferiors.Goals as goal
 
 pub made-requires : goal.made-requires
-made-requires g c = record { tidy = idle_tidy _ c.in_ok-w.ensures.cores c.in_ok-w.ensures.files c.in_ok-w-2.ensures }
+made-requires g c = record { tidy = idle_tidy _ c.in_ok-w.ensures.cores c.in_ok-w.ensures.files c.in_ok-w.ensures.alarms c.in_ok-w.ensures.clock c.in_ok-w.ensures.symbols c.in_ok-w-2.ensures.jobs }

@@ -2,4 +2,4 @@ use Rattle.its_pclsr.proofs.IdleLaws.{idle_tidy}
 use Rattle.its_pclsr.proofs.removal.tests.nothing_to_unwind.Goals as goal
 
 pub unwind_below-requires-clause-tidy : goal.unwind_below-requires-clause-tidy
-unwind_below-requires-clause-tidy g c = idle_tidy _ c.in_ok-w.ensures.cores c.in_ok-w.ensures.files c.in_ok-w-2.ensures
+unwind_below-requires-clause-tidy g c = idle_tidy _ c.in_ok-w.ensures.cores c.in_ok-w.ensures.files c.in_ok-w.ensures.alarms c.in_ok-w.ensures.clock c.in_ok-w.ensures.symbols c.in_ok-w-2.ensures.jobs

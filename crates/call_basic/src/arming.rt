@@ -1,0 +1,30 @@
+ghost use Rattle.std.specs.Prelude.{◌≡◌};
+ghost use Rattle.its_plain.specs.CallBasic.{alarm_of, realt};
+ghost use Rattle.its_world.specs.Tidy.{Tidy};
+ghost use Rattle.call_basic.specs.Seen.{seen_by};
+
+use super::arguments::input;
+use super::ends::{fails, finishes_with};
+use super::sleeping::is_negative;
+use arrayvec::ArrayVec;
+use its_frame::{Change, Decision, error};
+use its_word::{Ask, Job};
+use its_world::World;
+
+/// The longest period of an alarm, in thirtieths.
+const LONGEST_PERIOD: u64 = 0o200000000000;
+
+/// REALT n: the job has an alarm from now on, of period n, whose next time is n thirtieths from now; with 0 it has none. Error
+/// 22 where n is below 0 or longer than 2^34.
+#[tactic(auto, unfolding(its_plain::specs::CallBasic::realt, its_plain::specs::View::view, its_world::specs::World::state_of))]
+pub fn realt(w: &World, slot: u8, job: &Job, ask: &Ask) -> Decision
+    requires tidy { Tidy w.now }
+    ensures { result ≡ realt (seen_by w.now slot job.now ask.now) ask.now }
+{
+    let n = input(ask, 0).value();
+    if is_negative(n) || n > LONGEST_PERIOD {
+        return fails(job, ask, error::OUT_OF_RANGE);
+    }
+    let alarm = if n == 0 { None } else { Some((n, w.clock + n)) };
+    finishes_with(job, Change::Arm { alarm }, ArrayVec::new())
+}

@@ -1,0 +1,263 @@
+-- VERSION and SYM, and the symbol that is nearest to a PC.
+use Rattle.std.specs.Prelude.{if◌then◌else◌, ◌≡◌, ◌≢◌, ◌≤◌, ◌<◌, ◌+◌, ◌-◌, ◌==◌, ◌^◌, ◌&&◌, not, ℕ, zero, suc, Bool, true, false, Option, Some, None, IfSome, List, [], ◌∷◌, ◌++◌, Result, Ok, Err, is_some, length, drop, nat_lt, cond, slice_index_or, refl}
+use Rattle.std.proofs.Common.{sym, ◌∙◌, ap, subst, inl, inr, arith}
+use Rattle.std.proofs.lemmas.Bool.{cases_Bool, cases_eq, ltb-false}
+use Rattle.its_word.specs.Limits.{most_symbols}
+use Rattle.its_word.specs.declared.jobs.Job.{Job}
+use Rattle.its_word.specs.declared.session.Event.TheVariants as events
+use Rattle.its_word.specs.declared.session.Reason.{Reason}
+use Rattle.its_word.specs.declared.session.Reason.TheVariants as reasons
+use Rattle.its_word.specs.declared.session.Refusal.{Refusal}
+use Rattle.its_word.specs.declared.session.Refusal.TheVariants as refusals
+use Rattle.its_core.specs.Cores.{core_at, clear_at}
+use Rattle.its_jobs.specs.Table.{job_at, superior_at}
+use Rattle.its_files.specs.Files.{directory}
+use Rattle.its_plain.specs.Machine.{Symbol, Whole, Machine}
+use Rattle.its_plain.specs.Operator.{Block, no_block, Does, nobody, quietly}
+use Rattle.its_plain.specs.OperatorLines.{operate, Done, lined}
+use Rattle.its_plain.specs.OperatorClock.{clock_end}
+use Rattle.its_plain.specs.OperatorSymbols.{address_of, is_nearer, nearer, nearest_after, nearest, with_distance, symbol_shown, with_symbol, symbol_kept_if, symbol_kept_of, symbol_kept}
+use Rattle.its_plain.specs.OperatorVersion.{versioned}
+use Rattle.its_plain.proofs.MachineLaws.{machine_is}
+use Rattle.its_stepped.specs.State.{State, plain}
+use Rattle.its_stepped.specs.Lines.{calmed, with_raw}
+use Rattle.its_stepped.proofs.LineLaws.{version_lifted}
+use Rattle.its_stepped.proofs.RefusalLaws.{error_of, symbol_alike}
+use Rattle.its_plain.specs.OperatorClock.{clock_end}
+use Rattle.its_world.specs.Tidy.{channel_by, Across, Tidy}
+use Rattle.its_world.specs.World.{alarm_at, frame_at, console_at, holder_at, symbols_at, raw_of, raw_at, mark_of, state_of, SymbolsBecome, VersionBecomes}
+use Rattle.its_world.specs.declared.world.World.{World}
+use Rattle.its_world.proofs.KeptLaws.{across_table}
+use Rattle.its_world.proofs.StateLaws.{state_is, job_of, changed_at, raw_same}
+use Rattle.its_operator.specs.Kept.{Kept, Lands, Refused, reason_of}
+use Rattle.its_operator.proofs.KeptLaws.{error_is, Made, made_sound, made_plain, made_forest, made_timed, made_alarmed}
+use Rattle.its_operator.proofs.RegisterLaws.{raw_is, raw_is_none, block_of}
+use Rattle.its_operator.proofs.StartLaws.{quiet_by}
+
+-- VERSION: the first changes nothing
+same_version : (m : Machine) (v : ℕ) → v ≢ 2 → versioned m v ≡ m
+unfolding versioned
+same_version m v ne = elim (cases_Bool (v == 2)) [
+  | inl is ↦ absurd (ne (grind (arith)))
+  | inr is ↦ rw is refl
+]
+
+pub version_stays : (w : World) (v : ℕ) → v ≢ 2 → Lands (state_of w) (state_of w) (Ok (versioned (state_of w).raw v))
+version_stays w v ne = record { is = ap Ok (same_version (state_of w).raw v ne); rest = refl }
+
+pub version_same : (w : World) (v : ℕ) → v ≢ 2 → versioned (plain (state_of w)) v ≡ plain (state_of w)
+version_same w v ne = same_version (plain (state_of w)) v ne
+
+-- and the second sets the version
+version_raw : (old new : World) (k : ℕ) → VersionBecomes old new 2 → raw_at new.files new.core new.jobs new.alarms.items k ≡ raw_at old.files old.core old.jobs old.alarms.items k
+version_raw old new k b =
+    ap (λ t. raw_of t (core_at new.core k) (superior_at new.jobs k) (alarm_at new.alarms.items k) (job_at new.jobs k)) b.files
+    ∙ ap (λ t. raw_of old.files (core_at t k) (superior_at new.jobs k) (alarm_at new.alarms.items k) (job_at new.jobs k)) b.core
+    ∙ ap (λ t. raw_of old.files (core_at old.core k) (slice_index_or t k None) (alarm_at new.alarms.items k) (job_at new.jobs k)) b.superiors
+    ∙ ap (λ t. raw_of old.files (core_at old.core k) (superior_at old.jobs k) (alarm_at t.items k) (job_at new.jobs k)) b.alarms
+    ∙ ap (raw_of old.files (core_at old.core k) (superior_at old.jobs k) (alarm_at old.alarms.items k)) (b.jobs.each k)
+
+version_state : (old new : World) → VersionBecomes old new 2 → state_of new ≡ with_raw (state_of old) (record (state_of old).raw { version = 2 })
+unfolding state_of
+version_state old new b = state_is _ _
+    (machine_is _ _ (λ k. version_raw old new k b) (λ k. ap (λ l. console_at l.items k) b.consoles) (λ k. ap (λ l. holder_at l k) b.holders) (ap directory b.files) b.clock b.version
+    (λ k. ap (λ l. symbols_at l.items k) b.symbols))
+    (λ k. ap (λ l. frame_at l.items k) b.frames) (λ k. ap (λ t. clear_at t k) b.core) (ap mark_of b.files)
+
+second : (m : Machine) (v : ℕ) → v ≡ 2 → versioned m v ≡ record m { version = 2 }
+unfolding versioned
+second m v e = ap (λ (i : ℕ). if i == 2 then record m { version = 2 } else m) e
+
+module _ (old new : World) (v : ℕ) where
+  pub version_done : v ≡ 2 → VersionBecomes old new 2 → Lands (state_of old) (state_of new) (Ok (versioned (state_of old).raw v))
+  version_done e b =
+      let is = version_state old new b in
+      record {
+        is = ap Ok (second (state_of old).raw v e ∙ ap (λ (x : State). x.raw) (sym is));
+        rest = is ∙ ap (λ (x : State). with_raw (state_of old) x.raw) (sym is);
+      }
+
+  version_made : v ≡ 2 → VersionBecomes old new 2 → Made (state_of old) (state_of new) no_block (events.Version v)
+  unfolding calmed lined operate
+  version_made e b =
+      let is = version_state old new b in
+      record {
+        out = [];
+        touched = nobody;
+        block = no_block;
+        is = ap (λ m. Done (Does m [] nobody no_block)) (second (state_of old).raw v e ∙ ap (λ (x : State). x.raw) (sym is));
+        rest = (version_done e b).rest;
+      }
+
+  pub version_plain : v ≡ 2 → VersionBecomes old new 2 → versioned (plain (state_of old)) v ≡ plain (state_of new)
+  version_plain e b =
+      version_lifted (state_of old) v ∙ ap (λ m. plain (with_raw (state_of old) m)) (second (state_of old).raw v e) ∙ ap plain (sym (version_state old new b))
+
+  version_jobs : v ≡ 2 → VersionBecomes old new 2 → (k : ℕ) → (plain (state_of new)).jobs k ≡ (plain (state_of old)).jobs k
+  unfolding plain
+  version_jobs e b k = ap (λ (x : State). (plain x).jobs k) (version_state old new b)
+
+  version_tidy : VersionBecomes old new 2 → Tidy old → Tidy new
+  version_tidy b tidy = record {
+    blank = λ k h. ap (λ c. core_at c k) b.core ∙ tidy.blank k (sym (b.jobs.each k) ∙ h);
+    quiet = λ k h. ap (λ l. alarm_at l.items k) b.alarms ∙ tidy.quiet k (sym (b.jobs.each k) ∙ h);
+    timed = subst (λ t. t < clock_end) (sym b.clock) tidy.timed;
+    across = subst (λ s. Across s new.jobs) (sym b.files) (across_table old.files old.jobs new.jobs tidy.across (λ k n. ap (λ o. channel_by o n) (b.jobs.each k)));
+    nameless = λ k h. ap (λ l. symbols_at l.items k) b.symbols ∙ tidy.nameless k (sym (b.jobs.each k) ∙ h);
+  }
+
+  pub version_kept : v ≡ 2 → Kept old → VersionBecomes old new 2 → Kept new
+  version_kept e kept b = record {
+    sound = made_sound (state_of old) (state_of new) no_block (events.Version v) kept.sound (version_made e b);
+    forest = made_forest (state_of old) (state_of new) no_block (events.Version v) kept.sound kept.forest (version_made e b);
+    tidy = version_tidy b kept.tidy;
+    addressed = λ k. subst (λ (o : Option Whole). IfSome o (λ q. q.job.pc < 2 ^ 18)) (sym (version_jobs e b k)) (kept.addressed k);
+    consoled = λ k. subst (λ (o : Option Whole). IfSome o (λ q. IfSome q.job.console (λ c. c < 8))) (sym (version_jobs e b k)) (kept.consoled k);
+    timed = made_timed (state_of old) (state_of new) no_block (events.Version v) kept.sound kept.timed (version_made e b);
+    alarmed = made_alarmed (state_of old) (state_of new) no_block (events.Version v) kept.sound kept.forest kept.alarmed (version_made e b);
+  }
+
+-- SYM
+pub symbols_raw : (w : World) (s : ℕ) → (state_of w).raw.symbols s ≡ symbols_at w.symbols.items s
+unfolding state_of
+symbols_raw w s = refl
+
+symbols_state : (old new : World) (s : ℕ) (x : Symbol) → SymbolsBecome old new s (symbols_at old.symbols.items s ++ x ∷ []) → state_of new ≡ with_raw (state_of old) (with_symbol (state_of old).raw s x)
+unfolding state_of
+symbols_state old new s x b = state_is _ _
+    (machine_is _ _ (raw_same old new b.files b.core b.jobs b.alarms)
+    (λ k. ap (λ l. console_at l.items k) b.consoles) (λ k. ap (λ l. holder_at l k) b.holders) (ap directory b.files) b.clock b.version
+    (changed_at _ _ s _ b.symbols.here b.symbols.others))
+    (λ k. ap (λ l. frame_at l.items k) b.frames) (λ k. ap (λ t. clear_at t k) b.core) (ap mark_of b.files)
+
+symbol_on : (w : World) (s : ℕ) (x : Symbol) (b : Bool) → is_some (job_at w.jobs s) ≡ true → b ≡ nat_lt (length (symbols_at w.symbols.items s)) most_symbols
+    → symbol_kept (state_of w).raw s x.0 x.1 ≡ symbol_kept_if (state_of w).raw s x b
+unfolding symbol_kept
+symbol_on w s x b some is =
+    let had = job_of (job_at w.jobs s) some in
+    ap (symbol_kept_of (state_of w).raw s x) (raw_is w s had.0 had.1)
+    ∙ ap (λ (ss : List Symbol). symbol_kept_if (state_of w).raw s x (nat_lt (length ss) most_symbols)) (symbols_raw w s)
+    ∙ ap (symbol_kept_if (state_of w).raw s x) (sym is)
+
+module _ (old new : World) (s name a : ℕ) (b : Bool) where
+  pub symbol_done : is_some (job_at old.jobs s) ≡ true → b ≡ nat_lt (length (symbols_at old.symbols.items s)) most_symbols → b ≡ true
+      → SymbolsBecome old new s (symbols_at old.symbols.items s ++ (name, a) ∷ []) → Lands (state_of old) (state_of new) (symbol_kept (state_of old).raw s name a)
+  symbol_done some is t c =
+      let e = symbols_state old new s (name, a) c in
+      record {
+        is = symbol_on old s (name, a) b some is ∙ ap (symbol_kept_if (state_of old).raw s (name, a)) t ∙ ap (λ (x : State). Ok x.raw) (sym e);
+        rest = e ∙ ap (λ (x : State). with_raw (state_of old) x.raw) (sym e);
+      }
+
+  symbol_made : is_some (job_at old.jobs s) ≡ true → b ≡ nat_lt (length (symbols_at old.symbols.items s)) most_symbols → b ≡ true
+      → SymbolsBecome old new s (symbols_at old.symbols.items s ++ (name, a) ∷ []) → Made (state_of old) (state_of new) (block_of s) (events.Symbol name a)
+  unfolding calmed lined operate
+  symbol_made some is t c =
+      let d = symbol_done some is t c in
+      record { out = []; touched = nobody; block = block_of s; is = ap (λ r. Done (quietly (block_of s) r)) d.is; rest = d.rest }
+
+  pub symbol_plain : Kept old → is_some (job_at old.jobs s) ≡ true → b ≡ nat_lt (length (symbols_at old.symbols.items s)) most_symbols → b ≡ true
+      → SymbolsBecome old new s (symbols_at old.symbols.items s ++ (name, a) ∷ []) → symbol_kept (plain (state_of old)) s name a ≡ Ok (plain (state_of new))
+  unfolding lined operate
+  symbol_plain kept some is t c =
+      let m = symbol_made some is t c in
+      quiet_by (symbol_kept (plain (state_of old)) s name a) (plain (state_of new)) m.out m.touched (block_of s) m.block
+      (made_plain (state_of old) (state_of new) (block_of s) (events.Symbol name a) kept.sound m)
+
+  symbol_jobs : SymbolsBecome old new s (symbols_at old.symbols.items s ++ (name, a) ∷ []) → (k : ℕ) → (plain (state_of new)).jobs k ≡ (plain (state_of old)).jobs k
+  unfolding plain
+  symbol_jobs c k = ap (λ (x : State). (plain x).jobs k) (symbols_state old new s (name, a) c)
+
+  symbol_tidy : is_some (job_at old.jobs s) ≡ true → SymbolsBecome old new s (symbols_at old.symbols.items s ++ (name, a) ∷ []) → Tidy old → Tidy new
+  symbol_tidy some c tidy = record {
+    blank = λ k h. ap (λ t. core_at t k) c.core ∙ tidy.blank k (sym (ap (λ t. job_at t k) c.jobs) ∙ h);
+    quiet = λ k h. ap (λ l. alarm_at l.items k) c.alarms ∙ tidy.quiet k (sym (ap (λ t. job_at t k) c.jobs) ∙ h);
+    timed = subst (λ t. t < clock_end) (sym c.clock) tidy.timed;
+    across = subst (λ t. Across t new.jobs) (sym c.files) (subst (Across old.files) (sym c.jobs) tidy.across);
+    nameless = λ k h. elim (cases_eq k s) [
+      | inl is ↦ let none : is_some (job_at old.jobs s) ≡ false = ap is_some (sym (ap (λ t. job_at t s) c.jobs) ∙ sym (ap (job_at new.jobs) is) ∙ h) in absurd cc
+      | inr ne ↦ c.symbols.others k ne ∙ tidy.nameless k (sym (ap (λ t. job_at t k) c.jobs) ∙ h)
+    ];
+  }
+
+  pub symbol_keeps : Kept old → is_some (job_at old.jobs s) ≡ true → b ≡ nat_lt (length (symbols_at old.symbols.items s)) most_symbols → b ≡ true
+      → SymbolsBecome old new s (symbols_at old.symbols.items s ++ (name, a) ∷ []) → Kept new
+  symbol_keeps kept some is t c = record {
+    sound = made_sound (state_of old) (state_of new) (block_of s) (events.Symbol name a) kept.sound (symbol_made some is t c);
+    forest = made_forest (state_of old) (state_of new) (block_of s) (events.Symbol name a) kept.sound kept.forest (symbol_made some is t c);
+    tidy = symbol_tidy some c kept.tidy;
+    addressed = λ k. subst (λ (o : Option Whole). IfSome o (λ q. q.job.pc < 2 ^ 18)) (sym (symbol_jobs c k)) (kept.addressed k);
+    consoled = λ k. subst (λ (o : Option Whole). IfSome o (λ q. IfSome q.job.console (λ i. i < 8))) (sym (symbol_jobs c k)) (kept.consoled k);
+    timed = made_timed (state_of old) (state_of new) (block_of s) (events.Symbol name a) kept.sound kept.timed (symbol_made some is t c);
+    alarmed = made_alarmed (state_of old) (state_of new) (block_of s) (events.Symbol name a) kept.sound kept.forest kept.alarmed (symbol_made some is t c);
+  }
+
+refused_here : (w : World) (s name a : ℕ) (x : Refusal) → symbol_kept (state_of w).raw s name a ≡ Err (reason_of x) → Refused (state_of w) (state_of w) (λ m. symbol_kept m s name a) x
+refused_here w s name a x h = record {
+  plain = error_is (symbol_kept (plain (state_of w)) s name a) (symbol_kept (state_of w).raw s name a) (reason_of x) (symbol_alike (state_of w) s name a) h;
+  raw = h;
+  calmed = h;
+}
+
+pub symbol_full : (w : World) (s name a : ℕ) (b : Bool) → is_some (job_at w.jobs s) ≡ true → b ≡ nat_lt (length (symbols_at w.symbols.items s)) most_symbols → b ≡ false
+    → Refused (state_of w) (state_of w) (λ m. symbol_kept m s name a) refusals.Full
+symbol_full w s name a b some is f = refused_here w s name a refusals.Full (symbol_on w s (name, a) b some is ∙ ap (symbol_kept_if (state_of w).raw s (name, a)) f)
+
+pub symbol_none : (w : World) (s name a : ℕ) (x : Refusal) → x ≡ refusals.NoJob → job_at w.jobs s ≡ None → Refused (state_of w) (state_of w) (λ m. symbol_kept m s name a) x
+unfolding symbol_kept
+symbol_none w s name a x is h = refused_here w s name a x (ap (symbol_kept_of (state_of w).raw s (name, a)) (raw_is_none w s h) ∙ ap (λ y. Err (reason_of y)) (sym is))
+
+-- the symbol that is nearest to a PC, found by looking at one after another
+drop_next : (ss : List Symbol) (i : ℕ) (x : Symbol) → i < length ss → x ≡ slice_index_or ss i x → drop i ss ≡ x ∷ drop (suc i) ss
+drop_next [] i x l e = absurd (omega arith)
+drop_next (y ∷ ss) zero x l e = ap (λ z. z ∷ ss) (sym e)
+drop_next (y ∷ ss) (suc i) x l e = drop_next ss i x (omega arith) e
+
+drop_past : (ss : List Symbol) (i : ℕ) → length ss ≤ i → drop i ss ≡ []
+drop_past [] zero l = refl
+drop_past [] (suc i) l = refl
+drop_past (y ∷ ss) zero l = absurd (omega arith)
+drop_past (y ∷ ss) (suc i) l = drop_past ss i (omega arith)
+
+-- the first i symbols are looked at
+pub record Looking (pc : ℕ) (ss : List Symbol) (i : ℕ) (best : Option Symbol) : Type 0 where
+  pub left : nearest_after pc best (drop i ss) ≡ nearest pc ss
+  pub below : IfSome best (λ b. b.1 ≤ pc)
+
+pub near_start : (pc : ℕ) (ss : List Symbol) → Looking pc ss 0 None
+unfolding nearest
+near_start pc ss = record { left = refl; below = tt }
+
+near_by : (pc : ℕ) (best : Option Symbol) (x : Symbol) (b : Bool) → is_nearer pc best x ≡ b → IfSome best (λ y. y.1 ≤ pc) → IfSome (cond b (Some x) best) (λ y. y.1 ≤ pc)
+near_by pc best x false is h = h
+near_by pc (Some y) x true is h = under pc x.1 (nat_lt x.1 y.1) is
+  where
+    under : (pc a : ℕ) (b : Bool) → (not (nat_lt pc a) && not b) ≡ true → a ≤ pc
+    under pc a b e = elim (cases_Bool (nat_lt pc a)) [
+      | inl t ↦ let no : (not true && not b) ≡ true = subst (λ c. (not c && not b) ≡ true) t e in absurd cc
+      | inr f ↦ ltb-false pc a f
+    ]
+near_by pc None x true is h = elim (cases_Bool (nat_lt pc x.1)) [
+  | inl t ↦ let no : not true ≡ true = subst (λ c. not c ≡ true) t is in absurd cc
+  | inr f ↦ ltb-false pc x.1 f
+]
+
+pub near_next : (pc : ℕ) (ss : List Symbol) (i : ℕ) (best y : Option Symbol) (x : Symbol) → i < length ss → x ≡ slice_index_or ss i x → y ≡ nearer pc best x → Looking pc ss i best
+    → Looking pc ss (i + 1) y
+near_next pc ss i best y x l e is h = record {
+  left =
+      let next : i + 1 ≡ suc i = omega arith in
+      ap (λ (k : ℕ). nearest_after pc y (drop k ss)) next ∙ ap (λ (o : Option Symbol). nearest_after pc o (drop (suc i) ss)) is
+      ∙ sym (ap (nearest_after pc best) (drop_next ss i x l e)) ∙ h.left;
+  below = subst (λ (o : Option Symbol). IfSome o (λ z. z.1 ≤ pc)) (sym is) (near_by pc best x (is_nearer pc best x) refl h.below);
+}
+
+found : (pc : ℕ) (ss : List Symbol) (i : ℕ) (best : Option Symbol) → length ss ≤ i → Looking pc ss i best → best ≡ nearest pc ss
+found pc ss i best l h = sym (ap (nearest_after pc best) (drop_past ss i l)) ∙ h.left
+
+pub near_some : (pc : ℕ) (ss : List Symbol) (i : ℕ) (best : Option Symbol) (name a : ℕ) → length ss ≤ i → Looking pc ss i best → best ≡ Some (name, a)
+    → Some (name, pc - a) ≡ symbol_shown pc ss
+near_some pc ss i best name a l h e = sym (ap (with_distance pc) e) ∙ ap (with_distance pc) (found pc ss i best l h)
+
+pub near_none : (pc : ℕ) (ss : List Symbol) (i : ℕ) (best : Option Symbol) → length ss ≤ i → Looking pc ss i best → best ≡ None → None ≡ symbol_shown pc ss
+near_none pc ss i best l h e = sym (ap (with_distance pc) e) ∙ ap (with_distance pc) (found pc ss i best l h)

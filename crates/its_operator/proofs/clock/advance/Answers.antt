@@ -1,0 +1,30 @@
+use Rattle.std.proofs.Common.{sym, subst, ℕ}
+use Rattle.std.specs.Prelude.{IfSome, Option, List}
+use Rattle.its_world.specs.World.{alarm_at}
+use Rattle.its_operator.specs.Rung.{Periodic}
+use Rattle.its_operator.proofs.RungLaws.{kept_periods}
+use Rattle.its_operator.proofs.ClockLaws.{advanced, clock_done, clock_plain, clock_kept, clock_refused}
+use Rattle.its_operator.proofs.clock.advance.Goals as goal
+
+pub ring-requires-clause-periods : goal.ring-requires-clause-periods
+ring-requires-clause-periods c = λ k.
+    subst (λ l. IfSome (alarm_at l.items k) Periodic) (sym c.set_clock.ensures.alarms)
+    (kept_periods c.args.w.now c.unwind_due.new.w c.requires.kept.alarmed c.unwind_due.ensures.same c.unwind_due.ensures.tidy k)
+
+pub returns-then-in_time-clause-done : goal.returns-then-in_time-clause-done
+returns-then-in_time-clause-done c =
+    clock_done c.args.w.now c.ring.new.w c.args.n c.in_time.result c.requires.kept c.in_time.ensures c.if-in_time.true
+    (advanced c.args.w.now c.unwind_due.new.w c.set_clock.new.w c.ring.new.w c.args.n c.unwind_due.ensures.unwinds c.set_clock.ensures.row c.ring.ensures.rang)
+
+pub returns-then-in_time-clause-plain : goal.returns-then-in_time-clause-plain
+returns-then-in_time-clause-plain c =
+    clock_plain c.args.w.now c.ring.new.w c.args.n c.in_time.result c.requires.kept c.in_time.ensures c.if-in_time.true
+    (advanced c.args.w.now c.unwind_due.new.w c.set_clock.new.w c.ring.new.w c.args.n c.unwind_due.ensures.unwinds c.set_clock.ensures.row c.ring.ensures.rang)
+
+pub returns-then-in_time-clause-kept : goal.returns-then-in_time-clause-kept
+returns-then-in_time-clause-kept c =
+    clock_kept c.args.w.now c.ring.new.w c.args.n c.in_time.result c.requires.kept c.in_time.ensures c.if-in_time.true
+    (advanced c.args.w.now c.unwind_due.new.w c.set_clock.new.w c.ring.new.w c.args.n c.unwind_due.ensures.unwinds c.set_clock.ensures.row c.ring.ensures.rang) c.ring.ensures.tidy
+
+pub returns-else-in_time-clause-refused : goal.returns-else-in_time-clause-refused
+returns-else-in_time-clause-refused c = clock_refused c.args.w.now c.args.n c.in_time.result c.requires.kept c.in_time.ensures c.if-in_time.false

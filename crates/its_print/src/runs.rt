@@ -1,0 +1,8 @@
+use its_word::Pace;
+
+/// A tick, and how many more follow it with the same letter.
+#[derive(Clone, Copy, Debug, Default, PartialEq, Eq)]
+pub struct Run {
+    pub pace: Pace,
+    pub more: u32,
+}

@@ -1,0 +1,142 @@
+-- The first slot that runs, and the turn.
+use Rattle.std.specs.Prelude.{cond, ℕ, zero, suc, ◌+◌, ◌-◌, ◌<◌, ◌≤◌, ◌≡◌, Bool, true, false, Option, Some, None, List, length, slice_index_or, refl}
+use Rattle.std.proofs.Common.{sym, ◌∙◌, ap, arith, inl, inr}
+use Rattle.std.proofs.lemmas.Bool.{cases_eq, cases_lt, lt-ltb, le-ltb}
+use Rattle.std.proofs.lemmas.Option.{none-some, same_Some}
+use Rattle.std.proofs.lemmas.List.{get_or_past}
+use Rattle.its_robin.specs.Robin.{first_running, robin, between, IsNext, Turn}
+
+-- slot k does not run
+first_skips : (runs : ℕ → Bool) (n k : ℕ) → runs k ≡ false → first_running runs (suc n) k ≡ first_running runs n (k + 1)
+unfolding first_running
+first_skips runs n k h = rw h refl
+
+pub first_next : (runs : ℕ → Bool) (to k : ℕ) → k < to → runs k ≡ false → first_running runs (to - k) k ≡ first_running runs (to - (k + 1)) (k + 1)
+first_next runs to k l h =
+    let e : to - k ≡ suc (to - (k + 1)) = omega arith in
+    ap (λ n. first_running runs n k) e ∙ first_skips runs (to - (k + 1)) k h
+
+-- slot k runs
+first_here : (runs : ℕ → Bool) (n k : ℕ) → runs k ≡ true → first_running runs (suc n) k ≡ Some k
+unfolding first_running
+first_here runs n k h = rw h refl
+
+pub first_found : (runs : ℕ → Bool) (to k : ℕ) → k < to → runs k ≡ true → first_running runs (to - k) k ≡ Some k
+first_found runs to k l h =
+    let e : to - k ≡ suc (to - (k + 1)) = omega arith in
+    ap (λ n. first_running runs n k) e ∙ first_here runs (to - (k + 1)) k h
+
+-- no slot is left
+pub first_end : (runs : ℕ → Bool) (to k : ℕ) → to ≤ k → first_running runs (to - k) k ≡ None
+unfolding first_running
+first_end runs to k l = let e : to - k ≡ 0 = omega arith in ap (λ n. first_running runs n k) e
+
+-- what the first that runs is: it is one of the n, it runs, and none before it does
+pub record Found (runs : ℕ → Bool) (n k s : ℕ) : Type 0 where
+  pub from : k ≤ s
+  pub to : s < k + n
+  pub running : runs s ≡ true
+  pub before : (i : ℕ) → k ≤ i → i < s → runs i ≡ false
+
+found_by : (runs : ℕ → Bool) (n k s : ℕ) (b : Bool) → runs k ≡ b → cond b (Some k) (first_running runs n (k + 1)) ≡ Some s
+    → (first_running runs n (k + 1) ≡ Some s → Found runs n (k + 1) s) → Found runs (suc n) k s
+found_by runs n k s true e h more =
+    let at : k ≡ s = same_Some k s h in
+    record { from = omega arith; to = omega arith; running = ap runs (sym at) ∙ e; before = λ i a b. absurd (omega arith) }
+found_by runs n k s false e h more =
+    let f = more h in
+    record {
+      from = omega (arith, f.from);
+      to = omega (arith, f.to);
+      running = f.running;
+      before = λ i a b. elim (cases_eq i k) [ inl same ↦ ap runs same ∙ e | inr other ↦ f.before i (omega arith) b ];
+    }
+
+pub first_some : (runs : ℕ → Bool) (n k s : ℕ) → first_running runs n k ≡ Some s → Found runs n k s
+unfolding first_running
+first_some runs zero k s h = absurd (none-some _ h)
+first_some runs (suc n) k s h = found_by runs n k s (runs k) refl h (first_some runs n (k + 1) s)
+
+none_by : (runs : ℕ → Bool) (n k : ℕ) (b : Bool) → runs k ≡ b → cond b (Some k) (first_running runs n (k + 1)) ≡ None
+    → (first_running runs n (k + 1) ≡ None → (i : ℕ) → k + 1 ≤ i → i < k + 1 + n → runs i ≡ false)
+    → (i : ℕ) → k ≤ i → i < k + suc n → runs i ≡ false
+none_by runs n k true e h more i a b = absurd (none-some _ (sym h))
+none_by runs n k false e h more i a b = elim (cases_eq i k) [ inl same ↦ ap runs same ∙ e | inr other ↦ more h i (omega arith) (omega arith) ]
+
+pub first_none : (runs : ℕ → Bool) (n k : ℕ) → first_running runs n k ≡ None → (i : ℕ) → k ≤ i → i < k + n → runs i ≡ false
+unfolding first_running
+first_none runs zero k h i a b = absurd (omega arith)
+first_none runs (suc n) k h i a b = none_by runs n k (runs k) refl h (first_none runs n (k + 1)) i a b
+
+-- the turn: of a slot behind the last one, where one runs
+pub turn_behind : (runs : ℕ → Bool) (n last s : ℕ) → first_running runs (n - (last + 1)) (last + 1) ≡ Some s → robin n runs last ≡ Some s
+unfolding robin
+turn_behind runs n last s h = rw h refl
+
+-- and else of one up to it
+pub turn_around : (runs : ℕ → Bool) (n last : ℕ) → first_running runs (n - (last + 1)) (last + 1) ≡ None → robin n runs last ≡ first_running runs (last + 1) 0
+unfolding robin
+turn_around runs n last h = rw h refl
+
+-- the way to a slot behind the last one, and to one up to it
+between_behind : (n last s : ℕ) → last < s → between n last s ≡ s - (last + 1)
+between_behind n last s l = rw (lt-ltb last s l) refl
+
+between_around : (n last s : ℕ) → s ≤ last → between n last s ≡ s + n - (last + 1)
+between_around n last s l = rw (le-ltb last s l) refl
+
+-- a slot that does not run is none that does
+clash : (runs : ℕ → Bool) (k : ℕ) {P : Type 0} → runs k ≡ true → runs k ≡ false → P
+clash runs k a b = absurd (cc)
+
+nearest_behind : (runs : ℕ → Bool) (n last s : ℕ) → last < n → Found runs (n - (last + 1)) (last + 1) s → (k : ℕ) → k < n → runs k ≡ true → between n last s ≤ between n last k
+nearest_behind runs n last s l f k w r = elim (cases_lt last k) [
+  | inl behind ↦ elim (cases_lt k s) [
+    | inl before ↦ clash runs k r (f.before k (omega arith) before)
+    | inr after ↦ rw (between_behind n last s (omega (arith, f.from)), between_behind n last k behind) (omega arith)
+  ]
+  | inr around ↦ rw (between_behind n last s (omega (arith, f.from)), between_around n last k around) (omega (arith, f.to))
+]
+
+pub next_behind : (runs : ℕ → Bool) (n last s : ℕ) → last < n → first_running runs (n - (last + 1)) (last + 1) ≡ Some s → IsNext n runs last s
+next_behind runs n last s l h =
+    let f = first_some runs (n - (last + 1)) (last + 1) s h in
+    record { within = omega (arith, f.to); running = f.running; nearest = nearest_behind runs n last s l f }
+
+nearest_around : (runs : ℕ → Bool) (n last s : ℕ) → last < n → first_running runs (n - (last + 1)) (last + 1) ≡ None → Found runs (last + 1) 0 s
+    → (k : ℕ) → k < n → runs k ≡ true → between n last s ≤ between n last k
+nearest_around runs n last s l none f k w r = elim (cases_lt last k) [
+  | inl behind ↦ clash runs k r (first_none runs (n - (last + 1)) (last + 1) none k (omega arith) (omega arith))
+  | inr around ↦ elim (cases_lt k s) [
+    | inl before ↦ clash runs k r (f.before k (omega arith) before)
+    | inr after ↦ rw (between_around n last s (omega (arith, f.to)), between_around n last k around) (omega arith)
+  ]
+]
+
+next_around : (runs : ℕ → Bool) (n last s : ℕ) → last < n → first_running runs (n - (last + 1)) (last + 1) ≡ None → first_running runs (last + 1) 0 ≡ Some s → IsNext n runs last s
+next_around runs n last s l none h =
+    let f = first_some runs (last + 1) 0 s h in
+    record { within = omega (arith, f.to); running = f.running; nearest = nearest_around runs n last s l none f }
+
+-- who runs has an entry in the list
+entry_within : (xs : List Bool) (k : ℕ) → slice_index_or xs k false ≡ true → k < length xs
+entry_within xs k h = elim (cases_lt k (length xs)) [ inl l ↦ l | inr l ↦ clash (λ i. slice_index_or xs i false) k h (get_or_past xs k false l) ]
+
+all_rest : (xs : List Bool) (last : ℕ) → first_running (λ k. slice_index_or xs k false) (length xs - (last + 1)) (last + 1) ≡ None
+    → first_running (λ k. slice_index_or xs k false) (last + 1) 0 ≡ None → (k : ℕ) → slice_index_or xs k false ≡ false
+all_rest xs last behind around k = elim (cases_lt k (length xs)) [
+  | inr l ↦ get_or_past xs k false l
+  | inl l ↦ elim (cases_lt last k) [
+    | inl b ↦ first_none (λ i. slice_index_or xs i false) (length xs - (last + 1)) (last + 1) behind k (omega arith) (omega arith)
+    | inr a ↦ first_none (λ i. slice_index_or xs i false) (last + 1) 0 around k (omega arith) (omega arith)
+  ]
+]
+
+-- the turn where none behind the last one runs
+pub around_is : (xs : List Bool) (last m : ℕ) (o : Option ℕ) → last < length xs → m ≡ last + 1
+    → first_running (λ k. slice_index_or xs k false) (length xs - (last + 1)) (last + 1) ≡ None
+    → o ≡ first_running (λ k. slice_index_or xs k false) m 0 → Turn (length xs) (λ k. slice_index_or xs k false) last o
+around_is xs last m None l e behind h =
+    record { none = all_rest xs last behind (ap (λ i. first_running (λ k. slice_index_or xs k false) i 0) (sym e) ∙ sym h) }
+around_is xs last m (Some s) l e behind h =
+    next_around (λ k. slice_index_or xs k false) (length xs) last s l behind (ap (λ i. first_running (λ k. slice_index_or xs k false) i 0) (sym e) ∙ sym h)

@@ -1,0 +1,208 @@
+-- The judge is right about the lines that are a transcript from where the session stands on.
+use Rattle.std.proofs.Common.{◌≡◌, ℕ, Bool, true, Option, Some, None, List, [], ◌∷◌, ◌++◌, length, refl, subst}
+use Rattle.std.proofs.lemmas.Slice.Eq.{bytes_eq-Decides}
+use Rattle.its_word.specs.Item.{Item, Read, Unread, Beyond}
+use Rattle.its_word.specs.declared.calls.Pace.{Pace}
+use Rattle.its_word.specs.declared.show.Peek.{Peek}
+use Rattle.its_word.specs.declared.show.PeekState.TheVariants.{User}
+use Rattle.std.specs.Prelude.{bytes_eq, codes}
+use Rattle.its_print.specs.Printing.{Line, Ticks, Peeked, Refused, text_of_line}
+use Rattle.its_session.specs.Grammar.{words_of}
+use Rattle.its_plain.specs.OperatorLines.{Lined, Done, Peeks, lined}
+use Rattle.its_plain.specs.Machine.{Machine}
+use Rattle.its_plain.specs.Operator.{Block, Refuses, Does, Quits}
+use Rattle.its_plain.specs.Operator as operator
+use Rattle.its_plain.specs.Transcript.{Fate, Ended, Open, Lost, TooLong, Walk, walk_after, next_line}
+use Rattle.its_plain.proofs.RunLaws.{PacedOn, LinedOn, Run}
+use Rattle.its_verify.specs.Lines.{Said, is_peek, says}
+use Rattle.its_verify.specs.Letters.{paced, ticked, ticks_in}
+use Rattle.its_verify.specs.Judge.{Judge, at_end, gone, judged, led, peeking, saying, told}
+use Rattle.its_verify.proofs.LicenceLaws.{any_letters, if_so_is, on_paced, paced_on, said_ticks, then_of, ticked_some}
+use Rattle.its_verify.proofs.RightLaws.{Finished, Led, LedBy, Right, led_on, right_as, right_at_end, right_led}
+
+-- a text that says a line
+record AnyText (l : Line) : Type 0 where
+  text : List ℕ
+  says_it : says l text ≡ true
+
+same_text : (xs : List ℕ) → bytes_eq xs xs ≡ true
+same_text xs = (bytes_eq-Decides xs xs).1 refl
+
+abbrev p_line : List ℕ
+p_line = codes "P" ++ 10 ∷ []
+
+short_peek : is_peek p_line ≡ true
+unfolding is_peek words_of
+short_peek = refl
+
+any_text : (l : Line) → AnyText l
+any_text (Peeked s peek) = record { text = p_line; says_it = short_peek }
+any_text l = record { text = text_of_line l; says_it = same_text (text_of_line l) }
+
+-- lines that are shown, and what follows them
+abbrev Told : List Line → (List (List ℕ) → Type 0) → List (List ℕ) → Type 0
+Told [] R = R
+Told (l ∷ ls) R = Led (saying l) (λ text. Told ls R)
+
+said_led : (l : Line) (text : List ℕ) → says l text ≡ true → saying l text ≡ Some text
+said_led l text h = rw h refl
+
+led_said : (l : Line) (text x : List ℕ) → saying l text ≡ Some x → says l text ≡ true
+led_said l text x h = (if_so_is (says l text) text x h).0
+
+right_told : (ls : List Line) (R : List (List ℕ) → Type 0) (judge : Judge) → Right R judge → Right (Told ls R) (told ls judge)
+right_told [] R judge h = h
+right_told (l ∷ ls) R judge h =
+    let t = any_text l in
+    right_led (saying l) (λ text. Told ls R) (λ text. told ls judge) t.text t.text (said_led l t.text t.says_it) (λ text. right_told ls R judge h)
+
+-- lines out and then lines of which S holds are said by the texts
+pub record Along (out : List Line) (S : List Line → Fate → Type 0) (texts : List (List ℕ)) : Type 0 where
+  pub rest : List Line
+  pub fate : Fate
+  pub holds : S rest fate
+  pub said : Said (out ++ rest) texts
+
+led_by_said : (l : Line) (t : List ℕ) (R : List (List ℕ) → Type 0) (ts : List (List ℕ)) (o : Option (List ℕ)) → saying l t ≡ o → LedBy o (λ text. R) ts → (says l t ≡ true) × R ts
+led_by_said l t R ts None is h = absurd h
+led_by_said l t R ts (Some x) is h = (led_said l t x is, h)
+
+told_along : (out : List Line) (S : List Line → Fate → Type 0) (texts : List (List ℕ)) → Told out (Along [] S) texts → Along out S texts
+told_along [] S texts h = h
+told_along (l ∷ ls) S [] h = absurd h
+told_along (l ∷ ls) S (t ∷ ts) h =
+    let y = led_by_said l t (Told ls (Along [] S)) ts (saying l t) refl h in
+    let a = told_along ls S ts y.1 in
+    record { rest = a.rest; fate = a.fate; holds = a.holds; said = (y.0, a.said) }
+
+along_told : (out : List Line) (S : List Line → Fate → Type 0) (texts : List (List ℕ)) → Along out S texts → Told out (Along [] S) texts
+along_told [] S texts h = h
+along_told (l ∷ ls) S [] h = absurd h.said
+along_told (l ∷ ls) S (t ∷ ts) h =
+    led_on (saying l) (λ text. Told ls (Along [] S)) t t ts (said_led l t h.said.0)
+    (along_told ls S ts (record { rest = h.rest; fate = h.fate; holds = h.holds; said = h.said.1 }))
+
+told_said : (known : List Line) (texts : List (List ℕ)) → Told known Finished texts → Said known texts
+told_said [] [] h = tt
+told_said [] (t ∷ ts) h = h
+told_said (l ∷ ls) [] h = h
+told_said (l ∷ ls) (t ∷ ts) h =
+    let y = led_by_said l t (Told ls Finished) ts (saying l t) refl h in
+    (y.0, told_said ls ts y.1)
+
+said_told : (known : List Line) (texts : List (List ℕ)) → Said known texts → Told known Finished texts
+said_told [] [] h = tt
+said_told [] (t ∷ ts) h = h
+said_told (l ∷ ls) [] h = h
+said_told (l ∷ ls) (t ∷ ts) h = led_on (saying l) (λ text. Told ls Finished) t t ts (said_led l t h.0) (said_told ls ts h.1)
+
+-- lines that are a transcript from the walk on, at these events, and their texts
+abbrev pub From : Walk → List Item → List (List ℕ) → Type 0
+From v es texts = Along [] (Run v es) texts
+
+abbrev OnLined : Walk → Lined → List Item → List Line → Fate → Type 0
+OnLined v l es lines fate = LinedOn v l (λ w rest. Run w es rest fate) lines fate
+
+-- known lines, and no more
+right_known : (known : List Line) (S : List Line → Fate → Type 0) (fate : Fate) → S known fate → ((lines : List Line) (f : Fate) → S lines f → lines ≡ known)
+    → Right (Along [] S) (told known at_end)
+right_known known S fate there only =
+    right_as (Told known Finished) (Along [] S) (told known at_end) (λ ts h. record { rest = known; fate = fate; holds = there; said = told_said known ts h })
+    (λ ts a. said_told known ts (subst (λ (ls : List Line). Said ls ts) (only a.rest a.fate a.holds) a.said)) (right_told known Finished at_end right_at_end)
+
+-- a line that does something shows its lines first
+right_does : (v : Walk) (n : Machine) (out : List Line) (touched : ℕ → Bool) (b : Block) (es : List Item) (judge : Judge)
+    → Right (From (next_line (walk_after v n touched b)) es) judge → Right (Along [] (OnLined v (Done (Does n out touched b)) es)) (told out judge)
+right_does v n out touched b es judge next =
+    let w = next_line (walk_after v n touched b) in
+    right_as (Told out (From w es)) (Along [] (OnLined v (Done (Does n out touched b)) es)) (told out judge)
+    (λ ts h. (let a = told_along out (Run w es) ts h in record { rest = out ++ a.rest; fate = a.fate; holds = (a.rest, refl, a.holds); said = a.said }))
+    (λ ts a.
+    along_told out (Run w es) ts
+    (record { rest = a.holds.0; fate = a.fate; holds = a.holds.2; said = subst (λ (ls : List Line). Said ls ts) a.holds.1 a.said }))
+    (right_told out (From w es) judge next)
+
+-- ticks
+ticks_to : (v : Walk) (i k : ℕ) (es : List Item) (t : List ℕ) (ts : List (List ℕ)) (o : Option Walk) → ticked v i k t ≡ o → LedBy o (λ w. From (next_line w) es) ts
+    → Along [] (OnLined v (Done (operator.Ticks i k)) es) (t ∷ ts)
+ticks_to v i k es t ts None is h = absurd h
+ticks_to v i k es t ts (Some w) is h =
+    let p = then_of (paced v i) (ticks_in i k t) w is in
+    let said = said_ticks i k t p.value p.first in
+    record {
+      rest = Ticks i p.value ∷ h.rest;
+      fate = h.fate;
+      holds = (p.value, h.rest, refl, said.0, paced_on v i p.value w (λ u. Run (next_line u) es h.rest h.fate) p.last h.holds);
+      said = (said.1, h.said);
+    }
+
+to_ticks : (v : Walk) (i k : ℕ) (es : List Item) (texts : List (List ℕ)) (ps : List Pace) (rest : List Line) (fate : Fate) → length ps ≡ k
+    → PacedOn v i ps (λ w. Run (next_line w) es rest fate) → Said (Ticks i ps ∷ rest) texts → Led (ticked v i k) (λ w. From (next_line w) es) texts
+to_ticks v i k es [] ps rest fate many paces said = absurd said
+to_ticks v i k es (t ∷ ts) ps rest fate many paces said =
+    let p = on_paced v i ps (λ w. Run (next_line w) es rest fate) paces in
+    led_on (ticked v i k) (λ w. From (next_line w) es) t p.to ts (ticked_some v i k t ps p.to many said.0 p.paces)
+    (record { rest = rest; fate = fate; holds = p.at; said = said.1 })
+
+ticks_led : (v : Walk) (i k : ℕ) (es : List Item) (texts : List (List ℕ)) → Led (ticked v i k) (λ w. From (next_line w) es) texts
+    → Along [] (OnLined v (Done (operator.Ticks i k)) es) texts
+ticks_led v i k es [] h = absurd h
+ticks_led v i k es (t ∷ ts) h = ticks_to v i k es t ts (ticked v i k t) refl h
+
+right_ticks : (v : Walk) (i k : ℕ) (es : List Item) (judge : Walk → Judge) → ((w : Walk) → Right (From w es) (judge w))
+    → Right (Along [] (OnLined v (Done (operator.Ticks i k)) es)) (led (ticked v i k) (λ w. judge (next_line w)))
+right_ticks v i k es judge next =
+    let any = any_letters v i k in
+    let text = text_of_line (Ticks i any.paces) in
+    right_as (Led (ticked v i k) (λ w. From (next_line w) es)) (Along [] (OnLined v (Done (operator.Ticks i k)) es)) (led (ticked v i k) (λ w. judge (next_line w)))
+    (ticks_led v i k es)
+    (λ ts a. to_ticks v i k es ts a.holds.0 a.holds.1 a.fate a.holds.3 a.holds.4 (subst (λ (ls : List Line). Said ls ts) a.holds.2 a.said))
+    (right_led (ticked v i k) (λ w. From (next_line w) es) (λ w. judge (next_line w)) text any.to
+    (ticked_some v i k text any.paces any.to any.many (same_text text) any.leads) (λ w. next (next_line w)))
+
+-- a peek
+a_peek : Peek
+a_peek = record { state = User; name = None; left = 0; a = None; b = None; h = None }
+
+peek_to : (v : Walk) (i : ℕ) (es : List Item) (t : List ℕ) (ts : List (List ℕ)) (o : Option (List ℕ)) → peeking t ≡ o → LedBy o (λ text. From (next_line v) es) ts
+    → Along [] (OnLined v (Peeks i) es) (t ∷ ts)
+peek_to v i es t ts None is h = absurd h
+peek_to v i es t ts (Some text) is h =
+    record {
+      rest = Peeked i a_peek ∷ h.rest;
+      fate = h.fate;
+      holds = (a_peek, h.rest, refl, h.holds);
+      said = ((if_so_is (is_peek t) t text is).0, h.said);
+    }
+
+to_peek : (v : Walk) (i : ℕ) (es : List Item) (texts : List (List ℕ)) (peek : Peek) (rest : List Line) (fate : Fate) → Run (next_line v) es rest fate
+    → Said (Peeked i peek ∷ rest) texts → Led peeking (λ text. From (next_line v) es) texts
+to_peek v i es [] peek rest fate run said = absurd said
+to_peek v i es (t ∷ ts) peek rest fate run said =
+    led_on peeking (λ text. From (next_line v) es) t t ts (rw said.0 refl) (record { rest = rest; fate = fate; holds = run; said = said.1 })
+
+peek_led : (v : Walk) (i : ℕ) (es : List Item) (texts : List (List ℕ)) → Led peeking (λ text. From (next_line v) es) texts → Along [] (OnLined v (Peeks i) es) texts
+peek_led v i es [] h = absurd h
+peek_led v i es (t ∷ ts) h = peek_to v i es t ts (peeking t) refl h
+
+right_peek : (v : Walk) (i : ℕ) (es : List Item) (judge : Judge) → Right (From (next_line v) es) judge → Right (Along [] (OnLined v (Peeks i) es)) (led peeking (λ text. judge))
+right_peek v i es judge next =
+    right_as (Led peeking (λ text. From (next_line v) es)) (Along [] (OnLined v (Peeks i) es)) (led peeking (λ text. judge))
+    (peek_led v i es)
+    (λ ts a. to_peek v i es ts a.holds.0 a.holds.1 a.fate a.holds.3 (subst (λ (ls : List Line). Said ls ts) a.holds.2 a.said))
+    (right_led peeking (λ text. From (next_line v) es) (λ text. judge) p_line p_line (rw short_peek refl) (λ text. next))
+
+-- a line of the session that comes to l
+right_gone : (v : Walk) (l : Lined) (es : List Item) → ((w : Walk) → Right (From w es) (judged w es)) → Right (Along [] (OnLined v l es)) (gone v l (λ w. judged w es))
+right_gone v (Done (Refuses r)) es next = right_known (Refused v.line r ∷ []) (OnLined v (Done (Refuses r)) es) Lost (refl, refl) (λ lines f h. h.0)
+right_gone v (Done (Does n out touched b)) es next =
+    right_does v n out touched b es (judged (next_line (walk_after v n touched b)) es) (next (next_line (walk_after v n touched b)))
+right_gone v (Done (operator.Ticks i k)) es next = right_ticks v i k es (λ w. judged w es) next
+right_gone v (Done Quits) es next = right_known [] (OnLined v (Done Quits) es) Ended (refl, refl) (λ lines f h. h.0)
+right_gone v (Peeks i) es next = right_peek v i es (judged (next_line v) es) (next (next_line v))
+
+pub right_judged : (es : List Item) (v : Walk) → Right (From v es) (judged v es)
+right_judged [] v = right_known [] (Run v []) Open (refl, refl) (λ lines f h. h.0)
+right_judged (Read e ∷ es) v = right_gone v (lined v.machine v.block e) es (λ w. right_judged es w)
+right_judged (Unread r ∷ es) v = right_known (Refused v.line r ∷ []) (Run v (Unread r ∷ es)) Lost (refl, refl) (λ lines f h. h.0)
+right_judged (Beyond ∷ es) v = right_known [] (Run v (Beyond ∷ es)) TooLong (refl, refl) (λ lines f h. h.0)

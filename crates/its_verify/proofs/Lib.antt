@@ -1,0 +1,11 @@
+mod BehindLaws
+pub mod LinesLaws
+pub mod PrintedLaws
+pub mod PaceLaws
+pub mod LicenceLaws
+pub mod RightLaws
+pub mod JudgeLaws
+pub mod VerdictLaws
+pub mod BoundedLaws
+pub mod PartsLaws
+mod Examples

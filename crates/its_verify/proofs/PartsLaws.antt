@@ -1,0 +1,98 @@
+-- The input in two parts: they are all of it; and a session with its END line, and a transcript behind it, are those parts.
+use Rattle.std.proofs.Common.{◌≡◌, ◌≤◌, ◌+◌, ◌-◌, ℕ, ltb, List, [], ◌∷◌, ◌++◌, length, refl, sym, ap, subst, ◌∙◌, inl, inr, arith, append_assoc}
+use Rattle.std.proofs.lemmas.Bool.{cases_Bool}
+use Rattle.std.specs.List.{AllByRecursion, concat}
+use Rattle.its_print.specs.Printing.{Line, text}
+use Rattle.its_print.specs.Sizes.{IsPrinted}
+use Rattle.its_session.specs.Events.{events_of, most_lines}
+use Rattle.its_plain.specs.Transcript.{Fate, Transcript}
+use Rattle.its_verify.specs.Lines.{before_lf, lines_in}
+use Rattle.its_verify.specs.Verified.{Judged, Parts, Both, LongLine, TooMany, is_end_line, most_session_bytes, parts_from, verified}
+use Rattle.its_verify.specs.Judge.{Yes}
+use Rattle.its_verify.proofs.BoundedLaws.{has_yes}
+use Rattle.its_verify.proofs.LinesLaws.{AllWhole, concat_lines, first_line}
+use Rattle.its_verify.proofs.PrintedLaws.{text_lines}
+use Rattle.its_verify.proofs.VerdictLaws.{lines_accepted, written_accepted}
+
+-- what holds of each of the ways in which a line goes holds of it
+each_way : (P : Parts → Type 0) (n : ℕ) (session line : List ℕ) (lines : List (List ℕ)) → P TooMany → P (LongLine n) → P (Both (session ++ line) n lines)
+    → P (parts_from (n + 1) (session ++ line) lines) → P (parts_from n session (line ∷ lines))
+each_way P n session line lines many long end more =
+    elim (cases_Bool (ltb most_lines n)) [
+      | inl past ↦ rw past many
+      | inr few ↦
+          elim (cases_Bool (ltb most_session_bytes (length (before_lf line)))) [
+            | inl longer ↦ rw (few, longer) long
+            | inr short ↦
+                elim (cases_Bool (is_end_line line)) [
+                  | inl last ↦ rw (few, short, last) end
+                  | inr other ↦ rw (few, short, other) more
+                ]
+          ]
+    ]
+
+-- where both parts are found, they are all of the bytes
+abbrev AllOf : List ℕ → Parts → Type 0
+AllOf bytes (Both session count texts) = session ++ concat texts ≡ bytes
+AllOf bytes _ = Unit {0}
+
+all_of : (n : ℕ) (session : List ℕ) (lines : List (List ℕ)) → AllOf (session ++ concat lines) (parts_from n session lines)
+all_of n session [] = tt
+all_of n session (line ∷ lines) =
+    each_way (AllOf (session ++ (line ++ concat lines))) n session line lines tt tt (append_assoc session line (concat lines))
+    (subst (λ (bytes : List ℕ). AllOf bytes (parts_from (n + 1) (session ++ line) lines)) (append_assoc session line (concat lines)) (all_of (n + 1) (session ++ line) lines))
+
+pub both_whole : (bytes session : List ℕ) (count : ℕ) (texts : List (List ℕ)) → parts_from 1 [] (lines_in bytes) ≡ Both session count texts → session ++ concat texts ≡ bytes
+both_whole bytes session count texts is = subst (AllOf bytes) is (subst (λ (bs : List ℕ). AllOf bs (parts_from 1 [] (lines_in bytes))) (concat_lines bytes) (all_of 1 [] (lines_in bytes)))
+
+-- a session that ends with its END line, and some lines behind it
+abbrev Behind : List (List ℕ) → Parts → Parts → Type 0
+Behind more (Both session count []) p = p ≡ Both session count more
+Behind more _ p = Unit {0}
+
+at_end_line : (session : List ℕ) (n : ℕ) (lines more : List (List ℕ)) → Behind more (Both session n lines) (Both session n (lines ++ more))
+at_end_line session n [] more = refl
+at_end_line session n (line ∷ lines) more = tt
+
+behind : (n : ℕ) (session : List ℕ) (lines more : List (List ℕ)) → Behind more (parts_from n session lines) (parts_from n session (lines ++ more))
+behind n session [] more = tt
+behind n session (line ∷ lines) more =
+    elim (cases_Bool (ltb most_lines n)) [
+      | inl past ↦ rw past tt
+      | inr few ↦
+          elim (cases_Bool (ltb most_session_bytes (length (before_lf line)))) [
+            | inl longer ↦ rw (few, longer) tt
+            | inr short ↦
+                elim (cases_Bool (is_end_line line)) [
+                  | inl last ↦ rw (few, short, last) (at_end_line (session ++ line) n lines more)
+                  | inr other ↦ rw (few, short, other) (behind (n + 1) (session ++ line) lines more)
+                ]
+          ]
+    ]
+
+-- the lines of bytes whose lines all have their LF, and of bytes behind them
+lines_behind : (texts : List (List ℕ)) (rest : List ℕ) → AllWhole texts → lines_in (concat texts ++ rest) ≡ texts ++ lines_in rest
+lines_behind [] rest h = refl
+lines_behind (text ∷ texts) rest h =
+    rw (append_assoc text (concat texts) rest) (first_line text (concat texts ++ rest) h.0 ∙ ap (λ ts. text ∷ ts) (lines_behind texts rest h.1))
+
+-- a session that ends with its END line and has no line that is too long
+pub record IsSession (session : List ℕ) (count : ℕ) : Type 0 where
+  pub ends : parts_from 1 [] (lines_in session) ≡ Both session count []
+  pub whole : AllWhole (lines_in session)
+
+pub session_parts : (session rest : List ℕ) (count : ℕ) → IsSession session count → parts_from 1 [] (lines_in (session ++ rest)) ≡ Both session count (lines_in rest)
+session_parts session rest count s =
+    let is : lines_in (session ++ rest) ≡ lines_in session ++ lines_in rest =
+    ap (λ bs. lines_in (bs ++ rest)) (sym (concat_lines session)) ∙ lines_behind (lines_in session) rest s.whole in
+    rw is (subst (λ (p : Parts). Behind (lines_in rest) p (parts_from 1 [] (lines_in session ++ lines_in rest))) s.ends (behind 1 [] (lines_in session) (lines_in rest)))
+
+-- a transcript that is printed, behind its session, is answered Yes, where there is room for both
+pub session_verified : (session : List ℕ) (count : ℕ) (lines : List Line) (fate : Fate) → IsSession session count → AllByRecursion IsPrinted lines
+    → Transcript (events_of session) lines fate → count + length lines ≤ most_lines → verified (session ++ text lines) ≡ Judged (Yes (length lines))
+unfolding verified
+session_verified session count lines fate s printed h room =
+    let es = events_of session in
+    let accepted = lines_accepted es (text lines) (written_accepted es lines fate printed h) in
+    let many : length (lines_in (text lines)) ≡ length lines = text_lines lines printed in
+    rw (session_parts session (text lines) count s) (has_yes (most_lines - count) es (lines_in (text lines)) (omega (arith, many, room)) accepted ∙ ap (λ k. Judged (Yes k)) many)

@@ -1,0 +1,67 @@
+-- The judge: it goes along the events and the lines at once, and tells the first line that is not licensed. That it accepts exactly
+-- what is a transcript by the rules of `Transcript`, and else tells the first line that is none of one, are laws
+-- (proofs/VerdictLaws).
+use Rattle.std.specs.Prelude.{ℕ, ◌+◌, Option, Some, None, List, [], ◌∷◌}
+use Rattle.its_word.specs.Item.{Item, Read, Unread, Beyond}
+use Rattle.its_print.specs.Printing.{Line, Refused}
+use Rattle.its_plain.specs.OperatorLines.{Lined, Done, Peeks, lined}
+use Rattle.its_plain.specs.Operator.{Refuses, Does, Ticks, Quits}
+use Rattle.its_plain.specs.Transcript.{Walk, at_start, walk_after, next_line}
+use Rattle.its_verify.specs.Lines.{is_peek, lines_in, says}
+use Rattle.its_verify.specs.Letters.{if_so, ticked}
+
+-- what the judge says
+pub data Verdict : Type 0 where
+  -- they are a transcript, of so many lines
+  Yes : ℕ → Verdict
+  -- the number of the first line that is not licensed; where one is missing, one more than there are
+  No : ℕ → Verdict
+
+-- what is said of the lines that are left, after so many that are licensed
+abbrev pub Judge : Type 0
+Judge = ℕ → List (List ℕ) → Verdict
+
+-- nothing more is shown
+abbrev pub at_end : Judge
+at_end n [] = Yes n
+at_end n (text ∷ texts) = No (n + 1)
+
+-- one line is shown, and its text tells how to go on, or is not licensed
+abbrev pub led_by : {X : Type 0} → Option X → (X → Judge) → Judge
+led_by None next n texts = No (n + 1)
+led_by (Some x) next n texts = next x (n + 1) texts
+
+abbrev pub led : {X : Type 0} → (List ℕ → Option X) → (X → Judge) → Judge
+led reads next n [] = No (n + 1)
+led reads next n (text ∷ texts) = led_by (reads text) next n texts
+
+-- the bytes, where they say the line, and where they may stand for a peek
+abbrev pub saying : Line → List ℕ → Option (List ℕ)
+saying line bytes = if_so (says line bytes) bytes
+
+abbrev pub peeking : List ℕ → Option (List ℕ)
+peeking bytes = if_so (is_peek bytes) bytes
+
+-- these lines are shown
+abbrev pub told : List Line → Judge → Judge
+told [] next = next
+told (line ∷ lines) next = led (saying line) (λ text. told lines next)
+
+-- a line of the session that comes to this
+abbrev pub gone : Walk → Lined → (Walk → Judge) → Judge
+gone v (Done (Refuses r)) next = told (Refused v.line r ∷ []) at_end
+gone v (Done (Does n out touched b)) next = told out (next (next_line (walk_after v n touched b)))
+gone v (Done (Ticks i k)) next = led (ticked v i k) (λ w. next (next_line w))
+gone v (Done Quits) next = at_end
+gone v (Peeks i) next = led peeking (λ text. next (next_line v))
+
+-- the events from here on
+abbrev pub judged : Walk → List Item → Judge
+judged v [] = at_end
+judged v (Read e ∷ es) = gone v (lined v.machine v.block e) (λ w. judged w es)
+judged v (Unread r ∷ es) = told (Refused v.line r ∷ []) at_end
+judged v (Beyond ∷ es) = at_end
+
+-- what the judge says of the bytes of a transcript
+unfoldable pub verdict : List Item → List ℕ → Verdict
+verdict es bytes = judged at_start es 0 (lines_in bytes)

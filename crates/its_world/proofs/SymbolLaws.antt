@@ -1,0 +1,63 @@
+-- The lists of symbols: empty ones, one that gains a symbol, and those that are emptied.
+use Rattle.std.specs.Prelude.{◌≡◌, ◌≢◌, ◌≤◌, ◌<◌, ◌+◌, ℕ, zero, suc, Bool, true, false, Option, Some, None, List, [], ◌∷◌, ◌++◌, length, slice_index_or, slice_set, refl}
+use Rattle.std.proofs.Common.{sym, ◌∙◌, ap, arith, inl, inr}
+use Rattle.std.proofs.lemmas.Bool.{cases_eq, cases_lt}
+use Rattle.std.proofs.lemmas.List.{get_or-set_same, get_or-set_other, get_or_past}
+use Rattle.its_word.specs.ArrayVec.{ArrayVec}
+use Rattle.its_word.specs.Only.{Only}
+use Rattle.its_plain.specs.Change.{symbols_left}
+use Rattle.its_plain.specs.Machine.{Symbol}
+use Rattle.its_world.specs.World.{no_symbols, symbols_at}
+
+pub none_more : (xs : List (ArrayVec Symbol)) (x : ArrayVec Symbol) → x.items ≡ [] → ((k : ℕ) → symbols_at xs k ≡ []) → (k : ℕ) → symbols_at (xs ++ x ∷ []) k ≡ []
+none_more [] x e h zero = e
+none_more [] x e h (suc k) = refl
+none_more (y ∷ xs) x e h zero = h zero
+none_more (y ∷ xs) x e h (suc k) = none_more xs x e (λ i. h (suc i)) k
+
+-- one list is another
+pub list_here : (xs : List (ArrayVec Symbol)) (s : ℕ) (x : ArrayVec Symbol) (ss : List Symbol) → s < length xs → x.items ≡ ss → Only (symbols_at xs) (symbols_at (slice_set xs s x)) s ss
+list_here xs s x ss l e = record {
+  here = ap (λ (y : ArrayVec Symbol). y.items) (get_or-set_same xs s x no_symbols l) ∙ e;
+  others = λ k ne. ap (λ (y : ArrayVec Symbol). y.items) (get_or-set_other xs s k x no_symbols ne);
+}
+
+-- the lists below n are done
+pub record Forgotten (gone : ℕ → Bool) (old new : List (ArrayVec Symbol)) (n : ℕ) : Type 0 where
+  pub done : (k : ℕ) → k < n → symbols_at new k ≡ symbols_left (gone k) (symbols_at old k)
+  pub rest : (k : ℕ) → n ≤ k → symbols_at new k ≡ symbols_at old k
+
+pub forget_start : (gone : ℕ → Bool) (old : List (ArrayVec Symbol)) → Forgotten gone old old 0
+forget_start gone old = record { done = λ k l. absurd (omega arith); rest = λ k l. refl }
+
+pub forget_gone : (gone : ℕ → Bool) (old new : List (ArrayVec Symbol)) (n : ℕ) (x : ArrayVec Symbol) → n < length new → x.items ≡ [] → gone n ≡ true → Forgotten gone old new n
+    → Forgotten gone old (slice_set new n x) (n + 1)
+forget_gone gone old new n x l e g c = record {
+  done = λ k less. elim (cases_eq k n) [
+    | inl is ↦ ap (symbols_at (slice_set new n x)) is ∙ (list_here new n x [] l e).here ∙ sym (ap (λ (b : Bool). symbols_left b (symbols_at old k)) (ap gone is ∙ g))
+    | inr ne ↦ (list_here new n x [] l e).others k ne ∙ c.done k (omega arith)
+  ];
+  rest = λ k less. (list_here new n x [] l e).others k (λ is. omega arith) ∙ c.rest k (omega arith);
+}
+
+pub forget_kept : (gone : ℕ → Bool) (old new : List (ArrayVec Symbol)) (n : ℕ) → gone n ≡ false → Forgotten gone old new n → Forgotten gone old new (n + 1)
+forget_kept gone old new n g c = record {
+  done = λ k less. elim (cases_eq k n) [
+    | inl is ↦ c.rest k (omega arith) ∙ sym (ap (λ (b : Bool). symbols_left b (symbols_at old k)) (ap gone is ∙ g))
+    | inr ne ↦ c.done k (omega arith)
+  ];
+  rest = λ k less. c.rest k (omega arith);
+}
+
+left_none : (b : Bool) (ss : List Symbol) → ss ≡ [] → symbols_left b ss ≡ []
+left_none true ss e = refl
+left_none false ss e = e
+
+pub forget_end : (gone : ℕ → Bool) (old new : List (ArrayVec Symbol)) (n : ℕ) → length old ≤ n → Forgotten gone old new n
+    → (k : ℕ) → symbols_at new k ≡ symbols_left (gone k) (symbols_at old k)
+forget_end gone old new n l c k = elim (cases_lt k n) [
+  | inl less ↦ c.done k less
+  | inr past ↦
+      let none : symbols_at old k ≡ [] = ap (λ (y : ArrayVec Symbol). y.items) (get_or_past old k no_symbols (omega arith)) in
+      c.rest k past ∙ none ∙ sym (left_none (gone k) (symbols_at old k) none)
+]

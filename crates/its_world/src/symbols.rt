@@ -1,0 +1,37 @@
+ghost use Rattle.std.specs.Prelude.{◌≡◌, ℕ, [], vec_len, IfOk, is_none};
+ghost use Rattle.its_word.specs.Limits.{slots};
+ghost use Rattle.its_jobs.specs.Table.{job_at};
+ghost use Rattle.its_plain.specs.Change.{symbols_left};
+ghost use Rattle.its_world.specs.World.{symbols_at};
+
+use arrayvec::ArrayVec;
+use its_jobs::Jobs;
+use its_word::{NoMemory, SLOTS, Word};
+use std::alloc::Global;
+
+/// So many lists without a symbol.
+#[tactic(auto, using(crate::proofs::SymbolLaws::none_more))]
+pub fn no_symbols(alloc: Global, n: usize) -> Result<Vec<ArrayVec<(Word, u32), 512>>, NoMemory>
+    ensures length { IfOk result (λ v. vec_len v ≡ n) }
+    ensures none { IfOk result (λ v. (k : ℕ) → symbols_at v.items k ≡ []) }
+{
+    let mut v = Vec::with_capacity(alloc, n).map_err(|_| NoMemory)?;
+    for _k in 0..n {
+        v.push(ArrayVec::new()).map_err(|_| NoMemory)?;
+    }
+    Ok(v)
+}
+
+/// Takes the symbols from the slots that have no job.
+#[tactic(auto, using(crate::proofs::SymbolLaws::forget_start, crate::proofs::SymbolLaws::forget_gone, crate::proofs::SymbolLaws::forget_kept, crate::proofs::SymbolLaws::forget_end))]
+pub fn forget_removed(lists: &mut Vec<ArrayVec<(Word, u32), 512>>, jobs: &Jobs)
+    requires length { vec_len lists.old ≡ slots }
+    ensures length { vec_len lists.new ≡ slots }
+    ensures left { (k : ℕ) → symbols_at lists.new.items k ≡ symbols_left (is_none (job_at jobs.now k)) (symbols_at lists.old.items k) }
+{
+    for slot in 0..SLOTS {
+        if jobs.job(slot as u8).is_none() {
+            lists[slot].clear();
+        }
+    }
+}
