@@ -11,12 +11,12 @@ from .words import DIGITS
 
 # What stands behind the first word of each line: n a number, name a name, con a console or `-`
 FORMS = {"VERSION": "n", "LOAD": "name name con", "RO": "n", "SYM": "name n", "GO": "n", "FILE": "name name name", "EOF": "",
-         "TICK": "n n", "TYPE": "n n", "DRAIN": "n n", "CLOCK": "n", "INT": "n n n", "EXAM": "n n n", "STATE": "n",
+         "TICK": "n n", "RUN": "n n", "TYPE": "n n", "DRAIN": "n n", "CLOCK": "n", "INT": "n n n", "EXAM": "n n n", "STATE": "n",
          "DEPOSIT": "n n n", "STOP": "n", "CONT": "n", "PEEK": "n", "DIR": "name", "SHOW": "name name name", "END": ""}
 
 # How each line is written
 WRITTEN = {"VERSION": "VERSION v", "LOAD": "LOAD u j c", "RO": "RO p", "SYM": "SYM name a", "GO": "GO a",
-           "FILE": "FILE d x y", "EOF": "EOF", "TICK": "TICK s n", "TYPE": "TYPE c and 1 to 32 bytes", "DRAIN": "DRAIN c n",
+           "FILE": "FILE d x y", "EOF": "EOF", "TICK": "TICK s n", "RUN": "RUN n q", "TYPE": "TYPE c and 1 to 32 bytes", "DRAIN": "DRAIN c n",
            "CLOCK": "CLOCK n", "INT": "INT s v w", "EXAM": "EXAM s a n", "STATE": "STATE s", "DEPOSIT": "DEPOSIT s a w",
            "STOP": "STOP s", "CONT": "CONT s", "PEEK": "PEEK s", "DIR": "DIR d", "SHOW": "SHOW d x y", "END": "END",
            "a/": "a/ and 1 to 16 words", "/": "/ and 1 to 16 words"}
@@ -24,6 +24,7 @@ WRITTEN = {"VERSION": "VERSION v", "LOAD": "LOAD u j c", "RO": "RO p", "SYM": "S
 # The numbers with a range of their own: which word of the line, least, most, and what it is
 RANGES = {"VERSION": [(1, 1, 2, "the version")], "RO": [(1, 0, 0o377, "a page")], "SYM": [(2, 0, 0o777777, "an address")],
           "GO": [(1, 0, 0o777777, "an address")], "TICK": [(2, 1, 0o1000, "the count of ticks")],
+          "RUN": [(1, 1, 0o1000, "the count of turns"), (2, 1, 0o100, "the count of ticks of a turn")],
           "DRAIN": [(2, 1, 0o100, "the count of bytes")],
           "EXAM": [(2, 0, 0o777777, "an address"), (3, 1, 0o10, "the count of words")],
           "DEPOSIT": [(2, 0, 0o777777, "an address")]}
@@ -78,7 +79,7 @@ def wrong_place(line: Line) -> Optional[Cause]:
         return None
     if line.kind == "VERSION" and line.number > 1:
         return Cause("not allowed here: VERSION stands in line 1 alone", starts(line)[0])
-    if line.kind in ("RO", "SYM") and line.version == 1:
+    if line.kind in ("RO", "SYM", "RUN") and line.version == 1:
         return Cause("%s lines are of version 2 of the session text: line 1 has to be VERSION 2" % line.kind, starts(line)[0])
     wanted = inside.get(line.kind, "")
     if wanted == line.block:

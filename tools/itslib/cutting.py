@@ -1,9 +1,9 @@
 """Cutting a session between two of its ticks, and putting lines in there."""
 
-from dataclasses import dataclass
-from typing import List
+from dataclasses import dataclass, field
+from typing import Dict, List
 
-from .session import Exchange, Line, runs_of
+from .session import Exchange, Line, runs_of, unrolled
 from .words import number
 
 
@@ -17,18 +17,25 @@ class Tick:
     of: int            # how many ticks its line asks for
     letter: str
     next: str          # the letter of the next tick of its line; nothing for the last one
+    earlier: List[str] = field(default_factory=list)     # the turns of the same RUN line before its own, as TICK lines
+    later: List[str] = field(default_factory=list)       # and those behind it
 
 
 def ticks_of(told: List[Exchange]) -> List[Tick]:
     """All ticks of a session that was run."""
     ticks: List[Tick] = []
-    for exchange in told:
+    turns: Dict[int, List[str]] = {}        # the TICK lines, by the number of the line that asks for them
+    for exchange in unrolled(told):
         if exchange.line.kind != "TICK" or exchange.reason:
             continue
         letters = "".join(letter * count for count, letter in runs_of(exchange))
+        own = turns.setdefault(exchange.line.number, [])
         for place, letter in enumerate(letters, 1):
             ticks.append(Tick(len(ticks) + 1, exchange.line.number, number(exchange.words[1]), place, len(letters), letter,
-                              letters[place:place + 1]))
+                              letters[place:place + 1], list(own)))
+        own.append(exchange.line.text)
+    for tick in ticks:
+        tick.later = turns[tick.line][len(tick.earlier) + 1:]
     return ticks
 
 
@@ -39,10 +46,10 @@ def text_of(lines: List[str]) -> bytes:
 
 def before(lines: List[Line], tick: Tick) -> List[str]:
     """The lines of a session up to and with a tick."""
-    return [line.text for line in lines[:tick.line - 1]] + ["TICK %o %o" % (tick.slot, tick.place)]
+    return [line.text for line in lines[:tick.line - 1]] + tick.earlier + ["TICK %o %o" % (tick.slot, tick.place)]
 
 
 def behind(lines: List[Line], tick: Tick) -> List[str]:
     """The rest of a session, behind a tick."""
     rest = ["TICK %o %o" % (tick.slot, tick.of - tick.place)] if tick.of > tick.place else []
-    return rest + [line.text for line in lines[tick.line:] if not line.ended]
+    return rest + tick.later + [line.text for line in lines[tick.line:] if not line.ended]

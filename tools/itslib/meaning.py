@@ -4,7 +4,7 @@ there."""
 from dataclasses import dataclass, field
 from typing import Callable, Dict, List, Set
 
-from .session import Exchange, peek_of, runs_of, state_of
+from .session import Exchange, peek_of, runs_of, state_of, turns_of
 from .words import (CALLS, DIGITS, ERRORS, FATAL, LETTERS, PENDING, STATES, ascii_of, byte_pointer, call_name, character,
                     flags_of, held, number, pc_of, pc_word, pending, short, signed, sixbit, typed)
 
@@ -151,6 +151,19 @@ def says_ticks(exchange: Exchange, known: Known) -> List[str]:
         count_of(n, *LETTERS[letter]) for n, letter in sums if n)]
 
 
+def says_run(exchange: Exchange, known: Known) -> List[str]:
+    """RUN n q: each of its turns"""
+    turns = turns_of(exchange)
+    if not turns:
+        return ["no job runs: nobody has a turn"]
+    said = [one for turn in turns[:RUNS] for one in says_ticks(turn, known)]
+    if len(turns) > RUNS:
+        said.append("and %s more" % count_of(len(turns) - RUNS, "turn"))
+    if len(turns) < number(exchange.line.words[1]):
+        said.append("it ends early: no job runs then")
+    return said
+
+
 def says_type(exchange: Exchange, known: Known) -> List[str]:
     """TYPE c and bytes"""
     line, dropped = exchange.line, number(exchange.words[2])
@@ -288,7 +301,7 @@ def says_show(exchange: Exchange, known: Known) -> List[str]:
 
 SAYS: Dict[str, Callable[[Exchange, Known], List[str]]] = {
     "VERSION": says_version, "LOAD": says_load, "a/": says_words, "RO": says_read_only, "SYM": says_symbol,
-    "GO": says_go, "FILE": says_file, "TICK": says_ticks, "TYPE": says_type, "DRAIN": says_drain, "CLOCK": says_clock,
+    "GO": says_go, "FILE": says_file, "TICK": says_ticks, "RUN": says_run, "TYPE": says_type, "DRAIN": says_drain, "CLOCK": says_clock,
     "INT": says_interrupt, "EXAM": says_exam, "STATE": says_state, "DEPOSIT": says_deposit, "STOP": says_stop, "CONT": says_cont, "PEEK": says_peek, "DIR": says_dir, "SHOW": says_show}
 
 

@@ -13,7 +13,7 @@ from .layout import LONGEST, Shape
 from .moments import GROUP, MOST, Cut, Look, Looks, Moment, moments_of
 from .picture import BROKEN, KINDS, LETTERS, Picture, Spot, picture, symbol
 from .program import TOP, run_all
-from .session import Exchange, Transcript, Wrong, exchanges, lines_of, split
+from .session import Exchange, Transcript, Wrong, exchanges, lines_of, split, unrolled
 from .story import Mark, Run, Story, tell
 from .words import CALLS, FLAGS, PENDING, STATES
 
@@ -110,15 +110,16 @@ def run_session(name: str, session: str, watch: List[Tuple[int, int]]) -> Record
     if outcome.problem:
         raise Wrong("%s: %s" % (name, outcome.problem))
     told = exchanges(name, lines_of(session), Transcript("its transcript", outcome.transcript))
-    moments = moments_of(told)
+    turned = unrolled(told)
+    moments = moments_of(turned)
     if all(moment.refused or moment.line == 0 for moment in moments):
         last = told[-1]
         why = "line %d is refused as %s" % (last.line.number, last.reason) if last.reason else "it has no lines"
         raise Wrong("%s: there is nothing to show: %s" % (name, why))
     if len(moments) > MOST:
         raise Wrong("%s: a page has at most %d moments, and this session has %d" % (name, MOST, len(moments)))
-    Cut(name, told, moments).run()
-    looks = Looks(name, told, moments, watch)
+    Cut(name, turned, moments).run()
+    looks = Looks(name, turned, moments, watch)
     return Recording(told, moments, looks.run(), looks.whole)
 
 

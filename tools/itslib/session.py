@@ -4,7 +4,7 @@ Nothing here decides whether a line is a good one: the program does (docs/SESSIO
 transcript that the program wrote for it, and where the two do not fit that is said.
 """
 
-from dataclasses import dataclass, field
+from dataclasses import dataclass, field, replace
 from typing import Dict, List, Optional, Tuple
 
 from .words import number
@@ -14,9 +14,10 @@ class Wrong(Exception):
     """What was given is wrong, with one line that says why."""
 
 
-# How many words each line has, its first word included, and the letter of its answer. TYPE has any number of bytes.
+# How many words each line has, its first word included, and the letter of its answer. TYPE has any number of bytes. The answer of
+# RUN is a T line for each of its turns, of which there may be none.
 LINES = {"VERSION": (2, ""), "LOAD": (4, "J"), "RO": (2, ""), "SYM": (3, ""), "GO": (2, ""), "FILE": (4, ""), "EOF": (1, ""),
-         "TICK": (3, "T"), "TYPE": (0, "Y"), "DRAIN": (3, "D"), "CLOCK": (2, ""), "INT": (4, ""), "EXAM": (4, "E"),
+         "TICK": (3, "T"), "RUN": (3, ""), "TYPE": (0, "Y"), "DRAIN": (3, "D"), "CLOCK": (2, ""), "INT": (4, ""), "EXAM": (4, "E"),
          "STATE": (2, "S"), "DEPOSIT": (4, ""), "STOP": (2, ""), "CONT": (2, ""), "PEEK": (2, "P"), "DIR": (2, "R"), "SHOW": (4, "W"), "END": (1, "")}
 
 # The lines that name a job's slot as their first number and need a job there
@@ -119,6 +120,16 @@ class Transcript:
         self.at += 1
         return words
 
+    def turns(self, line: Line) -> int:
+        """How many of the next lines may be turns of a RUN line."""
+        most, ticks, count = number(line.words[1]), number(line.words[2]), 0
+        for one in self.lines[self.at:self.at + most]:
+            words = one.split(" ")
+            if words[0] != "T" or len(words) < 3 or words[2][-1] == "-" or sum(number(run[:-1]) for run in words[2:]) != ticks:
+                break
+            count += 1
+        return count
+
     def refusal(self, line_number: int) -> str:
         """The reason, where the line of this number is refused here, else nothing."""
         words = self.words()
@@ -143,22 +154,61 @@ def take_answer(transcript: Transcript, line: Line) -> None:
 
 
 def exchanges(name: str, lines: List[Line], transcript: Transcript) -> List[Exchange]:
-    """Each line of the session up to its END, its end or the line that is refused, with its answer."""
-    told = []
-    for line in lines:
+    """Each line of the session up to its END, its end or the line that is refused, with its answer. A RUN may end early, which
+    the transcript does not say: its turns are as many as may be, so that all lines fit."""
+    told: List[Exchange] = []
+    fewer: List[Tuple[int, int]] = []       # RUN lines that may have had fewer turns: their places in `told`, and how many
+    complaint, turns = None, None
+    while True:
+        try:
+            match(name, lines, transcript, told, fewer, turns)
+            return told
+        except Wrong as problem:
+            complaint = complaint or problem
+            if not fewer:
+                raise complaint
+            place, turns = fewer.pop()
+            transcript.at = told[place].at
+            del told[place:]
+
+
+def match(name: str, lines: List[Line], transcript: Transcript, told: List[Exchange], fewer: List[Tuple[int, int]],
+          turns: Optional[int]) -> None:
+    """Goes on with the lines behind those that are told. The first, where it is a RUN that is tried again, has so many turns."""
+    for line in lines[len(told):]:
         start = transcript.at
         try:
             reason = transcript.refusal(line.number)
             if not reason and line.kind not in ("", "a/", "/"):
                 take_answer(transcript, line)
+            if not reason and line.kind == "RUN":
+                turns = transcript.turns(line) if turns is None else turns
+                if turns:
+                    fewer.append((len(told), turns - 1))
+                transcript.at += turns
         except (Wrong, ValueError, IndexError) as problem:
             raise misfit(name, line, problem)
         told.append(Exchange(line, transcript.lines[start:transcript.at], reason, start))
+        turns = None
         if reason or line.kind == "END":
             break
     if transcript.words():
         raise Wrong("%s: nothing in %s asks for this line" % (transcript.place(), name))
-    return told
+
+
+def turns_of(exchange: Exchange) -> List[Exchange]:
+    """The turns of a RUN line, each as a TICK of its slot with the number of the line."""
+    turns, line = [], exchange.line
+    for at, answer in enumerate(exchange.answer):
+        words = ["TICK", answer.split(" ")[1], line.words[2]]
+        turns.append(Exchange(replace(line, text=" ".join(words), words=words, kind="TICK"), [answer], "", exchange.at + at))
+    return turns
+
+
+def unrolled(told: List[Exchange]) -> List[Exchange]:
+    """The lines of a session, with the turns of each RUN line in its place."""
+    return [one for exchange in told
+            for one in (turns_of(exchange) if exchange.line.kind == "RUN" and not exchange.reason else [exchange])]
 
 
 def misfit(name: str, line: Line, problem: Exception) -> Wrong:

@@ -3,7 +3,7 @@
 from dataclasses import dataclass, field
 from typing import Dict, List, Optional, Union
 
-from .session import (JOB_LINES, Exchange, Transcript, Wrong, exchanges, lines_of, misfit, peek_of, runs_of,
+from .session import (JOB_LINES, Exchange, Transcript, Wrong, exchanges, lines_of, misfit, peek_of, runs_of, unrolled,
                       state_of)
 from .words import call_name, held, number, pc_of, short, sixbit, typed
 
@@ -211,14 +211,14 @@ def tell_one(story: Story, exchange: Exchange) -> None:
         tell_ticks(story, exchange)
     elif line.kind in JOB_LINES:
         tell_job_line(story, exchange, tip)
-    elif line.kind not in ("", "VERSION", "a/", "RO", "SYM", "/", "EOF", "END"):
+    elif line.kind not in ("", "VERSION", "a/", "RO", "SYM", "/", "EOF", "RUN", "END"):
         tell_other_line(story, exchange, tip)
 
 
 def tell(name: str, told: List[Exchange], first: int = 1, last: int = 1 << 30) -> Story:
     """The story of a session, from its lines with their answers; or of its lines from the first to the last."""
     story = Story(first, last)
-    for exchange in told:
+    for exchange in unrolled(told):
         try:
             tell_one(story, exchange)
         except (Wrong, ValueError, IndexError, TypeError) as problem:

@@ -31,6 +31,13 @@ impl Cells {
     {
         self.cells.get(k as usize).copied()
     }
+
+    /// All of them.
+    pub fn as_slice(&self) -> &[(u32, Word)]
+        ensures { result.now ≡ self.now }
+    {
+        self.cells.as_slice()
+    }
 }
 
 /// The words that were given so far, by address. Contracts see them as a list of pairs, in rising

@@ -7,6 +7,7 @@ use Rattle.its_plain.specs.Machine.{Whole}
 use Rattle.its_stepped.specs.State.{State}
 use Rattle.its_stepped.specs.Tick.{helps, helped_if}
 use Rattle.its_stepped.specs.Unwind.{help}
+use Rattle.its_world.specs.Filed.{Ringed}
 use Rattle.its_world.specs.Tidy.{Tidy}
 use Rattle.its_world.specs.World.{mark_of, state_of}
 use Rattle.its_world.specs.declared.world.World.{World}
@@ -20,8 +21,8 @@ module _ (old new : World) (whole : IsStore old.files) (tidy : Tidy old) (files 
   stays : Stays old.files new.files old.jobs
   stays = helped_stays old.files new.files old.jobs whole tidy.across files
 
-  pub help_tidy : Tidy new
-  help_tidy = store_tidy old new stays core jobs alarms clock symbols tidy
+  pub help_tidy : (Ringed old → Ringed new) → Tidy new
+  help_tidy ringed = store_tidy old new stays core jobs alarms clock symbols ringed tidy
 
   pub help_state : new.frames ≡ old.frames → new.consoles ≡ old.consoles → new.holders ≡ old.holders → new.version ≡ old.version → state_of new ≡ help (state_of old)
   help_state frames consoles holders version =

@@ -11,3 +11,5 @@ pub mod OneByteLaws
 pub mod LoadLaws
 pub mod FramesLaws
 pub mod StepsLaws
+pub mod RunningLaws
+pub mod WaitingLaws

@@ -1,5 +1,5 @@
 -- Units of one job, one after another: so many of them are so many ticks.
-use Rattle.std.specs.Prelude.{if◌then◌else◌, ◌≡◌, ◌≢◌, ◌==◌, ◌<◌, ◌≤◌, ◌+◌, ℕ, zero, suc, Bool, true, false, Option, Some, None, IfSome, is_some, List, ◌∷◌, replicate, option_map, slice_set, vec_len, refl}
+use Rattle.std.specs.Prelude.{length, if◌then◌else◌, ◌≡◌, ◌≢◌, ◌==◌, ◌<◌, ◌≤◌, ◌+◌, ℕ, zero, suc, Bool, true, false, Option, Some, None, IfSome, is_some, List, ◌∷◌, replicate, option_map, slice_set, vec_len, refl}
 use Rattle.std.proofs.Common.{sym, ◌∙◌, ap, subst, arith, inl, inr}
 use Rattle.std.proofs.lemmas.Bool.{cases_Bool}
 use Rattle.std.proofs.lemmas.Bool.Decides.{nat_tests}
@@ -34,13 +34,15 @@ use Rattle.its_world.specs.declared.world.World.{World}
 use Rattle.its_world.proofs.BareLaws.{bare_outcome, deliverable_bare, unit_bare}
 use Rattle.its_world.proofs.StateLaws.{raw_job, state_is, turned_state}
 use Rattle.its_world.proofs.StorageLaws.{frame_is}
-use Rattle.its_world.proofs.WorldLaws.{core_becomes, job_becomes}
+use Rattle.its_world.proofs.WorldLaws.{core_becomes}
 use Rattle.its_pclsr.proofs.ApartLaws.{becomes_pages, tidy_put}
 use Rattle.its_operator.specs.Kept.{Kept}
 use Rattle.its_operator.proofs.RegisterLaws.{raw_is, raw_is_none}
 use Rattle.its_monitor.specs.Ticks.{Left, UnitIn, UnitsMade, after_unit, after_units, due_of, is_made, left, left_by, unit_due, unit_unless}
 use Rattle.its_monitor.proofs.TickLaws.{Lasts, lasts}
-use Rattle.its_monitor.proofs.UserLaws.{becomes_raw, job_put, put_same, put_then}
+use Rattle.its_monitor.proofs.UserLaws.{becomes_raw, job_put, put_same, put_then, user_becomes}
+use Rattle.its_world.specs.Rings.{heads}
+use Rattle.its_operator.proofs.WaitsLaws.{kept_is}
 
 -- n units and then one more are n + 1
 pub units_start : (l : Left) → after_units 0 (Some l) ≡ Some l
@@ -133,7 +135,7 @@ turn_alike w s q h g f is e = state_is _ _
     (λ k. refl)
     refl
 
-turn_nothing : (w : State) (s : ℕ) (q : Whole) (h : Whole → Whole) (f : Option Frame) → w.raw.jobs s ≡ Some q → h q ≡ q → w.frames s ≡ f → w ≡ turn w s h f
+pub turn_nothing : (w : State) (s : ℕ) (q : Whole) (h : Whole → Whole) (f : Option Frame) → w.raw.jobs s ≡ Some q → h q ≡ q → w.frames s ≡ f → w ≡ turn w s h f
 turn_nothing w s q h f is e free = state_is _ _
     (machine_is _ _
     (λ k. elim (cases_Bool (k == s)) [
@@ -216,26 +218,26 @@ units_ticked zero w s p l m r e =
 units_ticked (suc n) w s p l m r e = then_ticked n w s p l m r (λ v k h u. units_ticked n v s p k m h u) (after_unit (Some l)) refl e
 
 -- what the units of a slot's job make of a world
-pub units_in : (w : World) (s : ℕ) (c : Cores) (i j : Job) (named : vec_len w.symbols ≡ slots) (places : vec_len w.alarms ≡ slots) (size : vec_len w.frames ≡ slots) (count : vec_len w.consoles ≡ 8) (limit : w.jobs.limit ≡ limit_of w.version)
-    (number : (1 ≤ w.version) × (w.version ≤ 2)) (n k : ℕ) → job_at w.jobs s ≡ Some i
+pub units_in : (w : World) (s : ℕ) (c : Cores) (i j : Job) (named : vec_len w.symbols ≡ slots) (places : vec_len w.alarms ≡ slots) (size : vec_len w.frames ≡ slots) (count : vec_len w.consoles ≡ 8) (nodes : w.rings.nodes ≡ vec_len w.frames) (heads_are : length w.rings.lists ≡ heads) (limit : w.jobs.limit ≡ limit_of w.version)
+    (number : (1 ≤ w.version) × (w.version ≤ 2)) (n k : ℕ) → frame_at w.frames.items s ≡ None → job_at w.jobs s ≡ Some i
     → ((k : ℕ) → k ≢ s → core_at c k ≡ core_at w.core k) → c.reserved ≡ w.core.reserved → c.frames ≡ w.core.frames
     → after_units n (Some (left (core_at w.core s) i)) ≡ Some (left (core_at c s) j) → (n < k → after_unit (Some (left (core_at c s) j)) ≡ None)
-    → UnitsMade w (record w { core = c; jobs = record w.jobs { jobs = slice_set w.jobs.jobs s (Some j) }; lists = named; alarm_places = places; slots = size; consoles_count = count; limited = limit; numbered = number }) s n k
-units_in w s c i j named places size count limit number n k had others reserved pages is most = record {
+    → UnitsMade w (record w { core = c; jobs = record w.jobs { jobs = slice_set w.jobs.jobs s (Some j) }; lists = named; alarm_places = places; slots = size; consoles_count = count; ring_nodes = nodes; ring_lists = heads_are; limited = limit; numbered = number }) s n k
+units_in w s c i j named places size count nodes heads_are limit number n k none had others reserved pages is most = record {
   job = i;
   left = left (core_at c s) j;
   had = had;
   is = is;
   becomes = put_then w (record w { core = c }) _ s (core_at c s) j
-      (core_becomes w (record w { core = c }) s (core_at c s) (record { here = refl; others = others }) reserved pages refl refl refl refl refl refl refl refl refl)
-      (job_becomes (record w { core = c }) _ s j (job_put w.jobs s i j had) refl refl refl refl refl refl refl refl refl refl);
+      (core_becomes w (record w { core = c }) s (core_at c s) (record { here = refl; others = others }) reserved pages refl refl refl refl refl refl refl refl refl refl)
+      (user_becomes (record w { core = c }) _ s j none (job_put w.jobs s i j had) refl refl refl refl refl refl refl refl refl refl refl);
   most = most;
 }
 
-pub units_same : (w : World) (s : ℕ) (c : Cores) (i j : Job) (named : vec_len w.symbols ≡ slots) (places : vec_len w.alarms ≡ slots) (size : vec_len w.frames ≡ slots) (count : vec_len w.consoles ≡ 8) (limit : w.jobs.limit ≡ limit_of w.version)
+pub units_same : (w : World) (s : ℕ) (c : Cores) (i j : Job) (named : vec_len w.symbols ≡ slots) (places : vec_len w.alarms ≡ slots) (size : vec_len w.frames ≡ slots) (count : vec_len w.consoles ≡ 8) (nodes : w.rings.nodes ≡ vec_len w.frames) (heads_are : length w.rings.lists ≡ heads) (limit : w.jobs.limit ≡ limit_of w.version)
     (number : (1 ≤ w.version) × (w.version ≤ 2)) → job_at w.jobs s ≡ Some i → (c ≡ w.core) × (j ≡ i)
-    → record w { core = c; jobs = record w.jobs { jobs = slice_set w.jobs.jobs s (Some j) }; lists = named; alarm_places = places; slots = size; consoles_count = count; limited = limit; numbered = number } ≡ w
-units_same w s c i j named places size count limit number had e = put_same w s c i j named places size count limit number had e.0 e.1
+    → record w { core = c; jobs = record w.jobs { jobs = slice_set w.jobs.jobs s (Some j) }; lists = named; alarm_places = places; slots = size; consoles_count = count; ring_nodes = nodes; ring_lists = heads_are; limited = limit; numbered = number } ≡ w
+units_same w s c i j named places size count nodes heads_are limit number had e = put_same w s c i j named places size count nodes heads_are limit number had e.0 e.1
 
 -- one unit, where no interrupt is deliverable
 quiet_of : (o : Option Job) (j : Job) → o ≡ Some j → IfSome o (λ i. deliverable i ≡ false) → deliverable j ≡ false
@@ -366,12 +368,11 @@ steps_kept old new s n kept e tidy =
       plain = record { forest = kept.forest; addressed = record { each = kept.addressed }; consoled = record { each = kept.consoled }; timed = kept.timed; alarmed = kept.alarmed };
     } in
     let h : Holds (state_of new) = subst Holds (sym e) (ticks_hold n (state_of old) s start) in
-    record {
-      sound = h.sound;
-      forest = h.plain.forest;
-      tidy = tidy;
-      addressed = h.plain.addressed.each;
-      consoled = h.plain.consoled.each;
-      timed = h.plain.timed;
-      alarmed = h.plain.alarmed;
-    }
+    kept_is new
+    h.sound
+    h.plain.forest
+    tidy
+    h.plain.addressed.each
+    h.plain.consoled.each
+    h.plain.timed
+    h.plain.alarmed

@@ -40,6 +40,7 @@ use Rattle.its_operator.specs.Kept.{Kept}
 use Rattle.its_monitor.specs.Ticks.{ticked}
 use Rattle.its_word.proofs.FreeLaws.{none_is}
 use Rattle.its_world.proofs.StorageLaws.{frame_is}
+use Rattle.its_operator.proofs.WaitsLaws.{kept_is}
 
 -- the state and the letter of a tick
 pub state_ticked : (t : Ticked) (w : State) (p : Pace) → t ≡ ticked w p → w ≡ t.state
@@ -65,7 +66,7 @@ tick_some w s j b is h =
 pub turn_stopped : (w : World) (s : ℕ) (j : Job) → job_at w.jobs s ≡ Some j → j.stopped ≡ true → tick (state_of w) s ≡ ticked (state_of w) Off
 turn_stopped w s j is h = tick_some w s j true is h
 
-runs_by : (w : World) (s : ℕ) (j : Job) (f : Option Frame) (t : Ticked) → job_at w.jobs s ≡ Some j → j.stopped ≡ false → frame_at w.frames.items s ≡ f
+pub runs_by : (w : World) (s : ℕ) (j : Job) (f : Option Frame) (t : Ticked) → job_at w.jobs s ≡ Some j → j.stopped ≡ false → frame_at w.frames.items s ≡ f
     → IfSome (raw_at w.files w.core w.jobs w.alarms.items s) (λ q. tick_in (state_of w) s q f ≡ t) → tick (state_of w) s ≡ t
 runs_by w s j f t is runs fr row =
     let q : Whole = raw_job w.files (core_at w.core s) j (superior_at w.jobs s) (alarm_at w.alarms.items s) in
@@ -137,12 +138,11 @@ pub tick_kept : (old new : World) (s : ℕ) (p : Pace) → Kept old → tick (st
 tick_kept old new s p kept e tidy =
     let h : Lasts (plain (state_of old)) = record { forest = kept.forest; addressed = record { each = kept.addressed }; consoled = record { each = kept.consoled }; timed = kept.timed; alarmed = kept.alarmed } in
     let l = lasts (plain (state_of old)) (plain (state_of new)) s p h (tick_licensed old new s p kept e) in
-    record {
-      sound = subst (λ (t : Ticked). Sound t.state) e (tick_sound (state_of old) s kept.sound (given_of old s kept));
-      forest = l.forest;
-      tidy = tidy;
-      addressed = l.addressed.each;
-      consoled = l.consoled.each;
-      timed = l.timed;
-      alarmed = l.alarmed;
-    }
+    kept_is new
+    (subst (λ (t : Ticked). Sound t.state) e (tick_sound (state_of old) s kept.sound (given_of old s kept)))
+    l.forest
+    tidy
+    l.addressed.each
+    l.consoled.each
+    l.timed
+    l.alarmed

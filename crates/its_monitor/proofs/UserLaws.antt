@@ -42,7 +42,9 @@ use Rattle.its_world.specs.World.{symbols_at, alarm_at, bare, chan_of, chans_of,
 use Rattle.its_world.specs.declared.world.World.{World}
 use Rattle.its_world.proofs.BareLaws.{bare_delivered, bare_outcome, delivered_bare, delivered_channels, delivered_stops, unit_bare, unit_channels}
 use Rattle.its_world.proofs.StateLaws.{kept_turn, raw_job, raw_some, state_is, turned_state}
-use Rattle.its_world.proofs.WorldLaws.{core_becomes, job_becomes, then_becomes}
+use Rattle.its_world.proofs.WorldLaws.{core_becomes, then_becomes, alike, frames_still}
+use Rattle.its_world.proofs.PlaceLaws.{user_ringed}
+use Rattle.its_world.specs.Rings.{heads}
 use Rattle.its_pclsr.proofs.ApartLaws.{tidy_put}
 use Rattle.its_operator.specs.Kept.{Kept}
 use Rattle.its_operator.proofs.RegisterLaws.{raw_is}
@@ -78,6 +80,27 @@ put_then old mid new s c j a b = then_becomes old mid new s c c (job_at old.jobs
     (subst (λ (x : Option Frame). Becomes mid new s (core_at mid.core s) (Some j) x (clear_at old.core s)) a.frame.here
     (subst (λ (x : Option ℕ). Becomes mid new s (core_at mid.core s) (Some j) (frame_at mid.frames.items s) x) a.reserved.here b)))
 
+-- a job that is in no call is written, and waits in no list
+pub user_becomes : (old new : World) (s : ℕ) (j : Job) → frame_at old.frames.items s ≡ None → Only (job_at old.jobs) (job_at new.jobs) s (Some j) → new.jobs.superiors ≡ old.jobs.superiors
+    → new.core ≡ old.core → new.frames ≡ old.frames → new.consoles ≡ old.consoles → new.holders ≡ old.holders → new.files ≡ old.files → new.clock ≡ old.clock → new.version ≡ old.version → new.symbols ≡ old.symbols → new.alarms ≡ old.alarms → new.rings ≡ old.rings
+    → JobBecomes old new s j
+user_becomes old new s j none job superiors core frames consoles holders files clock version symbols alarms rings = record {
+  core = alike _ _ s (λ k. ap (λ t. core_at t k) core);
+  job = job;
+  superiors = superiors;
+  frame = alike _ _ s (λ k. ap (λ t. frame_at t.items k) frames);
+  reserved = alike _ _ s (λ k. ap (λ t. clear_at t k) core);
+  pages = ap (λ t. t.frames) core ∙ sym (frames_still (clear_at old.core s) s old.core.frames);
+  consoles = consoles;
+  holders = holders;
+  files = files;
+  clock = clock;
+  version = version;
+  symbols = symbols;
+  alarms = alarms;
+  ringed = user_ringed old new s job.others none frames consoles holders clock rings;
+}
+
 -- a unit, on the core and the registers in place
 pub job_put : (t : Table) (s : ℕ) (i j : Job) → job_at t s ≡ Some i → Only (job_at t) (job_at (record t { jobs = slice_set t.jobs s (Some j) })) s (Some j)
 job_put t s i j h = record {
@@ -96,18 +119,22 @@ put_back t s j h = ap (slice_set t.jobs s) (sym h) ∙ set-get_or t.jobs s None
 numbers_are : {v : ℕ} (a b : (1 ≤ v) × (v ≤ 2)) → a ≡ b
 numbers_are a b = λ t. (le_prop a.0 b.0 t, le_prop a.1 b.1 t)
 
-pub put_same : (w : World) (s : ℕ) (c : Cores) (i j : Job) (named : vec_len w.symbols ≡ slots) (places : vec_len w.alarms ≡ slots) (size : vec_len w.frames ≡ slots) (count : vec_len w.consoles ≡ 8) (limit : w.jobs.limit ≡ limit_of w.version) (number : (1 ≤ w.version) × (w.version ≤ 2)) → job_at w.jobs s ≡ Some i
+pub put_same : (w : World) (s : ℕ) (c : Cores) (i j : Job) (named : vec_len w.symbols ≡ slots) (places : vec_len w.alarms ≡ slots) (size : vec_len w.frames ≡ slots) (count : vec_len w.consoles ≡ 8) (nodes : w.rings.nodes ≡ vec_len w.frames) (heads_are : length w.rings.lists ≡ heads) (limit : w.jobs.limit ≡ limit_of w.version) (number : (1 ≤ w.version) × (w.version ≤ 2)) → job_at w.jobs s ≡ Some i
     → c ≡ w.core → j ≡ i
-    → record w { core = c; jobs = record w.jobs { jobs = slice_set w.jobs.jobs s (Some j) }; lists = named; alarm_places = places; slots = size; consoles_count = count; limited = limit; numbered = number } ≡ w
-put_same w s c i j named places size count limit number had core job =
-    ap (λ (x : vec_len w.symbols ≡ slots). record w { core = c; jobs = record w.jobs { jobs = slice_set w.jobs.jobs s (Some j) }; lists = x; alarm_places = places; slots = size; consoles_count = count; limited = limit; numbered = number })
+    → record w { core = c; jobs = record w.jobs { jobs = slice_set w.jobs.jobs s (Some j) }; lists = named; alarm_places = places; slots = size; consoles_count = count; ring_nodes = nodes; ring_lists = heads_are; limited = limit; numbered = number } ≡ w
+put_same w s c i j named places size count nodes heads_are limit number had core job =
+    ap (λ (x : vec_len w.symbols ≡ slots). record w { core = c; jobs = record w.jobs { jobs = slice_set w.jobs.jobs s (Some j) }; lists = x; alarm_places = places; slots = size; consoles_count = count; ring_nodes = nodes; ring_lists = heads_are; limited = limit; numbered = number })
     (ℕ_set (vec_len w.symbols) slots named w.lists)
-    ∙ ap (λ (x : vec_len w.alarms ≡ slots). record w { core = c; jobs = record w.jobs { jobs = slice_set w.jobs.jobs s (Some j) }; alarm_places = x; slots = size; consoles_count = count; limited = limit; numbered = number })
+    ∙ ap (λ (x : vec_len w.alarms ≡ slots). record w { core = c; jobs = record w.jobs { jobs = slice_set w.jobs.jobs s (Some j) }; alarm_places = x; slots = size; consoles_count = count; ring_nodes = nodes; ring_lists = heads_are; limited = limit; numbered = number })
     (ℕ_set (vec_len w.alarms) slots places w.alarm_places)
-    ∙ ap (λ (x : vec_len w.frames ≡ slots). record w { core = c; jobs = record w.jobs { jobs = slice_set w.jobs.jobs s (Some j) }; slots = x; consoles_count = count; limited = limit; numbered = number })
+    ∙ ap (λ (x : vec_len w.frames ≡ slots). record w { core = c; jobs = record w.jobs { jobs = slice_set w.jobs.jobs s (Some j) }; slots = x; consoles_count = count; ring_nodes = nodes; ring_lists = heads_are; limited = limit; numbered = number })
     (ℕ_set (vec_len w.frames) slots size w.slots)
-    ∙ ap (λ (x : vec_len w.consoles ≡ 8). record w { core = c; jobs = record w.jobs { jobs = slice_set w.jobs.jobs s (Some j) }; consoles_count = x; limited = limit; numbered = number })
+    ∙ ap (λ (x : vec_len w.consoles ≡ 8). record w { core = c; jobs = record w.jobs { jobs = slice_set w.jobs.jobs s (Some j) }; consoles_count = x; ring_nodes = nodes; ring_lists = heads_are; limited = limit; numbered = number })
     (ℕ_set (vec_len w.consoles) 8 count w.consoles_count)
+    ∙ ap (λ (x : w.rings.nodes ≡ vec_len w.frames). record w { core = c; jobs = record w.jobs { jobs = slice_set w.jobs.jobs s (Some j) }; ring_nodes = x; ring_lists = heads_are; limited = limit; numbered = number })
+    (ℕ_set w.rings.nodes (vec_len w.frames) nodes w.ring_nodes)
+    ∙ ap (λ (x : length w.rings.lists ≡ heads). record w { core = c; jobs = record w.jobs { jobs = slice_set w.jobs.jobs s (Some j) }; ring_lists = x; limited = limit; numbered = number })
+    (ℕ_set (length w.rings.lists) heads heads_are w.ring_lists)
     ∙ ap (λ (x : w.jobs.limit ≡ limit_of w.version). record w { core = c; jobs = record w.jobs { jobs = slice_set w.jobs.jobs s (Some j) }; limited = x; numbered = number })
     (ℕ_set w.jobs.limit (limit_of w.version) limit w.limited)
     ∙ ap (λ (x : (1 ≤ w.version) × (w.version ≤ 2)). record w { core = c; jobs = record w.jobs { jobs = slice_set w.jobs.jobs s (Some j) }; numbered = x })

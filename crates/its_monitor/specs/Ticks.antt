@@ -22,6 +22,7 @@ use Rattle.its_plain.specs.Interrupt.{deliverable}
 use Rattle.its_plain.specs.Unit.{Outcome, Changed, Faulted, Called, unit}
 use Rattle.its_stepped.specs.State.{State}
 use Rattle.its_stepped.specs.Tick.{Ticked}
+use Rattle.its_world.specs.Filed.{Blocked}
 use Rattle.its_world.specs.World.{frame_at, Becomes}
 use Rattle.its_world.specs.declared.world.World.{World}
 use Rattle.its_monitor.specs.declared.reach.Reach.{Reach}
@@ -109,6 +110,16 @@ is_decoded (Some (frames.Entered f)) = true
 is_decoded (Some (frames.Parsed f)) = true
 is_decoded (Some (frames.Asked f)) = true
 is_decoded _ = false
+
+-- a frame of a call that was found not ready
+abbrev pub is_waiting : Option Frame → Bool
+is_waiting (Some (frames.Waiting f)) = true
+is_waiting _ = false
+
+-- the call of slot s was found not ready, and the slot stands in a wait ring, whether it belongs there or not
+pub record InRing (w : World) (s : ℕ) : Type 0 where
+  pub waits : is_waiting (frame_at w.frames.items s) ≡ true
+  pub stands : Blocked w s
 
 -- how many quarters are clear of the page of a call that is held
 abbrev pub page_held : Option Frame → Option ℕ

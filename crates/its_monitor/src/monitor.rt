@@ -1,4 +1,4 @@
-ghost use Rattle.std.specs.Prelude.{◌≡◌, ◌<◌, ◌≤◌, ◌↔◌, ◌/◌, ◌+◌, ◌^◌, ◌∷◌, [], true, false, None, Some, is_some, length, option_map, replicate, slice_get, Ok, IsTrue, IfSome, IfOk, OnOk, OnErr, IfErr};
+ghost use Rattle.std.specs.Prelude.{◌≡◌, ◌<◌, ◌≤◌, ◌⊎◌, ◌↔◌, ◌/◌, ◌+◌, ◌^◌, ◌∷◌, [], true, false, None, Some, is_some, length, option_map, replicate, slice_get, Ok, IsTrue, IfSome, IfOk, OnOk, OnErr, IfErr};
 ghost use Rattle.its_word.specs.Console.{most_waiting};
 ghost use Rattle.its_word.specs.Core.{word_at};
 ghost use Rattle.its_core.specs.Cores.{clear_at};
@@ -14,12 +14,14 @@ ghost use Rattle.its_plain.specs.OperatorClock.{clocked, due_slots};
 ghost use Rattle.its_plain.specs.OperatorSymbols.{symbol_kept};
 ghost use Rattle.its_plain.specs.OperatorVersion.{versioned};
 ghost use Rattle.its_plain.specs.OperatorConsoles.{typed, drained};
+ghost use Rattle.its_plain.specs.Unrolled.{runs};
 ghost use Rattle.its_stepped.specs.State.{plain, no_state};
 ghost use Rattle.its_stepped.specs.Unwind.{help, unwound};
 ghost use Rattle.its_plain.specs.Licence.{Licensed};
 ghost use Rattle.its_stepped.specs.Tick.{tick};
 ghost use Rattle.its_stepped.specs.Lines.{paces_of, peeked, ticked};
-ghost use Rattle.its_world.specs.World.{state_of, frames_after};
+ghost use Rattle.its_world.specs.Filed.{Blocked};
+ghost use Rattle.its_world.specs.World.{frame_at, state_of, frames_after};
 ghost use Rattle.its_pclsr.specs.Apart.{CoresOff};
 ghost use Rattle.its_pclsr.specs.Pages.{pages_unwound};
 ghost use Rattle.its_operator.specs.Filing.{length_if, word_if};
@@ -27,7 +29,7 @@ ghost use Rattle.its_operator.specs.Kept.{FileRefused, Kept, Lands, Loads, Refus
 ghost use Rattle.its_operator.specs.Rung.{roused};
 ghost use Rattle.its_monitor.specs.Beside.{AllBeside};
 ghost use Rattle.its_monitor.specs.Pages.{pages_ticked};
-ghost use Rattle.its_monitor.specs.Ticks.{unit_due};
+ghost use Rattle.its_monitor.specs.Ticks.{InRing, is_waiting, unit_due};
 ghost use Rattle.its_monitor.specs.Loading.{no_console, LoadRefused};
 
 use super::ticks;
@@ -52,18 +54,21 @@ impl Monitor {
         Ok(Monitor { world })
     }
 
-    /// A tick of a slot, and its letter.
+    /// A tick of a slot, and its letter. Where the call of the slot was found not ready it is `w` exactly where the slot stands in a
+    /// wait ring. It may also be called where the slot stands there wrongly: then it is `w`, and nothing changes.
     #[tactic(auto, using(crate::proofs::OneByteLaws::tick_once))]
     pub fn tick(&mut self, slot: u8) -> Pace
         requires slot { slot < slots }
-        requires kept { Kept self.old.world }
-        ensures state { state_of self.new.world ≡ (tick (state_of self.old.world) slot).state }
-        ensures pace { result ≡ (tick (state_of self.old.world) slot).pace }
-        ensures licensed { Licensed (plain (state_of self.old.world)) slot result (plain (state_of self.new.world)) }
-        ensures once { result ≡ Pace.Step → EachByte (plain (state_of self.old.world)) slot (plain (state_of self.new.world)) }
-        ensures others { AllBeside (state_of self.old.world) (state_of self.new.world) slot result }
-        ensures pages { self.new.world.core.frames ≡ pages_ticked (state_of self.old.world) slot self.old.world.core.frames }
-        ensures kept { Kept self.new.world }
+        requires can { Kept self.old.world ⊎ InRing self.old.world slot }
+        ensures state { Kept self.old.world → state_of self.new.world ≡ (tick (state_of self.old.world) slot).state }
+        ensures pace { Kept self.old.world → result ≡ (tick (state_of self.old.world) slot).pace }
+        ensures licensed { Kept self.old.world → Licensed (plain (state_of self.old.world)) slot result (plain (state_of self.new.world)) }
+        ensures once { Kept self.old.world → result ≡ Pace.Step → EachByte (plain (state_of self.old.world)) slot (plain (state_of self.new.world)) }
+        ensures others { Kept self.old.world → AllBeside (state_of self.old.world) (state_of self.new.world) slot result }
+        ensures pages { Kept self.old.world → self.new.world.core.frames ≡ pages_ticked (state_of self.old.world) slot self.old.world.core.frames }
+        ensures kept { Kept self.old.world → Kept self.new.world }
+        ensures ring { InRing self.old.world slot → (result ≡ Pace.Wait) × (self.new.world ≡ self.old.world) }
+        ensures waits { is_waiting (frame_at self.old.world.frames.items slot) ≡ true → ((result ≡ Pace.Wait) ↔ Blocked self.old.world slot) }
     {
         ticks::tick(&mut self.world, slot)
     }
@@ -323,6 +328,19 @@ impl Monitor {
         ensures refused { IfErr result (λ e. (e ≡ Refusal.NoJob) × ((state_of self.now.world).raw.jobs slot ≡ None) × ((plain (state_of self.now.world)).jobs slot ≡ None)) }
     {
         operator::peek(&self.world, slot)
+    }
+
+    /// Whether a slot has a job that is not stopped. It disturbs nobody: nothing changes.
+    #[tactic(auto, using(crate::proofs::RunningLaws::job_runs, crate::proofs::RunningLaws::empty_rests, its_stepped::proofs::UnrolledLaws::runs_plain))]
+    pub fn running(&self, slot: u8) -> bool
+        requires slot { slot < slots }
+        ensures raw { result ≡ runs (state_of self.now.world).raw slot }
+        ensures plain { result ≡ runs (plain (state_of self.now.world)) slot }
+    {
+        match self.world.jobs.job(slot) {
+            Some(job) => !job.stopped,
+            None => false,
+        }
     }
 
     /// One line of DIR: the k-th file of a directory, from 0; None past the last.

@@ -1,27 +1,62 @@
-ghost use Rattle.std.specs.Prelude.{◌≡◌, ◌<◌, ◌≤◌, ℕ, false, replicate};
+ghost use Rattle.std.specs.Prelude.{◌≡◌, ◌<◌, ◌≤◌, ◌⊎◌, ◌↔◌, ℕ, true, false, IsTrue, replicate};
 ghost use Rattle.its_word.specs.Limits.{slots};
 ghost use Rattle.its_world.specs.Tidy.{Tidy};
 ghost use Rattle.its_plain.specs.Licence.{Licensed};
 ghost use Rattle.its_stepped.specs.State.{plain};
 ghost use Rattle.its_stepped.specs.Tick.{tick as tick_of};
 ghost use Rattle.its_stepped.specs.Lines.{paces_of, ticked as so_many};
-ghost use Rattle.its_world.specs.World.{state_of};
+ghost use Rattle.its_world.specs.Filed.{Blocked};
+ghost use Rattle.its_world.specs.World.{frame_at, state_of};
 ghost use Rattle.its_operator.specs.Kept.{Kept};
 ghost use Rattle.its_monitor.specs.Beside.{AllBeside};
 ghost use Rattle.its_monitor.specs.Pages.{pages_ticked};
-ghost use Rattle.its_monitor.specs.Ticks.{ticked, unit_due};
+ghost use Rattle.its_monitor.specs.Ticks.{InRing, is_waiting, ticked, unit_due};
 
 use super::calls::in_call;
 use super::users::{deliver_to, make_unit, units_in_place};
+use its_frame::Frame;
 use its_ints::deliverable;
 use its_word::Pace;
 use its_world::World;
 
-/// A tick of a slot, and its letter. In user mode an interrupt is delivered where one is deliverable, and
-/// else a unit is made; inside a call the next of its steps is made. Nothing is done where the slot is empty
+/// A tick of a slot, and its letter. A slot whose call was found not ready and that stands in a wait ring waits on: its tick asks
+/// the ring alone.
+pub fn tick(w: &mut World, slot: u8) -> Pace
+    requires slot { slot < slots }
+    requires can { Kept w.old ⊎ InRing w.old slot }
+    ensures state { Kept w.old → state_of w.new ≡ (tick_of (state_of w.old) slot).state }
+    ensures pace { Kept w.old → result ≡ (tick_of (state_of w.old) slot).pace }
+    ensures licensed { Kept w.old → Licensed (plain (state_of w.old)) slot result (plain (state_of w.new)) }
+    ensures others { Kept w.old → AllBeside (state_of w.old) (state_of w.new) slot result }
+    ensures pages { Kept w.old → w.new.core.frames ≡ pages_ticked (state_of w.old) slot w.old.core.frames }
+    ensures kept { Kept w.old → Kept w.new }
+    ensures ring { InRing w.old slot → (result ≡ Pace.Wait) × (w.new ≡ w.old) }
+    ensures waits { is_waiting (frame_at w.old.frames.items slot) ≡ true → ((result ≡ Pace.Wait) ↔ Blocked w.old slot) }
+{
+    if waits_on(w, slot) {
+        return Pace::Wait;
+    }
+    go_on(w, slot)
+}
+
+/// Whether the call of a slot was found not ready, and the slot stands in a wait ring.
+fn waits_on(w: &World, slot: u8) -> bool
+    requires slot { slot < slots }
+    requires can { Kept w.now ⊎ InRing w.now slot }
+    ensures yes { IsTrue result → InRing w.now slot }
+    ensures no { result ≡ false → InRing w.now slot → ⊥ }
+{
+    match &w.frames[usize::from(slot)] {
+        Some(Frame::Waiting(_)) => w.is_blocked(slot),
+        _ => false,
+    }
+}
+
+/// A tick of a slot that stands where it belongs, and its letter. In user mode an interrupt is delivered where one is deliverable,
+/// and else a unit is made; inside a call the next of its steps is made. Nothing is done where the slot is empty
 /// or its job is stopped (`Off`).
 #[tactic(auto, using(crate::proofs::TickLaws::state_ticked, crate::proofs::TickLaws::pace_ticked, crate::proofs::TickLaws::tick_licensed, crate::proofs::BesideLaws::all_beside, crate::proofs::TickLaws::tick_kept))]
-pub fn tick(w: &mut World, slot: u8) -> Pace
+fn go_on(w: &mut World, slot: u8) -> Pace
     requires slot { slot < slots }
     requires kept { Kept w.old }
     ensures state { state_of w.new ≡ (tick_of (state_of w.old) slot).state }

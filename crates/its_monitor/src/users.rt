@@ -135,6 +135,7 @@ pub fn make_unit(w: &mut World, slot: u8) -> Pace
 fn unit_in_place(w: &mut World, slot: u8) -> bool
     requires slot { slot < slots }
     requires job { is_some (job_at w.old.jobs slot) ≡ true }
+    requires frame { frame_at w.old.frames.items slot ≡ None }
     requires pc { IfSome (job_at w.old.jobs slot) (λ j. j.pc < 2 ^ 18) }
     requires quiet { IfSome (job_at w.old.jobs slot) (λ j. deliverable j ≡ false) }
     ensures { UnitIn w.old w.new slot (λ j. unit_of (core_at w.old.core slot) j) result }
@@ -164,10 +165,12 @@ fn run_unit(core: &mut Core, slot: u8, job: &mut Job) -> bool
 }
 
 /// Makes up to n units of a slot's job on its core and its registers in place, as long as no interrupt is deliverable and
-/// none is a call; how many were made.
+/// none is a call; how many were made. It is not inlined: its loop is one, with every unit in it.
+#[inline(never)]
 pub fn units_in_place(w: &mut World, slot: u8, n: u32) -> u32
     requires slot { slot < slots }
     requires job { is_some (job_at w.old.jobs slot) ≡ true }
+    requires frame { frame_at w.old.frames.items slot ≡ None }
     requires pc { IfSome (job_at w.old.jobs slot) (λ j. j.pc < 2 ^ 18) }
     ensures few { result ≤ n }
     ensures made { UnitsMade w.old w.new slot result n }

@@ -23,6 +23,7 @@ use Rattle.its_operator.specs.Kept.{Kept, Lands, Refused}
 use Rattle.its_operator.specs.Rung.{roused, RangBelow}
 use Rattle.its_operator.proofs.RungLaws.{rang_all}
 use Rattle.its_operator.proofs.KeptLaws.{Made, made_sound, made_plain, made_forest, made_timed, made_alarmed}
+use Rattle.its_operator.proofs.WaitsLaws.{kept_is}
 
 raw_clock : (w : World) → (state_of w).raw.clock ≡ w.clock
 unfolding state_of
@@ -97,17 +98,15 @@ module _ (old new : World) (n : ℕ) (b : Bool) (kept : Kept old) (fits : b ≡ 
       ∙ ap Ok (sym machine_new)
 
   pub clock_kept : Tidy new → Kept new
-  clock_kept tidy = record {
-    sound = made_sound (state_of old) (state_of new) no_block (events.Clock n) kept.sound clock_line;
-    forest = made_forest (state_of old) (state_of new) no_block (events.Clock n) kept.sound kept.forest clock_line;
-    tidy = tidy;
-    addressed = λ k. subst (λ (m : Machine). IfSome (m.jobs k) (λ q. q.job.pc < 2 ^ 18)) (sym machine_new)
-        (rung_address (old.clock + n) (due (old.clock + n) (plain (state_of old)).jobs k) ((plain (state_of old)).jobs k) (kept.addressed k));
-    consoled = λ k. subst (λ (m : Machine). IfSome (m.jobs k) (λ q. IfSome q.job.console (λ c. c < 8))) (sym machine_new)
-        (rung_console (old.clock + n) (due (old.clock + n) (plain (state_of old)).jobs k) ((plain (state_of old)).jobs k) (kept.consoled k));
-    timed = made_timed (state_of old) (state_of new) no_block (events.Clock n) kept.sound kept.timed clock_line;
-    alarmed = made_alarmed (state_of old) (state_of new) no_block (events.Clock n) kept.sound kept.forest kept.alarmed clock_line;
-  }
+  clock_kept tidy =
+      kept_is new
+      (made_sound (state_of old) (state_of new) no_block (events.Clock n) kept.sound clock_line)
+      (made_forest (state_of old) (state_of new) no_block (events.Clock n) kept.sound kept.forest clock_line)
+      tidy
+      (λ k. subst (λ (m : Machine). IfSome (m.jobs k) (λ q. q.job.pc < 2 ^ 18)) (sym machine_new) (rung_address (old.clock + n) (due (old.clock + n) (plain (state_of old)).jobs k) ((plain (state_of old)).jobs k) (kept.addressed k)))
+      (λ k. subst (λ (m : Machine). IfSome (m.jobs k) (λ q. IfSome q.job.console (λ c. c < 8))) (sym machine_new) (rung_console (old.clock + n) (due (old.clock + n) (plain (state_of old)).jobs k) ((plain (state_of old)).jobs k) (kept.consoled k)))
+      (made_timed (state_of old) (state_of new) no_block (events.Clock n) kept.sound kept.timed clock_line)
+      (made_alarmed (state_of old) (state_of new) no_block (events.Clock n) kept.sound kept.forest kept.alarmed clock_line)
 
 -- the clock would come to its end
 pub clock_refused : (w : World) (n : ℕ) (b : Bool) → Kept w → b ≡ nat_lt (w.clock + n) clock_end → b ≡ false

@@ -34,6 +34,7 @@ use Rattle.its_stepped.proofs.RefusalLaws.{error_of, made_alike, added_alike}
 use Rattle.its_world.specs.World.{alarm_at, chan_of, raw_of, mark_of, state_of}
 use Rattle.its_world.specs.Tidy.{channel_by, Tidy}
 use Rattle.its_world.specs.declared.world.World.{World}
+use Rattle.its_world.proofs.PlaceLaws.{ringed_alike}
 use Rattle.its_world.proofs.RoomLaws.{full_on}
 use Rattle.its_world.proofs.KeptLaws.{Stays, made_stays, lengthened_stays, helped_stays}
 use Rattle.its_world.proofs.MarkLaws.{none_marked, mark_none, made_none, help_step}
@@ -44,23 +45,24 @@ use Rattle.its_operator.specs.Kept.{Kept, Lands, Helped, FileRefused, reason_of}
 use Rattle.its_operator.proofs.KeptLaws.{alike_kept, error_is, Made, made_sound, made_plain, made_forest, made_timed, made_alarmed}
 use Rattle.its_operator.proofs.LoadLaws.{and_ok}
 use Rattle.its_operator.proofs.StartLaws.{quiet_by}
+use Rattle.its_operator.proofs.WaitsLaws.{kept_is}
 
 -- the owed parts of a close are made
 module _ (old new : World) (whole : IsStore old.files) (kept : Kept old) (files : new.files ≡ helped old.files) (core : new.core ≡ old.core) (jobs : new.jobs ≡ old.jobs) where
   stays : Stays old.files new.files old.jobs
   stays = helped_stays old.files new.files old.jobs whole kept.tidy.across files
 
-  pub helped_is : new.frames ≡ old.frames → new.consoles ≡ old.consoles → new.holders ≡ old.holders → new.clock ≡ old.clock → new.alarms ≡ old.alarms → new.version ≡ old.version → new.symbols ≡ old.symbols → Helped old new
-  helped_is frames consoles holders clock alarms version symbols =
+  pub helped_is : new.frames ≡ old.frames → new.consoles ≡ old.consoles → new.holders ≡ old.holders → new.clock ≡ old.clock → new.alarms ≡ old.alarms → new.version ≡ old.version → new.symbols ≡ old.symbols → new.rings ≡ old.rings → Helped old new
+  helped_is frames consoles holders clock alarms version symbols rings =
       let state : state_of new ≡ help (state_of old) =
       store_state old new stays core jobs frames consoles holders clock alarms version symbols
       ∙ ap (λ t. record (state_of old) { raw = record (state_of old).raw { files = directory t }; mark = mark_of t }) files
       ∙ sym (help_step old.files whole (state_of old) (marks_are old) (files_are old)) in
       record {
-        alone = record { core = core; jobs = jobs; frames = frames; consoles = consoles; holders = holders; clock = clock; alarms = alarms; version = version; symbols = symbols; files = files };
+        alone = record { core = core; jobs = jobs; frames = frames; consoles = consoles; holders = holders; clock = clock; alarms = alarms; version = version; symbols = symbols; rings = rings; files = files };
         files = files;
         state = state;
-        kept = alike_kept old new kept (ap plain state ∙ help_plain (state_of old)) (subst Sound (sym state) (help_sound (state_of old) kept.sound)) (store_tidy old new stays core jobs alarms clock symbols kept.tidy);
+        kept = alike_kept old new kept (ap plain state ∙ help_plain (state_of old)) (subst Sound (sym state) (help_sound (state_of old) kept.sound)) (store_tidy old new stays core jobs alarms clock symbols (ringed_alike old new jobs frames consoles holders clock rings) kept.tidy);
       }
 
 -- the plain machine is the same then, and no close is half made
@@ -109,13 +111,13 @@ record Filed (old new : World) (fs : List File) : Type 0 where
   tidy : Tidy new
 
 module _ (old new : World) (fs : List File) (core : new.core ≡ old.core) (jobs : new.jobs ≡ old.jobs) (frames : new.frames ≡ old.frames)
-    (consoles : new.consoles ≡ old.consoles) (holders : new.holders ≡ old.holders) (clock : new.clock ≡ old.clock) (alarms : new.alarms ≡ old.alarms) (version : new.version ≡ old.version) (symbols : new.symbols ≡ old.symbols) where
+    (consoles : new.consoles ≡ old.consoles) (holders : new.holders ≡ old.holders) (clock : new.clock ≡ old.clock) (alarms : new.alarms ≡ old.alarms) (version : new.version ≡ old.version) (symbols : new.symbols ≡ old.symbols) (rings : new.rings ≡ old.rings) where
   filed : Tidy old → Stays old.files new.files old.jobs → old.files.mark ≡ None → new.files.mark ≡ None → directory new.files ≡ fs → Filed old new fs
   filed tidy stays none still files =
       let m : mark_of new.files ≡ (state_of old).mark = none_marked new.files still ∙ sym (marks_are old ∙ none_marked old.files none) in
       record {
         state = store_state old new stays core jobs frames consoles holders clock alarms version symbols ∙ (λ i. record (state_of old) { raw = record (state_of old).raw { files = files i }; mark = m i });
-        tidy = store_tidy old new stays core jobs alarms clock symbols tidy;
+        tidy = store_tidy old new stays core jobs alarms clock symbols (ringed_alike old new jobs frames consoles holders clock rings) tidy;
       }
 
 filed_lands : (old new : World) (fs : List File) (r : Result Machine Reason) → Filed old new fs → r ≡ Ok (with_files (state_of old).raw fs) → Lands (state_of old) (state_of new) r
@@ -126,15 +128,15 @@ filed_lands old new fs r f is = record {
 
 -- where only the files change, a line keeps what holds between calls
 files_kept : (e : Event) (b : Block) (old new : World) → Kept old → Made (state_of old) (state_of new) b e → plain (state_of new) ≡ with_files (plain (state_of old)) (plain (state_of new)).files → Tidy new → Kept new
-files_kept e b old new kept made is tidy = record {
-  sound = made_sound (state_of old) (state_of new) b e kept.sound made;
-  forest = made_forest (state_of old) (state_of new) b e kept.sound kept.forest made;
-  tidy = tidy;
-  addressed = λ k. subst (λ (m : Machine). IfSome (m.jobs k) (λ q. q.job.pc < 2 ^ 18)) (sym is) (kept.addressed k);
-  consoled = λ k. subst (λ (m : Machine). IfSome (m.jobs k) (λ q. IfSome q.job.console (λ c. c < 8))) (sym is) (kept.consoled k);
-  timed = made_timed (state_of old) (state_of new) b e kept.sound kept.timed made;
-  alarmed = made_alarmed (state_of old) (state_of new) b e kept.sound kept.forest kept.alarmed made;
-}
+files_kept e b old new kept made is tidy =
+    kept_is new
+    (made_sound (state_of old) (state_of new) b e kept.sound made)
+    (made_forest (state_of old) (state_of new) b e kept.sound kept.forest made)
+    tidy
+    (λ k. subst (λ (m : Machine). IfSome (m.jobs k) (λ q. q.job.pc < 2 ^ 18)) (sym is) (kept.addressed k))
+    (λ k. subst (λ (m : Machine). IfSome (m.jobs k) (λ q. IfSome q.job.console (λ c. c < 8))) (sym is) (kept.consoled k))
+    (made_timed (state_of old) (state_of new) b e kept.sound kept.timed made)
+    (made_alarmed (state_of old) (state_of new) b e kept.sound kept.forest kept.alarmed made)
 
 alone_is : (m n : Machine) (r : Result Machine Reason) → r ≡ Ok n → FilesAlone m r → n ≡ with_files m n.files
 alone_is m n r e h = subst (FilesAlone m) e h
@@ -154,10 +156,10 @@ module _ (old new : World) (id d x y : ℕ) (kept : Kept old) (none : old.files.
     (free : entry_at old.files id ≡ None) (made : new.files ≡ with_file old.files id (names_of d x y)) (entry : Only (entry_at old.files) (entry_at new.files) id (Some (Standing (names_of d x y) 0)))
     (words : Only (words_at old.files) (words_at new.files) id []) (files : directory new.files ≡ directory old.files ++ new_file (names_of d x y) ∷ [])
     (core : new.core ≡ old.core) (jobs : new.jobs ≡ old.jobs) (frames : new.frames ≡ old.frames)
-    (consoles : new.consoles ≡ old.consoles) (holders : new.holders ≡ old.holders) (clock : new.clock ≡ old.clock) (alarms : new.alarms ≡ old.alarms) (version : new.version ≡ old.version) (symbols : new.symbols ≡ old.symbols) where
+    (consoles : new.consoles ≡ old.consoles) (holders : new.holders ≡ old.holders) (clock : new.clock ≡ old.clock) (alarms : new.alarms ≡ old.alarms) (version : new.version ≡ old.version) (symbols : new.symbols ≡ old.symbols) (rings : new.rings ≡ old.rings) where
   made_filed : Filed old new (directory old.files ++ new_file (names_of d x y) ∷ [])
   made_filed =
-      filed old new (directory old.files ++ new_file (names_of d x y) ∷ []) core jobs frames consoles holders clock alarms version symbols kept.tidy
+      filed old new (directory old.files ++ new_file (names_of d x y) ∷ []) core jobs frames consoles holders clock alarms version symbols rings kept.tidy
       (made_stays old.files new.files old.jobs id kept.tidy.across (names_of d x y) [] free made entry words) none (ap (λ (s : Store). s.mark) made ∙ none) files
 
   pub made_lands : Lands (state_of old) (state_of new) (file_made (state_of old).raw (names_of d x y))
@@ -236,10 +238,10 @@ module _ (w : World) (whole : IsStore w.files) (kept : Kept w) (none : w.files.m
   module _ (new : World) (x : ℕ) (made : new.files ≡ with_word w.files id x) (entry : Same (entry_at w.files) (entry_at new.files))
       (words : Only (words_at w.files) (words_at new.files) id (words_at w.files id ++ x ∷ [])) (files : directory new.files ≡ with_changed (names_at w.files id) (longer x) (directory w.files))
       (core : new.core ≡ w.core) (jobs : new.jobs ≡ w.jobs) (frames : new.frames ≡ w.frames)
-      (consoles : new.consoles ≡ w.consoles) (holders : new.holders ≡ w.holders) (clock : new.clock ≡ w.clock) (alarms : new.alarms ≡ w.alarms) (version : new.version ≡ w.version) (symbols : new.symbols ≡ w.symbols) where
+      (consoles : new.consoles ≡ w.consoles) (holders : new.holders ≡ w.holders) (clock : new.clock ≡ w.clock) (alarms : new.alarms ≡ w.alarms) (version : new.version ≡ w.version) (symbols : new.symbols ≡ w.symbols) (rings : new.rings ≡ w.rings) where
     added_filed : Filed w new (with_changed (names_at w.files id) (longer x) (directory w.files))
     added_filed =
-        filed w new (with_changed (names_at w.files id) (longer x) (directory w.files)) core jobs frames consoles holders clock alarms version symbols kept.tidy
+        filed w new (with_changed (names_at w.files id) (longer x) (directory w.files)) core jobs frames consoles holders clock alarms version symbols rings kept.tidy
         (lengthened_stays w.files new.files w.jobs id kept.tidy.across x (words_at w.files id ++ x ∷ []) file made entry words) none (ap (λ (s : Store). s.mark) made ∙ none) files
 
     pub added_lands : store_is_full w.files.stored id ≡ false → Lands (state_of w) (state_of new) (word_added (state_of w).raw (names_at w.files id) x)

@@ -38,6 +38,7 @@ use Rattle.its_pclsr.specs.Apart.{CoresOff}
 use Rattle.its_pclsr.proofs.ApartLaws.{off_one, off_then}
 use Rattle.its_world.proofs.StorageLaws.{raw_has}
 use Rattle.its_word.proofs.FreeLaws.{none_is}
+use Rattle.its_operator.proofs.WaitsLaws.{kept_is}
 
 some_seen : (f : Option Frame) (o : Option Whole) → is_some (option_map (seen f) o) ≡ is_some o
 some_seen f (Some q) = refl
@@ -66,15 +67,15 @@ unwound_has old new s kept e = alike_has old new s (unwound_same old new s kept 
 
 -- the same plain machine, and what else holds between calls
 pub alike_kept : (old new : World) → Kept old → plain (state_of new) ≡ plain (state_of old) → Sound (state_of new) → Tidy new → Kept new
-alike_kept old new kept same sound tidy = record {
-  sound = sound;
-  forest = subst Forest (sym same) kept.forest;
-  tidy = tidy;
-  addressed = λ k. subst (λ (m : Machine). IfSome (m.jobs k) (λ q. q.job.pc < 2 ^ 18)) (sym same) (kept.addressed k);
-  consoled = λ k. subst (λ (m : Machine). IfSome (m.jobs k) (λ q. IfSome q.job.console (λ c. c < 8))) (sym same) (kept.consoled k);
-  timed = subst (λ (m : Machine). m.clock < clock_end) (sym same) kept.timed;
-  alarmed = subst Alarmed (sym same) kept.alarmed;
-}
+alike_kept old new kept same sound tidy =
+    kept_is new
+    sound
+    (subst Forest (sym same) kept.forest)
+    tidy
+    (λ k. subst (λ (m : Machine). IfSome (m.jobs k) (λ q. q.job.pc < 2 ^ 18)) (sym same) (kept.addressed k))
+    (λ k. subst (λ (m : Machine). IfSome (m.jobs k) (λ q. IfSome q.job.console (λ c. c < 8))) (sym same) (kept.consoled k))
+    (subst (λ (m : Machine). m.clock < clock_end) (sym same) kept.timed)
+    (subst Alarmed (sym same) kept.alarmed)
 
 pub unwound_kept : (old new : World) (s : ℕ) → Kept old → state_of new ≡ unwound (state_of old) s → Tidy new → Kept new
 unwound_kept old new s kept e tidy = alike_kept old new kept (unwound_same old new s kept e) (subst Sound (sym e) (unwound_sound (state_of old) s kept.sound)) tidy
@@ -103,15 +104,14 @@ stored_off old mid new s d c b = off_then old mid new s c.calm.cores (off_one mi
 pub frames_kept : (w : World) (f : Frames) → Kept (with_frames w f) → Kept w
 frames_kept w f k =
     let e = frames_state w f in
-    record {
-      sound = subst Sound e k.sound;
-      forest = subst (λ (v : State). Forest (plain v)) e k.forest;
-      tidy = frames_tidy w f k.tidy;
-      addressed = λ i. subst (λ (v : State). IfSome ((plain v).jobs i) (λ q. q.job.pc < 2 ^ 18)) e (k.addressed i);
-      consoled = λ i. subst (λ (v : State). IfSome ((plain v).jobs i) (λ q. IfSome q.job.console (λ c. c < 8))) e (k.consoled i);
-      timed = subst (λ (v : State). (plain v).clock < clock_end) e k.timed;
-      alarmed = subst (λ (v : State). Alarmed (plain v)) e k.alarmed;
-    }
+    kept_is w
+    (subst Sound e k.sound)
+    (subst (λ (v : State). Forest (plain v)) e k.forest)
+    (frames_tidy w f k.tidy)
+    (λ i. subst (λ (v : State). IfSome ((plain v).jobs i) (λ q. q.job.pc < 2 ^ 18)) e (k.addressed i))
+    (λ i. subst (λ (v : State). IfSome ((plain v).jobs i) (λ q. IfSome q.job.console (λ c. c < 8))) e (k.consoled i))
+    (subst (λ (v : State). (plain v).clock < clock_end) e k.timed)
+    (subst (λ (v : State). Alarmed (plain v)) e k.alarmed)
 
 -- a line that is done: the state v that it finds has another raw machine then
 pub record Made (w new : State) (b : Block) (e : Event) : Type 0 where

@@ -13,3 +13,4 @@ pub mod RungLaws
 pub mod ClockLaws
 pub mod ProtectLaws
 pub mod SymbolLaws
+pub mod WaitsLaws

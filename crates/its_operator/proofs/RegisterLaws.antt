@@ -35,6 +35,7 @@ use Rattle.its_world.proofs.StateLaws.{raw_job, raw_some, raw_none, changed_stat
 use Rattle.its_pclsr.proofs.ApartLaws.{tidy_put}
 use Rattle.its_operator.specs.Kept.{Kept, Lands, Refused, Calm, reason_of}
 use Rattle.its_operator.proofs.KeptLaws.{refused_by, Made, made_sound, made_plain, made_forest, made_timed, made_alarmed, Lasts, kept_lasts, put_lasts, lasts_address, lasts_console}
+use Rattle.its_operator.proofs.WaitsLaws.{kept_is}
 
 -- the raw job of a slot
 pub raw_is : (w : World) (s : ℕ) (j : Job) → job_at w.jobs s ≡ Some j → (state_of w).raw.jobs s ≡ Some (raw_job w.files (core_at w.core s) j (superior_at w.jobs s) (alarm_at w.alarms.items s))
@@ -97,15 +98,15 @@ registers_lasts m n s f is keeps same a = go (m.jobs s) refl is
 registers_kept : (f : Job → Job) (e : Event) (b : Block) (old mid new : World) (s : ℕ) (j : Job) → Kept old → Calm old mid s j → JobBecomes mid new s (f j)
     → Made (state_of old) (state_of new) b e → on_registers (plain (state_of old)) s f ≡ Ok (plain (state_of new)) → ((i : Job) → i.pc < 2 ^ 18 → (f i).pc < 2 ^ 18)
     → ((i : Job) → (f i).console ≡ i.console) → ((i : Job) → (f i).channels ≡ i.channels) → Kept new
-registers_kept f e b old mid new s j kept c r made is keeps same shut = record {
-  sound = made_sound (state_of old) (state_of new) b e kept.sound made;
-  forest = made_forest (state_of old) (state_of new) b e kept.sound kept.forest made;
-  tidy = tidy_put mid new s _ j (f j) _ _ c.job (shut j) r c.kept.tidy;
-  addressed = (registers_lasts (plain (state_of old)) (plain (state_of new)) s f is keeps same (kept_lasts old kept)).addressed;
-  consoled = (registers_lasts (plain (state_of old)) (plain (state_of new)) s f is keeps same (kept_lasts old kept)).consoled;
-  timed = made_timed (state_of old) (state_of new) b e kept.sound kept.timed made;
-  alarmed = made_alarmed (state_of old) (state_of new) b e kept.sound kept.forest kept.alarmed made;
-}
+registers_kept f e b old mid new s j kept c r made is keeps same shut =
+    kept_is new
+    (made_sound (state_of old) (state_of new) b e kept.sound made)
+    (made_forest (state_of old) (state_of new) b e kept.sound kept.forest made)
+    (tidy_put mid new s _ j (f j) _ _ c.job (shut j) r c.kept.tidy)
+    ((registers_lasts (plain (state_of old)) (plain (state_of new)) s f is keeps same (kept_lasts old kept)).addressed)
+    ((registers_lasts (plain (state_of old)) (plain (state_of new)) s f is keeps same (kept_lasts old kept)).consoled)
+    (made_timed (state_of old) (state_of new) b e kept.sound kept.timed made)
+    (made_alarmed (state_of old) (state_of new) b e kept.sound kept.forest kept.alarmed made)
 
 -- the slot is empty
 empty_registers : (m : Machine) (s : ℕ) (f : Job → Job) → m.jobs s ≡ None → on_registers m s f ≡ Err reasons.NoJob

@@ -27,7 +27,7 @@ use Rattle.its_stepped.proofs.UnwindLaws.{all_unwound_turn, all_unwound_end}
 use Rattle.its_files.specs.Files.{Store}
 use Rattle.its_plain.specs.CallBasic.{longest_period}
 use Rattle.its_world.specs.Tidy.{Across, Tidy}
-use Rattle.its_world.specs.World.{alarm_at, symbols_at, raw_machine, frame_at, mark_of, state_of, in_raw, frames_after, JobBecomes, AlarmBecomes}
+use Rattle.its_world.specs.World.{alarm_at, symbols_at, raw_machine, frame_at, mark_of, state_of, in_raw, frames_after, JobBecomes, AlarmBecomes, ClockBecomes}
 use Rattle.its_world.specs.declared.world.World.{World}
 use Rattle.its_world.proofs.AlarmLaws.{alarm_state, alarm_tidy}
 use Rattle.its_world.proofs.StateLaws.{state_is, changed_state, absent_state, raw_some}
@@ -209,24 +209,40 @@ kept_periods old new a same tidy k =
     subst (λ (o : Option (ℕ × ℕ)). IfSome o Periodic) (sym e) (coming_periodic (plain (state_of old)).clock (alarm_in ((plain (state_of old)).jobs k)) (a.each k))
 
 -- the clock is set
-pub clock_state : (old new : World) (c : ℕ) → new.core ≡ old.core → new.jobs ≡ old.jobs → new.frames ≡ old.frames → new.consoles ≡ old.consoles → new.holders ≡ old.holders → new.files ≡ old.files → new.alarms ≡ old.alarms
-    → new.version ≡ old.version → new.symbols ≡ old.symbols → new.clock ≡ c → state_of new ≡ with_raw (state_of old) (record (state_of old).raw { clock = c })
+pub clock_state : (old new : World) (c : ℕ) → ClockBecomes old new c → state_of new ≡ with_raw (state_of old) (record (state_of old).raw { clock = c })
 unfolding state_of
-clock_state old new c core jobs frames consoles holders files alarms version symbols clock = λ t. record {
-  raw = raw_machine (files t) (core t) (jobs t) (alarms t).items (consoles t).items (holders t) (clock t) (version t) (symbols t).items;
-  frames = frame_at (frames t).items;
-  reserved = clear_at (core t);
-  mark = mark_of (files t);
+clock_state old new c b =
+    let files = b.files in
+    let core = b.core in
+    let jobs = b.jobs in
+    let alarms = b.alarms in
+    let consoles = b.consoles in
+    let holders = b.holders in
+    let clock = b.clock in
+    let version = b.version in
+    let symbols = b.symbols in
+    let frames = b.frames in
+    λ t. record {
+      raw = raw_machine (files t) (core t) (jobs t) (alarms t).items (consoles t).items (holders t) (clock t) (version t) (symbols t).items;
+      frames = frame_at (frames t).items;
+      reserved = clear_at (core t);
+      mark = mark_of (files t);
+    }
+
+pub clock_tidy : (old new : World) (c : ℕ) → ClockBecomes old new c → c < clock_end → Tidy old → Tidy new
+clock_tidy old new c b below tidy = record {
+  blank = λ k h. ap (λ x. core_at x k) b.core ∙ tidy.blank k (sym (ap (λ t. job_at t k) b.jobs) ∙ h);
+  quiet = λ k h. ap (λ l. alarm_at l.items k) b.alarms ∙ tidy.quiet k (sym (ap (λ t. job_at t k) b.jobs) ∙ h);
+  nameless = λ k h. ap (λ l. symbols_at l.items k) b.symbols ∙ tidy.nameless k (sym (ap (λ t. job_at t k) b.jobs) ∙ h);
+  timed = subst (λ t. t < clock_end) (sym b.clock) below;
+  across = subst (λ (x : Store). Across x new.jobs) (sym b.files) (subst (Across old.files) (sym b.jobs) tidy.across);
+  ringed = b.ringed tidy.ringed;
 }
 
-pub clock_tidy : (old new : World) (c : ℕ) → new.core ≡ old.core → new.jobs ≡ old.jobs → new.files ≡ old.files → new.alarms ≡ old.alarms → new.symbols ≡ old.symbols → new.clock ≡ c → c < clock_end → Tidy old → Tidy new
-clock_tidy old new c core jobs files alarms symbols clock below tidy = record {
-  blank = λ k h. ap (λ x. core_at x k) core ∙ tidy.blank k (sym (ap (λ t. job_at t k) jobs) ∙ h);
-  quiet = λ k h. ap (λ l. alarm_at l.items k) alarms ∙ tidy.quiet k (sym (ap (λ t. job_at t k) jobs) ∙ h);
-  nameless = λ k h. ap (λ l. symbols_at l.items k) symbols ∙ tidy.nameless k (sym (ap (λ t. job_at t k) jobs) ∙ h);
-  timed = subst (λ t. t < clock_end) (sym clock) below;
-  across = subst (λ (x : Store). Across x new.jobs) (sym files) (subst (Across old.files) (sym jobs) tidy.across);
-}
+-- the clock of a world whose plain machine is the same
+pub clock_still : (old new : World) (c n : ℕ) → plain (state_of new) ≡ plain (state_of old) → c ≡ old.clock + n → new.clock ≤ c
+unfolding plain state_of
+clock_still old new c n same e = let t : new.clock ≡ old.clock = ap (λ (m : Machine). m.clock) same in omega arith
 
 -- a slot with an alarm has a job
 pub alarm_has : (w : World) (s : ℕ) (o : Option Job) → Tidy w → is_some (alarm_at w.alarms.items s) ≡ true → o ≡ job_at w.jobs s → o ≡ None → ⊥

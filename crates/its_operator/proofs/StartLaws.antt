@@ -32,6 +32,7 @@ use Rattle.its_stepped.proofs.ForestLaws.{forest_starts}
 use Rattle.its_stepped.proofs.FrameLaws.{changed_only}
 use Rattle.its_stepped.proofs.LineLaws.{least_plain}
 use Rattle.its_stepped.proofs.StartLaws.{no_state_plain, no_state_sound}
+use Rattle.its_world.specs.Filed.{Ringed}
 use Rattle.its_world.specs.World.{alarm_at, frame_at, console_at, holder_at, symbols_at, raw_of, raw_machine, mark_of, state_of, HolderBecomes}
 use Rattle.its_world.specs.Tidy.{channel_by, channel_at, tally, reads, writes, writers, Across}
 use Rattle.its_world.specs.declared.world.World.{World}
@@ -44,6 +45,7 @@ use Rattle.its_operator.proofs.RegisterLaws.{block_of}
 use Rattle.its_world.proofs.MadeLaws.{least_raw, made_state, made_tidy}
 use Rattle.its_world.specs.Made.{JobMade}
 use Rattle.its_word.proofs.TableLaws.{get_or-filled}
+use Rattle.its_operator.proofs.WaitsLaws.{kept_is}
 
 loaded_by : (r : Result (Machine × ℕ) Reason) (n : Machine) (s : ℕ) (out : List Line) (touched : ℕ → Bool) → Done (by_load no_block r) ≡ Done (Does n out touched (block_of s)) → r ≡ Ok (n, s)
 loaded_by (Ok (m, i)) n s out touched h = let a : m ≡ n = cc in let b : block_of i ≡ block_of s = cc in ap (λ (x : Machine). Ok (x, i)) a ∙ ap (λ (k : Block). Ok (n, k.slot)) b
@@ -70,6 +72,7 @@ console_held w c s h o i f = record {
   clock = refl;
   alarms = refl;
   symbols = refl;
+  ringed = λ r. r;
 }
 
 pub console_given : (old new : World) (c s : ℕ) (o : Option ℕ) → o ≡ holder_at old.holders c → o ≡ None → HolderBecomes old new c (Some s) → Alters old new (with_holder (state_of old).raw s (Some c))
@@ -83,6 +86,7 @@ console_given old new c s o i f b = record {
   clock = b.clock;
   alarms = b.alarms;
   symbols = b.symbols;
+  ringed = b.ringed;
 }
 
 pub console_some : (old new : World) (s c : ℕ) (console : Option ℕ) → console ≡ Some c → Alters old new (with_holder (state_of old).raw s (Some c))
@@ -91,7 +95,7 @@ console_some old new s c console e h = subst (λ (o : Option ℕ). Alters old ne
 
 pub console_none : (w : World) (s : ℕ) (console : Option ℕ) → console ≡ None → Alters w w (with_holder (state_of w).raw s console)
 console_none w s console e =
-    subst (λ (o : Option ℕ). Alters w w (with_holder (state_of w).raw s o)) (sym e) (record { state = refl; core = refl; jobs = refl; files = refl; clock = refl; alarms = refl; symbols = refl })
+    subst (λ (o : Option ℕ). Alters w w (with_holder (state_of w).raw s o)) (sym e) (record { state = refl; core = refl; jobs = refl; files = refl; clock = refl; alarms = refl; symbols = refl; ringed = λ r. r })
 
 held_lasts : (m : Machine) (s : ℕ) (console : Option ℕ) → Lasts m → Lasts (with_holder m s console)
 held_lasts m s (Some c) a = record { addressed = a.addressed; consoled = a.consoled }
@@ -157,15 +161,15 @@ module _ (old mid new : World) (s u j : ℕ) (console : Option ℕ) where
       (held_lasts _ s console (put_lasts (plain (state_of old)) s (new_job u j console) fresh_pc (fresh_console fits) (kept_lasts old kept)))
 
   pub load_kept : IfSome console (λ c. c < 8) → Kept old → least_free old.jobs.limit (job_at old.jobs) ≡ Some s → JobMade old mid s u j None console → Alters mid new (with_holder (state_of mid).raw s console) → Kept new
-  load_kept fits kept e f h = record {
-    sound = made_sound (state_of old) (state_of new) no_block (events.Load u j console) kept.sound (load_line kept e f h);
-    forest = made_forest (state_of old) (state_of new) no_block (events.Load u j console) kept.sound kept.forest (load_line kept e f h);
-    tidy = tidy_alike mid new h.core h.jobs h.files h.alarms h.clock h.symbols (made_tidy old mid s u j None console f (least_empty old.jobs.limit (job_at old.jobs) s e) kept.tidy);
-    addressed = (load_lasts fits kept e f h).addressed;
-    consoled = (load_lasts fits kept e f h).consoled;
-    timed = made_timed (state_of old) (state_of new) no_block (events.Load u j console) kept.sound kept.timed (load_line kept e f h);
-    alarmed = made_alarmed (state_of old) (state_of new) no_block (events.Load u j console) kept.sound kept.forest kept.alarmed (load_line kept e f h);
-  }
+  load_kept fits kept e f h =
+      kept_is new
+      (made_sound (state_of old) (state_of new) no_block (events.Load u j console) kept.sound (load_line kept e f h))
+      (made_forest (state_of old) (state_of new) no_block (events.Load u j console) kept.sound kept.forest (load_line kept e f h))
+      (tidy_alike mid new h.core h.jobs h.files h.alarms h.clock h.symbols h.ringed (made_tidy old mid s u j None console f (least_empty old.jobs.limit (job_at old.jobs) s e) kept.tidy))
+      ((load_lasts fits kept e f h).addressed)
+      ((load_lasts fits kept e f h).consoled)
+      (made_timed (state_of old) (state_of new) no_block (events.Load u j console) kept.sound kept.timed (load_line kept e f h))
+      (made_alarmed (state_of old) (state_of new) no_block (events.Load u j console) kept.sound kept.forest kept.alarmed (load_line kept e f h))
 
 pub load_full : (w : World) (u j : ℕ) (console : Option ℕ) → least_free w.jobs.limit (job_at w.jobs) ≡ None → Refused (state_of w) (state_of w) (λ m. loaded m u j console) refusals.Full
 unfolding loaded
@@ -212,20 +216,19 @@ open_state w e n f consoles holders files c v symbols = state_is _ _
     f (λ k. ap (option_map (λ (r : Reserved). r.clear)) (e.reserved k)) (ap mark_of files ∙ nothing_marked)
 
 pub open_kept : (w : World) → IsEmpty w.core → NoJobs w.jobs → ((k : ℕ) → frame_at w.frames.items k ≡ None)
-    → ((c : ℕ) → console_at w.consoles.items c ≡ quiet_console) → ((c : ℕ) → holder_at w.holders c ≡ None) → w.files ≡ no_files → w.clock ≡ 0 → ((k : ℕ) → alarm_at w.alarms.items k ≡ None) → w.version ≡ 1 → ((k : ℕ) → symbols_at w.symbols.items k ≡ []) → Kept w
+    → ((c : ℕ) → console_at w.consoles.items c ≡ quiet_console) → ((c : ℕ) → holder_at w.holders c ≡ None) → w.files ≡ no_files → w.clock ≡ 0 → ((k : ℕ) → alarm_at w.alarms.items k ≡ None) → w.version ≡ 1 → ((k : ℕ) → symbols_at w.symbols.items k ≡ []) → Ringed w → Kept w
 unfolding no_machine
-open_kept w e n f consoles holders files c alarms v symbols =
+open_kept w e n f consoles holders files c alarms v symbols ringed =
     let is = open_state w e n f consoles holders files c v symbols in
     let machine : plain (state_of w) ≡ no_machine = ap plain is ∙ no_state_plain no_machine in
-    record {
-      sound = subst Sound (sym is) no_state_sound;
-      forest = subst Forest (sym machine) forest_starts;
-      tidy = record { blank = λ k h. e.cores k; quiet = λ k h. alarms k; timed = subst (λ t. t < clock_end) (sym c) (lit< tt); across = subst (λ s. Across s w.jobs) (sym files) (no_across w.jobs n); nameless = λ k h. symbols k };
-      addressed = λ k. subst (λ (m : Machine). IfSome (m.jobs k) (λ q. q.job.pc < 2 ^ 18)) (sym machine) (nobody_there k);
-      consoled = λ k. subst (λ (m : Machine). IfSome (m.jobs k) (λ q. IfSome q.job.console (λ c. c < 8))) (sym machine) (none_there k);
-      timed = subst (λ (m : Machine). m.clock < clock_end) (sym machine) (lit< tt);
-      alarmed = subst Alarmed (sym machine) alarmed_starts;
-    }
+    kept_is w
+    (subst Sound (sym is) no_state_sound)
+    (subst Forest (sym machine) forest_starts)
+    (record { blank = λ k h. e.cores k; quiet = λ k h. alarms k; timed = subst (λ t. t < clock_end) (sym c) (lit< tt); across = subst (λ s. Across s w.jobs) (sym files) (no_across w.jobs n); nameless = λ k h. symbols k; ringed = ringed })
+    (λ k. subst (λ (m : Machine). IfSome (m.jobs k) (λ q. q.job.pc < 2 ^ 18)) (sym machine) (nobody_there k))
+    (λ k. subst (λ (m : Machine). IfSome (m.jobs k) (λ q. IfSome q.job.console (λ c. c < 8))) (sym machine) (none_there k))
+    (subst (λ (m : Machine). m.clock < clock_end) (sym machine) (lit< tt))
+    (subst Alarmed (sym machine) alarmed_starts)
   where
     nobody_there : (k : ℕ) → IfSome (no_machine.jobs k) (λ q. q.job.pc < 2 ^ 18)
     nobody_there k = tt

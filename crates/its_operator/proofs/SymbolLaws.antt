@@ -33,6 +33,7 @@ use Rattle.its_operator.specs.Kept.{Kept, Lands, Refused, reason_of}
 use Rattle.its_operator.proofs.KeptLaws.{error_is, Made, made_sound, made_plain, made_forest, made_timed, made_alarmed}
 use Rattle.its_operator.proofs.RegisterLaws.{raw_is, raw_is_none, block_of}
 use Rattle.its_operator.proofs.StartLaws.{quiet_by}
+use Rattle.its_operator.proofs.WaitsLaws.{kept_is}
 
 -- VERSION: the first changes nothing
 same_version : (m : Machine) (v : ℕ) → v ≢ 2 → versioned m v ≡ m
@@ -104,18 +105,19 @@ module _ (old new : World) (v : ℕ) where
     timed = subst (λ t. t < clock_end) (sym b.clock) tidy.timed;
     across = subst (λ s. Across s new.jobs) (sym b.files) (across_table old.files old.jobs new.jobs tidy.across (λ k n. ap (λ o. channel_by o n) (b.jobs.each k)));
     nameless = λ k h. ap (λ l. symbols_at l.items k) b.symbols ∙ tidy.nameless k (sym (b.jobs.each k) ∙ h);
+    ringed = b.ringed tidy.ringed;
   }
 
   pub version_kept : v ≡ 2 → Kept old → VersionBecomes old new 2 → Kept new
-  version_kept e kept b = record {
-    sound = made_sound (state_of old) (state_of new) no_block (events.Version v) kept.sound (version_made e b);
-    forest = made_forest (state_of old) (state_of new) no_block (events.Version v) kept.sound kept.forest (version_made e b);
-    tidy = version_tidy b kept.tidy;
-    addressed = λ k. subst (λ (o : Option Whole). IfSome o (λ q. q.job.pc < 2 ^ 18)) (sym (version_jobs e b k)) (kept.addressed k);
-    consoled = λ k. subst (λ (o : Option Whole). IfSome o (λ q. IfSome q.job.console (λ c. c < 8))) (sym (version_jobs e b k)) (kept.consoled k);
-    timed = made_timed (state_of old) (state_of new) no_block (events.Version v) kept.sound kept.timed (version_made e b);
-    alarmed = made_alarmed (state_of old) (state_of new) no_block (events.Version v) kept.sound kept.forest kept.alarmed (version_made e b);
-  }
+  version_kept e kept b =
+      kept_is new
+      (made_sound (state_of old) (state_of new) no_block (events.Version v) kept.sound (version_made e b))
+      (made_forest (state_of old) (state_of new) no_block (events.Version v) kept.sound kept.forest (version_made e b))
+      (version_tidy b kept.tidy)
+      (λ k. subst (λ (o : Option Whole). IfSome o (λ q. q.job.pc < 2 ^ 18)) (sym (version_jobs e b k)) (kept.addressed k))
+      (λ k. subst (λ (o : Option Whole). IfSome o (λ q. IfSome q.job.console (λ c. c < 8))) (sym (version_jobs e b k)) (kept.consoled k))
+      (made_timed (state_of old) (state_of new) no_block (events.Version v) kept.sound kept.timed (version_made e b))
+      (made_alarmed (state_of old) (state_of new) no_block (events.Version v) kept.sound kept.forest kept.alarmed (version_made e b))
 
 -- SYM
 pub symbols_raw : (w : World) (s : ℕ) → (state_of w).raw.symbols s ≡ symbols_at w.symbols.items s
@@ -178,19 +180,20 @@ module _ (old new : World) (s name a : ℕ) (b : Bool) where
       | inl is ↦ let none : is_some (job_at old.jobs s) ≡ false = ap is_some (sym (ap (λ t. job_at t s) c.jobs) ∙ sym (ap (job_at new.jobs) is) ∙ h) in absurd cc
       | inr ne ↦ c.symbols.others k ne ∙ tidy.nameless k (sym (ap (λ t. job_at t k) c.jobs) ∙ h)
     ];
+    ringed = c.ringed tidy.ringed;
   }
 
   pub symbol_keeps : Kept old → is_some (job_at old.jobs s) ≡ true → b ≡ nat_lt (length (symbols_at old.symbols.items s)) most_symbols → b ≡ true
       → SymbolsBecome old new s (symbols_at old.symbols.items s ++ (name, a) ∷ []) → Kept new
-  symbol_keeps kept some is t c = record {
-    sound = made_sound (state_of old) (state_of new) (block_of s) (events.Symbol name a) kept.sound (symbol_made some is t c);
-    forest = made_forest (state_of old) (state_of new) (block_of s) (events.Symbol name a) kept.sound kept.forest (symbol_made some is t c);
-    tidy = symbol_tidy some c kept.tidy;
-    addressed = λ k. subst (λ (o : Option Whole). IfSome o (λ q. q.job.pc < 2 ^ 18)) (sym (symbol_jobs c k)) (kept.addressed k);
-    consoled = λ k. subst (λ (o : Option Whole). IfSome o (λ q. IfSome q.job.console (λ i. i < 8))) (sym (symbol_jobs c k)) (kept.consoled k);
-    timed = made_timed (state_of old) (state_of new) (block_of s) (events.Symbol name a) kept.sound kept.timed (symbol_made some is t c);
-    alarmed = made_alarmed (state_of old) (state_of new) (block_of s) (events.Symbol name a) kept.sound kept.forest kept.alarmed (symbol_made some is t c);
-  }
+  symbol_keeps kept some is t c =
+      kept_is new
+      (made_sound (state_of old) (state_of new) (block_of s) (events.Symbol name a) kept.sound (symbol_made some is t c))
+      (made_forest (state_of old) (state_of new) (block_of s) (events.Symbol name a) kept.sound kept.forest (symbol_made some is t c))
+      (symbol_tidy some c kept.tidy)
+      (λ k. subst (λ (o : Option Whole). IfSome o (λ q. q.job.pc < 2 ^ 18)) (sym (symbol_jobs c k)) (kept.addressed k))
+      (λ k. subst (λ (o : Option Whole). IfSome o (λ q. IfSome q.job.console (λ i. i < 8))) (sym (symbol_jobs c k)) (kept.consoled k))
+      (made_timed (state_of old) (state_of new) (block_of s) (events.Symbol name a) kept.sound kept.timed (symbol_made some is t c))
+      (made_alarmed (state_of old) (state_of new) (block_of s) (events.Symbol name a) kept.sound kept.forest kept.alarmed (symbol_made some is t c))
 
 refused_here : (w : World) (s name a : ℕ) (x : Refusal) → symbol_kept (state_of w).raw s name a ≡ Err (reason_of x) → Refused (state_of w) (state_of w) (λ m. symbol_kept m s name a) x
 refused_here w s name a x h = record {

@@ -19,6 +19,7 @@ use Rattle.its_world.proofs.StateLaws.{console_state}
 use Rattle.its_pclsr.proofs.ApartLaws.{tidy_alike}
 use Rattle.its_operator.specs.Kept.{Kept, Lands}
 use Rattle.its_operator.proofs.KeptLaws.{Made, made_sound, made_plain, made_forest, made_timed, made_alarmed}
+use Rattle.its_operator.proofs.WaitsLaws.{kept_is}
 
 -- a console of the state is that of the world
 pub type_room : (w : World) (c : ℕ) (r : Bool) → (IsTrue r ↔ (length (console_at w.consoles.items c).input < most_waiting))
@@ -59,15 +60,15 @@ module _ (old new : World) (c : ℕ) (f : Console → Console) (e : Event) (out 
       (sym (made_plain (state_of old) (state_of new) no_block e kept.sound m) ∙ line (plain (state_of old)))
 
   kept_done : Kept old → Kept new
-  kept_done kept = record {
-    sound = made_sound (state_of old) (state_of new) no_block e kept.sound made;
-    forest = made_forest (state_of old) (state_of new) no_block e kept.sound kept.forest made;
-    tidy = tidy_alike old new b.core b.jobs b.files b.alarms b.clock b.symbols kept.tidy;
-    addressed = λ k. subst (λ (m : Machine). IfSome (m.jobs k) (λ q. q.job.pc < 2 ^ 18)) (sym (plain_done kept)) (kept.addressed k);
-    consoled = λ k. subst (λ (m : Machine). IfSome (m.jobs k) (λ q. IfSome q.job.console (λ c. c < 8))) (sym (plain_done kept)) (kept.consoled k);
-    timed = made_timed (state_of old) (state_of new) no_block e kept.sound kept.timed made;
-    alarmed = made_alarmed (state_of old) (state_of new) no_block e kept.sound kept.forest kept.alarmed made;
-  }
+  kept_done kept =
+      kept_is new
+      (made_sound (state_of old) (state_of new) no_block e kept.sound made)
+      (made_forest (state_of old) (state_of new) no_block e kept.sound kept.forest made)
+      (tidy_alike old new b.core b.jobs b.files b.alarms b.clock b.symbols b.ringed kept.tidy)
+      (λ k. subst (λ (m : Machine). IfSome (m.jobs k) (λ q. q.job.pc < 2 ^ 18)) (sym (plain_done kept)) (kept.addressed k))
+      (λ k. subst (λ (m : Machine). IfSome (m.jobs k) (λ q. IfSome q.job.console (λ c. c < 8))) (sym (plain_done kept)) (kept.consoled k))
+      (made_timed (state_of old) (state_of new) no_block e kept.sound kept.timed made)
+      (made_alarmed (state_of old) (state_of new) no_block e kept.sound kept.forest kept.alarmed made)
 
 -- TYPE
 module _ (old new : World) (c x : ℕ) (b : ConsoleBecomes old new c (typed_at x (console_at old.consoles.items c))) where

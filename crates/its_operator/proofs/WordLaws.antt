@@ -34,6 +34,7 @@ use Rattle.its_pclsr.proofs.ApartLaws.{tidy_core}
 use Rattle.its_operator.specs.Kept.{Kept, Lands, Refused, Calm, Calmed, reason_of, refusal_of, undepositable}
 use Rattle.its_operator.proofs.KeptLaws.{refused_by, Made, made_sound, made_plain, made_forest, made_timed, made_alarmed, Lasts, kept_lasts, put_lasts, lasts_address, lasts_console}
 use Rattle.its_operator.proofs.RegisterLaws.{raw_is, raw_is_none, placed_lands, disturbed}
+use Rattle.its_operator.proofs.WaitsLaws.{kept_is}
 
 -- EXAM is refused alike, with a frame and without
 word_error : (x y : Option ℕ) → is_some x ≡ is_some y → error_of (seen_word x) ≡ error_of (seen_word y)
@@ -127,15 +128,15 @@ core_lasts m n s q (Err x) at h a = absurd cc
 
 pub core_kept : (e : Event) (b : Block) (old mid new : World) (s : ℕ) (j : Job) (c : Core) → Kept old → Calm old mid s j → CoreBecomes mid new s c
     → Made (state_of old) (state_of new) b e → Lasts (plain (state_of new)) → Kept new
-core_kept e b old mid new s j c kept calm r made a = record {
-  sound = made_sound (state_of old) (state_of new) b e kept.sound made;
-  forest = made_forest (state_of old) (state_of new) b e kept.sound kept.forest made;
-  tidy = tidy_core mid new s c _ _ (ap is_some calm.job) r calm.kept.tidy;
-  addressed = a.addressed;
-  consoled = a.consoled;
-  timed = made_timed (state_of old) (state_of new) b e kept.sound kept.timed made;
-  alarmed = made_alarmed (state_of old) (state_of new) b e kept.sound kept.forest kept.alarmed made;
-}
+core_kept e b old mid new s j c kept calm r made a =
+    kept_is new
+    (made_sound (state_of old) (state_of new) b e kept.sound made)
+    (made_forest (state_of old) (state_of new) b e kept.sound kept.forest made)
+    (tidy_core mid new s c _ _ (ap is_some calm.job) r calm.kept.tidy)
+    a.addressed
+    a.consoled
+    (made_timed (state_of old) (state_of new) b e kept.sound kept.timed made)
+    (made_alarmed (state_of old) (state_of new) b e kept.sound kept.forest kept.alarmed made)
 
 -- DEPOSIT
 deposited_on : (w : World) (s a x : ℕ) (j : Job) → job_at w.jobs s ≡ Some j

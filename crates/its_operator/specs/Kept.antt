@@ -18,15 +18,18 @@ use Rattle.its_stepped.specs.Alarmed.{Alarmed}
 use Rattle.its_stepped.specs.Forest.{Forest}
 use Rattle.its_stepped.specs.Lines.{with_raw}
 use Rattle.its_stepped.specs.Unwind.{unwound, help}
+use Rattle.its_world.specs.Filed.{Ringed}
 use Rattle.its_world.specs.World.{state_of}
 use Rattle.its_pclsr.specs.Apart.{CoresOff}
 use Rattle.its_world.specs.Storage.{OnlyStore}
 use Rattle.its_world.specs.Tidy.{Tidy}
 use Rattle.its_world.specs.declared.world.World.{World}
+use Rattle.its_operator.specs.Waits.{WaitRings}
 
 -- the state is sound, and the jobs of its plain machine are a forest; files and drafts have the channels that they say, and
 -- the core of an empty slot is that of no job; the PC of each job of the plain machine is an address, and its console is one
--- of eight; the clock is below its end, and each alarm is to come
+-- of eight; the clock is below its end, and each alarm is to come; and the lists of those that wait hold the slots that the
+-- plain machine says
 pub record Kept (w : World) : Type 0 where
   pub sound : Sound (state_of w)
   pub forest : Forest (plain (state_of w))
@@ -35,6 +38,7 @@ pub record Kept (w : World) : Type 0 where
   pub consoled : (k : ℕ) → IfSome ((plain (state_of w)).jobs k) (λ q. IfSome q.job.console (λ c. c < 8))
   pub timed : (plain (state_of w)).clock < clock_end
   pub alarmed : Alarmed (plain (state_of w))
+  pub rings : WaitRings w
 
 -- state v after a line that comes to a raw machine: its frames, reserved pages and mark stay
 pub record Lands (v new : State) (r : Result Machine Reason) : Type 0 where
@@ -108,6 +112,7 @@ pub record Alters (old new : World) (m : Machine) : Type 0 where
   pub symbols : new.symbols ≡ old.symbols
   pub clock : new.clock ≡ old.clock
   pub alarms : new.alarms ≡ old.alarms
+  pub ringed : Ringed old → Ringed new
 
 -- of a world the owed parts of a close are made, and nothing else: jobs, cores, pages and the frames in which they stand are as they
 -- were

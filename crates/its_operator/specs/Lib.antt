@@ -2,3 +2,4 @@ pub mod Kept
 pub mod Filing
 pub mod Peeking
 pub mod Rung
+pub mod Waits

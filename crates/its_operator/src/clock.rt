@@ -86,6 +86,7 @@ fn is_due(w: &World, slot: u8, clock: u64) -> bool
 /// Sets the clock.
 #[tactic(auto, using(crate::proofs::RungLaws::clock_state, crate::proofs::RungLaws::clock_tidy))]
 fn set_clock(w: &mut World, clock: u64)
+    requires later { w.old.clock ≤ clock }
     requires below { clock < clock_end }
     requires tidy { Tidy w.old }
     ensures row { state_of w.new ≡ with_raw (state_of w.old) (record (state_of w.old).raw { clock = clock }) }
@@ -93,7 +94,7 @@ fn set_clock(w: &mut World, clock: u64)
     ensures pages { w.new.core.frames ≡ w.old.core.frames }
     ensures tidy { Tidy w.new }
 {
-    w.clock = clock;
+    w.set_clock(clock);
 }
 
 /// The alarms that are due at a clock go.

@@ -203,7 +203,7 @@ fn show_of(w: &World, id: u32) -> FileShow
 }
 
 /// Makes a file of no words, the last in order, where no file has its names.
-#[tactic(auto, using(crate::proofs::FileLaws::made_lands, crate::proofs::FileLaws::made_tidy, crate::proofs::FileLaws::made_stands, crate::proofs::FileLaws::made_names))]
+#[tactic(auto, using(crate::proofs::FileLaws::made_stands, crate::proofs::FileLaws::made_names))]
 fn make_file(w: &mut World, d: Word, x: Word, y: Word) -> u32
     requires kept { Kept w.old }
     requires unmarked { w.old.files.mark ≡ None }
@@ -219,7 +219,7 @@ fn make_file(w: &mut World, d: Word, x: Word, y: Word) -> u32
 }
 
 /// A word more at the end of a file.
-#[tactic(auto, using(crate::proofs::FileLaws::added_lands, crate::proofs::FileLaws::added_tidy, crate::proofs::FileLaws::added_stands, crate::proofs::FileLaws::added_names, crate::proofs::FileLaws::added_full))]
+#[tactic(auto, using(crate::proofs::FileLaws::added_stands, crate::proofs::FileLaws::added_names, crate::proofs::FileLaws::added_full))]
 fn add_word(w: &mut World, id: u32, word: Word) -> Result<(), Refusal>
     requires kept { Kept w.old }
     requires unmarked { w.old.files.mark ≡ None }

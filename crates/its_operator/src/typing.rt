@@ -8,7 +8,7 @@ ghost use Rattle.its_operator.specs.Kept.{Kept, Lands};
 use its_world::World;
 
 /// One byte of a TYPE line, typed at a console. False where 64 typed bytes wait; the byte is then dropped.
-#[tactic(auto, using(crate::proofs::TypingLaws::type_room, crate::proofs::TypingLaws::type_lands, crate::proofs::TypingLaws::type_plain, crate::proofs::TypingLaws::type_kept))]
+#[tactic(auto, using(crate::proofs::TypingLaws::type_room, crate::proofs::TypingLaws::type_lands, crate::proofs::TypingLaws::type_plain))]
 pub fn type_in(w: &mut World, console: u8, b: u8) -> bool
     requires console { console < 8 }
     requires kept { Kept w.old }

@@ -14,6 +14,7 @@ use Rattle.its_jobs.specs.Table.{Table, job_at}
 use Rattle.its_word.specs.declared.calls.Exit.{Exit}
 use Rattle.its_plain.specs.Own.{left_with}
 use Rattle.its_plain.specs.OperatorClock.{clock_end}
+use Rattle.its_world.specs.Filed.{Ringed}
 use Rattle.its_world.specs.Tidy.{channel_by, channel_at, Across, Tidy}
 use Rattle.its_world.specs.World.{alarm_at, frame_at, symbols_at, frames_after, Becomes, CoreBecomes, JobBecomes, FrameBecomes, PageBecomes, ConsoleBecomes, HolderBecomes}
 use Rattle.its_world.specs.declared.world.World.{World}
@@ -94,6 +95,7 @@ tidy_becomes old new s c o f r b bare empty kept tidy = record {
     | inl is ↦ ap (job_at old.jobs) is ∙ empty (sym b.job.here ∙ ap (job_at new.jobs) (sym is) ∙ h)
     | inr ne ↦ sym (b.job.others k ne) ∙ h
   ]);
+  ringed = b.ringed tidy.ringed;
 }
 
 -- the core and the job stay; only the core of a job is written; only its registers
@@ -125,17 +127,18 @@ pub tidy_backed : (old mid new : World) (s : ℕ) (r : Option ℕ) (f : Option F
 tidy_backed old mid new s r f a b tidy = tidy_kept mid new s f (clear_at mid.core s) b (tidy_kept old mid s (frame_at old.frames.items s) r a tidy)
 
 -- no core, no job and no file is another: a console changes, or its holder
-pub tidy_alike : (old new : World) → new.core ≡ old.core → new.jobs ≡ old.jobs → new.files ≡ old.files → new.alarms ≡ old.alarms → new.clock ≡ old.clock → new.symbols ≡ old.symbols → Tidy old → Tidy new
-tidy_alike old new core jobs files alarms clock symbols tidy = record {
+pub tidy_alike : (old new : World) → new.core ≡ old.core → new.jobs ≡ old.jobs → new.files ≡ old.files → new.alarms ≡ old.alarms → new.clock ≡ old.clock → new.symbols ≡ old.symbols → (Ringed old → Ringed new) → Tidy old → Tidy new
+tidy_alike old new core jobs files alarms clock symbols ringed tidy = record {
   blank = λ k h. ap (λ c. core_at c k) core ∙ tidy.blank k (sym (ap (λ t. job_at t k) jobs) ∙ h);
   quiet = λ k h. ap (λ l. alarm_at l.items k) alarms ∙ tidy.quiet k (sym (ap (λ t. job_at t k) jobs) ∙ h);
   timed = subst (λ t. t < clock_end) (sym clock) tidy.timed;
   across = subst (λ (t : Store). Across t new.jobs) (sym files) (subst (λ (u : Table). Across old.files u) (sym jobs) tidy.across);
   nameless = λ k h. ap (λ l. symbols_at l.items k) symbols ∙ tidy.nameless k (sym (ap (λ t. job_at t k) jobs) ∙ h);
+  ringed = ringed tidy.ringed;
 }
 
 pub tidy_console : (old new : World) (c : ℕ) (x : Console) → ConsoleBecomes old new c x → Tidy old → Tidy new
-tidy_console old new c x b tidy = tidy_alike old new b.core b.jobs b.files b.alarms b.clock b.symbols tidy
+tidy_console old new c x b tidy = tidy_alike old new b.core b.jobs b.files b.alarms b.clock b.symbols b.ringed tidy
 
 pub tidy_holder : (old new : World) (c : ℕ) (h : Option ℕ) → HolderBecomes old new c h → Tidy old → Tidy new
-tidy_holder old new c h b tidy = tidy_alike old new b.core b.jobs b.files b.alarms b.clock b.symbols tidy
+tidy_holder old new c h b tidy = tidy_alike old new b.core b.jobs b.files b.alarms b.clock b.symbols b.ringed tidy

@@ -21,6 +21,7 @@ use Rattle.its_plain.specs.Change.{superiors, is_gone}
 use Rattle.its_plain.specs.Machine.{Whole}
 use Rattle.its_stepped.specs.Sound.{Sound, SoundBy, MarkBy}
 use Rattle.its_stepped.specs.State.{Mark}
+use Rattle.its_world.specs.Filed.{Ringed}
 use Rattle.its_world.specs.Storage.{HasJob, IsElsewhere}
 use Rattle.its_plain.specs.OperatorClock.{clock_end}
 use Rattle.its_world.specs.Tidy.{channel_by, channel_at, tally, reads, writes, writers, Across, Tidy}
@@ -93,13 +94,14 @@ idle_across t h = record {
   written = λ d. none_weighs (writes d) (channel_at t) (λ k n. elsewhere_writes d (channel_at t k n) (h.each k n)) ∙ sym (ap (λ e. writers e (is_marked no_files d)) (no_entry d));
 }
 
-pub idle_tidy : (w : World) → IsEmpty w.core → w.files ≡ no_files → ((k : ℕ) → alarm_at w.alarms.items k ≡ None) → w.clock ≡ 0 → ((k : ℕ) → symbols_at w.symbols.items k ≡ []) → Elsewhere w.jobs → Tidy w
-idle_tidy w core files alarms clock symbols h = record {
+pub idle_tidy : (w : World) → IsEmpty w.core → w.files ≡ no_files → ((k : ℕ) → alarm_at w.alarms.items k ≡ None) → w.clock ≡ 0 → ((k : ℕ) → symbols_at w.symbols.items k ≡ []) → Elsewhere w.jobs → Ringed w → Tidy w
+idle_tidy w core files alarms clock symbols h ringed = record {
   blank = λ k none. core.cores k;
   quiet = λ k none. alarms k;
   timed = subst (λ t. t < clock_end) (sym clock) (lit< tt);
   across = subst (λ (s : Store). Across s w.jobs) (sym files) (idle_across w.jobs h);
   nameless = λ k none. symbols k;
+  ringed = ringed;
 }
 
 -- jobs one after another

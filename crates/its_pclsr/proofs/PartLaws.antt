@@ -7,11 +7,11 @@ use Rattle.its_jobs.specs.Table.{job_at}
 use Rattle.its_stepped.specs.State.{Part, UnlinkOld, LinkNew, FreeOld, Mark, State}
 use Rattle.its_stepped.specs.Unwind.{with_part}
 use Rattle.its_plain.specs.OperatorClock.{clock_end}
+use Rattle.its_world.specs.Filed.{Ringed}
 use Rattle.its_world.specs.Tidy.{Across, Tidy}
 use Rattle.its_world.specs.World.{alarm_at, mark_of, state_of, symbols_at}
 use Rattle.its_world.specs.declared.world.World.{World}
-use Rattle.its_world.proofs.StorageLaws as stored
-use Rattle.its_world.proofs.StorageLaws.{files_are, marks_are}
+use Rattle.its_world.proofs.StorageLaws.{files_are, marks_are, stored_state}
 use Rattle.its_world.proofs.MarkLaws.{mark_none, made, part_step}
 use Rattle.its_world.proofs.KeptLaws.{Stays}
 use Rattle.its_pclsr.specs.Owed.{Begins, IsNext}
@@ -21,18 +21,8 @@ use Rattle.its_pclsr.specs.Parts.{NextMade}
 pub store_state : (old new : World) → Stays old.files new.files old.jobs → new.core ≡ old.core → new.jobs ≡ old.jobs → new.frames ≡ old.frames
     → new.consoles ≡ old.consoles → new.holders ≡ old.holders → new.clock ≡ old.clock → new.alarms ≡ old.alarms → new.version ≡ old.version → new.symbols ≡ old.symbols
     → state_of new ≡ record (state_of old) { raw = record (state_of old).raw { files = directory new.files }; mark = mark_of new.files }
-store_state old new stays core jobs frames consoles holders clock alarms version symbols = stored.store_state old new new.files (record {
-  core = core;
-  jobs = jobs;
-  frames = frames;
-  consoles = consoles;
-  holders = holders;
-  clock = clock;
-  alarms = alarms;
-  version = version;
-  symbols = symbols;
-  files = refl;
-}) stays
+store_state old new stays core jobs frames consoles holders clock alarms version symbols =
+    stored_state old new new.files core jobs frames consoles holders clock alarms version symbols refl stays
 
 -- nothing is marked
 none_made : (p : Part) (s : Store) → s.mark ≡ None → made p s ≡ s
@@ -74,11 +64,12 @@ next_made old new p whole next files stays core jobs frames consoles holders clo
 }
 
 -- and the world stays tidy
-pub store_tidy : (old new : World) → Stays old.files new.files old.jobs → new.core ≡ old.core → new.jobs ≡ old.jobs → new.alarms ≡ old.alarms → new.clock ≡ old.clock → new.symbols ≡ old.symbols → Tidy old → Tidy new
-store_tidy old new stays core jobs alarms clock symbols tidy = record {
+pub store_tidy : (old new : World) → Stays old.files new.files old.jobs → new.core ≡ old.core → new.jobs ≡ old.jobs → new.alarms ≡ old.alarms → new.clock ≡ old.clock → new.symbols ≡ old.symbols → (Ringed old → Ringed new) → Tidy old → Tidy new
+store_tidy old new stays core jobs alarms clock symbols ringed tidy = record {
   blank = λ k h. ap (λ c. core_at c k) core ∙ tidy.blank k (sym (ap (λ t. job_at t k) jobs) ∙ h);
   quiet = λ k h. ap (λ l. alarm_at l.items k) alarms ∙ tidy.quiet k (sym (ap (λ t. job_at t k) jobs) ∙ h);
   timed = subst (λ t. t < clock_end) (sym clock) tidy.timed;
   across = subst (λ t. Across new.files t) (sym jobs) stays.across;
   nameless = λ k h. ap (λ l. symbols_at l.items k) symbols ∙ tidy.nameless k (sym (ap (λ t. job_at t k) jobs) ∙ h);
+  ringed = ringed tidy.ringed;
 }

@@ -34,6 +34,9 @@ use Rattle.its_stepped.proofs.FrameLaws.{on_slot_here, on_slot_other}
 use Rattle.its_stepped.proofs.UnwindLaws.{slot_same, slot_then}
 use Rattle.its_pclsr.specs.Removal.{channel_left, Shared, Alone, Closes, Bare, Empties, SlotSwept, Sweeps, Swept}
 use Rattle.its_pclsr.proofs.ApartLaws.{tidy_becomes}
+use Rattle.its_world.specs.Rings.{lists_to}
+use Rattle.its_world.specs.Filed.{Ringed, Resettled}
+use Rattle.its_world.proofs.PlaceLaws.{removed_ringed}
 use Rattle.its_world.specs.Storage.{chan_in}
 use Rattle.its_world.specs.Tidy.{channel_by, channel_at, tally, reads, writes, Across, Tidy}
 use Rattle.its_world.specs.World.{chan_of, mark_of, bare, alarm_at, AlarmBecomes, raw_of, raw_at, frame_at, console_at, holder_at, symbols_at, state_of, in_raw, with_frames, Becomes, CoreBecomes, FrameBecomes, JobBecomes}
@@ -312,6 +315,7 @@ shut_tidy gone old new s j i is h b tidy = record {
     | inl e ↦ let wrong : None ≡ Some i = sym none ∙ ap (job_at new.jobs) e ∙ b.job.here in absurd cc
     | inr ne ↦ sym (b.job.others k ne) ∙ none
   ]);
+  ringed = b.ringed tidy.ringed;
 }
 
 -- one slot swept
@@ -480,6 +484,10 @@ none_there w k t past =
 past_left : (w : World) (r k : ℕ) → r < slots → IsTree w.jobs.jobs w.jobs.superiors → slots ≤ k → is_gone (superiors (state_of w).raw) r k ≡ false
 past_left w r k l t past = ap (λ (f : ℕ → Bool). f k) (sym (tree_gone w r t)) ∙ past_none w.jobs.superiors r k t.superior_count l past
 
+-- symbols are left by what job each slot has
+pub forgotten_along : (t u : Table) (xs ys zs : List (ArrayVec Symbol)) → t ≡ u → ys ≡ zs → Forgotten u xs zs → Forgotten t xs ys
+forgotten_along t u xs ys zs jobs lists f = subst (λ l. Forgotten t xs l) (sym lists) (subst (λ x. Forgotten x xs zs) (sym jobs) f)
+
 -- then all slots are swept, and the jobs are removed
 module _ (old mid : World) (r : ℕ) (low : r < slots) (tree : IsTree old.jobs.jobs old.jobs.superiors) (swept : Swept (is_gone (superiors (state_of old).raw) r) old mid slots) where
   past_swept : (k : ℕ) → slots ≤ k → SlotSame (state_of old) (state_of mid) k → SlotSwept (is_gone (superiors (state_of old).raw) r) (state_of old) (state_of mid) k
@@ -523,6 +531,18 @@ module _ (old mid : World) (r : ℕ) (low : r < slots) (tree : IsTree old.jobs.j
     job_left : (k : ℕ) → is_gone (superiors (state_of old).raw) r k ≡ false → job_at new.jobs k ≡ job_at mid.jobs k
     job_left k g = job.each k ∙ ap (λ (b : Bool). if b then None else job_at mid.jobs k) (ap (λ (f : ℕ → Bool). f k) gone_same ∙ g)
 
+    -- the jobs that are gone have no frame; so where consoles have other holders, all that wait are put where they belong
+    frame_gone : (k : ℕ) → is_gone (superiors (state_of old).raw) r k ≡ true → frame_at mid.frames.items k ≡ None
+    frame_gone k g = sym (frame_is mid k) ∙ (all_swept k).frame ∙ ap (λ (b : Bool). if b then None else (state_of old).frames k) g
+
+    pub ringed_removed : (low : World) → new.jobs ≡ low.jobs → low.frames ≡ mid.frames → low.consoles ≡ mid.consoles → low.clock ≡ mid.clock → low.rings ≡ mid.rings → Resettled low new (lists_to 8)
+        → Ringed mid → Ringed new
+    ringed_removed low jobs frames consoles clock rings settled =
+        removed_ringed mid low new (λ k. elim (cases_Bool (is_gone (superiors (state_of old).raw) r k)) [
+          | inl g ↦ inr (frame_gone k g)
+          | inr g ↦ inl (ap (λ t. job_at t k) (sym jobs) ∙ job_left k g)
+        ]) frames consoles clock rings settled
+
     -- and their symbols with them: what is left of those of a slot, by whether it is gone, and by what job it has
     symbols_by : (k : ℕ) (b : Bool) (o : Option Job) → is_gone (superiors (state_of old).raw) r k ≡ b → job_at new.jobs k ≡ o → Tidy mid
         → symbols_left (is_none o) (symbols_at mid.symbols.items k) ≡ symbols_left b (symbols_at mid.symbols.items k)
@@ -539,8 +559,8 @@ module _ (old mid : World) (r : ℕ) (low : r < slots) (tree : IsTree old.jobs.j
     none_left None ss e = refl
     none_left (Some j) ss e = cc
 
-    pub tidy_removed : new.core ≡ mid.core → new.files ≡ mid.files → new.alarms ≡ mid.alarms → new.clock ≡ mid.clock → Forgotten new.jobs mid.symbols.items new.symbols.items → Tidy mid → Tidy new
-    tidy_removed core files alarms clock forgets tidy = record {
+    pub tidy_removed : new.core ≡ mid.core → new.files ≡ mid.files → new.alarms ≡ mid.alarms → new.clock ≡ mid.clock → Forgotten new.jobs mid.symbols.items new.symbols.items → (Ringed mid → Ringed new) → Tidy mid → Tidy new
+    tidy_removed core files alarms clock forgets ringed tidy = record {
       blank = λ k none. ap (λ c. core_at c k) core ∙ elim (cases_Bool (is_gone (superiors (state_of old).raw) r k)) [
         | inl g ↦ cores_left k g
         | inr g ↦ tidy.blank k (sym (job_left k g) ∙ none)
@@ -555,6 +575,7 @@ module _ (old mid : World) (r : ℕ) (low : r < slots) (tree : IsTree old.jobs.j
         | inr g ↦ ap (λ o. channel_by o n) (job_left k g)
       ]));
       nameless = λ k none. forgets k ∙ none_left (job_at new.jobs k) (symbols_at mid.symbols.items k) none;
+      ringed = ringed tidy.ringed;
     }
 
     module _ (superior : Without (in_tree (superior_at mid.jobs) r) (superior_at mid.jobs) (superior_at new.jobs)) (core : new.core ≡ mid.core) (files : new.files ≡ mid.files) (alarms : new.alarms ≡ mid.alarms) where

@@ -85,6 +85,7 @@ unmoved w s none = record {
   alarms = refl;
   version = refl;
   symbols = refl;
+  ringed = λ r. r;
 }
 
 pub paid_none : (w : World) (s n : ℕ) (a : Ask) (f : ℕ → Frame) → is_some (job_at w.jobs s) ≡ true → frame_at w.frames.items s ≡ None → n ≡ 0

@@ -34,7 +34,8 @@ use Rattle.its_stepped.proofs.DecodingLaws.{decoding}
 use Rattle.its_stepped.proofs.GivenLaws.{given}
 use Rattle.its_stepped.proofs.UnwindLaws.{all_unwound_end, all_unwound_plain, all_unwound_sound, all_unwound_none, all_unwound_others}
 use Rattle.its_stepped.proofs.HelpLaws.{helped_if_plain, helped_if_sound, helped_if_others, helped_if_unmarked}
-use Rattle.its_stepped.proofs.TriedLaws.{prepared_seen, decision_helped, Goes_on, waits_unhelped, waits_unreached}
+use Rattle.its_stepped.proofs.TriedLaws.{prepared_seen, decision_helped, waits_unhelped, waits_unreached}
+use Rattle.its_stepped.proofs.WaitLaws.{Goes_on}
 use Rattle.its_stepped.proofs.ViewLaws.{StillAt, target_seen, reach_plain, helps_seen}
 use Rattle.its_stepped.proofs.ForestLaws.{forest_raw}
 use Rattle.its_world.specs.World.{alarm_at, raw_of, raw_at, frame_at, state_of}

@@ -70,6 +70,7 @@ pub fn remove_tree(w: &mut World, slot: u8)
     pass_on(&w.jobs, slot, &mut w.holders);
     w.jobs.remove_tree(slot);
     forget_removed(&mut w.symbols, &w.jobs);
+    w.settle_consoles();
 }
 
 /// Gives up what the jobs of a tree have, and closes the channels on them.

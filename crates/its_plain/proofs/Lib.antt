@@ -7,3 +7,5 @@ pub mod TracedLaws
 pub mod RunLaws
 pub mod StepLaws
 pub mod TranscriptExamples
+pub mod FairLaws
+pub mod UnrolledLaws

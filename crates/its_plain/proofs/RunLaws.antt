@@ -2,7 +2,7 @@
 -- the rules of `Transcript`, both ways. It computes by the items, the letters and what a line comes to.
 use Rattle.std.specs.Prelude.{◌≡◌, ◌<◌, ℕ, List, [], ◌∷◌, ◌++◌, length, refl}
 use Rattle.std.proofs.Common.{sym, subst}
-use Rattle.its_word.specs.Item.{Item, Read, Unread, Beyond}
+use Rattle.its_word.specs.Item.{Item, Read, Unread, InTurn, Beyond}
 use Rattle.its_word.specs.declared.calls.Pace.{Pace}
 use Rattle.its_word.specs.declared.calls.Pace.TheVariants.{Work}
 use Rattle.its_word.specs.declared.session.Event.{Event}
@@ -13,7 +13,7 @@ use Rattle.its_plain.specs.OperatorLines.{Lined, Done, Peeks, lined}
 use Rattle.its_plain.specs.Licence.{Licensed, most_dots}
 use Rattle.its_plain.specs.Machine.{Machine}
 use Rattle.its_plain.specs.Operator.{Refuses, Does, Ticks, Quits}
-use Rattle.its_plain.specs.Transcript.{Fate, Ended, Open, Lost, TooLong, Walk, after_letter, walk_after, next_line, Paced, none, letter, Shows, end_line, input_end, too_long, unread_line, refused_line, obeyed_line, tick_line, peek_line}
+use Rattle.its_plain.specs.Transcript.{Fate, Ended, Open, Lost, TooLong, Walk, after_letter, walk_after, next_line, Paced, none, letter, Shows, end_line, input_end, too_long, unread_line, refused_line, obeyed_line, tick_line, turn_line, peek_line}
 
 -- each letter is licensed in turn, and what follows goes on from there
 abbrev pub PacedOn : Walk → ℕ → List Pace → (Walk → Type 0) → Type 0
@@ -33,6 +33,8 @@ LinedOn v (Peeks i) next lines fate = (peek : Peek) × (rest : List Line) × (li
 abbrev pub Run : Walk → List Item → List Line → Fate → Type 0
 Run v [] lines fate = (lines ≡ []) × (fate ≡ Open)
 Run v (Read e ∷ es) lines fate = LinedOn v (lined v.machine v.block e) (λ w rest. Run w es rest fate) lines fate
+Run v (InTurn i k ∷ es) lines fate =
+    (ps : List Pace) × (rest : List Line) × (lines ≡ printed.Ticks i ps ∷ rest) × (length ps ≡ k) × PacedOn v i ps (λ w. Run w es rest fate)
 Run v (Unread r ∷ es) lines fate = (lines ≡ Refused v.line r ∷ []) × (fate ≡ Lost)
 Run v (Beyond ∷ es) lines fate = (lines ≡ []) × (fate ≡ TooLong)
 
@@ -56,6 +58,8 @@ shows_run v (Read e ∷ es) lines fate (obeyed_line {n = n} {out = out} {touched
 shows_run v (Read e ∷ es) lines fate (tick_line {w = w} {i = i} {k = k} {ps = ps} {rest = rest} is long paces more) =
     lined_run v e es (printed.Ticks i ps ∷ rest) fate (Done (Ticks i k)) is
     (ps, rest, refl, long, paced_on paces (λ w. Run (next_line w) es rest fate) (shows_run (next_line w) es rest fate more))
+shows_run v (InTurn i k ∷ es) lines fate (turn_line {w = w} {ps = ps} {rest = rest} long paces more) =
+    (ps, rest, refl, long, paced_on paces (λ w. Run w es rest fate) (shows_run w es rest fate more))
 shows_run v (Read e ∷ es) lines fate (peek_line {i = i} {peek = peek} {rest = rest} is more) =
     lined_run v e es (printed.Peeked i peek ∷ rest) fate (Peeks i) is (peek, rest, refl, shows_run (next_line v) es rest fate more)
 
@@ -84,5 +88,8 @@ lined_shows v e es (Peeks i) lines fate is h more = rw h.2 (peek_line is (more (
 pub run_shows : (v : Walk) (es : List Item) (lines : List Line) (fate : Fate) → Run v es lines fate → Shows v es lines fate
 run_shows v [] lines fate h = rw (h.0, h.1) input_end
 run_shows v (Read e ∷ es) lines fate h = lined_shows v e es (lined v.machine v.block e) lines fate refl h (λ w rest r. run_shows w es rest fate r)
+run_shows v (InTurn i k ∷ es) lines fate h =
+    let p = on_paced v i h.0 (λ w. Run w es h.1 fate) h.4 in
+    rw h.2 (turn_line h.3 p.paces (run_shows p.to es h.1 fate p.next))
 run_shows v (Unread r ∷ es) lines fate h = rw (h.0, h.1) unread_line
 run_shows v (Beyond ∷ es) lines fate h = rw (h.0, h.1) too_long

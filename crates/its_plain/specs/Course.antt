@@ -1,6 +1,6 @@
 -- The one run of a session's lines along the plain machine (docs/MACHINE.md, "The ledger").
 use Rattle.std.specs.Prelude.{ℕ, List, [], ◌∷◌, length, drop, unwrap_or}
-use Rattle.its_word.specs.Item.{Item, Read, Unread, Beyond}
+use Rattle.its_word.specs.Item.{Item, Read, Unread, InTurn, Beyond}
 use Rattle.its_word.specs.declared.calls.Pace.{Pace}
 use Rattle.its_word.specs.declared.calls.Pace.TheVariants.{Step, Work, Wait, Off}
 use Rattle.its_word.specs.declared.session.Event.{Event}
@@ -60,6 +60,7 @@ past m b e (Peeks s) lines next = next m b (drop 1 lines)
 abbrev pub course : Machine → Block → List Item → List Line → Course
 course m b [] lines = rests m
 course m b (Read e ∷ es) lines = past m b e (lined m b e) lines (λ n b' rest. course n b' es rest)
+course m b (InTurn s k ∷ es) lines = paced m s (letters lines) (λ n. course n b es (drop 1 lines))
 course m b (Unread r ∷ es) lines = rests m
 course m b (Beyond ∷ es) lines = rests m
 

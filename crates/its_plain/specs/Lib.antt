@@ -26,6 +26,7 @@ pub mod CallUsr
 pub mod CallCore
 pub mod Moves
 pub mod CallDevice
+pub mod Reasons
 pub mod CallStep
 pub mod Operator
 pub mod OperatorSymbols
@@ -41,3 +42,4 @@ pub mod OneByte
 pub mod Course
 pub mod Ledger
 pub mod Stretch
+pub mod Unrolled

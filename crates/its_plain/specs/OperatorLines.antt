@@ -1,7 +1,7 @@
 -- Each line of a session, and what it comes to on the plain machine (docs/SESSION.md, "The lines").
 use Rattle.std.specs.Prelude.{ℕ, ◌+◌, Option, Some, None, List, [], ◌∷◌, Result, Ok, Err, take}
 use Rattle.its_word.specs.declared.session.Event.{Event}
-use Rattle.its_word.specs.declared.session.Event.TheVariants.{Nothing, Version, Load, Words, ReadOnly, Symbol, Go, File, Append, EndFile, Tick, TypeIn, Drain, Clock, Int, Exam, State, Deposit, Stop, Cont, Peek, Dir, Show, End}
+use Rattle.its_word.specs.declared.session.Event.TheVariants.{Nothing, Version, Load, Words, ReadOnly, Symbol, Go, File, Append, EndFile, Tick, Run, TypeIn, Drain, Clock, Int, Exam, State, Deposit, Stop, Cont, Peek, Dir, Show, End}
 use Rattle.its_word.specs.declared.session.Reason.{Reason}
 use Rattle.its_word.specs.declared.session.Reason.TheVariants.{NoJob}
 use Rattle.its_word.specs.declared.show.JobShow.{JobShow}
@@ -40,7 +40,7 @@ abbrev pub by_clock : Machine → Block → ℕ → Result Machine Reason → Op
 by_clock m b n (Ok k) = Does k [] (due (m.clock + n) m.jobs) b
 by_clock m b n (Err r) = Refuses r
 
--- what each line comes to. The lines of a LOAD block disturb the job that LOAD has just made: no `.` came for it,
+-- what each line comes to; a RUN line does nothing itself: its turns stand behind it. The lines of a LOAD block disturb the job that LOAD has just made: no `.` came for it,
 -- so this says of a session no more than that LOAD disturbs it. PEEK does nothing to the machine
 unfoldable pub operate : Machine → Block → Event → Operated
 operate m b Nothing = Does m [] nobody b
@@ -54,6 +54,7 @@ operate m b (File d x y) = quietly (record b { file = names_of d x y }) (file_ma
 operate m b (Append words) = quietly b (words_added m b.file words.items)
 operate m b EndFile = Does m [] nobody b
 operate m b (Tick s n) = Ticks s n
+operate m b (Run n q) = Does m [] nobody b
 operate m b (TypeIn c bytes) = Does (typed c bytes.items m) (printed.Typed c (dropped (m.consoles c) bytes.items) ∷ []) nobody b
 operate m b (Drain c n) = Does (drained c n m) (printed.Drained c (take n (m.consoles c).output) ∷ []) nobody b
 operate m b (Clock n) = by_clock m b n (clocked m n)

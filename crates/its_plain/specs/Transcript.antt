@@ -1,7 +1,7 @@
 -- The transcript of a session: which lines the plain machine shows of which events, by one rule for each kind of event
 -- (docs/MACHINE.md, "The transcript").
 use Rattle.std.specs.Prelude.{◌≡◌, ◌<◌, ℕ, ◌+◌, Bool, List, [], ◌∷◌, ◌++◌, length}
-use Rattle.its_word.specs.Item.{Item, Read, Unread, Beyond}
+use Rattle.its_word.specs.Item.{Item, Read, Unread, InTurn, Beyond}
 use Rattle.its_word.specs.declared.calls.Pace.{Pace}
 use Rattle.its_word.specs.declared.calls.Pace.TheVariants.{Work}
 use Rattle.its_word.specs.declared.session.Event.{Event}
@@ -87,6 +87,12 @@ pub data Shows : Walk → List Item → List Line → Fate → Type 0 where
       → Paced i v ps w
       → Shows (next_line w) es rest fate
       → Shows v (Read e ∷ es) (printed.Ticks i ps ∷ rest) fate
+  -- a turn of a RUN line: a `T` line of its slot. It is no line of the session
+  turn_line : {v w : Walk} {i k : ℕ} {ps : List Pace} {es : List Item} {rest : List Line} {fate : Fate}
+      → length ps ≡ k
+      → Paced i v ps w
+      → Shows w es rest fate
+      → Shows v (InTurn i k ∷ es) (printed.Ticks i ps ∷ rest) fate
   -- PEEK: a `P` line, which may say anything
   peek_line : {v : Walk} {e : Event} {i : ℕ} {peek : Peek} {es : List Item} {rest : List Line} {fate : Fate}
       → Comes v e (Peeks i)

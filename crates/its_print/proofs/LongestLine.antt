@@ -97,7 +97,6 @@ length-reason reasons.NoFile = omega arith
 length-reason reasons.Exists = omega arith
 length-reason reasons.Full = omega arith
 length-reason reasons.Cut = omega arith
-length-reason reasons.Unbuilt = omega arith
 
 -- the words after the first
 room_of_fields : (l : Line) → IsPrinted l → room_of (fields_of l) ≤ 1540

@@ -96,7 +96,6 @@ reason_name reasons.NoFile = codes "NOFILE"
 reason_name reasons.Exists = codes "EXISTS"
 reason_name reasons.Full = codes "FULL"
 reason_name reasons.Cut = codes "CUT"
-reason_name reasons.Unbuilt = codes "UNBUILT"
 
 -- the fields of a job after its slot: names, superior, console, RUN or STOP, PC word, pending words,
 -- masks and deferrals

@@ -55,6 +55,5 @@ pub fn reason_word(reason: Reason) -> &'static [u8]
         Reason::Exists => b"EXISTS",
         Reason::Full => b"FULL",
         Reason::Cut => b"CUT",
-        Reason::Unbuilt => b"UNBUILT",
     }
 }

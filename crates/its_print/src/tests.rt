@@ -144,7 +144,7 @@ fn prints_files_and_refusals(rt: HostRuntime) {
         (1, Reason::ReadOnly, b"? 1 READONLY\n"),
         (1, Reason::NoFile, b"? 1 NOFILE\n"),
         (1, Reason::Exists, b"? 1 EXISTS\n"),
-        (0o4000000, Reason::Unbuilt, b"? 4000000 UNBUILT\n"),
+        (0o4000000, Reason::Cut, b"? 4000000 CUT\n"),
     ] {
         let mut out = ArrayVec::new();
         print_refusal(n, reason, &mut out);

@@ -1,3 +1,4 @@
 pub mod BufferLaws
 pub mod LinesLaws
 pub mod ItemsLaws
+pub mod TextsLaws

@@ -101,7 +101,7 @@ reads_push next old now new b left mid rest o s t p = record {
 }
 
 -- the end of the source
-nothing_left : (xs ys : List ℕ) → xs ++ ys ≡ [] → (xs ≡ []) × (ys ≡ [])
+pub nothing_left : (xs ys : List ℕ) → xs ++ ys ≡ [] → (xs ≡ []) × (ys ≡ [])
 nothing_left [] ys e = (refl, e)
 nothing_left (x ∷ xs) ys e = cc
 

@@ -1,3 +1,5 @@
 pub mod Bytes
 pub mod Lines
 pub mod Items
+pub mod TextLines
+pub mod Texts

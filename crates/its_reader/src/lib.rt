@@ -5,6 +5,10 @@
 mod buffer;
 mod items;
 mod lines;
+#[cfg(test)]
+mod tests;
+mod texts;
 
 pub use items::{Found, Items};
 pub use lines::{Lines, Next};
+pub use texts::Texts;

@@ -9,14 +9,14 @@ use arrayvec::ArrayVec;
 use its_io::{Failed, Source};
 
 /// The most lines that are read.
-const MOST_LINES: u32 = 1 << 20;
+pub(super) const MOST_LINES: u32 = 1 << 20;
 
 /// What comes next of the lines of a source.
 #[derive(Clone, Copy, Debug, PartialEq, Eq)]
 pub enum Next {
     /// A line.
     Line,
-    /// A line of more than 255 bytes, as soon as byte 256 was read.
+    /// A line of too many bytes, as soon as the first of them that is too many was read.
     Long,
     /// A line past number 1048576 (decimal) begins.
     Beyond,
@@ -106,7 +106,7 @@ impl Lines {
 }
 
 /// What the end of the source comes to, where these bytes of a line were read.
-fn last(line: &[u8]) -> Next
+pub(super) fn last(line: &[u8]) -> Next
     ensures { result ≡ last_of line.now }
 {
     if line.is_empty() {

@@ -1,10 +1,10 @@
 -- The first slot that runs, and the turn.
-use Rattle.std.specs.Prelude.{cond, ℕ, zero, suc, ◌+◌, ◌-◌, ◌<◌, ◌≤◌, ◌≡◌, Bool, true, false, Option, Some, None, List, length, slice_index_or, refl}
-use Rattle.std.proofs.Common.{sym, ◌∙◌, ap, arith, inl, inr}
+use Rattle.std.specs.Prelude.{cond, ℕ, zero, suc, ◌+◌, ◌-◌, ◌<◌, ◌≤◌, ◌≡◌, ◌≢◌, Bool, true, false, Option, Some, None, List, length, slice_index_or, refl}
+use Rattle.std.proofs.Common.{sym, ◌∙◌, ap, subst, arith, inl, inr}
 use Rattle.std.proofs.lemmas.Bool.{cases_eq, cases_lt, lt-ltb, le-ltb}
 use Rattle.std.proofs.lemmas.Option.{none-some, same_Some}
 use Rattle.std.proofs.lemmas.List.{get_or_past}
-use Rattle.its_robin.specs.Robin.{first_running, robin, between, IsNext, Turn}
+use Rattle.its_robin.specs.Robin.{first_running, or_else, robin, between, IsNext, Turn}
 
 -- slot k does not run
 first_skips : (runs : ℕ → Bool) (n k : ℕ) → runs k ≡ false → first_running runs (suc n) k ≡ first_running runs n (k + 1)
@@ -140,3 +140,80 @@ around_is xs last m None l e behind h =
     record { none = all_rest xs last behind (ap (λ i. first_running (λ k. slice_index_or xs k false) i 0) (sym e) ∙ sym h) }
 around_is xs last m (Some s) l e behind h =
     next_around (λ k. slice_index_or xs k false) (length xs) last s l behind (ap (λ i. first_running (λ k. slice_index_or xs k false) i 0) (sym e) ∙ sym h)
+
+-- whose turn it is depends on who runs of the n slots alone
+same_cond : (a b : Bool) (s : ℕ) (o p : Option ℕ) → a ≡ b → o ≡ p → cond a (Some s) o ≡ cond b (Some s) p
+same_cond a b s o p e f = ap (λ x. cond x (Some s) o) e ∙ ap (λ x. cond b (Some s) x) f
+
+first_same : (f g : ℕ → Bool) (n k m : ℕ) → k + n ≤ m → ((i : ℕ) → i < m → f i ≡ g i) → first_running f n k ≡ first_running g n k
+unfolding first_running
+first_same f g zero k m l h = refl
+first_same f g (suc n) k m l h =
+    let here = h k (omega arith) in
+    let rest = first_same f g n (k + 1) m (omega arith) h in
+    same_cond (f k) (g k) k (first_running f n (k + 1)) (first_running g n (k + 1)) here rest
+
+pub robin_same : (n last : ℕ) (f g : ℕ → Bool) → last < n → ((i : ℕ) → i < n → f i ≡ g i) → robin n f last ≡ robin n g last
+unfolding robin
+robin_same n last f g l h =
+    let behind = first_same f g (n - (last + 1)) (last + 1) n (omega arith) h in
+    let around = first_same f g (last + 1) 0 n (omega arith) h in
+    ap (λ o. or_else o (first_running f (last + 1) 0)) behind ∙ ap (λ o. or_else (first_running g (n - (last + 1)) (last + 1)) o) around
+
+-- the slot whose turn it is is the nearest that runs
+next_by : (n last s : ℕ) (runs : ℕ → Bool) (o : Option ℕ) → last < n → first_running runs (n - (last + 1)) (last + 1) ≡ o → or_else o (first_running runs (last + 1) 0) ≡ Some s
+    → IsNext n runs last s
+next_by n last s runs (Some t) l is h = subst (IsNext n runs last) (same_Some t s h) (next_behind runs n last t l is)
+next_by n last s runs None l is h = next_around runs n last s l is h
+
+pub robin_next : (n last s : ℕ) (runs : ℕ → Bool) → last < n → robin n runs last ≡ Some s → IsNext n runs last s
+unfolding robin
+robin_next n last s runs l h = next_by n last s runs (first_running runs (n - (last + 1)) (last + 1)) l refl h
+
+-- the way on from a slot that is nearer
+pub way_on : (n last t k : ℕ) → last < n → t < n → k < n → between n last t < between n last k → between n t k + between n last t + 1 ≡ between n last k
+way_on n last t k l a b h = elim (cases_lt last t) [
+  | inl tb ↦ elim (cases_lt last k) [
+    | inl kb ↦ (
+        let e = between_behind n last t tb in
+        let f = between_behind n last k kb in
+        let g = between_behind n t k (omega (arith, h, e, f)) in
+        omega (arith, e, f, g))
+    | inr ka ↦ (
+        let e = between_behind n last t tb in
+        let f = between_around n last k ka in
+        let g = between_around n t k (omega arith) in
+        omega (arith, e, f, g))
+  ]
+  | inr ta ↦ elim (cases_lt last k) [
+    | inl kb ↦ (
+        let e = between_around n last t ta in
+        let f = between_behind n last k kb in
+        absurd (omega (arith, h, e, f)))
+    | inr ka ↦ (
+        let e = between_around n last t ta in
+        let f = between_around n last k ka in
+        let g = between_behind n t k (omega (arith, h, e, f)) in
+        omega (arith, e, f, g))
+  ]
+]
+
+-- slots that are as far are the same
+pub as_far : (n last t k : ℕ) → last < n → t < n → k < n → between n last t ≡ between n last k → t ≡ k
+as_far n last t k l a b h = elim (cases_lt last t) [
+  | inl tb ↦ elim (cases_lt last k) [
+    | inl kb ↦ (let e = between_behind n last t tb in let f = between_behind n last k kb in omega (arith, h, e, f))
+    | inr ka ↦ (let e = between_behind n last t tb in let f = between_around n last k ka in omega (arith, h, e, f))
+  ]
+  | inr ta ↦ elim (cases_lt last k) [
+    | inl kb ↦ (let e = between_around n last t ta in let f = between_behind n last k kb in omega (arith, h, e, f))
+    | inr ka ↦ (let e = between_around n last t ta in let f = between_around n last k ka in omega (arith, h, e, f))
+  ]
+]
+
+-- each other slot is nearer than the last one itself
+pub farthest : (n last k : ℕ) → last < n → k < n → k ≢ last → between n last k < between n last last
+farthest n last k l a ne = elim (cases_lt last k) [
+  | inl kb ↦ (let e = between_behind n last k kb in let f = between_around n last last (omega arith) in omega (arith, e, f))
+  | inr ka ↦ (let e = between_around n last k ka in let f = between_around n last last (omega arith) in omega (arith, e, f, ne))
+]

@@ -15,7 +15,7 @@ use Rattle.its_word.specs.declared.session.Bad.TheVariants as bads
 use Rattle.its_session.specs.declared.kind.Kind.{Kind}
 use Rattle.its_session.specs.declared.kind.Kind.TheVariants as kinds
 use Rattle.its_session.specs.Fits.{EventFits, IsNameWord, place_of, Stands}
-use Rattle.its_session.specs.Grammar.{Field, with_fields, with_count, number, number_to, count_to, last_slot, slot, page, address, name, console, is_dash, console_or_dash, console_of, of_slot, load_line, words_line, go_line, file_line, append_line, bare_line, tick_line, type_line, drain_line, clock_line, int_line, exam_line, deposit_line, slot_line, dir_line, show_line, version_line, read_only_line, symbol_line, before_slash, kind_of, may_stand, is_at, place_of_kind, version_of_kind, line_of_kind, line_of_first, is_comment, event_of_words}
+use Rattle.its_session.specs.Grammar.{Field, with_fields, with_count, number, number_to, count_to, last_slot, slot, page, address, name, console, is_dash, console_or_dash, console_of, of_slot, load_line, words_line, go_line, file_line, append_line, bare_line, tick_line, run_line, type_line, drain_line, clock_line, int_line, exam_line, deposit_line, slot_line, dir_line, show_line, version_line, read_only_line, symbol_line, before_slash, kind_of, may_stand, is_at, place_of_kind, version_of_kind, line_of_kind, line_of_first, is_comment, event_of_words}
 use Rattle.its_session.proofs.NameLaws.{both}
 
 le_of : (a b : ℕ) → leb a b ≡ true → a ≤ b
@@ -169,6 +169,15 @@ tick_fits v [] e h = cc
 tick_fits v (s ∷ []) e h = cc
 tick_fits v (s ∷ n ∷ m ∷ ws) e h = cc
 
+run_fits : (v : ℕ) (ws : List (List ℕ)) (e : Event) → run_line ws ≡ Ok e → ReadAt v places.Plain e
+unfolding run_line
+run_fits v (n ∷ q ∷ []) e h =
+    fits_by v (count_to 512 n ∷ count_to 64 q ∷ []) (events.Run (octal_value n) (octal_value q)) e
+    (λ f. (let n_in = from_one 512 n f.0 in let q_in = from_one 64 q f.1.0 in (n_in.0, n_in.1, q_in.0, q_in.1))) h
+run_fits v [] e h = cc
+run_fits v (n ∷ []) e h = cc
+run_fits v (n ∷ q ∷ m ∷ ws) e h = cc
+
 type_fits : (v : ℕ) (ws : List (List ℕ)) (e : Event) → type_line ws ≡ Ok e → ReadAt v places.Plain e
 unfolding type_line
 type_fits v [] e h = cc
@@ -294,6 +303,7 @@ kind_fits v kinds.File first ws e h = file_fits v ws e h
 kind_fits v kinds.Append first ws e h = append_fits v ws e h
 kind_fits v kinds.EndFile first ws e h = bare_fits v events.EndFile ws e tt h
 kind_fits v kinds.Tick first ws e h = tick_fits v ws e h
+kind_fits v kinds.Run first ws e h = run_fits v ws e h
 kind_fits v kinds.TypeIn first ws e h = type_fits v ws e h
 kind_fits v kinds.Drain first ws e h = drain_fits v ws e h
 kind_fits v kinds.Clock first ws e h = clock_fits v ws e h

@@ -16,7 +16,7 @@ use Rattle.its_word.proofs.DigitLaws.{digits_are_codes, digits_are_octal, digits
 use Rattle.its_word.proofs.SpacedLaws.{room_of}
 use Rattle.its_word.proofs.TextLaws.{octal12_reads}
 use Rattle.its_session.specs.declared.kind.Kind.TheVariants as kinds
-use Rattle.its_session.specs.Grammar.{append_line, bare_line, before_slash, clock_line, deposit_line, dir_line, drain_line, event_of_words, exam_line, file_line, go_line, int_line, is_comment, is_place, kind_of, line_event, load_line, show_line, last_slot, read_only_line, slot_line, symbol_line, tick_line, type_line, version_line, words_line, words_of}
+use Rattle.its_session.specs.Grammar.{append_line, bare_line, before_slash, clock_line, deposit_line, dir_line, drain_line, event_of_words, exam_line, file_line, go_line, int_line, is_comment, is_place, kind_of, line_event, load_line, show_line, last_slot, read_only_line, run_line, slot_line, symbol_line, tick_line, type_line, version_line, words_line, words_of}
 use Rattle.its_session.specs.Fits.{EventFits, IsNameWord, place_of}
 use Rattle.its_session.specs.Writing.{AreWords, HasWords, console_text, name_of, text_of_event}
 use Rattle.its_session.proofs.LineLaws.{AllRuns, IsRun, line_of_words}
@@ -145,6 +145,14 @@ tick_again s n slot some few =
     let read_n = number_reads n (omega arith) in
     line_of_words places.Plain 2 (codes "TICK") (digits_of s ∷ digits_of n ∷ []) (word (codes "TICK") refl refl) (read_s.run, (read_n.run, tt)) (omega (arith, read_s.short, read_n.short))
     ∙ rw (read_s.formed, read_n.formed, digits_value s, digits_value n) (grind (arith, nat_tests))
+
+run_again : (n q : ℕ) → 1 ≤ n → n ≤ 512 → 1 ≤ q → q ≤ 64 → line_event places.Plain 2 (spaced (codes "RUN") (digits_of n ∷ digits_of q ∷ [])) ≡ Ok (events.Run n q)
+unfolding event_of_words kind_of run_line
+run_again n q some few any short =
+    let read_n = number_reads n (omega arith) in
+    let read_q = number_reads q (omega arith) in
+    line_of_words places.Plain 2 (codes "RUN") (digits_of n ∷ digits_of q ∷ []) (word (codes "RUN") refl refl) (read_n.run, (read_q.run, tt)) (omega (arith, read_n.short, read_q.short))
+    ∙ rw (read_n.formed, read_q.formed, digits_value n, digits_value q) (grind (arith, nat_tests))
 
 drain_again : (c n : ℕ) → c ≤ 7 → 1 ≤ n → n ≤ 64 → line_event places.Plain 2 (spaced (codes "DRAIN") (digits_of c ∷ digits_of n ∷ [])) ≡ Ok (events.Drain c n)
 unfolding event_of_words kind_of drain_line
@@ -448,6 +456,7 @@ reads_back (events.File d x y) f h = file_again d x y f.0 f.1 f.2
 reads_back (events.Append ws) f h = append_again ws.items f.0 f.1 h
 reads_back events.EndFile f h = end_file_again
 reads_back (events.Tick s n) f h = tick_again s n f.0 f.1 f.2
+reads_back (events.Run n q) f h = run_again n q f.0 f.1 f.2 f.3
 reads_back (events.TypeIn c bs) f h = type_again c bs.items f.0 f.1 f.2 f.3
 reads_back (events.Drain c n) f h = drain_again c n f.0 f.1 f.2
 reads_back (events.Clock n) f h = clock_again n f

@@ -26,6 +26,7 @@ EventFits v (events.File d x y) = IsNameWord d × IsNameWord x × IsNameWord y
 EventFits v (events.Append ws) = (1 ≤ length ws.items) × (length ws.items ≤ 16)
 EventFits v events.EndFile = Unit {0}
 EventFits v (events.Tick s n) = (s ≤ last_slot v) × (1 ≤ n) × (n ≤ 512)
+EventFits v (events.Run n q) = (1 ≤ n) × (n ≤ 512) × (1 ≤ q) × (q ≤ 64)
 EventFits v (events.TypeIn c bs) = (c ≤ 7) × (1 ≤ length bs.items) × (length bs.items ≤ 32) × All (λ b. b ≤ 127) bs.items
 EventFits v (events.Drain c n) = (c ≤ 7) × (1 ≤ n) × (n ≤ 64)
 EventFits v (events.Clock n) = n < 2 ^ 36

@@ -133,6 +133,11 @@ unfoldable pub tick_line : ℕ → List (List ℕ) → Result Event Bad
 tick_line v (s ∷ n ∷ []) = with_fields (slot v s ∷ count_to 512 n ∷ []) (events.Tick (octal_value s) (octal_value n))
 tick_line v _ = Err Syntax
 
+-- `RUN n q`
+unfoldable pub run_line : List (List ℕ) → Result Event Bad
+run_line (n ∷ q ∷ []) = with_fields (count_to 512 n ∷ count_to 64 q ∷ []) (events.Run (octal_value n) (octal_value q))
+run_line _ = Err Syntax
+
 -- `TYPE c` and 1 to 32 bytes
 unfoldable pub type_line : List (List ℕ) → Result Event Bad
 type_line (c ∷ bs) = with_count 32 bs (with_fields (console c ∷ map (number_to 127) bs) (events.TypeIn (octal_value c) (record { items = map octal_value bs })))
@@ -203,6 +208,7 @@ kind_of w =
     else (if bytes_eq w (codes "/") then Some kinds.Append
     else (if bytes_eq w (codes "EOF") then Some kinds.EndFile
     else (if bytes_eq w (codes "TICK") then Some kinds.Tick
+    else (if bytes_eq w (codes "RUN") then Some kinds.Run
     else (if bytes_eq w (codes "TYPE") then Some kinds.TypeIn
     else (if bytes_eq w (codes "DRAIN") then Some kinds.Drain
     else (if bytes_eq w (codes "CLOCK") then Some kinds.Clock
@@ -217,7 +223,7 @@ kind_of w =
     else (if bytes_eq w (codes "SHOW") then Some kinds.Show
     else (if bytes_eq w (codes "END") then Some kinds.End
     else (if is_place w then Some kinds.Words
-    else None))))))))))))))))))))))
+    else None)))))))))))))))))))))))
 
 -- where each kind of line may stand: in line 1, after LOAD until GO, after FILE until EOF, or elsewhere
 abbrev pub place_of_kind : Kind → Place
@@ -243,6 +249,7 @@ is_at _ _ = false
 abbrev pub version_of_kind : Kind → ℕ
 version_of_kind kinds.ReadOnly = 2
 version_of_kind kinds.Symbol = 2
+version_of_kind kinds.Run = 2
 version_of_kind _ = 1
 
 -- a line of this kind may stand at a place of a session of version v
@@ -261,6 +268,7 @@ line_of_kind v kinds.File first ws = file_line ws
 line_of_kind v kinds.Append first ws = append_line ws
 line_of_kind v kinds.EndFile first ws = bare_line events.EndFile ws
 line_of_kind v kinds.Tick first ws = tick_line v ws
+line_of_kind v kinds.Run first ws = run_line ws
 line_of_kind v kinds.TypeIn first ws = type_line ws
 line_of_kind v kinds.Drain first ws = drain_line ws
 line_of_kind v kinds.Clock first ws = clock_line ws

@@ -30,6 +30,7 @@ text_of_event (events.File d x y) = spaced (codes "FILE") (name_of d ∷ name_of
 text_of_event (events.Append ws) = spaced (codes "/") (map octal12_of ws.items)
 text_of_event events.EndFile = codes "EOF"
 text_of_event (events.Tick s n) = spaced (codes "TICK") (digits_of s ∷ digits_of n ∷ [])
+text_of_event (events.Run n q) = spaced (codes "RUN") (digits_of n ∷ digits_of q ∷ [])
 text_of_event (events.TypeIn c bs) = spaced (codes "TYPE") (digits_of c ∷ map digits_of bs.items)
 text_of_event (events.Drain c n) = spaced (codes "DRAIN") (digits_of c ∷ digits_of n ∷ [])
 text_of_event (events.Clock n) = spaced (codes "CLOCK") (digits_of n ∷ [])

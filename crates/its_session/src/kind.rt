@@ -18,6 +18,7 @@ pub enum Kind {
     Append,
     EndFile,
     Tick,
+    Run,
     TypeIn,
     Drain,
     Clock,
@@ -56,6 +57,8 @@ pub fn kind_of(first: &[u8]) -> Option<Kind>
         Some(Kind::EndFile)
     } else if is(first, b"TICK") {
         Some(Kind::Tick)
+    } else if is(first, b"RUN") {
+        Some(Kind::Run)
     } else if is(first, b"TYPE") {
         Some(Kind::TypeIn)
     } else if is(first, b"DRAIN") {
@@ -147,7 +150,7 @@ fn version_of_kind(kind: Kind) -> u8
     ensures { result ≡ version_of_kind kind }
 {
     match kind {
-        Kind::ReadOnly | Kind::Symbol => 2,
+        Kind::ReadOnly | Kind::Symbol | Kind::Run => 2,
         _ => 1,
     }
 }

@@ -42,6 +42,7 @@ fn write(e: &Event, out: &mut ArrayVec<u8, 256>)
         Event::Append { words } => append(out, words.as_slice()),
         Event::EndFile => first(out, b"EOF"),
         Event::Tick { s, n } => two_numbers(out, b"TICK", u64::from(*s), u64::from(*n)),
+        Event::Run { n, q } => two_numbers(out, b"RUN", u64::from(*n), u64::from(*q)),
         Event::TypeIn { c, bytes } => type_in(out, *c, bytes.as_slice()),
         Event::Drain { c, n } => two_numbers(out, b"DRAIN", u64::from(*c), u64::from(*n)),
         Event::Clock { n } => number(out, b"CLOCK", *n),

@@ -77,6 +77,7 @@ fn line_of_kind(version: u8, kind: Kind, first: &[u8], words: &[&[u8]]) -> Resul
         Kind::Append => rows::append(words),
         Kind::EndFile => rows::bare(Event::EndFile, words),
         Kind::Tick => rows::tick(version, words),
+        Kind::Run => rows::run(words),
         Kind::TypeIn => rows::type_in(words),
         Kind::Drain => rows::drain(words),
         Kind::Clock => rows::clock(words),

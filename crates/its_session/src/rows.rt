@@ -1,6 +1,6 @@
 //! The rows of the table of lines: each of these reads the words that follow a first word.
 ghost use Rattle.std.specs.Prelude.{◌≡◌, if◌then◌else◌, map};
-ghost use Rattle.its_session.specs.Grammar.{append_line, bare_line, clock_line, console_of, is_dash, deposit_line, dir_line, drain_line, exam_line, file_line, go_line, int_line, load_line, read_only_line, show_line, slot_line, symbol_line, tick_line, type_line, version_line, words_line};
+ghost use Rattle.its_session.specs.Grammar.{append_line, bare_line, clock_line, console_of, is_dash, deposit_line, dir_line, drain_line, exam_line, file_line, go_line, int_line, load_line, read_only_line, run_line, show_line, slot_line, symbol_line, tick_line, type_line, version_line, words_line};
 ghost use Rattle.its_session.specs.Reading.{console_in};
 
 use super::fields::{at_most, bytes, console, count, name, number, numbers, page, slot};
@@ -101,6 +101,19 @@ pub fn tick(version: u8, words: &[&[u8]]) -> Result<Event, Bad>
     let (s, n) = (number(s)?, number(n)?);
     let (s, n) = (slot(version, s)?, count(0o1000, n)?);
     Ok(Event::Tick { s, n })
+}
+
+/// `RUN n q`
+#[tactic(auto, unfolding(crate::specs::Grammar::run_line))]
+pub fn run(words: &[&[u8]]) -> Result<Event, Bad>
+    ensures { result ≡ run_line (map (λ w. w.now) words.now) }
+{
+    let [n, q] = words else {
+        return Err(Bad::Syntax);
+    };
+    let (n, q) = (number(n)?, number(q)?);
+    let (n, q) = (count(0o1000, n)?, count(0o100, q)?);
+    Ok(Event::Run { n, q })
 }
 
 /// `DRAIN c n`

@@ -99,6 +99,8 @@ fn reads_version_two(rt: HostRuntime) {
     reads_in_two!(rt; Place::Load, b"RO 377", Event::ReadOnly { page: 0o377 });
     reads_in_two!(rt; Place::Load, b"SYM FOO 777777", Event::Symbol { name, a: 0o777777 });
     reads_in_two!(rt; Place::Plain, b"TICK 137 1", Event::Tick { s: 0o137, n: 1 });
+    reads_in_two!(rt; Place::Plain, b"RUN 1 1", Event::Run { n: 1, q: 1 });
+    reads_in_two!(rt; Place::Plain, b"RUN 1000 100", Event::Run { n: 0o1000, q: 0o100 });
     reads_in_two!(rt; Place::Plain, b"INT 137 1 0", Event::Int { s: 0o137, v: Word::new(1), w: Word::ZERO });
     reads_in_two!(rt; Place::Plain, b"EXAM 100 0 1", Event::Exam { s: 0o100, a: 0, n: 1 });
     reads_in_two!(rt; Place::Plain, b"DEPOSIT 137 0 1", Event::Deposit { s: 0o137, a: 0, w: Word::new(1) });
@@ -120,19 +122,25 @@ fn reads_version_two(rt: HostRuntime) {
         "VERSION 0\nVERSION 3\nVERSION 777777777777\nTICK 100 1",
         Bad::Range,
     );
-    refuses(&rt, Place::Plain, 1, "VERSION 1\nVERSION 2", Bad::Syntax);
     refuses(
         &rt,
         Place::Plain,
-        2,
-        "VERSION 2\nRO 1\nSYM A 1",
+        1,
+        "VERSION 1\nVERSION 2\nRUN 1 1",
         Bad::Syntax,
     );
     refuses(
         &rt,
         Place::Plain,
         2,
-        "TICK 140 1\nINT 140 0 0\nEXAM 140 0 1\nDEPOSIT 140 0 0\nSTATE 140\nSTOP 140\nCONT 140\nPEEK 140",
+        "VERSION 2\nRO 1\nSYM A 1\nRUN\nRUN 1\nRUN 1 1 1\nRUN 1 8\nRUNS 1 1",
+        Bad::Syntax,
+    );
+    refuses(
+        &rt,
+        Place::Plain,
+        2,
+        "TICK 140 1\nINT 140 0 0\nEXAM 140 0 1\nDEPOSIT 140 0 0\nSTATE 140\nSTOP 140\nCONT 140\nPEEK 140\nRUN 0 1\nRUN 1001 1\nRUN 1 0\nRUN 1 101",
         Bad::Range,
     );
     refuses(&rt, Place::Load, 1, "VERSION 1\nRO 1\nSYM A 1", Bad::Syntax);
@@ -140,7 +148,7 @@ fn reads_version_two(rt: HostRuntime) {
         &rt,
         Place::Load,
         2,
-        "VERSION 2\nRO\nRO 1 2\nRO A\nSYM A\nSYM a 1\nSYM A 1 1\nSYM A 8\nSYM ABCDEFG 1",
+        "VERSION 2\nRO\nRO 1 2\nRO A\nSYM A\nSYM a 1\nSYM A 1 1\nSYM A 8\nSYM ABCDEFG 1\nRUN 1 1",
         Bad::Syntax,
     );
     refuses(&rt, Place::Load, 2, "RO 400\nSYM A 1000000", Bad::Range);

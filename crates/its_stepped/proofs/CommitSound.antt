@@ -30,9 +30,10 @@ use Rattle.its_word.specs.Stores.{stored}
 use Rattle.its_stepped.specs.State.{State, seen, turn, same, waiting, ending}
 use Rattle.its_stepped.specs.Commit.{effect_on, effects_on, sleeps, stays, gone_on, owed_parts, owed_by, committed}
 use Rattle.its_stepped.specs.Tick.{reserves}
-use Rattle.its_stepped.specs.Sound.{Stands, Stored, Debts, IsWaitable, Transfers, WaitingPays, SoundFrame, SoundBy, SoundSlot, MarkBy, Sound}
+use Rattle.its_stepped.specs.Sound.{Stuck, Stands, Stored, Debts, IsWaitable, Transfers, WaitingPays, SoundFrame, SoundBy, SoundSlot, MarkBy, Sound}
 use Rattle.its_stepped.specs.Quiet.{AllQuiet}
 use Rattle.its_stepped.specs.Duty.{HeldFits, Waiting_by, Going, Ending_by, Leaving, Duty, parts_in}
+use Rattle.its_stepped.proofs.WaitLaws.{GoesBy, stuck_sleep}
 use Rattle.its_stepped.proofs.FrameLaws.{changed_only, on_slot_here, on_slot_other}
 use Rattle.its_stepped.proofs.OverLaws.{can_stored, stored_alike, debts_alike}
 use Rattle.its_stepped.proofs.OwnLaws.{Sees, own_of, job_of, spared, job_kept, frames_none, reserved_none, reserved_less}
@@ -73,16 +74,16 @@ others_sound cs j w q h k ne = effects_sound cs j w k q ne (h k ne)
 
 -- a call that waits
 waiting_frame : (q : Whole) (s : Site) (a : Ask) (n : ℕ) (r : Option ℕ) → q.job.stopped ≡ false → deliverable q.job ≡ false
-    → Stands (stored q.core (debts a n)) q.job s a → WaitingPays q.core r a n → SoundFrame q (waiting s a n) r
+    → Stands (stored q.core (debts a n)) q.job s a → WaitingPays q.core r a n → Stuck (with_stores (debts a n) q) a → SoundFrame q (waiting s a n) r
 unfolding seen
-waiting_frame q s a n r runs quiet stands pays = record { runs = runs; quiet = quiet; standing = stands; pays = pays }
+waiting_frame q s a n r runs quiet stands pays stuck = record { runs = runs; quiet = quiet; standing = stands; pays = pays; stuck = stuck }
 
 pub waits_sound : (w : State) (j : ℕ) (q : Whole) (s : Site) (a : Ask) (n : ℕ) → Sound w → Here w j q a n → Stands (stored q.core (debts a n)) q.job s a → Waiting_by w j a
-    → Sound (turn w j same (Some (waiting s a n)))
-waits_sound w j q s a n sound h stands d =
+    → Stuck (with_stores (debts a n) q) a → Sound (turn w j same (Some (waiting s a n)))
+waits_sound w j q s a n sound h stands d stuck =
     turn_sound w j same (Some (waiting s a n)) (λ k ne. sound.each k)
     (slot_sound (Some q) _ (Some (waiting s a n)) _ (w.reserved j) _ (ap (option_map same) h.job_is) refl refl
-    (record { by = waiting_frame q s a n (w.reserved j) h.runs h.quiet stands (record { debts = h.debts; page_is = d.page; waitable = d.waitable }) }))
+    (record { by = waiting_frame q s a n (w.reserved j) h.runs h.quiet stands (record { debts = h.debts; page_is = d.page; waitable = d.waitable }) stuck }))
     (mark_gone_on j w.frames (Some (waiting s a n)) w.mark (marking_begins j w.mark w.frames sound.mark h.parts))
 
 -- the caller as its changes leave it
@@ -147,6 +148,7 @@ ending_frame w j p s a ss e runs quiet stores few = record {
   quiet = quiet;
   standing = tt;
   pays = record { owes = owed_owes p.core w j ss e stores; few = few; page_is = owed_backs w j ss e; files_first = owed_first w j ss e };
+  stuck = tt;
 }
 
 pub ends_sound : (v : State) (j : ℕ) (q : Whole) (s : Site) (a : Ask) (n : ℕ) (cs : List Change) (ss : List Store) (e : Exit) → Sound v → Here v j q a n
@@ -202,20 +204,27 @@ waitable_sleep None h = absurd cc
 waitable_sleep (Some Sleep) h = tt
 waitable_sleep (Some c) h = absurd cc
 
+is_sleep : (o : Option CallName) → sleeps o ≡ true → o ≡ Some Sleep
+is_sleep None h = absurd cc
+is_sleep (Some Sleep) h = refl
+is_sleep (Some c) h = absurd cc
+
 stays_frame : (b : Bool) (q : Whole) (s : Site) (a : Ask) (n : ℕ) (r : Option ℕ) → sleeps (call_named a.name) ≡ b → q.job.stopped ≡ false → deliverable q.job ≡ false
-    → Stands (stored q.core (debts a n)) q.job s a → Debts q.core a n → r ≡ None → reserves a ≡ false → SoundFrame q (stays b s a n) r
+    → Stands (stored q.core (debts a n)) q.job s a → Debts q.core a n → r ≡ None → reserves a ≡ false → a.fail ≡ 0 → SoundFrame q (stays b s a n) r
 unfolding seen
-stays_frame true q s a n r e runs quiet stands d page none = record {
+stays_frame true q s a n r e runs quiet stands d page none fine = record {
   runs = runs;
   quiet = quiet;
   standing = stands;
   pays = record { debts = d; page_is = page; waitable = waitable_sleep (call_named a.name) e };
+  stuck = stuck_sleep (with_stores (debts a n) q) a (is_sleep (call_named a.name) e) fine;
 }
-stays_frame false q s a n r e runs quiet stands d page none = record {
+stays_frame false q s a n r e runs quiet stands d page none fine = record {
   runs = runs;
   quiet = quiet;
   standing = stands;
   pays = record { debts = d; page_is = page; paged = tt; has = none };
+  stuck = tt;
 }
 
 -- the frame after it, of a caller with the core and registers that it had
@@ -223,12 +232,12 @@ on_frame : (q : Whole) (s : Site) (a : Ask) (n : ℕ) (olds : List Store) (b : O
     → seen (Some (gone_on s a n b)) q ≡ with_stores (debts a n) (with_held a b (with_stores olds q)) → IfSome b (HeldFits (stored q.core olds) olds n)
     → IfSome b (λ x. has_size (input a 1) ≡ true) → IfSome b (λ x. Transfers a) → IfSome b (λ x. in_footprint x.place a ≡ false)
     → Stands (with_stores (debts a n) (with_held a b (with_stores olds q))).core (with_stores (debts a n) (with_held a b (with_stores olds q))).job s a → Debts q.core a n → r ≡ None
-    → reserves a ≡ false → SoundFrame q (gone_on s a n b) r
+    → reserves a ≡ false → a.fail ≡ 0 → SoundFrame q (gone_on s a n b) r
 unfolding seen
-on_frame q s a n olds None r runs quiet is f size moves out stands d page none =
+on_frame q s a n olds None r runs quiet is f size moves out stands d page none fine =
     stays_frame (sleeps (call_named a.name)) q s a n r refl runs quiet
-    (subst (λ (p : Whole). Stands p.core p.job s a) (sym is ∙ stays_seen (sleeps (call_named a.name)) s a n q) stands) d page none
-on_frame q s a n olds (Some b) r runs quiet is f size moves out stands d page none = record {
+    (subst (λ (p : Whole). Stands p.core p.job s a) (sym is ∙ stays_seen (sleeps (call_named a.name)) s a n q) stands) d page none fine
+on_frame q s a n olds (Some b) r runs quiet is f size moves out stands d page none fine = record {
   runs = runs;
   quiet = quiet;
   standing = subst (λ (p : Whole). Stands p.core p.job s a) (sym is) stands;
@@ -241,9 +250,14 @@ on_frame q s a n olds (Some b) r runs quiet is f size moves out stands d page no
     transfers = moves;
     apart = out;
   };
+  stuck = tt;
 }
 
 -- the rest is of the same call
+revalued_fine : (a : Ask) (vs : List ℕ) → a.fail ≡ 0 → (revalued a vs).fail ≡ 0
+unfolding revalued
+revalued_fine a vs fine = fine
+
 transfers_rest : (b : Option Held) (a : Ask) (vs : List ℕ) → IfSome b (λ x. Transfers a) → IfSome b (λ x. Transfers (revalued a vs))
 unfolding revalued
 transfers_rest None a vs h = tt
@@ -258,9 +272,9 @@ stands_from : (f : Core → Core) (c d : Core) (k i : Job) (s : Site) (a : Ask) 
 stands_from f c d k i s a e t h = subst (λ (x : Core). Stands (f x) k s a) (sym e) (subst (λ (x : Job). Stands (f d) x s a) (sym t) h)
 
 pub goes_sound : (v : State) (j : ℕ) (q : Whole) (s : Site) (a : Ask) (n : ℕ) (cs : List Change) (b : Option Held) (vs : List ℕ) → Sound v → Here v j q a n
-    → Going v j (with_stores (debts a n) q) s a n cs b vs
+    → Going v j (with_stores (debts a n) q) s a n cs b vs → a.fail ≡ 0
     → Sound (turn (effects_on cs j v) j same (Some (gone_on s (revalued a vs) (length vs) b)))
-goes_sound v j q s a n cs b vs sound h d =
+goes_sound v j q s a n cs b vs sound h d fine =
     let w = effects_on cs j v in
     let k = revalued a vs in
     let m : ℕ = length vs in
@@ -285,7 +299,8 @@ goes_sound v j q s a n cs b vs sound h d =
           (stands_at b x.whole q s k m olds core job d.stands)
           (debts_alike (stored q.core olds) x.whole.core k m (λ p. ap (λ (c : Core). can_store c p) core ∙ sym (can_stored q.core olds p)) d.debts)
           (reserved_none cs j v j d.page)
-          (revalued_reserves_none a vs d.debts.few (h.page ∙ ap is_some d.page));
+          (revalued_reserves_none a vs d.debts.few (h.page ∙ ap is_some d.page))
+          (revalued_fine a vs fine);
     }))
     (mark_gone_on j w.frames (Some (gone_on s k m b)) w.mark (marking_within j w.mark w.frames (parts_in cs + 0) 0 (omega arith) marks))
   where
@@ -298,9 +313,9 @@ goes_sound v j q s a n cs b vs sound h d =
 
 -- every decision that is carried out
 pub committed_sound : (v : State) (j : ℕ) (q : Whole) (s : Site) (a : Ask) (n : ℕ) (d : Decision) → Sound v → Here v j q a n
-    → Duty v j (with_stores (debts a n) q) s a n d → Acts d → Sound (committed v j s a n d)
+    → Duty v j (with_stores (debts a n) q) s a n d → Acts d → (GoesBy d → a.fail ≡ 0) → Sound (committed v j s a n d)
 unfolding committed
-committed_sound v j q s a n (Waits r) sound h d t = absurd t
-committed_sound v j q s a n (Goes cs b vs) sound h d t = goes_sound v j q s a n cs.items b vs.items sound h d
-committed_sound v j q s a n (Ends cs ss e) sound h d t = ends_sound v j q s a n cs.items ss.items e sound h d
-committed_sound v j q s a n (Gone cs) sound h d t = gone_sound v j q a n cs.items sound h d
+committed_sound v j q s a n (Waits r) sound h d t fine = absurd t
+committed_sound v j q s a n (Goes cs b vs) sound h d t fine = goes_sound v j q s a n cs.items b vs.items sound h d (fine tt)
+committed_sound v j q s a n (Ends cs ss e) sound h d t fine = ends_sound v j q s a n cs.items ss.items e sound h d
+committed_sound v j q s a n (Gone cs) sound h d t fine = gone_sound v j q a n cs.items sound h d

@@ -22,8 +22,9 @@ use Rattle.its_plain.proofs.MachineLaws.{machine_is, jobs_are}
 use Rattle.its_plain.specs.CallFile.{file_named, has_file}
 use Rattle.its_stepped.specs.State.{State, helped, parts_of, parts_made, mark_of_close, held_at, owed_made, seen, seen_jobs, plain}
 use Rattle.its_stepped.specs.Commit.{effect_on, effects_on}
-use Rattle.its_stepped.specs.Sound.{Standing, SoundFrame, SoundSlot}
+use Rattle.its_stepped.specs.Sound.{Stuck, StuckBy, Pays, Standing, SoundFrame, SoundSlot}
 use Rattle.its_stepped.specs.Quiet.{IsStill, Reached, MakesPage, Quiet, AllQuiet}
+use Rattle.its_stepped.proofs.WaitLaws.{stuck_shut}
 use Rattle.its_stepped.proofs.FrameLaws.{stores_none, seen_superior, seen_channels, seen_names, changed_only, on_slot_here, on_slot_other, jobs_is}
 use Rattle.its_stepped.proofs.DebtLaws.{debts_none}
 
@@ -277,13 +278,24 @@ slot_own : (w : State) (j k : ℕ) (h : Whole → Whole) → k ≢ j → SoundSl
     → SoundSlot (on_slot w.raw.jobs j h k) (w.frames k) (w.reserved k)
 slot_own w j k h ne sound = slot_still _ _ _ _ (on_slot_other w.raw.jobs j k h ne) sound
 
--- a removal closes channels, of which soundness does not speak
+-- a removal closes channels on jobs, for which no call waits
+shut_stuck : (gone : ℕ → Bool) (f : Frame) (q : Whole) (r : Option ℕ) → Pays f q.core r → StuckBy f (seen (Some f) q) → StuckBy f (seen (Some f) (shut_on gone q))
+shut_stuck gone (Waiting f) q r p s = subst (λ (x : Whole). Stuck x f.ask) (sym (seen_shut_on gone (Some (Waiting f)) q)) (stuck_shut gone (seen (Some (Waiting f)) q) f.ask p.waitable s)
+shut_stuck gone (Entered f) q r p s = tt
+shut_stuck gone (Parsed f) q r p s = tt
+shut_stuck gone (Asked f) q r p s = tt
+shut_stuck gone (Holding f) q r p s = tt
+shut_stuck gone (Moving f) q r p s = tt
+shut_stuck gone (Ending f) q r p s = tt
+
+-- a removal closes channels, of which soundness speaks no more
 shut_sound : (gone : ℕ → Bool) (q : Whole) (f : Frame) (r : Option ℕ) → SoundFrame q f r → SoundFrame (shut_on gone q) f r
 shut_sound gone q f r s = record {
   runs = s.runs;
   quiet = s.quiet;
   standing = subst (λ p. Standing f p.core p.job) (sym (seen_shut_on gone (Some f) q)) s.standing;
   pays = s.pays;
+  stuck = shut_stuck gone f q r s.pays s.stuck;
 }
 
 slot_shut : (gone : ℕ → Bool) (o : Option Whole) (f : Option Frame) (r : Option ℕ) → SoundSlot o f r → SoundSlot (option_map (shut_on gone) o) f r

@@ -97,6 +97,7 @@ ending_sound p q s a os xs r t h job owes few page first = record {
   quiet = ap deliverable job ∙ h.quiet;
   standing = tt;
   pays = record { owes = owes; few = let most = h.pays.few in omega arith; page_is = page; files_first = first };
+  stuck = tt;
 }
 
 kept_none : (r : Option ℕ) → 0 ≡ kept r → r ≡ None

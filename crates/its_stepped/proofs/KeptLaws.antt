@@ -276,6 +276,7 @@ line_kept w b (events.Clock n) sound =
     (λ k h. due_unwound w n k sound h)
 line_kept w b (events.Peek s) sound = peek_kept w s (w.raw.jobs s)
 line_kept w b (events.Tick s n) sound = tt
+line_kept w b (events.Run n q) sound = record { sound = sound; spares = λ k h. refl }
 line_kept w b events.Nothing sound = record { sound = sound; spares = λ k h. refl }
 line_kept w b events.End sound = tt
 line_kept w b (events.File d x y) sound =

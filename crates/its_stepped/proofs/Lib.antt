@@ -52,4 +52,6 @@ pub mod TriedLaws
 pub mod OneByteLaws
 pub mod PcLaws
 pub mod StretchLaws
+pub mod WaitLaws
 pub mod AlarmLaws
+pub mod UnrolledLaws

@@ -319,6 +319,7 @@ line_calm v b (events.Clock n) sound h hush whole =
     ap Done (clock_lifted v b n (nat_lt (v.raw.clock + n) clock_end) hush)
 line_calm v b (events.Peek s) sound h hush whole = peek_lifted v s (v.frames s) (v.raw.jobs s)
 line_calm v b (events.Tick s n) sound h hush whole = refl
+line_calm v b (events.Run n q) sound h hush whole = refl
 line_calm v b events.Nothing sound h hush whole = refl
 line_calm v b events.End sound h hush whole = refl
 line_calm v b (events.File d x y) sound h hush whole =

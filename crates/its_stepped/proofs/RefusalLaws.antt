@@ -252,6 +252,7 @@ line_alike w b (events.Clock n) h whole =
     clock_alike (plain w) w.raw b n (nat_lt (w.raw.clock + n) clock_end)
 line_alike w b (events.Peek s) h whole = peek_alike s (w.frames s) (w.raw.jobs s)
 line_alike w b (events.Tick s n) h whole = refl
+line_alike w b (events.Run n q) h whole = refl
 line_alike w b events.Nothing h whole = refl
 line_alike w b events.End h whole = refl
 line_alike w b (events.File d x y) h whole =

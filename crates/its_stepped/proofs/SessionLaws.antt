@@ -1,7 +1,7 @@
 -- The lines that the stepped machine writes are a transcript of the plain machine (docs/STEPS.md, "Lines").
 use Rattle.std.specs.Prelude.{◌≡◌, ◌<◌, ℕ, zero, suc, ◌+◌, List, [], ◌∷◌, length, refl}
 use Rattle.std.proofs.Common.{sym, ap, subst}
-use Rattle.its_word.specs.Item.{Item, Read, Unread, Beyond}
+use Rattle.its_word.specs.Item.{Item, Read, Unread, InTurn, Beyond}
 use Rattle.its_word.specs.declared.session.Event.{Event}
 use Rattle.its_plain.specs.OperatorLines.{Lined, Done, Peeks, lined}
 use Rattle.its_plain.specs.Licence.{Licensed, Dots, most_dots, dots_after, dots_after_line}
@@ -67,6 +67,8 @@ module _ {Good : Dots → State → Type 0} (u : Upkeep Good) where
       let t = told n w b (Read e ∷ es) in
       subst (λ l. LinedOn (walk n w d b) l (λ x rest. Run x es rest t.fate) t.lines t.fate) (sym (u.line d w b e g))
       (line_runs n w (calmed w b e) d b (lined (calmed w b e).raw b e) es g (u.after d w b e g) (λ w' d' b' good. told_runs (n + 1) w' d' b' es good))
+  told_runs n w d b (InTurn s k ∷ es) g =
+      (paces_of w s k, (told n (ticked w s k) b es).lines, refl, paces_length w s k, ticks_run n w d b s k _ g (λ f good. told_runs n (ticked w s k) f b es good))
   told_runs n w d b (Unread r ∷ es) g = (refl, refl)
   told_runs n w d b (Beyond ∷ es) g = (refl, refl)
 

@@ -25,6 +25,7 @@ use Rattle.its_stepped.specs.Commit.{effects_on, committed}
 use Rattle.its_stepped.specs.Tick.{works, delivered_on, user_on, unit_on, parsed_on, fetched_on, prepared_on, reserves, prepared_for, tried, tried_by, quarters, held_on, tick_in, tick_unless, tick_of, tick}
 use Rattle.its_stepped.specs.Sound.{Stands, Stored, Debts, Paged, parts_in_frame, SoundFrame, SoundBy, SoundSlot, Sound}
 use Rattle.its_stepped.specs.Duty.{Duty, Meets, GivenBy, Given, parts_in, IsTried}
+use Rattle.its_stepped.proofs.WaitLaws.{no_error_goes, stuck_waits}
 use Rattle.its_stepped.proofs.FrameLaws.{changed_only, on_slot_here, on_slot_other}
 use Rattle.its_stepped.proofs.DebtLaws.{debts_none}
 use Rattle.its_stepped.proofs.UnwindLaws.{unwind_sound, all_unwound_sound, all_unwound_keeps}
@@ -94,16 +95,16 @@ delivered_sound w j q d sound none =
 
 entered_frame : (q : Whole) (s : Site) (r : Option ℕ) → q.job.stopped ≡ false → deliverable q.job ≡ false → unit q.core q.job ≡ Called s → r ≡ None → SoundFrame q (entered s) r
 unfolding seen
-entered_frame q s r runs quiet u page = record { runs = runs; quiet = quiet; standing = u; pays = page }
+entered_frame q s r runs quiet u page = record { runs = runs; quiet = quiet; standing = u; pays = page; stuck = tt }
 
 parsed_frame : (q : Whole) (s : Site) (b : List ℕ) (r : Option ℕ) → q.job.stopped ≡ false → deliverable q.job ≡ false → unit q.core q.job ≡ Called s → parse q.core s ≡ Ok b → r ≡ None
     → SoundFrame q (parsed s b) r
 unfolding seen
-parsed_frame q s b r runs quiet u p page = record { runs = runs; quiet = quiet; standing = (u, p); pays = page }
+parsed_frame q s b r runs quiet u p page = record { runs = runs; quiet = quiet; standing = (u, p); pays = page; stuck = tt }
 
 asked_frame : (q : Whole) (s : Site) (a : Ask) (r : Option ℕ) → q.job.stopped ≡ false → deliverable q.job ≡ false → Stands q.core q.job s a → r ≡ None → SoundFrame q (asked s a) r
 unfolding seen
-asked_frame q s a r runs quiet h page = record { runs = runs; quiet = quiet; standing = h; pays = page }
+asked_frame q s a r runs quiet h page = record { runs = runs; quiet = quiet; standing = h; pays = page; stuck = tt }
 
 unit_sound : (w : State) (j : ℕ) (q : Whole) (o : Outcome) → Sound w → w.raw.jobs j ≡ Some q → q.job.stopped ≡ false → deliverable q.job ≡ false → w.frames j ≡ None → unit q.core q.job ≡ o
     → Sound (unit_on w j o).state
@@ -143,7 +144,7 @@ no_debts c a = record {
 holding_frame : (q : Whole) (s : Site) (a : Ask) (page : Option ℕ) (n : ℕ) → q.job.stopped ≡ false → deliverable q.job ≡ false → Stands (stored q.core (debts a n)) q.job s a
     → Debts q.core a n → IfSome page (Paged a n) → reserves a ≡ is_some page → SoundFrame q (holding s a page n) page
 unfolding seen
-holding_frame q s a page n runs quiet stands d p e = record { runs = runs; quiet = quiet; standing = stands; pays = record { debts = d; page_is = refl; paged = p; has = e } }
+holding_frame q s a page n runs quiet stands d p e = record { runs = runs; quiet = quiet; standing = stands; pays = record { debts = d; page_is = refl; paged = p; has = e }; stuck = tt }
 
 stored_nothing : (c : Core) (j : Job) (s : Site) (a : Ask) → Stands c j s a → Stands (stored c (debts a 0)) j s a
 unfolding stored
@@ -161,19 +162,20 @@ prepared_sound w j q s a false sound is runs quiet parts page stands e =
 
 -- a call that is tried
 decided_sound : (w v : State) (j : ℕ) (q : Whole) (s : Site) (a : Ask) (n : ℕ) (d : Decision) → Sound w → Trying w j q s a n → Found w v j
-    → Duty v j (with_stores (debts a n) q) s a n d → Sound (tried w v j s a n d).state
+    → Duty v j (with_stores (debts a n) q) s a n d → decision (plain w) j (with_stores (debts a n) q) a ≡ d → Sound (tried w v j s a n d).state
 unfolding committed
-decided_sound w v j q s a n (Waits r) sound t f duty =
+decided_sound w v j q s a n (Waits r) sound t f duty e =
     waits_sound w j q s a n sound t.here t.stands (record { page = sym f.slot.page ∙ duty.page; waitable = duty.waitable })
-decided_sound w v j q s a n (Goes cs h vs) sound t f duty = committed_sound v j q s a n (Goes cs h vs) f.sound (here_found w v j q a n f.slot t.here) duty tt
-decided_sound w v j q s a n (Ends cs ss x) sound t f duty = committed_sound v j q s a n (Ends cs ss x) f.sound (here_found w v j q a n f.slot t.here) duty tt
-decided_sound w v j q s a n (Gone cs) sound t f duty = committed_sound v j q s a n (Gone cs) f.sound (here_found w v j q a n f.slot t.here) duty tt
+    (stuck_waits (plain w) j (with_stores (debts a n) q) a r duty.waitable e)
+decided_sound w v j q s a n (Goes cs h vs) sound t f duty e = committed_sound v j q s a n (Goes cs h vs) f.sound (here_found w v j q a n f.slot t.here) duty tt (λ t. no_error_goes (plain w) j (with_stores (debts a n) q) a _ e t)
+decided_sound w v j q s a n (Ends cs ss x) sound t f duty e = committed_sound v j q s a n (Ends cs ss x) f.sound (here_found w v j q a n f.slot t.here) duty tt (λ t. no_error_goes (plain w) j (with_stores (debts a n) q) a _ e t)
+decided_sound w v j q s a n (Gone cs) sound t f duty e = committed_sound v j q s a n (Gone cs) f.sound (here_found w v j q a n f.slot t.here) duty tt (λ t. no_error_goes (plain w) j (with_stores (debts a n) q) a _ e t)
 
 tried_sound : (w : State) (j : ℕ) (q : Whole) (s : Site) (a : Ask) (n : ℕ) → Sound w → Trying w j q s a n → Meets w j (with_stores (debts a n) q) s a n
     → Sound (tried_by w j (with_stores (debts a n) q) s a n).state
 tried_sound w j q s a n sound t m =
     let own : Whole = with_stores (debts a n) q in
-    decided_sound w (prepared_for w j own a) j q s a n (decision (plain w) j own a) sound t (found w j own a sound m.apart) m.duty
+    decided_sound w (prepared_for w j own a) j q s a n (decision (plain w) j own a) sound t (found w j own a sound m.apart) m.duty refl
 
 -- a page that is cleared
 quarter_sound : (w : State) (j : ℕ) (q : Whole) (s : Site) (a : Ask) (p n : ℕ) (b : Bool) → Sound w → Trying w j q s a n → (b ≡ false → Meets w j (with_stores (debts a n) q) s a n)

@@ -2,7 +2,7 @@
 use Rattle.std.specs.Prelude.{◌≡◌, ◌≢◌, ℕ, suc, ◌+◌, Bool, true, false, Option, Some, None, is_some, unwrap_or, List, [], ◌∷◌, ◌++◌, drop, length, Result, Ok, Err, refl, option_map}
 use Rattle.std.proofs.Common.{sym, ◌∙◌, ap, subst, arith, inl, inr}
 use Rattle.std.proofs.lemmas.Bool.{cases_eq, eqb-true}
-use Rattle.its_word.specs.Item.{Item, Read, Unread, Beyond}
+use Rattle.its_word.specs.Item.{Item, Read, Unread, InTurn, Beyond}
 use Rattle.its_word.specs.declared.calls.Ask.{Ask}
 use Rattle.its_word.specs.declared.calls.Pace.{Pace}
 use Rattle.its_word.specs.declared.calls.Pace.TheVariants.{Step, Work, Wait, Off}
@@ -91,6 +91,7 @@ run_course : (m : Machine) (b : Block) (es : List Item) (lines : List Line) → 
 run_course m b [] lines forest = run_rests m
 run_course m b (Read e ∷ es) lines forest =
     run_past m b e (lined m b e) lines (λ n c rest. course n c es rest) refl forest (λ n c rest f. run_course n c es rest f)
+run_course m b (InTurn s k ∷ es) lines forest = run_paced m s (letters lines) (λ n. course n b es (drop 1 lines)) forest (λ n f. run_course n b es (drop 1 lines) f)
 run_course m b (Unread r ∷ es) lines forest = run_rests m
 run_course m b (Beyond ∷ es) lines forest = run_rests m
 

@@ -18,7 +18,8 @@ use Rattle.its_stepped.specs.Sound.{IsWaitable}
 use Rattle.its_stepped.specs.State.{State, plain, seen}
 use Rattle.its_stepped.specs.Unwind.{all_unwound}
 use Rattle.its_stepped.specs.Tick.{is_disk, helps_by, helps, helped_if, prepared_for}
-use Rattle.its_stepped.proofs.CallWays.{Ways, OnConsole, iot_ways, siot_ways}
+use Rattle.its_stepped.proofs.CallWays.{OnConsole}
+use Rattle.its_stepped.proofs.WaitLaws.{Goes_on, iot_ready, siot_ready}
 use Rattle.its_stepped.proofs.ViewLaws.{StillAt, decision_plain, view_plain, reach_plain, helps_seen}
 use Rattle.its_stepped.proofs.UnseenLaws.{files_unseen}
 
@@ -42,26 +43,7 @@ decision_by w j own a false still e h = decision_unhelped w j own a still e
 pub decision_helped : (w : State) (j : ℕ) (own : Whole) (a : Ask) → StillAt w (target own a) → (helps own a ≡ true → w.mark ≡ None) → decision (plain w) j own a ≡ decision w.raw j own a
 decision_helped w j own a still h = decision_by w j own a (helps own a) still refl h
 
--- no call on files, on an inferior or on pages is found not ready
-abbrev pub Goes_on : Decision → Type 0
-Goes_on (Waits r) = ⊥
-Goes_on (Goes cs h vs) = Unit {0}
-Goes_on (Ends cs ss e) = Unit {0}
-Goes_on (Gone cs) = Unit {0}
-
-goes_ways : (x : View) (a : Ask) → Ways Goes_on x a
-goes_ways x a = record {
-  failing = λ k. tt;
-  faulting = λ f. tt;
-  stuck = tt;
-  opening = λ h b. tt;
-  arming = λ n h. tt;
-  ending = λ cs ss h. tt;
-  moved = λ cs ss h. tt;
-  going = λ cs b vs h. tt;
-}
-
--- a channel that is on no console
+-- no call on files, on an inferior or on pages is found not ready: its channel is on no console
 disk_off : (c : Chan) → is_disk c ≡ true → OnConsole c → ⊥
 disk_off TtyIn h k = cc
 disk_off TtyOut h k = cc
@@ -71,14 +53,6 @@ inferior_off : (c : Chan) (s : ℕ) → inferior_on c ≡ Some s → OnConsole c
 inferior_off TtyIn s h k = cc
 inferior_off TtyOut s h k = cc
 inferior_off _ s h k = k
-
-iot_ready : (x : View) (a : Ask) → (OnConsole (channel_at x.own.channels (input a 0)) → ⊥) → Goes_on (decided_by x a (Some Iot))
-unfolding iot_call
-iot_ready x a h = iot_ways Goes_on x a (slice_index_or a.outputs.items 0 0) (input a 0) (channel_at x.own.channels (input a 0)) (goes_ways x a) (λ k r. h k)
-
-siot_ready : (x : View) (a : Ask) → (OnConsole (channel_at x.own.channels (input a 0)) → ⊥) → Goes_on (decided_by x a (Some Siot))
-unfolding siot_call
-siot_ready x a h = siot_ways Goes_on x a (input a 0) (channel_at x.own.channels (input a 0)) (goes_ways x a) (λ k r. h k)
 
 named_goes : (x : View) (a : Ask) (o : Option CallName) → helps_by x.own a o ≡ true → IsWaitable o → Goes_on (decided_by x a o)
 named_goes x a (Some Iot) h w = iot_ready x a (disk_off (channel_at x.own.channels (input a 0)) h)

@@ -15,7 +15,7 @@ use Rattle.its_plain.specs.CallStep.{deposited, with_held}
 use Rattle.its_word.specs.Stores.{place, stored}
 use Rattle.its_stepped.specs.State.{State, mine, seen, turn, same, reserving, asked, holding, waiting, moving}
 use Rattle.its_stepped.specs.Unwind.{first_debt, paid, given_back, left_by}
-use Rattle.its_stepped.specs.Sound.{Stands, Stored, Debts, SoundFrame, MarkBy, parts_in_frame}
+use Rattle.its_stepped.specs.Sound.{Stuck, Stands, Stored, Debts, SoundFrame, MarkBy, parts_in_frame}
 use Rattle.its_stepped.specs.OneChange.{OneChange, OneWord}
 use Rattle.its_stepped.proofs.FrameLaws.{stored_one, stores_none, stores_cons}
 use Rattle.its_stepped.proofs.DebtLaws.{NextOwed, debts_next, debts_none, debts_behind}
@@ -82,6 +82,7 @@ holding_none w j q s a n at =
       quiet = ap deliverable job ∙ at.sound.quiet;
       standing = stands_as _ _ s a e at.sound.standing;
       pays = record { debts = d; page_is = at.sound.pays.page_is; paged = tt; has = at.sound.pays.has };
+      stuck = tt;
     })
 
 holding_some : (w : State) (j : ℕ) (q : Whole) (s : Site) (a : Ask) (p n : ℕ) → At w j q (holding s a (Some p) n)
@@ -95,6 +96,7 @@ holding_some w j q s a p n at =
       quiet = at.sound.quiet;
       standing = stands_as q (with_stores (debts a n) q) s a (sym as_is) at.sound.standing;
       pays = refl;
+      stuck = tt;
     }) at.mark (λ mine. rw at.frame) (rw at.frame (omega arith))
 
 pub holding_row : (w : State) (j : ℕ) (q : Whole) (s : Site) (a : Ask) (page : Option ℕ) (n : ℕ) → At w j q (holding s a page n) → Rowed w (given_back w j s a page n) j
@@ -109,6 +111,7 @@ waiting_row w j q s a n at =
       quiet = ap deliverable job ∙ at.sound.quiet;
       standing = stands_as _ _ s a e at.sound.standing;
       pays = record { debts = d; page_is = at.sound.pays.page_is; waitable = at.sound.pays.waitable };
+      stuck = subst (λ (x : Whole). Stuck x a) (sym e) at.sound.stuck;
     })
 
 -- a held byte is stored
@@ -129,4 +132,5 @@ moving_row w j q s a h at =
       quiet = at.sound.quiet;
       standing = at.sound.standing;
       pays = record { debts = rw (stored_one q.core d) (debts_behind q.core (place d) d.word a 2 at.sound.pays.debts); page_is = at.sound.pays.page_is; paged = tt; has = owes_reserves_none a 2 (omega arith) at.sound.pays.debts.few };
+      stuck = tt;
     }) at.mark (λ mine. rw at.frame) (rw at.frame) (held_word w j q a h (Some (holding s a None 2)) at.job)

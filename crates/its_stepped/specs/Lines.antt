@@ -2,7 +2,7 @@
 -- lines that the monitor writes (docs/STEPS.md, "Lines").
 use Rattle.std.specs.Prelude.{Bool, true, false, ℕ, zero, suc, ◌+◌, Option, Some, None, List, [], ◌∷◌, ◌++◌, slice_get}
 use Rattle.its_word.specs.Core.{Core, word_at}
-use Rattle.its_word.specs.Item.{Item, Read, Unread, Beyond}
+use Rattle.its_word.specs.Item.{Item, Read, Unread, InTurn, Beyond}
 use Rattle.its_word.specs.declared.calls.Ask.{Ask}
 use Rattle.its_word.specs.declared.calls.Pace.{Pace}
 use Rattle.its_word.specs.declared.session.Event.{Event}
@@ -217,6 +217,7 @@ told_by n w v b (Peeks s) next = telling (printed.Peeked s (peeked w s) ∷ []) 
 abbrev pub told : ℕ → State → Block → List Item → Told
 told n w b [] = record { lines = []; fate = Open }
 told n w b (Read e ∷ es) = told_by n w (calmed w b e) b (lined (calmed w b e).raw b e) (λ v b'. told (n + 1) v b' es)
+told n w b (InTurn s k ∷ es) = telling (printed.Ticks s (paces_of w s k) ∷ []) (told n (ticked w s k) b es)
 told n w b (Unread r ∷ es) = record { lines = Refused n r ∷ []; fate = Lost }
 told n w b (Beyond ∷ es) = record { lines = []; fate = TooLong }
 

@@ -17,7 +17,11 @@ use Rattle.its_frame.specs.declared.name.CallName.TheVariants.{Siot}
 use Rattle.its_plain.specs.Interrupt.{deliverable}
 use Rattle.its_plain.specs.Unit.{Called, unit}
 use Rattle.its_word.specs.Stores.{place}
-use Rattle.its_plain.specs.Machine.{Whole}
+use Rattle.its_frame.specs.declared.decision.Decision.TheVariants.{Waits}
+use Rattle.its_frame.specs.declared.decision.Wait.{Wait}
+use Rattle.its_plain.specs.Machine.{Whole, Machine}
+use Rattle.its_plain.specs.CallStep.{decision}
+use Rattle.its_plain.specs.Reasons.{doors, held_up, reason_in}
 use Rattle.its_plain.specs.Change.{poke}
 use Rattle.its_plain.specs.Arguments.{input, in_footprint, debts}
 use Rattle.its_plain.specs.Ask.{parse}
@@ -154,12 +158,22 @@ Pays (Waiting f) c r = WaitingPays c r f.ask f.owes
 Pays (Moving f) c r = MovingPays c r f.ask f.place
 Pays (Ending f) c r = EndingPays c r f.owed.items
 
+-- a call that was found not ready passes its other tests, whatever consoles and the clock do: it waits wherever its one
+-- reason to wait holds
+pub record Stuck (q : Whole) (a : Ask) : Type 0 where
+  pub again : (m : Machine) (j : ℕ) (r : Wait) → reason_in q a ≡ Some r → held_up (doors m) j (input a 0) r ≡ true → decision m j q a ≡ Waits r
+
+abbrev pub StuckBy : Frame → Whole → Type 0
+StuckBy (Waiting f) q = Stuck q f.ask
+StuckBy _ q = Unit {0}
+
 -- a job with a frame runs, and has no deliverable interrupt
 pub record SoundFrame (q : Whole) (f : Frame) (r : Option ℕ) : Type 0 where
   pub runs : q.job.stopped ≡ false
   pub quiet : deliverable q.job ≡ false
   pub standing : Standing f (seen (Some f) q).core (seen (Some f) q).job
   pub pays : Pays f q.core r
+  pub stuck : StuckBy f (seen (Some f) q)
 
 abbrev pub SoundBy : Option Whole → Option Frame → Option ℕ → Type 0
 SoundBy None f r = (f ≡ None) × (r ≡ None)

@@ -86,6 +86,10 @@ pub nothing_answered : (n : ℕ) (v : State) (b : Block) (out : Option (List ℕ
 unfolding lined operate calmed
 nothing_answered n v b out = does_nothing n v v v v.raw b b events.Nothing nobody out (record { calm = refl; is = refl }) refl
 
+pub run_answered : (n : ℕ) (v : State) (b : Block) (k q : ℕ) (out : Option (List ℕ)) → Answered turns.On n v b (events.Run k q) v b out out
+unfolding lined operate calmed
+run_answered n v b k q out = does_nothing n v v v v.raw b b (events.Run k q) nobody out (record { calm = refl; is = refl }) refl
+
 pub version_answered : (n : ℕ) (v v' : State) (b : Block) (k : ℕ) (out : Option (List ℕ)) → Lands v v' (Ok (versioned v.raw k)) → Answered turns.On n v b (events.Version k) v' b out out
 unfolding lined operate calmed
 version_answered n v v' b k out h =

@@ -219,7 +219,10 @@ few_bare w = elim (cases_Bool (bytes_eq w (codes "run"))) [
   | inl t ↦ rw t tt
   | inr t ↦ elim (cases_Bool (bytes_eq w (codes "check"))) [
     | inl k ↦ rw (t, k) tt
-    | inr k ↦ rw (t, k) tt
+    | inr k ↦ elim (cases_Bool (bytes_eq w (codes "asm"))) [
+      | inl l ↦ rw (t, k, l) tt
+      | inr l ↦ rw (t, k, l) tt
+    ]
   ]
 ]
 

@@ -23,13 +23,15 @@ use Rattle.its_plain.specs.Operator.{Block}
 use Rattle.its_plain.specs.Own.{names_of}
 use Rattle.its_plain.specs.Transcript.{Fate, Ended, Open, Lost, TooLong}
 use Rattle.its_stepped.specs.State.{State, no_state}
+use Rattle.its_plain.specs.Unrolled.{highest}
 use Rattle.its_stepped.specs.Lines.{stepped}
+use Rattle.its_stepped.specs.Turns.{with_turns}
 use Rattle.its_top.specs.declared.status.Status.{Status}
 use Rattle.its_top.specs.declared.status.Status.TheVariants as statuses
 use Rattle.its_top.specs.declared.turn.Turn.{Turn}
 use Rattle.its_top.specs.declared.turn.Turn.TheVariants as turns
-use Rattle.its_top.specs.Telling.{Says, said, after, saying, Begins, items_say, goes_on_after, Answers, goes_on}
-use Rattle.its_top.specs.Answer.{WroteFor, Tells, Answered, block_of}
+use Rattle.its_top.specs.Telling.{Says, said, after, saying, Begins, session_says, items_say, goes_on_after, FollowsBy, goes_on}
+use Rattle.its_top.specs.Answer.{WroteFor, Tells, Follows, block_of}
 use Rattle.its_top.specs.Conclusion.{IsDone, Finished, Concluded, WasRun, Session, SoFar, status_of, Over, TakenBy, Takes}
 use Rattle.its_top.proofs.EventLaws.{after_after, text_one}
 
@@ -56,62 +58,63 @@ is_the_end _ h = cc
 saying_ends : (st : Status) (f : Fate) (s : Says) (w : List ℕ) → s ≡ saying w f → Finished st (saying w f) w → Finished st s w
 saying_ends st f s w e h = subst (λ x. Finished st x w) (sym e) h
 
-by_answer : (turn : Turn) (n : ℕ) (v v' : State) (b b' : Block) (e : Event) (w : List ℕ) → Answers turn n v b e v' b' w → TakenBy turn n v b (founds.Line e) v' b' w
-by_answer turns.On n v v' b b' e w a = (not_last e a.0, a.1)
-by_answer turns.Ended n v v' b b' e w a = (is_the_end e a.0, λ behind l. saying_ends statuses.Done Ended _ w (a.1 behind) (refl, tt))
-by_answer turns.Refused n v v' b b' e w a = λ behind l. saying_ends statuses.Refused Lost _ w (a behind) (refl, refl)
-by_answer turns.Beyond n v v' b b' e w a = absurd a
-by_answer turns.Fault n v v' b b' e w a = λ behind l. a behind
+by_answer : (turn : Turn) (n : ℕ) (v v' : State) (b b' : Block) (i i' : ℕ) (e : Event) (w : List ℕ) → FollowsBy turn n v b i e v' b' i' w → TakenBy turn n v b i (founds.Line e) v' b' i' w
+by_answer turns.On n v v' b b' i i' e w a = (not_last e a.0, a.1)
+by_answer turns.Ended n v v' b b' i i' e w a = (is_the_end e a.0, λ behind l. saying_ends statuses.Done Ended _ w (a.1 behind) (refl, tt))
+by_answer turns.Refused n v v' b b' i i' e w a = λ behind l. saying_ends statuses.Refused Lost _ w (a behind) (refl, refl)
+by_answer turns.Beyond n v v' b b' i i' e w a = absurd a
+by_answer turns.Fault n v v' b b' i i' e w a = λ behind l. a behind
 
-pub takes_line : (turn : Turn) (n : ℕ) (v v' : State) (b b' : Block) (f : Found) (e : Event) (old new : Option (List ℕ)) → f ≡ founds.Line e → Answered turn n v b e v' b' old new → Takes turn n v b f v' b' old new
-takes_line turn n v v' b b' f e old new h a =
-    subst (λ x. Takes turn n v b x v' b' old new) (sym h) (record { wrote = a.wrote; appended = a.appended; taken = by_answer turn n v v' b b' e a.wrote a.answers })
+pub takes_line : (turn : Turn) (n : ℕ) (v v' : State) (b b' : Block) (i i' : ℕ) (f : Found) (e : Event) (old new : Option (List ℕ)) → f ≡ founds.Line e → Follows turn n v b i e v' b' i' old new → Takes turn n v b i f v' b' i' old new
+takes_line turn n v v' b b' i i' f e old new h a =
+    subst (λ x. Takes turn n v b i x v' b' i' old new) (sym h) (record { wrote = a.wrote; appended = a.appended; taken = by_answer turn n v v' b b' i i' e a.wrote a.follows })
 
-says_bad : (n : ℕ) (v : State) (b : Block) (r : Reason) (behind : List Item) → items_say n v b (Unread r ∷ behind) ≡ saying (text (Refused n r ∷ [])) Lost
-unfolding items_say
-says_bad n v b r behind = refl
+says_bad : (n : ℕ) (v : State) (b : Block) (i : ℕ) (r : Reason) (behind : List Item) → session_says n v b i (Unread r ∷ behind) ≡ saying (text (Refused n r ∷ [])) Lost
+unfolding items_say session_says
+says_bad n v b i r behind = refl
 
-by_refusal : (turn : Turn) (n : ℕ) (v v' : State) (b b' : Block) (r : Reason) (l w : List ℕ) → text (Refused n r ∷ []) ≡ l → WroteFor turn turns.Refused l w → TakenBy turn n v b (founds.Bad r) v' b' w
-by_refusal turns.Refused n v v' b b' r l w e c = λ behind k. (ap (λ x. x.text) (says_bad n v b r behind) ∙ e ∙ c.1, ap (λ x. x.fate) (says_bad n v b r behind))
-by_refusal turns.Fault n v v' b b' r l w e c = λ behind k. record { more = c.0; whole = ap (λ x. x.text) (says_bad n v b r behind) ∙ e ∙ c.1 }
-by_refusal turns.On n v v' b b' r l w e c = absurd (let k : turns.On ≡ turns.Refused = c.0 in cc)
-by_refusal turns.Ended n v v' b b' r l w e c = absurd (let k : turns.Ended ≡ turns.Refused = c.0 in cc)
-by_refusal turns.Beyond n v v' b b' r l w e c = absurd (let k : turns.Beyond ≡ turns.Refused = c.0 in cc)
+by_refusal : (turn : Turn) (n : ℕ) (v v' : State) (b b' : Block) (i i' : ℕ) (r : Reason) (l w : List ℕ) → text (Refused n r ∷ []) ≡ l → WroteFor turn turns.Refused l w → TakenBy turn n v b i (founds.Bad r) v' b' i' w
+by_refusal turns.Refused n v v' b b' i i' r l w e c = λ behind k. (ap (λ x. x.text) (says_bad n v b i r behind) ∙ e ∙ c.1, ap (λ x. x.fate) (says_bad n v b i r behind))
+by_refusal turns.Fault n v v' b b' i i' r l w e c = λ behind k. record { more = c.0; whole = ap (λ x. x.text) (says_bad n v b i r behind) ∙ e ∙ c.1 }
+by_refusal turns.On n v v' b b' i i' r l w e c = absurd (let k : turns.On ≡ turns.Refused = c.0 in cc)
+by_refusal turns.Ended n v v' b b' i i' r l w e c = absurd (let k : turns.Ended ≡ turns.Refused = c.0 in cc)
+by_refusal turns.Beyond n v v' b b' i i' r l w e c = absurd (let k : turns.Beyond ≡ turns.Refused = c.0 in cc)
 
-pub takes_bad : (turn : Turn) (n : ℕ) (v v' : State) (b b' : Block) (f : Found) (r : Reason) (old new : Option (List ℕ)) → f ≡ founds.Bad r → Tells turn turns.Refused (text_of_line (Refused n r)) old new
-    → Takes turn n v b f v' b' old new
-takes_bad turn n v v' b b' f r old new h t =
-    subst (λ x. Takes turn n v b x v' b' old new) (sym h)
-    (record { wrote = t.wrote; appended = t.appended; taken = by_refusal turn n v v' b b' r (text_of_line (Refused n r)) t.wrote (text_one (Refused n r)) t.complete })
+pub takes_bad : (turn : Turn) (n : ℕ) (v v' : State) (b b' : Block) (i i' : ℕ) (f : Found) (r : Reason) (old new : Option (List ℕ)) → f ≡ founds.Bad r → Tells turn turns.Refused (text_of_line (Refused n r)) old new
+    → Takes turn n v b i f v' b' i' old new
+takes_bad turn n v v' b b' i i' f r old new h t =
+    subst (λ x. Takes turn n v b i x v' b' i' old new) (sym h)
+    (record { wrote = t.wrote; appended = t.appended; taken = by_refusal turn n v v' b b' i i' r (text_of_line (Refused n r)) t.wrote (text_one (Refused n r)) t.complete })
 
-pub takes_beyond : (n : ℕ) (v v' : State) (b b' : Block) (f : Found) (out : Option (List ℕ)) → f ≡ founds.Beyond → Takes turns.Beyond n v b f v' b' out out
-unfolding items_say text
-takes_beyond n v v' b b' f out h =
-    subst (λ x. Takes turns.Beyond n v b x v' b' out out) (sym h) (record { wrote = []; appended = Appends-nil out; taken = λ behind l. (refl, refl) })
+pub takes_beyond : (n : ℕ) (v v' : State) (b b' : Block) (i i' : ℕ) (f : Found) (out : Option (List ℕ)) → f ≡ founds.Beyond → Takes turns.Beyond n v b i f v' b' i' out out
+unfolding items_say session_says text
+takes_beyond n v v' b b' i i' f out h =
+    subst (λ x. Takes turns.Beyond n v b i x v' b' i' out out) (sym h) (record { wrote = []; appended = Appends-nil out; taken = λ behind l. (refl, refl) })
 
-says_nothing : (n : ℕ) (v : State) (b : Block) → items_say n v b [] ≡ saying [] Open
-unfolding items_say text
-says_nothing n v b = refl
+says_nothing : (n : ℕ) (v : State) (b : Block) (i : ℕ) → session_says n v b i [] ≡ saying [] Open
+unfolding items_say session_says text
+says_nothing n v b i = refl
 
-pub takes_end : (n : ℕ) (v v' : State) (b b' : Block) (f : Found) (out : Option (List ℕ)) → f ≡ founds.End → Takes turns.Ended n v b f v' b' out out
-takes_end n v v' b b' f out h =
-    subst (λ x. Takes turns.Ended n v b x v' b' out out) (sym h)
-    (record { wrote = []; appended = Appends-nil out; taken = (refl, λ behind l. saying_ends statuses.Done Open _ [] (ap (items_say n v b) (l refl) ∙ says_nothing n v b) (refl, tt)) })
+pub takes_end : (n : ℕ) (v v' : State) (b b' : Block) (i i' : ℕ) (f : Found) (out : Option (List ℕ)) → f ≡ founds.End → Takes turns.Ended n v b i f v' b' i' out out
+takes_end n v v' b b' i i' f out h =
+    subst (λ x. Takes turns.Ended n v b i x v' b' i' out out) (sym h)
+    (record { wrote = []; appended = Appends-nil out; taken = (refl, λ behind l. saying_ends statuses.Done Open _ [] (ap (session_says n v b i) (l refl) ∙ says_nothing n v b i) (refl, tt)) })
 
 -- the start of a session
-says_all : (n : ℕ) (v : State) (behind : List Item) → n ≡ 1 → v ≡ no_state no_machine → said (stepped behind) ≡ items_say n v (block_of 0 (names_of 0 0 0)) behind
-unfolding items_say
-says_all n v behind e h =
-    ap (λ k. items_say k (no_state no_machine) (block_of 0 (names_of 0 0 0)) behind) (sym e) ∙ ap (λ k. items_say n k (block_of 0 (names_of 0 0 0)) behind) (sym h)
+says_all : (n : ℕ) (v : State) (i : ℕ) (behind : List Item) → n ≡ 1 → v ≡ no_state no_machine → i ≡ highest → said (stepped (with_turns behind)) ≡ session_says n v (block_of 0 (names_of 0 0 0)) i behind
+unfolding items_say session_says with_turns
+says_all n v i behind e h l =
+    let b = block_of 0 (names_of 0 0 0) in
+    ap (λ k. session_says k (no_state no_machine) b highest behind) (sym e) ∙ ap (λ k. session_says n k b highest behind) (sym h) ∙ ap (λ k. session_says n v b k behind) (sym l)
 
-pub so_start : (r : Items) (v : State) (left out : Option (List ℕ)) → v ≡ no_state no_machine → r.lines.number ≡ 0 → r.lines.ended ≡ false → pending r.lines.buffer ≡ [] → r.place ≡ places.First → r.version ≡ 1
-    → SoFar r (r.lines.number + 1) v (block_of 0 (names_of 0 0 0)) left left out out
-so_start r v left out e n o p q k = record {
+pub so_start : (r : Items) (v : State) (i : ℕ) (left out : Option (List ℕ)) → v ≡ no_state no_machine → i ≡ highest → r.lines.number ≡ 0 → r.lines.ended ≡ false → pending r.lines.buffer ≡ [] → r.place ≡ places.First → r.version ≡ 1
+    → SoFar r (r.lines.number + 1) v (block_of 0 (names_of 0 0 0)) i left left out out
+so_start r v i left out e l n o p q k = record {
   items = [];
   found = reader.so_start r left n o p q k;
   wrote = [];
   appended = Appends-nil out;
-  says = λ behind. says_all (r.lines.number + 1) v behind (ap (λ k. k + 1) n) e;
+  says = λ behind. says_all (r.lines.number + 1) v i behind (ap (λ k. k + 1) n) e l;
 }
 
 -- the session goes on
@@ -121,24 +124,24 @@ found_on (founds.Bad r) es old new left mid rest l s f = cc
 found_on founds.Beyond es old new left mid rest l s f = cc
 found_on founds.End es old new left mid rest l s f = cc
 
-on_next : (f : Found) (n : ℕ) (v v' : State) (b b' : Block) (r r' : Items) (left mid rest old out new : Option (List ℕ)) → SoFar r n v b left mid old out → Finds (Ok f) r r' mid rest → Takes turns.On n v b f v' b' out new
-    → SoFar r' (n + 1) v' b' left rest old new
-on_next f n v v' b b' r r' left mid rest old out new s t k = record {
+on_next : (f : Found) (n : ℕ) (v v' : State) (b b' : Block) (i i' : ℕ) (r r' : Items) (left mid rest old out new : Option (List ℕ)) → SoFar r n v b i left mid old out → Finds (Ok f) r r' mid rest → Takes turns.On n v b i f v' b' i' out new
+    → SoFar r' (n + 1) v' b' i' left rest old new
+on_next f n v v' b b' i i' r r' left mid rest old out new s t k = record {
   items = s.items ++ last_items f;
   found = found_on f s.items r r' left mid rest k.taken.0 s.found t;
   wrote = s.wrote ++ k.wrote;
   appended = Appends-trans old out new s.wrote k.wrote s.appended k.appended;
-  says = λ behind. ap (λ x. said (stepped x)) (append_assoc s.items (last_items f) behind) ∙ s.says (last_items f ++ behind) ∙ ap (after s.wrote) (k.taken.1 behind)
-      ∙ after_after s.wrote k.wrote (items_say (n + 1) v' b' behind);
+  says = λ behind. ap (λ x. said (stepped (with_turns x))) (append_assoc s.items (last_items f) behind) ∙ s.says (last_items f ++ behind) ∙ ap (after s.wrote) (k.taken.1 behind)
+      ∙ after_after s.wrote k.wrote (session_says (n + 1) v' b' i' behind);
 }
 
-pub not_last_by : (turn : Turn) (n : ℕ) (v v' : State) (b b' : Block) (f : Found) (out new : Option (List ℕ)) → goes_on turn ≡ true → Takes turn n v b f v' b' out new → is_last f ≡ false
-not_last_by turn n v v' b b' f out new g t = (subst (λ x. Takes x n v b f v' b' out new) (on_of turn g) t).taken.0
+pub not_last_by : (turn : Turn) (n : ℕ) (v v' : State) (b b' : Block) (i i' : ℕ) (f : Found) (out new : Option (List ℕ)) → goes_on turn ≡ true → Takes turn n v b i f v' b' i' out new → is_last f ≡ false
+not_last_by turn n v v' b b' i i' f out new g t = (subst (λ x. Takes x n v b i f v' b' i' out new) (on_of turn g) t).taken.0
 
-pub so_next : (turn : Turn) (f : Found) (n k : ℕ) (v v' : State) (b b' : Block) (r r' : Items) (left mid rest old out new : Option (List ℕ)) → goes_on turn ≡ true → k ≡ n → SoFar r k v b left mid old out → Finds (Ok f) r r' mid rest
-    → Takes turn n v b f v' b' out new → SoFar r' (n + 1) v' b' left rest old new
-so_next turn f n k v v' b b' r r' left mid rest old out new g e s t w =
-    on_next f n v v' b b' r r' left mid rest old out new (subst (λ x. SoFar r x v b left mid old out) e s) t (subst (λ x. Takes x n v b f v' b' out new) (on_of turn g) w)
+pub so_next : (turn : Turn) (f : Found) (n k : ℕ) (v v' : State) (b b' : Block) (i i' : ℕ) (r r' : Items) (left mid rest old out new : Option (List ℕ)) → goes_on turn ≡ true → k ≡ n → SoFar r k v b i left mid old out → Finds (Ok f) r r' mid rest
+    → Takes turn n v b i f v' b' i' out new → SoFar r' (n + 1) v' b' i' left rest old new
+so_next turn f n k v v' b b' i i' r r' left mid rest old out new g e s t w =
+    on_next f n v v' b b' i i' r r' left mid rest old out new (subst (λ x. SoFar r x v b i left mid old out) e s) t (subst (λ x. Takes x n v b i f v' b' i' out new) (on_of turn g) w)
 
 -- the session is over
 finished_after : (st : Status) (s t : Says) (v w : List ℕ) → s ≡ after v t → Finished st t w → Finished st s (v ++ w)
@@ -151,12 +154,12 @@ finished_after statuses.Usage s t v w e f = absurd f
 finished_after statuses.ReadFault s t v w e f = absurd f
 finished_after statuses.NoMemory s t v w e f = absurd f
 
-over_of : (turn : Turn) (n : ℕ) (v v' : State) (b b' : Block) (f : Found) (w : List ℕ) → goes_on turn ≡ false → TakenBy turn n v b f v' b' w → Over turn n v b f w
-over_of turns.On n v v' b b' f w g t = cc
-over_of turns.Ended n v v' b b' f w g t = t.1
-over_of turns.Refused n v v' b b' f w g t = t
-over_of turns.Beyond n v v' b b' f w g t = t
-over_of turns.Fault n v v' b b' f w g t = t
+over_of : (turn : Turn) (n : ℕ) (v v' : State) (b b' : Block) (i i' : ℕ) (f : Found) (w : List ℕ) → goes_on turn ≡ false → TakenBy turn n v b i f v' b' i' w → Over turn n v b i f w
+over_of turns.On n v v' b b' i i' f w g t = cc
+over_of turns.Ended n v v' b b' i i' f w g t = t.1
+over_of turns.Refused n v v' b b' i i' f w g t = t
+over_of turns.Beyond n v v' b b' i i' f w g t = t
+over_of turns.Fault n v v' b b' i i' f w g t = t
 
 was_run : (turn : Turn) → WasRun (status_of turn)
 was_run turns.On = tt
@@ -165,7 +168,7 @@ was_run turns.Refused = tt
 was_run turns.Beyond = tt
 was_run turns.Fault = tt
 
-as_concluded : (st : Status) (bytes read w : List ℕ) → Finished st (said (stepped (events_of bytes))) w → Concluded st bytes read w
+as_concluded : (st : Status) (bytes read w : List ℕ) → Finished st (said (stepped (with_turns (events_of bytes)))) w → Concluded st bytes read w
 as_concluded statuses.ReadFault bytes read w f = absurd f
 as_concluded statuses.Done bytes read w f = f
 as_concluded statuses.Refused bytes read w f = f
@@ -174,47 +177,47 @@ as_concluded statuses.WriteFault bytes read w f = f
 as_concluded statuses.Usage bytes read w f = absurd f
 as_concluded statuses.NoMemory bytes read w f = absurd f
 
-told_over : (turn : Turn) (n : ℕ) (v : State) (b : Block) (f : Found) (es : List Item) (left : Option (List ℕ)) (read v1 w : List ℕ) → ((behind : List Item) → said (stepped (es ++ behind)) ≡ after v1 (items_say n v b behind))
-    → Over turn n v b f w → IfSome left (λ bytes. Behind f es bytes) → IfSome left (λ bytes. Concluded (status_of turn) bytes read (v1 ++ w))
-told_over turn n v b f es None read v1 w s o h = tt
-told_over turn n v b f es (Some bytes) read v1 w s o h =
+told_over : (turn : Turn) (n : ℕ) (v : State) (b : Block) (i : ℕ) (f : Found) (es : List Item) (left : Option (List ℕ)) (read v1 w : List ℕ) → ((behind : List Item) → said (stepped (with_turns (es ++ behind))) ≡ after v1 (session_says n v b i behind))
+    → Over turn n v b i f w → IfSome left (λ bytes. Behind f es bytes) → IfSome left (λ bytes. Concluded (status_of turn) bytes read (v1 ++ w))
+told_over turn n v b i f es None read v1 w s o h = tt
+told_over turn n v b i f es (Some bytes) read v1 w s o h =
     as_concluded (status_of turn) bytes read (v1 ++ w)
-    (finished_after (status_of turn) _ _ v1 w (ap (λ x. said (stepped x)) h.all ∙ s (last_items f ++ h.tail)) (o h.tail h.last))
+    (finished_after (status_of turn) _ _ v1 w (ap (λ x. said (stepped (with_turns x))) h.all ∙ s (last_items f ++ h.tail)) (o h.tail h.last))
 
-told_input : (turn : Turn) (n : ℕ) (v v' : State) (b b' : Block) (f : Found) (es : List Item) (w : List ℕ) (r r' : Items) (left mid rest : Option (List ℕ)) → goes_on turn ≡ false → TakenBy turn n v b f v' b' w
+told_input : (turn : Turn) (n : ℕ) (v v' : State) (b b' : Block) (i i' : ℕ) (f : Found) (es : List Item) (w : List ℕ) (r r' : Items) (left mid rest : Option (List ℕ)) → goes_on turn ≡ false → TakenBy turn n v b i f v' b' i' w
     → Ready r'.lines rest → FoundSoFar es r left mid → Finds (Ok f) r r' mid rest → status_of turn ≡ statuses.Done → IfSome left (λ bytes. ReadOut bytes rest)
-told_input turns.On n v v' b b' f es w r r' left mid rest g t y s k e = cc
-told_input turns.Ended n v v' b b' f es w r r' left mid rest g t y s k e = reader.out_of f es r r' left mid rest y s k t.0
-told_input turns.Refused n v v' b b' f es w r r' left mid rest g t y s k e = cc
-told_input turns.Beyond n v v' b b' f es w r r' left mid rest g t y s k e = cc
-told_input turns.Fault n v v' b b' f es w r r' left mid rest g t y s k e = cc
+told_input turns.On n v v' b b' i i' f es w r r' left mid rest g t y s k e = cc
+told_input turns.Ended n v v' b b' i i' f es w r r' left mid rest g t y s k e = reader.out_of f es r r' left mid rest y s k t.0
+told_input turns.Refused n v v' b b' i i' f es w r r' left mid rest g t y s k e = cc
+told_input turns.Beyond n v v' b b' i i' f es w r r' left mid rest g t y s k e = cc
+told_input turns.Fault n v v' b b' i i' f es w r r' left mid rest g t y s k e = cc
 
-over_by : (turn : Turn) (f : Found) (n : ℕ) (v v' : State) (b b' : Block) (r r' : Items) (left mid rest old out new : Option (List ℕ)) → goes_on turn ≡ false → Ready r'.lines rest → SoFar r n v b left mid old out
-    → Finds (Ok f) r r' mid rest → Takes turn n v b f v' b' out new → Session (status_of turn) left rest old new
-over_by turn f n v v' b b' r r' left mid rest old out new g y s t w = record {
+over_by : (turn : Turn) (f : Found) (n : ℕ) (v v' : State) (b b' : Block) (i i' : ℕ) (r r' : Items) (left mid rest old out new : Option (List ℕ)) → goes_on turn ≡ false → Ready r'.lines rest → SoFar r n v b i left mid old out
+    → Finds (Ok f) r r' mid rest → Takes turn n v b i f v' b' i' out new → Session (status_of turn) left rest old new
+over_by turn f n v v' b b' i i' r r' left mid rest old out new g y s t w = record {
   read = s.found.read ++ t.read;
   wrote = s.wrote ++ w.wrote;
   consumed = reader.consumed_then s.items f r r' left mid rest s.found t;
   appended = Appends-trans old out new s.wrote w.wrote s.appended w.appended;
   ran = was_run turn;
-  concluded = told_over turn n v b f s.items left (s.found.read ++ t.read) s.wrote w.wrote s.says (over_of turn n v v' b b' f w.wrote g w.taken) (reader.behind_by f s.items r r' left mid rest y s.found t);
-  input = told_input turn n v v' b b' f s.items w.wrote r r' left mid rest g w.taken y s.found t;
+  concluded = told_over turn n v b i f s.items left (s.found.read ++ t.read) s.wrote w.wrote s.says (over_of turn n v v' b b' i i' f w.wrote g w.taken) (reader.behind_by f s.items r r' left mid rest y s.found t);
+  input = told_input turn n v v' b b' i i' f s.items w.wrote r r' left mid rest g w.taken y s.found t;
 }
 
-pub session_over : (st : Status) (turn : Turn) (f : Found) (n k : ℕ) (v v' : State) (b b' : Block) (r r' : Items) (left mid rest old out new : Option (List ℕ)) → st ≡ status_of turn → goes_on turn ≡ false → k ≡ n → Ready r'.lines rest
-    → SoFar r k v b left mid old out → Finds (Ok f) r r' mid rest → Takes turn n v b f v' b' out new → Session st left rest old new
-session_over st turn f n k v v' b b' r r' left mid rest old out new h g e y s t w =
-    subst (λ x. Session x left rest old new) (sym h) (over_by turn f n v v' b b' r r' left mid rest old out new g y (subst (λ x. SoFar r x v b left mid old out) e s) t w)
+pub session_over : (st : Status) (turn : Turn) (f : Found) (n k : ℕ) (v v' : State) (b b' : Block) (i i' : ℕ) (r r' : Items) (left mid rest old out new : Option (List ℕ)) → st ≡ status_of turn → goes_on turn ≡ false → k ≡ n → Ready r'.lines rest
+    → SoFar r k v b i left mid old out → Finds (Ok f) r r' mid rest → Takes turn n v b i f v' b' i' out new → Session st left rest old new
+session_over st turn f n k v v' b b' i i' r r' left mid rest old out new h g e y s t w =
+    subst (λ x. Session x left rest old new) (sym h) (over_by turn f n v v' b b' i i' r r' left mid rest old out new g y (subst (λ x. SoFar r x v b i left mid old out) e s) t w)
 
 -- the source failed
-told_fault : (x : Failed) (n : ℕ) (v : State) (b : Block) (es : List Item) (left : Option (List ℕ)) (read w : List ℕ) → ((behind : List Item) → said (stepped (es ++ behind)) ≡ after w (items_say n v b behind))
+told_fault : (x : Failed) (n : ℕ) (v : State) (b : Block) (i : ℕ) (es : List Item) (left : Option (List ℕ)) (read w : List ℕ) → ((behind : List Item) → said (stepped (with_turns (es ++ behind))) ≡ after w (session_says n v b i behind))
     → IfSome left (λ bytes. AllFound (Err x) es bytes read) → IfSome left (λ bytes. Concluded statuses.ReadFault bytes read w)
-told_fault x n v b es None read w s a = tt
-told_fault x n v b es (Some bytes) read w s a =
-    ap (λ i. said (stepped i)) (a ∙ sym (append-nil es)) ∙ s [] ∙ ap (after w) (says_nothing n v b) ∙ ap (λ t. saying t Open) (append-nil w)
+told_fault x n v b i es None read w s a = tt
+told_fault x n v b i es (Some bytes) read w s a =
+    ap (λ x. said (stepped (with_turns x))) (a ∙ sym (append-nil es)) ∙ s [] ∙ ap (after w) (says_nothing n v b i) ∙ ap (λ t. saying t Open) (append-nil w)
 
-pub session_fault : (x : Failed) (n : ℕ) (v : State) (b : Block) (r r' : Items) (left mid rest old out : Option (List ℕ)) → SoFar r n v b left mid old out → Finds (Err x) r r' mid rest → Session statuses.ReadFault left rest old out
-session_fault x n v b r r' left mid rest old out s t =
+pub session_fault : (x : Failed) (n : ℕ) (v : State) (b : Block) (i : ℕ) (r r' : Items) (left mid rest old out : Option (List ℕ)) → SoFar r n v b i left mid old out → Finds (Err x) r r' mid rest → Session statuses.ReadFault left rest old out
+session_fault x n v b i r r' left mid rest old out s t =
     let e = reader.ended_broken x s.items r r' left mid rest s.found t in
     record {
       read = e.read;
@@ -222,7 +225,7 @@ session_fault x n v b r r' left mid rest old out s t =
       consumed = e.consumed;
       appended = s.appended;
       ran = tt;
-      concluded = told_fault x n v b s.items left e.read s.wrote s.says e.all;
+      concluded = told_fault x n v b i s.items left e.read s.wrote s.says e.all;
       input = λ k. cc;
     }
 

@@ -1,5 +1,5 @@
 -- What one event writes.
-use Rattle.std.specs.Prelude.{◌≡◌, ◌≢◌, ℕ, ◌+◌, Bool, true, List, [], ◌∷◌, ◌++◌, refl}
+use Rattle.std.specs.Prelude.{◌≡◌, ◌≢◌, ℕ, ◌+◌, Bool, true, Some, List, [], ◌∷◌, ◌++◌, refl}
 use Rattle.std.proofs.Common.{sym, ◌∙◌, ap, append_assoc, append-nil}
 use Rattle.std.proofs.lemmas.Grind.{flat_map-append}
 use Rattle.its_word.specs.Item.{Item, Read}
@@ -14,6 +14,7 @@ use Rattle.its_plain.specs.OperatorLines.{Lined, Done, Peeks, operate, lined}
 use Rattle.its_plain.specs.Transcript.{Fate, Lost}
 use Rattle.its_stepped.specs.State.{State}
 use Rattle.its_stepped.specs.Lines.{Told, telling, calmed, with_raw, peeked, paces_of, ticked, told_by, told}
+use Rattle.its_stepped.specs.Turns.{stand_after}
 use Rattle.its_top.specs.declared.turn.Turn.TheVariants as turns
 use Rattle.its_top.specs.Telling.{Says, said, after, saying, Begins, items_say, goes_on_after, Answers}
 
@@ -48,6 +49,10 @@ says_by n v c b e o items h =
     ∙ ap (λ x. said (told_by n v x b (lined x.raw b e) (λ v' b'. told (n + 1) v' b' items))) h.calm
     ∙ ap (λ x. said (told_by n v c b x (λ v' b'. told (n + 1) v' b' items))) h.is
 
+-- where the stepped machine stands after it
+stands_by : (v c : State) (b : Block) (e : Event) (o : Lined) → Comes v b e c o → stand_after v (calmed v b e) b (lined (calmed v b e).raw b e) ≡ stand_after v c b o
+stands_by v c b e o h = ap (λ x. stand_after v x b (lined x.raw b e)) h.calm ∙ ap (stand_after v c b) h.is
+
 -- only END ends
 end_goes : (m : Machine) (b : Block) → lined m b events.End ≡ Done Quits
 unfolding lined operate
@@ -68,6 +73,7 @@ does_on n v c v' m b b' e out touched h k = (
   goes_unless c.raw b e (λ x. let l : Done (Does m out touched b') ≡ Done Quits = sym h.is ∙ x in cc),
   λ items. says_by n v c b e (Done (Does m out touched b')) items h ∙ said_telling out (told (n + 1) (with_raw c m) b' items)
       ∙ ap (λ x. after (text out) (said (told (n + 1) x b' items))) (sym k),
+  stands_by v c b e (Done (Does m out touched b')) h ∙ ap (λ x. Some (record { state = x; block = b' })) (sym k),
 )
 
 pub ticks_on : (n : ℕ) (v c : State) (b : Block) (e : Event) (s k : ℕ) → Comes v b e c (Done (Ticks s k))
@@ -76,6 +82,7 @@ unfolding items_say
 ticks_on n v c b e s k h = (
   goes_unless c.raw b e (λ x. let l : Done (Ticks s k) ≡ Done Quits = sym h.is ∙ x in cc),
   λ items. says_by n v c b e (Done (Ticks s k)) items h ∙ said_telling (printed.Ticks s (paces_of v s k) ∷ []) (told (n + 1) (ticked v s k) b items),
+  stands_by v c b e (Done (Ticks s k)) h,
 )
 
 pub peeks_on : (n : ℕ) (v c : State) (b : Block) (e : Event) (s : ℕ) → Comes v b e c (Peeks s)
@@ -84,6 +91,7 @@ unfolding items_say
 peeks_on n v c b e s h = (
   goes_unless c.raw b e (λ x. let l : Peeks s ≡ Done Quits = sym h.is ∙ x in cc),
   λ items. says_by n v c b e (Peeks s) items h ∙ said_telling (printed.Peeked s (peeked v s) ∷ []) (told (n + 1) v b items),
+  stands_by v c b e (Peeks s) h,
 )
 
 pub refuses : (n : ℕ) (v c v' : State) (b b' : Block) (e : Event) (r : Reason) → Comes v b e c (Done (Refuses r))

@@ -1,12 +1,12 @@
 -- The lines that the monitor writes have at most twelve `.` in a row (docs/STEPS.md, "Lines").
-use Rattle.std.specs.Prelude.{◌≡◌, ◌<◌, ◌≤◌, ℕ, zero, suc, ◌+◌, List, [], ◌∷◌, ◌++◌, length, drop, unwrap_or, refl}
+use Rattle.std.specs.Prelude.{◌≡◌, ◌<◌, ◌≤◌, ℕ, zero, suc, ◌+◌, List, [], ◌∷◌, ◌++◌, length, drop, refl}
 use Rattle.std.proofs.Common.{sym, ap, subst, arith}
 use Rattle.std.proofs.lemmas.List.{drop_at}
-use Rattle.its_word.specs.Item.{Item, Read, Unread, Beyond}
+use Rattle.its_word.specs.Item.{Item, Read, Unread, InTurn, Beyond}
 use Rattle.its_word.specs.declared.calls.Pace.{Pace}
-use Rattle.its_word.specs.declared.calls.Pace.TheVariants.{Step, Work, Wait, Off}
+use Rattle.its_word.specs.declared.calls.Pace.TheVariants.{Work}
 use Rattle.its_print.specs.Printing.{Line}
-use Rattle.its_plain.specs.Licence.{Licensed, Dots, dots_after, dots_after_line}
+use Rattle.its_plain.specs.Licence.{Dots, dots_after, dots_after_line}
 use Rattle.its_plain.specs.Machine.{Machine, no_machine}
 use Rattle.its_plain.specs.Operator.{Block, no_block, Refuses, Does, Ticks, Quits}
 use Rattle.its_plain.specs.OperatorLines.{Lined, Done, Peeks, lined}
@@ -19,16 +19,10 @@ use Rattle.its_stepped.proofs.DotsLaws.{bound, OwnDots, bound_few, tick_dots}
 use Rattle.its_stepped.proofs.SessionLaws.{HoldsAfter, Upkeep}
 use Rattle.its_stepped.proofs.SoundLaws.{tick_sound}
 use Rattle.its_stepped.proofs.StartLaws.{no_state_plain}
+use Rattle.its_stepped.proofs.UnrolledLaws.{letter_leads}
 use Rattle.its_stepped.proofs.UpkeepLaws.{Good, upkeep}
 use Rattle.its_stepped.proofs.WrittenLaws.{lasting}
-use Rattle.its_top.specs.FewDots.{most_in_a_row, machine_after, FewLetters, FewPast, FewFrom, FewDots}
-
--- the machine after a letter that is licensed
-letter_leads : (m n : Machine) (i : ℕ) (p : Pace) → Licensed m i p n → machine_after m i p ≡ n
-letter_leads m n i Step h = ap (λ o. unwrap_or o m) h
-letter_leads m n i Work h = sym h.1
-letter_leads m n i Wait h = sym h.2
-letter_leads m n i Off h = sym h.1
+use Rattle.its_top.specs.FewDots.{most_in_a_row, FewLetters, FewPast, FewFrom, FewDots}
 
 -- a `.` leaves a bound that is one more, which is at most twelve
 fewer : (p : Pace) (d before after : ℕ) → OwnDots p before after → d ≤ before → after ≤ 12 → p ≡ Work → d < most_in_a_row
@@ -79,6 +73,8 @@ module _ (decoding : Decoding) where
   told_few n w d b (Read e ∷ es) g =
       subst (λ l. FewPast (plain w) d b l (told n w b (Read e ∷ es)).lines (λ m f c rest. FewFrom m f c es rest)) (sym (u.line d w b e g))
       (line_few n w (calmed w b e) d b (lined (calmed w b e).raw b e) es g (u.after d w b e g) (λ w' f c good. told_few (n + 1) w' f c es good))
+  told_few n w d b (InTurn s k ∷ es) g =
+      ticks_few w d s k (λ m f. FewFrom m f b es (told n (ticked w s k) b es).lines) g (λ f good. told_few n (ticked w s k) f b es good)
   told_few n w d b (Unread r ∷ es) g = tt
   told_few n w d b (Beyond ∷ es) g = tt
 

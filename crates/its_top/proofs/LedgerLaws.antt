@@ -3,7 +3,7 @@ use Rattle.std.specs.Prelude.{◌≡◌, ℕ, ◌+◌, List, [], ◌∷◌, ◌+
 use Rattle.std.proofs.Common.{sym, ◌∙◌, ap, subst, arith, append_assoc, append-nil}
 use Rattle.std.proofs.lemmas.Grind.{flat_map-append}
 use Rattle.std.proofs.lemmas.List.{length-append, drop_at}
-use Rattle.its_word.specs.Item.{Item, Read, Unread, Beyond}
+use Rattle.its_word.specs.Item.{Item, Read, Unread, InTurn, Beyond}
 use Rattle.its_word.specs.declared.calls.Pace.{Pace}
 use Rattle.its_word.specs.declared.calls.Pace.TheVariants.{Step, Work, Wait, Off}
 use Rattle.its_word.specs.declared.session.Event.{Event}
@@ -127,6 +127,15 @@ from_run : (c : ℕ) (v : Walk) (es : List Item) (lines : List Line) (fate : Fat
 from_run c v [] lines fate few t = from_rest c v.machine lines (ap (flat_map (drained_by c)) t.0)
 from_run c v (Read e ∷ es) lines fate few t =
     from_lined c v e es lines fate (lined v.machine v.block e) few (line_shows c v.machine v.block e few) t (λ w rest few' run. from_run c w es rest fate few' run)
+from_run c v (InTurn i k ∷ es) lines fate few t =
+    let m = v.machine in
+    let ps = t.0 in
+    let rest = t.1 in
+    let walk : Machine → Course = λ l. course l v.block es rest in
+    let next = from_letters c i v ps (λ w. Run w es rest fate) walk rest few t.4
+    (λ w same few' run. subst (λ b. From c w.machine (course w.machine b es rest) rest) same (from_run c w es rest fate few' run)) in
+    subst (λ ls. From c m (paced m i (letters ls) (λ l. course l v.block es (drop 1 ls))) ls) (sym t.2)
+    (from_shown c m (paced m i ps walk) (printed.Ticks i ps) rest refl next)
 from_run c v (Unread r ∷ es) lines fate few t = from_rest c v.machine lines (ap (flat_map (drained_by c)) t.0)
 from_run c v (Beyond ∷ es) lines fate few t = from_rest c v.machine lines (ap (flat_map (drained_by c)) t.0)
 

@@ -17,4 +17,6 @@ pub mod CommandLaws
 pub mod CheckingLaws
 pub mod TallyLaws
 pub mod ObeyLaws
+pub mod AssemblingLaws
 pub mod NearestLaws
+pub mod CircleLaws

@@ -6,6 +6,7 @@ use Rattle.its_print.specs.Printing.{text}
 use Rattle.its_session.specs.Events.{events_of}
 use Rattle.its_reader.specs.Items.{ReadOut}
 use Rattle.its_stepped.specs.Lines.{stepped}
+use Rattle.its_stepped.specs.Turns.{with_turns}
 use Rattle.its_top.specs.declared.status.Status.{Status}
 use Rattle.its_top.specs.declared.status.Status.TheVariants as statuses
 use Rattle.its_top.specs.declared.commands.Command.{Command}
@@ -16,7 +17,8 @@ use Rattle.its_top.specs.Conclusion.{IsDone, WasRun, Session}
 use Rattle.its_top.specs.Commands.{reads, IfGenerates}
 use Rattle.its_top.specs.Checking.{checked, checked_text, Passes, Fails, GoesOn, StatusFor, WroteText, CheckOf, Check}
 use Rattle.its_top.specs.Generating.{generated_text}
-use Rattle.its_top.specs.Top.{usage, Transcribed, Completes, Refuses, RunsOn, Breaks, Begins, CheckPasses, CheckFails, CheckRunsOn, CheckBreaks, DoneFor, Obeyed}
+use Rattle.its_top.specs.Assembling.{Asm}
+use Rattle.its_top.specs.Top.{Refrains, usage, Transcribed, Completes, Refuses, RunsOn, Breaks, Begins, CheckPasses, CheckFails, CheckRunsOn, CheckBreaks, DoneFor, Obeyed}
 use Rattle.its_top.proofs.TopLaws.{session_done, session_refused, session_too_long, session_breaks, session_begins, session_written, session_transcribed, one_of, session_complete}
 
 -- what the commands came to
@@ -30,7 +32,14 @@ as_obeys c statuses.WriteFault left rest old new n d = record { obeys = d }
 as_obeys c statuses.TooLong left rest old new n d = record { obeys = d }
 
 pub not_obeyed : (c : Option Command) (left old : Option (List ℕ)) → Obeyed c statuses.NoMemory left left old old
-not_obeyed c left old = record { obeys = (refl, refl) }
+not_obeyed c left old = record { obeys = by c }
+  where
+    by : (d : Option Command) → Refrains d left left old old
+    by (Some commands.Asm) = refl
+    by None = (refl, refl)
+    by (Some commands.Run) = (refl, refl)
+    by (Some commands.Check) = (refl, refl)
+    by (Some (commands.Gen n)) = (refl, refl)
 
 pub obeyed_run : (st : Status) (left rest old new : Option (List ℕ)) → (st ≢ statuses.NoMemory → Session st left rest old new) → (st ≡ statuses.NoMemory → (rest ≡ left) × (new ≡ old))
     → Obeyed (Some commands.Run) st left rest old new
@@ -50,11 +59,15 @@ pub obeyed_none : (st : Status) (left old new : Option (List ℕ)) → WroteText
 obeyed_none statuses.NoMemory left old new w = absurd (let k : statuses.NoMemory ≡ statuses.Usage = w.complete.0 in cc)
 obeyed_none st left old new w = as_obeys None st left left old new (λ k. cc) (w, refl)
 
+pub obeyed_asm : (st : Status) (left rest old new : Option (List ℕ)) → Asm st left rest old new → Obeyed (Some commands.Asm) st left rest old new
+obeyed_asm statuses.NoMemory left rest old new s = record { obeys = s.unwritten refl }
+obeyed_asm st left rest old new s = as_obeys (Some commands.Asm) st left rest old new (λ k. cc) s
+
 pub obeyed_by : (c d : Option Command) (st : Status) (left rest old new : Option (List ℕ)) → c ≡ d → Obeyed c st left rest old new → Obeyed d st left rest old new
 obeyed_by c d st left rest old new e o = subst (λ x. Obeyed x st left rest old new) e o
 
 -- back from them
-done_for : (d c : Option Command) (st : Status) (left rest old new : Option (List ℕ)) → Obeyed d st left rest old new → d ≡ c → st ≢ statuses.NoMemory → DoneFor c st left rest old new
+pub done_for : (d c : Option Command) (st : Status) (left rest old new : Option (List ℕ)) → Obeyed d st left rest old new → d ≡ c → st ≢ statuses.NoMemory → DoneFor c st left rest old new
 done_for d c st left rest old new o e n = go st n (subst (λ x. Obeyed x st left rest old new) e o)
   where
     go : (t : Status) → t ≢ statuses.NoMemory → Obeyed c t left rest old new → DoneFor c t left rest old new
@@ -83,7 +96,7 @@ pub run_breaks : (d : Option Command) (st : Status) (left rest old new : Option 
 run_breaks d st left rest old new o c e = session_breaks st left rest old new e (done_for d (Some commands.Run) st left rest old new o c (λ k. cc))
 
 pub run_begins : (d : Option Command) (st : Status) (left rest old new : Option (List ℕ)) → Obeyed d st left rest old new → d ≡ Some commands.Run → st ≡ statuses.WriteFault
-    → IfSome left (λ bytes. Begins (text (stepped (events_of bytes)).lines) old new)
+    → IfSome left (λ bytes. Begins (text (stepped (with_turns (events_of bytes))).lines) old new)
 run_begins d st left rest old new o c e = session_begins st left rest old new e (done_for d (Some commands.Run) st left rest old new o c (λ k. cc))
 
 ended : (st : Status) → ((st ≡ statuses.Done) ⊎ (st ≡ statuses.Refused)) ⊎ (st ≡ statuses.TooLong) → st ≢ statuses.NoMemory
@@ -92,29 +105,29 @@ ended st (inl (inr e)) k = cc
 ended st (inr e) k = cc
 
 pub run_written : (d : Option Command) (st : Status) (left rest old new : Option (List ℕ)) → Obeyed d st left rest old new → d ≡ Some commands.Run
-    → ((st ≡ statuses.Done) ⊎ (st ≡ statuses.Refused)) ⊎ (st ≡ statuses.TooLong) → IfSome left (λ bytes. Appends old new (text (stepped (events_of bytes)).lines))
+    → ((st ≡ statuses.Done) ⊎ (st ≡ statuses.Refused)) ⊎ (st ≡ statuses.TooLong) → IfSome left (λ bytes. Appends old new (text (stepped (with_turns (events_of bytes))).lines))
 run_written d st left rest old new o c e = session_written st left rest old new e (done_for d (Some commands.Run) st left rest old new o c (ended st e))
 
 pub run_transcribed : (d : Option Command) (st : Status) (left rest old new : Option (List ℕ)) → Obeyed d st left rest old new → d ≡ Some commands.Run
     → ((st ≡ statuses.Done) ⊎ (st ≡ statuses.Refused)) ⊎ (st ≡ statuses.TooLong) → IfSome left (λ bytes. Transcribed st bytes old new)
 run_transcribed d st left rest old new o c e = session_transcribed st left rest old new e (done_for d (Some commands.Run) st left rest old new o c (ended st e))
 
-if_all : (left : Option (List ℕ)) (P : List ℕ → Type 0) → ((b : List ℕ) → P b) → IfSome left P
+pub if_all : (left : Option (List ℕ)) (P : List ℕ → Type 0) → ((b : List ℕ) → P b) → IfSome left P
 if_all None P f = tt
 if_all (Some b) P f = f b
 
-if_then : (left : Option (List ℕ)) (P Q : List ℕ → Type 0) → ((b : List ℕ) → P b → Q b) → IfSome left P → IfSome left Q
+pub if_then : (left : Option (List ℕ)) (P Q : List ℕ → Type 0) → ((b : List ℕ) → P b → Q b) → IfSome left P → IfSome left Q
 if_then None P Q f h = tt
 if_then (Some b) P Q f h = f b h
 
-unrisen : (a b : ℕ) → a ≡ b → a ≡ b + 1 → ⊥
+pub unrisen : (a b : ℕ) → a ≡ b → a ≡ b + 1 → ⊥
 unrisen a b e f = omega arith
 
 pub run_complete : (d : Option Command) (st : Status) (left rest old new : Option (List ℕ)) (sf tf kf lf : ℕ) → Obeyed d st left rest old new → (st ≡ statuses.ReadFault → tf ≡ sf + 1) → (st ≡ statuses.WriteFault → lf ≡ kf + 1)
-    → d ≡ Some commands.Run → tf ≡ sf → lf ≡ kf → IfSome left (λ bytes. IsDone (stepped (events_of bytes)).fate → (st ≡ statuses.Done) ⊎ (st ≡ statuses.NoMemory))
+    → d ≡ Some commands.Run → tf ≡ sf → lf ≡ kf → IfSome left (λ bytes. IsDone (stepped (with_turns (events_of bytes))).fate → (st ≡ statuses.Done) ⊎ (st ≡ statuses.NoMemory))
 run_complete d statuses.NoMemory left rest old new sf tf kf lf o r w c e f = if_all left _ (λ b i. inr refl)
 run_complete d st left rest old new sf tf kf lf o r w c e f =
-    if_then left (λ bytes. IsDone (stepped (events_of bytes)).fate → st ≡ statuses.Done) _ (λ b h i. inl (h i))
+    if_then left (λ bytes. IsDone (stepped (with_turns (events_of bytes))).fate → st ≡ statuses.Done) _ (λ b h i. inl (h i))
     (session_complete st left rest old new (λ k. unrisen tf sf e (r k)) (λ k. unrisen lf kf f (w k)) (done_for d (Some commands.Run) st left rest old new o c (λ k. cc)))
 
 pub run_answered : (d : Option Command) (st : Status) (left rest old new : Option (List ℕ)) (sf tf kf lf : ℕ) → Obeyed d st left rest old new → (st ≡ statuses.ReadFault → tf ≡ sf + 1) → (st ≡ statuses.WriteFault → lf ≡ kf + 1)
@@ -204,6 +217,7 @@ pub gen_done : (d : Option Command) (st : Status) (left rest old new : Option (L
 gen_done None st left rest old new o = tt
 gen_done (Some commands.Run) st left rest old new o = tt
 gen_done (Some commands.Check) st left rest old new o = tt
+gen_done (Some commands.Asm) st left rest old new o = tt
 gen_done (Some (commands.Gen n)) st left rest old new o =
     λ e. wrote_done st (generated_text n) old new e (done_for (Some (commands.Gen n)) (Some (commands.Gen n)) st left rest old new o refl (λ k. cc)).0
 
@@ -211,6 +225,7 @@ pub gen_begins : (d : Option Command) (st : Status) (left rest old new : Option 
 gen_begins None st left rest old new o = tt
 gen_begins (Some commands.Run) st left rest old new o = tt
 gen_begins (Some commands.Check) st left rest old new o = tt
+gen_begins (Some commands.Asm) st left rest old new o = tt
 gen_begins (Some (commands.Gen n)) st left rest old new o =
     λ e. wrote_fault st statuses.Done (generated_text n) old new e (done_for (Some (commands.Gen n)) (Some (commands.Gen n)) st left rest old new o refl (λ k. cc)).0
 
@@ -235,6 +250,7 @@ pub gen_complete : (d : Option Command) (st : Status) (left rest old new : Optio
 gen_complete None st left rest old new kf lf o w = tt
 gen_complete (Some commands.Run) st left rest old new kf lf o w = tt
 gen_complete (Some commands.Check) st left rest old new kf lf o w = tt
+gen_complete (Some commands.Asm) st left rest old new kf lf o w = tt
 gen_complete (Some (commands.Gen n)) st left rest old new kf lf o w = λ f. gen_ends st n kf lf left rest old new o w f
 
 -- words that are no command
@@ -242,6 +258,7 @@ is_none : (d : Option Command) (st : Status) (left rest old new : Option (List �
 is_none None st left rest old new e o = refl
 is_none (Some commands.Run) st left rest old new e o = absurd (subst (λ x. Session x left rest old new) e (done_for (Some commands.Run) (Some commands.Run) st left rest old new o refl (λ k. cc))).ran
 is_none (Some commands.Check) st left rest old new e o = absurd (subst (λ x. Check x left rest old new) e (done_for (Some commands.Check) (Some commands.Check) st left rest old new o refl (λ k. cc))).ran
+is_none (Some commands.Asm) st left rest old new e o = absurd ((done_for (Some commands.Asm) (Some commands.Asm) st left rest old new o refl (λ k. cc)).ran e)
 is_none (Some (commands.Gen n)) st left rest old new e o =
     let w = (done_for (Some (commands.Gen n)) (Some (commands.Gen n)) st left rest old new o refl (λ k. cc)).0 in
     absurd (let k : statuses.Usage ≡ statuses.Done = (subst (λ x. WroteText x statuses.Done (generated_text n) old new) e w).complete.0 in cc)
@@ -275,6 +292,11 @@ by_input : (d : Option Command) (left rest old new : Option (List ℕ)) → Obey
 by_input None left rest old new o r = cc
 by_input (Some commands.Run) left rest old new o r = o.obeys.input refl
 by_input (Some commands.Check) left rest old new o r = o.obeys.input refl
+by_input (Some commands.Asm) left rest old new o r = whole left o.obeys
+  where
+    whole : (l : Option (List ℕ)) → Asm statuses.Done l rest old new → IfSome l (λ bytes. ReadOut bytes rest)
+    whole None a = tt
+    whole (Some bytes) a = record { read = a.read; consumed = a.consumed; out = inl a.found.2 }
 by_input (Some (commands.Gen n)) left rest old new o r = cc
 
 pub input_read : (d : Option Command) (st : Status) (left rest old new : Option (List ℕ)) → Obeyed d st left rest old new → reads d ≡ true → st ≡ statuses.Done → IfSome left (λ bytes. ReadOut bytes rest)
@@ -285,10 +307,29 @@ left_alone : (d : Option Command) (st : Status) (left rest old new : Option (Lis
 left_alone None st left rest old new r n o = (done_for None None st left rest old new o refl n).1
 left_alone (Some commands.Run) st left rest old new r n o = cc
 left_alone (Some commands.Check) st left rest old new r n o = cc
+left_alone (Some commands.Asm) st left rest old new r n o = cc
 left_alone (Some (commands.Gen k)) st left rest old new r n o = (done_for (Some (commands.Gen k)) (Some (commands.Gen k)) st left rest old new o refl n).1
 
+unread_by : (d : Option Command) (left rest old new : Option (List ℕ)) → Refrains d left rest old new → d ≢ Some commands.Asm → rest ≡ left
+unread_by (Some commands.Asm) left rest old new m n = absurd (n refl)
+unread_by None left rest old new m n = m.0
+unread_by (Some commands.Run) left rest old new m n = m.0
+unread_by (Some commands.Check) left rest old new m n = m.0
+unread_by (Some (commands.Gen k)) left rest old new m n = m.0
+
+unwritten_by : (d : Option Command) (left rest old new : Option (List ℕ)) → Refrains d left rest old new → new ≡ old
+unwritten_by (Some commands.Asm) left rest old new m = m
+unwritten_by None left rest old new m = m.1
+unwritten_by (Some commands.Run) left rest old new m = m.1
+unwritten_by (Some commands.Check) left rest old new m = m.1
+unwritten_by (Some (commands.Gen k)) left rest old new m = m.1
+
+unread_asm : (d : Option Command) → reads d ≡ false → d ≢ Some commands.Asm
+unread_asm (Some commands.Asm) r = cc
+unread_asm d r = λ k. cc
+
 pub unread : (d : Option Command) (st : Status) (left rest old new : Option (List ℕ)) → Obeyed d st left rest old new → reads d ≡ false → rest ≡ left
-unread d statuses.NoMemory left rest old new o r = o.obeys.0
+unread d statuses.NoMemory left rest old new o r = unread_by d left rest old new o.obeys (unread_asm d r)
 unread d st left rest old new o r = left_alone d st left rest old new r (λ k. cc) o
 
 pub not_read_fault : (d : Option Command) (st : Status) (left rest old new : Option (List ℕ)) → Obeyed d st left rest old new → reads d ≡ false → st ≢ statuses.ReadFault
@@ -297,9 +338,13 @@ not_read_fault None st left rest old new o r e =
     let k : statuses.ReadFault ≡ statuses.Usage = (subst (λ x. WroteText x statuses.Usage usage old new) e w).complete.0 in cc
 not_read_fault (Some commands.Run) st left rest old new o r e = cc
 not_read_fault (Some commands.Check) st left rest old new o r e = cc
+not_read_fault (Some commands.Asm) st left rest old new o r e = cc
 not_read_fault (Some (commands.Gen n)) st left rest old new o r e =
     let w = (done_for (Some (commands.Gen n)) (Some (commands.Gen n)) st left rest old new o refl (λ k. cc)).0 in
     let k : statuses.ReadFault ≡ statuses.Done = (subst (λ x. WroteText x statuses.Done (generated_text n) old new) e w).complete.0 in cc
 
-pub no_memory : (d : Option Command) (st : Status) (left rest old new : Option (List ℕ)) → Obeyed d st left rest old new → st ≡ statuses.NoMemory → (rest ≡ left) × (new ≡ old)
-no_memory d st left rest old new o e = (subst (λ x. Obeyed d x left rest old new) e o).obeys
+pub no_memory : (d : Option Command) (st : Status) (left rest old new : Option (List ℕ)) → Obeyed d st left rest old new → st ≡ statuses.NoMemory → new ≡ old
+no_memory d st left rest old new o e = unwritten_by d left rest old new (subst (λ x. Obeyed d x left rest old new) e o).obeys
+
+pub no_memory_unread : (d : Option Command) (st : Status) (left rest old new : Option (List ℕ)) → Obeyed d st left rest old new → d ≢ Some commands.Asm → st ≡ statuses.NoMemory → rest ≡ left
+no_memory_unread d st left rest old new o n e = unread_by d left rest old new (subst (λ x. Obeyed d x left rest old new) e o).obeys n

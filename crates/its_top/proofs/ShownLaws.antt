@@ -258,6 +258,7 @@ line_shows c m b (events.State s) few = state_shows c m b s (state_shown m s) fe
 line_shows c m b (events.Clock n) few = clock_shows c m b n (nat_lt (m.clock + n) clock_end) few
 line_shows c m b (events.Peek s) few = peek_shows c m s (m.jobs s)
 line_shows c m b (events.Tick s n) few = tt
+line_shows c m b (events.Run n q) few = shows_still c m m (events.Run n q) [] few refl refl refl
 line_shows c m b events.Nothing few = shows_still c m m events.Nothing [] few refl refl refl
 line_shows c m b events.End few = tt
 line_shows c m b (events.File d x y) few =

@@ -5,11 +5,19 @@ use Rattle.std.specs.Io.KnownBytes.{Appends}
 use Rattle.its_io.specs.Bytes.{next_fault}
 use Rattle.its_print.specs.Printing.{text}
 use Rattle.its_session.specs.Events.{events_of}
-use Rattle.its_plain.specs.Transcript.{Fate, Ended, Open, Lost, TooLong}
+use Rattle.its_plain.specs.Transcript.{Fate, Ended, Open, Lost, TooLong, Transcript}
+use Rattle.its_plain.specs.Ledger.{Ledger}
+use Rattle.its_plain.specs.Stretch.{Stretches}
+use Rattle.its_plain.specs.Unrolled.{unrolled}
+use Rattle.its_plain.proofs.FairLaws.{fair_all}
+use Rattle.its_plain.proofs.UnrolledLaws.{unrolled_without}
 use Rattle.its_stepped.specs.Lines.{stepped}
+use Rattle.its_stepped.specs.Turns.{with_turns}
 use Rattle.its_stepped.proofs.DecodingLaws.{decoding}
 use Rattle.its_stepped.proofs.StretchLaws.{stretches}
+use Rattle.its_stepped.proofs.UnrolledLaws.{session_unrolled}
 use Rattle.its_stepped.proofs.WrittenLaws.{written_transcript}
+use Rattle.its_top.specs.FewDots.{FewDots}
 use Rattle.its_top.proofs.FewDotsLaws.{few_dots}
 use Rattle.its_top.specs.declared.status.Status.{Status}
 use Rattle.its_top.specs.declared.status.Status.TheVariants as statuses
@@ -52,7 +60,7 @@ session_breaks st (Some bytes) rest old new e s =
     }
 
 pub session_begins : (st : Status) (left rest old new : Option (List ℕ)) → st ≡ statuses.WriteFault → Session st left rest old new
-    → IfSome left (λ bytes. Begins (text (stepped (events_of bytes)).lines) old new)
+    → IfSome left (λ bytes. Begins (text (stepped (with_turns (events_of bytes))).lines) old new)
 session_begins st None rest old new e s = tt
 session_begins st (Some bytes) rest old new e s =
     let t = subst (λ x. Session x (Some bytes) rest old new) e s in
@@ -61,7 +69,7 @@ session_begins st (Some bytes) rest old new e s =
 
 -- a session that is done or refused, or runs on, wrote its lines, which are a transcript
 pub session_written : (st : Status) (left rest old new : Option (List ℕ)) → ((st ≡ statuses.Done) ⊎ (st ≡ statuses.Refused)) ⊎ (st ≡ statuses.TooLong) → Session st left rest old new
-    → IfSome left (λ bytes. Appends old new (text (stepped (events_of bytes)).lines))
+    → IfSome left (λ bytes. Appends old new (text (stepped (with_turns (events_of bytes))).lines))
 session_written st None rest old new e s = tt
 session_written st (Some bytes) rest old new (inl (inl e)) s = (session_done st (Some bytes) rest old new e s).wrote
 session_written st (Some bytes) rest old new (inl (inr e)) s = (session_refused st (Some bytes) rest old new e s).wrote
@@ -74,23 +82,31 @@ done_answer Lost d = absurd d
 done_answer TooLong d = absurd d
 
 answered : (st : Status) (bytes : List ℕ) (rest old new : Option (List ℕ)) → ((st ≡ statuses.Done) ⊎ (st ≡ statuses.Refused)) ⊎ (st ≡ statuses.TooLong) → Session st (Some bytes) rest old new
-    → st ≡ answer_of (stepped (events_of bytes)).fate
+    → st ≡ answer_of (stepped (with_turns (events_of bytes))).fate
 answered st bytes rest old new (inl (inl e)) s = e ∙ done_answer _ (session_done st (Some bytes) rest old new e s).done
 answered st bytes rest old new (inl (inr e)) s = e ∙ ap answer_of (sym (session_refused st (Some bytes) rest old new e s).lost)
 answered st bytes rest old new (inr e) s = e ∙ ap answer_of (sym (session_too_long st (Some bytes) rest old new e s).too_long)
 
-transcribed : (st : Status) (bytes : List ℕ) (old new : Option (List ℕ)) → st ≡ answer_of (stepped (events_of bytes)).fate → Appends old new (text (stepped (events_of bytes)).lines)
-    → Transcribed st bytes old new
+transcribed : (st : Status) (bytes : List ℕ) (old new : Option (List ℕ)) → st ≡ answer_of (stepped (with_turns (events_of bytes))).fate
+    → Appends old new (text (stepped (with_turns (events_of bytes))).lines) → Transcribed st bytes old new
 transcribed st bytes old new e a =
-    let t = written_transcript decoding (events_of bytes) in
+    let events = events_of bytes in
+    let items = with_turns events in
+    let lines = (stepped items).lines in
+    let fate = (stepped items).fate in
+    let t = written_transcript decoding items in
+    let turns : unrolled events lines ≡ items = session_unrolled decoding events in
     record {
-      lines = (stepped (events_of bytes)).lines;
-      fate = (stepped (events_of bytes)).fate;
-      transcript = t;
+      lines = lines;
+      fate = fate;
+      transcript = subst (λ es. Transcript es lines fate) (sym turns) t;
       answer = e;
-      ledger = ledger (events_of bytes) (stepped (events_of bytes)).lines (stepped (events_of bytes)).fate t;
-      stretches = stretches (events_of bytes) (stepped (events_of bytes)).lines;
-      dots = few_dots decoding (events_of bytes);
+      ledger = subst (λ es. Ledger es lines) (sym turns) (ledger items lines fate t);
+      stretches = subst (λ es. Stretches es lines) (sym turns) (stretches items lines);
+      dots = subst (λ es. FewDots es lines) (sym turns) (few_dots decoding items);
+      fair = fair_all events lines;
+      turns = sym turns;
+      same = λ none. unrolled_without events lines none;
       wrote = a;
     }
 
@@ -124,7 +140,7 @@ no_fate : (f g : Fate) → IsDone f → f ≡ g → IsDone g
 no_fate f g d e = subst IsDone e d
 
 pub session_complete : (st : Status) (left rest old new : Option (List ℕ)) → st ≢ statuses.ReadFault → st ≢ statuses.WriteFault → Session st left rest old new
-    → IfSome left (λ bytes. IsDone (stepped (events_of bytes)).fate → st ≡ statuses.Done)
+    → IfSome left (λ bytes. IsDone (stepped (with_turns (events_of bytes))).fate → st ≡ statuses.Done)
 session_complete st None rest old new r w s = tt
 session_complete statuses.Done (Some bytes) rest old new r w s = λ d. refl
 session_complete statuses.Refused (Some bytes) rest old new r w s = λ d. absurd (no_fate _ Lost d (s.concluded.1))
@@ -135,5 +151,5 @@ session_complete statuses.Usage (Some bytes) rest old new r w s = absurd s.ran
 session_complete statuses.NoMemory (Some bytes) rest old new r w s = absurd s.ran
 
 pub session_finishes : (st : Status) (left rest old new : Option (List ℕ)) (sf tf kf lf : ℕ) → Session st left rest old new → (st ≡ statuses.ReadFault → tf ≡ next_fault sf) → (st ≡ statuses.WriteFault → lf ≡ next_fault kf)
-    → sf < 2 ^ 64 - 1 → kf < 2 ^ 64 - 1 → tf ≡ sf → lf ≡ kf → IfSome left (λ bytes. IsDone (stepped (events_of bytes)).fate → st ≡ statuses.Done)
+    → sf < 2 ^ 64 - 1 → kf < 2 ^ 64 - 1 → tf ≡ sf → lf ≡ kf → IfSome left (λ bytes. IsDone (stepped (with_turns (events_of bytes))).fate → st ≡ statuses.Done)
 session_finishes st left rest old new sf tf kf lf s r w a b e f = session_complete st left rest old new (λ k. unrisen tf sf a e (r k)) (λ k. unrisen lf kf b f (w k)) s

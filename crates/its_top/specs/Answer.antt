@@ -1,5 +1,5 @@
 -- What the answer to an event gave the sink.
-use Rattle.std.specs.Prelude.{◌≡◌, ◌<◌, ◌+◌, ◌-◌, ℕ, true, is_some, Option, None, Result, Ok, Err, List, [], ◌++◌, take}
+use Rattle.std.specs.Prelude.{◌≡◌, ◌<◌, ◌+◌, ◌-◌, ℕ, Bool, true, false, length, slice_index_or, is_some, Option, None, Result, Ok, Err, List, [], ◌++◌, take}
 use Rattle.std.specs.Io.KnownBytes.{Appends}
 use Rattle.its_word.specs.declared.session.Event.{Event}
 use Rattle.its_word.specs.declared.session.Event.TheVariants as events
@@ -24,7 +24,11 @@ use Rattle.its_operator.specs.Kept.{reason_of}
 use Rattle.its_top.specs.declared.turn.Turn.{Turn}
 use Rattle.its_top.specs.declared.turn.Turn.TheVariants as turns
 use Rattle.its_top.specs.declared.progress.Progress.{Progress}
-use Rattle.its_top.specs.Telling.{Answers}
+use Rattle.its_word.specs.Item.{Item}
+use Rattle.its_word.specs.Limits.{slots}
+use Rattle.its_plain.specs.Unrolled.{runs}
+use Rattle.its_stepped.specs.Turns as made
+use Rattle.its_top.specs.Telling.{Answers, FollowsBy, CircledBy, after, items_say}
 
 -- the block of the slot that the last LOAD line made, and of the file that the last FILE line made
 abbrev pub block_of : ℕ → Names → Block
@@ -44,6 +48,29 @@ pub record Answered (turn : Turn) (n : ℕ) (v : State) (b : Block) (e : Event) 
   pub wrote : List ℕ
   pub appended : Appends old new wrote
   pub answers : Answers turn n v b e v' b' wrote
+
+-- a line and the turns that it asks for
+pub record Follows (turn : Turn) (n : ℕ) (v : State) (b : Block) (i : ℕ) (e : Event) (v' : State) (b' : Block) (j : ℕ) (old new : Option (List ℕ)) : Type 0 where
+  pub wrote : List ℕ
+  pub appended : Appends old new wrote
+  pub follows : FollowsBy turn n v b i e v' b' j wrote
+
+-- turns of a RUN
+pub record Circled (turn : Turn) (v : State) (i n q : ℕ) (v' : State) (j : ℕ) (old new : Option (List ℕ)) : Type 0 where
+  pub wrote : List ℕ
+  pub appended : Appends old new wrote
+  pub circled : CircledBy turn v i n q v' j wrote
+
+-- k of n turns of q ticks were made
+pub record CircleSo (v now : State) (i j n k q : ℕ) (old new : Option (List ℕ)) : Type 0 where
+  pub wrote : List ℕ
+  pub appended : Appends old new wrote
+  pub says : (l : ℕ) (b : Block) (next : State → ℕ → List Item) → items_say l v b (made.turns n q v i next) ≡ after wrote (items_say l now b (made.turns (n - k) q now j next))
+
+-- who runs of the first k slots is in the list
+pub record RunsSo (m : Machine) (k : ℕ) (xs : List Bool) : Type 0 where
+  pub count : length xs ≡ slots
+  pub found : (s : ℕ) → s < k → slice_index_or xs s false ≡ runs m s
 
 -- VERSION finds a machine without jobs
 abbrev pub FindsStart : Event → State → Type 0

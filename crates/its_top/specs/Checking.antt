@@ -2,7 +2,7 @@
 use Rattle.std.specs.Prelude.{if◌then◌else◌, ◌≡◌, ℕ, ◌+◌, ◌-◌, Bool, true, false, Option, Some, None, IfSome, IfOk, Result, Ok, Err, List, [], ◌∷◌, ◌++◌, codes}
 use Rattle.std.specs.Io.KnownBytes.{Appends, Consumes}
 use Rattle.its_io.specs.declared.stream.Failed.{Failed}
-use Rattle.its_word.specs.Item.{Item, Read, Unread}
+use Rattle.its_word.specs.Item.{Item, Read, Unread, InTurn}
 use Rattle.its_word.specs.Item as items
 use Rattle.its_word.specs.declared.session.Place.TheVariants as places
 use Rattle.its_print.specs.Printing.{text_of_line}
@@ -23,6 +23,7 @@ use Rattle.its_top.specs.Conclusion.{WasRun}
 abbrev pub checked_from : ℕ → List Item → Checked
 checked_from n [] = Open (n - 1)
 checked_from n (Read e ∷ es) = if goes_on_after e then checked_from (n + 1) es else Ended n
+checked_from n (InTurn s k ∷ es) = checked_from n es
 checked_from n (Unread r ∷ es) = Refused n r
 checked_from n (items.Beyond ∷ es) = Beyond
 

@@ -10,11 +10,12 @@ use Rattle.its_plain.specs.Operator.{Block}
 use Rattle.its_plain.specs.Transcript.{Fate, Ended, Open, Lost, TooLong}
 use Rattle.its_stepped.specs.State.{State}
 use Rattle.its_stepped.specs.Lines.{stepped}
+use Rattle.its_stepped.specs.Turns.{with_turns}
 use Rattle.its_top.specs.declared.status.Status.{Status}
 use Rattle.its_top.specs.declared.status.Status.TheVariants as statuses
 use Rattle.its_top.specs.declared.turn.Turn.{Turn}
 use Rattle.its_top.specs.declared.turn.Turn.TheVariants as turns
-use Rattle.its_top.specs.Telling.{Says, said, after, saying, Begins, items_say}
+use Rattle.its_top.specs.Telling.{Says, said, after, saying, Begins, session_says}
 
 -- no line was refused, and none past the most began
 abbrev pub IsDone : Fate → Type 0
@@ -35,8 +36,8 @@ Finished statuses.NoMemory s w = ⊥
 
 -- a session of these bytes, of which some were read, has this status, and wrote w
 abbrev pub Concluded : Status → List ℕ → List ℕ → List ℕ → Type 0
-Concluded statuses.ReadFault bytes read w = said (stepped (whole_events_of read)) ≡ saying w Open
-Concluded st bytes read w = Finished st (said (stepped (events_of bytes))) w
+Concluded statuses.ReadFault bytes read w = said (stepped (with_turns (whole_events_of read))) ≡ saying w Open
+Concluded st bytes read w = Finished st (said (stepped (with_turns (events_of bytes)))) w
 
 -- a session was begun and ended so
 abbrev pub WasRun : Status → Type 0
@@ -58,13 +59,14 @@ pub record Session (status : Status) (left rest old new : Option (List ℕ)) : T
   pub concluded : IfSome left (λ bytes. Concluded status bytes read wrote)
   pub input : status ≡ statuses.Done → IfSome left (λ bytes. ReadOut bytes rest)
 
--- a session so far: the items that were found, and what is written of them before line number n is taken
-pub record SoFar (r : Items) (n : ℕ) (v : State) (b : Block) (left rest old new : Option (List ℕ)) : Type 0 where
+-- a session so far: the items that were found, and what is written of them before line number n is taken. Slot i had the last
+-- turn
+pub record SoFar (r : Items) (n : ℕ) (v : State) (b : Block) (i : ℕ) (left rest old new : Option (List ℕ)) : Type 0 where
   pub items : List Item
   pub found : FoundSoFar items r left rest
   pub wrote : List ℕ
   pub appended : Appends old new wrote
-  pub says : (behind : List Item) → said (stepped (items ++ behind)) ≡ after wrote (items_say n v b behind)
+  pub says : (behind : List Item) → said (stepped (with_turns (items ++ behind))) ≡ after wrote (session_says n v b i behind)
 
 abbrev pub status_of : Turn → Status
 status_of turns.On = statuses.Done
@@ -74,17 +76,17 @@ status_of turns.Beyond = statuses.TooLong
 status_of turns.Fault = statuses.WriteFault
 
 -- what was found ended the session, whatever comes behind it
-abbrev pub Over : Turn → ℕ → State → Block → Found → List ℕ → Type 0
-Over turn n v b f w = (behind : List Item) → (is_last f ≡ true → behind ≡ []) → Finished (status_of turn) (items_say n v b (last_items f ++ behind)) w
+abbrev pub Over : Turn → ℕ → State → Block → ℕ → Found → List ℕ → Type 0
+Over turn n v b i f w = (behind : List Item) → (is_last f ≡ true → behind ≡ []) → Finished (status_of turn) (session_says n v b i (last_items f ++ behind)) w
 
 -- what was found did this, and wrote w: the session goes on with another state and block, or it is over
-abbrev pub TakenBy : Turn → ℕ → State → Block → Found → State → Block → List ℕ → Type 0
-TakenBy turns.On n v b f v' b' w = (is_last f ≡ false) × ((behind : List Item) → items_say n v b (last_items f ++ behind) ≡ after w (items_say (n + 1) v' b' behind))
-TakenBy turns.Ended n v b f v' b' w = (is_end f ≡ true) × Over turns.Ended n v b f w
-TakenBy turn n v b f v' b' w = Over turn n v b f w
+abbrev pub TakenBy : Turn → ℕ → State → Block → ℕ → Found → State → Block → ℕ → List ℕ → Type 0
+TakenBy turns.On n v b i f v' b' i' w = (is_last f ≡ false) × ((behind : List Item) → session_says n v b i (last_items f ++ behind) ≡ after w (session_says (n + 1) v' b' i' behind))
+TakenBy turns.Ended n v b i f v' b' i' w = (is_end f ≡ true) × Over turns.Ended n v b i f w
+TakenBy turn n v b i f v' b' i' w = Over turn n v b i f w
 
 -- the same, with what the sink was given
-pub record Takes (turn : Turn) (n : ℕ) (v : State) (b : Block) (f : Found) (v' : State) (b' : Block) (old new : Option (List ℕ)) : Type 0 where
+pub record Takes (turn : Turn) (n : ℕ) (v : State) (b : Block) (i : ℕ) (f : Found) (v' : State) (b' : Block) (i' : ℕ) (old new : Option (List ℕ)) : Type 0 where
   pub wrote : List ℕ
   pub appended : Appends old new wrote
-  pub taken : TakenBy turn n v b f v' b' wrote
+  pub taken : TakenBy turn n v b i f v' b' i' wrote

@@ -4,6 +4,7 @@ pub mod Answer
 pub mod Commands
 pub mod Counts
 pub mod Checking
+pub mod Assembling
 pub mod Generating
 pub mod FewDots
 pub mod Top

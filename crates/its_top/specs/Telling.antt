@@ -1,5 +1,5 @@
 -- What a session writes from some point on, over its items.
-use Rattle.std.specs.Prelude.{◌≡◌, ◌≤◌, ℕ, ◌+◌, Bool, true, false, List, [], ◌∷◌, ◌++◌}
+use Rattle.std.specs.Prelude.{◌≡◌, ◌≤◌, ℕ, ◌+◌, Bool, true, false, Some, List, [], ◌∷◌, ◌++◌}
 use Rattle.its_word.specs.Item.{Item, Read}
 use Rattle.its_word.specs.declared.session.Event.{Event}
 use Rattle.its_word.specs.declared.session.Event.TheVariants as events
@@ -11,7 +11,10 @@ use Rattle.its_plain.specs.Machine.{no_machine}
 use Rattle.its_plain.specs.Operator.{Block, no_block}
 use Rattle.its_plain.specs.Transcript.{Fate, Ended, Lost, TooLong}
 use Rattle.its_stepped.specs.State.{State, no_state}
-use Rattle.its_stepped.specs.Lines.{Told, told}
+use Rattle.its_plain.specs.OperatorLines.{lined}
+use Rattle.its_stepped.specs.Lines.{Told, told, calmed}
+use Rattle.its_stepped.specs.Turns.{stand_after, turned_from}
+use Rattle.its_stepped.specs.Turns as made
 use Rattle.its_top.specs.declared.turn.Turn.{Turn}
 use Rattle.its_top.specs.declared.turn.Turn.TheVariants as turns
 
@@ -39,6 +42,10 @@ pub record Begins (s : Says) (w : List ℕ) : Type 0 where
 unfoldable pub items_say : ℕ → State → Block → List Item → Says
 items_say n v b items = said (told n v b items)
 
+-- the same for the lines of a session, where the turns of each RUN follow it, and a slot had the last turn
+unfoldable pub session_says : ℕ → State → Block → ℕ → List Item → Says
+session_says n v b last items = items_say n v b (turned_from v b last items)
+
 -- an event other than END
 abbrev pub goes_on_after : Event → Bool
 goes_on_after events.End = false
@@ -47,11 +54,28 @@ goes_on_after _ = true
 -- what an event did, and what it wrote: the session goes on with another state and block, it is over
 -- by END or by a refused line, or a write failed
 abbrev pub Answers : Turn → ℕ → State → Block → Event → State → Block → List ℕ → Type 0
-Answers turns.On n v b e v' b' w = (goes_on_after e ≡ true) × ((items : List Item) → items_say n v b (Read e ∷ items) ≡ after w (items_say (n + 1) v' b' items))
+Answers turns.On n v b e v' b' w =
+    (goes_on_after e ≡ true) × ((items : List Item) → items_say n v b (Read e ∷ items) ≡ after w (items_say (n + 1) v' b' items))
+    × (stand_after v (calmed v b e) b (lined (calmed v b e).raw b e) ≡ Some (record { state = v'; block = b' }))
 Answers turns.Ended n v b e v' b' w = (goes_on_after e ≡ false) × ((items : List Item) → items_say n v b (Read e ∷ items) ≡ saying w Ended)
 Answers turns.Refused n v b e v' b' w = (items : List Item) → items_say n v b (Read e ∷ items) ≡ saying w Lost
 Answers turns.Beyond n v b e v' b' w = ⊥
 Answers turns.Fault n v b e v' b' w = (items : List Item) → Begins (items_say n v b (Read e ∷ items)) w
+
+-- the same of a line with the turns that it asks for, where slot i had the last turn before them, and slot j has it then
+abbrev pub FollowsBy : Turn → ℕ → State → Block → ℕ → Event → State → Block → ℕ → List ℕ → Type 0
+FollowsBy turns.On n v b i e v' b' j w =
+    (goes_on_after e ≡ true) × ((items : List Item) → session_says n v b i (Read e ∷ items) ≡ after w (session_says (n + 1) v' b' j items))
+FollowsBy turns.Ended n v b i e v' b' j w = (goes_on_after e ≡ false) × ((items : List Item) → session_says n v b i (Read e ∷ items) ≡ saying w Ended)
+FollowsBy turns.Refused n v b i e v' b' j w = (items : List Item) → session_says n v b i (Read e ∷ items) ≡ saying w Lost
+FollowsBy turns.Beyond n v b i e v' b' j w = ⊥
+FollowsBy turns.Fault n v b i e v' b' j w = (items : List Item) → Begins (session_says n v b i (Read e ∷ items)) w
+
+-- up to n turns of q ticks were made, whatever follows them: all of them, or a write failed
+abbrev pub CircledBy : Turn → State → ℕ → ℕ → ℕ → State → ℕ → List ℕ → Type 0
+CircledBy turns.On v i n q v' j w = (k : ℕ) (b : Block) (next : State → ℕ → List Item) → items_say k v b (made.turns n q v i next) ≡ after w (items_say k v' b (next v' j))
+CircledBy turns.Fault v i n q v' j w = (k : ℕ) (b : Block) (next : State → ℕ → List Item) → Begins (items_say k v b (made.turns n q v i next)) w
+CircledBy turn v i n q v' j w = ⊥
 
 abbrev pub goes_on : Turn → Bool
 goes_on turns.On = true

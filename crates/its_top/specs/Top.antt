@@ -1,24 +1,34 @@
 -- What the program promises of its answers (docs/PROVED.md).
-use Rattle.std.specs.Prelude.{◌≡◌, ℕ, Option, Some, None, List, [], ◌++◌, codes}
+use Rattle.std.specs.Prelude.{◌≡◌, ℕ, true, false, Option, Some, None, Ok, Err, List, [], ◌++◌, codes}
 use Rattle.std.specs.Io.KnownBytes.{Appends, Consumes}
 use Rattle.its_print.specs.Printing.{Line, text}
 use Rattle.its_session.specs.Events.{events_of, whole_events_of}
 use Rattle.its_plain.specs.Transcript.{Fate, Open, Lost, TooLong, Transcript, Ended}
 use Rattle.its_plain.specs.Ledger.{Ledger}
 use Rattle.its_plain.specs.Stretch.{Stretches}
+use Rattle.its_plain.specs.Unrolled.{unrolled, WithoutRun, FairTurns}
 use Rattle.its_stepped.specs.Lines.{stepped}
+use Rattle.its_stepped.specs.Turns.{with_turns}
 use Rattle.its_top.specs.declared.status.Status.{Status}
 use Rattle.its_top.specs.declared.status.Status.TheVariants as statuses
 use Rattle.its_top.specs.declared.commands.Command.{Command}
-use Rattle.its_top.specs.declared.commands.Command.TheVariants.{Run, Check as CheckCommand, Gen}
+use Rattle.its_top.specs.declared.commands.Command.TheVariants.{Run, Check as CheckCommand, Gen, Asm as AsmCommand}
 use Rattle.its_top.specs.declared.checking.Checked.TheVariants.{Beyond}
 use Rattle.its_top.specs.Conclusion.{IsDone, Session}
 use Rattle.its_top.specs.FewDots.{FewDots}
 use Rattle.its_top.specs.Checking.{checked, checked_text, Passes, Fails, GoesOn, WroteText, Check}
 use Rattle.its_top.specs.Generating.{generated_text}
+use Rattle.its_top.specs.Assembling.{Asm}
+use Rattle.its_asm.specs.Assembly.{assembly}
+use Rattle.its_asm.specs.declared.assembly.Image.{Image}
+use Rattle.its_asm.specs.declared.reason.AsmFault.TheVariants.{Line as LineFault}
+use Rattle.its_asm.specs.declared.reason.AsmReason.{AsmReason}
+use Rattle.its_image.specs.Text.{runs_past}
+use Rattle.its_image.specs.Written.{fault_line, image_events, lines_text}
+use Rattle.its_image.specs.Loading.{IsWhole}
 
 abbrev pub usage : List ℕ
-usage = codes "usage: its run | its check | its gen N\n"
+usage = codes "usage: its run | its check | its gen N | its asm\n"
 
 -- the answer to a session that ends so
 abbrev pub answer_of : Fate → Status
@@ -27,40 +37,44 @@ answer_of Open = statuses.Done
 answer_of Lost = statuses.Refused
 answer_of TooLong = statuses.TooLong
 
--- what was written is the text of lines that are a transcript of the session of these bytes, whose end this is the answer to,
--- and along whose run the ledger of each console holds, each stretch of a transfer moves its bytes once and in order, and at
--- most twelve `.` come in a row
+-- what was written is the text of lines that are a transcript of the session of these bytes, its RUN lines unrolled along the run of
+-- the lines, whose end this is the answer to. Along that run the ledger of each console holds, each stretch of a transfer moves its
+-- bytes once and in order, at most twelve `.` come in a row, and the turns of each RUN are fair. The turns are those that the stepped
+-- machine makes; and a session without RUN is unrolled as it is
 pub record Transcribed (status : Status) (bytes : List ℕ) (old new : Option (List ℕ)) : Type 0 where
   pub lines : List Line
   pub fate : Fate
-  pub transcript : Transcript (events_of bytes) lines fate
+  pub transcript : Transcript (unrolled (events_of bytes) lines) lines fate
   pub answer : status ≡ answer_of fate
-  pub ledger : Ledger (events_of bytes) lines
-  pub stretches : Stretches (events_of bytes) lines
-  pub dots : FewDots (events_of bytes) lines
+  pub ledger : Ledger (unrolled (events_of bytes) lines) lines
+  pub stretches : Stretches (unrolled (events_of bytes) lines) lines
+  pub dots : FewDots (unrolled (events_of bytes) lines) lines
+  pub fair : FairTurns (events_of bytes) lines
+  pub turns : with_turns (events_of bytes) ≡ unrolled (events_of bytes) lines
+  pub same : WithoutRun (events_of bytes) → unrolled (events_of bytes) lines ≡ events_of bytes
   pub wrote : Appends old new (text lines)
 
 -- no line is refused, and no line past the most begins before END; all lines were written
 pub record Completes (bytes : List ℕ) (old new : Option (List ℕ)) : Type 0 where
-  pub done : IsDone (stepped (events_of bytes)).fate
-  pub wrote : Appends old new (text (stepped (events_of bytes)).lines)
+  pub done : IsDone (stepped (with_turns (events_of bytes))).fate
+  pub wrote : Appends old new (text (stepped (with_turns (events_of bytes))).lines)
 
 -- a line is refused; all lines up to and with its `?` line were written
 pub record Refuses (bytes : List ℕ) (old new : Option (List ℕ)) : Type 0 where
-  pub lost : (stepped (events_of bytes)).fate ≡ Lost
-  pub wrote : Appends old new (text (stepped (events_of bytes)).lines)
+  pub lost : (stepped (with_turns (events_of bytes))).fate ≡ Lost
+  pub wrote : Appends old new (text (stepped (with_turns (events_of bytes))).lines)
 
 -- a line past the most begins before END and before a refused line; what the lines before it show was written
 pub record RunsOn (bytes : List ℕ) (old new : Option (List ℕ)) : Type 0 where
-  pub too_long : (stepped (events_of bytes)).fate ≡ TooLong
-  pub wrote : Appends old new (text (stepped (events_of bytes)).lines)
+  pub too_long : (stepped (with_turns (events_of bytes))).fate ≡ TooLong
+  pub wrote : Appends old new (text (stepped (with_turns (events_of bytes))).lines)
 
 -- the source failed: what the whole lines show that were read was written, none of which is END or refused
 pub record Breaks (bytes : List ℕ) (rest old new : Option (List ℕ)) : Type 0 where
   pub read : List ℕ
   pub consumed : Consumes (Some bytes) rest read
-  pub open_end : (stepped (whole_events_of read)).fate ≡ Open
-  pub wrote : Appends old new (text (stepped (whole_events_of read)).lines)
+  pub open_end : (stepped (with_turns (whole_events_of read))).fate ≡ Open
+  pub wrote : Appends old new (text (stepped (with_turns (whole_events_of read))).lines)
 
 -- the sink failed: what was written begins what the session writes
 pub record Begins (all : List ℕ) (old new : Option (List ℕ)) : Type 0 where
@@ -91,16 +105,49 @@ pub record CheckBreaks (bytes : List ℕ) (rest old new : Option (List ℕ)) : T
   pub goes_on : GoesOn (checked (whole_events_of read))
   pub wrote : Appends old new []
 
+-- what `its asm` wrote: no line of the text is refused, and the session of its image was written, which the grammar reads whole and
+-- which makes the job of the image
+pub record Assembled (bytes : List ℕ) (old new : Option (List ℕ)) : Type 0 where
+  pub image : Image
+  pub assembled : assembly bytes ≡ Ok image
+  pub few : runs_past bytes ≡ false
+  pub wrote : Appends old new (lines_text (image_events image))
+  pub whole : IsWhole image
+
+-- line n is the first that is refused, for this reason, and its `?` line was written
+pub record AsmRefuses (bytes : List ℕ) (old new : Option (List ℕ)) : Type 0 where
+  pub line : ℕ
+  pub reason : AsmReason
+  pub refused : assembly bytes ≡ Err (LineFault line reason)
+  pub few : runs_past bytes ≡ false
+  pub wrote : Appends old new (fault_line line reason)
+
+-- a line past the most begins, and no line before it has more than 255 bytes; nothing was written
+pub record AsmRunsOn (bytes : List ℕ) (old new : Option (List ℕ)) : Type 0 where
+  pub beyond : runs_past bytes ≡ true
+  pub wrote : Appends old new []
+
+-- the source failed; nothing was written
+pub record AsmBreaks (bytes : List ℕ) (rest old new : Option (List ℕ)) : Type 0 where
+  pub read : List ℕ
+  pub consumed : Consumes (Some bytes) rest read
+  pub wrote : Appends old new []
+
 -- what the program did for a command, where memory was not refused
 abbrev pub DoneFor : Option Command → Status → Option (List ℕ) → Option (List ℕ) → Option (List ℕ) → Option (List ℕ) → Type 0
 DoneFor (Some Run) st left rest old new = Session st left rest old new
 DoneFor (Some CheckCommand) st left rest old new = Check st left rest old new
 DoneFor (Some (Gen n)) st left rest old new = WroteText st statuses.Done (generated_text n) old new × (rest ≡ left)
+DoneFor (Some AsmCommand) st left rest old new = Asm st left rest old new
 DoneFor None st left rest old new = WroteText st statuses.Usage usage old new × (rest ≡ left)
 
--- where it was, nothing was read or written
+-- where it was, nothing was written, and nothing was read but a text
+abbrev pub Refrains : Option Command → Option (List ℕ) → Option (List ℕ) → Option (List ℕ) → Option (List ℕ) → Type 0
+Refrains (Some AsmCommand) left rest old new = new ≡ old
+Refrains c left rest old new = (rest ≡ left) × (new ≡ old)
+
 abbrev pub Obeys : Option Command → Status → Option (List ℕ) → Option (List ℕ) → Option (List ℕ) → Option (List ℕ) → Type 0
-Obeys c statuses.NoMemory left rest old new = (rest ≡ left) × (new ≡ old)
+Obeys c statuses.NoMemory left rest old new = Refrains c left rest old new
 Obeys c st left rest old new = DoneFor c st left rest old new
 
 pub record Obeyed (c : Option Command) (st : Status) (left rest old new : Option (List ℕ)) : Type 0 where

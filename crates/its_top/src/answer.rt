@@ -8,7 +8,7 @@ ghost use Rattle.its_stepped.specs.Unwind.{unwound};
 ghost use Rattle.its_stepped.specs.Lines.{paces_of, ticked};
 ghost use Rattle.its_world.specs.World.{state_of};
 ghost use Rattle.its_operator.specs.Kept.{Kept, Lands, reason_of};
-ghost use Rattle.its_print.specs.Printing.{Refused, text_of_line};
+ghost use Rattle.its_print.specs.Printing.{Refused, Ticks, text_of_line};
 ghost use Rattle.its_print.specs.Runs.{paces_in};
 ghost use Rattle.its_top.specs.Answer.{Answered, FindsStart, Tells, block_of};
 
@@ -25,6 +25,9 @@ use its_print::{
     print_words,
 };
 use its_word::{Event, Pace, Refusal, Word};
+
+/// Room for the letters of a line, as runs. A session makes it once: to make it costs more than a line.
+pub type Runs = ArrayVec<Run, 512>;
 
 /// LOAD: makes a job, and shows its slot, which is then the block's.
 #[tactic(auto, using(crate::proofs::AnswerLaws::load_answered, crate::proofs::AnswerLaws::load_refused))]
@@ -167,7 +170,7 @@ fn store_words(m: &mut Monitor, slot: u8, a: u32, words: &[Word]) -> Result<(), 
 
 /// TICK: ticks a slot n times, and shows the letters.
 #[tactic(auto, using(crate::proofs::AnswerLaws::ticks_answered, crate::proofs::WritingLaws::told_as))]
-fn ticks<K: Sink>(m: &mut Monitor, p: Progress, s: u8, n: u32, out: &mut K) -> Turn
+fn ticks<K: Sink>(m: &mut Monitor, p: Progress, s: u8, n: u32, runs: &mut Runs, out: &mut K) -> Turn
     requires sound { Kept m.old.world }
     requires slot { s < slots }
     requires few { n ≤ 512 }
@@ -177,16 +180,32 @@ fn ticks<K: Sink>(m: &mut Monitor, p: Progress, s: u8, n: u32, out: &mut K) -> T
     ensures unfailed { result ≢ Turn.Fault → K.faults out.new ≡ K.faults out.old }
     ensures fault { result ≡ Turn.Fault → K.faults out.new ≡ next_fault (K.faults out.old) }
 {
-    let mut runs = ArrayVec::new();
-    paces_of(m, s, n, &mut runs);
+    tick_line(m, s, n, runs, out)
+}
+
+/// Ticks a slot n times, and writes the `T` line of the letters. What stood in the room for them is gone.
+#[tactic(auto, using(crate::proofs::WritingLaws::told_as))]
+pub fn tick_line<K: Sink>(m: &mut Monitor, s: u8, n: u32, runs: &mut Runs, out: &mut K) -> Turn
+    requires sound { Kept m.old.world }
+    requires slot { s < slots }
+    requires few { n ≤ 512 }
+    ensures told { Tells result Turn.On (text_of_line (Ticks s (paces_of (state_of m.old.world) s n))) (K.written out.old) (K.written out.new) }
+    ensures state { state_of m.new.world ≡ ticked (state_of m.old.world) s n }
+    ensures sound { Kept m.new.world }
+    ensures later { K.faults out.old ≤ K.faults out.new }
+    ensures unfailed { result ≢ Turn.Fault → K.faults out.new ≡ K.faults out.old }
+    ensures fault { result ≡ Turn.Fault → K.faults out.new ≡ next_fault (K.faults out.old) }
+{
+    runs.clear();
+    paces_of(m, s, n, runs);
     let mut line = ArrayVec::new();
-    print_ticks(s, &runs, &mut line);
+    print_ticks(s, runs, &mut line);
     tell(out, &line, Turn::On)
 }
 
 /// The letters of n ticks of a slot, as runs, which are put into an empty array.
 #[tactic(auto, using(crate::proofs::PaceLaws::pacing_start, crate::proofs::PaceLaws::pacing_end))]
-pub fn paces_of(m: &mut Monitor, s: u8, n: u32, runs: &mut ArrayVec<Run, 512>)
+pub fn paces_of(m: &mut Monitor, s: u8, n: u32, runs: &mut Runs)
     requires sound { Kept m.old.world }
     requires slot { s < slots }
     requires few { n ≤ 512 }
@@ -335,8 +354,14 @@ fn peek<K: Sink>(m: &mut Monitor, p: Progress, s: u8, out: &mut K) -> Turn
 }
 
 /// The answer to an event: what it does to the monitor and to the block, and what it shows.
-#[tactic(auto, using(crate::proofs::AnswerLaws::nothing_answered, crate::proofs::AnswerLaws::end_answered, crate::proofs::AnswerLaws::end_file_answered, crate::proofs::AnswerLaws::append_answered, crate::proofs::AnswerLaws::version_answered, crate::proofs::AnswerLaws::go_answered, crate::proofs::AnswerLaws::words_answered, crate::proofs::AnswerLaws::read_only_answered, crate::proofs::AnswerLaws::symbol_answered, crate::proofs::AnswerLaws::int_answered, crate::proofs::AnswerLaws::deposit_answered, crate::proofs::AnswerLaws::stop_answered, crate::proofs::AnswerLaws::cont_answered, crate::proofs::AnswerLaws::clock_answered, crate::proofs::AnswerLaws::console_fits), unfolding(its_session::specs::Grammar::last_slot))]
-pub fn answer<K: Sink>(m: &mut Monitor, p: &mut Progress, event: &Event, out: &mut K) -> Turn
+#[tactic(auto, using(crate::proofs::AnswerLaws::nothing_answered, crate::proofs::AnswerLaws::run_answered, crate::proofs::AnswerLaws::end_answered, crate::proofs::AnswerLaws::end_file_answered, crate::proofs::AnswerLaws::append_answered, crate::proofs::AnswerLaws::version_answered, crate::proofs::AnswerLaws::go_answered, crate::proofs::AnswerLaws::words_answered, crate::proofs::AnswerLaws::read_only_answered, crate::proofs::AnswerLaws::symbol_answered, crate::proofs::AnswerLaws::int_answered, crate::proofs::AnswerLaws::deposit_answered, crate::proofs::AnswerLaws::stop_answered, crate::proofs::AnswerLaws::cont_answered, crate::proofs::AnswerLaws::clock_answered, crate::proofs::AnswerLaws::console_fits), unfolding(its_session::specs::Grammar::last_slot))]
+pub fn answer<K: Sink>(
+    m: &mut Monitor,
+    p: &mut Progress,
+    event: &Event,
+    runs: &mut Runs,
+    out: &mut K,
+) -> Turn
     requires sound { Kept m.old.world }
     requires slot { p.old.slot < slots }
     requires fits { EventFits 2 event.now }
@@ -352,6 +377,7 @@ pub fn answer<K: Sink>(m: &mut Monitor, p: &mut Progress, event: &Event, out: &m
     let (number, block) = (p.number, p.slot);
     match event {
         Event::Nothing => Turn::On,
+        Event::Run { .. } => Turn::On,
         Event::Version { v } => {
             m.version(*v);
             Turn::On
@@ -373,7 +399,7 @@ pub fn answer<K: Sink>(m: &mut Monitor, p: &mut Progress, event: &Event, out: &m
             let started = m.go(block, *a);
             settle(out, number, started)
         }
-        Event::Tick { s, n } => ticks(m, *p, *s, *n, out),
+        Event::Tick { s, n } => ticks(m, *p, *s, *n, runs, out),
         Event::Int { s, v, w } => {
             let interrupted = m.interrupt(*s, *v, *w);
             settle(out, number, interrupted)

@@ -10,13 +10,14 @@ use clap::{Arg, ArgMatches, Error};
 use its_word::{NoMemory, read_octal};
 use std::alloc::Global;
 
-/// What the program is asked to do: to run a session, to check one, or to generate one of so many rounds and
-/// run that.
+/// What the program is asked to do: to run a session, to check one, to generate one of so many rounds and
+/// run that, or to assemble a text.
 #[derive(Clone, Copy, Debug, PartialEq, Eq)]
 pub enum Command {
     Run,
     Check,
     Gen(u32),
+    Asm,
 }
 
 /// The most rounds of a generated session.
@@ -99,13 +100,14 @@ fn command_from(word: Option<&str>, number: Option<&str>) -> Option<Command>
     }
 }
 
-/// `run` or `check`.
+/// `run`, `check` or `asm`.
 fn bare_command(word: &str) -> Option<Command>
     ensures { result ≡ bare_command word.now }
 {
     match word {
         "run" => Some(Command::Run),
         "check" => Some(Command::Check),
+        "asm" => Some(Command::Asm),
         _ => None,
     }
 }

@@ -2,7 +2,9 @@
 #![tactic(auto)]
 
 mod answer;
+mod assembling;
 mod checking;
+mod circle;
 mod commands;
 mod consoles;
 mod counts;

@@ -7,6 +7,7 @@ ghost use Rattle.its_session.specs.Events.{events_of};
 ghost use Rattle.its_plain.specs.Machine.{no_machine};
 ghost use Rattle.its_stepped.specs.State.{no_state};
 ghost use Rattle.its_stepped.specs.Lines.{stepped};
+ghost use Rattle.its_stepped.specs.Turns.{with_turns};
 ghost use Rattle.its_world.specs.World.{state_of};
 ghost use Rattle.its_operator.specs.Kept.{Kept};
 ghost use Rattle.its_reader.specs.Items.{found_fits, ReadOut};
@@ -14,11 +15,13 @@ ghost use Rattle.its_top.specs.Answer.{FoundStart, block_of};
 ghost use Rattle.its_top.specs.Conclusion.{IsDone, Session, Takes};
 ghost use Rattle.its_top.specs.Top.{Transcribed, Completes, Refuses, RunsOn, Breaks, Begins};
 
-use super::answer::answer;
+use super::answer::Runs;
+use super::circle::{HIGHEST, follow};
 use super::progress::Progress;
 use super::status::Status;
 use super::turn::Turn;
 use super::writing::refuse;
+use arrayvec::ArrayVec;
 use its_io::{Sink, Source};
 use its_monitor::Monitor;
 use its_reader::{Found, Items};
@@ -32,14 +35,14 @@ pub fn session<S: Source, K: Sink>(m: &mut Monitor, src: &mut S, out: &mut K) ->
     requires sound { Kept m.old.world }
     ensures ended { Session result (S.left src.old) (S.left src.new) (K.written out.old) (K.written out.new) }
     ensures transcript { ((result ≡ Status.Done) ⊎ (result ≡ Status.Refused)) ⊎ (result ≡ Status.TooLong) → IfSome (S.left src.old) (λ bytes. Transcribed result bytes (K.written out.old) (K.written out.new)) }
-    ensures written { ((result ≡ Status.Done) ⊎ (result ≡ Status.Refused)) ⊎ (result ≡ Status.TooLong) → IfSome (S.left src.old) (λ bytes. Appends (K.written out.old) (K.written out.new) (text (stepped (events_of bytes)).lines)) }
+    ensures written { ((result ≡ Status.Done) ⊎ (result ≡ Status.Refused)) ⊎ (result ≡ Status.TooLong) → IfSome (S.left src.old) (λ bytes. Appends (K.written out.old) (K.written out.new) (text (stepped (with_turns (events_of bytes))).lines)) }
     ensures done { result ≡ Status.Done → IfSome (S.left src.old) (λ bytes. Completes bytes (K.written out.old) (K.written out.new)) }
     ensures input { result ≡ Status.Done → IfSome (S.left src.old) (λ bytes. ReadOut bytes (S.left src.new)) }
     ensures refused { result ≡ Status.Refused → IfSome (S.left src.old) (λ bytes. Refuses bytes (K.written out.old) (K.written out.new)) }
     ensures too_long { result ≡ Status.TooLong → IfSome (S.left src.old) (λ bytes. RunsOn bytes (K.written out.old) (K.written out.new)) }
     ensures broken { result ≡ Status.ReadFault → IfSome (S.left src.old) (λ bytes. Breaks bytes (S.left src.new) (K.written out.old) (K.written out.new)) }
-    ensures begun { result ≡ Status.WriteFault → IfSome (S.left src.old) (λ bytes. Begins (text (stepped (events_of bytes)).lines) (K.written out.old) (K.written out.new)) }
-    ensures complete { S.faults src.old < 2 ^ 64 - 1 → K.faults out.old < 2 ^ 64 - 1 → S.faults src.new ≡ S.faults src.old → K.faults out.new ≡ K.faults out.old → IfSome (S.left src.old) (λ bytes. IsDone (stepped (events_of bytes)).fate → result ≡ Status.Done) }
+    ensures begun { result ≡ Status.WriteFault → IfSome (S.left src.old) (λ bytes. Begins (text (stepped (with_turns (events_of bytes))).lines) (K.written out.old) (K.written out.new)) }
+    ensures complete { S.faults src.old < 2 ^ 64 - 1 → K.faults out.old < 2 ^ 64 - 1 → S.faults src.new ≡ S.faults src.old → K.faults out.new ≡ K.faults out.old → IfSome (S.left src.old) (λ bytes. IsDone (stepped (with_turns (events_of bytes))).fate → result ≡ Status.Done) }
     ensures answered { S.faults src.old < 2 ^ 64 - 1 → K.faults out.old < 2 ^ 64 - 1 → S.faults src.new ≡ S.faults src.old → K.faults out.new ≡ K.faults out.old → IfSome (S.left src.old) (λ bytes. Transcribed result bytes (K.written out.old) (K.written out.new)) }
     ensures read_fault { result ≡ Status.ReadFault → Rose (S.faults src.old) (S.faults src.new) }
     ensures write_fault { result ≡ Status.WriteFault → Rose (K.faults out.old) (K.faults out.new) }
@@ -75,35 +78,46 @@ fn run_items<S: Source, K: Sink>(m: &mut Monitor, src: &mut S, out: &mut K) -> S
         slot: 0,
         file,
     };
+    let mut last = HIGHEST;
+    let mut runs = ArrayVec::new();
     loop {
         let Ok(found) = items.next(src) else {
             return Status::ReadFault;
         };
         p.number = items.lines.number;
-        let turn = take(m, &mut p, &found, out);
+        let turn = take(m, &mut p, &mut last, &found, &mut runs, out);
         if !turn.goes_on() {
             return turn.status();
         }
     }
 }
 
-/// Takes what was found next of a session, where `p` has the number of its line.
+/// Takes what was found next of a session, where `p` has the number of its line, and slot `last` had the last turn of a RUN.
 #[tactic(auto, using(crate::proofs::ConclusionLaws::takes_line, crate::proofs::ConclusionLaws::takes_bad, crate::proofs::ConclusionLaws::takes_beyond, crate::proofs::ConclusionLaws::takes_end))]
-fn take<K: Sink>(m: &mut Monitor, p: &mut Progress, found: &Found, out: &mut K) -> Turn
+fn take<K: Sink>(
+    m: &mut Monitor,
+    p: &mut Progress,
+    last: &mut u8,
+    found: &Found,
+    runs: &mut Runs,
+    out: &mut K,
+) -> Turn
     requires sound { Kept m.old.world }
     requires slot { p.old.slot < slots }
+    requires last { last.old < slots }
     requires fits { found_fits 2 found.now }
     requires start { FoundStart found.now (state_of m.old.world) }
-    ensures takes { Takes result p.old.number (state_of m.old.world) (block_of p.old.slot p.old.file) found.now (state_of m.new.world) (block_of p.new.slot p.new.file) (K.written out.old) (K.written out.new) }
+    ensures takes { Takes result p.old.number (state_of m.old.world) (block_of p.old.slot p.old.file) last.old found.now (state_of m.new.world) (block_of p.new.slot p.new.file) last.new (K.written out.old) (K.written out.new) }
     ensures sound { Kept m.new.world }
     ensures slot { p.new.slot < slots }
+    ensures last { last.new < slots }
     ensures number { p.new.number ≡ p.old.number }
     ensures later { K.faults out.old ≤ K.faults out.new }
     ensures unfailed { result ≢ Turn.Fault → K.faults out.new ≡ K.faults out.old }
     ensures fault { result ≡ Turn.Fault → K.faults out.new ≡ next_fault (K.faults out.old) }
 {
     match found {
-        Found::Line(event) => answer(m, p, event, out),
+        Found::Line(event) => follow(m, p, last, event, runs, out),
         Found::Bad(reason) => refuse(out, p.number, *reason),
         Found::Beyond => Turn::Beyond,
         Found::End => Turn::Ended,

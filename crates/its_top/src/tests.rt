@@ -10,7 +10,9 @@ mod inferiors;
 mod pages;
 mod places;
 mod targets;
+mod turns;
 mod versions;
+mod waits;
 
 use super::{Status, its};
 use consoles::{CONSOLES, ECHO, TYPED};

@@ -10,7 +10,8 @@ use Rattle.its_plain.specs.Machine.{Whole, no_machine}
 use Rattle.its_plain.specs.OperatorJobs.{state_shown}
 use Rattle.its_plain.specs.OperatorLines.{lined, operate}
 use Rattle.its_plain.specs.Transcript.{Walk, at_start}
-use Rattle.its_verify.specs.Lines.{is_peek, lines_in}
+use Rattle.its_reader.specs.TextLines.{lines_in}
+use Rattle.its_verify.specs.Lines.{is_peek}
 use Rattle.its_verify.specs.Judge.{Yes, No, judged}
 use Rattle.its_verify.specs.Letters.{ticks_in}
 use Rattle.its_verify.specs.Verified.{verified, bounded, is_end_line, Judged, Cut, Long}

@@ -1,7 +1,7 @@
 -- The judge is right about the lines that are a transcript from where the session stands on.
 use Rattle.std.proofs.Common.{◌≡◌, ℕ, Bool, true, Option, Some, None, List, [], ◌∷◌, ◌++◌, length, refl, subst}
 use Rattle.std.proofs.lemmas.Slice.Eq.{bytes_eq-Decides}
-use Rattle.its_word.specs.Item.{Item, Read, Unread, Beyond}
+use Rattle.its_word.specs.Item.{Item, Read, Unread, InTurn, Beyond}
 use Rattle.its_word.specs.declared.calls.Pace.{Pace}
 use Rattle.its_word.specs.declared.show.Peek.{Peek}
 use Rattle.its_word.specs.declared.show.PeekState.TheVariants.{User}
@@ -122,43 +122,46 @@ right_does v n out touched b es judge next =
     (record { rest = a.holds.0; fate = a.fate; holds = a.holds.2; said = subst (λ (ls : List Line). Said ls ts) a.holds.1 a.said }))
     (right_told out (From w es) judge next)
 
--- ticks
-ticks_to : (v : Walk) (i k : ℕ) (es : List Item) (t : List ℕ) (ts : List (List ℕ)) (o : Option Walk) → ticked v i k t ≡ o → LedBy o (λ w. From (next_line w) es) ts
-    → Along [] (OnLined v (Done (operator.Ticks i k)) es) (t ∷ ts)
-ticks_to v i k es t ts None is h = absurd h
-ticks_to v i k es t ts (Some w) is h =
+-- ticks of a line, or of a turn: where the session stands behind its letters
+abbrev TicksOn : (Walk → Walk) → Walk → ℕ → ℕ → List Item → List Line → Fate → Type 0
+TicksOn f v i k es lines fate = (ps : List Pace) × (rest : List Line) × (lines ≡ Ticks i ps ∷ rest) × (length ps ≡ k) × PacedOn v i ps (λ w. Run (f w) es rest fate)
+
+ticks_to : (f : Walk → Walk) (v : Walk) (i k : ℕ) (es : List Item) (t : List ℕ) (ts : List (List ℕ)) (o : Option Walk) → ticked v i k t ≡ o → LedBy o (λ w. From (f w) es) ts
+    → Along [] (TicksOn f v i k es) (t ∷ ts)
+ticks_to f v i k es t ts None is h = absurd h
+ticks_to f v i k es t ts (Some w) is h =
     let p = then_of (paced v i) (ticks_in i k t) w is in
     let said = said_ticks i k t p.value p.first in
     record {
       rest = Ticks i p.value ∷ h.rest;
       fate = h.fate;
-      holds = (p.value, h.rest, refl, said.0, paced_on v i p.value w (λ u. Run (next_line u) es h.rest h.fate) p.last h.holds);
+      holds = (p.value, h.rest, refl, said.0, paced_on v i p.value w (λ u. Run (f u) es h.rest h.fate) p.last h.holds);
       said = (said.1, h.said);
     }
 
-to_ticks : (v : Walk) (i k : ℕ) (es : List Item) (texts : List (List ℕ)) (ps : List Pace) (rest : List Line) (fate : Fate) → length ps ≡ k
-    → PacedOn v i ps (λ w. Run (next_line w) es rest fate) → Said (Ticks i ps ∷ rest) texts → Led (ticked v i k) (λ w. From (next_line w) es) texts
-to_ticks v i k es [] ps rest fate many paces said = absurd said
-to_ticks v i k es (t ∷ ts) ps rest fate many paces said =
-    let p = on_paced v i ps (λ w. Run (next_line w) es rest fate) paces in
-    led_on (ticked v i k) (λ w. From (next_line w) es) t p.to ts (ticked_some v i k t ps p.to many said.0 p.paces)
+to_ticks : (f : Walk → Walk) (v : Walk) (i k : ℕ) (es : List Item) (texts : List (List ℕ)) (ps : List Pace) (rest : List Line) (fate : Fate) → length ps ≡ k
+    → PacedOn v i ps (λ w. Run (f w) es rest fate) → Said (Ticks i ps ∷ rest) texts → Led (ticked v i k) (λ w. From (f w) es) texts
+to_ticks f v i k es [] ps rest fate many paces said = absurd said
+to_ticks f v i k es (t ∷ ts) ps rest fate many paces said =
+    let p = on_paced v i ps (λ w. Run (f w) es rest fate) paces in
+    led_on (ticked v i k) (λ w. From (f w) es) t p.to ts (ticked_some v i k t ps p.to many said.0 p.paces)
     (record { rest = rest; fate = fate; holds = p.at; said = said.1 })
 
-ticks_led : (v : Walk) (i k : ℕ) (es : List Item) (texts : List (List ℕ)) → Led (ticked v i k) (λ w. From (next_line w) es) texts
-    → Along [] (OnLined v (Done (operator.Ticks i k)) es) texts
-ticks_led v i k es [] h = absurd h
-ticks_led v i k es (t ∷ ts) h = ticks_to v i k es t ts (ticked v i k t) refl h
+ticks_led : (f : Walk → Walk) (v : Walk) (i k : ℕ) (es : List Item) (texts : List (List ℕ)) → Led (ticked v i k) (λ w. From (f w) es) texts
+    → Along [] (TicksOn f v i k es) texts
+ticks_led f v i k es [] h = absurd h
+ticks_led f v i k es (t ∷ ts) h = ticks_to f v i k es t ts (ticked v i k t) refl h
 
-right_ticks : (v : Walk) (i k : ℕ) (es : List Item) (judge : Walk → Judge) → ((w : Walk) → Right (From w es) (judge w))
-    → Right (Along [] (OnLined v (Done (operator.Ticks i k)) es)) (led (ticked v i k) (λ w. judge (next_line w)))
-right_ticks v i k es judge next =
+right_ticks : (f : Walk → Walk) (v : Walk) (i k : ℕ) (es : List Item) (judge : Walk → Judge) → ((w : Walk) → Right (From w es) (judge w))
+    → Right (Along [] (TicksOn f v i k es)) (led (ticked v i k) (λ w. judge (f w)))
+right_ticks f v i k es judge next =
     let any = any_letters v i k in
     let text = text_of_line (Ticks i any.paces) in
-    right_as (Led (ticked v i k) (λ w. From (next_line w) es)) (Along [] (OnLined v (Done (operator.Ticks i k)) es)) (led (ticked v i k) (λ w. judge (next_line w)))
-    (ticks_led v i k es)
-    (λ ts a. to_ticks v i k es ts a.holds.0 a.holds.1 a.fate a.holds.3 a.holds.4 (subst (λ (ls : List Line). Said ls ts) a.holds.2 a.said))
-    (right_led (ticked v i k) (λ w. From (next_line w) es) (λ w. judge (next_line w)) text any.to
-    (ticked_some v i k text any.paces any.to any.many (same_text text) any.leads) (λ w. next (next_line w)))
+    right_as (Led (ticked v i k) (λ w. From (f w) es)) (Along [] (TicksOn f v i k es)) (led (ticked v i k) (λ w. judge (f w)))
+    (ticks_led f v i k es)
+    (λ ts a. to_ticks f v i k es ts a.holds.0 a.holds.1 a.fate a.holds.3 a.holds.4 (subst (λ (ls : List Line). Said ls ts) a.holds.2 a.said))
+    (right_led (ticked v i k) (λ w. From (f w) es) (λ w. judge (f w)) text any.to
+    (ticked_some v i k text any.paces any.to any.many (same_text text) any.leads) (λ w. next (f w)))
 
 -- a peek
 a_peek : Peek
@@ -197,12 +200,13 @@ right_gone : (v : Walk) (l : Lined) (es : List Item) → ((w : Walk) → Right (
 right_gone v (Done (Refuses r)) es next = right_known (Refused v.line r ∷ []) (OnLined v (Done (Refuses r)) es) Lost (refl, refl) (λ lines f h. h.0)
 right_gone v (Done (Does n out touched b)) es next =
     right_does v n out touched b es (judged (next_line (walk_after v n touched b)) es) (next (next_line (walk_after v n touched b)))
-right_gone v (Done (operator.Ticks i k)) es next = right_ticks v i k es (λ w. judged w es) next
+right_gone v (Done (operator.Ticks i k)) es next = right_ticks next_line v i k es (λ w. judged w es) next
 right_gone v (Done Quits) es next = right_known [] (OnLined v (Done Quits) es) Ended (refl, refl) (λ lines f h. h.0)
 right_gone v (Peeks i) es next = right_peek v i es (judged (next_line v) es) (next (next_line v))
 
 pub right_judged : (es : List Item) (v : Walk) → Right (From v es) (judged v es)
 right_judged [] v = right_known [] (Run v []) Open (refl, refl) (λ lines f h. h.0)
 right_judged (Read e ∷ es) v = right_gone v (lined v.machine v.block e) es (λ w. right_judged es w)
+right_judged (InTurn i k ∷ es) v = right_ticks (λ w. w) v i k es (λ w. judged w es) (λ w. right_judged es w)
 right_judged (Unread r ∷ es) v = right_known (Refused v.line r ∷ []) (Run v (Unread r ∷ es)) Lost (refl, refl) (λ lines f h. h.0)
 right_judged (Beyond ∷ es) v = right_known [] (Run v (Beyond ∷ es)) TooLong (refl, refl) (λ lines f h. h.0)

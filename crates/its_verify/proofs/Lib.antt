@@ -8,4 +8,9 @@ pub mod JudgeLaws
 pub mod VerdictLaws
 pub mod BoundedLaws
 pub mod PartsLaws
+pub mod PeekLaws
+pub mod TickLaws
+pub mod EndLaws
+pub mod SourceLaws
+pub mod KeepLaws
 mod Examples

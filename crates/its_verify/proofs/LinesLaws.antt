@@ -2,7 +2,8 @@
 use Rattle.std.proofs.Common.{◌≡◌, ◌==◌, ℕ, true, List, [], ◌∷◌, ◌++◌, refl, ap, ◌∙◌, inl, inr}
 use Rattle.std.proofs.lemmas.Bool.{cases_Bool, false≢true}
 use Rattle.std.specs.List.{concat}
-use Rattle.its_verify.specs.Lines.{in_front, lines_in, is_last, is_whole}
+use Rattle.its_reader.specs.TextLines.{in_front, lines_in}
+use Rattle.its_verify.specs.Lines.{is_last, is_whole}
 
 concat_in_front : (b : ℕ) (lines : List (List ℕ)) → concat (in_front b lines) ≡ b ∷ concat lines
 concat_in_front b [] = refl

@@ -6,7 +6,7 @@ use Rattle.its_print.specs.Printing.{Line, text}
 use Rattle.its_print.specs.Sizes.{IsPrinted}
 use Rattle.its_session.specs.Events.{events_of, most_lines}
 use Rattle.its_plain.specs.Transcript.{Fate, Transcript}
-use Rattle.its_verify.specs.Lines.{before_lf, lines_in}
+use Rattle.its_reader.specs.TextLines.{before_lf, lines_in}
 use Rattle.its_verify.specs.Verified.{Judged, Parts, Both, LongLine, TooMany, is_end_line, most_session_bytes, parts_from, verified}
 use Rattle.its_verify.specs.Judge.{Yes}
 use Rattle.its_verify.proofs.BoundedLaws.{has_yes}

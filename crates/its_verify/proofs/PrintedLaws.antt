@@ -22,7 +22,8 @@ use Rattle.its_print.specs.Sizes.{IsPrinted}
 use Rattle.its_print.proofs.LongestLine.{longest}
 use Rattle.its_session.proofs.WordsLaws.{words_cut}
 use Rattle.its_session.specs.Grammar.{words_of}
-use Rattle.its_verify.specs.Lines.{Said, Tells, begins_with, is_peek, most_bytes, before_lf, is_whole, lines_in, says}
+use Rattle.its_reader.specs.TextLines.{before_lf, lines_in}
+use Rattle.its_verify.specs.Lines.{Said, Tells, begins_with, is_peek, most_bytes, is_whole, says}
 use Rattle.its_verify.proofs.BehindLaws.{behind, spaced_behind}
 use Rattle.its_verify.proofs.LinesLaws.{AllWhole, lines_concat}
 
@@ -127,7 +128,6 @@ reason_free reasons.NoFile = refl
 reason_free reasons.Exists = refl
 reason_free reasons.Full = refl
 reason_free reasons.Cut = refl
-reason_free reasons.Unbuilt = refl
 
 all_free_append : (us ws : List (List ℕ)) → AllFree us → AllFree ws → AllFree (us ++ ws)
 all_free_append [] ws h k = k

@@ -7,7 +7,7 @@ use Rattle.its_print.specs.Sizes.{IsPrinted}
 use Rattle.std.proofs.lemmas.Bool.{cases_order}
 use Rattle.its_plain.specs.Transcript.{Fate, Transcript, at_start}
 use Rattle.its_plain.proofs.RunLaws.{run_shows, shows_run}
-use Rattle.its_verify.specs.Lines.{lines_in}
+use Rattle.its_reader.specs.TextLines.{lines_in}
 use Rattle.its_verify.specs.Accepted.{Accepted, AcceptedLines, Begins, IsFirst}
 use Rattle.its_verify.specs.Judge.{Verdict, Yes, No, verdict, judged}
 use Rattle.its_verify.proofs.LinesLaws.{concat_lines, lines_concat}

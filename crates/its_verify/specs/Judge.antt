@@ -2,12 +2,13 @@
 -- what is a transcript by the rules of `Transcript`, and else tells the first line that is none of one, are laws
 -- (proofs/VerdictLaws).
 use Rattle.std.specs.Prelude.{ℕ, ◌+◌, Option, Some, None, List, [], ◌∷◌}
-use Rattle.its_word.specs.Item.{Item, Read, Unread, Beyond}
+use Rattle.its_word.specs.Item.{Item, Read, Unread, InTurn, Beyond}
 use Rattle.its_print.specs.Printing.{Line, Refused}
 use Rattle.its_plain.specs.OperatorLines.{Lined, Done, Peeks, lined}
 use Rattle.its_plain.specs.Operator.{Refuses, Does, Ticks, Quits}
 use Rattle.its_plain.specs.Transcript.{Walk, at_start, walk_after, next_line}
-use Rattle.its_verify.specs.Lines.{is_peek, lines_in, says}
+use Rattle.its_reader.specs.TextLines.{lines_in}
+use Rattle.its_verify.specs.Lines.{is_peek, says}
 use Rattle.its_verify.specs.Letters.{if_so, ticked}
 
 -- what the judge says
@@ -59,6 +60,7 @@ gone v (Peeks i) next = led peeking (λ text. next (next_line v))
 abbrev pub judged : Walk → List Item → Judge
 judged v [] = at_end
 judged v (Read e ∷ es) = gone v (lined v.machine v.block e) (λ w. judged w es)
+judged v (InTurn i k ∷ es) = led (ticked v i k) (λ w. judged w es)
 judged v (Unread r ∷ es) = told (Refused v.line r ∷ []) at_end
 judged v (Beyond ∷ es) = at_end
 

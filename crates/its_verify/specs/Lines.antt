@@ -3,16 +3,7 @@ use Rattle.std.specs.Prelude.{if◌then◌else◌, ◌≡◌, ◌==◌, ℕ, ◌
 use Rattle.std.specs.List.{concat}
 use Rattle.its_print.specs.Printing.{Line, Peeked, text_of_line}
 use Rattle.its_session.specs.Grammar.{words_of}
-
--- a byte in front of the lines of bytes: LF is a line of its own there, and any other byte begins the first line
-abbrev pub in_front : ℕ → List (List ℕ) → List (List ℕ)
-in_front b [] = (b ∷ []) ∷ []
-in_front b (line ∷ lines) = if b == 10 then (b ∷ []) ∷ line ∷ lines else (b ∷ line) ∷ lines
-
--- the lines of bytes. Each keeps the LF that ends it, and a last line may have none
-unfoldable pub lines_in : List ℕ → List (List ℕ)
-lines_in [] = []
-lines_in (b ∷ bs) = in_front b (lines_in bs)
+use Rattle.its_reader.specs.TextLines.{before_lf}
 
 abbrev pub is_last : List ℕ → Bool
 is_last [] = true
@@ -26,11 +17,6 @@ is_whole (b ∷ bs) = if b == 10 then is_last bs else is_whole bs
 -- the most bytes of a line of a transcript before its LF
 abbrev pub most_bytes : ℕ
 most_bytes = 1543
-
--- the bytes of a line before its LF
-abbrev pub before_lf : List ℕ → List ℕ
-before_lf [] = []
-before_lf (b ∷ bs) = if b == 10 then [] else b ∷ before_lf bs
 
 -- the first word of a line, whose words are its runs of bytes other than space
 abbrev pub begins_with : List ℕ → List (List ℕ) → Bool

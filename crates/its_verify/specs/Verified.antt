@@ -8,7 +8,7 @@ use Rattle.its_print.specs.Printing.{Refused, text_of_line}
 use Rattle.its_session.specs.Events.{events_of, most_lines}
 use Rattle.its_session.specs.Grammar.{words_of}
 use Rattle.its_plain.specs.Transcript.{at_start}
-use Rattle.its_verify.specs.Lines.{before_lf, lines_in}
+use Rattle.its_reader.specs.TextLines.{before_lf, lines_in}
 use Rattle.its_verify.specs.Judge.{Verdict, Yes, No, judged}
 
 -- what is said of an input

@@ -45,6 +45,11 @@ pub enum Event {
         s: u8,
         n: u32,
     },
+    /// In version 2: up to n turns of q ticks, in a circle, to the jobs that run.
+    Run {
+        n: u32,
+        q: u32,
+    },
     TypeIn {
         c: u8,
         bytes: ArrayVec<u8, 32>,
@@ -114,8 +119,7 @@ pub enum Bad {
     NoConsole,
 }
 
-/// Why a session ends early, as its `?` line says it. `Unbuilt` is in the list of reasons that the
-/// record has, but no line of this program comes to it.
+/// Why a session ends early, as its `?` line says it.
 #[derive(Clone, Copy, Debug, PartialEq, Eq)]
 pub enum Reason {
     Long,
@@ -129,7 +133,6 @@ pub enum Reason {
     Exists,
     Full,
     Cut,
-    Unbuilt,
 }
 
 /// Why a call of the monitor is refused.

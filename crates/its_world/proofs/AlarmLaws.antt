@@ -14,11 +14,12 @@ use Rattle.its_plain.specs.OperatorClock.{clock_end}
 use Rattle.its_world.specs.Tidy.{Across, Tidy}
 use Rattle.its_world.specs.World.{alarm_at, raw_of, raw_at, frame_at, console_at, holder_at, mark_of, state_of, in_raw, symbols_at, AlarmBecomes}
 use Rattle.its_world.specs.declared.world.World.{World}
+use Rattle.its_world.proofs.PlaceLaws.{ringed_alike}
 use Rattle.its_world.proofs.StateLaws.{state_is, slot_at}
 
 pub alarm_becomes : (old new : World) (s : ℕ) (a : Option (ℕ × ℕ)) → Only (alarm_at old.alarms.items) (alarm_at new.alarms.items) s a
-    → new.core ≡ old.core → new.jobs ≡ old.jobs → new.frames ≡ old.frames → new.consoles ≡ old.consoles → new.holders ≡ old.holders → new.files ≡ old.files → new.clock ≡ old.clock → new.version ≡ old.version → new.symbols ≡ old.symbols → AlarmBecomes old new s a
-alarm_becomes old new s a alarms core jobs frames consoles holders files clock version symbols = record {
+    → new.core ≡ old.core → new.jobs ≡ old.jobs → new.frames ≡ old.frames → new.consoles ≡ old.consoles → new.holders ≡ old.holders → new.files ≡ old.files → new.clock ≡ old.clock → new.version ≡ old.version → new.symbols ≡ old.symbols → new.rings ≡ old.rings → AlarmBecomes old new s a
+alarm_becomes old new s a alarms core jobs frames consoles holders files clock version symbols rings = record {
   alarms = alarms;
   core = core;
   jobs = jobs;
@@ -29,6 +30,7 @@ alarm_becomes old new s a alarms core jobs frames consoles holders files clock v
   clock = clock;
   version = version;
   symbols = symbols;
+  ringed = ringed_alike old new jobs frames consoles holders clock rings;
 }
 
 -- a job with another alarm
@@ -65,4 +67,5 @@ module _ (old new : World) (s : ℕ) (a : Option (ℕ × ℕ)) (b : AlarmBecomes
     timed = subst (λ t. t < clock_end) (sym b.clock) tidy.timed;
     across = subst (λ (x : Store). Across x new.jobs) (sym b.files) (subst (Across old.files) (sym b.jobs) tidy.across);
     nameless = λ k h. ap (λ l. symbols_at l.items k) b.symbols ∙ tidy.nameless k (sym (ap (λ t. job_at t k) b.jobs) ∙ h);
+    ringed = b.ringed tidy.ringed;
   }

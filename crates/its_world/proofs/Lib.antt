@@ -12,5 +12,9 @@ pub mod StorageLaws
 pub mod ChannelLaws
 pub mod MadeLaws
 pub mod MappedLaws
+pub mod RingLaws
+pub mod PlaceLaws
+pub mod FilingLaws
+pub mod BlockedLaws
 pub mod SymbolLaws
 pub mod AlarmLaws

@@ -20,15 +20,11 @@ use Rattle.its_world.specs.Tidy.{channel_by, channel_at, Across, Tidy}
 use Rattle.its_world.specs.World.{chan_of, closed_channels, alarm_at, raw_of, raw_at, frame_at, console_at, holder_at, mark_of, state_of, symbols_at}
 use Rattle.its_world.specs.declared.world.World.{World}
 use Rattle.its_world.proofs.KeptLaws.{across_table}
+use Rattle.its_world.proofs.PlaceLaws.{all_closed, made_ringed}
 use Rattle.its_world.proofs.StateLaws.{state_is, raw_job}
 use Rattle.its_world.proofs.StorageLaws.{raw_has}
 
 -- it has no open channel
-pub all_closed : (k n : ℕ) → slice_index_or (replicate k Closed) n Closed ≡ Closed
-all_closed zero n = refl
-all_closed (suc k) zero = refl
-all_closed (suc k) (suc n) = all_closed k n
-
 pub fresh_closed : (u n : ℕ) (console : Option ℕ) (i : ℕ) → channel_by (Some (fresh_job u n console)) i ≡ Closed
 unfolding fresh_job
 fresh_closed u n console i = all_closed 16 i
@@ -86,6 +82,7 @@ module _ (old new : World) (s u n : ℕ) (superior console : Option ℕ) (made :
           ∙ sym (ap (λ x. channel_at old.jobs x i) is ∙ ap (λ o. channel_by o i) none)
       | inr ne ↦ ap (λ o. channel_by o i) (made.job.others k ne)
     ]));
+    ringed = made_ringed old new s u n console none made.job made.frames made.consoles made.holders made.clock made.rings tidy.ringed;
     nameless = λ k h. ap (λ l. symbols_at l.items k) made.symbols ∙ elim (cases_eq k s) [
       | inl is ↦ let wrong : None ≡ Some (fresh_job u n console) = sym h ∙ ap (job_at new.jobs) is ∙ made.job.here in absurd cc
       | inr ne ↦ tidy.nameless k (sym (made.job.others k ne) ∙ h)

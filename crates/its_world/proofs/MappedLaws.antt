@@ -18,6 +18,7 @@ use Rattle.its_plain.specs.OperatorClock.{clock_end}
 use Rattle.its_world.specs.Tidy.{Across, Tidy}
 use Rattle.its_world.specs.World.{mark_of, alarm_at, raw_of, raw_at, frame_at, console_at, holder_at, state_of, in_raw, with_frames, symbols_at}
 use Rattle.its_world.specs.declared.world.World.{World}
+use Rattle.its_world.proofs.PlaceLaws.{ringed_alike}
 use Rattle.its_world.proofs.StateLaws.{state_is, raw_job, changed_at, slot_at}
 
 -- the core of a slot, with or without a job, in the raw machine
@@ -35,7 +36,7 @@ mapped_raw w tidy = pages_mapped-same (core_at w.core) (λ k. core_of ((state_of
 -- nor do they matter to what holds of the world besides
 pub frames_tidy : (w : World) (f : Frames) → Tidy (with_frames w f) → Tidy w
 unfolding core_at
-frames_tidy w f tidy = record { blank = tidy.blank; quiet = tidy.quiet; timed = tidy.timed; across = tidy.across; nameless = tidy.nameless }
+frames_tidy w f tidy = record { blank = tidy.blank; quiet = tidy.quiet; timed = tidy.timed; across = tidy.across; ringed = ringed_alike (with_frames w f) w refl refl refl refl refl refl tidy.ringed; nameless = tidy.nameless }
 
 -- a job with another core
 recored : (x : Store) (b c : Core) (u : Option ℕ) (a : Option (ℕ × ℕ)) (h : Whole → Whole) (o : Option Job) → ((i : Job) → h (raw_job x b i u a) ≡ raw_job x c i u a)
@@ -45,8 +46,8 @@ recored x b c u a h None e = refl
 
 pub mapped_becomes : (old new : World) (s t k : ℕ) (c : Core) → Only (core_at old.core) (core_at new.core) t c → Only (clear_at old.core) (clear_at new.core) s None
     → new.core.frames ≡ frames_map s t k old.core.frames
-    → new.jobs ≡ old.jobs → new.frames ≡ old.frames → new.consoles ≡ old.consoles → new.holders ≡ old.holders → new.files ≡ old.files → new.clock ≡ old.clock → new.version ≡ old.version → new.symbols ≡ old.symbols → new.alarms ≡ old.alarms → PageMapped old new s t k c
-mapped_becomes old new s t k c core reserved pages jobs frames consoles holders files clock version symbols alarms = record {
+    → new.jobs ≡ old.jobs → new.frames ≡ old.frames → new.consoles ≡ old.consoles → new.holders ≡ old.holders → new.files ≡ old.files → new.clock ≡ old.clock → new.rings ≡ old.rings → new.version ≡ old.version → new.symbols ≡ old.symbols → new.alarms ≡ old.alarms → PageMapped old new s t k c
+mapped_becomes old new s t k c core reserved pages jobs frames consoles holders files clock rings version symbols alarms = record {
   core = core;
   reserved = reserved;
   pages = pages;
@@ -56,6 +57,7 @@ mapped_becomes old new s t k c core reserved pages jobs frames consoles holders 
   holders = holders;
   files = files;
   clock = clock;
+  rings = rings;
   version = version;
   symbols = symbols;
   alarms = alarms;
@@ -89,5 +91,6 @@ module _ (old new : World) (s t n : ℕ) (c : Core) (page : PageMapped old new s
     quiet = λ k none. ap (λ l. alarm_at l.items k) page.alarms ∙ tidy.quiet k (sym (ap (λ (u : Table). job_at u k) page.jobs) ∙ none);
     timed = subst (λ t. t < clock_end) (sym page.clock) tidy.timed;
     across = subst (λ (x : Store). Across x new.jobs) (sym page.files) (subst (Across old.files) (sym page.jobs) tidy.across);
+    ringed = ringed_alike old new page.jobs page.frames page.consoles page.holders page.clock page.rings tidy.ringed;
     nameless = λ k none. ap (λ l. symbols_at l.items k) page.symbols ∙ tidy.nameless k (sym (ap (λ (u : Table). job_at u k) page.jobs) ∙ none);
   }

@@ -24,6 +24,7 @@ use Rattle.its_world.specs.Storage.{HasJob, chan_in, ChannelBecomes, OnlyStore}
 use Rattle.its_world.specs.declared.world.World.{World}
 use Rattle.its_world.proofs.KeptLaws.{Kept, Stays}
 use Rattle.its_world.proofs.MarkLaws.{mark_none, none_marked}
+use Rattle.its_world.proofs.PlaceLaws.{ringed_alike}
 use Rattle.its_world.proofs.WorldLaws.{frames_still}
 use Rattle.its_world.proofs.StateLaws.{state_is, changed_at, slot_at}
 use Rattle.its_world.proofs.TallyLaws.{OneChannel}
@@ -58,6 +59,7 @@ channel_becomes old new s n x j was lt b = record {
   symbols = b.symbols;
   alarms = b.alarms;
   files = b.files;
+  ringed = b.ringed;
 }
 
 pub channel_missing : (w : World) (s n : ℕ) (x : Channel) → job_at w.jobs s ≡ None → ChannelBecomes w w s n x w.files
@@ -78,6 +80,7 @@ channel_missing w s n x none = record {
   symbols = refl;
   alarms = refl;
   files = refl;
+  ringed = λ r. r;
 }
 
 -- a channel is set behind the store, or left as it is
@@ -99,6 +102,7 @@ store_first old mid new s n x t o b = record {
   symbols = b.symbols ∙ o.symbols;
   alarms = b.alarms ∙ o.alarms;
   files = b.files;
+  ringed = λ r. b.ringed (ringed_alike old mid o.jobs o.frames o.consoles o.holders o.clock o.rings r);
 }
 
 pub channel_still : (old new : World) (s n : ℕ) (t : Store) → OnlyStore old new t → ChannelBecomes old new s n (channel_at old.jobs s n) t
@@ -119,6 +123,7 @@ channel_still old new s n t o = record {
   symbols = o.symbols;
   alarms = o.alarms;
   files = o.files;
+  ringed = ringed_alike old new o.jobs o.frames o.consoles o.holders o.clock o.rings;
 }
 
 -- raw jobs, where what their channels are on is the same, and where one channel is on something else
@@ -205,6 +210,7 @@ module _ (old new : World) (s n : ℕ) (x : Channel) (t : Store) (b : ChannelBec
     quiet = λ k none. ap (λ l. alarm_at l.items k) b.alarms ∙ tidy.quiet k (bare_none k none);
     timed = subst (λ t. t < clock_end) (sym b.clock) tidy.timed;
     across = subst (λ f. Across f new.jobs) (sym b.files) a;
+    ringed = b.ringed tidy.ringed;
     nameless = λ k none. ap (λ l. symbols_at l.items k) b.symbols ∙ tidy.nameless k (bare_none k none);
   }
 
@@ -223,20 +229,25 @@ channel_comes old new s n x t b tidy kept g here files mark = record {
 
 pub still_state : (w : World) (s n : ℕ) (g : Chan → Chan) → chan_of w.files (channel_at w.jobs s n) ≡ g (chan_of w.files (channel_at w.jobs s n)) → state_of w ≡ in_raw (state_of w) s (on_channel n g)
 still_state w s n g e =
-    let b = channel_still w w s n w.files (record { core = refl; jobs = refl; frames = refl; consoles = refl; holders = refl; clock = refl; version = refl; symbols = refl; alarms = refl; files = refl }) in
+    let b = channel_still w w s n w.files (record { core = refl; jobs = refl; frames = refl; consoles = refl; holders = refl; clock = refl; version = refl; symbols = refl; alarms = refl; files = refl; rings = refl }) in
     channel_state w w s n (channel_at w.jobs s n) w.files b g (λ k m apart. refl) (λ some. e) refl refl
 
 -- a store that shows the same to all channels
-pub store_state : (old new : World) (t : Store) → OnlyStore old new t → Stays old.files t old.jobs
+pub stored_state : (old new : World) (t : Store) → new.core ≡ old.core → new.jobs ≡ old.jobs → new.frames ≡ old.frames → new.consoles ≡ old.consoles → new.holders ≡ old.holders → new.clock ≡ old.clock
+    → new.alarms ≡ old.alarms → new.version ≡ old.version → new.symbols ≡ old.symbols → new.files ≡ t → Stays old.files t old.jobs
     → state_of new ≡ record (state_of old) { raw = record (state_of old).raw { files = directory t }; mark = mark_of t }
 unfolding state_of
-store_state old new t o stays = state_is _ _
+stored_state old new t core jobs frames consoles holders clock alarms version symbols files stays = state_is _ _
     (machine_is _ _
-    (λ k. ap (λ f. raw_at f new.core new.jobs new.alarms.items k) o.files ∙ ap (λ c. raw_at t c new.jobs new.alarms.items k) o.core
-    ∙ ap (λ j. raw_at t old.core j new.alarms.items k) o.jobs ∙ ap (λ l. raw_at t old.core old.jobs l.items k) o.alarms
+    (λ k. ap (λ f. raw_at f new.core new.jobs new.alarms.items k) files ∙ ap (λ c. raw_at t c new.jobs new.alarms.items k) core
+    ∙ ap (λ j. raw_at t old.core j new.alarms.items k) jobs ∙ ap (λ l. raw_at t old.core old.jobs l.items k) alarms
     ∙ raw_alike old.files t (core_at old.core k) (superior_at old.jobs k) (alarm_at old.alarms.items k) (job_at old.jobs k) (stays.chans k))
-    (λ k. ap (λ l. console_at l.items k) o.consoles) (λ k. ap (λ l. holder_at l k) o.holders) (ap directory o.files) o.clock o.version (λ k. ap (λ l. symbols_at l.items k) o.symbols))
-    (λ k. ap (λ l. frame_at l.items k) o.frames) (λ k. ap (λ c. clear_at c k) o.core) (ap mark_of o.files)
+    (λ k. ap (λ l. console_at l.items k) consoles) (λ k. ap (λ l. holder_at l k) holders) (ap directory files) clock version (λ k. ap (λ l. symbols_at l.items k) symbols))
+    (λ k. ap (λ l. frame_at l.items k) frames) (λ k. ap (λ c. clear_at c k) core) (ap mark_of files)
+
+pub store_state : (old new : World) (t : Store) → OnlyStore old new t → Stays old.files t old.jobs
+    → state_of new ≡ record (state_of old) { raw = record (state_of old).raw { files = directory t }; mark = mark_of t }
+store_state old new t o stays = stored_state old new t o.core o.jobs o.frames o.consoles o.holders o.clock o.alarms o.version o.symbols o.files stays
 
 pub store_tidy : (old new : World) (t : Store) → OnlyStore old new t → Stays old.files t old.jobs → Tidy old → Tidy new
 store_tidy old new t o stays tidy = record {
@@ -244,6 +255,7 @@ store_tidy old new t o stays tidy = record {
   quiet = λ k none. ap (λ l. alarm_at l.items k) o.alarms ∙ tidy.quiet k (sym (ap (λ j. job_at j k) o.jobs) ∙ none);
   timed = subst (λ t. t < clock_end) (sym o.clock) tidy.timed;
   across = subst (λ f. Across f new.jobs) (sym o.files) (subst (λ j. Across t j) (sym o.jobs) stays.across);
+  ringed = ringed_alike old new o.jobs o.frames o.consoles o.holders o.clock o.rings tidy.ringed;
   nameless = λ k none. ap (λ l. symbols_at l.items k) o.symbols ∙ tidy.nameless k (sym (ap (λ j. job_at j k) o.jobs) ∙ none);
 }
 

@@ -1,5 +1,5 @@
 -- What a world keeps where one part of it is written.
-use Rattle.std.specs.Prelude.{◌≡◌, ◌<◌, ◌≤◌, ℕ, zero, suc, true, Option, Some, None, IsSome, is_some, List, [], ◌∷◌, ◌++◌, length, drop, slice_index_or, option_map, refl}
+use Rattle.std.specs.Prelude.{◌≡◌, ◌<◌, ◌≤◌, ◌+◌, ◌-◌, ℕ, zero, suc, true, Option, Some, None, IsSome, is_some, List, [], ◌∷◌, ◌++◌, length, drop, slice_index_or, option_map, refl}
 use Rattle.std.proofs.Common.{ap, sym, arith, ◌∙◌}
 use Rattle.std.proofs.lemmas.List.{length-append, take-append-le, take_all}
 use Rattle.its_word.specs.Only.{Only, Same}
@@ -9,7 +9,10 @@ use Rattle.its_word.specs.declared.jobs.Job.{Job}
 use Rattle.its_frame.specs.declared.frame.Frame.{Frame}
 use Rattle.its_jobs.specs.Table.{job_at}
 use Rattle.its_plain.specs.Change.{rest_of}
-use Rattle.its_world.specs.World.{frame_at, console_at, holder_at, frames_after, with_frames, Becomes, CoreBecomes, JobBecomes, FrameBecomes, PageBecomes, ConsoleBecomes, HolderBecomes, typed_at}
+use Rattle.its_world.specs.World.{frame_at, console_at, holder_at, frames_after, with_frames, Becomes, CoreBecomes, JobBecomes, FrameBecomes, PageBecomes, ConsoleBecomes, HolderBecomes, ClockBecomes, typed_at}
+use Rattle.its_world.specs.Rings.{lists_at}
+use Rattle.its_world.specs.Filed.{SlotWritten, ConsoleWritten, HolderWritten, ClockWritten, Refiled, Resettled}
+use Rattle.its_world.proofs.PlaceLaws.{ringed_alike, slot_ringed, door_ringed, clock_ringed}
 use Rattle.its_world.specs.declared.world.World.{World}
 use Rattle.its_core.specs.Cores.{Cores, Reserved, core_at, reserved_at, clear_at}
 use Rattle.its_core.specs.Frames.{Frames, frames_give_back}
@@ -41,6 +44,10 @@ quiet_more (x ∷ xs) h (suc c) = quiet_more xs (λ i. h (suc i)) c
 unchanged : {X : Type 0} → (f : ℕ → X) (s : ℕ) → Only f f s (f s)
 unchanged f s = record { here = refl; others = λ k h. refl }
 
+-- what is read later is what was read
+only_along : {X : Type 0} → (f g h : ℕ → X) (s : ℕ) (x : X) → Only f g s x → ((k : ℕ) → h k ≡ g k) → Only f h s x
+only_along f g h s x o e = record { here = e s ∙ o.here; others = λ k ne. e k ∙ o.others k ne }
+
 pub alike : {X : Type 0} → (f g : ℕ → X) (s : ℕ) → ((k : ℕ) → g k ≡ f k) → Only f g s (f s)
 alike f g s h = record { here = h s; others = λ k n. h k }
 
@@ -54,8 +61,8 @@ frames_backed (Some n) s f h = refl
 frames_backed None s f h = cc
 
 pub core_becomes : (old new : World) (s : ℕ) (c : Core) → Only (core_at old.core) (core_at new.core) s c → new.core.reserved ≡ old.core.reserved → new.core.frames ≡ old.core.frames
-    → new.jobs ≡ old.jobs → new.frames ≡ old.frames → new.consoles ≡ old.consoles → new.holders ≡ old.holders → new.files ≡ old.files → new.clock ≡ old.clock → new.version ≡ old.version → new.symbols ≡ old.symbols → new.alarms ≡ old.alarms → CoreBecomes old new s c
-core_becomes old new s c core reserved pages jobs frames consoles holders files clock version symbols alarms = record {
+    → new.jobs ≡ old.jobs → new.frames ≡ old.frames → new.consoles ≡ old.consoles → new.holders ≡ old.holders → new.files ≡ old.files → new.clock ≡ old.clock → new.rings ≡ old.rings → new.version ≡ old.version → new.symbols ≡ old.symbols → new.alarms ≡ old.alarms → CoreBecomes old new s c
+core_becomes old new s c core reserved pages jobs frames consoles holders files clock rings version symbols alarms = record {
   core = core;
   job = alike _ _ s (λ k. ap (λ t. job_at t k) jobs);
   superiors = ap (λ t. t.superiors) jobs;
@@ -66,42 +73,62 @@ core_becomes old new s c core reserved pages jobs frames consoles holders files 
   holders = holders;
   files = files;
   clock = clock;
+  ringed = ringed_alike old new jobs frames consoles holders clock rings;
   version = version;
   symbols = symbols;
   alarms = alarms;
 }
 
-pub job_becomes : (old new : World) (s : ℕ) (j : Job) → Only (job_at old.jobs) (job_at new.jobs) s (Some j) → new.jobs.superiors ≡ old.jobs.superiors
-    → new.core ≡ old.core → new.frames ≡ old.frames → new.consoles ≡ old.consoles → new.holders ≡ old.holders → new.files ≡ old.files → new.clock ≡ old.clock → new.version ≡ old.version → new.symbols ≡ old.symbols → new.alarms ≡ old.alarms → JobBecomes old new s j
-job_becomes old new s j job superiors core frames consoles holders files clock version symbols alarms = record {
-  core = alike _ _ s (λ k. ap (λ t. core_at t k) core);
+-- the job or the frame of a slot is written, and the slot is put where it belongs
+pub slot_becomes : (old mid new : World) (s : ℕ) (j : Option Job) (f : Option Frame) → SlotWritten old mid s j f → Refiled mid new s → Becomes old new s (core_at old.core s) j f (clear_at old.core s)
+slot_becomes old mid new s j f w r = record {
+  core = alike _ _ s (λ k. ap (λ t. core_at t k) (r.rest.core ∙ w.core));
+  job = only_along _ _ _ s j w.job (λ k. ap (λ t. job_at t k) r.rest.jobs);
+  superiors = ap (λ t. t.superiors) r.rest.jobs ∙ w.superiors;
+  frame = only_along _ _ _ s f w.frame (λ k. ap (λ l. frame_at l.items k) r.rest.frames);
+  reserved = alike _ _ s (λ k. ap (λ t. clear_at t k) (r.rest.core ∙ w.core));
+  pages = ap (λ t. t.frames) (r.rest.core ∙ w.core) ∙ sym (frames_still (clear_at old.core s) s old.core.frames);
+  consoles = r.rest.consoles ∙ w.consoles;
+  holders = r.rest.holders ∙ w.holders;
+  files = r.rest.files ∙ w.files;
+  clock = r.rest.clock ∙ w.clock;
+  ringed = slot_ringed old mid new s j f w r;
+  version = r.rest.version ∙ w.version;
+  symbols = r.rest.symbols ∙ w.symbols;
+  alarms = r.rest.alarms ∙ w.alarms;
+}
+
+pub job_written : (old new : World) (s : ℕ) (j : Job) → Only (job_at old.jobs) (job_at new.jobs) s (Some j) → new.jobs.superiors ≡ old.jobs.superiors
+    → new.core ≡ old.core → new.frames ≡ old.frames → new.consoles ≡ old.consoles → new.holders ≡ old.holders → new.files ≡ old.files → new.clock ≡ old.clock → new.version ≡ old.version → new.symbols ≡ old.symbols → new.alarms ≡ old.alarms → new.rings ≡ old.rings
+    → SlotWritten old new s (Some j) (frame_at old.frames.items s)
+job_written old new s j job superiors core frames consoles holders files clock version symbols alarms rings = record {
   job = job;
   superiors = superiors;
   frame = alike _ _ s (λ k. ap (λ t. frame_at t.items k) frames);
-  reserved = alike _ _ s (λ k. ap (λ t. clear_at t k) core);
-  pages = ap (λ t. t.frames) core ∙ sym (frames_still (clear_at old.core s) s old.core.frames);
+  core = core;
   consoles = consoles;
   holders = holders;
   files = files;
   clock = clock;
+  rings = rings;
   version = version;
   symbols = symbols;
   alarms = alarms;
 }
 
-pub frame_becomes : (old new : World) (s : ℕ) (f : Option Frame) → Only (frame_at old.frames.items) (frame_at new.frames.items) s f
-    → new.core ≡ old.core → new.jobs ≡ old.jobs → new.consoles ≡ old.consoles → new.holders ≡ old.holders → new.files ≡ old.files → new.clock ≡ old.clock → new.version ≡ old.version → new.symbols ≡ old.symbols → new.alarms ≡ old.alarms → FrameBecomes old new s f
-frame_becomes old new s f frame core jobs consoles holders files clock version symbols alarms = record {
-  core = alike _ _ s (λ k. ap (λ t. core_at t k) core);
+pub frame_written : (old new : World) (s : ℕ) (f : Option Frame) → Only (frame_at old.frames.items) (frame_at new.frames.items) s f
+    → new.core ≡ old.core → new.jobs ≡ old.jobs → new.consoles ≡ old.consoles → new.holders ≡ old.holders → new.files ≡ old.files → new.clock ≡ old.clock → new.version ≡ old.version → new.symbols ≡ old.symbols → new.alarms ≡ old.alarms → new.rings ≡ old.rings
+    → SlotWritten old new s (job_at old.jobs s) f
+frame_written old new s f frame core jobs consoles holders files clock version symbols alarms rings = record {
   job = alike _ _ s (λ k. ap (λ t. job_at t k) jobs);
   superiors = ap (λ t. t.superiors) jobs;
   frame = frame;
-  reserved = alike _ _ s (λ k. ap (λ t. clear_at t k) core);
-  pages = ap (λ t. t.frames) core ∙ sym (frames_still (clear_at old.core s) s old.core.frames);
+  core = core;
   consoles = consoles;
   holders = holders;
   files = files;
   clock = clock;
+  rings = rings;
   version = version;
   symbols = symbols;
   alarms = alarms;
@@ -109,11 +136,11 @@ frame_becomes old new s f frame core jobs consoles holders files clock version s
 
 -- a core is written, and its pages stand in other frames then
 pub framed_becomes : (old new : World) (s : ℕ) (c : Core) → Only (core_at old.core) (core_at new.core) s c → new.core.reserved ≡ old.core.reserved
-    → new.jobs ≡ old.jobs → new.frames ≡ old.frames → new.consoles ≡ old.consoles → new.holders ≡ old.holders → new.files ≡ old.files → new.clock ≡ old.clock → new.version ≡ old.version → new.symbols ≡ old.symbols → new.alarms ≡ old.alarms
+    → new.jobs ≡ old.jobs → new.frames ≡ old.frames → new.consoles ≡ old.consoles → new.holders ≡ old.holders → new.files ≡ old.files → new.clock ≡ old.clock → new.rings ≡ old.rings → new.version ≡ old.version → new.symbols ≡ old.symbols → new.alarms ≡ old.alarms
     → CoreBecomes old (with_frames new old.core.frames) s c
 unfolding core_at reserved_at
-framed_becomes old new s c core reserved jobs frames consoles holders files clock version symbols alarms =
-    core_becomes old (with_frames new old.core.frames) s c core reserved refl jobs frames consoles holders files clock version symbols alarms
+framed_becomes old new s c core reserved jobs frames consoles holders files clock rings version symbols alarms =
+    core_becomes old (with_frames new old.core.frames) s c core reserved refl jobs frames consoles holders files clock rings version symbols alarms
 
 -- two changes of one slot, one after the other, of which the second reserves no page and gives none back
 only_then : {X : Type 0} → (f g h : ℕ → X) (s : ℕ) (x y : X) → Only f g s x → Only g h s y → Only f h s y
@@ -132,14 +159,15 @@ then_becomes old mid new s c d i j f g r a b = record {
   holders = b.holders ∙ a.holders;
   files = b.files ∙ a.files;
   clock = b.clock ∙ a.clock;
+  ringed = λ r. b.ringed (a.ringed r);
   version = b.version ∙ a.version;
   symbols = b.symbols ∙ a.symbols;
   alarms = b.alarms ∙ a.alarms;
 }
 
 pub page_becomes : (old new : World) (s : ℕ) (r : Option ℕ) → Only (clear_at old.core) (clear_at new.core) s r → new.core.cores ≡ old.core.cores
-    → new.core.frames ≡ frames_after (clear_at old.core s) r s old.core.frames → new.jobs ≡ old.jobs → new.frames ≡ old.frames → new.consoles ≡ old.consoles → new.holders ≡ old.holders → new.files ≡ old.files → new.clock ≡ old.clock → new.version ≡ old.version → new.symbols ≡ old.symbols → new.alarms ≡ old.alarms → PageBecomes old new s r
-page_becomes old new s r page cores pages jobs frames consoles holders files clock version symbols alarms = record {
+    → new.core.frames ≡ frames_after (clear_at old.core s) r s old.core.frames → new.jobs ≡ old.jobs → new.frames ≡ old.frames → new.consoles ≡ old.consoles → new.holders ≡ old.holders → new.files ≡ old.files → new.clock ≡ old.clock → new.rings ≡ old.rings → new.version ≡ old.version → new.symbols ≡ old.symbols → new.alarms ≡ old.alarms → PageBecomes old new s r
+page_becomes old new s r page cores pages jobs frames consoles holders files clock rings version symbols alarms = record {
   core = alike _ _ s (λ k. same_core old.core new.core k cores);
   job = alike _ _ s (λ k. ap (λ t. job_at t k) jobs);
   superiors = ap (λ t. t.superiors) jobs;
@@ -150,6 +178,7 @@ page_becomes old new s r page cores pages jobs frames consoles holders files clo
   holders = holders;
   files = files;
   clock = clock;
+  ringed = ringed_alike old new jobs frames consoles holders clock rings;
   version = version;
   symbols = symbols;
   alarms = alarms;
@@ -162,35 +191,66 @@ some_by None h = cc
 pub reserved_some : (c : Cores) (s : ℕ) → is_some (clear_at c s) ≡ true → IsSome (reserved_at c s)
 reserved_some c s h = some_by (reserved_at c s) h
 
--- consoles
-pub console_becomes : (old new : World) (c : ℕ) (x : Console) → Only (console_at old.consoles.items) (console_at new.consoles.items) c x
-    → new.holders ≡ old.holders → new.core ≡ old.core → new.jobs ≡ old.jobs → new.frames ≡ old.frames → new.files ≡ old.files → new.clock ≡ old.clock → new.version ≡ old.version → new.symbols ≡ old.symbols → new.alarms ≡ old.alarms → ConsoleBecomes old new c x
-console_becomes old new c x consoles holders core jobs frames files clock version symbols alarms = record {
-  consoles = consoles;
-  holders = holders;
-  core = core;
-  jobs = jobs;
-  frames = frames;
-  files = files;
-  clock = clock;
-  version = version;
-  symbols = symbols;
-  alarms = alarms;
+-- a console, its holder or the clock is written, and the slots that it can move are put where they belong
+pub console_becomes : (old mid new : World) (c : ℕ) (x : Console) → ConsoleWritten old mid c x → Resettled mid new (lists_at c) → ConsoleBecomes old new c x
+console_becomes old mid new c x w r = record {
+  consoles = only_along _ _ _ c x w.consoles (λ k. ap (λ l. console_at l.items k) r.rest.consoles);
+  holders = r.rest.holders ∙ w.holders;
+  core = r.rest.core ∙ w.rest.core;
+  jobs = r.rest.jobs ∙ w.rest.jobs;
+  frames = r.rest.frames ∙ w.rest.frames;
+  files = r.rest.files ∙ w.rest.files;
+  clock = r.rest.clock ∙ w.rest.clock;
+  ringed = door_ringed old mid new c (λ k ne. w.consoles.others k ne) (λ k ne. ap (λ l. holder_at l k) w.holders) w.rest r;
+  version = r.rest.version ∙ w.rest.version;
+  symbols = r.rest.symbols ∙ w.rest.symbols;
+  alarms = r.rest.alarms ∙ w.rest.alarms;
 }
 
-pub holder_becomes : (old new : World) (c : ℕ) (h : Option ℕ) → Only (holder_at old.holders) (holder_at new.holders) c h
-    → new.consoles ≡ old.consoles → new.core ≡ old.core → new.jobs ≡ old.jobs → new.frames ≡ old.frames → new.files ≡ old.files → new.clock ≡ old.clock → new.version ≡ old.version → new.symbols ≡ old.symbols → new.alarms ≡ old.alarms → HolderBecomes old new c h
-holder_becomes old new c h holders consoles core jobs frames files clock version symbols alarms = record {
+pub holder_becomes : (old mid new : World) (c : ℕ) (h : Option ℕ) → HolderWritten old mid c h → Resettled mid new (lists_at c) → HolderBecomes old new c h
+holder_becomes old mid new c h w r = record {
+  holders = only_along _ _ _ c h w.holders (λ k. ap (λ l. holder_at l k) r.rest.holders);
+  consoles = r.rest.consoles ∙ w.consoles;
+  core = r.rest.core ∙ w.rest.core;
+  jobs = r.rest.jobs ∙ w.rest.jobs;
+  frames = r.rest.frames ∙ w.rest.frames;
+  files = r.rest.files ∙ w.rest.files;
+  clock = r.rest.clock ∙ w.rest.clock;
+  ringed = door_ringed old mid new c (λ k ne. ap (λ l. console_at l.items k) w.consoles) (λ k ne. w.holders.others k ne) w.rest r;
+  version = r.rest.version ∙ w.rest.version;
+  symbols = r.rest.symbols ∙ w.rest.symbols;
+  alarms = r.rest.alarms ∙ w.rest.alarms;
+}
+
+pub clock_becomes : (old mid new : World) (c : ℕ) → old.clock ≤ c → ClockWritten old mid c → Resettled mid new (1 ∷ []) → ClockBecomes old new c
+clock_becomes old mid new c later w r = record {
+  clock = r.rest.clock ∙ w.clock;
+  core = r.rest.core ∙ w.core;
+  jobs = r.rest.jobs ∙ w.jobs;
+  frames = r.rest.frames ∙ w.frames;
+  consoles = r.rest.consoles ∙ w.consoles;
+  holders = r.rest.holders ∙ w.holders;
+  files = r.rest.files ∙ w.files;
+  ringed = clock_ringed old mid new (c - old.clock) (w.clock ∙ omega arith) w.jobs w.frames w.consoles w.holders w.rings r;
+  version = r.rest.version ∙ w.version;
+  symbols = r.rest.symbols ∙ w.symbols;
+  alarms = r.rest.alarms ∙ w.alarms;
+}
+
+pub console_written : (old new : World) (c : ℕ) (x : Console) → Only (console_at old.consoles.items) (console_at new.consoles.items) c x
+    → new.holders ≡ old.holders → new.core ≡ old.core → new.jobs ≡ old.jobs → new.frames ≡ old.frames → new.files ≡ old.files → new.clock ≡ old.clock → new.version ≡ old.version → new.symbols ≡ old.symbols → new.alarms ≡ old.alarms → new.rings ≡ old.rings → ConsoleWritten old new c x
+console_written old new c x consoles holders core jobs frames files clock version symbols alarms rings = record {
+  consoles = consoles;
+  holders = holders;
+  rest = record { core = core; jobs = jobs; frames = frames; files = files; clock = clock; rings = rings; version = version; symbols = symbols; alarms = alarms };
+}
+
+pub holder_written : (old new : World) (c : ℕ) (h : Option ℕ) → Only (holder_at old.holders) (holder_at new.holders) c h
+    → new.consoles ≡ old.consoles → new.core ≡ old.core → new.jobs ≡ old.jobs → new.frames ≡ old.frames → new.files ≡ old.files → new.clock ≡ old.clock → new.version ≡ old.version → new.symbols ≡ old.symbols → new.alarms ≡ old.alarms → new.rings ≡ old.rings → HolderWritten old new c h
+holder_written old new c h holders consoles core jobs frames files clock version symbols alarms rings = record {
   holders = holders;
   consoles = consoles;
-  core = core;
-  jobs = jobs;
-  frames = frames;
-  files = files;
-  clock = clock;
-  version = version;
-  symbols = symbols;
-  alarms = alarms;
+  rest = record { core = core; jobs = jobs; frames = frames; files = files; clock = clock; rings = rings; version = version; symbols = symbols; alarms = alarms };
 }
 
 pub rest_is : (bs : List ℕ) → drop 1 bs ≡ rest_of bs

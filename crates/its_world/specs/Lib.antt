@@ -3,3 +3,5 @@ pub mod Tidy
 pub mod Storage
 pub mod Made
 pub mod Mapped
+pub mod Rings
+pub mod Filed

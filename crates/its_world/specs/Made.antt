@@ -15,6 +15,7 @@ pub record JobMade (old new : World) (s u n : ℕ) (above console : Option ℕ) 
   pub holders : new.holders ≡ old.holders
   pub files : new.files ≡ old.files
   pub clock : new.clock ≡ old.clock
+  pub rings : new.rings ≡ old.rings
   pub version : new.version ≡ old.version
   pub symbols : new.symbols ≡ old.symbols
   pub alarms : new.alarms ≡ old.alarms

@@ -18,6 +18,7 @@ pub record PageMapped (old new : World) (s t k : ℕ) (c : Core) : Type 0 where
   pub holders : new.holders ≡ old.holders
   pub files : new.files ≡ old.files
   pub clock : new.clock ≡ old.clock
+  pub rings : new.rings ≡ old.rings
   pub version : new.version ≡ old.version
   pub symbols : new.symbols ≡ old.symbols
   pub alarms : new.alarms ≡ old.alarms

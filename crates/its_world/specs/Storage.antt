@@ -12,6 +12,7 @@ use Rattle.its_core.specs.Cores.{core_at, clear_at}
 use Rattle.its_jobs.specs.Table.{job_at}
 use Rattle.its_files.specs.Files.{Store}
 use Rattle.its_world.specs.World.{bare, frame_at}
+use Rattle.its_world.specs.Filed.{Ringed}
 use Rattle.its_world.specs.Tidy.{channel_at}
 use Rattle.its_world.specs.declared.world.World.{World}
 
@@ -70,6 +71,7 @@ pub record ChannelBecomes (old new : World) (s n : ℕ) (x : Channel) (t : Store
   pub symbols : new.symbols ≡ old.symbols
   pub alarms : new.alarms ≡ old.alarms
   pub files : new.files ≡ t
+  pub ringed : Ringed old → Ringed new
 
 -- of the world only the store is another: jobs, cores, the frames of their pages and all else are as they were
 pub record OnlyStore (old new : World) (t : Store) : Type 0 where
@@ -83,3 +85,4 @@ pub record OnlyStore (old new : World) (t : Store) : Type 0 where
   pub symbols : new.symbols ≡ old.symbols
   pub alarms : new.alarms ≡ old.alarms
   pub files : new.files ≡ t
+  pub rings : new.rings ≡ old.rings

@@ -11,6 +11,7 @@ use Rattle.its_jobs.specs.Table.{Table, job_at}
 use Rattle.its_files.specs.Files.{Store, entry_at, readers_at, is_marked}
 use Rattle.its_files.specs.declared.entry.Entry.{Entry}
 use Rattle.its_files.specs.declared.entry.Entry.TheVariants.{File, Draft}
+use Rattle.its_world.specs.Filed.{Ringed}
 use Rattle.its_plain.specs.OperatorClock.{clock_end}
 use Rattle.its_world.specs.World.{symbols_at}
 use Rattle.its_world.specs.World.{alarm_at}
@@ -56,10 +57,12 @@ pub record Across (s : Store) (t : Table) : Type 0 where
   pub read : (f : ℕ) → tally (reads f) (channel_at t) ≡ readers_at s f
   pub written : (d : ℕ) → tally (writes d) (channel_at t) ≡ writers (entry_at s d) (is_marked s d)
 
--- and the core of a slot without a job is that of no job, and it has no symbols, and such a slot has no alarm; and the clock is below its end
+-- and the core of a slot without a job is that of no job, it has no symbols and no alarm; the clock is below its end; and each
+-- slot stands in the list of those that wait in which it belongs
 pub record Tidy (w : World) : Type 0 where
   pub blank : (k : ℕ) → job_at w.jobs k ≡ None → core_at w.core k ≡ no_core
   pub quiet : (k : ℕ) → job_at w.jobs k ≡ None → alarm_at w.alarms.items k ≡ None
   pub timed : w.clock < clock_end
   pub across : Across w.files w.jobs
+  pub ringed : Ringed w
   pub nameless : (k : ℕ) → job_at w.jobs k ≡ None → symbols_at w.symbols.items k ≡ []

@@ -1,5 +1,5 @@
 -- The state of the stepped machine that a world stands for.
-use Rattle.std.specs.Prelude.{◌≡◌, ℕ, Option, Some, None, List, [], ◌∷◌, ◌++◌, take, drop, replicate, slice_index_or, unwrap_or}
+use Rattle.std.specs.Prelude.{◌≡◌, ◌+◌, ℕ, Option, Some, None, List, [], ◌∷◌, ◌++◌, take, drop, replicate, slice_index_or, unwrap_or}
 use Rattle.std.specs.List.{last_or}
 use Rattle.its_word.specs.Only.{Only, Same}
 use Rattle.its_word.specs.Console.{Console, quiet_console, most_waiting}
@@ -19,6 +19,8 @@ use Rattle.its_frame.specs.declared.frame.Frame.{Frame}
 use Rattle.its_plain.specs.Machine.{Symbol, File, Chan, Shut, TtyIn, TtyOut, Reads, Writes, On, Whole, Machine}
 use Rattle.its_plain.specs.Change.{in_job}
 use Rattle.its_stepped.specs.State.{Part, UnlinkOld, LinkNew, FreeOld, Mark, State}
+pub use Rattle.its_world.specs.Filed.{frame_at, console_at, holder_at}
+use Rattle.its_world.specs.Filed.{Ringed}
 use Rattle.its_world.specs.declared.world.World.{World}
 
 -- what a channel of the plain machine is on, where files and drafts go by their names and words. (Their numbers are the
@@ -52,16 +54,6 @@ alarm_at alarms k = slice_index_or alarms k None
 
 abbrev pub raw_at : Store → Cores → Table → List (Option (ℕ × ℕ)) → ℕ → Option Whole
 raw_at s cores table alarms k = raw_of s (core_at cores k) (superior_at table k) (alarm_at alarms k) (job_at table k)
-
-abbrev pub frame_at : List (Option Frame) → ℕ → Option Frame
-frame_at frames k = slice_index_or frames k None
-
--- nothing waits at a console past the last, and nobody holds it
-abbrev pub console_at : List Console → ℕ → Console
-console_at consoles c = slice_index_or consoles c quiet_console
-
-abbrev pub holder_at : List (Option ℕ) → ℕ → Option ℕ
-holder_at holders c = slice_index_or holders c None
 
 -- the symbols of the job of a slot
 abbrev pub no_symbols : ArrayVec Symbol
@@ -132,7 +124,8 @@ abbrev pub with_frames : World → Frames → World
 with_frames w f = record w { core = record w.core { frames = f } }
 
 -- of the world only slot s changes: its core, its job with the same superior, its frame, and how many quarters of its
--- reserved page are clear. Consoles, their holders, files, alarms, the version and symbols stay, and each page stays in its frame
+-- reserved page are clear. Consoles, their holders, files, alarms, the version and symbols stay, and each page stays in its
+-- frame. Where each slot stood in the list in which it belongs, it does so again
 pub record Becomes (old new : World) (s : ℕ) (c : Core) (j : Option Job) (f : Option Frame) (r : Option ℕ) : Type 0 where
   pub core : Only (core_at old.core) (core_at new.core) s c
   pub job : Only (job_at old.jobs) (job_at new.jobs) s j
@@ -144,6 +137,7 @@ pub record Becomes (old new : World) (s : ℕ) (c : Core) (j : Option Job) (f : 
   pub holders : new.holders ≡ old.holders
   pub files : new.files ≡ old.files
   pub clock : new.clock ≡ old.clock
+  pub ringed : Ringed old → Ringed new
   pub version : new.version ≡ old.version
   pub symbols : new.symbols ≡ old.symbols
   pub alarms : new.alarms ≡ old.alarms
@@ -170,6 +164,7 @@ pub record ConsoleBecomes (old new : World) (c : ℕ) (x : Console) : Type 0 whe
   pub frames : new.frames ≡ old.frames
   pub files : new.files ≡ old.files
   pub clock : new.clock ≡ old.clock
+  pub ringed : Ringed old → Ringed new
   pub version : new.version ≡ old.version
   pub symbols : new.symbols ≡ old.symbols
   pub alarms : new.alarms ≡ old.alarms
@@ -182,6 +177,21 @@ pub record HolderBecomes (old new : World) (c : ℕ) (h : Option ℕ) : Type 0 w
   pub frames : new.frames ≡ old.frames
   pub files : new.files ≡ old.files
   pub clock : new.clock ≡ old.clock
+  pub ringed : Ringed old → Ringed new
+  pub version : new.version ≡ old.version
+  pub symbols : new.symbols ≡ old.symbols
+  pub alarms : new.alarms ≡ old.alarms
+
+-- the clock was set
+pub record ClockBecomes (old new : World) (c : ℕ) : Type 0 where
+  pub clock : new.clock ≡ c
+  pub core : new.core ≡ old.core
+  pub jobs : new.jobs ≡ old.jobs
+  pub frames : new.frames ≡ old.frames
+  pub consoles : new.consoles ≡ old.consoles
+  pub holders : new.holders ≡ old.holders
+  pub files : new.files ≡ old.files
+  pub ringed : Ringed old → Ringed new
   pub version : new.version ≡ old.version
   pub symbols : new.symbols ≡ old.symbols
   pub alarms : new.alarms ≡ old.alarms
@@ -198,6 +208,7 @@ pub record SymbolsBecome (old new : World) (s : ℕ) (ss : List Symbol) : Type 0
   pub clock : new.clock ≡ old.clock
   pub version : new.version ≡ old.version
   pub alarms : new.alarms ≡ old.alarms
+  pub ringed : Ringed old → Ringed new
 
 -- of the world only the version changes, and with it the limit of its jobs
 pub record VersionBecomes (old new : World) (v : ℕ) : Type 0 where
@@ -212,6 +223,7 @@ pub record VersionBecomes (old new : World) (v : ℕ) : Type 0 where
   pub clock : new.clock ≡ old.clock
   pub symbols : new.symbols ≡ old.symbols
   pub alarms : new.alarms ≡ old.alarms
+  pub ringed : Ringed old → Ringed new
 
 -- a console at which a byte was typed, where it has room, and one that a byte was drained from
 abbrev pub typed_at : ℕ → Console → Console
@@ -232,3 +244,4 @@ pub record AlarmBecomes (old new : World) (s : ℕ) (a : Option (ℕ × ℕ)) : 
   pub clock : new.clock ≡ old.clock
   pub version : new.version ≡ old.version
   pub symbols : new.symbols ≡ old.symbols
+  pub ringed : Ringed old → Ringed new

@@ -18,7 +18,6 @@ impl World {
     }
 
     /// Gives a slot another alarm, or none.
-    #[tactic(auto, using(crate::proofs::AlarmLaws::alarm_becomes))]
     pub fn put_alarm(&mut self, slot: u8, alarm: Option<(u64, u64)>)
         requires { slot < slots }
         ensures { AlarmBecomes self.old self.new slot alarm }

@@ -4,6 +4,8 @@
 
 mod alarms;
 mod consoles;
+mod filing;
+mod rings;
 mod storage;
 mod symbols;
 mod world;

@@ -1,9 +1,11 @@
-ghost use Rattle.std.specs.Prelude.{◌≡◌, ◌<◌, ◌≤◌, ◌≢◌, ◌↔◌, ◌/◌, ◌^◌, ℕ, [], ◌∷◌, ◌++◌, vec_len, length, slice_get, slice_index_or, true, false, Some, None, Ok, Err, IfOk, IfErr, OnOk, OnErr, IsTrue, is_some, option_copied};
+ghost use Rattle.std.specs.Prelude.{◌≡◌, ◌<◌, ◌≤◌, ◌≢◌, ◌↔◌, ◌/◌, ◌^◌, ◌+◌, ℕ, [], ◌∷◌, ◌++◌, vec_len, length, slice_get, slice_index_or, true, false, Some, None, Ok, Err, IfOk, IfErr, OnOk, OnErr, IsTrue, is_some, option_copied};
 ghost use Rattle.its_word.specs.Console.{quiet_console, most_waiting};
 ghost use Rattle.its_word.specs.Limits.{slots, limit_of, most_symbols};
+ghost use Rattle.its_world.specs.Rings.{heads};
 
 use super::alarms::no_alarms;
 use super::consoles::{quiet_consoles, type_at};
+use super::rings::HEADS;
 use super::symbols::no_symbols;
 use arrayvec::ArrayVec;
 use its_console::Console;
@@ -11,17 +13,18 @@ use its_core::Core;
 use its_files::Files;
 use its_frame::Frame;
 use its_jobs::Jobs;
+use its_links::Links;
 use its_word::{Job, NoAccess, NoMemory, SLOTS, Word};
 use std::alloc::Global;
 
 /// How many consoles there are.
-const CONSOLES: usize = 8;
+pub(crate) const CONSOLES: usize = 8;
 
 /// The whole state: cores, jobs, for each slot the frame of its call in progress where it is in one, the
 /// consoles, for each of them the slot of the job that holds it, the files and drafts, the clock in thirtieths,
-/// the version of the session text, on which it depends how many jobs there can be, for each slot the symbols of
-/// its job, in the order in which they were kept, and the alarm of its job where it has one: its period and its
-/// next time.
+/// the lists of those that wait, the version of the session text, on which it depends how many jobs there can be,
+/// for each slot the symbols of its job, in the order in which they were kept, and the alarm of its job where it
+/// has one: its period and its next time.
 #[derive(Drop)]
 pub struct World {
     pub core: Core,
@@ -31,6 +34,7 @@ pub struct World {
     pub holders: [Option<u8>; 8],
     pub files: Files,
     pub clock: u64,
+    pub rings: Links,
     pub version: u8,
     pub symbols: Vec<ArrayVec<(Word, u32), 512>>,
     pub alarms: Vec<Option<(u64, u64)>>,
@@ -38,6 +42,8 @@ pub struct World {
     ghost alarm_places: { vec_len alarms ≡ slots },
     ghost slots: { vec_len frames ≡ slots },
     ghost consoles_count: { vec_len consoles ≡ 8 },
+    ghost ring_nodes: { rings.nodes ≡ vec_len frames },
+    ghost ring_lists: { length rings.lists ≡ heads },
     ghost limited: { jobs.limit ≡ limit_of version },
     ghost numbered: { (1 ≤ version) × (version ≤ 2) },
 }
@@ -46,9 +52,10 @@ impl World {
     ghost use Rattle.its_core.specs.Cores.{core_at, clear_at, IsEmpty};
     ghost use Rattle.its_jobs.specs.Table.{job_at, superior_at, NoJobs};
     ghost use Rattle.its_word.specs.Core.{store, can_store, put as put_at, page_of};
-    ghost use Rattle.its_world.specs.World.{frame_at, console_at, holder_at, alarm_at, CoreBecomes, JobBecomes, FrameBecomes, PageBecomes, ConsoleBecomes, HolderBecomes, symbols_at, SymbolsBecome, VersionBecomes, typed_at, drained_at};
+    ghost use Rattle.its_world.specs.World.{frame_at, console_at, holder_at, alarm_at, CoreBecomes, JobBecomes, FrameBecomes, PageBecomes, ConsoleBecomes, HolderBecomes, ClockBecomes, symbols_at, SymbolsBecome, VersionBecomes, typed_at, drained_at};
     ghost use Rattle.its_plain.specs.Change.{taken_from, put_to};
     ghost use Rattle.its_files.specs.Files.{no_files};
+    ghost use Rattle.its_world.specs.Filed.{Ringed, SlotWritten, ConsoleWritten, HolderWritten, ClockWritten};
 
     /// The world at the start of a session: no job, no page, no frame, nothing that waits at a console, no
     /// holder of one, clock 0, version 1, no symbol, no alarm. Takes all the memory that it needs.
@@ -61,6 +68,7 @@ impl World {
         ensures holders { IfOk result (λ w. (c : ℕ) → holder_at w.holders c ≡ None) }
         ensures files { IfOk result (λ w. w.files ≡ no_files) }
         ensures clock { IfOk result (λ w. w.clock ≡ 0) }
+        ensures ringed { IfOk result Ringed }
         ensures version { IfOk result (λ w. w.version ≡ 1) }
         ensures symbols { IfOk result (λ w. (k : ℕ) → symbols_at w.symbols.items k ≡ []) }
         ensures alarms { IfOk result (λ w. (k : ℕ) → alarm_at w.alarms.items k ≡ None) }
@@ -70,6 +78,7 @@ impl World {
         let frames = no_frames(alloc, SLOTS)?;
         let consoles = quiet_consoles(alloc, CONSOLES)?;
         let files = Files::open(alloc)?;
+        let rings = Links::open(alloc, SLOTS as u32, HEADS)?;
         let symbols = no_symbols(alloc, SLOTS)?;
         let alarms = no_alarms(alloc, SLOTS)?;
         Ok(World {
@@ -80,6 +89,7 @@ impl World {
             holders: [None; CONSOLES],
             files,
             clock: 0,
+            rings,
             version: 1,
             symbols,
             alarms,
@@ -94,16 +104,26 @@ impl World {
         self.jobs.job(slot).copied()
     }
 
+    /// Writes the registers of a slot's job, which stays where it stands among those that wait.
+    #[tactic(auto, using(crate::proofs::WorldLaws::job_written))]
+    fn write_registers(&mut self, slot: u8, job: Job)
+        requires slot { slot < slots }
+        requires some { is_some (job_at self.old.jobs slot) ≡ true }
+        ensures { SlotWritten self.old self.new slot (Some job) (frame_at self.old.frames.items slot) }
+    {
+        if let Some(j) = self.jobs.job_mut(slot) {
+            *j = job;
+        }
+    }
+
     /// Writes the registers of a slot's job.
-    #[tactic(auto, using(crate::proofs::WorldLaws::job_becomes))]
     pub fn put_registers(&mut self, slot: u8, job: Job)
         requires slot { slot < slots }
         requires some { is_some (job_at self.old.jobs slot) ≡ true }
         ensures { JobBecomes self.old self.new slot job }
     {
-        if let Some(j) = self.jobs.job_mut(slot) {
-            *j = job;
-        }
+        self.write_registers(slot, job);
+        self.refile(slot);
     }
 
     /// Stores a word of a slot: Absent or ReadOnly where its page is so.
@@ -154,23 +174,43 @@ impl World {
         self.frames[usize::from(slot)].is_some()
     }
 
+    /// Takes the frame of a slot, which stays where it stands among those that wait.
+    #[tactic(auto, using(crate::proofs::WorldLaws::frame_written))]
+    fn lift_frame(&mut self, slot: u8) -> Option<Frame>
+        requires { slot < slots }
+        ensures frame { result ≡ frame_at self.old.frames.items slot }
+        ensures written { SlotWritten self.old self.new slot (job_at self.old.jobs slot) None }
+    {
+        self.frames[usize::from(slot)].take()
+    }
+
     /// Takes the frame of a slot out of the world, which is then without it.
-    #[tactic(auto, using(crate::proofs::WorldLaws::frame_becomes))]
     pub fn take_frame(&mut self, slot: u8) -> Option<Frame>
         requires { slot < slots }
         ensures frame { result ≡ frame_at self.old.frames.items slot }
         ensures taken { FrameBecomes self.old self.new slot None }
     {
-        self.frames[usize::from(slot)].take()
+        let frame = self.lift_frame(slot);
+        self.refile(slot);
+        frame
+    }
+
+    /// Writes the frame of a slot, which stays where it stands among those that wait.
+    #[tactic(auto, using(crate::proofs::WorldLaws::frame_written))]
+    fn write_frame(&mut self, slot: u8, frame: Frame)
+        requires { slot < slots }
+        ensures { SlotWritten self.old self.new slot (job_at self.old.jobs slot) (Some frame) }
+    {
+        self.frames[usize::from(slot)] = Some(frame);
     }
 
     /// Puts a frame in the place of a slot.
-    #[tactic(auto, using(crate::proofs::WorldLaws::frame_becomes))]
     pub fn put_frame(&mut self, slot: u8, frame: Frame)
         requires { slot < slots }
         ensures { FrameBecomes self.old self.new slot (Some frame) }
     {
-        self.frames[usize::from(slot)] = Some(frame);
+        self.write_frame(slot, frame);
+        self.refile(slot);
     }
 
     /// A byte is typed at a console. False where 64 typed bytes wait; the byte is then lost.
@@ -180,15 +220,39 @@ impl World {
         ensures kept { IsTrue result ↔ (length (console_at self.old.consoles.items console).input < most_waiting) }
         ensures typed { ConsoleBecomes self.old self.new console (typed_at b (console_at self.old.consoles.items console)) }
     {
+        let kept = self.write_typed(console, b);
+        self.resettle(console);
+        kept
+    }
+
+    /// Types a byte; those that wait stay where they stand.
+    #[tactic(auto, using(crate::proofs::WorldLaws::console_written))]
+    fn write_typed(&mut self, console: u8, b: u8) -> bool
+        requires { console < 8 }
+        ensures kept { IsTrue result ↔ (length (console_at self.old.consoles.items console).input < most_waiting) }
+        ensures typed { ConsoleWritten self.old self.new console (typed_at b (console_at self.old.consoles.items console)) }
+    {
         type_at(&mut self.consoles[usize::from(console)], b)
     }
 
     /// Takes the typed byte that has waited longest at a console; None where none waits.
-    #[tactic(auto, using(crate::proofs::WorldLaws::console_becomes, crate::proofs::WorldLaws::rest_is))]
+    #[tactic(auto, using(crate::proofs::WorldLaws::console_becomes))]
     pub fn take(&mut self, console: u8) -> Option<u8>
         requires { console < 8 }
         ensures first { result ≡ slice_get (console_at self.old.consoles.items console).input 0 }
         ensures rest { ConsoleBecomes self.old self.new console (taken_from (console_at self.old.consoles.items console)) }
+    {
+        let byte = self.write_taken(console);
+        self.resettle(console);
+        byte
+    }
+
+    /// Takes a byte; those that wait stay where they stand.
+    #[tactic(auto, using(crate::proofs::WorldLaws::console_written, crate::proofs::WorldLaws::rest_is))]
+    fn write_taken(&mut self, console: u8) -> Option<u8>
+        requires { console < 8 }
+        ensures first { result ≡ slice_get (console_at self.old.consoles.items console).input 0 }
+        ensures rest { ConsoleWritten self.old self.new console (taken_from (console_at self.old.consoles.items console)) }
     {
         self.consoles[usize::from(console)].take()
     }
@@ -201,6 +265,22 @@ impl World {
         ensures put { IsTrue result → ConsoleBecomes self.old self.new console (put_to b (console_at self.old.consoles.items console)) }
         ensures same { result ≡ false → self.new ≡ self.old }
     {
+        if self.write_put(console, b) {
+            self.resettle(console);
+            true
+        } else {
+            false
+        }
+    }
+
+    /// Puts a byte out; those that wait stay where they stand.
+    #[tactic(auto, using(crate::proofs::WorldLaws::console_written))]
+    fn write_put(&mut self, console: u8, b: u8) -> bool
+        requires { console < 8 }
+        ensures kept { IsTrue result ↔ (length (console_at self.old.consoles.items console).output < most_waiting) }
+        ensures put { IsTrue result → ConsoleWritten self.old self.new console (put_to b (console_at self.old.consoles.items console)) }
+        ensures same { result ≡ false → self.new ≡ self.old }
+    {
         self.consoles[usize::from(console)].put(b)
     }
 
@@ -211,11 +291,22 @@ impl World {
         ensures first { result ≡ slice_get (console_at self.old.consoles.items console).output 0 }
         ensures rest { ConsoleBecomes self.old self.new console (drained_at (console_at self.old.consoles.items console)) }
     {
+        let byte = self.write_drained(console);
+        self.resettle(console);
+        byte
+    }
+
+    /// Drains a byte; those that wait stay where they stand.
+    #[tactic(auto, using(crate::proofs::WorldLaws::console_written))]
+    fn write_drained(&mut self, console: u8) -> Option<u8>
+        requires { console < 8 }
+        ensures first { result ≡ slice_get (console_at self.old.consoles.items console).output 0 }
+        ensures rest { ConsoleWritten self.old self.new console (drained_at (console_at self.old.consoles.items console)) }
+    {
         self.consoles[usize::from(console)].drain()
     }
 
     /// Keeps a symbol of a slot's job, the last; there is room for it.
-    #[tactic(auto, using(crate::proofs::SymbolLaws::list_here))]
     pub fn keep_symbol(&mut self, slot: u8, name: Word, a: u32)
         requires slot { slot < slots }
         requires room { length (symbols_at self.old.symbols.items slot) < most_symbols }
@@ -240,7 +331,33 @@ impl World {
         requires { console < 8 }
         ensures { HolderBecomes self.old self.new console holder }
     {
+        self.write_holder(console, holder);
+        self.resettle(console);
+    }
+
+    /// Writes the holder of a console; those that wait stay where they stand.
+    #[tactic(auto, using(crate::proofs::WorldLaws::holder_written))]
+    fn write_holder(&mut self, console: u8, holder: Option<u8>)
+        requires { console < 8 }
+        ensures { HolderWritten self.old self.new console holder }
+    {
         self.holders[usize::from(console)] = holder;
+    }
+
+    /// Sets the clock to a later time. A sleeper whose time has come leaves the list of those that wait for a time.
+    pub fn set_clock(&mut self, clock: u64)
+        requires { self.old.clock ≤ clock }
+        ensures { ClockBecomes self.old self.new clock }
+    {
+        self.write_clock(clock);
+        self.resettle_clock();
+    }
+
+    /// Writes the clock; those that wait stay where they stand.
+    fn write_clock(&mut self, clock: u64)
+        ensures { ClockWritten self.old self.new clock }
+    {
+        self.clock = clock;
     }
 }
 

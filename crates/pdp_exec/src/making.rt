@@ -104,9 +104,9 @@ fn leave(job: &mut Job, plan: &Draft)
     ensures registers { job.new ≡ left_by job.old plan.now }
     ensures pc { job.new.pc < 2 ^ 18 }
 {
-    job.pc = plan.pc() % ADDRESSES;
     job.flags = plan.flags() & NAMED_FLAGS;
     job.pend1 = job.pend1 | plan.pending();
+    plan.set_pc(job);
 }
 
 /// Does what a plan says, or what it cannot.

@@ -1,10 +1,10 @@
 //! What an instruction that completes does.
-ghost use Rattle.std.specs.Prelude.{◌≡◌, ℕ, ◌+◌, ◌<◌, ◌^◌};
+ghost use Rattle.std.specs.Prelude.{◌≡◌, ℕ, ◌+◌, ◌<◌, ◌%◌, ◌^◌, if◌then◌else◌};
 ghost use Rattle.its_plain.specs.UnitPlan.{Fits, completes, is_on, jump as jump_of, next as next_of, skip as skip_of, to as to_place, to_ac_but_0, without as flags_without};
 ghost use Rattle.pdp_exec.specs.Stores.{list_of};
 
 use super::stores::{Stores, none, one};
-use its_word::{BYTE_HALF, Context, Store, Word};
+use its_word::{ADDRESSES, BYTE_HALF, Context, Job, Store, Word};
 use std::marker::Model;
 
 /// What a unit does: its stores, the PC and the flags after it, and the bits of pending word 1 that it
@@ -13,17 +13,19 @@ use std::marker::Model;
 pub struct Draft {
     stores: Stores,
     pc: u32,
+    far: Option<u32>,
     flags: u32,
     pending: Word,
 }
 
 impl Model for Draft {
     ghost use Rattle.its_word.specs.declared.plan.Plan.{Plan};
+    ghost use Rattle.std.specs.Prelude.{unwrap_or};
     ghost use Rattle.pdp_exec.specs.Stores.{list_of};
 
     ghost Value = { Plan };
 
-    ghost view = { λ d. record { stores = record { items = list_of d.stores }; pc = d.pc; flags = d.flags; pending = d.pending } };
+    ghost view = { λ d. record { stores = record { items = list_of d.stores }; pc = unwrap_or d.far d.pc; flags = d.flags; pending = d.pending } };
 }
 
 impl Draft {
@@ -34,11 +36,15 @@ impl Draft {
         self.stores
     }
 
-    /// The PC after it.
-    pub fn pc(&self) -> u32
-        ensures { result ≡ self.now.pc }
+    /// Sets the PC of registers to the one after it.
+    #[inline(always)]
+    pub fn set_pc(&self, job: &mut Job)
+        ensures { job.new ≡ record job.old { pc = self.now.pc % 2 ^ 18 } }
     {
-        self.pc
+        match self.far {
+            Some(a) => jump_to(job, a),
+            None => job.pc = self.pc % ADDRESSES,
+        }
     }
 
     /// The flags after it.
@@ -54,6 +60,15 @@ impl Draft {
     {
         self.pending
     }
+}
+
+/// Sets the PC of registers to a place. It is not inlined, so that the choice between this place and the next one stays a
+/// branch, which the processor foresees: it would wait for a value that is chosen.
+#[inline(never)]
+fn jump_to(job: &mut Job, a: u32)
+    ensures { job.new ≡ record job.old { pc = a % 2 ^ 18 } }
+{
+    job.pc = a % ADDRESSES;
 }
 
 /// A word at a place.
@@ -72,6 +87,22 @@ pub fn complete(x: &Context, stores: Stores, set: u32, pc: u32) -> Draft
     Draft {
         stores,
         pc,
+        far: None,
+        flags: without(x.flags, BYTE_HALF) | set,
+        pending: Word::ZERO,
+    }
+}
+
+/// The same, to another place where a jump or a skip is taken.
+#[inline(always)]
+fn complete_or(x: &Context, stores: Stores, set: u32, taken: bool, far: u32) -> Draft
+    requires { Fits x.now }
+    ensures { result ≡ completes x.now (list_of stores) set (if taken then far else x.now.pc + 1) }
+{
+    Draft {
+        stores,
+        pc: x.pc + 1,
+        far: if taken { Some(far) } else { None },
         flags: without(x.flags, BYTE_HALF) | set,
         pending: Word::ZERO,
     }
@@ -92,7 +123,7 @@ pub fn jump(x: &Context, stores: Stores, set: u32, taken: bool) -> Draft
     requires { Fits x.now }
     ensures { result ≡ jump_of x.now (list_of stores) set taken }
 {
-    complete(x, stores, set, if taken { x.e } else { x.pc + 1 })
+    complete_or(x, stores, set, taken, x.e)
 }
 
 /// The same, over the next instruction where a skip is taken.
@@ -101,7 +132,7 @@ pub fn skip(x: &Context, stores: Stores, set: u32, taken: bool) -> Draft
     requires { Fits x.now }
     ensures { result ≡ skip_of x.now (list_of stores) set taken }
 {
-    complete(x, stores, set, if taken { x.pc + 2 } else { x.pc + 1 })
+    complete_or(x, stores, set, taken, x.pc + 2)
 }
 
 /// A plan that stays at the instruction, with these flags.
@@ -112,6 +143,7 @@ pub fn stay(x: &Context, stores: Stores, flags: u32) -> Draft
     Draft {
         stores,
         pc: x.pc,
+        far: None,
         flags,
         pending: Word::ZERO,
     }

@@ -21,7 +21,7 @@ fn site(channel: Option<u8>) -> Site {
 }
 
 /// A call of this name with inputs from these places.
-fn ask(rt: &impl Abort, name: CallName, places: &[Option<u32>]) -> Ask {
+fn ask(rt: &impl Abort, name: CallName, places: [Option<u32>; 3]) -> Ask {
     let mut ask = Ask {
         name: name.word(),
         fail: 0,
@@ -35,7 +35,7 @@ fn ask(rt: &impl Abort, name: CallName, places: &[Option<u32>]) -> Ask {
     for place in places {
         let operand = Operand {
             value: Word::new(0o777),
-            place: *place,
+            place,
         };
         assert!(rt; ask.inputs.try_push(operand).is_ok());
     }
@@ -205,7 +205,7 @@ fn frames(rt: HostRuntime) -> Result<(), Fail> {
             None,
         ),
     ] {
-        let frame = frame(state, channel, ask(&rt, name, &places));
+        let frame = frame(state, channel, ask(&rt, name, places));
         let wanted = Peek {
             state,
             name: want.map(CallName::word),

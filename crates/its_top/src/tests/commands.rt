@@ -1,10 +1,10 @@
-//! The commands of the program: which words are one, and what `check` and `gen` write.
+//! The commands of the program: which words are one, and what `check`, `gen` and `asm` write.
 
 use super::super::Status;
 use super::{FIRST, tried};
 use std::test::Fail;
 
-const USAGE: &str = "usage: its run | its check | its gen N\n";
+const USAGE: &str = "usage: its run | its check | its gen N | its asm\n";
 
 /// Words that are no command, a row each; the first has none, and the second one without a letter.
 static NO_COMMANDS: &str = "
@@ -12,6 +12,7 @@ static NO_COMMANDS: &str = "
  run x
  run 1
  check 1
+ asm 1
  -run
  -- run
  run -
@@ -62,6 +63,34 @@ TYPE 10 200
 100/ 2010= ? 3 CUT
 ";
 
+/// Assembly texts, and what is written of each.
+static TEXTS: &str = "JOB U J -
+LOC 100
+MOVEI 1,5
+MOVEM 1,X
+.BREAK 16,
+X = 200
+GO 100
+=
+VERSION 2
+LOAD U J -
+000100/ 201040000005 202040000200 045700000000
+SYM X 000200
+GO 000100
+END
+%JOB U J -
+LOC 100
+MOVEI 1,5
+MOVEM 1,Y
+.BREAK 16,
+X = 200
+GO 100
+=
+? 4 UNDEF
+%=
+? 1 CUT
+";
+
 #[test]
 fn no_commands(rt: HostRuntime) -> Result<(), Fail> {
     for words in NO_COMMANDS.split('\n') {
@@ -88,6 +117,19 @@ fn commands(rt: HostRuntime) -> Result<(), Fail> {
         assert_eq!(rt; got.status == Status::Done, !refused, "at {row}");
         let reads = !words.starts_with(" gen");
         assert_eq!(rt; got.is_left, !reads || session.is_empty(), "at {row}");
+    }
+    Ok(())
+}
+
+#[test]
+fn texts(rt: HostRuntime) -> Result<(), Fail> {
+    for row in TEXTS.split('%') {
+        let (text, wanted) = row.split_once("=\n").expect(&rt, "what is written");
+        let got = tried(rt.alloc(), " asm", text.as_bytes(), 512, (&[], &[]))?;
+        assert_eq!(rt; got.wrote.as_slice(), wanted.as_bytes(), "at {row}");
+        let refused = wanted.starts_with("?");
+        assert_eq!(rt; got.status == Status::Refused, refused, "at {row}");
+        assert_eq!(rt; got.status == Status::Done, !refused, "at {row}");
     }
     Ok(())
 }

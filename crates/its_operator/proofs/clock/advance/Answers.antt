@@ -1,10 +1,13 @@
-use Rattle.std.proofs.Common.{sym, subst, ℕ}
-use Rattle.std.specs.Prelude.{IfSome, Option, List}
+use Rattle.std.proofs.Common.{sym, subst, refl}
+use Rattle.std.specs.Prelude.{IfSome}
 use Rattle.its_world.specs.World.{alarm_at}
 use Rattle.its_operator.specs.Rung.{Periodic}
-use Rattle.its_operator.proofs.RungLaws.{kept_periods}
+use Rattle.its_operator.proofs.RungLaws.{kept_periods, clock_still}
 use Rattle.its_operator.proofs.ClockLaws.{advanced, clock_done, clock_plain, clock_kept, clock_refused}
 use Rattle.its_operator.proofs.clock.advance.Goals as goal
+
+pub set_clock-requires-clause-later : goal.set_clock-requires-clause-later
+set_clock-requires-clause-later c = clock_still c.args.w.now c.unwind_due.new.w _ c.args.n c.unwind_due.ensures.same refl
 
 pub ring-requires-clause-periods : goal.ring-requires-clause-periods
 ring-requires-clause-periods c = λ k.

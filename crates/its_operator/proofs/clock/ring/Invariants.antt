@@ -1,6 +1,5 @@
 use Rattle.std.proofs.Common.{◌≡◌, ℕ}
 use Rattle.std.specs.Prelude.{IfSome}
-use Rattle.its_stepped.specs.State.{State}
 use Rattle.its_world.specs.Tidy.{Tidy}
 use Rattle.its_world.specs.World.{alarm_at, state_of}
 use Rattle.its_operator.specs.Rung.{Periodic, RangBelow}

@@ -4,11 +4,11 @@ use Rattle.its_top.proofs.StartLaws.{found_start, start_over}
 use Rattle.its_top.proofs.run.run_items.Goals as goal
 
 pub returns-in_default-clause-ended : goal.returns-in_default-clause-ended
-returns-in_default-clause-ended g c = session_fault _ _ _ _ _ c.next.new.self _ _ _ _ _ c.loop-found.invariant.so_far c.in_default.ensures.finds
+returns-in_default-clause-ended g c = session_fault _ _ _ _ _ _ c.next.new.self _ _ _ _ _ c.loop-found.invariant.so_far c.in_default.ensures.finds
 
 pub returns-then-not-goes_on-clause-ended : goal.returns-then-not-goes_on-clause-ended
 returns-then-not-goes_on-clause-ended g c =
-    session_over _ _ c.in-Ok.found _ _ _ _ _ _ c.loop-found.items c.next.new.self _ _ _ _ _ _ c.status.ensures (sym c.goes_on.ensures ∙ c.if-not-goes_on.true) (sym c.in-Ok.ensures.number)
+    session_over _ _ c.in-Ok.found _ _ _ _ _ _ _ _ c.loop-found.items c.next.new.self _ _ _ _ _ _ c.status.ensures (sym c.goes_on.ensures ∙ c.if-not-goes_on.true) (sym c.in-Ok.ensures.number)
     c.in-Ok.ensures.ready c.loop-found.invariant.so_far c.in-Ok.ensures.finds c.take-turn.ensures.takes
 
 pub take-turn-requires-clause-start : goal.take-turn-requires-clause-start
@@ -18,10 +18,11 @@ pub loop-found-preserved : goal.loop-found-preserved
 loop-found-preserved g c = record {
   sound = c.take-turn.ensures.sound;
   slot = c.take-turn.ensures.slot;
-  few = c.in-Ok.ensures.few (not_last_by _ _ _ _ _ _ _ _ _ (sym c.goes_on.ensures ∙ c.if-not-goes_on.false) c.take-turn.ensures.takes);
+  last = c.take-turn.ensures.last;
+  few = c.in-Ok.ensures.few (not_last_by _ _ _ _ _ _ _ _ _ _ _ (sym c.goes_on.ensures ∙ c.if-not-goes_on.false) c.take-turn.ensures.takes);
   ready = c.in-Ok.ensures.ready;
-  begun = start_over _ _ c.in-Ok.found _ c.in-Ok.ensures.place (not_last_by _ _ _ _ _ _ _ _ _ (sym c.goes_on.ensures ∙ c.if-not-goes_on.false) c.take-turn.ensures.takes);
-  so_far = so_next _ c.in-Ok.found _ _ _ _ _ _ c.loop-found.items c.next.new.self _ _ _ _ _ _ (sym c.goes_on.ensures ∙ c.if-not-goes_on.false) (sym c.in-Ok.ensures.number)
+  begun = start_over _ _ c.in-Ok.found _ c.in-Ok.ensures.place (not_last_by _ _ _ _ _ _ _ _ _ _ _ (sym c.goes_on.ensures ∙ c.if-not-goes_on.false) c.take-turn.ensures.takes);
+  so_far = so_next _ c.in-Ok.found _ _ _ _ _ _ _ _ c.loop-found.items c.next.new.self _ _ _ _ _ _ (sym c.goes_on.ensures ∙ c.if-not-goes_on.false) (sym c.in-Ok.ensures.number)
       c.loop-found.invariant.so_far c.in-Ok.ensures.finds c.take-turn.ensures.takes;
   read_unfailed = c.in-Ok.ensures.cause.kept ∙ c.loop-found.invariant.read_unfailed;
   write_unfailed = c.take-turn.ensures.unfailed (not_fault _ (sym c.goes_on.ensures ∙ c.if-not-goes_on.false)) ∙ c.loop-found.invariant.write_unfailed;

@@ -15,10 +15,11 @@ abbrev pub invariant-loop-found : goal.invariant-loop-found
 invariant-loop-found g l = record {
   sound : Kept l.m.world;
   slot : l.p.slot < slots;
+  last : l.last < slots;
   few : l.items.lines.number ≤ most_lines;
   ready : Ready l.items.lines (g.S.Source.left l.src);
   begun : l.items.place ≡ places.First → state_of l.m.world ≡ no_state no_machine;
-  so_far : SoFar l.items (l.items.lines.number + 1) (state_of l.m.world) (block_of l.p.slot l.p.file) (g.S.Source.left l.fn.src) (g.S.Source.left l.src) (g.K.Sink.written l.fn.out) (g.K.Sink.written l.out);
+  so_far : SoFar l.items (l.items.lines.number + 1) (state_of l.m.world) (block_of l.p.slot l.p.file) l.last (g.S.Source.left l.fn.src) (g.S.Source.left l.src) (g.K.Sink.written l.fn.out) (g.K.Sink.written l.out);
   read_unfailed : g.S.Source.faults l.src ≡ g.S.Source.faults l.fn.src;
   write_unfailed : g.K.Sink.faults l.out ≡ g.K.Sink.faults l.fn.out;
 }

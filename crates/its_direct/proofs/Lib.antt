@@ -1,0 +1,10 @@
+pub mod StartLaws
+pub mod SlotLaws
+pub mod TouchLaws
+pub mod UserLaws
+pub mod WordLaws
+pub mod LineLaws
+pub mod LoadLaws
+pub mod AskLaws
+pub mod ConsoleLaws
+pub mod SettingLaws

@@ -1,0 +1,82 @@
+-- The decoding of a call in one pass: what each part reads is noted as it is read, and the arguments are sorted as they are found.
+use Rattle.std.specs.Prelude.{◌≡◌, ℕ, ◌+◌, ◌++◌, [], ◌∷◌, List, Option, Some, None, Result, Ok, Err, length, slice_get}
+use Rattle.std.specs.List.{cons_option, filter_map}
+use Rattle.its_word.specs.ArrayVec.{ArrayVec}
+use Rattle.its_word.specs.Core.{Core}
+use Rattle.its_word.specs.declared.access.Fault.{Fault}
+use Rattle.its_word.specs.declared.calls.Arg.{Arg}
+use Rattle.its_word.specs.declared.calls.Arg.TheVariants.{Input, Output, ErrorAt, Control}
+use Rattle.its_word.specs.declared.calls.Ask.{Ask}
+use Rattle.its_plain.specs.Decode.{input_of, output_of, error_at_of, control_of, operand_of, value_of, place_of, row_named, error_by, exceeds, name_of, words_of}
+use Rattle.its_plain.specs.Traced.{Traced}
+use Rattle.its_direct.specs.declared.sorting.Parts.{Parts}
+
+-- a part of a decoding is answered so, and the places that it reads are noted behind those noted before
+pub record Reads {X : Type 0} (t : Traced X) (r : Result X Fault) (old new : List ℕ) : Type 0 where
+  pub answer : r ≡ t.answer
+  pub places : new ≡ old ++ t.reads
+
+-- arguments by what they are: inputs, outputs, how many error addresses and the first, how many controls and the first, and the places of
+-- the words of inputs and controls
+unfoldable pub parts_of : Core → List Arg → Parts
+parts_of c xs = record {
+  inputs = record { items = filter_map (input_of c) xs };
+  outputs = record { items = filter_map output_of xs };
+  errors = length (filter_map error_at_of xs);
+  error = slice_get (filter_map error_at_of xs) 0;
+  controls = length (filter_map (control_of c) xs);
+  control = slice_get (filter_map (control_of c) xs) 0;
+  operand = record { items = filter_map operand_of xs };
+}
+
+-- those of no argument
+abbrev pub no_parts : Parts
+no_parts = record {
+  inputs = record { items = [] };
+  outputs = record { items = [] };
+  errors = 0;
+  error = None;
+  controls = 0;
+  control = None;
+  operand = record { items = [] };
+}
+
+abbrev pub first_of : Option ℕ → ℕ → Option ℕ
+first_of (Some x) y = Some x
+first_of None y = Some y
+
+-- one more
+abbrev pub with_argument : Core → Arg → Parts → Parts
+with_argument c (Input s) p = record p {
+  inputs = record { items = p.inputs.items ++ record { value = value_of c s; place = place_of s } ∷ [] };
+  operand = record { items = p.operand.items ++ cons_option (place_of s) [] };
+}
+with_argument c (Output a) p = record p { outputs = record { items = p.outputs.items ++ a ∷ [] } }
+with_argument c (ErrorAt a) p = record p { errors = p.errors + 1; error = first_of p.error a }
+with_argument c (Control s) p = record p {
+  controls = p.controls + 1;
+  control = first_of p.control (value_of c s);
+  operand = record { items = p.operand.items ++ cons_option (place_of s) [] };
+}
+
+abbrev pub sorted_by : Core → Result (ArrayVec Arg) Fault → Result Parts Fault
+sorted_by c (Ok xs) = Ok (parts_of c xs.items)
+sorted_by c (Err f) = Err f
+
+-- arguments are found and sorted so, and the places that are read are noted
+pub record Sorts (c : Core) (t : Traced (ArrayVec Arg)) (r : Result Parts Fault) (old new : List ℕ) : Type 0 where
+  pub answer : r ≡ sorted_by c t.answer
+  pub places : new ≡ old ++ t.reads
+
+-- what is asked with these decode words, in a block with such arguments
+unfoldable pub ask_from : List ℕ → List ℕ → Parts → Ask
+ask_from decode block p = record {
+  name = name_of block;
+  fail = error_by (row_named (name_of block)) (length p.inputs.items) (length p.outputs.items) (exceeds p.errors p.controls (words_of block));
+  inputs = p.inputs;
+  outputs = p.outputs;
+  error = p.error;
+  control = p.control;
+  decode = record { items = decode };
+  operand = p.operand;
+}

@@ -1,0 +1,246 @@
+//! The operator's lines on one job: GO, STOP, CONT, INT, EXAM, STATE and DEPOSIT.
+ghost use Rattle.std.specs.Prelude.{◌≡◌, ◌<◌, ◌≤◌, ◌^◌, Some, None, Err, OnOk, OnErr, IfOk, IfErr, is_some};
+ghost use Rattle.its_word.specs.Limits.{slots};
+ghost use Rattle.its_core.specs.Cores.{core_at};
+ghost use Rattle.its_jobs.specs.Table.{job_at};
+ghost use Rattle.its_plain.specs.Machine.{words_at};
+ghost use Rattle.its_plain.specs.OperatorJobs.{on_registers, started, stopped, continued, interrupted, examined, state_shown, deposited};
+ghost use Rattle.its_direct.specs.Plain.{machine_of, Tidy};
+ghost use Rattle.its_direct.specs.Lines.{reason_of, refusal_of, one_slot, Operates, Looks, Rewritten};
+
+use super::plain::Plain;
+use its_word::{ADDRESSES, FATAL, Job, NoAccess, Refusal, Word};
+
+impl Plain {
+    /// GO: the job of a slot runs from an address, with no flags. NoJob where the slot is empty.
+    #[tactic(auto, using(crate::proofs::LineLaws::go_done, crate::proofs::LineLaws::registers_refused, crate::proofs::LineLaws::kept_placed))]
+    pub fn go(&mut self, slot: u8, a: u32) -> Result<(), Refusal>
+        requires slot { slot < slots }
+        requires address { a < 2 ^ 18 }
+        requires tidy { Tidy self.old }
+        ensures done { OnOk result (Operates self.old self.new slot (on_registers (machine_of self.old) slot (started a))) }
+        ensures refused { IfErr result (λ e. on_registers (machine_of self.old) slot (started a) ≡ Err (reason_of e)) }
+        ensures same { OnErr result (self.new ≡ self.old) }
+        ensures tidy { Tidy self.new }
+    {
+        let Some(job) = self.job(slot) else {
+            return Err(Refusal::NoJob);
+        };
+        let now = started(&job, a);
+        self.rewrite(slot, &job, now);
+        Ok(())
+    }
+
+    /// STOP: the job of a slot is stopped. NoJob where the slot is empty.
+    #[tactic(auto, using(crate::proofs::LineLaws::stop_done, crate::proofs::LineLaws::registers_refused, crate::proofs::LineLaws::kept_placed))]
+    pub fn stop(&mut self, slot: u8) -> Result<(), Refusal>
+        requires slot { slot < slots }
+        requires tidy { Tidy self.old }
+        ensures done { OnOk result (Operates self.old self.new slot (on_registers (machine_of self.old) slot stopped)) }
+        ensures refused { IfErr result (λ e. on_registers (machine_of self.old) slot stopped ≡ Err (reason_of e)) }
+        ensures same { OnErr result (self.new ≡ self.old) }
+        ensures tidy { Tidy self.new }
+    {
+        let Some(job) = self.job(slot) else {
+            return Err(Refusal::NoJob);
+        };
+        let now = stopped(&job);
+        self.rewrite(slot, &job, now);
+        Ok(())
+    }
+
+    /// CONT: the job of a slot runs, with no fatal bit pending. NoJob where the slot is empty.
+    #[tactic(auto, using(crate::proofs::LineLaws::cont_done, crate::proofs::LineLaws::registers_refused, crate::proofs::LineLaws::kept_placed))]
+    pub fn cont(&mut self, slot: u8) -> Result<(), Refusal>
+        requires slot { slot < slots }
+        requires tidy { Tidy self.old }
+        ensures done { OnOk result (Operates self.old self.new slot (on_registers (machine_of self.old) slot continued)) }
+        ensures refused { IfErr result (λ e. on_registers (machine_of self.old) slot continued ≡ Err (reason_of e)) }
+        ensures same { OnErr result (self.new ≡ self.old) }
+        ensures tidy { Tidy self.new }
+    {
+        let Some(job) = self.job(slot) else {
+            return Err(Refusal::NoJob);
+        };
+        let now = continued(&job);
+        self.rewrite(slot, &job, now);
+        Ok(())
+    }
+
+    /// INT: bits are pending in the job of a slot, beside those that are. NoJob where the slot is empty.
+    #[tactic(auto, using(crate::proofs::LineLaws::interrupt_done, crate::proofs::LineLaws::registers_refused, crate::proofs::LineLaws::kept_placed))]
+    pub fn interrupt(&mut self, slot: u8, v: Word, w: Word) -> Result<(), Refusal>
+        requires slot { slot < slots }
+        requires tidy { Tidy self.old }
+        ensures done { OnOk result (Operates self.old self.new slot (on_registers (machine_of self.old) slot (interrupted v w))) }
+        ensures refused { IfErr result (λ e. on_registers (machine_of self.old) slot (interrupted v w) ≡ Err (reason_of e)) }
+        ensures same { OnErr result (self.new ≡ self.old) }
+        ensures tidy { Tidy self.new }
+    {
+        let Some(job) = self.job(slot) else {
+            return Err(Refusal::NoJob);
+        };
+        let now = interrupted(&job, v, w);
+        self.rewrite(slot, &job, now);
+        Ok(())
+    }
+
+    /// STATE: whether the job of a slot can be shown. NoJob where the slot is empty.
+    #[tactic(auto, using(crate::proofs::LineLaws::state_done, crate::proofs::LineLaws::state_refused, crate::proofs::SlotLaws::touched_tidy))]
+    pub fn state(&mut self, slot: u8) -> Result<(), Refusal>
+        requires slot { slot < slots }
+        requires tidy { Tidy self.old }
+        ensures done { OnOk result (Looks self.old self.new slot (state_shown (machine_of self.old) slot)) }
+        ensures refused { IfErr result (λ e. state_shown (machine_of self.old) slot ≡ Err (reason_of e)) }
+        ensures same { OnErr result (self.new ≡ self.old) }
+        ensures tidy { Tidy self.new }
+    {
+        let Some(_job) = self.job(slot) else {
+            return Err(Refusal::NoJob);
+        };
+        self.touch_only(slot);
+        Ok(())
+    }
+
+    /// EXAM: whether n words of a slot, from an address on, can be shown. NoJob where the slot is empty, NoPage where one of
+    /// their pages is absent.
+    #[tactic(auto, using(crate::proofs::LineLaws::exam_done, crate::proofs::LineLaws::exam_absent, crate::proofs::LineLaws::exam_refused, crate::proofs::SlotLaws::touched_tidy))]
+    pub fn exam(&mut self, slot: u8, a: u32, n: u32) -> Result<(), Refusal>
+        requires slot { slot < slots }
+        requires address { a < 2 ^ 18 }
+        requires number { n ≤ 2 ^ 18 }
+        requires tidy { Tidy self.old }
+        ensures done { OnOk result (Looks self.old self.new slot (examined (machine_of self.old) slot a n)) }
+        ensures refused { IfErr result (λ e. examined (machine_of self.old) slot a n ≡ Err (reason_of e)) }
+        ensures same { OnErr result (self.new ≡ self.old) }
+        ensures tidy { Tidy self.new }
+    {
+        let Some(_job) = self.job(slot) else {
+            return Err(Refusal::NoJob);
+        };
+        if self.has_words(slot, a, n) {
+            self.touch_only(slot);
+            Ok(())
+        } else {
+            Err(Refusal::NoPage)
+        }
+    }
+
+    /// DEPOSIT: stores a word of a slot. NoJob where the slot is empty; NoPage where the page is absent, ReadOnly where it is
+    /// so.
+    #[tactic(auto, using(crate::proofs::LineLaws::deposit_done, crate::proofs::LineLaws::deposit_barred, crate::proofs::LineLaws::deposit_refused, crate::proofs::LineLaws::deposit_tidy, crate::proofs::SlotLaws::core_becomes))]
+    pub fn deposit(&mut self, slot: u8, a: u32, w: Word) -> Result<(), Refusal>
+        requires slot { slot < slots }
+        requires address { a < 2 ^ 18 }
+        requires tidy { Tidy self.old }
+        ensures done { OnOk result (Operates self.old self.new slot (deposited (machine_of self.old) slot a w)) }
+        ensures refused { IfErr result (λ e. deposited (machine_of self.old) slot a w ≡ Err (reason_of e)) }
+        ensures same { OnErr result (self.new ≡ self.old) }
+        ensures tidy { Tidy self.new }
+    {
+        let Some(_job) = self.job(slot) else {
+            return Err(Refusal::NoJob);
+        };
+        match self.core.put(slot, a, w) {
+            Ok(()) => {
+                self.touch_only(slot);
+                Ok(())
+            }
+            Err(e) => Err(refusal(e)),
+        }
+    }
+
+    /// Writes the registers of a slot's job, with the channels that it has. The slot is touched.
+    #[tactic(auto, using(crate::proofs::LineLaws::rewritten, crate::proofs::LineLaws::rewritten_tidy))]
+    fn rewrite(&mut self, slot: u8, was: &Job, now: Job)
+        requires slot { slot < slots }
+        requires job { job_at self.old.jobs slot ≡ Some was.now }
+        requires channels { now.channels ≡ was.now.channels }
+        requires pc { now.pc < 2 ^ 18 }
+        requires tidy { Tidy self.old }
+        ensures done { Rewritten self.old self.new slot now }
+        ensures tidy { Tidy self.new }
+    {
+        self.put_job(slot, now);
+        self.touch_only(slot);
+    }
+
+    /// A slot is touched, and no other.
+    pub(crate) fn touch_only(&mut self, slot: u8)
+        requires { slot < slots }
+        ensures { self.new ≡ record self.old { touched = one_slot slot } }
+    {
+        self.touch_none();
+        self.touch(slot);
+    }
+
+    /// Whether the pages of n words of a slot, from an address on, are present.
+    #[tactic(auto, using(crate::proofs::WordLaws::seen_start, crate::proofs::WordLaws::seen_none, crate::proofs::WordLaws::seen_more, crate::proofs::WordLaws::seen_end))]
+    fn has_words(&self, slot: u8, a: u32, n: u32) -> bool
+        requires slot { slot < slots }
+        requires address { a < 2 ^ 18 }
+        requires number { n ≤ 2 ^ 18 }
+        ensures { result ≡ is_some (words_at (core_at self.now.core slot) a n) }
+    {
+        for k in 0..n {
+            if self.core.word(slot, (a + k) % ADDRESSES).is_none() {
+                return false;
+            }
+        }
+        true
+    }
+}
+
+/// Registers from which a job runs at an address, with no flags.
+fn started(job: &Job, a: u32) -> Job
+    ensures { result ≡ started a job.now }
+{
+    Job {
+        pc: a,
+        flags: 0,
+        stopped: false,
+        ..*job
+    }
+}
+
+/// Registers with the stopped mark.
+fn stopped(job: &Job) -> Job
+    ensures { result ≡ stopped job.now }
+{
+    Job {
+        stopped: true,
+        ..*job
+    }
+}
+
+/// Registers without the stopped mark and without a pending fatal bit.
+fn continued(job: &Job) -> Job
+    ensures { result ≡ continued job.now }
+{
+    Job {
+        stopped: false,
+        pend1: job.pend1 & !Word::new(FATAL),
+        ..*job
+    }
+}
+
+/// Registers with more bits pending.
+fn interrupted(job: &Job, v: Word, w: Word) -> Job
+    ensures { result ≡ interrupted v w job.now }
+{
+    Job {
+        pend1: job.pend1 | v,
+        pend2: job.pend2 | w,
+        ..*job
+    }
+}
+
+/// Why the operator cannot have a word.
+fn refusal(e: NoAccess) -> Refusal
+    ensures { result ≡ refusal_of e }
+{
+    match e {
+        NoAccess::Absent => Refusal::NoPage,
+        NoAccess::ReadOnly => Refusal::ReadOnly,
+    }
+}

@@ -1,0 +1,160 @@
+ghost use Rattle.std.specs.Prelude.{◌≡◌, ◌<◌, ◌≤◌, ◌^◌, ℕ, true, false, [], None, Some, IfOk, vec_len, slice_index_or, slice_set, is_some, option_map};
+ghost use Rattle.its_word.specs.Console.{quiet_console};
+ghost use Rattle.its_word.specs.Limits.{slots, limit_of};
+ghost use Rattle.its_parts.specs.Parts.{symbols_at};
+
+use arrayvec::ArrayVec;
+use its_console::Console;
+use its_core::Core;
+use its_files::Files;
+use its_jobs::Jobs;
+use its_word::{Job, NoMemory, SLOTS, Word};
+use std::alloc::Global;
+
+/// How many consoles there are.
+const CONSOLES: usize = 8;
+
+/// Where a line of a session stands: outside any block; in the LOAD block of the job of a slot; or in the FILE block of the
+/// file with a directory and two names.
+#[derive(Clone, Copy, Debug, PartialEq, Eq)]
+pub enum Spot {
+    Plain,
+    Load { slot: u8 },
+    File { names: [Word; 3] },
+}
+
+/// The plain machine: cores, jobs, the consoles and for each of them the slot of the job that holds it, files and drafts, the
+/// clock in thirtieths, for each slot the alarm of its job where it has one (its period and its next time), the version of
+/// the session text, for each slot the symbols of its job, in the order in which they were kept, the place of the next line,
+/// and the slots whose jobs the last step or line disturbed or made.
+#[derive(Drop)]
+pub struct Plain {
+    pub core: Core,
+    pub jobs: Jobs,
+    pub consoles: Vec<Console>,
+    pub holders: [Option<u8>; 8],
+    pub files: Files,
+    pub clock: u64,
+    pub alarms: Vec<Option<(u64, u64)>>,
+    pub version: u8,
+    pub symbols: Vec<ArrayVec<(Word, u32), 512>>,
+    pub place: Spot,
+    pub touched: [bool; 96],
+    ghost consoles_count: { vec_len consoles ≡ 8 },
+    ghost alarm_places: { vec_len alarms ≡ slots },
+    ghost lists: { vec_len symbols ≡ slots },
+    ghost limited: { jobs.limit ≡ limit_of version },
+    ghost numbered: { (1 ≤ version) × (version ≤ 2) },
+}
+
+impl Plain {
+    ghost use Rattle.its_core.specs.Cores.{core_at, clear_at};
+    ghost use Rattle.its_jobs.specs.Table.{job_at};
+    ghost use Rattle.its_plain.specs.Machine.{no_machine};
+    ghost use Rattle.its_direct.specs.Plain.{machine_of, no_slots, Tidy, JobBecomes};
+
+    /// The machine at the start of a session, at a place outside any block; no slot is touched. Takes all the memory that it
+    /// needs.
+    #[tactic(auto, using(its_word::proofs::FreeLaws::limit_first, crate::proofs::StartLaws::open_machine, crate::proofs::StartLaws::open_tidy), unfolding(crate::specs::Plain::no_slots))]
+    pub fn open(alloc: Global) -> Result<Plain, NoMemory>
+        ensures machine { IfOk result (λ p. machine_of p ≡ no_machine) }
+        ensures tidy { IfOk result Tidy }
+        ensures place { IfOk result (λ p. p.place ≡ Spot.Plain) }
+        ensures touched { IfOk result (λ p. p.touched ≡ no_slots) }
+    {
+        let core = Core::open(alloc)?;
+        let jobs = Jobs::open(alloc)?;
+        let consoles = quiet_consoles(alloc)?;
+        let files = Files::open(alloc)?;
+        let alarms = no_alarms(alloc)?;
+        let symbols = no_symbols(alloc)?;
+        Ok(Plain {
+            core,
+            jobs,
+            consoles,
+            holders: [None; CONSOLES],
+            files,
+            clock: 0,
+            alarms,
+            version: 1,
+            symbols,
+            place: Spot::Plain,
+            touched: [false; SLOTS],
+        })
+    }
+
+    /// The registers of a slot's job.
+    pub fn job(&self, slot: u8) -> Option<Job>
+        requires { slot < slots }
+        ensures { result ≡ job_at self.now.jobs slot }
+    {
+        self.jobs.job(slot).copied()
+    }
+
+    /// Writes the registers of a slot's job.
+    #[tactic(auto, using(crate::proofs::SlotLaws::job_becomes))]
+    pub(crate) fn put_job(&mut self, slot: u8, job: Job)
+        requires slot { slot < slots }
+        requires some { is_some (job_at self.old.jobs slot) ≡ true }
+        ensures { JobBecomes self.old self.new slot job }
+    {
+        if let Some(j) = self.jobs.job_mut(slot) {
+            *j = job;
+        }
+    }
+
+    /// No slot is touched.
+    #[tactic(auto, unfolding(crate::specs::Plain::no_slots))]
+    pub(crate) fn touch_none(&mut self)
+        ensures { self.new ≡ record self.old { touched = no_slots } }
+    {
+        self.touched = [false; SLOTS];
+    }
+
+    /// A slot is touched too.
+    pub(crate) fn touch(&mut self, slot: u8)
+        requires { slot < slots }
+        ensures { self.new ≡ record self.old { touched = slice_set self.old.touched slot true } }
+    {
+        self.touched[usize::from(slot)] = true;
+    }
+}
+
+/// Eight consoles at which nothing waits.
+#[tactic(auto, using(crate::proofs::StartLaws::quiet_more))]
+fn quiet_consoles(alloc: Global) -> Result<Vec<Console>, NoMemory>
+    ensures length { IfOk result (λ v. vec_len v ≡ 8) }
+    ensures quiet { IfOk result (λ v. (c : ℕ) → slice_index_or v.items c quiet_console ≡ quiet_console) }
+{
+    let mut v = Vec::with_capacity(alloc, CONSOLES).map_err(|_| NoMemory)?;
+    for _c in 0..CONSOLES {
+        v.push(Console::open(alloc)?).map_err(|_| NoMemory)?;
+    }
+    Ok(v)
+}
+
+/// A place for the alarm of each slot, without one.
+#[tactic(auto, using(crate::proofs::StartLaws::none_more))]
+fn no_alarms(alloc: Global) -> Result<Vec<Option<(u64, u64)>>, NoMemory>
+    ensures length { IfOk result (λ v. vec_len v ≡ slots) }
+    ensures none { IfOk result (λ v. (k : ℕ) → slice_index_or v.items k None ≡ None) }
+{
+    let mut v = Vec::with_capacity(alloc, SLOTS).map_err(|_| NoMemory)?;
+    for _k in 0..SLOTS {
+        v.push(None).map_err(|_| NoMemory)?;
+    }
+    Ok(v)
+}
+
+/// A list for the symbols of each slot, without one.
+#[tactic(auto, using(crate::proofs::StartLaws::symbols_more))]
+fn no_symbols(alloc: Global) -> Result<Vec<ArrayVec<(Word, u32), 512>>, NoMemory>
+    ensures length { IfOk result (λ v. vec_len v ≡ slots) }
+    ensures none { IfOk result (λ v. (k : ℕ) → symbols_at v.items k ≡ []) }
+{
+    let mut v = Vec::with_capacity(alloc, SLOTS).map_err(|_| NoMemory)?;
+    for _k in 0..SLOTS {
+        v.push(ArrayVec::new()).map_err(|_| NoMemory)?;
+    }
+    Ok(v)
+}

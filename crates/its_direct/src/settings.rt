@@ -1,0 +1,134 @@
+//! The lines VERSION, RO, SYM and PEEK.
+ghost use Rattle.std.specs.Prelude.{◌≡◌, ◌<◌, ◌≤◌, ◌++◌, ◌∷◌, [], true, false, None, Err, OnOk, OnErr, IfErr, is_some, length, nat_lt};
+ghost use Rattle.its_word.specs.Core.{page_of};
+ghost use Rattle.its_word.specs.Limits.{slots, most_symbols};
+ghost use Rattle.its_core.specs.Cores.{core_at};
+ghost use Rattle.its_plain.specs.OperatorJobs.{page_protected};
+ghost use Rattle.its_plain.specs.OperatorSymbols.{symbol_kept};
+ghost use Rattle.its_plain.specs.OperatorVersion.{versioned};
+ghost use Rattle.its_parts.specs.Parts.{symbols_at};
+ghost use Rattle.its_direct.specs.Plain.{machine_of, Tidy};
+ghost use Rattle.its_direct.specs.Lines.{reason_of, Operates, Stands, Keeps, SymbolsBecome, VersionBecomes};
+
+use super::plain::Plain;
+use its_word::{Refusal, SLOTS, Word};
+
+/// How many symbols a job has at most.
+const MOST_SYMBOLS: usize = 512;
+
+impl Plain {
+    /// VERSION: the machine becomes one of version 2, which can have 96 jobs, or stays as it is. It stands on line 1 alone.
+    #[tactic(auto, using(crate::proofs::SettingLaws::version_tidy))]
+    pub fn version(&mut self, v: u8)
+        requires known { (1 ≤ v) × (v ≤ 2) }
+        requires tidy { Tidy self.old }
+        ensures done { Stands self.old self.new (versioned (machine_of self.old) v) }
+        ensures tidy { Tidy self.new }
+    {
+        if v == 2 {
+            self.second_version();
+        }
+        self.touch_none();
+    }
+
+    /// Makes the machine one of version 2.
+    #[tactic(auto, using(its_word::proofs::FreeLaws::limit_second))]
+    fn second_version(&mut self)
+        ensures { VersionBecomes self.old self.new 2 }
+    {
+        self.jobs.tree();
+        self.jobs.set_limit(SLOTS as u8);
+        self.version = 2;
+    }
+
+    /// RO: a page of a slot's job becomes read only. NoJob where the slot is empty, NoPage where the page is absent.
+    #[tactic(auto, using(crate::proofs::SettingLaws::read_only_refused, crate::proofs::SettingLaws::read_only_absent))]
+    pub fn read_only(&mut self, slot: u8, page: u8) -> Result<(), Refusal>
+        requires slot { slot < slots }
+        requires tidy { Tidy self.old }
+        ensures done { OnOk result (Operates self.old self.new slot (page_protected (machine_of self.old) slot page)) }
+        ensures refused { IfErr result (λ e. page_protected (machine_of self.old) slot page ≡ Err (reason_of e)) }
+        ensures same { OnErr result (self.new ≡ self.old) }
+        ensures tidy { Tidy self.new }
+    {
+        let Some(_job) = self.job(slot) else {
+            return Err(Refusal::NoJob);
+        };
+        if self.has_page(slot, page) {
+            self.core.protect(slot, page, false);
+            self.touch_only(slot);
+            Ok(())
+        } else {
+            Err(Refusal::NoPage)
+        }
+    }
+
+    /// Whether a page of a slot is present.
+    #[tactic(auto, using(crate::proofs::SettingLaws::page_some))]
+    fn has_page(&self, slot: u8, page: u8) -> bool
+        requires { slot < slots }
+        ensures { result ≡ is_some (page_of (core_at self.now.core slot) page) }
+    {
+        self.core.page(slot, page).is_some()
+    }
+
+    /// SYM: a slot's job keeps a symbol, the last. NoJob where the slot is empty, Full where the job has 512. The job is not
+    /// disturbed.
+    #[tactic(auto, using(crate::proofs::SettingLaws::symbol_refused, crate::proofs::SettingLaws::symbol_full, crate::proofs::SettingLaws::symbol_tidy))]
+    pub fn symbol(&mut self, slot: u8, name: Word, a: u32) -> Result<(), Refusal>
+        requires slot { slot < slots }
+        requires tidy { Tidy self.old }
+        ensures done { OnOk result (Keeps self.old self.new (symbol_kept (machine_of self.old) slot name a)) }
+        ensures refused { IfErr result (λ e. symbol_kept (machine_of self.old) slot name a ≡ Err (reason_of e)) }
+        ensures same { OnErr result (self.new ≡ self.old) }
+        ensures tidy { Tidy self.new }
+    {
+        let Some(_job) = self.job(slot) else {
+            return Err(Refusal::NoJob);
+        };
+        if self.has_room(slot) {
+            self.keep_symbol(slot, name, a);
+            self.touch_none();
+            Ok(())
+        } else {
+            Err(Refusal::Full)
+        }
+    }
+
+    /// Whether there is room for a symbol more of a slot.
+    fn has_room(&self, slot: u8) -> bool
+        requires { slot < slots }
+        ensures { result ≡ nat_lt (length (symbols_at self.now.symbols.items slot)) most_symbols }
+    {
+        self.symbols[usize::from(slot)].len() < MOST_SYMBOLS
+    }
+
+    /// Keeps a symbol of a slot's job, the last; there is room for it.
+    #[tactic(auto, using(crate::proofs::SettingLaws::list_here))]
+    fn keep_symbol(&mut self, slot: u8, name: Word, a: u32)
+        requires slot { slot < slots }
+        requires room { length (symbols_at self.old.symbols.items slot) < most_symbols }
+        ensures { SymbolsBecome self.old self.new slot (symbols_at self.old.symbols.items slot ++ (name, a) ∷ []) }
+    {
+        self.symbols[usize::from(slot)].push((name, a));
+    }
+
+    /// PEEK: whether a slot has a job. Nobody is disturbed, and how far a job is inside a call is nothing that this machine
+    /// knows. NoJob where the slot is empty.
+    #[tactic(auto, using(crate::proofs::SettingLaws::peek_some, crate::proofs::SettingLaws::peek_none, crate::proofs::SlotLaws::touched_tidy))]
+    pub fn peek(&mut self, slot: u8) -> Result<(), Refusal>
+        requires slot { slot < slots }
+        requires tidy { Tidy self.old }
+        ensures done { OnOk result (Stands self.old self.new (machine_of self.old)) }
+        ensures some { OnOk result (is_some ((machine_of self.old).jobs slot) ≡ true) }
+        ensures refused { IfErr result (λ e. (e ≡ Refusal.NoJob) × ((machine_of self.old).jobs slot ≡ None)) }
+        ensures same { OnErr result (self.new ≡ self.old) }
+        ensures tidy { Tidy self.new }
+    {
+        let Some(_job) = self.job(slot) else {
+            return Err(Refusal::NoJob);
+        };
+        self.touch_none();
+        Ok(())
+    }
+}

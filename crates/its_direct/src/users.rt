@@ -1,0 +1,133 @@
+//! The step of a job in user mode: the delivery of an interrupt, else a unit.
+ghost use Rattle.std.specs.Prelude.{◌≡◌, ◌<◌, ◌^◌, ℕ, true, false, Some, is_some, slice_set};
+ghost use Rattle.its_word.specs.Limits.{slots};
+ghost use Rattle.its_jobs.specs.Table.{job_at, superior_at};
+ghost use Rattle.its_plain.specs.CallStep.{among, informs, informed_slots, transition};
+ghost use Rattle.its_plain.specs.Change.{effects, in_job, with_inf};
+ghost use Rattle.its_plain.specs.Interrupt.{deliverable};
+ghost use Rattle.its_plain.specs.Job.{with_pending};
+ghost use Rattle.its_direct.specs.Plain.{machine_of, is_touched, no_slots, Tidy};
+ghost use Rattle.its_direct.specs.Steps.{Begins, SteppedBy};
+
+use super::plain::Plain;
+use its_ints::{deliver, deliverable};
+use its_word::{INF, Job, Site, Word};
+use pdp_exec::{Ended, run, site};
+
+/// What the step of a slot's job begins with.
+#[derive(Debug, PartialEq, Eq, Drop)]
+pub enum Begun {
+    /// There is no job, or it is stopped: it has no step.
+    Still,
+    /// The step was made: a delivery, or a unit.
+    Stepped,
+    /// The step is that of a call of the monitor at this site, which is not decoded yet.
+    Calls(Site),
+}
+
+impl Plain {
+    /// Makes the step of a slot's job, where that is a delivery or a unit. Where it is a call, or where there is none, nothing
+    /// changes.
+    #[tactic(auto, using(crate::proofs::UserLaws::absent, crate::proofs::UserLaws::stopped, crate::proofs::SlotLaws::placed_at))]
+    pub fn begin(&mut self, slot: u8) -> Begun
+        requires slot { slot < slots }
+        requires tidy { Tidy self.old }
+        ensures row { Begins result (transition (machine_of self.old) slot) self.old self.new slot }
+        ensures tidy { Tidy self.new }
+    {
+        let Some(job) = self.job(slot) else {
+            return Begun::Still;
+        };
+        if job.stopped {
+            return Begun::Still;
+        }
+        if deliverable(&job) {
+            self.deliver(slot, job);
+            return Begun::Stepped;
+        }
+        self.make_unit(slot, job)
+    }
+
+    /// The unit of a slot's job that has these registers, unless it is a call.
+    fn make_unit(&mut self, slot: u8, job: Job) -> Begun
+        requires slot { slot < slots }
+        requires job { job_at self.old.jobs slot ≡ Some job }
+        requires runs { job.stopped ≡ false }
+        requires quiet { deliverable job ≡ false }
+        requires pc { job.pc < 2 ^ 18 }
+        requires tidy { Tidy self.old }
+        ensures row { Begins result (transition (machine_of self.old) slot) self.old self.new slot }
+        ensures tidy { Tidy self.new }
+    {
+        let mut after = job;
+        match run(&mut self.core, slot, &mut after) {
+            Ended::Done => self.put_job(slot, after),
+            Ended::Fault(bit) => self.put_job(slot, with_bits(job, bit)),
+            Ended::Call => return Begun::Calls(site(&self.core, slot, &job)),
+        }
+        self.touch_none();
+        Begun::Stepped
+    }
+
+    /// The delivery of an interrupt to a slot's job that has these registers. Where a fatal bit stops the job, INF is set in
+    /// its superior, where it has one.
+    fn deliver(&mut self, slot: u8, job: Job)
+        requires slot { slot < slots }
+        requires job { job_at self.old.jobs slot ≡ Some job }
+        requires runs { job.stopped ≡ false }
+        requires due { deliverable job ≡ true }
+        requires tidy { Tidy self.old }
+        ensures row { SteppedBy self.old self.new (transition (machine_of self.old) slot) }
+        ensures tidy { Tidy self.new }
+    {
+        self.jobs.tree();
+        let mut after = job;
+        let stops = deliver(&mut self.core, slot, &mut after);
+        self.put_job(slot, after);
+        self.touch_none();
+        if stops {
+            self.inform_superior(slot);
+        }
+    }
+
+    /// Sets INF in the superior of a slot's job, where it has one, which is then touched too.
+    fn inform_superior(&mut self, slot: u8)
+        requires slot { slot < slots }
+        requires touched { self.old.touched ≡ no_slots }
+        requires tidy { Tidy self.old }
+        ensures row { machine_of self.new ≡ effects (informs true (superior_at self.old.jobs slot)) slot (machine_of self.old) }
+        ensures touched { (k : ℕ) → is_touched self.new k ≡ among k (informed_slots true (superior_at self.old.jobs slot)) }
+        ensures place { self.new.place ≡ self.old.place }
+        ensures tidy { Tidy self.new }
+    {
+        if let Some(superior) = self.jobs.superior(slot) {
+            self.inform(superior);
+        }
+    }
+
+    /// Sets INF in a slot's job.
+    fn inform(&mut self, slot: u8)
+        requires slot { slot < slots }
+        requires job { is_some (job_at self.old.jobs slot) ≡ true }
+        requires tidy { Tidy self.old }
+        ensures row { machine_of self.new ≡ in_job (machine_of self.old) slot with_inf }
+        ensures touched { self.new.touched ≡ slice_set self.old.touched slot true }
+        ensures place { self.new.place ≡ self.old.place }
+        ensures tidy { Tidy self.new }
+    {
+        if let Some(job) = self.job(slot) {
+            self.put_job(slot, with_bits(job, INF as u32));
+            self.touch(slot);
+        }
+    }
+}
+
+/// Registers with bits of pending word 1 set besides.
+fn with_bits(job: Job, bits: u32) -> Job
+    ensures { result ≡ with_pending job bits }
+{
+    Job {
+        pend1: job.pend1 | Word::new(u64::from(bits)),
+        ..job
+    }
+}

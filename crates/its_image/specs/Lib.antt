@@ -1,0 +1,5 @@
+pub mod Written
+pub mod Image
+pub mod Text
+pub mod Made
+pub mod Loading

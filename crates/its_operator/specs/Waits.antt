@@ -1,0 +1,54 @@
+-- What the lists of those that wait hold, in words of the plain machine (docs/STEPS.md, "Wait rings").
+use Rattle.std.specs.Prelude.{◌≡◌, ◌<◌, ◌≤◌, ◌+◌, ◌↔◌, ◌≢◌, ℕ, Option, Some, None, List}
+use Rattle.its_links.specs.Lists.{list_at, count}
+use Rattle.its_frame.specs.declared.decision.Decision.TheVariants.{Waits}
+use Rattle.its_frame.specs.declared.decision.Wait.{Wait}
+use Rattle.its_frame.specs.declared.decision.Wait.TheVariants.{Hang, Clock, Input, Output, Drained}
+use Rattle.its_frame.specs.declared.frame.Frame.TheVariants as frames
+use Rattle.its_frame.specs.declared.frame.Waiting.{Waiting}
+use Rattle.its_plain.specs.CallStep.{decision}
+use Rattle.its_plain.specs.Machine.{Whole}
+use Rattle.its_plain.specs.Reasons.{reason_in}
+use Rattle.its_stepped.specs.State.{State, plain}
+use Rattle.its_world.specs.Rings.{ring_of, console_in}
+use Rattle.its_world.specs.World.{state_of}
+use Rattle.its_world.specs.declared.world.World.{World}
+
+-- slot k waits for a reason: its frame is Waiting, and in the plain machine its call is not ready, for this reason
+pub record WaitsFor (w : State) (k : ℕ) (r : Wait) : Type 0 where
+  pub frame : Waiting
+  pub job : Whole
+  pub in_frame : w.frames k ≡ Some (frames.Waiting frame)
+  pub there : (plain w).jobs k ≡ Some job
+  pub waits : decision (plain w) k job frame.ask ≡ Waits r
+
+-- the console of a reason that is at one
+abbrev pub console_of : Wait → Option ℕ
+console_of Hang = None
+console_of Clock = None
+console_of (Input c) = Some c
+console_of (Output c) = Some c
+console_of (Drained c) = Some c
+
+-- slot k waits at console c, and in the plain machine its call is ready
+pub record CanGoOn (w : State) (k c : ℕ) : Type 0 where
+  pub frame : Waiting
+  pub job : Whole
+  pub in_frame : w.frames k ≡ Some (frames.Waiting frame)
+  pub there : (plain w).jobs k ≡ Some job
+  pub reason : Wait
+  pub can_wait : reason_in job frame.ask ≡ Some reason
+  pub at_console : console_of reason ≡ Some c
+  pub ready : (r : Wait) → decision (plain w) k job frame.ask ≢ Waits r
+
+-- a list holds just the slots of which this holds, each once
+pub record HoldsJust (ks : List ℕ) (Holds : ℕ → Type 0) : Type 0 where
+  pub once : (k : ℕ) → count k ks ≤ 1
+  pub just : (k : ℕ) → (0 < count k ks) ↔ Holds k
+
+-- the wait ring of each reason holds just the slots that wait for it, the Awake list of each console just those that wait there
+-- and can go on, and a slot stands in one list at most
+pub record WaitRings (w : World) : Type 0 where
+  pub rings : (r : Wait) → console_in r < 8 → HoldsJust (list_at w.rings.lists (ring_of r)) (λ k. WaitsFor (state_of w) k r)
+  pub awake : (c : ℕ) → c < 8 → HoldsJust (list_at w.rings.lists (26 + c)) (λ k. CanGoOn (state_of w) k c)
+  pub one : (k g h : ℕ) → 0 < count k (list_at w.rings.lists g) → 0 < count k (list_at w.rings.lists h) → g ≡ h

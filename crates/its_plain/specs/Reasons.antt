@@ -1,0 +1,61 @@
+-- Why a call can have to wait, and when it has to (docs/CALLS.md, "Waiting"). A call that can wait has one reason for it,
+-- which its name, what its channel is on and its job's console tell, and nothing else.
+use Rattle.std.specs.Prelude.{◌&&◌, ◌||◌, ℕ, ◌-◌, ◌^◌, Bool, true, not, Option, Some, None, nat_lt, length, unwrap_or}
+use Rattle.its_word.specs.Console.{most_waiting}
+use Rattle.its_word.specs.declared.calls.Ask.{Ask}
+use Rattle.its_frame.specs.declared.decision.Wait.{Wait}
+use Rattle.its_frame.specs.declared.decision.Wait.TheVariants.{Hang, Clock, Input, Output, Drained}
+use Rattle.its_frame.specs.declared.name.CallName.{CallName}
+use Rattle.its_frame.specs.declared.name.CallName.TheVariants as calls
+use Rattle.its_plain.specs.Machine.{Chan, TtyIn, TtyOut, Console, Whole, Machine}
+use Rattle.its_plain.specs.Arguments.{input}
+use Rattle.its_plain.specs.CallBasic.{is_negative, channel_at}
+use Rattle.its_plain.specs.CallTty.{is_empty, is_other}
+use Rattle.its_plain.specs.Decide.{call_named}
+
+-- what a call that waits looks at: consoles, who holds them, and the clock
+pub record Doors : Type 0 where
+  pub consoles : ℕ → Console
+  pub holders : ℕ → Option ℕ
+  pub clock : ℕ
+
+abbrev pub doors : Machine → Doors
+doors m = record { consoles = m.consoles; holders = m.holders; clock = m.clock }
+
+-- the call of slot k, whose first argument is n, has to wait for this reason: HANG always; a sleeper until its time has
+-- come; a reader while no byte waits or another job holds the console; a writer while 64 bytes wait or another job holds
+-- it; FINISH and LISTEN while a byte is left to be drained
+abbrev pub held_up : Doors → ℕ → ℕ → Wait → Bool
+held_up d k n Hang = true
+held_up d k n Clock = is_negative n && nat_lt d.clock (2 ^ 36 - n)
+held_up d k n (Input c) = is_empty (d.consoles c).input || is_other k (d.holders c)
+held_up d k n (Output c) = not (nat_lt (length (d.consoles c).output) most_waiting) || is_other k (d.holders c)
+held_up d k n (Drained c) = not (is_empty (d.consoles c).output)
+
+-- the reason of a transfer, of FINISH and of LISTEN, whose channel is on something, at a job with this console
+abbrev pub of_transfer : ℕ → Chan → Option Wait
+of_transfer c TtyIn = Some (Input c)
+of_transfer c TtyOut = Some (Output c)
+of_transfer c _ = None
+
+abbrev pub of_finish : ℕ → Chan → Option Wait
+of_finish c TtyOut = Some (Drained c)
+of_finish c _ = None
+
+abbrev pub of_listen : ℕ → Chan → Option Wait
+of_listen c TtyIn = Some (Drained c)
+of_listen c TtyOut = Some (Drained c)
+of_listen c _ = None
+
+-- the one reason for which a call can have to wait
+abbrev pub reason_by : ℕ → Chan → Option CallName → Option Wait
+reason_by c on (Some calls.Hang) = Some Hang
+reason_by c on (Some calls.Sleep) = Some Clock
+reason_by c on (Some calls.Iot) = of_transfer c on
+reason_by c on (Some calls.Siot) = of_transfer c on
+reason_by c on (Some calls.Finish) = of_finish c on
+reason_by c on (Some calls.Listen) = of_listen c on
+reason_by c on _ = None
+
+abbrev pub reason_in : Whole → Ask → Option Wait
+reason_in q a = reason_by (unwrap_or q.job.console 0) (channel_at q.channels (input a 0)) (call_named a.name)

@@ -1,0 +1,20 @@
+use Rattle.std.proofs.Common.{◌≡◌, ◌≤◌, ◌<◌, ◌-◌, false, length}
+use Rattle.its_session.specs.Events.{most_lines}
+use Rattle.its_reader.specs.Bytes.{Fits}
+use Rattle.its_reader.specs.Texts.{TextSo}
+use Rattle.its_reader.proofs.texts.Texts.read_on.Given as goal
+
+abbrev pub invariant-loop-e : goal.invariant-loop-e
+invariant-loop-e g l = record {
+  fits : Fits l.self.buffer;
+  short : length l.self.text.items ≤ l.self.most;
+  most : l.self.most ≡ l.fn.self.most;
+  number : l.self.number ≡ l.fn.self.number;
+  running : l.self.ended ≡ false;
+  begun : 0 < length l.self.text.items → l.self.number ≤ most_lines;
+  so_far : TextSo l.fn.self l.self (g.S.Source.left l.fn.src) (g.S.Source.left l.src);
+  unfailed : g.S.Source.faults l.src ≡ g.S.Source.faults l.fn.src;
+}
+
+abbrev pub decreases-loop-e : goal.decreases-loop-e
+decreases-loop-e g l = 1544 - length l.self.text.items

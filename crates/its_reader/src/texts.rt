@@ -1,0 +1,121 @@
+ghost use Rattle.std.specs.Prelude.{◌≡◌, ◌≤◌, ◌<◌, ◌+◌, [], false, Ok, length, IfOk};
+ghost use Rattle.its_io.specs.Bytes.{HasCause};
+ghost use Rattle.its_session.specs.Events.{most_lines};
+ghost use Rattle.its_reader.specs.Bytes.{pending, Fits};
+ghost use Rattle.its_reader.specs.Lines.{last_of};
+ghost use Rattle.its_reader.specs.TextLines.{before_lf};
+ghost use Rattle.its_reader.specs.Texts.{PushedText, ReadsText, ReadyTexts};
+
+use super::buffer::Buffer;
+use super::lines::{MOST_LINES, Next, last};
+use arrayvec::ArrayVec;
+use its_io::{Failed, Source};
+
+/// The lines of a source, each with the LF that ends it.
+#[derive(Debug, Drop)]
+pub struct Texts {
+    /// What was read of the source and is not taken yet.
+    pub buffer: Buffer,
+    /// The line that was given last; only the last line of the source may have no LF.
+    pub text: ArrayVec<u8, 1544>,
+    /// Its number, from 1.
+    pub number: u32,
+    /// The most bytes of a line before its LF, from here on: 1543 at most.
+    pub most: usize,
+    /// Whether the source came to its end.
+    pub ended: bool,
+}
+
+impl Texts {
+    /// The lines of a source of which nothing was read, where each has so many bytes at most before its LF.
+    pub fn new(most: usize) -> Texts
+        ensures fits { Fits result.buffer }
+        ensures pending { pending result.buffer ≡ [] }
+        ensures number { result.number ≡ 0 }
+        ensures most { result.most ≡ most }
+        ensures ended { result.ended ≡ false }
+    {
+        Texts {
+            buffer: Buffer::new(),
+            text: ArrayVec::new(),
+            number: 0,
+            most,
+            ended: false,
+        }
+    }
+
+    /// What comes next: where it is a line, this is `text`, and `number` is its number. It is too long as soon as one byte
+    /// too many was read and is no LF.
+    #[tactic(auto, using(crate::proofs::TextsLaws::reads_ended, crate::proofs::TextsLaws::reads_from))]
+    pub fn next<S: Source>(&mut self, src: &mut S) -> Result<Next, Failed>
+        requires ready { ReadyTexts self.old (S.left src.old) }
+        requires few { self.old.number ≤ most_lines }
+        requires most { self.old.most ≤ 1543 }
+        ensures reads { ReadsText result self.old self.new (S.left src.old) (S.left src.new) }
+        ensures ready { IfOk result (λ _. ReadyTexts self.new (S.left src.new)) }
+        ensures number { self.new.number ≡ self.old.number + 1 }
+        ensures most { self.new.most ≡ self.old.most }
+        ensures few { result ≡ Ok Next.Line → self.new.number ≤ most_lines }
+        ensures short { result ≡ Ok Next.Line → length (before_lf self.new.text.items) ≤ self.old.most }
+        ensures cause { HasCause (S.faults src.old) (S.faults src.new) result }
+    {
+        self.text.clear();
+        self.number += 1;
+        if self.ended {
+            return Ok(Next::End);
+        }
+        self.read_on(src)
+    }
+
+    /// Reads up to the end of a line, or of the source.
+    #[tactic(auto, using(crate::proofs::TextsLaws::so_start, crate::proofs::TextsLaws::so_next, crate::proofs::TextsLaws::ready_open, crate::proofs::TextsLaws::ready_over, crate::proofs::TextsLaws::short_end, crate::proofs::TextsLaws::short_last))]
+    fn read_on<S: Source>(&mut self, src: &mut S) -> Result<Next, Failed>
+        requires fits { Fits self.old.buffer }
+        requires empty { self.old.text.items ≡ [] }
+        requires open { self.old.ended ≡ false }
+        requires first { self.old.number ≤ most_lines + 1 }
+        requires most { self.old.most ≤ 1543 }
+        ensures reads { ReadsText result self.old self.new (S.left src.old) (S.left src.new) }
+        ensures ready { IfOk result (λ _. ReadyTexts self.new (S.left src.new)) }
+        ensures number { self.new.number ≡ self.old.number }
+        ensures most { self.new.most ≡ self.old.most }
+        ensures few { result ≡ Ok Next.Line → self.new.number ≤ most_lines }
+        ensures short { result ≡ Ok Next.Line → length (before_lf self.new.text.items) ≤ self.old.most }
+        ensures cause { HasCause (S.faults src.old) (S.faults src.new) result }
+    {
+        loop {
+            match self.buffer.next(src) {
+                Err(e) => return Err(e),
+                Ok(None) => {
+                    self.ended = true;
+                    return Ok(last(&self.text));
+                }
+                Ok(Some(b)) => {
+                    if let Some(next) = push(&mut self.text, self.number, self.most, b) {
+                        return Ok(next);
+                    }
+                }
+            }
+        }
+    }
+}
+
+/// Takes a byte of the line with this number: what it comes to where the line is over by it.
+fn push(text: &mut ArrayVec<u8, 1544>, number: u32, most: usize, b: u8) -> Option<Next>
+    requires short { length text.old.items ≤ most }
+    requires most { most ≤ 1543 }
+    ensures pushed { PushedText result number most text.old.items b text.new.items }
+{
+    if number > MOST_LINES {
+        return Some(Next::Beyond);
+    }
+    if b == b'\n' {
+        text.push(b);
+        return Some(Next::Line);
+    }
+    if text.len() == most {
+        return Some(Next::Long);
+    }
+    text.push(b);
+    None
+}

@@ -1,0 +1,190 @@
+-- RUN, turn by turn.
+use Rattle.std.specs.Prelude.{◌≡◌, ◌≢◌, ◌<◌, ◌≤◌, ◌+◌, ◌-◌, ℕ, zero, suc, Bool, true, false, Option, Some, None, IfSome, List, [], ◌∷◌, ◌++◌, length, slice_index_or, slice_set, replicate, refl}
+use Rattle.std.proofs.Common.{sym, ◌∙◌, ap, subst, arith, append_assoc, inl, inr, length-set}
+use Rattle.std.proofs.KnownBytes.{Appends-nil, Appends-trans}
+use Rattle.std.proofs.lemmas.Bool.{cases_eq}
+use Rattle.std.proofs.lemmas.List.{get_or-set_same, get_or-set_other}
+use Rattle.its_robin.specs.Robin.{robin}
+use Rattle.its_robin.proofs.RobinLaws.{robin_same}
+use Rattle.its_word.specs.Item.{Item, Read, InTurn}
+use Rattle.its_word.specs.Limits.{slots}
+use Rattle.its_word.specs.declared.session.Event.{Event}
+use Rattle.its_word.specs.declared.session.Event.TheVariants as events
+use Rattle.its_print.specs.Printing.{Line, text_of_line, text}
+use Rattle.its_print.specs.Printing as printed
+use Rattle.its_plain.specs.Machine.{Machine}
+use Rattle.its_plain.specs.Operator.{Block}
+use Rattle.its_plain.specs.OperatorLines.{operate, lined}
+use Rattle.its_plain.specs.Unrolled.{runs, turn_after, turns_asked, ticks_asked}
+use Rattle.its_plain.proofs.FairLaws.{turn_within}
+use Rattle.its_stepped.specs.State.{State}
+use Rattle.its_stepped.specs.Lines.{calmed, paces_of, ticked, told}
+use Rattle.its_stepped.specs.Turns.{turned, turns, Stand, stand_after, followed, turned_from}
+use Rattle.its_top.specs.declared.turn.Turn.{Turn}
+use Rattle.its_top.specs.declared.turn.Turn.TheVariants as outcomes
+use Rattle.its_top.specs.Telling.{Says, said, after, saying, Begins, items_say, session_says, goes_on_after, Answers, FollowsBy, CircledBy, goes_on}
+use Rattle.its_top.specs.Answer.{WroteFor, Tells, Answered, Follows, Circled, CircleSo, RunsSo}
+use Rattle.its_top.proofs.EventLaws.{after_after, text_one, said_telling}
+use Rattle.its_top.proofs.ConclusionLaws.{on_of}
+
+-- a line that asks for no turns
+followed_none : (e : Event) (i : ℕ) (items : List Item) (o : Option Stand) (v : State) (b : Block) → turns_asked e ≡ 0 → o ≡ Some (record { state = v; block = b })
+    → followed e i items o (λ w c l. turned_from w c l items) ≡ turned_from v b i items
+followed_none e i items o v b none is =
+    ap (λ x. followed e i items x (λ w c l. turned_from w c l items)) is ∙ ap (λ k. turns k (ticks_asked e) v i (λ w l. turned_from w b l items)) none
+
+follows_by : (turn : Turn) (n : ℕ) (v v' : State) (b b' : Block) (i : ℕ) (e : Event) (w : List ℕ) → turns_asked e ≡ 0 → Answers turn n v b e v' b' w → FollowsBy turn n v b i e v' b' i w
+unfolding session_says
+follows_by outcomes.On n v v' b b' i e w none a = (
+  a.0,
+  λ items. a.1 (followed e i items (stand_after v (calmed v b e) b (lined (calmed v b e).raw b e)) (λ x c l. turned_from x c l items))
+      ∙ ap (λ xs. after w (items_say (n + 1) v' b' xs)) (followed_none e i items _ v' b' none a.2),
+)
+follows_by outcomes.Ended n v v' b b' i e w none a = (a.0, λ items. a.1 (followed e i items (stand_after v (calmed v b e) b (lined (calmed v b e).raw b e)) (λ x c l. turned_from x c l items)))
+follows_by outcomes.Refused n v v' b b' i e w none a = λ items. a (followed e i items (stand_after v (calmed v b e) b (lined (calmed v b e).raw b e)) (λ x c l. turned_from x c l items))
+follows_by outcomes.Beyond n v v' b b' i e w none a = a
+follows_by outcomes.Fault n v v' b b' i e w none a = λ items. a (followed e i items (stand_after v (calmed v b e) b (lined (calmed v b e).raw b e)) (λ x c l. turned_from x c l items))
+
+pub line_follows : (turn : Turn) (n : ℕ) (v v' : State) (b b' : Block) (i : ℕ) (e : Event) (old new : Option (List ℕ)) → turns_asked e ≡ 0 → Answered turn n v b e v' b' old new
+    → Follows turn n v b i e v' b' i old new
+line_follows turn n v v' b b' i e old new none a = record { wrote = a.wrote; appended = a.appended; follows = follows_by turn n v v' b b' i e a.wrote none a.answers }
+
+-- RUN, and its turns
+run_says : (n : ℕ) (v : State) (b : Block) (i k q : ℕ) (items : List Item)
+    → session_says n v b i (Read (events.Run k q) ∷ items) ≡ items_say (n + 1) v b (turns k q v i (λ w l. turned_from w b l items))
+unfolding session_says items_say calmed lined operate
+run_says n v b i k q items = refl
+
+run_by : (turn : Turn) (n : ℕ) (v v' : State) (b : Block) (i j k q : ℕ) (w : List ℕ) → CircledBy turn v i k q v' j w → FollowsBy turn n v b i (events.Run k q) v' b j w
+unfolding session_says
+run_by outcomes.On n v v' b i j k q w c = (refl, λ items. run_says n v b i k q items ∙ c (n + 1) b (λ x l. turned_from x b l items))
+run_by outcomes.Fault n v v' b i j k q w c = λ items. subst (λ s. Begins s w) (sym (run_says n v b i k q items)) (c (n + 1) b (λ x l. turned_from x b l items))
+run_by outcomes.Ended n v v' b i j k q w c = absurd c
+run_by outcomes.Refused n v v' b i j k q w c = absurd c
+run_by outcomes.Beyond n v v' b i j k q w c = absurd c
+
+pub run_follows : (turn : Turn) (n : ℕ) (v v' : State) (b : Block) (i j k q : ℕ) (e : Event) (old new : Option (List ℕ)) → e ≡ events.Run k q → Circled turn v i k q v' j old new
+    → Follows turn n v b i e v' b j old new
+run_follows turn n v v' b i j k q e old new is c =
+    subst (λ x. Follows turn n v b i x v' b j old new) (sym is) (record { wrote = c.wrote; appended = c.appended; follows = run_by turn n v v' b i j k q c.wrote c.circled })
+
+-- no turn yet
+pub circle_start : (v : State) (i n q : ℕ) (out : Option (List ℕ)) → CircleSo v v i i n 0 q out out
+circle_start v i n q out = record {
+  wrote = [];
+  appended = Appends-nil out;
+  says = λ l b next. (let e : n ≡ n - 0 = omega arith in ap (λ k. items_say l v b (turns k q v i next)) e);
+}
+
+-- a turn of slot s
+turn_says : (l : ℕ) (v : State) (b : Block) (s q : ℕ) (items : List Item)
+    → items_say l v b (InTurn s q ∷ items) ≡ after (text_of_line (printed.Ticks s (paces_of v s q))) (items_say l (ticked v s q) b items)
+unfolding items_say
+turn_says l v b s q items =
+    said_telling (printed.Ticks s (paces_of v s q) ∷ []) (told l (ticked v s q) b items)
+    ∙ ap (λ t. after t (said (told l (ticked v s q) b items))) (text_one (printed.Ticks s (paces_of v s q)))
+
+one_turn : (k q : ℕ) (v : State) (i s : ℕ) (next : State → ℕ → List Item) → turn_after v.raw i ≡ Some s → turns (suc k) q v i next ≡ InTurn s q ∷ turns k q (ticked v s q) s next
+one_turn k q v i s next e = ap (λ o. turned o (λ s. InTurn s q ∷ turns k q (ticked v s q) s next) (next v i)) e
+
+turns_left : (n k q : ℕ) (now : State) (j s : ℕ) (l : ℕ) (b : Block) (next : State → ℕ → List Item) → k < n → turn_after now.raw j ≡ Some s
+    → items_say l now b (turns (n - k) q now j next) ≡ after (text_of_line (printed.Ticks s (paces_of now s q))) (items_say l (ticked now s q) b (turns (n - (k + 1)) q (ticked now s q) s next))
+turns_left n k q now j s l b next below e =
+    let one : n - k ≡ suc (n - (k + 1)) = omega arith in
+    ap (λ x. items_say l now b (turns x q now j next)) one
+    ∙ ap (items_say l now b) (one_turn (n - (k + 1)) q now j s next e)
+    ∙ turn_says l now b s q (turns (n - (k + 1)) q (ticked now s q) s next)
+
+pub circle_turn : (turn : Turn) (v now new : State) (i j s n k q : ℕ) (old mid out : Option (List ℕ)) → k < n → CircleSo v now i j n k q old mid → turn_after now.raw j ≡ Some s
+    → new ≡ ticked now s q → goes_on turn ≡ true → Tells turn outcomes.On (text_of_line (printed.Ticks s (paces_of now s q))) mid out → CircleSo v new i s n (k + 1) q old out
+circle_turn turn v now new i j s n k q old mid out below c e f g t =
+    let w = text_of_line (printed.Ticks s (paces_of now s q)) in
+    let told_all : WroteFor outcomes.On outcomes.On w t.wrote = subst (λ x. WroteFor x outcomes.On w t.wrote) (on_of turn g) t.complete in
+    record {
+      wrote = c.wrote ++ t.wrote;
+      appended = Appends-trans old mid out c.wrote t.wrote c.appended t.appended;
+      says = λ l b next.
+          let rest = items_say l (ticked now s q) b (turns (n - (k + 1)) q (ticked now s q) s next) in
+          c.says l b next
+          ∙ ap (after c.wrote) (turns_left n k q now j s l b next below e)
+          ∙ after_after c.wrote w rest
+          ∙ ap (λ x. after (c.wrote ++ x) rest) told_all.1
+          ∙ ap (λ x. after (c.wrote ++ t.wrote) (items_say l x b (turns (n - (k + 1)) q x s next))) (sym f);
+    }
+
+-- its line was not written
+begun_by : (s t : Says) (v w more : List ℕ) → s ≡ after (v ++ (w ++ more)) t → Begins s (v ++ w)
+begun_by s t v w more e = record {
+  more = more ++ t.text;
+  whole = ap (λ (x : Says). x.text) e ∙ append_assoc v (w ++ more) t.text ∙ ap (λ x. v ++ x) (append_assoc w more t.text) ∙ sym (append_assoc v w (more ++ t.text));
+}
+
+circled_by : (turn : Turn) (v now new : State) (i j s n k q : ℕ) (wrote bytes part : List ℕ) → k < n → ((l : ℕ) (b : Block) (next : State → ℕ → List Item) → items_say l v b (turns n q v i next) ≡ after wrote (items_say l now b (turns (n - k) q now j next)))
+    → turn_after now.raw j ≡ Some s → goes_on turn ≡ false → bytes ≡ text_of_line (printed.Ticks s (paces_of now s q)) → WroteFor turn outcomes.On bytes part → CircledBy turn v i n q new s (wrote ++ part)
+circled_by outcomes.Fault v now new i j s n k q wrote bytes part below says e g h t = λ l b next.
+    let w = text_of_line (printed.Ticks s (paces_of now s q)) in
+    let rest = items_say l (ticked now s q) b (turns (n - (k + 1)) q (ticked now s q) s next) in
+    begun_by (items_say l v b (turns n q v i next)) rest wrote part t.0
+    (says l b next ∙ ap (after wrote) (turns_left n k q now j s l b next below e) ∙ after_after wrote w rest ∙ ap (λ x. after (wrote ++ x) rest) (sym h ∙ t.1))
+circled_by outcomes.On v now new i j s n k q wrote bytes part below says e g h t = cc
+circled_by outcomes.Ended v now new i j s n k q wrote bytes part below says e g h t = absurd (let x : outcomes.Ended ≡ outcomes.On = t.0 in cc)
+circled_by outcomes.Refused v now new i j s n k q wrote bytes part below says e g h t = absurd (let x : outcomes.Refused ≡ outcomes.On = t.0 in cc)
+circled_by outcomes.Beyond v now new i j s n k q wrote bytes part below says e g h t = absurd (let x : outcomes.Beyond ≡ outcomes.On = t.0 in cc)
+
+pub circle_fault : (turn : Turn) (v now new : State) (i j s n k q : ℕ) (old mid out : Option (List ℕ)) → k < n → CircleSo v now i j n k q old mid → turn_after now.raw j ≡ Some s
+    → goes_on turn ≡ false → Tells turn outcomes.On (text_of_line (printed.Ticks s (paces_of now s q))) mid out → Circled turn v i n q new s old out
+circle_fault turn v now new i j s n k q old mid out below c e g t = record {
+  wrote = c.wrote ++ t.wrote;
+  appended = Appends-trans old mid out c.wrote t.wrote c.appended t.appended;
+  circled = circled_by turn v now new i j s n k q c.wrote (text_of_line (printed.Ticks s (paces_of now s q))) t.wrote below c.says e g refl t.complete;
+}
+
+-- no job runs
+no_turn : (k q : ℕ) (v : State) (i : ℕ) (next : State → ℕ → List Item) → turn_after v.raw i ≡ None → turns (suc k) q v i next ≡ next v i
+no_turn k q v i next e = ap (λ o. turned o (λ s. InTurn s q ∷ turns k q (ticked v s q) s next) (next v i)) e
+
+pub circle_none : (v now : State) (i j n k q : ℕ) (old out : Option (List ℕ)) → k < n → CircleSo v now i j n k q old out → turn_after now.raw j ≡ None → Circled outcomes.On v i n q now j old out
+circle_none v now i j n k q old out below c e = record {
+  wrote = c.wrote;
+  appended = c.appended;
+  circled = λ l b next.
+      let one : n - k ≡ suc (n - (k + 1)) = omega arith in
+      c.says l b next ∙ ap (λ x. after c.wrote (items_say l now b (turns x q now j next))) one ∙ ap (λ xs. after c.wrote (items_say l now b xs)) (no_turn (n - (k + 1)) q now j next e);
+}
+
+-- all turns were made
+pub circle_end : (v now : State) (i j n k q : ℕ) (old out : Option (List ℕ)) → n ≤ k → CircleSo v now i j n k q old out → Circled outcomes.On v i n q now j old out
+circle_end v now i j n k q old out over c = record {
+  wrote = c.wrote;
+  appended = c.appended;
+  circled = λ l b next. (let none : n - k ≡ 0 = omega arith in c.says l b next ∙ ap (λ x. after c.wrote (items_say l now b (turns x q now j next))) none);
+}
+
+-- who runs
+pub runs_start : (m : Machine) (xs : List Bool) → length xs ≡ slots → RunsSo m 0 xs
+runs_start m xs e = record { count = e; found = λ s below. absurd (omega arith) }
+
+pub runs_next : (m : Machine) (k : ℕ) (xs ys : List Bool) (b : Bool) → k < slots → RunsSo m k xs → ys ≡ slice_set xs k b → b ≡ runs m k → RunsSo m (k + 1) ys
+runs_next m k xs ys b below r e here = record {
+  count = ap length e ∙ length-set xs k b ∙ r.count;
+  found = λ s under.
+      ap (λ l. slice_index_or l s false) e
+      ∙ elim (cases_eq s k) [
+        | inl same ↦ ap (λ i. slice_index_or (slice_set xs k b) i false) same ∙ get_or-set_same xs k b false (omega (arith, r.count)) ∙ here ∙ ap (runs m) (sym same)
+        | inr other ↦ get_or-set_other xs k s b false other ∙ r.found s (omega arith)
+      ];
+}
+
+pub turn_found : (m : Machine) (last : ℕ) (xs : List Bool) (o : Option ℕ) → last < slots → RunsSo m slots xs → o ≡ robin (length xs) (λ k. slice_index_or xs k false) last
+    → o ≡ turn_after m last
+turn_found m last xs o l r h =
+    h ∙ ap (λ n. robin n (λ k. slice_index_or xs k false) last) r.count ∙ robin_same slots last (λ k. slice_index_or xs k false) (runs m) l (λ k below. r.found k below)
+
+pub turn_is_slot : (m : Machine) (last : ℕ) (o : Option ℕ) → last < slots → o ≡ turn_after m last → IfSome o (λ s. s < slots)
+turn_is_slot m last (Some s) l h = turn_within m last s l (sym h)
+turn_is_slot m last None l h = tt
+
+-- RUN alone asks for turns
+pub asks_none : (e : Event) → ((n q : ℕ) → e ≡ events.Run n q → ⊥) → turns_asked e ≡ 0
+asks_none (events.Run n q) h = absurd (h n q refl)
+asks_none _ h = refl

@@ -1,0 +1,98 @@
+//! RUN: turns in a circle of slots, behind its line.
+ghost use Rattle.std.specs.Prelude.{◌≡◌, ◌≢◌, ◌<◌, ◌≤◌, IfSome};
+ghost use Rattle.its_io.specs.Bytes.{next_fault};
+ghost use Rattle.its_word.specs.Limits.{slots};
+ghost use Rattle.its_session.specs.Fits.{EventFits};
+ghost use Rattle.its_plain.specs.Unrolled.{turn_after};
+ghost use Rattle.its_world.specs.World.{state_of};
+ghost use Rattle.its_operator.specs.Kept.{Kept};
+ghost use Rattle.its_top.specs.Answer.{Circled, FindsStart, Follows, block_of};
+
+use super::answer::{Runs, answer, tick_line};
+use super::progress::Progress;
+use super::turn::Turn;
+use its_io::Sink;
+use its_monitor::Monitor;
+use its_robin::next;
+use its_word::{Event, SLOTS};
+
+/// The highest slot: before the first turn of a session it is the last one.
+pub const HIGHEST: u8 = SLOTS as u8 - 1;
+
+/// A line, and behind it the turns that it asks for, which RUN alone does. Slot `last` had the last turn before it, and has the
+/// slot of the last turn then.
+#[tactic(auto, using(crate::proofs::CircleLaws::line_follows, crate::proofs::CircleLaws::run_follows))]
+pub fn follow<K: Sink>(
+    m: &mut Monitor,
+    p: &mut Progress,
+    last: &mut u8,
+    event: &Event,
+    runs: &mut Runs,
+    out: &mut K,
+) -> Turn
+    requires sound { Kept m.old.world }
+    requires slot { p.old.slot < slots }
+    requires last { last.old < slots }
+    requires fits { EventFits 2 event.now }
+    requires start { FindsStart event.now (state_of m.old.world) }
+    ensures follows { Follows result p.old.number (state_of m.old.world) (block_of p.old.slot p.old.file) last.old event.now (state_of m.new.world) (block_of p.new.slot p.new.file) last.new (K.written out.old) (K.written out.new) }
+    ensures sound { Kept m.new.world }
+    ensures slot { p.new.slot < slots }
+    ensures last { last.new < slots }
+    ensures number { p.new.number ≡ p.old.number }
+    ensures later { K.faults out.old ≤ K.faults out.new }
+    ensures unfailed { result ≢ Turn.Fault → K.faults out.new ≡ K.faults out.old }
+    ensures fault { result ≡ Turn.Fault → K.faults out.new ≡ next_fault (K.faults out.old) }
+{
+    match event {
+        Event::Run { n, q } => circle(m, last, *n, *q, runs, out),
+        _ => answer(m, p, event, runs, out),
+    }
+}
+
+/// Up to n turns of q ticks: each is of the slot whose turn it is, and writes its `T` line. They end early where no job runs.
+#[tactic(auto, using(crate::proofs::CircleLaws::circle_start, crate::proofs::CircleLaws::circle_turn, crate::proofs::CircleLaws::circle_fault, crate::proofs::CircleLaws::circle_none, crate::proofs::CircleLaws::circle_end))]
+fn circle<K: Sink>(
+    m: &mut Monitor,
+    last: &mut u8,
+    n: u32,
+    q: u32,
+    runs: &mut Runs,
+    out: &mut K,
+) -> Turn
+    requires sound { Kept m.old.world }
+    requires last { last.old < slots }
+    requires few { q ≤ 512 }
+    ensures circled { Circled result (state_of m.old.world) last.old n q (state_of m.new.world) last.new (K.written out.old) (K.written out.new) }
+    ensures sound { Kept m.new.world }
+    ensures last { last.new < slots }
+    ensures later { K.faults out.old ≤ K.faults out.new }
+    ensures unfailed { result ≢ Turn.Fault → K.faults out.new ≡ K.faults out.old }
+    ensures fault { result ≡ Turn.Fault → K.faults out.new ≡ next_fault (K.faults out.old) }
+{
+    for _k in 0..n {
+        let Some(slot) = turn_after(m, *last) else {
+            return Turn::On;
+        };
+        *last = slot;
+        let turn = tick_line(m, slot, q, runs, out);
+        if !turn.goes_on() {
+            return turn;
+        }
+    }
+    Turn::On
+}
+
+/// The slot whose turn it is, after a turn of slot `last`; None where no job runs.
+#[tactic(auto, using(crate::proofs::CircleLaws::turn_found, crate::proofs::CircleLaws::turn_is_slot, crate::proofs::CircleLaws::runs_start, crate::proofs::CircleLaws::runs_next))]
+fn turn_after(m: &Monitor, last: u8) -> Option<u8>
+    requires last { last < slots }
+    ensures turn { result ≡ turn_after (state_of m.now.world).raw last }
+    ensures slot { IfSome result (λ s. s < slots) }
+{
+    let mut runs = [false; SLOTS];
+    for slot in 0..SLOTS {
+        runs[slot] = m.running(slot as u8);
+    }
+    next(&runs, last)
+}

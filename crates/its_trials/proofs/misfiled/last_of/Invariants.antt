@@ -1,0 +1,5 @@
+use Rattle.its_operator.specs.Kept.{Kept}
+use Rattle.its_trials.proofs.misfiled.last_of.Given as goal
+
+abbrev pub invariant-loop-k : goal.invariant-loop-k
+invariant-loop-k l = Kept l.m.world

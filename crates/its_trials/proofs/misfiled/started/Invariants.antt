@@ -1,0 +1,7 @@
+use Rattle.std.proofs.Common.{◌<◌}
+use Rattle.its_word.specs.Limits.{slots}
+use Rattle.its_operator.specs.Kept.{Kept}
+use Rattle.its_trials.proofs.misfiled.started.Given as goal
+
+abbrev pub invariant-loop-a : goal.invariant-loop-a
+invariant-loop-a g l = Kept l.m.world

@@ -1,0 +1,91 @@
+-- The session of an input, line by line.
+use Rattle.std.proofs.Common.{◌≡◌, ◌≤◌, ◌<◌, ◌+◌, ℕ, Bool, true, false, Option, Ok, List, [], ◌∷◌, ◌++◌, length, refl, sym, ap, ◌∙◌, ltb, arith}
+use Rattle.std.proofs.lemmas.Bool.Decides.{nat_tests}
+use Rattle.its_session.specs.Events.{most_lines}
+use Rattle.its_reader.specs.declared.lines.Next.TheVariants as nexts
+use Rattle.its_reader.specs.declared.texts.Texts.{Texts}
+use Rattle.its_reader.specs.TextLines.{before_lf}
+use Rattle.its_reader.specs.Texts.{ReadsText, ReadyTexts, texts_ahead}
+use Rattle.its_verify.specs.Keeping.{Keeps, KeptSo}
+use Rattle.its_verify.specs.Sources.{bytes_of, texts_of}
+use Rattle.its_verify.specs.Verified.{Both, LongLine, NoEnd, is_end_line, most_session_bytes, parts_from}
+use Rattle.its_verify.specs.declared.keeping.Part.TheVariants.{Session, Long, Cut, Beyond}
+use Rattle.its_verify.proofs.SourceLaws.{end_told, line_told, told_on}
+
+few_lines : (n : ℕ) → n ≤ most_lines → ltb most_lines n ≡ false
+few_lines n few = grind (arith, nat_tests)
+
+short_line : (n : ℕ) → n ≤ 255 → ltb most_session_bytes n ≡ false
+short_line n few = grind (arith, nat_tests)
+
+long_line : (n : ℕ) → 255 < n → ltb most_session_bytes n ≡ true
+long_line n more = grind (arith, nat_tests)
+
+past_lines : (n : ℕ) → most_lines < n → ltb most_lines n ≡ true
+past_lines n more = grind (arith, nat_tests)
+
+part_end : (n : ℕ) (session line : List ℕ) (lines : List (List ℕ)) → n ≤ most_lines → length (before_lf line) ≤ 255 → is_end_line line ≡ true
+    → parts_from n session (line ∷ lines) ≡ Both (session ++ line) n lines
+part_end n session line lines few short end = rw (few_lines n few, short_line (length (before_lf line)) short, end) refl
+
+part_on : (n : ℕ) (session line : List ℕ) (lines : List (List ℕ)) → n ≤ most_lines → length (before_lf line) ≤ 255 → is_end_line line ≡ false
+    → parts_from n session (line ∷ lines) ≡ parts_from (n + 1) (session ++ line) lines
+part_on n session line lines few short end = rw (few_lines n few, short_line (length (before_lf line)) short, end) refl
+
+pub kept_start : (old : Texts) (session : List ℕ) (left : Option (List ℕ)) → old.number ≡ 0 → session ≡ [] → KeptSo old old session left left
+kept_start old session left number empty t =
+    (ap (λ (n : ℕ). parts_from (n + 1) [] (texts_of old left)) (sym number) ∙ ap (λ (xs : List ℕ). parts_from (old.number + 1) xs (texts_of old left)) (sym empty), t)
+
+pub kept_on : (old now new : Texts) (session after : List ℕ) (left mid rest : Option (List ℕ)) (b : Bool) → KeptSo old now session left mid → ReadsText (Ok nexts.Line) now new mid rest
+    → ReadyTexts new rest → new.number ≡ now.number + 1 → new.number ≤ most_lines → length (before_lf new.text.items) ≤ 255 → b ≡ is_end_line new.text.items → b ≡ false
+    → after ≡ session ++ new.text.items → KeptSo old new after left rest
+kept_on old now new session after left mid rest b so r ready number few short test is adds t =
+    let before = so t in
+    let next = line_told now new mid rest r ready before.1 in (
+      before.0 ∙ ap (parts_from (now.number + 1) session) next.0
+          ∙ part_on (now.number + 1) session new.text.items (texts_of new rest) (omega (arith, number, few)) short (sym test ∙ is)
+          ∙ ap (λ (n : ℕ). parts_from (n + 1) (session ++ new.text.items) (texts_of new rest)) (sym number)
+          ∙ ap (λ (xs : List ℕ). parts_from (new.number + 1) xs (texts_of new rest)) (sym adds),
+      next.1,
+    )
+
+pub keeps_session : (old now new : Texts) (session after : List ℕ) (left mid rest : Option (List ℕ)) (b : Bool) → KeptSo old now session left mid → ReadsText (Ok nexts.Line) now new mid rest
+    → ReadyTexts new rest → new.number ≡ now.number + 1 → new.number ≤ most_lines → length (before_lf new.text.items) ≤ 255 → b ≡ is_end_line new.text.items → b ≡ true
+    → after ≡ session ++ new.text.items → Keeps (Ok Session) old new after left rest
+keeps_session old now new session after left mid rest b so r ready number few short test is adds t =
+    let before = so t in
+    let next = line_told now new mid rest r ready before.1 in (
+      before.0 ∙ ap (parts_from (now.number + 1) session) next.0
+          ∙ part_end (now.number + 1) session new.text.items (texts_of new rest) (omega (arith, number, few)) short (sym test ∙ is)
+          ∙ ap (λ (n : ℕ). Both (session ++ new.text.items) n (texts_of new rest)) (sym number)
+          ∙ ap (λ (xs : List ℕ). Both xs new.number (texts_of new rest)) (sym adds),
+      next.1,
+    )
+
+pub keeps_long : (old now new : Texts) (session : List ℕ) (left mid rest : Option (List ℕ)) (n : ℕ) → KeptSo old now session left mid → ReadsText (Ok nexts.Long) now new mid rest
+    → new.number ≡ now.number + 1 → new.most ≡ 255 → n ≡ new.number → Keeps (Ok (Long n)) old new session left rest
+keeps_long old now new session left mid rest n so r number most is t =
+    let before = so t in
+    let told = told_on mid rest r.read before.1 r.consumed in
+    let long = r.next.1 (bytes_of rest) in
+    let few = r.next.0 in (
+      before.0 ∙ ap (parts_from (now.number + 1) session) (ap (texts_ahead now) told.bytes ∙ long.is)
+          ∙ rw (few_lines (now.number + 1) (omega (arith, number, few)), long_line (length (before_lf long.first)) (let h = long.holds in omega (arith, h, most))) (ap LongLine (sym number ∙ sym is)),
+      told.told,
+    )
+
+pub keeps_cut : (old now new : Texts) (session : List ℕ) (left mid rest : Option (List ℕ)) (n : ℕ) → KeptSo old now session left mid → ReadsText (Ok nexts.End) now new mid rest
+    → ReadyTexts new rest → new.number ≡ now.number + 1 → n ≡ new.number → Keeps (Ok (Cut n)) old new session left rest
+keeps_cut old now new session left mid rest n so r ready number is t =
+    let before = so t in
+    let end = end_told now new mid rest r ready before.1 in
+    (before.0 ∙ ap (parts_from (now.number + 1) session) end.0 ∙ ap NoEnd (sym number ∙ sym is), end.1)
+
+pub keeps_beyond : (old now new : Texts) (session : List ℕ) (left mid rest : Option (List ℕ)) → KeptSo old now session left mid → ReadsText (Ok nexts.Beyond) now new mid rest
+    → new.number ≡ now.number + 1 → Keeps (Ok Beyond) old new session left rest
+keeps_beyond old now new session left mid rest so r number t =
+    let before = so t in
+    let told = told_on mid rest r.read before.1 r.consumed in
+    let some = r.next.1 (bytes_of rest) in
+    let past = r.next.0 in
+    (before.0 ∙ ap (parts_from (now.number + 1) session) (ap (texts_ahead now) told.bytes ∙ some.is) ∙ rw (past_lines (now.number + 1) (omega (arith, number, past))) refl, told.told)

@@ -1,0 +1,17 @@
+-- The lines that a source has left, where it tells its bytes.
+use Rattle.std.specs.Prelude.{ℕ, Option, Some, None, List, []}
+use Rattle.its_reader.specs.declared.texts.Texts.{Texts}
+use Rattle.its_reader.specs.Texts.{texts_ahead}
+
+-- the source tells the bytes that it has left
+abbrev pub IsTold : Option (List ℕ) → Type 0
+IsTold (Some bytes) = Unit {0}
+IsTold None = ⊥
+
+abbrev pub bytes_of : Option (List ℕ) → List ℕ
+bytes_of (Some bytes) = bytes
+bytes_of None = []
+
+-- the lines that it has left
+abbrev pub texts_of : Texts → Option (List ℕ) → List (List ℕ)
+texts_of r left = texts_ahead r (bytes_of left)

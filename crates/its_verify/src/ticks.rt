@@ -1,0 +1,94 @@
+//! The letters of a `T` line, read from its text.
+ghost use Rattle.std.specs.Prelude.{◌≡◌, ◌≢◌, ◌≤◌, ◌+◌, ◌++◌, None, Some, IfNone, IfSome, length, replicate};
+ghost use Rattle.arrayvec.specs.ArrayVec.{array_vec_len};
+ghost use Rattle.its_print.specs.Runs.{paces_in};
+ghost use Rattle.its_verify.specs.Letters.{counted, letter_at, paces_from, ticks_in};
+
+use arrayvec::ArrayVec;
+use its_print::{Run, print_ticks};
+use its_word::Pace;
+
+/// The runs of letters that a line, which has its LF, says of `count` ticks of slot `slot`, of which there are at most 512; None where
+/// it is not the text of a `T` line of that slot with so many letters.
+#[tactic(auto, using(crate::proofs::TickLaws::ticks_read, crate::proofs::TickLaws::ticks_other, crate::proofs::TickLaws::ticks_few))]
+pub fn read_ticks(line: &[u8], slot: u8, count: u32) -> Option<ArrayVec<Run, 512>>
+    requires { count ≤ 512 }
+    ensures some { IfSome result (λ runs. ticks_in slot count line.now ≡ Some (paces_in runs.items)) }
+    ensures none { IfNone result (ticks_in slot count line.now ≡ None) }
+{
+    let runs = read_runs(line, count)?;
+    let mut text = ArrayVec::new();
+    print_ticks(slot, &runs, &mut text);
+    if text.as_slice() == line {
+        Some(runs)
+    } else {
+        None
+    }
+}
+
+/// The runs in a line, if they have so many letters.
+#[tactic(auto, using(crate::proofs::TickLaws::at_letter, crate::proofs::TickLaws::at_other, crate::proofs::TickLaws::past_most, crate::proofs::TickLaws::at_last, crate::proofs::TickLaws::last_other))]
+fn read_runs(line: &[u8], count: u32) -> Option<ArrayVec<Run, 512>>
+    requires { count ≤ 512 }
+    ensures some { IfSome result (λ runs. paces_from count 0 line.now ≡ paces_in runs.items) }
+    ensures many { IfSome result (λ runs. length (paces_in runs.items) ≡ count) }
+    ensures none { IfNone result (length (paces_from count 0 line.now) ≢ count) }
+{
+    let mut runs = ArrayVec::new();
+    let mut ticks = 0;
+    let mut number = 0;
+    for byte in line {
+        if let Some(pace) = letter_at(*byte) {
+            if ticks + number > count {
+                return None;
+            }
+            push_run(&mut runs, pace, number);
+            ticks += number;
+        }
+        number = counted(count, number, *byte);
+    }
+    if ticks == count { Some(runs) } else { None }
+}
+
+/// Adds so many of one letter as a run, if there are any.
+#[tactic(auto, using(crate::proofs::TickLaws::run_added, crate::proofs::TickLaws::none_added, crate::proofs::TickLaws::added_length))]
+fn push_run(runs: &mut ArrayVec<Run, 512>, pace: Pace, number: u32)
+    requires { array_vec_len runs.old + number ≤ 512 }
+    ensures paces { paces_in runs.new.items ≡ paces_in runs.old.items ++ replicate number pace }
+    ensures ticks { length (paces_in runs.new.items) ≡ length (paces_in runs.old.items) + number }
+    ensures len { array_vec_len runs.new ≤ array_vec_len runs.old + number }
+{
+    if number > 0 {
+        runs.push(Run {
+            pace,
+            more: number - 1,
+        });
+    }
+}
+
+/// The letter that a byte is, if it is one.
+fn letter_at(byte: u8) -> Option<Pace>
+    ensures { result ≡ letter_at byte }
+{
+    match byte {
+        b'*' => Some(Pace::Step),
+        b'.' => Some(Pace::Work),
+        b'w' => Some(Pace::Wait),
+        b'-' => Some(Pace::Off),
+        _ => None,
+    }
+}
+
+/// The number before a byte with the digit that the byte is, at most `most`; 0 where it is no digit.
+fn counted(most: u32, number: u32, byte: u8) -> u32
+    requires few { number ≤ most }
+    requires most { most ≤ 512 }
+    ensures value { result ≡ counted most number byte }
+    ensures few { result ≤ most }
+{
+    if byte.is_ascii_digit() && byte < b'8' {
+        (number * 8 + u32::from(byte - b'0')).min(most)
+    } else {
+        0
+    }
+}

@@ -1,0 +1,110 @@
+-- What putting slots where they belong comes to.
+use Rattle.std.specs.Prelude.{◌≡◌, ◌≢◌, ◌<◌, ◌≤◌, ◌⊎◌, ◌+◌, ℕ, zero, suc, Option, Some, None, List, [], ◌∷◌, ◌++◌, length, slice_set, refl}
+use Rattle.std.proofs.Common.{sym, ◌∙◌, ap, subst, inl, inr, arith, add-one}
+use Rattle.std.proofs.lemmas.Bool.{cases_eq}
+use Rattle.std.proofs.lemmas.List.{get_or-set_same, get_or-set_other}
+use Rattle.its_links.specs.Lists.{Linked, list_at, count, hit, first, rest}
+use Rattle.its_links.proofs.CountLaws.{hit_other, count_first}
+use Rattle.its_world.specs.Rings.{heads, StandsIn, Put, AwayFrom, lists_at, lists_to}
+use Rattle.its_world.specs.Filed.{place_of, OnlyRings, Refiled, Resettled}
+use Rattle.its_world.proofs.PlaceLaws.{place_rings, stands_on}
+use Rattle.its_world.specs.declared.world.World.{World}
+
+pub refiled : (old new : World) (s : ℕ) (p : Option ℕ) → OnlyRings old new → p ≡ place_of old s → Put old.rings new.rings s p → Refiled old new s
+refiled old new s p o e put = record {
+  rest = o;
+  here = subst (StandsIn new.rings.lists s) (e ∙ sym (place_rings old new o s)) put.here;
+  others = put.others;
+}
+
+only_then : (old mid new : World) → OnlyRings old mid → OnlyRings mid new → OnlyRings old new
+only_then old mid new a b = record {
+  core = b.core ∙ a.core;
+  jobs = b.jobs ∙ a.jobs;
+  frames = b.frames ∙ a.frames;
+  consoles = b.consoles ∙ a.consoles;
+  holders = b.holders ∙ a.holders;
+  files = b.files ∙ a.files;
+  clock = b.clock ∙ a.clock;
+  version = b.version ∙ a.version;
+  symbols = b.symbols ∙ a.symbols;
+  alarms = b.alarms ∙ a.alarms;
+}
+
+pub heads_within : (w : World) (h : ℕ) → h < heads → h < length w.rings.lists
+heads_within w h l = let e = w.ring_lists in omega arith
+
+-- an empty list
+count_none : (k : ℕ) (xs : List ℕ) → first xs ≡ None → count k xs ≡ 0
+count_none k [] e = refl
+count_none k (x ∷ xs) e = cc
+
+pub settled_none : (old new : World) (h : ℕ) → OnlyRings old new → new.rings ≡ old.rings → first (list_at old.rings.lists h) ≡ None → Resettled old new (h ∷ [])
+settled_none old new h o same e = record {
+  rest = o;
+  each = λ k. inr ((count_none k (list_at old.rings.lists h) e, tt), λ g. ap (λ l. count k (list_at l.lists g)) same);
+}
+
+-- a slot of the list is taken out, the rest of the list is settled, and the slot is put where it belongs
+pub settled_some : (old mid last new : World) (h n s : ℕ) → OnlyRings old mid → h < length old.rings.lists → first (list_at old.rings.lists h) ≡ Some n
+    → mid.rings ≡ record old.rings { lists = slice_set old.rings.lists h (rest (list_at old.rings.lists h)) } → s ≡ n
+    → Resettled mid last (h ∷ []) → Refiled last new s → Resettled old new (h ∷ [])
+settled_some old mid last new h n s o within found popped is settled filed = record {
+  rest = only_then old last new (only_then old mid last o settled.rest) filed.rest;
+  each = λ k. elim (cases_eq k s) [
+    | inl e ↦ inl (subst (λ i. StandsIn new.rings.lists i (place_of new i)) (sym e) filed.here)
+    | inr ne ↦ elim (settled.each k) [
+      | inl right ↦ inl (stands_on last.rings.lists new.rings.lists k (place_of last k) (place_of new k) (filed.others k ne) (place_rings last new filed.rest k) right)
+      | inr p ↦
+          let all : (g : ℕ) → count k (list_at mid.rings.lists g) ≡ count k (list_at (slice_set old.rings.lists h (rest (list_at old.rings.lists h))) g) = λ g. ap (λ l. count k (list_at l.lists g)) popped in
+          let at : count k (list_at mid.rings.lists h) ≡ count k (rest (list_at old.rings.lists h)) = all h ∙ ap (count k) (get_or-set_same old.rings.lists h (rest (list_at old.rings.lists h)) [] within) in
+          let whole : count k (list_at old.rings.lists h) ≡ hit k n + count k (rest (list_at old.rings.lists h)) = count_first k n (list_at old.rings.lists h) found in
+          let miss : hit k n ≡ 0 = hit_other k n (λ i. ne (i ∙ sym is)) in
+          let none : count k (list_at mid.rings.lists h) ≡ 0 = p.0.0 in
+          let away : count k (list_at old.rings.lists h) ≡ 0 = omega arith in
+          inr (
+            (away, tt),
+            λ g. filed.others k ne g ∙ p.1 g ∙ elim (cases_eq g h) [
+              | inl e ↦ ap (λ i. count k (list_at mid.rings.lists i)) e ∙ none ∙ sym (ap (λ i. count k (list_at old.rings.lists i)) e ∙ away)
+              | inr ng ↦ all g ∙ ap (count k) (get_or-set_other old.rings.lists h g (rest (list_at old.rings.lists h)) [] ng)
+            ],
+          )
+    ]
+  ];
+}
+
+-- some lists are settled, and then others
+away_both : (lists : List (List ℕ)) (k : ℕ) (a b : List ℕ) → AwayFrom lists k a → AwayFrom lists k b → AwayFrom lists k (a ++ b)
+away_both lists k [] b p q = q
+away_both lists k (x ∷ a) b p q = (p.0, away_both lists k a b p.1 q)
+
+away_as : (old new : List (List ℕ)) (k : ℕ) (hs : List ℕ) → ((h : ℕ) → count k (list_at new h) ≡ count k (list_at old h)) → AwayFrom new k hs → AwayFrom old k hs
+away_as old new k [] same p = tt
+away_as old new k (h ∷ hs) same p = (sym (same h) ∙ p.0, away_as old new k hs same p.1)
+
+pub settled_then : (old mid new : World) (a b : List ℕ) → Resettled old mid a → Resettled mid new b → Resettled old new (a ++ b)
+settled_then old mid new a b x y = record {
+  rest = only_then old mid new x.rest y.rest;
+  each = λ k. elim (y.each k) [
+    | inl right ↦ inl right
+    | inr q ↦ elim (x.each k) [
+      | inl right ↦ inl (stands_on mid.rings.lists new.rings.lists k (place_of mid k) (place_of new k) q.1 (place_rings mid new y.rest k) right)
+      | inr p ↦ inr (away_both old.rings.lists k a b p.0 (away_as old.rings.lists mid.rings.lists k b p.1 q.0), λ h. q.1 h ∙ p.1 h)
+    ]
+  ];
+}
+
+pub settled_console : (a b c d e : World) (x i : ℕ) → i ≡ x → Resettled a b ((2 + i) ∷ []) → Resettled b c ((10 + i) ∷ []) → Resettled c d ((18 + i) ∷ []) → Resettled d e ((26 + i) ∷ []) → Resettled a e (lists_at x)
+settled_console a b c d e x i is p q r s = subst (λ j. Resettled a e (lists_at j)) is
+    (settled_then a b e ((2 + i) ∷ []) ((10 + i) ∷ (18 + i) ∷ (26 + i) ∷ []) p
+    (settled_then b c e ((10 + i) ∷ []) ((18 + i) ∷ (26 + i) ∷ []) q
+    (settled_then c d e ((18 + i) ∷ []) ((26 + i) ∷ []) r s)))
+
+pub settled_start : (w : World) → Resettled w w (lists_to 0)
+settled_start w = record {
+  rest = record { core = refl; jobs = refl; frames = refl; consoles = refl; holders = refl; files = refl; clock = refl; version = refl; symbols = refl; alarms = refl };
+  each = λ k. inr (tt, λ h. refl);
+}
+
+pub settled_more : (old mid new : World) (c : ℕ) → Resettled old mid (lists_to c) → Resettled mid new (lists_at c) → Resettled old new (lists_to (c + 1))
+settled_more old mid new c x y = subst (λ n. Resettled old new (lists_to n)) (sym (add-one c)) (settled_then old mid new (lists_to c) (lists_at c) x y)

@@ -1,0 +1,311 @@
+-- Where slots belong among the lists of those that wait, as parts of a world are written; all else keeps each slot in the
+-- list in which it belongs. No other file reasons on places.
+use Rattle.std.specs.Prelude.{◌≡◌, ◌≢◌, ◌<◌, ◌≤◌, ◌⊎◌, ◌&&◌, ◌+◌, ◌-◌, ◌^◌, ℕ, zero, suc, Bool, true, false, Option, Some, None, IfSome, List, [], ◌∷◌, ◌++◌, length, nat_lt, slice_index_or, replicate, unwrap_or, refl}
+use Rattle.std.proofs.Common.{sym, ◌∙◌, ap, subst, inl, inr, arith}
+use Rattle.std.proofs.lemmas.Bool.{cases_eq, cases_Bool, cases_lt, both_ways}
+use Rattle.std.proofs.lemmas.Bool.Decides.{nat_tests}
+use Rattle.its_links.specs.Lists.{list_at, count, hit}
+use Rattle.its_links.proofs.CountLaws.{hit_same}
+use Rattle.its_word.specs.Only.{Only, Same}
+use Rattle.its_word.specs.Console.{Console}
+use Rattle.its_word.specs.Tree.{fresh_job}
+use Rattle.its_word.specs.declared.calls.Ask.{Ask}
+use Rattle.its_word.specs.declared.jobs.Channel.{Channel}
+use Rattle.its_word.specs.declared.jobs.Channel.TheVariants as channels
+use Rattle.its_word.specs.declared.jobs.Job.{Job}
+use Rattle.its_jobs.specs.Table.{job_at}
+use Rattle.its_frame.specs.declared.decision.Wait.{Wait}
+use Rattle.its_frame.specs.declared.decision.Wait.TheVariants.{Hang, Clock, Input, Output, Drained}
+use Rattle.its_frame.specs.declared.frame.Frame.{Frame}
+use Rattle.its_frame.specs.declared.name.CallName.{CallName}
+use Rattle.its_frame.specs.declared.name.CallName.TheVariants as calls
+use Rattle.its_plain.specs.Machine.{Shut}
+use Rattle.its_plain.specs.Decide.{call_named}
+use Rattle.its_frame.specs.declared.frame.Frame.TheVariants.{Entered, Parsed, Asked, Holding, Waiting, Moving, Ending}
+use Rattle.its_plain.specs.Arguments.{input}
+use Rattle.its_plain.specs.Reasons.{Doors, held_up, reason_by}
+use Rattle.its_world.specs.Rings.{heads, ring_of, awake_of, console_in, place_at, mark, StandsIn, Filed, AwayFrom, lists_at, lists_to}
+use Rattle.its_world.specs.Filed.{frame_at, console_at, holder_at, kind_of, channel_of, reason_of, if_within, place_for, place_by, doors_of, place_of, Ringed, OnlyRings, Refiled, Resettled, SlotWritten, DoorsWritten}
+use Rattle.its_world.specs.declared.world.World.{World}
+
+-- a slot without a frame belongs in no list
+pub place_none : (w : World) (k : ℕ) → frame_at w.frames.items k ≡ None → place_of w k ≡ None
+unfolding place_of
+place_none w k none = ap (place_by (doors_of w) k (job_at w.jobs k)) none
+
+-- what a place looks at
+pub place_alike : (old new : World) (k : ℕ) → job_at new.jobs k ≡ job_at old.jobs k → frame_at new.frames.items k ≡ frame_at old.frames.items k
+    → ((c : ℕ) → console_at new.consoles.items c ≡ console_at old.consoles.items c) → ((c : ℕ) → holder_at new.holders c ≡ holder_at old.holders c)
+    → new.clock ≡ old.clock → place_of new k ≡ place_of old k
+unfolding place_of
+place_alike old new k job frame consoles holders clock =
+    λ t. place_by (record { consoles = λ c. consoles c t; holders = λ c. holders c t; clock = clock t }) k (job t) (frame t)
+
+pub place_rings : (old new : World) → OnlyRings old new → (k : ℕ) → place_of new k ≡ place_of old k
+place_rings old new o k =
+    place_alike old new k (ap (λ t. job_at t k) o.jobs) (ap (λ f. frame_at f.items k) o.frames) (λ c. ap (λ l. console_at l.items c) o.consoles) (λ c. ap (λ l. holder_at l c) o.holders) o.clock
+
+-- a place is the head of a list
+within_at : (r : Wait) (b : Bool) → console_in r < 8 → IfSome (place_at r b) (λ h. h < heads)
+within_at Hang true l = omega arith
+within_at Hang false l = tt
+within_at Clock true l = omega arith
+within_at Clock false l = tt
+within_at (Input c) true l = omega arith
+within_at (Input c) false l = omega arith
+within_at (Output c) true l = omega arith
+within_at (Output c) false l = omega arith
+within_at (Drained c) true l = omega arith
+within_at (Drained c) false l = omega arith
+
+within_if : (b : Bool) (p : Option ℕ) → (b ≡ true → IfSome p (λ h. h < heads)) → IfSome (if_within b p) (λ h. h < heads)
+within_if true p h = h refl
+within_if false p h = tt
+
+within_for : (d : Doors) (k n : ℕ) (r : Option Wait) → IfSome (place_for d k n r) (λ h. h < heads)
+within_for d k n (Some r) = within_if (nat_lt (console_in r) 8) (place_at r (held_up d k n r)) (λ t. let l : console_in r < 8 = grind (arith, nat_tests) in within_at r (held_up d k n r) l)
+within_for d k n None = tt
+
+within_by : (d : Doors) (k : ℕ) (o : Option Job) (f : Option Frame) → IfSome (place_by d k o f) (λ h. h < heads)
+within_by d k o None = tt
+within_by d k o (Some (Entered f)) = tt
+within_by d k o (Some (Parsed f)) = tt
+within_by d k o (Some (Asked f)) = tt
+within_by d k o (Some (Holding f)) = tt
+within_by d k o (Some (Waiting f)) = within_for d k (input f.ask 0) (reason_of o f.ask)
+within_by d k o (Some (Moving f)) = tt
+within_by d k o (Some (Ending f)) = tt
+
+pub place_within : (w : World) (k : ℕ) → IfSome (place_of w k) (λ h. h < heads)
+unfolding place_of
+place_within w k = within_by (doors_of w) k (job_at w.jobs k) (frame_at w.frames.items k)
+
+pub place_lists : (w : World) (k : ℕ) (p : Option ℕ) → p ≡ place_of w k → IfSome p (λ h. h < length w.rings.lists)
+place_lists w k p e = subst (λ o. IfSome o (λ h. h < length w.rings.lists)) (sym e) (subst (λ n. IfSome (place_of w k) (λ h. h < n)) (sym w.ring_lists) (place_within w k))
+
+-- a slot that stands as it stood
+pub stands_on : (old new : List (List ℕ)) (k : ℕ) (p q : Option ℕ) → ((h : ℕ) → count k (list_at new h) ≡ count k (list_at old h)) → q ≡ p → StandsIn old k p → StandsIn new k q
+stands_on old new k p q same e s = record { at = λ h. same h ∙ s.at h ∙ ap (λ o. mark o h) (sym e) }
+
+-- nothing that a place looks at is written
+pub ringed_alike : (old new : World) → new.jobs ≡ old.jobs → new.frames ≡ old.frames → new.consoles ≡ old.consoles → new.holders ≡ old.holders → new.clock ≡ old.clock → new.rings ≡ old.rings
+    → Ringed old → Ringed new
+ringed_alike old new jobs frames consoles holders clock rings r = record {
+  each = λ k. stands_on old.rings.lists new.rings.lists k (place_of old k) (place_of new k)
+      (λ h. ap (λ l. count k (list_at l.lists h)) rings)
+      (place_alike old new k (ap (λ t. job_at t k) jobs) (ap (λ f. frame_at f.items k) frames) (λ c. ap (λ l. console_at l.items c) consoles) (λ c. ap (λ l. holder_at l c) holders) clock)
+      (r.each k);
+}
+
+-- no job waits where none has a frame
+pub idle_ringed : (old new : World) → Ringed old → ((k : ℕ) → frame_at old.frames.items k ≡ None) → new.frames ≡ old.frames → new.rings ≡ old.rings → Ringed new
+idle_ringed old new r none frames rings = record {
+  each = λ k. stands_on old.rings.lists new.rings.lists k (place_of old k) (place_of new k) (λ h. ap (λ l. count k (list_at l.lists h)) rings)
+      (place_none new k (ap (λ f. frame_at f.items k) frames ∙ none k) ∙ sym (place_none old k (none k))) (r.each k);
+}
+
+-- the table of jobs is another, with the same jobs
+pub ringed_jobs : (old new : World) → Same (job_at old.jobs) (job_at new.jobs) → new.frames ≡ old.frames → new.consoles ≡ old.consoles → new.holders ≡ old.holders → new.clock ≡ old.clock → new.rings ≡ old.rings
+    → Ringed old → Ringed new
+ringed_jobs old new jobs frames consoles holders clock rings r = record {
+  each = λ k. stands_on old.rings.lists new.rings.lists k (place_of old k) (place_of new k)
+      (λ h. ap (λ l. count k (list_at l.lists h)) rings)
+      (place_alike old new k (jobs.each k) (ap (λ f. frame_at f.items k) frames) (λ c. ap (λ l. console_at l.items c) consoles) (λ c. ap (λ l. holder_at l c) holders) clock)
+      (r.each k);
+}
+
+-- the job or the frame of one slot is written, and the slot is put where it belongs
+pub slot_ringed : (old mid new : World) (s : ℕ) (j : Option Job) (f : Option Frame) → SlotWritten old mid s j f → Refiled mid new s → Ringed old → Ringed new
+slot_ringed old mid new s j f w filed r = record {
+  each = λ k. elim (cases_eq k s) [
+    | inl e ↦ subst (λ i. StandsIn new.rings.lists i (place_of new i)) (sym e) filed.here
+    | inr ne ↦ stands_on old.rings.lists new.rings.lists k (place_of old k) (place_of new k)
+        (λ h. filed.others k ne h ∙ ap (λ l. count k (list_at l.lists h)) w.rings)
+        (place_rings mid new filed.rest k
+        ∙ place_alike old mid k (w.job.others k ne) (w.frame.others k ne) (λ c. ap (λ l. console_at l.items c) w.consoles) (λ c. ap (λ l. holder_at l c) w.holders) w.clock)
+        (r.each k)
+  ];
+}
+
+-- the job of a slot without a frame is written
+pub user_ringed : (old new : World) (s : ℕ) → ((k : ℕ) → k ≢ s → job_at new.jobs k ≡ job_at old.jobs k) → frame_at old.frames.items s ≡ None
+    → new.frames ≡ old.frames → new.consoles ≡ old.consoles → new.holders ≡ old.holders → new.clock ≡ old.clock → new.rings ≡ old.rings → Ringed old → Ringed new
+user_ringed old new s others none frames consoles holders clock rings r = record {
+  each = λ k. stands_on old.rings.lists new.rings.lists k (place_of old k) (place_of new k) (λ h. ap (λ l. count k (list_at l.lists h)) rings) (elim (cases_eq k s) [
+    | inl e ↦ place_none new k (ap (λ f. frame_at f.items k) frames ∙ ap (frame_at old.frames.items) e ∙ none) ∙ sym (place_none old k (ap (frame_at old.frames.items) e ∙ none))
+    | inr ne ↦ place_alike old new k (others k ne) (ap (λ f. frame_at f.items k) frames) (λ c. ap (λ l. console_at l.items c) consoles) (λ c. ap (λ l. holder_at l c) holders) clock
+  ]) (r.each k);
+}
+
+-- a job is made: it can wait for nothing that an empty slot cannot wait for
+pub all_closed : (k n : ℕ) → slice_index_or (replicate k channels.Closed) n channels.Closed ≡ channels.Closed
+all_closed zero n = refl
+all_closed (suc k) zero = refl
+all_closed (suc k) (suc n) = all_closed k n
+
+shut_by : (c : ℕ) (n : CallName) → reason_by c Shut (Some n) ≡ reason_by 0 Shut (Some n)
+shut_by c calls.Hang = refl
+shut_by c _ = refl
+
+shut_reason : (c : ℕ) (o : Option CallName) → reason_by c Shut o ≡ reason_by 0 Shut o
+shut_reason c (Some n) = shut_by c n
+shut_reason c None = refl
+
+fresh_channel : (u n : ℕ) (console : Option ℕ) (i : ℕ) → channel_of (fresh_job u n console) i ≡ channels.Closed
+unfolding fresh_job
+fresh_channel u n console i = elim (cases_Bool (nat_lt i 16)) [ inl t ↦ rw t (all_closed 16 i) | inr t ↦ rw t refl ]
+
+fresh_reason : (u n : ℕ) (console : Option ℕ) (a : Ask) → reason_of (Some (fresh_job u n console)) a ≡ reason_of None a
+fresh_reason u n console a =
+    let c = unwrap_or (fresh_job u n console).console 0 in
+    ap (λ x. reason_by c (kind_of x) (call_named a.name)) (fresh_channel u n console (input a 0)) ∙ shut_reason c (call_named a.name)
+
+fresh_place : (d : Doors) (k u n : ℕ) (console : Option ℕ) (f : Option Frame) → place_by d k (Some (fresh_job u n console)) f ≡ place_by d k None f
+fresh_place d k u n console None = refl
+fresh_place d k u n console (Some (Entered f)) = refl
+fresh_place d k u n console (Some (Parsed f)) = refl
+fresh_place d k u n console (Some (Asked f)) = refl
+fresh_place d k u n console (Some (Holding f)) = refl
+fresh_place d k u n console (Some (Waiting f)) = ap (place_for d k (input f.ask 0)) (fresh_reason u n console f.ask)
+fresh_place d k u n console (Some (Moving f)) = refl
+fresh_place d k u n console (Some (Ending f)) = refl
+
+pub made_ringed : (old new : World) (s u n : ℕ) (console : Option ℕ) → job_at old.jobs s ≡ None → Only (job_at old.jobs) (job_at new.jobs) s (Some (fresh_job u n console))
+    → new.frames ≡ old.frames → new.consoles ≡ old.consoles → new.holders ≡ old.holders → new.clock ≡ old.clock → new.rings ≡ old.rings → Ringed old → Ringed new
+unfolding place_of
+made_ringed old new s u n console none job frames consoles holders clock rings r =
+    let doors : doors_of new ≡ doors_of old = λ t. record { consoles = console_at (consoles t).items; holders = holder_at (holders t); clock = clock t } in
+    record {
+      each = λ k. stands_on old.rings.lists new.rings.lists k (place_of old k) (place_of new k) (λ h. ap (λ l. count k (list_at l.lists h)) rings) (elim (cases_eq k s) [
+        | inl e ↦
+            ap (λ i. place_by (doors_of new) k (job_at new.jobs i) (frame_at new.frames.items k)) e
+            ∙ ap (λ o. place_by (doors_of new) k o (frame_at new.frames.items k)) job.here
+            ∙ fresh_place (doors_of new) k u n console (frame_at new.frames.items k)
+            ∙ ap (λ d. place_by d k None (frame_at new.frames.items k)) doors
+            ∙ ap (λ f. place_by (doors_of old) k None (frame_at f.items k)) frames
+            ∙ ap (λ o. place_by (doors_of old) k o (frame_at old.frames.items k)) (sym (ap (job_at old.jobs) e ∙ none))
+        | inr ne ↦ place_alike old new k (job.others k ne) (ap (λ f. frame_at f.items k) frames) (λ c. ap (λ l. console_at l.items c) consoles) (λ c. ap (λ l. holder_at l c) holders) clock
+      ]) (r.each k);
+    }
+
+-- what a slot that stands away from some lists cannot belong in
+away : (lists : List (List ℕ)) (k g : ℕ) → StandsIn lists k (Some g) → count k (list_at lists g) ≡ 0 → ⊥
+away lists k g s none = let a = s.at g in let b = hit_same g in omega arith
+
+away_at : (lists : List (List ℕ)) (k c : ℕ) (r : Wait) (b : Bool) → console_in r ≡ c → (awake_of r ≡ Some (26 + c)) → AwayFrom lists k (lists_at c) → StandsIn lists k (place_at r b) → ⊥
+away_at lists k c Hang b e at none s = cc
+away_at lists k c Clock b e at none s = cc
+away_at lists k c (Input x) true e at none s = away lists k (2 + c) (subst (λ i. StandsIn lists k (Some (2 + i))) e s) none.0
+away_at lists k c (Input x) false e at none s = away lists k (26 + c) (subst (λ i. StandsIn lists k (Some (26 + i))) e s) none.1.1.1.0
+away_at lists k c (Output x) true e at none s = away lists k (10 + c) (subst (λ i. StandsIn lists k (Some (10 + i))) e s) none.1.0
+away_at lists k c (Output x) false e at none s = away lists k (26 + c) (subst (λ i. StandsIn lists k (Some (26 + i))) e s) none.1.1.1.0
+away_at lists k c (Drained x) true e at none s = away lists k (18 + c) (subst (λ i. StandsIn lists k (Some (18 + i))) e s) none.1.1.0
+away_at lists k c (Drained x) false e at none s = away lists k (26 + c) (subst (λ i. StandsIn lists k (Some (26 + i))) e s) none.1.1.1.0
+
+-- a slot keeps its place that is held up as before, or cannot have stood there
+abbrev pub Keeps : Doors → Doors → List (List ℕ) → ℕ → ℕ → Wait → Type 0
+Keeps d e lists k n r = (held_up e k n r ≡ held_up d k n r) ⊎ (StandsIn lists k (place_at r (held_up d k n r)) → ⊥)
+
+kept_if : (d e : Doors) (lists : List (List ℕ)) (k n : ℕ) (r : Wait) (b : Bool) → (b ≡ true → Keeps d e lists k n r) → StandsIn lists k (if_within b (place_at r (held_up d k n r)))
+    → if_within b (place_at r (held_up e k n r)) ≡ if_within b (place_at r (held_up d k n r))
+kept_if d e lists k n r true keeps s = elim (keeps refl) [ inl same ↦ ap (place_at r) same | inr wrong ↦ absurd (wrong s) ]
+kept_if d e lists k n r false keeps s = refl
+
+kept_for : (d e : Doors) (lists : List (List ℕ)) (k n : ℕ) (o : Option Wait) → ((r : Wait) → console_in r < 8 → Keeps d e lists k n r) → StandsIn lists k (place_for d k n o) → place_for e k n o ≡ place_for d k n o
+kept_for d e lists k n (Some r) keeps s = kept_if d e lists k n r (nat_lt (console_in r) 8) (λ t. keeps r (let l : console_in r < 8 = grind (arith, nat_tests) in l)) s
+kept_for d e lists k n None keeps s = refl
+
+kept_by : (d e : Doors) (lists : List (List ℕ)) (k : ℕ) (o : Option Job) (f : Option Frame) → ((n : ℕ) (r : Wait) → console_in r < 8 → Keeps d e lists k n r) → StandsIn lists k (place_by d k o f) → place_by e k o f ≡ place_by d k o f
+kept_by d e lists k o None keeps s = refl
+kept_by d e lists k o (Some (Entered f)) keeps s = refl
+kept_by d e lists k o (Some (Parsed f)) keeps s = refl
+kept_by d e lists k o (Some (Asked f)) keeps s = refl
+kept_by d e lists k o (Some (Holding f)) keeps s = refl
+kept_by d e lists k o (Some (Waiting f)) keeps s = kept_for d e lists k (input f.ask 0) (reason_of o f.ask) (keeps (input f.ask 0)) s
+kept_by d e lists k o (Some (Moving f)) keeps s = refl
+kept_by d e lists k o (Some (Ending f)) keeps s = refl
+
+-- consoles, holders or the clock are written, jobs without frames too, and each slot of these lists is put where it belongs
+settled_ringed : (old mid new : World) (hs : List ℕ) → ((k : ℕ) → (job_at mid.jobs k ≡ job_at old.jobs k) ⊎ (frame_at old.frames.items k ≡ None)) → mid.frames ≡ old.frames → mid.rings ≡ old.rings
+    → ((k n : ℕ) (r : Wait) → console_in r < 8 → AwayFrom old.rings.lists k hs → Keeps (doors_of old) (doors_of mid) old.rings.lists k n r)
+    → Resettled mid new hs → Ringed old → Ringed new
+unfolding place_of
+settled_ringed old mid new hs jobs frames rings keeps settled r = record {
+  each = λ k. elim (settled.each k) [
+    | inl right ↦ right
+    | inr p ↦
+        let none : AwayFrom old.rings.lists k hs = subst (λ l. AwayFrom l.lists k hs) rings p.0 in
+        stands_on old.rings.lists new.rings.lists k (place_of old k) (place_of new k) (λ h. p.1 h ∙ ap (λ l. count k (list_at l.lists h)) rings)
+        (place_rings mid new settled.rest k ∙ elim (jobs k) [
+          | inl job ↦ ap (λ o. place_by (doors_of mid) k o (frame_at mid.frames.items k)) job ∙ ap (λ f. place_by (doors_of mid) k (job_at old.jobs k) (frame_at f.items k)) frames
+              ∙ kept_by (doors_of old) (doors_of mid) old.rings.lists k (job_at old.jobs k) (frame_at old.frames.items k) (λ n x l. keeps k n x l none) (r.each k)
+          | inr empty ↦ place_none mid k (ap (λ f. frame_at f.items k) frames ∙ empty) ∙ sym (place_none old k empty)
+        ])
+        (r.each k)
+  ];
+}
+
+-- of one console
+pub door_ringed : (old mid new : World) (c : ℕ) → ((k : ℕ) → k ≢ c → console_at mid.consoles.items k ≡ console_at old.consoles.items k) → ((k : ℕ) → k ≢ c → holder_at mid.holders k ≡ holder_at old.holders k) → DoorsWritten old mid
+    → Resettled mid new (lists_at c) → Ringed old → Ringed new
+door_ringed old mid new c consoles holders w = settled_ringed old mid new (lists_at c) (λ k. inl (ap (λ t. job_at t k) w.jobs)) w.frames w.rings keeps
+  where
+    at_console : (k n : ℕ) (r : Wait) (i : ℕ) → console_in r ≡ i → awake_of r ≡ Some (26 + i) → (i ≢ c → held_up (doors_of mid) k n r ≡ held_up (doors_of old) k n r) → AwayFrom old.rings.lists k (lists_at c)
+        → Keeps (doors_of old) (doors_of mid) old.rings.lists k n r
+    at_console k n r i is at same none = elim (cases_eq i c) [
+      | inl e ↦ inr (away_at old.rings.lists k c r (held_up (doors_of old) k n r) (is ∙ e) (at ∙ ap (λ j. Some (26 + j)) e) none)
+      | inr ne ↦ inl (same ne)
+    ]
+
+    keeps : (k n : ℕ) (r : Wait) → console_in r < 8 → AwayFrom old.rings.lists k (lists_at c) → Keeps (doors_of old) (doors_of mid) old.rings.lists k n r
+    keeps k n Hang l none = inl refl
+    keeps k n Clock l none = inl (ap (λ t. held_up (record (doors_of old) { clock = t }) k n Clock) w.clock)
+    keeps k n (Input i) l none = at_console k n (Input i) i refl refl (λ ne. λ t. held_up (record { consoles = λ _. consoles i ne t; holders = λ _. holders i ne t; clock = 0 }) k n (Input 0)) none
+    keeps k n (Output i) l none = at_console k n (Output i) i refl refl (λ ne. λ t. held_up (record { consoles = λ _. consoles i ne t; holders = λ _. holders i ne t; clock = 0 }) k n (Output 0)) none
+    keeps k n (Drained i) l none = at_console k n (Drained i) i refl refl (λ ne. λ t. held_up (record { consoles = λ _. consoles i ne t; holders = λ _. holders i ne t; clock = 0 }) k n (Drained 0)) none
+
+-- the clock, which gains: a sleeper whose time has come stands in no list
+later_up : (a : Bool) (c m t : ℕ) → (a && nat_lt c t) ≡ false → (a && nat_lt (c + m) t) ≡ false
+later_up false c m t h = refl
+later_up true c m t h = grind (arith, nat_tests)
+
+pub clock_ringed : (old mid new : World) (m : ℕ) → mid.clock ≡ old.clock + m → mid.jobs ≡ old.jobs → mid.frames ≡ old.frames → mid.consoles ≡ old.consoles → mid.holders ≡ old.holders → mid.rings ≡ old.rings
+    → Resettled mid new (1 ∷ []) → Ringed old → Ringed new
+clock_ringed old mid new m clock jobs frames consoles holders rings = settled_ringed old mid new (1 ∷ []) (λ k. inl (ap (λ t. job_at t k) jobs)) frames rings keeps
+  where
+    sleeper : (k n : ℕ) (b : Bool) → held_up (doors_of old) k n Clock ≡ b → count k (list_at old.rings.lists 1) ≡ 0 → Keeps (doors_of old) (doors_of mid) old.rings.lists k n Clock
+    sleeper k n true e none = inr (λ s. away old.rings.lists k 1 (subst (λ b. StandsIn old.rings.lists k (place_at Clock b)) e s) none)
+    sleeper k n false e none = inl (ap (λ t. held_up (record (doors_of old) { clock = t }) k n Clock) clock ∙ later_up _ old.clock m _ e ∙ sym e)
+
+    keeps : (k n : ℕ) (r : Wait) → console_in r < 8 → AwayFrom old.rings.lists k (1 ∷ []) → Keeps (doors_of old) (doors_of mid) old.rings.lists k n r
+    keeps k n Hang l none = inl refl
+    keeps k n Clock l none = sleeper k n (held_up (doors_of old) k n Clock) refl none.0
+    keeps k n (Input i) l none = inl (λ t. held_up (record { consoles = console_at (consoles t).items; holders = holder_at (holders t); clock = 0 }) k n (Input i))
+    keeps k n (Output i) l none = inl (λ t. held_up (record { consoles = console_at (consoles t).items; holders = holder_at (holders t); clock = 0 }) k n (Output i))
+    keeps k n (Drained i) l none = inl (λ t. held_up (record { consoles = console_at (consoles t).items; holders = holder_at (holders t); clock = 0 }) k n (Drained i))
+
+-- of all consoles
+away_append : (lists : List (List ℕ)) (k : ℕ) (a b : List ℕ) → AwayFrom lists k (a ++ b) → AwayFrom lists k a × AwayFrom lists k b
+away_append lists k [] b h = (tt, h)
+away_append lists k (x ∷ a) b h = let r = away_append lists k a b h.1 in ((h.0, r.0), r.1)
+
+away_to : (lists : List (List ℕ)) (k n c : ℕ) → c < n → AwayFrom lists k (lists_to n) → AwayFrom lists k (lists_at c)
+away_to lists k zero c l none = absurd (omega arith)
+away_to lists k (suc n) c l none =
+    let p = away_append lists k (lists_to n) (lists_at n) none in
+    elim (cases_eq c n) [
+      | inl e ↦ subst (λ i. AwayFrom lists k (lists_at i)) (sym e) p.1
+      | inr ne ↦ away_to lists k n c (omega arith) p.0
+    ]
+
+-- some jobs without frames are gone, and consoles have other holders
+pub removed_ringed : (old mid new : World) → ((k : ℕ) → (job_at mid.jobs k ≡ job_at old.jobs k) ⊎ (frame_at old.frames.items k ≡ None)) → mid.frames ≡ old.frames → mid.consoles ≡ old.consoles → mid.clock ≡ old.clock → mid.rings ≡ old.rings
+    → Resettled mid new (lists_to 8) → Ringed old → Ringed new
+removed_ringed old mid new jobs frames consoles clock rings = settled_ringed old mid new (lists_to 8) jobs frames rings keeps
+  where
+    keeps : (k n : ℕ) (r : Wait) → console_in r < 8 → AwayFrom old.rings.lists k (lists_to 8) → Keeps (doors_of old) (doors_of mid) old.rings.lists k n r
+    keeps k n Hang l none = inl refl
+    keeps k n Clock l none = inl (ap (λ t. held_up (record (doors_of old) { clock = t }) k n Clock) clock)
+    keeps k n (Input i) l none = inr (away_at old.rings.lists k i (Input i) (held_up (doors_of old) k n (Input i)) refl refl (away_to old.rings.lists k 8 i l none))
+    keeps k n (Output i) l none = inr (away_at old.rings.lists k i (Output i) (held_up (doors_of old) k n (Output i)) refl refl (away_to old.rings.lists k 8 i l none))
+    keeps k n (Drained i) l none = inr (away_at old.rings.lists k i (Drained i) (held_up (doors_of old) k n (Drained i)) refl refl (away_to old.rings.lists k 8 i l none))

@@ -1,0 +1,163 @@
+-- Where a slot of a world belongs among the lists of those that wait.
+use Rattle.std.specs.Prelude.{if◌then◌else◌, ◌≡◌, ◌≢◌, ◌<◌, ◌+◌, ℕ, Bool, true, false, Option, Some, None, List, nat_lt, slice_index_or, unwrap_or, ◌⊎◌}
+use Rattle.its_links.specs.Lists.{list_at, count}
+use Rattle.its_word.specs.Only.{Only}
+use Rattle.its_word.specs.declared.calls.Ask.{Ask}
+use Rattle.its_word.specs.declared.jobs.Channel.{Channel}
+use Rattle.its_word.specs.declared.jobs.Channel.TheVariants as channels
+use Rattle.its_word.specs.declared.jobs.Job.{Job}
+use Rattle.its_jobs.specs.Table.{job_at}
+use Rattle.its_frame.specs.declared.decision.Wait.{Wait}
+use Rattle.its_frame.specs.declared.frame.Frame.{Frame}
+use Rattle.its_frame.specs.declared.frame.Frame.TheVariants.{Waiting}
+use Rattle.its_plain.specs.Machine.{Chan, Shut, TtyIn, TtyOut}
+use Rattle.its_plain.specs.Arguments.{input}
+use Rattle.its_plain.specs.Decide.{call_named}
+use Rattle.its_plain.specs.Reasons.{Doors, held_up, reason_by}
+use Rattle.its_word.specs.Console.{Console, quiet_console}
+use Rattle.its_world.specs.Rings.{wait_rings, awake_of, place_at, console_in, StandsIn, Filed, AwayFrom}
+use Rattle.its_world.specs.declared.world.World.{World}
+
+-- the frame of a slot; nothing waits at a console past the last, and nobody holds it
+abbrev pub frame_at : List (Option Frame) → ℕ → Option Frame
+frame_at frames k = slice_index_or frames k None
+
+abbrev pub console_at : List Console → ℕ → Console
+console_at consoles c = slice_index_or consoles c quiet_console
+
+abbrev pub holder_at : List (Option ℕ) → ℕ → Option ℕ
+holder_at holders c = slice_index_or holders c None
+
+-- what a channel is on, as far as waiting goes: which file or draft it is does not matter
+abbrev pub kind_of : Channel → Chan
+kind_of channels.Closed = Shut
+kind_of channels.TtyIn = TtyIn
+kind_of channels.TtyOut = TtyOut
+kind_of (channels.Reading f at) = Shut
+kind_of (channels.Writing d) = Shut
+kind_of (channels.Usr k w at) = Shut
+
+abbrev pub channel_of : Job → ℕ → Channel
+channel_of j n = if nat_lt n 16 then slice_index_or j.channels n channels.Closed else channels.Closed
+
+-- the reason for which the call of a slot's job can have to wait; that of an empty slot is as of a job with closed channels
+abbrev pub reason_of : Option Job → Ask → Option Wait
+reason_of (Some j) a = reason_by (unwrap_or j.console 0) (kind_of (channel_of j (input a 0))) (call_named a.name)
+reason_of None a = reason_by 0 Shut (call_named a.name)
+
+-- the list in which the call of slot k belongs, whose first argument is n; none for a console that there is not
+abbrev pub if_within : Bool → Option ℕ → Option ℕ
+if_within true p = p
+if_within false p = None
+
+abbrev pub place_for : Doors → ℕ → ℕ → Option Wait → Option ℕ
+place_for d k n (Some r) = if_within (nat_lt (console_in r) 8) (place_at r (held_up d k n r))
+place_for d k n None = None
+
+-- that of slot k: where its frame is Waiting that of its reason, else none
+abbrev pub place_by : Doors → ℕ → Option Job → Option Frame → Option ℕ
+place_by d k o (Some (Waiting f)) = place_for d k (input f.ask 0) (reason_of o f.ask)
+place_by d k o _ = None
+
+abbrev pub doors_of : World → Doors
+doors_of w = record { consoles = console_at w.consoles.items; holders = holder_at w.holders; clock = w.clock }
+
+unfoldable pub place_of : World → ℕ → Option ℕ
+place_of w k = place_by (doors_of w) k (job_at w.jobs k) (frame_at w.frames.items k)
+
+-- each slot stands in the list in which it belongs, once, and in no other
+abbrev pub Ringed : World → Type 0
+Ringed w = Filed w.rings.lists (place_of w)
+
+-- the Awake list of the console at which slot k waits, where it waits at one
+abbrev pub awake_for : Option Wait → Option ℕ
+awake_for (Some r) = if_within (nat_lt (console_in r) 8) (awake_of r)
+awake_for None = None
+
+abbrev pub awake_by : Option Job → Option Frame → Option ℕ
+awake_by o (Some (Waiting f)) = awake_for (reason_of o f.ask)
+awake_by o _ = None
+
+unfoldable pub awake_at : World → ℕ → Option ℕ
+awake_at w k = awake_by (job_at w.jobs k) (frame_at w.frames.items k)
+
+-- it stands in a wait ring
+pub record Blocked (w : World) (k : ℕ) : Type 0 where
+  pub ring : ℕ
+  pub within : ring < wait_rings
+  pub here : 0 < count k (list_at w.rings.lists ring)
+
+-- of a world only the lists are others
+pub record OnlyRings (old new : World) : Type 0 where
+  pub core : new.core ≡ old.core
+  pub jobs : new.jobs ≡ old.jobs
+  pub frames : new.frames ≡ old.frames
+  pub consoles : new.consoles ≡ old.consoles
+  pub holders : new.holders ≡ old.holders
+  pub files : new.files ≡ old.files
+  pub clock : new.clock ≡ old.clock
+  pub version : new.version ≡ old.version
+  pub symbols : new.symbols ≡ old.symbols
+  pub alarms : new.alarms ≡ old.alarms
+
+-- slot s was put where it belongs
+pub record Refiled (old new : World) (s : ℕ) : Type 0 where
+  pub rest : OnlyRings old new
+  pub here : StandsIn new.rings.lists s (place_of new s)
+  pub others : (k : ℕ) → k ≢ s → (h : ℕ) → count k (list_at new.rings.lists h) ≡ count k (list_at old.rings.lists h)
+
+-- each slot that stood in one of these lists was put where it belongs. (Others stand where they stood, or where they belong)
+pub record Resettled (old new : World) (hs : List ℕ) : Type 0 where
+  pub rest : OnlyRings old new
+  pub each : (k : ℕ) → StandsIn new.rings.lists k (place_of new k) ⊎ (AwayFrom old.rings.lists k hs × ((h : ℕ) → count k (list_at new.rings.lists h) ≡ count k (list_at old.rings.lists h)))
+
+-- of the job and the frame of slot s alone, j and f were written, and the lists are as they were
+pub record SlotWritten (old new : World) (s : ℕ) (j : Option Job) (f : Option Frame) : Type 0 where
+  pub job : Only (job_at old.jobs) (job_at new.jobs) s j
+  pub superiors : new.jobs.superiors ≡ old.jobs.superiors
+  pub frame : Only (frame_at old.frames.items) (frame_at new.frames.items) s f
+  pub core : new.core ≡ old.core
+  pub consoles : new.consoles ≡ old.consoles
+  pub holders : new.holders ≡ old.holders
+  pub files : new.files ≡ old.files
+  pub clock : new.clock ≡ old.clock
+  pub rings : new.rings ≡ old.rings
+  pub version : new.version ≡ old.version
+  pub symbols : new.symbols ≡ old.symbols
+  pub alarms : new.alarms ≡ old.alarms
+
+-- the consoles or their holders are others, and all else, the lists too, is as it was
+pub record DoorsWritten (old new : World) : Type 0 where
+  pub core : new.core ≡ old.core
+  pub jobs : new.jobs ≡ old.jobs
+  pub frames : new.frames ≡ old.frames
+  pub files : new.files ≡ old.files
+  pub clock : new.clock ≡ old.clock
+  pub rings : new.rings ≡ old.rings
+  pub version : new.version ≡ old.version
+  pub symbols : new.symbols ≡ old.symbols
+  pub alarms : new.alarms ≡ old.alarms
+
+-- console c alone was written; or its holder; or the clock
+pub record ConsoleWritten (old new : World) (c : ℕ) (x : Console) : Type 0 where
+  pub consoles : Only (console_at old.consoles.items) (console_at new.consoles.items) c x
+  pub holders : new.holders ≡ old.holders
+  pub rest : DoorsWritten old new
+
+pub record HolderWritten (old new : World) (c : ℕ) (h : Option ℕ) : Type 0 where
+  pub holders : Only (holder_at old.holders) (holder_at new.holders) c h
+  pub consoles : new.consoles ≡ old.consoles
+  pub rest : DoorsWritten old new
+
+pub record ClockWritten (old new : World) (c : ℕ) : Type 0 where
+  pub clock : new.clock ≡ c
+  pub core : new.core ≡ old.core
+  pub jobs : new.jobs ≡ old.jobs
+  pub frames : new.frames ≡ old.frames
+  pub consoles : new.consoles ≡ old.consoles
+  pub holders : new.holders ≡ old.holders
+  pub files : new.files ≡ old.files
+  pub rings : new.rings ≡ old.rings
+  pub version : new.version ≡ old.version
+  pub symbols : new.symbols ≡ old.symbols
+  pub alarms : new.alarms ≡ old.alarms

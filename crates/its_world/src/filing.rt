@@ -1,0 +1,215 @@
+//! Slots whose calls wait stand in the list of their reason: each write of the world puts those whose place it can change where
+//! they belong.
+
+ghost use Rattle.std.specs.Prelude.{◌≡◌, ◌<◌, ◌∷◌, ◌↔◌, ◌⊎◌, [], ℕ, IsTrue, length};
+ghost use Rattle.its_word.specs.Limits.{slots};
+ghost use Rattle.its_jobs.specs.Table.{job_at};
+ghost use Rattle.its_plain.specs.Arguments.{input};
+ghost use Rattle.its_plain.specs.CallTty.{is_other};
+ghost use Rattle.its_plain.specs.Reasons.{held_up};
+ghost use Rattle.its_world.specs.Rings.{heads, lists_at, lists_to, IsIn, StandsIn};
+ghost use Rattle.its_world.specs.Filed.{console_at, holder_at, channel_of, reason_of, place_for, place_of, awake_for, awake_at, doors_of, Blocked, Refiled, Resettled};
+
+use super::rings::{CLOCK_RING, awake_of, console_in, put, reason_by, ring_of, stands_in};
+use super::world::{CONSOLES, World};
+use its_frame::{CallName, Frame, Wait};
+use its_word::{Ask, Channel, Job, Word};
+
+/// How many bytes wait at most at a console, in one direction.
+const MOST_WAITING: u32 = 64;
+
+/// How many values a word has.
+const WORDS: u64 = 0o1000000000000;
+
+/// The first input of a call; 0 where it has none.
+fn first_input(ask: &Ask) -> u64
+    ensures { result ≡ input ask.now 0 }
+{
+    match ask.inputs.get(0) {
+        Some(operand) => operand.value.value(),
+        None => 0,
+    }
+}
+
+/// What a channel of a job is on; a number above 17 is no channel.
+fn channel_of(job: &Job, n: u64) -> Channel
+    ensures { result ≡ channel_of job.now n }
+{
+    if n < 16 {
+        job.channels[n as usize]
+    } else {
+        Channel::Closed
+    }
+}
+
+/// The Awake list of the console of a reason, where it is at one of the eight.
+fn awake_for(reason: Option<Wait>) -> Option<u32>
+    ensures { result ≡ awake_for reason }
+{
+    let reason = reason?;
+    if console_in(reason) >= 8 {
+        return None;
+    }
+    awake_of(reason)
+}
+
+impl World {
+    /// How many bytes wait at a console, of input and of output.
+    fn waiting_at(&self, console: u8) -> (u32, u32)
+        ensures input { result.0 ≡ length (console_at self.now.consoles.items console).input }
+        ensures output { result.1 ≡ length (console_at self.now.consoles.items console).output }
+    {
+        match self.consoles.get(usize::from(console)) {
+            Some(c) => c.waiting(),
+            None => (0, 0),
+        }
+    }
+
+    /// Whether another job than that of a slot holds a console.
+    fn is_anothers(&self, slot: u8, console: u8) -> bool
+        ensures { result ≡ is_other slot (holder_at self.now.holders console) }
+    {
+        match self.holders.get(usize::from(console)) {
+            Some(Some(holder)) => *holder != slot,
+            _ => false,
+        }
+    }
+
+    /// Whether the call of a slot, whose first input is n, has to wait for a reason.
+    fn is_held_up(&self, slot: u8, n: u64, reason: Wait) -> bool
+        ensures { result ≡ held_up (doors_of self.now) slot n reason }
+    {
+        match reason {
+            Wait::Hang => true,
+            Wait::Clock => n >= WORDS / 2 && n < WORDS && self.clock < WORDS - n,
+            Wait::Input(c) => self.waiting_at(c).0 == 0 || self.is_anothers(slot, c),
+            Wait::Output(c) => self.waiting_at(c).1 >= MOST_WAITING || self.is_anothers(slot, c),
+            Wait::Drained(c) => self.waiting_at(c).1 != 0,
+        }
+    }
+
+    /// The reason for which the call of a slot's job can have to wait.
+    fn reason_of(&self, slot: u8, ask: &Ask) -> Option<Wait>
+        ensures { result ≡ reason_of (job_at self.now.jobs slot) ask.now }
+    {
+        let name = CallName::named(ask.name);
+        match self.jobs.job(slot) {
+            Some(job) => reason_by(
+                job.console.unwrap_or(0),
+                channel_of(job, first_input(ask)),
+                name,
+            ),
+            None => reason_by(0, Channel::Closed, name),
+        }
+    }
+
+    /// The list in which the call of a slot belongs, whose first input is n and which waits for this reason.
+    fn place_for(&self, slot: u8, n: u64, reason: Option<Wait>) -> Option<u32>
+        ensures { result ≡ place_for (doors_of self.now) slot n reason }
+    {
+        let reason = reason?;
+        if console_in(reason) >= 8 {
+            return None;
+        }
+        if self.is_held_up(slot, n, reason) {
+            Some(ring_of(reason))
+        } else {
+            awake_of(reason)
+        }
+    }
+
+    /// The list in which a slot belongs: none where its frame is not Waiting.
+    #[tactic(auto, unfolding(crate::specs::Filed::place_of))]
+    fn place_of(&self, slot: u8) -> Option<u32>
+        requires { slot < slots }
+        ensures { result ≡ place_of self.now slot }
+    {
+        match &self.frames[usize::from(slot)] {
+            Some(Frame::Waiting(f)) => {
+                self.place_for(slot, first_input(&f.ask), self.reason_of(slot, &f.ask))
+            }
+            _ => None,
+        }
+    }
+
+    /// The Awake list of the console at which the call of a slot waits, where it waits at one.
+    #[tactic(auto, unfolding(crate::specs::Filed::awake_at))]
+    fn awake_at(&self, slot: u8) -> Option<u32>
+        requires { slot < slots }
+        ensures { result ≡ awake_at self.now slot }
+    {
+        match &self.frames[usize::from(slot)] {
+            Some(Frame::Waiting(f)) => awake_for(self.reason_of(slot, &f.ask)),
+            _ => None,
+        }
+    }
+
+    /// Whether a slot stands in the Awake list of the console at which its call waits.
+    fn is_awake(&self, slot: u8) -> bool
+        requires { slot < slots }
+        ensures { IsTrue result ↔ IsIn self.now.rings.lists slot (awake_at self.now slot) }
+    {
+        match self.awake_at(slot) {
+            Some(head) => stands_in(&self.rings, head, slot),
+            None => false,
+        }
+    }
+
+    /// Whether a slot stands in a wait ring, as in a list that is not the Awake list of its console.
+    pub fn is_blocked(&self, slot: u8) -> bool
+        requires slot { slot < slots }
+        requires stands { Blocked self.now slot ⊎ StandsIn self.now.rings.lists slot (place_of self.now slot) }
+        ensures { IsTrue result ↔ Blocked self.now slot }
+    {
+        self.rings.seen();
+        self.rings.linked(u32::from(slot)) && !self.is_awake(slot)
+    }
+
+    /// Puts a slot into the list in which it belongs, wherever it stood.
+    pub fn refile(&mut self, slot: u8)
+        requires { slot < slots }
+        ensures { Refiled self.old self.new slot }
+    {
+        let place = self.place_of(slot);
+        put(&mut self.rings, slot, place);
+    }
+
+    /// Puts each slot of a list where it belongs.
+    fn settle(&mut self, head: u32)
+        requires { head < heads }
+        ensures { Resettled self.old self.new (head ∷ []) }
+    {
+        if let Some(node) = self.rings.pop_front(head) {
+            self.settle(head);
+            self.refile(node as u8);
+        }
+    }
+
+    /// Puts each slot that stands in a list of a console where it belongs.
+    pub fn resettle(&mut self, console: u8)
+        requires { console < 8 }
+        ensures { Resettled self.old self.new (lists_at console) }
+    {
+        let c = u32::from(console);
+        self.settle(2 + c);
+        self.settle(10 + c);
+        self.settle(18 + c);
+        self.settle(26 + c);
+    }
+
+    /// The same of all consoles.
+    pub fn settle_consoles(&mut self)
+        ensures { Resettled self.old self.new (lists_to 8) }
+    {
+        for c in 0..CONSOLES as u8 {
+            self.resettle(c);
+        }
+    }
+
+    /// Puts each slot that waits for a time where it belongs.
+    pub fn resettle_clock(&mut self)
+        ensures { Resettled self.old self.new (1 ∷ []) }
+    {
+        self.settle(CLOCK_RING);
+    }
+}

@@ -1,0 +1,148 @@
+//! The lists of slots whose calls wait, and the reasons to wait.
+ghost use Rattle.std.specs.Prelude.{◌≡◌, ◌<◌, ◌≤◌, ◌↔◌, ℕ, None, Some, IfSome, IsTrue, length};
+ghost use Rattle.its_word.specs.Limits.{slots};
+ghost use Rattle.its_links.specs.Lists.{Linked, list_at, count};
+ghost use Rattle.its_plain.specs.Reasons.{of_transfer, of_finish, of_listen, reason_by};
+ghost use Rattle.its_world.specs.Rings.{Put, ring_of, awake_of, console_in};
+ghost use Rattle.its_world.specs.Filed.{kind_of};
+
+use its_frame::{CallName, Wait};
+use its_links::Links;
+use its_word::{Channel, SLOTS};
+
+/// How many lists there are: one for HANG, one for CLOCK, and of each console one each for input, output and
+/// drained output, and one of those that wait there and can go on.
+pub const HEADS: u32 = 34;
+
+/// The list of those that wait for a time.
+pub const CLOCK_RING: u32 = 1;
+
+/// Takes a slot out of the list in which it stands, where it stands in one.
+fn take_out(rings: &mut Links, slot: u8)
+    requires { slot < rings.old.nodes }
+    ensures { Put rings.old rings.new slot None }
+{
+    if rings.linked(u32::from(slot)) {
+        rings.unlink(u32::from(slot));
+    }
+}
+
+/// Puts a slot at the end of the list of a head, or into none, wherever it stood.
+#[tactic(auto, using(crate::proofs::RingLaws::is_out))]
+pub fn put(rings: &mut Links, slot: u8, place: Option<u32>)
+    requires slot { slot < rings.old.nodes }
+    requires place { IfSome place (λ h. h < length rings.old.lists) }
+    ensures { Put rings.old rings.new slot place }
+{
+    take_out(rings, slot);
+    if let Some(head) = place {
+        rings.push_back(head, u32::from(slot));
+    }
+}
+
+/// Whether a slot stands in the list of a head.
+#[tactic(auto, using(crate::proofs::RingLaws::looked_in))]
+pub fn stands_in(rings: &Links, head: u32, slot: u8) -> bool
+    requires head { head < length rings.now.lists }
+    requires nodes { rings.now.nodes ≤ slots }
+    ensures { IsTrue result ↔ (0 < count slot (list_at rings.now.lists head)) }
+{
+    rings.seen();
+    let mut at = rings.front(head);
+    for _k in 0..SLOTS {
+        let Some(node) = at else {
+            return false;
+        };
+        if node == u32::from(slot) {
+            return true;
+        }
+        at = rings.next(node);
+    }
+    false
+}
+
+/// The list of those that wait for a reason.
+pub fn ring_of(reason: Wait) -> u32
+    ensures { result ≡ ring_of reason }
+{
+    match reason {
+        Wait::Hang => 0,
+        Wait::Clock => CLOCK_RING,
+        Wait::Input(c) => 2 + u32::from(c),
+        Wait::Output(c) => 10 + u32::from(c),
+        Wait::Drained(c) => 18 + u32::from(c),
+    }
+}
+
+/// The list of those at the console of a reason that can go on.
+pub fn awake_of(reason: Wait) -> Option<u32>
+    ensures { result ≡ awake_of reason }
+{
+    match reason {
+        Wait::Hang => None,
+        Wait::Clock => None,
+        Wait::Input(c) => Some(26 + u32::from(c)),
+        Wait::Output(c) => Some(26 + u32::from(c)),
+        Wait::Drained(c) => Some(26 + u32::from(c)),
+    }
+}
+
+/// The console of a reason; 0 where it is at none.
+pub fn console_in(reason: Wait) -> u8
+    ensures { result ≡ console_in reason }
+{
+    match reason {
+        Wait::Hang => 0,
+        Wait::Clock => 0,
+        Wait::Input(c) => c,
+        Wait::Output(c) => c,
+        Wait::Drained(c) => c,
+    }
+}
+
+/// The reason for which a call can have to wait, by its name, what its channel is on, and its job's console.
+pub fn reason_by(console: u8, channel: Channel, name: Option<CallName>) -> Option<Wait>
+    ensures { result ≡ reason_by console (kind_of channel) name }
+{
+    match name {
+        Some(CallName::Hang) => Some(Wait::Hang),
+        Some(CallName::Sleep) => Some(Wait::Clock),
+        Some(CallName::Iot) => of_transfer(console, channel),
+        Some(CallName::Siot) => of_transfer(console, channel),
+        Some(CallName::Finish) => of_finish(console, channel),
+        Some(CallName::Listen) => of_listen(console, channel),
+        _ => None,
+    }
+}
+
+/// That of a byte that is moved from or to a console.
+fn of_transfer(console: u8, channel: Channel) -> Option<Wait>
+    ensures { result ≡ of_transfer console (kind_of channel) }
+{
+    match channel {
+        Channel::TtyIn => Some(Wait::Input(console)),
+        Channel::TtyOut => Some(Wait::Output(console)),
+        _ => None,
+    }
+}
+
+/// That of FINISH.
+fn of_finish(console: u8, channel: Channel) -> Option<Wait>
+    ensures { result ≡ of_finish console (kind_of channel) }
+{
+    match channel {
+        Channel::TtyOut => Some(Wait::Drained(console)),
+        _ => None,
+    }
+}
+
+/// That of LISTEN.
+fn of_listen(console: u8, channel: Channel) -> Option<Wait>
+    ensures { result ≡ of_listen console (kind_of channel) }
+{
+    match channel {
+        Channel::TtyIn => Some(Wait::Drained(console)),
+        Channel::TtyOut => Some(Wait::Drained(console)),
+        _ => None,
+    }
+}
