@@ -11,22 +11,25 @@ from .words import DIGITS
 
 # What stands behind the first word of each line: n a number, name a name, con a console or `-`
 FORMS = {"VERSION": "n", "LOAD": "name name con", "RO": "n", "SYM": "name n", "GO": "n", "FILE": "name name name", "EOF": "",
-         "TICK": "n n", "RUN": "n n", "TYPE": "n n", "DRAIN": "n n", "CLOCK": "n", "INT": "n n n", "EXAM": "n n n", "STATE": "n",
+         "TICK": "n n", "RUN": "n n", "TYPE": "n n", "DRAIN": "n n", "CLOCK": "n", "INT": "n n n", "EXAM": "n n n", "LIST": "n n n", "STATE": "n",
          "DEPOSIT": "n n n", "STOP": "n", "CONT": "n", "PEEK": "n", "DIR": "name", "SHOW": "name name name", "END": ""}
 
 # How each line is written
 WRITTEN = {"VERSION": "VERSION v", "LOAD": "LOAD u j c", "RO": "RO p", "SYM": "SYM name a", "GO": "GO a",
            "FILE": "FILE d x y", "EOF": "EOF", "TICK": "TICK s n", "RUN": "RUN n q", "TYPE": "TYPE c and 1 to 32 bytes", "DRAIN": "DRAIN c n",
-           "CLOCK": "CLOCK n", "INT": "INT s v w", "EXAM": "EXAM s a n", "STATE": "STATE s", "DEPOSIT": "DEPOSIT s a w",
+           "CLOCK": "CLOCK n", "INT": "INT s v w", "EXAM": "EXAM s a n", "LIST": "LIST s a n", "STATE": "STATE s", "DEPOSIT": "DEPOSIT s a w",
            "STOP": "STOP s", "CONT": "CONT s", "PEEK": "PEEK s", "DIR": "DIR d", "SHOW": "SHOW d x y", "END": "END",
            "a/": "a/ and 1 to 16 words", "/": "/ and 1 to 16 words"}
+
+# What EXAM and LIST ask of their numbers
+SPAN = [(2, 0, 0o777777, "an address"), (3, 1, 0o10, "the count of words")]
 
 # The numbers with a range of their own: which word of the line, least, most, and what it is
 RANGES = {"VERSION": [(1, 1, 2, "the version")], "RO": [(1, 0, 0o377, "a page")], "SYM": [(2, 0, 0o777777, "an address")],
           "GO": [(1, 0, 0o777777, "an address")], "TICK": [(2, 1, 0o1000, "the count of ticks")],
           "RUN": [(1, 1, 0o1000, "the count of turns"), (2, 1, 0o100, "the count of ticks of a turn")],
           "DRAIN": [(2, 1, 0o100, "the count of bytes")],
-          "EXAM": [(2, 0, 0o777777, "an address"), (3, 1, 0o10, "the count of words")],
+          "EXAM": SPAN, "LIST": SPAN,
           "DEPOSIT": [(2, 0, 0o777777, "an address")]}
 
 
@@ -79,7 +82,7 @@ def wrong_place(line: Line) -> Optional[Cause]:
         return None
     if line.kind == "VERSION" and line.number > 1:
         return Cause("not allowed here: VERSION stands in line 1 alone", starts(line)[0])
-    if line.kind in ("RO", "SYM", "RUN") and line.version == 1:
+    if line.kind in ("RO", "SYM", "RUN", "LIST") and line.version == 1:
         return Cause("%s lines are of version 2 of the session text: line 1 has to be VERSION 2" % line.kind, starts(line)[0])
     wanted = inside.get(line.kind, "")
     if wanted == line.block:
@@ -205,7 +208,7 @@ def out_of_range(line: Line, known: Known) -> Cause:
         if not least <= values[at] <= most:
             return Cause("%s is %o to %o here (%d to %d in decimal), and this is %o (%d)" % (
                 what, least, most, least, most, values[at], values[at]), columns[at])
-    if line.kind == "EXAM":
+    if line.kind in ("EXAM", "LIST"):
         return Cause("%o words from %o on go past the last address, 777777" % (values[3], values[2]), columns[2])
     if line.kind == "a/":
         return Cause("%d words from %o on go past the last address, 777777" % (len(values) - 1, values[0]), columns[0])
@@ -219,7 +222,7 @@ def absent(line: Line) -> Cause:
     values = numbers(line)
     if line.kind == "RO":
         return Cause("page %o is not there: load a word into it first" % values[1], starts(line)[1])
-    last = values[2] + (values[3] - 1 if line.kind == "EXAM" else 0)
+    last = values[2] + (values[3] - 1 if line.kind in ("EXAM", "LIST") else 0)
     pages = sorted({values[2] >> 10, last >> 10})
     return Cause("slot %o has not every page of these words: page %s" % (values[1], " and ".join(
         "%o (addresses %o to %o)" % (page, page << 10, (page << 10) + 0o1777) for page in pages)), starts(line)[2])

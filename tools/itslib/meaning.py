@@ -202,6 +202,11 @@ def says_exam(exchange: Exchange, known: Known) -> List[str]:
     return said
 
 
+def says_list(exchange: Exchange, known: Known) -> List[str]:
+    """LIST s a n: its words are typed out already"""
+    return ["the job is found in user mode"]
+
+
 def bits_in_words(name: str, one: str, two: str) -> List[str]:
     """Two words of bits, where one is on."""
     said = []
@@ -302,7 +307,7 @@ def says_show(exchange: Exchange, known: Known) -> List[str]:
 SAYS: Dict[str, Callable[[Exchange, Known], List[str]]] = {
     "VERSION": says_version, "LOAD": says_load, "a/": says_words, "RO": says_read_only, "SYM": says_symbol,
     "GO": says_go, "FILE": says_file, "TICK": says_ticks, "RUN": says_run, "TYPE": says_type, "DRAIN": says_drain, "CLOCK": says_clock,
-    "INT": says_interrupt, "EXAM": says_exam, "STATE": says_state, "DEPOSIT": says_deposit, "STOP": says_stop, "CONT": says_cont, "PEEK": says_peek, "DIR": says_dir, "SHOW": says_show}
+    "INT": says_interrupt, "EXAM": says_exam, "LIST": says_list, "STATE": says_state, "DEPOSIT": says_deposit, "STOP": says_stop, "CONT": says_cont, "PEEK": says_peek, "DIR": says_dir, "SHOW": says_show}
 
 
 def meaning(exchange: Exchange, known: Known) -> List[str]:

@@ -375,14 +375,14 @@ def image_of(told: List[Exchange]) -> Dict[int, List[int]]:
 
 
 def named_in(told: List[Exchange], watch: List[Tuple[int, int]]) -> List[int]:
-    """The groups of words that a session names in its `a/`, EXAM and DEPOSIT lines, and those that are to be watched."""
+    """The groups of words that a session names in its `a/`, EXAM, LIST and DEPOSIT lines, and those that are to be watched."""
     named = list(watch)
     for exchange in told:
         words = exchange.line.words
         if exchange.line.kind == "a/" and not exchange.reason:
             named.append((number(words[0][:-1]), len(words) - 1))
-        elif exchange.line.kind in ("EXAM", "DEPOSIT") and not exchange.reason:
-            named.append((number(words[2]), number(words[3]) if exchange.line.kind == "EXAM" else 1))
+        elif exchange.line.kind in ("EXAM", "LIST", "DEPOSIT") and not exchange.reason:
+            named.append((number(words[2]), 1 if exchange.line.kind == "DEPOSIT" else number(words[3])))
     return sorted({address // GROUP for start, count in named for address in range(start, start + count)})
 
 

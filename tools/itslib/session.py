@@ -15,13 +15,14 @@ class Wrong(Exception):
 
 
 # How many words each line has, its first word included, and the letter of its answer. TYPE has any number of bytes. The answer of
-# RUN is a T line for each of its turns, of which there may be none.
+# RUN is a T line for each of its turns, of which there may be none, and that of LIST an L line for each of its words.
 LINES = {"VERSION": (2, ""), "LOAD": (4, "J"), "RO": (2, ""), "SYM": (3, ""), "GO": (2, ""), "FILE": (4, ""), "EOF": (1, ""),
          "TICK": (3, "T"), "RUN": (3, ""), "TYPE": (0, "Y"), "DRAIN": (3, "D"), "CLOCK": (2, ""), "INT": (4, ""), "EXAM": (4, "E"),
-         "STATE": (2, "S"), "DEPOSIT": (4, ""), "STOP": (2, ""), "CONT": (2, ""), "PEEK": (2, "P"), "DIR": (2, "R"), "SHOW": (4, "W"), "END": (1, "")}
+         "LIST": (4, "L"), "STATE": (2, "S"), "DEPOSIT": (4, ""), "STOP": (2, ""), "CONT": (2, ""), "PEEK": (2, "P"), "DIR": (2, "R"),
+         "SHOW": (4, "W"), "END": (1, "")}
 
 # The lines that name a job's slot as their first number and need a job there
-JOB_LINES = ("EXAM", "STATE", "DEPOSIT", "STOP", "CONT", "INT", "PEEK")
+JOB_LINES = ("EXAM", "LIST", "STATE", "DEPOSIT", "STOP", "CONT", "INT", "PEEK")
 
 # Which line opens a block, and which closes it
 CLOSES = {"LOAD": "GO", "FILE": "EOF"}
@@ -148,6 +149,9 @@ def take_answer(transcript: Transcript, line: Line) -> None:
     if letter == "R":
         for _ in range(number(answer[2])):
             transcript.take("F")
+    if letter == "L":
+        for _ in range(number(line.words[3]) - 1):
+            transcript.take("L")
     if letter == "W":
         for _ in range((number(answer[4]) + 7) // 8):
             transcript.take("/")

@@ -160,6 +160,8 @@ def tell_job_line(story: Story, exchange: Exchange, tip: str) -> None:
     labels = [" ".join([first] + words[2:]), first]
     if first == "EXAM":
         labels = exam_labels(answer)
+    elif first == "LIST":
+        labels = ["LIST %o" % number(words[2]), first]
     elif first == "STATE":
         state = state_of(answer)
         names = sixbit(state["user"]) + " " + sixbit(state["job"])

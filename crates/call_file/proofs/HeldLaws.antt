@@ -7,7 +7,7 @@ use Rattle.its_files.specs.Files.{entry_at, is_file, is_draft}
 use Rattle.its_jobs.specs.Table.{job_at}
 use Rattle.its_world.specs.Tidy.{Tidy, channel_by}
 use Rattle.its_world.specs.declared.world.World.{World}
-use Rattle.its_world.proofs.AcrossLaws as across
+use Rattle.its_parts.proofs.StandLaws as across
 use Rattle.call_basic.specs.Seen.{channel_under}
 use Rattle.call_basic.proofs.ChannelLaws.{Open, is_open, under}
 

@@ -19,9 +19,9 @@ use Rattle.its_plain.specs.View.{outline, view}
 use Rattle.its_world.specs.Tidy.{Tidy, channel_at, channel_by}
 use Rattle.its_world.specs.World.{alarm_at, chan_of, raw_of, state_of}
 use Rattle.its_world.specs.declared.world.World.{World}
-use Rattle.its_world.proofs.AcrossLaws.{read_is, reader_found}
-use Rattle.its_world.proofs.RoomLaws.{full_on}
-use Rattle.its_world.proofs.StoreLaws.{found_named, found_self}
+use Rattle.its_parts.proofs.StandLaws.{read_is, reader_found}
+use Rattle.its_parts.proofs.RoomLaws.{full_on}
+use Rattle.its_parts.proofs.StoreLaws.{found_named, found_self}
 use Rattle.call_basic.specs.Seen.{seen_by}
 use Rattle.call_file.specs.Held.{has_readers}
 

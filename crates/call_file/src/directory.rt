@@ -33,7 +33,7 @@ fn find(w: &World, names: [Word; 3]) -> Option<u32>
 }
 
 /// Whether there is a file with these names.
-#[tactic(auto, using(its_world::proofs::StoreLaws::has_named))]
+#[tactic(auto, using(its_parts::proofs::StoreLaws::has_named))]
 pub(crate) fn has_file(w: &World, names: [Word; 3]) -> bool
     ensures { result ≡ has_file names (directory w.now.files) }
 {

@@ -3,15 +3,16 @@ use Rattle.std.proofs.Common.{if◌then◌else◌, ◌≡◌, ◌<◌, ◌≤◌
 use Rattle.std.specs.List.{list_all, position_or_len}
 use Rattle.std.proofs.lemmas.Bool.{agree_below_at, cases_Bool, cases_lt, le-leb, leb-true, and_from, eqb-true, not-true, or_parts}
 use Rattle.std.proofs.lemmas.Bool.Decides.{nat_tests}
+use Rattle.std.proofs.lemmas.List.Folds.{list_all-append}
 use Rattle.its_word.specs.Text.{digits_of, is_code}
 use Rattle.its_word.specs.Word.{left_of, right_of, pair_of}
 use Rattle.its_word.specs.Opcode.{ac_of, opcode_of}
-use Rattle.its_word.proofs.DigitLaws.{few_digits, some_digits}
-use Rattle.its_asm.specs.Text.{cut, words_of}
+use Rattle.its_word.proofs.DigitLaws.{digits_are_codes, few_digits, some_digits}
+use Rattle.its_asm.specs.Text.{cut, is_printable, words_of}
 use Rattle.its_asm.specs.Instruction.{alone, instruction, whole}
 use Rattle.its_asm.specs.Mnemonic.{is_name, mnemonic_of, named, names, opcode_named}
 use Rattle.its_asm.specs.Reading.{first_named, word_in, words_in}
-use Rattle.its_asm.specs.Statement.{body, no_names, statement_of, with_one}
+use Rattle.its_asm.specs.Statement.{body, no_names, statement_of, with_one, word_of}
 use Rattle.its_asm.specs.declared.statements.Statement.TheVariants.{Gives}
 use Rattle.its_asm.specs.TypeOut.{index_of, indirect_of, typed, typed_ac, typed_by, typed_index, typed_indirect, typed_operand}
 use Rattle.its_asm.proofs.ChartLaws.{named_first, no_more_names}
@@ -223,3 +224,46 @@ read_by w (Some n) h e =
 pub read_back : (w : ℕ) → w < 2 ^ 36 → statement_of (typed w) ≡ Some w
 unfolding typed mnemonic_of
 read_back w h = read_by w (slice_get names (opcode_of w)) h refl
+
+-- a typed word has at most as many bytes as a line may have
+pub typed_short : (w : ℕ) → w < 2 ^ 36 → length (typed w) ≤ 255
+unfolding statement_of
+typed_short w h = go (nat_le (length (typed w)) 255) refl (read_back w h)
+  where
+    go : (b : Bool) → nat_le (length (typed w)) 255 ≡ b
+        → (if b then (if is_printable (typed w) then word_of (body no_names no_names (words_of (typed w))) else None) else None) ≡ Some w → length (typed w) ≤ 255
+    go true s e = leb-true (length (typed w)) 255 s
+    go false s e = cc
+
+-- and bytes from 40 to 176
+digit_printable : (b : ℕ) → is_code 48 55 b ≡ true → is_code 32 126 b ≡ true
+digit_printable b h = grind (arith, nat_tests)
+
+halves_printable : (w : ℕ) → is_printable (typed_by None w) ≡ true
+halves_printable w =
+    let digits = λ (n : ℕ). all_imp (is_code 48 55) (is_code 32 126) digit_printable (digits_of n) (digits_are_codes n) in
+    rw (list_all-append (is_code 32 126) (digits_of (left_of w)) (44 ∷ (44 ∷ digits_of (right_of w))), digits (left_of w)) (digits (right_of w))
+
+operation_printable : (w : ℕ) (n : List ℕ) → opcode_of w < 448 → slice_get names (opcode_of w) ≡ Some n → is_name n ≡ true → is_printable (typed_by (Some n) w) ≡ true
+operation_printable w n below e some =
+    let stood = names_stand (opcode_of w) below in
+    let both : (is_op n && nat_eq (position_or_len (λ m. bytes_eq m n) names) (opcode_of w)) ≡ true = rw (e, some) at stood in
+    let op = (both_true (is_op n) (nat_eq (position_or_len (λ m. bytes_eq m n) names) (opcode_of w)) both).0 in
+    let letters = (both_true (list_all is_letter n) (not (is_other n)) (both_true (nat_le 1 (length n) && nat_le (length n) 7) (list_all is_letter n && not (is_other n)) op).1).0 in
+    let operand = operand_bytes (ac_of w) (indirect_of w) (right_of w) (index_of w) (omega arith) (omega arith) (omega arith) in
+    all_two (is_code 32 126) n (typed_operand w) (all_imp is_letter (is_code 32 126) letter_printable n letters) (all_imp is_operand (is_code 32 126) operand_printable (typed_operand w) operand) refl
+
+printable_by : (w : ℕ) (r : Option (List ℕ)) → slice_get names (opcode_of w) ≡ r → is_printable (typed_by (named r) w) ≡ true
+printable_by w None e = halves_printable w
+printable_by w (Some n) e =
+    elim (cases_Bool (is_name n)) [
+      | inl some ↦ rw some (elim (cases_lt (opcode_of w) 448) [
+        | inl below ↦ operation_printable w n below e some
+        | inr above ↦ (let none = no_more_names (opcode_of w) above in cc)
+      ])
+      | inr miss ↦ rw miss (halves_printable w)
+    ]
+
+pub typed_printable : (w : ℕ) → is_printable (typed w) ≡ true
+unfolding typed mnemonic_of
+typed_printable w = printable_by w (slice_get names (opcode_of w)) refl

@@ -26,8 +26,8 @@ use Rattle.its_direct.proofs.TouchLaws.{none_touched}
 
 pub console_becomes : (old new : Plain) (c : ℕ) (x : Console) → Only (console_at old.consoles.items) (console_at new.consoles.items) c x → new.core ≡ old.core → new.jobs ≡ old.jobs
     → new.holders ≡ old.holders → new.files ≡ old.files → new.clock ≡ old.clock → new.alarms ≡ old.alarms → new.version ≡ old.version → new.symbols ≡ old.symbols → new.place ≡ old.place
-    → ConsoleBecomes old new c x
-console_becomes old new c x consoles core jobs holders files clock alarms version symbols place = record {
+    → new.touched ≡ old.touched → ConsoleBecomes old new c x
+console_becomes old new c x consoles core jobs holders files clock alarms version symbols place touched = record {
   consoles = consoles;
   core = core;
   jobs = jobs;
@@ -38,15 +38,16 @@ console_becomes old new c x consoles core jobs holders files clock alarms versio
   version = version;
   symbols = symbols;
   place = place;
+  touched = touched;
 }
 
-console_machine : (old new : Plain) (c : ℕ) (f : Console → Console) → ConsoleBecomes old new c (f (console_at old.consoles.items c)) → machine_of new ≡ on_console (machine_of old) c f
+pub console_machine : (old new : Plain) (c : ℕ) (f : Console → Console) → ConsoleBecomes old new c (f (console_at old.consoles.items c)) → machine_of new ≡ on_console (machine_of old) c f
 unfolding machine_of
 console_machine old new c f b = machine_is _ _
     (λ k t. raw_at (b.files t) (b.core t) (b.jobs t) (b.alarms t).items k) (changed_at _ _ c _ b.consoles.here b.consoles.others)
     (λ k. ap (λ l. holder_at l k) b.holders) (ap directory b.files) b.clock b.version (λ k. ap (λ l. symbols_at l.items k) b.symbols)
 
-console_tidy : (old new : Plain) (c : ℕ) (x : Console) → ConsoleBecomes old new c x → Tidy old → Tidy new
+pub console_tidy : (old new : Plain) (c : ℕ) (x : Console) → ConsoleBecomes old new c x → Tidy old → Tidy new
 console_tidy old new c x b tidy = record {
   unreserved = λ k. ap (λ m. clear_at m k) b.core ∙ tidy.unreserved k;
   unmarked = ap (λ (s : Store). s.mark) b.files ∙ tidy.unmarked;
@@ -160,7 +161,7 @@ head_next [] (suc k) = refl
 head_next (x ∷ xs) zero = refl
 head_next (x ∷ xs) (suc k) = ap (λ ys. x ∷ ys) (head_next xs k)
 
-head_more : (xs : List ℕ) (k : ℕ) → take (k + 1) xs ≡ take k xs ++ cons_option (slice_get (drop k xs) 0) []
+pub head_more : (xs : List ℕ) (k : ℕ) → take (k + 1) xs ≡ take k xs ++ cons_option (slice_get (drop k xs) 0) []
 head_more xs k = let e : k + 1 ≡ suc k = omega arith in ap (λ n. take n xs) e ∙ head_next xs k
 
 option_few : (o : Option ℕ) → length (cons_option o []) ≤ 1

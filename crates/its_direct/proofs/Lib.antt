@@ -8,3 +8,12 @@ pub mod LoadLaws
 pub mod AskLaws
 pub mod ConsoleLaws
 pub mod SettingLaws
+pub mod EffectLaws
+pub mod ChannelLaws
+pub mod RemovalLaws
+pub mod ActLaws
+pub mod DirectoryLaws
+pub mod ClockLaws
+pub mod FileLaws
+pub mod LoadedLaws
+pub mod EventLaws

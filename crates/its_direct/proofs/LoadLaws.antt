@@ -3,6 +3,7 @@ use Rattle.std.specs.Prelude.{◌≡◌, ◌≢◌, ◌<◌, ◌^◌, ℕ, Optio
 use Rattle.std.proofs.Common.{ap, sym, subst, ◌∙◌, inl, inr, lit<}
 use Rattle.std.proofs.lemmas.Bool.{cases_eq}
 use Rattle.std.proofs.lemmas.List.{get_or-set_same, get_or-set_other}
+use Rattle.its_word.specs.Core.{no_core}
 use Rattle.its_word.specs.Limits.{slots}
 use Rattle.its_word.specs.Only.{Only}
 use Rattle.its_word.specs.Tree.{least_free, fresh_job}
@@ -12,7 +13,8 @@ use Rattle.its_word.specs.declared.session.Reason.TheVariants as reasons
 use Rattle.its_core.specs.Cores.{core_at, clear_at}
 use Rattle.its_files.specs.Files.{Store, directory}
 use Rattle.its_jobs.specs.Table.{job_at, superior_at}
-use Rattle.its_plain.specs.Machine.{Machine, with_job, changed, limit}
+use Rattle.its_plain.specs.Change.{console_in, inferior}
+use Rattle.its_plain.specs.Machine.{Machine, whole, with_job, changed, limit}
 use Rattle.its_plain.specs.OperatorJobs.{loaded, loaded_in, new_job, held_by, with_holder}
 use Rattle.its_plain.specs.OperatorClock.{clock_end}
 use Rattle.its_plain.proofs.MachineLaws.{machine_is}
@@ -21,6 +23,7 @@ use Rattle.its_parts.specs.Parts.{alarm_at, console_at, holder_at, symbols_at, r
 use Rattle.its_parts.proofs.AcrossLaws.{across_table}
 use Rattle.its_parts.proofs.PartLaws.{changed_at, changed_only, fresh_closed, fresh_raw}
 use Rattle.its_direct.specs.Plain.{machine_of, Aside, Tidy}
+use Rattle.its_direct.specs.Effects.{Becomes, console_of}
 use Rattle.its_direct.specs.Lines.{one_slot, Loads}
 use Rattle.its_direct.specs.declared.plain.Plain.{Plain}
 use Rattle.its_direct.specs.declared.plain.Spot.{Spot}
@@ -45,20 +48,20 @@ unfolding fresh_job
 fresh_placed u j console = lit< tt
 
 -- a job is made there
-module _ (old new : Plain) (s u j : ℕ) (console : Option ℕ) (tidy : Tidy old) (free : job_at old.jobs s ≡ None)
-    (job : Only (job_at old.jobs) (job_at new.jobs) s (Some (fresh_job u j console))) (superior : Only (superior_at old.jobs) (superior_at new.jobs) s None)
+module _ (old new : Plain) (s u j : ℕ) (above console : Option ℕ) (tidy : Tidy old) (free : job_at old.jobs s ≡ None)
+    (job : Only (job_at old.jobs) (job_at new.jobs) s (Some (fresh_job u j console))) (superior : Only (superior_at old.jobs) (superior_at new.jobs) s above)
     (core : new.core ≡ old.core) (files : new.files ≡ old.files) (alarms : new.alarms ≡ old.alarms) where
-  made_here : raw_at new.files new.core new.jobs new.alarms.items s ≡ Some (new_job u j console)
+  made_here : raw_at new.files new.core new.jobs new.alarms.items s ≡ Some (whole no_core (fresh_job u j console) above)
   made_here =
       (λ t. raw_of new.files (core_at (core t) s) (superior.here t) (alarm_at (alarms t).items s) (job.here t))
-      ∙ (λ t. raw_of new.files (tidy.blank s free t) None (tidy.quiet s free t) (Some (fresh_job u j console)))
-      ∙ ap Some (fresh_raw new.files u j None console)
+      ∙ (λ t. raw_of new.files (tidy.blank s free t) above (tidy.quiet s free t) (Some (fresh_job u j console)))
+      ∙ ap Some (fresh_raw new.files u j above console)
 
   made_other : (k : ℕ) → k ≢ s → raw_at new.files new.core new.jobs new.alarms.items k ≡ raw_at old.files old.core old.jobs old.alarms.items k
   made_other k ne = λ t. raw_of (files t) (core_at (core t) k) (superior.others k ne t) (alarm_at (alarms t).items k) (job.others k ne t)
 
-  pub made_jobs : (k : ℕ) → raw_at new.files new.core new.jobs new.alarms.items k ≡ changed (raw_at old.files old.core old.jobs old.alarms.items) s (Some (new_job u j console)) k
-  made_jobs k = changed_at _ _ s (Some (new_job u j console)) made_here made_other k
+  pub made_jobs : (k : ℕ) → raw_at new.files new.core new.jobs new.alarms.items k ≡ changed (raw_at old.files old.core old.jobs old.alarms.items) s (Some (whole no_core (fresh_job u j console) above)) k
+  made_jobs k = changed_at _ _ s (Some (whole no_core (fresh_job u j console) above)) made_here made_other k
 
   apart : (n : ℕ) → job_at new.jobs n ≡ None → n ≢ s
   apart n h e = let wrong : None ≡ Some (fresh_job u j console) = sym h ∙ ap (job_at new.jobs) e ∙ job.here in absurd cc
@@ -74,25 +77,25 @@ module _ (old new : Plain) (s u j : ℕ) (console : Option ℕ) (tidy : Tidy old
     | inr ne ↦ ap (λ o. channel_by o i) (job.others k ne)
   ]))
 
-pub made_machine : (old new : Plain) (s u j : ℕ) (console : Option ℕ) → Tidy old → least_free old.jobs.limit (job_at old.jobs) ≡ Some s
-    → Only (job_at old.jobs) (job_at new.jobs) s (Some (fresh_job u j console)) → Only (superior_at old.jobs) (superior_at new.jobs) s None
-    → new.core ≡ old.core → Aside old new → machine_of new ≡ with_job (machine_of old) s (new_job u j console)
+pub made_machine : (old new : Plain) (s u j : ℕ) (above console : Option ℕ) → Tidy old → least_free old.jobs.limit (job_at old.jobs) ≡ Some s
+    → Only (job_at old.jobs) (job_at new.jobs) s (Some (fresh_job u j console)) → Only (superior_at old.jobs) (superior_at new.jobs) s above
+    → new.core ≡ old.core → Aside old new → machine_of new ≡ with_job (machine_of old) s (whole no_core (fresh_job u j console) above)
 unfolding machine_of
-made_machine old new s u j console tidy least job superior core aside = machine_is _ _
-    (made_jobs old new s u j console tidy (least_empty old.jobs.limit (job_at old.jobs) s least) job superior core aside.files aside.alarms)
+made_machine old new s u j above console tidy least job superior core aside = machine_is _ _
+    (made_jobs old new s u j above console tidy (least_empty old.jobs.limit (job_at old.jobs) s least) job superior core aside.files aside.alarms)
     (λ k. ap (λ l. console_at l.items k) aside.consoles) (λ k. ap (λ l. holder_at l k) aside.holders) (ap directory aside.files)
     aside.clock aside.version (λ k. ap (λ l. symbols_at l.items k) aside.symbols)
 
-pub made_tidy : (old new : Plain) (s u j : ℕ) (console : Option ℕ) → Tidy old → least_free old.jobs.limit (job_at old.jobs) ≡ Some s
-    → Only (job_at old.jobs) (job_at new.jobs) s (Some (fresh_job u j console)) → Only (superior_at old.jobs) (superior_at new.jobs) s None
+pub made_tidy : (old new : Plain) (s u j : ℕ) (above console : Option ℕ) → Tidy old → least_free old.jobs.limit (job_at old.jobs) ≡ Some s
+    → Only (job_at old.jobs) (job_at new.jobs) s (Some (fresh_job u j console)) → Only (superior_at old.jobs) (superior_at new.jobs) s above
     → new.core ≡ old.core → Aside old new → Tidy new
-made_tidy old new s u j console tidy least job superior core aside =
+made_tidy old new s u j above console tidy least job superior core aside =
     let free = least_empty old.jobs.limit (job_at old.jobs) s least in
-    let none = was_none old new s u j console tidy free job superior core aside.files aside.alarms in
+    let none = was_none old new s u j above console tidy free job superior core aside.files aside.alarms in
     record {
       unreserved = λ n. ap (λ c. clear_at c n) core ∙ tidy.unreserved n;
       unmarked = ap (λ (x : Store). x.mark) aside.files ∙ tidy.unmarked;
-      across = made_across old new s u j console tidy free job superior core aside.files aside.alarms;
+      across = made_across old new s u j above console tidy free job superior core aside.files aside.alarms;
       blank = λ n h. ap (λ c. core_at c n) core ∙ tidy.blank n (none n h);
       quiet = λ n h. ap (λ l. alarm_at l.items n) aside.alarms ∙ tidy.quiet n (none n h);
       nameless = λ n h. ap (λ l. symbols_at l.items n) aside.symbols ∙ tidy.nameless n (none n h);
@@ -186,3 +189,28 @@ load_done old mid put at new s u j console l least made held placed e = record {
 pub load_full : (p : Plain) (u j : ℕ) (console : Option ℕ) → least_free (limit (machine_of p)) (machine_of p).jobs ≡ None → loaded (machine_of p) u j console ≡ Err reasons.Full
 unfolding loaded
 load_full p u j console none = ap (loaded_in (machine_of p) u j console) none
+
+-- an inferior, in the least free slot of the machine
+pub same_free : (p : Plain) (s k : ℕ) → least_free (limit (machine_of p)) (machine_of p).jobs ≡ Some s → least_free p.jobs.limit (job_at p.jobs) ≡ Some k → k ≡ s
+same_free p s k e f = let same : Some k ≡ Some s = sym f ∙ sym (least_is p) ∙ e in cc
+
+pub none_full : (p : Plain) (s : ℕ) → least_free (limit (machine_of p)) (machine_of p).jobs ≡ Some s → least_free p.jobs.limit (job_at p.jobs) ≡ None → ⊥
+none_full p s e f = let same : None ≡ Some s = sym f ∙ sym (least_is p) ∙ e in cc
+
+console_by : (p : Plain) (s : ℕ) (o : Option Job) → console_in (raw_of p.files (core_at p.core s) (superior_at p.jobs s) (alarm_at p.alarms.items s) o) ≡ console_of o
+console_by p s (Some j) = refl
+console_by p s None = refl
+
+console_here : (p : Plain) (s : ℕ) → console_in ((machine_of p).jobs s) ≡ console_of (job_at p.jobs s)
+unfolding machine_of
+console_here p s = console_by p s (job_at p.jobs s)
+
+pub inferior_made : (old new : Plain) (maker s k u j : ℕ) (console : Option ℕ) → Tidy old → least_free (limit (machine_of old)) (machine_of old).jobs ≡ Some s → least_free old.jobs.limit (job_at old.jobs) ≡ Some k
+    → console ≡ console_of (job_at old.jobs maker) → Only (job_at old.jobs) (job_at new.jobs) k (Some (fresh_job u j console)) → Only (superior_at old.jobs) (superior_at new.jobs) k (Some maker)
+    → new.core ≡ old.core → Aside old new → Becomes old new (with_job (machine_of old) s (inferior maker ((machine_of old).jobs maker) u j))
+inferior_made old new maker s k u j console tidy least free c job superior core aside = record {
+  machine = made_machine old new k u j (Some maker) console tidy free job superior core aside
+      ∙ (λ t. with_job (machine_of old) (same_free old s k least free t) (whole no_core (fresh_job u j ((c ∙ sym (console_here old maker)) t)) (Some maker)));
+  place = aside.place;
+  touched = aside.touched;
+}

@@ -27,10 +27,10 @@ same_reserved : (a b : Cores) (k : ℕ) → b.reserved ≡ a.reserved → reserv
 unfolding reserved_at
 same_reserved a b k h = ap (λ rs. slice_index_or rs k None) h
 
-same_clear : (a b : Cores) → b.reserved ≡ a.reserved → Same (clear_at a) (clear_at b)
+pub same_clear : (a b : Cores) → b.reserved ≡ a.reserved → Same (clear_at a) (clear_at b)
 same_clear a b h = record { each = λ k. ap (λ (r : Option Reserved). option_map (λ x. x.clear) r) (same_reserved a b k h) }
 
-alike : {X : Type 0} → (f g : ℕ → X) (s : ℕ) → ((k : ℕ) → g k ≡ f k) → Only f g s (f s)
+pub alike : {X : Type 0} → (f g : ℕ → X) (s : ℕ) → ((k : ℕ) → g k ≡ f k) → Only f g s (f s)
 alike f g s h = record { here = h s; others = λ k n. h k }
 
 -- one write, of a core or of registers

@@ -52,7 +52,7 @@ unfolding transition
 stopped p s o j is some h = ap (transition_of (machine_of p) s) (own_is p s j (sym is ∙ some)) ∙ ap (unless_stopped (machine_of p) s (own_of p s j)) h
 
 -- what a job is that was left with this core and these registers
-becomes_raw : (s : Store) (c d : Core) (superior : Option ℕ) (a : Option (ℕ × ℕ)) (i k : Job) → k.channels ≡ i.channels → becomes d (bare k) (raw_job s c i superior a) ≡ raw_job s d k superior a
+pub becomes_raw : (s : Store) (c d : Core) (superior : Option ℕ) (a : Option (ℕ × ℕ)) (i k : Job) → k.channels ≡ i.channels → becomes d (bare k) (raw_job s c i superior a) ≡ raw_job s d k superior a
 becomes_raw s c d superior a i k h = λ t. record { core = d; job = bare k; superior = superior; channels = λ n. chan_of s (slice_index_or (sym h t) n Closed); alarm = a }
 
 -- a step of one job alone

@@ -3,3 +3,8 @@ pub mod Steps
 pub mod Lines
 pub mod Asking
 pub mod Consoles
+pub mod Effects
+pub mod Removal
+pub mod Clock
+pub mod Filing
+pub mod Events

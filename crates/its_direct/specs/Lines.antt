@@ -86,6 +86,7 @@ pub record ConsoleBecomes (old new : Plain) (c : ℕ) (x : Console) : Type 0 whe
   pub version : new.version ≡ old.version
   pub symbols : new.symbols ≡ old.symbols
   pub place : new.place ≡ old.place
+  pub touched : new.touched ≡ old.touched
 
 -- only the symbols of slot s are others
 pub record SymbolsBecome (old new : Plain) (s : ℕ) (ss : List Symbol) : Type 0 where
@@ -99,6 +100,7 @@ pub record SymbolsBecome (old new : Plain) (s : ℕ) (ss : List Symbol) : Type 0
   pub alarms : new.alarms ≡ old.alarms
   pub version : new.version ≡ old.version
   pub place : new.place ≡ old.place
+  pub touched : new.touched ≡ old.touched
 
 -- only the version is another, and with it the limit of its jobs
 pub record VersionBecomes (old new : Plain) (v : ℕ) : Type 0 where

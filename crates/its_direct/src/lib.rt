@@ -1,19 +1,29 @@
 //! The plain machine in running form, on which the checker of transcripts is to stand. It has no call in progress: a whole
 //! call is one step. So far it has its beginning, the step of a job in user mode, the decoding of a call, and the
-//! operator's lines but for those on files, the words of a LOAD block and CLOCK.
+//! operator's lines, each also as an event of a session.
 #![tactic(auto)]
 
 mod asking;
+mod clock;
 mod consoles;
+mod directory;
+mod effects;
+mod effects_files;
+mod events;
+mod files;
 mod lines;
 mod loading;
 mod plain;
+mod removal;
 mod settings;
 mod sorting;
+mod stepping;
 #[cfg(test)]
 mod tests;
 mod users;
+mod words;
 
+pub use events::Answer;
 pub use its_word::{NoMemory, Refusal};
 pub use plain::{Plain, Spot};
 pub use users::Begun;

@@ -102,7 +102,7 @@ impl Plain {
         Ok(())
     }
 
-    /// EXAM: whether n words of a slot, from an address on, can be shown. NoJob where the slot is empty, NoPage where one of
+    /// EXAM and LIST: whether n words of a slot, from an address on, can be shown. NoJob where the slot is empty, NoPage where one of
     /// their pages is absent.
     #[tactic(auto, using(crate::proofs::LineLaws::exam_done, crate::proofs::LineLaws::exam_absent, crate::proofs::LineLaws::exam_refused, crate::proofs::SlotLaws::touched_tidy))]
     pub fn exam(&mut self, slot: u8, a: u32, n: u32) -> Result<(), Refusal>

@@ -89,14 +89,14 @@ impl Plain {
     }
 
     /// Another place.
-    fn set_place(&mut self, place: Spot)
+    pub(crate) fn set_place(&mut self, place: Spot)
         ensures { self.new ≡ record self.old { place = place } }
     {
         self.place = place;
     }
 
     /// Makes a slot's job the holder of a console.
-    fn put_holder(&mut self, slot: u8, c: u8)
+    pub(crate) fn put_holder(&mut self, slot: u8, c: u8)
         requires { c < 8 }
         ensures holders { self.new ≡ record self.old { holders = slice_set self.old.holders c (Some slot) } }
         ensures within { c < length self.old.holders }

@@ -123,7 +123,7 @@ impl Plain {
 }
 
 /// Registers with bits of pending word 1 set besides.
-fn with_bits(job: Job, bits: u32) -> Job
+pub(crate) fn with_bits(job: Job, bits: u32) -> Job
     ensures { result ≡ with_pending job bits }
 {
     Job {

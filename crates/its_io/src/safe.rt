@@ -38,6 +38,13 @@ impl SafeSource {
             at: 0,
         })
     }
+
+    /// A source of the bytes of a vector. It takes no memory.
+    pub fn of(bytes: Vec<u8>) -> SafeSource
+        ensures { result ≡ bytes.items }
+    {
+        SafeSource { bytes, at: 0 }
+    }
 }
 
 impl Source for SafeSource {

@@ -144,6 +144,7 @@ fn unit_in_place(w: &mut World, slot: u8) -> bool
 }
 
 /// Runs the unit of a job on its core and its registers. A fault sets its bit; a call is not made (false).
+#[inline(always)]
 fn run_unit(core: &mut Core, slot: u8, job: &mut Job) -> bool
     requires slot { slot < slots }
     requires pc { job.old.pc < 2 ^ 18 }

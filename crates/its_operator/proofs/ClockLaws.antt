@@ -1,15 +1,13 @@
 -- CLOCK: what it makes of the state, and that it keeps what holds between calls.
-use Rattle.std.specs.Prelude.{◌≡◌, ◌<◌, ◌+◌, ◌^◌, ℕ, Bool, true, false, Option, Some, None, IfSome, List, [], option_map, Result, Ok, Err, nat_lt, refl}
+use Rattle.std.specs.Prelude.{◌≡◌, ◌<◌, ◌+◌, ◌^◌, ℕ, Bool, true, false, Option, Some, None, IfSome, [], Ok, nat_lt, refl}
 use Rattle.std.proofs.Common.{sym, ◌∙◌, ap, subst}
 use Rattle.its_word.specs.Limits.{slots}
 use Rattle.its_word.specs.declared.session.Event.TheVariants as events
-use Rattle.its_word.specs.declared.session.Reason.{Reason}
 use Rattle.its_word.specs.declared.session.Refusal.TheVariants as refusals
-use Rattle.its_print.specs.Printing.{Line}
 use Rattle.its_plain.specs.Machine.{Whole, Machine}
-use Rattle.its_plain.specs.Operator.{Block, no_block, Does}
+use Rattle.its_plain.specs.Operator.{no_block}
 use Rattle.its_plain.specs.OperatorLines.{by_clock, operate, Done, lined}
-use Rattle.its_plain.specs.OperatorClock.{due, due_slots, rung, rung_if, at_clock, clock_end, clocked_if, clocked}
+use Rattle.its_plain.specs.OperatorClock.{due, due_slots, rung_if, at_clock, clock_end, clocked_if, clocked}
 use Rattle.its_stepped.specs.Lines.{calmed, with_raw}
 use Rattle.its_stepped.specs.Sound.{Sound}
 use Rattle.its_stepped.specs.State.{State, plain}
@@ -22,7 +20,7 @@ use Rattle.its_world.specs.declared.world.World.{World}
 use Rattle.its_operator.specs.Kept.{Kept, Lands, Refused}
 use Rattle.its_operator.specs.Rung.{roused, RangBelow}
 use Rattle.its_operator.proofs.RungLaws.{rang_all}
-use Rattle.its_operator.proofs.KeptLaws.{Made, made_sound, made_plain, made_forest, made_timed, made_alarmed}
+use Rattle.its_operator.proofs.KeptLaws.{Made, made_sound, made_forest, made_timed, made_alarmed}
 use Rattle.its_operator.proofs.WaitsLaws.{kept_is}
 
 raw_clock : (w : World) → (state_of w).raw.clock ≡ w.clock

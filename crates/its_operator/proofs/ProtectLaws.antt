@@ -1,5 +1,5 @@
 -- RO, and the words of a LOAD block that are on read-only pages.
-use Rattle.std.specs.Prelude.{◌≡◌, ◌≢◌, ◌≤◌, ◌<◌, ◌+◌, ◌-◌, ◌&&◌, ◌||◌, not, ℕ, zero, suc, Bool, true, false, Option, Some, None, [], Result, Ok, Err, is_some, refl}
+use Rattle.std.specs.Prelude.{◌≡◌, ◌≢◌, ◌≤◌, ◌<◌, ◌+◌, ◌-◌, ◌&&◌, ◌||◌, not, ℕ, suc, Bool, true, false, Option, Some, None, [], Ok, Err, is_some, refl}
 use Rattle.std.proofs.Common.{sym, ◌∙◌, ap, arith}
 use Rattle.its_word.specs.Core.{Core, Page, word_at, can_store, page_of, with_page, marked}
 use Rattle.its_word.specs.Stores.{refusal, refused}
@@ -7,7 +7,6 @@ use Rattle.its_word.specs.declared.access.Fault.{Fault}
 use Rattle.its_word.specs.declared.access.Fault.TheVariants.{Wro}
 use Rattle.its_word.specs.declared.jobs.Job.{Job}
 use Rattle.its_word.specs.declared.session.Event.TheVariants as events
-use Rattle.its_word.specs.declared.session.Reason.{Reason}
 use Rattle.its_word.specs.declared.session.Reason.TheVariants as reasons
 use Rattle.its_word.specs.declared.session.Refusal.{Refusal}
 use Rattle.its_word.specs.declared.session.Refusal.TheVariants as refusals

@@ -1,5 +1,5 @@
 -- CLOCK: the jobs whose alarm is due are unwound, slot after slot, and then their alarms go, slot after slot.
-use Rattle.std.specs.Prelude.{if◌then◌else◌, ◌==◌, ◌≡◌, ◌≢◌, ◌≤◌, ◌<◌, ◌+◌, ◌-◌, ◌*◌, ◌/◌, ◌%◌, ◌&&◌, ◌^◌, ℕ, suc, Bool, true, false, Option, Some, None, IfSome, is_some, List, [], ◌∷◌, filter, option_map, Result, Ok, Err, nat_lt, refl}
+use Rattle.std.specs.Prelude.{if◌then◌else◌, ◌==◌, ◌≡◌, ◌≢◌, ◌≤◌, ◌<◌, ◌+◌, ◌-◌, ◌*◌, ◌/◌, ◌%◌, ◌&&◌, ◌^◌, ℕ, suc, Bool, true, false, Option, Some, None, IfSome, is_some, List, ◌∷◌, filter, option_map, nat_lt, refl}
 use Rattle.std.specs.List.{range_with_len}
 use Rattle.std.proofs.Common.{sym, ◌∙◌, ap, subst, inl, inr, arith}
 use Rattle.std.proofs.lemmas.Bool.{cases_eq, cases_lt, eq-eqb, eqb-true, ne_eqb, lt-ltb, le-ltb, le-leb, lt-leb}
@@ -7,14 +7,13 @@ use Rattle.std.proofs.lemmas.Nat.{mod_below, div-add-mod'}
 use Rattle.its_word.specs.Limits.{slots}
 use Rattle.its_word.specs.declared.jobs.Job.{Job}
 use Rattle.its_core.specs.Cores.{core_at, clear_at}
-use Rattle.its_jobs.specs.Table.{job_at, superior_at}
+use Rattle.its_jobs.specs.Table.{job_at}
 use Rattle.its_plain.specs.Alarm.{is_due, time_after}
-use Rattle.its_plain.specs.Change.{in_job, on_slot, with_alarm}
+use Rattle.its_plain.specs.Change.{with_alarm}
 use Rattle.its_plain.specs.Job.{ALR, with_pending}
 use Rattle.its_plain.specs.Machine.{Whole, Machine}
 use Rattle.its_plain.specs.OperatorClock.{alarm_in, due, due_slots, rung_if, at_clock, clock_end}
 use Rattle.its_plain.specs.Own.{with_registers}
-use Rattle.its_plain.proofs.MachineLaws.{machine_is, jobs_are}
 use Rattle.its_stepped.specs.Alarmed.{Coming, Alarmed}
 use Rattle.its_stepped.specs.Lines.{with_raw}
 use Rattle.its_stepped.specs.Sound.{Sound}
@@ -22,7 +21,6 @@ use Rattle.its_stepped.specs.State.{State, plain}
 use Rattle.its_stepped.specs.Unwind.{unwound, all_unwound}
 use Rattle.its_stepped.proofs.AlarmLaws.{one_more}
 use Rattle.its_stepped.proofs.DueLaws.{alarm_plain, due_same}
-use Rattle.its_stepped.proofs.FrameLaws.{on_slot_here, on_slot_other}
 use Rattle.its_stepped.proofs.UnwindLaws.{all_unwound_turn, all_unwound_end}
 use Rattle.its_files.specs.Files.{Store}
 use Rattle.its_plain.specs.CallBasic.{longest_period}
@@ -30,11 +28,11 @@ use Rattle.its_world.specs.Tidy.{Across, Tidy}
 use Rattle.its_world.specs.World.{alarm_at, symbols_at, raw_machine, frame_at, mark_of, state_of, in_raw, frames_after, JobBecomes, AlarmBecomes, ClockBecomes}
 use Rattle.its_world.specs.declared.world.World.{World}
 use Rattle.its_world.proofs.AlarmLaws.{alarm_state, alarm_tidy}
-use Rattle.its_world.proofs.StateLaws.{state_is, changed_state, absent_state, raw_some}
+use Rattle.its_world.proofs.StateLaws.{changed_state}
 use Rattle.its_pclsr.specs.Pages.{pages_unwound}
 use Rattle.its_pclsr.proofs.ApartLaws.{tidy_put}
 use Rattle.its_pclsr.proofs.RemovalLaws.{alarm_shown}
-use Rattle.its_operator.specs.Rung.{Periodic, Rousing, Rang, RangAt, RangBelow}
+use Rattle.its_operator.specs.Rung.{Periodic, Rousing, RangAt, RangBelow}
 
 -- slot after slot is unwound
 range_from : (n : ℕ) → n < slots → range_with_len n (slots - n) ≡ n ∷ range_with_len (n + 1) (slots - (n + 1))

@@ -1,26 +1,24 @@
 -- LOAD, and a world that is opened.
-use Rattle.std.specs.Prelude.{◌≡◌, ◌<◌, ◌+◌, ◌^◌, ℕ, Bool, true, false, Option, Some, None, IfSome, List, [], ◌∷◌, option_map, Result, Ok, Err, nat_lt, refl}
+use Rattle.std.specs.Prelude.{◌≡◌, ◌<◌, ◌^◌, ℕ, Bool, Option, Some, None, IfSome, List, [], ◌∷◌, option_map, Result, Ok, Err, refl}
 use Rattle.std.proofs.Common.{sym, ◌∙◌, ap, subst, inl, inr, lit<}
 use Rattle.std.proofs.lemmas.Bool.{cases_eq}
 use Rattle.its_word.specs.Console.{quiet_console}
 use Rattle.its_word.specs.Core.{no_core}
 use Rattle.its_word.specs.Tree.{least_free, fresh_job}
 use Rattle.its_word.proofs.FreeLaws.{least_empty}
-use Rattle.its_word.specs.declared.jobs.Channel.TheVariants.{Closed}
 use Rattle.its_word.specs.declared.session.Event.TheVariants as events
 use Rattle.its_word.specs.declared.session.Reason.{Reason}
 use Rattle.its_word.specs.declared.session.Refusal.TheVariants as refusals
 use Rattle.its_print.specs.Printing.{Line}
 use Rattle.its_print.specs.Printing as printed
-use Rattle.its_core.specs.Cores.{Reserved, core_at, clear_at, IsEmpty}
-use Rattle.its_jobs.specs.Table.{Table, job_at, superior_at, NoJobs}
-use Rattle.its_files.specs.Blocks.{numbers}
-use Rattle.its_files.specs.Files.{readers_by, directory, no_files}
-use Rattle.its_plain.specs.Machine.{Whole, Machine, changed, with_job, no_machine, limit}
-use Rattle.its_plain.specs.Operator.{Block, no_block, Does, nobody, only, quietly}
+use Rattle.its_core.specs.Cores.{Reserved, core_at, IsEmpty}
+use Rattle.its_jobs.specs.Table.{job_at, superior_at, NoJobs}
+use Rattle.its_files.specs.Files.{directory, no_files}
+use Rattle.its_plain.specs.Machine.{Machine, changed, with_job, no_machine, limit}
+use Rattle.its_plain.specs.Operator.{Block, no_block, Does, only, quietly}
 use Rattle.its_plain.specs.OperatorJobs.{new_job, held_by, with_holder, loaded_in, loaded}
 use Rattle.its_plain.specs.OperatorLines.{by_load, operate, Done, lined}
-use Rattle.its_plain.specs.OperatorClock.{clock_end, clocked_if, clocked}
+use Rattle.its_plain.specs.OperatorClock.{clock_end}
 use Rattle.its_plain.proofs.MachineLaws.{machine_is}
 use Rattle.its_stepped.specs.State.{State, plain, no_state}
 use Rattle.its_stepped.specs.Sound.{Sound}
@@ -33,18 +31,17 @@ use Rattle.its_stepped.proofs.FrameLaws.{changed_only}
 use Rattle.its_stepped.proofs.LineLaws.{least_plain}
 use Rattle.its_stepped.proofs.StartLaws.{no_state_plain, no_state_sound}
 use Rattle.its_world.specs.Filed.{Ringed}
-use Rattle.its_world.specs.World.{alarm_at, frame_at, console_at, holder_at, symbols_at, raw_of, raw_machine, mark_of, state_of, HolderBecomes}
-use Rattle.its_world.specs.Tidy.{channel_by, channel_at, tally, reads, writes, writers, Across}
+use Rattle.its_world.specs.World.{alarm_at, frame_at, console_at, holder_at, symbols_at, raw_of, mark_of, state_of, HolderBecomes}
+use Rattle.its_world.specs.Tidy.{Across}
 use Rattle.its_world.specs.declared.world.World.{World}
 use Rattle.its_world.proofs.StateLaws.{state_is, holder_state}
-use Rattle.its_world.proofs.TallyLaws.{tally_same, tally_none}
+use Rattle.its_parts.proofs.AcrossLaws.{no_across}
 use Rattle.its_pclsr.proofs.ApartLaws.{tidy_alike}
 use Rattle.its_operator.specs.Kept.{Kept, Loads, Refused, Alters}
 use Rattle.its_operator.proofs.KeptLaws.{Made, made_sound, made_plain, made_forest, made_timed, made_alarmed, Lasts, kept_lasts, put_lasts}
 use Rattle.its_operator.proofs.RegisterLaws.{block_of}
 use Rattle.its_world.proofs.MadeLaws.{least_raw, made_state, made_tidy}
 use Rattle.its_world.specs.Made.{JobMade}
-use Rattle.its_word.proofs.TableLaws.{get_or-filled}
 use Rattle.its_operator.proofs.WaitsLaws.{kept_is}
 
 loaded_by : (r : Result (Machine × ℕ) Reason) (n : Machine) (s : ℕ) (out : List Line) (touched : ℕ → Bool) → Done (by_load no_block r) ≡ Done (Does n out touched (block_of s)) → r ≡ Ok (n, s)
@@ -184,26 +181,7 @@ pub quiet_by : (r : Result Machine Reason) (n : Machine) (out : List Line) (touc
 quiet_by (Ok m) n out touched b c h = let a : m ≡ n = cc in ap Ok a
 quiet_by (Err x) n out touched b c h = absurd cc
 
--- a world that is opened: no channel is open, and no file and no draft stands
-nothing_read : (f : ℕ) → tally (reads f) (λ k n. Closed) ≡ 0
-unfolding tally
-nothing_read f = tally_none (λ k n. Closed)
-
-nothing_written : (d : ℕ) → tally (writes d) (λ k n. Closed) ≡ 0
-unfolding tally
-nothing_written d = tally_none (λ k n. Closed)
-
-no_across : (t : Table) → NoJobs t → Across no_files t
-no_across t none = record {
-  past_slots = λ k n le. closed k n;
-  past_numbers = λ k n le. closed k n;
-  read = λ f. tally_same (reads f) (λ k n. Closed) (channel_at t) closed ∙ nothing_read f ∙ sym (ap readers_by (get_or-filled numbers f None));
-  written = λ d. tally_same (writes d) (λ k n. Closed) (channel_at t) closed ∙ nothing_written d ∙ sym (ap (λ e. writers e false) (get_or-filled numbers d None));
-}
-  where
-    closed : (k n : ℕ) → channel_at t k n ≡ Closed
-    closed k n = ap (λ o. channel_by o n) (none.jobs k)
-
+-- a world that is opened
 nothing_marked : mark_of no_files ≡ None
 unfolding mark_of
 nothing_marked = refl

@@ -1,33 +1,30 @@
 -- VERSION and SYM, and the symbol that is nearest to a PC.
-use Rattle.std.specs.Prelude.{if◌then◌else◌, ◌≡◌, ◌≢◌, ◌≤◌, ◌<◌, ◌+◌, ◌-◌, ◌==◌, ◌^◌, ◌&&◌, not, ℕ, zero, suc, Bool, true, false, Option, Some, None, IfSome, List, [], ◌∷◌, ◌++◌, Result, Ok, Err, is_some, length, drop, nat_lt, cond, slice_index_or, refl}
+use Rattle.std.specs.Prelude.{if◌then◌else◌, ◌≡◌, ◌≢◌, ◌≤◌, ◌<◌, ◌+◌, ◌-◌, ◌==◌, ◌^◌, ◌&&◌, not, ℕ, zero, suc, Bool, true, false, Option, Some, None, IfSome, List, [], ◌∷◌, ◌++◌, Ok, Err, is_some, length, drop, nat_lt, cond, slice_index_or, refl}
 use Rattle.std.proofs.Common.{sym, ◌∙◌, ap, subst, inl, inr, arith}
 use Rattle.std.proofs.lemmas.Bool.{cases_Bool, cases_eq, ltb-false}
 use Rattle.its_word.specs.Limits.{most_symbols}
-use Rattle.its_word.specs.declared.jobs.Job.{Job}
 use Rattle.its_word.specs.declared.session.Event.TheVariants as events
-use Rattle.its_word.specs.declared.session.Reason.{Reason}
-use Rattle.its_word.specs.declared.session.Reason.TheVariants as reasons
 use Rattle.its_word.specs.declared.session.Refusal.{Refusal}
 use Rattle.its_word.specs.declared.session.Refusal.TheVariants as refusals
 use Rattle.its_core.specs.Cores.{core_at, clear_at}
 use Rattle.its_jobs.specs.Table.{job_at, superior_at}
 use Rattle.its_files.specs.Files.{directory}
 use Rattle.its_plain.specs.Machine.{Symbol, Whole, Machine}
-use Rattle.its_plain.specs.Operator.{Block, no_block, Does, nobody, quietly}
+use Rattle.its_plain.specs.Operator.{no_block, Does, nobody, quietly}
 use Rattle.its_plain.specs.OperatorLines.{operate, Done, lined}
 use Rattle.its_plain.specs.OperatorClock.{clock_end}
-use Rattle.its_plain.specs.OperatorSymbols.{address_of, is_nearer, nearer, nearest_after, nearest, with_distance, symbol_shown, with_symbol, symbol_kept_if, symbol_kept_of, symbol_kept}
+use Rattle.its_plain.specs.OperatorSymbols.{is_nearer, nearer, nearest_after, nearest, with_distance, symbol_shown, with_symbol, symbol_kept_if, symbol_kept_of, symbol_kept}
 use Rattle.its_plain.specs.OperatorVersion.{versioned}
 use Rattle.its_plain.proofs.MachineLaws.{machine_is}
 use Rattle.its_stepped.specs.State.{State, plain}
 use Rattle.its_stepped.specs.Lines.{calmed, with_raw}
 use Rattle.its_stepped.proofs.LineLaws.{version_lifted}
-use Rattle.its_stepped.proofs.RefusalLaws.{error_of, symbol_alike}
+use Rattle.its_stepped.proofs.RefusalLaws.{symbol_alike}
 use Rattle.its_plain.specs.OperatorClock.{clock_end}
 use Rattle.its_world.specs.Tidy.{channel_by, Across, Tidy}
 use Rattle.its_world.specs.World.{alarm_at, frame_at, console_at, holder_at, symbols_at, raw_of, raw_at, mark_of, state_of, SymbolsBecome, VersionBecomes}
 use Rattle.its_world.specs.declared.world.World.{World}
-use Rattle.its_world.proofs.KeptLaws.{across_table}
+use Rattle.its_parts.proofs.AcrossLaws.{across_table}
 use Rattle.its_world.proofs.StateLaws.{state_is, job_of, changed_at, raw_same}
 use Rattle.its_operator.specs.Kept.{Kept, Lands, Refused, reason_of}
 use Rattle.its_operator.proofs.KeptLaws.{error_is, Made, made_sound, made_plain, made_forest, made_timed, made_alarmed}

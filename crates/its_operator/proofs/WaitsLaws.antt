@@ -1,10 +1,10 @@
 -- Each list of those that wait holds the slots that the plain machine says: where a slot belongs is told by its reason to wait
 -- alone, and the decision of the plain machine waits for a reason where the slot belongs in the ring of this reason.
-use Rattle.std.specs.Prelude.{if◌then◌else◌, ◌≡◌, ◌≢◌, ◌<◌, ◌≤◌, ◌↔◌, ◌+◌, ◌^◌, ◌==◌, ℕ, Bool, true, false, Option, Some, None, IfSome, is_some, option_map, List, [], nat_lt, slice_index_or, unwrap_or, refl}
+use Rattle.std.specs.Prelude.{◌≡◌, ◌<◌, ◌≤◌, ◌+◌, ◌^◌, ℕ, Bool, true, false, Option, Some, None, IfSome, option_map, List, nat_lt, slice_index_or, unwrap_or, refl}
 use Rattle.std.proofs.Common.{sym, ◌∙◌, ap, subst, inl, inr, arith}
 use Rattle.std.proofs.lemmas.Bool.{cases_eq, cases_Bool}
 use Rattle.std.proofs.lemmas.Bool.Decides.{nat_tests}
-use Rattle.its_links.specs.Lists.{list_at, count, hit}
+use Rattle.its_links.specs.Lists.{list_at, count}
 use Rattle.its_links.proofs.CountLaws.{hit_same, hit_other, hit_le}
 use Rattle.its_word.specs.declared.calls.Ask.{Ask}
 use Rattle.its_word.specs.declared.jobs.Channel.{Channel}
@@ -13,7 +13,6 @@ use Rattle.its_word.specs.declared.jobs.Job.{Job}
 use Rattle.its_core.specs.Cores.{core_at}
 use Rattle.its_files.specs.Files.{Store}
 use Rattle.its_jobs.specs.Table.{job_at, superior_at}
-use Rattle.its_frame.specs.declared.decision.Decision.{Decision}
 use Rattle.its_frame.specs.declared.decision.Decision.TheVariants.{Waits}
 use Rattle.its_frame.specs.declared.decision.Wait.{Wait}
 use Rattle.its_frame.specs.declared.decision.Wait.TheVariants.{Hang, Clock, Input, Output, Drained}
@@ -26,7 +25,7 @@ use Rattle.its_plain.specs.Arguments.{input}
 use Rattle.its_plain.specs.CallBasic.{channel_at}
 use Rattle.its_plain.specs.CallStep.{decision}
 use Rattle.its_plain.specs.Decide.{call_named}
-use Rattle.its_plain.specs.Machine.{Chan, Shut, TtyIn, TtyOut, On, Whole, Machine}
+use Rattle.its_plain.specs.Machine.{Chan, Shut, TtyIn, TtyOut, On, Whole}
 use Rattle.its_plain.specs.Reasons.{Doors, doors, held_up, of_transfer, of_finish, of_listen, reason_by, reason_in}
 use Rattle.its_stepped.specs.Sound.{Sound, SoundBy, SoundFrame}
 use Rattle.its_stepped.specs.State.{State, plain, seen}
@@ -43,7 +42,7 @@ use Rattle.its_stepped.specs.Alarmed.{Alarmed}
 use Rattle.its_stepped.specs.Forest.{Forest}
 use Rattle.its_world.specs.Tidy.{Tidy}
 use Rattle.its_operator.specs.Kept.{Kept}
-use Rattle.its_operator.specs.Waits.{WaitsFor, CanGoOn, HoldsJust, WaitRings, console_of}
+use Rattle.its_operator.specs.Waits.{WaitsFor, CanGoOn, WaitRings, console_of}
 
 -- a slot that stands in a list belongs there, and stands there once
 mark_most : (p : Option ℕ) (h : ℕ) → mark p h ≤ 1

@@ -1,5 +1,5 @@
 -- What holds of a world between two calls, and what a call of the operator makes of the state that a world stands for.
-use Rattle.std.specs.Prelude.{if◌then◌else◌, ◌≡◌, ◌<◌, ◌+◌, ◌^◌, ℕ, Bool, true, false, Option, Some, None, IfSome, Result, Ok, Err}
+use Rattle.std.specs.Prelude.{if◌then◌else◌, ◌≡◌, ◌<◌, ◌^◌, ℕ, Bool, true, false, Option, Some, None, IfSome, Result, Ok, Err}
 use Rattle.its_word.specs.declared.access.NoAccess.{NoAccess}
 use Rattle.its_word.specs.declared.access.NoAccess.TheVariants.{Absent, ReadOnly}
 use Rattle.its_word.specs.declared.session.Reason.{Reason}

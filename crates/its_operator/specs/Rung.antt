@@ -1,5 +1,5 @@
 -- What CLOCK makes of a world: the jobs whose alarm is due at the new clock are unwound, and then the alarms go.
-use Rattle.std.specs.Prelude.{◌==◌, ◌≡◌, ◌≤◌, ◌+◌, ◌-◌, ◌&&◌, ℕ, Bool, Option, List, filter, nat_lt}
+use Rattle.std.specs.Prelude.{◌==◌, ◌≡◌, ◌≤◌, ◌+◌, ◌-◌, ◌&&◌, ℕ, Bool, filter, nat_lt}
 use Rattle.std.specs.List.{range_with_len}
 use Rattle.its_word.specs.Limits.{slots}
 use Rattle.its_plain.specs.Alarm.{is_due}

@@ -1,20 +1,13 @@
 -- When the numbers in channels fit the files and drafts: where the channels are the same, and where none is open.
-use Rattle.std.specs.Prelude.{◌≡◌, ℕ, false, None, sum_by}
-use Rattle.std.specs.List.{range_with_len}
+use Rattle.std.specs.Prelude.{◌≡◌, ℕ, false, None}
 use Rattle.std.proofs.Common.{sym, ◌∙◌, ap}
-use Rattle.its_word.specs.Limits.{slots}
 use Rattle.its_word.proofs.TableLaws.{get_or-filled}
-use Rattle.its_word.specs.declared.jobs.Channel.{Channel}
 use Rattle.its_word.specs.declared.jobs.Channel.TheVariants.{Closed}
 use Rattle.its_jobs.specs.Table.{Table, NoJobs}
 use Rattle.its_files.specs.Blocks.{numbers}
 use Rattle.its_files.specs.Files.{Store, readers_by, no_files}
-use Rattle.its_files.proofs.RoomLaws.{sum_nothing}
 use Rattle.its_parts.specs.Across.{channel_by, channel_at, tally, reads, writes, writers, Across}
-
--- channels that are the same
-pub tally_same : (w : Channel → ℕ) (cs ds : ℕ → ℕ → Channel) → ((k n : ℕ) → ds k n ≡ cs k n) → tally w ds ≡ tally w cs
-tally_same w cs ds h = λ i. tally w (λ k n. h k n i)
+use Rattle.its_parts.proofs.TallyLaws.{tally_same, tally_none}
 
 pub across_table : (s : Store) (t v : Table) → Across s t → ((k n : ℕ) → channel_at v k n ≡ channel_at t k n) → Across s v
 across_table s t v a same = record {
@@ -25,21 +18,13 @@ across_table s t v a same = record {
 }
 
 -- no channel is open, and no file and no draft stands
-module _ (a b : ℕ) where
-  rows_none : sum_by (λ (k : ℕ). sum_by (λ (n : ℕ). 0) (range_with_len 0 b)) (range_with_len 0 a) ≡ 0
-  rows_none = (λ i. sum_by (λ k. sum_nothing (range_with_len 0 b) i) (range_with_len 0 a)) ∙ sum_nothing (range_with_len 0 a)
-
-tally_none : tally (λ c. 0) (λ k n. Closed) ≡ 0
-unfolding tally
-tally_none = rows_none slots 16
-
 nothing_read : (f : ℕ) → tally (reads f) (λ k n. Closed) ≡ 0
 unfolding tally
-nothing_read f = tally_none
+nothing_read f = tally_none (λ k n. Closed)
 
 nothing_written : (d : ℕ) → tally (writes d) (λ k n. Closed) ≡ 0
 unfolding tally
-nothing_written d = tally_none
+nothing_written d = tally_none (λ k n. Closed)
 
 pub no_across : (t : Table) → NoJobs t → Across no_files t
 no_across t none = record {

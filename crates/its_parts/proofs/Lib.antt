@@ -1,3 +1,10 @@
 pub mod BareLaws
 pub mod PartLaws
+pub mod TallyLaws
 pub mod AcrossLaws
+pub mod StandLaws
+pub mod StoreLaws
+pub mod RoomLaws
+pub mod KeptLaws
+pub mod MarkLaws
+pub mod ChanLaws

@@ -3,7 +3,7 @@ use Rattle.std.specs.Prelude.{if◌then◌else◌, ◌≡◌, ◌==◌, ◌≤�
 use Rattle.std.specs.List.{range_with_len}
 use Rattle.its_word.specs.Limits.{slots}
 use Rattle.its_word.specs.declared.jobs.Channel.{Channel}
-use Rattle.its_word.specs.declared.jobs.Channel.TheVariants.{Closed, Reading, Writing}
+use Rattle.its_word.specs.declared.jobs.Channel.TheVariants.{Closed, TtyIn, TtyOut, Reading, Writing, Usr}
 use Rattle.its_word.specs.declared.jobs.Job.{Job}
 use Rattle.its_jobs.specs.Table.{Table, job_at}
 use Rattle.its_files.specs.Files.{Store, entry_at, readers_at, is_marked}
@@ -33,6 +33,15 @@ reads f _ = 0
 abbrev pub writes : ℕ → Channel → ℕ
 writes d (Writing e) = if e == d then 1 else 0
 writes d _ = 0
+
+-- a channel that is on no file and on no draft
+abbrev pub IsElsewhere : Channel → Type 0
+IsElsewhere Closed = Unit {0}
+IsElsewhere TtyIn = Unit {0}
+IsElsewhere TtyOut = Unit {0}
+IsElsewhere (Usr s write at) = Unit {0}
+IsElsewhere (Reading f at) = ⊥
+IsElsewhere (Writing d) = ⊥
 
 -- how many channels write what stands under a number: a draft one, but none one that is marked
 abbrev pub writers : Option Entry → Bool → ℕ

@@ -1,8 +1,7 @@
 -- A decision that is carried out is its commit.
 use Rattle.std.specs.Prelude.{if◌then◌else◌, ◌≡◌, ◌==◌, ◌≤◌, ◌+◌, ℕ, Bool, true, false, Option, Some, None, IfSome, is_some, option_map, List, [], ◌∷◌, ◌++◌, length, map, refl}
-use Rattle.std.proofs.Common.{sym, ap, ◌∙◌, subst, arith, inl, inr}
-use Rattle.std.proofs.lemmas.Bool.{cases_Bool, eq-eqb}
-use Rattle.std.proofs.lemmas.Bool.Decides.{nat_tests}
+use Rattle.std.proofs.Common.{sym, ap, ◌∙◌, subst, arith}
+use Rattle.std.proofs.lemmas.Bool.{eq-eqb}
 use Rattle.its_core.specs.Cores.{clear_at}
 use Rattle.its_word.specs.declared.calls.Exit.{Exit}
 use Rattle.its_word.specs.declared.calls.Owed.{Owed}
@@ -24,9 +23,8 @@ use Rattle.its_frame.specs.declared.frame.Frame.{Frame}
 use Rattle.its_frame.specs.declared.frame.Holding.{Holding}
 use Rattle.its_plain.specs.Arguments.{debts, revalued}
 use Rattle.its_plain.specs.Change.{superiors, is_gone, removed, inferior, effect}
-use Rattle.its_plain.specs.Decide.{call_named}
 use Rattle.its_plain.specs.Machine.{changed}
-use Rattle.its_stepped.specs.Commit.{effect_on, effects_on, committed, gone_on, owed_by, given_up, owed_part, owed_parts, owed_store, sleeps}
+use Rattle.its_stepped.specs.Commit.{effect_on, effects_on, committed, gone_on, owed_by, given_up, owed_part, owed_parts, owed_store}
 use Rattle.its_stepped.specs.State.{State, mine, turn, same, ending, waiting}
 use Rattle.its_pclsr.specs.Built.{CanMake, CanMakeAll, backed}
 use Rattle.its_pclsr.specs.Carried.{standing_of, Ready, Endable}

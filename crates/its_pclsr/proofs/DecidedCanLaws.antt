@@ -5,7 +5,7 @@ use Rattle.its_word.specs.Core.{word_at}
 use Rattle.its_word.specs.declared.calls.Ask.{Ask}
 use Rattle.its_frame.specs.declared.change.Change.TheVariants as changes
 use Rattle.its_frame.specs.declared.name.CallName.{CallName}
-use Rattle.its_frame.specs.declared.name.CallName.TheVariants.{Hang, Sleep, Dismis, Usrvar, Logout, Open, Close, Iot, Siot, Finish, Listen, Ttylnd, Access, Fillen, Delete, Rename, Usrmem, Uclose, Corblk, Realt}
+use Rattle.its_frame.specs.declared.name.CallName.TheVariants.{Hang, Sleep, Dismis, Usrvar, Logout, Open, Close, Iot, Siot, Ttylnd, Access, Delete, Rename, Usrmem, Uclose, Corblk, Realt}
 use Rattle.its_plain.specs.Arguments.{input}
 use Rattle.its_plain.specs.CallBasic.{channel_at, ioc}
 use Rattle.its_plain.specs.CallDevice.{open_by, open_call, shuts, close_on, close_call, iot_on, iot_call, siot_on, siot_call}
@@ -19,7 +19,7 @@ use Rattle.its_plain.specs.View.{View}
 use Rattle.its_stepped.specs.Commit.{effect_on}
 use Rattle.its_stepped.specs.State.{State}
 use Rattle.its_stepped.specs.Tick.{is_disk, helps_by}
-use Rattle.its_stepped.proofs.CallWays.{finish_ways, listen_ways, fillen_ways}
+use Rattle.its_stepped.proofs.CallWays.{answer_ways}
 use Rattle.its_stepped.proofs.TestLaws.{first_holds}
 use Rattle.its_pclsr.proofs.CanLaws.{IsOpen, open_number, Sees, Can, console_below, opens_can, opens_disk_can, closes_draft_can, iot_in_can, iot_out_can, iot_read_can, roomy, siot_by_can, siot_in_can, siot_out_can, siot_read_can, siot_write_can, sleep_can, realt_can, dismiss_can, usrvar_can, told_can, ttylnd_can, answering_can, access_can, delete_can, rename_can}
 use Rattle.its_pclsr.proofs.UsrCanLaws.{Finds, opens_usr_can, iot_from_can, iot_into_can, siot_peeks_can, siot_pokes_can, usrmem_can, uclose_can}
@@ -100,15 +100,13 @@ call_can j v x a (Some Open) s u f g = open_by_can j v x a (input a 1 == disk_de
 call_can j v x a (Some Close) s u f g = close_on_can j v x a (channel_at x.own.channels (input a 0)) s u refl
 call_can j v x a (Some Iot) s u f g = iot_on_can j v x a (slice_index_or a.outputs.items 0 0) (channel_at x.own.channels (input a 0)) s u f refl
 call_can j v x a (Some Siot) s u f g = siot_on_can j v x a (channel_at x.own.channels (input a 0)) s u f refl
-call_can j v x a (Some Finish) s u f g = finish_ways (Can j v) x a (answering_can j v x a) (λ r. tt)
-call_can j v x a (Some Listen) s u f g = listen_ways (Can j v) x a (answering_can j v x a) (λ r. tt)
 call_can j v x a (Some Ttylnd) s u f g = ttylnd_can j v x a s
 call_can j v x a (Some Access) s u f g = access_can j v x a
-call_can j v x a (Some Fillen) s u f g = fillen_ways (Can j v) x a (answering_can j v x a)
 call_can j v x a (Some Delete) s u f g = delete_can j v x a s (u refl)
 call_can j v x a (Some Rename) s u f g = rename_can j v x a s (u refl)
 call_can j v x a (Some Usrmem) s u f g = usrmem_can j v x a f
 call_can j v x a (Some Uclose) s u f g = uclose_can j v x a f
 call_can j v x a (Some Corblk) s u f g = corblk_can j v x a (g refl)
 call_can j v x a (Some Realt) s u f g = realt_can j v x a
+call_can j v x a (Some n) s u f g = answer_ways (Can j v) x a n refl (answering_can j v x a) (λ i r. tt)
 call_can j v x a None s u f g = tt

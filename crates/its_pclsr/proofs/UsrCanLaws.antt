@@ -23,7 +23,7 @@ use Rattle.its_plain.specs.Change.{channel_in, inferior, effect}
 use Rattle.its_plain.specs.Decide.{reaching}
 use Rattle.its_plain.specs.Machine.{Chan, Shut, TtyIn, TtyOut, Reads, Writes, On, Whole, core_of, limit}
 use Rattle.its_plain.specs.Tests.{◌⇒◌, fails, finishes, goes, out}
-use Rattle.its_plain.specs.View.{View, Outline, outline}
+use Rattle.its_plain.specs.View.{View, outline}
 use Rattle.its_stepped.specs.Commit.{effect_on}
 use Rattle.its_stepped.specs.State.{State}
 use Rattle.its_stepped.proofs.FrameLaws.{changed_only}

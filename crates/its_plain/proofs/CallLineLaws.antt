@@ -19,13 +19,13 @@ use Rattle.its_plain.specs.OperatorJobs.{new_job, held_by, loaded_in, loaded, st
 use Rattle.its_plain.specs.OperatorSymbols.{symbol_kept_if, symbol_kept_of, symbol_kept}
 use Rattle.its_plain.specs.OperatorVersion.{versioned}
 use Rattle.its_plain.specs.Change.{protected}
-use Rattle.its_plain.specs.OperatorLines.{by_load, by_exam, by_state, by_clock, operate, shows, Lined, Done, Peeks, peeked_at, lined}
+use Rattle.its_plain.specs.OperatorLines.{by_load, by_exam, in_a_line, by_state, by_clock, operate, shows, Lined, Done, Peeks, peeked_at, lined}
 use Rattle.its_plain.specs.Own.{names_of}
 use Rattle.its_plain.specs.CallFile.{most_files, is_full, file_named, has_file}
 use Rattle.its_plain.specs.OperatorFiles.{channels_of, with_files, file_made_if, file_made, word_added_if, word_added_to, word_added, words_added, file_shown}
 use Rattle.its_plain.specs.OperatorClock.{alarm_in, due, rung, rung_if, at_clock, clock_end, clocked_if, clocked}
 use Rattle.its_plain.specs.OperatorConsoles.{typed, drained}
-use Rattle.its_print.specs.Printing.{Line}
+use Rattle.its_print.specs.Printing.{Line, listed}
 
 -- what no line changes of a job
 pub record Face : Type 0 where
@@ -234,9 +234,9 @@ version_keeps m v = elim (cases_Bool (v == 2)) [
   | inr is ↦ rw is (alike_keeps m m (alike_same m))
 ]
 
-exam_keeps : (m : Machine) (b : Block) (s a : ℕ) (r : Result (List ℕ) Reason) → LineKeepsBy m (Done (by_exam m b s a r))
-exam_keeps m b s a (Ok ws) = alike_keeps m m (alike_same m)
-exam_keeps m b s a (Err r) = tt
+exam_keeps : (m : Machine) (b : Block) (s : ℕ) (show : List ℕ → List Line) (r : Result (List ℕ) Reason) → LineKeepsBy m (Done (by_exam m b s show r))
+exam_keeps m b s show (Ok ws) = alike_keeps m m (alike_same m)
+exam_keeps m b s show (Err r) = tt
 
 show_keeps : (m : Machine) (b : Block) (s : ℕ) (r : Result JobShow Reason) → LineKeepsBy m (Done (by_state m b s r))
 show_keeps m b s (Ok show) = alike_keeps m m (alike_same m)
@@ -419,7 +419,8 @@ line_keeps m b (events.Int s x y) = disturbs_keeps m s b (on_registers m s (inte
 line_keeps m b (events.Stop s) = disturbs_keeps m s b (on_registers m s stopped) (registers_alike m s stopped (λ q. refl))
 line_keeps m b (events.Cont s) = disturbs_keeps m s b (on_registers m s continued) (registers_alike m s continued (λ q. refl))
 line_keeps m b (events.Deposit s a x) = disturbs_keeps m s b (deposited m s a x) (deposited_alike m s a x)
-line_keeps m b (events.Exam s a n) = exam_keeps m b s a (examined m s a n)
+line_keeps m b (events.Exam s a n) = exam_keeps m b s (in_a_line s a) (examined m s a n)
+line_keeps m b (events.List s a n) = exam_keeps m b s (listed s a) (examined m s a n)
 line_keeps m b (events.State s) = show_keeps m b s (state_shown m s)
 line_keeps m b (events.Clock n) = clock_keeps m b n (nat_lt (m.clock + n) clock_end) refl
 line_keeps m b (events.Peek s) = peek_keeps m s (m.jobs s)

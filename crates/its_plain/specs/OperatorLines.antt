@@ -1,6 +1,7 @@
 -- Each line of a session, and what it comes to on the plain machine (docs/SESSION.md, "The lines").
 use Rattle.std.specs.Prelude.{ℕ, ◌+◌, Option, Some, None, List, [], ◌∷◌, Result, Ok, Err, take}
 use Rattle.its_word.specs.declared.session.Event.{Event}
+use Rattle.its_word.specs.declared.session.Event.TheVariants as events
 use Rattle.its_word.specs.declared.session.Event.TheVariants.{Nothing, Version, Load, Words, ReadOnly, Symbol, Go, File, Append, EndFile, Tick, Run, TypeIn, Drain, Clock, Int, Exam, State, Deposit, Stop, Cont, Peek, Dir, Show, End}
 use Rattle.its_word.specs.declared.session.Reason.{Reason}
 use Rattle.its_word.specs.declared.session.Reason.TheVariants.{NoJob}
@@ -22,9 +23,14 @@ abbrev pub by_load : Block → Result (Machine × ℕ) Reason → Operated
 by_load b (Ok (m, s)) = Does m (printed.Loaded s ∷ []) (only s) (record b { slot = s })
 by_load b (Err r) = Refuses r
 
-abbrev pub by_exam : Machine → Block → ℕ → ℕ → Result (List ℕ) Reason → Operated
-by_exam m b s a (Ok ws) = Does m (printed.Words s a ws ∷ []) (only s) b
-by_exam m b s a (Err r) = Refuses r
+-- EXAM and LIST find the same words and refuse alike; each shows them in lines of its own
+abbrev pub by_exam : Machine → Block → ℕ → (List ℕ → List Line) → Result (List ℕ) Reason → Operated
+by_exam m b s show (Ok ws) = Does m (show ws) (only s) b
+by_exam m b s show (Err r) = Refuses r
+
+-- EXAM shows them in one line
+abbrev pub in_a_line : ℕ → ℕ → List ℕ → List Line
+in_a_line s a ws = printed.Words s a ws ∷ []
 
 abbrev pub by_state : Machine → Block → ℕ → Result JobShow Reason → Operated
 by_state m b s (Ok show) = Does m (printed.State m.version s show ∷ []) (only s) b
@@ -59,7 +65,8 @@ operate m b (TypeIn c bytes) = Does (typed c bytes.items m) (printed.Typed c (dr
 operate m b (Drain c n) = Does (drained c n m) (printed.Drained c (take n (m.consoles c).output) ∷ []) nobody b
 operate m b (Clock n) = by_clock m b n (clocked m n)
 operate m b (Int s v w) = disturbs s b (on_registers m s (interrupted v w))
-operate m b (Exam s a n) = by_exam m b s a (examined m s a n)
+operate m b (Exam s a n) = by_exam m b s (in_a_line s a) (examined m s a n)
+operate m b (events.List s a n) = by_exam m b s (printed.listed s a) (examined m s a n)
 operate m b (State s) = by_state m b s (state_shown m s)
 operate m b (Deposit s a w) = disturbs s b (deposited m s a w)
 operate m b (Stop s) = disturbs s b (on_registers m s stopped)

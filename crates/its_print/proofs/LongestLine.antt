@@ -11,7 +11,8 @@ use Rattle.its_word.specs.declared.show.PeekState.{PeekState}
 use Rattle.its_word.specs.declared.show.PeekState.TheVariants.{User, Entered, Parsed, Asked, Holding, Waiting, Moving, Ending}
 use Rattle.its_word.proofs.DigitLaws.{few_digits, few_for_count}
 use Rattle.its_word.proofs.SpacedLaws.{length_spaced, room_of}
-use Rattle.its_print.specs.Printing.{Line, Loaded, Ticks, Typed, Drained, Words, State, Peeked, Dir, Filed, Shown, Row, Refused, letter_of, run_of, runs_from, runs_of, word_or_dash, number_or_dash, run_or_stop, state_name, reason_name, first_of, symbol_or_dashes, symbol_fields, fields_of, text_of_line}
+use Rattle.its_asm.proofs.TypeLaws.{typed_short}
+use Rattle.its_print.specs.Printing.{Line, Loaded, Ticks, Typed, Drained, Words, Listed, State, Peeked, Dir, Filed, Shown, Row, Refused, letter_of, run_of, runs_from, runs_of, word_or_dash, number_or_dash, run_or_stop, state_name, reason_name, first_of, symbol_or_dashes, symbol_fields, fields_of, text_of_line}
 use Rattle.its_print.specs.Sizes.{Fits8, Fits32, IsPrinted}
 
 length-octal12 : (w : ℕ) → length (octal12_of w) ≡ 12
@@ -105,6 +106,7 @@ room_of_fields (Ticks s paces) h = omega (arith, few8 s h.0, room_of_runs paces,
 room_of_fields (Typed c dropped) h = omega (arith, few8 c h.0, few32 dropped h.1)
 room_of_fields (Drained c bytes) h = omega (arith, few8 c h.0, room_of_bytes bytes h.2, h.1)
 room_of_fields (Words s a words) h = omega (arith, few8 s h.0, length-octal6 a, room_of_words words, h.1)
+room_of_fields (Listed s a word) h = omega (arith, few8 s h.0, length-octal6 a, typed_short word h.1)
 room_of_fields (State v s j) h =
     omega (arith, length-symbol_fields v j.symbol h.3, few8 s h.0, length-octal12 j.u, length-octal12 j.j, length-number j.sup h.1, length-number j.con h.2, length-run_or_stop j.run, length-octal12 j.pc, length-octal12 j.p1, length-octal12 j.p2, length-octal12 j.m1, length-octal12 j.m2, length-octal12 j.d1, length-octal12 j.d2)
 room_of_fields (Peeked s p) h =
@@ -121,6 +123,7 @@ length-first (Ticks s paces) = refl
 length-first (Typed c dropped) = refl
 length-first (Drained c bytes) = refl
 length-first (Words s a words) = refl
+length-first (Listed s a word) = refl
 length-first (State v s show) = refl
 length-first (Peeked s peek) = refl
 length-first (Dir d n) = refl

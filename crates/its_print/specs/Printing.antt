@@ -10,6 +10,7 @@ use Rattle.its_word.specs.declared.show.JobShow.{JobShow}
 use Rattle.its_word.specs.declared.show.Peek.{Peek}
 use Rattle.its_word.specs.declared.show.PeekState.{PeekState}
 use Rattle.its_word.specs.declared.show.PeekState.TheVariants.{User, Entered, Parsed, Asked, Holding, Waiting, Moving, Ending}
+use Rattle.its_asm.specs.TypeOut.{typed}
 
 -- a line of a transcript
 pub data Line : Type 0 where
@@ -23,6 +24,8 @@ pub data Line : Type 0 where
   Drained : (c : ℕ) (bytes : List ℕ) → Line
   -- the words that EXAM found in slot s from address a on
   Words : (s a : ℕ) (words : List ℕ) → Line
+  -- the word that LIST found in slot s at address a
+  Listed : (s a word : ℕ) → Line
   -- what STATE shows of slot s in a session of version v
   State : (v s : ℕ) (show : JobShow) → Line
   -- what PEEK shows of slot s
@@ -124,6 +127,7 @@ fields_of (Ticks s paces) = digits_of s ∷ runs_of paces
 fields_of (Typed c dropped) = digits_of c ∷ digits_of dropped ∷ []
 fields_of (Drained c bytes) = digits_of c ∷ map digits_of bytes
 fields_of (Words s a words) = digits_of s ∷ octal6_of a ∷ map octal12_of words
+fields_of (Listed s a word) = digits_of s ∷ octal6_of a ∷ typed word ∷ []
 fields_of (State v s show) = digits_of s ∷ job_fields show ++ symbol_fields v show.symbol
 fields_of (Peeked s peek) = digits_of s ∷ peek_fields peek
 fields_of (Dir d n) = octal12_of d ∷ digits_of n ∷ []
@@ -139,6 +143,7 @@ first_of (Ticks s paces) = codes "T"
 first_of (Typed c dropped) = codes "Y"
 first_of (Drained c bytes) = codes "D"
 first_of (Words s a words) = codes "E"
+first_of (Listed s a word) = codes "L"
 first_of (State v s show) = codes "S"
 first_of (Peeked s peek) = codes "P"
 first_of (Dir d n) = codes "R"
@@ -154,3 +159,8 @@ text_of_line line = spaced (first_of line) (fields_of line) ++ 10 ∷ []
 -- the text of a transcript
 unfoldable pub text : List Line → List ℕ
 text lines = flat_map text_of_line lines
+
+-- a line for each of the words that LIST found in slot s from address a on
+abbrev pub listed : ℕ → ℕ → List ℕ → List Line
+listed s a [] = []
+listed s a (word ∷ words) = Listed s a word ∷ listed s (a + 1) words

@@ -10,7 +10,7 @@ mod runs;
 mod tests;
 
 pub use lines::{
-    longest_line, print_dir, print_drained, print_file, print_loaded, print_peek, print_refusal,
-    print_row, print_show, print_state, print_ticks, print_typed, print_words,
+    longest_line, print_dir, print_drained, print_file, print_listed, print_loaded, print_peek,
+    print_refusal, print_row, print_show, print_state, print_ticks, print_typed, print_words,
 };
 pub use runs::Run;

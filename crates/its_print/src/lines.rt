@@ -1,14 +1,14 @@
 ghost use Rattle.std.specs.Prelude.{◌≡◌, ◌≤◌, ◌<◌, ◌+◌, [], length};
 ghost use Rattle.arrayvec.specs.ArrayVec.{array_vec_len};
 ghost use Rattle.its_word.specs.Text.{spaced};
-ghost use Rattle.its_print.specs.Printing.{Dir, Drained, Filed, Line, Loaded, Peeked, Refused, Row, Shown, State, Ticks, Typed, Words, job_fields, text_of_line};
+ghost use Rattle.its_print.specs.Printing.{Dir, Drained, Filed, Line, Listed, Loaded, Peeked, Refused, Row, Shown, State, Ticks, Typed, Words, job_fields, text_of_line};
 ghost use Rattle.its_print.specs.Runs.{paces_in};
 ghost use Rattle.its_print.specs.Sizes.{IsPrinted};
 
 use super::names::{reason_word, run_word, state_word};
 use super::put::{
-    put, put_address, put_bytes, put_number, put_number_or_dash, put_runs, put_symbol, put_word,
-    put_word_or_dash, put_words,
+    put, put_address, put_bytes, put_number, put_number_or_dash, put_runs, put_symbol, put_typed,
+    put_word, put_word_or_dash, put_words,
 };
 use super::runs::Run;
 use arrayvec::ArrayVec;
@@ -74,6 +74,19 @@ pub fn print_words(s: u8, a: u32, words: &[Word], out: &mut ArrayVec<u8, 2048>)
     put_number(out, u64::from(s));
     put_address(out, a);
     put_words(out, words);
+    out.push(b'\n');
+}
+
+/// `L s a text`: the word of slot `s` at address `a`, typed out.
+#[tactic(auto, unfolding(crate::specs::Printing::text_of_line, its_word::specs::Text::spaced))]
+pub fn print_listed(s: u8, a: u32, word: Word, out: &mut ArrayVec<u8, 2048>)
+    requires { out.old.items ≡ [] }
+    ensures { out.new.items ≡ text_of_line (Listed s a word) }
+{
+    out.push(b'L');
+    put_number(out, u64::from(s));
+    put_address(out, a);
+    put_typed(out, word);
     out.push(b'\n');
 }
 

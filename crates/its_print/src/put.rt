@@ -2,12 +2,14 @@
 ghost use Rattle.std.specs.Prelude.{◌≡◌, ◌+◌, ◌*◌, ◌<◌, ◌≤◌, [], ◌∷◌, length, map};
 ghost use Rattle.arrayvec.specs.ArrayVec.{array_vec_len};
 ghost use Rattle.its_word.specs.Text.{digits_of, octal12_of, octal6_of, spaced};
+ghost use Rattle.its_asm.specs.TypeOut.{typed};
 ghost use Rattle.its_print.specs.Printing.{number_or_dash, run_of, runs_of, symbol_fields, symbol_or_dashes, word_or_dash};
 ghost use Rattle.its_print.specs.Runs.{paces_in};
 
 use super::names::letter;
 use super::runs::Run;
 use arrayvec::ArrayVec;
+use its_asm::type_out;
 use its_word::{Word, octal, octal6};
 
 /// A word as it is.
@@ -46,6 +48,17 @@ pub fn put_address(out: &mut ArrayVec<u8, 2048>, a: u32)
     ensures len { array_vec_len out.new ≤ array_vec_len out.old + 7 }
 {
     put(out, &octal6(a));
+}
+
+/// A word typed out.
+pub fn put_typed(out: &mut ArrayVec<u8, 2048>, w: Word)
+    requires { array_vec_len out.old + 64 < 2048 }
+    ensures text { out.new.items ≡ spaced out.old.items (typed w ∷ []) }
+    ensures len { array_vec_len out.new ≤ array_vec_len out.old + 65 }
+{
+    let mut text = ArrayVec::new();
+    type_out(w, &mut text);
+    put(out, &text);
 }
 
 /// A word of 12 digits, or `-`.

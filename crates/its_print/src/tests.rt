@@ -45,6 +45,9 @@ fn prints_bytes_and_words(rt: HostRuntime) {
     prints!(rt; b"E 0 000200 000000000005\n"; print_words(0, 0o200, &[Word::new(5)]));
     prints!(rt; b"E 0 000200 350700001000 000000000004\n"; print_words(0, 0o200, &[Word::new(0o350700001000), Word::new(4)]));
     prints!(rt; b"E 77 777777 777777777777\n"; print_words(0o77, 0o777777, &[Word::ONES]));
+    prints!(rt; b"L 0 000100 MOVEI 1,5\n"; print_listed(0, 0o100, Word::new(0o201040000005)));
+    prints!(rt; b"L 137 777777 WORD 0,,0\n"; print_listed(0o137, 0o777777, Word::ZERO));
+    prints!(rt; b"L 77 000000 JRST 17,@777777(17)\n"; print_listed(0o77, 0, Word::new(0o254777777777)));
     prints!(rt; b"/ 000000000123\n"; print_row(&[Word::new(0o123)]));
 }
 

@@ -14,8 +14,8 @@ use Rattle.its_word.specs.declared.session.Bad.{Bad}
 use Rattle.its_word.specs.declared.session.Bad.TheVariants as bads
 use Rattle.its_session.specs.declared.kind.Kind.{Kind}
 use Rattle.its_session.specs.declared.kind.Kind.TheVariants as kinds
-use Rattle.its_session.specs.Fits.{EventFits, IsNameWord, place_of, Stands}
-use Rattle.its_session.specs.Grammar.{Field, with_fields, with_count, number, number_to, count_to, last_slot, slot, page, address, name, console, is_dash, console_or_dash, console_of, of_slot, load_line, words_line, go_line, file_line, append_line, bare_line, tick_line, run_line, type_line, drain_line, clock_line, int_line, exam_line, deposit_line, slot_line, dir_line, show_line, version_line, read_only_line, symbol_line, before_slash, kind_of, may_stand, is_at, place_of_kind, version_of_kind, line_of_kind, line_of_first, is_comment, event_of_words}
+use Rattle.its_session.specs.Fits.{EventFits, SpanFits, IsNameWord, place_of, Stands}
+use Rattle.its_session.specs.Grammar.{Field, with_fields, with_count, number, number_to, count_to, last_slot, slot, page, address, name, console, is_dash, console_or_dash, console_of, of_slot, of_span, load_line, words_line, go_line, file_line, append_line, bare_line, tick_line, run_line, type_line, drain_line, clock_line, int_line, span_line, deposit_line, slot_line, dir_line, show_line, version_line, read_only_line, symbol_line, before_slash, kind_of, may_stand, is_at, place_of_kind, version_of_kind, line_of_kind, line_of_first, is_comment, event_of_words}
 use Rattle.its_session.proofs.NameLaws.{both}
 
 le_of : (a b : ℕ) → leb a b ≡ true → a ≤ b
@@ -212,18 +212,30 @@ int_fits v (s ∷ []) e h = cc
 int_fits v (s ∷ p ∷ []) e h = cc
 int_fits v (s ∷ p ∷ q ∷ x ∷ ws) e h = cc
 
-exam_fits : (v : ℕ) (ws : List (List ℕ)) (e : Event) → exam_line v ws ≡ Ok e → ReadAt v places.Plain e
-unfolding exam_line
-exam_fits v (s ∷ a ∷ n ∷ []) e h =
-    fits_by v (slot v s ∷ number_to (2 ^ 18 - octal_value n) a ∷ count_to 8 n ∷ []) (events.Exam (octal_value s) (octal_value a) (octal_value n)) e
-    (λ f. (let n_in = from_one 8 n f.1.1.0 in
+-- a slot, a first address and a count
+abbrev IsSpan : ℕ → ℕ × ℕ × ℕ → Type 0
+IsSpan v x = SpanFits v x.0 x.1 x.2
+
+span_is : (v : ℕ) (ws : List (List ℕ)) (x : ℕ × ℕ × ℕ) → span_line v ws ≡ Ok x → IsSpan v x
+unfolding span_line
+span_is v (s ∷ a ∷ n ∷ []) x h =
+    let m = met (slot v s ∷ number_to (2 ^ 18 - octal_value n) a ∷ count_to 8 n ∷ []) (octal_value s, octal_value a, octal_value n) x h in
+    let n_in = from_one 8 n m.0.1.1.0 in
     let few = n_in.1 in
-    let most = at_most (2 ^ 18 - octal_value n) a f.1.0 in
-    (at_most (last_slot v) s f.0, n_in.0, n_in.1, omega arith))) h
-exam_fits v [] e h = cc
-exam_fits v (s ∷ []) e h = cc
-exam_fits v (s ∷ a ∷ []) e h = cc
-exam_fits v (s ∷ a ∷ n ∷ x ∷ ws) e h = cc
+    let most = at_most (2 ^ 18 - octal_value n) a m.0.1.0 in
+    subst (IsSpan v) m.1 (at_most (last_slot v) s m.0.0, n_in.0, n_in.1, omega arith)
+span_is v [] x h = cc
+span_is v (s ∷ []) x h = cc
+span_is v (s ∷ a ∷ []) x h = cc
+span_is v (s ∷ a ∷ n ∷ b ∷ ws) x h = cc
+
+span_fits : (v : ℕ) (event : ℕ → ℕ → ℕ → Event) (ws : List (List ℕ)) (e : Event) → ((x : ℕ × ℕ × ℕ) → IsSpan v x → ReadAt v places.Plain (event x.0 x.1 x.2))
+    → of_span event (span_line v ws) ≡ Ok e → ReadAt v places.Plain e
+span_fits v event ws e fits h = go (span_line v ws) refl h
+  where
+    go : (r : Result (ℕ × ℕ × ℕ) Bad) → span_line v ws ≡ r → of_span event r ≡ Ok e → ReadAt v places.Plain e
+    go (Ok x) t h = let k : event x.0 x.1 x.2 ≡ e = cc in subst (ReadAt v places.Plain) k (fits x (span_is v ws x t))
+    go (Err bad) t h = cc
 
 deposit_fits : (v : ℕ) (ws : List (List ℕ)) (e : Event) → deposit_line v ws ≡ Ok e → ReadAt v places.Plain e
 unfolding deposit_line
@@ -308,7 +320,8 @@ kind_fits v kinds.TypeIn first ws e h = type_fits v ws e h
 kind_fits v kinds.Drain first ws e h = drain_fits v ws e h
 kind_fits v kinds.Clock first ws e h = clock_fits v ws e h
 kind_fits v kinds.Int first ws e h = int_fits v ws e h
-kind_fits v kinds.Exam first ws e h = exam_fits v ws e h
+kind_fits v kinds.Exam first ws e h = span_fits v events.Exam ws e (λ x i. record { fits = i; at = refl }) h
+kind_fits v kinds.List first ws e h = span_fits v events.List ws e (λ x i. record { fits = i; at = refl }) h
 kind_fits v kinds.State first ws e h = slot_fits v events.State ws e (λ s i. record { fits = i; at = refl }) h
 kind_fits v kinds.Deposit first ws e h = deposit_fits v ws e h
 kind_fits v kinds.Stop first ws e h = slot_fits v events.Stop ws e (λ s i. record { fits = i; at = refl }) h
@@ -358,6 +371,7 @@ pub later_fits : (v : ℕ) (e : Event) → EventFits v e → EventFits 2 e
 later_fits v (events.Tick s n) h = (slot_later v s h.0, h.1, h.2)
 later_fits v (events.Int s p q) h = slot_later v s h
 later_fits v (events.Exam s a n) h = (slot_later v s h.0, h.1, h.2, h.3)
+later_fits v (events.List s a n) h = (slot_later v s h.0, h.1, h.2, h.3)
 later_fits v (events.State s) h = slot_later v s h
 later_fits v (events.Deposit s a w) h = (slot_later v s h.0, h.1)
 later_fits v (events.Stop s) h = slot_later v s h

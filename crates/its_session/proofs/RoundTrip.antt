@@ -16,7 +16,7 @@ use Rattle.its_word.proofs.DigitLaws.{digits_are_codes, digits_are_octal, digits
 use Rattle.its_word.proofs.SpacedLaws.{room_of}
 use Rattle.its_word.proofs.TextLaws.{octal12_reads}
 use Rattle.its_session.specs.declared.kind.Kind.TheVariants as kinds
-use Rattle.its_session.specs.Grammar.{append_line, bare_line, before_slash, clock_line, deposit_line, dir_line, drain_line, event_of_words, exam_line, file_line, go_line, int_line, is_comment, is_place, kind_of, line_event, load_line, show_line, last_slot, read_only_line, run_line, slot_line, symbol_line, tick_line, type_line, version_line, words_line, words_of}
+use Rattle.its_session.specs.Grammar.{append_line, bare_line, before_slash, clock_line, deposit_line, dir_line, drain_line, event_of_words, file_line, go_line, int_line, is_comment, is_place, kind_of, line_event, load_line, show_line, last_slot, read_only_line, run_line, slot_line, span_line, of_span, symbol_line, tick_line, type_line, version_line, words_line, words_of}
 use Rattle.its_session.specs.Fits.{EventFits, IsNameWord, place_of}
 use Rattle.its_session.specs.Writing.{AreWords, HasWords, console_text, name_of, text_of_event}
 use Rattle.its_session.proofs.LineLaws.{AllRuns, IsRun, line_of_words}
@@ -178,14 +178,31 @@ int_again s v w slot word_v word_w =
     line_of_words places.Plain 2 (codes "INT") (digits_of s ∷ octal12_of v ∷ octal12_of w ∷ []) (word (codes "INT") refl refl) (read_s.run, (read_v.run, (read_w.run, tt))) (omega (arith, read_s.short, read_v.short, read_w.short))
     ∙ rw (read_s.formed, read_v.formed, read_w.formed, digits_value s, read_v.value, read_w.value) (grind (arith, nat_tests))
 
-exam_again : (s a n : ℕ) → s ≤ 95 → 1 ≤ n → n ≤ 8 → a + n ≤ 2 ^ 18 → line_event places.Plain 2 (spaced (codes "EXAM") (digits_of s ∷ octal6_of a ∷ digits_of n ∷ [])) ≡ Ok (events.Exam s a n)
-unfolding event_of_words kind_of exam_line last_slot
-exam_again s a n slot some few within =
+span_row : (s a n : ℕ) → s ≤ 95 → 1 ≤ n → n ≤ 8 → a + n ≤ 2 ^ 18 → span_line 2 (digits_of s ∷ octal6_of a ∷ digits_of n ∷ []) ≡ Ok (s, a, n)
+unfolding span_line last_slot
+span_row s a n slot some few within =
     let read_s = number_reads s (omega arith) in
     let read_a = address_reads a (omega arith) in
     let read_n = number_reads n (omega arith) in
-    line_of_words places.Plain 2 (codes "EXAM") (digits_of s ∷ octal6_of a ∷ digits_of n ∷ []) (word (codes "EXAM") refl refl) (read_s.run, (read_a.run, (read_n.run, tt))) (omega (arith, read_s.short, read_a.short, read_n.short))
-    ∙ rw (read_s.formed, read_a.formed, read_n.formed, digits_value s, read_a.value, digits_value n) (grind (arith, nat_tests))
+    rw (read_s.formed, read_a.formed, read_n.formed, digits_value s, read_a.value, digits_value n) (grind (arith, nat_tests))
+
+span_words : (first : List ℕ) (s a n : ℕ) → IsRun first → length first ≤ 16 → s ≤ 95 → n ≤ 8 → a < 2 ^ 18
+    → line_event places.Plain 2 (spaced first (digits_of s ∷ octal6_of a ∷ digits_of n ∷ [])) ≡ event_of_words places.Plain 2 (first ∷ digits_of s ∷ octal6_of a ∷ digits_of n ∷ [])
+span_words first s a n run short slot few below =
+    let read_s = number_reads s (omega arith) in
+    let read_a = address_reads a below in
+    let read_n = number_reads n (omega arith) in
+    line_of_words places.Plain 2 first (digits_of s ∷ octal6_of a ∷ digits_of n ∷ []) run (read_s.run, (read_a.run, (read_n.run, tt))) (omega (arith, read_s.short, read_a.short, read_n.short))
+
+exam_again : (s a n : ℕ) → s ≤ 95 → 1 ≤ n → n ≤ 8 → a + n ≤ 2 ^ 18 → line_event places.Plain 2 (spaced (codes "EXAM") (digits_of s ∷ octal6_of a ∷ digits_of n ∷ [])) ≡ Ok (events.Exam s a n)
+unfolding event_of_words kind_of
+exam_again s a n slot some few within =
+    span_words (codes "EXAM") s a n (word (codes "EXAM") refl refl) (lit≤ tt) slot few (omega arith) ∙ ap (of_span events.Exam) (span_row s a n slot some few within)
+
+list_again : (s a n : ℕ) → s ≤ 95 → 1 ≤ n → n ≤ 8 → a + n ≤ 2 ^ 18 → line_event places.Plain 2 (spaced (codes "LIST") (digits_of s ∷ octal6_of a ∷ digits_of n ∷ [])) ≡ Ok (events.List s a n)
+unfolding event_of_words kind_of
+list_again s a n slot some few within =
+    span_words (codes "LIST") s a n (word (codes "LIST") refl refl) (lit≤ tt) slot few (omega arith) ∙ ap (of_span events.List) (span_row s a n slot some few within)
 
 deposit_again : (s a w : ℕ) → s ≤ 95 → a < 2 ^ 18 → w < 2 ^ 36 → line_event places.Plain 2 (spaced (codes "DEPOSIT") (digits_of s ∷ octal6_of a ∷ octal12_of w ∷ [])) ≡ Ok (events.Deposit s a w)
 unfolding event_of_words kind_of deposit_line last_slot
@@ -462,6 +479,7 @@ reads_back (events.Drain c n) f h = drain_again c n f.0 f.1 f.2
 reads_back (events.Clock n) f h = clock_again n f
 reads_back (events.Int s v w) f h = int_again s v w f h.0 h.1
 reads_back (events.Exam s a n) f h = exam_again s a n f.0 f.1 f.2 f.3
+reads_back (events.List s a n) f h = list_again s a n f.0 f.1 f.2 f.3
 reads_back (events.State s) f h = state_again s f
 reads_back (events.Deposit s a w) f h = deposit_again s a w f.0 f.1 h
 reads_back (events.Stop s) f h = stop_again s f

@@ -13,6 +13,10 @@ pub record IsNameWord (w : ℕ) : Type 0 where
   pub formed : IsTrue (is_name text)
   pub coded : sixbit_of text ≡ w
 
+-- 1 to 8 words of a slot, which end at the last address
+abbrev pub SpanFits : ℕ → ℕ → ℕ → ℕ → Type 0
+SpanFits v s a n = (s ≤ last_slot v) × (1 ≤ n) × (n ≤ 8) × (a + n ≤ 2 ^ 18)
+
 -- the numbers of each event of a session of version v lie in the ranges of its line, and its names are names
 abbrev pub EventFits : ℕ → Event → Type 0
 EventFits v events.Nothing = Unit {0}
@@ -31,7 +35,8 @@ EventFits v (events.TypeIn c bs) = (c ≤ 7) × (1 ≤ length bs.items) × (leng
 EventFits v (events.Drain c n) = (c ≤ 7) × (1 ≤ n) × (n ≤ 64)
 EventFits v (events.Clock n) = n < 2 ^ 36
 EventFits v (events.Int s p q) = s ≤ last_slot v
-EventFits v (events.Exam s a n) = (s ≤ last_slot v) × (1 ≤ n) × (n ≤ 8) × (a + n ≤ 2 ^ 18)
+EventFits v (events.Exam s a n) = SpanFits v s a n
+EventFits v (events.List s a n) = SpanFits v s a n
 EventFits v (events.State s) = s ≤ last_slot v
 EventFits v (events.Deposit s a w) = (s ≤ last_slot v) × (a < 2 ^ 18)
 EventFits v (events.Stop s) = s ≤ last_slot v

@@ -158,10 +158,15 @@ unfoldable pub int_line : ℕ → List (List ℕ) → Result Event Bad
 int_line v (s ∷ p ∷ q ∷ []) = with_fields (slot v s ∷ number p ∷ number q ∷ []) (events.Int (octal_value s) (octal_value p) (octal_value q))
 int_line v _ = Err Syntax
 
--- `EXAM s a n`, whose words end at the last address
-unfoldable pub exam_line : ℕ → List (List ℕ) → Result Event Bad
-exam_line v (s ∷ a ∷ n ∷ []) = with_fields (slot v s ∷ number_to (2 ^ 18 - octal_value n) a ∷ count_to 8 n ∷ []) (events.Exam (octal_value s) (octal_value a) (octal_value n))
-exam_line v _ = Err Syntax
+-- `EXAM s a n`, `LIST s a n`, whose words end at the last address
+unfoldable pub span_line : ℕ → List (List ℕ) → Result (ℕ × ℕ × ℕ) Bad
+span_line v (s ∷ a ∷ n ∷ []) = with_fields (slot v s ∷ number_to (2 ^ 18 - octal_value n) a ∷ count_to 8 n ∷ []) (octal_value s, octal_value a, octal_value n)
+span_line v _ = Err Syntax
+
+-- the event of a slot, a first address and a count
+abbrev pub of_span : (ℕ → ℕ → ℕ → Event) → Result (ℕ × ℕ × ℕ) Bad → Result Event Bad
+of_span event (Ok x) = Ok (event x.0 x.1 x.2)
+of_span event (Err bad) = Err bad
 
 -- `DEPOSIT s a w`
 unfoldable pub deposit_line : ℕ → List (List ℕ) → Result Event Bad
@@ -214,6 +219,7 @@ kind_of w =
     else (if bytes_eq w (codes "CLOCK") then Some kinds.Clock
     else (if bytes_eq w (codes "INT") then Some kinds.Int
     else (if bytes_eq w (codes "EXAM") then Some kinds.Exam
+    else (if bytes_eq w (codes "LIST") then Some kinds.List
     else (if bytes_eq w (codes "STATE") then Some kinds.State
     else (if bytes_eq w (codes "DEPOSIT") then Some kinds.Deposit
     else (if bytes_eq w (codes "STOP") then Some kinds.Stop
@@ -223,7 +229,7 @@ kind_of w =
     else (if bytes_eq w (codes "SHOW") then Some kinds.Show
     else (if bytes_eq w (codes "END") then Some kinds.End
     else (if is_place w then Some kinds.Words
-    else None)))))))))))))))))))))))
+    else None))))))))))))))))))))))))
 
 -- where each kind of line may stand: in line 1, after LOAD until GO, after FILE until EOF, or elsewhere
 abbrev pub place_of_kind : Kind → Place
@@ -250,6 +256,7 @@ abbrev pub version_of_kind : Kind → ℕ
 version_of_kind kinds.ReadOnly = 2
 version_of_kind kinds.Symbol = 2
 version_of_kind kinds.Run = 2
+version_of_kind kinds.List = 2
 version_of_kind _ = 1
 
 -- a line of this kind may stand at a place of a session of version v
@@ -273,7 +280,8 @@ line_of_kind v kinds.TypeIn first ws = type_line ws
 line_of_kind v kinds.Drain first ws = drain_line ws
 line_of_kind v kinds.Clock first ws = clock_line ws
 line_of_kind v kinds.Int first ws = int_line v ws
-line_of_kind v kinds.Exam first ws = exam_line v ws
+line_of_kind v kinds.Exam first ws = of_span events.Exam (span_line v ws)
+line_of_kind v kinds.List first ws = of_span events.List (span_line v ws)
 line_of_kind v kinds.State first ws = of_slot events.State (slot_line v ws)
 line_of_kind v kinds.Deposit first ws = deposit_line v ws
 line_of_kind v kinds.Stop first ws = of_slot events.Stop (slot_line v ws)

@@ -36,6 +36,7 @@ text_of_event (events.Drain c n) = spaced (codes "DRAIN") (digits_of c ∷ digit
 text_of_event (events.Clock n) = spaced (codes "CLOCK") (digits_of n ∷ [])
 text_of_event (events.Int s v w) = spaced (codes "INT") (digits_of s ∷ octal12_of v ∷ octal12_of w ∷ [])
 text_of_event (events.Exam s a n) = spaced (codes "EXAM") (digits_of s ∷ octal6_of a ∷ digits_of n ∷ [])
+text_of_event (events.List s a n) = spaced (codes "LIST") (digits_of s ∷ octal6_of a ∷ digits_of n ∷ [])
 text_of_event (events.State s) = spaced (codes "STATE") (digits_of s ∷ [])
 text_of_event (events.Deposit s a w) = spaced (codes "DEPOSIT") (digits_of s ∷ octal6_of a ∷ octal12_of w ∷ [])
 text_of_event (events.Stop s) = spaced (codes "STOP") (digits_of s ∷ [])

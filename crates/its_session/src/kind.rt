@@ -24,6 +24,7 @@ pub enum Kind {
     Clock,
     Int,
     Exam,
+    List,
     State,
     Deposit,
     Stop,
@@ -69,6 +70,8 @@ pub fn kind_of(first: &[u8]) -> Option<Kind>
         Some(Kind::Int)
     } else if is(first, b"EXAM") {
         Some(Kind::Exam)
+    } else if is(first, b"LIST") {
+        Some(Kind::List)
     } else if is(first, b"STATE") {
         Some(Kind::State)
     } else if is(first, b"DEPOSIT") {
@@ -150,7 +153,7 @@ fn version_of_kind(kind: Kind) -> u8
     ensures { result ≡ version_of_kind kind }
 {
     match kind {
-        Kind::ReadOnly | Kind::Symbol | Kind::Run => 2,
+        Kind::ReadOnly | Kind::Symbol | Kind::Run | Kind::List => 2,
         _ => 1,
     }
 }

@@ -47,7 +47,8 @@ fn write(e: &Event, out: &mut ArrayVec<u8, 256>)
         Event::Drain { c, n } => two_numbers(out, b"DRAIN", u64::from(*c), u64::from(*n)),
         Event::Clock { n } => number(out, b"CLOCK", *n),
         Event::Int { s, v, w } => interrupt(out, *s, *v, *w),
-        Event::Exam { s, a, n } => exam(out, *s, *a, *n),
+        Event::Exam { s, a, n } => span(out, b"EXAM", *s, *a, *n),
+        Event::List { s, a, n } => span(out, b"LIST", *s, *a, *n),
         Event::State { s } => number(out, b"STATE", u64::from(*s)),
         Event::Deposit { s, a, w } => deposit(out, *s, *a, *w),
         Event::Stop { s } => number(out, b"STOP", u64::from(*s)),
@@ -116,13 +117,14 @@ fn interrupt(out: &mut ArrayVec<u8, 256>, s: u8, v: Word, w: Word)
     put_word(out, w);
 }
 
-/// `EXAM s a n`
+/// A first word, a slot, an address and a count.
 #[tactic(auto, unfolding(its_word::specs::Text::spaced))]
-fn exam(out: &mut ArrayVec<u8, 256>, s: u8, a: u32, n: u32)
-    requires { out.old.items ≡ [] }
-    ensures { out.new.items ≡ spaced (codes "EXAM") (digits_of s ∷ octal6_of a ∷ digits_of n ∷ []) }
+fn span(out: &mut ArrayVec<u8, 256>, word: &[u8], s: u8, a: u32, n: u32)
+    requires empty { out.old.items ≡ [] }
+    requires short { length word.now ≤ 16 }
+    ensures { out.new.items ≡ spaced word.now (digits_of s ∷ octal6_of a ∷ digits_of n ∷ []) }
 {
-    first(out, b"EXAM");
+    first(out, word);
     put_number(out, u64::from(s));
     put_address(out, a);
     put_number(out, u64::from(n));

@@ -1,6 +1,6 @@
 //! The rows of the table of lines: each of these reads the words that follow a first word.
 ghost use Rattle.std.specs.Prelude.{◌≡◌, if◌then◌else◌, map};
-ghost use Rattle.its_session.specs.Grammar.{append_line, bare_line, clock_line, console_of, is_dash, deposit_line, dir_line, drain_line, exam_line, file_line, go_line, int_line, load_line, read_only_line, run_line, show_line, slot_line, symbol_line, tick_line, type_line, version_line, words_line};
+ghost use Rattle.its_session.specs.Grammar.{append_line, bare_line, clock_line, console_of, is_dash, deposit_line, dir_line, drain_line, file_line, go_line, int_line, load_line, read_only_line, run_line, show_line, slot_line, span_line, symbol_line, tick_line, type_line, version_line, words_line};
 ghost use Rattle.its_session.specs.Reading.{console_in};
 
 use super::fields::{at_most, bytes, console, count, name, number, numbers, page, slot};
@@ -155,10 +155,10 @@ pub fn int(version: u8, words: &[&[u8]]) -> Result<Event, Bad>
     Ok(Event::Int { s, v, w })
 }
 
-/// `EXAM s a n`
-#[tactic(auto, using(crate::proofs::RowLaws::three_words), unfolding(crate::specs::Grammar::exam_line))]
-pub fn exam(version: u8, words: &[&[u8]]) -> Result<Event, Bad>
-    ensures { result ≡ exam_line version (map (λ w. w.now) words.now) }
+/// The slot, the first address and the count of the words of `EXAM s a n` and `LIST s a n`.
+#[tactic(auto, using(crate::proofs::RowLaws::three_words), unfolding(crate::specs::Grammar::span_line))]
+pub fn span(version: u8, words: &[&[u8]]) -> Result<(u8, u32, u32), Bad>
+    ensures { result ≡ span_line version (map (λ w. w.now) words.now) }
 {
     let [s, a, n] = words else {
         return Err(Bad::Syntax);
@@ -166,7 +166,7 @@ pub fn exam(version: u8, words: &[&[u8]]) -> Result<Event, Bad>
     let (s, a, n) = (number(s)?, number(a)?, number(n)?);
     let (s, n) = (slot(version, s)?, count(0o10, n)?);
     let a = at_most(0o1000000 - n, a)?;
-    Ok(Event::Exam { s, a, n })
+    Ok((s, a, n))
 }
 
 /// `DEPOSIT s a w`

@@ -103,6 +103,8 @@ fn reads_version_two(rt: HostRuntime) {
     reads_in_two!(rt; Place::Plain, b"RUN 1000 100", Event::Run { n: 0o1000, q: 0o100 });
     reads_in_two!(rt; Place::Plain, b"INT 137 1 0", Event::Int { s: 0o137, v: Word::new(1), w: Word::ZERO });
     reads_in_two!(rt; Place::Plain, b"EXAM 100 0 1", Event::Exam { s: 0o100, a: 0, n: 1 });
+    reads_in_two!(rt; Place::Plain, b"LIST 0 100 2", Event::List { s: 0, a: 0o100, n: 2 });
+    reads_in_two!(rt; Place::Plain, b"LIST 137 777770 10", Event::List { s: 0o137, a: 0o777770, n: 8 });
     reads_in_two!(rt; Place::Plain, b"DEPOSIT 137 0 1", Event::Deposit { s: 0o137, a: 0, w: Word::new(1) });
     reads_in_two!(rt; Place::Plain, b"STATE 137", Event::State { s: 0o137 });
     reads_in_two!(rt; Place::Plain, b"STOP 137", Event::Stop { s: 0o137 });
@@ -126,21 +128,21 @@ fn reads_version_two(rt: HostRuntime) {
         &rt,
         Place::Plain,
         1,
-        "VERSION 1\nVERSION 2\nRUN 1 1",
+        "VERSION 1\nVERSION 2\nRUN 1 1\nLIST 0 0 1",
         Bad::Syntax,
     );
     refuses(
         &rt,
         Place::Plain,
         2,
-        "VERSION 2\nRO 1\nSYM A 1\nRUN\nRUN 1\nRUN 1 1 1\nRUN 1 8\nRUNS 1 1",
+        "VERSION 2\nRO 1\nSYM A 1\nRUN\nRUN 1\nRUN 1 1 1\nRUN 1 8\nRUNS 1 1\nLIST\nLIST 0 0\nLIST 0 0 1 1\nLISTS 0 0 1",
         Bad::Syntax,
     );
     refuses(
         &rt,
         Place::Plain,
         2,
-        "TICK 140 1\nINT 140 0 0\nEXAM 140 0 1\nDEPOSIT 140 0 0\nSTATE 140\nSTOP 140\nCONT 140\nPEEK 140\nRUN 0 1\nRUN 1001 1\nRUN 1 0\nRUN 1 101",
+        "TICK 140 1\nINT 140 0 0\nEXAM 140 0 1\nLIST 140 0 1\nLIST 0 0 0\nLIST 0 0 11\nLIST 0 777777 2\nDEPOSIT 140 0 0\nSTATE 140\nSTOP 140\nCONT 140\nPEEK 140\nRUN 0 1\nRUN 1001 1\nRUN 1 0\nRUN 1 101",
         Bad::Range,
     );
     refuses(&rt, Place::Load, 1, "VERSION 1\nRO 1\nSYM A 1", Bad::Syntax);

@@ -20,7 +20,6 @@ use Rattle.its_frame.specs.declared.decision.Wait.{Wait}
 use Rattle.its_frame.specs.declared.decision.Wait.TheVariants.{Hang, Clock, Input, Output, Drained}
 use Rattle.its_frame.specs.declared.name.CallName.{CallName}
 use Rattle.its_frame.specs.declared.name.CallName.TheVariants as calls
-use Rattle.its_frame.specs.Errors as error
 use Rattle.its_plain.specs.Arguments.{input, has_input, place_of_input}
 use Rattle.its_plain.specs.CallBasic.{Party, Oneself, Nobody, Channel, party, channel_at, ioc, negated, is_negative, sleep_tests, sleep, dismiss, usrvar, logout, longest_period, alarm_of, realt}
 use Rattle.its_plain.specs.CallTty.{console_of, has_console, input_waits, output_waits, output_left, first_typed, shown_byte, opens_on, open_tests, opens, store_tests, read_tests, word_of, iot_ends, next_pointer, siot_tests, siot_in, siot_out, siot_by, finish_on, finish, listens, listen_on, listen, ttylnd}
@@ -28,7 +27,7 @@ use Rattle.its_plain.specs.CallFile.{disk_device, most_files, is_full, channels_
 use Rattle.its_plain.specs.CallUsr.{usr_device, opens_usr, other_core, at_end, iot_peeks, iot_through, siot_peeks, siot_pokes, siot_through, set_word, usrmem_tests, usrmem_on, usrmem, uclose}
 use Rattle.its_plain.specs.CallCore.{page_changed, highest_operation, page_tests, pages_of, corblk_of, corblk}
 use Rattle.its_plain.specs.CallDevice.{open_by, open_call, shuts, close_on, close_call, iot_on, iot_call, siot_on, siot_call}
-use Rattle.its_plain.specs.Decide.{decided_by}
+use Rattle.its_plain.specs.Decide.{call_row, decided_by}
 use Rattle.its_plain.specs.Machine.{File, Chan, Shut, TtyIn, TtyOut, Reads, Writes, On}
 use Rattle.its_plain.specs.Own.{names_of}
 use Rattle.its_plain.specs.Tests.{◌⇒◌, finishes, fails, faults, goes, out}
@@ -262,7 +261,7 @@ siot_ways P x a n (Writes f) w r =
 siot_ways P x a n (On s write at) w r = siot_through_ways P x a n s write at w
 
 -- FINISH and LISTEN
-pub finish_ways : (P : Decision → Type 0) (x : View) (a : Ask) → Answering P x a → Waiting P → P (finish x a)
+finish_ways : (P : Decision → Type 0) (x : View) (a : Ask) → Answering P x a → Waiting P → P (finish x a)
 unfolding finish
 finish_ways P x a w r = go (channel_at x.own.channels (input a 0))
   where
@@ -277,7 +276,7 @@ finish_ways P x a w r = go (channel_at x.own.channels (input a 0))
     go (Writes f) = w.failing 0o5
     go (On k write at) = w.failing 0o5
 
-pub listen_ways : (P : Decision → Type 0) (x : View) (a : Ask) → Answering P x a → Waiting P → P (listen x a)
+listen_ways : (P : Decision → Type 0) (x : View) (a : Ask) → Answering P x a → Waiting P → P (listen x a)
 unfolding listen
 listen_ways P x a w r = go (channel_at x.own.channels (input a 0))
   where
@@ -315,7 +314,7 @@ access_ways P x a w = go (channel_at x.own.channels (input a 0))
     go (Writes f) = w.failing 0o5
     go (On k write at) = access_to_ways P x a end_of_core w
 
-pub fillen_ways : (P : Decision → Type 0) (x : View) (a : Ask) → Answering P x a → P (fillen x a)
+fillen_ways : (P : Decision → Type 0) (x : View) (a : Ask) → Answering P x a → P (fillen x a)
 unfolding fillen
 fillen_ways P x a w = go (channel_at x.own.channels (input a 0))
   where
@@ -407,6 +406,20 @@ realt_ways P x a w =
     first_holds P ((is_negative n || nat_lt longest_period n) ⇒ fails x a 0o22 ∷ []) (finishes x (changes.Arm (alarm_of x.clock n) ∷ []) [])
     (λ t. w.failing 0o22, tt) (λ t. w.arming n (or_parts (is_negative n) (nat_lt longest_period n) t.0).1)
 
+-- a call that changes nothing but the word of its output. Whether it can be found not ready is in the table of calls
+abbrev pub only_answers : CallName → Bool
+only_answers calls.Finish = true
+only_answers calls.Listen = true
+only_answers calls.Fillen = true
+only_answers _ = false
+
+pub answer_ways : (P : Decision → Type 0) (x : View) (a : Ask) (n : CallName) → only_answers n ≡ true → Answering P x a → ((call_row n).waits ≡ true → Waiting P)
+    → P (decided_by x a (Some n))
+answer_ways P x a calls.Finish e w r = finish_ways P x a w (r refl)
+answer_ways P x a calls.Listen e w r = listen_ways P x a w (r refl)
+answer_ways P x a calls.Fillen e w r = fillen_ways P x a w
+answer_ways P x a _ e w r = absurd cc
+
 -- the decisions that are walked apart: their changes are not mild, or they leave registers of their own
 pub record Apart (P : Decision → Type 0) (x : View) (a : Ask) : Type 0 where
   pub dismiss : P (dismiss x a)
@@ -428,15 +441,13 @@ call_ways P x a (Some calls.Open) w r p = open_ways P x a w p.opens_usr
 call_ways P x a (Some calls.Close) w r p = close_ways P x a w
 call_ways P x a (Some calls.Iot) w r p = iot_ways P x a (slice_index_or a.outputs.items 0 0) (input a 0) (channel_at x.own.channels (input a 0)) w (λ k. r)
 call_ways P x a (Some calls.Siot) w r p = siot_ways P x a (input a 0) (channel_at x.own.channels (input a 0)) w (λ k. r)
-call_ways P x a (Some calls.Finish) w r p = finish_ways P x a (answering P x a w) r
-call_ways P x a (Some calls.Listen) w r p = listen_ways P x a (answering P x a w) r
 call_ways P x a (Some calls.Ttylnd) w r p = p.ttylnd
 call_ways P x a (Some calls.Access) w r p = access_ways P x a w
-call_ways P x a (Some calls.Fillen) w r p = fillen_ways P x a (answering P x a w)
 call_ways P x a (Some calls.Delete) w r p = delete_ways P x a w
 call_ways P x a (Some calls.Rename) w r p = rename_ways P x a w
 call_ways P x a (Some calls.Usrmem) w r p = usrmem_ways P x a w
 call_ways P x a (Some calls.Uclose) w r p = p.uclose
 call_ways P x a (Some calls.Corblk) w r p = corblk_ways P x a w
 call_ways P x a (Some calls.Realt) w r p = realt_ways P x a w
+call_ways P x a (Some n) w r p = answer_ways P x a n refl (answering P x a w) (λ i. r)
 call_ways P x a None w r p = w.failing 0o1

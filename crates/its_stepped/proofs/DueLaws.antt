@@ -1,8 +1,8 @@
 -- The alarms that CLOCK makes go: they are the same on the raw machine as on the plain one, before the jobs are unwound as afterwards, and
 -- the jobs are then in user mode.
-use Rattle.std.specs.Prelude.{◌≡◌, ◌≢◌, ℕ, ◌+◌, ◌&&◌, Bool, true, false, Option, Some, None, List, option_map, nat_lt, filter, refl}
+use Rattle.std.specs.Prelude.{◌≡◌, ℕ, ◌&&◌, Bool, true, false, Option, Some, None, option_map, nat_lt, refl}
 use Rattle.std.specs.List.{range_with_len}
-use Rattle.std.proofs.Common.{sym, ◌∙◌, ap, subst, arith}
+use Rattle.std.proofs.Common.{sym, ◌∙◌, ap, arith}
 use Rattle.std.proofs.lemmas.Bool.{and_parts, ltb-true}
 use Rattle.its_word.specs.Limits.{slots}
 use Rattle.its_frame.specs.declared.frame.Frame.{Frame}
@@ -11,7 +11,7 @@ use Rattle.its_plain.specs.CallStep.{among}
 use Rattle.its_plain.specs.Machine.{Whole, Machine}
 use Rattle.its_plain.specs.OperatorClock.{alarm_in, due, due_slots, rung, rung_if, at_clock}
 use Rattle.its_plain.proofs.MachineLaws.{jobs_are}
-use Rattle.its_stepped.specs.State.{State, seen, seen_jobs, plain}
+use Rattle.its_stepped.specs.State.{State, seen, plain}
 use Rattle.its_stepped.specs.Unwind.{all_unwound}
 use Rattle.its_stepped.specs.Sound.{Sound}
 use Rattle.its_stepped.specs.Lines.{with_raw}

@@ -1,11 +1,11 @@
 -- Every call keeps how jobs lie to each other: OPEN makes inferiors of the caller and opens channels on them alone, UCLOSE removes
 -- one of them, and TTYLND gives a console to the caller or to one of them.
-use Rattle.std.specs.Prelude.{if◌then◌else◌, ◌==◌, ◌&&◌, ◌≡◌, ℕ, ◌+◌, ◌-◌, Bool, true, false, not, Option, Some, None, IfSome, List, [], ◌∷◌, find, cond, option_map, is_some, zero, suc, ◌<◌, ◌≤◌, nat_lt, refl, unwrap_or, Result, Ok, Err}
+use Rattle.std.specs.Prelude.{if◌then◌else◌, ◌==◌, ◌&&◌, ◌≡◌, ℕ, Bool, true, false, not, Option, Some, None, IfSome, List, [], ◌∷◌, find, cond, option_map, is_some, ◌<◌, ◌≤◌, nat_lt, refl, unwrap_or, Result, Ok, Err}
 use Rattle.std.specs.List.{range_with_len}
 use Rattle.std.proofs.Common.{sym, ◌∙◌, ap, subst, inl, inr, arith, subst}
-use Rattle.std.proofs.lemmas.Bool.{and_parts, cases_eq, eq-eqb, eqb-true, ltb-false, ne_eqb, not-false}
+use Rattle.std.proofs.lemmas.Bool.{and_parts, cases_eq, eq-eqb, eqb-true, ltb-false, ne_eqb}
 use Rattle.its_word.specs.Limits.{slots}
-use Rattle.its_word.specs.Tree.{free_from, least_free}
+use Rattle.its_word.specs.Tree.{least_free}
 use Rattle.its_word.specs.declared.access.Fault.{Fault}
 use Rattle.its_word.specs.declared.calls.Ask.{Ask}
 use Rattle.its_word.specs.declared.calls.Exit.{Exit}
@@ -14,7 +14,6 @@ use Rattle.its_frame.specs.declared.change.Change.{Change}
 use Rattle.its_frame.specs.declared.change.Change.TheVariants as changes
 use Rattle.its_frame.specs.declared.change.Opened.{Opened}
 use Rattle.its_frame.specs.declared.change.Opened.TheVariants as opened
-use Rattle.its_frame.specs.declared.name.CallName.TheVariants.{Open}
 use Rattle.its_frame.specs.declared.variable.Variable.{Variable}
 use Rattle.its_plain.specs.Arguments.{input, has_input, place_of_input}
 use Rattle.its_plain.specs.CallBasic.{dismissed_by, dismiss_at, dismiss, Party, Oneself, Nobody, Channel, variable_named, by_oneself, by_superior, set_own, own_variable, set_other, value_of_other, other_variable, usrvar_of, party_on, party, is_oneself, usrvar, told_superior, channel_at, longest_period, alarm_of}

@@ -1,6 +1,6 @@
 -- Every call does its duty: what a tick takes as given follows from soundness, from what the decoding has looked at,
 -- and from how jobs lie to each other.
-use Rattle.std.specs.Prelude.{if◌then◌else◌, ◌==◌, ◌||◌, ◌≡◌, ◌≢◌, ℕ, Bool, true, false, Option, Some, None, IfSome, List, [], ◌∷◌, ◌++◌, filter, refl}
+use Rattle.std.specs.Prelude.{if◌then◌else◌, ◌==◌, ◌||◌, ◌≡◌, ◌≢◌, ℕ, Bool, true, false, Option, Some, None, IfSome, List, [], ◌∷◌, ◌++◌, refl}
 use Rattle.std.specs.List.{range_with_len}
 use Rattle.std.proofs.Common.{sym, ◌∙◌, ap, subst, inl, inr}
 use Rattle.std.proofs.lemmas.Bool.{cases_eq, eq-eqb, eqb-false, ne_eqb, or_parts}
@@ -11,11 +11,11 @@ use Rattle.its_word.specs.declared.calls.Site.{Site}
 use Rattle.its_frame.specs.declared.frame.Frame.{Frame}
 use Rattle.its_frame.specs.declared.frame.Frame.TheVariants.{Entered, Parsed, Asked, Holding, Waiting, Moving, Ending}
 use Rattle.its_frame.specs.declared.name.CallName.{CallName}
-use Rattle.its_frame.specs.declared.name.CallName.TheVariants.{Hang, Sleep, Dismis, Usrvar, Logout, Open, Close, Iot, Siot, Finish, Listen, Ttylnd, Access, Fillen, Delete, Rename, Usrmem, Uclose, Corblk, Realt}
+use Rattle.its_frame.specs.declared.name.CallName.TheVariants.{Hang, Sleep, Dismis, Usrvar, Logout, Open, Close, Iot, Siot, Ttylnd, Access, Delete, Rename, Usrmem, Uclose, Corblk, Realt}
 use Rattle.its_plain.specs.Arguments.{debts}
 use Rattle.its_plain.specs.CallStep.{among, decision}
 use Rattle.its_plain.specs.Change.{superiors}
-use Rattle.its_plain.specs.Decide.{call_named, decided_by, decided, target, listed, with_below, reach_by, reach}
+use Rattle.its_plain.specs.Decide.{call_row, call_named, decided_by, decided, target, listed, with_below, reach_by, reach}
 use Rattle.its_plain.specs.Machine.{Whole, Machine}
 use Rattle.its_plain.specs.Own.{with_stores}
 use Rattle.its_word.specs.Stores.{stored}
@@ -23,7 +23,7 @@ use Rattle.its_plain.specs.View.{View, view}
 use Rattle.its_stepped.specs.State.{State, plain, seen}
 use Rattle.its_stepped.specs.Unwind.{all_unwound}
 use Rattle.its_stepped.specs.Tick.{reserves, helped_if, helps, prepared_for, quarters}
-use Rattle.its_stepped.specs.Sound.{Paged, SoundFrame, SoundBy, Sound}
+use Rattle.its_stepped.specs.Sound.{Paged, SoundFrame, SoundBy, Sound, Holds}
 use Rattle.its_stepped.specs.Quiet.{IsStill}
 use Rattle.its_stepped.specs.Forest.{Forest}
 use Rattle.its_stepped.specs.Duty.{Duty, Meets, GivenBy, Given}
@@ -42,7 +42,7 @@ use Rattle.its_stepped.proofs.CallDuties.{hang_duty, sleep_duty, dismiss_duty, r
 use Rattle.its_stepped.proofs.UsrvarDuty.{usrvar_duty}
 use Rattle.its_stepped.proofs.LogoutDuty.{logout_duty}
 use Rattle.its_stepped.proofs.TtyDuty.{named_waits, ttylnd_duty, answering_duty}
-use Rattle.its_stepped.proofs.CallWays.{Answering, finish_ways, listen_ways, fillen_ways}
+use Rattle.its_stepped.proofs.CallWays.{Answering, answer_ways}
 use Rattle.its_stepped.proofs.UsrDuty.{unmapped, Outlined, usrmem_duty, uclose_duty}
 use Rattle.its_stepped.proofs.DeviceDuty.{open_duty, close_duty, iot_duty, siot_duty}
 use Rattle.its_stepped.proofs.CoreDuty.{corblk_duty}
@@ -53,6 +53,10 @@ use Rattle.its_stepped.proofs.FileDuty.{access_duty, delete_duty, rename_duty}
 answers : (m : Machine) (v : State) (j : ℕ) (x : View) (s : Site) (a : Ask) (n : ℕ) (k : CallName) → Calling m v j x.own s a n → Some k ≢ Some Iot → call_named a.name ≡ Some k
     → Answering (Duty v j x.own s a n) x a
 answers m v j x s a n k c other e = answering_duty m v j x s a n c (λ i. other (sym e ∙ i))
+
+holds : (b : Bool) → b ≡ true → Holds b
+holds true e = tt
+holds false e = absurd cc
 
 -- every call
 named_duty : (d : Decoding) (m : Machine) (v : State) (j : ℕ) (x : View) (s : Site) (a : Ask) (n : ℕ) (o : Option CallName) → Calling m v j x.own s a n
@@ -66,20 +70,17 @@ named_duty d m v j x s a n (Some Open) c here same e z = open_duty m v j x s a n
 named_duty d m v j x s a n (Some Close) c here same e z = close_duty m v j x s a n c e z
 named_duty d m v j x s a n (Some Iot) c here same e z = iot_duty m v j x s a n c e z
 named_duty d m v j x s a n (Some Siot) c here same e z = siot_duty d m v j x s a n c e z
-named_duty d m v j x s a n (Some Finish) c here same e z =
-    finish_ways (Duty v j x.own s a n) x a (answers m v j x s a n Finish c (λ i. cc) e) (λ r. named_waits m v j x s a n Finish c e refl tt)
-named_duty d m v j x s a n (Some Listen) c here same e z =
-    listen_ways (Duty v j x.own s a n) x a (answers m v j x s a n Listen c (λ i. cc) e) (λ r. named_waits m v j x s a n Listen c e refl tt)
 named_duty d m v j x s a n (Some Ttylnd) c here same e z = ttylnd_duty m v j x s a n c
 named_duty d m v j x s a n (Some Access) c here same e z = access_duty m v j x s a n c
-named_duty d m v j x s a n (Some Fillen) c here same e z = fillen_ways (Duty v j x.own s a n) x a (answers m v j x s a n Fillen c (λ i. cc) e)
 named_duty d m v j x s a n (Some Delete) c here same e z = delete_duty m v j x s a n c e z
 named_duty d m v j x s a n (Some Rename) c here same e z = rename_duty m v j x s a n c e z
 named_duty d m v j x s a n (Some Usrmem) c here same e z = usrmem_duty m v j x s a n c e z
 named_duty d m v j x s a n (Some Uclose) c here same e z = uclose_duty m v j x s a n c e z
 named_duty d m v j x s a n (Some Corblk) c here same e z = corblk_duty m v j x s a n c here e z
 named_duty d m v j x s a n (Some Realt) c here same e z = realt_duty m v j x s a n c
-named_duty d m v j x s a n _ c here same e z = fails_duty m v j x s a n 0o1 c
+named_duty d m v j x s a n (Some k) c here same e z =
+    answer_ways (Duty v j x.own s a n) x a k refl (answers m v j x s a n k c (λ i. cc) e) (λ i r. named_waits m v j x s a n k c e refl (holds (call_row k).waits i))
+named_duty d m v j x s a n None c here same e z = fails_duty m v j x s a n 0o1 c
 
 pub decided_duty : (d : Decoding) (m : Machine) (v : State) (j : ℕ) (x : View) (s : Site) (a : Ask) (n : ℕ) → Calling m v j x.own s a n → x.slot ≡ j → Outlined m x
     → Duty v j x.own s a n (decided x a)

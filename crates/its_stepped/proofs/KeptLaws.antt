@@ -13,11 +13,11 @@ use Rattle.its_word.specs.declared.session.Reason.{Reason}
 use Rattle.its_word.specs.declared.show.JobShow.{JobShow}
 use Rattle.its_word.proofs.FreeLaws.{least_empty}
 use Rattle.its_frame.specs.declared.frame.Frame.{Frame}
-use Rattle.its_print.specs.Printing.{Line}
+use Rattle.its_print.specs.Printing.{Line, listed}
 use Rattle.its_plain.specs.Machine.{File, Symbol, Whole, Machine, with_job, mapped, limit}
 use Rattle.its_plain.specs.Operator.{Block, Refuses, Does, Ticks, Quits, nobody, only, and_then, disturbs, quietly}
 use Rattle.its_plain.specs.OperatorJobs.{new_job, with_holder, loaded_in, loaded, stored, with_core, word_loaded_of, word_loaded, words_stored, words_barred, words_loaded_if, words_loaded, page_protected_in, page_protected, on_job, with_registers, on_registers, started, interrupted, stopped, continued, examined, state_shown, deposited_in, deposited}
-use Rattle.its_plain.specs.OperatorLines.{by_load, by_exam, by_state, by_clock, operate, shows, Lined, Done, Peeks, peeked_at, lined}
+use Rattle.its_plain.specs.OperatorLines.{by_load, by_exam, in_a_line, by_state, by_clock, operate, shows, Lined, Done, Peeks, peeked_at, lined}
 use Rattle.its_plain.specs.Change.{protected}
 use Rattle.its_plain.specs.OperatorSymbols.{symbol_kept_if, symbol_kept_of, symbol_kept}
 use Rattle.its_plain.specs.OperatorVersion.{versioned}
@@ -153,9 +153,9 @@ disturbs_kept w s b (Err r) sound off = tt
 same_off : (m : Machine) (s : ℕ) → Off m m s
 same_off m s = record { others = λ k ne. refl }
 
-exam_kept : (w : State) (s a : ℕ) (b : Block) (r : Result (List ℕ) Reason) → Sound w → KeptBy w (unwound w s) (Done (by_exam (unwound w s).raw b s a r))
-exam_kept w s a b (Ok ws) sound = one_kept w s (unwound w s).raw sound (same_off (unwound w s).raw s)
-exam_kept w s a b (Err r) sound = tt
+exam_kept : (w : State) (s : ℕ) (show : List ℕ → List Line) (b : Block) (r : Result (List ℕ) Reason) → Sound w → KeptBy w (unwound w s) (Done (by_exam (unwound w s).raw b s show r))
+exam_kept w s show b (Ok ws) sound = one_kept w s (unwound w s).raw sound (same_off (unwound w s).raw s)
+exam_kept w s show b (Err r) sound = tt
 
 show_kept : (w : State) (s : ℕ) (b : Block) (r : Result JobShow Reason) → Sound w → KeptBy w (unwound w s) (Done (by_state (unwound w s).raw b s r))
 show_kept w s b (Ok show) sound = one_kept w s (unwound w s).raw sound (same_off (unwound w s).raw s)
@@ -268,7 +268,8 @@ line_kept w b (events.Int s x y) sound = disturbs_kept w s b (on_registers (unwo
 line_kept w b (events.Stop s) sound = disturbs_kept w s b (on_registers (unwound w s).raw s stopped) sound (registers_off (unwound w s).raw s stopped)
 line_kept w b (events.Cont s) sound = disturbs_kept w s b (on_registers (unwound w s).raw s continued) sound (registers_off (unwound w s).raw s continued)
 line_kept w b (events.Deposit s a x) sound = disturbs_kept w s b (deposited (unwound w s).raw s a x) sound (deposited_off (unwound w s).raw s a x)
-line_kept w b (events.Exam s a n) sound = exam_kept w s a b (examined (unwound w s).raw s a n) sound
+line_kept w b (events.Exam s a n) sound = exam_kept w s (in_a_line s a) b (examined (unwound w s).raw s a n) sound
+line_kept w b (events.List s a n) sound = exam_kept w s (listed s a) b (examined (unwound w s).raw s a n) sound
 line_kept w b (events.State s) sound = show_kept w s b (state_shown (unwound w s).raw s) sound
 line_kept w b (events.Clock n) sound =
     let v = all_unwound (due_slots (w.raw.clock + n) w.raw.jobs) w in

@@ -14,11 +14,11 @@ use Rattle.its_word.specs.declared.session.Reason.{Reason}
 use Rattle.its_word.specs.declared.show.JobShow.{JobShow}
 use Rattle.its_word.proofs.FreeLaws.{least_alike, least_empty}
 use Rattle.its_frame.specs.declared.frame.Frame.{Frame}
-use Rattle.its_print.specs.Printing.{Line}
+use Rattle.its_print.specs.Printing.{Line, listed}
 use Rattle.its_plain.specs.Machine.{Names, File, Symbol, Whole, Machine, changed, with_job, mapped, words_at, limit}
 use Rattle.its_plain.specs.Operator.{Block, Does, nobody, and_then, disturbs, quietly}
 use Rattle.its_plain.specs.OperatorJobs.{new_job, with_holder, loaded_in, loaded, stored, with_core, word_loaded_of, word_loaded, words_stored, barred_in, words_barred, words_loaded_if, words_loaded, page_protected_in, page_protected, on_job, with_registers, on_registers, started, interrupted, stopped, continued, seen, examined, shown, state_shown, deposited_in, deposited}
-use Rattle.its_plain.specs.OperatorLines.{by_load, by_exam, by_state, by_clock, operate, shows, Done, peeked_at, lined}
+use Rattle.its_plain.specs.OperatorLines.{by_load, by_exam, in_a_line, by_state, by_clock, operate, shows, Done, peeked_at, lined}
 use Rattle.its_plain.specs.Change.{protected}
 use Rattle.its_plain.specs.OperatorSymbols.{symbol_shown, symbol_kept_if, symbol_kept_of, symbol_kept}
 use Rattle.its_plain.specs.OperatorVersion.{versioned}
@@ -249,9 +249,9 @@ disturbs_lifted : (v : State) (s : ℕ) (b : Block) (r : Result Machine Reason) 
 disturbs_lifted v s b (Ok m) = refl
 disturbs_lifted v s b (Err r) = refl
 
-exam_lifted : (v : State) (b : Block) (s a : ℕ) (r : Result (List ℕ) Reason) → by_exam (plain v) b s a r ≡ lifted v (by_exam v.raw b s a r)
-exam_lifted v b s a (Ok ws) = refl
-exam_lifted v b s a (Err r) = refl
+exam_lifted : (v : State) (b : Block) (s : ℕ) (show : List ℕ → List Line) (r : Result (List ℕ) Reason) → by_exam (plain v) b s show r ≡ lifted v (by_exam v.raw b s show r)
+exam_lifted v b s show (Ok ws) = refl
+exam_lifted v b s show (Err r) = refl
 
 show_same : (v : State) (b : Block) (s : ℕ) (show : JobShow) → by_state (plain v) b s (Ok show) ≡ lifted v (by_state v.raw b s (Ok show))
 unfolding plain
@@ -312,7 +312,9 @@ line_calm v b (events.Cont s) sound h hush whole =
 line_calm v b (events.Deposit s a w) sound h hush whole =
     ap (λ r. Done (disturbs s b r)) (deposited_lifted v s a w h) ∙ ap Done (disturbs_lifted v s b (deposited v.raw s a w))
 line_calm v b (events.Exam s a n) sound h hush whole =
-    ap (λ r. Done (by_exam (plain v) b s a r)) (examined_plain v s a n h) ∙ ap Done (exam_lifted v b s a (examined v.raw s a n))
+    ap (λ r. Done (by_exam (plain v) b s (in_a_line s a) r)) (examined_plain v s a n h) ∙ ap Done (exam_lifted v b s (in_a_line s a) (examined v.raw s a n))
+line_calm v b (events.List s a n) sound h hush whole =
+    ap (λ r. Done (by_exam (plain v) b s (listed s a) r)) (examined_plain v s a n h) ∙ ap Done (exam_lifted v b s (listed s a) (examined v.raw s a n))
 line_calm v b (events.State s) sound h hush whole =
     ap (λ r. Done (by_state (plain v) b s r)) (state_plain v s h) ∙ ap Done (show_lifted v b s (state_shown v.raw s))
 line_calm v b (events.Clock n) sound h hush whole =

@@ -11,11 +11,11 @@ use Rattle.its_word.specs.declared.session.Event.TheVariants as events
 use Rattle.its_word.specs.declared.session.Reason.{Reason}
 use Rattle.its_word.specs.declared.show.JobShow.{JobShow}
 use Rattle.its_frame.specs.declared.frame.Frame.{Frame}
-use Rattle.its_print.specs.Printing.{Line}
+use Rattle.its_print.specs.Printing.{Line, listed}
 use Rattle.its_plain.specs.Machine.{Names, Whole, Machine, mapped, joined, words_at, limit}
 use Rattle.its_plain.specs.Operator.{Block, Refuses, Does, Ticks, Quits, disturbs, quietly}
 use Rattle.its_plain.specs.OperatorJobs.{loaded_in, loaded, stored_in, stored, with_core, word_loaded_of, word_loaded, is_barred, any_barred, barred_in, words_barred, page_protected_in, page_protected, on_job, with_registers, on_registers, started, interrupted, stopped, continued, seen, examined, shown, state_shown, deposited_in, deposited}
-use Rattle.its_plain.specs.OperatorLines.{by_load, by_exam, by_state, by_clock, operate, shows, Lined, Done, Peeks, peeked_at, lined}
+use Rattle.its_plain.specs.OperatorLines.{by_load, by_exam, in_a_line, by_state, by_clock, operate, shows, Lined, Done, Peeks, peeked_at, lined}
 use Rattle.its_plain.specs.OperatorSymbols.{symbol_shown, symbol_kept}
 use Rattle.its_plain.specs.OperatorClock.{clock_end, clocked_if, clocked}
 use Rattle.its_plain.specs.Own.{names_of}
@@ -172,11 +172,11 @@ disturbs_alike s b (Ok m) (Err y) e = e
 disturbs_alike s b (Err y) (Ok n) e = e
 disturbs_alike s b (Err y) (Err z) e = e
 
-exam_alike : (m n : Machine) (b : Block) (s a : ℕ) (r x : Result (List ℕ) Reason) → error_of r ≡ error_of x → refusal (Done (by_exam m b s a r)) ≡ refusal (Done (by_exam n b s a x))
-exam_alike m n b s a (Ok v) (Ok w) e = refl
-exam_alike m n b s a (Ok v) (Err y) e = e
-exam_alike m n b s a (Err y) (Ok w) e = e
-exam_alike m n b s a (Err y) (Err z) e = e
+exam_alike : (m n : Machine) (b : Block) (s : ℕ) (show : List ℕ → List Line) (r x : Result (List ℕ) Reason) → error_of r ≡ error_of x → refusal (Done (by_exam m b s show r)) ≡ refusal (Done (by_exam n b s show x))
+exam_alike m n b s show (Ok v) (Ok w) e = refl
+exam_alike m n b s show (Ok v) (Err y) e = e
+exam_alike m n b s show (Err y) (Ok w) e = e
+exam_alike m n b s show (Err y) (Err z) e = e
 
 show_alike : (m n : Machine) (b : Block) (s : ℕ) (r x : Result JobShow Reason) → error_of r ≡ error_of x → refusal (Done (by_state m b s r)) ≡ refusal (Done (by_state n b s x))
 show_alike m n b s (Ok v) (Ok w) e = refl
@@ -246,7 +246,8 @@ line_alike w b (events.Int s x y) h whole = disturbs_alike s b (on_registers (pl
 line_alike w b (events.Stop s) h whole = disturbs_alike s b (on_registers (plain w) s stopped) (on_registers w.raw s stopped) (registers_alike w s stopped)
 line_alike w b (events.Cont s) h whole = disturbs_alike s b (on_registers (plain w) s continued) (on_registers w.raw s continued) (registers_alike w s continued)
 line_alike w b (events.Deposit s a x) h whole = disturbs_alike s b (deposited (plain w) s a x) (deposited w.raw s a x) (deposited_alike w s a x)
-line_alike w b (events.Exam s a n) h whole = exam_alike (plain w) w.raw b s a (examined (plain w) s a n) (examined w.raw s a n) (examined_alike w s a n)
+line_alike w b (events.Exam s a n) h whole = exam_alike (plain w) w.raw b s (in_a_line s a) (examined (plain w) s a n) (examined w.raw s a n) (examined_alike w s a n)
+line_alike w b (events.List s a n) h whole = exam_alike (plain w) w.raw b s (listed s a) (examined (plain w) s a n) (examined w.raw s a n) (examined_alike w s a n)
 line_alike w b (events.State s) h whole = show_alike (plain w) w.raw b s (state_shown (plain w) s) (state_shown w.raw s) (shown_alike w s)
 line_alike w b (events.Clock n) h whole =
     clock_alike (plain w) w.raw b n (nat_lt (w.raw.clock + n) clock_end)

@@ -12,12 +12,12 @@ use Rattle.its_word.specs.declared.session.Event.{Event}
 use Rattle.its_word.specs.declared.session.Event.TheVariants as events
 use Rattle.its_word.specs.declared.session.Reason.{Reason}
 use Rattle.its_word.specs.declared.show.JobShow.{JobShow}
-use Rattle.its_print.specs.Printing.{Line}
+use Rattle.its_print.specs.Printing.{Line, listed}
 use Rattle.its_frame.specs.declared.decision.Decision.{Decision}
 use Rattle.its_frame.specs.declared.decision.Decision.TheVariants.{Waits, Goes, Ends, Gone}
 use Rattle.its_frame.specs.declared.name.CallName.TheVariants.{Siot}
 use Rattle.its_plain.specs.Arguments.{input}
-use Rattle.its_plain.specs.OperatorLines.{operate, Lined, Done, Peeks, lined, by_exam, by_state}
+use Rattle.its_plain.specs.OperatorLines.{operate, Lined, Done, Peeks, lined, by_exam, in_a_line, by_state}
 use Rattle.its_plain.specs.CallStep.{acted, decision, step, Transition, by_delivery, unless_stopped, transition_of, transition, part_in, steps_on}
 use Rattle.its_plain.specs.Course.{Deed, Lines, Steps, Moment, Course, rests, onward, after_step, paced, letters, past, course, run_of}
 use Rattle.its_plain.specs.Decide.{call_named, reach}
@@ -267,9 +267,9 @@ registers_spared m b s j f same there = go (m.jobs s) refl
     go (Some q) is = job_spared m s j q f same is there
     go None is = tt
 
-exam_spared : (m : Machine) (b : Block) (s j a : ℕ) (r : Result (List ℕ) Reason) → is_some (m.jobs j) ≡ true → SparesBy (m.jobs j) j (by_exam m b s a r)
-exam_spared m b s j a (Ok ws) there = untouched_same (m.jobs j) there
-exam_spared m b s j a (Err r) there = tt
+exam_spared : (m : Machine) (b : Block) (s j : ℕ) (show : List ℕ → List Line) (r : Result (List ℕ) Reason) → is_some (m.jobs j) ≡ true → SparesBy (m.jobs j) j (by_exam m b s show r)
+exam_spared m b s j show (Ok ws) there = untouched_same (m.jobs j) there
+exam_spared m b s j show (Err r) there = tt
 
 state_spared : (m : Machine) (b : Block) (s j : ℕ) (r : Result JobShow Reason) → is_some (m.jobs j) ≡ true → SparesBy (m.jobs j) j (by_state m b s r)
 state_spared m b s j (Ok show) there = untouched_same (m.jobs j) there
@@ -277,6 +277,7 @@ state_spared m b s j (Err r) there = tt
 
 abbrev pub EndsNone : Event → Type 0
 EndsNone (events.Exam s a n) = Unit {0}
+EndsNone (events.List s a n) = Unit {0}
 EndsNone (events.State s) = Unit {0}
 EndsNone (events.Stop s) = Unit {0}
 EndsNone (events.Cont s) = Unit {0}
@@ -285,7 +286,8 @@ EndsNone _ = ⊥
 
 pub line_spared : (m : Machine) (b : Block) (e : Event) (j : ℕ) → EndsNone e → is_some (m.jobs j) ≡ true → SparesBy (m.jobs j) j (operate m b e)
 unfolding operate
-line_spared m b (events.Exam s a n) j h there = exam_spared m b s j a (examined m s a n) there
+line_spared m b (events.Exam s a n) j h there = exam_spared m b s j (in_a_line s a) (examined m s a n) there
+line_spared m b (events.List s a n) j h there = exam_spared m b s j (listed s a) (examined m s a n) there
 line_spared m b (events.State s) j h there = state_spared m b s j (state_shown m s) there
 line_spared m b (events.Stop s) j h there = registers_spared m b s j stopped (λ k. refl) there
 line_spared m b (events.Cont s) j h there = registers_spared m b s j continued (λ k. refl) there

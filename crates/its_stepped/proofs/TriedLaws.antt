@@ -1,17 +1,14 @@
 -- A call that is tried: what its commit finds, and that it is decided on the raw machine as on the plain one, whether a
 -- close is half made or not.
-use Rattle.std.specs.Prelude.{if◌then◌else◌, ◌≡◌, ◌==◌, ℕ, Bool, true, false, Option, Some, None, slice_index_or, refl}
+use Rattle.std.specs.Prelude.{if◌then◌else◌, ◌≡◌, ◌==◌, ℕ, Bool, true, false, Option, Some, None, refl}
 use Rattle.std.proofs.Common.{◌∙◌, ap}
 use Rattle.its_word.specs.declared.calls.Ask.{Ask}
-use Rattle.its_frame.specs.declared.decision.Decision.{Decision}
-use Rattle.its_frame.specs.declared.decision.Decision.TheVariants.{Waits, Goes, Ends, Gone}
 use Rattle.its_frame.specs.declared.name.CallName.{CallName}
 use Rattle.its_frame.specs.declared.name.CallName.TheVariants.{Hang, Sleep, Iot, Siot, Finish, Listen}
 use Rattle.its_plain.specs.Machine.{Chan, TtyIn, TtyOut, Whole, Machine}
 use Rattle.its_plain.specs.Arguments.{input}
 use Rattle.its_plain.specs.View.{View, view}
 use Rattle.its_plain.specs.CallBasic.{is_oneself, channel_at}
-use Rattle.its_plain.specs.CallDevice.{iot_call, siot_call}
 use Rattle.its_plain.specs.CallStep.{decision}
 use Rattle.its_plain.specs.Decide.{call_named, decided_by, decided, inferior_on, reached_by, target_by, argument_of, target, reach}
 use Rattle.its_stepped.specs.Sound.{IsWaitable}

@@ -1,6 +1,6 @@
 -- The turns that the stepped machine makes are those of the unrolled events (docs/STEPS.md, "Lines").
-use Rattle.std.specs.Prelude.{◌≡◌, ◌<◌, ℕ, zero, suc, ◌+◌, ◌-◌, Bool, not, Option, Some, None, option_map, List, [], ◌∷◌, ◌++◌, length, drop, map, flat_map, unwrap_or, refl}
-use Rattle.std.proofs.Common.{sym, ◌∙◌, ap, subst, arith}
+use Rattle.std.specs.Prelude.{◌≡◌, ◌<◌, ℕ, zero, suc, ◌+◌, not, Option, Some, None, option_map, List, [], ◌∷◌, ◌++◌, length, drop, map, flat_map, unwrap_or, refl}
+use Rattle.std.proofs.Common.{sym, ap, subst, arith}
 use Rattle.std.proofs.lemmas.List.{drop_at}
 use Rattle.its_word.specs.Item.{Item, Read, Unread, InTurn, Beyond}
 use Rattle.its_word.specs.Limits.{slots}
@@ -9,7 +9,6 @@ use Rattle.its_word.specs.declared.calls.Pace.TheVariants.{Step, Work, Wait, Off
 use Rattle.its_word.specs.declared.session.Event.{Event}
 use Rattle.its_frame.specs.declared.frame.Frame.{Frame}
 use Rattle.its_print.specs.Printing.{Line}
-use Rattle.its_print.specs.Printing as printed
 use Rattle.its_plain.specs.Course.{letters}
 use Rattle.its_plain.specs.Licence.{Licensed, Dots, dots_after, dots_after_line}
 use Rattle.its_plain.specs.Machine.{Whole, Machine, no_machine}
@@ -24,11 +23,10 @@ use Rattle.its_stepped.specs.Tick.{tick}
 use Rattle.its_stepped.specs.Lines.{calmed, with_raw, lifted_line, paces_of, ticked, told_by, told, stepped}
 use Rattle.its_stepped.specs.Turns.{turned, turns, stand_after, followed, turned_from, with_turns}
 use Rattle.its_stepped.specs.Calling.{Decoding}
-use Rattle.its_stepped.specs.Forest.{Forest}
 use Rattle.its_stepped.proofs.FrameLaws.{seen_stopped}
 use Rattle.its_stepped.proofs.SessionLaws.{HoldsAfter, Upkeep}
 use Rattle.its_stepped.proofs.StartLaws.{no_state_plain}
-use Rattle.its_stepped.proofs.UpkeepLaws.{Good, upkeep}
+use Rattle.its_stepped.proofs.UpkeepLaws.{upkeep}
 use Rattle.its_stepped.proofs.WrittenLaws.{lasting}
 
 -- a job runs in the raw state exactly where it runs on the plain machine

@@ -1,10 +1,9 @@
 -- A call that is found not ready: it has the one reason that its name, its channel and its console tell, it passes its other
 -- tests, and it passes them whatever consoles and the clock do.
-use Rattle.std.specs.Prelude.{if◌then◌else◌, ◌≡◌, ◌==◌, ◌&&◌, ◌≤◌, ◌<◌, ◌^◌, ◌+◌, ◌-◌, ℕ, Bool, true, false, not, Option, Some, None, List, [], ◌∷◌, ◌++◌, nat_le, nat_lt, length, slice_index_or, unwrap_or, refl}
+use Rattle.std.specs.Prelude.{if◌then◌else◌, ◌≡◌, ◌==◌, ◌&&◌, ◌^◌, ◌+◌, ◌-◌, ℕ, Bool, true, false, Option, Some, None, List, [], ◌∷◌, ◌++◌, nat_lt, length, slice_index_or, unwrap_or, refl}
 use Rattle.std.proofs.Common.{sym, ◌∙◌, ap, subst, inl, inr, arith}
-use Rattle.std.proofs.lemmas.Bool.{cases_Bool, both_ways}
+use Rattle.std.proofs.lemmas.Bool.{cases_Bool}
 use Rattle.std.proofs.lemmas.Bool.Decides.{nat_tests}
-use Rattle.its_word.specs.Core.{Core}
 use Rattle.its_word.specs.Word.{right_of}
 use Rattle.its_word.specs.Byte.{load_of}
 use Rattle.its_word.specs.declared.access.Fault.TheVariants.{Wro}
@@ -19,7 +18,7 @@ use Rattle.its_frame.specs.declared.decision.Wait.TheVariants as waits
 use Rattle.its_frame.specs.declared.name.CallName.{CallName}
 use Rattle.its_frame.specs.declared.name.CallName.TheVariants.{Hang, Sleep, Iot, Siot, Finish, Listen}
 use Rattle.its_plain.specs.Arguments.{input, place_of_input}
-use Rattle.its_plain.specs.CallBasic.{channel_at, is_negative, negated, longest_sleep, shared_place, read_only, sleep_tests, sleep}
+use Rattle.its_plain.specs.CallBasic.{channel_at, is_negative, negated, longest_sleep, shared_place, read_only, sleep}
 use Rattle.its_plain.specs.CallTty.{console_of, store_tests, read_tests, iot_ends, input_waits, output_waits, output_left, siot_tests, siot_in, siot_out, siot_by, next_pointer, iot_in, iot_out, first_typed, shown_byte, word_of, finish_on, finish, listens, listen_on, listen}
 use Rattle.its_plain.specs.CallDevice.{iot_on, iot_call, siot_on, siot_call}
 use Rattle.its_plain.specs.CallStep.{decision}

@@ -109,6 +109,7 @@ called_on b (events.ReadOnly page) = Some b.slot
 called_on b (events.Go a) = Some b.slot
 called_on b (events.Int s v w) = Some s
 called_on b (events.Exam s a n) = Some s
+called_on b (events.List s a n) = Some s
 called_on b (events.State s) = Some s
 called_on b (events.Deposit s a w) = Some s
 called_on b (events.Stop s) = Some s

@@ -1,7 +1,7 @@
 -- What an assembly of a text writes, and how it ends.
-use Rattle.std.specs.Prelude.{if◌then◌else◌, ◌≡◌, ◌≢◌, ◌⊎◌, ℕ, ◌+◌, Bool, true, false, Option, Some, None, IfSome, Result, Ok, Err, List, [], ◌++◌, refl}
-use Rattle.std.proofs.Common.{sym, ◌∙◌, ap, subst, inl, inr, append-nil}
-use Rattle.std.specs.Io.KnownBytes.{Appends, Consumes}
+use Rattle.std.specs.Prelude.{if◌then◌else◌, ◌≡◌, ◌≢◌, ◌⊎◌, ℕ, ◌+◌, Bool, true, false, Option, Some, None, IfSome, Result, Ok, Err, List, [], refl}
+use Rattle.std.proofs.Common.{sym, ◌∙◌, subst, inl, inr}
+use Rattle.std.specs.Io.KnownBytes.{Appends}
 use Rattle.std.proofs.KnownBytes.{Appends-nil}
 use Rattle.std.specs.Global.{Vec}
 use Rattle.arrayvec.specs.ArrayVec.{ArrayVec}
@@ -10,13 +10,11 @@ use Rattle.its_asm.specs.declared.assembly.Image.{Image}
 use Rattle.its_asm.specs.declared.reason.AsmFault.{AsmFault}
 use Rattle.its_asm.specs.declared.reason.AsmFault.TheVariants.{Line, NoMemory}
 use Rattle.its_image.specs.Text.{runs_past}
-use Rattle.its_image.specs.Written.{assembly_text, fault_line, image_events, lines_text}
-use Rattle.its_image.specs.Made.{Ends, EndsOf, IsRefusal, IsSession}
+use Rattle.its_image.specs.Written.{assembly_text}
+use Rattle.its_image.specs.Made.{Ends, IsRefusal, IsSession}
 use Rattle.its_image.proofs.FitLaws.{image_fits}
 use Rattle.its_image.proofs.LoadLaws.{image_whole}
-use Rattle.its_image.specs.declared.source.Made.{Made}
 use Rattle.its_image.specs.declared.source.Made.TheVariants as mades
-use Rattle.its_image.specs.declared.source.Unmade.{Unmade}
 use Rattle.its_image.specs.declared.source.Unmade.TheVariants as unmades
 use Rattle.its_top.specs.declared.commands.Command.{Command}
 use Rattle.its_top.specs.declared.commands.Command.TheVariants as commands

@@ -1,7 +1,7 @@
 -- What a check finds in lines and bytes.
-use Rattle.std.specs.Prelude.{◌≡◌, ◌≢◌, ◌+◌, ℕ, Bool, true, false, Option, Some, None, IfSome, Ok, Err, List, [], ◌∷◌, ◌++◌, refl}
+use Rattle.std.specs.Prelude.{◌≡◌, ◌≢◌, ◌+◌, ℕ, true, false, Option, Some, None, IfSome, Ok, Err, List, [], ◌++◌, refl}
 use Rattle.std.proofs.Common.{sym, ◌∙◌, ap, subst, append_assoc, append-nil}
-use Rattle.std.specs.Io.KnownBytes.{Appends, Consumes}
+use Rattle.std.specs.Io.KnownBytes.{Appends}
 use Rattle.std.proofs.KnownBytes.{Appends-nil}
 use Rattle.its_io.specs.Bytes.{Wrote}
 use Rattle.its_io.specs.declared.stream.Failed.{Failed}
@@ -19,7 +19,7 @@ use Rattle.its_reader.specs.Lines.{Ready}
 use Rattle.its_reader.specs.Items.{is_last, is_end, last_items, Finds, FoundSoFar, AllFound}
 use Rattle.its_reader.proofs.ItemsLaws as reader
 use Rattle.its_top.specs.declared.checking.Checked.{Checked}
-use Rattle.its_top.specs.declared.checking.Checked.TheVariants.{Ended, Open, Refused, Beyond}
+use Rattle.its_top.specs.declared.checking.Checked.TheVariants.{Ended, Beyond}
 use Rattle.its_top.specs.Checking.{checked_from, checked, CheckedBy, CheckSoFar, FoundIn, Finding, GoesOn, Passes, Fails, checked_text, StatusFor, WroteText, CheckedAs, Reported, CheckOf, Check}
 use Rattle.its_top.specs.declared.status.Status.{Status}
 use Rattle.its_top.specs.declared.status.Status.TheVariants as statuses

@@ -1,5 +1,5 @@
 -- RUN, turn by turn.
-use Rattle.std.specs.Prelude.{◌≡◌, ◌≢◌, ◌<◌, ◌≤◌, ◌+◌, ◌-◌, ℕ, zero, suc, Bool, true, false, Option, Some, None, IfSome, List, [], ◌∷◌, ◌++◌, length, slice_index_or, slice_set, replicate, refl}
+use Rattle.std.specs.Prelude.{◌≡◌, ◌<◌, ◌≤◌, ◌+◌, ◌-◌, ℕ, suc, Bool, true, false, Option, Some, None, IfSome, List, [], ◌∷◌, ◌++◌, length, slice_index_or, slice_set, refl}
 use Rattle.std.proofs.Common.{sym, ◌∙◌, ap, subst, arith, append_assoc, inl, inr, length-set}
 use Rattle.std.proofs.KnownBytes.{Appends-nil, Appends-trans}
 use Rattle.std.proofs.lemmas.Bool.{cases_eq}
@@ -22,7 +22,7 @@ use Rattle.its_stepped.specs.Lines.{calmed, paces_of, ticked, told}
 use Rattle.its_stepped.specs.Turns.{turned, turns, Stand, stand_after, followed, turned_from}
 use Rattle.its_top.specs.declared.turn.Turn.{Turn}
 use Rattle.its_top.specs.declared.turn.Turn.TheVariants as outcomes
-use Rattle.its_top.specs.Telling.{Says, said, after, saying, Begins, items_say, session_says, goes_on_after, Answers, FollowsBy, CircledBy, goes_on}
+use Rattle.its_top.specs.Telling.{Says, said, after, Begins, items_say, session_says, Answers, FollowsBy, CircledBy, goes_on}
 use Rattle.its_top.specs.Answer.{WroteFor, Tells, Answered, Follows, Circled, CircleSo, RunsSo}
 use Rattle.its_top.proofs.EventLaws.{after_after, text_one, said_telling}
 use Rattle.its_top.proofs.ConclusionLaws.{on_of}

@@ -1,27 +1,26 @@
 -- From what each item of a session did to how the session ends.
 use Rattle.std.specs.Prelude.{◌≡◌, ◌≢◌, ℕ, ◌+◌, true, false, Option, Some, None, IfSome, Ok, Err, List, [], ◌∷◌, ◌++◌, refl}
 use Rattle.std.proofs.Common.{sym, ◌∙◌, ap, subst, append_assoc, append-nil}
-use Rattle.std.specs.Io.KnownBytes.{Consumes}
 use Rattle.std.proofs.KnownBytes.{Appends-nil, Appends-trans}
 use Rattle.its_io.specs.declared.stream.Failed.{Failed}
-use Rattle.its_word.specs.Item.{Item, Read, Unread}
+use Rattle.its_word.specs.Item.{Item, Unread}
 use Rattle.its_word.specs.declared.session.Event.{Event}
 use Rattle.its_word.specs.declared.session.Event.TheVariants as events
 use Rattle.its_word.specs.declared.session.Place.TheVariants as places
 use Rattle.its_word.specs.declared.session.Reason.{Reason}
 use Rattle.its_print.specs.Printing.{Refused, text_of_line, text}
-use Rattle.its_session.specs.Events.{events_of, whole_events_of}
+use Rattle.its_session.specs.Events.{events_of}
 use Rattle.its_reader.specs.declared.items.Found.{Found}
 use Rattle.its_reader.specs.declared.items.Found.TheVariants as founds
 use Rattle.its_reader.specs.declared.items.Items.{Items}
 use Rattle.its_reader.specs.Bytes.{pending}
 use Rattle.its_reader.specs.Lines.{Ready}
-use Rattle.its_reader.specs.Items.{is_last, is_end, last_items, Finds, FoundSoFar, ReadOut, AllFound, Ended as EndFound, Behind}
+use Rattle.its_reader.specs.Items.{is_last, is_end, last_items, Finds, FoundSoFar, ReadOut, AllFound, Behind}
 use Rattle.its_reader.proofs.ItemsLaws as reader
 use Rattle.its_plain.specs.Machine.{no_machine}
 use Rattle.its_plain.specs.Operator.{Block}
 use Rattle.its_plain.specs.Own.{names_of}
-use Rattle.its_plain.specs.Transcript.{Fate, Ended, Open, Lost, TooLong}
+use Rattle.its_plain.specs.Transcript.{Fate, Ended, Open, Lost}
 use Rattle.its_stepped.specs.State.{State, no_state}
 use Rattle.its_plain.specs.Unrolled.{highest}
 use Rattle.its_stepped.specs.Lines.{stepped}
@@ -30,7 +29,7 @@ use Rattle.its_top.specs.declared.status.Status.{Status}
 use Rattle.its_top.specs.declared.status.Status.TheVariants as statuses
 use Rattle.its_top.specs.declared.turn.Turn.{Turn}
 use Rattle.its_top.specs.declared.turn.Turn.TheVariants as turns
-use Rattle.its_top.specs.Telling.{Says, said, after, saying, Begins, session_says, items_say, goes_on_after, FollowsBy, goes_on}
+use Rattle.its_top.specs.Telling.{Says, said, after, saying, session_says, items_say, goes_on_after, FollowsBy, goes_on}
 use Rattle.its_top.specs.Answer.{WroteFor, Tells, Follows, block_of}
 use Rattle.its_top.specs.Conclusion.{IsDone, Finished, Concluded, WasRun, Session, SoFar, status_of, Over, TakenBy, Takes}
 use Rattle.its_top.proofs.EventLaws.{after_after, text_one}

@@ -13,7 +13,7 @@ use Rattle.its_stepped.specs.Lines.{with_raw}
 use Rattle.its_operator.specs.Kept.{Lands}
 use Rattle.its_top.specs.Answer.{TypedSo, DrainedSo}
 use Rattle.its_top.proofs.LoadingLaws.{front}
-use Rattle.its_top.proofs.AnswerLaws.{landed}
+use Rattle.its_top.proofs.PerformLaws.{landed}
 
 -- one console, changed once, twice, or not at all
 changed_here : {X : Type 0} (f : ℕ → X) (i : ℕ) (x : X) → changed f i x i ≡ x

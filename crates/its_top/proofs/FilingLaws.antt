@@ -29,7 +29,7 @@ use Rattle.its_stepped.specs.Lines.{with_raw}
 use Rattle.its_world.specs.World.{state_of}
 use Rattle.its_world.specs.declared.world.World.{World}
 use Rattle.its_world.proofs.MarkLaws.{none_marked, made_none}
-use Rattle.its_world.proofs.StoreLaws.{changed_same}
+use Rattle.its_parts.proofs.StoreLaws.{changed_same}
 use Rattle.its_operator.specs.Kept.{Lands, FileRefused, reason_of}
 use Rattle.its_operator.specs.Filing.{word_if, length_if}
 use Rattle.its_top.specs.declared.turn.Turn.{Turn}

@@ -2,6 +2,7 @@ pub mod EventLaws
 pub mod StartLaws
 pub mod ConclusionLaws
 pub mod AnswerLaws
+pub mod PerformLaws
 pub mod ExamLaws
 pub mod FewDotsLaws
 pub mod TopLaws
@@ -13,6 +14,7 @@ pub mod MoveLaws
 pub mod ShownLaws
 pub mod LedgerLaws
 pub mod FilingLaws
+pub mod ListingLaws
 pub mod CommandLaws
 pub mod CheckingLaws
 pub mod TallyLaws

@@ -1,6 +1,6 @@
 -- From what the program did for a command to the promises of the top call.
 use Rattle.std.specs.Prelude.{◌≡◌, ◌≢◌, ◌⊎◌, ℕ, ◌+◌, true, false, Option, Some, None, IfSome, List, refl}
-use Rattle.std.proofs.Common.{sym, ◌∙◌, ap, subst, arith, inl, inr}
+use Rattle.std.proofs.Common.{sym, ◌∙◌, subst, arith, inl, inr}
 use Rattle.std.specs.Io.KnownBytes.{Appends}
 use Rattle.its_print.specs.Printing.{text}
 use Rattle.its_session.specs.Events.{events_of}
@@ -15,7 +15,7 @@ use Rattle.its_top.specs.declared.checking.Checked.{Checked}
 use Rattle.its_top.specs.declared.checking.Checked.TheVariants as checks
 use Rattle.its_top.specs.Conclusion.{IsDone, WasRun, Session}
 use Rattle.its_top.specs.Commands.{reads, IfGenerates}
-use Rattle.its_top.specs.Checking.{checked, checked_text, Passes, Fails, GoesOn, StatusFor, WroteText, CheckOf, Check}
+use Rattle.its_top.specs.Checking.{checked, checked_text, Passes, Fails, StatusFor, WroteText, CheckOf, Check}
 use Rattle.its_top.specs.Generating.{generated_text}
 use Rattle.its_top.specs.Assembling.{Asm}
 use Rattle.its_top.specs.Top.{Refrains, usage, Transcribed, Completes, Refuses, RunsOn, Breaks, Begins, CheckPasses, CheckFails, CheckRunsOn, CheckBreaks, DoneFor, Obeyed}

@@ -1,5 +1,5 @@
 -- The letters of ticks, one after another.
-use Rattle.std.specs.Prelude.{◌≡◌, ◌<◌, ◌≤◌, ◌+◌, ◌-◌, ℕ, zero, suc, List, [], ◌∷◌, ◌++◌, length, replicate, refl}
+use Rattle.std.specs.Prelude.{◌≡◌, ◌≤◌, ◌+◌, ◌-◌, ℕ, zero, suc, List, [], ◌∷◌, ◌++◌, length, replicate, refl}
 use Rattle.std.proofs.Common.{sym, subst, ◌∙◌, ap, arith, append_assoc, append-nil}
 use Rattle.std.proofs.lemmas.List.{length-append, length-replicate}
 use Rattle.its_word.specs.declared.calls.Pace.{Pace}
@@ -73,3 +73,6 @@ one_and_steps m mid next s k p e f is h i =
       ap (λ x. p ∷ x) (append-nil (replicate k p) ∙ ap (replicate k) is ∙ sym i)
           ∙ ap (λ x. x ∷ paces_of mid s k) f ∙ ap (λ x. (tick m s).pace ∷ paces_of x s k) e ∙ ap (paces_of m s) one,
     )
+
+pub no_letters : (rs : List Run) → rs ≡ [] → length (paces_in rs) ≤ 512
+no_letters rs e = omega (arith, ap (λ xs. length (paces_in xs)) e)

@@ -18,7 +18,7 @@ use Rattle.its_print.specs.Printing.{Line}
 use Rattle.its_print.specs.Printing as printed
 use Rattle.its_plain.specs.OperatorClock.{clock_end, clocked_if, clocked}
 use Rattle.its_plain.specs.OperatorConsoles.{typed, dropped, drained}
-use Rattle.its_plain.specs.OperatorLines.{shows, operate, Lined, Done, Peeks, peeked_at, lined, by_load, by_exam, by_state, by_clock}
+use Rattle.its_plain.specs.OperatorLines.{shows, operate, Lined, Done, Peeks, peeked_at, lined, by_load, by_exam, in_a_line, by_state, by_clock}
 use Rattle.its_plain.specs.CallFile.{file_named}
 use Rattle.its_plain.specs.OperatorFiles.{file_made, words_added, files_in, filed_line, listing, rows, shown_lines, shown_by, file_shown}
 use Rattle.its_plain.specs.Ledger.{typed_by, drained_by}
@@ -147,9 +147,14 @@ disturbs_shows : (c : ℕ) (m : Machine) (e : Event) (s : ℕ) (b : Block) (r : 
 disturbs_shows c m e s b (Ok n) few none h = shows_still c m n e [] few h none refl
 disturbs_shows c m e s b (Err r) few none h = tt
 
-exam_shows : (c : ℕ) (m : Machine) (b : Block) (s a k : ℕ) (r : Result (List ℕ) Reason) → Few c m → ShowsBy c m (events.Exam s a k) (Done (by_exam m b s a r))
-exam_shows c m b s a k (Ok ws) few = shows_still c m m (events.Exam s a k) (printed.Words s a ws ∷ []) few refl refl refl
-exam_shows c m b s a k (Err r) few = tt
+exam_shows : (c : ℕ) (m : Machine) (b : Block) (e : Event) (s : ℕ) (show : List ℕ → List Line) (r : Result (List ℕ) Reason) → Few c m → typed_by c m e ≡ []
+    → ((ws : List ℕ) → flat_map (drained_by c) (show ws) ≡ []) → ShowsBy c m e (Done (by_exam m b s show r))
+exam_shows c m b e s show (Ok ws) few none quiet = shows_still c m m e (show ws) few refl none (quiet ws)
+exam_shows c m b e s show (Err r) few none quiet = tt
+
+listed_quiet : (c s a : ℕ) (ws : List ℕ) → flat_map (drained_by c) (printed.listed s a ws) ≡ []
+listed_quiet c s a [] = refl
+listed_quiet c s a (w ∷ ws) = listed_quiet c s (a + 1) ws
 
 state_shows : (c : ℕ) (m : Machine) (b : Block) (s : ℕ) (r : Result JobShow Reason) → Few c m → ShowsBy c m (events.State s) (Done (by_state m b s r))
 state_shows c m b s (Ok show) few = shows_still c m m (events.State s) (printed.State m.version s show ∷ []) few refl refl refl
@@ -253,7 +258,8 @@ line_shows c m b (events.Int s x y) few = disturbs_shows c m (events.Int s x y) 
 line_shows c m b (events.Stop s) few = disturbs_shows c m (events.Stop s) s b (on_registers m s stopped) few refl (registers_same m s stopped)
 line_shows c m b (events.Cont s) few = disturbs_shows c m (events.Cont s) s b (on_registers m s continued) few refl (registers_same m s continued)
 line_shows c m b (events.Deposit s a x) few = disturbs_shows c m (events.Deposit s a x) s b (deposited m s a x) few refl (deposited_same m s a x)
-line_shows c m b (events.Exam s a n) few = exam_shows c m b s a n (examined m s a n) few
+line_shows c m b (events.Exam s a n) few = exam_shows c m b (events.Exam s a n) s (in_a_line s a) (examined m s a n) few refl (λ ws. refl)
+line_shows c m b (events.List s a n) few = exam_shows c m b (events.List s a n) s (printed.listed s a) (examined m s a n) few refl (λ ws. listed_quiet c s a ws)
 line_shows c m b (events.State s) few = state_shows c m b s (state_shown m s) few
 line_shows c m b (events.Clock n) few = clock_shows c m b n (nat_lt (m.clock + n) clock_end) few
 line_shows c m b (events.Peek s) few = peek_shows c m s (m.jobs s)

@@ -1,5 +1,5 @@
 -- VERSION comes at the start of a session alone: there no line was taken yet.
-use Rattle.std.specs.Prelude.{◌≡◌, ℕ, Bool, true, false, None, refl}
+use Rattle.std.specs.Prelude.{◌≡◌, ℕ, false, None, refl}
 use Rattle.std.proofs.Common.{sym, ◌∙◌, ap}
 use Rattle.its_word.specs.declared.session.Event.{Event}
 use Rattle.its_word.specs.declared.session.Event.TheVariants as events

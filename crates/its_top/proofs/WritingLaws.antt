@@ -1,11 +1,14 @@
 -- What was written of a line.
-use Rattle.std.specs.Prelude.{◌≡◌, ℕ, Option, List, [], refl}
+use Rattle.std.specs.Prelude.{◌≡◌, ℕ, Option, List, [], ◌∷◌, refl}
 use Rattle.std.proofs.Common.{sym, subst, append-nil}
 use Rattle.std.specs.Io.KnownBytes.{Appends}
+use Rattle.std.proofs.KnownBytes.{Appends-nil}
 use Rattle.its_io.specs.Bytes.{Wrote}
+use Rattle.its_print.specs.Printing.{Line, text_of_line, text}
 use Rattle.its_top.specs.declared.turn.Turn.{Turn}
 use Rattle.its_top.specs.declared.turn.Turn.TheVariants as turns
 use Rattle.its_top.specs.Answer.{WroteFor, Tells}
+use Rattle.its_top.proofs.EventLaws.{text_one}
 
 all_for : (good : Turn) (bytes : List ℕ) → WroteFor good good bytes bytes
 all_for turns.On bytes = (refl, refl)
@@ -22,3 +25,11 @@ told_begun good bytes wrote old new w = record { wrote = wrote; appended = w.app
 
 pub told_as : (turn good : Turn) (bytes line : List ℕ) (old new : Option (List ℕ)) → bytes ≡ line → Tells turn good bytes old new → Tells turn good line old new
 told_as turn good bytes line old new e t = subst (λ b. Tells turn good b old new) e t
+
+-- no line, and one
+pub tells_nothing : (good : Turn) (out : Option (List ℕ)) → Tells good good (text []) out out
+unfolding text
+tells_nothing good out = told_all good [] out out (Appends-nil out)
+
+pub tells_one : (turn good : Turn) (l : Line) (old new : Option (List ℕ)) → Tells turn good (text_of_line l) old new → Tells turn good (text (l ∷ [])) old new
+tells_one turn good l old new t = told_as turn good (text_of_line l) (text (l ∷ [])) old new (sym (text_one l)) t

@@ -15,15 +15,11 @@ use Rattle.its_stepped.specs.Lines.{with_raw, paces_of, ticked}
 use Rattle.its_word.specs.declared.session.Reason.{Reason}
 use Rattle.its_plain.specs.Operator.{Block}
 use Rattle.its_plain.specs.OperatorJobs.{words_stored, examined}
-use Rattle.its_monitor.specs.declared.monitor.Monitor.{Monitor}
-use Rattle.its_word.specs.declared.session.Refusal.{Refusal}
-use Rattle.its_print.specs.Printing.{Line, Refused, text_of_line, text}
+use Rattle.its_print.specs.Printing.{Line, text}
 use Rattle.its_world.specs.World.{state_of}
 use Rattle.its_world.specs.declared.world.World.{World}
-use Rattle.its_operator.specs.Kept.{reason_of}
 use Rattle.its_top.specs.declared.turn.Turn.{Turn}
 use Rattle.its_top.specs.declared.turn.Turn.TheVariants as turns
-use Rattle.its_top.specs.declared.progress.Progress.{Progress}
 use Rattle.its_word.specs.Item.{Item}
 use Rattle.its_word.specs.Limits.{slots}
 use Rattle.its_plain.specs.Unrolled.{runs}
@@ -82,11 +78,6 @@ FoundStart (founds.Line e) v = FindsStart e v
 FoundStart (founds.Bad r) v = Unit {0}
 FoundStart founds.Beyond v = Unit {0}
 FoundStart founds.End v = Unit {0}
-
--- a call that answers nothing, and what was written of its refusal
-abbrev pub Settled : {T : Type 0} → Result T Refusal → Turn → ℕ → Option (List ℕ) → Option (List ℕ) → Type 0
-Settled (Ok x) turn n old new = (turn ≡ turns.On) × (new ≡ old)
-Settled (Err e) turn n old new = Tells turn turns.Refused (text_of_line (Refused n (reason_of e))) old new
 
 -- words in front of those that are found
 abbrev pub behind : List ℕ → Result (List ℕ) Reason → Result (List ℕ) Reason

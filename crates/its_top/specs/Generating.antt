@@ -1,20 +1,23 @@
 -- What `its gen N` counts in a generated session, and what it writes of it (docs/SESSION.md, "its gen").
-use Rattle.std.specs.Prelude.{◌≡◌, ℕ, ◌+◌, Bool, true, false, Option, Some, None, Result, Ok, Err, List, [], ◌∷◌, ◌++◌, map, length, codes}
+use Rattle.std.specs.Prelude.{◌≡◌, ℕ, ◌+◌, Bool, true, false, Result, Ok, List, [], ◌∷◌, ◌++◌, map, length, codes}
 use Rattle.its_word.specs.Item.{Item, Read}
 use Rattle.its_word.specs.declared.calls.Pace.{Pace}
 use Rattle.its_word.specs.declared.calls.Pace.TheVariants as paces
 use Rattle.its_word.specs.declared.session.Event.{Event}
-use Rattle.its_word.specs.declared.session.Refusal.{Refusal}
 use Rattle.its_print.specs.Printing.{Line}
 use Rattle.its_print.specs.Printing as printed
 use Rattle.its_session.specs.Generated.{generated_session}
-use Rattle.its_plain.specs.Own.{names_of}
 use Rattle.its_plain.specs.Operator.{Block}
 use Rattle.its_stepped.specs.State.{State}
 use Rattle.its_stepped.specs.Lines.{told, stepped}
 use Rattle.its_top.specs.declared.generating.Tally.{Tally}
 use Rattle.its_top.specs.declared.generating.Play.{Play}
+use Rattle.its_top.specs.declared.shown.Over.{Over}
+use Rattle.its_top.specs.declared.shown.Shown.{Shown}
+use Rattle.its_top.specs.declared.shown.Shown.TheVariants as shows
+use Rattle.its_top.specs.Answer.{block_of}
 use Rattle.its_top.specs.Counts.{count_line}
+use Rattle.its_top.specs.Performing.{line_of}
 
 abbrev pub nothing : Tally
 nothing = record { steps = 0; drained = 0 }
@@ -60,22 +63,10 @@ counts_text lines t = count_line (codes "LINES") lines ++ tally_text t
 unfoldable pub generated_text : ℕ → List ℕ
 generated_text n = counts_text (length (generated_session n)) (generated_tally n)
 
--- the block of a generated session, which has no file
-abbrev pub block_at : ℕ → Block
-block_at s = record { slot = s; file = names_of 0 0 0 }
-
--- what an event of the session counts for, or None where the session is over by it
-abbrev pub CountsFor : Option Tally → State → Block → Event → State → Block → Type 0
-CountsFor (Some t) v b e v' b' = (n : ℕ) (items : List Item) → tally (told n v b (Read e ∷ items)).lines ≡ plus t (tally (told (n + 1) v' b' items).lines)
-CountsFor None v b e v' b' = (n : ℕ) (items : List Item) → tally (told n v b (Read e ∷ items)).lines ≡ nothing
-
-pub record Counted (result : Option Tally) (v : State) (b : Block) (e : Event) (v' : State) (b' : Block) : Type 0 where
-  pub counts : CountsFor result v b e v' b'
-
--- an event that shows nothing that counts, by the answer of its call
-abbrev pub uncounted : {T : Type 0} → Result T Refusal → Option Tally
-uncounted (Ok x) = Some nothing
-uncounted (Err e) = None
+-- what an event counts for, by what it has come to and the letters of its ticks
+abbrev pub counted : Result Shown Over → List Pace → Tally
+counted (Ok (shows.Line r)) ps = tally_of (line_of r ps)
+counted _ ps = nothing
 
 -- what is counted so far, with what the events from line number n on count for, is all
 abbrev pub LeftOf : Bool → Tally → ℕ → State → Block → List Event → Tally → Type 0
@@ -83,8 +74,8 @@ LeftOf true t n v b es all = t ≡ all
 LeftOf false t n v b es all = plus t (tally (told n v b (items_of es)).lines) ≡ all
 
 pub record PlaySo (play : Play) (n : ℕ) (v : State) (es : List Event) (all : Tally) : Type 0 where
-  pub whole : LeftOf play.over play.tally n v (block_at play.slot) es all
+  pub whole : LeftOf play.over play.tally n v (block_of play.progress.slot play.progress.file) es all
 
--- an event was played
+-- an event was performed
 pub record PlayedOn (old new : Play) (v v' : State) (e : Event) : Type 0 where
   pub on : (n : ℕ) (es : List Event) (all : Tally) → PlaySo old n v (e ∷ es) all → PlaySo new (n + 1) v' es all

@@ -1,16 +1,12 @@
 -- What a session writes from some point on, over its items.
-use Rattle.std.specs.Prelude.{◌≡◌, ◌≤◌, ℕ, ◌+◌, Bool, true, false, Some, List, [], ◌∷◌, ◌++◌}
+use Rattle.std.specs.Prelude.{◌≡◌, ℕ, ◌+◌, Bool, true, false, Some, List, ◌∷◌, ◌++◌}
 use Rattle.its_word.specs.Item.{Item, Read}
 use Rattle.its_word.specs.declared.session.Event.{Event}
 use Rattle.its_word.specs.declared.session.Event.TheVariants as events
-use Rattle.its_word.specs.declared.session.Place.{Place}
-use Rattle.its_word.specs.declared.session.Place.TheVariants as places
 use Rattle.its_print.specs.Printing.{text}
-use Rattle.its_session.specs.Events.{most_lines, lines_from, items_from}
-use Rattle.its_plain.specs.Machine.{no_machine}
-use Rattle.its_plain.specs.Operator.{Block, no_block}
-use Rattle.its_plain.specs.Transcript.{Fate, Ended, Lost, TooLong}
-use Rattle.its_stepped.specs.State.{State, no_state}
+use Rattle.its_plain.specs.Operator.{Block}
+use Rattle.its_plain.specs.Transcript.{Fate, Ended, Lost}
+use Rattle.its_stepped.specs.State.{State}
 use Rattle.its_plain.specs.OperatorLines.{lined}
 use Rattle.its_stepped.specs.Lines.{Told, told, calmed}
 use Rattle.its_stepped.specs.Turns.{stand_after, turned_from}

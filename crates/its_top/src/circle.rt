@@ -8,7 +8,8 @@ ghost use Rattle.its_world.specs.World.{state_of};
 ghost use Rattle.its_operator.specs.Kept.{Kept};
 ghost use Rattle.its_top.specs.Answer.{Circled, FindsStart, Follows, block_of};
 
-use super::answer::{Runs, answer, tick_line};
+use super::answer::{answer, tick_line};
+use super::performing::Runs;
 use super::progress::Progress;
 use super::turn::Turn;
 use its_io::Sink;

@@ -1,18 +1,21 @@
 //! The lines on files: FILE with its words, DIR and SHOW.
-
-ghost use Rattle.std.specs.Prelude.{◌≡◌, ◌≢◌, ◌≤◌, ◌<◌, ◌+◌, ◌-◌, ◌/◌, ◌^◌, true, None, Ok, Err, IfErr, OnOk, length, map, min, take, drop};
+ghost use Rattle.std.specs.Prelude.{◌≡◌, ◌≢◌, ◌≤◌, ◌<◌, ◌+◌, ◌-◌, ◌/◌, ◌^◌, List, true, None, Ok, Err, IfErr, OnOk, length, map, min, take, drop};
 ghost use Rattle.its_io.specs.Bytes.{next_fault};
+ghost use Rattle.its_word.specs.declared.calls.Pace.{Pace};
 ghost use Rattle.its_files.specs.Files.{entry_at, is_file, words_at};
-ghost use Rattle.its_plain.specs.OperatorFiles.{word_added, words_added, files_in, filed_line, shown_lines, rows};
+ghost use Rattle.its_plain.specs.Operator.{Block};
+ghost use Rattle.its_plain.specs.OperatorFiles.{word_added, words_added, files_in, filed_line, listing, shown_lines, rows};
 ghost use Rattle.its_stepped.specs.Unwind.{help};
 ghost use Rattle.its_world.specs.World.{state_of};
 ghost use Rattle.its_operator.specs.Kept.{Kept, Lands, reason_of};
 ghost use Rattle.its_print.specs.Printing.{Filed, Row, text_of_line, text};
-ghost use Rattle.its_top.specs.Answer.{Answered, Tells, Stood, block_of};
+ghost use Rattle.its_top.specs.Answer.{Tells, Stood, block_of};
+ghost use Rattle.its_top.specs.Performing.{Performed};
 
 use super::progress::Progress;
+use super::shown::{Over, Shown};
 use super::turn::Turn;
-use super::writing::{refuse_by, tell};
+use super::writing::tell;
 use arrayvec::ArrayVec;
 use its_io::Sink;
 use its_monitor::Monitor;
@@ -26,30 +29,25 @@ const MOST_FILES: u32 = 256;
 const ROW_WORDS: u32 = 8;
 
 /// FILE: makes a file of no words, which is then the block's.
-#[tactic(auto, using(crate::proofs::AnswerLaws::file_answered, crate::proofs::AnswerLaws::file_refused))]
-pub fn make_file<K: Sink>(
+pub fn make_file(
     m: &mut Monitor,
     p: &mut Progress,
     d: Word,
     x: Word,
     y: Word,
-    out: &mut K,
-) -> Turn
+) -> Result<Shown, Over>
     requires sound { Kept m.old.world }
-    ensures answered { Answered result p.old.number (state_of m.old.world) (block_of p.old.slot p.old.file) (Event.File d x y) (state_of m.new.world) (block_of p.new.slot p.new.file) (K.written out.old) (K.written out.new) }
+    ensures performed { (ps : List Pace) → Performed result (state_of m.old.world) (block_of p.old.slot p.old.file) (Event.File d x y) ps m.new.world (block_of p.new.slot p.new.file) }
     ensures sound { Kept m.new.world }
     ensures kept { (p.new.number ≡ p.old.number) × (p.new.slot ≡ p.old.slot) }
-    ensures later { K.faults out.old ≤ K.faults out.new }
-    ensures unfailed { result ≢ Turn.Fault → K.faults out.new ≡ K.faults out.old }
-    ensures fault { result ≡ Turn.Fault → K.faults out.new ≡ next_fault (K.faults out.old) }
 {
     match m.file_new(d, x, y) {
         Ok(_) => {
             let names = [d, x, y];
             p.file = names;
-            Turn::On
+            Ok(Shown::Nothing)
         }
-        Err(e) => refuse_by(out, p.number, e),
+        Err(e) => Err(Over::Refused(e)),
     }
 }
 
@@ -87,23 +85,13 @@ fn add_word(m: &mut Monitor, names: [Word; 3], w: Word) -> Result<(), Refusal>
 }
 
 /// DIR: shows the files of a directory.
-#[tactic(auto, using(crate::proofs::AnswerLaws::dir_answered, crate::proofs::FilingLaws::tells_then, crate::proofs::FilingLaws::tells_cut))]
-pub fn list_files<K: Sink>(m: &mut Monitor, p: Progress, d: Word, out: &mut K) -> Turn
+pub fn list_files(m: &mut Monitor, d: Word) -> Result<Shown, Over>
     requires sound { Kept m.old.world }
-    ensures answered { Answered result p.number (state_of m.old.world) (block_of p.slot p.file) (Event.Dir d) (state_of m.new.world) (block_of p.slot p.file) (K.written out.old) (K.written out.new) }
+    ensures performed { (ps : List Pace) (b : Block) → Performed result (state_of m.old.world) b (Event.Dir d) ps m.new.world b }
     ensures sound { Kept m.new.world }
-    ensures later { K.faults out.old ≤ K.faults out.new }
-    ensures unfailed { result ≢ Turn.Fault → K.faults out.new ≡ K.faults out.old }
-    ensures fault { result ≡ Turn.Fault → K.faults out.new ≡ next_fault (K.faults out.old) }
 {
     let count = count_files(m, d);
-    let mut line = ArrayVec::new();
-    print_dir(d, count, &mut line);
-    let turn = tell(out, &line, Turn::On);
-    if !turn.goes_on() {
-        return turn;
-    }
-    show_files(m, d, count, out)
+    Ok(Shown::Files { d, count })
 }
 
 /// How many files a directory has.
@@ -125,9 +113,31 @@ fn count_files(m: &mut Monitor, d: Word) -> u32
     MOST_FILES
 }
 
+/// The lines of a directory, where no part of a close is owed: how many files it has, and the files.
+#[tactic(auto, using(crate::proofs::FilingLaws::tells_then, crate::proofs::FilingLaws::tells_cut))]
+pub fn print_files<K: Sink>(m: &mut Monitor, d: Word, count: u32, out: &mut K) -> Turn
+    requires sound { Kept m.old.world }
+    requires unmarked { m.old.world.files.mark ≡ None }
+    requires count { count ≡ length (files_in d (state_of m.old.world).raw.files) }
+    ensures told { Tells result Turn.On (text (listing d (files_in d (state_of m.old.world).raw.files))) (K.written out.old) (K.written out.new) }
+    ensures state { state_of m.new.world ≡ state_of m.old.world }
+    ensures sound { Kept m.new.world }
+    ensures later { K.faults out.old ≤ K.faults out.new }
+    ensures unfailed { result ≢ Turn.Fault → K.faults out.new ≡ K.faults out.old }
+    ensures fault { result ≡ Turn.Fault → K.faults out.new ≡ next_fault (K.faults out.old) }
+{
+    let mut line = ArrayVec::new();
+    print_dir(d, count, &mut line);
+    let turn = tell(out, &line, Turn::On);
+    if !turn.goes_on() {
+        return turn;
+    }
+    print_each_file(m, d, count, out)
+}
+
 /// A line for each of the files of a directory, where no part of a close is owed.
 #[tactic(auto, using(crate::proofs::FilingLaws::listing_start, crate::proofs::FilingLaws::listing_end))]
-fn show_files<K: Sink>(m: &mut Monitor, d: Word, count: u32, out: &mut K) -> Turn
+fn print_each_file<K: Sink>(m: &mut Monitor, d: Word, count: u32, out: &mut K) -> Turn
     requires sound { Kept m.old.world }
     requires unmarked { m.old.world.files.mark ≡ None }
     requires count { count ≡ length (files_in d (state_of m.old.world).raw.files) }
@@ -140,7 +150,7 @@ fn show_files<K: Sink>(m: &mut Monitor, d: Word, count: u32, out: &mut K) -> Tur
 {
     for k in 0..count {
         if let Some(show) = m.dir(d, k) {
-            let turn = show_file(show, out);
+            let turn = print_filed(show, out);
             if !turn.goes_on() {
                 return turn;
             }
@@ -150,7 +160,7 @@ fn show_files<K: Sink>(m: &mut Monitor, d: Word, count: u32, out: &mut K) -> Tur
 }
 
 /// The line of a file.
-fn show_file<K: Sink>(show: FileShow, out: &mut K) -> Turn
+fn print_filed<K: Sink>(show: FileShow, out: &mut K) -> Turn
     ensures told { Tells result Turn.On (text_of_line (Filed show)) (K.written out.old) (K.written out.new) }
     ensures later { K.faults out.old ≤ K.faults out.new }
     ensures unfailed { result ≢ Turn.Fault → K.faults out.new ≡ K.faults out.old }
@@ -162,31 +172,20 @@ fn show_file<K: Sink>(show: FileShow, out: &mut K) -> Turn
 }
 
 /// SHOW: shows the words of a file.
-#[tactic(auto, using(crate::proofs::AnswerLaws::show_answered, crate::proofs::AnswerLaws::show_refused, crate::proofs::FilingLaws::stood, crate::proofs::FilingLaws::tells_then, crate::proofs::FilingLaws::tells_cut))]
-pub fn show_words<K: Sink>(
-    m: &mut Monitor,
-    p: Progress,
-    d: Word,
-    x: Word,
-    y: Word,
-    out: &mut K,
-) -> Turn
+pub fn find_file(m: &mut Monitor, d: Word, x: Word, y: Word) -> Result<Shown, Over>
     requires sound { Kept m.old.world }
-    ensures answered { Answered result p.number (state_of m.old.world) (block_of p.slot p.file) (Event.Show d x y) (state_of m.new.world) (block_of p.slot p.file) (K.written out.old) (K.written out.new) }
+    ensures performed { (ps : List Pace) (b : Block) → Performed result (state_of m.old.world) b (Event.Show d x y) ps m.new.world b }
     ensures sound { Kept m.new.world }
-    ensures later { K.faults out.old ≤ K.faults out.new }
-    ensures unfailed { result ≢ Turn.Fault → K.faults out.new ≡ K.faults out.old }
-    ensures fault { result ≡ Turn.Fault → K.faults out.new ≡ next_fault (K.faults out.old) }
 {
     match m.file(d, x, y) {
-        Ok(id) => show_file_words(m, id, d, x, y, out),
-        Err(e) => refuse_by(out, p.number, e),
+        Ok(id) => Ok(Shown::File { id, d, x, y }),
+        Err(e) => Err(Over::Refused(e)),
     }
 }
 
 /// The lines of the words of a file, where no part of a close is owed: its names and how many there are, and the words.
 #[tactic(auto, using(crate::proofs::FilingLaws::stood, crate::proofs::FilingLaws::tells_then, crate::proofs::FilingLaws::tells_cut))]
-fn show_file_words<K: Sink>(
+pub fn print_words_of<K: Sink>(
     m: &mut Monitor,
     id: u32,
     d: Word,
@@ -211,12 +210,12 @@ fn show_file_words<K: Sink>(
     if !turn.goes_on() {
         return turn;
     }
-    show_rows(m, id, count, out)
+    print_rows(m, id, count, out)
 }
 
 /// The lines of the words of a file, where no part of a close is owed.
 #[tactic(auto, using(crate::proofs::FilingLaws::standing_start, crate::proofs::FilingLaws::rows_start, crate::proofs::FilingLaws::rows_end))]
-fn show_rows<K: Sink>(m: &mut Monitor, id: u32, count: u32, out: &mut K) -> Turn
+fn print_rows<K: Sink>(m: &mut Monitor, id: u32, count: u32, out: &mut K) -> Turn
     requires sound { Kept m.old.world }
     requires unmarked { m.old.world.files.mark ≡ None }
     requires file { is_file (entry_at m.old.world.files id) ≡ true }
@@ -230,7 +229,7 @@ fn show_rows<K: Sink>(m: &mut Monitor, id: u32, count: u32, out: &mut K) -> Turn
 {
     for row in 0..count.div_ceil(ROW_WORDS) {
         let from = row * ROW_WORDS;
-        let turn = show_row(m, id, from, count, out);
+        let turn = print_row_of(m, id, from, count, out);
         if !turn.goes_on() {
             return turn;
         }
@@ -239,7 +238,7 @@ fn show_rows<K: Sink>(m: &mut Monitor, id: u32, count: u32, out: &mut K) -> Turn
 }
 
 /// One of them: up to eight words of a file from one on.
-fn show_row<K: Sink>(m: &mut Monitor, id: u32, from: u32, count: u32, out: &mut K) -> Turn
+fn print_row_of<K: Sink>(m: &mut Monitor, id: u32, from: u32, count: u32, out: &mut K) -> Turn
     requires sound { Kept m.old.world }
     requires unmarked { m.old.world.files.mark ≡ None }
     requires file { is_file (entry_at m.old.world.files id) ≡ true }

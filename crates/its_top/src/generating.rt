@@ -1,5 +1,5 @@
 //! The command `gen`: the generated session runs through the monitor, and what it shows is counted. Nothing is read.
-ghost use Rattle.std.specs.Prelude.{◌≡◌, ◌≢◌, ◌≤◌, ◌<◌, ◌+◌, ◌-◌, ◌*◌, ◌^◌, ◌⊎◌, ℕ, List, None, Some, IfSome, IfNone, OnOk, OnErr, true, false, [], ◌∷◌, length, slice_get};
+ghost use Rattle.std.specs.Prelude.{◌≡◌, ◌≢◌, ◌≤◌, ◌<◌, ◌+◌, ◌-◌, ◌*◌, ◌^◌, ◌⊎◌, ℕ, List, OnOk, OnErr, [], ◌∷◌, length};
 ghost use Rattle.std.specs.Io.KnownBytes.{Appends};
 ghost use Rattle.its_io.specs.Bytes.{HasCause, Wrote, next_fault};
 ghost use Rattle.its_word.specs.Limits.{slots};
@@ -11,18 +11,20 @@ ghost use Rattle.its_world.specs.World.{state_of};
 ghost use Rattle.its_operator.specs.Kept.{Kept};
 ghost use Rattle.its_print.specs.Runs.{paces_in};
 ghost use Rattle.its_top.specs.Checking.{WroteText};
-ghost use Rattle.its_top.specs.Generating.{block_at, marked, nothing, plus, uncounted, counts_text, tally_text, generated_tally, generated_text, Counted, PlayedOn};
+ghost use Rattle.its_top.specs.Performing.{line_of};
+ghost use Rattle.its_top.specs.Generating.{marked, tally_of, counted, counts_text, tally_text, generated_tally, generated_text, PlayedOn};
 
-use super::answer::{drain_bytes, load_words, paces_of, type_bytes, words_of};
-use super::consoles::load_job;
 use super::counts::count_line;
+use super::performing::{Runs, perform};
+use super::progress::Progress;
+use super::shown::{Over, Reply, Shown};
 use super::status::Status;
 use arrayvec::ArrayVec;
 use its_io::{Failed, Sink, write_all};
 use its_monitor::Monitor;
 use its_print::Run;
 use its_session::generated;
-use its_word::{Event, Pace, Refusal, Word};
+use its_word::{Event, Pace, Word};
 
 /// How many ticks were marked `*`, and how many bytes were drained.
 #[derive(Clone, Copy, Debug, PartialEq, Eq)]
@@ -37,11 +39,11 @@ const NOTHING: Tally = Tally {
     drained: 0,
 };
 
-/// Where a generated session stands: the slot of the job that its last LOAD line made, what is counted so far,
-/// and whether it is over.
+/// Where a generated session stands: what `run` keeps of one, of which the number is that of the lines so far; what is
+/// counted so far; and whether it is over.
 #[derive(Clone, Copy, Debug, PartialEq, Eq)]
 pub struct Play {
-    pub slot: u8,
+    pub progress: Progress,
     pub tally: Tally,
     pub over: bool,
 }
@@ -113,153 +115,90 @@ fn play_all(m: &mut Monitor, n: u32) -> (u32, Tally)
     ensures lines { result.0 ≡ length (generated_session n) }
     ensures tally { result.1 ≡ generated_tally n }
 {
-    let mut play = Play {
+    let progress = Progress {
+        number: 0,
         slot: 0,
+        file: [Word::ZERO; 3],
+    };
+    let mut play = Play {
+        progress,
         tally: NOTHING,
         over: false,
     };
-    let mut k = 0;
+    let mut runs = ArrayVec::new();
     loop {
-        let Some(event) = generated(n, k) else {
-            return (k, play.tally);
+        let number = play.progress.number;
+        let Some(event) = generated(n, number) else {
+            return (number, play.tally);
         };
-        play_on(m, &mut play, &event);
-        k += 1;
+        play_on(m, &mut play, &event, &mut runs);
+        play.progress.number += 1;
     }
 }
 
-/// Plays an event, unless the session is over.
-#[tactic(auto, using(crate::proofs::TallyLaws::played_over, crate::proofs::TallyLaws::played_some, crate::proofs::TallyLaws::played_none))]
-fn play_on(m: &mut Monitor, play: &mut Play, event: &Event)
+/// Performs an event, unless the session is over, and counts what it shows.
+#[tactic(auto, using(crate::proofs::TallyLaws::played_over, crate::proofs::TallyLaws::played, crate::proofs::TallyLaws::generated_fits, crate::proofs::TallyLaws::generated_starts))]
+fn play_on(m: &mut Monitor, play: &mut Play, event: &Event, runs: &mut Runs)
     requires sound { Kept m.old.world }
-    requires slot { play.old.slot < slots }
+    requires slot { play.old.progress.slot < slots }
     requires fits { EventFits 1 event.now }
     requires kind { IsGenerated event.now }
     requires steps { play.old.tally.steps < 2 ^ 63 }
     requires drained { play.old.tally.drained < 2 ^ 63 }
     ensures played { PlayedOn play.old play.new (state_of m.old.world) (state_of m.new.world) event.now }
     ensures sound { Kept m.new.world }
-    ensures slot { play.new.slot < slots }
+    ensures slot { play.new.progress.slot < slots }
+    ensures number { play.new.progress.number ≡ play.old.progress.number }
     ensures steps { play.new.tally.steps ≤ play.old.tally.steps + 512 }
     ensures drained { play.new.tally.drained ≤ play.old.tally.drained + 64 }
 {
     if play.over {
         return;
     }
-    match play_event(m, &mut play.slot, event) {
-        Some(more) => {
-            play.tally.steps += more.steps;
-            play.tally.drained += more.drained;
-        }
-        None => play.over = true,
+    let performed = perform(m, &mut play.progress, event, runs);
+    let more = counted(&performed, runs);
+    play.tally.steps += more.steps;
+    play.tally.drained += more.drained;
+    play.over = performed.is_err();
+}
+
+/// What counts of what an event has come to.
+fn counted(performed: &Result<Shown, Over>, runs: &Runs) -> Tally
+    requires letters { length (paces_in runs.now.items) ≤ 512 }
+    ensures counted { result ≡ counted performed.now (paces_in runs.now.items) }
+    ensures few { (result.steps ≤ 512) × (result.drained ≤ 64) }
+{
+    match performed {
+        Ok(Shown::Line(reply)) => counted_line(reply, runs),
+        Ok(Shown::Nothing) => NOTHING,
+        Ok(Shown::Listed { .. }) => NOTHING,
+        Ok(Shown::Files { .. }) => NOTHING,
+        Ok(Shown::File { .. }) => NOTHING,
+        Err(_) => NOTHING,
     }
 }
 
-/// Gives an event of a generated session to the monitor: what it counts for, or None where the session is over.
-#[tactic(auto, using(crate::proofs::TallyLaws::end_counted), unfolding(its_session::specs::Grammar::last_slot))]
-fn play_event(m: &mut Monitor, slot: &mut u8, event: &Event) -> Option<Tally>
-    requires sound { Kept m.old.world }
-    requires slot { slot.old < slots }
-    requires fits { EventFits 1 event.now }
-    requires kind { IsGenerated event.now }
-    ensures counted { Counted result (state_of m.old.world) (block_at slot.old) event.now (state_of m.new.world) (block_at slot.new) }
-    ensures sound { Kept m.new.world }
-    ensures slot { slot.new < slots }
-    ensures few { IfSome result (λ t. (t.steps ≤ 512) × (t.drained ≤ 64)) }
+/// What counts of a line: the ticks that are marked, and the bytes that were drained.
+fn counted_line(reply: &Reply, runs: &Runs) -> Tally
+    requires letters { length (paces_in runs.now.items) ≤ 512 }
+    ensures counted { result ≡ tally_of (line_of reply.now (paces_in runs.now.items)) }
+    ensures few { (result.steps ≤ 512) × (result.drained ≤ 64) }
 {
-    match event {
-        Event::Load { u, j, console } => play_load(m, slot, *u, *j, *console),
-        Event::Words { a, words } => play_words(m, *slot, *a, words),
-        Event::Go { a } => play_go(m, *slot, *a),
-        Event::TypeIn { c, bytes } => play_type(m, *slot, *c, bytes),
-        Event::Tick { s, n } => play_ticks(m, *slot, *s, *n),
-        Event::Exam { s, a, n } => play_exam(m, *slot, *s, *a, *n),
-        Event::Drain { c, n } => play_drain(m, *slot, *c, *n),
-        Event::End => None,
-        _ => unreachable!(),
+    match reply {
+        Reply::Ticks { .. } => Tally {
+            steps: marked(runs),
+            drained: 0,
+        },
+        Reply::Drained { bytes, .. } => Tally {
+            steps: 0,
+            drained: bytes.len() as u64,
+        },
+        Reply::Loaded { .. } => NOTHING,
+        Reply::Typed { .. } => NOTHING,
+        Reply::Words { .. } => NOTHING,
+        Reply::State { .. } => NOTHING,
+        Reply::Peeked { .. } => NOTHING,
     }
-}
-
-/// The words of an a/ line.
-#[tactic(auto, using(crate::proofs::TallyLaws::words_counted))]
-fn play_words(m: &mut Monitor, slot: u8, a: u32, words: &[Word]) -> Option<Tally>
-    requires sound { Kept m.old.world }
-    requires slot { slot < slots }
-    requires some { 1 ≤ length words.now }
-    requires end { a + length words.now ≤ 2 ^ 18 }
-    ensures counted { Counted result (state_of m.old.world) (block_at slot) (Event.Words a (record { items = words.now })) (state_of m.new.world) (block_at slot) }
-    ensures sound { Kept m.new.world }
-    ensures few { IfSome result (λ t. (t.steps ≤ 512) × (t.drained ≤ 64)) }
-{
-    let loaded = load_words(m, slot, a, words);
-    uncounted(loaded)
-}
-
-/// GO.
-#[tactic(auto, using(crate::proofs::TallyLaws::go_counted))]
-fn play_go(m: &mut Monitor, slot: u8, a: u32) -> Option<Tally>
-    requires sound { Kept m.old.world }
-    requires slot { slot < slots }
-    requires address { a < 2 ^ 18 }
-    ensures counted { Counted result (state_of m.old.world) (block_at slot) (Event.Go a) (state_of m.new.world) (block_at slot) }
-    ensures sound { Kept m.new.world }
-    ensures few { IfSome result (λ t. (t.steps ≤ 512) × (t.drained ≤ 64)) }
-{
-    let started = m.go(slot, a);
-    uncounted(started)
-}
-
-/// TYPE.
-#[tactic(auto, using(crate::proofs::TallyLaws::typed_counted))]
-fn play_type(m: &mut Monitor, slot: u8, c: u8, bytes: &[u8]) -> Option<Tally>
-    requires sound { Kept m.old.world }
-    requires console { c < 8 }
-    requires some { 1 ≤ length bytes.now }
-    requires few { length bytes.now ≤ 32 }
-    ensures counted { Counted result (state_of m.old.world) (block_at slot) (Event.TypeIn c (record { items = bytes.now })) (state_of m.new.world) (block_at slot) }
-    ensures sound { Kept m.new.world }
-    ensures few { IfSome result (λ t. (t.steps ≤ 512) × (t.drained ≤ 64)) }
-{
-    let _dropped = type_bytes(m, c, bytes);
-    Some(NOTHING)
-}
-
-/// LOAD.
-#[tactic(auto, using(crate::proofs::TallyLaws::load_counted, crate::proofs::TallyLaws::load_over))]
-fn play_load(m: &mut Monitor, slot: &mut u8, u: Word, j: Word, console: Option<u8>) -> Option<Tally>
-    requires sound { Kept m.old.world }
-    requires slot { slot.old < slots }
-    requires console { IfSome console (λ c. c < 8) }
-    ensures counted { Counted result (state_of m.old.world) (block_at slot.old) (Event.Load u j console) (state_of m.new.world) (block_at slot.new) }
-    ensures sound { Kept m.new.world }
-    ensures slot { slot.new < slots }
-    ensures few { IfSome result (λ t. (t.steps ≤ 512) × (t.drained ≤ 64)) }
-{
-    match load_job(m, u, j, console) {
-        Ok(s) => {
-            *slot = s;
-            Some(NOTHING)
-        }
-        Err(_) => None,
-    }
-}
-
-/// TICK counts for the ticks that are marked.
-#[tactic(auto, using(crate::proofs::TallyLaws::ticks_counted))]
-fn play_ticks(m: &mut Monitor, slot: u8, s: u8, n: u32) -> Option<Tally>
-    requires sound { Kept m.old.world }
-    requires slot { s < slots }
-    requires few { n ≤ 512 }
-    ensures counted { Counted result (state_of m.old.world) (block_at slot) (Event.Tick s n) (state_of m.new.world) (block_at slot) }
-    ensures sound { Kept m.new.world }
-    ensures few { IfSome result (λ t. (t.steps ≤ 512) × (t.drained ≤ 64)) }
-{
-    let mut runs = ArrayVec::new();
-    paces_of(m, s, n, &mut runs);
-    Some(Tally {
-        steps: marked(&runs),
-        drained: 0,
-    })
 }
 
 /// How many ticks of these are marked.
@@ -287,51 +226,5 @@ fn mark(run: Run) -> u64
         Pace::Work => 0,
         Pace::Wait => 0,
         Pace::Off => 0,
-    }
-}
-
-/// EXAM.
-#[tactic(auto, using(crate::proofs::TallyLaws::exam_counted, crate::proofs::TallyLaws::exam_over))]
-fn play_exam(m: &mut Monitor, slot: u8, s: u8, a: u32, n: u32) -> Option<Tally>
-    requires sound { Kept m.old.world }
-    requires slot { s < slots }
-    requires few { n ≤ 8 }
-    requires some { 1 ≤ n }
-    requires end { a + n ≤ 2 ^ 18 }
-    ensures counted { Counted result (state_of m.old.world) (block_at slot) (Event.Exam s a n) (state_of m.new.world) (block_at slot) }
-    ensures sound { Kept m.new.world }
-    ensures few { IfSome result (λ t. (t.steps ≤ 512) × (t.drained ≤ 64)) }
-{
-    match words_of(m, s, a, n) {
-        Ok(_) => Some(NOTHING),
-        Err(_) => None,
-    }
-}
-
-/// DRAIN counts for its bytes.
-#[tactic(auto, using(crate::proofs::TallyLaws::drained_counted))]
-fn play_drain(m: &mut Monitor, slot: u8, c: u8, n: u32) -> Option<Tally>
-    requires sound { Kept m.old.world }
-    requires console { c < 8 }
-    requires few { n ≤ 64 }
-    ensures counted { Counted result (state_of m.old.world) (block_at slot) (Event.Drain c n) (state_of m.new.world) (block_at slot) }
-    ensures sound { Kept m.new.world }
-    ensures few { IfSome result (λ t. (t.steps ≤ 512) × (t.drained ≤ 64)) }
-{
-    let bytes = drain_bytes(m, c, n);
-    Some(Tally {
-        steps: 0,
-        drained: bytes.len() as u64,
-    })
-}
-
-/// The count of an event that shows nothing that counts.
-fn uncounted(answer: Result<(), Refusal>) -> Option<Tally>
-    ensures uncounted { result ≡ uncounted answer }
-    ensures few { IfSome result (λ t. (t.steps ≤ 512) × (t.drained ≤ 64)) }
-{
-    match answer {
-        Ok(()) => Some(NOTHING),
-        Err(_) => None,
     }
 }

@@ -10,8 +10,12 @@ mod consoles;
 mod counts;
 mod filing;
 mod generating;
+mod listing;
+mod performing;
+mod printing;
 mod progress;
 mod run;
+mod shown;
 mod status;
 #[cfg(test)]
 mod tests;

@@ -15,8 +15,8 @@ ghost use Rattle.its_top.specs.Answer.{FoundStart, block_of};
 ghost use Rattle.its_top.specs.Conclusion.{IsDone, Session, Takes};
 ghost use Rattle.its_top.specs.Top.{Transcribed, Completes, Refuses, RunsOn, Breaks, Begins};
 
-use super::answer::Runs;
 use super::circle::{HIGHEST, follow};
+use super::performing::Runs;
 use super::progress::Progress;
 use super::status::Status;
 use super::turn::Turn;

@@ -2,7 +2,7 @@ ghost use Rattle.std.specs.Prelude.{◌≡◌, ◌≢◌, ◌≤◌, ◌+◌, �
 ghost use Rattle.its_io.specs.Bytes.{next_fault};
 ghost use Rattle.its_print.specs.Printing.{Refused, text_of_line};
 ghost use Rattle.its_operator.specs.Kept.{reason_of};
-ghost use Rattle.its_top.specs.Answer.{Tells, Settled};
+ghost use Rattle.its_top.specs.Answer.{Tells};
 
 use super::turn::Turn;
 use arrayvec::ArrayVec;
@@ -60,17 +60,4 @@ pub fn refuse_by<K: Sink>(out: &mut K, number: u32, e: Refusal) -> Turn
     ensures fault { result ≡ Turn.Fault → K.faults out.new ≡ next_fault (K.faults out.old) }
 {
     refuse(out, number, reason_of(e))
-}
-
-/// The turn of a call of the monitor that shows nothing; its refusal is written.
-pub fn settle<K: Sink>(out: &mut K, number: u32, answer: Result<(), Refusal>) -> Turn
-    ensures settled { Settled answer result number (K.written out.old) (K.written out.new) }
-    ensures later { K.faults out.old ≤ K.faults out.new }
-    ensures unfailed { result ≢ Turn.Fault → K.faults out.new ≡ K.faults out.old }
-    ensures fault { result ≡ Turn.Fault → K.faults out.new ≡ next_fault (K.faults out.old) }
-{
-    match answer {
-        Ok(()) => Turn::On,
-        Err(e) => refuse_by(out, number, e),
-    }
 }

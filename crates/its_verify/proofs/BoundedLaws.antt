@@ -4,6 +4,7 @@ use Rattle.std.proofs.Common.{◌≡◌, ◌<◌, ◌≤◌, ◌⊎◌, ℕ, leb
 use Rattle.std.proofs.lemmas.Bool.{cases_Bool, cases_lt, le-leb, lt-leb, leb-true}
 use Rattle.its_word.specs.Item.{Item}
 use Rattle.its_plain.specs.Transcript.{at_start}
+use Rattle.its_plain.specs.Unrolled.{highest}
 use Rattle.its_verify.specs.Accepted.{AcceptedLines, Begins, IsFirst}
 use Rattle.its_verify.specs.Judge.{Verdict, Yes, No, judged}
 use Rattle.its_verify.specs.Verified.{Answer, Judged, TooLong, bounded, within}
@@ -53,11 +54,11 @@ front_of_first es texts room n more few f =
     }
 
 -- where there is room for all lines
-all_fit : (room : ℕ) (es : List Item) (texts : List (List ℕ)) → length texts ≤ room → bounded room es texts ≡ Judged (judged at_start es 0 texts)
+all_fit : (room : ℕ) (es : List Item) (texts : List (List ℕ)) → length texts ≤ room → bounded room es texts ≡ Judged (judged at_start highest es 0 texts)
 unfolding bounded
 all_fit room es texts few = rw (le-leb (length texts) room few) refl
 
-too_many : (room : ℕ) (es : List Item) (texts : List (List ℕ)) → room < length texts → bounded room es texts ≡ within room (judged at_start es 0 (take room texts))
+too_many : (room : ℕ) (es : List Item) (texts : List (List ℕ)) → room < length texts → bounded room es texts ≡ within room (judged at_start highest es 0 (take room texts))
 unfolding bounded
 too_many room es texts more = rw (lt-leb (length texts) room more) refl
 
@@ -88,11 +89,11 @@ pub yes_has : (room : ℕ) (es : List Item) (texts : List (List ℕ)) (k : ℕ) 
 yes_has room es texts k h =
     elim (cases_lt room (length texts)) [
       | inl more ↦
-          (let n = within_names room (judged at_start es 0 (take room texts)) (Yes k) (sym (too_many room es texts more) ∙ h) in
+          (let n = within_names room (judged at_start highest es 0 (take room texts)) (Yes k) (sym (too_many room es texts more) ∙ h) in
           let s = n.said in
           absurd cc)
       | inr few ↦
-          (let y = yes_lines es texts k (judged_is (judged at_start es 0 texts) (Yes k) (sym (all_fit room es texts few) ∙ h)) in
+          (let y = yes_lines es texts k (judged_is (judged at_start highest es 0 texts) (Yes k) (sym (all_fit room es texts few) ∙ h)) in
           record { few = few; many = y.0; accepted = y.1 })
     ]
 
@@ -108,12 +109,12 @@ pub no_has : (room : ℕ) (es : List Item) (texts : List (List ℕ)) (n : ℕ) �
 no_has room es texts n h =
     elim (cases_lt room (length texts)) [
       | inl more ↦
-          (let y = within_names room (judged at_start es 0 (take room texts)) (No n) (sym (too_many room es texts more) ∙ h) in
+          (let y = within_names room (judged at_start highest es 0 (take room texts)) (No n) (sym (too_many room es texts more) ∙ h) in
           let is : y.line ≡ n = (let s = y.said in cc) in
           let few : n ≤ room = (let f = y.few in omega arith) in
           record { room_for = inr few; first = first_of_front es texts room n more few (no_lines es (take room texts) n (y.first ∙ ap No is)) })
       | inr few ↦
-          record { room_for = inl few; first = no_lines es texts n (judged_is (judged at_start es 0 texts) (No n) (sym (all_fit room es texts few) ∙ h)) }
+          record { room_for = inl few; first = no_lines es texts n (judged_is (judged at_start highest es 0 texts) (No n) (sym (all_fit room es texts few) ∙ h)) }
     ]
 
 pub has_no : (room : ℕ) (es : List Item) (texts : List (List ℕ)) (n : ℕ) → NotYet room es texts n → bounded room es texts ≡ Judged (No n)
@@ -143,7 +144,7 @@ long_past room es texts h =
                   | inr few ↦ absurd (long_judged (No n) (sym h ∙ has_no room es texts n (record { room_for = inr few; first = f })))
                 ];
           }
-      | inr few ↦ absurd (long_judged (judged at_start es 0 texts) (sym h ∙ all_fit room es texts few))
+      | inr few ↦ absurd (long_judged (judged at_start highest es 0 texts) (sym h ∙ all_fit room es texts few))
     ]
 
 within_past : (room : ℕ) (v : Verdict) → ((n : ℕ) → v ≡ No n → room < n) → within room v ≡ TooLong
@@ -153,7 +154,7 @@ within_past room (No m) h = rw (lt-leb m room (h m refl)) refl
 pub past_long : (room : ℕ) (es : List Item) (texts : List (List ℕ)) → Past room es texts → bounded room es texts ≡ TooLong
 past_long room es texts p =
     too_many room es texts p.more
-    ∙ within_past room (judged at_start es 0 (take room texts))
+    ∙ within_past room (judged at_start highest es 0 (take room texts))
     (λ n is.
     elim (cases_lt room n) [
       | inl past ↦ past

@@ -1,5 +1,6 @@
 -- Worked examples of the judge, evaluated: the transcripts of small sessions, whole and with one letter, line or LF changed.
 use Rattle.std.specs.Prelude.{◌≡◌, ℕ, true, false, Some, List, [], ◌∷◌, ◌++◌, codes, map, refl, replicate}
+use Rattle.its_robin.specs.Robin.{first_running, robin}
 use Rattle.its_word.specs.Item.{Read}
 use Rattle.its_word.specs.Text.{digits_of, is_octal, octal_value, spaced}
 use Rattle.its_word.specs.declared.session.Event.TheVariants as events
@@ -10,9 +11,10 @@ use Rattle.its_plain.specs.Machine.{Whole, no_machine}
 use Rattle.its_plain.specs.OperatorJobs.{state_shown}
 use Rattle.its_plain.specs.OperatorLines.{lined, operate}
 use Rattle.its_plain.specs.Transcript.{Walk, at_start}
+use Rattle.its_plain.specs.Unrolled.{highest}
 use Rattle.its_reader.specs.TextLines.{lines_in}
 use Rattle.its_verify.specs.Lines.{is_peek}
-use Rattle.its_verify.specs.Judge.{Yes, No, judged}
+use Rattle.its_verify.specs.Judge.{Verdict, Yes, No, judged}
 use Rattle.its_verify.specs.Letters.{ticks_in}
 use Rattle.its_verify.specs.Verified.{verified, bounded, is_end_line, Judged, Cut, Long}
 
@@ -64,9 +66,41 @@ with_job q = record at_start { machine = record no_machine { jobs = λ k. Some q
 abbrev peeks : List (List ℕ)
 peeks = line (codes "P 0 USER - 0 - - -") ∷ line (codes "P") ∷ line (codes "  P here") ∷ line (codes "PP") ∷ line (codes "Q P") ∷ line [] ∷ codes "P" ∷ (line (codes "P") ++ line (codes "P")) ∷ []
 
-peeked : (q : Whole) → map (λ text. judged (with_job q) (Read (events.Peek 0) ∷ []) 0 (lines_in text)) peeks ≡ Yes 1 ∷ Yes 1 ∷ Yes 1 ∷ No 1 ∷ No 1 ∷ No 1 ∷ No 1 ∷ No 2 ∷ []
+peeked : (q : Whole) → map (λ text. judged (with_job q) highest (Read (events.Peek 0) ∷ []) 0 (lines_in text)) peeks ≡ Yes 1 ∷ Yes 1 ∷ Yes 1 ∷ No 1 ∷ No 1 ∷ No 1 ∷ No 1 ∷ No 2 ∷ []
 unfolding lined lines_in is_peek words_of
 peeked q = refl
+
+-- RUN where a job runs in each slot: the turns in their order; one that is missing, of another slot, with a letter that is not licensed,
+-- and one too many
+abbrev running : Whole → Walk
+running q = with_job (record q { job = record q.job { stopped = false } })
+
+abbrev turns : List (List ℕ)
+turns =
+    (line (codes "T 0 1.") ++ line (codes "T 1 1."))
+    ∷ line (codes "T 0 1.")
+    ∷ (line (codes "T 0 1.") ++ line (codes "T 0 1."))
+    ∷ line (codes "T 1 1.")
+    ∷ (line (codes "T 0 1.") ++ line (codes "T 1 1-"))
+    ∷ (line (codes "T 0 1.") ++ line (codes "T 1 1.") ++ line (codes "T 2 1."))
+    ∷ []
+
+abbrev turn_answers : List Verdict
+turn_answers = Yes 2 ∷ No 2 ∷ No 2 ∷ No 1 ∷ No 2 ∷ No 3 ∷ []
+
+run_turns : (q : Whole) → map (λ text. judged (running q) highest (Read (events.Run 2 1) ∷ []) 0 (lines_in text)) turns ≡ turn_answers
+unfolding lined operate lines_in ticks_in text_of_line runs_of spaced digits_of robin first_running
+run_turns q = refl
+
+-- the next RUN goes on behind the last turn
+next_turns : (q : Whole) → map (λ text. judged (running q) highest (Read (events.Run 1 1) ∷ Read (events.Run 1 1) ∷ []) 0 (lines_in text)) turns ≡ turn_answers
+unfolding lined operate lines_in ticks_in text_of_line runs_of spaced digits_of robin first_running
+next_turns q = refl
+
+-- where no job runs, RUN shows nothing
+no_turns : map (λ text. judged at_start highest (Read (events.Run 2 1) ∷ []) 0 (lines_in text)) ([] ∷ line (codes "T 0 1-") ∷ []) ≡ Yes 0 ∷ No 1 ∷ []
+unfolding lined operate lines_in no_machine robin first_running
+no_turns = refl
 
 -- a `P` line has at most 1543 bytes before its LF
 longest : is_peek (line (codes "P " ++ replicate 1541 88)) ≡ true

@@ -1,5 +1,5 @@
 -- The judge is right about the lines that are a transcript from where the session stands on.
-use Rattle.std.proofs.Common.{◌≡◌, ℕ, Bool, true, Option, Some, None, List, [], ◌∷◌, ◌++◌, length, refl, subst}
+use Rattle.std.proofs.Common.{◌≡◌, ℕ, zero, suc, Bool, true, Option, Some, None, List, [], ◌∷◌, ◌++◌, length, refl, subst}
 use Rattle.std.proofs.lemmas.Slice.Eq.{bytes_eq-Decides}
 use Rattle.its_word.specs.Item.{Item, Read, Unread, InTurn, Beyond}
 use Rattle.its_word.specs.declared.calls.Pace.{Pace}
@@ -13,11 +13,13 @@ use Rattle.its_plain.specs.Machine.{Machine}
 use Rattle.its_plain.specs.Operator.{Block, Refuses, Does, Quits}
 use Rattle.its_plain.specs.Operator as operator
 use Rattle.its_plain.specs.Transcript.{Fate, Ended, Open, Lost, TooLong, Walk, walk_after, next_line}
+use Rattle.its_plain.specs.Unrolled.{turn_after, turns_asked, ticks_asked}
 use Rattle.its_plain.proofs.RunLaws.{PacedOn, LinedOn, Run}
 use Rattle.its_verify.specs.Lines.{Said, is_peek, says}
 use Rattle.its_verify.specs.Letters.{paced, ticked, ticks_in}
-use Rattle.its_verify.specs.Judge.{Judge, at_end, gone, judged, led, peeking, saying, told}
+use Rattle.its_verify.specs.Judge.{Judge, at_end, gone, judged, led, peeking, saying, taken, told, turned, turned_by}
 use Rattle.its_verify.proofs.LicenceLaws.{any_letters, if_so_is, on_paced, paced_on, said_ticks, then_of, ticked_some}
+use Rattle.its_verify.proofs.TurnLaws.{SessionOn, TurnBy, TurnsOn}
 use Rattle.its_verify.proofs.RightLaws.{Finished, Led, LedBy, Right, led_on, right_as, right_at_end, right_led}
 
 -- a text that says a line
@@ -96,12 +98,12 @@ said_told [] (t ∷ ts) h = h
 said_told (l ∷ ls) [] h = h
 said_told (l ∷ ls) (t ∷ ts) h = led_on (saying l) (λ text. Told ls Finished) t t ts (said_led l t h.0) (said_told ls ts h.1)
 
--- lines that are a transcript from the walk on, at these events, and their texts
-abbrev pub From : Walk → List Item → List (List ℕ) → Type 0
-From v es texts = Along [] (Run v es) texts
+-- what is shown from where a session stands on
+abbrev pub Next : Type 1
+Next = Walk → List Line → Fate → Type 0
 
-abbrev OnLined : Walk → Lined → List Item → List Line → Fate → Type 0
-OnLined v l es lines fate = LinedOn v l (λ w rest. Run w es rest fate) lines fate
+abbrev OnLined : Walk → Lined → Next → List Line → Fate → Type 0
+OnLined v l S lines fate = LinedOn v l (λ w rest. S w rest fate) lines fate
 
 -- known lines, and no more
 right_known : (known : List Line) (S : List Line → Fate → Type 0) (fate : Fate) → S known fate → ((lines : List Line) (f : Fate) → S lines f → lines ≡ known)
@@ -111,66 +113,65 @@ right_known known S fate there only =
     (λ ts a. said_told known ts (subst (λ (ls : List Line). Said ls ts) (only a.rest a.fate a.holds) a.said)) (right_told known Finished at_end right_at_end)
 
 -- a line that does something shows its lines first
-right_does : (v : Walk) (n : Machine) (out : List Line) (touched : ℕ → Bool) (b : Block) (es : List Item) (judge : Judge)
-    → Right (From (next_line (walk_after v n touched b)) es) judge → Right (Along [] (OnLined v (Done (Does n out touched b)) es)) (told out judge)
-right_does v n out touched b es judge next =
+right_does : (v : Walk) (n : Machine) (out : List Line) (touched : ℕ → Bool) (b : Block) (S : Next) (judge : Judge)
+    → Right (Along [] (S (next_line (walk_after v n touched b)))) judge → Right (Along [] (OnLined v (Done (Does n out touched b)) S)) (told out judge)
+right_does v n out touched b S judge next =
     let w = next_line (walk_after v n touched b) in
-    right_as (Told out (From w es)) (Along [] (OnLined v (Done (Does n out touched b)) es)) (told out judge)
-    (λ ts h. (let a = told_along out (Run w es) ts h in record { rest = out ++ a.rest; fate = a.fate; holds = (a.rest, refl, a.holds); said = a.said }))
+    right_as (Told out (Along [] (S w))) (Along [] (OnLined v (Done (Does n out touched b)) S)) (told out judge)
+    (λ ts h. (let a = told_along out (S w) ts h in record { rest = out ++ a.rest; fate = a.fate; holds = (a.rest, refl, a.holds); said = a.said }))
     (λ ts a.
-    along_told out (Run w es) ts
+    along_told out (S w) ts
     (record { rest = a.holds.0; fate = a.fate; holds = a.holds.2; said = subst (λ (ls : List Line). Said ls ts) a.holds.1 a.said }))
-    (right_told out (From w es) judge next)
+    (right_told out (Along [] (S w)) judge next)
 
 -- ticks of a line, or of a turn: where the session stands behind its letters
-abbrev TicksOn : (Walk → Walk) → Walk → ℕ → ℕ → List Item → List Line → Fate → Type 0
-TicksOn f v i k es lines fate = (ps : List Pace) × (rest : List Line) × (lines ≡ Ticks i ps ∷ rest) × (length ps ≡ k) × PacedOn v i ps (λ w. Run (f w) es rest fate)
+abbrev TicksOn : Walk → ℕ → ℕ → Next → List Line → Fate → Type 0
+TicksOn v i k S lines fate = (ps : List Pace) × (rest : List Line) × (lines ≡ Ticks i ps ∷ rest) × (length ps ≡ k) × PacedOn v i ps (λ w. S w rest fate)
 
-ticks_to : (f : Walk → Walk) (v : Walk) (i k : ℕ) (es : List Item) (t : List ℕ) (ts : List (List ℕ)) (o : Option Walk) → ticked v i k t ≡ o → LedBy o (λ w. From (f w) es) ts
-    → Along [] (TicksOn f v i k es) (t ∷ ts)
-ticks_to f v i k es t ts None is h = absurd h
-ticks_to f v i k es t ts (Some w) is h =
+ticks_to : (v : Walk) (i k : ℕ) (S : Next) (t : List ℕ) (ts : List (List ℕ)) (o : Option Walk) → ticked v i k t ≡ o → LedBy o (λ w. Along [] (S w)) ts
+    → Along [] (TicksOn v i k S) (t ∷ ts)
+ticks_to v i k S t ts None is h = absurd h
+ticks_to v i k S t ts (Some w) is h =
     let p = then_of (paced v i) (ticks_in i k t) w is in
     let said = said_ticks i k t p.value p.first in
     record {
       rest = Ticks i p.value ∷ h.rest;
       fate = h.fate;
-      holds = (p.value, h.rest, refl, said.0, paced_on v i p.value w (λ u. Run (f u) es h.rest h.fate) p.last h.holds);
+      holds = (p.value, h.rest, refl, said.0, paced_on v i p.value w (λ u. S u h.rest h.fate) p.last h.holds);
       said = (said.1, h.said);
     }
 
-to_ticks : (f : Walk → Walk) (v : Walk) (i k : ℕ) (es : List Item) (texts : List (List ℕ)) (ps : List Pace) (rest : List Line) (fate : Fate) → length ps ≡ k
-    → PacedOn v i ps (λ w. Run (f w) es rest fate) → Said (Ticks i ps ∷ rest) texts → Led (ticked v i k) (λ w. From (f w) es) texts
-to_ticks f v i k es [] ps rest fate many paces said = absurd said
-to_ticks f v i k es (t ∷ ts) ps rest fate many paces said =
-    let p = on_paced v i ps (λ w. Run (f w) es rest fate) paces in
-    led_on (ticked v i k) (λ w. From (f w) es) t p.to ts (ticked_some v i k t ps p.to many said.0 p.paces)
+to_ticks : (v : Walk) (i k : ℕ) (S : Next) (texts : List (List ℕ)) (ps : List Pace) (rest : List Line) (fate : Fate) → length ps ≡ k
+    → PacedOn v i ps (λ w. S w rest fate) → Said (Ticks i ps ∷ rest) texts → Led (ticked v i k) (λ w. Along [] (S w)) texts
+to_ticks v i k S [] ps rest fate many paces said = absurd said
+to_ticks v i k S (t ∷ ts) ps rest fate many paces said =
+    let p = on_paced v i ps (λ w. S w rest fate) paces in
+    led_on (ticked v i k) (λ w. Along [] (S w)) t p.to ts (ticked_some v i k t ps p.to many said.0 p.paces)
     (record { rest = rest; fate = fate; holds = p.at; said = said.1 })
 
-ticks_led : (f : Walk → Walk) (v : Walk) (i k : ℕ) (es : List Item) (texts : List (List ℕ)) → Led (ticked v i k) (λ w. From (f w) es) texts
-    → Along [] (TicksOn f v i k es) texts
-ticks_led f v i k es [] h = absurd h
-ticks_led f v i k es (t ∷ ts) h = ticks_to f v i k es t ts (ticked v i k t) refl h
+ticks_led : (v : Walk) (i k : ℕ) (S : Next) (texts : List (List ℕ)) → Led (ticked v i k) (λ w. Along [] (S w)) texts → Along [] (TicksOn v i k S) texts
+ticks_led v i k S [] h = absurd h
+ticks_led v i k S (t ∷ ts) h = ticks_to v i k S t ts (ticked v i k t) refl h
 
-right_ticks : (f : Walk → Walk) (v : Walk) (i k : ℕ) (es : List Item) (judge : Walk → Judge) → ((w : Walk) → Right (From w es) (judge w))
-    → Right (Along [] (TicksOn f v i k es)) (led (ticked v i k) (λ w. judge (f w)))
-right_ticks f v i k es judge next =
+right_ticks : (v : Walk) (i k : ℕ) (S : Next) (judge : Walk → Judge) → ((w : Walk) → Right (Along [] (S w)) (judge w))
+    → Right (Along [] (TicksOn v i k S)) (led (ticked v i k) judge)
+right_ticks v i k S judge next =
     let any = any_letters v i k in
     let text = text_of_line (Ticks i any.paces) in
-    right_as (Led (ticked v i k) (λ w. From (f w) es)) (Along [] (TicksOn f v i k es)) (led (ticked v i k) (λ w. judge (f w)))
-    (ticks_led f v i k es)
-    (λ ts a. to_ticks f v i k es ts a.holds.0 a.holds.1 a.fate a.holds.3 a.holds.4 (subst (λ (ls : List Line). Said ls ts) a.holds.2 a.said))
-    (right_led (ticked v i k) (λ w. From (f w) es) (λ w. judge (f w)) text any.to
-    (ticked_some v i k text any.paces any.to any.many (same_text text) any.leads) (λ w. next (f w)))
+    right_as (Led (ticked v i k) (λ w. Along [] (S w))) (Along [] (TicksOn v i k S)) (led (ticked v i k) judge)
+    (ticks_led v i k S)
+    (λ ts a. to_ticks v i k S ts a.holds.0 a.holds.1 a.fate a.holds.3 a.holds.4 (subst (λ (ls : List Line). Said ls ts) a.holds.2 a.said))
+    (right_led (ticked v i k) (λ w. Along [] (S w)) judge text any.to
+    (ticked_some v i k text any.paces any.to any.many (same_text text) any.leads) next)
 
 -- a peek
 a_peek : Peek
 a_peek = record { state = User; name = None; left = 0; a = None; b = None; h = None }
 
-peek_to : (v : Walk) (i : ℕ) (es : List Item) (t : List ℕ) (ts : List (List ℕ)) (o : Option (List ℕ)) → peeking t ≡ o → LedBy o (λ text. From (next_line v) es) ts
-    → Along [] (OnLined v (Peeks i) es) (t ∷ ts)
-peek_to v i es t ts None is h = absurd h
-peek_to v i es t ts (Some text) is h =
+peek_to : (v : Walk) (i : ℕ) (S : Next) (t : List ℕ) (ts : List (List ℕ)) (o : Option (List ℕ)) → peeking t ≡ o → LedBy o (λ text. Along [] (S (next_line v))) ts
+    → Along [] (OnLined v (Peeks i) S) (t ∷ ts)
+peek_to v i S t ts None is h = absurd h
+peek_to v i S t ts (Some text) is h =
     record {
       rest = Peeked i a_peek ∷ h.rest;
       fate = h.fate;
@@ -178,35 +179,68 @@ peek_to v i es t ts (Some text) is h =
       said = ((if_so_is (is_peek t) t text is).0, h.said);
     }
 
-to_peek : (v : Walk) (i : ℕ) (es : List Item) (texts : List (List ℕ)) (peek : Peek) (rest : List Line) (fate : Fate) → Run (next_line v) es rest fate
-    → Said (Peeked i peek ∷ rest) texts → Led peeking (λ text. From (next_line v) es) texts
-to_peek v i es [] peek rest fate run said = absurd said
-to_peek v i es (t ∷ ts) peek rest fate run said =
-    led_on peeking (λ text. From (next_line v) es) t t ts (rw said.0 refl) (record { rest = rest; fate = fate; holds = run; said = said.1 })
+to_peek : (v : Walk) (i : ℕ) (S : Next) (texts : List (List ℕ)) (peek : Peek) (rest : List Line) (fate : Fate) → S (next_line v) rest fate
+    → Said (Peeked i peek ∷ rest) texts → Led peeking (λ text. Along [] (S (next_line v))) texts
+to_peek v i S [] peek rest fate holds said = absurd said
+to_peek v i S (t ∷ ts) peek rest fate holds said =
+    led_on peeking (λ text. Along [] (S (next_line v))) t t ts (rw said.0 refl) (record { rest = rest; fate = fate; holds = holds; said = said.1 })
 
-peek_led : (v : Walk) (i : ℕ) (es : List Item) (texts : List (List ℕ)) → Led peeking (λ text. From (next_line v) es) texts → Along [] (OnLined v (Peeks i) es) texts
-peek_led v i es [] h = absurd h
-peek_led v i es (t ∷ ts) h = peek_to v i es t ts (peeking t) refl h
+peek_led : (v : Walk) (i : ℕ) (S : Next) (texts : List (List ℕ)) → Led peeking (λ text. Along [] (S (next_line v))) texts → Along [] (OnLined v (Peeks i) S) texts
+peek_led v i S [] h = absurd h
+peek_led v i S (t ∷ ts) h = peek_to v i S t ts (peeking t) refl h
 
-right_peek : (v : Walk) (i : ℕ) (es : List Item) (judge : Judge) → Right (From (next_line v) es) judge → Right (Along [] (OnLined v (Peeks i) es)) (led peeking (λ text. judge))
-right_peek v i es judge next =
-    right_as (Led peeking (λ text. From (next_line v) es)) (Along [] (OnLined v (Peeks i) es)) (led peeking (λ text. judge))
-    (peek_led v i es)
-    (λ ts a. to_peek v i es ts a.holds.0 a.holds.1 a.fate a.holds.3 (subst (λ (ls : List Line). Said ls ts) a.holds.2 a.said))
-    (right_led peeking (λ text. From (next_line v) es) (λ text. judge) p_line p_line (rw short_peek refl) (λ text. next))
+right_peek : (v : Walk) (i : ℕ) (S : Next) (judge : Judge) → Right (Along [] (S (next_line v))) judge → Right (Along [] (OnLined v (Peeks i) S)) (led peeking (λ text. judge))
+right_peek v i S judge next =
+    right_as (Led peeking (λ text. Along [] (S (next_line v)))) (Along [] (OnLined v (Peeks i) S)) (led peeking (λ text. judge))
+    (peek_led v i S)
+    (λ ts a. to_peek v i S ts a.holds.0 a.holds.1 a.fate a.holds.3 (subst (λ (ls : List Line). Said ls ts) a.holds.2 a.said))
+    (right_led peeking (λ text. Along [] (S (next_line v))) (λ text. judge) p_line p_line (rw short_peek refl) (λ text. next))
 
 -- a line of the session that comes to l
-right_gone : (v : Walk) (l : Lined) (es : List Item) → ((w : Walk) → Right (From w es) (judged w es)) → Right (Along [] (OnLined v l es)) (gone v l (λ w. judged w es))
-right_gone v (Done (Refuses r)) es next = right_known (Refused v.line r ∷ []) (OnLined v (Done (Refuses r)) es) Lost (refl, refl) (λ lines f h. h.0)
-right_gone v (Done (Does n out touched b)) es next =
-    right_does v n out touched b es (judged (next_line (walk_after v n touched b)) es) (next (next_line (walk_after v n touched b)))
-right_gone v (Done (operator.Ticks i k)) es next = right_ticks next_line v i k es (λ w. judged w es) next
-right_gone v (Done Quits) es next = right_known [] (OnLined v (Done Quits) es) Ended (refl, refl) (λ lines f h. h.0)
-right_gone v (Peeks i) es next = right_peek v i es (judged (next_line v) es) (next (next_line v))
+right_gone : (v : Walk) (l : Lined) (S : Next) (judge : Walk → Judge) → ((w : Walk) → Right (Along [] (S w)) (judge w)) → Right (Along [] (OnLined v l S)) (gone v l judge)
+right_gone v (Done (Refuses r)) S judge next = right_known (Refused v.line r ∷ []) (OnLined v (Done (Refuses r)) S) Lost (refl, refl) (λ lines f h. h.0)
+right_gone v (Done (Does n out touched b)) S judge next =
+    right_does v n out touched b S (judge (next_line (walk_after v n touched b))) (next (next_line (walk_after v n touched b)))
+right_gone v (Done (operator.Ticks i k)) S judge next =
+    right_ticks v i k (λ w. S (next_line w)) (λ w. judge (next_line w)) (λ w. next (next_line w))
+right_gone v (Done Quits) S judge next = right_known [] (OnLined v (Done Quits) S) Ended (refl, refl) (λ lines f h. h.0)
+right_gone v (Peeks i) S judge next = right_peek v i S (judge (next_line v)) (next (next_line v))
 
-pub right_judged : (es : List Item) (v : Walk) → Right (From v es) (judged v es)
-right_judged [] v = right_known [] (Run v []) Open (refl, refl) (λ lines f h. h.0)
-right_judged (Read e ∷ es) v = right_gone v (lined v.machine v.block e) es (λ w. right_judged es w)
-right_judged (InTurn i k ∷ es) v = right_ticks (λ w. w) v i k es (λ w. judged w es) (λ w. right_judged es w)
-right_judged (Unread r ∷ es) v = right_known (Refused v.line r ∷ []) (Run v (Unread r ∷ es)) Lost (refl, refl) (λ lines f h. h.0)
-right_judged (Beyond ∷ es) v = right_known [] (Run v (Beyond ∷ es)) TooLong (refl, refl) (λ lines f h. h.0)
+-- items among which the turns stand
+right_taken : (es : List Item) (v : Walk) → Right (Along [] (Run v es)) (taken v es)
+right_taken [] v = right_known [] (Run v []) Open (refl, refl) (λ lines f h. h.0)
+right_taken (Read e ∷ es) v = right_gone v (lined v.machine v.block e) (λ w. Run w es) (λ w. taken w es) (λ w. right_taken es w)
+right_taken (InTurn i k ∷ es) v = right_ticks v i k (λ w. Run w es) (λ w. taken w es) (λ w. right_taken es w)
+right_taken (Unread r ∷ es) v = right_known (Refused v.line r ∷ []) (Run v (Unread r ∷ es)) Lost (refl, refl) (λ lines f h. h.0)
+right_taken (Beyond ∷ es) v = right_known [] (Run v (Beyond ∷ es)) TooLong (refl, refl) (λ lines f h. h.0)
+
+-- turns, and what follows them
+abbrev Turns : ℕ → ℕ → Walk → ℕ → (Walk → ℕ → List Line → Fate → Type 0) → List Line → Fate → Type 0
+Turns n q v last S lines fate = TurnsOn n q v last (λ w s rest. S w s rest fate) lines
+
+abbrev Turned : ℕ → ℕ → Walk → ℕ → Option ℕ → (Walk → ℕ → List Line → Fate → Type 0) → List Line → Fate → Type 0
+Turned n q v last o S lines fate = TurnBy q v o (λ w s rest. Turns n q w s S rest fate) (S v last lines fate) lines
+
+right_turn : (n q : ℕ) (v : Walk) (last : ℕ) (o : Option ℕ) (S : Walk → ℕ → List Line → Fate → Type 0) (more : Walk → ℕ → Judge) (done : Judge)
+    → ((w : Walk) (s : ℕ) → Right (Along [] (Turns n q w s S)) (more w s)) → Right (Along [] (S v last)) done → Right (Along [] (Turned n q v last o S)) (turned_by q v o more done)
+right_turn n q v last None S more done each end = end
+right_turn n q v last (Some s) S more done each end = right_ticks v s q (λ w. Turns n q w s S) (λ w. more w s) (λ w. each w s)
+
+right_turns : (n q : ℕ) (v : Walk) (last : ℕ) (S : Walk → ℕ → List Line → Fate → Type 0) (judge : Walk → ℕ → Judge)
+    → ((w : Walk) (s : ℕ) → Right (Along [] (S w s)) (judge w s)) → Right (Along [] (Turns n q v last S)) (turned n q v last judge)
+right_turns zero q v last S judge each = each v last
+right_turns (suc n) q v last S judge each =
+    right_turn n q v last (turn_after v.machine last) S (λ w s. turned n q w s judge) (judge v last) (λ w s. right_turns n q w s S judge each) (each v last)
+
+-- lines that are shown by a session from the walk on, after a turn of the last slot, and their texts
+abbrev pub From : Walk → ℕ → List Item → List (List ℕ) → Type 0
+From v last es texts = Along [] (SessionOn v last es) texts
+
+pub right_judged : (es : List Item) (v : Walk) (last : ℕ) → Right (From v last es) (judged v last es)
+right_judged [] v last = right_taken [] v
+right_judged (Read e ∷ es) v last =
+    right_gone v (lined v.machine v.block e) (λ w. Turns (turns_asked e) (ticks_asked e) w last (λ x s. SessionOn x s es)) (λ w. turned (turns_asked e) (ticks_asked e) w last (λ x s. judged x s es))
+    (λ w. right_turns (turns_asked e) (ticks_asked e) w last (λ x s. SessionOn x s es) (λ x s. judged x s es) (λ x s. right_judged es x s))
+right_judged (InTurn i k ∷ es) v last = right_taken (InTurn i k ∷ es) v
+right_judged (Unread r ∷ es) v last = right_taken (Unread r ∷ es) v
+right_judged (Beyond ∷ es) v last = right_taken (Beyond ∷ es) v

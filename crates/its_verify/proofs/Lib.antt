@@ -4,6 +4,7 @@ pub mod PrintedLaws
 pub mod PaceLaws
 pub mod LicenceLaws
 pub mod RightLaws
+pub mod TurnLaws
 pub mod JudgeLaws
 pub mod VerdictLaws
 pub mod BoundedLaws
@@ -13,4 +14,7 @@ pub mod TickLaws
 pub mod EndLaws
 pub mod SourceLaws
 pub mod KeepLaws
+pub mod HearingLaws
+pub mod ItemLaws
+pub mod WholeLaws
 mod Examples

@@ -10,9 +10,10 @@ use Rattle.its_plain.specs.CallStep.{step}
 use Rattle.its_plain.specs.Licence.{IsRunning, IsOff, Licensed, most_dots}
 use Rattle.its_plain.specs.Machine.{Whole, Machine}
 use Rattle.its_plain.specs.Transcript.{Walk, after_letter}
+use Rattle.its_plain.specs.Unrolled.{is_running}
 use Rattle.its_plain.proofs.RunLaws.{PacedOn}
 use Rattle.its_verify.specs.Lines.{says}
-use Rattle.its_verify.specs.Letters.{if_so, runs, led_to, paces_from, paced, ticks_in, ticked}
+use Rattle.its_verify.specs.Letters.{if_so, led_to, paces_from, paced, ticks_in, ticked}
 use Rattle.its_verify.proofs.PaceLaws.{paces_again}
 
 pub if_so_is : {X : Type 0} (b : Bool) (x y : X) → if_so b x ≡ Some y → (b ≡ true) × (x ≡ y)
@@ -29,19 +30,19 @@ then_of f None y h = absurd cc
 then_of f (Some x) y h = record { value = x; first = refl; last = h }
 
 -- whether the job of a slot runs
-runs_running : (o : Option Whole) → runs o ≡ true → IsRunning o
+runs_running : (o : Option Whole) → is_running o ≡ true → IsRunning o
 runs_running None h = false≢true h
 runs_running (Some q) h = not-true q.job.stopped h
 
-running_runs : (o : Option Whole) → IsRunning o → runs o ≡ true
+running_runs : (o : Option Whole) → IsRunning o → is_running o ≡ true
 running_runs None h = absurd h
 running_runs (Some q) h = rw h refl
 
-runs_off : (o : Option Whole) → runs o ≡ false → IsOff o
+runs_off : (o : Option Whole) → is_running o ≡ false → IsOff o
 runs_off None h = tt
 runs_off (Some q) h = not-false q.job.stopped h
 
-off_runs : (o : Option Whole) → IsOff o → runs o ≡ false
+off_runs : (o : Option Whole) → IsOff o → is_running o ≡ false
 off_runs None h = refl
 off_runs (Some q) h = rw h refl
 
@@ -56,16 +57,16 @@ Allowed v i p n = Licensed v.machine i p n × (p ≡ Work → v.dots i < most_do
 led_allowed : (v : Walk) (i : ℕ) (p : Pace) (n : Machine) → led_to v i p ≡ Some n → Allowed v i p n
 led_allowed v i Step n h = (h, λ e. absurd cc)
 led_allowed v i Work n h =
-    let y = if_so_is (runs (v.machine.jobs i) && nat_lt (v.dots i) most_dots) v.machine n h in
-    let both = and_parts (runs (v.machine.jobs i)) (nat_lt (v.dots i) most_dots) y.0 in
+    let y = if_so_is (is_running (v.machine.jobs i) && nat_lt (v.dots i) most_dots) v.machine n h in
+    let both = and_parts (is_running (v.machine.jobs i)) (nat_lt (v.dots i) most_dots) y.0 in
     ((runs_running (v.machine.jobs i) both.0, sym y.1), λ e. ltb-true (v.dots i) most_dots both.1)
 led_allowed v i Wait n h =
-    let y = if_so_is (runs (v.machine.jobs i) && is_none (step v.machine i)) v.machine n h in
-    let both = and_parts (runs (v.machine.jobs i)) (is_none (step v.machine i)) y.0 in
+    let y = if_so_is (is_running (v.machine.jobs i) && is_none (step v.machine i)) v.machine n h in
+    let both = and_parts (is_running (v.machine.jobs i)) (is_none (step v.machine i)) y.0 in
     ((runs_running (v.machine.jobs i) both.0, none_is (step v.machine i) both.1, sym y.1), λ e. absurd cc)
 led_allowed v i Off n h =
-    let y = if_so_is (not (runs (v.machine.jobs i))) v.machine n h in
-    ((runs_off (v.machine.jobs i) (not-true (runs (v.machine.jobs i)) y.0), sym y.1), λ e. absurd cc)
+    let y = if_so_is (not (is_running (v.machine.jobs i))) v.machine n h in
+    ((runs_off (v.machine.jobs i) (not-true (is_running (v.machine.jobs i)) y.0), sym y.1), λ e. absurd cc)
 
 allowed_led : (v : Walk) (i : ℕ) (p : Pace) (n : Machine) → Allowed v i p n → led_to v i p ≡ Some n
 allowed_led v i Step n h = h.0
@@ -100,13 +101,13 @@ record AnyLetter (v : Walk) (i : ℕ) : Type 0 where
   to : Machine
   leads : led_to v i pace ≡ Some to
 
-when_it_runs : (v : Walk) (i : ℕ) (o : Option Machine) → runs (v.machine.jobs i) ≡ true → step v.machine i ≡ o → AnyLetter v i
+when_it_runs : (v : Walk) (i : ℕ) (o : Option Machine) → is_running (v.machine.jobs i) ≡ true → step v.machine i ≡ o → AnyLetter v i
 when_it_runs v i (Some n) run is = record { pace = Step; to = n; leads = is }
 when_it_runs v i None run is = record { pace = Wait; to = v.machine; leads = rw (run, is) refl }
 
 any_letter : (v : Walk) (i : ℕ) → AnyLetter v i
 any_letter v i =
-    elim (cases_Bool (runs (v.machine.jobs i))) [
+    elim (cases_Bool (is_running (v.machine.jobs i))) [
       | inl run ↦ when_it_runs v i (step v.machine i) run refl
       | inr off ↦ record { pace = Off; to = v.machine; leads = rw off refl }
     ]

@@ -17,7 +17,10 @@ use Rattle.its_word.specs.declared.show.Peek.{Peek}
 use Rattle.its_word.specs.declared.show.PeekState.{PeekState}
 use Rattle.its_word.specs.declared.show.PeekState.TheVariants.{User, Entered, Parsed, Asked, Holding, Waiting, Moving, Ending}
 use Rattle.its_word.proofs.DigitLaws.{digits_are_codes}
-use Rattle.its_print.specs.Printing.{Line, Loaded, Ticks, Typed, Drained, Words, State, Peeked, Dir, Filed, Shown, Row, Refused, letter_of, run_of, runs_from, runs_of, word_or_dash, number_or_dash, run_or_stop, job_fields, symbol_or_dashes, symbol_fields, state_name, reason_name, first_of, fields_of, text_of_line, text}
+use Rattle.its_asm.specs.TypeOut.{typed}
+use Rattle.its_asm.proofs.NumberLaws.{all_imp}
+use Rattle.its_asm.proofs.TypeLaws.{typed_printable}
+use Rattle.its_print.specs.Printing.{Line, Loaded, Ticks, Typed, Drained, Words, Listed, State, Peeked, Dir, Filed, Shown, Row, Refused, letter_of, run_of, runs_from, runs_of, word_or_dash, number_or_dash, run_or_stop, job_fields, symbol_or_dashes, symbol_fields, state_name, reason_name, first_of, fields_of, text_of_line, text}
 use Rattle.its_print.specs.Sizes.{IsPrinted}
 use Rattle.its_print.proofs.LongestLine.{longest}
 use Rattle.its_session.proofs.WordsLaws.{words_cut}
@@ -53,10 +56,7 @@ code_free : (c : ℕ) → is_code 48 55 c ≡ true → no_lf c ≡ true
 code_free c h = grind (arith, nat_tests)
 
 codes_free : (ds : List ℕ) → list_all (is_code 48 55) ds ≡ true → Free ds
-codes_free [] h = refl
-codes_free (d ∷ ds) h =
-    let both = and_parts (is_code 48 55 d) (list_all (is_code 48 55) ds) h in
-    rw (code_free d both.0) (codes_free ds both.1)
+codes_free ds h = all_imp (is_code 48 55) no_lf code_free ds h
 
 digits_free : (n : ℕ) → Free (digits_of n)
 digits_free n = codes_free (digits_of n) (digits_are_codes n)
@@ -147,6 +147,12 @@ symbol_free v o =
       | inr one ↦ rw one tt
     ]
 
+printable_no_lf : (b : ℕ) → is_code 32 126 b ≡ true → no_lf b ≡ true
+printable_no_lf b h = grind (arith, nat_tests)
+
+typed_free : (w : ℕ) → Free (typed w)
+typed_free w = all_imp (is_code 32 126) no_lf printable_no_lf (typed w) (typed_printable w)
+
 -- the words of a line
 fields_free : (l : Line) → AllFree (fields_of l)
 fields_free (Loaded s) = (digits_free s, tt)
@@ -154,6 +160,7 @@ fields_free (Ticks s ps) = (digits_free s, all_runs_free ps)
 fields_free (Typed c n) = (digits_free c, (digits_free n, tt))
 fields_free (Drained c bs) = (digits_free c, all_free digits_of bs digits_free)
 fields_free (Words s a ws) = (digits_free s, (octal6_free a, all_free octal12_of ws octal12_free))
+fields_free (Listed s a w) = (digits_free s, (octal6_free a, (typed_free w, tt)))
 fields_free (State v s j) = (digits_free s, all_free_append (job_fields j) (symbol_fields v j.symbol) (job_free j) (symbol_free v j.symbol))
 fields_free (Peeked s p) = (digits_free s, (state_free p.state, (word_free p.name, (digits_free p.left, (word_free p.a, (word_free p.b, (word_free p.h, tt)))))))
 fields_free (Dir d n) = (octal12_free d, (digits_free n, tt))
@@ -168,6 +175,7 @@ first_free (Ticks s ps) = refl
 first_free (Typed c n) = refl
 first_free (Drained c bs) = refl
 first_free (Words s a ws) = refl
+first_free (Listed s a w) = refl
 first_free (State v s j) = refl
 first_free (Peeked s p) = refl
 first_free (Dir d n) = refl

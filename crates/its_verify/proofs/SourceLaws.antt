@@ -18,7 +18,7 @@ told_on (Some xs) (Some ys) read t c = record { bytes = c; told = tt }
 told_on (Some xs) None read t c = absurd c
 told_on None rest read t c = absurd t
 
-at_its_end : (rest : Option (List ℕ)) → IsAtEnd rest → bytes_of rest ≡ []
+pub at_its_end : (rest : Option (List ℕ)) → IsAtEnd rest → bytes_of rest ≡ []
 at_its_end (Some ys) h = h
 at_its_end None h = refl
 

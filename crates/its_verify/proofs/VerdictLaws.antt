@@ -6,20 +6,21 @@ use Rattle.its_print.specs.Printing.{Line, text}
 use Rattle.its_print.specs.Sizes.{IsPrinted}
 use Rattle.std.proofs.lemmas.Bool.{cases_order}
 use Rattle.its_plain.specs.Transcript.{Fate, Transcript, at_start}
-use Rattle.its_plain.proofs.RunLaws.{run_shows, shows_run}
+use Rattle.its_plain.specs.Unrolled.{highest, unrolled}
 use Rattle.its_reader.specs.TextLines.{lines_in}
 use Rattle.its_verify.specs.Accepted.{Accepted, AcceptedLines, Begins, IsFirst}
 use Rattle.its_verify.specs.Judge.{Verdict, Yes, No, verdict, judged}
 use Rattle.its_verify.proofs.LinesLaws.{concat_lines, lines_concat}
 use Rattle.its_verify.proofs.PrintedLaws.{said_whole, tells_text}
+use Rattle.its_verify.proofs.TurnLaws.{session_transcript, transcript_session}
 use Rattle.its_verify.proofs.JudgeLaws.{From, right_judged}
 use Rattle.its_verify.proofs.RightLaws.{Begun, Decided, First}
 
-pub from_lines : (es : List Item) (texts : List (List ℕ)) → From at_start es texts → AcceptedLines es texts
-from_lines es texts h = record { lines = h.rest; fate = h.fate; transcript = run_shows at_start es h.rest h.fate h.holds; said = h.said }
+pub from_lines : (es : List Item) (texts : List (List ℕ)) → From at_start highest es texts → AcceptedLines es texts
+from_lines es texts h = record { lines = h.rest; fate = h.fate; transcript = session_transcript es h.rest h.fate h.holds; said = h.said }
 
-pub lines_from : (es : List Item) (texts : List (List ℕ)) → AcceptedLines es texts → From at_start es texts
-lines_from es texts h = record { rest = h.lines; fate = h.fate; holds = shows_run at_start es h.lines h.fate h.transcript; said = h.said }
+pub lines_from : (es : List Item) (texts : List (List ℕ)) → AcceptedLines es texts → From at_start highest es texts
+lines_from es texts h = record { rest = h.lines; fate = h.fate; holds = transcript_session es h.lines h.fate h.transcript; said = h.said }
 
 -- bytes that are accepted, and their lines
 pub accepted_lines : (es : List Item) (bytes : List ℕ) → AcceptedLines es (lines_in bytes) → Accepted es bytes
@@ -36,28 +37,28 @@ lines_accepted es bytes h =
     record { lines = h.lines; fate = h.fate; transcript = h.transcript; said = rw is h.text.said }
 
 -- what the judge says of lines
-decided : (es : List Item) (texts : List (List ℕ)) → Decided (From at_start es) 0 texts (judged at_start es 0 texts)
-decided es texts = (right_judged es at_start).decides 0 texts
+decided : (es : List Item) (texts : List (List ℕ)) → Decided (From at_start highest es) 0 texts (judged at_start highest es 0 texts)
+decided es texts = (right_judged es at_start highest).decides 0 texts
 
-pub yes_lines : (es : List Item) (texts : List (List ℕ)) (k : ℕ) → judged at_start es 0 texts ≡ Yes k → (k ≡ length texts) × AcceptedLines es texts
+pub yes_lines : (es : List Item) (texts : List (List ℕ)) (k : ℕ) → judged at_start highest es 0 texts ≡ Yes k → (k ≡ length texts) × AcceptedLines es texts
 yes_lines es texts k is =
-    let d = subst (Decided (From at_start es) 0 texts) is (decided es texts) in
+    let d = subst (Decided (From at_start highest es) 0 texts) is (decided es texts) in
     (omega (arith, d.0), from_lines es texts d.1)
 
-by_decided : (es : List Item) (texts : List (List ℕ)) (v : Verdict) → Decided (From at_start es) 0 texts v → From at_start es texts → v ≡ Yes (length texts)
+by_decided : (es : List Item) (texts : List (List ℕ)) (v : Verdict) → Decided (From at_start highest es) 0 texts v → From at_start highest es texts → v ≡ Yes (length texts)
 by_decided es texts (Yes k) d h = ap Yes (omega (arith, d.0))
 by_decided es texts (No k) d h = absurd (d.1 h)
 
-pub lines_yes : (es : List Item) (texts : List (List ℕ)) → AcceptedLines es texts → judged at_start es 0 texts ≡ Yes (length texts)
-lines_yes es texts h = by_decided es texts (judged at_start es 0 texts) (decided es texts) (lines_from es texts h)
+pub lines_yes : (es : List Item) (texts : List (List ℕ)) → AcceptedLines es texts → judged at_start highest es 0 texts ≡ Yes (length texts)
+lines_yes es texts h = by_decided es texts (judged at_start highest es 0 texts) (decided es texts) (lines_from es texts h)
 
-begins : (es : List Item) (texts : List (List ℕ)) → Begun (From at_start es) texts → Begins es texts
+begins : (es : List Item) (texts : List (List ℕ)) → Begun (From at_start highest es) texts → Begins es texts
 begins es texts b = record { more = b.more; accepted = from_lines es (texts ++ b.more) b.whole }
 
-begun : (es : List Item) (texts : List (List ℕ)) → Begins es texts → Begun (From at_start es) texts
+begun : (es : List Item) (texts : List (List ℕ)) → Begins es texts → Begun (From at_start highest es) texts
 begun es texts b = record { more = b.more; whole = lines_from es (texts ++ b.more) b.accepted }
 
-first : (es : List Item) (texts : List (List ℕ)) (k : ℕ) → First (From at_start es) texts 0 k → IsFirst es texts k
+first : (es : List Item) (texts : List (List ℕ)) (k : ℕ) → First (From at_start highest es) texts 0 k → IsFirst es texts k
 first es texts k f =
     let is : k ≡ suc f.before = omega (arith, f.at) in
     record {
@@ -72,9 +73,9 @@ first es texts k f =
           ];
     }
 
-pub no_lines : (es : List Item) (texts : List (List ℕ)) (k : ℕ) → judged at_start es 0 texts ≡ No k → IsFirst es texts k
+pub no_lines : (es : List Item) (texts : List (List ℕ)) (k : ℕ) → judged at_start highest es 0 texts ≡ No k → IsFirst es texts k
 no_lines es texts k is =
-    let d = subst (Decided (From at_start es) 0 texts) is (decided es texts) in
+    let d = subst (Decided (From at_start highest es) 0 texts) is (decided es texts) in
     first es texts k d.0
 
 -- Yes exactly where the bytes are a transcript of the events, with their number of lines; No with the first line that is not licensed
@@ -91,7 +92,7 @@ unfolding verdict
 no_first es bytes n is = no_lines es (lines_in bytes) n is
 
 -- a transcript that is printed is accepted
-pub written_accepted : (es : List Item) (lines : List Line) (fate : Fate) → AllByRecursion IsPrinted lines → Transcript es lines fate → Accepted es (text lines)
+pub written_accepted : (es : List Item) (lines : List Line) (fate : Fate) → AllByRecursion IsPrinted lines → Transcript (unrolled es lines) lines fate → Accepted es (text lines)
 written_accepted es lines fate printed h = record { lines = lines; fate = fate; transcript = h; text = tells_text lines printed }
 
 -- there is one first line that is not licensed: the judge says No with it exactly where it is it
@@ -127,12 +128,12 @@ first_not_accepted es texts n f h =
       | inr none ↦ none (accepted_begins es texts n h)
     ]
 
-first_is : (es : List Item) (texts : List (List ℕ)) (n : ℕ) (v : Verdict) → judged at_start es 0 texts ≡ v → IsFirst es texts n → v ≡ No n
+first_is : (es : List Item) (texts : List (List ℕ)) (n : ℕ) (v : Verdict) → judged at_start highest es 0 texts ≡ v → IsFirst es texts n → v ≡ No n
 first_is es texts n (Yes k) is f = absurd (first_not_accepted es texts n f (yes_lines es texts k is).1)
 first_is es texts n (No k) is f = ap No (one_first es texts k n (no_lines es texts k is) f)
 
-pub first_lines_no : (es : List Item) (texts : List (List ℕ)) (n : ℕ) → IsFirst es texts n → judged at_start es 0 texts ≡ No n
-first_lines_no es texts n f = first_is es texts n (judged at_start es 0 texts) refl f
+pub first_lines_no : (es : List Item) (texts : List (List ℕ)) (n : ℕ) → IsFirst es texts n → judged at_start highest es 0 texts ≡ No n
+first_lines_no es texts n f = first_is es texts n (judged at_start highest es 0 texts) refl f
 
 pub first_no : (es : List Item) (bytes : List ℕ) (n : ℕ) → IsFirst es (lines_in bytes) n → verdict es bytes ≡ No n
 unfolding verdict

@@ -1,12 +1,13 @@
--- The judge: it goes along the events and the lines at once, and tells the first line that is not licensed. That it accepts exactly
--- what is a transcript by the rules of `Transcript`, and else tells the first line that is none of one, are laws
--- (proofs/VerdictLaws).
-use Rattle.std.specs.Prelude.{ℕ, ◌+◌, Option, Some, None, List, [], ◌∷◌}
+-- The judge: it goes along the events and the lines at once, and tells the first line that is not licensed. That it
+-- accepts exactly what is a transcript by the rules of `Transcript`, and else tells the first line that is none of one,
+-- are laws (proofs/VerdictLaws).
+use Rattle.std.specs.Prelude.{ℕ, zero, suc, ◌+◌, Option, Some, None, List, [], ◌∷◌}
 use Rattle.its_word.specs.Item.{Item, Read, Unread, InTurn, Beyond}
 use Rattle.its_print.specs.Printing.{Line, Refused}
 use Rattle.its_plain.specs.OperatorLines.{Lined, Done, Peeks, lined}
 use Rattle.its_plain.specs.Operator.{Refuses, Does, Ticks, Quits}
 use Rattle.its_plain.specs.Transcript.{Walk, at_start, walk_after, next_line}
+use Rattle.its_plain.specs.Unrolled.{turn_after, highest, turns_asked, ticks_asked}
 use Rattle.its_reader.specs.TextLines.{lines_in}
 use Rattle.its_verify.specs.Lines.{is_peek, says}
 use Rattle.its_verify.specs.Letters.{if_so, ticked}
@@ -56,14 +57,30 @@ gone v (Done (Ticks i k)) next = led (ticked v i k) (λ w. next (next_line w))
 gone v (Done Quits) next = at_end
 gone v (Peeks i) next = led peeking (λ text. next (next_line v))
 
--- the events from here on
-abbrev pub judged : Walk → List Item → Judge
-judged v [] = at_end
-judged v (Read e ∷ es) = gone v (lined v.machine v.block e) (λ w. judged w es)
-judged v (InTurn i k ∷ es) = led (ticked v i k) (λ w. judged w es)
-judged v (Unread r ∷ es) = told (Refused v.line r ∷ []) at_end
-judged v (Beyond ∷ es) = at_end
+-- a turn of q ticks of the slot whose turn it is; where it is nobody's, no more turns come
+abbrev pub turned_by : ℕ → Walk → Option ℕ → (Walk → ℕ → Judge) → Judge → Judge
+turned_by q v (Some s) more done = led (ticked v s q) (λ w. more w s)
+turned_by q v None more done = done
+
+-- up to n turns of q ticks, the first of them after a turn of the last slot, and how it goes on behind them
+abbrev pub turned : ℕ → ℕ → Walk → ℕ → (Walk → ℕ → Judge) → Judge
+turned zero q v last next = next v last
+turned (suc n) q v last next = turned_by q v (turn_after v.machine last) (λ w s. turned n q w s next) (next v last)
+
+-- items behind a turn that stands among them: the turns of RUN lines stand there too, and none is made
+abbrev pub taken : Walk → List Item → Judge
+taken v [] = at_end
+taken v (Read e ∷ es) = gone v (lined v.machine v.block e) (λ w. taken w es)
+taken v (InTurn i k ∷ es) = led (ticked v i k) (λ w. taken w es)
+taken v (Unread r ∷ es) = told (Refused v.line r ∷ []) at_end
+taken v (Beyond ∷ es) = at_end
+
+-- the events of a session from here on, after a turn of the last slot: behind a RUN line come its turns
+abbrev pub judged : Walk → ℕ → List Item → Judge
+judged v last (Read e ∷ es) =
+    gone v (lined v.machine v.block e) (λ w. turned (turns_asked e) (ticks_asked e) w last (λ x s. judged x s es))
+judged v last es = taken v es
 
 -- what the judge says of the bytes of a transcript
 unfoldable pub verdict : List Item → List ℕ → Verdict
-verdict es bytes = judged at_start es 0 (lines_in bytes)
+verdict es bytes = judged at_start highest es 0 (lines_in bytes)

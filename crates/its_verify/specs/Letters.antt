@@ -6,8 +6,9 @@ use Rattle.its_word.specs.declared.calls.Pace.TheVariants.{Step, Work, Wait, Off
 use Rattle.its_print.specs.Printing.{Ticks, letter_of}
 use Rattle.its_plain.specs.CallStep.{step}
 use Rattle.its_plain.specs.Licence.{most_dots}
-use Rattle.its_plain.specs.Machine.{Whole, Machine}
+use Rattle.its_plain.specs.Machine.{Machine}
 use Rattle.its_plain.specs.Transcript.{Walk, after_letter}
+use Rattle.its_plain.specs.Unrolled.{is_running}
 use Rattle.its_verify.specs.Lines.{says}
 
 -- the letter that a byte is, if it is one
@@ -44,15 +45,11 @@ ticks_in i k text =
     if_so ((length ps == k) && says (Ticks i ps) text) ps
 
 -- the machine to which a letter leads, where it is licensed and not a `.` too many
-abbrev pub runs : Option Whole → Bool
-runs (Some q) = not q.job.stopped
-runs None = false
-
 abbrev pub led_to : Walk → ℕ → Pace → Option Machine
 led_to v i Step = step v.machine i
-led_to v i Work = if_so (runs (v.machine.jobs i) && nat_lt (v.dots i) most_dots) v.machine
-led_to v i Wait = if_so (runs (v.machine.jobs i) && is_none (step v.machine i)) v.machine
-led_to v i Off = if_so (not (runs (v.machine.jobs i))) v.machine
+led_to v i Work = if_so (is_running (v.machine.jobs i) && nat_lt (v.dots i) most_dots) v.machine
+led_to v i Wait = if_so (is_running (v.machine.jobs i) && is_none (step v.machine i)) v.machine
+led_to v i Off = if_so (not (is_running (v.machine.jobs i))) v.machine
 
 -- where the walk stands after some letters, where each is licensed in its turn
 abbrev pub paced : Walk → ℕ → List Pace → Option Walk

@@ -6,3 +6,4 @@ pub mod Judge
 pub mod Verified
 pub mod Sources
 pub mod Keeping
+pub mod Hearing

@@ -25,7 +25,8 @@ begins_with word (first ∷ words) = bytes_eq first word
 
 -- a line that may stand where PEEK shows a job: its first word is `P`, and it is not too long
 unfoldable pub is_peek : List ℕ → Bool
-is_peek line = is_whole line && nat_le (length line) (most_bytes + 1) && begins_with (codes "P") (words_of (before_lf line))
+is_peek line =
+    is_whole line && nat_le (length line) (most_bytes + 1) && begins_with (codes "P") (words_of (before_lf line))
 
 -- the bytes say the line: they are its text, and of a `P` line any text that may stand there
 abbrev pub says : Line → List ℕ → Bool

@@ -1,6 +1,9 @@
 -- The lines that a source has left, where it tells its bytes.
-use Rattle.std.specs.Prelude.{ℕ, Option, Some, None, List, []}
+use Rattle.std.specs.Prelude.{ℕ, true, Option, Some, None, List, []}
+use Rattle.its_word.specs.Item.{Item}
+use Rattle.its_reader.specs.declared.items.Items.{Items}
 use Rattle.its_reader.specs.declared.texts.Texts.{Texts}
+use Rattle.its_reader.specs.Items.{items_ahead}
 use Rattle.its_reader.specs.Texts.{texts_ahead}
 
 -- the source tells the bytes that it has left
@@ -15,3 +18,7 @@ bytes_of None = []
 -- the lines that it has left
 abbrev pub texts_of : Texts → Option (List ℕ) → List (List ℕ)
 texts_of r left = texts_ahead r (bytes_of left)
+
+-- and the items of a session
+abbrev pub items_of : Items → Option (List ℕ) → List Item
+items_of r left = items_ahead true r (bytes_of left)

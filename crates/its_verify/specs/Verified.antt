@@ -1,5 +1,5 @@
--- What the judge of a session and a transcript in one input says. The session is all up to and with the first line whose only word is
--- END, and the transcript is the rest.
+-- What the judge of a session and a transcript in one input says. The session is all up to and with the first line whose
+-- only word is END, and the transcript is the rest.
 use Rattle.std.specs.Prelude.{if◌then◌else◌, ℕ, ◌+◌, ◌-◌, Bool, false, List, [], ◌∷◌, ◌++◌, length, take, nat_le, nat_lt, bytes_eq, codes}
 use Rattle.its_word.specs.Item.{Item}
 use Rattle.its_word.specs.Text.{digits_of, spaced}
@@ -8,6 +8,7 @@ use Rattle.its_print.specs.Printing.{Refused, text_of_line}
 use Rattle.its_session.specs.Events.{events_of, most_lines}
 use Rattle.its_session.specs.Grammar.{words_of}
 use Rattle.its_plain.specs.Transcript.{at_start}
+use Rattle.its_plain.specs.Unrolled.{highest}
 use Rattle.its_reader.specs.TextLines.{before_lf, lines_in}
 use Rattle.its_verify.specs.Judge.{Verdict, Yes, No, judged}
 
@@ -59,8 +60,8 @@ within room (No n) = if nat_le n room then Judged (No n) else TooLong
 -- the verdict on a transcript for which there is room for so many lines
 unfoldable pub bounded : ℕ → List Item → List (List ℕ) → Answer
 bounded room es texts =
-    if nat_le (length texts) room then Judged (judged at_start es 0 texts)
-    else within room (judged at_start es 0 (take room texts))
+    if nat_le (length texts) room then Judged (judged at_start highest es 0 texts)
+    else within room (judged at_start highest es 0 (take room texts))
 
 abbrev pub by_parts : Parts → Answer
 by_parts (Both session count texts) = bounded (most_lines - count) (events_of session) texts

@@ -71,6 +71,12 @@ pub enum Event {
         a: u32,
         n: u32,
     },
+    /// In version 2: n words of a slot from address a on, typed out.
+    List {
+        s: u8,
+        a: u32,
+        n: u32,
+    },
     State {
         s: u8,
     },

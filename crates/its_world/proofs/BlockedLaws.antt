@@ -1,9 +1,9 @@
 -- A slot stands in a wait ring where it stands in a list, and not in the Awake list of its console.
-use Rattle.std.specs.Prelude.{◌≡◌, ◌≢◌, ◌<◌, ◌≤◌, ◌↔◌, ◌⊎◌, ◌+◌, ℕ, Bool, true, false, IsTrue, not, ◌&&◌, Option, Some, None, List, length, nat_lt, refl}
+use Rattle.std.specs.Prelude.{◌≡◌, ◌<◌, ◌≤◌, ◌↔◌, ◌⊎◌, ◌+◌, ℕ, Bool, true, false, IsTrue, not, Option, Some, None, List, length, nat_lt, refl}
 use Rattle.std.proofs.Common.{sym, ◌∙◌, ap, subst, inl, inr, arith}
-use Rattle.std.proofs.lemmas.Bool.{cases_eq, cases_Bool, cases_lt, both_ways}
+use Rattle.std.proofs.lemmas.Bool.{cases_Bool, both_ways}
 use Rattle.std.proofs.lemmas.Bool.Decides.{nat_tests}
-use Rattle.its_links.specs.Lists.{list_at, count, hit, times}
+use Rattle.its_links.specs.Lists.{list_at, count, times}
 use Rattle.its_links.proofs.CountLaws.{hit_same, count-le-times, two-le-times}
 use Rattle.its_word.specs.declared.jobs.Job.{Job}
 use Rattle.its_jobs.specs.Table.{job_at}
@@ -13,7 +13,7 @@ use Rattle.its_frame.specs.declared.frame.Frame.{Frame}
 use Rattle.its_frame.specs.declared.frame.Frame.TheVariants.{Entered, Parsed, Asked, Holding, Waiting, Moving, Ending}
 use Rattle.its_plain.specs.Arguments.{input}
 use Rattle.its_plain.specs.Reasons.{Doors, held_up}
-use Rattle.its_world.specs.Rings.{wait_rings, ring_of, awake_of, console_in, place_at, mark, StandsIn, IsIn}
+use Rattle.its_world.specs.Rings.{wait_rings, awake_of, console_in, place_at, StandsIn, IsIn}
 use Rattle.its_world.specs.Filed.{frame_at, reason_of, if_within, place_for, place_by, doors_of, place_of, awake_for, awake_by, awake_at, Blocked}
 use Rattle.its_world.proofs.RingLaws.{times_none}
 use Rattle.its_world.specs.declared.world.World.{World}

@@ -35,13 +35,14 @@ use Rattle.its_files.specs.Files.{delete_by, rename_by, rename_free}
 use Rattle.its_files.specs.declared.entry.Locked.{Locked}
 use Rattle.its_files.specs.declared.entry.RenameFault.{RenameFault}
 use Rattle.its_stepped.proofs.EffectLaws.{without_none, renamed_none}
-use Rattle.its_world.proofs.StoreLaws.{has_named, renamed_directory}
-use Rattle.its_world.proofs.RoomLaws.{full_on}
-use Rattle.its_world.proofs.AcrossLaws.{writing_stands, unread_is, not_marked}
+use Rattle.its_parts.proofs.StoreLaws.{has_named, renamed_directory}
+use Rattle.its_parts.proofs.RoomLaws.{full_on}
+use Rattle.its_parts.proofs.StandLaws.{writing_stands, unread_is, not_marked}
 use Rattle.its_word.specs.declared.jobs.Job.{Job}
 use Rattle.its_world.specs.Tidy.{channel_by}
 use Rattle.its_world.proofs.MarkLaws.{none_marked, mark_same, begin_close}
-use Rattle.its_world.proofs.KeptLaws.{Kept, Stays, across_table, moved_kept, opened_kept, closed_kept, drafted_kept, discarded_kept, appended_kept, closing_kept, deleted_stays, renamed_stays, delete_is, rename_is}
+use Rattle.its_parts.proofs.AcrossLaws.{across_table}
+use Rattle.its_parts.proofs.KeptLaws.{Kept, Stays, moved_kept, opened_kept, closed_kept, drafted_kept, discarded_kept, appended_kept, closing_kept, deleted_stays, renamed_stays, delete_is, rename_is}
 use Rattle.its_world.proofs.StorageLaws.{Comes, channel_comes, still_unmarked, store_tidy, filed_state, one_channel, same_channels, filed_tidy, channel_still, still_state, store_state, has_job, chan_is, chans_are, chan_shut, store_unmarked, files_are}
 use Rattle.its_word.proofs.FreeLaws.{none_is}
 

@@ -1,9 +1,9 @@
 -- What putting slots where they belong comes to.
-use Rattle.std.specs.Prelude.{◌≡◌, ◌≢◌, ◌<◌, ◌≤◌, ◌⊎◌, ◌+◌, ℕ, zero, suc, Option, Some, None, List, [], ◌∷◌, ◌++◌, length, slice_set, refl}
+use Rattle.std.specs.Prelude.{◌≡◌, ◌<◌, ◌+◌, ℕ, Option, Some, None, List, [], ◌∷◌, ◌++◌, length, slice_set, refl}
 use Rattle.std.proofs.Common.{sym, ◌∙◌, ap, subst, inl, inr, arith, add-one}
 use Rattle.std.proofs.lemmas.Bool.{cases_eq}
 use Rattle.std.proofs.lemmas.List.{get_or-set_same, get_or-set_other}
-use Rattle.its_links.specs.Lists.{Linked, list_at, count, hit, first, rest}
+use Rattle.its_links.specs.Lists.{list_at, count, hit, first, rest}
 use Rattle.its_links.proofs.CountLaws.{hit_other, count_first}
 use Rattle.its_world.specs.Rings.{heads, StandsIn, Put, AwayFrom, lists_at, lists_to}
 use Rattle.its_world.specs.Filed.{place_of, OnlyRings, Refiled, Resettled}

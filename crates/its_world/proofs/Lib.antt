@@ -1,13 +1,7 @@
 pub mod WorldLaws
 pub mod StateLaws
-pub mod BareLaws
 pub mod SiteLaws
-pub mod TallyLaws
-pub mod AcrossLaws
-pub mod StoreLaws
 pub mod MarkLaws
-pub mod RoomLaws
-pub mod KeptLaws
 pub mod StorageLaws
 pub mod ChannelLaws
 pub mod MadeLaws

@@ -1,14 +1,13 @@
 -- A job that is made in an empty slot, whose core is that of no job: the state that the world then stands for, and that
 -- the world is tidy.
-use Rattle.std.specs.Prelude.{◌≡◌, ◌<◌, ◌≢◌, ℕ, zero, suc, Option, Some, None, replicate, slice_index_or, refl}
+use Rattle.std.specs.Prelude.{◌≡◌, ◌<◌, ◌≢◌, ℕ, Option, Some, None}
 use Rattle.std.proofs.Common.{sym, ◌∙◌, ap, subst, inl, inr}
 use Rattle.std.proofs.lemmas.Bool.{cases_eq}
 use Rattle.its_word.specs.Core.{no_core}
 use Rattle.its_word.specs.Tree.{least_free, fresh_job}
 use Rattle.its_word.proofs.FreeLaws.{least_alike, least_empty}
-use Rattle.its_word.specs.declared.jobs.Channel.TheVariants.{Closed}
 use Rattle.its_core.specs.Cores.{core_at, clear_at}
-use Rattle.its_files.specs.Files.{Store, directory}
+use Rattle.its_files.specs.Files.{directory}
 use Rattle.its_jobs.specs.Table.{job_at, superior_at}
 use Rattle.its_plain.specs.Machine.{Whole, whole, changed, with_job, limit}
 use Rattle.its_plain.proofs.MachineLaws.{machine_is}
@@ -17,21 +16,13 @@ use Rattle.its_stepped.proofs.FrameLaws.{changed_only}
 use Rattle.its_world.specs.Made.{JobMade}
 use Rattle.its_plain.specs.OperatorClock.{clock_end}
 use Rattle.its_world.specs.Tidy.{channel_by, channel_at, Across, Tidy}
-use Rattle.its_world.specs.World.{chan_of, closed_channels, alarm_at, raw_of, raw_at, frame_at, console_at, holder_at, mark_of, state_of, symbols_at}
+use Rattle.its_world.specs.World.{alarm_at, raw_of, raw_at, frame_at, console_at, holder_at, mark_of, state_of, symbols_at}
 use Rattle.its_world.specs.declared.world.World.{World}
-use Rattle.its_world.proofs.KeptLaws.{across_table}
-use Rattle.its_world.proofs.PlaceLaws.{all_closed, made_ringed}
-use Rattle.its_world.proofs.StateLaws.{state_is, raw_job}
+use Rattle.its_parts.proofs.AcrossLaws.{across_table}
+use Rattle.its_parts.proofs.PartLaws.{fresh_closed, fresh_raw}
+use Rattle.its_world.proofs.PlaceLaws.{made_ringed}
+use Rattle.its_world.proofs.StateLaws.{state_is}
 use Rattle.its_world.proofs.StorageLaws.{raw_has}
-
--- it has no open channel
-pub fresh_closed : (u n : ℕ) (console : Option ℕ) (i : ℕ) → channel_by (Some (fresh_job u n console)) i ≡ Closed
-unfolding fresh_job
-fresh_closed u n console i = all_closed 16 i
-
-fresh_raw : (x : Store) (u n : ℕ) (superior console : Option ℕ) → raw_job x no_core (fresh_job u n console) superior None ≡ whole no_core (fresh_job u n console) superior
-unfolding fresh_job closed_channels
-fresh_raw x u n superior console = λ t. record (whole no_core (fresh_job u n console) superior) { channels = λ i. chan_of x (all_closed 16 i t) }
 
 module _ (old new : World) (s u n : ℕ) (superior console : Option ℕ) (made : JobMade old new s u n superior console) where
   made_here : core_at old.core s ≡ no_core → alarm_at old.alarms.items s ≡ None → raw_at new.files new.core new.jobs new.alarms.items s ≡ Some (whole no_core (fresh_job u n console) superior)

@@ -1,16 +1,14 @@
 -- Where slots belong among the lists of those that wait, as parts of a world are written; all else keeps each slot in the
 -- list in which it belongs. No other file reasons on places.
-use Rattle.std.specs.Prelude.{◌≡◌, ◌≢◌, ◌<◌, ◌≤◌, ◌⊎◌, ◌&&◌, ◌+◌, ◌-◌, ◌^◌, ℕ, zero, suc, Bool, true, false, Option, Some, None, IfSome, List, [], ◌∷◌, ◌++◌, length, nat_lt, slice_index_or, replicate, unwrap_or, refl}
+use Rattle.std.specs.Prelude.{◌≡◌, ◌≢◌, ◌<◌, ◌⊎◌, ◌&&◌, ◌+◌, ℕ, zero, suc, Bool, true, false, Option, Some, None, IfSome, List, [], ◌∷◌, ◌++◌, length, nat_lt, unwrap_or, refl}
 use Rattle.std.proofs.Common.{sym, ◌∙◌, ap, subst, inl, inr, arith}
-use Rattle.std.proofs.lemmas.Bool.{cases_eq, cases_Bool, cases_lt, both_ways}
+use Rattle.std.proofs.lemmas.Bool.{cases_eq, cases_Bool}
 use Rattle.std.proofs.lemmas.Bool.Decides.{nat_tests}
-use Rattle.its_links.specs.Lists.{list_at, count, hit}
+use Rattle.its_links.specs.Lists.{list_at, count}
 use Rattle.its_links.proofs.CountLaws.{hit_same}
 use Rattle.its_word.specs.Only.{Only, Same}
-use Rattle.its_word.specs.Console.{Console}
 use Rattle.its_word.specs.Tree.{fresh_job}
 use Rattle.its_word.specs.declared.calls.Ask.{Ask}
-use Rattle.its_word.specs.declared.jobs.Channel.{Channel}
 use Rattle.its_word.specs.declared.jobs.Channel.TheVariants as channels
 use Rattle.its_word.specs.declared.jobs.Job.{Job}
 use Rattle.its_jobs.specs.Table.{job_at}
@@ -24,7 +22,8 @@ use Rattle.its_plain.specs.Decide.{call_named}
 use Rattle.its_frame.specs.declared.frame.Frame.TheVariants.{Entered, Parsed, Asked, Holding, Waiting, Moving, Ending}
 use Rattle.its_plain.specs.Arguments.{input}
 use Rattle.its_plain.specs.Reasons.{Doors, held_up, reason_by}
-use Rattle.its_world.specs.Rings.{heads, ring_of, awake_of, console_in, place_at, mark, StandsIn, Filed, AwayFrom, lists_at, lists_to}
+use Rattle.its_parts.proofs.PartLaws.{all_closed}
+use Rattle.its_world.specs.Rings.{heads, awake_of, console_in, place_at, mark, StandsIn, AwayFrom, lists_at, lists_to}
 use Rattle.its_world.specs.Filed.{frame_at, console_at, holder_at, kind_of, channel_of, reason_of, if_within, place_for, place_by, doors_of, place_of, Ringed, OnlyRings, Refiled, Resettled, SlotWritten, DoorsWritten}
 use Rattle.its_world.specs.declared.world.World.{World}
 
@@ -138,11 +137,6 @@ user_ringed old new s others none frames consoles holders clock rings r = record
 }
 
 -- a job is made: it can wait for nothing that an empty slot cannot wait for
-pub all_closed : (k n : ℕ) → slice_index_or (replicate k channels.Closed) n channels.Closed ≡ channels.Closed
-all_closed zero n = refl
-all_closed (suc k) zero = refl
-all_closed (suc k) (suc n) = all_closed k n
-
 shut_by : (c : ℕ) (n : CallName) → reason_by c Shut (Some n) ≡ reason_by 0 Shut (Some n)
 shut_by c calls.Hang = refl
 shut_by c _ = refl

@@ -1,12 +1,12 @@
 -- A slot that is put into a list, or taken out of the one in which it stands.
-use Rattle.std.specs.Prelude.{◌≡◌, ◌≢◌, ◌<◌, ◌≤◌, ◌↔◌, ℕ, ◌+◌, Bool, true, false, IsTrue, IfSome, Option, Some, None, List, [], ◌∷◌, ◌++◌, length, map, slice_set, refl}
+use Rattle.std.specs.Prelude.{◌≡◌, ◌≢◌, ◌<◌, ◌≤◌, ◌↔◌, ℕ, ◌+◌, Bool, false, IsTrue, IfSome, Option, Some, None, List, [], ◌∷◌, ◌++◌, length, map, slice_set, refl}
 use Rattle.std.proofs.Common.{sym, ◌∙◌, ap, subst, inl, inr, arith, length-set, append_assoc}
 use Rattle.std.proofs.lemmas.Bool.{cases_eq, cases_lt, both_ways}
 use Rattle.std.proofs.lemmas.List.{length-append}
 use Rattle.std.proofs.lemmas.List.{get_or-set_same, get_or-set_other, length-map}
 use Rattle.its_links.specs.Lists.{Linked, list_at, hit, count, times, without, first, no_lists}
 use Rattle.its_links.proofs.CountLaws.{list_at-no_lists, length-no_lists, hit_same, hit_other, count-append, count-le-times, stands, count-without_same, count-without_other, list_at-without}
-use Rattle.its_world.specs.Rings.{heads, StandsIn, mark, Filed, Looked, Put}
+use Rattle.its_world.specs.Rings.{heads, mark, Filed, Looked, Put}
 
 -- a slot that stands in no list
 pub times_none : (x : ℕ) (ls : List (List ℕ)) → ((h : ℕ) → count x (list_at ls h) ≡ 0) → times x ls ≡ 0

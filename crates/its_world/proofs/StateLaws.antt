@@ -12,16 +12,17 @@ use Rattle.its_core.specs.Cores.{core_at, reserved_at, clear_at}
 use Rattle.its_core.specs.Frames.{Frames}
 use Rattle.its_plain.specs.Own.{with_stores, left_with, leave}
 use Rattle.its_word.specs.Stores.{stored}
-use Rattle.its_files.specs.Files.{Store as Files, directory}
+use Rattle.its_files.specs.Files.{directory}
 use Rattle.its_jobs.specs.Table.{job_at, superior_at}
 use Rattle.its_frame.specs.declared.frame.Frame.{Frame}
 use Rattle.its_plain.specs.Machine.{Whole, changed}
-use Rattle.its_plain.specs.Change.{on_slot, on_console}
+use Rattle.its_plain.specs.Change.{on_console}
 use Rattle.its_plain.proofs.MachineLaws.{machine_is}
 use Rattle.its_stepped.specs.Lines.{with_raw}
 use Rattle.its_stepped.specs.State.{State, turn, same, reserving}
-use Rattle.its_world.specs.World.{chans_of, mark_of, bare, alarm_at, raw_of, raw_at, frame_at, console_at, holder_at, state_of, in_raw, with_frames, Becomes, FrameBecomes, ConsoleBecomes, HolderBecomes, symbols_at}
+use Rattle.its_world.specs.World.{mark_of, alarm_at, raw_of, raw_at, frame_at, console_at, holder_at, state_of, in_raw, with_frames, Becomes, FrameBecomes, ConsoleBecomes, HolderBecomes, symbols_at}
 use Rattle.its_world.specs.declared.world.World.{World}
+pub use Rattle.its_parts.proofs.PartLaws.{raw_job, changed_at, slot_at}
 
 pub state_is : (a b : State) → a.raw ≡ b.raw → ((k : ℕ) → a.frames k ≡ b.frames k) → ((k : ℕ) → a.reserved k ≡ b.reserved k) → a.mark ≡ b.mark → a ≡ b
 state_is a b raw frames reserved mark = λ t. record {
@@ -31,28 +32,11 @@ state_is a b raw frames reserved mark = λ t. record {
   mark = mark t;
 }
 
--- a job with its core, its registers, its superior and its alarm
-abbrev pub raw_job : Files → Core → Job → Option ℕ → Option (ℕ × ℕ) → Whole
-raw_job s c j superior alarm = record { core = c; job = bare j; superior = superior; channels = chans_of s j; alarm = alarm }
-
 pub raw_some : (w : World) (s : ℕ) (j : Job) → job_at w.jobs s ≡ Some j → raw_at w.files w.core w.jobs w.alarms.items s ≡ Some (raw_job w.files (core_at w.core s) j (superior_at w.jobs s) (alarm_at w.alarms.items s))
 raw_some w s j h = ap (raw_of w.files (core_at w.core s) (superior_at w.jobs s) (alarm_at w.alarms.items s)) h
 
 pub raw_none : (w : World) (s : ℕ) → job_at w.jobs s ≡ None → raw_at w.files w.core w.jobs w.alarms.items s ≡ None
 raw_none w s h = ap (raw_of w.files (core_at w.core s) (superior_at w.jobs s) (alarm_at w.alarms.items s)) h
-
--- a function that is another but at one place
-pub changed_at : {X : Type 0} (f g : ℕ → X) (s : ℕ) (x : X) → f s ≡ x → ((k : ℕ) → k ≢ s → f k ≡ g k) → (k : ℕ) → f k ≡ changed g s x k
-changed_at f g s x here others k = elim (cases_Bool (k == s)) [
-  | inl t ↦ let e : k ≡ s = grind (arith, nat_tests) in rw t (ap f e ∙ here)
-  | inr t ↦ let e : k ≢ s = grind (arith, nat_tests) in rw t (others k e)
-]
-
-pub slot_at : {X : Type 0} (f g : ℕ → Option X) (s : ℕ) (h : X → X) → f s ≡ option_map h (g s) → ((k : ℕ) → k ≢ s → f k ≡ g k) → (k : ℕ) → f k ≡ on_slot g s h k
-slot_at f g s h here others k = elim (cases_Bool (k == s)) [
-  | inl t ↦ let e : k ≡ s = grind (arith, nat_tests) in rw t (ap f e ∙ here ∙ ap (λ i. option_map h (g i)) (sym e))
-  | inr t ↦ let e : k ≢ s = grind (arith, nat_tests) in rw t (others k e)
-]
 
 pub raw_others : (old new : World) (s : ℕ) (c : Core) (j : Option Job) (f : Option Frame) (r : Option ℕ) → Becomes old new s c j f r
     → (k : ℕ) → k ≢ s → raw_at new.files new.core new.jobs new.alarms.items k ≡ raw_at old.files old.core old.jobs old.alarms.items k

@@ -22,12 +22,12 @@ use Rattle.its_plain.specs.OperatorClock.{clock_end}
 use Rattle.its_world.specs.Tidy.{channel_by, channel_at, Across, Tidy}
 use Rattle.its_world.specs.Storage.{HasJob, chan_in, ChannelBecomes, OnlyStore}
 use Rattle.its_world.specs.declared.world.World.{World}
-use Rattle.its_world.proofs.KeptLaws.{Kept, Stays}
+use Rattle.its_parts.proofs.KeptLaws.{Kept, Stays}
 use Rattle.its_world.proofs.MarkLaws.{mark_none, none_marked}
 use Rattle.its_world.proofs.PlaceLaws.{ringed_alike}
 use Rattle.its_world.proofs.WorldLaws.{frames_still}
 use Rattle.its_world.proofs.StateLaws.{state_is, changed_at, slot_at}
-use Rattle.its_world.proofs.TallyLaws.{OneChannel}
+use Rattle.its_parts.proofs.TallyLaws.{OneChannel}
 use Rattle.its_word.proofs.FreeLaws.{none_is}
 
 -- what is written at one place is what was there

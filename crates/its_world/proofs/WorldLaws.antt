@@ -1,5 +1,5 @@
 -- What a world keeps where one part of it is written.
-use Rattle.std.specs.Prelude.{◌≡◌, ◌<◌, ◌≤◌, ◌+◌, ◌-◌, ℕ, zero, suc, true, Option, Some, None, IsSome, is_some, List, [], ◌∷◌, ◌++◌, length, drop, slice_index_or, option_map, refl}
+use Rattle.std.specs.Prelude.{◌≡◌, ◌<◌, ◌≤◌, ◌-◌, ℕ, zero, suc, true, Option, Some, None, IsSome, is_some, List, [], ◌∷◌, ◌++◌, length, drop, slice_index_or, option_map, refl}
 use Rattle.std.proofs.Common.{ap, sym, arith, ◌∙◌}
 use Rattle.std.proofs.lemmas.List.{length-append, take-append-le, take_all}
 use Rattle.its_word.specs.Only.{Only, Same}
@@ -9,7 +9,7 @@ use Rattle.its_word.specs.declared.jobs.Job.{Job}
 use Rattle.its_frame.specs.declared.frame.Frame.{Frame}
 use Rattle.its_jobs.specs.Table.{job_at}
 use Rattle.its_plain.specs.Change.{rest_of}
-use Rattle.its_world.specs.World.{frame_at, console_at, holder_at, frames_after, with_frames, Becomes, CoreBecomes, JobBecomes, FrameBecomes, PageBecomes, ConsoleBecomes, HolderBecomes, ClockBecomes, typed_at}
+use Rattle.its_world.specs.World.{frame_at, console_at, holder_at, frames_after, with_frames, Becomes, CoreBecomes, PageBecomes, ConsoleBecomes, HolderBecomes, ClockBecomes, typed_at}
 use Rattle.its_world.specs.Rings.{lists_at}
 use Rattle.its_world.specs.Filed.{SlotWritten, ConsoleWritten, HolderWritten, ClockWritten, Refiled, Resettled}
 use Rattle.its_world.proofs.PlaceLaws.{ringed_alike, slot_ringed, door_ringed, clock_ringed}

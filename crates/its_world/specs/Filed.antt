@@ -1,5 +1,5 @@
 -- Where a slot of a world belongs among the lists of those that wait.
-use Rattle.std.specs.Prelude.{if◌then◌else◌, ◌≡◌, ◌≢◌, ◌<◌, ◌+◌, ℕ, Bool, true, false, Option, Some, None, List, nat_lt, slice_index_or, unwrap_or, ◌⊎◌}
+use Rattle.std.specs.Prelude.{if◌then◌else◌, ◌≡◌, ◌≢◌, ◌<◌, ℕ, Bool, true, false, Option, Some, None, List, nat_lt, slice_index_or, unwrap_or, ◌⊎◌}
 use Rattle.its_links.specs.Lists.{list_at, count}
 use Rattle.its_word.specs.Only.{Only}
 use Rattle.its_word.specs.declared.calls.Ask.{Ask}
@@ -14,19 +14,14 @@ use Rattle.its_plain.specs.Machine.{Chan, Shut, TtyIn, TtyOut}
 use Rattle.its_plain.specs.Arguments.{input}
 use Rattle.its_plain.specs.Decide.{call_named}
 use Rattle.its_plain.specs.Reasons.{Doors, held_up, reason_by}
-use Rattle.its_word.specs.Console.{Console, quiet_console}
+use Rattle.its_word.specs.Console.{Console}
+pub use Rattle.its_parts.specs.Parts.{console_at, holder_at}
 use Rattle.its_world.specs.Rings.{wait_rings, awake_of, place_at, console_in, StandsIn, Filed, AwayFrom}
 use Rattle.its_world.specs.declared.world.World.{World}
 
--- the frame of a slot; nothing waits at a console past the last, and nobody holds it
+-- the frame of a slot
 abbrev pub frame_at : List (Option Frame) → ℕ → Option Frame
 frame_at frames k = slice_index_or frames k None
-
-abbrev pub console_at : List Console → ℕ → Console
-console_at consoles c = slice_index_or consoles c quiet_console
-
-abbrev pub holder_at : List (Option ℕ) → ℕ → Option ℕ
-holder_at holders c = slice_index_or holders c None
 
 -- what a channel is on, as far as waiting goes: which file or draft it is does not matter
 abbrev pub kind_of : Channel → Chan

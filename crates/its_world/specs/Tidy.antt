@@ -1,64 +1,16 @@
 -- What holds of a world whatever state it stands for: facts on numbers of files and drafts, and on slots without a job.
-use Rattle.std.specs.Prelude.{if◌then◌else◌, ◌≡◌, ◌==◌, ◌≤◌, ◌<◌, ℕ, Bool, true, false, Option, Some, None, [], sum_by, slice_index_or}
-use Rattle.std.specs.List.{range_with_len}
+use Rattle.std.specs.Prelude.{◌≡◌, ◌<◌, ℕ, None, []}
 use Rattle.its_word.specs.Core.{no_core}
-use Rattle.its_word.specs.Limits.{slots}
-use Rattle.its_word.specs.declared.jobs.Channel.{Channel}
-use Rattle.its_word.specs.declared.jobs.Channel.TheVariants.{Closed, Reading, Writing}
-use Rattle.its_word.specs.declared.jobs.Job.{Job}
 use Rattle.its_core.specs.Cores.{core_at}
-use Rattle.its_jobs.specs.Table.{Table, job_at}
-use Rattle.its_files.specs.Files.{Store, entry_at, readers_at, is_marked}
-use Rattle.its_files.specs.declared.entry.Entry.{Entry}
-use Rattle.its_files.specs.declared.entry.Entry.TheVariants.{File, Draft}
+use Rattle.its_jobs.specs.Table.{job_at}
+pub use Rattle.its_parts.specs.Across.{channel_by, channel_at, of_slot, tally, reads, writes, writers, Across}
 use Rattle.its_world.specs.Filed.{Ringed}
 use Rattle.its_plain.specs.OperatorClock.{clock_end}
-use Rattle.its_world.specs.World.{symbols_at}
-use Rattle.its_world.specs.World.{alarm_at}
+use Rattle.its_world.specs.World.{alarm_at, symbols_at}
 use Rattle.its_world.specs.declared.world.World.{World}
 
--- channel n of the job of slot k; closed where the slot is empty
-abbrev pub channel_by : Option Job → ℕ → Channel
-channel_by (Some j) n = slice_index_or j.channels n Closed
-channel_by None n = Closed
-
-abbrev pub channel_at : Table → ℕ → ℕ → Channel
-channel_at t k n = channel_by (job_at t k) n
-
--- a sum over the 16 channels of all slots
-abbrev pub of_slot : (Channel → ℕ) → (ℕ → ℕ → Channel) → ℕ → ℕ
-of_slot weight cs k = sum_by (λ n. weight (cs k n)) (range_with_len 0 16)
-
-unfoldable pub tally : (Channel → ℕ) → (ℕ → ℕ → Channel) → ℕ
-tally weight cs = sum_by (of_slot weight cs) (range_with_len 0 slots)
-
--- a channel that reads the file of a number, and one that writes the draft of a number
-abbrev pub reads : ℕ → Channel → ℕ
-reads f (Reading g at) = if g == f then 1 else 0
-reads f _ = 0
-
-abbrev pub writes : ℕ → Channel → ℕ
-writes d (Writing e) = if e == d then 1 else 0
-writes d _ = 0
-
--- how many channels write what stands under a number: a draft one, but none one that is marked
-abbrev pub writers : Option Entry → Bool → ℕ
-writers (Some (Draft names)) false = 1
-writers (Some (Draft names)) true = 0
-writers (Some (File names readers)) marked = 0
-writers None marked = 0
-
--- the readers of a file are the channels that read it; and each draft but the marked one is that of one channel. So a
--- channel that reads is on a file that stands, and one that writes on a draft that stands, is not marked, and is no other's.
--- All channels are among the 16 of the slots
-pub record Across (s : Store) (t : Table) : Type 0 where
-  pub past_slots : (k n : ℕ) → slots ≤ k → channel_at t k n ≡ Closed
-  pub past_numbers : (k n : ℕ) → 16 ≤ n → channel_at t k n ≡ Closed
-  pub read : (f : ℕ) → tally (reads f) (channel_at t) ≡ readers_at s f
-  pub written : (d : ℕ) → tally (writes d) (channel_at t) ≡ writers (entry_at s d) (is_marked s d)
-
--- and the core of a slot without a job is that of no job, it has no symbols and no alarm; the clock is below its end; and each
--- slot stands in the list of those that wait in which it belongs
+-- the core of a slot without a job is that of no job, and it has no symbols and no alarm; the clock is below its end; the
+-- channels fit the files and drafts that stand; and each slot stands in the list of those that wait in which it belongs
 pub record Tidy (w : World) : Type 0 where
   pub blank : (k : ℕ) → job_at w.jobs k ≡ None → core_at w.core k ≡ no_core
   pub quiet : (k : ℕ) → job_at w.jobs k ≡ None → alarm_at w.alarms.items k ≡ None

@@ -1,77 +1,25 @@
 -- The state of the stepped machine that a world stands for.
-use Rattle.std.specs.Prelude.{◌≡◌, ◌+◌, ℕ, Option, Some, None, List, [], ◌∷◌, ◌++◌, take, drop, replicate, slice_index_or, unwrap_or}
+use Rattle.std.specs.Prelude.{◌≡◌, ℕ, Option, Some, None, List, [], ◌∷◌, ◌++◌, take, drop, unwrap_or}
 use Rattle.std.specs.List.{last_or}
 use Rattle.its_word.specs.Only.{Only, Same}
-use Rattle.its_word.specs.Console.{Console, quiet_console, most_waiting}
-use Rattle.its_word.specs.ArrayVec.{ArrayVec}
+use Rattle.its_word.specs.Console.{Console, most_waiting}
 use Rattle.its_word.specs.Core.{Core}
-use Rattle.its_word.specs.declared.jobs.Channel.{Channel}
-use Rattle.its_word.specs.declared.jobs.Channel.TheVariants as channels
 use Rattle.its_word.specs.declared.jobs.Job.{Job}
-use Rattle.its_core.specs.Cores.{Cores, core_at, clear_at}
+use Rattle.its_core.specs.Cores.{core_at, clear_at}
 use Rattle.its_core.specs.Frames.{Frames, frames_reserve, frames_give_back}
-use Rattle.its_jobs.specs.Table.{Table, job_at, superior_at}
-use Rattle.its_files.specs.Files.{Store, names_at, file_at, directory}
+use Rattle.its_jobs.specs.Table.{job_at}
+use Rattle.its_files.specs.Files.{Store, file_at, directory}
 use Rattle.its_files.specs.declared.entry.Mark.{Mark as FilesMark}
 use Rattle.its_files.specs.declared.entry.Parts.{Parts}
 use Rattle.its_files.specs.declared.entry.Parts.TheVariants.{Replace, Link, Free}
 use Rattle.its_frame.specs.declared.frame.Frame.{Frame}
-use Rattle.its_plain.specs.Machine.{Symbol, File, Chan, Shut, TtyIn, TtyOut, Reads, Writes, On, Whole, Machine}
+use Rattle.its_plain.specs.Machine.{Symbol, File, Whole}
 use Rattle.its_plain.specs.Change.{in_job}
 use Rattle.its_stepped.specs.State.{Part, UnlinkOld, LinkNew, FreeOld, Mark, State}
+pub use Rattle.its_parts.specs.Parts.{chan_of, closed_channels, bare, chans_of, raw_of, alarm_at, raw_at, no_symbols, symbols_at, raw_machine}
 pub use Rattle.its_world.specs.Filed.{frame_at, console_at, holder_at}
 use Rattle.its_world.specs.Filed.{Ringed}
 use Rattle.its_world.specs.declared.world.World.{World}
-
--- what a channel of the plain machine is on, where files and drafts go by their names and words. (Their numbers are the
--- monitor's own, and never reach the machine)
-abbrev pub chan_of : Store → Channel → Chan
-chan_of s channels.Closed = Shut
-chan_of s channels.TtyIn = TtyIn
-chan_of s channels.TtyOut = TtyOut
-chan_of s (channels.Reading f at) = Reads (names_at s f) at
-chan_of s (channels.Writing d) = Writes (file_at s d)
-chan_of s (channels.Usr k w at) = On k w at
-
--- the registers of the plain machine: its channels stand apart
-unfoldable pub closed_channels : List Channel
-closed_channels = replicate 16 channels.Closed
-
-abbrev pub bare : Job → Job
-bare j = record j { channels = closed_channels }
-
--- the raw job of a slot
-abbrev pub chans_of : Store → Job → ℕ → Chan
-chans_of s j n = chan_of s (slice_index_or j.channels n channels.Closed)
-
-abbrev pub raw_of : Store → Core → Option ℕ → Option (ℕ × ℕ) → Option Job → Option Whole
-raw_of s c superior alarm (Some j) = Some (record { core = c; job = bare j; superior = superior; channels = chans_of s j; alarm = alarm })
-raw_of s c superior alarm None = None
-
--- the alarm of a slot: a period and a next time
-abbrev pub alarm_at : List (Option (ℕ × ℕ)) → ℕ → Option (ℕ × ℕ)
-alarm_at alarms k = slice_index_or alarms k None
-
-abbrev pub raw_at : Store → Cores → Table → List (Option (ℕ × ℕ)) → ℕ → Option Whole
-raw_at s cores table alarms k = raw_of s (core_at cores k) (superior_at table k) (alarm_at alarms k) (job_at table k)
-
--- the symbols of the job of a slot
-abbrev pub no_symbols : ArrayVec Symbol
-no_symbols = record { items = [] }
-
-abbrev pub symbols_at : List (ArrayVec Symbol) → ℕ → List Symbol
-symbols_at symbols k = (slice_index_or symbols k no_symbols).items
-
-abbrev pub raw_machine : Store → Cores → Table → List (Option (ℕ × ℕ)) → List Console → List (Option ℕ) → ℕ → ℕ → List (ArrayVec Symbol) → Machine
-raw_machine s cores table alarms consoles holders clock version symbols = record {
-  jobs = raw_at s cores table alarms;
-  consoles = console_at consoles;
-  holders = holder_at holders;
-  files = directory s;
-  clock = clock;
-  version = version;
-  symbols = symbols_at symbols;
-}
 
 -- a close that is half made: its draft becomes the last file; where that is done, it is the last file
 abbrev pub no_file : File

@@ -172,8 +172,9 @@ fn picking(core: &mut Core, slot: u8, job: &mut Job, x: &Context, op: ByteOp) ->
 }
 
 /// One unit of the job of a slot. Its arms are the opcodes that come often, each with its operation, mode and
-/// condition; any other unit is made by `rarely`.
-#[inline]
+/// condition; any other unit is made by `rarely`. It is to stand in the loop of units that calls it, since a call costs a fifth of a
+/// unit: all registers that it uses are saved, and what the loop keeps in them is loaded again. (It is too large for that yet.)
+#[inline(always)]
 #[tactic(auto, using(crate::proofs::ChainLaws::stands, crate::proofs::ChainLaws::stands_call), unfolding(its_plain::specs::Unit::row_of, its_word::specs::Opcode::instruction_of, its_word::specs::Opcode::mode_of, its_word::specs::Opcode::full_word_opcode, its_word::specs::Opcode::shift_opcode, its_word::specs::Opcode::branch_opcode, its_word::specs::Opcode::stack_opcode, its_word::specs::Opcode::compare_opcode, its_word::specs::Opcode::test_opcode, its_word::specs::Opcode::mask_of, its_word::specs::Opcode::byte_opcode, its_word::specs::Opcode::monitor_opcode))]
 pub fn frequent(core: &mut Core, slot: u8, job: &mut Job) -> Ended
     requires slot { slot < slots }

@@ -133,7 +133,7 @@ pub fn rarely(core: &mut Core, slot: u8, job: &mut Job) -> Ended
 
 /// One unit of the job of a slot, as `unit` makes it, without the site of a call. At a fault and at a
 /// call the core and the job are as they were.
-#[inline]
+#[inline(always)]
 pub fn run(core: &mut Core, slot: u8, job: &mut Job) -> Ended
     requires slot { slot < slots }
     requires pc { job.old.pc < 2 ^ 18 }

@@ -1,4 +1,4 @@
-//! Sessions of both versions of the session text: how many jobs there can be, read-only pages and symbols.
+//! Sessions of both versions of the session text: how many jobs there can be, read-only pages, symbols and LIST.
 
 use super::pages::TAKER;
 use super::{compare, line, shows};
@@ -153,6 +153,54 @@ J 0
 T 0 4. 1* 1-
 J 0
 S 0 650000000000 520000000000 - - RUN 010000000100 000000000000 000000000000 000000000000 000000000000 000000000000 000000000000 - -
+#VERSION 2
+; words typed out, and none where one of their pages is absent
+LOAD U J -
+100/ 201040000005 202040000200 045700000000
+SYM X 000200
+GO 000100
+TICK 0 2
+LIST 0 100 2
+LIST 0 200 2
+LIST 0 16 4
+LIST 0 1777 2
+=
+J 0
+T 0 2*
+L 0 000100 MOVEI 1,5
+L 0 000101 MOVEM 1,200
+L 0 000200 WORD 0,,5
+L 0 000201 WORD 0,,0
+L 0 000016 WORD 0,,0
+L 0 000017 WORD 0,,0
+L 0 000020 WORD 0,,0
+L 0 000021 WORD 0,,0
+? 13 NOPAGE
+#VERSION 2
+LIST 0 0 1
+=
+? 2 NOJOB
+#LIST 0 0 1
+=
+? 1 SYNTAX
+#VERSION 2
+; a job that sleeps: PEEK leaves it in its call, and LIST finds its new argument stored and the call left
+LOAD U J -
+100/ 043000000120
+120/ 400000000000 635445456000 400000000200
+200/ 36
+GO 100
+TICK 0 6
+PEEK 0
+CLOCK 12
+LIST 0 200 1
+PEEK 0
+=
+J 0
+T 0 4. 1* 1w
+P 0 WAITING 635445456000 2 000000000036 - -
+L 0 000200 WORD 777777,,777742
+P 0 USER - 0 - - -
 ";
 
 /// 96 jobs that all stand in HANG, and one more.

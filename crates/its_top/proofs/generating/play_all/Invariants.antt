@@ -9,12 +9,12 @@ use Rattle.its_top.proofs.generating.play_all.Given as goal
 abbrev pub invariant-loop-event : goal.invariant-loop-event
 invariant-loop-event l = record {
   sound : Kept l.m.world;
-  slot : l.play.slot < slots;
-  within : l.k ≤ length (generated_session l.n);
-  steps : l.play.tally.steps ≤ 512 * l.k;
-  drained : l.play.tally.drained ≤ 64 * l.k;
-  so_far : PlaySo l.play (l.k + 1) (state_of l.m.world) (drop l.k (generated_session l.n)) (generated_tally l.n);
+  slot : l.play.progress.slot < slots;
+  within : l.play.progress.number ≤ length (generated_session l.n);
+  steps : l.play.tally.steps ≤ 512 * l.play.progress.number;
+  drained : l.play.tally.drained ≤ 64 * l.play.progress.number;
+  so_far : PlaySo l.play (l.play.progress.number + 1) (state_of l.m.world) (drop l.play.progress.number (generated_session l.n)) (generated_tally l.n);
 }
 
 abbrev pub decreases-loop-event : goal.decreases-loop-event
-decreases-loop-event l = length (generated_session l.n) - l.k
+decreases-loop-event l = length (generated_session l.n) - l.play.progress.number

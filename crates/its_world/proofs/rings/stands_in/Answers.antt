@@ -1,6 +1,6 @@
 use Rattle.std.proofs.Common.{subst}
-use Rattle.std.specs.Prelude.{◌<◌, ℕ, refl}
-use Rattle.std.proofs.Common.{sym, ◌∙◌}
+use Rattle.std.specs.Prelude.{◌<◌, refl}
+use Rattle.std.proofs.Common.{◌∙◌}
 use Rattle.its_links.specs.Lists.{list_at, count}
 use Rattle.its_world.proofs.RingLaws.{looked_start, looked_here, looked_in, looked_more}
 use Rattle.its_world.proofs.rings.stands_in.Goals as goal

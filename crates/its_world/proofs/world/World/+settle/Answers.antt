@@ -1,5 +1,5 @@
 use Rattle.std.specs.Prelude.{refl}
-use Rattle.std.proofs.Common.{sym, ◌∙◌}
+use Rattle.std.proofs.Common.{sym}
 use Rattle.its_world.proofs.FilingLaws.{settled_some, heads_within}
 use Rattle.its_world.proofs.world.World.+settle.Goals as goal
 

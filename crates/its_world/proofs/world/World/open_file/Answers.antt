@@ -1,6 +1,6 @@
 use Rattle.std.proofs.Common.{arith, refl}
 use Rattle.std.specs.Prelude.{◌∷◌, []}
-use Rattle.its_world.proofs.AcrossLaws.{readers_few}
+use Rattle.its_parts.proofs.StandLaws.{readers_few}
 use Rattle.its_world.proofs.StorageLaws.{store_unmarked, store_first}
 use Rattle.its_world.proofs.ChannelLaws.{open_file_comes, file_found}
 use Rattle.its_world.proofs.world.World.open_file.Goals as goal

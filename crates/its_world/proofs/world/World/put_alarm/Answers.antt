@@ -1,4 +1,4 @@
-use Rattle.std.proofs.Common.{refl, ap, arith, rules}
+use Rattle.std.proofs.Common.{refl, rules}
 use Rattle.its_world.proofs.AlarmLaws.{alarm_becomes}
 use Rattle.its_world.proofs.world.World.put_alarm.Goals as goal
 

@@ -1,4 +1,4 @@
-use Rattle.std.proofs.Common.{refl, ap, arith, rules}
+use Rattle.std.proofs.Common.{refl, ap}
 use Rattle.its_jobs.specs.Table.{job_at}
 use Rattle.its_world.proofs.SymbolLaws.{version_becomes}
 use Rattle.its_world.proofs.world.World.second_version.Goals as goal

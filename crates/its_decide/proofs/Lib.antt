@@ -1,0 +1,7 @@
+pub mod BareLaws
+pub mod ChannelLaws
+pub mod FileLaws
+pub mod InferiorLaws
+pub mod PageLaws
+pub mod ReachLaws
+pub mod StopLaws

@@ -1,0 +1,15 @@
+-- Why a file is neither deleted nor renamed, in the form that code answers.
+use Rattle.std.specs.Prelude.{if◌then◌else◌, ◌==◌, ℕ, not, Option, Some, None}
+use Rattle.its_word.specs.declared.calls.Ask.{Ask}
+use Rattle.its_frame.specs.Errors as error
+use Rattle.its_plain.specs.Arguments.{input}
+use Rattle.its_plain.specs.CallFile.{channels_in, disk_device, has_file, is_read}
+use Rattle.its_plain.specs.Machine.{Names}
+use Rattle.its_plain.specs.View.{View}
+
+abbrev pub error_of_file : View → Ask → Names → Option ℕ
+error_of_file v a names =
+    if not (input a 0 == disk_device) then Some error.WRONG_DEVICE
+    else (if not (has_file names v.files) then Some error.NO_FILE
+    else (if is_read names (channels_in v) then Some error.FILE_LOCKED
+    else None))

@@ -1,0 +1,127 @@
+//! SLEEP, DISMIS, LOGOUT and REALT.
+ghost use Rattle.std.specs.Prelude.{◌≡◌, ◌<◌};
+ghost use Rattle.its_plain.specs.CallBasic.{dismiss, logout, popped, realt, sleep};
+ghost use Rattle.its_plain.specs.Interrupt.{dismissed};
+ghost use Rattle.its_plain.specs.OperatorClock.{clock_end};
+ghost use Rattle.its_core.specs.Cores.{core_at};
+ghost use Rattle.its_parts.specs.Parts.{bare};
+ghost use Rattle.its_decide.specs.Called.{looks};
+
+use super::caller::Caller;
+use super::ends::{ends, store_at};
+use arrayvec::ArrayVec;
+use its_frame::{Change, Decision, Exit, Wait, error};
+use its_word::{Fault, Word};
+
+/// The longest sleep, and the longest period of an alarm, in thirtieths.
+const LONGEST: u64 = 0o200000000000;
+
+/// How many values a word has.
+const WORDS: u64 = 0o1000000000000;
+
+/// From this value on a word has bit 0 on.
+const BIT_0: u64 = 0o400000000000;
+
+/// How much is taken from each half of the stack pointer word, modulo 1000000 (octal).
+const FIVE_LESS: u32 = 0o1000000 - 5;
+
+impl Caller<'_> {
+    /// SLEEP n: for n above 0 its argument becomes minus the time of waking; for n below 0 it waits for that time. Errors 22
+    /// where n is too long, 17 where n is no word of its own, and WRO.
+    #[tactic(auto, unfolding(its_plain::specs::CallBasic::sleep, its_plain::specs::View::view))]
+    pub(crate) fn sleep(&self) -> Decision
+        ensures { result ≡ sleep (looks self.now) self.now.ask.now }
+    {
+        let n = self.input(0).value();
+        if n == 0 {
+            return self.finishes(ArrayVec::new());
+        }
+        if n >= BIT_0 && self.seen.clock < WORDS - n {
+            return Decision::Waits(Wait::Clock);
+        }
+        if n >= BIT_0 {
+            return self.finishes(ArrayVec::new());
+        }
+        if n > LONGEST {
+            return self.fails(error::OUT_OF_RANGE);
+        }
+        if self.is_shared(0) {
+            return self.fails(error::NO_WORD);
+        }
+        if self.is_read_only(0) {
+            return self.faults(Fault::Wro);
+        }
+        let left = WORDS.saturating_sub(self.seen.clock).saturating_sub(n);
+        let mut values = ArrayVec::new();
+        values.push(Word::new(left));
+        Decision::Goes {
+            changes: ArrayVec::new(),
+            held: None,
+            values,
+        }
+    }
+
+    /// REALT n: the job has an alarm from now on, of period n, whose next time is n thirtieths from now; with 0 it has none. Error
+    /// 22 where n is below 0 or longer than 2^34.
+    #[tactic(auto, unfolding(its_plain::specs::CallBasic::realt, its_plain::specs::View::view))]
+    pub(crate) fn realt(&self) -> Decision
+        requires clock { self.now.seen.now.clock < clock_end }
+        ensures { result ≡ realt (looks self.now) self.now.ask.now }
+    {
+        let n = self.input(0).value();
+        if n >= BIT_0 || n > LONGEST {
+            return self.fails(error::OUT_OF_RANGE);
+        }
+        let alarm = if n == 0 {
+            None
+        } else {
+            Some((n, self.seen.clock + n))
+        };
+        self.finishes_with(Change::Arm { alarm })
+    }
+
+    /// DISMIS p: PC, flags and deferrals come from the words that a delivery pushed, and 5 is taken from each half of the stack
+    /// pointer word at p. Error 17 where p is immediate; MPV where one of the words is absent, else WRO where p is read only.
+    #[tactic(auto, unfolding(its_plain::specs::CallBasic::dismiss, its_plain::specs::View::view))]
+    pub(crate) fn dismiss(&self) -> Decision
+        ensures { result ≡ dismiss (looks self.now) self.now.ask.now }
+    {
+        match self.place(0) {
+            Some(p) => match self.dismissed(p) {
+                Ok(exit) => ends(None, store_at(Some(p), popped(self.input(0))), exit),
+                Err(fault) => self.faults(fault),
+            },
+            None => self.fails(error::NO_WORD),
+        }
+    }
+
+    /// The registers that DISMIS leaves the caller with.
+    #[tactic(auto, using(crate::proofs::BareLaws::dismissed_absent, crate::proofs::BareLaws::dismissed_bare))]
+    fn dismissed(&self, p: u32) -> Result<Exit, Fault>
+        ensures { result ≡ dismissed (core_at self.now.seen.now.core.now self.now.slot) (bare self.now.job.now) p }
+    {
+        match self.seen.core.word(self.slot, p) {
+            Some(_) => its_ints::dismiss(self.seen.core, self.job, self.slot, p),
+            None => Err(Fault::Mpv),
+        }
+    }
+
+    /// LOGOUT: the job and all jobs below it are removed, and INF is set in its superior.
+    #[tactic(auto, unfolding(its_plain::specs::View::view))]
+    pub(crate) fn logout(&self) -> Decision
+        ensures { result ≡ logout (looks self.now) }
+    {
+        let mut changes = ArrayVec::new();
+        if let Some(superior) = self.seen.jobs.superior(self.slot) {
+            changes.push(Change::Inform { slot: superior });
+        }
+        Decision::Gone { changes }
+    }
+}
+
+/// The stack pointer word without the five words of a delivery.
+fn popped(pointer: Word) -> Word
+    ensures { result ≡ popped pointer }
+{
+    Word::pair(pointer.left() + FIVE_LESS, pointer.right() + FIVE_LESS)
+}

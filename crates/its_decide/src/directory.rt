@@ -1,0 +1,169 @@
+//! The directory as a call sees it: which file has some names, and whether a channel reads it. CLOSE of a draft, DELETE and
+//! RENAME.
+ghost use Rattle.std.specs.Prelude.{◌≡◌, ◌<◌, length};
+ghost use Rattle.std.specs.List.{list_any, range_with_len};
+ghost use Rattle.its_word.specs.Directory.{same_names as are_same};
+ghost use Rattle.its_files.specs.Files.{directory, file_at};
+ghost use Rattle.its_plain.specs.Arguments.{input};
+ghost use Rattle.its_plain.specs.CallFile.{channels_in, closes_draft, delete, has_file, is_read, names_from, reads, rename};
+ghost use Rattle.its_parts.specs.Across.{channel_at};
+ghost use Rattle.its_decide.specs.Called.{channel_under, looks};
+ghost use Rattle.its_decide.specs.Directory.{error_of_file};
+ghost use Rattle.its_decide.specs.Fits.{Fits};
+ghost use Rattle.its_word.specs.declared.jobs.Channel.TheVariants.{Writing};
+
+use super::caller::Caller;
+use its_frame::{Change, Decision, error};
+use its_word::{Channel, SLOTS, Word};
+
+/// The device of files, in SIXBIT.
+pub(crate) const DSK: u64 = 0o446353000000;
+
+/// How many files there are at most.
+const FILES: u32 = 256;
+
+/// How many channels a job has.
+const CHANNELS: usize = 16;
+
+impl Caller<'_> {
+    /// The directory, name 1 and name 2 of a file, of which the two names and the directory are the inputs from k on.
+    pub(crate) fn names_from(&self, k: usize) -> [Word; 3]
+        requires { k < 8 }
+        ensures { result ≡ names_from self.now.ask.now k }
+    {
+        [self.input(k + 2), self.input(k), self.input(k + 1)]
+    }
+
+    /// Whether there is a file with these names.
+    #[tactic(auto, using(its_parts::proofs::StoreLaws::has_named, crate::proofs::FileLaws::three))]
+    pub(crate) fn has_file(&self, names: [Word; 3]) -> bool
+        ensures { result ≡ has_file names (directory self.now.seen.now.files.now) }
+    {
+        self.seen.files.find(names[0], names[1], names[2]).is_some()
+    }
+
+    /// Whether any channel of any job reads the file with these names.
+    #[tactic(auto, unfolding(its_plain::specs::CallFile::is_read))]
+    fn is_read(&self, names: [Word; 3]) -> bool
+        requires { Fits self.now.seen.now }
+        ensures { result ≡ is_read names (channels_in (looks self.now)) }
+    {
+        (0..SLOTS as u8).any(|k| self.is_reader(k, names))
+    }
+
+    /// Whether a channel of the job of a slot reads the file with these names.
+    #[tactic(auto, unfolding(its_plain::specs::View::view))]
+    fn is_reader(&self, slot: u8, names: [Word; 3]) -> bool
+        requires { Fits self.now.seen.now }
+        ensures { result ≡ list_any (λ n. reads names (channels_in (looks self.now) slot n)) (range_with_len 0 16) }
+    {
+        (0..CHANNELS).any(|n| self.reads(slot, n, names))
+    }
+
+    /// Whether channel n of the job of a slot reads the file with these names.
+    #[tactic(auto, using(crate::proofs::FileLaws::seen_reads, crate::proofs::FileLaws::file_of_channel))]
+    fn reads(&self, slot: u8, n: usize, names: [Word; 3]) -> bool
+        requires { Fits self.now.seen.now }
+        ensures { result ≡ reads names (channels_in (looks self.now) slot n) }
+    {
+        match self.channel_of(slot, n) {
+            Channel::Reading { file, .. } => are_same(&names, &self.seen.files.names(file)),
+            _ => false,
+        }
+    }
+
+    /// Channel n of the job of a slot; closed where the slot is empty.
+    fn channel_of(&self, slot: u8, n: usize) -> Channel
+        ensures { result ≡ channel_at self.now.seen.now.jobs.now slot n }
+    {
+        match self.seen.jobs.job(slot) {
+            Some(job) => job.channels.get(n).copied().unwrap_or(Channel::Closed),
+            None => Channel::Closed,
+        }
+    }
+
+    /// CLOSE of a draft, which becomes the last file, in place of the one with its names. Errors 11 where a channel reads that
+    /// file, 7 where there is none and there are 256 files.
+    #[tactic(auto, using(its_files::proofs::EntryLaws::draft_stands, crate::proofs::FileLaws::writing, crate::proofs::FileLaws::seen_count), unfolding(its_plain::specs::CallFile::closes_draft, its_plain::specs::View::view))]
+    pub(crate) fn close_draft(&self, draft: u32) -> Decision
+        requires on { channel_under self.now.job.now (input self.now.ask.now 0) ≡ Writing draft }
+        requires fits { Fits self.now.seen.now }
+        ensures { result ≡ closes_draft (looks self.now) self.now.ask.now (file_at self.now.seen.now.files.now draft) }
+    {
+        let names = self.seen.files.names(draft);
+        if self.is_read(names) {
+            return self.fails(error::FILE_LOCKED);
+        }
+        if !self.has_file(names) && self.seen.files.count() >= FILES {
+            return self.fails(error::DIRECTORY_FULL);
+        }
+        self.finishes_with(Change::Close {
+            channel: self.input(0).value() as u8,
+        })
+    }
+
+    /// Why a file is neither deleted nor renamed: error 5 where the device is not DSK, 6 where there is no such file, 11 where a
+    /// channel reads it.
+    #[tactic(auto, unfolding(its_plain::specs::View::view))]
+    fn error_of_file(&self, names: [Word; 3]) -> Option<u8>
+        requires { Fits self.now.seen.now }
+        ensures { result ≡ error_of_file (looks self.now) self.now.ask.now names }
+    {
+        if self.input(0).value() != DSK {
+            Some(error::WRONG_DEVICE)
+        } else if !self.has_file(names) {
+            Some(error::NO_FILE)
+        } else if self.is_read(names) {
+            Some(error::FILE_LOCKED)
+        } else {
+            None
+        }
+    }
+
+    /// DELETE device, name 1, name 2, directory. Errors 5, 6, 11.
+    #[tactic(auto, unfolding(its_plain::specs::CallFile::delete, its_plain::specs::View::view))]
+    pub(crate) fn delete(&self) -> Decision
+        requires { Fits self.now.seen.now }
+        ensures { result ≡ delete (looks self.now) self.now.ask.now }
+    {
+        let [d, x, y] = self.names_from(1);
+        if let Some(error) = self.error_of_file([d, x, y]) {
+            return self.fails(error);
+        }
+        self.finishes_with(Change::Delete { d, x, y })
+    }
+
+    /// RENAME device, name 1, name 2, directory, new name 1, new name 2. Errors 5, 6, 11, and 23 where a file of the directory
+    /// has the new names, itself included.
+    #[tactic(auto, unfolding(its_plain::specs::CallFile::rename, its_plain::specs::View::view))]
+    pub(crate) fn rename(&self) -> Decision
+        requires { Fits self.now.seen.now }
+        ensures { result ≡ rename (looks self.now) self.now.ask.now }
+    {
+        let [d, x, y] = self.names_from(1);
+        let (new_x, new_y) = (self.input(4), self.input(5));
+        if let Some(error) = self.error_of_file([d, x, y]) {
+            return self.fails(error);
+        }
+        if self.has_file([d, new_x, new_y]) {
+            return self.fails(error::FILE_EXISTS);
+        }
+        self.finishes_with(Change::Rename {
+            d,
+            x,
+            y,
+            new_x,
+            new_y,
+        })
+    }
+}
+
+/// Whether two directories, names 1 and names 2 are the same.
+#[tactic(auto, unfolding(its_word::specs::Directory::same_names))]
+fn are_same(a: &[Word], b: &[Word]) -> bool
+    requires a { length a.now ≡ 3 }
+    requires b { length b.now ≡ 3 }
+    ensures { result ≡ are_same a.now b.now }
+{
+    a[0] == b[0] && a[1] == b[1] && a[2] == b[2]
+}

@@ -1,0 +1,24 @@
+//! What each call comes to (docs/CALLS.md), as the plain machine in running form decides it: a second writing beside that of the
+//! monitor. A decision is found from the machine as it stands, and changes nothing. A call is a method of its `Caller`: its
+//! tests in the order of the definitions, and then its end.
+#![tactic(auto)]
+
+mod arguments;
+mod basic;
+mod caller;
+mod choice;
+mod consoles;
+mod directory;
+mod ends;
+mod files;
+mod inferiors;
+mod opening;
+mod pages;
+mod reach;
+mod transfers;
+mod variables;
+mod words;
+
+pub use caller::Seen;
+pub use choice::decide;
+pub use reach::disturbs;

@@ -1,0 +1,32 @@
+//! What all calls OPEN test, whatever their device.
+ghost use Rattle.std.specs.Prelude.{◌≡◌, ◌&&◌, nat_lt, unwrap_or};
+ghost use Rattle.its_plain.specs.CallBasic.{channel_at};
+ghost use Rattle.its_plain.specs.CallTty.{is_shut};
+ghost use Rattle.its_decide.specs.Called.{looks};
+
+use super::caller::Caller;
+use its_word::{Channel, Word};
+
+impl Caller<'_> {
+    /// The control argument; 0 where there is none.
+    pub(crate) fn control(&self) -> u64
+        ensures { result ≡ unwrap_or self.now.ask.now.control 0 }
+    {
+        match self.ask.control {
+            Some(word) => word.value(),
+            None => 0,
+        }
+    }
+
+    /// Whether a number is that of a closed channel.
+    #[tactic(auto, using(crate::proofs::ChannelLaws::under), unfolding(its_plain::specs::View::view))]
+    pub(crate) fn is_free(&self, number: Word) -> bool
+        ensures { result ≡ (nat_lt number 16 && is_shut (channel_at (looks self.now).own.channels number)) }
+    {
+        number.value() < 16
+            && match self.channel(number) {
+                Channel::Closed => true,
+                _ => false,
+            }
+    }
+}

@@ -1,0 +1,103 @@
+//! CORBLK.
+ghost use Rattle.std.specs.Prelude.{◌≡◌, ◌<◌, Some};
+ghost use Rattle.its_word.specs.Limits.{slots};
+ghost use Rattle.its_core.specs.Cores.{core_at};
+ghost use Rattle.its_frame.specs.declared.name.CallName.TheVariants.{Corblk};
+ghost use Rattle.its_plain.specs.Arguments.{input};
+ghost use Rattle.its_plain.specs.CallCore.{corblk, page_changed, pages_of};
+ghost use Rattle.its_plain.specs.CallUsr.{other_core};
+ghost use Rattle.its_plain.specs.Decide.{call_named};
+ghost use Rattle.its_decide.specs.Called.{looks};
+ghost use Rattle.its_decide.specs.Fits.{Fits};
+ghost use Rattle.its_decide.specs.Targets.{Targets};
+
+use super::arguments::is_oneself;
+use super::caller::Caller;
+use its_frame::{Change, Decision, error};
+use its_word::{Channel, MAPPED_PAGES};
+
+/// The operation that makes a page of zeros.
+const MAKE: u64 = 1;
+
+/// The highest operation.
+const OPERATIONS: u64 = 3;
+
+/// The highest page.
+const PAGES: u64 = 0o377;
+
+impl Caller<'_> {
+    /// CORBLK operation, job, page: drops a page (0), makes one of zeros (1), or makes it read only (2) or writable (3). Errors
+    /// 22, 4, 5; 22 by the page, 16 where it is there, for operation 1, or not there, for any other; 15 where all jobs together
+    /// have 1024 pages.
+    #[tactic(auto, using(crate::proofs::ChannelLaws::under, crate::proofs::InferiorLaws::targeted), unfolding(its_plain::specs::CallCore::corblk, its_plain::specs::View::view))]
+    pub(crate) fn corblk(&self) -> Decision
+        requires fail { self.now.ask.now.fail ≡ 0 }
+        requires name { call_named self.now.ask.now.name ≡ Some Corblk }
+        requires fits { Fits self.now.seen.now }
+        ensures { result ≡ corblk (looks self.now) self.now.ask.now }
+    {
+        let party = self.input(1);
+        if self.input(0).value() > OPERATIONS {
+            return self.fails(error::OUT_OF_RANGE);
+        }
+        if is_oneself(party) {
+            return self.pages_of(self.slot);
+        }
+        match self.channel(party) {
+            Channel::Closed => self.fails(error::BAD_CHANNEL),
+            Channel::Usr {
+                slot: inferior,
+                write: true,
+                ..
+            } => self.pages_of_other(inferior),
+            _ => self.fails(error::WRONG_DEVICE),
+        }
+    }
+
+    /// The operation on a page of the inferior that the call reaches.
+    #[tactic(auto, using(crate::proofs::InferiorLaws::other_core_is))]
+    fn pages_of_other(&self, inferior: u8) -> Decision
+        requires targets { Targets self.now (input self.now.ask.now 1) inferior }
+        requires fits { Fits self.now.seen.now }
+        ensures { result ≡ pages_of (looks self.now) self.now.ask.now (input self.now.ask.now 0) inferior (other_core (looks self.now)) (input self.now.ask.now 2) }
+    {
+        self.pages_of(inferior)
+    }
+
+    /// The operation on a page of the job of a slot.
+    #[tactic(auto, using(crate::proofs::PageLaws::seen_pages), unfolding(its_plain::specs::View::view))]
+    fn pages_of(&self, target: u8) -> Decision
+        requires target { target < slots }
+        requires fits { Fits self.now.seen.now }
+        ensures { result ≡ pages_of (looks self.now) self.now.ask.now (input self.now.ask.now 0) target (core_at self.now.seen.now.core.now target) (input self.now.ask.now 2) }
+    {
+        let (operation, page) = (self.input(0).value(), self.input(2).value());
+        if page > PAGES {
+            return self.fails(error::OUT_OF_RANGE);
+        }
+        let page = page as u8;
+        let is_there = self.seen.core.page(target, page).is_some();
+        if is_there == (operation == MAKE) {
+            return self.fails(error::BAD_PAGE);
+        }
+        if operation == MAKE && self.seen.core.mapped() >= MAPPED_PAGES {
+            return self.fails(error::NO_CORE);
+        }
+        self.finishes_with(page_changed(operation, target, page))
+    }
+}
+
+/// What an operation does to a page.
+fn page_changed(operation: u64, slot: u8, page: u8) -> Change
+    ensures { result ≡ page_changed operation slot page }
+{
+    match operation {
+        0 => Change::Unmap { slot, page },
+        1 => Change::Map { slot, page },
+        _ => Change::Protect {
+            slot,
+            page,
+            writable: operation == 3,
+        },
+    }
+}

@@ -1,0 +1,104 @@
+//! The transfers of bytes and words: what stops `.IOT` and SIOT, whatever their channel is on.
+ghost use Rattle.std.specs.Prelude.{◌≡◌, ◌==◌, true, false, IfOk, IfErr};
+ghost use Rattle.its_word.specs.Byte.{has_size, size};
+ghost use Rattle.its_core.specs.Cores.{core_at};
+ghost use Rattle.its_frame.specs.declared.decision.Decision.{Decision as DecisionOf};
+ghost use Rattle.its_plain.specs.Arguments.{input};
+ghost use Rattle.its_plain.specs.CallTty.{is_indexed, next_pointer, siot_by, siot_tests, word_bits};
+ghost use Rattle.its_decide.specs.Called.{bar_of, first_of, looks};
+
+use super::caller::Caller;
+use arrayvec::ArrayVec;
+use its_bytes::{has_size, increment};
+use its_frame::{Decision, error};
+use its_word::{Fault, Word};
+
+/// Bits 13 to 17 of a byte pointer, I and X, are the low five bits of its left half.
+const INDEXED: u32 = 0o40;
+
+/// S of a byte pointer, bits 6 to 11, is in its left half from this bit on, and has as many values.
+const SIZE: u32 = 0o100;
+
+/// S of a pointer to whole words.
+const WORD_BITS: u32 = 36;
+
+/// The bit 0 of a word.
+const BIT_0: u64 = 0o400000000000;
+
+impl Caller<'_> {
+    /// The pointer to the next byte of SIOT, where no test of its arguments stops it; or what the first that holds comes to.
+    pub(crate) fn next_byte(&self, words: bool, at_end: bool) -> Result<Word, Decision>
+        ensures next { IfOk result (λ p. (p ≡ next_pointer (input self.now.ask.now 1)) × (has_size p ≡ true)) }
+        ensures left { IfOk result (λ p. at_end ≡ false) }
+        ensures goes { IfOk result (λ p. (m : DecisionOf) → m ≡ siot_by (looks self.now) self.now.ask.now words at_end m) }
+        ensures stops { IfErr result (λ d. (m : DecisionOf) → d ≡ siot_by (looks self.now) self.now.ask.now words at_end m) }
+    {
+        match self.stop(words, at_end) {
+            Some(decision) => Err(decision),
+            None => Ok(next_pointer(self.input(1))),
+        }
+    }
+
+    /// What the first of SIOT's tests that holds comes to: errors 17, WRO, 21, 22, the end with count 0 or where its channel is
+    /// at its end (of a file or of an inferior's core), and error 20. `words` tells that the channel moves whole words alone.
+    #[tactic(auto, unfolding(its_plain::specs::View::view))]
+    fn stop(&self, words: bool, at_end: bool) -> Option<Decision>
+        ensures { result ≡ first_of (siot_tests (looks self.now) self.now.ask.now (input self.now.ask.now 1) (input self.now.ask.now 2) words at_end) }
+    {
+        let (pointer, count) = (self.input(1), self.input(2));
+        if self.is_shared(1) || self.is_shared(2) {
+            return Some(self.fails(error::NO_WORD));
+        }
+        if self.is_read_only(1) || self.is_read_only(2) {
+            return Some(self.faults(Fault::Wro));
+        }
+        if !has_size(pointer) || is_indexed(pointer) {
+            return Some(self.fails(error::BAD_POINTER));
+        }
+        if words && !is_word_sized(pointer) {
+            return Some(self.fails(error::BAD_POINTER));
+        }
+        if count.value() >= BIT_0 {
+            return Some(self.fails(error::OUT_OF_RANGE));
+        }
+        if count == Word::ZERO || at_end {
+            return Some(self.finishes(ArrayVec::new()));
+        }
+        if self.is_used(next_pointer(pointer).right()) {
+            return Some(self.fails(error::WORD_IN_USE));
+        }
+        None
+    }
+
+    /// Why the caller cannot store a word.
+    pub(crate) fn bar(&self, at: u32) -> Option<Fault>
+        ensures { result ≡ bar_of (core_at self.now.seen.now.core.now self.now.slot) at }
+    {
+        match self.seen.core.word(self.slot, at) {
+            None => Some(Fault::Mpv),
+            Some(_) if self.seen.core.is_storable(self.slot, at) => None,
+            Some(_) => Some(Fault::Wro),
+        }
+    }
+}
+
+/// The pointer to the next byte; 0 where there is none.
+fn next_pointer(pointer: Word) -> Word
+    ensures { result ≡ next_pointer pointer }
+{
+    increment(pointer).unwrap_or(Word::ZERO)
+}
+
+/// Whether the byte of a pointer has the 36 bits of a word.
+fn is_word_sized(pointer: Word) -> bool
+    ensures { result ≡ (size pointer == word_bits) }
+{
+    pointer.left() / SIZE % SIZE == WORD_BITS
+}
+
+/// Whether I or X of a byte pointer is not 0.
+fn is_indexed(pointer: Word) -> bool
+    ensures { result ≡ is_indexed pointer }
+{
+    pointer.left() % INDEXED != 0
+}

@@ -1,0 +1,177 @@
+//! USRVAR: the variables of jobs.
+ghost use Rattle.std.specs.Prelude.{if◌then◌else◌, ◌≡◌, ◌<◌, Some, None};
+ghost use Rattle.its_word.specs.Limits.{slots};
+ghost use Rattle.its_jobs.specs.Table.{job_at};
+ghost use Rattle.its_plain.specs.Arguments.{input};
+ghost use Rattle.its_plain.specs.CallBasic.{by_oneself, by_superior, other_variable, own_variable, usrvar, value_of_other, variable_named};
+ghost use Rattle.its_plain.specs.Own.{advanced, exit_of, number_or_ones, variable_of, with_variable};
+ghost use Rattle.its_decide.specs.Called.{looks};
+ghost use Rattle.its_decide.specs.Seen.{raw_with};
+
+use super::arguments::is_oneself;
+use super::caller::{Caller, Seen};
+use super::ends::ends;
+use its_frame::{Change, Decision, Exit, Variable, error};
+use its_word::{Channel, Job, Word, pc_word};
+
+/// A word of ones, which stands for no number.
+const ONES: u64 = 0o777777777777;
+
+impl Caller<'_> {
+    /// USRVAR job, name, optional new value: the output gets the value before, and then the new value is set. Errors 4 where the
+    /// channel is closed, 5 where it is on no job, 22 where no variable has the name, 5 where the channel has no leave to
+    /// write, and 22 where the variable cannot be set so.
+    #[tactic(auto, using(crate::proofs::ChannelLaws::under), unfolding(its_plain::specs::CallBasic::usrvar, its_plain::specs::View::view))]
+    pub(crate) fn usrvar(&self) -> Decision
+        ensures { result ≡ usrvar (looks self.now) self.now.ask.now }
+    {
+        let party = self.input(0);
+        if is_oneself(party) {
+            return self.own_variable();
+        }
+        match self.channel(party) {
+            Channel::Usr { slot, write, .. } => self.other_variable(slot, write),
+            Channel::Closed => self.fails(error::BAD_CHANNEL),
+            _ => self.fails(error::WRONG_DEVICE),
+        }
+    }
+
+    /// USRVAR on oneself.
+    #[tactic(auto, using(crate::proofs::BareLaws::set_bare), unfolding(its_plain::specs::View::view))]
+    fn own_variable(&self) -> Decision
+        ensures { result ≡ own_variable (looks self.now) self.now.ask.now (variable_named (input self.now.ask.now 1)) }
+    {
+        let Some(variable) = variable_named(self.input(1)) else {
+            return self.fails(error::OUT_OF_RANGE);
+        };
+        let stores = self.output(variable_of(self.seen, self.slot, self.slot, self.job, variable));
+        if !self.has_input(2) {
+            return self.finishes(stores);
+        }
+        match self.set(variable, self.input(2)) {
+            Some(exit) => ends(None, stores, exit),
+            None => self.fails(error::OUT_OF_RANGE),
+        }
+    }
+
+    /// The registers of the caller whose call finishes and sets a variable of its own; None where it may not set that itself.
+    #[tactic(auto, unfolding(its_plain::specs::Own::with_variable))]
+    fn set(&self, variable: Variable, value: Word) -> Option<Exit>
+        ensures { result ≡ (if by_oneself variable then Some (exit_of (with_variable variable value (advanced 2 self.now.job.now))) else None) }
+    {
+        let mut exit = self.past(2);
+        match variable {
+            Variable::Pirqc => exit.pend1 = value,
+            Variable::Ifpir => exit.pend2 = value,
+            Variable::Mask => exit.mask1 = value,
+            Variable::Msk2 => exit.mask2 = value,
+            Variable::Df1 => exit.defer1 = value,
+            Variable::Df2 => exit.defer2 = value,
+            _ => return None,
+        }
+        Some(exit)
+    }
+
+    /// USRVAR through a channel on an inferior.
+    #[tactic(auto, unfolding(its_plain::specs::View::view))]
+    fn other_variable(&self, inferior: u8, write: bool) -> Decision
+        ensures { result ≡ other_variable (looks self.now) self.now.ask.now inferior write (variable_named (input self.now.ask.now 1)) }
+    {
+        let Some(variable) = variable_named(self.input(1)) else {
+            return self.fails(error::OUT_OF_RANGE);
+        };
+        if self.has_input(2) && !write {
+            return self.fails(error::WRONG_DEVICE);
+        }
+        if self.has_input(2) && !by_superior(variable) {
+            return self.fails(error::OUT_OF_RANGE);
+        }
+        let stores = self.output(self.other_value(inferior, variable));
+        let change = Change::Set {
+            slot: inferior,
+            variable,
+            value: self.input(2),
+        };
+        ends(self.has_input(2).then_some(change), stores, self.past(2))
+    }
+
+    /// The value of a variable of the job into which the call reaches, an inferior in a slot.
+    #[tactic(auto, unfolding(its_plain::specs::View::view))]
+    fn other_value(&self, inferior: u8, variable: Variable) -> Word
+        ensures { result ≡ value_of_other inferior variable (looks self.now).other }
+    {
+        let Some(target) = self.target else {
+            return Word::ZERO;
+        };
+        match self.seen.jobs.job(target) {
+            Some(job) => variable_of(self.seen, inferior, target, job, variable),
+            None => Word::ZERO,
+        }
+    }
+}
+
+/// The variable of a name.
+#[tactic(auto, unfolding(its_plain::specs::CallBasic::variable_named))]
+fn variable_named(name: Word) -> Option<Variable>
+    ensures { result ≡ variable_named name }
+{
+    match name.value() {
+        0o655641554500 => Some(Variable::Uname),
+        0o525641554500 => Some(Variable::Jname),
+        0o655156440000 => Some(Variable::Uind),
+        0o636560606257 => Some(Variable::Suppro),
+        0o435663540000 => Some(Variable::Cnsl),
+        0o604147456300 => Some(Variable::Pages),
+        0o656043000000 => Some(Variable::Upc),
+        0o656364600000 => Some(Variable::Ustp),
+        0o605162614300 => Some(Variable::Pirqc),
+        0o514660516200 => Some(Variable::Ifpir),
+        0o554163530000 => Some(Variable::Mask),
+        0o556353220000 => Some(Variable::Msk2),
+        0o444621000000 => Some(Variable::Df1),
+        0o444622000000 => Some(Variable::Df2),
+        _ => None,
+    }
+}
+
+/// Whether a job may set a variable of its inferior.
+fn by_superior(variable: Variable) -> bool
+    ensures { result ≡ by_superior variable }
+{
+    match variable {
+        Variable::Upc | Variable::Ustp | Variable::Pirqc | Variable::Ifpir => true,
+        Variable::Mask | Variable::Msk2 | Variable::Df1 | Variable::Df2 => true,
+        _ => false,
+    }
+}
+
+/// A number, or ones where there is none.
+fn number_or_ones(number: Option<u8>) -> Word
+    ensures { result ≡ number_or_ones number }
+{
+    Word::new(number.map_or(ONES, u64::from))
+}
+
+/// The value of a variable of the job of a slot, which says that its slot is `index`.
+#[tactic(auto, unfolding(its_plain::specs::Own::variable_of))]
+fn variable_of(seen: &Seen<'_>, index: u8, slot: u8, job: &Job, variable: Variable) -> Word
+    requires { slot < slots }
+    ensures { result ≡ variable_of index (raw_with seen.now slot job.now) variable }
+{
+    match variable {
+        Variable::Uname => job.uname,
+        Variable::Jname => job.jname,
+        Variable::Uind => Word::new(u64::from(index)),
+        Variable::Suppro => number_or_ones(seen.jobs.superior(slot)),
+        Variable::Cnsl => number_or_ones(job.console),
+        Variable::Pages => Word::new(u64::from(seen.core.pages(slot))),
+        Variable::Upc => pc_word(job.flags, job.pc),
+        Variable::Ustp => Word::new(u64::from(job.stopped)),
+        Variable::Pirqc => job.pend1,
+        Variable::Ifpir => job.pend2,
+        Variable::Mask => job.mask1,
+        Variable::Msk2 => job.mask2,
+        Variable::Df1 => job.defer1,
+        Variable::Df2 => job.defer2,
+    }
+}

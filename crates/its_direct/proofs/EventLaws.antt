@@ -1,0 +1,257 @@
+-- Each event of a session comes to its line.
+use Rattle.std.specs.Prelude.{◌≡◌, ◌+◌, ℕ, true, false, Option, IsOk, List, [], ◌∷◌, take, Result, Ok, Err, OnOk, IfErr, refl}
+use Rattle.std.proofs.Common.{ap, sym, subst, ◌∙◌}
+use Rattle.its_word.specs.ArrayVec.{ArrayVec}
+use Rattle.its_word.specs.declared.session.Event.{Event}
+use Rattle.its_word.specs.declared.session.Event.TheVariants as events
+use Rattle.its_word.specs.declared.session.Reason.{Reason}
+use Rattle.its_word.specs.declared.session.Refusal.{Refusal}
+use Rattle.its_word.specs.declared.show.JobShow.{JobShow}
+use Rattle.its_print.specs.Printing.{Line}
+use Rattle.its_print.specs.Printing as printed
+use Rattle.its_plain.specs.Machine.{Names, Machine}
+use Rattle.its_plain.specs.Operator.{Block, Does, only, nobody, disturbs, quietly}
+use Rattle.its_plain.specs.OperatorClock.{due, clocked}
+use Rattle.its_plain.specs.OperatorConsoles.{typed, dropped, drained}
+use Rattle.its_plain.specs.OperatorFiles.{file_made, words_added, files_in, listing}
+use Rattle.its_plain.specs.OperatorJobs.{loaded, words_loaded, page_protected, started, interrupted, stopped, continued, on_registers, examined, state_shown, deposited}
+use Rattle.its_plain.specs.OperatorLines.{operate, Done, lined, by_load, by_exam, in_a_line, by_state, by_clock}
+use Rattle.its_plain.specs.OperatorSymbols.{symbol_kept}
+use Rattle.its_plain.specs.OperatorVersion.{versioned}
+use Rattle.its_plain.specs.Own.{names_of}
+use Rattle.its_direct.specs.Clock.{Clocks}
+use Rattle.its_direct.specs.Events.{Speaks, Says, Told, answered}
+use Rattle.its_direct.specs.Filing.{Leads}
+use Rattle.its_direct.specs.Lines.{reason_of, Operates, Looks, Loads, Stands, Keeps}
+use Rattle.its_direct.specs.Plain.{machine_of, is_touched, no_slots}
+use Rattle.its_direct.specs.declared.events.Answer.TheVariants.{Nothing, Slot, Dropped, Drained}
+use Rattle.its_direct.specs.declared.plain.Plain.{Plain}
+use Rattle.its_direct.specs.declared.plain.Spot.TheVariants as spots
+use Rattle.its_direct.proofs.FileLaws.{placed_machine}
+use Rattle.its_direct.proofs.SlotLaws.{touched_machine}
+use Rattle.its_direct.proofs.TouchLaws.{none_touched}
+
+-- lines that disturb a job, and show nothing
+told_operates : (e : Event) (old new : Plain) (s : ℕ) (r : Result Machine Reason) (x : Result (Unit {0}) Refusal) → ((b : Block) → Speaks old.place b → lined (machine_of old) b e ≡ Done (disturbs s b r)) → Says e Nothing []
+    → OnOk x (Operates old new s r) → IfErr x (λ z. r ≡ Err (reason_of z)) → Told e old new (answered x)
+told_operates e old new s r (Ok u) line says done refused = λ b at. record {
+  comes = Done (Does (machine_of new) [] (only s) b);
+  is = line b at ∙ ap (λ y. Done (disturbs s b y)) done.is;
+  obeys = (refl, done.touched, subst (λ p. Speaks p b) (sym done.place) at, says);
+}
+told_operates e old new s r (Err z) line says done refused = λ b at. line b at ∙ ap (λ y. Done (disturbs s b y)) refused
+
+-- lines that disturb nobody, and show nothing
+told_keeps : (e : Event) (old new : Plain) (r : Result Machine Reason) (x : Result (Unit {0}) Refusal) → ((b : Block) → Speaks old.place b → lined (machine_of old) b e ≡ Done (quietly b r)) → Says e Nothing []
+    → OnOk x (Keeps old new r) → IfErr x (λ z. r ≡ Err (reason_of z)) → Told e old new (answered x)
+told_keeps e old new r (Ok u) line says done refused = λ b at. record {
+  comes = Done (Does (machine_of new) [] nobody b);
+  is = line b at ∙ ap (λ y. Done (quietly b y)) done.is;
+  obeys = (refl, done.touched, subst (λ p. Speaks p b) (sym done.place) at, says);
+}
+told_keeps e old new r (Err z) line says done refused = λ b at. line b at ∙ ap (λ y. Done (quietly b y)) refused
+
+pub told_int : (old new : Plain) (s v w : ℕ) (x : Result (Unit {0}) Refusal) → OnOk x (Operates old new s (on_registers (machine_of old) s (interrupted v w)))
+    → IfErr x (λ z. on_registers (machine_of old) s (interrupted v w) ≡ Err (reason_of z)) → Told (events.Int s v w) old new (answered x)
+unfolding lined operate
+told_int old new s v w x = told_operates (events.Int s v w) old new s (on_registers (machine_of old) s (interrupted v w)) x (λ b at. refl) refl
+
+pub told_deposit : (old new : Plain) (s a w : ℕ) (x : Result (Unit {0}) Refusal) → OnOk x (Operates old new s (deposited (machine_of old) s a w))
+    → IfErr x (λ z. deposited (machine_of old) s a w ≡ Err (reason_of z)) → Told (events.Deposit s a w) old new (answered x)
+unfolding lined operate
+told_deposit old new s a w x = told_operates (events.Deposit s a w) old new s (deposited (machine_of old) s a w) x (λ b at. refl) refl
+
+pub told_stop : (old new : Plain) (s : ℕ) (x : Result (Unit {0}) Refusal) → OnOk x (Operates old new s (on_registers (machine_of old) s stopped))
+    → IfErr x (λ z. on_registers (machine_of old) s stopped ≡ Err (reason_of z)) → Told (events.Stop s) old new (answered x)
+unfolding lined operate
+told_stop old new s x = told_operates (events.Stop s) old new s (on_registers (machine_of old) s stopped) x (λ b at. refl) refl
+
+pub told_cont : (old new : Plain) (s : ℕ) (x : Result (Unit {0}) Refusal) → OnOk x (Operates old new s (on_registers (machine_of old) s continued))
+    → IfErr x (λ z. on_registers (machine_of old) s continued ≡ Err (reason_of z)) → Told (events.Cont s) old new (answered x)
+unfolding lined operate
+told_cont old new s x = told_operates (events.Cont s) old new s (on_registers (machine_of old) s continued) x (λ b at. refl) refl
+
+-- lines of a LOAD block
+at_load : (old : Plain) (s : ℕ) (b : Block) → old.place ≡ spots.Load s → Speaks old.place b → b.slot ≡ s
+at_load old s b e at = subst (λ p. Speaks p b) e at
+
+pub told_words : (old new : Plain) (s a : ℕ) (ws : ArrayVec ℕ) (x : Result (Unit {0}) Refusal) → old.place ≡ spots.Load s → OnOk x (Operates old new s (words_loaded (machine_of old) s a ws.items))
+    → IfErr x (λ z. words_loaded (machine_of old) s a ws.items ≡ Err (reason_of z)) → Told (events.Words a ws) old new (answered x)
+unfolding lined operate
+told_words old new s a ws x e = told_operates (events.Words a ws) old new s (words_loaded (machine_of old) s a ws.items) x (λ b at. ap (λ (k : ℕ). Done (disturbs k b (words_loaded (machine_of old) k a ws.items))) (at_load old s b e at)) refl
+
+pub told_read_only : (old new : Plain) (s page : ℕ) (x : Result (Unit {0}) Refusal) → old.place ≡ spots.Load s → OnOk x (Operates old new s (page_protected (machine_of old) s page))
+    → IfErr x (λ z. page_protected (machine_of old) s page ≡ Err (reason_of z)) → Told (events.ReadOnly page) old new (answered x)
+unfolding lined operate
+told_read_only old new s page x e = told_operates (events.ReadOnly page) old new s (page_protected (machine_of old) s page) x (λ b at. ap (λ (k : ℕ). Done (disturbs k b (page_protected (machine_of old) k page))) (at_load old s b e at)) refl
+
+pub told_symbol : (old new : Plain) (s name a : ℕ) (x : Result (Unit {0}) Refusal) → old.place ≡ spots.Load s → OnOk x (Keeps old new (symbol_kept (machine_of old) s name a))
+    → IfErr x (λ z. symbol_kept (machine_of old) s name a ≡ Err (reason_of z)) → Told (events.Symbol name a) old new (answered x)
+unfolding lined operate
+told_symbol old new s name a x e = told_keeps (events.Symbol name a) old new (symbol_kept (machine_of old) s name a) x (λ b at. ap (λ (k : ℕ). Done (quietly b (symbol_kept (machine_of old) k name a))) (at_load old s b e at)) refl
+
+-- lines of a FILE block
+at_file : (old : Plain) (n : Names) (b : Block) → old.place ≡ spots.File n → Speaks old.place b → b.file ≡ n
+at_file old n b e at = subst (λ p. Speaks p b) e at
+
+pub told_append : (old new : Plain) (n : Names) (ws : ArrayVec ℕ) (x : Result (Unit {0}) Refusal) → old.place ≡ spots.File n → OnOk x (Keeps old new (words_added (machine_of old) n ws.items))
+    → IfErr x (λ z. words_added (machine_of old) n ws.items ≡ Err (reason_of z)) → Told (events.Append ws) old new (answered x)
+unfolding lined operate
+told_append old new n ws x e = told_keeps (events.Append ws) old new (words_added (machine_of old) n ws.items) x (λ b at. ap (λ (k : Names). Done (quietly b (words_added (machine_of old) k ws.items))) (at_file old n b e at)) refl
+
+pub told_file : (old new : Plain) (d x y : ℕ) (r : Result (Unit {0}) Refusal) → OnOk r (Leads old new (spots.File (names_of d x y)) (file_made (machine_of old) (names_of d x y)))
+    → IfErr r (λ z. file_made (machine_of old) (names_of d x y) ≡ Err (reason_of z)) → Told (events.File d x y) old new (answered r)
+unfolding lined operate
+told_file old new d x y (Ok u) done refused = λ b at. record {
+  comes = Done (Does (machine_of new) [] nobody (record b { file = names_of d x y }));
+  is = ap (λ r. Done (quietly (record b { file = names_of d x y }) r)) done.is;
+  obeys = (refl, done.touched, subst (λ p. Speaks p (record b { file = names_of d x y })) (sym done.place) refl, refl);
+}
+told_file old new d x y (Err z) done refused = λ b at. ap (λ r. Done (quietly (record b { file = names_of d x y }) r)) refused
+
+-- CLOCK
+pub told_clock : (old new : Plain) (n : ℕ) (x : Result (Unit {0}) Refusal) → OnOk x (Clocks old new n (clocked (machine_of old) n))
+    → IfErr x (λ z. clocked (machine_of old) n ≡ Err (reason_of z)) → Told (events.Clock n) old new (answered x)
+unfolding lined operate
+told_clock old new n (Ok u) done refused = λ b at. record {
+  comes = Done (Does (machine_of new) [] (due ((machine_of old).clock + n) (machine_of old).jobs) b);
+  is = ap (λ r. Done (by_clock (machine_of old) b n r)) done.is;
+  obeys = (refl, done.touched, subst (λ p. Speaks p b) (sym done.place) at, refl);
+}
+told_clock old new n (Err z) done refused = λ b at. ap (λ r. Done (by_clock (machine_of old) b n r)) refused
+
+-- lines that show something of a job
+exam_out : (r : Result (List ℕ) Reason) → IsOk r → (ws : List ℕ) × (r ≡ Ok ws)
+exam_out (Ok ws) h = (ws, refl)
+exam_out (Err z) h = let wrong : false ≡ true = h in absurd cc
+
+state_out : (r : Result JobShow Reason) → IsOk r → (w : JobShow) × (r ≡ Ok w)
+state_out (Ok w) h = (w, refl)
+state_out (Err z) h = let wrong : false ≡ true = h in absurd cc
+
+pub told_exam : (old new : Plain) (s a n : ℕ) (x : Result (Unit {0}) Refusal) → OnOk x (Looks old new s (examined (machine_of old) s a n))
+    → IfErr x (λ z. examined (machine_of old) s a n ≡ Err (reason_of z)) → Told (events.Exam s a n) old new (answered x)
+unfolding lined operate
+told_exam old new s a n (Ok u) done refused = λ b at. let o = exam_out (examined (machine_of old) s a n) done.shown in record {
+  comes = Done (Does (machine_of old) (printed.Words s a o.0 ∷ []) (only s) b);
+  is = ap (λ r. Done (by_exam (machine_of old) b s (in_a_line s a) r)) o.1;
+  obeys = (done.machine, done.touched, subst (λ p. Speaks p b) (sym done.place) at, tt);
+}
+told_exam old new s a n (Err z) done refused = λ b at. ap (λ r. Done (by_exam (machine_of old) b s (in_a_line s a) r)) refused
+
+pub told_state : (old new : Plain) (s : ℕ) (x : Result (Unit {0}) Refusal) → OnOk x (Looks old new s (state_shown (machine_of old) s))
+    → IfErr x (λ z. state_shown (machine_of old) s ≡ Err (reason_of z)) → Told (events.State s) old new (answered x)
+unfolding lined operate
+told_state old new s (Ok u) done refused = λ b at. let o = state_out (state_shown (machine_of old) s) done.shown in record {
+  comes = Done (Does (machine_of old) (printed.State (machine_of old).version s o.0 ∷ []) (only s) b);
+  is = ap (λ r. Done (by_state (machine_of old) b s r)) o.1;
+  obeys = (done.machine, done.touched, subst (λ p. Speaks p b) (sym done.place) at, tt);
+}
+told_state old new s (Err z) done refused = λ b at. ap (λ r. Done (by_state (machine_of old) b s r)) refused
+
+-- LOAD, TYPE and DRAIN
+pub told_load : (old new : Plain) (u j s : ℕ) (console : Option ℕ) → Loads old new s (loaded (machine_of old) u j console) → Told (events.Load u j console) old new (Ok (Slot s))
+unfolding lined operate
+told_load old new u j s console done = λ b at. record {
+  comes = Done (Does (machine_of new) (printed.Loaded s ∷ []) (only s) (record b { slot = s }));
+  is = ap (λ r. Done (by_load b r)) done.is;
+  obeys = (refl, done.touched, subst (λ p. Speaks p (record b { slot = s })) (sym done.place) refl, refl);
+}
+
+pub told_load_refused : (old new : Plain) (u j : ℕ) (console : Option ℕ) (z : Refusal) → loaded (machine_of old) u j console ≡ Err (reason_of z) → Told (events.Load u j console) old new (Err z)
+unfolding lined operate
+told_load_refused old new u j console z refused = λ b at. ap (λ r. Done (by_load b r)) refused
+
+pub told_type : (old new : Plain) (c n : ℕ) (bytes : ArrayVec ℕ) → n ≡ dropped ((machine_of old).consoles c) bytes.items → Stands old new (typed c bytes.items (machine_of old)) → Told (events.TypeIn c bytes) old new (Ok (Dropped n))
+unfolding lined operate
+told_type old new c n bytes is done = λ b at. record {
+  comes = Done (Does (typed c bytes.items (machine_of old)) (printed.Typed c (dropped ((machine_of old).consoles c) bytes.items) ∷ []) nobody b);
+  is = refl;
+  obeys = (done.machine, done.touched, subst (λ p. Speaks p b) (sym done.place) at, ap (λ (k : ℕ). printed.Typed c k ∷ []) (sym is));
+}
+
+pub told_drain : (old new : Plain) (c n : ℕ) (bytes : ArrayVec ℕ) → bytes.items ≡ take n ((machine_of old).consoles c).output → Stands old new (drained c n (machine_of old)) → Told (events.Drain c n) old new (Ok (Drained bytes))
+unfolding lined operate
+told_drain old new c n bytes is done = λ b at. record {
+  comes = Done (Does (drained c n (machine_of old)) (printed.Drained c (take n ((machine_of old).consoles c).output) ∷ []) nobody b);
+  is = refl;
+  obeys = (done.machine, done.touched, subst (λ p. Speaks p b) (sym done.place) at, ap (λ (k : List ℕ). printed.Drained c k ∷ []) (sym is));
+}
+
+-- the words of a line as a slice
+pub told_words_in : (old new : Plain) (s a : ℕ) (ws : ArrayVec ℕ) (xs : List ℕ) (x : Result (Unit {0}) Refusal) → xs ≡ ws.items → old.place ≡ spots.Load s → OnOk x (Operates old new s (words_loaded (machine_of old) s a xs))
+    → IfErr x (λ z. words_loaded (machine_of old) s a xs ≡ Err (reason_of z)) → Told (events.Words a ws) old new (answered x)
+told_words_in old new s a ws xs x is e done refused =
+    told_words old new s a ws x e (subst (λ (l : List ℕ). OnOk x (Operates old new s (words_loaded (machine_of old) s a l))) is done)
+    (subst (λ (l : List ℕ). IfErr x (λ z. words_loaded (machine_of old) s a l ≡ Err (reason_of z))) is refused)
+
+pub told_append_in : (old new : Plain) (n : Names) (ws : ArrayVec ℕ) (xs : List ℕ) (x : Result (Unit {0}) Refusal) → xs ≡ ws.items → old.place ≡ spots.File n → OnOk x (Keeps old new (words_added (machine_of old) n xs))
+    → IfErr x (λ z. words_added (machine_of old) n xs ≡ Err (reason_of z)) → Told (events.Append ws) old new (answered x)
+told_append_in old new n ws xs x is e done refused =
+    told_append old new n ws x e (subst (λ (l : List ℕ). OnOk x (Keeps old new (words_added (machine_of old) n l))) is done)
+    (subst (λ (l : List ℕ). IfErr x (λ z. words_added (machine_of old) n l ≡ Err (reason_of z))) is refused)
+
+pub told_type_in : (old new : Plain) (c n : ℕ) (bytes : ArrayVec ℕ) (xs : List ℕ) → xs ≡ bytes.items → n ≡ dropped ((machine_of old).consoles c) xs → Stands old new (typed c xs (machine_of old)) → Told (events.TypeIn c bytes) old new (Ok (Dropped n))
+told_type_in old new c n bytes xs is lost done =
+    told_type old new c n bytes (subst (λ (l : List ℕ). n ≡ dropped ((machine_of old).consoles c) l) is lost) (subst (λ (l : List ℕ). Stands old new (typed c l (machine_of old))) is done)
+
+-- GO and EOF, which end a block
+pub told_go : (old mid new : Plain) (s a : ℕ) → old.place ≡ spots.Load s → Operates old mid s (on_registers (machine_of old) s (started a)) → new ≡ record mid { place = spots.Plain } → Told (events.Go a) old new (Ok Nothing)
+unfolding lined operate
+told_go old mid new s a e done placed = λ b at. record {
+  comes = Done (Does (machine_of mid) [] (only s) b);
+  is = ap (λ (k : ℕ). Done (disturbs k b (on_registers (machine_of old) k (started a)))) (at_load old s b e at) ∙ ap (λ y. Done (disturbs s b y)) done.is;
+  obeys = (placed_machine mid new spots.Plain placed, (λ k. ap (λ (p : Plain). is_touched p k) placed ∙ done.touched k), subst (λ p. Speaks p b) (sym (ap (λ (p : Plain). p.place) placed)) tt, refl);
+}
+
+pub told_go_refused : (old new : Plain) (s a : ℕ) (z : Refusal) → old.place ≡ spots.Load s → on_registers (machine_of old) s (started a) ≡ Err (reason_of z) → Told (events.Go a) old new (Err z)
+unfolding lined operate
+told_go_refused old new s a z e refused = λ b at.
+    ap (λ (k : ℕ). Done (disturbs k b (on_registers (machine_of old) k (started a)))) (at_load old s b e at) ∙ ap (λ y. Done (disturbs s b y)) refused
+
+ok_is : (m n : Machine) (r : Result Machine Reason) → r ≡ Ok m → r ≡ Ok n → n ≡ m
+ok_is m n r e f = cc
+
+pub told_end : (old new : Plain) → Leads old new spots.Plain (Ok (machine_of old)) → Told events.EndFile old new (Ok Nothing)
+unfolding lined operate
+told_end old new done = λ b at. record {
+  comes = Done (Does (machine_of old) [] nobody b);
+  is = refl;
+  obeys = (ok_is (machine_of old) (machine_of new) (Ok (machine_of old)) refl done.is, done.touched, subst (λ p. Speaks p b) (sym done.place) tt, refl);
+}
+
+-- VERSION
+pub told_version : (old new : Plain) (v : ℕ) → Stands old new (versioned (machine_of old) v) → Told (events.Version v) old new (Ok Nothing)
+unfolding lined operate
+told_version old new v done = λ b at. record {
+  comes = Done (Does (versioned (machine_of old) v) [] nobody b);
+  is = refl;
+  obeys = (done.machine, done.touched, subst (λ p. Speaks p b) (sym done.place) at, refl);
+}
+
+-- lines that leave the machine: those without words, DIR and SHOW
+module _ (old new : Plain) (e : new ≡ record old { touched = no_slots }) where
+  same_machine : machine_of new ≡ machine_of old
+  same_machine = touched_machine old new no_slots e
+
+  none : (k : ℕ) → is_touched new k ≡ false
+  none = none_touched new.touched (ap (λ (p : Plain). p.touched) e)
+
+  at_same : (b : Block) → Speaks old.place b → Speaks new.place b
+  at_same b at = subst (λ p. Speaks p b) (sym (ap (λ (p : Plain). p.place) e)) at
+
+  pub told_nothing : Told events.Nothing old new (Ok Nothing)
+  unfolding lined operate
+  told_nothing = λ b at. record { comes = Done (Does (machine_of old) [] nobody b); is = refl; obeys = (same_machine, none, at_same b at, refl) }
+
+  pub told_run : (n q : ℕ) → Told (events.Run n q) old new (Ok Nothing)
+  unfolding lined operate
+  told_run n q = λ b at. record { comes = Done (Does (machine_of old) [] nobody b); is = refl; obeys = (same_machine, none, at_same b at, refl) }
+
+  pub told_dir : (d : ℕ) → Told (events.Dir d) old new (Ok Nothing)
+  unfolding lined operate
+  told_dir d = λ b at. record {
+    comes = Done (Does (machine_of old) (listing d (files_in d (machine_of old).files)) nobody b);
+    is = refl;
+    obeys = (same_machine, none, at_same b at, tt);
+  }

@@ -1,0 +1,308 @@
+-- The lines FILE, its words and EOF.
+use Rattle.std.specs.Prelude.{◌≡◌, ◌≢◌, ◌<◌, ◌≤◌, ◌+◌, ℕ, Bool, true, false, Option, Some, None, List, [], ◌∷◌, ◌++◌, Ok, Err, is_some, option_map, drop, length, nat_lt, slice_index_or, refl}
+use Rattle.std.proofs.Common.{sym, ◌∙◌, ap, subst, arith, get_or, inl, inr}
+use Rattle.std.proofs.Math.ListN.{drop_of_length-le}
+use Rattle.std.proofs.lemmas.Bool.{cases_eq, lt-ltb, le-ltb}
+use Rattle.std.proofs.lemmas.List.{drop_more, length-map}
+use Rattle.its_word.specs.Directory.{with_changed, longer}
+use Rattle.its_word.specs.Only.{Only, Same}
+use Rattle.its_word.specs.declared.jobs.Channel.{Channel}
+use Rattle.its_word.specs.declared.jobs.Channel.TheVariants.{Closed, TtyIn, TtyOut, Reading, Writing, Usr}
+use Rattle.its_word.specs.declared.jobs.Job.{Job}
+use Rattle.its_word.specs.declared.session.Reason.{Reason}
+use Rattle.its_word.specs.declared.session.Reason.TheVariants as reasons
+use Rattle.its_core.specs.Cores.{core_at, clear_at}
+use Rattle.its_files.specs.Blocks.{is_full as store_is_full, blocks_used}
+use Rattle.its_files.specs.Files.{Store, IsStore, entry_at, is_file, is_draft, is_marked, names_by, names_at, readers_at, readers_by, words_at, file_at, found, with_file, with_word, directory}
+use Rattle.its_files.specs.declared.entry.Entry.{Entry}
+use Rattle.its_files.specs.declared.entry.Entry.TheVariants.{File as Standing, Draft}
+use Rattle.its_jobs.specs.Table.{Table, job_at, superior_at}
+use Rattle.its_plain.specs.CallFile.{most_files, is_full, file_named, has_file}
+use Rattle.its_plain.specs.Change.{channel_in}
+use Rattle.its_plain.specs.Machine.{Names, File, Chan, Machine}
+use Rattle.its_plain.specs.Machine as machines
+use Rattle.its_plain.specs.Operator.{and_then}
+use Rattle.its_plain.specs.OperatorClock.{clock_end}
+use Rattle.its_plain.specs.OperatorFiles.{channels_of, with_files, file_made_if, file_made, word_added_if, word_added_to, word_added, words_added}
+use Rattle.its_plain.proofs.MachineLaws.{machine_is}
+use Rattle.its_parts.specs.Across.{Across, channel_by, channel_at, writers}
+use Rattle.its_parts.specs.Parts.{alarm_at, bare, chan_of, console_at, holder_at, symbols_at, raw_of}
+use Rattle.its_parts.proofs.RoomLaws.{full_on}
+use Rattle.its_parts.proofs.StandLaws.{reading_file, writing_draft}
+use Rattle.its_parts.proofs.StoreLaws.{found_named, has_named, named_self}
+use Rattle.its_direct.specs.Filing.{Leads, FilesBecome}
+use Rattle.its_direct.specs.Lines.{Keeps}
+use Rattle.its_direct.specs.Plain.{machine_of, no_slots, Tidy}
+use Rattle.its_direct.specs.declared.plain.Plain.{Plain}
+use Rattle.its_direct.specs.declared.plain.Spot.{Spot}
+use Rattle.its_direct.specs.declared.plain.Spot.TheVariants as spots
+use Rattle.its_direct.proofs.DirectoryLaws.{files_are}
+use Rattle.its_direct.proofs.LoadLaws.{placed_tidy}
+use Rattle.its_direct.proofs.SlotLaws.{IsPlaced, touched_machine, touched_tidy}
+use Rattle.its_direct.proofs.TouchLaws.{none_touched}
+
+-- what the channels are on stays, where only what stands under one number is another: that is no draft, and a file keeps its names
+module _ (s u : Store) (t : Table) (across : Across s t) (id : ℕ) (entry : (k : ℕ) → k ≢ id → entry_at u k ≡ entry_at s k) (words : (k : ℕ) → k ≢ id → words_at u k ≡ words_at s k)
+    (undrafted : is_draft (entry_at s id) ≡ false) (named : is_file (entry_at s id) ≡ true → names_at u id ≡ names_at s id) where
+  names_stay : (f : ℕ) → is_file (entry_at s f) ≡ true → names_at u f ≡ names_at s f
+  names_stay f file = elim (cases_eq f id) [
+    | inl e ↦ ap (names_at u) e ∙ named (ap (λ n. is_file (entry_at s n)) (sym e) ∙ file) ∙ ap (names_at s) (sym e)
+    | inr ne ↦ ap names_by (entry f ne)
+  ]
+
+  apart : (d : ℕ) → is_draft (entry_at s d) ≡ true → d ≢ id
+  apart d draft e = let wrong : true ≡ false = sym draft ∙ ap (λ n. is_draft (entry_at s n)) e ∙ undrafted in cc
+
+  chan_stays : (k n : ℕ) (c : Channel) → channel_at t k n ≡ c → chan_of u c ≡ chan_of s c
+  chan_stays k n Closed e = refl
+  chan_stays k n TtyIn e = refl
+  chan_stays k n TtyOut e = refl
+  chan_stays k n (Reading f at) e = ap (λ ns. machines.Reads ns at) (names_stay f (reading_file s t across k n f at e))
+  chan_stays k n (Writing d) e =
+      let ne = apart d (writing_draft s t across k n d e) in
+      λ i. machines.Writes (record { names = ap names_by (entry d ne) i; words = words d ne i })
+  chan_stays k n (Usr j w at) e = refl
+
+across_stays : (s u : Store) (t : Table) → Across s t → ((f : ℕ) → readers_at u f ≡ readers_at s f) → ((d : ℕ) → writers (entry_at u d) (is_marked u d) ≡ writers (entry_at s d) (is_marked s d)) → Across u t
+across_stays s u t a read written = record {
+  past_slots = a.past_slots;
+  past_numbers = a.past_numbers;
+  read = λ f. a.read f ∙ sym (read f);
+  written = λ d. a.written d ∙ sym (written d);
+}
+
+-- the machine with other files, whose channels are on the same
+module _ (old new : Plain) (x : Store) (b : FilesBecome old new x) (stays : (k n : ℕ) (c : Channel) → channel_at old.jobs k n ≡ c → chan_of x c ≡ chan_of old.files c) where
+  raw_stays : (k : ℕ) (o : Option Job) → job_at old.jobs k ≡ o
+      → raw_of x (core_at old.core k) (superior_at old.jobs k) (alarm_at old.alarms.items k) o ≡ raw_of old.files (core_at old.core k) (superior_at old.jobs k) (alarm_at old.alarms.items k) o
+  raw_stays k None e = refl
+  raw_stays k (Some j) e = λ i. Some (record {
+    core = core_at old.core k;
+    job = bare j;
+    superior = superior_at old.jobs k;
+    channels = λ n. stays k n (slice_index_or j.channels n Closed) (ap (λ o. channel_by o n) e) i;
+    alarm = alarm_at old.alarms.items k;
+  })
+
+  pub files_machine : machine_of new ≡ with_files (machine_of old) (directory x)
+  unfolding machine_of
+  files_machine = machine_is _ _
+      (λ k. (λ t. raw_of (b.files t) (core_at (b.core t) k) (superior_at (b.jobs t) k) (alarm_at (b.alarms t).items k) (job_at (b.jobs t) k)) ∙ raw_stays k (job_at old.jobs k) refl)
+      (λ k. ap (λ l. console_at l.items k) b.consoles) (λ k. ap (λ l. holder_at l k) b.holders) (ap directory b.files) b.clock b.version (λ k. ap (λ l. symbols_at l.items k) b.symbols)
+
+  pub files_tidy : x.mark ≡ None → Across x old.jobs → Tidy old → Tidy new
+  files_tidy unmarked across tidy = record {
+    unreserved = λ k. ap (λ m. clear_at m k) b.core ∙ tidy.unreserved k;
+    unmarked = ap (λ (s : Store). s.mark) b.files ∙ unmarked;
+    across = subst (λ (s : Store). Across s new.jobs) (sym b.files) (subst (Across x) (sym b.jobs) across);
+    blank = λ k h. ap (λ m. core_at m k) b.core ∙ tidy.blank k (was k h);
+    quiet = λ k h. ap (λ l. alarm_at l.items k) b.alarms ∙ tidy.quiet k (was k h);
+    nameless = λ k h. ap (λ l. symbols_at l.items k) b.symbols ∙ tidy.nameless k (was k h);
+    addressed = λ k. subst IsPlaced (sym (ap (λ t. job_at t k) b.jobs)) (tidy.addressed k);
+    timed = subst (λ t. t < clock_end) (sym b.clock) tidy.timed;
+  }
+    where
+      was : (k : ℕ) → job_at new.jobs k ≡ None → job_at old.jobs k ≡ None
+      was k h = sym (ap (λ t. job_at t k) b.jobs) ∙ h
+
+-- FILE
+abbrev new_file : Names → File
+new_file n = record { names = n; words = [] }
+
+made_on : (p : Plain) (n : Names) → file_made (machine_of p) n ≡ file_made_if (machine_of p) n (is_some (found p.files n)) (nat_lt (length p.files.order) most_files)
+unfolding file_made
+made_on p n =
+    ap (λ fs. file_made_if (machine_of p) n (has_file n fs) (nat_lt (length fs) most_files)) (files_are p)
+    ∙ ap (λ b. file_made_if (machine_of p) n b (nat_lt (length (directory p.files)) most_files)) (has_named p.files n)
+    ∙ ap (λ k. file_made_if (machine_of p) n (is_some (found p.files n)) (nat_lt k most_files)) (length-map p.files.order (file_at p.files))
+
+pub file_exists : (p : Plain) (n : Names) (o : Option ℕ) (b : Bool) → o ≡ found p.files n → b ≡ is_some o → b ≡ true → file_made (machine_of p) n ≡ Err reasons.Exists
+file_exists p n o b is e t = made_on p n ∙ ap (λ c. file_made_if (machine_of p) n c (nat_lt (length p.files.order) most_files)) (sym (ap is_some is) ∙ sym e ∙ t)
+
+pub file_full : (p : Plain) (n : Names) (o : Option ℕ) (b : Bool) (k : ℕ) → o ≡ found p.files n → b ≡ is_some o → b ≡ false → k ≡ length p.files.order → most_files ≤ k → file_made (machine_of p) n ≡ Err reasons.Full
+file_full p n o b k is e f count le =
+    made_on p n ∙ ap (λ c. file_made_if (machine_of p) n c (nat_lt (length p.files.order) most_files)) (sym (ap is_some is) ∙ sym e ∙ f)
+    ∙ ap (file_made_if (machine_of p) n false) (ap (λ m. nat_lt m most_files) (sym count) ∙ le-ltb k most_files le)
+
+free_draft : (o : Option Entry) → o ≡ None → is_draft o ≡ false
+free_draft o e = ap is_draft e
+
+free_file : (o : Option Entry) → o ≡ None → is_file o ≡ true → ⊥
+free_file o e h = let wrong : false ≡ true = sym (ap is_file e) ∙ h in cc
+
+module _ (old new : Plain) (id : ℕ) (n : Names) (tidy : Tidy old) (few : length old.files.order < most_files) (fresh : found old.files n ≡ None) (free : entry_at old.files id ≡ None)
+    (b : FilesBecome old new (with_file old.files id n)) (entry : Only (entry_at old.files) (entry_at new.files) id (Some (Standing n 0)))
+    (words : Only (words_at old.files) (words_at new.files) id []) (files : directory new.files ≡ directory old.files ++ new_file n ∷ []) where
+  entry_made : Only (entry_at old.files) (entry_at (with_file old.files id n)) id (Some (Standing n 0))
+  entry_made = subst (λ (s : Store). Only (entry_at old.files) (entry_at s) id (Some (Standing n 0))) b.files entry
+
+  words_made : Only (words_at old.files) (words_at (with_file old.files id n)) id []
+  words_made = subst (λ (s : Store). Only (words_at old.files) (words_at s) id []) b.files words
+
+  made_chans : (k m : ℕ) (c : Channel) → channel_at old.jobs k m ≡ c → chan_of (with_file old.files id n) c ≡ chan_of old.files c
+  made_chans = chan_stays old.files (with_file old.files id n) old.jobs tidy.across id entry_made.others words_made.others (free_draft (entry_at old.files id) free)
+      (λ h. absurd (free_file (entry_at old.files id) free h))
+
+  pub made_row : file_made (machine_of old) n ≡ Ok (machine_of new)
+  made_row =
+      made_on old n ∙ ap (λ o. file_made_if (machine_of old) n (is_some o) (nat_lt (length old.files.order) most_files)) fresh
+      ∙ ap (file_made_if (machine_of old) n false) (lt-ltb (length old.files.order) most_files few)
+      ∙ ap (λ fs. Ok (with_files (machine_of old) (fs ++ new_file n ∷ []))) (files_are old)
+      ∙ ap (λ fs. Ok (with_files (machine_of old) fs)) (sym files ∙ ap directory b.files)
+      ∙ ap Ok (sym (files_machine old new (with_file old.files id n) b made_chans))
+
+  made_readers : (f : ℕ) → readers_at (with_file old.files id n) f ≡ readers_at old.files f
+  made_readers f = elim (cases_eq f id) [
+    | inl e ↦ ap (readers_at (with_file old.files id n)) e ∙ ap readers_by entry_made.here ∙ sym (ap (readers_at old.files) e ∙ ap readers_by free)
+    | inr ne ↦ ap readers_by (entry_made.others f ne)
+  ]
+
+  made_writers : (d : ℕ) → writers (entry_at (with_file old.files id n) d) (is_marked (with_file old.files id n) d) ≡ writers (entry_at old.files d) (is_marked old.files d)
+  made_writers d = elim (cases_eq d id) [
+    | inl e ↦
+        ap (λ k. writers (entry_at (with_file old.files id n) k) (is_marked old.files d)) e ∙ ap (λ o. writers o (is_marked old.files d)) entry_made.here
+        ∙ sym (ap (λ k. writers (entry_at old.files k) (is_marked old.files d)) e ∙ ap (λ o. writers o (is_marked old.files d)) free)
+    | inr ne ↦ ap (λ o. writers o (is_marked old.files d)) (entry_made.others d ne)
+  ]
+
+  pub made_tidy : Tidy new
+  made_tidy = files_tidy old new (with_file old.files id n) b made_chans tidy.unmarked (across_stays old.files (with_file old.files id n) old.jobs tidy.across made_readers made_writers) tidy
+
+pub placed_machine : (p new : Plain) (x : Spot) → new ≡ record p { place = x } → machine_of new ≡ machine_of p
+unfolding machine_of
+placed_machine p new x e = ap machine_of e
+
+pub file_done : (old mid at new : Plain) (n : Names) → file_made (machine_of old) n ≡ Ok (machine_of mid) → at ≡ record mid { place = spots.File n } → new ≡ record at { touched = no_slots }
+    → Leads old new (spots.File n) (file_made (machine_of old) n)
+file_done old mid at new n made placed e = record {
+  is = made ∙ ap Ok (sym (touched_machine at new no_slots e ∙ placed_machine mid at (spots.File n) placed));
+  touched = none_touched new.touched (ap (λ (p : Plain). p.touched) e);
+  place = ap (λ (p : Plain). p.place) e ∙ ap (λ (p : Plain). p.place) placed;
+}
+
+pub file_tidy : (mid at new : Plain) (n : Names) → at ≡ record mid { place = spots.File n } → new ≡ record at { touched = no_slots } → Tidy mid → Tidy new
+file_tidy mid at new n placed e tidy = touched_tidy at new no_slots e (placed_tidy mid at (spots.File n) placed tidy)
+
+-- EOF
+pub ended : (old at new : Plain) → at ≡ record old { place = spots.Plain } → new ≡ record at { touched = no_slots } → Leads old new spots.Plain (Ok (machine_of old))
+unfolding machine_of
+ended old at new placed e = record {
+  is = ap Ok (sym (ap machine_of (e ∙ ap (λ (p : Plain). record p { touched = no_slots }) placed)));
+  touched = none_touched new.touched (ap (λ (p : Plain). p.touched) e);
+  place = ap (λ (p : Plain). p.place) e ∙ ap (λ (p : Plain). p.place) placed;
+}
+
+pub ended_tidy : (old at new : Plain) → at ≡ record old { place = spots.Plain } → new ≡ record at { touched = no_slots } → Tidy old → Tidy new
+ended_tidy old at new placed e tidy = touched_tidy at new no_slots e (placed_tidy old at spots.Plain placed tidy)
+
+-- a word more of a file: the channels of the machine are those of the store
+channels_by : (s : Store) (p : Plain) (k n : ℕ) (o : Option Job) → channel_in (raw_of s (core_at p.core k) (superior_at p.jobs k) (alarm_at p.alarms.items k) o) n ≡ chan_of s (channel_by o n)
+channels_by s p k n (Some j) = refl
+channels_by s p k n None = refl
+
+chans_are : (p : Plain) → channels_of (machine_of p) ≡ (λ k n. chan_of p.files (channel_at p.jobs k n))
+unfolding machine_of
+chans_are p = λ t k n. channels_by p.files p k n (job_at p.jobs k) t
+
+file_no_draft : (o : Option Entry) → is_file o ≡ true → is_draft o ≡ false
+file_no_draft (Some (Standing names readers)) h = refl
+file_no_draft (Some (Draft names)) h = cc
+file_no_draft None h = refl
+
+module _ (p : Plain) (whole : IsStore p.files) (tidy : Tidy p) (id : ℕ) (file : is_file (entry_at p.files id) ≡ true) (most : blocks_used p.files.stored ≤ 2048) where
+  added_on : (w : ℕ) → word_added (machine_of p) (names_at p.files id) w ≡ word_added_if (machine_of p) (names_at p.files id) w (store_is_full p.files.stored id)
+  unfolding word_added
+  added_on w =
+      let m = machine_of p in
+      let n = names_at p.files id in
+      ap (λ fs. word_added_to m n w (file_named n fs)) (files_are p) ∙ ap (word_added_to m n w) (named_self p.files whole id file)
+      ∙ ap (λ fs. word_added_if m n w (is_full fs (channels_of m) (words_at p.files id))) (files_are p)
+      ∙ ap (λ cs. word_added_if m n w (is_full (directory p.files) cs (words_at p.files id))) (chans_are p)
+      ∙ ap (word_added_if m n w) (sym (full_on p.files whole tidy.unmarked p.jobs id tidy.across most))
+
+  pub added_full : (w : ℕ) → store_is_full p.files.stored id ≡ true → word_added (machine_of p) (names_at p.files id) w ≡ Err reasons.Full
+  added_full w full = added_on w ∙ ap (word_added_if (machine_of p) (names_at p.files id) w) full
+
+  module _ (new : Plain) (w : ℕ) (b : FilesBecome p new (with_word p.files id w)) (entry : Same (entry_at p.files) (entry_at new.files))
+      (words : Only (words_at p.files) (words_at new.files) id (words_at p.files id ++ w ∷ [])) (files : directory new.files ≡ with_changed (names_at p.files id) (longer w) (directory p.files)) where
+    added_entry : (k : ℕ) → entry_at (with_word p.files id w) k ≡ entry_at p.files k
+    added_entry k = refl
+
+    added_words : Only (words_at p.files) (words_at (with_word p.files id w)) id (words_at p.files id ++ w ∷ [])
+    added_words = subst (λ (s : Store). Only (words_at p.files) (words_at s) id (words_at p.files id ++ w ∷ [])) b.files words
+
+    added_chans : (k m : ℕ) (c : Channel) → channel_at p.jobs k m ≡ c → chan_of (with_word p.files id w) c ≡ chan_of p.files c
+    added_chans = chan_stays p.files (with_word p.files id w) p.jobs tidy.across id (λ k ne. refl) added_words.others (file_no_draft (entry_at p.files id) file) (λ h. refl)
+
+    pub added_row : store_is_full p.files.stored id ≡ false → word_added (machine_of p) (names_at p.files id) w ≡ Ok (machine_of new)
+    added_row room =
+        let m = machine_of p in
+        let n = names_at p.files id in
+        added_on w ∙ ap (word_added_if m n w) room ∙ ap (λ fs. Ok (with_files m (with_changed n (longer w) fs))) (files_are p)
+        ∙ ap (λ fs. Ok (with_files m fs)) (sym files ∙ ap directory b.files)
+        ∙ ap Ok (sym (files_machine p new (with_word p.files id w) b added_chans))
+
+    pub added_tidy : Tidy new
+    added_tidy = files_tidy p new (with_word p.files id w) b added_chans tidy.unmarked (across_stays p.files (with_word p.files id w) p.jobs tidy.across (λ f. refl) (λ d. refl)) tidy
+
+pub added_names : (s u : Store) (id : ℕ) → Same (entry_at s) (entry_at u) → names_at u id ≡ names_at s id
+added_names s u id e = ap names_by (e.each id)
+
+-- the words in their order: those before place k are added
+pub record Adding (old now : Plain) (id : ℕ) (ws : List ℕ) (k : ℕ) : Type 0 where
+  pub rest : words_added (machine_of now) (names_at old.files id) (drop k ws) ≡ words_added (machine_of old) (names_at old.files id) ws
+  pub file : is_file (entry_at now.files id) ≡ true
+  pub names : names_at now.files id ≡ names_at old.files id
+  pub place : now.place ≡ old.place
+  pub tidy : Tidy now
+
+pub adding_starts : (p : Plain) (id : ℕ) (ws : List ℕ) → is_file (entry_at p.files id) ≡ true → Tidy p → Adding p p id ws 0
+adding_starts p id ws file tidy = record { rest = refl; file = file; names = refl; place = refl; tidy = tidy }
+
+added_next : (old now : Plain) (id k w d : ℕ) (ws : List ℕ) → Adding old now id ws k → k < length ws → w ≡ get_or ws k d
+    → and_then (word_added (machine_of now) (names_at old.files id) w) (λ n. words_added n (names_at old.files id) (drop (k + 1) ws)) ≡ words_added (machine_of old) (names_at old.files id) ws
+added_next old now id k w d ws h l is =
+    ap (λ x. words_added (machine_of now) (names_at old.files id) (x ∷ drop (k + 1) ws)) is
+    ∙ ap (words_added (machine_of now) (names_at old.files id)) (sym (drop_more ws k d l)) ∙ h.rest
+
+pub adding_more : (old now new : Plain) (id k w d : ℕ) (ws : List ℕ) → Adding old now id ws k → k < length ws → w ≡ get_or ws k d
+    → word_added (machine_of now) (names_at now.files id) w ≡ Ok (machine_of new) → is_file (entry_at new.files id) ≡ true → names_at new.files id ≡ names_at now.files id → new.place ≡ now.place → Tidy new
+    → Adding old new id ws (k + 1)
+adding_more old now new id k w d ws h l is made file names place tidy = record {
+  rest = sym (ap (λ r. and_then r (λ n. words_added n (names_at old.files id) (drop (k + 1) ws))) (ap (λ ns. word_added (machine_of now) ns w) (sym h.names) ∙ made)) ∙ added_next old now id k w d ws h l is;
+  file = file;
+  names = names ∙ h.names;
+  place = place ∙ h.place;
+  tidy = tidy;
+}
+
+pub adding_stops : (old now : Plain) (id k w d : ℕ) (ws : List ℕ) (r : Reason) → Adding old now id ws k → k < length ws → w ≡ get_or ws k d → word_added (machine_of now) (names_at now.files id) w ≡ Err r
+    → words_added (machine_of old) (names_at old.files id) ws ≡ Err r
+adding_stops old now id k w d ws r h l is e =
+    sym (added_next old now id k w d ws h l is)
+    ∙ ap (λ x. and_then x (λ n. words_added n (names_at old.files id) (drop (k + 1) ws))) (ap (λ ns. word_added (machine_of now) ns w) (sym h.names) ∙ e)
+
+pub adding_ends : (old now : Plain) (id k n : ℕ) (ws : List ℕ) → Adding old now id ws k → n ≡ length ws → n ≤ k → words_added (machine_of old) (names_at old.files id) ws ≡ Ok (machine_of now)
+adding_ends old now id k n ws h is l = sym h.rest ∙ ap (words_added (machine_of now) (names_at old.files id)) (drop_of_length-le ws (omega arith))
+
+-- the line, where there is such a file, and where there is none
+pub appended : (old put new : Plain) (n : Names) (ws : List ℕ) → words_added (machine_of old) n ws ≡ Ok (machine_of put) → put.place ≡ old.place → new ≡ record put { touched = no_slots }
+    → Keeps old new (words_added (machine_of old) n ws)
+appended old put new n ws made place e = record {
+  is = made ∙ ap Ok (sym (touched_machine put new no_slots e));
+  touched = none_touched new.touched (ap (λ (p : Plain). p.touched) e);
+  place = ap (λ (p : Plain). p.place) e ∙ place;
+}
+
+nothing_of : {X Y : Type 0} (f : X → Y) (o : Option X) → o ≡ None → option_map f o ≡ None
+nothing_of f o e = ap (option_map f) e
+
+nothing_added : (p : Plain) (n : Names) (ws : List ℕ) → found p.files n ≡ None → words_added (machine_of p) n ws ≡ Ok (machine_of p)
+unfolding word_added
+nothing_added p n [] none = refl
+nothing_added p n (w ∷ ws) none =
+    ap (λ o. and_then (word_added_to (machine_of p) n w o) (λ k. words_added k n ws)) (ap (file_named n) (files_are p) ∙ sym (found_named p.files n) ∙ nothing_of (file_at p.files) (found p.files n) none)
+    ∙ nothing_added p n ws none
+
+pub appended_none : (old new : Plain) (n : Names) (ws : List ℕ) (o : Option ℕ) → o ≡ found old.files n → o ≡ None → new ≡ record old { touched = no_slots } → Keeps old new (words_added (machine_of old) n ws)
+appended_none old new n ws o is none e = appended old old new n ws (nothing_added old n ws (sym is ∙ none)) refl e

@@ -1,0 +1,256 @@
+-- The words of a LOAD block: a word is stored, where its page is absent into a page of zeros that is made.
+use Rattle.std.specs.Prelude.{◌≡◌, ◌<◌, ◌≤◌, ◌/◌, ◌%◌, ◌+◌, ◌-◌, ◌||◌, ℕ, suc, Bool, true, false, Option, Some, None, is_some, option_map, List, [], ◌∷◌, drop, length, Ok, Err, nat_lt, slice_index_or, refl}
+use Rattle.std.proofs.Common.{sym, ◌∙◌, ap, arith, get_or, inl, inr}
+use Rattle.std.proofs.Math.ListN.{drop_of_length-le}
+use Rattle.std.proofs.lemmas.Bool.{cases_eq, lt-ltb, le-ltb}
+use Rattle.std.proofs.lemmas.Bool.Decides.{nat_tests}
+use Rattle.std.proofs.lemmas.List.{drop_more}
+use Rattle.its_word.specs.Core.{Core, no_core, page_of, word_at, can_store, store, putting, put, with_page, zero_page, pages_mapped}
+use Rattle.its_word.specs.Limits.{slots, most_pages}
+use Rattle.its_word.specs.Only.{Only, Same}
+use Rattle.its_word.specs.declared.access.NoAccess.TheVariants.{ReadOnly}
+use Rattle.its_word.specs.declared.jobs.Job.{Job}
+use Rattle.its_word.specs.declared.session.Reason.{Reason}
+use Rattle.its_word.specs.declared.session.Reason.TheVariants as reasons
+use Rattle.its_word.proofs.PageLaws.{get-copies, pages_mapped-same}
+use Rattle.its_core.specs.Cores.{Cores, Reserved, core_at, reserved_at, clear_at}
+use Rattle.its_core.proofs.CoresLaws.{same_core_at}
+use Rattle.its_files.specs.Files.{Store}
+use Rattle.its_jobs.specs.Table.{job_at, superior_at}
+use Rattle.its_plain.specs.Machine.{Whole, mapped, core_of}
+use Rattle.its_plain.specs.Operator.{and_then}
+use Rattle.its_plain.specs.OperatorJobs.{with_core, stored_in, stored, word_loaded_of, word_loaded, words_stored, is_barred, any_barred, barred_in, words_loaded_if, words_loaded}
+use Rattle.its_parts.specs.Parts.{alarm_at, raw_of}
+use Rattle.its_direct.specs.Plain.{machine_of, Tidy, Aside, CoreBecomes}
+use Rattle.its_direct.specs.Lines.{one_slot, Operates}
+use Rattle.its_direct.specs.declared.plain.Plain.{Plain}
+use Rattle.its_direct.proofs.LineLaws.{only_touched, put_slot}
+use Rattle.its_direct.proofs.SlotLaws.{alike, core_machine, core_tidy, touched_machine}
+use Rattle.its_direct.proofs.UserLaws.{own_of, own_is, nobody_is}
+
+-- a page of zeros that is made: it is reserved and cleared, and then mapped
+unreserved_by : (o : Option Reserved) → option_map (λ x. x.clear) o ≡ None → o ≡ None
+unreserved_by (Some x) h = cc
+unreserved_by None h = refl
+
+pub clear_unreserved : (c : Cores) (s : ℕ) → clear_at c s ≡ None → reserved_at c s ≡ None
+clear_unreserved c s h = unreserved_by (reserved_at c s) h
+
+pub zero_stores : (c : Core) (a : ℕ) → 16 ≤ a → page_of c (a / 1024) ≡ Some zero_page → can_store c a ≡ true
+unfolding can_store zero_page
+zero_stores c a l h =
+    let t : nat_lt a 16 ≡ false = grind (arith, nat_tests) in
+    rw (t, h) (ap is_some (get-copies 1024 (a % 1024) 0 (omega arith)))
+
+pub laid_cores : (a b c : Cores) (s k : ℕ) → b.cores ≡ a.cores → Only (core_at b) (core_at c) s (with_page (core_at b s) k (Some zero_page))
+    → Only (core_at a) (core_at c) s (with_page (core_at a s) k (Some zero_page))
+laid_cores a b c s k e o = record {
+  here = o.here ∙ ap (λ x. with_page x k (Some zero_page)) (same_core_at b a s e);
+  others = λ i n. o.others i n ∙ same_core_at b a i e;
+}
+
+pub laid_clear : (a b c : Cores) (s : ℕ) → clear_at a s ≡ None → Only (clear_at a) (clear_at b) s (Some 4) → Only (clear_at b) (clear_at c) s None → Same (clear_at a) (clear_at c)
+laid_clear a b c s n e o = record {
+  each = λ k. elim (cases_eq k s) [
+    | inl i ↦ rw i (o.here ∙ sym n)
+    | inr i ↦ o.others k i ∙ e.others k i
+  ];
+}
+
+pub laid_word : (a b c : Cores) (s x : ℕ) (d : Core) (h : Core → Core) → Only (core_at a) (core_at b) s d → Only (core_at b) (core_at c) s (h (core_at b s)) → Only (core_at a) (core_at c) s (h d)
+laid_word a b c s x d h o p = record { here = p.here ∙ ap h o.here; others = λ k n. p.others k n ∙ o.others k n }
+
+pub laid_reserved : (a b c : Cores) → Same (clear_at a) (clear_at b) → c.reserved ≡ b.reserved → Same (clear_at a) (clear_at c)
+unfolding reserved_at
+laid_reserved a b c s e = record { each = λ k. ap (λ rs. option_map (λ (x : Reserved). x.clear) (slice_index_or rs k None)) e ∙ s.each k }
+
+-- the pages of all jobs are those of the cores
+core_by : (x : Store) (c : Core) (u : Option ℕ) (a : Option (ℕ × ℕ)) (o : Option Job) → (o ≡ None → c ≡ no_core) → core_of (raw_of x c u a o) ≡ c
+core_by x c u a (Some j) blank = refl
+core_by x c u a None blank = sym (blank refl)
+
+core_shown : (p : Plain) (k : ℕ) → Tidy p → core_of ((machine_of p).jobs k) ≡ core_at p.core k
+unfolding machine_of
+core_shown p k tidy = core_by p.files (core_at p.core k) (superior_at p.jobs k) (alarm_at p.alarms.items k) (job_at p.jobs k) (tidy.blank k)
+
+mapped_is : (p : Plain) → Tidy p → mapped (machine_of p) ≡ pages_mapped (core_at p.core)
+mapped_is p tidy = pages_mapped-same (core_at p.core) (λ k. core_of ((machine_of p).jobs k)) (record { each = λ k. core_shown p k tidy })
+
+-- a word
+abbrev can : Plain → ℕ → ℕ → Bool
+can p s a = can_store (core_at p.core s) a
+
+abbrev there : Plain → ℕ → ℕ → Bool
+there p s a = is_some (word_at (core_at p.core s) a)
+
+abbrev room : Plain → Bool
+room p = nat_lt (pages_mapped (core_at p.core)) most_pages
+
+word_on : (p : Plain) (s a x : ℕ) (i : Job) → job_at p.jobs s ≡ Some i → Tidy p
+    → word_loaded (machine_of p) s a x ≡ with_core (machine_of p) s (own_of p s i) (stored_in (core_at p.core s) a x (can p s a) (there p s a) (room p))
+unfolding word_loaded stored
+word_on p s a x i had tidy =
+    ap (word_loaded_of (machine_of p) s a x) (own_is p s i had)
+    ∙ ap (λ n. with_core (machine_of p) s (own_of p s i) (stored_in (core_at p.core s) a x (can p s a) (there p s a) (nat_lt n most_pages))) (mapped_is p tidy)
+
+some_of : {X : Type 0} (o : Option X) → is_some o ≡ true → (x : X) × (o ≡ Some x)
+some_of (Some x) h = (x, refl)
+some_of None h = cc
+
+becomes_is : (old new : Plain) (s : ℕ) (c : Core) (i : Job) → job_at old.jobs s ≡ Some i → CoreBecomes old new s c → with_core (machine_of old) s (own_of old s i) (Ok c) ≡ Ok (machine_of new)
+becomes_is old new s c i had b = ap Ok (sym (core_machine old new s c i b had ∙ put_slot (machine_of old) s (own_of old s i) (λ q. record q { core = c }) (own_is old s i had)))
+
+module _ (old : Plain) (s a x : ℕ) (job : is_some (job_at old.jobs s) ≡ true) (tidy : Tidy old) where
+  had : (i : Job) × (job_at old.jobs s ≡ Some i)
+  had = some_of (job_at old.jobs s) job
+
+  pub word_stored : (new : Plain) → can_store (core_at old.core s) a ≡ true → CoreBecomes old new s (store (core_at old.core s) a x) → word_loaded (machine_of old) s a x ≡ Ok (machine_of new)
+  word_stored new t b =
+      word_on old s a x had.0 had.1 tidy
+      ∙ ap (λ y. with_core (machine_of old) s (own_of old s had.0) (stored_in (core_at old.core s) a x y (there old s a) (room old))) t
+      ∙ becomes_is old new s (store (core_at old.core s) a x) had.0 had.1 b
+
+  absent_word : 16 ≤ a → page_of (core_at old.core s) (a / 1024) ≡ None → (can old s a ≡ false) × (there old s a ≡ false)
+  unfolding can_store word_at
+  absent_word l h =
+      let t : nat_lt a 16 ≡ false = grind (arith, nat_tests) in
+      (rw (t, h) refl, rw (t, h) refl)
+
+  absent_on : 16 ≤ a → page_of (core_at old.core s) (a / 1024) ≡ None
+      → word_loaded (machine_of old) s a x ≡ with_core (machine_of old) s (own_of old s had.0) (stored_in (core_at old.core s) a x false false (room old))
+  absent_on l h =
+      let f = absent_word l h in
+      word_on old s a x had.0 had.1 tidy
+      ∙ ap (λ y. with_core (machine_of old) s (own_of old s had.0) (stored_in (core_at old.core s) a x y (there old s a) (room old))) f.0
+      ∙ ap (λ y. with_core (machine_of old) s (own_of old s had.0) (stored_in (core_at old.core s) a x false y (room old))) f.1
+
+  pub word_made : (new : Plain) → 16 ≤ a → page_of (core_at old.core s) (a / 1024) ≡ None → pages_mapped (core_at old.core) < most_pages
+      → CoreBecomes old new s (store (with_page (core_at old.core s) (a / 1024) (Some zero_page)) a x) → word_loaded (machine_of old) s a x ≡ Ok (machine_of new)
+  word_made new l h r b =
+      absent_on l h
+      ∙ ap (λ y. with_core (machine_of old) s (own_of old s had.0) (stored_in (core_at old.core s) a x false false y)) (lt-ltb (pages_mapped (core_at old.core)) most_pages r)
+      ∙ becomes_is old new s (store (with_page (core_at old.core s) (a / 1024) (Some zero_page)) a x) had.0 had.1 b
+
+  pub word_full : 16 ≤ a → page_of (core_at old.core s) (a / 1024) ≡ None → most_pages ≤ pages_mapped (core_at old.core) → word_loaded (machine_of old) s a x ≡ Err reasons.Full
+  word_full l h r =
+      absent_on l h
+      ∙ ap (λ y. with_core (machine_of old) s (own_of old s had.0) (stored_in (core_at old.core s) a x false false y)) (le-ltb (pages_mapped (core_at old.core)) most_pages r)
+
+  barred_by : (b : Bool) (o : Option ℕ) → putting (core_at old.core s) a x b o ≡ Err ReadOnly
+      → with_core (machine_of old) s (own_of old s had.0) (stored_in (core_at old.core s) a x b (is_some o) (room old)) ≡ Err reasons.ReadOnly
+  barred_by true o h = cc
+  barred_by false (Some v) h = refl
+  barred_by false None h = cc
+
+  pub word_barred : put (core_at old.core s) a x ≡ Err ReadOnly → word_loaded (machine_of old) s a x ≡ Err reasons.ReadOnly
+  word_barred h = word_on old s a x had.0 had.1 tidy ∙ barred_by (can old s a) (word_at (core_at old.core s) a) h
+
+  module _ (new : Plain) (c : Core) (b : CoreBecomes old new s c) where
+    pub word_tidy : Tidy new
+    word_tidy = core_tidy old new s c had.0 b had.1 tidy
+
+    pub word_job : is_some (job_at new.jobs s) ≡ true
+    word_job = ap is_some b.job.here ∙ job
+
+pub page_becomes : (old new : Plain) (s : ℕ) (c : Core) → Only (core_at old.core) (core_at new.core) s c → Same (clear_at old.core) (clear_at new.core) → new.jobs ≡ old.jobs → Aside old new → CoreBecomes old new s c
+page_becomes old new s c core reserved jobs aside = record {
+  core = core;
+  job = alike _ _ s (λ k. ap (λ t. job_at t k) jobs);
+  superiors = ap (λ t. t.superiors) jobs;
+  reserved = reserved;
+  aside = aside;
+}
+
+-- n words of which the first k are on no read-only page
+pub any_start : (c : Core) (a n : ℕ) → any_barred c (a + 0) (n - 0) ≡ any_barred c a n
+any_start c a n = let e : a + 0 ≡ a = omega arith in let f : n - 0 ≡ n = omega arith in ap (λ i. any_barred c i (n - 0)) e ∙ ap (any_barred c a) f
+
+any_more : (c : Core) (a n : ℕ) → any_barred c a (suc n) ≡ (is_barred c a || any_barred c (a + 1) n)
+unfolding any_barred
+any_more c a n = refl
+
+any_after : (c : Core) (a n k : ℕ) → k < n → any_barred c (a + k) (n - k) ≡ (is_barred c (a + k) || any_barred c (a + (k + 1)) (n - (k + 1)))
+any_after c a n k l =
+    let e : n - k ≡ suc (n - (k + 1)) = omega arith in
+    let f : a + k + 1 ≡ a + (k + 1) = omega arith in
+    ap (any_barred c (a + k)) e ∙ any_more c (a + k) (n - (k + 1)) ∙ ap (λ i. is_barred c (a + k) || any_barred c i (n - (k + 1))) f
+
+pub any_here : (c : Core) (a n k : ℕ) → k < n → is_barred c (a + k) ≡ true → any_barred c (a + k) (n - k) ≡ true
+any_here c a n k l h = any_after c a n k l ∙ ap (λ b. b || any_barred c (a + (k + 1)) (n - (k + 1))) h
+
+pub any_next : (c : Core) (a n k : ℕ) → k < n → is_barred c (a + k) ≡ false → any_barred c (a + (k + 1)) (n - (k + 1)) ≡ any_barred c (a + k) (n - k)
+any_next c a n k l h = sym (any_after c a n k l ∙ ap (λ b. b || any_barred c (a + (k + 1)) (n - (k + 1))) h)
+
+none_more : (c : Core) (a : ℕ) → any_barred c a 0 ≡ false
+unfolding any_barred
+none_more c a = refl
+
+pub any_end : (c : Core) (a n k : ℕ) → n ≤ k → any_barred c (a + k) (n - k) ≡ false
+any_end c a n k l = let e : n - k ≡ 0 = omega arith in ap (any_barred c (a + k)) e ∙ none_more c (a + k)
+
+-- the words in their order: those before place k are stored
+pub record Storing (old now : Plain) (s a : ℕ) (ws : List ℕ) (k : ℕ) : Type 0 where
+  pub rest : words_stored (machine_of now) s (a + k) (drop k ws) ≡ words_stored (machine_of old) s a ws
+  pub job : is_some (job_at now.jobs s) ≡ true
+  pub place : now.place ≡ old.place
+  pub tidy : Tidy now
+
+pub storing_starts : (p : Plain) (s a : ℕ) (ws : List ℕ) → is_some (job_at p.jobs s) ≡ true → Tidy p → Storing p p s a ws 0
+storing_starts p s a ws job tidy = record {
+  rest = let e : a + 0 ≡ a = omega arith in ap (λ i. words_stored (machine_of p) s i ws) e;
+  job = job;
+  place = refl;
+  tidy = tidy;
+}
+
+stored_next : (old now : Plain) (s a k w d : ℕ) (ws : List ℕ) → Storing old now s a ws k → k < length ws → w ≡ get_or ws k d
+    → and_then (word_loaded (machine_of now) s (a + k) w) (λ n. words_stored n s (a + (k + 1)) (drop (k + 1) ws)) ≡ words_stored (machine_of old) s a ws
+stored_next old now s a k w d ws h l is =
+    let f : a + k + 1 ≡ a + (k + 1) = omega arith in
+    ap (λ i. and_then (word_loaded (machine_of now) s (a + k) w) (λ n. words_stored n s i (drop (k + 1) ws))) (sym f)
+    ∙ ap (λ x. words_stored (machine_of now) s (a + k) (x ∷ drop (k + 1) ws)) is
+    ∙ ap (words_stored (machine_of now) s (a + k)) (sym (drop_more ws k d l)) ∙ h.rest
+
+pub storing_more : (old now new : Plain) (s a k w d : ℕ) (ws : List ℕ) → Storing old now s a ws k → k < length ws → w ≡ get_or ws k d → word_loaded (machine_of now) s (a + k) w ≡ Ok (machine_of new)
+    → is_some (job_at new.jobs s) ≡ true → new.place ≡ now.place → Tidy new → Storing old new s a ws (k + 1)
+storing_more old now new s a k w d ws h l is made job place tidy = record {
+  rest = sym (ap (λ r. and_then r (λ n. words_stored n s (a + (k + 1)) (drop (k + 1) ws))) made) ∙ stored_next old now s a k w d ws h l is;
+  job = job;
+  place = place ∙ h.place;
+  tidy = tidy;
+}
+
+pub storing_stops : (old now : Plain) (s a k w d : ℕ) (ws : List ℕ) (r : Reason) → Storing old now s a ws k → k < length ws → w ≡ get_or ws k d → word_loaded (machine_of now) s (a + k) w ≡ Err r
+    → words_stored (machine_of old) s a ws ≡ Err r
+storing_stops old now s a k w d ws r h l is e =
+    sym (stored_next old now s a k w d ws h l is) ∙ ap (λ x. and_then x (λ n. words_stored n s (a + (k + 1)) (drop (k + 1) ws))) e
+
+pub storing_ends : (old now : Plain) (s a k n : ℕ) (ws : List ℕ) → Storing old now s a ws k → n ≡ length ws → n ≤ k → words_stored (machine_of old) s a ws ≡ Ok (machine_of now)
+storing_ends old now s a k n ws h is l = sym h.rest ∙ ap (words_stored (machine_of now) s (a + k)) (drop_of_length-le ws (omega arith))
+
+-- the line
+line_on : (p : Plain) (s a : ℕ) (ws : List ℕ) (i : Job) → job_at p.jobs s ≡ Some i → words_loaded (machine_of p) s a ws ≡ words_loaded_if (machine_of p) s a ws (any_barred (core_at p.core s) a (length ws))
+unfolding words_loaded
+line_on p s a ws i had = ap (λ (o : Option Whole). words_loaded_if (machine_of p) s a ws (barred_in o a (length ws))) (own_is p s i had)
+
+pub line_done : (old put new : Plain) (s a : ℕ) (ws : List ℕ) (i : Job) (b : Bool) → s < slots → job_at old.jobs s ≡ Some i → b ≡ any_barred (core_at old.core s) a (length ws) → b ≡ false
+    → words_stored (machine_of old) s a ws ≡ Ok (machine_of put) → put.place ≡ old.place → new ≡ record put { touched = one_slot s } → Operates old new s (words_loaded (machine_of old) s a ws)
+line_done old put new s a ws i b l had is free made place e = record {
+  is = line_on old s a ws i had ∙ ap (words_loaded_if (machine_of old) s a ws) (sym is ∙ free) ∙ made ∙ ap Ok (sym (touched_machine put new (one_slot s) e));
+  touched = only_touched put new s l e;
+  place = ap (λ (p : Plain). p.place) e ∙ place;
+}
+
+pub line_stopped : (p : Plain) (s a : ℕ) (ws : List ℕ) (i : Job) (b : Bool) (r : Reason) → job_at p.jobs s ≡ Some i → b ≡ any_barred (core_at p.core s) a (length ws) → b ≡ false
+    → words_stored (machine_of p) s a ws ≡ Err r → words_loaded (machine_of p) s a ws ≡ Err r
+line_stopped p s a ws i b r had is free e = line_on p s a ws i had ∙ ap (words_loaded_if (machine_of p) s a ws) (sym is ∙ free) ∙ e
+
+pub line_barred : (p : Plain) (s a : ℕ) (ws : List ℕ) (i : Job) (b : Bool) → job_at p.jobs s ≡ Some i → b ≡ any_barred (core_at p.core s) a (length ws) → b ≡ true → words_loaded (machine_of p) s a ws ≡ Err reasons.ReadOnly
+line_barred p s a ws i b had is t = line_on p s a ws i had ∙ ap (words_loaded_if (machine_of p) s a ws) (sym is ∙ t)
+
+pub line_refused : (p : Plain) (s a : ℕ) (ws : List ℕ) → 1 ≤ length ws → job_at p.jobs s ≡ None → words_loaded (machine_of p) s a ws ≡ Err reasons.NoJob
+unfolding words_loaded word_loaded
+line_refused p s a [] some none = absurd (omega arith)
+line_refused p s a (w ∷ ws) some none =
+    ap (λ (o : Option Whole). words_loaded_if (machine_of p) s a (w ∷ ws) (barred_in o a (length (w ∷ ws)))) (nobody_is p s none)
+    ∙ ap (λ (o : Option Whole). and_then (word_loaded_of (machine_of p) s a w o) (λ n. words_stored n s (a + 1) ws)) (nobody_is p s none)

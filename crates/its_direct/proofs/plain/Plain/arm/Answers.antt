@@ -1,0 +1,11 @@
+use Rattle.its_direct.proofs.EffectLaws.{alarm_set, alarm_tidied, nobody_here}
+use Rattle.its_direct.proofs.plain.Plain.arm.Goals as goal
+
+pub returns-in-Some-clause-row : goal.returns-in-Some-clause-row
+returns-in-Some-clause-row c = alarm_set c.args.self.now _ c.args.slot _ _ c.args.alarm c.job.ensures c.in-Some.is c.put_alarm.ensures
+
+pub returns-in-Some-clause-tidy : goal.returns-in-Some-clause-tidy
+returns-in-Some-clause-tidy c = alarm_tidied c.args.self.now _ c.args.slot _ _ c.args.alarm c.job.ensures c.in-Some.is c.put_alarm.ensures c.requires.tidy
+
+pub returns-in_default-clause-row : goal.returns-in_default-clause-row
+returns-in_default-clause-row c = nobody_here c.args.self.now c.args.slot _ _ c.job.ensures c.in_default.is

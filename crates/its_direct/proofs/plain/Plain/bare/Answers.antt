@@ -1,0 +1,6 @@
+use Rattle.std.proofs.Common.{refl}
+use Rattle.its_direct.proofs.RemovalLaws.{bares_is}
+use Rattle.its_direct.proofs.plain.Plain.bare.Goals as goal
+
+pub returns : goal.returns
+returns c = bares_is c.args.self.now _ _ c.forget.new.self c.args.slot c.drop_all.ensures.dropped c.drop_all.ensures.reserved refl (record { consoles = refl; holders = refl; files = refl; clock = refl; alarms = refl; version = refl; symbols = refl; place = refl; touched = refl }) c.put_alarm.ensures c.forget.ensures

@@ -1,0 +1,7 @@
+use Rattle.std.proofs.Common.{refl}
+use Rattle.its_direct.proofs.SlotLaws.{core_becomes}
+use Rattle.its_direct.proofs.plain.Plain.make_stores.Goals as goal
+
+pub returns : goal.returns
+returns c = core_becomes c.args.self.now _ _ _ c.make_all.ensures.stored c.make_all.ensures.reserved refl
+    (record { consoles = refl; holders = refl; files = refl; clock = refl; alarms = refl; version = refl; symbols = refl; place = refl; touched = refl })

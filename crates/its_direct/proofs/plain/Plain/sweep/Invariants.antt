@@ -1,0 +1,6 @@
+use Rattle.its_jobs.specs.Table.{superior_at, in_tree}
+use Rattle.its_direct.specs.Removal.{Swept}
+use Rattle.its_direct.proofs.plain.Plain.sweep.Given as goal
+
+abbrev pub invariant-loop-slot : goal.invariant-loop-slot
+invariant-loop-slot l = Swept (in_tree (superior_at l.fn.self.jobs) l.root) l.fn.self l.self l.slot

@@ -1,0 +1,10 @@
+use Rattle.std.proofs.Common.{subst, sym}
+use Rattle.its_word.specs.declared.session.Event.TheVariants as events
+use Rattle.its_direct.specs.Events.{Told}
+use Rattle.its_direct.proofs.EventLaws.{told_read_only}
+use Rattle.its_direct.proofs.plain.Plain.tell_read_only.Goals as goal
+
+pub returns-clause-told : goal.returns-clause-told
+returns-clause-told c =
+    subst (Told (events.ReadOnly c.args.page) c.args.self.now c.read_only.new.self) (sym c.answered.ensures)
+    (told_read_only c.args.self.now c.read_only.new.self c.args.slot c.args.page c.read_only.result c.requires.place c.read_only.ensures.done c.read_only.ensures.refused)

@@ -1,0 +1,95 @@
+-- What an event comes to, in the machine in running form: the operator's line exactly.
+use Rattle.std.specs.Prelude.{◌≡◌, ◌<◌, ℕ, false, List, [], ◌∷◌, Result, Ok, Err}
+use Rattle.its_word.specs.Limits.{slots}
+use Rattle.its_word.specs.declared.session.Event.{Event}
+use Rattle.its_word.specs.declared.session.Event.TheVariants as events
+use Rattle.its_word.specs.declared.session.Place.{Place}
+use Rattle.its_word.specs.declared.session.Place.TheVariants as places
+use Rattle.its_word.specs.declared.session.Refusal.{Refusal}
+use Rattle.its_print.specs.Printing.{Line}
+use Rattle.its_print.specs.Printing as printed
+use Rattle.its_session.specs.Fits.{place_of as event_place}
+use Rattle.its_stepped.specs.Alarmed.{Alarmed}
+use Rattle.its_stepped.specs.Forest.{Forest}
+use Rattle.its_plain.specs.Operator.{Block, Does, Refuses}
+use Rattle.its_plain.specs.OperatorLines.{Lined, Done, Peeks, lined}
+use Rattle.its_direct.specs.Plain.{machine_of, is_touched, Tidy}
+use Rattle.its_direct.specs.Lines.{reason_of}
+use Rattle.its_direct.specs.declared.plain.Plain.{Plain}
+use Rattle.its_direct.specs.declared.plain.Spot.{Spot}
+use Rattle.its_direct.specs.declared.plain.Spot.TheVariants as spots
+use Rattle.its_direct.specs.declared.events.Answer.{Answer}
+use Rattle.its_direct.specs.declared.events.Answer.TheVariants.{Nothing, Slot, Dropped, Drained}
+
+-- a LOAD block is that of a slot that there is
+abbrev pub SpotFits : Spot → Type 0
+SpotFits (spots.Load s) = s < slots
+SpotFits spots.Plain = Unit {0}
+SpotFits (spots.File names) = Unit {0}
+
+-- what holds between two events, and between two steps: what is tidy is so, the jobs of the machine are a forest, each alarm is to
+-- come, and the place is one that there is
+pub record Kept (p : Plain) : Type 0 where
+  pub tidy : Tidy p
+  pub forest : Forest (machine_of p)
+  pub alarmed : Alarmed (machine_of p)
+  pub placed : SpotFits p.place
+
+-- the place of a line of a session, and what a block of lines speaks of there
+abbrev pub place_of : Spot → Place
+place_of spots.Plain = places.Plain
+place_of (spots.Load s) = places.Load
+place_of (spots.File names) = places.File
+
+abbrev pub Speaks : Spot → Block → Type 0
+Speaks spots.Plain b = Unit {0}
+Speaks (spots.Load s) b = b.slot ≡ s
+Speaks (spots.File names) b = b.file ≡ names
+
+-- the events of which the machine is told: ticks are steps, and END ends all
+abbrev pub IsTold : Event → Type 0
+IsTold (events.Tick s n) = ⊥
+IsTold events.End = ⊥
+IsTold _ = Unit {0}
+
+-- an event may stand at a place; the version stands outside any block
+abbrev pub MayStand : Place → Event → Type 0
+MayStand place events.Nothing = Unit {0}
+MayStand place (events.Version v) = place ≡ places.Plain
+MayStand place e = place ≡ event_place e
+
+-- what an answer says of the lines that are shown; what EXAM, STATE, DIR and SHOW show is read from the machine
+abbrev pub Says : Event → Answer → List Line → Type 0
+Says (events.Load u j c) (Slot s) out = out ≡ printed.Loaded s ∷ []
+Says (events.TypeIn c bytes) (Dropped n) out = out ≡ printed.Typed c n ∷ []
+Says (events.Drain c n) (Drained bytes) out = out ≡ printed.Drained c bytes.items ∷ []
+Says (events.Exam s a n) Nothing out = Unit {0}
+Says (events.State s) Nothing out = Unit {0}
+Says (events.Dir d) Nothing out = Unit {0}
+Says (events.Show d x y) Nothing out = Unit {0}
+Says (events.Load u j c) _ out = ⊥
+Says (events.TypeIn c bytes) _ out = ⊥
+Says (events.Drain c n) _ out = ⊥
+Says e Nothing out = out ≡ []
+Says e _ out = ⊥
+
+-- an event that was obeyed came to this
+abbrev pub Obeys : Event → Answer → Plain → Plain → Lined → Type 0
+Obeys e a old new (Done (Does n out disturbs after)) = (machine_of new ≡ n) × ((k : ℕ) → is_touched new k ≡ disturbs k) × Speaks new.place after × Says e a out
+Obeys e a old new (Peeks s) = (machine_of new ≡ machine_of old) × ((k : ℕ) → is_touched new k ≡ false) × (new.place ≡ old.place)
+Obeys e a old new _ = ⊥
+
+pub record Obeyed (e : Event) (a : Answer) (old new : Plain) (b : Block) : Type 0 where
+  pub comes : Lined
+  pub is : lined (machine_of old) b e ≡ comes
+  pub obeys : Obeys e a old new comes
+
+-- an event was obeyed, or it was refused
+abbrev pub Told : Event → Plain → Plain → Result Answer Refusal → Type 0
+Told e old new (Ok a) = (b : Block) → Speaks old.place b → Obeyed e a old new b
+Told e old new (Err x) = (b : Block) → Speaks old.place b → lined (machine_of old) b e ≡ Done (Refuses (reason_of x))
+
+-- a line without an answer
+abbrev pub answered : Result (Unit {0}) Refusal → Result Answer Refusal
+answered (Ok u) = Ok Nothing
+answered (Err z) = Err z

@@ -1,0 +1,91 @@
+-- What a removal does to each part of the machine in running form.
+use Rattle.std.specs.Prelude.{if◌then◌else◌, ◌≡◌, ◌≢◌, ◌≤◌, ◌<◌, ℕ, Bool, true, false, Option, None, [], option_map}
+use Rattle.its_word.specs.Core.{no_core}
+use Rattle.its_word.specs.Only.{Only}
+use Rattle.its_word.specs.declared.jobs.Channel.{Channel}
+use Rattle.its_word.specs.declared.jobs.Channel.TheVariants as channels
+use Rattle.its_word.specs.declared.jobs.Job.{Job}
+use Rattle.its_core.specs.Cores.{core_at, clear_at}
+use Rattle.its_jobs.specs.Table.{job_at}
+use Rattle.its_plain.specs.Machine.{Shut}
+use Rattle.its_parts.specs.Across.{channel_by}
+use Rattle.its_parts.specs.Can.{chan_in}
+use Rattle.its_parts.specs.Parts.{alarm_at, bare, symbols_at}
+use Rattle.its_direct.specs.Plain.{machine_of}
+use Rattle.its_direct.specs.declared.plain.Plain.{Plain}
+
+-- a channel on a job that is gone is closed
+abbrev pub channel_left : (ℕ → Bool) → Channel → Channel
+channel_left gone (channels.Usr s w at) = if gone s then channels.Closed else channels.Usr s w at
+channel_left gone channels.Closed = channels.Closed
+channel_left gone channels.TtyIn = channels.TtyIn
+channel_left gone channels.TtyOut = channels.TtyOut
+channel_left gone (channels.Reading f at) = channels.Reading f at
+channel_left gone (channels.Writing d) = channels.Writing d
+
+-- the channels of slot s below m are closed: of the machine all jobs but its job, and all but jobs, is as it was
+pub record Closes (old new : Plain) (s m : ℕ) : Type 0 where
+  pub jobs : (k : ℕ) → k ≢ s → (machine_of new).jobs k ≡ (machine_of old).jobs k
+  pub rest : machine_of new ≡ record (machine_of old) { jobs = (machine_of new).jobs }
+  pub superiors : new.jobs.superiors ≡ old.jobs.superiors
+  pub place : new.place ≡ old.place
+  pub touched : new.touched ≡ old.touched
+  pub closed : (i : ℕ) → i < m → chan_in (machine_of new) s i ≡ Shut
+
+-- the same of all jobs that are to go, of the slots below n
+pub record ClosesTree (gone : ℕ → Bool) (old new : Plain) (n : ℕ) : Type 0 where
+  pub jobs : (k : ℕ) → gone k ≡ false → (machine_of new).jobs k ≡ (machine_of old).jobs k
+  pub rest : machine_of new ≡ record (machine_of old) { jobs = (machine_of new).jobs }
+  pub superiors : new.jobs.superiors ≡ old.jobs.superiors
+  pub place : new.place ≡ old.place
+  pub touched : new.touched ≡ old.touched
+  pub closed : (k i : ℕ) → k < n → gone k ≡ true → i < 16 → chan_in (machine_of new) k i ≡ Shut
+
+-- what slots share is as it was, and so are the superiors of jobs
+pub record Shares (old new : Plain) : Type 0 where
+  pub superiors : new.jobs.superiors ≡ old.jobs.superiors
+  pub reserved : (k : ℕ) → clear_at new.core k ≡ clear_at old.core k
+  pub consoles : new.consoles ≡ old.consoles
+  pub holders : new.holders ≡ old.holders
+  pub files : new.files ≡ old.files
+  pub clock : new.clock ≡ old.clock
+  pub version : new.version ≡ old.version
+  pub place : new.place ≡ old.place
+  pub touched : new.touched ≡ old.touched
+
+-- slot s has no page, no alarm and no symbols any more
+pub record Bares (old new : Plain) (s : ℕ) : Type 0 where
+  pub core : Only (core_at old.core) (core_at new.core) s no_core
+  pub alarm : Only (alarm_at old.alarms.items) (alarm_at new.alarms.items) s None
+  pub symbols : Only (symbols_at old.symbols.items) (symbols_at new.symbols.items) s []
+  pub jobs : new.jobs ≡ old.jobs
+  pub shares : Shares old new
+
+-- a job whose channels on jobs that are gone are closed
+pub record Leaves (gone : ℕ → Bool) (old new : Option Job) : Type 0 where
+  pub bare : option_map bare new ≡ option_map bare old
+  pub chans : (n : ℕ) → channel_by new n ≡ channel_left gone (channel_by old n)
+
+-- slot k, where this is done; and slot k, where nothing is
+pub record SlotSwept (gone : ℕ → Bool) (old new : Plain) (k : ℕ) : Type 0 where
+  pub core : core_at new.core k ≡ (if gone k then no_core else core_at old.core k)
+  pub alarm : alarm_at new.alarms.items k ≡ (if gone k then None else alarm_at old.alarms.items k)
+  pub symbols : symbols_at new.symbols.items k ≡ (if gone k then [] else symbols_at old.symbols.items k)
+  pub job : gone k ≡ false → Leaves gone (job_at old.jobs k) (job_at new.jobs k)
+
+pub record SlotKept (old new : Plain) (k : ℕ) : Type 0 where
+  pub core : core_at new.core k ≡ core_at old.core k
+  pub alarm : alarm_at new.alarms.items k ≡ alarm_at old.alarms.items k
+  pub symbols : symbols_at new.symbols.items k ≡ symbols_at old.symbols.items k
+  pub job : job_at new.jobs k ≡ job_at old.jobs k
+
+-- it is done in slot s alone, and in the slots below n
+pub record Sweeps (gone : ℕ → Bool) (old new : Plain) (s : ℕ) : Type 0 where
+  pub here : SlotSwept gone old new s
+  pub others : (k : ℕ) → k ≢ s → SlotKept old new k
+  pub shares : Shares old new
+
+pub record Swept (gone : ℕ → Bool) (old new : Plain) (n : ℕ) : Type 0 where
+  pub done : (k : ℕ) → k < n → SlotSwept gone old new k
+  pub rest : (k : ℕ) → n ≤ k → SlotKept old new k
+  pub shares : Shares old new

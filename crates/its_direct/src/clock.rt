@@ -1,0 +1,148 @@
+//! The line CLOCK, and the alarms that it makes go.
+ghost use Rattle.std.specs.Prelude.{◌≡◌, ◌<◌, ◌≤◌, ◌+◌, ◌^◌, Some, Err, OnOk, OnErr, IfErr, IfSome, nat_lt, slice_set};
+ghost use Rattle.its_word.specs.Limits.{slots};
+ghost use Rattle.its_plain.specs.Alarm.{is_due, time_after};
+ghost use Rattle.its_plain.specs.CallBasic.{longest_period};
+ghost use Rattle.its_plain.specs.Job.{ALR as ALR_BIT, with_pending};
+ghost use Rattle.its_plain.specs.OperatorClock.{clocked, clock_end};
+ghost use Rattle.its_stepped.specs.Alarmed.{Alarmed};
+ghost use Rattle.its_parts.specs.Parts.{alarm_at};
+ghost use Rattle.its_direct.specs.Plain.{machine_of, no_slots, Tidy};
+ghost use Rattle.its_direct.specs.Lines.{reason_of};
+ghost use Rattle.its_direct.specs.Clock.{AlarmBecomes, Clocks, Periodic, Periods, RangAt, RangBelow};
+
+use super::plain::Plain;
+use its_word::{ALR, Job, Refusal, SLOTS, Word};
+
+/// The clock stays below this many thirtieths.
+const CLOCK_END: u64 = 0o200000000000;
+
+impl Plain {
+    /// CLOCK: the clock gains n thirtieths, and the alarms that are then due go: ALR is set in their jobs, once, and each alarm has
+    /// its next time. Range where the clock would come to 2^34.
+    #[tactic(auto, using(crate::proofs::ClockLaws::clock_done, crate::proofs::ClockLaws::clock_refused))]
+    pub fn advance(&mut self, n: u64) -> Result<(), Refusal>
+        requires alarmed { Alarmed (machine_of self.old) }
+        requires tidy { Tidy self.old }
+        ensures done { OnOk result (Clocks self.old self.new n (clocked (machine_of self.old) n)) }
+        ensures refused { IfErr result (λ e. clocked (machine_of self.old) n ≡ Err (reason_of e)) }
+        ensures same { OnErr result (self.new ≡ self.old) }
+        ensures tidy { Tidy self.new }
+    {
+        if in_time(self.clock, n) {
+            let clock = self.clock + n;
+            self.set_clock(clock);
+            self.ring_all(clock);
+            Ok(())
+        } else {
+            Err(Refusal::Range)
+        }
+    }
+
+    /// Sets the clock. No slot is touched.
+    fn set_clock(&mut self, clock: u64)
+        ensures { self.new ≡ record self.old { clock = clock; touched = no_slots } }
+    {
+        self.clock = clock;
+        self.touch_none();
+    }
+
+    /// The alarms that are due at a clock go.
+    #[tactic(auto, using(crate::proofs::ClockLaws::rang_starts))]
+    fn ring_all(&mut self, clock: u64)
+        requires below { clock < clock_end }
+        requires periods { Periods self.old }
+        requires tidy { Tidy self.old }
+        ensures rang { RangBelow clock slots self.old self.new }
+        ensures tidy { Tidy self.new }
+    {
+        for slot in 0..SLOTS as u8 {
+            self.ring(slot, clock);
+        }
+    }
+
+    /// The alarm of a slot's job goes, where it is due at a clock.
+    #[tactic(auto, using(crate::proofs::ClockLaws::still_none, crate::proofs::ClockLaws::still_some))]
+    fn ring(&mut self, slot: u8, clock: u64)
+        requires slot { slot < slots }
+        requires below { clock < clock_end }
+        requires periods { Periods self.old }
+        requires tidy { Tidy self.old }
+        ensures rang { RangAt clock slot self.old self.new }
+        ensures periods { Periods self.new }
+        ensures tidy { Tidy self.new }
+    {
+        if let Some((period, next)) = self.alarm(slot) {
+            if next <= clock {
+                self.go_off(slot, period, next, clock);
+            }
+        }
+    }
+
+    /// The alarm of a slot's job.
+    fn alarm(&self, slot: u8) -> Option<(u64, u64)>
+        requires slot { slot < slots }
+        ensures { result ≡ alarm_at self.now.alarms.items slot }
+    {
+        self.alarms[usize::from(slot)]
+    }
+
+    /// The alarm of a slot's job goes: ALR is set in the job, the alarm gets its next time, and the slot is touched.
+    fn go_off(&mut self, slot: u8, period: u64, next: u64, clock: u64)
+        requires slot { slot < slots }
+        requires alarm { Some (period, next) ≡ alarm_at self.old.alarms.items slot }
+        requires below { clock < clock_end }
+        requires due { next ≤ clock }
+        requires periods { Periods self.old }
+        requires tidy { Tidy self.old }
+        ensures rang { RangAt clock slot self.old self.new }
+        ensures periods { Periods self.new }
+        ensures tidy { Tidy self.new }
+    {
+        match self.job(slot) {
+            Some(job) => self.put_job(slot, with_alr(job)),
+            None => unreachable!(),
+        }
+        self.rearm(slot, Some((period, time_after(period, next, clock))));
+        self.touch(slot);
+    }
+
+    /// Writes the alarm of a slot's job.
+    #[tactic(auto, using(crate::proofs::ClockLaws::alarm_becomes))]
+    pub(crate) fn rearm(&mut self, slot: u8, alarm: Option<(u64, u64)>)
+        requires slot { slot < slots }
+        ensures { AlarmBecomes self.old self.new slot alarm }
+    {
+        self.alarms[usize::from(slot)] = alarm;
+    }
+}
+
+/// Whether a clock that gains n thirtieths stays below its end.
+fn in_time(clock: u64, n: u64) -> bool
+    ensures { result ≡ nat_lt (clock + n) clock_end }
+{
+    clock < CLOCK_END && n < CLOCK_END - clock
+}
+
+/// Registers with ALR set.
+fn with_alr(job: Job) -> Job
+    ensures { result ≡ with_pending job ALR_BIT }
+{
+    Job {
+        pend1: job.pend1 | Word::new(ALR),
+        ..job
+    }
+}
+
+/// The next time of an alarm with this period and next time that goes at a clock: it gains the least multiple of the period
+/// that brings it above the clock.
+#[tactic(auto, using(crate::proofs::ClockLaws::next_time, crate::proofs::ClockLaws::next_fits))]
+fn time_after(period: u64, next: u64, clock: u64) -> u64
+    requires some { 1 ≤ period }
+    requires most { period ≤ longest_period }
+    requires below { clock < clock_end }
+    requires due { next ≤ clock }
+    ensures { result ≡ time_after clock (period, next) }
+{
+    clock + period - (clock - next) % period
+}

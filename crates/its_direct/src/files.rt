@@ -1,0 +1,135 @@
+//! The lines FILE, its words and EOF.
+ghost use Rattle.std.specs.Prelude.{◌≡◌, ◌<◌, ◌≤◌, ◌+◌, ◌∷◌, ◌++◌, [], true, None, Ok, Err, OnOk, OnErr, IfErr, length};
+ghost use Rattle.its_files.specs.Files.{entry_at, found, is_file, most_files, names_at};
+ghost use Rattle.its_plain.specs.OperatorFiles.{file_made, word_added, words_added};
+ghost use Rattle.its_plain.specs.Own.{names_of};
+ghost use Rattle.its_direct.specs.Plain.{machine_of, Tidy};
+ghost use Rattle.its_direct.specs.declared.plain.Spot.TheVariants.{Plain as Outside, File as InFile};
+ghost use Rattle.its_direct.specs.Lines.{reason_of, Keeps};
+ghost use Rattle.its_direct.specs.Filing.{Leads};
+
+use super::plain::{Plain, Spot};
+use its_word::{Refusal, Word};
+
+/// How many files there are at most.
+const FILES: u32 = 256;
+
+impl Plain {
+    /// FILE: makes a file of no words, the last in order, whose FILE block begins. Exists where a file has these names; Full
+    /// where there are 256 files.
+    #[tactic(auto, using(crate::proofs::FileLaws::file_exists, crate::proofs::FileLaws::file_full))]
+    pub fn make_file(&mut self, d: Word, x: Word, y: Word) -> Result<(), Refusal>
+        requires tidy { Tidy self.old }
+        ensures done { OnOk result (Leads self.old self.new (InFile (names_of d x y)) (file_made (machine_of self.old) (names_of d x y))) }
+        ensures refused { IfErr result (λ e. file_made (machine_of self.old) (names_of d x y) ≡ Err (reason_of e)) }
+        ensures same { OnErr result (self.new ≡ self.old) }
+        ensures tidy { Tidy self.new }
+    {
+        if self.files.find(d, x, y).is_some() {
+            return Err(Refusal::Exists);
+        }
+        if self.files.count() >= FILES {
+            return Err(Refusal::Full);
+        }
+        self.new_file(d, x, y);
+        self.set_place(Spot::File { names: [d, x, y] });
+        self.touch_none();
+        Ok(())
+    }
+
+    /// Words of a FILE block: words more at the end of the file with a directory and two names, where there is one. Full where one
+    /// needs a block and all are in use: then the words before it are added.
+    #[tactic(auto, using(crate::proofs::FileLaws::appended_none))]
+    pub fn append_words(&mut self, d: Word, x: Word, y: Word, words: &[Word]) -> Result<(), Refusal>
+        requires tidy { Tidy self.old }
+        ensures done { OnOk result (Keeps self.old self.new (words_added (machine_of self.old) (names_of d x y) words.now)) }
+        ensures refused { IfErr result (λ e. words_added (machine_of self.old) (names_of d x y) words.now ≡ Err (reason_of e)) }
+        ensures tidy { Tidy self.new }
+    {
+        match self.files.find(d, x, y) {
+            Some(id) => self.append_to(id, words),
+            None => {
+                self.touch_none();
+                Ok(())
+            }
+        }
+    }
+
+    /// The same of a file.
+    fn append_to(&mut self, id: u32, words: &[Word]) -> Result<(), Refusal>
+        requires file { is_file (entry_at self.old.files id) ≡ true }
+        requires tidy { Tidy self.old }
+        ensures done { OnOk result (Keeps self.old self.new (words_added (machine_of self.old) (names_at self.old.files id) words.now)) }
+        ensures refused { IfErr result (λ e. words_added (machine_of self.old) (names_at self.old.files id) words.now ≡ Err (reason_of e)) }
+        ensures tidy { Tidy self.new }
+    {
+        match self.add_words(id, words) {
+            Ok(()) => {
+                self.touch_none();
+                Ok(())
+            }
+            Err(e) => Err(e),
+        }
+    }
+
+    /// Words more at the end of a file, in their order.
+    #[tactic(auto, using(crate::proofs::FileLaws::adding_starts, crate::proofs::FileLaws::adding_ends))]
+    fn add_words(&mut self, id: u32, words: &[Word]) -> Result<(), Refusal>
+        requires file { is_file (entry_at self.old.files id) ≡ true }
+        requires tidy { Tidy self.old }
+        ensures done { OnOk result (words_added (machine_of self.old) (names_at self.old.files id) words.now ≡ Ok (machine_of self.new)) }
+        ensures refused { IfErr result (λ e. words_added (machine_of self.old) (names_at self.old.files id) words.now ≡ Err (reason_of e)) }
+        ensures place { self.new.place ≡ self.old.place }
+        ensures tidy { Tidy self.new }
+    {
+        for k in 0..words.len() {
+            match self.add_word(id, words[k]) {
+                Ok(()) => {}
+                Err(e) => return Err(e),
+            }
+        }
+        Ok(())
+    }
+
+    /// EOF: the FILE block ends.
+    #[tactic(auto, using(crate::proofs::FileLaws::ended, crate::proofs::FileLaws::ended_tidy))]
+    pub fn end_file(&mut self)
+        requires tidy { Tidy self.old }
+        ensures done { Leads self.old self.new Outside (Ok (machine_of self.old)) }
+        ensures tidy { Tidy self.new }
+    {
+        self.set_place(Spot::Plain);
+        self.touch_none();
+    }
+
+    /// Makes a file of no words, the last in order, where no file has its names.
+    fn new_file(&mut self, d: Word, x: Word, y: Word)
+        requires tidy { Tidy self.old }
+        requires few { length self.old.files.order < most_files }
+        requires fresh { found self.old.files (names_of d x y) ≡ None }
+        ensures row { file_made (machine_of self.old) (names_of d x y) ≡ Ok (machine_of self.new) }
+        ensures tidy { Tidy self.new }
+    {
+        self.files.new_file(d, x, y);
+    }
+
+    /// A word more at the end of a file. Full where it needs a block and all are in use.
+    #[tactic(auto, using(crate::proofs::FileLaws::added_names))]
+    fn add_word(&mut self, id: u32, w: Word) -> Result<(), Refusal>
+        requires file { is_file (entry_at self.old.files id) ≡ true }
+        requires tidy { Tidy self.old }
+        ensures row { OnOk result (word_added (machine_of self.old) (names_at self.old.files id) w ≡ Ok (machine_of self.new)) }
+        ensures refused { IfErr result (λ e. word_added (machine_of self.old) (names_at self.old.files id) w ≡ Err (reason_of e)) }
+        ensures same { OnErr result (self.new ≡ self.old) }
+        ensures file { is_file (entry_at self.new.files id) ≡ true }
+        ensures names { names_at self.new.files id ≡ names_at self.old.files id }
+        ensures place { self.new.place ≡ self.old.place }
+        ensures tidy { Tidy self.new }
+    {
+        self.files.seen();
+        match self.files.append(id, w) {
+            Ok(()) => Ok(()),
+            Err(_) => Err(Refusal::Full),
+        }
+    }
+}

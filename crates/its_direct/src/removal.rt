@@ -1,0 +1,178 @@
+//! The removal of a job with all jobs below it: their channels, pages, alarms, symbols and consoles go with them.
+ghost use Rattle.std.specs.Prelude.{◌≡◌, ◌<◌, [], ℕ, true, false, None, slice_index_or};
+ghost use Rattle.its_word.specs.Limits.{slots};
+ghost use Rattle.its_word.specs.declared.jobs.Channel.TheVariants.{Closed};
+ghost use Rattle.its_jobs.specs.Table.{superior_at, in_tree};
+ghost use Rattle.its_plain.specs.Change.{passed_on, removed, superiors};
+ghost use Rattle.its_parts.specs.Across.{channel_at};
+ghost use Rattle.its_direct.specs.Effects.{Becomes};
+ghost use Rattle.its_direct.specs.Lines.{SymbolsBecome};
+ghost use Rattle.its_direct.specs.Plain.{machine_of, Tidy};
+ghost use Rattle.its_direct.specs.Removal.{channel_left, Bares, Closes, ClosesTree, Sweeps, Swept};
+
+use super::plain::Plain;
+use its_jobs::Jobs;
+use its_word::{Channel, SLOTS};
+
+/// How many channels a job has.
+const CHANNELS: u8 = 16;
+
+impl Plain {
+    /// Removes the job of a slot with all jobs below it: their drafts are dropped, and every channel on one of them is
+    /// closed. A console that one of them holds passes to the superior of the job, where it has one, else to nobody.
+    pub(crate) fn remove(&mut self, root: u8)
+        requires slot { root < slots }
+        requires tidy { Tidy self.old }
+        ensures row { Becomes self.old self.new (removed (superiors (machine_of self.old)) root (machine_of self.old)) }
+        ensures tidy { Tidy self.new }
+    {
+        self.jobs.tree();
+        self.close_tree(root);
+        self.strip(root);
+    }
+
+    /// Closes the channels of the jobs of a tree.
+    #[tactic(auto, using(crate::proofs::RemovalLaws::tree_start, crate::proofs::RemovalLaws::tree_gone, crate::proofs::RemovalLaws::tree_kept, crate::proofs::RemovalLaws::tree_end))]
+    fn close_tree(&mut self, root: u8)
+        requires slot { root < slots }
+        requires tidy { Tidy self.old }
+        ensures closed { ClosesTree (in_tree (superior_at self.old.jobs) root) self.old self.new slots }
+        ensures tidy { Tidy self.new }
+    {
+        for slot in 0..SLOTS as u8 {
+            if is_removed(&self.jobs, root, slot) {
+                self.close_all(slot);
+            }
+        }
+    }
+
+    /// Closes all channels of a slot's job.
+    #[tactic(auto, using(crate::proofs::RemovalLaws::all_start, crate::proofs::RemovalLaws::all_end))]
+    fn close_all(&mut self, slot: u8)
+        requires slot { slot < slots }
+        requires tidy { Tidy self.old }
+        ensures closed { Closes self.old self.new slot 16 }
+        ensures tidy { Tidy self.new }
+    {
+        for n in 0..CHANNELS {
+            self.shut(slot, n);
+        }
+    }
+
+    /// Gives up what the jobs of a tree have, whose channels are closed, and removes them.
+    fn strip(&mut self, root: u8)
+        requires slot { root < slots }
+        requires closed { (k n : ℕ) → in_tree (superior_at self.old.jobs) root k ≡ true → channel_at self.old.jobs k n ≡ Closed }
+        requires tidy { Tidy self.old }
+        ensures row { Becomes self.old self.new (removed (superior_at self.old.jobs) root (machine_of self.old)) }
+        ensures tidy { Tidy self.new }
+    {
+        self.jobs.tree();
+        self.sweep(root);
+        pass_on(&self.jobs, root, &mut self.holders);
+        self.jobs.remove_tree(root);
+    }
+
+    /// Gives up pages, alarms and symbols of the jobs of a tree, and closes the channels of others on them.
+    #[tactic(auto, using(crate::proofs::RemovalLaws::swept_start, crate::proofs::RemovalLaws::swept_end))]
+    fn sweep(&mut self, root: u8)
+        requires { root < slots }
+        ensures { Swept (in_tree (superior_at self.old.jobs) root) self.old self.new slots }
+    {
+        for slot in 0..SLOTS as u8 {
+            self.sweep_slot(root, slot);
+        }
+    }
+
+    /// The same in one slot.
+    #[tactic(auto, using(crate::proofs::RemovalLaws::sweeps_gone))]
+    fn sweep_slot(&mut self, root: u8, slot: u8)
+        requires { slot < slots }
+        ensures { Sweeps (in_tree (superior_at self.old.jobs) root) self.old self.new slot }
+    {
+        if is_removed(&self.jobs, root, slot) {
+            self.bare(slot);
+        } else {
+            self.leave_channels(root, slot);
+        }
+    }
+
+    /// Gives up the pages, the alarm and the symbols of a slot.
+    fn bare(&mut self, slot: u8)
+        requires { slot < slots }
+        ensures { Bares self.old self.new slot }
+    {
+        self.core.drop_all(slot);
+        self.put_alarm(slot, None);
+        self.forget(slot);
+    }
+
+    /// Gives up the symbols of a slot.
+    #[tactic(auto, using(crate::proofs::SettingLaws::list_here))]
+    fn forget(&mut self, slot: u8)
+        requires { slot < slots }
+        ensures { SymbolsBecome self.old self.new slot [] }
+    {
+        self.symbols[usize::from(slot)].clear();
+    }
+
+    /// Closes the channels of a slot's job that are on jobs of a tree.
+    fn leave_channels(&mut self, root: u8, slot: u8)
+        requires slot { slot < slots }
+        requires stays { in_tree (superior_at self.old.jobs) root slot ≡ false }
+        ensures { Sweeps (in_tree (superior_at self.old.jobs) root) self.old self.new slot }
+    {
+        if let Some(mut job) = self.job(slot) {
+            leave_each(&self.jobs, root, &mut job.channels);
+            self.put_job(slot, job);
+        }
+    }
+}
+
+/// Closes those of these channels that are on jobs of a tree.
+#[tactic(auto, using(crate::proofs::RemovalLaws::turning_start, crate::proofs::RemovalLaws::turning_more, crate::proofs::RemovalLaws::turning_end))]
+fn leave_each(jobs: &Jobs, root: u8, channels: &mut [Channel])
+    ensures { (n : ℕ) → slice_index_or channels.new n Closed ≡ channel_left (in_tree (superior_at jobs.now) root) (slice_index_or channels.old n Closed) }
+{
+    for n in 0..channels.len() {
+        channels[n] = left(jobs, root, channels[n]);
+    }
+}
+
+/// Passes the consoles that jobs of a tree hold to the superior of the root, or to nobody where it has none.
+#[tactic(auto, using(crate::proofs::RemovalLaws::turning_start, crate::proofs::RemovalLaws::turning_more, crate::proofs::RemovalLaws::turning_end))]
+fn pass_on(jobs: &Jobs, root: u8, holders: &mut [Option<u8>])
+    ensures { (c : ℕ) → slice_index_or holders.new c None ≡ passed_on (in_tree (superior_at jobs.now) root) (superior_at jobs.now root) (slice_index_or holders.old c None) }
+{
+    let heir = jobs.superior(root);
+    for c in 0..holders.len() {
+        holders[c] = passed(jobs, root, heir, holders[c]);
+    }
+}
+
+/// The holder of a console after the removal of a tree, whose consoles pass to an heir.
+fn passed(jobs: &Jobs, root: u8, heir: Option<u8>, holder: Option<u8>) -> Option<u8>
+    ensures { result ≡ passed_on (in_tree (superior_at jobs.now) root) heir holder }
+{
+    match holder {
+        Some(h) if is_removed(jobs, root, h) => heir,
+        other => other,
+    }
+}
+
+/// A channel after the removal of a tree.
+fn left(jobs: &Jobs, root: u8, channel: Channel) -> Channel
+    ensures { result ≡ channel_left (in_tree (superior_at jobs.now) root) channel }
+{
+    match channel {
+        Channel::Usr { slot, .. } if is_removed(jobs, root, slot) => Channel::Closed,
+        other => other,
+    }
+}
+
+/// Whether the job of a slot is that of the root or below it.
+fn is_removed(jobs: &Jobs, root: u8, slot: u8) -> bool
+    ensures { result ≡ in_tree (superior_at jobs.now) root slot }
+{
+    slot == root || jobs.is_below(root, slot)
+}

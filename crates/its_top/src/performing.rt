@@ -1,0 +1,338 @@
+//! An event is performed: what it does to the monitor and to the block, and what it shows.
+ghost use Rattle.std.specs.Prelude.{◌≡◌, ◌↔◌, ◌≤◌, ◌<◌, ◌+◌, ◌-◌, ◌^◌, IsTrue, Ok, Err, IfSome, IfOk, IfErr, OnOk, List, ◌∷◌, [], length, take};
+ghost use Rattle.its_word.specs.Limits.{slots};
+ghost use Rattle.its_word.specs.declared.calls.Pace.{Pace};
+ghost use Rattle.its_session.specs.Fits.{EventFits};
+ghost use Rattle.its_plain.specs.Operator.{Block};
+ghost use Rattle.its_plain.specs.OperatorJobs.{words_loaded, words_stored, words_barred, examined};
+ghost use Rattle.its_plain.specs.OperatorConsoles.{typed, dropped, drained};
+ghost use Rattle.its_stepped.specs.Unwind.{unwound};
+ghost use Rattle.its_stepped.specs.Lines.{paces_of, ticked};
+ghost use Rattle.its_world.specs.World.{state_of};
+ghost use Rattle.its_operator.specs.Kept.{Kept, Lands, reason_of};
+ghost use Rattle.its_print.specs.Runs.{paces_in};
+ghost use Rattle.its_top.specs.Answer.{FindsStart, block_of};
+ghost use Rattle.its_top.specs.Performing.{Performed, quiet};
+
+use super::consoles::{drain, load_job, type_in};
+use super::filing::{add_words, find_file, list_files, make_file};
+use super::progress::Progress;
+use super::shown::{Over, Reply, Shown};
+use arrayvec::ArrayVec;
+use its_monitor::Monitor;
+use its_print::Run;
+use its_word::{Event, Pace, Refusal, Word};
+
+/// Room for the letters of a line, as runs. A session makes it once: to make it costs more than a line.
+pub type Runs = ArrayVec<Run, 512>;
+
+/// Performs an event, unless the session is over by it. The letters of its ticks then stand in the room for them, where nothing else is left.
+#[tactic(auto, using(crate::proofs::PerformLaws::nothing_performed, crate::proofs::PerformLaws::run_performed, crate::proofs::PerformLaws::end_performed, crate::proofs::PerformLaws::end_file_performed, crate::proofs::PerformLaws::append_performed, crate::proofs::PerformLaws::version_performed, crate::proofs::PerformLaws::go_performed, crate::proofs::PerformLaws::words_performed, crate::proofs::PerformLaws::read_only_performed, crate::proofs::PerformLaws::symbol_performed, crate::proofs::PerformLaws::ticks_performed, crate::proofs::PerformLaws::typed_performed, crate::proofs::PerformLaws::drained_performed, crate::proofs::PerformLaws::int_performed, crate::proofs::PerformLaws::deposit_performed, crate::proofs::PerformLaws::stop_performed, crate::proofs::PerformLaws::cont_performed, crate::proofs::PerformLaws::clock_performed, crate::proofs::PerformLaws::console_fits, crate::proofs::PaceLaws::no_letters), unfolding(its_session::specs::Grammar::last_slot))]
+pub fn perform(
+    m: &mut Monitor,
+    p: &mut Progress,
+    event: &Event,
+    runs: &mut Runs,
+) -> Result<Shown, Over>
+    requires sound { Kept m.old.world }
+    requires slot { p.old.slot < slots }
+    requires fits { EventFits 2 event.now }
+    requires start { FindsStart event.now (state_of m.old.world) }
+    ensures performed { Performed result (state_of m.old.world) (block_of p.old.slot p.old.file) event.now (paces_in runs.new.items) m.new.world (block_of p.new.slot p.new.file) }
+    ensures sound { Kept m.new.world }
+    ensures slot { p.new.slot < slots }
+    ensures kept { p.new.number ≡ p.old.number }
+    ensures letters { length (paces_in runs.new.items) ≤ 512 }
+{
+    runs.clear();
+    match event {
+        Event::Nothing => Ok(Shown::Nothing),
+        Event::Version { v } => {
+            m.version(*v);
+            Ok(Shown::Nothing)
+        }
+        Event::Load { u, j, console } => load(m, p, *u, *j, *console),
+        Event::Words { a, words } => quiet(load_words(m, p.slot, *a, words)),
+        Event::ReadOnly { page } => quiet(m.read_only(p.slot, *page)),
+        Event::Symbol { name, a } => quiet(m.symbol(p.slot, *name, *a)),
+        Event::Go { a } => quiet(m.go(p.slot, *a)),
+        Event::File { d, x, y } => make_file(m, p, *d, *x, *y),
+        Event::Append { words } => quiet(add_words(m, p.file, words)),
+        Event::EndFile => Ok(Shown::Nothing),
+        Event::Tick { s, n } => {
+            paces_of(m, *s, *n, runs);
+            Ok(Shown::Line(Reply::Ticks { s: *s }))
+        }
+        Event::Run { .. } => Ok(Shown::Nothing),
+        Event::TypeIn { c, bytes } => {
+            let dropped = type_bytes(m, *c, bytes);
+            Ok(Shown::Line(Reply::Typed { c: *c, dropped }))
+        }
+        Event::Drain { c, n } => {
+            let bytes = drain_bytes(m, *c, *n);
+            Ok(Shown::Line(Reply::Drained { c: *c, bytes }))
+        }
+        Event::Clock { n } => quiet(m.advance(*n)),
+        Event::Int { s, v, w } => quiet(m.interrupt(*s, *v, *w)),
+        Event::Exam { s, a, n } => examine(m, *s, *a, *n),
+        Event::List { s, a, n } => list(m, *s, *a, *n),
+        Event::State { s } => state(m, *s),
+        Event::Deposit { s, a, w } => quiet(m.deposit(*s, *a, *w)),
+        Event::Stop { s } => quiet(m.stop(*s)),
+        Event::Cont { s } => quiet(m.cont(*s)),
+        Event::Peek { s } => peek(m, *s),
+        Event::Dir { d } => list_files(m, *d),
+        Event::Show { d, x, y } => find_file(m, *d, *x, *y),
+        Event::End => Err(Over::Ended),
+    }
+}
+
+/// What an event shows whose call answers nothing.
+fn quiet(answer: Result<(), Refusal>) -> Result<Shown, Over>
+    ensures { result ≡ quiet answer }
+{
+    match answer {
+        Ok(()) => Ok(Shown::Nothing),
+        Err(e) => Err(Over::Refused(e)),
+    }
+}
+
+/// LOAD: makes a job, and shows its slot, which is then the block's.
+fn load(
+    m: &mut Monitor,
+    p: &mut Progress,
+    u: Word,
+    j: Word,
+    console: Option<u8>,
+) -> Result<Shown, Over>
+    requires sound { Kept m.old.world }
+    requires console { IfSome console (λ c. c < 8) }
+    ensures performed { (ps : List Pace) → Performed result (state_of m.old.world) (block_of p.old.slot p.old.file) (Event.Load u j console) ps m.new.world (block_of p.new.slot p.new.file) }
+    ensures sound { Kept m.new.world }
+    ensures slot { p.old.slot < slots → p.new.slot < slots }
+    ensures kept { p.new.number ≡ p.old.number }
+{
+    match load_job(m, u, j, console) {
+        Ok(s) => {
+            p.slot = s;
+            Ok(Shown::Line(Reply::Loaded { s }))
+        }
+        Err(e) => Err(Over::Refused(e)),
+    }
+}
+
+/// STATE: shows a job.
+fn state(m: &mut Monitor, s: u8) -> Result<Shown, Over>
+    requires sound { Kept m.old.world }
+    requires slot { s < slots }
+    ensures performed { (ps : List Pace) (b : Block) → Performed result (state_of m.old.world) b (Event.State s) ps m.new.world b }
+    ensures sound { Kept m.new.world }
+{
+    match m.state(s) {
+        Ok(show) => Ok(Shown::Line(Reply::State {
+            version: m.world.version,
+            s,
+            show,
+        })),
+        Err(e) => Err(Over::Refused(e)),
+    }
+}
+
+/// EXAM: shows words of a slot.
+fn examine(m: &mut Monitor, s: u8, a: u32, n: u32) -> Result<Shown, Over>
+    requires sound { Kept m.old.world }
+    requires slot { s < slots }
+    requires few { n ≤ 8 }
+    requires some { 1 ≤ n }
+    requires end { a + n ≤ 2 ^ 18 }
+    ensures performed { (ps : List Pace) (b : Block) → Performed result (state_of m.old.world) b (Event.Exam s a n) ps m.new.world b }
+    ensures sound { Kept m.new.world }
+{
+    match words_of(m, s, a, n) {
+        Ok(words) => Ok(Shown::Line(Reply::Words { s, a, words })),
+        Err(e) => Err(Over::Refused(e)),
+    }
+}
+
+/// LIST: shows words of a slot, typed out.
+fn list(m: &mut Monitor, s: u8, a: u32, n: u32) -> Result<Shown, Over>
+    requires sound { Kept m.old.world }
+    requires slot { s < slots }
+    requires few { n ≤ 8 }
+    requires some { 1 ≤ n }
+    requires end { a + n ≤ 2 ^ 18 }
+    ensures performed { (ps : List Pace) (b : Block) → Performed result (state_of m.old.world) b (Event.List s a n) ps m.new.world b }
+    ensures sound { Kept m.new.world }
+{
+    match words_of(m, s, a, n) {
+        Ok(words) => Ok(Shown::Listed { s, a, words }),
+        Err(e) => Err(Over::Refused(e)),
+    }
+}
+
+/// PEEK: shows how far a slot's job is inside a call.
+fn peek(m: &Monitor, s: u8) -> Result<Shown, Over>
+    requires sound { Kept m.now.world }
+    requires slot { s < slots }
+    ensures performed { (ps : List Pace) (b : Block) → Performed result (state_of m.now.world) b (Event.Peek s) ps m.now.world b }
+{
+    match m.peek(s) {
+        Ok(peek) => Ok(Shown::Line(Reply::Peeked { s, peek })),
+        Err(e) => Err(Over::Refused(e)),
+    }
+}
+
+/// The n words of a slot from an address on, or the first refusal.
+#[tactic(auto, using(crate::proofs::ExamLaws::exam_start, crate::proofs::ExamLaws::exam_next, crate::proofs::ExamLaws::exam_fails, crate::proofs::ExamLaws::exam_end, crate::proofs::ExamLaws::calm_start, crate::proofs::ExamLaws::calm_next))]
+pub fn words_of(m: &mut Monitor, s: u8, a: u32, n: u32) -> Result<ArrayVec<Word, 8>, Refusal>
+    requires sound { Kept m.old.world }
+    requires slot { s < slots }
+    requires few { n ≤ 8 }
+    requires some { 1 ≤ n }
+    requires end { a + n ≤ 2 ^ 18 }
+    ensures words { IfOk result (λ ws. examined (unwound (state_of m.old.world) s).raw s a n ≡ Ok ws.items) }
+    ensures few { IfOk result (λ ws. length ws.items ≤ 8) }
+    ensures refused { IfErr result (λ e. examined (unwound (state_of m.old.world) s).raw s a n ≡ Err (reason_of e)) }
+    ensures unwinds { OnOk result (state_of m.new.world ≡ unwound (state_of m.old.world) s) }
+    ensures sound { Kept m.new.world }
+{
+    let mut words = ArrayVec::new();
+    for k in 0..n {
+        match m.exam(s, a + k) {
+            Ok(w) => words.push(w),
+            Err(e) => return Err(e),
+        }
+    }
+    Ok(words)
+}
+
+/// Loads the words of an a/ line, in order; all are tested for read-only pages before the first is stored.
+#[tactic(auto, using(crate::proofs::LoadingLaws::barred, crate::proofs::LoadingLaws::stored, crate::proofs::LoadingLaws::not_stored))]
+pub fn load_words(m: &mut Monitor, slot: u8, a: u32, words: &[Word]) -> Result<(), Refusal>
+    requires sound { Kept m.old.world }
+    requires slot { slot < slots }
+    requires some { 1 ≤ length words.now }
+    requires end { a + length words.now ≤ 2 ^ 18 }
+    ensures done { OnOk result (Lands (unwound (state_of m.old.world) slot) (state_of m.new.world) (words_loaded (unwound (state_of m.old.world) slot).raw slot a words.now)) }
+    ensures refused { IfErr result (λ e. words_loaded (unwound (state_of m.old.world) slot).raw slot a words.now ≡ Err (reason_of e)) }
+    ensures sound { Kept m.new.world }
+{
+    if m.barred(slot, a, words.len() as u32) {
+        return Err(Refusal::ReadOnly);
+    }
+    store_words(m, slot, a, words)
+}
+
+/// Stores the words of an a/ line, in order, and makes the pages that they need.
+#[tactic(auto, using(crate::proofs::LoadingLaws::loading_start, crate::proofs::LoadingLaws::loading_fails, crate::proofs::LoadingLaws::loading_end))]
+fn store_words(m: &mut Monitor, slot: u8, a: u32, words: &[Word]) -> Result<(), Refusal>
+    requires sound { Kept m.old.world }
+    requires slot { slot < slots }
+    requires some { 1 ≤ length words.now }
+    requires end { a + length words.now ≤ 2 ^ 18 }
+    ensures done { OnOk result (Lands (unwound (state_of m.old.world) slot) (state_of m.new.world) (words_stored (unwound (state_of m.old.world) slot).raw slot a words.now)) }
+    ensures refused { IfErr result (λ e. words_stored (unwound (state_of m.old.world) slot).raw slot a words.now ≡ Err (reason_of e)) }
+    ensures sound { Kept m.new.world }
+{
+    let mut at = a;
+    for w in words {
+        match m.load_word(slot, at, *w) {
+            Ok(()) => {}
+            Err(e) => return Err(e),
+        }
+        at += 1;
+    }
+    Ok(())
+}
+
+/// The letters of n ticks of a slot, as runs, which are put into an empty array.
+#[tactic(auto, using(crate::proofs::PaceLaws::pacing_start, crate::proofs::PaceLaws::pacing_end))]
+pub fn paces_of(m: &mut Monitor, s: u8, n: u32, runs: &mut Runs)
+    requires sound { Kept m.old.world }
+    requires slot { s < slots }
+    requires few { n ≤ 512 }
+    requires empty { runs.old.items ≡ [] }
+    ensures paces { paces_in runs.new.items ≡ paces_of (state_of m.old.world) s n }
+    ensures count { length (paces_in runs.new.items) ≡ n }
+    ensures state { state_of m.new.world ≡ ticked (state_of m.old.world) s n }
+    ensures sound { Kept m.new.world }
+{
+    let mut made = 0;
+    let mut stepped = false;
+    while made < n {
+        let run = run_of(m, s, n - made, stepped);
+        runs.push(run);
+        made += 1 + run.more;
+        stepped = is_step(run.pace);
+    }
+}
+
+/// Whether a tick was a step.
+fn is_step(pace: Pace) -> bool
+    ensures { IsTrue result ↔ (pace ≡ Pace.Step) }
+{
+    matches!(pace, Pace::Step)
+}
+
+/// The letters of the first ticks of a slot, n at most: of one; and where that is a step, and the tick before it was one too, of
+/// all steps that follow it in user mode. (Behind a call's one step the job is inside the call.)
+#[tactic(auto, using(crate::proofs::PaceLaws::one_more, crate::proofs::PaceLaws::one_and_steps))]
+fn run_of(m: &mut Monitor, s: u8, n: u32, stepped: bool) -> Run
+    requires sound { Kept m.old.world }
+    requires slot { s < slots }
+    requires some { 0 < n }
+    ensures few { 1 + result.more ≤ n }
+    ensures paces { paces_in (result ∷ []) ≡ paces_of (state_of m.old.world) s (1 + result.more) }
+    ensures state { state_of m.new.world ≡ ticked (state_of m.old.world) s (1 + result.more) }
+    ensures sound { Kept m.new.world }
+{
+    let pace = m.tick(s);
+    match pace {
+        Pace::Step if stepped => {
+            let more = m.steps(s, n - 1);
+            Run { pace, more }
+        }
+        _ => Run { pace, more: 0 },
+    }
+}
+
+/// Types bytes at a console, and counts those that find no room.
+#[tactic(auto, using(crate::proofs::ConsoleLaws::typing_start, crate::proofs::ConsoleLaws::typing_room, crate::proofs::ConsoleLaws::typing_full, crate::proofs::ConsoleLaws::typing_end))]
+pub fn type_bytes(m: &mut Monitor, c: u8, bytes: &[u8]) -> u32
+    requires sound { Kept m.old.world }
+    requires console { c < 8 }
+    requires some { 1 ≤ length bytes.now }
+    requires few { length bytes.now ≤ 32 }
+    ensures dropped { result ≡ dropped ((state_of m.old.world).raw.consoles c) bytes.now }
+    ensures done { Lands (state_of m.old.world) (state_of m.new.world) (Ok (typed c bytes.now (state_of m.old.world).raw)) }
+    ensures sound { Kept m.new.world }
+{
+    let mut count = 0;
+    for b in bytes {
+        if !type_in(m, c, *b) {
+            count += 1;
+        }
+    }
+    count
+}
+
+/// Takes up to n bytes of output of a console.
+#[tactic(auto, using(crate::proofs::ConsoleLaws::draining_start, crate::proofs::ConsoleLaws::draining_some, crate::proofs::ConsoleLaws::draining_none, crate::proofs::ConsoleLaws::draining_end))]
+pub fn drain_bytes(m: &mut Monitor, c: u8, n: u32) -> ArrayVec<u8, 64>
+    requires sound { Kept m.old.world }
+    requires console { c < 8 }
+    requires few { n ≤ 64 }
+    ensures bytes { result.items ≡ take n ((state_of m.old.world).raw.consoles c).output }
+    ensures few { length result.items ≤ 64 }
+    ensures done { Lands (state_of m.old.world) (state_of m.new.world) (Ok (drained c n (state_of m.old.world).raw)) }
+    ensures sound { Kept m.new.world }
+{
+    let mut bytes = ArrayVec::new();
+    for _k in 0..n {
+        match drain(m, c) {
+            Some(b) => bytes.push(b),
+            None => {}
+        }
+    }
+    bytes
+}

@@ -1,0 +1,115 @@
+//! What an event has come to is printed.
+ghost use Rattle.std.specs.Prelude.{◌≡◌, ◌≢◌, ◌≤◌, ◌+◌, ◌-◌, ◌^◌, [], IfOk, length};
+ghost use Rattle.its_io.specs.Bytes.{next_fault};
+ghost use Rattle.its_world.specs.World.{state_of};
+ghost use Rattle.its_operator.specs.Kept.{Kept};
+ghost use Rattle.its_print.specs.Printing.{text_of_line, text};
+ghost use Rattle.its_print.specs.Runs.{paces_in};
+ghost use Rattle.its_top.specs.Answer.{Tells};
+ghost use Rattle.its_top.specs.Performing.{Ready, line_of, lines_of, lines_over, lines_shown, turn_of, turn_over};
+
+use super::filing::{print_files, print_words_of};
+use super::listing::list_words;
+use super::performing::Runs;
+use super::shown::{Over, Reply, Shown};
+use super::turn::Turn;
+use super::writing::{refuse_by, tell};
+use arrayvec::ArrayVec;
+use its_io::Sink;
+use its_monitor::Monitor;
+use its_print::{
+    print_drained, print_loaded, print_peek, print_state, print_ticks, print_typed, print_words,
+};
+use its_word::Refusal;
+
+/// Writes the lines of what line `number` has come to. The monitor stays as it is, and files are read from it.
+#[tactic(auto, using(crate::proofs::WritingLaws::tells_nothing, crate::proofs::WritingLaws::tells_one))]
+pub fn print<K: Sink>(
+    m: &mut Monitor,
+    number: u32,
+    performed: &Result<Shown, Over>,
+    runs: &Runs,
+    out: &mut K,
+) -> Turn
+    requires sound { Kept m.old.world }
+    requires letters { length (paces_in runs.now.items) ≤ 512 }
+    requires ready { IfOk performed.now (λ s. Ready s m.old.world) }
+    ensures told { Tells result (turn_of performed.now) (text (lines_shown number performed.now (paces_in runs.now.items) m.old.world)) (K.written out.old) (K.written out.new) }
+    ensures state { state_of m.new.world ≡ state_of m.old.world }
+    ensures sound { Kept m.new.world }
+    ensures later { K.faults out.old ≤ K.faults out.new }
+    ensures unfailed { result ≢ Turn.Fault → K.faults out.new ≡ K.faults out.old }
+    ensures fault { result ≡ Turn.Fault → K.faults out.new ≡ next_fault (K.faults out.old) }
+{
+    match performed {
+        Ok(shown) => print_shown(m, shown, runs, out),
+        Err(over) => print_over(*over, number, out),
+    }
+}
+
+/// Writes the line of a refusal, where the session is over by one.
+#[tactic(auto, using(crate::proofs::WritingLaws::tells_nothing, crate::proofs::WritingLaws::tells_one))]
+fn print_over<K: Sink>(over: Over, number: u32, out: &mut K) -> Turn
+    ensures told { Tells result (turn_over over) (text (lines_over number over)) (K.written out.old) (K.written out.new) }
+    ensures later { K.faults out.old ≤ K.faults out.new }
+    ensures unfailed { result ≢ Turn.Fault → K.faults out.new ≡ K.faults out.old }
+    ensures fault { result ≡ Turn.Fault → K.faults out.new ≡ next_fault (K.faults out.old) }
+{
+    match over {
+        Over::Ended => Turn::Ended,
+        Over::Refused(e) => refuse_by(out, number, e),
+    }
+}
+
+/// Writes the lines that an event shows.
+#[tactic(auto, using(crate::proofs::WritingLaws::tells_nothing, crate::proofs::WritingLaws::tells_one))]
+fn print_shown<K: Sink>(m: &mut Monitor, shown: &Shown, runs: &Runs, out: &mut K) -> Turn
+    requires sound { Kept m.old.world }
+    requires letters { length (paces_in runs.now.items) ≤ 512 }
+    requires ready { Ready shown.now m.old.world }
+    ensures told { Tells result Turn.On (text (lines_of shown.now (paces_in runs.now.items) m.old.world)) (K.written out.old) (K.written out.new) }
+    ensures state { state_of m.new.world ≡ state_of m.old.world }
+    ensures sound { Kept m.new.world }
+    ensures later { K.faults out.old ≤ K.faults out.new }
+    ensures unfailed { result ≢ Turn.Fault → K.faults out.new ≡ K.faults out.old }
+    ensures fault { result ≡ Turn.Fault → K.faults out.new ≡ next_fault (K.faults out.old) }
+{
+    match shown {
+        Shown::Nothing => Turn::On,
+        Shown::Line(reply) => print_reply(reply, runs, out),
+        Shown::Listed { s, a, words } => list_words(*s, *a, words, out),
+        Shown::Files { d, count } => print_files(m, *d, *count, out),
+        Shown::File { id, d, x, y } => print_words_of(m, *id, *d, *x, *y, out),
+    }
+}
+
+/// Writes a line.
+#[tactic(auto, using(crate::proofs::WritingLaws::told_as))]
+pub fn print_reply<K: Sink>(reply: &Reply, runs: &Runs, out: &mut K) -> Turn
+    requires letters { length (paces_in runs.now.items) ≤ 512 }
+    ensures told { Tells result Turn.On (text_of_line (line_of reply.now (paces_in runs.now.items))) (K.written out.old) (K.written out.new) }
+    ensures later { K.faults out.old ≤ K.faults out.new }
+    ensures unfailed { result ≢ Turn.Fault → K.faults out.new ≡ K.faults out.old }
+    ensures fault { result ≡ Turn.Fault → K.faults out.new ≡ next_fault (K.faults out.old) }
+{
+    let mut line = ArrayVec::new();
+    put_reply(reply, runs, &mut line);
+    tell(out, &line, Turn::On)
+}
+
+/// Puts the bytes of a line into an empty array.
+fn put_reply(reply: &Reply, runs: &Runs, line: &mut ArrayVec<u8, 2048>)
+    requires empty { line.old.items ≡ [] }
+    requires letters { length (paces_in runs.now.items) ≤ 512 }
+    ensures { line.new.items ≡ text_of_line (line_of reply.now (paces_in runs.now.items)) }
+{
+    match reply {
+        Reply::Loaded { s } => print_loaded(*s, line),
+        Reply::Ticks { s } => print_ticks(*s, runs, line),
+        Reply::Typed { c, dropped } => print_typed(*c, *dropped, line),
+        Reply::Drained { c, bytes } => print_drained(*c, bytes, line),
+        Reply::Words { s, a, words } => print_words(*s, *a, words, line),
+        Reply::State { version, s, show } => print_state(*version, *s, show, line),
+        Reply::Peeked { s, peek } => print_peek(*s, peek, line),
+    }
+}

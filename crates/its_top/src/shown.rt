@@ -1,0 +1,67 @@
+use arrayvec::ArrayVec;
+use its_word::{JobShow, Peek, Refusal, Word};
+
+/// A line of the transcript. The letters of a `T` line stand in the room for them.
+#[derive(Debug, PartialEq, Eq, Drop)]
+pub enum Reply {
+    Loaded {
+        s: u8,
+    },
+    Ticks {
+        s: u8,
+    },
+    Typed {
+        c: u8,
+        dropped: u32,
+    },
+    Drained {
+        c: u8,
+        bytes: ArrayVec<u8, 64>,
+    },
+    Words {
+        s: u8,
+        a: u32,
+        words: ArrayVec<Word, 8>,
+    },
+    State {
+        version: u8,
+        s: u8,
+        show: JobShow,
+    },
+    Peeked {
+        s: u8,
+        peek: Peek,
+    },
+}
+
+/// What an event shows behind which the session goes on.
+#[derive(Debug, PartialEq, Eq, Drop)]
+pub enum Shown {
+    Nothing,
+    Line(Reply),
+    /// Words of a slot from an address on, typed out, each in a line of its own.
+    Listed {
+        s: u8,
+        a: u32,
+        words: ArrayVec<Word, 8>,
+    },
+    /// The files of a directory, and how many there are: they are read while they are printed.
+    Files {
+        d: Word,
+        count: u32,
+    },
+    /// The words of a file with this number and these names: they are read while they are printed.
+    File {
+        id: u32,
+        d: Word,
+        x: Word,
+        y: Word,
+    },
+}
+
+/// Why a session is over behind an event: by END, or since the monitor refuses it.
+#[derive(Clone, Copy, Debug, PartialEq, Eq)]
+pub enum Over {
+    Ended,
+    Refused(Refusal),
+}

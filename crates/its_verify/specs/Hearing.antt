@@ -1,0 +1,95 @@
+-- What is said of the lines of a transcript that are left, line by line.
+use Rattle.std.specs.Prelude.{if◌then◌else◌, ◌≡◌, ◌≤◌, ◌<◌, ◌⊎◌, ℕ, ◌+◌, ◌-◌, Bool, true, false, Option, Some, None, Result, Ok, Err, List, [], ◌∷◌, length, take, nat_le, bytes_eq}
+use Rattle.its_io.specs.declared.stream.Failed.{Failed}
+use Rattle.its_session.specs.Events.{most_lines}
+use Rattle.its_reader.specs.Lines.{SomeLine}
+use Rattle.its_reader.specs.TextLines.{before_lf}
+use Rattle.its_reader.specs.Texts.{ReadyTexts}
+use Rattle.its_verify.specs.Sources.{IsTold, texts_of}
+use Rattle.its_verify.specs.Lines.{most_bytes}
+use Rattle.its_verify.specs.Letters.{if_so}
+use Rattle.its_verify.specs.Judge.{Judge, Yes, No}
+use Rattle.its_verify.specs.Verified.{Answer, Judged, Long, Cut, TooLong, within}
+use Rattle.its_verify.specs.declared.finding.Finding.{Finding}
+use Rattle.its_verify.specs.declared.finding.Finding.TheVariants as findings
+use Rattle.its_verify.specs.declared.hearing.Hearing.{Hearing}
+
+abbrev pub answer_of : Finding → Answer
+answer_of (findings.Yes n) = Judged (Yes n)
+answer_of (findings.No n) = Judged (No n)
+answer_of (findings.Long n) = Long n
+answer_of (findings.Cut n) = Cut n
+answer_of findings.Beyond = TooLong
+
+-- what a judge says of the lines that are left after n that are licensed, where there is room for so many in all
+abbrev pub cut : ℕ → ℕ → Judge → List (List ℕ) → Answer
+cut room n judge texts =
+    if nat_le (n + length texts) room then Judged (judge n texts)
+    else within room (judge n (take (room - n) texts))
+
+-- a line that says just these bytes
+abbrev pub same_as : List ℕ → List ℕ → Option (List ℕ)
+same_as line bytes = if_so (bytes_eq bytes line) bytes
+
+-- no line that is too long is read
+abbrev pub Strict : {X : Type 0} → (List ℕ → Option X) → Type 0
+Strict reads = (text : List ℕ) → most_bytes < length (before_lf text) → reads text ≡ None
+
+-- between two lines of a hearing
+pub record Heard (h : Hearing) (left : Option (List ℕ)) : Type 0 where
+  pub ready : ReadyTexts h.texts left
+  pub most : h.texts.most ≡ most_bytes
+  pub count : h.texts.number + h.room ≡ most_lines + h.passed
+  pub few : h.passed ≤ h.room
+  pub bound : h.room ≤ most_lines
+
+-- the same where a line was read that is not judged yet
+pub record Reads (h : Hearing) (left : Option (List ℕ)) : Type 0 where
+  pub ready : ReadyTexts h.texts left
+  pub most : h.texts.most ≡ most_bytes
+  pub count : h.texts.number + h.room ≡ most_lines + (h.passed + 1)
+  pub few : h.passed < h.room
+  pub bound : h.room ≤ most_lines
+
+-- a line was read, and none is passed
+pub record Beside (old new : Hearing) : Type 0 where
+  pub passed : new.passed ≡ old.passed
+  pub room : new.room ≡ old.room
+
+-- why no line is read where one is wanted: there is none, the next is too long, or there is no room for it
+abbrev pub Lacks : Finding → ℕ → ℕ → List (List ℕ) → Type 0
+Lacks (findings.No k) room n texts = (k ≡ n + 1) × ((texts ≡ []) ⊎ ((n < room) × SomeLine texts (λ line. most_bytes < length (before_lf line))))
+Lacks findings.Beyond room n texts = (room ≤ n) × SomeLine texts (λ line. Unit {0})
+Lacks _ room n texts = ⊥
+
+-- the next line was read, or is lacking
+abbrev pub ReadsOn : Result (Option Finding) Failed → Hearing → Hearing → Option (List ℕ) → Option (List ℕ) → Type 0
+ReadsOn (Ok None) old new left rest = Reads new rest × (IsTold left → (texts_of old.texts left ≡ new.texts.text.items ∷ texts_of new.texts rest) × IsTold rest)
+ReadsOn (Ok (Some f)) old new left rest = IsTold left → Lacks f old.room old.passed (texts_of old.texts left)
+ReadsOn (Err e) old new left rest = Unit {0}
+
+-- what a judge says of the lines that were left is what the next says of those that are left now, or all is said
+abbrev pub Goes : Hearing → Hearing → Option (List ℕ) → Option (List ℕ) → Judge → Judge → Type 0
+Goes old new left rest judge next =
+    IsTold left → (cut old.room old.passed judge (texts_of old.texts left) ≡ cut new.room new.passed next (texts_of new.texts rest)) × IsTold rest
+
+abbrev pub Says : Result (Option Finding) Failed → Hearing → Hearing → Option (List ℕ) → Option (List ℕ) → Judge → Judge → Type 0
+Says (Ok None) old new left rest judge next = Goes old new left rest judge next
+Says (Ok (Some f)) old new left rest judge next = IsTold left → cut old.room old.passed judge (texts_of old.texts left) ≡ answer_of f
+Says (Err e) old new left rest judge next = Unit {0}
+
+-- all is said that a judge says of the lines that were left
+abbrev pub Ends : Result Finding Failed → Hearing → Option (List ℕ) → Judge → Type 0
+Ends (Ok f) old left judge = IsTold left → cut old.room old.passed judge (texts_of old.texts left) ≡ answer_of f
+Ends (Err e) old left judge = Unit {0}
+
+-- where it goes on, all holds together
+abbrev pub Stays : Result (Option Finding) Failed → Hearing → Option (List ℕ) → Type 0
+Stays (Ok None) new rest = Heard new rest
+Stays (Ok (Some f)) new rest = Unit {0}
+Stays (Err e) new rest = Unit {0}
+
+-- whether a line that was read is licensed: it is passed then, and all is said where it is not
+abbrev pub Ruled : Option Finding → Bool → Hearing → Hearing → Type 0
+Ruled None licensed old new = (licensed ≡ true) × (new ≡ record old { passed = old.passed + 1 })
+Ruled (Some f) licensed old new = (licensed ≡ false) × (f ≡ findings.No (old.passed + 1))
