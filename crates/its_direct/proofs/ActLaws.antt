@@ -58,7 +58,7 @@ applying_end cs j old now i le a = record {
 pub becomes_then : (old mid new : Plain) (m n : Machine) (f : Machine → Machine) → Becomes old mid m → Becomes mid new (f (machine_of mid)) → f m ≡ n → Becomes old new n
 becomes_then old mid new m n f a b e = record { machine = b.machine ∙ ap f a.machine ∙ e; place = b.place ∙ a.place; touched = b.touched ∙ a.touched }
 
-twice : (m : Machine) (s : ℕ) (f g : Whole → Whole) → in_job (in_job m s f) s g ≡ in_job m s (λ q. g (f q))
+pub twice : (m : Machine) (s : ℕ) (f g : Whole → Whole) → in_job (in_job m s f) s g ≡ in_job m s (λ q. g (f q))
 twice m s f g = machine_is _ _ (λ k. elim (cases_eq k s) [
   | inl e ↦
       ap (on_slot (on_slot m.jobs s f) s g) e ∙ on_slot_here (on_slot m.jobs s f) s g ∙ ap (option_map g) (on_slot_here m.jobs s f) ∙ map_twice (m.jobs s)

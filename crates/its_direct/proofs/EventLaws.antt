@@ -1,75 +1,94 @@
 -- Each event of a session comes to its line.
-use Rattle.std.specs.Prelude.{◌≡◌, ◌+◌, ℕ, true, false, Option, IsOk, List, [], ◌∷◌, take, Result, Ok, Err, OnOk, IfErr, refl}
+use Rattle.std.specs.Prelude.{◌≡◌, ◌+◌, ℕ, true, false, Option, Some, None, is_some, IsOk, List, [], ◌∷◌, take, Result, Ok, Err, OnOk, OnErr, IfErr, refl}
 use Rattle.std.proofs.Common.{ap, sym, subst, ◌∙◌}
 use Rattle.its_word.specs.ArrayVec.{ArrayVec}
 use Rattle.its_word.specs.declared.session.Event.{Event}
 use Rattle.its_word.specs.declared.session.Event.TheVariants as events
+use Rattle.its_word.specs.declared.session.Place.TheVariants as places
 use Rattle.its_word.specs.declared.session.Reason.{Reason}
 use Rattle.its_word.specs.declared.session.Refusal.{Refusal}
+use Rattle.its_word.specs.declared.session.Refusal.TheVariants as refusals
 use Rattle.its_word.specs.declared.show.JobShow.{JobShow}
 use Rattle.its_print.specs.Printing.{Line}
 use Rattle.its_print.specs.Printing as printed
-use Rattle.its_plain.specs.Machine.{Names, Machine}
-use Rattle.its_plain.specs.Operator.{Block, Does, only, nobody, disturbs, quietly}
+use Rattle.its_session.specs.Events.{place_after}
+use Rattle.its_plain.specs.Machine.{Names, File, Whole, Machine}
+use Rattle.its_plain.specs.Operator.{Block, Does, Refuses, only, nobody, disturbs, quietly}
 use Rattle.its_plain.specs.OperatorClock.{due, clocked}
 use Rattle.its_plain.specs.OperatorConsoles.{typed, dropped, drained}
-use Rattle.its_plain.specs.OperatorFiles.{file_made, words_added, files_in, listing}
+use Rattle.its_plain.specs.CallFile.{file_named}
+use Rattle.its_plain.specs.OperatorFiles.{file_made, words_added, files_in, listing, shown_by, shown_lines, file_shown}
 use Rattle.its_plain.specs.OperatorJobs.{loaded, words_loaded, page_protected, started, interrupted, stopped, continued, on_registers, examined, state_shown, deposited}
-use Rattle.its_plain.specs.OperatorLines.{operate, Done, lined, by_load, by_exam, in_a_line, by_state, by_clock}
+use Rattle.its_plain.specs.OperatorLines.{operate, Done, Peeks, peeked_at, lined, by_load, by_exam, in_a_line, by_state, by_clock, shows}
 use Rattle.its_plain.specs.OperatorSymbols.{symbol_kept}
 use Rattle.its_plain.specs.OperatorVersion.{versioned}
 use Rattle.its_plain.specs.Own.{names_of}
 use Rattle.its_direct.specs.Clock.{Clocks}
-use Rattle.its_direct.specs.Events.{Speaks, Says, Told, answered}
+use Rattle.its_direct.specs.Events.{place_of, Speaks, Says, Spares, Told, answered}
 use Rattle.its_direct.specs.Filing.{Leads}
-use Rattle.its_direct.specs.Lines.{reason_of, Operates, Looks, Loads, Stands, Keeps}
+use Rattle.its_direct.specs.Lines.{reason_of, Operates, Looks, Loads, Stands, Keeps, Partly}
 use Rattle.its_direct.specs.Plain.{machine_of, is_touched, no_slots}
 use Rattle.its_direct.specs.declared.events.Answer.TheVariants.{Nothing, Slot, Dropped, Drained}
 use Rattle.its_direct.specs.declared.plain.Plain.{Plain}
+use Rattle.its_direct.specs.declared.plain.Spot.{Spot}
 use Rattle.its_direct.specs.declared.plain.Spot.TheVariants as spots
 use Rattle.its_direct.proofs.FileLaws.{placed_machine}
 use Rattle.its_direct.proofs.SlotLaws.{touched_machine}
 use Rattle.its_direct.proofs.TouchLaws.{none_touched}
 
+-- lines after which the next one stands at the same place
+abbrev Settled : Event → Type 0
+Settled e = (x : Spot) → place_after (place_of x) e ≡ place_of x
+
+settled : (e : Event) → place_after places.Plain e ≡ places.Plain → place_after places.Load e ≡ places.Load → place_after places.File e ≡ places.File → Settled e
+settled e plain load file spots.Plain = plain
+settled e plain load file (spots.Load s) = load
+settled e plain load file (spots.File names) = file
+
+stands_at : (e : Event) (old new : Plain) → Settled e → new.place ≡ old.place → place_of new.place ≡ place_after (place_of old.place) e
+stands_at e old new at same = ap place_of same ∙ sym (at old.place)
+
 -- lines that disturb a job, and show nothing
-told_operates : (e : Event) (old new : Plain) (s : ℕ) (r : Result Machine Reason) (x : Result (Unit {0}) Refusal) → ((b : Block) → Speaks old.place b → lined (machine_of old) b e ≡ Done (disturbs s b r)) → Says e Nothing []
+told_operates : (e : Event) (old new : Plain) (s : ℕ) (r : Result Machine Reason) (x : Result (Unit {0}) Refusal) → ((b : Block) → Speaks old.place b → lined (machine_of old) b e ≡ Done (disturbs s b r)) → Says e Nothing [] → Settled e
     → OnOk x (Operates old new s r) → IfErr x (λ z. r ≡ Err (reason_of z)) → Told e old new (answered x)
-told_operates e old new s r (Ok u) line says done refused = λ b at. record {
+told_operates e old new s r (Ok u) line says at_place done refused = λ b at. record {
   comes = Done (Does (machine_of new) [] (only s) b);
   is = line b at ∙ ap (λ y. Done (disturbs s b y)) done.is;
   obeys = (refl, done.touched, subst (λ p. Speaks p b) (sym done.place) at, says);
+  leads = stands_at e old new at_place done.place;
 }
-told_operates e old new s r (Err z) line says done refused = λ b at. line b at ∙ ap (λ y. Done (disturbs s b y)) refused
+told_operates e old new s r (Err z) line says at_place done refused = λ b at. line b at ∙ ap (λ y. Done (disturbs s b y)) refused
 
 -- lines that disturb nobody, and show nothing
-told_keeps : (e : Event) (old new : Plain) (r : Result Machine Reason) (x : Result (Unit {0}) Refusal) → ((b : Block) → Speaks old.place b → lined (machine_of old) b e ≡ Done (quietly b r)) → Says e Nothing []
+told_keeps : (e : Event) (old new : Plain) (r : Result Machine Reason) (x : Result (Unit {0}) Refusal) → ((b : Block) → Speaks old.place b → lined (machine_of old) b e ≡ Done (quietly b r)) → Says e Nothing [] → Settled e
     → OnOk x (Keeps old new r) → IfErr x (λ z. r ≡ Err (reason_of z)) → Told e old new (answered x)
-told_keeps e old new r (Ok u) line says done refused = λ b at. record {
+told_keeps e old new r (Ok u) line says at_place done refused = λ b at. record {
   comes = Done (Does (machine_of new) [] nobody b);
   is = line b at ∙ ap (λ y. Done (quietly b y)) done.is;
   obeys = (refl, done.touched, subst (λ p. Speaks p b) (sym done.place) at, says);
+  leads = stands_at e old new at_place done.place;
 }
-told_keeps e old new r (Err z) line says done refused = λ b at. line b at ∙ ap (λ y. Done (quietly b y)) refused
+told_keeps e old new r (Err z) line says at_place done refused = λ b at. line b at ∙ ap (λ y. Done (quietly b y)) refused
 
 pub told_int : (old new : Plain) (s v w : ℕ) (x : Result (Unit {0}) Refusal) → OnOk x (Operates old new s (on_registers (machine_of old) s (interrupted v w)))
     → IfErr x (λ z. on_registers (machine_of old) s (interrupted v w) ≡ Err (reason_of z)) → Told (events.Int s v w) old new (answered x)
 unfolding lined operate
-told_int old new s v w x = told_operates (events.Int s v w) old new s (on_registers (machine_of old) s (interrupted v w)) x (λ b at. refl) refl
+told_int old new s v w x = told_operates (events.Int s v w) old new s (on_registers (machine_of old) s (interrupted v w)) x (λ b at. refl) refl (settled (events.Int s v w) refl refl refl)
 
 pub told_deposit : (old new : Plain) (s a w : ℕ) (x : Result (Unit {0}) Refusal) → OnOk x (Operates old new s (deposited (machine_of old) s a w))
     → IfErr x (λ z. deposited (machine_of old) s a w ≡ Err (reason_of z)) → Told (events.Deposit s a w) old new (answered x)
 unfolding lined operate
-told_deposit old new s a w x = told_operates (events.Deposit s a w) old new s (deposited (machine_of old) s a w) x (λ b at. refl) refl
+told_deposit old new s a w x = told_operates (events.Deposit s a w) old new s (deposited (machine_of old) s a w) x (λ b at. refl) refl (settled (events.Deposit s a w) refl refl refl)
 
 pub told_stop : (old new : Plain) (s : ℕ) (x : Result (Unit {0}) Refusal) → OnOk x (Operates old new s (on_registers (machine_of old) s stopped))
     → IfErr x (λ z. on_registers (machine_of old) s stopped ≡ Err (reason_of z)) → Told (events.Stop s) old new (answered x)
 unfolding lined operate
-told_stop old new s x = told_operates (events.Stop s) old new s (on_registers (machine_of old) s stopped) x (λ b at. refl) refl
+told_stop old new s x = told_operates (events.Stop s) old new s (on_registers (machine_of old) s stopped) x (λ b at. refl) refl (settled (events.Stop s) refl refl refl)
 
 pub told_cont : (old new : Plain) (s : ℕ) (x : Result (Unit {0}) Refusal) → OnOk x (Operates old new s (on_registers (machine_of old) s continued))
     → IfErr x (λ z. on_registers (machine_of old) s continued ≡ Err (reason_of z)) → Told (events.Cont s) old new (answered x)
 unfolding lined operate
-told_cont old new s x = told_operates (events.Cont s) old new s (on_registers (machine_of old) s continued) x (λ b at. refl) refl
+told_cont old new s x = told_operates (events.Cont s) old new s (on_registers (machine_of old) s continued) x (λ b at. refl) refl (settled (events.Cont s) refl refl refl)
 
 -- lines of a LOAD block
 at_load : (old : Plain) (s : ℕ) (b : Block) → old.place ≡ spots.Load s → Speaks old.place b → b.slot ≡ s
@@ -78,17 +97,17 @@ at_load old s b e at = subst (λ p. Speaks p b) e at
 pub told_words : (old new : Plain) (s a : ℕ) (ws : ArrayVec ℕ) (x : Result (Unit {0}) Refusal) → old.place ≡ spots.Load s → OnOk x (Operates old new s (words_loaded (machine_of old) s a ws.items))
     → IfErr x (λ z. words_loaded (machine_of old) s a ws.items ≡ Err (reason_of z)) → Told (events.Words a ws) old new (answered x)
 unfolding lined operate
-told_words old new s a ws x e = told_operates (events.Words a ws) old new s (words_loaded (machine_of old) s a ws.items) x (λ b at. ap (λ (k : ℕ). Done (disturbs k b (words_loaded (machine_of old) k a ws.items))) (at_load old s b e at)) refl
+told_words old new s a ws x e = told_operates (events.Words a ws) old new s (words_loaded (machine_of old) s a ws.items) x (λ b at. ap (λ (k : ℕ). Done (disturbs k b (words_loaded (machine_of old) k a ws.items))) (at_load old s b e at)) refl (settled (events.Words a ws) refl refl refl)
 
 pub told_read_only : (old new : Plain) (s page : ℕ) (x : Result (Unit {0}) Refusal) → old.place ≡ spots.Load s → OnOk x (Operates old new s (page_protected (machine_of old) s page))
     → IfErr x (λ z. page_protected (machine_of old) s page ≡ Err (reason_of z)) → Told (events.ReadOnly page) old new (answered x)
 unfolding lined operate
-told_read_only old new s page x e = told_operates (events.ReadOnly page) old new s (page_protected (machine_of old) s page) x (λ b at. ap (λ (k : ℕ). Done (disturbs k b (page_protected (machine_of old) k page))) (at_load old s b e at)) refl
+told_read_only old new s page x e = told_operates (events.ReadOnly page) old new s (page_protected (machine_of old) s page) x (λ b at. ap (λ (k : ℕ). Done (disturbs k b (page_protected (machine_of old) k page))) (at_load old s b e at)) refl (settled (events.ReadOnly page) refl refl refl)
 
 pub told_symbol : (old new : Plain) (s name a : ℕ) (x : Result (Unit {0}) Refusal) → old.place ≡ spots.Load s → OnOk x (Keeps old new (symbol_kept (machine_of old) s name a))
     → IfErr x (λ z. symbol_kept (machine_of old) s name a ≡ Err (reason_of z)) → Told (events.Symbol name a) old new (answered x)
 unfolding lined operate
-told_symbol old new s name a x e = told_keeps (events.Symbol name a) old new (symbol_kept (machine_of old) s name a) x (λ b at. ap (λ (k : ℕ). Done (quietly b (symbol_kept (machine_of old) k name a))) (at_load old s b e at)) refl
+told_symbol old new s name a x e = told_keeps (events.Symbol name a) old new (symbol_kept (machine_of old) s name a) x (λ b at. ap (λ (k : ℕ). Done (quietly b (symbol_kept (machine_of old) k name a))) (at_load old s b e at)) refl (settled (events.Symbol name a) refl refl refl)
 
 -- lines of a FILE block
 at_file : (old : Plain) (n : Names) (b : Block) → old.place ≡ spots.File n → Speaks old.place b → b.file ≡ n
@@ -97,7 +116,7 @@ at_file old n b e at = subst (λ p. Speaks p b) e at
 pub told_append : (old new : Plain) (n : Names) (ws : ArrayVec ℕ) (x : Result (Unit {0}) Refusal) → old.place ≡ spots.File n → OnOk x (Keeps old new (words_added (machine_of old) n ws.items))
     → IfErr x (λ z. words_added (machine_of old) n ws.items ≡ Err (reason_of z)) → Told (events.Append ws) old new (answered x)
 unfolding lined operate
-told_append old new n ws x e = told_keeps (events.Append ws) old new (words_added (machine_of old) n ws.items) x (λ b at. ap (λ (k : Names). Done (quietly b (words_added (machine_of old) k ws.items))) (at_file old n b e at)) refl
+told_append old new n ws x e = told_keeps (events.Append ws) old new (words_added (machine_of old) n ws.items) x (λ b at. ap (λ (k : Names). Done (quietly b (words_added (machine_of old) k ws.items))) (at_file old n b e at)) refl (settled (events.Append ws) refl refl refl)
 
 pub told_file : (old new : Plain) (d x y : ℕ) (r : Result (Unit {0}) Refusal) → OnOk r (Leads old new (spots.File (names_of d x y)) (file_made (machine_of old) (names_of d x y)))
     → IfErr r (λ z. file_made (machine_of old) (names_of d x y) ≡ Err (reason_of z)) → Told (events.File d x y) old new (answered r)
@@ -106,6 +125,7 @@ told_file old new d x y (Ok u) done refused = λ b at. record {
   comes = Done (Does (machine_of new) [] nobody (record b { file = names_of d x y }));
   is = ap (λ r. Done (quietly (record b { file = names_of d x y }) r)) done.is;
   obeys = (refl, done.touched, subst (λ p. Speaks p (record b { file = names_of d x y })) (sym done.place) refl, refl);
+  leads = ap place_of done.place;
 }
 told_file old new d x y (Err z) done refused = λ b at. ap (λ r. Done (quietly (record b { file = names_of d x y }) r)) refused
 
@@ -117,6 +137,7 @@ told_clock old new n (Ok u) done refused = λ b at. record {
   comes = Done (Does (machine_of new) [] (due ((machine_of old).clock + n) (machine_of old).jobs) b);
   is = ap (λ r. Done (by_clock (machine_of old) b n r)) done.is;
   obeys = (refl, done.touched, subst (λ p. Speaks p b) (sym done.place) at, refl);
+  leads = stands_at (events.Clock n) old new (settled (events.Clock n) refl refl refl) done.place;
 }
 told_clock old new n (Err z) done refused = λ b at. ap (λ r. Done (by_clock (machine_of old) b n r)) refused
 
@@ -129,15 +150,26 @@ state_out : (r : Result JobShow Reason) → IsOk r → (w : JobShow) × (r ≡ O
 state_out (Ok w) h = (w, refl)
 state_out (Err z) h = let wrong : false ≡ true = h in absurd cc
 
+examined_told : (e : Event) (old new : Plain) (s a n : ℕ) (show : List ℕ → List Line) (x : Result (Unit {0}) Refusal)
+    → ((b : Block) → lined (machine_of old) b e ≡ Done (by_exam (machine_of old) b s show (examined (machine_of old) s a n))) → ((out : List Line) → Says e Nothing out) → Settled e
+    → OnOk x (Looks old new s (examined (machine_of old) s a n)) → IfErr x (λ z. examined (machine_of old) s a n ≡ Err (reason_of z)) → Told e old new (answered x)
+examined_told e old new s a n show (Ok u) line says settles done refused = λ b at. let o = exam_out (examined (machine_of old) s a n) done.shown in record {
+  comes = Done (Does (machine_of old) (show o.0) (only s) b);
+  is = line b ∙ ap (λ r. Done (by_exam (machine_of old) b s show r)) o.1;
+  obeys = (done.machine, done.touched, subst (λ p. Speaks p b) (sym done.place) at, says (show o.0));
+  leads = stands_at e old new settles done.place;
+}
+examined_told e old new s a n show (Err z) line says settles done refused = λ b at. line b ∙ ap (λ r. Done (by_exam (machine_of old) b s show r)) refused
+
 pub told_exam : (old new : Plain) (s a n : ℕ) (x : Result (Unit {0}) Refusal) → OnOk x (Looks old new s (examined (machine_of old) s a n))
     → IfErr x (λ z. examined (machine_of old) s a n ≡ Err (reason_of z)) → Told (events.Exam s a n) old new (answered x)
 unfolding lined operate
-told_exam old new s a n (Ok u) done refused = λ b at. let o = exam_out (examined (machine_of old) s a n) done.shown in record {
-  comes = Done (Does (machine_of old) (printed.Words s a o.0 ∷ []) (only s) b);
-  is = ap (λ r. Done (by_exam (machine_of old) b s (in_a_line s a) r)) o.1;
-  obeys = (done.machine, done.touched, subst (λ p. Speaks p b) (sym done.place) at, tt);
-}
-told_exam old new s a n (Err z) done refused = λ b at. ap (λ r. Done (by_exam (machine_of old) b s (in_a_line s a) r)) refused
+told_exam old new s a n x = examined_told (events.Exam s a n) old new s a n (in_a_line s a) x (λ b. refl) (λ out. tt) (settled (events.Exam s a n) refl refl refl)
+
+pub told_list : (old new : Plain) (s a n : ℕ) (x : Result (Unit {0}) Refusal) → OnOk x (Looks old new s (examined (machine_of old) s a n))
+    → IfErr x (λ z. examined (machine_of old) s a n ≡ Err (reason_of z)) → Told (events.List s a n) old new (answered x)
+unfolding lined operate
+told_list old new s a n x = examined_told (events.List s a n) old new s a n (printed.listed s a) x (λ b. refl) (λ out. tt) (settled (events.List s a n) refl refl refl)
 
 pub told_state : (old new : Plain) (s : ℕ) (x : Result (Unit {0}) Refusal) → OnOk x (Looks old new s (state_shown (machine_of old) s))
     → IfErr x (λ z. state_shown (machine_of old) s ≡ Err (reason_of z)) → Told (events.State s) old new (answered x)
@@ -146,6 +178,7 @@ told_state old new s (Ok u) done refused = λ b at. let o = state_out (state_sho
   comes = Done (Does (machine_of old) (printed.State (machine_of old).version s o.0 ∷ []) (only s) b);
   is = ap (λ r. Done (by_state (machine_of old) b s r)) o.1;
   obeys = (done.machine, done.touched, subst (λ p. Speaks p b) (sym done.place) at, tt);
+  leads = stands_at (events.State s) old new (settled (events.State s) refl refl refl) done.place;
 }
 told_state old new s (Err z) done refused = λ b at. ap (λ r. Done (by_state (machine_of old) b s r)) refused
 
@@ -156,6 +189,7 @@ told_load old new u j s console done = λ b at. record {
   comes = Done (Does (machine_of new) (printed.Loaded s ∷ []) (only s) (record b { slot = s }));
   is = ap (λ r. Done (by_load b r)) done.is;
   obeys = (refl, done.touched, subst (λ p. Speaks p (record b { slot = s })) (sym done.place) refl, refl);
+  leads = ap place_of done.place;
 }
 
 pub told_load_refused : (old new : Plain) (u j : ℕ) (console : Option ℕ) (z : Refusal) → loaded (machine_of old) u j console ≡ Err (reason_of z) → Told (events.Load u j console) old new (Err z)
@@ -168,6 +202,7 @@ told_type old new c n bytes is done = λ b at. record {
   comes = Done (Does (typed c bytes.items (machine_of old)) (printed.Typed c (dropped ((machine_of old).consoles c) bytes.items) ∷ []) nobody b);
   is = refl;
   obeys = (done.machine, done.touched, subst (λ p. Speaks p b) (sym done.place) at, ap (λ (k : ℕ). printed.Typed c k ∷ []) (sym is));
+  leads = stands_at (events.TypeIn c bytes) old new (settled (events.TypeIn c bytes) refl refl refl) done.place;
 }
 
 pub told_drain : (old new : Plain) (c n : ℕ) (bytes : ArrayVec ℕ) → bytes.items ≡ take n ((machine_of old).consoles c).output → Stands old new (drained c n (machine_of old)) → Told (events.Drain c n) old new (Ok (Drained bytes))
@@ -176,6 +211,7 @@ told_drain old new c n bytes is done = λ b at. record {
   comes = Done (Does (drained c n (machine_of old)) (printed.Drained c (take n ((machine_of old).consoles c).output) ∷ []) nobody b);
   is = refl;
   obeys = (done.machine, done.touched, subst (λ p. Speaks p b) (sym done.place) at, ap (λ (k : List ℕ). printed.Drained c k ∷ []) (sym is));
+  leads = stands_at (events.Drain c n) old new (settled (events.Drain c n) refl refl refl) done.place;
 }
 
 -- the words of a line as a slice
@@ -184,6 +220,21 @@ pub told_words_in : (old new : Plain) (s a : ℕ) (ws : ArrayVec ℕ) (xs : List
 told_words_in old new s a ws xs x is e done refused =
     told_words old new s a ws x e (subst (λ (l : List ℕ). OnOk x (Operates old new s (words_loaded (machine_of old) s a l))) is done)
     (subst (λ (l : List ℕ). IfErr x (λ z. words_loaded (machine_of old) s a l ≡ Err (reason_of z))) is refused)
+
+-- words that were refused
+pub spares_words : (old new : Plain) (s a : ℕ) (ws : ArrayVec ℕ) (xs : List ℕ) (x : Result (Unit {0}) Refusal) → xs ≡ ws.items → old.place ≡ spots.Load s
+    → OnErr x (Partly old new (λ n. words_loaded (machine_of old) s a (take n xs))) → OnErr (answered x) (Spares (events.Words a ws) old new)
+spares_words old new s a ws xs (Ok u) is e h = tt
+spares_words old new s a ws xs (Err z) is e h = λ b at.
+    subst (λ (k : ℕ). Partly old new (λ n. words_loaded (machine_of old) k a (take n ws.items))) (sym (at_load old s b e at))
+    (subst (λ (l : List ℕ). Partly old new (λ n. words_loaded (machine_of old) s a (take n l))) is h)
+
+pub spares_append : (old new : Plain) (f : Names) (ws : ArrayVec ℕ) (xs : List ℕ) (x : Result (Unit {0}) Refusal) → xs ≡ ws.items → old.place ≡ spots.File f
+    → OnErr x (Partly old new (λ n. words_added (machine_of old) f (take n xs))) → OnErr (answered x) (Spares (events.Append ws) old new)
+spares_append old new f ws xs (Ok u) is e h = tt
+spares_append old new f ws xs (Err z) is e h = λ b at.
+    subst (λ (k : Names). Partly old new (λ n. words_added (machine_of old) k (take n ws.items))) (sym (at_file old f b e at))
+    (subst (λ (l : List ℕ). Partly old new (λ n. words_added (machine_of old) f (take n l))) is h)
 
 pub told_append_in : (old new : Plain) (n : Names) (ws : ArrayVec ℕ) (xs : List ℕ) (x : Result (Unit {0}) Refusal) → xs ≡ ws.items → old.place ≡ spots.File n → OnOk x (Keeps old new (words_added (machine_of old) n xs))
     → IfErr x (λ z. words_added (machine_of old) n xs ≡ Err (reason_of z)) → Told (events.Append ws) old new (answered x)
@@ -202,6 +253,7 @@ told_go old mid new s a e done placed = λ b at. record {
   comes = Done (Does (machine_of mid) [] (only s) b);
   is = ap (λ (k : ℕ). Done (disturbs k b (on_registers (machine_of old) k (started a)))) (at_load old s b e at) ∙ ap (λ y. Done (disturbs s b y)) done.is;
   obeys = (placed_machine mid new spots.Plain placed, (λ k. ap (λ (p : Plain). is_touched p k) placed ∙ done.touched k), subst (λ p. Speaks p b) (sym (ap (λ (p : Plain). p.place) placed)) tt, refl);
+  leads = ap (λ (p : Plain). place_of p.place) placed;
 }
 
 pub told_go_refused : (old new : Plain) (s a : ℕ) (z : Refusal) → old.place ≡ spots.Load s → on_registers (machine_of old) s (started a) ≡ Err (reason_of z) → Told (events.Go a) old new (Err z)
@@ -218,6 +270,7 @@ told_end old new done = λ b at. record {
   comes = Done (Does (machine_of old) [] nobody b);
   is = refl;
   obeys = (ok_is (machine_of old) (machine_of new) (Ok (machine_of old)) refl done.is, done.touched, subst (λ p. Speaks p b) (sym done.place) tt, refl);
+  leads = ap place_of done.place;
 }
 
 -- VERSION
@@ -227,6 +280,7 @@ told_version old new v done = λ b at. record {
   comes = Done (Does (versioned (machine_of old) v) [] nobody b);
   is = refl;
   obeys = (done.machine, done.touched, subst (λ p. Speaks p b) (sym done.place) at, refl);
+  leads = stands_at (events.Version v) old new (settled (events.Version v) refl refl refl) done.place;
 }
 
 -- lines that leave the machine: those without words, DIR and SHOW
@@ -240,13 +294,12 @@ module _ (old new : Plain) (e : new ≡ record old { touched = no_slots }) where
   at_same : (b : Block) → Speaks old.place b → Speaks new.place b
   at_same b at = subst (λ p. Speaks p b) (sym (ap (λ (p : Plain). p.place) e)) at
 
+  same_place : (x : Event) → Settled x → place_of new.place ≡ place_after (place_of old.place) x
+  same_place x at = stands_at x old new at (ap (λ (p : Plain). p.place) e)
+
   pub told_nothing : Told events.Nothing old new (Ok Nothing)
   unfolding lined operate
-  told_nothing = λ b at. record { comes = Done (Does (machine_of old) [] nobody b); is = refl; obeys = (same_machine, none, at_same b at, refl) }
-
-  pub told_run : (n q : ℕ) → Told (events.Run n q) old new (Ok Nothing)
-  unfolding lined operate
-  told_run n q = λ b at. record { comes = Done (Does (machine_of old) [] nobody b); is = refl; obeys = (same_machine, none, at_same b at, refl) }
+  told_nothing = λ b at. record { comes = Done (Does (machine_of old) [] nobody b); is = refl; obeys = (same_machine, none, at_same b at, refl); leads = same_place events.Nothing (settled events.Nothing refl refl refl) }
 
   pub told_dir : (d : ℕ) → Told (events.Dir d) old new (Ok Nothing)
   unfolding lined operate
@@ -254,4 +307,34 @@ module _ (old new : Plain) (e : new ≡ record old { touched = no_slots }) where
     comes = Done (Does (machine_of old) (listing d (files_in d (machine_of old).files)) nobody b);
     is = refl;
     obeys = (same_machine, none, at_same b at, tt);
+    leads = same_place (events.Dir d) (settled (events.Dir d) refl refl refl);
   }
+
+  pub told_show : (d x y : ℕ) (f : File) → file_named (names_of d x y) (machine_of old).files ≡ Some f → Told (events.Show d x y) old new (Ok Nothing)
+  unfolding lined operate file_shown
+  told_show d x y f is = λ b at. record {
+    comes = Done (Does (machine_of old) (shown_lines d x y f.words) nobody b);
+    is = ap (λ o. Done (shows (machine_of old) b (shown_by d x y o))) is;
+    obeys = (same_machine, none, at_same b at, tt);
+    leads = same_place (events.Show d x y) (settled (events.Show d x y) refl refl refl);
+  }
+
+pub told_show_refused : (old new : Plain) (d x y : ℕ) → file_named (names_of d x y) (machine_of old).files ≡ None → Told (events.Show d x y) old new (Err refusals.NoFile)
+unfolding lined operate file_shown
+told_show_refused old new d x y is = λ b at. ap (λ o. Done (shows (machine_of old) b (shown_by d x y o))) is
+
+-- PEEK
+whole_of : (o : Option Whole) → is_some o ≡ true → (q : Whole) × (o ≡ Some q)
+whole_of (Some q) h = (q, refl)
+whole_of None h = cc
+
+pub told_peek : (old new : Plain) (s : ℕ) (x : Result (Unit {0}) Refusal) → OnOk x (Stands old new (machine_of old)) → OnOk x (is_some ((machine_of old).jobs s) ≡ true)
+    → IfErr x (λ z. (z ≡ refusals.NoJob) × ((machine_of old).jobs s ≡ None)) → Told (events.Peek s) old new (answered x)
+unfolding lined
+told_peek old new s (Ok u) done some refused = λ b at. let q = whole_of ((machine_of old).jobs s) some in record {
+  comes = Peeks s;
+  is = ap (peeked_at s) q.1;
+  obeys = (done.machine, done.touched, done.place);
+  leads = stands_at (events.Peek s) old new (settled (events.Peek s) refl refl refl) done.place;
+}
+told_peek old new s (Err z) done some refused = λ b at. ap (peeked_at s) refused.1 ∙ ap (λ (k : Refusal). Done (Refuses (reason_of k))) (sym refused.0)

@@ -1,9 +1,9 @@
 -- The lines FILE, its words and EOF.
-use Rattle.std.specs.Prelude.{◌≡◌, ◌≢◌, ◌<◌, ◌≤◌, ◌+◌, ℕ, Bool, true, false, Option, Some, None, List, [], ◌∷◌, ◌++◌, Ok, Err, is_some, option_map, drop, length, nat_lt, slice_index_or, refl}
+use Rattle.std.specs.Prelude.{◌≡◌, ◌≢◌, ◌<◌, ◌≤◌, ◌+◌, ℕ, Bool, true, false, Option, Some, None, List, [], ◌∷◌, ◌++◌, Ok, Err, is_some, option_map, take, drop, length, nat_lt, slice_index_or, refl}
 use Rattle.std.proofs.Common.{sym, ◌∙◌, ap, subst, arith, get_or, inl, inr}
 use Rattle.std.proofs.Math.ListN.{drop_of_length-le}
 use Rattle.std.proofs.lemmas.Bool.{cases_eq, lt-ltb, le-ltb}
-use Rattle.std.proofs.lemmas.List.{drop_more, length-map}
+use Rattle.std.proofs.lemmas.List.{drop_more, take_more, length-map}
 use Rattle.its_word.specs.Directory.{with_changed, longer}
 use Rattle.its_word.specs.Only.{Only, Same}
 use Rattle.its_word.specs.declared.jobs.Channel.{Channel}
@@ -31,13 +31,14 @@ use Rattle.its_parts.proofs.RoomLaws.{full_on}
 use Rattle.its_parts.proofs.StandLaws.{reading_file, writing_draft}
 use Rattle.its_parts.proofs.StoreLaws.{found_named, has_named, named_self}
 use Rattle.its_direct.specs.Filing.{Leads, FilesBecome}
-use Rattle.its_direct.specs.Lines.{Keeps}
+use Rattle.its_direct.specs.Lines.{Keeps, Partly}
 use Rattle.its_direct.specs.Plain.{machine_of, no_slots, Tidy}
 use Rattle.its_direct.specs.declared.plain.Plain.{Plain}
 use Rattle.its_direct.specs.declared.plain.Spot.{Spot}
 use Rattle.its_direct.specs.declared.plain.Spot.TheVariants as spots
 use Rattle.its_direct.proofs.DirectoryLaws.{files_are}
 use Rattle.its_direct.proofs.LoadLaws.{placed_tidy}
+use Rattle.its_direct.proofs.LoadedLaws.{then_ok, then_then}
 use Rattle.its_direct.proofs.SlotLaws.{IsPlaced, touched_machine, touched_tidy}
 use Rattle.its_direct.proofs.TouchLaws.{none_touched}
 
@@ -248,16 +249,23 @@ module _ (p : Plain) (whole : IsStore p.files) (tidy : Tidy p) (id : ℕ) (file 
 pub added_names : (s u : Store) (id : ℕ) → Same (entry_at s) (entry_at u) → names_at u id ≡ names_at s id
 added_names s u id e = ap names_by (e.each id)
 
+-- a word more behind some
+added_behind : (m : Machine) (n : Names) (w : ℕ) (ws : List ℕ) → words_added m n (ws ++ w ∷ []) ≡ and_then (words_added m n ws) (λ k. word_added k n w)
+added_behind m n w [] = then_ok (word_added m n w)
+added_behind m n w (x ∷ ws) =
+    (λ t. and_then (word_added m n x) (λ k. added_behind k n w ws t)) ∙ sym (then_then (word_added m n x) (λ k. words_added k n ws) (λ k. word_added k n w))
+
 -- the words in their order: those before place k are added
 pub record Adding (old now : Plain) (id : ℕ) (ws : List ℕ) (k : ℕ) : Type 0 where
   pub rest : words_added (machine_of now) (names_at old.files id) (drop k ws) ≡ words_added (machine_of old) (names_at old.files id) ws
+  pub part : words_added (machine_of old) (names_at old.files id) (take k ws) ≡ Ok (machine_of now)
   pub file : is_file (entry_at now.files id) ≡ true
   pub names : names_at now.files id ≡ names_at old.files id
   pub place : now.place ≡ old.place
   pub tidy : Tidy now
 
 pub adding_starts : (p : Plain) (id : ℕ) (ws : List ℕ) → is_file (entry_at p.files id) ≡ true → Tidy p → Adding p p id ws 0
-adding_starts p id ws file tidy = record { rest = refl; file = file; names = refl; place = refl; tidy = tidy }
+adding_starts p id ws file tidy = record { rest = refl; part = refl; file = file; names = refl; place = refl; tidy = tidy }
 
 added_next : (old now : Plain) (id k w d : ℕ) (ws : List ℕ) → Adding old now id ws k → k < length ws → w ≡ get_or ws k d
     → and_then (word_added (machine_of now) (names_at old.files id) w) (λ n. words_added n (names_at old.files id) (drop (k + 1) ws)) ≡ words_added (machine_of old) (names_at old.files id) ws
@@ -270,6 +278,11 @@ pub adding_more : (old now new : Plain) (id k w d : ℕ) (ws : List ℕ) → Add
     → Adding old new id ws (k + 1)
 adding_more old now new id k w d ws h l is made file names place tidy = record {
   rest = sym (ap (λ r. and_then r (λ n. words_added n (names_at old.files id) (drop (k + 1) ws))) (ap (λ ns. word_added (machine_of now) ns w) (sym h.names) ∙ made)) ∙ added_next old now id k w d ws h l is;
+  part =
+      ap (words_added (machine_of old) (names_at old.files id)) (take_more ws k d l ∙ ap (λ x. take k ws ++ x ∷ []) (sym is))
+      ∙ added_behind (machine_of old) (names_at old.files id) w (take k ws)
+      ∙ ap (λ r. and_then r (λ n. word_added n (names_at old.files id) w)) h.part
+      ∙ ap (λ ns. word_added (machine_of now) ns w) (sym h.names) ∙ made;
   file = file;
   names = names ∙ h.names;
   place = place ∙ h.place;
@@ -284,6 +297,10 @@ adding_stops old now id k w d ws r h l is e =
 
 pub adding_ends : (old now : Plain) (id k n : ℕ) (ws : List ℕ) → Adding old now id ws k → n ≡ length ws → n ≤ k → words_added (machine_of old) (names_at old.files id) ws ≡ Ok (machine_of now)
 adding_ends old now id k n ws h is l = sym h.rest ∙ ap (words_added (machine_of now) (names_at old.files id)) (drop_of_length-le ws (omega arith))
+
+pub adding_part : (old now new : Plain) (id k : ℕ) (ws : List ℕ) → Adding old now id ws k → new ≡ now → Partly old new (λ n. words_added (machine_of old) (names_at old.files id) (take n ws))
+adding_part old now new id k ws h same =
+    subst (λ (p : Plain). Partly old p (λ n. words_added (machine_of old) (names_at old.files id) (take n ws))) (sym same) (record { few = k; is = h.part; place = h.place })
 
 -- the line, where there is such a file, and where there is none
 pub appended : (old put new : Plain) (n : Names) (ws : List ℕ) → words_added (machine_of old) n ws ≡ Ok (machine_of put) → put.place ≡ old.place → new ≡ record put { touched = no_slots }

@@ -17,3 +17,16 @@ pub mod ClockLaws
 pub mod FileLaws
 pub mod LoadedLaws
 pub mod EventLaws
+pub mod ReadyLaws
+pub mod StepKeepsLaws
+pub mod MovedLaws
+pub mod CallStepLaws
+pub mod CanLaws
+pub mod UsrCanLaws
+pub mod CoreCanLaws
+pub mod DecidedCanLaws
+pub mod CallingLaws
+pub mod HousedLaws
+pub mod ToldLaws
+pub mod ShownLaws
+pub mod SeriesLaws

@@ -114,7 +114,7 @@ state_refused p s o is none =
     ap (on_job (machine_of p) s (λ q. Ok (shown q.job q.superior (symbol_shown q.job.pc ((machine_of p).symbols s))))) (nobody_is p s (sym is ∙ none))
 
 -- EXAM
-examined_own : (p : Plain) (s a n : ℕ) (i : Job) → job_at p.jobs s ≡ Some i → examined (machine_of p) s a n ≡ seen (words_at (core_at p.core s) a n)
+pub examined_own : (p : Plain) (s a n : ℕ) (i : Job) → job_at p.jobs s ≡ Some i → examined (machine_of p) s a n ≡ seen (words_at (core_at p.core s) a n)
 unfolding examined
 examined_own p s a n i had = ap (on_job (machine_of p) s (λ q. seen (words_at q.core a n))) (own_is p s i had)
 

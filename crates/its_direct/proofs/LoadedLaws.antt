@@ -1,10 +1,10 @@
 -- The words of a LOAD block: a word is stored, where its page is absent into a page of zeros that is made.
-use Rattle.std.specs.Prelude.{◌≡◌, ◌<◌, ◌≤◌, ◌/◌, ◌%◌, ◌+◌, ◌-◌, ◌||◌, ℕ, suc, Bool, true, false, Option, Some, None, is_some, option_map, List, [], ◌∷◌, drop, length, Ok, Err, nat_lt, slice_index_or, refl}
-use Rattle.std.proofs.Common.{sym, ◌∙◌, ap, arith, get_or, inl, inr}
+use Rattle.std.specs.Prelude.{◌≡◌, ◌<◌, ◌≤◌, ◌/◌, ◌%◌, ◌+◌, ◌-◌, ◌||◌, ℕ, zero, suc, Bool, true, false, Option, Some, None, is_some, option_map, List, [], ◌∷◌, ◌++◌, take, drop, length, Result, Ok, Err, nat_lt, slice_index_or, refl}
+use Rattle.std.proofs.Common.{sym, ◌∙◌, ap, subst, arith, get_or, inl, inr}
 use Rattle.std.proofs.Math.ListN.{drop_of_length-le}
 use Rattle.std.proofs.lemmas.Bool.{cases_eq, lt-ltb, le-ltb}
 use Rattle.std.proofs.lemmas.Bool.Decides.{nat_tests}
-use Rattle.std.proofs.lemmas.List.{drop_more}
+use Rattle.std.proofs.lemmas.List.{drop_more, take_more, length-take-le}
 use Rattle.its_word.specs.Core.{Core, no_core, page_of, word_at, can_store, store, putting, put, with_page, zero_page, pages_mapped}
 use Rattle.its_word.specs.Limits.{slots, most_pages}
 use Rattle.its_word.specs.Only.{Only, Same}
@@ -17,12 +17,12 @@ use Rattle.its_core.specs.Cores.{Cores, Reserved, core_at, reserved_at, clear_at
 use Rattle.its_core.proofs.CoresLaws.{same_core_at}
 use Rattle.its_files.specs.Files.{Store}
 use Rattle.its_jobs.specs.Table.{job_at, superior_at}
-use Rattle.its_plain.specs.Machine.{Whole, mapped, core_of}
+use Rattle.its_plain.specs.Machine.{Whole, Machine, mapped, core_of}
 use Rattle.its_plain.specs.Operator.{and_then}
 use Rattle.its_plain.specs.OperatorJobs.{with_core, stored_in, stored, word_loaded_of, word_loaded, words_stored, is_barred, any_barred, barred_in, words_loaded_if, words_loaded}
 use Rattle.its_parts.specs.Parts.{alarm_at, raw_of}
 use Rattle.its_direct.specs.Plain.{machine_of, Tidy, Aside, CoreBecomes}
-use Rattle.its_direct.specs.Lines.{one_slot, Operates}
+use Rattle.its_direct.specs.Lines.{one_slot, Operates, Partly}
 use Rattle.its_direct.specs.declared.plain.Plain.{Plain}
 use Rattle.its_direct.proofs.LineLaws.{only_touched, put_slot}
 use Rattle.its_direct.proofs.SlotLaws.{alike, core_machine, core_tidy, touched_machine}
@@ -188,9 +188,27 @@ none_more c a = refl
 pub any_end : (c : Core) (a n k : ℕ) → n ≤ k → any_barred c (a + k) (n - k) ≡ false
 any_end c a n k l = let e : n - k ≡ 0 = omega arith in ap (any_barred c (a + k)) e ∙ none_more c (a + k)
 
+-- a word more behind some
+pub then_ok : {A E : Type 0} (r : Result A E) → and_then r (λ x. Ok x) ≡ r
+then_ok (Ok x) = refl
+then_ok (Err e) = refl
+
+pub then_then : {A E : Type 0} (r : Result A E) (f g : A → Result A E) → and_then (and_then r f) g ≡ and_then r (λ x. and_then (f x) g)
+then_then (Ok x) f g = refl
+then_then (Err e) f g = refl
+
+stored_behind : (m : Machine) (s a w : ℕ) (ws : List ℕ) → words_stored m s a (ws ++ w ∷ []) ≡ and_then (words_stored m s a ws) (λ n. word_loaded n s (a + length ws) w)
+stored_behind m s a w [] = let e : a + 0 ≡ a = omega arith in then_ok (word_loaded m s a w) ∙ ap (λ i. word_loaded m s i w) (sym e)
+stored_behind m s a w (x ∷ ws) =
+    let e : a + 1 + length ws ≡ a + suc (length ws) = omega arith in
+    (λ t. and_then (word_loaded m s a x) (λ n. stored_behind n s (a + 1) w ws t))
+    ∙ ap (λ i. and_then (word_loaded m s a x) (λ n. and_then (words_stored n s (a + 1) ws) (λ k. word_loaded k s i w))) e
+    ∙ sym (then_then (word_loaded m s a x) (λ n. words_stored n s (a + 1) ws) (λ k. word_loaded k s (a + suc (length ws)) w))
+
 -- the words in their order: those before place k are stored
 pub record Storing (old now : Plain) (s a : ℕ) (ws : List ℕ) (k : ℕ) : Type 0 where
   pub rest : words_stored (machine_of now) s (a + k) (drop k ws) ≡ words_stored (machine_of old) s a ws
+  pub part : words_stored (machine_of old) s a (take k ws) ≡ Ok (machine_of now)
   pub job : is_some (job_at now.jobs s) ≡ true
   pub place : now.place ≡ old.place
   pub tidy : Tidy now
@@ -198,6 +216,7 @@ pub record Storing (old now : Plain) (s a : ℕ) (ws : List ℕ) (k : ℕ) : Typ
 pub storing_starts : (p : Plain) (s a : ℕ) (ws : List ℕ) → is_some (job_at p.jobs s) ≡ true → Tidy p → Storing p p s a ws 0
 storing_starts p s a ws job tidy = record {
   rest = let e : a + 0 ≡ a = omega arith in ap (λ i. words_stored (machine_of p) s i ws) e;
+  part = refl;
   job = job;
   place = refl;
   tidy = tidy;
@@ -215,6 +234,11 @@ pub storing_more : (old now new : Plain) (s a k w d : ℕ) (ws : List ℕ) → S
     → is_some (job_at new.jobs s) ≡ true → new.place ≡ now.place → Tidy new → Storing old new s a ws (k + 1)
 storing_more old now new s a k w d ws h l is made job place tidy = record {
   rest = sym (ap (λ r. and_then r (λ n. words_stored n s (a + (k + 1)) (drop (k + 1) ws))) made) ∙ stored_next old now s a k w d ws h l is;
+  part =
+      ap (words_stored (machine_of old) s a) (take_more ws k d l ∙ ap (λ x. take k ws ++ x ∷ []) (sym is))
+      ∙ stored_behind (machine_of old) s a w (take k ws)
+      ∙ ap (λ i. and_then (words_stored (machine_of old) s a (take k ws)) (λ n. word_loaded n s (a + i) w)) (length-take-le k ws (omega arith))
+      ∙ ap (λ r. and_then r (λ n. word_loaded n s (a + k) w)) h.part ∙ made;
   job = job;
   place = place ∙ h.place;
   tidy = tidy;
@@ -227,6 +251,9 @@ storing_stops old now s a k w d ws r h l is e =
 
 pub storing_ends : (old now : Plain) (s a k n : ℕ) (ws : List ℕ) → Storing old now s a ws k → n ≡ length ws → n ≤ k → words_stored (machine_of old) s a ws ≡ Ok (machine_of now)
 storing_ends old now s a k n ws h is l = sym h.rest ∙ ap (words_stored (machine_of now) s (a + k)) (drop_of_length-le ws (omega arith))
+
+pub storing_part : (old now new : Plain) (s a k : ℕ) (ws : List ℕ) → Storing old now s a ws k → new ≡ now → Partly old new (λ n. words_stored (machine_of old) s a (take n ws))
+storing_part old now new s a k ws h same = subst (λ (p : Plain). Partly old p (λ n. words_stored (machine_of old) s a (take n ws))) (sym same) (record { few = k; is = h.part; place = h.place })
 
 -- the line
 line_on : (p : Plain) (s a : ℕ) (ws : List ℕ) (i : Job) → job_at p.jobs s ≡ Some i → words_loaded (machine_of p) s a ws ≡ words_loaded_if (machine_of p) s a ws (any_barred (core_at p.core s) a (length ws))
@@ -254,3 +281,33 @@ line_refused p s a [] some none = absurd (omega arith)
 line_refused p s a (w ∷ ws) some none =
     ap (λ (o : Option Whole). words_loaded_if (machine_of p) s a (w ∷ ws) (barred_in o a (length (w ∷ ws)))) (nobody_is p s none)
     ∙ ap (λ (o : Option Whole). and_then (word_loaded_of (machine_of p) s a w o) (λ n. words_stored n s (a + 1) ws)) (nobody_is p s none)
+
+-- a refused line is made as far as its first words: none, or those before the first that has no room
+any_less : (c : Core) (a n : ℕ) (ws : List ℕ) → any_barred c a (length ws) ≡ false → any_barred c a (length (take n ws)) ≡ false
+unfolding any_barred
+any_less c a zero ws h = refl
+any_less c a (suc n) [] h = refl
+any_less c a (suc n) (w ∷ ws) h = both_none (is_barred c a) (any_barred c (a + 1) (length ws)) (any_barred c (a + 1) (length (take n ws))) h (any_less c (a + 1) n ws)
+  where
+    both_none : (b x y : Bool) → (b || x) ≡ false → (x ≡ false → y ≡ false) → (b || y) ≡ false
+    both_none false x y e f = f e
+    both_none true x y e f = cc
+
+none_loaded : (p : Plain) (s a : ℕ) → words_loaded (machine_of p) s a [] ≡ Ok (machine_of p)
+unfolding words_loaded any_barred
+none_loaded p s a = go ((machine_of p).jobs s)
+  where
+    go : (o : Option Whole) → words_loaded_if (machine_of p) s a [] (barred_in o a 0) ≡ Ok (machine_of p)
+    go (Some q) = refl
+    go None = refl
+
+pub line_none : (p : Plain) (s a : ℕ) (ws : List ℕ) → Partly p p (λ n. words_loaded (machine_of p) s a (take n ws))
+line_none p s a ws = record { few = 0; is = none_loaded p s a; place = refl }
+
+pub line_part : (old new : Plain) (s a : ℕ) (ws : List ℕ) (i : Job) (b : Bool) → job_at old.jobs s ≡ Some i → b ≡ any_barred (core_at old.core s) a (length ws) → b ≡ false
+    → Partly old new (λ n. words_stored (machine_of old) s a (take n ws)) → Partly old new (λ n. words_loaded (machine_of old) s a (take n ws))
+line_part old new s a ws i b had is free h = record {
+  few = h.few;
+  is = line_on old s a (take h.few ws) i had ∙ ap (words_loaded_if (machine_of old) s a (take h.few ws)) (any_less (core_at old.core s) a h.few ws (sym is ∙ free)) ∙ h.is;
+  place = h.place;
+}

@@ -11,28 +11,25 @@ use Rattle.its_word.specs.declared.jobs.Job.{Job}
 use Rattle.its_core.specs.Cores.{Cores, core_at}
 use Rattle.its_files.specs.Files.{Store}
 use Rattle.its_jobs.specs.Table.{IsTree, Table, job_at, superior_at, superior_in}
-use Rattle.its_plain.specs.CallStep.{alone, becomes, delivery, faulted, informs, informed_slots, transition, transition_of, unless_stopped}
+use Rattle.its_plain.specs.CallStep.{alone, becomes, delivery, informs, informed_slots, transition, transition_of, unless_stopped}
 use Rattle.its_plain.specs.Change.{effect, effects, in_job, on_slot, with_inf}
 use Rattle.its_plain.specs.Footprint.{among}
 use Rattle.its_plain.specs.Interrupt.{Delivered, deliverable, delivered}
 use Rattle.its_plain.specs.Job.{INF, with_pending}
 use Rattle.its_plain.specs.Machine.{Whole, Machine}
-use Rattle.its_plain.specs.Unit.{Outcome, Changed, Faulted, Called, unit}
+use Rattle.its_plain.specs.Unit.{Outcome, Called, unit}
 use Rattle.its_plain.proofs.DeliveryLaws.{delivered_placed}
 use Rattle.its_plain.proofs.MachineLaws.{machine_is}
 use Rattle.its_plain.proofs.StepLaws.{transition_delivers, transition_unit}
 use Rattle.its_parts.specs.Parts.{bare, alarm_at, chan_of}
-use Rattle.its_parts.proofs.BareLaws.{bare_delivered, bare_outcome, deliverable_bare, delivered_bare, delivered_channels, unit_bare, unit_channels}
+use Rattle.its_parts.proofs.BareLaws.{bare_delivered, bare_outcome, deliverable_bare, delivered_bare, delivered_channels, unit_bare}
 use Rattle.its_parts.proofs.PartLaws.{raw_job, raw_some, raw_none, on_slot_here, on_slot_other}
-use Rattle.pdp_exec.specs.Answer.{FaultsWith}
 use Rattle.its_direct.specs.Plain.{machine_of, is_touched, no_slots, Tidy, SlotBecomes, CoreBecomes, JobBecomes}
 use Rattle.its_direct.specs.Steps.{CallsAt, SteppedBy, is_made}
+pub use Rattle.its_direct.specs.Steps.{own_of}
 use Rattle.its_direct.specs.declared.plain.Plain.{Plain}
 use Rattle.its_direct.proofs.SlotLaws.{placed_at, put_then, slot_machine, slot_tidy, touched_machine, touched_tidy}
 use Rattle.its_direct.proofs.TouchLaws.{none_touched, one_touched, or_none, slot_some, step_touched}
-
-abbrev pub own_of : Plain → ℕ → Job → Whole
-own_of p s j = raw_job p.files (core_at p.core s) j (superior_at p.jobs s) (alarm_at p.alarms.items s)
 
 pub own_is : (p : Plain) (s : ℕ) (j : Job) → job_at p.jobs s ≡ Some j → (machine_of p).jobs s ≡ Some (own_of p s j)
 unfolding machine_of
@@ -85,30 +82,10 @@ pub calls_at : (p : Plain) (c : Cores) (s : ℕ) (i : Job) (x : Site) → job_at
 calls_at p c s i x had runs quiet same u = record {
   own = own_of p s i;
   had = own_is p s i had;
+  unit = unit_is p s i (Called x) (ap (λ (k : Cores). unit (core_at k s) i) (sym same) ∙ u);
   is = transition_unit (machine_of p) s (own_of p s i) (Called x) (own_is p s i had) runs (quiet_is p s i false quiet)
       (unit_is p s i (Called x) (ap (λ (k : Cores). unit (core_at k s) i) (sym same) ∙ u));
 }
-
-module _ (old mid put new : Plain) (s : ℕ) (i k : Job) (had : job_at old.jobs s ≡ Some i) (b : JobBecomes mid put s k) (e : new ≡ record put { touched = no_slots }) where
-  both : (c : Core) → CoreBecomes old mid s c → SlotBecomes old put s c (Some k)
-  both c a = put_then old mid put s c k a b
-
-  pub unit_done : (c : Core) → i.stopped ≡ false → deliverable i ≡ false → CoreBecomes old mid s c → unit (core_at old.core s) i ≡ Changed c k → SteppedBy old new (transition (machine_of old) s)
-  unit_done c runs quiet a u = stepped_alone old put new s c i k (becomes c (bare k)) (both c a) had
-      (becomes_raw old.files (core_at old.core s) c (superior_at old.jobs s) (alarm_at old.alarms.items s) i k (unit_channels (core_at old.core s) c i k u))
-      (transition_unit (machine_of old) s (own_of old s i) (Changed c (bare k)) (own_is old s i had) runs (quiet_is old s i false quiet) (unit_is old s i (Changed c k) u)) e
-
-  pub unit_done_tidy : (c : Core) → CoreBecomes old mid s c → unit (core_at old.core s) i ≡ Changed c k → k.pc < 2 ^ 18 → Tidy old → Tidy new
-  unit_done_tidy c a u placed tidy = touched_tidy put new no_slots e (slot_tidy old put s c i k (both c a) had (unit_channels (core_at old.core s) c i k u) placed tidy)
-
-  pub unit_faulted : (n : ℕ) → i.stopped ≡ false → deliverable i ≡ false → CoreBecomes old mid s (core_at old.core s) → FaultsWith (unit (core_at old.core s) i) n → k ≡ with_pending i n
-      → SteppedBy old new (transition (machine_of old) s)
-  unit_faulted n runs quiet a f is = stepped_alone old put new s (core_at old.core s) i k (faulted f.fault) (both (core_at old.core s) a) had
-      (ap (λ (j : Job). raw_job old.files (core_at old.core s) j (superior_at old.jobs s) (alarm_at old.alarms.items s)) (sym (is ∙ ap (with_pending i) f.bit)))
-      (transition_unit (machine_of old) s (own_of old s i) (Faulted f.fault) (own_is old s i had) runs (quiet_is old s i false quiet) (unit_is old s i (Faulted f.fault) f.is)) e
-
-  pub unit_faulted_tidy : (n : ℕ) → CoreBecomes old mid s (core_at old.core s) → k ≡ with_pending i n → Tidy old → Tidy new
-  unit_faulted_tidy n a is tidy = touched_tidy put new no_slots e (slot_tidy old put s (core_at old.core s) i k (both (core_at old.core s) a) had (ap (λ (j : Job). j.channels) is) (pc_kept _ i k is (placed_at old s (job_at old.jobs s) i refl had tidy)) tidy)
 
 -- a delivery: the machine after it, before a superior is told
 module _ (old mid put new : Plain) (s : ℕ) (i k : Job) (had : job_at old.jobs s ≡ Some i) (a : CoreBecomes old mid s (delivered (core_at old.core s) i).core)

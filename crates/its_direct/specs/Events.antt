@@ -1,5 +1,5 @@
 -- What an event comes to, in the machine in running form: the operator's line exactly.
-use Rattle.std.specs.Prelude.{◌≡◌, ◌<◌, ℕ, false, List, [], ◌∷◌, Result, Ok, Err}
+use Rattle.std.specs.Prelude.{◌≡◌, ◌<◌, ℕ, false, None, List, [], ◌∷◌, take, Result, Ok, Err}
 use Rattle.its_word.specs.Limits.{slots}
 use Rattle.its_word.specs.declared.session.Event.{Event}
 use Rattle.its_word.specs.declared.session.Event.TheVariants as events
@@ -8,13 +8,17 @@ use Rattle.its_word.specs.declared.session.Place.TheVariants as places
 use Rattle.its_word.specs.declared.session.Refusal.{Refusal}
 use Rattle.its_print.specs.Printing.{Line}
 use Rattle.its_print.specs.Printing as printed
+use Rattle.its_session.specs.Events.{place_after}
 use Rattle.its_session.specs.Fits.{place_of as event_place}
 use Rattle.its_stepped.specs.Alarmed.{Alarmed}
+use Rattle.its_stepped.specs.Consoled.{Consoled}
 use Rattle.its_stepped.specs.Forest.{Forest}
 use Rattle.its_plain.specs.Operator.{Block, Does, Refuses}
+use Rattle.its_plain.specs.OperatorFiles.{words_added}
+use Rattle.its_plain.specs.OperatorJobs.{words_loaded}
 use Rattle.its_plain.specs.OperatorLines.{Lined, Done, Peeks, lined}
 use Rattle.its_direct.specs.Plain.{machine_of, is_touched, Tidy}
-use Rattle.its_direct.specs.Lines.{reason_of}
+use Rattle.its_direct.specs.Lines.{reason_of, Partly}
 use Rattle.its_direct.specs.declared.plain.Plain.{Plain}
 use Rattle.its_direct.specs.declared.plain.Spot.{Spot}
 use Rattle.its_direct.specs.declared.plain.Spot.TheVariants as spots
@@ -28,11 +32,12 @@ SpotFits spots.Plain = Unit {0}
 SpotFits (spots.File names) = Unit {0}
 
 -- what holds between two events, and between two steps: what is tidy is so, the jobs of the machine are a forest, each alarm is to
--- come, and the place is one that there is
+-- come, the console of each job is one of eight, and the place is one that there is
 pub record Kept (p : Plain) : Type 0 where
   pub tidy : Tidy p
   pub forest : Forest (machine_of p)
   pub alarmed : Alarmed (machine_of p)
+  pub consoled : Consoled (machine_of p)
   pub placed : SpotFits p.place
 
 -- the place of a line of a session, and what a block of lines speaks of there
@@ -46,9 +51,10 @@ Speaks spots.Plain b = Unit {0}
 Speaks (spots.Load s) b = b.slot ≡ s
 Speaks (spots.File names) b = b.file ≡ names
 
--- the events of which the machine is told: ticks are steps, and END ends all
+-- the events of which the machine is told: ticks, and the turns of RUN, are steps, and END ends all
 abbrev pub IsTold : Event → Type 0
 IsTold (events.Tick s n) = ⊥
+IsTold (events.Run n q) = ⊥
 IsTold events.End = ⊥
 IsTold _ = Unit {0}
 
@@ -58,12 +64,13 @@ MayStand place events.Nothing = Unit {0}
 MayStand place (events.Version v) = place ≡ places.Plain
 MayStand place e = place ≡ event_place e
 
--- what an answer says of the lines that are shown; what EXAM, STATE, DIR and SHOW show is read from the machine
+-- what an answer says of the lines that are shown; what EXAM, LIST, STATE, DIR and SHOW show is read from the machine
 abbrev pub Says : Event → Answer → List Line → Type 0
 Says (events.Load u j c) (Slot s) out = out ≡ printed.Loaded s ∷ []
 Says (events.TypeIn c bytes) (Dropped n) out = out ≡ printed.Typed c n ∷ []
 Says (events.Drain c n) (Drained bytes) out = out ≡ printed.Drained c bytes.items ∷ []
 Says (events.Exam s a n) Nothing out = Unit {0}
+Says (events.List s a n) Nothing out = Unit {0}
 Says (events.State s) Nothing out = Unit {0}
 Says (events.Dir d) Nothing out = Unit {0}
 Says (events.Show d x y) Nothing out = Unit {0}
@@ -83,11 +90,25 @@ pub record Obeyed (e : Event) (a : Answer) (old new : Plain) (b : Block) : Type 
   pub comes : Lined
   pub is : lined (machine_of old) b e ≡ comes
   pub obeys : Obeys e a old new comes
+  pub leads : place_of new.place ≡ place_after (place_of old.place) e
 
 -- an event was obeyed, or it was refused
 abbrev pub Told : Event → Plain → Plain → Result Answer Refusal → Type 0
 Told e old new (Ok a) = (b : Block) → Speaks old.place b → Obeyed e a old new b
 Told e old new (Err x) = (b : Block) → Speaks old.place b → lined (machine_of old) b e ≡ Done (Refuses (reason_of x))
+
+-- a line that is refused changes nothing; but of words for which there is no room, those before the first that has none are
+-- stored
+abbrev pub Spares : Event → Plain → Plain → Type 0
+Spares (events.Words a ws) old new =
+    (b : Block) → Speaks old.place b → Partly old new (λ n. words_loaded (machine_of old) b.slot a (take n ws.items))
+Spares (events.Append ws) old new =
+    (b : Block) → Speaks old.place b → Partly old new (λ n. words_added (machine_of old) b.file (take n ws.items))
+Spares e old new = new ≡ old
+
+-- no slot loses its job
+abbrev pub JobsStay : Plain → Plain → Type 0
+JobsStay old new = (k : ℕ) → (machine_of new).jobs k ≡ None → (machine_of old).jobs k ≡ None
 
 -- a line without an answer
 abbrev pub answered : Result (Unit {0}) Refusal → Result Answer Refusal

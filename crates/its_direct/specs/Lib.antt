@@ -8,3 +8,5 @@ pub mod Removal
 pub mod Clock
 pub mod Filing
 pub mod Events
+pub mod Ready
+pub mod Series

@@ -115,3 +115,9 @@ pub record VersionBecomes (old new : Plain) (v : ℕ) : Type 0 where
   pub alarms : new.alarms ≡ old.alarms
   pub symbols : new.symbols ≡ old.symbols
   pub place : new.place ≡ old.place
+
+-- a line of words that was refused is made as far as its first words
+pub record Partly (old new : Plain) (part : ℕ → Result Machine Reason) : Type 0 where
+  pub few : ℕ
+  pub is : part few ≡ Ok (machine_of new)
+  pub place : new.place ≡ old.place

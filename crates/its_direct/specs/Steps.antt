@@ -1,9 +1,16 @@
 -- What a step of a slot's job comes to, in the machine in running form.
-use Rattle.std.specs.Prelude.{◌≡◌, ◌&&◌, ◌||◌, ℕ, Bool, not, Option, Some, None, is_some}
+use Rattle.std.specs.Prelude.{◌≡◌, ◌⊎◌, ◌&&◌, ◌||◌, ℕ, Bool, true, false, not, Option, Some, None, List, is_some, slice_index_or}
 use Rattle.its_word.specs.declared.calls.Site.{Site}
+use Rattle.its_word.specs.declared.jobs.Job.{Job}
+use Rattle.its_core.specs.Cores.{core_at}
+use Rattle.its_jobs.specs.Table.{job_at, superior_at}
 use Rattle.its_plain.specs.Ask.{ask}
 use Rattle.its_plain.specs.CallStep.{Transition, among, by_ask}
 use Rattle.its_plain.specs.Machine.{Whole, Machine}
+use Rattle.its_plain.specs.Unit.{Called, unit}
+use Rattle.its_parts.specs.Parts.{alarm_at, bare, chans_of}
+use Rattle.its_decide.specs.declared.caller.Seen.{Seen}
+use Rattle.its_direct.specs.Effects.{Becomes}
 use Rattle.its_direct.specs.Plain.{machine_of, is_touched}
 use Rattle.its_direct.specs.declared.plain.Plain.{Plain}
 use Rattle.its_direct.specs.declared.users.Begun.{Begun}
@@ -28,10 +35,11 @@ pub record SteppedBy (old new : Plain) (o : Option Transition) : Type 0 where
   pub is : o ≡ Some transition
   pub steps : Steps old new transition
 
--- the step of a job is that of its call at a site
+-- the step of a job is that of its call at a site, to which its unit comes
 pub record CallsAt (m : Machine) (j : ℕ) (s : Site) (o : Option Transition) : Type 0 where
   pub own : Whole
   pub had : m.jobs j ≡ Some own
+  pub unit : unit own.core own.job ≡ Called s
   pub is : o ≡ by_ask m j own (ask own.core s)
 
 -- the step of slot j's job, as far as it is made before its call is decoded: there is none; it was made; or it is that of a
@@ -40,3 +48,47 @@ abbrev pub Begins : Begun → Option Transition → Plain → Plain → ℕ → 
 Begins Still o old new j = (o ≡ None) × (new ≡ old)
 Begins Stepped o old new j = SteppedBy old new o
 Begins (Calls s) o old new j = CallsAt (machine_of old) j s o × (new ≡ old)
+
+-- the job of a slot that has these registers, as it stands in the machine
+abbrev pub own_of : Plain → ℕ → Job → Whole
+own_of p s j = record {
+  core = core_at p.core s;
+  job = bare j;
+  superior = superior_at p.jobs s;
+  channels = chans_of p.files j;
+  alarm = alarm_at p.alarms.items s;
+}
+
+-- the parts of a machine, as they are lent
+pub record Lent (p : Plain) (s : Seen) : Type 0 where
+  pub core : s.core.now ≡ p.core
+  pub jobs : s.jobs.now ≡ p.jobs
+  pub consoles : s.consoles.now ≡ p.consoles
+  pub holders : s.holders.now ≡ p.holders
+  pub files : s.files.now ≡ p.files
+  pub clock : s.clock ≡ p.clock
+  pub alarms : s.alarms.now ≡ p.alarms
+  pub version : s.version ≡ p.version
+  pub symbols : s.symbols.now ≡ p.symbols
+
+-- the machine of a transition stands, before the slots that it touches are marked; or there is none, and nothing has changed
+abbrev pub Acts : Bool → Option Transition → Plain → Plain → Type 0
+Acts true (Some t) old new = Becomes old new t.machine
+Acts false None old new = new ≡ old
+Acts true None old new = ⊥
+Acts false (Some t) old new = ⊥
+
+-- a slot is marked, where one list says that the step disturbs it, or where it has a job now and another says that it had none
+abbrev pub marked_by : List Bool → List Bool → Plain → ℕ → Bool
+marked_by disturbed stood p k =
+    slice_index_or disturbed k false || (not (slice_index_or stood k false) && is_some (job_at p.jobs k))
+
+-- a step is made, or there is none and nothing has changed
+abbrev pub Makes : Bool → Option Transition → Plain → Plain → Type 0
+Makes true o old new = SteppedBy old new o
+Makes false o old new = (o ≡ None) × (new ≡ old)
+
+-- no slot loses its job but slot s and those that are touched
+abbrev pub LosesOnly : Plain → Plain → ℕ → Type 0
+LosesOnly old new s =
+    (k : ℕ) → (machine_of new).jobs k ≡ None → ((machine_of old).jobs k ≡ None) ⊎ ((k ≡ s) ⊎ (is_touched new k ≡ true))

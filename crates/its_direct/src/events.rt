@@ -1,16 +1,19 @@
 //! The events of a session, each by its line.
-ghost use Rattle.std.specs.Prelude.{◌≡◌, ◌<◌, ◌≤◌, ◌+◌, ◌^◌, IfSome, OnErr, length};
+ghost use Rattle.std.specs.Prelude.{◌≡◌, ◌<◌, ◌≤◌, ◌+◌, ◌^◌, IfSome, IfOk, OnErr, length};
 ghost use Rattle.its_word.specs.Limits.{slots};
 ghost use Rattle.its_word.specs.declared.session.Event.TheVariants as told;
+ghost use Rattle.its_word.specs.declared.session.Place.TheVariants as places;
+ghost use Rattle.its_session.specs.Events.{place_after};
+ghost use Rattle.its_session.specs.Fits.{EventFits};
 ghost use Rattle.its_plain.specs.Own.{names_of};
 ghost use Rattle.its_stepped.specs.Alarmed.{Alarmed};
 ghost use Rattle.its_direct.specs.Plain.{machine_of, Tidy};
 ghost use Rattle.its_direct.specs.declared.plain.Spot.TheVariants as spots;
-ghost use Rattle.its_direct.specs.Events.{Told, answered};
+ghost use Rattle.its_direct.specs.Events.{answered, place_of, IsTold, JobsStay, Kept, MayStand, Spares, SpotFits, Told};
 
 use super::plain::{Plain, Spot};
 use arrayvec::ArrayVec;
-use its_word::{Refusal, Word};
+use its_word::{Event, Refusal, Word};
 
 /// What an event shows that cannot be read from the machine after it.
 #[derive(Debug, Drop)]
@@ -25,8 +28,78 @@ pub enum Answer {
 }
 
 impl Plain {
+    /// An event of a session other than ticks, turns of RUN and END: the operator's line exactly. A line that is refused
+    /// changes nothing; but of words for which there is no room, those before the first that has none are stored.
+    #[tactic(auto, using(crate::proofs::ToldLaws::told_kept, crate::proofs::ToldLaws::told_place, crate::proofs::ToldLaws::told_jobs))]
+    pub fn event(&mut self, event: &Event) -> Result<Answer, Refusal>
+        requires told { IsTold event.now }
+        requires fits { EventFits 2 event.now }
+        requires stands { MayStand (place_of self.old.place) event.now }
+        requires kept { Kept self.old }
+        ensures told { Told event.now self.old self.new result }
+        ensures same { OnErr result (Spares event.now self.old self.new) }
+        ensures place { IfOk result (λ _. place_of self.new.place ≡ place_after (place_of self.old.place) event.now) }
+        ensures jobs { JobsStay self.old self.new }
+        ensures kept { Kept self.new }
+    {
+        self.tell_event(event)
+    }
+
+    /// The line of an event, by its kind.
+    #[tactic(auto, unfolding(its_session::specs::Grammar::last_slot))]
+    fn tell_event(&mut self, event: &Event) -> Result<Answer, Refusal>
+        requires told { IsTold event.now }
+        requires fits { EventFits 2 event.now }
+        requires stands { MayStand (place_of self.old.place) event.now }
+        requires kept { Kept self.old }
+        ensures told { Told event.now self.old self.new result }
+        ensures same { OnErr result (Spares event.now self.old self.new) }
+        ensures tidy { Tidy self.new }
+    {
+        match event {
+            Event::Nothing => self.tell_nothing(),
+            Event::Version { v } => self.tell_version(*v),
+            Event::Load { u, j, console } => self.tell_load(*u, *j, *console),
+            Event::Words { a, words } => self.tell_words(*a, words),
+            Event::ReadOnly { page } => self.tell_read_only(*page),
+            Event::Symbol { name, a } => self.tell_symbol(*name, *a),
+            Event::Go { a } => self.tell_go(*a),
+            Event::File { d, x, y } => self.tell_file(*d, *x, *y),
+            Event::Append { words } => self.tell_append(words),
+            Event::EndFile => self.tell_end_file(),
+            Event::TypeIn { c, bytes } => self.tell_type(*c, bytes),
+            Event::Drain { c, n } => self.tell_drain(*c, *n),
+            Event::Clock { n } => self.tell_clock(*n),
+            Event::Int { s, v, w } => self.tell_int(*s, *v, *w),
+            Event::Exam { s, a, n } => self.tell_exam(*s, *a, *n),
+            Event::List { s, a, n } => self.tell_list(*s, *a, *n),
+            Event::State { s } => self.tell_state(*s),
+            Event::Deposit { s, a, w } => self.tell_deposit(*s, *a, *w),
+            Event::Stop { s } => self.tell_stop(*s),
+            Event::Cont { s } => self.tell_cont(*s),
+            Event::Peek { s } => self.tell_peek(*s),
+            Event::Dir { d } => self.tell_dir(*d),
+            Event::Show { d, x, y } => self.tell_show(*d, *x, *y),
+            Event::Tick { .. } => unreachable!(),
+            Event::Run { .. } => unreachable!(),
+            Event::End => unreachable!(),
+        }
+    }
+
+    /// An empty line, or one of a comment.
+    #[tactic(auto, using(crate::proofs::SlotLaws::touched_tidy))]
+    fn tell_nothing(&mut self) -> Result<Answer, Refusal>
+        requires tidy { Tidy self.old }
+        ensures told { Told told.Nothing self.old self.new result }
+        ensures same { OnErr result (self.new ≡ self.old) }
+        ensures tidy { Tidy self.new }
+    {
+        self.touch_none();
+        Ok(Answer::Nothing)
+    }
+
     /// INT.
-    pub fn tell_int(&mut self, s: u8, v: Word, w: Word) -> Result<Answer, Refusal>
+    fn tell_int(&mut self, s: u8, v: Word, w: Word) -> Result<Answer, Refusal>
         requires slot { s < slots }
         requires tidy { Tidy self.old }
         ensures told { Told (told.Int s v w) self.old self.new result }
@@ -37,7 +110,7 @@ impl Plain {
     }
 
     /// DEPOSIT.
-    pub fn tell_deposit(&mut self, s: u8, a: u32, w: Word) -> Result<Answer, Refusal>
+    fn tell_deposit(&mut self, s: u8, a: u32, w: Word) -> Result<Answer, Refusal>
         requires slot { s < slots }
         requires address { a < 2 ^ 18 }
         requires tidy { Tidy self.old }
@@ -49,7 +122,7 @@ impl Plain {
     }
 
     /// STOP.
-    pub fn tell_stop(&mut self, s: u8) -> Result<Answer, Refusal>
+    fn tell_stop(&mut self, s: u8) -> Result<Answer, Refusal>
         requires slot { s < slots }
         requires tidy { Tidy self.old }
         ensures told { Told (told.Stop s) self.old self.new result }
@@ -60,7 +133,7 @@ impl Plain {
     }
 
     /// CONT.
-    pub fn tell_cont(&mut self, s: u8) -> Result<Answer, Refusal>
+    fn tell_cont(&mut self, s: u8) -> Result<Answer, Refusal>
         requires slot { s < slots }
         requires tidy { Tidy self.old }
         ensures told { Told (told.Cont s) self.old self.new result }
@@ -71,7 +144,7 @@ impl Plain {
     }
 
     /// EXAM; the words are read from the machine.
-    pub fn tell_exam(&mut self, s: u8, a: u32, n: u32) -> Result<Answer, Refusal>
+    fn tell_exam(&mut self, s: u8, a: u32, n: u32) -> Result<Answer, Refusal>
         requires slot { s < slots }
         requires address { a < 2 ^ 18 }
         requires number { n ≤ 2 ^ 18 }
@@ -83,8 +156,32 @@ impl Plain {
         answered(self.exam(s, a, n))
     }
 
+    /// LIST; the words are read from the machine.
+    fn tell_list(&mut self, s: u8, a: u32, n: u32) -> Result<Answer, Refusal>
+        requires slot { s < slots }
+        requires address { a < 2 ^ 18 }
+        requires number { n ≤ 2 ^ 18 }
+        requires tidy { Tidy self.old }
+        ensures told { Told (told.List s a n) self.old self.new result }
+        ensures same { OnErr result (self.new ≡ self.old) }
+        ensures tidy { Tidy self.new }
+    {
+        answered(self.exam(s, a, n))
+    }
+
+    /// PEEK, whose line no machine of this kind can show.
+    fn tell_peek(&mut self, s: u8) -> Result<Answer, Refusal>
+        requires slot { s < slots }
+        requires tidy { Tidy self.old }
+        ensures told { Told (told.Peek s) self.old self.new result }
+        ensures same { OnErr result (self.new ≡ self.old) }
+        ensures tidy { Tidy self.new }
+    {
+        answered(self.peek(s))
+    }
+
     /// STATE; the registers are read from the machine.
-    pub fn tell_state(&mut self, s: u8) -> Result<Answer, Refusal>
+    fn tell_state(&mut self, s: u8) -> Result<Answer, Refusal>
         requires slot { s < slots }
         requires tidy { Tidy self.old }
         ensures told { Told (told.State s) self.old self.new result }
@@ -95,7 +192,7 @@ impl Plain {
     }
 
     /// CLOCK.
-    pub fn tell_clock(&mut self, n: u64) -> Result<Answer, Refusal>
+    fn tell_clock(&mut self, n: u64) -> Result<Answer, Refusal>
         requires alarmed { Alarmed (machine_of self.old) }
         requires tidy { Tidy self.old }
         ensures told { Told (told.Clock n) self.old self.new result }
@@ -106,7 +203,7 @@ impl Plain {
     }
 
     /// FILE.
-    pub fn tell_file(&mut self, d: Word, x: Word, y: Word) -> Result<Answer, Refusal>
+    fn tell_file(&mut self, d: Word, x: Word, y: Word) -> Result<Answer, Refusal>
         requires tidy { Tidy self.old }
         ensures told { Told (told.File d x y) self.old self.new result }
         ensures same { OnErr result (self.new ≡ self.old) }
@@ -116,65 +213,60 @@ impl Plain {
     }
 
     /// An a/ line.
-    pub fn tell_words(
-        &mut self,
-        slot: u8,
-        a: u32,
-        words: &ArrayVec<Word, 16>,
-    ) -> Result<Answer, Refusal>
-        requires place { self.old.place ≡ spots.Load slot }
-        requires slot { slot < slots }
+    fn tell_words(&mut self, a: u32, words: &ArrayVec<Word, 16>) -> Result<Answer, Refusal>
+        requires place { place_of self.old.place ≡ places.Load }
+        requires placed { SpotFits self.old.place }
         requires some { 1 ≤ length words.now.items }
         requires end { a + length words.now.items ≤ 2 ^ 18 }
         requires tidy { Tidy self.old }
         ensures told { Told (told.Words a words.now) self.old self.new result }
+        ensures same { OnErr result (Spares (told.Words a words.now) self.old self.new) }
         ensures tidy { Tidy self.new }
     {
+        let slot = self.block_slot();
         answered(self.load_words(slot, a, words.as_slice()))
     }
 
     /// RO.
-    pub fn tell_read_only(&mut self, slot: u8, page: u8) -> Result<Answer, Refusal>
-        requires place { self.old.place ≡ spots.Load slot }
-        requires slot { slot < slots }
+    fn tell_read_only(&mut self, page: u8) -> Result<Answer, Refusal>
+        requires place { place_of self.old.place ≡ places.Load }
+        requires placed { SpotFits self.old.place }
         requires tidy { Tidy self.old }
         ensures told { Told (told.ReadOnly page) self.old self.new result }
         ensures same { OnErr result (self.new ≡ self.old) }
         ensures tidy { Tidy self.new }
     {
+        let slot = self.block_slot();
         answered(self.read_only(slot, page))
     }
 
     /// SYM.
-    pub fn tell_symbol(&mut self, slot: u8, name: Word, a: u32) -> Result<Answer, Refusal>
-        requires place { self.old.place ≡ spots.Load slot }
-        requires slot { slot < slots }
+    fn tell_symbol(&mut self, name: Word, a: u32) -> Result<Answer, Refusal>
+        requires place { place_of self.old.place ≡ places.Load }
+        requires placed { SpotFits self.old.place }
         requires tidy { Tidy self.old }
         ensures told { Told (told.Symbol name a) self.old self.new result }
         ensures same { OnErr result (self.new ≡ self.old) }
         ensures tidy { Tidy self.new }
     {
+        let slot = self.block_slot();
         answered(self.symbol(slot, name, a))
     }
 
     /// Words of a FILE block.
-    pub fn tell_append(
-        &mut self,
-        d: Word,
-        x: Word,
-        y: Word,
-        words: &ArrayVec<Word, 16>,
-    ) -> Result<Answer, Refusal>
-        requires place { self.old.place ≡ spots.File (names_of d x y) }
+    fn tell_append(&mut self, words: &ArrayVec<Word, 16>) -> Result<Answer, Refusal>
+        requires place { place_of self.old.place ≡ places.File }
         requires tidy { Tidy self.old }
         ensures told { Told (told.Append words.now) self.old self.new result }
+        ensures same { OnErr result (Spares (told.Append words.now) self.old self.new) }
         ensures tidy { Tidy self.new }
     {
+        let (d, x, y) = self.block_file();
         answered(self.append_words(d, x, y, words.as_slice()))
     }
 
     /// LOAD.
-    pub fn tell_load(&mut self, u: Word, j: Word, console: Option<u8>) -> Result<Answer, Refusal>
+    fn tell_load(&mut self, u: Word, j: Word, console: Option<u8>) -> Result<Answer, Refusal>
         requires console { IfSome console (λ c. c < 8) }
         requires tidy { Tidy self.old }
         ensures told { Told (told.Load u j console) self.old self.new result }
@@ -188,7 +280,7 @@ impl Plain {
     }
 
     /// TYPE.
-    pub fn tell_type(&mut self, c: u8, bytes: &ArrayVec<u8, 32>) -> Result<Answer, Refusal>
+    fn tell_type(&mut self, c: u8, bytes: &ArrayVec<u8, 32>) -> Result<Answer, Refusal>
         requires console { c < 8 }
         requires tidy { Tidy self.old }
         ensures told { Told (told.TypeIn c bytes.now) self.old self.new result }
@@ -199,7 +291,7 @@ impl Plain {
     }
 
     /// DRAIN.
-    pub fn tell_drain(&mut self, c: u8, n: u32) -> Result<Answer, Refusal>
+    fn tell_drain(&mut self, c: u8, n: u32) -> Result<Answer, Refusal>
         requires console { c < 8 }
         requires number { n ≤ 64 }
         requires tidy { Tidy self.old }
@@ -212,15 +304,16 @@ impl Plain {
 
     /// GO, after which the LOAD block has ended.
     #[tactic(auto, using(crate::proofs::LoadLaws::placed_tidy))]
-    pub fn tell_go(&mut self, slot: u8, a: u32) -> Result<Answer, Refusal>
-        requires place { self.old.place ≡ spots.Load slot }
-        requires slot { slot < slots }
+    fn tell_go(&mut self, a: u32) -> Result<Answer, Refusal>
+        requires place { place_of self.old.place ≡ places.Load }
+        requires placed { SpotFits self.old.place }
         requires address { a < 2 ^ 18 }
         requires tidy { Tidy self.old }
         ensures told { Told (told.Go a) self.old self.new result }
         ensures same { OnErr result (self.new ≡ self.old) }
         ensures tidy { Tidy self.new }
     {
+        let slot = self.block_slot();
         match self.go(slot, a) {
             Ok(()) => {
                 self.set_place(Spot::Plain);
@@ -231,7 +324,7 @@ impl Plain {
     }
 
     /// EOF.
-    pub fn tell_end_file(&mut self) -> Result<Answer, Refusal>
+    fn tell_end_file(&mut self) -> Result<Answer, Refusal>
         requires tidy { Tidy self.old }
         ensures told { Told told.EndFile self.old self.new result }
         ensures same { OnErr result (self.new ≡ self.old) }
@@ -242,7 +335,7 @@ impl Plain {
     }
 
     /// VERSION.
-    pub fn tell_version(&mut self, v: u8) -> Result<Answer, Refusal>
+    fn tell_version(&mut self, v: u8) -> Result<Answer, Refusal>
         requires known { (1 ≤ v) × (v ≤ 2) }
         requires tidy { Tidy self.old }
         ensures told { Told (told.Version v) self.old self.new result }
@@ -255,7 +348,7 @@ impl Plain {
 
     /// DIR; the files are read from the machine.
     #[tactic(auto, using(crate::proofs::EventLaws::told_dir, crate::proofs::SlotLaws::touched_tidy))]
-    pub fn tell_dir(&mut self, d: Word) -> Result<Answer, Refusal>
+    fn tell_dir(&mut self, d: Word) -> Result<Answer, Refusal>
         requires tidy { Tidy self.old }
         ensures told { Told (told.Dir d) self.old self.new result }
         ensures same { OnErr result (self.new ≡ self.old) }
@@ -263,6 +356,49 @@ impl Plain {
     {
         self.touch_none();
         Ok(Answer::Nothing)
+    }
+
+    /// SHOW; the words are read from the machine. NoFile where there is no such file.
+    #[tactic(auto, using(crate::proofs::SlotLaws::touched_tidy))]
+    fn tell_show(&mut self, d: Word, x: Word, y: Word) -> Result<Answer, Refusal>
+        requires tidy { Tidy self.old }
+        ensures told { Told (told.Show d x y) self.old self.new result }
+        ensures same { OnErr result (self.new ≡ self.old) }
+        ensures tidy { Tidy self.new }
+    {
+        match self.file(d, x, y) {
+            Some(_) => {
+                self.touch_none();
+                Ok(Answer::Nothing)
+            }
+            None => Err(Refusal::NoFile),
+        }
+    }
+
+    /// The slot of the job whose LOAD block the next line stands in.
+    fn block_slot(&self) -> u8
+        requires place { place_of self.now.place ≡ places.Load }
+        requires placed { SpotFits self.now.place }
+        ensures place { self.now.place ≡ spots.Load result }
+        ensures slot { result < slots }
+    {
+        match self.place {
+            Spot::Load { slot } => slot,
+            Spot::Plain => unreachable!(),
+            Spot::File { .. } => unreachable!(),
+        }
+    }
+
+    /// The directory and the names of the file whose FILE block the next line stands in.
+    fn block_file(&self) -> (Word, Word, Word)
+        requires place { place_of self.now.place ≡ places.File }
+        ensures { self.now.place ≡ spots.File (names_of result.0 result.1 result.2) }
+    {
+        match self.place {
+            Spot::File { names } => (names[0], names[1], names[2]),
+            Spot::Plain => unreachable!(),
+            Spot::Load { .. } => unreachable!(),
+        }
     }
 }
 

@@ -1,11 +1,11 @@
 //! The lines FILE, its words and EOF.
-ghost use Rattle.std.specs.Prelude.{◌≡◌, ◌<◌, ◌≤◌, ◌+◌, ◌∷◌, ◌++◌, [], true, None, Ok, Err, OnOk, OnErr, IfErr, length};
+ghost use Rattle.std.specs.Prelude.{◌≡◌, ◌<◌, ◌≤◌, ◌+◌, ◌∷◌, ◌++◌, [], true, None, Ok, Err, OnOk, OnErr, IfErr, length, take};
 ghost use Rattle.its_files.specs.Files.{entry_at, found, is_file, most_files, names_at};
 ghost use Rattle.its_plain.specs.OperatorFiles.{file_made, word_added, words_added};
 ghost use Rattle.its_plain.specs.Own.{names_of};
 ghost use Rattle.its_direct.specs.Plain.{machine_of, Tidy};
 ghost use Rattle.its_direct.specs.declared.plain.Spot.TheVariants.{Plain as Outside, File as InFile};
-ghost use Rattle.its_direct.specs.Lines.{reason_of, Keeps};
+ghost use Rattle.its_direct.specs.Lines.{reason_of, Keeps, Partly};
 ghost use Rattle.its_direct.specs.Filing.{Leads};
 
 use super::plain::{Plain, Spot};
@@ -44,6 +44,7 @@ impl Plain {
         requires tidy { Tidy self.old }
         ensures done { OnOk result (Keeps self.old self.new (words_added (machine_of self.old) (names_of d x y) words.now)) }
         ensures refused { IfErr result (λ e. words_added (machine_of self.old) (names_of d x y) words.now ≡ Err (reason_of e)) }
+        ensures part { OnErr result (Partly self.old self.new (λ n. words_added (machine_of self.old) (names_of d x y) (take n words.now))) }
         ensures tidy { Tidy self.new }
     {
         match self.files.find(d, x, y) {
@@ -61,6 +62,7 @@ impl Plain {
         requires tidy { Tidy self.old }
         ensures done { OnOk result (Keeps self.old self.new (words_added (machine_of self.old) (names_at self.old.files id) words.now)) }
         ensures refused { IfErr result (λ e. words_added (machine_of self.old) (names_at self.old.files id) words.now ≡ Err (reason_of e)) }
+        ensures part { OnErr result (Partly self.old self.new (λ n. words_added (machine_of self.old) (names_at self.old.files id) (take n words.now))) }
         ensures tidy { Tidy self.new }
     {
         match self.add_words(id, words) {
@@ -73,12 +75,13 @@ impl Plain {
     }
 
     /// Words more at the end of a file, in their order.
-    #[tactic(auto, using(crate::proofs::FileLaws::adding_starts, crate::proofs::FileLaws::adding_ends))]
+    #[tactic(auto, using(crate::proofs::FileLaws::adding_starts, crate::proofs::FileLaws::adding_part, crate::proofs::FileLaws::adding_ends))]
     fn add_words(&mut self, id: u32, words: &[Word]) -> Result<(), Refusal>
         requires file { is_file (entry_at self.old.files id) ≡ true }
         requires tidy { Tidy self.old }
         ensures done { OnOk result (words_added (machine_of self.old) (names_at self.old.files id) words.now ≡ Ok (machine_of self.new)) }
         ensures refused { IfErr result (λ e. words_added (machine_of self.old) (names_at self.old.files id) words.now ≡ Err (reason_of e)) }
+        ensures part { OnErr result (Partly self.old self.new (λ n. words_added (machine_of self.old) (names_at self.old.files id) (take n words.now))) }
         ensures place { self.new.place ≡ self.old.place }
         ensures tidy { Tidy self.new }
     {

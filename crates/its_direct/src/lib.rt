@@ -1,6 +1,5 @@
-//! The plain machine in running form, on which the checker of transcripts is to stand. It has no call in progress: a whole
-//! call is one step. So far it has its beginning, the step of a job in user mode, the decoding of a call, and the
-//! operator's lines, each also as an event of a session.
+//! The plain machine in running form, on which the checker of transcripts stands. It has no call in progress: a whole
+//! call is one step. It has its beginning, the step of a job, and the operator's lines, each also as an event of a session.
 #![tactic(auto)]
 
 mod asking;
@@ -15,9 +14,14 @@ mod lines;
 mod loading;
 mod plain;
 mod removal;
+mod series;
 mod settings;
+mod shown;
 mod sorting;
+#[cfg(test)]
+mod step_tests;
 mod stepping;
+mod steps;
 #[cfg(test)]
 mod tests;
 mod users;

@@ -18,7 +18,7 @@ use its_word::{Exit, Store};
 impl Plain {
     /// Makes the changes of a call of slot's job, in their order.
     #[tactic(auto, using(crate::proofs::ActLaws::applying_start, crate::proofs::ActLaws::applying_can, crate::proofs::ActLaws::applying_end))]
-    fn apply(&mut self, slot: u8, changes: &[Change])
+    pub(crate) fn apply(&mut self, slot: u8, changes: &[Change])
         requires slot { slot < slots }
         requires can { CanMakeAll changes.now slot (machine_of self.old) }
         requires tidy { Tidy self.old }

@@ -3,7 +3,7 @@ ghost use Rattle.its_direct.specs.Plain.{Tidy};
 ghost use Rattle.std.specs.Prelude.{◌<◌};
 
 use super::{Begun, Plain, Spot};
-use its_word::{ILO, Refusal, Word};
+use its_word::{Event, ILO, Refusal, Word};
 use std::process::Abort;
 use std::test::Fail;
 
@@ -17,6 +17,8 @@ enum Line {
     Int(u64),
     State,
     Exam(u32, u32),
+    Words(u32, u64),
+    ReadOnly(u8),
     Step,
 }
 
@@ -52,6 +54,11 @@ fn run_line(rt: &impl Abort, p: &mut Plain, slot: u8, line: Line) -> Result<Came
             assert!(rt; n <= 0o777777);
             p.exam(slot, a, n)?;
         }
+        Line::Words(a, w) => {
+            assert!(rt; a < 0o777777);
+            p.load_words(slot, a, &[Word::new(w), Word::ZERO])?;
+        }
+        Line::ReadOnly(page) => p.read_only(slot, page)?,
         Line::Step => match p.begin(slot) {
             Begun::Still => return Ok(Came::Still),
             Begun::Stepped => {}
@@ -83,6 +90,9 @@ fn lines_and_steps(rt: HostRuntime) -> Result<(), Fail> {
         (Line::Deposit(0o2000, 0), Err(Refusal::NoPage)),
         (Line::Exam(0, 0o20), Ok(Came::Done)),
         (Line::Exam(0o17, 2), Err(Refusal::NoPage)),
+        (Line::Words(0o1777, 1), Ok(Came::Done)),
+        (Line::ReadOnly(1), Ok(Came::Done)),
+        (Line::Words(0o1777, 1), Err(Refusal::ReadOnly)),
         (Line::Step, Ok(Came::Still)),
         (Line::Go(2), Ok(Came::Done)),
         (Line::Step, Ok(Came::Done)),
@@ -100,8 +110,60 @@ fn lines_and_steps(rt: HostRuntime) -> Result<(), Fail> {
     assert_eq!(&rt; p.drain(3, 64).len(), 0);
     assert_eq!(&rt; p.symbol(0, Word::new(0o123), 2), Ok(()));
     assert_eq!(&rt; (p.peek(1), p.peek(2)), (Ok(()), Err(Refusal::NoJob)));
-    assert_eq!(&rt; p.read_only(0, 0), Err(Refusal::NoPage));
+    assert_eq!(&rt; p.read_only(0, 2), Err(Refusal::NoPage));
+    if let Ok(words) = p.words(0, 0o1777, 2) {
+        assert_eq!(&rt; words.as_slice().first(), Some(&Word::new(1)));
+    }
+    if let Ok(show) = p.shown(0) {
+        assert_eq!(&rt;
+            (show.symbol, show.con),
+            (Some((Word::new(0o123), 1)), Some(3))
+        );
+    }
     p.version(2);
     assert_eq!(&rt; p.version, 2);
+    Ok(())
+}
+
+/// A file is made, gains words, and is listed and shown; the clock does not come to its end.
+#[test]
+#[tactic(auto, using(crate::proofs::ToldLaws::alarmed_open))]
+fn files_and_clock(rt: HostRuntime) -> Result<(), Fail> {
+    let mut p = Plain::open(rt.alloc())?;
+    let (d, x, y) = (Word::new(1), Word::new(2), Word::new(3));
+    assert_eq!(&rt; p.advance(0o200000000000), Err(Refusal::Range));
+    assert_eq!(&rt; p.make_file(d, x, y), Ok(()));
+    assert_eq!(&rt; p.place, Spot::File { names: [d, x, y] });
+    assert_eq!(&rt;
+        p.append_words(d, x, y, &[d, x, y, d, x, y, d, x, y]),
+        Ok(())
+    );
+    p.end_file();
+    assert_eq!(&rt; p.make_file(d, x, y), Err(Refusal::Exists));
+    assert_eq!(&rt;
+        (p.place, p.listed(d).len(), p.listed(x).len()),
+        (Spot::Plain, 1, 0)
+    );
+    if let Some(id) = p.file(d, x, y) {
+        assert_eq!(&rt;
+            (
+                p.row(id, 0).len(),
+                p.row(id, 1).as_slice().first() == Some(&y)
+            ),
+            (8, true)
+        );
+    }
+    Ok(())
+}
+
+/// An event is a line of the operator.
+#[test]
+#[tactic(auto, using(crate::proofs::ToldLaws::kept_starts))]
+fn events(rt: HostRuntime) -> Result<(), Fail> {
+    let mut p = Plain::open(rt.alloc())?;
+    assert_eq!(&rt; p.event(&Event::Clock { n: 5 }).is_ok(), true);
+    assert_eq!(&rt; p.clock, 5);
+    let mut q = Plain::open(rt.alloc())?;
+    assert_eq!(&rt; q.event(&Event::State { s: 0 }).is_ok(), false);
     Ok(())
 }

@@ -12,7 +12,7 @@ ghost use Rattle.its_direct.specs.Steps.{Begins, SteppedBy};
 use super::plain::Plain;
 use its_ints::{deliver, deliverable};
 use its_word::{INF, Job, Site, Word};
-use pdp_exec::{Ended, run, site};
+use pdp_exec::site;
 
 /// What the step of a slot's job begins with.
 #[derive(Debug, PartialEq, Eq, Drop)]
@@ -49,6 +49,7 @@ impl Plain {
     }
 
     /// The unit of a slot's job that has these registers, unless it is a call.
+    #[tactic(auto, using(crate::proofs::SeriesLaws::one_stepped, crate::proofs::SeriesLaws::none_called))]
     fn make_unit(&mut self, slot: u8, job: Job) -> Begun
         requires slot { slot < slots }
         requires job { job_at self.old.jobs slot ≡ Some job }
@@ -59,14 +60,11 @@ impl Plain {
         ensures row { Begins result (transition (machine_of self.old) slot) self.old self.new slot }
         ensures tidy { Tidy self.new }
     {
-        let mut after = job;
-        match run(&mut self.core, slot, &mut after) {
-            Ended::Done => self.put_job(slot, after),
-            Ended::Fault(bit) => self.put_job(slot, with_bits(job, bit)),
-            Ended::Call => return Begun::Calls(site(&self.core, slot, &job)),
+        if self.units(slot, job, 1) == 1 {
+            Begun::Stepped
+        } else {
+            Begun::Calls(site(&self.core, slot, &job))
         }
-        self.touch_none();
-        Begun::Stepped
     }
 
     /// The delivery of an interrupt to a slot's job that has these registers. Where a fatal bit stops the job, INF is set in

@@ -1,5 +1,5 @@
 //! The words of a LOAD block.
-ghost use Rattle.std.specs.Prelude.{◌≡◌, ◌<◌, ◌≤◌, ◌+◌, ◌-◌, ◌/◌, ◌^◌, true, false, Some, None, Ok, Err, OnOk, OnErr, IfErr, is_some, length};
+ghost use Rattle.std.specs.Prelude.{◌≡◌, ◌<◌, ◌≤◌, ◌+◌, ◌-◌, ◌/◌, ◌^◌, true, false, Some, None, Ok, Err, OnOk, OnErr, IfErr, is_some, length, take};
 ghost use Rattle.its_word.specs.Core.{can_store, page_of, pages_mapped, put as put_at, store, with_page, zero_page};
 ghost use Rattle.its_word.specs.Limits.{most_pages, slots};
 ghost use Rattle.its_word.specs.Only.{Only, Same};
@@ -7,7 +7,7 @@ ghost use Rattle.its_core.specs.Cores.{clear_at, core_at};
 ghost use Rattle.its_jobs.specs.Table.{job_at};
 ghost use Rattle.its_plain.specs.OperatorJobs.{any_barred, is_barred, word_loaded, words_loaded, words_stored};
 ghost use Rattle.its_direct.specs.Plain.{machine_of, CoreBecomes, Tidy};
-ghost use Rattle.its_direct.specs.Lines.{reason_of, Operates};
+ghost use Rattle.its_direct.specs.Lines.{reason_of, Operates, Partly};
 
 use super::plain::Plain;
 use its_core::{Core, Full};
@@ -24,6 +24,7 @@ impl Plain {
         requires tidy { Tidy self.old }
         ensures done { OnOk result (Operates self.old self.new slot (words_loaded (machine_of self.old) slot a words.now)) }
         ensures refused { IfErr result (λ e. words_loaded (machine_of self.old) slot a words.now ≡ Err (reason_of e)) }
+        ensures part { OnErr result (Partly self.old self.new (λ n. words_loaded (machine_of self.old) slot a (take n words.now))) }
         ensures tidy { Tidy self.new }
     {
         let Some(_job) = self.job(slot) else {
@@ -42,7 +43,7 @@ impl Plain {
     }
 
     /// Stores words of a slot that has a job, from an address on, in their order.
-    #[tactic(auto, using(crate::proofs::LoadedLaws::storing_starts, crate::proofs::LoadedLaws::storing_ends))]
+    #[tactic(auto, using(crate::proofs::LoadedLaws::storing_starts, crate::proofs::LoadedLaws::storing_part, crate::proofs::LoadedLaws::storing_ends))]
     fn store_words(&mut self, slot: u8, a: u32, words: &[Word]) -> Result<(), Refusal>
         requires slot { slot < slots }
         requires end { a + length words.now ≤ 2 ^ 18 }
@@ -50,6 +51,7 @@ impl Plain {
         requires tidy { Tidy self.old }
         ensures done { OnOk result (words_stored (machine_of self.old) slot a words.now ≡ Ok (machine_of self.new)) }
         ensures refused { IfErr result (λ e. words_stored (machine_of self.old) slot a words.now ≡ Err (reason_of e)) }
+        ensures part { OnErr result (Partly self.old self.new (λ n. words_stored (machine_of self.old) slot a (take n words.now))) }
         ensures place { self.new.place ≡ self.old.place }
         ensures tidy { Tidy self.new }
     {

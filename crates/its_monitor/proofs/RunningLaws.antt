@@ -1,5 +1,5 @@
 -- Whether the job of a slot runs: its raw registers tell.
-use Rattle.std.specs.Prelude.{◌≡◌, ℕ, not, false, Option, Some, None, refl}
+use Rattle.std.specs.Prelude.{◌≡◌, ℕ, not, false, Option, Some, None}
 use Rattle.std.proofs.Common.{sym, ap}
 use Rattle.its_word.specs.declared.jobs.Job.{Job}
 use Rattle.its_core.specs.Cores.{core_at}

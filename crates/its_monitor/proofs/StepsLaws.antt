@@ -1,11 +1,9 @@
 -- Units of one job, one after another: so many of them are so many ticks.
-use Rattle.std.specs.Prelude.{length, if◌then◌else◌, ◌≡◌, ◌≢◌, ◌==◌, ◌<◌, ◌≤◌, ◌+◌, ℕ, zero, suc, Bool, true, false, Option, Some, None, IfSome, is_some, List, ◌∷◌, replicate, option_map, slice_set, vec_len, refl}
+use Rattle.std.specs.Prelude.{length, if◌then◌else◌, ◌≡◌, ◌≢◌, ◌==◌, ◌<◌, ◌≤◌, ℕ, zero, suc, Bool, true, false, Option, Some, None, IfSome, is_some, ◌∷◌, replicate, option_map, slice_set, vec_len, refl}
 use Rattle.std.proofs.Common.{sym, ◌∙◌, ap, subst, arith, inl, inr}
 use Rattle.std.proofs.lemmas.Bool.{cases_Bool}
 use Rattle.std.proofs.lemmas.Bool.Decides.{nat_tests}
-use Rattle.its_word.specs.Core.{Core}
 use Rattle.its_word.specs.Limits.{slots, limit_of}
-use Rattle.its_word.specs.declared.calls.Pace.{Pace}
 use Rattle.its_word.specs.declared.calls.Pace.TheVariants.{Step}
 use Rattle.its_word.specs.declared.jobs.Job.{Job}
 use Rattle.its_word.proofs.FreeLaws.{none_is}
@@ -15,10 +13,9 @@ use Rattle.its_frame.specs.declared.frame.Frame.{Frame}
 use Rattle.its_plain.specs.CallStep.{becomes, faulted}
 use Rattle.its_plain.specs.Interrupt.{deliverable}
 use Rattle.its_plain.specs.Job.{bit_of, with_pending}
-use Rattle.its_plain.specs.Machine.{Whole, changed}
+use Rattle.its_plain.specs.Machine.{Whole}
 use Rattle.its_plain.specs.Unit.{Outcome, Changed, Faulted, Called, unit}
 use Rattle.its_plain.proofs.MachineLaws.{machine_is}
-use Rattle.its_plain.proofs.UnitLaws.{unit_keeps}
 use Rattle.its_stepped.specs.Lines.{paces_of, ticked}
 use Rattle.its_stepped.specs.Sound.{Sound}
 use Rattle.its_stepped.specs.State.{State, plain, turn}
@@ -38,70 +35,13 @@ use Rattle.its_world.proofs.WorldLaws.{core_becomes}
 use Rattle.its_pclsr.proofs.ApartLaws.{becomes_pages, tidy_put}
 use Rattle.its_operator.specs.Kept.{Kept}
 use Rattle.its_operator.proofs.RegisterLaws.{raw_is, raw_is_none}
-use Rattle.its_monitor.specs.Ticks.{Left, UnitIn, UnitsMade, after_unit, after_units, due_of, is_made, left, left_by, unit_due, unit_unless}
+use Rattle.its_monitor.specs.Ticks.{UnitIn, UnitsMade, due_of, is_made, unit_due}
+use Rattle.pdp_exec.specs.Units.{Left, after_outcome, after_unit, after_units, left, unit_unless}
+use Rattle.pdp_exec.proofs.SeriesLaws.{no_units, unless_keeps, units_keep}
 use Rattle.its_monitor.proofs.TickLaws.{Lasts, lasts}
 use Rattle.its_monitor.proofs.UserLaws.{becomes_raw, job_put, put_same, put_then, user_becomes}
 use Rattle.its_world.specs.Rings.{heads}
 use Rattle.its_operator.proofs.WaitsLaws.{kept_is}
-
--- n units and then one more are n + 1
-pub units_start : (l : Left) → after_units 0 (Some l) ≡ Some l
-units_start l = refl
-
-more_units : (n : ℕ) (o : Option Left) → after_units (suc n) o ≡ after_unit (after_units n o)
-more_units zero o = refl
-more_units (suc n) o = more_units n (after_unit o)
-
-pub units_next : (n : ℕ) (l m k : Left) → after_units n (Some l) ≡ Some m → after_unit (Some m) ≡ Some k → after_units (n + 1) (Some l) ≡ Some k
-units_next n l m k e u =
-    let one : n + 1 ≡ suc n = omega arith in
-    ap (λ x. after_units x (Some l)) one ∙ more_units n (Some l) ∙ ap after_unit e ∙ u
-
-pub none_due : (l : Left) → deliverable l.job ≡ true → after_unit (Some l) ≡ None
-none_due l d = ap (λ b. unit_unless b l) d
-
-pub unit_made : (l : Left) (o : Option Left) → deliverable l.job ≡ false → left_by (unit l.core l.job) l.core l.job ≡ o → after_unit (Some l) ≡ o
-unit_made l o d e = ap (λ b. unit_unless b l) d ∙ e
-
--- a unit that is not made leaves all as it was
-pub none_left : (l m : Left) (b : Bool) → after_unit (Some l) ≡ (if b then Some m else None) → b ≡ false → m ≡ l → after_unit (Some m) ≡ None
-none_left l m b e f same = ap (λ x. after_unit (Some x)) same ∙ e ∙ ap (λ c. if c then Some m else None) f
-
-no_units : (n : ℕ) → after_units n None ≡ None
-no_units zero = refl
-no_units (suc n) = no_units n
-
--- a unit keeps the channels of a job, and that it runs
-record Keeps (i j : Job) : Type 0 where
-  channels : j.channels ≡ i.channels
-  stopped : j.stopped ≡ i.stopped
-
-outcome_keeps : (l m : Left) (o : Outcome) → unit l.core l.job ≡ o → left_by o l.core l.job ≡ Some m → Keeps l.job m.job
-outcome_keeps l m (Changed d k) u e =
-    let h = (unit_keeps l.core l.job d k u).registers in
-    let is : left d k ≡ m = cc in
-    subst (λ (x : Left). Keeps l.job x.job) is (record { channels = h.channels; stopped = h.stopped })
-outcome_keeps l m (Faulted f) u e =
-    let is : left l.core (with_pending l.job (bit_of f)) ≡ m = cc in
-    subst (λ (x : Left). Keeps l.job x.job) is (record { channels = refl; stopped = refl })
-outcome_keeps l m (Called s) u e = absurd cc
-
-unless_keeps : (b : Bool) (l m : Left) → unit_unless b l ≡ Some m → Keeps l.job m.job
-unless_keeps true l m e = absurd cc
-unless_keeps false l m e = outcome_keeps l m (unit l.core l.job) refl e
-
-then_keeps : (n : ℕ) (l m : Left) → ((k : Left) → after_units n (Some k) ≡ Some m → Keeps k.job m.job) → (o : Option Left) → after_unit (Some l) ≡ o → after_units n o ≡ Some m → Keeps l.job m.job
-then_keeps n l m rest (Some k) is e =
-    let a = unless_keeps (deliverable l.job) l k is in
-    let b = rest k e in
-    record { channels = b.channels ∙ a.channels; stopped = b.stopped ∙ a.stopped }
-then_keeps n l m rest None is e = let z = no_units n in absurd cc
-
-units_keep : (n : ℕ) (l m : Left) → after_units n (Some l) ≡ Some m → Keeps l.job m.job
-units_keep zero l m e =
-    let is : l ≡ m = cc in
-    subst (λ (x : Left). Keeps l.job x.job) is (record { channels = refl; stopped = refl })
-units_keep (suc n) l m e = then_keeps n l m (λ k h. units_keep n k m h) (after_unit (Some l)) refl e
 
 -- turns of one slot
 twice : {X : Type 0} (b : Bool) (o : Option X) (h g : X → X) → (if b then option_map g (if b then option_map h o else o) else (if b then option_map h o else o)) ≡ (if b then option_map (λ q. g (h q)) o else o)
@@ -172,7 +112,7 @@ unit_tick w s p l r quiet =
     ∙ ap (user_on w s q) (deliverable_bare l.job ∙ quiet)
     ∙ ap (unit_on w s) (unit_bare l.core l.job)
 
-outcome_turn : (w : State) (s : ℕ) (p : Whole) (l m : Left) (o : Outcome) → Runs w s p l → left_by o l.core l.job ≡ Some m → unit_on w s (bare_outcome o) ≡ steps (turn w s (with_left m) None)
+outcome_turn : (w : State) (s : ℕ) (p : Whole) (l m : Left) (o : Outcome) → Runs w s p l → after_outcome o l.core l.job ≡ Some m → unit_on w s (bare_outcome o) ≡ steps (turn w s (with_left m) None)
 outcome_turn w s p l m (Changed d k) r e =
     let is : left d k ≡ m = cc in
     ap (λ (x : Left). steps (turn w s (with_left x) None)) is
@@ -253,7 +193,7 @@ unit_of_units old new s zero quiet few same m = record {
   called =
       let l : Left = left (core_at old.core s) m.job in
       let is : m.left ≡ l = cc in
-      subst (λ (o : Option Job). IfSome o (λ k. left_by (unit (core_at old.core s) k) (core_at old.core s) k ≡ None)) (sym m.had)
+      subst (λ (o : Option Job). IfSome o (λ k. after_outcome (unit (core_at old.core s) k) (core_at old.core s) k ≡ None)) (sym m.had)
       (ap (λ b. unit_unless b l) (sym (quiet_of (job_at old.jobs s) m.job m.had quiet)) ∙ ap (λ (x : Left). after_unit (Some x)) (sym is) ∙ m.most (omega arith));
 }
 unit_of_units old new s (suc zero) quiet few same m = record {
@@ -266,7 +206,7 @@ unit_of_units old new s (suc zero) quiet few same m = record {
 unit_of_units old new s (suc (suc n)) quiet few same m = absurd (omega (arith, few))
 
 -- where no other unit can be made, none is due
-outcome_due : (l : Left) (o : Outcome) → left_by o l.core l.job ≡ None → is_made (bare_outcome o) ≡ false
+outcome_due : (l : Left) (o : Outcome) → after_outcome o l.core l.job ≡ None → is_made (bare_outcome o) ≡ false
 outcome_due l (Changed d k) e = absurd cc
 outcome_due l (Faulted f) e = absurd cc
 outcome_due l (Called x) e = refl

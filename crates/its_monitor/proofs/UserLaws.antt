@@ -1,5 +1,5 @@
 -- A tick in user mode: what a unit or a delivery makes of a world is its row on the state that the world stands for.
-use Rattle.std.specs.Prelude.{if◌then◌else◌, ◌≡◌, ◌≢◌, ◌<◌, ◌≤◌, ◌^◌, ◌⊎◌, ℕ, Bool, true, false, Option, Some, None, IfSome, is_some, List, [], ◌∷◌, length, slice_index_or, slice_set, vec_len, refl}
+use Rattle.std.specs.Prelude.{◌≡◌, ◌≢◌, ◌<◌, ◌≤◌, ◌^◌, ◌⊎◌, ℕ, Bool, true, false, Option, Some, None, IfSome, is_some, List, [], ◌∷◌, length, slice_index_or, slice_set, vec_len, refl}
 use Rattle.std.proofs.Common.{sym, ◌∙◌, ap, subst, inl, inr}
 use Rattle.std.proofs.Math.Bridge.{le_prop}
 use Rattle.std.proofs.Math.Nat.{ℕ_set}
@@ -42,13 +42,14 @@ use Rattle.its_world.specs.World.{symbols_at, alarm_at, bare, chan_of, chans_of,
 use Rattle.its_world.specs.declared.world.World.{World}
 use Rattle.its_parts.proofs.BareLaws.{bare_delivered, bare_outcome, delivered_bare, delivered_channels, delivered_stops, unit_bare, unit_channels}
 use Rattle.its_world.proofs.StateLaws.{kept_turn, raw_job, raw_some, state_is, turned_state}
-use Rattle.its_world.proofs.WorldLaws.{core_becomes, then_becomes, alike, frames_still}
+use Rattle.its_world.proofs.WorldLaws.{then_becomes, alike, frames_still}
 use Rattle.its_world.proofs.PlaceLaws.{user_ringed}
 use Rattle.its_world.specs.Rings.{heads}
 use Rattle.its_pclsr.proofs.ApartLaws.{tidy_put}
 use Rattle.its_operator.specs.Kept.{Kept}
 use Rattle.its_operator.proofs.RegisterLaws.{raw_is}
-use Rattle.its_monitor.specs.Ticks.{Left, Made, UnitIn, left_by, ticked, with_channels}
+use Rattle.its_monitor.specs.Ticks.{Made, ticked, with_channels}
+use Rattle.pdp_exec.specs.Units.{Left, after_outcome}
 use Rattle.its_world.proofs.StorageLaws.{frame_is}
 
 raw_addressed : (w : World) (s : ℕ) (q : Whole) → Kept w → frame_at w.frames.items s ≡ None → (state_of w).raw.jobs s ≡ Some q → q.job.pc < 2 ^ 18
@@ -152,7 +153,7 @@ left_becomes old new s l m e none b =
     (subst (λ (x : Left). Becomes old new s x.core (Some x.job) (frame_at old.frames.items s) (clear_at old.core s)) (sym e) b)
 
 left_row : (old new : World) (s : ℕ) (i : Job) (o : Outcome) (l : Left) → job_at old.jobs s ≡ Some i → frame_at old.frames.items s ≡ None → unit (core_at old.core s) i ≡ o
-    → left_by o (core_at old.core s) i ≡ Some l → Becomes old new s l.core (Some l.job) (frame_at old.frames.items s) (clear_at old.core s)
+    → after_outcome o (core_at old.core s) i ≡ Some l → Becomes old new s l.core (Some l.job) (frame_at old.frames.items s) (clear_at old.core s)
     → unit_on (state_of old) s (bare_outcome o) ≡ ticked (state_of new) Step
 left_row old new s i (Changed d k) l had none u is b =
     let e : record { core = d; job = k } ≡ l = cc in
@@ -172,7 +173,7 @@ unit_row old new s m none =
     ∙ left_row old new s m.job (unit (core_at old.core s) m.job) m.left m.had none refl m.is m.becomes)
 
 -- the channels of the job are as they were
-left_channels : (c : Core) (i : Job) (o : Outcome) (l : Left) → unit c i ≡ o → left_by o c i ≡ Some l → l.job.channels ≡ i.channels
+left_channels : (c : Core) (i : Job) (o : Outcome) (l : Left) → unit c i ≡ o → after_outcome o c i ≡ Some l → l.job.channels ≡ i.channels
 left_channels c i (Changed d k) l u is =
     let e : record { core = d; job = k } ≡ l = cc in
     ap (λ (x : Left). x.job.channels) (sym e) ∙ unit_channels c d i k u

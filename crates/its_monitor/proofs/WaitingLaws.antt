@@ -1,7 +1,7 @@
 -- The tick of a slot that stands in a wait ring: `w`, and nothing changes; and a slot whose call was found not ready has this letter
 -- nowhere else.
-use Rattle.std.specs.Prelude.{if◌then◌else◌, ◌≡◌, ◌<◌, ◌⊎◌, ◌==◌, ℕ, Bool, true, false, Option, Some, None, IfSome, List, [], refl}
-use Rattle.std.proofs.Common.{sym, ◌∙◌, ap, subst, inl, inr, arith}
+use Rattle.std.specs.Prelude.{if◌then◌else◌, ◌≡◌, ◌<◌, ◌==◌, ℕ, Bool, true, false, Option, Some, None, IfSome, List, [], refl}
+use Rattle.std.proofs.Common.{sym, ◌∙◌, ap, subst}
 use Rattle.its_word.specs.declared.calls.Ask.{Ask}
 use Rattle.its_word.specs.declared.calls.Pace.TheVariants.{Wait as Waited}
 use Rattle.its_word.specs.declared.calls.Site.{Site}
@@ -45,7 +45,7 @@ use Rattle.its_pclsr.proofs.TriesLaws.{tries}
 use Rattle.its_operator.specs.Kept.{Kept}
 use Rattle.its_operator.proofs.WaitsLaws.{Placed, placed, stands_there, stands_here, held_place, ring_within, frame_none, housed_at, raw_is, sound_at, waits_decided, waits_place}
 use Rattle.its_monitor.specs.Pages.{pages_in, pages_ticked}
-use Rattle.its_monitor.specs.Ticks.{InRing, is_waiting, ticked}
+use Rattle.its_monitor.specs.Ticks.{is_waiting, ticked}
 use Rattle.its_monitor.proofs.FramesLaws.{frames_call}
 use Rattle.its_monitor.proofs.StepsLaws.{turn_nothing}
 use Rattle.its_monitor.proofs.TickLaws.{runs_by}

@@ -1,6 +1,5 @@
 -- What the parts of a tick do to a world.
-use Rattle.std.specs.Prelude.{if◌then◌else◌, ◌≡◌, ◌==◌, ◌<◌, ◌&&◌, ℕ, zero, suc, Bool, true, false, Option, Some, None, IfSome, List, [], ◌∷◌, ◌++◌}
-use Rattle.its_word.specs.Core.{Core}
+use Rattle.std.specs.Prelude.{if◌then◌else◌, ◌≡◌, ◌==◌, ◌<◌, ◌&&◌, ℕ, Bool, true, false, Option, Some, None, IfSome, List, [], ◌∷◌, ◌++◌}
 use Rattle.its_word.specs.Limits.{slots}
 use Rattle.its_word.specs.Tree.{slots_below}
 use Rattle.its_word.specs.declared.jobs.Channel.{Channel}
@@ -12,11 +11,11 @@ use Rattle.its_jobs.specs.Table.{job_at}
 use Rattle.its_frame.specs.declared.frame.Frame.{Frame}
 use Rattle.its_frame.specs.declared.frame.Frame.TheVariants as frames
 pub use Rattle.its_pclsr.specs.Carried.{pace_of}
+pub use Rattle.pdp_exec.specs.Units.{Left, left, after_outcome, unit_unless, after_unit, after_units}
 use Rattle.its_frame.specs.declared.name.CallName.{CallName}
 use Rattle.its_frame.specs.declared.name.CallName.TheVariants.{Logout, Uclose}
 use Rattle.its_plain.specs.Change.{superiors}
 use Rattle.its_plain.specs.Decide.{call_named, listed, with_below}
-use Rattle.its_plain.specs.Job.{bit_of, with_pending}
 use Rattle.its_plain.specs.Machine.{Machine, Whole}
 use Rattle.its_plain.specs.Interrupt.{deliverable}
 use Rattle.its_plain.specs.Unit.{Outcome, Changed, Faulted, Called, unit}
@@ -32,16 +31,6 @@ use Rattle.its_monitor.specs.declared.reach.Reach.TheVariants.{Nobody, Job as On
 abbrev pub ticked : State → Pace → Ticked
 ticked w p = record { state = w; pace = p }
 
--- the core and the registers that a unit leaves, or its fault; none where it is a call
-pub record Left : Type 0 where
-  pub core : Core
-  pub job : Job
-
-abbrev pub left_by : Outcome → Core → Job → Option Left
-left_by (Changed c k) d j = Some (record { core = c; job = k })
-left_by (Faulted f) d j = Some (record { core = d; job = with_pending j (bit_of f) })
-left_by (Called s) d j = None
-
 -- registers with other channels
 abbrev pub with_channels : List Channel → Job → Job
 with_channels cs j = record j { channels = cs }
@@ -51,26 +40,8 @@ pub record Made (old new : World) (s : ℕ) (o : Job → Outcome) : Type 0 where
   pub job : Job
   pub left : Left
   pub had : job_at old.jobs s ≡ Some job
-  pub is : left_by (o job) (core_at old.core s) job ≡ Some left
+  pub is : after_outcome (o job) (core_at old.core s) job ≡ Some left
   pub becomes : Becomes old new s left.core (Some left.job) (frame_at old.frames.items s) (clear_at old.core s)
-
--- the core and the registers after a unit; none where an interrupt is deliverable before it, or it is a call
-abbrev pub unit_unless : Bool → Left → Option Left
-unit_unless true l = None
-unit_unless false l = left_by (unit l.core l.job) l.core l.job
-
-abbrev pub after_unit : Option Left → Option Left
-after_unit (Some l) = unit_unless (deliverable l.job) l
-after_unit None = None
-
--- the same after n units
-abbrev pub after_units : ℕ → Option Left → Option Left
-after_units zero o = o
-after_units (suc n) o = after_units n (after_unit o)
-
--- a core and registers
-abbrev pub left : Core → Job → Left
-left c j = record { core = c; job = j }
 
 -- n units of the job of slot s are made, of k at most; where they are fewer, no other can be made
 pub record UnitsMade (old new : World) (s n k : ℕ) : Type 0 where
@@ -98,7 +69,7 @@ unit_due w s = due_of (w.raw.jobs s) (w.frames s)
 -- it is a call, and nothing is changed
 pub record Called_in (old new : World) (s : ℕ) (o : Job → Outcome) : Type 0 where
   pub same : new ≡ old
-  pub called : IfSome (job_at old.jobs s) (λ j. left_by (o j) (core_at old.core s) j ≡ None)
+  pub called : IfSome (job_at old.jobs s) (λ j. after_outcome (o j) (core_at old.core s) j ≡ None)
 
 abbrev pub UnitIn : World → World → ℕ → (Job → Outcome) → Bool → Type 0
 UnitIn old new s o true = Made old new s o

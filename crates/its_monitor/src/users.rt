@@ -15,7 +15,7 @@ ghost use Rattle.its_world.specs.World.{state_of, frame_at, raw_at, CoreBecomes,
 ghost use Rattle.its_operator.specs.Kept.{Kept};
 ghost use Rattle.its_pclsr.specs.Pages.{pages_unwound};
 ghost use Rattle.pdp_exec.specs.Answer.{IsCalled};
-ghost use Rattle.its_monitor.specs.Ticks.{ticked, left, left_by, after_unit, after_units, with_channels, UnitIn, UnitsMade};
+ghost use Rattle.its_monitor.specs.Ticks.{ticked, with_channels, UnitIn, UnitsMade};
 
 use super::reach::calm;
 use its_core::Core;
@@ -24,7 +24,7 @@ use its_ints::{deliver, deliverable};
 use its_pclsr::apply;
 use its_word::{Job, Pace, Word};
 use its_world::World;
-use pdp_exec::{Ended, run, site};
+use pdp_exec::{run_units, site};
 
 /// The delivery of an interrupt to a slot's job with these registers.
 #[inline(never)]
@@ -143,31 +143,8 @@ fn unit_in_place(w: &mut World, slot: u8) -> bool
     units_in_place(w, slot, 1) == 1
 }
 
-/// Runs the unit of a job on its core and its registers. A fault sets its bit; a call is not made (false).
-#[inline(always)]
-fn run_unit(core: &mut Core, slot: u8, job: &mut Job) -> bool
-    requires slot { slot < slots }
-    requires pc { job.old.pc < 2 ^ 18 }
-    ensures left { left_by (unit_of (core_at core.old slot) job.old) (core_at core.old slot) job.old ≡ (if result then Some (record { core = core_at core.new slot; job = job.new }) else None) }
-    ensures others { (k : ℕ) → k ≢ slot → core_at core.new k ≡ core_at core.old k }
-    ensures reserved { core.new.reserved ≡ core.old.reserved }
-    ensures frames { core.new.frames ≡ core.old.frames }
-    ensures same { result ≡ false → (core.new ≡ core.old) × (job.new ≡ job.old) }
-    ensures pc { job.new.pc < 2 ^ 18 }
-{
-    match run(core, slot, job) {
-        Ended::Done => true,
-        Ended::Fault(bit) => {
-            job.pend1 = job.pend1 | Word::new(u64::from(bit));
-            true
-        }
-        Ended::Call => false,
-    }
-}
-
 /// Makes up to n units of a slot's job on its core and its registers in place, as long as no interrupt is deliverable and
-/// none is a call; how many were made. It is not inlined: its loop is one, with every unit in it.
-#[inline(never)]
+/// none is a call; how many were made.
 pub fn units_in_place(w: &mut World, slot: u8, n: u32) -> u32
     requires slot { slot < slots }
     requires job { is_some (job_at w.old.jobs slot) ≡ true }
@@ -181,46 +158,6 @@ pub fn units_in_place(w: &mut World, slot: u8, n: u32) -> u32
         Some(job) => run_units(&mut w.core, slot, job, n),
         None => unreachable!(),
     }
-}
-
-/// Makes up to n units of a job on its core and its registers; how many were made.
-#[tactic(auto, using(crate::proofs::StepsLaws::units_start, crate::proofs::StepsLaws::none_left))]
-fn run_units(core: &mut Core, slot: u8, job: &mut Job, n: u32) -> u32
-    requires slot { slot < slots }
-    requires pc { job.old.pc < 2 ^ 18 }
-    ensures few { result ≤ n }
-    ensures same { result ≡ 0 → (core.new ≡ core.old) × (job.new ≡ job.old) }
-    ensures left { after_units result (Some (left (core_at core.old slot) job.old)) ≡ Some (left (core_at core.new slot) job.new) }
-    ensures most { result < n → after_unit (Some (left (core_at core.new slot) job.new)) ≡ None }
-    ensures others { (k : ℕ) → k ≢ slot → core_at core.new k ≡ core_at core.old k }
-    ensures reserved { core.new.reserved ≡ core.old.reserved }
-    ensures frames { core.new.frames ≡ core.old.frames }
-{
-    for made in 0..n {
-        if !run_next(core, slot, job) {
-            return made;
-        }
-    }
-    n
-}
-
-/// Runs the unit of a job, unless an interrupt is deliverable or it is a call (false).
-#[inline(always)]
-#[tactic(auto, using(crate::proofs::StepsLaws::none_due, crate::proofs::StepsLaws::unit_made))]
-fn run_next(core: &mut Core, slot: u8, job: &mut Job) -> bool
-    requires slot { slot < slots }
-    requires pc { job.old.pc < 2 ^ 18 }
-    ensures left { after_unit (Some (left (core_at core.old slot) job.old)) ≡ (if result then Some (left (core_at core.new slot) job.new) else None) }
-    ensures others { (k : ℕ) → k ≢ slot → core_at core.new k ≡ core_at core.old k }
-    ensures reserved { core.new.reserved ≡ core.old.reserved }
-    ensures frames { core.new.frames ≡ core.old.frames }
-    ensures same { result ≡ false → (core.new ≡ core.old) × (job.new ≡ job.old) }
-    ensures pc { job.new.pc < 2 ^ 18 }
-{
-    if deliverable(job) {
-        return false;
-    }
-    run_unit(core, slot, job)
 }
 
 /// The job of a slot enters the monitor.

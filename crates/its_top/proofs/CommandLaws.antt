@@ -219,9 +219,12 @@ few_bare w = elim (cases_Bool (bytes_eq w (codes "run"))) [
   | inl t ↦ rw t tt
   | inr t ↦ elim (cases_Bool (bytes_eq w (codes "check"))) [
     | inl k ↦ rw (t, k) tt
-    | inr k ↦ elim (cases_Bool (bytes_eq w (codes "asm"))) [
+    | inr k ↦ elim (cases_Bool (bytes_eq w (codes "verify"))) [
       | inl l ↦ rw (t, k, l) tt
-      | inr l ↦ rw (t, k, l) tt
+      | inr l ↦ elim (cases_Bool (bytes_eq w (codes "asm"))) [
+        | inl m ↦ rw (t, k, l, m) tt
+        | inr m ↦ rw (t, k, l, m) tt
+      ]
     ]
   ]
 ]

@@ -22,3 +22,8 @@ pub mod ObeyLaws
 pub mod AssemblingLaws
 pub mod NearestLaws
 pub mod CircleLaws
+pub mod CutLaws
+pub mod VerifyingLaws
+pub mod PeekedLaws
+pub mod EndingLaws
+pub mod VouchedLaws

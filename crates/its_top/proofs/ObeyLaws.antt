@@ -14,10 +14,11 @@ use Rattle.its_top.specs.declared.commands.Command.TheVariants as commands
 use Rattle.its_top.specs.declared.checking.Checked.{Checked}
 use Rattle.its_top.specs.declared.checking.Checked.TheVariants as checks
 use Rattle.its_top.specs.Conclusion.{IsDone, WasRun, Session}
-use Rattle.its_top.specs.Commands.{reads, IfGenerates}
+use Rattle.its_top.specs.Commands.{reads, keeps, IfGenerates}
 use Rattle.its_top.specs.Checking.{checked, checked_text, Passes, Fails, StatusFor, WroteText, CheckOf, Check}
 use Rattle.its_top.specs.Generating.{generated_text}
 use Rattle.its_top.specs.Assembling.{Asm}
+use Rattle.its_top.specs.Verifying.{Verify}
 use Rattle.its_top.specs.Top.{Refrains, usage, Transcribed, Completes, Refuses, RunsOn, Breaks, Begins, CheckPasses, CheckFails, CheckRunsOn, CheckBreaks, DoneFor, Obeyed}
 use Rattle.its_top.proofs.TopLaws.{session_done, session_refused, session_too_long, session_breaks, session_begins, session_written, session_transcribed, one_of, session_complete}
 
@@ -35,6 +36,7 @@ pub not_obeyed : (c : Option Command) (left old : Option (List ℕ)) → Obeyed 
 not_obeyed c left old = record { obeys = by c }
   where
     by : (d : Option Command) → Refrains d left left old old
+    by (Some commands.Verify) = refl
     by (Some commands.Asm) = refl
     by None = (refl, refl)
     by (Some commands.Run) = (refl, refl)
@@ -58,6 +60,10 @@ obeyed_gen st n left old new w m = let k : st ≢ statuses.NoMemory = λ k. cc i
 pub obeyed_none : (st : Status) (left old new : Option (List ℕ)) → WroteText st statuses.Usage usage old new → Obeyed None st left left old new
 obeyed_none statuses.NoMemory left old new w = absurd (let k : statuses.NoMemory ≡ statuses.Usage = w.complete.0 in cc)
 obeyed_none st left old new w = as_obeys None st left left old new (λ k. cc) (w, refl)
+
+pub obeyed_verify : (st : Status) (left rest old new : Option (List ℕ)) → Verify st left old new → Obeyed (Some commands.Verify) st left rest old new
+obeyed_verify statuses.NoMemory left rest old new s = record { obeys = s.unwritten (inl refl) }
+obeyed_verify st left rest old new s = as_obeys (Some commands.Verify) st left rest old new (λ k. cc) s
 
 pub obeyed_asm : (st : Status) (left rest old new : Option (List ℕ)) → Asm st left rest old new → Obeyed (Some commands.Asm) st left rest old new
 obeyed_asm statuses.NoMemory left rest old new s = record { obeys = s.unwritten refl }
@@ -217,6 +223,7 @@ pub gen_done : (d : Option Command) (st : Status) (left rest old new : Option (L
 gen_done None st left rest old new o = tt
 gen_done (Some commands.Run) st left rest old new o = tt
 gen_done (Some commands.Check) st left rest old new o = tt
+gen_done (Some commands.Verify) st left rest old new o = tt
 gen_done (Some commands.Asm) st left rest old new o = tt
 gen_done (Some (commands.Gen n)) st left rest old new o =
     λ e. wrote_done st (generated_text n) old new e (done_for (Some (commands.Gen n)) (Some (commands.Gen n)) st left rest old new o refl (λ k. cc)).0
@@ -225,6 +232,7 @@ pub gen_begins : (d : Option Command) (st : Status) (left rest old new : Option 
 gen_begins None st left rest old new o = tt
 gen_begins (Some commands.Run) st left rest old new o = tt
 gen_begins (Some commands.Check) st left rest old new o = tt
+gen_begins (Some commands.Verify) st left rest old new o = tt
 gen_begins (Some commands.Asm) st left rest old new o = tt
 gen_begins (Some (commands.Gen n)) st left rest old new o =
     λ e. wrote_fault st statuses.Done (generated_text n) old new e (done_for (Some (commands.Gen n)) (Some (commands.Gen n)) st left rest old new o refl (λ k. cc)).0
@@ -250,6 +258,7 @@ pub gen_complete : (d : Option Command) (st : Status) (left rest old new : Optio
 gen_complete None st left rest old new kf lf o w = tt
 gen_complete (Some commands.Run) st left rest old new kf lf o w = tt
 gen_complete (Some commands.Check) st left rest old new kf lf o w = tt
+gen_complete (Some commands.Verify) st left rest old new kf lf o w = tt
 gen_complete (Some commands.Asm) st left rest old new kf lf o w = tt
 gen_complete (Some (commands.Gen n)) st left rest old new kf lf o w = λ f. gen_ends st n kf lf left rest old new o w f
 
@@ -258,6 +267,7 @@ is_none : (d : Option Command) (st : Status) (left rest old new : Option (List �
 is_none None st left rest old new e o = refl
 is_none (Some commands.Run) st left rest old new e o = absurd (subst (λ x. Session x left rest old new) e (done_for (Some commands.Run) (Some commands.Run) st left rest old new o refl (λ k. cc))).ran
 is_none (Some commands.Check) st left rest old new e o = absurd (subst (λ x. Check x left rest old new) e (done_for (Some commands.Check) (Some commands.Check) st left rest old new o refl (λ k. cc))).ran
+is_none (Some commands.Verify) st left rest old new e o = absurd ((done_for (Some commands.Verify) (Some commands.Verify) st left rest old new o refl (λ k. cc)).ran e)
 is_none (Some commands.Asm) st left rest old new e o = absurd ((done_for (Some commands.Asm) (Some commands.Asm) st left rest old new o refl (λ k. cc)).ran e)
 is_none (Some (commands.Gen n)) st left rest old new e o =
     let w = (done_for (Some (commands.Gen n)) (Some (commands.Gen n)) st left rest old new o refl (λ k. cc)).0 in
@@ -288,48 +298,56 @@ pub none_obeyed : (d : Option Command) (st : Status) (left rest old new : Option
 none_obeyed d st left rest old new o c = usage_ends st left rest old new (subst (λ x. Obeyed x st left rest old new) c o)
 
 -- a session that was read, and is done
-by_input : (d : Option Command) (left rest old new : Option (List ℕ)) → Obeyed d statuses.Done left rest old new → reads d ≡ true → IfSome left (λ bytes. ReadOut bytes rest)
-by_input None left rest old new o r = cc
-by_input (Some commands.Run) left rest old new o r = o.obeys.input refl
-by_input (Some commands.Check) left rest old new o r = o.obeys.input refl
-by_input (Some commands.Asm) left rest old new o r = whole left o.obeys
+by_input : (d : Option Command) (left rest old new : Option (List ℕ)) → Obeyed d statuses.Done left rest old new → reads d ≡ true → d ≢ Some commands.Verify → IfSome left (λ bytes. ReadOut bytes rest)
+by_input None left rest old new o r n = cc
+by_input (Some commands.Run) left rest old new o r n = o.obeys.input refl
+by_input (Some commands.Check) left rest old new o r n = o.obeys.input refl
+by_input (Some commands.Verify) left rest old new o r n = absurd (n refl)
+by_input (Some commands.Asm) left rest old new o r n = whole left o.obeys
   where
     whole : (l : Option (List ℕ)) → Asm statuses.Done l rest old new → IfSome l (λ bytes. ReadOut bytes rest)
     whole None a = tt
     whole (Some bytes) a = record { read = a.read; consumed = a.consumed; out = inl a.found.2 }
-by_input (Some (commands.Gen n)) left rest old new o r = cc
+by_input (Some (commands.Gen k)) left rest old new o r n = cc
 
-pub input_read : (d : Option Command) (st : Status) (left rest old new : Option (List ℕ)) → Obeyed d st left rest old new → reads d ≡ true → st ≡ statuses.Done → IfSome left (λ bytes. ReadOut bytes rest)
-input_read d st left rest old new o r e = by_input d left rest old new (subst (λ x. Obeyed d x left rest old new) e o) r
+pub input_read : (d : Option Command) (st : Status) (left rest old new : Option (List ℕ)) → Obeyed d st left rest old new → reads d ≡ true → d ≢ Some commands.Verify → st ≡ statuses.Done → IfSome left (λ bytes. ReadOut bytes rest)
+input_read d st left rest old new o r n e = by_input d left rest old new (subst (λ x. Obeyed d x left rest old new) e o) r n
 
 -- a command that reads nothing
 left_alone : (d : Option Command) (st : Status) (left rest old new : Option (List ℕ)) → reads d ≡ false → st ≢ statuses.NoMemory → Obeyed d st left rest old new → rest ≡ left
 left_alone None st left rest old new r n o = (done_for None None st left rest old new o refl n).1
 left_alone (Some commands.Run) st left rest old new r n o = cc
 left_alone (Some commands.Check) st left rest old new r n o = cc
+left_alone (Some commands.Verify) st left rest old new r n o = cc
 left_alone (Some commands.Asm) st left rest old new r n o = cc
 left_alone (Some (commands.Gen k)) st left rest old new r n o = (done_for (Some (commands.Gen k)) (Some (commands.Gen k)) st left rest old new o refl n).1
 
-unread_by : (d : Option Command) (left rest old new : Option (List ℕ)) → Refrains d left rest old new → d ≢ Some commands.Asm → rest ≡ left
-unread_by (Some commands.Asm) left rest old new m n = absurd (n refl)
+unread_by : (d : Option Command) (left rest old new : Option (List ℕ)) → Refrains d left rest old new → keeps d ≡ false → rest ≡ left
+unread_by (Some commands.Verify) left rest old new m n = cc
+unread_by (Some commands.Asm) left rest old new m n = cc
 unread_by None left rest old new m n = m.0
 unread_by (Some commands.Run) left rest old new m n = m.0
 unread_by (Some commands.Check) left rest old new m n = m.0
 unread_by (Some (commands.Gen k)) left rest old new m n = m.0
 
 unwritten_by : (d : Option Command) (left rest old new : Option (List ℕ)) → Refrains d left rest old new → new ≡ old
+unwritten_by (Some commands.Verify) left rest old new m = m
 unwritten_by (Some commands.Asm) left rest old new m = m
 unwritten_by None left rest old new m = m.1
 unwritten_by (Some commands.Run) left rest old new m = m.1
 unwritten_by (Some commands.Check) left rest old new m = m.1
 unwritten_by (Some (commands.Gen k)) left rest old new m = m.1
 
-unread_asm : (d : Option Command) → reads d ≡ false → d ≢ Some commands.Asm
-unread_asm (Some commands.Asm) r = cc
-unread_asm d r = λ k. cc
+none_kept : (d : Option Command) → reads d ≡ false → keeps d ≡ false
+none_kept (Some commands.Verify) r = cc
+none_kept (Some commands.Asm) r = cc
+none_kept (Some commands.Run) r = cc
+none_kept (Some commands.Check) r = cc
+none_kept (Some (commands.Gen n)) r = refl
+none_kept None r = refl
 
 pub unread : (d : Option Command) (st : Status) (left rest old new : Option (List ℕ)) → Obeyed d st left rest old new → reads d ≡ false → rest ≡ left
-unread d statuses.NoMemory left rest old new o r = unread_by d left rest old new o.obeys (unread_asm d r)
+unread d statuses.NoMemory left rest old new o r = unread_by d left rest old new o.obeys (none_kept d r)
 unread d st left rest old new o r = left_alone d st left rest old new r (λ k. cc) o
 
 pub not_read_fault : (d : Option Command) (st : Status) (left rest old new : Option (List ℕ)) → Obeyed d st left rest old new → reads d ≡ false → st ≢ statuses.ReadFault
@@ -338,6 +356,7 @@ not_read_fault None st left rest old new o r e =
     let k : statuses.ReadFault ≡ statuses.Usage = (subst (λ x. WroteText x statuses.Usage usage old new) e w).complete.0 in cc
 not_read_fault (Some commands.Run) st left rest old new o r e = cc
 not_read_fault (Some commands.Check) st left rest old new o r e = cc
+not_read_fault (Some commands.Verify) st left rest old new o r e = cc
 not_read_fault (Some commands.Asm) st left rest old new o r e = cc
 not_read_fault (Some (commands.Gen n)) st left rest old new o r e =
     let w = (done_for (Some (commands.Gen n)) (Some (commands.Gen n)) st left rest old new o refl (λ k. cc)).0 in
@@ -346,5 +365,5 @@ not_read_fault (Some (commands.Gen n)) st left rest old new o r e =
 pub no_memory : (d : Option Command) (st : Status) (left rest old new : Option (List ℕ)) → Obeyed d st left rest old new → st ≡ statuses.NoMemory → new ≡ old
 no_memory d st left rest old new o e = unwritten_by d left rest old new (subst (λ x. Obeyed d x left rest old new) e o).obeys
 
-pub no_memory_unread : (d : Option Command) (st : Status) (left rest old new : Option (List ℕ)) → Obeyed d st left rest old new → d ≢ Some commands.Asm → st ≡ statuses.NoMemory → rest ≡ left
+pub no_memory_unread : (d : Option Command) (st : Status) (left rest old new : Option (List ℕ)) → Obeyed d st left rest old new → keeps d ≡ false → st ≡ statuses.NoMemory → rest ≡ left
 no_memory_unread d st left rest old new o n e = unread_by d left rest old new (subst (λ x. Obeyed d x left rest old new) e o).obeys n

@@ -2,15 +2,16 @@
 use Rattle.std.specs.Prelude.{if◌then◌else◌, ◌^◌, ◌==◌, ◌&&◌, ℕ, Bool, true, false, Option, Some, None, List, [], ◌∷◌, nat_le, bytes_eq, codes}
 use Rattle.its_word.specs.Text.{is_octal, octal_value}
 use Rattle.its_top.specs.declared.commands.Command.{Command}
-use Rattle.its_top.specs.declared.commands.Command.TheVariants.{Run, Check, Gen, Asm}
+use Rattle.its_top.specs.declared.commands.Command.TheVariants.{Run, Check, Gen, Verify, Asm}
 
--- `run`, `check` and `asm` stand alone
+-- `run`, `check`, `verify` and `asm` stand alone
 abbrev pub bare_command : List ℕ → Option Command
 bare_command w =
     if bytes_eq w (codes "run") then Some Run
     else (if bytes_eq w (codes "check") then Some Check
+    else (if bytes_eq w (codes "verify") then Some Verify
     else (if bytes_eq w (codes "asm") then Some Asm
-    else None))
+    else None)))
 
 -- a number of rounds, 1 to 10000
 abbrev pub is_rounds : List ℕ → Bool
@@ -47,13 +48,24 @@ abbrev pub reads : Option Command → Bool
 reads (Some Run) = true
 reads (Some Check) = true
 reads (Some (Gen n)) = false
+reads (Some Verify) = true
 reads (Some Asm) = true
 reads None = false
+
+-- it keeps what it reads
+abbrev pub keeps : Option Command → Bool
+keeps (Some Verify) = true
+keeps (Some Asm) = true
+keeps (Some Run) = false
+keeps (Some Check) = false
+keeps (Some (Gen n)) = false
+keeps None = false
 
 -- the command is `gen` with a number of rounds, of which this holds
 abbrev pub IfGenerates : Option Command → (ℕ → Type 0) → Type 0
 IfGenerates (Some (Gen n)) p = p n
 IfGenerates (Some Run) p = Unit {0}
 IfGenerates (Some Check) p = Unit {0}
+IfGenerates (Some Verify) p = Unit {0}
 IfGenerates (Some Asm) p = Unit {0}
 IfGenerates None p = Unit {0}

@@ -5,6 +5,7 @@ pub mod Commands
 pub mod Counts
 pub mod Checking
 pub mod Assembling
+pub mod Verifying
 pub mod Performing
 pub mod Generating
 pub mod FewDots

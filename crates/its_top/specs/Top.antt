@@ -1,8 +1,9 @@
 -- What the program promises of its answers (docs/PROVED.md).
-use Rattle.std.specs.Prelude.{◌≡◌, ℕ, true, false, Option, Some, None, Ok, Err, List, [], ◌++◌, codes}
+use Rattle.std.specs.Prelude.{◌≡◌, ◌≤◌, ◌⊎◌, ℕ, ◌+◌, length, true, false, Option, Some, None, Ok, Err, List, [], ◌++◌, codes}
 use Rattle.std.specs.Io.KnownBytes.{Appends, Consumes}
 use Rattle.its_print.specs.Printing.{Line, text}
-use Rattle.its_session.specs.Events.{events_of, whole_events_of}
+use Rattle.its_session.specs.Events.{events_of, most_lines, whole_events_of}
+use Rattle.its_reader.specs.TextLines.{lines_in}
 use Rattle.its_plain.specs.Transcript.{Fate, Open, Lost, TooLong, Transcript, Ended}
 use Rattle.its_plain.specs.Ledger.{Ledger}
 use Rattle.its_plain.specs.Stretch.{Stretches}
@@ -12,13 +13,17 @@ use Rattle.its_stepped.specs.Turns.{with_turns}
 use Rattle.its_top.specs.declared.status.Status.{Status}
 use Rattle.its_top.specs.declared.status.Status.TheVariants as statuses
 use Rattle.its_top.specs.declared.commands.Command.{Command}
-use Rattle.its_top.specs.declared.commands.Command.TheVariants.{Run, Check as CheckCommand, Gen, Asm as AsmCommand}
+use Rattle.its_top.specs.declared.commands.Command.TheVariants.{Run, Check as CheckCommand, Gen, Verify as VerifyCommand, Asm as AsmCommand}
 use Rattle.its_top.specs.declared.checking.Checked.TheVariants.{Beyond}
 use Rattle.its_top.specs.Conclusion.{IsDone, Session}
 use Rattle.its_top.specs.FewDots.{FewDots}
 use Rattle.its_top.specs.Checking.{checked, checked_text, Passes, Fails, GoesOn, WroteText, Check}
 use Rattle.its_top.specs.Generating.{generated_text}
 use Rattle.its_top.specs.Assembling.{Asm}
+use Rattle.its_top.specs.Verifying.{EndsSession, Licensed, Verify, Why, status_of}
+use Rattle.its_verify.specs.Judge.{Yes}
+use Rattle.its_verify.specs.Verified.{Answer, Judged, answer_text}
+use Rattle.its_verify.specs.Verified as verified
 use Rattle.its_asm.specs.Assembly.{assembly}
 use Rattle.its_asm.specs.declared.assembly.Image.{Image}
 use Rattle.its_asm.specs.declared.reason.AsmFault.TheVariants.{Line as LineFault}
@@ -28,7 +33,7 @@ use Rattle.its_image.specs.Written.{fault_line, image_events, lines_text}
 use Rattle.its_image.specs.Loading.{IsWhole}
 
 abbrev pub usage : List ℕ
-usage = codes "usage: its run | its check | its gen N | its asm\n"
+usage = codes "usage: its run | its check | its gen N | its verify | its asm\n"
 
 -- the answer to a session that ends so
 abbrev pub answer_of : Fate → Status
@@ -133,16 +138,50 @@ pub record AsmBreaks (bytes : List ℕ) (rest old new : Option (List ℕ)) : Typ
   pub consumed : Consumes (Some bytes) rest read
   pub wrote : Appends old new []
 
+-- what `its run` wrote is a transcript that `its verify` accepts behind the session, where these bytes begin with a
+-- session up to its END line, and there is room for both
+pub record Vouched (bytes : List ℕ) (old new : Option (List ℕ)) : Type 0 where
+  pub transcript : List ℕ
+  pub wrote : Appends old new transcript
+  pub vouched : (session rest : List ℕ) (count : ℕ) → session ++ rest ≡ bytes → EndsSession session count
+      → count + length (lines_in transcript) ≤ most_lines
+      → verified.verified (session ++ transcript) ≡ Judged (Yes (length (lines_in transcript)))
+
+-- what `its verify` wrote: the transcript of so many lines is one of the session, and `YES n` was written
+pub record Verifies (bytes : List ℕ) (old new : Option (List ℕ)) : Type 0 where
+  pub lines : ℕ
+  pub licensed : Licensed bytes lines
+  pub wrote : Appends old new (answer_text (Judged (Yes lines)))
+
+-- a line of the transcript is not licensed or is missing, a line of the session is too long, or there is no END line;
+-- the one line that says so was written, with the number of the line
+pub record VerifyRefuses (bytes : List ℕ) (old new : Option (List ℕ)) : Type 0 where
+  pub answer : Answer
+  pub refused : status_of answer ≡ statuses.Refused
+  pub why : Why bytes answer
+  pub wrote : Appends old new (answer_text answer)
+
+-- a line past the most begins, and no line before it is refused; nothing was written
+pub record VerifyRunsOn (bytes : List ℕ) (old new : Option (List ℕ)) : Type 0 where
+  pub past : Why bytes verified.TooLong
+  pub wrote : Appends old new []
+
+-- an input that has the reason of an answer has the status of that answer, or memory was refused
+pub record VerifyAnswers (status : Status) (bytes : List ℕ) : Type 0 where
+  pub answers : (a : Answer) → Why bytes a → (status ≡ status_of a) ⊎ (status ≡ statuses.NoMemory)
+
 -- what the program did for a command, where memory was not refused
 abbrev pub DoneFor : Option Command → Status → Option (List ℕ) → Option (List ℕ) → Option (List ℕ) → Option (List ℕ) → Type 0
 DoneFor (Some Run) st left rest old new = Session st left rest old new
 DoneFor (Some CheckCommand) st left rest old new = Check st left rest old new
 DoneFor (Some (Gen n)) st left rest old new = WroteText st statuses.Done (generated_text n) old new × (rest ≡ left)
+DoneFor (Some VerifyCommand) st left rest old new = Verify st left old new
 DoneFor (Some AsmCommand) st left rest old new = Asm st left rest old new
 DoneFor None st left rest old new = WroteText st statuses.Usage usage old new × (rest ≡ left)
 
--- where it was, nothing was written, and nothing was read but a text
+-- where it was, nothing was written, and nothing was read but what the command keeps
 abbrev pub Refrains : Option Command → Option (List ℕ) → Option (List ℕ) → Option (List ℕ) → Option (List ℕ) → Type 0
+Refrains (Some VerifyCommand) left rest old new = new ≡ old
 Refrains (Some AsmCommand) left rest old new = new ≡ old
 Refrains c left rest old new = (rest ≡ left) × (new ≡ old)
 

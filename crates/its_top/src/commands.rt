@@ -11,12 +11,13 @@ use its_word::{NoMemory, read_octal};
 use std::alloc::Global;
 
 /// What the program is asked to do: to run a session, to check one, to generate one of so many rounds and
-/// run that, or to assemble a text.
+/// run that, to verify a session and its transcript, or to assemble a text.
 #[derive(Clone, Copy, Debug, PartialEq, Eq)]
 pub enum Command {
     Run,
     Check,
     Gen(u32),
+    Verify,
     Asm,
 }
 
@@ -100,13 +101,14 @@ fn command_from(word: Option<&str>, number: Option<&str>) -> Option<Command>
     }
 }
 
-/// `run`, `check` or `asm`.
+/// `run`, `check`, `verify` or `asm`.
 fn bare_command(word: &str) -> Option<Command>
     ensures { result ≡ bare_command word.now }
 {
     match word {
         "run" => Some(Command::Run),
         "check" => Some(Command::Check),
+        "verify" => Some(Command::Verify),
         "asm" => Some(Command::Asm),
         _ => None,
     }

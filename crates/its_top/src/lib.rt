@@ -21,6 +21,7 @@ mod status;
 mod tests;
 mod top;
 mod turn;
+mod verifying;
 mod writing;
 
 pub use run::session;

@@ -6,15 +6,16 @@ ghost use Rattle.its_reader.specs.Items.{ReadOut};
 ghost use Rattle.its_stepped.specs.Lines.{stepped};
 ghost use Rattle.its_stepped.specs.Turns.{with_turns};
 ghost use Rattle.its_io.specs.Bytes.{next_fault};
-ghost use Rattle.its_top.specs.Commands.{command_of, reads, IfGenerates};
+ghost use Rattle.its_top.specs.Commands.{command_of, keeps, reads, IfGenerates};
 ghost use Rattle.its_top.specs.Checking.{checked, checked_text, Passes, WroteText};
 ghost use Rattle.its_top.specs.Generating.{generated_text};
 ghost use Rattle.its_top.specs.Assembling.{answer_to};
+ghost use Rattle.its_verify.specs.Verified.{answer_text, verified};
 ghost use Rattle.its_asm.specs.Assembly.{assembly};
 ghost use Rattle.its_image.specs.Text.{runs_past};
 ghost use Rattle.its_image.specs.Written.{assembly_text};
 ghost use Rattle.its_top.specs.Conclusion.{IsDone, Session};
-ghost use Rattle.its_top.specs.Top.{usage, Obeyed, Transcribed, Completes, Refuses, RunsOn, Breaks, Begins, CheckPasses, CheckFails, CheckRunsOn, CheckBreaks, Assembled, AsmRefuses, AsmRunsOn, AsmBreaks};
+ghost use Rattle.its_top.specs.Top.{usage, Obeyed, Transcribed, Completes, Refuses, RunsOn, Breaks, Begins, CheckPasses, CheckFails, CheckRunsOn, CheckBreaks, Assembled, AsmRefuses, AsmRunsOn, AsmBreaks, Verifies, VerifyRefuses, VerifyRunsOn, VerifyAnswers, Vouched};
 
 use super::assembling::assemble;
 use super::checking::{check, write_text};
@@ -22,23 +23,26 @@ use super::commands::{Command, read_command};
 use super::generating::generate;
 use super::run::session;
 use super::status::Status;
+use super::verifying::judge;
 use its_io::{Sink, Source};
 use its_monitor::Monitor;
 use std::alloc::Global;
 
 /// The usage line.
-const USAGE: &[u8] = b"usage: its run | its check | its gen N | its asm\n";
+const USAGE: &[u8] = b"usage: its run | its check | its gen N | its verify | its asm\n";
 
 /// The program: the words after its name, the session that `src` gives, and what `out` takes. The words `run` and
-/// `check` read a session; `gen` and a number run a generated one, and read nothing. The word `asm` reads an assembly text.
-#[tactic(auto, using(crate::proofs::ObeyLaws::run_transcribed, crate::proofs::ObeyLaws::run_written, crate::proofs::ObeyLaws::run_done, crate::proofs::ObeyLaws::run_refused, crate::proofs::ObeyLaws::run_too_long, crate::proofs::ObeyLaws::run_breaks, crate::proofs::ObeyLaws::run_begins, crate::proofs::ObeyLaws::run_complete, crate::proofs::ObeyLaws::run_answered, crate::proofs::ObeyLaws::check_done, crate::proofs::ObeyLaws::check_refused, crate::proofs::ObeyLaws::check_too_long, crate::proofs::ObeyLaws::check_breaks, crate::proofs::ObeyLaws::check_begins, crate::proofs::ObeyLaws::check_complete, crate::proofs::ObeyLaws::gen_done, crate::proofs::ObeyLaws::gen_begins, crate::proofs::ObeyLaws::gen_complete, crate::proofs::ObeyLaws::usage_written, crate::proofs::ObeyLaws::usage_only, crate::proofs::ObeyLaws::usage_begins, crate::proofs::ObeyLaws::none_obeyed, crate::proofs::ObeyLaws::input_read, crate::proofs::ObeyLaws::unread, crate::proofs::ObeyLaws::not_read_fault, crate::proofs::ObeyLaws::no_memory, crate::proofs::ObeyLaws::no_memory_unread, crate::proofs::AssemblingLaws::asm_done, crate::proofs::AssemblingLaws::asm_refused, crate::proofs::AssemblingLaws::asm_too_long, crate::proofs::AssemblingLaws::asm_breaks, crate::proofs::AssemblingLaws::asm_begins, crate::proofs::AssemblingLaws::asm_answered))]
+/// `check` read a session; `gen` and a number run a generated one, and read nothing. The word `verify` reads a session and its transcript,
+/// and `asm` an assembly text.
+#[tactic(auto, using(crate::proofs::ObeyLaws::run_transcribed, crate::proofs::ObeyLaws::run_written, crate::proofs::ObeyLaws::run_done, crate::proofs::ObeyLaws::run_refused, crate::proofs::ObeyLaws::run_too_long, crate::proofs::ObeyLaws::run_breaks, crate::proofs::ObeyLaws::run_begins, crate::proofs::ObeyLaws::run_complete, crate::proofs::ObeyLaws::run_answered, crate::proofs::ObeyLaws::check_done, crate::proofs::ObeyLaws::check_refused, crate::proofs::ObeyLaws::check_too_long, crate::proofs::ObeyLaws::check_breaks, crate::proofs::ObeyLaws::check_begins, crate::proofs::ObeyLaws::check_complete, crate::proofs::ObeyLaws::gen_done, crate::proofs::ObeyLaws::gen_begins, crate::proofs::ObeyLaws::gen_complete, crate::proofs::ObeyLaws::usage_written, crate::proofs::ObeyLaws::usage_only, crate::proofs::ObeyLaws::usage_begins, crate::proofs::ObeyLaws::none_obeyed, crate::proofs::ObeyLaws::input_read, crate::proofs::ObeyLaws::unread, crate::proofs::ObeyLaws::not_read_fault, crate::proofs::ObeyLaws::no_memory, crate::proofs::ObeyLaws::no_memory_unread, crate::proofs::VerifyingLaws::verify_done, crate::proofs::VerifyingLaws::verify_refused, crate::proofs::VerifyingLaws::verify_too_long, crate::proofs::VerifyingLaws::verify_breaks, crate::proofs::VerifyingLaws::verify_begins, crate::proofs::VerifyingLaws::run_vouched, crate::proofs::AssemblingLaws::asm_done, crate::proofs::AssemblingLaws::asm_refused, crate::proofs::AssemblingLaws::asm_too_long, crate::proofs::AssemblingLaws::asm_breaks, crate::proofs::AssemblingLaws::asm_begins, crate::proofs::AssemblingLaws::asm_answered))]
 pub fn its<S: Source, K: Sink>(alloc: Global, words: &[String], src: &mut S, out: &mut K) -> Status
     requires source { S.faults src.old < 2 ^ 64 - 1 }
     requires sink { K.faults out.old < 2 ^ 64 - 1 }
     ensures transcript { command_of (map string_bytes words.now) ≡ Some Command.Run → ((result ≡ Status.Done) ⊎ (result ≡ Status.Refused)) ⊎ (result ≡ Status.TooLong) → IfSome (S.left src.old) (λ bytes. Transcribed result bytes (K.written out.old) (K.written out.new)) }
     ensures written { command_of (map string_bytes words.now) ≡ Some Command.Run → ((result ≡ Status.Done) ⊎ (result ≡ Status.Refused)) ⊎ (result ≡ Status.TooLong) → IfSome (S.left src.old) (λ bytes. Appends (K.written out.old) (K.written out.new) (text (stepped (with_turns (events_of bytes))).lines)) }
+    ensures vouched { command_of (map string_bytes words.now) ≡ Some Command.Run → ((result ≡ Status.Done) ⊎ (result ≡ Status.Refused)) ⊎ (result ≡ Status.TooLong) → IfSome (S.left src.old) (λ bytes. Vouched bytes (K.written out.old) (K.written out.new)) }
     ensures done { command_of (map string_bytes words.now) ≡ Some Command.Run → result ≡ Status.Done → IfSome (S.left src.old) (λ bytes. Completes bytes (K.written out.old) (K.written out.new)) }
-    ensures input { reads (command_of (map string_bytes words.now)) ≡ true → result ≡ Status.Done → IfSome (S.left src.old) (λ bytes. ReadOut bytes (S.left src.new)) }
+    ensures input { reads (command_of (map string_bytes words.now)) ≡ true → command_of (map string_bytes words.now) ≢ Some Command.Verify → result ≡ Status.Done → IfSome (S.left src.old) (λ bytes. ReadOut bytes (S.left src.new)) }
     ensures refused { command_of (map string_bytes words.now) ≡ Some Command.Run → result ≡ Status.Refused → IfSome (S.left src.old) (λ bytes. Refuses bytes (K.written out.old) (K.written out.new)) }
     ensures too_long { command_of (map string_bytes words.now) ≡ Some Command.Run → result ≡ Status.TooLong → IfSome (S.left src.old) (λ bytes. RunsOn bytes (K.written out.old) (K.written out.new)) }
     ensures broken { command_of (map string_bytes words.now) ≡ Some Command.Run → result ≡ Status.ReadFault → IfSome (S.left src.old) (λ bytes. Breaks bytes (S.left src.new) (K.written out.old) (K.written out.new)) }
@@ -57,7 +61,13 @@ pub fn its<S: Source, K: Sink>(alloc: Global, words: &[String], src: &mut S, out
     ensures unread { reads (command_of (map string_bytes words.now)) ≡ false → S.left src.new ≡ S.left src.old }
     ensures unread_fault { reads (command_of (map string_bytes words.now)) ≡ false → result ≢ Status.ReadFault }
     ensures no_memory { result ≡ Status.NoMemory → K.written out.new ≡ K.written out.old }
-    ensures no_memory_unread { command_of (map string_bytes words.now) ≢ Some Command.Asm → result ≡ Status.NoMemory → S.left src.new ≡ S.left src.old }
+    ensures no_memory_unread { keeps (command_of (map string_bytes words.now)) ≡ false → result ≡ Status.NoMemory → S.left src.new ≡ S.left src.old }
+    ensures verify_done { command_of (map string_bytes words.now) ≡ Some Command.Verify → result ≡ Status.Done → IfSome (S.left src.old) (λ bytes. Verifies bytes (K.written out.old) (K.written out.new)) }
+    ensures verify_refused { command_of (map string_bytes words.now) ≡ Some Command.Verify → result ≡ Status.Refused → IfSome (S.left src.old) (λ bytes. VerifyRefuses bytes (K.written out.old) (K.written out.new)) }
+    ensures verify_too_long { command_of (map string_bytes words.now) ≡ Some Command.Verify → result ≡ Status.TooLong → IfSome (S.left src.old) (λ bytes. VerifyRunsOn bytes (K.written out.old) (K.written out.new)) }
+    ensures verify_broken { command_of (map string_bytes words.now) ≡ Some Command.Verify → result ≡ Status.ReadFault → K.written out.new ≡ K.written out.old }
+    ensures verify_begun { command_of (map string_bytes words.now) ≡ Some Command.Verify → result ≡ Status.WriteFault → IfSome (S.left src.old) (λ bytes. Begins (answer_text (verified bytes)) (K.written out.old) (K.written out.new)) }
+    ensures verify_answered { command_of (map string_bytes words.now) ≡ Some Command.Verify → S.faults src.new ≡ S.faults src.old → K.faults out.new ≡ K.faults out.old → IfSome (S.left src.old) (λ bytes. VerifyAnswers result bytes) }
     ensures asm_done { command_of (map string_bytes words.now) ≡ Some Command.Asm → result ≡ Status.Done → IfSome (S.left src.old) (λ bytes. Assembled bytes (K.written out.old) (K.written out.new)) }
     ensures asm_refused { command_of (map string_bytes words.now) ≡ Some Command.Asm → result ≡ Status.Refused → IfSome (S.left src.old) (λ bytes. AsmRefuses bytes (K.written out.old) (K.written out.new)) }
     ensures asm_too_long { command_of (map string_bytes words.now) ≡ Some Command.Asm → result ≡ Status.TooLong → IfSome (S.left src.old) (λ bytes. AsmRunsOn bytes (K.written out.old) (K.written out.new)) }
@@ -103,7 +113,7 @@ fn read_and_obey<S: Source, K: Sink>(
 }
 
 /// Does what a command says; where the words are none, writes the usage line.
-#[tactic(auto, using(crate::proofs::ObeyLaws::obeyed_run, crate::proofs::ObeyLaws::obeyed_check, crate::proofs::ObeyLaws::obeyed_gen, crate::proofs::ObeyLaws::obeyed_none, crate::proofs::ObeyLaws::obeyed_asm))]
+#[tactic(auto, using(crate::proofs::ObeyLaws::obeyed_run, crate::proofs::ObeyLaws::obeyed_check, crate::proofs::ObeyLaws::obeyed_gen, crate::proofs::ObeyLaws::obeyed_none, crate::proofs::ObeyLaws::obeyed_verify, crate::proofs::ObeyLaws::obeyed_asm))]
 fn obey<S: Source, K: Sink>(
     alloc: Global,
     command: Option<Command>,
@@ -123,6 +133,7 @@ fn obey<S: Source, K: Sink>(
         Some(Command::Run) => run(alloc, src, out),
         Some(Command::Check) => check(src, out),
         Some(Command::Gen(n)) => generate_rounds(alloc, n, out),
+        Some(Command::Verify) => judge(alloc, src, out),
         Some(Command::Asm) => assemble(alloc, src, out),
         None => write_text(out, USAGE, Status::Usage),
     }

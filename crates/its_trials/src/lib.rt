@@ -14,3 +14,5 @@ mod misfiled;
 mod running;
 #[cfg(test)]
 mod sessions;
+#[cfg(test)]
+mod transcripts;

@@ -17,4 +17,12 @@ pub mod KeepLaws
 pub mod HearingLaws
 pub mod ItemLaws
 pub mod WholeLaws
+pub mod StandingLaws
+pub mod LettersLaws
+pub mod TrialLaws
+pub mod ShowingLaws
+pub mod GoingLaws
+pub mod GoneLaws
+pub mod VerifyLaws
 mod Examples
+pub mod SeriesLaws

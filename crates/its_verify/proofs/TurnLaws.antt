@@ -1,6 +1,6 @@
 -- The lines of a session as a walk that makes the turns of RUN lines on its way: the same as a transcript of its unrolled events, both
 -- ways. A form for proofs, as `RunLaws` has it for events that are unrolled.
-use Rattle.std.specs.Prelude.{◌≡◌, ◌<◌, ℕ, zero, suc, Option, Some, None, List, [], ◌∷◌, ◌++◌, length, drop, map, flat_map, unwrap_or, refl}
+use Rattle.std.specs.Prelude.{◌≡◌, ℕ, zero, suc, Option, Some, None, List, [], ◌∷◌, ◌++◌, length, drop, map, flat_map, unwrap_or, refl}
 use Rattle.std.proofs.Common.{sym, ◌∙◌, ap, subst}
 use Rattle.std.proofs.lemmas.List.{drop_at}
 use Rattle.its_word.specs.Item.{Item, Read, Unread, InTurn, Beyond}
@@ -11,11 +11,11 @@ use Rattle.its_print.specs.Printing.{Line}
 use Rattle.its_print.specs.Printing as printed
 use Rattle.its_plain.specs.Course.{letters}
 use Rattle.its_plain.specs.Licence.{Licensed}
-use Rattle.its_plain.specs.Machine.{Machine, no_machine}
-use Rattle.its_plain.specs.Operator.{Block, no_block, Refuses, Does, Ticks, Quits}
+use Rattle.its_plain.specs.Machine.{Machine}
+use Rattle.its_plain.specs.Operator.{Block, Refuses, Does, Ticks, Quits}
 use Rattle.its_plain.specs.OperatorLines.{Lined, Done, Peeks, lined}
 use Rattle.its_plain.specs.Transcript.{Fate, Walk, at_start, after_letter, walk_after, next_line, Transcript}
-use Rattle.its_plain.specs.Unrolled.{turn_after, highest, turns_asked, ticks_asked, machine_after, after_letters, Turn, chosen, turns, machine_behind, last_behind, Part, alone, part_by, stand_after, parts_from, items_of, unrolled}
+use Rattle.its_plain.specs.Unrolled.{turn_after, highest, turns_asked, ticks_asked, machine_after, after_letters, Turn, chosen, turns, machine_behind, last_behind, Part, part_by, stand_after, parts_from, items_of, unrolled}
 use Rattle.its_plain.proofs.RunLaws.{PacedOn, LinedOn, Run, run_shows, shows_run}
 use Rattle.its_plain.proofs.UnrolledLaws.{alone_items}
 

@@ -7,3 +7,8 @@ pub mod Verified
 pub mod Sources
 pub mod Keeping
 pub mod Hearing
+pub mod Standing
+pub mod Trial
+pub mod Showing
+pub mod Going
+pub mod Finds

@@ -3,3 +3,4 @@ pub mod ChainLaws
 pub mod MakingLaws
 pub mod ReadLaws
 pub mod TestLaws
+pub mod SeriesLaws

@@ -1,5 +1,5 @@
 -- Why a store is not made, by what making it says.
-use Rattle.std.proofs.Common.{◌≡◌, [], ◌∷◌, ℕ, Bool, true, false, Option, Some, None, Ok, Err, refl, sym, ◌∙◌, ap}
+use Rattle.std.proofs.Common.{◌≡◌, [], ◌∷◌, ℕ, Bool, true, false, Option, Some, None, Err, refl, ◌∙◌, ap}
 use Rattle.its_word.specs.Core.{Core, can_store, putting, store, word_at}
 use Rattle.its_word.specs.Only.{Only}
 use Rattle.its_word.specs.Stores.{place, refusal, stored}

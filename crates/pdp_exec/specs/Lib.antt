@@ -1,3 +1,4 @@
 pub mod Answer
 pub mod Ready
 pub mod Stores
+pub mod Units

@@ -11,6 +11,7 @@ ghost use Rattle.its_plain.specs.UnitMoves.{half_row, move_row};
 ghost use Rattle.its_plain.specs.UnitPlan.{Fits};
 ghost use Rattle.its_plain.specs.UnitTests.{test_row};
 ghost use Rattle.pdp_exec.specs.Answer.{InPlace};
+ghost use Rattle.pdp_exec.specs.Ready.{Stands};
 
 use super::arithmetic::{arithmetic, booleans, shifts};
 use super::branches::{branches, stack};
@@ -171,9 +172,74 @@ fn picking(core: &mut Core, slot: u8, job: &mut Job, x: &Context, op: ByteOp) ->
     made(bytes(core, slot, x, op), core, slot, job)
 }
 
-/// One unit of the job of a slot. Its arms are the opcodes that come often, each with its operation, mode and
-/// condition; any other unit is made by `rarely`. It is to stand in the loop of units that calls it, since a call costs a fifth of a
-/// unit: all registers that it uses are saved, and what the loop keeps in them is loaded again. (It is too large for that yet.)
+/// The unit that stands at the PC of a job, by its opcode: the operations that come often, but not as often as those of
+/// `frequent`. It takes its context by value: what is handed on by reference would be kept in memory on the way that
+/// is gone most.
+#[inline(never)]
+#[tactic(auto, using(crate::proofs::ChainLaws::stands, crate::proofs::ChainLaws::stands_call), unfolding(its_plain::specs::Unit::row_of, its_word::specs::Opcode::instruction_of, its_word::specs::Opcode::mode_of, its_word::specs::Opcode::full_word_opcode, its_word::specs::Opcode::shift_opcode, its_word::specs::Opcode::branch_opcode, its_word::specs::Opcode::stack_opcode, its_word::specs::Opcode::compare_opcode, its_word::specs::Opcode::test_opcode, its_word::specs::Opcode::mask_of, its_word::specs::Opcode::byte_opcode, its_word::specs::Opcode::monitor_opcode))]
+fn often(core: &mut Core, slot: u8, job: &mut Job, opcode: u32, context: Context) -> Ended
+    requires slot { slot < slots }
+    requires pc { job.old.pc < 2 ^ 18 }
+    requires stands { Stands (core_at core.old slot) job.old opcode context }
+    requires fits { Fits context }
+    ensures { InPlace result (unit_of (core_at core.old slot) job.old) core.old core.new slot job.old job.new }
+{
+    let x = &context;
+    match opcode {
+        0o205 => moving(core, slot, job, x, MoveOp::Swap, Mode::Immediate),
+        0o554 => halving(core, slot, job, x, 11, Mode::Basic),
+        0o242 => shifting(core, slot, job, x, ShiftOp::Lsh),
+        0o400 => combining(core, slot, job, x, 0, Mode::Basic),
+        0o402 => combining(core, slot, job, x, 0, Mode::Memory),
+        0o404 => combining(core, slot, job, x, 1, Mode::Basic),
+        0o405 => combining(core, slot, job, x, 1, Mode::Immediate),
+        0o434 => combining(core, slot, job, x, 7, Mode::Basic),
+        0o474 => combining(core, slot, job, x, 15, Mode::Basic),
+        0o321 => made(jumps(core, slot, x, 1), core, slot, job),
+        0o323 => made(jumps(core, slot, x, 3), core, slot, job),
+        0o325 => made(jumps(core, slot, x, 5), core, slot, job),
+        0o327 => made(jumps(core, slot, x, 7), core, slot, job),
+        0o340 => made(aoj(core, slot, x, 0), core, slot, job),
+        0o350 => made(aos(core, slot, x, 0), core, slot, job),
+        0o360 => made(soj(core, slot, x, 0), core, slot, job),
+        0o364 => made(soj(core, slot, x, 4), core, slot, job),
+        0o370 => made(sos(core, slot, x, 0), core, slot, job),
+        0o301 => made(cai(core, slot, x, 1), core, slot, job),
+        0o303 => made(cai(core, slot, x, 3), core, slot, job),
+        0o305 => made(cai(core, slot, x, 5), core, slot, job),
+        0o307 => made(cai(core, slot, x, 7), core, slot, job),
+        0o311 => made(cam(core, slot, x, 1), core, slot, job),
+        0o312 => made(cam(core, slot, x, 2), core, slot, job),
+        0o313 => made(cam(core, slot, x, 3), core, slot, job),
+        0o315 => made(cam(core, slot, x, 5), core, slot, job),
+        0o316 => made(cam(core, slot, x, 6), core, slot, job),
+        0o317 => made(cam(core, slot, x, 7), core, slot, job),
+        0o331 => made(skips(core, slot, x, 1), core, slot, job),
+        0o333 => made(skips(core, slot, x, 3), core, slot, job),
+        0o335 => made(skips(core, slot, x, 5), core, slot, job),
+        0o337 => made(skips(core, slot, x, 7), core, slot, job),
+        0o602 => testing(core, slot, job, x, MaskOp::Tr, 1, 0),
+        0o606 => testing(core, slot, job, x, MaskOp::Tr, 3, 0),
+        0o620 => testing(core, slot, job, x, MaskOp::Tr, 0, 1),
+        0o621 => testing(core, slot, job, x, MaskOp::Tl, 0, 1),
+        0o660 => testing(core, slot, job, x, MaskOp::Tr, 0, 3),
+        0o661 => testing(core, slot, job, x, MaskOp::Tl, 0, 3),
+        0o253 => jumping(core, slot, job, x, BranchOp::Aobjn),
+        0o261 => stacking(core, slot, job, x, StackOp::Push),
+        0o262 => stacking(core, slot, job, x, StackOp::Pop),
+        0o265 => stacking(core, slot, job, x, StackOp::Jsp),
+        0o135 => picking(core, slot, job, x, ByteOp::Ldb),
+        0o137 => picking(core, slot, job, x, ByteOp::Dpb),
+        0o040 => Ended::Call,
+        0o043 if x.a == 0 => Ended::Call,
+        _ => rarely(core, slot, job),
+    }
+}
+
+/// One unit of the job of a slot. Its arms are the opcodes that come most often, each with its operation, mode and
+/// condition; any other unit is made by `often` and `rarely`. It is to stand in the loop of units that calls it, since a
+/// call costs a fifth of a unit: all registers that it uses are saved, and what the loop keeps in them is loaded again. For
+/// that it has to have one caller, and not too many arms.
 #[inline(always)]
 #[tactic(auto, using(crate::proofs::ChainLaws::stands, crate::proofs::ChainLaws::stands_call), unfolding(its_plain::specs::Unit::row_of, its_word::specs::Opcode::instruction_of, its_word::specs::Opcode::mode_of, its_word::specs::Opcode::full_word_opcode, its_word::specs::Opcode::shift_opcode, its_word::specs::Opcode::branch_opcode, its_word::specs::Opcode::stack_opcode, its_word::specs::Opcode::compare_opcode, its_word::specs::Opcode::test_opcode, its_word::specs::Opcode::mask_of, its_word::specs::Opcode::byte_opcode, its_word::specs::Opcode::monitor_opcode))]
 pub fn frequent(core: &mut Core, slot: u8, job: &mut Job) -> Ended
@@ -189,74 +255,28 @@ pub fn frequent(core: &mut Core, slot: u8, job: &mut Job) -> Ended
         0o200 => moving(core, slot, job, x, MoveOp::Plain, Mode::Basic),
         0o201 => moving(core, slot, job, x, MoveOp::Plain, Mode::Immediate),
         0o202 => moving(core, slot, job, x, MoveOp::Plain, Mode::Memory),
-        0o205 => moving(core, slot, job, x, MoveOp::Swap, Mode::Immediate),
         0o550 => halving(core, slot, job, x, 10, Mode::Basic),
-        0o554 => halving(core, slot, job, x, 11, Mode::Basic),
         0o270 => working(core, slot, job, x, ArithmeticOp::Add, Mode::Basic),
         0o271 => working(core, slot, job, x, ArithmeticOp::Add, Mode::Immediate),
         0o274 => working(core, slot, job, x, ArithmeticOp::Sub, Mode::Basic),
         0o275 => working(core, slot, job, x, ArithmeticOp::Sub, Mode::Immediate),
-        0o242 => shifting(core, slot, job, x, ShiftOp::Lsh),
-        0o400 => combining(core, slot, job, x, 0, Mode::Basic),
-        0o402 => combining(core, slot, job, x, 0, Mode::Memory),
-        0o404 => combining(core, slot, job, x, 1, Mode::Basic),
-        0o405 => combining(core, slot, job, x, 1, Mode::Immediate),
-        0o434 => combining(core, slot, job, x, 7, Mode::Basic),
-        0o474 => combining(core, slot, job, x, 15, Mode::Basic),
-        0o321 => made(jumps(core, slot, x, 1), core, slot, job),
         0o322 => made(jumps(core, slot, x, 2), core, slot, job),
-        0o323 => made(jumps(core, slot, x, 3), core, slot, job),
-        0o325 => made(jumps(core, slot, x, 5), core, slot, job),
         0o326 => made(jumps(core, slot, x, 6), core, slot, job),
-        0o327 => made(jumps(core, slot, x, 7), core, slot, job),
-        0o340 => made(aoj(core, slot, x, 0), core, slot, job),
         0o344 => made(aoj(core, slot, x, 4), core, slot, job),
-        0o350 => made(aos(core, slot, x, 0), core, slot, job),
-        0o360 => made(soj(core, slot, x, 0), core, slot, job),
-        0o364 => made(soj(core, slot, x, 4), core, slot, job),
         0o365 => made(soj(core, slot, x, 5), core, slot, job),
         0o367 => made(soj(core, slot, x, 7), core, slot, job),
-        0o370 => made(sos(core, slot, x, 0), core, slot, job),
-        0o301 => made(cai(core, slot, x, 1), core, slot, job),
         0o302 => made(cai(core, slot, x, 2), core, slot, job),
-        0o303 => made(cai(core, slot, x, 3), core, slot, job),
-        0o305 => made(cai(core, slot, x, 5), core, slot, job),
         0o306 => made(cai(core, slot, x, 6), core, slot, job),
-        0o307 => made(cai(core, slot, x, 7), core, slot, job),
-        0o311 => made(cam(core, slot, x, 1), core, slot, job),
-        0o312 => made(cam(core, slot, x, 2), core, slot, job),
-        0o313 => made(cam(core, slot, x, 3), core, slot, job),
-        0o315 => made(cam(core, slot, x, 5), core, slot, job),
-        0o316 => made(cam(core, slot, x, 6), core, slot, job),
-        0o317 => made(cam(core, slot, x, 7), core, slot, job),
-        0o331 => made(skips(core, slot, x, 1), core, slot, job),
         0o332 => made(skips(core, slot, x, 2), core, slot, job),
-        0o333 => made(skips(core, slot, x, 3), core, slot, job),
-        0o335 => made(skips(core, slot, x, 5), core, slot, job),
         0o336 => made(skips(core, slot, x, 6), core, slot, job),
-        0o337 => made(skips(core, slot, x, 7), core, slot, job),
-        0o602 => testing(core, slot, job, x, MaskOp::Tr, 1, 0),
         0o603 => testing(core, slot, job, x, MaskOp::Tl, 1, 0),
-        0o606 => testing(core, slot, job, x, MaskOp::Tr, 3, 0),
         0o607 => testing(core, slot, job, x, MaskOp::Tl, 3, 0),
-        0o620 => testing(core, slot, job, x, MaskOp::Tr, 0, 1),
-        0o621 => testing(core, slot, job, x, MaskOp::Tl, 0, 1),
-        0o660 => testing(core, slot, job, x, MaskOp::Tr, 0, 3),
-        0o661 => testing(core, slot, job, x, MaskOp::Tl, 0, 3),
-        0o253 => jumping(core, slot, job, x, BranchOp::Aobjn),
         0o254 if x.a == 0 => jumping(core, slot, job, x, BranchOp::Jrst),
         0o255 => jumping(core, slot, job, x, BranchOp::Jfcl),
         0o260 => stacking(core, slot, job, x, StackOp::Pushj),
-        0o261 => stacking(core, slot, job, x, StackOp::Push),
-        0o262 => stacking(core, slot, job, x, StackOp::Pop),
         0o263 => stacking(core, slot, job, x, StackOp::Popj),
-        0o265 => stacking(core, slot, job, x, StackOp::Jsp),
         0o134 => picking(core, slot, job, x, ByteOp::Ildb),
-        0o135 => picking(core, slot, job, x, ByteOp::Ldb),
         0o136 => picking(core, slot, job, x, ByteOp::Idpb),
-        0o137 => picking(core, slot, job, x, ByteOp::Dpb),
-        0o040 => Ended::Call,
-        0o043 if x.a == 0 => Ended::Call,
-        _ => rarely(core, slot, job),
+        _ => often(core, slot, job, opcode, context),
     }
 }

@@ -12,9 +12,11 @@ mod making;
 mod moves;
 mod plans;
 mod reads;
+mod series;
 mod stores;
 #[cfg(test)]
 mod tests;
 mod units;
 
+pub use series::run_units;
 pub use units::{Ended, Outcome, run, site, unit};

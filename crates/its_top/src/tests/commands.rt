@@ -1,10 +1,10 @@
-//! The commands of the program: which words are one, and what `check`, `gen` and `asm` write.
+//! The commands of the program: which words are one, and what `check`, `gen`, `verify` and `asm` write.
 
 use super::super::Status;
 use super::{FIRST, tried};
 use std::test::Fail;
 
-const USAGE: &str = "usage: its run | its check | its gen N | its asm\n";
+const USAGE: &str = "usage: its run | its check | its gen N | its verify | its asm\n";
 
 /// Words that are no command, a row each; the first has none, and the second one without a letter.
 static NO_COMMANDS: &str = "
@@ -12,6 +12,7 @@ static NO_COMMANDS: &str = "
  run x
  run 1
  check 1
+ verify 1
  asm 1
  -run
  -- run
@@ -61,6 +62,66 @@ TYPE 10 200
 = ? 2 RANGE
 # check = LOAD U J -
 100/ 2010= ? 3 CUT
+# verify = LOAD U J -
+100/ 201040000005 202040000200
+GO 100
+TICK 0 2
+EXAM 0 200 1
+END
+J 0
+T 0 2*
+E 0 000200 000000000005
+= YES 3
+# verify = LOAD U J -
+100/ 201040000005 202040000200
+GO 100
+TICK 0 2
+EXAM 0 200 1
+END
+J 0
+T 0 2-
+E 0 000200 000000000005
+= NO 2
+# verify = LOAD U J -
+100/ 201040000005 202040000200
+GO 100
+TICK 0 2
+EXAM 0 200 1
+END
+J 0
+T 0 2.
+E 0 000200 000000000005
+= NO 3
+# verify = LOAD U J -
+100/ 201040000005 202040000200
+GO 100
+TICK 0 2
+EXAM 0 200 1
+END
+J 0
+T 0 2*
+= NO 3
+# verify = LOAD U J -
+100/ 201040000005 202040000200
+GO 100
+TICK 0 2
+EXAM 0 200 1
+END
+J 0
+T 0 2*
+E 0 000200 000000000005= NO 3
+# verify = LOAD U J -
+100/ 201040000005 202040000200
+GO 100
+TICK 0 2
+EXAM 0 200 1
+= ? 6 CUT
+# verify = = ? 1 CUT
+# verify = LOAD U J -
+  END 
+J 0
+? 2 SYNTAX
+= YES 2
 ";
 
 /// Assembly texts, and what is written of each.
@@ -112,7 +173,7 @@ fn commands(rt: HostRuntime) -> Result<(), Fail> {
         let (session, wanted) = rest.split_once("= ").expect(&rt, "what is written");
         let got = tried(rt.alloc(), words, session.as_bytes(), 512, (&[], &[]))?;
         assert_eq!(rt; got.wrote.as_slice(), wanted.as_bytes(), "at {row}");
-        let refused = wanted.contains('?');
+        let refused = wanted.contains('?') || wanted.starts_with("NO");
         assert_eq!(rt; got.status == Status::Refused, refused, "at {row}");
         assert_eq!(rt; got.status == Status::Done, !refused, "at {row}");
         let reads = !words.starts_with(" gen");
@@ -130,6 +191,32 @@ fn texts(rt: HostRuntime) -> Result<(), Fail> {
         let refused = wanted.starts_with("?");
         assert_eq!(rt; got.status == Status::Refused, refused, "at {row}");
         assert_eq!(rt; got.status == Status::Done, !refused, "at {row}");
+    }
+    Ok(())
+}
+
+/// A transcript's line of PEEK may have 1543 bytes before its LF; and a session's line of 256 bytes is too long.
+#[test]
+fn long_lines(rt: HostRuntime) -> Result<(), Fail> {
+    let alloc = rt.alloc();
+    for (before, count, answer) in [
+        (
+            "LOAD U J -\nGO 100\nPEEK 0\nEND\nJ 0\nP ",
+            1541u32,
+            "YES 2\n",
+        ),
+        ("LOAD U J -\nGO 100\nPEEK 0\nEND\nJ 0\nP ", 1542, "NO 2\n"),
+        ("TICK 0 1\n;", 254, "? 3 CUT\n"),
+        ("TICK 0 1\n;", 255, "? 2 LONG\n"),
+    ] {
+        let mut input = String::new(alloc);
+        input.push_str(before)?;
+        for _ in 0..count {
+            input.push('x')?;
+        }
+        input.push('\n')?;
+        let got = tried(alloc, " verify", input.as_bytes(), 512, (&[], &[]))?;
+        assert_eq!(rt; got.wrote.as_slice(), answer.as_bytes(), "at {count}");
     }
     Ok(())
 }
@@ -174,6 +261,14 @@ fn faults(rt: HostRuntime) -> Result<(), Fail> {
         ),
         (" check", first, (&[2][..], &[][..]), "", Status::ReadFault),
         (" check", first, (&[][..], &[0][..]), "", Status::WriteFault),
+        (" verify", first, (&[2][..], &[][..]), "", Status::ReadFault),
+        (
+            " verify",
+            first,
+            (&[][..], &[0][..]),
+            "",
+            Status::WriteFault,
+        ),
     ] {
         let got = tried(rt.alloc(), words, session, 16, fails)?;
         assert_eq!(rt; got.wrote.as_slice(), wanted.as_bytes(), "at {words}");

@@ -1,7 +1,5 @@
-use Rattle.std.proofs.Common.{refl, sym, ◌∙◌, ap, inl, inr}
+use Rattle.std.proofs.Common.{refl, sym, ◌∙◌, inl, inr}
 use Rattle.its_world.specs.Filed.{Blocked}
-use Rattle.its_operator.specs.Kept.{Kept}
-use Rattle.its_monitor.specs.Ticks.{InRing}
 use Rattle.its_monitor.proofs.BesideLaws.{all_beside}
 use Rattle.its_monitor.proofs.TickLaws.{state_ticked, pace_ticked, tick_licensed}
 use Rattle.its_monitor.proofs.WaitingLaws.{tick_blocked, pages_blocked, waits_blocked}

@@ -1,4 +1,4 @@
-use Rattle.std.proofs.Common.{refl, inl, inr}
+use Rattle.std.proofs.Common.{inl, inr}
 use Rattle.its_monitor.proofs.ticks.waits_on.Goals as goal
 
 pub is_blocked-requires-clause-stands : goal.is_blocked-requires-clause-stands

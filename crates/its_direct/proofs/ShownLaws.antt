@@ -1,0 +1,151 @@
+-- What EXAM, LIST and STATE show of a job: its words, one by one, and the symbol that is nearest to its PC.
+use Rattle.std.specs.Prelude.{◌≡◌, ◌≤◌, ◌<◌, ◌+◌, ◌-◌, ◌%◌, ◌^◌, ◌&&◌, not, ℕ, zero, suc, Bool, true, false, Option, Some, None, IfSome, List, [], ◌∷◌, ◌++◌, Ok, Err, option_map, length, drop, nat_lt, cond, slice_index_or, refl}
+use Rattle.std.proofs.Common.{sym, ◌∙◌, ap, subst, inl, inr, arith}
+use Rattle.std.proofs.lemmas.Bool.{cases_Bool, ltb-false}
+use Rattle.std.proofs.lemmas.List.{append-nil, length-append, append_assoc}
+use Rattle.its_word.specs.ArrayVec.{ArrayVec}
+use Rattle.its_word.specs.Core.{Core, word_at}
+use Rattle.its_word.specs.declared.jobs.Job.{Job}
+use Rattle.its_word.specs.declared.session.Reason.TheVariants as reasons
+use Rattle.its_core.specs.Cores.{core_at}
+use Rattle.its_jobs.specs.Table.{job_at, superior_at}
+use Rattle.its_parts.specs.Parts.{symbols_at}
+use Rattle.its_plain.specs.Machine.{Symbol, joined, words_at}
+use Rattle.its_plain.specs.OperatorJobs.{on_job, seen, examined, shown, state_shown}
+use Rattle.its_plain.specs.OperatorSymbols.{is_nearer, nearer, nearest_after, nearest, with_distance, symbol_shown}
+use Rattle.its_direct.specs.Plain.{machine_of}
+use Rattle.its_direct.specs.declared.plain.Plain.{Plain}
+use Rattle.its_direct.proofs.LineLaws.{examined_own}
+use Rattle.its_direct.proofs.UserLaws.{own_is}
+
+-- the first k of n words are gathered
+pub record Gathering (c : Core) (a n k : ℕ) (ws : List ℕ) : Type 0 where
+  pub count : length ws ≡ k
+  pub rest : option_map (λ xs. ws ++ xs) (words_at c (a + k) (n - k)) ≡ words_at c a n
+
+nothing_before : (o : Option (List ℕ)) → option_map (λ xs. [] ++ xs) o ≡ o
+nothing_before (Some xs) = refl
+nothing_before None = refl
+
+pub gathering_starts : (c : Core) (a n : ℕ) → Gathering c a n 0 []
+gathering_starts c a n = record {
+  count = refl;
+  rest =
+      let d : a + 0 ≡ a = omega arith in
+      let e : n - 0 ≡ n = omega arith in
+      nothing_before (words_at c (a + 0) (n - 0)) ∙ ap (λ (k : ℕ). words_at c k (n - 0)) d ∙ ap (λ (k : ℕ). words_at c a k) e;
+}
+
+behind : (ws : List ℕ) (w : ℕ) (o : Option (List ℕ)) → option_map (λ xs. ws ++ xs) (joined (Some w) o) ≡ option_map (λ xs. (ws ++ w ∷ []) ++ xs) o
+behind ws w (Some xs) = ap Some (sym (append_assoc ws (w ∷ []) xs))
+behind ws w None = refl
+
+next_word : (c : Core) (a n k : ℕ) → k < n → words_at c (a + k) (n - k) ≡ joined (word_at c ((a + k) % 2 ^ 18)) (words_at c (a + (k + 1)) (n - (k + 1)))
+unfolding words_at
+next_word c a n k l =
+    let e : n - k ≡ suc (n - (k + 1)) = omega arith in
+    let d : a + k + 1 ≡ a + (k + 1) = omega arith in
+    ap (λ (m : ℕ). words_at c (a + k) m) e ∙ ap (λ (m : ℕ). joined (word_at c ((a + k) % 2 ^ 18)) (words_at c m (n - (k + 1)))) d
+
+pub gathering_more : (c : Core) (a n k w : ℕ) (o : Option ℕ) (ws : List ℕ) → Gathering c a n k ws → k < n → o ≡ word_at c ((a + k) % 2 ^ 18) → o ≡ Some w → Gathering c a n (k + 1) (ws ++ w ∷ [])
+gathering_more c a n k w o ws h l is some = record {
+  count = let n = length-append ws (w ∷ []) in let e = h.count in omega arith;
+  rest = sym (behind ws w (words_at c (a + (k + 1)) (n - (k + 1))))
+      ∙ ap (λ x. option_map (λ xs. ws ++ xs) (joined x (words_at c (a + (k + 1)) (n - (k + 1))))) (sym some ∙ is)
+      ∙ sym (ap (option_map (λ xs. ws ++ xs)) (next_word c a n k l)) ∙ h.rest;
+}
+
+pub gathering_stops : (c : Core) (a n k : ℕ) (o : Option ℕ) (ws : List ℕ) → Gathering c a n k ws → k < n → o ≡ word_at c ((a + k) % 2 ^ 18) → o ≡ None → None ≡ words_at c a n
+gathering_stops c a n k o ws h l is none =
+    ap (λ x. option_map (λ xs. ws ++ xs) (joined x (words_at c (a + (k + 1)) (n - (k + 1))))) (sym none ∙ is)
+    ∙ sym (ap (option_map (λ xs. ws ++ xs)) (next_word c a n k l)) ∙ h.rest
+
+pub gathering_ends : (c : Core) (a n k : ℕ) (ws : List ℕ) → Gathering c a n k ws → n ≤ k → Some ws ≡ words_at c a n
+unfolding words_at
+gathering_ends c a n k ws h l =
+    let e : n - k ≡ 0 = omega arith in
+    ap Some (sym (append-nil ws)) ∙ sym (ap (λ (m : ℕ). option_map (λ xs. ws ++ xs) (words_at c (a + k) m)) e) ∙ h.rest
+
+-- the words that a line shows
+pub words_found : (p : Plain) (s a n : ℕ) (i : Job) (j : Option Job) (o : Option (ArrayVec ℕ)) (ws : ArrayVec ℕ) → j ≡ job_at p.jobs s → j ≡ Some i
+    → option_map (λ (v : ArrayVec ℕ). v.items) o ≡ words_at (core_at p.core s) a n → o ≡ Some ws → examined (machine_of p) s a n ≡ Ok ws.items
+words_found p s a n i j o ws is had found some =
+    examined_own p s a n i (sym is ∙ had) ∙ ap seen (sym found ∙ ap (option_map (λ (v : ArrayVec ℕ). v.items)) some)
+
+pub words_missing : (p : Plain) (s a n : ℕ) (i : Job) (j : Option Job) (o : Option (ArrayVec ℕ)) → j ≡ job_at p.jobs s → j ≡ Some i
+    → option_map (λ (v : ArrayVec ℕ). v.items) o ≡ words_at (core_at p.core s) a n → o ≡ None → examined (machine_of p) s a n ≡ Err reasons.NoPage
+words_missing p s a n i j o is had found none =
+    examined_own p s a n i (sym is ∙ had) ∙ ap seen (sym found ∙ ap (option_map (λ (v : ArrayVec ℕ). v.items)) none)
+
+-- STATE
+symbols_of : (p : Plain) (s : ℕ) → (machine_of p).symbols s ≡ symbols_at p.symbols.items s
+unfolding machine_of
+symbols_of p s = refl
+
+pub state_found : (p : Plain) (s : ℕ) (i : Job) (j : Option Job) (u : Option ℕ) (x : Option Symbol) → j ≡ job_at p.jobs s → j ≡ Some i → u ≡ superior_at p.jobs s
+    → x ≡ symbol_shown i.pc (symbols_at p.symbols.items s) → state_shown (machine_of p) s ≡ Ok (shown i u x)
+unfolding state_shown
+state_found p s i j u x is had superior symbol =
+    ap (on_job (machine_of p) s (λ q. Ok (shown q.job q.superior (symbol_shown q.job.pc ((machine_of p).symbols s))))) (own_is p s i (sym is ∙ had))
+    ∙ ap (λ (ss : List Symbol). Ok (shown i (superior_at p.jobs s) (symbol_shown i.pc ss))) (symbols_of p s)
+    ∙ ap (λ y. Ok (shown i (superior_at p.jobs s) y)) (sym symbol) ∙ ap (λ y. Ok (shown i y x)) (sym superior)
+
+-- STATE shows what its version has
+pub version_of : (p : Plain) → (machine_of p).version ≡ p.version
+unfolding machine_of
+version_of p = refl
+
+-- the symbol that is nearest to a PC, found by looking at one after another
+drop_next : (ss : List Symbol) (i : ℕ) (x : Symbol) → i < length ss → x ≡ slice_index_or ss i x → drop i ss ≡ x ∷ drop (suc i) ss
+drop_next [] i x l e = absurd (omega arith)
+drop_next (y ∷ ss) zero x l e = ap (λ z. z ∷ ss) (sym e)
+drop_next (y ∷ ss) (suc i) x l e = drop_next ss i x (omega arith) e
+
+drop_past : (ss : List Symbol) (i : ℕ) → length ss ≤ i → drop i ss ≡ []
+drop_past [] zero l = refl
+drop_past [] (suc i) l = refl
+drop_past (y ∷ ss) zero l = absurd (omega arith)
+drop_past (y ∷ ss) (suc i) l = drop_past ss i (omega arith)
+
+-- the first i symbols are looked at
+pub record Looking (pc : ℕ) (ss : List Symbol) (i : ℕ) (best : Option Symbol) : Type 0 where
+  pub left : nearest_after pc best (drop i ss) ≡ nearest pc ss
+  pub below : IfSome best (λ b. b.1 ≤ pc)
+
+pub near_start : (pc : ℕ) (ss : List Symbol) → Looking pc ss 0 None
+unfolding nearest
+near_start pc ss = record { left = refl; below = tt }
+
+near_by : (pc : ℕ) (best : Option Symbol) (x : Symbol) (b : Bool) → is_nearer pc best x ≡ b → IfSome best (λ y. y.1 ≤ pc) → IfSome (cond b (Some x) best) (λ y. y.1 ≤ pc)
+near_by pc best x false is h = h
+near_by pc (Some y) x true is h = under pc x.1 (nat_lt x.1 y.1) is
+  where
+    under : (pc a : ℕ) (b : Bool) → (not (nat_lt pc a) && not b) ≡ true → a ≤ pc
+    under pc a b e = elim (cases_Bool (nat_lt pc a)) [
+      | inl t ↦ let no : (not true && not b) ≡ true = subst (λ c. (not c && not b) ≡ true) t e in absurd cc
+      | inr f ↦ ltb-false pc a f
+    ]
+near_by pc None x true is h = elim (cases_Bool (nat_lt pc x.1)) [
+  | inl t ↦ let no : not true ≡ true = subst (λ c. not c ≡ true) t is in absurd cc
+  | inr f ↦ ltb-false pc x.1 f
+]
+
+pub near_next : (pc : ℕ) (ss : List Symbol) (i : ℕ) (best y : Option Symbol) (x : Symbol) → i < length ss → x ≡ slice_index_or ss i x → y ≡ nearer pc best x → Looking pc ss i best
+    → Looking pc ss (i + 1) y
+near_next pc ss i best y x l e is h = record {
+  left =
+      let next : i + 1 ≡ suc i = omega arith in
+      ap (λ (k : ℕ). nearest_after pc y (drop k ss)) next ∙ ap (λ (o : Option Symbol). nearest_after pc o (drop (suc i) ss)) is
+      ∙ sym (ap (nearest_after pc best) (drop_next ss i x l e)) ∙ h.left;
+  below = subst (λ (o : Option Symbol). IfSome o (λ z. z.1 ≤ pc)) (sym is) (near_by pc best x (is_nearer pc best x) refl h.below);
+}
+
+found : (pc : ℕ) (ss : List Symbol) (i : ℕ) (best : Option Symbol) → length ss ≤ i → Looking pc ss i best → best ≡ nearest pc ss
+found pc ss i best l h = sym (ap (nearest_after pc best) (drop_past ss i l)) ∙ h.left
+
+pub near_some : (pc : ℕ) (ss : List Symbol) (i : ℕ) (best : Option Symbol) (name a : ℕ) → length ss ≤ i → Looking pc ss i best → best ≡ Some (name, a)
+    → Some (name, pc - a) ≡ symbol_shown pc ss
+near_some pc ss i best name a l h e = sym (ap (with_distance pc) e) ∙ ap (with_distance pc) (found pc ss i best l h)
+
+pub near_none : (pc : ℕ) (ss : List Symbol) (i : ℕ) (best : Option Symbol) → length ss ≤ i → Looking pc ss i best → best ≡ None → None ≡ symbol_shown pc ss
+near_none pc ss i best l h e = sym (ap (with_distance pc) e) ∙ ap (with_distance pc) (found pc ss i best l h)

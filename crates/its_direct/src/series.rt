@@ -1,0 +1,65 @@
+//! Units of one job, one after another.
+ghost use Rattle.std.specs.Prelude.{◌≡◌, ◌≢◌, ◌<◌, ◌≤◌, ◌^◌, ℕ, false, Some, None, is_some};
+ghost use Rattle.its_word.specs.Limits.{slots};
+ghost use Rattle.its_core.specs.Cores.{core_at};
+ghost use Rattle.its_jobs.specs.Table.{job_at};
+ghost use Rattle.pdp_exec.specs.Units.{after_unit, left};
+ghost use Rattle.its_direct.specs.Plain.{machine_of, is_touched, Tidy};
+ghost use Rattle.its_direct.specs.Events.{Kept};
+ghost use Rattle.its_direct.specs.Series.{Series};
+
+use super::plain::Plain;
+use its_word::Job;
+use pdp_exec::run_units;
+
+impl Plain {
+    /// As many units of a slot's job as can be made while no interrupt is deliverable and none is a call, n at most; how many. Each of them is
+    /// a step of the job alone. None is made where the slot is empty or its job is stopped; then nothing changes.
+    #[tactic(auto, using(crate::proofs::SlotLaws::placed_at, crate::proofs::SeriesLaws::series_kept))]
+    pub fn steps(&mut self, slot: u8, n: u32) -> u32
+        requires slot { slot < slots }
+        requires kept { Kept self.old }
+        ensures few { result ≤ n }
+        ensures series { Series result (machine_of self.old) slot (machine_of self.new) }
+        ensures jobs { (k : ℕ) → is_some ((machine_of self.new).jobs k) ≡ is_some ((machine_of self.old).jobs k) }
+        ensures touched { result ≢ 0 → (k : ℕ) → is_touched self.new k ≡ false }
+        ensures same { result ≡ 0 → self.new ≡ self.old }
+        ensures place { self.new.place ≡ self.old.place }
+        ensures kept { Kept self.new }
+    {
+        let Some(job) = self.job(slot) else {
+            return 0;
+        };
+        if job.stopped {
+            return 0;
+        }
+        self.units(slot, job, n)
+    }
+
+    /// Makes up to n units of the running job of a slot, whose registers these are, as long as no interrupt is deliverable and
+    /// none is a call; how many were made. Where none was, nothing changes.
+    pub(crate) fn units(&mut self, slot: u8, job: Job, n: u32) -> u32
+        requires slot { slot < slots }
+        requires job { job_at self.old.jobs slot ≡ Some job }
+        requires runs { job.stopped ≡ false }
+        requires pc { job.pc < 2 ^ 18 }
+        requires tidy { Tidy self.old }
+        ensures few { result ≤ n }
+        ensures series { Series result (machine_of self.old) slot (machine_of self.new) }
+        ensures jobs { (k : ℕ) → is_some ((machine_of self.new).jobs k) ≡ is_some ((machine_of self.old).jobs k) }
+        ensures touched { result ≢ 0 → (k : ℕ) → is_touched self.new k ≡ false }
+        ensures same { result ≡ 0 → self.new ≡ self.old }
+        ensures first { result ≡ 0 → 0 < n → after_unit (Some (left (core_at self.old.core slot) job)) ≡ None }
+        ensures place { self.new.place ≡ self.old.place }
+        ensures tidy { Tidy self.new }
+    {
+        let mut after = job;
+        let made = run_units(&mut self.core, slot, &mut after, n);
+        if made == 0 {
+            return 0;
+        }
+        self.put_job(slot, after);
+        self.touch_none();
+        made
+    }
+}

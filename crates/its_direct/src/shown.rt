@@ -1,0 +1,126 @@
+//! What the lines EXAM, LIST and STATE show of a job.
+ghost use Rattle.std.specs.Prelude.{◌≡◌, ◌<◌, ◌≤◌, ◌^◌, Ok, Err, IfOk, IfErr, option_map};
+ghost use Rattle.its_word.specs.Limits.{slots};
+ghost use Rattle.its_core.specs.Cores.{core_at};
+ghost use Rattle.its_plain.specs.Job.{pc_word};
+ghost use Rattle.its_plain.specs.Machine.{words_at};
+ghost use Rattle.its_plain.specs.OperatorJobs.{examined, shown, state_shown};
+ghost use Rattle.its_plain.specs.OperatorSymbols.{nearer, symbol_shown};
+ghost use Rattle.its_parts.specs.Parts.{symbols_at};
+ghost use Rattle.its_direct.specs.Plain.{machine_of};
+ghost use Rattle.its_direct.specs.Lines.{reason_of};
+
+use super::plain::Plain;
+use arrayvec::ArrayVec;
+use its_core::Core;
+use its_word::{ADDRESSES, Job, JobShow, Refusal, Word, pc_word};
+
+impl Plain {
+    /// EXAM and LIST: up to eight words of a slot, from an address on. NoJob where the slot is empty, NoPage where one of their
+    /// pages is absent.
+    #[tactic(auto, using(crate::proofs::LineLaws::exam_refused, crate::proofs::ShownLaws::words_missing))]
+    pub fn words(&self, slot: u8, a: u32, n: u32) -> Result<ArrayVec<Word, 8>, Refusal>
+        requires slot { slot < slots }
+        requires address { a < 2 ^ 18 }
+        requires number { n ≤ 8 }
+        ensures shown { IfOk result (λ ws. examined (machine_of self.now) slot a n ≡ Ok ws.items) }
+        ensures refused { IfErr result (λ e. examined (machine_of self.now) slot a n ≡ Err (reason_of e)) }
+    {
+        let Some(_job) = self.job(slot) else {
+            return Err(Refusal::NoJob);
+        };
+        match words_from(&self.core, slot, a, n) {
+            Some(words) => Ok(words),
+            None => Err(Refusal::NoPage),
+        }
+    }
+
+    /// STATE: what is shown of a slot's job. NoJob where the slot is empty.
+    #[tactic(auto, using(crate::proofs::LineLaws::state_refused, crate::proofs::ShownLaws::state_found))]
+    pub fn shown(&self, slot: u8) -> Result<JobShow, Refusal>
+        requires slot { slot < slots }
+        ensures shown { IfOk result (λ show. state_shown (machine_of self.now) slot ≡ Ok show) }
+        ensures refused { IfErr result (λ e. state_shown (machine_of self.now) slot ≡ Err (reason_of e)) }
+    {
+        let Some(job) = self.job(slot) else {
+            return Err(Refusal::NoJob);
+        };
+        let superior = self.jobs.superior(slot);
+        let symbol = self.near(slot, job.pc);
+        Ok(shown(&job, superior, symbol))
+    }
+
+    /// The symbol of a slot's job that is nearest to a PC, and how far the PC lies behind it.
+    fn near(&self, slot: u8, pc: u32) -> Option<(Word, u32)>
+        requires { slot < slots }
+        ensures { result ≡ symbol_shown pc (symbols_at self.now.symbols.items slot) }
+    {
+        nearest(self.symbols[usize::from(slot)].as_slice(), pc)
+    }
+}
+
+/// Up to eight words of a slot, from an address on; None where one of their pages is absent.
+#[tactic(auto, using(crate::proofs::ShownLaws::gathering_starts, crate::proofs::ShownLaws::gathering_more, crate::proofs::ShownLaws::gathering_stops, crate::proofs::ShownLaws::gathering_ends))]
+fn words_from(core: &Core, slot: u8, a: u32, n: u32) -> Option<ArrayVec<Word, 8>>
+    requires slot { slot < slots }
+    requires address { a < 2 ^ 18 }
+    requires number { n ≤ 8 }
+    ensures { option_map (λ ws. ws.items) result ≡ words_at (core_at core.now slot) a n }
+{
+    let mut words = ArrayVec::new();
+    for k in 0..n {
+        match core.word(slot, (a + k) % ADDRESSES) {
+            Some(w) => words.push(w),
+            None => return None,
+        }
+    }
+    Some(words)
+}
+
+/// What STATE shows of a job with this superior and this nearest symbol.
+fn shown(job: &Job, superior: Option<u8>, symbol: Option<(Word, u32)>) -> JobShow
+    ensures { result ≡ shown job.now superior symbol }
+{
+    JobShow {
+        u: job.uname,
+        j: job.jname,
+        sup: superior,
+        con: job.console,
+        run: !job.stopped,
+        pc: pc_word(job.flags, job.pc),
+        p1: job.pend1,
+        p2: job.pend2,
+        m1: job.mask1,
+        m2: job.mask2,
+        d1: job.defer1,
+        d2: job.defer2,
+        symbol,
+    }
+}
+
+/// The symbol of the greatest address at most a PC, of those with one address the last, and how far the PC lies behind it.
+#[tactic(auto, using(crate::proofs::ShownLaws::near_start, crate::proofs::ShownLaws::near_next, crate::proofs::ShownLaws::near_some, crate::proofs::ShownLaws::near_none))]
+fn nearest(symbols: &[(Word, u32)], pc: u32) -> Option<(Word, u32)>
+    ensures { result ≡ symbol_shown pc symbols.now }
+{
+    let mut best = None;
+    for symbol in symbols {
+        best = nearer(pc, best, *symbol);
+    }
+    match best {
+        Some((name, a)) => Some((name, pc - a)),
+        None => None,
+    }
+}
+
+/// The nearer of two symbols to a PC; of two with one address the second.
+fn nearer(pc: u32, best: Option<(Word, u32)>, symbol: (Word, u32)) -> Option<(Word, u32)>
+    ensures { result ≡ nearer pc best symbol }
+{
+    let (_, a) = symbol;
+    let is_nearer = match best {
+        Some((_, b)) => a <= pc && b <= a,
+        None => a <= pc,
+    };
+    if is_nearer { Some(symbol) } else { best }
+}

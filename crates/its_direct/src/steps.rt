@@ -1,0 +1,321 @@
+//! The step of a slot's job, whole: a delivery, a unit, or a call, which is decoded, decided and carried out at once.
+ghost use Rattle.std.specs.Prelude.{◌≡◌, ◌<◌, ◌≤◌, ◌+◌, ◌++◌, [], ℕ, false, Ok, Some, IfSome, IsTrue, is_some, length, slice_index_or};
+ghost use Rattle.its_word.specs.Byte.{has_size};
+ghost use Rattle.its_word.specs.Limits.{slots};
+ghost use Rattle.its_core.specs.Cores.{core_at};
+ghost use Rattle.its_jobs.specs.Table.{job_at};
+ghost use Rattle.its_plain.specs.Arguments.{debts, input, revalued, store_of};
+ghost use Rattle.its_plain.specs.CallStep.{acted, alone, by_ask, decision, deposited, faulted, moved, transition, with_held};
+ghost use Rattle.its_plain.specs.Change.{effects, in_job};
+ghost use Rattle.its_plain.specs.Decide.{reach};
+ghost use Rattle.its_plain.specs.Footprint.{among};
+ghost use Rattle.its_plain.specs.Machine.{core_of};
+ghost use Rattle.its_plain.specs.Unrolled.{is_running};
+ghost use Rattle.its_parts.specs.Can.{HasJob};
+ghost use Rattle.its_decide.specs.Seen.{machine_seen, raw_with};
+ghost use Rattle.its_direct.specs.Effects.{Becomes};
+ghost use Rattle.its_direct.specs.Events.{Kept};
+ghost use Rattle.its_direct.specs.Plain.{machine_of, is_touched, Tidy};
+ghost use Rattle.its_direct.specs.Ready.{Carries, GoesOn, HeldFits, Ready, core_behind};
+ghost use Rattle.its_direct.specs.Steps.{Acts, CallsAt, Lent, LosesOnly, Makes, Steps, marked_by, own_of};
+
+use super::plain::Plain;
+use super::users::Begun;
+use arrayvec::ArrayVec;
+use its_bytes::deposit;
+use its_core::Core;
+use its_decide::{Seen, decide, disturbs};
+use its_frame::{Change, Decision, Held};
+use its_word::{Ask, Fault, Job, SLOTS, Site, Store, Word};
+
+/// For each slot whether something holds of it.
+type Marks = [bool; 96];
+
+impl Plain {
+    /// Whether a slot's job runs.
+    #[tactic(auto, using(crate::proofs::CallStepLaws::running, crate::proofs::CallStepLaws::idle))]
+    pub fn runs(&self, slot: u8) -> bool
+        requires { slot < slots }
+        ensures { result ≡ is_running ((machine_of self.now).jobs slot) }
+    {
+        match self.job(slot) {
+            Some(job) => !job.stopped,
+            None => false,
+        }
+    }
+
+    /// Makes the step of a slot's job: the delivery of an interrupt, a unit, or a whole call. Where there is none, as the slot
+    /// is empty, its job is stopped, or its call waits, nothing changes.
+    #[tactic(auto, using(crate::proofs::CallStepLaws::loses_only, crate::proofs::CallStepLaws::place_stays, crate::proofs::CallStepLaws::kept_after))]
+    pub fn step(&mut self, slot: u8) -> bool
+        requires slot { slot < slots }
+        requires kept { Kept self.old }
+        ensures row { Makes result (transition (machine_of self.old) slot) self.old self.new }
+        ensures loses { LosesOnly self.old self.new slot }
+        ensures place { self.new.place ≡ self.old.place }
+        ensures kept { Kept self.new }
+    {
+        self.make_step(slot)
+    }
+
+    /// Makes the step of a slot's job, where there is one.
+    fn make_step(&mut self, slot: u8) -> bool
+        requires slot { slot < slots }
+        requires kept { Kept self.old }
+        ensures row { Makes result (transition (machine_of self.old) slot) self.old self.new }
+        ensures tidy { Tidy self.new }
+    {
+        match self.begin(slot) {
+            Begun::Still => false,
+            Begun::Stepped => true,
+            Begun::Calls(site) => self.call(slot, &site),
+        }
+    }
+
+    /// The step of the call of a slot's job at a site: the fault of its decoding, or what it decides.
+    fn call(&mut self, slot: u8, site: &Site) -> bool
+        requires slot { slot < slots }
+        requires calls { CallsAt (machine_of self.old) slot site.now (transition (machine_of self.old) slot) }
+        requires kept { Kept self.old }
+        ensures row { Makes result (transition (machine_of self.old) slot) self.old self.new }
+        ensures tidy { Tidy self.new }
+    {
+        let Some(job) = self.job(slot) else {
+            unreachable!()
+        };
+        match self.ask(slot, site) {
+            Ok(ask) => self.act(slot, &job, &ask),
+            Err(fault) => {
+                self.fault(slot, job, fault);
+                true
+            }
+        }
+    }
+
+    /// The decoding of a call of a slot's job, which has these registers, faults: the bit of the fault is set in the job.
+    fn fault(&mut self, slot: u8, job: Job, fault: Fault)
+        requires slot { slot < slots }
+        requires job { job_at self.old.jobs slot ≡ Some job }
+        requires tidy { Tidy self.old }
+        ensures row { Steps self.old self.new (alone (in_job (machine_of self.old) slot (faulted fault))) }
+        ensures tidy { Tidy self.new }
+    {
+        let after = Job {
+            pend1: job.pend1 | fault.bit(),
+            ..job
+        };
+        self.put_job(slot, after);
+        self.touch_none();
+    }
+
+    /// Decides what a call of a slot's job asks for, which has these registers, and carries it out. A call that waits makes no
+    /// step.
+    fn act(&mut self, slot: u8, job: &Job, ask: &Ask) -> bool
+        requires slot { slot < slots }
+        requires job { job_at self.old.jobs slot ≡ Some job.now }
+        requires ready { Ready (machine_of self.old) slot ask.now (decision (machine_of self.old) slot (own_of self.old slot job.now) ask.now) }
+        requires kept { Kept self.old }
+        ensures row { Makes result (by_ask (machine_of self.old) slot (own_of self.old slot job.now) (Ok ask.now)) self.old self.new }
+        ensures tidy { Tidy self.new }
+    {
+        let decision = self.decided(slot, job, ask);
+        let disturbed = self.disturbed(slot, job, ask);
+        let stood = self.standing();
+        let made = self.carry_out(slot, ask, decision);
+        if made {
+            self.mark(&disturbed, &stood);
+        }
+        made
+    }
+
+    /// The parts of the machine, lent.
+    fn seen(&self) -> Seen<'_>
+        ensures { Lent self.now result }
+    {
+        Seen {
+            core: &self.core,
+            jobs: &self.jobs,
+            consoles: &self.consoles,
+            holders: &self.holders,
+            files: &self.files,
+            clock: self.clock,
+            alarms: &self.alarms,
+            version: self.version,
+            symbols: &self.symbols,
+        }
+    }
+
+    /// What a call of a slot's job comes to, which has these registers.
+    fn decided(&self, slot: u8, job: &Job, ask: &Ask) -> Decision
+        requires slot { slot < slots }
+        requires job { job_at self.now.jobs slot ≡ Some job.now }
+        requires kept { Kept self.now }
+        ensures { result ≡ decision (machine_of self.now) slot (own_of self.now slot job.now) ask.now }
+    {
+        decide(&self.seen(), slot, job, ask)
+    }
+
+    /// Whom the commit of a call of a slot's job disturbs, which has these registers.
+    fn disturbed(&self, slot: u8, job: &Job, ask: &Ask) -> Marks
+        requires slot { slot < slots }
+        requires job { job_at self.now.jobs slot ≡ Some job.now }
+        requires kept { Kept self.now }
+        ensures { (k : ℕ) → slice_index_or result k false ≡ among k (reach (machine_of self.now) slot (own_of self.now slot job.now) ask.now) }
+    {
+        disturbed(&self.seen(), slot, job, ask)
+    }
+
+    /// Which slots have a job.
+    fn standing(&self) -> Marks
+        ensures { (k : ℕ) → slice_index_or result k false ≡ is_some (job_at self.now.jobs k) }
+    {
+        self.jobs.tree();
+        let mut marks = [false; SLOTS];
+        for k in 0..SLOTS {
+            marks[k] = self.jobs.job(k as u8).is_some();
+        }
+        marks
+    }
+
+    /// Marks as touched the slots that a step disturbed, and those in which a job stands and none stood before.
+    fn mark(&mut self, disturbed: &Marks, stood: &Marks)
+        ensures same { self.new ≡ record self.old { touched = self.new.touched } }
+        ensures touched { (k : ℕ) → is_touched self.new k ≡ marked_by disturbed.now stood.now self.old k }
+    {
+        let stands = self.standing();
+        for k in 0..SLOTS {
+            self.touched[k] = disturbed[k] || !stood[k] && stands[k];
+        }
+    }
+
+    /// Carries out what a call of a slot's job has decided.
+    #[tactic(auto, unfolding(its_plain::specs::CallStep::acted))]
+    fn carry_out(&mut self, slot: u8, ask: &Ask, decision: Decision) -> bool
+        requires slot { slot < slots }
+        requires ready { Ready (machine_of self.old) slot ask.now decision }
+        requires tidy { Tidy self.old }
+        ensures row { Acts result (acted (machine_of self.old) slot ask.now [] decision) self.old self.new }
+        ensures tidy { Tidy self.new }
+    {
+        match decision {
+            Decision::Waits(_) => return false,
+            Decision::Goes {
+                changes,
+                held,
+                values,
+            } => self.go_on(slot, &changes, ask, held, &values),
+            Decision::Ends {
+                changes,
+                stores,
+                exit,
+            } => self.finish(slot, &changes, &stores, exit),
+            Decision::Gone { changes } => self.depart(slot, &changes),
+        }
+        true
+    }
+
+    /// Carries out a part of a call of slot's job: its changes, then the byte that it holds, and then the new values of its last
+    /// arguments.
+    fn go_on(
+        &mut self,
+        slot: u8,
+        changes: &[Change],
+        ask: &Ask,
+        held: Option<Held>,
+        values: &[Word],
+    )
+        requires slot { slot < slots }
+        requires carries { Carries (machine_of self.old) slot changes.now }
+        requires part { GoesOn (core_behind (machine_of self.old) slot changes.now) ask.now held values.now }
+        requires tidy { Tidy self.old }
+        ensures row { Becomes self.old self.new (in_job (effects changes.now slot (machine_of self.old)) slot (moved ask.now held values.now)) }
+        ensures tidy { Tidy self.new }
+    {
+        self.apply(slot, changes);
+        self.put_held(slot, ask, held, values);
+        self.store(slot, &new_values(ask, values));
+    }
+
+    /// Deposits the byte that a call of slot's job holds in its word, by the pointer that the call then has.
+    fn put_held(&mut self, slot: u8, ask: &Ask, held: Option<Held>, values: &[Word])
+        requires slot { slot < slots }
+        requires job { HasJob (machine_of self.old) slot }
+        requires fits { IfSome held (HeldFits (core_of ((machine_of self.old).jobs slot)) (revalued ask.now values.now)) }
+        requires tidy { Tidy self.old }
+        ensures row { Becomes self.old self.new (in_job (machine_of self.old) slot (with_held (revalued ask.now values.now) held)) }
+        ensures tidy { Tidy self.new }
+    {
+        if let Some(h) = held {
+            let pointer = new_input(ask, values, 1);
+            let store = deposited(&self.core, slot, pointer, h);
+            self.store(slot, &[store]);
+        }
+    }
+}
+
+/// Whom the commit of a call of a slot's job disturbs, which has these registers, in a machine whose parts are lent.
+fn disturbed(seen: &Seen<'_>, slot: u8, job: &Job, ask: &Ask) -> Marks
+    requires slot { slot < slots }
+    requires few { (k : ℕ) → slots ≤ k → among k (reach (machine_seen seen.now) slot (raw_with seen.now slot job.now) ask.now) ≡ false }
+    ensures { (k : ℕ) → slice_index_or result k false ≡ among k (reach (machine_seen seen.now) slot (raw_with seen.now slot job.now) ask.now) }
+{
+    let mut marks = [false; SLOTS];
+    for k in 0..SLOTS {
+        marks[k] = disturbs(seen, slot, job, ask, k as u8);
+    }
+    marks
+}
+
+/// The store of a byte that is held, by a pointer, into its word of a slot's core.
+fn deposited(core: &Core, slot: u8, pointer: Word, held: Held) -> Store
+    requires slot { slot < slots }
+    requires size { IsTrue (has_size pointer) }
+    ensures { result ≡ deposited (core_at core.now slot) pointer held }
+{
+    let word = core.word(slot, held.place).unwrap_or(Word::ZERO);
+    Store {
+        at: held.place,
+        word: deposit(pointer, word, held.byte.value()),
+    }
+}
+
+/// The value of an input of a call whose last inputs have these new values; 0 where there is no such input.
+fn new_input(ask: &Ask, values: &[Word], k: usize) -> Word
+    ensures { result ≡ input (revalued ask.now values.now) k }
+{
+    let kept = ask.inputs.len().saturating_sub(values.len());
+    let Some(operand) = ask.inputs.get(k) else {
+        return Word::ZERO;
+    };
+    if k < kept {
+        operand.value
+    } else {
+        values[k - kept]
+    }
+}
+
+/// The new values of the last inputs of a call, as stores at their places.
+fn new_values(ask: &Ask, values: &[Word]) -> ArrayVec<Store, 2>
+    requires { length values.now ≤ 2 }
+    ensures { result.items ≡ debts (revalued ask.now values.now) (length values.now) }
+{
+    let kept = ask.inputs.len().saturating_sub(values.len());
+    let mut stores = ArrayVec::new();
+    for k in 0..values.len() {
+        if kept + k < ask.inputs.len() {
+            push_store(&mut stores, ask.inputs[kept + k].place, values[k]);
+        }
+    }
+    stores
+}
+
+/// Adds the store of a word, where it has a place.
+fn push_store(stores: &mut ArrayVec<Store, 2>, place: Option<u32>, word: Word)
+    requires room { length stores.old.items < 2 }
+    ensures more { stores.new.items ≡ stores.old.items ++ store_of (record { value = word; place = place }) [] }
+    ensures few { length stores.new.items ≤ length stores.old.items + 1 }
+{
+    if let Some(at) = place {
+        stores.push(Store { at, word });
+    }
+}

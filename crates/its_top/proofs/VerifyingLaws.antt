@@ -1,0 +1,200 @@
+-- What a verification writes, and how it ends.
+use Rattle.std.specs.Prelude.{◌≡◌, ◌≢◌, ◌⊎◌, ℕ, ◌+◌, Option, None, Some, IfSome, Ok, List, [], codes, refl}
+use Rattle.std.proofs.Common.{sym, ◌∙◌, subst, inl, inr}
+use Rattle.std.specs.Io.KnownBytes.{Appends}
+use Rattle.std.proofs.KnownBytes.{Appends-nil}
+use Rattle.its_word.specs.declared.session.Reason.TheVariants as reasons
+use Rattle.its_print.specs.Printing.{Refused, text, text_of_line}
+use Rattle.its_verify.specs.Finds.{Found}
+use Rattle.its_verify.specs.Hearing.{answer_of}
+use Rattle.its_verify.specs.Judge.{Yes, No}
+use Rattle.its_verify.specs.Verified.{Answer, Judged, Long, Cut, TooLong, answer_text, verified}
+use Rattle.its_verify.specs.declared.finding.Finding.{Finding}
+use Rattle.its_verify.specs.declared.finding.Finding.TheVariants as findings
+use Rattle.its_top.specs.declared.commands.Command.{Command}
+use Rattle.its_top.specs.declared.commands.Command.TheVariants as commands
+use Rattle.its_top.specs.declared.status.Status.{Status}
+use Rattle.its_top.specs.declared.status.Status.TheVariants as statuses
+use Rattle.its_top.specs.Checking.{StatusFor, WroteText}
+use Rattle.its_top.specs.Counts.{count_line}
+use Rattle.its_top.specs.Verifying.{TellsAnswer, ToldAs, Verify, VerifyOf, Why, status_of}
+use Rattle.its_top.specs.Top.{Begins, Obeyed, Verifies, VerifyAnswers, VerifyRefuses, VerifyRunsOn, Vouched}
+use Rattle.its_top.proofs.CutLaws.{answer_by, why}
+use Rattle.its_top.proofs.ObeyLaws.{done_for, if_all, if_then, run_written, unrisen}
+use Rattle.its_top.proofs.VouchedLaws.{run_verified}
+use Rattle.its_session.specs.Events.{events_of}
+use Rattle.its_stepped.specs.Lines.{stepped}
+use Rattle.its_stepped.specs.Turns.{with_turns}
+
+-- no answer has such a status
+not_failed : (a : Answer) → statuses.ReadFault ≡ status_of a → ⊥
+not_failed (Judged (Yes n)) e = cc
+not_failed (Judged (No n)) e = cc
+not_failed (Long n) e = cc
+not_failed (Cut n) e = cc
+not_failed TooLong e = cc
+
+not_usage : (a : Answer) → statuses.Usage ≡ status_of a → ⊥
+not_usage (Judged (Yes n)) e = cc
+not_usage (Judged (No n)) e = cc
+not_usage (Long n) e = cc
+not_usage (Cut n) e = cc
+not_usage TooLong e = cc
+
+not_unmade : (a : Answer) → statuses.NoMemory ≡ status_of a → ⊥
+not_unmade (Judged (Yes n)) e = cc
+not_unmade (Judged (No n)) e = cc
+not_unmade (Long n) e = cc
+not_unmade (Cut n) e = cc
+not_unmade TooLong e = cc
+
+-- the line of an answer was to be written
+told_as : (st good : Status) (a : Answer) (bytes w : List ℕ) → good ≡ status_of a → bytes ≡ answer_text a → StatusFor st good bytes w → ToldAs st a w
+told_as statuses.WriteFault good a bytes w g e f = (f.0, sym e ∙ f.1)
+told_as statuses.Done good a bytes w g e f = (f.0 ∙ g, sym e ∙ f.1)
+told_as statuses.Refused good a bytes w g e f = (f.0 ∙ g, sym e ∙ f.1)
+told_as statuses.TooLong good a bytes w g e f = (f.0 ∙ g, sym e ∙ f.1)
+told_as statuses.ReadFault good a bytes w g e f = absurd (not_failed a (f.0 ∙ g))
+told_as statuses.Usage good a bytes w g e f = absurd (not_usage a (f.0 ∙ g))
+told_as statuses.NoMemory good a bytes w g e f = absurd (not_unmade a (f.0 ∙ g))
+
+tells : (st good : Status) (a : Answer) (bytes : List ℕ) (old new : Option (List ℕ)) → good ≡ status_of a → bytes ≡ answer_text a → WroteText st good bytes old new → TellsAnswer st a old new
+tells st good a bytes old new g e t = record { wrote = t.wrote; appended = t.appended; told = told_as st good a bytes t.wrote g e t.complete }
+
+pub tells_yes : (st : Status) (n : ℕ) (bytes : List ℕ) (old new : Option (List ℕ)) → bytes ≡ count_line (codes "YES") n → WroteText st statuses.Done bytes old new
+    → TellsAnswer st (answer_of (findings.Yes n)) old new
+tells_yes st n bytes old new e t = tells st statuses.Done (Judged (Yes n)) bytes old new refl e t
+
+pub tells_no : (st : Status) (n : ℕ) (bytes : List ℕ) (old new : Option (List ℕ)) → bytes ≡ count_line (codes "NO") n → WroteText st statuses.Refused bytes old new
+    → TellsAnswer st (answer_of (findings.No n)) old new
+tells_no st n bytes old new e t = tells st statuses.Refused (Judged (No n)) bytes old new refl e t
+
+pub tells_long : (st : Status) (n : ℕ) (old new : Option (List ℕ)) → WroteText st statuses.Refused (text_of_line (Refused n reasons.Long)) old new
+    → TellsAnswer st (answer_of (findings.Long n)) old new
+tells_long st n old new t = tells st statuses.Refused (Long n) (text_of_line (Refused n reasons.Long)) old new refl refl t
+
+pub tells_cut : (st : Status) (n : ℕ) (old new : Option (List ℕ)) → WroteText st statuses.Refused (text_of_line (Refused n reasons.Cut)) old new
+    → TellsAnswer st (answer_of (findings.Cut n)) old new
+tells_cut st n old new t = tells st statuses.Refused (Cut n) (text_of_line (Refused n reasons.Cut)) old new refl refl t
+
+pub tells_nothing : (out : Option (List ℕ)) → TellsAnswer statuses.TooLong (answer_of findings.Beyond) out out
+tells_nothing out = record { wrote = []; appended = Appends-nil out; told = (refl, refl) }
+
+-- the end of a verification
+verified_as : (st : Status) (a : Answer) (bytes w : List ℕ) → verified bytes ≡ a → ToldAs st a w → VerifyOf st bytes w
+verified_as statuses.WriteFault a bytes w e t = subst (λ x. ToldAs statuses.WriteFault x w) (sym e) t
+verified_as statuses.Done a bytes w e t = subst (λ x. ToldAs statuses.Done x w) (sym e) t
+verified_as statuses.Refused a bytes w e t = subst (λ x. ToldAs statuses.Refused x w) (sym e) t
+verified_as statuses.TooLong a bytes w e t = subst (λ x. ToldAs statuses.TooLong x w) (sym e) t
+verified_as statuses.ReadFault a bytes w e t = absurd t
+verified_as statuses.NoMemory a bytes w e t = absurd t
+verified_as statuses.Usage a bytes w e t = absurd t
+
+found_as : (st : Status) (f : Finding) (left : Option (List ℕ)) (w : List ℕ) → Found (Ok f) left → ToldAs st (answer_of f) w → IfSome left (λ bytes. VerifyOf st bytes w)
+found_as st f None w h t = tt
+found_as st f (Some bytes) w h t = verified_as st (answer_of f) bytes w h t
+
+ran_as : (st : Status) (a : Answer) (w : List ℕ) → ToldAs st a w → st ≢ statuses.Usage
+ran_as statuses.Usage a w t = absurd t
+ran_as st a w t = λ k. cc
+
+told_well : (st : Status) (a : Answer) (w : List ℕ) → ToldAs st a w → (st ≡ statuses.NoMemory) ⊎ (st ≡ statuses.ReadFault) → ⊥
+told_well statuses.NoMemory a w t e = t
+told_well statuses.ReadFault a w t e = t
+told_well st a w t (inl e) = cc
+told_well st a w t (inr e) = cc
+
+pub verify_told : (st : Status) (f : Finding) (left old new : Option (List ℕ)) → Found (Ok f) left → TellsAnswer st (answer_of f) old new → Verify st left old new
+verify_told st f left old new h t = record {
+  wrote = t.wrote;
+  appended = t.appended;
+  ran = ran_as st (answer_of f) t.wrote t.told;
+  found = found_as st f left t.wrote h t.told;
+  unwritten = λ e. absurd (told_well st (answer_of f) t.wrote t.told e);
+}
+
+pub verify_failed : (left out : Option (List ℕ)) → Verify statuses.ReadFault left out out
+verify_failed left out = record { wrote = []; appended = Appends-nil out; ran = λ k. cc; found = if_all left _ (λ bytes. refl); unwritten = λ e. refl }
+
+pub verify_unmade : (left out : Option (List ℕ)) → Verify statuses.NoMemory left out out
+verify_unmade left out = record { wrote = []; appended = Appends-nil out; ran = λ k. cc; found = if_all left _ (λ bytes. refl); unwritten = λ e. refl }
+
+-- the clauses of the top call
+verify_as : (st good : Status) (d : Option Command) (left rest old new : Option (List ℕ)) → Obeyed d st left rest old new → d ≡ Some commands.Verify → st ≡ good → good ≢ statuses.NoMemory → Verify good left old new
+verify_as st good d left rest old new o c e n =
+    subst (λ x. Verify x left old new) e (done_for d (Some commands.Verify) st left rest old new o c (λ k. n (sym e ∙ k)))
+
+done_by : (a : Answer) (bytes w : List ℕ) (old new : Option (List ℕ)) → Why bytes a → statuses.Done ≡ status_of a → answer_text a ≡ w → Appends old new w → Verifies bytes old new
+done_by (Judged (Yes n)) bytes w old new h s e a = record { lines = n; licensed = h; wrote = subst (Appends old new) (sym e) a }
+done_by (Judged (No n)) bytes w old new h s e a = cc
+done_by (Long n) bytes w old new h s e a = cc
+done_by (Cut n) bytes w old new h s e a = cc
+done_by TooLong bytes w old new h s e a = cc
+
+pub verify_done : (d : Option Command) (st : Status) (left rest old new : Option (List ℕ)) → Obeyed d st left rest old new → d ≡ Some commands.Verify → st ≡ statuses.Done → IfSome left (λ bytes. Verifies bytes old new)
+verify_done d st left rest old new o c e =
+    let k = verify_as st statuses.Done d left rest old new o c e (λ j. cc) in
+    if_then left (λ bytes. VerifyOf statuses.Done bytes k.wrote) _ (λ bytes f. done_by (verified bytes) bytes k.wrote old new (why bytes) f.0 f.1 k.appended) k.found
+
+pub verify_refused : (d : Option Command) (st : Status) (left rest old new : Option (List ℕ)) → Obeyed d st left rest old new → d ≡ Some commands.Verify → st ≡ statuses.Refused
+    → IfSome left (λ bytes. VerifyRefuses bytes old new)
+verify_refused d st left rest old new o c e =
+    let k = verify_as st statuses.Refused d left rest old new o c e (λ j. cc) in
+    if_then left (λ bytes. VerifyOf statuses.Refused bytes k.wrote) (λ bytes. VerifyRefuses bytes old new)
+    (λ bytes f. record { answer = verified bytes; refused = sym f.0; why = why bytes; wrote = subst (Appends old new) (sym f.1) k.appended }) k.found
+
+runs_by : (a : Answer) (bytes w : List ℕ) (old new : Option (List ℕ)) → Why bytes a → statuses.TooLong ≡ status_of a → answer_text a ≡ w → Appends old new w → VerifyRunsOn bytes old new
+runs_by TooLong bytes w old new h s e a = record { past = h; wrote = subst (Appends old new) (sym e) a }
+runs_by (Judged (Yes n)) bytes w old new h s e a = cc
+runs_by (Judged (No n)) bytes w old new h s e a = cc
+runs_by (Long n) bytes w old new h s e a = cc
+runs_by (Cut n) bytes w old new h s e a = cc
+
+pub verify_too_long : (d : Option Command) (st : Status) (left rest old new : Option (List ℕ)) → Obeyed d st left rest old new → d ≡ Some commands.Verify → st ≡ statuses.TooLong
+    → IfSome left (λ bytes. VerifyRunsOn bytes old new)
+verify_too_long d st left rest old new o c e =
+    let k = verify_as st statuses.TooLong d left rest old new o c e (λ j. cc) in
+    if_then left (λ bytes. VerifyOf statuses.TooLong bytes k.wrote) _ (λ bytes f. runs_by (verified bytes) bytes k.wrote old new (why bytes) f.0 f.1 k.appended) k.found
+
+pub verify_breaks : (d : Option Command) (st : Status) (left rest old new : Option (List ℕ)) → Obeyed d st left rest old new → d ≡ Some commands.Verify → st ≡ statuses.ReadFault → new ≡ old
+verify_breaks d st left rest old new o c e = (verify_as st statuses.ReadFault d left rest old new o c e (λ j. cc)).unwritten (inr refl)
+
+pub verify_begins : (d : Option Command) (st : Status) (left rest old new : Option (List ℕ)) → Obeyed d st left rest old new → d ≡ Some commands.Verify → st ≡ statuses.WriteFault
+    → IfSome left (λ bytes. Begins (answer_text (verified bytes)) old new)
+verify_begins d st left rest old new o c e =
+    let k = verify_as st statuses.WriteFault d left rest old new o c e (λ j. cc) in
+    if_then left (λ bytes. VerifyOf statuses.WriteFault bytes k.wrote) (λ bytes. Begins (answer_text (verified bytes)) old new)
+    (λ bytes f. record { first = k.wrote; more = f.0; whole = f.1; wrote = k.appended }) k.found
+
+-- without a fault the status is that of the answer
+answers : (st : Status) (bytes w : List ℕ) → st ≢ statuses.ReadFault → st ≢ statuses.WriteFault → VerifyOf st bytes w → (st ≡ status_of (verified bytes)) ⊎ (st ≡ statuses.NoMemory)
+answers statuses.Done bytes w r k f = inl f.0
+answers statuses.Refused bytes w r k f = inl f.0
+answers statuses.TooLong bytes w r k f = inl f.0
+answers statuses.ReadFault bytes w r k f = absurd (r refl)
+answers statuses.WriteFault bytes w r k f = absurd (k refl)
+answers statuses.NoMemory bytes w r k f = inr refl
+answers statuses.Usage bytes w r k f = absurd f
+
+pub verify_answered : (d : Option Command) (st : Status) (left rest old new : Option (List ℕ)) (sf tf kf lf : ℕ) → Obeyed d st left rest old new → (st ≡ statuses.ReadFault → tf ≡ sf + 1) → (st ≡ statuses.WriteFault → lf ≡ kf + 1)
+    → d ≡ Some commands.Verify → tf ≡ sf → lf ≡ kf → IfSome left (λ bytes. VerifyAnswers st bytes)
+verify_answered d statuses.NoMemory left rest old new sf tf kf lf o r w c e f = if_all left _ (λ b. record { answers = λ a h. inr refl })
+verify_answered d st left rest old new sf tf kf lf o r w c e f =
+    let k : Verify st left old new = done_for d (Some commands.Verify) st left rest old new o c (λ j. cc) in
+    if_then left (λ bytes. VerifyOf st bytes k.wrote) (λ bytes. VerifyAnswers st bytes)
+    (λ bytes h. record {
+      answers = λ a y. subst (λ x. (st ≡ status_of x) ⊎ (st ≡ statuses.NoMemory)) (answer_by bytes a y)
+          (answers st bytes k.wrote (λ x. unrisen tf sf e (r x)) (λ x. unrisen lf kf f (w x)) h);
+    }) k.found
+
+-- what `run` wrote
+pub run_vouched : (d : Option Command) (st : Status) (left rest old new : Option (List ℕ)) → Obeyed d st left rest old new → d ≡ Some commands.Run
+    → ((st ≡ statuses.Done) ⊎ (st ≡ statuses.Refused)) ⊎ (st ≡ statuses.TooLong) → IfSome left (λ bytes. Vouched bytes old new)
+run_vouched d st left rest old new o c e =
+    if_then left (λ bytes. Appends old new (text (stepped (with_turns (events_of bytes))).lines)) (λ bytes. Vouched bytes old new)
+    (λ bytes a. record {
+      transcript = text (stepped (with_turns (events_of bytes))).lines;
+      wrote = a;
+      vouched = λ session behind count whole s few. run_verified bytes session behind count whole s few;
+    })
+    (run_written d st left rest old new o c e)

@@ -1,0 +1,94 @@
+-- What `its verify` comes to (docs/SESSION.md, "its verify").
+use Rattle.std.specs.Prelude.{◌≡◌, ◌≢◌, ◌≤◌, ◌<◌, ◌⊎◌, ℕ, ◌+◌, Option, IfSome, List, [], ◌∷◌, ◌++◌, length}
+use Rattle.std.specs.Io.KnownBytes.{Appends}
+use Rattle.its_session.specs.Events.{events_of, most_lines}
+use Rattle.its_reader.specs.TextLines.{lines_in}
+use Rattle.its_verify.specs.Accepted.{Accepted, IsFirst}
+use Rattle.its_verify.specs.Judge.{Yes, No}
+use Rattle.its_verify.specs.Verified.{Answer, Judged, Long, Cut, TooLong, Both, LongLine, NoEnd, TooMany, parts_from, verified, answer_text}
+use Rattle.its_top.specs.declared.status.Status.{Status}
+use Rattle.its_top.specs.declared.status.Status.TheVariants as statuses
+
+-- an input, cut behind its first END line: the bytes of the session, which are so many lines, and those of the
+-- transcript
+pub record IsCut (bytes session : List ℕ) (count : ℕ) (transcript : List ℕ) : Type 0 where
+  pub whole : session ++ transcript ≡ bytes
+  pub parts : parts_from 1 [] (lines_in bytes) ≡ Both session count (lines_in transcript)
+
+-- the transcript of n lines is one of the session, and there is room for both
+pub record Licensed (bytes : List ℕ) (n : ℕ) : Type 0 where
+  pub session : List ℕ
+  pub count : ℕ
+  pub transcript : List ℕ
+  pub cut : IsCut bytes session count transcript
+  pub accepted : Accepted (events_of session) transcript
+  pub lines : n ≡ length (lines_in transcript)
+  pub room : count + n ≤ most_lines
+
+-- line n of the transcript is the first that is not licensed, or that is missing, and there is room for all lines or
+-- for this one
+pub record Unlicensed (bytes : List ℕ) (n : ℕ) : Type 0 where
+  pub session : List ℕ
+  pub count : ℕ
+  pub transcript : List ℕ
+  pub cut : IsCut bytes session count transcript
+  pub first : IsFirst (events_of session) (lines_in transcript) n
+  pub room : (count + length (lines_in transcript) ≤ most_lines) ⊎ (count + n ≤ most_lines)
+
+-- there is no room for all lines, nor for the first one that is not licensed
+pub record PastRoom (bytes : List ℕ) : Type 0 where
+  pub session : List ℕ
+  pub count : ℕ
+  pub transcript : List ℕ
+  pub cut : IsCut bytes session count transcript
+  pub more : most_lines < count + length (lines_in transcript)
+  pub none : (n : ℕ) → IsFirst (events_of session) (lines_in transcript) n → most_lines < count + n
+
+-- a session of so many lines that ends with its END line and the LF of that line
+pub record EndsSession (session : List ℕ) (count : ℕ) : Type 0 where
+  pub parts : parts_from 1 [] (lines_in session) ≡ Both session count []
+  pub before : List ℕ
+  pub last : session ≡ before ++ 10 ∷ []
+
+-- what of an input makes this its answer
+abbrev pub Why : List ℕ → Answer → Type 0
+Why bytes (Judged (Yes n)) = Licensed bytes n
+Why bytes (Judged (No n)) = Unlicensed bytes n
+Why bytes (Long n) = parts_from 1 [] (lines_in bytes) ≡ LongLine n
+Why bytes (Cut n) = parts_from 1 [] (lines_in bytes) ≡ NoEnd n
+Why bytes TooLong = (parts_from 1 [] (lines_in bytes) ≡ TooMany) ⊎ PastRoom bytes
+
+-- the status of an answer
+abbrev pub status_of : Answer → Status
+status_of (Judged (Yes n)) = statuses.Done
+status_of (Judged (No n)) = statuses.Refused
+status_of (Long n) = statuses.Refused
+status_of (Cut n) = statuses.Refused
+status_of TooLong = statuses.TooLong
+
+-- an answer that was to be told has this status, and w was written
+abbrev pub ToldAs : Status → Answer → List ℕ → Type 0
+ToldAs statuses.WriteFault a w = (more : List ℕ) × (answer_text a ≡ w ++ more)
+ToldAs statuses.Usage a w = ⊥
+ToldAs statuses.ReadFault a w = ⊥
+ToldAs statuses.NoMemory a w = ⊥
+ToldAs status a w = (status ≡ status_of a) × (answer_text a ≡ w)
+
+pub record TellsAnswer (status : Status) (a : Answer) (old new : Option (List ℕ)) : Type 0 where
+  pub wrote : List ℕ
+  pub appended : Appends old new wrote
+  pub told : ToldAs status a wrote
+
+-- a verification of these bytes has this status, and wrote w: nothing where the source failed or memory was refused
+abbrev pub VerifyOf : Status → List ℕ → List ℕ → Type 0
+VerifyOf statuses.ReadFault bytes w = w ≡ []
+VerifyOf statuses.NoMemory bytes w = w ≡ []
+VerifyOf status bytes w = ToldAs status (verified bytes) w
+
+-- how a verification ended, from what its source had left, and from what its sink was given
+pub record Verify (status : Status) (left old new : Option (List ℕ)) : Type 0 where
+  pub wrote : List ℕ
+  pub appended : Appends old new wrote
+  pub ran : status ≢ statuses.Usage
+  pub found : IfSome left (λ bytes. VerifyOf status bytes wrote)
+  pub unwritten : (status ≡ statuses.NoMemory) ⊎ (status ≡ statuses.ReadFault) → new ≡ old

@@ -1,0 +1,64 @@
+//! The command `verify`: a session and its transcript, one behind the other, and one line that says whether the transcript is one of
+//! the session. It is written once all is decided.
+ghost use Rattle.std.specs.Prelude.{◌≡◌, ◌≢◌, ◌⊎◌};
+ghost use Rattle.its_io.specs.Bytes.{next_fault};
+ghost use Rattle.its_print.specs.Printing.{Refused, text_of_line};
+ghost use Rattle.its_verify.specs.Hearing.{answer_of};
+ghost use Rattle.its_top.specs.Checking.{WroteText};
+ghost use Rattle.its_top.specs.Verifying.{TellsAnswer, Verify};
+
+use super::checking::write_text;
+use super::counts::count_line;
+use super::status::Status;
+use arrayvec::ArrayVec;
+use its_io::{Sink, Source};
+use its_print::print_refusal;
+use its_verify::{Broken, Finding, verify};
+use its_word::Reason;
+use std::alloc::Global;
+
+/// Judges the transcript that stands behind a session in what the source gives: writes `YES n` or `NO n`, or the `?` line of a session
+/// that has no END line or one that is too long.
+#[tactic(auto, using(crate::proofs::VerifyingLaws::verify_told, crate::proofs::VerifyingLaws::verify_failed, crate::proofs::VerifyingLaws::verify_unmade))]
+pub fn judge<S: Source, K: Sink>(alloc: Global, src: &mut S, out: &mut K) -> Status
+    ensures verify { Verify result (S.left src.old) (K.written out.old) (K.written out.new) }
+    ensures read_once { result ≡ Status.ReadFault → S.faults src.new ≡ next_fault (S.faults src.old) }
+    ensures write_once { result ≡ Status.WriteFault → K.faults out.new ≡ next_fault (K.faults out.old) }
+    ensures read_unfailed { result ≢ Status.ReadFault → S.faults src.new ≡ S.faults src.old }
+    ensures write_unfailed { result ≢ Status.WriteFault → K.faults out.new ≡ K.faults out.old }
+{
+    match verify(alloc, src) {
+        Ok(finding) => tell(finding, out),
+        Err(Broken::Source) => Status::ReadFault,
+        Err(Broken::Memory) => Status::NoMemory,
+    }
+}
+
+/// Writes what was found.
+#[tactic(auto, using(crate::proofs::VerifyingLaws::tells_yes, crate::proofs::VerifyingLaws::tells_no, crate::proofs::VerifyingLaws::tells_long, crate::proofs::VerifyingLaws::tells_cut, crate::proofs::VerifyingLaws::tells_nothing))]
+fn tell<K: Sink>(finding: Finding, out: &mut K) -> Status
+    ensures tells { TellsAnswer result (answer_of finding) (K.written out.old) (K.written out.new) }
+    ensures once { result ≡ Status.WriteFault → K.faults out.new ≡ next_fault (K.faults out.old) }
+    ensures unfailed { result ≢ Status.WriteFault → K.faults out.new ≡ K.faults out.old }
+    ensures source { result ≢ Status.ReadFault }
+{
+    match finding {
+        Finding::Yes(n) => write_text(out, &count_line(b"YES", u64::from(n)), Status::Done),
+        Finding::No(n) => write_text(out, &count_line(b"NO", u64::from(n)), Status::Refused),
+        Finding::Long(n) => refuse(n, Reason::Long, out),
+        Finding::Cut(n) => refuse(n, Reason::Cut, out),
+        Finding::Beyond => Status::TooLong,
+    }
+}
+
+/// Writes the `?` line of line n.
+fn refuse<K: Sink>(n: u32, reason: Reason, out: &mut K) -> Status
+    ensures wrote { WroteText result Status.Refused (text_of_line (Refused n reason)) (K.written out.old) (K.written out.new) }
+    ensures once { result ≡ Status.WriteFault → K.faults out.new ≡ next_fault (K.faults out.old) }
+    ensures unfailed { result ≢ Status.WriteFault → K.faults out.new ≡ K.faults out.old }
+    ensures status { (result ≡ Status.Refused) ⊎ (result ≡ Status.WriteFault) }
+{
+    let mut line = ArrayVec::new();
+    print_refusal(n, reason, &mut line);
+    write_text(out, &line, Status::Refused)
+}

@@ -1,0 +1,343 @@
+-- What a line of a session comes to in a trial.
+use Rattle.std.proofs.Common.{◌≡◌, ◌<◌, ◌+◌, ℕ, Bool, true, false, Option, Some, None, Result, Ok, Err, IsOk, List, [], ◌∷◌, refl, sym, ap, subst, ◌∙◌}
+use Rattle.std.proofs.lemmas.Bool.{false≢true}
+use Rattle.its_io.specs.declared.stream.Failed.{Failed}
+use Rattle.its_word.specs.Limits.{slots}
+use Rattle.its_word.specs.declared.session.Event.{Event}
+use Rattle.its_word.specs.declared.session.Event.TheVariants as events
+use Rattle.its_word.specs.declared.session.Reason.{Reason}
+use Rattle.its_word.specs.declared.session.Refusal.{Refusal}
+use Rattle.its_word.specs.declared.show.JobShow.{JobShow}
+use Rattle.its_print.specs.Printing.{Line, Refused, State, listed}
+use Rattle.its_plain.specs.Machine.{Machine, Whole}
+use Rattle.its_plain.specs.Operator.{Block, Does, Quits, Refuses, Ticks, no_block, nobody}
+use Rattle.its_plain.specs.OperatorFiles.{file_shown}
+use Rattle.its_plain.specs.OperatorJobs.{examined, state_shown}
+use Rattle.its_plain.specs.OperatorLines.{Lined, Done, Peeks, by_exam, by_state, in_a_line, lined, operate, peeked_at, shows}
+use Rattle.its_plain.specs.Transcript.{Walk, next_line}
+use Rattle.its_direct.specs.Plain.{machine_of, is_touched}
+use Rattle.its_direct.specs.Events.{Obeys, Says as AnswerSays, Speaks, Told}
+use Rattle.its_direct.specs.Lines.{reason_of}
+use Rattle.its_direct.specs.declared.events.Answer.{Answer}
+use Rattle.its_direct.specs.declared.events.Answer.TheVariants.{Nothing, Slot, Dropped, Drained}
+use Rattle.its_direct.specs.declared.plain.Spot.{Spot}
+use Rattle.its_direct.specs.declared.plain.Spot.TheVariants as spots
+use Rattle.its_verify.specs.Going.{LineSays, SaysEnd}
+use Rattle.its_verify.specs.Hearing.{Ends, Says, Stays, cut}
+use Rattle.its_verify.specs.Sources.{texts_of}
+use Rattle.its_verify.specs.Judge.{Judge as AnyJudge, at_end, gone, led, peeking, told}
+use Rattle.its_verify.specs.Judge.{told as asked}
+use Rattle.its_verify.specs.Letters.{ticked}
+use Rattle.its_verify.specs.Showing.{IsThere, heard_of, is_peek_event, lines_of, shown_if}
+use Rattle.its_verify.specs.Standing.{Forgets, Sure, walk_of}
+use Rattle.its_verify.specs.Trial.{StaysTried}
+use Rattle.its_verify.specs.declared.finding.Finding.{Finding}
+use Rattle.its_verify.specs.declared.hearing.Hearing.{Hearing}
+use Rattle.its_verify.specs.declared.judge.Judge.{Judge}
+use Rattle.its_verify.specs.declared.trial.Trial.{Trial}
+use Rattle.its_verify.proofs.StandingLaws.{line_walk}
+
+-- a line that shows something came to this
+does_same : (m n : Machine) (out mine : List Line) (d g : ℕ → Bool) (b c : Block) → Done (Does m mine g b) ≡ Done (Does n out d c) → (n ≡ m) × (out ≡ mine)
+does_same m n out mine d g b c is = (let a : m ≡ n = cc in sym a, let l : mine ≡ out = cc in sym l)
+
+-- EXAM, LIST, STATE and SHOW
+exam_did : (m n : Machine) (b c : Block) (s : ℕ) (show : List ℕ → List Line) (r : Result (List ℕ) Reason) (out : List Line) (d : ℕ → Bool) → Done (by_exam m b s show r) ≡ Done (Does n out d c)
+    → (n ≡ m) × (out ≡ shown_if show r) × IsOk r
+exam_did m n b c s show (Ok ws) out d is = (let a : m ≡ n = cc in sym a, let l : show ws ≡ out = cc in sym l, refl)
+exam_did m n b c s show (Err e) out d is = cc
+
+state_did : (m n : Machine) (b c : Block) (s : ℕ) (r : Result JobShow Reason) (out : List Line) (d : ℕ → Bool) → Done (by_state m b s r) ≡ Done (Does n out d c)
+    → (n ≡ m) × (out ≡ shown_if (λ show. State m.version s show ∷ []) r) × IsOk r
+state_did m n b c s (Ok show) out d is = (let a : m ≡ n = cc in sym a, let l : (State m.version s show ∷ []) ≡ out = cc in sym l, refl)
+state_did m n b c s (Err e) out d is = cc
+
+shows_did : (m n : Machine) (b c : Block) (r : Result (List Line) Reason) (out : List Line) (d : ℕ → Bool) → Done (shows m b r) ≡ Done (Does n out d c) → (n ≡ m) × (out ≡ shown_if (λ ls. ls) r)
+shows_did m n b c (Ok ls) out d is = (let a : m ≡ n = cc in sym a, let l : ls ≡ out = cc in sym l)
+shows_did m n b c (Err e) out d is = cc
+
+peek_does : (s : ℕ) (o : Option Whole) (n : Machine) (out : List Line) (d : ℕ → Bool) (c : Block) → peeked_at s o ≡ Done (Does n out d c) → ⊥
+peek_does s None n out d c is = cc
+peek_does s (Some q) n out d c is = cc
+
+-- what is heard of a line is what it shows
+abbrev Shown : Event → Answer → Machine → List Line → Type 0
+Shown e a n out = ((next : AnyJudge) → heard_of e a n next ≡ told out next) × IsThere e n
+
+by_lines : (e : Event) (a : Answer) (n : Machine) (out : List Line) → out ≡ lines_of e a n → (next : AnyJudge) → told (lines_of e a n) next ≡ told out next
+by_lines e a n out is next = ap (λ (ls : List Line). told ls next) (sym is)
+
+pub line_shown : (m n : Machine) (b c : Block) (e : Event) (a : Answer) (out : List Line) (d : ℕ → Bool) → lined m b e ≡ Done (Does n out d c) → AnswerSays e a out → Shown e a n out
+unfolding lined operate
+line_shown m n b c (events.Load u j k) (Slot s) out d is says = (by_lines (events.Load u j k) (Slot s) n out says, tt)
+line_shown m n b c (events.Load u j k) Nothing out d is says = absurd says
+line_shown m n b c (events.Load u j k) (Dropped s) out d is says = absurd says
+line_shown m n b c (events.Load u j k) (Drained s) out d is says = absurd says
+line_shown m n b c (events.TypeIn k bytes) (Dropped s) out d is says = (by_lines (events.TypeIn k bytes) (Dropped s) n out says, tt)
+line_shown m n b c (events.TypeIn k bytes) Nothing out d is says = absurd says
+line_shown m n b c (events.TypeIn k bytes) (Slot s) out d is says = absurd says
+line_shown m n b c (events.TypeIn k bytes) (Drained s) out d is says = absurd says
+line_shown m n b c (events.Drain k x) (Drained s) out d is says = (by_lines (events.Drain k x) (Drained s) n out says, tt)
+line_shown m n b c (events.Drain k x) Nothing out d is says = absurd says
+line_shown m n b c (events.Drain k x) (Slot s) out d is says = absurd says
+line_shown m n b c (events.Drain k x) (Dropped s) out d is says = absurd says
+line_shown m n b c (events.Exam s x k) a out d is says =
+    (let did = exam_did m n b c s (in_a_line s x) (examined m s x k) out d is in
+    subst (λ (q : Machine). Shown (events.Exam s x k) a q out) (sym did.0) (by_lines (events.Exam s x k) a m out did.1, did.2))
+line_shown m n b c (events.List s x k) a out d is says =
+    (let did = exam_did m n b c s (listed s x) (examined m s x k) out d is in
+    subst (λ (q : Machine). Shown (events.List s x k) a q out) (sym did.0) (by_lines (events.List s x k) a m out did.1, did.2))
+line_shown m n b c (events.State s) a out d is says =
+    (let did = state_did m n b c s (state_shown m s) out d is in
+    subst (λ (q : Machine). Shown (events.State s) a q out) (sym did.0) (by_lines (events.State s) a m out did.1, did.2))
+line_shown m n b c (events.Dir k) a out d is says =
+    (let did = does_same m n out _ d _ b c is in
+    subst (λ (q : Machine). Shown (events.Dir k) a q out) (sym did.0) (by_lines (events.Dir k) a m out did.1, tt))
+line_shown m n b c (events.Show k x y) a out d is says =
+    (let did = shows_did m n b c (file_shown m k x y) out d is in
+    subst (λ (q : Machine). Shown (events.Show k x y) a q out) (sym did.0) (by_lines (events.Show k x y) a m out did.1, tt))
+line_shown m n b c (events.Peek s) a out d is says = absurd (peek_does s (m.jobs s) n out d c is)
+line_shown m n b c events.Nothing Nothing out d is says = (by_lines events.Nothing Nothing n out says, tt)
+line_shown m n b c events.Nothing (Slot s) out d is says = absurd says
+line_shown m n b c events.Nothing (Dropped s) out d is says = absurd says
+line_shown m n b c events.Nothing (Drained s) out d is says = absurd says
+line_shown m n b c (events.Version v) Nothing out d is says = (by_lines (events.Version v) Nothing n out says, tt)
+line_shown m n b c (events.Version v) (Slot z) out d is says = absurd says
+line_shown m n b c (events.Version v) (Dropped z) out d is says = absurd says
+line_shown m n b c (events.Version v) (Drained z) out d is says = absurd says
+line_shown m n b c (events.Words x ws) Nothing out d is says = (by_lines (events.Words x ws) Nothing n out says, tt)
+line_shown m n b c (events.Words x ws) (Slot z) out d is says = absurd says
+line_shown m n b c (events.Words x ws) (Dropped z) out d is says = absurd says
+line_shown m n b c (events.Words x ws) (Drained z) out d is says = absurd says
+line_shown m n b c (events.ReadOnly p) Nothing out d is says = (by_lines (events.ReadOnly p) Nothing n out says, tt)
+line_shown m n b c (events.ReadOnly p) (Slot z) out d is says = absurd says
+line_shown m n b c (events.ReadOnly p) (Dropped z) out d is says = absurd says
+line_shown m n b c (events.ReadOnly p) (Drained z) out d is says = absurd says
+line_shown m n b c (events.Symbol x k) Nothing out d is says = (by_lines (events.Symbol x k) Nothing n out says, tt)
+line_shown m n b c (events.Symbol x k) (Slot z) out d is says = absurd says
+line_shown m n b c (events.Symbol x k) (Dropped z) out d is says = absurd says
+line_shown m n b c (events.Symbol x k) (Drained z) out d is says = absurd says
+line_shown m n b c (events.Go x) Nothing out d is says = (by_lines (events.Go x) Nothing n out says, tt)
+line_shown m n b c (events.Go x) (Slot z) out d is says = absurd says
+line_shown m n b c (events.Go x) (Dropped z) out d is says = absurd says
+line_shown m n b c (events.Go x) (Drained z) out d is says = absurd says
+line_shown m n b c (events.File k x y) Nothing out d is says = (by_lines (events.File k x y) Nothing n out says, tt)
+line_shown m n b c (events.File k x y) (Slot z) out d is says = absurd says
+line_shown m n b c (events.File k x y) (Dropped z) out d is says = absurd says
+line_shown m n b c (events.File k x y) (Drained z) out d is says = absurd says
+line_shown m n b c (events.Append ws) Nothing out d is says = (by_lines (events.Append ws) Nothing n out says, tt)
+line_shown m n b c (events.Append ws) (Slot z) out d is says = absurd says
+line_shown m n b c (events.Append ws) (Dropped z) out d is says = absurd says
+line_shown m n b c (events.Append ws) (Drained z) out d is says = absurd says
+line_shown m n b c events.EndFile Nothing out d is says = (by_lines events.EndFile Nothing n out says, tt)
+line_shown m n b c events.EndFile (Slot z) out d is says = absurd says
+line_shown m n b c events.EndFile (Dropped z) out d is says = absurd says
+line_shown m n b c events.EndFile (Drained z) out d is says = absurd says
+line_shown m n b c (events.Tick s k) Nothing out d is says = (by_lines (events.Tick s k) Nothing n out says, tt)
+line_shown m n b c (events.Tick s k) (Slot z) out d is says = absurd says
+line_shown m n b c (events.Tick s k) (Dropped z) out d is says = absurd says
+line_shown m n b c (events.Tick s k) (Drained z) out d is says = absurd says
+line_shown m n b c (events.Run k q) Nothing out d is says = (by_lines (events.Run k q) Nothing n out says, tt)
+line_shown m n b c (events.Run k q) (Slot z) out d is says = absurd says
+line_shown m n b c (events.Run k q) (Dropped z) out d is says = absurd says
+line_shown m n b c (events.Run k q) (Drained z) out d is says = absurd says
+line_shown m n b c (events.Clock k) Nothing out d is says = (by_lines (events.Clock k) Nothing n out says, tt)
+line_shown m n b c (events.Clock k) (Slot z) out d is says = absurd says
+line_shown m n b c (events.Clock k) (Dropped z) out d is says = absurd says
+line_shown m n b c (events.Clock k) (Drained z) out d is says = absurd says
+line_shown m n b c (events.Int s v w) Nothing out d is says = (by_lines (events.Int s v w) Nothing n out says, tt)
+line_shown m n b c (events.Int s v w) (Slot z) out d is says = absurd says
+line_shown m n b c (events.Int s v w) (Dropped z) out d is says = absurd says
+line_shown m n b c (events.Int s v w) (Drained z) out d is says = absurd says
+line_shown m n b c (events.Deposit s x w) Nothing out d is says = (by_lines (events.Deposit s x w) Nothing n out says, tt)
+line_shown m n b c (events.Deposit s x w) (Slot z) out d is says = absurd says
+line_shown m n b c (events.Deposit s x w) (Dropped z) out d is says = absurd says
+line_shown m n b c (events.Deposit s x w) (Drained z) out d is says = absurd says
+line_shown m n b c (events.Stop s) Nothing out d is says = (by_lines (events.Stop s) Nothing n out says, tt)
+line_shown m n b c (events.Stop s) (Slot z) out d is says = absurd says
+line_shown m n b c (events.Stop s) (Dropped z) out d is says = absurd says
+line_shown m n b c (events.Stop s) (Drained z) out d is says = absurd says
+line_shown m n b c (events.Cont s) Nothing out d is says = (by_lines (events.Cont s) Nothing n out says, tt)
+line_shown m n b c (events.Cont s) (Slot z) out d is says = absurd says
+line_shown m n b c (events.Cont s) (Dropped z) out d is says = absurd says
+line_shown m n b c (events.Cont s) (Drained z) out d is says = absurd says
+line_shown m n b c events.End Nothing out d is says = (by_lines events.End Nothing n out says, tt)
+line_shown m n b c events.End (Slot z) out d is says = absurd says
+line_shown m n b c events.End (Dropped z) out d is says = absurd says
+line_shown m n b c events.End (Drained z) out d is says = absurd says
+
+-- a line that was obeyed: what is heard of it, and where the walk stands behind it
+pub record ObeyedSo (e : Event) (a : Answer) (old new : Judge) (b : Block) (n : ℕ) : Type 0 where
+  pub after : Block
+  pub speaks : Speaks new.plain.place after
+  pub there : IsThere e (machine_of new.plain)
+  pub goes : (next : Walk → AnyJudge) → gone (walk_of old b n) (lined (machine_of old.plain) b e) next ≡ heard_of e a (machine_of new.plain) (next (walk_of new after (n + 1)))
+
+speaks_same : (p q : Spot) (b : Block) → q ≡ p → Speaks p b → Speaks q b
+speaks_same p q b is h = subst (λ (s : Spot). Speaks s b) (sym is) h
+
+peeks_at : (s i : ℕ) (o : Option Whole) → peeked_at s o ≡ Peeks i → i ≡ s
+peeks_at s i None is = cc
+peeks_at s i (Some q) is = cc
+
+peeks_event : (m : Machine) (b : Block) (e : Event) (i : ℕ) → lined m b e ≡ Peeks i → (s : ℕ) × (e ≡ events.Peek s) × (i ≡ s)
+unfolding lined
+peeks_event m b (events.Peek s) i is = (s, refl, peeks_at s i (m.jobs s) is)
+peeks_event m b e i is = cc
+
+peek_so : (e : Event) (a : Answer) (old new : Judge) (b : Block) (n s : ℕ) → e ≡ events.Peek s → Forgets new.plain old.dots new.dots → lined (machine_of old.plain) b e ≡ Peeks s
+    → machine_of new.plain ≡ machine_of old.plain → ((k : ℕ) → is_touched new.plain k ≡ false) → new.plain.place ≡ old.plain.place → Speaks old.plain.place b → ObeyedSo e a old new b n
+peek_so e a old new b n s event forgets is same none place speaks = record {
+  after = b;
+  speaks = speaks_same old.plain.place new.plain.place b place speaks;
+  there = subst (λ (x : Event). IsThere x (machine_of new.plain)) (sym event) tt;
+  goes = λ next.
+      ap (λ (o : Lined). gone (walk_of old b n) o next) is
+      ∙ ap (λ (w : Walk). led peeking (λ text. next w)) (line_walk old new b b n (machine_of old.plain) (λ k. false) same none forgets)
+      ∙ sym (ap (λ (x : Event). heard_of x a (machine_of new.plain) (next (walk_of new b (n + 1)))) event);
+}
+
+does_so : (e : Event) (a : Answer) (old new : Judge) (b : Block) (n : ℕ) (m : Machine) (out : List Line) (d : ℕ → Bool) (after : Block) → Forgets new.plain old.dots new.dots
+    → lined (machine_of old.plain) b e ≡ Done (Does m out d after) → machine_of new.plain ≡ m → ((k : ℕ) → is_touched new.plain k ≡ d k) → Speaks new.plain.place after → AnswerSays e a out → ObeyedSo e a old new b n
+does_so e a old new b n m out d after forgets is same marks speaks says =
+    let shown = subst (λ (q : Machine). Shown e a q out) (sym same) (line_shown (machine_of old.plain) m b after e a out d is says) in
+    record {
+      after = after;
+      speaks = speaks;
+      there = shown.1;
+      goes = λ next.
+          ap (λ (o : Lined). gone (walk_of old b n) o next) is
+          ∙ ap (λ (w : Walk). told out (next w)) (line_walk old new b after n m d same marks forgets)
+          ∙ sym (shown.0 (next (walk_of new after (n + 1))));
+    }
+
+by_comes : (e : Event) (a : Answer) (old new : Judge) (b : Block) (n : ℕ) (o : Lined) → Forgets new.plain old.dots new.dots → Speaks old.plain.place b → lined (machine_of old.plain) b e ≡ o → Obeys e a old.plain new.plain o
+    → ObeyedSo e a old new b n
+by_comes e a old new b n (Done (Does m out d after)) forgets speaks is h = does_so e a old new b n m out d after forgets is h.0 h.1 h.2 h.3
+by_comes e a old new b n (Done (Refuses r)) forgets speaks is h = absurd h
+by_comes e a old new b n (Done (Ticks i k)) forgets speaks is h = absurd h
+by_comes e a old new b n (Done Quits) forgets speaks is h = absurd h
+by_comes e a old new b n (Peeks i) forgets speaks is h =
+    (let p = peeks_event (machine_of old.plain) b e i is in peek_so e a old new b n p.0 p.1 forgets (is ∙ ap Peeks p.2) h.0 h.1 h.2 speaks)
+
+obeyed_so : (e : Event) (a : Answer) (old new : Judge) (b : Block) (n : ℕ) → Told e old.plain new.plain (Ok a) → Forgets new.plain old.dots new.dots → Speaks old.plain.place b → ObeyedSo e a old new b n
+obeyed_so e a old new b n h forgets speaks =
+    let o = h b speaks in
+    by_comes e a old new b n o.comes forgets speaks o.is o.obeys
+
+-- there is a block of which a place speaks
+abbrev block_at : Spot → Block
+block_at spots.Plain = no_block
+block_at (spots.Load s) = record { slot = s; file = no_block.file }
+block_at (spots.File names) = record { slot = 0; file = names }
+
+speaks_at : (p : Spot) → Speaks p (block_at p)
+speaks_at spots.Plain = tt
+speaks_at (spots.Load s) = refl
+speaks_at (spots.File names) = refl
+
+pub told_there : (e : Event) (a : Answer) (old new : Judge) → Told e old.plain new.plain (Ok a) → Forgets new.plain old.dots new.dots → IsThere e (machine_of new.plain)
+told_there e a old new h forgets = (obeyed_so e a old new (block_at old.plain.place) 0 h forgets (speaks_at old.plain.place)).there
+
+-- what a line comes to, where it was obeyed and is heard
+pub told_says : (e : Event) (a : Answer) (r : Result (Option Finding) Failed) (old mid new : Trial) (left rest : Option (List ℕ)) (n : ℕ) → Told e old.judge.plain mid.judge.plain (Ok a)
+    → Forgets mid.judge.plain old.judge.dots mid.judge.dots → mid.hearing ≡ old.hearing → new.judge ≡ mid.judge
+    → ((next : AnyJudge) → Says r mid.hearing new.hearing left rest (heard_of e a (machine_of mid.judge.plain) next) next) → LineSays r old new left rest n e
+told_says e a (Ok None) old mid new left rest n h forgets hearing judge says = λ b speaks.
+    (let so = obeyed_so e a old.judge mid.judge b n h forgets speaks in
+    record {
+      after = so.after;
+      speaks = subst (λ (j : Judge). Speaks j.plain.place so.after) (sym judge) so.speaks;
+      goes = λ next t.
+          (let here = says (next (walk_of mid.judge so.after (n + 1))) t in (
+            ap (λ (j : AnyJudge). cut old.hearing.room old.hearing.passed j (texts_of old.hearing.texts left)) (so.goes next)
+                ∙ ap (λ (x : Hearing). cut x.room x.passed (heard_of e a (machine_of mid.judge.plain) (next (walk_of mid.judge so.after (n + 1)))) (texts_of x.texts left)) (sym hearing)
+                ∙ here.0
+                ∙ ap (λ (j : Judge). cut new.hearing.room new.hearing.passed (next (walk_of j so.after (n + 1))) (texts_of new.hearing.texts rest)) (sym judge),
+            here.1,
+          ));
+    })
+told_says e a (Ok (Some f)) old mid new left rest n h forgets hearing judge says = λ b speaks next t.
+    (let so = obeyed_so e a old.judge mid.judge b n h forgets speaks in
+    ap (λ (j : AnyJudge). cut old.hearing.room old.hearing.passed j (texts_of old.hearing.texts left)) (so.goes next)
+    ∙ ap (λ (x : Hearing). cut x.room x.passed (heard_of e a (machine_of mid.judge.plain) (next (walk_of mid.judge so.after (n + 1)))) (texts_of x.texts left)) (sym hearing)
+    ∙ says (next (walk_of mid.judge so.after (n + 1))) t)
+told_says e a (Err x) old mid new left rest n h forgets hearing judge says = tt
+
+-- where it was refused
+pub told_refused : (e : Event) (x : Refusal) (r : Result (Option Finding) Failed) (old new : Trial) (mid : Judge) (h : Hearing) (left rest : Option (List ℕ)) (n : ℕ) → Told e old.judge.plain mid.plain (Err x)
+    → h ≡ old.hearing → SaysEnd r h left (told (Refused n (reason_of x) ∷ []) at_end) → LineSays r old new left rest n e
+told_refused e x (Ok None) old new mid h left rest n told hearing ends = absurd ends
+told_refused e x (Ok (Some f)) old new mid h left rest n told hearing ends = λ b speaks next t.
+    ap (λ (o : Lined). cut old.hearing.room old.hearing.passed (gone (walk_of old.judge b n) o next) (texts_of old.hearing.texts left)) (told b speaks)
+    ∙ subst (λ (y : Hearing). Ends (Ok f) y left (asked (Refused n (reason_of x) ∷ []) at_end)) hearing ends t
+told_refused e x (Err y) old new mid h left rest n told hearing ends = tt
+
+-- TICK and END
+tick_lined : (m : Machine) (b : Block) (i k : ℕ) → lined m b (events.Tick i k) ≡ Done (Ticks i k)
+unfolding lined operate
+tick_lined m b i k = refl
+
+end_lined : (m : Machine) (b : Block) → lined m b events.End ≡ Done Quits
+unfolding lined operate
+end_lined m b = refl
+
+pub tick_says : (i k : ℕ) (r : Result (Option Finding) Failed) (old new : Trial) (left rest : Option (List ℕ)) (n : ℕ)
+    → ((b : Block) (l : ℕ) (next : Walk → AnyJudge) → Says r old.hearing new.hearing left rest (led (ticked (walk_of old.judge b l) i k) next) (next (walk_of new.judge b l)))
+    → new.judge.plain.place ≡ old.judge.plain.place → LineSays r old new left rest n (events.Tick i k)
+tick_says i k (Ok None) old new left rest n says place = λ b speaks. record {
+  after = b;
+  speaks = speaks_same old.judge.plain.place new.judge.plain.place b place speaks;
+  goes = λ next t.
+      (let here = says b n (λ w. next (next_line w)) t in
+      (ap (λ (o : Lined). cut old.hearing.room old.hearing.passed (gone (walk_of old.judge b n) o next) (texts_of old.hearing.texts left)) (tick_lined (machine_of old.judge.plain) b i k) ∙ here.0, here.1));
+}
+tick_says i k (Ok (Some f)) old new left rest n says place = λ b speaks next t.
+    ap (λ (o : Lined). cut old.hearing.room old.hearing.passed (gone (walk_of old.judge b n) o next) (texts_of old.hearing.texts left)) (tick_lined (machine_of old.judge.plain) b i k)
+    ∙ says b n (λ w. next (next_line w)) t
+tick_says i k (Err x) old new left rest n says place = tt
+
+run_lined : (m : Machine) (b : Block) (k q : ℕ) → lined m b (events.Run k q) ≡ Done (Does m [] nobody b)
+unfolding lined operate
+run_lined m b k q = refl
+
+pub run_says : (k q : ℕ) (e : Event) (old : Trial) (left : Option (List ℕ)) (n : ℕ) → e ≡ events.Run k q → LineSays (Ok None) old old left left n e
+run_says k q e old left n is = λ b speaks. record {
+  after = b;
+  speaks = speaks;
+  goes = λ next told.
+      (ap (λ (o : Lined). cut old.hearing.room old.hearing.passed (gone (walk_of old.judge b n) o next) (texts_of old.hearing.texts left)) (ap (lined (machine_of old.judge.plain) b) is ∙ run_lined (machine_of old.judge.plain) b k q), told);
+}
+
+pub end_says : (r : Result (Option Finding) Failed) (e : Event) (old new : Trial) (left rest : Option (List ℕ)) (n : ℕ) → e ≡ events.End → SaysEnd r old.hearing left at_end → LineSays r old new left rest n e
+end_says (Ok None) e old new left rest n is ends = absurd ends
+end_says (Ok (Some f)) e old new left rest n is ends = λ b speaks next t.
+    ap (λ (x : Event). cut old.hearing.room old.hearing.passed (gone (walk_of old.judge b n) (lined (machine_of old.judge.plain) b x) next) (texts_of old.hearing.texts left)) is
+    ∙ ap (λ (o : Lined). cut old.hearing.room old.hearing.passed (gone (walk_of old.judge b n) o next) (texts_of old.hearing.texts left)) (end_lined (machine_of old.judge.plain) b) ∙ ends t
+end_says (Err x) e old new left rest n is ends = tt
+
+pub end_stays : (r : Result (Option Finding) Failed) (old : Hearing) (left rest : Option (List ℕ)) (judge : AnyJudge) (new : Trial) → SaysEnd r old left judge → StaysTried r new rest
+end_stays (Ok None) old left rest judge new ends = absurd ends
+end_stays (Ok (Some f)) old left rest judge new ends = tt
+end_stays (Err x) old left rest judge new ends = tt
+
+pub never_on : {X : Type 0} (r : Result (Option Finding) Failed) (old : Hearing) (left : Option (List ℕ)) (judge : AnyJudge) → SaysEnd r old left judge → r ≡ Ok None → X
+never_on (Ok None) old left judge ends is = absurd ends
+never_on (Ok (Some f)) old left judge ends is = cc
+never_on (Err x) old left judge ends is = cc
+
+-- PEEK, and any other line
+pub peek_shown : (e : Event) (a : Answer) (m : Machine) (r : Result (Option Finding) Failed) (old new : Hearing) (left rest : Option (List ℕ)) (b : Bool) → b ≡ is_peek_event e → b ≡ true
+    → ((next : AnyJudge) → Says r old new left rest (led peeking (λ t. next)) next) → (next : AnyJudge) → Says r old new left rest (heard_of e a m next) next
+peek_shown (events.Peek s) a m r old new left rest b test is says = says
+peek_shown e a m r old new left rest b test is says = absurd (false≢true (sym test ∙ is))
+
+pub lines_shown : (e : Event) (a : Answer) (m : Machine) (r : Result (Option Finding) Failed) (old new : Hearing) (left rest : Option (List ℕ)) (b : Bool) → b ≡ is_peek_event e → b ≡ false
+    → ((next : AnyJudge) → Says r old new left rest (told (lines_of e a m) next) next) → (next : AnyJudge) → Says r old new left rest (heard_of e a m next) next
+lines_shown (events.Peek s) a m r old new left rest b test is says = absurd (false≢true (sym is ∙ test))
+lines_shown e a m r old new left rest b test is says = says
+
+pub tried_on : (r : Result (Option Finding) Failed) (new : Trial) (rest : Option (List ℕ)) → Stays r new.hearing rest → Sure new.judge → new.judge.ended ≡ false → new.last < slots → StaysTried r new rest
+tried_on (Ok None) new rest h sure going last = record { heard = h; sure = sure; going = going; last = last }
+tried_on (Ok (Some f)) new rest h sure going last = tt
+tried_on (Err x) new rest h sure going last = tt

@@ -1,0 +1,216 @@
+-- The items of a session, one by one, along its transcript.
+use Rattle.std.proofs.Common.{◌≡◌, ◌+◌, ℕ, true, false, Option, Some, None, Result, Ok, Err, List, [], ◌∷◌, refl, sym, ap, subst, ◌∙◌}
+use Rattle.std.proofs.lemmas.Bool.{false≢true}
+use Rattle.its_io.specs.declared.stream.Failed.{Failed}
+use Rattle.its_word.specs.Item.{Item}
+use Rattle.its_word.specs.declared.session.Event.{Event}
+use Rattle.its_word.specs.declared.session.Event.TheVariants as events
+use Rattle.its_word.specs.declared.session.Place.{Place}
+use Rattle.its_word.specs.declared.session.Place.TheVariants as places
+use Rattle.its_word.specs.declared.session.Reason.{Reason}
+use Rattle.its_print.specs.Printing.{Refused}
+use Rattle.its_session.specs.Events.{events_of, item_then, place_after}
+use Rattle.its_session.specs.Fits.{Stands, place_of as event_place}
+use Rattle.its_session.specs.Grammar.{is_at}
+use Rattle.its_session.proofs.FitsLaws.{later_fits}
+use Rattle.its_reader.specs.declared.items.Found.{Found}
+use Rattle.its_reader.specs.declared.items.Found.TheVariants.{Line, Bad, Beyond, End}
+use Rattle.its_reader.specs.declared.items.Items.{Items}
+use Rattle.its_reader.specs.Bytes.{pending}
+use Rattle.its_reader.specs.Items.{Finds, found_fits, found_stands, is_last, place_found}
+use Rattle.its_reader.specs.Lines.{Ready}
+use Rattle.its_plain.specs.Operator.{Block, no_block}
+use Rattle.its_plain.specs.Transcript.{Walk}
+use Rattle.its_plain.specs.Unrolled.{ticks_asked, turns_asked}
+use Rattle.its_direct.specs.Events.{MayStand, Speaks}
+use Rattle.its_direct.specs.declared.plain.Spot.{Spot}
+use Rattle.its_direct.specs.declared.plain.Spot.TheVariants as spots
+use Rattle.its_verify.specs.Going.{FoundStands, GoneSo, ItemSays, LineSays, SaysEnd, Split, is_end, items_by, judge_from, settled}
+use Rattle.its_verify.specs.Hearing.{Ends, Says, cut}
+use Rattle.its_verify.specs.Judge.{Judge as AnyJudge, at_end, judged, told, turned}
+use Rattle.its_verify.specs.Sources.{IsTold, items_of, texts_of}
+use Rattle.its_verify.specs.Standing.{walk_of}
+use Rattle.its_verify.specs.Trial.{StaysTried, Tried}
+use Rattle.its_verify.specs.declared.finding.Finding.{Finding}
+use Rattle.its_verify.specs.declared.trial.Trial.{Trial}
+use Rattle.its_verify.proofs.ItemLaws.{found_bad, found_beyond, found_end, found_line}
+
+-- an item that is the last
+pub bad_says : (reason : Reason) (r : Result (Option Finding) Failed) (old new : Trial) (left rest : Option (List ℕ)) (n : ℕ) → SaysEnd r old.hearing left (told (Refused n reason ∷ []) at_end)
+    → ItemSays r old new left rest n (Bad reason)
+bad_says reason (Ok None) old new left rest n ends = absurd ends
+bad_says reason (Ok (Some f)) old new left rest n ends = λ b speaks es. ends
+bad_says reason (Err x) old new left rest n ends = tt
+
+pub beyond_says : (r : Result (Option Finding) Failed) (old new : Trial) (left rest : Option (List ℕ)) (n : ℕ) → SaysEnd r old.hearing left at_end → ItemSays r old new left rest n Beyond
+beyond_says (Ok None) old new left rest n ends = absurd ends
+beyond_says (Ok (Some f)) old new left rest n ends = λ b speaks es. ends
+beyond_says (Err x) old new left rest n ends = tt
+
+pub last_says : (r : Result (Option Finding) Failed) (old new : Trial) (left rest : Option (List ℕ)) (n : ℕ) → SaysEnd r old.hearing left at_end → ItemSays r old new left rest n End
+last_says (Ok None) old new left rest n ends = absurd ends
+last_says (Ok (Some f)) old new left rest n ends = λ b speaks es. ends
+last_says (Err x) old new left rest n ends = tt
+
+pub not_last : (e : Event) → is_end e ≡ false → is_last (Line e) ≡ false
+not_last events.End h = absurd (false≢true (sym h))
+not_last e h = refl
+
+-- a line, and its turns
+pub obeyed_says : (r o : Result (Option Finding) Failed) (e : Event) (old mid new : Trial) (left between rest : Option (List ℕ)) (n : ℕ) → r ≡ Ok None → LineSays r old mid left between n e → mid.last ≡ old.last
+    → ((b : Block) (l : ℕ) (next : Walk → ℕ → AnyJudge)
+    → Says o mid.hearing new.hearing between rest (turned (turns_asked e) (ticks_asked e) (walk_of mid.judge b l) mid.last next) (next (walk_of new.judge b l) new.last))
+    → new.judge.plain.place ≡ mid.judge.plain.place → ItemSays o old new left rest n (Line e)
+obeyed_says r (Ok None) e old mid new left between rest n is line last turns place = λ b speaks.
+    (let led = subst (λ q. LineSays q old mid left between n e) is line b speaks in
+    record {
+      after = led.after;
+      speaks = subst (λ (s : Spot). Speaks s led.after) (sym place) led.speaks;
+      goes = λ es t.
+          (let next : Walk → ℕ → AnyJudge = λ x s. judged x s es in
+          let here = led.goes (λ w. turned (turns_asked e) (ticks_asked e) w old.last next) t in
+          let on = turns led.after (n + 1) next here.1 in (
+            here.0
+                ∙ ap (λ (i : ℕ). cut mid.hearing.room mid.hearing.passed (turned (turns_asked e) (ticks_asked e) (walk_of mid.judge led.after (n + 1)) i next) (texts_of mid.hearing.texts between)) (sym last)
+                ∙ on.0,
+            on.1,
+          ));
+    })
+obeyed_says r (Ok (Some f)) e old mid new left between rest n is line last turns place = λ b speaks es t.
+    (let led = subst (λ q. LineSays q old mid left between n e) is line b speaks in
+    let next : Walk → ℕ → AnyJudge = λ x s. judged x s es in
+    let here = led.goes (λ w. turned (turns_asked e) (ticks_asked e) w old.last next) t in
+    here.0
+    ∙ ap (λ (i : ℕ). cut mid.hearing.room mid.hearing.passed (turned (turns_asked e) (ticks_asked e) (walk_of mid.judge led.after (n + 1)) i next) (texts_of mid.hearing.texts between)) (sym last)
+    ∙ turns led.after (n + 1) next here.1)
+obeyed_says r (Err x) e old mid new left between rest n is line last turns place = tt
+
+pub stopped_says : (r : Result (Option Finding) Failed) (f : Finding) (e : Event) (old mid new : Trial) (left between rest : Option (List ℕ)) (n : ℕ) → r ≡ Ok (Some f) → LineSays r old mid left between n e
+    → ItemSays (Ok (Some f)) old new left rest n (Line e)
+stopped_says r f e old mid new left between rest n is line = λ b speaks es.
+    subst (λ q. LineSays q old mid left between n e) is line b speaks (λ w. turned (turns_asked e) (ticks_asked e) w old.last (λ x s. judged x s es))
+
+-- places
+at_settled : (p q : Place) → settled q ≡ q → is_at p q ≡ true → settled p ≡ q
+at_settled places.First places.First is h = is
+at_settled places.First places.Plain is h = refl
+at_settled places.First places.Load is h = absurd (false≢true h)
+at_settled places.First places.File is h = absurd (false≢true h)
+at_settled places.Plain places.Plain is h = refl
+at_settled places.Plain places.First is h = absurd (false≢true h)
+at_settled places.Plain places.Load is h = absurd (false≢true h)
+at_settled places.Plain places.File is h = absurd (false≢true h)
+at_settled places.Load places.Load is h = refl
+at_settled places.Load places.First is h = absurd (false≢true h)
+at_settled places.Load places.Plain is h = absurd (false≢true h)
+at_settled places.Load places.File is h = absurd (false≢true h)
+at_settled places.File places.File is h = refl
+at_settled places.File places.First is h = absurd (false≢true h)
+at_settled places.File places.Plain is h = absurd (false≢true h)
+at_settled places.File places.Load is h = absurd (false≢true h)
+
+at_first : (p : Place) → is_at p places.First ≡ true → settled p ≡ places.Plain
+at_first places.First h = refl
+at_first places.Plain h = absurd (false≢true h)
+at_first places.Load h = absurd (false≢true h)
+at_first places.File h = absurd (false≢true h)
+
+event_stands : (p q : Place) (e : Event) → settled p ≡ q → Stands p e → MayStand q e
+event_stands p q events.Nothing same h = tt
+event_stands p q (events.Version v) same h = sym same ∙ at_first p h
+event_stands p q e same h = sym same ∙ at_settled p (event_place e) refl h
+
+pub stands_on : (p q : Place) (f : Found) → settled p ≡ q → found_stands p f → FoundStands q f
+stands_on p q (Line e) same h = event_stands p q e same h
+stands_on p q (Bad r) same h = tt
+stands_on p q Beyond same h = tt
+stands_on p q End same h = tt
+
+pub fits_on : (v : ℕ) (f : Found) → found_fits v f → found_fits 2 f
+fits_on v (Line e) h = later_fits v e h
+fits_on v (Bad r) h = tt
+fits_on v Beyond h = tt
+fits_on v End h = tt
+
+after_settled : (p : Place) (e : Event) → settled (place_after p e) ≡ place_after (settled p) e
+after_settled p (events.Load u j c) = refl
+after_settled p (events.Go a) = refl
+after_settled p (events.File d x y) = refl
+after_settled p events.EndFile = refl
+after_settled places.First e = refl
+after_settled places.Plain e = refl
+after_settled places.Load e = refl
+after_settled places.File e = refl
+
+found_settled : (p : Place) (f : Found) → settled (place_found p f) ≡ place_found (settled p) f
+found_settled p (Line e) = after_settled p e
+found_settled p (Bad r) = refl
+found_settled p Beyond = refl
+found_settled p End = refl
+
+pub place_on : (p p2 q q2 : Place) (f : Found) → settled p ≡ q → p2 ≡ place_found p f → q2 ≡ place_found q f → settled p2 ≡ q2
+place_on p p2 q q2 f same next mine = ap settled next ∙ found_settled p f ∙ ap (λ (x : Place). place_found x f) same ∙ sym mine
+
+-- the items that are left
+line_split : (e : Event) (before after : List Item) → before ≡ item_then (Ok e) (λ _. after) → Split (Line e) before after
+line_split events.End before after is = record { behind = []; is = is; on = λ h. absurd (false≢true (sym h)) }
+line_split e before after is = record { behind = after; is = is; on = λ h. refl }
+
+pub found_split : (f : Found) (old new : Items) (left rest : Option (List ℕ)) → Finds (Ok f) old new left rest → Ready new.lines rest → IsTold left → Split f (items_of old left) (items_of new rest)
+found_split (Line e) old new left rest finds ready t = line_split e (items_of old left) (items_of new rest) (found_line old new left rest e finds ready t).0
+found_split (Bad r) old new left rest finds ready t = record { behind = []; is = found_bad old new left rest r finds ready t; on = λ h. absurd (false≢true (sym h)) }
+found_split Beyond old new left rest finds ready t = record { behind = []; is = found_beyond old new left rest finds ready t; on = λ h. absurd (false≢true (sym h)) }
+found_split End old new left rest finds ready t = record { behind = []; is = found_end old new left rest finds ready t; on = λ h. absurd (false≢true (sym h)) }
+
+-- so far
+items_start : (r : Items) (bytes : List ℕ) → r.lines.number ≡ 0 → pending r.lines.buffer ≡ [] → r.place ≡ places.First → r.version ≡ 1 → events_of bytes ≡ items_of r (Some bytes)
+unfolding events_of
+items_start r bytes number empty place version = rw (number, empty, place, version) refl
+
+pub gone_start : (t : Trial) (r : Items) (session : List ℕ) (left : Option (List ℕ)) → t.judge.plain.place ≡ spots.Plain → r.lines.number ≡ 0 → pending r.lines.buffer ≡ [] → r.place ≡ places.First → r.version ≡ 1
+    → GoneSo t t (judge_from t no_block 1 (events_of session)) r (Some session) left left
+gone_start t r session left spot number empty place version = record {
+  block = no_block;
+  speaks = subst (λ (s : Spot). Speaks s no_block) (sym spot) tt;
+  goes = λ told. (
+    ap (λ (es : List Item). cut t.hearing.room t.hearing.passed (judge_from t no_block 1 es) (texts_of t.hearing.texts left)) (items_start r session number empty place version)
+        ∙ ap (λ (n : ℕ). cut t.hearing.room t.hearing.passed (judge_from t no_block (n + 1) (items_of r (Some session))) (texts_of t.hearing.texts left)) (sym number),
+    told,
+  );
+}
+
+pub gone_next : (o : Result (Option Finding) Failed) (f : Found) (old now new : Trial) (judge : AnyJudge) (r q : Items) (session after : List ℕ) (left mid rest : Option (List ℕ)) → o ≡ Ok None
+    → GoneSo old now judge r (Some session) left mid → Finds (Ok f) r q (Some session) (Some after) → Ready q.lines (Some after) → q.lines.number ≡ r.lines.number + 1 → is_last f ≡ false
+    → ItemSays o now new mid rest q.lines.number f → GoneSo old new judge q (Some after) left rest
+gone_next o f old now new judge r q session after left mid rest is so finds ready number going says =
+    let split = found_split f r q (Some session) (Some after) finds ready tt in
+    let item = subst (λ x. ItemSays x now new mid rest q.lines.number f) is says so.block so.speaks in
+    record {
+      block = item.after;
+      speaks = item.speaks;
+      goes = λ t.
+          (let here = so.goes t in
+          let on = item.goes split.behind here.1 in (
+            here.0
+                ∙ ap (λ (es : List Item). cut now.hearing.room now.hearing.passed (judge_from now so.block (r.lines.number + 1) es) (texts_of now.hearing.texts mid)) split.is
+                ∙ ap (λ (n : ℕ). cut now.hearing.room now.hearing.passed (judge_from now so.block n (items_by f split.behind)) (texts_of now.hearing.texts mid)) (sym number)
+                ∙ on.0
+                ∙ ap (λ (es : List Item). cut new.hearing.room new.hearing.passed (judge_from new item.after (q.lines.number + 1) es) (texts_of new.hearing.texts rest)) (split.on going),
+            on.1,
+          ));
+    }
+
+pub gone_over : (o : Result (Option Finding) Failed) (x : Finding) (f : Found) (old now new : Trial) (judge : AnyJudge) (r q : Items) (session after : List ℕ) (left mid rest : Option (List ℕ)) → o ≡ Ok (Some x)
+    → GoneSo old now judge r (Some session) left mid → Finds (Ok f) r q (Some session) (Some after) → Ready q.lines (Some after) → q.lines.number ≡ r.lines.number + 1
+    → ItemSays o now new mid rest q.lines.number f → Ends (Ok x) old.hearing left judge
+gone_over o x f old now new judge r q session after left mid rest is so finds ready number says t =
+    let split = found_split f r q (Some session) (Some after) finds ready tt in
+    let here = so.goes t in
+    let ends = subst (λ y. ItemSays y now new mid rest q.lines.number f) is says so.block so.speaks split.behind in
+    here.0
+    ∙ ap (λ (es : List Item). cut now.hearing.room now.hearing.passed (judge_from now so.block (r.lines.number + 1) es) (texts_of now.hearing.texts mid)) split.is
+    ∙ ap (λ (n : ℕ). cut now.hearing.room now.hearing.passed (judge_from now so.block n (items_by f split.behind)) (texts_of now.hearing.texts mid)) (sym number)
+    ∙ ends here.1
+
+pub tried_by : (o : Result (Option Finding) Failed) (new : Trial) (rest : Option (List ℕ)) → o ≡ Ok None → StaysTried o new rest → Tried new rest
+tried_by o new rest is h = subst (λ x. StaysTried x new rest) is h

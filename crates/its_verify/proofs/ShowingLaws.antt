@@ -1,0 +1,233 @@
+-- Lines that an event shows, which are printed and then heard.
+use Rattle.std.proofs.Common.{◌≡◌, ◌<◌, ◌≤◌, ◌+◌, ◌*◌, ◌/◌, ◌%◌, ◌-◌, ◌^◌, ℕ, suc, Option, Some, None, Result, Ok, Err, IsOk, IfOk, IfSome, List, [], ◌∷◌, length, map, take, drop, min, slice_index_or, refl, add-one, sym, ap, subst, ◌∙◌, inl, inr, arith}
+use Rattle.std.proofs.Math.Seq.{drop-cons}
+use Rattle.std.proofs.Math.ListN.{drop_of_length-le}
+use Rattle.std.proofs.lemmas.Bool.{cases_eq, false≢true}
+use Rattle.std.proofs.Math.Nat.{min-eq_left}
+use Rattle.std.proofs.lemmas.List.{drop-drop, get_or_default, length-map}
+use Rattle.std.specs.List.{AllByRecursion}
+use Rattle.its_io.specs.declared.stream.Failed.{Failed}
+use Rattle.its_word.specs.declared.session.Reason.{Reason}
+use Rattle.its_files.specs.Files.{Store, file_at as file_of, words_at}
+use Rattle.its_print.specs.Printing.{Dir, Drained, Filed, Line, Listed, Loaded, Row, Shown, State, Typed, Words, listed, text_of_line}
+use Rattle.its_print.specs.Sizes.{Fits8, Fits32, IsPrinted}
+use Rattle.its_print.proofs.LongestLine.{longest}
+use Rattle.its_word.specs.declared.show.FileShow.{FileShow}
+use Rattle.its_word.specs.declared.show.JobShow.{JobShow}
+use Rattle.its_plain.specs.Machine.{File, Machine, Names}
+use Rattle.its_plain.specs.CallFile.{file_named}
+use Rattle.its_plain.specs.Own.{names_of}
+use Rattle.its_session.specs.Grammar.{last_slot}
+use Rattle.its_word.specs.Limits.{slots}
+use Rattle.its_plain.specs.OperatorFiles.{file_shown, filed_line, listing, rows, show_of, shown_by}
+use Rattle.its_plain.specs.OperatorLines.{in_a_line}
+use Rattle.its_direct.specs.Plain.{machine_of}
+use Rattle.its_direct.specs.declared.plain.Plain.{Plain}
+use Rattle.its_verify.specs.Sources.{texts_of}
+use Rattle.its_verify.specs.Verified.{Answer}
+use Rattle.its_verify.specs.Hearing.{Heard, Says, Stays, cut, same_as}
+use Rattle.its_verify.specs.Judge.{Judge, led, saying, told}
+use Rattle.its_verify.specs.Showing.{BitsSo, LinesSo, names_line, shown_if, text_lines}
+use Rattle.its_verify.specs.declared.finding.Finding.{Finding}
+use Rattle.its_verify.specs.declared.hearing.Hearing.{Hearing}
+
+-- one line
+pub printed_short : (l : Line) (xs : List ℕ) → xs ≡ text_of_line l → IsPrinted l → length xs ≤ 1543
+printed_short l xs is p = rw is (longest l p)
+
+pub drained_short : (c : ℕ) (bs xs : List ℕ) → xs ≡ text_of_line (Drained c bs) → c < 2 ^ 8 → length bs ≤ 64 → AllByRecursion Fits8 bs → length xs ≤ 1543
+drained_short c bs xs is console few bits = printed_short (Drained c bs) xs is (console, few, bits)
+
+pub loaded_short : (s : ℕ) (xs : List ℕ) → xs ≡ text_of_line (Loaded s) → s < 2 ^ 8 → length xs ≤ 1543
+loaded_short s xs is slot = printed_short (Loaded s) xs is slot
+
+pub typed_short : (c n : ℕ) (xs : List ℕ) → xs ≡ text_of_line (Typed c n) → c < 2 ^ 8 → n < 2 ^ 32 → length xs ≤ 1543
+typed_short c n xs is console dropped = printed_short (Typed c n) xs is (console, dropped)
+
+pub words_short : (s a : ℕ) (ws xs : List ℕ) → xs ≡ text_of_line (Words s a ws) → s < 2 ^ 8 → length ws ≤ 8 → length xs ≤ 1543
+words_short s a ws xs is slot few = printed_short (Words s a ws) xs is (slot, few)
+
+pub listed_short : (s a w : ℕ) (xs : List ℕ) → xs ≡ text_of_line (Listed s a w) → s < 2 ^ 8 → w < 2 ^ 36 → length xs ≤ 1543
+listed_short s a w xs is slot word = printed_short (Listed s a w) xs is (slot, word)
+
+pub state_short : (v s : ℕ) (x : JobShow) (xs : List ℕ) → xs ≡ text_of_line (State v s x) → s < 2 ^ 8 → IfSome x.sup Fits8 → IfSome x.con Fits8 → IfSome x.symbol (λ y. Fits32 y.1) → length xs ≤ 1543
+state_short v s x xs is slot superior console symbol = printed_short (State v s x) xs is (slot, superior, console, symbol)
+
+pub dir_short : (d n : ℕ) (xs : List ℕ) → xs ≡ text_of_line (Dir d n) → n < 2 ^ 32 → length xs ≤ 1543
+dir_short d n xs is count = printed_short (Dir d n) xs is count
+
+pub filed_short : (x : FileShow) (xs : List ℕ) → xs ≡ text_of_line (Filed x) → x.length < 2 ^ 32 → length xs ≤ 1543
+filed_short x xs is count = printed_short (Filed x) xs is count
+
+pub names_short : (d x y k : ℕ) (xs : List ℕ) → xs ≡ text_of_line (Shown d x y k) → k < 2 ^ 32 → length xs ≤ 1543
+names_short d x y k xs is count = printed_short (Shown d x y k) xs is count
+
+pub row_short : (ws xs : List ℕ) → xs ≡ text_of_line (Row ws) → length ws ≤ 8 → length xs ≤ 1543
+row_short ws xs is few = printed_short (Row ws) xs is few
+
+pub printed_says : (l : Line) (xs : List ℕ) (o : Result (Option Finding) Failed) (old new : Hearing) (left rest : Option (List ℕ)) → xs ≡ text_of_line l → saying l ≡ same_as (text_of_line l)
+    → ((next : Judge) → Says o old new left rest (led (same_as xs) (λ t. next)) next) → (next : Judge) → Says o old new left rest (told (l ∷ []) next) next
+printed_says l xs o old new left rest is same says next =
+    subst (λ (f : List ℕ → Option (List ℕ)). Says o old new left rest (led f (λ t. next)) next) (ap same_as is ∙ sym same) (says next)
+
+-- lines that show a value that is there
+pub shown_says : {X E : Type 0} (show : X → List Line) (r : Result X E) (x : X) (o : Result (Option Finding) Failed) (old new : Hearing) (left rest : Option (List ℕ)) → IsOk r → IfOk r (λ y. x ≡ y)
+    → ((next : Judge) → Says o old new left rest (told (show x) next) next) → (next : Judge) → Says o old new left rest (told (shown_if show r) next) next
+shown_says show (Ok y) x o old new left rest there is says next = subst (λ z. Says o old new left rest (told (show z) next) next) is (says next)
+shown_says show (Err e) x o old new left rest there is says next = absurd (false≢true there)
+
+pub words_say : (s a : ℕ) (r : Result (List ℕ) Reason) (ws : List ℕ) (o : Result (Option Finding) Failed) (old new : Hearing) (left rest : Option (List ℕ)) → IsOk r → IfOk r (λ y. ws ≡ y)
+    → ((next : Judge) → Says o old new left rest (told (in_a_line s a ws) next) next)
+    → (next : Judge) → Says o old new left rest (told (shown_if (in_a_line s a) r) next) next
+words_say s a r ws o old new left rest there is says = shown_says (in_a_line s a) r ws o old new left rest there is says
+
+pub list_says : (s a : ℕ) (r : Result (List ℕ) Reason) (ws : List ℕ) (o : Result (Option Finding) Failed) (old new : Hearing) (left rest : Option (List ℕ)) → IsOk r → IfOk r (λ y. ws ≡ y)
+    → ((next : Judge) → Says o old new left rest (told (listed s a ws) next) next)
+    → (next : Judge) → Says o old new left rest (told (shown_if (listed s a) r) next) next
+list_says s a r ws o old new left rest there is says = shown_says (listed s a) r ws o old new left rest there is says
+
+-- several lines
+pub lines_start : (h : Hearing) (left : Option (List ℕ)) (lines : List Line) → LinesSo h h left left lines lines
+lines_start h left lines next t = (refl, t)
+
+pub lines_next : (r : Result (Option Finding) Failed) (old now new : Hearing) (left mid rest : Option (List ℕ)) (lines rests more : List Line) (l : Line) → r ≡ Ok None → rests ≡ l ∷ more → LinesSo old now left mid lines rests
+    → ((next : Judge) → Says r now new mid rest (told (l ∷ []) next) next) → LinesSo old new left rest lines more
+lines_next (Ok None) old now new left mid rest lines rests more l is split so says next =
+    λ t. (let here = subst (LinesSo old now left mid lines) split so next t in let on = says (told more next) here.1 in (here.0 ∙ on.0, on.1))
+lines_next (Ok (Some f)) old now new left mid rest lines rests more l is split so says next = cc
+lines_next (Err e) old now new left mid rest lines rests more l is split so says next = cc
+
+pub lines_stop : (r : Result (Option Finding) Failed) (f : Finding) (old now new : Hearing) (left mid rest : Option (List ℕ)) (lines rests more : List Line) (l : Line) → r ≡ Ok (Some f) → rests ≡ l ∷ more → LinesSo old now left mid lines rests
+    → ((next : Judge) → Says r now new mid rest (told (l ∷ []) next) next) → (next : Judge) → Says (Ok (Some f)) old new left rest (told lines next) next
+lines_stop r f old now new left mid rest lines rests more l is split so says next t =
+    let here = subst (LinesSo old now left mid lines) split so next t in
+    let stop = subst (λ q. Says q now new mid rest (told (l ∷ []) (told more next)) (told more next)) is (says (told more next)) in
+    here.0 ∙ stop here.1
+
+pub lines_end : (old now : Hearing) (left rest : Option (List ℕ)) (lines more : List Line) → more ≡ [] → LinesSo old now left rest lines more → (next : Judge) → Says (Ok None) old now left rest (told lines next) next
+lines_end old now left rest lines more none so next t =
+    let here = so next t in
+    (here.0 ∙ ap (λ (ls : List Line). cut_of ls) none, here.1)
+  where
+    cut_of : List Line → Answer
+    cut_of ls = cut now.room now.passed (told ls next) (texts_of now.texts rest)
+
+pub heard_by : (r : Result (Option Finding) Failed) (new : Hearing) (rest : Option (List ℕ)) → r ≡ Ok None → Stays r new rest → Heard new rest
+heard_by r new rest is h = subst (λ q. Stays q new rest) is h
+
+-- a line for each of some words
+pub listed_more : (s p k : ℕ) (ws : List ℕ) (w : ℕ) → k < length ws → w ≡ slice_index_or ws k w → listed s p (drop k ws) ≡ Listed s p w ∷ listed s (p + 1) (drop (k + 1) ws)
+listed_more s p k ws w below at = rw (drop-cons ws k w below, add-one k, sym at) refl
+
+-- a job
+pub state_says : (v w s : ℕ) (r : Result JobShow Reason) (x : JobShow) (o : Result (Option Finding) Failed) (old new : Hearing) (left rest : Option (List ℕ)) → IsOk r → IfOk r (λ y. Some x ≡ Some y) → w ≡ v
+    → ((next : Judge) → Says o old new left rest (told (State w s x ∷ []) next) next)
+    → (next : Judge) → Says o old new left rest (told (shown_if (λ show. State v s show ∷ []) r) next) next
+state_says v w s (Ok y) x o old new left rest there is same says next =
+    let here : x ≡ y = cc in
+    subst (λ z. Says o old new left rest (told (State v s z ∷ []) next) next) here (subst (λ n. Says o old new left rest (told (State n s x ∷ []) next) next) same (says next))
+state_says v w s (Err e) x o old new left rest there is same says next = absurd (false≢true there)
+
+pub version_is : (p : Plain) → p.version ≡ (machine_of p).version
+unfolding machine_of
+version_is p = refl
+
+-- files
+pub filed_says : (f : File) (show : FileShow) (o : Result (Option Finding) Failed) (old new : Hearing) (left rest : Option (List ℕ)) → show ≡ show_of f
+    → ((next : Judge) → Says o old new left rest (told (Filed show ∷ []) next) next) → (next : Judge) → Says o old new left rest (told (filed_line f ∷ []) next) next
+filed_says f show o old new left rest is says next = subst (λ (x : FileShow). Says o old new left rest (told (Filed x ∷ []) next) next) is (says next)
+
+pub row_says : (ws row : List ℕ) (o : Result (Option Finding) Failed) (old new : Hearing) (left rest : Option (List ℕ)) → row ≡ ws
+    → ((next : Judge) → Says o old new left rest (told (Row row ∷ []) next) next) → (next : Judge) → Says o old new left rest (told (Row ws ∷ []) next) next
+row_says ws row o old new left rest is says next = subst (λ (x : List ℕ). Says o old new left rest (told (Row x ∷ []) next) next) is (says next)
+
+-- two parts of what is shown
+pub then_says : (r o : Result (Option Finding) Failed) (old mid new : Hearing) (left between rest : Option (List ℕ)) (l : Line) (lines : List Line) → r ≡ Ok None
+    → ((next : Judge) → Says r old mid left between (told (l ∷ []) next) next) → ((next : Judge) → Says o mid new between rest (told lines next) next)
+    → (next : Judge) → Says o old new left rest (told (l ∷ lines) next) next
+then_says r (Ok None) old mid new left between rest l lines is first more next = λ t.
+    (let here = subst (λ q. Says q old mid left between (told (l ∷ []) (told lines next)) (told lines next)) is (first (told lines next)) t in
+    let on = more next here.1 in (here.0 ∙ on.0, on.1))
+then_says r (Ok (Some f)) old mid new left between rest l lines is first more next = λ t.
+    (let here = subst (λ q. Says q old mid left between (told (l ∷ []) (told lines next)) (told lines next)) is (first (told lines next)) t in
+    here.0 ∙ more next here.1)
+then_says r (Err e) old mid new left between rest l lines is first more next = tt
+
+pub stop_says : (r : Result (Option Finding) Failed) (f : Finding) (old new : Hearing) (left rest : Option (List ℕ)) (l : Line) (lines : List Line) → r ≡ Ok (Some f)
+    → ((next : Judge) → Says r old new left rest (told (l ∷ []) next) next) → (next : Judge) → Says (Ok (Some f)) old new left rest (told (l ∷ lines) next) next
+stop_says r f old new left rest l lines is first next = subst (λ q. Says q old new left rest (told (l ∷ []) (told lines next)) (told lines next)) is (first (told lines next))
+
+pub same_says : (o : Result (Option Finding) Failed) (old new : Hearing) (left rest : Option (List ℕ)) (lines more : List Line) → lines ≡ more
+    → ((next : Judge) → Says o old new left rest (told lines next) next) → (next : Judge) → Says o old new left rest (told more next) next
+same_says o old new left rest lines more is says next = subst (λ (ls : List Line). Says o old new left rest (told ls next) next) is (says next)
+
+-- bytes
+pub bits_start : (bs : List ℕ) (k : ℕ) → k ≡ 0 → BitsSo k bs
+bits_start bs k none i below = absurd (omega arith)
+
+pub bits_next : (bs : List ℕ) (k b : ℕ) → k < length bs → b ≡ slice_index_or bs k b → b < 2 ^ 8 → BitsSo k bs → BitsSo (k + 1) bs
+bits_next bs k b within at few so i below =
+    elim (cases_eq i k) [
+      | inl same ↦ (let here : slice_index_or bs k 0 ≡ b = get_or_default bs k 0 b within ∙ sym at in rw same (rw here few))
+      | inr other ↦ so i (omega (arith, below, other))
+    ]
+
+all_bits : (bs : List ℕ) → ((i : ℕ) → i < length bs → slice_index_or bs i 0 < 2 ^ 8) → AllByRecursion Fits8 bs
+all_bits [] h = tt
+all_bits (b ∷ bs) h = (h 0 (omega arith), all_bits bs (λ i below. h (suc i) (omega (arith, below))))
+
+pub bits_end : (bs : List ℕ) (k : ℕ) → length bs ≤ k → BitsSo k bs → AllByRecursion Fits8 bs
+bits_end bs k all so = all_bits bs (λ i below. so i (omega (arith, below, all)))
+
+-- a line for each of some files
+pub filed_more : (files : Store) (ids : List ℕ) (k d : ℕ) → k < length ids
+    → map filed_line (map (file_of files) (drop k ids)) ≡ filed_line (file_of files (slice_index_or ids k d)) ∷ map filed_line (map (file_of files) (drop (k + 1) ids))
+filed_more files ids k d below = rw (drop-cons ids k d below, add-one k) refl
+
+pub filed_end : (files : Store) (ids : List ℕ) (k : ℕ) → length ids ≤ k → map filed_line (map (file_of files) (drop k ids)) ≡ []
+filed_end files ids k past = rw (drop_of_length-le ids past) refl
+
+-- a line for each row of a file
+pub rows_more : (n k : ℕ) (ws : List ℕ) → k < n → rows (n - k) (drop (8 * k) ws) ≡ Row (take 8 (drop (8 * k) ws)) ∷ rows (n - (k + 1)) (drop (8 * (k + 1)) ws)
+rows_more n k ws less =
+    let step : n - k ≡ suc (n - (k + 1)) = omega arith in
+    let on : drop 8 (drop (8 * k) ws) ≡ drop (8 * (k + 1)) ws = drop-drop 8 (8 * k) ws ∙ ap (λ (m : ℕ). drop m ws) (omega arith) in
+    rw step (ap (λ (xs : List ℕ). Row (take 8 (drop (8 * k) ws)) ∷ rows (n - (k + 1)) xs) on)
+
+pub rows_end : (n k : ℕ) (ws : List ℕ) → n ≤ k → rows (n - k) (drop (8 * k) ws) ≡ []
+rows_end n k ws past = (let none : n - k ≡ 0 = omega arith in rw none refl)
+
+pub rows_count : (k n : ℕ) → n ≡ k / 8 + min 1 (k % 8) → n ≡ (k + 7) / 8
+rows_count k n e = elim (cases_eq (k % 8) 0) [
+  | inl z ↦ omega (arith, e, ap (min 1) z, z)
+  | inr some ↦ let m : min 1 (k % 8) ≡ 1 = min-eq_left (omega (arith, some)) in omega (arith, e, m, some)
+]
+
+-- a line for each of some words
+pub listed_end : (s p k : ℕ) (ws : List ℕ) → length ws ≤ k → listed s p (drop k ws) ≡ []
+listed_end s p k ws past = rw (drop_of_length-le ws past) refl
+
+-- all lines of DIR and of SHOW
+pub listing_is : (files : Store) (d n : ℕ) (ids : List ℕ) (fs : List File) → map (file_of files) ids ≡ fs → n ≡ length ids → (Dir d n ∷ map filed_line (map (file_of files) ids)) ≡ listing d fs
+listing_is files d n ids fs is count =
+    ap (λ (k : ℕ). Dir d k ∷ map filed_line (map (file_of files) ids)) (count ∙ sym (length-map ids (file_of files))) ∙ ap (listing d) is
+
+pub text_is : (names : Names) (n : ℕ) (ws : List ℕ) → n ≡ length ws → (names_line names n ∷ rows ((n + 7) / 8) ws) ≡ text_lines names ws
+text_is names n ws is = ap (λ (k : ℕ). names_line names k ∷ rows ((k + 7) / 8) ws) is
+
+pub file_is : (m : Machine) (files : Store) (d x y id : ℕ) → Some (file_of files id) ≡ file_named (names_of d x y) m.files
+    → text_lines (d ∷ x ∷ y ∷ []) (words_at files id) ≡ shown_if (λ out. out) (file_shown m d x y)
+unfolding file_shown
+file_is m files d x y id is = ap (λ (o : Option File). shown_if (λ out. out) (shown_by d x y o)) is
+
+pub no_file_is : (m : Machine) (d x y : ℕ) → None ≡ file_named (names_of d x y) m.files → [] ≡ shown_if (λ out. out) (file_shown m d x y)
+unfolding file_shown
+no_file_is m d x y is = ap (λ (o : Option File). shown_if (λ out. out) (shown_by d x y o)) is
+
+pub nothing_says : (h : Hearing) (left : Option (List ℕ)) (lines : List Line) → [] ≡ lines → (next : Judge) → Says (Ok None) h h left left (told lines next) next
+nothing_says h left lines is next = subst (λ (ls : List Line). Says (Ok None) h h left left (told ls next) next) is (λ t. (refl, t))
+
+-- slots
+pub in_slots : (s : ℕ) → s ≤ last_slot 2 → s < slots
+unfolding last_slot
+in_slots s few = omega (arith, few)

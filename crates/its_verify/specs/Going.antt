@@ -1,0 +1,106 @@
+-- What a line of a session, and any item of it, comes to in a trial.
+use Rattle.std.specs.Prelude.{◌≡◌, ℕ, ◌+◌, Bool, true, false, Option, Some, None, Result, Ok, Err, List, [], ◌∷◌}
+use Rattle.its_io.specs.declared.stream.Failed.{Failed}
+use Rattle.its_word.specs.Item.{Item, Read, Unread}
+use Rattle.its_word.specs.Item as items
+use Rattle.its_word.specs.declared.session.Event.{Event}
+use Rattle.its_word.specs.declared.session.Event.TheVariants as events
+use Rattle.its_word.specs.declared.session.Place.{Place}
+use Rattle.its_word.specs.declared.session.Place.TheVariants as places
+use Rattle.its_reader.specs.declared.items.Found.{Found}
+use Rattle.its_reader.specs.declared.items.Found.TheVariants.{Line, Bad, Beyond, End}
+use Rattle.its_reader.specs.declared.items.Items.{Items}
+use Rattle.its_reader.specs.Items.{is_last}
+use Rattle.its_plain.specs.Operator.{Block}
+use Rattle.its_plain.specs.OperatorLines.{lined}
+use Rattle.its_plain.specs.Transcript.{Walk}
+use Rattle.its_direct.specs.Plain.{machine_of}
+use Rattle.its_direct.specs.Events.{MayStand, Speaks}
+use Rattle.its_verify.specs.Hearing.{Ends, Goes}
+use Rattle.its_verify.specs.Judge.{Judge, gone, judged}
+use Rattle.its_verify.specs.Sources.{items_of}
+use Rattle.its_verify.specs.Standing.{walk_of}
+use Rattle.its_verify.specs.declared.finding.Finding.{Finding}
+use Rattle.its_verify.specs.declared.hearing.Hearing.{Hearing}
+use Rattle.its_verify.specs.declared.trial.Trial.{Trial}
+
+-- what the judge says of line n, event e, where a block speaks of b, and how it goes on
+abbrev pub line_judge : Trial → Block → ℕ → Event → (Walk → Judge) → Judge
+line_judge t b n e next = gone (walk_of t.judge b n) (lined (machine_of t.judge.plain) b e) next
+
+-- the line led on, to where a block speaks of another
+pub record LedOn (old new : Trial) (left rest : Option (List ℕ)) (b : Block) (n : ℕ) (e : Event) : Type 0 where
+  pub after : Block
+  pub speaks : Speaks new.judge.plain.place after
+  pub goes : (next : Walk → Judge)
+      → Goes old.hearing new.hearing left rest (line_judge old b n e next) (next (walk_of new.judge after (n + 1)))
+
+-- line n led on, or all is said
+abbrev pub LineSays : Result (Option Finding) Failed → Trial → Trial → Option (List ℕ) → Option (List ℕ) → ℕ → Event → Type 0
+LineSays (Ok None) old new left rest n e = (b : Block) → Speaks old.judge.plain.place b → LedOn old new left rest b n e
+LineSays (Ok (Some f)) old new left rest n e =
+    (b : Block) → Speaks old.judge.plain.place b
+    → (next : Walk → Judge) → Ends (Ok f) old.hearing left (line_judge old b n e next)
+LineSays (Err x) old new left rest n e = Unit {0}
+
+-- all is said by a judge
+abbrev pub SaysEnd : Result (Option Finding) Failed → Hearing → Option (List ℕ) → Judge → Type 0
+SaysEnd (Ok None) old left judge = ⊥
+SaysEnd (Ok (Some f)) old left judge = Ends (Ok f) old left judge
+SaysEnd (Err x) old left judge = Unit {0}
+
+abbrev pub is_end : Event → Bool
+is_end events.End = true
+is_end e = false
+
+-- the place behind the first line, and so the place of the machine
+abbrev pub settled : Place → Place
+settled places.First = places.Plain
+settled places.Plain = places.Plain
+settled places.Load = places.Load
+settled places.File = places.File
+
+-- an item may stand at a place
+abbrev pub FoundStands : Place → Found → Type 0
+FoundStands place (Line e) = MayStand place e
+FoundStands place (Bad r) = Unit {0}
+FoundStands place Beyond = Unit {0}
+FoundStands place End = Unit {0}
+
+-- where an item was found, and these stand behind it
+abbrev pub items_by : Found → List Item → List Item
+items_by (Line e) es = Read e ∷ es
+items_by (Bad r) es = Unread r ∷ es
+items_by Beyond es = items.Beyond ∷ es
+items_by End es = []
+
+-- what the judge says from line n on
+abbrev pub judge_from : Trial → Block → ℕ → List Item → Judge
+judge_from t b n es = judged (walk_of t.judge b n) t.last es
+
+-- an item led on
+pub record ItemLed (old new : Trial) (left rest : Option (List ℕ)) (b : Block) (n : ℕ) (f : Found) : Type 0 where
+  pub after : Block
+  pub speaks : Speaks new.judge.plain.place after
+  pub goes : (es : List Item)
+      → Goes old.hearing new.hearing left rest (judge_from old b n (items_by f es)) (judge_from new after (n + 1) es)
+
+-- it led on, or all is said
+abbrev pub ItemSays : Result (Option Finding) Failed → Trial → Trial → Option (List ℕ) → Option (List ℕ) → ℕ → Found → Type 0
+ItemSays (Ok None) old new left rest n f = (b : Block) → Speaks old.judge.plain.place b → ItemLed old new left rest b n f
+ItemSays (Ok (Some x)) old new left rest n f =
+    (b : Block) → Speaks old.judge.plain.place b
+    → (es : List Item) → Ends (Ok x) old.hearing left (judge_from old b n (items_by f es))
+ItemSays (Err x) old new left rest n f = Unit {0}
+
+-- so far: the items that were found led on
+pub record GoneSo (old now : Trial) (judge : Judge) (r : Items) (session left rest : Option (List ℕ)) : Type 0 where
+  pub block : Block
+  pub speaks : Speaks now.judge.plain.place block
+  pub goes : Goes old.hearing now.hearing left rest judge (judge_from now block (r.lines.number + 1) (items_of r session))
+
+-- the items that are left, where this was found: it is the first of them, and others come behind it where it is not the last
+pub record Split (f : Found) (before : List Item) (after : List Item) : Type 0 where
+  pub behind : List Item
+  pub is : before ≡ items_by f behind
+  pub on : is_last f ≡ false → behind ≡ after

@@ -1,0 +1,299 @@
+//! The judge: the plain machine of a session, and how many `.` came for each slot.
+ghost use Rattle.std.specs.Prelude.{◌≡◌, ◌<◌, ◌≤◌, ◌∷◌, replicate, true, false, not, Ok, IfOk, IfSome, OnOk, OnErr};
+ghost use Rattle.its_word.specs.Limits.{slots};
+ghost use Rattle.its_session.specs.Events.{place_after};
+ghost use Rattle.its_session.specs.Fits.{EventFits};
+ghost use Rattle.its_plain.specs.Machine.{no_machine};
+ghost use Rattle.its_direct.specs.Plain.{machine_of};
+ghost use Rattle.its_direct.specs.Events.{IsTold, MayStand, Spares, Told, place_of};
+ghost use Rattle.its_print.specs.Runs.{paces_in};
+ghost use Rattle.its_plain.specs.Unrolled.{is_running, turn_after};
+ghost use Rattle.its_verify.specs.Standing.{AllLed, dots_of, Forgets, LedIf, RunLed, RunsLed, Sure};
+
+use super::ticks::read_ticks;
+use its_direct::{Answer, NoMemory, Plain, Spot};
+use its_print::Run;
+use its_robin::next;
+use its_word::{Event, Pace, Refusal, SLOTS};
+use std::alloc::Global;
+
+/// No more `.` than this come in a row.
+const MOST_DOTS: u8 = 16;
+
+/// The plain machine as the lines of a session and the letters of a transcript lead it; for each slot how many `.` came since its last
+/// `*`, its last disturbance or its making; and whether a letter came that was not licensed.
+#[derive(Drop)]
+pub struct Judge {
+    pub plain: Plain,
+    pub dots: [u8; 96],
+    pub ended: bool,
+}
+
+impl Judge {
+    /// The judge at the start of a session. Takes all the memory that it needs.
+    #[tactic(auto, using(crate::proofs::StandingLaws::no_dots, crate::proofs::StandingLaws::sure_start))]
+    pub fn open(alloc: Global) -> Result<Judge, NoMemory>
+        ensures machine { IfOk result (λ j. machine_of j.plain ≡ no_machine) }
+        ensures dots { IfOk result (λ j. dots_of j.dots ≡ (λ k. 0)) }
+        ensures place { IfOk result (λ j. j.plain.place ≡ Spot.Plain) }
+        ensures going { IfOk result (λ j. j.ended ≡ false) }
+        ensures sure { IfOk result Sure }
+    {
+        let plain = Plain::open(alloc)?;
+        Ok(Judge {
+            plain,
+            dots: [0; SLOTS],
+            ended: false,
+        })
+    }
+
+    /// What a line of a session other than TICK and END comes to: what it shows, or why it is refused, and then nothing changes.
+    #[tactic(auto, using(crate::proofs::StandingLaws::sure_lines))]
+    pub fn event(&mut self, event: &Event) -> Result<Answer, Refusal>
+        requires going { self.old.ended ≡ false }
+        requires told { IsTold event.now }
+        requires fits { EventFits 2 event.now }
+        requires stands { MayStand (place_of self.old.plain.place) event.now }
+        requires sure { Sure self.old }
+        ensures told { Told event.now self.old.plain self.new.plain result }
+        ensures dots { OnOk result (Forgets self.new.plain self.old.dots self.new.dots) }
+        ensures same { OnErr result (Spares event.now self.old.plain self.new.plain) }
+        ensures place { OnOk result (place_of self.new.plain.place ≡ place_after (place_of self.old.plain.place) event.now) }
+        ensures going { self.new.ended ≡ false }
+        ensures sure { Sure self.new }
+    {
+        match self.plain.event(event) {
+            Ok(answer) => {
+                self.forget_touched();
+                Ok(answer)
+            }
+            Err(e) => Err(e),
+        }
+    }
+
+    /// Whether a letter of a slot is licensed: the machine moves as it says. Where it is not, nothing more is to be asked.
+    pub fn licensed(&mut self, slot: u8, pace: Pace) -> bool
+        requires going { self.old.ended ≡ false }
+        requires slot { slot < slots }
+        requires sure { Sure self.old }
+        ensures led { LedIf result self.old self.new slot pace }
+        ensures ended { self.new.ended ≡ not result }
+        ensures sure { result ≡ true → Sure self.new }
+        ensures place { self.new.plain.place ≡ self.old.plain.place }
+    {
+        let licensed = self.takes(slot, pace);
+        self.ended = !licensed;
+        licensed
+    }
+
+    /// The same; whether it ended is not said.
+    fn takes(&mut self, slot: u8, pace: Pace) -> bool
+        requires slot { slot < slots }
+        requires sure { Sure self.old }
+        ensures led { LedIf result self.old self.new slot pace }
+        ensures sure { result ≡ true → Sure self.new }
+        ensures place { self.new.plain.place ≡ self.old.plain.place }
+    {
+        match pace {
+            Pace::Step => self.takes_step(slot),
+            Pace::Work => self.takes_dot(slot),
+            Pace::Wait => self.waits(slot),
+            Pace::Off => self.is_off(slot),
+        }
+    }
+
+    /// Whether the letters of some runs of a slot are licensed, each in its turn.
+    #[tactic(auto, using(crate::proofs::LettersLaws::runs_start, crate::proofs::LettersLaws::runs_on, crate::proofs::LettersLaws::runs_stop, crate::proofs::LettersLaws::runs_end))]
+    pub fn runs_licensed(&mut self, slot: u8, runs: &[Run]) -> bool
+        requires going { self.old.ended ≡ false }
+        requires slot { slot < slots }
+        requires sure { Sure self.old }
+        ensures led { RunsLed result self.old self.new slot (paces_in runs.now) }
+        ensures ended { result ≡ true → self.new.ended ≡ false }
+        ensures sure { result ≡ true → Sure self.new }
+        ensures place { self.new.plain.place ≡ self.old.plain.place }
+    {
+        for run in runs {
+            if !self.run_licensed(slot, *run) {
+                return false;
+            }
+        }
+        true
+    }
+
+    /// The same of one run.
+    #[tactic(auto, using(crate::proofs::LettersLaws::run_start, crate::proofs::LettersLaws::run_first_stops, crate::proofs::LettersLaws::run_on, crate::proofs::LettersLaws::run_stops, crate::proofs::LettersLaws::run_end))]
+    fn run_licensed(&mut self, slot: u8, run: Run) -> bool
+        requires going { self.old.ended ≡ false }
+        requires slot { slot < slots }
+        requires sure { Sure self.old }
+        ensures led { RunLed result self.old self.new slot (run.pace ∷ replicate run.more run.pace) }
+        ensures ended { result ≡ true → self.new.ended ≡ false }
+        ensures sure { result ≡ true → Sure self.new }
+        ensures place { self.new.plain.place ≡ self.old.plain.place }
+    {
+        if !self.licensed(slot, run.pace) {
+            return false;
+        }
+        let taken = self.taken(slot, run);
+        for _k in taken..run.more {
+            if !self.licensed(slot, run.pace) {
+                return false;
+            }
+        }
+        true
+    }
+
+    /// Takes at once, of the letters of a run behind its first, as many `*` as are units of a slot's job in a row; how many.
+    fn taken(&mut self, slot: u8, run: Run) -> u32
+        requires going { self.old.ended ≡ false }
+        requires slot { slot < slots }
+        requires sure { Sure self.old }
+        ensures few { result ≤ run.more }
+        ensures led { RunLed true self.old self.new slot (replicate result run.pace) }
+        ensures going { self.new.ended ≡ false }
+        ensures sure { Sure self.new }
+        ensures place { self.new.plain.place ≡ self.old.plain.place }
+    {
+        match run.pace {
+            Pace::Step => self.units(slot, run.more),
+            _ => 0,
+        }
+    }
+
+    /// Takes as many `*` as are units of a slot's job in a row, n at most; how many.
+    #[tactic(auto, using(crate::proofs::SeriesLaws::units_none, crate::proofs::SeriesLaws::units_some, crate::proofs::SeriesLaws::units_sure, crate::proofs::SeriesLaws::still_sure))]
+    fn units(&mut self, slot: u8, n: u32) -> u32
+        requires going { self.old.ended ≡ false }
+        requires slot { slot < slots }
+        requires sure { Sure self.old }
+        ensures few { result ≤ n }
+        ensures led { RunLed true self.old self.new slot (replicate result Pace.Step) }
+        ensures going { self.new.ended ≡ false }
+        ensures sure { Sure self.new }
+        ensures place { self.new.plain.place ≡ self.old.plain.place }
+    {
+        let made = self.plain.steps(slot, n);
+        if made == 0 {
+            return 0;
+        }
+        self.dots[usize::from(slot)] = 0;
+        made
+    }
+
+    /// Whether a line says so many letters of a slot, and each is licensed in its turn.
+    #[tactic(auto, using(crate::proofs::LettersLaws::all_led, crate::proofs::LettersLaws::not_read))]
+    pub fn says_ticks(&mut self, line: &[u8], slot: u8, count: u32) -> bool
+        requires going { self.old.ended ≡ false }
+        requires slot { slot < slots }
+        requires few { count ≤ 512 }
+        requires sure { Sure self.old }
+        ensures led { AllLed result self.old self.new line.now slot count }
+        ensures place { self.new.plain.place ≡ self.old.plain.place }
+    {
+        match read_ticks(line, slot, count) {
+            Some(runs) => self.runs_licensed(slot, &runs),
+            None => false,
+        }
+    }
+
+    /// The slot whose turn it is, after a turn of slot `last`; None where no job runs.
+    #[tactic(auto, using(crate::proofs::TrialLaws::turn_found, crate::proofs::TrialLaws::turn_is_slot, crate::proofs::TrialLaws::runs_start, crate::proofs::TrialLaws::runs_next))]
+    pub fn turn_after(&self, last: u8) -> Option<u8>
+        requires last { last < slots }
+        ensures turn { result ≡ turn_after (machine_of self.now.plain) last }
+        ensures slot { IfSome result (λ s. s < slots) }
+    {
+        let mut runs = [false; SLOTS];
+        for slot in 0..SLOTS {
+            runs[slot] = self.runs(slot as u8);
+        }
+        next(&runs, last)
+    }
+
+    /// `*`: the step of a slot's job, where it has one.
+    #[tactic(auto, using(crate::proofs::StandingLaws::step_led, crate::proofs::StandingLaws::step_not_led, crate::proofs::StandingLaws::sure_step, crate::proofs::StandingLaws::makes_place))]
+    fn takes_step(&mut self, slot: u8) -> bool
+        requires slot { slot < slots }
+        requires sure { Sure self.old }
+        ensures led { LedIf result self.old self.new slot Pace.Step }
+        ensures sure { result ≡ true → Sure self.new }
+        ensures place { self.new.plain.place ≡ self.old.plain.place }
+    {
+        if !self.plain.step(slot) {
+            return false;
+        }
+        self.dots[usize::from(slot)] = 0;
+        self.forget_touched();
+        true
+    }
+
+    /// `.`: one more of a slot whose job runs, where fewer than 16 came.
+    #[tactic(auto, using(crate::proofs::StandingLaws::dot_led, crate::proofs::StandingLaws::dot_not_led, crate::proofs::StandingLaws::dot_still, crate::proofs::StandingLaws::sure_dot))]
+    fn takes_dot(&mut self, slot: u8) -> bool
+        requires slot { slot < slots }
+        requires sure { Sure self.old }
+        ensures led { LedIf result self.old self.new slot Pace.Work }
+        ensures sure { result ≡ true → Sure self.new }
+        ensures place { self.new.plain.place ≡ self.old.plain.place }
+    {
+        let dots = self.dots[usize::from(slot)];
+        if !self.runs(slot) {
+            return false;
+        }
+        if dots >= MOST_DOTS {
+            return false;
+        }
+        self.dots[usize::from(slot)] = dots + 1;
+        true
+    }
+
+    /// `w`: a slot's job runs, and has no step.
+    #[tactic(auto, using(crate::proofs::StandingLaws::wait_led, crate::proofs::StandingLaws::wait_not_led, crate::proofs::StandingLaws::wait_still, crate::proofs::StandingLaws::makes_place))]
+    fn waits(&mut self, slot: u8) -> bool
+        requires slot { slot < slots }
+        requires sure { Sure self.old }
+        ensures led { LedIf result self.old self.new slot Pace.Wait }
+        ensures sure { result ≡ true → Sure self.new }
+        ensures place { self.new.plain.place ≡ self.old.plain.place }
+    {
+        if !self.runs(slot) {
+            return false;
+        }
+        !self.plain.step(slot)
+    }
+
+    /// `-`: a slot has no job, or its job is stopped.
+    #[tactic(auto, using(crate::proofs::StandingLaws::off_led))]
+    fn is_off(&mut self, slot: u8) -> bool
+        requires slot { slot < slots }
+        requires sure { Sure self.old }
+        ensures led { LedIf result self.old self.new slot Pace.Off }
+        ensures sure { result ≡ true → Sure self.new }
+        ensures place { self.new.plain.place ≡ self.old.plain.place }
+    {
+        !self.runs(slot)
+    }
+
+    /// Whether the job of a slot runs.
+    fn runs(&self, slot: u8) -> bool
+        requires { slot < slots }
+        ensures { result ≡ is_running ((machine_of self.now.plain).jobs slot) }
+    {
+        self.plain.runs(slot)
+    }
+
+    /// No `.` came since for the slots that were touched.
+    #[tactic(auto, using(crate::proofs::StandingLaws::forget_start, crate::proofs::StandingLaws::forget_one, crate::proofs::StandingLaws::forget_none, crate::proofs::StandingLaws::forget_end))]
+    fn forget_touched(&mut self)
+        ensures dots { Forgets self.old.plain self.old.dots self.new.dots }
+        ensures plain { self.new.plain ≡ self.old.plain }
+        ensures ended { self.new.ended ≡ self.old.ended }
+    {
+        for slot in 0..SLOTS {
+            if self.plain.touched[slot] {
+                self.dots[slot] = 0;
+            }
+        }
+    }
+}

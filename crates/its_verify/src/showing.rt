@@ -1,0 +1,551 @@
+//! The lines that an event shows, one after another.
+ghost use Rattle.std.specs.Prelude.{◌≡◌, ◌≤◌, ◌<◌, ◌+◌, ◌*◌, ◌/◌, ◌^◌, true, [], ◌∷◌, IfSome, IsOk, length, map, take, drop};
+ghost use Rattle.std.specs.List.{AllByRecursion, list_all};
+ghost use Rattle.its_io.specs.Bytes.{HasCause};
+ghost use Rattle.its_word.specs.Limits.{slots};
+ghost use Rattle.its_files.specs.Files.{entry_at, is_file, file_at as file_of, words_at};
+ghost use Rattle.its_print.specs.Printing.{Dir, Drained, Filed, Row, State, listed};
+ghost use Rattle.its_print.specs.Sizes.{Fits8, Fits32};
+ghost use Rattle.its_session.specs.Fits.{EventFits};
+ghost use Rattle.its_plain.specs.OperatorFiles.{files_in, file_shown, filed_line, listing, rows};
+ghost use Rattle.its_plain.specs.OperatorJobs.{examined, state_shown};
+ghost use Rattle.its_plain.specs.OperatorLines.{in_a_line};
+ghost use Rattle.its_direct.specs.Plain.{machine_of};
+ghost use Rattle.its_verify.specs.Hearing.{Heard, Says, Stays};
+ghost use Rattle.its_verify.specs.Judge.{Judge, told};
+ghost use Rattle.its_verify.specs.Showing.{IsThere, drained_lines, lines_of, loaded_lines, names_line, shown_if, text_lines, typed_lines};
+
+use super::finding::Finding;
+use super::hearing::Hearing;
+use arrayvec::ArrayVec;
+use its_direct::{Answer, Plain};
+use its_io::{Failed, Source};
+use its_print::{
+    print_dir, print_drained, print_file, print_listed, print_loaded, print_row, print_show,
+    print_state, print_typed, print_words,
+};
+use its_word::{Event, FileShow, JobShow, Word};
+
+/// How many words a line of SHOW has.
+const ROW_WORDS: u32 = 8;
+
+/// The lines that an event shows which was obeyed with this answer are next; what EXAM, LIST, STATE, DIR and SHOW show is read
+/// from the machine.
+pub(crate) fn show_event<S: Source>(
+    hearing: &mut Hearing,
+    src: &mut S,
+    plain: &Plain,
+    event: &Event,
+    answer: &Answer,
+) -> Result<Option<Finding>, Failed>
+    requires fits { EventFits 2 event.now }
+    requires there { IsThere event.now (machine_of plain.now) }
+    requires heard { Heard hearing.old (S.left src.old) }
+    ensures says { (next : Judge) → Says result hearing.old hearing.new (S.left src.old) (S.left src.new) (told (lines_of event.now answer.now (machine_of plain.now)) next) next }
+    ensures stays { Stays result hearing.new (S.left src.new) }
+    ensures cause { HasCause (S.faults src.old) (S.faults src.new) result }
+{
+    match event {
+        Event::Load { .. } => show_loaded(hearing, src, answer),
+        Event::TypeIn { c, .. } => show_typed(hearing, src, *c, answer),
+        Event::Drain { c, .. } => show_drained(hearing, src, *c, answer),
+        Event::Exam { s, a, n } => show_words(hearing, src, plain, *s, *a, *n),
+        Event::List { s, a, n } => list_words(hearing, src, plain, *s, *a, *n),
+        Event::State { s } => show_state(hearing, src, plain, *s),
+        Event::Dir { d } => show_files(hearing, src, plain, *d),
+        Event::Show { d, x, y } => show_file(hearing, src, plain, *d, *x, *y),
+        _ => Ok(None),
+    }
+}
+
+/// LOAD shows the slot.
+#[tactic(auto, using(crate::proofs::ShowingLaws::loaded_short, crate::proofs::ShowingLaws::printed_says))]
+fn show_loaded<S: Source>(
+    hearing: &mut Hearing,
+    src: &mut S,
+    answer: &Answer,
+) -> Result<Option<Finding>, Failed>
+    requires heard { Heard hearing.old (S.left src.old) }
+    ensures says { (next : Judge) → Says result hearing.old hearing.new (S.left src.old) (S.left src.new) (told (loaded_lines answer.now) next) next }
+    ensures stays { Stays result hearing.new (S.left src.new) }
+    ensures cause { HasCause (S.faults src.old) (S.faults src.new) result }
+{
+    match answer {
+        Answer::Slot(s) => {
+            let mut line = ArrayVec::new();
+            print_loaded(*s, &mut line);
+            hearing.expect(src, &line)
+        }
+        Answer::Nothing => Ok(None),
+        Answer::Dropped(_) => Ok(None),
+        Answer::Drained(_) => Ok(None),
+    }
+}
+
+/// TYPE shows how many bytes were dropped.
+#[tactic(auto, using(crate::proofs::ShowingLaws::typed_short, crate::proofs::ShowingLaws::printed_says))]
+fn show_typed<S: Source>(
+    hearing: &mut Hearing,
+    src: &mut S,
+    c: u8,
+    answer: &Answer,
+) -> Result<Option<Finding>, Failed>
+    requires heard { Heard hearing.old (S.left src.old) }
+    ensures says { (next : Judge) → Says result hearing.old hearing.new (S.left src.old) (S.left src.new) (told (typed_lines c answer.now) next) next }
+    ensures stays { Stays result hearing.new (S.left src.new) }
+    ensures cause { HasCause (S.faults src.old) (S.faults src.new) result }
+{
+    match answer {
+        Answer::Dropped(n) => {
+            let mut line = ArrayVec::new();
+            print_typed(c, *n, &mut line);
+            hearing.expect(src, &line)
+        }
+        Answer::Nothing => Ok(None),
+        Answer::Slot(_) => Ok(None),
+        Answer::Drained(_) => Ok(None),
+    }
+}
+
+/// DRAIN shows the bytes.
+fn show_drained<S: Source>(
+    hearing: &mut Hearing,
+    src: &mut S,
+    c: u8,
+    answer: &Answer,
+) -> Result<Option<Finding>, Failed>
+    requires heard { Heard hearing.old (S.left src.old) }
+    ensures says { (next : Judge) → Says result hearing.old hearing.new (S.left src.old) (S.left src.new) (told (drained_lines c answer.now) next) next }
+    ensures stays { Stays result hearing.new (S.left src.new) }
+    ensures cause { HasCause (S.faults src.old) (S.faults src.new) result }
+{
+    match answer {
+        Answer::Drained(bytes) => show_bytes(hearing, src, c, bytes.as_slice()),
+        Answer::Nothing => Ok(None),
+        Answer::Slot(_) => Ok(None),
+        Answer::Dropped(_) => Ok(None),
+    }
+}
+
+/// The line of some bytes.
+#[tactic(auto, using(crate::proofs::ShowingLaws::drained_short, crate::proofs::ShowingLaws::printed_says))]
+fn show_bytes<S: Source>(
+    hearing: &mut Hearing,
+    src: &mut S,
+    c: u8,
+    bytes: &[u8],
+) -> Result<Option<Finding>, Failed>
+    requires few { length bytes.now ≤ 64 }
+    requires heard { Heard hearing.old (S.left src.old) }
+    ensures says { (next : Judge) → Says result hearing.old hearing.new (S.left src.old) (S.left src.new) (told (Drained c bytes.now ∷ []) next) next }
+    ensures stays { Stays result hearing.new (S.left src.new) }
+    ensures cause { HasCause (S.faults src.old) (S.faults src.new) result }
+{
+    eight_bits(bytes);
+    let mut line = ArrayVec::new();
+    print_drained(c, bytes, &mut line);
+    hearing.expect(src, &line)
+}
+
+/// Each of some bytes has eight bits.
+#[tactic(auto, using(crate::proofs::ShowingLaws::bits_start, crate::proofs::ShowingLaws::bits_next, crate::proofs::ShowingLaws::bits_end))]
+fn eight_bits(bytes: &[u8])
+    ensures { AllByRecursion Fits8 bytes.now }
+{
+    for b in bytes {
+        let _b = *b;
+    }
+}
+
+/// EXAM shows words in one line.
+#[tactic(auto, using(crate::proofs::ShowingLaws::words_say))]
+fn show_words<S: Source>(
+    hearing: &mut Hearing,
+    src: &mut S,
+    plain: &Plain,
+    s: u8,
+    a: u32,
+    n: u32,
+) -> Result<Option<Finding>, Failed>
+    requires slot { s < slots }
+    requires address { a < 2 ^ 18 }
+    requires few { n ≤ 8 }
+    requires there { IsOk (examined (machine_of plain.now) s a n) }
+    requires heard { Heard hearing.old (S.left src.old) }
+    ensures says { (next : Judge) → Says result hearing.old hearing.new (S.left src.old) (S.left src.new) (told (shown_if (in_a_line s a) (examined (machine_of plain.now) s a n)) next) next }
+    ensures stays { Stays result hearing.new (S.left src.new) }
+    ensures cause { HasCause (S.faults src.old) (S.faults src.new) result }
+{
+    let Ok(words) = plain.words(s, a, n) else {
+        unreachable!()
+    };
+    show_line(hearing, src, s, a, words.as_slice())
+}
+
+/// The line of some words, which stand in a slot from an address on.
+#[tactic(auto, using(crate::proofs::ShowingLaws::words_short, crate::proofs::ShowingLaws::printed_says))]
+fn show_line<S: Source>(
+    hearing: &mut Hearing,
+    src: &mut S,
+    s: u8,
+    a: u32,
+    words: &[Word],
+) -> Result<Option<Finding>, Failed>
+    requires few { length words.now ≤ 8 }
+    requires heard { Heard hearing.old (S.left src.old) }
+    ensures says { (next : Judge) → Says result hearing.old hearing.new (S.left src.old) (S.left src.new) (told (in_a_line s a words.now) next) next }
+    ensures stays { Stays result hearing.new (S.left src.new) }
+    ensures cause { HasCause (S.faults src.old) (S.faults src.new) result }
+{
+    let mut line = ArrayVec::new();
+    print_words(s, a, words, &mut line);
+    hearing.expect(src, &line)
+}
+
+/// LIST shows words typed out, each in a line of its own.
+#[tactic(auto, using(crate::proofs::ShowingLaws::list_says))]
+fn list_words<S: Source>(
+    hearing: &mut Hearing,
+    src: &mut S,
+    plain: &Plain,
+    s: u8,
+    a: u32,
+    n: u32,
+) -> Result<Option<Finding>, Failed>
+    requires slot { s < slots }
+    requires address { a < 2 ^ 18 }
+    requires few { n ≤ 8 }
+    requires there { IsOk (examined (machine_of plain.now) s a n) }
+    requires heard { Heard hearing.old (S.left src.old) }
+    ensures says { (next : Judge) → Says result hearing.old hearing.new (S.left src.old) (S.left src.new) (told (shown_if (listed s a) (examined (machine_of plain.now) s a n)) next) next }
+    ensures stays { Stays result hearing.new (S.left src.new) }
+    ensures cause { HasCause (S.faults src.old) (S.faults src.new) result }
+{
+    let Ok(words) = plain.words(s, a, n) else {
+        unreachable!()
+    };
+    list_each(hearing, src, s, a, words.as_slice())
+}
+
+/// A line for each of some words, which stand in a slot from an address on.
+#[tactic(auto, using(crate::proofs::ShowingLaws::lines_start))]
+fn list_each<S: Source>(
+    hearing: &mut Hearing,
+    src: &mut S,
+    s: u8,
+    a: u32,
+    words: &[Word],
+) -> Result<Option<Finding>, Failed>
+    requires address { a < 2 ^ 18 }
+    requires few { length words.now ≤ 8 }
+    requires heard { Heard hearing.old (S.left src.old) }
+    ensures says { (next : Judge) → Says result hearing.old hearing.new (S.left src.old) (S.left src.new) (told (listed s a words.now) next) next }
+    ensures stays { Stays result hearing.new (S.left src.new) }
+    ensures cause { HasCause (S.faults src.old) (S.faults src.new) result }
+{
+    let mut place = a;
+    for w in words {
+        match list_word(hearing, src, s, place, *w) {
+            Ok(None) => {}
+            Ok(Some(finding)) => return Ok(Some(finding)),
+            Err(e) => return Err(e),
+        }
+        place += 1;
+    }
+    Ok(None)
+}
+
+/// One of them.
+#[tactic(auto, using(crate::proofs::ShowingLaws::listed_short, crate::proofs::ShowingLaws::printed_says))]
+fn list_word<S: Source>(
+    hearing: &mut Hearing,
+    src: &mut S,
+    s: u8,
+    a: u32,
+    word: Word,
+) -> Result<Option<Finding>, Failed>
+    requires heard { Heard hearing.old (S.left src.old) }
+    ensures says { (next : Judge) → Says result hearing.old hearing.new (S.left src.old) (S.left src.new) (told (listed s a (word ∷ [])) next) next }
+    ensures stays { Stays result hearing.new (S.left src.new) }
+    ensures cause { HasCause (S.faults src.old) (S.faults src.new) result }
+{
+    let mut line = ArrayVec::new();
+    print_listed(s, a, word, &mut line);
+    hearing.expect(src, &line)
+}
+
+/// STATE shows a job.
+#[tactic(auto, using(crate::proofs::ShowingLaws::printed_short, crate::proofs::ShowingLaws::state_says))]
+fn show_state<S: Source>(
+    hearing: &mut Hearing,
+    src: &mut S,
+    plain: &Plain,
+    s: u8,
+) -> Result<Option<Finding>, Failed>
+    requires slot { s < slots }
+    requires there { IsOk (state_shown (machine_of plain.now) s) }
+    requires heard { Heard hearing.old (S.left src.old) }
+    ensures says { (next : Judge) → Says result hearing.old hearing.new (S.left src.old) (S.left src.new) (told (shown_if (λ show. State (machine_of plain.now).version s show ∷ []) (state_shown (machine_of plain.now) s)) next) next }
+    ensures stays { Stays result hearing.new (S.left src.new) }
+    ensures cause { HasCause (S.faults src.old) (S.faults src.new) result }
+{
+    match plain.shown(s) {
+        Ok(show) => show_job(hearing, src, plain.version, s, &show),
+        Err(_) => unreachable!(),
+    }
+}
+
+/// The line of a job.
+#[tactic(auto, using(crate::proofs::ShowingLaws::state_short, crate::proofs::ShowingLaws::printed_says))]
+fn show_job<S: Source>(
+    hearing: &mut Hearing,
+    src: &mut S,
+    version: u8,
+    s: u8,
+    show: &JobShow,
+) -> Result<Option<Finding>, Failed>
+    requires heard { Heard hearing.old (S.left src.old) }
+    ensures says { (next : Judge) → Says result hearing.old hearing.new (S.left src.old) (S.left src.new) (told (State version s show.now ∷ []) next) next }
+    ensures stays { Stays result hearing.new (S.left src.new) }
+    ensures cause { HasCause (S.faults src.old) (S.faults src.new) result }
+{
+    few_bits(*show);
+    let mut line = ArrayVec::new();
+    print_state(version, s, show, &mut line);
+    hearing.expect(src, &line)
+}
+
+/// The numbers of a job that is shown have few bits.
+fn few_bits(show: JobShow)
+    ensures superior { IfSome show.sup Fits8 }
+    ensures console { IfSome show.con Fits8 }
+    ensures symbol { IfSome show.symbol (λ x. Fits32 x.1) }
+{}
+
+/// DIR shows how many files a directory has, and each of them.
+fn show_files<S: Source>(
+    hearing: &mut Hearing,
+    src: &mut S,
+    plain: &Plain,
+    d: Word,
+) -> Result<Option<Finding>, Failed>
+    requires heard { Heard hearing.old (S.left src.old) }
+    ensures says { (next : Judge) → Says result hearing.old hearing.new (S.left src.old) (S.left src.new) (told (listing d (files_in d (machine_of plain.now).files)) next) next }
+    ensures stays { Stays result hearing.new (S.left src.new) }
+    ensures cause { HasCause (S.faults src.old) (S.faults src.new) result }
+{
+    let ids = plain.listed(d);
+    match show_count(hearing, src, d, ids.len() as u32) {
+        Ok(None) => show_each(hearing, src, plain, ids.as_slice()),
+        Ok(Some(finding)) => Ok(Some(finding)),
+        Err(e) => Err(e),
+    }
+}
+
+/// The line of a directory.
+#[tactic(auto, using(crate::proofs::ShowingLaws::dir_short, crate::proofs::ShowingLaws::printed_says))]
+fn show_count<S: Source>(
+    hearing: &mut Hearing,
+    src: &mut S,
+    d: Word,
+    count: u32,
+) -> Result<Option<Finding>, Failed>
+    requires heard { Heard hearing.old (S.left src.old) }
+    ensures says { (next : Judge) → Says result hearing.old hearing.new (S.left src.old) (S.left src.new) (told (Dir d count ∷ []) next) next }
+    ensures stays { Stays result hearing.new (S.left src.new) }
+    ensures cause { HasCause (S.faults src.old) (S.faults src.new) result }
+{
+    let mut line = ArrayVec::new();
+    print_dir(d, count, &mut line);
+    hearing.expect(src, &line)
+}
+
+/// A line for each of some files.
+#[tactic(auto, using(crate::proofs::ShowingLaws::lines_start))]
+fn show_each<S: Source>(
+    hearing: &mut Hearing,
+    src: &mut S,
+    plain: &Plain,
+    ids: &[u32],
+) -> Result<Option<Finding>, Failed>
+    requires each { list_all (λ id. is_file (entry_at plain.now.files id)) ids.now ≡ true }
+    requires heard { Heard hearing.old (S.left src.old) }
+    ensures says { (next : Judge) → Says result hearing.old hearing.new (S.left src.old) (S.left src.new) (told (map filed_line (map (file_of plain.now.files) ids.now)) next) next }
+    ensures stays { Stays result hearing.new (S.left src.new) }
+    ensures cause { HasCause (S.faults src.old) (S.faults src.new) result }
+{
+    for id in ids {
+        match show_entry(hearing, src, plain, *id) {
+            Ok(None) => {}
+            Ok(Some(finding)) => return Ok(Some(finding)),
+            Err(e) => return Err(e),
+        }
+    }
+    Ok(None)
+}
+
+/// The line of a file.
+#[tactic(auto, using(crate::proofs::ShowingLaws::filed_says))]
+fn show_entry<S: Source>(
+    hearing: &mut Hearing,
+    src: &mut S,
+    plain: &Plain,
+    id: u32,
+) -> Result<Option<Finding>, Failed>
+    requires file { is_file (entry_at plain.now.files id) ≡ true }
+    requires heard { Heard hearing.old (S.left src.old) }
+    ensures says { (next : Judge) → Says result hearing.old hearing.new (S.left src.old) (S.left src.new) (told (filed_line (file_of plain.now.files id) ∷ []) next) next }
+    ensures stays { Stays result hearing.new (S.left src.new) }
+    ensures cause { HasCause (S.faults src.old) (S.faults src.new) result }
+{
+    let show = plain.show(id);
+    show_filed(hearing, src, show)
+}
+
+/// The line of a file of which this is shown.
+#[tactic(auto, using(crate::proofs::ShowingLaws::filed_short, crate::proofs::ShowingLaws::printed_says))]
+fn show_filed<S: Source>(
+    hearing: &mut Hearing,
+    src: &mut S,
+    show: FileShow,
+) -> Result<Option<Finding>, Failed>
+    requires heard { Heard hearing.old (S.left src.old) }
+    ensures says { (next : Judge) → Says result hearing.old hearing.new (S.left src.old) (S.left src.new) (told (Filed show ∷ []) next) next }
+    ensures stays { Stays result hearing.new (S.left src.new) }
+    ensures cause { HasCause (S.faults src.old) (S.faults src.new) result }
+{
+    let mut line = ArrayVec::new();
+    print_file(&show, &mut line);
+    hearing.expect(src, &line)
+}
+
+/// SHOW shows how many words a file has, and the words.
+fn show_file<S: Source>(
+    hearing: &mut Hearing,
+    src: &mut S,
+    plain: &Plain,
+    d: Word,
+    x: Word,
+    y: Word,
+) -> Result<Option<Finding>, Failed>
+    requires heard { Heard hearing.old (S.left src.old) }
+    ensures says { (next : Judge) → Says result hearing.old hearing.new (S.left src.old) (S.left src.new) (told (shown_if (λ out. out) (file_shown (machine_of plain.now) d x y)) next) next }
+    ensures stays { Stays result hearing.new (S.left src.new) }
+    ensures cause { HasCause (S.faults src.old) (S.faults src.new) result }
+{
+    match plain.file(d, x, y) {
+        Some(id) => show_text(hearing, src, plain, id, [d, x, y]),
+        None => Ok(None),
+    }
+}
+
+/// The lines of a file with these names.
+fn show_text<S: Source>(
+    hearing: &mut Hearing,
+    src: &mut S,
+    plain: &Plain,
+    id: u32,
+    names: [Word; 3],
+) -> Result<Option<Finding>, Failed>
+    requires file { is_file (entry_at plain.now.files id) ≡ true }
+    requires heard { Heard hearing.old (S.left src.old) }
+    ensures says { (next : Judge) → Says result hearing.old hearing.new (S.left src.old) (S.left src.new) (told (text_lines names (words_at plain.now.files id)) next) next }
+    ensures stays { Stays result hearing.new (S.left src.new) }
+    ensures cause { HasCause (S.faults src.old) (S.faults src.new) result }
+{
+    let count = plain.show(id).length;
+    match show_names(hearing, src, names, count) {
+        Ok(None) => show_rows(hearing, src, plain, id, count),
+        Ok(Some(finding)) => Ok(Some(finding)),
+        Err(e) => Err(e),
+    }
+}
+
+/// The line of the names of a file and of how many words it has.
+#[tactic(auto, using(crate::proofs::ShowingLaws::names_short, crate::proofs::ShowingLaws::printed_says))]
+fn show_names<S: Source>(
+    hearing: &mut Hearing,
+    src: &mut S,
+    names: [Word; 3],
+    count: u32,
+) -> Result<Option<Finding>, Failed>
+    requires heard { Heard hearing.old (S.left src.old) }
+    ensures says { (next : Judge) → Says result hearing.old hearing.new (S.left src.old) (S.left src.new) (told (names_line names count ∷ []) next) next }
+    ensures stays { Stays result hearing.new (S.left src.new) }
+    ensures cause { HasCause (S.faults src.old) (S.faults src.new) result }
+{
+    let [d, x, y] = names;
+    let mut line = ArrayVec::new();
+    print_show(d, x, y, count, &mut line);
+    hearing.expect(src, &line)
+}
+
+/// The words of a file, eight in a line.
+#[tactic(auto, using(crate::proofs::ShowingLaws::lines_start))]
+fn show_rows<S: Source>(
+    hearing: &mut Hearing,
+    src: &mut S,
+    plain: &Plain,
+    id: u32,
+    count: u32,
+) -> Result<Option<Finding>, Failed>
+    requires heard { Heard hearing.old (S.left src.old) }
+    ensures says { (next : Judge) → Says result hearing.old hearing.new (S.left src.old) (S.left src.new) (told (rows ((count + 7) / 8) (words_at plain.now.files id)) next) next }
+    ensures stays { Stays result hearing.new (S.left src.new) }
+    ensures cause { HasCause (S.faults src.old) (S.faults src.new) result }
+{
+    let lines = row_count(count);
+    for k in 0..lines {
+        match show_row(hearing, src, plain, id, k) {
+            Ok(None) => {}
+            Ok(Some(finding)) => return Ok(Some(finding)),
+            Err(e) => return Err(e),
+        }
+    }
+    Ok(None)
+}
+
+/// How many lines so many words of a file have.
+#[tactic(auto, using(crate::proofs::ShowingLaws::rows_count))]
+fn row_count(words: u32) -> u32
+    ensures { result ≡ (words + 7) / 8 }
+{
+    words.div_ceil(ROW_WORDS)
+}
+
+/// One of these lines.
+#[tactic(auto, using(crate::proofs::ShowingLaws::row_says))]
+fn show_row<S: Source>(
+    hearing: &mut Hearing,
+    src: &mut S,
+    plain: &Plain,
+    id: u32,
+    k: u32,
+) -> Result<Option<Finding>, Failed>
+    requires few { 8 * k + 8 ≤ 2 ^ 32 }
+    requires heard { Heard hearing.old (S.left src.old) }
+    ensures says { (next : Judge) → Says result hearing.old hearing.new (S.left src.old) (S.left src.new) (told (Row (take 8 (drop (8 * k) (words_at plain.now.files id))) ∷ []) next) next }
+    ensures stays { Stays result hearing.new (S.left src.new) }
+    ensures cause { HasCause (S.faults src.old) (S.faults src.new) result }
+{
+    let words = plain.row(id, k);
+    show_some(hearing, src, words.as_slice())
+}
+
+/// The line of some words.
+#[tactic(auto, using(crate::proofs::ShowingLaws::row_short, crate::proofs::ShowingLaws::printed_says))]
+fn show_some<S: Source>(
+    hearing: &mut Hearing,
+    src: &mut S,
+    words: &[Word],
+) -> Result<Option<Finding>, Failed>
+    requires few { length words.now ≤ 8 }
+    requires heard { Heard hearing.old (S.left src.old) }
+    ensures says { (next : Judge) → Says result hearing.old hearing.new (S.left src.old) (S.left src.new) (told (Row words.now ∷ []) next) next }
+    ensures stays { Stays result hearing.new (S.left src.new) }
+    ensures cause { HasCause (S.faults src.old) (S.faults src.new) result }
+{
+    let mut line = ArrayVec::new();
+    print_row(words, &mut line);
+    hearing.expect(src, &line)
+}

@@ -1,0 +1,229 @@
+//! A trial: a judge and the lines of a transcript together, along a session.
+ghost use Rattle.std.specs.Prelude.{◌≡◌, ◌<◌, ◌≤◌, ◌∷◌, ℕ, [], false, None, Ok};
+ghost use Rattle.its_io.specs.Bytes.{HasCause};
+ghost use Rattle.its_word.specs.Limits.{slots};
+ghost use Rattle.its_print.specs.Printing.{Refused};
+ghost use Rattle.its_session.specs.Events.{place_after};
+ghost use Rattle.its_session.specs.Fits.{EventFits};
+ghost use Rattle.its_plain.specs.Operator.{Block};
+ghost use Rattle.its_plain.specs.Transcript.{Walk};
+ghost use Rattle.its_direct.specs.Plain.{machine_of};
+ghost use Rattle.its_direct.specs.Events.{IsTold, MayStand, place_of};
+ghost use Rattle.its_direct.specs.Lines.{reason_of};
+ghost use Rattle.its_verify.specs.Going.{is_end};
+ghost use Rattle.its_verify.specs.Showing.{is_peek_event};
+
+use super::finding::Finding;
+use super::hearing::Hearing;
+use super::judge::Judge;
+use super::showing::show_event;
+use its_direct::Answer;
+use its_io::{Failed, Source};
+use its_word::{Event, Reason, Refusal};
+
+/// The judge of a session, the lines of its transcript, and the slot of the last turn of a RUN line (before the first one the
+/// highest slot).
+#[derive(Drop)]
+pub struct Trial {
+    pub judge: Judge,
+    pub hearing: Hearing,
+    pub last: u8,
+}
+
+impl Trial {
+    ghost use Rattle.its_verify.specs.Hearing.{Says};
+    ghost use Rattle.its_verify.specs.Judge.{Judge as AnyJudge, at_end, led, turned, told as asked};
+    ghost use Rattle.its_verify.specs.Going.{LineSays, SaysEnd};
+    ghost use Rattle.its_verify.specs.Showing.{IsThere, heard_of};
+    ghost use Rattle.its_verify.specs.Letters.{ticked};
+    ghost use Rattle.its_verify.specs.Standing.{walk_of};
+    ghost use Rattle.its_verify.specs.Trial.{StaysTried, Tried};
+
+    /// A `T` line of so many letters of a slot is next, and each is licensed in its turn.
+    #[tactic(auto, using(crate::proofs::TrialLaws::ticks_lack, crate::proofs::TrialLaws::ticks_ruled, crate::proofs::TrialLaws::ticks_stay))]
+    pub fn ticks<S: Source>(
+        &mut self,
+        src: &mut S,
+        slot: u8,
+        count: u32,
+    ) -> Result<Option<Finding>, Failed>
+        requires slot { slot < slots }
+        requires few { count ≤ 512 }
+        requires tried { Tried self.old (S.left src.old) }
+        ensures says { (b : Block) (n : ℕ) (next : Walk → AnyJudge) → Says result self.old.hearing self.new.hearing (S.left src.old) (S.left src.new) (led (ticked (walk_of self.old.judge b n) slot count) next) (next (walk_of self.new.judge b n)) }
+        ensures stays { StaysTried result self.new (S.left src.new) }
+        ensures last { self.new.last ≡ self.old.last }
+        ensures place { self.new.judge.plain.place ≡ self.old.judge.plain.place }
+        ensures cause { HasCause (S.faults src.old) (S.faults src.new) result }
+    {
+        match self.hearing.read(src) {
+            Ok(None) => {
+                let licensed = self.judge.says_ticks(&self.hearing.texts.text, slot, count);
+                Ok(self.hearing.rule(licensed))
+            }
+            Ok(Some(finding)) => Ok(Some(finding)),
+            Err(e) => Err(e),
+        }
+    }
+
+    /// The turns of a RUN line are next: up to n of them, each a `T` line of q letters of the slot whose turn it is. They end
+    /// early where no job runs.
+    #[tactic(auto, using(crate::proofs::TrialLaws::turns_start))]
+    pub fn turns<S: Source>(
+        &mut self,
+        src: &mut S,
+        n: u32,
+        q: u32,
+    ) -> Result<Option<Finding>, Failed>
+        requires few { q ≤ 512 }
+        requires tried { Tried self.old (S.left src.old) }
+        ensures says { (b : Block) (l : ℕ) (next : Walk → ℕ → AnyJudge) → Says result self.old.hearing self.new.hearing (S.left src.old) (S.left src.new) (turned n q (walk_of self.old.judge b l) self.old.last next) (next (walk_of self.new.judge b l) self.new.last) }
+        ensures stays { StaysTried result self.new (S.left src.new) }
+        ensures place { self.new.judge.plain.place ≡ self.old.judge.plain.place }
+        ensures cause { HasCause (S.faults src.old) (S.faults src.new) result }
+    {
+        for _k in 0..n {
+            let Some(slot) = self.judge.turn_after(self.last) else {
+                return Ok(None);
+            };
+            match self.ticks(src, slot, q) {
+                Ok(None) => {}
+                Ok(Some(finding)) => return Ok(Some(finding)),
+                Err(e) => return Err(e),
+            }
+            self.last = slot;
+        }
+        Ok(None)
+    }
+
+    /// A line of the session with this number. None where it led on; else all is said.
+    #[tactic(auto, using(crate::proofs::GoingLaws::tick_says, crate::proofs::GoingLaws::run_says, crate::proofs::GoingLaws::end_says, crate::proofs::GoingLaws::end_stays, crate::proofs::GoingLaws::never_on))]
+    pub fn line<S: Source>(
+        &mut self,
+        src: &mut S,
+        number: u32,
+        event: &Event,
+    ) -> Result<Option<Finding>, Failed>
+        requires fits { EventFits 2 event.now }
+        requires stands { MayStand (place_of self.old.judge.plain.place) event.now }
+        requires tried { Tried self.old (S.left src.old) }
+        ensures says { LineSays result self.old self.new (S.left src.old) (S.left src.new) number event.now }
+        ensures stays { StaysTried result self.new (S.left src.new) }
+        ensures last { self.new.last ≡ self.old.last }
+        ensures place { result ≡ Ok None → place_of self.new.judge.plain.place ≡ place_after (place_of self.old.judge.plain.place) event.now }
+        ensures going { result ≡ Ok None → is_end event.now ≡ false }
+        ensures cause { HasCause (S.faults src.old) (S.faults src.new) result }
+    {
+        match event {
+            Event::Tick { s, n } => self.ticks(src, *s, *n),
+            Event::Run { .. } => Ok(None),
+            Event::End => self.finish(src),
+            _ => self.told(src, number, event),
+        }
+    }
+
+    /// END: no line is next, and all is said.
+    pub(crate) fn finish<S: Source>(&mut self, src: &mut S) -> Result<Option<Finding>, Failed>
+        requires tried { Tried self.old (S.left src.old) }
+        ensures ends { SaysEnd result self.old.hearing (S.left src.old) at_end }
+        ensures last { self.new.last ≡ self.old.last }
+        ensures cause { HasCause (S.faults src.old) (S.faults src.new) result }
+    {
+        match self.hearing.finish(src) {
+            Ok(finding) => Ok(Some(finding)),
+            Err(e) => Err(e),
+        }
+    }
+
+    /// The `?` line of a line of the session is next, and all is said.
+    pub(crate) fn refused<S: Source>(
+        &mut self,
+        src: &mut S,
+        number: u32,
+        reason: Reason,
+    ) -> Result<Option<Finding>, Failed>
+        requires tried { Tried self.old (S.left src.old) }
+        ensures ends { SaysEnd result self.old.hearing (S.left src.old) (asked (Refused number reason ∷ []) at_end) }
+        ensures last { self.new.last ≡ self.old.last }
+        ensures cause { HasCause (S.faults src.old) (S.faults src.new) result }
+    {
+        match self.hearing.refused(src, number, reason) {
+            Ok(finding) => Ok(Some(finding)),
+            Err(e) => Err(e),
+        }
+    }
+
+    /// A line other than TICK and END.
+    #[tactic(auto, using(crate::proofs::GoingLaws::told_says, crate::proofs::GoingLaws::told_refused, crate::proofs::GoingLaws::told_there, crate::proofs::GoingLaws::end_stays, crate::proofs::GoingLaws::never_on))]
+    fn told<S: Source>(
+        &mut self,
+        src: &mut S,
+        number: u32,
+        event: &Event,
+    ) -> Result<Option<Finding>, Failed>
+        requires told { IsTold event.now }
+        requires fits { EventFits 2 event.now }
+        requires stands { MayStand (place_of self.old.judge.plain.place) event.now }
+        requires tried { Tried self.old (S.left src.old) }
+        ensures says { LineSays result self.old self.new (S.left src.old) (S.left src.new) number event.now }
+        ensures stays { StaysTried result self.new (S.left src.new) }
+        ensures last { self.new.last ≡ self.old.last }
+        ensures place { result ≡ Ok None → place_of self.new.judge.plain.place ≡ place_after (place_of self.old.judge.plain.place) event.now }
+        ensures cause { HasCause (S.faults src.old) (S.faults src.new) result }
+    {
+        match self.judge.event(event) {
+            Ok(answer) => self.shown(src, event, &answer),
+            Err(e) => self.refused(src, number, reason_of(e)),
+        }
+    }
+
+    /// What a line shows that was obeyed with this answer is next.
+    #[tactic(auto, using(crate::proofs::GoingLaws::peek_shown, crate::proofs::GoingLaws::lines_shown, crate::proofs::GoingLaws::tried_on))]
+    fn shown<S: Source>(
+        &mut self,
+        src: &mut S,
+        event: &Event,
+        answer: &Answer,
+    ) -> Result<Option<Finding>, Failed>
+        requires fits { EventFits 2 event.now }
+        requires there { IsThere event.now (machine_of self.old.judge.plain) }
+        requires tried { Tried self.old (S.left src.old) }
+        ensures says { (next : AnyJudge) → Says result self.old.hearing self.new.hearing (S.left src.old) (S.left src.new) (heard_of event.now answer.now (machine_of self.old.judge.plain) next) next }
+        ensures stays { StaysTried result self.new (S.left src.new) }
+        ensures judge { self.new.judge ≡ self.old.judge }
+        ensures last { self.new.last ≡ self.old.last }
+        ensures cause { HasCause (S.faults src.old) (S.faults src.new) result }
+    {
+        if is_peek_event(event) {
+            self.hearing.peek(src)
+        } else {
+            show_event(&mut self.hearing, src, &self.judge.plain, event, answer)
+        }
+    }
+}
+
+/// Whether a line is PEEK.
+fn is_peek_event(event: &Event) -> bool
+    ensures { result ≡ is_peek_event event.now }
+{
+    match event {
+        Event::Peek { .. } => true,
+        _ => false,
+    }
+}
+
+/// The reason of a refusal, as a session says it.
+fn reason_of(e: Refusal) -> Reason
+    ensures { result ≡ reason_of e }
+{
+    match e {
+        Refusal::NoJob => Reason::NoJob,
+        Refusal::NoConsole => Reason::NoCons,
+        Refusal::NoPage => Reason::NoPage,
+        Refusal::ReadOnly => Reason::ReadOnly,
+        Refusal::NoFile => Reason::NoFile,
+        Refusal::Exists => Reason::Exists,
+        Refusal::Full => Reason::Full,
+        Refusal::Range => Reason::Range,
+    }
+}

@@ -1,0 +1,180 @@
+//! A session and its transcript in one input: the session is kept, and then gone along with the lines of its transcript.
+ghost use Rattle.std.specs.Prelude.{◌≡◌, ◌≢◌, ◌≤◌, ◌-◌, ℕ, false, None, Ok, Err};
+ghost use Rattle.its_io.specs.Bytes.{HasCause, next_fault};
+ghost use Rattle.its_reader.specs.Items.{found_fits, is_last, place_found};
+ghost use Rattle.its_reader.specs.Texts.{ReadyTexts};
+ghost use Rattle.its_session.specs.Events.{events_of, most_lines, place_after};
+ghost use Rattle.its_session.specs.Fits.{EventFits};
+ghost use Rattle.its_plain.specs.Operator.{Block, no_block};
+ghost use Rattle.its_plain.specs.Transcript.{Walk};
+ghost use Rattle.its_plain.specs.Unrolled.{ticks_asked, turns_asked};
+ghost use Rattle.its_direct.specs.Events.{MayStand, place_of};
+ghost use Rattle.its_verify.specs.Finds.{Found as IsFound, Judges};
+
+use super::finding::Finding;
+use super::hearing::Hearing;
+use super::judge::Judge;
+use super::keeping::{Broken, Part, keep};
+use super::trial::Trial;
+use its_direct::Spot;
+use its_io::{Failed, SafeSource, Source};
+use its_reader::{Found, Items, Texts};
+use its_word::{Event, SLOTS};
+use std::alloc::Global;
+
+/// The most bytes of a line of a session before its LF, and of a line of a transcript.
+const SESSION_BYTES: usize = 255;
+
+const TRANSCRIPT_BYTES: usize = 1543;
+
+/// The most lines of an input.
+const MOST_LINES: u32 = 1 << 20;
+
+/// The slot of the last turn, before the first one of a session.
+const HIGHEST: u8 = SLOTS as u8 - 1;
+
+/// What is said of a session and its transcript, which a source gives one after the other. The session is kept in memory; the
+/// transcript is not.
+#[tactic(auto, using(crate::proofs::VerifyLaws::finds_session, crate::proofs::VerifyLaws::finds_long, crate::proofs::VerifyLaws::finds_cut, crate::proofs::VerifyLaws::finds_beyond))]
+pub fn verify<S: Source>(alloc: Global, src: &mut S) -> Result<Finding, Broken>
+    ensures finds { IsFound result (S.left src.old) }
+    ensures unfailed { result ≢ Err Broken.Source → S.faults src.new ≡ S.faults src.old }
+    ensures fault { result ≡ Err Broken.Source → S.faults src.new ≡ next_fault (S.faults src.old) }
+{
+    let mut texts = Texts::new(SESSION_BYTES);
+    let mut session = Vec::new(alloc);
+    match keep(&mut texts, src, &mut session) {
+        Ok(Part::Session) => judge_transcript(alloc, src, texts, session),
+        Ok(Part::Long(n)) => Ok(Finding::Long(n)),
+        Ok(Part::Cut(n)) => Ok(Finding::Cut(n)),
+        Ok(Part::Beyond) => Ok(Finding::Beyond),
+        Err(e) => Err(e),
+    }
+}
+
+/// What is said of the transcript that the source has left, where a session of these bytes was read.
+#[tactic(auto, using(crate::proofs::VerifyLaws::judges_so))]
+fn judge_transcript<S: Source>(
+    alloc: Global,
+    src: &mut S,
+    mut texts: Texts,
+    session: Vec<u8>,
+) -> Result<Finding, Broken>
+    requires ready { ReadyTexts texts (S.left src.old) }
+    requires few { texts.number ≤ most_lines }
+    ensures judged { Judges result texts session.items (S.left src.old) }
+    ensures unfailed { result ≢ Err Broken.Source → S.faults src.new ≡ S.faults src.old }
+    ensures fault { result ≡ Err Broken.Source → S.faults src.new ≡ next_fault (S.faults src.old) }
+{
+    let Ok(judge) = Judge::open(alloc) else {
+        return Err(Broken::Memory);
+    };
+    let room = MOST_LINES - texts.number;
+    texts.most = TRANSCRIPT_BYTES;
+    let mut trial = Trial {
+        judge,
+        hearing: Hearing {
+            texts,
+            passed: 0,
+            room,
+        },
+        last: HIGHEST,
+    };
+    let mut session = SafeSource::of(session);
+    match trial.go(src, &mut session) {
+        Ok(finding) => Ok(finding),
+        Err(_) => Err(Broken::Source),
+    }
+}
+
+impl Trial {
+    ghost use Rattle.its_verify.specs.Going.{FoundStands, ItemSays, is_end, judge_from};
+    ghost use Rattle.its_verify.specs.Hearing.{Ends, Says};
+    ghost use Rattle.its_verify.specs.Judge.{Judge as AnyJudge, turned};
+    ghost use Rattle.its_verify.specs.Standing.{walk_of};
+    ghost use Rattle.its_verify.specs.Trial.{StaysTried, Tried};
+
+    /// Takes the items of a session one by one, until all is said.
+    #[tactic(auto, using(crate::proofs::GoneLaws::gone_start, crate::proofs::GoneLaws::stands_on, crate::proofs::GoneLaws::fits_on))]
+    fn go<S: Source>(&mut self, src: &mut S, session: &mut SafeSource) -> Result<Finding, Failed>
+        requires tried { Tried self.old (S.left src.old) }
+        requires place { self.old.judge.plain.place ≡ Spot.Plain }
+        ensures ends { Ends result self.old.hearing (S.left src.old) (judge_from self.old no_block 1 (events_of session.old)) }
+        ensures cause { HasCause (S.faults src.old) (S.faults src.new) result }
+    {
+        let mut items = Items::new();
+        loop {
+            let Ok(found) = items.next(session) else {
+                unreachable!()
+            };
+            match self.take(src, items.lines.number, &found) {
+                Ok(None) => {}
+                Ok(Some(finding)) => return Ok(finding),
+                Err(e) => return Err(e),
+            }
+        }
+    }
+
+    /// Takes an item of a session, whose line has this number. None where it led on; else all is said.
+    #[tactic(auto, using(crate::proofs::GoneLaws::bad_says, crate::proofs::GoneLaws::beyond_says, crate::proofs::GoneLaws::last_says, crate::proofs::GoneLaws::not_last, crate::proofs::GoingLaws::end_stays, crate::proofs::GoingLaws::never_on))]
+    fn take<S: Source>(
+        &mut self,
+        src: &mut S,
+        number: u32,
+        found: &Found,
+    ) -> Result<Option<Finding>, Failed>
+        requires fits { found_fits 2 found.now }
+        requires stands { FoundStands (place_of self.old.judge.plain.place) found.now }
+        requires tried { Tried self.old (S.left src.old) }
+        ensures says { ItemSays result self.old self.new (S.left src.old) (S.left src.new) number found.now }
+        ensures stays { StaysTried result self.new (S.left src.new) }
+        ensures place { result ≡ Ok None → place_of self.new.judge.plain.place ≡ place_found (place_of self.old.judge.plain.place) found.now }
+        ensures going { result ≡ Ok None → is_last found.now ≡ false }
+        ensures cause { HasCause (S.faults src.old) (S.faults src.new) result }
+    {
+        match found {
+            Found::Line(event) => self.obey(src, number, event),
+            Found::Bad(reason) => self.refused(src, number, *reason),
+            Found::Beyond => self.finish(src),
+            Found::End => self.finish(src),
+        }
+    }
+
+    /// Takes a line of a session, with the turns that it asks for.
+    fn obey<S: Source>(
+        &mut self,
+        src: &mut S,
+        number: u32,
+        event: &Event,
+    ) -> Result<Option<Finding>, Failed>
+        requires fits { EventFits 2 event.now }
+        requires stands { MayStand (place_of self.old.judge.plain.place) event.now }
+        requires tried { Tried self.old (S.left src.old) }
+        ensures says { ItemSays result self.old self.new (S.left src.old) (S.left src.new) number (Found.Line event.now) }
+        ensures stays { StaysTried result self.new (S.left src.new) }
+        ensures place { result ≡ Ok None → place_of self.new.judge.plain.place ≡ place_after (place_of self.old.judge.plain.place) event.now }
+        ensures going { result ≡ Ok None → is_end event.now ≡ false }
+        ensures cause { HasCause (S.faults src.old) (S.faults src.new) result }
+    {
+        match self.line(src, number, event) {
+            Ok(None) => self.turns_of(src, event),
+            Ok(Some(finding)) => Ok(Some(finding)),
+            Err(e) => Err(e),
+        }
+    }
+
+    /// The turns that a line asks for are next: those of RUN.
+    fn turns_of<S: Source>(&mut self, src: &mut S, event: &Event) -> Result<Option<Finding>, Failed>
+        requires fits { EventFits 2 event.now }
+        requires tried { Tried self.old (S.left src.old) }
+        ensures says { (b : Block) (l : ℕ) (next : Walk → ℕ → AnyJudge) → Says result self.old.hearing self.new.hearing (S.left src.old) (S.left src.new) (turned (turns_asked event.now) (ticks_asked event.now) (walk_of self.old.judge b l) self.old.last next) (next (walk_of self.new.judge b l) self.new.last) }
+        ensures stays { StaysTried result self.new (S.left src.new) }
+        ensures place { self.new.judge.plain.place ≡ self.old.judge.plain.place }
+        ensures cause { HasCause (S.faults src.old) (S.faults src.new) result }
+    {
+        match event {
+            Event::Run { n, q } => self.turns(src, *n, *q),
+            _ => Ok(None),
+        }
+    }
+}
