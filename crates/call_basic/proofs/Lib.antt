@@ -1,4 +1,2 @@
-pub mod BareLaws
 pub mod ReachLaws
 pub mod RawLaws
-pub mod ChannelLaws

@@ -1,8 +1,6 @@
 -- What a call of a slot's job looks at in a world.
-use Rattle.std.specs.Prelude.{if◌then◌else◌, ℕ, Bool, true, false, nat_lt, slice_index_or}
+use Rattle.std.specs.Prelude.{ℕ, Bool, true, false}
 use Rattle.its_word.specs.declared.calls.Ask.{Ask}
-use Rattle.its_word.specs.declared.jobs.Channel.{Channel}
-use Rattle.its_word.specs.declared.jobs.Channel.TheVariants.{Closed}
 use Rattle.its_word.specs.declared.jobs.Job.{Job}
 use Rattle.its_core.specs.Cores.{core_at}
 use Rattle.its_jobs.specs.Table.{superior_at}
@@ -13,10 +11,6 @@ use Rattle.its_plain.specs.Machine.{Whole}
 use Rattle.its_plain.specs.View.{View, view}
 use Rattle.its_world.specs.World.{alarm_at, bare, chans_of, state_of}
 use Rattle.its_world.specs.declared.world.World.{World}
-
--- the channel of some registers under a number; above 17 (octal) there is none that is open
-abbrev pub channel_under : Job → ℕ → Channel
-channel_under j n = if nat_lt n 16 then slice_index_or j.channels n Closed else Closed
 
 -- the raw job of a slot with these registers
 abbrev pub raw_with : World → ℕ → Job → Whole

@@ -1,7 +1,7 @@
 //! Whom a job argument names.
 ghost use Rattle.std.specs.Prelude.{◌≡◌};
 ghost use Rattle.its_plain.specs.CallBasic.{is_oneself};
-ghost use Rattle.call_basic.specs.Seen.{channel_under};
+ghost use Rattle.its_parts.specs.Called.{channel_under};
 
 use its_word::{Channel, Job, Word};
 

@@ -1,3 +1,2 @@
 pub mod RawLaws
 pub mod OtherLaws
-pub mod DeviceLaws

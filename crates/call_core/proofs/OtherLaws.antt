@@ -18,13 +18,15 @@ use Rattle.its_plain.specs.Machine.{On, core_of}
 use Rattle.its_plain.specs.View.{View, job_at as job_seen, view}
 use Rattle.its_stepped.specs.Forest.{Forest}
 use Rattle.its_stepped.proofs.ForestLaws.{job_few}
-use Rattle.its_stepped.proofs.TargetLaws.{target_on}
+use Rattle.its_plain.proofs.TargetLaws.{target_on}
 use Rattle.its_world.specs.Tidy.{Tidy}
 use Rattle.its_world.specs.World.{state_of}
 use Rattle.its_world.specs.declared.world.World.{World}
 use Rattle.its_world.proofs.MappedLaws.{core_raw}
-use Rattle.call_basic.specs.Seen.{channel_under, raw_with, seen_by}
-use Rattle.call_usr.proofs.OtherLaws.{usr_on, usr_stands}
+use Rattle.its_parts.specs.Called.{channel_under}
+use Rattle.call_basic.specs.Seen.{raw_with, seen_by}
+use Rattle.its_parts.proofs.NumberLaws.{usr_on}
+use Rattle.call_usr.proofs.OtherLaws.{usr_stands}
 
 pub other_few : (w : World) (s : ℕ) (j : Job) (n k at : ℕ) (b : Bool) → Forest (state_of w).raw → job_at w.jobs s ≡ Some j → channel_under j n ≡ Usr k b at → k < slots
 other_few w s j n k at b f h e = job_few (state_of w).raw f k (usr_stands w s j n k at b f h e)

@@ -4,13 +4,13 @@ use Rattle.std.proofs.Common.{subst}
 use Rattle.its_word.specs.declared.calls.Ask.{Ask}
 use Rattle.its_word.specs.declared.jobs.Job.{Job}
 use Rattle.its_frame.specs.declared.decision.Decision.{Decision}
-use Rattle.its_core.specs.Cores.{core_at}
-use Rattle.its_jobs.specs.Table.{job_at, superior_at}
+use Rattle.its_jobs.specs.Table.{job_at}
 use Rattle.its_plain.specs.CallStep.{decision}
 use Rattle.its_plain.specs.Decide.{decided}
 use Rattle.its_plain.specs.Machine.{Whole}
-use Rattle.its_world.specs.World.{alarm_at, raw_at, raw_of, state_of}
+use Rattle.its_world.specs.World.{raw_at, state_of}
 use Rattle.its_world.specs.declared.world.World.{World}
+use Rattle.its_world.proofs.StateLaws.{raw_some}
 use Rattle.call_basic.specs.Seen.{raw_with, seen_by}
 use Rattle.call_basic.proofs.RawLaws.{raw_here}
 
@@ -21,4 +21,4 @@ decision_here w s j a d h e = raw_here (λ q. d ≡ decision (state_of w).raw s 
 
 -- what holds of it holds of the registers
 pub raw_there : (P : Whole → Type 0) (w : World) (s : ℕ) (j : Job) → job_at w.jobs s ≡ Some j → IfSome (raw_at w.files w.core w.jobs w.alarms.items s) P → P (raw_with w s j)
-raw_there P w s j h p = subst (λ o. IfSome (raw_of w.files (core_at w.core s) (superior_at w.jobs s) (alarm_at w.alarms.items s) o) P) h p
+raw_there P w s j h p = subst (λ o. IfSome o P) (raw_some w s j h) p

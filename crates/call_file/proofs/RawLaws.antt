@@ -3,7 +3,7 @@ use Rattle.std.specs.Prelude.{◌≡◌, ℕ, true, Some, refl}
 use Rattle.std.proofs.Common.{sym, ◌∙◌, ap}
 use Rattle.its_word.specs.declared.calls.Ask.{Ask}
 use Rattle.its_word.specs.declared.jobs.Channel.{Channel}
-use Rattle.its_word.specs.declared.jobs.Channel.TheVariants.{Closed, TtyIn, TtyOut, Reading, Writing, Usr}
+use Rattle.its_word.specs.declared.jobs.Channel.TheVariants.{Writing}
 use Rattle.its_word.specs.declared.jobs.Job.{Job}
 use Rattle.its_files.specs.Files.{Store}
 use Rattle.its_frame.specs.declared.name.CallName.TheVariants.{Iot, Siot}
@@ -13,18 +13,15 @@ use Rattle.its_plain.specs.Decide.{call_named}
 use Rattle.its_stepped.specs.Tick.{helps, is_disk}
 use Rattle.its_world.specs.World.{chan_of, chans_of}
 use Rattle.its_world.specs.declared.world.World.{World}
-use Rattle.call_basic.specs.Seen.{channel_under, raw_with}
-use Rattle.call_basic.proofs.ChannelLaws.{under}
+use Rattle.its_parts.specs.Called.{channel_under}
+use Rattle.call_basic.specs.Seen.{raw_with}
+use Rattle.its_parts.proofs.NumberLaws.{under}
 use Rattle.call_file.specs.Held.{is_on_file}
 
 -- a channel on a file
 disk_by : (s : Store) (c : Channel) → is_on_file c ≡ is_disk (chan_of s c)
-disk_by s Closed = refl
-disk_by s TtyIn = refl
-disk_by s TtyOut = refl
-disk_by s (Reading f at) = refl
 disk_by s (Writing d) = refl
-disk_by s (Usr k w at) = refl
+disk_by s c = refl
 
 pub on_file : (s : Store) (j : Job) (n : ℕ) → is_on_file (channel_under j n) ≡ is_disk (channel_at (chans_of s j) n)
 on_file s j n = disk_by s (channel_under j n) ∙ ap is_disk (under s j n)

@@ -61,7 +61,7 @@ fn opened(control: u64, d: Word, x: Word, y: Word) -> Opened
 
 /// CLOSE of a draft. Errors 11 where a channel reads the file that it would replace, 7 where it replaces none and there
 /// are 256 files.
-#[tactic(auto, using(its_files::proofs::EntryLaws::draft_stands, crate::proofs::SeenLaws::seen_count), unfolding(its_plain::specs::CallFile::closes_draft, its_plain::specs::View::view, its_world::specs::World::state_of))]
+#[tactic(auto, using(its_files::proofs::EntryLaws::draft_stands, its_parts::proofs::SeenLaws::seen_count), unfolding(its_plain::specs::CallFile::closes_draft, its_plain::specs::View::view, its_world::specs::World::state_of))]
 pub fn close_draft(w: &World, slot: u8, job: &Job, ask: &Ask, draft: u32) -> Decision
     requires number { input ask.now 0 < 16 }
     requires draft { is_draft (entry_at w.now.files draft) ≡ true }
@@ -92,15 +92,13 @@ pub fn access(w: &World, slot: u8, job: &Job, ask: &Ask) -> Decision
     match channel(job, input(ask, 0)) {
         Channel::Closed => fails(job, ask, error::BAD_CHANNEL),
         Channel::Reading { file, at } => moved(w, slot, job, ask, file, at),
-        Channel::Writing { .. } => fails(job, ask, error::WRONG_DEVICE),
-        Channel::TtyIn => fails(job, ask, error::WRONG_DEVICE),
-        Channel::TtyOut => fails(job, ask, error::WRONG_DEVICE),
         Channel::Usr { .. } => access_to(w, slot, job, ask, END_OF_CORE),
+        _ => fails(job, ask, error::WRONG_DEVICE),
     }
 }
 
 /// The position of a channel that reads a file is set.
-#[tactic(auto, using(crate::proofs::SeenLaws::seen_words, its_files::proofs::EntryLaws::file_stands), unfolding(its_plain::specs::View::view, its_world::specs::World::state_of))]
+#[tactic(auto, using(its_parts::proofs::SeenLaws::seen_words, its_files::proofs::EntryLaws::file_stands), unfolding(its_plain::specs::View::view, its_world::specs::World::state_of))]
 fn moved(w: &World, slot: u8, job: &Job, ask: &Ask, file: u32, was: u32) -> Decision
     requires number { input ask.now 0 < 16 }
     requires file { is_file (entry_at w.now.files file) ≡ true }
@@ -138,14 +136,12 @@ pub fn fillen(w: &World, slot: u8, job: &Job, ask: &Ask) -> Decision
         Channel::Closed => fails(job, ask, error::BAD_CHANNEL),
         Channel::Reading { file, at } => file_measured(w, slot, job, ask, file, at),
         Channel::Writing { draft } => measured(w, job, ask, draft),
-        Channel::TtyIn => fails(job, ask, error::WRONG_DEVICE),
-        Channel::TtyOut => fails(job, ask, error::WRONG_DEVICE),
-        Channel::Usr { .. } => fails(job, ask, error::WRONG_DEVICE),
+        _ => fails(job, ask, error::WRONG_DEVICE),
     }
 }
 
 /// The length of a file is the output.
-#[tactic(auto, using(its_files::proofs::EntryLaws::file_stands, crate::proofs::SeenLaws::seen_words), unfolding(its_plain::specs::View::view, its_world::specs::World::state_of))]
+#[tactic(auto, using(its_files::proofs::EntryLaws::file_stands, its_parts::proofs::SeenLaws::seen_words), unfolding(its_plain::specs::View::view, its_world::specs::World::state_of))]
 fn file_measured(w: &World, slot: u8, job: &Job, ask: &Ask, file: u32, at: u32) -> Decision
     requires { is_file (entry_at w.now.files file) ≡ true }
     ensures { result ≡ fillen_on (seen_by w.now slot job.now ask.now) ask.now (Reads (names_at w.now.files file) at) }

@@ -3,8 +3,8 @@ ghost use Rattle.std.specs.Prelude.{◌≡◌, ◌<◌};
 ghost use Rattle.its_files.specs.Files.{directory, found};
 ghost use Rattle.its_plain.specs.CallFile.{channels_in, delete, file_tests, has_file, is_read, names_from, rename};
 ghost use Rattle.its_world.specs.Tidy.{Tidy};
+ghost use Rattle.its_parts.specs.Called.{first_of};
 ghost use Rattle.call_basic.specs.Seen.{seen_by};
-ghost use Rattle.call_tty.specs.Waiting.{first_of};
 ghost use Rattle.call_file.specs.Held.{has_readers};
 
 use arrayvec::ArrayVec;
@@ -25,7 +25,7 @@ pub(crate) fn names_from(ask: &Ask, k: usize) -> [Word; 3]
 }
 
 /// The number of the file with these names.
-#[tactic(auto, using(crate::proofs::SeenLaws::three))]
+#[tactic(auto, using(its_parts::proofs::SeenLaws::three))]
 fn find(w: &World, names: [Word; 3]) -> Option<u32>
     ensures { result ≡ found w.now.files names }
 {

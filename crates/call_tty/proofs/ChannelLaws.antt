@@ -2,23 +2,19 @@
 use Rattle.std.specs.Prelude.{◌≡◌, ◌&&◌, ℕ, nat_lt, refl}
 use Rattle.std.proofs.Common.{ap, ◌∙◌}
 use Rattle.its_word.specs.declared.jobs.Channel.{Channel}
-use Rattle.its_word.specs.declared.jobs.Channel.TheVariants.{Closed, TtyIn, TtyOut, Reading, Writing, Usr}
+use Rattle.its_word.specs.declared.jobs.Channel.TheVariants.{Closed}
 use Rattle.its_word.specs.declared.jobs.Job.{Job}
 use Rattle.its_files.specs.Files.{Store}
 use Rattle.its_plain.specs.CallBasic.{channel_at}
 use Rattle.its_plain.specs.CallTty.{is_shut}
 use Rattle.its_world.specs.World.{chan_of, chans_of}
-use Rattle.call_basic.specs.Seen.{channel_under}
-use Rattle.call_basic.proofs.ChannelLaws.{under}
+use Rattle.its_parts.specs.Called.{channel_under}
+use Rattle.its_parts.proofs.NumberLaws.{under}
 use Rattle.call_tty.specs.Channels.{is_closed, is_free}
 
 closed_by : (s : Store) (c : Channel) → is_closed c ≡ is_shut (chan_of s c)
 closed_by s Closed = refl
-closed_by s TtyIn = refl
-closed_by s TtyOut = refl
-closed_by s (Reading f at) = refl
-closed_by s (Writing d) = refl
-closed_by s (Usr k w at) = refl
+closed_by s c = refl
 
 pub closed : (s : Store) (j : Job) (n : ℕ) → is_closed (channel_under j n) ≡ is_shut (channel_at (chans_of s j) n)
 closed s j n = closed_by s (channel_under j n) ∙ ap is_shut (under s j n)

@@ -1,3 +1,2 @@
 pub mod HoldLaws
 pub mod ChannelLaws
-pub mod StopLaws

@@ -73,12 +73,5 @@ pub fn is_free(job: &Job, number: Word) -> bool
 fn is_closed(channel: Channel) -> bool
     ensures { result ≡ is_closed channel }
 {
-    match channel {
-        Channel::Closed => true,
-        Channel::Reading { .. } => false,
-        Channel::Writing { .. } => false,
-        Channel::TtyIn => false,
-        Channel::TtyOut => false,
-        Channel::Usr { .. } => false,
-    }
+    matches!(channel, Channel::Closed)
 }

@@ -8,8 +8,8 @@ ghost use Rattle.its_word.specs.Limits.{slots};
 ghost use Rattle.its_core.specs.Cores.{core_at};
 ghost use Rattle.its_plain.specs.Arguments.{input};
 ghost use Rattle.its_plain.specs.CallTty.{iot_in, iot_out, is_indexed, next_pointer, shown_byte, siot_by, siot_in, siot_out, siot_tests, word_bits};
+ghost use Rattle.its_parts.specs.Called.{bar_of, first_of};
 ghost use Rattle.call_basic.specs.Seen.{seen_by};
-ghost use Rattle.call_tty.specs.Waiting.{bar_of, first_of};
 
 use super::consoles::{console_of, first_typed, input_waits, output_waits};
 use arrayvec::ArrayVec;

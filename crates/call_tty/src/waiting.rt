@@ -13,15 +13,13 @@ use its_word::{Ask, Channel, Job, Word};
 use its_world::World;
 
 /// FINISH channel: waits until all output of the console is drained. Errors 4, 5.
-#[tactic(auto, using(call_basic::proofs::ChannelLaws::under), unfolding(its_plain::specs::CallTty::finish, its_plain::specs::View::view, its_world::specs::World::state_of))]
+#[tactic(auto, using(its_parts::proofs::NumberLaws::under), unfolding(its_plain::specs::CallTty::finish, its_plain::specs::View::view, its_world::specs::World::state_of))]
 pub fn finish(w: &World, slot: u8, job: &Job, ask: &Ask) -> Decision
     requires { slot < slots }
     ensures { result ≡ finish (seen_by w.now slot job.now ask.now) ask.now }
 {
     match channel(job, input(ask, 0)) {
         Channel::Closed => fails(job, ask, error::BAD_CHANNEL),
-        Channel::Reading { .. } => fails(job, ask, error::WRONG_DEVICE),
-        Channel::Writing { .. } => fails(job, ask, error::WRONG_DEVICE),
         Channel::TtyOut => {
             let console = console_of(job);
             if output_left(w, console) {
@@ -30,24 +28,21 @@ pub fn finish(w: &World, slot: u8, job: &Job, ask: &Ask) -> Decision
                 finishes(job, ArrayVec::new())
             }
         }
-        Channel::TtyIn => fails(job, ask, error::WRONG_DEVICE),
-        Channel::Usr { .. } => fails(job, ask, error::WRONG_DEVICE),
+        _ => fails(job, ask, error::WRONG_DEVICE),
     }
 }
 
 /// LISTEN channel: waits likewise, and gives the number of bytes of input. Errors 4, 5.
-#[tactic(auto, using(call_basic::proofs::ChannelLaws::under), unfolding(its_plain::specs::CallTty::listen, its_plain::specs::View::view, its_world::specs::World::state_of))]
+#[tactic(auto, using(its_parts::proofs::NumberLaws::under), unfolding(its_plain::specs::CallTty::listen, its_plain::specs::View::view, its_world::specs::World::state_of))]
 pub fn listen(w: &World, slot: u8, job: &Job, ask: &Ask) -> Decision
     requires { slot < slots }
     ensures { result ≡ listen (seen_by w.now slot job.now ask.now) ask.now }
 {
     match channel(job, input(ask, 0)) {
         Channel::Closed => fails(job, ask, error::BAD_CHANNEL),
-        Channel::Reading { .. } => fails(job, ask, error::WRONG_DEVICE),
-        Channel::Writing { .. } => fails(job, ask, error::WRONG_DEVICE),
         Channel::TtyIn => listened(w, slot, job, ask),
         Channel::TtyOut => listened(w, slot, job, ask),
-        Channel::Usr { .. } => fails(job, ask, error::WRONG_DEVICE),
+        _ => fails(job, ask, error::WRONG_DEVICE),
     }
 }
 
@@ -67,7 +62,7 @@ fn listened(w: &World, slot: u8, job: &Job, ask: &Ask) -> Decision
 
 /// TTYLND job: the job becomes the holder of the caller's console. Errors 4, 5; 5 where the caller has no
 /// console; for oneself 13 where a stranger holds it; for an inferior 5 where the caller does not hold it.
-#[tactic(auto, using(crate::proofs::HoldLaws::takes, crate::proofs::HoldLaws::holds_it, call_basic::proofs::ChannelLaws::under), unfolding(its_plain::specs::CallTty::ttylnd, its_plain::specs::View::view, its_world::specs::World::state_of))]
+#[tactic(auto, using(crate::proofs::HoldLaws::takes, crate::proofs::HoldLaws::holds_it, its_parts::proofs::NumberLaws::under), unfolding(its_plain::specs::CallTty::ttylnd, its_plain::specs::View::view, its_world::specs::World::state_of))]
 pub fn ttylnd(w: &World, slot: u8, job: &Job, ask: &Ask) -> Decision
     requires { slot < slots }
     ensures { result ≡ ttylnd (seen_by w.now slot job.now ask.now) ask.now }
@@ -79,14 +74,11 @@ pub fn ttylnd(w: &World, slot: u8, job: &Job, ask: &Ask) -> Decision
     }
     match channel(job, party) {
         Channel::Closed => fails(job, ask, error::BAD_CHANNEL),
-        Channel::Reading { .. } => fails(job, ask, error::WRONG_DEVICE),
-        Channel::Writing { .. } => fails(job, ask, error::WRONG_DEVICE),
         Channel::Usr { slot: inferior, .. } => {
             let may = is_holder(w, slot, console_of(job));
             lands(w, slot, job, ask, may, error::WRONG_DEVICE, inferior)
         }
-        Channel::TtyIn => fails(job, ask, error::WRONG_DEVICE),
-        Channel::TtyOut => fails(job, ask, error::WRONG_DEVICE),
+        _ => fails(job, ask, error::WRONG_DEVICE),
     }
 }
 

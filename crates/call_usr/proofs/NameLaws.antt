@@ -1,27 +1,24 @@
 -- OPEN of an inferior: where none of its tests stops it, and the least free slot.
-use Rattle.std.specs.Prelude.{◌≡◌, ◌≤◌, ◌==◌, ◌&&◌, ℕ, true, Option, Some, None, is_some, option_map, nat_lt, unwrap_or, refl}
+use Rattle.std.specs.Prelude.{◌≡◌, ◌≤◌, ◌==◌, ◌&&◌, ℕ, true, None, nat_lt, unwrap_or, refl}
 use Rattle.std.proofs.Common.{sym, ◌∙◌, ap, subst}
 use Rattle.std.proofs.lemmas.Bool.{le-ltb}
-use Rattle.its_word.specs.Core.{Core}
 use Rattle.its_word.specs.Tree.{least_free}
 use Rattle.its_word.specs.declared.calls.Ask.{Ask}
 use Rattle.its_word.specs.declared.jobs.Job.{Job}
-use Rattle.its_word.proofs.FreeLaws.{least_alike}
-use Rattle.its_core.specs.Cores.{core_at}
-use Rattle.its_files.specs.Files.{Store}
-use Rattle.its_jobs.specs.Table.{job_at, superior_at}
+use Rattle.its_jobs.specs.Table.{job_at}
 use Rattle.its_plain.specs.Arguments.{input}
 use Rattle.its_plain.specs.CallBasic.{channel_at}
 use Rattle.its_plain.specs.CallTty.{is_shut}
 use Rattle.its_plain.specs.CallUsr.{inferior_named, opens_job, opens_usr, usr_tests}
-use Rattle.its_plain.specs.View.{View, outline, view}
-use Rattle.its_world.specs.World.{alarm_at, raw_of, state_of}
+use Rattle.its_plain.specs.View.{View, view}
+use Rattle.its_world.specs.World.{state_of}
 use Rattle.its_world.specs.declared.world.World.{World}
+use Rattle.its_parts.specs.Called.{first_of}
 use Rattle.call_basic.specs.Seen.{seen_by}
 use Rattle.call_tty.specs.Channels.{is_free}
-use Rattle.call_tty.specs.Waiting.{first_of}
 use Rattle.call_tty.proofs.ChannelLaws.{free}
-use Rattle.call_tty.proofs.StopLaws.{unstopped}
+use Rattle.its_parts.proofs.SeenLaws.{free_seen}
+use Rattle.its_parts.proofs.StopLaws.{unstopped}
 
 -- the channel is free, and the control argument is 0 or 1
 seen_free : (w : World) (s : ℕ) (j : Job) (a : Ask) (n : ℕ) → is_free j n ≡ (nat_lt n 16 && is_shut (channel_at (seen_by w s j a).own.channels n))
@@ -42,13 +39,7 @@ opens_goes w s j a n control en ec f l =
     ∙ unstopped (usr_tests v a (input a 0) (unwrap_or a.control 0)) (opens_job v a (input a 0) (input a 2) (input a 3) (unwrap_or a.control 0 == 1) named)
     (no_test v a (input a 0) (unwrap_or a.control 0) (sym (seen_free w s j a (input a 0)) ∙ f) (subst (λ (c : ℕ). c ≤ 1) ec l))
 
--- a slot has a job where the call sees one
-outline_some : (s : Store) (c : Core) (u : Option ℕ) (a : Option (ℕ × ℕ)) (o : Option Job) → is_some (option_map outline (raw_of s c u a o)) ≡ is_some o
-outline_some s c u a (Some j) = refl
-outline_some s c u a None = refl
-
+-- the least slot in which the call sees no job
 pub outlines_free : (w : World) (s : ℕ) (j : Job) (a : Ask) → least_free (seen_by w s j a).limit (seen_by w s j a).outlines ≡ least_free w.jobs.limit (job_at w.jobs)
 unfolding view state_of
-outlines_free w s j a =
-    ap (λ (n : ℕ). least_free n (seen_by w s j a).outlines) (sym w.limited)
-    ∙ least_alike w.jobs.limit (seen_by w s j a).outlines (job_at w.jobs) (λ k. outline_some w.files (core_at w.core k) (superior_at w.jobs k) (alarm_at w.alarms.items k) (job_at w.jobs k))
+outlines_free w s j a = free_seen w.files w.core w.jobs w.alarms.items (seen_by w s j a).limit w.limited

@@ -8,7 +8,7 @@ use Rattle.std.proofs.lemmas.List.Folds.{sum_by-replicate}
 use Rattle.std.proofs.lemmas.List.Sums.{sum_by-append}
 use Rattle.std.proofs.lemmas.List.FromFn.{length-range_with_len, map-range_with_len_more}
 use Rattle.its_links.specs.Lists.{Linked, list_at, hit, count, times, no_lists}
-use Rattle.its_links.proofs.CountLaws.{hit_same, hit_other, times-set, length-no_lists, list_at-no_lists, times-no_lists}
+use Rattle.its_links.proofs.CountLaws.{count-append, hit_same, hit_other, times-set, length-no_lists, list_at-no_lists, times-no_lists}
 use Rattle.its_word.specs.Core.{pages_present, pages_mapped, no_core}
 use Rattle.its_word.specs.Limits.{slots}
 use Rattle.its_word.specs.Only.{Only}
@@ -17,7 +17,7 @@ use Rattle.its_core.specs.declared.cores.Mapped.{Mapped}
 use Rattle.its_core.specs.declared.cores.Held.{Held}
 use Rattle.its_core.specs.Cores.{core_at, zeroed, IsEmpty}
 use Rattle.its_core.specs.Frames.{Listed, NoFrames, all_frames, standing, row, emptied, numbers, frames_drop_all}
-use Rattle.its_core.specs.Pool.{frame_of, held_frame, page_in, reserved_in, core_in, cores_in, frames_now, IsPool, all_accs, all_places, all_words}
+use Rattle.its_core.specs.Pool.{frame_of, held_frame, page_in, reserved_in, core_in, cores_in, frames_now, IsPool, all_accs, all_places}
 use Rattle.its_core.proofs.ListLaws.{length-zeroed, get_or-zeroed, get_or-zeroed_below, get_or-zeroed_past}
 use Rattle.its_core.proofs.FrameLaws.{standing_none, count_none, length-row, get_or-row, length-emptied, get_or-emptied, get_or-emptied_below, get_or-emptied_past, row-emptied_here, row-emptied_other, map-emptied, drop_all_listed}
 use Rattle.its_core.proofs.ReadLaws.{core_at_is, core_at_past, reserved_at_is, get_or-map_none}
@@ -166,25 +166,25 @@ listed_none b c bi =
       none = λ x ge. let a = none x in let t = times_free x in let n = count-numbers_past x all_frames ge in omega arith;
     }
 
-no_frames : (a b c d : ℕ) → NoFrames (cores_in (filled a 0) (filled b None) (filled c None) (filled d 0) all_free).frames
+no_frames : (a b c : ℕ) → NoFrames (cores_in (filled a 0) (filled b None) (filled c None) [] all_free).frames
 unfolding cores_in
-no_frames a b c d = record { free_in_order = free_list; no_lists = other_list; no_pages = λ s k. frames_filled b (256 * s + k); none_reserved = held_filled c }
+no_frames a b c = record { free_in_order = free_list; no_lists = other_list; no_pages = λ s k. frames_filled b (256 * s + k); none_reserved = held_filled c }
 
-pub empty : (a b c d : ℕ) → a ≡ all_accs → IsEmpty (cores_in (filled a 0) (filled b None) (filled c None) (filled d 0) all_free)
-empty a b c d e = record {
+pub empty : (a b c : ℕ) → a ≡ all_accs → IsEmpty (cores_in (filled a 0) (filled b None) (filled c None) [] all_free)
+empty a b c e = record {
   cores = λ k. elim (cases_lt k slots) [
     | inl lt ↦
         let l = length-filled {X = ℕ} a 0 in
-        core_at_is (filled a 0) (filled b None) (filled c None) (filled d 0) all_free k lt
-        ∙ core_none (filled a 0) (filled b None) (filled d 0) k (omega arith) (λ j h. get_or-filled a (16 * k + j) 0) (λ j h. get_or-filled b (256 * k + j) None)
-    | inr ge ↦ core_at_past (filled a 0) (filled b None) (filled c None) (filled d 0) all_free k ge
+        core_at_is (filled a 0) (filled b None) (filled c None) [] all_free k lt
+        ∙ core_none (filled a 0) (filled b None) [] k (omega arith) (λ j h. get_or-filled a (16 * k + j) 0) (λ j h. get_or-filled b (256 * k + j) None)
+    | inr ge ↦ core_at_past (filled a 0) (filled b None) (filled c None) [] all_free k ge
   ];
-  reserved = λ k. reserved_at_is (filled a 0) (filled b None) (filled c None) (filled d 0) all_free k ∙ ap (reserved_in (filled d 0)) (get_or-filled c k None);
-  frames = no_frames a b c d;
+  reserved = λ k. reserved_at_is (filled a 0) (filled b None) (filled c None) [] all_free k ∙ ap (reserved_in []) (get_or-filled c k None);
+  frames = no_frames a b c;
 }
 
-pub empty_pool : (a b c d : ℕ) → a ≡ all_accs → b ≡ all_places → c ≡ slots → d ≡ all_words → IsPool (filled a 0) (filled b None) (filled c None) (filled d 0) all_free 0
-empty_pool a b c d ai bi ci di =
+pub empty_pool : (a b c : ℕ) → a ≡ all_accs → b ≡ all_places → c ≡ slots → IsPool (filled a 0) (filled b None) (filled c None) [] all_free 0
+empty_pool a b c ai bi ci =
     let y = count_filled {X = Option Held} is_some c None refl in
     let lb = length-filled {X = Option Mapped} b None in
     let f = ap length free_list in
@@ -193,13 +193,13 @@ empty_pool a b c d ai bi ci di =
       accs_long = length-filled a 0 ∙ ai;
       places_long = length-filled b None ∙ bi;
       held_long = length-filled c None ∙ ci;
-      words_long = length-filled d 0 ∙ di;
+      ready = λ x lt less. let z = ap (count x) free_list in let n = count-numbers x all_frames lt in omega arith;
       nodes = refl;
       heads = length-set (no_lists (slots + 1)) 0 (numbers all_frames) ∙ length-no_lists (slots + 1);
       listed = listed_none b c bi;
       rows = λ s lt. ap length (other_list s) ∙ sym (count_none (row (filled b None) s) (row_none (filled b None) s (omega arith) (λ i. get_or-filled b i None)));
       clear = λ s h r. let z = get_or-filled {X = Option Held} c s None in cc;
-      number = sym (pages_mapped-none (core_at (cores_in (filled a 0) (filled b None) (filled c None) (filled d 0) all_free)) (empty a b c d ai).cores);
+      number = sym (pages_mapped-none (core_at (cores_in (filled a 0) (filled b None) (filled c None) [] all_free)) (empty a b c ai).cores);
       most = omega arith;
       count = omega arith;
     }
@@ -323,7 +323,7 @@ module _ (accs : List ℕ) (places : List (Option Mapped)) (held : List (Option 
         accs_long = length-zeroed (16 * s) 16 accs (omega arith) ∙ al;
         places_long = length-emptied (256 * s) 256 places (omega arith) ∙ pl;
         held_long = pool.held_long;
-        words_long = pool.words_long;
+        ready = λ x below less. let r = pool.ready x below less in let a = count-append x free own in let z = ap (count x) (get_or-set_other mid (s + 1) 0 [] [] (λ q. omega arith) ∙ get_or-set_same links.lists 0 (free ++ own) [] (omega arith)) in omega arith;
         nodes = pool.nodes;
         heads = length-set mid (s + 1) [] ∙ ml ∙ hl;
         listed = seen_now (zeroed (16 * s) 16 accs) (emptied (256 * s) 256 places) (dropped s) (subst Listed (sym (drop_frames (zeroed (16 * s) 16 accs) s)) (drop_seen s lt));

@@ -173,6 +173,20 @@ module _ (f : Frames) (l : Listed f) where
   pub reserved_stands : (s x : ℕ) → reserved_frame f s ≡ Some x → times x f.lists ≡ 0
   reserved_stands s x e = let r = standing_at x f.reserved s e in let m = standing_most x in omega arith
 
+  -- a frame in use is not free
+  pub page_not_free : (s k x : ℕ) → s < slots → k < 256 → page_frame f s k ≡ Some x → count x (free f) ≡ 0
+  page_not_free s k x lt h e =
+      let p = page_in_list s k x lt h e in
+      let o = page_stands s k x lt h e in
+      let two = two-le-times x f.lists 0 (s + 1) (λ q. omega arith) in
+      omega arith
+
+  pub reserved_not_free : (s x : ℕ) → reserved_frame f s ≡ Some x → count x (free f) ≡ 0
+  reserved_not_free s x e = let o = reserved_stands s x e in let c = count-le-times x f.lists 0 in omega arith
+
+  pub free_below : (x : ℕ) → 0 < count x (free f) → x < all_frames
+  free_below x h = let c = count-le-times x f.lists 0 in standing_below x (omega arith)
+
   pub page_below : (s k x : ℕ) → s < slots → k < 256 → page_frame f s k ≡ Some x → x < all_frames
   page_below s k x lt h e = let p = page_stands s k x lt h e in standing_below x (omega arith)
 

@@ -1,21 +1,22 @@
 -- A page that a slot reserves, clears, or gives back.
-use Rattle.std.specs.Prelude.{◌≡◌, ◌≢◌, ◌<◌, ◌≤◌, ℕ, ◌+◌, ◌-◌, ◌*◌, ◌==◌, true, false, Option, Some, None, List, [], ◌∷◌, ◌++◌, length, map, take, drop, slice_set, slice_index_or, is_some, count_by, option_map, refl}
+use Rattle.std.specs.Prelude.{◌≡◌, ◌≢◌, ◌<◌, ◌≤◌, ℕ, ◌+◌, ◌-◌, ◌*◌, ◌==◌, true, false, Option, Some, None, List, [], ◌∷◌, ◌++◌, length, map, take, drop, replicate, slice_set, slice_index_or, is_some, count_by, option_map, refl}
 use Rattle.std.proofs.Common.{sym, ◌∙◌, ap, inl, inr, arith, length-set, subst}
 use Rattle.std.proofs.lemmas.Bool.{cases_lt, cases_eq, cond-true, cond-false, eq-eqb, ne_eqb}
-use Rattle.std.proofs.lemmas.List.{get_or-set_same, get_or-set_other, set-get_or, map-set, length-map, length_push}
+use Rattle.std.proofs.lemmas.List.{get_or-set_same, get_or-set_other, set-get_or, map-set, length-map, length_push, length-append, length-replicate}
 use Rattle.std.proofs.lemmas.Option.{same_Some}
 use Rattle.its_word.specs.Core.{no_core, pages_mapped}
 use Rattle.its_word.specs.Limits.{slots}
 use Rattle.its_word.specs.Only.{Only}
 use Rattle.its_core.specs.declared.cores.Mapped.{Mapped}
 use Rattle.its_core.specs.declared.cores.Held.{Held}
-use Rattle.its_links.specs.Lists.{Linked, list_at, first, rest}
+use Rattle.its_links.specs.Lists.{Linked, count, list_at, first, rest}
+use Rattle.its_links.proofs.CountLaws.{count-append, count_first, hit_same, hit_other}
 use Rattle.its_core.specs.Frames.{Listed, all_frames, as_list, free, frames_reserve, frames_give_back}
 use Rattle.its_core.specs.Cores.{Cores, Reserved, core_at, reserved_at, clear_at, clear_with, cleared, zeroed}
-use Rattle.its_core.specs.Pool.{frame_of, held_frame, frame_words, page_in, reserved_in, core_in, cores_in, frames_now, IsPool, IsClear, all_places, all_words}
-use Rattle.its_core.proofs.ListLaws.{frame_words_zeroed, frame_words_zeroed_other, zero_stays, get_or-zeroed, length-zeroed}
-use Rattle.its_core.proofs.FrameLaws.{count_missing, count_set, reserve_listed, give_back_listed}
-use Rattle.its_core.proofs.ReadLaws.{apart, reserved_frame_is, reserved_frame_none, reserved_at_is, held_frame_at, held_below, place_frame, place_below, frame_below}
+use Rattle.its_core.specs.Pool.{frame_of, held_frame, frame_words, page_in, reserved_in, core_in, cores_in, frames_now, IsPool, IsClear, all_places}
+use Rattle.its_core.proofs.ListLaws.{frame_words_more, frame_words_zeroed, frame_words_zeroed_other, get_or-frame_words, zero_stays, get_or-zeroed, length-zeroed}
+use Rattle.its_core.proofs.FrameLaws.{count_missing, count_set, free_below, reserve_listed, give_back_listed}
+use Rattle.its_core.proofs.ReadLaws.{apart, reserved_frame_is, reserved_frame_none, reserved_at_is, held_frame_at, held_words, place_frame, place_below, place_words}
 use Rattle.its_word.proofs.TableLaws.{table_alike}
 
 -- the number of quarters that are clear follows the reserved pages
@@ -35,15 +36,22 @@ held_number : (accs : List ℕ) (places : List (Option Mapped)) (held gelt : Lis
 unfolding core_at cores_in
 held_number accs places held gelt words links minks = refl
 
-pub held_only : (accs : List ℕ) (places qlaces : List (Option Mapped)) (held : List (Option Held)) (words : List ℕ) (links minks : Linked) (s : ℕ) (o : Option Held) → s < length held
-    → Only (reserved_at (cores_in accs places held words links)) (reserved_at (cores_in accs qlaces (slice_set held s o) words minks)) s (reserved_in words o)
-held_only accs places qlaces held words links minks s o h = record {
-  here = reserved_at_is accs qlaces (slice_set held s o) words minks s ∙ ap (reserved_in words) (get_or-set_same held s o None h);
+-- the reserved pages, where one slot's is another and the others have the same words
+pub reserved_only : (accs : List ℕ) (places qlaces : List (Option Mapped)) (held : List (Option Held)) (words vords : List ℕ) (links minks : Linked) (s : ℕ) (o : Option Held) → s < length held
+    → ((k : ℕ) → k ≢ s → reserved_in vords (slice_index_or held k None) ≡ reserved_in words (slice_index_or held k None))
+    → Only (reserved_at (cores_in accs places held words links)) (reserved_at (cores_in accs qlaces (slice_set held s o) vords minks)) s (reserved_in vords o)
+reserved_only accs places qlaces held words vords links minks s o h others = record {
+  here = reserved_at_is accs qlaces (slice_set held s o) vords minks s ∙ ap (reserved_in vords) (get_or-set_same held s o None h);
   others = λ k ne.
-      reserved_at_is accs qlaces (slice_set held s o) words minks k
-      ∙ ap (reserved_in words) (get_or-set_other held s k o None ne)
+      reserved_at_is accs qlaces (slice_set held s o) vords minks k
+      ∙ ap (reserved_in vords) (get_or-set_other held s k o None ne)
+      ∙ others k ne
       ∙ sym (reserved_at_is accs places held words links k);
 }
+
+pub held_only : (accs : List ℕ) (places qlaces : List (Option Mapped)) (held : List (Option Held)) (words : List ℕ) (links minks : Linked) (s : ℕ) (o : Option Held) → s < length held
+    → Only (reserved_at (cores_in accs places held words links)) (reserved_at (cores_in accs qlaces (slice_set held s o) words minks)) s (reserved_in words o)
+held_only accs places qlaces held words links minks s o h = reserved_only accs places qlaces held words words links minks s o h (λ k ne. refl)
 
 -- whether a slot has reserved a page
 held_has : (accs : List ℕ) (places : List (Option Mapped)) (held : List (Option Held)) (words : List ℕ) (links : Linked) (s : ℕ) → is_some (slice_index_or held s None) ≡ is_some (reserved_at (cores_in accs places held words links) s)
@@ -98,17 +106,17 @@ module _ (accs : List ℕ) (places : List (Option Mapped)) (held : List (Option 
   ]
 
   -- a pool with another reserved page of a slot
-  held_pool : (s : ℕ) (o : Option Held) (vords : List ℕ) (minks : Linked) → s < slots → length vords ≡ all_words → minks.nodes ≡ all_frames → length minks.lists ≡ slots + 1
+  held_pool : (s : ℕ) (o : Option Held) (vords : List ℕ) (minks : Linked) → s < slots → ((x : ℕ) → x < all_frames → length vords < 1024 * x + 1024 → 0 < count x (list_at minks.lists 0)) → minks.nodes ≡ all_frames → length minks.lists ≡ slots + 1
       → Listed (frames_now places (slice_set held s o) minks) → ((t : ℕ) → list_at minks.lists (t + 1) ≡ list_at links.lists (t + 1))
       → ((k : ℕ) (h : Held) → slice_index_or (slice_set held s o) k None ≡ Some h → IsClear vords h)
       → mapped ≡ pages_mapped (core_at (cores_in accs places (slice_set held s o) vords minks))
       → length (list_at minks.lists 0) + mapped + count_by is_some (slice_set held s o) ≡ all_frames
       → IsPool accs places (slice_set held s o) vords minks mapped
-  held_pool s o vords minks lt wl nodes heads listed lists z n c = record {
+  held_pool s o vords minks lt ready nodes heads listed lists z n c = record {
     accs_long = pool.accs_long;
     places_long = pool.places_long;
     held_long = length-set held s o ∙ pool.held_long;
-    words_long = wl;
+    ready = ready;
     nodes = nodes;
     heads = heads;
     listed = listed;
@@ -119,10 +127,53 @@ module _ (accs : List ℕ) (places : List (Option Mapped)) (held : List (Option 
     count = c;
   }
 
-  none_clear : (f : ℕ) (h : Held) → Some (record { frame = f; clear = 0 }) ≡ Some h → IsClear words h
-  none_clear f h e =
-      let P : Held → Type 0 = λ i. IsClear words i in
+  none_clear : (vords : List ℕ) (f : ℕ) (h : Held) → Some (record { frame = f; clear = 0 }) ≡ Some h → IsClear vords h
+  none_clear vords f h e =
+      let P : Held → Type 0 = λ i. IsClear vords i in
       subst P (same_Some (record { frame = f; clear = 0 }) h e) (record { most = omega arith; zeros = λ k lt. absurd (omega arith) })
+
+  -- other words, of which the pages have the same
+  abbrev pub KeepsPages : List ℕ → Type 0
+  KeepsPages vords = (p : ℕ) (m : Mapped) → slice_index_or places p None ≡ Some m → frame_words vords m.frame ≡ frame_words words m.frame
+
+  page_kept : (vords : List ℕ) → KeepsPages vords → (p : ℕ) → page_in vords (slice_index_or places p None) ≡ page_in words (slice_index_or places p None)
+  page_kept vords keeps p = go (slice_index_or places p None) refl
+    where
+      go : (o : Option Mapped) → slice_index_or places p None ≡ o → page_in vords o ≡ page_in words o
+      go None r = refl
+      go (Some m) r = ap (λ ws. Some (record { words = ws; writable = m.writable })) (keeps p m r)
+
+  core_kept : (vords : List ℕ) → KeepsPages vords → (t : ℕ) → core_in accs places vords t ≡ core_in accs places words t
+  unfolding core_in
+  core_kept vords keeps t =
+      ap (λ ps. record { accs = take 16 (drop (16 * t) accs); pages = ps })
+      (table_alike 256 (λ k. page_in words (slice_index_or places (256 * t + k) None)) (λ k. page_in vords (slice_index_or places (256 * t + k) None))
+      (λ k lt. page_kept vords keeps (256 * t + k)))
+
+  cores_kept : (gelt : List (Option Held)) (vords : List ℕ) (minks : Linked) → KeepsPages vords → (cores_in accs places gelt vords minks).cores ≡ (cores_in accs places held words links).cores
+  unfolding cores_in
+  cores_kept gelt vords minks keeps = table_alike slots (core_in accs places words) (core_in accs places vords) (λ t lt. core_kept vords keeps t)
+
+  number_kept : (gelt : List (Option Held)) (vords : List ℕ) (minks : Linked) → KeepsPages vords → mapped ≡ pages_mapped (core_at (cores_in accs places gelt vords minks))
+  unfolding core_at
+  number_kept gelt vords minks keeps = pool.number ∙ sym (ap (λ cs. pages_mapped (λ k. slice_index_or cs k no_core)) (cores_kept gelt vords minks keeps))
+
+  -- and a reserved page
+  reserved_kept : (vords : List ℕ) (k : ℕ) → ((g : Held) → slice_index_or held k None ≡ Some g → frame_words vords g.frame ≡ frame_words words g.frame)
+      → reserved_in vords (slice_index_or held k None) ≡ reserved_in words (slice_index_or held k None)
+  reserved_kept vords k keeps = go (slice_index_or held k None) refl
+    where
+      go : (o : Option Held) → slice_index_or held k None ≡ o → reserved_in vords o ≡ reserved_in words o
+      go None r = refl
+      go (Some g) r = ap (λ ws. Some (record { clear = g.clear; words = ws })) (keeps g r)
+
+  clear_kept : (vords : List ℕ) (g : Held) → frame_words vords g.frame ≡ frame_words words g.frame → IsClear words g → IsClear vords g
+  clear_kept vords g e c = record {
+    most = c.most;
+    zeros = λ k less.
+        let m = c.most in
+        sym (get_or-frame_words vords g.frame k 0 (omega arith)) ∙ ap (λ ws. slice_index_or ws k 0) e ∙ get_or-frame_words words g.frame k 0 (omega arith) ∙ c.zeros k less;
+  }
 
   -- the lists after the first free frame was taken, and after a frame was given back
   abbrev pub taken : Linked
@@ -131,10 +182,10 @@ module _ (accs : List ℕ) (places : List (Option Mapped)) (held : List (Option 
   abbrev pub given : ℕ → Linked
   given y = record { nodes = links.nodes; lists = slice_set links.lists 0 (list_at links.lists 0 ++ y ∷ []) }
 
-  pub reserve_frames : (s y : ℕ) → first (list_at links.lists 0) ≡ Some y
-      → (cores_in accs places (slice_set held s (Some (record { frame = y; clear = 0 }))) words taken).frames ≡ frames_reserve s (cores_in accs places held words links).frames
+  pub reserve_frames : (vords : List ℕ) (s y : ℕ) → first (list_at links.lists 0) ≡ Some y
+      → (cores_in accs places (slice_set held s (Some (record { frame = y; clear = 0 }))) vords taken).frames ≡ frames_reserve s (cores_in accs places held words links).frames
   unfolding cores_in
-  reserve_frames s y e =
+  reserve_frames vords s y e =
       ap (λ r. record { lists = slice_set links.lists 0 (rest (list_at links.lists 0)); pages = map frame_of places; reserved = r })
       (map-set held_frame held s (Some (record { frame = y; clear = 0 })) ∙ ap (λ o. slice_set (map held_frame held) s o) (sym e))
 
@@ -164,22 +215,58 @@ module _ (accs : List ℕ) (places : List (Option Mapped)) (held : List (Option 
       let ml = length-map held held_frame in
       give_back_listed (frames_now places held links) pool.listed pool.heads s (omega arith)
 
-  pub reserve_pool : (s y : ℕ) → s < slots → slice_index_or held s None ≡ None → first (list_at links.lists 0) ≡ Some y
-      → IsPool accs places (slice_set held s (Some (record { frame = y; clear = 0 }))) words taken mapped
-  reserve_pool s y lt e is =
+  -- the first free frame is one of the frames
+  pub first_below : (y : ℕ) → first (list_at links.lists 0) ≡ Some y → y < all_frames
+  first_below y is =
+      let h = hit_same y in
+      let c = count_first y y (list_at links.lists 0) is in
+      free_below (frames_now places held links) pool.listed y (omega arith)
+
+  -- words that become ready are none of a page, nor of a reserved page
+  pages_ready : (n : ℕ) → KeepsPages (words ++ replicate n 0)
+  pages_ready n p m e = frame_words_more words (replicate n 0) m.frame (place_words accs places held words links mapped pool p m e)
+
+  held_ready : (n k : ℕ) (g : Held) → slice_index_or held k None ≡ Some g → frame_words (words ++ replicate n 0) g.frame ≡ frame_words words g.frame
+  held_ready n k g e = frame_words_more words (replicate n 0) g.frame (held_words accs places held words links mapped pool k g e)
+
+  pub ready_cores : (gelt : List (Option Held)) (n : ℕ) (minks : Linked) → (cores_in accs places gelt (words ++ replicate n 0) minks).cores ≡ (cores_in accs places held words links).cores
+  ready_cores gelt n minks = cores_kept gelt (words ++ replicate n 0) minks (pages_ready n)
+
+  pub ready_only : (n : ℕ) (minks : Linked) (s : ℕ) (o : Option Held) → s < slots
+      → Only (reserved_at (cores_in accs places held words links)) (reserved_at (cores_in accs places (slice_set held s o) (words ++ replicate n 0) minks)) s (reserved_in (words ++ replicate n 0) o)
+  ready_only n minks s o lt =
+      let hl = pool.held_long in
+      reserved_only accs places places held words (words ++ replicate n 0) links minks s o (omega arith) (λ k ne. reserved_kept (words ++ replicate n 0) k (held_ready n k))
+
+  -- a free frame is ready, but for the one that is taken
+  still_ready : (n y x : ℕ) → first (list_at links.lists 0) ≡ Some y → 1024 * y + 1024 ≤ length words + n → x < all_frames → length (words ++ replicate n 0) < 1024 * x + 1024 → 0 < count x (list_at taken.lists 0)
+  still_ready n y x is long below less =
+      let a = length-append words (replicate n 0) in
+      let b = length-replicate {A = ℕ} n 0 in
+      let hl = pool.heads in
+      let r = pool.ready x below (omega arith) in
+      let c = count_first x y (list_at links.lists 0) is in
+      let h = hit_other x y (λ q. omega arith) in
+      let z = ap (count x) (get_or-set_same links.lists 0 (rest (list_at links.lists 0)) [] (omega arith)) in
+      omega arith
+
+  pub reserve_pool : (n s y : ℕ) → s < slots → slice_index_or held s None ≡ None → first (list_at links.lists 0) ≡ Some y → 1024 * y + 1024 ≤ length words + n
+      → IsPool accs places (slice_set held s (Some (record { frame = y; clear = 0 }))) (words ++ replicate n 0) taken mapped
+  reserve_pool n s y lt e is long =
       let hl = pool.held_long in
       let nl = pool.heads in
       let h : Held = record { frame = y; clear = 0 } in
+      let vords = words ++ replicate n 0 in
       let c = pool.count in
       let free = list_at links.lists 0 in
       let v = count_set is_some held s (Some h) None false (omega arith) (ap is_some e) in
       let u = ap length (get_or-set_same links.lists 0 (rest free) [] (omega arith)) in
       let w = length_rest free y is in
-      held_pool s (Some h) words taken lt pool.words_long pool.nodes (length-set links.lists 0 (rest free) ∙ nl)
-      (same_frames (slice_set held s (Some h)) taken (subst Listed (sym (reserve_frames s y is)) (reserve_seen s y lt e is)))
+      held_pool s (Some h) vords taken lt (λ x below less. still_ready n y x is long below less) pool.nodes (length-set links.lists 0 (rest free) ∙ nl)
+      (same_frames (slice_set held s (Some h)) taken (subst Listed (sym (reserve_frames words s y is)) (reserve_seen s y lt e is)))
       (λ t. get_or-set_other links.lists 0 (t + 1) (rest free) [] (λ q. omega arith))
-      (clear_set s (Some h) words (omega arith) (λ i r. none_clear y i r) (λ k i ne r. pool.clear k i r))
-      (pool.number ∙ sym (held_number accs places held (slice_set held s (Some h)) words links taken))
+      (clear_set s (Some h) vords (omega arith) (λ i r. none_clear vords y i r) (λ k i ne r. clear_kept vords i (held_ready n k i r) (pool.clear k i r)))
+      (number_kept (slice_set held s (Some h)) vords taken (pages_ready n))
       (omega arith)
     where
       length_rest : (xs : List ℕ) (x : ℕ) → first xs ≡ Some x → length (rest xs) + 1 ≡ length xs
@@ -195,7 +282,13 @@ module _ (accs : List ℕ) (places : List (Option Mapped)) (held : List (Option 
       let v = count_set is_some held s None None true (omega arith) (ap is_some e) in
       let u = ap length (get_or-set_same links.lists 0 (free ++ h.frame ∷ []) [] (omega arith)) in
       let w = length_push free h.frame in
-      held_pool s None words (given h.frame) lt pool.words_long pool.nodes (length-set links.lists 0 (free ++ h.frame ∷ []) ∙ nl)
+      held_pool s None words (given h.frame) lt
+      (λ x below less.
+      let r = pool.ready x below less in
+      let a = count-append x free (h.frame ∷ []) in
+      let z = ap (count x) (get_or-set_same links.lists 0 (free ++ h.frame ∷ []) [] (omega arith)) in
+      omega arith)
+      pool.nodes (length-set links.lists 0 (free ++ h.frame ∷ []) ∙ nl)
       (same_frames (slice_set held s None) (given h.frame) (subst Listed (sym (give_frames s h e)) (give_seen s lt)))
       (λ t. get_or-set_other links.lists 0 (t + 1) (free ++ h.frame ∷ []) [] (λ q. omega arith))
       (clear_set s None words (omega arith) (λ i r. cc) (λ k i ne r. pool.clear k i r))
@@ -213,52 +306,22 @@ module _ (accs : List ℕ) (places : List (Option Mapped)) (held : List (Option 
   held_is_some s h = held_has accs places held words links s ∙ h
 
   -- a quarter of a reserved page is cleared: pages, and other reserved pages, are as before
-  page_alike : (s i p : ℕ) (h : Held) → slice_index_or held s None ≡ Some h → i + 256 ≤ 1024 → page_in (zeroed (1024 * h.frame + i) 256 words) (slice_index_or places p None) ≡ page_in words (slice_index_or places p None)
-  page_alike s i p h e le = go (slice_index_or places p None) refl
-    where
-      go : (o : Option Mapped) → slice_index_or places p None ≡ o → page_in (zeroed (1024 * h.frame + i) 256 words) o ≡ page_in words o
-      go None r = refl
-      go (Some m) r =
-          let wl = pool.words_long in
-          let a = held_below accs places held words links mapped pool s h e in
-          let b = frame_below accs places held words links mapped pool p m r in
-          let pb = place_below accs places held words links mapped pool p m r in
-          ap (λ ws. Some (record { words = ws; writable = m.writable }))
-          (frame_words_zeroed_other words h.frame m.frame i 256 (omega arith) (omega arith) le (λ same.
-          let x = apart accs places held words links mapped pool p (all_places + s) h.frame (place_frame accs places held words links mapped pool p m r ∙ ap Some same) (held_frame_at accs places held words links mapped pool s h e) in
-          omega arith))
+  pages_zeroed : (s i : ℕ) (h : Held) → slice_index_or held s None ≡ Some h → i + 256 ≤ 1024 → KeepsPages (zeroed (1024 * h.frame + i) 256 words)
+  pages_zeroed s i h e le p m r =
+      let pb = place_below accs places held words links mapped pool p m r in
+      frame_words_zeroed_other words h.frame m.frame i 256 (held_words accs places held words links mapped pool s h e) (place_words accs places held words links mapped pool p m r) le (λ same.
+      let x = apart accs places held words links mapped pool p (all_places + s) h.frame (place_frame accs places held words links mapped pool p m r ∙ ap Some same) (held_frame_at accs places held words links mapped pool s h e) in
+      omega arith)
 
-  core_alike : (s i t : ℕ) (h : Held) → slice_index_or held s None ≡ Some h → i + 256 ≤ 1024 → core_in accs places (zeroed (1024 * h.frame + i) 256 words) t ≡ core_in accs places words t
-  unfolding core_in
-  core_alike s i t h e le =
-      ap (λ ps. record { accs = take 16 (drop (16 * t) accs); pages = ps })
-      (table_alike 256 (λ k. page_in words (slice_index_or places (256 * t + k) None)) (λ k. page_in (zeroed (1024 * h.frame + i) 256 words) (slice_index_or places (256 * t + k) None))
-      (λ k lt. page_alike s i (256 * t + k) h e le))
+  held_zeroed : (s i k : ℕ) (h g : Held) → slice_index_or held s None ≡ Some h → i + 256 ≤ 1024 → k ≢ s → slice_index_or held k None ≡ Some g → frame_words (zeroed (1024 * h.frame + i) 256 words) g.frame ≡ frame_words words g.frame
+  held_zeroed s i k h g e le ne r =
+      frame_words_zeroed_other words h.frame g.frame i 256 (held_words accs places held words links mapped pool s h e) (held_words accs places held words links mapped pool k g r) le (λ same.
+      let x = apart accs places held words links mapped pool (all_places + k) (all_places + s) h.frame (held_frame_at accs places held words links mapped pool k g r ∙ ap Some same) (held_frame_at accs places held words links mapped pool s h e) in
+      ne (omega arith))
 
   pub clear_cores : (gelt : List (Option Held)) (s i : ℕ) (h : Held) → slice_index_or held s None ≡ Some h → i + 256 ≤ 1024
       → (cores_in accs places gelt (zeroed (1024 * h.frame + i) 256 words) links).cores ≡ (cores_in accs places held words links).cores
-  unfolding cores_in
-  clear_cores gelt s i h e le = table_alike slots (core_in accs places words) (core_in accs places (zeroed (1024 * h.frame + i) 256 words)) (λ t lt. core_alike s i t h e le)
-
-  clear_number : (gelt : List (Option Held)) (s i : ℕ) (h : Held) → slice_index_or held s None ≡ Some h → i + 256 ≤ 1024
-      → mapped ≡ pages_mapped (core_at (cores_in accs places gelt (zeroed (1024 * h.frame + i) 256 words) links))
-  unfolding core_at
-  clear_number gelt s i h e le = pool.number ∙ sym (ap (λ cs. pages_mapped (λ k. slice_index_or cs k no_core)) (clear_cores gelt s i h e le))
-
-  other_reserved : (s i k : ℕ) (h : Held) → slice_index_or held s None ≡ Some h → i + 256 ≤ 1024 → k ≢ s
-      → reserved_in (zeroed (1024 * h.frame + i) 256 words) (slice_index_or held k None) ≡ reserved_in words (slice_index_or held k None)
-  other_reserved s i k h e le ne = go (slice_index_or held k None) refl
-    where
-      go : (o : Option Held) → slice_index_or held k None ≡ o → reserved_in (zeroed (1024 * h.frame + i) 256 words) o ≡ reserved_in words o
-      go None r = refl
-      go (Some g) r =
-          let wl = pool.words_long in
-          let a = held_below accs places held words links mapped pool s h e in
-          let b = held_below accs places held words links mapped pool k g r in
-          ap (λ ws. Some (record { clear = g.clear; words = ws }))
-          (frame_words_zeroed_other words h.frame g.frame i 256 (omega arith) (omega arith) le (λ same.
-          let x = apart accs places held words links mapped pool (all_places + k) (all_places + s) h.frame (held_frame_at accs places held words links mapped pool k g r ∙ ap Some same) (held_frame_at accs places held words links mapped pool s h e) in
-          ne (omega arith)))
+  clear_cores gelt s i h e le = cores_kept gelt (zeroed (1024 * h.frame + i) 256 words) links (pages_zeroed s i h e le)
 
   pub clear_quarter_only : (s q : ℕ) (h : Held) → s < slots → q < 4 → slice_index_or held s None ≡ Some h
       → Only (reserved_at (cores_in accs places held words links))
@@ -266,31 +329,21 @@ module _ (accs : List ℕ) (places : List (Option Mapped)) (held : List (Option 
       (option_map (cleared q) (reserved_at (cores_in accs places held words links) s))
   clear_quarter_only s q h lt ql e =
       let hl = pool.held_long in
-      let wl = pool.words_long in
-      let a = held_below accs places held words links mapped pool s h e in
       let n : Option Held = Some (record { frame = h.frame; clear = clear_with q h.clear }) in
       let ws = zeroed (1024 * h.frame + 256 * q) 256 words in
+      let o = reserved_only accs places places held words ws links links s n (omega arith) (λ k ne. reserved_kept ws k (λ g r. held_zeroed s (256 * q) k h g e (omega arith) ne r)) in
       record {
         here =
-            reserved_at_is accs places (slice_set held s n) ws links s
-            ∙ ap (reserved_in ws) (get_or-set_same held s n None (omega arith))
-            ∙ ap (λ xs. Some (record { clear = clear_with q h.clear; words = xs })) (frame_words_zeroed words h.frame (256 * q) 256 (omega arith) (omega arith))
+            o.here
+            ∙ ap (λ xs. Some (record { clear = clear_with q h.clear; words = xs })) (frame_words_zeroed words h.frame (256 * q) 256 (held_words accs places held words links mapped pool s h e) (omega arith))
             ∙ sym (ap (option_map (cleared q)) (held_some s h e));
-        others = λ k ne.
-            reserved_at_is accs places (slice_set held s n) ws links k
-            ∙ ap (reserved_in ws) (get_or-set_other held s k n None ne)
-            ∙ other_reserved s (256 * q) k h e (omega arith) ne
-            ∙ sym (reserved_at_is accs places held words links k);
+        others = o.others;
       }
-
-  still_clear : (i : ℕ) (g : Held) → i + 256 ≤ length words → IsClear words g → IsClear (zeroed i 256 words) g
-  still_clear i g le c = record { most = c.most; zeros = λ k less. zero_stays words i 256 (1024 * g.frame + k) le (c.zeros k less) }
 
   quarter_clear : (s q : ℕ) (h g : Held) → q < 4 → slice_index_or held s None ≡ Some h → Some (record { frame = h.frame; clear = clear_with q h.clear }) ≡ Some g
       → IsClear (zeroed (1024 * h.frame + 256 * q) 256 words) g
   quarter_clear s q h g ql e r =
-      let wl = pool.words_long in
-      let a = held_below accs places held words links mapped pool s h e in
+      let a = held_words accs places held words links mapped pool s h e in
       let c = pool.clear s h e in
       let cm = c.most in
       let z : (k : ℕ) → k < 256 * h.clear → slice_index_or (zeroed (1024 * h.frame + 256 * q) 256 words) (1024 * h.frame + k) 0 ≡ 0 =
@@ -326,16 +379,15 @@ module _ (accs : List ℕ) (places : List (Option Mapped)) (held : List (Option 
       → IsPool accs places (slice_set held s (Some (record { frame = h.frame; clear = clear_with q h.clear }))) (zeroed (1024 * h.frame + 256 * q) 256 words) links mapped
   clear_quarter_pool s q h lt ql e =
       let hl = pool.held_long in
-      let wl = pool.words_long in
-      let a = held_below accs places held words links mapped pool s h e in
+      let a = held_words accs places held words links mapped pool s h e in
       let n : Option Held = Some (record { frame = h.frame; clear = clear_with q h.clear }) in
       let ws = zeroed (1024 * h.frame + 256 * q) 256 words in
       let v = count_set is_some held s n None true (omega arith) (ap is_some e) in
       let c = pool.count in
-      held_pool s n ws links lt (length-zeroed (1024 * h.frame + 256 * q) 256 words (omega arith) ∙ wl) pool.nodes pool.heads
+      held_pool s n ws links lt (λ x below less. let z = length-zeroed (1024 * h.frame + 256 * q) 256 words (omega arith) in pool.ready x below (omega arith)) pool.nodes pool.heads
       (subst Listed (sym (quarter_frames_now s h (clear_with q h.clear) e)) pool.listed) (λ t. refl)
-      (clear_set s n ws (omega arith) (λ g r. quarter_clear s q h g ql e r) (λ k g ne r. still_clear (1024 * h.frame + 256 * q) g (omega arith) (pool.clear k g r)))
-      (clear_number (slice_set held s n) s (256 * q) h e (omega arith))
+      (clear_set s n ws (omega arith) (λ g r. quarter_clear s q h g ql e r) (λ k g ne r. clear_kept ws g (held_zeroed s (256 * q) k h g e (omega arith) ne r) (pool.clear k g r)))
+      (number_kept (slice_set held s n) ws links (pages_zeroed s (256 * q) h e (omega arith)))
       (omega arith)
 
   pub quarter_frames : (vords : List ℕ) (s c : ℕ) (h : Held) → slice_index_or held s None ≡ Some h

@@ -18,6 +18,18 @@ pub get_or-frame_words : (words : List ℕ) (f k d : ℕ) → k < 1024 → slice
 unfolding frame_words
 get_or-frame_words words f k d h = get_or-take 1024 (drop (1024 * f) words) k d h ∙ get_or-drop (1024 * f) words k d
 
+-- it is the same where words follow
+pub frame_words_more : (words more : List ℕ) (f : ℕ) → 1024 * f + 1024 ≤ length words → frame_words (words ++ more) f ≡ frame_words words f
+frame_words_more words more f h =
+    let a = length-append words more in
+    let b = length-frame_words words f h in
+    let c = length-frame_words (words ++ more) f (omega arith) in
+    ext_get_or 0 (frame_words (words ++ more) f) (frame_words words f) (omega arith)
+    (λ k less. let lt : k < 1024 = omega arith in
+    get_or-frame_words (words ++ more) f k 0 lt
+    ∙ get_or_append_left words more 0 (1024 * f + k) (omega arith)
+    ∙ sym (get_or-frame_words words f k 0 lt))
+
 -- a list with some of its numbers cleared
 pub length-zeroed : (i n : ℕ) (ws : List ℕ) → i + n ≤ length ws → length (zeroed i n ws) ≡ length ws
 unfolding zeroed

@@ -10,17 +10,18 @@ use Rattle.its_word.specs.Only.{Only}
 use Rattle.its_word.proofs.PageLaws.{one_if, pages_present-with_page, pages_mapped-only}
 use Rattle.its_core.specs.declared.cores.Mapped.{Mapped}
 use Rattle.its_core.specs.declared.cores.Held.{Held}
-use Rattle.its_links.specs.Lists.{Linked, list_at, times, without}
-use Rattle.its_links.proofs.CountLaws.{without_one, length-without, count-le-times, two-le-times}
+use Rattle.its_links.specs.Lists.{Linked, count, list_at, times, without}
+use Rattle.its_links.proofs.CountLaws.{count-append, without_one, length-without, count-le-times, two-le-times}
 use Rattle.its_core.specs.Frames.{Listed, as_list, without_frame, row, frames_map, frames_unmap}
 use Rattle.its_core.specs.Cores.{Reserved, core_at, reserved_at, clear_at}
 use Rattle.its_core.specs.Pool.{frame_of, held_frame, page_in, core_in, cores_in, frames_now, IsPool}
 use Rattle.its_core.proofs.ListLaws.{frame_words_zero}
 use Rattle.its_core.proofs.FrameLaws.{count_set, length-row, get_or-row, row-set, row-other, page_in_list, page_stands, reserved_stands, unmap_listed, map_listed}
-use Rattle.its_core.proofs.ReadLaws.{page_frame_is, page_frame_none, reserved_frame_is, listed_seen, core_at_is, page_at, page_of_is, held_below}
+use Rattle.its_core.proofs.ReadLaws.{page_frame_is, page_frame_none, reserved_frame_is, listed_seen, core_at_is, page_at, page_of_is, held_words}
 use Rattle.its_core.proofs.StoreLaws.{only_in}
 use Rattle.its_core.proofs.HeldLaws.{held_some}
-use Rattle.its_word.proofs.TableLaws.{length-table, table_alike, table_set}
+use Rattle.its_core.proofs.SlotLaws.{pages_whole}
+use Rattle.its_word.proofs.TableLaws.{table_alike, table_set}
 
 place_pages : (accs : List ℕ) (places : List (Option Mapped)) (words : List ℕ) (s k : ℕ) (o : Option Mapped) → k < 256 → 256 * s + k < length places
     → (core_in accs (slice_set places (256 * s + k) o) words s).pages ≡ slice_set (core_in accs places words s).pages k (page_in words o)
@@ -61,10 +62,6 @@ pub place_reserved : (accs : List ℕ) (places qlaces : List (Option Mapped)) (h
 unfolding cores_in
 place_reserved accs places qlaces held words links minks = refl
 
-pages_long : (accs : List ℕ) (places : List (Option Mapped)) (words : List ℕ) (s : ℕ) → length (core_in accs places words s).pages ≡ 256
-unfolding core_in
-pages_long accs places words s = length-table 256 (λ k. page_in words (slice_index_or places (256 * s + k) None))
-
 module _ (accs : List ℕ) (places : List (Option Mapped)) (held : List (Option Held)) (words : List ℕ) (links : Linked) (mapped : ℕ) (pool : IsPool accs places held words links mapped) where
   -- one page more or less in one core, and in all
   number_set : (gelt : List (Option Held)) (minks : Linked) (s k : ℕ) (o : Option Mapped) → s < slots → k < 256
@@ -74,7 +71,7 @@ module _ (accs : List ℕ) (places : List (Option Mapped)) (held : List (Option 
       let c = core_at (cores_in accs places held words links) s in
       let only = place_only accs places held gelt words links minks s k o lt h (omega arith) in
       let m = pages_mapped-only _ _ s _ only lt in
-      let l : length c.pages ≡ 256 = ap (λ d. length d.pages) (core_at_is accs places held words links s lt) ∙ pages_long accs places words s in
+      let l : length c.pages ≡ 256 = ap (λ d. length d.pages) (core_at_is accs places held words links s lt) ∙ pages_whole accs places words s in
       let p = pages_present-with_page c k (page_in words o) (omega arith) in
       let at : one_if (page_of c k) ≡ one_if (page_in words (slice_index_or places (256 * s + k) None)) = ap one_if (page_at accs places held words links mapped pool s k lt h) in
       let n = pool.number in
@@ -159,7 +156,7 @@ module _ (accs : List ℕ) (places : List (Option Mapped)) (held : List (Option 
           accs_long = pool.accs_long;
           places_long = length-set places (256 * s + k) None ∙ pl;
           held_long = pool.held_long;
-          words_long = pool.words_long;
+          ready = λ x below less. let r = pool.ready x below less in let a = count-append x free (m.frame ∷ []) in let z = ap (count x) (get_or-set_same mid 0 (free ++ m.frame ∷ []) [] (omega arith)) in omega arith;
           nodes = pool.nodes;
           heads = nl ∙ ml ∙ hl;
           listed = seen_now (slice_set places (256 * s + k) None) held (unmapped s m.frame) (subst Listed (sym (unmap_frames s k m e)) (unmap_seen s k m lt h e));
@@ -209,7 +206,7 @@ module _ (accs : List ℕ) (places : List (Option Mapped)) (held : List (Option 
         accs_long = pool.accs_long;
         places_long = length-set places (256 * s + k) o ∙ pl;
         held_long = pool.held_long;
-        words_long = pool.words_long;
+        ready = pool.ready;
         nodes = pool.nodes;
         heads = pool.heads;
         listed = seen_now (slice_set places (256 * s + k) o) held links (subst Listed (sym (protect_frames s k m w e)) (listed_seen accs places held words links mapped pool));
@@ -294,7 +291,7 @@ module _ (accs : List ℕ) (places : List (Option Mapped)) (held : List (Option 
         accs_long = pool.accs_long;
         places_long = length-set places (256 * t + k) o ∙ pl;
         held_long = length-set held s None ∙ hl;
-        words_long = pool.words_long;
+        ready = λ x below less. let r = pool.ready x below less in let z = ap (count x) (get_or-set_other links.lists (t + 1) 0 new [] (λ q. omega arith)) in omega arith;
         nodes = pool.nodes;
         heads = length-set links.lists (t + 1) new ∙ nl;
         listed = seen_now (slice_set places (256 * t + k) o) (slice_set held s None) (mapped_to t h.frame) (subst Listed (sym (map_frames s t k h e)) (map_seen s t k sl tl kl none));
@@ -322,9 +319,8 @@ module _ (accs : List ℕ) (places : List (Option Mapped)) (held : List (Option 
   unfolding zero_page
   zero_page_is s h e four =
       let c = pool.clear s h e in
-      let wl = pool.words_long in
-      let below = held_below accs places held words links mapped pool s h e in
-      ap (λ ws. Some (record { words = ws; writable = true })) (frame_words_zero words h.frame 1024 refl (omega arith) (λ k less. c.zeros k (omega arith)))
+      ap (λ ws. Some (record { words = ws; writable = true }))
+      (frame_words_zero words h.frame 1024 refl (held_words accs places held words links mapped pool s h e) (λ k less. c.zeros k (omega arith)))
 
   -- how many quarters are clear
   pub clear_is : (s n : ℕ) (h : Held) → slice_index_or held s None ≡ Some h → clear_at (cores_in accs places held words links) s ≡ Some n → h.clear ≡ n

@@ -10,10 +10,10 @@ use Rattle.its_word.proofs.CoreLaws.{in_accs, in_page, stores_acc, stores_page}
 use Rattle.its_word.proofs.PageLaws.{can_store-no_core}
 use Rattle.its_core.specs.declared.cores.Mapped.{Mapped}
 use Rattle.its_core.specs.declared.cores.Held.{Held}
-use Rattle.its_links.specs.Lists.{Linked}
+use Rattle.its_links.specs.Lists.{Linked, count, list_at}
 use Rattle.its_core.specs.Cores.{core_at, reserved_at}
 use Rattle.its_core.specs.Frames.{Listed, page_frame, reserved_frame, all_frames}
-use Rattle.its_core.proofs.FrameLaws.{one_slot, one_page, not_both, one_reserved, page_below, reserved_below}
+use Rattle.its_core.proofs.FrameLaws.{one_slot, one_page, not_both, one_reserved, page_below, reserved_below, page_not_free, reserved_not_free}
 use Rattle.its_core.specs.Pool.{frames_now, frame_of, held_frame, frame_words, page_in, reserved_in, core_in, cores_in, frames_in, IsPool, all_places}
 use Rattle.its_core.proofs.ListLaws.{length-frame_words, get_or-frame_words}
 use Rattle.its_word.proofs.TableLaws.{get_or-table, get-table, get_or-table_past}
@@ -153,16 +153,31 @@ module _ (accs : List ℕ) (places : List (Option Mapped)) (held : List (Option 
       let b = place_below p m e in
       page_below (frames_now places held links) pool.listed (p / 256) (p % 256) m.frame (omega arith) (omega arith) (page_frame_at p m e)
 
+  -- the words of a frame in use are ready
+  in_use : (x : ℕ) → x < all_frames → count x (list_at links.lists 0) ≡ 0 → 1024 * x + 1024 ≤ length words
+  in_use x lt none = elim (cases_lt (length words) (1024 * x + 1024)) [
+    | inl less ↦ let r = pool.ready x lt less in absurd (omega arith)
+    | inr ge ↦ ge
+  ]
+
+  pub place_words : (p : ℕ) (m : Mapped) → slice_index_or places p None ≡ Some m → 1024 * m.frame + 1024 ≤ length words
+  place_words p m e =
+      let b = place_below p m e in
+      in_use m.frame (frame_below p m e) (page_not_free (frames_now places held links) pool.listed (p / 256) (p % 256) m.frame (omega arith) (omega arith) (page_frame_at p m e))
+
   -- for `grind`, which needs the call to fit
   pub word_below : (p : ℕ) (m : Mapped) (k : ℕ) → slice_index_or places p None ≡ Some m → k < 1024
       → (slice_index_or places p None ≡ slice_index_or places p None) × (1024 * m.frame + k < length words)
-  word_below p m k e h = let b = frame_below p m e in let l = pool.words_long in (refl, omega arith)
+  word_below p m k e h = let b = place_words p m e in (refl, omega arith)
 
   pub held_frame_at : (s : ℕ) (h : Held) → slice_index_or held s None ≡ Some h → slice_index_or (frames_in places held) (all_places + s) None ≡ Some h.frame
   held_frame_at s h e = frame_at_held places held s pool.places_long ∙ ap held_frame e
 
   pub held_below : (s : ℕ) (h : Held) → slice_index_or held s None ≡ Some h → h.frame < all_frames
   held_below s h e = reserved_below (frames_now places held links) pool.listed s h.frame (reserved_frame_is s h e)
+
+  pub held_words : (s : ℕ) (h : Held) → slice_index_or held s None ≡ Some h → 1024 * h.frame + 1024 ≤ length words
+  held_words s h e = in_use h.frame (held_below s h e) (reserved_not_free (frames_now places held links) pool.listed s h.frame (reserved_frame_is s h e))
 
   -- the frames that contracts see
   pub listed_seen : Listed (cores_in accs places held words links).frames
@@ -179,17 +194,16 @@ module _ (accs : List ℕ) (places : List (Option Mapped)) (held : List (Option 
       in_page (core_at (cores_in accs places held words links) s) a (le-ltb a 16 ge)
       ∙ ap (λ p. word_in p (a % 1024)) (page_at s (a / 1024) lt (omega arith) ∙ ap (page_in words) e)
 
-  word_of_frame : (f k d : ℕ) → f < all_frames → k < 1024 → slice_get (frame_words words f) k ≡ Some (slice_index_or words (1024 * f + k) d)
-  word_of_frame f k d lt h =
-      let l = pool.words_long in
-      let n = length-frame_words words f (omega arith) in
+  word_of_frame : (f k d : ℕ) → 1024 * f + 1024 ≤ length words → k < 1024 → slice_get (frame_words words f) k ≡ Some (slice_index_or words (1024 * f + k) d)
+  word_of_frame f k d long h =
+      let n = length-frame_words words f long in
       slice_get-get_or (frame_words words f) k d (omega arith) ∙ ap Some (get_or-frame_words words f k d h)
 
   pub word_at_page : (s a d : ℕ) (m : Mapped) → s < slots → 16 ≤ a → a < 2 ^ 18 → slice_index_or places (256 * s + a / 1024) None ≡ Some m → word_at (core_at (cores_in accs places held words links) s) a ≡ Some (slice_index_or words (1024 * m.frame + a % 1024) d)
   word_at_page s a d m lt ge le e =
       in_page (core_at (cores_in accs places held words links) s) a (le-ltb a 16 ge)
       ∙ ap (λ p. word_in p (a % 1024)) (page_at s (a / 1024) lt (omega arith) ∙ ap (page_in words) e)
-      ∙ word_of_frame m.frame (a % 1024) d (frame_below (256 * s + a / 1024) m e) (omega arith)
+      ∙ word_of_frame m.frame (a % 1024) d (place_words (256 * s + a / 1024) m e) (omega arith)
 
   pub can_store_absent : (s a : ℕ) → s < slots → 16 ≤ a → a < 2 ^ 18 → slice_index_or places (256 * s + a / 1024) None ≡ None → can_store (core_at (cores_in accs places held words links) s) a ≡ false
   can_store_absent s a lt ge le e =
@@ -200,7 +214,7 @@ module _ (accs : List ℕ) (places : List (Option Mapped)) (held : List (Option 
   can_store_page s a m lt ge le e =
       stores_page (core_at (cores_in accs places held words links) s) a (le-ltb a 16 ge)
       ∙ ap (λ p. stores_in p (a % 1024)) (page_at s (a / 1024) lt (omega arith) ∙ ap (page_in words) e)
-      ∙ go m.writable (slice_get (frame_words words m.frame) (a % 1024)) (word_of_frame m.frame (a % 1024) 0 (frame_below (256 * s + a / 1024) m e) (omega arith))
+      ∙ go m.writable (slice_get (frame_words words m.frame) (a % 1024)) (word_of_frame m.frame (a % 1024) 0 (place_words (256 * s + a / 1024) m e) (omega arith))
     where
       go : (b : Bool) (o : Option ℕ) {w : ℕ} → o ≡ Some w → (if b then is_some o else false) ≡ b
       go true o e = ap is_some e

@@ -1,19 +1,20 @@
 -- A slot's core past its last page and address, and how many pages it has.
 use Rattle.std.specs.Prelude.{◌≡◌, ◌<◌, ◌≤◌, ◌^◌, ℕ, zero, suc, ◌+◌, ◌*◌, ◌/◌, ◌%◌, false, Option, Some, None, List, [], ◌∷◌, length, map, take, drop, slice_index_or, is_some, count_by, cond, refl}
-use Rattle.std.proofs.Common.{sym, ◌∙◌, ap, arith}
-use Rattle.std.proofs.lemmas.Bool.{le-ltb}
+use Rattle.std.proofs.Common.{sym, ◌∙◌, ap, arith, inl, inr, subst}
+use Rattle.std.proofs.lemmas.Bool.{cases_lt, le-ltb}
 use Rattle.std.proofs.lemmas.List.{ext_get_or, get_or-take, get_or-drop, length-take, length-drop, length-map}
 use Rattle.std.proofs.lemmas.List.Sums.{sum_by-cons}
-use Rattle.std.proofs.lemmas.Option.{slice_get_past}
-use Rattle.its_word.specs.Core.{Page, present, page_of, word_in, stores_in, word_at, can_store, pages_present}
+use Rattle.std.proofs.lemmas.Option.{slice_get_past, same_Some}
+use Rattle.its_word.specs.Core.{IsWhole, Page, present, page_of, word_in, stores_in, word_at, can_store, pages_present}
 use Rattle.its_word.specs.Limits.{slots}
 use Rattle.its_word.proofs.CoreLaws.{in_page, stores_page}
 use Rattle.its_core.specs.declared.cores.Mapped.{Mapped}
 use Rattle.its_core.specs.declared.cores.Held.{Held}
 use Rattle.its_core.specs.Cores.{core_at}
 use Rattle.its_links.specs.Lists.{Linked}
-use Rattle.its_core.specs.Pool.{page_in, core_in, cores_in, IsPool}
-use Rattle.its_core.proofs.ReadLaws.{core_at_is}
+use Rattle.its_core.specs.Pool.{frame_words, page_in, core_in, cores_in, IsPool}
+use Rattle.its_core.proofs.ListLaws.{length-frame_words}
+use Rattle.its_core.proofs.ReadLaws.{core_at_is, page_of_is, place_words}
 use Rattle.its_word.specs.Table.{table}
 use Rattle.its_word.proofs.TableLaws.{length-table, get_or-table}
 
@@ -71,6 +72,10 @@ pages_are accs places words s h =
     ∙ ap (page_in words) (sym (get_or-take 256 (drop (256 * s) places) k None i ∙ get_or-drop (256 * s) places k None))
     ∙ sym (get_or-pages words xs k))
 
+pub pages_whole : (accs : List ℕ) (places : List (Option Mapped)) (words : List ℕ) (s : ℕ) → length (core_in accs places words s).pages ≡ 256
+unfolding core_in
+pages_whole accs places words s = length-table 256 (λ k. page_in words (slice_index_or places (256 * s + k) None))
+
 module _ (accs : List ℕ) (places : List (Option Mapped)) (held : List (Option Held)) (words : List ℕ) (lists : Linked) (mapped : ℕ) (pool : IsPool accs places held words lists mapped) where
   number : (s : ℕ) → s < slots → pages_present (core_at (cores_in accs places held words lists) s) ≡ count_by is_some (take 256 (drop (256 * s) places))
   unfolding pages_present
@@ -84,3 +89,31 @@ module _ (accs : List ℕ) (places : List (Option Mapped)) (held : List (Option 
   unfolding pages_present
   pages_number s a n lt e f =
       rw (e, f) (sym (number s lt))
+
+  -- the core of a slot is whole
+  accs_whole : (s : ℕ) → s < slots → length (core_in accs places words s).accs ≡ 16
+  unfolding core_in
+  accs_whole s lt =
+      let l = pool.accs_long in
+      let a = length-take 16 (drop (16 * s) accs) in
+      let b = length-drop (16 * s) accs in
+      omega arith
+
+  page_whole : (i : ℕ) (p : Page) → page_in words (slice_index_or places i None) ≡ Some p → length p.words ≡ 1024
+  page_whole i p h = go (slice_index_or places i None) refl h
+    where
+      go : (o : Option Mapped) → slice_index_or places i None ≡ o → page_in words o ≡ Some p → length p.words ≡ 1024
+      go None e r = cc
+      go (Some m) e r =
+          ap (λ q. length q.words) (sym (same_Some (record { words = frame_words words m.frame; writable = m.writable }) p r))
+          ∙ length-frame_words words m.frame (place_words accs places held words lists mapped pool i m e)
+
+  pub whole_core : (s : ℕ) → s < slots → IsWhole (core_at (cores_in accs places held words lists) s)
+  whole_core s lt = subst IsWhole (sym (core_at_is accs places held words lists s lt)) (record {
+    accs = accs_whole s lt;
+    pages = pages_whole accs places words s;
+    words = λ k p e. elim (cases_lt k 256) [
+      | inl less ↦ page_whole (256 * s + k) p (sym (page_of_is accs places words s k less) ∙ e)
+      | inr ge ↦ let none = page_past accs places words s k ge in cc
+    ];
+  })

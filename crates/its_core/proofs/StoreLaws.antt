@@ -63,7 +63,7 @@ module _ (accs : List ℕ) (places : List (Option Mapped)) (held : List (Option 
     accs_long = length-set accs (16 * s + a) w ∙ pool.accs_long;
     places_long = pool.places_long;
     held_long = pool.held_long;
-    words_long = pool.words_long;
+    ready = pool.ready;
     nodes = pool.nodes;
     heads = pool.heads;
     listed = pool.listed;
@@ -155,7 +155,7 @@ module _ (accs : List ℕ) (places : List (Option Mapped)) (held : List (Option 
     accs_long = pool.accs_long;
     places_long = pool.places_long;
     held_long = pool.held_long;
-    words_long = length-set words (1024 * m.frame + a % 1024) w ∙ pool.words_long;
+    ready = λ x below less. let l = length-set words (1024 * m.frame + a % 1024) w in pool.ready x below (omega arith);
     nodes = pool.nodes;
     heads = pool.heads;
     listed = pool.listed;

@@ -1,16 +1,17 @@
 -- How the cores of all slots are kept: a pool of page frames of 1024 words, a map from each page of each slot to its
--- frame, the frames of reserved pages, and the lists in which the frames stand.
+-- frame, the frames of reserved pages, and the lists in which the frames stand. A frame has its words from the time
+-- when it is first reserved: then the words are made ready, up to its last, and till then it is free.
 use Rattle.std.specs.Prelude.{◌≡◌, ◌<◌, ◌≤◌, ℕ, ◌+◌, ◌*◌, Option, Some, None, List, ◌++◌, length, map, take, drop, slice_index_or, option_map, is_some, count_by}
 use Rattle.its_word.specs.Core.{Core, Page, pages_mapped}
 use Rattle.its_word.specs.Limits.{slots, most_pages}
-use Rattle.its_links.specs.Lists.{Linked, list_at}
+use Rattle.its_links.specs.Lists.{Linked, count, list_at}
 use Rattle.its_core.specs.Cores.{Cores, Reserved, core_at}
 use Rattle.its_core.specs.Frames.{Frames, Listed, all_frames, row}
 use Rattle.its_core.specs.declared.cores.Mapped.{Mapped}
 use Rattle.its_core.specs.declared.cores.Held.{Held}
 use Rattle.its_word.specs.Table.{table}
 
--- how many accumulators all slots have, how many places for pages, and how many words the frames have
+-- how many accumulators all slots have, how many places for pages, and how many words all frames have
 abbrev pub all_accs : ℕ
 all_accs = 16 * slots
 
@@ -69,7 +70,8 @@ pub record IsPool (accs : List ℕ) (places : List (Option Mapped)) (held : List
   pub accs_long : length accs ≡ all_accs
   pub places_long : length places ≡ all_places
   pub held_long : length held ≡ slots
-  pub words_long : length words ≡ all_words
+  -- a frame whose words are not all ready is free
+  pub ready : (x : ℕ) → x < all_frames → length words < 1024 * x + 1024 → 0 < count x (list_at links.lists 0)
   pub nodes : links.nodes ≡ all_frames
   pub heads : length links.lists ≡ slots + 1
   pub listed : Listed (frames_now places held links)

@@ -1,5 +1,5 @@
 ghost use Rattle.std.specs.Prelude.{◌≡◌, ◌≢◌, ◌<◌, ◌≤◌, ◌+◌, ◌-◌, ◌*◌, ◌/◌, ◌^◌, ◌++◌, ℕ, List, length, is_some, slice_set, true, false, Some, None, IsSome, IsErr, OnOk, OnErr, IfOk, IfErr, IsOk, Ok, Err, count_by, slice_index_or, option_map, ◌↔◌, IfSome};
-ghost use Rattle.its_word.specs.Core.{acc_at, get as got_at, put as put_at, word_at, can_store, store, page_of, pages_present, with_page, zero_page, marked, no_core, pages_mapped};
+ghost use Rattle.its_word.specs.Core.{IsWhole, acc_at, get as got_at, put as put_at, word_at, can_store, store, page_of, pages_present, with_page, zero_page, marked, no_core, pages_mapped};
 ghost use Rattle.its_word.specs.Limits.{slots, most_pages};
 ghost use Rattle.its_word.specs.Only.{Only};
 ghost use Rattle.its_core.specs.Frames.{all_frames, free, numbers, row, emptied, Listed, frames_reserve, frames_give_back, frames_map, frames_unmap, frames_drop_all};
@@ -10,7 +10,7 @@ ghost use Rattle.its_core.specs.Cores.{core_at, reserved_at, clear_at, clear_wit
 mod tests;
 
 use its_links::Links;
-use its_word::{ADDRESSES, MAPPED_PAGES, NoAccess, NoMemory, SLOTS, Word, filled};
+use its_word::{ADDRESSES, MAPPED_PAGES, NoAccess, NoMemory, ReadyWords, SLOTS, Word, filled};
 use std::alloc::Global;
 use std::marker::Model;
 
@@ -51,20 +51,21 @@ pub struct Core {
     accs: Vec<Word>,
     places: Vec<Option<Mapped>>,
     held: Vec<Option<Held>>,
-    words: Vec<Word>,
+    words: ReadyWords,
     lists: Links,
     mapped: u32,
 }
 
 impl Model for Core {
+    ghost use Rattle.std.specs.Prelude.{◌≡◌};
     ghost use Rattle.its_core.specs.Cores.{Cores};
-    ghost use Rattle.its_core.specs.Pool.{cores_in, IsPool};
+    ghost use Rattle.its_core.specs.Pool.{all_words, cores_in, IsPool};
 
     ghost Value = { Cores };
 
-    ghost view = { λ c. cores_in c.accs.items c.places.items c.held.items c.words.items c.lists };
+    ghost view = { λ c. cores_in c.accs.items c.places.items c.held.items c.words.words c.lists };
 
-    ghost invariant = { λ c. IsPool c.accs.items c.places.items c.held.items c.words.items c.lists c.mapped };
+    ghost invariant = { λ c. IsPool c.accs.items c.places.items c.held.items c.words.words c.lists c.mapped × (c.words.most ≡ all_words) };
 }
 
 /// Where an accumulator of a slot stands.
@@ -124,6 +125,13 @@ fn word_index(frame: u32, at: u32) -> usize
     frame as usize * PAGE_WORDS + at as usize
 }
 
+/// Where the words of a frame end.
+fn frame_end(frame: u32) -> usize
+    ensures { result ≡ 1024 * frame + 1024 }
+{
+    (frame as usize + 1) * PAGE_WORDS
+}
+
 /// The list of the frames of a slot's pages.
 fn list_of(slot: u8) -> u32
     ensures { result ≡ slot + 1 }
@@ -168,6 +176,20 @@ fn clear(words: &mut Vec<Word>, first: usize, n: usize)
     }
 }
 
+/// Clears a quarter of a frame, whose words are ready.
+#[tactic(auto, using(crate::proofs::ListLaws::zeroed_none, crate::proofs::ListLaws::zeroed_more))]
+fn clear_frame_quarter(words: &mut ReadyWords, frame: u32, q: u8)
+    requires quarter { q < 4 }
+    requires ready { 1024 * frame + 1024 ≤ length words.old.words }
+    ensures words { words.new.words ≡ zeroed (1024 * frame + 256 * q) 256 words.old.words }
+    ensures most { words.new.most ≡ words.old.most }
+{
+    let first = word_index(frame, 256 * u32::from(q));
+    for k in 0..256 {
+        words.set(first + k, Word::ZERO);
+    }
+}
+
 /// How many quarters are clear after quarter q was cleared.
 fn quarters_clear(q: u8, clear: u8) -> u8
     requires { q < 4 }
@@ -182,7 +204,7 @@ pub struct Full;
 
 impl Core {
     /// No slot has a page or a reserved page, all accumulators are 0, and all frames are free, in
-    /// rising order. Takes all the memory that the pages of all slots need.
+    /// rising order. Takes all the memory that the pages of all slots need; no word of it is ready.
     pub fn open(alloc: Global) -> Result<Core, NoMemory>
         ensures { IfOk result IsEmpty }
     {
@@ -190,7 +212,7 @@ impl Core {
             accs: filled(alloc, Word::ZERO, SLOTS * SLOT_ACCS)?,
             places: filled(alloc, None, SLOTS * SLOT_PAGES)?,
             held: filled(alloc, None, SLOTS)?,
-            words: filled(alloc, Word::ZERO, FRAMES as usize * PAGE_WORDS)?,
+            words: ReadyWords::open(alloc, FRAMES as usize * PAGE_WORDS)?,
             lists: all_free(alloc)?,
             mapped: 0,
         })
@@ -209,7 +231,7 @@ impl Core {
             return Ok(self.accs[acc_index(slot, a)]);
         }
         match mapped_in(&self.places, slot, (a / 1024) as u8) {
-            Some(m) => Ok(self.words[word_index(m.frame, a % 1024)]),
+            Some(m) => Ok(self.words.get(word_index(m.frame, a % 1024))),
             None => Err(NoAccess::Absent),
         }
     }
@@ -234,7 +256,7 @@ impl Core {
         }
         match mapped_in(&self.places, slot, (a / 1024) as u8) {
             Some(m) if m.writable => {
-                self.words[word_index(m.frame, a % 1024)] = w;
+                self.words.set(word_index(m.frame, a % 1024), w);
                 Ok(())
             }
             Some(_) => Err(NoAccess::ReadOnly),
@@ -277,7 +299,7 @@ impl Core {
             return None;
         }
         let m = mapped_in(&self.places, slot, (a / 1024) as u8)?;
-        Some(self.words[word_index(m.frame, a % 1024)])
+        Some(self.words.get(word_index(m.frame, a % 1024)))
     }
 
     /// Whether a word can be stored at an address of a slot: its page is present and writable. Past
@@ -313,12 +335,13 @@ impl Core {
         ensures number { result ≡ pages_mapped (core_at self.now) }
         ensures most { result ≤ most_pages }
         ensures listed { Listed self.now.frames }
+        ensures whole { (s : ℕ) → s < slots → IsWhole (core_at self.now s) }
     {
         self.mapped
     }
 
-    /// Reserves a page for a slot, in the first of the free frames. None of its quarters counts as
-    /// clear.
+    /// Reserves a page for a slot, in the first of the free frames, whose words are made ready. None of
+    /// its quarters counts as clear.
     pub fn reserve(&mut self, slot: u8)
         requires slot { slot < slots }
         requires none { reserved_at self.old slot ≡ None }
@@ -330,6 +353,7 @@ impl Core {
         ensures listed { Listed self.new.frames }
     {
         let frame = self.lists.pop_front(FREE).unwrap();
+        self.words.make_ready(frame_end(frame));
         self.held[usize::from(slot)] = Some(Held { frame, clear: 0 });
     }
 
@@ -353,8 +377,7 @@ impl Core {
         ensures frames { self.new.frames ≡ self.old.frames }
     {
         let h = held_in(&self.held, slot);
-        let first = word_index(h.frame, 256 * u32::from(q));
-        clear(&mut self.words, first, 256);
+        clear_frame_quarter(&mut self.words, h.frame, q);
         self.held[usize::from(slot)] = Some(Held {
             frame: h.frame,
             clear: quarters_clear(q, h.clear),

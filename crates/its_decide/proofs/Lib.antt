@@ -1,7 +1,4 @@
-pub mod BareLaws
-pub mod ChannelLaws
 pub mod FileLaws
 pub mod InferiorLaws
 pub mod PageLaws
 pub mod ReachLaws
-pub mod StopLaws

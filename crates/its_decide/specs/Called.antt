@@ -1,16 +1,6 @@
 -- What the call of a caller looks at.
-use Rattle.std.specs.Prelude.{if◌then◌else◌, ℕ, not, Option, Some, None, List, [], ◌∷◌, nat_lt, slice_index_or}
-use Rattle.its_word.specs.Core.{Core, can_store}
-use Rattle.its_word.specs.declared.access.Fault.{Fault}
-use Rattle.its_word.specs.declared.access.Fault.TheVariants.{Mpv, Wro}
-use Rattle.its_word.specs.declared.jobs.Channel.{Channel}
-use Rattle.its_word.specs.declared.jobs.Channel.TheVariants.{Closed}
-use Rattle.its_word.specs.declared.jobs.Job.{Job}
-use Rattle.its_frame.specs.declared.decision.Decision.{Decision}
-use Rattle.its_plain.specs.CallTty.{is_absent}
 use Rattle.its_plain.specs.Decide.{target}
 use Rattle.its_plain.specs.Machine.{Whole}
-use Rattle.its_plain.specs.Tests.{Test}
 use Rattle.its_plain.specs.View.{View, view}
 use Rattle.its_decide.specs.Seen.{machine_seen, raw_with}
 use Rattle.its_decide.specs.declared.caller.Caller.{Caller}
@@ -21,16 +11,3 @@ raw c = raw_with c.seen.now c.slot c.job.now
 
 abbrev pub looks : Caller → View
 looks c = view (machine_seen c.seen.now) c.slot (raw c) (target (raw c) c.ask.now)
-
--- the channel of some registers under a number; above 17 (octal) there is none that is open
-abbrev pub channel_under : Job → ℕ → Channel
-channel_under j n = if nat_lt n 16 then slice_index_or j.channels n Closed else Closed
-
--- why a word cannot be stored
-abbrev pub bar_of : Core → ℕ → Option Fault
-bar_of c p = if is_absent c p then Some Mpv else (if not (can_store c p) then Some Wro else None)
-
--- the first test that holds, where one does
-abbrev pub first_of : List Test → Option Decision
-first_of [] = None
-first_of (t ∷ ts) = if t.holds then Some t.stop else first_of ts

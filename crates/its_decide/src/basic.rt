@@ -1,16 +1,14 @@
 //! SLEEP, DISMIS, LOGOUT and REALT.
 ghost use Rattle.std.specs.Prelude.{◌≡◌, ◌<◌};
-ghost use Rattle.its_plain.specs.CallBasic.{dismiss, logout, popped, realt, sleep};
-ghost use Rattle.its_plain.specs.Interrupt.{dismissed};
+ghost use Rattle.its_plain.specs.CallBasic.{dismiss, logout, realt, sleep};
 ghost use Rattle.its_plain.specs.OperatorClock.{clock_end};
-ghost use Rattle.its_core.specs.Cores.{core_at};
-ghost use Rattle.its_parts.specs.Parts.{bare};
 ghost use Rattle.its_decide.specs.Called.{looks};
 
 use super::caller::Caller;
 use super::ends::{ends, store_at};
 use arrayvec::ArrayVec;
-use its_frame::{Change, Decision, Exit, Wait, error};
+use its_frame::{Change, Decision, Wait, error};
+use its_ints::{dismiss as dismissed, popped};
 use its_word::{Fault, Word};
 
 /// The longest sleep, and the longest period of an alarm, in thirtieths.
@@ -21,9 +19,6 @@ const WORDS: u64 = 0o1000000000000;
 
 /// From this value on a word has bit 0 on.
 const BIT_0: u64 = 0o400000000000;
-
-/// How much is taken from each half of the stack pointer word, modulo 1000000 (octal).
-const FIVE_LESS: u32 = 0o1000000 - 5;
 
 impl Caller<'_> {
     /// SLEEP n: for n above 0 its argument becomes minus the time of waking; for n below 0 it waits for that time. Errors 22
@@ -82,27 +77,16 @@ impl Caller<'_> {
 
     /// DISMIS p: PC, flags and deferrals come from the words that a delivery pushed, and 5 is taken from each half of the stack
     /// pointer word at p. Error 17 where p is immediate; MPV where one of the words is absent, else WRO where p is read only.
-    #[tactic(auto, unfolding(its_plain::specs::CallBasic::dismiss, its_plain::specs::View::view))]
+    #[tactic(auto, using(its_parts::proofs::BareLaws::dismissed_bare), unfolding(its_plain::specs::CallBasic::dismiss, its_plain::specs::View::view))]
     pub(crate) fn dismiss(&self) -> Decision
         ensures { result ≡ dismiss (looks self.now) self.now.ask.now }
     {
         match self.place(0) {
-            Some(p) => match self.dismissed(p) {
+            Some(p) => match dismissed(self.seen.core, self.job, self.slot, p) {
                 Ok(exit) => ends(None, store_at(Some(p), popped(self.input(0))), exit),
                 Err(fault) => self.faults(fault),
             },
             None => self.fails(error::NO_WORD),
-        }
-    }
-
-    /// The registers that DISMIS leaves the caller with.
-    #[tactic(auto, using(crate::proofs::BareLaws::dismissed_absent, crate::proofs::BareLaws::dismissed_bare))]
-    fn dismissed(&self, p: u32) -> Result<Exit, Fault>
-        ensures { result ≡ dismissed (core_at self.now.seen.now.core.now self.now.slot) (bare self.now.job.now) p }
-    {
-        match self.seen.core.word(self.slot, p) {
-            Some(_) => its_ints::dismiss(self.seen.core, self.job, self.slot, p),
-            None => Err(Fault::Mpv),
         }
     }
 
@@ -117,11 +101,4 @@ impl Caller<'_> {
         }
         Decision::Gone { changes }
     }
-}
-
-/// The stack pointer word without the five words of a delivery.
-fn popped(pointer: Word) -> Word
-    ensures { result ≡ popped pointer }
-{
-    Word::pair(pointer.left() + FIVE_LESS, pointer.right() + FIVE_LESS)
 }

@@ -29,7 +29,7 @@ impl Caller<'_> {
     /// CORBLK operation, job, page: drops a page (0), makes one of zeros (1), or makes it read only (2) or writable (3). Errors
     /// 22, 4, 5; 22 by the page, 16 where it is there, for operation 1, or not there, for any other; 15 where all jobs together
     /// have 1024 pages.
-    #[tactic(auto, using(crate::proofs::ChannelLaws::under, crate::proofs::InferiorLaws::targeted), unfolding(its_plain::specs::CallCore::corblk, its_plain::specs::View::view))]
+    #[tactic(auto, using(its_parts::proofs::NumberLaws::under, crate::proofs::InferiorLaws::targeted), unfolding(its_plain::specs::CallCore::corblk, its_plain::specs::View::view))]
     pub(crate) fn corblk(&self) -> Decision
         requires fail { self.now.ask.now.fail ≡ 0 }
         requires name { call_named self.now.ask.now.name ≡ Some Corblk }

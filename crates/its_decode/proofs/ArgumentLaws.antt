@@ -9,38 +9,10 @@ use Rattle.its_word.specs.ArrayVec.{ArrayVec}
 use Rattle.its_word.specs.Core.{Core}
 use Rattle.its_word.specs.declared.access.Fault.{Fault}
 use Rattle.its_word.specs.declared.calls.Arg.{Arg}
-use Rattle.its_word.specs.declared.calls.Kind.{Kind}
 use Rattle.its_word.specs.declared.calls.Kind.TheVariants as kinds
 use Rattle.its_word.specs.declared.calls.Placed.{Placed}
-use Rattle.its_plain.specs.Traced.{Traced, also, gives, goes_on}
-use Rattle.its_plain.specs.Decode.{argument, argument_at, arguments, held, storable}
-
--- an argument whose address is found reads nothing more
-unread_also : {X Y : Type 0} (m : Traced X) (k : X → Traced Y) → m.reads ≡ [] → ((x : X) → (k x).reads ≡ []) → (also m k).reads ≡ []
-unfolding also
-unread_also {X = X} m k hm hk = go m.answer
-  where
-    go : (r : Result X Fault) → (goes_on m.reads m.tests r k).reads ≡ []
-    go (Ok x) = ap (λ rs. rs ++ (k x).reads) hm ∙ hk x
-    go (Err f) = hm
-
-unread_held : (c : Core) (p : ℕ) → (held c p).reads ≡ []
-unfolding held
-unread_held c p = refl
-
-unread_storable : (c : Core) (p : ℕ) → (storable c p).reads ≡ []
-unfolding storable
-unread_storable c p = refl
-
-pub unread : (k : Kind) (c : Core) (e : ℕ) → (argument_at k c e).reads ≡ []
-unfolding argument_at
-unread kinds.Input c e = unread_also (held c e) _ (unread_held c e) (λ p. refl)
-unread kinds.Immediate c e = refl
-unread kinds.Output c e = unread_also (storable c e) _ (unread_storable c e) (λ p. refl)
-unread kinds.ErrorAt c e = unread_also (storable c e) _ (unread_storable c e) (λ p. refl)
-unread kinds.Control c e = unread_also (held c e) _ (unread_held c e) (λ p. refl)
-unread kinds.ImmediateControl c e = refl
-unread kinds.Other c e = refl
+use Rattle.its_plain.specs.Traced.{also, gives, goes_on}
+use Rattle.its_plain.specs.Decode.{argument, arguments}
 
 -- what is left of the arguments, after some words
 pub record Finding (c : Core) (words : List ℕ) (used : ℕ) (reads rest : List ℕ) (now : ℕ) (found : List Arg) (seen : List ℕ) : Type 0 where

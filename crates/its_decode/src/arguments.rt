@@ -71,7 +71,7 @@ fn argument_at(core: &Core, slot: u8, kind: Kind, e: u32) -> Result<Arg, Fault>
 
 /// The argument of an argument word, where so much of the budget of 64 indirect words is used. `reads`
 /// gets the places of the words that are read.
-#[tactic(auto, using(its_plain::proofs::TracedLaws::joined, its_plain::proofs::TracedLaws::ended, crate::proofs::ArgumentLaws::unread), unfolding(its_plain::specs::Decode::argument, its_plain::specs::Traced::also, its_plain::specs::Traced::located))]
+#[tactic(auto, using(its_plain::proofs::TracedLaws::joined, its_plain::proofs::TracedLaws::ended, its_local::proofs::TracedLaws::unread), unfolding(its_plain::specs::Decode::argument, its_plain::specs::Traced::also, its_plain::specs::Traced::located))]
 fn argument(
     core: &Core,
     slot: u8,

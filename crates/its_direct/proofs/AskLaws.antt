@@ -14,14 +14,14 @@ use Rattle.its_word.specs.declared.access.Fault.TheVariants.{Ilo}
 use Rattle.its_word.specs.declared.calls.Arg.{Arg}
 use Rattle.its_word.specs.declared.calls.Arg.TheVariants.{Input, Output, ErrorAt, Control}
 use Rattle.its_word.specs.declared.calls.Ask.{Ask}
-use Rattle.its_word.specs.declared.calls.Kind.{Kind}
 use Rattle.its_word.specs.declared.calls.Kind.TheVariants as kinds
 use Rattle.its_word.specs.declared.calls.Placed.{Placed}
 use Rattle.its_word.specs.declared.calls.Site.{Site}
 use Rattle.its_plain.specs.UnitPlan.{given}
-use Rattle.its_plain.specs.Traced.{Traced, Located, also, gives, goes_on, located, located_by, word}
-use Rattle.its_plain.specs.Decode.{Shape, argument, argument_at, argument_words, arguments, ask, ask_by, ask_of, block_at, checked, control_of, error_at_of, has_bit_0, held, input_of, is_legal, kind_of, operand_of, output_of, parsed, place_of, shaped, storable, up_to_last, value_of, words_of}
-use Rattle.its_direct.specs.Asking.{Reads, Sorts, ask_from, first_of, no_parts, parts_of, sorted_by, with_argument}
+use Rattle.its_plain.specs.Traced.{Traced, Located, also, gives, located, located_by, word}
+use Rattle.its_plain.specs.Decode.{Shape, argument, argument_at, argument_words, arguments, ask, ask_by, ask_of, block_at, checked, control_of, error_at_of, has_bit_0, input_of, is_legal, kind_of, operand_of, output_of, parsed, place_of, shaped, up_to_last, value_of, words_of}
+use Rattle.its_local.proofs.TracedLaws.{also_err, also_ok, unread}
+use Rattle.its_direct.specs.Asking.{Reads, Sorts, ask_from, first_error, no_parts, parts_of, sorted_by, with_argument}
 use Rattle.its_direct.specs.declared.sorting.Parts.{Parts}
 
 -- what is left of a reading, behind what was read so far
@@ -36,14 +36,6 @@ pub left_as : {X : Type 0} (a b whole : Traced X) (seen start : List ℕ) → a 
 left_as a b whole seen start e l = record { answer = ap (λ t. t.answer) e ∙ l.answer; places = ap (λ t. seen ++ t.reads) e ∙ l.places }
 
 -- a part is read, and has a value or a fault
-also_ok : {X Y : Type 0} (m : Traced X) (k : X → Traced Y) (x : X) → m.answer ≡ Ok x → also m k ≡ goes_on m.reads m.tests (Ok x) k
-unfolding also
-also_ok m k x e = ap (λ r. goes_on m.reads m.tests r k) e
-
-also_err : {X Y : Type 0} (m : Traced X) (k : X → Traced Y) (f : Fault) → m.answer ≡ Err f → also m k ≡ goes_on m.reads m.tests (Err f) k
-unfolding also
-also_err m k f e = ap (λ r. goes_on m.reads m.tests r k) e
-
 pub goes : {X Y : Type 0} (m : Traced X) (k : X → Traced Y) (x : X) (whole : Traced Y) (seen start new : List ℕ) → Left (also m k) whole seen start → Reads m (Ok x) seen new
     → Left (k x) whole new start
 goes m k x whole seen start new l r =
@@ -176,32 +168,6 @@ pub block_illegal : (c : Core) (e : ℕ) (block : ArrayVec ℕ) (start new : Lis
 block_illegal c e block start new x is = checked_answer c e block false (Err Ilo) start new x is refl
 
 -- an argument: where its address is found, nothing more is read
-unread_also : {X Y : Type 0} (m : Traced X) (k : X → Traced Y) → m.reads ≡ [] → ((x : X) → (k x).reads ≡ []) → (also m k).reads ≡ []
-unfolding also
-unread_also {X = X} m k hm hk = go m.answer
-  where
-    go : (r : Result X Fault) → (goes_on m.reads m.tests r k).reads ≡ []
-    go (Ok x) = ap (λ rs. rs ++ (k x).reads) hm ∙ hk x
-    go (Err f) = hm
-
-unread_held : (c : Core) (p : ℕ) → (held c p).reads ≡ []
-unfolding held
-unread_held c p = refl
-
-unread_storable : (c : Core) (p : ℕ) → (storable c p).reads ≡ []
-unfolding storable
-unread_storable c p = refl
-
-pub unread : (k : Kind) (c : Core) (e : ℕ) → (argument_at k c e).reads ≡ []
-unfolding argument_at
-unread kinds.Input c e = unread_also (held c e) _ (unread_held c e) (λ p. refl)
-unread kinds.Immediate c e = refl
-unread kinds.Output c e = unread_also (storable c e) _ (unread_storable c e) (λ p. refl)
-unread kinds.ErrorAt c e = unread_also (storable c e) _ (unread_storable c e) (λ p. refl)
-unread kinds.Control c e = unread_also (held c e) _ (unread_held c e) (λ p. refl)
-unread kinds.ImmediateControl c e = refl
-unread kinds.Other c e = refl
-
 located_ok : (c : Core) (w used : ℕ) (a : Address) (after : ℕ) (old mid : List ℕ) → Ok a ≡ (address c w used).answer → mid ≡ old ++ (address c w used).reads → after ≡ (address c w used).used
     → Reads (located c w used) (Ok (record { at = a; used = after })) old mid
 unfolding located
@@ -259,7 +225,7 @@ one_more f xs x ys e = ap (λ zs. filter_map f xs ++ zs) (sym e) ∙ sym (filter
 none_more : {X : Type 0} (f : Arg → Option X) (xs : List Arg) (x : Arg) → filter_map f (x ∷ []) ≡ [] → filter_map f xs ≡ filter_map f (xs ++ x ∷ [])
 none_more f xs x e = sym (append-nil (filter_map f xs)) ∙ one_more f xs x [] e
 
-first_more : (ys : List ℕ) (y : ℕ) → first_of (slice_get ys 0) y ≡ slice_get (ys ++ y ∷ []) 0
+first_more : (ys : List ℕ) (y : ℕ) → first_error (slice_get ys 0) y ≡ slice_get (ys ++ y ∷ []) 0
 first_more [] y = refl
 first_more (z ∷ zs) y = refl
 

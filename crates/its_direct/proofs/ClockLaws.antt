@@ -1,9 +1,8 @@
 -- CLOCK: the alarms that are due go, slot after slot.
-use Rattle.std.specs.Prelude.{if◌then◌else◌, ◌==◌, ◌≡◌, ◌≢◌, ◌≤◌, ◌<◌, ◌+◌, ◌-◌, ◌*◌, ◌/◌, ◌%◌, ◌&&◌, ◌||◌, ◌^◌, ℕ, Bool, true, false, Option, Some, None, IfSome, is_some, List, option_map, Ok, Err, length, nat_lt, slice_set, slice_index_or, refl}
+use Rattle.std.specs.Prelude.{◌==◌, ◌≡◌, ◌≢◌, ◌≤◌, ◌<◌, ◌+◌, ◌-◌, ◌&&◌, ◌||◌, ℕ, Bool, true, false, Option, Some, None, IfSome, is_some, List, option_map, Ok, Err, length, nat_lt, slice_set, slice_index_or, refl}
 use Rattle.std.proofs.Common.{sym, ◌∙◌, ap, subst, inl, inr, arith}
-use Rattle.std.proofs.lemmas.Bool.{cases_eq, cases_lt, eq-eqb, eqb-true, ne_eqb, lt-ltb, le-ltb, le-leb, lt-leb}
+use Rattle.std.proofs.lemmas.Bool.{cases_eq, eq-eqb, eqb-true, ne_eqb, lt-ltb, le-ltb, le-leb, lt-leb}
 use Rattle.std.proofs.lemmas.List.{get_or-set_same, get_or-set_other}
-use Rattle.std.proofs.lemmas.Nat.{mod_below, div-add-mod'}
 use Rattle.its_word.specs.Limits.{slots}
 use Rattle.its_word.specs.declared.jobs.Job.{Job}
 use Rattle.its_word.specs.declared.session.Reason.TheVariants as reasons
@@ -11,19 +10,20 @@ use Rattle.its_core.specs.Cores.{core_at, clear_at}
 use Rattle.its_files.specs.Files.{Store, directory}
 use Rattle.its_jobs.specs.Table.{job_at, superior_at}
 use Rattle.its_plain.specs.Alarm.{is_due, time_after}
-use Rattle.its_plain.specs.CallBasic.{longest_period}
 use Rattle.its_plain.specs.Change.{in_job, with_alarm}
 use Rattle.its_plain.specs.Job.{ALR, with_pending}
-use Rattle.its_plain.specs.Machine.{Whole, Machine}
+use Rattle.its_plain.specs.Machine.{Machine}
 use Rattle.its_plain.specs.OperatorClock.{alarm_in, due, rung_if, at_clock, clocked_if, clocked, clock_end}
 use Rattle.its_plain.proofs.MachineLaws.{machine_is}
-use Rattle.its_stepped.specs.Alarmed.{Coming, Alarmed}
-use Rattle.its_stepped.proofs.AlarmLaws.{one_more}
+use Rattle.its_stepped.specs.Alarmed.{Periodic, Alarmed}
+use Rattle.its_stepped.proofs.AlarmLaws.{coming_periodic}
 use Rattle.its_parts.specs.Across.{Across}
 use Rattle.its_parts.specs.Parts.{alarm_at, console_at, holder_at, symbols_at, raw_of}
 use Rattle.its_parts.proofs.PartLaws.{slot_at}
 use Rattle.its_direct.specs.Plain.{machine_of, is_touched, no_slots, Tidy, JobBecomes}
-use Rattle.its_direct.specs.Clock.{AlarmBecomes, Clocks, Periodic, Periods, RangAt, RangBelow}
+use Rattle.its_plain.specs.Own.{with_registers}
+use Rattle.its_parts.proofs.TimeLaws.{rung_slot, below_next}
+use Rattle.its_direct.specs.Clock.{AlarmBecomes, Clocks, Periods, RangAt, RangBelow}
 use Rattle.its_direct.specs.declared.plain.Plain.{Plain}
 use Rattle.its_direct.proofs.SlotLaws.{IsPlaced, placed_at, slot_machine, slot_tidy, touched_machine, touched_tidy}
 use Rattle.its_direct.proofs.TouchLaws.{none_touched}
@@ -37,35 +37,11 @@ pub alarm_shown : (p : Plain) (k : ℕ) → Tidy p → alarm_at p.alarms.items k
 unfolding machine_of
 alarm_shown p k tidy = alarm_by p.files p k (job_at p.jobs k) (tidy.quiet k)
 
-coming_periodic : (c : ℕ) (o : Option (ℕ × ℕ)) → IfSome o (λ a. Coming c a) → IfSome o Periodic
-coming_periodic c (Some a) h = record { some = h.some; most = h.most }
-coming_periodic c None h = tt
-
 pub periods_kept : (p new : Plain) → Alarmed (machine_of p) → Tidy p → new.alarms ≡ p.alarms → Periods new
 periods_kept p new a tidy same k =
     subst (λ (o : Option (ℕ × ℕ)). IfSome o Periodic) (sym (ap (λ l. alarm_at l.items k) same ∙ alarm_shown p k tidy)) (coming_periodic (machine_of p).clock (alarm_in ((machine_of p).jobs k)) (a.each k))
 
 -- the alarm of a slot is written
-pub alarm_becomes : (old new : Plain) (s : ℕ) (a : Option (ℕ × ℕ)) → s < length old.alarms.items → new.alarms.items ≡ slice_set old.alarms.items s a → new.core ≡ old.core → new.jobs ≡ old.jobs
-    → new.consoles ≡ old.consoles → new.holders ≡ old.holders → new.files ≡ old.files → new.clock ≡ old.clock → new.version ≡ old.version → new.symbols ≡ old.symbols → new.place ≡ old.place → new.touched ≡ old.touched
-    → AlarmBecomes old new s a
-alarm_becomes old new s a l is core jobs consoles holders files clock version symbols place touched = record {
-  alarms = record {
-    here = ap (λ l. alarm_at l s) is ∙ get_or-set_same old.alarms.items s a None l;
-    others = λ k ne. ap (λ l. alarm_at l k) is ∙ get_or-set_other old.alarms.items s k a None ne;
-  };
-  core = core;
-  jobs = jobs;
-  consoles = consoles;
-  holders = holders;
-  files = files;
-  clock = clock;
-  version = version;
-  symbols = symbols;
-  place = place;
-  touched = touched;
-}
-
 alarmed_as : (s : Store) (q : Plain) (k : ℕ) (a : Option (ℕ × ℕ)) (o : Option Job) → raw_of s (core_at q.core k) (superior_at q.jobs k) a o ≡ option_map (with_alarm a) (raw_of s (core_at q.core k) (superior_at q.jobs k) (alarm_at q.alarms.items k) o)
 alarmed_as s q k a (Some j) = refl
 alarmed_as s q k a None = refl
@@ -97,18 +73,6 @@ alarm_tidy old new s a some b tidy = record {
     apart k h e = let wrong : true ≡ false = sym some ∙ ap is_some (sym (ap (job_at old.jobs) e) ∙ was k h) in cc
 
 -- one alarm goes: ALR is set, and the next time is another
-abbrev alarmed : Whole → Whole
-alarmed q = record q { job = with_pending q.job ALR }
-
-slot_by : (c p t : ℕ) (b : Bool) (o : Option Whole) → (b ≡ true → alarm_in o ≡ Some (p, t)) → is_due c (Some (p, t)) ≡ true
-    → (if b then option_map (with_alarm (Some (p, time_after c (p, t)))) (if b then option_map alarmed o else o) else (if b then option_map alarmed o else o)) ≡ rung_if c (b && is_due c (alarm_in o)) o
-slot_by c p t false o has d = refl
-slot_by c p t true None has d = let wrong : None ≡ Some (p, t) = has refl in cc
-slot_by c p t true (Some q) has d =
-    sym
-    (ap (λ (x : Bool). rung_if c x (Some q)) (ap (is_due c) (has refl) ∙ d)
-    ∙ ap (λ (x : Option (ℕ × ℕ)). Some (record q { job = with_pending q.job ALR; alarm = option_map (λ (y : ℕ × ℕ). (y.0, time_after c y)) x })) (has refl))
-
 other_jobs : (v u x : Machine) → u ≡ x → x ≡ record v { jobs = x.jobs } → u ≡ record v { jobs = u.jobs }
 other_jobs v u x e h = e ∙ h ∙ ap (λ (y : Machine). record v { jobs = y.jobs }) (sym e)
 
@@ -128,9 +92,9 @@ marked_by ts s k d l due = elim (cases_eq k s) [
 
 module _ (c p t : ℕ) (old mid put new : Plain) (s : ℕ) (i : Job) (tidy : Tidy old) (had : job_at old.jobs s ≡ Some i) (has : Some (p, t) ≡ alarm_at old.alarms.items s) (late : t ≤ c)
     (set : JobBecomes old mid s (with_pending i ALR)) (next : AlarmBecomes mid put s (Some (p, time_after c (p, t)))) (mark : new ≡ record put { touched = slice_set put.touched s true }) where
-  gone : machine_of new ≡ in_job (in_job (machine_of old) s alarmed) s (with_alarm (Some (p, time_after c (p, t))))
+  gone : machine_of new ≡ in_job (in_job (machine_of old) s (with_registers (λ j. with_pending j ALR))) s (with_alarm (Some (p, time_after c (p, t))))
   gone = touched_machine put new (slice_set put.touched s true) mark ∙ alarm_machine mid put s (Some (p, time_after c (p, t))) next
-      ∙ ap (λ m. in_job m s (with_alarm (Some (p, time_after c (p, t))))) (slot_machine old mid s (core_at old.core s) i (with_pending i ALR) alarmed set had refl)
+      ∙ ap (λ m. in_job m s (with_alarm (Some (p, time_after c (p, t))))) (slot_machine old mid s (core_at old.core s) i (with_pending i ALR) (with_registers (λ j. with_pending j ALR)) set had refl)
 
   same_alarms : mid.alarms ≡ old.alarms
   same_alarms = set.aside.alarms
@@ -146,9 +110,9 @@ module _ (c p t : ℕ) (old mid put new : Plain) (s : ℕ) (i : Job) (tidy : Tid
 
   pub went : s < length old.touched → RangAt c s old new
   went l = record {
-    jobs = λ k. ap (λ (m : Machine). m.jobs k) gone ∙ slot_by c p t (k == s) ((machine_of old).jobs k) (alarm_here k) (le-leb t c late)
+    jobs = λ k. ap (λ (m : Machine). m.jobs k) gone ∙ rung_slot c p t (k == s) ((machine_of old).jobs k) (alarm_here k) (le-leb t c late)
         ∙ ap (λ o. rung_if c ((k == s) && is_due c o) ((machine_of old).jobs k)) (sym (alarm_shown old k tidy));
-    rest = other_jobs (machine_of old) (machine_of new) (in_job (in_job (machine_of old) s alarmed) s (with_alarm (Some (p, time_after c (p, t))))) gone refl;
+    rest = other_jobs (machine_of old) (machine_of new) (in_job (in_job (machine_of old) s (with_registers (λ j. with_pending j ALR))) s (with_alarm (Some (p, time_after c (p, t))))) gone refl;
     touched = λ k. let ts : put.touched ≡ old.touched = next.touched ∙ set.aside.touched in
         ap (λ (q : Plain). is_touched q k) mark ∙ ap (λ xs. slice_index_or (slice_set xs s true) k false) ts
         ∙ marked_by old.touched s k (is_due c (alarm_at old.alarms.items k)) l (due_here k);
@@ -209,12 +173,6 @@ rang_starts c p = record {
   alarms = λ k f. refl;
   place = refl;
 }
-
-below_next : (k n : ℕ) → k ≢ n → nat_lt k n ≡ nat_lt k (n + 1)
-below_next k n ne = elim (cases_lt k n) [
-  | inl l ↦ lt-ltb k n l ∙ sym (lt-ltb k (n + 1) (omega arith))
-  | inr ge ↦ le-ltb k n ge ∙ sym (le-ltb k (n + 1) (let more : n ≢ k = λ e. ne (sym e) in omega arith))
-]
 
 below_not : (k n : ℕ) → nat_lt k (n + 1) ≡ false → (nat_lt k n ≡ false) × ((k == n) ≡ false)
 below_not k n h = elim (cases_eq k n) [
@@ -322,15 +280,3 @@ set_tidy old put c set below tidy = subst Tidy (sym set) (record {
 pub clock_refused : (p : Plain) (n : ℕ) (b : Bool) → b ≡ nat_lt (p.clock + n) clock_end → b ≡ false → clocked (machine_of p) n ≡ Err reasons.Range
 unfolding clocked machine_of
 clock_refused p n b is past = ap (clocked_if (machine_of p) n) (sym is ∙ past)
-
--- the next time as the code finds it
-pub next_time : (c p t : ℕ) → 1 ≤ p → t ≤ c → c + p - (c - t) % p ≡ time_after c (p, t)
-unfolding time_after
-next_time c p t some late =
-    let e : (c - t) / p * p + (c - t) % p ≡ c - t = div-add-mod' (c - t) p in
-    let l : (c - t) % p < p = mod_below (c - t) p (omega arith) in
-    let m : ((c - t) / p + 1) * p ≡ (c - t) / p * p + p = one_more ((c - t) / p) p in
-    rw m (omega arith)
-
-pub next_fits : (c p t : ℕ) → p ≤ longest_period → c < clock_end → c + p < 2 ^ 64
-next_fits c p t most below = omega arith

@@ -1,16 +1,15 @@
 -- What DIR and SHOW show, found one by one.
-use Rattle.std.specs.Prelude.{◌≡◌, ◌≤◌, ◌<◌, ℕ, zero, suc, ◌+◌, Bool, true, false, cond, Option, Some, None, List, [], ◌∷◌, ◌++◌, option_map, map, take, drop, length, slice_get, refl}
+use Rattle.std.specs.Prelude.{◌≡◌, ◌≤◌, ℕ, zero, suc, ◌+◌, Bool, true, false, cond, Option, Some, None, List, [], ◌∷◌, ◌++◌, option_map, map, take, drop, length, slice_get, refl}
 use Rattle.std.specs.List.{cons_option, list_all}
 use Rattle.std.proofs.Common.{sym, ◌∙◌, ap, arith}
-use Rattle.std.proofs.Math.ListN.{drop_of_length-le}
-use Rattle.std.proofs.lemmas.List.{append-nil, length-append, drop_more, drop-drop}
+use Rattle.std.proofs.lemmas.List.{append-nil, length-append, drop-drop}
 use Rattle.std.proofs.lemmas.List.Folds.{list_all-append}
-use Rattle.std.proofs.lemmas.Option.{slice_get_within, slice_get-get_or, get_or_from_slice_get}
 use Rattle.its_files.specs.Files.{Store, entry_at, is_file, file_at, directory, found}
 use Rattle.its_plain.specs.CallFile.{file_named}
 use Rattle.its_plain.specs.Machine.{File}
 use Rattle.its_plain.specs.OperatorFiles.{is_in, files_in}
 use Rattle.its_plain.specs.Own.{names_of}
+use Rattle.its_parts.proofs.DirLaws.{rest_in, rest_next, rest_past}
 use Rattle.its_parts.proofs.StoreLaws.{found_named}
 use Rattle.its_direct.proofs.ConsoleLaws.{head_more}
 use Rattle.its_direct.specs.Plain.{machine_of}
@@ -27,10 +26,6 @@ listed_files p d ids e = e ∙ ap (files_in d) (sym (files_are p))
 pub found_file : (p : Plain) (d x y : ℕ) (o : Option ℕ) → o ≡ found p.files (names_of d x y) → option_map (file_at p.files) o ≡ file_named (names_of d x y) (machine_of p).files
 found_file p d x y o e = ap (option_map (file_at p.files)) e ∙ found_named p.files (names_of d x y) ∙ sym (ap (file_named (names_of d x y)) (files_are p))
 
--- the files of a directory from a place in the order of all on
-abbrev pub rest_in : Store → ℕ → ℕ → List File
-rest_in s d i = files_in d (map (file_at s) (drop i s.order))
-
 -- those before place i are listed
 pub record Listing (s : Store) (d i : ℕ) (ids : List ℕ) : Type 0 where
   pub few : length ids ≤ i
@@ -44,24 +39,13 @@ map_more s (x ∷ ids) id fs = ap (λ ys. file_at s x ∷ ys) (map_more s ids id
 all_more : (s : Store) (ids : List ℕ) (id : ℕ) → list_all (λ i. is_file (entry_at s i)) ids ≡ true → is_file (entry_at s id) ≡ true → list_all (λ i. is_file (entry_at s i)) (ids ++ id ∷ []) ≡ true
 all_more s ids id h f = list_all-append (λ i. is_file (entry_at s i)) ids (id ∷ []) ∙ rw (h, f) refl
 
-drop_at : (xs : List ℕ) (i x : ℕ) → slice_get xs i ≡ Some x → drop i xs ≡ x ∷ drop (i + 1) xs
-drop_at xs i x h = drop_more xs i 0 (slice_get_within xs i x h) ∙ ap (λ y. y ∷ drop (i + 1) xs) (get_or_from_slice_get xs i x 0 h)
-
 module _ (s : Store) (d : ℕ) where
-  rest_at : (i id : ℕ) → slice_get s.order i ≡ Some id → rest_in s d i ≡ cond (is_in d (file_at s id)) (file_at s id ∷ rest_in s d (i + 1)) (rest_in s d (i + 1))
-  unfolding files_in
-  rest_at i id h = ap (λ ids. files_in d (map (file_at s) ids)) (drop_at s.order i id h)
-
-  rest_past : (i : ℕ) → length s.order ≤ i → rest_in s d i ≡ []
-  unfolding files_in
-  rest_past i h = ap (λ ids. files_in d (map (file_at s) ids)) (drop_of_length-le s.order h)
-
   pub listing_starts : Listing s d 0 []
   listing_starts = record { few = omega arith; files = refl; rest = refl }
 
   module _ (i id : ℕ) (o : Option ℕ) (b : Bool) (ids : List ℕ) (h : Listing s d i ids) (at : o ≡ slice_get s.order i) (some : o ≡ Some id) (is : b ≡ is_in d (file_at s id)) where
     here : rest_in s d i ≡ cond b (file_at s id ∷ rest_in s d (i + 1)) (rest_in s d (i + 1))
-    here = rest_at i id (sym at ∙ some) ∙ ap (λ t. cond t (file_at s id ∷ rest_in s d (i + 1)) (rest_in s d (i + 1))) (sym is)
+    here = rest_next s d i id o b at some is
 
     pub listing_more : is_file (entry_at s id) ≡ true → b ≡ true → Listing s d (i + 1) (ids ++ id ∷ [])
     listing_more file t = record {
@@ -79,10 +63,7 @@ module _ (s : Store) (d : ℕ) where
     }
 
   pub listing_ends : (i n : ℕ) (ids : List ℕ) → Listing s d i ids → n ≡ length s.order → n ≤ i → map (file_at s) ids ≡ files_in d (directory s)
-  listing_ends i n ids h is le = sym (ap (λ fs. map (file_at s) ids ++ fs) (rest_past i (omega arith)) ∙ append-nil (map (file_at s) ids)) ∙ h.rest
-
-  pub listing_within : (i n : ℕ) (o : Option ℕ) → o ≡ slice_get s.order i → o ≡ None → n ≡ length s.order → i < n → ⊥
-  listing_within i n o at none is lt = let some = sym none ∙ at ∙ slice_get-get_or s.order i 0 (omega arith) in cc
+  listing_ends i n ids h is le = sym (ap (λ fs. map (file_at s) ids ++ fs) (rest_past s d i (omega arith)) ∙ append-nil (map (file_at s) ids)) ∙ h.rest
 
 -- the words of a row, one by one
 get_first : (ws : List ℕ) (i : ℕ) → slice_get (drop i ws) 0 ≡ slice_get ws i

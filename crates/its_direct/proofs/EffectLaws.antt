@@ -1,5 +1,5 @@
 -- What calls change in cores, registers, consoles and alarms.
-use Rattle.std.specs.Prelude.{◌≡◌, ◌≢◌, ◌<◌, ◌≤◌, ◌+◌, ◌%◌, ◌^◌, ℕ, Bool, true, Option, Some, None, is_some, IsSome, List, [], ◌∷◌, length, drop, option_map, slice_set, slice_index_or, refl}
+use Rattle.std.specs.Prelude.{◌≡◌, ◌<◌, ◌≤◌, ◌+◌, ◌%◌, ◌^◌, ℕ, Bool, true, Option, Some, None, is_some, IsSome, List, [], ◌∷◌, length, drop, option_map, slice_set, slice_index_or, refl}
 use Rattle.std.specs.Option.{option_or}
 use Rattle.std.proofs.Common.{ap, sym, subst, ◌∙◌, inl, inr, arith}
 use Rattle.std.proofs.lemmas.Bool.{cases_eq, eq-eqb}
@@ -13,26 +13,26 @@ use Rattle.its_word.specs.declared.calls.Exit.{Exit}
 use Rattle.its_word.specs.declared.jobs.Job.{Job}
 use Rattle.its_word.specs.declared.plan.Store.{Store}
 use Rattle.its_frame.specs.declared.variable.Variable.{Variable}
-use Rattle.its_frame.specs.declared.variable.Variable.TheVariants.{Uname, Jname, Uind, Suppro, Cnsl, Pages, Upc, Ustp, Pirqc, Ifpir, Mask, Msk2, Df1, Df2}
 use Rattle.its_core.specs.Cores.{Cores, Reserved, core_at, clear_at, clear_with, reserved_at}
-use Rattle.its_files.specs.Files.{Store as Files, directory}
 use Rattle.its_jobs.specs.Table.{job_at, superior_at}
-use Rattle.its_plain.specs.Change.{in_job, on_console, on_slot, poke, protected, put_to, rest_of, taken_from, with_alarm, with_inf, with_page_at}
+use Rattle.its_plain.specs.Change.{in_job, on_console, poke, protected, put_to, rest_of, taken_from, with_alarm, with_inf, with_page_at}
 use Rattle.its_plain.specs.Job.{INF, with_pending}
 use Rattle.its_plain.specs.Machine.{Console, Whole, Machine, changed, core_of, mapped}
 use Rattle.its_plain.specs.Own.{leave, left_with, with_registers, with_stores, with_variable}
-use Rattle.its_plain.specs.OperatorClock.{clock_end}
 use Rattle.its_plain.proofs.MachineLaws.{machine_is}
-use Rattle.its_parts.specs.Across.{Across}
 use Rattle.its_parts.specs.Can.{HasJob, HasPage, Maps, Pokes}
-use Rattle.its_parts.specs.Parts.{alarm_at, bare, console_at, holder_at, symbols_at, raw_of, raw_at}
-use Rattle.its_parts.proofs.PartLaws.{raw_job, raw_some, changed_at, slot_at}
-use Rattle.its_direct.specs.Effects.{AlarmBecomes, Becomes}
+use Rattle.its_parts.specs.Parts.{alarm_at, bare, console_at, holder_at, raw_of}
+use Rattle.its_parts.proofs.BareLaws.{variable_bare, variable_channels}
+use Rattle.its_parts.proofs.CoreLaws.{same_core}
+use Rattle.its_parts.proofs.PartLaws.{raw_job, changed_at, slot_at}
+use Rattle.its_direct.specs.Clock.{AlarmBecomes}
+use Rattle.its_direct.specs.Effects.{Becomes}
 use Rattle.its_direct.specs.Lines.{ConsoleBecomes}
 use Rattle.its_direct.specs.Plain.{machine_of, Aside, Tidy, SlotBecomes, CoreBecomes, JobBecomes}
 use Rattle.its_direct.specs.declared.plain.Plain.{Plain}
+use Rattle.its_direct.proofs.ClockLaws.{alarm_machine, alarm_tidy}
 use Rattle.its_direct.proofs.ConsoleLaws.{console_machine}
-use Rattle.its_direct.proofs.SlotLaws.{IsPlaced, core_tidy, placed_at, slot_machine, slot_tidy}
+use Rattle.its_direct.proofs.SlotLaws.{core_tidy, placed_at, slot_machine, slot_tidy}
 use Rattle.its_direct.proofs.UserLaws.{own_of, own_is, nobody_is, becomes_raw}
 
 -- the job that a slot has, and its core
@@ -120,46 +120,12 @@ pub inf_tidied : (old new : Plain) (s : ℕ) (i k : Job) (o : Option Job) → o 
 inf_tidied old new s i k o is some set b tidy =
     job_tidied old new s i k b (sym is ∙ some) (ap (λ (j : Job). j.channels) set) (subst (λ (j : Job). j.pc < 2 ^ 18) (sym set) (placed_at old s o i is some tidy)) tidy
 
--- a variable is one of the registers but for the channels
-apart : (x : Variable) (v : ℕ) (j : Job) → with_variable x v (bare j) ≡ bare (with_variable x v j)
-unfolding with_variable
-apart Upc v j = refl
-apart Ustp v j = refl
-apart Pirqc v j = refl
-apart Ifpir v j = refl
-apart Mask v j = refl
-apart Msk2 v j = refl
-apart Df1 v j = refl
-apart Df2 v j = refl
-apart Uname v j = refl
-apart Jname v j = refl
-apart Uind v j = refl
-apart Suppro v j = refl
-apart Cnsl v j = refl
-apart Pages v j = refl
-
-same_channels : (x : Variable) (v : ℕ) (j : Job) → (with_variable x v j).channels ≡ j.channels
-unfolding with_variable
-same_channels Upc v j = refl
-same_channels Ustp v j = refl
-same_channels Pirqc v j = refl
-same_channels Ifpir v j = refl
-same_channels Mask v j = refl
-same_channels Msk2 v j = refl
-same_channels Df1 v j = refl
-same_channels Df2 v j = refl
-same_channels Uname v j = refl
-same_channels Jname v j = refl
-same_channels Uind v j = refl
-same_channels Suppro v j = refl
-same_channels Cnsl v j = refl
-same_channels Pages v j = refl
-
+-- a variable
 variable_raw : (old : Plain) (s : ℕ) (i : Job) (x : Variable) (v : ℕ)
     → with_registers (with_variable x v) (own_of old s i) ≡ raw_job old.files (core_at old.core s) (with_variable x v i) (superior_at old.jobs s) (alarm_at old.alarms.items s)
 variable_raw old s i x v =
-    (λ t. record (own_of old s i) { job = apart x v i t })
-    ∙ becomes_raw old.files (core_at old.core s) (core_at old.core s) (superior_at old.jobs s) (alarm_at old.alarms.items s) i (with_variable x v i) (same_channels x v i)
+    (λ t. record (own_of old s i) { job = variable_bare x v i t })
+    ∙ becomes_raw old.files (core_at old.core s) (core_at old.core s) (superior_at old.jobs s) (alarm_at old.alarms.items s) i (with_variable x v i) (variable_channels x v i)
 
 pub variable_set : (old new : Plain) (s : ℕ) (i k : Job) (o : Option Job) (x : Variable) (v : ℕ) → o ≡ job_at old.jobs s → o ≡ Some i → k ≡ with_variable x v i → JobBecomes old new s k
     → Becomes old new (in_job (machine_of old) s (with_registers (with_variable x v)))
@@ -167,7 +133,7 @@ variable_set old new s i k o x v is some set b = job_changed old new s i k (with
     (variable_raw old s i x v ∙ ap (λ (j : Job). raw_job old.files (core_at old.core s) j (superior_at old.jobs s) (alarm_at old.alarms.items s)) (sym set))
 
 pub variable_tidied : (old new : Plain) (s : ℕ) (i k : Job) (o : Option Job) (x : Variable) (v : ℕ) → o ≡ job_at old.jobs s → o ≡ Some i → k ≡ with_variable x v i → k.pc < 2 ^ 18 → JobBecomes old new s k → Tidy old → Tidy new
-variable_tidied old new s i k o x v is some set pc b tidy = job_tidied old new s i k b (sym is ∙ some) (ap (λ (j : Job). j.channels) set ∙ same_channels x v i) pc tidy
+variable_tidied old new s i k o x v is some set pc b tidy = job_tidied old new s i k b (sym is ∙ some) (ap (λ (j : Job). j.channels) set ∙ variable_channels x v i) pc tidy
 
 -- consoles
 rest_is : (bs : List ℕ) → drop 1 bs ≡ rest_of bs
@@ -284,20 +250,16 @@ pub reserved_clear : (old mid new : Cores) (s : ℕ) → Only (clear_at old) (cl
 reserved_clear old mid new s a b = record { here = b.here; others = λ k ne. b.others k ne ∙ a.others k ne }
 
 -- the new page of a core, where all other cores are as they were
-same_cores : (c d : Cores) (k : ℕ) → d.cores ≡ c.cores → core_at d k ≡ core_at c k
-unfolding core_at
-same_cores c d k e = ap (λ (cs : List Core). slice_index_or cs k no_core) e
-
 pub absent_still : (c d : Cores) (s k : ℕ) → d.cores ≡ c.cores → page_of (core_at c s) k ≡ None → page_of (core_at d s) k ≡ None
-absent_still c d s k e h = ap (λ (x : Core). page_of x k) (same_cores c d s e) ∙ h
+absent_still c d s k e h = ap (λ (x : Core). page_of x k) (same_core c d s e) ∙ h
 
 pub new_page_is : (old new : Plain) (mid : Cores) (s k : ℕ) → clear_at old.core s ≡ None → Only (clear_at old.core) (clear_at mid) s (Some 4) → mid.cores ≡ old.core.cores
     → Only (core_at mid) (core_at new.core) s (with_page (core_at mid s) k (Some zero_page)) → Only (clear_at mid) (clear_at new.core) s None → new.jobs ≡ old.jobs → Aside old new
     → CoreBecomes old new s (with_page (core_at old.core s) k (Some zero_page))
 new_page_is old new mid s k none held cores mapped taken jobs aside = record {
   core = record {
-    here = mapped.here ∙ ap (λ (x : Core). with_page x k (Some zero_page)) (same_cores old.core mid s cores);
-    others = λ n ne. mapped.others n ne ∙ same_cores old.core mid n cores;
+    here = mapped.here ∙ ap (λ (x : Core). with_page x k (Some zero_page)) (same_core old.core mid s cores);
+    others = λ n ne. mapped.others n ne ∙ same_core old.core mid n cores;
   };
   job = record { here = ap (λ t. job_at t s) jobs; others = λ n ne. ap (λ t. job_at t n) jobs };
   superiors = ap (λ t. t.superiors) jobs;
@@ -311,36 +273,8 @@ new_page_is old new mid s k none held cores mapped taken jobs aside = record {
 }
 
 -- an alarm
-pub alarm_only : (xs : List (Option (ℕ × ℕ))) (s : ℕ) (a : Option (ℕ × ℕ)) → s < length xs → Only (alarm_at xs) (alarm_at (slice_set xs s a)) s a
-alarm_only xs s a l = record { here = get_or-set_same xs s a None l; others = λ k ne. get_or-set_other xs s k a None ne }
-
-alarm_raw : (old new : Plain) (s : ℕ) (i : Job) (a : Option (ℕ × ℕ)) → job_at old.jobs s ≡ Some i → AlarmBecomes old new s a → (k : ℕ)
-    → raw_at new.files new.core new.jobs new.alarms.items k ≡ on_slot (raw_at old.files old.core old.jobs old.alarms.items) s (with_alarm a) k
-alarm_raw old new s i a had b = slot_at _ _ s (with_alarm a)
-    ((λ t. raw_of (b.files t) (core_at (b.core t) s) (superior_at (b.jobs t) s) (b.alarms.here t) (job_at (b.jobs t) s))
-    ∙ ap (raw_of old.files (core_at old.core s) (superior_at old.jobs s) a) had
-    ∙ sym (ap (option_map (with_alarm a)) (raw_some old.files old.core old.jobs old.alarms.items s i had)))
-    (λ k ne t. raw_of (b.files t) (core_at (b.core t) k) (superior_at (b.jobs t) k) (b.alarms.others k ne t) (job_at (b.jobs t) k))
-
-alarm_machine : (old new : Plain) (s : ℕ) (i : Job) (a : Option (ℕ × ℕ)) → job_at old.jobs s ≡ Some i → AlarmBecomes old new s a → machine_of new ≡ in_job (machine_of old) s (with_alarm a)
-unfolding machine_of
-alarm_machine old new s i a had b = machine_is _ _ (alarm_raw old new s i a had b)
-    (λ k. ap (λ l. console_at l.items k) b.consoles) (λ k. ap (λ l. holder_at l k) b.holders) (ap directory b.files) b.clock b.version (λ k. ap (λ l. symbols_at l.items k) b.symbols)
-
 pub alarm_set : (old new : Plain) (s : ℕ) (i : Job) (o : Option Job) (a : Option (ℕ × ℕ)) → o ≡ job_at old.jobs s → o ≡ Some i → AlarmBecomes old new s a → Becomes old new (in_job (machine_of old) s (with_alarm a))
-alarm_set old new s i o a is some b = record { machine = alarm_machine old new s i a (sym is ∙ some) b; place = b.place; touched = b.touched }
+alarm_set old new s i o a is some b = record { machine = alarm_machine old new s a b; place = b.place; touched = b.touched }
 
 pub alarm_tidied : (old new : Plain) (s : ℕ) (i : Job) (o : Option Job) (a : Option (ℕ × ℕ)) → o ≡ job_at old.jobs s → o ≡ Some i → AlarmBecomes old new s a → Tidy old → Tidy new
-alarm_tidied old new s i o a is some b tidy = record {
-  unreserved = λ k. ap (λ m. clear_at m k) b.core ∙ tidy.unreserved k;
-  unmarked = ap (λ (x : Files). x.mark) b.files ∙ tidy.unmarked;
-  across = subst (λ (x : Files). Across x new.jobs) (sym b.files) (subst (Across old.files) (sym b.jobs) tidy.across);
-  blank = λ k h. ap (λ m. core_at m k) b.core ∙ tidy.blank k (sym (ap (λ t. job_at t k) b.jobs) ∙ h);
-  quiet = λ k h. b.alarms.others k (apart_from k h) ∙ tidy.quiet k (sym (ap (λ t. job_at t k) b.jobs) ∙ h);
-  nameless = λ k h. ap (λ l. symbols_at l.items k) b.symbols ∙ tidy.nameless k (sym (ap (λ t. job_at t k) b.jobs) ∙ h);
-  addressed = λ k. subst IsPlaced (sym (ap (λ t. job_at t k) b.jobs)) (tidy.addressed k);
-  timed = subst (λ t. t < clock_end) (sym b.clock) tidy.timed;
-}
-  where
-    apart_from : (k : ℕ) → job_at new.jobs k ≡ None → k ≢ s
-    apart_from k h e = let wrong : None ≡ Some i = sym h ∙ ap (job_at new.jobs) e ∙ ap (λ t. job_at t s) b.jobs ∙ sym is ∙ some in absurd cc
+alarm_tidied old new s i o a is some b tidy = alarm_tidy old new s a (ap is_some (sym is ∙ some)) b tidy

@@ -24,9 +24,9 @@ use Rattle.its_plain.specs.OperatorSymbols.{symbol_kept}
 use Rattle.its_plain.specs.OperatorVersion.{versioned}
 use Rattle.its_plain.specs.Own.{names_of}
 use Rattle.its_direct.specs.Clock.{Clocks}
-use Rattle.its_direct.specs.Events.{place_of, Speaks, Says, Spares, Told, answered}
+use Rattle.its_direct.specs.Events.{place_of, Speaks, Says, Told, answered}
 use Rattle.its_direct.specs.Filing.{Leads}
-use Rattle.its_direct.specs.Lines.{reason_of, Operates, Looks, Loads, Stands, Keeps, Partly}
+use Rattle.its_direct.specs.Lines.{reason_of, Operates, Looks, Loads, Stands, Keeps}
 use Rattle.its_direct.specs.Plain.{machine_of, is_touched, no_slots}
 use Rattle.its_direct.specs.declared.events.Answer.TheVariants.{Nothing, Slot, Dropped, Drained}
 use Rattle.its_direct.specs.declared.plain.Plain.{Plain}
@@ -220,21 +220,6 @@ pub told_words_in : (old new : Plain) (s a : ℕ) (ws : ArrayVec ℕ) (xs : List
 told_words_in old new s a ws xs x is e done refused =
     told_words old new s a ws x e (subst (λ (l : List ℕ). OnOk x (Operates old new s (words_loaded (machine_of old) s a l))) is done)
     (subst (λ (l : List ℕ). IfErr x (λ z. words_loaded (machine_of old) s a l ≡ Err (reason_of z))) is refused)
-
--- words that were refused
-pub spares_words : (old new : Plain) (s a : ℕ) (ws : ArrayVec ℕ) (xs : List ℕ) (x : Result (Unit {0}) Refusal) → xs ≡ ws.items → old.place ≡ spots.Load s
-    → OnErr x (Partly old new (λ n. words_loaded (machine_of old) s a (take n xs))) → OnErr (answered x) (Spares (events.Words a ws) old new)
-spares_words old new s a ws xs (Ok u) is e h = tt
-spares_words old new s a ws xs (Err z) is e h = λ b at.
-    subst (λ (k : ℕ). Partly old new (λ n. words_loaded (machine_of old) k a (take n ws.items))) (sym (at_load old s b e at))
-    (subst (λ (l : List ℕ). Partly old new (λ n. words_loaded (machine_of old) s a (take n l))) is h)
-
-pub spares_append : (old new : Plain) (f : Names) (ws : ArrayVec ℕ) (xs : List ℕ) (x : Result (Unit {0}) Refusal) → xs ≡ ws.items → old.place ≡ spots.File f
-    → OnErr x (Partly old new (λ n. words_added (machine_of old) f (take n xs))) → OnErr (answered x) (Spares (events.Append ws) old new)
-spares_append old new f ws xs (Ok u) is e h = tt
-spares_append old new f ws xs (Err z) is e h = λ b at.
-    subst (λ (k : Names). Partly old new (λ n. words_added (machine_of old) k (take n ws.items))) (sym (at_file old f b e at))
-    (subst (λ (l : List ℕ). Partly old new (λ n. words_added (machine_of old) f (take n l))) is h)
 
 pub told_append_in : (old new : Plain) (n : Names) (ws : ArrayVec ℕ) (xs : List ℕ) (x : Result (Unit {0}) Refusal) → xs ≡ ws.items → old.place ≡ spots.File n → OnOk x (Keeps old new (words_added (machine_of old) n xs))
     → IfErr x (λ z. words_added (machine_of old) n xs ≡ Err (reason_of z)) → Told (events.Append ws) old new (answered x)

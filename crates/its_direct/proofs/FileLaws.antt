@@ -1,9 +1,9 @@
 -- The lines FILE, its words and EOF.
-use Rattle.std.specs.Prelude.{◌≡◌, ◌≢◌, ◌<◌, ◌≤◌, ◌+◌, ℕ, Bool, true, false, Option, Some, None, List, [], ◌∷◌, ◌++◌, Ok, Err, is_some, option_map, take, drop, length, nat_lt, slice_index_or, refl}
+use Rattle.std.specs.Prelude.{◌≡◌, ◌≢◌, ◌<◌, ◌≤◌, ◌+◌, ℕ, suc, Bool, true, false, Option, Some, None, List, [], ◌∷◌, ◌++◌, IsOk, Result, Ok, Err, is_some, option_map, drop, length, nat_lt, slice_index_or, refl}
 use Rattle.std.proofs.Common.{sym, ◌∙◌, ap, subst, arith, get_or, inl, inr}
 use Rattle.std.proofs.Math.ListN.{drop_of_length-le}
-use Rattle.std.proofs.lemmas.Bool.{cases_eq, lt-ltb, le-ltb}
-use Rattle.std.proofs.lemmas.List.{drop_more, take_more, length-map}
+use Rattle.std.proofs.lemmas.Bool.{cases_Bool, cases_eq, eqb-true, lt-ltb, le-ltb}
+use Rattle.std.proofs.lemmas.List.{drop_more, get_or-set_same, get_or-set_other, length-map, length-set}
 use Rattle.its_word.specs.Directory.{with_changed, longer}
 use Rattle.its_word.specs.Only.{Only, Same}
 use Rattle.its_word.specs.declared.jobs.Channel.{Channel}
@@ -12,10 +12,13 @@ use Rattle.its_word.specs.declared.jobs.Job.{Job}
 use Rattle.its_word.specs.declared.session.Reason.{Reason}
 use Rattle.its_word.specs.declared.session.Reason.TheVariants as reasons
 use Rattle.its_core.specs.Cores.{core_at, clear_at}
-use Rattle.its_files.specs.Blocks.{is_full as store_is_full, blocks_used}
-use Rattle.its_files.specs.Files.{Store, IsStore, entry_at, is_file, is_draft, is_marked, names_by, names_at, readers_at, readers_by, words_at, file_at, found, with_file, with_word, directory}
+use Rattle.its_files.specs.Blocks.{text_at, is_full as store_is_full, blocks_used, room_behind}
+use Rattle.its_files.specs.Files.{Store, IsStore, entry_at, is_file, is_draft, is_marked, names_by, names_at, readers_at, readers_by, words_by, words_at, file_at, found, with_file, with_word, directory}
 use Rattle.its_files.specs.declared.entry.Entry.{Entry}
 use Rattle.its_files.specs.declared.entry.Entry.TheVariants.{File as Standing, Draft}
+use Rattle.its_files.proofs.DirectoryLaws.{with_word_file}
+use Rattle.its_files.proofs.EntryLaws.{within, file_stands}
+use Rattle.its_files.proofs.RoomBehindLaws.{no_room, most_appended, room_appended}
 use Rattle.its_jobs.specs.Table.{Table, job_at, superior_at}
 use Rattle.its_plain.specs.CallFile.{most_files, is_full, file_named, has_file}
 use Rattle.its_plain.specs.Change.{channel_in}
@@ -31,14 +34,15 @@ use Rattle.its_parts.proofs.RoomLaws.{full_on}
 use Rattle.its_parts.proofs.StandLaws.{reading_file, writing_draft}
 use Rattle.its_parts.proofs.StoreLaws.{found_named, has_named, named_self}
 use Rattle.its_direct.specs.Filing.{Leads, FilesBecome}
-use Rattle.its_direct.specs.Lines.{Keeps, Partly}
+use Rattle.its_direct.specs.Lines.{Keeps}
 use Rattle.its_direct.specs.Plain.{machine_of, no_slots, Tidy}
 use Rattle.its_direct.specs.declared.plain.Plain.{Plain}
 use Rattle.its_direct.specs.declared.plain.Spot.{Spot}
 use Rattle.its_direct.specs.declared.plain.Spot.TheVariants as spots
 use Rattle.its_direct.proofs.DirectoryLaws.{files_are}
 use Rattle.its_direct.proofs.LoadLaws.{placed_tidy}
-use Rattle.its_direct.proofs.LoadedLaws.{then_ok, then_then}
+use Rattle.its_direct.proofs.LoadedLaws.{no_error, first_ok}
+use Rattle.its_direct.proofs.RoomLaws.{Within, within_ok, within_full}
 use Rattle.its_direct.proofs.SlotLaws.{IsPlaced, touched_machine, touched_tidy}
 use Rattle.its_direct.proofs.TouchLaws.{none_touched}
 
@@ -224,6 +228,9 @@ module _ (p : Plain) (whole : IsStore p.files) (tidy : Tidy p) (id : ℕ) (file 
   pub added_full : (w : ℕ) → store_is_full p.files.stored id ≡ true → word_added (machine_of p) (names_at p.files id) w ≡ Err reasons.Full
   added_full w full = added_on w ∙ ap (word_added_if (machine_of p) (names_at p.files id) w) full
 
+  pub added_room : (w : ℕ) → store_is_full p.files.stored id ≡ true → IsOk (word_added (machine_of p) (names_at p.files id) w) → ⊥
+  added_room w full ok = no_error (word_added (machine_of p) (names_at p.files id) w) reasons.Full (added_full w full) ok
+
   module _ (new : Plain) (w : ℕ) (b : FilesBecome p new (with_word p.files id w)) (entry : Same (entry_at p.files) (entry_at new.files))
       (words : Only (words_at p.files) (words_at new.files) id (words_at p.files id ++ w ∷ [])) (files : directory new.files ≡ with_changed (names_at p.files id) (longer w) (directory p.files)) where
     added_entry : (k : ℕ) → entry_at (with_word p.files id w) k ≡ entry_at p.files k
@@ -249,58 +256,115 @@ module _ (p : Plain) (whole : IsStore p.files) (tidy : Tidy p) (id : ℕ) (file 
 pub added_names : (s u : Store) (id : ℕ) → Same (entry_at s) (entry_at u) → names_at u id ≡ names_at s id
 added_names s u id e = ap names_by (e.each id)
 
--- a word more behind some
-added_behind : (m : Machine) (n : Names) (w : ℕ) (ws : List ℕ) → words_added m n (ws ++ w ∷ []) ≡ and_then (words_added m n ws) (λ k. word_added k n w)
-added_behind m n w [] = then_ok (word_added m n w)
-added_behind m n w (x ∷ ws) =
-    (λ t. and_then (word_added m n x) (λ k. added_behind k n w ws t)) ∙ sym (then_then (word_added m n x) (λ k. words_added k n ws) (λ k. word_added k n w))
+-- the words one by one: there is room for all of them, or they are refused
+module _ (s : Store) (whole : IsStore s) (id w : ℕ) (file : is_file (entry_at s id) ≡ true) where
+  long : id < length s.stored.texts
+  long =
+      let l = within s.entries id (file_stands (entry_at s id) file) in
+      let e = whole.long in
+      let t = whole.texts_long in
+      omega arith
+
+  longer_store : IsStore (with_word s id w)
+  longer_store = record {
+    long = whole.long;
+    texts_long = length-set s.stored.texts id _ ∙ whole.texts_long;
+    listed = whole.listed;
+    number = whole.number;
+    few = whole.few;
+    few_drafts = whole.few_drafts;
+    unique = whole.unique;
+    bare = λ k none left. get_or-set_other s.stored.texts id k _ [] (λ e. free_file (entry_at s id) (ap (entry_at s) (sym e) ∙ none) file) ∙ whole.bare k none left;
+    marked = whole.marked;
+  }
+
+  words_longer : Only (words_at s) (words_at (with_word s id w)) id (words_at s id ++ w ∷ [])
+  words_longer = record {
+    here = ap (words_by (entry_at s id)) (get_or-set_same s.stored.texts id (text_at s.stored.texts id ++ w ∷ []) [] long) ∙ words_more (entry_at s id) (text_at s.stored.texts id) file;
+    others = λ k ne. ap (words_by (entry_at s k)) (get_or-set_other s.stored.texts id k (text_at s.stored.texts id ++ w ∷ []) [] ne);
+  }
+    where
+      words_more : (o : Option Entry) (ws : List ℕ) → is_file o ≡ true → words_by o (ws ++ w ∷ []) ≡ words_by o ws ++ w ∷ []
+      words_more (Some e) ws h = refl
+      words_more None ws h = cc
+
+abbrev with_longer : Plain → ℕ → ℕ → Plain
+with_longer p id w = record p { files = with_word p.files id w }
+
+longer_only : (p : Plain) (id w : ℕ) → FilesBecome p (with_longer p id w) (with_word p.files id w)
+longer_only p id w = record { files = refl; core = refl; jobs = refl; consoles = refl; holders = refl; clock = refl; alarms = refl; version = refl; symbols = refl; place = refl; touched = refl }
+
+room_for : (p : Plain) (id : ℕ) (ws : List ℕ) → IsStore p.files → Tidy p → is_file (entry_at p.files id) ≡ true → blocks_used p.files.stored ≤ 2048
+    → Within (room_behind p.files.stored id) (length ws) (words_added (machine_of p) (names_at p.files id) ws)
+room_for p id [] whole tidy file most = omega arith
+room_for p id (w ∷ ws) whole tidy file most = elim (cases_Bool (store_is_full p.files.stored id)) [
+  | inl t ↦
+      let none : room_behind p.files.stored id ≡ 0 = eqb-true (room_behind p.files.stored id) 0 (sym (no_room p.files.stored id most) ∙ t) in
+      subst (Within (room_behind p.files.stored id) (suc (length ws)))
+      (sym (ap (λ r. and_then r (λ k. words_added k (names_at p.files id) ws)) (added_full p whole tidy id file most w t))) (refl, omega arith)
+  | inr f ↦
+      let q = with_longer p id w in
+      let b = longer_only p id w in
+      let entry : Same (entry_at p.files) (entry_at q.files) = record { each = λ k. refl } in
+      let words = words_longer p.files whole id w file in
+      let files = with_word_file p.files whole id w file in
+      let lt = long p.files whole id w file in
+      let rest = room_for q id ws (longer_store p.files whole id w file) (added_tidy p whole tidy id file most q w b entry words files) file (most_appended p.files.stored id w lt most f) in
+      subst (Within (room_behind p.files.stored id) (suc (length ws)))
+      (sym (ap (λ r. and_then r (λ k. words_added k (names_at p.files id) ws)) (added_row p whole tidy id file most q w b entry words files f)))
+      (one_more (room_behind q.files.stored id) (room_behind p.files.stored id) (length ws) (words_added (machine_of q) (names_at p.files id) ws) (room_appended p.files.stored id w lt most f) rest)
+]
+  where
+    one_more : (x y n : ℕ) (r : Result Machine Reason) → x + 1 ≡ y → Within x n r → Within y (suc n) r
+    one_more x y n (Ok m) e h = omega arith
+    one_more x y n (Err z) e h = let l = h.1 in (h.0, omega arith)
+
+module _ (p : Plain) (id room : ℕ) (ws : List ℕ) (whole : IsStore p.files) (tidy : Tidy p) (file : is_file (entry_at p.files id) ≡ true) (most : blocks_used p.files.stored ≤ 2048) (room_is : room ≡ room_behind p.files.stored id) where
+  fits : Within room (length ws) (words_added (machine_of p) (names_at p.files id) ws)
+  fits = subst (λ k. Within k (length ws) (words_added (machine_of p) (names_at p.files id) ws)) (sym room_is) (room_for p id ws whole tidy file most)
+
+  pub adding_room : length ws ≤ room → IsOk (words_added (machine_of p) (names_at p.files id) ws)
+  adding_room le = within_ok room (length ws) (words_added (machine_of p) (names_at p.files id) ws) fits le
+
+  pub adding_full : room < length ws → words_added (machine_of p) (names_at p.files id) ws ≡ Err reasons.Full
+  adding_full lt = within_full room (length ws) (words_added (machine_of p) (names_at p.files id) ws) fits lt
 
 -- the words in their order: those before place k are added
 pub record Adding (old now : Plain) (id : ℕ) (ws : List ℕ) (k : ℕ) : Type 0 where
   pub rest : words_added (machine_of now) (names_at old.files id) (drop k ws) ≡ words_added (machine_of old) (names_at old.files id) ws
-  pub part : words_added (machine_of old) (names_at old.files id) (take k ws) ≡ Ok (machine_of now)
   pub file : is_file (entry_at now.files id) ≡ true
   pub names : names_at now.files id ≡ names_at old.files id
   pub place : now.place ≡ old.place
   pub tidy : Tidy now
 
 pub adding_starts : (p : Plain) (id : ℕ) (ws : List ℕ) → is_file (entry_at p.files id) ≡ true → Tidy p → Adding p p id ws 0
-adding_starts p id ws file tidy = record { rest = refl; part = refl; file = file; names = refl; place = refl; tidy = tidy }
+adding_starts p id ws file tidy = record { rest = refl; file = file; names = refl; place = refl; tidy = tidy }
 
 added_next : (old now : Plain) (id k w d : ℕ) (ws : List ℕ) → Adding old now id ws k → k < length ws → w ≡ get_or ws k d
-    → and_then (word_added (machine_of now) (names_at old.files id) w) (λ n. words_added n (names_at old.files id) (drop (k + 1) ws)) ≡ words_added (machine_of old) (names_at old.files id) ws
+    → and_then (word_added (machine_of now) (names_at now.files id) w) (λ n. words_added n (names_at old.files id) (drop (k + 1) ws)) ≡ words_added (machine_of old) (names_at old.files id) ws
 added_next old now id k w d ws h l is =
-    ap (λ x. words_added (machine_of now) (names_at old.files id) (x ∷ drop (k + 1) ws)) is
+    ap (λ ns. and_then (word_added (machine_of now) ns w) (λ n. words_added n (names_at old.files id) (drop (k + 1) ws))) h.names
+    ∙ ap (λ x. words_added (machine_of now) (names_at old.files id) (x ∷ drop (k + 1) ws)) is
     ∙ ap (words_added (machine_of now) (names_at old.files id)) (sym (drop_more ws k d l)) ∙ h.rest
+
+pub adding_next : (old now : Plain) (id k w d : ℕ) (ws : List ℕ) → Adding old now id ws k → k < length ws → w ≡ get_or ws k d → IsOk (words_added (machine_of old) (names_at old.files id) ws)
+    → IsOk (word_added (machine_of now) (names_at now.files id) w)
+adding_next old now id k w d ws h l is ok =
+    first_ok (word_added (machine_of now) (names_at now.files id) w) (λ n. words_added n (names_at old.files id) (drop (k + 1) ws)) (subst (λ (r : Result Machine Reason). IsOk r) (sym (added_next old now id k w d ws h l is)) ok)
 
 pub adding_more : (old now new : Plain) (id k w d : ℕ) (ws : List ℕ) → Adding old now id ws k → k < length ws → w ≡ get_or ws k d
     → word_added (machine_of now) (names_at now.files id) w ≡ Ok (machine_of new) → is_file (entry_at new.files id) ≡ true → names_at new.files id ≡ names_at now.files id → new.place ≡ now.place → Tidy new
     → Adding old new id ws (k + 1)
 adding_more old now new id k w d ws h l is made file names place tidy = record {
-  rest = sym (ap (λ r. and_then r (λ n. words_added n (names_at old.files id) (drop (k + 1) ws))) (ap (λ ns. word_added (machine_of now) ns w) (sym h.names) ∙ made)) ∙ added_next old now id k w d ws h l is;
-  part =
-      ap (words_added (machine_of old) (names_at old.files id)) (take_more ws k d l ∙ ap (λ x. take k ws ++ x ∷ []) (sym is))
-      ∙ added_behind (machine_of old) (names_at old.files id) w (take k ws)
-      ∙ ap (λ r. and_then r (λ n. word_added n (names_at old.files id) w)) h.part
-      ∙ ap (λ ns. word_added (machine_of now) ns w) (sym h.names) ∙ made;
+  rest = sym (ap (λ r. and_then r (λ n. words_added n (names_at old.files id) (drop (k + 1) ws))) made) ∙ added_next old now id k w d ws h l is;
   file = file;
   names = names ∙ h.names;
   place = place ∙ h.place;
   tidy = tidy;
 }
 
-pub adding_stops : (old now : Plain) (id k w d : ℕ) (ws : List ℕ) (r : Reason) → Adding old now id ws k → k < length ws → w ≡ get_or ws k d → word_added (machine_of now) (names_at now.files id) w ≡ Err r
-    → words_added (machine_of old) (names_at old.files id) ws ≡ Err r
-adding_stops old now id k w d ws r h l is e =
-    sym (added_next old now id k w d ws h l is)
-    ∙ ap (λ x. and_then x (λ n. words_added n (names_at old.files id) (drop (k + 1) ws))) (ap (λ ns. word_added (machine_of now) ns w) (sym h.names) ∙ e)
-
 pub adding_ends : (old now : Plain) (id k n : ℕ) (ws : List ℕ) → Adding old now id ws k → n ≡ length ws → n ≤ k → words_added (machine_of old) (names_at old.files id) ws ≡ Ok (machine_of now)
 adding_ends old now id k n ws h is l = sym h.rest ∙ ap (words_added (machine_of now) (names_at old.files id)) (drop_of_length-le ws (omega arith))
-
-pub adding_part : (old now new : Plain) (id k : ℕ) (ws : List ℕ) → Adding old now id ws k → new ≡ now → Partly old new (λ n. words_added (machine_of old) (names_at old.files id) (take n ws))
-adding_part old now new id k ws h same =
-    subst (λ (p : Plain). Partly old p (λ n. words_added (machine_of old) (names_at old.files id) (take n ws))) (sym same) (record { few = k; is = h.part; place = h.place })
 
 -- the line, where there is such a file, and where there is none
 pub appended : (old put new : Plain) (n : Names) (ws : List ℕ) → words_added (machine_of old) n ws ≡ Ok (machine_of put) → put.place ≡ old.place → new ≡ record put { touched = no_slots }

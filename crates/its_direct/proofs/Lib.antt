@@ -15,16 +15,13 @@ pub mod ActLaws
 pub mod DirectoryLaws
 pub mod ClockLaws
 pub mod FileLaws
+pub mod RoomLaws
 pub mod LoadedLaws
 pub mod EventLaws
 pub mod ReadyLaws
 pub mod StepKeepsLaws
 pub mod MovedLaws
 pub mod CallStepLaws
-pub mod CanLaws
-pub mod UsrCanLaws
-pub mod CoreCanLaws
-pub mod DecidedCanLaws
 pub mod CallingLaws
 pub mod HousedLaws
 pub mod ToldLaws

@@ -1,11 +1,11 @@
 -- The words of a LOAD block: a word is stored, where its page is absent into a page of zeros that is made.
-use Rattle.std.specs.Prelude.{◌≡◌, ◌<◌, ◌≤◌, ◌/◌, ◌%◌, ◌+◌, ◌-◌, ◌||◌, ℕ, zero, suc, Bool, true, false, Option, Some, None, is_some, option_map, List, [], ◌∷◌, ◌++◌, take, drop, length, Result, Ok, Err, nat_lt, slice_index_or, refl}
+use Rattle.std.specs.Prelude.{◌≡◌, ◌<◌, ◌≤◌, ◌/◌, ◌%◌, ◌+◌, ◌-◌, ◌^◌, ◌||◌, ℕ, zero, suc, Bool, true, false, Option, Some, None, is_some, option_map, List, [], ◌∷◌, drop, length, IsOk, Result, Ok, Err, nat_lt, slice_index_or, refl}
 use Rattle.std.proofs.Common.{sym, ◌∙◌, ap, subst, arith, get_or, inl, inr}
 use Rattle.std.proofs.Math.ListN.{drop_of_length-le}
-use Rattle.std.proofs.lemmas.Bool.{cases_eq, lt-ltb, le-ltb}
+use Rattle.std.proofs.lemmas.Bool.{cases_eq, cases_lt, lt-ltb, le-ltb}
 use Rattle.std.proofs.lemmas.Bool.Decides.{nat_tests}
-use Rattle.std.proofs.lemmas.List.{drop_more, take_more, length-take-le}
-use Rattle.its_word.specs.Core.{Core, no_core, page_of, word_at, can_store, store, putting, put, with_page, zero_page, pages_mapped}
+use Rattle.std.proofs.lemmas.List.{drop_more}
+use Rattle.its_word.specs.Core.{Core, IsWhole, no_core, page_of, word_at, can_store, store, putting, put, with_page, zero_page, pages_mapped}
 use Rattle.its_word.specs.Limits.{slots, most_pages}
 use Rattle.its_word.specs.Only.{Only, Same}
 use Rattle.its_word.specs.declared.access.NoAccess.TheVariants.{ReadOnly}
@@ -22,9 +22,10 @@ use Rattle.its_plain.specs.Operator.{and_then}
 use Rattle.its_plain.specs.OperatorJobs.{with_core, stored_in, stored, word_loaded_of, word_loaded, words_stored, is_barred, any_barred, barred_in, words_loaded_if, words_loaded}
 use Rattle.its_parts.specs.Parts.{alarm_at, raw_of}
 use Rattle.its_direct.specs.Plain.{machine_of, Tidy, Aside, CoreBecomes}
-use Rattle.its_direct.specs.Lines.{one_slot, Operates, Partly}
+use Rattle.its_direct.specs.Lines.{one_slot, Operates, pages_made}
 use Rattle.its_direct.specs.declared.plain.Plain.{Plain}
 use Rattle.its_direct.proofs.LineLaws.{only_touched, put_slot}
+use Rattle.its_direct.proofs.RoomLaws.{Within, within_ok, within_full, ready_whole, room_of}
 use Rattle.its_direct.proofs.SlotLaws.{alike, core_machine, core_tidy, touched_machine}
 use Rattle.its_direct.proofs.UserLaws.{own_of, own_is, nobody_is}
 
@@ -35,12 +36,6 @@ unreserved_by None h = refl
 
 pub clear_unreserved : (c : Cores) (s : ℕ) → clear_at c s ≡ None → reserved_at c s ≡ None
 clear_unreserved c s h = unreserved_by (reserved_at c s) h
-
-pub zero_stores : (c : Core) (a : ℕ) → 16 ≤ a → page_of c (a / 1024) ≡ Some zero_page → can_store c a ≡ true
-unfolding can_store zero_page
-zero_stores c a l h =
-    let t : nat_lt a 16 ≡ false = grind (arith, nat_tests) in
-    rw (t, h) (ap is_some (get-copies 1024 (a % 1024) 0 (omega arith)))
 
 pub laid_cores : (a b c : Cores) (s k : ℕ) → b.cores ≡ a.cores → Only (core_at b) (core_at c) s (with_page (core_at b s) k (Some zero_page))
     → Only (core_at a) (core_at c) s (with_page (core_at a s) k (Some zero_page))
@@ -100,6 +95,11 @@ some_of None h = cc
 becomes_is : (old new : Plain) (s : ℕ) (c : Core) (i : Job) → job_at old.jobs s ≡ Some i → CoreBecomes old new s c → with_core (machine_of old) s (own_of old s i) (Ok c) ≡ Ok (machine_of new)
 becomes_is old new s c i had b = ap Ok (sym (core_machine old new s c i b had ∙ put_slot (machine_of old) s (own_of old s i) (λ q. record q { core = c }) (own_is old s i had)))
 
+-- what is obeyed is not refused
+pub no_error : {X : Type 0} {A E : Type 0} (r : Result A E) (e : E) → r ≡ Err e → IsOk r → X
+no_error (Ok x) e is ok = cc
+no_error (Err y) e is ok = let wrong : false ≡ true = ok in absurd cc
+
 module _ (old : Plain) (s a x : ℕ) (job : is_some (job_at old.jobs s) ≡ true) (tidy : Tidy old) where
   had : (i : Job) × (job_at old.jobs s ≡ Some i)
   had = some_of (job_at old.jobs s) job
@@ -131,7 +131,7 @@ module _ (old : Plain) (s a x : ℕ) (job : is_some (job_at old.jobs s) ≡ true
       ∙ ap (λ y. with_core (machine_of old) s (own_of old s had.0) (stored_in (core_at old.core s) a x false false y)) (lt-ltb (pages_mapped (core_at old.core)) most_pages r)
       ∙ becomes_is old new s (store (with_page (core_at old.core s) (a / 1024) (Some zero_page)) a x) had.0 had.1 b
 
-  pub word_full : 16 ≤ a → page_of (core_at old.core s) (a / 1024) ≡ None → most_pages ≤ pages_mapped (core_at old.core) → word_loaded (machine_of old) s a x ≡ Err reasons.Full
+  word_full : 16 ≤ a → page_of (core_at old.core s) (a / 1024) ≡ None → most_pages ≤ pages_mapped (core_at old.core) → word_loaded (machine_of old) s a x ≡ Err reasons.Full
   word_full l h r =
       absent_on l h
       ∙ ap (λ y. with_core (machine_of old) s (own_of old s had.0) (stored_in (core_at old.core s) a x false false y)) (le-ltb (pages_mapped (core_at old.core)) most_pages r)
@@ -142,8 +142,15 @@ module _ (old : Plain) (s a x : ℕ) (job : is_some (job_at old.jobs s) ≡ true
   barred_by false (Some v) h = refl
   barred_by false None h = cc
 
-  pub word_barred : put (core_at old.core s) a x ≡ Err ReadOnly → word_loaded (machine_of old) s a x ≡ Err reasons.ReadOnly
+  word_barred : put (core_at old.core s) a x ≡ Err ReadOnly → word_loaded (machine_of old) s a x ≡ Err reasons.ReadOnly
   word_barred h = word_on old s a x had.0 had.1 tidy ∙ barred_by (can old s a) (word_at (core_at old.core s) a) h
+
+  -- a word for which there is room
+  pub word_room : 16 ≤ a → page_of (core_at old.core s) (a / 1024) ≡ None → IsOk (word_loaded (machine_of old) s a x) → pages_mapped (core_at old.core) < most_pages
+  word_room l h ok = elim (cases_lt (pages_mapped (core_at old.core)) most_pages) [ inl r ↦ r | inr r ↦ no_error (word_loaded (machine_of old) s a x) reasons.Full (word_full l h r) ok ]
+
+  pub word_free : put (core_at old.core s) a x ≡ Err ReadOnly → IsOk (word_loaded (machine_of old) s a x) → ⊥
+  word_free h ok = no_error (word_loaded (machine_of old) s a x) reasons.ReadOnly (word_barred h) ok
 
   module _ (new : Plain) (c : Core) (b : CoreBecomes old new s c) where
     pub word_tidy : Tidy new
@@ -188,39 +195,15 @@ none_more c a = refl
 pub any_end : (c : Core) (a n k : ℕ) → n ≤ k → any_barred c (a + k) (n - k) ≡ false
 any_end c a n k l = let e : n - k ≡ 0 = omega arith in ap (any_barred c (a + k)) e ∙ none_more c (a + k)
 
--- a word more behind some
-pub then_ok : {A E : Type 0} (r : Result A E) → and_then r (λ x. Ok x) ≡ r
-then_ok (Ok x) = refl
-then_ok (Err e) = refl
-
-pub then_then : {A E : Type 0} (r : Result A E) (f g : A → Result A E) → and_then (and_then r f) g ≡ and_then r (λ x. and_then (f x) g)
-then_then (Ok x) f g = refl
-then_then (Err e) f g = refl
-
-stored_behind : (m : Machine) (s a w : ℕ) (ws : List ℕ) → words_stored m s a (ws ++ w ∷ []) ≡ and_then (words_stored m s a ws) (λ n. word_loaded n s (a + length ws) w)
-stored_behind m s a w [] = let e : a + 0 ≡ a = omega arith in then_ok (word_loaded m s a w) ∙ ap (λ i. word_loaded m s i w) (sym e)
-stored_behind m s a w (x ∷ ws) =
-    let e : a + 1 + length ws ≡ a + suc (length ws) = omega arith in
-    (λ t. and_then (word_loaded m s a x) (λ n. stored_behind n s (a + 1) w ws t))
-    ∙ ap (λ i. and_then (word_loaded m s a x) (λ n. and_then (words_stored n s (a + 1) ws) (λ k. word_loaded k s i w))) e
-    ∙ sym (then_then (word_loaded m s a x) (λ n. words_stored n s (a + 1) ws) (λ k. word_loaded k s (a + suc (length ws)) w))
-
 -- the words in their order: those before place k are stored
 pub record Storing (old now : Plain) (s a : ℕ) (ws : List ℕ) (k : ℕ) : Type 0 where
   pub rest : words_stored (machine_of now) s (a + k) (drop k ws) ≡ words_stored (machine_of old) s a ws
-  pub part : words_stored (machine_of old) s a (take k ws) ≡ Ok (machine_of now)
   pub job : is_some (job_at now.jobs s) ≡ true
   pub place : now.place ≡ old.place
   pub tidy : Tidy now
 
 pub storing_starts : (p : Plain) (s a : ℕ) (ws : List ℕ) → is_some (job_at p.jobs s) ≡ true → Tidy p → Storing p p s a ws 0
-storing_starts p s a ws job tidy = record {
-  rest = let e : a + 0 ≡ a = omega arith in ap (λ i. words_stored (machine_of p) s i ws) e;
-  part = refl;
-  job = job;
-  place = refl;
-  tidy = tidy;
-}
+storing_starts p s a ws job tidy = record { rest = let e : a + 0 ≡ a = omega arith in ap (λ i. words_stored (machine_of p) s i ws) e; job = job; place = refl; tidy = tidy }
 
 stored_next : (old now : Plain) (s a k w d : ℕ) (ws : List ℕ) → Storing old now s a ws k → k < length ws → w ≡ get_or ws k d
     → and_then (word_loaded (machine_of now) s (a + k) w) (λ n. words_stored n s (a + (k + 1)) (drop (k + 1) ws)) ≡ words_stored (machine_of old) s a ws
@@ -230,50 +213,63 @@ stored_next old now s a k w d ws h l is =
     ∙ ap (λ x. words_stored (machine_of now) s (a + k) (x ∷ drop (k + 1) ws)) is
     ∙ ap (words_stored (machine_of now) s (a + k)) (sym (drop_more ws k d l)) ∙ h.rest
 
+pub first_ok : {A B E : Type 0} (r : Result A E) (f : A → Result B E) → IsOk (and_then r f) → IsOk r
+first_ok (Ok x) f h = refl
+first_ok (Err e) f h = h
+
+pub storing_room : (old now : Plain) (s a k w d : ℕ) (ws : List ℕ) → Storing old now s a ws k → k < length ws → w ≡ get_or ws k d → IsOk (words_stored (machine_of old) s a ws)
+    → IsOk (word_loaded (machine_of now) s (a + k) w)
+storing_room old now s a k w d ws h l is ok =
+    first_ok (word_loaded (machine_of now) s (a + k) w) (λ n. words_stored n s (a + (k + 1)) (drop (k + 1) ws)) (subst (λ (r : Result Machine Reason). IsOk r) (sym (stored_next old now s a k w d ws h l is)) ok)
+
 pub storing_more : (old now new : Plain) (s a k w d : ℕ) (ws : List ℕ) → Storing old now s a ws k → k < length ws → w ≡ get_or ws k d → word_loaded (machine_of now) s (a + k) w ≡ Ok (machine_of new)
     → is_some (job_at new.jobs s) ≡ true → new.place ≡ now.place → Tidy new → Storing old new s a ws (k + 1)
 storing_more old now new s a k w d ws h l is made job place tidy = record {
   rest = sym (ap (λ r. and_then r (λ n. words_stored n s (a + (k + 1)) (drop (k + 1) ws))) made) ∙ stored_next old now s a k w d ws h l is;
-  part =
-      ap (words_stored (machine_of old) s a) (take_more ws k d l ∙ ap (λ x. take k ws ++ x ∷ []) (sym is))
-      ∙ stored_behind (machine_of old) s a w (take k ws)
-      ∙ ap (λ i. and_then (words_stored (machine_of old) s a (take k ws)) (λ n. word_loaded n s (a + i) w)) (length-take-le k ws (omega arith))
-      ∙ ap (λ r. and_then r (λ n. word_loaded n s (a + k) w)) h.part ∙ made;
   job = job;
   place = place ∙ h.place;
   tidy = tidy;
 }
 
-pub storing_stops : (old now : Plain) (s a k w d : ℕ) (ws : List ℕ) (r : Reason) → Storing old now s a ws k → k < length ws → w ≡ get_or ws k d → word_loaded (machine_of now) s (a + k) w ≡ Err r
-    → words_stored (machine_of old) s a ws ≡ Err r
-storing_stops old now s a k w d ws r h l is e =
-    sym (stored_next old now s a k w d ws h l is) ∙ ap (λ x. and_then x (λ n. words_stored n s (a + (k + 1)) (drop (k + 1) ws))) e
-
 pub storing_ends : (old now : Plain) (s a k n : ℕ) (ws : List ℕ) → Storing old now s a ws k → n ≡ length ws → n ≤ k → words_stored (machine_of old) s a ws ≡ Ok (machine_of now)
 storing_ends old now s a k n ws h is l = sym h.rest ∙ ap (words_stored (machine_of now) s (a + k)) (drop_of_length-le ws (omega arith))
-
-pub storing_part : (old now new : Plain) (s a k : ℕ) (ws : List ℕ) → Storing old now s a ws k → new ≡ now → Partly old new (λ n. words_stored (machine_of old) s a (take n ws))
-storing_part old now new s a k ws h same = subst (λ (p : Plain). Partly old p (λ n. words_stored (machine_of old) s a (take n ws))) (sym same) (record { few = k; is = h.part; place = h.place })
 
 -- the line
 line_on : (p : Plain) (s a : ℕ) (ws : List ℕ) (i : Job) → job_at p.jobs s ≡ Some i → words_loaded (machine_of p) s a ws ≡ words_loaded_if (machine_of p) s a ws (any_barred (core_at p.core s) a (length ws))
 unfolding words_loaded
 line_on p s a ws i had = ap (λ (o : Option Whole). words_loaded_if (machine_of p) s a ws (barred_in o a (length ws))) (own_is p s i had)
 
-pub line_done : (old put new : Plain) (s a : ℕ) (ws : List ℕ) (i : Job) (b : Bool) → s < slots → job_at old.jobs s ≡ Some i → b ≡ any_barred (core_at old.core s) a (length ws) → b ≡ false
-    → words_stored (machine_of old) s a ws ≡ Ok (machine_of put) → put.place ≡ old.place → new ≡ record put { touched = one_slot s } → Operates old new s (words_loaded (machine_of old) s a ws)
-line_done old put new s a ws i b l had is free made place e = record {
-  is = line_on old s a ws i had ∙ ap (words_loaded_if (machine_of old) s a ws) (sym is ∙ free) ∙ made ∙ ap Ok (sym (touched_machine put new (one_slot s) e));
-  touched = only_touched put new s l e;
-  place = ap (λ (p : Plain). p.place) e ∙ place;
-}
+module _ (old : Plain) (s a : ℕ) (ws : List ℕ) (i : Job) (had : job_at old.jobs s ≡ Some i) (b : Bool) (barred : b ≡ any_barred (core_at old.core s) a (length ws)) where
+  pub line_barred : b ≡ true → words_loaded (machine_of old) s a ws ≡ Err reasons.ReadOnly
+  line_barred t = line_on old s a ws i had ∙ ap (words_loaded_if (machine_of old) s a ws) (sym barred ∙ t)
 
-pub line_stopped : (p : Plain) (s a : ℕ) (ws : List ℕ) (i : Job) (b : Bool) (r : Reason) → job_at p.jobs s ≡ Some i → b ≡ any_barred (core_at p.core s) a (length ws) → b ≡ false
-    → words_stored (machine_of p) s a ws ≡ Err r → words_loaded (machine_of p) s a ws ≡ Err r
-line_stopped p s a ws i b r had is free e = line_on p s a ws i had ∙ ap (words_loaded_if (machine_of p) s a ws) (sym is ∙ free) ∙ e
+  module _ (free : b ≡ false) where
+    stored_line : words_loaded (machine_of old) s a ws ≡ words_stored (machine_of old) s a ws
+    stored_line = line_on old s a ws i had ∙ ap (words_loaded_if (machine_of old) s a ws) (sym barred ∙ free)
 
-pub line_barred : (p : Plain) (s a : ℕ) (ws : List ℕ) (i : Job) (b : Bool) → job_at p.jobs s ≡ Some i → b ≡ any_barred (core_at p.core s) a (length ws) → b ≡ true → words_loaded (machine_of p) s a ws ≡ Err reasons.ReadOnly
-line_barred p s a ws i b had is t = line_on p s a ws i had ∙ ap (words_loaded_if (machine_of p) s a ws) (sym is ∙ t)
+    -- n pages are mapped, and so many are made
+    module _ (tidy : Tidy old) (slot : s < slots) (end : a + length ws ≤ 2 ^ 18) (whole : IsWhole (core_at old.core s)) (n made : ℕ) (number : n ≡ pages_mapped (core_at old.core)) (few : n ≤ most_pages)
+        (made_is : made ≡ pages_made (core_at old.core s) a (length ws)) where
+      within : Within most_pages (n + made) (words_stored (machine_of old) s a ws)
+      within =
+          let mapped_now : mapped (machine_of old) ≡ n = mapped_is old tidy ∙ sym number in
+          subst (λ k. Within most_pages (n + k) (words_stored (machine_of old) s a ws)) (sym made_is)
+          (subst (λ k. Within most_pages (k + pages_made (core_at old.core s) a (length ws)) (words_stored (machine_of old) s a ws)) mapped_now
+          (room_of s a ws (machine_of old) (own_of old s i) (own_is old s i had) slot (ready_whole (core_at old.core s) a (length ws) whole (sym barred ∙ free)) end (subst (λ k. k ≤ most_pages) (sym mapped_now) few)))
+
+      pub line_room : n + made ≤ most_pages → IsOk (words_stored (machine_of old) s a ws)
+      line_room le = within_ok most_pages (n + made) (words_stored (machine_of old) s a ws) within le
+
+      pub line_full : most_pages < n + made → words_loaded (machine_of old) s a ws ≡ Err reasons.Full
+      line_full lt = stored_line ∙ within_full most_pages (n + made) (words_stored (machine_of old) s a ws) within lt
+
+    pub line_done : (put new : Plain) → s < slots → words_stored (machine_of old) s a ws ≡ Ok (machine_of put) → put.place ≡ old.place → new ≡ record put { touched = one_slot s }
+        → Operates old new s (words_loaded (machine_of old) s a ws)
+    line_done put new l made place e = record {
+      is = stored_line ∙ made ∙ ap Ok (sym (touched_machine put new (one_slot s) e));
+      touched = only_touched put new s l e;
+      place = ap (λ (p : Plain). p.place) e ∙ place;
+    }
 
 pub line_refused : (p : Plain) (s a : ℕ) (ws : List ℕ) → 1 ≤ length ws → job_at p.jobs s ≡ None → words_loaded (machine_of p) s a ws ≡ Err reasons.NoJob
 unfolding words_loaded word_loaded
@@ -281,33 +277,3 @@ line_refused p s a [] some none = absurd (omega arith)
 line_refused p s a (w ∷ ws) some none =
     ap (λ (o : Option Whole). words_loaded_if (machine_of p) s a (w ∷ ws) (barred_in o a (length (w ∷ ws)))) (nobody_is p s none)
     ∙ ap (λ (o : Option Whole). and_then (word_loaded_of (machine_of p) s a w o) (λ n. words_stored n s (a + 1) ws)) (nobody_is p s none)
-
--- a refused line is made as far as its first words: none, or those before the first that has no room
-any_less : (c : Core) (a n : ℕ) (ws : List ℕ) → any_barred c a (length ws) ≡ false → any_barred c a (length (take n ws)) ≡ false
-unfolding any_barred
-any_less c a zero ws h = refl
-any_less c a (suc n) [] h = refl
-any_less c a (suc n) (w ∷ ws) h = both_none (is_barred c a) (any_barred c (a + 1) (length ws)) (any_barred c (a + 1) (length (take n ws))) h (any_less c (a + 1) n ws)
-  where
-    both_none : (b x y : Bool) → (b || x) ≡ false → (x ≡ false → y ≡ false) → (b || y) ≡ false
-    both_none false x y e f = f e
-    both_none true x y e f = cc
-
-none_loaded : (p : Plain) (s a : ℕ) → words_loaded (machine_of p) s a [] ≡ Ok (machine_of p)
-unfolding words_loaded any_barred
-none_loaded p s a = go ((machine_of p).jobs s)
-  where
-    go : (o : Option Whole) → words_loaded_if (machine_of p) s a [] (barred_in o a 0) ≡ Ok (machine_of p)
-    go (Some q) = refl
-    go None = refl
-
-pub line_none : (p : Plain) (s a : ℕ) (ws : List ℕ) → Partly p p (λ n. words_loaded (machine_of p) s a (take n ws))
-line_none p s a ws = record { few = 0; is = none_loaded p s a; place = refl }
-
-pub line_part : (old new : Plain) (s a : ℕ) (ws : List ℕ) (i : Job) (b : Bool) → job_at old.jobs s ≡ Some i → b ≡ any_barred (core_at old.core s) a (length ws) → b ≡ false
-    → Partly old new (λ n. words_stored (machine_of old) s a (take n ws)) → Partly old new (λ n. words_loaded (machine_of old) s a (take n ws))
-line_part old new s a ws i b had is free h = record {
-  few = h.few;
-  is = line_on old s a (take h.few ws) i had ∙ ap (words_loaded_if (machine_of old) s a (take h.few ws)) (any_less (core_at old.core s) a h.few ws (sym is ∙ free)) ∙ h.is;
-  place = h.place;
-}

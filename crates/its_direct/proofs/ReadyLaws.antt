@@ -1,13 +1,10 @@
 -- What a call decides can be carried out: its changes can be made, and behind them its stores and its registers.
-use Rattle.std.specs.Prelude.{◌==◌, ◌≡◌, ◌≤◌, ◌<◌, ◌-◌, ◌^◌, ℕ, suc, Bool, true, false, Option, Some, None, IfSome, is_some, List, [], ◌∷◌, Ok, drop, length, refl}
+use Rattle.std.specs.Prelude.{◌≡◌, ◌≤◌, ◌<◌, ◌-◌, ◌^◌, ℕ, suc, true, Option, Some, None, IfSome, is_some, List, [], ◌∷◌, Ok, drop, length, refl}
 use Rattle.std.proofs.Common.{sym, ◌∙◌, ap, subst, inl, inr, arith}
-use Rattle.std.proofs.lemmas.Bool.{eqb-true}
 use Rattle.std.proofs.lemmas.List.{length-drop}
 use Rattle.std.proofs.lemmas.Nat.{mod_below}
-use Rattle.std.proofs.lemmas.Option.{IfSome_then}
 use Rattle.its_word.specs.Byte.{has_size}
 use Rattle.its_word.specs.Core.{Core}
-use Rattle.its_word.specs.Limits.{slots}
 use Rattle.its_word.specs.Stores.{first_fault, place}
 use Rattle.its_word.specs.declared.calls.Ask.{Ask}
 use Rattle.its_word.specs.declared.calls.Operand.{Operand}
@@ -20,18 +17,13 @@ use Rattle.its_frame.specs.declared.change.Change.TheVariants as changes
 use Rattle.its_frame.specs.declared.decision.Decision.{Decision}
 use Rattle.its_frame.specs.declared.decision.Decision.TheVariants.{Waits, Goes, Ends, Gone}
 use Rattle.its_frame.specs.declared.decision.Held.{Held}
-use Rattle.its_frame.specs.declared.name.CallName.{CallName}
-use Rattle.its_frame.specs.declared.name.CallName.TheVariants.{Corblk}
 use Rattle.its_jobs.specs.Table.{job_at}
 use Rattle.its_plain.specs.Arguments.{input, store_of, stores_of, debts, revalued}
 use Rattle.its_plain.specs.Ask.{ask}
-use Rattle.its_plain.specs.CallBasic.{channel_at}
 use Rattle.its_plain.specs.CallStep.{Transition, decision, deposited}
-use Rattle.its_plain.specs.Change.{superiors, superior_in, effects}
-use Rattle.its_plain.specs.Decide.{call_named, decided, target, reaching}
+use Rattle.its_plain.specs.Change.{effect, effects}
 use Rattle.its_plain.specs.Footprint.{Stands}
-use Rattle.its_plain.specs.Machine.{On, Whole, Machine, core_of}
-use Rattle.its_plain.specs.View.{View, view, job_at as job_of}
+use Rattle.its_plain.specs.Machine.{Whole, Machine, core_of}
 use Rattle.its_stepped.specs.Address.{Addressed}
 use Rattle.its_stepped.specs.Commit.{effects_on}
 use Rattle.its_stepped.specs.Consoled.{Consoled}
@@ -43,80 +35,27 @@ use Rattle.its_stepped.specs.State.{State}
 use Rattle.its_stepped.specs.Tick.{reserves}
 use Rattle.its_stepped.proofs.AddressLaws.{LeavesAddress, decision_leaves}
 use Rattle.its_stepped.proofs.DecodingLaws.{decoding}
-use Rattle.its_stepped.proofs.ForestLaws.{job_few, forest_below, on_inferior, inferior_stands}
 use Rattle.its_stepped.proofs.FrameLaws.{stored_one}
 use Rattle.its_stepped.proofs.GivenLaws.{decision_duty}
 use Rattle.its_stepped.proofs.OwnLaws.{spared, job_kept}
-use Rattle.its_stepped.proofs.TargetLaws.{target_on}
+use Rattle.its_plain.proofs.TargetLaws.{target_on}
 use Rattle.its_stepped.proofs.UnwindLaws.{most_few}
-use Rattle.its_parts.specs.Can.{HasJob, CanMake}
+use Rattle.its_parts.specs.Can.{HasJob}
 use Rattle.its_direct.specs.Plain.{machine_of, Tidy}
 use Rattle.its_direct.specs.Ready.{HeldFits, held_in, GoesOn, core_behind, Ready}
 use Rattle.its_direct.specs.Steps.{CallsAt}
 use Rattle.its_direct.specs.declared.plain.Plain.{Plain}
-use Rattle.its_direct.proofs.CanLaws.{DecisionCan, Can, Sees}
-use Rattle.its_direct.proofs.UsrCanLaws.{Aim, Finds}
-use Rattle.its_direct.proofs.CoreCanLaws.{FindsPages}
-use Rattle.its_direct.proofs.DecidedCanLaws.{call_can}
+use Rattle.its_parts.proofs.CanLaws.{Beside, nothing, all_can, DecisionCan}
+use Rattle.its_parts.proofs.CallCanLaws.{Grants, decision_can}
 use Rattle.its_direct.proofs.CallingLaws.{page_for, beginning, nobody, calling, all_alike}
 use Rattle.its_direct.proofs.UserLaws.{own_is, nobody_is}
 
--- every call
-decided_can_by : (j : ℕ) (m : Machine) (x : View) (a : Ask) (z : Bool) → (a.fail == 0) ≡ z → Sees x m j
-    → (a.fail ≡ 0 → Finds x m j a (call_named a.name)) → (a.fail ≡ 0 → call_named a.name ≡ Some Corblk → FindsPages x m j a) → Can j m (decided x a)
-unfolding decided
-decided_can_by j m x a true z s f g = let none : a.fail ≡ 0 = eqb-true a.fail 0 z in rw z (call_can j m x a (call_named a.name) s (f none) (g none))
-decided_can_by j m x a false z s f g = rw z tt
+-- its changes can be made: the plain machine has nothing beside that they could ask
+abbrev pub free : Beside
+free = record { files = Unit {0}; page = Unit {0}; tree = λ s. Unit {0} }
 
--- an inferior that it reaches is there
-module _ (m : Machine) (j : ℕ) (q : Whole) (a : Ask) (forest : Forest m) (here : m.jobs j ≡ Some q) where
-  inferior_there : (n s at : ℕ) (write : Bool) → channel_at q.channels n ≡ On s write at → (superiors m s ≡ Some j) × HasJob m s × (s < slots)
-  inferior_there n s at write is =
-      let above = on_inferior m j q n s at write forest here is in
-      let there = inferior_stands m s j above in
-      (above, there, job_few m forest s there)
-
-  aimed : (i s : ℕ) (n : CallName) (at : ℕ) (write : Bool) → a.fail ≡ 0 → call_named a.name ≡ Some n → reaching n ≡ Some i → channel_at q.channels (input a i) ≡ On s write at
-      → Aim (view m j q (target q a)) m s
-  unfolding view
-  aimed i s n at write z e names is =
-      let h = inferior_there (input a i) s at write is in
-      record { slot = h.2; job = h.1; other = ap (job_of m) (target_on q a n i s at write z e names is) }
-
-  -- UCLOSE removes an inferior, which is neither the caller nor above it
-  tree_can : (s at : ℕ) (write : Bool) → channel_at q.channels (input a 0) ≡ On s write at → CanMake (changes.Remove s) j m
-  tree_can s at write is = let h = inferior_there (input a 0) s at write is in (h.2, h.1, forest_below m s j forest h.0)
-
-  finds : a.fail ≡ 0 → Finds (view m j q (target q a)) m j a (call_named a.name)
-  unfolding view aimed
-  finds z = record {
-    inferior = λ n e first s at write is. aimed 0 s n at write z e first is;
-    tree = λ e s at write is. tree_can s at write is;
-  }
-
-  finds_pages : a.fail ≡ 0 → call_named a.name ≡ Some Corblk → FindsPages (view m j q (target q a)) m j a
-  unfolding view aimed
-  finds_pages z e =
-      let there : HasJob m j = ap is_some here in
-      record {
-        own = record { slot = job_few m forest j there; job = there; core = ap core_of here };
-        inferior = λ s at write is.
-            let aim = aimed 1 s Corblk at write z e refl is in
-            record { slot = aim.slot; job = aim.job; core = ap core_of (sym aim.other) };
-        pages = refl;
-      }
-
-  superior_few : IfSome q.superior (λ s. s < slots)
-  superior_few = IfSome_then q.superior (subst (λ (o : Option Whole). IfSome (superior_in o) (λ s. is_some (m.jobs s) ≡ true)) here (forest.standing j)) (λ s h. job_few m forest s h)
-
-  console_few : Consoled m → IfSome q.job.console (λ c. c < 8)
-  console_few c = subst (λ (o : Option Whole). IfSome o (λ p. IfSome p.job.console (λ c. c < 8))) here (c.each j)
-
-  pub decision_can : Consoled m → DecisionCan (decision m j q a) j m
-  unfolding decision view finds finds_pages
-  decision_can c =
-      decided_can_by j m (view m j q (target q a)) a (a.fail == 0) refl
-      (record { consoles = refl; own = console_few c; job = here; files = refl; outlines = refl; limit = refl; superior = superior_few }) finds finds_pages
+granted : (q : Whole) (a : Ask) → Grants free q a
+granted q a = record { files = λ h. tt; page = λ h. tt; tree = λ z e s at write is. tt }
 
 -- stores that can be made
 none_refused : (c : Core) (ss : List Store) → Stored c ss → first_fault c ss ≡ None
@@ -190,24 +129,27 @@ module _ (m : Machine) (r : Option ℕ) (j : ℕ) (q : Whole) (cs : List Change)
   ]
 
 -- a decision that does its duty
-ready_by : (m : Machine) (r : Option ℕ) (j : ℕ) (q : Whole) (s : Site) (a : Ask) (d : Decision) → m.jobs j ≡ Some q → DecisionCan d j m → Duty (beginning m nobody r) j q s a 0 d → LeavesAddress d
+ready_by : (m : Machine) (r : Option ℕ) (j : ℕ) (q : Whole) (s : Site) (a : Ask) (d : Decision) → m.jobs j ≡ Some q → DecisionCan free d j m → Duty (beginning m nobody r) j q s a 0 d → LeavesAddress d
     → Ready m j a d
 ready_by m r j q s a (Waits w) here can duty leaves = tt
 ready_by m r j q s a (Goes cs h vs) here can duty leaves = (
-  record { can = can; job = spared_has m r j q cs.items here duty.spare },
+  record { can = all_can free cs.items j m can; job = spared_has m r j q cs.items here duty.spare },
   subst (λ (c : Core). GoesOn c a h vs.items) (sym (spared_core m r j q cs.items here duty.spare)) (goes_on (beginning m nobody r) j q s a 0 cs.items h vs.items duty),
 )
 ready_by m r j q s a (Ends cs ss e) here can duty leaves = (
-  record { can = can; job = ends_has m r j q cs.items here ss.items duty },
+  record { can = all_can free cs.items j m can; job = ends_has m r j q cs.items here ss.items duty },
   ends_stores m r j q cs.items here ss.items duty,
   leaves,
 )
-ready_by m r j q s a (Gone cs) here can duty leaves = can
+ready_by m r j q s a (Gone cs) here can duty leaves = all_can nothing cs.items j (effect (changes.Remove j) j m) can
+
+console_few : (m : Machine) (j : ℕ) (q : Whole) → m.jobs j ≡ Some q → Consoled m → IfSome q.job.console (λ c. c < 8)
+console_few m j q here c = subst (λ (o : Option Whole). IfSome o (λ p. IfSome p.job.console (λ c. c < 8))) here (c.each j)
 
 pub ready : (m : Machine) (j : ℕ) (q : Whole) (s : Site) (a : Ask) → Forest m → Consoled m → m.jobs j ≡ Some q → q.job.pc < 2 ^ 18 → Stands q.core q.job s a → Ready m j a (decision m j q a)
 ready m j q s a forest consoled here placed st =
     let r = page_for (reserves a) in
-    ready_by m r j q s a (decision m j q a) here (decision_can m j q a forest here consoled)
+    ready_by m r j q s a (decision m j q a) here (decision_can free m j q a forest here (granted q a) (console_few m j q here consoled))
     (decision_duty decoding m (beginning m nobody r) j q s a 0 (calling m j q s a nobody forest here st tt (λ k h. refl) (λ k h. refl))) (decision_leaves m j q a placed)
 
 -- the same of the machine in running form, at the call to which its step comes

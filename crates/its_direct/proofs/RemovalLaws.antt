@@ -1,54 +1,47 @@
 -- The removal of a job with all jobs below it.
-use Rattle.std.specs.Prelude.{if◌then◌else◌, ◌≡◌, ◌≢◌, ◌≤◌, ◌<◌, ℕ, ◌+◌, Bool, true, false, Option, Some, None, List, [], length, option_map, slice_set, slice_index_or, sum_by, refl}
-use Rattle.std.specs.List.{range_with_len}
+use Rattle.std.specs.Prelude.{if◌then◌else◌, ◌≡◌, ◌≤◌, ◌<◌, ℕ, ◌+◌, Bool, true, false, Option, Some, None, List, [], length, option_map, slice_set, slice_index_or, refl}
 use Rattle.std.proofs.Common.{sym, ◌∙◌, ap, subst, inl, inr, arith}
-use Rattle.std.proofs.lemmas.Bool.{cases_eq, cases_lt, cases_Bool, both_ways, eq-eqb, ne_eqb}
-use Rattle.std.proofs.lemmas.List.{get_or-set_same, get_or-set_other, get_or_past}
+use Rattle.std.proofs.lemmas.Bool.{cases_eq, cases_lt, cases_Bool, both_ways}
+use Rattle.std.proofs.lemmas.List.{get_or_past}
 use Rattle.its_word.specs.Core.{Core, no_core}
 use Rattle.its_word.specs.Limits.{slots}
 use Rattle.its_word.specs.Only.{Only}
 use Rattle.its_word.specs.declared.jobs.Channel.{Channel}
-use Rattle.its_word.specs.declared.jobs.Channel.TheVariants.{Closed, TtyIn, TtyOut, Reading, Writing, Usr}
+use Rattle.its_word.specs.declared.jobs.Channel.TheVariants.{Closed, Usr}
 use Rattle.its_word.specs.declared.jobs.Job.{Job}
 use Rattle.its_core.specs.Cores.{core_at, clear_at}
 use Rattle.its_files.specs.Files.{Store, directory}
-use Rattle.its_jobs.specs.Table.{Table, job_at, superior_at, in_tree, IsTree, Without}
+use Rattle.its_jobs.specs.Table.{job_at, superior_at, in_tree, IsTree, Without}
 use Rattle.its_jobs.proofs.TreeLaws.{past_none}
-use Rattle.its_plain.specs.Change.{channel_in, chan_left, in_job, left_job, on_slot, passed_on, removed, shut_on, superior_in, superiors, symbols_left}
-use Rattle.its_plain.specs.Machine.{Machine, On, Shut, Symbol, Whole}
+use Rattle.its_plain.specs.Change.{channel_in, in_job, left_job, on_slot, passed_on, removed, shut_on, superiors, symbols_left}
+use Rattle.its_plain.specs.Machine.{Machine, Shut, Symbol, Whole}
 use Rattle.its_plain.specs.OperatorClock.{clock_end}
 use Rattle.its_plain.specs.Own.{on_channel}
 use Rattle.its_plain.proofs.MachineLaws.{machine_is}
-use Rattle.its_parts.specs.Across.{channel_by, channel_at, tally, reads, writes, Across}
+use Rattle.its_parts.specs.Across.{channel_by, channel_at, channel_left as left_of, Across}
 use Rattle.its_parts.specs.Can.{chan_in}
 use Rattle.its_parts.specs.Parts.{alarm_at, bare, chan_of, console_at, holder_at, raw_at, raw_of, symbols_at}
+use Rattle.its_parts.proofs.AcrossLaws.{across_alike}
+use Rattle.its_parts.proofs.CoreLaws.{same_clear}
+use Rattle.its_parts.proofs.LeftLaws.{left_alike, left_chan, raw_superior, shut_here, shut_there}
 use Rattle.its_parts.proofs.PartLaws.{on_slot_here, on_slot_other}
-use Rattle.its_direct.specs.Effects.{AlarmBecomes, Becomes}
+use Rattle.its_parts.proofs.TurningLaws.{Turning}
+use Rattle.its_parts.proofs.TurningLaws as turnings
+use Rattle.its_direct.specs.Clock.{AlarmBecomes}
+use Rattle.its_direct.specs.Effects.{Becomes}
 use Rattle.its_direct.specs.Lines.{SymbolsBecome}
 use Rattle.its_direct.specs.Plain.{machine_of, Aside, Tidy, JobBecomes}
 use Rattle.its_direct.specs.Removal.{channel_left, Bares, Closes, ClosesTree, Leaves, Shares, SlotKept, SlotSwept, Sweeps, Swept}
 use Rattle.its_direct.specs.declared.plain.Plain.{Plain}
 use Rattle.its_direct.proofs.ChannelLaws.{chan_shut, placed_bare}
-use Rattle.its_direct.proofs.SlotLaws.{IsPlaced, same_clear}
+use Rattle.its_direct.proofs.SlotLaws.{IsPlaced}
 
 -- the superiors of the machine are those of the jobs
-superior_by : (t : Store) (c : Core) (s : Option ℕ) (a : Option (ℕ × ℕ)) (o : Option Job) → (o ≡ None → s ≡ None) → superior_in (raw_of t c s a o) ≡ s
-superior_by t c s a (Some j) h = refl
-superior_by t c s a None h = sym (h refl)
-
 pub superiors_are : (p : Plain) → IsTree p.jobs.jobs p.jobs.superiors → superiors (machine_of p) ≡ superior_at p.jobs
 unfolding machine_of
-superiors_are p t = λ i k. superior_by p.files (core_at p.core k) (superior_at p.jobs k) (alarm_at p.alarms.items k) (job_at p.jobs k) (t.owned k) i
+superiors_are p t = λ i k. raw_superior p.files p.core p.jobs p.alarms.items k t i
 
 -- the channels of a job closed, one by one
-shut_here : (o : Option Whole) (n : ℕ) → channel_in (option_map (on_channel n (λ c. Shut)) o) n ≡ Shut
-shut_here (Some q) n = rw (eq-eqb n n refl) refl
-shut_here None n = refl
-
-shut_there : (o : Option Whole) (n i : ℕ) → i ≢ n → channel_in (option_map (on_channel n (λ c. Shut)) o) i ≡ channel_in o i
-shut_there (Some q) n i ne = rw (ne_eqb i n ne) refl
-shut_there None n i ne = refl
-
 pub all_start : (p : Plain) (s : ℕ) → Closes p p s 0
 all_start p s = record { jobs = λ k ne. refl; rest = refl; superiors = refl; place = refl; touched = refl; closed = λ i l. absurd (omega arith) }
 
@@ -115,29 +108,16 @@ pub tree_end : (gone : ℕ → Bool) (old now : Plain) (n : ℕ) → slots ≤ n
 tree_end gone old now n le h = record { jobs = h.jobs; rest = h.rest; superiors = h.superiors; place = h.place; touched = h.touched; closed = λ k i l f m. h.closed k i (omega arith) f m }
 
 -- turning the entries of a list, one by one
-pub record Turning {X : Type 0} (f : X → X) (d : X) (old new : List X) (n : ℕ) : Type 0 where
-  pub done : (k : ℕ) → k < n → slice_index_or new k d ≡ f (slice_index_or old k d)
-  pub rest : (k : ℕ) → n ≤ k → slice_index_or new k d ≡ slice_index_or old k d
-
 pub turning_start : {X : Type 0} → (f : X → X) (d : X) (xs : List X) → Turning f d xs xs 0
-turning_start f d xs = record { done = λ k l. absurd (omega arith); rest = λ k l. refl }
+turning_start f d xs = turnings.turning_start f d xs
 
 pub turning_more : {X : Type 0} → (f : X → X) (d : X) (old new : List X) (n : ℕ) (x y : X) → n < length new → x ≡ slice_index_or new n d → y ≡ f x
     → Turning f d old new n → Turning f d old (slice_set new n y) (n + 1)
-turning_more f d old new n x y l e h s = record {
-  done = λ k less. elim (cases_eq k n) [
-    | inl i ↦ rw (i, get_or-set_same new n y d l) (h ∙ ap f (e ∙ s.rest n (omega arith)))
-    | inr ne ↦ get_or-set_other new n k y d ne ∙ s.done k (omega arith)
-  ];
-  rest = λ k less. get_or-set_other new n k y d (λ i. omega arith) ∙ s.rest k (omega arith);
-}
+turning_more f d old new n x y l e h s = turnings.turning_more f d old new n x y l e h s
 
 pub turning_end : {X : Type 0} → (f : X → X) (d : X) (old new : List X) (n : ℕ) → f d ≡ d → length old ≤ n → Turning f d old new n
     → (k : ℕ) → slice_index_or new k d ≡ f (slice_index_or old k d)
-turning_end f d old new n past l s k = elim (cases_lt k n) [
-  | inl less ↦ s.done k less
-  | inr more ↦ s.rest k more ∙ get_or_past old k d (omega arith) ∙ sym (ap f (get_or_past old k d (omega arith)) ∙ past)
-]
+turning_end f d old new n past l s k = turnings.turning_end f d old new n past l s k
 
 -- the slot of a job that is to go
 by_gone : {X : Type 0} (b : Bool) (x y : X) → b ≡ true → x ≡ (if b then x else y)
@@ -301,49 +281,14 @@ pub swept_end : (gone : ℕ → Bool) (old now : Plain) (n : ℕ) → slots ≤ 
 swept_end gone old now n le h ge = let e : n ≡ slots = omega arith in subst (Swept gone old now) e h
 
 -- what is left of the jobs that stay
-abbrev left_if : Bool → Channel → Channel
-left_if b c = if b then Closed else c
-
-reads_if : (b : Bool) (f k at : ℕ) (w : Bool) → reads f (left_if b (Usr k w at)) ≡ 0
-reads_if true f k at w = refl
-reads_if false f k at w = refl
-
-reads_left : (gone : ℕ → Bool) (f : ℕ) (c : Channel) → reads f (channel_left gone c) ≡ reads f c
-reads_left gone f (Usr k w at) = reads_if (gone k) f k at w
-reads_left gone f Closed = refl
-reads_left gone f TtyIn = refl
-reads_left gone f TtyOut = refl
-reads_left gone f (Reading g at) = refl
-reads_left gone f (Writing d) = refl
-
-writes_if : (b : Bool) (d k at : ℕ) (w : Bool) → writes d (left_if b (Usr k w at)) ≡ 0
-writes_if true d k at w = refl
-writes_if false d k at w = refl
-
-writes_left : (gone : ℕ → Bool) (d : ℕ) (c : Channel) → writes d (channel_left gone c) ≡ writes d c
-writes_left gone d (Usr k w at) = writes_if (gone k) d k at w
-writes_left gone d Closed = refl
-writes_left gone d TtyIn = refl
-writes_left gone d TtyOut = refl
-writes_left gone d (Reading f at) = refl
-writes_left gone d (Writing e) = refl
-
-chan_if : (s : Store) (b : Bool) (k at : ℕ) (w : Bool) → chan_of s (left_if b (Usr k w at)) ≡ (if b then Shut else On k w at)
-chan_if s true k at w = refl
-chan_if s false k at w = refl
-
-chan_left_is : (s : Store) (gone : ℕ → Bool) (c : Channel) → chan_of s (channel_left gone c) ≡ chan_left gone (chan_of s c)
-chan_left_is s gone (Usr k w at) = chan_if s (gone k) k at w
-chan_left_is s gone Closed = refl
-chan_left_is s gone TtyIn = refl
-chan_left_is s gone TtyOut = refl
-chan_left_is s gone (Reading f at) = refl
-chan_left_is s gone (Writing d) = refl
+left_same : (gone : ℕ → Bool) (c : Channel) → channel_left gone c ≡ left_of gone c
+left_same gone (Usr s w at) = refl
+left_same gone _ = refl
 
 raw_left : (x : Store) (c : Core) (u : Option ℕ) (a : Option (ℕ × ℕ)) (gone : ℕ → Bool) (i j : Option Job) → Leaves gone i j → raw_of x c u a j ≡ option_map (shut_on gone) (raw_of x c u a i)
 raw_left x c u a gone (Some i) (Some j) h =
     let b : bare j ≡ bare i = let e = h.bare in cc in
-    λ t. Some (record { core = c; job = b t; superior = u; channels = λ n. (ap (chan_of x) (h.chans n) ∙ chan_left_is x gone (slice_index_or i.channels n Closed)) t; alarm = a })
+    λ t. Some (record { core = c; job = b t; superior = u; channels = λ n. (ap (chan_of x) (h.chans n ∙ left_same gone (slice_index_or i.channels n Closed)) ∙ left_chan x gone (slice_index_or i.channels n Closed)) t; alarm = a })
 raw_left x c u a gone None None h = refl
 raw_left x c u a gone (Some i) None h = let e = h.bare in cc
 raw_left x c u a gone None (Some j) h = let e = h.bare in cc
@@ -359,23 +304,6 @@ none_bare None (Some j) e h = cc
 symbols_if : (b : Bool) (ss : List Symbol) → (if b then [] else ss) ≡ symbols_left b ss
 symbols_if true ss = refl
 symbols_if false ss = refl
-
--- the numbers in channels fit files and drafts, where each channel weighs as before
-module _ (a b : ℕ) (w : Channel → ℕ) (cs ds : ℕ → ℕ → Channel) (h : (k n : ℕ) → w (ds k n) ≡ w (cs k n)) where
-  rows_alike : sum_by (λ (k : ℕ). sum_by (λ (n : ℕ). w (ds k n)) (range_with_len 0 b)) (range_with_len 0 a) ≡ sum_by (λ (k : ℕ). sum_by (λ (n : ℕ). w (cs k n)) (range_with_len 0 b)) (range_with_len 0 a)
-  rows_alike = λ i. sum_by (λ (k : ℕ). sum_by (λ (n : ℕ). h k n i) (range_with_len 0 b)) (range_with_len 0 a)
-
-tally_alike : (w : Channel → ℕ) (cs ds : ℕ → ℕ → Channel) → ((k n : ℕ) → w (ds k n) ≡ w (cs k n)) → tally w ds ≡ tally w cs
-unfolding tally
-tally_alike w cs ds h = rows_alike slots 16 w cs ds h
-
-across_left : (s : Store) (t v : Table) (gone : ℕ → Bool) → Across s t → ((k n : ℕ) → channel_at v k n ≡ channel_left gone (channel_at t k n)) → Across s v
-across_left s t v gone a h = record {
-  past_slots = λ k n le. h k n ∙ ap (channel_left gone) (a.past_slots k n le);
-  past_numbers = λ k n le. h k n ∙ ap (channel_left gone) (a.past_numbers k n le);
-  read = λ f. tally_alike (reads f) (channel_at t) (channel_at v) (λ k n. ap (reads f) (h k n) ∙ reads_left gone f (channel_at t k n)) ∙ a.read f;
-  written = λ d. tally_alike (writes d) (channel_at t) (channel_at v) (λ k n. ap (writes d) (h k n) ∙ writes_left gone d (channel_at t k n)) ∙ a.written d;
-}
 
 -- the jobs are removed behind a sweep
 pub record Removes (old mid new : Plain) (r : ℕ) : Type 0 where
@@ -493,7 +421,7 @@ module _ (old mid new : Plain) (r : ℕ) (low : r < slots) (tree : IsTree old.jo
   stripped_tidy = record {
     unreserved = λ k. ap (λ c. clear_at c k) b.core ∙ b.swept.shares.reserved k ∙ tidy.unreserved k;
     unmarked = ap (λ (x : Store). x.mark) files_new ∙ tidy.unmarked;
-    across = subst (λ (x : Store). Across x new.jobs) (sym files_new) (across_left old.files old.jobs new.jobs (in_tree (superior_at old.jobs) r) tidy.across channels_new);
+    across = subst (λ (x : Store). Across x new.jobs) (sym files_new) (across_alike old.files old.jobs new.jobs tidy.across (λ k n. left_alike (in_tree (superior_at old.jobs) r) (channel_at old.jobs k n) (channel_at new.jobs k n) (channels_new k n ∙ left_same (in_tree (superior_at old.jobs) r) (channel_at old.jobs k n))));
     blank = λ k h. elim (cases_Bool (in_tree (superior_at old.jobs) r k)) [
       | inl g ↦ core_new k ∙ sym (by_gone (in_tree (superior_at old.jobs) r k) no_core (core_at old.core k) g)
       | inr f ↦ core_new k ∙ sym (by_kept (in_tree (superior_at old.jobs) r k) no_core (core_at old.core k) f) ∙ tidy.blank k (none_new k f h)

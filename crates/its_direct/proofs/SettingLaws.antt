@@ -1,12 +1,8 @@
 -- The lines VERSION, RO, SYM and PEEK.
-use Rattle.std.specs.Prelude.{if◌then◌else◌, ◌≡◌, ◌≢◌, ◌<◌, ◌==◌, ◌++◌, ◌∷◌, [], ℕ, Bool, true, false, Option, Some, None, is_some, List, Ok, Err, length, nat_lt, slice_set, refl}
+use Rattle.std.specs.Prelude.{◌≡◌, ◌≢◌, ◌<◌, ◌++◌, ◌∷◌, [], ℕ, Bool, true, false, Option, Some, None, is_some, List, Ok, Err, length, nat_lt, refl}
 use Rattle.std.proofs.Common.{ap, sym, subst, ◌∙◌}
-use Rattle.std.proofs.lemmas.Bool.{ne_eqb}
-use Rattle.std.proofs.lemmas.List.{get_or-set_same, get_or-set_other}
-use Rattle.its_word.specs.ArrayVec.{ArrayVec}
 use Rattle.its_word.specs.Core.{Page, page_of, with_page, marked}
 use Rattle.its_word.specs.Limits.{slots, most_symbols}
-use Rattle.its_word.specs.Only.{Only}
 use Rattle.its_word.specs.declared.jobs.Job.{Job}
 use Rattle.its_word.specs.declared.session.Reason.TheVariants as reasons
 use Rattle.its_core.specs.Cores.{core_at, clear_at, mark_of}
@@ -20,9 +16,10 @@ use Rattle.its_plain.specs.OperatorSymbols.{with_symbol, symbol_kept_if, symbol_
 use Rattle.its_plain.specs.OperatorVersion.{versioned}
 use Rattle.its_plain.proofs.MachineLaws.{machine_is}
 use Rattle.its_parts.specs.Across.{channel_by, Across}
-use Rattle.its_parts.specs.Parts.{alarm_at, console_at, holder_at, no_symbols, symbols_at, raw_of, raw_at}
+use Rattle.its_parts.specs.Parts.{alarm_at, console_at, holder_at, symbols_at, raw_of, raw_at}
 use Rattle.its_parts.proofs.AcrossLaws.{across_table}
 use Rattle.its_parts.proofs.PartLaws.{changed_at}
+use Rattle.its_parts.proofs.VersionLaws.{second, same_version}
 use Rattle.its_direct.specs.Plain.{machine_of, no_slots, Tidy, CoreBecomes}
 use Rattle.its_direct.specs.Lines.{one_slot, Operates, Stands, Keeps, SymbolsBecome, VersionBecomes}
 use Rattle.its_direct.specs.declared.plain.Plain.{Plain}
@@ -37,14 +34,6 @@ unfolding machine_of
 version_machine old new b = machine_is _ _
     (λ k t. raw_of (b.files t) (core_at (b.core t) k) (superior_in (b.superiors t) k) (alarm_at (b.alarms t).items k) (b.jobs.each k t))
     (λ k. ap (λ l. console_at l.items k) b.consoles) (λ k. ap (λ l. holder_at l k) b.holders) (ap directory b.files) b.clock b.version (λ k. ap (λ l. symbols_at l.items k) b.symbols)
-
-second : (m : Machine) (v : ℕ) → v ≡ 2 → versioned m v ≡ record m { version = 2 }
-unfolding versioned
-second m v e = ap (λ (i : ℕ). if i == 2 then record m { version = 2 } else m) e
-
-same_version : (m : Machine) (v : ℕ) → v ≢ 2 → versioned m v ≡ m
-unfolding versioned
-same_version m v ne = rw (ne_eqb v 2 ne) refl
 
 pub version_second : (old put new : Plain) (v : ℕ) → v ≡ 2 → VersionBecomes old put 2 → new ≡ record put { touched = no_slots } → Stands old new (versioned (machine_of old) v)
 version_second old put new v e b t = record {
@@ -115,12 +104,6 @@ unfolding page_protected
 read_only_refused p s k o is none = ap (on_job (machine_of p) s (λ q. page_protected_in (machine_of p) s k q (page_of q.core k))) (nobody_is p s (sym is ∙ none))
 
 -- SYM
-pub list_here : (xs : List (ArrayVec Symbol)) (s : ℕ) (x : ArrayVec Symbol) (ss : List Symbol) → s < length xs → x.items ≡ ss → Only (symbols_at xs) (symbols_at (slice_set xs s x)) s ss
-list_here xs s x ss l e = record {
-  here = ap (λ (y : ArrayVec Symbol). y.items) (get_or-set_same xs s x no_symbols l) ∙ e;
-  others = λ k ne. ap (λ (y : ArrayVec Symbol). y.items) (get_or-set_other xs s k x no_symbols ne);
-}
-
 symbols_is : (p : Plain) (s : ℕ) → (machine_of p).symbols s ≡ symbols_at p.symbols.items s
 unfolding machine_of
 symbols_is p s = refl

@@ -6,10 +6,10 @@ use Rattle.std.proofs.Math.Bridge.{le_prop}
 use Rattle.std.proofs.Math.Nat.{ℕ_set}
 use Rattle.its_word.specs.Core.{Core}
 use Rattle.its_word.specs.Limits.{slots, limit_of}
-use Rattle.its_word.specs.Only.{Only, Same}
+use Rattle.its_word.specs.Only.{Only}
 use Rattle.its_word.specs.declared.jobs.Channel.TheVariants.{Closed}
 use Rattle.its_word.specs.declared.jobs.Job.{Job}
-use Rattle.its_core.specs.Cores.{Cores, Reserved, core_at, reserved_at, clear_at}
+use Rattle.its_core.specs.Cores.{Cores, core_at, clear_at}
 use Rattle.its_files.specs.Files.{Store, directory}
 use Rattle.its_jobs.specs.Table.{job_at, superior_at}
 use Rattle.its_plain.specs.Change.{in_job}
@@ -19,16 +19,10 @@ use Rattle.its_plain.proofs.MachineLaws.{machine_is}
 use Rattle.its_parts.specs.Across.{channel_by, channel_at, Across}
 use Rattle.its_parts.specs.Parts.{alarm_at, console_at, holder_at, symbols_at, raw_of, raw_at}
 use Rattle.its_parts.proofs.AcrossLaws.{across_table}
+use Rattle.its_parts.proofs.CoreLaws.{same_clear}
 use Rattle.its_parts.proofs.PartLaws.{raw_job, raw_some, slot_at}
 use Rattle.its_direct.specs.Plain.{machine_of, Tidy, Aside, SlotBecomes, CoreBecomes, JobBecomes}
 use Rattle.its_direct.specs.declared.plain.Plain.{Plain}
-
-same_reserved : (a b : Cores) (k : ℕ) → b.reserved ≡ a.reserved → reserved_at b k ≡ reserved_at a k
-unfolding reserved_at
-same_reserved a b k h = ap (λ rs. slice_index_or rs k None) h
-
-pub same_clear : (a b : Cores) → b.reserved ≡ a.reserved → Same (clear_at a) (clear_at b)
-same_clear a b h = record { each = λ k. ap (λ (r : Option Reserved). option_map (λ x. x.clear) r) (same_reserved a b k h) }
 
 pub alike : {X : Type 0} → (f g : ℕ → X) (s : ℕ) → ((k : ℕ) → g k ≡ f k) → Only f g s (f s)
 alike f g s h = record { here = h s; others = λ k n. h k }

@@ -1,7 +1,6 @@
 -- What an event that was obeyed leaves: what holds between two events, the place of the next line, and the jobs that there were.
-use Rattle.std.specs.Prelude.{◌≡◌, ◌<◌, ℕ, Bool, Option, Some, None, IfOk, OnErr, List, [], take, Result, Ok, Err, refl}
+use Rattle.std.specs.Prelude.{◌≡◌, ◌<◌, ℕ, Bool, Option, Some, None, IfOk, OnErr, List, Result, Ok, Err, refl}
 use Rattle.std.proofs.Common.{ap, sym, subst, ◌∙◌, arith}
-use Rattle.its_word.specs.ArrayVec.{ArrayVec}
 use Rattle.its_word.specs.Limits.{slots}
 use Rattle.its_word.specs.Tree.{least_free}
 use Rattle.its_word.specs.declared.session.Event.{Event}
@@ -14,12 +13,12 @@ use Rattle.its_print.specs.Printing.{Line}
 use Rattle.its_session.specs.Events.{place_after}
 use Rattle.its_session.specs.Fits.{EventFits}
 use Rattle.its_plain.specs.Machine.{Whole, Machine, no_machine, limit}
-use Rattle.its_plain.specs.Operator.{Block, no_block, Does, Refuses, Ticks, Quits, nobody, only, disturbs, quietly}
-use Rattle.its_plain.specs.OperatorFiles.{words_added, file_shown}
+use Rattle.its_plain.specs.Operator.{Block, no_block, Does, Refuses, Ticks, Quits, disturbs, quietly}
+use Rattle.its_plain.specs.OperatorFiles.{file_shown}
 use Rattle.its_plain.specs.OperatorClock.{clocked}
-use Rattle.its_plain.specs.OperatorJobs.{loaded_in, loaded, words_loaded}
+use Rattle.its_plain.specs.OperatorJobs.{loaded_in, loaded}
 use Rattle.its_plain.specs.OperatorLines.{operate, Lined, Done, Peeks, peeked_at, lined, by_load, by_exam, by_state, by_clock, shows}
-use Rattle.its_plain.proofs.CallLineLaws.{SlotKept, Stays, Made, LineKeepsBy, added_files, line_keeps}
+use Rattle.its_plain.proofs.CallLineLaws.{SlotKept, Stays, Made, LineKeepsBy, line_keeps}
 use Rattle.its_stepped.specs.Alarmed.{Alarmed}
 use Rattle.its_stepped.specs.Consoled.{Consoled}
 use Rattle.its_stepped.specs.Forest.{Forest}
@@ -27,13 +26,13 @@ use Rattle.its_stepped.proofs.AlarmLaws.{alarmed_starts, line_alarmed}
 use Rattle.its_stepped.proofs.ConsoledLaws.{consoled_starts}
 use Rattle.its_stepped.proofs.ForestLaws.{forest_starts}
 use Rattle.its_stepped.proofs.WrittenLaws.{line_forest}
-use Rattle.its_direct.specs.Events.{SpotFits, Kept, place_of, Speaks, Obeys, Spares, Told, JobsStay}
+use Rattle.its_direct.specs.Events.{SpotFits, Kept, place_of, Speaks, Obeys, Told, JobsStay}
 use Rattle.its_direct.specs.Plain.{machine_of, Tidy}
 use Rattle.its_direct.specs.declared.events.Answer.{Answer}
 use Rattle.its_direct.specs.declared.plain.Plain.{Plain}
 use Rattle.its_direct.specs.declared.plain.Spot.{Spot}
 use Rattle.its_direct.specs.declared.plain.Spot.TheVariants as spots
-use Rattle.its_direct.proofs.HousedLaws.{ConsoledBy, files_consoled, line_consoled, words_consoled}
+use Rattle.its_direct.proofs.HousedLaws.{line_consoled}
 
 -- what holds at the start of a session
 pub alarmed_open : (p : Plain) → machine_of p ≡ no_machine → Alarmed (machine_of p)
@@ -173,66 +172,17 @@ obeyed_jobs e a old new b (Done (Ticks s i)) is o k h = absurd o
 obeyed_jobs e a old new b (Done Quits) is o k h = absurd o
 obeyed_jobs e a old new b (Peeks s) is o k h = sym (ap (λ (m : Machine). m.jobs k) o.0) ∙ h
 
--- and one that was refused: where words were stored, a line of fewer words was obeyed
-module _ (old new : Plain) (b c : Block) (e : Event) (out : List Line) (touched : ℕ → Bool) (is : lined (machine_of old) b e ≡ Done (Does (machine_of new) out touched c)) where
-  line_kept : Consoled (machine_of new) → new.place ≡ old.place → Tidy new → Kept old → Kept new
-  line_kept consoled place tidy kept = record {
-    tidy = tidy;
-    forest = line_forest (machine_of old) (machine_of new) b c e out touched kept.forest is;
-    alarmed = line_alarmed (machine_of old) (machine_of new) b c e out touched kept.forest kept.alarmed is;
-    consoled = consoled;
-    placed = subst SpotFits (sym place) kept.placed;
-  }
-
-  line_jobs : JobsStay old new
-  line_jobs = λ k h. slot_stays ((machine_of old).jobs k) ((machine_of new).jobs k) ((subst (LineKeepsBy (machine_of old)) is (line_keeps (machine_of old) b e)).slots k) h
-
-abbrev fewer : ArrayVec ℕ → ℕ → ArrayVec ℕ
-fewer ws n = record ws { items = take n ws.items }
-
-words_line : (m n : Machine) (b : Block) (a few : ℕ) (ws : ArrayVec ℕ) → words_loaded m b.slot a (take few ws.items) ≡ Ok n → lined m b (events.Words a (fewer ws few)) ≡ Done (Does n [] (only b.slot) b)
-unfolding lined operate
-words_line m n b a few ws is = ap (λ r. Done (disturbs b.slot b r)) is
-
-append_line : (m n : Machine) (b : Block) (few : ℕ) (ws : ArrayVec ℕ) → words_added m b.file (take few ws.items) ≡ Ok n → lined m b (events.Append (fewer ws few)) ≡ Done (Does n [] nobody b)
-unfolding lined operate
-append_line m n b few ws is = ap (λ r. Done (quietly b r)) is
-
-spared_kept : (e : Event) (old new : Plain) → Spares e old new → Tidy new → Kept old → Kept new
-spared_kept (events.Words a ws) old new spared tidy kept =
-    let b = block_at old.place in
-    let h = spared b (speaks_at old.place) in
-    line_kept old new b b (events.Words a (fewer ws h.few)) [] (only b.slot) (words_line (machine_of old) (machine_of new) b a h.few ws h.is)
-    (subst ConsoledBy h.is (words_consoled (machine_of old) b.slot a (take h.few ws.items) kept.consoled)) h.place tidy kept
-spared_kept (events.Append ws) old new spared tidy kept =
-    let b = block_at old.place in
-    let h = spared b (speaks_at old.place) in
-    line_kept old new b b (events.Append (fewer ws h.few)) [] nobody (append_line (machine_of old) (machine_of new) b h.few ws h.is)
-    (subst ConsoledBy h.is (files_consoled (machine_of old) (words_added (machine_of old) b.file (take h.few ws.items)) (added_files (machine_of old) b.file (take h.few ws.items)) kept.consoled)) h.place tidy kept
-spared_kept e old new spared tidy kept = subst Kept (sym spared) kept
-
-spared_jobs : (e : Event) (old new : Plain) → Spares e old new → JobsStay old new
-spared_jobs (events.Words a ws) old new spared =
-    let b = block_at old.place in
-    let h = spared b (speaks_at old.place) in
-    line_jobs old new b b (events.Words a (fewer ws h.few)) [] (only b.slot) (words_line (machine_of old) (machine_of new) b a h.few ws h.is)
-spared_jobs (events.Append ws) old new spared =
-    let b = block_at old.place in
-    let h = spared b (speaks_at old.place) in
-    line_jobs old new b b (events.Append (fewer ws h.few)) [] nobody (append_line (machine_of old) (machine_of new) b h.few ws h.is)
-spared_jobs e old new spared = λ k h. sym (ap (λ (p : Plain). (machine_of p).jobs k) spared) ∙ h
-
 -- what holds after an event, obeyed or refused
-pub told_kept : (e : Event) (old new : Plain) (r : Result Answer Refusal) → EventFits 2 e → Told e old new r → OnErr r (Spares e old new) → Tidy new → Kept old → Kept new
-told_kept e old new (Ok a) ranged told spared tidy kept =
+pub told_kept : (e : Event) (old new : Plain) (r : Result Answer Refusal) → EventFits 2 e → Told e old new r → OnErr r (new ≡ old) → Tidy new → Kept old → Kept new
+told_kept e old new (Ok a) ranged told same tidy kept =
     let o = told (block_at old.place) (speaks_at old.place) in
     obeyed_kept e a old new (block_at old.place) o.comes ranged (fits_at old.place kept.placed) o.is o.obeys kept tidy
-told_kept e old new (Err z) ranged told spared tidy kept = spared_kept e old new spared tidy kept
+told_kept e old new (Err z) ranged told same tidy kept = subst Kept (sym same) kept
 
 pub told_place : (e : Event) (old new : Plain) (r : Result Answer Refusal) → Told e old new r → IfOk r (λ a. place_of new.place ≡ place_after (place_of old.place) e)
 told_place e old new (Ok a) told = (told (block_at old.place) (speaks_at old.place)).leads
 told_place e old new (Err z) told = tt
 
-pub told_jobs : (e : Event) (old new : Plain) (r : Result Answer Refusal) → Told e old new r → OnErr r (Spares e old new) → JobsStay old new
-told_jobs e old new (Ok a) told spared = let o = told (block_at old.place) (speaks_at old.place) in obeyed_jobs e a old new (block_at old.place) o.comes o.is o.obeys
-told_jobs e old new (Err z) told spared = spared_jobs e old new spared
+pub told_jobs : (e : Event) (old new : Plain) (r : Result Answer Refusal) → Told e old new r → OnErr r (new ≡ old) → JobsStay old new
+told_jobs e old new (Ok a) told same = let o = told (block_at old.place) (speaks_at old.place) in obeyed_jobs e a old new (block_at old.place) o.comes o.is o.obeys
+told_jobs e old new (Err z) told same = λ k h. sym (ap (λ (p : Plain). (machine_of p).jobs k) same) ∙ h

@@ -41,9 +41,9 @@ no_parts = record {
   operand = record { items = [] };
 }
 
-abbrev pub first_of : Option ℕ → ℕ → Option ℕ
-first_of (Some x) y = Some x
-first_of None y = Some y
+abbrev pub first_error : Option ℕ → ℕ → Option ℕ
+first_error (Some x) y = Some x
+first_error None y = Some y
 
 -- one more
 abbrev pub with_argument : Core → Arg → Parts → Parts
@@ -52,10 +52,10 @@ with_argument c (Input s) p = record p {
   operand = record { items = p.operand.items ++ cons_option (place_of s) [] };
 }
 with_argument c (Output a) p = record p { outputs = record { items = p.outputs.items ++ a ∷ [] } }
-with_argument c (ErrorAt a) p = record p { errors = p.errors + 1; error = first_of p.error a }
+with_argument c (ErrorAt a) p = record p { errors = p.errors + 1; error = first_error p.error a }
 with_argument c (Control s) p = record p {
   controls = p.controls + 1;
-  control = first_of p.control (value_of c s);
+  control = first_error p.control (value_of c s);
   operand = record { items = p.operand.items ++ cons_option (place_of s) [] };
 }
 

@@ -1,11 +1,11 @@
 -- What CLOCK comes to, in the machine in running form, whose alarms go slot after slot.
-use Rattle.std.specs.Prelude.{◌≡◌, ◌≤◌, ◌==◌, ◌+◌, ◌&&◌, ◌||◌, ℕ, Bool, false, Option, IfSome, Result, Ok, nat_lt}
+use Rattle.std.specs.Prelude.{◌≡◌, ◌==◌, ◌+◌, ◌&&◌, ◌||◌, ℕ, Bool, false, Option, IfSome, Result, Ok, nat_lt}
 use Rattle.its_word.specs.Only.{Only}
 use Rattle.its_word.specs.declared.session.Reason.{Reason}
 use Rattle.its_plain.specs.Alarm.{is_due}
-use Rattle.its_plain.specs.CallBasic.{longest_period}
 use Rattle.its_plain.specs.Machine.{Machine}
 use Rattle.its_plain.specs.OperatorClock.{due, rung_if}
+use Rattle.its_stepped.specs.Alarmed.{Periodic}
 use Rattle.its_parts.specs.Parts.{alarm_at}
 use Rattle.its_direct.specs.Plain.{machine_of, is_touched}
 use Rattle.its_direct.specs.declared.plain.Plain.{Plain}
@@ -16,11 +16,7 @@ pub record Clocks (old new : Plain) (n : ℕ) (r : Result Machine Reason) : Type
   pub touched : (k : ℕ) → is_touched new k ≡ due ((machine_of old).clock + n) (machine_of old).jobs k
   pub place : new.place ≡ old.place
 
--- an alarm whose next time can be found, and that all are such
-pub record Periodic (a : ℕ × ℕ) : Type 0 where
-  pub some : 1 ≤ a.0
-  pub most : a.0 ≤ longest_period
-
+-- the next time of each alarm can be found
 abbrev pub Periods : Plain → Type 0
 Periods p = (k : ℕ) → IfSome (alarm_at p.alarms.items k) Periodic
 

@@ -1,14 +1,12 @@
 -- What a change of a call comes to, in the machine in running form.
-use Rattle.std.specs.Prelude.{◌≡◌, ◌≢◌, ℕ, true, Option, Some, None, is_some, option_map}
-use Rattle.its_word.specs.Only.{Only, Same}
+use Rattle.std.specs.Prelude.{◌≡◌, ℕ, Option, Some, None}
+use Rattle.its_word.specs.Only.{Same}
 use Rattle.its_word.specs.declared.jobs.Channel.{Channel}
 use Rattle.its_word.specs.declared.jobs.Job.{Job}
 use Rattle.its_core.specs.Cores.{core_at, clear_at}
 use Rattle.its_files.specs.Files.{Store}
-use Rattle.its_jobs.specs.Table.{job_at}
 use Rattle.its_plain.specs.Machine.{Machine}
-use Rattle.its_parts.specs.Across.{channel_at}
-use Rattle.its_parts.specs.Parts.{alarm_at, bare}
+use Rattle.its_parts.specs.Channels.{OnlyChannel}
 use Rattle.its_direct.specs.Plain.{machine_of, Tidy}
 use Rattle.its_direct.specs.declared.plain.Plain.{Plain}
 
@@ -18,27 +16,9 @@ pub record Becomes (old new : Plain) (m : Machine) : Type 0 where
   pub place : new.place ≡ old.place
   pub touched : new.touched ≡ old.touched
 
--- only the alarm of slot s is another
-pub record AlarmBecomes (old new : Plain) (s : ℕ) (a : Option (ℕ × ℕ)) : Type 0 where
-  pub alarms : Only (alarm_at old.alarms.items) (alarm_at new.alarms.items) s a
-  pub core : new.core ≡ old.core
-  pub jobs : new.jobs ≡ old.jobs
-  pub consoles : new.consoles ≡ old.consoles
-  pub holders : new.holders ≡ old.holders
-  pub files : new.files ≡ old.files
-  pub clock : new.clock ≡ old.clock
-  pub version : new.version ≡ old.version
-  pub symbols : new.symbols ≡ old.symbols
-  pub place : new.place ≡ old.place
-  pub touched : new.touched ≡ old.touched
-
 -- of the job of slot s, where there is one, only channel n is another; and the store of files is t
 pub record ChannelBecomes (old new : Plain) (s n : ℕ) (x : Channel) (t : Store) : Type 0 where
-  pub here : is_some (job_at old.jobs s) ≡ true → channel_at new.jobs s n ≡ x
-  pub row : (m : ℕ) → m ≢ n → channel_at new.jobs s m ≡ channel_at old.jobs s m
-  pub job : option_map bare (job_at new.jobs s) ≡ option_map bare (job_at old.jobs s)
-  pub rows : (k : ℕ) → k ≢ s → job_at new.jobs k ≡ job_at old.jobs k
-  pub superiors : new.jobs.superiors ≡ old.jobs.superiors
+  pub jobs : OnlyChannel old.jobs new.jobs s n x
   pub core : Same (core_at old.core) (core_at new.core)
   pub reserved : Same (clear_at old.core) (clear_at new.core)
   pub consoles : new.consoles ≡ old.consoles

@@ -1,5 +1,5 @@
 -- What an event comes to, in the machine in running form: the operator's line exactly.
-use Rattle.std.specs.Prelude.{◌≡◌, ◌<◌, ℕ, false, None, List, [], ◌∷◌, take, Result, Ok, Err}
+use Rattle.std.specs.Prelude.{◌≡◌, ◌<◌, ℕ, false, None, List, [], ◌∷◌, Result, Ok, Err}
 use Rattle.its_word.specs.Limits.{slots}
 use Rattle.its_word.specs.declared.session.Event.{Event}
 use Rattle.its_word.specs.declared.session.Event.TheVariants as events
@@ -14,11 +14,9 @@ use Rattle.its_stepped.specs.Alarmed.{Alarmed}
 use Rattle.its_stepped.specs.Consoled.{Consoled}
 use Rattle.its_stepped.specs.Forest.{Forest}
 use Rattle.its_plain.specs.Operator.{Block, Does, Refuses}
-use Rattle.its_plain.specs.OperatorFiles.{words_added}
-use Rattle.its_plain.specs.OperatorJobs.{words_loaded}
 use Rattle.its_plain.specs.OperatorLines.{Lined, Done, Peeks, lined}
 use Rattle.its_direct.specs.Plain.{machine_of, is_touched, Tidy}
-use Rattle.its_direct.specs.Lines.{reason_of, Partly}
+use Rattle.its_direct.specs.Lines.{reason_of}
 use Rattle.its_direct.specs.declared.plain.Plain.{Plain}
 use Rattle.its_direct.specs.declared.plain.Spot.{Spot}
 use Rattle.its_direct.specs.declared.plain.Spot.TheVariants as spots
@@ -96,15 +94,6 @@ pub record Obeyed (e : Event) (a : Answer) (old new : Plain) (b : Block) : Type 
 abbrev pub Told : Event → Plain → Plain → Result Answer Refusal → Type 0
 Told e old new (Ok a) = (b : Block) → Speaks old.place b → Obeyed e a old new b
 Told e old new (Err x) = (b : Block) → Speaks old.place b → lined (machine_of old) b e ≡ Done (Refuses (reason_of x))
-
--- a line that is refused changes nothing; but of words for which there is no room, those before the first that has none are
--- stored
-abbrev pub Spares : Event → Plain → Plain → Type 0
-Spares (events.Words a ws) old new =
-    (b : Block) → Speaks old.place b → Partly old new (λ n. words_loaded (machine_of old) b.slot a (take n ws.items))
-Spares (events.Append ws) old new =
-    (b : Block) → Speaks old.place b → Partly old new (λ n. words_added (machine_of old) b.file (take n ws.items))
-Spares e old new = new ≡ old
 
 -- no slot loses its job
 abbrev pub JobsStay : Plain → Plain → Type 0

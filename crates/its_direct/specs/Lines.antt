@@ -1,37 +1,18 @@
 -- What a line of the operator comes to, in the machine in running form.
-use Rattle.std.specs.Prelude.{◌≡◌, ℕ, Bool, true, List, IsOk, Result, Ok, slice_set}
+use Rattle.std.specs.Prelude.{◌≡◌, ℕ, zero, suc, ◌+◌, ◌-◌, ◌/◌, Bool, true, false, List, IsOk, is_some, nat_lt, Result, Ok, slice_set}
+use Rattle.its_word.specs.Core.{Core, page_of}
 use Rattle.its_word.specs.Only.{Only, Same}
-use Rattle.its_word.specs.declared.access.NoAccess.{NoAccess}
-use Rattle.its_word.specs.declared.access.NoAccess.TheVariants.{Absent, ReadOnly}
 use Rattle.its_word.specs.declared.jobs.Job.{Job}
 use Rattle.its_word.specs.declared.session.Reason.{Reason}
-use Rattle.its_word.specs.declared.session.Reason.TheVariants as reasons
-use Rattle.its_word.specs.declared.session.Refusal.{Refusal}
-use Rattle.its_word.specs.declared.session.Refusal.TheVariants as refusals
 use Rattle.its_jobs.specs.Table.{job_at}
 use Rattle.its_plain.specs.Change.{in_job}
 use Rattle.its_plain.specs.Machine.{Console, Symbol, Machine}
 use Rattle.its_plain.specs.Operator.{nobody, only}
+pub use Rattle.its_parts.specs.Refusals.{reason_of, refusal_of}
 use Rattle.its_parts.specs.Parts.{bare, console_at, symbols_at}
 use Rattle.its_direct.specs.Plain.{machine_of, is_touched, no_slots}
 use Rattle.its_direct.specs.declared.plain.Plain.{Plain}
 use Rattle.its_direct.specs.declared.plain.Spot.TheVariants as spots
-
--- a refusal, as a session says it
-abbrev pub reason_of : Refusal → Reason
-reason_of refusals.NoJob = reasons.NoJob
-reason_of refusals.NoConsole = reasons.NoCons
-reason_of refusals.NoPage = reasons.NoPage
-reason_of refusals.ReadOnly = reasons.ReadOnly
-reason_of refusals.NoFile = reasons.NoFile
-reason_of refusals.Exists = reasons.Exists
-reason_of refusals.Full = reasons.Full
-reason_of refusals.Range = reasons.Range
-
--- why the operator cannot have a word
-abbrev pub refusal_of : NoAccess → Refusal
-refusal_of Absent = refusals.NoPage
-refusal_of ReadOnly = refusals.ReadOnly
 
 -- one slot is touched, and no other
 abbrev pub one_slot : ℕ → List Bool
@@ -116,8 +97,21 @@ pub record VersionBecomes (old new : Plain) (v : ℕ) : Type 0 where
   pub symbols : new.symbols ≡ old.symbols
   pub place : new.place ≡ old.place
 
--- a line of words that was refused is made as far as its first words
-pub record Partly (old new : Plain) (part : ℕ → Result Machine Reason) : Type 0 where
-  pub few : ℕ
-  pub is : part few ≡ Ok (machine_of new)
-  pub place : new.place ≡ old.place
+-- how many of n pages of a core, from page k on, are absent
+abbrev pub one_unless : Bool → ℕ
+one_unless true = 0
+one_unless false = 1
+
+unfoldable pub pages_absent : Core → ℕ → ℕ → ℕ
+pages_absent c k zero = 0
+pages_absent c k (suc n) = one_unless (is_some (page_of c k)) + pages_absent c (k + 1) n
+
+-- how many pages an a/ line makes for n words from address a on: the absent ones from that of its first word to that
+-- of its last; none where all of them are accumulators
+abbrev pub pages_made_if : Core → ℕ → ℕ → Bool → ℕ
+pages_made_if c first last true = 0
+pages_made_if c first last false = pages_absent c (first / 1024) (last / 1024 + 1 - first / 1024)
+
+unfoldable pub pages_made : Core → ℕ → ℕ → ℕ
+pages_made c a zero = 0
+pages_made c a (suc n) = pages_made_if c a (a + n) (nat_lt (a + n) 16)

@@ -44,10 +44,10 @@ pub record CallsAt (m : Machine) (j : ℕ) (s : Site) (o : Option Transition) : 
 
 -- the step of slot j's job, as far as it is made before its call is decoded: there is none; it was made; or it is that of a
 -- call, and nothing has changed
-abbrev pub Begins : Begun → Option Transition → Plain → Plain → ℕ → Type 0
-Begins Still o old new j = (o ≡ None) × (new ≡ old)
-Begins Stepped o old new j = SteppedBy old new o
-Begins (Calls s) o old new j = CallsAt (machine_of old) j s o × (new ≡ old)
+abbrev pub StepBegins : Begun → Option Transition → Plain → Plain → ℕ → Type 0
+StepBegins Still o old new j = (o ≡ None) × (new ≡ old)
+StepBegins Stepped o old new j = SteppedBy old new o
+StepBegins (Calls s) o old new j = CallsAt (machine_of old) j s o × (new ≡ old)
 
 -- the job of a slot that has these registers, as it stands in the machine
 abbrev pub own_of : Plain → ℕ → Job → Whole

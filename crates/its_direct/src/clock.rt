@@ -1,7 +1,7 @@
 //! The line CLOCK, and the alarms that it makes go.
-ghost use Rattle.std.specs.Prelude.{◌≡◌, ◌<◌, ◌≤◌, ◌+◌, ◌^◌, Some, Err, OnOk, OnErr, IfErr, IfSome, nat_lt, slice_set};
+ghost use Rattle.std.specs.Prelude.{◌≡◌, ◌<◌, ◌≤◌, ◌+◌, ◌^◌, Some, Err, OnOk, OnErr, IfErr, nat_lt};
 ghost use Rattle.its_word.specs.Limits.{slots};
-ghost use Rattle.its_plain.specs.Alarm.{is_due, time_after};
+ghost use Rattle.its_plain.specs.Alarm.{time_after};
 ghost use Rattle.its_plain.specs.CallBasic.{longest_period};
 ghost use Rattle.its_plain.specs.Job.{ALR as ALR_BIT, with_pending};
 ghost use Rattle.its_plain.specs.OperatorClock.{clocked, clock_end};
@@ -9,7 +9,7 @@ ghost use Rattle.its_stepped.specs.Alarmed.{Alarmed};
 ghost use Rattle.its_parts.specs.Parts.{alarm_at};
 ghost use Rattle.its_direct.specs.Plain.{machine_of, no_slots, Tidy};
 ghost use Rattle.its_direct.specs.Lines.{reason_of};
-ghost use Rattle.its_direct.specs.Clock.{AlarmBecomes, Clocks, Periodic, Periods, RangAt, RangBelow};
+ghost use Rattle.its_direct.specs.Clock.{Clocks, Periods, RangAt, RangBelow};
 
 use super::plain::Plain;
 use its_word::{ALR, Job, Refusal, SLOTS, Word};
@@ -103,17 +103,8 @@ impl Plain {
             Some(job) => self.put_job(slot, with_alr(job)),
             None => unreachable!(),
         }
-        self.rearm(slot, Some((period, time_after(period, next, clock))));
+        self.put_alarm(slot, Some((period, time_after(period, next, clock))));
         self.touch(slot);
-    }
-
-    /// Writes the alarm of a slot's job.
-    #[tactic(auto, using(crate::proofs::ClockLaws::alarm_becomes))]
-    pub(crate) fn rearm(&mut self, slot: u8, alarm: Option<(u64, u64)>)
-        requires slot { slot < slots }
-        ensures { AlarmBecomes self.old self.new slot alarm }
-    {
-        self.alarms[usize::from(slot)] = alarm;
     }
 }
 
@@ -136,7 +127,7 @@ fn with_alr(job: Job) -> Job
 
 /// The next time of an alarm with this period and next time that goes at a clock: it gains the least multiple of the period
 /// that brings it above the clock.
-#[tactic(auto, using(crate::proofs::ClockLaws::next_time, crate::proofs::ClockLaws::next_fits))]
+#[tactic(auto, using(its_parts::proofs::TimeLaws::next_time, its_parts::proofs::TimeLaws::next_fits))]
 fn time_after(period: u64, next: u64, clock: u64) -> u64
     requires some { 1 ≤ period }
     requires most { period ≤ longest_period }

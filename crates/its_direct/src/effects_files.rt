@@ -7,7 +7,7 @@ ghost use Rattle.its_plain.specs.Machine.{Shut};
 ghost use Rattle.its_plain.specs.Own.{at_position, names_of, on_channel, opened_on, with_word};
 ghost use Rattle.its_frame.specs.declared.change.Opened.TheVariants.{Reading as Reads, Writing as Writes};
 ghost use Rattle.its_parts.specs.Across.{channel_at, IsElsewhere};
-ghost use Rattle.its_parts.specs.Can.{CanOpen, chan_in, Closes, HasJob, HasRoom, Unread};
+ghost use Rattle.its_parts.specs.Can.{CanOpen, chan_in, CanClose, HasJob, HasRoom, Unread};
 ghost use Rattle.its_parts.specs.Parts.{chan_of};
 ghost use Rattle.its_direct.specs.Effects.{Becomes, ChannelBecomes};
 ghost use Rattle.its_direct.specs.Plain.{machine_of, Tidy};
@@ -176,7 +176,7 @@ impl Plain {
     pub(crate) fn close(&mut self, slot: u8, n: u8)
         requires slot { slot < slots }
         requires channel { n < 16 }
-        requires closes { Closes (machine_of self.old) (chan_in (machine_of self.old) slot n) }
+        requires closes { CanClose (machine_of self.old) (chan_in (machine_of self.old) slot n) }
         requires tidy { Tidy self.old }
         ensures row { Becomes self.old self.new (record (in_job (machine_of self.old) slot (on_channel n (λ c. Shut))) { files = files_closed (chan_in (machine_of self.old) slot n) (machine_of self.old).files }) }
         ensures tidy { Tidy self.new }

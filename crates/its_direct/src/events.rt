@@ -9,7 +9,7 @@ ghost use Rattle.its_plain.specs.Own.{names_of};
 ghost use Rattle.its_stepped.specs.Alarmed.{Alarmed};
 ghost use Rattle.its_direct.specs.Plain.{machine_of, Tidy};
 ghost use Rattle.its_direct.specs.declared.plain.Spot.TheVariants as spots;
-ghost use Rattle.its_direct.specs.Events.{answered, place_of, IsTold, JobsStay, Kept, MayStand, Spares, SpotFits, Told};
+ghost use Rattle.its_direct.specs.Events.{answered, place_of, IsTold, JobsStay, Kept, MayStand, SpotFits, Told};
 
 use super::plain::{Plain, Spot};
 use arrayvec::ArrayVec;
@@ -29,7 +29,7 @@ pub enum Answer {
 
 impl Plain {
     /// An event of a session other than ticks, turns of RUN and END: the operator's line exactly. A line that is refused
-    /// changes nothing; but of words for which there is no room, those before the first that has none are stored.
+    /// changes nothing.
     #[tactic(auto, using(crate::proofs::ToldLaws::told_kept, crate::proofs::ToldLaws::told_place, crate::proofs::ToldLaws::told_jobs))]
     pub fn event(&mut self, event: &Event) -> Result<Answer, Refusal>
         requires told { IsTold event.now }
@@ -37,7 +37,7 @@ impl Plain {
         requires stands { MayStand (place_of self.old.place) event.now }
         requires kept { Kept self.old }
         ensures told { Told event.now self.old self.new result }
-        ensures same { OnErr result (Spares event.now self.old self.new) }
+        ensures same { OnErr result (self.new ≡ self.old) }
         ensures place { IfOk result (λ _. place_of self.new.place ≡ place_after (place_of self.old.place) event.now) }
         ensures jobs { JobsStay self.old self.new }
         ensures kept { Kept self.new }
@@ -53,7 +53,7 @@ impl Plain {
         requires stands { MayStand (place_of self.old.place) event.now }
         requires kept { Kept self.old }
         ensures told { Told event.now self.old self.new result }
-        ensures same { OnErr result (Spares event.now self.old self.new) }
+        ensures same { OnErr result (self.new ≡ self.old) }
         ensures tidy { Tidy self.new }
     {
         match event {
@@ -220,7 +220,7 @@ impl Plain {
         requires end { a + length words.now.items ≤ 2 ^ 18 }
         requires tidy { Tidy self.old }
         ensures told { Told (told.Words a words.now) self.old self.new result }
-        ensures same { OnErr result (Spares (told.Words a words.now) self.old self.new) }
+        ensures same { OnErr result (self.new ≡ self.old) }
         ensures tidy { Tidy self.new }
     {
         let slot = self.block_slot();
@@ -258,7 +258,7 @@ impl Plain {
         requires place { place_of self.old.place ≡ places.File }
         requires tidy { Tidy self.old }
         ensures told { Told (told.Append words.now) self.old self.new result }
-        ensures same { OnErr result (Spares (told.Append words.now) self.old self.new) }
+        ensures same { OnErr result (self.new ≡ self.old) }
         ensures tidy { Tidy self.new }
     {
         let (d, x, y) = self.block_file();

@@ -1,11 +1,11 @@
 //! The lines FILE, its words and EOF.
-ghost use Rattle.std.specs.Prelude.{◌≡◌, ◌<◌, ◌≤◌, ◌+◌, ◌∷◌, ◌++◌, [], true, None, Ok, Err, OnOk, OnErr, IfErr, length, take};
+ghost use Rattle.std.specs.Prelude.{◌≡◌, ◌<◌, ◌≤◌, ◌+◌, ◌∷◌, ◌++◌, [], true, None, Ok, Err, OnOk, OnErr, IsOk, IfErr, length};
 ghost use Rattle.its_files.specs.Files.{entry_at, found, is_file, most_files, names_at};
 ghost use Rattle.its_plain.specs.OperatorFiles.{file_made, word_added, words_added};
 ghost use Rattle.its_plain.specs.Own.{names_of};
 ghost use Rattle.its_direct.specs.Plain.{machine_of, Tidy};
 ghost use Rattle.its_direct.specs.declared.plain.Spot.TheVariants.{Plain as Outside, File as InFile};
-ghost use Rattle.its_direct.specs.Lines.{reason_of, Keeps, Partly};
+ghost use Rattle.its_direct.specs.Lines.{reason_of, Keeps};
 ghost use Rattle.its_direct.specs.Filing.{Leads};
 
 use super::plain::{Plain, Spot};
@@ -37,14 +37,14 @@ impl Plain {
         Ok(())
     }
 
-    /// Words of a FILE block: words more at the end of the file with a directory and two names, where there is one. Full where one
-    /// needs a block and all are in use: then the words before it are added.
+    /// Words of a FILE block: words more at the end of the file with a directory and two names, where there is one. Full where they
+    /// need more blocks than are free; then none of them is added.
     #[tactic(auto, using(crate::proofs::FileLaws::appended_none))]
     pub fn append_words(&mut self, d: Word, x: Word, y: Word, words: &[Word]) -> Result<(), Refusal>
         requires tidy { Tidy self.old }
         ensures done { OnOk result (Keeps self.old self.new (words_added (machine_of self.old) (names_of d x y) words.now)) }
         ensures refused { IfErr result (λ e. words_added (machine_of self.old) (names_of d x y) words.now ≡ Err (reason_of e)) }
-        ensures part { OnErr result (Partly self.old self.new (λ n. words_added (machine_of self.old) (names_of d x y) (take n words.now))) }
+        ensures same { OnErr result (self.new ≡ self.old) }
         ensures tidy { Tidy self.new }
     {
         match self.files.find(d, x, y) {
@@ -62,36 +62,31 @@ impl Plain {
         requires tidy { Tidy self.old }
         ensures done { OnOk result (Keeps self.old self.new (words_added (machine_of self.old) (names_at self.old.files id) words.now)) }
         ensures refused { IfErr result (λ e. words_added (machine_of self.old) (names_at self.old.files id) words.now ≡ Err (reason_of e)) }
-        ensures part { OnErr result (Partly self.old self.new (λ n. words_added (machine_of self.old) (names_at self.old.files id) (take n words.now))) }
+        ensures same { OnErr result (self.new ≡ self.old) }
         ensures tidy { Tidy self.new }
     {
-        match self.add_words(id, words) {
-            Ok(()) => {
-                self.touch_none();
-                Ok(())
-            }
-            Err(e) => Err(e),
+        self.files.seen();
+        if words.len() > self.files.room(id) as usize {
+            return Err(Refusal::Full);
         }
+        self.add_words(id, words);
+        self.touch_none();
+        Ok(())
     }
 
-    /// Words more at the end of a file, in their order.
-    #[tactic(auto, using(crate::proofs::FileLaws::adding_starts, crate::proofs::FileLaws::adding_part, crate::proofs::FileLaws::adding_ends))]
-    fn add_words(&mut self, id: u32, words: &[Word]) -> Result<(), Refusal>
+    /// Words more at the end of a file, in their order, where there is room for them.
+    #[tactic(auto, using(crate::proofs::FileLaws::adding_starts, crate::proofs::FileLaws::adding_ends))]
+    fn add_words(&mut self, id: u32, words: &[Word])
         requires file { is_file (entry_at self.old.files id) ≡ true }
+        requires room { IsOk (words_added (machine_of self.old) (names_at self.old.files id) words.now) }
         requires tidy { Tidy self.old }
-        ensures done { OnOk result (words_added (machine_of self.old) (names_at self.old.files id) words.now ≡ Ok (machine_of self.new)) }
-        ensures refused { IfErr result (λ e. words_added (machine_of self.old) (names_at self.old.files id) words.now ≡ Err (reason_of e)) }
-        ensures part { OnErr result (Partly self.old self.new (λ n. words_added (machine_of self.old) (names_at self.old.files id) (take n words.now))) }
+        ensures done { words_added (machine_of self.old) (names_at self.old.files id) words.now ≡ Ok (machine_of self.new) }
         ensures place { self.new.place ≡ self.old.place }
         ensures tidy { Tidy self.new }
     {
         for k in 0..words.len() {
-            match self.add_word(id, words[k]) {
-                Ok(()) => {}
-                Err(e) => return Err(e),
-            }
+            self.add_word(id, words[k]);
         }
-        Ok(())
     }
 
     /// EOF: the FILE block ends.
@@ -116,14 +111,13 @@ impl Plain {
         self.files.new_file(d, x, y);
     }
 
-    /// A word more at the end of a file. Full where it needs a block and all are in use.
+    /// A word more at the end of a file, where there is room for it.
     #[tactic(auto, using(crate::proofs::FileLaws::added_names))]
-    fn add_word(&mut self, id: u32, w: Word) -> Result<(), Refusal>
+    fn add_word(&mut self, id: u32, w: Word)
         requires file { is_file (entry_at self.old.files id) ≡ true }
+        requires room { IsOk (word_added (machine_of self.old) (names_at self.old.files id) w) }
         requires tidy { Tidy self.old }
-        ensures row { OnOk result (word_added (machine_of self.old) (names_at self.old.files id) w ≡ Ok (machine_of self.new)) }
-        ensures refused { IfErr result (λ e. word_added (machine_of self.old) (names_at self.old.files id) w ≡ Err (reason_of e)) }
-        ensures same { OnErr result (self.new ≡ self.old) }
+        ensures row { word_added (machine_of self.old) (names_at self.old.files id) w ≡ Ok (machine_of self.new) }
         ensures file { is_file (entry_at self.new.files id) ≡ true }
         ensures names { names_at self.new.files id ≡ names_at self.old.files id }
         ensures place { self.new.place ≡ self.old.place }
@@ -131,8 +125,8 @@ impl Plain {
     {
         self.files.seen();
         match self.files.append(id, w) {
-            Ok(()) => Ok(()),
-            Err(_) => Err(Refusal::Full),
+            Ok(()) => {}
+            Err(_) => unreachable!(),
         }
     }
 }

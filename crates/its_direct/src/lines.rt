@@ -1,12 +1,13 @@
 //! The operator's lines on one job: GO, STOP, CONT, INT, EXAM, STATE and DEPOSIT.
-ghost use Rattle.std.specs.Prelude.{◌≡◌, ◌<◌, ◌≤◌, ◌^◌, Some, None, Err, OnOk, OnErr, IfOk, IfErr, is_some};
+ghost use Rattle.std.specs.Prelude.{◌≡◌, ◌<◌, ◌≤◌, ◌^◌, Some, Err, OnOk, OnErr, IfErr, is_some};
 ghost use Rattle.its_word.specs.Limits.{slots};
 ghost use Rattle.its_core.specs.Cores.{core_at};
 ghost use Rattle.its_jobs.specs.Table.{job_at};
 ghost use Rattle.its_plain.specs.Machine.{words_at};
 ghost use Rattle.its_plain.specs.OperatorJobs.{on_registers, started, stopped, continued, interrupted, examined, state_shown, deposited};
+ghost use Rattle.its_parts.specs.Refusals.{refusal_of};
 ghost use Rattle.its_direct.specs.Plain.{machine_of, Tidy};
-ghost use Rattle.its_direct.specs.Lines.{reason_of, refusal_of, one_slot, Operates, Looks, Rewritten};
+ghost use Rattle.its_direct.specs.Lines.{reason_of, one_slot, Operates, Looks, Rewritten};
 
 use super::plain::Plain;
 use its_word::{ADDRESSES, FATAL, Job, NoAccess, Refusal, Word};

@@ -1,13 +1,12 @@
-ghost use Rattle.std.specs.Prelude.{◌≡◌, ◌<◌, ◌≤◌, ◌^◌, ℕ, true, false, [], None, Some, IfOk, vec_len, slice_index_or, slice_set, is_some, option_map};
-ghost use Rattle.its_word.specs.Console.{quiet_console};
+ghost use Rattle.std.specs.Prelude.{◌≡◌, ◌<◌, ◌≤◌, true, false, None, Some, IfOk, vec_len, slice_set, is_some};
 ghost use Rattle.its_word.specs.Limits.{slots, limit_of};
-ghost use Rattle.its_parts.specs.Parts.{symbols_at};
 
 use arrayvec::ArrayVec;
 use its_console::Console;
 use its_core::Core;
 use its_files::Files;
 use its_jobs::Jobs;
+use its_parts::{no_alarms, no_symbols, quiet_consoles};
 use its_word::{Job, NoMemory, SLOTS, Word};
 use std::alloc::Global;
 
@@ -64,10 +63,10 @@ impl Plain {
     {
         let core = Core::open(alloc)?;
         let jobs = Jobs::open(alloc)?;
-        let consoles = quiet_consoles(alloc)?;
+        let consoles = quiet_consoles(alloc, CONSOLES)?;
         let files = Files::open(alloc)?;
-        let alarms = no_alarms(alloc)?;
-        let symbols = no_symbols(alloc)?;
+        let alarms = no_alarms(alloc, SLOTS)?;
+        let symbols = no_symbols(alloc, SLOTS)?;
         Ok(Plain {
             core,
             jobs,
@@ -118,43 +117,4 @@ impl Plain {
     {
         self.touched[usize::from(slot)] = true;
     }
-}
-
-/// Eight consoles at which nothing waits.
-#[tactic(auto, using(crate::proofs::StartLaws::quiet_more))]
-fn quiet_consoles(alloc: Global) -> Result<Vec<Console>, NoMemory>
-    ensures length { IfOk result (λ v. vec_len v ≡ 8) }
-    ensures quiet { IfOk result (λ v. (c : ℕ) → slice_index_or v.items c quiet_console ≡ quiet_console) }
-{
-    let mut v = Vec::with_capacity(alloc, CONSOLES).map_err(|_| NoMemory)?;
-    for _c in 0..CONSOLES {
-        v.push(Console::open(alloc)?).map_err(|_| NoMemory)?;
-    }
-    Ok(v)
-}
-
-/// A place for the alarm of each slot, without one.
-#[tactic(auto, using(crate::proofs::StartLaws::none_more))]
-fn no_alarms(alloc: Global) -> Result<Vec<Option<(u64, u64)>>, NoMemory>
-    ensures length { IfOk result (λ v. vec_len v ≡ slots) }
-    ensures none { IfOk result (λ v. (k : ℕ) → slice_index_or v.items k None ≡ None) }
-{
-    let mut v = Vec::with_capacity(alloc, SLOTS).map_err(|_| NoMemory)?;
-    for _k in 0..SLOTS {
-        v.push(None).map_err(|_| NoMemory)?;
-    }
-    Ok(v)
-}
-
-/// A list for the symbols of each slot, without one.
-#[tactic(auto, using(crate::proofs::StartLaws::symbols_more))]
-fn no_symbols(alloc: Global) -> Result<Vec<ArrayVec<(Word, u32), 512>>, NoMemory>
-    ensures length { IfOk result (λ v. vec_len v ≡ slots) }
-    ensures none { IfOk result (λ v. (k : ℕ) → symbols_at v.items k ≡ []) }
-{
-    let mut v = Vec::with_capacity(alloc, SLOTS).map_err(|_| NoMemory)?;
-    for _k in 0..SLOTS {
-        v.push(ArrayVec::new()).map_err(|_| NoMemory)?;
-    }
-    Ok(v)
 }

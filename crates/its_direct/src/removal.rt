@@ -108,7 +108,7 @@ impl Plain {
     }
 
     /// Gives up the symbols of a slot.
-    #[tactic(auto, using(crate::proofs::SettingLaws::list_here))]
+    #[tactic(auto, using(its_parts::proofs::OpenLaws::list_here))]
     fn forget(&mut self, slot: u8)
         requires { slot < slots }
         ensures { SymbolsBecome self.old self.new slot [] }

@@ -104,7 +104,7 @@ impl Plain {
     }
 
     /// Keeps a symbol of a slot's job, the last; there is room for it.
-    #[tactic(auto, using(crate::proofs::SettingLaws::list_here))]
+    #[tactic(auto, using(its_parts::proofs::OpenLaws::list_here))]
     fn keep_symbol(&mut self, slot: u8, name: Word, a: u32)
         requires slot { slot < slots }
         requires room { length (symbols_at self.old.symbols.items slot) < most_symbols }

@@ -99,7 +99,7 @@ fn shown(job: &Job, superior: Option<u8>, symbol: Option<(Word, u32)>) -> JobSho
 }
 
 /// The symbol of the greatest address at most a PC, of those with one address the last, and how far the PC lies behind it.
-#[tactic(auto, using(crate::proofs::ShownLaws::near_start, crate::proofs::ShownLaws::near_next, crate::proofs::ShownLaws::near_some, crate::proofs::ShownLaws::near_none))]
+#[tactic(auto, using(its_parts::proofs::SymbolLaws::near_start, its_parts::proofs::SymbolLaws::near_next, its_parts::proofs::SymbolLaws::near_some, its_parts::proofs::SymbolLaws::near_none))]
 fn nearest(symbols: &[(Word, u32)], pc: u32) -> Option<(Word, u32)>
     ensures { result ≡ symbol_shown pc symbols.now }
 {

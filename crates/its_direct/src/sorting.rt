@@ -4,7 +4,7 @@ ghost use Rattle.std.specs.List.{cons_option};
 ghost use Rattle.its_core.specs.Cores.{core_at};
 ghost use Rattle.its_word.specs.Limits.{slots};
 ghost use Rattle.its_plain.specs.Decode.{place_of, value_of};
-ghost use Rattle.its_direct.specs.Asking.{first_of, no_parts, with_argument};
+ghost use Rattle.its_direct.specs.Asking.{first_error, no_parts, with_argument};
 
 use arrayvec::ArrayVec;
 use its_core::Core;
@@ -83,7 +83,7 @@ impl Parts {
 
 /// The first of places.
 fn first_place(first: Option<u32>, next: u32) -> Option<u32>
-    ensures { result ≡ first_of first next }
+    ensures { result ≡ first_error first next }
 {
     match first {
         Some(p) => Some(p),
@@ -93,7 +93,7 @@ fn first_place(first: Option<u32>, next: u32) -> Option<u32>
 
 /// The first of words.
 fn first_word(first: Option<Word>, next: Word) -> Option<Word>
-    ensures { result ≡ first_of first next }
+    ensures { result ≡ first_error first next }
 {
     match first {
         Some(w) => Some(w),

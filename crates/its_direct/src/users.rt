@@ -7,7 +7,7 @@ ghost use Rattle.its_plain.specs.Change.{effects, in_job, with_inf};
 ghost use Rattle.its_plain.specs.Interrupt.{deliverable};
 ghost use Rattle.its_plain.specs.Job.{with_pending};
 ghost use Rattle.its_direct.specs.Plain.{machine_of, is_touched, no_slots, Tidy};
-ghost use Rattle.its_direct.specs.Steps.{Begins, SteppedBy};
+ghost use Rattle.its_direct.specs.Steps.{StepBegins, SteppedBy};
 
 use super::plain::Plain;
 use its_ints::{deliver, deliverable};
@@ -32,7 +32,7 @@ impl Plain {
     pub fn begin(&mut self, slot: u8) -> Begun
         requires slot { slot < slots }
         requires tidy { Tidy self.old }
-        ensures row { Begins result (transition (machine_of self.old) slot) self.old self.new slot }
+        ensures row { StepBegins result (transition (machine_of self.old) slot) self.old self.new slot }
         ensures tidy { Tidy self.new }
     {
         let Some(job) = self.job(slot) else {
@@ -57,7 +57,7 @@ impl Plain {
         requires quiet { deliverable job ≡ false }
         requires pc { job.pc < 2 ^ 18 }
         requires tidy { Tidy self.old }
-        ensures row { Begins result (transition (machine_of self.old) slot) self.old self.new slot }
+        ensures row { StepBegins result (transition (machine_of self.old) slot) self.old self.new slot }
         ensures tidy { Tidy self.new }
     {
         if self.units(slot, job, 1) == 1 {

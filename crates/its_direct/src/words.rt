@@ -1,5 +1,5 @@
 //! The words of a LOAD block.
-ghost use Rattle.std.specs.Prelude.{◌≡◌, ◌<◌, ◌≤◌, ◌+◌, ◌-◌, ◌/◌, ◌^◌, true, false, Some, None, Ok, Err, OnOk, OnErr, IfErr, is_some, length, take};
+ghost use Rattle.std.specs.Prelude.{◌≡◌, ◌<◌, ◌≤◌, ◌+◌, ◌-◌, ◌/◌, ◌^◌, true, false, Some, None, Ok, Err, OnOk, OnErr, IsOk, IfErr, is_some, length};
 ghost use Rattle.its_word.specs.Core.{can_store, page_of, pages_mapped, put as put_at, store, with_page, zero_page};
 ghost use Rattle.its_word.specs.Limits.{most_pages, slots};
 ghost use Rattle.its_word.specs.Only.{Only, Same};
@@ -7,7 +7,7 @@ ghost use Rattle.its_core.specs.Cores.{clear_at, core_at};
 ghost use Rattle.its_jobs.specs.Table.{job_at};
 ghost use Rattle.its_plain.specs.OperatorJobs.{any_barred, is_barred, word_loaded, words_loaded, words_stored};
 ghost use Rattle.its_direct.specs.Plain.{machine_of, CoreBecomes, Tidy};
-ghost use Rattle.its_direct.specs.Lines.{reason_of, Operates, Partly};
+ghost use Rattle.its_direct.specs.Lines.{reason_of, Operates, pages_absent, pages_made};
 
 use super::plain::Plain;
 use its_core::{Core, Full};
@@ -15,8 +15,8 @@ use its_word::{MAPPED_PAGES, NoAccess, Refusal, Word};
 
 impl Plain {
     /// The words of an a/ line of the job of a slot, from an address on: absent pages are made, writable and of zeros. NoJob where the
-    /// slot is empty; ReadOnly where a word is on a page that is so, and then none is stored; Full where a page is needed and
-    /// 1024 pages are mapped: then the words before it are stored.
+    /// slot is empty; ReadOnly where a word is on a page that is so; Full where more than 1024 pages would be mapped. A line that is
+    /// refused stores none of its words.
     pub fn load_words(&mut self, slot: u8, a: u32, words: &[Word]) -> Result<(), Refusal>
         requires slot { slot < slots }
         requires some { 1 ≤ length words.now }
@@ -24,64 +24,57 @@ impl Plain {
         requires tidy { Tidy self.old }
         ensures done { OnOk result (Operates self.old self.new slot (words_loaded (machine_of self.old) slot a words.now)) }
         ensures refused { IfErr result (λ e. words_loaded (machine_of self.old) slot a words.now ≡ Err (reason_of e)) }
-        ensures part { OnErr result (Partly self.old self.new (λ n. words_loaded (machine_of self.old) slot a (take n words.now))) }
+        ensures same { OnErr result (self.new ≡ self.old) }
         ensures tidy { Tidy self.new }
     {
+        let n = words.len() as u32;
         let Some(_job) = self.job(slot) else {
             return Err(Refusal::NoJob);
         };
-        if any_barred(&self.core, slot, a, words.len() as u32) {
+        if any_barred(&self.core, slot, a, n) {
             return Err(Refusal::ReadOnly);
         }
-        match self.store_words(slot, a, words) {
-            Ok(()) => {
-                self.touch_only(slot);
-                Ok(())
-            }
-            Err(e) => Err(e),
+        if self.core.mapped() + pages_made(&self.core, slot, a, n) > MAPPED_PAGES {
+            return Err(Refusal::Full);
         }
+        self.store_words(slot, a, words);
+        self.touch_only(slot);
+        Ok(())
     }
 
-    /// Stores words of a slot that has a job, from an address on, in their order.
-    #[tactic(auto, using(crate::proofs::LoadedLaws::storing_starts, crate::proofs::LoadedLaws::storing_part, crate::proofs::LoadedLaws::storing_ends))]
-    fn store_words(&mut self, slot: u8, a: u32, words: &[Word]) -> Result<(), Refusal>
+    /// Stores words of a slot that has a job, from an address on, in their order, where there is room for the pages that they make.
+    #[tactic(auto, using(crate::proofs::LoadedLaws::storing_starts, crate::proofs::LoadedLaws::storing_ends))]
+    fn store_words(&mut self, slot: u8, a: u32, words: &[Word])
         requires slot { slot < slots }
         requires end { a + length words.now ≤ 2 ^ 18 }
         requires job { is_some (job_at self.old.jobs slot) ≡ true }
+        requires room { IsOk (words_stored (machine_of self.old) slot a words.now) }
         requires tidy { Tidy self.old }
-        ensures done { OnOk result (words_stored (machine_of self.old) slot a words.now ≡ Ok (machine_of self.new)) }
-        ensures refused { IfErr result (λ e. words_stored (machine_of self.old) slot a words.now ≡ Err (reason_of e)) }
-        ensures part { OnErr result (Partly self.old self.new (λ n. words_stored (machine_of self.old) slot a (take n words.now))) }
+        ensures done { words_stored (machine_of self.old) slot a words.now ≡ Ok (machine_of self.new) }
         ensures place { self.new.place ≡ self.old.place }
         ensures tidy { Tidy self.new }
     {
         for k in 0..words.len() {
-            match self.load_word(slot, a + k as u32, words[k]) {
-                Ok(()) => {}
-                Err(e) => return Err(e),
-            }
+            self.load_word(slot, a + k as u32, words[k]);
         }
-        Ok(())
     }
 
-    /// One word of an a/ line of a slot that has a job: an absent page is made, writable and of zeros. ReadOnly where the page
-    /// is so; Full where a page is needed and 1024 pages are mapped.
-    fn load_word(&mut self, slot: u8, a: u32, w: Word) -> Result<(), Refusal>
+    /// One word of an a/ line of a slot that has a job, where there is room for it: an absent page is made, writable and of zeros.
+    fn load_word(&mut self, slot: u8, a: u32, w: Word)
         requires slot { slot < slots }
         requires address { a < 2 ^ 18 }
         requires job { is_some (job_at self.old.jobs slot) ≡ true }
+        requires room { IsOk (word_loaded (machine_of self.old) slot a w) }
         requires tidy { Tidy self.old }
-        ensures row { OnOk result (word_loaded (machine_of self.old) slot a w ≡ Ok (machine_of self.new)) }
-        ensures refused { IfErr result (λ e. word_loaded (machine_of self.old) slot a w ≡ Err (reason_of e)) }
-        ensures same { OnErr result (self.new ≡ self.old) }
+        ensures row { word_loaded (machine_of self.old) slot a w ≡ Ok (machine_of self.new) }
         ensures job { is_some (job_at self.new.jobs slot) ≡ true }
         ensures place { self.new.place ≡ self.old.place }
         ensures tidy { Tidy self.new }
     {
         match self.put_word(slot, a, w) {
-            Ok(()) => Ok(()),
-            Err(NoAccess::ReadOnly) => Err(Refusal::ReadOnly),
-            Err(NoAccess::Absent) => self.load_absent(slot, a, w),
+            Ok(()) => {}
+            Err(NoAccess::Absent) => self.load_page(slot, a, w),
+            Err(NoAccess::ReadOnly) => unreachable!(),
         }
     }
 
@@ -99,29 +92,6 @@ impl Plain {
         match self.core.put(slot, a, w) {
             Ok(()) => Ok(()),
             Err(e) => Err(e),
-        }
-    }
-
-    /// A word of a slot that has a job, where its page is absent.
-    fn load_absent(&mut self, slot: u8, a: u32, w: Word) -> Result<(), Refusal>
-        requires slot { slot < slots }
-        requires page { 16 ≤ a }
-        requires address { a < 2 ^ 18 }
-        requires absent { page_of (core_at self.old.core slot) (a / 1024) ≡ None }
-        requires job { is_some (job_at self.old.jobs slot) ≡ true }
-        requires tidy { Tidy self.old }
-        ensures row { OnOk result (word_loaded (machine_of self.old) slot a w ≡ Ok (machine_of self.new)) }
-        ensures refused { IfErr result (λ e. word_loaded (machine_of self.old) slot a w ≡ Err (reason_of e)) }
-        ensures same { OnErr result (self.new ≡ self.old) }
-        ensures job { is_some (job_at self.new.jobs slot) ≡ true }
-        ensures place { self.new.place ≡ self.old.place }
-        ensures tidy { Tidy self.new }
-    {
-        if self.core.mapped() < MAPPED_PAGES {
-            self.load_page(slot, a, w);
-            Ok(())
-        } else {
-            Err(Refusal::Full)
         }
     }
 
@@ -162,8 +132,50 @@ fn is_barred(core: &Core, slot: u8, a: u32) -> bool
     core.word(slot, a).is_some() && !core.is_storable(slot, a)
 }
 
+/// How many pages are made for n words of a slot from an address on: those that are absent.
+#[tactic(auto, using(crate::proofs::RoomLaws::made_accs, crate::proofs::RoomLaws::made_on_pages))]
+fn pages_made(core: &Core, slot: u8, a: u32, n: u32) -> u32
+    requires slot { slot < slots }
+    requires some { 1 ≤ n }
+    requires end { a + n ≤ 2 ^ 18 }
+    ensures number { result ≡ pages_made (core_at core.now slot) a n }
+    ensures few { result ≤ 256 }
+{
+    let last = a + n - 1;
+    if last < 16 {
+        return 0;
+    }
+    pages_absent(core, slot, a / 1024, last / 1024 + 1 - a / 1024)
+}
+
+/// How many of n pages of a slot, from a page on, are absent.
+#[tactic(auto, using(crate::proofs::RoomLaws::counting_starts))]
+fn pages_absent(core: &Core, slot: u8, first: u32, n: u32) -> u32
+    requires slot { slot < slots }
+    requires end { first + n ≤ 256 }
+    ensures number { result ≡ pages_absent (core_at core.now slot) first n }
+    ensures few { result ≤ n }
+{
+    let mut absent = 0;
+    for k in 0..n {
+        if !has_page(core, slot, (first + k) as u8) {
+            absent += 1;
+        }
+    }
+    absent
+}
+
+/// Whether a page of a slot is present.
+#[tactic(auto, using(crate::proofs::RoomLaws::some_marked))]
+fn has_page(core: &Core, slot: u8, page: u8) -> bool
+    requires { slot < slots }
+    ensures { result ≡ is_some (page_of (core_at core.now slot) page) }
+{
+    core.page(slot, page).is_some()
+}
+
 /// Makes the page of an address of a slot, of zeros, and stores a word there.
-#[tactic(auto, using(crate::proofs::LoadedLaws::zero_stores))]
+#[tactic(auto, using(crate::proofs::RoomLaws::zero_stores))]
 fn lay_word(core: &mut Core, slot: u8, a: u32, w: Word)
     requires slot { slot < slots }
     requires page { 16 ≤ a }

@@ -1,16 +1,17 @@
 -- Words that are appended and given up, block by block.
-use Rattle.std.specs.Prelude.{◌≡◌, ◌≢◌, ◌<◌, ◌≤◌, ℕ, ◌+◌, ◌-◌, ◌*◌, ◌/◌, ◌%◌, Bool, true, false, not, eqb, Option, Some, None, is_some, List, [], ◌∷◌, ◌++◌, length, take, sum_by, slice_get, slice_set, slice_index_or, refl}
+use Rattle.std.specs.Prelude.{◌≡◌, ◌≢◌, ◌<◌, ◌≤◌, ℕ, ◌+◌, ◌-◌, ◌*◌, ◌/◌, ◌%◌, true, false, eqb, Option, Some, None, List, [], ◌∷◌, ◌++◌, length, take, replicate, sum_by, slice_get, slice_set, slice_index_or, refl}
 use Rattle.std.proofs.Common.{sym, ◌∙◌, ap, subst, inl, inr, arith, length-set, length-append}
-use Rattle.std.proofs.lemmas.Bool.{cases_eq, cases_Bool, eqb-true, eqb-false, eq-eqb, ne_eqb, and_from, and_left, and_right}
-use Rattle.std.proofs.lemmas.List.{get_or-set_same, get_or-set_other, length_push, nil_from_length}
+use Rattle.std.proofs.lemmas.Bool.{cases_eq, cases_lt, cases_Bool, eqb-true, eqb-false, eq-eqb, ne_eqb, and_from, and_left, and_right}
+use Rattle.std.proofs.lemmas.List.{get_or-set_same, get_or-set_other, get_or_append_left, get_or-append_right, get_or_past, length-replicate, length_push, nil_from_length}
 use Rattle.std.proofs.lemmas.List.Sums.{sum_by-set}
 use Rattle.std.proofs.lemmas.Option.{slice_get-get_or, slice_get_past, slice_get_within, get_or_from_slice_get}
 use Rattle.its_links.specs.Lists.{Linked, list_at, times, first, rest}
-use Rattle.its_files.specs.Blocks.{text_at, free_blocks, blocks_of, blocks_for, blocks_used, needs_block, is_full, with_block, grown_by, appended, given_up, word_in, text_of, stored_in, PlaceIn, IsBlocks, numbers}
+use Rattle.its_files.specs.Blocks.{text_at, free_blocks, blocks_of, blocks_for, blocks_used, words_left, room_behind, needs_block, is_full, with_block, grown_by, appended, given_up, word_in, block_ready, text_of, stored_in, PlaceIn, IsBlocks, numbers}
 use Rattle.its_files.specs.declared.blocks.Place.{Place}
 use Rattle.its_files.proofs.ListLaws.{sum_alike, push_last, push_before}
-use Rattle.its_files.proofs.ChainLaws.{apart, take_first, rest_first, none_first}
+use Rattle.its_files.proofs.ChainLaws.{apart, take_first, rest_first}
 use Rattle.its_word.specs.Table.{table}
+use Rattle.its_word.proofs.PageLaws.{get_or-copies}
 use Rattle.its_word.proofs.TableLaws.{length-table, get_or-table, get-table, table_alike, table_set, table_more}
 
 -- what is read from a store
@@ -98,7 +99,37 @@ other_word words ms id n b w k j once here ne within =
     let q = s.place in
     ne (omega arith) (omega arith))
 
-module _ (words lengths lasts : List ℕ) (place : Option Place) (nodes knots : ℕ) (ls ms : List (List ℕ)) (id n b w : ℕ) (h : IsBlocks words lengths lasts place (record { nodes = nodes; lists = ls })) (knots_are : knots ≡ nodes) (lt : id < numbers) (n_is : n ≡ slice_index_or lengths id 0) (g : Grown ls ms id n b) (once : (x : ℕ) → times x ms ≤ 1) (b_below : b < 2048) where
+-- words that are made ready are zeros, as are those that are not ready
+zeros_behind : (words : List ℕ) (m i : ℕ) → slice_index_or (words ++ replicate m 0) i 0 ≡ slice_index_or words i 0
+zeros_behind words m i = elim (cases_lt i (length words)) [
+  | inl lt ↦ get_or_append_left words (replicate m 0) 0 i lt
+  | inr ge ↦ get_or-append_right words (replicate m 0) (length words) i 0 refl ge ∙ get_or-copies m (i - length words) 0 ∙ sym (get_or_past words i 0 ge)
+]
+
+ready_view : (words : List ℕ) (m : ℕ) (ls : List (List ℕ)) (lengths : List ℕ) → stored_in (words ++ replicate m 0) ls lengths ≡ stored_in words ls lengths
+unfolding stored_in word_in
+ready_view words m ls lengths =
+    λ t. record {
+      texts = table numbers (λ id. table (slice_index_or lengths id 0) (λ k. zeros_behind words m (128 * slice_index_or (blocks_of ls id) (k / 128) 0 + k % 128) t));
+      chains = ls;
+    }
+
+ready_blocks : (words lengths lasts : List ℕ) (most room m free : ℕ) (place : Option Place) (links : Linked) → room ≡ most → IsBlocks words most lengths lasts free place links → IsBlocks (words ++ replicate m 0) room lengths lasts free place links
+ready_blocks words lengths lasts most room m free place links e h = record {
+  most_is = e ∙ h.most_is;
+  lengths_long = h.lengths_long;
+  lasts_long = h.lasts_long;
+  heads = h.heads;
+  nodes = h.nodes;
+  free_is = h.free_is;
+  fits = h.fits;
+  last = h.last;
+  ready = λ id i b at. let r = h.ready id i b at in let a = length-append words (replicate m 0) in omega arith;
+  kept = h.kept;
+  used = h.used;
+}
+
+module _ (words : List ℕ) (most : ℕ) (lengths lasts : List ℕ) (free : ℕ) (place : Option Place) (nodes knots : ℕ) (ls ms : List (List ℕ)) (id n b w : ℕ) (h : IsBlocks words most lengths lasts free place (record { nodes = nodes; lists = ls })) (knots_are : knots ≡ nodes) (lt : id < numbers) (n_is : n ≡ slice_index_or lengths id 0) (g : Grown ls ms id n b) (once : (x : ℕ) → times x ms ≤ 1) (made : 128 * b + 128 ≤ length words) where
   length_here : slice_index_or (slice_set lengths id (n + 1)) id 0 ≡ n + 1
   length_here = let l = h.lengths_long in get_or-set_same lengths id (n + 1) 0 (omega arith)
 
@@ -136,15 +167,38 @@ module _ (words lengths lasts : List ℕ) (place : Option Place) (nodes knots : 
     | inr ne ↦ let o = g.others p.id ne in rw o e
   ]
 
-  pub appended_blocks : IsBlocks (slice_set words (128 * b + n % 128) w) (slice_set lengths id (n + 1)) (slice_set lasts id b) place (record { nodes = knots; lists = ms })
-  appended_blocks = record {
-    words_long = length-set words (128 * b + n % 128) w ∙ h.words_long;
+  ready_in : (k i c : ℕ) → slice_get (blocks_of ms k) i ≡ Some c → 128 * c + 128 ≤ length (slice_set words (128 * b + n % 128) w)
+  ready_in k i c at =
+      let l = length-set words (128 * b + n % 128) w in
+      elim (cases_eq k id) [
+        | inl e ↦
+            let at' : slice_get (blocks_of ms id) i ≡ Some c = ap (λ j. slice_get (blocks_of ms j) i) (sym e) ∙ at in
+            elim (cases_lt i (length (blocks_of ls id))) [
+              | inl less ↦ let r = h.ready id i c (sym (g.before i less) ∙ at') in omega arith
+              | inr ge ↦
+                  let within = slice_get_within (blocks_of ms id) i c at' in
+                  let long = g.long in
+                  let f = h.fits id lt in
+                  let m = ap (λ j. blocks_for j) n_is in
+                  let last : i ≡ n / 128 = omega arith in
+                  let same : Some c ≡ Some b = sym at' ∙ ap (λ j. slice_get (blocks_of ms id) j) last ∙ g.here in
+                  let s : c ≡ b = cc in
+                  omega arith
+            ]
+        | inr ne ↦ let r = h.ready k i c (ap (λ xs. slice_get xs i) (sym (g.others k ne)) ∙ at) in omega arith
+      ]
+
+  appended_blocks : (left : ℕ) → left + blocks_for (n + 1) ≡ free + blocks_for n → IsBlocks (slice_set words (128 * b + n % 128) w) most (slice_set lengths id (n + 1)) (slice_set lasts id b) left place (record { nodes = knots; lists = ms })
+  appended_blocks left left_is = record {
+    most_is = h.most_is;
     lengths_long = length-set lengths id (n + 1) ∙ h.lengths_long;
     lasts_long = length-set lasts id b ∙ h.lasts_long;
     heads = g.heads;
     nodes = knots_are ∙ h.nodes;
+    free_is = let e = h.free_is in let u = g.free in omega arith;
     fits = fits;
     last = last_at;
+    ready = ready_in;
     kept = kept_in place h.kept;
     used =
         let l = h.lengths_long in
@@ -158,7 +212,6 @@ module _ (words lengths lasts : List ℕ) (place : Option Place) (nodes knots : 
   text_here : text_of (slice_set words (128 * b + n % 128) w) (blocks_of ms id) (n + 1) ≡ text_of words (blocks_of ls id) n ++ w ∷ []
   unfolding word_in
   text_here =
-      let long = h.words_long in
       let f = h.fits id lt in
       let gl = g.long in
       let m = ap (λ k. blocks_for k) n_is in
@@ -180,7 +233,7 @@ module _ (words lengths lasts : List ℕ) (place : Option Place) (nodes knots : 
       (λ j less. other_word words ms id n b w k j (once b) g.here (λ same. absurd (ne same)) (omega arith))
       ∙ ap (λ xs. text_of words xs (slice_index_or lengths k 0)) (g.others k ne)
 
-  pub appended_texts : (stored_in (slice_set words (128 * b + n % 128) w) ms (slice_set lengths id (n + 1))).texts ≡ slice_set (stored_in words ls lengths).texts id (text_at (stored_in words ls lengths).texts id ++ w ∷ [])
+  appended_texts : (stored_in (slice_set words (128 * b + n % 128) w) ms (slice_set lengths id (n + 1))).texts ≡ slice_set (stored_in words ls lengths).texts id (text_at (stored_in words ls lengths).texts id ++ w ∷ [])
   unfolding stored_in
   appended_texts =
       let f : ℕ → List ℕ = λ k. text_of words (blocks_of ls k) (slice_index_or lengths k 0) in
@@ -190,22 +243,38 @@ module _ (words lengths lasts : List ℕ) (place : Option Place) (nodes knots : 
       text_other
       ∙ ap t (ap (λ m. text_of words (blocks_of ls id) m) n_is ∙ sym (get_or-table numbers f id [] lt))
 
-  -- the same, where the place of the word and the lists are given by equations
-  module _ (p : ℕ) (p_is : p ≡ 128 * b + n % 128) (ms_are : ms ≡ grown_by (needs_block n) ls id) where
-    pub appended_inv : IsBlocks (slice_set words p w) (slice_set lengths id (n + 1)) (slice_set lasts id b) place (record { nodes = knots; lists = ms })
-    appended_inv = rw p_is appended_blocks
+  appended_view : ms ≡ grown_by (needs_block n) ls id → stored_in (slice_set words (128 * b + n % 128) w) ms (slice_set lengths id (n + 1)) ≡ appended (stored_in words ls lengths) id w
+  appended_view ms_are =
+      let c : (stored_in (slice_set words (128 * b + n % 128) w) ms (slice_set lengths id (n + 1))).chains ≡ (appended (stored_in words ls lengths) id w).chains =
+      chains_are (slice_set words (128 * b + n % 128) w) ms (slice_set lengths id (n + 1)) ∙ ms_are
+      ∙ ap (λ m. grown_by (needs_block m) ls id) (n_is ∙ sym (length_is words ls lengths id lt))
+      ∙ ap (λ xs. grown_by (needs_block (length (text_at (stored_in words ls lengths).texts id))) xs id) (sym (chains_are words ls lengths)) in
+      λ i. record { texts = appended_texts i; chains = c i }
 
-    pub appended_view : stored_in (slice_set words p w) ms (slice_set lengths id (n + 1)) ≡ appended (stored_in words ls lengths) id w
-    appended_view =
-        let t : (stored_in (slice_set words p w) ms (slice_set lengths id (n + 1))).texts ≡ (appended (stored_in words ls lengths) id w).texts = rw p_is appended_texts in
-        let c : (stored_in (slice_set words p w) ms (slice_set lengths id (n + 1))).chains ≡ (appended (stored_in words ls lengths) id w).chains =
-        chains_are (slice_set words p w) ms (slice_set lengths id (n + 1)) ∙ ms_are
-        ∙ ap (λ m. grown_by (needs_block m) ls id) (n_is ∙ sym (length_is words ls lengths id lt))
-        ∙ ap (λ xs. grown_by (needs_block (length (text_at (stored_in words ls lengths).texts id))) xs id) (sym (chains_are words ls lengths)) in
-        λ i. record { texts = t i; chains = c i }
+-- the same, where the words of the block are made ready first
+module _ (words vs : List ℕ) (most room : ℕ) (lengths lasts : List ℕ) (free : ℕ) (place : Option Place) (nodes knots : ℕ) (ls ms : List (List ℕ)) (id n b w : ℕ) (h : IsBlocks words most lengths lasts free place (record { nodes = nodes; lists = ls })) (room_is : room ≡ most) (knots_are : knots ≡ nodes) (lt : id < numbers) (n_is : n ≡ slice_index_or lengths id 0) (g : Grown ls ms id n b) (once : (x : ℕ) → times x ms ≤ 1) (vs_are : vs ≡ slice_set (block_ready words b) (128 * b + n % 128) w) where
+  made_ready : 128 * b + 128 ≤ length (block_ready words b)
+  made_ready =
+      let a = length-append words (replicate (128 * b + 128 - length words) 0) in
+      let l = length-replicate {A = ℕ} (128 * b + 128 - length words) 0 in
+      omega arith
+
+  ready_first : IsBlocks (block_ready words b) room lengths lasts free place (record { nodes = nodes; lists = ls })
+  ready_first = ready_blocks words lengths lasts most room (128 * b + 128 - length words) free place (record { nodes = nodes; lists = ls }) room_is h
+
+  pub put_blocks : (left : ℕ) → left + blocks_for (n + 1) ≡ free + blocks_for n → IsBlocks vs room (slice_set lengths id (n + 1)) (slice_set lasts id b) left place (record { nodes = knots; lists = ms })
+  put_blocks left left_is =
+      subst (λ xs. IsBlocks xs room (slice_set lengths id (n + 1)) (slice_set lasts id b) left place (record { nodes = knots; lists = ms })) (sym vs_are)
+      (appended_blocks (block_ready words b) room lengths lasts free place nodes knots ls ms id n b w ready_first knots_are lt n_is g once made_ready left left_is)
+
+  pub put_view : ms ≡ grown_by (needs_block n) ls id → stored_in vs ms (slice_set lengths id (n + 1)) ≡ appended (stored_in words ls lengths) id w
+  put_view ms_are =
+      ap (λ xs. stored_in xs ms (slice_set lengths id (n + 1))) vs_are
+      ∙ appended_view (block_ready words b) room lengths lasts free place nodes knots ls ms id n b w ready_first knots_are lt n_is g once made_ready ms_are
+      ∙ ap (λ s. appended s id w) (ready_view words (128 * b + 128 - length words) ls lengths)
 
 -- a number loses its words
-module _ (words lengths lasts : List ℕ) (place : Option Place) (nodes knots : ℕ) (ls ms : List (List ℕ)) (id : ℕ) (h : IsBlocks words lengths lasts place (record { nodes = nodes; lists = ls })) (knots_are : knots ≡ nodes) (lt : id < numbers) (ms_is : ms ≡ slice_set (slice_set ls 0 (free_blocks ls ++ blocks_of ls id)) (id + 1) []) where
+module _ (words : List ℕ) (most : ℕ) (lengths lasts : List ℕ) (free : ℕ) (place : Option Place) (nodes knots : ℕ) (ls ms : List (List ℕ)) (id : ℕ) (h : IsBlocks words most lengths lasts free place (record { nodes = nodes; lists = ls })) (knots_are : knots ≡ nodes) (lt : id < numbers) (ms_is : ms ≡ slice_set (slice_set ls 0 (free_blocks ls ++ blocks_of ls id)) (id + 1) []) where
   here_none : blocks_of ms id ≡ []
   here_none =
       let l = h.heads in
@@ -231,9 +300,9 @@ module _ (words lengths lasts : List ℕ) (place : Option Place) (nodes knots : 
   others_long : (k : ℕ) → k ≢ id → slice_index_or (slice_set lengths id 0) k 0 ≡ slice_index_or lengths k 0
   others_long k ne = get_or-set_other lengths id k 0 0 ne
 
-  pub given_blocks : IsBlocks words (slice_set lengths id 0) lasts None (record { nodes = knots; lists = ms })
+  pub given_blocks : IsBlocks words most (slice_set lengths id 0) lasts (free + blocks_for (slice_index_or lengths id 0)) None (record { nodes = knots; lists = ms })
   given_blocks = record {
-    words_long = h.words_long;
+    most_is = h.most_is;
     lengths_long = length-set lengths id 0 ∙ h.lengths_long;
     lasts_long = h.lasts_long;
     heads =
@@ -242,6 +311,12 @@ module _ (words lengths lasts : List ℕ) (place : Option Place) (nodes knots : 
         ∙ length-set ls 0 (free_blocks ls ++ blocks_of ls id)
         ∙ h.heads;
     nodes = knots_are ∙ h.nodes;
+    free_is =
+        let e = h.free_is in
+        let f = ap (λ xs. length xs) free_more in
+        let a = length-append (free_blocks ls) (blocks_of ls id) in
+        let t = h.fits id lt in
+        omega arith;
     fits = λ k kl. elim (cases_eq k id) [
       | inl e ↦ let l = none_here in let a = ap (λ xs. length xs) here_none in rw e (omega arith)
       | inr ne ↦ let l = others_long k ne in let a = ap (λ xs. length xs) (others_stay k ne) in let f = h.fits k kl in omega arith
@@ -249,6 +324,10 @@ module _ (words lengths lasts : List ℕ) (place : Option Place) (nodes knots : 
     last = λ k kl some. elim (cases_eq k id) [
       | inl e ↦ let a = ap (λ xs. length xs) (ap (λ i. blocks_of ms i) e ∙ here_none) in absurd (omega arith)
       | inr ne ↦ let o = others_stay k ne in let q = ap (λ xs. length xs) o in rw o (h.last k kl (omega arith))
+    ];
+    ready = λ k i c at. elim (cases_eq k id) [
+      | inl e ↦ let none : None ≡ Some c = ap (λ xs. slice_get xs i) (sym (ap (λ j. blocks_of ms j) e ∙ here_none)) ∙ at in cc
+      | inr ne ↦ h.ready k i c (ap (λ xs. slice_get xs i) (sym (others_stay k ne)) ∙ at)
     ];
     kept = tt;
     used =
@@ -275,7 +354,7 @@ module _ (words lengths lasts : List ℕ) (place : Option Place) (nodes knots : 
       ∙ ap (λ xs. slice_set (slice_set xs 0 (free_blocks xs ++ blocks_of xs id)) (id + 1) []) (sym (chains_are words ls lengths)) in
       λ i. record { texts = given_texts i; chains = c i }
 
-module _ (words lengths lasts : List ℕ) (place : Option Place) (links : Linked) (id : ℕ) (h : IsBlocks words lengths lasts place links) (lt : id < numbers) where
+module _ (words : List ℕ) (most : ℕ) (lengths lasts : List ℕ) (free : ℕ) (place : Option Place) (links : Linked) (id : ℕ) (h : IsBlocks words most lengths lasts free place links) (lt : id < numbers) where
   -- the lists after a block was found for a word more
   pub grown : (new : Linked) (n b last : ℕ) → n ≡ slice_index_or lengths id 0 → last ≡ slice_index_or lasts id 0 → (needs_block n ≡ false → (new ≡ links) × (b ≡ last)) → (needs_block n ≡ true → (first (free_blocks links.lists) ≡ Some b) × (new ≡ record links { lists = with_block links.lists id })) → Grown links.lists new.lists id n b
   grown new n b last n_is last_is same fresh =
@@ -320,12 +399,15 @@ module _ (words lengths lasts : List ℕ) (place : Option Place) (links : Linked
         | inr t ↦ and_left (needs_block (length (text_at (stored_in words links.lists lengths).texts id))) (eqb (blocks_used (stored_in words links.lists lengths)) 2048) (ap (λ k. needs_block k) m ∙ t)
       ]
 
-  -- where a block is needed, and the first free one is asked for
-  pub full_by : (n : ℕ) (f : Option ℕ) (r : Bool) → n ≡ slice_index_or lengths id 0 → needs_block n ≡ true → f ≡ first (free_blocks links.lists) → is_some f ≡ not r → r ≡ is_full (stored_in words links.lists lengths) id
-  full_by n None true n_is t e h = sym (full_is n n_is t (none_first (free_blocks links.lists) (sym e)))
-  full_by n None false n_is t e h = cc
-  full_by n (Some b) true n_is t e h = cc
-  full_by n (Some b) false n_is t e h = sym (room_is n b n_is (λ _. sym e))
+  -- how much room there is
+  pub behind_is : (n : ℕ) → n ≡ slice_index_or lengths id 0 → words_left n + 128 * free ≡ room_behind (stored_in words links.lists lengths) id
+  unfolding room_behind
+  behind_is n n_is =
+      let u = h.used in
+      let e = h.free_is in
+      let s = used_is words links.lists lengths h.lengths_long in
+      let l = length_is words links.lists lengths id lt in
+      omega arith
 
   -- a word that is read
   pub word_is : (k n b w : ℕ) → n ≡ slice_index_or lengths id 0 → k < n → slice_get (blocks_of links.lists id) (k / 128) ≡ Some b → w ≡ slice_index_or words (128 * b + k % 128) 0 → Some w ≡ slice_get (text_at (stored_in words links.lists lengths).texts id) k

@@ -1,5 +1,5 @@
 -- A block stands at one place in the lists at most.
-use Rattle.std.specs.Prelude.{◌≡◌, ◌<◌, ◌≤◌, ℕ, zero, suc, ◌+◌, Option, Some, None, List, [], ◌∷◌, ◌++◌, length, take, drop, slice_get, refl}
+use Rattle.std.specs.Prelude.{◌≡◌, ◌<◌, ◌≤◌, ℕ, zero, suc, ◌+◌, Option, Some, List, [], ◌∷◌, ◌++◌, length, take, drop, slice_get, refl}
 use Rattle.std.proofs.Common.{sym, ◌∙◌, ap, inl, inr, arith}
 use Rattle.std.proofs.lemmas.Bool.{cases_eq}
 use Rattle.its_links.specs.Lists.{list_at, hit, count, times, first, rest}
@@ -60,10 +60,6 @@ take_first (y ∷ ys) x e = let h : y ≡ x = cc in rw h refl
 pub rest_first : (xs : List ℕ) (x : ℕ) → first xs ≡ Some x → length xs ≡ length (rest xs) + 1
 rest_first [] x e = cc
 rest_first (y ∷ ys) x e = omega arith
-
-pub none_first : (xs : List ℕ) → first xs ≡ None → xs ≡ []
-none_first [] e = refl
-none_first (y ∷ ys) e = cc
 
 -- what follows a block in its list
 pub next_is : (ls : List (List ℕ)) (h at next x : ℕ) (r : Option ℕ) → next ≡ suc at → slice_get (list_at ls h) at ≡ Some x → ((g : ℕ) (before after : List ℕ) → list_at ls g ≡ before ++ x ∷ after → r ≡ first after) → r ≡ slice_get (list_at ls h) next

@@ -6,3 +6,4 @@ pub mod OrderLaws
 pub mod EntryLaws
 pub mod DirectoryLaws
 pub mod RoomLaws
+pub mod RoomBehindLaws

@@ -1,5 +1,5 @@
 -- A store as it is made.
-use Rattle.std.specs.Prelude.{◌≡◌, ◌<◌, ℕ, ◌+◌, ◌*◌, None, List, [], ◌∷◌, ◌++◌, length, sum_by, slice_set, slice_index_or, refl}
+use Rattle.std.specs.Prelude.{◌≡◌, ◌<◌, ℕ, ◌+◌, ◌*◌, Some, None, List, [], ◌∷◌, ◌++◌, length, sum_by, slice_get, slice_set, slice_index_or, refl}
 use Rattle.std.proofs.Common.{sym, ◌∙◌, ap, inl, inr, arith, length-set}
 use Rattle.std.proofs.lemmas.List.{get_or-set_same, get_or-set_other, set-set, set-get_or, ext_get_or, nil_from_length, get_or_append_left, get_or_push, length_push}
 use Rattle.std.proofs.lemmas.Bool.{cases_lt}
@@ -56,15 +56,16 @@ sum-copies : (n : ℕ) → sum_by blocks_for (filled n 0) ≡ n * 0
 unfolding filled
 sum-copies n = sum_by-replicate blocks_for n 0
 
-pub opened_blocks : (words lengths lasts : List ℕ) (links : Linked) → words ≡ filled 262144 0 → lengths ≡ filled numbers 0 → lasts ≡ filled numbers 0 → links ≡ record { nodes = 2048; lists = first_has (numbers + 1) 2048 } → IsBlocks words lengths lasts None links
-opened_blocks words lengths lasts links a b c e =
+pub opened_blocks : (words : List ℕ) (most : ℕ) (lengths lasts : List ℕ) (links : Linked) → most ≡ 262144 → lengths ≡ filled numbers 0 → lasts ≡ filled numbers 0 → links ≡ record { nodes = 2048; lists = first_has (numbers + 1) 2048 } → IsBlocks words most lengths lasts 2048 None links
+opened_blocks words most lengths lasts links a b c e =
     let ls : links.lists ≡ first_has (numbers + 1) 2048 = ap (λ l. l.lists) e in
     record {
-      words_long = ap (λ xs. length xs) a ∙ length-filled 262144 0;
+      most_is = a;
       lengths_long = ap (λ xs. length xs) b ∙ length-filled numbers 0;
       lasts_long = ap (λ xs. length xs) c ∙ length-filled numbers 0;
       heads = ap (λ xs. length xs) ls ∙ length-first_has (numbers + 1) 2048;
       nodes = ap (λ l. l.nodes) e;
+      free_is = sym (ap (λ xs. length (free_blocks xs)) ls ∙ ap (λ xs. length xs) (free_opened (numbers + 1) 2048 (omega arith)) ∙ length-up_to 2048);
       fits = λ id lt.
           let l = ap (λ xs. length (blocks_of xs id)) ls ∙ ap (λ xs. length xs) (none_opened (numbers + 1) 2048 id) in
           let z : slice_index_or lengths id 0 ≡ 0 = ap (λ xs. slice_index_or xs id 0) b ∙ get_or-filled numbers id 0 in
@@ -72,6 +73,9 @@ opened_blocks words lengths lasts links a b c e =
       last = λ id lt some.
           let l = ap (λ xs. length (blocks_of xs id)) ls ∙ ap (λ xs. length xs) (none_opened (numbers + 1) 2048 id) in
           absurd (omega arith);
+      ready = λ id i b at.
+          let none : None ≡ Some b = sym (ap (λ xs. slice_get (blocks_of xs id) i) ls ∙ ap (λ xs. slice_get xs i) (none_opened (numbers + 1) 2048 id)) ∙ at in
+          cc;
       kept = tt;
       used =
           let l = ap (λ xs. length (free_blocks xs)) ls ∙ ap (λ xs. length xs) (free_opened (numbers + 1) 2048 (omega arith)) ∙ length-up_to 2048 in

@@ -1,6 +1,6 @@
 -- How the words of files and drafts are kept: 2048 blocks of 128 words, a list of the free blocks, and for each number of a
 -- file or draft the list of its blocks, in the order of its words.
-use Rattle.std.specs.Prelude.{◌≡◌, ◌<◌, ℕ, ◌+◌, ◌-◌, ◌*◌, ◌/◌, ◌%◌, Bool, true, false, ◌&&◌, eqb, Option, Some, None, List, [], ◌∷◌, ◌++◌, length, take, sum_by, slice_set, slice_get, slice_index_or}
+use Rattle.std.specs.Prelude.{◌≡◌, ◌<◌, ◌≤◌, ℕ, ◌+◌, ◌-◌, ◌*◌, ◌/◌, ◌%◌, Bool, true, false, ◌&&◌, eqb, Option, Some, None, List, [], ◌∷◌, ◌++◌, length, take, replicate, sum_by, slice_set, slice_get, slice_index_or}
 use Rattle.its_links.specs.Lists.{Linked, list_at, rest}
 use Rattle.its_files.specs.declared.blocks.Place.{Place}
 use Rattle.its_word.specs.Limits.{slots}
@@ -53,6 +53,14 @@ needs_block n = eqb (n % 128) 0
 abbrev pub is_full : Stored → ℕ → Bool
 is_full s id = needs_block (length (text_at s.texts id)) && eqb (blocks_used s) blocks
 
+-- for how many words more the last block of n words has room
+abbrev pub words_left : ℕ → ℕ
+words_left n = (block_words - n % block_words) % block_words
+
+-- for how many words more there is room behind a text: in its last block, and in all blocks that are not in use
+unfoldable pub room_behind : Stored → ℕ → ℕ
+room_behind s id = words_left (length (text_at s.texts id)) + block_words * (blocks - blocks_used s)
+
 -- the first free block becomes the last of a number
 unfoldable pub with_block : List (List ℕ) → ℕ → List (List ℕ)
 with_block chains id = slice_set (slice_set chains 0 (rest (free_blocks chains))) (id + 1) (blocks_of chains id ++ take 1 (free_blocks chains))
@@ -79,6 +87,10 @@ given_up s id = record {
 unfoldable pub word_in : List ℕ → List ℕ → ℕ → ℕ
 word_in words chain k = slice_index_or words (128 * slice_index_or chain (k / 128) 0 + k % 128) 0
 
+-- the words that are ready, once those of a block are
+abbrev pub block_ready : List ℕ → ℕ → List ℕ
+block_ready words b = words ++ replicate (128 * b + 128 - length words) 0
+
 -- the first n words of some blocks
 abbrev pub text_of : List ℕ → List ℕ → ℕ → List ℕ
 text_of words chain n = table n (word_in words chain)
@@ -94,13 +106,17 @@ abbrev pub PlaceIn : List (List ℕ) → Option Place → Type 0
 PlaceIn chains None = Unit {0}
 PlaceIn chains (Some p) = slice_get (blocks_of chains p.id) p.index ≡ Some p.block
 
-pub record IsBlocks (words : List ℕ) (lengths : List ℕ) (lasts : List ℕ) (place : Option Place) (links : Linked) : Type 0 where
-  pub words_long : length words ≡ 262144
+-- words are those that are ready; each block of a number has its words ready
+pub record IsBlocks (words : List ℕ) (most : ℕ) (lengths lasts : List ℕ) (free : ℕ) (place : Option Place)
+    (links : Linked) : Type 0 where
+  pub most_is : most ≡ blocks * block_words
   pub lengths_long : length lengths ≡ numbers
   pub lasts_long : length lasts ≡ numbers
   pub heads : length links.lists ≡ numbers + 1
   pub nodes : links.nodes ≡ 2048
+  pub free_is : free ≡ length (free_blocks links.lists)
   pub fits : (id : ℕ) → id < numbers → length (blocks_of links.lists id) ≡ blocks_for (slice_index_or lengths id 0)
   pub last : (id : ℕ) → id < numbers → 0 < length (blocks_of links.lists id) → slice_get (blocks_of links.lists id) (length (blocks_of links.lists id) - 1) ≡ Some (slice_index_or lasts id 0)
+  pub ready : (id i b : ℕ) → slice_get (blocks_of links.lists id) i ≡ Some b → 128 * b + 128 ≤ length words
   pub kept : PlaceIn links.lists place
   pub used : length (free_blocks links.lists) + sum_by blocks_for lengths ≡ 2048

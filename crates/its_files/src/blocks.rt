@@ -1,10 +1,10 @@
-ghost use Rattle.std.specs.Prelude.{◌≡◌, ◌≢◌, ◌<◌, ◌≤◌, ◌+◌, ◌-◌, ◌*◌, ◌/◌, ◌%◌, ◌^◌, ℕ, List, [], ◌∷◌, ◌++◌, true, false, Some, None, length, slice_get, is_err, IfOk, OnOk, OnErr};
+ghost use Rattle.std.specs.Prelude.{◌≡◌, ◌≢◌, ◌<◌, ◌≤◌, ◌+◌, ◌-◌, ◌*◌, ◌/◌, ◌%◌, ◌^◌, ℕ, List, [], ◌∷◌, ◌++◌, true, false, Some, None, length, slice_get, slice_set, is_err, IfOk, OnOk, OnErr};
 ghost use Rattle.its_links.specs.Lists.{first};
-ghost use Rattle.its_files.specs.Blocks.{text_at, free_blocks, blocks_of, blocks_used, is_full, appended, given_up, needs_block, with_block, PlaceIn, numbers, blocks};
+ghost use Rattle.its_files.specs.Blocks.{text_at, free_blocks, blocks_for, blocks_of, blocks_used, is_full, room_behind, appended, given_up, needs_block, with_block, block_ready, PlaceIn, numbers, blocks, block_words};
 ghost use Rattle.its_files.specs.Opening.{first_has, nothing_stored};
 
 use its_links::Links;
-use its_word::{NoMemory, SLOTS, Word, filled};
+use its_word::{NoMemory, ReadyWords, SLOTS, Word, filled};
 use std::alloc::Global;
 use std::marker::Model;
 
@@ -36,13 +36,15 @@ pub(crate) struct Place {
 /// The words of files and drafts, by number. Contracts see the words of each number, and which
 /// blocks are free and which are in use by whom.
 ///
-/// The last block of each number is kept, so that a word is appended without a walk; and one place,
-/// from which the walk to a later block goes on.
+/// The last block of each number is kept, so that a word is appended without a walk; how many blocks
+/// are free; and one place, from which the walk to a later block goes on. A block's words are made
+/// ready when the first of them is appended.
 #[derive(Drop)]
 pub(crate) struct Blocks {
-    words: Vec<Word>,
+    words: ReadyWords,
     lengths: Vec<u32>,
     lasts: Vec<u32>,
+    free: u32,
     place: Option<Place>,
     links: Links,
 }
@@ -52,9 +54,9 @@ impl Model for Blocks {
 
     ghost Value = { Stored };
 
-    ghost view = { λ b. stored_in b.words.items b.links.lists b.lengths.items };
+    ghost view = { λ b. stored_in b.words.words b.links.lists b.lengths.items };
 
-    ghost invariant = { λ b. IsBlocks b.words.items b.lengths.items b.lasts.items b.place b.links };
+    ghost invariant = { λ b. IsBlocks b.words.words b.words.most b.lengths.items b.lasts.items b.free b.place b.links };
 }
 
 /// Lists of which the first has the nodes below n, in order, and the others are empty.
@@ -136,10 +138,28 @@ fn block_at(links: &Links, place: Option<Place>, id: u32, index: u32) -> u32
 /// Where a word of a block stands.
 fn word_index(block: u32, k: u32) -> usize
     requires { block < blocks }
-    ensures place { result ≡ 128 * block + k % 128 }
-    ensures within { result < 262144 }
+    ensures { result ≡ 128 * block + k % 128 }
 {
     (block * BLOCK_WORDS + k % BLOCK_WORDS) as usize
+}
+
+/// Puts a word into a block, whose words it makes ready where they are not.
+fn put_word(words: &mut ReadyWords, block: u32, k: u32, w: Word)
+    requires block { block < blocks }
+    requires most { words.old.most ≡ blocks * block_words }
+    ensures words { words.new.words ≡ slice_set (block_ready words.old.words block) (128 * block + k % 128) w }
+    ensures most { words.new.most ≡ words.old.most }
+{
+    words.make_ready((block * BLOCK_WORDS + BLOCK_WORDS) as usize);
+    words.set(word_index(block, k), w);
+}
+
+/// How many blocks so many words take.
+fn blocks_for(words: u32) -> u32
+    requires { words < 2 ^ 32 - 127 }
+    ensures { result ≡ blocks_for words }
+{
+    (words + (BLOCK_WORDS - 1)) / BLOCK_WORDS
 }
 
 impl Blocks {
@@ -148,9 +168,10 @@ impl Blocks {
         ensures { IfOk result (λ b. b ≡ nothing_stored) }
     {
         Ok(Blocks {
-            words: filled(alloc, Word::ZERO, (BLOCKS * BLOCK_WORDS) as usize)?,
+            words: ReadyWords::open(alloc, (BLOCKS * BLOCK_WORDS) as usize)?,
             lengths: filled(alloc, 0, NUMBERS as usize)?,
             lasts: filled(alloc, 0, NUMBERS as usize)?,
+            free: BLOCKS,
             place: None,
             links: all_free(alloc, BLOCKS, NUMBERS + 1)?,
         })
@@ -181,7 +202,7 @@ impl Blocks {
             return None;
         }
         let block = block_at(&self.links, self.place, id, k / BLOCK_WORDS);
-        Some(self.words[word_index(block, k)])
+        Some(self.words.get(word_index(block, k)))
     }
 
     /// Keeps the place of the k-th word of a number, so that the walk to it and to later ones is short.
@@ -210,18 +231,30 @@ impl Blocks {
             return Err(Full);
         };
         self.links.seen();
-        self.words[word_index(block, length)] = w;
+        put_word(&mut self.words, block, length, w);
         self.lengths[id as usize] = length + 1;
         self.lasts[id as usize] = block;
+        self.free -= blocks_for(length + 1) - blocks_for(length);
         Ok(())
     }
 
     /// Whether there is no room for a word more at the end of a number's words.
+    #[tactic(auto, using(crate::proofs::RoomBehindLaws::no_room))]
     pub(crate) fn is_full(&self, id: u32) -> bool
         requires { id < numbers }
         ensures { result ≡ is_full self.now id }
     {
-        self.lengths[id as usize] % BLOCK_WORDS == 0 && self.links.front(FREE).is_none()
+        self.seen();
+        self.room(id) == 0
+    }
+
+    /// For how many words more there is room at the end of a number's words.
+    pub(crate) fn room(&self, id: u32) -> u32
+        requires { id < numbers }
+        ensures { result ≡ room_behind self.now id }
+    {
+        let length = self.lengths[id as usize];
+        (BLOCK_WORDS - length % BLOCK_WORDS) % BLOCK_WORDS + self.free * BLOCK_WORDS
     }
 
     /// A number loses its words, and its blocks are free.
@@ -229,6 +262,7 @@ impl Blocks {
         requires { id < numbers }
         ensures { self.new ≡ given_up self.old id }
     {
+        self.free += blocks_for(self.lengths[id as usize]);
         self.links.splice(id + 1, FREE);
         self.lengths[id as usize] = 0;
         self.place = None;

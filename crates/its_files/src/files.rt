@@ -2,7 +2,7 @@ ghost use Rattle.std.specs.Prelude.{◌≡◌, ◌≢◌, ◌<◌, ◌≤◌, �
 ghost use Rattle.its_word.specs.Only.{Only, Same};
 ghost use Rattle.its_word.specs.Directory.{same_names, without_names, with_changed, longer, named, closed};
 ghost use Rattle.its_links.specs.Lists.{count};
-ghost use Rattle.its_files.specs.Blocks.{is_full, numbers, blocks, free_blocks, blocks_used};
+ghost use Rattle.its_files.specs.Blocks.{is_full, room_behind, numbers, blocks, free_blocks, blocks_used};
 ghost use Rattle.its_files.specs.Files.{entry_at, is_file, is_draft, names_at, readers_at, words_at, drafts, new_names, found, owed, no_files, with_file, with_draft, with_word, discarded, delete, rename, with_readers, close, unlinked, linked, freed, helped, directory, plain_directory, file_at as file_of, marked_draft, one_if, Marked, IsStore, most_files, most_drafts};
 
 use super::blocks::{Blocks, Full, NUMBERS};
@@ -161,6 +161,15 @@ impl Files {
         ensures { result ≡ is_full self.now.stored id }
     {
         self.blocks.is_full(id)
+    }
+
+    /// How many words more there is room for at the end of a file or a draft: what its last block still
+    /// has, and the free blocks.
+    pub fn room(&self, id: u32) -> u32
+        requires { is_some (entry_at self.now id) ≡ true }
+        ensures { result ≡ room_behind self.now.stored id }
+    {
+        self.blocks.room(id)
     }
 
     /// How many files there are.

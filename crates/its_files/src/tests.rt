@@ -75,6 +75,11 @@ fn length(rt: &impl Abort, files: &Files, id: u32) -> u32 {
     files.length(id)
 }
 
+fn room(rt: &impl Abort, files: &Files, id: u32) -> u32 {
+    assert!(rt; files.is_draft(id) || files.is_file(id));
+    files.room(id)
+}
+
 fn first_name(rt: &impl Abort, files: &Files, id: u32) -> Word {
     assert!(rt; files.is_draft(id) || files.is_file(id));
     let [_d, x, _y] = files.names(id);
@@ -226,7 +231,11 @@ fn readers(rt: HostRuntime) -> Result<(), Fail> {
 /// All blocks are filled, and given up.
 fn all_blocks(rt: &impl Abort, files: &mut Files, first: u32) {
     let id = draft(rt, files, 300);
-    fill(rt, files, id, first, 262144);
+    assert_eq!(rt; room(rt, files, id), 262144);
+    fill(rt, files, id, first, 1);
+    assert_eq!(rt; room(rt, files, id), 262143);
+    fill(rt, files, id, first.wrapping_add(1), 262143);
+    assert_eq!(rt; room(rt, files, id), 0);
     assert_eq!(rt; append(rt, files, id, 0), Err(Full));
     for k in 0..262144 {
         seek(rt, files, id, k);

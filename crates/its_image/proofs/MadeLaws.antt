@@ -15,7 +15,7 @@ use Rattle.its_image.specs.declared.source.Unmade.{Unmade}
 use Rattle.its_image.specs.declared.source.Unmade.TheVariants as unmades
 use Rattle.its_image.specs.declared.text.Unread.TheVariants as unreads
 use Rattle.its_image.specs.Text.{Assembles, Gathered, StandsFor, runs_past}
-use Rattle.its_image.specs.Made.{Ends, EndsOf, IsSession, IsSessionOf, IsRefusal, MakesOf}
+use Rattle.its_image.specs.Made.{MadeFrom, EndsOf, IsSession, IsSessionOf, IsRefusal, MakesOf}
 use Rattle.its_image.specs.Written.{fault_line}
 
 assembles : (r : Result Image AsmFault) (text : List ℕ) → IsSession r text → Assembles r
@@ -35,16 +35,16 @@ if_then : (left : Option (List ℕ)) (P Q : List ℕ → Type 0) → ((b : List 
 if_then None P Q f h = tt
 if_then (Some b) P Q f h = f b h
 
-pub ends_made : (m : Result Made Unmade) (text : List ℕ) (left rest : Option (List ℕ)) → Gathered (Ok tt) text left rest → MakesOf m (assembly text) → Ends m left rest
+pub ends_made : (m : Result Made Unmade) (text : List ℕ) (left rest : Option (List ℕ)) → Gathered (Ok tt) text left rest → MakesOf m (assembly text) → MadeFrom m left rest
 ends_made m text left rest g k = record { read = g.read; consumed = g.consumed; ends = if_then left _ _ (λ b s. ends_by m b text g.read k s) g.stands }
 
-pub ends_failed : (text : List ℕ) (left rest : Option (List ℕ)) → Gathered (Err unreads.Failed) text left rest → Ends (Err unmades.Failed) left rest
+pub ends_failed : (text : List ℕ) (left rest : Option (List ℕ)) → Gathered (Err unreads.Failed) text left rest → MadeFrom (Err unmades.Failed) left rest
 ends_failed text left rest g = record { read = g.read; consumed = g.consumed; ends = if_then left _ _ (λ b s. tt) g.stands }
 
-pub ends_beyond : (text : List ℕ) (left rest : Option (List ℕ)) → Gathered (Err unreads.Beyond) text left rest → Ends (Err unmades.Beyond) left rest
+pub ends_beyond : (text : List ℕ) (left rest : Option (List ℕ)) → Gathered (Err unreads.Beyond) text left rest → MadeFrom (Err unmades.Beyond) left rest
 ends_beyond text left rest g = record { read = g.read; consumed = g.consumed; ends = if_then left _ _ (λ b s. s) g.stands }
 
-pub ends_refused : (text : List ℕ) (left rest : Option (List ℕ)) → Gathered (Err unreads.NoMemory) text left rest → Ends (Err unmades.NoMemory) left rest
+pub ends_refused : (text : List ℕ) (left rest : Option (List ℕ)) → Gathered (Err unreads.NoMemory) text left rest → MadeFrom (Err unmades.NoMemory) left rest
 ends_refused text left rest g = record { read = g.read; consumed = g.consumed; ends = if_then left _ _ (λ b s. tt) g.stands }
 
 -- what is made of an assembly

@@ -78,7 +78,7 @@ EndsOf (Err unmades.Failed) bytes read = Unit {0}
 EndsOf (Err unmades.Beyond) bytes read = runs_past bytes ≡ true
 EndsOf (Err unmades.NoMemory) bytes read = Unit {0}
 
-pub record Ends (result : Result Made Unmade) (left rest : Option (List ℕ)) : Type 0 where
+pub record MadeFrom (result : Result Made Unmade) (left rest : Option (List ℕ)) : Type 0 where
   pub read : List ℕ
   pub consumed : Consumes left rest read
   pub ends : IfSome left (λ bytes. EndsOf result bytes read)

@@ -3,7 +3,7 @@ ghost use Rattle.std.specs.Prelude.{◌≡◌, ◌≢◌, ◌≤◌, ◌^◌, []
 ghost use Rattle.its_io.specs.Bytes.{next_fault};
 ghost use Rattle.its_asm.specs.Assembly.{assembly};
 ghost use Rattle.its_image.specs.Written.{fault_line, reason_word};
-ghost use Rattle.its_image.specs.Made.{Ends, MakesOf};
+ghost use Rattle.its_image.specs.Made.{MadeFrom, MakesOf};
 
 use super::session::session_text;
 use super::text::{Unread, read_text};
@@ -36,7 +36,7 @@ pub enum Unmade {
 /// Assembles the text that the source gives: it is read to its end, or to a line of more than 255 bytes.
 #[tactic(auto, using(crate::proofs::MadeLaws::ends_made, crate::proofs::MadeLaws::ends_failed, crate::proofs::MadeLaws::ends_beyond, crate::proofs::MadeLaws::ends_refused))]
 pub fn assemble_source<S: Source>(alloc: Global, src: &mut S) -> Result<Made, Unmade>
-    ensures ends { Ends result (S.left src.old) (S.left src.new) }
+    ensures ends { MadeFrom result (S.left src.old) (S.left src.new) }
     ensures unfailed { result ≢ Err Unmade.Failed → S.faults src.new ≡ S.faults src.old }
     ensures failed { result ≡ Err Unmade.Failed → S.faults src.new ≡ next_fault (S.faults src.old) }
 {

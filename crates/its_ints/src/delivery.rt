@@ -2,13 +2,16 @@ ghost use Rattle.std.specs.Prelude.{◌≡◌, ◌<◌, ◌≤◌, ◌^◌, true
 ghost use Rattle.its_word.specs.Limits.{slots};
 ghost use Rattle.its_word.specs.Only.{Only};
 ghost use Rattle.its_core.specs.Cores.{core_at};
+ghost use Rattle.its_plain.specs.CallBasic.{popped};
 ghost use Rattle.its_plain.specs.Job.{pc_word};
 ghost use Rattle.its_plain.specs.Interrupt.{unguarded, deliverable, pushed, at_handler, above, below, delivered, dismissed};
 
 use super::table::{Found, TableEntry, enabled_1, enabled_2, look_up};
-use super::words::{is_storable, word};
 use its_core::Core;
 use its_word::{ADDRESSES, Exit, FATAL, Fault, Job, Store, TBL, Word, flags_in, pc_word};
+
+/// How much is taken from each half of the stack pointer word, modulo 1000000 (octal).
+const FIVE_LESS: u32 = 0o1000000 - 5;
 
 /// The pending fatal bits that are not enabled.
 #[tactic(auto, unfolding(its_plain::specs::Interrupt::unguarded))]
@@ -110,15 +113,14 @@ pub fn deliver(core: &mut Core, slot: u8, job: &mut Job) -> bool
 /// stack pointer word at p. Mpv where one of the words is absent, else Wro where p is read only.
 #[tactic(auto, unfolding(its_plain::specs::Interrupt::dismissed))]
 pub fn dismiss(core: &Core, job: &Job, slot: u8, p: u32) -> Result<Exit, Fault>
-    requires slot { slot < slots }
-    requires address { p < 2 ^ 18 }
+    requires { slot < slots }
     ensures { result ≡ dismissed (core_at core.now slot) job.now p }
 {
-    let pointer = word(core, slot, p).ok_or(Fault::Mpv)?;
-    let saved = word(core, slot, pointer.right()).ok_or(Fault::Mpv)?;
-    let defer2 = word(core, slot, below(pointer, 1)).ok_or(Fault::Mpv)?;
-    let defer1 = word(core, slot, below(pointer, 2)).ok_or(Fault::Mpv)?;
-    if !is_storable(core, slot, p) {
+    let pointer = core.word(slot, p).ok_or(Fault::Mpv)?;
+    let saved = core.word(slot, pointer.right()).ok_or(Fault::Mpv)?;
+    let defer2 = core.word(slot, below(pointer, 1)).ok_or(Fault::Mpv)?;
+    let defer1 = core.word(slot, below(pointer, 2)).ok_or(Fault::Mpv)?;
+    if !core.is_storable(slot, p) {
         return Err(Fault::Wro);
     }
     Ok(Exit {
@@ -136,8 +138,14 @@ pub fn dismiss(core: &Core, job: &Job, slot: u8, p: u32) -> Result<Exit, Fault>
 /// The k-th place below that of a stack pointer word.
 fn below(pointer: Word, k: u32) -> u32
     requires { k ≤ 2 ^ 18 }
-    ensures place { result ≡ below pointer k }
-    ensures below { result < 2 ^ 18 }
+    ensures { result ≡ below pointer k }
 {
     (pointer.right() + (ADDRESSES - k)) % ADDRESSES
+}
+
+/// The stack pointer word without the five words of a delivery.
+pub fn popped(pointer: Word) -> Word
+    ensures { result ≡ popped pointer }
+{
+    Word::pair(pointer.left() + FIVE_LESS, pointer.right() + FIVE_LESS)
 }

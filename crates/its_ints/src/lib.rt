@@ -6,6 +6,5 @@ mod delivery;
 mod table;
 #[cfg(test)]
 mod tests;
-mod words;
 
-pub use delivery::{deliver, deliverable, dismiss};
+pub use delivery::{deliver, deliverable, dismiss, popped};

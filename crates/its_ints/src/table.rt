@@ -5,7 +5,6 @@ ghost use Rattle.its_core.specs.Cores.{core_at};
 ghost use Rattle.its_word.specs.Stores.{first_fault};
 ghost use Rattle.its_plain.specs.Interrupt.{enabled_1, enabled_2, entry_at, meets, first_entry, entries_of, pushed, undelivered, by_stores, through_table};
 
-use super::words::word;
 use its_core::Core;
 use its_word::{ADDRESSES, Job, TBL, Word};
 use std::marker::Model;
@@ -100,11 +99,11 @@ fn entry_at(core: &Core, slot: u8, a: u32) -> Option<TableEntry>
     ensures { result ≡ entry_at (core_at core.now slot) a }
 {
     Some(TableEntry {
-        mask1: word(core, slot, a % ADDRESSES)?,
-        mask2: word(core, slot, (a + 1) % ADDRESSES)?,
-        defer1: word(core, slot, (a + 2) % ADDRESSES)?,
-        defer2: word(core, slot, (a + 3) % ADDRESSES)?,
-        handler: word(core, slot, (a + 4) % ADDRESSES)?,
+        mask1: core.word(slot, a % ADDRESSES)?,
+        mask2: core.word(slot, (a + 1) % ADDRESSES)?,
+        defer1: core.word(slot, (a + 2) % ADDRESSES)?,
+        defer2: core.word(slot, (a + 3) % ADDRESSES)?,
+        handler: core.word(slot, (a + 4) % ADDRESSES)?,
     })
 }
 
@@ -160,11 +159,11 @@ pub(crate) fn look_up(core: &Core, slot: u8, job: &Job) -> Option<Found>
         ≡ (let ss = pushed job.now f.entry f.place f.pointer in by_stores (core_at core.now slot) job.now f.entry ss (first_fault (core_at core.now slot) ss))) }
     ensures place { IfSome result (λ f. f.place < 2 ^ 18) }
 {
-    let table = word(core, slot, 0o42)?;
+    let table = core.word(slot, 0o42)?;
     let count = entries(table)?;
-    let place = word(core, slot, table.right())?.right();
+    let place = core.word(slot, table.right())?.right();
     let entry = first_entry(core, slot, job, count, table.right() + 1)?;
-    let pointer = word(core, slot, place)?;
+    let pointer = core.word(slot, place)?;
     Some(Found {
         entry,
         place,

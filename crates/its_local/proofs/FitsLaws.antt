@@ -96,7 +96,7 @@ located_finds c w used f h e =
     record { below = r.below; more = omega arith; most = omega arith; few = omega arith }
 
 -- an instruction that is found at the end of some words that were read
-pub record Ends (j : Job) (reads : List ℕ) (used : ℕ) (x : Context) : Type 0 where
+pub record FoundAt (j : Job) (reads : List ℕ) (used : ℕ) (x : Context) : Type 0 where
   pub pc : x.pc ≡ j.pc
   pub a : x.a < 16
   pub e : x.e < 2 ^ 18
@@ -104,13 +104,13 @@ pub record Ends (j : Job) (reads : List ℕ) (used : ℕ) (x : Context) : Type 0
   pub few : length reads + 2 * used ≤ 2 * x.used + 1
 
 -- the target of an XCT that is read after some words
-record Goes (reads : List ℕ) (used next : ℕ) : Type 0 where
+record TargetAt (reads : List ℕ) (used next : ℕ) : Type 0 where
   most : next ≤ budget
   few : length reads + 2 * used ≤ 2 * next
 
 Leads : Job → List ℕ → ℕ → Turn → Type 0
-Leads j reads used (Found r) = Ends j reads used r.context
-Leads j reads used (Target w next) = Goes reads used next
+Leads j reads used (Found r) = FoundAt j reads used r.context
+Leads j reads used (Target w next) = TargetAt reads used next
 
 -- what an instruction adds to the words of its address
 Adds : Context → List ℕ → Turn → Type 0
@@ -153,7 +153,7 @@ leads_by : (c : Core) (j : Job) (w used : ℕ) (f : Located) (first more all : L
 unfolding Adds Leads
 leads_by c j w used f first more all (Found r) be mo me fe l a =
     let n = a.1 in
-    subst (Ends j all used) (sym a.0) (record { pc = refl; a = omega arith; e = be; most = me; few = omega arith })
+    subst (FoundAt j all used) (sym a.0) (record { pc = refl; a = omega arith; e = be; most = me; few = omega arith })
 leads_by c j w used f first more all (Target v k) be mo me fe l a =
     let e = a.0 in
     let m = a.1 in
@@ -173,20 +173,20 @@ turn_leads c j w used t u h =
     (turn_at_adds c d.value (context_of j w l.value.at l.value.used) t l.last)
 
 followed_ends : (j : Job) (used : ℕ) (rest : ℕ → ℕ → Traced Reached) (r : Reached) (first all : List ℕ) (t : Turn)
-    → ((v k : ℕ) → k ≤ budget → (rest v k).answer ≡ Ok r → Ends j (rest v k).reads k r.context)
-    → Leads j first used t → (goes_to rest t).answer ≡ Ok r → length all ≡ length first + length (goes_to rest t).reads → Ends j all used r.context
+    → ((v k : ℕ) → k ≤ budget → (rest v k).answer ≡ Ok r → FoundAt j (rest v k).reads k r.context)
+    → Leads j first used t → (goes_to rest t).answer ≡ Ok r → length all ≡ length first + length (goes_to rest t).reads → FoundAt j all used r.context
 unfolding Leads
 followed_ends j used rest r first all (Found q) h l e n =
     let is : q ≡ r = cc in
     let few = l.few in
-    subst (λ (x : Reached). Ends j all used x.context) is (record { pc = l.pc; a = l.a; e = l.e; most = l.most; few = omega arith })
+    subst (λ (x : Reached). FoundAt j all used x.context) is (record { pc = l.pc; a = l.a; e = l.e; most = l.most; few = omega arith })
 followed_ends j used rest r first all (Target v k) h l e n =
     let x = h v k l.most e in
     let few = l.few in
     let more = x.few in
     record { pc = x.pc; a = x.a; e = x.e; most = x.most; few = omega arith }
 
-chain_ends : (n : ℕ) (c : Core) (j : Job) (w used : ℕ) (r : Reached) → used ≤ budget → (chain n c j w used).answer ≡ Ok r → Ends j (chain n c j w used).reads used r.context
+chain_ends : (n : ℕ) (c : Core) (j : Job) (w used : ℕ) (r : Reached) → used ≤ budget → (chain n c j w used).answer ≡ Ok r → FoundAt j (chain n c j w used).reads used r.context
 unfolding chain
 chain_ends zero c j w used r u h = cc
 chain_ends (suc n) c j w used r u h =

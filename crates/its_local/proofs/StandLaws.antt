@@ -15,7 +15,7 @@ use Rattle.its_word.specs.declared.calls.Site.{Site}
 use Rattle.its_word.specs.declared.calls.Source.TheVariants.{Held, Immediate}
 use Rattle.its_word.specs.declared.jobs.Job.{Job}
 use Rattle.its_plain.specs.Decode.{Shape, ask, ask_of, control_of, input_of, iot_ask, operand_of, place_of, shaped}
-use Rattle.its_plain.specs.Footprint.{Stands, in_footprint, is_shared, times, with_inputs}
+use Rattle.its_plain.specs.Footprint.{Stands, times, with_inputs}
 use Rattle.its_local.proofs.Locality.{Agree, Alike, Words}
 use Rattle.its_local.proofs.SiteLaws.{site_same}
 use Rattle.its_local.proofs.AskLaws.{ask_of_is, ask_same, ask_with, asked_by_block, asked_by_iot, block_agrees, decode_iot, decode_of, decoded_of, inputs_is, iot_of, operand_is}
@@ -273,32 +273,6 @@ stands_outside c j s k p v h o = record {
   ask_is = ask_same c (store c p v) s k h.ask_is (stored_agrees c p v k.decode.items (shaped c s).tests o.decode) (stored_words c p v k.operand.items o.operand);
 }
 
--- stores compose: the places of the inputs are as they were
-inputs_renewed : (p q v : ℕ) (xs : List Operand) → inputs_at p (map (renew q v) xs) ≡ inputs_at p xs
-inputs_renewed p q v [] = refl
-inputs_renewed p q v (x ∷ xs) =
-    let a = inputs_at_cons p (renew q v x) (map (renew q v) xs) in
-    let b = inputs_at_cons p x xs in
-    let r = inputs_renewed p q v xs in
-    omega arith
-
-pub free_renewed : (k : Ask) (p q v : ℕ) → Free p k → Free p (renewed q v k)
-free_renewed k p q v f =
-    let r = inputs_renewed p q v k.inputs.items in
-    let o = f.operand in
-    record { decode = f.decode; operand = omega arith }
-
 -- the footprint does not depend on the values of the inputs
-pub outside_inputs : (k : Ask) (p : ℕ) (xs : List Operand) → Outside p k → Outside p (with_inputs k xs)
-outside_inputs k p xs o = record { decode = o.decode; operand = o.operand }
-
 pub once_inputs : (k : Ask) (p : ℕ) (xs : List Operand) → Once p k → Once p (with_inputs k xs)
 once_inputs k p xs o = record { decode = o.decode; operand = o.operand }
-
-pub footprint_inputs : (k : Ask) (p : ℕ) (xs : List Operand) → in_footprint p (with_inputs k xs) ≡ in_footprint p k
-unfolding in_footprint
-footprint_inputs k p xs = refl
-
-pub shared_inputs : (k : Ask) (p : ℕ) (xs : List Operand) → is_shared p (with_inputs k xs) ≡ is_shared p k
-unfolding is_shared
-shared_inputs k p xs = refl

@@ -1,6 +1,10 @@
--- How a part and then another come to a value.
-use Rattle.std.proofs.Common.{◌≡◌, ◌++◌, Result, Ok, Err, refl, sym, ◌∙◌, ap}
+-- How a part and then another come to a value, and what reads nothing.
+use Rattle.std.proofs.Common.{◌≡◌, ◌++◌, ℕ, [], Result, Ok, Err, refl, sym, ◌∙◌, ap}
+use Rattle.its_word.specs.Core.{Core}
 use Rattle.its_word.specs.declared.access.Fault.{Fault}
+use Rattle.its_word.specs.declared.calls.Kind.{Kind}
+use Rattle.its_word.specs.declared.calls.Kind.TheVariants as kinds
+use Rattle.its_plain.specs.Decode.{argument_at, held, storable}
 use Rattle.its_plain.specs.Traced.{Traced, also, goes_on}
 
 -- the value that comes of two parts: the first has one, and so has the second
@@ -31,3 +35,30 @@ went {X = X} m k y h = go m.answer refl
       tests = ap (λ t. t.tests) a;
     }
     go (Err f) e = let a = ap (λ t. t.answer) (sym (also_err m k f e)) ∙ h in cc
+
+-- an argument whose address is found reads nothing more
+unread_also : {X Y : Type 0} (m : Traced X) (k : X → Traced Y) → m.reads ≡ [] → ((x : X) → (k x).reads ≡ []) → (also m k).reads ≡ []
+unfolding also
+unread_also {X = X} m k hm hk = go m.answer
+  where
+    go : (r : Result X Fault) → (goes_on m.reads m.tests r k).reads ≡ []
+    go (Ok x) = ap (λ rs. rs ++ (k x).reads) hm ∙ hk x
+    go (Err f) = hm
+
+unread_held : (c : Core) (p : ℕ) → (held c p).reads ≡ []
+unfolding held
+unread_held c p = refl
+
+unread_storable : (c : Core) (p : ℕ) → (storable c p).reads ≡ []
+unfolding storable
+unread_storable c p = refl
+
+pub unread : (k : Kind) (c : Core) (e : ℕ) → (argument_at k c e).reads ≡ []
+unfolding argument_at
+unread kinds.Input c e = unread_also (held c e) _ (unread_held c e) (λ p. refl)
+unread kinds.Immediate c e = refl
+unread kinds.Output c e = unread_also (storable c e) _ (unread_storable c e) (λ p. refl)
+unread kinds.ErrorAt c e = unread_also (storable c e) _ (unread_storable c e) (λ p. refl)
+unread kinds.Control c e = unread_also (held c e) _ (unread_held c e) (λ p. refl)
+unread kinds.ImmediateControl c e = refl
+unread kinds.Other c e = refl

@@ -1,17 +1,17 @@
 -- The stores of a transfer and of SLEEP: the call stands after them, with the new values of its inputs.
-use Rattle.std.proofs.Common.{◌≡◌, ◌≢◌, ◌≤◌, ◌+◌, ◌==◌, ◌||◌, ℕ, cond, Bool, true, false, List, [], ◌∷◌, ◌++◌, map, Option, Some, None, Ok, refl, sym, ◌∙◌, ap, subst, nat_lt, arith}
+use Rattle.std.proofs.Common.{◌≡◌, ◌≤◌, ◌+◌, ◌==◌, ◌||◌, ℕ, cond, Bool, true, false, List, [], ◌∷◌, ◌++◌, map, Option, Some, None, Ok, refl, ◌∙◌, ap, subst, nat_lt, arith}
 use Rattle.std.proofs.lemmas.Bool.{eq-eqb}
 use Rattle.std.proofs.lemmas.Bool.Decides.{nat_tests}
 use Rattle.std.proofs.lemmas.List.{map-append}
 use Rattle.its_word.specs.Core.{Core, can_store, store}
-use Rattle.its_word.proofs.CoreLaws.{can_store-store, store-store, store_comm}
+use Rattle.its_word.proofs.CoreLaws.{can_store-store}
 use Rattle.its_word.specs.declared.calls.Ask.{Ask}
 use Rattle.its_word.specs.declared.calls.Operand.{Operand}
 use Rattle.its_word.specs.declared.calls.Site.{Site}
 use Rattle.its_word.specs.declared.jobs.Job.{Job}
 use Rattle.its_plain.specs.Decode.{ask}
 use Rattle.its_plain.specs.Footprint.{Stands, among, in_footprint, is_shared, times, variable, with_inputs}
-use Rattle.its_local.proofs.StandLaws.{Free, Once, Outside, inputs_at, inputs_at_append, inputs_at_cons, inputs_few, is_at, once_inputs, renew, renewed_value, stands_outside, stands_stored, times_cons, times_none}
+use Rattle.its_local.proofs.StandLaws.{Free, Once, Outside, inputs_at, inputs_at_append, inputs_at_cons, inputs_few, is_at, once_inputs, renew, renewed_value, stands_stored, times_cons, times_none}
 use Rattle.its_word.proofs.ClimbLaws.{or_none}
 
 -- the tests of a call give the premises of these laws
@@ -115,56 +115,3 @@ counted_stands c j s k x v p n q v' n' h e op oq cp cq =
     let pointed = stands_renewed c j s k (x ∷ []) v p v' (variable n q ∷ []) h cp op e in
     stands_renewed (store c p v') j s (with_inputs k (x ∷ variable v' p ∷ variable n q ∷ [])) (x ∷ variable v' p ∷ []) n q n' [] pointed
     (can_store-store c p q v' ∙ cq) (once_inputs k q (x ∷ variable v' p ∷ variable n q ∷ []) oq) refl
-
--- and before them the byte's word, which is outside the footprint
-pub siot_stands : (c : Core) (j : Job) (s : Site) (k : Ask) (x : Operand) (v p n q a w v' n' : ℕ) → Stands c j s k
-    → k.inputs.items ≡ x ∷ variable v p ∷ variable n q ∷ [] → Outside a k → Once p k → Once q k
-    → can_store c a ≡ true → can_store c p ≡ true → can_store c q ≡ true
-    → Stands (store (store (store c a w) p v') q n') j s (with_inputs k (x ∷ variable v' p ∷ variable n' q ∷ []))
-siot_stands c j s k x v p n q a w v' n' h e oa op oq ca cp cq =
-    counted_stands (store c a w) j s k x v p n q v' n' (stands_outside c j s k a w h oa) e op oq (can_store-store c a p w ∙ cp) (can_store-store c a q w ∙ cq)
-
--- four stores with a stale pointer and a stale count are two
-pub stale_counted : (c : Core) (p q v n v' n' : ℕ) → p ≢ q → store (store (store (store c p v) q n) p v') q n' ≡ store (store c p v') q n'
-stale_counted c p q v n v' n' ne =
-    ap (λ d. store d q n') (store_comm (store c p v) q p n v' (λ e. ne (sym e)))
-    ∙ store-store (store (store c p v) p v') q n n'
-    ∙ ap (λ d. store d q n') (store-store c p v v')
-
--- five stores with a stale pointer and a stale count are three
-pub stale_moved : (c : Core) (a p q w v n v' n' : ℕ) → a ≢ p → a ≢ q → p ≢ q
-    → store (store (store (store (store c p v) q n) a w) p v') q n' ≡ store (store (store c a w) p v') q n'
-stale_moved c a p q w v n v' n' ap_ aq pq =
-    ap (λ d. store (store d p v') q n') (store_comm (store c p v) q a n w (λ e. aq (sym e)))
-    ∙ ap (λ d. store d q n') (store_comm (store (store c p v) a w) q p n v' (λ e. pq (sym e)))
-    ∙ store-store (store (store (store c p v) a w) p v') q n n'
-    ∙ ap (λ d. store (store d p v') q n') (store_comm c p a v w (λ e. ap_ (sym e)))
-    ∙ ap (λ d. store d q n') (store-store (store c a w) p v v')
-
--- the places of a transfer are apart
-not_among : (p v q : ℕ) (x : Operand) (xs : List Operand) → inputs_at q (x ∷ variable v p ∷ xs) ≡ inputs_at q (x ∷ []) + inputs_at q (variable v p ∷ xs)
-not_among p v q x xs = inputs_at_append q (x ∷ []) (variable v p ∷ xs)
-
-pub record Apart (a p q : ℕ) : Type 0 where
-  pub from_pointer : a ≢ p
-  pub from_count : a ≢ q
-  pub both : p ≢ q
-
-pub siot_apart : (c : Core) (s : Site) (k : Ask) (x : Operand) (v p n q a : ℕ) → ask c s ≡ Ok k → k.inputs.items ≡ x ∷ variable v p ∷ variable n q ∷ []
-    → Outside a k → Once p k → Apart a p q
-siot_apart c s k x v p n q a h e oa op =
-    let out = oa.operand in
-    let one = op.operand in
-    let fa = inputs_few c s k a h in
-    let fp = inputs_few c s k p h in
-    let ea = ap (inputs_at a) e ∙ not_among p v a x (variable n q ∷ []) in
-    let ep = ap (inputs_at p) e ∙ not_among p v p x (variable n q ∷ []) in
-    let va = inputs_at_cons a (variable v p) (variable n q ∷ []) in
-    let na = inputs_at_cons a (variable n q) [] in
-    let vp = first_at p v (variable n q ∷ []) in
-    let np = inputs_at_cons p (variable n q) [] in
-    record {
-      from_pointer = λ t. let r = rw (eq-eqb p a (sym t)) at va in absurd (omega arith);
-      from_count = λ t. let r = rw (eq-eqb q a (sym t)) at na in absurd (omega arith);
-      both = λ t. let r = rw (eq-eqb q p (sym t)) at np in absurd (omega arith);
-    }

@@ -1,5 +1,5 @@
 -- A call by a block is decoded in two parts: its block is read, and then its arguments are found.
-use Rattle.std.proofs.Common.{◌≡◌, ◌≤◌, ◌+◌, ◌%◌, ◌^◌, ℕ, zero, suc, Bool, true, false, List, [], ◌∷◌, ◌++◌, length, map, Option, Some, None, Result, Ok, Err, refl, sym, ◌∙◌, ap, arith}
+use Rattle.std.proofs.Common.{◌≡◌, ◌+◌, ◌%◌, ◌^◌, ℕ, zero, suc, Bool, true, false, List, [], ◌∷◌, ◌++◌, length, map, Option, Some, None, Result, Ok, Err, refl, sym, ◌∙◌, ap, arith}
 use Rattle.std.specs.List.{range_with_len}
 use Rattle.std.proofs.lemmas.List.{append-nil, append_assoc, length-append}
 use Rattle.its_word.specs.ArrayVec.{ArrayVec}
@@ -16,10 +16,9 @@ use Rattle.its_local.proofs.TracedLaws.{also_err, also_ok, went}
 use Rattle.its_plain.specs.Decode.{Shape, argument_words, arguments, ask, ask_by, ask_of, block_at, block_places, checked, fetch_by, fetch_of, fetched, fetched_by, has_bit_0, is_legal, parse_by, parse_of, parsed, shaped, up_to_last, words_of}
 
 -- the words of a block that is read from an address on, behind some that were read already
-pub record Read (t : Traced (ArrayVec ℕ)) (a seen most : ℕ) (block : ArrayVec ℕ) : Type 0 where
+record Read (t : Traced (ArrayVec ℕ)) (a seen : ℕ) (block : ArrayVec ℕ) : Type 0 where
   pub number : ℕ
   pub long : length block.items ≡ seen + number
-  pub few : number ≤ most
   pub places : t.reads ≡ map (λ k. k % 2 ^ 18) (range_with_len a number)
 
 items_of : (seen : List ℕ) (b : ArrayVec ℕ) (t : Traced (ArrayVec ℕ)) → t ≡ gives (record { items = seen }) → t.answer ≡ Ok b → seen ≡ b.items
@@ -27,28 +26,25 @@ items_of seen b t e h = let x = ap (λ u. u.answer) (sym e) ∙ h in let y : rec
 
 -- one more word, the last one or not
 one_read : (n : ℕ) (c : Core) (a : ℕ) (seen : List ℕ) (b : ArrayVec ℕ) (w : ℕ) (t : Bool)
-    → ((argument_words n c (a + 1) (seen ++ w ∷ [])).answer ≡ Ok b → Read (argument_words n c (a + 1) (seen ++ w ∷ [])) (a + 1) (length (seen ++ w ∷ [])) n b)
+    → ((argument_words n c (a + 1) (seen ++ w ∷ [])).answer ≡ Ok b → Read (argument_words n c (a + 1) (seen ++ w ∷ [])) (a + 1) (length (seen ++ w ∷ [])) b)
     → (up_to_last t (λ ws. argument_words n c (a + 1) ws) (seen ++ w ∷ [])).answer ≡ Ok b
     → (all : Traced (ArrayVec ℕ)) → all.reads ≡ a % 2 ^ 18 ∷ (up_to_last t (λ ws. argument_words n c (a + 1) ws) (seen ++ w ∷ [])).reads
-    → Read all a (length seen) (suc n) b
+    → Read all a (length seen) b
 one_read n c a seen b w true rest h all reads =
     let i = items_of (seen ++ w ∷ []) b (gives (record { items = seen ++ w ∷ [] })) refl h in
     let l = length-append seen (w ∷ []) in
     record {
       number = 1;
       long = ap length (sym i) ∙ l;
-      few = omega arith;
       places = reads;
     }
 one_read n c a seen b w false rest h all reads =
     let r = rest h in
     let l = length-append seen (w ∷ []) in
-    let few = r.few in
     let long = r.long in
     record {
       number = suc r.number;
       long = omega arith;
-      few = omega arith;
       places = reads ∙ ap (λ ps. a % 2 ^ 18 ∷ ps) r.places;
     }
 
@@ -56,12 +52,11 @@ word_reads : (c : Core) (p : ℕ) → (word c p).reads ≡ p ∷ []
 unfolding word
 word_reads c p = refl
 
-words_read : (n : ℕ) (c : Core) (a : ℕ) (seen : List ℕ) (b : ArrayVec ℕ) → (argument_words n c a seen).answer ≡ Ok b → Read (argument_words n c a seen) a (length seen) n b
+words_read : (n : ℕ) (c : Core) (a : ℕ) (seen : List ℕ) (b : ArrayVec ℕ) → (argument_words n c a seen).answer ≡ Ok b → Read (argument_words n c a seen) a (length seen) b
 unfolding argument_words
 words_read zero c a seen b h = let i = items_of seen b (gives (record { items = seen })) refl h in record {
   number = 0;
   long = ap length (sym i) ∙ omega arith;
-  few = omega arith;
   places = refl;
 }
 words_read (suc n) c a seen b h =
@@ -70,36 +65,25 @@ words_read (suc n) c a seen b h =
     one_read n c a seen b w.value (has_bit_0 w.value) (words_read n c (a + 1) (seen ++ w.value ∷ []) b) w.last (also (word c (a % 2 ^ 18)) rest)
     (w.reads ∙ ap (λ ps. ps ++ (rest w.value).reads) (word_reads c (a % 2 ^ 18)))
 
--- a block that is read has a first word, a name and at most 8 argument words, and its places are known from its address
-pub record IsBlock (reads : List ℕ) (e : ℕ) (b : ArrayVec ℕ) : Type 0 where
-  pub places : reads ≡ block_places e b.items
-  pub least : 2 ≤ length b.items
-  pub most : length b.items ≤ 10
-
+-- the places of a block that is read are known from its address
 places_long : (e n m : ℕ) → n ≡ m → map (λ k. k % 2 ^ 18) (range_with_len e n) ≡ map (λ k. k % 2 ^ 18) (range_with_len e m)
 places_long e n m h = ap (λ x. map (λ k. k % 2 ^ 18) (range_with_len e x)) h
 
-block_read : (c : Core) (e : ℕ) (b : ArrayVec ℕ) → (block_at c e).answer ≡ Ok b → IsBlock (block_at c e).reads e b
+block_read : (c : Core) (e : ℕ) (b : ArrayVec ℕ) → (block_at c e).answer ≡ Ok b → (block_at c e).reads ≡ block_places e b.items
 unfolding block_at
 block_read c e b h =
     let after = λ (first : ℕ). also (word c ((e + 1) % 2 ^ 18)) (λ name. argument_words 8 c (e + 2) (first ∷ name ∷ [])) in
     let f = went (word c (e % 2 ^ 18)) after b h in
     let n = went (word c ((e + 1) % 2 ^ 18)) (λ name. argument_words 8 c (e + 2) (f.value ∷ name ∷ [])) b f.last in
     let r = words_read 8 c (e + 2) (f.value ∷ n.value ∷ []) b n.last in
-    let few = r.few in
     let long = r.long in
     let two : e + 1 + 1 ≡ e + 2 = omega arith in
     let all : suc (suc r.number) ≡ length b.items = omega arith in
-    record {
-      places =
-          f.reads
-          ∙ ap (λ ps. ps ++ (after f.value).reads) (word_reads c (e % 2 ^ 18))
-          ∙ ap (λ ps. e % 2 ^ 18 ∷ ps) (n.reads ∙ ap (λ ps. ps ++ (argument_words 8 c (e + 2) (f.value ∷ n.value ∷ [])).reads) (word_reads c ((e + 1) % 2 ^ 18)))
-          ∙ ap (λ ps. e % 2 ^ 18 ∷ (e + 1) % 2 ^ 18 ∷ ps) (r.places ∙ ap (λ x. map (λ k. k % 2 ^ 18) (range_with_len x r.number)) (sym two))
-          ∙ places_long e (suc (suc r.number)) (length b.items) all;
-      least = omega arith;
-      most = omega arith;
-    }
+    f.reads
+    ∙ ap (λ ps. ps ++ (after f.value).reads) (word_reads c (e % 2 ^ 18))
+    ∙ ap (λ ps. e % 2 ^ 18 ∷ ps) (n.reads ∙ ap (λ ps. ps ++ (argument_words 8 c (e + 2) (f.value ∷ n.value ∷ [])).reads) (word_reads c ((e + 1) % 2 ^ 18)))
+    ∙ ap (λ ps. e % 2 ^ 18 ∷ (e + 1) % 2 ^ 18 ∷ ps) (r.places ∙ ap (λ x. map (λ k. k % 2 ^ 18) (range_with_len x r.number)) (sym two))
+    ∙ places_long e (suc (suc r.number)) (length b.items) all
 
 checked_block : (t : Bool) (b d : ArrayVec ℕ) → (checked t b).answer ≡ Ok d → (b ≡ d) × (t ≡ true)
 checked_block true b d h = (cc, refl)
@@ -109,18 +93,16 @@ checked_reads : (t : Bool) (b : ArrayVec ℕ) → (checked t b).reads ≡ []
 checked_reads true b = refl
 checked_reads false b = refl
 
-pub parsed_block : (c : Core) (e : ℕ) (b : ArrayVec ℕ) → (parsed c e).answer ≡ Ok b → IsBlock (parsed c e).reads e b
+parsed_block : (c : Core) (e : ℕ) (b : ArrayVec ℕ) → (parsed c e).answer ≡ Ok b → (parsed c e).reads ≡ block_places e b.items
 unfolding parsed
 parsed_block c e b h =
     let check = λ (block : ArrayVec ℕ). checked (is_legal block.items) block in
     let w = went (block_at c e) check b h in
     let s = checked_block (is_legal w.value.items) w.value b w.last in
-    let r = block_read c e b (w.first ∙ ap Ok s.0) in
-    record {
-      places = w.reads ∙ ap (λ ps. (block_at c e).reads ++ ps) (checked_reads (is_legal w.value.items) w.value) ∙ append-nil (block_at c e).reads ∙ r.places;
-      least = r.least;
-      most = r.most;
-    }
+    w.reads
+    ∙ ap (λ ps. (block_at c e).reads ++ ps) (checked_reads (is_legal w.value.items) w.value)
+    ∙ append-nil (block_at c e).reads
+    ∙ block_read c e b (w.first ∙ ap Ok s.0)
 
 -- the two parts
 abbrev shape_of : ArrayVec ℕ → ArrayVec Arg → Shape
@@ -153,15 +135,12 @@ ask_in_two c s n = ap (ask_by c s) n ∙ go (parsed c s.e).answer refl
         → given (also (parsed c s.e) rest).answer (λ h. Ok (ask_of c (s.decode.items ++ (also (parsed c s.e) rest).reads) h)) ≡ given (parsed c s.e).answer (λ b. fetched c s b)
     go (Ok b) e =
         ap (λ u. given u.answer (λ h. Ok (ask_of c (s.decode.items ++ u.reads) h))) (also_ok (parsed c s.e) rest b e)
-        ∙ ap (λ ps. given (rest b).answer (λ h. Ok (ask_of c (s.decode.items ++ (ps ++ (rest b).reads)) h))) (parsed_block c s.e b e).places
+        ∙ ap (λ ps. given (rest b).answer (λ h. Ok (ask_of c (s.decode.items ++ (ps ++ (rest b).reads)) h))) (parsed_block c s.e b e)
         ∙ arguments_asked c s.decode.items (block_places s.e b.items) b (arguments (words_of b.items) c s.used [])
         ∙ sym (ap (λ r. given r (λ b. fetched c s b)) e)
     go (Err f) e =
         ap (λ u. given u.answer (λ h. Ok (ask_of c (s.decode.items ++ u.reads) h))) (also_err (parsed c s.e) rest f e)
         ∙ sym (ap (λ r. given r (λ b. fetched c s b)) e)
-
-pub parsed_least : (c : Core) (e : ℕ) (b : ArrayVec ℕ) → (parsed c e).answer ≡ Ok b → 2 ≤ length b.items
-parsed_least c e b h = (parsed_block c e b h).least
 
 -- the two parts of any call
 pub ask_in_parts : (c : Core) (s : Site) → ask c s ≡ given (parse_of c s) (λ b. fetch_of c s b)
@@ -171,11 +150,6 @@ ask_in_parts c s = go s.channel refl
     go : (o : Option ℕ) → s.channel ≡ o → ask c s ≡ given (parse_by c s s.channel) (λ b. fetch_by c s b s.channel)
     go None n = ask_in_two c s n ∙ sym (ap (λ o. given (parse_by c s o) (λ b. fetch_by c s b o)) n)
     go (Some ch) n = asked_by_iot c s ch n ∙ sym (ap (λ o. given (parse_by c s o) (λ b. fetch_by c s b o)) n)
-
--- a block that is read has a name, where the call is by a block
-pub parse_least : (c : Core) (s : Site) (b : ArrayVec ℕ) → parse_of c s ≡ Ok b → s.channel ≡ None → 2 ≤ length b.items
-unfolding parse_of
-parse_least c s b h n = parsed_least c s.e b (sym (ap (parse_by c s) n) ∙ h)
 
 -- what follows the first part, where it is done
 pub ask_after_parse : (c : Core) (s : Site) (b : ArrayVec ℕ) → parse_of c s ≡ Ok b → ask c s ≡ fetch_of c s b

@@ -1,9 +1,8 @@
 -- CLOCK: the jobs whose alarm is due are unwound, slot after slot, and then their alarms go, slot after slot.
-use Rattle.std.specs.Prelude.{if◌then◌else◌, ◌==◌, ◌≡◌, ◌≢◌, ◌≤◌, ◌<◌, ◌+◌, ◌-◌, ◌*◌, ◌/◌, ◌%◌, ◌&&◌, ◌^◌, ℕ, suc, Bool, true, false, Option, Some, None, IfSome, is_some, List, ◌∷◌, filter, option_map, nat_lt, refl}
+use Rattle.std.specs.Prelude.{◌==◌, ◌≡◌, ◌≤◌, ◌<◌, ◌+◌, ◌-◌, ◌&&◌, ℕ, suc, Bool, true, false, Option, Some, None, IfSome, is_some, List, ◌∷◌, filter, refl}
 use Rattle.std.specs.List.{range_with_len}
 use Rattle.std.proofs.Common.{sym, ◌∙◌, ap, subst, inl, inr, arith}
-use Rattle.std.proofs.lemmas.Bool.{cases_eq, cases_lt, eq-eqb, eqb-true, ne_eqb, lt-ltb, le-ltb, le-leb, lt-leb}
-use Rattle.std.proofs.lemmas.Nat.{mod_below, div-add-mod'}
+use Rattle.std.proofs.lemmas.Bool.{cases_eq, eq-eqb, eqb-true, ne_eqb, lt-ltb, le-ltb, le-leb, lt-leb}
 use Rattle.its_word.specs.Limits.{slots}
 use Rattle.its_word.specs.declared.jobs.Job.{Job}
 use Rattle.its_core.specs.Cores.{core_at, clear_at}
@@ -14,16 +13,16 @@ use Rattle.its_plain.specs.Job.{ALR, with_pending}
 use Rattle.its_plain.specs.Machine.{Whole, Machine}
 use Rattle.its_plain.specs.OperatorClock.{alarm_in, due, due_slots, rung_if, at_clock, clock_end}
 use Rattle.its_plain.specs.Own.{with_registers}
-use Rattle.its_stepped.specs.Alarmed.{Coming, Alarmed}
+use Rattle.its_stepped.specs.Alarmed.{Periodic, Alarmed}
 use Rattle.its_stepped.specs.Lines.{with_raw}
 use Rattle.its_stepped.specs.Sound.{Sound}
 use Rattle.its_stepped.specs.State.{State, plain}
 use Rattle.its_stepped.specs.Unwind.{unwound, all_unwound}
-use Rattle.its_stepped.proofs.AlarmLaws.{one_more}
+use Rattle.its_parts.proofs.TimeLaws.{rung_slot, below_next}
+use Rattle.its_stepped.proofs.AlarmLaws.{coming_periodic}
 use Rattle.its_stepped.proofs.DueLaws.{alarm_plain, due_same}
 use Rattle.its_stepped.proofs.UnwindLaws.{all_unwound_turn, all_unwound_end}
 use Rattle.its_files.specs.Files.{Store}
-use Rattle.its_plain.specs.CallBasic.{longest_period}
 use Rattle.its_world.specs.Tidy.{Across, Tidy}
 use Rattle.its_world.specs.World.{alarm_at, symbols_at, raw_machine, frame_at, mark_of, state_of, in_raw, frames_after, JobBecomes, AlarmBecomes, ClockBecomes}
 use Rattle.its_world.specs.declared.world.World.{World}
@@ -32,7 +31,7 @@ use Rattle.its_world.proofs.StateLaws.{changed_state}
 use Rattle.its_pclsr.specs.Pages.{pages_unwound}
 use Rattle.its_pclsr.proofs.ApartLaws.{tidy_put}
 use Rattle.its_pclsr.proofs.RemovalLaws.{alarm_shown}
-use Rattle.its_operator.specs.Rung.{Periodic, Rousing, RangAt, RangBelow}
+use Rattle.its_operator.specs.Rung.{Rousing, RangAt, RangBelow}
 
 -- slot after slot is unwound
 range_from : (n : ℕ) → n < slots → range_with_len n (slots - n) ≡ n ∷ range_with_len (n + 1) (slots - (n + 1))
@@ -96,18 +95,6 @@ pub alr_set : (old new : World) (s : ℕ) (i j : Job) (o : Option Job) → o ≡
 alr_set old new s i j o e is same b =
     changed_state old new s _ (with_pending j ALR) j (with_registers (λ k. with_pending k ALR)) (subst (λ (x : Job). JobBecomes old new s x) same b) (sym e ∙ is) refl
 
--- both changes of one slot are what an alarm that goes does to it
-slot_by : (c p t : ℕ) (b : Bool) (o : Option Whole) → (b ≡ true → alarm_in o ≡ Some (p, t)) → is_due c (Some (p, t)) ≡ true
-    → (if b then option_map (with_alarm (Some (p, time_after c (p, t)))) (if b then option_map (with_registers (λ j. with_pending j ALR)) o else o)
-    else (if b then option_map (with_registers (λ j. with_pending j ALR)) o else o))
-    ≡ rung_if c (b && is_due c (alarm_in o)) o
-slot_by c p t false o has d = refl
-slot_by c p t true None has d = let wrong : None ≡ Some (p, t) = has refl in cc
-slot_by c p t true (Some q) has d =
-    sym
-    (ap (λ (x : Bool). rung_if c x (Some q)) (ap (is_due c) (has refl) ∙ d)
-    ∙ ap (λ (x : Option (ℕ × ℕ)). Some (record q { job = with_pending q.job ALR; alarm = option_map (λ (y : ℕ × ℕ). (y.0, time_after c y)) x })) (has refl))
-
 -- of a state another with other jobs
 other_jobs : (v u x : State) → u ≡ x → x ≡ with_raw v (record v.raw { jobs = x.raw.jobs }) → u ≡ with_raw v (record v.raw { jobs = u.raw.jobs })
 other_jobs v u x e h = e ∙ h ∙ ap (λ (y : State). with_raw v (record v.raw { jobs = y.raw.jobs })) (sym e)
@@ -123,7 +110,7 @@ went c p t old mid new s tidy has late set put =
     alarm_state mid new s (Some (p, time_after c (p, t))) put ∙ ap (λ (v : State). in_raw v s g) set in
     record {
       jobs = λ k. ap (λ (v : State). v.raw.jobs k) e
-          ∙ slot_by c p t (k == s) ((state_of old).raw.jobs k) (alarm_here old s k (Some (p, t)) tidy (sym has)) (le-leb t c late);
+          ∙ rung_slot c p t (k == s) ((state_of old).raw.jobs k) (alarm_here old s k (Some (p, t)) tidy (sym has)) (le-leb t c late);
       rest = other_jobs (state_of old) (state_of new) (in_raw (in_raw (state_of old) s (with_registers (λ k. with_pending k ALR))) s g) e refl;
     }
 
@@ -147,12 +134,6 @@ still_some c s p t w tidy e early = still c s w (Some (p, t)) tidy (sym e) (lt-l
 -- slot after slot
 pub rang_start : (c : ℕ) (v : State) → RangBelow c 0 v v
 rang_start c v = record { jobs = λ k. sym (ap (λ (b : Bool). rung_if c (b && is_due c (alarm_in (v.raw.jobs k))) (v.raw.jobs k)) (le-ltb k 0 (omega arith))); rest = refl }
-
-below_next : (k n : ℕ) → k ≢ n → nat_lt k n ≡ nat_lt k (n + 1)
-below_next k n ne = elim (cases_lt k n) [
-  | inl l ↦ lt-ltb k n l ∙ sym (lt-ltb k (n + 1) (omega arith))
-  | inr ge ↦ le-ltb k n ge ∙ sym (le-ltb k (n + 1) (let more : n ≢ k = λ e. ne (sym e) in omega arith))
-]
 
 pub rang_more : (c n : ℕ) (old mid new : State) → RangBelow c n old mid → RangAt c n mid new → RangBelow c (n + 1) old new
 rang_more c n old mid new a b = record {
@@ -179,15 +160,6 @@ rang_all c v u new e r =
     let r2 : RangBelow c slots (with_raw v (record v.raw { clock = c })) new = subst (λ (x : State). RangBelow c slots x new) e r in
     r2.rest ∙ (λ t. with_raw v (record v.raw { jobs = λ k. r2.jobs k t; clock = c }))
 
--- the next time as the code finds it
-pub next_time : (c p t : ℕ) → 1 ≤ p → t ≤ c → c + p - (c - t) % p ≡ time_after c (p, t)
-unfolding time_after
-next_time c p t some late =
-    let e : (c - t) / p * p + (c - t) % p ≡ c - t = div-add-mod' (c - t) p in
-    let l : (c - t) % p < p = mod_below (c - t) p (omega arith) in
-    let m : ((c - t) / p + 1) * p ≡ (c - t) / p * p + p = one_more ((c - t) / p) p in
-    rw m (omega arith)
-
 -- alarms have periods
 pub put_periods : (old new : World) (s : ℕ) (a : ℕ × ℕ) → AlarmBecomes old new s (Some a) → Periodic a → ((k : ℕ) → IfSome (alarm_at old.alarms.items k) Periodic)
     → (k : ℕ) → IfSome (alarm_at new.alarms.items k) Periodic
@@ -195,10 +167,6 @@ put_periods old new s a b h all k = elim (cases_eq k s) [
   | inl e ↦ subst (λ (o : Option (ℕ × ℕ)). IfSome o Periodic) (sym (ap (alarm_at new.alarms.items) e ∙ b.alarms.here)) h
   | inr ne ↦ subst (λ (o : Option (ℕ × ℕ)). IfSome o Periodic) (sym (b.alarms.others k ne)) (all k)
 ]
-
-coming_periodic : (c : ℕ) (o : Option (ℕ × ℕ)) → IfSome o (λ a. Coming c a) → IfSome o Periodic
-coming_periodic c (Some a) h = record { some = h.some; most = h.most }
-coming_periodic c None h = tt
 
 pub kept_periods : (old new : World) → Alarmed (plain (state_of old)) → plain (state_of new) ≡ plain (state_of old) → Tidy new → (k : ℕ) → IfSome (alarm_at new.alarms.items k) Periodic
 kept_periods old new a same tidy k =
@@ -251,6 +219,3 @@ alr_tidy old new s i j o e is same b tidy = tidy_put old new s _ j i _ _ (sym e 
 
 pub gone_tidy : (old new : World) (s : ℕ) (a : Option (ℕ × ℕ)) → is_some (job_at old.jobs s) ≡ true → AlarmBecomes old new s a → Tidy old → Tidy new
 gone_tidy old new s a some b tidy = alarm_tidy old new s a b (λ none. let wrong : true ≡ false = sym some ∙ ap is_some none in absurd cc) tidy
-
-pub next_fits : (c p t : ℕ) → p ≤ longest_period → c < clock_end → c + p < 2 ^ 64
-next_fits c p t most below = omega arith

@@ -1,7 +1,7 @@
--- VERSION and SYM, and the symbol that is nearest to a PC.
-use Rattle.std.specs.Prelude.{if◌then◌else◌, ◌≡◌, ◌≢◌, ◌≤◌, ◌<◌, ◌+◌, ◌-◌, ◌==◌, ◌^◌, ◌&&◌, not, ℕ, zero, suc, Bool, true, false, Option, Some, None, IfSome, List, [], ◌∷◌, ◌++◌, Ok, Err, is_some, length, drop, nat_lt, cond, slice_index_or, refl}
-use Rattle.std.proofs.Common.{sym, ◌∙◌, ap, subst, inl, inr, arith}
-use Rattle.std.proofs.lemmas.Bool.{cases_Bool, cases_eq, ltb-false}
+-- VERSION and SYM.
+use Rattle.std.specs.Prelude.{◌≡◌, ◌≢◌, ◌<◌, ◌+◌, ◌-◌, ◌^◌, ℕ, Bool, true, false, Option, None, IfSome, List, [], ◌∷◌, ◌++◌, Ok, Err, is_some, length, nat_lt, slice_index_or, refl}
+use Rattle.std.proofs.Common.{sym, ◌∙◌, ap, subst, inl, inr}
+use Rattle.std.proofs.lemmas.Bool.{cases_eq}
 use Rattle.its_word.specs.Limits.{most_symbols}
 use Rattle.its_word.specs.declared.session.Event.TheVariants as events
 use Rattle.its_word.specs.declared.session.Refusal.{Refusal}
@@ -9,11 +9,11 @@ use Rattle.its_word.specs.declared.session.Refusal.TheVariants as refusals
 use Rattle.its_core.specs.Cores.{core_at, clear_at}
 use Rattle.its_jobs.specs.Table.{job_at, superior_at}
 use Rattle.its_files.specs.Files.{directory}
-use Rattle.its_plain.specs.Machine.{Symbol, Whole, Machine}
+use Rattle.its_plain.specs.Machine.{Symbol, Whole}
 use Rattle.its_plain.specs.Operator.{no_block, Does, nobody, quietly}
 use Rattle.its_plain.specs.OperatorLines.{operate, Done, lined}
 use Rattle.its_plain.specs.OperatorClock.{clock_end}
-use Rattle.its_plain.specs.OperatorSymbols.{is_nearer, nearer, nearest_after, nearest, with_distance, symbol_shown, with_symbol, symbol_kept_if, symbol_kept_of, symbol_kept}
+use Rattle.its_plain.specs.OperatorSymbols.{with_symbol, symbol_kept_if, symbol_kept_of, symbol_kept}
 use Rattle.its_plain.specs.OperatorVersion.{versioned}
 use Rattle.its_plain.proofs.MachineLaws.{machine_is}
 use Rattle.its_stepped.specs.State.{State, plain}
@@ -25,6 +25,7 @@ use Rattle.its_world.specs.Tidy.{channel_by, Across, Tidy}
 use Rattle.its_world.specs.World.{alarm_at, frame_at, console_at, holder_at, symbols_at, raw_of, raw_at, mark_of, state_of, SymbolsBecome, VersionBecomes}
 use Rattle.its_world.specs.declared.world.World.{World}
 use Rattle.its_parts.proofs.AcrossLaws.{across_table}
+use Rattle.its_parts.proofs.VersionLaws.{second, same_version}
 use Rattle.its_world.proofs.StateLaws.{state_is, job_of, changed_at, raw_same}
 use Rattle.its_operator.specs.Kept.{Kept, Lands, Refused, reason_of}
 use Rattle.its_operator.proofs.KeptLaws.{error_is, Made, made_sound, made_plain, made_forest, made_timed, made_alarmed}
@@ -33,13 +34,6 @@ use Rattle.its_operator.proofs.StartLaws.{quiet_by}
 use Rattle.its_operator.proofs.WaitsLaws.{kept_is}
 
 -- VERSION: the first changes nothing
-same_version : (m : Machine) (v : ℕ) → v ≢ 2 → versioned m v ≡ m
-unfolding versioned
-same_version m v ne = elim (cases_Bool (v == 2)) [
-  | inl is ↦ absurd (ne (grind (arith)))
-  | inr is ↦ rw is refl
-]
-
 pub version_stays : (w : World) (v : ℕ) → v ≢ 2 → Lands (state_of w) (state_of w) (Ok (versioned (state_of w).raw v))
 version_stays w v ne = record { is = ap Ok (same_version (state_of w).raw v ne); rest = refl }
 
@@ -61,10 +55,6 @@ version_state old new b = state_is _ _
     (machine_is _ _ (λ k. version_raw old new k b) (λ k. ap (λ l. console_at l.items k) b.consoles) (λ k. ap (λ l. holder_at l k) b.holders) (ap directory b.files) b.clock b.version
     (λ k. ap (λ l. symbols_at l.items k) b.symbols))
     (λ k. ap (λ l. frame_at l.items k) b.frames) (λ k. ap (λ t. clear_at t k) b.core) (ap mark_of b.files)
-
-second : (m : Machine) (v : ℕ) → v ≡ 2 → versioned m v ≡ record m { version = 2 }
-unfolding versioned
-second m v e = ap (λ (i : ℕ). if i == 2 then record m { version = 2 } else m) e
 
 module _ (old new : World) (v : ℕ) where
   pub version_done : v ≡ 2 → VersionBecomes old new 2 → Lands (state_of old) (state_of new) (Ok (versioned (state_of old).raw v))
@@ -206,58 +196,3 @@ symbol_full w s name a b some is f = refused_here w s name a refusals.Full (symb
 pub symbol_none : (w : World) (s name a : ℕ) (x : Refusal) → x ≡ refusals.NoJob → job_at w.jobs s ≡ None → Refused (state_of w) (state_of w) (λ m. symbol_kept m s name a) x
 unfolding symbol_kept
 symbol_none w s name a x is h = refused_here w s name a x (ap (symbol_kept_of (state_of w).raw s (name, a)) (raw_is_none w s h) ∙ ap (λ y. Err (reason_of y)) (sym is))
-
--- the symbol that is nearest to a PC, found by looking at one after another
-drop_next : (ss : List Symbol) (i : ℕ) (x : Symbol) → i < length ss → x ≡ slice_index_or ss i x → drop i ss ≡ x ∷ drop (suc i) ss
-drop_next [] i x l e = absurd (omega arith)
-drop_next (y ∷ ss) zero x l e = ap (λ z. z ∷ ss) (sym e)
-drop_next (y ∷ ss) (suc i) x l e = drop_next ss i x (omega arith) e
-
-drop_past : (ss : List Symbol) (i : ℕ) → length ss ≤ i → drop i ss ≡ []
-drop_past [] zero l = refl
-drop_past [] (suc i) l = refl
-drop_past (y ∷ ss) zero l = absurd (omega arith)
-drop_past (y ∷ ss) (suc i) l = drop_past ss i (omega arith)
-
--- the first i symbols are looked at
-pub record Looking (pc : ℕ) (ss : List Symbol) (i : ℕ) (best : Option Symbol) : Type 0 where
-  pub left : nearest_after pc best (drop i ss) ≡ nearest pc ss
-  pub below : IfSome best (λ b. b.1 ≤ pc)
-
-pub near_start : (pc : ℕ) (ss : List Symbol) → Looking pc ss 0 None
-unfolding nearest
-near_start pc ss = record { left = refl; below = tt }
-
-near_by : (pc : ℕ) (best : Option Symbol) (x : Symbol) (b : Bool) → is_nearer pc best x ≡ b → IfSome best (λ y. y.1 ≤ pc) → IfSome (cond b (Some x) best) (λ y. y.1 ≤ pc)
-near_by pc best x false is h = h
-near_by pc (Some y) x true is h = under pc x.1 (nat_lt x.1 y.1) is
-  where
-    under : (pc a : ℕ) (b : Bool) → (not (nat_lt pc a) && not b) ≡ true → a ≤ pc
-    under pc a b e = elim (cases_Bool (nat_lt pc a)) [
-      | inl t ↦ let no : (not true && not b) ≡ true = subst (λ c. (not c && not b) ≡ true) t e in absurd cc
-      | inr f ↦ ltb-false pc a f
-    ]
-near_by pc None x true is h = elim (cases_Bool (nat_lt pc x.1)) [
-  | inl t ↦ let no : not true ≡ true = subst (λ c. not c ≡ true) t is in absurd cc
-  | inr f ↦ ltb-false pc x.1 f
-]
-
-pub near_next : (pc : ℕ) (ss : List Symbol) (i : ℕ) (best y : Option Symbol) (x : Symbol) → i < length ss → x ≡ slice_index_or ss i x → y ≡ nearer pc best x → Looking pc ss i best
-    → Looking pc ss (i + 1) y
-near_next pc ss i best y x l e is h = record {
-  left =
-      let next : i + 1 ≡ suc i = omega arith in
-      ap (λ (k : ℕ). nearest_after pc y (drop k ss)) next ∙ ap (λ (o : Option Symbol). nearest_after pc o (drop (suc i) ss)) is
-      ∙ sym (ap (nearest_after pc best) (drop_next ss i x l e)) ∙ h.left;
-  below = subst (λ (o : Option Symbol). IfSome o (λ z. z.1 ≤ pc)) (sym is) (near_by pc best x (is_nearer pc best x) refl h.below);
-}
-
-found : (pc : ℕ) (ss : List Symbol) (i : ℕ) (best : Option Symbol) → length ss ≤ i → Looking pc ss i best → best ≡ nearest pc ss
-found pc ss i best l h = sym (ap (nearest_after pc best) (drop_past ss i l)) ∙ h.left
-
-pub near_some : (pc : ℕ) (ss : List Symbol) (i : ℕ) (best : Option Symbol) (name a : ℕ) → length ss ≤ i → Looking pc ss i best → best ≡ Some (name, a)
-    → Some (name, pc - a) ≡ symbol_shown pc ss
-near_some pc ss i best name a l h e = sym (ap (with_distance pc) e) ∙ ap (with_distance pc) (found pc ss i best l h)
-
-pub near_none : (pc : ℕ) (ss : List Symbol) (i : ℕ) (best : Option Symbol) → length ss ≤ i → Looking pc ss i best → best ≡ None → None ≡ symbol_shown pc ss
-near_none pc ss i best l h e = sym (ap (with_distance pc) e) ∙ ap (with_distance pc) (found pc ss i best l h)

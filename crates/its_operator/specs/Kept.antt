@@ -1,9 +1,6 @@
 -- What holds of a world between two calls, and what a call of the operator makes of the state that a world stands for.
 use Rattle.std.specs.Prelude.{if◌then◌else◌, ◌≡◌, ◌<◌, ◌^◌, ℕ, Bool, true, false, Option, Some, None, IfSome, Result, Ok, Err}
-use Rattle.its_word.specs.declared.access.NoAccess.{NoAccess}
-use Rattle.its_word.specs.declared.access.NoAccess.TheVariants.{Absent, ReadOnly}
 use Rattle.its_word.specs.declared.session.Reason.{Reason}
-use Rattle.its_word.specs.declared.session.Reason.TheVariants as reasons
 use Rattle.its_word.specs.declared.session.Refusal.{Refusal}
 use Rattle.its_word.specs.declared.session.Refusal.TheVariants as refusals
 use Rattle.its_word.specs.declared.jobs.Job.{Job}
@@ -18,6 +15,7 @@ use Rattle.its_stepped.specs.Alarmed.{Alarmed}
 use Rattle.its_stepped.specs.Forest.{Forest}
 use Rattle.its_stepped.specs.Lines.{with_raw}
 use Rattle.its_stepped.specs.Unwind.{unwound, help}
+pub use Rattle.its_parts.specs.Refusals.{reason_of, refusal_of}
 use Rattle.its_world.specs.Filed.{Ringed}
 use Rattle.its_world.specs.World.{state_of}
 use Rattle.its_pclsr.specs.Apart.{CoresOff}
@@ -49,22 +47,6 @@ pub record Lands (v new : State) (r : Result Machine Reason) : Type 0 where
 pub record Loads (v new : State) (r : Result (Machine × ℕ) Reason) (s : ℕ) : Type 0 where
   pub is : r ≡ Ok (new.raw, s)
   pub rest : new ≡ with_raw v new.raw
-
--- a refusal, as a session says it
-abbrev pub reason_of : Refusal → Reason
-reason_of refusals.NoJob = reasons.NoJob
-reason_of refusals.NoConsole = reasons.NoCons
-reason_of refusals.NoPage = reasons.NoPage
-reason_of refusals.ReadOnly = reasons.ReadOnly
-reason_of refusals.NoFile = reasons.NoFile
-reason_of refusals.Exists = reasons.Exists
-reason_of refusals.Full = reasons.Full
-reason_of refusals.Range = reasons.Range
-
--- why the operator cannot have a word
-abbrev pub refusal_of : NoAccess → Refusal
-refusal_of Absent = refusals.NoPage
-refusal_of ReadOnly = refusals.ReadOnly
 
 -- what a line asks of the machine is refused by the plain machine of state w, by its raw machine, and by that of the
 -- state v that the line would find

@@ -1,9 +1,8 @@
 -- What CLOCK makes of a world: the jobs whose alarm is due at the new clock are unwound, and then the alarms go.
-use Rattle.std.specs.Prelude.{◌==◌, ◌≡◌, ◌≤◌, ◌+◌, ◌-◌, ◌&&◌, ℕ, Bool, filter, nat_lt}
+use Rattle.std.specs.Prelude.{◌==◌, ◌≡◌, ◌+◌, ◌-◌, ◌&&◌, ℕ, Bool, filter, nat_lt}
 use Rattle.std.specs.List.{range_with_len}
 use Rattle.its_word.specs.Limits.{slots}
 use Rattle.its_plain.specs.Alarm.{is_due}
-use Rattle.its_plain.specs.CallBasic.{longest_period}
 use Rattle.its_plain.specs.OperatorClock.{alarm_in, due, due_slots, rung_if}
 use Rattle.its_stepped.specs.Lines.{with_raw}
 use Rattle.its_stepped.specs.Sound.{Sound}
@@ -17,11 +16,6 @@ use Rattle.its_pclsr.specs.Pages.{pages_unwound}
 -- the state that CLOCK finds where the clock gains n
 abbrev pub roused : State → ℕ → State
 roused w n = all_unwound (due_slots (w.raw.clock + n) w.raw.jobs) w
-
--- an alarm whose next time can be found
-pub record Periodic (a : ℕ × ℕ) : Type 0 where
-  pub some : 1 ≤ a.0
-  pub most : a.0 ≤ longest_period
 
 -- of those that are due at clock c the slots below n are unwound
 pub record Rousing (c n : ℕ) (old new : World) : Type 0 where

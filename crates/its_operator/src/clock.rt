@@ -5,8 +5,9 @@ ghost use Rattle.its_jobs.specs.Table.{job_at};
 ghost use Rattle.its_plain.specs.Alarm.{is_due, time_after};
 ghost use Rattle.its_plain.specs.CallBasic.{longest_period};
 ghost use Rattle.its_plain.specs.Job.{ALR as ALR_BIT, with_pending};
-ghost use Rattle.its_plain.specs.OperatorClock.{at_clock, clocked, clock_end, due_slots};
+ghost use Rattle.its_plain.specs.OperatorClock.{clocked, clock_end, due_slots};
 ghost use Rattle.its_plain.specs.Own.{with_registers};
+ghost use Rattle.its_stepped.specs.Alarmed.{Periodic};
 ghost use Rattle.its_stepped.specs.Lines.{with_raw};
 ghost use Rattle.its_stepped.specs.State.{plain};
 ghost use Rattle.its_stepped.specs.Sound.{Sound};
@@ -15,7 +16,7 @@ ghost use Rattle.its_world.specs.Tidy.{Tidy};
 ghost use Rattle.its_world.specs.World.{alarm_at, state_of, in_raw};
 ghost use Rattle.its_pclsr.specs.Pages.{pages_unwound};
 ghost use Rattle.its_operator.specs.Kept.{Kept, Lands, Refused};
-ghost use Rattle.its_operator.specs.Rung.{roused, Periodic, RangAt, RangBelow};
+ghost use Rattle.its_operator.specs.Rung.{roused, RangAt, RangBelow};
 
 use its_pclsr::unwind;
 use its_word::{ALR, Job, Refusal, SLOTS, Word};
@@ -180,7 +181,7 @@ fn with_alr(job: Job) -> Job
 
 /// The next time of an alarm with this period and next time that goes at a clock: it gains the least multiple of the period
 /// that brings it above the clock.
-#[tactic(auto, using(crate::proofs::RungLaws::next_time, crate::proofs::RungLaws::next_fits))]
+#[tactic(auto, using(its_parts::proofs::TimeLaws::next_time, its_parts::proofs::TimeLaws::next_fits))]
 fn time_after(period: u64, next: u64, clock: u64) -> u64
     requires some { 1 ≤ period }
     requires most { period ≤ longest_period }

@@ -69,7 +69,7 @@ pub fn near(w: &World, slot: u8, pc: u32) -> Option<(Word, u32)>
 
 /// The symbol of the greatest address at most a PC, of those with one address the last, and how far the PC
 /// lies behind it.
-#[tactic(auto, using(crate::proofs::SymbolLaws::near_start, crate::proofs::SymbolLaws::near_next, crate::proofs::SymbolLaws::near_some, crate::proofs::SymbolLaws::near_none))]
+#[tactic(auto, using(its_parts::proofs::SymbolLaws::near_start, its_parts::proofs::SymbolLaws::near_next, its_parts::proofs::SymbolLaws::near_some, its_parts::proofs::SymbolLaws::near_none))]
 fn nearest(symbols: &[(Word, u32)], pc: u32) -> Option<(Word, u32)>
     ensures { result ≡ symbol_shown pc symbols.now }
 {

@@ -11,7 +11,8 @@ ghost use Rattle.its_stepped.specs.State.{plain};
 ghost use Rattle.its_stepped.specs.Unwind.{unwound};
 ghost use Rattle.its_world.specs.World.{state_of, frames_after, with_frames, CoreBecomes};
 ghost use Rattle.its_pclsr.specs.Apart.{CoresOff};
-ghost use Rattle.its_operator.specs.Kept.{Kept, Lands, Refused, Calm, Calmed, refusal_of, undepositable, unloadable, frames_loaded};
+ghost use Rattle.its_parts.specs.Refusals.{refusal_of};
+ghost use Rattle.its_operator.specs.Kept.{Kept, Lands, Refused, Calm, Calmed, undepositable, unloadable, frames_loaded};
 
 use its_core::{Core, Full};
 use its_pclsr::unwind;

@@ -1,7 +1,8 @@
--- The processor does not look at channels, and keeps them: a delivery and a unit do the same of registers without theirs.
+-- The processor does not look at channels, and keeps them: a delivery and a unit do the same of registers without theirs. So do
+-- a return from a handler, and setting a variable.
 use Rattle.std.specs.Prelude.{if◌then◌else◌, ◌≡◌, ◌==◌, ℕ, zero, suc, ◌+◌, Bool, true, false, Option, Some, None, List, Result, Ok, Err, refl}
 use Rattle.std.proofs.Common.{ap, ◌∙◌}
-use Rattle.its_word.specs.Core.{Core, word_at}
+use Rattle.its_word.specs.Core.{Core, can_store, word_at}
 use Rattle.its_word.specs.Limits.{budget}
 use Rattle.its_word.specs.Word.{right_of}
 use Rattle.its_word.specs.Stores.{first_fault}
@@ -13,10 +14,14 @@ use Rattle.its_word.specs.declared.plan.Context.{Context}
 use Rattle.its_word.specs.declared.plan.Plan.{Plan}
 use Rattle.its_word.specs.declared.plan.Reached.{Reached}
 use Rattle.its_word.specs.declared.plan.Store.{Store}
-use Rattle.its_plain.specs.Interrupt.{Delivered, Entry, at_handler, by_entry, by_length, by_pointer, by_stores, by_table, chosen, deliverable, delivered, enabled_1, enabled_2, entries_of, entry_at, first_entry, meets, pushed, through_table, undelivered, unguarded}
+use Rattle.its_frame.specs.declared.variable.Variable.{Variable}
+use Rattle.its_frame.specs.declared.variable.Variable.TheVariants.{Upc}
+use Rattle.its_plain.specs.Interrupt.{Delivered, Entry, at_handler, below, by_entry, by_length, by_pointer, by_stores, by_table, chosen, deliverable, delivered, dismissed, dismissed_at, dismissed_by, enabled_1, enabled_2, entries_of, entry_at, first_entry, meets, pushed, through_table, undelivered, unguarded}
+use Rattle.its_plain.specs.Own.{advanced, exit_of, with_variable}
 use Rattle.its_plain.specs.UnitPlan.{Planned}
 use Rattle.its_plain.specs.Traced.{Traced, also, word}
 use Rattle.its_plain.specs.Unit.{Outcome, Changed, Faulted, Called, chain, done_by, followed, made, outcome_at, outcome_of, reached, row_of, turn, unit}
+use Rattle.its_plain.specs.Own.{with_variable}
 use Rattle.its_plain.proofs.UnitLaws.{unit_keeps}
 use Rattle.its_parts.specs.Parts.{bare}
 
@@ -172,3 +177,34 @@ unit_bare c j =
 -- a unit keeps the channels
 pub unit_channels : (c d : Core) (j k : Job) → unit c j ≡ Changed d k → k.channels ≡ j.channels
 unit_channels c d j k e = (unit_keeps c j d k e).registers.channels
+
+-- a return from a handler, and a variable that is set
+by_bare : (j : Job) (b : Bool) (x y z : Option ℕ) → dismissed_by (bare j) b x y z ≡ dismissed_by j b x y z
+by_bare j b (Some w) (Some d2) (Some d1) = refl
+by_bare j b None y z = refl
+by_bare j b (Some w) None z = refl
+by_bare j b (Some w) (Some d2) None = refl
+
+at_bare : (c : Core) (j : Job) (p : ℕ) (o : Option ℕ) → dismissed_at c (bare j) p o ≡ dismissed_at c j p o
+at_bare c j p (Some s) = by_bare j (can_store c p) (word_at c (right_of s)) (word_at c (below s 1)) (word_at c (below s 2))
+at_bare c j p None = refl
+
+pub dismissed_bare : (c : Core) (j : Job) (p : ℕ) → dismissed c (bare j) p ≡ dismissed c j p
+unfolding dismissed
+dismissed_bare c j p = at_bare c j p (word_at c p)
+
+pub set_bare : (x : Variable) (w : ℕ) (j : Job) → exit_of (with_variable x w (advanced 2 (bare j))) ≡ exit_of (with_variable x w (advanced 2 j))
+unfolding with_variable
+set_bare Upc w j = refl
+set_bare x w j = refl
+
+-- a variable is one of the registers but for the channels
+pub variable_bare : (x : Variable) (v : ℕ) (j : Job) → with_variable x v (bare j) ≡ bare (with_variable x v j)
+unfolding with_variable
+variable_bare Upc v j = refl
+variable_bare _ v j = refl
+
+pub variable_channels : (x : Variable) (v : ℕ) (j : Job) → (with_variable x v j).channels ≡ j.channels
+unfolding with_variable
+variable_channels Upc v j = refl
+variable_channels _ v j = refl

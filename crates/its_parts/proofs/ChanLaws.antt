@@ -11,7 +11,7 @@ use Rattle.its_files.specs.declared.entry.Parts.TheVariants.{Replace, Link}
 use Rattle.its_plain.specs.Change.{channel_in}
 use Rattle.its_plain.specs.Machine.{Chan, Shut}
 use Rattle.its_plain.specs.Own.{at_position, on_channel}
-use Rattle.its_parts.specs.Across.{channel_by, reads, writes, IsElsewhere}
+use Rattle.its_parts.specs.Across.{channel_by, reads_file, writes_draft, IsElsewhere}
 use Rattle.its_parts.specs.Parts.{chan_of, chans_of, bare, raw_of}
 use Rattle.its_parts.proofs.PartLaws.{changed_at}
 
@@ -46,7 +46,7 @@ shut_by s (Reading f at) e = cc
 shut_by s (Writing d) e = cc
 shut_by s (Usr k write at) e = cc
 
-pub elsewhere_unread : (c : Channel) → IsElsewhere c → (f : ℕ) → reads f c ≡ 0
+pub elsewhere_unread : (c : Channel) → IsElsewhere c → (f : ℕ) → reads_file f c ≡ 0
 elsewhere_unread Closed h f = refl
 elsewhere_unread TtyIn h f = refl
 elsewhere_unread TtyOut h f = refl
@@ -54,7 +54,7 @@ elsewhere_unread (Usr k write at) h f = refl
 elsewhere_unread (Reading g at) h f = absurd h
 elsewhere_unread (Writing d) h f = absurd h
 
-pub elsewhere_unwritten : (c : Channel) → IsElsewhere c → (d : ℕ) → writes d c ≡ 0
+pub elsewhere_unwritten : (c : Channel) → IsElsewhere c → (d : ℕ) → writes_draft d c ≡ 0
 elsewhere_unwritten Closed h d = refl
 elsewhere_unwritten TtyIn h d = refl
 elsewhere_unwritten TtyOut h d = refl

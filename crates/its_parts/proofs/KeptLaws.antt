@@ -18,14 +18,14 @@ use Rattle.its_files.specs.declared.entry.Entry.TheVariants.{File, Draft}
 use Rattle.its_files.proofs.EntryLaws.{reader_file, draft_unread, draft_no_file, draft_stands, file_stands, within}
 use Rattle.its_plain.specs.Machine.{Chan}
 use Rattle.its_parts.specs.Parts.{chan_of}
-use Rattle.its_parts.specs.Across.{channel_at, reads, writes, writers, Across}
+use Rattle.its_parts.specs.Across.{channel_at, reads_file, writes_draft, writers, Across}
 use Rattle.its_parts.proofs.MarkLaws.{marks, unlinked_whole, linked_whole}
 use Rattle.its_parts.proofs.TallyLaws.{OneChannel, tally_one, reads_here, reads_other, writes_here, writes_other}
 use Rattle.its_parts.proofs.StandLaws.{unmarked_all, file_writers, marked_writers, draft_writers, read_by_none, written_by_none, reading_stands, writing_stands, writing_alone, write_stands}
 
 -- what a channel is on, where the file that it reads keeps its names, and the draft that it writes its names and words
-pub chan_stays : (s u : Store) (c : Channel) → ((f : ℕ) → reads f c ≢ 0 → names_at u f ≡ names_at s f)
-    → ((d : ℕ) → writes d c ≢ 0 → (names_at u d ≡ names_at s d) × (words_at u d ≡ words_at s d)) → chan_of u c ≡ chan_of s c
+pub chan_stays : (s u : Store) (c : Channel) → ((f : ℕ) → reads_file f c ≢ 0 → names_at u f ≡ names_at s f)
+    → ((d : ℕ) → writes_draft d c ≢ 0 → (names_at u d ≡ names_at s d) × (words_at u d ≡ words_at s d)) → chan_of u c ≡ chan_of s c
 chan_stays s u Closed names drafts = refl
 chan_stays s u TtyIn names drafts = refl
 chan_stays s u TtyOut names drafts = refl
@@ -35,8 +35,8 @@ chan_stays s u (Usr k write at) names drafts = refl
 
 -- the facts after one channel and what it is on are others
 pub across_one : (s u : Store) (t v : Table) (j n : ℕ) (x : Channel) → Across s t → OneChannel (channel_at t) (channel_at v) j n x → j < slots → n < 16
-    → ((f : ℕ) → readers_at u f + reads f (channel_at t j n) ≡ readers_at s f + reads f x)
-    → ((d : ℕ) → writers (entry_at u d) (is_marked u d) + writes d (channel_at t j n) ≡ writers (entry_at s d) (is_marked s d) + writes d x)
+    → ((f : ℕ) → readers_at u f + reads_file f (channel_at t j n) ≡ readers_at s f + reads_file f x)
+    → ((d : ℕ) → writers (entry_at u d) (is_marked u d) + writes_draft d (channel_at t j n) ≡ writers (entry_at s d) (is_marked s d) + writes_draft d x)
     → Across u v
 across_one s u t v j n x a o lj ln read written = record {
   past_slots = λ k m le. o.rows k (λ e. omega arith) m ∙ a.past_slots k m le;
@@ -44,8 +44,8 @@ across_one s u t v j n x a o lj ln read written = record {
     | inl e ↦ ap (λ i. channel_at v i m) e ∙ o.row m (λ e. omega arith) ∙ ap (λ i. channel_at t i m) (sym e) ∙ a.past_numbers k m le
     | inr ne ↦ o.rows k ne m ∙ a.past_numbers k m le
   ];
-  read = λ f. let h = tally_one (reads f) (channel_at t) (channel_at v) j n x o lj ln in let r = a.read f in let b = read f in omega arith;
-  written = λ d. let h = tally_one (writes d) (channel_at t) (channel_at v) j n x o lj ln in let r = a.written d in let b = written d in omega arith;
+  read = λ f. let h = tally_one (reads_file f) (channel_at t) (channel_at v) j n x o lj ln in let r = a.read f in let b = read f in omega arith;
+  written = λ d. let h = tally_one (writes_draft d) (channel_at t) (channel_at v) j n x o lj ln in let r = a.written d in let b = written d in omega arith;
 }
 
 -- where no channel is another
@@ -62,10 +62,10 @@ across_store s u t a read written = record {
 record OnNumber (s u : Store) (id : ℕ) (e : Option Entry) (c x : Channel) : Type 0 where
   entry : Only (entry_at s) (entry_at u) id e
   marks : (d : ℕ) → d ≢ id → is_marked u d ≡ is_marked s d
-  reads_here : readers_by e + reads id c ≡ readers_at s id + reads id x
-  reads_others : (f : ℕ) → f ≢ id → reads f c ≡ reads f x
-  writes_here : writers e (is_marked u id) + writes id c ≡ writers (entry_at s id) (is_marked s id) + writes id x
-  writes_others : (d : ℕ) → d ≢ id → writes d c ≡ writes d x
+  reads_here : readers_by e + reads_file id c ≡ readers_at s id + reads_file id x
+  reads_others : (f : ℕ) → f ≢ id → reads_file f c ≡ reads_file f x
+  writes_here : writers e (is_marked u id) + writes_draft id c ≡ writers (entry_at s id) (is_marked s id) + writes_draft id x
+  writes_others : (d : ℕ) → d ≢ id → writes_draft d c ≡ writes_draft d x
 
 across_number : (s u : Store) (t v : Table) (j n id : ℕ) (e : Option Entry) (c x : Channel) → Across s t → OneChannel (channel_at t) (channel_at v) j n x → j < slots → n < 16
     → channel_at t j n ≡ c → OnNumber s u id e c x → Across u v
@@ -75,12 +75,12 @@ across_number s u t v j n id e c x a o lj ln was h = across_one s u t v j n x a 
           let b = h.reads_here in
           let r : readers_at u f ≡ readers_by e = ap (readers_at u) same ∙ ap readers_by h.entry.here in
           let q = ap (readers_at s) same in
-          let y = ap (λ k. reads k (channel_at t j n)) same ∙ ap (reads id) was in
-          let z = ap (λ k. reads k x) same in
+          let y = ap (λ k. reads_file k (channel_at t j n)) same ∙ ap (reads_file id) was in
+          let z = ap (λ k. reads_file k x) same in
           omega arith
       | inr ne ↦
           let r : readers_at u f ≡ readers_at s f = ap readers_by (h.entry.others f ne) in
-          let y = ap (reads f) was in
+          let y = ap (reads_file f) was in
           let z = h.reads_others f ne in
           omega arith
     ])
@@ -89,12 +89,12 @@ across_number s u t v j n id e c x a o lj ln was h = across_one s u t v j n x a 
           let b = h.writes_here in
           let r : writers (entry_at u d) (is_marked u d) ≡ writers e (is_marked u id) = ap (λ k. writers (entry_at u k) (is_marked u k)) same ∙ ap (λ w. writers w (is_marked u id)) h.entry.here in
           let q = ap (λ k. writers (entry_at s k) (is_marked s k)) same in
-          let y = ap (λ k. writes k (channel_at t j n)) same ∙ ap (writes id) was in
-          let z = ap (λ k. writes k x) same in
+          let y = ap (λ k. writes_draft k (channel_at t j n)) same ∙ ap (writes_draft id) was in
+          let z = ap (λ k. writes_draft k x) same in
           omega arith
       | inr ne ↦
           let r : writers (entry_at u d) (is_marked u d) ≡ writers (entry_at s d) (is_marked s d) = ap (λ w. writers w (is_marked u d)) (h.entry.others d ne) ∙ ap (writers (entry_at s d)) (h.marks d ne) in
-          let y = ap (writes d) was in
+          let y = ap (writes_draft d) was in
           let z = h.writes_others d ne in
           omega arith
     ])
@@ -172,12 +172,12 @@ module _ (s u : Store) (t v : Table) (j n f at : ℕ) (a : Across s t) (lj : j <
       }
 
 -- a channel that does not name the number of which the entry or the words change
-apart_stays : (s u : Store) (d : ℕ) (e : Option Entry) (c : Channel) → Only (entry_at s) (entry_at u) d e → ((k : ℕ) → k ≢ d → words_at u k ≡ words_at s k) → reads d c ≡ 0 → writes d c ≡ 0
+apart_stays : (s u : Store) (d : ℕ) (e : Option Entry) (c : Channel) → Only (entry_at s) (entry_at u) d e → ((k : ℕ) → k ≢ d → words_at u k ≡ words_at s k) → reads_file d c ≡ 0 → writes_draft d c ≡ 0
     → chan_of u c ≡ chan_of s c
 apart_stays s u d e c entry words no_read no_write =
     chan_stays s u c
-    (λ k some. ap names_by (entry.others k (λ z. some (ap (λ i. reads i c) z ∙ no_read))))
-    (λ k some. let ne : k ≢ d = λ z. some (ap (λ i. writes i c) z ∙ no_write) in (ap names_by (entry.others k ne), words k ne))
+    (λ k some. ap names_by (entry.others k (λ z. some (ap (λ i. reads_file i c) z ∙ no_read))))
+    (λ k some. let ne : k ≢ d = λ z. some (ap (λ i. writes_draft i c) z ∙ no_write) in (ap names_by (entry.others k ne), words k ne))
 
 -- a draft is made on a channel, and one is dropped with its channel
 module _ (s u : Store) (t v : Table) (j n d : ℕ) (a : Across s t) (lj : j < slots) (ln : n < 16) where
@@ -261,9 +261,9 @@ module _ (s u : Store) (t v : Table) (j n d : ℕ) (a : Across s t) (lj : j < sl
 
 -- the position of a channel is set
 pub moved_kept : (s : Store) (t v : Table) (j n : ℕ) (c x : Channel) → Across s t → j < slots → n < 16 → channel_at t j n ≡ c → OneChannel (channel_at t) (channel_at v) j n x
-    → ((f : ℕ) → reads f c ≡ reads f x) → ((d : ℕ) → writes d c ≡ writes d x) → Kept s s t v j n
+    → ((f : ℕ) → reads_file f c ≡ reads_file f x) → ((d : ℕ) → writes_draft d c ≡ writes_draft d x) → Kept s s t v j n
 moved_kept s t v j n c x a lj ln was o read written = record {
-  across = across_one s s t v j n x a o lj ln (λ f. ap (λ k. readers_at s f + k) (ap (reads f) was ∙ read f)) (λ d. ap (λ k. writers (entry_at s d) (is_marked s d) + k) (ap (writes d) was ∙ written d));
+  across = across_one s s t v j n x a o lj ln (λ f. ap (λ k. readers_at s f + k) (ap (reads_file f) was ∙ read f)) (λ d. ap (λ k. writers (entry_at s d) (is_marked s d) + k) (ap (writes_draft d) was ∙ written d));
   chans = λ k m apart. ap (chan_of s) (others_of (channel_at t) (channel_at v) j n x o k m apart);
 }
 

@@ -15,7 +15,7 @@ use Rattle.its_files.proofs.RoomLaws.{sum_same, if_draft, blocks_at, blocks_in_d
 use Rattle.its_plain.specs.Machine.{Chan}
 use Rattle.its_plain.specs.CallFile.{blocks_on, blocks_of_drafts, blocks_of_files, is_full as has_no_room}
 use Rattle.its_parts.specs.Parts.{chan_of}
-use Rattle.its_parts.specs.Across.{channel_at, tally, writes, writers, Across}
+use Rattle.its_parts.specs.Across.{channel_at, tally, writes_draft, writers, Across}
 use Rattle.its_parts.proofs.TallyLaws.{tally_drafts, of_draft}
 use Rattle.its_parts.proofs.StandLaws.{unmarked_all}
 
@@ -50,7 +50,7 @@ module _ (s : Store) (whole : IsStore s) (unmarked : s.mark ≡ None) where
       tallied s (channel_at t)
       ∙ (λ i. tally (λ c. blocks_written s c i) (channel_at t))
       ∙ tally_drafts (blocks_at s) numbers (channel_at t) (λ d le. blocks_none s d whole le)
-      ∙ sum_same (λ d. tally (writes d) (channel_at t) * blocks_at s d) (λ d. if_draft (entry_at s d) (blocks_at s d)) (up_to numbers)
+      ∙ sum_same (λ d. tally (writes_draft d) (channel_at t) * blocks_at s d) (λ d. if_draft (entry_at s d) (blocks_at s d)) (up_to numbers)
       (λ d. ap (λ n. n * blocks_at s d) (across.written d ∙ ap (writers (entry_at s d)) (unmarked_all s d unmarked)) ∙ written_by (entry_at s d) (blocks_at s d))
 
   -- blocks in use

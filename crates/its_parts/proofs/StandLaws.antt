@@ -9,7 +9,7 @@ use Rattle.std.proofs.lemmas.List.Folds.{list_any_at, Any-from_list_any}
 use Rattle.its_word.specs.Limits.{slots}
 use Rattle.its_word.specs.declared.jobs.Channel.{Channel}
 use Rattle.its_word.specs.declared.jobs.Channel.TheVariants.{Closed, TtyIn, TtyOut, Reading, Writing, Usr}
-use Rattle.its_jobs.specs.Table.{IsTree, Table, job_at}
+use Rattle.its_jobs.specs.Table.{Table}
 use Rattle.its_files.specs.Files.{Store, entry_at, is_file, is_draft, readers_at, is_marked, is_marked_by, marked_draft, found, IsStore, entry_in, drafts, one_if}
 use Rattle.its_files.specs.Opening.{up_to}
 use Rattle.its_files.specs.declared.entry.Entry.{Entry}
@@ -19,7 +19,7 @@ use Rattle.its_files.proofs.EntryLaws.{reader_file}
 use Rattle.its_plain.specs.Machine.{Names, Chan}
 use Rattle.its_plain.specs.CallFile.{is_read, reads as reads_names}
 use Rattle.its_parts.specs.Parts.{chan_of}
-use Rattle.its_parts.specs.Across.{channel_at, tally, reads, writes, writers, Across}
+use Rattle.its_parts.specs.Across.{channel_at, tally, reads_file, writes_draft, writers, Across}
 use Rattle.its_parts.proofs.StoreLaws.{found_is, found_names}
 use Rattle.its_parts.proofs.TallyLaws.{weight_within, tally_few, tally_some, tally_below, tally_drafts, of_draft, no_other, reads_few, reads_here, reads_number, writes_here}
 
@@ -73,10 +73,10 @@ module _ (s : Store) (t : Table) (a : Across s t) where
   ]
 
   -- a channel that reads is on a file that stands and counts it
-  pub read_stands : (k n f : ℕ) → reads f (channel_at t k n) ≢ 0 → 0 < readers_at s f
+  pub read_stands : (k n f : ℕ) → reads_file f (channel_at t k n) ≢ 0 → 0 < readers_at s f
   read_stands k n f some =
-      let p = among (reads f) k n refl some in
-      let w = weight_within (reads f) (channel_at t) k n p.0 p.1 in
+      let p = among (reads_file f) k n refl some in
+      let w = weight_within (reads_file f) (channel_at t) k n p.0 p.1 in
       let r = a.read f in
       elim (cases_eq (readers_at s f) 0) [
         | inl none ↦ absurd (some (omega arith))
@@ -84,51 +84,51 @@ module _ (s : Store) (t : Table) (a : Across s t) where
       ]
 
   pub reading_stands : (k n f at : ℕ) → channel_at t k n ≡ Reading f at → 0 < readers_at s f
-  reading_stands k n f at e = read_stands k n f (λ z. let o = reads_here f at in let h = ap (reads f) e in omega arith)
+  reading_stands k n f at e = read_stands k n f (λ z. let o = reads_here f at in let h = ap (reads_file f) e in omega arith)
 
   pub reading_file : (k n f at : ℕ) → channel_at t k n ≡ Reading f at → is_file (entry_at s f) ≡ true
   reading_file k n f at e = reader_file (entry_at s f) (reading_stands k n f at e)
 
   pub readers_few : (f : ℕ) → readers_at s f ≤ 16 * slots
-  readers_few f = let r = a.read f in let l = tally_few (reads f) (channel_at t) (reads_few f) in omega arith
+  readers_few f = let r = a.read f in let l = tally_few (reads_file f) (channel_at t) (reads_few f) in omega arith
 
   -- one that writes is on a draft that stands and is not marked, and no other channel is on it
-  pub write_stands : (k n d : ℕ) → writes d (channel_at t k n) ≢ 0 → IsOpen s d
+  pub write_stands : (k n d : ℕ) → writes_draft d (channel_at t k n) ≢ 0 → IsOpen s d
   write_stands k n d some =
-      let p = among (writes d) k n refl some in
-      let w = weight_within (writes d) (channel_at t) k n p.0 p.1 in
+      let p = among (writes_draft d) k n refl some in
+      let w = weight_within (writes_draft d) (channel_at t) k n p.0 p.1 in
       let r = a.written d in
       let o = open_by (entry_at s d) (is_marked s d) (λ z. some (omega arith)) in
       record { draft = o.0; unmarked = o.1 }
 
   pub writing_stands : (k n d : ℕ) → channel_at t k n ≡ Writing d → IsOpen s d
-  writing_stands k n d e = write_stands k n d (λ z. let o = writes_here d in let h = ap (writes d) e in omega arith)
+  writing_stands k n d e = write_stands k n d (λ z. let o = writes_here d in let h = ap (writes_draft d) e in omega arith)
 
   pub writing_draft : (k n d : ℕ) → channel_at t k n ≡ Writing d → is_draft (entry_at s d) ≡ true
   writing_draft k n d e = (writing_stands k n d e).draft
 
-  pub writing_alone : (j n k m d : ℕ) → channel_at t j n ≡ Writing d → (k ≡ j → m ≢ n) → writes d (channel_at t k m) ≡ 0
+  pub writing_alone : (j n k m d : ℕ) → channel_at t j n ≡ Writing d → (k ≡ j → m ≢ n) → writes_draft d (channel_at t k m) ≡ 0
   writing_alone j n k m d e apart =
-      let one : writes d (channel_at t j n) ≡ 1 = ap (writes d) e ∙ writes_here d in
-      let p = among (writes d) j n refl (λ z. omega arith) in
+      let one : writes_draft d (channel_at t j n) ≡ 1 = ap (writes_draft d) e ∙ writes_here d in
+      let p = among (writes_draft d) j n refl (λ z. omega arith) in
       let r = a.written d in
       let l = writers_few (entry_at s d) (is_marked s d) in
-      elim (cases_eq (writes d (channel_at t k m)) 0) [
+      elim (cases_eq (writes_draft d (channel_at t k m)) 0) [
         | inl none ↦ none
         | inr some ↦
-            let q = among (writes d) k m refl some in
-            no_other (writes d) (channel_at t) j n k m refl p.0 p.1 q.0 q.1 apart (omega arith)
+            let q = among (writes_draft d) k m refl some in
+            no_other (writes_draft d) (channel_at t) j n k m refl p.0 p.1 q.0 q.1 apart (omega arith)
       ]
 
   -- a number that no channel reads, or none writes
-  pub read_by_none : (k n f : ℕ) → readers_at s f ≡ 0 → reads f (channel_at t k n) ≡ 0
-  read_by_none k n f none = elim (cases_eq (reads f (channel_at t k n)) 0) [
+  pub read_by_none : (k n f : ℕ) → readers_at s f ≡ 0 → reads_file f (channel_at t k n) ≡ 0
+  read_by_none k n f none = elim (cases_eq (reads_file f (channel_at t k n)) 0) [
     | inl e ↦ e
     | inr some ↦ let r = read_stands k n f some in absurd (omega arith)
   ]
 
-  pub written_by_none : (k n d : ℕ) → writers (entry_at s d) (is_marked s d) ≡ 0 → writes d (channel_at t k n) ≡ 0
-  written_by_none k n d none = elim (cases_eq (writes d (channel_at t k n)) 0) [
+  pub written_by_none : (k n d : ℕ) → writers (entry_at s d) (is_marked s d) ≡ 0 → writes_draft d (channel_at t k n) ≡ 0
+  written_by_none k n d none = elim (cases_eq (writes_draft d (channel_at t k n)) 0) [
     | inl e ↦ e
     | inr some ↦
         let w = write_stands k n d some in
@@ -174,7 +174,7 @@ module _ (s : Store) (t : Table) (whole : IsStore s) (a : Across s t) (names : N
   pub found_reader : (f : ℕ) → found s names ≡ Some f → 0 < readers_at s f → is_read names chans ≡ true
   unfolding is_read
   found_reader f is some =
-      let w = tally_some (reads f) (channel_at t) (λ z. let r = a.read f in omega arith) in
+      let w = tally_some (reads_file f) (channel_at t) (λ z. let r = a.read f in omega arith) in
       let c = reads_number f (channel_at t w.slot w.number) w.some in
       let h : reads_names names (chans w.slot w.number) ≡ true = ap (λ x. reads_names names (chan_of s x)) c.1 ∙ found_names s whole names f is in
       any_below (λ i. list_any (λ m. reads_names names (chans i m)) (range_with_len 0 16)) w.slot slots w.slot_below
@@ -231,12 +231,8 @@ drafts_below s t j n a none lj ln closed =
     let v : ℕ → ℕ = λ d. one_if (is_draft (entry_at s d)) in
     let past = λ (d : ℕ) (le : length s.entries ≤ d). ap (λ e. one_if (is_draft e)) (get_or_past s.entries d None le) in
     let sum = tally_drafts v (length s.entries) (channel_at t) past in
-    let each : sum_by (λ d. tally (writes d) (channel_at t) * v d) (up_to (length s.entries)) ≡ sum_by v (up_to (length s.entries)) =
+    let each : sum_by (λ d. tally (writes_draft d) (channel_at t) * v d) (up_to (length s.entries)) ≡ sum_by v (up_to (length s.entries)) =
     λ i. sum_by (λ d. (ap (λ m. m * v d) (a.written d ∙ ap (writers (entry_at s d)) (unmarked_all s d none)) ∙ draft_once (entry_at s d)) i) (up_to (length s.entries)) in
     let count = counted is_draft s.entries in
     let l = tally_below (of_draft v) (channel_at t) j n (draft_few v (λ d. one_few (is_draft (entry_at s d)))) lj ln (ap (of_draft v) closed) in
     omega arith
-
--- no slot past the last has a job
-pub past_jobs : (t : Table) → IsTree t.jobs t.superiors → (k : ℕ) → slots ≤ k → job_at t k ≡ None
-past_jobs t tree k le = let l = tree.job_count in get_or_past t.jobs k None (omega arith)

@@ -11,7 +11,7 @@ use Rattle.its_word.specs.declared.jobs.Channel.{Channel}
 use Rattle.its_word.specs.declared.jobs.Channel.TheVariants.{Closed, TtyIn, TtyOut, Reading, Writing, Usr}
 use Rattle.its_files.specs.Opening.{up_to}
 use Rattle.its_files.proofs.RoomLaws.{sum_same, sum_plus, sum_times, sum_nothing, sum_one, sum_none}
-use Rattle.its_parts.specs.Across.{of_slot, tally, reads, writes}
+use Rattle.its_parts.specs.Across.{of_slot, tally, reads_file, writes_draft}
 use Rattle.its_word.specs.Table.{table}
 use Rattle.its_word.proofs.TableLaws.{length-table, get_or-table, table_set}
 
@@ -110,7 +110,11 @@ pub tally_one : (w : Channel → ℕ) (cs ds : ℕ → ℕ → Channel) (j n : �
 unfolding tally
 tally_one w cs ds j n x o lj ln = rows_one slots 16 w cs ds j n x o lj ln
 
--- channels that are the same
+-- channels that weigh the same, and that are the same
+pub tally_alike : (w : Channel → ℕ) (cs ds : ℕ → ℕ → Channel) → ((k n : ℕ) → w (ds k n) ≡ w (cs k n)) → tally w ds ≡ tally w cs
+unfolding tally
+tally_alike w cs ds same = λ i. sum_by (λ k. sum_by (λ n. same k n i) (range_with_len 0 16)) (range_with_len 0 slots)
+
 pub tally_same : (w : Channel → ℕ) (cs ds : ℕ → ℕ → Channel) → ((k n : ℕ) → ds k n ≡ cs k n) → tally w ds ≡ tally w cs
 tally_same w cs ds h = λ i. tally w (λ k n. h k n i)
 
@@ -201,15 +205,15 @@ tally_below w cs j n few lj ln none =
     omega arith
 
 -- what channels that read a file, and those that write a draft, weigh
-pub reads_here : (f at : ℕ) → reads f (Reading f at) ≡ 1
+pub reads_here : (f at : ℕ) → reads_file f (Reading f at) ≡ 1
 reads_here f at = let e = eq-eqb f f refl in rw e refl
 
-pub reads_other : (f g at : ℕ) → g ≢ f → reads f (Reading g at) ≡ 0
+pub reads_other : (f g at : ℕ) → g ≢ f → reads_file f (Reading g at) ≡ 0
 reads_other f g at ne = let e = ne_eqb g f ne in rw e refl
 
-pub reads_few : (f : ℕ) (c : Channel) → reads f c ≤ 1
+pub reads_few : (f : ℕ) (c : Channel) → reads_file f c ≤ 1
 reads_few f (Reading g at) = elim (cases_eq g f) [
-  | inl e ↦ let h : reads f (Reading g at) ≡ 1 = ap (λ k. reads f (Reading k at)) e ∙ reads_here f at in omega arith
+  | inl e ↦ let h : reads_file f (Reading g at) ≡ 1 = ap (λ k. reads_file f (Reading k at)) e ∙ reads_here f at in omega arith
   | inr ne ↦ let h = reads_other f g at ne in omega arith
 ]
 reads_few f Closed = omega arith
@@ -218,7 +222,7 @@ reads_few f TtyOut = omega arith
 reads_few f (Writing d) = omega arith
 reads_few f (Usr k write at) = omega arith
 
-pub reads_number : (f : ℕ) (c : Channel) → reads f c ≢ 0 → (at : ℕ) × (c ≡ Reading f at)
+pub reads_number : (f : ℕ) (c : Channel) → reads_file f c ≢ 0 → (at : ℕ) × (c ≡ Reading f at)
 reads_number f (Reading g at) h = elim (cases_eq g f) [
   | inl e ↦ (at, ap (λ k. Reading k at) e)
   | inr ne ↦ absurd (h (reads_other f g at ne))
@@ -229,22 +233,11 @@ reads_number f TtyOut h = absurd (h refl)
 reads_number f (Writing d) h = absurd (h refl)
 reads_number f (Usr k write at) h = absurd (h refl)
 
-pub writes_here : (d : ℕ) → writes d (Writing d) ≡ 1
+pub writes_here : (d : ℕ) → writes_draft d (Writing d) ≡ 1
 writes_here d = let e = eq-eqb d d refl in rw e refl
 
-pub writes_other : (d e : ℕ) → e ≢ d → writes d (Writing e) ≡ 0
+pub writes_other : (d e : ℕ) → e ≢ d → writes_draft d (Writing e) ≡ 0
 writes_other d e ne = let h = ne_eqb e d ne in rw h refl
-
-pub writes_number : (d : ℕ) (c : Channel) → writes d c ≢ 0 → c ≡ Writing d
-writes_number d (Writing e) h = elim (cases_eq e d) [
-  | inl s ↦ ap Writing s
-  | inr ne ↦ absurd (h (writes_other d e ne))
-]
-writes_number d Closed h = absurd (h refl)
-writes_number d TtyIn h = absurd (h refl)
-writes_number d TtyOut h = absurd (h refl)
-writes_number d (Reading f at) h = absurd (h refl)
-writes_number d (Usr k write at) h = absurd (h refl)
 
 -- a value of each draft, of the channels that write it
 abbrev pub of_draft : (ℕ → ℕ) → Channel → ℕ
@@ -261,7 +254,7 @@ no_draft v xs = (λ i. sum_by (λ d. none (v d) i) xs) ∙ sum_nothing xs
     none : (m : ℕ) → 0 * m ≡ 0
     none m = omega arith
 
-by_draft : (v : ℕ → ℕ) (n : ℕ) → ((d : ℕ) → n ≤ d → v d ≡ 0) → (c : Channel) → sum_by (λ d. writes d c * v d) (up_to n) ≡ of_draft v c
+by_draft : (v : ℕ → ℕ) (n : ℕ) → ((d : ℕ) → n ≤ d → v d ≡ 0) → (c : Channel) → sum_by (λ d. writes_draft d c * v d) (up_to n) ≡ of_draft v c
 by_draft v n past Closed = no_draft v (up_to n)
 by_draft v n past TtyIn = no_draft v (up_to n)
 by_draft v n past TtyOut = no_draft v (up_to n)
@@ -272,8 +265,8 @@ by_draft v n past (Writing e) = elim (cases_lt e n) [
 ]
 by_draft v n past (Usr k write at) = no_draft v (up_to n)
 
-pub tally_drafts : (v : ℕ → ℕ) (n : ℕ) (cs : ℕ → ℕ → Channel) → ((d : ℕ) → n ≤ d → v d ≡ 0) → tally (of_draft v) cs ≡ sum_by (λ d. tally (writes d) cs * v d) (up_to n)
+pub tally_drafts : (v : ℕ → ℕ) (n : ℕ) (cs : ℕ → ℕ → Channel) → ((d : ℕ) → n ≤ d → v d ≡ 0) → tally (of_draft v) cs ≡ sum_by (λ d. tally (writes_draft d) cs * v d) (up_to n)
 tally_drafts v n cs past =
     sym (λ i. tally (λ c. by_draft v n past c i) cs)
-    ∙ tally_sum (λ d c. writes d c * v d) (up_to n) cs
-    ∙ sum_same (λ d. tally (λ c. writes d c * v d) cs) (λ d. tally (writes d) cs * v d) (up_to n) (λ d. tally_times (writes d) (v d) cs)
+    ∙ tally_sum (λ d c. writes_draft d c * v d) (up_to n) cs
+    ∙ sum_same (λ d. tally (λ c. writes_draft d c * v d) cs) (λ d. tally (writes_draft d) cs * v d) (up_to n) (λ d. tally_times (writes_draft d) (v d) cs)

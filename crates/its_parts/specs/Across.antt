@@ -26,13 +26,13 @@ unfoldable pub tally : (Channel → ℕ) → (ℕ → ℕ → Channel) → ℕ
 tally weight cs = sum_by (of_slot weight cs) (range_with_len 0 slots)
 
 -- a channel that reads the file of a number, and one that writes the draft of a number
-abbrev pub reads : ℕ → Channel → ℕ
-reads f (Reading g at) = if g == f then 1 else 0
-reads f _ = 0
+abbrev pub reads_file : ℕ → Channel → ℕ
+reads_file f (Reading g at) = if g == f then 1 else 0
+reads_file f _ = 0
 
-abbrev pub writes : ℕ → Channel → ℕ
-writes d (Writing e) = if e == d then 1 else 0
-writes d _ = 0
+abbrev pub writes_draft : ℕ → Channel → ℕ
+writes_draft d (Writing e) = if e == d then 1 else 0
+writes_draft d _ = 0
 
 -- a channel that is on no file and on no draft
 abbrev pub IsElsewhere : Channel → Type 0
@@ -56,5 +56,14 @@ writers None marked = 0
 pub record Across (s : Store) (t : Table) : Type 0 where
   pub past_slots : (k n : ℕ) → slots ≤ k → channel_at t k n ≡ Closed
   pub past_numbers : (k n : ℕ) → 16 ≤ n → channel_at t k n ≡ Closed
-  pub read : (f : ℕ) → tally (reads f) (channel_at t) ≡ readers_at s f
-  pub written : (d : ℕ) → tally (writes d) (channel_at t) ≡ writers (entry_at s d) (is_marked s d)
+  pub read : (f : ℕ) → tally (reads_file f) (channel_at t) ≡ readers_at s f
+  pub written : (d : ℕ) → tally (writes_draft d) (channel_at t) ≡ writers (entry_at s d) (is_marked s d)
+
+-- a channel on a job that is gone is closed
+abbrev pub channel_left : (ℕ → Bool) → Channel → Channel
+channel_left gone (Usr s w at) = if gone s then Closed else Usr s w at
+channel_left gone Closed = Closed
+channel_left gone TtyIn = TtyIn
+channel_left gone TtyOut = TtyOut
+channel_left gone (Reading f at) = Reading f at
+channel_left gone (Writing d) = Writing d

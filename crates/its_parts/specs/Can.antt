@@ -33,9 +33,9 @@ HasRoom m _ = ⊥
 
 -- a channel is on a draft that can become a file: in place of one that no channel reads, or of none where there are fewer files
 -- than the most
-abbrev pub Closes : Machine → Chan → Type 0
-Closes m (Writes f) = Unread m f.names × ((has_file f.names m.files || nat_lt (length m.files) most_files) ≡ true)
-Closes m _ = ⊥
+abbrev pub CanClose : Machine → Chan → Type 0
+CanClose m (Writes f) = Unread m f.names × ((has_file f.names m.files || nat_lt (length m.files) most_files) ≡ true)
+CanClose m _ = ⊥
 
 -- a channel can be opened on this: a file is one that there is
 abbrev pub CanOpen : Opened → Machine → Type 0
@@ -70,7 +70,7 @@ CanMake (changes.Open n on) j m = (n < 16) × HasJob m j × (chan_in m j n ≡ S
 CanMake (changes.Shut n) j m = n < 16
 CanMake (changes.Move n at) j m = n < 16
 CanMake (changes.Append n w) j m = (n < 16) × HasRoom m (chan_in m j n)
-CanMake (changes.Close n) j m = (n < 16) × Closes m (chan_in m j n)
+CanMake (changes.Close n) j m = (n < 16) × CanClose m (chan_in m j n)
 CanMake (changes.Take c) j m = c < 8
 CanMake (changes.Put c b) j m = (c < 8) × (length (m.consoles c).output < most_waiting)
 CanMake (changes.Hold c s) j m = c < 8

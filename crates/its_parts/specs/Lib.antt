@@ -1,3 +1,6 @@
 pub mod Parts
 pub mod Across
 pub mod Can
+pub mod Called
+pub mod Refusals
+pub mod Channels

@@ -1,37 +1,21 @@
--- What calls decide can be made: those on jobs and times, on consoles and on files.
-use Rattle.std.specs.Prelude.{if◌then◌else◌, ◌||◌, ◌&&◌, ◌==◌, ◌≡◌, ◌<◌, ℕ, ◌+◌, ◌-◌, Bool, true, false, not, Option, Some, None, IfSome, is_some, List, [], option_map, ◌∷◌, ◌++◌, length, unwrap_or, Result, Ok, Err, nat_lt, refl}
-use Rattle.std.proofs.Common.{sym, ◌∙◌, ap, subst, arith}
-use Rattle.std.proofs.lemmas.Bool.{ltb-true}
-use Rattle.its_word.specs.Byte.{load_of}
-use Rattle.its_word.specs.Console.{most_waiting}
-use Rattle.its_word.specs.Word.{right_of}
-use Rattle.its_word.specs.declared.access.Fault.{Fault}
-use Rattle.its_word.specs.declared.calls.Ask.{Ask}
-use Rattle.its_word.specs.declared.calls.Exit.{Exit}
+-- What calls decide can be made on the stepped machine, where it can be made on its raw jobs: no close is half made where a call is
+-- one on files, the page that it makes is clear, and the jobs that it removes are in user mode.
+use Rattle.std.specs.Prelude.{◌≡◌, ℕ, true, Option, None, Some, is_some, List, [], ◌∷◌, refl}
+use Rattle.std.proofs.Common.{sym, subst}
+use Rattle.its_frame.specs.declared.change.Change.{Change}
 use Rattle.its_frame.specs.declared.change.Change.TheVariants as changes
-use Rattle.its_frame.specs.declared.change.Opened.{Opened}
 use Rattle.its_frame.specs.declared.change.Opened.TheVariants as opened
 use Rattle.its_frame.specs.declared.decision.Decision.{Decision}
 use Rattle.its_frame.specs.declared.decision.Decision.TheVariants.{Waits, Goes, Ends, Gone}
-use Rattle.its_frame.specs.declared.decision.Wait.TheVariants.{Input, Output}
-use Rattle.its_frame.specs.declared.variable.Variable.{Variable}
-use Rattle.its_plain.specs.Arguments.{input, has_input, place_of_input}
-use Rattle.its_plain.specs.CallBasic.{negated, sleep_tests, sleep, dismissed_by, dismiss_at, dismiss, Party, Oneself, Nobody, Channel, variable_named, by_oneself, by_superior, channel_at, party, set_own, own_variable, set_other, value_of_other, other_variable, usrvar_of, usrvar, told_superior, is_negative, longest_period, alarm_of, realt}
-use Rattle.its_plain.specs.CallTty.{console_of, has_console, is_other, input_waits, output_waits, first_typed, shown_byte, is_shut, opens_on, open_tests, opens, store_tests, read_tests, word_of, iot_ends, iot_in, iot_out, siot_tests, siot_in, siot_out, siot_by, can_take, is_holder, lands, ttylnd_of, ttylnd}
-use Rattle.its_plain.specs.Change.{channel_in}
-use Rattle.its_plain.specs.Interrupt.{dismissed}
-use Rattle.its_plain.specs.Machine.{Names, File, Chan, Shut, TtyIn, TtyOut, Reads, Writes, On, Console, Whole, limit}
-use Rattle.its_plain.specs.Own.{names_of}
-use Rattle.its_plain.specs.CallFile.{most_files, channels_by, channels_in, is_full, has_file, is_read, words_of, names_from, is_output, opens_as, disk_tests, opens_disk, closes_draft, iot_read, siot_read, siot_write, access_on, access, file_tests, delete, rename, access_to, end_of_core}
-use Rattle.its_plain.specs.OperatorFiles.{channels_of}
-use Rattle.its_plain.specs.Tests.{◌⇒◌, finishes, fails, goes, out}
-use Rattle.its_plain.specs.View.{View, outline, Outline}
+use Rattle.its_plain.specs.Change.{channel_in, effect}
+use Rattle.its_plain.specs.Machine.{Chan, Writes, Whole}
 use Rattle.its_stepped.specs.Commit.{effect_on}
 use Rattle.its_stepped.specs.State.{State}
-use Rattle.its_stepped.proofs.CallWays.{Answering}
-use Rattle.its_stepped.proofs.TestLaws.{by_test, first_holds}
-use Rattle.its_world.specs.Storage.{HasJob, chan_in, IsDraft, Unread, HasRoom, Closes}
-use Rattle.its_pclsr.specs.Built.{CanOpen, CanMake, CanMakeAll}
+use Rattle.its_world.specs.Storage.{chan_in, IsDraft, HasRoom, CanClose}
+use Rattle.its_parts.specs.Can as plain
+use Rattle.its_parts.proofs.CanLaws.{Beside, Needs, nothing, CanAll}
+use Rattle.its_parts.proofs.CanLaws as parts
+use Rattle.its_pclsr.specs.Built.{Removable, CanMake, CanMakeAll}
 
 -- the changes of a decision of slot j's call can be made
 abbrev pub DecisionCan : Decision → ℕ → State → Type 0
@@ -40,316 +24,68 @@ DecisionCan (Goes cs h vs) j v = CanMakeAll cs.items j v
 DecisionCan (Ends cs ss e) j v = CanMakeAll cs.items j v
 DecisionCan (Gone cs) j v = CanMakeAll cs.items j (effect_on (changes.Remove j) j v)
 
--- what tests say of numbers: a channel that there is, and one that is open; a console, and one with room
-not_false : (b : Bool) → not b ≡ false → b ≡ true
-not_false true h = refl
-not_false false h = cc
+-- what changes ask beside the raw jobs is there
+pub record Gives (b : Beside) (j : ℕ) (v : State) : Type 0 where
+  pub files : b.files → v.mark ≡ None
+  pub page : b.page → v.reserved j ≡ Some 4
+  pub tree : (s : ℕ) → b.tree s → Removable v s
 
-and_first : (b c : Bool) → not (b && c) ≡ false → b ≡ true
-and_first true c h = refl
-and_first false c h = cc
+nothing_gives : (j : ℕ) (v : State) → Gives nothing j v
+nothing_gives j v = record { files = λ h. absurd h; page = λ h. absurd h; tree = λ s h. absurd h }
 
-or_first : (b c : Bool) → (b || c) ≡ false → b ≡ false
-or_first true c h = cc
-or_first false c h = refl
+-- a draft in a channel of a job
+room_on : (v : State) (c : Chan) → plain.HasRoom v.raw c → HasRoom v c
+room_on v (Writes f) h = h
+room_on v _ h = absurd h
 
-abbrev pub IsOpen : Chan → Type 0
-IsOpen Shut = ⊥
-IsOpen _ = Unit {0}
+closes_on : (v : State) (c : Chan) → plain.CanClose v.raw c → IsDraft c × CanClose v c
+closes_on v (Writes f) h = (tt, h)
+closes_on v _ h = absurd h
 
-number_by : (b : Bool) (c : Chan) → IsOpen (if b then c else Shut) → b ≡ true
-number_by true c h = refl
-number_by false c h = absurd h
+drafts_job : (o : Option Whole) (n : ℕ) → IsDraft (channel_in o n) → is_some o ≡ true
+drafts_job (Some q) n h = refl
+drafts_job None n h = absurd h
 
-pub open_number : (channels : ℕ → Chan) (n : ℕ) (c : Chan) → channel_at channels n ≡ c → IsOpen c → n < 16
-open_number channels n c e h = ltb-true n 16 (number_by (nat_lt n 16) (channels n) (subst IsOpen (sym e) h))
+-- one change, and several
+can_on : (b : Beside) (c : Change) (j : ℕ) (v : State) → Gives b j v → plain.CanMake c j v.raw → Needs b c → CanMake c j v
+can_on b (changes.Open n (opened.Reading d x y)) j v g h u = (h.0, h.1, h.2, (h.3, g.files u))
+can_on b (changes.Open n (opened.Writing d x y)) j v g h u = (h.0, h.1, h.2, g.files u)
+can_on b (changes.Open n opened.TtyIn) j v g h u = h
+can_on b (changes.Open n opened.TtyOut) j v g h u = h
+can_on b (changes.Open n (opened.Usr s write)) j v g h u = h
+can_on b (changes.Append n w) j v g h u = (h.0, g.files u, room_on v (chan_in v j n) h.1)
+can_on b (changes.Close n) j v g h u =
+    let draft = closes_on v (chan_in v j n) h.1 in
+    (h.0, drafts_job (v.raw.jobs j) n draft.0, g.files u, draft.0, draft.1)
+can_on b (changes.Delete d x y) j v g h u = (g.files u, h.1)
+can_on b (changes.Rename d x y z w) j v g h u = (g.files u, h.1, h.2)
+can_on b (changes.Map s k) j v g h u = record { slot = h.slot; job = h.job; clear = g.page u; absent = h.absent; room = h.room }
+can_on b (changes.Remove s) j v g h u = (h.0, h.1, h.2, g.tree s u)
+can_on b (changes.Set s y x) j v g h u = tt
+can_on b (changes.Inform s) j v g h u = tt
+can_on b _ j v g h u = h
 
-opened_can : (b : Bool) (v : State) → CanOpen (if b then opened.TtyOut else opened.TtyIn) v
-opened_can true v = tt
-opened_can false v = tt
+raw_on : (c : Change) (j : ℕ) (v : State) → Needs nothing c → (effect_on c j v).raw ≡ effect c j v.raw
+unfolding effect_on
+raw_on (changes.Close n) j v h = absurd h
+raw_on _ j v h = refl
 
--- the view of the call of slot j's job in which its consoles, files and outlines are those of a state, and its job's
--- console is one of eight
-pub record Sees (x : View) (v : State) (j : ℕ) : Type 0 where
-  pub consoles : x.consoles ≡ v.raw.consoles
-  pub own : IfSome x.own.job.console (λ c. c < 8)
-  pub job : v.raw.jobs j ≡ Some x.own
-  pub files : x.files ≡ v.raw.files
-  pub outlines : x.outlines ≡ (λ k. option_map outline (v.raw.jobs k))
-  pub limit : x.limit ≡ limit v.raw
+all_on : (b : Beside) (cs : List Change) (j : ℕ) (v : State) → Gives b j v → CanAll b cs j v.raw → CanMakeAll cs j v
+all_on b [] j v g h = tt
+all_on b (c ∷ []) j v g h = (can_on b c j v g h.0 h.1, tt)
+all_on b (c ∷ d ∷ cs) j v g h =
+    let w : State = effect_on c j v in
+    let raw : effect c j v.raw ≡ w.raw = sym (raw_on c j v h.0.1) in
+    (can_on nothing c j v (nothing_gives j v) h.0.0 h.0.1, all_on nothing (d ∷ cs) j w (nothing_gives j w) (subst (CanAll nothing (d ∷ cs) j) raw h.1))
 
--- the channels that a call sees are those of the machine
-channels_seen_by : (o : Option Whole) → channels_by (option_map outline o) ≡ channel_in o
-channels_seen_by (Some q) = refl
-channels_seen_by None = refl
+removed_raw : (j : ℕ) (v : State) → effect (changes.Remove j) j v.raw ≡ (effect_on (changes.Remove j) j v).raw
+unfolding effect_on
+removed_raw j v = refl
 
-channels_seen : (x : View) (v : State) (j : ℕ) → Sees x v j → channels_in x ≡ channels_of v.raw
-channels_seen x v j s = λ t k. (ap (λ (o : ℕ → Option Outline). channels_by (o k)) s.outlines ∙ channels_seen_by (v.raw.jobs k)) t
-
-pub has_job : (x : View) (v : State) (j : ℕ) → Sees x v j → HasJob v j
-has_job x v j s = ap is_some s.job
-
--- what a channel of a number that there is is on
-number_is : (b : Bool) (c d : Chan) → b ≡ true → (if b then c else Shut) ≡ d → c ≡ d
-number_is true c d h e = e
-number_is false c d h e = absurd cc
-
-chan_is : (x : View) (v : State) (j n : ℕ) (c : Chan) → Sees x v j → nat_lt n 16 ≡ true → channel_at x.own.channels n ≡ c → chan_in v j n ≡ c
-chan_is x v j n c s l e = ap (λ (o : Option Whole). channel_in o n) s.job ∙ number_is (nat_lt n 16) (x.own.channels n) c l e
-
-shut_is : (c : Chan) → is_shut c ≡ true → c ≡ Shut
-shut_is Shut h = refl
-shut_is TtyIn h = absurd cc
-shut_is TtyOut h = absurd cc
-shut_is (Reads f at) h = absurd cc
-shut_is (Writes f) h = absurd cc
-shut_is (On k write at) h = absurd cc
-
-and_second : (b c : Bool) → not (b && c) ≡ false → c ≡ true
-and_second true c h = not_false c h
-and_second false c h = absurd cc
-
-open_true : (channels : ℕ → Chan) (n : ℕ) (c : Chan) → channel_at channels n ≡ c → IsOpen c → nat_lt n 16 ≡ true
-open_true channels n c e h = number_by (nat_lt n 16) (channels n) (subst IsOpen (sym e) h)
-
-below_eight : (o : Option ℕ) → IfSome o (λ c. c < 8) → unwrap_or o 0 < 8
-below_eight (Some c) h = h
-below_eight None h = omega arith
-
-pub console_below : (x : View) (v : State) (j : ℕ) → Sees x v j → console_of x < 8
-console_below x v j s = below_eight x.own.job.console s.own
-
-has_room : (x : View) (v : State) (j i : ℕ) → Sees x v j → output_waits x i ≡ false → length (v.raw.consoles i).output < most_waiting
-has_room x v j i s h =
-    subst (λ (consoles : ℕ → Console). length (consoles i).output < most_waiting) s.consoles
-    (ltb-true (length (x.consoles i).output) most_waiting
-    (not_false (nat_lt (length (x.consoles i).output) most_waiting) (or_first (not (nat_lt (length (x.consoles i).output) most_waiting)) (is_other x.slot (x.holders i)) h)))
-
--- whatever a call decides, its changes can be made
-abbrev pub Can : ℕ → State → Decision → Type 0
-Can j v d = DecisionCan d j v
-
-pub sleep_can : (j : ℕ) (v : State) (x : View) (a : Ask) → Can j v (sleep x a)
-unfolding sleep
-sleep_can j v x a =
-    first_holds (Can j v) (sleep_tests x a (input a 0) (place_of_input a 0)) (goes [] None (negated (x.clock + input a 0) ∷ []))
-    (λ t. tt, (λ t. tt, (λ t. tt, (λ t. tt, (λ t. tt, (λ t. tt, tt)))))) (λ t. tt)
-
-pub realt_can : (j : ℕ) (v : State) (x : View) (a : Ask) → Can j v (realt x a)
-unfolding realt
-realt_can j v x a =
-    first_holds (Can j v) ((is_negative (input a 0) || nat_lt longest_period (input a 0)) ⇒ fails x a 0o22 ∷ []) (finishes x (changes.Arm (alarm_of x.clock (input a 0)) ∷ []) [])
-    (λ t. tt, tt) (λ t. (tt, tt))
-
-dismissed_can : (j : ℕ) (v : State) (x : View) (p w : ℕ) (r : Result Exit Fault) → Can j v (dismissed_by x p w r)
-dismissed_can j v x p w (Ok e) = tt
-dismissed_can j v x p w (Err f) = tt
-
-pub dismiss_can : (j : ℕ) (v : State) (x : View) (a : Ask) → Can j v (dismiss x a)
-unfolding dismiss
-dismiss_can j v x a = go (place_of_input a 0)
-  where
-    go : (o : Option ℕ) → Can j v (dismiss_at x a o)
-    go (Some p) = dismissed_can j v x p (input a 0) (dismissed x.own.core x.own.job p)
-    go None = tt
-
--- USRVAR
-own_can : (j : ℕ) (v : State) (x : View) (a : Ask) (y : Variable) (b : Bool) → Can j v (set_own x a y b)
-own_can j v x a y true = tt
-own_can j v x a y false = tt
-
-own_variable_can : (j : ℕ) (v : State) (x : View) (a : Ask) (o : Option Variable) → Can j v (own_variable x a o)
-own_variable_can j v x a None = tt
-own_variable_can j v x a (Some y) =
-    by_test (Can j v) (has_input a 2 && not (by_oneself y)) (fails x a 0o22) (set_own x a y (has_input a 2)) (λ t. tt) (λ t. own_can j v x a y (has_input a 2))
-
-set_can : (j : ℕ) (v : State) (k : ℕ) (y : Variable) (w : ℕ) (b : Bool) → CanMakeAll (set_other k y w b) j v
-set_can j v k y w true = (tt, tt)
-set_can j v k y w false = tt
-
-other_variable_can : (j : ℕ) (v : State) (x : View) (a : Ask) (k : ℕ) (write : Bool) (o : Option Variable) → Can j v (other_variable x a k write o)
-other_variable_can j v x a k write None = tt
-other_variable_can j v x a k write (Some y) =
-    first_holds (Can j v)
-    (((has_input a 2 && not write) ⇒ fails x a 0o5) ∷ ((has_input a 2 && not (by_superior y)) ⇒ fails x a 0o22) ∷ [])
-    (finishes x (set_other k y (input a 2) (has_input a 2)) (out a.outputs.items (value_of_other k y x.other)))
-    (λ t. tt, (λ t. tt, tt)) (λ t. set_can j v k y (input a 2) (has_input a 2))
-
-pub usrvar_can : (j : ℕ) (v : State) (x : View) (a : Ask) → Can j v (usrvar x a)
-unfolding usrvar
-usrvar_can j v x a = go (party x (input a 0))
-  where
-    go : (p : Party) → Can j v (usrvar_of x a p)
-    go Oneself = own_variable_can j v x a (variable_named (input a 1))
-    go Nobody = tt
-    go (Channel (On k write at)) = other_variable_can j v x a k write (variable_named (input a 1))
-    go (Channel Shut) = tt
-    go (Channel TtyIn) = tt
-    go (Channel TtyOut) = tt
-    go (Channel (Reads f at)) = tt
-    go (Channel (Writes f)) = tt
-
-pub told_can : (j : ℕ) (v : State) (o : Option ℕ) → CanMakeAll (told_superior o) j v
-told_can j v (Some k) = (tt, tt)
-told_can j v None = tt
-
--- OPEN and CLOSE
-pub opening : (x : View) (v : State) (j n : ℕ) (on : Opened) → Sees x v j → not (nat_lt n 16 && is_shut (channel_at x.own.channels n)) ≡ false → CanOpen on v → CanMake (changes.Open n on) j v
-opening x v j n on s t can =
-    let l : nat_lt n 16 ≡ true = and_first (nat_lt n 16) (is_shut (channel_at x.own.channels n)) t in
-    let shut : channel_at x.own.channels n ≡ Shut = shut_is (channel_at x.own.channels n) (and_second (nat_lt n 16) (is_shut (channel_at x.own.channels n)) t) in
-    (ltb-true n 16 l, has_job x v j s, chan_is x v j n Shut s l shut, can)
-
-pub opens_can : (j : ℕ) (v : State) (x : View) (a : Ask) → Sees x v j → Can j v (opens x a)
-unfolding opens
-opens_can j v x a s =
-    let n = input a 0 in
-    let control = unwrap_or a.control 0 in
-    first_holds (Can j v) (open_tests x a n (input a 1) control) (finishes x (changes.Open n (opens_on control) ∷ []) [])
-    (λ t. tt, (λ t. tt, (λ t. tt, (λ t. tt, tt))))
-    (λ t. (opening x v j n (opens_on control) s t.0 (opened_can (control == 1) v), tt))
-
--- `.IOT`
-pub iot_in_can : (j : ℕ) (v : State) (x : View) (e i : ℕ) → i < 8 → Can j v (iot_in x e i)
-iot_in_can j v x e i l =
-    first_holds (Can j v) (store_tests x e ++ (input_waits x i ⇒ Waits (Input i) ∷ [])) (iot_ends x (changes.Take i ∷ []) (record { at = e; word = first_typed x i } ∷ []))
-    (λ t. tt, (λ t. tt, (λ t. tt, tt))) (λ t. (l, tt))
-
-pub iot_out_can : (j : ℕ) (v : State) (x : View) (e i : ℕ) → i < 8 → Sees x v j → Can j v (iot_out x e i)
-iot_out_can j v x e i l s =
-    first_holds (Can j v) (read_tests x e ++ (output_waits x i ⇒ Waits (Output i) ∷ [])) (iot_ends x (changes.Put i (shown_byte (word_of x e)) ∷ []) [])
-    (λ t. tt, (λ t. tt, tt)) (λ t. ((l, has_room x v j i s t.1.0), tt))
-
--- SIOT
-pub siot_in_can : (j : ℕ) (v : State) (x : View) (a : Ask) (next k i : ℕ) → i < 8 → Can j v (siot_in x a next k i)
-siot_in_can j v x a next k i l =
-    first_holds (Can j v) (store_tests x (right_of next) ++ (input_waits x i ⇒ Waits (Input i) ∷ []))
-    (goes (changes.Take i ∷ []) (Some (record { place = right_of next; byte = first_typed x i })) (next ∷ (k - 1) ∷ []))
-    (λ t. tt, (λ t. tt, (λ t. tt, tt))) (λ t. (l, tt))
-
-pub siot_out_can : (j : ℕ) (v : State) (x : View) (a : Ask) (next k i : ℕ) → i < 8 → Sees x v j → Can j v (siot_out x a next k i)
-siot_out_can j v x a next k i l s =
-    first_holds (Can j v) (read_tests x (right_of next) ++ (output_waits x i ⇒ Waits (Output i) ∷ []))
-    (goes (changes.Put i (shown_byte (load_of next (word_of x (right_of next)))) ∷ []) None (next ∷ (k - 1) ∷ []))
-    (λ t. tt, (λ t. tt, tt)) (λ t. ((l, has_room x v j i s t.1.0), tt))
-
-pub siot_by_can : (j : ℕ) (v : State) (x : View) (a : Ask) (words ended : Bool) (d : Decision) → (ended ≡ false → Can j v d) → Can j v (siot_by x a words ended d)
-siot_by_can j v x a words ended d h =
-    first_holds (Can j v) (siot_tests x a (input a 1) (input a 2) words ended) d (λ t. tt, (λ t. tt, (λ t. tt, (λ t. tt, (λ t. tt, (λ t. tt, (λ t. tt, (λ t. tt, tt)))))))) (λ t. h t.1.1.1.1.1.1.0)
-
--- TTYLND
-lands_can : (j : ℕ) (v : State) (x : View) (a : Ask) (may : Bool) (error k : ℕ) → Sees x v j → Can j v (lands x a may error k)
-lands_can j v x a may error k s =
-    first_holds (Can j v) (not (has_console x) ⇒ fails x a 0o5 ∷ not may ⇒ fails x a error ∷ []) (finishes x (changes.Hold (console_of x) k ∷ []) [])
-    (λ t. tt, (λ t. tt, tt)) (λ t. (console_below x v j s, tt))
-
-pub ttylnd_can : (j : ℕ) (v : State) (x : View) (a : Ask) → Sees x v j → Can j v (ttylnd x a)
-unfolding ttylnd
-ttylnd_can j v x a s = go (party x (input a 0))
-  where
-    go : (p : Party) → Can j v (ttylnd_of x a p)
-    go Oneself = lands_can j v x a (can_take x (x.holders (console_of x))) 0o13 x.slot s
-    go Nobody = tt
-    go (Channel (On k write at)) = lands_can j v x a (is_holder x (x.holders (console_of x))) 0o5 k s
-    go (Channel Shut) = tt
-    go (Channel TtyIn) = tt
-    go (Channel TtyOut) = tt
-    go (Channel (Reads f at)) = tt
-    go (Channel (Writes f)) = tt
-
--- a call that changes nothing but the word of its output
-pub answering_can : (j : ℕ) (v : State) (x : View) (a : Ask) → Answering (Can j v) x a
-answering_can j v x a = record { failing = λ k. tt; faulting = λ f. tt; finishing = tt; giving = λ w. tt }
-
--- the calls on files: where a call is one of them, no close is half made
-disk_can : (out : Bool) (v : State) (x : View) (d n m : ℕ) → x.files ≡ v.raw.files → v.mark ≡ None → (not out && not (has_file (names_of d n m) x.files)) ≡ false
-    → CanOpen (opens_as out d n m) v
-disk_can true v x d n m e u t = u
-disk_can false v x d n m e u t = (ap (has_file (names_of d n m)) (sym e) ∙ not_false (has_file (names_of d n m) x.files) t, u)
-
-pub opens_disk_can : (j : ℕ) (v : State) (x : View) (a : Ask) → Sees x v j → v.mark ≡ None → Can j v (opens_disk x a)
-unfolding opens_disk
-opens_disk_can j v x a s u =
-    let n = input a 0 in
-    let control = unwrap_or a.control 0 in
-    let on = opens_as (is_output control) (input a 4) (input a 2) (input a 3) in
-    first_holds (Can j v) (disk_tests x a n control) (finishes x (changes.Open n on ∷ []) []) (λ t. tt, (λ t. tt, (λ t. tt, tt)))
-    (λ t. (opening x v j n on s t.0 (disk_can (is_output control) v x (input a 4) (input a 2) (input a 3) s.files u t.1.1.0), tt))
-
-unread_is : (x : View) (v : State) (j : ℕ) (names : Names) → Sees x v j → is_read names (channels_in x) ≡ false → Unread v names
-unread_is x v j names s h = ap (is_read names) (sym (channels_seen x v j s)) ∙ h
-
-rooms : (b c : Bool) → (not b && not c) ≡ false → (b || c) ≡ true
-rooms true c h = refl
-rooms false c h = not_false c h
-
-pub closes_draft_can : (j : ℕ) (v : State) (x : View) (a : Ask) (f : File) → Sees x v j → v.mark ≡ None → channel_at x.own.channels (input a 0) ≡ Writes f → Can j v (closes_draft x a f)
-unfolding closes_draft
-closes_draft_can j v x a f s u e =
-    let n = input a 0 in
-    let l : nat_lt n 16 ≡ true = open_true x.own.channels n (Writes f) e tt in
-    let on : chan_in v j n ≡ Writes f = chan_is x v j n (Writes f) s l e in
-    first_holds (Can j v)
-    (is_read f.names (channels_in x) ⇒ fails x a 0o11 ∷ (not (has_file f.names x.files) && not (nat_lt (length x.files) most_files)) ⇒ fails x a 0o7 ∷ [])
-    (finishes x (changes.Close n ∷ []) []) (λ t. tt, (λ t. tt, tt))
-    (λ t.
-    let fits : (has_file f.names v.raw.files || nat_lt (length v.raw.files) most_files) ≡ true =
-    ap (λ (fs : List File). has_file f.names fs || nat_lt (length fs) most_files) (sym s.files) ∙ rooms (has_file f.names x.files) (nat_lt (length x.files) most_files) t.1.0 in
-    ((ltb-true n 16 l, has_job x v j s, u, subst IsDraft (sym on) tt, subst (Closes v) (sym on) (unread_is x v j f.names s t.0, fits)), tt))
-
-pub roomy : (x : View) (v : State) (j n : ℕ) (f : File) → Sees x v j → v.mark ≡ None → channel_at x.own.channels n ≡ Writes f → is_full x.files (channels_in x) f.words ≡ false
-    → (w : ℕ) → CanMake (changes.Append n w) j v
-roomy x v j n f s u e full w =
-    let l : nat_lt n 16 ≡ true = open_true x.own.channels n (Writes f) e tt in
-    let on : chan_in v j n ≡ Writes f = chan_is x v j n (Writes f) s l e in
-    let channels : channels_in x ≡ channels_of v.raw = channels_seen x v j s in
-    let room : is_full v.raw.files (channels_of v.raw) f.words ≡ false = sym (λ i. is_full (s.files i) (channels i) f.words) ∙ full in
-    (ltb-true n 16 l, u, subst (HasRoom v) (sym on) room)
-
-pub iot_read_can : (j : ℕ) (v : State) (x : View) (e n at : ℕ) (o : Option ℕ) → n < 16 → Can j v (iot_read x e n at o)
-iot_read_can j v x e n at (Some w) l = (l, tt)
-iot_read_can j v x e n at None l = tt
-
-pub siot_read_can : (j : ℕ) (v : State) (x : View) (next k n at w : ℕ) → n < 16 → Can j v (siot_read x next k n at w)
-siot_read_can j v x next k n at w l =
-    first_holds (Can j v) (store_tests x (right_of next)) (goes (changes.Move n (at + 1) ∷ []) (Some (record { place = right_of next; byte = w })) (next ∷ (k - 1) ∷ []))
-    (λ t. tt, (λ t. tt, tt)) (λ t. (l, tt))
-
-pub siot_write_can : (j : ℕ) (v : State) (x : View) (a : Ask) (next k n : ℕ) (f : File) → Sees x v j → v.mark ≡ None → channel_at x.own.channels n ≡ Writes f
-    → Can j v (siot_write x a next k n f)
-siot_write_can j v x a next k n f s u is =
-    first_holds (Can j v) (read_tests x (right_of next) ++ (is_full x.files (channels_in x) f.words ⇒ fails x a 0o10 ∷ []))
-    (goes (changes.Append n (load_of next (word_of x (right_of next))) ∷ []) None (next ∷ (k - 1) ∷ []))
-    (λ t. tt, (λ t. tt, tt)) (λ t. (roomy x v j n f s u is t.1.0 (load_of next (word_of x (right_of next))), tt))
-
-pub access_can : (j : ℕ) (v : State) (x : View) (a : Ask) → Can j v (access x a)
-unfolding access
-access_can j v x a = go (channel_at x.own.channels (input a 0)) refl
-  where
-    n : ℕ
-    n = input a 0
-
-    to : (most : ℕ) → n < 16 → Can j v (access_to x a most)
-    to most l = first_holds (Can j v) (nat_lt most (input a 1) ⇒ fails x a 0o22 ∷ []) (finishes x (changes.Move n (input a 1) ∷ []) []) (λ t. tt, tt) (λ t. (l, tt))
-
-    go : (c : Chan) → channel_at x.own.channels n ≡ c → Can j v (access_on x a c)
-    go (Reads f at) e = to (length (words_of x f)) (open_number x.own.channels n (Reads f at) e tt)
-    go (On k write at) e = to end_of_core (open_number x.own.channels n (On k write at) e tt)
-    go Shut e = tt
-    go TtyIn e = tt
-    go TtyOut e = tt
-    go (Writes f) e = tt
-
-pub delete_can : (j : ℕ) (v : State) (x : View) (a : Ask) → Sees x v j → v.mark ≡ None → Can j v (delete x a)
-unfolding delete
-delete_can j v x a s u =
-    first_holds (Can j v) (file_tests x a (names_from a 1)) (finishes x (changes.Delete (input a 3) (input a 1) (input a 2) ∷ []) []) (λ t. tt, (λ t. tt, (λ t. tt, tt)))
-    (λ t. ((u, unread_is x v j (names_from a 1) s t.1.1.0), tt))
-
-pub rename_can : (j : ℕ) (v : State) (x : View) (a : Ask) → Sees x v j → v.mark ≡ None → Can j v (rename x a)
-unfolding rename
-rename_can j v x a s u =
-    let fresh = names_of (input a 3) (input a 4) (input a 5) in
-    first_holds (Can j v) (file_tests x a (names_from a 1) ++ (has_file fresh x.files ⇒ fails x a 0o23 ∷ []))
-    (finishes x (changes.Rename (input a 3) (input a 1) (input a 2) (input a 4) (input a 5) ∷ []) []) (λ t. tt, (λ t. tt, (λ t. tt, (λ t. tt, tt))))
-    (λ t. ((u, unread_is x v j (names_from a 1) s t.1.1.0, ap (has_file fresh) (sym s.files) ∙ t.1.1.1.0), tt))
+pub decision_on : (b : Beside) (d : Decision) (j : ℕ) (v : State) → Gives b j v → parts.DecisionCan b d j v.raw → DecisionCan d j v
+decision_on b (Waits r) j v g h = tt
+decision_on b (Goes cs k vs) j v g h = all_on b cs.items j v g h
+decision_on b (Ends cs ss e) j v g h = all_on b cs.items j v g h
+decision_on b (Gone cs) j v g h =
+    let w : State = effect_on (changes.Remove j) j v in
+    all_on nothing cs.items j w (nothing_gives j w) (subst (CanAll nothing cs.items j) (removed_raw j v) h)

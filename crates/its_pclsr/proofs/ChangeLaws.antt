@@ -15,7 +15,6 @@ use Rattle.its_jobs.specs.Table.{job_at, superior_at}
 use Rattle.its_frame.specs.declared.change.Change.{Change}
 use Rattle.its_frame.specs.declared.change.Change.TheVariants as changes
 use Rattle.its_frame.specs.declared.variable.Variable.{Variable}
-use Rattle.its_frame.specs.declared.variable.Variable.TheVariants.{Uname, Jname, Uind, Suppro, Cnsl, Pages, Upc, Ustp, Pirqc, Ifpir, Mask, Msk2, Df1, Df2}
 use Rattle.its_plain.specs.Change.{with_alarm, with_inf, taken_from, put_to, on_console, poke, console_in, with_page_at, protected, effect}
 use Rattle.its_plain.specs.Job.{INF, with_pending}
 use Rattle.its_plain.specs.Own.{with_registers, with_stores, with_variable}
@@ -23,11 +22,13 @@ use Rattle.its_plain.specs.Machine.{Shut, Whole, whole, with_job, core_of, mappe
 use Rattle.its_stepped.specs.Lines.{with_raw}
 use Rattle.its_stepped.specs.State.{State}
 use Rattle.its_stepped.specs.Commit.{effect_on, effects_on}
+use Rattle.its_parts.proofs.BareLaws.{variable_bare, variable_channels}
 use Rattle.its_pclsr.proofs.ApartLaws.{tidy_core, tidy_put}
 use Rattle.its_pclsr.proofs.OwedLaws.{one_stored}
 use Rattle.its_core.specs.Frames.{Frames}
 use Rattle.its_pclsr.specs.Pages.{all_pages_changed, pages_changed}
-use Rattle.its_pclsr.specs.Built.{HasPage, Maps, CanMake, CanMakeAll}
+use Rattle.its_parts.specs.Can.{HasPage}
+use Rattle.its_pclsr.specs.Built.{Maps, CanMake, CanMakeAll}
 use Rattle.its_world.specs.Made.{JobMade}
 use Rattle.its_world.specs.Mapped.{PageMapped}
 use Rattle.its_world.specs.Storage.{HasJob, chan_in, IsElsewhere}
@@ -47,41 +48,7 @@ inf_set old new s j o e i b = changed_state old new s _ (with_pending j INF) j w
 pub inf_missing : (w : World) (s : ℕ) (o : Option Job) → o ≡ job_at w.jobs s → o ≡ None → state_of w ≡ in_raw (state_of w) s with_inf
 inf_missing w s o e i = absent_state w s with_inf (sym e ∙ i)
 
--- a variable is one of the registers but for the channels
-apart : (x : Variable) (v : ℕ) (j : Job) → with_variable x v (bare j) ≡ bare (with_variable x v j)
-unfolding with_variable
-apart Upc v j = refl
-apart Ustp v j = refl
-apart Pirqc v j = refl
-apart Ifpir v j = refl
-apart Mask v j = refl
-apart Msk2 v j = refl
-apart Df1 v j = refl
-apart Df2 v j = refl
-apart Uname v j = refl
-apart Jname v j = refl
-apart Uind v j = refl
-apart Suppro v j = refl
-apart Cnsl v j = refl
-apart Pages v j = refl
-
-same_channels : (x : Variable) (v : ℕ) (j : Job) → (with_variable x v j).channels ≡ j.channels
-unfolding with_variable
-same_channels Upc v j = refl
-same_channels Ustp v j = refl
-same_channels Pirqc v j = refl
-same_channels Ifpir v j = refl
-same_channels Mask v j = refl
-same_channels Msk2 v j = refl
-same_channels Df1 v j = refl
-same_channels Df2 v j = refl
-same_channels Uname v j = refl
-same_channels Jname v j = refl
-same_channels Uind v j = refl
-same_channels Suppro v j = refl
-same_channels Cnsl v j = refl
-same_channels Pages v j = refl
-
+-- a variable
 raw_variable : (files : Store) (c : Core) (sup : Option ℕ) (a : Option (ℕ × ℕ)) (j i k : Job) → k ≡ bare i → j.channels ≡ i.channels
     → record { core = c; job = k; superior = sup; channels = λ n. chan_of files (slice_index_or j.channels n channels.Closed); alarm = a } ≡ raw_job files c i sup a
 raw_variable files c sup a j i k e f = λ t. record { core = c; job = e t; superior = sup; channels = λ n. chan_of files (slice_index_or (f t) n channels.Closed); alarm = a }
@@ -90,11 +57,11 @@ pub variable_set : (old new : World) (s v : ℕ) (x : Variable) (j : Job) (o : O
     → state_of new ≡ in_raw (state_of old) s (with_registers (with_variable x v))
 variable_set old new s v x j o e i b =
     changed_state old new s _ (with_variable x v j) j (with_registers (with_variable x v)) b (sym e ∙ i)
-    (raw_variable old.files (core_at old.core s) (superior_at old.jobs s) (alarm_at old.alarms.items s) j (with_variable x v j) _ (apart x v j) (sym (same_channels x v j)))
+    (raw_variable old.files (core_at old.core s) (superior_at old.jobs s) (alarm_at old.alarms.items s) j (with_variable x v j) _ (variable_bare x v j) (sym (variable_channels x v j)))
 
 pub variable_tidy : (old new : World) (s v : ℕ) (x : Variable) (i j : Job) (o : Option Job) → o ≡ job_at old.jobs s → o ≡ Some j → i ≡ with_variable x v j → JobBecomes old new s i
     → Tidy old → Tidy new
-variable_tidy old new s v x i j o e is same b tidy = tidy_put old new s _ j i _ _ (sym e ∙ is) (ap (λ (k : Job). k.channels) same ∙ same_channels x v j) b tidy
+variable_tidy old new s v x i j o e is same b tidy = tidy_put old new s _ j i _ _ (sym e ∙ is) (ap (λ (k : Job). k.channels) same ∙ variable_channels x v j) b tidy
 
 pub variable_missing : (w : World) (s v : ℕ) (x : Variable) (o : Option Job) → o ≡ job_at w.jobs s → o ≡ None → state_of w ≡ in_raw (state_of w) s (with_registers (with_variable x v))
 variable_missing w s v x o e i = absent_state w s (with_registers (with_variable x v)) (sym e ∙ i)
@@ -180,11 +147,11 @@ word_poked old new s a x l job b =
     let d : CoreBecomes old new s c = one_stored old new s (core_at old.core s) (poke a x) (subst (λ (k : ℕ). CoreBecomes old new s (store (core_at old.core s) k x)) (sym at) b) in
     core_written old new s c (with_stores (poke a x ∷ [])) job d (λ j. refl)
 
-pub page_dropped : (old new : World) (s k : ℕ) → HasPage (state_of old) s k → CoreBecomes old (with_frames new old.core.frames) s (with_page (core_at old.core s) k None)
+pub page_dropped : (old new : World) (s k : ℕ) → HasPage (state_of old).raw s k → CoreBecomes old (with_frames new old.core.frames) s (with_page (core_at old.core s) k None)
     → state_of new ≡ in_raw (state_of old) s (with_page_at k None)
 page_dropped old new s k can b = sym (frames_state new old.core.frames) ∙ core_written old (with_frames new old.core.frames) s _ (with_page_at k None) can.job b (λ j. refl)
 
-pub page_protected : (old new : World) (s k : ℕ) (on : Bool) → HasPage (state_of old) s k
+pub page_protected : (old new : World) (s k : ℕ) (on : Bool) → HasPage (state_of old).raw s k
     → CoreBecomes old new s (with_page (core_at old.core s) k (marked (page_of (core_at old.core s) k) on)) → state_of new ≡ in_raw (state_of old) s (protected k on)
 page_protected old new s k on can b = core_written old new s _ (protected k on) can.job b (λ j. refl)
 
@@ -192,13 +159,13 @@ pub tidy_written : (old new : World) (s : ℕ) (c : Core) → HasJob (state_of o
 tidy_written old new s c job b tidy = tidy_core old new s c (frame_at old.frames.items s) (clear_at old.core s) (has_job old s job) b tidy
 
 -- a page that is there, and one that can be mapped
-pub page_written : (old new : World) (s k : ℕ) (c : Core) → HasPage (state_of old) s k → CoreBecomes old new s c → Tidy old → Tidy new
+pub page_written : (old new : World) (s k : ℕ) (c : Core) → HasPage (state_of old).raw s k → CoreBecomes old new s c → Tidy old → Tidy new
 page_written old new s k c can b tidy = tidy_written old new s c can.job b tidy
 
-pub page_left : (old new : World) (s k : ℕ) (c : Core) → HasPage (state_of old) s k → CoreBecomes old (with_frames new old.core.frames) s c → Tidy old → Tidy new
+pub page_left : (old new : World) (s k : ℕ) (c : Core) → HasPage (state_of old).raw s k → CoreBecomes old (with_frames new old.core.frames) s c → Tidy old → Tidy new
 page_left old new s k c can b tidy = frames_tidy new old.core.frames (page_written old (with_frames new old.core.frames) s k c can b tidy)
 
-pub page_there : (w : World) (s k : ℕ) → Tidy w → HasPage (state_of w) s k → IsSome (page_of (core_at w.core s) k)
+pub page_there : (w : World) (s k : ℕ) → Tidy w → HasPage (state_of w).raw s k → IsSome (page_of (core_at w.core s) k)
 page_there w s k tidy can = ap (λ (c : Core). is_some (page_of c k)) (sym (core_raw w s tidy)) ∙ can.there
 
 pub page_clear : (w : World) (j s k : ℕ) → Maps (state_of w) j s k → clear_at w.core j ≡ Some 4

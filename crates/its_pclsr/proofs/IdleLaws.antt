@@ -24,7 +24,7 @@ use Rattle.its_stepped.specs.State.{Mark}
 use Rattle.its_world.specs.Filed.{Ringed}
 use Rattle.its_world.specs.Storage.{HasJob, IsElsewhere}
 use Rattle.its_plain.specs.OperatorClock.{clock_end}
-use Rattle.its_parts.specs.Across.{channel_by, channel_at, tally, reads, writes, writers, Across}
+use Rattle.its_parts.specs.Across.{channel_by, channel_at, tally, reads_file, writes_draft, writers, Across}
 use Rattle.its_world.specs.Tidy.{Tidy}
 use Rattle.its_world.specs.World.{alarm_at, mark_of, raw_at, frame_at, symbols_at, state_of}
 use Rattle.its_world.specs.declared.world.World.{World}
@@ -65,7 +65,7 @@ unfolding state_of
 idle_page w core k = ap (option_map (λ (r : Reserved). r.clear)) (core.reserved k)
 
 -- no channel is on a file or a draft
-elsewhere_reads : (f : ℕ) (c : Channel) → IsElsewhere c → reads f c ≡ 0
+elsewhere_reads : (f : ℕ) (c : Channel) → IsElsewhere c → reads_file f c ≡ 0
 elsewhere_reads f Closed h = refl
 elsewhere_reads f TtyIn h = refl
 elsewhere_reads f TtyOut h = refl
@@ -73,7 +73,7 @@ elsewhere_reads f (Usr k write at) h = refl
 elsewhere_reads f (Reading g at) h = absurd h
 elsewhere_reads f (Writing d) h = absurd h
 
-elsewhere_writes : (d : ℕ) (c : Channel) → IsElsewhere c → writes d c ≡ 0
+elsewhere_writes : (d : ℕ) (c : Channel) → IsElsewhere c → writes_draft d c ≡ 0
 elsewhere_writes d Closed h = refl
 elsewhere_writes d TtyIn h = refl
 elsewhere_writes d TtyOut h = refl
@@ -92,8 +92,8 @@ idle_across : (t : Table) → Elsewhere t → Across no_files t
 idle_across t h = record {
   past_slots = h.past_slots;
   past_numbers = h.past_numbers;
-  read = λ f. none_weighs (reads f) (channel_at t) (λ k n. elsewhere_reads f (channel_at t k n) (h.each k n)) ∙ sym (ap readers_by (no_entry f));
-  written = λ d. none_weighs (writes d) (channel_at t) (λ k n. elsewhere_writes d (channel_at t k n) (h.each k n)) ∙ sym (ap (λ e. writers e (is_marked no_files d)) (no_entry d));
+  read = λ f. none_weighs (reads_file f) (channel_at t) (λ k n. elsewhere_reads f (channel_at t k n) (h.each k n)) ∙ sym (ap readers_by (no_entry f));
+  written = λ d. none_weighs (writes_draft d) (channel_at t) (λ k n. elsewhere_writes d (channel_at t k n) (h.each k n)) ∙ sym (ap (λ e. writers e (is_marked no_files d)) (no_entry d));
 }
 
 pub idle_tidy : (w : World) → IsEmpty w.core → w.files ≡ no_files → ((k : ℕ) → alarm_at w.alarms.items k ≡ None) → w.clock ≡ 0 → ((k : ℕ) → symbols_at w.symbols.items k ≡ []) → Elsewhere w.jobs → Ringed w → Tidy w

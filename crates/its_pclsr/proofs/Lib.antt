@@ -9,9 +9,6 @@ pub mod CommittingLaws
 pub mod ValueLaws
 pub mod ApartLaws
 pub mod CanLaws
-pub mod UsrCanLaws
-pub mod CoreCanLaws
-pub mod DecidedCanLaws
 pub mod ReadyLaws
 pub mod PartLaws
 pub mod IdleLaws

@@ -14,7 +14,7 @@ use Rattle.its_world.specs.declared.world.World.{World}
 use Rattle.its_world.proofs.StorageLaws.{files_are, marks_are, stored_state}
 use Rattle.its_world.proofs.MarkLaws.{mark_none, made, part_step}
 use Rattle.its_parts.proofs.KeptLaws.{Stays}
-use Rattle.its_pclsr.specs.Owed.{Begins, IsNext}
+use Rattle.its_pclsr.specs.Owed.{FirstPart, IsNext}
 use Rattle.its_pclsr.specs.Parts.{NextMade}
 
 -- another store that shows the same to all channels
@@ -40,7 +40,7 @@ none_state w s p None e n files marked none =
     ∙ sym (ap (λ o. with_part o w) e)
 
 -- the next one is made
-next_begins : (ps : List Part) (p : Part) → Begins ps p → (qs : List Part) × (ps ≡ p ∷ qs)
+next_begins : (ps : List Part) (p : Part) → FirstPart ps p → (qs : List Part) × (ps ≡ p ∷ qs)
 next_begins (q ∷ qs) p e = (qs, ap (λ x. x ∷ qs) e)
 next_begins [] p e = absurd e
 

@@ -1,28 +1,25 @@
 -- What the tick of a slot finds whose call is tried: the jobs that the call reaches are unwound, it is decided on raw
 -- jobs there, and its decision can be carried out.
-use Rattle.std.specs.Prelude.{if◌then◌else◌, ◌||◌, ◌==◌, ◌≡◌, ◌≢◌, ◌<◌, ◌≤◌, ℕ, Bool, true, false, Option, Some, None, IfSome, is_some, List, [], ◌∷◌, ◌++◌, length, refl}
+use Rattle.std.specs.Prelude.{if◌then◌else◌, ◌||◌, ◌==◌, ◌≡◌, ◌≢◌, ◌<◌, ◌≤◌, ℕ, Bool, true, false, Option, Some, None, IfSome, List, [], ◌∷◌, ◌++◌, length, refl}
 use Rattle.std.proofs.Common.{sym, ◌∙◌, ap, subst, inl, inr, arith}
-use Rattle.std.proofs.lemmas.Bool.{cases_eq, eq-eqb, ne_eqb, eqb-true}
+use Rattle.std.proofs.lemmas.Bool.{cases_eq, eq-eqb, ne_eqb}
 use Rattle.its_word.specs.Tree.{is_below, slots_below}
 use Rattle.its_word.specs.declared.calls.Ask.{Ask}
-use Rattle.its_word.specs.Limits.{slots}
 use Rattle.its_frame.specs.declared.change.Change.{Change}
-use Rattle.its_frame.specs.declared.change.Change.TheVariants as changes
 use Rattle.its_frame.specs.declared.decision.Decision.{Decision}
 use Rattle.its_frame.specs.declared.decision.Decision.TheVariants.{Waits, Goes, Ends, Gone}
 use Rattle.its_frame.specs.declared.frame.Frame.{Frame}
 use Rattle.its_frame.specs.declared.frame.Frame.TheVariants as frames
 use Rattle.its_frame.specs.declared.frame.Holding.{Holding}
 use Rattle.its_frame.specs.declared.name.CallName.{CallName}
-use Rattle.its_frame.specs.declared.name.CallName.TheVariants.{Logout, Uclose, Corblk}
+use Rattle.its_frame.specs.declared.name.CallName.TheVariants.{Logout, Uclose}
 use Rattle.its_plain.specs.Arguments.{debts, input}
 use Rattle.its_plain.specs.CallBasic.{channel_at}
 use Rattle.its_plain.specs.CallStep.{among, decision}
 use Rattle.its_plain.specs.Change.{superiors, is_gone}
-use Rattle.its_plain.specs.Decide.{call_named, decided, target_by, argument_of, target, listed, reach_by, reach, reaching, with_below}
-use Rattle.its_plain.specs.Machine.{On, Whole, Machine, core_of}
-use Rattle.its_plain.specs.View.{View, view, job_at}
-use Rattle.its_stepped.specs.Tick.{helps_by, helps, reserves, quarters}
+use Rattle.its_plain.specs.Decide.{call_named, target_by, argument_of, target, listed, reach_by, reach, with_below}
+use Rattle.its_plain.specs.Machine.{On, Whole, Machine}
+use Rattle.its_stepped.specs.Tick.{helps, reserves, quarters}
 use Rattle.its_stepped.specs.Commit.{effects_on, owed_parts}
 use Rattle.its_stepped.specs.Duty.{parts_in, Duty}
 use Rattle.its_stepped.specs.Quiet.{IsStill, AllQuiet}
@@ -32,31 +29,17 @@ use Rattle.its_stepped.specs.Forest.{Forest}
 use Rattle.its_stepped.proofs.MarkLaws.{marking_begins, marking_all}
 use Rattle.its_stepped.proofs.UnwindLaws.{among_first}
 use Rattle.its_stepped.proofs.ViewLaws.{StillAt}
-use Rattle.its_stepped.proofs.ForestLaws.{job_few, forest_few, forest_below, on_inferior, inferior_stands}
+use Rattle.its_stepped.proofs.ForestLaws.{forest_few}
 use Rattle.its_stepped.proofs.LogoutDuty.{among_left, among_right, among_below}
-use Rattle.its_stepped.proofs.TargetLaws.{target_on, reach_named}
-use Rattle.its_stepped.proofs.CoreDuty.{makes_reserves}
-use Rattle.its_world.specs.Storage.{HasJob}
-use Rattle.its_pclsr.specs.Built.{CanMake}
+use Rattle.its_plain.proofs.TargetLaws.{target_on, reach_named}
+use Rattle.its_pclsr.specs.Built.{Removable}
 use Rattle.its_pclsr.specs.Carried.{standing_of, Ready}
 use Rattle.its_pclsr.proofs.CommittingLaws.{all_mild}
 use Rattle.its_pclsr.proofs.RemovalLaws.{no_page}
-use Rattle.its_pclsr.proofs.CanLaws.{DecisionCan, Sees, Can}
-use Rattle.its_pclsr.proofs.UsrCanLaws.{Aim, Finds}
-use Rattle.its_pclsr.proofs.CoreCanLaws.{FindsPages}
-use Rattle.its_pclsr.proofs.DecidedCanLaws.{call_can}
+use Rattle.its_pclsr.proofs.CanLaws.{DecisionCan, decision_on}
+use Rattle.its_parts.proofs.CanLaws.{Beside}
+use Rattle.its_parts.proofs.CallCanLaws.{decision_can as plain_can}
 use Rattle.its_stepped.proofs.GivenLaws.{below_itself}
-
--- every call, in a state in which it is decided on raw jobs
-decided_can_by : (j : ℕ) (v : State) (x : View) (a : Ask) (z : Bool) → (a.fail == 0) ≡ z → Sees x v j → (helps x.own a ≡ true → v.mark ≡ None)
-    → (a.fail ≡ 0 → Finds x v j a (call_named a.name)) → (a.fail ≡ 0 → call_named a.name ≡ Some Corblk → FindsPages x v j a) → Can j v (decided x a)
-unfolding decided helps
-decided_can_by j v x a true z s u f g =
-    let o = call_named a.name in
-    let none : a.fail ≡ 0 = eqb-true a.fail 0 z in
-    let e : helps x.own a ≡ helps_by x.own a o = rw z refl in
-    rw z (call_can j v x a o s (λ h. u (e ∙ h)) (f none) (g none))
-decided_can_by j v x a false z s u f g = rw z tt
 
 -- the state in which the call of slot j's job is carried out: it is sound, the jobs that the call reaches are in user mode,
 -- and all quarters of the page that it reserves are clear
@@ -67,21 +50,6 @@ pub record Prepared (v : State) (j : ℕ) (q : Whole) (a : Ask) : Type 0 where
   pub unmarked : helps q a ≡ true → v.mark ≡ None
   pub free : (k : ℕ) → among k (reach v.raw j q a) ≡ true → v.frames k ≡ None
   pub full : reserves a ≡ true → v.reserved j ≡ Some quarters
-
--- an inferior that it reaches is there
-inferior_there : (v : State) (j n s : ℕ) (q : Whole) (a : Ask) (at : ℕ) (write : Bool) → Prepared v j q a → channel_at q.channels n ≡ On s write at
-    → (superiors v.raw s ≡ Some j) × HasJob v s × (s < slots)
-inferior_there v j n s q a at write c is =
-    let above = on_inferior v.raw j q n s at write c.forest c.job is in
-    let there = inferior_stands v.raw s j above in
-    (above, there, job_few v.raw c.forest s there)
-
-aimed : (v : State) (j i s : ℕ) (q : Whole) (a : Ask) (n : CallName) (at : ℕ) (write : Bool) → Prepared v j q a → a.fail ≡ 0 → call_named a.name ≡ Some n → reaching n ≡ Some i
-    → channel_at q.channels (input a i) ≡ On s write at → Aim (view v.raw j q (target q a)) v s
-unfolding view
-aimed v j i s q a n at write c z e names is =
-    let h = inferior_there v j (input a i) s q a at write c is in
-    record { slot = h.2; job = h.1; other = ap (job_at v.raw) (target_on q a n i s at write z e names is) }
 
 -- UCLOSE removes an inferior with all below it, which are in user mode; the caller is not below its inferior
 module _ (v : State) (j s at : ℕ) (q : Whole) (a : Ask) (write : Bool) (c : Prepared v j q a) (z : a.fail ≡ 0) (e : call_named a.name ≡ Some Uclose)
@@ -95,37 +63,15 @@ module _ (v : State) (j s at : ℕ) (q : Whole) (a : Ask) (write : Bool) (c : Pr
   root_free : v.frames s ≡ None
   root_free = c.free s (ap (among s) removal_reach ∙ among_right s (slots_below (superiors v.raw) s) (s ∷ []) (among_first s []))
 
-  tree_can : CanMake (changes.Remove s) j v
-  tree_can =
-      let h = inferior_there v j (input a 0) s q a at write c is in
-      (h.2, h.1, forest_below v.raw s j c.forest h.0, record { sound = c.sound; unwound = below_free; page = no_page v s c.sound root_free })
-
-finds : (v : State) (j : ℕ) (q : Whole) (a : Ask) → Prepared v j q a → a.fail ≡ 0 → Finds (view v.raw j q (target q a)) v j a (call_named a.name)
-unfolding view aimed
-finds v j q a c z = record {
-  inferior = λ n e first s at write is. aimed v j 0 s q a n at write c z e first is;
-  tree = λ e s at write is. tree_can v j s at q a write c z e is;
-}
-
-finds_pages : (v : State) (j : ℕ) (q : Whole) (a : Ask) → Prepared v j q a → a.fail ≡ 0 → call_named a.name ≡ Some Corblk → FindsPages (view v.raw j q (target q a)) v j a
-unfolding view aimed
-finds_pages v j q a c z e =
-    let there : HasJob v j = ap is_some c.job in
-    record {
-      own = record { slot = job_few v.raw c.forest j there; job = there; core = ap core_of c.job };
-      inferior = λ s at write is.
-          let aim = aimed v j 1 s q a Corblk at write c z e refl is in
-          record { slot = aim.slot; job = aim.job; core = ap core_of (sym aim.other) };
-      pages = refl;
-      clear = λ one. c.full (makes_reserves a e z one);
-    }
+  removable : Removable v s
+  removable = record { sound = c.sound; unwound = below_free; page = no_page v s c.sound root_free }
 
 -- it is decided on the machine of the state in which it is carried out
 pub decision_can : (v : State) (j : ℕ) (q : Whole) (a : Ask) → Prepared v j q a → IfSome q.job.console (λ c. c < 8) → DecisionCan (decision v.raw j q a) j v
-unfolding decision view finds finds_pages
 decision_can v j q a c h =
-    decided_can_by j v (view v.raw j q (target q a)) a (a.fail == 0) refl (record { consoles = refl; own = h; job = c.job; files = refl; outlines = refl; limit = refl }) c.unmarked (finds v j q a c)
-    (finds_pages v j q a c)
+    let b : Beside = record { files = v.mark ≡ None; page = v.reserved j ≡ Some quarters; tree = Removable v } in
+    decision_on b (decision v.raw j q a) j v (record { files = λ x. x; page = λ x. x; tree = λ s x. x })
+    (plain_can b v.raw j q a c.forest c.job (record { files = c.unmarked; page = c.full; tree = λ z e s at write is. removable v j s at q a write c z e is }) h)
 
 -- a call that has no argument for a channel on a job reaches into none
 target_none : (q : Whole) (a : Ask) → argument_of (call_named a.name) ≡ None → target q a ≡ None

@@ -1,15 +1,13 @@
 -- A tree of jobs that is swept slot by slot, and then removed, is the removal of the plain machine.
-use Rattle.std.specs.Prelude.{if◌then◌else◌, ◌≡◌, ◌≢◌, ◌≤◌, ◌<◌, ◌+◌, ◌==◌, ℕ, suc, Bool, true, false, Option, Some, None, List, [], is_some, is_none, option_map, sum_by, length, slice_index_or, slice_set, refl}
-use Rattle.std.specs.List.{range_with_len}
+use Rattle.std.specs.Prelude.{if◌then◌else◌, ◌≡◌, ◌≤◌, ◌<◌, ◌+◌, ◌==◌, ℕ, suc, Bool, true, false, Option, Some, None, List, [], is_some, is_none, option_map, slice_index_or, refl}
 use Rattle.its_word.specs.Console.{Console}
 use Rattle.std.proofs.Common.{sym, ◌∙◌, ap, subst, arith, inl, inr}
-use Rattle.std.proofs.lemmas.Bool.{cases_Bool, cases_eq, cases_lt, eq-eqb, ne_eqb}
-use Rattle.std.proofs.lemmas.List.{get_or-set_same, get_or-set_other, get_or_past}
+use Rattle.std.proofs.lemmas.Bool.{cases_Bool, cases_eq, cases_lt, ne_eqb}
+use Rattle.std.proofs.lemmas.List.{get_or_past}
 use Rattle.its_word.specs.ArrayVec.{ArrayVec}
 use Rattle.its_word.specs.Core.{Core, no_core}
 use Rattle.its_word.specs.Limits.{slots}
 use Rattle.its_word.specs.Tree.{is_below}
-use Rattle.its_word.specs.declared.jobs.Channel.{Channel}
 use Rattle.its_word.specs.declared.jobs.Channel.TheVariants as channels
 use Rattle.its_word.specs.declared.jobs.Job.{Job}
 use Rattle.its_core.specs.Cores.{core_at, clear_at}
@@ -23,7 +21,7 @@ use Rattle.its_jobs.specs.Table.{Table, job_at, superior_at, in_tree, IsTree, Wi
 use Rattle.its_jobs.proofs.TreeLaws.{past_none}
 use Rattle.its_plain.specs.Machine.{Shut, Symbol, Whole}
 use Rattle.its_plain.specs.Own.{on_channel}
-use Rattle.its_plain.specs.Change.{with_alarm, on_slot, channel_in, chan_left, shut_on, left_job, superior_in, superiors, is_gone, passed_on, symbols_left, removed, effect}
+use Rattle.its_plain.specs.Change.{with_alarm, on_slot, channel_in, shut_on, left_job, superior_in, superiors, is_gone, passed_on, symbols_left, removed, effect}
 use Rattle.its_plain.specs.OperatorClock.{alarm_in, clock_end}
 use Rattle.its_plain.proofs.MachineLaws.{machine_is}
 use Rattle.its_stepped.specs.Commit.{effect_on}
@@ -38,7 +36,7 @@ use Rattle.its_world.specs.Rings.{lists_to}
 use Rattle.its_world.specs.Filed.{Ringed, Resettled}
 use Rattle.its_world.proofs.PlaceLaws.{removed_ringed}
 use Rattle.its_world.specs.Storage.{chan_in}
-use Rattle.its_parts.specs.Across.{channel_by, channel_at, tally, reads, writes, Across}
+use Rattle.its_parts.specs.Across.{channel_by, channel_at, Across}
 use Rattle.its_world.specs.Tidy.{Tidy}
 use Rattle.its_world.specs.World.{chan_of, mark_of, bare, alarm_at, AlarmBecomes, raw_of, raw_at, frame_at, console_at, holder_at, symbols_at, state_of, in_raw, with_frames, Becomes, CoreBecomes, FrameBecomes, JobBecomes}
 use Rattle.its_world.specs.declared.world.World.{World}
@@ -46,7 +44,8 @@ use Rattle.its_world.proofs.StateLaws.{state_is, raw_others, changed_state, abse
 use Rattle.its_world.proofs.AlarmLaws.{alarm_state}
 use Rattle.its_world.proofs.MappedLaws.{frames_tidy}
 use Rattle.its_world.proofs.StorageLaws.{chan_is, chan_shut, frame_is}
-use Rattle.its_parts.proofs.AcrossLaws.{across_table}
+use Rattle.its_parts.proofs.AcrossLaws.{across_alike, across_table, same_alike}
+use Rattle.its_parts.proofs.LeftLaws.{left_alike, left_chan, raw_superior, shut_here, shut_there}
 use Rattle.its_word.proofs.ClimbLaws.{or_second}
 use Rattle.its_stepped.proofs.KeptLaws.{user_page}
 
@@ -55,13 +54,9 @@ abbrev Forgotten : Table → List (ArrayVec Symbol) → List (ArrayVec Symbol) �
 Forgotten t old new = (k : ℕ) → symbols_at new k ≡ symbols_left (is_none (job_at t k)) (symbols_at old k)
 
 -- the superiors of the raw machine are those of the jobs
-superior_by : (t : Store) (c : Core) (s : Option ℕ) (a : Option (ℕ × ℕ)) (o : Option Job) → (o ≡ None → s ≡ None) → superior_in (raw_of t c s a o) ≡ s
-superior_by t c s a (Some j) h = refl
-superior_by t c s a None h = sym (h refl)
-
 pub superiors_are : (w : World) → IsTree w.jobs.jobs w.jobs.superiors → superiors (state_of w).raw ≡ superior_at w.jobs
 unfolding state_of
-superiors_are w t = λ i k. superior_by w.files (core_at w.core k) (superior_at w.jobs k) (alarm_at w.alarms.items k) (job_at w.jobs k) (t.owned k) i
+superiors_are w t = λ i k. raw_superior w.files w.core w.jobs w.alarms.items k t i
 
 tree_gone : (w : World) (r : ℕ) → IsTree w.jobs.jobs w.jobs.superiors → in_tree (superior_at w.jobs) r ≡ is_gone (superiors (state_of w).raw) r
 tree_gone w r t = ap (λ sup. in_tree sup r) (sym (superiors_are w t))
@@ -153,14 +148,6 @@ shut_row : (w : State) (s n : ℕ) → effect_on (changes.Shut n) s w ≡ in_raw
 unfolding effect_on effect
 shut_row w s n = refl
 
-shut_here : (o : Option Whole) (n : ℕ) → channel_in (option_map (on_channel n (λ c. Shut)) o) n ≡ Shut
-shut_here (Some q) n = rw (eq-eqb n n refl) refl
-shut_here None n = refl
-
-shut_other : (o : Option Whole) (n m : ℕ) → m ≢ n → channel_in (option_map (on_channel n (λ c. Shut)) o) m ≡ channel_in o m
-shut_other (Some q) n m ne = rw (ne_eqb m n ne) refl
-shut_other None n m ne = refl
-
 pub closing_start : (w : State) (s : ℕ) → Closes w w s 0
 closing_start w s = record { alone = alone_same w s; frame = refl; closed = λ n l. absurd (omega arith) }
 
@@ -170,7 +157,7 @@ closing_next w v s n a = record {
   frame = a.frame;
   closed = λ m l. ap (λ o. channel_in o m) (on_slot_here v.raw.jobs s (on_channel n (λ c. Shut))) ∙ elim (cases_eq m n) [
     | inl e ↦ ap (λ i. channel_in (option_map (on_channel n (λ c. Shut)) (v.raw.jobs s)) i) e ∙ shut_here (v.raw.jobs s) n
-    | inr ne ↦ shut_other (v.raw.jobs s) n m ne ∙ a.closed m (omega arith)
+    | inr ne ↦ shut_there (v.raw.jobs s) n m ne ∙ a.closed m (omega arith)
   ];
 }
 
@@ -212,18 +199,6 @@ tidy_bare old new s b tidy =
     (tidy_becomes old (with_frames new old.core.frames) s no_core (job_at old.jobs s) (frame_at old.frames.items s) (clear_at old.core s) b (λ h. refl) (λ h. h) (λ n. refl) tidy)
 
 -- the channels of a job that stays
-chan_gone_by : (t : Store) (b : Bool) (s : ℕ) (w : Bool) (at : ℕ) → chan_of t (if b then channels.Closed else channels.Usr s w at) ≡ (if b then chan_of t channels.Closed else chan_of t (channels.Usr s w at))
-chan_gone_by t true s w at = refl
-chan_gone_by t false s w at = refl
-
-chan_gone : (t : Store) (gone : ℕ → Bool) (c : Channel) → chan_of t (channel_left gone c) ≡ chan_left gone (chan_of t c)
-chan_gone t gone channels.Closed = refl
-chan_gone t gone channels.TtyIn = refl
-chan_gone t gone channels.TtyOut = refl
-chan_gone t gone (channels.Reading f at) = refl
-chan_gone t gone (channels.Writing d) = refl
-chan_gone t gone (channels.Usr s w at) = chan_gone_by t (gone s) s w at
-
 pub shut_some : (gone : ℕ → Bool) (old new : World) (s : ℕ) (j i : Job) → job_at old.jobs s ≡ Some j → bare i ≡ bare j
     → ((n : ℕ) → slice_index_or i.channels n channels.Closed ≡ channel_left gone (slice_index_or j.channels n channels.Closed))
     → JobBecomes old new s i → state_of new ≡ in_raw (state_of old) s (shut_on gone)
@@ -232,64 +207,11 @@ shut_some gone old new s j i is e h b = changed_state old new s (core_at old.cor
   job = sym e t;
   superior = superior_at old.jobs s;
   alarm = alarm_at old.alarms.items s;
-  channels = λ n. sym (ap (chan_of old.files) (h n) ∙ chan_gone old.files gone (slice_index_or j.channels n channels.Closed)) t;
+  channels = λ n. sym (ap (chan_of old.files) (h n) ∙ left_chan old.files gone (slice_index_or j.channels n channels.Closed)) t;
 })
 
 pub shut_none : (gone : ℕ → Bool) (w : World) (s : ℕ) → job_at w.jobs s ≡ None → state_of w ≡ in_raw (state_of w) s (shut_on gone)
 shut_none gone w s none = absent_state w s (shut_on gone) none
-
--- channels on jobs count for no file and no draft
-tally_alike : (w : Channel → ℕ) (cs ds : ℕ → ℕ → Channel) → ((k n : ℕ) → w (ds k n) ≡ w (cs k n)) → tally w ds ≡ tally w cs
-unfolding tally
-tally_alike w cs ds same = λ i. sum_by (λ k. sum_by (λ n. same k n i) (range_with_len 0 16)) (range_with_len 0 slots)
-
-reads_left : (gone : ℕ → Bool) (f : ℕ) (c : Channel) → reads f (channel_left gone c) ≡ reads f c
-reads_left gone f channels.Closed = refl
-reads_left gone f channels.TtyIn = refl
-reads_left gone f channels.TtyOut = refl
-reads_left gone f (channels.Reading g at) = refl
-reads_left gone f (channels.Writing d) = refl
-reads_left gone f (channels.Usr s w at) = go (gone s)
-  where
-    go : (b : Bool) → reads f (if b then channels.Closed else channels.Usr s w at) ≡ 0
-    go true = refl
-    go false = refl
-
-writes_left : (gone : ℕ → Bool) (d : ℕ) (c : Channel) → writes d (channel_left gone c) ≡ writes d c
-writes_left gone d channels.Closed = refl
-writes_left gone d channels.TtyIn = refl
-writes_left gone d channels.TtyOut = refl
-writes_left gone d (channels.Reading g at) = refl
-writes_left gone d (channels.Writing e) = refl
-writes_left gone d (channels.Usr s w at) = go (gone s)
-  where
-    go : (b : Bool) → writes d (if b then channels.Closed else channels.Usr s w at) ≡ 0
-    go true = refl
-    go false = refl
-
--- each channel is as it was, or is closed where it was on a job that is gone
-record LeftBy (gone : ℕ → Bool) (c d : Channel) : Type 0 where
-  closed : c ≡ channels.Closed → d ≡ channels.Closed
-  read : (f : ℕ) → reads f d ≡ reads f c
-  written : (e : ℕ) → writes e d ≡ writes e c
-
-left_same : (gone : ℕ → Bool) (c d : Channel) → d ≡ c → LeftBy gone c d
-left_same gone c d e = record { closed = λ h. e ∙ h; read = λ f. ap (reads f) e; written = λ k. ap (writes k) e }
-
-left_gone : (gone : ℕ → Bool) (c d : Channel) → d ≡ channel_left gone c → LeftBy gone c d
-left_gone gone c d e = record {
-  closed = λ h. e ∙ ap (channel_left gone) h;
-  read = λ f. ap (reads f) e ∙ reads_left gone f c;
-  written = λ k. ap (writes k) e ∙ writes_left gone k c;
-}
-
-left_across : (s : Store) (t u : Table) (gone : ℕ → Bool) → ((k n : ℕ) → LeftBy gone (channel_at t k n) (channel_at u k n)) → Across s t → Across s u
-left_across s t u gone h a = record {
-  past_slots = λ k n l. (h k n).closed (a.past_slots k n l);
-  past_numbers = λ k n l. (h k n).closed (a.past_numbers k n l);
-  read = λ f. tally_alike (reads f) (channel_at t) (channel_at u) (λ k n. (h k n).read f) ∙ a.read f;
-  written = λ d. tally_alike (writes d) (channel_at t) (channel_at u) (λ k n. (h k n).written d) ∙ a.written d;
-}
 
 pub shut_tidy : (gone : ℕ → Bool) (old new : World) (s : ℕ) (j i : Job) → job_at old.jobs s ≡ Some j
     → ((n : ℕ) → slice_index_or i.channels n channels.Closed ≡ channel_left gone (slice_index_or j.channels n channels.Closed))
@@ -305,13 +227,13 @@ shut_tidy gone old new s j i is h b tidy = record {
   ];
   timed = subst (λ t. t < clock_end) (sym b.clock) tidy.timed;
   across = subst (λ (t : Store). Across t new.jobs) (sym b.files)
-      (left_across old.files old.jobs new.jobs gone (λ k n. elim (cases_eq k s) [
+      (across_alike old.files old.jobs new.jobs tidy.across (λ k n. elim (cases_eq k s) [
         | inl e ↦
-            left_gone gone (channel_at old.jobs k n) (channel_at new.jobs k n)
+            left_alike gone (channel_at old.jobs k n) (channel_at new.jobs k n)
             (ap (λ m. channel_at new.jobs m n) e ∙ ap (λ o. channel_by o n) b.job.here ∙ h n
             ∙ ap (λ o. channel_left gone (channel_by o n)) (sym is) ∙ ap (λ m. channel_left gone (channel_at old.jobs m n)) (sym e))
-        | inr ne ↦ left_same gone (channel_at old.jobs k n) (channel_at new.jobs k n) (ap (λ o. channel_by o n) (b.job.others k ne))
-      ]) tidy.across);
+        | inr ne ↦ same_alike (channel_at old.jobs k n) (channel_at new.jobs k n) (ap (λ o. channel_by o n) (b.job.others k ne))
+      ]));
   nameless = λ k none. ap (λ l. symbols_at l.items k) b.symbols ∙ tidy.nameless k (elim (cases_eq k s) [
     | inl e ↦ let wrong : None ≡ Some i = sym none ∙ ap (job_at new.jobs) e ∙ b.job.here in absurd cc
     | inr ne ↦ sym (b.job.others k ne) ∙ none
@@ -449,31 +371,6 @@ pub swept_more : (old mid new : World) (r n : ℕ) → Swept (is_gone (superiors
 swept_more old mid new r n a b tidy =
     let same : superiors (state_of mid).raw ≡ superiors (state_of old).raw = λ i k. a.shared.superiors k i in
     swept_next (is_gone (superiors (state_of old).raw) r) old mid new n a (subst (λ sup. Sweeps (is_gone sup r) mid new n) same b) tidy
-
--- a list to each of whose items f is done, of which the first n are done
-pub record Turning {X : Type 0} (f : X → X) (d : X) (old new : List X) (n : ℕ) : Type 0 where
-  pub done : (k : ℕ) → k < n → slice_index_or new k d ≡ f (slice_index_or old k d)
-  pub rest : (k : ℕ) → n ≤ k → slice_index_or new k d ≡ slice_index_or old k d
-
-pub turning_start : {X : Type 0} → (f : X → X) (d : X) (xs : List X) → Turning f d xs xs 0
-turning_start f d xs = record { done = λ k l. absurd (omega arith); rest = λ k l. refl }
-
-pub turning_more : {X : Type 0} → (f : X → X) (d : X) (old new : List X) (n : ℕ) (x y : X) → n < length new → x ≡ slice_index_or new n d → y ≡ f x
-    → Turning f d old new n → Turning f d old (slice_set new n y) (n + 1)
-turning_more f d old new n x y l e h s = record {
-  done = λ k less. elim (cases_eq k n) [
-    | inl i ↦ rw (i, get_or-set_same new n y d l) (h ∙ ap f (e ∙ s.rest n (omega arith)))
-    | inr ne ↦ get_or-set_other new n k y d ne ∙ s.done k (omega arith)
-  ];
-  rest = λ k less. get_or-set_other new n k y d (λ i. omega arith) ∙ s.rest k (omega arith);
-}
-
-pub turning_end : {X : Type 0} → (f : X → X) (d : X) (old new : List X) (n : ℕ) → f d ≡ d → length old ≤ n → Turning f d old new n
-    → (k : ℕ) → slice_index_or new k d ≡ f (slice_index_or old k d)
-turning_end f d old new n past l s k = elim (cases_lt k n) [
-  | inl less ↦ s.done k less
-  | inr more ↦ s.rest k more ∙ get_or_past old k d (omega arith) ∙ sym (ap f (get_or_past old k d (omega arith)) ∙ past)
-]
 
 -- a slot past the last has no job, and is not gone
 none_there : (w : World) (k : ℕ) → IsTree w.jobs.jobs w.jobs.superiors → slots ≤ k → (state_of w).raw.jobs k ≡ None

@@ -2,7 +2,7 @@
 use Rattle.std.specs.Prelude.{◌≡◌, ◌≢◌, ◌<◌, ◌≤◌, ℕ, zero, suc, ◌+◌, ◌-◌, Bool, true, false, Option, Some, None, IfSome, is_some, List, [], ◌∷◌, length, slice_index_or, slice_get, unwrap_or, Result, Ok, Err, ◌%◌, ◌^◌, refl}
 use Rattle.std.specs.List.{remove}
 use Rattle.its_frame.specs.Left.{kept}
-use Rattle.its_pclsr.specs.Owed.{is_file, Marks, Begins, IsNext}
+use Rattle.its_pclsr.specs.Owed.{is_file, Marks, FirstPart, IsNext}
 use Rattle.its_pclsr.specs.Parts.{NextMade}
 use Rattle.std.proofs.Common.{arith, sym, ap, ◌∙◌, subst, drop}
 use Rattle.std.proofs.lemmas.Bool.{eqb-true}
@@ -232,7 +232,7 @@ no_file (GiveBack ∷ os) o ds e = let h : GiveBack ≡ o = cc in ap is_file (sy
 no_file (owed.Store a w ∷ os) o ds e = let h : owed.Store a w ≡ o = cc in ap is_file (sym h)
 no_file (Leave x ∷ os) o ds e = let h : Leave x ≡ o = cc in ap is_file (sym h)
 
-begins : (ps qs : List Part) (p : Part) → p ∷ qs ≡ ps → Begins ps p
+begins : (ps qs : List Part) (p : Part) → p ∷ qs ≡ ps → FirstPart ps p
 begins (x ∷ ps) qs p e = cc
 begins [] qs p e = cc
 

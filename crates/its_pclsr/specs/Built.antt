@@ -1,7 +1,7 @@
 -- The changes that can be made.
-use Rattle.std.specs.Prelude.{◌≡◌, ◌<◌, ℕ, ◌^◌, Bool, true, false, Some, None, is_some, List, [], ◌∷◌, length}
+use Rattle.std.specs.Prelude.{◌≡◌, ◌<◌, ℕ, Bool, true, false, Some, None, List, [], ◌∷◌, length}
 use Rattle.its_word.specs.Console.{most_waiting}
-use Rattle.its_word.specs.Core.{can_store, page_of}
+use Rattle.its_word.specs.Core.{page_of}
 use Rattle.its_word.specs.Limits.{slots, most_pages}
 use Rattle.its_word.specs.Tree.{least_free, is_below}
 use Rattle.its_word.specs.declared.calls.Owed.{Owed}
@@ -14,10 +14,11 @@ use Rattle.its_plain.specs.CallFile.{has_file}
 use Rattle.its_plain.specs.Change.{superiors, is_gone}
 use Rattle.its_plain.specs.Machine.{Shut, core_of, mapped, limit}
 use Rattle.its_plain.specs.Own.{names_of}
+use Rattle.its_parts.specs.Can.{Pokes, HasPage}
 use Rattle.its_stepped.specs.Commit.{effect_on}
 use Rattle.its_stepped.specs.Sound.{Sound}
 use Rattle.its_stepped.specs.State.{State}
-use Rattle.its_world.specs.Storage.{HasJob, chan_in, IsDraft, Unread, HasRoom, Closes}
+use Rattle.its_world.specs.Storage.{HasJob, chan_in, IsDraft, Unread, HasRoom, CanClose}
 
 -- a closed channel of slot j's job can be opened: on a console or on another job, or where no close is half made on a file
 -- that there is, or on a new draft
@@ -33,19 +34,6 @@ pub record Removable (w : State) (s : ℕ) : Type 0 where
   pub sound : Sound w
   pub unwound : (k : ℕ) → is_below (superiors w.raw) s k ≡ true → w.frames k ≡ None
   pub page : w.reserved s ≡ None
-
--- a word of the job of slot s can be stored, at an address that there is
-pub record Pokes (w : State) (s a : ℕ) : Type 0 where
-  pub slot : s < slots
-  pub address : a < 2 ^ 18
-  pub job : HasJob w s
-  pub can : can_store (core_of (w.raw.jobs s)) a ≡ true
-
--- a page of the job of slot s is there
-pub record HasPage (w : State) (s k : ℕ) : Type 0 where
-  pub slot : s < slots
-  pub job : HasJob w s
-  pub there : is_some (page_of (core_of (w.raw.jobs s)) k) ≡ true
 
 -- the page that slot j has reserved, of which four quarters are clear, can be mapped: it is not there yet, and there is room
 pub record Maps (w : State) (j s k : ℕ) : Type 0 where
@@ -63,7 +51,8 @@ CanMake (changes.Open n on) j w = (n < 16) × HasJob w j × (chan_in w j n ≡ S
 CanMake (changes.Shut n) j w = n < 16
 CanMake (changes.Move n at) j w = n < 16
 CanMake (changes.Append n x) j w = (n < 16) × (w.mark ≡ None) × HasRoom w (chan_in w j n)
-CanMake (changes.Close n) j w = (n < 16) × HasJob w j × (w.mark ≡ None) × IsDraft (chan_in w j n) × Closes w (chan_in w j n)
+CanMake (changes.Close n) j w =
+    (n < 16) × HasJob w j × (w.mark ≡ None) × IsDraft (chan_in w j n) × CanClose w (chan_in w j n)
 CanMake (changes.Delete d x y) j w = (w.mark ≡ None) × Unread w (names_of d x y)
 CanMake (changes.Rename d x y u v) j w = (w.mark ≡ None) × Unread w (names_of d x y) × (has_file (names_of d u v) w.raw.files ≡ false)
 CanMake (changes.Take c) j w = c < 8
@@ -72,12 +61,12 @@ CanMake (changes.Hold c s) j w = c < 8
 CanMake (changes.Inform s) j w = Unit {0}
 CanMake (changes.Arm alarm) j w = Unit {0}
 CanMake (changes.Set s v x) j w = Unit {0}
-CanMake (changes.Poke s a x) j w = Pokes w s a
+CanMake (changes.Poke s a x) j w = Pokes w.raw s a
 CanMake (changes.Make s u n) j w = HasJob w j × (least_free (limit w.raw) w.raw.jobs ≡ Some s)
 CanMake (changes.Remove s) j w = (s < slots) × HasJob w s × (is_gone (superiors w.raw) s j ≡ false) × Removable w s
 CanMake (changes.Map s k) j w = Maps w j s k
-CanMake (changes.Unmap s k) j w = HasPage w s k
-CanMake (changes.Protect s k on) j w = HasPage w s k
+CanMake (changes.Unmap s k) j w = HasPage w.raw s k
+CanMake (changes.Protect s k on) j w = HasPage w.raw s k
 
 -- each of several can be made, of slot j's call, after those before it
 abbrev pub CanMakeAll : List Change → ℕ → State → Type 0

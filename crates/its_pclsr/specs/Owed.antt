@@ -24,10 +24,10 @@ Marks (Some m) j os = m.owner ≡ j → file_parts os ≡ m.parts
 Marks None j os = Unit {0}
 
 -- a part is the next of a marked close
-abbrev pub Begins : List Part → Part → Type 0
-Begins (p ∷ ps) q = p ≡ q
-Begins [] q = ⊥
+abbrev pub FirstPart : List Part → Part → Type 0
+FirstPart (p ∷ ps) q = p ≡ q
+FirstPart [] q = ⊥
 
 abbrev pub IsNext : Option Mark → Part → Type 0
-IsNext (Some m) q = Begins m.parts q
+IsNext (Some m) q = FirstPart m.parts q
 IsNext None q = Unit {0}

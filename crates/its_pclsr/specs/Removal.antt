@@ -1,7 +1,6 @@
 -- What a removal leaves of a slot.
 use Rattle.std.specs.Prelude.{if◌then◌else◌, ◌≡◌, ◌≢◌, ◌≤◌, ◌<◌, ℕ, Bool, true, false, None, option_map}
 use Rattle.its_word.specs.Core.{no_core}
-use Rattle.its_word.specs.declared.jobs.Channel.{Channel}
 use Rattle.its_word.specs.declared.jobs.Channel.TheVariants as channels
 use Rattle.its_core.specs.Cores.{core_at}
 use Rattle.its_core.specs.Frames.{frames_drop_all}
@@ -13,18 +12,10 @@ use Rattle.its_stepped.specs.SlotSame.{SlotSame}
 use Rattle.its_stepped.specs.State.{State}
 use Rattle.its_world.specs.Storage.{chan_in, IsElsewhere}
 use Rattle.its_world.specs.Tidy.{channel_at}
+pub use Rattle.its_parts.specs.Across.{channel_left}
 use Rattle.its_world.specs.World.{alarm_at, state_of}
 use Rattle.its_pclsr.specs.Pages.{pages_swept}
 use Rattle.its_world.specs.declared.world.World.{World}
-
--- a channel on a job that is gone is closed
-abbrev pub channel_left : (ℕ → Bool) → Channel → Channel
-channel_left gone (channels.Usr s w at) = if gone s then channels.Closed else channels.Usr s w at
-channel_left gone channels.Closed = channels.Closed
-channel_left gone channels.TtyIn = channels.TtyIn
-channel_left gone channels.TtyOut = channels.TtyOut
-channel_left gone (channels.Reading f at) = channels.Reading f at
-channel_left gone (channels.Writing d) = channels.Writing d
 
 -- what slots share is as it was, and so are the superiors of jobs
 pub record Shared (old new : State) : Type 0 where

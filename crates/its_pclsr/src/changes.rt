@@ -11,7 +11,8 @@ ghost use Rattle.its_plain.specs.Own.{with_registers, with_stores, with_variable
 ghost use Rattle.its_stepped.specs.Commit.{effect_on, effects_on};
 ghost use Rattle.its_stepped.specs.Lines.{with_raw};
 ghost use Rattle.its_world.specs.Tidy.{Tidy};
-ghost use Rattle.its_pclsr.specs.Built.{CanMake, CanMakeAll, CanOpen, HasPage, Maps};
+ghost use Rattle.its_parts.specs.Can.{HasPage};
+ghost use Rattle.its_pclsr.specs.Built.{CanMake, CanMakeAll, CanOpen, Maps};
 ghost use Rattle.its_pclsr.specs.Pages.{all_pages_changed, pages_changed};
 ghost use Rattle.its_world.specs.Storage.{HasJob, chan_in};
 ghost use Rattle.its_world.specs.World.{state_of, in_raw};
@@ -241,7 +242,7 @@ fn map(w: &mut World, slot: u8, target: u8, page: u8)
 /// A page of a slot's job is dropped.
 #[tactic(auto, using(crate::proofs::ChangeLaws::page_there))]
 fn unmap(w: &mut World, slot: u8, page: u8)
-    requires can { HasPage (state_of w.old) slot page }
+    requires can { HasPage (state_of w.old).raw slot page }
     requires tidy { Tidy w.old }
     ensures row { state_of w.new ≡ in_raw (state_of w.old) slot (with_page_at page None) }
     ensures pages { w.new.core.frames ≡ frames_unmap slot page w.old.core.frames }
@@ -253,7 +254,7 @@ fn unmap(w: &mut World, slot: u8, page: u8)
 /// A page of a slot's job is made writable or read only.
 #[tactic(auto, using(crate::proofs::ChangeLaws::page_there))]
 fn protect(w: &mut World, slot: u8, page: u8, writable: bool)
-    requires can { HasPage (state_of w.old) slot page }
+    requires can { HasPage (state_of w.old).raw slot page }
     requires tidy { Tidy w.old }
     ensures row { state_of w.new ≡ in_raw (state_of w.old) slot (protected page writable) }
     ensures pages { w.new.core.frames ≡ w.old.core.frames }

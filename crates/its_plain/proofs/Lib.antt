@@ -9,3 +9,4 @@ pub mod StepLaws
 pub mod TranscriptExamples
 pub mod FairLaws
 pub mod UnrolledLaws
+pub mod TargetLaws

@@ -12,7 +12,7 @@ use Rattle.its_word.specs.declared.show.PeekState.TheVariants.{User, Entered, Pa
 use Rattle.its_word.proofs.DigitLaws.{few_digits, few_for_count}
 use Rattle.its_word.proofs.SpacedLaws.{length_spaced, room_of}
 use Rattle.its_asm.proofs.TypeLaws.{typed_short}
-use Rattle.its_print.specs.Printing.{Line, Loaded, Ticks, Typed, Drained, Words, Listed, State, Peeked, Dir, Filed, Shown, Row, Refused, letter_of, run_of, runs_from, runs_of, word_or_dash, number_or_dash, run_or_stop, state_name, reason_name, first_of, symbol_or_dashes, symbol_fields, fields_of, text_of_line}
+use Rattle.its_print.specs.Printing.{Line, Loaded, Ticks, Typed, Drained, Words, Listed, State, Peeked, Dir, Filed, Shown, Row, Refused, letter_of, run_of, runs_from, runs_of, word_or_dash, number_or_dash, run_or_stop, state_name, reason_name, keyword, symbol_or_dashes, symbol_fields, fields_of, text_of_line}
 use Rattle.its_print.specs.Sizes.{Fits8, Fits32, IsPrinted}
 
 length-octal12 : (w : ℕ) → length (octal12_of w) ≡ 12
@@ -117,7 +117,7 @@ room_of_fields (Shown d x y k) h = omega (arith, length-octal12 d, length-octal1
 room_of_fields (Row words) h = omega (arith, room_of_words words, h)
 room_of_fields (Refused n reason) h = omega (arith, few32 n h, length-reason reason)
 
-length-first : (l : Line) → length (first_of l) ≡ 1
+length-first : (l : Line) → length (keyword l) ≡ 1
 length-first (Loaded s) = refl
 length-first (Ticks s paces) = refl
 length-first (Typed c dropped) = refl
@@ -135,4 +135,4 @@ length-first (Refused n reason) = refl
 pub longest : (l : Line) → IsPrinted l → length (text_of_line l) ≤ 1543
 unfolding text_of_line
 longest l h =
-    omega (arith, length-append (spaced (first_of l) (fields_of l)) (10 ∷ []), length_spaced (first_of l) (fields_of l), room_of_fields l h, length-first l)
+    omega (arith, length-append (spaced (keyword l) (fields_of l)) (10 ∷ []), length_spaced (keyword l) (fields_of l), room_of_fields l h, length-first l)

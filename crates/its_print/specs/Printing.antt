@@ -137,24 +137,24 @@ fields_of (Row words) = map octal12_of words
 fields_of (Refused n reason) = digits_of n ∷ reason_name reason ∷ []
 
 -- its first word
-abbrev pub first_of : Line → List ℕ
-first_of (Loaded s) = codes "J"
-first_of (Ticks s paces) = codes "T"
-first_of (Typed c dropped) = codes "Y"
-first_of (Drained c bytes) = codes "D"
-first_of (Words s a words) = codes "E"
-first_of (Listed s a word) = codes "L"
-first_of (State v s show) = codes "S"
-first_of (Peeked s peek) = codes "P"
-first_of (Dir d n) = codes "R"
-first_of (Filed show) = codes "F"
-first_of (Shown d x y k) = codes "W"
-first_of (Row words) = codes "/"
-first_of (Refused n reason) = codes "?"
+abbrev pub keyword : Line → List ℕ
+keyword (Loaded s) = codes "J"
+keyword (Ticks s paces) = codes "T"
+keyword (Typed c dropped) = codes "Y"
+keyword (Drained c bytes) = codes "D"
+keyword (Words s a words) = codes "E"
+keyword (Listed s a word) = codes "L"
+keyword (State v s show) = codes "S"
+keyword (Peeked s peek) = codes "P"
+keyword (Dir d n) = codes "R"
+keyword (Filed show) = codes "F"
+keyword (Shown d x y k) = codes "W"
+keyword (Row words) = codes "/"
+keyword (Refused n reason) = codes "?"
 
 -- a line's words with one space between two, and LF
 unfoldable pub text_of_line : Line → List ℕ
-text_of_line line = spaced (first_of line) (fields_of line) ++ 10 ∷ []
+text_of_line line = spaced (keyword line) (fields_of line) ++ 10 ∷ []
 
 -- the text of a transcript
 unfoldable pub text : List Line → List ℕ

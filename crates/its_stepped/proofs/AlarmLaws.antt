@@ -26,7 +26,7 @@ use Rattle.its_plain.specs.OperatorClock.{alarm_in, due, rung_if, at_clock}
 use Rattle.its_plain.specs.Own.{on_channel}
 use Rattle.its_plain.proofs.CallLineLaws.{AlarmsKept, Same, Went, LineKeepsBy, line_keeps}
 use Rattle.its_plain.proofs.StepLaws.{AllOf, step_has}
-use Rattle.its_stepped.specs.Alarmed.{Coming, Alarmed}
+use Rattle.its_stepped.specs.Alarmed.{Coming, Periodic, Alarmed}
 use Rattle.its_stepped.specs.Forest.{Forest}
 use Rattle.its_stepped.proofs.FitLaws.{decision_fits}
 use Rattle.its_stepped.proofs.ForestLaws.{forest_few, Fits, AllFit, FitsAll, informs_fit}
@@ -130,6 +130,10 @@ step_alarmed m n j forest h e = step_has Alarmed m n j (λ q is.
       faults = λ f. job_alarmed m j _ (λ i. refl) h;
       calls = λ a. acted_alarmed m j a (reach m j q a) (decision m j q a) (decision_fits m j q a forest is) h;
     }) e
+
+pub coming_periodic : (c : ℕ) (o : Option (ℕ × ℕ)) → IfSome o (λ a. Coming c a) → IfSome o Periodic
+coming_periodic c (Some a) h = record { some = h.some; most = h.most }
+coming_periodic c None h = tt
 
 -- the next time of an alarm that goes is above the clock
 pub one_more : (k p : ℕ) → (k + 1) * p ≡ k * p + p

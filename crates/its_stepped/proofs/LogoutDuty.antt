@@ -26,7 +26,7 @@ use Rattle.its_stepped.specs.Duty.{Duty, parts_in}
 use Rattle.its_stepped.specs.Calling.{Calling}
 use Rattle.its_stepped.proofs.UnwindLaws.{among_first, among_later, among_more, among_filter, among_range}
 use Rattle.its_stepped.proofs.OwnLaws.{frame_none}
-use Rattle.its_stepped.proofs.TargetLaws.{reach_named}
+use Rattle.its_plain.proofs.TargetLaws.{reach_named}
 use Rattle.its_stepped.proofs.TestLaws.{no_page}
 use Rattle.its_stepped.proofs.ForestLaws.{forest_few}
 

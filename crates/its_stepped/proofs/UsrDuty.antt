@@ -30,7 +30,8 @@ use Rattle.its_stepped.specs.Duty.{AllSpare, Duty, parts_in}
 use Rattle.its_stepped.specs.Calling.{Decoding, Calling}
 use Rattle.its_stepped.proofs.UnwindLaws.{among_first}
 use Rattle.its_stepped.proofs.ForestLaws.{forest_below, on_inferior, forest_few}
-use Rattle.its_stepped.proofs.TargetLaws.{target_on, reach_named, Aimed, aimed_reached, aimed_on}
+use Rattle.its_plain.proofs.TargetLaws.{target_on, reach_named}
+use Rattle.its_stepped.proofs.TargetLaws.{Aimed, aimed_reached, aimed_on}
 use Rattle.its_stepped.proofs.TestLaws.{first_holds, ending_duty, fails_duty, faults_duty, nothing_duty, out_few}
 use Rattle.its_stepped.proofs.LogoutDuty.{among_left, among_right, among_below, gone_below}
 use Rattle.its_stepped.proofs.FileDuty.{changes_duty, iot_read_duty}

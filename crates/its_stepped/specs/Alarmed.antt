@@ -10,6 +10,11 @@ pub record Coming (c : ℕ) (a : ℕ × ℕ) : Type 0 where
   pub most : a.0 ≤ longest_period
   pub next : c < a.1
 
+-- an alarm whose next time can be found
+pub record Periodic (a : ℕ × ℕ) : Type 0 where
+  pub some : 1 ≤ a.0
+  pub most : a.0 ≤ longest_period
+
 -- each alarm is to come; an alarm is that of a job, so that a slot without a job has none
 pub record Alarmed (m : Machine) : Type 0 where
   pub each : (k : ℕ) → IfSome (alarm_in (m.jobs k)) (λ a. Coming m.clock a)

@@ -15,7 +15,7 @@ use Rattle.its_top.specs.declared.shown.Over.TheVariants as overs
 use Rattle.its_top.specs.declared.shown.Shown.{Shown}
 use Rattle.its_top.specs.declared.turn.Turn.{Turn}
 use Rattle.its_top.specs.declared.turn.Turn.TheVariants as turns
-use Rattle.its_top.specs.Telling.{said, after, Begins, items_say, Answers}
+use Rattle.its_top.specs.Telling.{said, after, BeginsText, items_say, Answers}
 use Rattle.its_top.specs.Answer.{WroteFor, Tells, Answered}
 use Rattle.its_top.specs.Performing.{lines_shown, turn_of, told_behind, Performed}
 use Rattle.its_top.proofs.EventLaws.{said_telling}
@@ -26,7 +26,7 @@ module _ (r : Result Shown Over) (n : ℕ) (v : State) (b : Block) (e : Event) (
   says items = ap said (p.tells n items) ∙ said_telling (lines_shown n r ps w) (told_behind r (told (n + 1) (state_of w) b' items))
 
   -- a write that failed
-  begins : (wrote more : List ℕ) → text (lines_shown n r ps w) ≡ wrote ++ more → (items : List Item) → Begins (items_say n v b (Read e ∷ items)) wrote
+  begins : (wrote more : List ℕ) → text (lines_shown n r ps w) ≡ wrote ++ more → (items : List Item) → BeginsText (items_say n v b (Read e ∷ items)) wrote
   begins wrote more h items =
       let rest = (said (told_behind r (told (n + 1) (state_of w) b' items))).text in
       record { more = more ++ rest; whole = ap (λ x. x.text) (says items) ∙ ap (λ x. x ++ rest) h ∙ append_assoc wrote more rest }
@@ -43,7 +43,7 @@ as_good : (turn good : Turn) (n : ℕ) (v v' : State) (b b' : Block) (e : Event)
 as_good turn good n v v' b b' e l w a h k = subst (λ t. Answers t n v b e v' b' w) (sym h) (subst (Answers good n v b e v' b') k a)
 
 by_turn : (turn good : Turn) (n : ℕ) (v v' : State) (b b' : Block) (e : Event) (l w : List ℕ) → Answers good n v b e v' b' l
-    → ((more : List ℕ) → l ≡ w ++ more → (items : List Item) → Begins (items_say n v b (Read e ∷ items)) w) → WroteFor turn good l w → Answers turn n v b e v' b' w
+    → ((more : List ℕ) → l ≡ w ++ more → (items : List Item) → BeginsText (items_say n v b (Read e ∷ items)) w) → WroteFor turn good l w → Answers turn n v b e v' b' w
 by_turn turns.Fault good n v v' b b' e l w a f c = f c.0 c.1
 by_turn turns.On good n v v' b b' e l w a f c = as_good turns.On good n v v' b b' e l w a c.0 c.1
 by_turn turns.Ended good n v v' b b' e l w a f c = as_good turns.Ended good n v v' b b' e l w a c.0 c.1

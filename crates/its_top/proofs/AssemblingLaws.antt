@@ -11,7 +11,7 @@ use Rattle.its_asm.specs.declared.reason.AsmFault.{AsmFault}
 use Rattle.its_asm.specs.declared.reason.AsmFault.TheVariants.{Line, NoMemory}
 use Rattle.its_image.specs.Text.{runs_past}
 use Rattle.its_image.specs.Written.{assembly_text}
-use Rattle.its_image.specs.Made.{Ends, IsRefusal, IsSession}
+use Rattle.its_image.specs.Made.{MadeFrom, IsRefusal, IsSession}
 use Rattle.its_image.proofs.FitLaws.{image_fits}
 use Rattle.its_image.proofs.LoadLaws.{image_whole}
 use Rattle.its_image.specs.declared.source.Made.TheVariants as mades
@@ -72,7 +72,7 @@ took_memory statuses.ReadFault good bytes w n f = λ k. cc
 took_memory statuses.TooLong good bytes w n f = λ k. cc
 took_memory statuses.Usage good bytes w n f = λ k. cc
 
-pub asm_session : (st : Status) (t : Vec ℕ) (left rest old new : Option (List ℕ)) → Ends (Ok (mades.Session t)) left rest → WroteText st statuses.Done t.items old new → Asm st left rest old new
+pub asm_session : (st : Status) (t : Vec ℕ) (left rest old new : Option (List ℕ)) → MadeFrom (Ok (mades.Session t)) left rest → WroteText st statuses.Done t.items old new → Asm st left rest old new
 asm_session st t left rest old new e w = record {
   read = e.read;
   wrote = w.wrote;
@@ -83,7 +83,7 @@ asm_session st t left rest old new e w = record {
   unwritten = λ k. absurd (took_memory st statuses.Done t.items w.wrote (λ j. cc) w.complete k);
 }
 
-pub asm_refusal : (st : Status) (t : ArrayVec ℕ) (left rest old new : Option (List ℕ)) → Ends (Ok (mades.Refusal t)) left rest → WroteText st statuses.Refused t.items old new → Asm st left rest old new
+pub asm_refusal : (st : Status) (t : ArrayVec ℕ) (left rest old new : Option (List ℕ)) → MadeFrom (Ok (mades.Refusal t)) left rest → WroteText st statuses.Refused t.items old new → Asm st left rest old new
 asm_refusal st t left rest old new e w = record {
   read = e.read;
   wrote = w.wrote;
@@ -94,7 +94,7 @@ asm_refusal st t left rest old new e w = record {
   unwritten = λ k. absurd (took_memory st statuses.Refused t.items w.wrote (λ j. cc) w.complete k);
 }
 
-pub asm_failed : (left rest out : Option (List ℕ)) → Ends (Err unmades.Failed) left rest → Asm statuses.ReadFault left rest out out
+pub asm_failed : (left rest out : Option (List ℕ)) → MadeFrom (Err unmades.Failed) left rest → Asm statuses.ReadFault left rest out out
 asm_failed left rest out e = record {
   read = e.read;
   wrote = [];
@@ -105,7 +105,7 @@ asm_failed left rest out e = record {
   unwritten = λ k. refl;
 }
 
-pub asm_beyond : (left rest out : Option (List ℕ)) → Ends (Err unmades.Beyond) left rest → Asm statuses.TooLong left rest out out
+pub asm_beyond : (left rest out : Option (List ℕ)) → MadeFrom (Err unmades.Beyond) left rest → Asm statuses.TooLong left rest out out
 asm_beyond left rest out e = record {
   read = e.read;
   wrote = [];
@@ -116,7 +116,7 @@ asm_beyond left rest out e = record {
   unwritten = λ k. refl;
 }
 
-pub asm_unmade : (left rest out : Option (List ℕ)) → Ends (Err unmades.NoMemory) left rest → Asm statuses.NoMemory left rest out out
+pub asm_unmade : (left rest out : Option (List ℕ)) → MadeFrom (Err unmades.NoMemory) left rest → Asm statuses.NoMemory left rest out out
 asm_unmade left rest out e = record {
   read = e.read;
   wrote = [];

@@ -22,7 +22,7 @@ use Rattle.its_stepped.specs.Lines.{calmed, paces_of, ticked, told}
 use Rattle.its_stepped.specs.Turns.{turned, turns, Stand, stand_after, followed, turned_from}
 use Rattle.its_top.specs.declared.turn.Turn.{Turn}
 use Rattle.its_top.specs.declared.turn.Turn.TheVariants as outcomes
-use Rattle.its_top.specs.Telling.{Says, said, after, Begins, items_say, session_says, Answers, FollowsBy, CircledBy, goes_on}
+use Rattle.its_top.specs.Telling.{Says, said, after, BeginsText, items_say, session_says, Answers, FollowsBy, CircledBy, goes_on}
 use Rattle.its_top.specs.Answer.{WroteFor, Tells, Answered, Follows, Circled, CircleSo, RunsSo}
 use Rattle.its_top.proofs.EventLaws.{after_after, text_one, said_telling}
 use Rattle.its_top.proofs.ConclusionLaws.{on_of}
@@ -58,7 +58,7 @@ run_says n v b i k q items = refl
 run_by : (turn : Turn) (n : ℕ) (v v' : State) (b : Block) (i j k q : ℕ) (w : List ℕ) → CircledBy turn v i k q v' j w → FollowsBy turn n v b i (events.Run k q) v' b j w
 unfolding session_says
 run_by outcomes.On n v v' b i j k q w c = (refl, λ items. run_says n v b i k q items ∙ c (n + 1) b (λ x l. turned_from x b l items))
-run_by outcomes.Fault n v v' b i j k q w c = λ items. subst (λ s. Begins s w) (sym (run_says n v b i k q items)) (c (n + 1) b (λ x l. turned_from x b l items))
+run_by outcomes.Fault n v v' b i j k q w c = λ items. subst (λ s. BeginsText s w) (sym (run_says n v b i k q items)) (c (n + 1) b (λ x l. turned_from x b l items))
 run_by outcomes.Ended n v v' b i j k q w c = absurd c
 run_by outcomes.Refused n v v' b i j k q w c = absurd c
 run_by outcomes.Beyond n v v' b i j k q w c = absurd c
@@ -113,7 +113,7 @@ circle_turn turn v now new i j s n k q old mid out below c e f g t =
     }
 
 -- its line was not written
-begun_by : (s t : Says) (v w more : List ℕ) → s ≡ after (v ++ (w ++ more)) t → Begins s (v ++ w)
+begun_by : (s t : Says) (v w more : List ℕ) → s ≡ after (v ++ (w ++ more)) t → BeginsText s (v ++ w)
 begun_by s t v w more e = record {
   more = more ++ t.text;
   whole = ap (λ (x : Says). x.text) e ∙ append_assoc v (w ++ more) t.text ∙ ap (λ x. v ++ x) (append_assoc w more t.text) ∙ sym (append_assoc v w (more ++ t.text));

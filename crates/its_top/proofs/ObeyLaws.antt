@@ -1,7 +1,7 @@
 -- From what the program did for a command to the promises of the top call.
-use Rattle.std.specs.Prelude.{◌≡◌, ◌≢◌, ◌⊎◌, ℕ, ◌+◌, true, false, Option, Some, None, IfSome, List, refl}
-use Rattle.std.proofs.Common.{sym, ◌∙◌, subst, arith, inl, inr}
-use Rattle.std.specs.Io.KnownBytes.{Appends}
+use Rattle.std.specs.Prelude.{◌≡◌, ◌≢◌, ◌⊎◌, ℕ, ◌+◌, true, false, Option, Some, None, IfSome, List, [], refl}
+use Rattle.std.proofs.Common.{sym, ◌∙◌, subst, arith, append-nil, inl, inr}
+use Rattle.std.specs.Io.KnownBytes.{Appends, Consumes}
 use Rattle.its_print.specs.Printing.{text}
 use Rattle.its_session.specs.Events.{events_of}
 use Rattle.its_reader.specs.Items.{ReadOut}
@@ -14,7 +14,7 @@ use Rattle.its_top.specs.declared.commands.Command.TheVariants as commands
 use Rattle.its_top.specs.declared.checking.Checked.{Checked}
 use Rattle.its_top.specs.declared.checking.Checked.TheVariants as checks
 use Rattle.its_top.specs.Conclusion.{IsDone, WasRun, Session}
-use Rattle.its_top.specs.Commands.{reads, keeps, IfGenerates}
+use Rattle.its_top.specs.Commands.{reads_input, keeps, IfGenerates}
 use Rattle.its_top.specs.Checking.{checked, checked_text, Passes, Fails, StatusFor, WroteText, CheckOf, Check}
 use Rattle.its_top.specs.Generating.{generated_text}
 use Rattle.its_top.specs.Assembling.{Asm}
@@ -61,7 +61,7 @@ pub obeyed_none : (st : Status) (left old new : Option (List ℕ)) → WroteText
 obeyed_none statuses.NoMemory left old new w = absurd (let k : statuses.NoMemory ≡ statuses.Usage = w.complete.0 in cc)
 obeyed_none st left old new w = as_obeys None st left left old new (λ k. cc) (w, refl)
 
-pub obeyed_verify : (st : Status) (left rest old new : Option (List ℕ)) → Verify st left old new → Obeyed (Some commands.Verify) st left rest old new
+pub obeyed_verify : (st : Status) (left rest old new : Option (List ℕ)) → Verify st left rest old new → Obeyed (Some commands.Verify) st left rest old new
 obeyed_verify statuses.NoMemory left rest old new s = record { obeys = s.unwritten (inl refl) }
 obeyed_verify st left rest old new s = as_obeys (Some commands.Verify) st left rest old new (λ k. cc) s
 
@@ -298,23 +298,29 @@ pub none_obeyed : (d : Option Command) (st : Status) (left rest old new : Option
 none_obeyed d st left rest old new o c = usage_ends st left rest old new (subst (λ x. Obeyed x st left rest old new) c o)
 
 -- a session that was read, and is done
-by_input : (d : Option Command) (left rest old new : Option (List ℕ)) → Obeyed d statuses.Done left rest old new → reads d ≡ true → d ≢ Some commands.Verify → IfSome left (λ bytes. ReadOut bytes rest)
-by_input None left rest old new o r n = cc
-by_input (Some commands.Run) left rest old new o r n = o.obeys.input refl
-by_input (Some commands.Check) left rest old new o r n = o.obeys.input refl
-by_input (Some commands.Verify) left rest old new o r n = absurd (n refl)
-by_input (Some commands.Asm) left rest old new o r n = whole left o.obeys
+by_input : (d : Option Command) (left rest old new : Option (List ℕ)) → Obeyed d statuses.Done left rest old new → reads_input d ≡ true → IfSome left (λ bytes. ReadOut bytes rest)
+by_input None left rest old new o r = cc
+by_input (Some commands.Run) left rest old new o r = o.obeys.input refl
+by_input (Some commands.Check) left rest old new o r = o.obeys.input refl
+by_input (Some commands.Verify) left rest old new o r = ended left (o.obeys.input refl)
+  where
+    ended : (l : Option (List ℕ)) → IfSome l (λ bytes. rest ≡ Some []) → IfSome l (λ bytes. ReadOut bytes rest)
+    ended None e = tt
+    ended (Some bytes) e =
+        let consumed : Consumes (Some bytes) rest bytes = subst (λ (x : Option (List ℕ)). Consumes (Some bytes) x bytes) (sym e) (sym (append-nil bytes)) in
+        record { read = bytes; consumed = consumed; out = inl refl }
+by_input (Some commands.Asm) left rest old new o r = whole left o.obeys
   where
     whole : (l : Option (List ℕ)) → Asm statuses.Done l rest old new → IfSome l (λ bytes. ReadOut bytes rest)
     whole None a = tt
     whole (Some bytes) a = record { read = a.read; consumed = a.consumed; out = inl a.found.2 }
-by_input (Some (commands.Gen k)) left rest old new o r n = cc
+by_input (Some (commands.Gen n)) left rest old new o r = cc
 
-pub input_read : (d : Option Command) (st : Status) (left rest old new : Option (List ℕ)) → Obeyed d st left rest old new → reads d ≡ true → d ≢ Some commands.Verify → st ≡ statuses.Done → IfSome left (λ bytes. ReadOut bytes rest)
-input_read d st left rest old new o r n e = by_input d left rest old new (subst (λ x. Obeyed d x left rest old new) e o) r n
+pub input_read : (d : Option Command) (st : Status) (left rest old new : Option (List ℕ)) → Obeyed d st left rest old new → reads_input d ≡ true → st ≡ statuses.Done → IfSome left (λ bytes. ReadOut bytes rest)
+input_read d st left rest old new o r e = by_input d left rest old new (subst (λ x. Obeyed d x left rest old new) e o) r
 
 -- a command that reads nothing
-left_alone : (d : Option Command) (st : Status) (left rest old new : Option (List ℕ)) → reads d ≡ false → st ≢ statuses.NoMemory → Obeyed d st left rest old new → rest ≡ left
+left_alone : (d : Option Command) (st : Status) (left rest old new : Option (List ℕ)) → reads_input d ≡ false → st ≢ statuses.NoMemory → Obeyed d st left rest old new → rest ≡ left
 left_alone None st left rest old new r n o = (done_for None None st left rest old new o refl n).1
 left_alone (Some commands.Run) st left rest old new r n o = cc
 left_alone (Some commands.Check) st left rest old new r n o = cc
@@ -338,7 +344,7 @@ unwritten_by (Some commands.Run) left rest old new m = m.1
 unwritten_by (Some commands.Check) left rest old new m = m.1
 unwritten_by (Some (commands.Gen k)) left rest old new m = m.1
 
-none_kept : (d : Option Command) → reads d ≡ false → keeps d ≡ false
+none_kept : (d : Option Command) → reads_input d ≡ false → keeps d ≡ false
 none_kept (Some commands.Verify) r = cc
 none_kept (Some commands.Asm) r = cc
 none_kept (Some commands.Run) r = cc
@@ -346,11 +352,11 @@ none_kept (Some commands.Check) r = cc
 none_kept (Some (commands.Gen n)) r = refl
 none_kept None r = refl
 
-pub unread : (d : Option Command) (st : Status) (left rest old new : Option (List ℕ)) → Obeyed d st left rest old new → reads d ≡ false → rest ≡ left
+pub unread : (d : Option Command) (st : Status) (left rest old new : Option (List ℕ)) → Obeyed d st left rest old new → reads_input d ≡ false → rest ≡ left
 unread d statuses.NoMemory left rest old new o r = unread_by d left rest old new o.obeys (none_kept d r)
 unread d st left rest old new o r = left_alone d st left rest old new r (λ k. cc) o
 
-pub not_read_fault : (d : Option Command) (st : Status) (left rest old new : Option (List ℕ)) → Obeyed d st left rest old new → reads d ≡ false → st ≢ statuses.ReadFault
+pub not_read_fault : (d : Option Command) (st : Status) (left rest old new : Option (List ℕ)) → Obeyed d st left rest old new → reads_input d ≡ false → st ≢ statuses.ReadFault
 not_read_fault None st left rest old new o r e =
     let w = (done_for None None st left rest old new o refl (λ k. cc)).0 in
     let k : statuses.ReadFault ≡ statuses.Usage = (subst (λ x. WroteText x statuses.Usage usage old new) e w).complete.0 in cc

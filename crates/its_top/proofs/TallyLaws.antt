@@ -35,7 +35,7 @@ use Rattle.its_top.specs.declared.shown.Shown.{Shown}
 use Rattle.its_top.specs.declared.shown.Shown.TheVariants as shown
 use Rattle.its_top.specs.Answer.{FindsStart, block_of}
 use Rattle.its_top.specs.Performing.{line_of, lines_shown, told_behind, Performed}
-use Rattle.its_top.specs.Generating.{nothing, plus, mark_of, marked, tally_of, tally, items_of, counts_text, generated_tally, generated_text, counted, LeftOf, PlaySo, PlayedOn}
+use Rattle.its_top.specs.Generating.{nothing, plus, mark_of, marks, tally_of, tally, items_of, counts_text, generated_tally, generated_text, counted, LeftOf, PlaySo, PlayedOn}
 use Rattle.its_top.proofs.PaceLaws.{runs_more}
 
 -- sums of counts
@@ -153,59 +153,59 @@ generated_starts (events.Version n) v k = absurd k
 generated_starts _ v k = tt
 
 -- marks one after another
-marked_append : (a b : List Pace) → marked (a ++ b) ≡ marked a + marked b
-marked_append [] b = let e : 0 + marked b ≡ marked b = omega arith in sym e
-marked_append (p ∷ ps) b = ap (λ x. mark_of p + x) (marked_append ps b) ∙ (let e : mark_of p + (marked ps + marked b) ≡ (mark_of p + marked ps) + marked b = omega arith in e)
+marked_append : (a b : List Pace) → marks (a ++ b) ≡ marks a + marks b
+marked_append [] b = let e : 0 + marks b ≡ marks b = omega arith in sym e
+marked_append (p ∷ ps) b = ap (λ x. mark_of p + x) (marked_append ps b) ∙ (let e : mark_of p + (marks ps + marks b) ≡ (mark_of p + marks ps) + marks b = omega arith in e)
 
-marked_most : (ps : List Pace) → marked ps ≤ length ps
+marked_most : (ps : List Pace) → marks ps ≤ length ps
 marked_most [] = omega arith
 marked_most (p ∷ ps) = by_pace p (marked_most ps)
   where
-    by_pace : (q : Pace) → marked ps ≤ length ps → mark_of q + marked ps ≤ length (q ∷ ps)
+    by_pace : (q : Pace) → marks ps ≤ length ps → mark_of q + marks ps ≤ length (q ∷ ps)
     by_pace paces.Step h = omega (arith, h)
     by_pace paces.Work h = omega (arith, h)
     by_pace paces.Wait h = omega (arith, h)
     by_pace paces.Off h = omega (arith, h)
 
 -- the ticks of a run are alike
-marked_alike : (n : ℕ) (p : Pace) (k : ℕ) → mark_of p ≡ k → marked (replicate n p) ≡ n * k
+marked_alike : (n : ℕ) (p : Pace) (k : ℕ) → mark_of p ≡ k → marks (replicate n p) ≡ n * k
 marked_alike zero p k e = omega arith
 marked_alike (suc n) p k e = (λ t. e t + marked_alike n p k e t) ∙ (let o : k + n * k ≡ suc n * k = grind arith in o)
 
-run_marks : (r : Run) → marked (paces_in (r ∷ [])) ≡ mark_of r.pace + marked (replicate r.more r.pace)
-run_marks r = ap (λ ps. mark_of r.pace + marked ps) (append-nil (replicate r.more r.pace))
+run_marks : (r : Run) → marks (paces_in (r ∷ [])) ≡ mark_of r.pace + marks (replicate r.more r.pace)
+run_marks r = ap (λ ps. mark_of r.pace + marks ps) (append-nil (replicate r.more r.pace))
 
-pub run_marked : (r : Run) → r.pace ≡ paces.Step → 1 + r.more ≡ marked (paces_in (r ∷ []))
+pub run_marked : (r : Run) → r.pace ≡ paces.Step → 1 + r.more ≡ marks (paces_in (r ∷ []))
 run_marked r e =
     let one : mark_of r.pace ≡ 1 = ap mark_of e in
     let o : r.more * 1 ≡ r.more = omega arith in
     sym (run_marks r ∙ (λ t. one t + (marked_alike r.more r.pace 1 one ∙ o) t))
 
-pub run_unmarked : (r : Run) (p : Pace) → r.pace ≡ p → mark_of p ≡ 0 → 0 ≡ marked (paces_in (r ∷ []))
+pub run_unmarked : (r : Run) (p : Pace) → r.pace ≡ p → mark_of p ≡ 0 → 0 ≡ marks (paces_in (r ∷ []))
 run_unmarked r p e z =
     let none : mark_of r.pace ≡ 0 = ap mark_of e ∙ z in
     let o : r.more * 0 ≡ 0 = omega arith in
     sym (run_marks r ∙ (λ t. none t + (marked_alike r.more r.pace 0 none ∙ o) t))
 
-pub marked_next : (rs : List Run) (i k m : ℕ) (d : Run) → i < length rs → m ≡ marked (paces_in (get_or rs i d ∷ [])) → k ≡ marked (paces_in (take i rs)) → k + m ≡ marked (paces_in (take (i + 1) rs))
+pub marked_next : (rs : List Run) (i k m : ℕ) (d : Run) → i < length rs → m ≡ marks (paces_in (get_or rs i d ∷ [])) → k ≡ marks (paces_in (take i rs)) → k + m ≡ marks (paces_in (take (i + 1) rs))
 marked_next rs i k m d h g f =
     ap₂ (λ x y. x + y) f g
     ∙ sym (marked_append (paces_in (take i rs)) (paces_in (get_or rs i d ∷ [])))
-    ∙ ap marked (sym (runs_more (take i rs) (get_or rs i d)))
-    ∙ ap (λ xs. marked (paces_in xs)) (sym (take_more rs i d h))
+    ∙ ap marks (sym (runs_more (take i rs) (get_or rs i d)))
+    ∙ ap (λ xs. marks (paces_in xs)) (sym (take_more rs i d h))
 
 paces_split : (a b : List Run) → length (paces_in (a ++ b)) ≡ length (paces_in a) + length (paces_in b)
 paces_split [] b = omega arith
 paces_split (r ∷ rs) b =
     omega (arith, paces_split rs b, length-append (replicate r.more r.pace) (paces_in (rs ++ b)), length-append (replicate r.more r.pace) (paces_in rs))
 
-pub marked_few : (rs : List Run) (i k : ℕ) → length (paces_in rs) ≤ 512 → k ≡ marked (paces_in (take i rs)) → k ≤ 512
+pub marked_few : (rs : List Run) (i k : ℕ) → length (paces_in rs) ≤ 512 → k ≡ marks (paces_in (take i rs)) → k ≤ 512
 marked_few rs i k h e =
     let whole : length (paces_in (take i rs ++ drop i rs)) ≡ length (paces_in rs) = ap (λ xs. length (paces_in xs)) (take-append-drop i rs) in
     omega (arith, h, e, whole, paces_split (take i rs) (drop i rs), marked_most (paces_in (take i rs)))
 
-pub marked_all : (rs : List Run) (i k : ℕ) → i ≡ length rs → k ≡ marked (paces_in (take i rs)) → k ≡ marked (paces_in rs)
-marked_all rs i k e f = f ∙ ap (λ j. marked (paces_in (take j rs))) e ∙ ap (λ xs. marked (paces_in xs)) (take_all (length rs) rs (omega arith))
+pub marked_all : (rs : List Run) (i k : ℕ) → i ≡ length rs → k ≡ marks (paces_in (take i rs)) → k ≡ marks (paces_in rs)
+marked_all rs i k e f = f ∙ ap (λ j. marks (paces_in (take j rs))) e ∙ ap (λ xs. marks (paces_in xs)) (take_all (length rs) rs (omega arith))
 
 -- the events of a generated session, one after another
 drop_some : {A : Type 0} (xs : List A) (k : ℕ) (x : A) → slice_get xs k ≡ Some x → drop k xs ≡ x ∷ drop (k + 1) xs

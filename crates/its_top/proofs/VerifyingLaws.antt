@@ -5,7 +5,7 @@ use Rattle.std.specs.Io.KnownBytes.{Appends}
 use Rattle.std.proofs.KnownBytes.{Appends-nil}
 use Rattle.its_word.specs.declared.session.Reason.TheVariants as reasons
 use Rattle.its_print.specs.Printing.{Refused, text, text_of_line}
-use Rattle.its_verify.specs.Finds.{Found}
+use Rattle.its_verify.specs.Finds.{Found, ReadsOut}
 use Rattle.its_verify.specs.Hearing.{answer_of}
 use Rattle.its_verify.specs.Judge.{Yes, No}
 use Rattle.its_verify.specs.Verified.{Answer, Judged, Long, Cut, TooLong, answer_text, verified}
@@ -104,25 +104,34 @@ told_well statuses.ReadFault a w t e = t
 told_well st a w t (inl e) = cc
 told_well st a w t (inr e) = cc
 
-pub verify_told : (st : Status) (f : Finding) (left old new : Option (List ℕ)) → Found (Ok f) left → TellsAnswer st (answer_of f) old new → Verify st left old new
-verify_told st f left old new h t = record {
+read_out : (st : Status) (f : Finding) (left rest : Option (List ℕ)) (w : List ℕ) → ReadsOut f left rest → ToldAs st (answer_of f) w → st ≡ statuses.Done → IfSome left (λ bytes. rest ≡ Some [])
+read_out statuses.Done (findings.Yes n) left rest w h t e = h
+read_out statuses.Done (findings.No n) left rest w h t e = absurd (let k : statuses.Done ≡ statuses.Refused = t.0 in cc)
+read_out statuses.Done (findings.Long n) left rest w h t e = absurd (let k : statuses.Done ≡ statuses.Refused = t.0 in cc)
+read_out statuses.Done (findings.Cut n) left rest w h t e = absurd (let k : statuses.Done ≡ statuses.Refused = t.0 in cc)
+read_out statuses.Done findings.Beyond left rest w h t e = absurd (let k : statuses.Done ≡ statuses.TooLong = t.0 in cc)
+read_out st f left rest w h t e = cc
+
+pub verify_told : (st : Status) (f : Finding) (left rest old new : Option (List ℕ)) → Found (Ok f) left → ReadsOut f left rest → TellsAnswer st (answer_of f) old new → Verify st left rest old new
+verify_told st f left rest old new h r t = record {
   wrote = t.wrote;
   appended = t.appended;
   ran = ran_as st (answer_of f) t.wrote t.told;
   found = found_as st f left t.wrote h t.told;
+  input = λ e. read_out st f left rest t.wrote r t.told e;
   unwritten = λ e. absurd (told_well st (answer_of f) t.wrote t.told e);
 }
 
-pub verify_failed : (left out : Option (List ℕ)) → Verify statuses.ReadFault left out out
-verify_failed left out = record { wrote = []; appended = Appends-nil out; ran = λ k. cc; found = if_all left _ (λ bytes. refl); unwritten = λ e. refl }
+pub verify_failed : (left rest out : Option (List ℕ)) → Verify statuses.ReadFault left rest out out
+verify_failed left rest out = record { wrote = []; appended = Appends-nil out; ran = λ k. cc; found = if_all left _ (λ bytes. refl); input = λ e. cc; unwritten = λ e. refl }
 
-pub verify_unmade : (left out : Option (List ℕ)) → Verify statuses.NoMemory left out out
-verify_unmade left out = record { wrote = []; appended = Appends-nil out; ran = λ k. cc; found = if_all left _ (λ bytes. refl); unwritten = λ e. refl }
+pub verify_unmade : (left rest out : Option (List ℕ)) → Verify statuses.NoMemory left rest out out
+verify_unmade left rest out = record { wrote = []; appended = Appends-nil out; ran = λ k. cc; found = if_all left _ (λ bytes. refl); input = λ e. cc; unwritten = λ e. refl }
 
 -- the clauses of the top call
-verify_as : (st good : Status) (d : Option Command) (left rest old new : Option (List ℕ)) → Obeyed d st left rest old new → d ≡ Some commands.Verify → st ≡ good → good ≢ statuses.NoMemory → Verify good left old new
+verify_as : (st good : Status) (d : Option Command) (left rest old new : Option (List ℕ)) → Obeyed d st left rest old new → d ≡ Some commands.Verify → st ≡ good → good ≢ statuses.NoMemory → Verify good left rest old new
 verify_as st good d left rest old new o c e n =
-    subst (λ x. Verify x left old new) e (done_for d (Some commands.Verify) st left rest old new o c (λ k. n (sym e ∙ k)))
+    subst (λ x. Verify x left rest old new) e (done_for d (Some commands.Verify) st left rest old new o c (λ k. n (sym e ∙ k)))
 
 done_by : (a : Answer) (bytes w : List ℕ) (old new : Option (List ℕ)) → Why bytes a → statuses.Done ≡ status_of a → answer_text a ≡ w → Appends old new w → Verifies bytes old new
 done_by (Judged (Yes n)) bytes w old new h s e a = record { lines = n; licensed = h; wrote = subst (Appends old new) (sym e) a }
@@ -180,7 +189,7 @@ pub verify_answered : (d : Option Command) (st : Status) (left rest old new : Op
     → d ≡ Some commands.Verify → tf ≡ sf → lf ≡ kf → IfSome left (λ bytes. VerifyAnswers st bytes)
 verify_answered d statuses.NoMemory left rest old new sf tf kf lf o r w c e f = if_all left _ (λ b. record { answers = λ a h. inr refl })
 verify_answered d st left rest old new sf tf kf lf o r w c e f =
-    let k : Verify st left old new = done_for d (Some commands.Verify) st left rest old new o c (λ j. cc) in
+    let k : Verify st left rest old new = done_for d (Some commands.Verify) st left rest old new o c (λ j. cc) in
     if_then left (λ bytes. VerifyOf st bytes k.wrote) (λ bytes. VerifyAnswers st bytes)
     (λ bytes h. record {
       answers = λ a y. subst (λ x. (st ≡ status_of x) ⊎ (st ≡ statuses.NoMemory)) (answer_by bytes a y)

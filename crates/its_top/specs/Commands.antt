@@ -44,13 +44,13 @@ command_from (Some w) n = command_by w n
 command_from None n = None
 
 -- the command reads its source
-abbrev pub reads : Option Command → Bool
-reads (Some Run) = true
-reads (Some Check) = true
-reads (Some (Gen n)) = false
-reads (Some Verify) = true
-reads (Some Asm) = true
-reads None = false
+abbrev pub reads_input : Option Command → Bool
+reads_input (Some Run) = true
+reads_input (Some Check) = true
+reads_input (Some (Gen n)) = false
+reads_input (Some Verify) = true
+reads_input (Some Asm) = true
+reads_input None = false
 
 -- it keeps what it reads
 abbrev pub keeps : Option Command → Bool

@@ -15,7 +15,7 @@ use Rattle.its_top.specs.declared.status.Status.{Status}
 use Rattle.its_top.specs.declared.status.Status.TheVariants as statuses
 use Rattle.its_top.specs.declared.turn.Turn.{Turn}
 use Rattle.its_top.specs.declared.turn.Turn.TheVariants as turns
-use Rattle.its_top.specs.Telling.{Says, said, after, saying, Begins, session_says}
+use Rattle.its_top.specs.Telling.{Says, said, after, saying, BeginsText, session_says}
 
 -- no line was refused, and none past the most began
 abbrev pub IsDone : Fate → Type 0
@@ -29,7 +29,7 @@ abbrev pub Finished : Status → Says → List ℕ → Type 0
 Finished statuses.Done s w = (s.text ≡ w) × IsDone s.fate
 Finished statuses.Refused s w = (s.text ≡ w) × (s.fate ≡ Lost)
 Finished statuses.TooLong s w = (s.text ≡ w) × (s.fate ≡ TooLong)
-Finished statuses.WriteFault s w = Begins s w
+Finished statuses.WriteFault s w = BeginsText s w
 Finished statuses.Usage s w = ⊥
 Finished statuses.ReadFault s w = ⊥
 Finished statuses.NoMemory s w = ⊥

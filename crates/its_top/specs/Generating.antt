@@ -30,13 +30,13 @@ abbrev pub mark_of : Pace → ℕ
 mark_of paces.Step = 1
 mark_of _ = 0
 
-abbrev pub marked : List Pace → ℕ
-marked [] = 0
-marked (p ∷ ps) = mark_of p + marked ps
+abbrev pub marks : List Pace → ℕ
+marks [] = 0
+marks (p ∷ ps) = mark_of p + marks ps
 
 -- what a line counts for: the ticks of a T line that are marked, and the bytes of a D line
 abbrev pub tally_of : Line → Tally
-tally_of (printed.Ticks s ps) = record { steps = marked ps; drained = 0 }
+tally_of (printed.Ticks s ps) = record { steps = marks ps; drained = 0 }
 tally_of (printed.Drained c bytes) = record { steps = 0; drained = length bytes }
 tally_of _ = nothing
 

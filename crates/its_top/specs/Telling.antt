@@ -30,7 +30,7 @@ abbrev pub saying : List ℕ → Fate → Says
 saying w fate = record { text = w; fate = fate }
 
 -- this text begins what is said
-pub record Begins (s : Says) (w : List ℕ) : Type 0 where
+pub record BeginsText (s : Says) (w : List ℕ) : Type 0 where
   pub more : List ℕ
   pub whole : s.text ≡ w ++ more
 
@@ -56,7 +56,7 @@ Answers turns.On n v b e v' b' w =
 Answers turns.Ended n v b e v' b' w = (goes_on_after e ≡ false) × ((items : List Item) → items_say n v b (Read e ∷ items) ≡ saying w Ended)
 Answers turns.Refused n v b e v' b' w = (items : List Item) → items_say n v b (Read e ∷ items) ≡ saying w Lost
 Answers turns.Beyond n v b e v' b' w = ⊥
-Answers turns.Fault n v b e v' b' w = (items : List Item) → Begins (items_say n v b (Read e ∷ items)) w
+Answers turns.Fault n v b e v' b' w = (items : List Item) → BeginsText (items_say n v b (Read e ∷ items)) w
 
 -- the same of a line with the turns that it asks for, where slot i had the last turn before them, and slot j has it then
 abbrev pub FollowsBy : Turn → ℕ → State → Block → ℕ → Event → State → Block → ℕ → List ℕ → Type 0
@@ -65,12 +65,13 @@ FollowsBy turns.On n v b i e v' b' j w =
 FollowsBy turns.Ended n v b i e v' b' j w = (goes_on_after e ≡ false) × ((items : List Item) → session_says n v b i (Read e ∷ items) ≡ saying w Ended)
 FollowsBy turns.Refused n v b i e v' b' j w = (items : List Item) → session_says n v b i (Read e ∷ items) ≡ saying w Lost
 FollowsBy turns.Beyond n v b i e v' b' j w = ⊥
-FollowsBy turns.Fault n v b i e v' b' j w = (items : List Item) → Begins (session_says n v b i (Read e ∷ items)) w
+FollowsBy turns.Fault n v b i e v' b' j w = (items : List Item) → BeginsText (session_says n v b i (Read e ∷ items)) w
 
 -- up to n turns of q ticks were made, whatever follows them: all of them, or a write failed
 abbrev pub CircledBy : Turn → State → ℕ → ℕ → ℕ → State → ℕ → List ℕ → Type 0
 CircledBy turns.On v i n q v' j w = (k : ℕ) (b : Block) (next : State → ℕ → List Item) → items_say k v b (made.turns n q v i next) ≡ after w (items_say k v' b (next v' j))
-CircledBy turns.Fault v i n q v' j w = (k : ℕ) (b : Block) (next : State → ℕ → List Item) → Begins (items_say k v b (made.turns n q v i next)) w
+CircledBy turns.Fault v i n q v' j w =
+    (k : ℕ) (b : Block) (next : State → ℕ → List Item) → BeginsText (items_say k v b (made.turns n q v i next)) w
 CircledBy turn v i n q v' j w = ⊥
 
 abbrev pub goes_on : Turn → Bool

@@ -175,7 +175,7 @@ abbrev pub DoneFor : Option Command → Status → Option (List ℕ) → Option 
 DoneFor (Some Run) st left rest old new = Session st left rest old new
 DoneFor (Some CheckCommand) st left rest old new = Check st left rest old new
 DoneFor (Some (Gen n)) st left rest old new = WroteText st statuses.Done (generated_text n) old new × (rest ≡ left)
-DoneFor (Some VerifyCommand) st left rest old new = Verify st left old new
+DoneFor (Some VerifyCommand) st left rest old new = Verify st left rest old new
 DoneFor (Some AsmCommand) st left rest old new = Asm st left rest old new
 DoneFor None st left rest old new = WroteText st statuses.Usage usage old new × (rest ≡ left)
 

@@ -1,5 +1,5 @@
 -- What `its verify` comes to (docs/SESSION.md, "its verify").
-use Rattle.std.specs.Prelude.{◌≡◌, ◌≢◌, ◌≤◌, ◌<◌, ◌⊎◌, ℕ, ◌+◌, Option, IfSome, List, [], ◌∷◌, ◌++◌, length}
+use Rattle.std.specs.Prelude.{◌≡◌, ◌≢◌, ◌≤◌, ◌<◌, ◌⊎◌, ℕ, ◌+◌, Option, Some, IfSome, List, [], ◌∷◌, ◌++◌, length}
 use Rattle.std.specs.Io.KnownBytes.{Appends}
 use Rattle.its_session.specs.Events.{events_of, most_lines}
 use Rattle.its_reader.specs.TextLines.{lines_in}
@@ -85,10 +85,11 @@ VerifyOf statuses.ReadFault bytes w = w ≡ []
 VerifyOf statuses.NoMemory bytes w = w ≡ []
 VerifyOf status bytes w = ToldAs status (verified bytes) w
 
--- how a verification ended, from what its source had left, and from what its sink was given
-pub record Verify (status : Status) (left old new : Option (List ℕ)) : Type 0 where
+-- how a verification ended, from what its source had left and had left then, and from what its sink was given
+pub record Verify (status : Status) (left rest old new : Option (List ℕ)) : Type 0 where
   pub wrote : List ℕ
   pub appended : Appends old new wrote
   pub ran : status ≢ statuses.Usage
   pub found : IfSome left (λ bytes. VerifyOf status bytes wrote)
+  pub input : status ≡ statuses.Done → IfSome left (λ bytes. rest ≡ Some [])
   pub unwritten : (status ≡ statuses.NoMemory) ⊎ (status ≡ statuses.ReadFault) → new ≡ old

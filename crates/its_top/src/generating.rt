@@ -12,7 +12,7 @@ ghost use Rattle.its_operator.specs.Kept.{Kept};
 ghost use Rattle.its_print.specs.Runs.{paces_in};
 ghost use Rattle.its_top.specs.Checking.{WroteText};
 ghost use Rattle.its_top.specs.Performing.{line_of};
-ghost use Rattle.its_top.specs.Generating.{marked, tally_of, counted, counts_text, tally_text, generated_tally, generated_text, PlayedOn};
+ghost use Rattle.its_top.specs.Generating.{marks, tally_of, counted, counts_text, tally_text, generated_tally, generated_text, PlayedOn};
 
 use super::counts::count_line;
 use super::performing::{Runs, perform};
@@ -186,7 +186,7 @@ fn counted_line(reply: &Reply, runs: &Runs) -> Tally
 {
     match reply {
         Reply::Ticks { .. } => Tally {
-            steps: marked(runs),
+            steps: marks(runs),
             drained: 0,
         },
         Reply::Drained { bytes, .. } => Tally {
@@ -203,9 +203,9 @@ fn counted_line(reply: &Reply, runs: &Runs) -> Tally
 
 /// How many ticks of these are marked.
 #[tactic(auto, using(crate::proofs::TallyLaws::marked_all))]
-fn marked(runs: &[Run]) -> u64
+fn marks(runs: &[Run]) -> u64
     requires few { length (paces_in runs.now) ≤ 512 }
-    ensures count { result ≡ marked (paces_in runs.now) }
+    ensures count { result ≡ marks (paces_in runs.now) }
     ensures few { result ≤ 512 }
 {
     let mut count = 0;
@@ -218,7 +218,7 @@ fn marked(runs: &[Run]) -> u64
 /// How many ticks of a run are marked: all, or none.
 #[tactic(auto, using(crate::proofs::TallyLaws::run_marked, crate::proofs::TallyLaws::run_unmarked))]
 fn mark(run: Run) -> u64
-    ensures count { result ≡ marked (paces_in (run ∷ [])) }
+    ensures count { result ≡ marks (paces_in (run ∷ [])) }
     ensures few { result ≤ 2 ^ 32 }
 {
     match run.pace {

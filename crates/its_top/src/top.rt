@@ -6,7 +6,7 @@ ghost use Rattle.its_reader.specs.Items.{ReadOut};
 ghost use Rattle.its_stepped.specs.Lines.{stepped};
 ghost use Rattle.its_stepped.specs.Turns.{with_turns};
 ghost use Rattle.its_io.specs.Bytes.{next_fault};
-ghost use Rattle.its_top.specs.Commands.{command_of, keeps, reads, IfGenerates};
+ghost use Rattle.its_top.specs.Commands.{command_of, keeps, reads_input, IfGenerates};
 ghost use Rattle.its_top.specs.Checking.{checked, checked_text, Passes, WroteText};
 ghost use Rattle.its_top.specs.Generating.{generated_text};
 ghost use Rattle.its_top.specs.Assembling.{answer_to};
@@ -42,7 +42,7 @@ pub fn its<S: Source, K: Sink>(alloc: Global, words: &[String], src: &mut S, out
     ensures written { command_of (map string_bytes words.now) ≡ Some Command.Run → ((result ≡ Status.Done) ⊎ (result ≡ Status.Refused)) ⊎ (result ≡ Status.TooLong) → IfSome (S.left src.old) (λ bytes. Appends (K.written out.old) (K.written out.new) (text (stepped (with_turns (events_of bytes))).lines)) }
     ensures vouched { command_of (map string_bytes words.now) ≡ Some Command.Run → ((result ≡ Status.Done) ⊎ (result ≡ Status.Refused)) ⊎ (result ≡ Status.TooLong) → IfSome (S.left src.old) (λ bytes. Vouched bytes (K.written out.old) (K.written out.new)) }
     ensures done { command_of (map string_bytes words.now) ≡ Some Command.Run → result ≡ Status.Done → IfSome (S.left src.old) (λ bytes. Completes bytes (K.written out.old) (K.written out.new)) }
-    ensures input { reads (command_of (map string_bytes words.now)) ≡ true → command_of (map string_bytes words.now) ≢ Some Command.Verify → result ≡ Status.Done → IfSome (S.left src.old) (λ bytes. ReadOut bytes (S.left src.new)) }
+    ensures input { reads_input (command_of (map string_bytes words.now)) ≡ true → result ≡ Status.Done → IfSome (S.left src.old) (λ bytes. ReadOut bytes (S.left src.new)) }
     ensures refused { command_of (map string_bytes words.now) ≡ Some Command.Run → result ≡ Status.Refused → IfSome (S.left src.old) (λ bytes. Refuses bytes (K.written out.old) (K.written out.new)) }
     ensures too_long { command_of (map string_bytes words.now) ≡ Some Command.Run → result ≡ Status.TooLong → IfSome (S.left src.old) (λ bytes. RunsOn bytes (K.written out.old) (K.written out.new)) }
     ensures broken { command_of (map string_bytes words.now) ≡ Some Command.Run → result ≡ Status.ReadFault → IfSome (S.left src.old) (λ bytes. Breaks bytes (S.left src.new) (K.written out.old) (K.written out.new)) }
@@ -58,8 +58,8 @@ pub fn its<S: Source, K: Sink>(alloc: Global, words: &[String], src: &mut S, out
     ensures no_command { command_of (map string_bytes words.now) ≡ None → ((result ≡ Status.Usage) ⊎ (result ≡ Status.WriteFault)) ⊎ (result ≡ Status.NoMemory) }
     ensures command { result ≡ Status.Usage → command_of (map string_bytes words.now) ≡ None }
     ensures usage_begun { command_of (map string_bytes words.now) ≡ None → result ≡ Status.WriteFault → Begins usage (K.written out.old) (K.written out.new) }
-    ensures unread { reads (command_of (map string_bytes words.now)) ≡ false → S.left src.new ≡ S.left src.old }
-    ensures unread_fault { reads (command_of (map string_bytes words.now)) ≡ false → result ≢ Status.ReadFault }
+    ensures unread { reads_input (command_of (map string_bytes words.now)) ≡ false → S.left src.new ≡ S.left src.old }
+    ensures unread_fault { reads_input (command_of (map string_bytes words.now)) ≡ false → result ≢ Status.ReadFault }
     ensures no_memory { result ≡ Status.NoMemory → K.written out.new ≡ K.written out.old }
     ensures no_memory_unread { keeps (command_of (map string_bytes words.now)) ≡ false → result ≡ Status.NoMemory → S.left src.new ≡ S.left src.old }
     ensures verify_done { command_of (map string_bytes words.now) ≡ Some Command.Verify → result ≡ Status.Done → IfSome (S.left src.old) (λ bytes. Verifies bytes (K.written out.old) (K.written out.new)) }

@@ -21,7 +21,7 @@ use std::alloc::Global;
 /// that has no END line or one that is too long.
 #[tactic(auto, using(crate::proofs::VerifyingLaws::verify_told, crate::proofs::VerifyingLaws::verify_failed, crate::proofs::VerifyingLaws::verify_unmade))]
 pub fn judge<S: Source, K: Sink>(alloc: Global, src: &mut S, out: &mut K) -> Status
-    ensures verify { Verify result (S.left src.old) (K.written out.old) (K.written out.new) }
+    ensures verify { Verify result (S.left src.old) (S.left src.new) (K.written out.old) (K.written out.new) }
     ensures read_once { result ≡ Status.ReadFault → S.faults src.new ≡ next_fault (S.faults src.old) }
     ensures write_once { result ≡ Status.WriteFault → K.faults out.new ≡ next_fault (K.faults out.old) }
     ensures read_unfailed { result ≢ Status.ReadFault → S.faults src.new ≡ S.faults src.old }

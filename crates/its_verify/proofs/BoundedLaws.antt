@@ -5,7 +5,7 @@ use Rattle.std.proofs.lemmas.Bool.{cases_Bool, cases_lt, le-leb, lt-leb, leb-tru
 use Rattle.its_word.specs.Item.{Item}
 use Rattle.its_plain.specs.Transcript.{at_start}
 use Rattle.its_plain.specs.Unrolled.{highest}
-use Rattle.its_verify.specs.Accepted.{AcceptedLines, Begins, IsFirst}
+use Rattle.its_verify.specs.Accepted.{AcceptedLines, BeginsTranscript, IsFirst}
 use Rattle.its_verify.specs.Judge.{Verdict, Yes, No, judged}
 use Rattle.its_verify.specs.Verified.{Answer, Judged, TooLong, bounded, within}
 use Rattle.its_verify.proofs.VerdictLaws.{first_lines_no, lines_yes, no_lines, yes_lines}
@@ -30,11 +30,11 @@ first_of_front es texts room n more few f =
       before = f.before;
       next = f.next;
       few = omega arith;
-      begins = subst (Begins es) (take-take f.before room texts (omega arith)) f.begins;
+      begins = subst (BeginsTranscript es) (take-take f.before room texts (omega arith)) f.begins;
       stops =
           elim f.stops [
             | inl end ↦ (let e = end.0 in let long = length-take room texts in absurd (omega arith))
-            | inr none ↦ inr (λ b. none (subst (Begins es) (sym (take-take n room texts few)) b))
+            | inr none ↦ inr (λ b. none (subst (BeginsTranscript es) (sym (take-take n room texts few)) b))
           ];
     }
 
@@ -45,11 +45,11 @@ front_of_first es texts room n more few f =
       before = f.before;
       next = f.next;
       few = (let long = length-take room texts in omega arith);
-      begins = subst (Begins es) (sym (take-take f.before room texts (omega arith))) f.begins;
+      begins = subst (BeginsTranscript es) (sym (take-take f.before room texts (omega arith))) f.begins;
       stops =
           elim f.stops [
             | inl end ↦ (let e = end.0 in absurd (omega arith))
-            | inr none ↦ inr (λ b. none (subst (Begins es) (take-take n room texts few) b))
+            | inr none ↦ inr (λ b. none (subst (BeginsTranscript es) (take-take n room texts few) b))
           ];
     }
 

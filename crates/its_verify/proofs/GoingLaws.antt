@@ -23,10 +23,10 @@ use Rattle.its_direct.specs.declared.events.Answer.TheVariants.{Nothing, Slot, D
 use Rattle.its_direct.specs.declared.plain.Spot.{Spot}
 use Rattle.its_direct.specs.declared.plain.Spot.TheVariants as spots
 use Rattle.its_verify.specs.Going.{LineSays, SaysEnd}
-use Rattle.its_verify.specs.Hearing.{Ends, Says, Stays, cut}
+use Rattle.its_verify.specs.Hearing.{Concludes, Says, Stays, cut}
 use Rattle.its_verify.specs.Sources.{texts_of}
-use Rattle.its_verify.specs.Judge.{Judge as AnyJudge, at_end, gone, led, peeking, told}
-use Rattle.its_verify.specs.Judge.{told as asked}
+use Rattle.its_verify.specs.Judge.{Judge as AnyJudge, at_end, gone, led, peeking, expects}
+use Rattle.its_verify.specs.Judge.{expects as asked}
 use Rattle.its_verify.specs.Letters.{ticked}
 use Rattle.its_verify.specs.Showing.{IsThere, heard_of, is_peek_event, lines_of, shown_if}
 use Rattle.its_verify.specs.Standing.{Forgets, Sure, walk_of}
@@ -62,10 +62,10 @@ peek_does s (Some q) n out d c is = cc
 
 -- what is heard of a line is what it shows
 abbrev Shown : Event → Answer → Machine → List Line → Type 0
-Shown e a n out = ((next : AnyJudge) → heard_of e a n next ≡ told out next) × IsThere e n
+Shown e a n out = ((next : AnyJudge) → heard_of e a n next ≡ expects out next) × IsThere e n
 
-by_lines : (e : Event) (a : Answer) (n : Machine) (out : List Line) → out ≡ lines_of e a n → (next : AnyJudge) → told (lines_of e a n) next ≡ told out next
-by_lines e a n out is next = ap (λ (ls : List Line). told ls next) (sym is)
+by_lines : (e : Event) (a : Answer) (n : Machine) (out : List Line) → out ≡ lines_of e a n → (next : AnyJudge) → expects (lines_of e a n) next ≡ expects out next
+by_lines e a n out is next = ap (λ (ls : List Line). expects ls next) (sym is)
 
 pub line_shown : (m n : Machine) (b c : Block) (e : Event) (a : Answer) (out : List Line) (d : ℕ → Bool) → lined m b e ≡ Done (Does n out d c) → AnswerSays e a out → Shown e a n out
 unfolding lined operate
@@ -207,7 +207,7 @@ does_so e a old new b n m out d after forgets is same marks speaks says =
       there = shown.1;
       goes = λ next.
           ap (λ (o : Lined). gone (walk_of old b n) o next) is
-          ∙ ap (λ (w : Walk). told out (next w)) (line_walk old new b after n m d same marks forgets)
+          ∙ ap (λ (w : Walk). expects out (next w)) (line_walk old new b after n m d same marks forgets)
           ∙ sym (shown.0 (next (walk_of new after (n + 1))));
     }
 
@@ -226,12 +226,12 @@ obeyed_so e a old new b n h forgets speaks =
     by_comes e a old new b n o.comes forgets speaks o.is o.obeys
 
 -- there is a block of which a place speaks
-abbrev block_at : Spot → Block
+abbrev pub block_at : Spot → Block
 block_at spots.Plain = no_block
 block_at (spots.Load s) = record { slot = s; file = no_block.file }
 block_at (spots.File names) = record { slot = 0; file = names }
 
-speaks_at : (p : Spot) → Speaks p (block_at p)
+pub speaks_at : (p : Spot) → Speaks p (block_at p)
 speaks_at spots.Plain = tt
 speaks_at (spots.Load s) = refl
 speaks_at (spots.File names) = refl
@@ -266,12 +266,12 @@ told_says e a (Err x) old mid new left rest n h forgets hearing judge says = tt
 
 -- where it was refused
 pub told_refused : (e : Event) (x : Refusal) (r : Result (Option Finding) Failed) (old new : Trial) (mid : Judge) (h : Hearing) (left rest : Option (List ℕ)) (n : ℕ) → Told e old.judge.plain mid.plain (Err x)
-    → h ≡ old.hearing → SaysEnd r h left (told (Refused n (reason_of x) ∷ []) at_end) → LineSays r old new left rest n e
-told_refused e x (Ok None) old new mid h left rest n told hearing ends = absurd ends
-told_refused e x (Ok (Some f)) old new mid h left rest n told hearing ends = λ b speaks next t.
-    ap (λ (o : Lined). cut old.hearing.room old.hearing.passed (gone (walk_of old.judge b n) o next) (texts_of old.hearing.texts left)) (told b speaks)
-    ∙ subst (λ (y : Hearing). Ends (Ok f) y left (asked (Refused n (reason_of x) ∷ []) at_end)) hearing ends t
-told_refused e x (Err y) old new mid h left rest n told hearing ends = tt
+    → h ≡ old.hearing → SaysEnd r h left (expects (Refused n (reason_of x) ∷ []) at_end) → LineSays r old new left rest n e
+told_refused e x (Ok None) old new mid h left rest n expects hearing ends = absurd ends
+told_refused e x (Ok (Some f)) old new mid h left rest n expects hearing ends = λ b speaks next t.
+    ap (λ (o : Lined). cut old.hearing.room old.hearing.passed (gone (walk_of old.judge b n) o next) (texts_of old.hearing.texts left)) (expects b speaks)
+    ∙ subst (λ (y : Hearing). Concludes (Ok f) y left (asked (Refused n (reason_of x) ∷ []) at_end)) hearing ends t
+told_refused e x (Err y) old new mid h left rest n expects hearing ends = tt
 
 -- TICK and END
 tick_lined : (m : Machine) (b : Block) (i k : ℕ) → lined m b (events.Tick i k) ≡ Done (Ticks i k)
@@ -305,8 +305,8 @@ pub run_says : (k q : ℕ) (e : Event) (old : Trial) (left : Option (List ℕ)) 
 run_says k q e old left n is = λ b speaks. record {
   after = b;
   speaks = speaks;
-  goes = λ next told.
-      (ap (λ (o : Lined). cut old.hearing.room old.hearing.passed (gone (walk_of old.judge b n) o next) (texts_of old.hearing.texts left)) (ap (lined (machine_of old.judge.plain) b) is ∙ run_lined (machine_of old.judge.plain) b k q), told);
+  goes = λ next expects.
+      (ap (λ (o : Lined). cut old.hearing.room old.hearing.passed (gone (walk_of old.judge b n) o next) (texts_of old.hearing.texts left)) (ap (lined (machine_of old.judge.plain) b) is ∙ run_lined (machine_of old.judge.plain) b k q), expects);
 }
 
 pub end_says : (r : Result (Option Finding) Failed) (e : Event) (old new : Trial) (left rest : Option (List ℕ)) (n : ℕ) → e ≡ events.End → SaysEnd r old.hearing left at_end → LineSays r old new left rest n e
@@ -333,7 +333,7 @@ peek_shown (events.Peek s) a m r old new left rest b test is says = says
 peek_shown e a m r old new left rest b test is says = absurd (false≢true (sym test ∙ is))
 
 pub lines_shown : (e : Event) (a : Answer) (m : Machine) (r : Result (Option Finding) Failed) (old new : Hearing) (left rest : Option (List ℕ)) (b : Bool) → b ≡ is_peek_event e → b ≡ false
-    → ((next : AnyJudge) → Says r old new left rest (told (lines_of e a m) next) next) → (next : AnyJudge) → Says r old new left rest (heard_of e a m next) next
+    → ((next : AnyJudge) → Says r old new left rest (expects (lines_of e a m) next) next) → (next : AnyJudge) → Says r old new left rest (heard_of e a m next) next
 lines_shown (events.Peek s) a m r old new left rest b test is says = absurd (false≢true (sym is ∙ test))
 lines_shown e a m r old new left rest b test is says = says
 

@@ -25,9 +25,9 @@ use Rattle.its_plain.specs.Unrolled.{ticks_asked, turns_asked}
 use Rattle.its_direct.specs.Events.{MayStand, Speaks}
 use Rattle.its_direct.specs.declared.plain.Spot.{Spot}
 use Rattle.its_direct.specs.declared.plain.Spot.TheVariants as spots
-use Rattle.its_verify.specs.Going.{FoundStands, GoneSo, ItemSays, LineSays, SaysEnd, Split, is_end, items_by, judge_from, settled}
-use Rattle.its_verify.specs.Hearing.{Ends, Says, cut}
-use Rattle.its_verify.specs.Judge.{Judge as AnyJudge, at_end, judged, told, turned}
+use Rattle.its_verify.specs.Going.{FoundStands, GoneSo, ItemSays, LineSays, SaysEnd, Split, is_end, items_by, judge_from, machine_place}
+use Rattle.its_verify.specs.Hearing.{Concludes, Says, cut}
+use Rattle.its_verify.specs.Judge.{Judge as AnyJudge, at_end, judged, expects, turned}
 use Rattle.its_verify.specs.Sources.{IsTold, items_of, texts_of}
 use Rattle.its_verify.specs.Standing.{walk_of}
 use Rattle.its_verify.specs.Trial.{StaysTried, Tried}
@@ -36,7 +36,7 @@ use Rattle.its_verify.specs.declared.trial.Trial.{Trial}
 use Rattle.its_verify.proofs.ItemLaws.{found_bad, found_beyond, found_end, found_line}
 
 -- an item that is the last
-pub bad_says : (reason : Reason) (r : Result (Option Finding) Failed) (old new : Trial) (left rest : Option (List ℕ)) (n : ℕ) → SaysEnd r old.hearing left (told (Refused n reason ∷ []) at_end)
+pub bad_says : (reason : Reason) (r : Result (Option Finding) Failed) (old new : Trial) (left rest : Option (List ℕ)) (n : ℕ) → SaysEnd r old.hearing left (expects (Refused n reason ∷ []) at_end)
     → ItemSays r old new left rest n (Bad reason)
 bad_says reason (Ok None) old new left rest n ends = absurd ends
 bad_says reason (Ok (Some f)) old new left rest n ends = λ b speaks es. ends
@@ -91,7 +91,7 @@ stopped_says r f e old mid new left between rest n is line = λ b speaks es.
     subst (λ q. LineSays q old mid left between n e) is line b speaks (λ w. turned (turns_asked e) (ticks_asked e) w old.last (λ x s. judged x s es))
 
 -- places
-at_settled : (p q : Place) → settled q ≡ q → is_at p q ≡ true → settled p ≡ q
+at_settled : (p q : Place) → machine_place q ≡ q → is_at p q ≡ true → machine_place p ≡ q
 at_settled places.First places.First is h = is
 at_settled places.First places.Plain is h = refl
 at_settled places.First places.Load is h = absurd (false≢true h)
@@ -109,18 +109,18 @@ at_settled places.File places.First is h = absurd (false≢true h)
 at_settled places.File places.Plain is h = absurd (false≢true h)
 at_settled places.File places.Load is h = absurd (false≢true h)
 
-at_first : (p : Place) → is_at p places.First ≡ true → settled p ≡ places.Plain
+at_first : (p : Place) → is_at p places.First ≡ true → machine_place p ≡ places.Plain
 at_first places.First h = refl
 at_first places.Plain h = absurd (false≢true h)
 at_first places.Load h = absurd (false≢true h)
 at_first places.File h = absurd (false≢true h)
 
-event_stands : (p q : Place) (e : Event) → settled p ≡ q → Stands p e → MayStand q e
+event_stands : (p q : Place) (e : Event) → machine_place p ≡ q → Stands p e → MayStand q e
 event_stands p q events.Nothing same h = tt
 event_stands p q (events.Version v) same h = sym same ∙ at_first p h
 event_stands p q e same h = sym same ∙ at_settled p (event_place e) refl h
 
-pub stands_on : (p q : Place) (f : Found) → settled p ≡ q → found_stands p f → FoundStands q f
+pub stands_on : (p q : Place) (f : Found) → machine_place p ≡ q → found_stands p f → FoundStands q f
 stands_on p q (Line e) same h = event_stands p q e same h
 stands_on p q (Bad r) same h = tt
 stands_on p q Beyond same h = tt
@@ -132,7 +132,7 @@ fits_on v (Bad r) h = tt
 fits_on v Beyond h = tt
 fits_on v End h = tt
 
-after_settled : (p : Place) (e : Event) → settled (place_after p e) ≡ place_after (settled p) e
+after_settled : (p : Place) (e : Event) → machine_place (place_after p e) ≡ place_after (machine_place p) e
 after_settled p (events.Load u j c) = refl
 after_settled p (events.Go a) = refl
 after_settled p (events.File d x y) = refl
@@ -142,14 +142,14 @@ after_settled places.Plain e = refl
 after_settled places.Load e = refl
 after_settled places.File e = refl
 
-found_settled : (p : Place) (f : Found) → settled (place_found p f) ≡ place_found (settled p) f
+found_settled : (p : Place) (f : Found) → machine_place (place_found p f) ≡ place_found (machine_place p) f
 found_settled p (Line e) = after_settled p e
 found_settled p (Bad r) = refl
 found_settled p Beyond = refl
 found_settled p End = refl
 
-pub place_on : (p p2 q q2 : Place) (f : Found) → settled p ≡ q → p2 ≡ place_found p f → q2 ≡ place_found q f → settled p2 ≡ q2
-place_on p p2 q q2 f same next mine = ap settled next ∙ found_settled p f ∙ ap (λ (x : Place). place_found x f) same ∙ sym mine
+pub place_on : (p p2 q q2 : Place) (f : Found) → machine_place p ≡ q → p2 ≡ place_found p f → q2 ≡ place_found q f → machine_place p2 ≡ q2
+place_on p p2 q q2 f same next mine = ap machine_place next ∙ found_settled p f ∙ ap (λ (x : Place). place_found x f) same ∙ sym mine
 
 -- the items that are left
 line_split : (e : Event) (before after : List Item) → before ≡ item_then (Ok e) (λ _. after) → Split (Line e) before after
@@ -172,10 +172,10 @@ pub gone_start : (t : Trial) (r : Items) (session : List ℕ) (left : Option (Li
 gone_start t r session left spot number empty place version = record {
   block = no_block;
   speaks = subst (λ (s : Spot). Speaks s no_block) (sym spot) tt;
-  goes = λ told. (
+  goes = λ expects. (
     ap (λ (es : List Item). cut t.hearing.room t.hearing.passed (judge_from t no_block 1 es) (texts_of t.hearing.texts left)) (items_start r session number empty place version)
         ∙ ap (λ (n : ℕ). cut t.hearing.room t.hearing.passed (judge_from t no_block (n + 1) (items_of r (Some session))) (texts_of t.hearing.texts left)) (sym number),
-    told,
+    expects,
   );
 }
 
@@ -202,7 +202,7 @@ gone_next o f old now new judge r q session after left mid rest is so finds read
 
 pub gone_over : (o : Result (Option Finding) Failed) (x : Finding) (f : Found) (old now new : Trial) (judge : AnyJudge) (r q : Items) (session after : List ℕ) (left mid rest : Option (List ℕ)) → o ≡ Ok (Some x)
     → GoneSo old now judge r (Some session) left mid → Finds (Ok f) r q (Some session) (Some after) → Ready q.lines (Some after) → q.lines.number ≡ r.lines.number + 1
-    → ItemSays o now new mid rest q.lines.number f → Ends (Ok x) old.hearing left judge
+    → ItemSays o now new mid rest q.lines.number f → Concludes (Ok x) old.hearing left judge
 gone_over o x f old now new judge r q session after left mid rest is so finds ready number says t =
     let split = found_split f r q (Some session) (Some after) finds ready tt in
     let here = so.goes t in

@@ -13,9 +13,9 @@ use Rattle.std.proofs.lemmas.Slice.Eq.{bytes_eq-Decides}
 use Rattle.its_verify.specs.Sources.{bytes_of, texts_of}
 use Rattle.its_verify.proofs.SourceLaws.{faced, over, told_on}
 use Rattle.its_verify.specs.Lines.{is_last, is_peek, is_whole, most_bytes}
-use Rattle.its_verify.specs.Judge.{Judge, No, at_end, led, peeking, told}
+use Rattle.its_verify.specs.Judge.{Judge, No, at_end, led, peeking, expects}
 use Rattle.its_verify.specs.Verified.{Judged, TooLong, within}
-use Rattle.its_verify.specs.Hearing.{Heard, Reads, ReadsOn, Lacks, cut, answer_of, Beside, Ends, Goes, Ruled, Says, Stays, Strict, same_as}
+use Rattle.its_verify.specs.Hearing.{Heard, Reads, ReadsOn, Lacks, cut, answer_of, Beside, Concludes, HearsOn, Ruled, Says, Stays, Strict, same_as}
 use Rattle.its_print.specs.Printing.{Refused, Ticks, text_of_line}
 use Rattle.its_print.proofs.LongestLine.{longest}
 use Rattle.its_word.specs.declared.calls.Pace.{Pace}
@@ -150,7 +150,7 @@ lacks_says reads next last f old new left rest strict heard h = λ t. led_lacks 
 
 -- where one was read
 pub read_says : {X : Type 0} (reads : List ℕ → Option X) (next : X → Judge) (x : X) (old mid new : Hearing) (left rest : Option (List ℕ)) → ReadsOn (Ok None) old mid left rest → Beside old mid
-    → reads mid.texts.text.items ≡ Some x → new.texts ≡ mid.texts → new.room ≡ mid.room → new.passed ≡ mid.passed + 1 → Goes old new left rest (led reads next) (next x)
+    → reads mid.texts.text.items ≡ Some x → new.texts ≡ mid.texts → new.room ≡ mid.room → new.passed ≡ mid.passed + 1 → HearsOn old new left rest (led reads next) (next x)
 read_says reads next x old mid new left rest h beside is texts room passed = λ t.
     (let few : old.passed < old.room = (let f = h.0.few in omega (arith, f, beside.passed, beside.room)) in
     let at = h.1 t in (
@@ -269,7 +269,7 @@ strict_ticks v i k slot few text long = go (ticks_in i k text) refl
 
 -- the end
 pub finish_end : (h new : Hearing) (left rest : Option (List ℕ)) → ReadsText (Ok nexts.End) h.texts new.texts left rest → ReadyTexts new.texts rest → Heard h left
-    → Ends (Ok (findings.Yes h.passed)) h left at_end
+    → Concludes (Ok (findings.Yes h.passed)) h left at_end
 finish_end h new left rest r ready heard = λ t.
     (let told = told_on left rest r.read t r.consumed in
     let none : texts_of h.texts left ≡ [] = ap (texts_ahead h.texts) (told.bytes ∙ ap (λ (xs : List ℕ). r.read ++ xs) (over new.texts rest ready r.next.0) ∙ append-nil r.read) ∙ r.next.1 in
@@ -280,7 +280,7 @@ more_lines : (h : Hearing) (left : Option (List ℕ)) (k : ℕ) → k ≡ h.pass
 more_lines h left k is few some = rw some.is (cut_no h.room h.passed at_end some.first some.behind few (λ us. refl) ∙ ap (λ (m : ℕ). Judged (No m)) (sym is))
 
 pub finish_line : (h new : Hearing) (left rest : Option (List ℕ)) (k : ℕ) → ReadsText (Ok nexts.Line) h.texts new.texts left rest → ReadyTexts new.texts rest
-    → new.texts.number ≡ h.texts.number + 1 → new.texts.number ≤ most_lines → k ≡ h.passed + 1 → Heard h left → Ends (Ok (findings.No k)) h left at_end
+    → new.texts.number ≡ h.texts.number + 1 → new.texts.number ≤ most_lines → k ≡ h.passed + 1 → Heard h left → Concludes (Ok (findings.No k)) h left at_end
 finish_line h new left rest k r ready number few is heard = λ t.
     (let told = told_on left rest r.read t r.consumed in
     let at = ap (texts_ahead h.texts) told.bytes
@@ -289,7 +289,7 @@ finish_line h new left rest k r ready number few is heard = λ t.
     more_lines h left k is (omega (arith, c, number, few)) (record { first = new.texts.text.items; behind = texts_of new.texts rest; is = at; holds = tt }))
 
 pub finish_long : (h new : Hearing) (left rest : Option (List ℕ)) (k : ℕ) → ReadsText (Ok nexts.Long) h.texts new.texts left rest
-    → new.texts.number ≡ h.texts.number + 1 → k ≡ h.passed + 1 → Heard h left → Ends (Ok (findings.No k)) h left at_end
+    → new.texts.number ≡ h.texts.number + 1 → k ≡ h.passed + 1 → Heard h left → Concludes (Ok (findings.No k)) h left at_end
 finish_long h new left rest k r number is heard = λ t.
     (let told = told_on left rest r.read t r.consumed in
     let some = r.next.1 (bytes_of rest) in
@@ -298,7 +298,7 @@ finish_long h new left rest k r number is heard = λ t.
     more_lines h left k is (omega (arith, c, number, few)) (record { first = some.first; behind = some.behind; is = ap (texts_ahead h.texts) told.bytes ∙ some.is; holds = tt }))
 
 pub finish_beyond : (h new : Hearing) (left rest : Option (List ℕ)) → ReadsText (Ok nexts.Beyond) h.texts new.texts left rest
-    → new.texts.number ≡ h.texts.number + 1 → Heard h left → Ends (Ok findings.Beyond) h left at_end
+    → new.texts.number ≡ h.texts.number + 1 → Heard h left → Concludes (Ok findings.Beyond) h left at_end
 finish_beyond h new left rest r number heard = λ t.
     (let told = told_on left rest r.read t r.consumed in
     let some = r.next.1 (bytes_of rest) in
@@ -312,13 +312,13 @@ pub refusal_short : (n : ℕ) (r : Reason) (line : List ℕ) → line ≡ text_o
 refusal_short n r line is few = rw is (longest (Refused n r) few)
 
 pub refused_ends : (n : ℕ) (r : Reason) (line : List ℕ) (result : Result Finding Failed) (old mid : Hearing) (left rest : Option (List ℕ)) → line ≡ text_of_line (Refused n r)
-    → ((next : Judge) → Says (Ok None) old mid left rest (led (same_as line) (λ t. next)) next) → Ends result mid rest at_end → Ends result old left (told (Refused n r ∷ []) at_end)
+    → ((next : Judge) → Says (Ok None) old mid left rest (led (same_as line) (λ t. next)) next) → Concludes result mid rest at_end → Concludes result old left (expects (Refused n r ∷ []) at_end)
 refused_ends n r line (Ok f) old mid left rest is says ends = λ t.
     (let here = says at_end t in
     ap (λ (xs : List ℕ). cut old.room old.passed (led (same_as xs) (λ t. at_end)) (texts_of old.texts left)) (sym is) ∙ here.0 ∙ ends here.1)
 refused_ends n r line (Err e) old mid left rest is says ends = tt
 
 pub refused_lacks : (n : ℕ) (r : Reason) (line : List ℕ) (f : Finding) (old mid : Hearing) (left rest : Option (List ℕ)) → line ≡ text_of_line (Refused n r)
-    → ((next : Judge) → Says (Ok (Some f)) old mid left rest (led (same_as line) (λ t. next)) next) → Ends (Ok f) old left (told (Refused n r ∷ []) at_end)
+    → ((next : Judge) → Says (Ok (Some f)) old mid left rest (led (same_as line) (λ t. next)) next) → Concludes (Ok f) old left (expects (Refused n r ∷ []) at_end)
 refused_lacks n r line f old mid left rest is says = λ t.
     ap (λ (xs : List ℕ). cut old.room old.passed (led (same_as xs) (λ t. at_end)) (texts_of old.texts left)) (sym is) ∙ says at_end t

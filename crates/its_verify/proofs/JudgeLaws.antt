@@ -17,7 +17,7 @@ use Rattle.its_plain.specs.Unrolled.{turn_after, turns_asked, ticks_asked}
 use Rattle.its_plain.proofs.RunLaws.{PacedOn, LinedOn, Run}
 use Rattle.its_verify.specs.Lines.{Said, is_peek, says}
 use Rattle.its_verify.specs.Letters.{paced, ticked, ticks_in}
-use Rattle.its_verify.specs.Judge.{Judge, at_end, gone, judged, led, peeking, saying, taken, told, turned, turned_by}
+use Rattle.its_verify.specs.Judge.{Judge, at_end, gone, judged, led, peeking, saying, taken, expects, turned, turned_by}
 use Rattle.its_verify.proofs.LicenceLaws.{any_letters, if_so_is, on_paced, paced_on, said_ticks, then_of, ticked_some}
 use Rattle.its_verify.proofs.TurnLaws.{SessionOn, TurnBy, TurnsOn}
 use Rattle.its_verify.proofs.RightLaws.{Finished, Led, LedBy, Right, led_on, right_as, right_at_end, right_led}
@@ -52,11 +52,11 @@ said_led l text h = rw h refl
 led_said : (l : Line) (text x : List ℕ) → saying l text ≡ Some x → says l text ≡ true
 led_said l text x h = (if_so_is (says l text) text x h).0
 
-right_told : (ls : List Line) (R : List (List ℕ) → Type 0) (judge : Judge) → Right R judge → Right (Told ls R) (told ls judge)
+right_told : (ls : List Line) (R : List (List ℕ) → Type 0) (judge : Judge) → Right R judge → Right (Told ls R) (expects ls judge)
 right_told [] R judge h = h
 right_told (l ∷ ls) R judge h =
     let t = any_text l in
-    right_led (saying l) (λ text. Told ls R) (λ text. told ls judge) t.text t.text (said_led l t.text t.says_it) (λ text. right_told ls R judge h)
+    right_led (saying l) (λ text. Told ls R) (λ text. expects ls judge) t.text t.text (said_led l t.text t.says_it) (λ text. right_told ls R judge h)
 
 -- lines out and then lines of which S holds are said by the texts
 pub record Along (out : List Line) (S : List Line → Fate → Type 0) (texts : List (List ℕ)) : Type 0 where
@@ -107,17 +107,17 @@ OnLined v l S lines fate = LinedOn v l (λ w rest. S w rest fate) lines fate
 
 -- known lines, and no more
 right_known : (known : List Line) (S : List Line → Fate → Type 0) (fate : Fate) → S known fate → ((lines : List Line) (f : Fate) → S lines f → lines ≡ known)
-    → Right (Along [] S) (told known at_end)
+    → Right (Along [] S) (expects known at_end)
 right_known known S fate there only =
-    right_as (Told known Finished) (Along [] S) (told known at_end) (λ ts h. record { rest = known; fate = fate; holds = there; said = told_said known ts h })
+    right_as (Told known Finished) (Along [] S) (expects known at_end) (λ ts h. record { rest = known; fate = fate; holds = there; said = told_said known ts h })
     (λ ts a. said_told known ts (subst (λ (ls : List Line). Said ls ts) (only a.rest a.fate a.holds) a.said)) (right_told known Finished at_end right_at_end)
 
 -- a line that does something shows its lines first
 right_does : (v : Walk) (n : Machine) (out : List Line) (touched : ℕ → Bool) (b : Block) (S : Next) (judge : Judge)
-    → Right (Along [] (S (next_line (walk_after v n touched b)))) judge → Right (Along [] (OnLined v (Done (Does n out touched b)) S)) (told out judge)
+    → Right (Along [] (S (next_line (walk_after v n touched b)))) judge → Right (Along [] (OnLined v (Done (Does n out touched b)) S)) (expects out judge)
 right_does v n out touched b S judge next =
     let w = next_line (walk_after v n touched b) in
-    right_as (Told out (Along [] (S w))) (Along [] (OnLined v (Done (Does n out touched b)) S)) (told out judge)
+    right_as (Told out (Along [] (S w))) (Along [] (OnLined v (Done (Does n out touched b)) S)) (expects out judge)
     (λ ts h. (let a = told_along out (S w) ts h in record { rest = out ++ a.rest; fate = a.fate; holds = (a.rest, refl, a.holds); said = a.said }))
     (λ ts a.
     along_told out (S w) ts

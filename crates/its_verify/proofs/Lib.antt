@@ -23,6 +23,7 @@ pub mod TrialLaws
 pub mod ShowingLaws
 pub mod GoingLaws
 pub mod GoneLaws
+pub mod OutLaws
 pub mod VerifyLaws
 mod Examples
 pub mod SeriesLaws

@@ -20,7 +20,7 @@ use Rattle.its_word.proofs.DigitLaws.{digits_are_codes}
 use Rattle.its_asm.specs.TypeOut.{typed}
 use Rattle.its_asm.proofs.NumberLaws.{all_imp}
 use Rattle.its_asm.proofs.TypeLaws.{typed_printable}
-use Rattle.its_print.specs.Printing.{Line, Loaded, Ticks, Typed, Drained, Words, Listed, State, Peeked, Dir, Filed, Shown, Row, Refused, letter_of, run_of, runs_from, runs_of, word_or_dash, number_or_dash, run_or_stop, job_fields, symbol_or_dashes, symbol_fields, state_name, reason_name, first_of, fields_of, text_of_line, text}
+use Rattle.its_print.specs.Printing.{Line, Loaded, Ticks, Typed, Drained, Words, Listed, State, Peeked, Dir, Filed, Shown, Row, Refused, letter_of, run_of, runs_from, runs_of, word_or_dash, number_or_dash, run_or_stop, job_fields, symbol_or_dashes, symbol_fields, state_name, reason_name, keyword, fields_of, text_of_line, text}
 use Rattle.its_print.specs.Sizes.{IsPrinted}
 use Rattle.its_print.proofs.LongestLine.{longest}
 use Rattle.its_session.proofs.WordsLaws.{words_cut}
@@ -169,7 +169,7 @@ fields_free (Shown d x y k) = (octal12_free d, (octal12_free x, (octal12_free y,
 fields_free (Row ws) = all_free octal12_of ws octal12_free
 fields_free (Refused n r) = (digits_free n, (reason_free r, tt))
 
-first_free : (l : Line) → Free (first_of l)
+first_free : (l : Line) → Free (keyword l)
 first_free (Loaded s) = refl
 first_free (Ticks s ps) = refl
 first_free (Typed c n) = refl
@@ -198,8 +198,8 @@ whole_behind (w ∷ ws) h = whole_after w (behind ws (10 ∷ [])) h.0 (whole_beh
 pub text_whole : (l : Line) → is_whole (text_of_line l) ≡ true
 unfolding text_of_line
 text_whole l =
-    rw (spaced_behind (first_of l) (fields_of l) (10 ∷ []))
-    (whole_after (first_of l) (behind (fields_of l) (10 ∷ [])) (first_free l) (whole_behind (fields_of l) (fields_free l)))
+    rw (spaced_behind (keyword l) (fields_of l) (10 ∷ []))
+    (whole_after (keyword l) (behind (fields_of l) (10 ∷ [])) (first_free l) (whole_behind (fields_of l) (fields_free l)))
 
 -- each text that says a line
 peek_whole : (text : List ℕ) → is_peek text ≡ true → is_whole text ≡ true

@@ -26,7 +26,7 @@ use Rattle.its_direct.specs.declared.plain.Plain.{Plain}
 use Rattle.its_verify.specs.Sources.{texts_of}
 use Rattle.its_verify.specs.Verified.{Answer}
 use Rattle.its_verify.specs.Hearing.{Heard, Says, Stays, cut, same_as}
-use Rattle.its_verify.specs.Judge.{Judge, led, saying, told}
+use Rattle.its_verify.specs.Judge.{Judge, led, saying, expects}
 use Rattle.its_verify.specs.Showing.{BitsSo, LinesSo, names_line, shown_if, text_lines}
 use Rattle.its_verify.specs.declared.finding.Finding.{Finding}
 use Rattle.its_verify.specs.declared.hearing.Hearing.{Hearing}
@@ -66,24 +66,24 @@ pub row_short : (ws xs : List ℕ) → xs ≡ text_of_line (Row ws) → length w
 row_short ws xs is few = printed_short (Row ws) xs is few
 
 pub printed_says : (l : Line) (xs : List ℕ) (o : Result (Option Finding) Failed) (old new : Hearing) (left rest : Option (List ℕ)) → xs ≡ text_of_line l → saying l ≡ same_as (text_of_line l)
-    → ((next : Judge) → Says o old new left rest (led (same_as xs) (λ t. next)) next) → (next : Judge) → Says o old new left rest (told (l ∷ []) next) next
+    → ((next : Judge) → Says o old new left rest (led (same_as xs) (λ t. next)) next) → (next : Judge) → Says o old new left rest (expects (l ∷ []) next) next
 printed_says l xs o old new left rest is same says next =
     subst (λ (f : List ℕ → Option (List ℕ)). Says o old new left rest (led f (λ t. next)) next) (ap same_as is ∙ sym same) (says next)
 
 -- lines that show a value that is there
 pub shown_says : {X E : Type 0} (show : X → List Line) (r : Result X E) (x : X) (o : Result (Option Finding) Failed) (old new : Hearing) (left rest : Option (List ℕ)) → IsOk r → IfOk r (λ y. x ≡ y)
-    → ((next : Judge) → Says o old new left rest (told (show x) next) next) → (next : Judge) → Says o old new left rest (told (shown_if show r) next) next
-shown_says show (Ok y) x o old new left rest there is says next = subst (λ z. Says o old new left rest (told (show z) next) next) is (says next)
+    → ((next : Judge) → Says o old new left rest (expects (show x) next) next) → (next : Judge) → Says o old new left rest (expects (shown_if show r) next) next
+shown_says show (Ok y) x o old new left rest there is says next = subst (λ z. Says o old new left rest (expects (show z) next) next) is (says next)
 shown_says show (Err e) x o old new left rest there is says next = absurd (false≢true there)
 
 pub words_say : (s a : ℕ) (r : Result (List ℕ) Reason) (ws : List ℕ) (o : Result (Option Finding) Failed) (old new : Hearing) (left rest : Option (List ℕ)) → IsOk r → IfOk r (λ y. ws ≡ y)
-    → ((next : Judge) → Says o old new left rest (told (in_a_line s a ws) next) next)
-    → (next : Judge) → Says o old new left rest (told (shown_if (in_a_line s a) r) next) next
+    → ((next : Judge) → Says o old new left rest (expects (in_a_line s a ws) next) next)
+    → (next : Judge) → Says o old new left rest (expects (shown_if (in_a_line s a) r) next) next
 words_say s a r ws o old new left rest there is says = shown_says (in_a_line s a) r ws o old new left rest there is says
 
 pub list_says : (s a : ℕ) (r : Result (List ℕ) Reason) (ws : List ℕ) (o : Result (Option Finding) Failed) (old new : Hearing) (left rest : Option (List ℕ)) → IsOk r → IfOk r (λ y. ws ≡ y)
-    → ((next : Judge) → Says o old new left rest (told (listed s a ws) next) next)
-    → (next : Judge) → Says o old new left rest (told (shown_if (listed s a) r) next) next
+    → ((next : Judge) → Says o old new left rest (expects (listed s a ws) next) next)
+    → (next : Judge) → Says o old new left rest (expects (shown_if (listed s a) r) next) next
 list_says s a r ws o old new left rest there is says = shown_says (listed s a) r ws o old new left rest there is says
 
 -- several lines
@@ -91,26 +91,26 @@ pub lines_start : (h : Hearing) (left : Option (List ℕ)) (lines : List Line) �
 lines_start h left lines next t = (refl, t)
 
 pub lines_next : (r : Result (Option Finding) Failed) (old now new : Hearing) (left mid rest : Option (List ℕ)) (lines rests more : List Line) (l : Line) → r ≡ Ok None → rests ≡ l ∷ more → LinesSo old now left mid lines rests
-    → ((next : Judge) → Says r now new mid rest (told (l ∷ []) next) next) → LinesSo old new left rest lines more
+    → ((next : Judge) → Says r now new mid rest (expects (l ∷ []) next) next) → LinesSo old new left rest lines more
 lines_next (Ok None) old now new left mid rest lines rests more l is split so says next =
-    λ t. (let here = subst (LinesSo old now left mid lines) split so next t in let on = says (told more next) here.1 in (here.0 ∙ on.0, on.1))
+    λ t. (let here = subst (LinesSo old now left mid lines) split so next t in let on = says (expects more next) here.1 in (here.0 ∙ on.0, on.1))
 lines_next (Ok (Some f)) old now new left mid rest lines rests more l is split so says next = cc
 lines_next (Err e) old now new left mid rest lines rests more l is split so says next = cc
 
 pub lines_stop : (r : Result (Option Finding) Failed) (f : Finding) (old now new : Hearing) (left mid rest : Option (List ℕ)) (lines rests more : List Line) (l : Line) → r ≡ Ok (Some f) → rests ≡ l ∷ more → LinesSo old now left mid lines rests
-    → ((next : Judge) → Says r now new mid rest (told (l ∷ []) next) next) → (next : Judge) → Says (Ok (Some f)) old new left rest (told lines next) next
+    → ((next : Judge) → Says r now new mid rest (expects (l ∷ []) next) next) → (next : Judge) → Says (Ok (Some f)) old new left rest (expects lines next) next
 lines_stop r f old now new left mid rest lines rests more l is split so says next t =
     let here = subst (LinesSo old now left mid lines) split so next t in
-    let stop = subst (λ q. Says q now new mid rest (told (l ∷ []) (told more next)) (told more next)) is (says (told more next)) in
+    let stop = subst (λ q. Says q now new mid rest (expects (l ∷ []) (expects more next)) (expects more next)) is (says (expects more next)) in
     here.0 ∙ stop here.1
 
-pub lines_end : (old now : Hearing) (left rest : Option (List ℕ)) (lines more : List Line) → more ≡ [] → LinesSo old now left rest lines more → (next : Judge) → Says (Ok None) old now left rest (told lines next) next
+pub lines_end : (old now : Hearing) (left rest : Option (List ℕ)) (lines more : List Line) → more ≡ [] → LinesSo old now left rest lines more → (next : Judge) → Says (Ok None) old now left rest (expects lines next) next
 lines_end old now left rest lines more none so next t =
     let here = so next t in
     (here.0 ∙ ap (λ (ls : List Line). cut_of ls) none, here.1)
   where
     cut_of : List Line → Answer
-    cut_of ls = cut now.room now.passed (told ls next) (texts_of now.texts rest)
+    cut_of ls = cut now.room now.passed (expects ls next) (texts_of now.texts rest)
 
 pub heard_by : (r : Result (Option Finding) Failed) (new : Hearing) (rest : Option (List ℕ)) → r ≡ Ok None → Stays r new rest → Heard new rest
 heard_by r new rest is h = subst (λ q. Stays q new rest) is h
@@ -121,11 +121,11 @@ listed_more s p k ws w below at = rw (drop-cons ws k w below, add-one k, sym at)
 
 -- a job
 pub state_says : (v w s : ℕ) (r : Result JobShow Reason) (x : JobShow) (o : Result (Option Finding) Failed) (old new : Hearing) (left rest : Option (List ℕ)) → IsOk r → IfOk r (λ y. Some x ≡ Some y) → w ≡ v
-    → ((next : Judge) → Says o old new left rest (told (State w s x ∷ []) next) next)
-    → (next : Judge) → Says o old new left rest (told (shown_if (λ show. State v s show ∷ []) r) next) next
+    → ((next : Judge) → Says o old new left rest (expects (State w s x ∷ []) next) next)
+    → (next : Judge) → Says o old new left rest (expects (shown_if (λ show. State v s show ∷ []) r) next) next
 state_says v w s (Ok y) x o old new left rest there is same says next =
     let here : x ≡ y = cc in
-    subst (λ z. Says o old new left rest (told (State v s z ∷ []) next) next) here (subst (λ n. Says o old new left rest (told (State n s x ∷ []) next) next) same (says next))
+    subst (λ z. Says o old new left rest (expects (State v s z ∷ []) next) next) here (subst (λ n. Says o old new left rest (expects (State n s x ∷ []) next) next) same (says next))
 state_says v w s (Err e) x o old new left rest there is same says next = absurd (false≢true there)
 
 pub version_is : (p : Plain) → p.version ≡ (machine_of p).version
@@ -134,32 +134,32 @@ version_is p = refl
 
 -- files
 pub filed_says : (f : File) (show : FileShow) (o : Result (Option Finding) Failed) (old new : Hearing) (left rest : Option (List ℕ)) → show ≡ show_of f
-    → ((next : Judge) → Says o old new left rest (told (Filed show ∷ []) next) next) → (next : Judge) → Says o old new left rest (told (filed_line f ∷ []) next) next
-filed_says f show o old new left rest is says next = subst (λ (x : FileShow). Says o old new left rest (told (Filed x ∷ []) next) next) is (says next)
+    → ((next : Judge) → Says o old new left rest (expects (Filed show ∷ []) next) next) → (next : Judge) → Says o old new left rest (expects (filed_line f ∷ []) next) next
+filed_says f show o old new left rest is says next = subst (λ (x : FileShow). Says o old new left rest (expects (Filed x ∷ []) next) next) is (says next)
 
 pub row_says : (ws row : List ℕ) (o : Result (Option Finding) Failed) (old new : Hearing) (left rest : Option (List ℕ)) → row ≡ ws
-    → ((next : Judge) → Says o old new left rest (told (Row row ∷ []) next) next) → (next : Judge) → Says o old new left rest (told (Row ws ∷ []) next) next
-row_says ws row o old new left rest is says next = subst (λ (x : List ℕ). Says o old new left rest (told (Row x ∷ []) next) next) is (says next)
+    → ((next : Judge) → Says o old new left rest (expects (Row row ∷ []) next) next) → (next : Judge) → Says o old new left rest (expects (Row ws ∷ []) next) next
+row_says ws row o old new left rest is says next = subst (λ (x : List ℕ). Says o old new left rest (expects (Row x ∷ []) next) next) is (says next)
 
 -- two parts of what is shown
 pub then_says : (r o : Result (Option Finding) Failed) (old mid new : Hearing) (left between rest : Option (List ℕ)) (l : Line) (lines : List Line) → r ≡ Ok None
-    → ((next : Judge) → Says r old mid left between (told (l ∷ []) next) next) → ((next : Judge) → Says o mid new between rest (told lines next) next)
-    → (next : Judge) → Says o old new left rest (told (l ∷ lines) next) next
+    → ((next : Judge) → Says r old mid left between (expects (l ∷ []) next) next) → ((next : Judge) → Says o mid new between rest (expects lines next) next)
+    → (next : Judge) → Says o old new left rest (expects (l ∷ lines) next) next
 then_says r (Ok None) old mid new left between rest l lines is first more next = λ t.
-    (let here = subst (λ q. Says q old mid left between (told (l ∷ []) (told lines next)) (told lines next)) is (first (told lines next)) t in
+    (let here = subst (λ q. Says q old mid left between (expects (l ∷ []) (expects lines next)) (expects lines next)) is (first (expects lines next)) t in
     let on = more next here.1 in (here.0 ∙ on.0, on.1))
 then_says r (Ok (Some f)) old mid new left between rest l lines is first more next = λ t.
-    (let here = subst (λ q. Says q old mid left between (told (l ∷ []) (told lines next)) (told lines next)) is (first (told lines next)) t in
+    (let here = subst (λ q. Says q old mid left between (expects (l ∷ []) (expects lines next)) (expects lines next)) is (first (expects lines next)) t in
     here.0 ∙ more next here.1)
 then_says r (Err e) old mid new left between rest l lines is first more next = tt
 
 pub stop_says : (r : Result (Option Finding) Failed) (f : Finding) (old new : Hearing) (left rest : Option (List ℕ)) (l : Line) (lines : List Line) → r ≡ Ok (Some f)
-    → ((next : Judge) → Says r old new left rest (told (l ∷ []) next) next) → (next : Judge) → Says (Ok (Some f)) old new left rest (told (l ∷ lines) next) next
-stop_says r f old new left rest l lines is first next = subst (λ q. Says q old new left rest (told (l ∷ []) (told lines next)) (told lines next)) is (first (told lines next))
+    → ((next : Judge) → Says r old new left rest (expects (l ∷ []) next) next) → (next : Judge) → Says (Ok (Some f)) old new left rest (expects (l ∷ lines) next) next
+stop_says r f old new left rest l lines is first next = subst (λ q. Says q old new left rest (expects (l ∷ []) (expects lines next)) (expects lines next)) is (first (expects lines next))
 
 pub same_says : (o : Result (Option Finding) Failed) (old new : Hearing) (left rest : Option (List ℕ)) (lines more : List Line) → lines ≡ more
-    → ((next : Judge) → Says o old new left rest (told lines next) next) → (next : Judge) → Says o old new left rest (told more next) next
-same_says o old new left rest lines more is says next = subst (λ (ls : List Line). Says o old new left rest (told ls next) next) is (says next)
+    → ((next : Judge) → Says o old new left rest (expects lines next) next) → (next : Judge) → Says o old new left rest (expects more next) next
+same_says o old new left rest lines more is says next = subst (λ (ls : List Line). Says o old new left rest (expects ls next) next) is (says next)
 
 -- bytes
 pub bits_start : (bs : List ℕ) (k : ℕ) → k ≡ 0 → BitsSo k bs
@@ -224,8 +224,8 @@ pub no_file_is : (m : Machine) (d x y : ℕ) → None ≡ file_named (names_of d
 unfolding file_shown
 no_file_is m d x y is = ap (λ (o : Option File). shown_if (λ out. out) (shown_by d x y o)) is
 
-pub nothing_says : (h : Hearing) (left : Option (List ℕ)) (lines : List Line) → [] ≡ lines → (next : Judge) → Says (Ok None) h h left left (told lines next) next
-nothing_says h left lines is next = subst (λ (ls : List Line). Says (Ok None) h h left left (told ls next) next) is (λ t. (refl, t))
+pub nothing_says : (h : Hearing) (left : Option (List ℕ)) (lines : List Line) → [] ≡ lines → (next : Judge) → Says (Ok None) h h left left (expects lines next) next
+nothing_says h left lines is next = subst (λ (ls : List Line). Says (Ok None) h h left left (expects ls next) next) is (λ t. (refl, t))
 
 -- slots
 pub in_slots : (s : ℕ) → s ≤ last_slot 2 → s < slots

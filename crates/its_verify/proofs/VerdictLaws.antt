@@ -8,7 +8,7 @@ use Rattle.std.proofs.lemmas.Bool.{cases_order}
 use Rattle.its_plain.specs.Transcript.{Fate, Transcript, at_start}
 use Rattle.its_plain.specs.Unrolled.{highest, unrolled}
 use Rattle.its_reader.specs.TextLines.{lines_in}
-use Rattle.its_verify.specs.Accepted.{Accepted, AcceptedLines, Begins, IsFirst}
+use Rattle.its_verify.specs.Accepted.{Accepted, AcceptedLines, BeginsTranscript, IsFirst}
 use Rattle.its_verify.specs.Judge.{Verdict, Yes, No, verdict, judged}
 use Rattle.its_verify.proofs.LinesLaws.{concat_lines, lines_concat}
 use Rattle.its_verify.proofs.PrintedLaws.{said_whole, tells_text}
@@ -52,10 +52,10 @@ by_decided es texts (No k) d h = absurd (d.1 h)
 pub lines_yes : (es : List Item) (texts : List (List ℕ)) → AcceptedLines es texts → judged at_start highest es 0 texts ≡ Yes (length texts)
 lines_yes es texts h = by_decided es texts (judged at_start highest es 0 texts) (decided es texts) (lines_from es texts h)
 
-begins : (es : List Item) (texts : List (List ℕ)) → Begun (From at_start highest es) texts → Begins es texts
+begins : (es : List Item) (texts : List (List ℕ)) → Begun (From at_start highest es) texts → BeginsTranscript es texts
 begins es texts b = record { more = b.more; accepted = from_lines es (texts ++ b.more) b.whole }
 
-begun : (es : List Item) (texts : List (List ℕ)) → Begins es texts → Begun (From at_start highest es) texts
+begun : (es : List Item) (texts : List (List ℕ)) → BeginsTranscript es texts → Begun (From at_start highest es) texts
 begun es texts b = record { more = b.more; whole = lines_from es (texts ++ b.more) b.accepted }
 
 first : (es : List Item) (texts : List (List ℕ)) (k : ℕ) → First (From at_start highest es) texts 0 k → IsFirst es texts k
@@ -69,7 +69,7 @@ first es texts k f =
       stops =
           elim f.stops [
             | inl end ↦ inl (end.0, λ h. end.1 (lines_from es texts h))
-            | inr none ↦ inr (λ b. none (begun es (take (suc f.before) texts) (subst (λ (m : ℕ). Begins es (take m texts)) is b)))
+            | inr none ↦ inr (λ b. none (begun es (take (suc f.before) texts) (subst (λ (m : ℕ). BeginsTranscript es (take m texts)) is b)))
           ];
     }
 
@@ -96,7 +96,7 @@ pub written_accepted : (es : List Item) (lines : List Line) (fate : Fate) → Al
 written_accepted es lines fate printed h = record { lines = lines; fate = fate; transcript = h; text = tells_text lines printed }
 
 -- there is one first line that is not licensed: the judge says No with it exactly where it is it
-less_begins : (es : List Item) (texts : List (List ℕ)) (k m : ℕ) → k ≤ m → Begins es (take m texts) → Begins es (take k texts)
+less_begins : (es : List Item) (texts : List (List ℕ)) (k m : ℕ) → k ≤ m → BeginsTranscript es (take m texts) → BeginsTranscript es (take k texts)
 less_begins es texts k m less b =
     let two : take k texts ++ drop k (take m texts) ≡ take m texts = ap (λ (t : List (List ℕ)). t ++ drop k (take m texts)) (sym (take-take k m texts less)) ∙ take-append-drop k (take m texts) in
     record {
@@ -104,7 +104,7 @@ less_begins es texts k m less b =
       accepted = rw (← append_assoc (take k texts) (drop k (take m texts)) b.more, two) b.accepted;
     }
 
-accepted_begins : (es : List Item) (texts : List (List ℕ)) (k : ℕ) → AcceptedLines es texts → Begins es (take k texts)
+accepted_begins : (es : List Item) (texts : List (List ℕ)) (k : ℕ) → AcceptedLines es texts → BeginsTranscript es (take k texts)
 accepted_begins es texts k h = record { more = drop k texts; accepted = rw (take-append-drop k texts) h }
 
 not_less : (es : List Item) (texts : List (List ℕ)) (n m : ℕ) → IsFirst es texts n → IsFirst es texts m → n < m → ⊥

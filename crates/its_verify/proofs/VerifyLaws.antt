@@ -12,7 +12,7 @@ use Rattle.its_plain.specs.Unrolled.{highest}
 use Rattle.its_direct.specs.Plain.{machine_of}
 use Rattle.its_verify.specs.Finds.{Found, Judges}
 use Rattle.its_verify.specs.Going.{judge_from}
-use Rattle.its_verify.specs.Hearing.{Ends, cut}
+use Rattle.its_verify.specs.Hearing.{Concludes, cut}
 use Rattle.its_verify.specs.Judge.{judged}
 use Rattle.its_verify.specs.Keeping.{Keeps, parts_by}
 use Rattle.its_verify.specs.Sources.{texts_of}
@@ -35,7 +35,7 @@ starts m d machine dots = ap (λ (x : Machine). with_dots x d) machine ∙ ap (w
 
 pub judges_so : (f : Finding) (t : Trial) (texts : Texts) (session : List ℕ) (left : Option (List ℕ)) → machine_of t.judge.plain ≡ no_machine → dots_of t.judge.dots ≡ (λ k. 0) → t.last ≡ highest
     → t.hearing.room ≡ most_lines - texts.number → t.hearing.passed ≡ 0 → texts_of t.hearing.texts left ≡ texts_of texts left
-    → Ends (Ok f) t.hearing left (judge_from t no_block 1 (events_of session)) → Judges (Ok f) texts session left
+    → Concludes (Ok f) t.hearing left (judge_from t no_block 1 (events_of session)) → Judges (Ok f) texts session left
 judges_so f t texts session left machine dots last room passed same ends told =
     ap (λ (w : Walk). cut (most_lines - texts.number) 0 (judged w highest (events_of session)) (texts_of texts left)) (sym (starts (machine_of t.judge.plain) (dots_of t.judge.dots) machine dots))
     ∙ ap (λ (i : ℕ). cut (most_lines - texts.number) 0 (judged (walk_of t.judge no_block 1) i (events_of session)) (texts_of texts left)) (sym last)

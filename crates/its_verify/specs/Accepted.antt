@@ -22,7 +22,7 @@ pub record AcceptedLines (es : List Item) (texts : List (List ℕ)) : Type 0 whe
   pub said : Said lines texts
 
 -- these lines begin a transcript of the events
-pub record Begins (es : List Item) (texts : List (List ℕ)) : Type 0 where
+pub record BeginsTranscript (es : List Item) (texts : List (List ℕ)) : Type 0 where
   pub more : List (List ℕ)
   pub accepted : AcceptedLines es (texts ++ more)
 
@@ -32,5 +32,5 @@ pub record IsFirst (es : List Item) (texts : List (List ℕ)) (n : ℕ) : Type 0
   pub before : ℕ
   pub next : n ≡ before + 1
   pub few : before ≤ length texts
-  pub begins : Begins es (take before texts)
-  pub stops : ((before ≡ length texts) × (AcceptedLines es texts → ⊥)) ⊎ (Begins es (take n texts) → ⊥)
+  pub begins : BeginsTranscript es (take before texts)
+  pub stops : ((before ≡ length texts) × (AcceptedLines es texts → ⊥)) ⊎ (BeginsTranscript es (take n texts) → ⊥)

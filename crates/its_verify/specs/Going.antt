@@ -16,7 +16,7 @@ use Rattle.its_plain.specs.OperatorLines.{lined}
 use Rattle.its_plain.specs.Transcript.{Walk}
 use Rattle.its_direct.specs.Plain.{machine_of}
 use Rattle.its_direct.specs.Events.{MayStand, Speaks}
-use Rattle.its_verify.specs.Hearing.{Ends, Goes}
+use Rattle.its_verify.specs.Hearing.{Concludes, HearsOn}
 use Rattle.its_verify.specs.Judge.{Judge, gone, judged}
 use Rattle.its_verify.specs.Sources.{items_of}
 use Rattle.its_verify.specs.Standing.{walk_of}
@@ -33,20 +33,20 @@ pub record LedOn (old new : Trial) (left rest : Option (List ℕ)) (b : Block) (
   pub after : Block
   pub speaks : Speaks new.judge.plain.place after
   pub goes : (next : Walk → Judge)
-      → Goes old.hearing new.hearing left rest (line_judge old b n e next) (next (walk_of new.judge after (n + 1)))
+      → HearsOn old.hearing new.hearing left rest (line_judge old b n e next) (next (walk_of new.judge after (n + 1)))
 
 -- line n led on, or all is said
 abbrev pub LineSays : Result (Option Finding) Failed → Trial → Trial → Option (List ℕ) → Option (List ℕ) → ℕ → Event → Type 0
 LineSays (Ok None) old new left rest n e = (b : Block) → Speaks old.judge.plain.place b → LedOn old new left rest b n e
 LineSays (Ok (Some f)) old new left rest n e =
     (b : Block) → Speaks old.judge.plain.place b
-    → (next : Walk → Judge) → Ends (Ok f) old.hearing left (line_judge old b n e next)
+    → (next : Walk → Judge) → Concludes (Ok f) old.hearing left (line_judge old b n e next)
 LineSays (Err x) old new left rest n e = Unit {0}
 
 -- all is said by a judge
 abbrev pub SaysEnd : Result (Option Finding) Failed → Hearing → Option (List ℕ) → Judge → Type 0
 SaysEnd (Ok None) old left judge = ⊥
-SaysEnd (Ok (Some f)) old left judge = Ends (Ok f) old left judge
+SaysEnd (Ok (Some f)) old left judge = Concludes (Ok f) old left judge
 SaysEnd (Err x) old left judge = Unit {0}
 
 abbrev pub is_end : Event → Bool
@@ -54,11 +54,11 @@ is_end events.End = true
 is_end e = false
 
 -- the place behind the first line, and so the place of the machine
-abbrev pub settled : Place → Place
-settled places.First = places.Plain
-settled places.Plain = places.Plain
-settled places.Load = places.Load
-settled places.File = places.File
+abbrev pub machine_place : Place → Place
+machine_place places.First = places.Plain
+machine_place places.Plain = places.Plain
+machine_place places.Load = places.Load
+machine_place places.File = places.File
 
 -- an item may stand at a place
 abbrev pub FoundStands : Place → Found → Type 0
@@ -83,21 +83,22 @@ pub record ItemLed (old new : Trial) (left rest : Option (List ℕ)) (b : Block)
   pub after : Block
   pub speaks : Speaks new.judge.plain.place after
   pub goes : (es : List Item)
-      → Goes old.hearing new.hearing left rest (judge_from old b n (items_by f es)) (judge_from new after (n + 1) es)
+      → HearsOn old.hearing new.hearing left rest (judge_from old b n (items_by f es)) (judge_from new after (n + 1) es)
 
 -- it led on, or all is said
 abbrev pub ItemSays : Result (Option Finding) Failed → Trial → Trial → Option (List ℕ) → Option (List ℕ) → ℕ → Found → Type 0
 ItemSays (Ok None) old new left rest n f = (b : Block) → Speaks old.judge.plain.place b → ItemLed old new left rest b n f
 ItemSays (Ok (Some x)) old new left rest n f =
     (b : Block) → Speaks old.judge.plain.place b
-    → (es : List Item) → Ends (Ok x) old.hearing left (judge_from old b n (items_by f es))
+    → (es : List Item) → Concludes (Ok x) old.hearing left (judge_from old b n (items_by f es))
 ItemSays (Err x) old new left rest n f = Unit {0}
 
 -- so far: the items that were found led on
 pub record GoneSo (old now : Trial) (judge : Judge) (r : Items) (session left rest : Option (List ℕ)) : Type 0 where
   pub block : Block
   pub speaks : Speaks now.judge.plain.place block
-  pub goes : Goes old.hearing now.hearing left rest judge (judge_from now block (r.lines.number + 1) (items_of r session))
+  pub goes :
+      HearsOn old.hearing now.hearing left rest judge (judge_from now block (r.lines.number + 1) (items_of r session))
 
 -- the items that are left, where this was found: it is the first of them, and others come behind it where it is not the last
 pub record Split (f : Found) (before : List Item) (after : List Item) : Type 0 where

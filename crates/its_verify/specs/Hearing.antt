@@ -69,19 +69,19 @@ ReadsOn (Ok (Some f)) old new left rest = IsTold left → Lacks f old.room old.p
 ReadsOn (Err e) old new left rest = Unit {0}
 
 -- what a judge says of the lines that were left is what the next says of those that are left now, or all is said
-abbrev pub Goes : Hearing → Hearing → Option (List ℕ) → Option (List ℕ) → Judge → Judge → Type 0
-Goes old new left rest judge next =
+abbrev pub HearsOn : Hearing → Hearing → Option (List ℕ) → Option (List ℕ) → Judge → Judge → Type 0
+HearsOn old new left rest judge next =
     IsTold left → (cut old.room old.passed judge (texts_of old.texts left) ≡ cut new.room new.passed next (texts_of new.texts rest)) × IsTold rest
 
 abbrev pub Says : Result (Option Finding) Failed → Hearing → Hearing → Option (List ℕ) → Option (List ℕ) → Judge → Judge → Type 0
-Says (Ok None) old new left rest judge next = Goes old new left rest judge next
+Says (Ok None) old new left rest judge next = HearsOn old new left rest judge next
 Says (Ok (Some f)) old new left rest judge next = IsTold left → cut old.room old.passed judge (texts_of old.texts left) ≡ answer_of f
 Says (Err e) old new left rest judge next = Unit {0}
 
 -- all is said that a judge says of the lines that were left
-abbrev pub Ends : Result Finding Failed → Hearing → Option (List ℕ) → Judge → Type 0
-Ends (Ok f) old left judge = IsTold left → cut old.room old.passed judge (texts_of old.texts left) ≡ answer_of f
-Ends (Err e) old left judge = Unit {0}
+abbrev pub Concludes : Result Finding Failed → Hearing → Option (List ℕ) → Judge → Type 0
+Concludes (Ok f) old left judge = IsTold left → cut old.room old.passed judge (texts_of old.texts left) ≡ answer_of f
+Concludes (Err e) old left judge = Unit {0}
 
 -- where it goes on, all holds together
 abbrev pub Stays : Result (Option Finding) Failed → Hearing → Option (List ℕ) → Type 0

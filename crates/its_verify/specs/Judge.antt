@@ -45,14 +45,14 @@ abbrev pub peeking : List ℕ → Option (List ℕ)
 peeking bytes = if_so (is_peek bytes) bytes
 
 -- these lines are shown
-abbrev pub told : List Line → Judge → Judge
-told [] next = next
-told (line ∷ lines) next = led (saying line) (λ text. told lines next)
+abbrev pub expects : List Line → Judge → Judge
+expects [] next = next
+expects (line ∷ lines) next = led (saying line) (λ text. expects lines next)
 
 -- a line of the session that comes to this
 abbrev pub gone : Walk → Lined → (Walk → Judge) → Judge
-gone v (Done (Refuses r)) next = told (Refused v.line r ∷ []) at_end
-gone v (Done (Does n out touched b)) next = told out (next (next_line (walk_after v n touched b)))
+gone v (Done (Refuses r)) next = expects (Refused v.line r ∷ []) at_end
+gone v (Done (Does n out touched b)) next = expects out (next (next_line (walk_after v n touched b)))
 gone v (Done (Ticks i k)) next = led (ticked v i k) (λ w. next (next_line w))
 gone v (Done Quits) next = at_end
 gone v (Peeks i) next = led peeking (λ text. next (next_line v))
@@ -72,7 +72,7 @@ abbrev pub taken : Walk → List Item → Judge
 taken v [] = at_end
 taken v (Read e ∷ es) = gone v (lined v.machine v.block e) (λ w. taken w es)
 taken v (InTurn i k ∷ es) = led (ticked v i k) (λ w. taken w es)
-taken v (Unread r ∷ es) = told (Refused v.line r ∷ []) at_end
+taken v (Unread r ∷ es) = expects (Refused v.line r ∷ []) at_end
 taken v (Beyond ∷ es) = at_end
 
 -- the events of a session from here on, after a turn of the last slot: behind a RUN line come its turns

@@ -6,7 +6,7 @@ use Rattle.its_plain.specs.Machine.{Machine}
 use Rattle.its_plain.specs.Operator.{Block}
 use Rattle.its_plain.specs.Transcript.{Walk}
 use Rattle.its_plain.specs.Unrolled.{runs}
-use Rattle.its_verify.specs.Hearing.{Goes, Heard}
+use Rattle.its_verify.specs.Hearing.{HearsOn, Heard}
 use Rattle.its_verify.specs.Judge.{Judge, turned}
 use Rattle.its_verify.specs.Standing.{Sure, walk_of}
 use Rattle.its_verify.specs.declared.finding.Finding.{Finding}
@@ -29,7 +29,7 @@ StaysTried (Err e) new rest = Unit {0}
 abbrev pub TurnsSo : Trial → Trial → ℕ → ℕ → ℕ → Option (List ℕ) → Option (List ℕ) → Type 0
 TurnsSo old now n k q left rest =
     (b : Block) (l : ℕ) (next : Walk → ℕ → Judge)
-    → Goes old.hearing now.hearing left rest (turned n q (walk_of old.judge b l) old.last next)
+    → HearsOn old.hearing now.hearing left rest (turned n q (walk_of old.judge b l) old.last next)
     (turned (n - k) q (walk_of now.judge b l) now.last next)
 
 -- which of the first k slots have a job that runs

@@ -1,5 +1,5 @@
 //! A hearing: the lines of a transcript, one by one.
-ghost use Rattle.std.specs.Prelude.{◌≡◌, ◌<◌, ◌≤◌, ◌∷◌, [], length};
+ghost use Rattle.std.specs.Prelude.{◌≡◌, ◌<◌, ◌≤◌, ◌∷◌, [], IfOk, length};
 ghost use Rattle.its_io.specs.Bytes.{HasCause};
 ghost use Rattle.its_print.specs.Printing.{Refused};
 
@@ -20,8 +20,9 @@ pub struct Hearing {
 }
 
 impl Hearing {
-    ghost use Rattle.its_verify.specs.Hearing.{Beside, Ends, Heard, Reads, ReadsOn, Ruled, Says, Stays, same_as};
-    ghost use Rattle.its_verify.specs.Judge.{Judge, at_end, led, peeking, told};
+    ghost use Rattle.its_verify.specs.Finds.{ReadsOut};
+    ghost use Rattle.its_verify.specs.Hearing.{Beside, Concludes, Heard, Reads, ReadsOn, Ruled, Says, Stays, same_as};
+    ghost use Rattle.its_verify.specs.Judge.{Judge, at_end, led, peeking, expects};
 
     /// Reads the next line, where one is wanted. It is not judged yet.
     #[tactic(auto, using(crate::proofs::HearingLaws::number_few, crate::proofs::HearingLaws::read_line, crate::proofs::HearingLaws::read_long, crate::proofs::HearingLaws::read_end, crate::proofs::HearingLaws::read_beyond))]
@@ -91,10 +92,11 @@ impl Hearing {
     }
 
     /// No line is next.
-    #[tactic(auto, using(crate::proofs::HearingLaws::number_few, crate::proofs::HearingLaws::finish_end, crate::proofs::HearingLaws::finish_line, crate::proofs::HearingLaws::finish_long, crate::proofs::HearingLaws::finish_beyond))]
+    #[tactic(auto, using(crate::proofs::HearingLaws::number_few, crate::proofs::HearingLaws::finish_end, crate::proofs::HearingLaws::finish_line, crate::proofs::HearingLaws::finish_long, crate::proofs::HearingLaws::finish_beyond, crate::proofs::OutLaws::end_out))]
     pub fn finish<S: Source>(&mut self, src: &mut S) -> Result<Finding, Failed>
         requires heard { Heard self.old (S.left src.old) }
-        ensures ends { Ends result self.old (S.left src.old) at_end }
+        ensures ends { Concludes result self.old (S.left src.old) at_end }
+        ensures out { IfOk result (λ f. ReadsOut f (S.left src.old) (S.left src.new)) }
         ensures cause { HasCause (S.faults src.old) (S.faults src.new) result }
     {
         match self.texts.next(src) {
@@ -114,7 +116,8 @@ impl Hearing {
         reason: Reason,
     ) -> Result<Finding, Failed>
         requires heard { Heard self.old (S.left src.old) }
-        ensures ends { Ends result self.old (S.left src.old) (told (Refused number reason ∷ []) at_end) }
+        ensures ends { Concludes result self.old (S.left src.old) (expects (Refused number reason ∷ []) at_end) }
+        ensures out { IfOk result (λ f. ReadsOut f (S.left src.old) (S.left src.new)) }
         ensures cause { HasCause (S.faults src.old) (S.faults src.new) result }
     {
         let mut line = ArrayVec::new();

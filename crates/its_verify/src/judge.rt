@@ -5,7 +5,7 @@ ghost use Rattle.its_session.specs.Events.{place_after};
 ghost use Rattle.its_session.specs.Fits.{EventFits};
 ghost use Rattle.its_plain.specs.Machine.{no_machine};
 ghost use Rattle.its_direct.specs.Plain.{machine_of};
-ghost use Rattle.its_direct.specs.Events.{IsTold, MayStand, Spares, Told, place_of};
+ghost use Rattle.its_direct.specs.Events.{IsTold, MayStand, Told, place_of};
 ghost use Rattle.its_print.specs.Runs.{paces_in};
 ghost use Rattle.its_plain.specs.Unrolled.{is_running, turn_after};
 ghost use Rattle.its_verify.specs.Standing.{AllLed, dots_of, Forgets, LedIf, RunLed, RunsLed, Sure};
@@ -57,7 +57,7 @@ impl Judge {
         requires sure { Sure self.old }
         ensures told { Told event.now self.old.plain self.new.plain result }
         ensures dots { OnOk result (Forgets self.new.plain self.old.dots self.new.dots) }
-        ensures same { OnErr result (Spares event.now self.old.plain self.new.plain) }
+        ensures same { OnErr result (self.new ≡ self.old) }
         ensures place { OnOk result (place_of self.new.plain.place ≡ place_after (place_of self.old.plain.place) event.now) }
         ensures going { self.new.ended ≡ false }
         ensures sure { Sure self.new }

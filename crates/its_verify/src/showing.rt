@@ -12,7 +12,7 @@ ghost use Rattle.its_plain.specs.OperatorJobs.{examined, state_shown};
 ghost use Rattle.its_plain.specs.OperatorLines.{in_a_line};
 ghost use Rattle.its_direct.specs.Plain.{machine_of};
 ghost use Rattle.its_verify.specs.Hearing.{Heard, Says, Stays};
-ghost use Rattle.its_verify.specs.Judge.{Judge, told};
+ghost use Rattle.its_verify.specs.Judge.{Judge, expects};
 ghost use Rattle.its_verify.specs.Showing.{IsThere, drained_lines, lines_of, loaded_lines, names_line, shown_if, text_lines, typed_lines};
 
 use super::finding::Finding;
@@ -41,7 +41,7 @@ pub(crate) fn show_event<S: Source>(
     requires fits { EventFits 2 event.now }
     requires there { IsThere event.now (machine_of plain.now) }
     requires heard { Heard hearing.old (S.left src.old) }
-    ensures says { (next : Judge) → Says result hearing.old hearing.new (S.left src.old) (S.left src.new) (told (lines_of event.now answer.now (machine_of plain.now)) next) next }
+    ensures says { (next : Judge) → Says result hearing.old hearing.new (S.left src.old) (S.left src.new) (expects (lines_of event.now answer.now (machine_of plain.now)) next) next }
     ensures stays { Stays result hearing.new (S.left src.new) }
     ensures cause { HasCause (S.faults src.old) (S.faults src.new) result }
 {
@@ -66,7 +66,7 @@ fn show_loaded<S: Source>(
     answer: &Answer,
 ) -> Result<Option<Finding>, Failed>
     requires heard { Heard hearing.old (S.left src.old) }
-    ensures says { (next : Judge) → Says result hearing.old hearing.new (S.left src.old) (S.left src.new) (told (loaded_lines answer.now) next) next }
+    ensures says { (next : Judge) → Says result hearing.old hearing.new (S.left src.old) (S.left src.new) (expects (loaded_lines answer.now) next) next }
     ensures stays { Stays result hearing.new (S.left src.new) }
     ensures cause { HasCause (S.faults src.old) (S.faults src.new) result }
 {
@@ -91,7 +91,7 @@ fn show_typed<S: Source>(
     answer: &Answer,
 ) -> Result<Option<Finding>, Failed>
     requires heard { Heard hearing.old (S.left src.old) }
-    ensures says { (next : Judge) → Says result hearing.old hearing.new (S.left src.old) (S.left src.new) (told (typed_lines c answer.now) next) next }
+    ensures says { (next : Judge) → Says result hearing.old hearing.new (S.left src.old) (S.left src.new) (expects (typed_lines c answer.now) next) next }
     ensures stays { Stays result hearing.new (S.left src.new) }
     ensures cause { HasCause (S.faults src.old) (S.faults src.new) result }
 {
@@ -115,7 +115,7 @@ fn show_drained<S: Source>(
     answer: &Answer,
 ) -> Result<Option<Finding>, Failed>
     requires heard { Heard hearing.old (S.left src.old) }
-    ensures says { (next : Judge) → Says result hearing.old hearing.new (S.left src.old) (S.left src.new) (told (drained_lines c answer.now) next) next }
+    ensures says { (next : Judge) → Says result hearing.old hearing.new (S.left src.old) (S.left src.new) (expects (drained_lines c answer.now) next) next }
     ensures stays { Stays result hearing.new (S.left src.new) }
     ensures cause { HasCause (S.faults src.old) (S.faults src.new) result }
 {
@@ -137,7 +137,7 @@ fn show_bytes<S: Source>(
 ) -> Result<Option<Finding>, Failed>
     requires few { length bytes.now ≤ 64 }
     requires heard { Heard hearing.old (S.left src.old) }
-    ensures says { (next : Judge) → Says result hearing.old hearing.new (S.left src.old) (S.left src.new) (told (Drained c bytes.now ∷ []) next) next }
+    ensures says { (next : Judge) → Says result hearing.old hearing.new (S.left src.old) (S.left src.new) (expects (Drained c bytes.now ∷ []) next) next }
     ensures stays { Stays result hearing.new (S.left src.new) }
     ensures cause { HasCause (S.faults src.old) (S.faults src.new) result }
 {
@@ -172,7 +172,7 @@ fn show_words<S: Source>(
     requires few { n ≤ 8 }
     requires there { IsOk (examined (machine_of plain.now) s a n) }
     requires heard { Heard hearing.old (S.left src.old) }
-    ensures says { (next : Judge) → Says result hearing.old hearing.new (S.left src.old) (S.left src.new) (told (shown_if (in_a_line s a) (examined (machine_of plain.now) s a n)) next) next }
+    ensures says { (next : Judge) → Says result hearing.old hearing.new (S.left src.old) (S.left src.new) (expects (shown_if (in_a_line s a) (examined (machine_of plain.now) s a n)) next) next }
     ensures stays { Stays result hearing.new (S.left src.new) }
     ensures cause { HasCause (S.faults src.old) (S.faults src.new) result }
 {
@@ -193,7 +193,7 @@ fn show_line<S: Source>(
 ) -> Result<Option<Finding>, Failed>
     requires few { length words.now ≤ 8 }
     requires heard { Heard hearing.old (S.left src.old) }
-    ensures says { (next : Judge) → Says result hearing.old hearing.new (S.left src.old) (S.left src.new) (told (in_a_line s a words.now) next) next }
+    ensures says { (next : Judge) → Says result hearing.old hearing.new (S.left src.old) (S.left src.new) (expects (in_a_line s a words.now) next) next }
     ensures stays { Stays result hearing.new (S.left src.new) }
     ensures cause { HasCause (S.faults src.old) (S.faults src.new) result }
 {
@@ -217,7 +217,7 @@ fn list_words<S: Source>(
     requires few { n ≤ 8 }
     requires there { IsOk (examined (machine_of plain.now) s a n) }
     requires heard { Heard hearing.old (S.left src.old) }
-    ensures says { (next : Judge) → Says result hearing.old hearing.new (S.left src.old) (S.left src.new) (told (shown_if (listed s a) (examined (machine_of plain.now) s a n)) next) next }
+    ensures says { (next : Judge) → Says result hearing.old hearing.new (S.left src.old) (S.left src.new) (expects (shown_if (listed s a) (examined (machine_of plain.now) s a n)) next) next }
     ensures stays { Stays result hearing.new (S.left src.new) }
     ensures cause { HasCause (S.faults src.old) (S.faults src.new) result }
 {
@@ -239,7 +239,7 @@ fn list_each<S: Source>(
     requires address { a < 2 ^ 18 }
     requires few { length words.now ≤ 8 }
     requires heard { Heard hearing.old (S.left src.old) }
-    ensures says { (next : Judge) → Says result hearing.old hearing.new (S.left src.old) (S.left src.new) (told (listed s a words.now) next) next }
+    ensures says { (next : Judge) → Says result hearing.old hearing.new (S.left src.old) (S.left src.new) (expects (listed s a words.now) next) next }
     ensures stays { Stays result hearing.new (S.left src.new) }
     ensures cause { HasCause (S.faults src.old) (S.faults src.new) result }
 {
@@ -265,7 +265,7 @@ fn list_word<S: Source>(
     word: Word,
 ) -> Result<Option<Finding>, Failed>
     requires heard { Heard hearing.old (S.left src.old) }
-    ensures says { (next : Judge) → Says result hearing.old hearing.new (S.left src.old) (S.left src.new) (told (listed s a (word ∷ [])) next) next }
+    ensures says { (next : Judge) → Says result hearing.old hearing.new (S.left src.old) (S.left src.new) (expects (listed s a (word ∷ [])) next) next }
     ensures stays { Stays result hearing.new (S.left src.new) }
     ensures cause { HasCause (S.faults src.old) (S.faults src.new) result }
 {
@@ -285,7 +285,7 @@ fn show_state<S: Source>(
     requires slot { s < slots }
     requires there { IsOk (state_shown (machine_of plain.now) s) }
     requires heard { Heard hearing.old (S.left src.old) }
-    ensures says { (next : Judge) → Says result hearing.old hearing.new (S.left src.old) (S.left src.new) (told (shown_if (λ show. State (machine_of plain.now).version s show ∷ []) (state_shown (machine_of plain.now) s)) next) next }
+    ensures says { (next : Judge) → Says result hearing.old hearing.new (S.left src.old) (S.left src.new) (expects (shown_if (λ show. State (machine_of plain.now).version s show ∷ []) (state_shown (machine_of plain.now) s)) next) next }
     ensures stays { Stays result hearing.new (S.left src.new) }
     ensures cause { HasCause (S.faults src.old) (S.faults src.new) result }
 {
@@ -305,7 +305,7 @@ fn show_job<S: Source>(
     show: &JobShow,
 ) -> Result<Option<Finding>, Failed>
     requires heard { Heard hearing.old (S.left src.old) }
-    ensures says { (next : Judge) → Says result hearing.old hearing.new (S.left src.old) (S.left src.new) (told (State version s show.now ∷ []) next) next }
+    ensures says { (next : Judge) → Says result hearing.old hearing.new (S.left src.old) (S.left src.new) (expects (State version s show.now ∷ []) next) next }
     ensures stays { Stays result hearing.new (S.left src.new) }
     ensures cause { HasCause (S.faults src.old) (S.faults src.new) result }
 {
@@ -330,7 +330,7 @@ fn show_files<S: Source>(
     d: Word,
 ) -> Result<Option<Finding>, Failed>
     requires heard { Heard hearing.old (S.left src.old) }
-    ensures says { (next : Judge) → Says result hearing.old hearing.new (S.left src.old) (S.left src.new) (told (listing d (files_in d (machine_of plain.now).files)) next) next }
+    ensures says { (next : Judge) → Says result hearing.old hearing.new (S.left src.old) (S.left src.new) (expects (listing d (files_in d (machine_of plain.now).files)) next) next }
     ensures stays { Stays result hearing.new (S.left src.new) }
     ensures cause { HasCause (S.faults src.old) (S.faults src.new) result }
 {
@@ -351,7 +351,7 @@ fn show_count<S: Source>(
     count: u32,
 ) -> Result<Option<Finding>, Failed>
     requires heard { Heard hearing.old (S.left src.old) }
-    ensures says { (next : Judge) → Says result hearing.old hearing.new (S.left src.old) (S.left src.new) (told (Dir d count ∷ []) next) next }
+    ensures says { (next : Judge) → Says result hearing.old hearing.new (S.left src.old) (S.left src.new) (expects (Dir d count ∷ []) next) next }
     ensures stays { Stays result hearing.new (S.left src.new) }
     ensures cause { HasCause (S.faults src.old) (S.faults src.new) result }
 {
@@ -370,7 +370,7 @@ fn show_each<S: Source>(
 ) -> Result<Option<Finding>, Failed>
     requires each { list_all (λ id. is_file (entry_at plain.now.files id)) ids.now ≡ true }
     requires heard { Heard hearing.old (S.left src.old) }
-    ensures says { (next : Judge) → Says result hearing.old hearing.new (S.left src.old) (S.left src.new) (told (map filed_line (map (file_of plain.now.files) ids.now)) next) next }
+    ensures says { (next : Judge) → Says result hearing.old hearing.new (S.left src.old) (S.left src.new) (expects (map filed_line (map (file_of plain.now.files) ids.now)) next) next }
     ensures stays { Stays result hearing.new (S.left src.new) }
     ensures cause { HasCause (S.faults src.old) (S.faults src.new) result }
 {
@@ -394,7 +394,7 @@ fn show_entry<S: Source>(
 ) -> Result<Option<Finding>, Failed>
     requires file { is_file (entry_at plain.now.files id) ≡ true }
     requires heard { Heard hearing.old (S.left src.old) }
-    ensures says { (next : Judge) → Says result hearing.old hearing.new (S.left src.old) (S.left src.new) (told (filed_line (file_of plain.now.files id) ∷ []) next) next }
+    ensures says { (next : Judge) → Says result hearing.old hearing.new (S.left src.old) (S.left src.new) (expects (filed_line (file_of plain.now.files id) ∷ []) next) next }
     ensures stays { Stays result hearing.new (S.left src.new) }
     ensures cause { HasCause (S.faults src.old) (S.faults src.new) result }
 {
@@ -410,7 +410,7 @@ fn show_filed<S: Source>(
     show: FileShow,
 ) -> Result<Option<Finding>, Failed>
     requires heard { Heard hearing.old (S.left src.old) }
-    ensures says { (next : Judge) → Says result hearing.old hearing.new (S.left src.old) (S.left src.new) (told (Filed show ∷ []) next) next }
+    ensures says { (next : Judge) → Says result hearing.old hearing.new (S.left src.old) (S.left src.new) (expects (Filed show ∷ []) next) next }
     ensures stays { Stays result hearing.new (S.left src.new) }
     ensures cause { HasCause (S.faults src.old) (S.faults src.new) result }
 {
@@ -429,7 +429,7 @@ fn show_file<S: Source>(
     y: Word,
 ) -> Result<Option<Finding>, Failed>
     requires heard { Heard hearing.old (S.left src.old) }
-    ensures says { (next : Judge) → Says result hearing.old hearing.new (S.left src.old) (S.left src.new) (told (shown_if (λ out. out) (file_shown (machine_of plain.now) d x y)) next) next }
+    ensures says { (next : Judge) → Says result hearing.old hearing.new (S.left src.old) (S.left src.new) (expects (shown_if (λ out. out) (file_shown (machine_of plain.now) d x y)) next) next }
     ensures stays { Stays result hearing.new (S.left src.new) }
     ensures cause { HasCause (S.faults src.old) (S.faults src.new) result }
 {
@@ -449,7 +449,7 @@ fn show_text<S: Source>(
 ) -> Result<Option<Finding>, Failed>
     requires file { is_file (entry_at plain.now.files id) ≡ true }
     requires heard { Heard hearing.old (S.left src.old) }
-    ensures says { (next : Judge) → Says result hearing.old hearing.new (S.left src.old) (S.left src.new) (told (text_lines names (words_at plain.now.files id)) next) next }
+    ensures says { (next : Judge) → Says result hearing.old hearing.new (S.left src.old) (S.left src.new) (expects (text_lines names (words_at plain.now.files id)) next) next }
     ensures stays { Stays result hearing.new (S.left src.new) }
     ensures cause { HasCause (S.faults src.old) (S.faults src.new) result }
 {
@@ -470,7 +470,7 @@ fn show_names<S: Source>(
     count: u32,
 ) -> Result<Option<Finding>, Failed>
     requires heard { Heard hearing.old (S.left src.old) }
-    ensures says { (next : Judge) → Says result hearing.old hearing.new (S.left src.old) (S.left src.new) (told (names_line names count ∷ []) next) next }
+    ensures says { (next : Judge) → Says result hearing.old hearing.new (S.left src.old) (S.left src.new) (expects (names_line names count ∷ []) next) next }
     ensures stays { Stays result hearing.new (S.left src.new) }
     ensures cause { HasCause (S.faults src.old) (S.faults src.new) result }
 {
@@ -490,7 +490,7 @@ fn show_rows<S: Source>(
     count: u32,
 ) -> Result<Option<Finding>, Failed>
     requires heard { Heard hearing.old (S.left src.old) }
-    ensures says { (next : Judge) → Says result hearing.old hearing.new (S.left src.old) (S.left src.new) (told (rows ((count + 7) / 8) (words_at plain.now.files id)) next) next }
+    ensures says { (next : Judge) → Says result hearing.old hearing.new (S.left src.old) (S.left src.new) (expects (rows ((count + 7) / 8) (words_at plain.now.files id)) next) next }
     ensures stays { Stays result hearing.new (S.left src.new) }
     ensures cause { HasCause (S.faults src.old) (S.faults src.new) result }
 {
@@ -524,7 +524,7 @@ fn show_row<S: Source>(
 ) -> Result<Option<Finding>, Failed>
     requires few { 8 * k + 8 ≤ 2 ^ 32 }
     requires heard { Heard hearing.old (S.left src.old) }
-    ensures says { (next : Judge) → Says result hearing.old hearing.new (S.left src.old) (S.left src.new) (told (Row (take 8 (drop (8 * k) (words_at plain.now.files id))) ∷ []) next) next }
+    ensures says { (next : Judge) → Says result hearing.old hearing.new (S.left src.old) (S.left src.new) (expects (Row (take 8 (drop (8 * k) (words_at plain.now.files id))) ∷ []) next) next }
     ensures stays { Stays result hearing.new (S.left src.new) }
     ensures cause { HasCause (S.faults src.old) (S.faults src.new) result }
 {
@@ -541,7 +541,7 @@ fn show_some<S: Source>(
 ) -> Result<Option<Finding>, Failed>
     requires few { length words.now ≤ 8 }
     requires heard { Heard hearing.old (S.left src.old) }
-    ensures says { (next : Judge) → Says result hearing.old hearing.new (S.left src.old) (S.left src.new) (told (Row words.now ∷ []) next) next }
+    ensures says { (next : Judge) → Says result hearing.old hearing.new (S.left src.old) (S.left src.new) (expects (Row words.now ∷ []) next) next }
     ensures stays { Stays result hearing.new (S.left src.new) }
     ensures cause { HasCause (S.faults src.old) (S.faults src.new) result }
 {

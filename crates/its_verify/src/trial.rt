@@ -31,8 +31,9 @@ pub struct Trial {
 }
 
 impl Trial {
+    ghost use Rattle.its_verify.specs.Finds.{ReadsOutIf};
     ghost use Rattle.its_verify.specs.Hearing.{Says};
-    ghost use Rattle.its_verify.specs.Judge.{Judge as AnyJudge, at_end, led, turned, told as asked};
+    ghost use Rattle.its_verify.specs.Judge.{Judge as AnyJudge, at_end, led, turned, expects};
     ghost use Rattle.its_verify.specs.Going.{LineSays, SaysEnd};
     ghost use Rattle.its_verify.specs.Showing.{IsThere, heard_of};
     ghost use Rattle.its_verify.specs.Letters.{ticked};
@@ -108,6 +109,7 @@ impl Trial {
         requires stands { MayStand (place_of self.old.judge.plain.place) event.now }
         requires tried { Tried self.old (S.left src.old) }
         ensures says { LineSays result self.old self.new (S.left src.old) (S.left src.new) number event.now }
+        ensures out { ReadsOutIf result (S.left src.old) (S.left src.new) }
         ensures stays { StaysTried result self.new (S.left src.new) }
         ensures last { self.new.last ≡ self.old.last }
         ensures place { result ≡ Ok None → place_of self.new.judge.plain.place ≡ place_after (place_of self.old.judge.plain.place) event.now }
@@ -126,6 +128,7 @@ impl Trial {
     pub(crate) fn finish<S: Source>(&mut self, src: &mut S) -> Result<Option<Finding>, Failed>
         requires tried { Tried self.old (S.left src.old) }
         ensures ends { SaysEnd result self.old.hearing (S.left src.old) at_end }
+        ensures out { ReadsOutIf result (S.left src.old) (S.left src.new) }
         ensures last { self.new.last ≡ self.old.last }
         ensures cause { HasCause (S.faults src.old) (S.faults src.new) result }
     {
@@ -143,7 +146,8 @@ impl Trial {
         reason: Reason,
     ) -> Result<Option<Finding>, Failed>
         requires tried { Tried self.old (S.left src.old) }
-        ensures ends { SaysEnd result self.old.hearing (S.left src.old) (asked (Refused number reason ∷ []) at_end) }
+        ensures ends { SaysEnd result self.old.hearing (S.left src.old) (expects (Refused number reason ∷ []) at_end) }
+        ensures out { ReadsOutIf result (S.left src.old) (S.left src.new) }
         ensures last { self.new.last ≡ self.old.last }
         ensures cause { HasCause (S.faults src.old) (S.faults src.new) result }
     {
@@ -166,6 +170,7 @@ impl Trial {
         requires stands { MayStand (place_of self.old.judge.plain.place) event.now }
         requires tried { Tried self.old (S.left src.old) }
         ensures says { LineSays result self.old self.new (S.left src.old) (S.left src.new) number event.now }
+        ensures out { ReadsOutIf result (S.left src.old) (S.left src.new) }
         ensures stays { StaysTried result self.new (S.left src.new) }
         ensures last { self.new.last ≡ self.old.last }
         ensures place { result ≡ Ok None → place_of self.new.judge.plain.place ≡ place_after (place_of self.old.judge.plain.place) event.now }

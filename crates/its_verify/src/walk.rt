@@ -1,5 +1,5 @@
 //! A session and its transcript in one input: the session is kept, and then gone along with the lines of its transcript.
-ghost use Rattle.std.specs.Prelude.{◌≡◌, ◌≢◌, ◌≤◌, ◌-◌, ℕ, false, None, Ok, Err};
+ghost use Rattle.std.specs.Prelude.{◌≡◌, ◌≢◌, ◌≤◌, ◌-◌, ℕ, false, None, IfOk, Ok, Err};
 ghost use Rattle.its_io.specs.Bytes.{HasCause, next_fault};
 ghost use Rattle.its_reader.specs.Items.{found_fits, is_last, place_found};
 ghost use Rattle.its_reader.specs.Texts.{ReadyTexts};
@@ -9,7 +9,7 @@ ghost use Rattle.its_plain.specs.Operator.{Block, no_block};
 ghost use Rattle.its_plain.specs.Transcript.{Walk};
 ghost use Rattle.its_plain.specs.Unrolled.{ticks_asked, turns_asked};
 ghost use Rattle.its_direct.specs.Events.{MayStand, place_of};
-ghost use Rattle.its_verify.specs.Finds.{Found as IsFound, Judges};
+ghost use Rattle.its_verify.specs.Finds.{Found as IsFound, Judges, ReadsOut};
 
 use super::finding::Finding;
 use super::hearing::Hearing;
@@ -38,6 +38,7 @@ const HIGHEST: u8 = SLOTS as u8 - 1;
 #[tactic(auto, using(crate::proofs::VerifyLaws::finds_session, crate::proofs::VerifyLaws::finds_long, crate::proofs::VerifyLaws::finds_cut, crate::proofs::VerifyLaws::finds_beyond))]
 pub fn verify<S: Source>(alloc: Global, src: &mut S) -> Result<Finding, Broken>
     ensures finds { IsFound result (S.left src.old) }
+    ensures input { IfOk result (λ f. ReadsOut f (S.left src.old) (S.left src.new)) }
     ensures unfailed { result ≢ Err Broken.Source → S.faults src.new ≡ S.faults src.old }
     ensures fault { result ≡ Err Broken.Source → S.faults src.new ≡ next_fault (S.faults src.old) }
 {
@@ -63,6 +64,7 @@ fn judge_transcript<S: Source>(
     requires ready { ReadyTexts texts (S.left src.old) }
     requires few { texts.number ≤ most_lines }
     ensures judged { Judges result texts session.items (S.left src.old) }
+    ensures out { IfOk result (λ f. ReadsOut f (S.left src.old) (S.left src.new)) }
     ensures unfailed { result ≢ Err Broken.Source → S.faults src.new ≡ S.faults src.old }
     ensures fault { result ≡ Err Broken.Source → S.faults src.new ≡ next_fault (S.faults src.old) }
 {
@@ -88,8 +90,9 @@ fn judge_transcript<S: Source>(
 }
 
 impl Trial {
+    ghost use Rattle.its_verify.specs.Finds.{ReadsOutIf};
     ghost use Rattle.its_verify.specs.Going.{FoundStands, ItemSays, is_end, judge_from};
-    ghost use Rattle.its_verify.specs.Hearing.{Ends, Says};
+    ghost use Rattle.its_verify.specs.Hearing.{Concludes, Says};
     ghost use Rattle.its_verify.specs.Judge.{Judge as AnyJudge, turned};
     ghost use Rattle.its_verify.specs.Standing.{walk_of};
     ghost use Rattle.its_verify.specs.Trial.{StaysTried, Tried};
@@ -99,7 +102,8 @@ impl Trial {
     fn go<S: Source>(&mut self, src: &mut S, session: &mut SafeSource) -> Result<Finding, Failed>
         requires tried { Tried self.old (S.left src.old) }
         requires place { self.old.judge.plain.place ≡ Spot.Plain }
-        ensures ends { Ends result self.old.hearing (S.left src.old) (judge_from self.old no_block 1 (events_of session.old)) }
+        ensures ends { Concludes result self.old.hearing (S.left src.old) (judge_from self.old no_block 1 (events_of session.old)) }
+        ensures out { IfOk result (λ f. ReadsOut f (S.left src.old) (S.left src.new)) }
         ensures cause { HasCause (S.faults src.old) (S.faults src.new) result }
     {
         let mut items = Items::new();
@@ -127,6 +131,7 @@ impl Trial {
         requires stands { FoundStands (place_of self.old.judge.plain.place) found.now }
         requires tried { Tried self.old (S.left src.old) }
         ensures says { ItemSays result self.old self.new (S.left src.old) (S.left src.new) number found.now }
+        ensures out { ReadsOutIf result (S.left src.old) (S.left src.new) }
         ensures stays { StaysTried result self.new (S.left src.new) }
         ensures place { result ≡ Ok None → place_of self.new.judge.plain.place ≡ place_found (place_of self.old.judge.plain.place) found.now }
         ensures going { result ≡ Ok None → is_last found.now ≡ false }
@@ -151,6 +156,7 @@ impl Trial {
         requires stands { MayStand (place_of self.old.judge.plain.place) event.now }
         requires tried { Tried self.old (S.left src.old) }
         ensures says { ItemSays result self.old self.new (S.left src.old) (S.left src.new) number (Found.Line event.now) }
+        ensures out { ReadsOutIf result (S.left src.old) (S.left src.new) }
         ensures stays { StaysTried result self.new (S.left src.new) }
         ensures place { result ≡ Ok None → place_of self.new.judge.plain.place ≡ place_after (place_of self.old.judge.plain.place) event.now }
         ensures going { result ≡ Ok None → is_end event.now ≡ false }

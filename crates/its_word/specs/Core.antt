@@ -1,6 +1,6 @@
 -- A job's core: sixteen accumulators, at addresses 0 to 17 (octal), and 256 possible pages of 1024
 -- words (docs/MACHINE.md, "Core"). Addresses are below 2 ^ 18; past that nothing is there.
-use Rattle.std.specs.Prelude.{if◌then◌else◌, ℕ, ◌/◌, ◌%◌, Bool, true, false, Option, Some, None, List, nat_lt, replicate, sum_by, count_by, slice_get, slice_set, is_some, unwrap_or, Result, Ok, Err}
+use Rattle.std.specs.Prelude.{if◌then◌else◌, ◌≡◌, ℕ, ◌/◌, ◌%◌, Bool, length, true, false, Option, Some, None, List, nat_lt, replicate, sum_by, count_by, slice_get, slice_set, is_some, unwrap_or, Result, Ok, Err}
 use Rattle.std.specs.List.{range_with_len}
 use Rattle.its_word.specs.Limits.{slots}
 use Rattle.its_word.specs.declared.access.NoAccess.{NoAccess}
@@ -95,3 +95,9 @@ pages_present c = count_by is_some c.pages
 -- how many pages the cores of all slots have together
 unfoldable pub pages_mapped : (ℕ → Core) → ℕ
 pages_mapped cores = sum_by (λ k. pages_present (cores k)) (range_with_len 0 slots)
+
+-- a core as any slot has it: sixteen accumulators, 256 possible pages, and 1024 words on each page that is present
+pub record IsWhole (c : Core) : Type 0 where
+  pub accs : length c.accs ≡ 16
+  pub pages : length c.pages ≡ 256
+  pub words : (k : ℕ) (p : Page) → page_of c k ≡ Some p → length p.words ≡ 1024

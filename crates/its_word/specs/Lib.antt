@@ -18,3 +18,4 @@ pub mod Console
 pub mod Directory
 pub mod Table
 pub mod Flags
+pub mod Ready

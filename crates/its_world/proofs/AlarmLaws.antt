@@ -3,7 +3,6 @@ use Rattle.std.specs.Prelude.{◌≡◌, ◌<◌, ℕ, Option, Some, None, optio
 use Rattle.std.proofs.Common.{sym, ◌∙◌, ap, subst, inl, inr}
 use Rattle.std.proofs.lemmas.Bool.{cases_eq}
 use Rattle.its_word.specs.Core.{Core}
-use Rattle.its_word.specs.Only.{Only}
 use Rattle.its_word.specs.declared.jobs.Job.{Job}
 use Rattle.its_core.specs.Cores.{core_at, clear_at}
 use Rattle.its_files.specs.Files.{Store, directory}
@@ -14,24 +13,7 @@ use Rattle.its_plain.specs.OperatorClock.{clock_end}
 use Rattle.its_world.specs.Tidy.{Across, Tidy}
 use Rattle.its_world.specs.World.{alarm_at, raw_of, raw_at, frame_at, console_at, holder_at, mark_of, state_of, in_raw, symbols_at, AlarmBecomes}
 use Rattle.its_world.specs.declared.world.World.{World}
-use Rattle.its_world.proofs.PlaceLaws.{ringed_alike}
 use Rattle.its_world.proofs.StateLaws.{state_is, slot_at}
-
-pub alarm_becomes : (old new : World) (s : ℕ) (a : Option (ℕ × ℕ)) → Only (alarm_at old.alarms.items) (alarm_at new.alarms.items) s a
-    → new.core ≡ old.core → new.jobs ≡ old.jobs → new.frames ≡ old.frames → new.consoles ≡ old.consoles → new.holders ≡ old.holders → new.files ≡ old.files → new.clock ≡ old.clock → new.version ≡ old.version → new.symbols ≡ old.symbols → new.rings ≡ old.rings → AlarmBecomes old new s a
-alarm_becomes old new s a alarms core jobs frames consoles holders files clock version symbols rings = record {
-  alarms = alarms;
-  core = core;
-  jobs = jobs;
-  frames = frames;
-  consoles = consoles;
-  holders = holders;
-  files = files;
-  clock = clock;
-  version = version;
-  symbols = symbols;
-  ringed = ringed_alike old new jobs frames consoles holders clock rings;
-}
 
 -- a job with another alarm
 realarmed : (x : Store) (c : Core) (u : Option ℕ) (a b : Option (ℕ × ℕ)) (o : Option Job) → raw_of x c u b o ≡ option_map (with_alarm b) (raw_of x c u a o)

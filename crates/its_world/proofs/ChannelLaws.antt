@@ -1,75 +1,40 @@
 -- What each change of a channel, a draft or a file comes to: the state is that after the change, and the world is tidy.
-use Rattle.std.specs.Prelude.{◌≡◌, ◌≢◌, ◌<◌, ◌≤◌, ◌||◌, ℕ, zero, suc, ◌+◌, ◌-◌, Bool, true, false, Option, Some, None, is_some, Ok, Err, List, [], ◌∷◌, ◌++◌, length, nat_lt, refl}
+use Rattle.std.specs.Prelude.{◌≡◌, ◌≢◌, ◌<◌, ◌≤◌, ℕ, ◌+◌, ◌-◌, Bool, true, false, Some, None, is_some, Ok, Err, List, [], ◌∷◌, ◌++◌, refl}
 use Rattle.std.proofs.Common.{sym, ◌∙◌, ap, subst, inl, inr}
-use Rattle.std.proofs.lemmas.Bool.{cases_eq, both_ways}
+use Rattle.std.proofs.lemmas.Bool.{cases_eq}
 use Rattle.its_word.specs.Directory.{without_names, with_changed, named}
 use Rattle.its_word.specs.Limits.{slots}
 use Rattle.its_word.specs.Only.{Only, Same}
 use Rattle.its_word.specs.declared.jobs.Channel.{Channel}
 use Rattle.its_word.specs.declared.jobs.Channel.TheVariants.{Closed, TtyIn, TtyOut, Reading, Writing, Usr}
-use Rattle.its_jobs.specs.Table.{job_at}
-use Rattle.its_files.specs.Files.{Store, IsStore, entry_at, is_file, names_at, names_by, words_at, readers_at, directory, found, with_readers, with_draft, discarded, with_word, close, delete, rename, new_names, marked_draft}
+use Rattle.its_files.specs.Files.{Store, IsStore, entry_at, is_file, names_at, names_by, words_at, readers_at, directory, found, with_readers, with_draft, discarded, with_word, close, delete, rename, new_names}
 use Rattle.its_files.specs.declared.entry.Entry.TheVariants.{File, Draft}
 use Rattle.its_frame.specs.declared.change.Change.TheVariants.{Open, Shut as Shuts, Move, Append, Close, Delete, Rename}
 use Rattle.its_frame.specs.declared.change.Opened.TheVariants as opened
 use Rattle.its_plain.specs.Machine.{Names, Shut, Reads, Writes}
 use Rattle.its_plain.specs.Own.{names_of, opened_on, at_position, with_word as longer_on, on_channel}
 use Rattle.its_plain.specs.Change.{effect, without_file, renamed}
-use Rattle.its_plain.specs.CallFile.{has_file, is_read}
+use Rattle.its_plain.specs.CallFile.{has_file}
 use Rattle.its_stepped.specs.Commit.{effect_on}
 use Rattle.its_world.specs.World.{chan_of, mark_of, state_of, in_raw}
-use Rattle.its_world.specs.Tidy.{channel_at, reads, writes, Tidy}
-use Rattle.its_world.specs.Storage.{HasJob, chan_in, IsElsewhere, IsDraft, Unread, HasRoom, Closes, ChannelBecomes, OnlyStore}
+use Rattle.its_world.specs.Tidy.{channel_at, reads_file, writes_draft, Tidy}
+use Rattle.its_world.specs.Storage.{HasJob, chan_in, IsElsewhere, IsDraft, HasRoom, CanClose, ChannelBecomes, OnlyStore}
 use Rattle.its_world.specs.declared.world.World.{World}
 use Rattle.its_files.specs.Blocks.{blocks_used as stored_blocks, is_full as store_is_full}
-use Rattle.its_files.specs.Files.{file_at, close_by, close_old, close_new, marked_with}
-use Rattle.its_files.specs.declared.entry.Parts.TheVariants.{Replace, Link}
+use Rattle.its_files.specs.Files.{file_at}
 use Rattle.its_files.specs.declared.entry.CloseFault.{CloseFault}
-use Rattle.its_plain.specs.CallFile.{is_full}
 use Rattle.its_plain.specs.Change.{in_job}
 use Rattle.its_stepped.specs.State.{mark_of_close}
-use Rattle.std.proofs.lemmas.List.{length-map}
 use Rattle.its_word.specs.Directory.{File as PlainFile}
-use Rattle.std.specs.Prelude.{slice_index_or}
-use Rattle.its_files.specs.Files.{delete_by, rename_by, rename_free}
-use Rattle.its_files.specs.declared.entry.Locked.{Locked}
-use Rattle.its_files.specs.declared.entry.RenameFault.{RenameFault}
 use Rattle.its_stepped.proofs.EffectLaws.{without_none, renamed_none}
 use Rattle.its_parts.proofs.StoreLaws.{has_named, renamed_directory}
-use Rattle.its_parts.proofs.RoomLaws.{full_on}
-use Rattle.its_parts.proofs.StandLaws.{writing_stands, unread_is, not_marked}
-use Rattle.its_word.specs.declared.jobs.Job.{Job}
-use Rattle.its_world.specs.Tidy.{channel_by}
+use Rattle.its_parts.proofs.StandLaws.{writing_stands, not_marked}
 use Rattle.its_world.proofs.MarkLaws.{none_marked, mark_same, begin_close}
-use Rattle.its_parts.proofs.AcrossLaws.{across_table}
-use Rattle.its_parts.proofs.KeptLaws.{Kept, Stays, moved_kept, opened_kept, closed_kept, drafted_kept, discarded_kept, appended_kept, closing_kept, deleted_stays, renamed_stays, delete_is, rename_is}
-use Rattle.its_world.proofs.StorageLaws.{Comes, channel_comes, still_unmarked, store_tidy, filed_state, one_channel, same_channels, filed_tidy, channel_still, still_state, store_state, has_job, chan_is, chans_are, chan_shut, store_unmarked, files_are}
-use Rattle.its_word.proofs.FreeLaws.{none_is}
-
--- channels on no file and no draft
-elsewhere_unread : (c : Channel) → IsElsewhere c → (f : ℕ) → reads f c ≡ 0
-elsewhere_unread Closed h f = refl
-elsewhere_unread TtyIn h f = refl
-elsewhere_unread TtyOut h f = refl
-elsewhere_unread (Usr k write at) h f = refl
-elsewhere_unread (Reading g at) h f = absurd h
-elsewhere_unread (Writing d) h f = absurd h
-
-elsewhere_unwritten : (c : Channel) → IsElsewhere c → (d : ℕ) → writes d c ≡ 0
-elsewhere_unwritten Closed h d = refl
-elsewhere_unwritten TtyIn h d = refl
-elsewhere_unwritten TtyOut h d = refl
-elsewhere_unwritten (Usr k write at) h d = refl
-elsewhere_unwritten (Reading g at) h d = absurd h
-elsewhere_unwritten (Writing e) h d = absurd h
-
-pub elsewhere_of : (c : Channel) → ((f at : ℕ) → c ≡ Reading f at → ⊥) → ((d : ℕ) → c ≡ Writing d → ⊥) → IsElsewhere c
-elsewhere_of Closed read written = tt
-elsewhere_of TtyIn read written = tt
-elsewhere_of TtyOut read written = tt
-elsewhere_of (Usr k write at) read written = tt
-elsewhere_of (Reading f at) read written = read f at refl
-elsewhere_of (Writing d) read written = written d refl
+use Rattle.its_parts.proofs.ChanLaws.{still_moved, close_marks}
+use Rattle.its_parts.proofs.SetLaws.{open_job, one_channel, set_kept, put_kept}
+use Rattle.its_parts.proofs.ShowLaws.{draft_room, close_can}
+use Rattle.its_parts.proofs.KeptLaws.{Kept, Stays, opened_kept, closed_kept, drafted_kept, discarded_kept, appended_kept, closing_kept, deleted_stays, renamed_stays, delete_is, rename_is}
+use Rattle.its_world.proofs.StorageLaws.{Comes, channel_comes, still_unmarked, store_tidy, filed_state, filed_tidy, channel_still, still_state, store_state, has_job, chan_is, chan_shut, store_unmarked, files_are, shows}
 
 -- a channel of the state is on a draft where that of the world is
 draft_by : (s : Store) (c : Channel) → ((d : ℕ) → c ≡ Writing d → ⊥) → IsDraft (chan_of s c) → ⊥
@@ -84,23 +49,9 @@ pub no_draft : (w : World) (s n : ℕ) (c : Channel) → c ≡ channel_at w.jobs
 no_draft w s n c was written h = draft_by w.files c written (subst IsDraft (chan_is w s n ∙ ap (chan_of w.files) (sym was)) h)
 
 module _ (old new : World) (s n : ℕ) (ls : s < slots) (ln : n < 16) (tidy : Tidy old) where
-  -- the facts after a channel was set that weighs as before
-  set_kept : (x : Channel) (b : ChannelBecomes old new s n x old.files) → ((f : ℕ) → reads f (channel_at old.jobs s n) ≡ reads f x) → ((d : ℕ) → writes d (channel_at old.jobs s n) ≡ writes d x)
-      → (some : Bool) → is_some (job_at old.jobs s) ≡ some → Kept old.files old.files old.jobs new.jobs s n
-  set_kept x b read written true e = moved_kept old.files old.jobs new.jobs s n (channel_at old.jobs s n) x tidy.across ls ln refl (one_channel old new s n x old.files b e) read written
-  set_kept x b read written false e =
-      let same = same_channels old new s n x old.files b (λ some. absurd (both_ways (is_some (job_at old.jobs s)) e some)) in
-      record { across = across_table old.files old.jobs new.jobs tidy.across same; chans = λ k m apart. ap (chan_of old.files) (same k m) }
-
   module _ (x : Channel) (b : ChannelBecomes old new s n x old.files) (old_elsewhere : IsElsewhere (channel_at old.jobs s n)) (new_elsewhere : IsElsewhere x) where
-    put_kept : Kept old.files old.files old.jobs new.jobs s n
-    put_kept = set_kept x b
-        (λ f. elsewhere_unread (channel_at old.jobs s n) old_elsewhere f ∙ sym (elsewhere_unread x new_elsewhere f))
-        (λ d. elsewhere_unwritten (channel_at old.jobs s n) old_elsewhere d ∙ sym (elsewhere_unwritten x new_elsewhere d))
-        (is_some (job_at old.jobs s)) refl
-
     pub put_comes : Comes new (in_raw (state_of old) s (on_channel n (λ c. chan_of old.files x)))
-    put_comes = channel_comes old new s n x old.files b tidy put_kept (λ c. chan_of old.files x) (λ some. refl) refl refl
+    put_comes = channel_comes old new s n x old.files b tidy (put_kept old.jobs new.jobs s n x b.jobs old.files tidy.across ls ln old_elsewhere new_elsewhere) (λ c. chan_of old.files x) (λ some. refl) refl refl
 
   -- a channel is opened on a file
   module _ (t : Store) (f d x y : ℕ) (b : ChannelBecomes old new s n (Reading f 0) t) (job : HasJob (state_of old) s) (closed : chan_in (state_of old) s n ≡ Shut)
@@ -108,7 +59,7 @@ module _ (old new : World) (s n : ℕ) (ls : s < slots) (ln : n < 16) (tidy : Ti
       (files : directory t ≡ directory old.files) (entry : Only (entry_at old.files) (entry_at t) f (Some (File (names_at old.files f) (readers_at old.files f + 1)))) (words : Same (words_at old.files) (words_at t)) where
     open_file_kept : Kept old.files t old.jobs new.jobs s n
     open_file_kept = opened_kept old.files t old.jobs new.jobs s n f 0 tidy.across ls ln words (chan_shut old s n closed)
-        (one_channel old new s n (Reading f 0) t b (has_job old s job)) file made entry
+        (one_channel old.jobs new.jobs s n (Reading f 0) b.jobs (has_job old s job)) file made entry
 
     pub open_file_comes : Comes new (effect_on (Open n (opened.Reading d x y)) s (state_of old))
     unfolding effect_on effect
@@ -121,20 +72,12 @@ module _ (old new : World) (s n : ℕ) (ls : s < slots) (ln : n < 16) (tidy : Ti
       (entry : Only (entry_at old.files) (entry_at t) k (Some (Draft (d ∷ x ∷ y ∷ [])))) (words : Only (words_at old.files) (words_at t) k []) where
     open_draft_kept : Kept old.files t old.jobs new.jobs s n
     open_draft_kept = drafted_kept old.files t old.jobs new.jobs s n k tidy.across ls ln (d ∷ x ∷ y ∷ []) [] (chan_shut old s n closed)
-        (one_channel old new s n (Writing k) t b (has_job old s job)) (store_unmarked old unmarked) free made entry words
+        (one_channel old.jobs new.jobs s n (Writing k) b.jobs (has_job old s job)) (store_unmarked old unmarked) free made entry words
 
     pub open_draft_comes : Comes new (effect_on (Open n (opened.Writing d x y)) s (state_of old))
     unfolding effect_on effect
     open_draft_comes = channel_comes old new s n (Writing k) t b tidy open_draft_kept (λ c. opened_on (opened.Writing d x y))
         (λ some. λ i. Writes (record { names = ap names_by entry.here i; words = words.here i })) files (still_unmarked old t unmarked (ap (λ w. w.mark) made))
-
-  -- the slot of a channel that is not closed has a job
-  open_job : (c : Channel) → channel_at old.jobs s n ≡ c → (c ≡ Closed → ⊥) → is_some (job_at old.jobs s) ≡ true
-  open_job c was some = by_some (job_at old.jobs s) (λ e. some (sym was ∙ ap (λ o. channel_by o n) e))
-    where
-      by_some : (o : Option Job) → (o ≡ None → ⊥) → is_some o ≡ true
-      by_some (Some j) h = refl
-      by_some None h = absurd (h refl)
 
   -- a channel is closed: one that read a file, one that wrote a draft, and any other
   module _ (t : Store) (f at : ℕ) (b : ChannelBecomes old new s n Closed t) (was : Reading f at ≡ channel_at old.jobs s n)
@@ -142,7 +85,7 @@ module _ (old new : World) (s n : ℕ) (ls : s < slots) (ln : n < 16) (tidy : Ti
       (entry : Only (entry_at old.files) (entry_at t) f (Some (File (names_at old.files f) (readers_at old.files f - 1)))) (words : Same (words_at old.files) (words_at t)) where
     shut_file_kept : Kept old.files t old.jobs new.jobs s n
     shut_file_kept = closed_kept old.files t old.jobs new.jobs s n f at tidy.across ls ln words (sym was)
-        (one_channel old new s n Closed t b (open_job (Reading f at) (sym was) (λ e. cc))) made entry
+        (one_channel old.jobs new.jobs s n Closed b.jobs (open_job old.jobs s n (Reading f at) (sym was) (λ e. cc))) made entry
 
     shut_file_mark : mark_of t ≡ mark_of old.files
     shut_file_mark = mark_same old.files t (ap (λ w. w.mark) made) files (λ d m. λ i. record { names = names d i; words = words.each d i })
@@ -162,7 +105,7 @@ module _ (old new : World) (s n : ℕ) (ls : s < slots) (ln : n < 16) (tidy : Ti
       (entry : Only (entry_at old.files) (entry_at t) k None) (words : Only (words_at old.files) (words_at t) k []) where
     shut_draft_kept : Kept old.files t old.jobs new.jobs s n
     shut_draft_kept = discarded_kept old.files t old.jobs new.jobs s n k tidy.across ls ln [] (sym was)
-        (one_channel old new s n Closed t b (open_job (Writing k) (sym was) (λ e. cc))) made entry words
+        (one_channel old.jobs new.jobs s n Closed b.jobs (open_job old.jobs s n (Writing k) (sym was) (λ e. cc))) made entry words
 
     shut_draft_mark : mark_of t ≡ mark_of old.files
     shut_draft_mark = mark_same old.files t (ap (λ w. w.mark) made) files
@@ -184,7 +127,7 @@ module _ (old new : World) (s n : ℕ) (ls : s < slots) (ln : n < 16) (tidy : Ti
     moved_here = subst (λ u. ChannelBecomes old new s n (Reading f at) u) same b
 
     move_file_kept : Kept old.files old.files old.jobs new.jobs s n
-    move_file_kept = set_kept (Reading f at) moved_here (λ g. ap (reads g) (sym was)) (λ d. ap (writes d) (sym was)) (is_some (job_at old.jobs s)) refl
+    move_file_kept = set_kept old.jobs new.jobs s n (Reading f at) moved_here.jobs old.files tidy.across ls ln (λ g. ap (reads_file g) (sym was)) (λ d. ap (writes_draft d) (sym was))
 
     pub move_file_comes : Comes new (effect_on (Move n at) s (state_of old))
     unfolding effect_on effect
@@ -192,27 +135,16 @@ module _ (old new : World) (s n : ℕ) (ls : s < slots) (ln : n < 16) (tidy : Ti
         (λ some. ap (λ c. at_position at (chan_of old.files c)) was) refl refl
 
   module _ (k p at : ℕ) (write : Bool) (b : ChannelBecomes old new s n (Usr k write at) old.files) (was : Usr k write p ≡ channel_at old.jobs s n) where
-    usr_elsewhere : IsElsewhere (channel_at old.jobs s n)
-    usr_elsewhere = subst IsElsewhere was tt
-
     pub move_usr_comes : Comes new (effect_on (Move n at) s (state_of old))
     unfolding effect_on effect
-    move_usr_comes = channel_comes old new s n (Usr k write at) old.files b tidy (put_kept (Usr k write at) b usr_elsewhere tt) (at_position at)
+    move_usr_comes = channel_comes old new s n (Usr k write at) old.files b tidy (put_kept old.jobs new.jobs s n (Usr k write at) b.jobs old.files tidy.across ls ln (subst IsElsewhere was tt) tt) (at_position at)
         (λ some. ap (λ c. at_position at (chan_of old.files c)) was) refl refl
-
-  still_moved : (at : ℕ) (c : Channel) → ((f p : ℕ) → c ≡ Reading f p → ⊥) → ((k : ℕ) (write : Bool) (p : ℕ) → c ≡ Usr k write p → ⊥) → chan_of old.files c ≡ at_position at (chan_of old.files c)
-  still_moved at Closed read usr = refl
-  still_moved at TtyIn read usr = refl
-  still_moved at TtyOut read usr = refl
-  still_moved at (Writing d) read usr = refl
-  still_moved at (Reading f p) read usr = absurd (read f p refl)
-  still_moved at (Usr k write p) read usr = absurd (usr k write p refl)
 
   pub move_other_comes : (at : ℕ) (c : Channel) → c ≡ channel_at old.jobs s n → ((f p : ℕ) → c ≡ Reading f p → ⊥) → ((k : ℕ) (write : Bool) (p : ℕ) → c ≡ Usr k write p → ⊥)
       → Comes old (effect_on (Move n at) s (state_of old))
   unfolding effect_on effect
   move_other_comes at c was read usr =
-      record { row = still_state old s n (at_position at) (subst (λ x. chan_of old.files x ≡ at_position at (chan_of old.files x)) was (still_moved at c read usr)); tidy = tidy }
+      record { row = still_state old s n (at_position at) (subst (λ x. chan_of old.files x ≡ at_position at (chan_of old.files x)) was (still_moved old.files at c read usr)); tidy = tidy }
 
   -- a word is appended to the draft of a channel
   module _ (t : Store) (k w : ℕ) (was : Writing k ≡ channel_at old.jobs s n) (unmarked : (state_of old).mark ≡ None) (made : t ≡ with_word old.files k w) (files : directory t ≡ directory old.files)
@@ -247,37 +179,26 @@ module _ (old new : World) (s n : ℕ) (ls : s < slots) (ln : n < 16) (tidy : Ti
   append_other_comes w c was written =
       record { row = still_state old s n (longer_on w) (subst (λ x. chan_of old.files x ≡ longer_on w (chan_of old.files x)) was (still_appended w c written)); tidy = tidy }
 
+  -- it is on a draft
+  on_draft : (k : ℕ) → Writing k ≡ channel_at old.jobs s n → chan_in (state_of old) s n ≡ Writes (file_at old.files k)
+  on_draft k was = chan_is old s n ∙ ap (chan_of old.files) (sym was)
+
   pub append_room : (k : ℕ) → Writing k ≡ channel_at old.jobs s n → (state_of old).mark ≡ None → IsStore old.files → stored_blocks old.files.stored ≤ 2048
       → HasRoom (state_of old) (chan_in (state_of old) s n) → store_is_full old.files.stored k ≡ false
   append_room k was unmarked whole most room =
-      let c : chan_in (state_of old) s n ≡ Writes (file_at old.files k) = chan_is old s n ∙ ap (chan_of old.files) (sym was) in
-      full_on old.files whole (store_unmarked old unmarked) old.jobs k tidy.across most
-      ∙ sym (λ i. is_full (files_are old i) (chans_are old i) (words_at old.files k))
-      ∙ subst (HasRoom (state_of old)) c room
+      draft_room (state_of old).raw old.files old.jobs (shows old) whole tidy.across k (store_unmarked old unmarked) most (subst (HasRoom (state_of old)) (on_draft k was) room)
 
   -- the close of the draft of a channel is begun
-  close_marks : (t : Store) (k : ℕ) (o : Option ℕ) → close_by o old.files s k ≡ Ok t → marked_draft t.mark ≡ Some k
-  close_marks t k (Some f) e = by_readers (readers_at old.files f) e
-    where
-      by_readers : (m : ℕ) → close_old m old.files s k f ≡ Ok t → marked_draft t.mark ≡ Some k
-      by_readers zero e = let same : t ≡ marked_with old.files s (Replace f k) = cc in ap (λ x. marked_draft x.mark) same
-      by_readers (suc m) e = cc
-  close_marks t k None e = by_room (nat_lt (length old.files.order) 256) e
-    where
-      by_room : (b : Bool) → close_new b old.files s k ≡ Ok t → marked_draft t.mark ≡ Some k
-      by_room true e = let same : t ≡ marked_with old.files s (Link None k) = cc in ap (λ x. marked_draft x.mark) same
-      by_room false e = cc
-
   module _ (t : Store) (k : ℕ) (b : ChannelBecomes old new s n Closed t) (was : Writing k ≡ channel_at old.jobs s n) (unmarked : (state_of old).mark ≡ None)
       (made : close old.files k s ≡ Ok t) (files : directory t ≡ directory old.files) (entry : Same (entry_at old.files) (entry_at t)) (words : Same (words_at old.files) (words_at t)) where
     begin_close_kept : Kept old.files t old.jobs new.jobs s n
-    begin_close_kept = closing_kept old.files t old.jobs new.jobs s n k tidy.across ls ln (sym was) (one_channel old new s n Closed t b (open_job (Writing k) (sym was) (λ e. cc)))
-        (store_unmarked old unmarked) (close_marks t k (found old.files (names_at old.files k)) made) entry words
+    begin_close_kept = closing_kept old.files t old.jobs new.jobs s n k tidy.across ls ln (sym was) (one_channel old.jobs new.jobs s n Closed b.jobs (open_job old.jobs s n (Writing k) (sym was) (λ e. cc)))
+        (store_unmarked old unmarked) (close_marks old.files t k s made) entry words
 
     begin_close_row : state_of new ≡ effect_on (Close n) s (state_of old)
     unfolding effect_on
     begin_close_row =
-        let c : chan_in (state_of old) s n ≡ Writes (file_at old.files k) = chan_is old s n ∙ ap (chan_of old.files) (sym was) in
+        let c = on_draft k was in
         let m : mark_of t ≡ mark_of_close s (chan_in (state_of old) s n) (state_of old).raw.files =
         begin_close old.files t k s made ∙ sym (λ i. mark_of_close s (c i) (files_are old i)) in
         filed_state old new s n Closed t b (λ c. Shut) begin_close_kept.chans (λ some. refl)
@@ -286,39 +207,12 @@ module _ (old new : World) (s n : ℕ) (ls : s < slots) (ln : n < 16) (tidy : Ti
     pub begin_close_comes : Comes new (effect_on (Close n) s (state_of old))
     begin_close_comes = record { row = begin_close_row; tidy = filed_tidy old new s n Closed t b tidy begin_close_kept.across }
 
-  -- which can be done
-  close_is : (f k : ℕ) → readers_at old.files f ≡ 0 → (e : CloseFault) → close_old (readers_at old.files f) old.files s k f ≡ Err e → ⊥
-  close_is f k none e h = let z : close_old 0 old.files s k f ≡ Err e = sym (ap (λ m. close_old m old.files s k f) none) ∙ h in cc
-
-  pub begin_close_can : (k : ℕ) → Writing k ≡ channel_at old.jobs s n → IsStore old.files → Closes (state_of old) (chan_in (state_of old) s n) → (e : CloseFault) → close old.files k s ≡ Err e → ⊥
-  begin_close_can k was whole closes e h =
-      let c : chan_in (state_of old) s n ≡ Writes (file_at old.files k) = chan_is old s n ∙ ap (chan_of old.files) (sym was) in
-      let can = subst (Closes (state_of old)) c closes in
-      by_found (found old.files (names_at old.files k)) refl h can.0 can.1
-    where
-      by_found : (o : Option ℕ) → found old.files (names_at old.files k) ≡ o → close_by o old.files s k ≡ Err e → Unread (state_of old) (names_at old.files k)
-          → ((has_file (names_at old.files k) (state_of old).raw.files || nat_lt (length (state_of old).raw.files) 256) ≡ true) → ⊥
-      by_found (Some f) is h unread room = close_is f k (unread_is old.files old.jobs whole tidy.across (names_at old.files k) f (sym (ap (is_read (names_at old.files k)) (chans_are old)) ∙ unread) is) e h
-      by_found None is h unread room =
-          let l : (state_of old).raw.files ≡ directory old.files = files_are old in
-          let none : has_file (names_at old.files k) (state_of old).raw.files ≡ false = ap (has_file (names_at old.files k)) l ∙ has_named old.files (names_at old.files k) ∙ ap is_some is in
-          let n : length (state_of old).raw.files ≡ length old.files.order = ap (λ fs. length fs) l ∙ length-map old.files.order (file_at old.files) in
-          let lt : nat_lt (length old.files.order) 256 ≡ true = sym (ap (λ b. b || nat_lt (length (state_of old).raw.files) 256) none ∙ ap (λ m. nat_lt m 256) n) ∙ room in
-          let z : close_new true old.files s k ≡ Err e = sym (ap (λ b. close_new b old.files s k) lt) ∙ h in
-          cc
+  pub begin_close_can : (k : ℕ) → Writing k ≡ channel_at old.jobs s n → IsStore old.files → CanClose (state_of old) (chan_in (state_of old) s n) → (e : CloseFault) → close old.files k s ≡ Err e → ⊥
+  begin_close_can k was whole closes = close_can (state_of old).raw old.files old.jobs (shows old) whole tidy.across k s (subst (CanClose (state_of old)) (on_draft k was) closes)
 
 -- a file is deleted or renamed, where there is one that no channel reads
-unread_file : (w : World) (names : Names) (f : ℕ) → Tidy w → IsStore w.files → Unread (state_of w) names → found w.files names ≡ Some f → readers_at w.files f ≡ 0
-unread_file w names f tidy whole unread is = unread_is w.files w.jobs whole tidy.across names f (sym (ap (is_read names) (chans_are w)) ∙ unread) is
-
 absent : (w : World) (names : Names) → found w.files names ≡ None → has_file names (state_of w).raw.files ≡ false
 absent w names none = ap (has_file names) (files_are w) ∙ has_named w.files names ∙ ap is_some none
-
-pub file_found : (w : World) (names : Names) → has_file names (state_of w).raw.files ≡ true → None ≡ found w.files names → ⊥
-file_found w names h none = both_ways (has_file names (state_of w).raw.files) (absent w names (sym none)) h
-
-found_none : (w : World) (names : Names) → has_file names (state_of w).raw.files ≡ false → found w.files names ≡ None
-found_none w names h = none_is (found w.files names) (sym (ap (has_file names) (files_are w) ∙ has_named w.files names) ∙ h)
 
 module _ (old new : World) (tidy : Tidy old) (d x y : ℕ) (unmarked : (state_of old).mark ≡ None) where
   -- only the directory of the state is another
@@ -350,12 +244,6 @@ module _ (old new : World) (tidy : Tidy old) (d x y : ℕ) (unmarked : (state_of
   unfolding effect_on effect
   delete_none none j = directory_still _ (without_none (names_of d x y) (state_of old).raw.files (absent old (d ∷ x ∷ y ∷ []) none))
 
-  pub delete_can : (f : ℕ) → IsStore old.files → Unread (state_of old) (names_of d x y) → found old.files (d ∷ x ∷ y ∷ []) ≡ Some f → (e : Locked) → delete old.files f ≡ Err e → ⊥
-  delete_can f whole unread is e h =
-      let none = unread_file old (names_of d x y) f tidy whole unread is in
-      let z : delete_by 0 old.files f ≡ Err e = sym (ap (λ m. delete_by m old.files f) none) ∙ h in
-      cc
-
   module _ (t : Store) (f u v : ℕ) (is : found old.files (d ∷ x ∷ y ∷ []) ≡ Some f) (whole : IsStore old.files) (file : is_file (entry_at old.files f) ≡ true) (made : rename old.files f u v ≡ Ok t)
       (files : directory t ≡ with_changed (names_at old.files f) (named (new_names old.files f u v)) (directory old.files))
       (entry : Only (entry_at old.files) (entry_at t) f (Some (File (new_names old.files f u v) 0))) (words : Same (words_at old.files) (words_at t)) (o : OnlyStore old new t) where
@@ -372,13 +260,3 @@ module _ (old new : World) (tidy : Tidy old) (d x y : ℕ) (unmarked : (state_of
   pub rename_none : (u v : ℕ) → found old.files (d ∷ x ∷ y ∷ []) ≡ None → (j : ℕ) → Comes old (effect_on (Rename d x y u v) j (state_of old))
   unfolding effect_on effect
   rename_none u v none j = directory_still _ (renamed_none (names_of d x y) u v (state_of old).raw.files (absent old (d ∷ x ∷ y ∷ []) none))
-
-  pub rename_can : (f u v : ℕ) → IsStore old.files → Unread (state_of old) (names_of d x y) → has_file (names_of d u v) (state_of old).raw.files ≡ false → found old.files (d ∷ x ∷ y ∷ []) ≡ Some f
-      → names_at old.files f ≡ d ∷ x ∷ y ∷ [] → (e : RenameFault) → rename old.files f u v ≡ Err e → ⊥
-  rename_can f u v whole unread fresh is names e h =
-      let none = unread_file old (names_of d x y) f tidy whole unread is in
-      let new : new_names old.files f u v ≡ d ∷ u ∷ v ∷ [] = ap (λ ns. slice_index_or ns 0 0 ∷ u ∷ v ∷ []) names in
-      let free : found old.files (new_names old.files f u v) ≡ None = found_none old (new_names old.files f u v) (ap (λ ns. has_file ns (state_of old).raw.files) new ∙ fresh) in
-      let z : rename_free None old.files f (new_names old.files f u v) ≡ Err e =
-      sym (ap (λ m. rename_by m old.files f (new_names old.files f u v)) none ∙ ap (λ o. rename_free o old.files f (new_names old.files f u v)) free) ∙ h in
-      cc

@@ -1,53 +1,37 @@
 -- A channel of a job set, with the store that it is on: what the state and the facts on numbers are then.
-use Rattle.std.specs.Prelude.{◌≡◌, ◌≢◌, ◌<◌, ℕ, true, false, Option, Some, None, is_some, option_map, length, slice_set, slice_index_or, refl}
-use Rattle.std.proofs.Common.{sym, ◌∙◌, ap, subst, inl, inr}
-use Rattle.std.proofs.lemmas.Bool.{cases_eq, cases_Bool}
-use Rattle.std.proofs.lemmas.List.{get_or-set_same, get_or-set_other}
-use Rattle.its_word.specs.Core.{Core}
-use Rattle.its_word.specs.Only.{Only, Same}
+use Rattle.std.specs.Prelude.{◌≡◌, ◌≢◌, ◌<◌, ℕ, true, Some, None, is_some, length, slice_set, refl}
+use Rattle.std.proofs.Common.{sym, ◌∙◌, ap, subst}
 use Rattle.its_word.specs.declared.jobs.Channel.{Channel}
-use Rattle.its_word.specs.declared.jobs.Channel.TheVariants.{Closed, TtyIn, TtyOut, Reading, Writing, Usr}
+use Rattle.its_word.specs.declared.jobs.Channel.TheVariants.{Closed}
 use Rattle.its_word.specs.declared.jobs.Job.{Job}
 use Rattle.its_core.specs.Cores.{core_at, clear_at}
 use Rattle.its_jobs.specs.Table.{job_at, superior_at}
 use Rattle.its_files.specs.Files.{Store, directory}
 use Rattle.its_plain.specs.Machine.{Chan, Shut}
 use Rattle.its_plain.specs.Own.{on_channel}
-use Rattle.its_plain.specs.Change.{in_job, channel_in}
+use Rattle.its_plain.specs.Change.{in_job}
 use Rattle.its_plain.specs.OperatorFiles.{channels_of}
 use Rattle.its_plain.proofs.MachineLaws.{machine_is}
 use Rattle.its_stepped.specs.State.{State}
-use Rattle.its_world.specs.World.{chan_of, chans_of, bare, alarm_at, raw_of, raw_at, frame_at, console_at, holder_at, mark_of, state_of, in_raw, JobBecomes, symbols_at}
+use Rattle.its_world.specs.World.{chan_of, alarm_at, raw_at, frame_at, console_at, holder_at, mark_of, state_of, in_raw, JobBecomes, symbols_at}
 use Rattle.its_plain.specs.OperatorClock.{clock_end}
-use Rattle.its_world.specs.Tidy.{channel_by, channel_at, Across, Tidy}
+use Rattle.its_world.specs.Tidy.{channel_at, Across, Tidy}
 use Rattle.its_world.specs.Storage.{HasJob, chan_in, ChannelBecomes, OnlyStore}
 use Rattle.its_world.specs.declared.world.World.{World}
+use Rattle.its_parts.specs.Channels.{OnlyChannel, Shows}
+use Rattle.its_parts.proofs.ChanLaws.{raw_alike, job_by, chan_by, shut_by}
 use Rattle.its_parts.proofs.KeptLaws.{Kept, Stays}
+use Rattle.its_parts.proofs.SetLaws.{only_same, channel_put, channel_absent, channel_same, none_before, raw_channel}
 use Rattle.its_world.proofs.MarkLaws.{mark_none, none_marked}
 use Rattle.its_world.proofs.PlaceLaws.{ringed_alike}
 use Rattle.its_world.proofs.WorldLaws.{frames_still}
-use Rattle.its_world.proofs.StateLaws.{state_is, changed_at, slot_at}
-use Rattle.its_parts.proofs.TallyLaws.{OneChannel}
-use Rattle.its_word.proofs.FreeLaws.{none_is}
-
--- what is written at one place is what was there
-only_same : {X : Type 0} (f g : ℕ → X) (s : ℕ) → Only f g s (f s) → Same f g
-only_same f g s o = record {
-  each = λ k. elim (cases_eq k s) [
-    | inl e ↦ ap g e ∙ o.here ∙ ap f (sym e)
-    | inr ne ↦ o.others k ne
-  ];
-}
+use Rattle.its_world.proofs.StateLaws.{state_is}
 
 -- a channel set
 pub channel_becomes : (old new : World) (s n : ℕ) (x : Channel) (j : Job) → job_at old.jobs s ≡ Some j → n < length j.channels
     → JobBecomes old new s (record j { channels = slice_set j.channels n x }) → ChannelBecomes old new s n x old.files
 channel_becomes old new s n x j was lt b = record {
-  here = λ some. ap (λ o. channel_by o n) b.job.here ∙ get_or-set_same j.channels n x Closed lt;
-  row = λ m ne. ap (λ o. channel_by o m) b.job.here ∙ get_or-set_other j.channels n m x Closed ne ∙ ap (λ o. channel_by o m) (sym was);
-  job = ap (option_map bare) b.job.here ∙ sym (ap (option_map bare) was);
-  rows = b.job.others;
-  superiors = b.superiors;
+  jobs = channel_put old.jobs new.jobs s n x j was lt b.job b.superiors;
   core = only_same (core_at old.core) (core_at new.core) s b.core;
   reserved = only_same (clear_at old.core) (clear_at new.core) s b.reserved;
   pages = b.pages ∙ frames_still (clear_at old.core s) s old.core.frames;
@@ -64,11 +48,7 @@ channel_becomes old new s n x j was lt b = record {
 
 pub channel_missing : (w : World) (s n : ℕ) (x : Channel) → job_at w.jobs s ≡ None → ChannelBecomes w w s n x w.files
 channel_missing w s n x none = record {
-  here = λ some. let f : false ≡ true = sym (ap is_some none) ∙ some in cc;
-  row = λ m ne. refl;
-  job = refl;
-  rows = λ k ne. refl;
-  superiors = refl;
+  jobs = channel_absent w.jobs s n x none;
   core = record { each = λ k. refl };
   reserved = record { each = λ k. refl };
   pages = refl;
@@ -86,11 +66,7 @@ channel_missing w s n x none = record {
 -- a channel is set behind the store, or left as it is
 pub store_first : (old mid new : World) (s n : ℕ) (x : Channel) (t : Store) → OnlyStore old mid t → ChannelBecomes mid new s n x t → ChannelBecomes old new s n x t
 store_first old mid new s n x t o b = record {
-  here = λ some. b.here (ap (λ j. is_some (job_at j s)) o.jobs ∙ some);
-  row = λ m ne. b.row m ne ∙ ap (λ j. channel_at j s m) o.jobs;
-  job = b.job ∙ ap (λ j. option_map bare (job_at j s)) o.jobs;
-  rows = λ k ne. b.rows k ne ∙ ap (λ j. job_at j k) o.jobs;
-  superiors = b.superiors ∙ ap (λ j. j.superiors) o.jobs;
+  jobs = subst (λ j. OnlyChannel j new.jobs s n x) o.jobs b.jobs;
   core = record { each = λ k. b.core.each k ∙ ap (λ c. core_at c k) o.core };
   reserved = record { each = λ k. b.reserved.each k ∙ ap (λ c. clear_at c k) o.core };
   pages = b.pages ∙ ap (λ c. c.frames) o.core;
@@ -107,11 +83,7 @@ store_first old mid new s n x t o b = record {
 
 pub channel_still : (old new : World) (s n : ℕ) (t : Store) → OnlyStore old new t → ChannelBecomes old new s n (channel_at old.jobs s n) t
 channel_still old new s n t o = record {
-  here = λ some. ap (λ j. channel_at j s n) o.jobs;
-  row = λ m ne. ap (λ j. channel_at j s m) o.jobs;
-  job = ap (λ j. option_map bare (job_at j s)) o.jobs;
-  rows = λ k ne. ap (λ j. job_at j k) o.jobs;
-  superiors = ap (λ j. j.superiors) o.jobs;
+  jobs = channel_same old.jobs new.jobs s n o.jobs;
   core = record { each = λ k. ap (λ c. core_at c k) o.core };
   reserved = record { each = λ k. ap (λ c. clear_at c k) o.core };
   pages = ap (λ c. c.frames) o.core;
@@ -126,42 +98,15 @@ channel_still old new s n t o = record {
   ringed = ringed_alike old new o.jobs o.frames o.consoles o.holders o.clock o.rings;
 }
 
--- raw jobs, where what their channels are on is the same, and where one channel is on something else
-raw_alike : (s t : Store) (c : Core) (u : Option ℕ) (a : Option (ℕ × ℕ)) (o : Option Job) → ((m : ℕ) → chan_of t (channel_by o m) ≡ chan_of s (channel_by o m)) → raw_of t c u a o ≡ raw_of s c u a o
-raw_alike s t c u a (Some j) h = λ i. Some (record { core = c; job = bare j; superior = u; channels = λ m. h m i; alarm = a })
-raw_alike s t c u a None h = refl
-
-raw_set : (s t : Store) (c : Core) (u : Option ℕ) (a : Option (ℕ × ℕ)) (n : ℕ) (g : Chan → Chan) (i j : Option Job) → option_map bare i ≡ option_map bare j
-    → ((m : ℕ) → m ≢ n → chan_of t (channel_by i m) ≡ chan_of s (channel_by j m)) → (is_some j ≡ true → chan_of t (channel_by i n) ≡ g (chan_of s (channel_by j n)))
-    → raw_of t c u a i ≡ option_map (on_channel n g) (raw_of s c u a j)
-raw_set s t c u a n g (Some i) (Some j) same others here =
-    let b : bare i ≡ bare j = cc in
-    let at = changed_at (chans_of t i) (chans_of s j) n (g (chans_of s j n)) (here refl) others in
-    λ k. Some (record { core = c; job = b k; superior = u; channels = λ m. at m k; alarm = a })
-raw_set s t c u a n g None None same others here = refl
-raw_set s t c u a n g (Some i) None same others here = cc
-raw_set s t c u a n g None (Some j) same others here = cc
-
 module _ (old new : World) (s n : ℕ) (x : Channel) (t : Store) (b : ChannelBecomes old new s n x t) where
   -- the state, where all other channels are on what they were on
-  parts_are : (k : ℕ) → raw_at new.files new.core new.jobs new.alarms.items k ≡ raw_of t (core_at old.core k) (superior_at old.jobs k) (alarm_at old.alarms.items k) (job_at new.jobs k)
-  parts_are k =
-      ap (λ f. raw_of f (core_at new.core k) (superior_at new.jobs k) (alarm_at new.alarms.items k) (job_at new.jobs k)) b.files
-      ∙ ap (λ c. raw_of t c (superior_at new.jobs k) (alarm_at new.alarms.items k) (job_at new.jobs k)) (b.core.each k)
-      ∙ ap (λ u. raw_of t (core_at old.core k) (slice_index_or u k None) (alarm_at new.alarms.items k) (job_at new.jobs k)) b.superiors
-      ∙ ap (λ l. raw_of t (core_at old.core k) (superior_at old.jobs k) (alarm_at l.items k) (job_at new.jobs k)) b.alarms
-
   pub filed_state : (g : Chan → Chan) → ((k m : ℕ) → (k ≡ s → m ≢ n) → chan_of t (channel_at new.jobs k m) ≡ chan_of old.files (channel_at old.jobs k m))
       → (is_some (job_at old.jobs s) ≡ true → chan_of t x ≡ g (chan_of old.files (channel_at old.jobs s n)))
       → state_of new ≡ record (state_of old) { raw = record (in_job (state_of old).raw s (on_channel n g)) { files = directory t }; mark = mark_of t }
   unfolding state_of
   filed_state g others here = state_is _ _
-      (machine_is _ _ (slot_at _ _ s (on_channel n g)
-      (parts_are s ∙ raw_set old.files t (core_at old.core s) (superior_at old.jobs s) (alarm_at old.alarms.items s) n g (job_at new.jobs s) (job_at old.jobs s) b.job
-      (λ m ne. others s m (λ e. ne)) (λ some. ap (chan_of t) (b.here some) ∙ here some))
-      (λ k ne. parts_are k ∙ ap (raw_of t (core_at old.core k) (superior_at old.jobs k) (alarm_at old.alarms.items k)) (b.rows k ne)
-      ∙ raw_alike old.files t (core_at old.core k) (superior_at old.jobs k) (alarm_at old.alarms.items k) (job_at old.jobs k)
-      (λ m. sym (ap (λ o. chan_of t (channel_by o m)) (b.rows k ne)) ∙ others k m (λ e. absurd (ne e)))))
+      (machine_is _ _
+      (λ k. (λ i. raw_at (b.files i) new.core new.jobs (b.alarms i).items k) ∙ raw_channel old.jobs new.jobs s n x b.jobs old.files t old.core new.core old.alarms.items g b.core others here k)
       (λ k. ap (λ l. console_at l.items k) b.consoles) (λ k. ap (λ l. holder_at l k) b.holders) (ap directory b.files) b.clock b.version (λ k. ap (λ l. symbols_at l.items k) b.symbols))
       (λ k. b.frames.each k) (λ k. b.reserved.each k) (ap mark_of b.files)
 
@@ -174,44 +119,14 @@ module _ (old new : World) (s n : ℕ) (x : Channel) (t : Store) (b : ChannelBec
       filed_state g others here
       ∙ (λ i. record (state_of old) { raw = record (in_job (state_of old).raw s (on_channel n g)) { files = files i }; mark = mark i })
 
-  -- the channels, where the slot has a job, and where the channel is as it was
-  pub one_channel : is_some (job_at old.jobs s) ≡ true → OneChannel (channel_at old.jobs) (channel_at new.jobs) s n x
-  one_channel some = record { here = b.here some; row = b.row; rows = λ k ne m. ap (λ o. channel_by o m) (b.rows k ne) }
-
-  no_job : (i j : Option Job) → option_map bare i ≡ option_map bare j → is_some j ≡ false → i ≡ None
-  no_job None j e h = refl
-  no_job (Some i) None e h = cc
-  no_job (Some i) (Some j) e h = cc
-
-  pub same_channels : (is_some (job_at old.jobs s) ≡ true → channel_at old.jobs s n ≡ x) → (k m : ℕ) → channel_at new.jobs k m ≡ channel_at old.jobs k m
-  same_channels was k m = elim (cases_eq k s) [
-    | inl e ↦ ap (λ i. channel_at new.jobs i m) e ∙ here_same ∙ ap (λ i. channel_at old.jobs i m) (sym e)
-    | inr ne ↦ ap (λ o. channel_by o m) (b.rows k ne)
-  ]
-    where
-      here_same : channel_at new.jobs s m ≡ channel_at old.jobs s m
-      here_same = elim (cases_Bool (is_some (job_at old.jobs s))) [
-        | inl some ↦ elim (cases_eq m n) [
-          | inl e ↦ ap (channel_at new.jobs s) e ∙ b.here some ∙ sym (was some) ∙ ap (channel_at old.jobs s) (sym e)
-          | inr ne ↦ b.row m ne
-        ]
-        | inr none ↦ ap (λ o. channel_by o m) (no_job (job_at new.jobs s) (job_at old.jobs s) b.job none) ∙ sym (ap (λ o. channel_by o m) (none_is (job_at old.jobs s) none))
-      ]
-
-  bare_none : (k : ℕ) → job_at new.jobs k ≡ None → job_at old.jobs k ≡ None
-  bare_none k none = elim (cases_eq k s) [
-    | inl e ↦ ap (job_at old.jobs) e ∙ no_job (job_at old.jobs s) (job_at new.jobs s) (sym b.job) (ap is_some (sym (ap (job_at new.jobs) e) ∙ none))
-    | inr ne ↦ sym (b.rows k ne) ∙ none
-  ]
-
   pub filed_tidy : Tidy old → Across t new.jobs → Tidy new
   filed_tidy tidy a = record {
-    blank = λ k none. b.core.each k ∙ tidy.blank k (bare_none k none);
-    quiet = λ k none. ap (λ l. alarm_at l.items k) b.alarms ∙ tidy.quiet k (bare_none k none);
+    blank = λ k none. b.core.each k ∙ tidy.blank k (none_before old.jobs new.jobs s n x b.jobs k none);
+    quiet = λ k none. ap (λ l. alarm_at l.items k) b.alarms ∙ tidy.quiet k (none_before old.jobs new.jobs s n x b.jobs k none);
     timed = subst (λ t. t < clock_end) (sym b.clock) tidy.timed;
     across = subst (λ f. Across f new.jobs) (sym b.files) a;
     ringed = b.ringed tidy.ringed;
-    nameless = λ k none. ap (λ l. symbols_at l.items k) b.symbols ∙ tidy.nameless k (bare_none k none);
+    nameless = λ k none. ap (λ l. symbols_at l.items k) b.symbols ∙ tidy.nameless k (none_before old.jobs new.jobs s n x b.jobs k none);
   }
 
 -- what a world comes to: a state, and it is tidy
@@ -260,20 +175,12 @@ store_tidy old new t o stays tidy = record {
 }
 
 -- what the state says of a world
-pub job_by : (s : Store) (c : Core) (u : Option ℕ) (a : Option (ℕ × ℕ)) (o : Option Job) → is_some (raw_of s c u a o) ≡ is_some o
-job_by s c u a (Some j) = refl
-job_by s c u a None = refl
-
 pub raw_has : (w : World) (s : ℕ) → is_some ((state_of w).raw.jobs s) ≡ is_some (job_at w.jobs s)
 unfolding state_of
 raw_has w s = job_by w.files (core_at w.core s) (superior_at w.jobs s) (alarm_at w.alarms.items s) (job_at w.jobs s)
 
 pub has_job : (w : World) (s : ℕ) → HasJob (state_of w) s → is_some (job_at w.jobs s) ≡ true
 has_job w s h = sym (raw_has w s) ∙ h
-
-chan_by : (s : Store) (c : Core) (u : Option ℕ) (a : Option (ℕ × ℕ)) (o : Option Job) (n : ℕ) → channel_in (raw_of s c u a o) n ≡ chan_of s (channel_by o n)
-chan_by s c u a (Some j) n = refl
-chan_by s c u a None n = refl
 
 pub chan_is : (w : World) (s n : ℕ) → chan_in (state_of w) s n ≡ chan_of w.files (channel_at w.jobs s n)
 unfolding state_of
@@ -290,14 +197,6 @@ pub marks_are : (w : World) → (state_of w).mark ≡ mark_of w.files
 unfolding state_of
 marks_are w = refl
 
-shut_by : (s : Store) (c : Channel) → chan_of s c ≡ Shut → c ≡ Closed
-shut_by s Closed e = refl
-shut_by s TtyIn e = cc
-shut_by s TtyOut e = cc
-shut_by s (Reading f at) e = cc
-shut_by s (Writing d) e = cc
-shut_by s (Usr k write at) e = cc
-
 pub chan_shut : (w : World) (s n : ℕ) → chan_in (state_of w) s n ≡ Shut → channel_at w.jobs s n ≡ Closed
 chan_shut w s n e = shut_by w.files (channel_at w.jobs s n) (sym (chan_is w s n) ∙ e)
 
@@ -311,3 +210,6 @@ still_unmarked w t unmarked e = let none = store_unmarked w unmarked in none_mar
 pub files_are : (w : World) → (state_of w).raw.files ≡ directory w.files
 unfolding state_of
 files_are w = refl
+
+pub shows : (w : World) → Shows (state_of w).raw w.files w.jobs
+shows w = record { files = files_are w; chans = chans_are w }

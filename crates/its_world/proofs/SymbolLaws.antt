@@ -1,29 +1,17 @@
--- The lists of symbols: empty ones, one that gains a symbol, and those that are emptied.
+-- The lists of symbols: one that gains a symbol, and those that are emptied.
 use Rattle.std.specs.Prelude.{◌≡◌, ◌≤◌, ◌<◌, ◌+◌, ℕ, zero, suc, Bool, true, false, List, [], ◌∷◌, ◌++◌, length, slice_index_or, slice_set, refl}
 use Rattle.std.proofs.Common.{sym, ◌∙◌, ap, subst, arith, inl, inr}
 use Rattle.std.proofs.lemmas.Bool.{cases_eq, cases_lt}
-use Rattle.std.proofs.lemmas.List.{get_or-set_same, get_or-set_other, get_or_past}
+use Rattle.std.proofs.lemmas.List.{get_or_past}
 use Rattle.its_word.specs.ArrayVec.{ArrayVec}
 use Rattle.its_word.specs.Only.{Only, Same}
 use Rattle.its_jobs.specs.Table.{job_at}
 use Rattle.its_plain.specs.Change.{symbols_left}
 use Rattle.its_plain.specs.Machine.{Symbol}
-use Rattle.its_world.specs.World.{no_symbols, symbols_at, SymbolsBecome, VersionBecomes}
+use Rattle.its_world.specs.World.{no_symbols, symbols_at, VersionBecomes}
 use Rattle.its_world.specs.declared.world.World.{World}
-use Rattle.its_world.proofs.PlaceLaws.{ringed_alike, ringed_jobs}
-
-pub none_more : (xs : List (ArrayVec Symbol)) (x : ArrayVec Symbol) → x.items ≡ [] → ((k : ℕ) → symbols_at xs k ≡ []) → (k : ℕ) → symbols_at (xs ++ x ∷ []) k ≡ []
-none_more [] x e h zero = e
-none_more [] x e h (suc k) = refl
-none_more (y ∷ xs) x e h zero = h zero
-none_more (y ∷ xs) x e h (suc k) = none_more xs x e (λ i. h (suc i)) k
-
--- one list is another
-pub list_here : (xs : List (ArrayVec Symbol)) (s : ℕ) (x : ArrayVec Symbol) (ss : List Symbol) → s < length xs → x.items ≡ ss → Only (symbols_at xs) (symbols_at (slice_set xs s x)) s ss
-list_here xs s x ss l e = record {
-  here = ap (λ (y : ArrayVec Symbol). y.items) (get_or-set_same xs s x no_symbols l) ∙ e;
-  others = λ k ne. ap (λ (y : ArrayVec Symbol). y.items) (get_or-set_other xs s k x no_symbols ne);
-}
+use Rattle.its_world.proofs.PlaceLaws.{ringed_jobs}
+use Rattle.its_parts.proofs.OpenLaws.{list_here}
 
 -- the list in place s gains a symbol
 list_had : (xs : List (ArrayVec Symbol)) (s : ℕ) (x : ArrayVec Symbol) → s < length xs → x ≡ slice_index_or xs s x → x.items ≡ symbols_at xs s
@@ -36,23 +24,6 @@ pub list_gains : (xs : List (ArrayVec Symbol)) (s i : ℕ) (x y : ArrayVec Symbo
 list_gains xs s i x y b l is e more =
     subst (λ (k : ℕ). Only (symbols_at xs) (symbols_at (slice_set xs k y)) s (symbols_at xs s ++ b ∷ [])) (sym is)
     (list_here xs s y (symbols_at xs s ++ b ∷ []) l (more ∙ ap (λ (bs : List Symbol). bs ++ b ∷ []) (list_had xs s x l (e ∙ ap (λ (k : ℕ). slice_index_or xs k x) is))))
-
--- the symbols of one slot are written, or the version; no slot belongs in another list of those that wait
-pub symbols_become : (old new : World) (s : ℕ) (ss : List Symbol) → Only (symbols_at old.symbols.items) (symbols_at new.symbols.items) s ss
-    → new.core ≡ old.core → new.jobs ≡ old.jobs → new.frames ≡ old.frames → new.consoles ≡ old.consoles → new.holders ≡ old.holders → new.files ≡ old.files → new.clock ≡ old.clock → new.version ≡ old.version → new.alarms ≡ old.alarms → new.rings ≡ old.rings → SymbolsBecome old new s ss
-symbols_become old new s ss symbols core jobs frames consoles holders files clock version alarms rings = record {
-  symbols = symbols;
-  core = core;
-  jobs = jobs;
-  frames = frames;
-  consoles = consoles;
-  holders = holders;
-  files = files;
-  clock = clock;
-  version = version;
-  alarms = alarms;
-  ringed = ringed_alike old new jobs frames consoles holders clock rings;
-}
 
 pub version_becomes : (old new : World) (v : ℕ) → new.version ≡ v → Same (job_at old.jobs) (job_at new.jobs) → new.jobs.superiors ≡ old.jobs.superiors
     → new.core ≡ old.core → new.frames ≡ old.frames → new.consoles ≡ old.consoles → new.holders ≡ old.holders → new.files ≡ old.files → new.clock ≡ old.clock → new.symbols ≡ old.symbols → new.alarms ≡ old.alarms → new.rings ≡ old.rings → VersionBecomes old new v

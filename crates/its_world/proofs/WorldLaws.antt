@@ -1,14 +1,15 @@
 -- What a world keeps where one part of it is written.
-use Rattle.std.specs.Prelude.{◌≡◌, ◌<◌, ◌≤◌, ◌-◌, ℕ, zero, suc, true, Option, Some, None, IsSome, is_some, List, [], ◌∷◌, ◌++◌, length, drop, slice_index_or, option_map, refl}
+use Rattle.std.specs.Prelude.{◌≡◌, ◌<◌, ◌≤◌, ◌-◌, ℕ, true, Option, Some, None, IsSome, is_some, List, [], ◌∷◌, ◌++◌, length, drop, option_map, refl}
 use Rattle.std.proofs.Common.{ap, sym, arith, ◌∙◌}
 use Rattle.std.proofs.lemmas.List.{length-append, take-append-le, take_all}
-use Rattle.its_word.specs.Only.{Only, Same}
-use Rattle.its_word.specs.Console.{Console, quiet_console, most_waiting}
-use Rattle.its_word.specs.Core.{Core, no_core}
+use Rattle.its_word.specs.Only.{Only}
+use Rattle.its_word.specs.Console.{Console, most_waiting}
+use Rattle.its_word.specs.Core.{Core}
 use Rattle.its_word.specs.declared.jobs.Job.{Job}
 use Rattle.its_frame.specs.declared.frame.Frame.{Frame}
 use Rattle.its_jobs.specs.Table.{job_at}
 use Rattle.its_plain.specs.Change.{rest_of}
+use Rattle.its_parts.proofs.CoreLaws.{same_core, same_clear}
 use Rattle.its_world.specs.World.{frame_at, console_at, holder_at, frames_after, with_frames, Becomes, CoreBecomes, PageBecomes, ConsoleBecomes, HolderBecomes, ClockBecomes, typed_at}
 use Rattle.its_world.specs.Rings.{lists_at}
 use Rattle.its_world.specs.Filed.{SlotWritten, ConsoleWritten, HolderWritten, ClockWritten, Refiled, Resettled}
@@ -16,29 +17,6 @@ use Rattle.its_world.proofs.PlaceLaws.{ringed_alike, slot_ringed, door_ringed, c
 use Rattle.its_world.specs.declared.world.World.{World}
 use Rattle.its_core.specs.Cores.{Cores, Reserved, core_at, reserved_at, clear_at}
 use Rattle.its_core.specs.Frames.{Frames, frames_give_back}
-
-same_reserved : (a b : Cores) (k : ℕ) → b.reserved ≡ a.reserved → reserved_at b k ≡ reserved_at a k
-unfolding reserved_at
-same_reserved a b k h = ap (λ rs. slice_index_or rs k None) h
-
-same_core : (a b : Cores) (k : ℕ) → b.cores ≡ a.cores → core_at b k ≡ core_at a k
-unfolding core_at
-same_core a b k h = ap (λ cs. slice_index_or cs k no_core) h
-
-same_clear : (a b : Cores) → b.reserved ≡ a.reserved → Same (clear_at a) (clear_at b)
-same_clear a b h = record { each = λ k. ap (λ (r : Option Reserved). option_map (λ x. x.clear) r) (same_reserved a b k h) }
-
-pub none_more : {X : Type 0} → (xs : List (Option X)) → ((k : ℕ) → slice_index_or xs k None ≡ None) → (k : ℕ) → slice_index_or (xs ++ None ∷ []) k None ≡ None
-none_more [] h zero = refl
-none_more [] h (suc k) = refl
-none_more (x ∷ xs) h zero = h zero
-none_more (x ∷ xs) h (suc k) = none_more xs (λ i. h (suc i)) k
-
-pub quiet_more : (xs : List Console) → ((c : ℕ) → slice_index_or xs c quiet_console ≡ quiet_console) → (c : ℕ) → slice_index_or (xs ++ quiet_console ∷ []) c quiet_console ≡ quiet_console
-quiet_more [] h zero = refl
-quiet_more [] h (suc c) = refl
-quiet_more (x ∷ xs) h zero = h zero
-quiet_more (x ∷ xs) h (suc c) = quiet_more xs (λ i. h (suc i)) c
 
 -- nothing else changes
 unchanged : {X : Type 0} → (f : ℕ → X) (s : ℕ) → Only f f s (f s)

@@ -1,19 +1,18 @@
 -- What a change of a channel, a draft or a file needs of the state.
-use Rattle.std.specs.Prelude.{◌≡◌, ◌≢◌, ◌||◌, ℕ, true, false, is_some, option_map, length, nat_lt}
+use Rattle.std.specs.Prelude.{◌≡◌, ◌||◌, ℕ, true, false, is_some, length, nat_lt}
 use Rattle.its_word.specs.Only.{Same}
 use Rattle.its_word.specs.declared.jobs.Channel.{Channel}
-use Rattle.its_word.specs.declared.jobs.Channel.TheVariants.{Closed, TtyIn, TtyOut, Reading, Writing, Usr}
 use Rattle.its_plain.specs.Machine.{Names, Chan, Writes}
 use Rattle.its_plain.specs.Change.{channel_in}
 use Rattle.its_plain.specs.CallFile.{most_files, is_full, has_file, is_read}
 use Rattle.its_plain.specs.OperatorFiles.{channels_of}
 use Rattle.its_stepped.specs.State.{State}
 use Rattle.its_core.specs.Cores.{core_at, clear_at}
-use Rattle.its_jobs.specs.Table.{job_at}
 use Rattle.its_files.specs.Files.{Store}
-use Rattle.its_world.specs.World.{bare, frame_at}
+pub use Rattle.its_parts.specs.Across.{IsElsewhere}
+use Rattle.its_parts.specs.Channels.{OnlyChannel}
+use Rattle.its_world.specs.World.{frame_at}
 use Rattle.its_world.specs.Filed.{Ringed}
-use Rattle.its_world.specs.Tidy.{channel_at}
 use Rattle.its_world.specs.declared.world.World.{World}
 
 -- the slot has a job
@@ -23,15 +22,6 @@ HasJob w j = is_some (w.raw.jobs j) ≡ true
 -- what channel n of the job of slot j is on
 abbrev pub chan_in : State → ℕ → ℕ → Chan
 chan_in w j n = channel_in (w.raw.jobs j) n
-
--- a channel that is on no file and on no draft
-abbrev pub IsElsewhere : Channel → Type 0
-IsElsewhere Closed = Unit {0}
-IsElsewhere TtyIn = Unit {0}
-IsElsewhere TtyOut = Unit {0}
-IsElsewhere (Usr s write at) = Unit {0}
-IsElsewhere (Reading f at) = ⊥
-IsElsewhere (Writing d) = ⊥
 
 -- a channel that writes a draft
 abbrev pub IsDraft : Chan → Type 0
@@ -49,17 +39,14 @@ HasRoom w _ = Unit {0}
 
 -- the draft of a channel can become a file: in place of one that no channel reads, or of none where there are fewer files
 -- than the most
-abbrev pub Closes : State → Chan → Type 0
-Closes w (Writes f) = Unread w f.names × ((has_file f.names w.raw.files || nat_lt (length w.raw.files) most_files) ≡ true)
-Closes w _ = Unit {0}
+abbrev pub CanClose : State → Chan → Type 0
+CanClose w (Writes f) =
+    Unread w f.names × ((has_file f.names w.raw.files || nat_lt (length w.raw.files) most_files) ≡ true)
+CanClose w _ = Unit {0}
 
 -- of the world only channel n of slot s's job changes, where it has one, and the store is t
 pub record ChannelBecomes (old new : World) (s n : ℕ) (x : Channel) (t : Store) : Type 0 where
-  pub here : is_some (job_at old.jobs s) ≡ true → channel_at new.jobs s n ≡ x
-  pub row : (m : ℕ) → m ≢ n → channel_at new.jobs s m ≡ channel_at old.jobs s m
-  pub job : option_map bare (job_at new.jobs s) ≡ option_map bare (job_at old.jobs s)
-  pub rows : (k : ℕ) → k ≢ s → job_at new.jobs k ≡ job_at old.jobs k
-  pub superiors : new.jobs.superiors ≡ old.jobs.superiors
+  pub jobs : OnlyChannel old.jobs new.jobs s n x
   pub core : Same (core_at old.core) (core_at new.core)
   pub reserved : Same (clear_at old.core) (clear_at new.core)
   pub pages : new.core.frames ≡ old.core.frames

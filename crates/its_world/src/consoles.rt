@@ -1,10 +1,8 @@
-ghost use Rattle.std.specs.Prelude.{◌≡◌, ◌<◌, ◌↔◌, ℕ, vec_len, length, slice_index_or, IfOk, IsTrue};
-ghost use Rattle.its_word.specs.Console.{quiet_console, most_waiting};
+ghost use Rattle.std.specs.Prelude.{◌≡◌, ◌<◌, ◌↔◌, length, IsTrue};
+ghost use Rattle.its_word.specs.Console.{most_waiting};
 ghost use Rattle.its_world.specs.World.{typed_at};
 
 use its_console::Console;
-use its_word::NoMemory;
-use std::alloc::Global;
 
 /// How many typed bytes wait at most at a console.
 const MOST_WAITING: u32 = 64;
@@ -17,17 +15,4 @@ pub fn type_at(console: &mut Console, b: u8) -> bool
 {
     let (typed, _) = console.waiting();
     typed < MOST_WAITING && console.type_in(b)
-}
-
-/// So many consoles at which nothing waits.
-#[tactic(auto, using(crate::proofs::WorldLaws::quiet_more))]
-pub fn quiet_consoles(alloc: Global, n: usize) -> Result<Vec<Console>, NoMemory>
-    ensures length { IfOk result (λ v. vec_len v ≡ n) }
-    ensures quiet { IfOk result (λ v. (c : ℕ) → slice_index_or v.items c quiet_console ≡ quiet_console) }
-{
-    let mut v = Vec::with_capacity(alloc, n).map_err(|_| NoMemory)?;
-    for _c in 0..n {
-        v.push(Console::open(alloc)?).map_err(|_| NoMemory)?;
-    }
-    Ok(v)
 }

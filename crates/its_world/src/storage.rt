@@ -1,17 +1,16 @@
 //! Channels of jobs with what they are on: the readers of files, and drafts.
 
-ghost use Rattle.std.specs.Prelude.{◌≡◌, ◌<◌, ℕ, true, false, None, Some, IfSome, is_some, slice_set};
+ghost use Rattle.std.specs.Prelude.{◌≡◌, ◌<◌, ℕ, true, false, None, Some, slice_set};
 ghost use Rattle.its_word.specs.Limits.{slots};
-ghost use Rattle.its_jobs.specs.Table.{job_at};
 ghost use Rattle.its_frame.specs.declared.change.Change.TheVariants.{Open, Shut as Shuts, Move, Append, Close, Delete, Rename};
 ghost use Rattle.its_frame.specs.declared.change.Opened.TheVariants.{Reading as Reads, Writing as Writes};
 ghost use Rattle.its_plain.specs.Machine.{Shut};
 ghost use Rattle.its_plain.specs.Own.{names_of, on_channel};
 ghost use Rattle.its_plain.specs.CallFile.{has_file};
 ghost use Rattle.its_stepped.specs.Commit.{effect_on};
-ghost use Rattle.its_world.specs.World.{state_of, chan_of, in_raw, JobBecomes};
+ghost use Rattle.its_world.specs.World.{state_of, chan_of, in_raw};
 ghost use Rattle.its_world.specs.Tidy.{Tidy, channel_at};
-ghost use Rattle.its_world.specs.Storage.{HasJob, chan_in, IsElsewhere, IsDraft, Unread, HasRoom, Closes, ChannelBecomes};
+ghost use Rattle.its_world.specs.Storage.{HasJob, chan_in, IsElsewhere, IsDraft, Unread, HasRoom, CanClose, ChannelBecomes};
 
 use super::world::World;
 use its_word::{Channel, Job, Word};
@@ -158,7 +157,7 @@ impl World {
         requires slot { slot < slots }
         requires channel { n < 16 }
         requires writes { IsDraft (chan_in (state_of self.old) slot n) }
-        requires closes { Closes (state_of self.old) (chan_in (state_of self.old) slot n) }
+        requires closes { CanClose (state_of self.old) (chan_in (state_of self.old) slot n) }
         requires unmarked { (state_of self.old).mark ≡ None }
         requires tidy { Tidy self.old }
         ensures row { state_of self.new ≡ effect_on (Close n) slot (state_of self.old) }

@@ -1,4 +1,4 @@
-ghost use Rattle.std.specs.Prelude.{◌≡◌, ℕ, [], vec_len, IfOk, is_none};
+ghost use Rattle.std.specs.Prelude.{◌≡◌, ℕ, vec_len, is_none};
 ghost use Rattle.its_word.specs.Limits.{slots};
 ghost use Rattle.its_jobs.specs.Table.{job_at};
 ghost use Rattle.its_plain.specs.Change.{symbols_left};
@@ -6,21 +6,7 @@ ghost use Rattle.its_world.specs.World.{symbols_at};
 
 use arrayvec::ArrayVec;
 use its_jobs::Jobs;
-use its_word::{NoMemory, SLOTS, Word};
-use std::alloc::Global;
-
-/// So many lists without a symbol.
-#[tactic(auto, using(crate::proofs::SymbolLaws::none_more))]
-pub fn no_symbols(alloc: Global, n: usize) -> Result<Vec<ArrayVec<(Word, u32), 512>>, NoMemory>
-    ensures length { IfOk result (λ v. vec_len v ≡ n) }
-    ensures none { IfOk result (λ v. (k : ℕ) → symbols_at v.items k ≡ []) }
-{
-    let mut v = Vec::with_capacity(alloc, n).map_err(|_| NoMemory)?;
-    for _k in 0..n {
-        v.push(ArrayVec::new()).map_err(|_| NoMemory)?;
-    }
-    Ok(v)
-}
+use its_word::{SLOTS, Word};
 
 /// Takes the symbols from the slots that have no job.
 #[tactic(auto, using(crate::proofs::SymbolLaws::forget_start, crate::proofs::SymbolLaws::forget_gone, crate::proofs::SymbolLaws::forget_kept, crate::proofs::SymbolLaws::forget_end))]

@@ -3,10 +3,8 @@ ghost use Rattle.its_word.specs.Console.{quiet_console, most_waiting};
 ghost use Rattle.its_word.specs.Limits.{slots, limit_of, most_symbols};
 ghost use Rattle.its_world.specs.Rings.{heads};
 
-use super::alarms::no_alarms;
-use super::consoles::{quiet_consoles, type_at};
+use super::consoles::type_at;
 use super::rings::HEADS;
-use super::symbols::no_symbols;
 use arrayvec::ArrayVec;
 use its_console::Console;
 use its_core::Core;
@@ -14,6 +12,7 @@ use its_files::Files;
 use its_frame::Frame;
 use its_jobs::Jobs;
 use its_links::Links;
+use its_parts::{no_alarms, no_symbols, quiet_consoles};
 use its_word::{Job, NoAccess, NoMemory, SLOTS, Word};
 use std::alloc::Global;
 
@@ -362,7 +361,7 @@ impl World {
 }
 
 /// So many places without a frame.
-#[tactic(auto, using(crate::proofs::WorldLaws::none_more))]
+#[tactic(auto, using(its_parts::proofs::OpenLaws::none_more))]
 fn no_frames(alloc: Global, n: usize) -> Result<Vec<Option<Frame>>, NoMemory>
     ensures length { IfOk result (λ v. vec_len v ≡ n) }
     ensures none { IfOk result (λ v. (k : ℕ) → slice_index_or v.items k None ≡ None) }

@@ -36,10 +36,10 @@ IsCalled (Faulted f) = ⊥
 IsCalled (Called s) = Unit {0}
 
 -- the same of an answer that leaves the site of a call out
-abbrev pub Ends : Ended → Outcome → Core → Job → Type 0
-Ends ends.Done o c j = o ≡ Changed c j
-Ends (ends.Fault b) o c j = FaultsWith o b
-Ends ends.Call o c j = IsCalled o
+abbrev pub UnitEnds : Ended → Outcome → Core → Job → Type 0
+UnitEnds ends.Done o c j = o ≡ Changed c j
+UnitEnds (ends.Fault b) o c j = FaultsWith o b
+UnitEnds ends.Call o c j = IsCalled o
 
 abbrev pub EndsSame : Ended → Cores → Cores → Job → Job → Type 0
 EndsSame ends.Done old new j k = Unit {0}
@@ -48,7 +48,7 @@ EndsSame ends.Call old new j k = (new ≡ old) × (k ≡ j)
 
 -- the unit of a slot's job, made in place: it is answered so, and nothing else changes
 pub record InPlace (e : Ended) (o : Outcome) (old new : Cores) (slot : ℕ) (j k : Job) : Type 0 where
-  pub unit : Ends e o (core_at new slot) k
+  pub unit : UnitEnds e o (core_at new slot) k
   pub pc : k.pc < 2 ^ 18
   pub others : (i : ℕ) → i ≢ slot → core_at new i ≡ core_at old i
   pub reserved : new.reserved ≡ old.reserved

@@ -6,7 +6,7 @@ ghost use Rattle.its_word.specs.Opcode.{IsRow};
 ghost use Rattle.its_plain.specs.Job.{bit_of};
 ghost use Rattle.its_plain.specs.UnitPlan.{Fits};
 ghost use Rattle.its_plain.specs.Unit.{Called, Changed, Faulted, break_row, outcome_of, reached, row_of, site_of, unit as unit_of};
-ghost use Rattle.pdp_exec.specs.Answer.{Answers, Ends, EndsSame, InPlace, IsCalled, Unchanged};
+ghost use Rattle.pdp_exec.specs.Answer.{Answers, UnitEnds, EndsSame, InPlace, IsCalled, Unchanged};
 ghost use Rattle.pdp_exec.specs.Ready.{IsReady, is_call};
 
 use super::acting::frequent;
@@ -137,7 +137,7 @@ pub fn rarely(core: &mut Core, slot: u8, job: &mut Job) -> Ended
 pub fn run(core: &mut Core, slot: u8, job: &mut Job) -> Ended
     requires slot { slot < slots }
     requires pc { job.old.pc < 2 ^ 18 }
-    ensures unit { Ends result (unit_of (core_at core.old slot) job.old) (core_at core.new slot) job.new }
+    ensures unit { UnitEnds result (unit_of (core_at core.old slot) job.old) (core_at core.new slot) job.new }
     ensures pc { job.new.pc < 2 ^ 18 }
     ensures others { (k : ℕ) → k ≢ slot → core_at core.new k ≡ core_at core.old k }
     ensures reserved { core.new.reserved ≡ core.old.reserved }

@@ -4,7 +4,7 @@ use Rattle.std.proofs.Common.{sym, ◌∙◌}
 use Rattle.its_plain.specs.Arguments.{input}
 use Rattle.its_plain.specs.CallTty.{next_pointer, siot_in}
 use Rattle.call_basic.specs.Seen.{seen_by}
-use Rattle.call_tty.proofs.StopLaws.{siot_goes, siot_stops}
+use Rattle.its_parts.proofs.StopLaws.{siot_goes, siot_stops}
 use Rattle.call_tty.proofs.transfer.siot_in.Goals as goal
 
 pub returns-in-Some : goal.returns-in-Some

@@ -4,7 +4,7 @@ use Rattle.std.proofs.Common.{sym, ◌∙◌}
 use Rattle.its_plain.specs.Arguments.{input}
 use Rattle.its_plain.specs.CallTty.{next_pointer, siot_out}
 use Rattle.call_basic.specs.Seen.{seen_by}
-use Rattle.call_tty.proofs.StopLaws.{next_left, siot_goes, siot_stops}
+use Rattle.its_parts.proofs.StopLaws.{next_left, siot_goes, siot_stops}
 use Rattle.call_tty.proofs.transfer.siot_out.Goals as goal
 
 pub puts_byte-requires-clause-size : goal.puts_byte-requires-clause-size

@@ -1,4 +1,4 @@
-use Rattle.its_direct.proofs.ShownLaws.{Looking}
+use Rattle.its_parts.proofs.SymbolLaws.{Looking}
 use Rattle.its_direct.proofs.shown.nearest.Given as goal
 
 abbrev pub invariant-loop-symbol : goal.invariant-loop-symbol

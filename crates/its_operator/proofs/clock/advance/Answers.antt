@@ -1,7 +1,7 @@
 use Rattle.std.proofs.Common.{sym, subst, refl}
 use Rattle.std.specs.Prelude.{IfSome}
 use Rattle.its_world.specs.World.{alarm_at}
-use Rattle.its_operator.specs.Rung.{Periodic}
+use Rattle.its_stepped.specs.Alarmed.{Periodic}
 use Rattle.its_operator.proofs.RungLaws.{kept_periods, clock_still}
 use Rattle.its_operator.proofs.ClockLaws.{advanced, clock_done, clock_plain, clock_kept, clock_refused}
 use Rattle.its_operator.proofs.clock.advance.Goals as goal

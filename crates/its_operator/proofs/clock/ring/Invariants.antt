@@ -2,7 +2,8 @@ use Rattle.std.proofs.Common.{◌≡◌, ℕ}
 use Rattle.std.specs.Prelude.{IfSome}
 use Rattle.its_world.specs.Tidy.{Tidy}
 use Rattle.its_world.specs.World.{alarm_at, state_of}
-use Rattle.its_operator.specs.Rung.{Periodic, RangBelow}
+use Rattle.its_stepped.specs.Alarmed.{Periodic}
+use Rattle.its_operator.specs.Rung.{RangBelow}
 use Rattle.its_operator.proofs.clock.ring.Given as goal
 
 abbrev pub invariant-loop-slot : goal.invariant-loop-slot

@@ -1,4 +1,4 @@
-use Rattle.its_operator.proofs.SymbolLaws.{Looking}
+use Rattle.its_parts.proofs.SymbolLaws.{Looking}
 use Rattle.its_operator.proofs.symbols.nearest.Given as goal
 
 abbrev pub invariant-loop-symbol : goal.invariant-loop-symbol

@@ -1,6 +1,6 @@
 use Rattle.std.proofs.Common.{refl, sym}
 use Rattle.its_parts.proofs.StandLaws.{writing_stands}
-use Rattle.its_direct.proofs.ChannelLaws.{close_comes, close_can, no_close, store_first}
+use Rattle.its_direct.proofs.ChannelLaws.{close_comes, begin_can, no_close, store_first}
 use Rattle.its_direct.proofs.plain.Plain.close.Goals as goal
 
 pub begin_close-requires : goal.begin_close-requires
@@ -12,7 +12,7 @@ begin_close-requires c =
 pub unreachable-requires : goal.unreachable-requires
 unreachable-requires c =
     let p = c.args.self.now in
-    close_can p p c.args.slot c.args.n c.requires.slot c.requires.channel c.requires.tidy c.in-Writing.draft c.in-Writing.ensures c.seen.ensures.whole c.requires.closes c.in-Err.field-0 c.in-Err.ensures.fault
+    begin_can p p c.args.slot c.args.n c.requires.slot c.requires.channel c.requires.tidy c.in-Writing.draft c.in-Writing.ensures c.seen.ensures.whole c.requires.closes c.in-Err.field-0 c.in-Err.ensures.fault
 
 pub returns-in-Ok : goal.returns-in-Ok
 returns-in-Ok c =

@@ -1,7 +1,9 @@
 use Rattle.std.proofs.Common.{arith, refl}
 use Rattle.std.specs.Prelude.{◌∷◌, []}
 use Rattle.its_parts.proofs.StandLaws.{readers_few}
-use Rattle.its_direct.proofs.ChannelLaws.{open_file_comes, found_named, store_first}
+use Rattle.its_parts.proofs.ShowLaws.{found_file}
+use Rattle.its_direct.specs.Plain.{machine_of}
+use Rattle.its_direct.proofs.ChannelLaws.{open_file_comes, shows, store_first}
 use Rattle.its_direct.proofs.plain.Plain.open_file.Goals as goal
 
 pub open_read-requires-clause-few : goal.open_read-requires-clause-few
@@ -16,4 +18,4 @@ returns-in-Some c =
     record { row = k.row; tidy = k.tidy }
 
 pub returns-in_default-clause-row : goal.returns-in_default-clause-row
-returns-in_default-clause-row c = absurd (found_named c.args.self.now (c.args.d ∷ c.args.x ∷ c.args.y ∷ []) c.requires.file c.in_default.ensures.found)
+returns-in_default-clause-row c = let p = c.args.self.now in absurd (found_file (machine_of p) p.files p.jobs (shows p) (c.args.d ∷ c.args.x ∷ c.args.y ∷ []) c.requires.file c.in_default.ensures.found)

@@ -1,13 +1,15 @@
 use Rattle.std.proofs.Common.{refl, sym}
 use Rattle.std.specs.Prelude.{◌∷◌, []}
-use Rattle.its_direct.proofs.ChannelLaws.{rename_comes, rename_can, found_named}
+use Rattle.its_parts.proofs.ShowLaws.{rename_can, found_file}
+use Rattle.its_direct.specs.Plain.{machine_of}
+use Rattle.its_direct.proofs.ChannelLaws.{rename_comes, shows}
 use Rattle.its_direct.proofs.plain.Plain.rename.Goals as goal
 
 pub unreachable-requires : goal.unreachable-requires
 unreachable-requires c =
     let p = c.args.self.now in
     let f = c.in-Some.ensures in
-    rename_can p p c.requires.tidy c.args.d c.args.x c.args.y c.in-Some.file c.args.new_x c.args.new_y c.seen.ensures.whole c.requires.unread c.requires.fresh (sym f.found) f.names c.in-Err.field-0 c.in-Err.ensures.fault
+    rename_can (machine_of p) p.files p.jobs (shows p) c.seen.ensures.whole c.requires.tidy.across c.args.d c.args.x c.args.y c.in-Some.file c.args.new_x c.args.new_y c.requires.unread c.requires.fresh (sym f.found) f.names c.in-Err.field-0 c.in-Err.ensures.fault
 
 pub returns-in-Ok : goal.returns-in-Ok
 returns-in-Ok c =
@@ -17,4 +19,4 @@ returns-in-Ok c =
     record { row = k.row; tidy = k.tidy }
 
 pub returns-in_default : goal.returns-in_default
-returns-in_default c = absurd (found_named c.args.self.now (c.args.d ∷ c.args.x ∷ c.args.y ∷ []) c.requires.file c.in_default.ensures.found)
+returns-in_default c = let p = c.args.self.now in absurd (found_file (machine_of p) p.files p.jobs (shows p) (c.args.d ∷ c.args.x ∷ c.args.y ∷ []) c.requires.file c.in_default.ensures.found)

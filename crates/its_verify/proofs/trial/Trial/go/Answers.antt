@@ -1,10 +1,11 @@
-use Rattle.std.proofs.Common.{◌≡◌, None, Ok, ap, ◌∙◌}
+use Rattle.std.proofs.Common.{◌≡◌, Some, None, Ok, ap, ◌∙◌}
 use Rattle.its_session.specs.Events.{events_of}
 use Rattle.its_plain.specs.Operator.{no_block}
 use Rattle.its_direct.specs.Events.{place_of}
 use Rattle.its_verify.specs.Going.{judge_from}
 use Rattle.its_verify.proofs.GoneLaws.{gone_next, gone_over, place_on, tried_by}
 use Rattle.its_verify.proofs.TrialLaws.{unfailed_by}
+use Rattle.its_verify.proofs.OutLaws.{gone_out}
 use Rattle.its_verify.proofs.trial.Trial.go.Goals as goal
 
 pub loop-found-preserved : goal.loop-found-preserved
@@ -30,3 +31,9 @@ returns-in-Ok-Some-clause-ends g c =
     gone_over c.take.result c.in-Ok-Some.finding c.in-Ok.found c.args.self.now c.loop-found.self c.take.new.self (judge_from c.args.self.now no_block 1 (events_of c.args.session.now)) c.loop-found.items c.next.new.self
     c.loop-found.session c.next.new.src (g.S.Source.left c.args.src.now) (g.S.Source.left c.loop-found.src) (g.S.Source.left c.take.new.src)
     (c.in-Ok-Some.is ∙ ap Ok c.in-Ok-Some.field-0-is) c.loop-found.invariant.so_far c.in-Ok.ensures.finds c.in-Ok.ensures.ready c.in-Ok.ensures.number c.take.ensures.says
+
+pub returns-in-Ok-Some-clause-out : goal.returns-in-Ok-Some-clause-out
+returns-in-Ok-Some-clause-out g c =
+    gone_out c.take.result c.in-Ok-Some.finding c.args.self.now c.loop-found.self (judge_from c.args.self.now no_block 1 (events_of c.args.session.now)) c.loop-found.items
+    (Some c.loop-found.session) (g.S.Source.left c.args.src.now) (g.S.Source.left c.loop-found.src) (g.S.Source.left c.take.new.src)
+    (c.in-Ok-Some.is ∙ ap Ok c.in-Ok-Some.field-0-is) c.loop-found.invariant.so_far c.take.ensures.out

@@ -3,7 +3,7 @@ use Rattle.its_session.specs.Events.{events_of, most_lines}
 use Rattle.its_reader.specs.Lines.{Ready}
 use Rattle.its_plain.specs.Operator.{no_block}
 use Rattle.its_direct.specs.Events.{place_of}
-use Rattle.its_verify.specs.Going.{GoneSo, judge_from, settled}
+use Rattle.its_verify.specs.Going.{GoneSo, judge_from, machine_place}
 use Rattle.its_verify.specs.Trial.{Tried}
 use Rattle.its_verify.proofs.trial.Trial.go.Given as goal
 
@@ -12,7 +12,7 @@ invariant-loop-found g l = record {
   tried : Tried l.self (g.S.Source.left l.src);
   ready : Ready l.items.lines (Some l.session);
   few : l.items.lines.number ≤ most_lines;
-  place : settled l.items.place ≡ place_of l.self.judge.plain.place;
+  place : machine_place l.items.place ≡ place_of l.self.judge.plain.place;
   unfailed : g.S.Source.faults l.src ≡ g.S.Source.faults l.fn.src;
   so_far : GoneSo l.fn.self l.self (judge_from l.fn.self no_block 1 (events_of l.fn.session)) l.items (Some l.session) (g.S.Source.left l.fn.src) (g.S.Source.left l.src);
 }

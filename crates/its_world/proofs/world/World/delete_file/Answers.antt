@@ -1,6 +1,9 @@
 use Rattle.std.proofs.Common.{refl, sym}
-use Rattle.its_world.proofs.StorageLaws.{store_unmarked}
-use Rattle.its_world.proofs.ChannelLaws.{delete_comes, delete_can, delete_none}
+use Rattle.std.specs.Prelude.{◌∷◌, []}
+use Rattle.its_parts.proofs.ShowLaws.{delete_can}
+use Rattle.its_world.specs.World.{state_of}
+use Rattle.its_world.proofs.StorageLaws.{store_unmarked, shows}
+use Rattle.its_world.proofs.ChannelLaws.{delete_comes, delete_none}
 use Rattle.its_world.proofs.world.World.delete_file.Goals as goal
 
 pub delete-requires-clause-unmarked : goal.delete-requires-clause-unmarked
@@ -10,7 +13,7 @@ pub unreachable-requires : goal.unreachable-requires
 unreachable-requires c =
     let r = c.requires in
     let w = c.args.self.now in
-    delete_can w w r.tidy c.args.d c.args.x c.args.y r.unmarked c.in-Some.file c.seen.ensures.whole r.unread (sym c.in-Some.ensures.found) c.in-Err.field-0 c.in-Err.ensures.locked
+    delete_can (state_of w).raw w.files w.jobs (shows w) c.seen.ensures.whole r.tidy.across (c.args.d ∷ c.args.x ∷ c.args.y ∷ []) c.in-Some.file r.unread (sym c.in-Some.ensures.found) c.in-Err.field-0 c.in-Err.ensures.locked
 
 pub returns-in-Ok : goal.returns-in-Ok
 returns-in-Ok c =

@@ -2,7 +2,8 @@ use Rattle.std.specs.Prelude.{◌++◌, ◌∷◌, [], slice_set}
 use Rattle.std.proofs.Common.{refl, arith}
 use Rattle.its_word.specs.Only.{Only}
 use Rattle.its_world.specs.World.{symbols_at}
-use Rattle.its_world.proofs.SymbolLaws.{list_gains, symbols_become}
+use Rattle.its_world.proofs.PlaceLaws.{ringed_alike}
+use Rattle.its_world.proofs.SymbolLaws.{list_gains}
 use Rattle.its_world.proofs.world.World.keep_symbol.Goals as goal
 
 pub returns : goal.returns
@@ -12,4 +13,16 @@ returns c =
     let within = c.requires.slot in
     let gains : Only (symbols_at lists) (symbols_at (slice_set lists c.from.result c.push.new.self)) c.args.slot (symbols_at lists c.args.slot ++ (c.args.name, c.args.a) ∷ []) =
     list_gains lists c.args.slot c.from.result c.index_mut.result.now c.push.new.self (c.args.name, c.args.a) (omega arith) c.from.ensures c.index_mut.ensures.value c.push.ensures.items in
-    symbols_become c.args.self.now _ c.args.slot _ (search) refl refl refl refl refl refl refl refl refl refl
+    record {
+      symbols = search;
+      core = refl;
+      jobs = refl;
+      frames = refl;
+      consoles = refl;
+      holders = refl;
+      files = refl;
+      clock = refl;
+      version = refl;
+      alarms = refl;
+      ringed = ringed_alike c.args.self.now _ refl refl refl refl refl refl;
+    }

@@ -1,8 +1,10 @@
 use Rattle.std.proofs.Common.{arith, refl}
 use Rattle.std.specs.Prelude.{◌∷◌, []}
 use Rattle.its_parts.proofs.StandLaws.{readers_few}
-use Rattle.its_world.proofs.StorageLaws.{store_unmarked, store_first}
-use Rattle.its_world.proofs.ChannelLaws.{open_file_comes, file_found}
+use Rattle.its_parts.proofs.ShowLaws.{found_file}
+use Rattle.its_world.specs.World.{state_of}
+use Rattle.its_world.proofs.StorageLaws.{store_unmarked, store_first, shows}
+use Rattle.its_world.proofs.ChannelLaws.{open_file_comes}
 use Rattle.its_world.proofs.world.World.open_file.Goals as goal
 
 pub open_read-requires-clause-unmarked : goal.open_read-requires-clause-unmarked
@@ -21,4 +23,4 @@ returns-in-Some c =
     record { row = k.row; tidy = k.tidy; pages = c.set_channel.ensures.pages }
 
 pub returns-in_default-clause-row : goal.returns-in_default-clause-row
-returns-in_default-clause-row c = absurd (file_found c.args.self.now (c.args.d ∷ c.args.x ∷ c.args.y ∷ []) c.requires.file c.in_default.ensures.found)
+returns-in_default-clause-row c = let w = c.args.self.now in absurd (found_file (state_of w).raw w.files w.jobs (shows w) (c.args.d ∷ c.args.x ∷ c.args.y ∷ []) c.requires.file c.in_default.ensures.found)

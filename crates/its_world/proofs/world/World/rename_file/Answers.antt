@@ -1,6 +1,8 @@
 use Rattle.std.proofs.Common.{refl, sym}
-use Rattle.its_world.proofs.StorageLaws.{store_unmarked}
-use Rattle.its_world.proofs.ChannelLaws.{rename_comes, rename_can, rename_none}
+use Rattle.its_parts.proofs.ShowLaws.{rename_can}
+use Rattle.its_world.specs.World.{state_of}
+use Rattle.its_world.proofs.StorageLaws.{store_unmarked, shows}
+use Rattle.its_world.proofs.ChannelLaws.{rename_comes, rename_none}
 use Rattle.its_world.proofs.world.World.rename_file.Goals as goal
 
 pub rename-requires-clause-unmarked : goal.rename-requires-clause-unmarked
@@ -11,7 +13,7 @@ unreachable-requires c =
     let r = c.requires in
     let w = c.args.self.now in
     let f = c.in-Some.ensures in
-    rename_can w w r.tidy c.args.d c.args.x c.args.y r.unmarked c.in-Some.file c.args.new_x c.args.new_y c.seen.ensures.whole r.unread r.fresh (sym f.found) f.names c.in-Err.field-0 c.in-Err.ensures.fault
+    rename_can (state_of w).raw w.files w.jobs (shows w) c.seen.ensures.whole r.tidy.across c.args.d c.args.x c.args.y c.in-Some.file c.args.new_x c.args.new_y r.unread r.fresh (sym f.found) f.names c.in-Err.field-0 c.in-Err.ensures.fault
 
 pub returns-in-Ok : goal.returns-in-Ok
 returns-in-Ok c =

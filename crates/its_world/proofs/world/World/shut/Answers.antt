@@ -1,8 +1,9 @@
 use Rattle.std.proofs.Common.{refl, subst, sym}
-use Rattle.its_world.specs.Storage.{IsElsewhere}
+use Rattle.its_parts.specs.Across.{IsElsewhere}
+use Rattle.its_parts.proofs.ChanLaws.{elsewhere_of}
 use Rattle.its_parts.proofs.StandLaws.{reading_stands, writing_stands, not_marked}
 use Rattle.its_world.proofs.StorageLaws.{store_first}
-use Rattle.its_world.proofs.ChannelLaws.{shut_file_comes, shut_draft_comes, shut_other_comes, elsewhere_of}
+use Rattle.its_world.proofs.ChannelLaws.{shut_file_comes, shut_draft_comes, shut_other_comes}
 use Rattle.its_world.proofs.world.World.shut.Goals as goal
 
 pub close_read-requires : goal.close_read-requires
