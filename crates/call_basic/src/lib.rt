@@ -6,7 +6,6 @@ mod arguments;
 mod arming;
 mod calls;
 mod ends;
-mod names;
 mod party;
 mod returning;
 mod setting;

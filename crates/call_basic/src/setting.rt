@@ -2,7 +2,8 @@ ghost use Rattle.std.specs.Prelude.{◌≡◌, ◌<◌, Some};
 ghost use Rattle.its_word.specs.Limits.{slots};
 ghost use Rattle.its_frame.specs.declared.name.CallName.TheVariants.{Usrvar};
 ghost use Rattle.its_plain.specs.Arguments.{has_input, input};
-ghost use Rattle.its_plain.specs.CallBasic.{other_variable, own_variable, set_other, set_own, usrvar, value_of_other, variable_named};
+ghost use Rattle.its_frame.specs.Variables.{variable_named};
+ghost use Rattle.its_plain.specs.CallBasic.{other_variable, own_variable, set_other, set_own, usrvar, value_of_other};
 ghost use Rattle.its_plain.specs.Decide.{call_named as call_named_by, target};
 ghost use Rattle.its_plain.specs.Own.{advanced, exit_of};
 ghost use Rattle.its_frame.specs.declared.decision.Decision.TheVariants.{Ends};
@@ -11,7 +12,6 @@ ghost use Rattle.call_basic.specs.Seen.{raw_with, seen_by};
 
 use super::arguments::{has_input, input};
 use super::ends::{ends, fails, finishes, finishes_with, output};
-use super::names::variable_named;
 use super::party::{channel, is_oneself};
 use super::variables::{by_oneself, by_superior, exit_with, variable_of};
 use arrayvec::ArrayVec;
@@ -50,7 +50,7 @@ fn own_variable(w: &World, slot: u8, job: &Job, ask: &Ask) -> Decision
     requires { slot < slots }
     ensures { result ≡ own_variable (seen_by w.now slot job.now ask.now) ask.now (variable_named (input ask.now 1)) }
 {
-    let Some(variable) = variable_named(input(ask, 1)) else {
+    let Some(variable) = Variable::named(input(ask, 1)) else {
         return fails(job, ask, error::OUT_OF_RANGE);
     };
     if has_input(ask, 2) && !by_oneself(variable) {
@@ -79,7 +79,7 @@ fn other_variable(w: &World, slot: u8, job: &Job, ask: &Ask, inferior: u8, write
     requires target { target (raw_with w.now slot job.now) ask.now ≡ Some inferior }
     ensures { result ≡ other_variable (seen_by w.now slot job.now ask.now) ask.now inferior write (variable_named (input ask.now 1)) }
 {
-    let Some(variable) = variable_named(input(ask, 1)) else {
+    let Some(variable) = Variable::named(input(ask, 1)) else {
         return fails(job, ask, error::OUT_OF_RANGE);
     };
     if has_input(ask, 2) && !write {

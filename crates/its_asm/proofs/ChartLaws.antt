@@ -16,17 +16,11 @@ names_length = refl
 
 -- place k of a chart
 cells_at : (chart : List ℕ) (k : ℕ) → k * 7 + 7 ≤ length chart → slice_get (cells chart) k ≡ Some (up_to (codes " ") (take 7 (drop (k * 7) chart)))
-cells_at [] k h = absurd (omega arith)
-cells_at (a ∷ []) k h = absurd (omega arith)
-cells_at (a ∷ b ∷ []) k h = absurd (omega arith)
-cells_at (a ∷ b ∷ c ∷ []) k h = absurd (omega arith)
-cells_at (a ∷ b ∷ c ∷ d ∷ []) k h = absurd (omega arith)
-cells_at (a ∷ b ∷ c ∷ d ∷ e ∷ []) k h = absurd (omega arith)
-cells_at (a ∷ b ∷ c ∷ d ∷ e ∷ f ∷ []) k h = absurd (omega arith)
 cells_at (a ∷ b ∷ c ∷ d ∷ e ∷ f ∷ g ∷ rest) zero h = refl
 cells_at (a ∷ b ∷ c ∷ d ∷ e ∷ f ∷ g ∷ rest) (suc k) h =
     let s : suc k * 7 ≡ suc (suc (suc (suc (suc (suc (suc (k * 7))))))) = omega arith in
     rw s (cells_at rest k (omega arith))
+cells_at _ k h = absurd (omega arith)
 
 pub name_at : (k : ℕ) → k < 448 → slice_get names k ≡ Some (up_to (codes " ") (take (k * 7 + 7 - k * 7) (drop (k * 7) CHART.now)))
 unfolding names

@@ -1,40 +1,13 @@
--- The words of a line and the terms of an expression, taken off one after another; symbols.
-use Rattle.std.proofs.Common.{◌≡◌, ◌==◌, ◌&&◌, ℕ, suc, Bool, true, false, not, Some, None, Result, List, [], ◌∷◌, ◌++◌, length, refl, arith, filter, codes, nat_le, inl, inr}
+-- The terms of an expression, taken off one after another; symbols.
+use Rattle.std.proofs.Common.{◌≡◌, ◌&&◌, ℕ, Bool, true, false, Some, None, Result, List, [], ◌∷◌, length, refl, arith, codes, nat_le, inl, inr}
 use Rattle.std.specs.List.{list_all}
 use Rattle.std.proofs.lemmas.Bool.{cases_Bool}
 use Rattle.std.proofs.lemmas.Bool.Decides.{nat_tests}
 use Rattle.its_word.specs.Text.{is_code, is_name}
 use Rattle.its_asm.specs.declared.reason.AsmReason.{AsmReason}
-use Rattle.its_asm.specs.Text.{cut, is_symbol, is_symbol_byte, pieces}
+use Rattle.its_asm.specs.Text.{cut, is_symbol, is_symbol_byte}
 use Rattle.its_asm.specs.Expression.{Scope, added, sum_with, term}
-use Rattle.its_asm.specs.Reading.{word_in, words_in}
 use Rattle.its_asm.proofs.CutLaws.{cut_split, cut_whole}
-
-filter_first : (run : List ℕ) (runs : List (List ℕ)) → filter (λ r. not (length r == 0)) (run ∷ runs) ≡ word_in run ++ filter (λ r. not (length r == 0)) runs
-filter_first [] runs = refl
-filter_first (b ∷ bs) runs =
-    let some : (suc (length bs) == 0) ≡ false = grind (arith, nat_tests) in
-    rw some refl
-
-filter_one : (run : List ℕ) → filter (λ r. not (length r == 0)) (run ∷ []) ≡ word_in run
-filter_one [] = refl
-filter_one (b ∷ bs) =
-    let some : (suc (length bs) == 0) ≡ false = grind (arith, nat_tests) in
-    rw some refl
-
--- a text up to its first space, and the rest
-pub words_cut : (text a c : List ℕ) (m : ℕ) → cut (codes " ") text ≡ Some (a, m, c) → words_in text ≡ word_in a ++ words_in c
-unfolding words_in
-words_cut text a c m h =
-    let parts = cut_split (codes " ") text (a, m, c) h in
-    rw (parts.0) (filter_first a (pieces (codes " ") c))
-
--- a text without a space
-pub words_whole : (text : List ℕ) → cut (codes " ") text ≡ None → words_in text ≡ word_in text
-unfolding words_in
-words_whole text h =
-    let parts = cut_whole (codes " ") text h in
-    rw (parts.0) (filter_one text)
 
 -- an expression up to its first sign, and the rest
 pub summed_cut : (s : Scope) (sum : Result ℕ AsmReason) (sign : ℕ) (text a c : List ℕ) (m : ℕ) → cut (codes "+-") text ≡ Some (a, m, c)

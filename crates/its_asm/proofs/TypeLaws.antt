@@ -1,23 +1,24 @@
 -- What a typed word reads as.
-use Rattle.std.proofs.Common.{if◌then◌else◌, ◌≡◌, ◌<◌, ◌≤◌, ◌+◌, ◌*◌, ◌^◌, ◌==◌, ◌&&◌, ◌||◌, ℕ, suc, Bool, true, false, not, nat_eq, nat_le, Option, Some, None, Ok, List, [], ◌∷◌, ◌++◌, length, slice_get, refl, ap, ◌∙◌, arith, codes, bytes_eq, inl, inr, length-append}
+use Rattle.std.proofs.Common.{if◌then◌else◌, ◌≡◌, ◌<◌, ◌≤◌, ◌+◌, ◌*◌, ◌^◌, ◌==◌, ◌&&◌, ◌||◌, ℕ, Bool, true, false, not, nat_eq, nat_le, Option, Some, None, Ok, List, [], ◌∷◌, ◌++◌, length, slice_get, refl, ap, ◌∙◌, arith, codes, bytes_eq, inl, inr, length-append}
 use Rattle.std.specs.List.{list_all, position_or_len}
 use Rattle.std.proofs.lemmas.Bool.{agree_below_at, cases_Bool, cases_lt, le-leb, leb-true, and_from, eqb-true, not-true, or_parts}
 use Rattle.std.proofs.lemmas.Bool.Decides.{nat_tests}
 use Rattle.std.proofs.lemmas.List.Folds.{list_all-append}
-use Rattle.its_word.specs.Text.{digits_of, is_code}
+use Rattle.its_word.specs.Text.{digits_of, is_code, words_of}
 use Rattle.its_word.specs.Word.{left_of, right_of, pair_of}
 use Rattle.its_word.specs.Opcode.{ac_of, opcode_of}
 use Rattle.its_word.proofs.DigitLaws.{digits_are_codes, few_digits, some_digits}
-use Rattle.its_asm.specs.Text.{cut, is_printable, words_of}
+use Rattle.its_word.proofs.WordsLaws.{words_first, words_one}
+use Rattle.its_asm.specs.Text.{cut, is_printable, statement_words}
 use Rattle.its_asm.specs.Instruction.{alone, instruction, whole}
 use Rattle.its_asm.specs.Mnemonic.{is_name, mnemonic_of, named, names, opcode_named}
-use Rattle.its_asm.specs.Reading.{first_named, word_in, words_in}
+use Rattle.its_asm.specs.Reading.{first_named}
 use Rattle.its_asm.specs.Statement.{body, no_names, statement_of, with_one, word_of}
 use Rattle.its_asm.specs.declared.statements.Statement.TheVariants.{Gives}
 use Rattle.its_asm.specs.TypeOut.{index_of, indirect_of, typed, typed_ac, typed_by, typed_index, typed_indirect, typed_operand}
 use Rattle.its_asm.proofs.ChartLaws.{named_first, no_more_names}
-use Rattle.its_asm.proofs.NumberLaws.{all_imp, cut_marked, cut_unmarked, unmarked}
-use Rattle.its_asm.proofs.ReadingLaws.{both_true, words_cut, words_whole}
+use Rattle.its_asm.proofs.NumberLaws.{all_imp, cut_unmarked, unmarked}
+use Rattle.its_asm.proofs.ReadingLaws.{both_true}
 use Rattle.its_asm.proofs.WordLaws.{halves_bytes, instruction_number, is_operand, operand_bytes, whole_number}
 
 pub six_digits : (n : ℕ) → n < 2 ^ 18 → length (digits_of n) ≤ 6
@@ -48,8 +49,8 @@ names_stand : (k : ℕ) → k < 448 → stands names k ≡ true
 unfolding names
 names_stand k h = agree_below_at (stands names) always 448 k refl h
 
-letter_free : (b : ℕ) → is_letter b ≡ true → unmarked (codes " ") b ≡ true
-letter_free b h = grind (arith, nat_tests)
+letter_visible : (b : ℕ) → is_letter b ≡ true → is_code 33 126 b ≡ true
+letter_visible b h = grind (arith, nat_tests)
 
 letter_code_free : (b : ℕ) → is_letter b ≡ true → unmarked (codes ";") b ≡ true
 letter_code_free b h = grind (arith, nat_tests)
@@ -57,8 +58,8 @@ letter_code_free b h = grind (arith, nat_tests)
 letter_printable : (b : ℕ) → is_letter b ≡ true → is_code 32 126 b ≡ true
 letter_printable b h = grind (arith, nat_tests)
 
-operand_free : (b : ℕ) → is_operand b ≡ true → unmarked (codes " ") b ≡ true
-operand_free b h = grind (arith, nat_tests)
+operand_visible : (b : ℕ) → is_operand b ≡ true → is_code 33 126 b ≡ true
+operand_visible b h = grind (arith, nat_tests)
 
 operand_code_free : (b : ℕ) → is_operand b ≡ true → unmarked (codes ";") b ≡ true
 operand_code_free b h = grind (arith, nat_tests)
@@ -72,28 +73,19 @@ all_two p (x ∷ xs) ys h k t =
     let parts = both_true (p x) (list_all p xs) h in
     and_from (p x) (list_all p (xs ++ 32 ∷ ys)) parts.0 (all_two p xs ys parts.1 k t)
 
-words_plain : (line : List ℕ) → cut (codes ";") line ≡ None → words_of line ≡ words_in line
-unfolding words_of words_in
+words_plain : (line : List ℕ) → cut (codes ";") line ≡ None → statement_words line ≡ words_of line
+unfolding statement_words
 words_plain line h = rw h refl
 
-word_some : (xs : List ℕ) → 1 ≤ length xs → word_in xs ≡ xs ∷ []
-word_some [] h = absurd (omega arith)
-word_some (b ∷ bs) h =
-    let some : (suc (length bs) == 0) ≡ false = grind (arith, nat_tests) in
-    rw some refl
-
 -- a line of a name, a space and an operand has these two words
-two_words : (n t : List ℕ) → 1 ≤ length n → 1 ≤ length t → list_all is_letter n ≡ true → list_all is_operand t ≡ true → words_of (n ++ 32 ∷ t) ≡ n ∷ t ∷ []
+two_words : (n t : List ℕ) → 1 ≤ length n → 1 ≤ length t → list_all is_letter n ≡ true → list_all is_operand t ≡ true → statement_words (n ++ 32 ∷ t) ≡ n ∷ t ∷ []
 two_words n t some more h k =
     let plain : cut (codes ";") (n ++ 32 ∷ t) ≡ None =
     cut_unmarked (codes ";") (n ++ 32 ∷ t)
     (all_two (unmarked (codes ";")) n t (all_imp is_letter (unmarked (codes ";")) letter_code_free n h) (all_imp is_operand (unmarked (codes ";")) operand_code_free t k) refl) in
-    let space : cut (codes " ") (n ++ 32 ∷ t) ≡ Some (n, 32, t) =
-    cut_marked (codes " ") n 32 t (all_imp is_letter (unmarked (codes " ")) letter_free n h) refl in
-    let end : cut (codes " ") t ≡ None = cut_unmarked (codes " ") t (all_imp is_operand (unmarked (codes " ")) operand_free t k) in
-    let first : word_in n ≡ n ∷ [] = word_some n some in
-    let last : words_in t ≡ t ∷ [] = words_whole t end ∙ word_some t more in
-    words_plain (n ++ 32 ∷ t) plain ∙ words_cut (n ++ 32 ∷ t) n t 32 space ∙ rw (first, last) refl
+    let first : words_of (n ++ 32 ∷ t) ≡ n ∷ words_of t = words_first n t (record { some = some; visible = all_imp is_letter (is_code 33 126) letter_visible n h }) in
+    let last : words_of t ≡ t ∷ [] = words_one t (record { some = more; visible = all_imp is_operand (is_code 33 126) operand_visible t k }) in
+    words_plain (n ++ 32 ∷ t) plain ∙ first ∙ ap (λ ws. n ∷ ws) last
 
 -- such a line by itself
 read_line : (n t : List ℕ) (w : ℕ) → 1 ≤ length n → length n ≤ 7 → 1 ≤ length t → length t ≤ 40 → list_all is_letter n ≡ true → list_all is_operand t ≡ true
@@ -104,7 +96,7 @@ read_line n t w some few more short h k made =
     let fits : nat_le (length (n ++ 32 ∷ t)) 255 ≡ true = le-leb (length (n ++ 32 ∷ t)) 255 (omega arith) in
     let shown : list_all (is_code 32 126) (n ++ 32 ∷ t) ≡ true =
     all_two (is_code 32 126) n t (all_imp is_letter (is_code 32 126) letter_printable n h) (all_imp is_operand (is_code 32 126) operand_printable t k) refl in
-    let two : words_of (n ++ 32 ∷ t) ≡ n ∷ t ∷ [] = two_words n t some more h k in
+    let two : statement_words (n ++ 32 ∷ t) ≡ n ∷ t ∷ [] = two_words n t some more h k in
     rw (fits, shown, two, made) refl
 
 -- a word whose opcode has no name
@@ -231,7 +223,7 @@ unfolding statement_of
 typed_short w h = go (nat_le (length (typed w)) 255) refl (read_back w h)
   where
     go : (b : Bool) → nat_le (length (typed w)) 255 ≡ b
-        → (if b then (if is_printable (typed w) then word_of (body no_names no_names (words_of (typed w))) else None) else None) ≡ Some w → length (typed w) ≤ 255
+        → (if b then (if is_printable (typed w) then word_of (body no_names no_names (statement_words (typed w))) else None) else None) ≡ Some w → length (typed w) ≤ 255
     go true s e = leb-true (length (typed w)) 255 s
     go false s e = cc
 

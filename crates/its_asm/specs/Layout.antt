@@ -1,7 +1,7 @@
 -- Where lines stand, and the symbols that they define (docs/ASM.md, "Locations and symbols").
 use Rattle.std.specs.Prelude.{if◌then◌else◌, ℕ, ◌+◌, ◌%◌, ◌^◌, Bool, true, false, Option, Some, None, Ok, List, [], ◌∷◌, ◌++◌, length, drop, fold, nat_le, nat_eq, is_some}
 use Rattle.std.specs.Map.{lookup}
-use Rattle.its_asm.specs.Text.{is_printable, words_of}
+use Rattle.its_asm.specs.Text.{is_printable, statement_words}
 use Rattle.its_asm.specs.Expression.{Scope}
 use Rattle.its_asm.specs.Statement.{body, job, labels_of}
 use Rattle.its_asm.specs.declared.layout.Stage.{Stage}
@@ -40,7 +40,7 @@ scope_at l symbols = record { symbols = symbols; here = here_of l }
 unfoldable pub read : Layout → List (ℕ × ℕ) → List ℕ → Option Line
 read l symbols line =
     if is_printable line then
-    with_labels (labels_of (words_of line)) (statement_at l.stage (earlier_at l) (scope_at l symbols) (length (labels_of (words_of line))) (words_of line))
+    with_labels (labels_of (statement_words line)) (statement_at l.stage (earlier_at l) (scope_at l symbols) (length (labels_of (statement_words line))) (statement_words line))
     else None
 
 -- whether a symbol is defined

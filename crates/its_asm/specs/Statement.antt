@@ -1,7 +1,7 @@
 -- The statements of lines (docs/ASM.md, "Statements").
 use Rattle.std.specs.Prelude.{if◌then◌else◌, ℕ, Option, Some, None, Result, Ok, Err, List, [], ◌∷◌, length, nat_le, bytes_eq, codes}
 use Rattle.its_word.specs.Text.{is_name, is_octal, octal_value, sixbit_of}
-use Rattle.its_asm.specs.Text.{is_printable, label_of, symbol_of, words_of}
+use Rattle.its_asm.specs.Text.{is_printable, label_of, symbol_of, statement_words}
 use Rattle.its_asm.specs.Expression.{Scope, expression, given}
 use Rattle.its_asm.specs.Instruction.{alone, instruction, whole}
 use Rattle.its_asm.specs.Mnemonic.{opcode_named}
@@ -91,5 +91,5 @@ no_names = record { symbols = []; here = None }
 unfoldable pub statement_of : List ℕ → Option ℕ
 statement_of line =
     if nat_le (length line) 255 then
-    (if is_printable line then word_of (body no_names no_names (words_of line)) else None)
+    (if is_printable line then word_of (body no_names no_names (statement_words line)) else None)
     else None

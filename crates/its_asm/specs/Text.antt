@@ -1,7 +1,7 @@
 -- Texts cut at marks, the words of a line, and symbols (docs/ASM.md). Characters are their ASCII codes.
-use Rattle.std.specs.Prelude.{if◌then◌else◌, ℕ, ◌-◌, Bool, true, false, not, ◌&&◌, ◌||◌, ◌==◌, Option, Some, None, List, [], ◌∷◌, length, filter, take, slice_index, nat_eq, nat_le, codes}
+use Rattle.std.specs.Prelude.{if◌then◌else◌, ℕ, ◌-◌, Bool, true, false, ◌&&◌, ◌||◌, ◌==◌, Option, Some, None, List, [], ◌∷◌, length, take, slice_index, nat_eq, nat_le, codes}
 use Rattle.std.specs.List.{list_all, list_any, slice_split}
-use Rattle.its_word.specs.Text.{is_code, sixbit_of}
+use Rattle.its_word.specs.Text.{is_code, sixbit_of, words_of}
 
 abbrev pub is_mark : List ℕ → ℕ → Bool
 is_mark marks b = list_any (λ m. nat_eq m b) marks
@@ -33,9 +33,9 @@ before text (Some p) = p.0
 abbrev pub up_to : List ℕ → List ℕ → List ℕ
 up_to marks text = before text (cut marks text)
 
--- a line's words are the runs of bytes other than space before its comment
-unfoldable pub words_of : List ℕ → List (List ℕ)
-words_of line = filter (λ run. not (length run == 0)) (pieces (codes " ") (up_to (codes ";") line))
+-- the words of a line are those before its comment
+unfoldable pub statement_words : List ℕ → List (List ℕ)
+statement_words line = words_of (up_to (codes ";") line)
 
 -- all bytes of a line are from 40 to 176, in its comment too
 abbrev pub is_printable : List ℕ → Bool

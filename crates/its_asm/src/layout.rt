@@ -9,7 +9,7 @@ ghost use Rattle.its_asm.specs.Statement.{labels_of};
 use super::expression::Names;
 use super::statements::{Statement, body, job};
 use super::symbols::{Symbols, label};
-use super::words::{is_printable, words};
+use super::words::{is_printable, statement_words};
 use arrayvec::ArrayVec;
 use its_word::Word;
 use std::alloc::{AllocError, Global};
@@ -118,7 +118,7 @@ impl Layout {
         if !is_printable(line) {
             return None;
         }
-        let words = words(line);
+        let words = statement_words(line);
         let labels = labels(words.as_slice());
         let here = Some((self.location % 0o1000000) as u32);
         let earlier = Names {

@@ -4,7 +4,7 @@ ghost use Rattle.its_asm.specs.Statement.{statement_of, word_of};
 
 use super::expression::Names;
 use super::statements::{Statement, body};
-use super::words::{is_printable, words};
+use super::words::{is_printable, statement_words};
 use its_word::Word;
 
 /// The word that a statement gives, if it gives one without a literal.
@@ -33,5 +33,5 @@ pub fn statement(line: &[u8]) -> Option<Word>
         symbols: None,
         here: None,
     };
-    word_of(body(names, names, words(line).as_slice()))
+    word_of(body(names, names, statement_words(line).as_slice()))
 }

@@ -1,10 +1,9 @@
 //! Texts cut at marks, and the words of a line.
-ghost use Rattle.std.specs.Prelude.{◌≡◌, ◌≤◌, ◌<◌, ◌+◌, ◌*◌, ◌++◌, ◌∷◌, [], length, map, position, Some, None, IfNone, IfSome};
-ghost use Rattle.arrayvec.specs.ArrayVec.{array_vec_len};
-ghost use Rattle.its_asm.specs.Text.{closed, cut, is_mark, is_printable, up_to, words_of};
-ghost use Rattle.its_asm.specs.Reading.{word_in, words_in};
+ghost use Rattle.std.specs.Prelude.{◌≡◌, ◌≤◌, ◌<◌, ◌+◌, length, map, position, Some, None, IfNone, IfSome};
+ghost use Rattle.its_asm.specs.Text.{closed, cut, is_mark, is_printable, statement_words, up_to};
 
 use arrayvec::ArrayVec;
+use its_word::words;
 
 /// Where the first mark is.
 fn first_mark(text: &[u8], marks: &[u8]) -> Option<usize>
@@ -36,52 +35,13 @@ pub fn closed(text: &[u8], mark: u8) -> Option<&[u8]>
     }
 }
 
-/// Adds a run of bytes, if it has any.
-fn push<'a>(words: &mut ArrayVec<&'a [u8], 128>, run: &'a [u8])
-    requires { array_vec_len words.old < 128 }
-    ensures words { map (λ w. w.now) words.new.items ≡ map (λ w. w.now) words.old.items ++ word_in run.now }
-    ensures len { 2 * array_vec_len words.new ≤ 2 * array_vec_len words.old + length run.now + 1 }
-{
-    if !run.is_empty() {
-        words.push(run);
-    }
-}
-
-/// The bytes before the first space and those after it, if there is one.
-#[tactic(auto, using(crate::proofs::ReadingLaws::words_cut, crate::proofs::ReadingLaws::words_whole))]
-fn first_run(text: &[u8]) -> Option<(&[u8], &[u8])>
-    ensures none { IfNone result (words_in text.now ≡ word_in text.now) }
-    ensures some { IfSome result (λ p. words_in text.now ≡ word_in p.0.now ++ words_in p.1.now) }
-    ensures shorter { IfSome result (λ p. length p.0.now + length p.1.now < length text.now) }
-{
-    match cut(text, b" ") {
-        Some((run, _space, after)) => Some((run, after)),
-        None => None,
-    }
-}
-
-/// The runs of bytes other than space; a text of 255 bytes has at most 128.
-fn runs(text: &[u8]) -> ArrayVec<&[u8], 128>
-    requires { length text.now ≤ 255 }
-    ensures { map (λ w. w.now) result.items ≡ words_in text.now }
-{
-    let mut words = ArrayVec::new();
-    let mut rest = text;
-    while let Some((run, after)) = first_run(rest) {
-        push(&mut words, run);
-        rest = after;
-    }
-    push(&mut words, rest);
-    words
-}
-
-/// The words of a line.
-#[tactic(auto, unfolding(crate::specs::Text::words_of, crate::specs::Reading::words_in))]
-pub fn words(line: &[u8]) -> ArrayVec<&[u8], 128>
+/// The words of a line, which stand before its comment.
+#[tactic(auto, unfolding(crate::specs::Text::statement_words))]
+pub fn statement_words(line: &[u8]) -> ArrayVec<&[u8], 128>
     requires { length line.now ≤ 255 }
-    ensures { map (λ w. w.now) result.items ≡ words_of line.now }
+    ensures { map (λ w. w.now) result.items ≡ statement_words line.now }
 {
-    runs(up_to(line, b";"))
+    words(up_to(line, b";"))
 }
 
 /// A text up to its first mark.

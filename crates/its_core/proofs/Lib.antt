@@ -8,3 +8,4 @@ pub mod EmptyLaws
 pub mod CoresLaws
 pub mod RefusalLaws
 pub mod SlotLaws
+pub mod ZeroLaws

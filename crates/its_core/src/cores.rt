@@ -1,7 +1,7 @@
-ghost use Rattle.std.specs.Prelude.{◌≡◌, ◌≢◌, ◌<◌, ◌≤◌, ◌+◌, ◌-◌, ◌*◌, ◌/◌, ◌^◌, ◌++◌, ℕ, List, length, is_some, slice_set, true, false, Some, None, IsSome, IsErr, OnOk, OnErr, IfOk, IfErr, IsOk, Ok, Err, count_by, slice_index_or, option_map, ◌↔◌, IfSome};
+ghost use Rattle.std.specs.Prelude.{◌≡◌, ◌<◌, ◌≤◌, ◌+◌, ◌-◌, ◌*◌, ◌/◌, ◌^◌, ℕ, List, length, is_some, slice_set, true, false, Some, None, IsSome, IsErr, OnOk, OnErr, IfOk, IfErr, IsOk, Ok, Err, count_by, slice_index_or, option_map, ◌↔◌, IfSome};
 ghost use Rattle.its_word.specs.Core.{IsWhole, acc_at, get as got_at, put as put_at, word_at, can_store, store, page_of, pages_present, with_page, zero_page, marked, no_core, pages_mapped};
 ghost use Rattle.its_word.specs.Limits.{slots, most_pages};
-ghost use Rattle.its_word.specs.Only.{Only};
+ghost use Rattle.its_word.specs.Only.{Only, Same};
 ghost use Rattle.its_core.specs.Frames.{all_frames, free, numbers, row, emptied, Listed, frames_reserve, frames_give_back, frames_map, frames_unmap, frames_drop_all};
 ghost use Rattle.its_links.specs.Lists.{no_lists, first};
 ghost use Rattle.its_core.specs.Cores.{core_at, reserved_at, clear_at, clear_with, cleared, zeroed, mark_of, IsEmpty};
@@ -413,6 +413,41 @@ impl Core {
         self.lists.push_back(list_of(target), h.frame);
         self.mapped += 1;
         Ok(())
+    }
+
+    /// Makes a page of zeros of a slot: one is reserved and cleared, and then mapped.
+    #[tactic(auto, using(crate::proofs::ZeroLaws::mapped_cores, crate::proofs::ZeroLaws::mapped_clear, crate::proofs::CoresLaws::same_core_at, crate::proofs::CoresLaws::same_pages_mapped))]
+    pub fn map_zeros(&mut self, slot: u8, page: u8)
+        requires slot { slot < slots }
+        requires absent { page_of (core_at self.old slot) page ≡ None }
+        requires room { pages_mapped (core_at self.old) < most_pages }
+        requires unreserved { clear_at self.old slot ≡ None }
+        ensures made { Only (core_at self.old) (core_at self.new) slot (with_page (core_at self.old slot) page (Some zero_page)) }
+        ensures there { page_of (core_at self.new slot) page ≡ Some zero_page }
+        ensures reserved { Same (clear_at self.old) (clear_at self.new) }
+        ensures frames { self.new.frames ≡ frames_map slot slot page (frames_reserve slot self.old.frames) }
+    {
+        self.reserve_zeros(slot);
+        match self.map(slot, slot, page) {
+            Ok(()) => {}
+            Err(Full) => unreachable!(),
+        }
+    }
+
+    /// Reserves a page of zeros for a slot.
+    #[tactic(auto, using(crate::proofs::ZeroLaws::clear_unreserved))]
+    fn reserve_zeros(&mut self, slot: u8)
+        requires slot { slot < slots }
+        requires none { clear_at self.old slot ≡ None }
+        ensures clear { Only (clear_at self.old) (clear_at self.new) slot (Some 4) }
+        ensures cores { self.new.cores ≡ self.old.cores }
+        ensures frames { self.new.frames ≡ frames_reserve slot self.old.frames }
+    {
+        self.reserve(slot);
+        self.clear_quarter(slot, 0);
+        self.clear_quarter(slot, 1);
+        self.clear_quarter(slot, 2);
+        self.clear_quarter(slot, 3);
     }
 
     /// Gives the page back that a slot has reserved; its frame becomes the last of the free ones.

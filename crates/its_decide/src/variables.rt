@@ -1,9 +1,9 @@
 //! USRVAR: the variables of jobs.
 ghost use Rattle.std.specs.Prelude.{if◌then◌else◌, ◌≡◌, ◌<◌, Some, None};
 ghost use Rattle.its_word.specs.Limits.{slots};
-ghost use Rattle.its_jobs.specs.Table.{job_at};
 ghost use Rattle.its_plain.specs.Arguments.{input};
-ghost use Rattle.its_plain.specs.CallBasic.{by_oneself, by_superior, other_variable, own_variable, usrvar, value_of_other, variable_named};
+ghost use Rattle.its_frame.specs.Variables.{variable_named};
+ghost use Rattle.its_plain.specs.CallBasic.{by_oneself, by_superior, other_variable, own_variable, usrvar, value_of_other};
 ghost use Rattle.its_plain.specs.Own.{advanced, exit_of, number_or_ones, variable_of, with_variable};
 ghost use Rattle.its_decide.specs.Called.{looks};
 ghost use Rattle.its_decide.specs.Seen.{raw_with};
@@ -41,7 +41,7 @@ impl Caller<'_> {
     fn own_variable(&self) -> Decision
         ensures { result ≡ own_variable (looks self.now) self.now.ask.now (variable_named (input self.now.ask.now 1)) }
     {
-        let Some(variable) = variable_named(self.input(1)) else {
+        let Some(variable) = Variable::named(self.input(1)) else {
             return self.fails(error::OUT_OF_RANGE);
         };
         let stores = self.output(variable_of(self.seen, self.slot, self.slot, self.job, variable));
@@ -77,7 +77,7 @@ impl Caller<'_> {
     fn other_variable(&self, inferior: u8, write: bool) -> Decision
         ensures { result ≡ other_variable (looks self.now) self.now.ask.now inferior write (variable_named (input self.now.ask.now 1)) }
     {
-        let Some(variable) = variable_named(self.input(1)) else {
+        let Some(variable) = Variable::named(self.input(1)) else {
             return self.fails(error::OUT_OF_RANGE);
         };
         if self.has_input(2) && !write {
@@ -107,30 +107,6 @@ impl Caller<'_> {
             Some(job) => variable_of(self.seen, inferior, target, job, variable),
             None => Word::ZERO,
         }
-    }
-}
-
-/// The variable of a name.
-#[tactic(auto, unfolding(its_plain::specs::CallBasic::variable_named))]
-fn variable_named(name: Word) -> Option<Variable>
-    ensures { result ≡ variable_named name }
-{
-    match name.value() {
-        0o655641554500 => Some(Variable::Uname),
-        0o525641554500 => Some(Variable::Jname),
-        0o655156440000 => Some(Variable::Uind),
-        0o636560606257 => Some(Variable::Suppro),
-        0o435663540000 => Some(Variable::Cnsl),
-        0o604147456300 => Some(Variable::Pages),
-        0o656043000000 => Some(Variable::Upc),
-        0o656364600000 => Some(Variable::Ustp),
-        0o605162614300 => Some(Variable::Pirqc),
-        0o514660516200 => Some(Variable::Ifpir),
-        0o554163530000 => Some(Variable::Mask),
-        0o556353220000 => Some(Variable::Msk2),
-        0o444621000000 => Some(Variable::Df1),
-        0o444622000000 => Some(Variable::Df2),
-        _ => None,
     }
 }
 

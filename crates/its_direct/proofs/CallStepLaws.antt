@@ -96,11 +96,7 @@ none_there p k h = go (job_at p.jobs k) (sym (job_there p k) ∙ ap is_some h)
 -- each channel on a job is on one that stands
 on_job : (p : Plain) (k : ℕ) (c : Channel) → OnInferior (machine_of p) k (chan_of p.files c) → OnJob p.jobs c
 on_job p k (channels.Usr s w at) h = sym (job_there p s) ∙ inferior_stands (machine_of p) s k h
-on_job p k channels.Closed h = tt
-on_job p k channels.TtyIn h = tt
-on_job p k channels.TtyOut h = tt
-on_job p k (channels.Reading f at) h = tt
-on_job p k (channels.Writing d) h = tt
+on_job p k _ h = tt
 
 aimed : (p : Plain) → Forest (machine_of p) → (k n : ℕ) → OnJob p.jobs (channel_at p.jobs k n)
 unfolding machine_of
@@ -138,11 +134,7 @@ standing_few m d o h = IfSome_then o h (λ s x. job_few m d s x)
 
 inferior_few : (m : Machine) (j : ℕ) (c : Chan) → Forest m → OnInferior m j c → IfSome (inferior_on c) (λ s. s < slots)
 inferior_few m j (On s w at) d h = job_few m d s (inferior_stands m s j h)
-inferior_few m j Shut d h = tt
-inferior_few m j TtyIn d h = tt
-inferior_few m j TtyOut d h = tt
-inferior_few m j (Reads f at) d h = tt
-inferior_few m j (Writes f) d h = tt
+inferior_few m j _ d h = tt
 
 unless_few : (b : Bool) (o : Option ℕ) → IfSome o (λ s. s < slots) → IfSome (if b then None else o) (λ s. s < slots)
 unless_few true o h = tt

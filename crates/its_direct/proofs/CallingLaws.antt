@@ -75,9 +75,6 @@ jobs_alike (changes.Shut n) j w m e = slot_alike w.raw.jobs m.jobs j (on_channel
 jobs_alike (changes.Move n at) j w m e = slot_alike w.raw.jobs m.jobs j (on_channel n (at_position at)) e
 jobs_alike (changes.Append n x) j w m e = slot_alike w.raw.jobs m.jobs j (on_channel n (with_word x)) e
 jobs_alike (changes.Close n) j w m e = slot_alike w.raw.jobs m.jobs j (on_channel n (λ c. Shut)) e
-jobs_alike (changes.Take c) j w m e = e
-jobs_alike (changes.Put c b) j w m e = e
-jobs_alike (changes.Hold c s) j w m e = e
 jobs_alike (changes.Poke s a x) j w m e = slot_alike w.raw.jobs m.jobs s (with_stores (poke a x ∷ [])) e
 jobs_alike (changes.Set s v x) j w m e = slot_alike w.raw.jobs m.jobs s (with_registers (with_variable v x)) e
 jobs_alike (changes.Map s k) j w m e = slot_alike w.raw.jobs m.jobs s (with_page_at k (Some zero_page)) e
@@ -87,8 +84,7 @@ jobs_alike (changes.Make s u n) j w m e = ap (λ (jobs : ℕ → Option Whole). 
 jobs_alike (changes.Remove s) j w m e = λ t k. left_job (is_gone (λ i. superior_in (e t i)) s) (is_gone (λ i. superior_in (e t i)) s k) (e t k)
 jobs_alike (changes.Inform s) j w m e = slot_alike w.raw.jobs m.jobs s with_inf e
 jobs_alike (changes.Arm alarm) j w m e = slot_alike w.raw.jobs m.jobs j (with_alarm alarm) e
-jobs_alike (changes.Delete d x y) j w m e = e
-jobs_alike (changes.Rename d x y u v) j w m e = e
+jobs_alike _ j w m e = e
 
 pub all_alike : (cs : List Change) (j : ℕ) (w : State) (m : Machine) → w.raw.jobs ≡ m.jobs → (effects_on cs j w).raw.jobs ≡ (effects cs j m).jobs
 all_alike [] j w m e = e

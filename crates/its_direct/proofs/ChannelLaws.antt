@@ -275,20 +275,12 @@ closed_elsewhere p s n e = subst IsElsewhere (sym (chan_shut p s n e)) tt
 
 -- a channel is on a draft where the machine says so
 room_draft : (m : Machine) (x : Store) (c : Channel) → ((d : ℕ) → c ≡ Writing d → ⊥) → HasRoom m (chan_of x c) → ⊥
-room_draft m x Closed written h = h
-room_draft m x TtyIn written h = h
-room_draft m x TtyOut written h = h
-room_draft m x (Reading f at) written h = h
 room_draft m x (Writing d) written h = written d refl
-room_draft m x (Usr k write at) written h = h
+room_draft m x _ written h = h
 
 closes_draft : (m : Machine) (x : Store) (c : Channel) → ((d : ℕ) → c ≡ Writing d → ⊥) → CanClose m (chan_of x c) → ⊥
-closes_draft m x Closed written h = h
-closes_draft m x TtyIn written h = h
-closes_draft m x TtyOut written h = h
-closes_draft m x (Reading f at) written h = h
 closes_draft m x (Writing d) written h = written d refl
-closes_draft m x (Usr k write at) written h = h
+closes_draft m x _ written h = h
 
 pub no_room : (p : Plain) (s n : ℕ) (c : Channel) → c ≡ channel_at p.jobs s n → ((d : ℕ) → c ≡ Writing d → ⊥) → HasRoom (machine_of p) (chan_in (machine_of p) s n) → ⊥
 no_room p s n c was written h = room_draft (machine_of p) p.files c written (subst (HasRoom (machine_of p)) (chan_is p s n ∙ ap (chan_of p.files) (sym was)) h)

@@ -1,5 +1,5 @@
 -- Each event of a session comes to its line.
-use Rattle.std.specs.Prelude.{◌≡◌, ◌+◌, ℕ, true, false, Option, Some, None, is_some, IsOk, List, [], ◌∷◌, take, Result, Ok, Err, OnOk, OnErr, IfErr, refl}
+use Rattle.std.specs.Prelude.{◌≡◌, ◌+◌, ℕ, true, false, Option, Some, None, is_some, IsOk, List, [], ◌∷◌, take, Result, Ok, Err, OnOk, IfErr, refl}
 use Rattle.std.proofs.Common.{ap, sym, subst, ◌∙◌}
 use Rattle.its_word.specs.ArrayVec.{ArrayVec}
 use Rattle.its_word.specs.declared.session.Event.{Event}
@@ -26,8 +26,10 @@ use Rattle.its_plain.specs.Own.{names_of}
 use Rattle.its_direct.specs.Clock.{Clocks}
 use Rattle.its_direct.specs.Events.{place_of, Speaks, Says, Told, answered}
 use Rattle.its_direct.specs.Filing.{Leads}
-use Rattle.its_direct.specs.Lines.{reason_of, Operates, Looks, Loads, Stands, Keeps}
+use Rattle.its_word.specs.Refusals.{reason_of}
+use Rattle.its_direct.specs.Lines.{Operates, Looks, Loads, Stands, Keeps}
 use Rattle.its_direct.specs.Plain.{machine_of, is_touched, no_slots}
+use Rattle.its_direct.specs.declared.events.Answer.{Answer}
 use Rattle.its_direct.specs.declared.events.Answer.TheVariants.{Nothing, Slot, Dropped, Drained}
 use Rattle.its_direct.specs.declared.plain.Plain.{Plain}
 use Rattle.its_direct.specs.declared.plain.Spot.{Spot}
@@ -69,6 +71,10 @@ told_keeps e old new r (Ok u) line says at_place done refused = λ b at. record 
   leads = stands_at e old new at_place done.place;
 }
 told_keeps e old new r (Err z) line says at_place done refused = λ b at. line b at ∙ ap (λ y. Done (quietly b y)) refused
+
+-- what a line comes to that has no answer of its own is what the machine said of it
+pub told_as : (e f : Event) (old new : Plain) (x : Result (Unit {0}) Refusal) (r : Result Answer Refusal) → e ≡ f → r ≡ answered x → Told f old new (answered x) → Told e old new r
+told_as e f old new x r is so h = subst (λ g. Told g old new r) (sym is) (subst (Told f old new) (sym so) h)
 
 pub told_int : (old new : Plain) (s v w : ℕ) (x : Result (Unit {0}) Refusal) → OnOk x (Operates old new s (on_registers (machine_of old) s (interrupted v w)))
     → IfErr x (λ z. on_registers (machine_of old) s (interrupted v w) ≡ Err (reason_of z)) → Told (events.Int s v w) old new (answered x)

@@ -59,14 +59,11 @@ module _ (s u : Store) (t : Table) (across : Across s t) (id : ℕ) (entry : (k 
   apart d draft e = let wrong : true ≡ false = sym draft ∙ ap (λ n. is_draft (entry_at s n)) e ∙ undrafted in cc
 
   chan_stays : (k n : ℕ) (c : Channel) → channel_at t k n ≡ c → chan_of u c ≡ chan_of s c
-  chan_stays k n Closed e = refl
-  chan_stays k n TtyIn e = refl
-  chan_stays k n TtyOut e = refl
   chan_stays k n (Reading f at) e = ap (λ ns. machines.Reads ns at) (names_stay f (reading_file s t across k n f at e))
   chan_stays k n (Writing d) e =
       let ne = apart d (writing_draft s t across k n d e) in
       λ i. machines.Writes (record { names = ap names_by (entry d ne) i; words = words d ne i })
-  chan_stays k n (Usr j w at) e = refl
+  chan_stays k n _ e = refl
 
 across_stays : (s u : Store) (t : Table) → Across s t → ((f : ℕ) → readers_at u f ≡ readers_at s f) → ((d : ℕ) → writers (entry_at u d) (is_marked u d) ≡ writers (entry_at s d) (is_marked s d)) → Across u t
 across_stays s u t a read written = record {

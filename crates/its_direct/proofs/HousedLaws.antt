@@ -170,7 +170,6 @@ peeking s None = tt
 
 each_line : (v : ℕ) (m : Machine) (b : Block) (e : Event) → EventFits v e → Consoled m → LinedConsoled (lined m b e)
 unfolding lined operate clocked
-each_line v m b events.Nothing fits h = h
 each_line v m b (events.Version x) fits h = version_consoled m x h
 each_line v m b (events.Load u j console) fits h = loading m b u j console (loaded m u j console) refl (IfSome_then console fits.2 (λ c l. omega arith)) h
 each_line v m b (events.Words a words) fits h = disturbing b.slot b (words_loaded m b.slot a words.items) (words_consoled m b.slot a words.items h)
@@ -179,9 +178,7 @@ each_line v m b (events.Symbol name a) fits h = quiet b (symbol_kept m b.slot na
 each_line v m b (events.Go a) fits h = disturbing b.slot b (on_registers m b.slot (started a)) (registers_consoled m b.slot (started a) (λ j. refl) h)
 each_line v m b (events.File d x y) fits h = quiet (record b { file = names_of d x y }) (file_made m (names_of d x y)) (files_consoled m (file_made m (names_of d x y)) (made_files m (names_of d x y)) h)
 each_line v m b (events.Append words) fits h = quiet b (words_added m b.file words.items) (files_consoled m (words_added m b.file words.items) (added_files m b.file words.items) h)
-each_line v m b events.EndFile fits h = h
 each_line v m b (events.Tick s n) fits h = tt
-each_line v m b (events.Run n q) fits h = h
 each_line v m b (events.TypeIn c bytes) fits h = jobs_consoled m (typed c bytes.items m) refl h
 each_line v m b (events.Drain c n) fits h = jobs_consoled m (drained c n m) refl h
 each_line v m b (events.Clock n) fits h = clocking m b n (clocked m n) (clock_consoled m n (nat_lt (m.clock + n) clock_end) h)
@@ -193,9 +190,9 @@ each_line v m b (events.Deposit s a w) fits h = disturbing s b (deposited m s a 
 each_line v m b (events.Stop s) fits h = disturbing s b (on_registers m s stopped) (registers_consoled m s stopped (λ j. refl) h)
 each_line v m b (events.Cont s) fits h = disturbing s b (on_registers m s continued) (registers_consoled m s continued (λ j. refl) h)
 each_line v m b (events.Peek s) fits h = peeking s (m.jobs s)
-each_line v m b (events.Dir d) fits h = h
 each_line v m b (events.Show d x y) fits h = showing m b (file_shown m d x y) h
 each_line v m b events.End fits h = tt
+each_line v m b _ fits h = h
 
 pub line_consoled : (v : ℕ) (m n : Machine) (b c : Block) (e : Event) (out : List Line) (touched : ℕ → Bool) → EventFits v e → Consoled m → lined m b e ≡ Done (Does n out touched c) → Consoled n
 line_consoled v m n b c e out touched fits h is = subst LinedConsoled is (each_line v m b e fits h)

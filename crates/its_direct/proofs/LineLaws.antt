@@ -21,7 +21,8 @@ use Rattle.its_plain.proofs.MachineLaws.{machine_is}
 use Rattle.its_parts.specs.Parts.{bare, alarm_at}
 use Rattle.its_parts.proofs.PartLaws.{raw_job, changed_only, on_slot_here, on_slot_other}
 use Rattle.its_direct.specs.Plain.{machine_of, is_touched, no_slots, Tidy, CoreBecomes, JobBecomes}
-use Rattle.its_direct.specs.Lines.{reason_of, refusal_of, one_slot, Operates, Looks, Rewritten}
+use Rattle.its_word.specs.Refusals.{reason_of}
+use Rattle.its_direct.specs.Lines.{refusal_of, one_slot, Operates, Looks, Rewritten}
 use Rattle.its_direct.specs.declared.plain.Plain.{Plain}
 use Rattle.its_direct.proofs.SlotLaws.{placed_at, core_machine, core_tidy, slot_machine, slot_tidy, touched_machine, touched_tidy}
 use Rattle.its_direct.proofs.TouchLaws.{one_touched}

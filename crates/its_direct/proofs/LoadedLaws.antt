@@ -1,8 +1,8 @@
 -- The words of a LOAD block: a word is stored, where its page is absent into a page of zeros that is made.
-use Rattle.std.specs.Prelude.{◌≡◌, ◌<◌, ◌≤◌, ◌/◌, ◌%◌, ◌+◌, ◌-◌, ◌^◌, ◌||◌, ℕ, zero, suc, Bool, true, false, Option, Some, None, is_some, option_map, List, [], ◌∷◌, drop, length, IsOk, Result, Ok, Err, nat_lt, slice_index_or, refl}
+use Rattle.std.specs.Prelude.{◌≡◌, ◌<◌, ◌≤◌, ◌/◌, ◌+◌, ◌-◌, ◌^◌, ℕ, Bool, true, false, Option, Some, None, is_some, option_map, List, [], ◌∷◌, drop, length, IsOk, Result, Ok, Err, nat_lt, slice_index_or, refl}
 use Rattle.std.proofs.Common.{sym, ◌∙◌, ap, subst, arith, get_or, inl, inr}
 use Rattle.std.proofs.Math.ListN.{drop_of_length-le}
-use Rattle.std.proofs.lemmas.Bool.{cases_eq, cases_lt, lt-ltb, le-ltb}
+use Rattle.std.proofs.lemmas.Bool.{cases_lt, lt-ltb, le-ltb}
 use Rattle.std.proofs.lemmas.Bool.Decides.{nat_tests}
 use Rattle.std.proofs.lemmas.List.{drop_more}
 use Rattle.its_word.specs.Core.{Core, IsWhole, no_core, page_of, word_at, can_store, store, putting, put, with_page, zero_page, pages_mapped}
@@ -12,14 +12,13 @@ use Rattle.its_word.specs.declared.access.NoAccess.TheVariants.{ReadOnly}
 use Rattle.its_word.specs.declared.jobs.Job.{Job}
 use Rattle.its_word.specs.declared.session.Reason.{Reason}
 use Rattle.its_word.specs.declared.session.Reason.TheVariants as reasons
-use Rattle.its_word.proofs.PageLaws.{get-copies, pages_mapped-same}
+use Rattle.its_word.proofs.PageLaws.{pages_mapped-same}
 use Rattle.its_core.specs.Cores.{Cores, Reserved, core_at, reserved_at, clear_at}
-use Rattle.its_core.proofs.CoresLaws.{same_core_at}
 use Rattle.its_files.specs.Files.{Store}
 use Rattle.its_jobs.specs.Table.{job_at, superior_at}
 use Rattle.its_plain.specs.Machine.{Whole, Machine, mapped, core_of}
 use Rattle.its_plain.specs.Operator.{and_then}
-use Rattle.its_plain.specs.OperatorJobs.{with_core, stored_in, stored, word_loaded_of, word_loaded, words_stored, is_barred, any_barred, barred_in, words_loaded_if, words_loaded}
+use Rattle.its_plain.specs.OperatorJobs.{with_core, stored_in, stored, word_loaded_of, word_loaded, words_stored, any_barred, barred_in, words_loaded_if, words_loaded}
 use Rattle.its_parts.specs.Parts.{alarm_at, raw_of}
 use Rattle.its_direct.specs.Plain.{machine_of, Tidy, Aside, CoreBecomes}
 use Rattle.its_direct.specs.Lines.{one_slot, Operates, pages_made}
@@ -29,29 +28,7 @@ use Rattle.its_direct.proofs.RoomLaws.{Within, within_ok, within_full, ready_who
 use Rattle.its_direct.proofs.SlotLaws.{alike, core_machine, core_tidy, touched_machine}
 use Rattle.its_direct.proofs.UserLaws.{own_of, own_is, nobody_is}
 
--- a page of zeros that is made: it is reserved and cleared, and then mapped
-unreserved_by : (o : Option Reserved) → option_map (λ x. x.clear) o ≡ None → o ≡ None
-unreserved_by (Some x) h = cc
-unreserved_by None h = refl
-
-pub clear_unreserved : (c : Cores) (s : ℕ) → clear_at c s ≡ None → reserved_at c s ≡ None
-clear_unreserved c s h = unreserved_by (reserved_at c s) h
-
-pub laid_cores : (a b c : Cores) (s k : ℕ) → b.cores ≡ a.cores → Only (core_at b) (core_at c) s (with_page (core_at b s) k (Some zero_page))
-    → Only (core_at a) (core_at c) s (with_page (core_at a s) k (Some zero_page))
-laid_cores a b c s k e o = record {
-  here = o.here ∙ ap (λ x. with_page x k (Some zero_page)) (same_core_at b a s e);
-  others = λ i n. o.others i n ∙ same_core_at b a i e;
-}
-
-pub laid_clear : (a b c : Cores) (s : ℕ) → clear_at a s ≡ None → Only (clear_at a) (clear_at b) s (Some 4) → Only (clear_at b) (clear_at c) s None → Same (clear_at a) (clear_at c)
-laid_clear a b c s n e o = record {
-  each = λ k. elim (cases_eq k s) [
-    | inl i ↦ rw i (o.here ∙ sym n)
-    | inr i ↦ o.others k i ∙ e.others k i
-  ];
-}
-
+-- a page of zeros is made, and a word stored there
 pub laid_word : (a b c : Cores) (s x : ℕ) (d : Core) (h : Core → Core) → Only (core_at a) (core_at b) s d → Only (core_at b) (core_at c) s (h (core_at b s)) → Only (core_at a) (core_at c) s (h d)
 laid_word a b c s x d h o p = record { here = p.here ∙ ap h o.here; others = λ k n. p.others k n ∙ o.others k n }
 
@@ -167,33 +144,6 @@ page_becomes old new s c core reserved jobs aside = record {
   reserved = reserved;
   aside = aside;
 }
-
--- n words of which the first k are on no read-only page
-pub any_start : (c : Core) (a n : ℕ) → any_barred c (a + 0) (n - 0) ≡ any_barred c a n
-any_start c a n = let e : a + 0 ≡ a = omega arith in let f : n - 0 ≡ n = omega arith in ap (λ i. any_barred c i (n - 0)) e ∙ ap (any_barred c a) f
-
-any_more : (c : Core) (a n : ℕ) → any_barred c a (suc n) ≡ (is_barred c a || any_barred c (a + 1) n)
-unfolding any_barred
-any_more c a n = refl
-
-any_after : (c : Core) (a n k : ℕ) → k < n → any_barred c (a + k) (n - k) ≡ (is_barred c (a + k) || any_barred c (a + (k + 1)) (n - (k + 1)))
-any_after c a n k l =
-    let e : n - k ≡ suc (n - (k + 1)) = omega arith in
-    let f : a + k + 1 ≡ a + (k + 1) = omega arith in
-    ap (any_barred c (a + k)) e ∙ any_more c (a + k) (n - (k + 1)) ∙ ap (λ i. is_barred c (a + k) || any_barred c i (n - (k + 1))) f
-
-pub any_here : (c : Core) (a n k : ℕ) → k < n → is_barred c (a + k) ≡ true → any_barred c (a + k) (n - k) ≡ true
-any_here c a n k l h = any_after c a n k l ∙ ap (λ b. b || any_barred c (a + (k + 1)) (n - (k + 1))) h
-
-pub any_next : (c : Core) (a n k : ℕ) → k < n → is_barred c (a + k) ≡ false → any_barred c (a + (k + 1)) (n - (k + 1)) ≡ any_barred c (a + k) (n - k)
-any_next c a n k l h = sym (any_after c a n k l ∙ ap (λ b. b || any_barred c (a + (k + 1)) (n - (k + 1))) h)
-
-none_more : (c : Core) (a : ℕ) → any_barred c a 0 ≡ false
-unfolding any_barred
-none_more c a = refl
-
-pub any_end : (c : Core) (a n k : ℕ) → n ≤ k → any_barred c (a + k) (n - k) ≡ false
-any_end c a n k l = let e : n - k ≡ 0 = omega arith in ap (any_barred c (a + k)) e ∙ none_more c (a + k)
 
 -- the words in their order: those before place k are stored
 pub record Storing (old now : Plain) (s a : ℕ) (ws : List ℕ) (k : ℕ) : Type 0 where

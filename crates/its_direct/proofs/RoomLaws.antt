@@ -1,16 +1,14 @@
 -- The words of an a/ line are stored exactly where the pages that they make can be mapped.
-use Rattle.std.specs.Prelude.{if◌then◌else◌, ◌≡◌, ◌≢◌, ◌<◌, ◌≤◌, ◌^◌, ℕ, zero, suc, ◌+◌, ◌-◌, ◌/◌, ◌%◌, ◌==◌, ◌||◌, ◌&&◌, not, ◌⊎◌, Bool, true, false, Option, Some, None, is_some, IsOk, List, [], ◌∷◌, Result, Ok, Err, nat_lt, length, slice_get, refl}
+use Rattle.std.specs.Prelude.{◌≡◌, ◌≢◌, ◌<◌, ◌≤◌, ◌^◌, ℕ, zero, suc, ◌+◌, ◌-◌, ◌/◌, ◌%◌, ◌||◌, ◌&&◌, not, ◌⊎◌, Bool, true, false, Option, Some, None, is_some, IsOk, List, [], ◌∷◌, Result, Ok, Err, nat_lt, length, slice_get, refl}
 use Rattle.std.proofs.Common.{sym, ◌∙◌, ap, subst, arith, inl, inr}
-use Rattle.std.proofs.lemmas.Bool.{cases_Bool, cases_eq, cases_lt, both_ways, or_parts, eq-eqb, ne_eqb, lt-ltb, le-ltb, ltb-true, ltb-false}
-use Rattle.std.proofs.lemmas.Bool.Decides.{nat_tests}
+use Rattle.std.proofs.lemmas.Bool.{cases_Bool, cases_eq, cases_lt, both_ways, or_parts, lt-ltb, le-ltb, ltb-true, ltb-false}
 use Rattle.std.proofs.lemmas.List.{length-set}
-use Rattle.its_word.specs.Core.{Core, Page, IsWhole, page_of, word_in, stores_in, page_stored, word_at, can_store, store, with_page, zero_page, pages_present, pages_mapped}
+use Rattle.its_word.specs.Core.{Core, Page, IsWhole, page_of, word_in, page_stored, word_at, can_store, store, with_page, zero_page, pages_present}
 use Rattle.its_word.specs.Limits.{slots, most_pages}
-use Rattle.its_word.specs.Only.{Only}
 use Rattle.its_word.specs.declared.session.Reason.{Reason}
 use Rattle.its_word.specs.declared.session.Reason.TheVariants.{Full}
-use Rattle.its_word.proofs.CoreLaws.{page_alike, is_some-store, can_store-store, word_at-can_store, in_accs, in_page, stores_acc, stores_page, store_acc, store_page}
-use Rattle.its_word.proofs.PageLaws.{get-copies, page_of-with_page, page_of-with_page_other, word_at-with_page_other, can_store-with_page_other, pages_present-with_page, pages_present-store, pages_mapped-only, one_if}
+use Rattle.its_word.proofs.CoreLaws.{page_alike, is_some-store, can_store-store, word_at-can_store, in_accs, in_page, store_acc, store_page}
+use Rattle.its_word.proofs.PageLaws.{page_of-with_page, page_of-with_page_other, word_at-with_page_other, can_store-with_page_other, pages_present-with_page, pages_present-store, pages_mapped-only, one_if, zero_stores}
 use Rattle.its_core.specs.Cores.{mark_of}
 use Rattle.its_plain.specs.Machine.{Whole, Machine, changed, with_job, mapped, core_of}
 use Rattle.its_plain.specs.Operator.{and_then}
@@ -196,11 +194,6 @@ ready_stored c a b n w h = record {
   word = λ x lo hi. is_some-store c b x w ∙ h.word x lo hi ∙ ap (λ y. nat_lt x 16 || y) (sym (there_stored c b w (x / 1024)));
   places = places_stored c b w ∙ h.places;
 }
-
--- a page of zeros
-pub zero_stores : (c : Core) (x : ℕ) → 16 ≤ x → page_of c (x / 1024) ≡ Some zero_page → can_store c x ≡ true
-unfolding can_store zero_page
-zero_stores c x l h = let t = le-ltb x 16 l in rw (t, h) (ap is_some (get-copies 1024 (x % 1024) 0 (omega arith)))
 
 paged : Core → ℕ → Core
 paged c k = with_page c k (Some zero_page)

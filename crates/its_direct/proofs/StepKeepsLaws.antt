@@ -74,11 +74,6 @@ not_gone w j s k f quiet ne at = elim (cases_Bool (is_gone (superiors w.raw) s k
 
 stays_one : (c : Change) (j k : ℕ) (w : State) (f : Frame) → Quiet c j w → k ≢ j → Stays w k f → Stays (effect_on c j w) k f
 unfolding effect_on effect removed
-stays_one (changes.Open n on) j k w f quiet ne h = record { job = slot_some w.raw.jobs j _ k ∙ h.job; frame = h.frame }
-stays_one (changes.Shut n) j k w f quiet ne h = record { job = slot_some w.raw.jobs j _ k ∙ h.job; frame = h.frame }
-stays_one (changes.Move n at) j k w f quiet ne h = record { job = slot_some w.raw.jobs j _ k ∙ h.job; frame = h.frame }
-stays_one (changes.Append n x) j k w f quiet ne h = record { job = slot_some w.raw.jobs j _ k ∙ h.job; frame = h.frame }
-stays_one (changes.Close n) j k w f quiet ne h = record { job = slot_some w.raw.jobs j _ k ∙ h.job; frame = h.frame }
 stays_one (changes.Take c) j k w f quiet ne h = record { job = h.job; frame = h.frame }
 stays_one (changes.Put c b) j k w f quiet ne h = record { job = h.job; frame = h.frame }
 stays_one (changes.Hold c s) j k w f quiet ne h = record { job = h.job; frame = h.frame }
@@ -95,9 +90,9 @@ stays_one (changes.Remove s) j k w f quiet ne h =
       frame = rw left h.frame;
     }
 stays_one (changes.Inform s) j k w f quiet ne h = record { job = slot_some w.raw.jobs s _ k ∙ h.job; frame = h.frame }
-stays_one (changes.Arm alarm) j k w f quiet ne h = record { job = slot_some w.raw.jobs j _ k ∙ h.job; frame = h.frame }
 stays_one (changes.Delete d x y) j k w f quiet ne h = record { job = h.job; frame = h.frame }
 stays_one (changes.Rename d x y u v) j k w f quiet ne h = record { job = h.job; frame = h.frame }
+stays_one _ j k w f quiet ne h = record { job = slot_some w.raw.jobs j _ k ∙ h.job; frame = h.frame }
 
 stays : (cs : List Change) (j k : ℕ) (w : State) (f : Frame) → AllQuiet cs j w → k ≢ j → Stays w k f → is_some ((effects_on cs j w).raw.jobs k) ≡ true
 stays [] j k w f quiet ne h = h.job

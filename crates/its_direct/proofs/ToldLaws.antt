@@ -105,8 +105,6 @@ peek_fits s None = tt
 
 line_fits : (m : Machine) (b : Block) (e : Event) → b.slot < slots → BlockFits (lined m b e)
 unfolding lined operate loaded
-line_fits m b events.Nothing h = h
-line_fits m b (events.Version v) h = h
 line_fits m b (events.Load u j console) h = load_fits m b u j console (least_free (limit m) m.jobs) refl
 line_fits m b (events.Words a ws) h = disturbs_fits _ b _ h
 line_fits m b (events.ReadOnly page) h = disturbs_fits _ b _ h
@@ -114,11 +112,7 @@ line_fits m b (events.Symbol name a) h = quietly_fits b _ h
 line_fits m b (events.Go a) h = disturbs_fits _ b _ h
 line_fits m b (events.File d x y) h = quietly_fits _ _ h
 line_fits m b (events.Append ws) h = quietly_fits b _ h
-line_fits m b events.EndFile h = h
 line_fits m b (events.Tick s n) h = tt
-line_fits m b (events.Run n q) h = h
-line_fits m b (events.TypeIn c bytes) h = h
-line_fits m b (events.Drain c n) h = h
 line_fits m b (events.Clock n) h = clock_fits m b n (clocked m n) h
 line_fits m b (events.Int s v w) h = disturbs_fits s b _ h
 line_fits m b (events.Exam s a n) h = exam_fits m b s _ _ h
@@ -128,9 +122,9 @@ line_fits m b (events.Deposit s a w) h = disturbs_fits s b _ h
 line_fits m b (events.Stop s) h = disturbs_fits s b _ h
 line_fits m b (events.Cont s) h = disturbs_fits s b _ h
 line_fits m b (events.Peek s) h = peek_fits s (m.jobs s)
-line_fits m b (events.Dir d) h = h
 line_fits m b (events.Show d x y) h = shows_fits m b (file_shown m d x y) h
 line_fits m b events.End h = tt
+line_fits m b _ h = h
 
 spot_fits : (x : Spot) (b : Block) → Speaks x b → b.slot < slots → SpotFits x
 spot_fits spots.Plain b at h = tt
@@ -167,10 +161,8 @@ slot_stays (Some q) None (Made u j console none is) e = cc
 obeyed_jobs : (e : Event) (a : Answer) (old new : Plain) (b : Block) (l : Lined) → lined (machine_of old) b e ≡ l → Obeys e a old new l → JobsStay old new
 obeyed_jobs e a old new b (Done (Does n out touched c)) is o k h =
     slot_stays ((machine_of old).jobs k) (n.jobs k) ((subst (LineKeepsBy (machine_of old)) is (line_keeps (machine_of old) b e)).slots k) (sym (ap (λ (m : Machine). m.jobs k) o.0) ∙ h)
-obeyed_jobs e a old new b (Done (Refuses r)) is o k h = absurd o
-obeyed_jobs e a old new b (Done (Ticks s i)) is o k h = absurd o
-obeyed_jobs e a old new b (Done Quits) is o k h = absurd o
 obeyed_jobs e a old new b (Peeks s) is o k h = sym (ap (λ (m : Machine). m.jobs k) o.0) ∙ h
+obeyed_jobs e a old new b _ is o k h = absurd o
 
 -- what holds after an event, obeyed or refused
 pub told_kept : (e : Event) (old new : Plain) (r : Result Answer Refusal) → EventFits 2 e → Told e old new r → OnErr r (new ≡ old) → Tidy new → Kept old → Kept new

@@ -16,7 +16,7 @@ use Rattle.its_stepped.specs.Forest.{Forest}
 use Rattle.its_plain.specs.Operator.{Block, Does, Refuses}
 use Rattle.its_plain.specs.OperatorLines.{Lined, Done, Peeks, lined}
 use Rattle.its_direct.specs.Plain.{machine_of, is_touched, Tidy}
-use Rattle.its_direct.specs.Lines.{reason_of}
+use Rattle.its_word.specs.Refusals.{reason_of}
 use Rattle.its_direct.specs.declared.plain.Plain.{Plain}
 use Rattle.its_direct.specs.declared.plain.Spot.{Spot}
 use Rattle.its_direct.specs.declared.plain.Spot.TheVariants as spots

@@ -8,7 +8,7 @@ ghost use Rattle.its_plain.specs.OperatorClock.{clocked, clock_end};
 ghost use Rattle.its_stepped.specs.Alarmed.{Alarmed};
 ghost use Rattle.its_parts.specs.Parts.{alarm_at};
 ghost use Rattle.its_direct.specs.Plain.{machine_of, no_slots, Tidy};
-ghost use Rattle.its_direct.specs.Lines.{reason_of};
+ghost use Rattle.its_word.specs.Refusals.{reason_of};
 ghost use Rattle.its_direct.specs.Clock.{Clocks, Periods, RangAt, RangBelow};
 
 use super::plain::Plain;

@@ -64,20 +64,20 @@ impl Plain {
             Event::ReadOnly { page } => self.tell_read_only(*page),
             Event::Symbol { name, a } => self.tell_symbol(*name, *a),
             Event::Go { a } => self.tell_go(*a),
-            Event::File { d, x, y } => self.tell_file(*d, *x, *y),
+            Event::File { d, x, y } => answered(self.make_file(*d, *x, *y)),
             Event::Append { words } => self.tell_append(words),
             Event::EndFile => self.tell_end_file(),
             Event::TypeIn { c, bytes } => self.tell_type(*c, bytes),
             Event::Drain { c, n } => self.tell_drain(*c, *n),
-            Event::Clock { n } => self.tell_clock(*n),
-            Event::Int { s, v, w } => self.tell_int(*s, *v, *w),
-            Event::Exam { s, a, n } => self.tell_exam(*s, *a, *n),
-            Event::List { s, a, n } => self.tell_list(*s, *a, *n),
-            Event::State { s } => self.tell_state(*s),
-            Event::Deposit { s, a, w } => self.tell_deposit(*s, *a, *w),
-            Event::Stop { s } => self.tell_stop(*s),
-            Event::Cont { s } => self.tell_cont(*s),
-            Event::Peek { s } => self.tell_peek(*s),
+            Event::Clock { n } => answered(self.advance(*n)),
+            Event::Int { s, v, w } => answered(self.interrupt(*s, *v, *w)),
+            Event::Exam { s, a, n } => answered(self.exam(*s, *a, *n)),
+            Event::List { s, a, n } => answered(self.exam(*s, *a, *n)),
+            Event::State { s } => answered(self.state(*s)),
+            Event::Deposit { s, a, w } => answered(self.deposit(*s, *a, *w)),
+            Event::Stop { s } => answered(self.stop(*s)),
+            Event::Cont { s } => answered(self.cont(*s)),
+            Event::Peek { s } => answered(self.peek(*s)),
             Event::Dir { d } => self.tell_dir(*d),
             Event::Show { d, x, y } => self.tell_show(*d, *x, *y),
             Event::Tick { .. } => unreachable!(),
@@ -96,120 +96,6 @@ impl Plain {
     {
         self.touch_none();
         Ok(Answer::Nothing)
-    }
-
-    /// INT.
-    fn tell_int(&mut self, s: u8, v: Word, w: Word) -> Result<Answer, Refusal>
-        requires slot { s < slots }
-        requires tidy { Tidy self.old }
-        ensures told { Told (told.Int s v w) self.old self.new result }
-        ensures same { OnErr result (self.new ≡ self.old) }
-        ensures tidy { Tidy self.new }
-    {
-        answered(self.interrupt(s, v, w))
-    }
-
-    /// DEPOSIT.
-    fn tell_deposit(&mut self, s: u8, a: u32, w: Word) -> Result<Answer, Refusal>
-        requires slot { s < slots }
-        requires address { a < 2 ^ 18 }
-        requires tidy { Tidy self.old }
-        ensures told { Told (told.Deposit s a w) self.old self.new result }
-        ensures same { OnErr result (self.new ≡ self.old) }
-        ensures tidy { Tidy self.new }
-    {
-        answered(self.deposit(s, a, w))
-    }
-
-    /// STOP.
-    fn tell_stop(&mut self, s: u8) -> Result<Answer, Refusal>
-        requires slot { s < slots }
-        requires tidy { Tidy self.old }
-        ensures told { Told (told.Stop s) self.old self.new result }
-        ensures same { OnErr result (self.new ≡ self.old) }
-        ensures tidy { Tidy self.new }
-    {
-        answered(self.stop(s))
-    }
-
-    /// CONT.
-    fn tell_cont(&mut self, s: u8) -> Result<Answer, Refusal>
-        requires slot { s < slots }
-        requires tidy { Tidy self.old }
-        ensures told { Told (told.Cont s) self.old self.new result }
-        ensures same { OnErr result (self.new ≡ self.old) }
-        ensures tidy { Tidy self.new }
-    {
-        answered(self.cont(s))
-    }
-
-    /// EXAM; the words are read from the machine.
-    fn tell_exam(&mut self, s: u8, a: u32, n: u32) -> Result<Answer, Refusal>
-        requires slot { s < slots }
-        requires address { a < 2 ^ 18 }
-        requires number { n ≤ 2 ^ 18 }
-        requires tidy { Tidy self.old }
-        ensures told { Told (told.Exam s a n) self.old self.new result }
-        ensures same { OnErr result (self.new ≡ self.old) }
-        ensures tidy { Tidy self.new }
-    {
-        answered(self.exam(s, a, n))
-    }
-
-    /// LIST; the words are read from the machine.
-    fn tell_list(&mut self, s: u8, a: u32, n: u32) -> Result<Answer, Refusal>
-        requires slot { s < slots }
-        requires address { a < 2 ^ 18 }
-        requires number { n ≤ 2 ^ 18 }
-        requires tidy { Tidy self.old }
-        ensures told { Told (told.List s a n) self.old self.new result }
-        ensures same { OnErr result (self.new ≡ self.old) }
-        ensures tidy { Tidy self.new }
-    {
-        answered(self.exam(s, a, n))
-    }
-
-    /// PEEK, whose line no machine of this kind can show.
-    fn tell_peek(&mut self, s: u8) -> Result<Answer, Refusal>
-        requires slot { s < slots }
-        requires tidy { Tidy self.old }
-        ensures told { Told (told.Peek s) self.old self.new result }
-        ensures same { OnErr result (self.new ≡ self.old) }
-        ensures tidy { Tidy self.new }
-    {
-        answered(self.peek(s))
-    }
-
-    /// STATE; the registers are read from the machine.
-    fn tell_state(&mut self, s: u8) -> Result<Answer, Refusal>
-        requires slot { s < slots }
-        requires tidy { Tidy self.old }
-        ensures told { Told (told.State s) self.old self.new result }
-        ensures same { OnErr result (self.new ≡ self.old) }
-        ensures tidy { Tidy self.new }
-    {
-        answered(self.state(s))
-    }
-
-    /// CLOCK.
-    fn tell_clock(&mut self, n: u64) -> Result<Answer, Refusal>
-        requires alarmed { Alarmed (machine_of self.old) }
-        requires tidy { Tidy self.old }
-        ensures told { Told (told.Clock n) self.old self.new result }
-        ensures same { OnErr result (self.new ≡ self.old) }
-        ensures tidy { Tidy self.new }
-    {
-        answered(self.advance(n))
-    }
-
-    /// FILE.
-    fn tell_file(&mut self, d: Word, x: Word, y: Word) -> Result<Answer, Refusal>
-        requires tidy { Tidy self.old }
-        ensures told { Told (told.File d x y) self.old self.new result }
-        ensures same { OnErr result (self.new ≡ self.old) }
-        ensures tidy { Tidy self.new }
-    {
-        answered(self.make_file(d, x, y))
     }
 
     /// An a/ line.

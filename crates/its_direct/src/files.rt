@@ -1,11 +1,12 @@
 //! The lines FILE, its words and EOF.
-ghost use Rattle.std.specs.Prelude.{◌≡◌, ◌<◌, ◌≤◌, ◌+◌, ◌∷◌, ◌++◌, [], true, None, Ok, Err, OnOk, OnErr, IsOk, IfErr, length};
+ghost use Rattle.std.specs.Prelude.{◌≡◌, ◌<◌, true, None, Ok, Err, OnOk, OnErr, IsOk, IfErr, length};
 ghost use Rattle.its_files.specs.Files.{entry_at, found, is_file, most_files, names_at};
 ghost use Rattle.its_plain.specs.OperatorFiles.{file_made, word_added, words_added};
 ghost use Rattle.its_plain.specs.Own.{names_of};
 ghost use Rattle.its_direct.specs.Plain.{machine_of, Tidy};
 ghost use Rattle.its_direct.specs.declared.plain.Spot.TheVariants.{Plain as Outside, File as InFile};
-ghost use Rattle.its_direct.specs.Lines.{reason_of, Keeps};
+ghost use Rattle.its_word.specs.Refusals.{reason_of};
+ghost use Rattle.its_direct.specs.Lines.{Keeps};
 ghost use Rattle.its_direct.specs.Filing.{Leads};
 
 use super::plain::{Plain, Spot};

@@ -7,7 +7,8 @@ ghost use Rattle.its_plain.specs.Machine.{words_at};
 ghost use Rattle.its_plain.specs.OperatorJobs.{on_registers, started, stopped, continued, interrupted, examined, state_shown, deposited};
 ghost use Rattle.its_parts.specs.Refusals.{refusal_of};
 ghost use Rattle.its_direct.specs.Plain.{machine_of, Tidy};
-ghost use Rattle.its_direct.specs.Lines.{reason_of, one_slot, Operates, Looks, Rewritten};
+ghost use Rattle.its_word.specs.Refusals.{reason_of};
+ghost use Rattle.its_direct.specs.Lines.{one_slot, Operates, Looks, Rewritten};
 
 use super::plain::Plain;
 use its_word::{ADDRESSES, FATAL, Job, NoAccess, Refusal, Word};

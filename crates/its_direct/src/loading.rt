@@ -6,7 +6,8 @@ ghost use Rattle.its_plain.specs.Machine.{limit, with_job};
 ghost use Rattle.its_plain.specs.OperatorJobs.{loaded, new_job, with_holder};
 ghost use Rattle.its_parts.specs.Parts.{holder_at};
 ghost use Rattle.its_direct.specs.Plain.{machine_of, Tidy};
-ghost use Rattle.its_direct.specs.Lines.{reason_of, Loads};
+ghost use Rattle.its_word.specs.Refusals.{reason_of};
+ghost use Rattle.its_direct.specs.Lines.{Loads};
 
 use super::plain::{Plain, Spot};
 use its_jobs::NoSlot;

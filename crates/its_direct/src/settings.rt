@@ -8,7 +8,8 @@ ghost use Rattle.its_plain.specs.OperatorSymbols.{symbol_kept};
 ghost use Rattle.its_plain.specs.OperatorVersion.{versioned};
 ghost use Rattle.its_parts.specs.Parts.{symbols_at};
 ghost use Rattle.its_direct.specs.Plain.{machine_of, Tidy};
-ghost use Rattle.its_direct.specs.Lines.{reason_of, Operates, Stands, Keeps, SymbolsBecome, VersionBecomes};
+ghost use Rattle.its_word.specs.Refusals.{reason_of};
+ghost use Rattle.its_direct.specs.Lines.{Operates, Stands, Keeps, SymbolsBecome, VersionBecomes};
 
 use super::plain::Plain;
 use its_word::{Refusal, SLOTS, Word};

@@ -8,7 +8,7 @@ ghost use Rattle.its_plain.specs.OperatorJobs.{examined, shown, state_shown};
 ghost use Rattle.its_plain.specs.OperatorSymbols.{nearer, symbol_shown};
 ghost use Rattle.its_parts.specs.Parts.{symbols_at};
 ghost use Rattle.its_direct.specs.Plain.{machine_of};
-ghost use Rattle.its_direct.specs.Lines.{reason_of};
+ghost use Rattle.its_word.specs.Refusals.{reason_of};
 
 use super::plain::Plain;
 use arrayvec::ArrayVec;

@@ -7,10 +7,11 @@ ghost use Rattle.its_core.specs.Cores.{clear_at, core_at};
 ghost use Rattle.its_jobs.specs.Table.{job_at};
 ghost use Rattle.its_plain.specs.OperatorJobs.{any_barred, is_barred, word_loaded, words_loaded, words_stored};
 ghost use Rattle.its_direct.specs.Plain.{machine_of, CoreBecomes, Tidy};
-ghost use Rattle.its_direct.specs.Lines.{reason_of, Operates, pages_absent, pages_made};
+ghost use Rattle.its_word.specs.Refusals.{reason_of};
+ghost use Rattle.its_direct.specs.Lines.{Operates, pages_absent, pages_made};
 
 use super::plain::Plain;
-use its_core::{Core, Full};
+use its_core::Core;
 use its_word::{MAPPED_PAGES, NoAccess, Refusal, Word};
 
 impl Plain {
@@ -110,7 +111,7 @@ impl Plain {
 }
 
 /// Whether any of n words of a slot from an address on is on a read-only page.
-#[tactic(auto, using(crate::proofs::LoadedLaws::any_start, crate::proofs::LoadedLaws::any_here, crate::proofs::LoadedLaws::any_next, crate::proofs::LoadedLaws::any_end))]
+#[tactic(auto, using(its_plain::proofs::BarredLaws::any_start, its_plain::proofs::BarredLaws::any_here, its_plain::proofs::BarredLaws::any_next, its_plain::proofs::BarredLaws::any_end))]
 fn any_barred(core: &Core, slot: u8, a: u32, n: u32) -> bool
     requires slot { slot < slots }
     requires end { a + n ≤ 2 ^ 18 }
@@ -175,7 +176,7 @@ fn has_page(core: &Core, slot: u8, page: u8) -> bool
 }
 
 /// Makes the page of an address of a slot, of zeros, and stores a word there.
-#[tactic(auto, using(crate::proofs::RoomLaws::zero_stores))]
+#[tactic(auto, using(its_word::proofs::PageLaws::zero_stores))]
 fn lay_word(core: &mut Core, slot: u8, a: u32, w: Word)
     requires slot { slot < slots }
     requires page { 16 ≤ a }
@@ -186,39 +187,6 @@ fn lay_word(core: &mut Core, slot: u8, a: u32, w: Word)
     ensures core { Only (core_at core.old) (core_at core.new) slot (store (with_page (core_at core.old slot) (a / 1024) (Some zero_page)) a w) }
     ensures reserved { Same (clear_at core.old) (clear_at core.new) }
 {
-    lay_page(core, slot, (a / 1024) as u8);
+    core.map_zeros(slot, (a / 1024) as u8);
     let _ = core.put(slot, a, w);
-}
-
-/// Makes a page of zeros of a slot.
-#[tactic(auto, using(crate::proofs::LoadedLaws::laid_cores, crate::proofs::LoadedLaws::laid_clear, its_core::proofs::CoresLaws::same_core_at, its_core::proofs::CoresLaws::same_pages_mapped))]
-fn lay_page(core: &mut Core, slot: u8, page: u8)
-    requires slot { slot < slots }
-    requires absent { page_of (core_at core.old slot) page ≡ None }
-    requires room { pages_mapped (core_at core.old) < most_pages }
-    requires unreserved { clear_at core.old slot ≡ None }
-    ensures made { Only (core_at core.old) (core_at core.new) slot (with_page (core_at core.old slot) page (Some zero_page)) }
-    ensures there { page_of (core_at core.new slot) page ≡ Some zero_page }
-    ensures reserved { Same (clear_at core.old) (clear_at core.new) }
-{
-    lay_zeros(core, slot);
-    match core.map(slot, slot, page) {
-        Ok(()) => {}
-        Err(Full) => unreachable!(),
-    }
-}
-
-/// Reserves a page for a slot, and clears it.
-#[tactic(auto, using(crate::proofs::LoadedLaws::clear_unreserved))]
-fn lay_zeros(core: &mut Core, slot: u8)
-    requires slot { slot < slots }
-    requires none { clear_at core.old slot ≡ None }
-    ensures clear { Only (clear_at core.old) (clear_at core.new) slot (Some 4) }
-    ensures cores { core.new.cores ≡ core.old.cores }
-{
-    core.reserve(slot);
-    core.clear_quarter(slot, 0);
-    core.clear_quarter(slot, 1);
-    core.clear_quarter(slot, 2);
-    core.clear_quarter(slot, 3);
 }

@@ -70,14 +70,11 @@ same a b h =
 
 pub same_three : (a b : List ℕ) → length a ≡ 3 → length b ≡ 3 → same_names a b ≡ true → b ≡ a
 same_three (a ∷ b ∷ c ∷ []) (x ∷ y ∷ z ∷ []) l m e = let p = alike (a ∷ b ∷ c ∷ []) (x ∷ y ∷ z ∷ []) e in λ i. sym p.directory i ∷ sym p.first i ∷ sym p.second i ∷ []
-same_three [] b l m e = absurd (omega (arith, l))
-same_three (a ∷ []) b l m e = absurd (omega (arith, l))
-same_three (a ∷ c ∷ []) b l m e = absurd (omega (arith, l))
-same_three (a ∷ c ∷ d ∷ f ∷ rest) b l m e = absurd (omega (arith, l))
 same_three (a ∷ b ∷ c ∷ []) [] l m e = absurd (omega (arith, m))
 same_three (a ∷ b ∷ c ∷ []) (x ∷ []) l m e = absurd (omega (arith, m))
 same_three (a ∷ b ∷ c ∷ []) (x ∷ y ∷ []) l m e = absurd (omega (arith, m))
 same_three (a ∷ b ∷ c ∷ []) (x ∷ y ∷ z ∷ w ∷ ws) l m e = absurd (omega (arith, m))
+same_three _ b l m e = absurd (omega (arith, l))
 
 pub same_sym : (a b : List ℕ) → same_names a b ≡ true → same_names b a ≡ true
 same_sym a b e = let p = alike a b e in same b a (record { directory = sym p.directory; first = sym p.first; second = sym p.second })

@@ -1,27 +1,24 @@
 -- What holds of each image that a text is assembled to.
-use Rattle.std.specs.Prelude.{if◌then◌else◌, ◌≡◌, ◌≤◌, ◌<◌, ◌+◌, ◌%◌, ◌^◌, ◌&&◌, ◌||◌, ℕ, Bool, true, false, Option, Some, None, IfSome, IfOk, Result, Ok, Err, List, [], ◌∷◌, ◌++◌, All, length, fold, nat_eq, nat_le, nat_lt, refl}
-use Rattle.std.proofs.Common.{sym, ◌∙◌, ap, subst, arith}
+use Rattle.std.specs.Prelude.{if◌then◌else◌, ◌≡◌, ◌≤◌, ◌<◌, ◌+◌, ◌%◌, ◌^◌, ◌&&◌, ◌||◌, ℕ, Bool, true, false, Option, Some, None, IfSome, IfOk, Result, Ok, Err, List, [], ◌∷◌, All, length, fold, nat_eq, nat_le, nat_lt, refl}
+use Rattle.std.proofs.Common.{sym, subst, arith}
 use Rattle.std.proofs.lemmas.Bool.Decides.{nat_tests}
 use Rattle.std.proofs.lemmas.List.Elements.{All-cons, All-head, All-nil, All-push, All-tail}
 use Rattle.its_session.specs.Fits.{IsNameWord}
-use Rattle.its_asm.specs.Text.{is_printable, words_of}
+use Rattle.its_asm.specs.Text.{is_printable, statement_words}
 use Rattle.its_asm.specs.Statement.{labels_of}
-use Rattle.its_asm.specs.Layout.{before_all, defined, defined_by, earlier_at, equated, is_defined, labelled, laid_out, passed, read, scope_at, stage_after, statement_at, symbols_after, with_labels}
+use Rattle.its_asm.specs.Layout.{before_all, defined, defined_by, equated, is_defined, labelled, laid_out, read, stage_after, statement_at, symbols_after, with_labels}
 use Rattle.its_asm.specs.Assembly.{Assembly, addressed, assembly, behind, ended, first_reason, from_line, inserted, is_full, is_location_twice, is_past, is_symbol_twice, is_undefined, lines_of, literals_past, made, nothing_made, onwards, placed, reason_against, spoken, unless, with_line}
 use Rattle.its_asm.specs.declared.layout.Layout.{Layout}
 use Rattle.its_asm.specs.declared.layout.Line.{Line as Spoken}
 use Rattle.its_asm.specs.declared.layout.Stage.{Stage}
 use Rattle.its_asm.specs.declared.layout.Stage.TheVariants.{Begin, Body, After}
-use Rattle.its_asm.specs.declared.instruction.Item.{Item}
 use Rattle.its_asm.specs.declared.statements.Statement.{Statement}
 use Rattle.its_asm.specs.declared.statements.Statement.TheVariants.{Nothing, Job, Equals, Loc, Gives, Go}
 use Rattle.its_asm.specs.declared.assembly.Image.{Image}
-use Rattle.its_asm.specs.declared.reason.AsmFault.{AsmFault}
-use Rattle.its_asm.specs.declared.reason.AsmFault.TheVariants.{Line}
 use Rattle.its_asm.specs.declared.reason.AsmReason.{AsmReason}
-use Rattle.its_asm.specs.declared.reason.AsmReason.TheVariants.{Long, Syntax, Range, Undef, Twice, Full}
+use Rattle.its_asm.specs.declared.reason.AsmReason.TheVariants.{Long}
 use Rattle.its_image.specs.Image.{CellFits, Fits, SymbolFits, rises, rises_from}
-use Rattle.its_image.proofs.StatementLaws.{BodyFits, IsJob, JobFits, StatementFits, labels_named, statement_fits}
+use Rattle.its_image.proofs.StatementLaws.{JobFits, StatementFits, labels_named, statement_fits}
 
 -- of two values the one that a test chooses
 pick : {A : Type 0} (P : A → Type 0) (b : Bool) (x y : A) → (b ≡ true → P x) → (b ≡ false → P y) → P (if b then x else y)
@@ -83,15 +80,10 @@ placed_fits base (w ∷ ws) cells h k = let few : base + length (w ∷ ws) ≤ 2
 
 -- a statement's words; it is not past the last address
 made_cells : (base : ℕ) (s : Statement) (a : Assembly) → is_past base s a ≡ false → CellsFit a.cells → CellsFit (made base s a).cells
-made_cells base Nothing a h k = k
-made_cells base (Job u j console) a h k = k
-made_cells base (Equals name value) a h k = k
-made_cells base (Loc to) a h k = k
 made_cells base (Gives (Ok item)) a h k =
     let below : a.layout.location < 2 ^ 18 = grind (arith, nat_tests) in inserted_fits a.layout.location (addressed base a.literals item.literal item.word) a.cells below k
-made_cells base (Gives (Err e)) a h k = k
 made_cells base (Go (Ok start)) a h k = placed_fits base a.literals a.cells h k
-made_cells base (Go (Err e)) a h k = k
+made_cells base _ a h k = k
 
 -- symbols
 defined_fits : (symbols : List (ℕ × ℕ)) (name value : ℕ) → IsNameWord name → value < 2 ^ 18 → All SymbolFits symbols → All SymbolFits (defined symbols name value)
@@ -111,15 +103,10 @@ unfolding labelled
 labelled_fits symbols value labels n v h = labelled_by labels symbols value n v h
 
 equated_fits : (stage : Stage) (s : Statement) (symbols : List (ℕ × ℕ)) → StatementFits stage s → All SymbolFits symbols → All SymbolFits (equated s symbols)
-equated_fits stage Nothing symbols f h = h
-equated_fits stage (Job u j console) symbols f h = h
 equated_fits Begin (Equals name (Ok value)) symbols f h = absurd f
 equated_fits Body (Equals name (Ok value)) symbols f h = defined_fits symbols name value f.0 f.1 h
 equated_fits After (Equals name (Ok value)) symbols f h = absurd f
-equated_fits stage (Equals name (Err e)) symbols f h = h
-equated_fits stage (Loc to) symbols f h = h
-equated_fits stage (Gives item) symbols f h = h
-equated_fits stage (Go start) symbols f h = h
+equated_fits stage _ symbols f h = h
 
 -- names and start
 abbrev NamesFit : Stage → ℕ → ℕ → Option ℕ → Type 0
@@ -176,11 +163,11 @@ record SpokenFits (stage : Stage) (line : Spoken) : Type 0 where
 
 read_fits : (l : Layout) (symbols : List (ℕ × ℕ)) (line : List ℕ) → IfSome (read l symbols line) (SpokenFits l.stage)
 unfolding read
-read_fits l symbols line = pick (λ o. IfSome o (SpokenFits l.stage)) (is_printable line) _ None (λ t. by (statement_at l.stage _ _ _ _) (statement_fits l.stage _ _ _ (words_of line))) (λ f. tt)
+read_fits l symbols line = pick (λ o. IfSome o (SpokenFits l.stage)) (is_printable line) _ None (λ t. by (statement_at l.stage _ _ _ _) (statement_fits l.stage _ _ _ (statement_words line))) (λ f. tt)
   where
-    by : (o : Option Statement) → IfSome o (StatementFits l.stage) → IfSome (with_labels (labels_of (words_of line)) o) (SpokenFits l.stage)
+    by : (o : Option Statement) → IfSome o (StatementFits l.stage) → IfSome (with_labels (labels_of (statement_words line)) o) (SpokenFits l.stage)
     by None h = tt
-    by (Some s) h = record { statement = h; labels = labels_named (words_of line) }
+    by (Some s) h = record { statement = h; labels = labels_named (statement_words line) }
 
 record NoReason (range undef twice full : Bool) : Type 0 where
   pub within : range ≡ false

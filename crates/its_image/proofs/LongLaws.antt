@@ -1,20 +1,17 @@
 -- A line of more than 255 bytes ends a text: neither what stands in it nor what stands behind it counts.
-use Rattle.std.specs.Prelude.{if◌then◌else◌, ◌≡◌, ◌≤◌, ◌<◌, ◌+◌, ◌&&◌, ℕ, Bool, true, false, Option, Some, None, Result, Ok, Err, List, [], ◌∷◌, ◌++◌, length, fold, nat_le, nat_lt, cond, refl}
+use Rattle.std.specs.Prelude.{◌≡◌, ◌≤◌, ◌<◌, ◌+◌, ◌&&◌, ℕ, Bool, true, false, Result, Ok, Err, List, [], ◌∷◌, ◌++◌, length, fold, nat_le, nat_lt, refl}
 use Rattle.std.proofs.Common.{sym, ◌∙◌, ap, arith, inl, inr}
 use Rattle.std.specs.List.{list_all, position_or_len}
 use Rattle.std.proofs.lemmas.Bool.{cases_Bool}
 use Rattle.std.proofs.lemmas.Bool.Decides.{nat_tests}
 use Rattle.std.proofs.lemmas.List.{length-append}
 use Rattle.its_session.specs.Events.{most_lines}
-use Rattle.its_asm.specs.Text.{is_printable, words_of}
+use Rattle.its_asm.specs.Text.{is_printable, statement_words}
 use Rattle.its_asm.specs.Statement.{labels_of}
 use Rattle.its_asm.specs.Layout.{earlier_at, scope_at, statement_at, with_labels, read, labelled, passed_by, laid_by, laid, laid_out, before_all}
 use Rattle.its_asm.specs.declared.layout.Layout.{Layout}
 use Rattle.its_asm.specs.declared.layout.Stage.TheVariants.{After}
 use Rattle.its_asm.specs.Assembly.{Assembly, assembly, from_line, lines_of, nothing_made, onwards, with_line}
-use Rattle.its_asm.specs.declared.assembly.Image.{Image}
-use Rattle.its_asm.specs.declared.reason.AsmFault.{AsmFault}
-use Rattle.its_asm.specs.declared.reason.AsmFault.TheVariants.{Line}
 use Rattle.its_asm.specs.declared.reason.AsmReason.{AsmReason}
 use Rattle.its_asm.specs.declared.reason.AsmReason.TheVariants.{Long}
 use Rattle.its_image.specs.Text.{Assembles, is_long, past_most, runs_past}
@@ -31,7 +28,7 @@ over_words l (w ∷ ws) = refl
 stays_read : (l : Layout) (line : List ℕ) → passed_by (over l) (read (over l) l.symbols line) ≡ over l
 unfolding read
 stays_read l line = elim (cases_Bool (is_printable line)) [
-  | inl t ↦ rw t (over_words l (words_of line))
+  | inl t ↦ rw t (over_words l (statement_words line))
   | inr f ↦ rw f refl
 ]
 

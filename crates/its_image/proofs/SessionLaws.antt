@@ -1,21 +1,20 @@
 -- The session of an image is read as its events, all of them.
-use Rattle.std.specs.Prelude.{if◌then◌else◌, ◌≡◌, ◌≤◌, ◌<◌, ◌+◌, ◌-◌, ◌^◌, ◌==◌, ◌&&◌, ℕ, suc, Bool, true, false, not, Option, Some, None, Result, Ok, Err, List, [], ◌∷◌, ◌++◌, All, length, map, nat_le, nat_lt, refl}
+use Rattle.std.specs.Prelude.{if◌then◌else◌, ◌≡◌, ◌≤◌, ◌<◌, ◌+◌, ◌-◌, ◌^◌, ◌==◌, ◌&&◌, ℕ, suc, Bool, true, false, not, Option, Ok, Err, List, [], ◌∷◌, ◌++◌, All, length, map, nat_le, nat_lt, refl}
 use Rattle.std.proofs.Common.{sym, ◌∙◌, ap, subst, arith, append_assoc}
 use Rattle.std.specs.List.{list_all}
 use Rattle.std.proofs.lemmas.Bool.Decides.{nat_tests}
 use Rattle.std.proofs.lemmas.List.{length-append}
 use Rattle.std.proofs.lemmas.List.Elements.{All-append, All-cons, All-head, All-nil, All-tail}
-use Rattle.its_word.specs.Text.{digits_of, is_code, is_octal, octal_value, spaced}
+use Rattle.its_word.specs.Text.{digits_of, is_code, is_octal, octal_value, spaced, words_of}
 use Rattle.its_word.specs.Item.{Item, Read}
 use Rattle.its_word.specs.declared.session.Event.{Event}
 use Rattle.its_word.specs.declared.session.Event.TheVariants as events
 use Rattle.its_word.specs.declared.session.Place.{Place}
 use Rattle.its_word.specs.declared.session.Place.TheVariants as places
-use Rattle.its_word.specs.declared.session.Bad.{Bad}
 use Rattle.its_word.specs.declared.session.Bad.TheVariants as bads
 use Rattle.its_session.specs.Events.{events_of, item_then, items_from, lines_from, most_lines, place_after, version_after}
 use Rattle.its_session.specs.Fits.{place_of}
-use Rattle.its_session.specs.Grammar.{event_of_words, kind_of, line_event, version_line, words_of}
+use Rattle.its_session.specs.Grammar.{event_of_words, kind_of, line_event, version_line}
 use Rattle.its_session.specs.Writing.{text_of_event}
 use Rattle.its_asm.specs.declared.assembly.Image.{Image}
 use Rattle.its_image.specs.Text.{joined}

@@ -145,11 +145,7 @@ job_fits (first ∷ u ∷ j ∷ c ∷ []) = choose IsJob (bytes_eq first (codes 
     by : (o : Option (Option ℕ)) → IfSome o (λ k. IfSome k (λ n. n ≤ 7)) → IfSome (job_by u j o) IsJob
     by None h = tt
     by (Some k) h = choose IsJob (is_name u) _ None (λ a. choose IsJob (is_name j) _ None (λ b. record { uname = named u a; jname = named j b; console = h }) (λ f. tt)) (λ f. tt)
-job_fits [] = tt
-job_fits (a ∷ []) = tt
-job_fits (a ∷ b ∷ []) = tt
-job_fits (a ∷ b ∷ c ∷ []) = tt
-job_fits (a ∷ b ∷ c ∷ d ∷ e ∷ more) = tt
+job_fits _ = tt
 
 -- a statement that may stand at a stage
 abbrev pub StatementFits : Stage → Statement → Type 0

@@ -146,21 +146,15 @@ source_word c (Immediate v) f = tt
 
 input_word : (c : Core) (x : Arg) → Fine c x → IfSome (input_of c x) (HasWord c)
 input_word c (Input s) f = source_word c s f
-input_word c (Output p) f = tt
-input_word c (ErrorAt p) f = tt
-input_word c (Control s) f = tt
+input_word c _ f = tt
 
 output_stores : (c : Core) (x : Arg) → Fine c x → IfSome (output_of x) (Storable c)
-output_stores c (Input s) f = tt
 output_stores c (Output p) f = f
-output_stores c (ErrorAt p) f = tt
-output_stores c (Control s) f = tt
+output_stores c _ f = tt
 
 error_stores : (c : Core) (x : Arg) → Fine c x → IfSome (error_at_of x) (Storable c)
-error_stores c (Input s) f = tt
-error_stores c (Output p) f = tt
 error_stores c (ErrorAt p) f = f
-error_stores c (Control s) f = tt
+error_stores c _ f = tt
 
 -- 1, 2 or 3 where the decoding has an error
 error_few : (o : Option CallRow) (i n : ℕ) (b : Bool) → error_by o i n b ≤ 3

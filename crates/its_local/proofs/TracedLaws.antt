@@ -56,9 +56,7 @@ unread_storable c p = refl
 pub unread : (k : Kind) (c : Core) (e : ℕ) → (argument_at k c e).reads ≡ []
 unfolding argument_at
 unread kinds.Input c e = unread_also (held c e) _ (unread_held c e) (λ p. refl)
-unread kinds.Immediate c e = refl
 unread kinds.Output c e = unread_also (storable c e) _ (unread_storable c e) (λ p. refl)
 unread kinds.ErrorAt c e = unread_also (storable c e) _ (unread_storable c e) (λ p. refl)
 unread kinds.Control c e = unread_also (held c e) _ (unread_held c e) (λ p. refl)
-unread kinds.ImmediateControl c e = refl
-unread kinds.Other c e = refl
+unread _ c e = refl

@@ -399,9 +399,7 @@ spared_undisturbed w v j k None sound h = record { unwound = free_unwound v k so
 
 by_letter : (w v : State) (j k : ℕ) (p : Pace) → Sound v → Leaves w v j k p → Beside w v j k p
 by_letter w v j k Step sound h = (λ t. spared_undisturbed w v j k (w.raw.jobs k) sound (h.spared t), λ t. free_unwound v k sound (h.free t))
-by_letter w v j k Work sound h = h
-by_letter w v j k Wait sound h = h
-by_letter w v j k Off sound h = h
+by_letter w v j k _ sound h = h
 
 pub tick_beside : (w : State) (j k : ℕ) → Sound w → Forest (plain w) → k ≢ j → Beside w (tick w j).state j k (tick w j).pace
 tick_beside w j k sound forest ne =

@@ -140,13 +140,7 @@ module _ (old mid new : World) (s : ℕ) (p : Pace) (o : Option Frame) (e : o �
 asked_bare : (o : Option Whole) (g : Option Frame) (r : Option ℕ) (f : askeds.Asked) → SoundBy o g r → g ≡ Some (Asked f) → r ≡ None
 asked_bare None g r f h e = absurd (let none = h.0 in cc)
 asked_bare (Some q) (Some (Asked i)) r f h e = h.pays
-asked_bare (Some q) None r f h e = cc
-asked_bare (Some q) (Some (Entered i)) r f h e = cc
-asked_bare (Some q) (Some (Parsed i)) r f h e = cc
-asked_bare (Some q) (Some (Holding i)) r f h e = cc
-asked_bare (Some q) (Some (Waiting i)) r f h e = cc
-asked_bare (Some q) (Some (Moving i)) r f h e = cc
-asked_bare (Some q) (Some (Ending i)) r f h e = cc
+asked_bare (Some q) _ r f h e = cc
 
 pub asked_unreserved : (old mid : World) (s : ℕ) (o : Option Frame) (f : askeds.Asked) → o ≡ frame_at old.frames.items s → o ≡ Some (Asked f) → FrameBecomes old mid s None → Kept old
     → clear_at mid.core s ≡ None
@@ -168,13 +162,7 @@ none_prepared old new s t a j e frame = kept_turn old new s (Some (holding t a N
 held_page : (o : Option Whole) (g : Option Frame) (r : Option ℕ) (f : holdings.Holding) → SoundBy o g r → g ≡ Some (Holding f) → r ≡ f.page
 held_page None g r f h e = absurd (let none = h.0 in cc)
 held_page (Some q) (Some (Holding i)) r f h e = h.pays.page_is ∙ (let same : i ≡ f = cc in ap (λ (x : holdings.Holding). x.page) same)
-held_page (Some q) None r f h e = cc
-held_page (Some q) (Some (Entered i)) r f h e = cc
-held_page (Some q) (Some (Parsed i)) r f h e = cc
-held_page (Some q) (Some (Asked i)) r f h e = cc
-held_page (Some q) (Some (Waiting i)) r f h e = cc
-held_page (Some q) (Some (Moving i)) r f h e = cc
-held_page (Some q) (Some (Ending i)) r f h e = cc
+held_page (Some q) _ r f h e = cc
 
 held_quarter : (w : State) (j : ℕ) (own : Whole) (s : Site) (a : Ask) (page : Option ℕ) (n c : ℕ) → page ≡ Some c → c < 4
     → held_on w j own s a page n ≡ works (reserving (turn w j same (Some (holding s a (Some (c + 1)) n))) j (Some (c + 1)))

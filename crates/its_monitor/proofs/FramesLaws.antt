@@ -99,12 +99,7 @@ tried_pages w j q (Some (frames.Holding g)) h f e t = ap (λ (x : Holding). page
     go None t = refl
     go (Some p) t = held_pages w j q h.ask p (nat_lt p quarters) f t
 tried_pages w j q (Some (frames.Waiting g)) h f e t = ap (λ (a : Ask). pages_tried w j q a f) (let is : (let x : Holding = record { site = g.site; ask = g.ask; page = None; owes = g.owes } in x) ≡ h = cc in ap (λ (x : Holding). x.ask) is)
-tried_pages w j q (Some (frames.Entered g)) h f e t = cc
-tried_pages w j q (Some (frames.Parsed g)) h f e t = cc
-tried_pages w j q (Some (frames.Asked g)) h f e t = cc
-tried_pages w j q (Some (frames.Moving g)) h f e t = cc
-tried_pages w j q (Some (frames.Ending g)) h f e t = cc
-tried_pages w j q None h f e t = cc
+tried_pages w j q _ h f e t = cc
 
 -- the decoding, and a quarter of a page cleared
 all_of : (p : Option Whole) (P : Whole → Type 0) → ((q : Whole) → P q) → IfSome p P

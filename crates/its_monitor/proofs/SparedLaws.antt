@@ -48,11 +48,7 @@ inferior_stays m r i k stays apart e = elim (cases_eq i r) [
 
 channel_stays : (m : Machine) (r k : ℕ) (c : Chan) → is_gone (superiors m) r k ≡ false → superiors m r ≢ Some k → OnInferior m k c → chan_left (is_gone (superiors m) r) c ≡ c
 channel_stays m r k (On i write at) stays apart on = ap (λ (b : Bool). if b then Shut else On i write at) (inferior_stays m r i k stays apart on)
-channel_stays m r k Shut stays apart on = refl
-channel_stays m r k TtyIn stays apart on = refl
-channel_stays m r k TtyOut stays apart on = refl
-channel_stays m r k (Reads f at) stays apart on = refl
-channel_stays m r k (Writes f) stays apart on = refl
+channel_stays m r k _ stays apart on = refl
 
 job_stays : (m : Machine) (r k : ℕ) → Forest m → is_gone (superiors m) r k ≡ false → superiors m r ≢ Some k
     → left_job (is_gone (superiors m) r) (is_gone (superiors m) r k) (m.jobs k) ≡ m.jobs k
@@ -84,11 +80,6 @@ removed_same j u v s k f h apart forest e ne fr =
 effect_same : (c : Change) (j : ℕ) (u v : State) (k : ℕ) (f : Frame) → Quiet c j u → Fits c j (plain v) → Forest (plain v) → u.raw ≡ v.raw → k ≢ j → u.frames k ≡ Some f
     → (effect_on c j v).raw.jobs k ≡ v.raw.jobs k
 unfolding effect_on effect
-effect_same (changes.Open n on) j u v k f h fits forest e ne fr = on_slot_other v.raw.jobs j k _ ne
-effect_same (changes.Shut n) j u v k f h fits forest e ne fr = on_slot_other v.raw.jobs j k _ ne
-effect_same (changes.Move n at) j u v k f h fits forest e ne fr = on_slot_other v.raw.jobs j k _ ne
-effect_same (changes.Append n x) j u v k f h fits forest e ne fr = on_slot_other v.raw.jobs j k _ ne
-effect_same (changes.Close n) j u v k f h fits forest e ne fr = on_slot_other v.raw.jobs j k _ ne
 effect_same (changes.Take c) j u v k f h fits forest e ne fr = refl
 effect_same (changes.Put c b) j u v k f h fits forest e ne fr = refl
 effect_same (changes.Hold c s) j u v k f h fits forest e ne fr = refl
@@ -105,6 +96,7 @@ effect_same (changes.Inform s) j u v k f h fits forest e ne fr = on_slot_other v
 effect_same (changes.Arm alarm) j u v k f h fits forest e ne fr = on_slot_other v.raw.jobs j k (with_alarm alarm) ne
 effect_same (changes.Delete d x y) j u v k f h fits forest e ne fr = refl
 effect_same (changes.Rename d x y a b) j u v k f h fits forest e ne fr = refl
+effect_same _ j u v k f h fits forest e ne fr = on_slot_other v.raw.jobs j k _ ne
 
 -- what a change makes of the raw machine hangs on that alone
 raw_on : (c : Change) (j : ℕ) (u v : State) → u.raw ≡ v.raw → (effect_on c j u).raw ≡ (effect_on c j v).raw
@@ -168,11 +160,6 @@ left_inferior j gone false (Some q) x = x
 
 effect_inferior : (c : Change) (j : ℕ) (v : State) (k : ℕ) → InferiorOf j (v.raw.jobs k) → InferiorOf j ((effect_on c j v).raw.jobs k)
 unfolding effect_on effect removed
-effect_inferior (changes.Open n on) j v k x = slot_inferior v.raw.jobs j j k _ (λ q. refl) x
-effect_inferior (changes.Shut n) j v k x = slot_inferior v.raw.jobs j j k _ (λ q. refl) x
-effect_inferior (changes.Move n at) j v k x = slot_inferior v.raw.jobs j j k _ (λ q. refl) x
-effect_inferior (changes.Append n w) j v k x = slot_inferior v.raw.jobs j j k _ (λ q. refl) x
-effect_inferior (changes.Close n) j v k x = slot_inferior v.raw.jobs j j k _ (λ q. refl) x
 effect_inferior (changes.Take c) j v k x = x
 effect_inferior (changes.Put c b) j v k x = x
 effect_inferior (changes.Hold c s) j v k x = x
@@ -184,9 +171,9 @@ effect_inferior (changes.Protect s p b) j v k x = slot_inferior v.raw.jobs j s k
 effect_inferior (changes.Make s u n) j v k x = made_inferior v.raw.jobs j s k u n x
 effect_inferior (changes.Remove s) j v k x = left_inferior j (is_gone (superiors v.raw) s) (is_gone (superiors v.raw) s k) (v.raw.jobs k) x
 effect_inferior (changes.Inform s) j v k x = slot_inferior v.raw.jobs j s k _ (λ q. refl) x
-effect_inferior (changes.Arm alarm) j v k x = slot_inferior v.raw.jobs j j k _ (λ q. refl) x
 effect_inferior (changes.Delete d a b) j v k x = x
 effect_inferior (changes.Rename d a b y z) j v k x = x
+effect_inferior _ j v k x = slot_inferior v.raw.jobs j j k _ (λ q. refl) x
 
 pub effects_inferior : (cs : List Change) (j : ℕ) (v : State) (k : ℕ) → InferiorOf j (v.raw.jobs k) → InferiorOf j ((effects_on cs j v).raw.jobs k)
 effects_inferior [] j v k x = x

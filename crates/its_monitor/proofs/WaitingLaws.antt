@@ -64,13 +64,7 @@ record IsWaiting (o : Option Frame) : Type 0 where
 
 waiting_of : (o : Option Frame) → is_waiting o ≡ true → IsWaiting o
 waiting_of (Some (frames.Waiting f)) h = record { frame = f; is = refl }
-waiting_of (Some (frames.Entered f)) h = absurd cc
-waiting_of (Some (frames.Parsed f)) h = absurd cc
-waiting_of (Some (frames.Asked f)) h = absurd cc
-waiting_of (Some (frames.Holding f)) h = absurd cc
-waiting_of (Some (frames.Moving f)) h = absurd cc
-waiting_of (Some (frames.Ending f)) h = absurd cc
-waiting_of None h = absurd cc
+waiting_of _ h = absurd cc
 
 -- a call that waits reaches no job, and its tick leaves the pages where they are
 no_target : (m : Machine) (j : ℕ) (q : Whole) (a : Ask) (r : Wait) (o : Option ℕ) → IsWaitable (call_named a.name) → decision m j q a ≡ Waits r → target q a ≡ o → o ≡ None
@@ -153,9 +147,7 @@ pages_blocked w s kept b =
 -- a call that was found not ready, and waits again, stands in the ring of its reason
 tried_waits : (w v : State) (j : ℕ) (s : Site) (a : Ask) (n : ℕ) (d : Decision) → (tried w v j s a n d).pace ≡ Waited → (r : Wait) × (d ≡ Waits r)
 tried_waits w v j s a n (Waits r) e = (r, refl)
-tried_waits w v j s a n (Goes cs h vs) e = absurd cc
-tried_waits w v j s a n (Ends cs ss x) e = absurd cc
-tried_waits w v j s a n (Gone cs) e = absurd cc
+tried_waits w v j s a n _ e = absurd cc
 
 waits_by : (w : World) (s : ℕ) (f : Waiting) (o : Option Job) → Kept w → job_at w.jobs s ≡ o → frame_at w.frames.items s ≡ Some (frames.Waiting f) → (tick (state_of w) s).pace ≡ Waited → Blocked w s
 waits_by w s f (Some j) kept job fr e =

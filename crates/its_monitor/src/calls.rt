@@ -1,5 +1,5 @@
 //! Ticks of a job inside a call: its decoding in two steps, its preparation, its trials, and what it owes.
-ghost use Rattle.std.specs.Prelude.{if◌then◌else◌, ◌≡◌, ◌≤◌, ◌<◌, ◌+◌, ◌^◌, Some, None, IfSome, is_some, true, length};
+ghost use Rattle.std.specs.Prelude.{if◌then◌else◌, ◌≡◌, ◌≤◌, ◌<◌, ◌+◌, Some, None, IfSome, is_some, true, length};
 ghost use Rattle.its_word.specs.Limits.{slots};
 ghost use Rattle.its_core.specs.Cores.{clear_at};
 ghost use Rattle.its_jobs.specs.Table.{job_at};
@@ -11,10 +11,9 @@ ghost use Rattle.its_plain.specs.Ask.{fetch as fetched_by, parse as parsed_by};
 ghost use Rattle.its_plain.specs.CallStep.{decision, faulted};
 ghost use Rattle.its_plain.specs.Decide.{reach};
 ghost use Rattle.its_plain.specs.Footprint.{SiteFits};
-ghost use Rattle.its_plain.specs.Job.{bit_of};
 ghost use Rattle.its_stepped.specs.Forest.{Forest};
 ghost use Rattle.its_stepped.specs.Duty.{IsTried};
-ghost use Rattle.its_stepped.specs.State.{holding, same, turn};
+ghost use Rattle.its_stepped.specs.State.{holding, turn};
 ghost use Rattle.its_stepped.specs.Tick.{fetched_on, helped_if, helps, parsed_on, prepared_on, reserves, tick_in};
 ghost use Rattle.its_stepped.specs.Unwind.{all_unwound, help, unwind_one as unwind_one_of};
 ghost use Rattle.its_world.specs.World.{frame_at, frames_after, raw_at, state_of, FrameBecomes, PageBecomes};
@@ -166,7 +165,7 @@ fn prepare(w: &mut World, slot: u8, f: Asked) -> Pace
 }
 
 /// Reserves a page for a slot, none of whose quarters is clear.
-#[tactic(auto, using(its_operator::proofs::PageLaws::clear_unreserved))]
+#[tactic(auto, using(its_core::proofs::ZeroLaws::clear_unreserved))]
 fn reserve(w: &mut World, slot: u8)
     requires slot { slot < slots }
     requires none { clear_at w.old.core slot ≡ None }

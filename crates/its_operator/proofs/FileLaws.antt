@@ -41,7 +41,8 @@ use Rattle.its_world.proofs.MarkLaws.{none_marked, mark_none, made_none, help_st
 use Rattle.its_parts.proofs.StoreLaws.{found_named, has_named, found_self}
 use Rattle.its_pclsr.proofs.PartLaws.{store_state, store_tidy}
 use Rattle.its_world.proofs.StorageLaws.{files_are, chans_are, marks_are}
-use Rattle.its_operator.specs.Kept.{Kept, Lands, Helped, FileRefused, reason_of}
+use Rattle.its_word.specs.Refusals.{reason_of}
+use Rattle.its_operator.specs.Kept.{Kept, Lands, Helped, FileRefused}
 use Rattle.its_operator.proofs.KeptLaws.{alike_kept, error_is, Made, made_sound, made_plain, made_forest, made_timed, made_alarmed}
 use Rattle.its_operator.proofs.LoadLaws.{and_ok}
 use Rattle.its_operator.proofs.StartLaws.{quiet_by}

@@ -31,7 +31,8 @@ use Rattle.its_stepped.proofs.WrittenLaws.{line_forest}
 use Rattle.its_world.specs.World.{state_of, with_frames, CoreBecomes, JobBecomes}
 use Rattle.its_world.specs.Tidy.{Tidy}
 use Rattle.its_world.specs.declared.world.World.{World}
-use Rattle.its_operator.specs.Kept.{Kept, Refused, Calm, Calmed, reason_of}
+use Rattle.its_word.specs.Refusals.{reason_of}
+use Rattle.its_operator.specs.Kept.{Kept, Refused, Calm, Calmed}
 use Rattle.its_world.proofs.StateLaws.{job_of, frames_state}
 use Rattle.its_world.proofs.MappedLaws.{frames_tidy}
 use Rattle.its_pclsr.specs.Apart.{CoresOff}

@@ -29,7 +29,8 @@ use Rattle.its_world.specs.declared.world.World.{World}
 use Rattle.its_world.proofs.MappedLaws.{core_raw, mapped_raw}
 use Rattle.its_world.proofs.StateLaws.{raw_job, job_of, frames_state}
 use Rattle.its_world.proofs.WorldLaws.{frames_still}
-use Rattle.its_operator.specs.Kept.{Kept, Lands, Refused, Calmed, reason_of, unloadable, frames_loaded}
+use Rattle.its_word.specs.Refusals.{reason_of}
+use Rattle.its_operator.specs.Kept.{Kept, Lands, Refused, Calmed, unloadable, frames_loaded}
 use Rattle.its_operator.proofs.KeptLaws.{refused_by, frames_kept, Made, made_plain, Lasts, kept_lasts}
 use Rattle.its_operator.proofs.RegisterLaws.{raw_is, raw_is_none, disturbed, block_of}
 use Rattle.its_operator.proofs.WordLaws.{core_lands, core_lasts, core_kept}

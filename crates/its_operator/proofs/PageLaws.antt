@@ -1,46 +1,14 @@
 -- A page of zeros that is made: it is reserved and cleared, and then mapped. So it has the first of the free frames.
-use Rattle.std.specs.Prelude.{◌≡◌, ◌≤◌, ◌/◌, ◌%◌, ℕ, true, false, Option, Some, None, option_map, is_some, nat_lt, refl}
-use Rattle.std.proofs.Common.{sym, ◌∙◌, ap, arith, inl, inr}
-use Rattle.std.proofs.lemmas.Bool.{cases_eq}
-use Rattle.std.proofs.lemmas.Bool.Decides.{nat_tests}
+use Rattle.std.specs.Prelude.{◌≡◌, ℕ, refl}
+use Rattle.std.proofs.Common.{sym, ◌∙◌, ap}
 use Rattle.its_word.specs.Only.{Only, Same}
-use Rattle.its_word.specs.Core.{Core, page_of, can_store, store, with_page, zero_page}
-use Rattle.its_word.proofs.PageLaws.{get-copies}
-use Rattle.its_core.specs.Cores.{Cores, Reserved, core_at, reserved_at, clear_at}
-use Rattle.its_core.proofs.CoresLaws.{same_core_at}
+use Rattle.its_word.specs.Core.{Core, store}
+use Rattle.its_core.specs.Cores.{core_at, reserved_at, clear_at}
 use Rattle.its_jobs.specs.Table.{job_at}
 use Rattle.its_world.proofs.PlaceLaws.{ringed_alike}
 use Rattle.its_world.specs.World.{frame_at, with_frames, CoreBecomes}
 use Rattle.its_world.specs.declared.world.World.{World}
 use Rattle.its_world.proofs.WorldLaws.{alike, frames_still}
-
-unreserved_by : (o : Option Reserved) → option_map (λ x. x.clear) o ≡ None → o ≡ None
-unreserved_by (Some x) h = cc
-unreserved_by None h = refl
-
-pub clear_unreserved : (c : Cores) (s : ℕ) → clear_at c s ≡ None → reserved_at c s ≡ None
-clear_unreserved c s h = unreserved_by (reserved_at c s) h
-
-pub zero_stores : (c : Core) (a : ℕ) → 16 ≤ a → page_of c (a / 1024) ≡ Some zero_page → can_store c a ≡ true
-unfolding can_store zero_page
-zero_stores c a l h =
-    let t : nat_lt a 16 ≡ false = grind (arith, nat_tests) in
-    rw (t, h) (ap is_some (get-copies 1024 (a % 1024) 0 (omega arith)))
-
-pub mapped_cores : (a b c : Cores) (s k : ℕ) → b.cores ≡ a.cores → Only (core_at b) (core_at c) s (with_page (core_at b s) k (Some zero_page))
-    → Only (core_at a) (core_at c) s (with_page (core_at a s) k (Some zero_page))
-mapped_cores a b c s k e o = record {
-  here = o.here ∙ ap (λ x. with_page x k (Some zero_page)) (same_core_at b a s e);
-  others = λ i n. o.others i n ∙ same_core_at b a i e;
-}
-
-pub mapped_clear : (a b c : Cores) (s : ℕ) → clear_at a s ≡ None → Only (clear_at a) (clear_at b) s (Some 4) → Only (clear_at b) (clear_at c) s None → Same (clear_at a) (clear_at c)
-mapped_clear a b c s n e o = record {
-  each = λ k. elim (cases_eq k s) [
-    | inl i ↦ rw i (o.here ∙ sym n)
-    | inr i ↦ o.others k i ∙ e.others k i
-  ];
-}
 
 -- where the frames of pages were as they are, the core of its slot alone would be another
 pub page_becomes : (old new : World) (s : ℕ) (c : Core) → Only (core_at old.core) (core_at new.core) s c → Same (clear_at old.core) (clear_at new.core)

@@ -1,6 +1,6 @@
 -- RO, and the words of a LOAD block that are on read-only pages.
-use Rattle.std.specs.Prelude.{◌≡◌, ◌≢◌, ◌≤◌, ◌<◌, ◌+◌, ◌-◌, ◌&&◌, ◌||◌, not, ℕ, suc, Bool, true, false, Option, Some, None, [], Ok, Err, is_some, refl}
-use Rattle.std.proofs.Common.{sym, ◌∙◌, ap, arith}
+use Rattle.std.specs.Prelude.{◌≡◌, ◌≢◌, ◌-◌, ◌&&◌, not, ℕ, Bool, true, false, Option, Some, None, [], Ok, Err, is_some, refl}
+use Rattle.std.proofs.Common.{sym, ◌∙◌, ap}
 use Rattle.its_word.specs.Core.{Core, Page, word_at, can_store, page_of, with_page, marked}
 use Rattle.its_word.specs.Stores.{refusal, refused}
 use Rattle.its_word.specs.declared.access.Fault.{Fault}
@@ -24,7 +24,8 @@ use Rattle.its_stepped.proofs.UnwindLaws.{unwound_plain}
 use Rattle.its_world.specs.World.{alarm_at, state_of, CoreBecomes}
 use Rattle.its_world.specs.declared.world.World.{World}
 use Rattle.its_world.proofs.StateLaws.{raw_job, job_of}
-use Rattle.its_operator.specs.Kept.{Kept, Lands, Refused, Calmed, reason_of}
+use Rattle.its_word.specs.Refusals.{reason_of}
+use Rattle.its_operator.specs.Kept.{Kept, Lands, Refused, Calmed}
 use Rattle.its_operator.proofs.KeptLaws.{refused_by, Made, made_plain, Lasts, kept_lasts}
 use Rattle.its_operator.proofs.RegisterLaws.{raw_is, raw_is_none, disturbed, block_of}
 use Rattle.its_operator.proofs.WordLaws.{core_lands, core_lasts, core_kept}
@@ -146,33 +147,6 @@ barred_free c a h = go (can_store c a) (word_at c a) h
     go true None e = refl
     go false (Some v) e = cc
     go false None e = cc
-
--- n words of which the first k are on no such page
-pub any_start : (c : Core) (a n : ℕ) → any_barred c (a + 0) (n - 0) ≡ any_barred c a n
-any_start c a n = let e : a + 0 ≡ a = omega arith in let f : n - 0 ≡ n = omega arith in ap (λ i. any_barred c i (n - 0)) e ∙ ap (any_barred c a) f
-
-any_more : (c : Core) (a n : ℕ) → any_barred c a (suc n) ≡ (is_barred c a || any_barred c (a + 1) n)
-unfolding any_barred
-any_more c a n = refl
-
-any_after : (c : Core) (a n k : ℕ) → k < n → any_barred c (a + k) (n - k) ≡ (is_barred c (a + k) || any_barred c (a + (k + 1)) (n - (k + 1)))
-any_after c a n k l =
-    let e : n - k ≡ suc (n - (k + 1)) = omega arith in
-    let f : a + k + 1 ≡ a + (k + 1) = omega arith in
-    ap (any_barred c (a + k)) e ∙ any_more c (a + k) (n - (k + 1)) ∙ ap (λ i. is_barred c (a + k) || any_barred c i (n - (k + 1))) f
-
-pub any_here : (c : Core) (a n k : ℕ) → k < n → is_barred c (a + k) ≡ true → any_barred c (a + k) (n - k) ≡ true
-any_here c a n k l h = any_after c a n k l ∙ ap (λ b. b || any_barred c (a + (k + 1)) (n - (k + 1))) h
-
-pub any_next : (c : Core) (a n k : ℕ) → k < n → is_barred c (a + k) ≡ false → any_barred c (a + (k + 1)) (n - (k + 1)) ≡ any_barred c (a + k) (n - k)
-any_next c a n k l h = sym (any_after c a n k l ∙ ap (λ b. b || any_barred c (a + (k + 1)) (n - (k + 1))) h)
-
-none_more : (c : Core) (a : ℕ) → any_barred c a 0 ≡ false
-unfolding any_barred
-none_more c a = refl
-
-pub any_end : (c : Core) (a n k : ℕ) → n ≤ k → any_barred c (a + k) (n - k) ≡ false
-any_end c a n k l = let e : n - k ≡ 0 = omega arith in ap (any_barred c (a + k)) e ∙ none_more c (a + k)
 
 -- of the raw machine of a world, and so of the one that the line finds and of the plain one
 raw_some : (w : World) (s a n : ℕ) (b : Bool) → is_some (job_at w.jobs s) ≡ true → b ≡ any_barred (core_at w.core s) a n → b ≡ words_barred (state_of w).raw s a n

@@ -27,7 +27,8 @@ use Rattle.its_world.specs.declared.world.World.{World}
 use Rattle.its_parts.proofs.AcrossLaws.{across_table}
 use Rattle.its_parts.proofs.VersionLaws.{second, same_version}
 use Rattle.its_world.proofs.StateLaws.{state_is, job_of, changed_at, raw_same}
-use Rattle.its_operator.specs.Kept.{Kept, Lands, Refused, reason_of}
+use Rattle.its_word.specs.Refusals.{reason_of}
+use Rattle.its_operator.specs.Kept.{Kept, Lands, Refused}
 use Rattle.its_operator.proofs.KeptLaws.{error_is, Made, made_sound, made_plain, made_forest, made_timed, made_alarmed}
 use Rattle.its_operator.proofs.RegisterLaws.{raw_is, raw_is_none, block_of}
 use Rattle.its_operator.proofs.StartLaws.{quiet_by}

@@ -33,7 +33,7 @@ use Rattle.its_stepped.proofs.ConsoledLaws.{raw_consoled}
 use Rattle.its_stepped.proofs.WaitLaws.{blocked_so}
 use Rattle.its_world.specs.World.{chan_of, alarm_at, frame_at, state_of}
 use Rattle.its_world.specs.Rings.{wait_rings, ring_of, awake_of, console_in, place_at, mark, StandsIn}
-use Rattle.its_world.specs.Filed.{kind_of, channel_of, reason_of, if_within, place_for, place_by, doors_of, place_of, Ringed}
+use Rattle.its_world.specs.Filed.{kind_of, channel_of, wait_reason, if_within, place_for, place_by, doors_of, place_of, Ringed}
 use Rattle.its_world.specs.declared.world.World.{World}
 use Rattle.its_world.proofs.StateLaws.{raw_job, raw_some, raw_none}
 use Rattle.its_world.proofs.StorageLaws.{frame_is}
@@ -83,30 +83,11 @@ ring_within (Drained c) l = omega arith
 -- two reasons have two rings
 ring_same : (r s : Wait) → console_in r < 8 → console_in s < 8 → ring_of r ≡ ring_of s → r ≡ s
 ring_same Hang Hang l m e = refl
-ring_same Hang Clock l m e = absurd (omega arith)
-ring_same Hang (Input d) l m e = absurd (omega arith)
-ring_same Hang (Output d) l m e = absurd (omega arith)
-ring_same Hang (Drained d) l m e = absurd (omega arith)
-ring_same Clock Hang l m e = absurd (omega arith)
 ring_same Clock Clock l m e = refl
-ring_same Clock (Input d) l m e = absurd (omega arith)
-ring_same Clock (Output d) l m e = absurd (omega arith)
-ring_same Clock (Drained d) l m e = absurd (omega arith)
-ring_same (Input c) Hang l m e = absurd (omega arith)
-ring_same (Input c) Clock l m e = absurd (omega arith)
 ring_same (Input c) (Input d) l m e = ap Input (omega arith)
-ring_same (Input c) (Output d) l m e = absurd (omega arith)
-ring_same (Input c) (Drained d) l m e = absurd (omega arith)
-ring_same (Output c) Hang l m e = absurd (omega arith)
-ring_same (Output c) Clock l m e = absurd (omega arith)
-ring_same (Output c) (Input d) l m e = absurd (omega arith)
 ring_same (Output c) (Output d) l m e = ap Output (omega arith)
-ring_same (Output c) (Drained d) l m e = absurd (omega arith)
-ring_same (Drained c) Hang l m e = absurd (omega arith)
-ring_same (Drained c) Clock l m e = absurd (omega arith)
-ring_same (Drained c) (Input d) l m e = absurd (omega arith)
-ring_same (Drained c) (Output d) l m e = absurd (omega arith)
 ring_same (Drained c) (Drained d) l m e = ap Drained (omega arith)
+ring_same _ _ l m e = absurd (omega arith)
 
 pub held_place : (r : Wait) (b : Bool) (g : ℕ) → place_at r b ≡ Some g → g < wait_rings → (b ≡ true) × (ring_of r ≡ g)
 held_place r true g e l = (refl, cc)
@@ -143,17 +124,15 @@ shut_as i c (Some n) t f l = shut_named i c n t f l
 shut_as i c None t f l = refl
 
 kind_reason : (s : Store) (i : ℕ) (x : Channel) (o : Option CallName) → reason_by i (kind_of x) o ≡ reason_by i (chan_of s x) o
-kind_reason s i channels.Closed o = refl
-kind_reason s i channels.TtyIn o = refl
-kind_reason s i channels.TtyOut o = refl
 kind_reason s i (channels.Reading f at) o = sym (shut_as i (chan_of s (channels.Reading f at)) o refl refl refl)
 kind_reason s i (channels.Writing d) o = sym (shut_as i (chan_of s (channels.Writing d)) o refl refl refl)
 kind_reason s i (channels.Usr k w at) o = sym (shut_as i (On k w at) o refl refl refl)
+kind_reason s i _ o = refl
 
 kind_at : (s : Store) (j : Job) (n : ℕ) → chan_of s (channel_of j n) ≡ channel_at (λ m. chan_of s (slice_index_or j.channels m channels.Closed)) n
 kind_at s j n = elim (cases_Bool (nat_lt n 16)) [ inl t ↦ rw t refl | inr t ↦ rw t refl ]
 
-reason_raw : (w : World) (s : ℕ) (j : Job) (a : Ask) → reason_of (Some j) a ≡ reason_in (raw_job w.files (core_at w.core s) j (superior_at w.jobs s) (alarm_at w.alarms.items s)) a
+reason_raw : (w : World) (s : ℕ) (j : Job) (a : Ask) → wait_reason (Some j) a ≡ reason_in (raw_job w.files (core_at w.core s) j (superior_at w.jobs s) (alarm_at w.alarms.items s)) a
 reason_raw w s j a =
     let i = unwrap_or j.console 0 in
     kind_reason w.files i (channel_of j (input a 0)) (call_named a.name) ∙ ap (λ c. reason_by i c (call_named a.name)) (kind_at w.files j (input a 0))
@@ -166,7 +145,7 @@ doors_plain : (w : World) → doors (plain (state_of w)) ≡ doors_of w
 unfolding plain state_of
 doors_plain w = refl
 
-place_waiting : (w : World) (s : ℕ) (f : Waiting) (o : Option Job) → job_at w.jobs s ≡ o → frame_at w.frames.items s ≡ Some (frames.Waiting f) → place_of w s ≡ place_for (doors_of w) s (input f.ask 0) (reason_of o f.ask)
+place_waiting : (w : World) (s : ℕ) (f : Waiting) (o : Option Job) → job_at w.jobs s ≡ o → frame_at w.frames.items s ≡ Some (frames.Waiting f) → place_of w s ≡ place_for (doors_of w) s (input f.ask 0) (wait_reason o f.ask)
 unfolding place_of
 place_waiting w s f o job fr = λ t. place_by (doors_of w) s (job t) (fr t)
 
@@ -189,11 +168,11 @@ pub record Placed (w : World) (k g : ℕ) : Type 0 where
   pub reason : Wait
   pub in_job : job_at w.jobs k ≡ Some job
   pub in_frame : frame_at w.frames.items k ≡ Some (frames.Waiting frame)
-  pub can_wait : reason_of (Some job) frame.ask ≡ Some reason
+  pub can_wait : wait_reason (Some job) frame.ask ≡ Some reason
   pub within : console_in reason < 8
   pub at : place_at reason (held_up (doors_of w) k (input frame.ask 0) reason) ≡ Some g
 
-placed_if : (w : World) (k g : ℕ) (j : Job) (f : Waiting) (r : Wait) (t : Bool) → job_at w.jobs k ≡ Some j → frame_at w.frames.items k ≡ Some (frames.Waiting f) → reason_of (Some j) f.ask ≡ Some r
+placed_if : (w : World) (k g : ℕ) (j : Job) (f : Waiting) (r : Wait) (t : Bool) → job_at w.jobs k ≡ Some j → frame_at w.frames.items k ≡ Some (frames.Waiting f) → wait_reason (Some j) f.ask ≡ Some r
     → nat_lt (console_in r) 8 ≡ t → if_within t (place_at r (held_up (doors_of w) k (input f.ask 0) r)) ≡ Some g → Placed w k g
 placed_if w k g j f r true job fr is less e = record {
   job = j;
@@ -207,21 +186,15 @@ placed_if w k g j f r true job fr is less e = record {
 }
 placed_if w k g j f r false job fr is less e = absurd cc
 
-placed_for : (w : World) (k g : ℕ) (j : Job) (f : Waiting) (o : Option Wait) → job_at w.jobs k ≡ Some j → frame_at w.frames.items k ≡ Some (frames.Waiting f) → reason_of (Some j) f.ask ≡ o
+placed_for : (w : World) (k g : ℕ) (j : Job) (f : Waiting) (o : Option Wait) → job_at w.jobs k ≡ Some j → frame_at w.frames.items k ≡ Some (frames.Waiting f) → wait_reason (Some j) f.ask ≡ o
     → place_for (doors_of w) k (input f.ask 0) o ≡ Some g → Placed w k g
 placed_for w k g j f (Some r) job fr is e = placed_if w k g j f r (nat_lt (console_in r) 8) job fr is refl e
 placed_for w k g j f None job fr is e = absurd cc
 
 placed_by : (w : World) (k g : ℕ) (o : Option Job) (p : Option Frame) → job_at w.jobs k ≡ o → frame_at w.frames.items k ≡ p → (o ≡ None → p ≡ None) → place_by (doors_of w) k o p ≡ Some g → Placed w k g
-placed_by w k g o None job fr bare e = absurd cc
-placed_by w k g o (Some (frames.Entered f)) job fr bare e = absurd cc
-placed_by w k g o (Some (frames.Parsed f)) job fr bare e = absurd cc
-placed_by w k g o (Some (frames.Asked f)) job fr bare e = absurd cc
-placed_by w k g o (Some (frames.Holding f)) job fr bare e = absurd cc
-placed_by w k g o (Some (frames.Moving f)) job fr bare e = absurd cc
-placed_by w k g o (Some (frames.Ending f)) job fr bare e = absurd cc
-placed_by w k g (Some j) (Some (frames.Waiting f)) job fr bare e = placed_for w k g j f (reason_of (Some j) f.ask) job fr refl e
+placed_by w k g (Some j) (Some (frames.Waiting f)) job fr bare e = placed_for w k g j f (wait_reason (Some j) f.ask) job fr refl e
 placed_by w k g None (Some (frames.Waiting f)) job fr bare e = let n = bare refl in absurd cc
+placed_by w k g o _ job fr bare e = absurd cc
 
 -- a slot without a job has no frame
 pub frame_none : (w : World) (k : ℕ) → Sound (state_of w) → job_at w.jobs k ≡ None → frame_at w.frames.items k ≡ None
@@ -243,7 +216,7 @@ plain_none v k e = ap (option_map (seen (v.frames k))) e
 
 -- the call of a slot whose reason holds waits for it
 pub waits_decided : (w : World) (k : ℕ) (j : Job) (f : Waiting) (r : Wait) → Sound (state_of w) → job_at w.jobs k ≡ Some j → frame_at w.frames.items k ≡ Some (frames.Waiting f)
-    → reason_of (Some j) f.ask ≡ Some r → held_up (doors_of w) k (input f.ask 0) r ≡ true
+    → wait_reason (Some j) f.ask ≡ Some r → held_up (doors_of w) k (input f.ask 0) r ≡ true
     → decision (plain (state_of w)) k (seen (Some (frames.Waiting f)) (raw_job w.files (core_at w.core k) j (superior_at w.jobs k) (alarm_at w.alarms.items k))) f.ask ≡ Waits r
 waits_decided w k j f r sound job fr is holds =
     let q : Whole = raw_job w.files (core_at w.core k) j (superior_at w.jobs k) (alarm_at w.alarms.items k) in
@@ -297,7 +270,7 @@ waits_place w s j f r sound job fr d housed =
     let k = sound_at (state_of w) s q (frames.Waiting f) sound (raw_is w s j job) (frame_is w s ∙ fr) in
     let b = blocked_so (plain (state_of w)) s (seen (Some (frames.Waiting f)) q) f.ask r k.pays.waitable d in
     let raw : reason_in q f.ask ≡ Some r = reason_seen q f ∙ b.reason in
-    let is : reason_of (Some j) f.ask ≡ Some r = reason_raw w s j f.ask ∙ raw in
+    let is : wait_reason (Some j) f.ask ≡ Some r = reason_raw w s j f.ask ∙ raw in
     let fits : console_in r < 8 = reason_fits (unwrap_or j.console 0) (channel_at q.channels (input f.ask 0)) (call_named f.ask.name) r (console_fits j.console housed) raw in
     let holds : held_up (doors_of w) s (input f.ask 0) r ≡ true = subst (λ (d : Doors). held_up d s (input f.ask 0) r ≡ true) (doors_plain w) b.holds in
     let there : nat_lt (console_in r) 8 ≡ true = grind (arith, nat_tests) in (
@@ -374,7 +347,7 @@ can_at w k c x (Some j) sound l job fr =
     let r = x.reason in
     let a = awake_console r c x.at_console in
     let same : x.job ≡ seen (Some (frames.Waiting f)) q = some_same ((plain (state_of w)).jobs k) _ _ x.there (plain_job w k j f job fr) in
-    let is : reason_of (Some j) f.ask ≡ Some r = reason_raw w k j f.ask ∙ reason_seen q f ∙ ap (λ p. reason_in p f.ask) (sym same) ∙ x.can_wait in
+    let is : wait_reason (Some j) f.ask ≡ Some r = reason_raw w k j f.ask ∙ reason_seen q f ∙ ap (λ p. reason_in p f.ask) (sym same) ∙ x.can_wait in
     let there : nat_lt (console_in r) 8 ≡ true = ap (λ c. nat_lt c 8) a.1 ∙ (let t : nat_lt c 8 ≡ true = grind (arith, nat_tests) in t) in
     let place = place_waiting w k f (Some j) job fr ∙ ap (place_for (doors_of w) k n) is ∙ ap (λ t. if_within t (place_at r (held_up (doors_of w) k n r))) there in
     elim (cases_Bool (held_up (doors_of w) k n r)) [

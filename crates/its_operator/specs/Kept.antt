@@ -15,7 +15,8 @@ use Rattle.its_stepped.specs.Alarmed.{Alarmed}
 use Rattle.its_stepped.specs.Forest.{Forest}
 use Rattle.its_stepped.specs.Lines.{with_raw}
 use Rattle.its_stepped.specs.Unwind.{unwound, help}
-pub use Rattle.its_parts.specs.Refusals.{reason_of, refusal_of}
+use Rattle.its_word.specs.Refusals.{reason_of}
+pub use Rattle.its_parts.specs.Refusals.{refusal_of}
 use Rattle.its_world.specs.Filed.{Ringed}
 use Rattle.its_world.specs.World.{state_of}
 use Rattle.its_pclsr.specs.Apart.{CoresOff}

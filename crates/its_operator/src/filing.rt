@@ -7,7 +7,8 @@ ghost use Rattle.its_stepped.specs.State.{plain};
 ghost use Rattle.its_stepped.specs.Unwind.{help};
 ghost use Rattle.its_world.specs.World.{state_of};
 ghost use Rattle.its_world.specs.Tidy.{Tidy};
-ghost use Rattle.its_operator.specs.Kept.{Kept, Lands, Helped, FileRefused, CloseMade, reason_of};
+ghost use Rattle.its_word.specs.Refusals.{reason_of};
+ghost use Rattle.its_operator.specs.Kept.{Kept, Lands, Helped, FileRefused, CloseMade};
 ghost use Rattle.its_operator.specs.Filing.{word_if, length_if};
 
 use its_word::{FileShow, Refusal, Word};

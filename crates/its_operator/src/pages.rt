@@ -1,4 +1,4 @@
-ghost use Rattle.std.specs.Prelude.{◌≡◌, ◌<◌, ◌≤◌, ◌+◌, ◌^◌, true, false, Ok, IfSome, OnOk, OnErr, IfErr, is_some};
+ghost use Rattle.std.specs.Prelude.{◌≡◌, ◌<◌, ◌≤◌, ◌+◌, ◌^◌, true, false, Ok, OnOk, OnErr, IfErr, is_some};
 ghost use Rattle.its_word.specs.Core.{page_of, with_page, marked};
 ghost use Rattle.its_word.specs.Limits.{slots};
 ghost use Rattle.its_core.specs.Cores.{core_at};
@@ -52,7 +52,7 @@ pub fn barred(w: &World, slot: u8, a: u32, n: u32) -> bool
 }
 
 /// The same of a slot's core.
-#[tactic(auto, using(crate::proofs::ProtectLaws::any_start, crate::proofs::ProtectLaws::any_here, crate::proofs::ProtectLaws::any_next, crate::proofs::ProtectLaws::any_end))]
+#[tactic(auto, using(its_plain::proofs::BarredLaws::any_start, its_plain::proofs::BarredLaws::any_here, its_plain::proofs::BarredLaws::any_next, its_plain::proofs::BarredLaws::any_end))]
 fn any_barred(w: &World, slot: u8, a: u32, n: u32) -> bool
     requires slot { slot < slots }
     requires end { a + n ≤ 2 ^ 18 }

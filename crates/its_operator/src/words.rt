@@ -1,8 +1,7 @@
-ghost use Rattle.std.specs.Prelude.{◌≡◌, ◌≢◌, ◌≤◌, ◌<◌, ◌/◌, ◌^◌, ℕ, true, false, Some, None, Ok, Err, IfOk, OnOk, OnErr, IfErr, IfSome, is_some, nat_lt};
-ghost use Rattle.its_word.specs.Only.{Only, Same};
+ghost use Rattle.std.specs.Prelude.{◌≡◌, ◌≤◌, ◌<◌, ◌/◌, ◌^◌, true, Some, None, Ok, Err, IfOk, OnOk, OnErr, IfErr, is_some, nat_lt};
 ghost use Rattle.its_word.specs.Limits.{slots, most_pages};
 ghost use Rattle.its_word.specs.Core.{store, can_store, word_at, page_of, with_page, zero_page, pages_mapped};
-ghost use Rattle.its_core.specs.Cores.{core_at, reserved_at, clear_at};
+ghost use Rattle.its_core.specs.Cores.{core_at, clear_at};
 ghost use Rattle.its_core.specs.Frames.{frames_map, frames_reserve};
 ghost use Rattle.its_jobs.specs.Table.{job_at};
 ghost use Rattle.its_plain.specs.OperatorJobs.{word_loaded, word_seen, deposited};
@@ -12,9 +11,8 @@ ghost use Rattle.its_stepped.specs.Unwind.{unwound};
 ghost use Rattle.its_world.specs.World.{state_of, frames_after, with_frames, CoreBecomes};
 ghost use Rattle.its_pclsr.specs.Apart.{CoresOff};
 ghost use Rattle.its_parts.specs.Refusals.{refusal_of};
-ghost use Rattle.its_operator.specs.Kept.{Kept, Lands, Refused, Calm, Calmed, undepositable, unloadable, frames_loaded};
+ghost use Rattle.its_operator.specs.Kept.{Kept, Lands, Refused, Calmed, undepositable, unloadable, frames_loaded};
 
-use its_core::{Core, Full};
 use its_pclsr::unwind;
 use its_word::{Fault, MAPPED_PAGES, NoAccess, Refusal, Word};
 use its_world::World;
@@ -134,7 +132,7 @@ fn unloadable(w: &World, slot: u8, a: u32) -> Option<Refusal>
 }
 
 /// Makes the page of an address, and stores a word there.
-#[tactic(auto, using(crate::proofs::PageLaws::zero_stores))]
+#[tactic(auto, using(its_word::proofs::PageLaws::zero_stores))]
 fn load_page(w: &mut World, slot: u8, a: u32, word: Word)
     requires slot { slot < slots }
     requires address { a < 2 ^ 18 }
@@ -159,42 +157,7 @@ fn make_page(w: &mut World, slot: u8, page: u8)
     ensures frames { w.new.core.frames ≡ frames_map slot slot page (frames_reserve slot w.old.core.frames) }
     ensures there { page_of (core_at w.new.core slot) page ≡ Some zero_page }
 {
-    map_zeros(&mut w.core, slot, page);
-}
-
-/// Makes a page of zeros of a slot of the cores.
-#[tactic(auto, using(crate::proofs::PageLaws::mapped_cores, crate::proofs::PageLaws::mapped_clear, its_core::proofs::CoresLaws::same_core_at, its_core::proofs::CoresLaws::same_pages_mapped))]
-fn map_zeros(core: &mut Core, slot: u8, page: u8)
-    requires slot { slot < slots }
-    requires absent { page_of (core_at core.old slot) page ≡ None }
-    requires room { pages_mapped (core_at core.old) < most_pages }
-    requires unreserved { clear_at core.old slot ≡ None }
-    ensures made { Only (core_at core.old) (core_at core.new) slot (with_page (core_at core.old slot) page (Some zero_page)) }
-    ensures there { page_of (core_at core.new slot) page ≡ Some zero_page }
-    ensures reserved { Same (clear_at core.old) (clear_at core.new) }
-    ensures frames { core.new.frames ≡ frames_map slot slot page (frames_reserve slot core.old.frames) }
-{
-    reserve_zeros(core, slot);
-    match core.map(slot, slot, page) {
-        Ok(()) => {}
-        Err(Full) => unreachable!(),
-    }
-}
-
-/// Reserves a page of zeros for a slot.
-#[tactic(auto, using(crate::proofs::PageLaws::clear_unreserved))]
-fn reserve_zeros(core: &mut Core, slot: u8)
-    requires slot { slot < slots }
-    requires none { clear_at core.old slot ≡ None }
-    ensures clear { Only (clear_at core.old) (clear_at core.new) slot (Some 4) }
-    ensures cores { core.new.cores ≡ core.old.cores }
-    ensures frames { core.new.frames ≡ frames_reserve slot core.old.frames }
-{
-    core.reserve(slot);
-    core.clear_quarter(slot, 0);
-    core.clear_quarter(slot, 1);
-    core.clear_quarter(slot, 2);
-    core.clear_quarter(slot, 3);
+    w.core.map_zeros(slot, page);
 }
 
 /// Unwinds the job of a slot.

@@ -18,7 +18,8 @@ use Rattle.its_frame.specs.declared.decision.Decision.TheVariants.{Waits, Goes, 
 use Rattle.its_frame.specs.declared.decision.Wait.TheVariants.{Input, Output}
 use Rattle.its_frame.specs.declared.variable.Variable.{Variable}
 use Rattle.its_plain.specs.Arguments.{input, has_input, place_of_input}
-use Rattle.its_plain.specs.CallBasic.{negated, sleep_tests, sleep, dismissed_by, dismiss_at, dismiss, Party, Oneself, Nobody, Channel, variable_named, by_oneself, by_superior, channel_at, is_oneself, party_on, party, set_own, own_variable, set_other, value_of_other, other_variable, usrvar_of, usrvar, told_superior, is_negative, longest_period, alarm_of, realt}
+use Rattle.its_frame.specs.Variables.{variable_named}
+use Rattle.its_plain.specs.CallBasic.{negated, sleep_tests, sleep, dismissed_by, dismiss_at, dismiss, Party, Oneself, Nobody, Channel, by_oneself, by_superior, channel_at, is_oneself, party_on, party, set_own, own_variable, set_other, value_of_other, other_variable, usrvar_of, usrvar, told_superior, is_negative, longest_period, alarm_of, realt}
 use Rattle.its_plain.specs.CallTty.{console_of, has_console, is_other, input_waits, output_waits, first_typed, shown_byte, is_shut, opens_on, open_tests, opens, store_tests, read_tests, word_of, iot_ends, iot_in, iot_out, siot_tests, siot_in, siot_out, siot_by, can_take, is_holder, lands, ttylnd_of, ttylnd}
 use Rattle.its_plain.specs.Change.{channel_in, effect}
 use Rattle.its_plain.specs.Interrupt.{dismissed}
@@ -134,11 +135,7 @@ chan_is x m j n c s l e = ap (λ (o : Option Whole). channel_in o n) s.job ∙ n
 
 shut_is : (c : Chan) → is_shut c ≡ true → c ≡ Shut
 shut_is Shut h = refl
-shut_is TtyIn h = absurd cc
-shut_is TtyOut h = absurd cc
-shut_is (Reads f at) h = absurd cc
-shut_is (Writes f) h = absurd cc
-shut_is (On k write at) h = absurd cc
+shut_is _ h = absurd cc
 
 and_second : (b c : Bool) → not (b && c) ≡ false → c ≡ true
 and_second true c h = not_false c h
@@ -217,11 +214,7 @@ OnSlot _ = Unit {0}
 
 channel_variable_can : (v : Beside) (j : ℕ) (m : Machine) (x : View) (a : Ask) (c : Chan) → OnSlot c → Can v j m (usrvar_of x a (party_on c))
 channel_variable_can v j m x a (On k write at) l = other_variable_can v j m x a k write (variable_named (input a 1)) l
-channel_variable_can v j m x a Shut l = tt
-channel_variable_can v j m x a TtyIn l = tt
-channel_variable_can v j m x a TtyOut l = tt
-channel_variable_can v j m x a (Reads f at) l = tt
-channel_variable_can v j m x a (Writes f) l = tt
+channel_variable_can v j m x a _ l = tt
 
 pub usrvar_can : (v : Beside) (j : ℕ) (m : Machine) (x : View) (a : Ask) → OnSlot (channel_at x.own.channels (input a 0)) → Can v j m (usrvar x a)
 unfolding usrvar
@@ -291,13 +284,8 @@ ttylnd_can v j m x a s = go (party x (input a 0))
   where
     go : (p : Party) → Can v j m (ttylnd_of x a p)
     go Oneself = lands_can v j m x a (can_take x (x.holders (console_of x))) 0o13 x.slot s
-    go Nobody = tt
     go (Channel (On k write at)) = lands_can v j m x a (is_holder x (x.holders (console_of x))) 0o5 k s
-    go (Channel Shut) = tt
-    go (Channel TtyIn) = tt
-    go (Channel TtyOut) = tt
-    go (Channel (Reads f at)) = tt
-    go (Channel (Writes f)) = tt
+    go _ = tt
 
 -- a call that changes nothing but the word of its output
 pub answering_can : (v : Beside) (j : ℕ) (m : Machine) (x : View) (a : Ask) → Answering (Can v j m) x a
@@ -380,10 +368,7 @@ access_can v j m x a = go (channel_at x.own.channels (input a 0)) refl
     go : (c : Chan) → channel_at x.own.channels n ≡ c → Can v j m (access_on x a c)
     go (Reads f at) e = to (length (words_of x f)) (open_number x.own.channels n (Reads f at) e tt)
     go (On k write at) e = to end_of_core (open_number x.own.channels n (On k write at) e tt)
-    go Shut e = tt
-    go TtyIn e = tt
-    go TtyOut e = tt
-    go (Writes f) e = tt
+    go _ e = tt
 
 file_is : (x : View) (m : Machine) (j : ℕ) (names : Names) → Sees x m j → not (has_file names x.files) ≡ false → has_file names m.files ≡ true
 file_is x m j names s h = ap (has_file names) (sym s.files) ∙ not_false (has_file names x.files) h

@@ -40,44 +40,28 @@ chan_by s c u a None n = refl
 
 pub shut_by : (s : Store) (c : Channel) → chan_of s c ≡ Shut → c ≡ Closed
 shut_by s Closed e = refl
-shut_by s TtyIn e = cc
-shut_by s TtyOut e = cc
-shut_by s (Reading f at) e = cc
-shut_by s (Writing d) e = cc
-shut_by s (Usr k write at) e = cc
+shut_by s _ e = cc
 
 pub elsewhere_unread : (c : Channel) → IsElsewhere c → (f : ℕ) → reads_file f c ≡ 0
-elsewhere_unread Closed h f = refl
-elsewhere_unread TtyIn h f = refl
-elsewhere_unread TtyOut h f = refl
-elsewhere_unread (Usr k write at) h f = refl
 elsewhere_unread (Reading g at) h f = absurd h
 elsewhere_unread (Writing d) h f = absurd h
+elsewhere_unread _ h f = refl
 
 pub elsewhere_unwritten : (c : Channel) → IsElsewhere c → (d : ℕ) → writes_draft d c ≡ 0
-elsewhere_unwritten Closed h d = refl
-elsewhere_unwritten TtyIn h d = refl
-elsewhere_unwritten TtyOut h d = refl
-elsewhere_unwritten (Usr k write at) h d = refl
 elsewhere_unwritten (Reading g at) h d = absurd h
 elsewhere_unwritten (Writing e) h d = absurd h
+elsewhere_unwritten _ h d = refl
 
 pub elsewhere_of : (c : Channel) → ((f at : ℕ) → c ≡ Reading f at → ⊥) → ((d : ℕ) → c ≡ Writing d → ⊥) → IsElsewhere c
-elsewhere_of Closed read written = tt
-elsewhere_of TtyIn read written = tt
-elsewhere_of TtyOut read written = tt
-elsewhere_of (Usr k write at) read written = tt
 elsewhere_of (Reading f at) read written = read f at refl
 elsewhere_of (Writing d) read written = written d refl
+elsewhere_of _ read written = tt
 
 -- a position that is set, and a word that is appended, where a channel is on nothing of the kind
 pub still_moved : (s : Store) (at : ℕ) (c : Channel) → ((f p : ℕ) → c ≡ Reading f p → ⊥) → ((k : ℕ) (write : Bool) (p : ℕ) → c ≡ Usr k write p → ⊥) → chan_of s c ≡ at_position at (chan_of s c)
-still_moved s at Closed read usr = refl
-still_moved s at TtyIn read usr = refl
-still_moved s at TtyOut read usr = refl
-still_moved s at (Writing d) read usr = refl
 still_moved s at (Reading f p) read usr = absurd (read f p refl)
 still_moved s at (Usr k write p) read usr = absurd (usr k write p refl)
+still_moved s at _ read usr = refl
 
 -- a close that is begun marks its draft, and can be begun
 close_marks_by : (s t : Store) (k slot : ℕ) (o : Option ℕ) → close_by o s slot k ≡ Ok t → marked_draft t.mark ≡ Some k

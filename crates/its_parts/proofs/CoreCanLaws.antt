@@ -83,12 +83,7 @@ pages_can v j m x a s c f o =
 
 channel_can : (v : Beside) (j : ℕ) (m : Machine) (x : View) (a : Ask) (h : Chan) → FindsPages v x m j a → channel_at x.own.channels (input a 1) ≡ h → Can v j m (corblk_of x a (party_on h))
 channel_can v j m x a (On s true at) f is = pages_can v j m x a s (other_core x) f (f.inferior s at true is)
-channel_can v j m x a (On s false at) f is = tt
-channel_can v j m x a Shut f is = tt
-channel_can v j m x a TtyIn f is = tt
-channel_can v j m x a TtyOut f is = tt
-channel_can v j m x a (Reads names at) f is = tt
-channel_can v j m x a (Writes d) f is = tt
+channel_can v j m x a _ f is = tt
 
 pub corblk_can : (v : Beside) (j : ℕ) (m : Machine) (x : View) (a : Ask) → FindsPages v x m j a → Can v j m (corblk x a)
 unfolding corblk

@@ -26,12 +26,9 @@ use Rattle.its_parts.proofs.StandLaws.{unmarked_all, file_writers, marked_writer
 -- what a channel is on, where the file that it reads keeps its names, and the draft that it writes its names and words
 pub chan_stays : (s u : Store) (c : Channel) → ((f : ℕ) → reads_file f c ≢ 0 → names_at u f ≡ names_at s f)
     → ((d : ℕ) → writes_draft d c ≢ 0 → (names_at u d ≡ names_at s d) × (words_at u d ≡ words_at s d)) → chan_of u c ≡ chan_of s c
-chan_stays s u Closed names drafts = refl
-chan_stays s u TtyIn names drafts = refl
-chan_stays s u TtyOut names drafts = refl
 chan_stays s u (Reading f at) names drafts = ap (λ ns. Chan.Reads ns at) (names f (λ z. let o = reads_here f at in omega arith))
 chan_stays s u (Writing d) names drafts = let h = drafts d (λ z. let o = writes_here d in omega arith) in λ i. Chan.Writes (record { names = h.0 i; words = h.1 i })
-chan_stays s u (Usr k write at) names drafts = refl
+chan_stays s u _ names drafts = refl
 
 -- the facts after one channel and what it is on are others
 pub across_one : (s u : Store) (t v : Table) (j n : ℕ) (x : Channel) → Across s t → OneChannel (channel_at t) (channel_at v) j n x → j < slots → n < 16

@@ -90,8 +90,6 @@ few_words s f at e = few_by (words_at s f) at (words_few (entry_at s f) (text_at
 
 -- three names
 pub three : (ns : List ℕ) (a b c : ℕ) → length ns ≡ 3 → a ≡ slice_index_or ns 0 a → b ≡ slice_index_or ns 1 b → c ≡ slice_index_or ns 2 c → a ∷ b ∷ c ∷ [] ≡ ns
-three [] a b c l d x y = cc
-three (i ∷ []) a b c l d x y = cc
-three (i ∷ j ∷ []) a b c l d x y = cc
 three (i ∷ j ∷ k ∷ []) a b c l d x y = λ t. d t ∷ x t ∷ y t ∷ []
 three (i ∷ j ∷ k ∷ m ∷ ns) a b c l d x y = absurd (omega arith)
+three _ a b c l d x y = cc

@@ -157,12 +157,8 @@ module _ (s : Store) (t : Table) (whole : IsStore s) (a : Across s t) (names : N
   chans k n = chan_of s (channel_at t k n)
 
   reader_by : (k n : ℕ) (c : Channel) → channel_at t k n ≡ c → reads_names names (chan_of s c) ≡ true → (g : ℕ) × (found s names ≡ Some g) × (0 < readers_at s g)
-  reader_by k n Closed e h = cc
-  reader_by k n TtyIn e h = cc
-  reader_by k n TtyOut e h = cc
-  reader_by k n (Writing d) e h = cc
-  reader_by k n (Usr i write at) e h = cc
   reader_by k n (Reading f at) e h = (f, found_is s whole names f (reading_file s t a k n f at e) h, reading_stands s t a k n f at e)
+  reader_by k n _ e h = cc
 
   pub reader_found : is_read names chans ≡ true → (g : ℕ) × (found s names ≡ Some g) × (0 < readers_at s g)
   unfolding is_read
@@ -215,12 +211,8 @@ draft_once (Some (File names readers)) = refl
 draft_once None = refl
 
 draft_few : (v : ℕ → ℕ) → ((d : ℕ) → v d ≤ 1) → (c : Channel) → of_draft v c ≤ 1
-draft_few v h Closed = omega arith
-draft_few v h TtyIn = omega arith
-draft_few v h TtyOut = omega arith
-draft_few v h (Reading f at) = omega arith
 draft_few v h (Writing d) = h d
-draft_few v h (Usr k write at) = omega arith
+draft_few v h _ = omega arith
 
 one_few : (b : Bool) → one_if b ≤ 1
 one_few true = omega arith

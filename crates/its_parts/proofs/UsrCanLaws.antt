@@ -137,11 +137,7 @@ usrmem_can v j m x a f = go (channel_at x.own.channels (input a 0)) refl
         first_holds (Can v j m) (usrmem_tests x a write p new) (finishes x (set_word s p (input a 2) new) (out a.outputs.items (unwrap_or (word_at (other_core x) p) 0)))
         (λ t. tt, (λ t. tt, (λ t. tt, (λ t. tt, tt))))
         (λ t. let most = ltb-false highest_address p t.0 in set_word_can v j m x s p (input a 2) new (f.inferior Usrmem refl refl s at write is) (omega arith) t.1.1.1.0)
-    go Shut is = tt
-    go TtyIn is = tt
-    go TtyOut is = tt
-    go (Reads names at) is = tt
-    go (Writes d) is = tt
+    go _ is = tt
 
 pub uclose_can : (v : Beside) (j : ℕ) (m : Machine) (x : View) (a : Ask) → Finds v x m j a (Some Uclose) → Can v j m (uclose x a)
 unfolding uclose
@@ -149,8 +145,4 @@ uclose_can v j m x a f = go (channel_at x.own.channels (input a 0)) refl
   where
     go : (c : Chan) → channel_at x.own.channels (input a 0) ≡ c → Can v j m (uclose_on x a c)
     go (On s write at) is = f.tree refl s at write is
-    go Shut is = tt
-    go TtyIn is = tt
-    go TtyOut is = tt
-    go (Reads names at) is = tt
-    go (Writes d) is = tt
+    go _ is = tt

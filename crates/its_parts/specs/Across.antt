@@ -51,8 +51,8 @@ writers (Some (File names readers)) marked = 0
 writers None marked = 0
 
 -- the readers of a file are the channels that read it; and each draft but the marked one is that of one channel. So a
--- channel that reads is on a file that stands, and one that writes on a draft that stands, is not marked, and is no other's.
--- All channels are among the 16 of the slots
+-- channel that reads is on a file that stands, and one that writes on a draft that stands, is not marked, and is no
+-- other's. All channels are among the 16 of the slots
 pub record Across (s : Store) (t : Table) : Type 0 where
   pub past_slots : (k n : ℕ) → slots ≤ k → channel_at t k n ≡ Closed
   pub past_numbers : (k n : ℕ) → 16 ≤ n → channel_at t k n ≡ Closed

@@ -59,13 +59,7 @@ taken_page reserved j = rw (eq-eqb j j refl) (omega arith)
 one_mild : (c : Change) (j : ℕ) (w : State) → CanMake c j w → Mild w (effect_on c j w) j
 unfolding effect_on effect removed
 one_mild (changes.Inform s) j w b = record { job = λ h. slot_some _ (j == s) (w.raw.jobs j) h; frame = refl; page = at_most refl }
-one_mild (changes.Arm alarm) j w b = record { job = λ h. slot_some _ (j == j) (w.raw.jobs j) h; frame = refl; page = at_most refl }
 one_mild (changes.Set s v x) j w b = record { job = λ h. slot_some _ (j == s) (w.raw.jobs j) h; frame = refl; page = at_most refl }
-one_mild (changes.Open n o) j w b = record { job = λ h. slot_some _ (j == j) (w.raw.jobs j) h; frame = refl; page = at_most refl }
-one_mild (changes.Shut n) j w b = record { job = λ h. slot_some _ (j == j) (w.raw.jobs j) h; frame = refl; page = at_most refl }
-one_mild (changes.Move n at) j w b = record { job = λ h. slot_some _ (j == j) (w.raw.jobs j) h; frame = refl; page = at_most refl }
-one_mild (changes.Append n x) j w b = record { job = λ h. slot_some _ (j == j) (w.raw.jobs j) h; frame = refl; page = at_most refl }
-one_mild (changes.Close n) j w b = record { job = λ h. slot_some _ (j == j) (w.raw.jobs j) h; frame = refl; page = at_most refl }
 one_mild (changes.Take n) j w b = record { job = λ h. h; frame = refl; page = at_most refl }
 one_mild (changes.Put n x) j w b = record { job = λ h. h; frame = refl; page = at_most refl }
 one_mild (changes.Hold n s) j w b = record { job = λ h. h; frame = refl; page = at_most refl }
@@ -83,6 +77,7 @@ one_mild (changes.Remove s) j w b =
     }
 one_mild (changes.Delete d x y) j w b = record { job = λ h. h; frame = refl; page = at_most refl }
 one_mild (changes.Rename d x y u v) j w b = record { job = λ h. h; frame = refl; page = at_most refl }
+one_mild _ j w b = record { job = λ h. slot_some _ (j == j) (w.raw.jobs j) h; frame = refl; page = at_most refl }
 
 pub all_mild : (cs : List Change) (j : ℕ) (w : State) → CanMakeAll cs j w → Mild w (effects_on cs j w) j
 all_mild [] j w b = record { job = λ h. h; frame = refl; page = at_most refl }

@@ -66,20 +66,14 @@ idle_page w core k = ap (option_map (λ (r : Reserved). r.clear)) (core.reserved
 
 -- no channel is on a file or a draft
 elsewhere_reads : (f : ℕ) (c : Channel) → IsElsewhere c → reads_file f c ≡ 0
-elsewhere_reads f Closed h = refl
-elsewhere_reads f TtyIn h = refl
-elsewhere_reads f TtyOut h = refl
-elsewhere_reads f (Usr k write at) h = refl
 elsewhere_reads f (Reading g at) h = absurd h
 elsewhere_reads f (Writing d) h = absurd h
+elsewhere_reads f _ h = refl
 
 elsewhere_writes : (d : ℕ) (c : Channel) → IsElsewhere c → writes_draft d c ≡ 0
-elsewhere_writes d Closed h = refl
-elsewhere_writes d TtyIn h = refl
-elsewhere_writes d TtyOut h = refl
-elsewhere_writes d (Usr k write at) h = refl
 elsewhere_writes d (Reading g at) h = absurd h
 elsewhere_writes d (Writing e) h = absurd h
+elsewhere_writes d _ h = refl
 
 none_weighs : (w : Channel → ℕ) (cs : ℕ → ℕ → Channel) → ((k n : ℕ) → w (cs k n) ≡ 0) → tally w cs ≡ 0
 unfolding tally

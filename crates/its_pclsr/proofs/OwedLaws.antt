@@ -98,22 +98,16 @@ never_none a n k o some read at here place =
 
 -- file steps at the head are passed over
 pub due_more : (os : List Owed) → begins_with_file os ≡ true → due false (remove os 0) ≡ due false os
-due_more [] h = cc
 due_more (Unlink ∷ os) h = refl
 due_more (Link ∷ os) h = refl
 due_more (Free ∷ os) h = refl
-due_more (GiveBack ∷ os) h = cc
-due_more (owed.Store a w ∷ os) h = cc
-due_more (Leave e ∷ os) h = cc
+due_more _ h = cc
 
 pub due_over : (os : List Owed) → begins_with_file os ≡ false → due false os ≡ os
-due_over [] h = refl
 due_over (Unlink ∷ os) h = cc
 due_over (Link ∷ os) h = cc
 due_over (Free ∷ os) h = cc
-due_over (GiveBack ∷ os) h = refl
-due_over (owed.Store a w ∷ os) h = refl
-due_over (Leave e ∷ os) h = refl
+due_over _ h = refl
 
 pub some_first : (os : List Owed) → begins_with_file os ≡ true → 0 < length os
 some_first [] h = cc

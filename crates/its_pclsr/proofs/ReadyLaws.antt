@@ -133,14 +133,8 @@ below_gone sup j k h = ap (λ (b : Bool). (k == j) || b) h ∙ or_true (k == j)
 
 -- the parts of a close that a slot owes behind some changes are at most those of these changes, where it owed none before
 no_parts : (o : Option Frame) (h : Holding) → standing_of o ≡ Some h → parts_in_frame o ≡ []
-no_parts (Some (frames.Holding f)) h e = refl
-no_parts (Some (frames.Waiting f)) h e = refl
-no_parts (Some (frames.Entered f)) h e = refl
-no_parts (Some (frames.Parsed f)) h e = refl
-no_parts (Some (frames.Asked f)) h e = refl
-no_parts (Some (frames.Moving f)) h e = refl
 no_parts (Some (frames.Ending f)) h e = cc
-no_parts None h e = refl
+no_parts _ h e = refl
 
 parts_after : (cs : List Change) (j : ℕ) (v : State) (h : Holding) → Sound v → standing_of (v.frames j) ≡ Some h → AllQuiet cs j v
     → length (owed_parts (effects_on cs j v).mark j) ≤ parts_in cs

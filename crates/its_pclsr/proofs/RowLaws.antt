@@ -196,10 +196,7 @@ head_by : (c : Core) (r : Option ℕ) (ds : List Owed) → Owes c ds → backs d
 head_by c r [] h b o is = absurd h
 head_by c r (owed.Store a w ∷ ds) h b o is = subst (Head c r) (sym is) h.0
 head_by c r (GiveBack ∷ ds) h b o is = subst (Head c r) (sym is) (kept_some r (backs ds) b)
-head_by c r (Leave x ∷ ds) h b o is = subst (Head c r) (sym is) tt
-head_by c r (Unlink ∷ ds) h b o is = subst (Head c r) (sym is) tt
-head_by c r (Link ∷ ds) h b o is = subst (Head c r) (sym is) tt
-head_by c r (Free ∷ ds) h b o is = subst (Head c r) (sym is) tt
+head_by c r _ h b o is = subst (Head c r) (sym is) tt
 
 pub due_head : (b : Bool) (c : Core) (r : Option ℕ) (os ds : List Owed) (o : Owed) → EndingPays c r os → ds ≡ due b os → o ≡ slice_index_or ds 0 o → Head c r o
 due_head b c r os ds o h e is = head_by c r ds (subst (Owes c) (sym e) (due_owes b c os h.owes)) (ap backs e ∙ due_backs b os ∙ h.page_is) o is

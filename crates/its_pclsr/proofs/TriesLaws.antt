@@ -56,9 +56,7 @@ Waiting_in w v a _ = Unit {0}
 tried_carried : (w v : State) (j : ℕ) (own : Whole) (h : Holding) (d : Decision) → Waiting_in w v h.ask d → Duty v j own h.site h.ask h.owes d
     → tried w v j h.site h.ask h.owes d ≡ carried v j h d
 tried_carried w v j own h (Waits r) same duty = ap (λ (x : State). waits (committed x j h.site h.ask h.owes (Waits r))) (sym (same duty.waitable))
-tried_carried w v j own h (Goes cs b vs) same duty = refl
-tried_carried w v j own h (Ends cs ss e) same duty = refl
-tried_carried w v j own h (Gone cs) same duty = refl
+tried_carried w v j own h _ same duty = refl
 
 -- the state that the commit of a raw job's call finds
 abbrev pub prepared : State → ℕ → Whole → Ask → State
@@ -73,9 +71,7 @@ waiting_by : (w : State) (j : ℕ) (q : Whole) (a : Ask) (d : Decision) (b : Boo
     → ((s : ℕ) → target q a ≡ Some s → IsWaitable (call_named a.name) → Goes_on d) → Waiting_in w (helped_if b (all_unwound (reach w.raw j q a) w)) a d
 waiting_by w j q a (Waits r) true e h g = λ wait. absurd (h refl wait)
 waiting_by w j q a (Waits r) false e h g = λ wait. waits_still w j q a r (target q a) refl g wait
-waiting_by w j q a (Goes cs b vs) z e h g = tt
-waiting_by w j q a (Ends cs ss x) z e h g = tt
-waiting_by w j q a (Gone cs) z e h g = tt
+waiting_by w j q a _ z e h g = tt
 
 -- a call that stands in the frame of its slot, and is to be tried
 record Stood (w : State) (j : ℕ) (q : Whole) (h : Holding) : Type 0 where
@@ -218,12 +214,7 @@ stood_at w j q h (Some (frames.Holding f)) sound forest is tried fr e =
     let same : f ≡ h = cc in
     subst (Stood w j q) same (stood_holding w j q f sound forest is (subst (λ (g : Holding). IsTried g.page) (sym same) tried) fr)
 stood_at w j q h (Some (frames.Waiting f)) sound forest is tried fr e = let same : held f ≡ h = cc in subst (Stood w j q) same (stood_waiting w j q f sound forest is fr)
-stood_at w j q h (Some (frames.Entered f)) sound forest is tried fr e = cc
-stood_at w j q h (Some (frames.Parsed f)) sound forest is tried fr e = cc
-stood_at w j q h (Some (frames.Asked f)) sound forest is tried fr e = cc
-stood_at w j q h (Some (frames.Moving f)) sound forest is tried fr e = cc
-stood_at w j q h (Some (frames.Ending f)) sound forest is tried fr e = cc
-stood_at w j q h None sound forest is tried fr e = cc
+stood_at w j q h _ sound forest is tried fr e = cc
 
 pub cleared : (w v : State) (j : ℕ) (q : Whole) (h : Holding) → Sound w → Forest (plain w) → w.raw.jobs j ≡ Some q → standing_of (w.frames j) ≡ Some h → IsTried h.page
     → v ≡ prepared w j q h.ask → Cleared w v j q h

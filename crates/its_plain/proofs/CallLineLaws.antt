@@ -425,13 +425,10 @@ line_keeps m b (events.State s) = show_keeps m b s (state_shown m s)
 line_keeps m b (events.Clock n) = clock_keeps m b n (nat_lt (m.clock + n) clock_end) refl
 line_keeps m b (events.Peek s) = peek_keeps m s (m.jobs s)
 line_keeps m b (events.Tick s n) = tt
-line_keeps m b (events.Run n q) = alike_keeps m m (alike_same m)
-line_keeps m b events.Nothing = alike_keeps m m (alike_same m)
 line_keeps m b events.End = tt
 line_keeps m b (events.File d x y) = file_keeps m (record b { file = names_of d x y }) (file_made m (names_of d x y)) (made_files m (names_of d x y))
 line_keeps m b (events.Append words) = file_keeps m b (words_added m b.file words.items) (added_files m b.file words.items)
-line_keeps m b events.EndFile = alike_keeps m m (alike_same m)
 line_keeps m b (events.TypeIn c bytes) = typed_keeps m c bytes.items
 line_keeps m b (events.Drain c n) = drained_keeps m c n
-line_keeps m b (events.Dir d) = alike_keeps m m (alike_same m)
 line_keeps m b (events.Show d x y) = shown_keeps m b (file_shown m d x y)
+line_keeps m b _ = alike_keeps m m (alike_same m)

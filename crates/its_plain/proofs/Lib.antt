@@ -10,3 +10,5 @@ pub mod TranscriptExamples
 pub mod FairLaws
 pub mod UnrolledLaws
 pub mod TargetLaws
+pub mod BarredLaws
+pub mod WhoRunsLaws

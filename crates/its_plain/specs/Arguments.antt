@@ -47,7 +47,8 @@ valued [] (v ∷ vs) = []
 
 -- a call whose last inputs have new values
 unfoldable pub revalued : Ask → List ℕ → Ask
-revalued a vs = record a { inputs = record { items = take kept a.inputs.items ++ valued (drop kept a.inputs.items) vs } }
+revalued a vs =
+    record a { inputs = record { items = take kept a.inputs.items ++ valued (drop kept a.inputs.items) vs } }
   where
     kept : ℕ
     kept = length a.inputs.items - length vs

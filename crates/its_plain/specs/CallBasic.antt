@@ -12,7 +12,8 @@ use Rattle.its_frame.specs.declared.decision.Decision.{Decision}
 use Rattle.its_frame.specs.declared.decision.Decision.TheVariants.{Waits, Ends, Gone}
 use Rattle.its_frame.specs.declared.decision.Wait.TheVariants.{Hang, Clock}
 use Rattle.its_frame.specs.declared.variable.Variable.{Variable}
-use Rattle.its_frame.specs.declared.variable.Variable.TheVariants.{Uname, Jname, Uind, Suppro, Cnsl, Pages, Upc, Ustp, Pirqc, Ifpir, Mask, Msk2, Df1, Df2}
+use Rattle.its_frame.specs.declared.variable.Variable.TheVariants.{Upc, Ustp, Pirqc, Ifpir, Mask, Msk2, Df1, Df2}
+use Rattle.its_frame.specs.Variables.{variable_named}
 use Rattle.its_frame.specs.Errors as error
 use Rattle.its_plain.specs.Interrupt.{dismissed}
 use Rattle.its_plain.specs.Job.{IOC, with_pending}
@@ -95,25 +96,6 @@ party_on c = Channel c
 abbrev pub party : View → ℕ → Party
 party v w = if is_oneself w then Oneself else party_on (channel_at v.own.channels w)
 
--- the SIXBIT names of the variables
-unfoldable pub variable_named : ℕ → Option Variable
-variable_named w =
-    if w == 0o655641554500 then Some Uname
-    else (if w == 0o525641554500 then Some Jname
-    else (if w == 0o655156440000 then Some Uind
-    else (if w == 0o636560606257 then Some Suppro
-    else (if w == 0o435663540000 then Some Cnsl
-    else (if w == 0o604147456300 then Some Pages
-    else (if w == 0o656043000000 then Some Upc
-    else (if w == 0o656364600000 then Some Ustp
-    else (if w == 0o605162614300 then Some Pirqc
-    else (if w == 0o514660516200 then Some Ifpir
-    else (if w == 0o554163530000 then Some Mask
-    else (if w == 0o556353220000 then Some Msk2
-    else (if w == 0o444621000000 then Some Df1
-    else (if w == 0o444622000000 then Some Df2
-    else None)))))))))))))
-
 -- who may set a variable: nobody, the superior alone, or oneself too
 abbrev pub by_oneself : Variable → Bool
 by_oneself Pirqc = true
@@ -131,11 +113,13 @@ by_superior x = by_oneself x
 
 -- USRVAR job, name, optional new value: the output gets the value before, and then the new value is set
 abbrev pub set_own : View → Ask → Variable → Bool → Decision
-set_own v a x true = Ends (record { items = [] }) (record { items = out a.outputs.items (variable_of v.slot v.own x) }) (exit_of (with_variable x (input a 2) (advanced 2 v.own.job)))
+set_own v a x true =
+    Ends (record { items = [] }) (record { items = out a.outputs.items (variable_of v.slot v.own x) }) (exit_of (with_variable x (input a 2) (advanced 2 v.own.job)))
 set_own v a x false = finishes v [] (out a.outputs.items (variable_of v.slot v.own x))
 
 abbrev pub own_variable : View → Ask → Option Variable → Decision
-own_variable v a (Some x) = if has_input a 2 && not (by_oneself x) then fails v a error.OUT_OF_RANGE else set_own v a x (has_input a 2)
+own_variable v a (Some x) =
+    if has_input a 2 && not (by_oneself x) then fails v a error.OUT_OF_RANGE else set_own v a x (has_input a 2)
 own_variable v a None = fails v a error.OUT_OF_RANGE
 
 abbrev pub set_other : ℕ → Variable → ℕ → Bool → List Change
@@ -177,7 +161,8 @@ abbrev pub alarm_of : ℕ → ℕ → Option (ℕ × ℕ)
 alarm_of c n = if n == 0 then None else Some (n, c + n)
 
 unfoldable pub realt : View → Ask → Decision
-realt v a = first ((is_negative (input a 0) || nat_lt longest_period (input a 0)) ⇒ fails v a error.OUT_OF_RANGE ∷ []) (finishes v (changes.Arm (alarm_of v.clock (input a 0)) ∷ []) [])
+realt v a =
+    first ((is_negative (input a 0) || nat_lt longest_period (input a 0)) ⇒ fails v a error.OUT_OF_RANGE ∷ []) (finishes v (changes.Arm (alarm_of v.clock (input a 0)) ∷ []) [])
 
 -- `.IOT` that fails: IOC is set, and PC gains 1
 abbrev pub ioc : View → Decision

@@ -14,7 +14,8 @@ use Rattle.its_plain.specs.Tests.{Test, ◌⇒◌, first, finishes, fails}
 use Rattle.its_plain.specs.CallBasic.{Party, Oneself, Nobody, Channel, party}
 use Rattle.its_plain.specs.CallUsr.{other_core}
 
--- CORBLK operation, job, page: operation 0 drops a page, 1 makes one of zeros, 2 makes it read only, 3 makes it writable
+-- CORBLK operation, job, page: operation 0 drops a page, 1 makes one of zeros, 2 makes it read only, 3 makes it
+-- writable
 abbrev pub page_changed : ℕ → ℕ → ℕ → Change
 page_changed op s k =
     if op == 0 then changes.Unmap s k
@@ -56,4 +57,5 @@ corblk_of v a (Channel (On s true at)) = pages_of v a (input a 0) s (other_core 
 corblk_of v a (Channel c) = fails v a error.WRONG_DEVICE
 
 unfoldable pub corblk : View → Ask → Decision
-corblk v a = first (nat_lt highest_operation (input a 0) ⇒ fails v a error.OUT_OF_RANGE ∷ []) (corblk_of v a (party v (input a 1)))
+corblk v a =
+    first (nat_lt highest_operation (input a 0) ⇒ fails v a error.OUT_OF_RANGE ∷ []) (corblk_of v a (party v (input a 1)))

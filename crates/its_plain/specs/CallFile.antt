@@ -142,7 +142,8 @@ siot_read v next k n at w =
     (goes (changes.Move n (at + 1) ∷ []) (Some (record { place = right_of next; byte = w })) (next ∷ (k - 1) ∷ []))
 
 abbrev pub siot_reads : View → Ask → ℕ → ℕ → Option ℕ → Decision
-siot_reads v a n at o = siot_by v a true (not (is_some o)) (siot_read v (next_pointer (input a 1)) (input a 2) n at (unwrap_or o 0))
+siot_reads v a n at o =
+    siot_by v a true (not (is_some o)) (siot_read v (next_pointer (input a 1)) (input a 2) n at (unwrap_or o 0))
 
 abbrev pub siot_write : View → Ask → ℕ → ℕ → ℕ → File → Decision
 siot_write v a next k n f =
@@ -152,13 +153,14 @@ siot_write v a next k n f =
 abbrev pub siot_writes : View → Ask → ℕ → File → Decision
 siot_writes v a n f = siot_by v a true false (siot_write v a (next_pointer (input a 1)) (input a 2) n f)
 
--- ACCESS channel, position: the next word that a file gives, or that a channel on an inferior is at. An inferior has words
--- 0 to 777777
+-- ACCESS channel, position: the next word that a file gives, or that a channel on an inferior is at. An inferior has
+-- words 0 to 777777
 abbrev pub end_of_core : ℕ
 end_of_core = 0o1000000
 
 abbrev pub access_to : View → Ask → ℕ → Decision
-access_to v a most = first (nat_lt most (input a 1) ⇒ fails v a error.OUT_OF_RANGE ∷ []) (finishes v (changes.Move (input a 0) (input a 1) ∷ []) [])
+access_to v a most =
+    first (nat_lt most (input a 1) ⇒ fails v a error.OUT_OF_RANGE ∷ []) (finishes v (changes.Move (input a 0) (input a 1) ∷ []) [])
 
 abbrev pub access_on : View → Ask → Chan → Decision
 access_on v a Shut = fails v a error.BAD_CHANNEL
@@ -179,8 +181,8 @@ fillen_on v a _ = fails v a error.WRONG_DEVICE
 unfoldable pub fillen : View → Ask → Decision
 fillen v a = fillen_on v a (channel_at v.own.channels (input a 0))
 
--- DELETE device, name 1, name 2, directory, and RENAME with a new name 1 and name 2 behind them: of a file that no channel
--- reads. It keeps its place under its new names, which no file has in its directory
+-- DELETE device, name 1, name 2, directory, and RENAME with a new name 1 and name 2 behind them: of a file that no
+-- channel reads. It keeps its place under its new names, which no file has in its directory
 abbrev pub file_tests : View → Ask → Names → List Test
 file_tests v a names =
     not (input a 0 == disk_device) ⇒ fails v a error.WRONG_DEVICE
@@ -189,7 +191,8 @@ file_tests v a names =
     ∷ []
 
 unfoldable pub delete : View → Ask → Decision
-delete v a = first (file_tests v a (names_from a 1)) (finishes v (changes.Delete (input a 3) (input a 1) (input a 2) ∷ []) [])
+delete v a =
+    first (file_tests v a (names_from a 1)) (finishes v (changes.Delete (input a 3) (input a 1) (input a 2) ∷ []) [])
 
 unfoldable pub rename : View → Ask → Decision
 rename v a =

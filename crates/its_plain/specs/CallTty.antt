@@ -1,5 +1,5 @@
--- Calls on consoles: OPEN, `.IOT` and SIOT where they are on one; FINISH, LISTEN and TTYLND (docs/CALLS.md, "Consoles"); and
--- the tests of SIOT, whatever its channel is on.
+-- Calls on consoles: OPEN, `.IOT` and SIOT where they are on one; FINISH, LISTEN and TTYLND (docs/CALLS.md,
+-- "Consoles"); and the tests of SIOT, whatever its channel is on.
 use Rattle.std.specs.Prelude.{if◌then◌else◌, ◌==◌, ◌||◌, ◌&&◌, ℕ, ◌-◌, ◌/◌, ◌%◌, ◌^◌, Bool, true, false, not, Option, Some, None, List, [], ◌∷◌, ◌++◌, nat_lt, is_some, length, slice_get, unwrap_or}
 use Rattle.its_word.specs.Word.{right_of}
 use Rattle.its_word.specs.Byte.{size, has_size, increment_of, load_of}
@@ -114,8 +114,8 @@ is_indexed p = not (p / 2 ^ 18 % 2 ^ 5 == 0)
 abbrev pub next_pointer : ℕ → ℕ
 next_pointer p = unwrap_or (increment_of p) 0
 
--- a console moves bytes of any size; a file, a draft or an inferior moves whole words, of 36 bits; a file and an inferior
--- may be at their end
+-- a console moves bytes of any size; a file, a draft or an inferior moves whole words, of 36 bits; a file and an
+-- inferior may be at their end
 abbrev pub word_bits : ℕ
 word_bits = 36
 
@@ -154,7 +154,8 @@ unfoldable pub finish : View → Ask → Decision
 finish v a = finish_on v a (channel_at v.own.channels (input a 0))
 
 abbrev pub listens : View → Ask → ℕ → Decision
-listens v a c = first (output_left v c ⇒ Waits (Drained c) ∷ []) (finishes v [] (out a.outputs.items (length (v.consoles c).input)))
+listens v a c =
+    first (output_left v c ⇒ Waits (Drained c) ∷ []) (finishes v [] (out a.outputs.items (length (v.consoles c).input)))
 
 abbrev pub listen_on : View → Ask → Chan → Decision
 listen_on v a Shut = fails v a error.BAD_CHANNEL

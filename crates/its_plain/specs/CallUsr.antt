@@ -25,14 +25,15 @@ use Rattle.its_plain.specs.CallFile.{end_of_file, end_of_core}
 abbrev pub usr_device : ℕ
 usr_device = 0o656362000000
 
--- OPEN channel, USR, user name, job name: the caller's inferior with these names, in the least slot, from position 0 on;
--- control 1 gives leave to write. Where there is none, it is made where it is to be written
+-- OPEN channel, USR, user name, job name: the caller's inferior with these names, in the least slot, from position 0
+-- on; control 1 gives leave to write. Where there is none, it is made where it is to be written
 abbrev pub has_names : ℕ → ℕ → Option Outline → Bool
 has_names u n (Some o) = (o.uname == u) && (o.jname == n)
 has_names u n None = false
 
 abbrev pub inferior_named : View → ℕ → ℕ → Option ℕ
-inferior_named v u n = find (λ k. has_names u n (v.outlines k) && is_superior v.slot (v.outlines k)) (range_with_len 0 slots)
+inferior_named v u n =
+    find (λ k. has_names u n (v.outlines k) && is_superior v.slot (v.outlines k)) (range_with_len 0 slots)
 
 abbrev pub any_named : View → ℕ → ℕ → Bool
 any_named v u n = list_any (λ k. has_names u n (v.outlines k)) (range_with_len 0 slots)
@@ -43,7 +44,8 @@ makes_job v a n u x None = fails v a error.NO_SLOT
 
 abbrev pub opens_job : View → Ask → ℕ → ℕ → ℕ → Bool → Option ℕ → Decision
 opens_job v a n u x write (Some s) = finishes v (changes.Open n (opened.Usr s write) ∷ []) []
-opens_job v a n u x write None = first (any_named v u x ⇒ fails v a error.NOT_INFERIOR ∷ not write ⇒ fails v a error.NO_JOB ∷ []) (makes_job v a n u x (least_free v.limit v.outlines))
+opens_job v a n u x write None =
+    first (any_named v u x ⇒ fails v a error.NOT_INFERIOR ∷ not write ⇒ fails v a error.NO_JOB ∷ []) (makes_job v a n u x (least_free v.limit v.outlines))
 
 abbrev pub usr_tests : View → Ask → ℕ → ℕ → List Test
 usr_tests v a n control =
@@ -64,8 +66,8 @@ other_core v = core_of v.other
 abbrev pub at_end : ℕ → Bool
 at_end at = not (nat_lt at end_of_core)
 
--- `.IOT` of the word at E: the word of the inferior at the channel's position, which is then one more; at the end it gets
--- 777777000003. Such a channel with leave to write is one for output, which stores there; IOC where it cannot
+-- `.IOT` of the word at E: the word of the inferior at the channel's position, which is then one more; at the end it
+-- gets 777777000003. Such a channel with leave to write is one for output, which stores there; IOC where it cannot
 abbrev pub iot_peeks : View → ℕ → ℕ → ℕ → Bool → Option ℕ → Decision
 iot_peeks v e n at true o = iot_ends v [] (record { at = e; word = end_of_file } ∷ [])
 iot_peeks v e n at false (Some w) = iot_ends v (changes.Move n (at + 1) ∷ []) (record { at = e; word = w } ∷ [])
@@ -90,7 +92,8 @@ siot_peeks v a next k n at (Some w) =
 siot_peeks v a next k n at None = first (store_tests v (right_of next)) (fails v a error.BAD_PAGE)
 
 abbrev pub siot_from : View → Ask → ℕ → ℕ → Decision
-siot_from v a n at = siot_by v a true (at_end at) (siot_peeks v a (next_pointer (input a 1)) (input a 2) n at (word_at (other_core v) at))
+siot_from v a n at =
+    siot_by v a true (at_end at) (siot_peeks v a (next_pointer (input a 1)) (input a 2) n at (word_at (other_core v) at))
 
 abbrev pub siot_pokes : View → Ask → ℕ → ℕ → ℕ → ℕ → ℕ → Decision
 siot_pokes v a next k n s at =

@@ -61,8 +61,8 @@ superior_in None = None
 abbrev pub superiors : Machine → ℕ → Option ℕ
 superiors m k = superior_in (m.jobs k)
 
--- a removal: a job and all below it are gone, and their symbols with them; channels on them are closed; a console that one of
--- them held passes to the nearest superior that is not removed, else to nobody
+-- a removal: a job and all below it are gone, and their symbols with them; channels on them are closed; a console
+-- that one of them held passes to the nearest superior that is not removed, else to nobody
 abbrev pub is_gone : (ℕ → Option ℕ) → ℕ → ℕ → Bool
 is_gone sup r k = (k == r) || is_below sup r k
 
@@ -98,7 +98,8 @@ console_in (Some q) = q.job.console
 console_in None = None
 
 abbrev pub inferior : ℕ → Option Whole → ℕ → ℕ → Whole
-inferior j o u n = record { core = no_core; job = fresh_job u n (console_in o); superior = Some j; channels = all_shut; alarm = None }
+inferior j o u n =
+    record { core = no_core; job = fresh_job u n (console_in o); superior = Some j; channels = all_shut; alarm = None }
 
 -- pages
 abbrev pub with_page_at : ℕ → Option Page → Whole → Whole
@@ -123,7 +124,8 @@ effect (changes.Open n on) j m = in_job m j (on_channel n (λ c. opened_on on))
 effect (changes.Shut n) j m = in_job m j (on_channel n (λ c. Shut))
 effect (changes.Move n at) j m = in_job m j (on_channel n (at_position at))
 effect (changes.Append n w) j m = in_job m j (on_channel n (with_word w))
-effect (changes.Close n) j m = record (in_job m j (on_channel n (λ c. Shut))) { files = files_closed (channel_in (m.jobs j) n) m.files }
+effect (changes.Close n) j m =
+    record (in_job m j (on_channel n (λ c. Shut))) { files = files_closed (channel_in (m.jobs j) n) m.files }
 effect (changes.Take c) j m = on_console m c taken_from
 effect (changes.Put c b) j m = on_console m c (put_to b)
 effect (changes.Hold c s) j m = record m { holders = changed m.holders c (Some s) }

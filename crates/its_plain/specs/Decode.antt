@@ -63,8 +63,8 @@ abbrev pub up_to_last : Bool → (List ℕ → Traced (ArrayVec ℕ)) → List �
 up_to_last true rest seen = gives (record { items = seen })
 up_to_last false rest seen = rest seen
 
--- the block whose words so far are these, with the argument words from an address on, of which at most n are read. Addresses
--- have 18 bits
+-- the block whose words so far are these, with the argument words from an address on, of which at most n are read.
+-- Addresses have 18 bits
 unfoldable pub argument_words : ℕ → Core → ℕ → List ℕ → Traced (ArrayVec ℕ)
 argument_words zero c a seen = gives (record { items = seen })
 argument_words (suc n) c a seen =
@@ -167,8 +167,8 @@ row_by None = None
 unfoldable pub row_named : ℕ → Option CallRow
 row_named name = row_by (call_named name)
 
--- no call has the name; else there are too few inputs or outputs; else there are too many of these, or something else is
--- too much
+-- no call has the name; else there are too few inputs or outputs; else there are too many of these, or something else
+-- is too much
 unfoldable pub error_by : Option CallRow → ℕ → ℕ → Bool → ℕ
 error_by None inputs outputs excess = error.NO_CALL
 error_by (Some r) inputs outputs excess =
@@ -179,8 +179,8 @@ error_by (Some r) inputs outputs excess =
 unfoldable pub exceeds : ℕ → ℕ → List ℕ → Bool
 exceeds errors controls words = nat_lt 1 errors || nat_lt 1 controls || not (list_any has_bit_0 words)
 
--- what a call asks for, with the places of its decode words: the values are taken now. The first error address counts, and the
--- first control
+-- what a call asks for, with the places of its decode words: the values are taken now. The first error address
+-- counts, and the first control
 unfoldable pub ask_of : Core → List ℕ → Shape → Ask
 ask_of c decode h =
     let inputs = filter_map (input_of c) h.arguments in
@@ -199,8 +199,8 @@ ask_of c decode h =
       operand = record { items = filter_map operand_of h.arguments };
     }
 
--- `.IOT` has no block: its channel is its one input, which has no place, and E its one output address, at which nothing is looked
--- for yet
+-- `.IOT` has no block: its channel is its one input, which has no place, and E its one output address, at which
+-- nothing is looked for yet
 unfoldable pub iot_ask : Site → ℕ → Ask
 iot_ask s channel = record {
   name = sixbit Iot;
@@ -217,12 +217,13 @@ abbrev pub ask_by : Core → Site → Option ℕ → Result Ask Fault
 ask_by c s (Some channel) = Ok (iot_ask s channel)
 ask_by c s None = given (shaped c s).answer (λ h. Ok (ask_of c (s.decode.items ++ (shaped c s).reads) h))
 
--- what a call asks for, or the fault of its decoding. Of a call by a block the decode words are those of the site, those of the
--- block, and those of the arguments' addresses, in the order of reading
+-- what a call asks for, or the fault of its decoding. Of a call by a block the decode words are those of the site,
+-- those of the block, and those of the arguments' addresses, in the order of reading
 unfoldable pub ask : Core → Site → Result Ask Fault
 ask c s = ask_by c s s.channel
 
--- the second half of the decoding of a call by a block, where the block is read already: the places of its words are known
+-- the second half of the decoding of a call by a block, where the block is read already: the places of its words are
+-- known
 abbrev pub block_places : ℕ → List ℕ → List ℕ
 block_places e block = map (λ k. k % 2 ^ 18) (range_with_len e (length block))
 

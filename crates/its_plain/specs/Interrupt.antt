@@ -159,7 +159,8 @@ dismissed_by j can (Some w) (Some d2) (Some d1) = if can then Ok (dismissed_to j
 dismissed_by j can _ _ _ = Err Mpv
 
 abbrev pub dismissed_at : Core → Job → ℕ → Option ℕ → Result Exit Fault
-dismissed_at c j p (Some s) = dismissed_by j (can_store c p) (word_at c (right_of s)) (word_at c (below s 1)) (word_at c (below s 2))
+dismissed_at c j p (Some s) =
+    dismissed_by j (can_store c p) (word_at c (right_of s)) (word_at c (below s 1)) (word_at c (below s 2))
 dismissed_at c j p None = Err Mpv
 
 -- DISMIS through the stack pointer word at p: MPV where a word is absent, else WRO where p is read only

@@ -25,8 +25,8 @@ pub data Chan : Type 0 where
 abbrev pub Symbol : Type 0
 Symbol = ℕ × ℕ
 
--- a job: its core, its registers, the slot of its superior where it has one, its 16 channels, and its alarm where it has
--- one, as a period and a next time. (The channels of its registers are the monitor's own, and are closed here)
+-- a job: its core, its registers, the slot of its superior where it has one, its 16 channels, and its alarm where it
+-- has one, as a period and a next time. (The channels of its registers are the monitor's own, and are closed here)
 pub record Whole : Type 0 where
   pub core : Core
   pub job : Job
@@ -34,9 +34,9 @@ pub record Whole : Type 0 where
   pub channels : ℕ → Chan
   pub alarm : Option (ℕ × ℕ)
 
--- jobs by slot, consoles and their holders by number, files in their order, the clock in thirtieths, the version of the
--- session text, 1 or 2, on which it depends how many jobs there can be, and the symbols of the job of each slot, in the order in
--- which they were kept
+-- jobs by slot, consoles and their holders by number, files in their order, the clock in thirtieths, the version of
+-- the session text, 1 or 2, on which it depends how many jobs there can be, and the symbols of the job of each slot,
+-- in the order in which they were kept
 pub record Machine : Type 0 where
   pub jobs : ℕ → Option Whole
   pub consoles : ℕ → Console
@@ -59,7 +59,8 @@ whole c j superior = record { core = c; job = j; superior = superior; channels =
 
 -- a machine with these jobs, and else as at the start of a session
 abbrev pub with_jobs : (ℕ → Option Whole) → Machine
-with_jobs jobs = record { jobs = jobs; consoles = λ _. no_bytes; holders = λ _. None; files = []; clock = 0; version = 1; symbols = λ _. [] }
+with_jobs jobs =
+    record { jobs = jobs; consoles = λ _. no_bytes; holders = λ _. None; files = []; clock = 0; version = 1; symbols = λ _. [] }
 
 -- the machine at the start of a session
 unfoldable pub no_machine : Machine

@@ -44,10 +44,10 @@ GoesOut pointer None puts cs h = ⊥
 abbrev pub word_named : View → ℕ → Option ℕ
 word_named v pointer = word_at v.own.core (right_of pointer)
 
--- what is moved through channel n, by what that is on: from a console the first byte that waits, and from a file or an
--- inferior the word at the channel's position; to a console the low 7 bits of the byte at the pointer, to a draft that
--- byte, and into an inferior likewise, at the channel's position. A position is then one more. Nothing is moved through a
--- closed channel
+-- what is moved through channel n, by what that is on: from a console the first byte that waits, and from a file or
+-- an inferior the word at the channel's position; to a console the low 7 bits of the byte at the pointer, to a draft
+-- that byte, and into an inferior likewise, at the channel's position. A position is then one more. Nothing is moved
+-- through a closed channel
 abbrev pub Bears : View → ℕ → ℕ → Chan → List Change → Option Held → Type 0
 Bears v pointer n TtyIn cs h =
     (cs ≡ changes.Take (console_of v) ∷ []) × ComesIn pointer (slice_get (v.consoles (console_of v)).input 0) h

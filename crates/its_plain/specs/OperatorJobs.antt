@@ -163,4 +163,5 @@ abbrev pub deposited_in : Core → ℕ → ℕ → Bool → Bool → Result Core
 deposited_in c a w can there = if can then Ok (store c a w) else (if there then Err ReadOnly else Err NoPage)
 
 unfoldable pub deposited : Machine → ℕ → ℕ → ℕ → Result Machine Reason
-deposited m s a w = on_job m s (λ q. with_core m s q (deposited_in q.core a w (can_store q.core a) (is_some (word_at q.core a)))) (m.jobs s)
+deposited m s a w =
+    on_job m s (λ q. with_core m s q (deposited_in q.core a w (can_store q.core a) (is_some (word_at q.core a)))) (m.jobs s)

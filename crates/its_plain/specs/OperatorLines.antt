@@ -46,8 +46,9 @@ abbrev pub by_clock : Machine → Block → ℕ → Result Machine Reason → Op
 by_clock m b n (Ok k) = Does k [] (due (m.clock + n) m.jobs) b
 by_clock m b n (Err r) = Refuses r
 
--- what each line comes to; a RUN line does nothing itself: its turns stand behind it. The lines of a LOAD block disturb the job that LOAD has just made: no `.` came for it,
--- so this says of a session no more than that LOAD disturbs it. PEEK does nothing to the machine
+-- what each line comes to; a RUN line does nothing itself: its turns stand behind it. The lines of a LOAD block
+-- disturb the job that LOAD has just made: no `.` came for it, so this says of a session no more than that LOAD
+-- disturbs it. PEEK does nothing to the machine
 unfoldable pub operate : Machine → Block → Event → Operated
 operate m b Nothing = Does m [] nobody b
 operate m b (Version v) = Does (versioned m v) [] nobody b
@@ -61,7 +62,8 @@ operate m b (Append words) = quietly b (words_added m b.file words.items)
 operate m b EndFile = Does m [] nobody b
 operate m b (Tick s n) = Ticks s n
 operate m b (Run n q) = Does m [] nobody b
-operate m b (TypeIn c bytes) = Does (typed c bytes.items m) (printed.Typed c (dropped (m.consoles c) bytes.items) ∷ []) nobody b
+operate m b (TypeIn c bytes) =
+    Does (typed c bytes.items m) (printed.Typed c (dropped (m.consoles c) bytes.items) ∷ []) nobody b
 operate m b (Drain c n) = Does (drained c n m) (printed.Drained c (take n (m.consoles c).output) ∷ []) nobody b
 operate m b (Clock n) = by_clock m b n (clocked m n)
 operate m b (Int s v w) = disturbs s b (on_registers m s (interrupted v w))

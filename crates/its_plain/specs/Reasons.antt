@@ -1,5 +1,5 @@
--- Why a call can have to wait, and when it has to (docs/CALLS.md, "Waiting"). A call that can wait has one reason for it,
--- which its name, what its channel is on and its job's console tell, and nothing else.
+-- Why a call can have to wait, and when it has to (docs/CALLS.md, "Waiting"). A call that can wait has one reason for
+-- it, which its name, what its channel is on and its job's console tell, and nothing else.
 use Rattle.std.specs.Prelude.{◌&&◌, ◌||◌, ℕ, ◌-◌, ◌^◌, Bool, true, not, Option, Some, None, nat_lt, length, unwrap_or}
 use Rattle.its_word.specs.Console.{most_waiting}
 use Rattle.its_word.specs.declared.calls.Ask.{Ask}
@@ -22,9 +22,9 @@ pub record Doors : Type 0 where
 abbrev pub doors : Machine → Doors
 doors m = record { consoles = m.consoles; holders = m.holders; clock = m.clock }
 
--- the call of slot k, whose first argument is n, has to wait for this reason: HANG always; a sleeper until its time has
--- come; a reader while no byte waits or another job holds the console; a writer while 64 bytes wait or another job holds
--- it; FINISH and LISTEN while a byte is left to be drained
+-- the call of slot k, whose first argument is n, has to wait for this reason: HANG always; a sleeper until its time
+-- has come; a reader while no byte waits or another job holds the console; a writer while 64 bytes wait or another
+-- job holds it; FINISH and LISTEN while a byte is left to be drained
 abbrev pub held_up : Doors → ℕ → ℕ → Wait → Bool
 held_up d k n Hang = true
 held_up d k n Clock = is_negative n && nat_lt d.clock (2 ^ 36 - n)

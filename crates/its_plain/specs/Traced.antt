@@ -25,7 +25,8 @@ faults f = plainly (Err f)
 
 -- a part, and then what is done with its value; it ends at the first fault
 abbrev pub goes_on : {X Y : Type 0} → List ℕ → List ℕ → Result X Fault → (X → Traced Y) → Traced Y
-goes_on rs ts (Ok x) rest = record { answer = (rest x).answer; reads = rs ++ (rest x).reads; tests = ts ++ (rest x).tests }
+goes_on rs ts (Ok x) rest =
+    record { answer = (rest x).answer; reads = rs ++ (rest x).reads; tests = ts ++ (rest x).tests }
 goes_on rs ts (Err f) rest = record { answer = Err f; reads = rs; tests = ts }
 
 unfoldable pub also : {X Y : Type 0} → Traced X → (X → Traced Y) → Traced Y
@@ -46,4 +47,5 @@ located_by (Err f) used = Err f
 
 -- the effective address of an address word, where so much of the budget is used already
 unfoldable pub located : Core → ℕ → ℕ → Traced Located
-located c w used = record { answer = located_by (address c w used).answer (address c w used).used; reads = (address c w used).reads; tests = [] }
+located c w used =
+    record { answer = located_by (address c w used).answer (address c w used).used; reads = (address c w used).reads; tests = [] }

@@ -68,7 +68,8 @@ turn_at c i x = gives (Found (record { instruction = i; context = x }))
 
 -- an instruction word that is reached with so much of the budget used
 unfoldable pub turn : Core → Job → ℕ → ℕ → Traced Turn
-turn c j w used = also (plainly (decoded w)) (λ i. also (located c w used) (λ f. turn_at c i (context_of j w f.at f.used)))
+turn c j w used =
+    also (plainly (decoded w)) (λ i. also (located c w used) (λ f. turn_at c i (context_of j w f.at f.used)))
 
 abbrev pub followed : (ℕ → ℕ → Traced Reached) → Turn → Traced Reached
 followed rest (Found r) = gives r
@@ -119,8 +120,8 @@ abbrev pub outcome_of : Core → Job → Planned → Outcome
 outcome_of c j (Ok p) = made c j p (first_fault c p.stores.items)
 outcome_of c j (Err f) = Faulted f
 
--- where a job calls the monitor, with the places of the words that were read to come there. PC is that of the call, or of
--- the XCT that began the chain
+-- where a job calls the monitor, with the places of the words that were read to come there. PC is that of the call,
+-- or of the XCT that began the chain
 abbrev pub site_of : Context → Option ℕ → List ℕ → Site
 site_of x channel reads = record {
   pc = x.pc;

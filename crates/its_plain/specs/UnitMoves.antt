@@ -42,4 +42,5 @@ half_to c x Memory = read_of c x.e
 half_to c x Both = read_of c x.e
 
 unfoldable pub half_row : Core → Context → ℕ → Mode → Planned
-half_row c x k m = given (moved_from c x m) (λ s. given (half_to c x m) (λ d. Ok (next x (moved_to x m (half_of k s d)) 0)))
+half_row c x k m =
+    given (moved_from c x m) (λ s. given (half_to c x m) (λ d. Ok (next x (moved_to x m (half_of k s d)) 0)))

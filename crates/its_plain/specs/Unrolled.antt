@@ -1,4 +1,5 @@
--- RUN lines unrolled: behind each stand its turns, along the run of a session's lines (docs/MACHINE.md, "Turns in a circle").
+-- RUN lines unrolled: behind each stand its turns, along the run of a session's lines (docs/MACHINE.md, "Turns in a
+-- circle").
 use Rattle.std.specs.Prelude.{◌≡◌, ◌≢◌, ◌<◌, ◌==◌, ℕ, zero, suc, ◌-◌, Bool, true, false, not, Option, Some, None, List, [], ◌∷◌, ◌++◌, length, drop, map, flat_map}
 use Rattle.std.specs.List.{list_any}
 use Rattle.its_robin.specs.Robin.{robin}
@@ -22,8 +23,8 @@ is_running None = false
 abbrev pub runs : Machine → ℕ → Bool
 runs m k = is_running (m.jobs k)
 
--- whose turn comes after that of the last slot: the first that runs behind it, around the circle of all slots, with itself as
--- the final one; nobody's where no job runs
+-- whose turn comes after that of the last slot: the first that runs behind it, around the circle of all slots, with
+-- itself as the final one; nobody's where no job runs
 abbrev pub turn_after : Machine → ℕ → Option ℕ
 turn_after m last = robin slots (runs m) last
 
@@ -56,15 +57,16 @@ pub record Turn : Type 0 where
   pub machine : Machine
   pub slot : ℕ
 
--- up to n turns from machine m on, where these lines are shown: each is of the slot whose turn it is, and they end early where no
--- job runs
+-- up to n turns from machine m on, where these lines are shown: each is of the slot whose turn it is, and they end
+-- early where no job runs
 abbrev pub chosen : Machine → Option ℕ → (ℕ → List Turn) → List Turn
 chosen m (Some s) next = record { machine = m; slot = s } ∷ next s
 chosen m None next = []
 
 abbrev pub turns : ℕ → Machine → ℕ → List Line → List Turn
 turns zero m last lines = []
-turns (suc n) m last lines = chosen m (turn_after m last) (λ s. turns n (after_letters m s (letters lines)) s (drop 1 lines))
+turns (suc n) m last lines =
+    chosen m (turn_after m last) (λ s. turns n (after_letters m s (letters lines)) s (drop 1 lines))
 
 -- the machine after some turns, which show these lines, and the slot of the last one
 abbrev pub machine_behind : Machine → List Turn → List Line → Machine
@@ -75,8 +77,8 @@ abbrev pub last_behind : ℕ → List Turn → ℕ
 last_behind last [] = last
 last_behind last (t ∷ ts) = last_behind t.slot ts
 
--- where a session stands after a line: its machine, its block, and the lines that are still to come. A line that is refused and
--- END leave nothing to come
+-- where a session stands after a line: its machine, its block, and the lines that are still to come. A line that is
+-- refused and END leave nothing to come
 pub record Stand : Type 0 where
   pub machine : Machine
   pub block : Block
@@ -84,8 +86,10 @@ pub record Stand : Type 0 where
 
 abbrev pub stand_after : Machine → Block → Lined → List Line → Option Stand
 stand_after m b (Done (Refuses r)) lines = None
-stand_after m b (Done (Does n out touched c)) lines = Some (record { machine = n; block = c; lines = drop (length out) lines })
-stand_after m b (Done (Ticks s k)) lines = Some (record { machine = after_letters m s (letters lines); block = b; lines = drop 1 lines })
+stand_after m b (Done (Does n out touched c)) lines =
+    Some (record { machine = n; block = c; lines = drop (length out) lines })
+stand_after m b (Done (Ticks s k)) lines =
+    Some (record { machine = after_letters m s (letters lines); block = b; lines = drop 1 lines })
 stand_after m b (Done Quits) lines = None
 stand_after m b (Peeks s) lines = Some (record { machine = m; block = b; lines = drop 1 lines })
 
@@ -102,7 +106,8 @@ alone x = record { line = x; turns = []; ticks = 0 }
 abbrev pub part_by : Event → ℕ → List Item → Option Stand → (Stand → List Turn → List Part) → List Part
 part_by e last es None next = map alone (Read e ∷ es)
 part_by e last es (Some x) next =
-    let ts = turns (turns_asked e) x.machine last x.lines in record { line = Read e; turns = ts; ticks = ticks_asked e } ∷ next x ts
+    let ts = turns (turns_asked e) x.machine last x.lines in
+    record { line = Read e; turns = ts; ticks = ticks_asked e } ∷ next x ts
 
 -- the lines of a session from a machine on, after a turn of the last slot, where these lines are shown
 abbrev pub parts_from : Machine → Block → ℕ → List Item → List Line → List Part
@@ -137,11 +142,12 @@ RunsAt k (t ∷ ts) = (runs t.machine k ≡ true) × RunsAt k ts
 abbrev pub has_turn : ℕ → List Turn → Bool
 has_turn k ts = list_any (λ t. t.slot == k) ts
 
--- the turns of one RUN are fair: between two turns of one slot each other slot has a turn, if its job runs at each choice behind
--- the first of the two, up to and with the choice of the second
+-- the turns of one RUN are fair: between two turns of one slot each other slot has a turn, if its job runs at each
+-- choice behind the first of the two, up to and with the choice of the second
 pub record Fair (ts : List Turn) : Type 0 where
-  pub each : (before between after : List Turn) (a z : Turn) (k : ℕ) → ts ≡ before ++ (a ∷ (between ++ (z ∷ after))) → z.slot ≡ a.slot
-      → k < slots → k ≢ a.slot → RunsAt k (between ++ z ∷ []) → has_turn k between ≡ true
+  pub each : (before between after : List Turn) (a z : Turn) (k : ℕ)
+      → ts ≡ before ++ (a ∷ (between ++ (z ∷ after)))
+      → z.slot ≡ a.slot → k < slots → k ≢ a.slot → RunsAt k (between ++ z ∷ []) → has_turn k between ≡ true
 
 abbrev pub AreFair : List Part → Type 0
 AreFair [] = Unit {0}

@@ -247,12 +247,10 @@ out_of (Line events.End) es old new (Some bytes) mid (Some ys) r s t g =
           (λ whole more. items_ahead whole old (t.read ++ more) ≡ Read events.End ∷ []) (λ whole more. all_items whole ((s.read ++ t.read) ++ more) ≡ es ++ Read events.End ∷ []) t.read t.over
           (λ whole more p q. ap (all_items whole) (append_assoc s.read t.read more) ∙ p ∙ ap (λ x. es ++ x) q) s.so_far t.found);
     }
-out_of (Line e) es old new (Some bytes) mid (Some ys) r s t g = cc
-out_of (Bad b) es old new (Some bytes) mid (Some ys) r s t g = cc
-out_of Beyond es old new (Some bytes) mid (Some ys) r s t g = cc
 out_of End es old new (Some bytes) mid (Some ys) r s t g =
     let c = Consumes-trans (Some bytes) mid (Some ys) s.read t.read s.consumed t.consumed in
     record { read = s.read ++ t.read; consumed = c; out = inl (sym (append-nil (s.read ++ t.read)) ∙ ap (λ x. (s.read ++ t.read) ++ x) (sym (r.over t.found.0).1) ∙ sym c) }
+out_of _ es old new (Some bytes) mid (Some ys) r s t g = cc
 
 pub ended_by : (f : Found) (es : List Item) (old new : Items) (left mid rest : Option (List ℕ)) → is_last f ≡ true → Ready new.lines rest → FoundSoFar es old left mid → Finds (Ok f) old new mid rest → Ended (Ok f) es left rest
 ended_by f es old new left mid rest g r s t =
@@ -311,6 +309,4 @@ behind_by f es old new left mid rest r s t = elim (cases_Bool (is_last f)) [
   where
     by : (x : Found) → is_last x ≡ false → Finds (Ok x) old new mid rest → IfSome left (λ bytes. Behind x es bytes)
     by (Line e) l t = line_behind e es new left rest l r (so_next es e old new left mid rest l s t)
-    by (Bad b) l t = cc
-    by Beyond l t = cc
-    by End l t = cc
+    by _ l t = cc

@@ -238,9 +238,7 @@ before_end (c ∷ cs) b is =
 
 pub short_end : (next : Next) (n most : ℕ) (text now : List ℕ) (b : ℕ) → PushedText (Some next) n most text b now → next ≡ Line → length text ≤ most → length (before_lf now) ≤ most
 short_end Line n most text now b p is short = rw p.1 (let l = before_end text b p.0 in omega (arith, l, short))
-short_end Long n most text now b p is short = cc
-short_end Beyond n most text now b p is short = cc
-short_end End n most text now b p is short = cc
+short_end _ n most text now b p is short = cc
 
 pub short_last : (text : List ℕ) (most : ℕ) → length text ≤ most → length (before_lf text) ≤ most
 short_last text most short = (let l = short_before text in omega (arith, l, short))

@@ -10,7 +10,7 @@ use Rattle.its_word.specs.declared.session.Place.{Place}
 use Rattle.its_word.specs.declared.session.Place.TheVariants as places
 use Rattle.its_word.specs.declared.session.Bad.{Bad as BadLine}
 use Rattle.its_word.specs.declared.session.Reason.TheVariants as reasons
-use Rattle.its_session.specs.Events.{lines_from, items_from, item_then, place_after, version_after, reason_of, events_of, whole_events_of}
+use Rattle.its_session.specs.Events.{lines_from, items_from, item_then, place_after, version_after, unread_reason, events_of, whole_events_of}
 use Rattle.its_session.specs.Fits.{EventFits, Stands}
 use Rattle.its_reader.specs.declared.items.Items.{Items}
 use Rattle.its_reader.specs.declared.items.Found.{Found}
@@ -20,7 +20,7 @@ use Rattle.its_reader.specs.Lines.{Facing, ahead}
 -- what a line comes to, and the place and the version of the line behind it
 abbrev pub found_of : Result Event BadLine → Found
 found_of (Ok e) = Line e
-found_of (Err bad) = Bad (reason_of bad)
+found_of (Err bad) = Bad (unread_reason bad)
 
 abbrev pub place_found : Place → Found → Place
 place_found place (Line e) = place_after place e

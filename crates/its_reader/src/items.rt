@@ -1,7 +1,6 @@
 ghost use Rattle.std.specs.Prelude.{◌≡◌, ◌≤◌, ◌+◌, [], false, IfOk};
 ghost use Rattle.its_io.specs.Bytes.{HasCause};
-ghost use Rattle.its_session.specs.Events.{most_lines, place_after, reason_of, version_after};
-ghost use Rattle.its_session.specs.Fits.{EventFits};
+ghost use Rattle.its_session.specs.Events.{most_lines, place_after, unread_reason, version_after};
 ghost use Rattle.its_reader.specs.Bytes.{pending, Fits};
 ghost use Rattle.its_reader.specs.Lines.{Ready};
 ghost use Rattle.its_session.specs.Grammar.{line_event};
@@ -91,7 +90,7 @@ impl Items {
                 self.version = version_after(self.version, &event);
                 Found::Line(event)
             }
-            Err(bad) => Found::Bad(reason_of(bad)),
+            Err(bad) => Found::Bad(unread_reason(bad)),
         }
     }
 }
@@ -142,8 +141,8 @@ fn version_after(version: u8, event: &Event) -> u8
 }
 
 /// The reason of a line that is not read.
-fn reason_of(bad: Bad) -> Reason
-    ensures { result ≡ reason_of bad }
+fn unread_reason(bad: Bad) -> Reason
+    ensures { result ≡ unread_reason bad }
 {
     match bad {
         Bad::Long => Reason::Long,

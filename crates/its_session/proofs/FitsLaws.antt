@@ -121,10 +121,7 @@ load_fits : (v : ℕ) (ws : List (List ℕ)) (e : Event) → load_line ws ≡ Ok
 unfolding load_line
 load_fits v (u ∷ j ∷ c ∷ []) e h =
     fits_by v (name u ∷ name j ∷ console_or_dash c ∷ []) (events.Load (sixbit_of u) (sixbit_of j) (console_of c)) e (λ f. (is_name_word u f.0, is_name_word j f.1.0, may_be_console c f.1.1.0)) h
-load_fits v [] e h = cc
-load_fits v (u ∷ []) e h = cc
-load_fits v (u ∷ j ∷ []) e h = cc
-load_fits v (u ∷ j ∷ c ∷ x ∷ ws) e h = cc
+load_fits v _ e h = cc
 
 words_fits : (v : ℕ) (a : List ℕ) (ws : List (List ℕ)) (e : Event) → words_line a ws ≡ Ok e → ReadAt v places.Load e
 unfolding words_line
@@ -147,10 +144,7 @@ file_fits : (v : ℕ) (ws : List (List ℕ)) (e : Event) → file_line ws ≡ Ok
 unfolding file_line
 file_fits v (d ∷ x ∷ y ∷ []) e h =
     fits_by v (name d ∷ name x ∷ name y ∷ []) (events.File (sixbit_of d) (sixbit_of x) (sixbit_of y)) e (λ f. (is_name_word d f.0, is_name_word x f.1.0, is_name_word y f.1.1.0)) h
-file_fits v [] e h = cc
-file_fits v (d ∷ []) e h = cc
-file_fits v (d ∷ x ∷ []) e h = cc
-file_fits v (d ∷ x ∷ y ∷ z ∷ ws) e h = cc
+file_fits v _ e h = cc
 
 append_fits : (v : ℕ) (ws : List (List ℕ)) (e : Event) → append_line ws ≡ Ok e → ReadAt v places.File e
 unfolding append_line
@@ -165,18 +159,14 @@ tick_fits : (v : ℕ) (ws : List (List ℕ)) (e : Event) → tick_line v ws ≡ 
 unfolding tick_line
 tick_fits v (s ∷ n ∷ []) e h =
     fits_by v (slot v s ∷ count_to 512 n ∷ []) (events.Tick (octal_value s) (octal_value n)) e (λ f. (let n_in = from_one 512 n f.1.0 in (at_most (last_slot v) s f.0, n_in.0, n_in.1))) h
-tick_fits v [] e h = cc
-tick_fits v (s ∷ []) e h = cc
-tick_fits v (s ∷ n ∷ m ∷ ws) e h = cc
+tick_fits v _ e h = cc
 
 run_fits : (v : ℕ) (ws : List (List ℕ)) (e : Event) → run_line ws ≡ Ok e → ReadAt v places.Plain e
 unfolding run_line
 run_fits v (n ∷ q ∷ []) e h =
     fits_by v (count_to 512 n ∷ count_to 64 q ∷ []) (events.Run (octal_value n) (octal_value q)) e
     (λ f. (let n_in = from_one 512 n f.0 in let q_in = from_one 64 q f.1.0 in (n_in.0, n_in.1, q_in.0, q_in.1))) h
-run_fits v [] e h = cc
-run_fits v (n ∷ []) e h = cc
-run_fits v (n ∷ q ∷ m ∷ ws) e h = cc
+run_fits v _ e h = cc
 
 type_fits : (v : ℕ) (ws : List (List ℕ)) (e : Event) → type_line ws ≡ Ok e → ReadAt v places.Plain e
 unfolding type_line
@@ -193,9 +183,7 @@ drain_fits : (v : ℕ) (ws : List (List ℕ)) (e : Event) → drain_line ws ≡ 
 unfolding drain_line
 drain_fits v (c ∷ n ∷ []) e h =
     fits_by v (console c ∷ count_to 64 n ∷ []) (events.Drain (octal_value c) (octal_value n)) e (λ f. (let n_in = from_one 64 n f.1.0 in (is_console c f.0, n_in.0, n_in.1))) h
-drain_fits v [] e h = cc
-drain_fits v (c ∷ []) e h = cc
-drain_fits v (c ∷ n ∷ x ∷ ws) e h = cc
+drain_fits v _ e h = cc
 
 clock_fits : (v : ℕ) (ws : List (List ℕ)) (e : Event) → clock_line ws ≡ Ok e → ReadAt v places.Plain e
 unfolding clock_line
@@ -207,10 +195,7 @@ int_fits : (v : ℕ) (ws : List (List ℕ)) (e : Event) → int_line v ws ≡ Ok
 unfolding int_line
 int_fits v (s ∷ p ∷ q ∷ []) e h =
     fits_by v (slot v s ∷ number p ∷ number q ∷ []) (events.Int (octal_value s) (octal_value p) (octal_value q)) e (λ f. at_most (last_slot v) s f.0) h
-int_fits v [] e h = cc
-int_fits v (s ∷ []) e h = cc
-int_fits v (s ∷ p ∷ []) e h = cc
-int_fits v (s ∷ p ∷ q ∷ x ∷ ws) e h = cc
+int_fits v _ e h = cc
 
 -- a slot, a first address and a count
 abbrev IsSpan : ℕ → ℕ × ℕ × ℕ → Type 0
@@ -224,10 +209,7 @@ span_is v (s ∷ a ∷ n ∷ []) x h =
     let few = n_in.1 in
     let most = at_most (2 ^ 18 - octal_value n) a m.0.1.0 in
     subst (IsSpan v) m.1 (at_most (last_slot v) s m.0.0, n_in.0, n_in.1, omega arith)
-span_is v [] x h = cc
-span_is v (s ∷ []) x h = cc
-span_is v (s ∷ a ∷ []) x h = cc
-span_is v (s ∷ a ∷ n ∷ b ∷ ws) x h = cc
+span_is v _ x h = cc
 
 span_fits : (v : ℕ) (event : ℕ → ℕ → ℕ → Event) (ws : List (List ℕ)) (e : Event) → ((x : ℕ × ℕ × ℕ) → IsSpan v x → ReadAt v places.Plain (event x.0 x.1 x.2))
     → of_span event (span_line v ws) ≡ Ok e → ReadAt v places.Plain e
@@ -241,10 +223,7 @@ deposit_fits : (v : ℕ) (ws : List (List ℕ)) (e : Event) → deposit_line v w
 unfolding deposit_line
 deposit_fits v (s ∷ a ∷ w ∷ []) e h =
     fits_by v (slot v s ∷ address a ∷ number w ∷ []) (events.Deposit (octal_value s) (octal_value a) (octal_value w)) e (λ f. (at_most (last_slot v) s f.0, is_address a f.1.0)) h
-deposit_fits v [] e h = cc
-deposit_fits v (s ∷ []) e h = cc
-deposit_fits v (s ∷ a ∷ []) e h = cc
-deposit_fits v (s ∷ a ∷ w ∷ x ∷ ws) e h = cc
+deposit_fits v _ e h = cc
 
 slot_is : (v : ℕ) (ws : List (List ℕ)) (s : ℕ) → slot_line v ws ≡ Ok s → s ≤ last_slot v
 unfolding slot_line
@@ -269,10 +248,7 @@ show_fits : (v : ℕ) (ws : List (List ℕ)) (e : Event) → show_line ws ≡ Ok
 unfolding show_line
 show_fits v (d ∷ x ∷ y ∷ []) e h =
     fits_by v (name d ∷ name x ∷ name y ∷ []) (events.Show (sixbit_of d) (sixbit_of x) (sixbit_of y)) e (λ f. (is_name_word d f.0, is_name_word x f.1.0, is_name_word y f.1.1.0)) h
-show_fits v [] e h = cc
-show_fits v (d ∷ []) e h = cc
-show_fits v (d ∷ x ∷ []) e h = cc
-show_fits v (d ∷ x ∷ y ∷ z ∷ ws) e h = cc
+show_fits v _ e h = cc
 
 bare_fits : (v : ℕ) (d : Event) (ws : List (List ℕ)) (e : Event) → EventFits v d → bare_line d ws ≡ Ok e → ReadAt v (place_of d) e
 unfolding bare_line
@@ -294,9 +270,7 @@ read_only_fits v (p ∷ x ∷ ws) e h = cc
 symbol_fits : (v : ℕ) (ws : List (List ℕ)) (e : Event) → symbol_line ws ≡ Ok e → ReadAt v places.Load e
 unfolding symbol_line
 symbol_fits v (x ∷ a ∷ []) e h = fits_by v (name x ∷ address a ∷ []) (events.Symbol (sixbit_of x) (octal_value a)) e (λ f. (is_name_word x f.0, is_address a f.1.0)) h
-symbol_fits v [] e h = cc
-symbol_fits v (x ∷ []) e h = cc
-symbol_fits v (x ∷ a ∷ y ∷ ws) e h = cc
+symbol_fits v _ e h = cc
 
 -- an event whose place is this one stands there
 stands_by : (place : Place) (e : Event) → is_at place (place_of e) ≡ true → Stands place e

@@ -1,4 +1,3 @@
-pub mod WordsLaws
 pub mod RowLaws
 pub mod PutLaws
 pub mod LineLaws

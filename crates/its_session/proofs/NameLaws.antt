@@ -7,7 +7,7 @@ use Rattle.std.proofs.Math.Nat.{pow-suc}
 use Rattle.its_word.specs.Text.{is_code, is_name, sixbit_of}
 use Rattle.its_session.specs.Fits.{IsNameWord}
 use Rattle.its_session.specs.Writing.{characters, name_of}
-use Rattle.its_session.proofs.LineLaws.{IsRun}
+use Rattle.its_word.proofs.WordsLaws.{IsRun}
 
 pub some_from_test : (n : ℕ) → leb 1 n ≡ true → 1 ≤ n
 some_from_test n h = grind (arith, nat_tests)
@@ -44,13 +44,8 @@ below (c ∷ cs) h =
 -- a character, and then a number of the k characters after it
 step_is : (k c n : ℕ) → k ≤ 5 → 33 ≤ c → c ≤ 95 → n < 64 ^ k
     → (((c - 32) * 64 ^ k + n) * 2 ^ (6 * (6 - suc k)) / 2 ^ 30 ≡ c - 32) × (((c - 32) * 64 ^ k + n) * 2 ^ (6 * (6 - suc k)) * 2 ^ 6 % 2 ^ 36 ≡ n * 2 ^ (6 * (6 - k)))
-step_is zero c n h low high small = (omega arith, omega arith)
-step_is (suc zero) c n h low high small = (omega arith, omega arith)
-step_is (suc (suc zero)) c n h low high small = (omega arith, omega arith)
-step_is (suc (suc (suc zero))) c n h low high small = (omega arith, omega arith)
-step_is (suc (suc (suc (suc zero)))) c n h low high small = (omega arith, omega arith)
-step_is (suc (suc (suc (suc (suc zero))))) c n h low high small = (omega arith, omega arith)
 step_is (suc (suc (suc (suc (suc (suc k)))))) c n h low high small = absurd (omega arith)
+step_is _ c n h low high small = (omega arith, omega arith)
 
 -- the word of some characters, in its top
 abbrev word_of : List ℕ → ℕ

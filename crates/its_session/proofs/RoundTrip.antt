@@ -7,7 +7,7 @@ use Rattle.std.proofs.lemmas.List.{get_or_push, length-append, length-map}
 use Rattle.std.proofs.lemmas.List.Folds.{list_all-append}
 use Rattle.std.proofs.Math.Nat.{div-eq_of_lt}
 use Rattle.std.proofs.Math.Seq.{take-append_seam}
-use Rattle.its_word.specs.Text.{digits_of, octal6_of, octal12_of, is_code, is_octal, octal_value, spaced}
+use Rattle.its_word.specs.Text.{digits_of, octal6_of, octal12_of, is_code, is_octal, octal_value, spaced, words_of}
 use Rattle.its_word.specs.declared.session.Event.{Event}
 use Rattle.its_word.specs.declared.session.Event.TheVariants as events
 use Rattle.its_word.specs.declared.session.Place.{Place}
@@ -16,10 +16,11 @@ use Rattle.its_word.proofs.DigitLaws.{digits_are_codes, digits_are_octal, digits
 use Rattle.its_word.proofs.SpacedLaws.{room_of}
 use Rattle.its_word.proofs.TextLaws.{octal12_reads}
 use Rattle.its_session.specs.declared.kind.Kind.TheVariants as kinds
-use Rattle.its_session.specs.Grammar.{append_line, bare_line, before_slash, clock_line, deposit_line, dir_line, drain_line, event_of_words, file_line, go_line, int_line, is_comment, is_place, kind_of, line_event, load_line, show_line, last_slot, read_only_line, run_line, slot_line, span_line, of_span, symbol_line, tick_line, type_line, version_line, words_line, words_of}
+use Rattle.its_session.specs.Grammar.{append_line, bare_line, before_slash, clock_line, deposit_line, dir_line, drain_line, event_of_words, file_line, go_line, int_line, is_comment, is_place, kind_of, line_event, load_line, show_line, last_slot, read_only_line, run_line, slot_line, span_line, of_span, symbol_line, tick_line, type_line, version_line, words_line}
 use Rattle.its_session.specs.Fits.{EventFits, IsNameWord, place_of}
 use Rattle.its_session.specs.Writing.{AreWords, HasWords, console_text, name_of, text_of_event}
-use Rattle.its_session.proofs.LineLaws.{AllRuns, IsRun, line_of_words}
+use Rattle.its_word.proofs.WordsLaws.{IsRun}
+use Rattle.its_session.proofs.LineLaws.{AllRuns, line_of_words}
 use Rattle.its_session.proofs.NameLaws.{both, name_reads, some_from_test}
 use Rattle.its_session.proofs.RowLaws.{bytes_consoles, bytes_formed, bytes_ranged, numbers_consoles, numbers_formed, numbers_ranged}
 

@@ -16,17 +16,12 @@ past = record { ref_ptr = (0, 0); now = [] }
 
 pub three_words : (ws : List (Bor (List ℕ))) → 3 ≤ length ws → length ws < 4
     → map (λ w. w.now) ws ≡ (get_or ws 0 past).now ∷ (get_or ws 1 past).now ∷ (get_or ws 2 past).now ∷ []
-three_words [] some few = absurd (omega arith)
-three_words (a ∷ []) some few = absurd (omega arith)
-three_words (a ∷ b ∷ []) some few = absurd (omega arith)
 three_words (a ∷ b ∷ c ∷ []) some few = refl
-three_words (a ∷ b ∷ c ∷ e ∷ ws) some few = absurd (omega arith)
+three_words _ some few = absurd (omega arith)
 
 pub two_words : (ws : List (Bor (List ℕ))) → 2 ≤ length ws → length ws < 3 → map (λ w. w.now) ws ≡ (get_or ws 0 past).now ∷ (get_or ws 1 past).now ∷ []
-two_words [] some few = absurd (omega arith)
-two_words (a ∷ []) some few = absurd (omega arith)
 two_words (a ∷ b ∷ []) some few = refl
-two_words (a ∷ b ∷ c ∷ ws) some few = absurd (omega arith)
+two_words _ some few = absurd (omega arith)
 
 pub first_word : (ws : List (Bor (List ℕ))) → 1 ≤ length ws
     → map (λ w. w.now) ws ≡ (get_or ws 0 past).now ∷ map (λ w. w.now) (take (length ws - 1) (drop 1 ws))

@@ -49,17 +49,17 @@ end_of true places.First = []
 end_of true places.Plain = []
 end_of false place = []
 
-abbrev pub reason_of : Bad → Reason
-reason_of bads.Long = reasons.Long
-reason_of bads.Syntax = reasons.Syntax
-reason_of bads.Range = reasons.Range
-reason_of bads.NoConsole = reasons.NoCons
+abbrev pub unread_reason : Bad → Reason
+unread_reason bads.Long = reasons.Long
+unread_reason bads.Syntax = reasons.Syntax
+unread_reason bads.Range = reasons.Range
+unread_reason bads.NoConsole = reasons.NoCons
 
 -- a line, and what follows where it is read and does not end the session
 abbrev pub item_then : Result Event Bad → (Event → List Item) → List Item
 item_then (Ok events.End) rest = Read events.End ∷ []
 item_then (Ok e) rest = Read e ∷ rest e
-item_then (Err bad) rest = Unread (reason_of bad) ∷ []
+item_then (Err bad) rest = Unread (unread_reason bad) ∷ []
 
 -- the items of lines from line number n on, at a place of a session of version v: up to END, the first line that is not read, or
 -- the line past the most

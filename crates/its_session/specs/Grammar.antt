@@ -1,8 +1,8 @@
 -- The lines of a session: which event each is at its place, or the first reason why it is none
 -- (docs/SESSION.md). Characters are their ASCII codes, numbers of the text are octal.
-use Rattle.std.specs.Prelude.{if◌then◌else◌, ℕ, ◌-◌, ◌^◌, Bool, true, false, not, ◌&&◌, Option, Some, None, Result, Ok, Err, List, [], ◌∷◌, length, map, filter, take, slice_index, nat_le, ◌==◌, bytes_eq, codes}
-use Rattle.std.specs.List.{list_all, slice_split}
-use Rattle.its_word.specs.Text.{is_code, is_octal, octal_value, is_name, sixbit_of}
+use Rattle.std.specs.Prelude.{if◌then◌else◌, ℕ, ◌-◌, ◌^◌, Bool, true, false, ◌&&◌, Option, Some, None, Result, Ok, Err, List, [], ◌∷◌, length, map, take, slice_index, nat_le, ◌==◌, bytes_eq, codes}
+use Rattle.std.specs.List.{list_all}
+use Rattle.its_word.specs.Text.{is_code, is_octal, octal_value, is_name, sixbit_of, words_of}
 use Rattle.its_word.specs.declared.session.Event.{Event}
 use Rattle.its_word.specs.declared.session.Event.TheVariants as events
 use Rattle.its_word.specs.declared.session.Place.{Place}
@@ -11,10 +11,6 @@ use Rattle.its_word.specs.declared.session.Bad.{Bad}
 use Rattle.its_word.specs.declared.session.Bad.TheVariants.{Long, Syntax, Range, NoConsole}
 use Rattle.its_session.specs.declared.kind.Kind.{Kind}
 use Rattle.its_session.specs.declared.kind.Kind.TheVariants as kinds
-
--- a line's words are its runs of bytes other than space
-unfoldable pub words_of : List ℕ → List (List ℕ)
-words_of line = filter (λ run. not (length run == 0)) (slice_split (λ b. b == 32) line)
 
 -- a word in a field of a line: whether it is a number or a name as the field wants one, whether a
 -- number other than a console lies in the field's range, and whether there is such a console

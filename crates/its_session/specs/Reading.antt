@@ -1,15 +1,11 @@
 -- What the steps of reading a line give.
-use Rattle.std.specs.Prelude.{if◌then◌else◌, ◌==◌, ◌&&◌, ℕ, Option, Some, None, Result, Ok, Err, List, [], ◌∷◌, length, map, nat_le}
+use Rattle.std.specs.Prelude.{if◌then◌else◌, ◌&&◌, ℕ, Option, Some, None, Result, Ok, Err, List, length, map, nat_le}
 use Rattle.std.specs.List.{list_all}
 use Rattle.arrayvec.specs.ArrayVec.{ArrayVec}
 use Rattle.its_word.specs.Text.{is_name, is_octal, octal_value, sixbit_of}
 use Rattle.its_word.specs.declared.session.Bad.{Bad}
 use Rattle.its_word.specs.declared.session.Bad.TheVariants.{Syntax, Range, NoConsole}
 use Rattle.its_session.specs.Grammar.{is_dash}
-
--- a run of bytes other than space as a word, if it has any bytes
-abbrev pub word_in : List ℕ → List (List ℕ)
-word_in run = if length run == 0 then [] else run ∷ []
 
 abbrev pub number_in : List ℕ → Result ℕ Bad
 number_in w = if is_octal w then Ok (octal_value w) else Err Syntax

@@ -12,7 +12,6 @@ mod read;
 mod rows;
 #[cfg(test)]
 mod tests;
-mod words;
 
 pub use generator::generated;
 pub use print::print_event;

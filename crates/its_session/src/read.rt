@@ -1,5 +1,5 @@
 //! Reading a line.
-ghost use Rattle.std.specs.Prelude.{◌≡◌, ◌==◌, map, slice_index, IfOk};
+ghost use Rattle.std.specs.Prelude.{◌≡◌, map, IfOk};
 ghost use Rattle.std.specs.List.{list_all};
 ghost use Rattle.its_word.specs.Text.{is_code};
 ghost use Rattle.its_session.specs.Fits.{EventFits, Stands};
@@ -7,8 +7,7 @@ ghost use Rattle.its_session.specs.Grammar.{event_of_words, is_comment, line_eve
 
 use super::kind::{Kind, before_slash, kind_of, may_stand};
 use super::rows;
-use super::words::words;
-use its_word::{Bad, Event, Place};
+use its_word::{Bad, Event, Place, words};
 
 /// The event of a line (without its LF) at a place of a session of this version, or the first reason why it is none: `Long` for more
 /// than 255 bytes, `Syntax` for a line that may not stand there, `Range` for a number outside its

@@ -17,14 +17,15 @@ use Rattle.its_frame.specs.declared.decision.Held.{Held}
 use Rattle.its_frame.specs.declared.variable.Variable.{Variable}
 use Rattle.its_frame.specs.declared.variable.Variable.TheVariants.{Uname, Jname, Uind, Suppro, Cnsl, Pages, Upc, Ustp, Pirqc, Ifpir, Mask, Msk2, Df1, Df2}
 use Rattle.its_plain.specs.Arguments.{input, has_input, place_of_input, revalued}
-use Rattle.its_plain.specs.CallBasic.{dismissed_by, dismiss_at, dismiss, Party, Oneself, Nobody, Channel, variable_named, by_oneself, by_superior, set_own, own_variable, set_other, value_of_other, other_variable, usrvar_of, channel_at, party, usrvar}
+use Rattle.its_frame.specs.Variables.{variable_named}
+use Rattle.its_plain.specs.CallBasic.{dismissed_by, dismiss_at, dismiss, Party, Oneself, Nobody, Channel, by_oneself, by_superior, set_own, own_variable, set_other, value_of_other, other_variable, usrvar_of, channel_at, party, usrvar}
 use Rattle.its_plain.specs.CallTty.{console_of, has_console, can_take, is_holder, lands, ttylnd_of, ttylnd}
 use Rattle.its_plain.specs.CallStep.{with_held, acted, decision, informs, step}
 use Rattle.its_plain.specs.CallUsr.{inferior_named, any_named, makes_job, opens_job, usr_tests, opens_usr, uclose_on, uclose}
 use Rattle.its_plain.specs.Change.{in_job, is_gone, left_job, removed, superiors, inferior, effect, effects}
 use Rattle.its_plain.specs.Decide.{call_named, decided_by, decided, target, reach}
 use Rattle.its_plain.specs.Interrupt as interrupt
-use Rattle.its_plain.specs.Interrupt.{Delivered, deliverable, delivered, dismissed, dismissed_at, below}
+use Rattle.its_plain.specs.Interrupt.{delivered, dismissed, dismissed_at, below}
 use Rattle.its_plain.specs.Machine.{Chan, Shut, TtyIn, TtyOut, Reads, Writes, On, Whole, Machine, changed, no_machine}
 use Rattle.its_plain.specs.Own.{on_channel, with_variable, advanced}
 use Rattle.its_plain.specs.Tests.{◌⇒◌, finishes, fails, out}
@@ -84,27 +85,11 @@ made_addressed m j s u n a = record { each = λ k. either_addressed (k == s) (So
 pub variable_addressed : (v : Variable) (w : ℕ) (j : Job) → j.pc < 2 ^ 18 → (with_variable v w j).pc < 2 ^ 18
 unfolding with_variable
 variable_addressed Upc w j h = mod_below w (2 ^ 18) (omega arith)
-variable_addressed Ustp w j h = h
-variable_addressed Pirqc w j h = h
-variable_addressed Ifpir w j h = h
-variable_addressed Mask w j h = h
-variable_addressed Msk2 w j h = h
-variable_addressed Df1 w j h = h
-variable_addressed Df2 w j h = h
-variable_addressed Uname w j h = h
-variable_addressed Jname w j h = h
-variable_addressed Uind w j h = h
-variable_addressed Suppro w j h = h
-variable_addressed Cnsl w j h = h
-variable_addressed Pages w j h = h
+variable_addressed _ w j h = h
 
 -- a change
 pub effect_addressed : (c : Change) (j : ℕ) (m : Machine) → Addressed m → Addressed (effect c j m)
 unfolding effect
-effect_addressed (changes.Open n on) j m a = job_addressed m j _ (λ q x. x) a
-effect_addressed (changes.Shut n) j m a = job_addressed m j _ (λ q x. x) a
-effect_addressed (changes.Move n at) j m a = job_addressed m j _ (λ q x. x) a
-effect_addressed (changes.Append n w) j m a = job_addressed m j _ (λ q x. x) a
 effect_addressed (changes.Close n) j m a = jobs_addressed (in_job m j (on_channel n (λ c. Shut))) _ refl (job_addressed m j _ (λ q x. x) a)
 effect_addressed (changes.Take c) j m a = jobs_addressed m _ refl a
 effect_addressed (changes.Put c b) j m a = jobs_addressed m _ refl a
@@ -117,9 +102,9 @@ effect_addressed (changes.Protect s k on) j m a = job_addressed m s _ (λ q x. x
 effect_addressed (changes.Make s u n) j m a = made_addressed m j s u n a
 effect_addressed (changes.Remove s) j m a = removed_addressed (superiors m) s m a
 effect_addressed (changes.Inform s) j m a = job_addressed m s _ (λ q x. x) a
-effect_addressed (changes.Arm alarm) j m a = job_addressed m j _ (λ q x. x) a
 effect_addressed (changes.Delete x y z) j m a = jobs_addressed m _ refl a
 effect_addressed (changes.Rename x y z u v) j m a = jobs_addressed m _ refl a
+effect_addressed _ j m a = job_addressed m j _ (λ q x. x) a
 
 pub effects_addressed : (cs : List Change) (j : ℕ) (m : Machine) → Addressed m → Addressed (effects cs j m)
 effects_addressed [] j m a = a
@@ -191,13 +176,8 @@ usrvar_leaves x a = go (party x (input a 0))
   where
     go : (p : Party) → LeavesAddress (usrvar_of x a p)
     go Oneself = own_variable_leaves x a (variable_named (input a 1))
-    go Nobody = advanced_addressed 1 x.own.job
     go (Channel (On k write at)) = other_variable_leaves x a k write (variable_named (input a 1))
-    go (Channel Shut) = advanced_addressed 1 x.own.job
-    go (Channel TtyIn) = advanced_addressed 1 x.own.job
-    go (Channel TtyOut) = advanced_addressed 1 x.own.job
-    go (Channel (Reads f at)) = advanced_addressed 1 x.own.job
-    go (Channel (Writes f)) = advanced_addressed 1 x.own.job
+    go _ = advanced_addressed 1 x.own.job
 
 -- the ways in which a call goes on or ends
 ways_leave : (x : View) (a : Ask) → x.own.job.pc < 2 ^ 18 → Ways LeavesAddress x a
@@ -253,13 +233,8 @@ ttylnd_leaves x a = go (party x (input a 0))
   where
     go : (p : Party) → LeavesAddress (ttylnd_of x a p)
     go Oneself = lands_leaves x a (can_take x (x.holders (console_of x))) 0o13 x.slot
-    go Nobody = advanced_addressed 1 x.own.job
     go (Channel (On k write at)) = lands_leaves x a (is_holder x (x.holders (console_of x))) 0o5 k
-    go (Channel Shut) = advanced_addressed 1 x.own.job
-    go (Channel TtyIn) = advanced_addressed 1 x.own.job
-    go (Channel TtyOut) = advanced_addressed 1 x.own.job
-    go (Channel (Reads f at)) = advanced_addressed 1 x.own.job
-    go (Channel (Writes f)) = advanced_addressed 1 x.own.job
+    go _ = advanced_addressed 1 x.own.job
 
 apart_leaves : (x : View) (a : Ask) → x.own.job.pc < 2 ^ 18 → Apart LeavesAddress x a
 apart_leaves x a h = record {

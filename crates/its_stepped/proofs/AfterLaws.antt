@@ -15,10 +15,7 @@ use Rattle.its_stepped.proofs.KeptLaws.{KeptBy, line_kept}
 
 sound_by : (w u v : State) (l : Lined) → Sound u → KeptBy w v l → Sound (state_after u v l)
 sound_by w u v (Done (Does m out touched b)) sound h = h.sound
-sound_by w u v (Done (Refuses r)) sound h = sound
-sound_by w u v (Done (Ticks s k)) sound h = sound
-sound_by w u v (Done Quits) sound h = sound
-sound_by w u v (Peeks s) sound h = sound
+sound_by w u v _ sound h = sound
 
 pub after_sound : (w : State) (b : Block) (e : Event) → Sound w → Sound (after_line w b e)
 unfolding after_line
@@ -41,10 +38,7 @@ after_plain w b e sound =
 
 frames_by : (w u v : State) (l : Lined) (k : ℕ) → u.frames k ≡ w.frames k → touched_by (lifted_line v l) k ≡ false → KeptBy w v l → (state_after u v l).frames k ≡ w.frames k
 frames_by w u v (Done (Does m out touched b)) k same away h = h.spares k away
-frames_by w u v (Done (Refuses r)) k same away h = same
-frames_by w u v (Done (Ticks s n)) k same away h = same
-frames_by w u v (Done Quits) k same away h = same
-frames_by w u v (Peeks s) k same away h = same
+frames_by w u v _ k same away h = same
 
 pub after_frames : (w : State) (b : Block) (e : Event) (k : ℕ) → Sound w → touched_by (lined (plain w) b e) k ≡ false → (after_line w b e).frames k ≡ w.frames k
 unfolding after_line

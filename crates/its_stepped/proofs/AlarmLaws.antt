@@ -84,9 +84,6 @@ effect_alarmed (changes.Shut n) j m f a = job_alarmed m j _ (λ q. refl) a
 effect_alarmed (changes.Move n at) j m f a = job_alarmed m j _ (λ q. refl) a
 effect_alarmed (changes.Append n w) j m f a = job_alarmed m j _ (λ q. refl) a
 effect_alarmed (changes.Close n) j m f a = jobs_alarmed (in_job m j (on_channel n (λ c. Shut))) _ refl refl (job_alarmed m j _ (λ q. refl) a)
-effect_alarmed (changes.Take c) j m f a = jobs_alarmed m _ refl refl a
-effect_alarmed (changes.Put c b) j m f a = jobs_alarmed m _ refl refl a
-effect_alarmed (changes.Hold c s) j m f a = jobs_alarmed m _ refl refl a
 effect_alarmed (changes.Poke s p w) j m f a = job_alarmed m s _ (λ q. refl) a
 effect_alarmed (changes.Set s v w) j m f a = job_alarmed m s _ (λ q. refl) a
 effect_alarmed (changes.Map s k) j m f a = job_alarmed m s _ (λ q. refl) a
@@ -96,8 +93,7 @@ effect_alarmed (changes.Make s u n) j m f a = made_alarmed m j s u n a
 effect_alarmed (changes.Remove s) j m f a = removed_alarmed (superiors m) s m a
 effect_alarmed (changes.Inform s) j m f a = job_alarmed m s _ (λ q. refl) a
 effect_alarmed (changes.Arm alarm) j m f a = changed_alarmed m j (with_alarm alarm) (λ q x. f) a
-effect_alarmed (changes.Delete x y z) j m f a = jobs_alarmed m _ refl refl a
-effect_alarmed (changes.Rename x y z u v) j m f a = jobs_alarmed m _ refl refl a
+effect_alarmed _ j m f a = jobs_alarmed m _ refl refl a
 
 effects_alarmed : (cs : List Change) (j : ℕ) (m : Machine) → AllFit cs j m → Alarmed m → Alarmed (effects cs j m)
 effects_alarmed [] j m f a = a

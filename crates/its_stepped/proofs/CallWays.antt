@@ -139,11 +139,8 @@ close_ways P x a w = go (channel_at x.own.channels (input a 0))
 
     go : (c : Chan) → P (close_on x a c)
     go Shut = w.failing 0o4
-    go TtyIn = shut
-    go TtyOut = shut
-    go (Reads f at) = shut
     go (Writes f) = draft_ways P x a f w
-    go (On k write at) = shut
+    go _ = shut
 
 -- a channel that is on a console, through which a call can be found not ready
 abbrev pub OnConsole : Chan → Type 0
@@ -271,10 +268,7 @@ finish_ways P x a w r = go (channel_at x.own.channels (input a 0))
     go : (c : Chan) → P (finish_on x a c)
     go TtyOut = first_holds P (output_left x i ⇒ Waits (Drained i) ∷ []) (finishes x [] []) (λ t. r (Drained i), tt) (λ t. w.finishing)
     go Shut = w.failing 0o4
-    go TtyIn = w.failing 0o5
-    go (Reads f at) = w.failing 0o5
-    go (Writes f) = w.failing 0o5
-    go (On k write at) = w.failing 0o5
+    go _ = w.failing 0o5
 
 listen_ways : (P : Decision → Type 0) (x : View) (a : Ask) → Answering P x a → Waiting P → P (listen x a)
 unfolding listen
@@ -292,9 +286,7 @@ listen_ways P x a w r = go (channel_at x.own.channels (input a 0))
     go TtyIn = hears
     go TtyOut = hears
     go Shut = w.failing 0o4
-    go (Reads f at) = w.failing 0o5
-    go (Writes f) = w.failing 0o5
-    go (On k write at) = w.failing 0o5
+    go _ = w.failing 0o5
 
 -- ACCESS and FILLEN
 access_to_ways : (P : Decision → Type 0) (x : View) (a : Ask) (most : ℕ) → Ways P x a → P (access_to x a most)
@@ -309,10 +301,8 @@ access_ways P x a w = go (channel_at x.own.channels (input a 0))
     go : (c : Chan) → P (access_on x a c)
     go (Reads f at) = access_to_ways P x a (length (words_of x f)) w
     go Shut = w.failing 0o4
-    go TtyIn = w.failing 0o5
-    go TtyOut = w.failing 0o5
-    go (Writes f) = w.failing 0o5
     go (On k write at) = access_to_ways P x a end_of_core w
+    go _ = w.failing 0o5
 
 fillen_ways : (P : Decision → Type 0) (x : View) (a : Ask) → Answering P x a → P (fillen x a)
 unfolding fillen
@@ -322,9 +312,7 @@ fillen_ways P x a w = go (channel_at x.own.channels (input a 0))
     go (Reads f at) = w.giving (length (words_of x f))
     go (Writes f) = w.giving (length f.words)
     go Shut = w.failing 0o4
-    go TtyIn = w.failing 0o5
-    go TtyOut = w.failing 0o5
-    go (On k write at) = w.failing 0o5
+    go _ = w.failing 0o5
 
 -- DELETE and RENAME
 delete_ways : (P : Decision → Type 0) (x : View) (a : Ask) → Ways P x a → P (delete x a)
@@ -363,10 +351,7 @@ usrmem_ways P x a w = go (channel_at x.own.channels (input a 0))
         (λ t. w.failing 0o22, (λ t. w.failing 0o5, (λ t. w.failing 0o16, (λ t. w.failing 0o16, tt))))
         (λ t. w.ending (set_word s p (input a 2) new) ss (set_word_ways s p (input a 2) new))
     go Shut = w.failing 0o4
-    go TtyIn = w.failing 0o5
-    go TtyOut = w.failing 0o5
-    go (Reads f at) = w.failing 0o5
-    go (Writes f) = w.failing 0o5
+    go _ = w.failing 0o5
 
 -- CORBLK: a page is dropped, made by operation 1 alone, or protected
 pub page_by : (P : Change → Type 0) (op s k : ℕ) → P (changes.Unmap s k) → ((op == 1) ≡ true → P (changes.Map s k)) → P (changes.Protect s k (op == 3)) → P (page_changed op s k)
@@ -391,12 +376,7 @@ corblk_ways P x a w =
     go Oneself = pages_ways P x a (input a 0) x.slot (input a 2) x.own.core w
     go Nobody = w.failing 0o4
     go (Channel (On s true at)) = pages_ways P x a (input a 0) s (input a 2) (other_core x) w
-    go (Channel (On s false at)) = w.failing 0o5
-    go (Channel Shut) = w.failing 0o5
-    go (Channel TtyIn) = w.failing 0o5
-    go (Channel TtyOut) = w.failing 0o5
-    go (Channel (Reads f at)) = w.failing 0o5
-    go (Channel (Writes f)) = w.failing 0o5
+    go _ = w.failing 0o5
 
 -- REALT
 realt_ways : (P : Decision → Type 0) (x : View) (a : Ask) → Ways P x a → P (realt x a)

@@ -138,10 +138,6 @@ variable_console Pages w j = refl
 -- a change
 effect_consoled : (c : Change) (j : ℕ) (m : Machine) → Consoled m → Consoled (effect c j m)
 unfolding effect
-effect_consoled (changes.Open n on) j m a = job_consoled m j _ (λ q. refl) a
-effect_consoled (changes.Shut n) j m a = job_consoled m j _ (λ q. refl) a
-effect_consoled (changes.Move n at) j m a = job_consoled m j _ (λ q. refl) a
-effect_consoled (changes.Append n w) j m a = job_consoled m j _ (λ q. refl) a
 effect_consoled (changes.Close n) j m a = jobs_consoled (in_job m j (on_channel n (λ c. Shut))) _ refl (job_consoled m j _ (λ q. refl) a)
 effect_consoled (changes.Take c) j m a = jobs_consoled m _ refl a
 effect_consoled (changes.Put c b) j m a = jobs_consoled m _ refl a
@@ -154,9 +150,9 @@ effect_consoled (changes.Protect s k on) j m a = job_consoled m s _ (λ q. refl)
 effect_consoled (changes.Make s u n) j m a = made_consoled m j s u n a
 effect_consoled (changes.Remove s) j m a = removed_consoled (superiors m) s m a
 effect_consoled (changes.Inform s) j m a = job_consoled m s _ (λ q. refl) a
-effect_consoled (changes.Arm alarm) j m a = job_consoled m j _ (λ q. refl) a
 effect_consoled (changes.Delete x y z) j m a = jobs_consoled m _ refl a
 effect_consoled (changes.Rename x y z u v) j m a = jobs_consoled m _ refl a
+effect_consoled _ j m a = job_consoled m j _ (λ q. refl) a
 
 effects_consoled : (cs : List Change) (j : ℕ) (m : Machine) → Consoled m → Consoled (effects cs j m)
 effects_consoled [] j m a = a
@@ -230,14 +226,8 @@ owed_console (Free ∷ os) q = owed_console os q
 
 pub seen_console : (f : Option Frame) (q : Whole) → (seen f q).job.console ≡ q.job.console
 unfolding seen
-seen_console None q = refl
-seen_console (Some (Entered f)) q = refl
-seen_console (Some (Parsed f)) q = refl
-seen_console (Some (Asked f)) q = refl
-seen_console (Some (Holding f)) q = refl
-seen_console (Some (Waiting f)) q = refl
-seen_console (Some (Moving f)) q = refl
 seen_console (Some (Ending f)) q = owed_console f.owed.items q
+seen_console _ q = refl
 
 pub raw_consoled : (w : State) (k : ℕ) (q : Whole) → Consoled (plain w) → w.raw.jobs k ≡ Some q → IfSome q.job.console (λ c. c < 8)
 unfolding plain

@@ -68,13 +68,9 @@ oneself_reached m v j x s a n c e = record { still = c.still (owes_none m v j x 
 channel_duty : (m : Machine) (v : State) (j : ℕ) (x : View) (s : Site) (a : Ask) (n : ℕ) (h : Chan) → Calling m v j x.own s a n → call_named a.name ≡ Some Corblk → a.fail ≡ 0
     → channel_at x.own.channels (input a 1) ≡ h → Duty v j x.own s a n (corblk_of x a (party_on h))
 channel_duty m v j x s a n Shut c e z is = fails_duty m v j x s a n 0o4 c
-channel_duty m v j x s a n TtyIn c e z is = fails_duty m v j x s a n 0o5 c
-channel_duty m v j x s a n TtyOut c e z is = fails_duty m v j x s a n 0o5 c
-channel_duty m v j x s a n (Reads f at) c e z is = fails_duty m v j x s a n 0o5 c
-channel_duty m v j x s a n (Writes f) c e z is = fails_duty m v j x s a n 0o5 c
-channel_duty m v j x s a n (On t false at) c e z is = fails_duty m v j x s a n 0o5 c
 channel_duty m v j x s a n (On t true at) c e z is =
     pages_duty m v j x s a n t (other_core x) c e z (aimed_reached v j t (aimed_on m v j x.own s a n Corblk 1 t at true c e z refl refl is))
+channel_duty m v j x s a n _ c e z is = fails_duty m v j x s a n 0o5 c
 
 party_duty : (m : Machine) (v : State) (j : ℕ) (x : View) (s : Site) (a : Ask) (n : ℕ) (b : Bool) → Calling m v j x.own s a n → x.slot ≡ j → call_named a.name ≡ Some Corblk → a.fail ≡ 0
     → Duty v j x.own s a n (corblk_of x a (if b then Oneself else party_on (channel_at x.own.channels (input a 1))))

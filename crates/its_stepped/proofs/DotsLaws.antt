@@ -97,9 +97,7 @@ disturbs_by m j k o e = ap (λ (o : Option Transition). among k (disturbs_in o))
 acted_disturbs : (m : Machine) (j : ℕ) (a : Ask) (ks : List ℕ) (d : Decision) → Acts d → disturbs_in (acted m j a ks d) ≡ ks
 unfolding acted
 acted_disturbs m j a ks (Waits r) t = absurd t
-acted_disturbs m j a ks (Goes cs h vs) t = refl
-acted_disturbs m j a ks (Ends cs ss e) t = refl
-acted_disturbs m j a ks (Gone cs) t = refl
+acted_disturbs m j a ks _ t = refl
 
 -- user mode
 unit_dots : (w : State) (j : ℕ) (o : Outcome) → w.frames j ≡ None → RowDots w j (unit_on w j o)
@@ -236,17 +234,12 @@ frame_dots w j q (Ending f) sound is fr h g few =
 
 -- a bound is at most twelve
 bound_frame : (q : Whole) (f : Frame) (r : Option ℕ) → SoundFrame q f r → bound (Some f) ≤ 12
-bound_frame q (Entered f) r h = omega arith
-bound_frame q (Parsed f) r h = omega arith
-bound_frame q (Asked f) r h = omega arith
 bound_frame q (Holding f) r h = go f.page h.pays.paged
   where
     go : (o : Option ℕ) → IfSome o (Paged f.ask f.owes) → 8 + cleared o ≤ 12
     go None p = omega arith
     go (Some k) p = let m = p.most in omega arith
-bound_frame q (Waiting f) r h = omega arith
-bound_frame q (Moving f) r h = omega arith
-bound_frame q (Ending f) r h = omega arith
+bound_frame q _ r h = omega arith
 
 bound_by : (o : Option Whole) (f : Option Frame) (r : Option ℕ) → SoundBy o f r → bound f ≤ 12
 bound_by None f r h = subst (λ (g : Option Frame). bound g ≤ 12) (sym h.0) (omega arith)

@@ -42,10 +42,6 @@ module _ (h : Whole → Whole) (core : (q : Whole) → (h q).core ≡ q.core) (s
 
   frame_moves : (f : Option Frame) (q : Whole) → seen f (h q) ≡ h (seen f q)
   unfolding seen
-  frame_moves None q = refl
-  frame_moves (Some (Entered f)) q = refl
-  frame_moves (Some (Parsed f)) q = refl
-  frame_moves (Some (Asked f)) q = refl
   frame_moves (Some (Holding f)) q = stores (debts f.ask f.owes) q
   frame_moves (Some (Waiting f)) q = stores (debts f.ask f.owes) q
   frame_moves (Some (Moving f)) q =
@@ -53,6 +49,7 @@ module _ (h : Whole → Whole) (core : (q : Whole) → (h q).core ≡ q.core) (s
       ∙ ap (with_stores (debts f.ask 2)) (stores (deposited q.core (input f.ask 1) (held_at f.place f.byte) ∷ []) q)
       ∙ stores (debts f.ask 2) (with_stores (deposited q.core (input f.ask 1) (held_at f.place f.byte) ∷ []) q)
   frame_moves (Some (Ending f)) q = owed_moves f.owed.items q
+  frame_moves _ q = refl
 
 pub seen_channel : (n : ℕ) (g : Chan → Chan) (f : Option Frame) (q : Whole) → seen f (on_channel n g q) ≡ on_channel n g (seen f q)
 seen_channel n g f q = frame_moves (on_channel n g) (λ p. refl) (λ ss p. refl) (λ e p. refl) f q
@@ -66,14 +63,11 @@ seen_armed alarm f q = frame_moves (with_alarm alarm) (λ p. refl) (λ ss p. ref
 -- a frame that owes nothing
 pub still_seen : (f : Option Frame) (q : Whole) → IsStill f → seen f q ≡ q
 unfolding seen
-still_seen None q h = refl
-still_seen (Some (Entered f)) q h = refl
-still_seen (Some (Parsed f)) q h = refl
-still_seen (Some (Asked f)) q h = refl
 still_seen (Some (Holding f)) q h = ap (λ n. with_stores (debts f.ask n) q) h ∙ ap (λ ss. with_stores ss q) (debts_none f.ask) ∙ stores_none q
 still_seen (Some (Waiting f)) q h = ap (λ n. with_stores (debts f.ask n) q) h ∙ ap (λ ss. with_stores ss q) (debts_none f.ask) ∙ stores_none q
 still_seen (Some (Moving f)) q h = absurd h
 still_seen (Some (Ending f)) q h = absurd h
+still_seen _ q h = refl
 
 still_moves : (h : Whole → Whole) (f : Option Frame) (q : Whole) → IsStill f → seen f (h q) ≡ h (seen f q)
 still_moves h f q s = still_seen f (h q) s ∙ sym (ap h (still_seen f q s))
@@ -118,11 +112,7 @@ closed_parts f false fs e = ap (λ gs. gs ++ f ∷ []) (sym (without_none f.name
 pub closed_helps : (j : ℕ) (c : Chan) (fs : List File) → helped (mark_of_close j c fs) fs ≡ files_closed c fs
 unfolding helped
 closed_helps j (Writes f) fs = closed_parts f (has_file f.names fs) fs refl
-closed_helps j Shut fs = refl
-closed_helps j TtyIn fs = refl
-closed_helps j TtyOut fs = refl
-closed_helps j (Reads f at) fs = refl
-closed_helps j (On s write at) fs = refl
+closed_helps j _ fs = refl
 
 -- what is read of a job through its frame
 pub channel_seen : (f : Option Frame) (o : Option Whole) (n : ℕ) → channel_in (option_map (seen f) o) n ≡ channel_in o n
@@ -281,12 +271,7 @@ slot_own w j k h ne sound = slot_still _ _ _ _ (on_slot_other w.raw.jobs j k h n
 -- a removal closes channels on jobs, for which no call waits
 shut_stuck : (gone : ℕ → Bool) (f : Frame) (q : Whole) (r : Option ℕ) → Pays f q.core r → StuckBy f (seen (Some f) q) → StuckBy f (seen (Some f) (shut_on gone q))
 shut_stuck gone (Waiting f) q r p s = subst (λ (x : Whole). Stuck x f.ask) (sym (seen_shut_on gone (Some (Waiting f)) q)) (stuck_shut gone (seen (Some (Waiting f)) q) f.ask p.waitable s)
-shut_stuck gone (Entered f) q r p s = tt
-shut_stuck gone (Parsed f) q r p s = tt
-shut_stuck gone (Asked f) q r p s = tt
-shut_stuck gone (Holding f) q r p s = tt
-shut_stuck gone (Moving f) q r p s = tt
-shut_stuck gone (Ending f) q r p s = tt
+shut_stuck gone _ q r p s = tt
 
 -- a removal closes channels, of which soundness speaks no more
 shut_sound : (gone : ℕ → Bool) (q : Whole) (f : Frame) (r : Option ℕ) → SoundFrame q f r → SoundFrame (shut_on gone q) f r
@@ -331,9 +316,6 @@ effect_sound (changes.Shut n) j w k h ne s = slot_own w j k (on_channel n (λ c.
 effect_sound (changes.Move n at) j w k h ne s = slot_own w j k (on_channel n (at_position at)) ne s
 effect_sound (changes.Append n word) j w k h ne s = slot_own w j k (on_channel n (with_word word)) ne s
 effect_sound (changes.Close n) j w k h ne s = slot_own w j k (on_channel n (λ c. Shut)) ne s
-effect_sound (changes.Take c) j w k h ne s = s
-effect_sound (changes.Put c b) j w k h ne s = s
-effect_sound (changes.Hold c i) j w k h ne s = s
 effect_sound (changes.Poke i a word) j w k h ne s = slot_reached w j i k (with_stores (poke a word ∷ [])) h ne s
 effect_sound (changes.Set i v word) j w k h ne s = slot_reached w j i k (with_registers (with_variable v word)) h ne s
 effect_sound (changes.Map i p) j w k h ne s =
@@ -345,8 +327,7 @@ effect_sound (changes.Remove i) j w k h ne s =
     slot_left (is_gone (superiors w.raw) i) (is_gone (superiors w.raw) i k) (w.raw.jobs k) (w.frames k) (w.reserved k) (λ gone. h k gone ne) s
 effect_sound (changes.Inform i) j w k h ne s = slot_reached w j i k with_inf h ne s
 effect_sound (changes.Arm alarm) j w k h ne s = slot_own w j k (with_alarm alarm) ne s
-effect_sound (changes.Delete d x y) j w k h ne s = s
-effect_sound (changes.Rename d x y u v) j w k h ne s = s
+effect_sound _ j w k h ne s = s
 
 pub effects_sound : (cs : List Change) (j : ℕ) (w : State) (k : ℕ) → AllQuiet cs j w → k ≢ j → SoundSlot (w.raw.jobs k) (w.frames k) (w.reserved k)
     → SoundSlot ((effects_on cs j w).raw.jobs k) ((effects_on cs j w).frames k) ((effects_on cs j w).reserved k)

@@ -120,9 +120,7 @@ no_files b [] e = refl
 no_files b (Store a w ∷ os) e = left_more b (Store a w) os ∙ ap (λ n. 1 + n) (no_files b os e) ∙ sym (left_more true (Store a w) os)
 no_files b (GiveBack ∷ os) e = left_more b GiveBack os ∙ ap (λ n. 1 + n) (no_files b os e) ∙ sym (left_more true GiveBack os)
 no_files b (Leave x ∷ os) e = left_more b (Leave x) os ∙ ap (λ n. 1 + n) (no_files b os e) ∙ sym (left_more true (Leave x) os)
-no_files b (Unlink ∷ os) e = cc
-no_files b (Link ∷ os) e = cc
-no_files b (Free ∷ os) e = cc
+no_files b _ e = cc
 
 mark_rest : (owner : ℕ) (draft : File) (p : Part) (ps : List Part) (frames : ℕ → Option Frame) → parts_in_frame (frames owner) ≡ ps
     → IfSome (rest_marked (record { owner = owner; draft = draft; parts = p ∷ ps }) ps) (λ m. MarkBy m frames)

@@ -103,10 +103,8 @@ access_to_duty m v j x s a n most c =
 access_on_duty : (m : Machine) (v : State) (j : ℕ) (x : View) (s : Site) (a : Ask) (n : ℕ) (h : Chan) → Calling m v j x.own s a n → Duty v j x.own s a n (access_on x a h)
 access_on_duty m v j x s a n (Reads f at) c = access_to_duty m v j x s a n (length (words_of x f)) c
 access_on_duty m v j x s a n Shut c = fails_duty m v j x s a n 0o4 c
-access_on_duty m v j x s a n TtyIn c = fails_duty m v j x s a n 0o5 c
-access_on_duty m v j x s a n TtyOut c = fails_duty m v j x s a n 0o5 c
-access_on_duty m v j x s a n (Writes f) c = fails_duty m v j x s a n 0o5 c
 access_on_duty m v j x s a n (On k write at) c = access_to_duty m v j x s a n end_of_core c
+access_on_duty m v j x s a n _ c = fails_duty m v j x s a n 0o5 c
 
 pub access_duty : (m : Machine) (v : State) (j : ℕ) (x : View) (s : Site) (a : Ask) (n : ℕ) → Calling m v j x.own s a n → Duty v j x.own s a n (access x a)
 unfolding access

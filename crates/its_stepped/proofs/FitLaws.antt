@@ -16,7 +16,8 @@ use Rattle.its_frame.specs.declared.change.Opened.{Opened}
 use Rattle.its_frame.specs.declared.change.Opened.TheVariants as opened
 use Rattle.its_frame.specs.declared.variable.Variable.{Variable}
 use Rattle.its_plain.specs.Arguments.{input, has_input, place_of_input}
-use Rattle.its_plain.specs.CallBasic.{dismissed_by, dismiss_at, dismiss, Party, Oneself, Nobody, Channel, variable_named, by_oneself, by_superior, set_own, own_variable, set_other, value_of_other, other_variable, usrvar_of, party_on, party, is_oneself, usrvar, told_superior, channel_at, longest_period, alarm_of}
+use Rattle.its_frame.specs.Variables.{variable_named}
+use Rattle.its_plain.specs.CallBasic.{dismissed_by, dismiss_at, dismiss, Party, Oneself, Nobody, Channel, by_oneself, by_superior, set_own, own_variable, set_other, value_of_other, other_variable, usrvar_of, party_on, party, is_oneself, usrvar, told_superior, channel_at, longest_period, alarm_of}
 use Rattle.its_plain.specs.CallTty.{console_of, has_console, can_take, is_superior, is_holder, lands, ttylnd_of, ttylnd}
 use Rattle.its_plain.specs.CallUsr.{has_names, inferior_named, any_named, makes_job, opens_job, usr_tests, opens_usr, uclose_on, uclose}
 use Rattle.its_plain.specs.Change.{superior_in, superiors, console_in, effect}
@@ -71,13 +72,8 @@ usrvar_fits x a j m = go (party x (input a 0))
   where
     go : (p : Party) → FitsAll (usrvar_of x a p) j m
     go Oneself = own_variable_fits x a j m (variable_named (input a 1))
-    go Nobody = tt
     go (Channel (On k write at)) = other_variable_fits x a k j m write (variable_named (input a 1))
-    go (Channel Shut) = tt
-    go (Channel TtyIn) = tt
-    go (Channel TtyOut) = tt
-    go (Channel (Reads f at)) = tt
-    go (Channel (Writes f)) = tt
+    go _ = tt
 
 told_fits : (o : Option ℕ) (j : ℕ) (m : Machine) → AllFit (told_superior o) j m
 told_fits (Some k) j m = (tt, tt)
@@ -87,9 +83,7 @@ told_fits None j m = tt
 opens_fit : (on : Opened) (j : ℕ) (m : Machine) → OpensMildly on → CanOpen on j m
 opens_fit (opened.Reading d x y) j m h = tt
 opens_fit (opened.Writing d x y) j m h = tt
-opens_fit opened.TtyIn j m h = absurd h
-opens_fit opened.TtyOut j m h = absurd h
-opens_fit (opened.Usr s write) j m h = absurd h
+opens_fit _ j m h = absurd h
 
 mild_fits : (c : Change) (j : ℕ) (m : Machine) → Mild c → Fits c j m
 mild_fits (changes.Open n on) j m h = opens_fit on j m h
@@ -149,12 +143,8 @@ PartyOn j m Oneself = Unit {0}
 PartyOn j m Nobody = Unit {0}
 
 party_on_inferior : (j : ℕ) (m : Machine) (c : Chan) → OnInferior m j c → PartyOn j m (party_on c)
-party_on_inferior j m Shut h = tt
-party_on_inferior j m TtyIn h = tt
-party_on_inferior j m TtyOut h = tt
-party_on_inferior j m (Reads f at) h = tt
-party_on_inferior j m (Writes f) h = tt
 party_on_inferior j m (On k write at) h = h
+party_on_inferior j m _ h = tt
 
 party_inferior : (x : View) (w j : ℕ) (m : Machine) → Sees x j m → PartyOn j m (party x w)
 party_inferior x w j m see = go (is_oneself w)
@@ -169,13 +159,8 @@ ttylnd_fits x a j m see = go (party x (input a 0)) (party_inferior x (input a 0)
   where
     go : (p : Party) → PartyOn j m p → FitsAll (ttylnd_of x a p) j m
     go Oneself h = lands_fits x a (can_take x (x.holders (console_of x))) 0o13 x.slot j m (ap (λ (i : ℕ). is_some (m.jobs i)) see.slot ∙ see.job)
-    go Nobody h = tt
     go (Channel (On k write at)) h = lands_fits x a (is_holder x (x.holders (console_of x))) 0o5 k j m (inferior_stands m k j h)
-    go (Channel Shut) h = tt
-    go (Channel TtyIn) h = tt
-    go (Channel TtyOut) h = tt
-    go (Channel (Reads f at)) h = tt
-    go (Channel (Writes f)) h = tt
+    go _ h = tt
 
 -- OPEN of an inferior
 found_passes : (p : ℕ → Bool) (ks : List ℕ) (s : ℕ) → find p ks ≡ Some s → p s ≡ true
@@ -236,11 +221,7 @@ uclose_fits x a j m see = go (channel_at x.own.channels (input a 0)) (see.channe
   where
     go : (c : Chan) → OnInferior m j c → FitsAll (uclose_on x a c) j m
     go (On s write at) h = (h, tt)
-    go Shut h = tt
-    go TtyIn h = tt
-    go TtyOut h = tt
-    go (Reads f at) h = tt
-    go (Writes f) h = tt
+    go _ h = tt
 
 apart_fits : (x : View) (a : Ask) (j : ℕ) (m : Machine) → Sees x j m → Apart (λ d. FitsAll d j m) x a
 apart_fits x a j m see = record {

@@ -138,11 +138,7 @@ pub record SameTree (m n : Machine) : Type 0 where
 
 on_alike : (m n : Machine) (k : ℕ) (c : Chan) → ((s : ℕ) → superiors m s ≡ Some k → superiors n s ≡ Some k) → OnInferior m k c → OnInferior n k c
 on_alike m n k (On s write at) h o = h s o
-on_alike m n k Shut h o = tt
-on_alike m n k TtyIn h o = tt
-on_alike m n k TtyOut h o = tt
-on_alike m n k (Reads f at) h o = tt
-on_alike m n k (Writes f) h o = tt
+on_alike m n k _ h o = tt
 
 pub same_forest : (m n : Machine) → SameTree m n → Forest m → Forest n
 same_forest m n h d = record {
@@ -322,38 +318,24 @@ moved_keeps m j at = record { inferior = inferior; console = console }
   where
     inferior : (c : Chan) → OnInferior m j c → OnInferior m j (at_position at c)
     inferior (On k w p) h = h
-    inferior (Reads f p) h = tt
-    inferior Shut h = tt
-    inferior TtyIn h = tt
-    inferior TtyOut h = tt
-    inferior (Writes f) h = tt
+    inferior _ h = tt
 
     console : (c : Chan) → OnConsole (console_in (m.jobs j)) c → OnConsole (console_in (m.jobs j)) (at_position at c)
-    console (On k w p) h = tt
-    console (Reads f p) h = tt
-    console Shut h = tt
     console TtyIn h = h
     console TtyOut h = h
-    console (Writes f) h = tt
+    console _ h = tt
 
 word_keeps : (m : Machine) (j x : ℕ) → KeepsOn m j (with_word x)
 word_keeps m j x = record { inferior = inferior; console = console }
   where
     inferior : (c : Chan) → OnInferior m j c → OnInferior m j (with_word x c)
     inferior (On k w p) h = h
-    inferior (Reads f p) h = tt
-    inferior Shut h = tt
-    inferior TtyIn h = tt
-    inferior TtyOut h = tt
-    inferior (Writes f) h = tt
+    inferior _ h = tt
 
     console : (c : Chan) → OnConsole (console_in (m.jobs j)) c → OnConsole (console_in (m.jobs j)) (with_word x c)
-    console (On k w p) h = tt
-    console (Reads f p) h = tt
-    console Shut h = tt
     console TtyIn h = h
     console TtyOut h = h
-    console (Writes f) h = tt
+    console _ h = tt
 
 -- a console is held
 either_some : (b : Bool) (s : ℕ) (o : Option ℕ) (P : ℕ → Type 0) → P s → IfSome o P → IfSome (if b then Some s else o) P
@@ -515,11 +497,7 @@ module _ (m : Machine) (r : ℕ) (d : Forest m) where
       go : (b : Bool) → is_gone (superiors m) r s ≡ b → OnInferior (removed (superiors m) r m) k (if b then Shut else On s write at)
       go true e = tt
       go false e = left_tree s ∙ ap (λ (b : Bool). if b then None else superiors m s) e ∙ h
-  left_on k Shut h = tt
-  left_on k TtyIn h = tt
-  left_on k TtyOut h = tt
-  left_on k (Reads f at) h = tt
-  left_on k (Writes f) h = tt
+  left_on k _ h = tt
 
   left_channel : (k i : ℕ) (b : Bool) (o : Option Whole) → OnInferior m k (channel_in o i)
       → OnInferior (removed (superiors m) r m) k (channel_in (left_job (is_gone (superiors m) r) b o) i)
@@ -533,11 +511,9 @@ module _ (m : Machine) (r : ℕ) (d : Forest m) where
       go : (b : Bool) → OnConsole o (if b then Shut else On s write at)
       go true = tt
       go false = tt
-  left_open o Shut h = tt
   left_open o TtyIn h = h
   left_open o TtyOut h = h
-  left_open o (Reads f at) h = tt
-  left_open o (Writes f) h = tt
+  left_open o _ h = tt
 
   left_console : (i : ℕ) (b : Bool) (o : Option Whole) → OnConsole (console_in o) (channel_in o i)
       → OnConsole (console_in (left_job (is_gone (superiors m) r) b o)) (channel_in (left_job (is_gone (superiors m) r) b o) i)
@@ -578,8 +554,6 @@ effect_forest (changes.Move n at) j m f d = job_forest m j _ (channel_keeps m j 
 effect_forest (changes.Append n x) j m f d = job_forest m j _ (channel_keeps m j n (with_word x) (word_keeps m j x)) d
 effect_forest (changes.Close n) j m f d =
     jobs_forest (in_job m j (on_channel n (λ c. Shut))) _ refl refl refl (job_forest m j _ (channel_keeps m j n (λ c. Shut) (shut_keeps m j)) d)
-effect_forest (changes.Take c) j m f d = jobs_forest m _ refl refl refl d
-effect_forest (changes.Put c b) j m f d = jobs_forest m _ refl refl refl d
 effect_forest (changes.Hold c s) j m f d = held_forest m c s f d
 effect_forest (changes.Poke s a x) j m f d = job_forest m s _ (calm m s _ (λ q. refl) (λ q. refl) (λ q is. refl)) d
 effect_forest (changes.Set s v x) j m f d = job_forest m s _ (calm m s _ (λ q. refl) (λ q. refl) (λ q is. variable_console v x q.job)) d
@@ -590,8 +564,7 @@ effect_forest (changes.Make s u n) j m f d = made_forest m _ s j (makes m s j u 
 effect_forest (changes.Remove s) j m f d = removed_forest m s d
 effect_forest (changes.Inform s) j m f d = job_forest m s _ (calm m s _ (λ q. refl) (λ q. refl) (λ q is. refl)) d
 effect_forest (changes.Arm alarm) j m f d = job_forest m j _ (calm m j _ (λ q. refl) (λ q. refl) (λ q is. refl)) d
-effect_forest (changes.Delete x y z) j m f d = jobs_forest m _ refl refl refl d
-effect_forest (changes.Rename x y z u v) j m f d = jobs_forest m _ refl refl refl d
+effect_forest _ j m f d = jobs_forest m _ refl refl refl d
 
 effects_forest : (cs : List Change) (j : ℕ) (m : Machine) → AllFit cs j m → Forest m → Forest (effects cs j m)
 effects_forest [] j m f d = d

@@ -52,16 +52,13 @@ module _ {X : Type 0} (g : Whole → X) (stores : (s : Store) (q : Whole) → g 
 
   frame_alike : (f : Option Frame) (q : Whole) → g (seen f q) ≡ g q
   unfolding seen
-  frame_alike None q = refl
-  frame_alike (Some (Entered f)) q = refl
-  frame_alike (Some (Parsed f)) q = refl
-  frame_alike (Some (Asked f)) q = refl
   frame_alike (Some (Holding f)) q = stores_alike (debts f.ask f.owes) q
   frame_alike (Some (Waiting f)) q = stores_alike (debts f.ask f.owes) q
   frame_alike (Some (Moving f)) q =
       stores_alike (debts f.ask 2) (with_stores (deposited q.core (input f.ask 1) (held_at f.place f.byte) ∷ []) q)
       ∙ stores (deposited q.core (input f.ask 1) (held_at f.place f.byte)) q
   frame_alike (Some (Ending f)) q = owed_alike f.owed.items q
+  frame_alike _ q = refl
 
 pub seen_alike : {X : Type 0} (g : Whole → X) → ((s : Store) (q : Whole) → g (with_stores (s ∷ []) q) ≡ g q) → ((e : Exit) (q : Whole) → g (leave e q) ≡ g q)
     → (f : Option Frame) (q : Whole) → g (seen f q) ≡ g q

@@ -212,9 +212,6 @@ superior_given w j q forest is e =
 frame_given : (d : Decoding) (w : State) (j : ℕ) (q : Whole) (f : Frame) → Forest (plain w) → Sound w → w.raw.jobs j ≡ Some q → w.frames j ≡ Some f → SoundFrame q f (w.reserved j)
     → GivenBy w j q (Some f)
 unfolding seen
-frame_given d w j q (Entered f) forest sound is fr h = tt
-frame_given d w j q (Parsed f) forest sound is fr h = tt
-frame_given d w j q (Asked f) forest sound is fr h = tt
 frame_given d w j q (Holding f) forest sound is fr h = λ tried.
     meets d w j q f.site f.ask f.owes forest sound (trying_holding w j q f is fr h)
     (subst (λ (r : Option ℕ). IfSome r (Paged f.ask f.owes)) (sym h.pays.page_is) h.pays.paged)
@@ -223,8 +220,7 @@ frame_given d w j q (Waiting f) forest sound is fr h =
     meets d w j q f.site f.ask f.owes forest sound (trying_waiting w j q f is fr h)
     (subst (λ (r : Option ℕ). IfSome r (Paged f.ask f.owes)) (sym h.pays.page_is) tt)
     (λ e. absurd (let none = waits_reserves_none f.ask h.pays.waitable in cc)) (λ z. subst IsStill (sym fr) z)
-frame_given d w j q (Moving f) forest sound is fr h = tt
-frame_given d w j q (Ending f) forest sound is fr h = tt
+frame_given d w j q _ forest sound is fr h = tt
 
 given_by : (d : Decoding) (w : State) (j : ℕ) (q : Whole) (o : Option Frame) → Forest (plain w) → Sound w → w.raw.jobs j ≡ Some q → w.frames j ≡ o → SoundBy (Some q) o (w.reserved j)
     → GivenBy w j q o

@@ -277,14 +277,12 @@ line_kept w b (events.Clock n) sound =
     (λ k h. due_unwound w n k sound h)
 line_kept w b (events.Peek s) sound = peek_kept w s (w.raw.jobs s)
 line_kept w b (events.Tick s n) sound = tt
-line_kept w b (events.Run n q) sound = record { sound = sound; spares = λ k h. refl }
-line_kept w b events.Nothing sound = record { sound = sound; spares = λ k h. refl }
 line_kept w b events.End sound = tt
 line_kept w b (events.File d x y) sound =
     file_kept w (record b { file = names_of d x y }) (file_made (help w).raw (names_of d x y)) sound (made_files (help w).raw (names_of d x y))
 line_kept w b (events.Append words) sound = file_kept w b (words_added (help w).raw b.file words.items) sound (added_files (help w).raw b.file words.items)
-line_kept w b events.EndFile sound = record { sound = sound; spares = λ k h. refl }
 line_kept w b (events.TypeIn c bytes) sound = typed_kept w c bytes.items sound
 line_kept w b (events.Drain c n) sound = drained_kept w c n sound
 line_kept w b (events.Dir d) sound = helped_kept w (help w).raw sound refl
 line_kept w b (events.Show d x y) sound = shows_kept w b (file_shown (help w).raw d x y) sound
+line_kept w b _ sound = record { sound = sound; spares = λ k h. refl }

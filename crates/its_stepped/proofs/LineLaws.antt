@@ -320,21 +320,15 @@ line_calm v b (events.State s) sound h hush whole =
 line_calm v b (events.Clock n) sound h hush whole =
     ap Done (clock_lifted v b n (nat_lt (v.raw.clock + n) clock_end) hush)
 line_calm v b (events.Peek s) sound h hush whole = peek_lifted v s (v.frames s) (v.raw.jobs s)
-line_calm v b (events.Tick s n) sound h hush whole = refl
-line_calm v b (events.Run n q) sound h hush whole = refl
-line_calm v b events.Nothing sound h hush whole = refl
-line_calm v b events.End sound h hush whole = refl
 line_calm v b (events.File d x y) sound h hush whole =
     let n = names_of d x y in
     ap (λ r. Done (quietly (record b { file = n }) r)) (made_lifted v n (whole refl)) ∙ ap Done (quietly_lifted v (record b { file = n }) (file_made v.raw n))
 line_calm v b (events.Append words) sound h hush whole =
     ap (λ r. Done (quietly b r)) (words_added_lifted v b.file words.items (whole refl)) ∙ ap Done (quietly_lifted v b (words_added v.raw b.file words.items))
-line_calm v b events.EndFile sound h hush whole = refl
-line_calm v b (events.TypeIn c bytes) sound h hush whole = refl
-line_calm v b (events.Drain c n) sound h hush whole = refl
 line_calm v b (events.Dir d) sound h hush whole = ap (λ fs. Done (Does (plain v) (listing d (files_in d fs)) nobody b)) (unmarked_files v (whole refl))
 line_calm v b (events.Show d x y) sound h hush whole =
     ap (λ r. Done (shows (plain v) b r)) (shown_plain v d x y (whole refl)) ∙ ap Done (shows_lifted v b (file_shown v.raw d x y))
+line_calm v b _ sound h hush whole = refl
 
 -- the jobs that a line disturbs are unwound, and the state is sound and the same plain machine
 at_plain : (w : State) (o : Option ℕ) → Sound w → plain (unwound_at o w) ≡ plain w

@@ -58,11 +58,8 @@ use Rattle.its_plain.proofs.StepLaws.{transition_called, step_by}
 -- the rest of a transfer has the new pointer and the new count
 rest_of : (os : List Operand) (w i : ℕ) → length os ≡ 3
     → let rest = take (length os - 2) os ++ valued (drop (length os - 2) os) (w ∷ i ∷ []) in (value_in (slice_get rest 1) ≡ w) × (value_in (slice_get rest 2) ≡ i)
-rest_of [] w i l = absurd (omega arith)
-rest_of (x ∷ []) w i l = absurd (omega arith)
-rest_of (x ∷ y ∷ []) w i l = absurd (omega arith)
 rest_of (x ∷ y ∷ z ∷ []) w i l = (refl, refl)
-rest_of (x ∷ y ∷ z ∷ o ∷ os) w i l = absurd (omega arith)
+rest_of _ w i l = absurd (omega arith)
 
 pub rest_pointer : (a : Ask) → length a.inputs.items ≡ 3 → input (rest_of_transfer a) 1 ≡ next_pointer (input a 1)
 unfolding revalued

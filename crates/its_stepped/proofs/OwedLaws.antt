@@ -115,12 +115,10 @@ owed_files v j m ss e is own =
 -- they come before all else that it owes
 pub none_first : (os : List Owed) → file_parts os ≡ [] → FilesFirst os
 none_first [] h = tt
-none_first (GiveBack ∷ os) h = h
-none_first (owed.Store a w ∷ os) h = h
-none_first (Leave e ∷ os) h = h
 none_first (Unlink ∷ os) h = absurd cc
 none_first (Link ∷ os) h = absurd cc
 none_first (Free ∷ os) h = absurd cc
+none_first _ h = h
 
 parts_lead : (ps : List Part) (os : List Owed) → FilesFirst os → FilesFirst (map owed_part ps ++ os)
 parts_lead [] os h = h

@@ -42,11 +42,6 @@ own_of q = (q.core, q.job)
 
 spared_one : (c : Change) (j : ℕ) (w : State) (q : Whole) → Spares c j w → w.raw.jobs j ≡ Some q → Sees own_of ((effect_on c j w).raw.jobs j) (own_of q)
 unfolding effect_on effect removed
-spared_one (changes.Open n on) j w q h e = sees_slot own_of w.raw.jobs j j _ q (λ p. refl) e
-spared_one (changes.Shut n) j w q h e = sees_slot own_of w.raw.jobs j j _ q (λ p. refl) e
-spared_one (changes.Move n at) j w q h e = sees_slot own_of w.raw.jobs j j _ q (λ p. refl) e
-spared_one (changes.Append n x) j w q h e = sees_slot own_of w.raw.jobs j j _ q (λ p. refl) e
-spared_one (changes.Close n) j w q h e = sees_slot own_of w.raw.jobs j j _ q (λ p. refl) e
 spared_one (changes.Take c) j w q h e = sees_it own_of _ q e
 spared_one (changes.Put c b) j w q h e = sees_it own_of _ q e
 spared_one (changes.Hold c s) j w q h e = sees_it own_of _ q e
@@ -58,9 +53,9 @@ spared_one (changes.Protect s k on) j w q h e = sees_it own_of _ q (on_slot_othe
 spared_one (changes.Make s u n) j w q h e = sees_it own_of _ q ((changed_only w.raw.jobs s _).others j (λ t. h (sym t)) ∙ e)
 spared_one (changes.Remove s) j w q h e = sees_left own_of (is_gone (superiors w.raw) s) _ _ q (λ p. refl) h e
 spared_one (changes.Inform s) j w q h e = sees_it own_of _ q (on_slot_other w.raw.jobs s j _ (λ t. h (sym t)) ∙ e)
-spared_one (changes.Arm alarm) j w q h e = sees_slot own_of w.raw.jobs j j _ q (λ p. refl) e
 spared_one (changes.Delete d x y) j w q h e = sees_it own_of _ q e
 spared_one (changes.Rename d x y u v) j w q h e = sees_it own_of _ q e
+spared_one _ j w q h e = sees_slot own_of w.raw.jobs j j _ q (λ p. refl) e
 
 pub spared : (cs : List Change) (j : ℕ) (w : State) (q : Whole) → AllSpare cs j w → w.raw.jobs j ≡ Some q → Sees own_of ((effects_on cs j w).raw.jobs j) (own_of q)
 spared [] j w q h e = sees_it own_of _ q e
@@ -75,11 +70,6 @@ job_of q = q.job
 
 kept_one : (c : Change) (j : ℕ) (w : State) (q : Whole) → Remains c j w → w.raw.jobs j ≡ Some q → Sees job_of ((effect_on c j w).raw.jobs j) (job_of q)
 unfolding effect_on effect removed
-kept_one (changes.Open n on) j w q h e = sees_slot job_of w.raw.jobs j j _ q (λ p. refl) e
-kept_one (changes.Shut n) j w q h e = sees_slot job_of w.raw.jobs j j _ q (λ p. refl) e
-kept_one (changes.Move n at) j w q h e = sees_slot job_of w.raw.jobs j j _ q (λ p. refl) e
-kept_one (changes.Append n x) j w q h e = sees_slot job_of w.raw.jobs j j _ q (λ p. refl) e
-kept_one (changes.Close n) j w q h e = sees_slot job_of w.raw.jobs j j _ q (λ p. refl) e
 kept_one (changes.Take c) j w q h e = sees_it job_of _ q e
 kept_one (changes.Put c b) j w q h e = sees_it job_of _ q e
 kept_one (changes.Hold c s) j w q h e = sees_it job_of _ q e
@@ -91,9 +81,9 @@ kept_one (changes.Protect s k on) j w q h e = sees_slot job_of w.raw.jobs s j _ 
 kept_one (changes.Make s u n) j w q h e = sees_it job_of _ q ((changed_only w.raw.jobs s _).others j (λ t. h (sym t)) ∙ e)
 kept_one (changes.Remove s) j w q h e = sees_left job_of (is_gone (superiors w.raw) s) _ _ q (λ p. refl) h e
 kept_one (changes.Inform s) j w q h e = sees_it job_of _ q (on_slot_other w.raw.jobs s j _ (λ t. h (sym t)) ∙ e)
-kept_one (changes.Arm alarm) j w q h e = sees_slot job_of w.raw.jobs j j _ q (λ p. refl) e
 kept_one (changes.Delete d x y) j w q h e = sees_it job_of _ q e
 kept_one (changes.Rename d x y u v) j w q h e = sees_it job_of _ q e
+kept_one _ j w q h e = sees_slot job_of w.raw.jobs j j _ q (λ p. refl) e
 
 pub job_kept : (cs : List Change) (j : ℕ) (w : State) (q : Whole) → AllRemain cs j w → w.raw.jobs j ≡ Some q → Sees job_of ((effects_on cs j w).raw.jobs j) (job_of q)
 job_kept [] j w q h e = sees_it job_of _ q e

@@ -236,7 +236,6 @@ unfolding lined operate plain loaded clocked
 line_alike w b (events.Load u j console) h whole =
     ap (λ o. refusal (Done (by_load b (loaded_in (plain w) u j console o)))) (least_plain w) ∙ load_alike (plain w) w.raw b u j console (least_free (limit w.raw) w.raw.jobs)
 line_alike w b (events.Words a words) h whole = absurd h
-line_alike w b (events.Version v) h whole = refl
 line_alike w b (events.ReadOnly page) h whole =
     disturbs_alike b.slot b (page_protected (plain w) b.slot page) (page_protected w.raw b.slot page) (page_alike w b.slot page)
 line_alike w b (events.Symbol name a) h whole =
@@ -252,20 +251,13 @@ line_alike w b (events.State s) h whole = show_alike (plain w) w.raw b s (state_
 line_alike w b (events.Clock n) h whole =
     clock_alike (plain w) w.raw b n (nat_lt (w.raw.clock + n) clock_end)
 line_alike w b (events.Peek s) h whole = peek_alike s (w.frames s) (w.raw.jobs s)
-line_alike w b (events.Tick s n) h whole = refl
-line_alike w b (events.Run n q) h whole = refl
-line_alike w b events.Nothing h whole = refl
-line_alike w b events.End h whole = refl
 line_alike w b (events.File d x y) h whole =
     let n = names_of d x y in quietly_alike (record b { file = n }) (file_made (plain w) n) (file_made w.raw n) (made_alike w n (whole refl))
 line_alike w b (events.Append words) h whole =
     quietly_alike b (words_added (plain w) b.file words.items) (words_added w.raw b.file words.items) (words_added_alike w b.file words.items (whole refl))
-line_alike w b events.EndFile h whole = refl
-line_alike w b (events.TypeIn c bytes) h whole = refl
-line_alike w b (events.Drain c n) h whole = refl
-line_alike w b (events.Dir d) h whole = refl
 line_alike w b (events.Show d x y) h whole =
     shows_alike (plain w) w.raw b (file_shown (plain w) d x y) (file_shown w.raw d x y) (ap error_of (shown_plain w d x y (whole refl)))
+line_alike w b _ h whole = refl
 
 refusal_lifted : (v : State) (l : Lined) → refusal (lifted_line v l) ≡ refusal l
 refusal_lifted v (Done (Refuses r)) = refl

@@ -62,15 +62,13 @@ module _ {Good : Dots → State → Type 0} (u : Upkeep Good) where
   line_runs n w v d b (Peeks s) es g a h = (peeked w s, (told (n + 1) w b es).lines, refl, h w d b g)
 
   pub told_runs : (n : ℕ) (w : State) (d : Dots) (b : Block) (es : List Item) → Good d w → Run (walk n w d b) es (told n w b es).lines (told n w b es).fate
-  told_runs n w d b [] g = (refl, refl)
   told_runs n w d b (Read e ∷ es) g =
       let t = told n w b (Read e ∷ es) in
       subst (λ l. LinedOn (walk n w d b) l (λ x rest. Run x es rest t.fate) t.lines t.fate) (sym (u.line d w b e g))
       (line_runs n w (calmed w b e) d b (lined (calmed w b e).raw b e) es g (u.after d w b e g) (λ w' d' b' good. told_runs (n + 1) w' d' b' es good))
   told_runs n w d b (InTurn s k ∷ es) g =
       (paces_of w s k, (told n (ticked w s k) b es).lines, refl, paces_length w s k, ticks_run n w d b s k _ g (λ f good. told_runs n (ticked w s k) f b es good))
-  told_runs n w d b (Unread r ∷ es) g = (refl, refl)
-  told_runs n w d b (Beyond ∷ es) g = (refl, refl)
+  told_runs n w d b _ g = (refl, refl)
 
   -- the lines of `stepped` are a transcript
   pub stepped_transcript : (es : List Item) → Transcript es (stepped es).lines (stepped es).fate

@@ -88,12 +88,10 @@ run_past m b e (Done Quits) lines next is forest h = run_rests m
 run_past m b e (Peeks s) lines next is forest h = h m b (drop 1 lines) forest
 
 run_course : (m : Machine) (b : Block) (es : List Item) (lines : List Line) → Forest m → RunFrom m (course m b es lines)
-run_course m b [] lines forest = run_rests m
 run_course m b (Read e ∷ es) lines forest =
     run_past m b e (lined m b e) lines (λ n c rest. course n c es rest) refl forest (λ n c rest f. run_course n c es rest f)
 run_course m b (InTurn s k ∷ es) lines forest = run_paced m s (letters lines) (λ n. course n b es (drop 1 lines)) forest (λ n f. run_course n b es (drop 1 lines) f)
-run_course m b (Unread r ∷ es) lines forest = run_rests m
-run_course m b (Beyond ∷ es) lines forest = run_rests m
+run_course m b _ lines forest = run_rests m
 
 -- some of its moments, one behind the other
 at_joined : (xs ys : List Moment) (n : Machine) → machine_at (xs ++ ys) n ≡ machine_at xs (machine_at ys n)
@@ -169,9 +167,7 @@ part_is m j q s a h is st =
 
 byte_of : (m n : Machine) (j : ℕ) (q : Whole) (s : Site) (a : Ask) (d : Decision) → m.jobs j ≡ Some q → is_part d ≡ true → ByteBy m j q s a d n → ByteOf m j s a n
 byte_of m n j q s a (Goes cs h vs) is e b = record { job = q; there = is; changes = cs.items; held = h; byte = b }
-byte_of m n j q s a (Waits r) is e b = cc
-byte_of m n j q s a (Ends cs ss x) is e b = cc
-byte_of m n j q s a (Gone cs) is e b = cc
+byte_of m n j q s a _ is e b = cc
 
 -- only a call whose decoding gave no error has parts
 part_fine : (m : Machine) (j : ℕ) (q : Whole) (a : Ask) → is_part (decision m j q a) ≡ true → a.fail ≡ 0

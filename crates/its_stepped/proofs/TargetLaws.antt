@@ -41,11 +41,7 @@ aimed_on m v j q s a n c i k at write l e z names alone is =
 -- it is an inferior of the caller
 chan_inferior : (m : Machine) (j : ℕ) (q : Whole) (n s : ℕ) (h : Chan) → Forest m → m.jobs j ≡ Some q → channel_at q.channels n ≡ h → inferior_on h ≡ Some s → superiors m s ≡ Some j
 chan_inferior m j q n s (On k write at) f is e i = let same : k ≡ s = cc in subst (λ (t : ℕ). superiors m t ≡ Some j) same (on_inferior m j q n k at write f is e)
-chan_inferior m j q n s Shut f is e i = cc
-chan_inferior m j q n s TtyIn f is e i = cc
-chan_inferior m j q n s TtyOut f is e i = cc
-chan_inferior m j q n s (Reads names at) f is e i = cc
-chan_inferior m j q n s (Writes d) f is e i = cc
+chan_inferior m j q n s _ f is e i = cc
 
 reached_inferior : (m : Machine) (j : ℕ) (q : Whole) (n s : ℕ) → Forest m → m.jobs j ≡ Some q → reached_by q n ≡ Some s → superiors m s ≡ Some j
 reached_inferior m j q n s f is = go (is_oneself n)

@@ -71,11 +71,7 @@ ttylnd_of_duty : (m : Machine) (v : State) (j : ℕ) (x : View) (s : Site) (a : 
 ttylnd_of_duty m v j x s a n Oneself c = lands_duty m v j x s a n (can_take x (x.holders (console_of x))) 0o13 x.slot c
 ttylnd_of_duty m v j x s a n Nobody c = fails_duty m v j x s a n 0o4 c
 ttylnd_of_duty m v j x s a n (Channel (On k write at)) c = lands_duty m v j x s a n (is_holder x (x.holders (console_of x))) 0o5 k c
-ttylnd_of_duty m v j x s a n (Channel Shut) c = fails_duty m v j x s a n 0o5 c
-ttylnd_of_duty m v j x s a n (Channel TtyIn) c = fails_duty m v j x s a n 0o5 c
-ttylnd_of_duty m v j x s a n (Channel TtyOut) c = fails_duty m v j x s a n 0o5 c
-ttylnd_of_duty m v j x s a n (Channel (Reads f at)) c = fails_duty m v j x s a n 0o5 c
-ttylnd_of_duty m v j x s a n (Channel (Writes f)) c = fails_duty m v j x s a n 0o5 c
+ttylnd_of_duty m v j x s a n _ c = fails_duty m v j x s a n 0o5 c
 
 pub ttylnd_duty : (m : Machine) (v : State) (j : ℕ) (x : View) (s : Site) (a : Ask) (n : ℕ) → Calling m v j x.own s a n → Duty v j x.own s a n (ttylnd x a)
 unfolding ttylnd

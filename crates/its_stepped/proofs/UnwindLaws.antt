@@ -150,13 +150,10 @@ holding_few c r a None n h = let few = h.debts.few in let most = most_few a in o
 holding_few c r a (Some p) n h = let none = h.paged.owes in omega arith
 
 few_by : (b : Bool) (q : Whole) (f : Frame) (r : Option ℕ) → SoundFrame q f r → left_of b f ≤ 4
-few_by b q (Entered f) r h = omega arith
-few_by b q (Parsed f) r h = omega arith
-few_by b q (Asked f) r h = omega arith
 few_by b q (Holding f) r h = holding_few q.core r f.ask f.page f.owes h.pays
 few_by b q (Waiting f) r h = let few = h.pays.debts.few in let most = most_few f.ask in omega arith
-few_by b q (Moving f) r h = omega arith
 few_by b q (Ending f) r h = let few = h.pays.few in let count = count_by-le-length (is_made_by b) f.owed.items in omega arith
+few_by b q _ r h = omega arith
 
 few_some : (w : State) (j : ℕ) (f : Frame) → Sound w → w.frames j ≡ Some f → left w j ≤ 4
 unfolding left
@@ -260,13 +257,11 @@ beside_settled w j s a (Leave e ∷ os) = beside_turn w j (leave e) None
 
 beside_by : (w : State) (j : ℕ) (o : Option Frame) → Beside w (unwind_by w j o) j
 beside_by w j None = beside_same w j
-beside_by w j (Some (Entered f)) = beside_turn w j same None
-beside_by w j (Some (Parsed f)) = beside_turn w j same None
-beside_by w j (Some (Asked f)) = beside_turn w j same None
 beside_by w j (Some (Holding f)) = beside_given w j f.site f.ask f.page f.owes
 beside_by w j (Some (Waiting f)) = beside_paid w j f.ask f.owes (waiting f.site f.ask)
 beside_by w j (Some (Moving f)) = beside_turn w j (with_held f.ask (Some (held_at f.place f.byte))) (Some (holding f.site f.ask None 2))
 beside_by w j (Some (Ending f)) = beside_settled w j f.site f.ask (due (mine w.mark j) f.owed.items)
+beside_by w j _ = beside_turn w j same None
 
 unwind_beside : (w : State) (j : ℕ) → Beside w (unwind_one w j) j
 unfolding unwind_one
@@ -464,13 +459,10 @@ all_unwound_end w = refl
 
 -- a sound frame is one whose steps the code can count
 few_frame_by : (q : Whole) (f : Frame) (r : Option ℕ) → SoundFrame q f r → Few f
-few_frame_by q (Entered f) r h = tt
-few_frame_by q (Parsed f) r h = tt
-few_frame_by q (Asked f) r h = tt
 few_frame_by q (Holding f) r h = let most = holding_few q.core r f.ask f.page f.owes h.pays in omega arith
 few_frame_by q (Waiting f) r h = let few = h.pays.debts.few in let most = most_few f.ask in omega arith
-few_frame_by q (Moving f) r h = tt
 few_frame_by q (Ending f) r h = h.pays.few
+few_frame_by q _ r h = tt
 
 pub few_frame : (w : State) (j : ℕ) (f : Frame) → Sound w → w.frames j ≡ Some f → Few f
 few_frame w j f s e = let c = in_call w j f s e in few_frame_by c.job f (w.reserved j) c.at.sound

@@ -154,10 +154,7 @@ usrmem_on_duty : (m : Machine) (v : State) (j : ℕ) (x : View) (s : Site) (a : 
     → ((k at : ℕ) (write : Bool) → h ≡ On k write at → Aimed v j k) → Duty v j x.own s a n (usrmem_on x a h)
 usrmem_on_duty m v j x s a n (On k write at) c e t = word_duty m v j x s a n k write c e (t k at write refl) at
 usrmem_on_duty m v j x s a n Shut c e t = fails_duty m v j x s a n 0o4 c
-usrmem_on_duty m v j x s a n TtyIn c e t = fails_duty m v j x s a n 0o5 c
-usrmem_on_duty m v j x s a n TtyOut c e t = fails_duty m v j x s a n 0o5 c
-usrmem_on_duty m v j x s a n (Reads f at) c e t = fails_duty m v j x s a n 0o5 c
-usrmem_on_duty m v j x s a n (Writes f) c e t = fails_duty m v j x s a n 0o5 c
+usrmem_on_duty m v j x s a n _ c e t = fails_duty m v j x s a n 0o5 c
 
 pub usrmem_duty : (m : Machine) (v : State) (j : ℕ) (x : View) (s : Site) (a : Ask) (n : ℕ) → Calling m v j x.own s a n → call_named a.name ≡ Some Usrmem → a.fail ≡ 0
     → Duty v j x.own s a n (usrmem x a)
@@ -188,10 +185,7 @@ uclose_on_duty : (m : Machine) (v : State) (j : ℕ) (x : View) (s : Site) (a : 
 uclose_on_duty m v j x s a n (On i write at) c e z is =
     changes_duty m v j x s a n (changes.Remove i) c (λ k gone ne. gone_free m v j x.own s a n i k at write c e z is gone) (caller_stays m v j x.own s a n i at write c is) refl
 uclose_on_duty m v j x s a n Shut c e z is = fails_duty m v j x s a n 0o4 c
-uclose_on_duty m v j x s a n TtyIn c e z is = fails_duty m v j x s a n 0o5 c
-uclose_on_duty m v j x s a n TtyOut c e z is = fails_duty m v j x s a n 0o5 c
-uclose_on_duty m v j x s a n (Reads f at) c e z is = fails_duty m v j x s a n 0o5 c
-uclose_on_duty m v j x s a n (Writes f) c e z is = fails_duty m v j x s a n 0o5 c
+uclose_on_duty m v j x s a n _ c e z is = fails_duty m v j x s a n 0o5 c
 
 pub uclose_duty : (m : Machine) (v : State) (j : ℕ) (x : View) (s : Site) (a : Ask) (n : ℕ) → Calling m v j x.own s a n → call_named a.name ≡ Some Uclose → a.fail ≡ 0
     → Duty v j x.own s a n (uclose x a)

@@ -6,7 +6,8 @@ use Rattle.its_frame.specs.declared.name.CallName.{CallName}
 use Rattle.its_frame.specs.declared.name.CallName.TheVariants.{Usrvar, Iot}
 use Rattle.its_frame.specs.declared.variable.Variable.{Variable}
 use Rattle.its_plain.specs.Arguments.{input, has_input}
-use Rattle.its_plain.specs.CallBasic.{Oneself, is_oneself, channel_at, party_on, variable_named, by_oneself, by_superior, set_own, own_variable, set_other, value_of_other, other_variable, usrvar_of, usrvar}
+use Rattle.its_frame.specs.Variables.{variable_named}
+use Rattle.its_plain.specs.CallBasic.{Oneself, is_oneself, channel_at, party_on, by_oneself, by_superior, set_own, own_variable, set_other, value_of_other, other_variable, usrvar_of, usrvar}
 use Rattle.its_plain.specs.Decide.{call_named}
 use Rattle.its_plain.specs.Machine.{Chan, Shut, TtyIn, TtyOut, Reads, Writes, On, Machine}
 use Rattle.its_plain.specs.Own.{variable_of}

@@ -66,9 +66,7 @@ AllGo (t ∷ ts) = Goes_on t.stop × AllGo ts
 
 goes_not : (d : Decision) (r : Wait) → Goes_on d → d ≡ Waits r → ⊥
 goes_not (Waits s) r h e = h
-goes_not (Goes cs b vs) r h e = cc
-goes_not (Ends cs ss x) r h e = cc
-goes_not (Gone cs) r h e = cc
+goes_not _ r h e = cc
 
 -- they are passed where the rest waits
 pass_by : (b : Bool) (c d : Decision) (r : Wait) → Goes_on c → (if b then c else d) ≡ Waits r → b ≡ false
@@ -165,19 +163,11 @@ sleep_again v a r e =
 -- a byte from a console or to one
 in_on : (v u : View) (a : Ask) (e i : ℕ) (c : Chan) (same : i ≡ console_of v) → of_transfer i c ≡ Some (waits.Input i) → iot_in u e (console_of u) ≡ Waits (waits.Input i) → iot_on u e (input a 0) c ≡ Waits (waits.Input i)
 in_on v u a e i TtyIn same o is = is
-in_on v u a e i TtyOut same o is = absurd (cc)
-in_on v u a e i Shut same o is = absurd (cc)
-in_on v u a e i (Reads ns at) same o is = absurd (cc)
-in_on v u a e i (Writes f) same o is = absurd (cc)
-in_on v u a e i (On k w at) same o is = absurd (cc)
+in_on v u a e i _ same o is = absurd (cc)
 
 out_on : (v u : View) (a : Ask) (e i : ℕ) (c : Chan) → of_transfer i c ≡ Some (waits.Output i) → iot_out u e (console_of u) ≡ Waits (waits.Output i) → iot_on u e (input a 0) c ≡ Waits (waits.Output i)
 out_on v u a e i TtyOut o is = is
-out_on v u a e i TtyIn o is = absurd (cc)
-out_on v u a e i Shut o is = absurd (cc)
-out_on v u a e i (Reads ns at) o is = absurd (cc)
-out_on v u a e i (Writes f) o is = absurd (cc)
-out_on v u a e i (On k w at) o is = absurd (cc)
+out_on v u a e i _ o is = absurd (cc)
 
 iot_by : (v : View) (a : Ask) (r : Wait) (c : Chan) → channel_at v.own.channels (input a 0) ≡ c → ((OnConsole c → ⊥) → Goes_on (decided_by v a (Some Iot)))
     → iot_on v (slice_index_or a.outputs.items 0 0) (input a 0) c ≡ Waits r → decided_by v a (Some Iot) ≡ Waits r → Again v a (Some Iot) r
@@ -202,10 +192,7 @@ iot_by v a r TtyOut is ready e d =
       again = λ u same held. out_on v (own_as v u) a p i (channel_at u.own.channels (input a 0)) same
           (w.again (output_waits (own_as v u) i) (iot_ends (own_as v u) (changes.Put i (shown_byte (word_of (own_as v u) p)) ∷ []) []) held);
     })
-iot_by v a r Shut is ready e d = absurd (goes_not (decided_by v a (Some Iot)) r (ready (λ k. k)) d)
-iot_by v a r (Reads ns at) is ready e d = absurd (goes_not (decided_by v a (Some Iot)) r (ready (λ k. k)) d)
-iot_by v a r (Writes f) is ready e d = absurd (goes_not (decided_by v a (Some Iot)) r (ready (λ k. k)) d)
-iot_by v a r (On k w at) is ready e d = absurd (goes_not (decided_by v a (Some Iot)) r (ready (λ i. i)) d)
+iot_by v a r _ is ready e d = absurd (goes_not (decided_by v a (Some Iot)) r (ready (λ k. k)) d)
 
 iot_again : (v : View) (a : Ask) (r : Wait) → decided_by v a (Some Iot) ≡ Waits r → Again v a (Some Iot) r
 unfolding iot_call
@@ -214,19 +201,11 @@ iot_again v a r e = iot_by v a r (channel_at v.own.channels (input a 0)) refl (i
 -- SIOT
 siot_in_on : (u : View) (a : Ask) (i : ℕ) (c : Chan) → of_transfer i c ≡ Some (waits.Input i) → siot_by u a false false (siot_in u a (next_pointer (input a 1)) (input a 2) (console_of u)) ≡ Waits (waits.Input i) → siot_on u a (input a 0) c ≡ Waits (waits.Input i)
 siot_in_on u a i TtyIn o is = is
-siot_in_on u a i TtyOut o is = absurd (cc)
-siot_in_on u a i Shut o is = absurd (cc)
-siot_in_on u a i (Reads ns at) o is = absurd (cc)
-siot_in_on u a i (Writes f) o is = absurd (cc)
-siot_in_on u a i (On k w at) o is = absurd (cc)
+siot_in_on u a i _ o is = absurd cc
 
 siot_out_on : (u : View) (a : Ask) (i : ℕ) (c : Chan) → of_transfer i c ≡ Some (waits.Output i) → siot_by u a false false (siot_out u a (next_pointer (input a 1)) (input a 2) (console_of u)) ≡ Waits (waits.Output i) → siot_on u a (input a 0) c ≡ Waits (waits.Output i)
 siot_out_on u a i TtyOut o is = is
-siot_out_on u a i TtyIn o is = absurd (cc)
-siot_out_on u a i Shut o is = absurd (cc)
-siot_out_on u a i (Reads ns at) o is = absurd (cc)
-siot_out_on u a i (Writes f) o is = absurd (cc)
-siot_out_on u a i (On k w at) o is = absurd (cc)
+siot_out_on u a i _ o is = absurd cc
 
 siot_by_channel : (v : View) (a : Ask) (r : Wait) (c : Chan) → channel_at v.own.channels (input a 0) ≡ c → ((OnConsole c → ⊥) → Goes_on (decided_by v a (Some Siot)))
     → siot_on v a (input a 0) c ≡ Waits r → decided_by v a (Some Siot) ≡ Waits r → Again v a (Some Siot) r
@@ -259,10 +238,7 @@ siot_by_channel v a r TtyOut is ready e d =
           (past (siot_out (own_as v u) a n (input a 2) i)
           ∙ w.again (output_waits (own_as v u) i) (goes (changes.Put i (shown_byte (load_of n (word_of (own_as v u) (right_of n)))) ∷ []) None (n ∷ (input a 2 - 1) ∷ [])) held);
     })
-siot_by_channel v a r Shut is ready e d = absurd (goes_not (decided_by v a (Some Siot)) r (ready (λ k. k)) d)
-siot_by_channel v a r (Reads ns at) is ready e d = absurd (goes_not (decided_by v a (Some Siot)) r (ready (λ k. k)) d)
-siot_by_channel v a r (Writes f) is ready e d = absurd (goes_not (decided_by v a (Some Siot)) r (ready (λ k. k)) d)
-siot_by_channel v a r (On k w at) is ready e d = absurd (goes_not (decided_by v a (Some Siot)) r (ready (λ i. i)) d)
+siot_by_channel v a r _ is ready e d = absurd (goes_not (decided_by v a (Some Siot)) r (ready (λ k. k)) d)
 
 siot_again : (v : View) (a : Ask) (r : Wait) → decided_by v a (Some Siot) ≡ Waits r → Again v a (Some Siot) r
 unfolding siot_call
@@ -271,11 +247,7 @@ siot_again v a r e = siot_by_channel v a r (channel_at v.own.channels (input a 0
 -- FINISH and LISTEN
 finish_as : (u : View) (a : Ask) (i : ℕ) (c : Chan) → of_finish i c ≡ Some (waits.Drained i) → finish_on u a TtyOut ≡ Waits (waits.Drained i) → finish_on u a c ≡ Waits (waits.Drained i)
 finish_as u a i TtyOut o is = is
-finish_as u a i TtyIn o is = absurd (cc)
-finish_as u a i Shut o is = absurd (cc)
-finish_as u a i (Reads ns at) o is = absurd (cc)
-finish_as u a i (Writes f) o is = absurd (cc)
-finish_as u a i (On k w at) o is = absurd (cc)
+finish_as u a i _ o is = absurd cc
 
 finish_by : (v : View) (a : Ask) (r : Wait) (c : Chan) → channel_at v.own.channels (input a 0) ≡ c → finish_on v a c ≡ Waits r → Again v a (Some Finish) r
 unfolding finish
@@ -287,11 +259,7 @@ finish_by v a r TtyOut is e =
       holds = w.holds;
       again = λ u same held. finish_as (own_as v u) a i (channel_at u.own.channels (input a 0)) same (w.again (output_left (own_as v u) i) (finishes (own_as v u) [] []) held);
     })
-finish_by v a r TtyIn is e = absurd (cc)
-finish_by v a r Shut is e = absurd (cc)
-finish_by v a r (Reads ns at) is e = absurd (cc)
-finish_by v a r (Writes f) is e = absurd (cc)
-finish_by v a r (On k w at) is e = absurd (cc)
+finish_by v a r _ is e = absurd (cc)
 
 finish_again : (v : View) (a : Ask) (r : Wait) → decided_by v a (Some Finish) ≡ Waits r → Again v a (Some Finish) r
 unfolding finish
@@ -300,10 +268,7 @@ finish_again v a r e = finish_by v a r (channel_at v.own.channels (input a 0)) r
 listen_as : (u : View) (a : Ask) (i : ℕ) (c : Chan) → of_listen i c ≡ Some (waits.Drained i) → listens u a (console_of u) ≡ Waits (waits.Drained i) → listen_on u a c ≡ Waits (waits.Drained i)
 listen_as u a i TtyOut o is = is
 listen_as u a i TtyIn o is = is
-listen_as u a i Shut o is = absurd (cc)
-listen_as u a i (Reads ns at) o is = absurd (cc)
-listen_as u a i (Writes f) o is = absurd (cc)
-listen_as u a i (On k w at) o is = absurd (cc)
+listen_as u a i _ o is = absurd (cc)
 
 listens_again : (v : View) (a : Ask) (r : Wait) → of_listen (console_of v) (channel_at v.own.channels (input a 0)) ≡ Some (waits.Drained (console_of v)) → listens v a (console_of v) ≡ Waits r → Again v a (Some Listen) r
 unfolding listen
@@ -320,10 +285,7 @@ listens_again v a r is e =
 listen_by : (v : View) (a : Ask) (r : Wait) (c : Chan) → channel_at v.own.channels (input a 0) ≡ c → listen_on v a c ≡ Waits r → Again v a (Some Listen) r
 listen_by v a r TtyOut is e = listens_again v a r (ap (of_listen (console_of v)) is) e
 listen_by v a r TtyIn is e = listens_again v a r (ap (of_listen (console_of v)) is) e
-listen_by v a r Shut is e = absurd (cc)
-listen_by v a r (Reads ns at) is e = absurd (cc)
-listen_by v a r (Writes f) is e = absurd (cc)
-listen_by v a r (On k w at) is e = absurd (cc)
+listen_by v a r _ is e = absurd (cc)
 
 listen_again : (v : View) (a : Ask) (r : Wait) → decided_by v a (Some Listen) ≡ Waits r → Again v a (Some Listen) r
 unfolding listen

@@ -38,8 +38,8 @@ pub record Fetched (c : Core) (a : Ask) : Type 0 where
   pub sleeper : (p : ℕ) → call_named a.name ≡ Some Sleep → a.fail ≡ 0 → place_of_input a 0 ≡ Some p → (v : ℕ) × (a.inputs.items ≡ record { value = v; place = Some p } ∷ [])
   pub mover : (p q : ℕ) → call_named a.name ≡ Some Siot → a.fail ≡ 0 → place_of_input a 1 ≡ Some p → place_of_input a 2 ≡ Some q → Transfer a p q
 
--- that the decoding looks at these, that a call stands behind a store outside its footprint, that a call of SLEEP stands
--- behind its new time, and one of SIOT behind its new pointer and count
+-- that the decoding looks at these, that a call stands behind a store outside its footprint, that a call of SLEEP
+-- stands behind its new time, and one of SIOT behind its new pointer and count
 pub record Decoding : Type 0 where
   pub fetched : (c : Core) (j : Job) (s : Site) (a : Ask) → Stands c j s a → Fetched c a
   pub slept : (c : Core) (j : Job) (s : Site) (a : Ask) (p v w : ℕ) → Stands c j s a → a.inputs.items ≡ record { value = v; place = Some p } ∷ [] → is_shared p a ≡ false

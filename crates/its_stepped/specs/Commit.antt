@@ -26,8 +26,10 @@ use Rattle.its_stepped.specs.State.{Part, UnlinkOld, LinkNew, FreeOld, Mark, Sta
 -- a change on the stepped machine: a close is marked, and its parts are owed; a page that is made is the
 -- reserved one; a removed job has no frame
 unfoldable pub effect_on : Change → ℕ → State → State
-effect_on (changes.Close n) j w = record w { raw = in_job w.raw j (on_channel n (λ c. Shut)); mark = mark_of_close j (channel_in (w.raw.jobs j) n) w.raw.files }
-effect_on (changes.Map s k) j w = record w { raw = effect (changes.Map s k) j w.raw; reserved = changed w.reserved j None }
+effect_on (changes.Close n) j w =
+    record w { raw = in_job w.raw j (on_channel n (λ c. Shut)); mark = mark_of_close j (channel_in (w.raw.jobs j) n) w.raw.files }
+effect_on (changes.Map s k) j w =
+    record w { raw = effect (changes.Map s k) j w.raw; reserved = changed w.reserved j None }
 effect_on (changes.Remove s) j w = record w {
   raw = effect (changes.Remove s) j w.raw;
   frames = λ k. if is_gone (superiors w.raw) s k then None else w.frames k;
@@ -75,7 +77,8 @@ owed_by v j ss e = owed_parts v.mark j ++ (given_up (v.reserved j) ++ (map owed_
 -- a decision carried out, of a call that owes its last n arguments
 unfoldable pub committed : State → ℕ → Site → Ask → ℕ → Decision → State
 committed w j s a n (Waits r) = turn w j same (Some (waiting s a n))
-committed w j s a n (Goes cs h vs) = turn (effects_on cs.items j w) j same (Some (gone_on s (revalued a vs.items) (length vs.items) h))
+committed w j s a n (Goes cs h vs) =
+    turn (effects_on cs.items j w) j same (Some (gone_on s (revalued a vs.items) (length vs.items) h))
 committed w j s a n (Ends cs ss e) =
     let v = effects_on cs.items j w in turn v j same (Some (ending s a (owed_by v j (debts a n ++ ss.items) e)))
 committed w j s a n (Gone cs) = effects_on (changes.Remove j ∷ cs.items) j w

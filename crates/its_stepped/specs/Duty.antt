@@ -121,8 +121,8 @@ Duty v j own s a n (Goes cs h vs) = Going v j own s a n cs.items h vs.items
 Duty v j own s a n (Ends cs ss e) = Ending_by v j own n cs.items ss.items
 Duty v j own s a n (Gone cs) = Leaving v j cs.items
 
--- a call that is tried reaches other jobs than its own alone, all quarters of the page that it reserves are clear, and it
--- does its duty
+-- a call that is tried reaches other jobs than its own alone, all quarters of the page that it reserves are clear,
+-- and it does its duty
 pub record Meets (w : State) (j : ℕ) (own : Whole) (s : Site) (a : Ask) (n : ℕ) : Type 0 where
   pub apart : among j (reach (plain w) j own a) ≡ false
   pub page : reserves a ≡ true → w.reserved j ≡ Some quarters

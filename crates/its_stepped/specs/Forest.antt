@@ -16,8 +16,8 @@ OnConsole console TtyIn = is_some console ≡ true
 OnConsole console TtyOut = is_some console ≡ true
 OnConsole console _ = Unit {0}
 
--- jobs have the slots below the limit; a superior is a job, and no job is reached from itself through superiors; a channel
--- on a job is on an inferior; a job with a channel on a console has one; and who holds a console is a job
+-- jobs have the slots below the limit; a superior is a job, and no job is reached from itself through superiors; a
+-- channel on a job is on an inferior; a job with a channel on a console has one; and who holds a console is a job
 pub record Forest (m : Machine) : Type 0 where
   pub few : (k : ℕ) → limit m ≤ k → m.jobs k ≡ None
   pub standing : (k : ℕ) → IfSome (superiors m k) (λ s. is_some (m.jobs s) ≡ true)

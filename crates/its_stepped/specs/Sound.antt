@@ -115,9 +115,10 @@ backs (Link ∷ os) = backs os
 backs (Free ∷ os) = backs os
 backs (Leave e ∷ os) = backs os
 
--- what a frame owes can be paid from the raw core; and the slot has a reserved page exactly where the frame says. A call that
--- is held has a page exactly where it reserves one: it got the page as it was prepared, and has it until it ends or is
--- unwound. So a page that a call makes is the one that it has reserved. (A call that waits or holds a byte reserves none)
+-- what a frame owes can be paid from the raw core; and the slot has a reserved page exactly where the frame says. A
+-- call that is held has a page exactly where it reserves one: it got the page as it was prepared, and has it until it
+-- ends or is unwound. So a page that a call makes is the one that it has reserved. (A call that waits or holds a byte
+-- reserves none)
 pub record HoldingPays (c : Core) (r : Option ℕ) (a : Ask) (page : Option ℕ) (n : ℕ) : Type 0 where
   pub debts : Debts c a n
   pub page_is : r ≡ page

@@ -47,7 +47,8 @@ faults_on w j f = steps (turn w j (faulted f) None)
 
 -- user mode
 abbrev pub delivered_on : State → ℕ → Whole → Delivered → State
-delivered_on w j q d = turn (effects_on (informs d.stops q.superior) j (all_unwound (informed_slots d.stops q.superior) w)) j (becomes d.core d.job) None
+delivered_on w j q d =
+    turn (effects_on (informs d.stops q.superior) j (all_unwound (informed_slots d.stops q.superior) w)) j (becomes d.core d.job) None
 
 abbrev pub unit_on : State → ℕ → Outcome → Ticked
 unit_on w j (Changed c k) = steps (turn w j (becomes c k) None)

@@ -1,5 +1,5 @@
--- The turns of RUN lines as the stepped machine makes them (docs/STEPS.md, "Lines"). They are those of the unrolled events
--- (proofs/UnrolledLaws).
+-- The turns of RUN lines as the stepped machine makes them (docs/STEPS.md, "Lines"). They are those of the unrolled
+-- events (proofs/UnrolledLaws).
 use Rattle.std.specs.Prelude.{ℕ, zero, suc, Option, Some, None, List, [], ◌∷◌}
 use Rattle.its_word.specs.Item.{Item, Read, InTurn}
 use Rattle.its_word.specs.declared.session.Event.{Event}
@@ -17,7 +17,8 @@ turned None turn next = next
 
 abbrev pub turns : ℕ → ℕ → State → ℕ → (State → ℕ → List Item) → List Item
 turns zero q w last next = next w last
-turns (suc n) q w last next = turned (turn_after w.raw last) (λ s. InTurn s q ∷ turns n q (ticked w s q) s next) (next w last)
+turns (suc n) q w last next =
+    turned (turn_after w.raw last) (λ s. InTurn s q ∷ turns n q (ticked w s q) s next) (next w last)
 
 -- where the stepped machine stands after a line; a line that is refused and END leave nothing to come
 pub record Stand : Type 0 where
@@ -38,7 +39,8 @@ followed e last es (Some x) next = turns (turns_asked e) (ticks_asked e) x.state
 
 abbrev pub turned_from : State → Block → ℕ → List Item → List Item
 turned_from w b last [] = []
-turned_from w b last (Read e ∷ es) = Read e ∷ followed e last es (stand_after w (calmed w b e) b (lined (calmed w b e).raw b e)) (λ v c l. turned_from v c l es)
+turned_from w b last (Read e ∷ es) =
+    Read e ∷ followed e last es (stand_after w (calmed w b e) b (lined (calmed w b e).raw b e)) (λ v c l. turned_from v c l es)
 turned_from w b last (x ∷ es) = x ∷ es
 
 -- the events of a session with the turns of each RUN behind it

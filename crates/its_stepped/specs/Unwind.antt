@@ -70,7 +70,8 @@ unwind_by w j (Some (Parsed f)) = turn w j same None
 unwind_by w j (Some (Asked f)) = turn w j same None
 unwind_by w j (Some (Holding f)) = given_back w j f.site f.ask f.page f.owes
 unwind_by w j (Some (Waiting f)) = paid w j f.ask f.owes (waiting f.site f.ask)
-unwind_by w j (Some (Moving f)) = turn w j (with_held f.ask (Some (held_at f.place f.byte))) (Some (holding f.site f.ask None 2))
+unwind_by w j (Some (Moving f)) =
+    turn w j (with_held f.ask (Some (held_at f.place f.byte))) (Some (holding f.site f.ask None 2))
 unwind_by w j (Some (Ending f)) = settled w j f.site f.ask (due (mine w.mark j) f.owed.items)
 
 -- one step of unwinding

@@ -55,22 +55,12 @@ refusal_as statuses.NoMemory t bytes read w e f = absurd (let k : statuses.NoMem
 refusal_as statuses.TooLong t bytes read w e f = absurd (let k : statuses.TooLong ≡ statuses.Refused = f.0 in cc)
 
 ran_by : (st good : Status) (bytes w : List ℕ) → good ≢ statuses.Usage → StatusFor st good bytes w → st ≢ statuses.Usage
-ran_by statuses.WriteFault good bytes w n f = λ k. cc
-ran_by statuses.Done good bytes w n f = λ k. cc
-ran_by statuses.Refused good bytes w n f = λ k. cc
-ran_by statuses.ReadFault good bytes w n f = λ k. cc
-ran_by statuses.TooLong good bytes w n f = λ k. cc
-ran_by statuses.NoMemory good bytes w n f = λ k. cc
 ran_by statuses.Usage good bytes w n f = λ k. n (sym f.0)
+ran_by _ good bytes w n f = λ k. cc
 
 took_memory : (st good : Status) (bytes w : List ℕ) → good ≢ statuses.NoMemory → StatusFor st good bytes w → st ≢ statuses.NoMemory
 took_memory statuses.NoMemory good bytes w n f = λ k. n (sym f.0)
-took_memory statuses.WriteFault good bytes w n f = λ k. cc
-took_memory statuses.Done good bytes w n f = λ k. cc
-took_memory statuses.Refused good bytes w n f = λ k. cc
-took_memory statuses.ReadFault good bytes w n f = λ k. cc
-took_memory statuses.TooLong good bytes w n f = λ k. cc
-took_memory statuses.Usage good bytes w n f = λ k. cc
+took_memory _ good bytes w n f = λ k. cc
 
 pub asm_session : (st : Status) (t : Vec ℕ) (left rest old new : Option (List ℕ)) → MadeFrom (Ok (mades.Session t)) left rest → WroteText st statuses.Done t.items old new → Asm st left rest old new
 asm_session st t left rest old new e w = record {

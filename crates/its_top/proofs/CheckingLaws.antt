@@ -49,9 +49,7 @@ so_start r left n o p q v = record { items = []; found = reader.so_start r left 
 -- the check goes on
 found_on : (f : Found) (es : List Item) (old new : Items) (left mid rest : Option (List ℕ)) → is_last f ≡ false → FoundSoFar es old left mid → Finds (Ok f) old new mid rest → FoundSoFar (es ++ last_items f) new left rest
 found_on (Line e) es old new left mid rest l s f = reader.so_next es e old new left mid rest l s f
-found_on (Bad r) es old new left mid rest l s f = cc
-found_on founds.Beyond es old new left mid rest l s f = cc
-found_on founds.End es old new left mid rest l s f = cc
+found_on _ es old new left mid rest l s f = cc
 
 pub so_next : (f : Found) (n k : ℕ) (r r' : Items) (left mid rest : Option (List ℕ)) → k ≡ n → CheckSoFar r k left mid → Finds (Ok f) r r' mid rest → CheckedBy None n f → CheckSoFar r' (n + 1) left rest
 so_next f n k r r' left mid rest e s t c = record {
@@ -111,13 +109,9 @@ pub wrote_begun : (good : Status) (bytes : List ℕ) (old new : Option (List ℕ
 wrote_begun good bytes old new w = record { wrote = w.0; appended = w.1.appended; complete = w.1.rest }
 
 ran_by : (st good : Status) (bytes w : List ℕ) → WasRun good → StatusFor st good bytes w → WasRun st
-ran_by statuses.WriteFault good bytes w r f = tt
-ran_by statuses.Done good bytes w r f = tt
-ran_by statuses.Refused good bytes w r f = tt
-ran_by statuses.ReadFault good bytes w r f = tt
-ran_by statuses.TooLong good bytes w r f = tt
 ran_by statuses.Usage good bytes w r f = subst WasRun (sym f.0) r
 ran_by statuses.NoMemory good bytes w r f = subst WasRun (sym f.0) r
+ran_by _ good bytes w r f = tt
 
 done_by : (st : Status) (c : Checked) (bytes w : List ℕ) → Passes c → bytes ≡ checked_text c → StatusFor st statuses.Done bytes w → CheckedAs st c w
 done_by statuses.Done c bytes w p e f = (p, sym e ∙ f.1)
@@ -148,13 +142,11 @@ reported_beyond out = record { ran = tt; wrote = []; appended = Appends-nil out;
 
 -- the end of a check
 as_check : (st : Status) (c : Checked) (bytes read w : List ℕ) → checked (events_of bytes) ≡ c → CheckedAs st c w → CheckOf st bytes read w
-as_check statuses.ReadFault c bytes read w e f = absurd f
 as_check statuses.Done c bytes read w e f = subst (λ x. CheckedAs statuses.Done x w) (sym e) f
 as_check statuses.Refused c bytes read w e f = subst (λ x. CheckedAs statuses.Refused x w) (sym e) f
 as_check statuses.TooLong c bytes read w e f = subst (λ x. CheckedAs statuses.TooLong x w) (sym e) f
 as_check statuses.WriteFault c bytes read w e f = subst (λ x. CheckedAs statuses.WriteFault x w) (sym e) f
-as_check statuses.Usage c bytes read w e f = absurd f
-as_check statuses.NoMemory c bytes read w e f = absurd f
+as_check _ c bytes read w e f = absurd f
 
 told_check : (st : Status) (c : Checked) (left : Option (List ℕ)) (read w : List ℕ) → IfSome left (λ bytes. FoundIn (Ok c) bytes read) → CheckedAs st c w
     → IfSome left (λ bytes. CheckOf st bytes read w)

@@ -1,29 +1,22 @@
 -- RUN, turn by turn.
-use Rattle.std.specs.Prelude.{◌≡◌, ◌<◌, ◌≤◌, ◌+◌, ◌-◌, ℕ, suc, Bool, true, false, Option, Some, None, IfSome, List, [], ◌∷◌, ◌++◌, length, slice_index_or, slice_set, refl}
-use Rattle.std.proofs.Common.{sym, ◌∙◌, ap, subst, arith, append_assoc, inl, inr, length-set}
+use Rattle.std.specs.Prelude.{◌≡◌, ◌<◌, ◌≤◌, ◌+◌, ◌-◌, ℕ, suc, true, false, Option, Some, None, List, [], ◌∷◌, ◌++◌, refl}
+use Rattle.std.proofs.Common.{sym, ◌∙◌, ap, subst, arith, append_assoc}
 use Rattle.std.proofs.KnownBytes.{Appends-nil, Appends-trans}
-use Rattle.std.proofs.lemmas.Bool.{cases_eq}
-use Rattle.std.proofs.lemmas.List.{get_or-set_same, get_or-set_other}
-use Rattle.its_robin.specs.Robin.{robin}
-use Rattle.its_robin.proofs.RobinLaws.{robin_same}
 use Rattle.its_word.specs.Item.{Item, Read, InTurn}
-use Rattle.its_word.specs.Limits.{slots}
 use Rattle.its_word.specs.declared.session.Event.{Event}
 use Rattle.its_word.specs.declared.session.Event.TheVariants as events
-use Rattle.its_print.specs.Printing.{Line, text_of_line, text}
+use Rattle.its_print.specs.Printing.{text_of_line, text}
 use Rattle.its_print.specs.Printing as printed
-use Rattle.its_plain.specs.Machine.{Machine}
 use Rattle.its_plain.specs.Operator.{Block}
 use Rattle.its_plain.specs.OperatorLines.{operate, lined}
 use Rattle.its_plain.specs.Unrolled.{runs, turn_after, turns_asked, ticks_asked}
-use Rattle.its_plain.proofs.FairLaws.{turn_within}
 use Rattle.its_stepped.specs.State.{State}
 use Rattle.its_stepped.specs.Lines.{calmed, paces_of, ticked, told}
 use Rattle.its_stepped.specs.Turns.{turned, turns, Stand, stand_after, followed, turned_from}
 use Rattle.its_top.specs.declared.turn.Turn.{Turn}
 use Rattle.its_top.specs.declared.turn.Turn.TheVariants as outcomes
 use Rattle.its_top.specs.Telling.{Says, said, after, BeginsText, items_say, session_says, Answers, FollowsBy, CircledBy, goes_on}
-use Rattle.its_top.specs.Answer.{WroteFor, Tells, Answered, Follows, Circled, CircleSo, RunsSo}
+use Rattle.its_top.specs.Answer.{WroteFor, Tells, Answered, Follows, Circled, CircleSo}
 use Rattle.its_top.proofs.EventLaws.{after_after, text_one, said_telling}
 use Rattle.its_top.proofs.ConclusionLaws.{on_of}
 
@@ -59,9 +52,7 @@ run_by : (turn : Turn) (n : ℕ) (v v' : State) (b : Block) (i j k q : ℕ) (w :
 unfolding session_says
 run_by outcomes.On n v v' b i j k q w c = (refl, λ items. run_says n v b i k q items ∙ c (n + 1) b (λ x l. turned_from x b l items))
 run_by outcomes.Fault n v v' b i j k q w c = λ items. subst (λ s. BeginsText s w) (sym (run_says n v b i k q items)) (c (n + 1) b (λ x l. turned_from x b l items))
-run_by outcomes.Ended n v v' b i j k q w c = absurd c
-run_by outcomes.Refused n v v' b i j k q w c = absurd c
-run_by outcomes.Beyond n v v' b i j k q w c = absurd c
+run_by _ n v v' b i j k q w c = absurd c
 
 pub run_follows : (turn : Turn) (n : ℕ) (v v' : State) (b : Block) (i j k q : ℕ) (e : Event) (old new : Option (List ℕ)) → e ≡ events.Run k q → Circled turn v i k q v' j old new
     → Follows turn n v b i e v' b j old new
@@ -159,30 +150,6 @@ circle_end v now i j n k q old out over c = record {
   appended = c.appended;
   circled = λ l b next. (let none : n - k ≡ 0 = omega arith in c.says l b next ∙ ap (λ x. after c.wrote (items_say l now b (turns x q now j next))) none);
 }
-
--- who runs
-pub runs_start : (m : Machine) (xs : List Bool) → length xs ≡ slots → RunsSo m 0 xs
-runs_start m xs e = record { count = e; found = λ s below. absurd (omega arith) }
-
-pub runs_next : (m : Machine) (k : ℕ) (xs ys : List Bool) (b : Bool) → k < slots → RunsSo m k xs → ys ≡ slice_set xs k b → b ≡ runs m k → RunsSo m (k + 1) ys
-runs_next m k xs ys b below r e here = record {
-  count = ap length e ∙ length-set xs k b ∙ r.count;
-  found = λ s under.
-      ap (λ l. slice_index_or l s false) e
-      ∙ elim (cases_eq s k) [
-        | inl same ↦ ap (λ i. slice_index_or (slice_set xs k b) i false) same ∙ get_or-set_same xs k b false (omega (arith, r.count)) ∙ here ∙ ap (runs m) (sym same)
-        | inr other ↦ get_or-set_other xs k s b false other ∙ r.found s (omega arith)
-      ];
-}
-
-pub turn_found : (m : Machine) (last : ℕ) (xs : List Bool) (o : Option ℕ) → last < slots → RunsSo m slots xs → o ≡ robin (length xs) (λ k. slice_index_or xs k false) last
-    → o ≡ turn_after m last
-turn_found m last xs o l r h =
-    h ∙ ap (λ n. robin n (λ k. slice_index_or xs k false) last) r.count ∙ robin_same slots last (λ k. slice_index_or xs k false) (runs m) l (λ k below. r.found k below)
-
-pub turn_is_slot : (m : Machine) (last : ℕ) (o : Option ℕ) → last < slots → o ≡ turn_after m last → IfSome o (λ s. s < slots)
-turn_is_slot m last (Some s) l h = turn_within m last s l (sym h)
-turn_is_slot m last None l h = tt
 
 -- RUN alone asks for turns
 pub asks_none : (e : Event) → ((n q : ℕ) → e ≡ events.Run n q → ⊥) → turns_asked e ≡ 0

@@ -36,10 +36,7 @@ use Rattle.its_top.proofs.EventLaws.{after_after, text_one}
 
 pub on_of : (turn : Turn) → goes_on turn ≡ true → turn ≡ turns.On
 on_of turns.On h = refl
-on_of turns.Ended h = cc
-on_of turns.Refused h = cc
-on_of turns.Beyond h = cc
-on_of turns.Fault h = cc
+on_of _ h = cc
 
 pub not_fault : (turn : Turn) → goes_on turn ≡ true → turn ≢ turns.Fault
 not_fault turn h e = let k : false ≡ true = sym (ap goes_on e) ∙ h in cc
@@ -119,9 +116,7 @@ so_start r v i left out e l n o p q k = record {
 -- the session goes on
 found_on : (f : Found) (es : List Item) (old new : Items) (left mid rest : Option (List ℕ)) → is_last f ≡ false → FoundSoFar es old left mid → Finds (Ok f) old new mid rest → FoundSoFar (es ++ last_items f) new left rest
 found_on (founds.Line e) es old new left mid rest l s f = reader.so_next es e old new left mid rest l s f
-found_on (founds.Bad r) es old new left mid rest l s f = cc
-found_on founds.Beyond es old new left mid rest l s f = cc
-found_on founds.End es old new left mid rest l s f = cc
+found_on _ es old new left mid rest l s f = cc
 
 on_next : (f : Found) (n : ℕ) (v v' : State) (b b' : Block) (i i' : ℕ) (r r' : Items) (left mid rest old out new : Option (List ℕ)) → SoFar r n v b i left mid old out → Finds (Ok f) r r' mid rest → Takes turns.On n v b i f v' b' i' out new
     → SoFar r' (n + 1) v' b' i' left rest old new
@@ -149,16 +144,12 @@ finished_after statuses.Refused s t v w e f = (ap (λ x. x.text) e ∙ ap (λ x.
 finished_after statuses.TooLong s t v w e f = (ap (λ x. x.text) e ∙ ap (λ x. v ++ x) f.0, ap (λ x. x.fate) e ∙ f.1)
 finished_after statuses.WriteFault s t v w e f =
     record { more = f.more; whole = ap (λ x. x.text) e ∙ ap (λ x. v ++ x) f.whole ∙ sym (append_assoc v w f.more) }
-finished_after statuses.Usage s t v w e f = absurd f
-finished_after statuses.ReadFault s t v w e f = absurd f
-finished_after statuses.NoMemory s t v w e f = absurd f
+finished_after _ s t v w e f = absurd f
 
 over_of : (turn : Turn) (n : ℕ) (v v' : State) (b b' : Block) (i i' : ℕ) (f : Found) (w : List ℕ) → goes_on turn ≡ false → TakenBy turn n v b i f v' b' i' w → Over turn n v b i f w
 over_of turns.On n v v' b b' i i' f w g t = cc
 over_of turns.Ended n v v' b b' i i' f w g t = t.1
-over_of turns.Refused n v v' b b' i i' f w g t = t
-over_of turns.Beyond n v v' b b' i i' f w g t = t
-over_of turns.Fault n v v' b b' i i' f w g t = t
+over_of _ n v v' b b' i i' f w g t = t
 
 was_run : (turn : Turn) → WasRun (status_of turn)
 was_run turns.On = tt
@@ -169,12 +160,9 @@ was_run turns.Fault = tt
 
 as_concluded : (st : Status) (bytes read w : List ℕ) → Finished st (said (stepped (with_turns (events_of bytes)))) w → Concluded st bytes read w
 as_concluded statuses.ReadFault bytes read w f = absurd f
-as_concluded statuses.Done bytes read w f = f
-as_concluded statuses.Refused bytes read w f = f
-as_concluded statuses.TooLong bytes read w f = f
-as_concluded statuses.WriteFault bytes read w f = f
 as_concluded statuses.Usage bytes read w f = absurd f
 as_concluded statuses.NoMemory bytes read w f = absurd f
+as_concluded _ bytes read w f = f
 
 told_over : (turn : Turn) (n : ℕ) (v : State) (b : Block) (i : ℕ) (f : Found) (es : List Item) (left : Option (List ℕ)) (read v1 w : List ℕ) → ((behind : List Item) → said (stepped (with_turns (es ++ behind))) ≡ after v1 (session_says n v b i behind))
     → Over turn n v b i f w → IfSome left (λ bytes. Behind f es bytes) → IfSome left (λ bytes. Concluded (status_of turn) bytes read (v1 ++ w))
@@ -185,11 +173,8 @@ told_over turn n v b i f es (Some bytes) read v1 w s o h =
 
 told_input : (turn : Turn) (n : ℕ) (v v' : State) (b b' : Block) (i i' : ℕ) (f : Found) (es : List Item) (w : List ℕ) (r r' : Items) (left mid rest : Option (List ℕ)) → goes_on turn ≡ false → TakenBy turn n v b i f v' b' i' w
     → Ready r'.lines rest → FoundSoFar es r left mid → Finds (Ok f) r r' mid rest → status_of turn ≡ statuses.Done → IfSome left (λ bytes. ReadOut bytes rest)
-told_input turns.On n v v' b b' i i' f es w r r' left mid rest g t y s k e = cc
 told_input turns.Ended n v v' b b' i i' f es w r r' left mid rest g t y s k e = reader.out_of f es r r' left mid rest y s k t.0
-told_input turns.Refused n v v' b b' i i' f es w r r' left mid rest g t y s k e = cc
-told_input turns.Beyond n v v' b b' i i' f es w r r' left mid rest g t y s k e = cc
-told_input turns.Fault n v v' b b' i i' f es w r r' left mid rest g t y s k e = cc
+told_input _ n v v' b b' i i' f es w r r' left mid rest g t y s k e = cc
 
 over_by : (turn : Turn) (f : Found) (n : ℕ) (v v' : State) (b b' : Block) (i i' : ℕ) (r r' : Items) (left mid rest old out new : Option (List ℕ)) → goes_on turn ≡ false → Ready r'.lines rest → SoFar r n v b i left mid old out
     → Finds (Ok f) r r' mid rest → Takes turn n v b i f v' b' i' out new → Session (status_of turn) left rest old new

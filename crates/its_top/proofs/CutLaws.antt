@@ -7,13 +7,13 @@ use Rattle.its_word.specs.Item.{Item}
 use Rattle.its_session.specs.Events.{events_of, most_lines}
 use Rattle.its_plain.specs.Transcript.{at_start}
 use Rattle.its_plain.specs.Unrolled.{highest}
-use Rattle.its_reader.specs.TextLines.{before_lf, in_front, lines_in}
+use Rattle.its_reader.specs.TextLines.{in_front, lines_in}
 use Rattle.its_verify.specs.Accepted.{IsFirst}
 use Rattle.its_verify.specs.Judge.{Verdict, Yes, No, judged}
-use Rattle.its_verify.specs.Verified.{Answer, Judged, Long, Cut, TooLong, Parts, Both, LongLine, NoEnd, TooMany, bounded, by_parts, is_end_line, most_session_bytes, parts_from, verified, within}
+use Rattle.its_verify.specs.Verified.{Answer, Judged, Long, Cut, TooLong, Parts, Both, LongLine, NoEnd, TooMany, bounded, by_parts, parts_from, verified, within}
 use Rattle.its_verify.proofs.BoundedLaws.{has_no, has_yes, long_past, no_has, past_long, yes_has}
 use Rattle.its_verify.proofs.LinesLaws.{concat_lines}
-use Rattle.its_verify.proofs.PartsLaws.{both_whole}
+use Rattle.its_verify.proofs.PartsLaws.{both_whole, each_way}
 use Rattle.its_verify.proofs.VerdictLaws.{accepted_lines, lines_accepted}
 use Rattle.its_top.specs.Verifying.{IsCut, Why}
 
@@ -53,18 +53,7 @@ within_most n h = grind (arith, nat_tests)
 two_parts : (n : ℕ) (session : List ℕ) (lines : List (List ℕ)) → lines_in (concat lines) ≡ lines → TwoParts (parts_from n session lines)
 two_parts n session [] is = tt
 two_parts n session (line ∷ lines) is =
-    elim (cases_Bool (ltb most_lines n)) [
-      | inl past ↦ rw past tt
-      | inr few ↦
-          elim (cases_Bool (ltb most_session_bytes (length (before_lf line)))) [
-            | inl longer ↦ rw (few, longer) tt
-            | inr short ↦
-                elim (cases_Bool (is_end_line line)) [
-                  | inl last ↦ rw (few, short, last) (within_most n few, others line lines is)
-                  | inr other ↦ rw (few, short, other) (two_parts (n + 1) (session ++ line) lines (others line lines is))
-                ]
-          ]
-    ]
+    each_way (λ p q. TwoParts p) n session line lines lines tt tt (λ few. (within_most n few, others line lines is)) (two_parts (n + 1) (session ++ line) lines (others line lines is))
 
 -- the parts of bytes
 record Parted (bytes session : List ℕ) (count : ℕ) (texts : List (List ℕ)) : Type 0 where

@@ -68,14 +68,12 @@ module _ (decoding : Decoding) where
   line_few n w v d b (Peeks s) es g a h = h w d b g
 
   told_few : (n : ℕ) (w : State) (d : Dots) (b : Block) (es : List Item) → Fine d w → FewFrom (plain w) d b es (told n w b es).lines
-  told_few n w d b [] g = tt
   told_few n w d b (Read e ∷ es) g =
       subst (λ l. FewPast (plain w) d b l (told n w b (Read e ∷ es)).lines (λ m f c rest. FewFrom m f c es rest)) (sym (u.line d w b e g))
       (line_few n w (calmed w b e) d b (lined (calmed w b e).raw b e) es g (u.after d w b e g) (λ w' f c good. told_few (n + 1) w' f c es good))
   told_few n w d b (InTurn s k ∷ es) g =
       ticks_few w d s k (λ m f. FewFrom m f b es (told n (ticked w s k) b es).lines) g (λ f good. told_few n (ticked w s k) f b es good)
-  told_few n w d b (Unread r ∷ es) g = tt
-  told_few n w d b (Beyond ∷ es) g = tt
+  told_few n w d b _ g = tt
 
   -- the lines of `stepped`
   pub few_dots : (es : List Item) → FewDots es (stepped es).lines

@@ -30,7 +30,8 @@ use Rattle.its_world.specs.World.{state_of}
 use Rattle.its_world.specs.declared.world.World.{World}
 use Rattle.its_world.proofs.MarkLaws.{none_marked, made_none}
 use Rattle.its_parts.proofs.StoreLaws.{changed_same}
-use Rattle.its_operator.specs.Kept.{Lands, FileRefused, reason_of}
+use Rattle.its_word.specs.Refusals.{reason_of}
+use Rattle.its_operator.specs.Kept.{Lands, FileRefused}
 use Rattle.its_operator.specs.Filing.{word_if, length_if}
 use Rattle.its_top.specs.declared.turn.Turn.{Turn}
 use Rattle.its_top.specs.declared.turn.Turn.TheVariants as turns
@@ -140,10 +141,7 @@ text_more l ls = refl
 
 wrote_on : (turn : Turn) (bytes wrote : List ℕ) → goes_on turn ≡ true → WroteFor turn turns.On bytes wrote → bytes ≡ wrote
 wrote_on turns.On bytes wrote g c = c.1
-wrote_on turns.Ended bytes wrote g c = cc
-wrote_on turns.Refused bytes wrote g c = cc
-wrote_on turns.Beyond bytes wrote g c = cc
-wrote_on turns.Fault bytes wrote g c = cc
+wrote_on _ bytes wrote g c = cc
 
 pub writes_next : (turn : Turn) (lines rest : List Line) (l : Line) (old now new : Option (List ℕ)) → goes_on turn ≡ true → WritesSo lines (l ∷ rest) old now → Tells turn turns.On (text_of_line l) now new
     → WritesSo lines rest old new
@@ -421,7 +419,4 @@ module _ (old mid : World) (e : state_of mid ≡ help (state_of old)) (files : m
 -- the three names of a file, read one by one
 pub three : (ns : Names) (a b c : ℕ) → length ns ≡ 3 → names_of (get_or ns 0 a) (get_or ns 1 b) (get_or ns 2 c) ≡ ns
 three (x ∷ y ∷ z ∷ []) a b c h = refl
-three [] a b c h = absurd (omega (arith, h))
-three (x ∷ []) a b c h = absurd (omega (arith, h))
-three (x ∷ y ∷ []) a b c h = absurd (omega (arith, h))
-three (x ∷ y ∷ z ∷ w ∷ ws) a b c h = absurd (omega (arith, h))
+three _ a b c h = absurd (omega (arith, h))

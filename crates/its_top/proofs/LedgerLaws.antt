@@ -124,7 +124,6 @@ from_lined c v e es lines fate (Peeks i) few s t h =
 
 from_run : (c : ℕ) (v : Walk) (es : List Item) (lines : List Line) (fate : Fate) → Few c v.machine → Run v es lines fate
     → From c v.machine (course v.machine v.block es lines) lines
-from_run c v [] lines fate few t = from_rest c v.machine lines (ap (flat_map (drained_by c)) t.0)
 from_run c v (Read e ∷ es) lines fate few t =
     from_lined c v e es lines fate (lined v.machine v.block e) few (line_shows c v.machine v.block e few) t (λ w rest few' run. from_run c w es rest fate few' run)
 from_run c v (InTurn i k ∷ es) lines fate few t =
@@ -136,8 +135,7 @@ from_run c v (InTurn i k ∷ es) lines fate few t =
     (λ w same few' run. subst (λ b. From c w.machine (course w.machine b es rest) rest) same (from_run c w es rest fate few' run)) in
     subst (λ ls. From c m (paced m i (letters ls) (λ l. course l v.block es (drop 1 ls))) ls) (sym t.2)
     (from_shown c m (paced m i ps walk) (printed.Ticks i ps) rest refl next)
-from_run c v (Unread r ∷ es) lines fate few t = from_rest c v.machine lines (ap (flat_map (drained_by c)) t.0)
-from_run c v (Beyond ∷ es) lines fate few t = from_rest c v.machine lines (ap (flat_map (drained_by c)) t.0)
+from_run c v _ lines fate few t = from_rest c v.machine lines (ap (flat_map (drained_by c)) t.0)
 
 -- at the start of a session nothing waits
 balanced : (c : ℕ) (es : List Item) (lines : List Line) (fate : Fate) → Transcript es lines fate → Balanced (run_of es lines) lines c

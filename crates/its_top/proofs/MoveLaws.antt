@@ -88,25 +88,9 @@ put_passes consoles j d c b = elim (cases_eq d c) [
 -- a change, and several
 change_passes : (h : Change) (j : ℕ) (m : Machine) (c : ℕ) → Passes (m.consoles c) ((effect h j m).consoles c) (moves_of h j m) c
 unfolding effect removed
-change_passes (changes.Open n on) j m c = passes_still (m.consoles c) c
-change_passes (changes.Shut n) j m c = passes_still (m.consoles c) c
-change_passes (changes.Move n at) j m c = passes_still (m.consoles c) c
-change_passes (changes.Append n w) j m c = passes_still (m.consoles c) c
-change_passes (changes.Close n) j m c = passes_still (m.consoles c) c
 change_passes (changes.Take d) j m c = taken_passes m.consoles j d c
 change_passes (changes.Put d b) j m c = put_passes m.consoles j d c b
-change_passes (changes.Hold d s) j m c = passes_still (m.consoles c) c
-change_passes (changes.Poke s a w) j m c = passes_still (m.consoles c) c
-change_passes (changes.Set s v w) j m c = passes_still (m.consoles c) c
-change_passes (changes.Map s k) j m c = passes_still (m.consoles c) c
-change_passes (changes.Unmap s k) j m c = passes_still (m.consoles c) c
-change_passes (changes.Protect s k w) j m c = passes_still (m.consoles c) c
-change_passes (changes.Make s u n) j m c = passes_still (m.consoles c) c
-change_passes (changes.Remove s) j m c = passes_still (m.consoles c) c
-change_passes (changes.Inform s) j m c = passes_still (m.consoles c) c
-change_passes (changes.Arm alarm) j m c = passes_still (m.consoles c) c
-change_passes (changes.Delete d x y) j m c = passes_still (m.consoles c) c
-change_passes (changes.Rename d x y u v) j m c = passes_still (m.consoles c) c
+change_passes _ j m c = passes_still (m.consoles c) c
 
 changes_pass : (hs : List Change) (j : ℕ) (m : Machine) (c : ℕ) → Passes (m.consoles c) ((effects hs j m).consoles c) (moves_of_all hs j m) c
 changes_pass [] j m c = passes_still (m.consoles c) c

@@ -25,12 +25,7 @@ use Rattle.its_top.proofs.TopLaws.{session_done, session_refused, session_too_lo
 -- what the commands came to
 as_obeys : (c : Option Command) (st : Status) (left rest old new : Option (List ℕ)) → st ≢ statuses.NoMemory → DoneFor c st left rest old new → Obeyed c st left rest old new
 as_obeys c statuses.NoMemory left rest old new n d = absurd (n refl)
-as_obeys c statuses.Done left rest old new n d = record { obeys = d }
-as_obeys c statuses.Usage left rest old new n d = record { obeys = d }
-as_obeys c statuses.Refused left rest old new n d = record { obeys = d }
-as_obeys c statuses.ReadFault left rest old new n d = record { obeys = d }
-as_obeys c statuses.WriteFault left rest old new n d = record { obeys = d }
-as_obeys c statuses.TooLong left rest old new n d = record { obeys = d }
+as_obeys c _ left rest old new n d = record { obeys = d }
 
 pub not_obeyed : (c : Option Command) (left old : Option (List ℕ)) → Obeyed c statuses.NoMemory left left old old
 not_obeyed c left old = record { obeys = by c }
@@ -38,10 +33,7 @@ not_obeyed c left old = record { obeys = by c }
     by : (d : Option Command) → Refrains d left left old old
     by (Some commands.Verify) = refl
     by (Some commands.Asm) = refl
-    by None = (refl, refl)
-    by (Some commands.Run) = (refl, refl)
-    by (Some commands.Check) = (refl, refl)
-    by (Some (commands.Gen n)) = (refl, refl)
+    by _ = (refl, refl)
 
 pub obeyed_run : (st : Status) (left rest old new : Option (List ℕ)) → (st ≢ statuses.NoMemory → Session st left rest old new) → (st ≡ statuses.NoMemory → (rest ≡ left) × (new ≡ old))
     → Obeyed (Some commands.Run) st left rest old new
@@ -78,12 +70,7 @@ done_for d c st left rest old new o e n = go st n (subst (λ x. Obeyed x st left
   where
     go : (t : Status) → t ≢ statuses.NoMemory → Obeyed c t left rest old new → DoneFor c t left rest old new
     go statuses.NoMemory n o = absurd (n refl)
-    go statuses.Done n o = o.obeys
-    go statuses.Usage n o = o.obeys
-    go statuses.Refused n o = o.obeys
-    go statuses.ReadFault n o = o.obeys
-    go statuses.WriteFault n o = o.obeys
-    go statuses.TooLong n o = o.obeys
+    go _ n o = o.obeys
 
 kept_memory : (st good : Status) → st ≡ good → good ≢ statuses.NoMemory → st ≢ statuses.NoMemory
 kept_memory st good e n k = n (sym e ∙ k)
@@ -220,31 +207,19 @@ wrote_fault st good bytes old new e w =
     let k = subst (λ x. WroteText x good bytes old new) e w in record { first = k.wrote; more = k.complete.0; whole = k.complete.1; wrote = k.appended }
 
 pub gen_done : (d : Option Command) (st : Status) (left rest old new : Option (List ℕ)) → Obeyed d st left rest old new → IfGenerates d (λ n. st ≡ statuses.Done → Appends old new (generated_text n))
-gen_done None st left rest old new o = tt
-gen_done (Some commands.Run) st left rest old new o = tt
-gen_done (Some commands.Check) st left rest old new o = tt
-gen_done (Some commands.Verify) st left rest old new o = tt
-gen_done (Some commands.Asm) st left rest old new o = tt
 gen_done (Some (commands.Gen n)) st left rest old new o =
     λ e. wrote_done st (generated_text n) old new e (done_for (Some (commands.Gen n)) (Some (commands.Gen n)) st left rest old new o refl (λ k. cc)).0
+gen_done _ st left rest old new o = tt
 
 pub gen_begins : (d : Option Command) (st : Status) (left rest old new : Option (List ℕ)) → Obeyed d st left rest old new → IfGenerates d (λ n. st ≡ statuses.WriteFault → Begins (generated_text n) old new)
-gen_begins None st left rest old new o = tt
-gen_begins (Some commands.Run) st left rest old new o = tt
-gen_begins (Some commands.Check) st left rest old new o = tt
-gen_begins (Some commands.Verify) st left rest old new o = tt
-gen_begins (Some commands.Asm) st left rest old new o = tt
 gen_begins (Some (commands.Gen n)) st left rest old new o =
     λ e. wrote_fault st statuses.Done (generated_text n) old new e (done_for (Some (commands.Gen n)) (Some (commands.Gen n)) st left rest old new o refl (λ k. cc)).0
+gen_begins _ st left rest old new o = tt
 
 by_status : (st : Status) (bytes w : List ℕ) → StatusFor st statuses.Done bytes w → st ≢ statuses.WriteFault → st ≡ statuses.Done
 by_status statuses.WriteFault bytes w s n = absurd (n refl)
 by_status statuses.Done bytes w s n = refl
-by_status statuses.Usage bytes w s n = s.0
-by_status statuses.Refused bytes w s n = s.0
-by_status statuses.ReadFault bytes w s n = s.0
-by_status statuses.NoMemory bytes w s n = s.0
-by_status statuses.TooLong bytes w s n = s.0
+by_status _ bytes w s n = s.0
 
 gen_ends : (st : Status) (n kf lf : ℕ) (left rest old new : Option (List ℕ)) → Obeyed (Some (commands.Gen n)) st left rest old new → (st ≡ statuses.WriteFault → lf ≡ kf + 1) → lf ≡ kf
     → (st ≡ statuses.Done) ⊎ (st ≡ statuses.NoMemory)
@@ -255,12 +230,8 @@ gen_ends st n kf lf left rest old new o w f =
 
 pub gen_complete : (d : Option Command) (st : Status) (left rest old new : Option (List ℕ)) (kf lf : ℕ) → Obeyed d st left rest old new → (st ≡ statuses.WriteFault → lf ≡ kf + 1)
     → IfGenerates d (λ n. lf ≡ kf → (st ≡ statuses.Done) ⊎ (st ≡ statuses.NoMemory))
-gen_complete None st left rest old new kf lf o w = tt
-gen_complete (Some commands.Run) st left rest old new kf lf o w = tt
-gen_complete (Some commands.Check) st left rest old new kf lf o w = tt
-gen_complete (Some commands.Verify) st left rest old new kf lf o w = tt
-gen_complete (Some commands.Asm) st left rest old new kf lf o w = tt
 gen_complete (Some (commands.Gen n)) st left rest old new kf lf o w = λ f. gen_ends st n kf lf left rest old new o w f
+gen_complete _ st left rest old new kf lf o w = tt
 
 -- words that are no command
 is_none : (d : Option Command) (st : Status) (left rest old new : Option (List ℕ)) → st ≡ statuses.Usage → Obeyed d st left rest old new → d ≡ None
@@ -288,10 +259,7 @@ usage_ends : (st : Status) (left rest old new : Option (List ℕ)) → Obeyed No
 usage_ends statuses.NoMemory left rest old new o = inr refl
 usage_ends statuses.WriteFault left rest old new o = inl (inr refl)
 usage_ends statuses.Usage left rest old new o = inl (inl refl)
-usage_ends statuses.Done left rest old new o = inl (inl o.obeys.0.complete.0)
-usage_ends statuses.Refused left rest old new o = inl (inl o.obeys.0.complete.0)
-usage_ends statuses.ReadFault left rest old new o = inl (inl o.obeys.0.complete.0)
-usage_ends statuses.TooLong left rest old new o = inl (inl o.obeys.0.complete.0)
+usage_ends _ left rest old new o = inl (inl o.obeys.0.complete.0)
 
 pub none_obeyed : (d : Option Command) (st : Status) (left rest old new : Option (List ℕ)) → Obeyed d st left rest old new → d ≡ None
     → ((st ≡ statuses.Usage) ⊎ (st ≡ statuses.WriteFault)) ⊎ (st ≡ statuses.NoMemory)
@@ -322,35 +290,23 @@ input_read d st left rest old new o r e = by_input d left rest old new (subst (�
 -- a command that reads nothing
 left_alone : (d : Option Command) (st : Status) (left rest old new : Option (List ℕ)) → reads_input d ≡ false → st ≢ statuses.NoMemory → Obeyed d st left rest old new → rest ≡ left
 left_alone None st left rest old new r n o = (done_for None None st left rest old new o refl n).1
-left_alone (Some commands.Run) st left rest old new r n o = cc
-left_alone (Some commands.Check) st left rest old new r n o = cc
-left_alone (Some commands.Verify) st left rest old new r n o = cc
-left_alone (Some commands.Asm) st left rest old new r n o = cc
 left_alone (Some (commands.Gen k)) st left rest old new r n o = (done_for (Some (commands.Gen k)) (Some (commands.Gen k)) st left rest old new o refl n).1
+left_alone _ st left rest old new r n o = cc
 
 unread_by : (d : Option Command) (left rest old new : Option (List ℕ)) → Refrains d left rest old new → keeps d ≡ false → rest ≡ left
 unread_by (Some commands.Verify) left rest old new m n = cc
 unread_by (Some commands.Asm) left rest old new m n = cc
-unread_by None left rest old new m n = m.0
-unread_by (Some commands.Run) left rest old new m n = m.0
-unread_by (Some commands.Check) left rest old new m n = m.0
-unread_by (Some (commands.Gen k)) left rest old new m n = m.0
+unread_by _ left rest old new m n = m.0
 
 unwritten_by : (d : Option Command) (left rest old new : Option (List ℕ)) → Refrains d left rest old new → new ≡ old
 unwritten_by (Some commands.Verify) left rest old new m = m
 unwritten_by (Some commands.Asm) left rest old new m = m
-unwritten_by None left rest old new m = m.1
-unwritten_by (Some commands.Run) left rest old new m = m.1
-unwritten_by (Some commands.Check) left rest old new m = m.1
-unwritten_by (Some (commands.Gen k)) left rest old new m = m.1
+unwritten_by _ left rest old new m = m.1
 
 none_kept : (d : Option Command) → reads_input d ≡ false → keeps d ≡ false
-none_kept (Some commands.Verify) r = cc
-none_kept (Some commands.Asm) r = cc
-none_kept (Some commands.Run) r = cc
-none_kept (Some commands.Check) r = cc
 none_kept (Some (commands.Gen n)) r = refl
 none_kept None r = refl
+none_kept _ r = cc
 
 pub unread : (d : Option Command) (st : Status) (left rest old new : Option (List ℕ)) → Obeyed d st left rest old new → reads_input d ≡ false → rest ≡ left
 unread d statuses.NoMemory left rest old new o r = unread_by d left rest old new o.obeys (none_kept d r)
@@ -360,13 +316,10 @@ pub not_read_fault : (d : Option Command) (st : Status) (left rest old new : Opt
 not_read_fault None st left rest old new o r e =
     let w = (done_for None None st left rest old new o refl (λ k. cc)).0 in
     let k : statuses.ReadFault ≡ statuses.Usage = (subst (λ x. WroteText x statuses.Usage usage old new) e w).complete.0 in cc
-not_read_fault (Some commands.Run) st left rest old new o r e = cc
-not_read_fault (Some commands.Check) st left rest old new o r e = cc
-not_read_fault (Some commands.Verify) st left rest old new o r e = cc
-not_read_fault (Some commands.Asm) st left rest old new o r e = cc
 not_read_fault (Some (commands.Gen n)) st left rest old new o r e =
     let w = (done_for (Some (commands.Gen n)) (Some (commands.Gen n)) st left rest old new o refl (λ k. cc)).0 in
     let k : statuses.ReadFault ≡ statuses.Done = (subst (λ x. WroteText x statuses.Done (generated_text n) old new) e w).complete.0 in cc
+not_read_fault _ st left rest old new o r e = cc
 
 pub no_memory : (d : Option Command) (st : Status) (left rest old new : Option (List ℕ)) → Obeyed d st left rest old new → st ≡ statuses.NoMemory → new ≡ old
 no_memory d st left rest old new o e = unwritten_by d left rest old new (subst (λ x. Obeyed d x left rest old new) e o).obeys

@@ -4,7 +4,7 @@ use Rattle.std.specs.Prelude.{IfOk}
 use Rattle.std.specs.List.{AllByRecursion, list_all}
 use Rattle.std.proofs.lemmas.Bool.{cases_Bool}
 use Rattle.its_word.specs.Item.{Item, Read, Unread, InTurn, Beyond}
-use Rattle.its_word.specs.Text.{is_code}
+use Rattle.its_word.specs.Text.{is_code, words_of}
 use Rattle.its_word.specs.declared.session.Bad.{Bad}
 use Rattle.its_word.specs.declared.session.Event.{Event}
 use Rattle.its_word.specs.declared.session.Event.TheVariants as events
@@ -16,7 +16,7 @@ use Rattle.its_print.specs.Printing.{Line, Peeked}
 use Rattle.its_print.specs.Printing as printed
 use Rattle.its_session.specs.Events.{end_of, events_of, item_then, items_from, lines_from, most_lines, place_after, version_after}
 use Rattle.its_session.specs.Fits.{EventFits}
-use Rattle.its_session.specs.Grammar.{event_of_words, last_slot, line_event, words_of}
+use Rattle.its_session.specs.Grammar.{event_of_words, last_slot, line_event}
 use Rattle.its_session.proofs.FitsLaws.{later_fits, words_fit}
 use Rattle.its_plain.specs.Licence.{Dots, dots_after_line}
 use Rattle.its_plain.specs.Machine.{File, Machine, Whole, no_machine}
@@ -134,9 +134,7 @@ turned_from_fit : (w : State) (b : Block) (last : ℕ) (es : List Item) → AllF
 turned_from_fit w b last [] h = tt
 turned_from_fit w b last (Read e ∷ es) h =
     (h.0, followed_fit e last es (stand_after w (calmed w b e) b (lined (calmed w b e).raw b e)) (λ v c l. turned_from v c l es) h.1 (λ v c l. turned_from_fit v c l es h.1))
-turned_from_fit w b last (InTurn i k ∷ es) h = h
-turned_from_fit w b last (Unread r ∷ es) h = h
-turned_from_fit w b last (Beyond ∷ es) h = h
+turned_from_fit w b last _ h = h
 
 with_turns_fit : (es : List Item) → AllFit es → AllFit (with_turns es)
 unfolding with_turns
@@ -200,8 +198,6 @@ peek_shown s None h = tt
 
 lined_shown : (m : Machine) (b : Block) (e : Event) → PeekFits e → Shown (lined m b e)
 unfolding lined operate
-lined_shown m b events.Nothing h = tt
-lined_shown m b (events.Version v) h = tt
 lined_shown m b (events.Load u j c) h = load_shown b _
 lined_shown m b (events.Words a ws) h = disturbs_shown b.slot b _
 lined_shown m b (events.ReadOnly page) h = disturbs_shown b.slot b _
@@ -209,9 +205,6 @@ lined_shown m b (events.Symbol name a) h = quietly_shown b _
 lined_shown m b (events.Go a) h = disturbs_shown b.slot b _
 lined_shown m b (events.File d x y) h = quietly_shown _ _
 lined_shown m b (events.Append ws) h = quietly_shown b _
-lined_shown m b events.EndFile h = tt
-lined_shown m b (events.Tick s n) h = tt
-lined_shown m b (events.Run n q) h = tt
 lined_shown m b (events.TypeIn c bytes) h = (tt, tt)
 lined_shown m b (events.Drain c n) h = (tt, tt)
 lined_shown m b (events.Clock n) h = clock_shown m b n _
@@ -225,7 +218,7 @@ lined_shown m b (events.Cont s) h = disturbs_shown s b _
 lined_shown m b (events.Peek s) h = peek_shown s (m.jobs s) h
 lined_shown m b (events.Dir d) h = (tt, filed_small (files_in d m.files))
 lined_shown m b (events.Show d x y) h = show_shown m b d x y
-lined_shown m b events.End h = tt
+lined_shown m b _ h = tt
 
 -- the steps that a peek counts are at most four
 peek_small : (w : State) (s : ℕ) → Sound w → (peeked w s).left < 2 ^ 8

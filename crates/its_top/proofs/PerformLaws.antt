@@ -27,7 +27,8 @@ use Rattle.its_stepped.specs.Unwind.{unwound, help}
 use Rattle.its_stepped.specs.Lines.{calmed, peeked, paces_of, ticked}
 use Rattle.its_world.specs.World.{state_of}
 use Rattle.its_world.specs.declared.world.World.{World}
-use Rattle.its_operator.specs.Kept.{Lands, Loads, reason_of}
+use Rattle.its_word.specs.Refusals.{reason_of}
+use Rattle.its_operator.specs.Kept.{Lands, Loads}
 use Rattle.its_operator.specs.Kept as kept
 use Rattle.its_operator.specs.Rung.{roused}
 use Rattle.its_top.specs.declared.shown.Over.{Over}

@@ -27,9 +27,7 @@ event_start p _ v h s = tt
 
 pub found_start : (p : Place) (f : Found) (v : State) → found_stands p f → (p ≡ places.First → v ≡ no_state no_machine) → FoundStart f v
 found_start p (founds.Line e) v h s = event_start p e v h s
-found_start p (founds.Bad r) v h s = tt
-found_start p founds.Beyond v h s = tt
-found_start p founds.End v h s = tt
+found_start p _ v h s = tt
 
 -- behind a line the start is over
 not_first : (p : Place) (e : Event) → place_after p e ≡ places.First → ⊥
@@ -56,12 +54,8 @@ not_first places.File _ h = cc
 
 pub start_over : (p q : Place) (f : Found) (v : State) → q ≡ place_found p f → is_last f ≡ false → q ≡ places.First → v ≡ no_state no_machine
 start_over p q (founds.Line e) v h l s = absurd (not_first p e (sym h ∙ s))
-start_over p q (founds.Bad r) v h l s = cc
-start_over p q founds.Beyond v h l s = cc
-start_over p q founds.End v h l s = cc
+start_over p q _ v h l s = cc
 
 pub found_later : (v : ℕ) (f : Found) → found_fits v f → found_fits 2 f
 found_later v (founds.Line e) h = later_fits v e h
-found_later v (founds.Bad r) h = tt
-found_later v founds.Beyond h = tt
-found_later v founds.End h = tt
+found_later v _ h = tt

@@ -26,7 +26,7 @@ use Rattle.its_stepped.specs.State.{State, no_state}
 use Rattle.its_stepped.specs.Lines.{Told, told}
 use Rattle.its_world.specs.World.{state_of}
 use Rattle.its_world.specs.declared.world.World.{World}
-use Rattle.its_operator.specs.Kept.{reason_of}
+use Rattle.its_word.specs.Refusals.{reason_of}
 use Rattle.its_top.specs.declared.generating.Tally.{Tally}
 use Rattle.its_top.specs.declared.generating.Play.{Play}
 use Rattle.its_top.specs.declared.shown.Over.{Over}

@@ -51,12 +51,10 @@ not_unmade TooLong e = cc
 -- the line of an answer was to be written
 told_as : (st good : Status) (a : Answer) (bytes w : List ℕ) → good ≡ status_of a → bytes ≡ answer_text a → StatusFor st good bytes w → ToldAs st a w
 told_as statuses.WriteFault good a bytes w g e f = (f.0, sym e ∙ f.1)
-told_as statuses.Done good a bytes w g e f = (f.0 ∙ g, sym e ∙ f.1)
-told_as statuses.Refused good a bytes w g e f = (f.0 ∙ g, sym e ∙ f.1)
-told_as statuses.TooLong good a bytes w g e f = (f.0 ∙ g, sym e ∙ f.1)
 told_as statuses.ReadFault good a bytes w g e f = absurd (not_failed a (f.0 ∙ g))
 told_as statuses.Usage good a bytes w g e f = absurd (not_usage a (f.0 ∙ g))
 told_as statuses.NoMemory good a bytes w g e f = absurd (not_unmade a (f.0 ∙ g))
+told_as _ good a bytes w g e f = (f.0 ∙ g, sym e ∙ f.1)
 
 tells : (st good : Status) (a : Answer) (bytes : List ℕ) (old new : Option (List ℕ)) → good ≡ status_of a → bytes ≡ answer_text a → WroteText st good bytes old new → TellsAnswer st a old new
 tells st good a bytes old new g e t = record { wrote = t.wrote; appended = t.appended; told = told_as st good a bytes t.wrote g e t.complete }
@@ -86,9 +84,7 @@ verified_as statuses.WriteFault a bytes w e t = subst (λ x. ToldAs statuses.Wri
 verified_as statuses.Done a bytes w e t = subst (λ x. ToldAs statuses.Done x w) (sym e) t
 verified_as statuses.Refused a bytes w e t = subst (λ x. ToldAs statuses.Refused x w) (sym e) t
 verified_as statuses.TooLong a bytes w e t = subst (λ x. ToldAs statuses.TooLong x w) (sym e) t
-verified_as statuses.ReadFault a bytes w e t = absurd t
-verified_as statuses.NoMemory a bytes w e t = absurd t
-verified_as statuses.Usage a bytes w e t = absurd t
+verified_as _ a bytes w e t = absurd t
 
 found_as : (st : Status) (f : Finding) (left : Option (List ℕ)) (w : List ℕ) → Found (Ok f) left → ToldAs st (answer_of f) w → IfSome left (λ bytes. VerifyOf st bytes w)
 found_as st f None w h t = tt
@@ -135,10 +131,7 @@ verify_as st good d left rest old new o c e n =
 
 done_by : (a : Answer) (bytes w : List ℕ) (old new : Option (List ℕ)) → Why bytes a → statuses.Done ≡ status_of a → answer_text a ≡ w → Appends old new w → Verifies bytes old new
 done_by (Judged (Yes n)) bytes w old new h s e a = record { lines = n; licensed = h; wrote = subst (Appends old new) (sym e) a }
-done_by (Judged (No n)) bytes w old new h s e a = cc
-done_by (Long n) bytes w old new h s e a = cc
-done_by (Cut n) bytes w old new h s e a = cc
-done_by TooLong bytes w old new h s e a = cc
+done_by _ bytes w old new h s e a = cc
 
 pub verify_done : (d : Option Command) (st : Status) (left rest old new : Option (List ℕ)) → Obeyed d st left rest old new → d ≡ Some commands.Verify → st ≡ statuses.Done → IfSome left (λ bytes. Verifies bytes old new)
 verify_done d st left rest old new o c e =
@@ -177,13 +170,11 @@ verify_begins d st left rest old new o c e =
 
 -- without a fault the status is that of the answer
 answers : (st : Status) (bytes w : List ℕ) → st ≢ statuses.ReadFault → st ≢ statuses.WriteFault → VerifyOf st bytes w → (st ≡ status_of (verified bytes)) ⊎ (st ≡ statuses.NoMemory)
-answers statuses.Done bytes w r k f = inl f.0
-answers statuses.Refused bytes w r k f = inl f.0
-answers statuses.TooLong bytes w r k f = inl f.0
 answers statuses.ReadFault bytes w r k f = absurd (r refl)
 answers statuses.WriteFault bytes w r k f = absurd (k refl)
 answers statuses.NoMemory bytes w r k f = inr refl
 answers statuses.Usage bytes w r k f = absurd f
+answers _ bytes w r k f = inl f.0
 
 pub verify_answered : (d : Option Command) (st : Status) (left rest old new : Option (List ℕ)) (sf tf kf lf : ℕ) → Obeyed d st left rest old new → (st ≡ statuses.ReadFault → tf ≡ sf + 1) → (st ≡ statuses.WriteFault → lf ≡ kf + 1)
     → d ≡ Some commands.Verify → tf ≡ sf → lf ≡ kf → IfSome left (λ bytes. VerifyAnswers st bytes)

@@ -11,11 +11,8 @@ use Rattle.its_top.specs.Answer.{WroteFor, Tells}
 use Rattle.its_top.proofs.EventLaws.{text_one}
 
 all_for : (good : Turn) (bytes : List ℕ) → WroteFor good good bytes bytes
-all_for turns.On bytes = (refl, refl)
-all_for turns.Ended bytes = (refl, refl)
-all_for turns.Refused bytes = (refl, refl)
-all_for turns.Beyond bytes = (refl, refl)
 all_for turns.Fault bytes = ([], sym (append-nil bytes))
+all_for _ bytes = (refl, refl)
 
 pub told_all : (good : Turn) (bytes : List ℕ) (old new : Option (List ℕ)) → Appends old new bytes → Tells good good bytes old new
 told_all good bytes old new a = record { wrote = bytes; appended = a; complete = all_for good bytes }

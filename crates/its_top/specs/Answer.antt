@@ -1,5 +1,5 @@
 -- What the answer to an event gave the sink.
-use Rattle.std.specs.Prelude.{◌≡◌, ◌<◌, ◌+◌, ◌-◌, ℕ, Bool, true, false, length, slice_index_or, is_some, Option, None, Result, Ok, Err, List, [], ◌++◌, take}
+use Rattle.std.specs.Prelude.{◌≡◌, ◌<◌, ◌+◌, ◌-◌, ℕ, true, is_some, Option, None, Result, Ok, Err, List, [], ◌++◌, take}
 use Rattle.std.specs.Io.KnownBytes.{Appends}
 use Rattle.its_word.specs.declared.session.Event.{Event}
 use Rattle.its_word.specs.declared.session.Event.TheVariants as events
@@ -21,8 +21,6 @@ use Rattle.its_world.specs.declared.world.World.{World}
 use Rattle.its_top.specs.declared.turn.Turn.{Turn}
 use Rattle.its_top.specs.declared.turn.Turn.TheVariants as turns
 use Rattle.its_word.specs.Item.{Item}
-use Rattle.its_word.specs.Limits.{slots}
-use Rattle.its_plain.specs.Unrolled.{runs}
 use Rattle.its_stepped.specs.Turns as made
 use Rattle.its_top.specs.Telling.{Answers, FollowsBy, CircledBy, after, items_say}
 
@@ -63,11 +61,6 @@ pub record CircleSo (v now : State) (i j n k q : ℕ) (old new : Option (List �
   pub appended : Appends old new wrote
   pub says : (l : ℕ) (b : Block) (next : State → ℕ → List Item) → items_say l v b (made.turns n q v i next) ≡ after wrote (items_say l now b (made.turns (n - k) q now j next))
 
--- who runs of the first k slots is in the list
-pub record RunsSo (m : Machine) (k : ℕ) (xs : List Bool) : Type 0 where
-  pub count : length xs ≡ slots
-  pub found : (s : ℕ) → s < k → slice_index_or xs s false ≡ runs m s
-
 -- VERSION finds a machine without jobs
 abbrev pub FindsStart : Event → State → Type 0
 FindsStart (events.Version k) v = (s : ℕ) → v.raw.jobs s ≡ None
@@ -89,7 +82,8 @@ pub record ExamSo (m : Machine) (s a n k : ℕ) (ws : List ℕ) : Type 0 where
   pub whole : examined m s a n ≡ behind ws (examined m s (a + k) (n - k))
   pub there : 0 < k → is_some (m.jobs s) ≡ true
 
--- after k calls that find the job of slot s in user mode, the state is now `now`, where v is the state with the job unwound
+-- after k calls that find the job of slot s in user mode, the state is now `now`, where v is the state with the job
+-- unwound
 pub record Calm (v now : State) (s k : ℕ) : Type 0 where
   pub found : unwound now s ≡ v
   pub reached : 0 < k → now ≡ v

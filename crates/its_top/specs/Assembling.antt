@@ -22,8 +22,8 @@ AsmOf statuses.ReadFault bytes read w = w ≡ []
 AsmOf statuses.NoMemory bytes read w = w ≡ []
 AsmOf statuses.Usage bytes read w = ⊥
 
--- how an assembly ended, from what its source had left and had left then, and from what its sink was given. Where memory was
--- refused, nothing was written
+-- how an assembly ended, from what its source had left and had left then, and from what its sink was given. Where
+-- memory was refused, nothing was written
 pub record Asm (status : Status) (left rest old new : Option (List ℕ)) : Type 0 where
   pub read : List ℕ
   pub wrote : List ℕ

@@ -59,8 +59,8 @@ pub record Session (status : Status) (left rest old new : Option (List ℕ)) : T
   pub concluded : IfSome left (λ bytes. Concluded status bytes read wrote)
   pub input : status ≡ statuses.Done → IfSome left (λ bytes. ReadOut bytes rest)
 
--- a session so far: the items that were found, and what is written of them before line number n is taken. Slot i had the last
--- turn
+-- a session so far: the items that were found, and what is written of them before line number n is taken. Slot i had
+-- the last turn
 pub record SoFar (r : Items) (n : ℕ) (v : State) (b : Block) (i : ℕ) (left rest old new : Option (List ℕ)) : Type 0 where
   pub items : List Item
   pub found : FoundSoFar items r left rest

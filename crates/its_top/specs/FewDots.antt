@@ -1,5 +1,5 @@
--- At most twelve `.` in a row, beside the sixteen of the licence (docs/MACHINE.md, "Ticks and letters"): along the run of a
--- session's lines, as `Course` has it, with the count of dots that the licence keeps.
+-- At most twelve `.` in a row, beside the sixteen of the licence (docs/MACHINE.md, "Ticks and letters"): along the
+-- run of a session's lines, as `Course` has it, with the count of dots that the licence keeps.
 use Rattle.std.specs.Prelude.{◌≡◌, ◌<◌, ℕ, List, [], ◌∷◌, length, drop}
 use Rattle.its_word.specs.Item.{Item, Read, Unread, InTurn, Beyond}
 use Rattle.its_word.specs.declared.calls.Pace.{Pace}

@@ -16,7 +16,7 @@ use Rattle.its_stepped.specs.Lines.{Told, telling, told, calmed}
 use Rattle.its_stepped.specs.Turns.{stand_after}
 use Rattle.its_world.specs.World.{state_of}
 use Rattle.its_world.specs.declared.world.World.{World}
-use Rattle.its_operator.specs.Kept.{reason_of}
+use Rattle.its_word.specs.Refusals.{reason_of}
 use Rattle.its_top.specs.declared.shown.Over.{Over}
 use Rattle.its_top.specs.declared.shown.Over.TheVariants as overs
 use Rattle.its_top.specs.declared.shown.Reply.{Reply}

@@ -58,7 +58,8 @@ Answers turns.Refused n v b e v' b' w = (items : List Item) → items_say n v b 
 Answers turns.Beyond n v b e v' b' w = ⊥
 Answers turns.Fault n v b e v' b' w = (items : List Item) → BeginsText (items_say n v b (Read e ∷ items)) w
 
--- the same of a line with the turns that it asks for, where slot i had the last turn before them, and slot j has it then
+-- the same of a line with the turns that it asks for, where slot i had the last turn before them, and slot j has it
+-- then
 abbrev pub FollowsBy : Turn → ℕ → State → Block → ℕ → Event → State → Block → ℕ → List ℕ → Type 0
 FollowsBy turns.On n v b i e v' b' j w =
     (goes_on_after e ≡ true) × ((items : List Item) → session_says n v b i (Read e ∷ items) ≡ after w (session_says (n + 1) v' b' j items))

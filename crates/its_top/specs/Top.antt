@@ -42,10 +42,10 @@ answer_of Open = statuses.Done
 answer_of Lost = statuses.Refused
 answer_of TooLong = statuses.TooLong
 
--- what was written is the text of lines that are a transcript of the session of these bytes, its RUN lines unrolled along the run of
--- the lines, whose end this is the answer to. Along that run the ledger of each console holds, each stretch of a transfer moves its
--- bytes once and in order, at most twelve `.` come in a row, and the turns of each RUN are fair. The turns are those that the stepped
--- machine makes; and a session without RUN is unrolled as it is
+-- what was written is the text of lines that are a transcript of the session of these bytes, its RUN lines unrolled
+-- along the run of the lines, whose end this is the answer to. Along that run the ledger of each console holds, each
+-- stretch of a transfer moves its bytes once and in order, at most twelve `.` come in a row, and the turns of each
+-- RUN are fair. The turns are those that the stepped machine makes; and a session without RUN is unrolled as it is
 pub record Transcribed (status : Status) (bytes : List ℕ) (old new : Option (List ℕ)) : Type 0 where
   pub lines : List Line
   pub fate : Fate
@@ -110,8 +110,8 @@ pub record CheckBreaks (bytes : List ℕ) (rest old new : Option (List ℕ)) : T
   pub goes_on : GoesOn (checked (whole_events_of read))
   pub wrote : Appends old new []
 
--- what `its asm` wrote: no line of the text is refused, and the session of its image was written, which the grammar reads whole and
--- which makes the job of the image
+-- what `its asm` wrote: no line of the text is refused, and the session of its image was written, which the grammar
+-- reads whole and which makes the job of the image
 pub record Assembled (bytes : List ℕ) (old new : Option (List ℕ)) : Type 0 where
   pub image : Image
   pub assembled : assembly bytes ≡ Ok image

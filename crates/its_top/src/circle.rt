@@ -85,7 +85,7 @@ fn circle<K: Sink>(
 }
 
 /// The slot whose turn it is, after a turn of slot `last`; None where no job runs.
-#[tactic(auto, using(crate::proofs::CircleLaws::turn_found, crate::proofs::CircleLaws::turn_is_slot, crate::proofs::CircleLaws::runs_start, crate::proofs::CircleLaws::runs_next))]
+#[tactic(auto, using(its_plain::proofs::WhoRunsLaws::turn_found, its_plain::proofs::WhoRunsLaws::turn_is_slot, its_plain::proofs::WhoRunsLaws::runs_start, its_plain::proofs::WhoRunsLaws::runs_next))]
 fn turn_after(m: &Monitor, last: u8) -> Option<u8>
     requires last { last < slots }
     ensures turn { result ≡ turn_after (state_of m.now.world).raw last }

@@ -1,5 +1,5 @@
 //! The lines on files: FILE with its words, DIR and SHOW.
-ghost use Rattle.std.specs.Prelude.{◌≡◌, ◌≢◌, ◌≤◌, ◌<◌, ◌+◌, ◌-◌, ◌/◌, ◌^◌, List, true, None, Ok, Err, IfErr, OnOk, length, map, min, take, drop};
+ghost use Rattle.std.specs.Prelude.{◌≡◌, ◌≢◌, ◌≤◌, ◌<◌, ◌+◌, ◌-◌, ◌/◌, List, true, None, Ok, Err, IfErr, OnOk, length, map, min, take, drop};
 ghost use Rattle.its_io.specs.Bytes.{next_fault};
 ghost use Rattle.its_word.specs.declared.calls.Pace.{Pace};
 ghost use Rattle.its_files.specs.Files.{entry_at, is_file, words_at};
@@ -7,7 +7,8 @@ ghost use Rattle.its_plain.specs.Operator.{Block};
 ghost use Rattle.its_plain.specs.OperatorFiles.{word_added, words_added, files_in, filed_line, listing, shown_lines, rows};
 ghost use Rattle.its_stepped.specs.Unwind.{help};
 ghost use Rattle.its_world.specs.World.{state_of};
-ghost use Rattle.its_operator.specs.Kept.{Kept, Lands, reason_of};
+ghost use Rattle.its_word.specs.Refusals.{reason_of};
+ghost use Rattle.its_operator.specs.Kept.{Kept, Lands};
 ghost use Rattle.its_print.specs.Printing.{Filed, Row, text_of_line, text};
 ghost use Rattle.its_top.specs.Answer.{Tells, Stood, block_of};
 ghost use Rattle.its_top.specs.Performing.{Performed};

@@ -842,6 +842,22 @@ fn word(text: &mut String, digits: &str) -> Result<(), Fail> {
     Ok(())
 }
 
+/// Appends the end of a line of STATE from these words: whether the job runs, its PC word and its first pending word. The other
+/// registers are 0.
+fn registers(rt: &impl Abort, text: &mut String, told: &str) -> Result<(), Fail> {
+    let (runs, told) = told.split_once(" ").expect(rt, "RUN or STOP");
+    let (pc, pending) = told.split_once(" ").expect(rt, "a PC word");
+    text.push_str(runs)?;
+    text.push(' ')?;
+    word(text, pc)?;
+    text.push(' ')?;
+    word(text, pending)?;
+    line(
+        text,
+        " 000000000000 000000000000 000000000000 000000000000 000000000000",
+    )
+}
+
 #[test]
 fn blocks(rt: HostRuntime) -> Result<(), Fail> {
     let alloc = rt.alloc();
@@ -849,8 +865,6 @@ fn blocks(rt: HostRuntime) -> Result<(), Fail> {
         if let Some((block, told)) = row.split_once(" = ") {
             let (ticks, told) = told.split_once(" = ").expect(&rt, "letters");
             let (stored, told) = told.split_once(" = ").expect(&rt, "a word");
-            let (runs, told) = told.split_once(" ").expect(&rt, "RUN or STOP");
-            let (pc, pending) = told.split_once(" ").expect(&rt, "a PC word");
             let mut session = String::new(alloc);
             session.push_str(BEFORE)?;
             session.push_str(block)?;
@@ -861,15 +875,7 @@ fn blocks(rt: HostRuntime) -> Result<(), Fail> {
             shown.push_str("E 0 000010 ")?;
             word(&mut shown, stored)?;
             shown.push_str(" 000000000777\nS 0 650000000000 700000000000 - - ")?;
-            shown.push_str(runs)?;
-            shown.push(' ')?;
-            word(&mut shown, pc)?;
-            shown.push(' ')?;
-            word(&mut shown, pending)?;
-            line(
-                &mut shown,
-                " 000000000000 000000000000 000000000000 000000000000 000000000000",
-            )?;
+            registers(&rt, &mut shown, told)?;
             shows(alloc, &rt, &session, &shown)?;
         }
     }

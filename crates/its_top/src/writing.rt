@@ -1,7 +1,7 @@
-ghost use Rattle.std.specs.Prelude.{◌≡◌, ◌≢◌, ◌≤◌, ◌+◌, ◌-◌, ◌^◌};
+ghost use Rattle.std.specs.Prelude.{◌≡◌, ◌≢◌, ◌≤◌, ◌-◌};
 ghost use Rattle.its_io.specs.Bytes.{next_fault};
 ghost use Rattle.its_print.specs.Printing.{Refused, text_of_line};
-ghost use Rattle.its_operator.specs.Kept.{reason_of};
+ghost use Rattle.its_word.specs.Refusals.{reason_of};
 ghost use Rattle.its_top.specs.Answer.{Tells};
 
 use super::turn::Turn;
@@ -36,22 +36,6 @@ pub fn refuse<K: Sink>(out: &mut K, number: u32, reason: Reason) -> Turn
     tell(out, &line, Turn::Refused)
 }
 
-/// The reason of a refusal, as the session says it.
-fn reason_of(e: Refusal) -> Reason
-    ensures { result ≡ reason_of e }
-{
-    match e {
-        Refusal::NoJob => Reason::NoJob,
-        Refusal::NoConsole => Reason::NoCons,
-        Refusal::NoPage => Reason::NoPage,
-        Refusal::ReadOnly => Reason::ReadOnly,
-        Refusal::NoFile => Reason::NoFile,
-        Refusal::Exists => Reason::Exists,
-        Refusal::Full => Reason::Full,
-        Refusal::Range => Reason::Range,
-    }
-}
-
 /// Writes the `?` line of a refusal of the monitor.
 pub fn refuse_by<K: Sink>(out: &mut K, number: u32, e: Refusal) -> Turn
     ensures told { Tells result Turn.Refused (text_of_line (Refused number (reason_of e))) (K.written out.old) (K.written out.new) }
@@ -59,5 +43,5 @@ pub fn refuse_by<K: Sink>(out: &mut K, number: u32, e: Refusal) -> Turn
     ensures unfailed { result ≢ Turn.Fault → K.faults out.new ≡ K.faults out.old }
     ensures fault { result ≡ Turn.Fault → K.faults out.new ≡ next_fault (K.faults out.old) }
 {
-    refuse(out, number, reason_of(e))
+    refuse(out, number, e.reason())
 }

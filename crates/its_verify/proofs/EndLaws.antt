@@ -5,7 +5,7 @@ use Rattle.std.proofs.lemmas.Bool.Decides.{nat_tests}
 use Rattle.std.proofs.lemmas.List.{take_all}
 use Rattle.std.specs.List.{list_all, onto_first, slice_split}
 use Rattle.std.specs.Prelude.{bytes_eq, codes}
-use Rattle.its_session.specs.Grammar.{words_of}
+use Rattle.its_word.specs.Text.{words_of}
 use Rattle.its_reader.specs.TextLines.{before_lf}
 use Rattle.its_verify.specs.Verified.{is_only}
 use Rattle.its_verify.specs.Reading.{ends_with_d, is_space}

@@ -17,7 +17,7 @@ use Rattle.its_plain.specs.OperatorLines.{Lined, Done, Peeks, by_exam, by_state,
 use Rattle.its_plain.specs.Transcript.{Walk, next_line}
 use Rattle.its_direct.specs.Plain.{machine_of, is_touched}
 use Rattle.its_direct.specs.Events.{Obeys, Says as AnswerSays, Speaks, Told}
-use Rattle.its_direct.specs.Lines.{reason_of}
+use Rattle.its_word.specs.Refusals.{reason_of}
 use Rattle.its_direct.specs.declared.events.Answer.{Answer}
 use Rattle.its_direct.specs.declared.events.Answer.TheVariants.{Nothing, Slot, Dropped, Drained}
 use Rattle.its_direct.specs.declared.plain.Spot.{Spot}
@@ -70,17 +70,11 @@ by_lines e a n out is next = ap (λ (ls : List Line). expects ls next) (sym is)
 pub line_shown : (m n : Machine) (b c : Block) (e : Event) (a : Answer) (out : List Line) (d : ℕ → Bool) → lined m b e ≡ Done (Does n out d c) → AnswerSays e a out → Shown e a n out
 unfolding lined operate
 line_shown m n b c (events.Load u j k) (Slot s) out d is says = (by_lines (events.Load u j k) (Slot s) n out says, tt)
-line_shown m n b c (events.Load u j k) Nothing out d is says = absurd says
-line_shown m n b c (events.Load u j k) (Dropped s) out d is says = absurd says
-line_shown m n b c (events.Load u j k) (Drained s) out d is says = absurd says
+line_shown m n b c (events.Load u j k) _ out d is says = absurd says
 line_shown m n b c (events.TypeIn k bytes) (Dropped s) out d is says = (by_lines (events.TypeIn k bytes) (Dropped s) n out says, tt)
-line_shown m n b c (events.TypeIn k bytes) Nothing out d is says = absurd says
-line_shown m n b c (events.TypeIn k bytes) (Slot s) out d is says = absurd says
-line_shown m n b c (events.TypeIn k bytes) (Drained s) out d is says = absurd says
+line_shown m n b c (events.TypeIn k bytes) _ out d is says = absurd says
 line_shown m n b c (events.Drain k x) (Drained s) out d is says = (by_lines (events.Drain k x) (Drained s) n out says, tt)
-line_shown m n b c (events.Drain k x) Nothing out d is says = absurd says
-line_shown m n b c (events.Drain k x) (Slot s) out d is says = absurd says
-line_shown m n b c (events.Drain k x) (Dropped s) out d is says = absurd says
+line_shown m n b c (events.Drain k x) _ out d is says = absurd says
 line_shown m n b c (events.Exam s x k) a out d is says =
     (let did = exam_did m n b c s (in_a_line s x) (examined m s x k) out d is in
     subst (λ (q : Machine). Shown (events.Exam s x k) a q out) (sym did.0) (by_lines (events.Exam s x k) a m out did.1, did.2))
@@ -97,74 +91,8 @@ line_shown m n b c (events.Show k x y) a out d is says =
     (let did = shows_did m n b c (file_shown m k x y) out d is in
     subst (λ (q : Machine). Shown (events.Show k x y) a q out) (sym did.0) (by_lines (events.Show k x y) a m out did.1, tt))
 line_shown m n b c (events.Peek s) a out d is says = absurd (peek_does s (m.jobs s) n out d c is)
-line_shown m n b c events.Nothing Nothing out d is says = (by_lines events.Nothing Nothing n out says, tt)
-line_shown m n b c events.Nothing (Slot s) out d is says = absurd says
-line_shown m n b c events.Nothing (Dropped s) out d is says = absurd says
-line_shown m n b c events.Nothing (Drained s) out d is says = absurd says
-line_shown m n b c (events.Version v) Nothing out d is says = (by_lines (events.Version v) Nothing n out says, tt)
-line_shown m n b c (events.Version v) (Slot z) out d is says = absurd says
-line_shown m n b c (events.Version v) (Dropped z) out d is says = absurd says
-line_shown m n b c (events.Version v) (Drained z) out d is says = absurd says
-line_shown m n b c (events.Words x ws) Nothing out d is says = (by_lines (events.Words x ws) Nothing n out says, tt)
-line_shown m n b c (events.Words x ws) (Slot z) out d is says = absurd says
-line_shown m n b c (events.Words x ws) (Dropped z) out d is says = absurd says
-line_shown m n b c (events.Words x ws) (Drained z) out d is says = absurd says
-line_shown m n b c (events.ReadOnly p) Nothing out d is says = (by_lines (events.ReadOnly p) Nothing n out says, tt)
-line_shown m n b c (events.ReadOnly p) (Slot z) out d is says = absurd says
-line_shown m n b c (events.ReadOnly p) (Dropped z) out d is says = absurd says
-line_shown m n b c (events.ReadOnly p) (Drained z) out d is says = absurd says
-line_shown m n b c (events.Symbol x k) Nothing out d is says = (by_lines (events.Symbol x k) Nothing n out says, tt)
-line_shown m n b c (events.Symbol x k) (Slot z) out d is says = absurd says
-line_shown m n b c (events.Symbol x k) (Dropped z) out d is says = absurd says
-line_shown m n b c (events.Symbol x k) (Drained z) out d is says = absurd says
-line_shown m n b c (events.Go x) Nothing out d is says = (by_lines (events.Go x) Nothing n out says, tt)
-line_shown m n b c (events.Go x) (Slot z) out d is says = absurd says
-line_shown m n b c (events.Go x) (Dropped z) out d is says = absurd says
-line_shown m n b c (events.Go x) (Drained z) out d is says = absurd says
-line_shown m n b c (events.File k x y) Nothing out d is says = (by_lines (events.File k x y) Nothing n out says, tt)
-line_shown m n b c (events.File k x y) (Slot z) out d is says = absurd says
-line_shown m n b c (events.File k x y) (Dropped z) out d is says = absurd says
-line_shown m n b c (events.File k x y) (Drained z) out d is says = absurd says
-line_shown m n b c (events.Append ws) Nothing out d is says = (by_lines (events.Append ws) Nothing n out says, tt)
-line_shown m n b c (events.Append ws) (Slot z) out d is says = absurd says
-line_shown m n b c (events.Append ws) (Dropped z) out d is says = absurd says
-line_shown m n b c (events.Append ws) (Drained z) out d is says = absurd says
-line_shown m n b c events.EndFile Nothing out d is says = (by_lines events.EndFile Nothing n out says, tt)
-line_shown m n b c events.EndFile (Slot z) out d is says = absurd says
-line_shown m n b c events.EndFile (Dropped z) out d is says = absurd says
-line_shown m n b c events.EndFile (Drained z) out d is says = absurd says
-line_shown m n b c (events.Tick s k) Nothing out d is says = (by_lines (events.Tick s k) Nothing n out says, tt)
-line_shown m n b c (events.Tick s k) (Slot z) out d is says = absurd says
-line_shown m n b c (events.Tick s k) (Dropped z) out d is says = absurd says
-line_shown m n b c (events.Tick s k) (Drained z) out d is says = absurd says
-line_shown m n b c (events.Run k q) Nothing out d is says = (by_lines (events.Run k q) Nothing n out says, tt)
-line_shown m n b c (events.Run k q) (Slot z) out d is says = absurd says
-line_shown m n b c (events.Run k q) (Dropped z) out d is says = absurd says
-line_shown m n b c (events.Run k q) (Drained z) out d is says = absurd says
-line_shown m n b c (events.Clock k) Nothing out d is says = (by_lines (events.Clock k) Nothing n out says, tt)
-line_shown m n b c (events.Clock k) (Slot z) out d is says = absurd says
-line_shown m n b c (events.Clock k) (Dropped z) out d is says = absurd says
-line_shown m n b c (events.Clock k) (Drained z) out d is says = absurd says
-line_shown m n b c (events.Int s v w) Nothing out d is says = (by_lines (events.Int s v w) Nothing n out says, tt)
-line_shown m n b c (events.Int s v w) (Slot z) out d is says = absurd says
-line_shown m n b c (events.Int s v w) (Dropped z) out d is says = absurd says
-line_shown m n b c (events.Int s v w) (Drained z) out d is says = absurd says
-line_shown m n b c (events.Deposit s x w) Nothing out d is says = (by_lines (events.Deposit s x w) Nothing n out says, tt)
-line_shown m n b c (events.Deposit s x w) (Slot z) out d is says = absurd says
-line_shown m n b c (events.Deposit s x w) (Dropped z) out d is says = absurd says
-line_shown m n b c (events.Deposit s x w) (Drained z) out d is says = absurd says
-line_shown m n b c (events.Stop s) Nothing out d is says = (by_lines (events.Stop s) Nothing n out says, tt)
-line_shown m n b c (events.Stop s) (Slot z) out d is says = absurd says
-line_shown m n b c (events.Stop s) (Dropped z) out d is says = absurd says
-line_shown m n b c (events.Stop s) (Drained z) out d is says = absurd says
-line_shown m n b c (events.Cont s) Nothing out d is says = (by_lines (events.Cont s) Nothing n out says, tt)
-line_shown m n b c (events.Cont s) (Slot z) out d is says = absurd says
-line_shown m n b c (events.Cont s) (Dropped z) out d is says = absurd says
-line_shown m n b c (events.Cont s) (Drained z) out d is says = absurd says
-line_shown m n b c events.End Nothing out d is says = (by_lines events.End Nothing n out says, tt)
-line_shown m n b c events.End (Slot z) out d is says = absurd says
-line_shown m n b c events.End (Dropped z) out d is says = absurd says
-line_shown m n b c events.End (Drained z) out d is says = absurd says
+line_shown m n b c e Nothing out d is says = (by_lines e Nothing n out says, tt)
+line_shown m n b c _ _ out d is says = absurd says
 
 -- a line that was obeyed: what is heard of it, and where the walk stands behind it
 pub record ObeyedSo (e : Event) (a : Answer) (old new : Judge) (b : Block) (n : ℕ) : Type 0 where
@@ -214,11 +142,9 @@ does_so e a old new b n m out d after forgets is same marks speaks says =
 by_comes : (e : Event) (a : Answer) (old new : Judge) (b : Block) (n : ℕ) (o : Lined) → Forgets new.plain old.dots new.dots → Speaks old.plain.place b → lined (machine_of old.plain) b e ≡ o → Obeys e a old.plain new.plain o
     → ObeyedSo e a old new b n
 by_comes e a old new b n (Done (Does m out d after)) forgets speaks is h = does_so e a old new b n m out d after forgets is h.0 h.1 h.2 h.3
-by_comes e a old new b n (Done (Refuses r)) forgets speaks is h = absurd h
-by_comes e a old new b n (Done (Ticks i k)) forgets speaks is h = absurd h
-by_comes e a old new b n (Done Quits) forgets speaks is h = absurd h
 by_comes e a old new b n (Peeks i) forgets speaks is h =
     (let p = peeks_event (machine_of old.plain) b e i is in peek_so e a old new b n p.0 p.1 forgets (is ∙ ap Peeks p.2) h.0 h.1 h.2 speaks)
+by_comes e a old new b n _ forgets speaks is h = absurd h
 
 obeyed_so : (e : Event) (a : Answer) (old new : Judge) (b : Block) (n : ℕ) → Told e old.plain new.plain (Ok a) → Forgets new.plain old.dots new.dots → Speaks old.plain.place b → ObeyedSo e a old new b n
 obeyed_so e a old new b n h forgets speaks =

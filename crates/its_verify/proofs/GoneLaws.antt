@@ -94,26 +94,14 @@ stopped_says r f e old mid new left between rest n is line = λ b speaks es.
 at_settled : (p q : Place) → machine_place q ≡ q → is_at p q ≡ true → machine_place p ≡ q
 at_settled places.First places.First is h = is
 at_settled places.First places.Plain is h = refl
-at_settled places.First places.Load is h = absurd (false≢true h)
-at_settled places.First places.File is h = absurd (false≢true h)
 at_settled places.Plain places.Plain is h = refl
-at_settled places.Plain places.First is h = absurd (false≢true h)
-at_settled places.Plain places.Load is h = absurd (false≢true h)
-at_settled places.Plain places.File is h = absurd (false≢true h)
 at_settled places.Load places.Load is h = refl
-at_settled places.Load places.First is h = absurd (false≢true h)
-at_settled places.Load places.Plain is h = absurd (false≢true h)
-at_settled places.Load places.File is h = absurd (false≢true h)
 at_settled places.File places.File is h = refl
-at_settled places.File places.First is h = absurd (false≢true h)
-at_settled places.File places.Plain is h = absurd (false≢true h)
-at_settled places.File places.Load is h = absurd (false≢true h)
+at_settled _ _ is h = absurd (false≢true h)
 
 at_first : (p : Place) → is_at p places.First ≡ true → machine_place p ≡ places.Plain
 at_first places.First h = refl
-at_first places.Plain h = absurd (false≢true h)
-at_first places.Load h = absurd (false≢true h)
-at_first places.File h = absurd (false≢true h)
+at_first _ h = absurd (false≢true h)
 
 event_stands : (p q : Place) (e : Event) → machine_place p ≡ q → Stands p e → MayStand q e
 event_stands p q events.Nothing same h = tt
@@ -122,15 +110,11 @@ event_stands p q e same h = sym same ∙ at_settled p (event_place e) refl h
 
 pub stands_on : (p q : Place) (f : Found) → machine_place p ≡ q → found_stands p f → FoundStands q f
 stands_on p q (Line e) same h = event_stands p q e same h
-stands_on p q (Bad r) same h = tt
-stands_on p q Beyond same h = tt
-stands_on p q End same h = tt
+stands_on p q _ same h = tt
 
 pub fits_on : (v : ℕ) (f : Found) → found_fits v f → found_fits 2 f
 fits_on v (Line e) h = later_fits v e h
-fits_on v (Bad r) h = tt
-fits_on v Beyond h = tt
-fits_on v End h = tt
+fits_on v _ h = tt
 
 after_settled : (p : Place) (e : Event) → machine_place (place_after p e) ≡ place_after (machine_place p) e
 after_settled p (events.Load u j c) = refl
@@ -144,9 +128,7 @@ after_settled places.File e = refl
 
 found_settled : (p : Place) (f : Found) → machine_place (place_found p f) ≡ place_found (machine_place p) f
 found_settled p (Line e) = after_settled p e
-found_settled p (Bad r) = refl
-found_settled p Beyond = refl
-found_settled p End = refl
+found_settled p _ = refl
 
 pub place_on : (p p2 q q2 : Place) (f : Found) → machine_place p ≡ q → p2 ≡ place_found p f → q2 ≡ place_found q f → machine_place p2 ≡ q2
 place_on p p2 q q2 f same next mine = ap machine_place next ∙ found_settled p f ∙ ap (λ (x : Place). place_found x f) same ∙ sym mine

@@ -140,9 +140,7 @@ led_lacks reads next (findings.No k) room n texts strict few h =
           rw long.1.is (cut_no room n (led reads next) long.1.first long.1.behind long.0 (λ us. rw first refl) ∙ ap (λ (m : ℕ). Judged (No m)) (sym h.0)))
     ]
 led_lacks reads next findings.Beyond room n texts strict few h = rw h.1.is (cut_full room n (led reads next) h.1.first h.1.behind few h.0 (no_past room n h.0))
-led_lacks reads next (findings.Yes k) room n texts strict few h = absurd h
-led_lacks reads next (findings.Long k) room n texts strict few h = absurd h
-led_lacks reads next (findings.Cut k) room n texts strict few h = absurd h
+led_lacks reads next _ room n texts strict few h = absurd h
 
 pub lacks_says : {X : Type 0} (reads : List ℕ → Option X) (next : X → Judge) (last : Judge) (f : Finding) (old new : Hearing) (left rest : Option (List ℕ)) → Strict reads → Heard old left
     → ReadsOn (Ok (Some f)) old new left rest → Says (Ok (Some f)) old new left rest (led reads next) last

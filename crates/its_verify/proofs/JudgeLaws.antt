@@ -7,7 +7,7 @@ use Rattle.its_word.specs.declared.show.Peek.{Peek}
 use Rattle.its_word.specs.declared.show.PeekState.TheVariants.{User}
 use Rattle.std.specs.Prelude.{bytes_eq, codes}
 use Rattle.its_print.specs.Printing.{Line, Ticks, Peeked, Refused, text_of_line}
-use Rattle.its_session.specs.Grammar.{words_of}
+use Rattle.its_word.specs.Text.{words_of}
 use Rattle.its_plain.specs.OperatorLines.{Lined, Done, Peeks, lined}
 use Rattle.its_plain.specs.Machine.{Machine}
 use Rattle.its_plain.specs.Operator.{Block, Refuses, Does, Quits}

@@ -60,21 +60,10 @@ at_run most n p rest few =
 -- a letter is its byte's only one
 same_letter : (p q : Pace) → (letter_of p == letter_of q) ≡ true → p ≡ q
 same_letter Step Step h = refl
-same_letter Step Work h = absurd (false≢true h)
-same_letter Step Wait h = absurd (false≢true h)
-same_letter Step Off h = absurd (false≢true h)
-same_letter Work Step h = absurd (false≢true h)
 same_letter Work Work h = refl
-same_letter Work Wait h = absurd (false≢true h)
-same_letter Work Off h = absurd (false≢true h)
-same_letter Wait Step h = absurd (false≢true h)
-same_letter Wait Work h = absurd (false≢true h)
 same_letter Wait Wait h = refl
-same_letter Wait Off h = absurd (false≢true h)
-same_letter Off Step h = absurd (false≢true h)
-same_letter Off Work h = absurd (false≢true h)
-same_letter Off Wait h = absurd (false≢true h)
 same_letter Off Off h = refl
+same_letter _ _ h = absurd (false≢true h)
 
 one_more : (n : ℕ) (p : Pace) (ps : List Pace) → replicate (n + 1) p ++ ps ≡ replicate n p ++ p ∷ ps
 one_more n p ps = rw (← replicate_more n p) (append_assoc (replicate n p) (p ∷ []) ps)

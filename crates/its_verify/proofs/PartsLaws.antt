@@ -1,5 +1,5 @@
 -- The input in two parts: they are all of it; and a session with its END line, and a transcript behind it, are those parts.
-use Rattle.std.proofs.Common.{◌≡◌, ◌≤◌, ◌+◌, ◌-◌, ℕ, ltb, List, [], ◌∷◌, ◌++◌, length, refl, sym, ap, subst, ◌∙◌, inl, inr, arith, append_assoc}
+use Rattle.std.proofs.Common.{◌≡◌, ◌≤◌, ◌+◌, ◌-◌, ℕ, false, ltb, List, [], ◌∷◌, ◌++◌, length, refl, sym, ap, subst, ◌∙◌, inl, inr, arith, append_assoc}
 use Rattle.std.proofs.lemmas.Bool.{cases_Bool}
 use Rattle.std.specs.List.{AllByRecursion, concat}
 use Rattle.its_print.specs.Printing.{Line, text}
@@ -15,10 +15,12 @@ use Rattle.its_verify.proofs.LinesLaws.{AllWhole, concat_lines, first_line}
 use Rattle.its_verify.proofs.PrintedLaws.{text_lines}
 use Rattle.its_verify.proofs.VerdictLaws.{lines_accepted, written_accepted}
 
--- what holds of each of the ways in which a line goes holds of it
-each_way : (P : Parts → Type 0) (n : ℕ) (session line : List ℕ) (lines : List (List ℕ)) → P TooMany → P (LongLine n) → P (Both (session ++ line) n lines)
-    → P (parts_from (n + 1) (session ++ line) lines) → P (parts_from n session (line ∷ lines))
-each_way P n session line lines many long end more =
+-- what holds of each of the ways in which a line goes holds of it: of the parts of some lines, and of others in the place of those
+-- behind it
+pub each_way : (P : Parts → Parts → Type 0) (n : ℕ) (session line : List ℕ) (lines others : List (List ℕ)) → P TooMany TooMany → P (LongLine n) (LongLine n)
+    → (ltb most_lines n ≡ false → P (Both (session ++ line) n lines) (Both (session ++ line) n others))
+    → P (parts_from (n + 1) (session ++ line) lines) (parts_from (n + 1) (session ++ line) others) → P (parts_from n session (line ∷ lines)) (parts_from n session (line ∷ others))
+each_way P n session line lines others many long end more =
     elim (cases_Bool (ltb most_lines n)) [
       | inl past ↦ rw past many
       | inr few ↦
@@ -26,7 +28,7 @@ each_way P n session line lines many long end more =
             | inl longer ↦ rw (few, longer) long
             | inr short ↦
                 elim (cases_Bool (is_end_line line)) [
-                  | inl last ↦ rw (few, short, last) end
+                  | inl last ↦ rw (few, short, last) (end few)
                   | inr other ↦ rw (few, short, other) more
                 ]
           ]
@@ -40,7 +42,7 @@ AllOf bytes _ = Unit {0}
 all_of : (n : ℕ) (session : List ℕ) (lines : List (List ℕ)) → AllOf (session ++ concat lines) (parts_from n session lines)
 all_of n session [] = tt
 all_of n session (line ∷ lines) =
-    each_way (AllOf (session ++ (line ++ concat lines))) n session line lines tt tt (append_assoc session line (concat lines))
+    each_way (λ p q. AllOf (session ++ (line ++ concat lines)) p) n session line lines lines tt tt (λ few. append_assoc session line (concat lines))
     (subst (λ (bytes : List ℕ). AllOf bytes (parts_from (n + 1) (session ++ line) lines)) (append_assoc session line (concat lines)) (all_of (n + 1) (session ++ line) lines))
 
 pub both_whole : (bytes session : List ℕ) (count : ℕ) (texts : List (List ℕ)) → parts_from 1 [] (lines_in bytes) ≡ Both session count texts → session ++ concat texts ≡ bytes
@@ -58,18 +60,7 @@ at_end_line session n (line ∷ lines) more = tt
 behind : (n : ℕ) (session : List ℕ) (lines more : List (List ℕ)) → Behind more (parts_from n session lines) (parts_from n session (lines ++ more))
 behind n session [] more = tt
 behind n session (line ∷ lines) more =
-    elim (cases_Bool (ltb most_lines n)) [
-      | inl past ↦ rw past tt
-      | inr few ↦
-          elim (cases_Bool (ltb most_session_bytes (length (before_lf line)))) [
-            | inl longer ↦ rw (few, longer) tt
-            | inr short ↦
-                elim (cases_Bool (is_end_line line)) [
-                  | inl last ↦ rw (few, short, last) (at_end_line (session ++ line) n lines more)
-                  | inr other ↦ rw (few, short, other) (behind (n + 1) (session ++ line) lines more)
-                ]
-          ]
-    ]
+    each_way (Behind more) n session line lines (lines ++ more) tt tt (λ few. at_end_line (session ++ line) n lines more) (behind (n + 1) (session ++ line) lines more)
 
 -- the lines of bytes whose lines all have their LF, and of bytes behind them
 lines_behind : (texts : List (List ℕ)) (rest : List ℕ) → AllWhole texts → lines_in (concat texts ++ rest) ≡ texts ++ lines_in rest

@@ -4,7 +4,7 @@ use Rattle.std.proofs.lemmas.Bool.{cases_Bool, and_left, and_right, eq-eqb, le-l
 use Rattle.std.proofs.lemmas.Bool.Decides.{nat_tests}
 use Rattle.std.specs.List.{onto_first, prefix_len, slice_split}
 use Rattle.std.specs.Prelude.{codes}
-use Rattle.its_session.specs.Grammar.{words_of}
+use Rattle.its_word.specs.Text.{words_of}
 use Rattle.its_reader.specs.TextLines.{before_lf}
 use Rattle.its_verify.specs.Lines.{begins_with, is_last, is_peek, is_whole, most_bytes}
 use Rattle.its_verify.specs.Reading.{ends_word}

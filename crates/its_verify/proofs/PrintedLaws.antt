@@ -7,7 +7,7 @@ use Rattle.std.proofs.lemmas.List.Folds.{list_all-append}
 use Rattle.std.proofs.lemmas.Slice.Eq.{bytes_eq-Decides}
 use Rattle.std.specs.List.{AllByRecursion, concat, list_all, range_with_len}
 use Rattle.std.specs.Prelude.{bytes_eq, codes, nat_le, position}
-use Rattle.its_word.specs.Text.{digits_of, is_code, octal6_of, octal12_of, spaced}
+use Rattle.its_word.specs.Text.{digits_of, is_code, octal6_of, octal12_of, spaced, words_of}
 use Rattle.its_word.specs.declared.calls.Pace.{Pace}
 use Rattle.its_word.specs.declared.calls.Pace.TheVariants.{Step, Work, Wait, Off}
 use Rattle.its_word.specs.declared.session.Reason.{Reason}
@@ -23,8 +23,7 @@ use Rattle.its_asm.proofs.TypeLaws.{typed_printable}
 use Rattle.its_print.specs.Printing.{Line, Loaded, Ticks, Typed, Drained, Words, Listed, State, Peeked, Dir, Filed, Shown, Row, Refused, letter_of, run_of, runs_from, runs_of, word_or_dash, number_or_dash, run_or_stop, job_fields, symbol_or_dashes, symbol_fields, state_name, reason_name, keyword, fields_of, text_of_line, text}
 use Rattle.its_print.specs.Sizes.{IsPrinted}
 use Rattle.its_print.proofs.LongestLine.{longest}
-use Rattle.its_session.proofs.WordsLaws.{words_cut}
-use Rattle.its_session.specs.Grammar.{words_of}
+use Rattle.its_word.proofs.WordsLaws.{words_cut}
 use Rattle.its_reader.specs.TextLines.{before_lf, lines_in}
 use Rattle.its_verify.specs.Lines.{Said, Tells, begins_with, is_peek, most_bytes, is_whole, says}
 use Rattle.its_verify.proofs.BehindLaws.{behind, spaced_behind}

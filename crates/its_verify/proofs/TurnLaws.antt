@@ -227,22 +227,18 @@ line_first v e last es (Done (Ticks s k)) lines = refl
 line_first v e last es (Peeks s) lines = refl
 
 pub session_unrolls : (es : List Item) (v : Walk) (last : ℕ) (lines : List Line) (fate : Fate) → SessionOn v last es lines fate → Unrolls v last es lines fate
-session_unrolls [] v last lines fate t = t
 session_unrolls (Read e ∷ es) v last lines fate t =
     subst (λ xs. Run v xs lines fate) (sym (line_first v e last es (lined v.machine v.block e) lines))
     (line_to v e last es (lined v.machine v.block e) lines fate (λ w i rest x. session_unrolls es w i rest fate x) t)
-session_unrolls (Unread r ∷ es) v last lines fate t = t
 session_unrolls (InTurn s k ∷ es) v last lines fate t = subst (λ xs. Run v (InTurn s k ∷ xs) lines fate) (sym (alone_items es)) t
-session_unrolls (Beyond ∷ es) v last lines fate t = t
+session_unrolls _ v last lines fate t = t
 
 pub unrolls_session : (es : List Item) (v : Walk) (last : ℕ) (lines : List Line) (fate : Fate) → Unrolls v last es lines fate → SessionOn v last es lines fate
-unrolls_session [] v last lines fate t = t
 unrolls_session (Read e ∷ es) v last lines fate t =
     to_line v e last es (lined v.machine v.block e) lines fate (λ w i rest x. unrolls_session es w i rest fate x)
     (subst (λ xs. Run v xs lines fate) (line_first v e last es (lined v.machine v.block e) lines) t)
-unrolls_session (Unread r ∷ es) v last lines fate t = t
 unrolls_session (InTurn s k ∷ es) v last lines fate t = subst (λ xs. Run v (InTurn s k ∷ xs) lines fate) (alone_items es) t
-unrolls_session (Beyond ∷ es) v last lines fate t = t
+unrolls_session _ v last lines fate t = t
 
 -- a transcript of the unrolled events is such a walk, and each such walk is one
 pub transcript_session : (es : List Item) (lines : List Line) (fate : Fate) → Transcript (unrolled es lines) lines fate → SessionOn at_start highest es lines fate

@@ -2,7 +2,7 @@
 use Rattle.std.specs.Prelude.{if◌then◌else◌, ◌≡◌, ◌==◌, ℕ, ◌+◌, Bool, true, false, ◌&&◌, List, [], ◌∷◌, length, nat_le, bytes_eq, codes}
 use Rattle.std.specs.List.{concat}
 use Rattle.its_print.specs.Printing.{Line, Peeked, text_of_line}
-use Rattle.its_session.specs.Grammar.{words_of}
+use Rattle.its_word.specs.Text.{words_of}
 use Rattle.its_reader.specs.TextLines.{before_lf}
 
 abbrev pub is_last : List ℕ → Bool

@@ -1,11 +1,9 @@
 -- A trial: a judge and the lines of a transcript together, along a session.
-use Rattle.std.specs.Prelude.{◌≡◌, ◌<◌, ◌-◌, ℕ, Bool, false, Option, Some, None, Result, Ok, Err, List, length, slice_index_or}
+use Rattle.std.specs.Prelude.{◌≡◌, ◌<◌, ◌-◌, ℕ, false, Option, Some, None, Result, Ok, Err, List}
 use Rattle.its_io.specs.declared.stream.Failed.{Failed}
 use Rattle.its_word.specs.Limits.{slots}
-use Rattle.its_plain.specs.Machine.{Machine}
 use Rattle.its_plain.specs.Operator.{Block}
 use Rattle.its_plain.specs.Transcript.{Walk}
-use Rattle.its_plain.specs.Unrolled.{runs}
 use Rattle.its_verify.specs.Hearing.{HearsOn, Heard}
 use Rattle.its_verify.specs.Judge.{Judge, turned}
 use Rattle.its_verify.specs.Standing.{Sure, walk_of}
@@ -31,8 +29,3 @@ TurnsSo old now n k q left rest =
     (b : Block) (l : ℕ) (next : Walk → ℕ → Judge)
     → HearsOn old.hearing now.hearing left rest (turned n q (walk_of old.judge b l) old.last next)
     (turned (n - k) q (walk_of now.judge b l) now.last next)
-
--- which of the first k slots have a job that runs
-pub record RunsSo (m : Machine) (k : ℕ) (xs : List Bool) : Type 0 where
-  pub count : length xs ≡ slots
-  pub found : (s : ℕ) → s < k → slice_index_or xs s false ≡ runs m s

@@ -1,12 +1,11 @@
--- What the judge of a session and a transcript in one input says. The session is all up to and with the first line whose
--- only word is END, and the transcript is the rest.
+-- What the judge of a session and a transcript in one input says. The session is all up to and with the first line
+-- whose only word is END, and the transcript is the rest.
 use Rattle.std.specs.Prelude.{if◌then◌else◌, ℕ, ◌+◌, ◌-◌, Bool, false, List, [], ◌∷◌, ◌++◌, length, take, nat_le, nat_lt, bytes_eq, codes}
 use Rattle.its_word.specs.Item.{Item}
-use Rattle.its_word.specs.Text.{digits_of, spaced}
+use Rattle.its_word.specs.Text.{digits_of, spaced, words_of}
 use Rattle.its_word.specs.declared.session.Reason.TheVariants as reasons
 use Rattle.its_print.specs.Printing.{Refused, text_of_line}
 use Rattle.its_session.specs.Events.{events_of, most_lines}
-use Rattle.its_session.specs.Grammar.{words_of}
 use Rattle.its_plain.specs.Transcript.{at_start}
 use Rattle.its_plain.specs.Unrolled.{highest}
 use Rattle.its_reader.specs.TextLines.{before_lf, lines_in}

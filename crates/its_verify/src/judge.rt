@@ -198,7 +198,7 @@ impl Judge {
     }
 
     /// The slot whose turn it is, after a turn of slot `last`; None where no job runs.
-    #[tactic(auto, using(crate::proofs::TrialLaws::turn_found, crate::proofs::TrialLaws::turn_is_slot, crate::proofs::TrialLaws::runs_start, crate::proofs::TrialLaws::runs_next))]
+    #[tactic(auto, using(its_plain::proofs::WhoRunsLaws::turn_found, its_plain::proofs::WhoRunsLaws::turn_is_slot, its_plain::proofs::WhoRunsLaws::runs_start, its_plain::proofs::WhoRunsLaws::runs_next))]
     pub fn turn_after(&self, last: u8) -> Option<u8>
         requires last { last < slots }
         ensures turn { result ≡ turn_after (machine_of self.now.plain) last }

@@ -1,9 +1,9 @@
 //! The session of an input: all up to and with the first line whose only word is END.
-ghost use Rattle.std.specs.Prelude.{◌≡◌, ◌≢◌, ◌≤◌, ◌<◌, ◌+◌, ◌-◌, ◌==◌, ◌&&◌, [], Ok, Err, length, position, codes};
+ghost use Rattle.std.specs.Prelude.{◌≡◌, ◌≢◌, ◌≤◌, ◌<◌, ◌-◌, ◌==◌, ◌&&◌, [], Ok, Err, codes};
 ghost use Rattle.std.specs.List.{list_all};
 ghost use Rattle.its_io.specs.Bytes.{next_fault};
 ghost use Rattle.its_session.specs.Events.{most_lines};
-ghost use Rattle.its_session.specs.Grammar.{words_of};
+ghost use Rattle.its_word.specs.Text.{words_of};
 ghost use Rattle.its_reader.specs.Texts.{ReadyTexts};
 ghost use Rattle.its_verify.specs.Verified.{is_end_line, is_only};
 ghost use Rattle.its_verify.specs.Keeping.{Keeps};

@@ -1,6 +1,6 @@
 //! The lines that may stand where PEEK shows a job.
 ghost use Rattle.std.specs.Prelude.{◌≡◌, ◌==◌, ◌&&◌, codes, position};
-ghost use Rattle.its_session.specs.Grammar.{words_of};
+ghost use Rattle.its_word.specs.Text.{words_of};
 ghost use Rattle.its_verify.specs.Lines.{begins_with, is_peek};
 ghost use Rattle.its_verify.specs.Reading.{ends_word};
 

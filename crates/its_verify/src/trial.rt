@@ -9,7 +9,6 @@ ghost use Rattle.its_plain.specs.Operator.{Block};
 ghost use Rattle.its_plain.specs.Transcript.{Walk};
 ghost use Rattle.its_direct.specs.Plain.{machine_of};
 ghost use Rattle.its_direct.specs.Events.{IsTold, MayStand, place_of};
-ghost use Rattle.its_direct.specs.Lines.{reason_of};
 ghost use Rattle.its_verify.specs.Going.{is_end};
 ghost use Rattle.its_verify.specs.Showing.{is_peek_event};
 
@@ -19,7 +18,7 @@ use super::judge::Judge;
 use super::showing::show_event;
 use its_direct::Answer;
 use its_io::{Failed, Source};
-use its_word::{Event, Reason, Refusal};
+use its_word::{Event, Reason};
 
 /// The judge of a session, the lines of its transcript, and the slot of the last turn of a RUN line (before the first one the
 /// highest slot).
@@ -178,7 +177,7 @@ impl Trial {
     {
         match self.judge.event(event) {
             Ok(answer) => self.shown(src, event, &answer),
-            Err(e) => self.refused(src, number, reason_of(e)),
+            Err(e) => self.refused(src, number, e.reason()),
         }
     }
 
@@ -214,21 +213,5 @@ fn is_peek_event(event: &Event) -> bool
     match event {
         Event::Peek { .. } => true,
         _ => false,
-    }
-}
-
-/// The reason of a refusal, as a session says it.
-fn reason_of(e: Refusal) -> Reason
-    ensures { result ≡ reason_of e }
-{
-    match e {
-        Refusal::NoJob => Reason::NoJob,
-        Refusal::NoConsole => Reason::NoCons,
-        Refusal::NoPage => Reason::NoPage,
-        Refusal::ReadOnly => Reason::ReadOnly,
-        Refusal::NoFile => Reason::NoFile,
-        Refusal::Exists => Reason::Exists,
-        Refusal::Full => Reason::Full,
-        Refusal::Range => Reason::Range,
     }
 }

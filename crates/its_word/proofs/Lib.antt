@@ -11,3 +11,4 @@ pub mod FreeLaws
 pub mod StoreLaws
 pub mod TableLaws
 pub mod ConstantLaws
+pub mod WordsLaws

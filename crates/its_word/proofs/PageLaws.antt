@@ -5,7 +5,7 @@ use Rattle.std.proofs.Common.{sym, ◌∙◌, ap, inl, inr, arith}
 use Rattle.std.proofs.lemmas.Bool.{cases_Bool, cases_eq, lt-ltb, le-ltb}
 use Rattle.std.proofs.lemmas.List.{get_or-set_same}
 use Rattle.std.proofs.lemmas.List.Sums.{sum_by-set, sum_by-cons}
-use Rattle.its_word.specs.Core.{Page, Core, present, page_of, word_in, stores_in, page_stored, word_at, can_store, store, with_page, no_core, pages_present, pages_mapped}
+use Rattle.its_word.specs.Core.{Page, Core, present, page_of, zero_page, word_in, stores_in, page_stored, word_at, can_store, store, with_page, no_core, pages_present, pages_mapped}
 use Rattle.its_word.specs.Limits.{slots}
 use Rattle.its_word.specs.Only.{Only, Same}
 use Rattle.its_word.proofs.CoreLaws.{in_accs, in_page, stores_acc, stores_page, store_acc, store_page, get_set_other}
@@ -138,6 +138,11 @@ pub get-copies : {X : Type 0} (n k : ℕ) (x : X) → k < n → slice_get (repli
 get-copies zero k x h = absurd (omega arith)
 get-copies (suc n) zero x h = refl
 get-copies (suc n) (suc k) x h = get-copies n k x (omega arith)
+
+-- a page of zeros can be stored to
+pub zero_stores : (c : Core) (x : ℕ) → 16 ≤ x → page_of c (x / 1024) ≡ Some zero_page → can_store c x ≡ true
+unfolding can_store zero_page
+zero_stores c x l h = let t = le-ltb x 16 l in rw (t, h) (ap is_some (get-copies 1024 (x % 1024) 0 (omega arith)))
 
 pub get_or-copies : {X : Type 0} (n k : ℕ) (x : X) → slice_index_or (replicate n x) k x ≡ x
 get_or-copies zero k x = refl

@@ -38,14 +38,8 @@ octal_read text i n some few e value below digits =
 
 -- six bits for each character and for each one that lacks
 fill_up : (i : ℕ) → i ≤ 6 → 64 ^ i * 2 ^ (6 * (6 - i)) ≡ 2 ^ 36
-fill_up zero h = refl
-fill_up (suc zero) h = refl
-fill_up (suc (suc zero)) h = refl
-fill_up (suc (suc (suc zero))) h = refl
-fill_up (suc (suc (suc (suc zero)))) h = refl
-fill_up (suc (suc (suc (suc (suc zero))))) h = refl
-fill_up (suc (suc (suc (suc (suc (suc zero)))))) h = refl
 fill_up (suc (suc (suc (suc (suc (suc (suc i))))))) h = absurd (omega arith)
+fill_up _ h = refl
 
 -- all the characters of a name are read
 pub name_read : (text : List ℕ) (i n : ℕ) → 0 < length text → length text ≤ 6 → i ≡ length text → n ≡ number_of 64 32 (take i text) → n < 64 ^ i

@@ -19,3 +19,4 @@ pub mod Directory
 pub mod Table
 pub mod Flags
 pub mod Ready
+pub mod Refusals

@@ -1,6 +1,6 @@
 -- Numbers and names as text (docs/SESSION.md, "Numbers and names"). Characters are their ASCII codes.
-use Rattle.std.specs.Prelude.{if◌then◌else◌, ℕ, ◌+◌, ◌-◌, ◌*◌, ◌/◌, ◌%◌, ◌^◌, Bool, ◌&&◌, List, [], ◌∷◌, ◌++◌, length, map, fold, nat_le, nat_lt}
-use Rattle.std.specs.List.{range_with_len, list_all}
+use Rattle.std.specs.Prelude.{if◌then◌else◌, ℕ, ◌+◌, ◌-◌, ◌*◌, ◌/◌, ◌%◌, ◌^◌, ◌==◌, Bool, ◌&&◌, not, List, [], ◌∷◌, ◌++◌, length, map, filter, fold, nat_le, nat_lt}
+use Rattle.std.specs.List.{range_with_len, list_all, slice_split}
 use Rattle.std.specs.Int.Digits as base
 
 -- the twelve octal digits of a word
@@ -44,3 +44,11 @@ digits_of n = if nat_lt n 8 then (48 + n) ∷ [] else map (λ d. 48 + d) (base.d
 -- a first word and others, with one space between two words
 unfoldable pub spaced : List ℕ → List (List ℕ) → List ℕ
 spaced first others = fold (λ text word. text ++ 32 ∷ word) first others
+
+-- a line's words are its runs of bytes other than space
+unfoldable pub words_of : List ℕ → List (List ℕ)
+words_of line = filter (λ run. not (length run == 0)) (slice_split (λ b. b == 32) line)
+
+-- a run of bytes other than space as a word, if it has any bytes
+abbrev pub word_of_run : List ℕ → List (List ℕ)
+word_of_run run = if length run == 0 then [] else run ∷ []

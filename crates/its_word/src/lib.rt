@@ -17,6 +17,7 @@ mod pending;
 mod plan;
 mod ready;
 mod result2;
+mod runs;
 mod session;
 mod show;
 #[cfg(test)]
@@ -44,6 +45,7 @@ pub use pending::{ALR, BRK, FATAL, ILO, INF, IOC, MPV, PDL, TBL, WRO};
 pub use plan::{Context, Plan, Reached, Store, Turn};
 pub use ready::ReadyWords;
 pub use result2::Result2;
+pub use runs::words;
 pub use session::{Bad, Event, Place, Reason, Refusal};
 pub use show::{FileShow, JobShow, Peek, PeekState};
 pub use text::{BadName, BadOctal, read_octal, read_sixbit};

@@ -1,3 +1,6 @@
+ghost use Rattle.std.specs.Prelude.{◌≡◌};
+ghost use Rattle.its_word.specs.Refusals.{reason_of};
+
 use super::word::Word;
 use arrayvec::ArrayVec;
 
@@ -152,4 +155,22 @@ pub enum Refusal {
     Exists,
     Full,
     Range,
+}
+
+impl Refusal {
+    /// The reason of a `?` line.
+    pub fn reason(self) -> Reason
+        ensures { result ≡ reason_of self }
+    {
+        match self {
+            Refusal::NoJob => Reason::NoJob,
+            Refusal::NoConsole => Reason::NoCons,
+            Refusal::NoPage => Reason::NoPage,
+            Refusal::ReadOnly => Reason::ReadOnly,
+            Refusal::NoFile => Reason::NoFile,
+            Refusal::Exists => Reason::Exists,
+            Refusal::Full => Reason::Full,
+            Refusal::Range => Reason::Range,
+        }
+    }
 }

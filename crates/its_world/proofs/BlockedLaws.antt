@@ -14,7 +14,7 @@ use Rattle.its_frame.specs.declared.frame.Frame.TheVariants.{Entered, Parsed, As
 use Rattle.its_plain.specs.Arguments.{input}
 use Rattle.its_plain.specs.Reasons.{Doors, held_up}
 use Rattle.its_world.specs.Rings.{wait_rings, awake_of, console_in, place_at, StandsIn, IsIn}
-use Rattle.its_world.specs.Filed.{frame_at, reason_of, if_within, place_for, place_by, doors_of, place_of, awake_for, awake_by, awake_at, Blocked}
+use Rattle.its_world.specs.Filed.{frame_at, wait_reason, if_within, place_for, place_by, doors_of, place_of, awake_for, awake_by, awake_at, Blocked}
 use Rattle.its_world.proofs.RingLaws.{times_none}
 use Rattle.its_world.specs.declared.world.World.{World}
 
@@ -39,14 +39,8 @@ belongs_for d k n (Some r) = belongs_if r (held_up d k n r) (nat_lt (console_in 
 belongs_for d k n None = inl refl
 
 belongs_by : (d : Doors) (k : ℕ) (o : Option Job) (f : Option Frame) → Belongs (place_by d k o f) (awake_by o f)
-belongs_by d k o None = inl refl
-belongs_by d k o (Some (Entered f)) = inl refl
-belongs_by d k o (Some (Parsed f)) = inl refl
-belongs_by d k o (Some (Asked f)) = inl refl
-belongs_by d k o (Some (Holding f)) = inl refl
-belongs_by d k o (Some (Waiting f)) = belongs_for d k (input f.ask 0) (reason_of o f.ask)
-belongs_by d k o (Some (Moving f)) = inl refl
-belongs_by d k o (Some (Ending f)) = inl refl
+belongs_by d k o (Some (Waiting f)) = belongs_for d k (input f.ask 0) (wait_reason o f.ask)
+belongs_by d k o _ = inl refl
 
 pub belongs : (w : World) (k : ℕ) → Belongs (place_of w k) (awake_at w k)
 unfolding place_of awake_at
@@ -69,14 +63,8 @@ past_for (Some r) h e = past_if r (nat_lt (console_in r) 8) h e
 past_for None h e = cc
 
 past_by : (o : Option Job) (f : Option Frame) (h : ℕ) → awake_by o f ≡ Some h → wait_rings ≤ h
-past_by o None h e = cc
-past_by o (Some (Entered f)) h e = cc
-past_by o (Some (Parsed f)) h e = cc
-past_by o (Some (Asked f)) h e = cc
-past_by o (Some (Holding f)) h e = cc
-past_by o (Some (Waiting f)) h e = past_for (reason_of o f.ask) h e
-past_by o (Some (Moving f)) h e = cc
-past_by o (Some (Ending f)) h e = cc
+past_by o (Some (Waiting f)) h e = past_for (wait_reason o f.ask) h e
+past_by o _ h e = cc
 
 pub awake_ring : (w : World) (k h : ℕ) → awake_at w k ≡ Some h → wait_rings ≤ h
 unfolding awake_at
@@ -95,14 +83,8 @@ heads_for (Some r) h e = awake_heads r (nat_lt (console_in r) 8) h (λ t. let l 
 heads_for None h e = cc
 
 heads_by : (o : Option Job) (f : Option Frame) (h : ℕ) → awake_by o f ≡ Some h → h < 34
-heads_by o None h e = cc
-heads_by o (Some (Entered f)) h e = cc
-heads_by o (Some (Parsed f)) h e = cc
-heads_by o (Some (Asked f)) h e = cc
-heads_by o (Some (Holding f)) h e = cc
-heads_by o (Some (Waiting f)) h e = heads_for (reason_of o f.ask) h e
-heads_by o (Some (Moving f)) h e = cc
-heads_by o (Some (Ending f)) h e = cc
+heads_by o (Some (Waiting f)) h e = heads_for (wait_reason o f.ask) h e
+heads_by o _ h e = cc
 
 pub awake_within : (w : World) (k h : ℕ) (p : Option ℕ) → p ≡ awake_at w k → p ≡ Some h → h < length w.rings.lists
 unfolding awake_at

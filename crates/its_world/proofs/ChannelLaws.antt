@@ -38,12 +38,8 @@ use Rattle.its_world.proofs.StorageLaws.{Comes, channel_comes, still_unmarked, s
 
 -- a channel of the state is on a draft where that of the world is
 draft_by : (s : Store) (c : Channel) → ((d : ℕ) → c ≡ Writing d → ⊥) → IsDraft (chan_of s c) → ⊥
-draft_by s Closed written h = h
-draft_by s TtyIn written h = h
-draft_by s TtyOut written h = h
-draft_by s (Reading f at) written h = h
 draft_by s (Writing d) written h = written d refl
-draft_by s (Usr k write at) written h = h
+draft_by s _ written h = h
 
 pub no_draft : (w : World) (s n : ℕ) (c : Channel) → c ≡ channel_at w.jobs s n → ((d : ℕ) → c ≡ Writing d → ⊥) → IsDraft (chan_in (state_of w) s n) → ⊥
 no_draft w s n c was written h = draft_by w.files c written (subst IsDraft (chan_is w s n ∙ ap (chan_of w.files) (sym was)) h)
@@ -167,12 +163,8 @@ module _ (old new : World) (s n : ℕ) (ls : s < slots) (ln : n < 16) (tidy : Ti
         (still_unmarked old t unmarked (ap (λ x. x.mark) made))
 
   still_appended : (w : ℕ) (c : Channel) → ((d : ℕ) → c ≡ Writing d → ⊥) → chan_of old.files c ≡ longer_on w (chan_of old.files c)
-  still_appended w Closed written = refl
-  still_appended w TtyIn written = refl
-  still_appended w TtyOut written = refl
-  still_appended w (Reading f p) written = refl
-  still_appended w (Usr k write p) written = refl
   still_appended w (Writing d) written = absurd (written d refl)
+  still_appended w _ written = refl
 
   pub append_other_comes : (w : ℕ) (c : Channel) → c ≡ channel_at old.jobs s n → ((d : ℕ) → c ≡ Writing d → ⊥) → Comes old (effect_on (Append n w) s (state_of old))
   unfolding effect_on effect

@@ -24,7 +24,7 @@ use Rattle.its_plain.specs.Arguments.{input}
 use Rattle.its_plain.specs.Reasons.{Doors, held_up, reason_by}
 use Rattle.its_parts.proofs.PartLaws.{all_closed}
 use Rattle.its_world.specs.Rings.{heads, awake_of, console_in, place_at, mark, StandsIn, AwayFrom, lists_at, lists_to}
-use Rattle.its_world.specs.Filed.{frame_at, console_at, holder_at, kind_of, channel_of, reason_of, if_within, place_for, place_by, doors_of, place_of, Ringed, OnlyRings, Refiled, Resettled, SlotWritten, DoorsWritten}
+use Rattle.its_world.specs.Filed.{frame_at, console_at, holder_at, kind_of, channel_of, wait_reason, if_within, place_for, place_by, doors_of, place_of, Ringed, OnlyRings, Refiled, Resettled, SlotWritten, DoorsWritten}
 use Rattle.its_world.specs.declared.world.World.{World}
 
 -- a slot without a frame belongs in no list
@@ -66,14 +66,8 @@ within_for d k n (Some r) = within_if (nat_lt (console_in r) 8) (place_at r (hel
 within_for d k n None = tt
 
 within_by : (d : Doors) (k : ℕ) (o : Option Job) (f : Option Frame) → IfSome (place_by d k o f) (λ h. h < heads)
-within_by d k o None = tt
-within_by d k o (Some (Entered f)) = tt
-within_by d k o (Some (Parsed f)) = tt
-within_by d k o (Some (Asked f)) = tt
-within_by d k o (Some (Holding f)) = tt
-within_by d k o (Some (Waiting f)) = within_for d k (input f.ask 0) (reason_of o f.ask)
-within_by d k o (Some (Moving f)) = tt
-within_by d k o (Some (Ending f)) = tt
+within_by d k o (Some (Waiting f)) = within_for d k (input f.ask 0) (wait_reason o f.ask)
+within_by d k o _ = tt
 
 pub place_within : (w : World) (k : ℕ) → IfSome (place_of w k) (λ h. h < heads)
 unfolding place_of
@@ -149,20 +143,14 @@ fresh_channel : (u n : ℕ) (console : Option ℕ) (i : ℕ) → channel_of (fre
 unfolding fresh_job
 fresh_channel u n console i = elim (cases_Bool (nat_lt i 16)) [ inl t ↦ rw t (all_closed 16 i) | inr t ↦ rw t refl ]
 
-fresh_reason : (u n : ℕ) (console : Option ℕ) (a : Ask) → reason_of (Some (fresh_job u n console)) a ≡ reason_of None a
+fresh_reason : (u n : ℕ) (console : Option ℕ) (a : Ask) → wait_reason (Some (fresh_job u n console)) a ≡ wait_reason None a
 fresh_reason u n console a =
     let c = unwrap_or (fresh_job u n console).console 0 in
     ap (λ x. reason_by c (kind_of x) (call_named a.name)) (fresh_channel u n console (input a 0)) ∙ shut_reason c (call_named a.name)
 
 fresh_place : (d : Doors) (k u n : ℕ) (console : Option ℕ) (f : Option Frame) → place_by d k (Some (fresh_job u n console)) f ≡ place_by d k None f
-fresh_place d k u n console None = refl
-fresh_place d k u n console (Some (Entered f)) = refl
-fresh_place d k u n console (Some (Parsed f)) = refl
-fresh_place d k u n console (Some (Asked f)) = refl
-fresh_place d k u n console (Some (Holding f)) = refl
 fresh_place d k u n console (Some (Waiting f)) = ap (place_for d k (input f.ask 0)) (fresh_reason u n console f.ask)
-fresh_place d k u n console (Some (Moving f)) = refl
-fresh_place d k u n console (Some (Ending f)) = refl
+fresh_place d k u n console _ = refl
 
 pub made_ringed : (old new : World) (s u n : ℕ) (console : Option ℕ) → job_at old.jobs s ≡ None → Only (job_at old.jobs) (job_at new.jobs) s (Some (fresh_job u n console))
     → new.frames ≡ old.frames → new.consoles ≡ old.consoles → new.holders ≡ old.holders → new.clock ≡ old.clock → new.rings ≡ old.rings → Ringed old → Ringed new
@@ -190,11 +178,9 @@ away_at : (lists : List (List ℕ)) (k c : ℕ) (r : Wait) (b : Bool) → consol
 away_at lists k c Hang b e at none s = cc
 away_at lists k c Clock b e at none s = cc
 away_at lists k c (Input x) true e at none s = away lists k (2 + c) (subst (λ i. StandsIn lists k (Some (2 + i))) e s) none.0
-away_at lists k c (Input x) false e at none s = away lists k (26 + c) (subst (λ i. StandsIn lists k (Some (26 + i))) e s) none.1.1.1.0
 away_at lists k c (Output x) true e at none s = away lists k (10 + c) (subst (λ i. StandsIn lists k (Some (10 + i))) e s) none.1.0
-away_at lists k c (Output x) false e at none s = away lists k (26 + c) (subst (λ i. StandsIn lists k (Some (26 + i))) e s) none.1.1.1.0
 away_at lists k c (Drained x) true e at none s = away lists k (18 + c) (subst (λ i. StandsIn lists k (Some (18 + i))) e s) none.1.1.0
-away_at lists k c (Drained x) false e at none s = away lists k (26 + c) (subst (λ i. StandsIn lists k (Some (26 + i))) e s) none.1.1.1.0
+away_at lists k c _ false e at none s = away lists k (26 + c) (subst (λ i. StandsIn lists k (Some (26 + i))) e s) none.1.1.1.0
 
 -- a slot keeps its place that is held up as before, or cannot have stood there
 abbrev pub Keeps : Doors → Doors → List (List ℕ) → ℕ → ℕ → Wait → Type 0
@@ -210,14 +196,8 @@ kept_for d e lists k n (Some r) keeps s = kept_if d e lists k n r (nat_lt (conso
 kept_for d e lists k n None keeps s = refl
 
 kept_by : (d e : Doors) (lists : List (List ℕ)) (k : ℕ) (o : Option Job) (f : Option Frame) → ((n : ℕ) (r : Wait) → console_in r < 8 → Keeps d e lists k n r) → StandsIn lists k (place_by d k o f) → place_by e k o f ≡ place_by d k o f
-kept_by d e lists k o None keeps s = refl
-kept_by d e lists k o (Some (Entered f)) keeps s = refl
-kept_by d e lists k o (Some (Parsed f)) keeps s = refl
-kept_by d e lists k o (Some (Asked f)) keeps s = refl
-kept_by d e lists k o (Some (Holding f)) keeps s = refl
-kept_by d e lists k o (Some (Waiting f)) keeps s = kept_for d e lists k (input f.ask 0) (reason_of o f.ask) (keeps (input f.ask 0)) s
-kept_by d e lists k o (Some (Moving f)) keeps s = refl
-kept_by d e lists k o (Some (Ending f)) keeps s = refl
+kept_by d e lists k o (Some (Waiting f)) keeps s = kept_for d e lists k (input f.ask 0) (wait_reason o f.ask) (keeps (input f.ask 0)) s
+kept_by d e lists k o _ keeps s = refl
 
 -- consoles, holders or the clock are written, jobs without frames too, and each slot of these lists is put where it belongs
 settled_ringed : (old mid new : World) (hs : List ℕ) → ((k : ℕ) → (job_at mid.jobs k ≡ job_at old.jobs k) ⊎ (frame_at old.frames.items k ≡ None)) → mid.frames ≡ old.frames → mid.rings ≡ old.rings

@@ -36,9 +36,9 @@ abbrev pub channel_of : Job → ℕ → Channel
 channel_of j n = if nat_lt n 16 then slice_index_or j.channels n channels.Closed else channels.Closed
 
 -- the reason for which the call of a slot's job can have to wait; that of an empty slot is as of a job with closed channels
-abbrev pub reason_of : Option Job → Ask → Option Wait
-reason_of (Some j) a = reason_by (unwrap_or j.console 0) (kind_of (channel_of j (input a 0))) (call_named a.name)
-reason_of None a = reason_by 0 Shut (call_named a.name)
+abbrev pub wait_reason : Option Job → Ask → Option Wait
+wait_reason (Some j) a = reason_by (unwrap_or j.console 0) (kind_of (channel_of j (input a 0))) (call_named a.name)
+wait_reason None a = reason_by 0 Shut (call_named a.name)
 
 -- the list in which the call of slot k belongs, whose first argument is n; none for a console that there is not
 abbrev pub if_within : Bool → Option ℕ → Option ℕ
@@ -51,7 +51,7 @@ place_for d k n None = None
 
 -- that of slot k: where its frame is Waiting that of its reason, else none
 abbrev pub place_by : Doors → ℕ → Option Job → Option Frame → Option ℕ
-place_by d k o (Some (Waiting f)) = place_for d k (input f.ask 0) (reason_of o f.ask)
+place_by d k o (Some (Waiting f)) = place_for d k (input f.ask 0) (wait_reason o f.ask)
 place_by d k o _ = None
 
 abbrev pub doors_of : World → Doors
@@ -70,7 +70,7 @@ awake_for (Some r) = if_within (nat_lt (console_in r) 8) (awake_of r)
 awake_for None = None
 
 abbrev pub awake_by : Option Job → Option Frame → Option ℕ
-awake_by o (Some (Waiting f)) = awake_for (reason_of o f.ask)
+awake_by o (Some (Waiting f)) = awake_for (wait_reason o f.ask)
 awake_by o _ = None
 
 unfoldable pub awake_at : World → ℕ → Option ℕ

@@ -1,14 +1,14 @@
 //! Slots whose calls wait stand in the list of their reason: each write of the world puts those whose place it can change where
 //! they belong.
 
-ghost use Rattle.std.specs.Prelude.{◌≡◌, ◌<◌, ◌∷◌, ◌↔◌, ◌⊎◌, [], ℕ, IsTrue, length};
+ghost use Rattle.std.specs.Prelude.{◌≡◌, ◌<◌, ◌∷◌, ◌↔◌, ◌⊎◌, [], IsTrue, length};
 ghost use Rattle.its_word.specs.Limits.{slots};
 ghost use Rattle.its_jobs.specs.Table.{job_at};
 ghost use Rattle.its_plain.specs.Arguments.{input};
 ghost use Rattle.its_plain.specs.CallTty.{is_other};
 ghost use Rattle.its_plain.specs.Reasons.{held_up};
 ghost use Rattle.its_world.specs.Rings.{heads, lists_at, lists_to, IsIn, StandsIn};
-ghost use Rattle.its_world.specs.Filed.{console_at, holder_at, channel_of, reason_of, place_for, place_of, awake_for, awake_at, doors_of, Blocked, Refiled, Resettled};
+ghost use Rattle.its_world.specs.Filed.{console_at, holder_at, channel_of, wait_reason, place_for, place_of, awake_for, awake_at, doors_of, Blocked, Refiled, Resettled};
 
 use super::rings::{CLOCK_RING, awake_of, console_in, put, reason_by, ring_of, stands_in};
 use super::world::{CONSOLES, World};
@@ -89,8 +89,8 @@ impl World {
     }
 
     /// The reason for which the call of a slot's job can have to wait.
-    fn reason_of(&self, slot: u8, ask: &Ask) -> Option<Wait>
-        ensures { result ≡ reason_of (job_at self.now.jobs slot) ask.now }
+    fn wait_reason(&self, slot: u8, ask: &Ask) -> Option<Wait>
+        ensures { result ≡ wait_reason (job_at self.now.jobs slot) ask.now }
     {
         let name = CallName::named(ask.name);
         match self.jobs.job(slot) {
@@ -126,7 +126,7 @@ impl World {
     {
         match &self.frames[usize::from(slot)] {
             Some(Frame::Waiting(f)) => {
-                self.place_for(slot, first_input(&f.ask), self.reason_of(slot, &f.ask))
+                self.place_for(slot, first_input(&f.ask), self.wait_reason(slot, &f.ask))
             }
             _ => None,
         }
@@ -139,7 +139,7 @@ impl World {
         ensures { result ≡ awake_at self.now slot }
     {
         match &self.frames[usize::from(slot)] {
-            Some(Frame::Waiting(f)) => awake_for(self.reason_of(slot, &f.ask)),
+            Some(Frame::Waiting(f)) => awake_for(self.wait_reason(slot, &f.ask)),
             _ => None,
         }
     }

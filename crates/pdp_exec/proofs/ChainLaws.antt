@@ -129,22 +129,8 @@ along_over c j i w used seen a h =
 -- an instruction that is no XCT is found where it stands
 turn_plain : (c : Core) (i : Instruction) (x : Context) → leads_on i ≡ false → turn_at c i x ≡ gives (Found (record { instruction = i; context = x }))
 unfolding turn_at
-turn_plain c (Move op m) x h = refl
-turn_plain c Exch x h = refl
-turn_plain c (Arithmetic op m) x h = refl
-turn_plain c (Shift op) x h = refl
-turn_plain c (Branch op) x h = refl
 turn_plain c Xct x h = cc
-turn_plain c (Stack op) x h = refl
-turn_plain c (Compare op k) x h = refl
-turn_plain c (Boolean k m) x h = refl
-turn_plain c (Half k m) x h = refl
-turn_plain c (Test m k n) x h = refl
-turn_plain c (Byte op) x h = refl
-turn_plain c Iot x h = refl
-turn_plain c Call x h = refl
-turn_plain c Break x h = refl
-turn_plain c Illegal x h = refl
+turn_plain c _ x h = refl
 
 plain_turn : (c : Core) (j : Job) (w : ℕ) (i : Instruction) (e : Address) → decoded w ≡ Ok i → leads_on i ≡ false → (address c w 0).answer ≡ Ok e
     → (turn c j w 0).answer ≡ Ok (Found (record { instruction = i; context = context_of j w e (address c w 0).used }))
@@ -161,22 +147,9 @@ plain_reached c j w i e r d p a =
 -- an instruction that is no call does what its row plans
 planned_by : (c : Core) (j : Job) (reads : List ℕ) (x : Context) (i : Instruction) → is_call i ≡ false → done_by c j reads x i ≡ outcome_of c j (row_of c x i)
 unfolding done_by
-planned_by c j reads x (Move op m) h = refl
-planned_by c j reads x Exch h = refl
-planned_by c j reads x (Arithmetic op m) h = refl
-planned_by c j reads x (Shift op) h = refl
-planned_by c j reads x (Branch op) h = refl
-planned_by c j reads x Xct h = refl
-planned_by c j reads x (Stack op) h = refl
-planned_by c j reads x (Compare op k) h = refl
-planned_by c j reads x (Boolean k m) h = refl
-planned_by c j reads x (Half k m) h = refl
-planned_by c j reads x (Test m k n) h = refl
-planned_by c j reads x (Byte op) h = refl
 planned_by c j reads x Iot h = cc
 planned_by c j reads x Call h = cc
-planned_by c j reads x Break h = refl
-planned_by c j reads x Illegal h = refl
+planned_by c j reads x _ h = refl
 
 pub unit_by : (c : Core) (j : Job) (r : Reached) (o : Outcome) → (reached c j).answer ≡ Ok r → is_call r.instruction ≡ false
     → outcome_of c j (row_of c r.context r.instruction) ≡ o → unit c j ≡ o
@@ -215,20 +188,7 @@ is_called c j r e h = subst IsCalled (sym (ap (outcome_at c j (reached c j).read
     go : (i : Instruction) → is_call i ≡ true → IsCalled (done_by c j (reached c j).reads r.context i)
     go Iot h = tt
     go Call h = tt
-    go (Move op m) h = cc
-    go Exch h = cc
-    go (Arithmetic op m) h = cc
-    go (Shift op) h = cc
-    go (Branch op) h = cc
-    go Xct h = cc
-    go (Stack op) h = cc
-    go (Compare op k) h = cc
-    go (Boolean k m) h = cc
-    go (Half k m) h = cc
-    go (Test m k n) h = cc
-    go (Byte op) h = cc
-    go Break h = cc
-    go Illegal h = cc
+    go _ h = cc
 
 -- what stands at the PC: its unit
 pub stands_at : (c : Core) (j : Job) (w : ℕ) (e : Address) → read_of c j.pc ≡ Ok w → (address c w 0).answer ≡ Ok e
@@ -261,22 +221,9 @@ pub no_other : (c : Core) (j : Job) (r : Reached) → Ok r ≡ (reached c j).ans
 no_other c j r e m n q = no_call c j r (sym e) (other r.instruction m n) q
   where
     other : (i : Instruction) → (i ≡ Iot → ⊥) → (i ≡ Call → ⊥) → is_call i ≡ false
-    other (Move op m) a b = refl
-    other Exch a b = refl
-    other (Arithmetic op m) a b = refl
-    other (Shift op) a b = refl
-    other (Branch op) a b = refl
-    other Xct a b = refl
-    other (Stack op) a b = refl
-    other (Compare op k) a b = refl
-    other (Boolean k m) a b = refl
-    other (Half k m) a b = refl
-    other (Test m k n) a b = refl
-    other (Byte op) a b = refl
     other Iot a b = absurd (a refl)
     other Call a b = absurd (b refl)
-    other Break a b = refl
-    other Illegal a b = refl
+    other _ a b = refl
 
 pub no_fault : (c : Core) (j : Job) (f : Fault) → (reached c j).answer ≡ Err f → IsCalled (unit c j) → ⊥
 unfolding unit

@@ -2,7 +2,7 @@
 
 use super::inferiors::{MAKER, compare_after};
 use super::targets::compare_ends;
-use super::{compare, line, shows, word};
+use super::{compare, line, registers, shows};
 use std::test::Fail;
 
 /// Calls of CORBLK and how each ends, as those on inferiors. `makes` is an end of operation 1, which clears its page before,
@@ -111,21 +111,13 @@ fn protected_page(rt: HostRuntime) -> Result<(), Fail> {
         if let Some((call, told)) = row.split_once(" = ") {
             let (at, block) = call.split_once(" ").expect(&rt, "a block");
             let (letters, told) = told.split_once(" = ").expect(&rt, "registers");
-            let (runs, told) = told.split_once(" ").expect(&rt, "RUN or STOP");
-            let (pc, pending) = told.split_once(" ").expect(&rt, "a PC word");
             let session = format!(in alloc;
                 "{BEFORE}100/ 43000000120 0 43000000130 0 {at}\n150/ {block}\n{BEHIND}"
             )?;
             let mut shown = format!(in alloc;
-                "J 0\nY 0 0\nT 0 4. 1* 5. 1* 1.\nT 0 {letters}\nE 0 002000 440700000300 000000000001 000000000036 000000000000\nS 0 650000000000 700000000000 - 0 {runs} "
+                "J 0\nY 0 0\nT 0 4. 1* 5. 1* 1.\nT 0 {letters}\nE 0 002000 440700000300 000000000001 000000000036 000000000000\nS 0 650000000000 700000000000 - 0 "
             )?;
-            word(&mut shown, pc)?;
-            shown.push(' ')?;
-            word(&mut shown, pending)?;
-            line(
-                &mut shown,
-                " 000000000000 000000000000 000000000000 000000000000 000000000000",
-            )?;
+            registers(&rt, &mut shown, told)?;
             shows(alloc, &rt, &session, &shown)?;
         }
     }

@@ -1,5 +1,5 @@
 use Rattle.its_world.specs.World.{state_of}
-use Rattle.its_top.specs.Answer.{RunsSo}
+use Rattle.its_plain.proofs.WhoRunsLaws.{RunsSo}
 use Rattle.its_top.proofs.circle.turn_after.Given as goal
 
 abbrev pub invariant-loop-slot : goal.invariant-loop-slot

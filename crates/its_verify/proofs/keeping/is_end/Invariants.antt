@@ -1,6 +1,6 @@
 use Rattle.std.proofs.Common.{◌≡◌, length}
 use Rattle.std.specs.Prelude.{codes}
-use Rattle.its_session.specs.Grammar.{words_of}
+use Rattle.its_word.specs.Text.{words_of}
 use Rattle.its_verify.specs.Verified.{is_only}
 use Rattle.its_verify.proofs.keeping.is_end.Given as goal
 

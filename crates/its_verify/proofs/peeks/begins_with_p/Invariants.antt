@@ -1,6 +1,6 @@
 use Rattle.std.proofs.Common.{◌≡◌, length}
 use Rattle.std.specs.Prelude.{codes}
-use Rattle.its_session.specs.Grammar.{words_of}
+use Rattle.its_word.specs.Text.{words_of}
 use Rattle.its_verify.specs.Lines.{begins_with}
 use Rattle.its_verify.proofs.peeks.begins_with_p.Given as goal
 

@@ -1,5 +1,5 @@
 use Rattle.its_direct.specs.Plain.{machine_of}
-use Rattle.its_verify.specs.Trial.{RunsSo}
+use Rattle.its_plain.proofs.WhoRunsLaws.{RunsSo}
 use Rattle.its_verify.proofs.judge.Judge.turn_after.Given as goal
 
 abbrev pub invariant-loop-slot : goal.invariant-loop-slot

@@ -1,6 +1,6 @@
 use Rattle.std.proofs.Common.{◌≡◌, ◌≤◌, ◌+◌, ◌*◌, ◌++◌, length, map}
-use Rattle.its_session.specs.Grammar.{words_of}
-use Rattle.its_session.proofs.words.words.Given as goal
+use Rattle.its_word.specs.Text.{words_of}
+use Rattle.its_word.proofs.runs.words.Given as goal
 
 abbrev pub decreases-loop-run : goal.decreases-loop-run
 decreases-loop-run l = length l.rest

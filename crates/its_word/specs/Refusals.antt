@@ -1,0 +1,16 @@
+-- Why a line of the operator is refused, as a session says it.
+use Rattle.its_word.specs.declared.session.Reason.{Reason}
+use Rattle.its_word.specs.declared.session.Reason.TheVariants as reasons
+use Rattle.its_word.specs.declared.session.Refusal.{Refusal}
+use Rattle.its_word.specs.declared.session.Refusal.TheVariants as refusals
+
+-- a refusal, as a session says it
+abbrev pub reason_of : Refusal → Reason
+reason_of refusals.NoJob = reasons.NoJob
+reason_of refusals.NoConsole = reasons.NoCons
+reason_of refusals.NoPage = reasons.NoPage
+reason_of refusals.ReadOnly = reasons.ReadOnly
+reason_of refusals.NoFile = reasons.NoFile
+reason_of refusals.Exists = reasons.Exists
+reason_of refusals.Full = reasons.Full
+reason_of refusals.Range = reasons.Range
