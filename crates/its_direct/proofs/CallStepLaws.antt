@@ -30,7 +30,7 @@ use Rattle.its_plain.specs.Change.{channel_in, in_job, superiors, superior_in}
 use Rattle.its_plain.specs.Decide.{argument_of, call_named, inferior_on, listed, reach, reach_by, target, target_by, with_below}
 use Rattle.its_plain.specs.Footprint.{SiteFits, among}
 use Rattle.its_plain.specs.Job.{bit_of, with_pending}
-use Rattle.its_plain.specs.Machine.{Chan, Shut, TtyIn, TtyOut, Reads, Writes, On, Machine, Whole}
+use Rattle.its_plain.specs.Machine.{Chan, On, Machine, Whole}
 use Rattle.its_plain.specs.Unrolled.{is_running}
 use Rattle.its_plain.proofs.StepLaws.{step_by}
 use Rattle.its_local.proofs.FitsLaws.{site_fits}

@@ -7,7 +7,7 @@ use Rattle.std.proofs.lemmas.List.{drop_more, get_or-set_same, get_or-set_other,
 use Rattle.its_word.specs.Directory.{with_changed, longer}
 use Rattle.its_word.specs.Only.{Only, Same}
 use Rattle.its_word.specs.declared.jobs.Channel.{Channel}
-use Rattle.its_word.specs.declared.jobs.Channel.TheVariants.{Closed, TtyIn, TtyOut, Reading, Writing, Usr}
+use Rattle.its_word.specs.declared.jobs.Channel.TheVariants.{Closed, Reading, Writing}
 use Rattle.its_word.specs.declared.jobs.Job.{Job}
 use Rattle.its_word.specs.declared.session.Reason.{Reason}
 use Rattle.its_word.specs.declared.session.Reason.TheVariants as reasons
@@ -22,7 +22,7 @@ use Rattle.its_files.proofs.RoomBehindLaws.{no_room, most_appended, room_appende
 use Rattle.its_jobs.specs.Table.{Table, job_at, superior_at}
 use Rattle.its_plain.specs.CallFile.{most_files, is_full, file_named, has_file}
 use Rattle.its_plain.specs.Change.{channel_in}
-use Rattle.its_plain.specs.Machine.{Names, File, Chan, Machine}
+use Rattle.its_plain.specs.Machine.{Names, File, Machine}
 use Rattle.its_plain.specs.Machine as machines
 use Rattle.its_plain.specs.Operator.{and_then}
 use Rattle.its_plain.specs.OperatorClock.{clock_end}

@@ -38,7 +38,6 @@ use Rattle.its_stepped.proofs.DecodingLaws.{decoding}
 use Rattle.its_stepped.proofs.FrameLaws.{stored_one}
 use Rattle.its_stepped.proofs.GivenLaws.{decision_duty}
 use Rattle.its_stepped.proofs.OwnLaws.{spared, job_kept}
-use Rattle.its_plain.proofs.TargetLaws.{target_on}
 use Rattle.its_stepped.proofs.UnwindLaws.{most_few}
 use Rattle.its_parts.specs.Can.{HasJob}
 use Rattle.its_direct.specs.Plain.{machine_of, Tidy}

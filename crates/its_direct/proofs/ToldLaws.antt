@@ -1,5 +1,5 @@
 -- What an event that was obeyed leaves: what holds between two events, the place of the next line, and the jobs that there were.
-use Rattle.std.specs.Prelude.{◌≡◌, ◌<◌, ℕ, Bool, Option, Some, None, IfOk, OnErr, List, Result, Ok, Err, refl}
+use Rattle.std.specs.Prelude.{◌≡◌, ◌<◌, ℕ, Option, Some, None, IfOk, OnErr, List, Result, Ok, Err, refl}
 use Rattle.std.proofs.Common.{ap, sym, subst, ◌∙◌, arith}
 use Rattle.its_word.specs.Limits.{slots}
 use Rattle.its_word.specs.Tree.{least_free}

@@ -1,6 +1,6 @@
 //! What the lines DIR, SHOW, STATE and EXAM show.
-ghost use Rattle.std.specs.Prelude.{◌≡◌, ◌<◌, ◌≤◌, ◌*◌, ◌+◌, ◌++◌, ◌^◌, [], true, IfSome, length, map, take, drop, option_map, slice_get};
-ghost use Rattle.std.specs.List.{cons_option, list_all};
+ghost use Rattle.std.specs.Prelude.{◌≡◌, ◌<◌, ◌≤◌, ◌*◌, ◌+◌, ◌^◌, true, IfSome, length, map, take, drop, option_map};
+ghost use Rattle.std.specs.List.{list_all};
 ghost use Rattle.its_files.specs.Files.{entry_at, is_file, directory, file_at as file_of, words_at};
 ghost use Rattle.its_plain.specs.CallFile.{file_named};
 ghost use Rattle.its_plain.specs.OperatorFiles.{is_in, files_in, show_of};

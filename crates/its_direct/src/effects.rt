@@ -1,5 +1,5 @@
 //! What calls change in cores, registers, consoles and alarms: stores, registers left, bytes, holders, pages and variables.
-ghost use Rattle.std.specs.Prelude.{◌≡◌, ◌<◌, ◌^◌, ◌∷◌, [], None, Some, is_some, length, slice_set};
+ghost use Rattle.std.specs.Prelude.{◌≡◌, ◌<◌, ◌^◌, ◌∷◌, [], None, Some, length};
 ghost use Rattle.its_word.specs.Console.{most_waiting};
 ghost use Rattle.its_word.specs.Core.{page_of, pages_mapped, with_page, zero_page};
 ghost use Rattle.its_word.specs.Limits.{slots, most_pages};

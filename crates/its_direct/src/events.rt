@@ -6,8 +6,7 @@ ghost use Rattle.its_word.specs.declared.session.Place.TheVariants as places;
 ghost use Rattle.its_session.specs.Events.{place_after};
 ghost use Rattle.its_session.specs.Fits.{EventFits};
 ghost use Rattle.its_plain.specs.Own.{names_of};
-ghost use Rattle.its_stepped.specs.Alarmed.{Alarmed};
-ghost use Rattle.its_direct.specs.Plain.{machine_of, Tidy};
+ghost use Rattle.its_direct.specs.Plain.{Tidy};
 ghost use Rattle.its_direct.specs.declared.plain.Spot.TheVariants as spots;
 ghost use Rattle.its_direct.specs.Events.{answered, place_of, IsTold, JobsStay, Kept, MayStand, SpotFits, Told};
 

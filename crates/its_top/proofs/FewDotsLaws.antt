@@ -1,8 +1,8 @@
 -- The lines that the monitor writes have at most twelve `.` in a row (docs/STEPS.md, "Lines").
-use Rattle.std.specs.Prelude.{◌≡◌, ◌<◌, ◌≤◌, ℕ, zero, suc, ◌+◌, List, [], ◌∷◌, length, refl}
+use Rattle.std.specs.Prelude.{◌≡◌, ◌<◌, ◌≤◌, ℕ, zero, suc, ◌+◌, List, ◌∷◌, length, refl}
 use Rattle.std.proofs.Common.{sym, subst, arith}
 use Rattle.std.proofs.lemmas.List.{drop_at}
-use Rattle.its_word.specs.Item.{Item, Read, Unread, InTurn, Beyond}
+use Rattle.its_word.specs.Item.{Item, Read, InTurn}
 use Rattle.its_word.specs.declared.calls.Pace.{Pace}
 use Rattle.its_word.specs.declared.calls.Pace.TheVariants.{Work}
 use Rattle.its_plain.specs.Licence.{Dots, dots_after, dots_after_line}

@@ -3,7 +3,7 @@ use Rattle.std.specs.Prelude.{◌≡◌, ℕ, ◌+◌, List, [], ◌∷◌, ◌+
 use Rattle.std.proofs.Common.{sym, ◌∙◌, ap, subst, arith, append_assoc, append-nil}
 use Rattle.std.proofs.lemmas.Grind.{flat_map-append}
 use Rattle.std.proofs.lemmas.List.{length-append, drop_at}
-use Rattle.its_word.specs.Item.{Item, Read, Unread, InTurn, Beyond}
+use Rattle.its_word.specs.Item.{Item, Read, InTurn}
 use Rattle.its_word.specs.declared.calls.Pace.{Pace}
 use Rattle.its_word.specs.declared.calls.Pace.TheVariants.{Step, Work, Wait, Off}
 use Rattle.its_word.specs.declared.session.Event.{Event}

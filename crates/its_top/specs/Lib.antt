@@ -10,3 +10,4 @@ pub mod Performing
 pub mod Generating
 pub mod FewDots
 pub mod Top
+pub mod Causes

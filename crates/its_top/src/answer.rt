@@ -1,11 +1,11 @@
-ghost use Rattle.std.specs.Prelude.{◌≡◌, ◌≢◌, ◌≤◌, ◌<◌, ◌-◌, ◌^◌};
-ghost use Rattle.its_io.specs.Bytes.{next_fault};
+ghost use Rattle.std.specs.Prelude.{◌≡◌, ◌≤◌, ◌<◌, ◌-◌};
 ghost use Rattle.its_word.specs.Limits.{slots};
 ghost use Rattle.its_session.specs.Fits.{EventFits};
 ghost use Rattle.its_stepped.specs.Lines.{paces_of, ticked};
 ghost use Rattle.its_world.specs.World.{state_of};
 ghost use Rattle.its_operator.specs.Kept.{Kept};
 ghost use Rattle.its_print.specs.Printing.{Ticks, text_of_line};
+ghost use Rattle.its_top.specs.Causes.{TurnCause};
 ghost use Rattle.its_top.specs.Answer.{Answered, FindsStart, Tells, block_of};
 
 use super::performing::{Runs, paces_of, perform};
@@ -34,9 +34,7 @@ pub fn answer<K: Sink>(
     ensures sound { Kept m.new.world }
     ensures slot { p.new.slot < slots }
     ensures kept { p.new.number ≡ p.old.number }
-    ensures later { K.faults out.old ≤ K.faults out.new }
-    ensures unfailed { result ≢ Turn.Fault → K.faults out.new ≡ K.faults out.old }
-    ensures fault { result ≡ Turn.Fault → K.faults out.new ≡ next_fault (K.faults out.old) }
+    ensures cause { TurnCause result (K.faults out.old) (K.faults out.new) }
 {
     let number = p.number;
     let performed = perform(m, p, event, runs);
@@ -52,9 +50,7 @@ pub fn tick_line<K: Sink>(m: &mut Monitor, s: u8, n: u32, runs: &mut Runs, out: 
     ensures told { Tells result Turn.On (text_of_line (Ticks s (paces_of (state_of m.old.world) s n))) (K.written out.old) (K.written out.new) }
     ensures state { state_of m.new.world ≡ ticked (state_of m.old.world) s n }
     ensures sound { Kept m.new.world }
-    ensures later { K.faults out.old ≤ K.faults out.new }
-    ensures unfailed { result ≢ Turn.Fault → K.faults out.new ≡ K.faults out.old }
-    ensures fault { result ≡ Turn.Fault → K.faults out.new ≡ next_fault (K.faults out.old) }
+    ensures cause { TurnCause result (K.faults out.old) (K.faults out.new) }
 {
     runs.clear();
     paces_of(m, s, n, runs);

@@ -1,9 +1,8 @@
 //! The command `check`: the lines of a session are looked at by the grammar alone. No monitor is made.
-ghost use Rattle.std.specs.Prelude.{◌≡◌, ◌≢◌, ◌≤◌, ◌<◌, ◌+◌, ◌-◌, ◌*◌, ◌^◌, ◌⊎◌, None, Some, IfSome, IfNone, OnOk, OnErr, true, [], ◌∷◌, length};
-ghost use Rattle.std.specs.Io.KnownBytes.{Appends};
-ghost use Rattle.its_io.specs.Bytes.{next_fault};
+ghost use Rattle.std.specs.Prelude.{◌≡◌, ◌≢◌, ◌≤◌, ◌<◌, ◌-◌, ◌*◌, ◌⊎◌, None, Some, true};
+ghost use Rattle.its_io.specs.Bytes.{HasCause, next_fault};
 ghost use Rattle.its_top.specs.Telling.{goes_on_after};
-ghost use Rattle.its_top.specs.Checking.{checked_text, CheckedBy, Finding, WroteText, Reported, Check};
+ghost use Rattle.its_top.specs.Checking.{CheckedBy, Finding, WroteText, Reported, Check};
 
 use super::counts::count_line;
 use super::status::Status;
@@ -59,9 +58,7 @@ fn goes_on_after(event: &Event) -> bool
 #[tactic(auto, using(crate::proofs::CheckingLaws::so_start, crate::proofs::CheckingLaws::so_next, crate::proofs::CheckingLaws::check_over, crate::proofs::CheckingLaws::check_fault))]
 fn find<S: Source>(src: &mut S) -> Result<Checked, Failed>
     ensures found { Finding result (S.left src.old) (S.left src.new) }
-    ensures later { S.faults src.old ≤ S.faults src.new }
-    ensures unfailed { OnOk result (S.faults src.new ≡ S.faults src.old) }
-    ensures fault { OnErr result (S.faults src.new ≡ next_fault (S.faults src.old)) }
+    ensures cause { HasCause (S.faults src.old) (S.faults src.new) result }
 {
     let mut items = Items::new();
     loop {

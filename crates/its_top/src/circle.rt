@@ -1,11 +1,11 @@
 //! RUN: turns in a circle of slots, behind its line.
-ghost use Rattle.std.specs.Prelude.{◌≡◌, ◌≢◌, ◌<◌, ◌≤◌, IfSome};
-ghost use Rattle.its_io.specs.Bytes.{next_fault};
+ghost use Rattle.std.specs.Prelude.{◌≡◌, ◌<◌, ◌≤◌, IfSome};
 ghost use Rattle.its_word.specs.Limits.{slots};
 ghost use Rattle.its_session.specs.Fits.{EventFits};
 ghost use Rattle.its_plain.specs.Unrolled.{turn_after};
 ghost use Rattle.its_world.specs.World.{state_of};
 ghost use Rattle.its_operator.specs.Kept.{Kept};
+ghost use Rattle.its_top.specs.Causes.{TurnCause};
 ghost use Rattle.its_top.specs.Answer.{Circled, FindsStart, Follows, block_of};
 
 use super::answer::{answer, tick_line};
@@ -41,9 +41,7 @@ pub fn follow<K: Sink>(
     ensures slot { p.new.slot < slots }
     ensures last { last.new < slots }
     ensures number { p.new.number ≡ p.old.number }
-    ensures later { K.faults out.old ≤ K.faults out.new }
-    ensures unfailed { result ≢ Turn.Fault → K.faults out.new ≡ K.faults out.old }
-    ensures fault { result ≡ Turn.Fault → K.faults out.new ≡ next_fault (K.faults out.old) }
+    ensures cause { TurnCause result (K.faults out.old) (K.faults out.new) }
 {
     match event {
         Event::Run { n, q } => circle(m, last, *n, *q, runs, out),
@@ -67,9 +65,7 @@ fn circle<K: Sink>(
     ensures circled { Circled result (state_of m.old.world) last.old n q (state_of m.new.world) last.new (K.written out.old) (K.written out.new) }
     ensures sound { Kept m.new.world }
     ensures last { last.new < slots }
-    ensures later { K.faults out.old ≤ K.faults out.new }
-    ensures unfailed { result ≢ Turn.Fault → K.faults out.new ≡ K.faults out.old }
-    ensures fault { result ≡ Turn.Fault → K.faults out.new ≡ next_fault (K.faults out.old) }
+    ensures cause { TurnCause result (K.faults out.old) (K.faults out.new) }
 {
     for _k in 0..n {
         let Some(slot) = turn_after(m, *last) else {

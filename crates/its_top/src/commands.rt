@@ -1,9 +1,9 @@
 //! The words of the program.
-ghost use Rattle.std.specs.Prelude.{if◌then◌else◌, ◌^◌, nat_le, ◌≡◌, ◌≢◌, ◌≤◌, ◌⊎◌, ◌==◌, ◌&&◌, map, length, slice_get, option_map, string_bytes, true, false, IfOk, IfErr, OnErr, Some, None, codes};
+ghost use Rattle.std.specs.Prelude.{if◌then◌else◌, ◌^◌, nat_le, ◌≡◌, ◌≢◌, ◌≤◌, ◌&&◌, map, option_map, string_bytes, true, false, IfOk, IfErr, Some, None, codes};
 ghost use Rattle.std.specs.List.{list_any};
 ghost use Rattle.clap.specs.Words.{first_value, found_of, kind_of};
 ghost use Rattle.clap.specs.declared.error.kind.ErrorKind.TheVariants as kinds;
-ghost use Rattle.its_top.specs.Commands.{bare_command, counted_command, command_by, command_from, command_of, is_option, is_rounds, IfGenerates};
+ghost use Rattle.its_top.specs.Commands.{bare_command, counted_command, command_from, command_of, is_option, IfGenerates};
 
 use clap::error::ErrorKind;
 use clap::{Arg, ArgMatches, Error};

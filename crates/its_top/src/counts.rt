@@ -1,5 +1,4 @@
 ghost use Rattle.std.specs.Prelude.{◌≡◌, ◌≤◌, length};
-ghost use Rattle.its_word.specs.Text.{digits_of};
 ghost use Rattle.its_top.specs.Counts.{count_line};
 
 use arrayvec::ArrayVec;

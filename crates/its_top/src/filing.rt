@@ -1,6 +1,5 @@
 //! The lines on files: FILE with its words, DIR and SHOW.
-ghost use Rattle.std.specs.Prelude.{◌≡◌, ◌≢◌, ◌≤◌, ◌<◌, ◌+◌, ◌-◌, ◌/◌, List, true, None, Ok, Err, IfErr, OnOk, length, map, min, take, drop};
-ghost use Rattle.its_io.specs.Bytes.{next_fault};
+ghost use Rattle.std.specs.Prelude.{◌≡◌, ◌≤◌, ◌<◌, ◌+◌, ◌-◌, ◌/◌, List, true, None, Ok, Err, IfErr, OnOk, length, map, min, take, drop};
 ghost use Rattle.its_word.specs.declared.calls.Pace.{Pace};
 ghost use Rattle.its_files.specs.Files.{entry_at, is_file, words_at};
 ghost use Rattle.its_plain.specs.Operator.{Block};
@@ -10,6 +9,7 @@ ghost use Rattle.its_world.specs.World.{state_of};
 ghost use Rattle.its_word.specs.Refusals.{reason_of};
 ghost use Rattle.its_operator.specs.Kept.{Kept, Lands};
 ghost use Rattle.its_print.specs.Printing.{Filed, Row, text_of_line, text};
+ghost use Rattle.its_top.specs.Causes.{TurnCause};
 ghost use Rattle.its_top.specs.Answer.{Tells, Stood, block_of};
 ghost use Rattle.its_top.specs.Performing.{Performed};
 
@@ -123,9 +123,7 @@ pub fn print_files<K: Sink>(m: &mut Monitor, d: Word, count: u32, out: &mut K) -
     ensures told { Tells result Turn.On (text (listing d (files_in d (state_of m.old.world).raw.files))) (K.written out.old) (K.written out.new) }
     ensures state { state_of m.new.world ≡ state_of m.old.world }
     ensures sound { Kept m.new.world }
-    ensures later { K.faults out.old ≤ K.faults out.new }
-    ensures unfailed { result ≢ Turn.Fault → K.faults out.new ≡ K.faults out.old }
-    ensures fault { result ≡ Turn.Fault → K.faults out.new ≡ next_fault (K.faults out.old) }
+    ensures cause { TurnCause result (K.faults out.old) (K.faults out.new) }
 {
     let mut line = ArrayVec::new();
     print_dir(d, count, &mut line);
@@ -145,9 +143,7 @@ fn print_each_file<K: Sink>(m: &mut Monitor, d: Word, count: u32, out: &mut K) -
     ensures told { Tells result Turn.On (text (map filed_line (files_in d (state_of m.old.world).raw.files))) (K.written out.old) (K.written out.new) }
     ensures state { state_of m.new.world ≡ state_of m.old.world }
     ensures sound { Kept m.new.world }
-    ensures later { K.faults out.old ≤ K.faults out.new }
-    ensures unfailed { result ≢ Turn.Fault → K.faults out.new ≡ K.faults out.old }
-    ensures fault { result ≡ Turn.Fault → K.faults out.new ≡ next_fault (K.faults out.old) }
+    ensures cause { TurnCause result (K.faults out.old) (K.faults out.new) }
 {
     for k in 0..count {
         if let Some(show) = m.dir(d, k) {
@@ -163,9 +159,7 @@ fn print_each_file<K: Sink>(m: &mut Monitor, d: Word, count: u32, out: &mut K) -
 /// The line of a file.
 fn print_filed<K: Sink>(show: FileShow, out: &mut K) -> Turn
     ensures told { Tells result Turn.On (text_of_line (Filed show)) (K.written out.old) (K.written out.new) }
-    ensures later { K.faults out.old ≤ K.faults out.new }
-    ensures unfailed { result ≢ Turn.Fault → K.faults out.new ≡ K.faults out.old }
-    ensures fault { result ≡ Turn.Fault → K.faults out.new ≡ next_fault (K.faults out.old) }
+    ensures cause { TurnCause result (K.faults out.old) (K.faults out.new) }
 {
     let mut line = ArrayVec::new();
     print_file(&show, &mut line);
@@ -200,9 +194,7 @@ pub fn print_words_of<K: Sink>(
     ensures told { Tells result Turn.On (text (shown_lines d x y (words_at m.old.world.files id))) (K.written out.old) (K.written out.new) }
     ensures state { state_of m.new.world ≡ state_of m.old.world }
     ensures sound { Kept m.new.world }
-    ensures later { K.faults out.old ≤ K.faults out.new }
-    ensures unfailed { result ≢ Turn.Fault → K.faults out.new ≡ K.faults out.old }
-    ensures fault { result ≡ Turn.Fault → K.faults out.new ≡ next_fault (K.faults out.old) }
+    ensures cause { TurnCause result (K.faults out.old) (K.faults out.new) }
 {
     let count = m.file_length(id).unwrap_or(0);
     let mut line = ArrayVec::new();
@@ -224,9 +216,7 @@ fn print_rows<K: Sink>(m: &mut Monitor, id: u32, count: u32, out: &mut K) -> Tur
     ensures told { Tells result Turn.On (text (rows ((count + 7) / 8) (words_at m.old.world.files id))) (K.written out.old) (K.written out.new) }
     ensures state { state_of m.new.world ≡ state_of m.old.world }
     ensures sound { Kept m.new.world }
-    ensures later { K.faults out.old ≤ K.faults out.new }
-    ensures unfailed { result ≢ Turn.Fault → K.faults out.new ≡ K.faults out.old }
-    ensures fault { result ≡ Turn.Fault → K.faults out.new ≡ next_fault (K.faults out.old) }
+    ensures cause { TurnCause result (K.faults out.old) (K.faults out.new) }
 {
     for row in 0..count.div_ceil(ROW_WORDS) {
         let from = row * ROW_WORDS;
@@ -248,9 +238,7 @@ fn print_row_of<K: Sink>(m: &mut Monitor, id: u32, from: u32, count: u32, out: &
     ensures told { Tells result Turn.On (text_of_line (Row (take 8 (drop from (words_at m.old.world.files id))))) (K.written out.old) (K.written out.new) }
     ensures stood { Stood m.old.world m.new.world }
     ensures sound { Kept m.new.world }
-    ensures later { K.faults out.old ≤ K.faults out.new }
-    ensures unfailed { result ≢ Turn.Fault → K.faults out.new ≡ K.faults out.old }
-    ensures fault { result ≡ Turn.Fault → K.faults out.new ≡ next_fault (K.faults out.old) }
+    ensures cause { TurnCause result (K.faults out.old) (K.faults out.new) }
 {
     let words = row_of(m, id, from, count);
     let mut line = ArrayVec::new();

@@ -1,8 +1,8 @@
 //! The lines of LIST, which shows words of a job typed out.
 
-ghost use Rattle.std.specs.Prelude.{◌≡◌, ◌≢◌, ◌≤◌, ◌<◌, ◌+◌, ◌^◌, length};
-ghost use Rattle.its_io.specs.Bytes.{next_fault};
+ghost use Rattle.std.specs.Prelude.{◌≤◌, ◌<◌, ◌+◌, ◌^◌, length};
 ghost use Rattle.its_print.specs.Printing.{Listed, listed, text_of_line, text};
+ghost use Rattle.its_top.specs.Causes.{TurnCause};
 ghost use Rattle.its_top.specs.Answer.{Tells};
 
 use super::turn::Turn;
@@ -18,9 +18,7 @@ pub fn list_words<K: Sink>(s: u8, a: u32, words: &[Word], out: &mut K) -> Turn
     requires start { a < 2 ^ 18 }
     requires few { length words.now ≤ 8 }
     ensures told { Tells result Turn.On (text (listed s a words.now)) (K.written out.old) (K.written out.new) }
-    ensures later { K.faults out.old ≤ K.faults out.new }
-    ensures unfailed { result ≢ Turn.Fault → K.faults out.new ≡ K.faults out.old }
-    ensures fault { result ≡ Turn.Fault → K.faults out.new ≡ next_fault (K.faults out.old) }
+    ensures cause { TurnCause result (K.faults out.old) (K.faults out.new) }
 {
     let mut place = a;
     for w in words {
@@ -36,9 +34,7 @@ pub fn list_words<K: Sink>(s: u8, a: u32, words: &[Word], out: &mut K) -> Turn
 /// One of them.
 fn list_word<K: Sink>(s: u8, a: u32, word: Word, out: &mut K) -> Turn
     ensures told { Tells result Turn.On (text_of_line (Listed s a word)) (K.written out.old) (K.written out.new) }
-    ensures later { K.faults out.old ≤ K.faults out.new }
-    ensures unfailed { result ≢ Turn.Fault → K.faults out.new ≡ K.faults out.old }
-    ensures fault { result ≡ Turn.Fault → K.faults out.new ≡ next_fault (K.faults out.old) }
+    ensures cause { TurnCause result (K.faults out.old) (K.faults out.new) }
 {
     let mut line = ArrayVec::new();
     print_listed(s, a, word, &mut line);

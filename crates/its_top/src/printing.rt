@@ -1,10 +1,10 @@
 //! What an event has come to is printed.
-ghost use Rattle.std.specs.Prelude.{◌≡◌, ◌≢◌, ◌≤◌, ◌+◌, ◌-◌, ◌^◌, [], IfOk, length};
-ghost use Rattle.its_io.specs.Bytes.{next_fault};
+ghost use Rattle.std.specs.Prelude.{◌≡◌, ◌≤◌, ◌-◌, [], IfOk, length};
 ghost use Rattle.its_world.specs.World.{state_of};
 ghost use Rattle.its_operator.specs.Kept.{Kept};
 ghost use Rattle.its_print.specs.Printing.{text_of_line, text};
 ghost use Rattle.its_print.specs.Runs.{paces_in};
+ghost use Rattle.its_top.specs.Causes.{TurnCause};
 ghost use Rattle.its_top.specs.Answer.{Tells};
 ghost use Rattle.its_top.specs.Performing.{Ready, line_of, lines_of, lines_over, lines_shown, turn_of, turn_over};
 
@@ -37,9 +37,7 @@ pub fn print<K: Sink>(
     ensures told { Tells result (turn_of performed.now) (text (lines_shown number performed.now (paces_in runs.now.items) m.old.world)) (K.written out.old) (K.written out.new) }
     ensures state { state_of m.new.world ≡ state_of m.old.world }
     ensures sound { Kept m.new.world }
-    ensures later { K.faults out.old ≤ K.faults out.new }
-    ensures unfailed { result ≢ Turn.Fault → K.faults out.new ≡ K.faults out.old }
-    ensures fault { result ≡ Turn.Fault → K.faults out.new ≡ next_fault (K.faults out.old) }
+    ensures cause { TurnCause result (K.faults out.old) (K.faults out.new) }
 {
     match performed {
         Ok(shown) => print_shown(m, shown, runs, out),
@@ -51,9 +49,7 @@ pub fn print<K: Sink>(
 #[tactic(auto, using(crate::proofs::WritingLaws::tells_nothing, crate::proofs::WritingLaws::tells_one))]
 fn print_over<K: Sink>(over: Over, number: u32, out: &mut K) -> Turn
     ensures told { Tells result (turn_over over) (text (lines_over number over)) (K.written out.old) (K.written out.new) }
-    ensures later { K.faults out.old ≤ K.faults out.new }
-    ensures unfailed { result ≢ Turn.Fault → K.faults out.new ≡ K.faults out.old }
-    ensures fault { result ≡ Turn.Fault → K.faults out.new ≡ next_fault (K.faults out.old) }
+    ensures cause { TurnCause result (K.faults out.old) (K.faults out.new) }
 {
     match over {
         Over::Ended => Turn::Ended,
@@ -70,9 +66,7 @@ fn print_shown<K: Sink>(m: &mut Monitor, shown: &Shown, runs: &Runs, out: &mut K
     ensures told { Tells result Turn.On (text (lines_of shown.now (paces_in runs.now.items) m.old.world)) (K.written out.old) (K.written out.new) }
     ensures state { state_of m.new.world ≡ state_of m.old.world }
     ensures sound { Kept m.new.world }
-    ensures later { K.faults out.old ≤ K.faults out.new }
-    ensures unfailed { result ≢ Turn.Fault → K.faults out.new ≡ K.faults out.old }
-    ensures fault { result ≡ Turn.Fault → K.faults out.new ≡ next_fault (K.faults out.old) }
+    ensures cause { TurnCause result (K.faults out.old) (K.faults out.new) }
 {
     match shown {
         Shown::Nothing => Turn::On,
@@ -88,9 +82,7 @@ fn print_shown<K: Sink>(m: &mut Monitor, shown: &Shown, runs: &Runs, out: &mut K
 pub fn print_reply<K: Sink>(reply: &Reply, runs: &Runs, out: &mut K) -> Turn
     requires letters { length (paces_in runs.now.items) ≤ 512 }
     ensures told { Tells result Turn.On (text_of_line (line_of reply.now (paces_in runs.now.items))) (K.written out.old) (K.written out.new) }
-    ensures later { K.faults out.old ≤ K.faults out.new }
-    ensures unfailed { result ≢ Turn.Fault → K.faults out.new ≡ K.faults out.old }
-    ensures fault { result ≡ Turn.Fault → K.faults out.new ≡ next_fault (K.faults out.old) }
+    ensures cause { TurnCause result (K.faults out.old) (K.faults out.new) }
 {
     let mut line = ArrayVec::new();
     put_reply(reply, runs, &mut line);

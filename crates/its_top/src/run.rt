@@ -1,4 +1,4 @@
-ghost use Rattle.std.specs.Prelude.{◌≡◌, ◌≢◌, ◌≤◌, ◌<◌, ◌+◌, ◌-◌, ◌*◌, ◌^◌, ◌⊎◌, [], IfSome, length};
+ghost use Rattle.std.specs.Prelude.{◌≡◌, ◌≢◌, ◌≤◌, ◌<◌, ◌-◌, ◌*◌, ◌^◌, ◌⊎◌, IfSome};
 ghost use Rattle.std.specs.Io.KnownBytes.{Appends};
 ghost use Rattle.its_io.specs.Bytes.{Rose, next_fault};
 ghost use Rattle.its_word.specs.Limits.{slots};
@@ -11,6 +11,7 @@ ghost use Rattle.its_stepped.specs.Turns.{with_turns};
 ghost use Rattle.its_world.specs.World.{state_of};
 ghost use Rattle.its_operator.specs.Kept.{Kept};
 ghost use Rattle.its_reader.specs.Items.{found_fits, ReadOut};
+ghost use Rattle.its_top.specs.Causes.{TurnCause};
 ghost use Rattle.its_top.specs.Answer.{FoundStart, block_of};
 ghost use Rattle.its_top.specs.Conclusion.{IsDone, Session, Takes};
 ghost use Rattle.its_top.specs.Top.{Transcribed, Completes, Refuses, RunsOn, Breaks, Begins};
@@ -112,9 +113,7 @@ fn take<K: Sink>(
     ensures slot { p.new.slot < slots }
     ensures last { last.new < slots }
     ensures number { p.new.number ≡ p.old.number }
-    ensures later { K.faults out.old ≤ K.faults out.new }
-    ensures unfailed { result ≢ Turn.Fault → K.faults out.new ≡ K.faults out.old }
-    ensures fault { result ≡ Turn.Fault → K.faults out.new ≡ next_fault (K.faults out.old) }
+    ensures cause { TurnCause result (K.faults out.old) (K.faults out.new) }
 {
     match found {
         Found::Line(event) => follow(m, p, last, event, runs, out),

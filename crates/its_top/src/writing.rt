@@ -2,6 +2,7 @@ ghost use Rattle.std.specs.Prelude.{◌≡◌, ◌≢◌, ◌≤◌, ◌-◌};
 ghost use Rattle.its_io.specs.Bytes.{next_fault};
 ghost use Rattle.its_print.specs.Printing.{Refused, text_of_line};
 ghost use Rattle.its_word.specs.Refusals.{reason_of};
+ghost use Rattle.its_top.specs.Causes.{TurnCause};
 ghost use Rattle.its_top.specs.Answer.{Tells};
 
 use super::turn::Turn;
@@ -27,9 +28,7 @@ pub fn tell<K: Sink>(out: &mut K, line: &ArrayVec<u8, 2048>, good: Turn) -> Turn
 /// Writes the `?` line of a refusal.
 pub fn refuse<K: Sink>(out: &mut K, number: u32, reason: Reason) -> Turn
     ensures told { Tells result Turn.Refused (text_of_line (Refused number reason)) (K.written out.old) (K.written out.new) }
-    ensures later { K.faults out.old ≤ K.faults out.new }
-    ensures unfailed { result ≢ Turn.Fault → K.faults out.new ≡ K.faults out.old }
-    ensures fault { result ≡ Turn.Fault → K.faults out.new ≡ next_fault (K.faults out.old) }
+    ensures cause { TurnCause result (K.faults out.old) (K.faults out.new) }
 {
     let mut line = ArrayVec::new();
     print_refusal(number, reason, &mut line);
@@ -39,9 +38,7 @@ pub fn refuse<K: Sink>(out: &mut K, number: u32, reason: Reason) -> Turn
 /// Writes the `?` line of a refusal of the monitor.
 pub fn refuse_by<K: Sink>(out: &mut K, number: u32, e: Refusal) -> Turn
     ensures told { Tells result Turn.Refused (text_of_line (Refused number (reason_of e))) (K.written out.old) (K.written out.new) }
-    ensures later { K.faults out.old ≤ K.faults out.new }
-    ensures unfailed { result ≢ Turn.Fault → K.faults out.new ≡ K.faults out.old }
-    ensures fault { result ≡ Turn.Fault → K.faults out.new ≡ next_fault (K.faults out.old) }
+    ensures cause { TurnCause result (K.faults out.old) (K.faults out.new) }
 {
     refuse(out, number, e.reason())
 }

@@ -1,10 +1,9 @@
 -- A slot that was put at the end of a wait ring stands there.
-use Rattle.std.specs.Prelude.{◌≡◌, ◌<◌, ◌≤◌, ◌+◌, ℕ, true, List, [], ◌∷◌, ◌++◌, length, slice_set}
+use Rattle.std.specs.Prelude.{◌≡◌, ◌<◌, ◌+◌, ℕ, true, List, [], ◌∷◌, ◌++◌, length, slice_set}
 use Rattle.std.proofs.Common.{sym, subst, arith}
 use Rattle.std.proofs.lemmas.List.{get_or-set_same}
 use Rattle.its_links.specs.Lists.{list_at, count}
 use Rattle.its_links.proofs.CountLaws.{hit_same, count-append}
-use Rattle.its_world.specs.Filed.{Blocked}
 use Rattle.its_world.specs.World.{frame_at}
 use Rattle.its_world.specs.declared.world.World.{World}
 use Rattle.its_monitor.specs.Ticks.{InRing, is_waiting}

@@ -10,7 +10,7 @@ use Rattle.its_word.specs.declared.session.Refusal.{Refusal}
 use Rattle.its_word.specs.declared.show.JobShow.{JobShow}
 use Rattle.its_print.specs.Printing.{Line, Refused, State, listed}
 use Rattle.its_plain.specs.Machine.{Machine, Whole}
-use Rattle.its_plain.specs.Operator.{Block, Does, Quits, Refuses, Ticks, no_block, nobody}
+use Rattle.its_plain.specs.Operator.{Block, Does, Quits, Ticks, no_block, nobody}
 use Rattle.its_plain.specs.OperatorFiles.{file_shown}
 use Rattle.its_plain.specs.OperatorJobs.{examined, state_shown}
 use Rattle.its_plain.specs.OperatorLines.{Lined, Done, Peeks, by_exam, by_state, in_a_line, lined, operate, peeked_at, shows}

@@ -1,6 +1,6 @@
 -- The items of a session, where its source tells its bytes.
 use Rattle.std.proofs.Common.{◌≡◌, ℕ, Bool, true, false, Option, Ok, List, [], ◌∷◌, ◌++◌, refl, sym, ap, subst, ◌∙◌}
-use Rattle.its_word.specs.Item.{Item, Read, Unread}
+use Rattle.its_word.specs.Item.{Unread}
 use Rattle.its_word.specs.Item as items
 use Rattle.its_word.specs.declared.session.Event.{Event}
 use Rattle.its_word.specs.declared.session.Reason.{Reason}

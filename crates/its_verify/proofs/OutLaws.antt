@@ -1,5 +1,5 @@
 -- Where the transcript is accepted, the source was read to its end: only at the end of a session is anything accepted.
-use Rattle.std.proofs.Common.{◌≡◌, ◌+◌, ◌-◌, ℕ, zero, suc, Bool, true, false, Option, Some, None, IfSome, Result, Ok, Err, List, [], ◌∷◌, ◌++◌, length, take, leb, refl, sym, ap, subst, ◌∙◌, inl, inr}
+use Rattle.std.proofs.Common.{◌≡◌, ◌+◌, ◌-◌, ℕ, zero, suc, Option, Some, None, IfSome, Result, Ok, Err, List, [], ◌∷◌, length, take, leb, ap, subst, inl, inr}
 use Rattle.std.proofs.lemmas.Bool.{cases_Bool}
 use Rattle.std.specs.Io.KnownBytes.{Consumes, IsAtEnd}
 use Rattle.std.specs.Prelude.{IfOk}
@@ -18,14 +18,14 @@ use Rattle.its_plain.specs.Unrolled.{turn_after}
 use Rattle.its_direct.specs.declared.events.Answer.{Answer}
 use Rattle.its_verify.specs.Finds.{ReadsOut, ReadsOutIf}
 use Rattle.its_verify.specs.Going.{GoneSo, LineSays}
-use Rattle.its_verify.specs.Hearing.{HearsOn, Says, answer_of, cut, same_as}
+use Rattle.its_verify.specs.Hearing.{Says, cut, same_as}
 use Rattle.its_verify.specs.Judge.{Judge, Verdict, Yes, No, at_end, led, led_by, saying, peeking, expects, turned, turned_by}
 use Rattle.its_verify.specs.Keeping.{Keeps}
 use Rattle.its_verify.specs.Letters.{ticked}
 use Rattle.its_verify.specs.Showing.{heard_of, lines_of}
 use Rattle.its_verify.specs.Sources.{IsTold, texts_of}
 use Rattle.its_verify.specs.Standing.{walk_of}
-use Rattle.its_verify.specs.Verified.{Answer as Said, Judged, Long, Cut, TooLong, within}
+use Rattle.its_verify.specs.Verified.{Answer as Said, Judged, within}
 use Rattle.its_verify.specs.declared.finding.Finding.{Finding}
 use Rattle.its_verify.specs.declared.finding.Finding.TheVariants as findings
 use Rattle.its_verify.specs.declared.hearing.Hearing.{Hearing}

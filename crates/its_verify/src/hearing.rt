@@ -1,5 +1,5 @@
 //! A hearing: the lines of a transcript, one by one.
-ghost use Rattle.std.specs.Prelude.{◌≡◌, ◌<◌, ◌≤◌, ◌∷◌, [], IfOk, length};
+ghost use Rattle.std.specs.Prelude.{◌<◌, ◌≤◌, ◌∷◌, [], IfOk, length};
 ghost use Rattle.its_io.specs.Bytes.{HasCause};
 ghost use Rattle.its_print.specs.Printing.{Refused};
 

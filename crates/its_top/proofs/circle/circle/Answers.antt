@@ -15,7 +15,7 @@ pub loop-k-preserved : goal.loop-k-preserved
 loop-k-preserved g c = record {
   sound = c.tick_line-turn.ensures.sound;
   last = c.in-Some.ensures.slot;
-  unfailed = c.tick_line-turn.ensures.unfailed (not_fault _ (sym c.goes_on.ensures ∙ c.if-not-goes_on.false)) ∙ c.loop-k.invariant.unfailed;
+  unfailed = c.tick_line-turn.ensures.cause.unfailed (not_fault _ (sym c.goes_on.ensures ∙ c.if-not-goes_on.false)) ∙ c.loop-k.invariant.unfailed;
   so_far = circle_turn _ _ _ _ _ _ _ _ _ _ _ _ _ c.loop-k-test.true c.loop-k.invariant.so_far (sym c.in-Some.ensures.turn) c.tick_line-turn.ensures.state
       (sym c.goes_on.ensures ∙ c.if-not-goes_on.false) c.tick_line-turn.ensures.told;
 }

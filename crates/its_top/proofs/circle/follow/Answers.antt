@@ -11,7 +11,5 @@ returns-in_default g c = record {
   slot = c.answer.ensures.slot;
   last = c.requires.last;
   number = c.answer.ensures.kept;
-  later = c.answer.ensures.later;
-  unfailed = c.answer.ensures.unfailed;
-  fault = c.answer.ensures.fault;
+  cause = c.answer.ensures.cause;
 }

@@ -22,7 +22,7 @@ loop-k-preserved g c = elim c.match-dir.branch [
         stood = standing_next _ _ _ c.requires.unmarked c.loop-k.invariant.stood c.dir.ensures.state c.dir.ensures.files;
         so_far = subst (λ o. WritesSo _ _ _ (g.K.Sink.written o)) (sym w.out-is)
             (writes_next _ _ _ _ _ _ _ on (listing_some _ _ _ _ _ _ _ c.requires.unmarked c.loop-k.invariant.stood (sym w.in-Some.is ∙ c.dir.ensures.shown) c.loop-k.invariant.so_far) w.print_filed-turn.ensures.told);
-        unfailed = ap g.K.Sink.faults w.out-is ∙ w.print_filed-turn.ensures.unfailed (not_fault _ on) ∙ c.loop-k.invariant.unfailed;
+        unfailed = ap g.K.Sink.faults w.out-is ∙ w.print_filed-turn.ensures.cause.unfailed (not_fault _ on) ∙ c.loop-k.invariant.unfailed;
       }
   | in_default w ↦ absurd (listing_none _ _ _ _ _ c.requires.unmarked c.loop-k.invariant.stood c.requires.count c.loop-k-test.true (sym w.in_default.is ∙ c.dir.ensures.shown))
 ]

@@ -22,7 +22,7 @@ loop-row-preserved g c =
       stood = standing_then _ _ _ c.loop-row.invariant.stood c.print_row_of-turn.ensures.stood;
       so_far = writes_next _ _ _ _ _ _ _ on (rows_next _ _ _ _ _ (omega (arith, n, c.loop-row-test.true)) c.loop-row.invariant.so_far)
           (told_as _ _ _ _ _ _ (ap (λ s. text_of_line (Row (take 8 (drop (c.loop-row.row * 8) (words_at s c.args.id))))) c.loop-row.invariant.stood.files) c.print_row_of-turn.ensures.told);
-      unfailed = c.print_row_of-turn.ensures.unfailed (not_fault _ on) ∙ c.loop-row.invariant.unfailed;
+      unfailed = c.print_row_of-turn.ensures.cause.unfailed (not_fault _ on) ∙ c.loop-row.invariant.unfailed;
     }
 
 pub returns-clause-told : goal.returns-clause-told

@@ -17,7 +17,7 @@ loop-w-preserved g c =
       place = omega (arith, c.loop-w.invariant.place);
       so_far = writes_next _ _ _ _ _ _ _ on
           (listing_next _ _ _ _ _ _ _ _ c.loop-w-test.true (get_or_read_under _ _ _ _ 0 c.w-item.is c.loop-w-test.true refl) c.loop-w.invariant.so_far) c.list_word-turn.ensures.told;
-      unfailed = c.list_word-turn.ensures.unfailed (not_fault _ on) ∙ c.loop-w.invariant.unfailed;
+      unfailed = c.list_word-turn.ensures.cause.unfailed (not_fault _ on) ∙ c.loop-w.invariant.unfailed;
     }
 
 pub returns-clause-told : goal.returns-clause-told

@@ -25,5 +25,5 @@ loop-found-preserved g c = record {
   so_far = so_next _ c.in-Ok.found _ _ _ _ _ _ _ _ c.loop-found.items c.next.new.self _ _ _ _ _ _ (sym c.goes_on.ensures ∙ c.if-not-goes_on.false) (sym c.in-Ok.ensures.number)
       c.loop-found.invariant.so_far c.in-Ok.ensures.finds c.take-turn.ensures.takes;
   read_unfailed = c.in-Ok.ensures.cause.kept ∙ c.loop-found.invariant.read_unfailed;
-  write_unfailed = c.take-turn.ensures.unfailed (not_fault _ (sym c.goes_on.ensures ∙ c.if-not-goes_on.false)) ∙ c.loop-found.invariant.write_unfailed;
+  write_unfailed = c.take-turn.ensures.cause.unfailed (not_fault _ (sym c.goes_on.ensures ∙ c.if-not-goes_on.false)) ∙ c.loop-found.invariant.write_unfailed;
 }

@@ -1,5 +1,3 @@
-use Rattle.std.proofs.Common.{◌<◌}
-use Rattle.its_word.specs.Limits.{slots}
 use Rattle.its_operator.specs.Kept.{Kept}
 use Rattle.its_trials.proofs.misfiled.started.Given as goal
 
