@@ -62,10 +62,7 @@ pub fn add_words(m: &mut Monitor, names: [Word; 3], words: &[Word]) -> Result<()
     ensures sound { Kept m.new.world }
 {
     for w in words {
-        match add_word(m, names, *w) {
-            Ok(()) => {}
-            Err(e) => return Err(e),
-        }
+        add_word(m, names, *w)?;
     }
     Ok(())
 }

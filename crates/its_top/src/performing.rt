@@ -237,10 +237,7 @@ fn store_words(m: &mut Monitor, slot: u8, a: u32, words: &[Word]) -> Result<(), 
 {
     let mut at = a;
     for w in words {
-        match m.load_word(slot, at, *w) {
-            Ok(()) => {}
-            Err(e) => return Err(e),
-        }
+        m.load_word(slot, at, *w)?;
         at += 1;
     }
     Ok(())

@@ -32,12 +32,11 @@ impl Hearing {
         ensures beside { Beside self.old self.new }
         ensures cause { HasCause (S.faults src.old) (S.faults src.new) result }
     {
-        match self.texts.next(src) {
-            Ok(Next::Line) => Ok(None),
-            Ok(Next::Long) => Ok(Some(Finding::No(self.passed + 1))),
-            Ok(Next::End) => Ok(Some(Finding::No(self.passed + 1))),
-            Ok(Next::Beyond) => Ok(Some(Finding::Beyond)),
-            Err(e) => Err(e),
+        match self.texts.next(src)? {
+            Next::Line => Ok(None),
+            Next::Long => Ok(Some(Finding::No(self.passed + 1))),
+            Next::End => Ok(Some(Finding::No(self.passed + 1))),
+            Next::Beyond => Ok(Some(Finding::Beyond)),
         }
     }
 
@@ -63,14 +62,11 @@ impl Hearing {
         ensures stays { Stays result self.new (S.left src.new) }
         ensures cause { HasCause (S.faults src.old) (S.faults src.new) result }
     {
-        match self.read(src) {
-            Ok(None) => {
-                let same = self.texts.text.as_slice() == line;
-                Ok(self.rule(same))
-            }
-            Ok(Some(finding)) => Ok(Some(finding)),
-            Err(e) => Err(e),
+        if let Some(finding) = self.read(src)? {
+            return Ok(Some(finding));
         }
+        let same = self.texts.text.as_slice() == line;
+        Ok(self.rule(same))
     }
 
     /// A line of PEEK is next.
@@ -81,14 +77,11 @@ impl Hearing {
         ensures stays { Stays result self.new (S.left src.new) }
         ensures cause { HasCause (S.faults src.old) (S.faults src.new) result }
     {
-        match self.read(src) {
-            Ok(None) => {
-                let may_stand = is_peek(&self.texts.text);
-                Ok(self.rule(may_stand))
-            }
-            Ok(Some(finding)) => Ok(Some(finding)),
-            Err(e) => Err(e),
+        if let Some(finding) = self.read(src)? {
+            return Ok(Some(finding));
         }
+        let may_stand = is_peek(&self.texts.text);
+        Ok(self.rule(may_stand))
     }
 
     /// No line is next.
@@ -99,14 +92,14 @@ impl Hearing {
         ensures out { IfOk result (λ f. ReadsOut f (S.left src.old) (S.left src.new)) }
         ensures cause { HasCause (S.faults src.old) (S.faults src.new) result }
     {
-        match self.texts.next(src) {
-            Ok(Next::End) => Ok(Finding::Yes(self.passed)),
-            Ok(Next::Line) => Ok(Finding::No(self.passed + 1)),
-            Ok(Next::Long) => Ok(Finding::No(self.passed + 1)),
-            Ok(Next::Beyond) => Ok(Finding::Beyond),
-            Err(e) => Err(e),
+        match self.texts.next(src)? {
+            Next::End => Ok(Finding::Yes(self.passed)),
+            Next::Line => Ok(Finding::No(self.passed + 1)),
+            Next::Long => Ok(Finding::No(self.passed + 1)),
+            Next::Beyond => Ok(Finding::Beyond),
         }
     }
+
     /// The `?` line of a line of the session with this number is next, and is the last one.
     #[tactic(auto, using(crate::proofs::HearingLaws::refusal_short))]
     pub fn refused<S: Source>(
@@ -122,10 +115,9 @@ impl Hearing {
     {
         let mut line = ArrayVec::new();
         print_refusal(number, reason, &mut line);
-        match self.expect(src, &line) {
-            Ok(None) => self.finish(src),
-            Ok(Some(finding)) => Ok(finding),
-            Err(e) => Err(e),
+        if let Some(finding) = self.expect(src, &line)? {
+            return Ok(finding);
         }
+        self.finish(src)
     }
 }

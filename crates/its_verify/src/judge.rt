@@ -62,13 +62,9 @@ impl Judge {
         ensures going { self.new.ended ≡ false }
         ensures sure { Sure self.new }
     {
-        match self.plain.event(event) {
-            Ok(answer) => {
-                self.forget_touched();
-                Ok(answer)
-            }
-            Err(e) => Err(e),
-        }
+        let answer = self.plain.event(event)?;
+        self.forget_touched();
+        Ok(answer)
     }
 
     /// Whether a letter of a slot is licensed: the machine moves as it says. Where it is not, nothing more is to be asked.

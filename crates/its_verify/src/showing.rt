@@ -245,10 +245,8 @@ fn list_each<S: Source>(
 {
     let mut place = a;
     for w in words {
-        match list_word(hearing, src, s, place, *w) {
-            Ok(None) => {}
-            Ok(Some(finding)) => return Ok(Some(finding)),
-            Err(e) => return Err(e),
+        if let Some(finding) = list_word(hearing, src, s, place, *w)? {
+            return Ok(Some(finding));
         }
         place += 1;
     }
@@ -335,11 +333,10 @@ fn show_files<S: Source>(
     ensures cause { HasCause (S.faults src.old) (S.faults src.new) result }
 {
     let ids = plain.listed(d);
-    match show_count(hearing, src, d, ids.len() as u32) {
-        Ok(None) => show_each(hearing, src, plain, ids.as_slice()),
-        Ok(Some(finding)) => Ok(Some(finding)),
-        Err(e) => Err(e),
+    if let Some(finding) = show_count(hearing, src, d, ids.len() as u32)? {
+        return Ok(Some(finding));
     }
+    show_each(hearing, src, plain, ids.as_slice())
 }
 
 /// The line of a directory.
@@ -375,10 +372,8 @@ fn show_each<S: Source>(
     ensures cause { HasCause (S.faults src.old) (S.faults src.new) result }
 {
     for id in ids {
-        match show_entry(hearing, src, plain, *id) {
-            Ok(None) => {}
-            Ok(Some(finding)) => return Ok(Some(finding)),
-            Err(e) => return Err(e),
+        if let Some(finding) = show_entry(hearing, src, plain, *id)? {
+            return Ok(Some(finding));
         }
     }
     Ok(None)
@@ -454,11 +449,10 @@ fn show_text<S: Source>(
     ensures cause { HasCause (S.faults src.old) (S.faults src.new) result }
 {
     let count = plain.show(id).length;
-    match show_names(hearing, src, names, count) {
-        Ok(None) => show_rows(hearing, src, plain, id, count),
-        Ok(Some(finding)) => Ok(Some(finding)),
-        Err(e) => Err(e),
+    if let Some(finding) = show_names(hearing, src, names, count)? {
+        return Ok(Some(finding));
     }
+    show_rows(hearing, src, plain, id, count)
 }
 
 /// The line of the names of a file and of how many words it has.
@@ -496,10 +490,8 @@ fn show_rows<S: Source>(
 {
     let lines = row_count(count);
     for k in 0..lines {
-        match show_row(hearing, src, plain, id, k) {
-            Ok(None) => {}
-            Ok(Some(finding)) => return Ok(Some(finding)),
-            Err(e) => return Err(e),
+        if let Some(finding) = show_row(hearing, src, plain, id, k)? {
+            return Ok(Some(finding));
         }
     }
     Ok(None)

@@ -56,14 +56,11 @@ impl Trial {
         ensures place { self.new.judge.plain.place ≡ self.old.judge.plain.place }
         ensures cause { HasCause (S.faults src.old) (S.faults src.new) result }
     {
-        match self.hearing.read(src) {
-            Ok(None) => {
-                let licensed = self.judge.says_ticks(&self.hearing.texts.text, slot, count);
-                Ok(self.hearing.rule(licensed))
-            }
-            Ok(Some(finding)) => Ok(Some(finding)),
-            Err(e) => Err(e),
+        if let Some(finding) = self.hearing.read(src)? {
+            return Ok(Some(finding));
         }
+        let licensed = self.judge.says_ticks(&self.hearing.texts.text, slot, count);
+        Ok(self.hearing.rule(licensed))
     }
 
     /// The turns of a RUN line are next: up to n of them, each a `T` line of q letters of the slot whose turn it is. They end
@@ -86,10 +83,8 @@ impl Trial {
             let Some(slot) = self.judge.turn_after(self.last) else {
                 return Ok(None);
             };
-            match self.ticks(src, slot, q) {
-                Ok(None) => {}
-                Ok(Some(finding)) => return Ok(Some(finding)),
-                Err(e) => return Err(e),
+            if let Some(finding) = self.ticks(src, slot, q)? {
+                return Ok(Some(finding));
             }
             self.last = slot;
         }
@@ -131,10 +126,7 @@ impl Trial {
         ensures last { self.new.last ≡ self.old.last }
         ensures cause { HasCause (S.faults src.old) (S.faults src.new) result }
     {
-        match self.hearing.finish(src) {
-            Ok(finding) => Ok(Some(finding)),
-            Err(e) => Err(e),
-        }
+        Ok(Some(self.hearing.finish(src)?))
     }
 
     /// The `?` line of a line of the session is next, and all is said.
@@ -150,10 +142,7 @@ impl Trial {
         ensures last { self.new.last ≡ self.old.last }
         ensures cause { HasCause (S.faults src.old) (S.faults src.new) result }
     {
-        match self.hearing.refused(src, number, reason) {
-            Ok(finding) => Ok(Some(finding)),
-            Err(e) => Err(e),
-        }
+        Ok(Some(self.hearing.refused(src, number, reason)?))
     }
 
     /// A line other than TICK and END.

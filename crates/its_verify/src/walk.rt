@@ -44,12 +44,11 @@ pub fn verify<S: Source>(alloc: Global, src: &mut S) -> Result<Finding, Broken>
 {
     let mut texts = Texts::new(SESSION_BYTES);
     let mut session = Vec::new(alloc);
-    match keep(&mut texts, src, &mut session) {
-        Ok(Part::Session) => judge_transcript(alloc, src, texts, session),
-        Ok(Part::Long(n)) => Ok(Finding::Long(n)),
-        Ok(Part::Cut(n)) => Ok(Finding::Cut(n)),
-        Ok(Part::Beyond) => Ok(Finding::Beyond),
-        Err(e) => Err(e),
+    match keep(&mut texts, src, &mut session)? {
+        Part::Session => judge_transcript(alloc, src, texts, session),
+        Part::Long(n) => Ok(Finding::Long(n)),
+        Part::Cut(n) => Ok(Finding::Cut(n)),
+        Part::Beyond => Ok(Finding::Beyond),
     }
 }
 
@@ -111,10 +110,8 @@ impl Trial {
             let Ok(found) = items.next(session) else {
                 unreachable!()
             };
-            match self.take(src, items.lines.number, &found) {
-                Ok(None) => {}
-                Ok(Some(finding)) => return Ok(finding),
-                Err(e) => return Err(e),
+            if let Some(finding) = self.take(src, items.lines.number, &found)? {
+                return Ok(finding);
             }
         }
     }
@@ -162,11 +159,10 @@ impl Trial {
         ensures going { result ≡ Ok None → is_end event.now ≡ false }
         ensures cause { HasCause (S.faults src.old) (S.faults src.new) result }
     {
-        match self.line(src, number, event) {
-            Ok(None) => self.turns_of(src, event),
-            Ok(Some(finding)) => Ok(Some(finding)),
-            Err(e) => Err(e),
+        if let Some(finding) = self.line(src, number, event)? {
+            return Ok(Some(finding));
         }
+        self.turns_of(src, event)
     }
 
     /// The turns that a line asks for are next: those of RUN.

@@ -4,15 +4,15 @@ use Rattle.its_verify.proofs.ShowingLaws.{heard_by, lines_end, lines_next, lines
 use Rattle.its_verify.proofs.TrialLaws.{unfailed_by}
 use Rattle.its_verify.proofs.showing.list_each.Goals as goal
 
-pub returns-in-Ok-Some-clause-says : goal.returns-in-Ok-Some-clause-says
-returns-in-Ok-Some-clause-says g c =
-    lines_stop c.list_word.result c.in-Ok-Some.finding c.args.hearing.now c.loop-w.hearing c.list_word.new.hearing (g.S.Source.left c.args.src.now) (g.S.Source.left c.loop-w.src) (g.S.Source.left c.list_word.new.src)
+pub returns-in-Some-clause-says : goal.returns-in-Some-clause-says
+returns-in-Some-clause-says g c =
+    lines_stop c.list_word.result c.in-Some.finding c.args.hearing.now c.loop-w.hearing c.list_word.new.hearing (g.S.Source.left c.args.src.now) (g.S.Source.left c.loop-w.src) (g.S.Source.left c.list_word.new.src)
     (listed c.args.s c.args.a c.args.words.now) (listed c.args.s c.loop-w.place (drop c.loop-w.w-index c.args.words.now)) (listed c.args.s (c.loop-w.place + 1) (drop (c.loop-w.w-index + 1) c.args.words.now)) (Listed c.args.s c.loop-w.place c.w-item.result)
-    (c.in-Ok-Some.is ∙ ap Ok c.in-Ok-Some.field-0-is) (listed_more c.args.s c.loop-w.place c.loop-w.w-index c.args.words.now c.w-item.result c.loop-w-test.true c.w-item.is) c.loop-w.invariant.so_far c.list_word.ensures.says
+    (c.in_ok-finding.was ∙ ap Ok c.in-Some.is) (listed_more c.args.s c.loop-w.place c.loop-w.w-index c.args.words.now c.w-item.result c.loop-w-test.true c.w-item.is) c.loop-w.invariant.so_far c.list_word.ensures.says
 
 pub loop-w-preserved : goal.loop-w-preserved
 loop-w-preserved g c =
-    let is : c.list_word.result ≡ Ok None = c.in-Ok-None.is ∙ ap Ok c.in-Ok-None.field-0-is in
+    let is : c.list_word.result ≡ Ok None = c.in_ok-finding.was ∙ ap Ok c.in_default.is in
     record {
       heard = heard_by c.list_word.result c.list_word.new.hearing (g.S.Source.left c.list_word.new.src) is c.list_word.ensures.stays;
       at = omega (arith, c.loop-w.invariant.at);

@@ -5,15 +5,15 @@ use Rattle.its_verify.proofs.ShowingLaws.{heard_by, lines_end, lines_next, lines
 use Rattle.its_verify.proofs.TrialLaws.{unfailed_by}
 use Rattle.its_verify.proofs.showing.show_each.Goals as goal
 
-pub returns-in-Ok-Some-clause-says : goal.returns-in-Ok-Some-clause-says
-returns-in-Ok-Some-clause-says g c =
-    lines_stop c.show_entry.result c.in-Ok-Some.finding c.args.hearing.now c.loop-id.hearing c.show_entry.new.hearing (g.S.Source.left c.args.src.now) (g.S.Source.left c.loop-id.src) (g.S.Source.left c.show_entry.new.src)
+pub returns-in-Some-clause-says : goal.returns-in-Some-clause-says
+returns-in-Some-clause-says g c =
+    lines_stop c.show_entry.result c.in-Some.finding c.args.hearing.now c.loop-id.hearing c.show_entry.new.hearing (g.S.Source.left c.args.src.now) (g.S.Source.left c.loop-id.src) (g.S.Source.left c.show_entry.new.src)
     (map filed_line (map (file_of c.args.plain.now.files) c.args.ids.now)) (map filed_line (map (file_of c.args.plain.now.files) (drop c.loop-id.id-index c.args.ids.now))) (map filed_line (map (file_of c.args.plain.now.files) (drop (c.loop-id.id-index + 1) c.args.ids.now))) (filed_line (file_of c.args.plain.now.files (slice_index_or c.args.ids.now c.loop-id.id-index 0)))
-    (c.in-Ok-Some.is ∙ ap Ok c.in-Ok-Some.field-0-is) (filed_more c.args.plain.now.files c.args.ids.now c.loop-id.id-index 0 c.loop-id-test.true) c.loop-id.invariant.so_far c.show_entry.ensures.says
+    (c.in_ok-finding.was ∙ ap Ok c.in-Some.is) (filed_more c.args.plain.now.files c.args.ids.now c.loop-id.id-index 0 c.loop-id-test.true) c.loop-id.invariant.so_far c.show_entry.ensures.says
 
 pub loop-id-preserved : goal.loop-id-preserved
 loop-id-preserved g c =
-    let is : c.show_entry.result ≡ Ok None = c.in-Ok-None.is ∙ ap Ok c.in-Ok-None.field-0-is in
+    let is : c.show_entry.result ≡ Ok None = c.in_ok-finding.was ∙ ap Ok c.in_default.is in
     record {
       heard = heard_by c.show_entry.result c.show_entry.new.hearing (g.S.Source.left c.show_entry.new.src) is c.show_entry.ensures.stays;
       unfailed = unfailed_by c.show_entry.result (g.S.Source.faults c.loop-id.src) (g.S.Source.faults c.show_entry.new.src) (g.S.Source.faults c.args.src.now) is c.show_entry.ensures.cause c.loop-id.invariant.unfailed;

@@ -6,22 +6,22 @@ use Rattle.its_direct.specs.Plain.{machine_of}
 use Rattle.its_verify.proofs.ShowingLaws.{listing_is, same_says, stop_says, then_says}
 use Rattle.its_verify.proofs.showing.show_files.Goals as goal
 
-pub returns-in-Ok-None-clause-says : goal.returns-in-Ok-None-clause-says
-returns-in-Ok-None-clause-says g c =
+pub returns-clause-says : goal.returns-clause-says
+returns-clause-says g c =
     let files = c.args.plain.now.files in
     let ids = c.as_slice.result.now in
     let lines = map filed_line (map (file_of files) ids) in
     same_says c.show_each.result c.args.hearing.now c.show_each.new.hearing (g.S.Source.left c.args.src.now) (g.S.Source.left c.show_each.new.src) (Dir c.args.d c.len.result ∷ lines) (listing c.args.d (files_in c.args.d (machine_of c.args.plain.now).files))
     (listing_is files c.args.d c.len.result ids (files_in c.args.d (machine_of c.args.plain.now).files) (ap (map (file_of files)) c.as_slice.ensures.value ∙ c.listed-ids.ensures.files) (c.len.ensures.value ∙ ap (λ (xs : List ℕ). length xs) (sym c.as_slice.ensures.value)))
     (then_says c.show_count.result c.show_each.result c.args.hearing.now c.show_count.new.hearing c.show_each.new.hearing (g.S.Source.left c.args.src.now) (g.S.Source.left c.show_count.new.src) (g.S.Source.left c.show_each.new.src)
-    (Dir c.args.d c.len.result) lines (c.in-Ok-None.is ∙ ap Ok c.in-Ok-None.field-0-is) c.show_count.ensures.says c.show_each.ensures.says)
+    (Dir c.args.d c.len.result) lines (c.in_ok-finding.was ∙ ap Ok c.in_default.is) c.show_count.ensures.says c.show_each.ensures.says)
 
-pub returns-in-Ok-Some-clause-says : goal.returns-in-Ok-Some-clause-says
-returns-in-Ok-Some-clause-says g c =
+pub returns-in-Some-clause-says : goal.returns-in-Some-clause-says
+returns-in-Some-clause-says g c =
     let files = c.args.plain.now.files in
     let ids = c.listed-ids.result.items in
     let lines = map filed_line (map (file_of files) ids) in
-    same_says (Ok (Some c.in-Ok-Some.finding)) c.args.hearing.now c.show_count.new.hearing (g.S.Source.left c.args.src.now) (g.S.Source.left c.show_count.new.src) (Dir c.args.d c.len.result ∷ lines) (listing c.args.d (files_in c.args.d (machine_of c.args.plain.now).files))
+    same_says (Ok (Some c.in-Some.finding)) c.args.hearing.now c.show_count.new.hearing (g.S.Source.left c.args.src.now) (g.S.Source.left c.show_count.new.src) (Dir c.args.d c.len.result ∷ lines) (listing c.args.d (files_in c.args.d (machine_of c.args.plain.now).files))
     (listing_is files c.args.d c.len.result ids (files_in c.args.d (machine_of c.args.plain.now).files) c.listed-ids.ensures.files c.len.ensures.value)
-    (stop_says c.show_count.result c.in-Ok-Some.finding c.args.hearing.now c.show_count.new.hearing (g.S.Source.left c.args.src.now) (g.S.Source.left c.show_count.new.src)
-    (Dir c.args.d c.len.result) lines (c.in-Ok-Some.is ∙ ap Ok c.in-Ok-Some.field-0-is) c.show_count.ensures.says)
+    (stop_says c.show_count.result c.in-Some.finding c.args.hearing.now c.show_count.new.hearing (g.S.Source.left c.args.src.now) (g.S.Source.left c.show_count.new.src)
+    (Dir c.args.d c.len.result) lines (c.in_ok-finding.was ∙ ap Ok c.in-Some.is) c.show_count.ensures.says)

@@ -6,15 +6,15 @@ use Rattle.its_verify.proofs.ShowingLaws.{heard_by, lines_end, lines_next, lines
 use Rattle.its_verify.proofs.TrialLaws.{unfailed_by}
 use Rattle.its_verify.proofs.showing.show_rows.Goals as goal
 
-pub returns-in-Ok-Some-clause-says : goal.returns-in-Ok-Some-clause-says
-returns-in-Ok-Some-clause-says g c =
-    lines_stop c.show_row.result c.in-Ok-Some.finding c.args.hearing.now c.loop-k.hearing c.show_row.new.hearing (g.S.Source.left c.args.src.now) (g.S.Source.left c.loop-k.src) (g.S.Source.left c.show_row.new.src)
+pub returns-in-Some-clause-says : goal.returns-in-Some-clause-says
+returns-in-Some-clause-says g c =
+    lines_stop c.show_row.result c.in-Some.finding c.args.hearing.now c.loop-k.hearing c.show_row.new.hearing (g.S.Source.left c.args.src.now) (g.S.Source.left c.loop-k.src) (g.S.Source.left c.show_row.new.src)
     (rows ((c.args.count + 7) / 8) (words_at c.args.plain.now.files c.args.id)) (rows (((c.args.count + 7) / 8) - c.loop-k.k) (drop (8 * c.loop-k.k) (words_at c.args.plain.now.files c.args.id))) (rows (((c.args.count + 7) / 8) - (c.loop-k.k + 1)) (drop (8 * (c.loop-k.k + 1)) (words_at c.args.plain.now.files c.args.id))) (Row (take 8 (drop (8 * c.loop-k.k) (words_at c.args.plain.now.files c.args.id))))
-    (c.in-Ok-Some.is ∙ ap Ok c.in-Ok-Some.field-0-is) (rows_more ((c.args.count + 7) / 8) c.loop-k.k (words_at c.args.plain.now.files c.args.id) (search rules)) c.loop-k.invariant.so_far c.show_row.ensures.says
+    (c.in_ok-finding.was ∙ ap Ok c.in-Some.is) (rows_more ((c.args.count + 7) / 8) c.loop-k.k (words_at c.args.plain.now.files c.args.id) (search rules)) c.loop-k.invariant.so_far c.show_row.ensures.says
 
 pub loop-k-preserved : goal.loop-k-preserved
 loop-k-preserved g c =
-    let is : c.show_row.result ≡ Ok None = c.in-Ok-None.is ∙ ap Ok c.in-Ok-None.field-0-is in
+    let is : c.show_row.result ≡ Ok None = c.in_ok-finding.was ∙ ap Ok c.in_default.is in
     record {
       heard = heard_by c.show_row.result c.show_row.new.hearing (g.S.Source.left c.show_row.new.src) is c.show_row.ensures.stays;
       unfailed = unfailed_by c.show_row.result (g.S.Source.faults c.loop-k.src) (g.S.Source.faults c.show_row.new.src) (g.S.Source.faults c.args.src.now) is c.show_row.ensures.cause c.loop-k.invariant.unfailed;

@@ -6,20 +6,20 @@ use Rattle.its_verify.specs.Showing.{names_line, text_lines}
 use Rattle.its_verify.proofs.ShowingLaws.{same_says, stop_says, text_is, then_says}
 use Rattle.its_verify.proofs.showing.show_text.Goals as goal
 
-pub returns-in-Ok-None-clause-says : goal.returns-in-Ok-None-clause-says
-returns-in-Ok-None-clause-says g c =
+pub returns-clause-says : goal.returns-clause-says
+returns-clause-says g c =
     let n = c.show-count.result.length in
     let ws = words_at c.args.plain.now.files c.args.id in
     same_says c.show_rows.result c.args.hearing.now c.show_rows.new.hearing (g.S.Source.left c.args.src.now) (g.S.Source.left c.show_rows.new.src) (names_line c.args.names n ∷ rows ((n + 7) / 8) ws) (text_lines c.args.names ws)
     (text_is c.args.names n ws (ap (λ (x : FileShow). x.length) c.show-count.ensures))
     (then_says c.show_names.result c.show_rows.result c.args.hearing.now c.show_names.new.hearing c.show_rows.new.hearing (g.S.Source.left c.args.src.now) (g.S.Source.left c.show_names.new.src) (g.S.Source.left c.show_rows.new.src)
-    (names_line c.args.names n) (rows ((n + 7) / 8) ws) (c.in-Ok-None.is ∙ ap Ok c.in-Ok-None.field-0-is) c.show_names.ensures.says c.show_rows.ensures.says)
+    (names_line c.args.names n) (rows ((n + 7) / 8) ws) (c.in_ok-finding.was ∙ ap Ok c.in_default.is) c.show_names.ensures.says c.show_rows.ensures.says)
 
-pub returns-in-Ok-Some-clause-says : goal.returns-in-Ok-Some-clause-says
-returns-in-Ok-Some-clause-says g c =
+pub returns-in-Some-clause-says : goal.returns-in-Some-clause-says
+returns-in-Some-clause-says g c =
     let n = c.show-count.result.length in
     let ws = words_at c.args.plain.now.files c.args.id in
-    same_says (Ok (Some c.in-Ok-Some.finding)) c.args.hearing.now c.show_names.new.hearing (g.S.Source.left c.args.src.now) (g.S.Source.left c.show_names.new.src) (names_line c.args.names n ∷ rows ((n + 7) / 8) ws) (text_lines c.args.names ws)
+    same_says (Ok (Some c.in-Some.finding)) c.args.hearing.now c.show_names.new.hearing (g.S.Source.left c.args.src.now) (g.S.Source.left c.show_names.new.src) (names_line c.args.names n ∷ rows ((n + 7) / 8) ws) (text_lines c.args.names ws)
     (text_is c.args.names n ws (ap (λ (x : FileShow). x.length) c.show-count.ensures))
-    (stop_says c.show_names.result c.in-Ok-Some.finding c.args.hearing.now c.show_names.new.hearing (g.S.Source.left c.args.src.now) (g.S.Source.left c.show_names.new.src)
-    (names_line c.args.names n) (rows ((n + 7) / 8) ws) (c.in-Ok-Some.is ∙ ap Ok c.in-Ok-Some.field-0-is) c.show_names.ensures.says)
+    (stop_says c.show_names.result c.in-Some.finding c.args.hearing.now c.show_names.new.hearing (g.S.Source.left c.args.src.now) (g.S.Source.left c.show_names.new.src)
+    (names_line c.args.names n) (rows ((n + 7) / 8) ws) (c.in_ok-finding.was ∙ ap Ok c.in-Some.is) c.show_names.ensures.says)

@@ -4,8 +4,8 @@ use Rattle.its_verify.specs.declared.finding.Finding.{Finding}
 use Rattle.its_verify.proofs.HearingLaws.{peek_ruled}
 use Rattle.its_verify.proofs.hearing.Hearing.peek.Goals as goal
 
-pub returns-in-Ok-None-clause-says : goal.returns-in-Ok-None-clause-says
-returns-in-Ok-None-clause-says g c =
+pub returns-clause-says : goal.returns-clause-says
+returns-clause-says g c =
     peek_ruled c.rule.result c.is_peek-may_stand.result c.args.self.now c.read.new.self c.rule.new.self _ _
-    (subst (λ (o : Option Finding). ReadsOn (Ok o) c.args.self.now c.read.new.self (g.S.Source.left c.args.src.now) (g.S.Source.left c.read.new.src)) c.in-Ok-None.field-0-is c.in-Ok-None.ensures.reads)
-    c.in-Ok-None.ensures.beside (search rules) c.rule.ensures
+    (subst (λ (o : Option Finding). ReadsOn (Ok o) c.args.self.now c.read.new.self (g.S.Source.left c.args.src.now) (g.S.Source.left c.read.new.src)) c.in_default.is c.in_ok-finding.ensures.reads)
+    c.in_ok-finding.ensures.beside (search rules) c.rule.ensures

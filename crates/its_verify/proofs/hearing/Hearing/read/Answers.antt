@@ -4,8 +4,8 @@ use Rattle.its_reader.specs.declared.lines.Next.{Next}
 use Rattle.its_verify.proofs.HearingLaws.{read_line}
 use Rattle.its_verify.proofs.hearing.Hearing.read.Goals as goal
 
-pub returns-in-Ok-Line-clause-reads : goal.returns-in-Ok-Line-clause-reads
-returns-in-Ok-Line-clause-reads g c =
+pub returns-in-Line-clause-reads : goal.returns-in-Line-clause-reads
+returns-in-Line-clause-reads g c =
     read_line c.args.self.now (record { texts = c.next.new.self; passed = c.args.self.now.passed; room = c.args.self.now.room }) _ _
-    (subst (λ (x : Next). ReadsText (Ok x) c.args.self.now.texts c.next.new.self (g.S.Source.left c.args.src.now) (g.S.Source.left c.next.new.src)) c.in-Ok-Line.field-0-is c.in-Ok-Line.ensures.reads)
+    (subst (λ (x : Next). ReadsText (Ok x) c.args.self.now.texts c.next.new.self (g.S.Source.left c.args.src.now) (g.S.Source.left c.next.new.src)) c.in-Line.is c.in_ok-next.ensures.reads)
     (search rules) (search rules) (search rules) (search rules) refl refl c.requires.heard

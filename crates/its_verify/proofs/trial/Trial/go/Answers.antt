@@ -10,7 +10,7 @@ use Rattle.its_verify.proofs.trial.Trial.go.Goals as goal
 
 pub loop-found-preserved : goal.loop-found-preserved
 loop-found-preserved g c =
-    let is : c.take.result ≡ Ok None = c.in-Ok-None.is ∙ ap Ok c.in-Ok-None.field-0-is in
+    let is : c.take.result ≡ Ok None = c.in_ok-finding.was ∙ ap Ok c.in_default-2.is in
     let going = c.take.ensures.going is in
     record {
       tried = tried_by c.take.result c.take.new.self (g.S.Source.left c.take.new.src) is c.take.ensures.stays;
@@ -26,14 +26,14 @@ loop-found-preserved g c =
           is c.loop-found.invariant.so_far c.in-Ok.ensures.finds c.in-Ok.ensures.ready c.in-Ok.ensures.number going c.take.ensures.says;
     }
 
-pub returns-in-Ok-Some-clause-ends : goal.returns-in-Ok-Some-clause-ends
-returns-in-Ok-Some-clause-ends g c =
-    gone_over c.take.result c.in-Ok-Some.finding c.in-Ok.found c.args.self.now c.loop-found.self c.take.new.self (judge_from c.args.self.now no_block 1 (events_of c.args.session.now)) c.loop-found.items c.next.new.self
+pub returns-in-Some-clause-ends : goal.returns-in-Some-clause-ends
+returns-in-Some-clause-ends g c =
+    gone_over c.take.result c.in-Some.finding c.in-Ok.found c.args.self.now c.loop-found.self c.take.new.self (judge_from c.args.self.now no_block 1 (events_of c.args.session.now)) c.loop-found.items c.next.new.self
     c.loop-found.session c.next.new.src (g.S.Source.left c.args.src.now) (g.S.Source.left c.loop-found.src) (g.S.Source.left c.take.new.src)
-    (c.in-Ok-Some.is ∙ ap Ok c.in-Ok-Some.field-0-is) c.loop-found.invariant.so_far c.in-Ok.ensures.finds c.in-Ok.ensures.ready c.in-Ok.ensures.number c.take.ensures.says
+    (c.in_ok-finding.was ∙ ap Ok c.in-Some.is) c.loop-found.invariant.so_far c.in-Ok.ensures.finds c.in-Ok.ensures.ready c.in-Ok.ensures.number c.take.ensures.says
 
-pub returns-in-Ok-Some-clause-out : goal.returns-in-Ok-Some-clause-out
-returns-in-Ok-Some-clause-out g c =
-    gone_out c.take.result c.in-Ok-Some.finding c.args.self.now c.loop-found.self (judge_from c.args.self.now no_block 1 (events_of c.args.session.now)) c.loop-found.items
+pub returns-in-Some-clause-out : goal.returns-in-Some-clause-out
+returns-in-Some-clause-out g c =
+    gone_out c.take.result c.in-Some.finding c.args.self.now c.loop-found.self (judge_from c.args.self.now no_block 1 (events_of c.args.session.now)) c.loop-found.items
     (Some c.loop-found.session) (g.S.Source.left c.args.src.now) (g.S.Source.left c.loop-found.src) (g.S.Source.left c.take.new.src)
-    (c.in-Ok-Some.is ∙ ap Ok c.in-Ok-Some.field-0-is) c.loop-found.invariant.so_far c.take.ensures.out
+    (c.in_ok-finding.was ∙ ap Ok c.in-Some.is) c.loop-found.invariant.so_far c.take.ensures.out

@@ -4,16 +4,16 @@ use Rattle.its_plain.specs.Unrolled.{ticks_asked, turns_asked}
 use Rattle.its_verify.proofs.OutLaws.{out_if_behind, told_by, turns_out}
 use Rattle.its_verify.proofs.trial.Trial.obey.Goals as goal
 
-pub returns-in-Ok-None-clause-says : goal.returns-in-Ok-None-clause-says
-returns-in-Ok-None-clause-says g c =
+pub returns-clause-says : goal.returns-clause-says
+returns-clause-says g c =
     obeyed_says c.line.result c.turns_of.result c.args.event.now c.args.self.now c.line.new.self c.turns_of.new.self (g.S.Source.left c.args.src.now) (g.S.Source.left c.line.new.src) (g.S.Source.left c.turns_of.new.src) c.args.number
-    (c.in-Ok-None.is ∙ ap Ok c.in-Ok-None.field-0-is) c.line.ensures.says c.line.ensures.last c.turns_of.ensures.says c.turns_of.ensures.place
+    (c.in_ok-finding.was ∙ ap Ok c.in_default.is) c.line.ensures.says c.line.ensures.last c.turns_of.ensures.says c.turns_of.ensures.place
 
-pub returns-in-Ok-None-clause-out : goal.returns-in-Ok-None-clause-out
-returns-in-Ok-None-clause-out g c =
+pub returns-clause-out : goal.returns-clause-out
+returns-clause-out g c =
     let left = g.S.Source.left c.args.src.now in
     let between = g.S.Source.left c.line.new.src in
     let rest = g.S.Source.left c.turns_of.new.src in
     out_if_behind c.turns_of.result left between rest
-    (told_by c.line.result c.args.event.now c.args.self.now c.line.new.self left between c.args.number (c.in-Ok-None.is ∙ ap Ok c.in-Ok-None.field-0-is) c.line.ensures.says)
+    (told_by c.line.result c.args.event.now c.args.self.now c.line.new.self left between c.args.number (c.in_ok-finding.was ∙ ap Ok c.in_default.is) c.line.ensures.says)
     (turns_out (turns_asked c.args.event.now) (ticks_asked c.args.event.now) c.turns_of.result c.line.new.self c.turns_of.new.self between rest c.turns_of.ensures.says)

@@ -7,15 +7,15 @@ pub returns-in_default-clause-says : goal.returns-in_default-clause-says
 returns-in_default-clause-says g c =
     turns_none c.args.self.now c.loop-k.self c.args.n c.loop-k._k c.args.q (g.S.Source.left c.args.src.now) (g.S.Source.left c.loop-k.src) c.loop-k-test.true c.loop-k.invariant.so_far (sym c.turn_after.ensures.turn ∙ c.in_default.is)
 
-pub returns-in-Ok-Some-clause-says : goal.returns-in-Ok-Some-clause-says
-returns-in-Ok-Some-clause-says g c =
-    turns_said_by c.ticks.result c.in-Ok-Some.finding c.args.self.now c.loop-k.self c.ticks.new.self c.args.n c.loop-k._k c.args.q c.in-Some.slot (g.S.Source.left c.args.src.now) (g.S.Source.left c.loop-k.src) (g.S.Source.left c.ticks.new.src)
-    (c.in-Ok-Some.is ∙ ap Ok c.in-Ok-Some.field-0-is) c.loop-k-test.true c.loop-k.invariant.so_far (sym c.in-Some.ensures.turn) c.ticks.ensures.says
+pub returns-in-Some-2-clause-says : goal.returns-in-Some-2-clause-says
+returns-in-Some-2-clause-says g c =
+    turns_said_by c.ticks.result c.in-Some-2.finding c.args.self.now c.loop-k.self c.ticks.new.self c.args.n c.loop-k._k c.args.q c.in-Some.slot (g.S.Source.left c.args.src.now) (g.S.Source.left c.loop-k.src) (g.S.Source.left c.ticks.new.src)
+    (c.in_ok-finding.was ∙ ap Ok c.in-Some-2.is) c.loop-k-test.true c.loop-k.invariant.so_far (sym c.in-Some.ensures.turn) c.ticks.ensures.says
 
 pub loop-k-preserved : goal.loop-k-preserved
 loop-k-preserved g c =
     let new : Trial = record { judge = c.ticks.new.self.judge; hearing = c.ticks.new.self.hearing; last = c.in-Some.slot } in
-    let is : c.ticks.result ≡ Ok None = c.in-Ok-None.is ∙ ap Ok c.in-Ok-None.field-0-is in
+    let is : c.ticks.result ≡ Ok None = c.in_ok-finding.was ∙ ap Ok c.in_default-2.is in
     record {
       tried = stays_by c.ticks.result c.ticks.new.self c.in-Some.slot (g.S.Source.left c.ticks.new.src) is c.ticks.ensures.stays c.in-Some.ensures.slot;
       place = c.ticks.ensures.place ∙ c.loop-k.invariant.place;
