@@ -1,4 +1,4 @@
-; The source of the image in alarm.its: a job that asks for an alarm every second, and counts the alarms.
+; The source of the image in alarm.its: a job that asks for an alarm every 30 thirtieths of a second (0.8 of one), and counts the alarms.
         JOB U J 0
 P = 17
 ALR = 400                       ; the bit of alarms
@@ -16,7 +16,7 @@ TSINT:  WORD 0,,P
         LOC 200
 START:  .CALL SETM              ; let alarms interrupt
         .BREAK 16,
-        .CALL REALT             ; one every second
+        .CALL REALT             ; one every 30 thirtieths
         .BREAK 16,
         .CALL SLP
         .BREAK 16,

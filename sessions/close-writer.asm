@@ -6,7 +6,7 @@ START:  .CALL NEW               ; a draft
         .BREAK 16,
         .IOT CH,DATA            ; its word
 AGAIN:  .CALL SHUT              ; it becomes the file
-        JRST AGAIN              ; where that fails, as somebody reads the file
+        JRST AGAIN              ; if that fails, because somebody reads the file
         JRST START
         LOC 120
 NEW:    WORD 400000,,0
@@ -21,7 +21,7 @@ NEW:    WORD 400000,,0
 SHUT:   WORD 400000,,0
         SIXBIT CLOSE
         WORD 1000,,CH
-        WORD 403000,,ERROR      ; where its error number goes
+        WORD 403000,,ERROR      ; gets its error number
         LOC 150
 DSK:    SIXBIT DSK
 NAME1:  SIXBIT A

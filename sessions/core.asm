@@ -10,10 +10,10 @@ START:  .CALL MAKE
         .CALL LOCK
         .BREAK 16,
         MOVE 2,PAGE
-        MOVEM 1,PAGE+1          ; faults, as the page is read only
+        MOVEM 1,PAGE+1          ; faults, because the page is read only
         .CALL DROP
         .BREAK 16,
-        MOVE 3,PAGE             ; faults, as there is no page
+        MOVE 3,PAGE             ; faults, because there is no page
         LOC 120
 ; CORBLK of page 1 of the job itself: 1 makes it, of zeros
 MAKE:   WORD 400000,,0

@@ -1,10 +1,10 @@
 ; The source of the image in echo.its: a job that repeats on its console what is typed there.
         JOB U E 0
-AC = 3                          ; where a byte passes through
+AC = 3                          ; the byte passes through it
 TTYI = 1                        ; the channel for input
 TTYO = 2                        ; and that for output
         LOC 1000
-START:  .CALL OPENI             ; a call skips the instruction behind it where it succeeds
+START:  .CALL OPENI             ; a call skips the instruction after it if it succeeds
         .BREAK 16,
         .CALL OPENO
         .BREAK 16,

@@ -34,7 +34,7 @@ HANG:   WORD 400000,,0
 COUNT:  WORD 0
         LOC 300
 HANDLE: AOS COUNT
-        .CALL DIS               ; back to where the interrupt came
+        .CALL DIS               ; back to the interrupted place
         LOC 320
 DIS:    WORD 400000,,0
         SIXBIT DISMIS

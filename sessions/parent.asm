@@ -64,7 +64,7 @@ LOOK:   WORD 400000,,0
 POINT:  WORD 444400,,PROG       ; words from PROG on
 COUNT:  WORD 5
         LOC 400
-; The program of the inferior: a call of HANG, to stand at its word 100.
+; The program of the inferior: a call of HANG, for its word 100.
 PROG:   .CALL 102
         .BREAK 16,
         WORD 400000,,0

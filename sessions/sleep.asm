@@ -2,7 +2,7 @@
         JOB U J -
         LOC 100
 START:  .CALL SLP
-        .BREAK 16,              ; where the call fails
+        .BREAK 16,              ; if the call fails
 DONE:   JRST DONE
         LOC 120
 SLP:    WORD 400000,,0

@@ -3,7 +3,7 @@
 P = 1                           ; the pointer of a SIOT
 N = 2                           ; and its count
         LOC 100
-START:  .CALL OPENI             ; a call that succeeds skips the instruction behind it
+START:  .CALL OPENI             ; a call that succeeds skips the instruction after it
         .BREAK 16,
         .CALL OPENO
         .BREAK 16,

@@ -11,14 +11,14 @@ import subprocess
 import tempfile
 import time
 import urllib.request
-from typing import List
+from typing import List, Optional
 
 from .session import Wrong
 
 NAMES = ("chromium", "chromium-browser", "google-chrome", "chrome")
 FLAGS = ["--headless=new", "--no-sandbox", "--disable-gpu", "--hide-scrollbars", "--no-first-run", "--disable-extensions",
          "--disable-background-networking", "--disable-component-update", "--remote-debugging-port=0"]
-PATIENCE = 30.0      # seconds
+PATIENCE = 180.0     # seconds; a machine may have much else to do
 
 
 class Socket:
@@ -75,11 +75,16 @@ class Socket:
                     return text.decode()
 
 
+def chromium() -> Optional[str]:
+    """The program Chromium, where there is one."""
+    return next((found for found in map(shutil.which, NAMES) if found), None)
+
+
 class Browser:
     """A headless Chromium with one page."""
 
     def __init__(self):
-        program = next((found for found in map(shutil.which, NAMES) if found), None)
+        program = chromium()
         if not program:
             raise Wrong("no Chromium is found (Debian's package is called chromium)")
         self.folder = tempfile.mkdtemp()
@@ -88,9 +93,13 @@ class Browser:
         self.events: List[dict] = []
         self.asked = 0
         self.width = 0
-        self.socket = Socket(self.address())
-        for domain in ("Page", "Runtime", "Network"):
-            self.ask(domain + ".enable")
+        try:
+            self.socket = Socket(self.address())
+            for domain in ("Page", "Runtime", "Network"):
+                self.ask(domain + ".enable")
+        except BaseException:
+            self.close()
+            raise
 
     def address(self) -> str:
         """The address of the page, once Chromium is ready."""
@@ -123,8 +132,8 @@ class Browser:
             self.events.append(json.loads(self.socket.receive()))
 
     def value(self, script: str):
-        """The value of an expression in the page."""
-        answer = self.ask("Runtime.evaluate", expression=script, returnByValue=True)
+        """The value of an expression in the page; of a promise, what it comes to."""
+        answer = self.ask("Runtime.evaluate", expression=script, returnByValue=True, awaitPromise=True)
         if "exceptionDetails" in answer:
             raise Wrong("the page: %s" % answer["exceptionDetails"].get("exception", {}).get("description", "an exception"))
         return answer["result"].get("value")
@@ -148,6 +157,12 @@ class Browser:
         for kind in ("keyDown", "keyUp"):
             self.ask("Input.dispatchKeyEvent", type=kind, key=key, code=key, modifiers=8 if shift else 0)
 
+    def type(self, text: str) -> None:
+        """Types a character."""
+        code = ord(text.upper())
+        self.ask("Input.dispatchKeyEvent", type="keyDown", key=text, text=text, windowsVirtualKeyCode=code)
+        self.ask("Input.dispatchKeyEvent", type="keyUp", key=text, windowsVirtualKeyCode=code)
+
     def screenshot(self, path: str) -> None:
         """Writes what the window shows as a PNG."""
         data = self.ask("Page.captureScreenshot", format="png")["data"]
@@ -155,11 +170,12 @@ class Browser:
             file.write(base64.b64decode(data))
 
     def complaints(self) -> List[str]:
-        """What went wrong in the page since it was opened: exceptions, errors, and connections to anything but the file."""
+        """What went wrong in the page since it was opened: exceptions, and connections to anything but the file and what it
+        has made itself."""
         wrong = [event["params"]["exceptionDetails"].get("text", "") for event in self.events
                  if event["method"] == "Runtime.exceptionThrown"]
         asked = [event["params"]["request"]["url"] for event in self.events if event["method"] == "Network.requestWillBeSent"]
-        return wrong + ["it asks for " + url for url in asked if not url.startswith("file:")]
+        return wrong + ["it asks for " + url for url in asked if not url.startswith(("file:", "blob:"))]
 
     def close(self) -> None:
         """Ends Chromium."""

@@ -6,8 +6,8 @@ from dataclasses import dataclass
 from typing import List, Optional
 
 from .meaning import Known
-from .session import CLOSES, JOB_LINES, LINES, Exchange, Line
-from .words import DIGITS
+from .session import CLOSES, JOB_LINES, LINES, Exchange, Line, at_line
+from .words import DIGITS, number
 
 # What stands behind the first word of each line: n a number, name a name, con a console or `-`
 FORMS = {"VERSION": "n", "LOAD": "name name con", "RO": "n", "SYM": "name n", "GO": "n", "FILE": "name name name", "EOF": "",
@@ -89,8 +89,8 @@ def wrong_place(line: Line) -> Optional[Cause]:
         return None
     if line.block:
         loads = "a/, RO and SYM lines" if line.version == 2 else "a/ lines"
-        return Cause("not allowed here: the block of %s is open since line %d, and up to its %s only %s may stand in it" % (
-            line.block, line.since, CLOSES[line.block], loads if line.block == "LOAD" else "/ lines"), starts(line)[0])
+        return Cause("not allowed here: the block of %s is open since %s, and up to its %s only %s may stand in it" % (
+            line.block, at_line(line.since), CLOSES[line.block], loads if line.block == "LOAD" else "/ lines"), starts(line)[0])
     if line.kind == CLOSES[wanted]:
         return Cause("not allowed here: %s closes the block of %s, and none is open" % (line.kind, wanted), starts(line)[0])
     return Cause("not allowed here: %s lines stand only behind a %s line, up to its %s" % (
@@ -164,7 +164,17 @@ def wrong_count(line: Line) -> Optional[Cause]:
     return Cause("too many words: it is written %s" % WRITTEN[line.kind], columns[size]) if len(words) > size else None
 
 
-def wrong_word(line: Line) -> Optional[Cause]:
+def is_symbol(word: str, line: Line, known: Known) -> str:
+    """What helps where a symbol stands in a number's place; nothing where the word is no symbol that the session has."""
+    slots = [number(one) for one in line.words[1:2] if DIGITS.issuperset(one) and line.kind in JOB_LINES]
+    for slot in slots + [known.slot]:
+        value = known.symbols_of(slot).values.get(word)
+        if value is not None:
+            return "the symbol %s: the program takes numbers alone, so write %o (a tail of tools/job may have symbols)" % (word, value)
+    return ""
+
+
+def wrong_word(line: Line, known: Known) -> Optional[Cause]:
     """A word that has not the form that belongs at its place."""
     words, columns = line.words, starts(line)
     if line.kind == "a/":
@@ -176,18 +186,20 @@ def wrong_word(line: Line) -> Optional[Cause]:
         kind = form[at] if at < len(form) else "n"
         if kind == "con" and word == "-":
             continue
+        if kind == "n" and is_symbol(word, line, known):
+            return Cause(is_symbol(word, line, known), column)
         found = no_name(word, column) if kind == "name" else no_number(word, column)
         if found:
             return found
     return None
 
 
-def syntax(line: Line) -> Cause:
+def syntax(line: Line, known: Known) -> Cause:
     """The cause of SYNTAX."""
     found = bad_byte(line.text)
     if not found and line.words:
         found = (unknown(line) and remark(line)) or unknown(line) or wrong_place(line)
-        found = found or remark(line) or wrong_count(line) or wrong_word(line)
+        found = found or remark(line) or wrong_count(line) or wrong_word(line, known)
     return found or Cause("no line of docs/SESSION.md has this form")
 
 
@@ -245,12 +257,12 @@ def cause_of(exchange: Exchange, known: Known) -> Cause:
     line, reason = exchange.line, exchange.reason
     columns = starts(line)
     if reason == "CUT":
-        return Cause("the input ends inside the block of %s, which is open since line %d: its %s is missing" % (
-            line.block, line.since, CLOSES.get(line.block, "end")))
+        return Cause("the input ends inside the block of %s, which is open since %s: its %s is missing" % (
+            line.block, at_line(line.since), CLOSES.get(line.block, "end")))
     if reason == "LONG":
         return Cause("the line has %d bytes, and may have 255" % len(line.text), 256)
     if reason == "SYNTAX":
-        return syntax(line)
+        return syntax(line, known)
     if reason == "RANGE":
         return out_of_range(line, known)
     if reason == "NOCONS":

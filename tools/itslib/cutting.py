@@ -1,9 +1,9 @@
 """Cutting a session between two of its ticks, and putting lines in there."""
 
 from dataclasses import dataclass, field
-from typing import Dict, List
+from typing import Dict, Iterator, List, Optional
 
-from .session import Exchange, Line, runs_of, unrolled
+from .session import Exchange, Line, runs_of, turns_of, unrolled
 from .words import number
 
 
@@ -18,25 +18,42 @@ class Tick:
     letter: str
     next: str          # the letter of the next tick of its line; nothing for the last one
     earlier: List[str] = field(default_factory=list)     # the turns of the same RUN line before its own, as TICK lines
-    later: List[str] = field(default_factory=list)       # and those behind it
 
 
-def ticks_of(told: List[Exchange]) -> List[Tick]:
-    """All ticks of a session that was run."""
-    ticks: List[Tick] = []
-    turns: Dict[int, List[str]] = {}        # the TICK lines, by the number of the line that asks for them
+def count_of_ticks(told: List[Exchange], first: int = 1, last: int = 1 << 60, slot: Optional[int] = None) -> int:
+    """How many ticks a session that was run has, from the first to the last, of one slot or of all. None of them is made for this."""
+    done = found = 0
+    for exchange in unrolled(told):
+        if exchange.line.kind == "TICK" and not exchange.reason:
+            count = sum(n for n, _ in runs_of(exchange))
+            if slot in (None, number(exchange.words[1])):
+                found += max(0, min(last, done + count) - max(first, done + 1) + 1)
+            done += count
+    return found
+
+
+def ticks_of(told: List[Exchange], first: int = 1, last: int = 1 << 60, slot: Optional[int] = None) -> Iterator[Tick]:
+    """The ticks of a session that was run, from the first to the last, of one slot or of all. They are counted over the session."""
+    done, line, own = 0, 0, []       # the ticks before; the line that asks for them; its turns so far, as TICK lines
     for exchange in unrolled(told):
         if exchange.line.kind != "TICK" or exchange.reason:
             continue
-        letters = "".join(letter * count for count, letter in runs_of(exchange))
-        own = turns.setdefault(exchange.line.number, [])
-        for place, letter in enumerate(letters, 1):
-            ticks.append(Tick(len(ticks) + 1, exchange.line.number, number(exchange.words[1]), place, len(letters), letter,
-                              letters[place:place + 1], list(own)))
-        own.append(exchange.line.text)
-    for tick in ticks:
-        tick.later = turns[tick.line][len(tick.earlier) + 1:]
-    return ticks
+        if exchange.line.number != line:
+            line, own = exchange.line.number, []
+        runs = runs_of(exchange)
+        count = sum(n for n, _ in runs)
+        if done < last and done + count >= first and slot in (None, number(exchange.words[1])):
+            letters = "".join(letter * n for n, letter in runs)
+            for place in range(max(first - done, 1), min(last - done, count) + 1):
+                yield Tick(done + place, line, number(exchange.words[1]), place, count, letters[place - 1], letters[place:place + 1], own)
+        done += count
+        own = own + [exchange.line.text]
+
+
+def turns_by_line(told: List[Exchange]) -> Dict[int, List[str]]:
+    """The turns of each RUN line, as TICK lines."""
+    return {exchange.line.number: [turn.line.text for turn in turns_of(exchange)] for exchange in told
+            if exchange.line.kind == "RUN" and not exchange.reason}
 
 
 def text_of(lines: List[str]) -> bytes:
@@ -49,7 +66,8 @@ def before(lines: List[Line], tick: Tick) -> List[str]:
     return [line.text for line in lines[:tick.line - 1]] + tick.earlier + ["TICK %o %o" % (tick.slot, tick.place)]
 
 
-def behind(lines: List[Line], tick: Tick) -> List[str]:
-    """The rest of a session, behind a tick."""
+def behind(lines: List[Line], tick: Tick, turns: Dict[int, List[str]]) -> List[str]:
+    """The rest of a session, behind a tick, where RUN lines have these turns."""
     rest = ["TICK %o %o" % (tick.slot, tick.of - tick.place)] if tick.of > tick.place else []
-    return rest + tick.later + [line.text for line in lines[tick.line:] if not line.ended]
+    later = turns.get(tick.line, [])[len(tick.earlier) + 1:]
+    return rest + later + [line.text for line in lines[tick.line:] if not line.ended]

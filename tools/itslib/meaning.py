@@ -5,6 +5,7 @@ from dataclasses import dataclass, field
 from typing import Callable, Dict, List, Set
 
 from .session import Exchange, peek_of, runs_of, state_of, turns_of
+from .symbols import Symbols
 from .words import (CALLS, DIGITS, ERRORS, FATAL, LETTERS, PENDING, STATES, ascii_of, byte_pointer, call_name, character,
                     flags_of, held, number, pc_of, pc_word, pending, short, signed, sixbit, typed)
 
@@ -23,6 +24,11 @@ class Known:
     loaded: Dict[int, str] = field(default_factory=dict)           # the words of the LOAD block that is open
     slot: int = 0                                                  # the slot that the last LOAD made
     made: List[int] = field(default_factory=list)                  # the slots that LOAD lines made
+    symbols: Dict[int, Symbols] = field(default_factory=dict)      # slot -> the symbols that SYM lines gave its job
+
+    def symbols_of(self, slot: int) -> Symbols:
+        """The symbols of the job in a slot."""
+        return self.symbols.setdefault(slot, Symbols())
 
 
 def count_of(n: int, one: str, more: str = "") -> str:
@@ -95,7 +101,7 @@ def says_load(exchange: Exchange, known: Known) -> List[str]:
     user, job, console = exchange.line.words[1:4]
     known.slot, known.loaded = number(exchange.words[1]), {}
     known.made.append(known.slot)
-    known.errors[known.slot] = set()
+    known.errors[known.slot], known.symbols[known.slot] = set(), Symbols()
     return ["a job %s %s is made in slot %o, %s" % (user, job, known.slot,
                                                    "without a console" if console == "-" else "with console " + console)]
 
@@ -112,7 +118,6 @@ def says_words(exchange: Exchange, known: Known) -> List[str]:
     for at, word in enumerate(words[1:]):
         whole = word.rjust(12, "0")[-12:]
         known.loaded[first + at] = whole
-        known.errors.setdefault(known.slot, set()).update(error_words(known.loaded))
         told = "the name " + CALLS[whole] if whole in CALLS else instruction(whole) or \
             ("the name " + sixbit(whole) if sixbit(whole) in NAMES else "")
         if told:
@@ -128,12 +133,15 @@ def says_read_only(exchange: Exchange, known: Known) -> List[str]:
 
 def says_symbol(exchange: Exchange, known: Known) -> List[str]:
     """SYM name a"""
+    known.symbols_of(known.slot).add(exchange.line.words[1], number(exchange.line.words[2]))
     return ["STATE of slot %o may name %s for %s" % (known.slot, short(exchange.line.words[2]), exchange.line.words[1])]
 
 
 def says_go(exchange: Exchange, known: Known) -> List[str]:
     """GO a"""
-    return ["the job in slot %o starts at %s" % (known.slot, short(exchange.line.words[1]))]
+    start = exchange.line.words[1]
+    known.errors[known.slot] = error_words(known.loaded)
+    return ["the job in slot %o starts at %s%s" % (known.slot, short(start), known.symbols_of(known.slot).near(number(start)))]
 
 
 def says_file(exchange: Exchange, known: Known) -> List[str]:
@@ -198,13 +206,17 @@ def says_exam(exchange: Exchange, known: Known) -> List[str]:
         told = reading(word)
         if at in known.errors.get(slot, ()) and number(word) in ERRORS:
             told = "as an error number: " + ERRORS[number(word)]
-        said.append("%06o holds %s%s" % (at, word, ": " + told if told else ""))
+        said.append("%06o%s holds %s%s" % (at, known.symbols_of(slot).near(at), word, ": " + told if told else ""))
     return said
 
 
 def says_list(exchange: Exchange, known: Known) -> List[str]:
-    """LIST s a n: its words are typed out already"""
-    return ["the job is found in user mode"]
+    """LIST s a n: its words are typed out already; where the job has symbols, they are shown by them"""
+    symbols, said = known.symbols_of(number(exchange.words[1])), ["the job is found in user mode"]
+    for one in exchange.answer if symbols.values else []:
+        _, _, place, text = one.split(" ", 3)
+        said.append("%s%s: %s" % (place, symbols.near(number(place)), symbols.typed(text)))
+    return said
 
 
 def bits_in_words(name: str, one: str, two: str) -> List[str]:
@@ -245,8 +257,9 @@ def says_deposit(exchange: Exchange, known: Known) -> List[str]:
     """DEPOSIT s a w"""
     _, slot, place, word = exchange.line.words
     told = reading(word.rjust(12, "0")[-12:])
-    return ["the word at %s of slot %s becomes %s%s; the job is found in user mode" % (
-        short(place), slot, short(word), " (%s)" % told if told else "")]
+    near = known.symbols_of(number(slot)).near(number(place))
+    return ["the word at %s%s of slot %s becomes %s%s; the job is found in user mode" % (
+        short(place), near, slot, short(word), " (%s)" % told if told else "")]
 
 
 def says_stop(exchange: Exchange, known: Known) -> List[str]:

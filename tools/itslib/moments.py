@@ -11,12 +11,12 @@ from typing import Dict, List, Optional, Tuple
 
 from .calls import Call, call_at
 from .cutting import text_of
-from .program import Outcome, run_all
-from .session import (Exchange, Peek, Transcript, Wrong, exchanges, lines_of, peek_of, runs_of, state_of)
+from .program import Outcome, run_all, run_each
+from .session import (Exchange, Peek, Transcript, Wrong, at_line, exchanges, lines_of, peek_of, runs_of, state_of)
 from .words import as_sixbit, number
 
 MOST = 4096                  # moments of a session
-SLOTS = 64
+SLOTS = {1: 64, 2: 96}       # by the version of the session text
 PAGE = 1024                  # words of a page
 GROUP = 8                    # words that one EXAM shows; a group of words has the number of its first address / 8
 ACCUMULATORS = 16            # words that each job has, and that are in no page
@@ -31,7 +31,8 @@ ROOM = 64                    # bytes that a console keeps of its input, and of i
 class Moment:
     """A moment of a session: the start, the end of a line, or of one tick of a TICK line."""
     line: int                                             # the line of the session, 0 at the start
-    before: List[str]                                     # the lines before this one that are no comments
+    lines: List[str]                                      # those of the session that are no comments: all moments have the same list
+    before: int                                           # how many of them come before this one
     now: List[str] = field(default_factory=list)          # this line; of a block all its lines; of a TICK its ticks so far
     slot: Optional[int] = None                            # the slot of which the line speaks
     letter: str = ""                                      # the letter of the tick
@@ -41,7 +42,7 @@ class Moment:
 
     def session(self, inspection: List[str]) -> bytes:
         """The session up to this moment, and then these lines."""
-        return text_of(self.before + self.now + inspection)
+        return text_of(self.lines[:self.before] + self.now + inspection)
 
 
 @dataclass
@@ -59,33 +60,53 @@ class Look:
 # The moments of a session
 # ---------------------------------------------------------------------------------------------------------------------
 
+def slots_of(told: List[Exchange]) -> int:
+    """How many slots a session has, by its version."""
+    return SLOTS[told[0].line.version if told else 1]
+
+
+def count_of_moments(told: List[Exchange]) -> int:
+    """How many moments a session has. None of them is made for this."""
+    count = 1
+    for exchange in told:
+        if exchange.line.kind == "TICK" and not exchange.reason:
+            count += sum(n for n, _ in runs_of(exchange))
+        elif exchange.reason or exchange.line.kind not in INSIDE + ("", "END"):
+            count += 1
+    return count
+
+
 def moments_of(told: List[Exchange]) -> List[Moment]:
-    """The moments of a session, from its lines with their answers."""
-    moments, before, block, made = [Moment(0, [])], [], [], None
+    """The moments of a session, from its lines with their answers, if they are not too many."""
+    count = count_of_moments(told)
+    if count > MOST:
+        raise Wrong("a page has at most %d moments, and this session has %d: make it shorter" % (MOST, count))
+    lines: List[str] = []
+    moments, begun, made = [Moment(0, lines, 0)], 0, None        # begun: where the block that is open begins in `lines`
     for exchange in told:
         line = exchange.line
         if exchange.reason:
-            moments.append(Moment(line.number, before, refused=True))
+            moments.append(Moment(line.number, lines, begun, refused=True))
             break
         if line.kind in ("", "END"):
             continue
-        block = block + [line.text]
+        lines.append(line.text)
         if line.kind == "LOAD":
             made = exchange.slot
         if line.kind in INSIDE:
             continue
         if line.kind == "TICK":
-            moments += ticks_of(exchange, before)
+            moments += ticks_of(exchange, lines, begun)
         else:
-            moments.append(Moment(line.number, before, block, exchange.slot if made is None else made, made=made))
-        before, block, made = before + block, [], None
+            moments.append(Moment(line.number, lines, begun, lines[begun:], exchange.slot if made is None else made, made=made))
+        begun, made = len(lines), None
     return moments
 
 
-def ticks_of(exchange: Exchange, before: List[str]) -> List[Moment]:
+def ticks_of(exchange: Exchange, lines: List[str], before: int) -> List[Moment]:
     """The moments of a TICK line."""
     letters = "".join(letter * count for count, letter in runs_of(exchange))
-    return [Moment(exchange.line.number, before, ["TICK %o %o" % (exchange.slot, at)], exchange.slot, letter)
+    return [Moment(exchange.line.number, lines, before, ["TICK %o %o" % (exchange.slot, at)], exchange.slot, letter)
             for at, letter in enumerate(letters, 1)]
 
 
@@ -104,7 +125,7 @@ class Cut:
     """The session cut into single ticks, with a PEEK of every job at each moment."""
 
     def __init__(self, name: str, told: List[Exchange], moments: List[Moment]):
-        self.name, self.told, self.moments = name, told, moments
+        self.name, self.told, self.moments, self.slots = name, told, moments, slots_of(told)
         self.gone: Dict[int, List[int]] = {}       # moment -> slots whose jobs a call removed there
         self.come: Dict[int, int] = {}             # moment -> the slot in which a call made a job
         self.asked = 0                             # OPENs before this moment have been looked at
@@ -169,10 +190,10 @@ class Cut:
         standing, asked = self.standing(), []
         for at in range(max(self.asked, 1), len(self.moments)):
             peek = self.moments[at - 1].jobs.get(self.moments[at].slot)
-            if self.moments[at].letter == "*" and peek and peek.call == as_sixbit("OPEN") and len(standing[at]) < SLOTS:
+            if self.moments[at].letter == "*" and peek and peek.call == as_sixbit("OPEN") and len(standing[at]) < self.slots:
                 asked.append((at, free_slot(standing[at])))
-        sessions = [self.moments[at].session(["PEEK %o" % slot]) for at, slot in asked]
-        for (at, slot), outcome in zip(asked, run_all(sessions)):
+        outcomes = run_each(self.moments[at].session(["PEEK %o" % slot]) for at, slot in asked)
+        for (at, slot), outcome in zip(asked, outcomes):
             if outcome.status == 0:
                 self.come[at], self.asked = slot, at + 1
                 return True
@@ -201,7 +222,7 @@ def answers_of(told: List[Exchange]) -> List[str]:
 
 def free_slot(slots: List[int]) -> int:
     """The least slot that is not among these."""
-    return next(slot for slot in range(SLOTS) if slot not in slots)
+    return next(slot for slot in range(len(slots) + 1) if slot not in slots)
 
 
 # ---------------------------------------------------------------------------------------------------------------------
@@ -221,7 +242,7 @@ class Looks:
     """Looks at all moments, one after the other, and keeps what changes from one to the next."""
 
     def __init__(self, name: str, told: List[Exchange], moments: List[Moment], watch: List[Tuple[int, int]]):
-        self.name, self.moments = name, moments
+        self.name, self.moments, self.slots = name, moments, slots_of(told)
         self.answers = {exchange.line.number: exchange.words for exchange in told}
         self.consoles = consoles_of(told)
         self.image = image_of(told)                         # line of a GO -> the groups that its LOAD block stores to
@@ -245,7 +266,7 @@ class Looks:
             if self.is_corblk(start):
                 self.find_page(start)
             plans = [self.plan(moment) for moment in self.moments[start:end] if not moment.refused]
-            outcomes = run_all([plan.moment.session(plan.lines) for plan in plans])
+            outcomes = run_each(plan.moment.session(plan.lines) for plan in plans)
             looks += [self.look(plan, outcome) for plan, outcome in zip(plans, outcomes)]
             looks += [Look()] * (end - len(looks))
         return looks
@@ -279,7 +300,7 @@ class Looks:
             plan.lines += ["EXAM %o %o %o" % (slot, group * GROUP, GROUP) for group in plan.groups[slot]]
         for console in self.consoles:
             plan.lines += ["DRAIN %s %o" % (console, ROOM)] + ["TYPE %s%s" % (console, " 0" * (ROOM // 2))] * 2
-        if len(moment.jobs) < SLOTS:
+        if len(moment.jobs) < self.slots:
             plan.lines.append("PEEK %o" % free_slot(sorted(moment.jobs)))
         return plan
 
@@ -303,8 +324,8 @@ class Looks:
         last = outcome.transcript.split("\n")[:-1][-len(plan.lines):] if plan.lines else []
         answers = [line.split(" ") for line in last]
         if (outcome.problem or len(last) < len(plan.lines)
-                or len(moment.jobs) < SLOTS and answers[-1][2:] != ["NOJOB"]):
-            raise Wrong("%s, line %d: %s" % (self.name, moment.line, outcome.problem or
+                or len(moment.jobs) < self.slots and answers[-1][2:] != ["NOJOB"]):
+            raise Wrong("%s, %s: %s" % (self.name, at_line(moment.line), outcome.problem or
                                              "this moment cannot be looked at: a job or a page is not what was expected"))
         for slot in set(self.states) - set(moment.jobs):
             for kept in (self.states, self.lines, self.calls):
@@ -322,7 +343,7 @@ class Looks:
     def note_job(self, plan: Plan, slot: int, answers: List[List[str]], look: Look) -> None:
         """Notes what PEEK, STATE and the EXAMs show of a job."""
         if peek_of(answers[0]) != plan.moment.jobs[slot]:
-            raise Wrong("%s, line %d: PEEK shows another frame in the session that ends there" % (self.name, plan.moment.line))
+            raise Wrong("%s, %s: PEEK shows another frame in the session that ends there" % (self.name, at_line(plan.moment.line)))
         old = self.lines.get(slot, {})
         new = {group: words[3:] for group, words in zip(plan.groups[slot], answers[2:])}
         changed = {group * GROUP + at: int(word, 8) for group, words in new.items() if old.get(group) != words

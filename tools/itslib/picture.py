@@ -30,7 +30,7 @@ KINDS = {"made": "LOAD makes the job",
          "gone": "gone by now: removed, some time before",
          "disturb": "a line that brings its job to user mode first (it disturbs the job)",
          "look": "PEEK: state in the call, and steps to user mode (it disturbs nothing)",
-         "other": "a line on a console, the clock or files (it disturbs no job)",
+         "other": "a line on a console, the clock or files (CLOCK disturbs jobs whose alarm is due)",
          "refused": "the line is refused, and the session is over"}
 
 NOTES = ["Numbers are octal. Those below a row say how many ticks came before, those in bars how many ticks the bar has.",

@@ -4,7 +4,8 @@ Nothing here decides whether a line is a good one: the program does (docs/SESSIO
 transcript that the program wrote for it, and where the two do not fit that is said.
 """
 
-from dataclasses import dataclass, field, replace
+import sys
+from dataclasses import dataclass
 from typing import Dict, List, Optional, Tuple
 
 from .words import number
@@ -30,38 +31,62 @@ CLOSES = {"LOAD": "GO", "FILE": "EOF"}
 
 @dataclass
 class Line:
-    """A line of a session. After the last line comes one without text, where a refusal as CUT stands."""
-    number: int                  # from 1
-    text: str                    # as it stands, without its LF
-    words: List[str]
-    kind: str                    # its first word; "a/" or "/" for words of a block; "" for an empty line or a comment
-    block: str = ""              # the block in which it stands: LOAD, FILE or none. GO and EOF stand in theirs
-    since: int = 0               # the number of the line that opened the block
-    ended: bool = False          # the input is at its end here
-    version: int = 1             # of the session text, which line 1 may say
+    """A line of a session. After the last line comes one without text, where a refusal as CUT stands. A session may have very many
+    lines, so each keeps little."""
+    __slots__ = ("number", "text", "kind", "block", "since", "ended", "version")
+    number: int         # from 1
+    text: str           # as it stands, without its LF
+    kind: str           # its first word; "a/" or "/" for words of a block; "" for an empty line or a comment
+    block: str          # the block in which it stands: LOAD, FILE or none. GO and EOF stand in theirs
+    since: int          # the number of the line that opened the block
+    ended: bool         # the input is at its end here
+    version: int        # of the session text, which line 1 may say
+
+    @property
+    def words(self) -> List[str]:
+        """Its words."""
+        return words_of(self.text)
 
 
 @dataclass
 class Exchange:
     """A line of a session with the lines of the transcript that answer it."""
+    __slots__ = ("line", "written", "reason", "at", "until")
     line: Line
-    answer: List[str] = field(default_factory=list)     # whole lines of the transcript
-    reason: str = ""                                    # why it is refused; then `answer` is the `?` line
-    at: int = 0                                         # how many lines of the transcript came before
+    written: List[str]      # the lines of the transcript
+    reason: str             # why it is refused; then `answer` is the `?` line
+    at: int                 # how many lines of the transcript came before
+    until: int              # and how many with its answer
+
+    @classmethod
+    def alone(cls, line: Line, answer: List[str] = [], reason: str = "") -> "Exchange":
+        """A line with these lines as its answer, and no others in view."""
+        return cls(line, answer, reason, 0, len(answer))
+
+    @property
+    def answer(self) -> List[str]:
+        """The lines of the transcript that answer it."""
+        return self.written[self.at:self.until]
 
     @property
     def words(self) -> List[str]:
         """The words of the first line that answers."""
-        return self.answer[0].split(" ") if self.answer else []
+        return self.written[self.at].split(" ") if self.until > self.at else []
 
     @property
     def slot(self) -> Optional[int]:
         """The slot that the line is about, where it names one or LOAD made it."""
-        if self.line.kind == "LOAD" and self.answer and not self.reason:
+        if self.line.kind == "LOAD" and self.until > self.at and not self.reason:
             return number(self.words[1])
-        if self.line.kind in JOB_LINES + ("TICK",) and len(self.line.words) > 1:
-            return number(self.line.words[1])
+        words = self.line.words
+        if self.line.kind in JOB_LINES + ("TICK",) and len(words) > 1:
+            return number(words[1])
         return None
+
+
+def at_line(line: int) -> str:
+    """The number of a line as each tool writes it: decimal as an editor counts, and octal as the program does."""
+    return "line %d (octal %o)" % (line, line)
 
 
 def kind_of(words: List[str]) -> str:
@@ -81,20 +106,43 @@ def split(text: str) -> List[str]:
     return lines
 
 
+def words_of(text: str) -> List[str]:
+    """The words of a line: its runs of bytes other than space."""
+    return [word for word in text.split(" ") if word]
+
+
+@dataclass
+class Places:
+    """Where the next line of a session stands: its number, the block that is open, and the version."""
+    number: int = 1
+    block: str = ""
+    since: int = 0               # the number of the line that opened the block
+    version: int = 1
+
+    def line(self, text: str) -> Line:
+        """The next line, which has this text."""
+        words = words_of(text)
+        kind = sys.intern(kind_of(words))
+        if self.number == 1 and kind == "VERSION" and [word.lstrip("0") for word in words[1:]] == ["2"]:
+            self.version = 2
+        line = Line(self.number, text, kind, self.block, self.since, False, self.version)
+        if not self.block and kind in CLOSES:
+            self.block, self.since = kind, self.number
+        elif self.block and kind == CLOSES[self.block]:
+            self.block, self.since = "", 0
+        self.number += 1
+        return line
+
+    def end(self) -> Line:
+        """The end of the input."""
+        return Line(self.number, "", "", self.block, self.since, True, self.version)
+
+
 def lines_of(text: str) -> List[Line]:
     """The lines of a session with their blocks, and the end of the input behind them."""
-    lines, block, since, version = [], "", 0, 1
-    for at, one in enumerate(split(text), 1):
-        words = [word for word in one.split(" ") if word]
-        kind = kind_of(words)
-        if at == 1 and kind == "VERSION" and [word.lstrip("0") for word in words[1:]] == ["2"]:
-            version = 2
-        lines.append(Line(at, one, words, kind, block, since, version=version))
-        if not block and kind in CLOSES:
-            block, since = kind, at
-        elif block and kind == CLOSES[block]:
-            block, since = "", 0
-    lines.append(Line(len(lines) + 1, "", [], "", block, since, ended=True, version=version))
+    places = Places()
+    lines = [places.line(one) for one in split(text)]
+    lines.append(places.end())
     return lines
 
 
@@ -106,7 +154,7 @@ class Transcript:
 
     def place(self) -> str:
         """Where the next line stands, for a complaint."""
-        return "%s, line %d" % (self.name, self.at + 1)
+        return "%s, %s" % (self.name, at_line(self.at + 1))
 
     def words(self) -> List[str]:
         """The words of the next line, none at the end."""
@@ -192,7 +240,7 @@ def match(name: str, lines: List[Line], transcript: Transcript, told: List[Excha
                 transcript.at += turns
         except (Wrong, ValueError, IndexError) as problem:
             raise misfit(name, line, problem)
-        told.append(Exchange(line, transcript.lines[start:transcript.at], reason, start))
+        told.append(Exchange(line, transcript.lines, reason, start, transcript.at))
         turns = None
         if reason or line.kind == "END":
             break
@@ -203,9 +251,10 @@ def match(name: str, lines: List[Line], transcript: Transcript, told: List[Excha
 def turns_of(exchange: Exchange) -> List[Exchange]:
     """The turns of a RUN line, each as a TICK of its slot with the number of the line."""
     turns, line = [], exchange.line
-    for at, answer in enumerate(exchange.answer):
-        words = ["TICK", answer.split(" ")[1], line.words[2]]
-        turns.append(Exchange(replace(line, text=" ".join(words), words=words, kind="TICK"), [answer], "", exchange.at + at))
+    for at in range(exchange.at, exchange.until):
+        text = "TICK %s %s" % (exchange.written[at].split(" ")[1], line.words[2])
+        turn = Line(line.number, text, "TICK", line.block, line.since, line.ended, line.version)
+        turns.append(Exchange(turn, exchange.written, "", at, at + 1))
     return turns
 
 
@@ -218,7 +267,7 @@ def unrolled(told: List[Exchange]) -> List[Exchange]:
 def misfit(name: str, line: Line, problem: Exception) -> Wrong:
     """The complaint that a line and its answer do not fit."""
     why = str(problem) if not isinstance(problem, IndexError) else "the transcript's answer is too short"
-    return Wrong("%s, line %d: %s" % (name, line.number, why))
+    return Wrong("%s, %s: %s" % (name, at_line(line.number), why))
 
 
 def runs_of(exchange: Exchange) -> List[Tuple[int, str]]:

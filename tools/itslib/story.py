@@ -20,6 +20,7 @@ class Lane:
 @dataclass
 class Run:
     """Ticks of one lane with the same letter."""
+    __slots__ = ("lane", "letter", "count", "start", "line")
     lane: Lane
     letter: str
     count: int
@@ -30,6 +31,7 @@ class Run:
 @dataclass
 class Mark:
     """Something that falls between two ticks. Without a lane it is about no single job."""
+    __slots__ = ("lane", "kind", "labels", "tip", "at", "line")
     lane: Optional[Lane]
     kind: str                # made, seen, gone, disturb, look, other or refused
     labels: List[str]        # what is written at it: the longest label first, then shorter ones
@@ -173,7 +175,7 @@ def tell_job_line(story: Story, exchange: Exchange, tip: str) -> None:
 
 
 def tell_other_line(story: Story, exchange: Exchange, tip: str) -> None:
-    """A line on a console, the clock or files, which disturbs no job."""
+    """A line on a console, the clock or files. It disturbs no job, except that CLOCK disturbs those with a due alarm."""
     words, answer = exchange.line.words, exchange.words
     brief = " ".join(words[:2])
     labels = [" ".join(words), words[0]]
@@ -217,17 +219,20 @@ def tell_one(story: Story, exchange: Exchange) -> None:
         tell_other_line(story, exchange, tip)
 
 
-def tell(name: str, told: List[Exchange], first: int = 1, last: int = 1 << 30) -> Story:
-    """The story of a session, from its lines with their answers; or of its lines from the first to the last."""
+def tell(name: str, told: List[Exchange], first: int = 1, last: int = 1 << 30, most: int = 1 << 30) -> Story:
+    """The story of a session, from its lines with their answers; or of its lines from the first to the last. It has so many pieces at
+    most."""
     story = Story(first, last)
     for exchange in unrolled(told):
         try:
             tell_one(story, exchange)
         except (Wrong, ValueError, IndexError, TypeError) as problem:
             raise misfit(name, exchange.line, problem)
+        if len(story.pieces) > most:
+            raise Wrong("%s: a picture has at most %d bars and marks, and this one would have more: narrow it by --lines A-B" % (name, most))
     return story
 
 
-def story_of(name: str, session: str, transcript: Transcript, first: int = 1, last: int = 1 << 30) -> Story:
+def story_of(name: str, session: str, transcript: Transcript, first: int = 1, last: int = 1 << 30, most: int = 1 << 30) -> Story:
     """The story of a session (its text) and its transcript."""
-    return tell(name, exchanges(name, lines_of(session), transcript), first, last)
+    return tell(name, exchanges(name, lines_of(session), transcript), first, last, most)

@@ -1,133 +1,84 @@
-// The page of a session: steps through its moments, and shows what was recorded at each. tools/itslib/page.py says what the
-// record holds; each moment has what is other than at the one before. Words and numbers are octal, as text.
+// Steps through the moments of a session, and shows what holds at each: the timeline with a cursor, the jobs and the consoles. What holds
+// at a moment the worker finds out when the reader is there (moments.js, `view`). Words and numbers are octal, as text.
 "use strict";
 
-const record = JSON.parse(document.getElementById("recorded").textContent);
-const moments = record.moments;
-const BAR = 18;                    // the height of a bar of the picture
-const TITLE = 34;                  // so much of the picture, its title, is cut off at the top
-const ACCUMULATORS = 16;           // words that each job has, and that are in no page
-const PAGE = 1024;                 // words of a page
-const CHANGED = 8;                 // so many changed words are listed
-const MANY = 4;                    // where more jobs stand, the one that is ticked and those that are looked at come first
-const LETTERS = 48;                // so many letters of a TICK line stand on each side of the one at the cursor
+const TITLE = 34;                        // so much of the picture, its title, is cut off at the top
+const CHANGED = 8;                       // so many changed words are listed
+const MANY = 4;                          // if there are more jobs, the one that is ticked and those that are looked at come first
+const LETTERS = 48;                      // so many letters of a TICK line are shown on each side of the one at the cursor
 
-const at = {moment: 0};            // where the reader is
-const looking = new Set();         // slots whose jobs are looked at
-const watched = [...record.watch]; // addresses that are shown besides, as the reader typed them
-const cards = new Map();           // slot -> the parts of its card
+const program = new Program();
+const at = {moment: 0, drawn: -1};       // where the reader is, and what is drawn
+const looking = new Set();               // slots whose jobs are looked at
+const watched = [];                      // addresses that are shown besides, as the reader typed them
+const cards = new Map();                 // slot -> the parts of its card
+
+let shown = null;                        // the session that is shown: its name, text, lines, moments and picture
+let now = null;                          // what holds at the moment that is drawn
 
 
 // ---------------------------------------------------------------------------------------------------------------------
-// The record: what holds at a moment
+// The session that is shown
 // ---------------------------------------------------------------------------------------------------------------------
 
-let ticks = 0;
-for (const moment of moments) {
-  if (moment.letter) ticks += 1;
-  moment.tick = ticks;             // how many ticks of the session are made
-}
-
-let known = null;                  // what holds at the moment `known.moment`
-
-function nothing() {
-  return {moment: -1, peek: {}, state: {}, words: {}, pages: {}, ranges: {}, call: {}, queue: {}};
-}
-
-// What holds at a moment: that of the one before it, with its changes.
-function holding(moment) {
-  if (!known || known.moment > moment) known = nothing();
-  while (known.moment < moment) {
-    known.moment += 1;
-    change(moments[known.moment]);
-  }
-  return known;
-}
-
-function change(moment) {
-  for (const [slot, peek] of Object.entries(moment.peek || {})) {
-    if (peek !== null) known.peek[slot] = peek;
-    else for (const kept of ["peek", "state", "words", "pages", "ranges", "call"]) delete known[kept][slot];
-  }
-  for (const kept of ["state", "pages", "call", "queue"]) Object.assign(known[kept], moment[kept]);
-  for (const [slot, ranges] of Object.entries(moment.ranges || {})) {
-    known.ranges[slot] = ranges.map(range => range.map(value));
-    for (const address of Object.keys(known.words[slot] || {})) {
-      if (!isRecorded(slot, value(address))) delete known.words[slot][address];
+// The moments of a session, each with how many ticks were made and its place in the picture: [row, x, width, top].
+function momentsIn(outline, picture) {
+  const spots = picture.spots || [], runs = spots.filter(spot => spot.count), marks = spots.filter(spot => !spot.count);
+  const visible = marks.filter(({kind}) => kind !== "gone" && kind !== "seen");
+  let ticks = 0, run = 0, mark = -1;
+  return outline.map(([line, slot, letter]) => {
+    const moment = {line, slot, letter, tick: letter ? ticks += 1 : ticks};
+    if (letter) {
+      while (run < runs.length && runs[run].start + runs[run].count < ticks) run += 1;
+      if (run < runs.length) {
+        const {row, x, width, top, start, count} = runs[run];
+        moment.place = [row, x + width / count * (ticks - 1 - start), width / count, top];
+      }
+    } else {
+      while (mark + 1 < visible.length && visible[mark + 1].line <= line) mark += 1;
+      if (mark >= 0) moment.place = [visible[mark].row, visible[mark].x, visible[mark].width, visible[mark].top];
     }
-  }
-  for (const [slot, words] of Object.entries(moment.words || {})) {
-    known.words[slot] = Object.assign(known.words[slot] || {}, words);
-  }
+    return moment;
+  });
 }
 
-function isRecorded(slot, address) {
-  return (known.ranges[slot] || []).some(([start, count]) => start <= address && address < start + count);
-}
+// How many ticks the session has.
+function allTicks() { return shown.moments[shown.moments.length - 1].tick; }
 
-// The word that somebody finds at an address: {word}, or {why} there is none.
-function wordAt(slot, address) {
-  if (isRecorded(slot, address)) return {word: (known.words[slot] || {})[octal(address)] || "0"};
-  const page = octal(Math.floor(address / PAGE));
-  if (!(known.pages[slot] || []).includes(page)) return {why: "no page here: EXAM would be refused as NOPAGE"};
-  return {why: "not recorded; tools/player --look " + octal(address) + ",1 records it"};
-}
-
-// The parts of what PEEK shows.
-function framed(peek) {
-  const [state, call, left, a, b, held] = peek.split(" ");
-  return {state, call, left, a, b, held};
-}
-
-const REGISTERS = ["user", "job", "superior", "console", "run", "pc", "pending1", "pending2", "mask1", "mask2", "defer1",
-                   "defer2"];
-
-// The registers that STATE shows.
-function registers(state) {
-  const words = state.split(" ");
-  return Object.fromEntries(REGISTERS.map((name, at) => [name, words[at]]));
+// The word that somebody finds at an address of a job: {word}, or {why} there is none.
+function wordAt(job, address) {
+  const group = job.words[Math.floor(address / GROUP)];
+  if (group) return {word: short(group[address % GROUP])};
+  if (!job.pages.includes(pageOf(address))) return {why: "no page here: EXAM would be refused as NOPAGE"};
+  return {why: "not looked at: type its address below"};
 }
 
 
 // ---------------------------------------------------------------------------------------------------------------------
-// Words, and what they mean
+// What a word means to its call
 // ---------------------------------------------------------------------------------------------------------------------
 
-function value(word) { return parseInt(word, 8); }
-function octal(number) { return number.toString(8); }
-
-// Some bits of a word, numbered from the left; 36 bits are too many for JavaScript's own.
-function bits(word, first, last) { return Math.floor(value(word) / 2 ** (35 - last)) % 2 ** (last - first + 1); }
-
-function sixbit(word) {
-  return [0, 1, 2, 3, 4, 5].map(at => String.fromCharCode(bits(word, 6 * at, 6 * at + 5) + 32)).join("").trimEnd();
-}
-
-// The characters of a word that holds text, five of 7 bits with zeros at the end; nothing where it holds none.
+// The characters of a word that holds printing text, five of 7 bits with zeros at the end; nothing if it holds none.
 function ascii(word) {
-  const codes = [0, 1, 2, 3, 4].map(at => bits(word, 7 * at, 7 * at + 6));
-  while (codes.length && codes[codes.length - 1] === 0) codes.pop();
-  const printed = codes.length && codes.every(code => code >= 32 && code < 127) && codes[codes.length - 1] !== 32;
-  return printed && bits(word, 35, 35) === 0 ? '"' + String.fromCharCode(...codes) + '"' : "";
+  const said = asciiOf(twelve(word));
+  return /^"[^<]*"$/.test(said) ? said : "";
 }
 
-function character(word) {
-  const code = value(word);
-  return code >= 32 && code < 127 ? "'" + String.fromCharCode(code) + "'" : "";
-}
+// A byte that can be printed, in quotes; else nothing.
+function printed(word) { return isPrinting(value(word)) ? character(value(word)) : ""; }
 
 // A byte pointer: before the first byte of a word, at one of its bytes, or somewhere else in it.
-function bytePointer(word) {
+function pointerText(word) {
   const place = bits(word, 0, 5), size = bits(word, 6, 11), address = octal(bits(word, 18, 35));
   const each = ", " + octal(size) + " bits each";
   if (size === 0 || size > 36 || bits(word, 13, 17) || place > 36) return "";
   if (size === 36 && place % 36 === 0) return (place ? "before word " : "at word ") + address;
   if (place === 36) return "before the first byte of " + address + each;
-  if ((36 - place) % size) return "in " + address + ", " + octal(place) + " bits behind it" + each;
+  if ((36 - place) % size) return "in " + address + ", with " + octal(place) + " bits to its right" + each;
   return "at byte " + octal((36 - place) / size) + " of " + address + each;
 }
 
-// A word as text: in ASCII; in SIXBIT too, where it has one character in ASCII at most.
+// A word as text: in ASCII; in SIXBIT too, if it has one character in ASCII at most.
 function texts(word) {
   const text = ascii(word), name = sixbit(word), isName = /^[A-Z][A-Z0-9]*$/.test(name) && text.length < 4;
   return [text && text + " in ASCII", isName && name + " in SIXBIT"].filter(Boolean).join(", ");
@@ -137,22 +88,15 @@ function negated(word) { return octal(2 ** 36 - value(word)); }
 
 // What a word means to its call.
 function meaning(role, word) {
-  if (role === "pointer") return bytePointer(word);
+  if (role === "pointer") return pointerText(word);
   if (role === "count") return word === "0" ? "none to go" : word + " to go";
   if (role === "time") return bits(word, 0, 0) ? "minus the time of waking, " + negated(word) : word + " thirtieths of a second";
   if (/^(device|variable|directory|name \d|new name \d)$/.test(role)) return sixbit(word) && sixbit(word) + " in SIXBIT";
-  if (role === "byte" || role === "its word") return character(word) || texts(word);
+  if (role === "byte" || role === "its word") return printed(word) || texts(word);
   return texts(word);
 }
 
-// The names of the bits that are on; without `user`, which is on in each PC word.
-function names(table, word) {
-  const on = table.filter(([bit, name]) => Math.floor(value(word) / value(bit)) % 2 && name !== "user");
-  return on.map(([, name]) => name).join(", ");
-}
-
-function callName(word) { return record.says.calls[word] || sixbit(word); }
-function plural(count, word) { return count + " " + word + (count === "1" ? "" : "s"); }
+function plural(count, word) { return octal(count) + " " + word + (count === 1 ? "" : "s"); }
 
 
 // ---------------------------------------------------------------------------------------------------------------------
@@ -237,27 +181,26 @@ function fillForm(card, slot) {
   });
 }
 
-// Shows a job: where it stands, and the words of its call.
-function showJob(slot, moment) {
-  const card = cardOf(slot), peek = framed(known.peek[slot]), state = registers(known.state[slot]), call = known.call[slot];
-  const looks = looking.has(slot);
+// Shows a job: where it is in a call, and the words of its call.
+function showJob(slot) {
+  const card = cardOf(slot), job = now.jobs[slot], looks = looking.has(slot);
   card.whole.hidden = false;
-  card.whole.classList.toggle("ticked", moment.slot === slot);
+  card.whole.classList.toggle("ticked", now.slot === slot);
   card.whole.classList.toggle("looked", looks);
-  const title = "Slot " + slot + "  " + sixbit(state.user) + " " + sixbit(state.job) + " ";
-  card.title.replaceChildren(title, element("span", "note", notesOf(state)));
+  const title = "Slot " + slot + "  " + sixbit(job.state.user) + " " + sixbit(job.state.job) + " ";
+  card.title.replaceChildren(title, element("span", "note", jobNotes(job.state)));
   card.button.setAttribute("aria-pressed", looks);
-  showFrame(card, peek, call);
-  const rows = rowsOf(slot, peek, state, call, moment, looks);
+  showFrame(card, slot, job);
+  const rows = rowsOf(slot, job, looks);
   card.table.hidden = rows.length === 0;
   card.head.replaceChildren(element("th", "", "Word"), element("th", "", RAW), ...(looks ? [element("th", "", FOUND)] : []));
   card.body.replaceChildren(...rows);
-  card.verdict.textContent = looks ? verdict(peek, state, call, card.body.querySelector(".restored")) : "";
-  card.registers.textContent = looks ? stateText(state) : "";
+  card.verdict.textContent = looks ? verdict(job, card.body.querySelector(".restored")) : "";
+  card.registers.textContent = looks ? stateText(job.state) : "";
   card.ask.hidden = !looks;
 }
 
-function notesOf(state) {
+function jobNotes(state) {
   const notes = [];
   if (state.superior !== "-") notes.push("inferior of slot " + state.superior);
   if (state.console !== "-") notes.push("console " + state.console);
@@ -265,51 +208,87 @@ function notesOf(state) {
   return notes.join(", ");
 }
 
-// Where the job stands in its call, in words.
-function showFrame(card, peek, call) {
+// Where the job is in its call, in words, and the place of its program.
+function showFrame(card, slot, job) {
+  const {peek, call} = job, place = placeElement(slot, job);
   if (peek.state === "USER") {
-    card.frame.replaceChildren(element("span", "where-in user", peek.state), record.says.states.USER);
+    card.frame.replaceChildren(element("span", "where-in user", peek.state), TABLES.states.USER, ...place);
     return;
   }
   const name = (peek.call === "-" ? "a call" : callName(peek.call)) + (call ? " at " + call.at : "");
-  const immediate = call && peek.call !== "-" ? call.arguments.filter(argument => argument.length === 3) : [];
-  const boxes = element("span", "steps", "■".repeat(value(peek.left)));
+  const immediate = call && peek.call !== "-" ? call.arguments.filter(argument => argument.address === undefined) : [];
+  const boxes = element("span", "steps", "■".repeat(peek.left));
   boxes.setAttribute("aria-hidden", "true");
   card.frame.replaceChildren(
     element("span", "where-in", peek.state), element("strong", "", name),
-    element("span", "note", immediate.map(([role, , word]) => role + " " + word).join(", ")),
+    element("span", "note", immediate.map(one => one.role + " " + one.value).join(", ")),
     element("span", "", plural(peek.left, "step") + " from user mode ", boxes),
-    element("span", "note", record.says.states[peek.state]));
+    element("span", "note", TABLES.states[peek.state]), ...place);
+}
+
+// The assembly text of the job in a slot, if one is known: that of the last LOAD that made a job there.
+function sourceOf(slot) {
+  const loads = shown.lines.filter(one => one.line <= now.line && one.text.trim().startsWith("LOAD ") && one.answer[0] === "J " + slot);
+  const last = loads[loads.length - 1];
+  return last && shown.sources.find(source => source.line === last.line);
+}
+
+// The nearest symbol at or below an address, and the line of the assembly text that put the word there.
+function symbolAt(slot, address) {
+  const source = sourceOf(slot), symbols = source ? source.symbols.filter(([, place]) => place <= address) : [];
+  const [name, place] = symbols.reduce((best, one) => one[1] >= best[1] ? one : best, ["", -1]);
+  return name && name + (address === place ? "" : "+" + octal(address - place));
+}
+
+function sourceLine(slot, address) {
+  const source = sourceOf(slot), found = source && source.places.findLast(([place]) => place === address);
+  return found ? {line: found[1], text: source.lines[found[1] - 1].trim()} : null;
+}
+
+// The symbol that STATE names, which version 2 of the session text has.
+function symbolOf(state) {
+  return (state.symbol || "-") === "-" ? "" : sixbit(state.symbol) + (state.past === "0" ? "" : "+" + state.past);
+}
+
+// The instruction at the place of a job: at its call, or at the PC that STATE shows; its symbol, and its line of the assembly text.
+function placeElement(slot, job) {
+  const pc = value(job.state.pc.slice(6)), at = job.call ? value(job.call.at) : pc, isPc = at === pc;
+  if (job.peek.state !== "USER" && !job.call) return [];
+  const symbol = symbolAt(slot, at) || isPc && symbolOf(job.state), line = sourceLine(slot, at);
+  const words = [octal(at) + (symbol ? " (" + symbol + ")" : ""), isPc && job.instruction].filter(Boolean).join(": ");
+  const place = element("span", "place-in", words);
+  if (line) place.append(" ", element("span", "note", "line " + line.line + " of its text: "), element("code", "", line.text));
+  return [place];
 }
 
 // The rows of a job's table.
-function rowsOf(slot, peek, state, call, moment, looks) {
-  const rows = [], seen = new Set();
+function rowsOf(slot, job, looks) {
+  const {peek, call} = job, rows = [], seen = new Set();
   const row = (role, address, raw) => {
     if (address !== null) seen.add(address);
-    if (looks || raw !== "-") rows.push(rowOf(slot, role, address, raw, looks));
+    if (looks || raw !== "-") rows.push(rowOf(slot, job, role, address, raw, looks));
   };
-  if (looks) rows.push(pcRow(peek, state, call));
-  for (const [role, address] of call ? call.arguments.filter(argument => argument.length === 2) : []) {
+  if (looks) rows.push(pcRow(slot, job));
+  for (const {role, address} of call ? call.arguments.filter(argument => argument.address !== undefined) : []) {
     row(role, address, role === "pointer" || role === "time" ? peek.a : role === "count" ? peek.b : "-");
   }
   if (peek.held !== "-") rows.push(heldRow(peek, looks));
-  const pointer = call && call.arguments.find(([role, address]) => role === "pointer" && address);
-  const target = pointer && wordAt(slot, value(pointer[1])).word;
+  const pointer = call && call.arguments.find(({role, address}) => role === "pointer" && address !== undefined);
+  const target = pointer && wordAt(job, value(pointer.address)).word;
   if (target) row("byte's word", octal(bits(target, 18, 35)), "-");
   for (const address of watched) if (!seen.has(address)) row("watched", address, "-");
-  const changed = moment.ranges && moment.ranges[slot] ? [] : Object.keys((moment.words || {})[slot] || {});
-  for (const address of changed.filter(one => !seen.has(one)).slice(0, CHANGED)) row("changed at this moment", address, "-");
+  for (const address of job.changed.filter(one => !seen.has(one)).slice(0, CHANGED)) row("changed at this moment", address, "-");
   return rows;
 }
 
 // The row of a word: what PEEK shows of it, and what somebody finds.
-function rowOf(slot, role, address, raw, looks) {
-  const found = wordAt(slot, value(address)), word = found.word;
+function rowOf(slot, job, role, address, raw, looks) {
+  const found = wordAt(job, value(address)), word = found.word;
   const stale = raw !== "-" && word !== undefined && value(raw) !== value(word);
-  const head = element("th", "", role + " ", element("span", "place", "word " + address));
+  const symbol = symbolAt(slot, value(address));
+  const head = element("th", "", role + " ", element("span", "place", "word " + address + (symbol ? " (" + symbol + ")" : "")));
   head.scope = "row";
-  if (role === "watched" && !record.watch.includes(address)) head.append(dropButton(slot, address));
+  if (role === "watched") head.append(dropButton(slot, address));
   const row = element("tr", "", head);
   row.dataset.address = address;
   row.dataset.role = role;
@@ -332,14 +311,23 @@ function dropButton(slot, address) {
   return button;
 }
 
-function pcRow(peek, state, call) {
-  const pc = octal(value(state.pc.slice(6))), inside = peek.state !== "USER";
-  const where = inside && call ? (pc === call.at ? "at the call" : "behind the call") : "";
-  const head = element("th", "", "PC");
+// Where the PC of a job is that somebody finds inside a call: at the call, after it, or at the place that DISMIS goes back to.
+function pcPlace(job) {
+  const pc = value(job.state.pc.slice(6)), {call} = job;
+  if (job.peek.state === "USER" || !call) return "";
+  if (pc === value(call.at)) return "at the call";
+  if (call.name === "DISMIS") return "at the interrupted place";
+  return pc - value(call.at) <= 2 && pc > value(call.at) ? "after the call" : "elsewhere";
+}
+
+function pcRow(slot, job) {
+  const pc = octal(value(job.state.pc.slice(6))), head = element("th", "", "PC"), where = pcPlace(job);
   head.scope = "row";
+  const symbol = symbolOf(job.state) || symbolAt(slot, value(pc));
+  const means = [where, symbol, job.instruction].filter(Boolean).join("; ");
   const found = element("td", "", element("span", "word", pc.padStart(6, "0")));
-  if (where) found.append(" ", element("span", "means", where));
-  return element("tr", "", head, textCell(inside ? "inside the call" : "not shown"), found);
+  if (means) found.append(" ", element("span", "means", means));
+  return element("tr", "", head, textCell(job.peek.state === "USER" ? "not shown" : "inside the call"), found);
 }
 
 function heldRow(peek, looks) {
@@ -352,18 +340,20 @@ function heldRow(peek, looks) {
 }
 
 // What somebody finds, in a sentence.
-function verdict(peek, state, call, restored) {
-  if (peek.state === "USER") return "In user mode already: looking changes nothing.";
-  const pc = octal(value(state.pc.slice(6))), steps = "After " + plural(peek.left, "small step") + " it is in user mode, ";
-  if (!call) return steps + "with its PC at " + pc + ".";
-  if (pc !== call.at) return steps + "behind its call, which is over.";
-  return steps + (restored ? "at its call, which says what remains." : "at its call, as if it had not been made.");
+function verdict(job, restored) {
+  if (job.peek.state === "USER") return "In user mode already: looking changes nothing.";
+  const pc = octal(value(job.state.pc.slice(6))), steps = "After " + plural(job.peek.left, "small step") + " it is in user mode, ";
+  switch (pcPlace(job)) {
+    case "at the call": return steps + (restored ? "at its call, which says what remains." : "at its call, as if it had not been made.");
+    case "after the call": return steps + "after its call, which is over.";
+    case "at the interrupted place": return steps + "at the place " + pc + " that was interrupted: its call is over, and went back there.";
+    default: return steps + "with its PC at " + pc + ".";
+  }
 }
 
 function stateText(state) {
   const word = name => octal(value(state[name]));
-  const list = [state.run, "flags " + (names(record.says.flags, state.pc.slice(0, 6)) || "none")];
-  const pending = names(record.says.pending, state.pending1);
+  const list = [state.run, "flags " + (flagsOf(state.pc).join(", ") || "none")], pending = pendingNames(state.pending1).join(", ");
   list.push("pending " + word("pending1") + " " + word("pending2") + (pending && " (" + pending + ")"));
   list.push("masks " + word("mask1") + " " + word("mask2"), "deferrals " + word("defer1") + " " + word("defer2"));
   return "STATE shows: " + list.join("; ") + ".";
@@ -371,102 +361,85 @@ function stateText(state) {
 
 
 // ---------------------------------------------------------------------------------------------------------------------
-// Consoles, the session and the picture
+// Consoles and the picture
 // ---------------------------------------------------------------------------------------------------------------------
 
 function bytesText(bytes) {
   if (bytes.length === 0) return "nothing";
-  return bytes.map(byte => character(byte) || "<" + byte + ">").join(" ") + "  (" + bytes.join(" ") + ")";
+  return bytes.map(byte => printed(byte) || "<" + byte + ">").join(" ") + "  (" + bytes.join(" ") + ")";
 }
 
 function showConsoles() {
-  const shown = Object.keys(known.queue).sort().map(console => {
+  const boxes = Object.keys(now.queues).sort().map(console => {
     const list = element("dl", "console", element("h3", "", "Console " + console));
-    known.queue[console].forEach((bytes, out) => {
+    now.queues[console].forEach((bytes, out) => {
       list.append(element("dt", "", out ? "put out, waits" : "typed, waits"), element("dd", "", bytesText(bytes)));
     });
     list.dataset.console = console;
     return list;
   });
-  document.getElementById("consoles").replaceChildren(...shown);
+  byId("consoles").replaceChildren(...boxes);
 }
 
-const lineElements = [];
-
-// The lines of the session with their answers.
-function listLines() {
-  const count = Math.max(record.lines.length, ...Object.keys(record.answers).map(Number));
-  for (let number = 1; number <= count; number += 1) {
-    lineElements[number] = lineElement(number, record.lines[number - 1], record.answers[number] || []);
-  }
-  document.getElementById("lines").append(...lineElements.slice(1));
+// The picture of the session, and the names of its lanes, which stay in sight when the picture is scrolled.
+function showPicture(picture) {
+  byId("unpictured").hidden = Boolean(picture.svg);
+  byId("unpictured").textContent = picture.count ? "The picture would have " + picture.count + " pieces; it is drawn of " + MOST_PIECES +
+    " at most. tools/timeline --lines draws a part." : "There is nothing to draw.";
+  byId("picture").hidden = !picture.svg;
+  byId("drawing").innerHTML = picture.svg || "";
+  byId("lanes").replaceChildren(...(picture.names || []).map(({top, names}) => {
+    const lane = element("div", "lane", ...names[0].split(": ").map(part => element("span", "", part)));
+    lane.style.top = (top - TITLE - 2) + "px";
+    return lane;
+  }));
+  showLegend(picture);
 }
 
-// A line of the session. A click on it goes to its end.
-function lineElement(number, text, answers) {
-  const isComment = text !== undefined && /^ *(;|$)/.test(text);
-  const source = element("span", isComment ? "source comment" : "source", text === undefined ? "(the input ends)" : text);
-  const item = element("li", "", element("span", "number", octal(number)), source);
-  item.append(...answers.map(one => element("span", "answer", one)));
-  item.dataset.line = number;
-  item.classList.toggle("refused", answers.some(one => one.startsWith("?")));
-  item.addEventListener("click", () => go(moments.findLastIndex(moment => moment.line <= number)));
-  return item;
+function showLegend(picture) {
+  const sign = (inner, words) => {
+    const item = element("li", "", "");
+    item.innerHTML = '<svg class="sign" width="24" height="18" aria-hidden="true">' + inner + "</svg> ";
+    item.append(words);
+    return item;
+  };
+  const letters = Object.entries(TABLES.letters).map(([letter, [fill, edge, words]]) => sign(
+    '<rect x="1" y="1" width="22" height="16" fill="' + fill + '" stroke="' + edge + '"/><text x="12" y="13" class="middle' +
+    (letter === "*" ? " white" : "") + '">' + letter + "</text>", words));
+  const kinds = Object.entries(TABLES.kinds).filter(([kind]) => (picture.kinds || []).includes(kind))
+    .map(([kind, words]) => sign(markSign(kind, 12, 14), words));
+  byId("legend").replaceChildren(...letters, ...kinds, ...(picture.isBroken ? [sign("", TABLES.notes.broken)] : []));
 }
 
-let lineShown = null;
-
-function showLine(moment) {
-  if (lineShown) {
-    lineShown.removeAttribute("aria-current");
-    const letters = lineShown.querySelector(".letters");
-    if (letters) letters.remove();
-  }
-  const item = lineShown = lineElements[moment.line] || null, list = document.getElementById("lines");
-  if (!item) { list.scrollTop = 0; return; }
-  item.setAttribute("aria-current", "step");
-  if (moment.letter) item.append(lettersOf(moment));
-  scrollInto(list, item.offsetTop, item.offsetTop + item.offsetHeight, 80);
-}
-
-// The letters of the TICK line at the cursor, with the one of this tick marked.
-function lettersOf(moment) {
-  const own = moments.filter(other => other.line === moment.line), place = own.indexOf(moment);
-  const from = Math.max(0, place - LETTERS), to = place + 1 + LETTERS;
-  const text = part => part.map(other => other.letter).join("");
-  const letters = element("span", "letters", (from ? "…" : "") + text(own.slice(from, place)), element("b", "", moment.letter),
-                          text(own.slice(place + 1, to)) + (to < own.length ? "…" : ""));
-  letters.setAttribute("aria-label", "tick " + octal(place + 1) + " of " + octal(own.length) + " of this line");
-  return letters;
-}
-
-// Scrolls a box, so that what stands from `top` to `bottom` in it is in sight, with some room.
+// Scrolls a box, so that what is from `top` to `bottom` in it is in sight, with some room.
 function scrollInto(box, top, bottom, room) {
   if (top - room < box.scrollTop) box.scrollTop = top - room;
   else if (bottom + room > box.scrollTop + box.clientHeight) box.scrollTop = Math.min(top, bottom + room - box.clientHeight);
 }
 
 function showCursor(moment) {
-  const cursor = document.getElementById("cursor"), box = document.getElementById("picture");
+  const cursor = byId("cursor"), box = byId("picture");
   cursor.hidden = !moment.place;
   if (!moment.place) { box.scrollTop = box.scrollLeft = 0; return; }
-  const [row, x, width, top] = moment.place, [rowTop, rowBottom] = record.rows[row], wide = Math.max(width, 4);
+  const [row, x, width, top] = moment.place, [rowTop, rowBottom] = shown.picture.rows[row], wide = Math.max(width, 4);
   const place = {left: x - (wide - width) / 2 - 2, top: top - TITLE - 3, width: wide + 4, height: BAR + 6};
   for (const [name, pixels] of Object.entries(place)) cursor.style[name] = pixels + "px";
   scrollInto(box, rowTop - TITLE, rowBottom - TITLE + 24, 0);
   scrollInto(box, top - TITLE, top - TITLE + BAR, 20);
-  if (x - 60 < box.scrollLeft) box.scrollLeft = x - 160;
+  const names = byId("lanes").offsetWidth;
+  if (x - names - 20 < box.scrollLeft) box.scrollLeft = x - names - 60;
   else if (x + width + 60 > box.scrollLeft + box.clientWidth) box.scrollLeft = x + width + 160 - box.clientWidth;
 }
 
 // Goes to the moment whose place in the picture is next to a click.
 function goToPlace(event) {
+  if (!shown || !shown.moments) return;
   const sheet = event.currentTarget.getBoundingClientRect();
   const x = event.clientX - sheet.left, y = event.clientY - sheet.top + TITLE;
-  const row = record.rows.findIndex(([, bottom]) => y <= bottom + 20);
+  const row = shown.picture.rows.findIndex(([, bottom]) => y <= bottom + 20);
   const far = moment => Math.abs(x - moment.place[1] - moment.place[2] / 2) + Math.abs(y - moment.place[3] - BAR / 2) / 100;
-  const near = moments.filter(moment => moment.place && moment.place[0] === row);
-  if (near.length) go(moments.indexOf(near.reduce((best, one) => far(one) < far(best) ? one : best)));
+  const near = shown.moments.filter(moment => moment.place && moment.place[0] === row);
+  if (near.length) go(shown.moments.indexOf(near.reduce((best, one) => far(one) < far(best) ? one : best)));
 }
 
 
@@ -474,29 +447,29 @@ function goToPlace(event) {
 // Steps
 // ---------------------------------------------------------------------------------------------------------------------
 
-// Where the job of a slot stands, in a sentence.
+// Where the job of a slot is, in a sentence.
 function whereabouts(slot) {
-  if (!known.peek[slot]) return " No job is in slot " + slot + ".";
-  const peek = framed(known.peek[slot]);
-  if (peek.state === "USER") return " Slot " + slot + " is in user mode.";
-  const call = peek.call === "-" ? "" : " in " + callName(peek.call);
-  return " Slot " + slot + ": " + peek.state + call + ", " + plural(peek.left, "step") + " from user mode.";
+  const job = now.jobs[slot];
+  if (!job) return " No job is in slot " + slot + ".";
+  if (job.peek.state === "USER") return " Slot " + slot + " is in user mode.";
+  const call = job.peek.call === "-" ? "" : " in " + callName(job.peek.call);
+  return " Slot " + slot + ": " + job.peek.state + call + ", " + plural(job.peek.left, "step") + " from user mode.";
 }
 
 // The moment in a sentence.
 function sentence(moment) {
-  if (moment.line === 0) return "Before the first line. " + plural(octal(ticks), "tick") + " to come.";
-  const now = moment.slot === undefined ? "" : whereabouts(moment.slot), of = octal(moment.tick) + " of " + octal(ticks);
-  if (moment.letter) return "Tick " + of + " is “" + moment.letter + "”, " + record.says.letters[moment.letter] + "." + now;
-  const line = record.lines[moment.line - 1], text = line === undefined ? "the end of the input" : line.trim();
-  const refused = (record.answers[moment.line] || []).find(answer => answer.startsWith("? "));
-  const what = refused ? "is refused as " + refused.split(" ")[2] + ", and the session is over" : "after tick " + of;
-  return "Line " + octal(moment.line) + ", " + text + ", " + what + "." + (refused ? "" : now);
+  if (moment.line === 0) return "Before the first line. " + plural(allTicks(), "tick") + " to come.";
+  const where = moment.slot === "" ? "" : whereabouts(moment.slot), of = octal(moment.tick) + " of " + octal(allTicks());
+  if (moment.letter) return "Tick " + of + " is “" + moment.letter + "”, " + TABLES.letters[moment.letter][2] + "." + where;
+  const line = shown.lines[moment.line - 1], text = line ? line.text.trim() || "the end of the input" : "the end of the input";
+  const refused = line && line.refused;
+  const what = refused ? "is refused as " + refused.reason + ", and the session is over" : "after tick " + of;
+  return "Line " + moment.line + " (octal " + octal(moment.line) + "), " + text + ", " + what + "." + (refused ? "" : where);
 }
 
 // The moment to which a step leads.
 function next(step) {
-  const here = at.moment, last = moments.length - 1;
+  const here = at.moment, moments = shown.moments, last = moments.length - 1;
   const isEnd = index => index === last || moments[index + 1].line !== moments[index].line;
   const search = (from, by, holds) => {
     for (let index = from; index >= 0 && index <= last; index += by) if (holds(index)) return index;
@@ -515,29 +488,53 @@ function next(step) {
 }
 
 function go(moment) {
-  at.moment = Math.max(0, Math.min(moments.length - 1, moment));
+  if (!shown || !shown.moments) return;
+  at.moment = Math.max(0, Math.min(shown.moments.length - 1, moment));
   update();
 }
 
-// Shows the moment at which the reader is.
-function show() {
-  const moment = moments[at.moment];
-  holding(at.moment);
-  document.getElementById("where").textContent = sentence(moment);
+let isAsking = false;
+
+// Shows the moment at which the reader is. The worker is asked for one moment at a time, always the latest.
+async function show() {
+  if (isAsking || !shown || !shown.moments) return;
+  isAsking = true;
+  try {
+    for (let key = ""; shown && shown.moments && key !== keyOf();) {
+      const own = shown, view = await program.ask("view", {at: at.moment, watch: watched.map(value)}, "Looking at this moment");
+      if (own !== shown || !own.moments) continue;
+      key = view.moment + " " + watched.join(" ") + " " + [...looking].join(",");
+      draw(view);
+    }
+  } catch (problem) {
+    alertOf(problem);
+    if (problem instanceof Stopped) forget();
+  } finally {
+    isAsking = false;
+  }
+}
+
+function keyOf() { return at.moment + " " + watched.join(" ") + " " + [...looking].join(","); }
+
+// Draws what holds at a moment.
+function draw(view) {
+  now = view;
+  const moment = shown.moments[view.moment], slots = Object.keys(now.jobs);
+  byId("where").textContent = sentence(moment);
   for (const card of cards.values()) card.whole.hidden = true;
-  const slots = Object.keys(known.peek);
-  for (const slot of slots) showJob(slot, moment);
-  document.getElementById("jobs").className = slots.length > MANY ? "many" : "";
-  document.getElementById("none").hidden = slots.length > 0;
+  slots.forEach(showJob);
+  byId("jobs").className = slots.length > MANY ? "many" : "";
+  byId("none").hidden = slots.length > 0;
   showConsoles();
   showLine(moment);
   showCursor(moment);
-  const slider = document.getElementById("slider");
-  slider.value = at.moment;
+  const slider = byId("slider");
+  slider.value = view.moment;
   slider.setAttribute("aria-valuetext", sentence(moment));
   for (const button of document.querySelectorAll("[data-step]")) {
     button.setAttribute("aria-disabled", next(button.dataset.step) === at.moment);
   }
+  at.drawn = view.moment;
 }
 
 // Shows what the reader has changed, and remembers it.
@@ -546,46 +543,24 @@ function update() {
   remember();
 }
 
-// The address of the page says where the reader is, so that it can be sent to others.
-function remember() {
-  const words = watched.filter(address => !record.watch.includes(address));
-  const parts = ["moment=" + at.moment];
-  if (looking.size) parts.push("look=" + [...looking].join(","));
-  if (words.length) parts.push("words=" + words.join(","));
-  try { history.replaceState(null, "", "#" + parts.join("&")); } catch (refused) { /* some browsers keep the address of a file */ }
-}
-
-function recall() {
-  const said = new URLSearchParams(location.hash.slice(1));
-  const list = name => (said.get(name) || "").split(",").filter(word => /^[0-7]{1,6}$/.test(word));
-  if (!said.has("moment")) return;
-  looking.clear();
-  list("look").forEach(slot => looking.add(slot));
-  watched.splice(record.watch.length, watched.length, ...list("words").filter(address => !record.watch.includes(address)));
-  at.moment = Math.max(0, Math.min(moments.length - 1, Math.floor(Number(said.get("moment"))) || 0));
+// Nothing is stepped through.
+function forget() {
+  if (shown) shown.moments = null;
+  now = null;
+  at.drawn = -1;
+  for (const card of cards.values()) card.whole.hidden = true;
+  byId("consoles").replaceChildren();
+  byId("cursor").hidden = true;
+  byId("where").textContent = "";
 }
 
 const KEYS = {ArrowRight: "tick", ArrowLeft: "tick-back", ArrowDown: "line", ArrowUp: "line-back", Home: "first", End: "last"};
 
 function pressed(event) {
-  if (event.ctrlKey || event.altKey || event.metaKey || event.target.closest("input")) return;
+  const isTyped = event.target.closest("input, textarea, select, [role=tab], [role=textbox]");
+  if (event.ctrlKey || event.altKey || event.metaKey || isTyped || byId("panel-session").hidden) return;
   const step = event.shiftKey ? {ArrowRight: "star", ArrowLeft: "star-back"}[event.key] : KEYS[event.key];
-  if (!step) return;
+  if (!step || !shown || !shown.moments) return;
   event.preventDefault();
   go(next(step));
 }
-
-document.getElementById("recorded-words").textContent = record.whole ?
-  "All words of the jobs' pages were recorded at each moment, so any address can be typed." :
-  "The jobs have too many words to record all. Those that lines of the session name were recorded, and those that --look names.";
-listLines();
-document.getElementById("slider").max = moments.length - 1;
-document.getElementById("slider").addEventListener("input", event => go(Number(event.target.value)));
-document.querySelector(".sheet").addEventListener("click", goToPlace);
-document.addEventListener("keydown", pressed);
-for (const button of document.querySelectorAll("[data-step]")) {
-  button.addEventListener("click", () => go(next(button.dataset.step)));
-}
-window.addEventListener("hashchange", () => { recall(); show(); });
-recall();
-show();

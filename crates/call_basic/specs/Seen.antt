@@ -1,4 +1,5 @@
 -- What a call of a slot's job looks at in a world.
+-- No promise rests on this.
 use Rattle.std.specs.Prelude.{ℕ, Bool, true, false}
 use Rattle.its_word.specs.declared.calls.Ask.{Ask}
 use Rattle.its_word.specs.declared.jobs.Job.{Job}

@@ -5,7 +5,7 @@ ghost use Rattle.its_plain.specs.Footprint.{among, in_footprint, is_shared, time
 
 use its_word::{Ask, Word};
 
-/// The value of an input; 0 where there is none.
+/// The value of an input; 0 if there is none.
 pub fn input(ask: &Ask, k: usize) -> Word
     ensures { result ≡ input ask.now k }
 {
@@ -15,7 +15,7 @@ pub fn input(ask: &Ask, k: usize) -> Word
     }
 }
 
-/// The address of the word of an input; None where it is immediate or there is none.
+/// The address of the word of an input; None if it is immediate or there is none.
 pub fn place_of_input(ask: &Ask, k: usize) -> Option<u32>
     ensures { result ≡ place_of_input ask.now k }
 {
@@ -32,7 +32,7 @@ pub fn has_input(ask: &Ask, k: usize) -> bool
     ask.inputs.get(k).is_some()
 }
 
-/// How often a place stands among some.
+/// How often a place is among some.
 #[tactic(auto, unfolding(its_plain::specs::Footprint::times))]
 fn times(place: u32, places: &[u32]) -> usize
     ensures { result ≡ times place places.now }
@@ -40,7 +40,7 @@ fn times(place: u32, places: &[u32]) -> usize
     places.iter().filter(|p| **p == place).count()
 }
 
-/// Whether a place stands among some.
+/// Whether a place is among some.
 fn among(place: u32, places: &[u32]) -> bool
     ensures { result ≡ among place places.now }
 {

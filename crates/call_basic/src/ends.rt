@@ -9,7 +9,7 @@ use arrayvec::ArrayVec;
 use its_frame::{Change, Decision, Exit, Store};
 use its_word::{ADDRESSES, Ask, BYTE_HALF, Fault, IOC, Job, Word};
 
-/// The registers of a job as they stand.
+/// The registers of a job as they are.
 pub(crate) fn exit_of(job: &Job) -> Exit
     ensures { result ≡ exit_of job.now }
 {
@@ -45,7 +45,7 @@ pub fn exit_after(job: &Job, words: u32) -> Exit
     }
 }
 
-/// A store of a word, where there is an address for it.
+/// A store of a word, if there is an address for it.
 pub fn store_at(place: Option<u32>, word: Word) -> ArrayVec<Store, 2>
     ensures { result ≡ record { items = number_at place word } }
 {
@@ -56,7 +56,7 @@ pub fn store_at(place: Option<u32>, word: Word) -> ArrayVec<Store, 2>
     stores
 }
 
-/// The store of a value into the output, where there is one.
+/// The store of a value into the output, if there is one.
 pub fn output(ask: &Ask, value: Word) -> ArrayVec<Store, 2>
     ensures { result ≡ record { items = out ask.now.outputs.items value } }
 {
@@ -94,7 +94,7 @@ pub fn finishes_with(job: &Job, change: Change, stores: ArrayVec<Store, 2>) -> D
     }
 }
 
-/// The call fails: the number is stored at its error address, where it has one, and PC is past the call.
+/// The call fails: the number is stored at its error address, if it has one, and PC is past the call.
 pub fn fails(job: &Job, ask: &Ask, number: u8) -> Decision
     ensures { result ≡ Ends (record { items = [] }) (record { items = number_at ask.now.error number }) (exit_of (advanced 1 job.now)) }
 {

@@ -1,5 +1,5 @@
-//! What the calls SLEEP, DISMIS, USRVAR, LOGOUT and REALT come to (docs/CALLS.md), and the ways in which any call ends.
-//! A decision is found from the world as it stands, and changes nothing. Beside it into which job a call reaches.
+//! The decisions of the calls SLEEP, DISMIS, USRVAR, LOGOUT and REALT (docs/CALLS.md), and the ways in which any call ends. A decision
+//! is found from the world as it is, and changes nothing. Also into which job a call reaches.
 #![tactic(auto)]
 
 mod arguments;

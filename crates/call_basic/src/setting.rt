@@ -19,9 +19,9 @@ use its_frame::{Change, Decision, Store, Variable, error};
 use its_word::{Ask, Channel, Job, Word};
 use its_world::World;
 
-/// USRVAR job, name, optional new value: the output gets the value before, and then the new value is set.
-/// Errors 4 where the channel is closed, 5 where it is on no job, 22 where no variable has the name, 5
-/// where the channel has no leave to write, and 22 where the variable cannot be set so.
+/// USRVAR job, name, optional new value: the output gets the value before, and then the new value is set. Errors 4 if
+/// the channel is closed, 5 if it is on no job, 22 if no variable has the name, 5 if the channel has no leave to
+/// write, and 22 if the variable cannot be set so.
 #[tactic(auto, using(its_parts::proofs::NumberLaws::under, crate::proofs::RawLaws::usrvar_target), unfolding(its_plain::specs::CallBasic::usrvar, its_plain::specs::View::view, its_world::specs::World::state_of))]
 pub fn usrvar(w: &World, slot: u8, job: &Job, ask: &Ask) -> Decision
     requires slot { slot < slots }
@@ -59,7 +59,7 @@ fn own_variable(w: &World, slot: u8, job: &Job, ask: &Ask) -> Decision
     set_own(w, slot, job, ask, variable)
 }
 
-/// The output gets the value of a variable of one's own, and then the new value is set, where there is one.
+/// The output gets the value of a variable of one's own, and then the new value is set, if there is one.
 #[tactic(auto, using(its_parts::proofs::BareLaws::set_bare), unfolding(its_plain::specs::View::view, its_world::specs::World::state_of))]
 fn set_own(w: &World, slot: u8, job: &Job, ask: &Ask, variable: Variable) -> Decision
     requires { slot < slots }
@@ -103,7 +103,7 @@ fn value_of_other(w: &World, inferior: u8, variable: Variable) -> Word
     }
 }
 
-/// The call finishes with these stores, and sets a variable of an inferior where there is a new value.
+/// The call finishes with these stores, and sets a variable of an inferior if there is a new value.
 fn set_other(
     job: &Job,
     ask: &Ask,

@@ -18,8 +18,8 @@ const LONGEST_SLEEP: u64 = 0o200000000000;
 /// How many values a word has.
 const WORDS: u64 = 0o1000000000000;
 
-/// SLEEP n: for n above 0 its argument becomes minus the time of waking; for n below 0 it waits for
-/// that time. Errors 22 where n is too long, 17 where n is no word of its own, and WRO.
+/// SLEEP n: for n above 0 its argument becomes minus the time of waking; for n below 0 it waits for that time. Errors
+/// 22 if n is too long, 17 if n is no word of its own, and WRO.
 #[tactic(auto, unfolding(its_plain::specs::CallBasic::sleep, its_plain::specs::View::view, its_world::specs::World::state_of))]
 pub fn sleep(w: &World, slot: u8, job: &Job, ask: &Ask) -> Decision
     requires { slot < slots }

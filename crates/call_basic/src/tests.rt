@@ -166,14 +166,14 @@ const PAGES: u64 = 0o604147456300;
 
 const SELF: u64 = 0o777777;
 
-/// What a call of slot 1 is expected to come to.
+/// The expected decision of a call of slot 1.
 #[derive(Clone, Copy)]
 enum Want {
     /// It waits.
     Waits(Wait),
     /// A sleep begins: the new value of its argument.
     Goes(u64),
-    /// It finishes, with the value that its output gets where it has one.
+    /// It finishes, with the value of its output if it has one.
     Finishes(Option<(u32, u64)>),
     /// It fails with a number.
     Fails(u64),
@@ -211,7 +211,7 @@ fn wanted(rt: &impl Abort, want: Want) -> Decision {
     }
 }
 
-/// What a call of slot 1 comes to whose decoding gave no error.
+/// The decision of a call of slot 1 whose decoding gave no error.
 fn decision(rt: &impl Abort, w: &World, ask: &Ask) -> Decision {
     let job = w.jobs.job(1).expect(rt, "slot 1 has a job");
     assert!(rt; ask.fail == 0);

@@ -10,10 +10,10 @@ use its_frame::{Exit, Variable};
 use its_word::{Job, Word, flags_in, pc_word};
 use its_world::World;
 
-/// A word of ones, which stands for no number.
+/// A word of ones, which means that there is no number.
 const ONES: u64 = 0o777777777777;
 
-/// A number, or ones where there is none.
+/// A number, or ones if there is none.
 fn number_or_ones(number: Option<u8>) -> Word
     ensures { result ≡ number_or_ones number }
 {

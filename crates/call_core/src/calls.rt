@@ -20,7 +20,7 @@ use its_frame::{CallName, Decision, Wait, error};
 use its_word::{Ask, Job};
 use its_world::World;
 
-/// What the call of a slot's job comes to.
+/// The decision of the call of a slot's job.
 pub fn decide(w: &World, slot: u8, ask: &Ask) -> Decision
     requires slot { slot < slots }
     requires job { is_some (job_at w.now.jobs slot) ≡ true }
@@ -50,8 +50,8 @@ pub fn ready(w: &World, slot: u8, ask: &Ask) -> bool
     }
 }
 
-/// What the call of a job with these registers comes to: the one place that says which function, of which crate, serves a
-/// call. An error of its decoding comes first.
+/// The decision of the call of a job with these registers: the one place that says which function, of which crate, serves a call. An
+/// error of its decoding comes first.
 #[tactic(auto, unfolding(its_plain::specs::Decide::decided, its_plain::specs::View::view, its_world::specs::World::state_of))]
 fn decided(w: &World, slot: u8, job: &Job, ask: &Ask) -> Decision
     requires slot { slot < slots }

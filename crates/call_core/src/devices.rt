@@ -68,7 +68,7 @@ fn shut(job: &Job, ask: &Ask) -> Decision
     finishes_with(job, change, ArrayVec::new())
 }
 
-/// `.IOT` by what the channel is on; IOC where it is closed.
+/// `.IOT` by what the channel is on; IOC if it is closed.
 #[tactic(auto, using(call_file::proofs::HeldLaws::reading, call_file::proofs::HeldLaws::writing, call_file::proofs::RawLaws::iot_helps), unfolding(its_plain::specs::CallDevice::iot_call, its_plain::specs::View::view, its_world::specs::World::state_of))]
 pub(crate) fn iot(w: &World, slot: u8, job: &Job, ask: &Ask) -> Decision
     requires slot { slot < slots }

@@ -1,6 +1,5 @@
-//! What each call comes to, by its name, its device or what its channel is on (docs/CALLS.md): CORBLK here, any other in its
-//! crate. A decision is found from the world as it stands, and changes nothing. Beside it whether a call can go on, and
-//! whether it needs a page first.
+//! The decision of each call, by its name, its device or what its channel is on (docs/CALLS.md): CORBLK here, any other in its crate. A
+//! decision is found from the world as it is, and changes nothing. Also whether a call can go on, and whether it needs a page first.
 #![tactic(auto)]
 
 mod calls;

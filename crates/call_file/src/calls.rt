@@ -21,8 +21,7 @@ pub fn is_disk(ask: &Ask) -> bool
     input(ask, 1).value() == DSK
 }
 
-/// Whether a call of a slot's job is one on files, before whose commit the parts of a half made close are made that are
-/// still owed.
+/// Whether a call of a slot's job is one on files, before whose commit the pending parts of a half made close are performed.
 pub fn helps(w: &World, slot: u8, ask: &Ask) -> bool
     ensures { IfSome (raw_at w.now.files w.now.core w.now.jobs w.now.alarms.items slot) (λ q. result ≡ helps q ask.now) }
 {

@@ -19,7 +19,7 @@ use its_frame::{Change, Decision, Opened, error};
 use its_word::{ADDRESSES, Ask, Channel, Job, Word};
 use its_world::World;
 
-/// Where a channel on an inferior is at its end, behind word 777777 (octal).
+/// The position at which a channel on an inferior is at its end, after word 777777 (octal).
 const END_OF_CORE: u32 = ADDRESSES;
 
 /// How many files there are at most.
@@ -59,8 +59,7 @@ fn opened(control: u64, d: Word, x: Word, y: Word) -> Opened
     }
 }
 
-/// CLOSE of a draft. Errors 11 where a channel reads the file that it would replace, 7 where it replaces none and there
-/// are 256 files.
+/// CLOSE of a draft. Errors 11 if a channel reads the file that it would replace, 7 if it replaces none and there are 256 files.
 #[tactic(auto, using(its_files::proofs::EntryLaws::draft_stands, its_parts::proofs::SeenLaws::seen_count), unfolding(its_plain::specs::CallFile::closes_draft, its_plain::specs::View::view, its_world::specs::World::state_of))]
 pub fn close_draft(w: &World, slot: u8, job: &Job, ask: &Ask, draft: u32) -> Decision
     requires number { input ask.now 0 < 16 }
@@ -81,8 +80,8 @@ pub fn close_draft(w: &World, slot: u8, job: &Job, ask: &Ask, draft: u32) -> Dec
     finishes_with(job, change, ArrayVec::new())
 }
 
-/// ACCESS channel, position: the next word that a file gives, or that a channel on an inferior is at. Errors 4, 5, 22 where
-/// the position is past the end.
+/// ACCESS channel, position: the next word that a file gives, or that a channel on an inferior is at. Errors 4, 5, 22 if the position
+/// is past the end.
 #[tactic(auto, using(crate::proofs::HeldLaws::reading), unfolding(its_plain::specs::CallFile::access, its_plain::specs::View::view, its_world::specs::World::state_of))]
 pub fn access(w: &World, slot: u8, job: &Job, ask: &Ask) -> Decision
     requires job { job_at w.now.jobs slot ≡ Some job.now }
@@ -108,7 +107,7 @@ fn moved(w: &World, slot: u8, job: &Job, ask: &Ask, file: u32, was: u32) -> Deci
     access_to(w, slot, job, ask, w.files.length(file))
 }
 
-/// The position of a channel is set, which is at most this. Error 22 where it is above.
+/// The position of a channel is set, which is at most this. Error 22 if it is above.
 #[tactic(auto, unfolding(its_plain::specs::View::view, its_world::specs::World::state_of))]
 fn access_to(w: &World, slot: u8, job: &Job, ask: &Ask, most: u32) -> Decision
     requires { input ask.now 0 < 16 }

@@ -50,7 +50,7 @@ pub(crate) fn is_read(w: &World, slot: u8, job: &Job, ask: &Ask, names: [Word; 3
     has_readers(w, find(w, names))
 }
 
-/// Whether a channel reads a file, where there is one.
+/// Whether a channel reads a file, if there is one.
 fn has_readers(w: &World, file: Option<u32>) -> bool
     ensures { result ≡ has_readers w.now.files file }
 {
@@ -60,8 +60,7 @@ fn has_readers(w: &World, file: Option<u32>) -> bool
     }
 }
 
-/// Why a file is neither deleted nor renamed: error 5 where the device is not DSK, 6 where there is no such file, 11 where a
-/// channel reads it.
+/// Why a file is neither deleted nor renamed: error 5 if the device is not DSK, 6 if there is no such file, 11 if a channel reads it.
 #[tactic(auto, unfolding(its_plain::specs::View::view, its_world::specs::World::state_of))]
 fn barred(w: &World, slot: u8, job: &Job, ask: &Ask) -> Option<Decision>
     requires { Tidy w.now }
@@ -97,7 +96,7 @@ pub fn delete(w: &World, slot: u8, job: &Job, ask: &Ask) -> Decision
     finishes_with(job, change, ArrayVec::new())
 }
 
-/// RENAME device, name 1, name 2, directory, new name 1, new name 2. Errors 5, 6, 11, and 23 where a file of the
+/// RENAME device, name 1, name 2, directory, new name 1, new name 2. Errors 5, 6, 11, and 23 if a file of the
 /// directory has the new names, itself included.
 #[tactic(auto, unfolding(its_plain::specs::CallFile::rename, its_plain::specs::View::view, its_world::specs::World::state_of))]
 pub fn rename(w: &World, slot: u8, job: &Job, ask: &Ask) -> Decision

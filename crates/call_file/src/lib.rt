@@ -1,5 +1,5 @@
-//! What the calls on files come to: OPEN, CLOSE, `.IOT` and SIOT where their device is DSK; ACCESS, FILLEN, DELETE and
-//! RENAME (docs/CALLS.md, "Files"). A decision is found from the world as it stands, and changes nothing. Beside it which calls are those on files.
+//! The decisions of the calls on files: OPEN, CLOSE, `.IOT` and SIOT if their device is DSK; ACCESS, FILLEN, DELETE and RENAME
+//! (docs/CALLS.md, "Files"). A decision is found from the world as it is, and changes nothing. Also which calls are those on files.
 #![tactic(auto)]
 
 mod calls;

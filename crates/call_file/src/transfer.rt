@@ -66,7 +66,7 @@ fn one_store(at: u32, word: Word) -> ArrayVec<Store, 2>
     stores
 }
 
-/// `.IOT` to a draft: the word at E is appended. MPV by that word; IOC where there is no room.
+/// `.IOT` to a draft: the word at E is appended. MPV by that word; IOC if there is no room.
 #[tactic(auto, using(crate::proofs::SeenLaws::seen_full, its_files::proofs::EntryLaws::draft_stands), unfolding(its_plain::specs::View::view, its_world::specs::World::state_of))]
 pub fn iot_writes(w: &World, slot: u8, job: &Job, ask: &Ask, draft: u32) -> Decision
     requires slot { slot < slots }
@@ -106,7 +106,7 @@ pub fn siot_reads(w: &World, slot: u8, job: &Job, ask: &Ask, file: u32, at: u32)
     }
 }
 
-/// The same where no test stops it.
+/// The same if no test stops it.
 #[tactic(auto, unfolding(its_plain::specs::View::view, its_world::specs::World::state_of))]
 fn siot_read(w: &World, slot: u8, job: &Job, ask: &Ask, at: u32, word: Word) -> Decision
     requires slot { slot < slots }
@@ -127,7 +127,7 @@ fn siot_read(w: &World, slot: u8, job: &Job, ask: &Ask, at: u32, word: Word) -> 
     moves(change, Some(held), next, input(ask, 2))
 }
 
-/// SIOT to a draft. Error 10 where there is no room.
+/// SIOT to a draft. Error 10 if there is no room.
 #[tactic(auto, using(its_plain::proofs::SizeLaws::next_sized), unfolding(its_plain::specs::View::view, its_world::specs::World::state_of))]
 pub fn siot_writes(w: &World, slot: u8, job: &Job, ask: &Ask, draft: u32) -> Decision
     requires slot { slot < slots }
@@ -143,7 +143,7 @@ pub fn siot_writes(w: &World, slot: u8, job: &Job, ask: &Ask, draft: u32) -> Dec
     }
 }
 
-/// The same where no test stops it.
+/// The same if no test stops it.
 #[tactic(auto, using(its_parts::proofs::StopLaws::loaded_fits, crate::proofs::SeenLaws::seen_full, its_files::proofs::EntryLaws::draft_stands), unfolding(its_plain::specs::View::view, its_world::specs::World::state_of))]
 fn siot_write(w: &World, slot: u8, job: &Job, ask: &Ask, draft: u32) -> Decision
     requires slot { slot < slots }

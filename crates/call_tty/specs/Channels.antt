@@ -1,4 +1,5 @@
 -- Whether a channel of some registers is closed, in the forms that code answers.
+-- No promise rests on this.
 use Rattle.std.specs.Prelude.{◌&&◌, ℕ, Bool, true, false, nat_lt}
 use Rattle.its_word.specs.declared.jobs.Channel.{Channel}
 use Rattle.its_word.specs.declared.jobs.Channel.TheVariants.{Closed}

@@ -1,4 +1,5 @@
 -- Who may hold a console, in the forms that code answers.
+-- No promise rests on this.
 use Rattle.std.specs.Prelude.{◌==◌, ◌||◌, ℕ, Bool, true, false, Option, Some, None, option_map}
 use Rattle.its_plain.specs.CallTty.{is_superior}
 use Rattle.its_plain.specs.View.{Outline, outline}

@@ -1,4 +1,5 @@
 -- When a call on a console waits, and what stops a transfer, in the forms that code answers.
+-- No promise rests on this.
 use Rattle.std.specs.Prelude.{◌||◌, ℕ, Bool, not, Option, nat_lt, length}
 use Rattle.its_word.specs.Console.{Console, most_waiting}
 use Rattle.its_plain.specs.CallTty.{is_empty, is_other}

@@ -11,7 +11,7 @@ use its_world::World;
 /// The bytes that can wait in one direction.
 const RING_BYTES: u32 = 64;
 
-/// The number of a job's console. A channel on a console is opened only where its job has one.
+/// The number of a job's console. A channel on a console is opened only if its job has one.
 pub(crate) fn console_of(job: &Job) -> u8
     ensures { result ≡ unwrap_or job.now.console 0 }
 {
@@ -77,7 +77,7 @@ pub(crate) fn output_left(w: &World, console: u8) -> bool
     waiting(w, console).1 != 0
 }
 
-/// The first byte of a console's input; 0 where there is none.
+/// The first byte of a console's input; 0 if there is none.
 pub(crate) fn first_typed(w: &World, console: u8) -> u8
     ensures { result ≡ unwrap_or (slice_get (console_at w.now.consoles.items console).input 0) 0 }
 {

@@ -1,5 +1,5 @@
-//! What the calls on consoles come to: OPEN, `.IOT` and SIOT where they are on one, FINISH, LISTEN and TTYLND
-//! (docs/CALLS.md, "Consoles"). A decision is found from the world as it stands, and changes nothing.
+//! The decisions of the calls on consoles: OPEN, `.IOT` and SIOT if they are on one, FINISH, LISTEN and TTYLND
+//! (docs/CALLS.md, "Consoles"). A decision is found from the world as it is, and changes nothing.
 #![tactic(auto)]
 
 mod consoles;

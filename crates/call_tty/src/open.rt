@@ -13,8 +13,8 @@ use its_world::World;
 /// The device of consoles, in SIXBIT.
 const TTY: u64 = 0o646471000000;
 
-/// OPEN channel, device: input, or output with control 1. Errors 4, 5 where the device is not TTY, 22, and 5 where the
-/// job has no console.
+/// OPEN channel, device: input, or output with control 1. Errors 4, 5 if the device is not TTY, 22, and 5 if the job
+/// has no console.
 #[tactic(auto, using(crate::proofs::ChannelLaws::free), unfolding(its_plain::specs::CallTty::opens, its_plain::specs::View::view, its_world::specs::World::state_of))]
 pub fn open_tty(w: &World, slot: u8, job: &Job, ask: &Ask) -> Decision
     requires { slot < slots }
@@ -41,7 +41,7 @@ pub fn open_tty(w: &World, slot: u8, job: &Job, ask: &Ask) -> Decision
     finishes_with(job, change, ArrayVec::new())
 }
 
-/// The control argument; 0 where there is none.
+/// The control argument; 0 if there is none.
 pub fn control(ask: &Ask) -> u64
     ensures { result ≡ unwrap_or ask.now.control 0 }
 {

@@ -1,6 +1,5 @@
-//! What calls of slot 1 come to, which has console 3. Numbers in rows are octal, and rows are parted by `;`: the call, how
-//! many bytes are typed and put out at the console, and its holder | inputs, as `value@place` where they have one | what
-//! the call comes to.
+//! The decisions of calls of slot 1, which has console 3. Numbers in rows are octal, and rows are separated by `;`: the call, how many
+//! bytes are typed and put out at the console, and its holder | inputs, as `value@place` if they have one | the decision.
 ghost use Rattle.std.specs.Prelude.{◌≡◌, None, OnOk};
 ghost use Rattle.its_core.specs.Cores.{reserved_at};
 
@@ -233,7 +232,7 @@ fn goes(change: Change, held: Option<Held>, pointer: Word, count: Word) -> Decis
     }
 }
 
-/// The number that a word of a row writes; 0 where there is no word.
+/// The number that a word of a row writes; 0 if there is no word.
 fn number(rt: &impl Abort, text: Option<&str>) -> Word {
     match text {
         Some(digits) => read_octal(digits.as_bytes()).expect(rt, "octal digits"),
@@ -297,7 +296,7 @@ fn call(rt: &impl Abort, name: Option<&str>) -> CallName {
     call.expect(rt, "a call on consoles")
 }
 
-/// What a call of slot 1 on a console comes to.
+/// The decision of a call of slot 1 on a console.
 fn decided(rt: &impl Abort, w: &World, job: &Job, ask: &Ask) -> Decision {
     let decision = match (CallName::named(ask.name), channel(job, input(ask, 0))) {
         (Some(CallName::Open), _) => Some(open_tty(w, 1, job, ask)),
@@ -323,7 +322,7 @@ fn waits(reason: Option<&str>) -> Decision {
     })
 }
 
-/// What a row says that its call comes to. A byte that is taken is 301.
+/// The decision that a row gives for its call. A byte that is taken is 301.
 fn wanted(rt: &impl Abort, text: &str) -> Decision {
     let mut words = text.split_whitespace();
     let kind = words.next().expect(rt, "what it comes to");
@@ -369,13 +368,13 @@ fn change(kind: &str, number: u8) -> Option<Change> {
     }
 }
 
-/// The call of slot 1 comes to what is wanted.
+/// The call of slot 1 decides what is wanted.
 fn comes_to(rt: &impl Abort, w: &World, ask: &Ask, wanted: &Decision, row: &str) {
     let job = w.jobs.job(1).expect(rt, "a job");
     assert!(rt; decided(rt, w, job, ask) == *wanted, "{row}");
 }
 
-/// Makes the calls of rows.
+/// Performs the calls of rows.
 fn make(rt: &impl Abort, w: &mut World, rows: &str) {
     for row in rows.split(';') {
         let mut fields = row.split('|');

@@ -135,8 +135,8 @@ pub fn siot_out(w: &World, slot: u8, job: &Job, ask: &Ask) -> Decision
     }
 }
 
-/// The first of SIOT's tests that holds: errors 17, WRO, 21, 22, the end with count 0 or where `ended` says that the channel
-/// is at its end (of a file or of an inferior's core), and error 20. `words` tells that its device moves whole words alone.
+/// The first of SIOT's tests that holds: errors 17, WRO, 21, 22, the end with count 0 or if `ended` says that the channel is at its end
+/// (of a file or of an inferior's core), and error 20. `words` says that its device moves only whole words.
 #[tactic(auto, unfolding(its_plain::specs::View::view, its_world::specs::World::state_of))]
 pub fn stopped(
     w: &World,
@@ -224,7 +224,7 @@ pub fn moves_with(
     }
 }
 
-/// SIOT from a console where no test of its arguments stops it.
+/// SIOT from a console if no test of its arguments stops it.
 #[tactic(auto, unfolding(its_plain::specs::View::view, its_world::specs::World::state_of))]
 fn takes_byte(w: &World, slot: u8, job: &Job, ask: &Ask) -> Decision
     requires { slot < slots }
@@ -246,7 +246,7 @@ fn takes_byte(w: &World, slot: u8, job: &Job, ask: &Ask) -> Decision
     moves(Change::Take { console }, Some(held), next, input(ask, 2))
 }
 
-/// SIOT to a console where no test of its arguments stops it.
+/// SIOT to a console if no test of its arguments stops it.
 #[tactic(auto, unfolding(its_plain::specs::View::view, its_world::specs::World::state_of))]
 fn puts_byte(w: &World, slot: u8, job: &Job, ask: &Ask) -> Decision
     requires slot { slot < slots }

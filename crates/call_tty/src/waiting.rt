@@ -32,7 +32,7 @@ pub fn finish(w: &World, slot: u8, job: &Job, ask: &Ask) -> Decision
     }
 }
 
-/// LISTEN channel: waits likewise, and gives the number of bytes of input. Errors 4, 5.
+/// LISTEN channel: also waits, and gives the number of bytes of input. Errors 4, 5.
 #[tactic(auto, using(its_parts::proofs::NumberLaws::under), unfolding(its_plain::specs::CallTty::listen, its_plain::specs::View::view, its_world::specs::World::state_of))]
 pub fn listen(w: &World, slot: u8, job: &Job, ask: &Ask) -> Decision
     requires { slot < slots }
@@ -60,8 +60,8 @@ fn listened(w: &World, slot: u8, job: &Job, ask: &Ask) -> Decision
     finishes(job, store_at(ask.outputs.first().copied(), number))
 }
 
-/// TTYLND job: the job becomes the holder of the caller's console. Errors 4, 5; 5 where the caller has no
-/// console; for oneself 13 where a stranger holds it; for an inferior 5 where the caller does not hold it.
+/// TTYLND job: the job becomes the holder of the caller's console. Errors 4, 5; 5 if the caller has no console; for
+/// oneself 13 if a stranger holds it; for an inferior 5 if the caller does not hold it.
 #[tactic(auto, using(crate::proofs::HoldLaws::takes, crate::proofs::HoldLaws::holds_it, its_parts::proofs::NumberLaws::under), unfolding(its_plain::specs::CallTty::ttylnd, its_plain::specs::View::view, its_world::specs::World::state_of))]
 pub fn ttylnd(w: &World, slot: u8, job: &Job, ask: &Ask) -> Decision
     requires { slot < slots }
@@ -82,7 +82,7 @@ pub fn ttylnd(w: &World, slot: u8, job: &Job, ask: &Ask) -> Decision
     }
 }
 
-/// Whether a job can take a console for itself: nobody holds it, or the job, or an inferior of it.
+/// Whether a job can take a console for itself: nobody holds it, or the job, or one of its inferiors.
 fn can_take(w: &World, slot: u8, console: u8) -> bool
     ensures { result ≡ may_take w.now slot (holder_at w.now.holders console) }
 {
@@ -112,7 +112,7 @@ fn is_holder(w: &World, slot: u8, console: u8) -> bool
     }
 }
 
-/// A job becomes the holder of the caller's console, where it may.
+/// A job becomes the holder of the caller's console, if it may.
 #[tactic(auto, unfolding(its_plain::specs::View::view, its_world::specs::World::state_of))]
 fn lands(w: &World, slot: u8, job: &Job, ask: &Ask, may: bool, number: u8, holder: u8) -> Decision
     requires { slot < slots }

@@ -1,4 +1,5 @@
 -- The inferior that a call reaches.
+-- No promise rests on this.
 use Rattle.std.specs.Prelude.{◌≡◌, ◌<◌, ℕ, true, Some, is_some}
 use Rattle.its_word.specs.Limits.{slots}
 use Rattle.its_word.specs.declared.calls.Ask.{Ask}

@@ -1,5 +1,5 @@
-//! What the calls on inferiors come to: OPEN of USR, `.IOT` and SIOT where the channel is on an inferior, USRMEM and
-//! UCLOSE (docs/CALLS.md, "Inferiors"). A decision is found from the world as it stands, and changes nothing.
+//! The decisions of the calls on inferiors: OPEN of USR, `.IOT` and SIOT if the channel is on an inferior, USRMEM and
+//! UCLOSE (docs/CALLS.md, "Inferiors"). A decision is found from the world as it is, and changes nothing.
 #![tactic(auto)]
 
 mod memory;

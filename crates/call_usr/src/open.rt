@@ -1,4 +1,4 @@
-//! OPEN of USR: an inferior by its names, which is made where it is to be written and there is none.
+//! OPEN of USR: an inferior by its names, which is made if it is to be written and there is none.
 ghost use Rattle.std.specs.Prelude.{◌≡◌, ◌==◌, ◌&&◌, ◌<◌, [], ◌∷◌, true, unwrap_or};
 ghost use Rattle.its_word.specs.Limits.{slots};
 ghost use Rattle.its_word.specs.Tree.{least_free};
@@ -19,8 +19,8 @@ use its_frame::{Change, Decision, Opened, error};
 use its_word::{Ask, Job, SLOTS, Word};
 use its_world::World;
 
-/// OPEN channel, USR, user name, job name: the caller's inferior with these names. Errors 4, 22; 13 where they are those of
-/// another job, 12 for input where no job has them, 14 where all slots below the limit have jobs.
+/// OPEN channel, USR, user name, job name: the caller's inferior with these names. Errors 4, 22; 13 if they are those of another job,
+/// 12 for input if no job has them, 14 if all slots below the limit have jobs.
 #[tactic(auto, using(call_tty::proofs::ChannelLaws::free), unfolding(its_plain::specs::CallUsr::opens_usr, its_plain::specs::View::view, its_world::specs::World::state_of))]
 pub fn open_usr(w: &World, slot: u8, job: &Job, ask: &Ask) -> Decision
     requires { slot < slots }

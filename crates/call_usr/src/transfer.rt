@@ -27,7 +27,7 @@ fn at_end(at: u32) -> bool
     at >= ADDRESSES
 }
 
-/// `.IOT` through a channel on an inferior: into it, where the channel has leave to write, else from it.
+/// `.IOT` through a channel on an inferior: into it, if the channel has leave to write, else from it.
 pub fn iot_through(
     w: &World,
     slot: u8,
@@ -48,8 +48,8 @@ pub fn iot_through(
     }
 }
 
-/// `.IOT` from an inferior: the word at the channel's position, which is then one more; 777777000003 at the end. MPV or WRO
-/// by the word at E; IOC where the inferior's word is absent.
+/// `.IOT` from an inferior: the word at the channel's position, which is then one more; 777777000003 at the end. MPV or WRO by the word
+/// at E; IOC if the inferior's word is absent.
 #[tactic(auto, using(crate::proofs::OtherLaws::other_here), unfolding(its_plain::specs::View::view, its_world::specs::World::state_of))]
 fn iot_from(w: &World, slot: u8, job: &Job, ask: &Ask, inferior: u8, at: u32) -> Decision
     requires slot { slot < slots }
@@ -75,8 +75,8 @@ fn iot_from(w: &World, slot: u8, job: &Job, ask: &Ask, inferior: u8, at: u32) ->
     }
 }
 
-/// `.IOT` into an inferior: the word at E is stored at the channel's position, which is then one more. MPV by the word at
-/// E; IOC at the end, and where the inferior's word cannot be stored.
+/// `.IOT` into an inferior: the word at E is stored at the channel's position, which is then one more. MPV by the word at E; IOC at the
+/// end, and if the inferior's word cannot be stored.
 #[tactic(auto, using(crate::proofs::OtherLaws::other_here), unfolding(its_plain::specs::View::view, its_world::specs::World::state_of))]
 fn iot_into(w: &World, slot: u8, job: &Job, ask: &Ask, inferior: u8, at: u32) -> Decision
     requires slot { slot < slots }
@@ -115,7 +115,7 @@ fn poke_and_move(ask: &Ask, inferior: u8, at: u32, word: Word) -> ArrayVec<Chang
     ArrayVec::from([poke, moved])
 }
 
-/// SIOT through a channel on an inferior: into it, where the channel has leave to write, else from it.
+/// SIOT through a channel on an inferior: into it, if the channel has leave to write, else from it.
 pub fn siot_through(
     w: &World,
     slot: u8,
@@ -136,8 +136,7 @@ pub fn siot_through(
     }
 }
 
-/// SIOT from an inferior: the word at the channel's position is held, and stored by the next step. Error 16 where it is
-/// absent.
+/// SIOT from an inferior: the word at the channel's position is held, and stored by the next step. Error 16 if it is absent.
 fn siot_from(w: &World, slot: u8, job: &Job, ask: &Ask, inferior: u8, at: u32) -> Decision
     requires slot { slot < slots }
     requires targets { Targets w.now slot job.now ask.now inferior }
@@ -149,7 +148,7 @@ fn siot_from(w: &World, slot: u8, job: &Job, ask: &Ask, inferior: u8, at: u32) -
     }
 }
 
-/// The same where no test of its arguments stops it.
+/// The same if no test of its arguments stops it.
 #[tactic(auto, unfolding(its_plain::specs::View::view, its_world::specs::World::state_of))]
 fn siot_peeks(w: &World, slot: u8, job: &Job, ask: &Ask, at: u32, word: Option<Word>) -> Decision
     requires slot { slot < slots }
@@ -173,7 +172,7 @@ fn siot_peeks(w: &World, slot: u8, job: &Job, ask: &Ask, at: u32, word: Option<W
     moves(change, Some(held), next, input(ask, 2))
 }
 
-/// SIOT into an inferior: the word is stored at the channel's position. Error 16 where it cannot be.
+/// SIOT into an inferior: the word is stored at the channel's position. Error 16 if it cannot be.
 #[tactic(auto, using(its_plain::proofs::SizeLaws::next_sized), unfolding(its_plain::specs::View::view, its_world::specs::World::state_of))]
 fn siot_into(w: &World, slot: u8, job: &Job, ask: &Ask, inferior: u8, at: u32) -> Decision
     requires slot { slot < slots }
@@ -186,7 +185,7 @@ fn siot_into(w: &World, slot: u8, job: &Job, ask: &Ask, inferior: u8, at: u32) -
     }
 }
 
-/// The same where no test of its arguments stops it.
+/// The same if no test of its arguments stops it.
 #[tactic(auto, using(its_parts::proofs::StopLaws::loaded_fits, crate::proofs::OtherLaws::other_here), unfolding(its_plain::specs::View::view, its_world::specs::World::state_of))]
 fn siot_pokes(w: &World, slot: u8, job: &Job, ask: &Ask, inferior: u8, at: u32) -> Decision
     requires slot { slot < slots }

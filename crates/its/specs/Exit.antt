@@ -1,4 +1,5 @@
 -- The exit statuses (docs/SESSION.md, "The program").
+-- No promise rests on this.
 use Rattle.std.specs.Prelude.{ℕ}
 use Rattle.its_top.specs.declared.status.Status.{Status}
 use Rattle.its_top.specs.declared.status.Status.TheVariants.{Done, Usage, Refused, ReadFault, WriteFault, NoMemory, TooLong}

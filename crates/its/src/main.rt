@@ -26,7 +26,7 @@ fn exit_status(status: Status) -> u8
     }
 }
 
-/// The exit status where the system does not give the words.
+/// The exit status if the system does not give the words.
 fn no_words(e: io::Error) -> u8 {
     match e.kind() {
         ErrorKind::OutOfMemory => 5,

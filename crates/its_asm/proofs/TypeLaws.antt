@@ -6,17 +6,18 @@ use Rattle.std.proofs.lemmas.Bool.Decides.{nat_tests}
 use Rattle.std.proofs.lemmas.List.Folds.{list_all-append}
 use Rattle.its_word.specs.Text.{digits_of, is_code, words_of}
 use Rattle.its_word.specs.Word.{left_of, right_of, pair_of}
-use Rattle.its_word.specs.Opcode.{ac_of, opcode_of}
+use Rattle.its_word.specs.Opcode.{ac_of, opcode_of, instruction_of, monitor_opcode, byte_opcode, full_word_opcode, shift_opcode, branch_opcode, stack_opcode, compare_opcode, test_opcode, mode_of, mask_of}
+use Rattle.its_word.specs.Table.{table}
 use Rattle.its_word.proofs.DigitLaws.{digits_are_codes, few_digits, some_digits}
 use Rattle.its_word.proofs.WordsLaws.{words_first, words_one}
 use Rattle.its_asm.specs.Text.{cut, is_printable, statement_words}
 use Rattle.its_asm.specs.Instruction.{alone, instruction, whole}
-use Rattle.its_asm.specs.Mnemonic.{is_name, mnemonic_of, named, names, opcode_named}
+use Rattle.its_asm.specs.Mnemonic.{is_named, mnemonic_of, names, opcode_named}
 use Rattle.its_asm.specs.Reading.{first_named}
 use Rattle.its_asm.specs.Statement.{body, no_names, statement_of, with_one, word_of}
 use Rattle.its_asm.specs.declared.statements.Statement.TheVariants.{Gives}
 use Rattle.its_asm.specs.TypeOut.{index_of, indirect_of, typed, typed_ac, typed_by, typed_index, typed_indirect, typed_operand}
-use Rattle.its_asm.proofs.ChartLaws.{named_first, no_more_names}
+use Rattle.its_asm.proofs.ChartLaws.{named_first, names_at, no_more_names}
 use Rattle.its_asm.proofs.NumberLaws.{all_imp, cut_unmarked, unmarked}
 use Rattle.its_asm.proofs.ReadingLaws.{both_true}
 use Rattle.its_asm.proofs.WordLaws.{halves_bytes, instruction_number, is_operand, operand_bytes, whole_number}
@@ -35,19 +36,36 @@ abbrev is_op : List ℕ → Bool
 is_op n = (nat_le 1 (length n) && nat_le (length n) 7) && (list_all is_letter n && not (is_other n))
 
 -- a name that stands only at its own place
-abbrev stands_by : List (List ℕ) → ℕ → Option (List ℕ) → Bool
-stands_by ns k None = true
-stands_by ns k (Some n) = if is_name n then is_op n && nat_eq (position_or_len (λ m. bytes_eq m n) ns) k else true
+abbrev stands_by : List (Option (List ℕ)) → ℕ → Option (Option (List ℕ)) → Bool
+stands_by ns k (Some (Some n)) = is_op n && nat_eq (position_or_len (is_named n) ns) k
+stands_by ns k other = true
 
-abbrev stands : List (List ℕ) → ℕ → Bool
+abbrev stands : List (Option (List ℕ)) → ℕ → Bool
 stands ns k = stands_by ns k (slice_get ns k)
 
 abbrev always : ℕ → Bool
 always k = true
 
-names_stand : (k : ℕ) → k < 448 → stands names k ≡ true
-unfolding names
-names_stand k h = agree_below_at (stands names) always 448 k refl h
+names_stand : (k : ℕ) → k < 512 → stands names k ≡ true
+unfolding names table mnemonic_of instruction_of monitor_opcode byte_opcode full_word_opcode shift_opcode branch_opcode stack_opcode compare_opcode test_opcode mode_of mask_of
+names_stand k h = agree_below_at (stands names) always 512 k refl h
+
+-- the first opcode with a name is its own, and it is written as an operation
+record Stood (op : ℕ) (n : List ℕ) : Type 0 where
+  pub operation : is_op n ≡ true
+  pub first : first_named n ≡ op
+
+stood : (op : ℕ) (n : List ℕ) → op < 512 → mnemonic_of op ≡ Some n → Stood op n
+unfolding first_named
+stood op n below e =
+    let here : slice_get names op ≡ Some (Some n) = names_at op below ∙ ap Some e in
+    let own = names_stand op below in
+    let both : (is_op n && nat_eq (position_or_len (is_named n) names) op) ≡ true = rw here at own in
+    let parts = both_true (is_op n) (nat_eq (position_or_len (is_named n) names) op) both in
+    record { operation = parts.0; first = eqb-true _ _ parts.1 }
+
+pub stood_first : (op : ℕ) (n : List ℕ) → op < 512 → mnemonic_of op ≡ Some n → first_named n ≡ op
+stood_first op n below e = (stood op n below e).first
 
 letter_visible : (b : ℕ) → is_letter b ≡ true → is_code 33 126 b ≡ true
 letter_visible b h = grind (arith, nat_tests)
@@ -169,8 +187,11 @@ fields : (w : ℕ) → w < 2 ^ 36 → opcode_of w * 2 ^ 27 + ac_of w * 2 ^ 23 + 
 fields w h = omega arith
 
 -- a word whose opcode has a name
-read_operation : (w : ℕ) (n : List ℕ) → w < 2 ^ 36 → opcode_of w < 448 → is_name n ≡ true → is_op n ≡ true → first_named n ≡ opcode_of w → statement_of (typed_by (Some n) w) ≡ Some w
-read_operation w n h below some op first =
+read_operation : (w : ℕ) (n : List ℕ) → w < 2 ^ 36 → mnemonic_of (opcode_of w) ≡ Some n → statement_of (typed_by (Some n) w) ≡ Some w
+read_operation w n h named =
+    let below : opcode_of w < 512 = omega arith in
+    let own = stood (opcode_of w) n below named in
+    let op : is_op n ≡ true = own.operation in
     let sides = both_true (nat_le 1 (length n) && nat_le (length n) 7) (list_all is_letter n && not (is_other n)) op in
     let sizes = both_true (nat_le 1 (length n)) (nat_le (length n) 7) sides.0 in
     let bytes = both_true (list_all is_letter n) (not (is_other n)) sides.1 in
@@ -185,37 +206,16 @@ read_operation w n h below some op first =
     let made : instruction no_names (opcode_of w) (typed_operand w) ≡ Ok (alone w) =
     instruction_number no_names (opcode_of w) (ac_of w) (indirect_of w) (right_of w) (index_of w) a i y x ∙ ap (λ (v : ℕ). Ok (alone v)) (fields w h) in
     read_line n (typed_operand w) w long short size.0 size.1 bytes.0 (operand_bytes (ac_of w) (indirect_of w) (right_of w) (index_of w) a y x)
-    (operation_made n (typed_operand w) (opcode_of w) w other (named_first n (opcode_of w) below some first) made)
+    (operation_made n (typed_operand w) (opcode_of w) w other (named_first n (opcode_of w) below own.first) made)
 
-pub stood_first : (op : ℕ) (n : List ℕ) → op < 448 → slice_get names op ≡ Some n → is_name n ≡ true → first_named n ≡ op
-unfolding first_named
-stood_first op n below e some =
-    let stood = names_stand op below in
-    let both : (is_op n && nat_eq (first_named n) op) ≡ true = rw (e, some) at stood in
-    eqb-true _ _ (both_true (is_op n) (nat_eq (first_named n) op) both).1
-
-read_named : (w : ℕ) (n : List ℕ) → w < 2 ^ 36 → opcode_of w < 448 → slice_get names (opcode_of w) ≡ Some n → is_name n ≡ true → statement_of (typed_by (Some n) w) ≡ Some w
-unfolding first_named
-read_named w n h below e some =
-    let stood = names_stand (opcode_of w) below in
-    let both : (is_op n && nat_eq (first_named n) (opcode_of w)) ≡ true = rw (e, some) at stood in
-    read_operation w n h below some (both_true (is_op n) (nat_eq (first_named n) (opcode_of w)) both).0 (stood_first (opcode_of w) n below e some)
-
-read_by : (w : ℕ) (r : Option (List ℕ)) → w < 2 ^ 36 → slice_get names (opcode_of w) ≡ r → statement_of (typed_by (named r) w) ≡ Some w
+read_by : (w : ℕ) (r : Option (List ℕ)) → w < 2 ^ 36 → mnemonic_of (opcode_of w) ≡ r → statement_of (typed_by r w) ≡ Some w
 read_by w None h e = read_halves w h
-read_by w (Some n) h e =
-    elim (cases_Bool (is_name n)) [
-      | inl some ↦ rw some (elim (cases_lt (opcode_of w) 448) [
-        | inl below ↦ read_named w n h below e some
-        | inr above ↦ (let none = no_more_names (opcode_of w) above in cc)
-      ])
-      | inr miss ↦ rw miss (read_halves w h)
-    ]
+read_by w (Some n) h e = read_operation w n h e
 
 -- the statement that types out a word is that word
 pub read_back : (w : ℕ) → w < 2 ^ 36 → statement_of (typed w) ≡ Some w
-unfolding typed mnemonic_of
-read_back w h = read_by w (slice_get names (opcode_of w)) h refl
+unfolding typed
+read_back w h = read_by w (mnemonic_of (opcode_of w)) h refl
 
 -- a typed word has at most as many bytes as a line may have
 pub typed_short : (w : ℕ) → w < 2 ^ 36 → length (typed w) ≤ 255
@@ -236,26 +236,21 @@ halves_printable w =
     let digits = λ (n : ℕ). all_imp (is_code 48 55) (is_code 32 126) digit_printable (digits_of n) (digits_are_codes n) in
     rw (list_all-append (is_code 32 126) (digits_of (left_of w)) (44 ∷ (44 ∷ digits_of (right_of w))), digits (left_of w)) (digits (right_of w))
 
-operation_printable : (w : ℕ) (n : List ℕ) → opcode_of w < 448 → slice_get names (opcode_of w) ≡ Some n → is_name n ≡ true → is_printable (typed_by (Some n) w) ≡ true
-operation_printable w n below e some =
-    let stood = names_stand (opcode_of w) below in
-    let both : (is_op n && nat_eq (position_or_len (λ m. bytes_eq m n) names) (opcode_of w)) ≡ true = rw (e, some) at stood in
-    let op = (both_true (is_op n) (nat_eq (position_or_len (λ m. bytes_eq m n) names) (opcode_of w)) both).0 in
+operation_printable : (w : ℕ) (n : List ℕ) → opcode_of w < 512 → mnemonic_of (opcode_of w) ≡ Some n → is_printable (typed_by (Some n) w) ≡ true
+operation_printable w n below e =
+    let op : is_op n ≡ true = (stood (opcode_of w) n below e).operation in
     let letters = (both_true (list_all is_letter n) (not (is_other n)) (both_true (nat_le 1 (length n) && nat_le (length n) 7) (list_all is_letter n && not (is_other n)) op).1).0 in
     let operand = operand_bytes (ac_of w) (indirect_of w) (right_of w) (index_of w) (omega arith) (omega arith) (omega arith) in
     all_two (is_code 32 126) n (typed_operand w) (all_imp is_letter (is_code 32 126) letter_printable n letters) (all_imp is_operand (is_code 32 126) operand_printable (typed_operand w) operand) refl
 
-printable_by : (w : ℕ) (r : Option (List ℕ)) → slice_get names (opcode_of w) ≡ r → is_printable (typed_by (named r) w) ≡ true
+printable_by : (w : ℕ) (r : Option (List ℕ)) → mnemonic_of (opcode_of w) ≡ r → is_printable (typed_by r w) ≡ true
 printable_by w None e = halves_printable w
 printable_by w (Some n) e =
-    elim (cases_Bool (is_name n)) [
-      | inl some ↦ rw some (elim (cases_lt (opcode_of w) 448) [
-        | inl below ↦ operation_printable w n below e some
-        | inr above ↦ (let none = no_more_names (opcode_of w) above in cc)
-      ])
-      | inr miss ↦ rw miss (halves_printable w)
+    elim (cases_lt (opcode_of w) 512) [
+      | inl below ↦ operation_printable w n below e
+      | inr above ↦ (let none = no_more_names (opcode_of w) (omega arith) in cc)
     ]
 
 pub typed_printable : (w : ℕ) → is_printable (typed w) ≡ true
-unfolding typed mnemonic_of
-typed_printable w = printable_by w (slice_get names (opcode_of w)) refl
+unfolding typed
+typed_printable w = printable_by w (mnemonic_of (opcode_of w)) refl

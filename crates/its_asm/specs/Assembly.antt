@@ -1,4 +1,5 @@
 -- The assembly of a text: its image, or its first refused line (docs/ASM.md).
+-- A promise rests on this.
 use Rattle.std.specs.Prelude.{if◌then◌else◌, ℕ, ◌+◌, ◌%◌, ◌^◌, Bool, true, false, ◌||◌, Option, Some, None, Result, Ok, Err, List, [], ◌∷◌, ◌++◌, length, nat_eq, nat_le, nat_lt, is_some}
 use Rattle.std.specs.List.{list_any, position_or_len}
 use Rattle.std.specs.Map.{lookup}
@@ -17,7 +18,7 @@ use Rattle.its_asm.specs.declared.reason.AsmFault.TheVariants.{Line}
 use Rattle.its_asm.specs.declared.reason.AsmReason.{AsmReason}
 use Rattle.its_asm.specs.declared.reason.AsmReason.TheVariants.{Long, Syntax, Range, Undef, Twice, Full, Cut}
 
--- the lines of a text end at LF; a last one without LF counts where it has a byte
+-- the lines of a text end at LF; a last one without LF counts if it has a byte
 abbrev pub whole_lines : List (List ℕ) → List (List ℕ)
 whole_lines [] = []
 whole_lines ([] ∷ []) = []
@@ -36,7 +37,7 @@ inserted a w (c ∷ cells) =
 abbrev pub is_given : List (ℕ × ℕ) → ℕ → Bool
 is_given cells a = is_some (lookup (nat_eq a) cells)
 
--- literals stand in order of first use, equal ones once
+-- literals are in order of first use, equal ones once
 abbrev pub used : List ℕ → ℕ → List ℕ
 used literals w = if list_any (nat_eq w) literals then literals else literals ++ w ∷ []
 
@@ -44,7 +45,7 @@ abbrev pub used_by : List ℕ → Option ℕ → List ℕ
 used_by literals None = literals
 used_by literals (Some w) = used literals w
 
--- a literal's address, where the first one stands at `base`: that of an equal one before, or the next
+-- a literal's address, when the first one is at `base`: that of an equal one before, or the next
 abbrev pub address_of : ℕ → List ℕ → ℕ → ℕ
 address_of base literals w = (base + position_or_len (nat_eq w) literals) % 2 ^ 18
 
@@ -71,7 +72,7 @@ pub record Assembly : Type 0 where
 abbrev pub nothing_made : Assembly
 nothing_made = record { layout = before_all; u = 0; j = 0; console = None; cells = []; literals = []; start = 0 }
 
--- what a statement makes; literals stand from `base` on
+-- what a statement makes; literals are from `base` on
 abbrev pub made : ℕ → Statement → Assembly → Assembly
 made base (Job u j console) a = record a { u = u; j = j; console = console }
 made base (Gives (Ok item)) a =
@@ -147,12 +148,12 @@ abbrev pub spoken : ℕ → Assembly → Option Spoken → Result Assembly AsmRe
 spoken base a None = Err Syntax
 spoken base a (Some line) = unless (reason_against base a line) (behind base a line)
 
--- one more line, where the whole text has this layout
+-- one more line, when the whole text has this layout
 unfoldable pub with_line : Layout → Assembly → List ℕ → Result Assembly AsmReason
 with_line whole a line =
     if nat_le (length line) 255 then spoken whole.location a (read a.layout whole.symbols line) else Err Long
 
--- the image of an assembly that ends here, or CUT at the line behind
+-- the image of an assembly that ends here, or CUT at the line after it
 abbrev pub ended : ℕ → Stage → Assembly → Result Image AsmFault
 ended n After a = Ok (record { u = a.u; j = a.j; console = a.console; words = a.cells; symbols = a.layout.symbols; start = a.start })
 ended n stage a = Err (Line n Cut)

@@ -1,4 +1,5 @@
 -- A table of words by address as a list in rising order of address.
+-- No promise rests on this.
 use Rattle.std.specs.Prelude.{ℕ, suc, Option, Some, None, List, [], ◌∷◌}
 
 -- the words of a table, from an address on

@@ -1,4 +1,5 @@
 -- Expressions: sums and differences of terms, modulo 1000000 (docs/ASM.md, "Expressions").
+-- A promise rests on this.
 use Rattle.std.specs.Prelude.{if◌then◌else◌, ℕ, ◌+◌, ◌-◌, ◌%◌, ◌^◌, ◌&&◌, ◌==◌, Option, Result, Ok, Err, List, ◌∷◌, length, filter, nat_eq, nat_le, bytes_eq, codes}
 use Rattle.std.specs.Map.{lookup}
 use Rattle.std.specs.Option.{ok_or}
@@ -8,7 +9,7 @@ use Rattle.its_asm.specs.Text.{is_mark, pieces, is_symbol}
 use Rattle.its_asm.specs.declared.reason.AsmReason.{AsmReason}
 use Rattle.its_asm.specs.declared.reason.AsmReason.TheVariants.{Syntax, Range, Undef}
 
--- what an expression may name: symbols with their values, and the location, where there is one
+-- what an expression may name: symbols with their values, and the location, if there is one
 pub record Scope : Type 0 where
   pub symbols : List (ℕ × ℕ)
   pub here : Option ℕ
@@ -43,11 +44,11 @@ term s text =
     else (if is_octal text && nat_le (length text) 6 then Ok (right_of (octal_value text))
     else Err Syntax))
 
--- a sum, and one more term behind its sign
+-- a sum, and one more term after its sign
 abbrev pub added : Result ℕ AsmReason → ℕ → Result ℕ AsmReason → Result ℕ AsmReason
 added sum sign t = given (both sum t) (λ p. Ok ((if sign == 45 then p.0 + (2 ^ 18 - p.1 % 2 ^ 18) else p.0 + p.1) % 2 ^ 18))
 
--- a sum goes on with these terms behind these signs
+-- a sum goes on with these terms after these signs
 abbrev pub summed : Scope → Result ℕ AsmReason → List ℕ → List (List ℕ) → Result ℕ AsmReason
 summed s sum (sign ∷ signs) (t ∷ ts) = summed s (added sum sign (term s t)) signs ts
 summed s sum signs ts = sum

@@ -1,4 +1,5 @@
 -- The words that statements give (docs/ASM.md, "Words").
+-- A promise rests on this.
 use Rattle.std.specs.Prelude.{if◌then◌else◌, ℕ, ◌+◌, ◌*◌, ◌^◌, ◌==◌, Option, Some, None, Result, Ok, Err, List, [], ◌∷◌, drop, slice_index, codes}
 use Rattle.its_word.specs.Text.{is_octal, octal_value}
 use Rattle.its_word.specs.Word.{pair_of}

@@ -1,4 +1,5 @@
--- Where lines stand, and the symbols that they define (docs/ASM.md, "Locations and symbols").
+-- The places of lines, and the symbols that they define (docs/ASM.md, "Locations and symbols").
+-- A promise rests on this.
 use Rattle.std.specs.Prelude.{if◌then◌else◌, ℕ, ◌+◌, ◌%◌, ◌^◌, Bool, true, false, Option, Some, None, Ok, List, [], ◌∷◌, ◌++◌, length, drop, fold, nat_le, nat_eq, is_some}
 use Rattle.std.specs.Map.{lookup}
 use Rattle.its_asm.specs.Text.{is_printable, statement_words}
@@ -15,7 +16,7 @@ use Rattle.its_asm.specs.declared.statements.Statement.TheVariants.{Nothing, Job
 abbrev pub before_all : Layout
 before_all = record { stage = Begin; location = 0; symbols = [] }
 
--- the statement of a line's words at a stage, with its labels' number; a line without words may stand anywhere
+-- the statement of a line's words at a stage, with its labels' number; a line without words may occur anywhere
 abbrev pub statement_at : Stage → Scope → Scope → ℕ → List (List ℕ) → Option Statement
 statement_at stage earlier s k [] = Some Nothing
 statement_at Begin earlier s k (w ∷ ws) = job (w ∷ ws)
@@ -36,7 +37,7 @@ earlier_at l = record { symbols = l.symbols; here = here_of l }
 abbrev pub scope_at : Layout → List (ℕ × ℕ) → Scope
 scope_at l symbols = record { symbols = symbols; here = here_of l }
 
--- what a line of at most 255 bytes says behind these lines, where these symbols stand; None where it is no statement there
+-- what a line of at most 255 bytes says after these lines, when these symbols are defined; None if it is no statement there
 unfoldable pub read : Layout → List (ℕ × ℕ) → List ℕ → Option Line
 read l symbols line =
     if is_printable line then
@@ -59,7 +60,7 @@ defined symbols name value = defined_by (is_defined symbols name) symbols name v
 unfoldable pub labelled : List (ℕ × ℕ) → ℕ → List ℕ → List (ℕ × ℕ)
 labelled symbols value labels = fold (λ done name. defined done name value) symbols labels
 
--- `NAME = e` defines a symbol behind the line's labels; all other statements define none
+-- `NAME = e` defines a symbol after the line's labels; all other statements define none
 abbrev pub equated : Statement → List (ℕ × ℕ) → List (ℕ × ℕ)
 equated (Equals name (Ok value)) symbols = defined symbols name value
 equated other symbols = symbols
@@ -78,7 +79,7 @@ stage_after (Job u j console) stage = Body
 stage_after (Go start) stage = After
 stage_after other stage = stage
 
--- behind a line
+-- after a line
 abbrev pub passed : Layout → Line → Layout
 passed l line = record { stage = stage_after line.statement l.stage; location = location_after line.statement l.location; symbols = symbols_after l line }
 
@@ -94,6 +95,6 @@ laid_by false l line = record l { stage = After }
 unfoldable pub laid : Layout → List ℕ → Layout
 laid l line = laid_by (nat_le (length line) 255) l line
 
--- behind all these lines
+-- after all these lines
 unfoldable pub laid_out : Layout → List (List ℕ) → Layout
 laid_out l lines = fold laid l lines

@@ -1,4 +1,5 @@
 -- Assemblies as the code has them.
+-- No promise rests on this.
 use Rattle.std.specs.Prelude.{◌≡◌, Result, Err}
 use Rattle.its_asm.specs.declared.assembly.Image.{Image}
 use Rattle.its_asm.specs.declared.reason.AsmFault.{AsmFault}

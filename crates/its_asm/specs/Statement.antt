@@ -1,4 +1,5 @@
 -- The statements of lines (docs/ASM.md, "Statements").
+-- A promise rests on this.
 use Rattle.std.specs.Prelude.{if◌then◌else◌, ℕ, Option, Some, None, Result, Ok, Err, List, [], ◌∷◌, length, nat_le, bytes_eq, codes}
 use Rattle.its_word.specs.Text.{is_name, is_octal, octal_value, sixbit_of}
 use Rattle.its_asm.specs.Text.{is_printable, label_of, symbol_of, statement_words}
@@ -16,7 +17,7 @@ abbrev pub formed : {A : Type 0} → (Result A AsmReason → Statement) → Resu
 formed says (Err Syntax) = None
 formed says value = Some (says value)
 
--- the labels before a statement, and the words behind them
+-- the labels before a statement, and the words after them
 abbrev pub labels_by : Option ℕ → List ℕ → List ℕ
 labels_by None more = []
 labels_by (Some name) more = name ∷ more
@@ -68,7 +69,7 @@ with_one earlier s first text =
     else (if bytes_eq first (codes "SIXBIT") then gives (sixbit text)
     else operation s text (opcode_named first))))
 
--- the statement of the words behind a line's labels, between JOB and GO; None where they are none
+-- the statement of the words after a line's labels, between JOB and GO; None if they are none
 unfoldable pub body : Scope → Scope → List (List ℕ) → Option Statement
 body earlier s [] = Some Nothing
 body earlier s (op ∷ []) = operation s [] (opcode_named op)
@@ -76,7 +77,7 @@ body earlier s (first ∷ text ∷ []) = with_one earlier s first text
 body earlier s (name ∷ sign ∷ e ∷ []) = equals earlier name sign e
 body earlier s words = None
 
--- the word that a line gives by itself, without symbols, literals and the term `.`
+-- the word that a line gives on its own, without symbols, literals and the term `.`
 abbrev pub word_of_item : Option ℕ → ℕ → Option ℕ
 word_of_item None w = Some w
 word_of_item (Some other) w = None

@@ -1,4 +1,5 @@
 -- Texts cut at marks, the words of a line, and symbols (docs/ASM.md). Characters are their ASCII codes.
+-- A promise rests on this.
 use Rattle.std.specs.Prelude.{if◌then◌else◌, ℕ, ◌-◌, Bool, true, false, ◌&&◌, ◌||◌, ◌==◌, Option, Some, None, List, [], ◌∷◌, length, take, slice_index, nat_eq, nat_le, codes}
 use Rattle.std.specs.List.{list_all, list_any, slice_split}
 use Rattle.its_word.specs.Text.{is_code, sixbit_of, words_of}
@@ -12,7 +13,7 @@ cut_at true b rest parts = Some ([], b, rest)
 cut_at false b rest None = None
 cut_at false b rest (Some p) = Some (b ∷ p.0, p.1, p.2)
 
--- a text cut at its first mark: what stands before it, that mark, and what stands behind it
+-- a text cut at its first mark: what is before the mark, the mark, and what is after it
 abbrev pub cut : List ℕ → List ℕ → Option (List ℕ × ℕ × List ℕ)
 cut marks [] = None
 cut marks (b ∷ rest) = cut_at (is_mark marks b) b rest (cut marks rest)
@@ -21,7 +22,7 @@ cut marks (b ∷ rest) = cut_at (is_mark marks b) b rest (cut marks rest)
 abbrev pub pieces : List ℕ → List ℕ → List (List ℕ)
 pieces marks text = slice_split (is_mark marks) text
 
--- a text without its last byte, where that is this one
+-- a text without its last byte, if that is this one
 abbrev pub closed : ℕ → List ℕ → Option (List ℕ)
 closed mark text = if slice_index text (length text - 1) == mark then Some (take (length text - 1) text) else None
 

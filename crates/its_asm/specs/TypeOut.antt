@@ -1,4 +1,5 @@
 -- A word typed out (docs/ASM.md, "Words as text").
+-- A promise rests on this.
 use Rattle.std.specs.Prelude.{if◌then◌else◌, ℕ, ◌/◌, ◌%◌, ◌^◌, ◌==◌, Option, Some, None, List, [], ◌++◌, codes}
 use Rattle.its_word.specs.Text.{digits_of}
 use Rattle.its_word.specs.Word.{left_of, right_of}
@@ -12,15 +13,15 @@ indirect_of w = w / 2 ^ 22 % 2
 abbrev pub index_of : ℕ → ℕ
 index_of w = w / 2 ^ 18 % 16
 
--- `a,` where A is not 0
+-- `a,` if A is not 0
 abbrev pub typed_ac : ℕ → List ℕ
 typed_ac a = if a == 0 then [] else digits_of a ++ codes ","
 
--- `@` where I is 1
+-- `@` if I is 1
 abbrev pub typed_indirect : ℕ → List ℕ
 typed_indirect i = if i == 0 then [] else codes "@"
 
--- `(x)` where X is not 0
+-- `(x)` if X is not 0
 abbrev pub typed_index : ℕ → List ℕ
 typed_index x = if x == 0 then [] else codes "(" ++ digits_of x ++ codes ")"
 
@@ -28,7 +29,7 @@ typed_index x = if x == 0 then [] else codes "(" ++ digits_of x ++ codes ")"
 abbrev pub typed_operand : ℕ → List ℕ
 typed_operand w = typed_ac (ac_of w) ++ (typed_indirect (indirect_of w) ++ (digits_of (right_of w) ++ typed_index (index_of w)))
 
--- the name of the opcode and the operand; both halves as numbers where the opcode has no name
+-- the name of the opcode and the operand; both halves as numbers if the opcode has no name
 abbrev pub typed_by : Option (List ℕ) → ℕ → List ℕ
 typed_by (Some name) w = name ++ (codes " " ++ typed_operand w)
 typed_by None w = codes "WORD " ++ (digits_of (left_of w) ++ (codes ",," ++ digits_of (right_of w)))

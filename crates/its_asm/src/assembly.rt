@@ -15,7 +15,7 @@ use indexmap::IndexSet;
 use its_word::Word;
 use std::alloc::{AllocError, Global};
 
-/// What a text says of a job: its names, its console, its words, its symbols and where it starts.
+/// What a text says of a job: its names, its console, its words, its symbols and its start.
 #[derive(Drop)]
 pub struct Image {
     pub u: Word,
@@ -38,7 +38,7 @@ pub struct Assembly {
     pub start: u32,
 }
 
-/// The first line of a text that has one, without its LF, and the text behind it.
+/// The first line of a text that has one, without its LF, and the text after it.
 #[tactic(auto, using(crate::proofs::LineLaws::line_cut, crate::proofs::LineLaws::line_last))]
 fn first_line(text: &[u8]) -> (&[u8], &[u8])
     requires { 0 < length text.now }
@@ -117,7 +117,7 @@ fn is_undefined(statement: &Statement) -> bool
     }
 }
 
-/// Whether one of the literals comes to an address that has a word already.
+/// Whether one of the literals gets an address that has a word already.
 #[tactic(auto, using(crate::proofs::LineLaws::any_here, crate::proofs::LineLaws::none_yet, crate::proofs::LineLaws::none_more, crate::proofs::LineLaws::none_given_all))]
 fn any_given(cells: &Given, base: u64, literals: &[Word]) -> bool
     requires { base < 2 ^ 63 }
@@ -133,7 +133,7 @@ fn any_given(cells: &Given, base: u64, literals: &[Word]) -> bool
     false
 }
 
-/// Whether a word, or a literal at GO, comes to an address that has a word already.
+/// Whether a word, or a literal at GO, gets an address that has a word already.
 fn is_location_twice(base: u64, statement: &Statement, a: &Assembly) -> bool
     requires { base < 2 ^ 63 }
     ensures { result ≡ is_location_twice base statement.now (seen a.now) }
@@ -145,7 +145,7 @@ fn is_location_twice(base: u64, statement: &Statement, a: &Assembly) -> bool
     }
 }
 
-/// Uses a literal; its address, where the first one stands at `base`.
+/// Uses a literal; its address, if the first one is at `base`.
 fn use_literal(literals: &mut IndexSet<Word>, base: u64, w: Word) -> Result<u32, AllocError>
     requires { base < 2 ^ 63 }
     ensures address { IfOk result (λ y. y ≡ address_of base literals.old.keys w) }
@@ -221,7 +221,7 @@ impl Assembly {
         Ok(())
     }
 
-    /// One more line of a text with this layout; the reason where it is refused.
+    /// One more line of a text with this layout; the reason if it is refused.
     #[tactic(auto, unfolding(crate::specs::Assembly::with_line))]
     fn with_line(&mut self, whole: &Layout, line: &[u8]) -> Result<Option<AsmReason>, AllocError>
         requires whole { whole.now.location < 2 ^ 63 }
@@ -255,7 +255,7 @@ impl Assembly {
     }
 }
 
-/// The lines of a text from line `n` on, behind which the assembly may end.
+/// The lines of a text from line `n` on, after which the assembly may end.
 #[tactic(auto, using(crate::proofs::LineLaws::from_end, crate::proofs::LineLaws::from_taken, crate::proofs::LineLaws::from_refused))]
 fn assemble_lines(whole: &Layout, a: &mut Assembly, text: &[u8]) -> Result<u32, AsmFault>
     requires whole { whole.now.location < 2 ^ 63 }
@@ -278,8 +278,8 @@ fn assemble_lines(whole: &Layout, a: &mut Assembly, text: &[u8]) -> Result<u32, 
     Ok(n)
 }
 
-/// Assembles a text; its image, or the first refused line with its reason. The text has at most 2^28
-/// bytes, as a text of 1048576 lines has.
+/// Assembles a text; its image, or the first refused line with its reason. The text has at most 2^28 bytes, which a
+/// text of 1048576 lines has at most.
 #[tactic(auto, unfolding(crate::specs::Assembly::assembly))]
 pub fn assemble(alloc: Global, text: &[u8]) -> Result<Image, AsmFault>
     requires { length text.now ≤ 2 ^ 28 }

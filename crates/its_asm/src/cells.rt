@@ -92,7 +92,7 @@ impl Given {
     }
 }
 
-/// What a table has at an address; None past its end.
+/// The contents of a table at an address; None past its end.
 fn word_at(words: &[Option<Word>], a: usize) -> Option<Option<Word>>
     ensures { result ≡ slice_get words.now a }
 {

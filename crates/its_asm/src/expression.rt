@@ -8,7 +8,7 @@ use super::symbols::{Symbols, symbol};
 use super::words::cut;
 use its_word::{Word, read_octal};
 
-/// What an expression may name: symbols, where there are any, and the location, where there is one.
+/// What an expression may name: symbols, if there are any, and the location, if there is one.
 #[derive(Clone, Copy)]
 pub struct Names<'a> {
     pub symbols: Option<&'a Symbols>,
@@ -75,7 +75,7 @@ fn term(names: Names, text: &[u8]) -> Result<u32, AsmReason>
     }
 }
 
-/// A sum, and one more term behind its sign, modulo 1000000.
+/// A sum, and one more term after its sign, modulo 1000000.
 fn added(
     sum: Result<u32, AsmReason>,
     sign: u8,

@@ -98,7 +98,7 @@ fn with_index(names: Names, text: &[u8]) -> Result<(Item, u32), AsmReason>
     }
 }
 
-/// An address behind its `@`, with I, X and Y in their places.
+/// An address after its `@`, with I, X and Y in their places.
 fn indexed(names: Names, indirect: bool, text: &[u8]) -> Result<Item, AsmReason>
     ensures value { result ≡ indexed (scope_of names.entry) (if indirect then 1 else 0) text.now }
     ensures below { IfOk result (λ y. y.word < 2 ^ 23) }

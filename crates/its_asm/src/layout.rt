@@ -1,4 +1,4 @@
-//! Where lines stand, and the symbols that they define.
+//! The places of lines, and the symbols that they define.
 ghost use Rattle.std.specs.Prelude.{◌≡◌, ◌||◌, ◌<◌, ◌≤◌, ◌+◌, ◌%◌, ◌^◌, length, map, drop, IfOk, OnOk};
 ghost use Rattle.arrayvec.specs.ArrayVec.{array_vec_len};
 ghost use Rattle.its_asm.specs.Layout.{before_all, labelled, passed, read, statement_at};
@@ -14,14 +14,14 @@ use arrayvec::ArrayVec;
 use its_word::Word;
 use std::alloc::{AllocError, Global};
 
-/// Which statements may stand.
+/// Which statements may occur.
 #[derive(Clone, Copy, Debug, PartialEq, Eq)]
 pub enum Stage {
     /// JOB.
     Begin,
     /// All others.
     Body,
-    /// None, behind GO.
+    /// None, after GO.
     After,
 }
 
@@ -59,7 +59,7 @@ fn labels(words: &[&[u8]]) -> ArrayVec<Word, 128>
     labels
 }
 
-/// The words behind the first `k`.
+/// The words after the first `k`.
 #[tactic(auto, using(crate::proofs::LayoutLaws::behind_labels))]
 fn behind<'a>(words: &'a [&'a [u8]], k: usize) -> &'a [&'a [u8]]
     requires { k ≤ length words.now }
@@ -108,8 +108,7 @@ impl Layout {
         }
     }
 
-    /// What a line of at most 255 bytes says here, where these symbols stand; None where it is no
-    /// statement.
+    /// What a line of at most 255 bytes says here, when these symbols are defined; None if it is no statement.
     #[tactic(auto, unfolding(crate::specs::Layout::read))]
     pub fn read(&self, standing: &Symbols, line: &[u8]) -> Option<Line>
         requires { length line.now ≤ 255 }
@@ -149,7 +148,7 @@ impl Layout {
         Ok(twice)
     }
 
-    /// Goes on behind a line; whether it gave a symbol that was defined already.
+    /// Goes on after a line; whether it gave a symbol that was defined already.
     pub fn pass(&mut self, line: &Line) -> Result<bool, AllocError>
         requires { self.old.location < 2 ^ 63 }
         ensures passed { OnOk result (self.new ≡ passed self.old line.now) }

@@ -1,21 +1,24 @@
 //! The names of opcodes (processor reference manual, "User operations").
-ghost use Rattle.std.specs.Prelude.{◌≡◌, ◌<◌, ◌≤◌, ℕ, true, Some, length, slice_get, option_map, IfSome};
+ghost use Rattle.std.specs.Prelude.{◌≡◌, ◌<◌, ◌≤◌, ℕ, length, option_map, IfSome};
+ghost use Rattle.its_asm.specs.Mnemonic.{is_named, mnemonic_of, opcode_named};
+ghost use Rattle.its_asm.specs.Reading.{cell_of};
 ghost use Rattle.its_asm.specs.Table.{IsNamed};
-ghost use Rattle.its_asm.specs.Mnemonic.{is_name, mnemonic_of, names, opcode_named};
 
 use super::words::up_to;
 
-/// How many opcodes the chart has.
-const OPCODES: u32 = 0o700;
+/// How many opcodes there are, and how many of them the chart has.
+const OPCODES: u32 = 0o1000;
+
+const CHARTED: u32 = 0o700;
 
 /// How many bytes each opcode has in the chart.
 const CELL: usize = 7;
 
-/// The names of the opcodes from 000 to 677, a row for eight of them; `-` where an opcode has none.
-/// Moves and half words have four modes in a row, basic, immediate, memory and self; arithmetic and
-/// Boolean functions basic, immediate, memory and both. Comparisons have the eight conditions in a
-/// row: never, less, equal, less or equal, always, greater or equal, not equal, greater. Tests have
-/// the masks right and left, then direct and swapped, under the skips never, equal, always and not.
+/// The names of the opcodes from 000 to 677, a row for eight of them; `-` if an opcode has none. Moves and half words
+/// have four modes in a row, basic, immediate, memory and self; arithmetic and Boolean functions basic, immediate,
+/// memory and both. Comparisons have the eight conditions in a row: never, less, equal, less or equal, always,
+/// greater or equal, not equal, greater. Tests have the masks right and left, then direct and swapped, under the
+/// skips never, equal, always and not.
 #[rattlefmt::skip]
 const CHART: &[u8; 3136] = b"\
     -      -      -      -      -      -      -      -      \
@@ -76,11 +79,11 @@ const CHART: &[u8; 3136] = b"\
     TDO    TSO    TDOE   TSOE   TDOA   TSOA   TDON   TSON   \
 ";
 
-/// What the chart has for an opcode below 700.
-#[tactic(auto, using(crate::proofs::ChartLaws::name_at, crate::proofs::ChartLaws::chart_length))]
-fn name(opcode: u32) -> &'static [u8]
+/// The name of the chart for an opcode below 700.
+#[tactic(auto, using(crate::proofs::ChartLaws::charted, crate::proofs::ChartLaws::chart_length))]
+fn cell(opcode: u32) -> &'static [u8]
     requires { opcode < 448 }
-    ensures value { slice_get names opcode ≡ Some result.now }
+    ensures value { result.now ≡ cell_of (mnemonic_of opcode) }
     ensures short { length result.now ≤ 7 }
 {
     let place = opcode as usize * CELL;
@@ -88,57 +91,48 @@ fn name(opcode: u32) -> &'static [u8]
     up_to(&chart[place..place + CELL], b" ")
 }
 
-/// The name of an opcode; None where it has none.
-#[tactic(auto, using(crate::proofs::ChartLaws::no_more_names), unfolding(crate::specs::Mnemonic::mnemonic_of))]
+/// The name of an opcode; None if it has none.
+#[tactic(auto, using(crate::proofs::ChartLaws::no_more_names, crate::proofs::ChartLaws::unnamed, crate::proofs::ChartLaws::has_name))]
 pub fn mnemonic(opcode: u32) -> Option<&'static [u8]>
     ensures value { option_map (λ n. n.now) result ≡ mnemonic_of opcode }
     ensures short { IfSome result (λ n. length n.now ≤ 7) }
 {
-    if opcode >= OPCODES {
+    if opcode >= CHARTED {
         return None;
     }
-    match name(opcode) {
-        b"-" => None,
-        name => Some(name),
+    let name = cell(opcode);
+    if name == b"-".as_slice() {
+        None
+    } else {
+        Some(name)
     }
 }
 
-/// Whether this may be a name of the chart.
-fn is_name(name: &[u8]) -> bool
-    ensures { result ≡ is_name name.now }
+/// Whether a text is the name of an opcode.
+fn is_named(text: &[u8], opcode: u32) -> bool
+    ensures { result ≡ is_named text.now (mnemonic_of opcode) }
 {
-    name != b"-".as_slice()
+    match mnemonic(opcode) {
+        Some(name) => name == text,
+        None => false,
+    }
 }
 
-/// The first opcode with a name.
+/// The opcode of a name; None if there is no such name.
 #[tactic(auto, using(crate::proofs::ChartLaws::found_here, crate::proofs::ChartLaws::found_later, crate::proofs::ChartLaws::not_found))]
-fn first_named(wanted: &[u8]) -> Option<u32>
-    requires { is_name wanted.now ≡ true }
-    ensures value { result ≡ opcode_named wanted.now }
-    ensures below { IfSome result (λ op. op < 448) }
+pub fn opcode_named(text: &[u8]) -> Option<u32>
+    ensures value { result ≡ opcode_named text.now }
+    ensures below { IfSome result (λ op. op < 512) }
 {
     for opcode in 0..OPCODES {
-        if name(opcode) == wanted {
+        if is_named(text, opcode) {
             return Some(opcode);
         }
     }
     None
 }
 
-/// The opcode of a name; None where there is no such name.
-#[tactic(auto, using(crate::proofs::ChartLaws::no_such_name))]
-pub fn opcode_named(wanted: &[u8]) -> Option<u32>
-    ensures value { result ≡ opcode_named wanted.now }
-    ensures below { IfSome result (λ op. op < 448) }
-{
-    if is_name(wanted) {
-        first_named(wanted)
-    } else {
-        None
-    }
-}
-
-/// The opcodes that have names are those that are instructions, and no name stands twice.
+/// The opcodes that have names are those that are instructions, and no name occurs twice.
 pub fn each_opcode_named()
     ensures { (op : ℕ) → op < 512 → IsNamed op }
 {}

@@ -9,7 +9,7 @@ use thiserror::Error;
 pub enum AsmReason {
     /// The line has more than 255 bytes.
     Long,
-    /// It is no statement, or none that may stand there.
+    /// It is no statement, or none that may occur there.
     Syntax,
     /// An accumulator or index register above 17, or a word above the last address, 777777.
     Range,

@@ -1,4 +1,4 @@
-//! The word of one line by itself.
+//! The word of one line on its own.
 ghost use Rattle.std.specs.Prelude.{◌≡◌};
 ghost use Rattle.its_asm.specs.Statement.{statement_of, word_of};
 
@@ -20,8 +20,8 @@ fn word_of(statement: Option<Statement>) -> Option<Word>
     }
 }
 
-/// The word of a line without symbols, literals and the term `.`; None exactly where the line is not
-/// such a line of one word.
+/// The word of a line without symbols, literals and the term `.`; None exactly if the line is not such a line of one
+/// word.
 #[tactic(auto, unfolding(crate::specs::Statement::statement_of))]
 pub fn statement(line: &[u8]) -> Option<Word>
     ensures { result ≡ statement_of line.now }

@@ -64,7 +64,7 @@ impl Symbols {
         Ok(false)
     }
 
-    /// The value of a symbol; None where it is not defined.
+    /// The value of a symbol; None if it is not defined.
     pub fn value(&self, name: Word) -> Option<u32>
         ensures { result ≡ lookup (nat_eq name) self.now }
     {

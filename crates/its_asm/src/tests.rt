@@ -70,7 +70,7 @@ fn each_operation(rt: HostRuntime) -> Result<(), Fail> {
     Ok(())
 }
 
-/// Lines that give a word, each behind it.
+/// Lines that give a word, each after its word.
 const GIVEN: &str = "045700000000 .BREAK 16,
 043000001020 .CALL 1020 ; a comment
 254000000000 JRST
@@ -86,7 +86,7 @@ const GIVEN: &str = "045700000000 .BREAK 16,
 576045560000 SIXBIT OPEN
 411215131702 SIXBIT A*-+/\"";
 
-/// Lines that give no word by themselves.
+/// Lines that give no word on their own.
 const NOTHING: &str = "
 ; MOVE 1,5
 LABEL: MOVE 1,5
@@ -147,8 +147,8 @@ fn typed(rt: HostRuntime) {
     both_ways(&rt, b"WORD 777777,,777777", Word::ONES);
 }
 
-/// Texts behind what they give: the names and the console of the job, where it starts, its words at
-/// their addresses, and its symbols; or the fault.
+/// Texts after what they give: the names and the console of the job, its start, its words at their addresses, and its
+/// symbols; or the fault.
 const TEXTS: &str =
     "650000000000 520000000000 None 100 100/201040000005 101/202040000200 102/45700000000 700000000000=200
 JOB U J -
@@ -221,6 +221,29 @@ GO 0
 WORD 1
 %line 1 is refused: Syntax
 LOC 100
+%line 1 is refused: Syntax
+A: JOB U J -
+GO 0
+%line 3 is refused: Range
+JOB U J -
+MOVE 1,A
+A: MOVE 20,5
+GO 0
+%line 2 is refused: Undef
+JOB U J -
+MOVE 1,A
+A: FOO 1
+GO 0
+%line 3 is refused: Undef
+JOB U J -
+MOVE 1,A
+A: B = C
+GO 0
+%line 2 is refused: Undef
+JOB U J -
+MOVE 1,B
+A: B = C
+GO 0
 %line 3 is refused: Cut
 JOB U J -
 WORD 1";

@@ -5,14 +5,14 @@ ghost use Rattle.its_asm.specs.Text.{closed, cut, is_mark, is_printable, stateme
 use arrayvec::ArrayVec;
 use its_word::words;
 
-/// Where the first mark is.
+/// The place of the first mark.
 fn first_mark(text: &[u8], marks: &[u8]) -> Option<usize>
     ensures { result ≡ position (is_mark marks.now) text.now }
 {
     text.iter().position(|b| marks.contains(b))
 }
 
-/// The text before its first mark, that mark, and the text behind it; None without a mark.
+/// The text before its first mark, that mark, and the text after it; None without a mark.
 #[tactic(auto, using(crate::proofs::CutLaws::cut_found, crate::proofs::CutLaws::cut_none))]
 pub fn cut<'a>(text: &'a [u8], marks: &[u8]) -> Option<(&'a [u8], u8, &'a [u8])>
     ensures none { IfNone result (cut marks.now text.entry.now ≡ None) }
@@ -23,7 +23,7 @@ pub fn cut<'a>(text: &'a [u8], marks: &[u8]) -> Option<(&'a [u8], u8, &'a [u8])>
     Some((&text[..place], text[place], &text[place + 1..]))
 }
 
-/// A text without its last byte, where that is this one.
+/// A text without its last byte, if that is this one.
 pub fn closed(text: &[u8], mark: u8) -> Option<&[u8]>
     requires { 0 < mark }
     ensures none { IfNone result (closed mark text.now ≡ None) }
@@ -35,7 +35,7 @@ pub fn closed(text: &[u8], mark: u8) -> Option<&[u8]>
     }
 }
 
-/// The words of a line, which stand before its comment.
+/// The words of a line, which are before its comment.
 #[tactic(auto, unfolding(crate::specs::Text::statement_words))]
 pub fn statement_words(line: &[u8]) -> ArrayVec<&[u8], 128>
     requires { length line.now ≤ 255 }

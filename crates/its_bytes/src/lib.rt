@@ -33,8 +33,8 @@ pub fn has_size(p: Word) -> bool
     (1..=36).contains(&size(p))
 }
 
-/// The pointer to the next byte, at the right in the same word, or leftmost in the next word, where Y
-/// wraps within 18 bits. None exactly where S is 0 or above 36.
+/// The pointer to the next byte, at the right in the same word, or leftmost in the next word; Y wraps within 18 bits.
+/// None exactly if S is 0 or above 36.
 #[tactic(auto, unfolding(its_word::specs::Byte::increment_of))]
 pub fn increment(p: Word) -> Option<Word>
     ensures { result ≡ increment_of p }

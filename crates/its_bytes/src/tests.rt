@@ -1,6 +1,5 @@
-//! Results that a simulator of the PDP-10 gave, where it agrees with the instruction tables. Rows are
-//! parted by `;`, and all numbers are octal: the arguments of a call, `=`, and its result, a
-//! word or `refused`.
+//! Results that a simulator of the PDP-10 gave and that agree with the instruction tables. Rows are separated by `;`,
+//! and all numbers are octal: the arguments of a call, `=`, and its result, a word or `refused`.
 use super::*;
 use its_word::Word;
 use std::process::Abort;
@@ -84,7 +83,7 @@ static DEPOSIT: &str =
 130277777777 73055740153 506442726664 = 73055740153; 221500777777 2 777777 = 17777000002;
 473100777777 777777 101 = 777777";
 
-/// The word that an octal number writes; 0 where there is none.
+/// The word that an octal number writes; 0 if there is none.
 fn word(rt: &impl Abort, text: Option<&str>) -> Word {
     match text {
         Some(text) => Word::new(u64::from_str_radix(text, 8).expect(rt, "an octal number")),

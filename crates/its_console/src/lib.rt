@@ -44,7 +44,7 @@ impl Console {
         Ok(Console { input, output })
     }
 
-    /// A byte is typed. False where 64 typed bytes wait; the byte is then lost.
+    /// A byte is typed. False if 64 typed bytes wait; the byte is then lost.
     pub fn type_in(&mut self, b: u8) -> bool
         ensures taken { IsTrue result ↔ (length self.old.input < most_waiting) }
         ensures typed { IsTrue result → self.new ≡ record self.old { input = self.old.input ++ b ∷ [] } }
@@ -53,14 +53,14 @@ impl Console {
         self.input.try_push_back(b).is_ok()
     }
 
-    /// The first byte of the input, which stays; None where nothing waits.
+    /// The first byte of the input, which remains there; None if nothing waits.
     pub fn first(&self) -> Option<u8>
         ensures { result ≡ slice_get self.now.input 0 }
     {
         self.input.front().copied()
     }
 
-    /// Takes the typed byte that has waited longest; None where none waits.
+    /// Takes the typed byte that has waited longest; None if none waits.
     pub fn take(&mut self) -> Option<u8>
         ensures first { result ≡ slice_get self.old.input 0 }
         ensures rest { self.new ≡ record self.old { input = drop 1 self.old.input } }
@@ -68,7 +68,7 @@ impl Console {
         self.input.pop_front()
     }
 
-    /// Puts a byte out. False where 64 bytes wait to be drained; then nothing is put.
+    /// Puts a byte out. False if 64 bytes wait to be drained; then nothing is put.
     pub fn put(&mut self, b: u8) -> bool
         ensures taken { IsTrue result ↔ (length self.old.output < most_waiting) }
         ensures put { IsTrue result → self.new ≡ record self.old { output = self.old.output ++ b ∷ [] } }
@@ -77,7 +77,7 @@ impl Console {
         self.output.try_push_back(b).is_ok()
     }
 
-    /// Drains the byte that was put out first; None where none waits.
+    /// Drains the byte that was put out first; None if none waits.
     pub fn drain(&mut self) -> Option<u8>
         ensures first { result ≡ slice_get self.old.output 0 }
         ensures rest { self.new ≡ record self.old { output = drop 1 self.old.output } }

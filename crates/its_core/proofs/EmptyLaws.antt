@@ -152,7 +152,7 @@ row_none os s h none i =
     let l = length-row os s h in
     elim (cases_lt i 256) [ inl lt ↦ get_or-row os s i lt ∙ none (256 * s + i) | inr ge ↦ get_or_past (row os s) i None (omega arith) ]
 
-listed_none : (b c : ℕ) → b ≡ all_places → Listed (frames_now (filled b None) (filled c None) all_free)
+listed_none : (b c : ℕ) → b ≡ all_places → Listed (frames_now (filled b None) (filled c None) all_free [])
 listed_none b c bi =
     let lb = length-filled {X = Option Mapped} b None in
     let lm = length-map (filled b None) frame_of in
@@ -168,7 +168,7 @@ listed_none b c bi =
 
 no_frames : (a b c : ℕ) → NoFrames (cores_in (filled a 0) (filled b None) (filled c None) [] all_free).frames
 unfolding cores_in
-no_frames a b c = record { free_in_order = free_list; no_lists = other_list; no_pages = λ s k. frames_filled b (256 * s + k); none_reserved = held_filled c }
+no_frames a b c = record { free_in_order = free_list; no_lists = other_list; no_pages = λ s k. frames_filled b (256 * s + k); none_reserved = held_filled c; none_ready = refl }
 
 pub empty : (a b c : ℕ) → a ≡ all_accs → IsEmpty (cores_in (filled a 0) (filled b None) (filled c None) [] all_free)
 empty a b c e = record {
@@ -281,16 +281,16 @@ module _ (accs : List ℕ) (places : List (Option Mapped)) (held : List (Option 
 
   pub drop_frames : (brrs : List ℕ) (s : ℕ) → (cores_in brrs (emptied (256 * s) 256 places) held words (dropped s)).frames ≡ frames_drop_all s (cores_in accs places held words links).frames
   unfolding cores_in
-  drop_frames brrs s = ap (λ p. record { lists = (dropped s).lists; pages = p; reserved = map held_frame held }) (map-emptied frame_of refl (256 * s) 256 places)
+  drop_frames brrs s = ap (λ p. record { lists = (dropped s).lists; pages = p; reserved = map held_frame held; ready = length words }) (map-emptied frame_of refl (256 * s) 256 places)
 
   drop_seen : (s : ℕ) → s < slots → Listed (frames_drop_all s (cores_in accs places held words links).frames)
   unfolding cores_in
   drop_seen s lt =
       let pl = pool.places_long in
       let ml = length-map places frame_of in
-      drop_all_listed (frames_now places held links) pool.listed pool.heads s lt (omega arith)
+      drop_all_listed (frames_now places held links words) pool.listed pool.heads s lt (omega arith)
 
-  seen_now : (brrs : List ℕ) (qlaces : List (Option Mapped)) (minks : Linked) → Listed (cores_in brrs qlaces held words minks).frames → Listed (frames_now qlaces held minks)
+  seen_now : (brrs : List ℕ) (qlaces : List (Option Mapped)) (minks : Linked) → Listed (cores_in brrs qlaces held words minks).frames → Listed (frames_now qlaces held minks words)
   unfolding cores_in
   seen_now brrs qlaces minks l = l
 

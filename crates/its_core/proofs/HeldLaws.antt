@@ -1,6 +1,7 @@
 -- A page that a slot reserves, clears, or gives back.
-use Rattle.std.specs.Prelude.{◌≡◌, ◌≢◌, ◌<◌, ◌≤◌, ℕ, ◌+◌, ◌-◌, ◌*◌, ◌==◌, true, false, Option, Some, None, List, [], ◌∷◌, ◌++◌, length, map, take, drop, replicate, slice_set, slice_index_or, is_some, count_by, option_map, refl}
+use Rattle.std.specs.Prelude.{◌≡◌, ◌≢◌, ◌<◌, ◌≤◌, ℕ, ◌+◌, ◌-◌, ◌*◌, ◌==◌, true, false, Option, Some, None, List, [], ◌∷◌, ◌++◌, max, length, map, take, drop, replicate, slice_set, slice_index_or, is_some, count_by, option_map, refl}
 use Rattle.std.proofs.Common.{sym, ◌∙◌, ap, inl, inr, arith, length-set, subst}
+use Rattle.std.proofs.Math.Nat.{le-max_right}
 use Rattle.std.proofs.lemmas.Bool.{cases_lt, cases_eq, cond-true, cond-false, eq-eqb, ne_eqb}
 use Rattle.std.proofs.lemmas.List.{get_or-set_same, get_or-set_other, set-get_or, map-set, length-map, length_push, length-append, length-replicate}
 use Rattle.std.proofs.lemmas.Option.{same_Some}
@@ -11,7 +12,7 @@ use Rattle.its_core.specs.declared.cores.Mapped.{Mapped}
 use Rattle.its_core.specs.declared.cores.Held.{Held}
 use Rattle.its_links.specs.Lists.{Linked, count, list_at, first, rest}
 use Rattle.its_links.proofs.CountLaws.{count-append, count_first, hit_same, hit_other}
-use Rattle.its_core.specs.Frames.{Listed, all_frames, as_list, free, frames_reserve, frames_give_back}
+use Rattle.its_core.specs.Frames.{Listed, all_frames, as_list, free, ready_with, frames_reserve, frames_give_back}
 use Rattle.its_core.specs.Cores.{Cores, Reserved, core_at, reserved_at, clear_at, clear_with, cleared, zeroed}
 use Rattle.its_core.specs.Pool.{frame_of, held_frame, frame_words, page_in, reserved_in, core_in, cores_in, frames_now, IsPool, IsClear, all_places}
 use Rattle.its_core.proofs.ListLaws.{frame_words_more, frame_words_zeroed, frame_words_zeroed_other, get_or-frame_words, zero_stays, get_or-zeroed, length-zeroed}
@@ -71,6 +72,10 @@ clear_has m s = go (reserved_at m s)
 pub held_clear : (accs : List ℕ) (places : List (Option Mapped)) (held : List (Option Held)) (words : List ℕ) (links : Linked) (s : ℕ) → is_some (slice_index_or held s None) ≡ is_some (clear_at (cores_in accs places held words links) s)
 held_clear accs places held words links s = held_has accs places held words links s ∙ clear_has (cores_in accs places held words links) s
 
+-- how many words are ready once those below e are, where frame x ends
+pub ready_end : (n e x : ℕ) → e ≡ 1024 * x + 1024 → n + (e - n) ≡ max n (1024 * x + 1024)
+ready_end n e x is = omega arith
+
 module _ (accs : List ℕ) (places : List (Option Mapped)) (held : List (Option Held)) (words : List ℕ) (links : Linked) (mapped : ℕ) (pool : IsPool accs places held words links mapped) where
   pub held_none : (s : ℕ) → reserved_at (cores_in accs places held words links) s ≡ None → slice_index_or held s None ≡ None
   held_none s h = go (slice_index_or held s None) (sym (reserved_at_is accs places held words links s) ∙ h)
@@ -107,7 +112,7 @@ module _ (accs : List ℕ) (places : List (Option Mapped)) (held : List (Option 
 
   -- a pool with another reserved page of a slot
   held_pool : (s : ℕ) (o : Option Held) (vords : List ℕ) (minks : Linked) → s < slots → ((x : ℕ) → x < all_frames → length vords < 1024 * x + 1024 → 0 < count x (list_at minks.lists 0)) → minks.nodes ≡ all_frames → length minks.lists ≡ slots + 1
-      → Listed (frames_now places (slice_set held s o) minks) → ((t : ℕ) → list_at minks.lists (t + 1) ≡ list_at links.lists (t + 1))
+      → Listed (frames_now places (slice_set held s o) minks vords) → ((t : ℕ) → list_at minks.lists (t + 1) ≡ list_at links.lists (t + 1))
       → ((k : ℕ) (h : Held) → slice_index_or (slice_set held s o) k None ≡ Some h → IsClear vords h)
       → mapped ≡ pages_mapped (core_at (cores_in accs places (slice_set held s o) vords minks))
       → length (list_at minks.lists 0) + mapped + count_by is_some (slice_set held s o) ≡ all_frames
@@ -182,45 +187,50 @@ module _ (accs : List ℕ) (places : List (Option Mapped)) (held : List (Option 
   abbrev pub given : ℕ → Linked
   given y = record { nodes = links.nodes; lists = slice_set links.lists 0 (list_at links.lists 0 ++ y ∷ []) }
 
-  pub reserve_frames : (vords : List ℕ) (s y : ℕ) → first (list_at links.lists 0) ≡ Some y
-      → (cores_in accs places (slice_set held s (Some (record { frame = y; clear = 0 }))) vords taken).frames ≡ frames_reserve s (cores_in accs places held words links).frames
+  pub reserve_frames : (n s y : ℕ) → first (list_at links.lists 0) ≡ Some y → length words + n ≡ max (length words) (1024 * y + 1024)
+      → (cores_in accs places (slice_set held s (Some (record { frame = y; clear = 0 }))) (words ++ replicate n 0) taken).frames ≡ frames_reserve s (cores_in accs places held words links).frames
   unfolding cores_in
-  reserve_frames vords s y e =
-      ap (λ r. record { lists = slice_set links.lists 0 (rest (list_at links.lists 0)); pages = map frame_of places; reserved = r })
-      (map-set held_frame held s (Some (record { frame = y; clear = 0 })) ∙ ap (λ o. slice_set (map held_frame held) s o) (sym e))
+  reserve_frames n s y e ready =
+      let a = length-append words (replicate n 0) in
+      let b = length-replicate {A = ℕ} n 0 in
+      let long : length (words ++ replicate n 0) ≡ max (length words) (1024 * y + 1024) = a ∙ ap (λ i. length words + i) b ∙ ready in
+      ap (λ i. record { lists = taken.lists; pages = map frame_of places; reserved = map held_frame (slice_set held s (Some (record { frame = y; clear = 0 }))); ready = i }) long
+      ∙ ap (λ r. record { lists = taken.lists; pages = map frame_of places; reserved = r; ready = max (length words) (1024 * y + 1024) })
+      (map-set held_frame held s (Some (record { frame = y; clear = 0 })))
+      ∙ ap (λ o. record { lists = taken.lists; pages = map frame_of places; reserved = slice_set (map held_frame held) s o; ready = ready_with (length words) o }) (sym e)
 
   pub give_frames : (s : ℕ) (h : Held) → slice_index_or held s None ≡ Some h
       → (cores_in accs places (slice_set held s None) words (given h.frame)).frames ≡ frames_give_back s (cores_in accs places held words links).frames
   unfolding cores_in
   give_frames s h e =
-      ap (λ r. record { lists = slice_set links.lists 0 (list_at links.lists 0 ++ h.frame ∷ []); pages = map frame_of places; reserved = r }) (map-set held_frame held s None)
-      ∙ ap (λ o. record { lists = slice_set links.lists 0 (list_at links.lists 0 ++ as_list o); pages = map frame_of places; reserved = slice_set (map held_frame held) s None })
+      ap (λ r. record { lists = slice_set links.lists 0 (list_at links.lists 0 ++ h.frame ∷ []); pages = map frame_of places; reserved = r; ready = length words }) (map-set held_frame held s None)
+      ∙ ap (λ o. record { lists = slice_set links.lists 0 (list_at links.lists 0 ++ as_list o); pages = map frame_of places; reserved = slice_set (map held_frame held) s None; ready = length words })
       (sym (reserved_frame_is accs places held words links mapped pool s h e))
 
-  same_frames : (gelt : List (Option Held)) (minks : Linked) → Listed (cores_in accs places gelt words minks).frames → Listed (frames_now places gelt minks)
+  same_frames : (gelt : List (Option Held)) (vords : List ℕ) (minks : Linked) → Listed (cores_in accs places gelt vords minks).frames → Listed (frames_now places gelt minks vords)
   unfolding cores_in
-  same_frames gelt minks l = l
+  same_frames gelt vords minks l = l
 
   reserve_seen : (s y : ℕ) → s < slots → slice_index_or held s None ≡ None → first (list_at links.lists 0) ≡ Some y → Listed (frames_reserve s (cores_in accs places held words links).frames)
   unfolding cores_in
   reserve_seen s y lt none e =
       let hl = pool.held_long in
       let ml = length-map held held_frame in
-      reserve_listed (frames_now places held links) pool.listed pool.heads s y (omega arith) e (reserved_frame_none accs places held words links mapped pool s none)
+      reserve_listed (frames_now places held links words) pool.listed pool.heads s y (omega arith) e (reserved_frame_none accs places held words links mapped pool s none)
 
   give_seen : (s : ℕ) → s < slots → Listed (frames_give_back s (cores_in accs places held words links).frames)
   unfolding cores_in
   give_seen s lt =
       let hl = pool.held_long in
       let ml = length-map held held_frame in
-      give_back_listed (frames_now places held links) pool.listed pool.heads s (omega arith)
+      give_back_listed (frames_now places held links words) pool.listed pool.heads s (omega arith)
 
   -- the first free frame is one of the frames
   pub first_below : (y : ℕ) → first (list_at links.lists 0) ≡ Some y → y < all_frames
   first_below y is =
       let h = hit_same y in
       let c = count_first y y (list_at links.lists 0) is in
-      free_below (frames_now places held links) pool.listed y (omega arith)
+      free_below (frames_now places held links words) pool.listed y (omega arith)
 
   -- words that become ready are none of a page, nor of a reserved page
   pages_ready : (n : ℕ) → KeepsPages (words ++ replicate n 0)
@@ -250,9 +260,10 @@ module _ (accs : List ℕ) (places : List (Option Mapped)) (held : List (Option 
       let z = ap (count x) (get_or-set_same links.lists 0 (rest (list_at links.lists 0)) [] (omega arith)) in
       omega arith
 
-  pub reserve_pool : (n s y : ℕ) → s < slots → slice_index_or held s None ≡ None → first (list_at links.lists 0) ≡ Some y → 1024 * y + 1024 ≤ length words + n
+  pub reserve_pool : (n s y : ℕ) → s < slots → slice_index_or held s None ≡ None → first (list_at links.lists 0) ≡ Some y → length words + n ≡ max (length words) (1024 * y + 1024)
       → IsPool accs places (slice_set held s (Some (record { frame = y; clear = 0 }))) (words ++ replicate n 0) taken mapped
-  reserve_pool n s y lt e is long =
+  reserve_pool n s y lt e is ready =
+      let long : 1024 * y + 1024 ≤ length words + n = subst (λ i. 1024 * y + 1024 ≤ i) (sym ready) (le-max_right (length words) (1024 * y + 1024)) in
       let hl = pool.held_long in
       let nl = pool.heads in
       let h : Held = record { frame = y; clear = 0 } in
@@ -263,7 +274,7 @@ module _ (accs : List ℕ) (places : List (Option Mapped)) (held : List (Option 
       let u = ap length (get_or-set_same links.lists 0 (rest free) [] (omega arith)) in
       let w = length_rest free y is in
       held_pool s (Some h) vords taken lt (λ x below less. still_ready n y x is long below less) pool.nodes (length-set links.lists 0 (rest free) ∙ nl)
-      (same_frames (slice_set held s (Some h)) taken (subst Listed (sym (reserve_frames words s y is)) (reserve_seen s y lt e is)))
+      (same_frames (slice_set held s (Some h)) vords taken (subst Listed (sym (reserve_frames n s y is ready)) (reserve_seen s y lt e is)))
       (λ t. get_or-set_other links.lists 0 (t + 1) (rest free) [] (λ q. omega arith))
       (clear_set s (Some h) vords (omega arith) (λ i r. none_clear vords y i r) (λ k i ne r. clear_kept vords i (held_ready n k i r) (pool.clear k i r)))
       (number_kept (slice_set held s (Some h)) vords taken (pages_ready n))
@@ -289,7 +300,7 @@ module _ (accs : List ℕ) (places : List (Option Mapped)) (held : List (Option 
       let z = ap (count x) (get_or-set_same links.lists 0 (free ++ h.frame ∷ []) [] (omega arith)) in
       omega arith)
       pool.nodes (length-set links.lists 0 (free ++ h.frame ∷ []) ∙ nl)
-      (same_frames (slice_set held s None) (given h.frame) (subst Listed (sym (give_frames s h e)) (give_seen s lt)))
+      (same_frames (slice_set held s None) words (given h.frame) (subst Listed (sym (give_frames s h e)) (give_seen s lt)))
       (λ t. get_or-set_other links.lists 0 (t + 1) (free ++ h.frame ∷ []) [] (λ q. omega arith))
       (clear_set s None words (omega arith) (λ i r. cc) (λ k i ne r. pool.clear k i r))
       (pool.number ∙ sym (held_number accs places held (slice_set held s None) words links (given h.frame)))
@@ -368,9 +379,11 @@ module _ (accs : List ℕ) (places : List (Option Mapped)) (held : List (Option 
       ])
 
   -- a reserved page keeps its frame
-  quarter_frames_now : (s : ℕ) (h : Held) (c : ℕ) → slice_index_or held s None ≡ Some h → frames_now places (slice_set held s (Some (record { frame = h.frame; clear = c }))) links ≡ frames_now places held links
-  quarter_frames_now s h c e =
-      ap (λ r. record { lists = links.lists; pages = map frame_of places; reserved = r })
+  quarter_frames_now : (vords : List ℕ) (s : ℕ) (h : Held) (c : ℕ) → length vords ≡ length words → slice_index_or held s None ≡ Some h
+      → frames_now places (slice_set held s (Some (record { frame = h.frame; clear = c }))) links vords ≡ frames_now places held links words
+  quarter_frames_now vords s h c long e =
+      ap (λ n. record { lists = links.lists; pages = map frame_of places; reserved = map held_frame (slice_set held s (Some (record { frame = h.frame; clear = c }))); ready = n }) long
+      ∙ ap (λ r. record { lists = links.lists; pages = map frame_of places; reserved = r; ready = length words })
       (map-set held_frame held s (Some (record { frame = h.frame; clear = c }))
       ∙ ap (λ o. slice_set (map held_frame held) s o) (sym (reserved_frame_is accs places held words links mapped pool s h e))
       ∙ set-get_or (map held_frame held) s None)
@@ -385,12 +398,12 @@ module _ (accs : List ℕ) (places : List (Option Mapped)) (held : List (Option 
       let v = count_set is_some held s n None true (omega arith) (ap is_some e) in
       let c = pool.count in
       held_pool s n ws links lt (λ x below less. let z = length-zeroed (1024 * h.frame + 256 * q) 256 words (omega arith) in pool.ready x below (omega arith)) pool.nodes pool.heads
-      (subst Listed (sym (quarter_frames_now s h (clear_with q h.clear) e)) pool.listed) (λ t. refl)
+      (subst Listed (sym (quarter_frames_now ws s h (clear_with q h.clear) (length-zeroed (1024 * h.frame + 256 * q) 256 words (omega arith)) e)) pool.listed) (λ t. refl)
       (clear_set s n ws (omega arith) (λ g r. quarter_clear s q h g ql e r) (λ k g ne r. clear_kept ws g (held_zeroed s (256 * q) k h g e (omega arith) ne r) (pool.clear k g r)))
       (number_kept (slice_set held s n) ws links (pages_zeroed s (256 * q) h e (omega arith)))
       (omega arith)
 
-  pub quarter_frames : (vords : List ℕ) (s c : ℕ) (h : Held) → slice_index_or held s None ≡ Some h
+  pub quarter_frames : (vords : List ℕ) (s c : ℕ) (h : Held) → length vords ≡ length words → slice_index_or held s None ≡ Some h
       → (cores_in accs places (slice_set held s (Some (record { frame = h.frame; clear = c }))) vords links).frames ≡ (cores_in accs places held words links).frames
   unfolding cores_in
-  quarter_frames vords s c h e = quarter_frames_now s h c e
+  quarter_frames vords s c h long e = quarter_frames_now vords s h c long e

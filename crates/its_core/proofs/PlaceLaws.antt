@@ -97,11 +97,12 @@ module _ (accs : List ℕ) (places : List (Option Mapped)) (held : List (Option 
       → (cores_in accs (slice_set places (256 * s + k) None) held words (unmapped s m.frame)).frames ≡ frames_unmap s k (cores_in accs places held words links).frames
   unfolding cores_in
   unmap_frames s k m e =
-      ap (λ p. record { lists = (unmapped s m.frame).lists; pages = p; reserved = map held_frame held }) (map-set frame_of places (256 * s + k) None)
+      ap (λ p. record { lists = (unmapped s m.frame).lists; pages = p; reserved = map held_frame held; ready = length words }) (map-set frame_of places (256 * s + k) None)
       ∙ ap (λ o. record {
         lists = slice_set (slice_set links.lists (s + 1) (without_frame o (list_at links.lists (s + 1)))) 0 (list_at links.lists 0 ++ as_list o);
         pages = slice_set (map frame_of places) (256 * s + k) None;
         reserved = map held_frame held;
+        ready = length words;
       }) (sym (page_frame_is accs places held words links mapped pool s k m e))
 
   unmap_seen : (s k : ℕ) (m : Mapped) → s < slots → k < 256 → slice_index_or places (256 * s + k) None ≡ Some m → Listed (frames_unmap s k (cores_in accs places held words links).frames)
@@ -109,9 +110,9 @@ module _ (accs : List ℕ) (places : List (Option Mapped)) (held : List (Option 
   unmap_seen s k m lt h e =
       let pl = pool.places_long in
       let ml = length-map places frame_of in
-      unmap_listed (frames_now places held links) pool.listed pool.heads s k m.frame lt h (omega arith) (page_frame_is accs places held words links mapped pool s k m e)
+      unmap_listed (frames_now places held links words) pool.listed pool.heads s k m.frame lt h (omega arith) (page_frame_is accs places held words links mapped pool s k m e)
 
-  seen_now : (qlaces : List (Option Mapped)) (gelt : List (Option Held)) (minks : Linked) → Listed (cores_in accs qlaces gelt words minks).frames → Listed (frames_now qlaces gelt minks)
+  seen_now : (qlaces : List (Option Mapped)) (gelt : List (Option Held)) (minks : Linked) → Listed (cores_in accs qlaces gelt words minks).frames → Listed (frames_now qlaces gelt minks words)
   unfolding cores_in
   seen_now qlaces gelt minks l = l
 
@@ -121,8 +122,8 @@ module _ (accs : List ℕ) (places : List (Option Mapped)) (held : List (Option 
   unlinked_is s k m lt h e =
       let hl = pool.heads in
       let f = page_frame_is accs places held words links mapped pool s k m e in
-      let i = page_in_list (frames_now places held links) pool.listed s k m.frame lt h f in
-      let o = page_stands (frames_now places held links) pool.listed s k m.frame lt h f in
+      let i = page_in_list (frames_now places held links words) pool.listed s k m.frame lt h f in
+      let o = page_stands (frames_now places held links words) pool.listed s k m.frame lt h f in
       let l = without m.frame (list_at links.lists (s + 1)) in
       let one = without_one m.frame links.lists (s + 1) (omega arith) (λ j ne. let two = two-le-times m.frame links.lists (s + 1) j (λ q. ne (sym q)) in omega arith) in
       ap (λ ls. record { nodes = links.nodes; lists = slice_set ls 0 (list_at ls 0 ++ m.frame ∷ []) }) one
@@ -133,7 +134,7 @@ module _ (accs : List ℕ) (places : List (Option Mapped)) (held : List (Option 
   unlinked_at s k m lt h e u w eu ew = ew ∙ ap (λ v. record { nodes = v.nodes; lists = slice_set v.lists 0 (list_at v.lists 0 ++ m.frame ∷ []) }) eu ∙ unlinked_is s k m lt h e
 
   pub frame_linked : (s k : ℕ) (m : Mapped) → s < slots → k < 256 → slice_index_or places (256 * s + k) None ≡ Some m → times m.frame links.lists ≡ 1
-  frame_linked s k m lt h e = page_stands (frames_now places held links) pool.listed s k m.frame lt h (page_frame_is accs places held words links mapped pool s k m e)
+  frame_linked s k m lt h e = page_stands (frames_now places held links words) pool.listed s k m.frame lt h (page_frame_is accs places held words links mapped pool s k m e)
 
   pub unmap_pool : (s k : ℕ) (m : Mapped) → s < slots → k < 256 → slice_index_or places (256 * s + k) None ≡ Some m
       → (0 < mapped) × IsPool accs (slice_set places (256 * s + k) None) held words (unmapped s m.frame) (mapped - 1)
@@ -166,8 +167,8 @@ module _ (accs : List ℕ) (places : List (Option Mapped)) (held : List (Option 
                 let a = ap length (get_or-set_other mid 0 (s + 1) (free ++ m.frame ∷ []) [] (λ z. omega arith) ∙ get_or-set_same links.lists (s + 1) (without m.frame own) [] (omega arith)) in
                 let d = length-without m.frame own in
                 let f = page_frame_is accs places held words links mapped pool s k m e in
-                let i = page_in_list (frames_now places held links) pool.listed s k m.frame lt h f in
-                let o = page_stands (frames_now places held links) pool.listed s k m.frame lt h f in
+                let i = page_in_list (frames_now places held links words) pool.listed s k m.frame lt h f in
+                let o = page_stands (frames_now places held links words) pool.listed s k m.frame lt h f in
                 let le = count-le-times m.frame links.lists (s + 1) in
                 let r = row_here s k None true h (omega arith) (ap is_some e) in
                 let rs = pool.rows s lt in
@@ -190,7 +191,7 @@ module _ (accs : List ℕ) (places : List (Option Mapped)) (held : List (Option 
       → (cores_in accs (slice_set places (256 * s + k) (Some (record { frame = m.frame; writable = w }))) held words links).frames ≡ (cores_in accs places held words links).frames
   unfolding cores_in
   protect_frames s k m w e =
-      ap (λ p. record { lists = links.lists; pages = p; reserved = map held_frame held })
+      ap (λ p. record { lists = links.lists; pages = p; reserved = map held_frame held; ready = length words })
       (map-set frame_of places (256 * s + k) (Some (record { frame = m.frame; writable = w }))
       ∙ ap (λ o. slice_set (map frame_of places) (256 * s + k) o) (sym (page_frame_is accs places held words links mapped pool s k m e))
       ∙ set-get_or (map frame_of places) (256 * s + k) None)
@@ -252,12 +253,13 @@ module _ (accs : List ℕ) (places : List (Option Mapped)) (held : List (Option 
       ≡ frames_map s t k (cores_in accs places held words links).frames
   unfolding cores_in
   map_frames s t k h e =
-      ap (λ p. record { lists = (mapped_to t h.frame).lists; pages = p; reserved = map held_frame (slice_set held s None) }) (map-set frame_of places (256 * t + k) (Some (record { frame = h.frame; writable = true })))
-      ∙ ap (λ r. record { lists = (mapped_to t h.frame).lists; pages = slice_set (map frame_of places) (256 * t + k) (Some h.frame); reserved = r }) (map-set held_frame held s None)
+      ap (λ p. record { lists = (mapped_to t h.frame).lists; pages = p; reserved = map held_frame (slice_set held s None); ready = length words }) (map-set frame_of places (256 * t + k) (Some (record { frame = h.frame; writable = true })))
+      ∙ ap (λ r. record { lists = (mapped_to t h.frame).lists; pages = slice_set (map frame_of places) (256 * t + k) (Some h.frame); reserved = r; ready = length words }) (map-set held_frame held s None)
       ∙ ap (λ o. record {
         lists = slice_set links.lists (t + 1) (list_at links.lists (t + 1) ++ as_list o);
         pages = slice_set (map frame_of places) (256 * t + k) o;
         reserved = slice_set (map held_frame held) s None;
+        ready = length words;
       }) (sym (reserved_frame_is accs places held words links mapped pool s h e))
 
   map_seen : (s t k : ℕ) → s < slots → t < slots → k < 256 → slice_index_or places (256 * t + k) None ≡ None → Listed (frames_map s t k (cores_in accs places held words links).frames)
@@ -267,10 +269,10 @@ module _ (accs : List ℕ) (places : List (Option Mapped)) (held : List (Option 
       let hl = pool.held_long in
       let ml = length-map places frame_of in
       let nl = length-map held held_frame in
-      map_listed (frames_now places held links) pool.listed pool.heads s t k (omega arith) tl kl (omega arith) (page_frame_none accs places held words links mapped pool t k none)
+      map_listed (frames_now places held links words) pool.listed pool.heads s t k (omega arith) tl kl (omega arith) (page_frame_none accs places held words links mapped pool t k none)
 
   pub frame_unlinked : (s : ℕ) (h : Held) → slice_index_or held s None ≡ Some h → times h.frame links.lists ≡ 0
-  frame_unlinked s h e = reserved_stands (frames_now places held links) pool.listed s h.frame (reserved_frame_is accs places held words links mapped pool s h e)
+  frame_unlinked s h e = reserved_stands (frames_now places held links words) pool.listed s h.frame (reserved_frame_is accs places held words links mapped pool s h e)
 
   pub map_pool : (s t k : ℕ) (h : Held) → s < slots → t < slots → k < 256 → slice_index_or held s None ≡ Some h → slice_index_or places (256 * t + k) None ≡ None → mapped < most_pages
       → IsPool accs (slice_set places (256 * t + k) (Some (record { frame = h.frame; writable = true }))) (slice_set held s None) words (mapped_to t h.frame) (mapped + 1)

@@ -101,28 +101,28 @@ module _ (accs : List ℕ) (places : List (Option Mapped)) (held : List (Option 
       frame_at_place places held p (omega arith) ∙ ap frame_of e
 
   -- the frames as contracts see them
-  page_frame_at : (p : ℕ) (m : Mapped) → slice_index_or places p None ≡ Some m → page_frame (frames_now places held links) (p / 256) (p % 256) ≡ Some m.frame
+  page_frame_at : (p : ℕ) (m : Mapped) → slice_index_or places p None ≡ Some m → page_frame (frames_now places held links words) (p / 256) (p % 256) ≡ Some m.frame
   page_frame_at p m e = ap (λ i. slice_index_or (map frame_of places) i None) (omega arith) ∙ get_or-map_none frame_of refl places p ∙ ap frame_of e
 
-  pub page_frame_is : (s k : ℕ) (m : Mapped) → slice_index_or places (256 * s + k) None ≡ Some m → page_frame (frames_now places held links) s k ≡ Some m.frame
+  pub page_frame_is : (s k : ℕ) (m : Mapped) → slice_index_or places (256 * s + k) None ≡ Some m → page_frame (frames_now places held links words) s k ≡ Some m.frame
   page_frame_is s k m e = get_or-map_none frame_of refl places (256 * s + k) ∙ ap frame_of e
 
-  pub page_frame_none : (s k : ℕ) → slice_index_or places (256 * s + k) None ≡ None → page_frame (frames_now places held links) s k ≡ None
+  pub page_frame_none : (s k : ℕ) → slice_index_or places (256 * s + k) None ≡ None → page_frame (frames_now places held links words) s k ≡ None
   page_frame_none s k e = get_or-map_none frame_of refl places (256 * s + k) ∙ ap frame_of e
 
-  pub reserved_frame_is : (s : ℕ) (h : Held) → slice_index_or held s None ≡ Some h → reserved_frame (frames_now places held links) s ≡ Some h.frame
+  pub reserved_frame_is : (s : ℕ) (h : Held) → slice_index_or held s None ≡ Some h → reserved_frame (frames_now places held links words) s ≡ Some h.frame
   reserved_frame_is s h e = get_or-map_none held_frame refl held s ∙ ap held_frame e
 
-  pub reserved_frame_none : (s : ℕ) → slice_index_or held s None ≡ None → reserved_frame (frames_now places held links) s ≡ None
+  pub reserved_frame_none : (s : ℕ) → slice_index_or held s None ≡ None → reserved_frame (frames_now places held links words) s ≡ None
   reserved_frame_none s e = get_or-map_none held_frame refl held s ∙ ap held_frame e
 
   -- the frame of a place is that of a page, or of a reserved page
-  in_pages : (p f : ℕ) → p < all_places → slice_index_or (frames_in places held) p None ≡ Some f → page_frame (frames_now places held links) (p / 256) (p % 256) ≡ Some f
+  in_pages : (p f : ℕ) → p < all_places → slice_index_or (frames_in places held) p None ≡ Some f → page_frame (frames_now places held links words) (p / 256) (p % 256) ≡ Some f
   in_pages p f lt e =
       let l = pool.places_long in
       ap (λ i. slice_index_or (map frame_of places) i None) (omega arith) ∙ get_or-map_none frame_of refl places p ∙ sym (frame_at_place places held p (omega arith)) ∙ e
 
-  in_reserved : (p f : ℕ) → all_places ≤ p → slice_index_or (frames_in places held) p None ≡ Some f → reserved_frame (frames_now places held links) (p - all_places) ≡ Some f
+  in_reserved : (p f : ℕ) → all_places ≤ p → slice_index_or (frames_in places held) p None ≡ Some f → reserved_frame (frames_now places held links words) (p - all_places) ≡ Some f
   in_reserved p f ge e =
       get_or-map_none held_frame refl held (p - all_places)
       ∙ sym (frame_at_held places held (p - all_places) pool.places_long)
@@ -136,22 +136,22 @@ module _ (accs : List ℕ) (places : List (Option Mapped)) (held : List (Option 
       | inl lq ↦
           let a = in_pages p f lp e in
           let b = in_pages q f lq d in
-          let s = one_slot (frames_now places held links) pool.listed (p / 256) (q / 256) (p % 256) (q % 256) f (omega arith) (omega arith) (omega arith) (omega arith) a b in
-          let c : page_frame (frames_now places held links) (p / 256) (q % 256) ≡ Some f = ap (λ i. page_frame (frames_now places held links) i (q % 256)) s ∙ b in
-          let k = one_page (frames_now places held links) pool.listed (p / 256) (p % 256) (q % 256) f (omega arith) (omega arith) (omega arith) a c in
+          let s = one_slot (frames_now places held links words) pool.listed (p / 256) (q / 256) (p % 256) (q % 256) f (omega arith) (omega arith) (omega arith) (omega arith) a b in
+          let c : page_frame (frames_now places held links words) (p / 256) (q % 256) ≡ Some f = ap (λ i. page_frame (frames_now places held links words) i (q % 256)) s ∙ b in
+          let k = one_page (frames_now places held links words) pool.listed (p / 256) (p % 256) (q % 256) f (omega arith) (omega arith) (omega arith) a c in
           omega arith
-      | inr gq ↦ absurd (not_both (frames_now places held links) pool.listed (p / 256) (p % 256) (q - all_places) f (omega arith) (omega arith) (in_pages p f lp e) (in_reserved q f gq d))
+      | inr gq ↦ absurd (not_both (frames_now places held links words) pool.listed (p / 256) (p % 256) (q - all_places) f (omega arith) (omega arith) (in_pages p f lp e) (in_reserved q f gq d))
     ]
     | inr gp ↦ elim (cases_lt q all_places) [
-      | inl lq ↦ absurd (not_both (frames_now places held links) pool.listed (q / 256) (q % 256) (p - all_places) f (omega arith) (omega arith) (in_pages q f lq d) (in_reserved p f gp e))
-      | inr gq ↦ let r = one_reserved (frames_now places held links) pool.listed (p - all_places) (q - all_places) f (in_reserved p f gp e) (in_reserved q f gq d) in omega arith
+      | inl lq ↦ absurd (not_both (frames_now places held links words) pool.listed (q / 256) (q % 256) (p - all_places) f (omega arith) (omega arith) (in_pages q f lq d) (in_reserved p f gp e))
+      | inr gq ↦ let r = one_reserved (frames_now places held links words) pool.listed (p - all_places) (q - all_places) f (in_reserved p f gp e) (in_reserved q f gq d) in omega arith
     ]
   ]
 
   pub frame_below : (p : ℕ) (m : Mapped) → slice_index_or places p None ≡ Some m → m.frame < all_frames
   frame_below p m e =
       let b = place_below p m e in
-      page_below (frames_now places held links) pool.listed (p / 256) (p % 256) m.frame (omega arith) (omega arith) (page_frame_at p m e)
+      page_below (frames_now places held links words) pool.listed (p / 256) (p % 256) m.frame (omega arith) (omega arith) (page_frame_at p m e)
 
   -- the words of a frame in use are ready
   in_use : (x : ℕ) → x < all_frames → count x (list_at links.lists 0) ≡ 0 → 1024 * x + 1024 ≤ length words
@@ -163,7 +163,7 @@ module _ (accs : List ℕ) (places : List (Option Mapped)) (held : List (Option 
   pub place_words : (p : ℕ) (m : Mapped) → slice_index_or places p None ≡ Some m → 1024 * m.frame + 1024 ≤ length words
   place_words p m e =
       let b = place_below p m e in
-      in_use m.frame (frame_below p m e) (page_not_free (frames_now places held links) pool.listed (p / 256) (p % 256) m.frame (omega arith) (omega arith) (page_frame_at p m e))
+      in_use m.frame (frame_below p m e) (page_not_free (frames_now places held links words) pool.listed (p / 256) (p % 256) m.frame (omega arith) (omega arith) (page_frame_at p m e))
 
   -- for `grind`, which needs the call to fit
   pub word_below : (p : ℕ) (m : Mapped) (k : ℕ) → slice_index_or places p None ≡ Some m → k < 1024
@@ -174,10 +174,10 @@ module _ (accs : List ℕ) (places : List (Option Mapped)) (held : List (Option 
   held_frame_at s h e = frame_at_held places held s pool.places_long ∙ ap held_frame e
 
   pub held_below : (s : ℕ) (h : Held) → slice_index_or held s None ≡ Some h → h.frame < all_frames
-  held_below s h e = reserved_below (frames_now places held links) pool.listed s h.frame (reserved_frame_is s h e)
+  held_below s h e = reserved_below (frames_now places held links words) pool.listed s h.frame (reserved_frame_is s h e)
 
   pub held_words : (s : ℕ) (h : Held) → slice_index_or held s None ≡ Some h → 1024 * h.frame + 1024 ≤ length words
-  held_words s h e = in_use h.frame (held_below s h e) (reserved_not_free (frames_now places held links) pool.listed s h.frame (reserved_frame_is s h e))
+  held_words s h e = in_use h.frame (held_below s h e) (reserved_not_free (frames_now places held links words) pool.listed s h.frame (reserved_frame_is s h e))
 
   -- the frames that contracts see
   pub listed_seen : Listed (cores_in accs places held words links).frames

@@ -1,6 +1,6 @@
 -- A word stored in a pool is stored in one core.
-use Rattle.std.specs.Prelude.{◌≡◌, ◌≢◌, ◌<◌, ◌≤◌, ◌^◌, ℕ, ◌+◌, ◌*◌, ◌/◌, ◌%◌, false, Option, Some, None, List, take, drop, slice_set, slice_index_or, Err, refl}
-use Rattle.std.proofs.Common.{sym, ◌∙◌, ap, inl, inr, arith, length-set}
+use Rattle.std.specs.Prelude.{◌≡◌, ◌≢◌, ◌<◌, ◌≤◌, ◌^◌, ℕ, ◌+◌, ◌*◌, ◌/◌, ◌%◌, false, Option, Some, None, List, length, map, take, drop, slice_set, slice_index_or, Err, refl}
+use Rattle.std.proofs.Common.{sym, ◌∙◌, ap, subst, inl, inr, arith, length-set}
 use Rattle.std.proofs.lemmas.Bool.{cases_lt, lt-ltb, le-ltb}
 use Rattle.std.proofs.lemmas.List.{get_or-set_other}
 use Rattle.its_word.specs.Core.{Core, page_of, page_stored, store, pages_present, pages_mapped, put}
@@ -13,7 +13,8 @@ use Rattle.its_core.specs.declared.cores.Mapped.{Mapped}
 use Rattle.its_core.specs.declared.cores.Held.{Held}
 use Rattle.its_links.specs.Lists.{Linked}
 use Rattle.its_core.specs.Cores.{Cores, core_at}
-use Rattle.its_core.specs.Pool.{page_in, reserved_in, core_in, cores_in, IsPool, IsClear, all_places}
+use Rattle.its_core.specs.Frames.{Listed}
+use Rattle.its_core.specs.Pool.{frame_of, held_frame, page_in, reserved_in, core_in, cores_in, IsPool, IsClear, all_places}
 use Rattle.its_core.proofs.ListLaws.{frame_words_set, frame_words_other, accs_set, accs_other, map_alike}
 use Rattle.its_core.proofs.ReadLaws.{apart, core_at_is, core_at_past, page_of_is, place_frame, held_frame_at, place_below, can_store_page, word_at_page}
 use Rattle.its_word.specs.Table.{table}
@@ -158,7 +159,7 @@ module _ (accs : List ℕ) (places : List (Option Mapped)) (held : List (Option 
     ready = λ x below less. let l = length-set words (1024 * m.frame + a % 1024) w in pool.ready x below (omega arith);
     nodes = pool.nodes;
     heads = pool.heads;
-    listed = pool.listed;
+    listed = subst (λ n. Listed (record { lists = links.lists; pages = map frame_of places; reserved = map held_frame held; ready = n })) (sym (length-set words (1024 * m.frame + a % 1024) w)) pool.listed;
     rows = pool.rows;
     clear = λ i h r. clear_alike (256 * s + a / 1024) i (a % 1024) w m h e (omega arith) r (pool.clear i h r);
     most = pool.most;
@@ -184,4 +185,4 @@ module _ (accs : List ℕ) (places : List (Option Mapped)) (held : List (Option 
 
   pub word_frames : (i w : ℕ) → (cores_in accs places held (slice_set words i w) links).frames ≡ (cores_in accs places held words links).frames
   unfolding cores_in
-  word_frames i w = refl
+  word_frames i w = ap (λ n. record { lists = links.lists; pages = map frame_of places; reserved = map held_frame held; ready = n }) (length-set words i w)

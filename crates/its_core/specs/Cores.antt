@@ -1,5 +1,6 @@
--- What contracts see of the pages of all jobs: for each slot its core, and the page that it has reserved; and the frames in
--- which the pages stand.
+-- What contracts see of the pages of all jobs: for each slot its core, and the page that it has reserved; and the page frames of the
+-- pages.
+-- No promise rests on this.
 use Rattle.std.specs.Prelude.{if◌then◌else◌, ◌≡◌, ℕ, ◌+◌, ◌*◌, ◌==◌, Bool, Option, None, List, ◌++◌, take, drop, replicate, slice_index_or, option_map}
 use Rattle.its_word.specs.Core.{Core, Page, no_core}
 use Rattle.its_core.specs.Frames.{Frames, NoFrames}
@@ -38,7 +39,7 @@ zeroed i n ws = take i ws ++ replicate n 0 ++ drop (i + n) ws
 abbrev pub cleared : ℕ → Reserved → Reserved
 cleared q r = record { clear = clear_with q r.clear; words = zeroed (256 * q) 256 r.words }
 
--- whether page k of a core can be stored to, where it is present
+-- whether page k of a core can be stored to, if it is present
 abbrev pub mark_of : Option Page → Option Bool
 mark_of p = option_map (λ q. q.writable) p
 

@@ -1,6 +1,7 @@
 -- How the cores of all slots are kept: a pool of page frames of 1024 words, a map from each page of each slot to its
--- frame, the frames of reserved pages, and the lists in which the frames stand. A frame has its words from the time
--- when it is first reserved: then the words are made ready, up to its last, and till then it is free.
+-- page frame, the page frames of reserved pages, and the lists of the page frames. A page frame has its words from
+-- the time when it is first reserved: then the words are made ready, up to its last, and until then it is free.
+-- No promise rests on this.
 use Rattle.std.specs.Prelude.{◌≡◌, ◌<◌, ◌≤◌, ℕ, ◌+◌, ◌*◌, Option, Some, None, List, ◌++◌, length, map, take, drop, slice_index_or, option_map, is_some, count_by}
 use Rattle.its_word.specs.Core.{Core, Page, pages_mapped}
 use Rattle.its_word.specs.Limits.{slots, most_pages}
@@ -47,14 +48,14 @@ frame_of o = option_map (λ m. m.frame) o
 abbrev pub held_frame : Option Held → Option ℕ
 held_frame o = option_map (λ h. h.frame) o
 
-abbrev pub frames_now : List (Option Mapped) → List (Option Held) → Linked → Frames
-frames_now places held links = record { lists = links.lists; pages = map frame_of places; reserved = map held_frame held }
+abbrev pub frames_now : List (Option Mapped) → List (Option Held) → Linked → List ℕ → Frames
+frames_now places held links words = record { lists = links.lists; pages = map frame_of places; reserved = map held_frame held; ready = length words }
 
 unfoldable pub cores_in : List ℕ → List (Option Mapped) → List (Option Held) → List ℕ → Linked → Cores
 cores_in accs places held words links = record {
   cores = table slots (core_in accs places words);
   reserved = map (reserved_in words) held;
-  frames = frames_now places held links;
+  frames = frames_now places held links words;
 }
 
 -- the frame of each page of each slot, and then of each reserved page
@@ -74,7 +75,7 @@ pub record IsPool (accs : List ℕ) (places : List (Option Mapped)) (held : List
   pub ready : (x : ℕ) → x < all_frames → length words < 1024 * x + 1024 → 0 < count x (list_at links.lists 0)
   pub nodes : links.nodes ≡ all_frames
   pub heads : length links.lists ≡ slots + 1
-  pub listed : Listed (frames_now places held links)
+  pub listed : Listed (frames_now places held links words)
   pub rows : (s : ℕ) → s < slots → length (list_at links.lists (s + 1)) ≡ count_by is_some (row places s)
   pub clear : (s : ℕ) (h : Held) → slice_index_or held s None ≡ Some h → IsClear words h
   pub number : mapped ≡ pages_mapped (core_at (cores_in accs places held words links))

@@ -22,7 +22,7 @@ fn index(w: Word) -> u32
     (w.value() >> 18 & 0o17) as u32
 }
 
-/// Notes the index register of an address word, where it has one.
+/// Notes the index register of an address word, if it has one.
 #[tactic(auto, unfolding(its_word::specs::Address::index_places))]
 fn note_index(w: Word, reads: &mut ArrayVec<u32, 160>)
     requires { length reads.old.items < 160 }
@@ -52,10 +52,9 @@ impl Core {
         ((w.right() + v.right()) & 0o777777, Some(v))
     }
 
-    /// The effective address of an address word. `used` is how much of the budget of 64 indirect words
-    /// and XCT targets is used, and `reads` gets the places that are read, in their order. Mpv where an
-    /// indirect word is absent, Ilo where the budget is at its end before an indirect word, which is
-    /// then not read.
+    /// The effective address of an address word. `used` is how much of the budget of 64 indirect words and XCT
+    /// targets is used, and `reads` gets the places that are read, in their order. Mpv if an indirect word is absent,
+    /// Ilo if the budget is at its end before an indirect word, which is then not read.
     pub fn address(
         &self,
         slot: u8,

@@ -44,8 +44,8 @@ struct Held {
     clear: u8,
 }
 
-/// The cores of all slots. Contracts see for each slot its core and its reserved page; and which
-/// frame each page has, and the lists in which the frames stand.
+/// The cores of all slots. Contracts see for each slot its core and its reserved page; and which page frame each page
+/// has, and the lists of the page frames.
 #[derive(Drop)]
 pub struct Core {
     accs: Vec<Word>,
@@ -68,7 +68,7 @@ impl Model for Core {
     ghost invariant = { λ c. IsPool c.accs.items c.places.items c.held.items c.words.words c.lists c.mapped × (c.words.most ≡ all_words) };
 }
 
-/// Where an accumulator of a slot stands.
+/// The place of an accumulator of a slot.
 fn acc_index(slot: u8, a: u32) -> usize
     requires a { a < 16 }
     ensures { result ≡ 16 * slot + a }
@@ -76,14 +76,14 @@ fn acc_index(slot: u8, a: u32) -> usize
     usize::from(slot) * SLOT_ACCS + a as usize
 }
 
-/// Where a page of a slot stands in the map.
+/// The place of a page of a slot in the map.
 fn place_index(slot: u8, page: u8) -> usize
     ensures { result ≡ 256 * slot + page }
 {
     usize::from(slot) * SLOT_PAGES + usize::from(page)
 }
 
-/// A page of a slot, where it is present.
+/// A page of a slot, if it is present.
 fn mapped_in(places: &[Option<Mapped>], slot: u8, page: u8) -> Option<Mapped>
     requires { 256 * slot + page < length places.now }
     ensures { result ≡ slice_index_or places.now (256 * slot + page) None }
@@ -117,7 +117,7 @@ fn held_in(held: &[Option<Held>], slot: u8) -> Held
     held[usize::from(slot)].unwrap()
 }
 
-/// Where a word of a frame stands.
+/// The place of a word of a page frame.
 fn word_index(frame: u32, at: u32) -> usize
     requires { at < 1024 }
     ensures { result ≡ 1024 * frame + at }
@@ -125,7 +125,7 @@ fn word_index(frame: u32, at: u32) -> usize
     frame as usize * PAGE_WORDS + at as usize
 }
 
-/// Where the words of a frame end.
+/// The end of the words of a page frame.
 fn frame_end(frame: u32) -> usize
     ensures { result ≡ 1024 * frame + 1024 }
 {
@@ -274,7 +274,7 @@ impl Core {
         self.accs[acc_index(slot, a)]
     }
 
-    /// Whether a page of a slot is writable; None where it is absent.
+    /// Whether a page of a slot is writable; None if it is absent.
     #[tactic(auto, using(crate::proofs::ReadLaws::page_at))]
     pub fn page(&self, slot: u8, page: u8) -> Option<bool>
         requires { slot < slots }
@@ -283,7 +283,7 @@ impl Core {
         mapped_in(&self.places, slot, page).map(|m| m.writable)
     }
 
-    /// The word at an address of a slot; None where its page is absent, and past the last address.
+    /// The word at an address of a slot; None if its page is absent, and past the last address.
     #[tactic(auto, using(crate::proofs::ReadLaws::word_at_acc, crate::proofs::ReadLaws::word_at_page, crate::proofs::ReadLaws::word_at_absent, crate::proofs::ReadLaws::word_below, crate::proofs::SlotLaws::word_past))]
     pub fn word(&self, slot: u8, a: u32) -> Option<Word>
         requires { slot < slots }
@@ -310,7 +310,7 @@ impl Core {
         ensures { result ≡ can_store (core_at self.now slot) a }
     {
         if a < 16 || a >= ADDRESSES {
-            // for the proof alone: it sees `self` as made of its fields where one of them is named
+            // for the proof alone: it sees `self` as made of its fields if one of them is named
             let _places = &self.places;
             return a < 16;
         }
@@ -384,9 +384,9 @@ impl Core {
         });
     }
 
-    /// Makes the page that a slot has reserved, whose four quarters are clear, a writable page of zeros
-    /// of the target; its frame becomes the last in the target's list. Full where 1024 pages are
-    /// mapped already; the reservation then stays.
+    /// Makes the page that a slot has reserved, whose four quarters are clear, a writable page of zeros of the
+    /// target; its page frame becomes the last in the target's list. Full if 1024 pages are mapped already; the
+    /// reservation is then unchanged.
     pub fn map(&mut self, slot: u8, target: u8, page: u8) -> Result<(), Full>
         requires slot { slot < slots }
         requires target { target < slots }

@@ -11,8 +11,8 @@ use super::cores::Core;
 use its_word::{ADDRESSES, Fault, Store};
 
 impl Core {
-    /// Why a word cannot be stored at an address of a slot: Mpv where its page is absent, Wro where it
-    /// is read only. None exactly where it can be stored.
+    /// Why a word cannot be stored at an address of a slot: Mpv if its page is absent, Wro if it is read only. None
+    /// exactly if it can be stored.
     #[tactic(auto, using(crate::proofs::RefusalLaws::refusal_absent, crate::proofs::RefusalLaws::refusal_read_only, crate::proofs::RefusalLaws::refusal_none, crate::proofs::RefusalLaws::refusal_none_acc))]
     pub fn refusal(&self, slot: u8, a: u32) -> Option<Fault>
         requires slot { slot < slots }
@@ -29,7 +29,7 @@ impl Core {
         }
     }
 
-    /// Why the first of these stores that cannot be made is refused; None where all can be made.
+    /// Why the first of these stores that is not possible is refused; None if all are possible.
     #[tactic(auto, using(its_word::proofs::StoreLaws::fault_here, its_word::proofs::StoreLaws::fault_further))]
     pub fn first_fault(&self, slot: u8, stores: &[Store]) -> Option<Fault>
         requires slot { slot < slots }
@@ -68,7 +68,7 @@ impl Core {
         }
     }
 
-    /// Makes all of these stores, in their order, or none of them where one cannot be made.
+    /// Performs all of these stores, in their order, or none of them if one is not possible.
     pub fn store_all(&mut self, slot: u8, stores: &[Store]) -> Result<(), Fault>
         requires slot { slot < slots }
         ensures made { result_err result ≡ first_fault (core_at self.old slot) stores.now }

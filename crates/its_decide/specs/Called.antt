@@ -1,4 +1,5 @@
 -- What the call of a caller looks at.
+-- No promise rests on this.
 use Rattle.its_plain.specs.Decide.{target}
 use Rattle.its_plain.specs.Machine.{Whole}
 use Rattle.its_plain.specs.View.{View, view}

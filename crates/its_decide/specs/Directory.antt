@@ -1,4 +1,5 @@
 -- Why a file is neither deleted nor renamed, in the form that code answers.
+-- No promise rests on this.
 use Rattle.std.specs.Prelude.{if◌then◌else◌, ◌==◌, ℕ, not, Option, Some, None}
 use Rattle.its_word.specs.declared.calls.Ask.{Ask}
 use Rattle.its_frame.specs.Errors as error

@@ -1,4 +1,5 @@
--- How the parts of a machine fit each other, where no call is in progress.
+-- How the parts of a machine fit each other when no call is in progress.
+-- No promise rests on this.
 use Rattle.std.specs.Prelude.{◌≡◌, ◌≤◌, ℕ, true, None, is_some}
 use Rattle.its_word.specs.Core.{no_core}
 use Rattle.its_word.specs.Limits.{slots, limit_of}
@@ -9,7 +10,7 @@ use Rattle.its_jobs.specs.Table.{Table, job_at}
 use Rattle.its_parts.specs.Across.{Across, channel_at}
 use Rattle.its_decide.specs.declared.caller.Seen.{Seen}
 
--- a channel on a job is on one that stands
+-- a channel on a job is on one that exists
 abbrev pub OnJob : Table → Channel → Type 0
 OnJob t (Usr s write at) = is_some (job_at t s) ≡ true
 OnJob t _ = Unit {0}

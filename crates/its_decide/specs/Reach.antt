@@ -1,4 +1,5 @@
 -- Whom a commit disturbs, in the forms that code answers.
+-- No promise rests on this.
 use Rattle.std.specs.Prelude.{◌==◌, ℕ, Bool, false, Option, Some, None}
 
 -- a slot is this one

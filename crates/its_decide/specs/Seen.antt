@@ -1,4 +1,5 @@
 -- The machine of which a caller sees the parts, and the raw job of a slot.
+-- No promise rests on this.
 use Rattle.std.specs.Prelude.{ℕ}
 use Rattle.its_word.specs.declared.jobs.Job.{Job}
 use Rattle.its_core.specs.Cores.{core_at}

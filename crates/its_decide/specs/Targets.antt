@@ -1,4 +1,5 @@
 -- The inferior that a call reaches through the channel that one of its arguments names.
+-- No promise rests on this.
 use Rattle.std.specs.Prelude.{◌≡◌, ◌<◌, ℕ}
 use Rattle.its_word.specs.Limits.{slots}
 use Rattle.its_core.specs.Cores.{core_at}

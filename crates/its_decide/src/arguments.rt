@@ -16,14 +16,14 @@ const MINUS_ONE: u64 = 0o777777;
 const ONES: u64 = 0o777777777777;
 
 impl Caller<'_> {
-    /// The value of an input; 0 where there is none.
+    /// The value of an input; 0 if there is none.
     pub(crate) fn input(&self, k: usize) -> Word
         ensures { result ≡ input self.now.ask.now k }
     {
         input(self.ask, k)
     }
 
-    /// The address of the word of an input; None where it is immediate or there is none.
+    /// The address of the word of an input; None if it is immediate or there is none.
     pub(crate) fn place(&self, k: usize) -> Option<u32>
         ensures { result ≡ place_of_input self.now.ask.now k }
     {
@@ -80,7 +80,7 @@ impl Caller<'_> {
     }
 }
 
-/// The value of an input; 0 where there is none.
+/// The value of an input; 0 if there is none.
 pub(crate) fn input(ask: &Ask, k: usize) -> Word
     ensures { result ≡ input ask.now k }
 {
@@ -107,7 +107,7 @@ pub(crate) fn is_oneself(party: Word) -> bool
     matches!(party.value(), MINUS_ONE | ONES)
 }
 
-/// Whether a place stands among some.
+/// Whether a place is among some.
 fn among(place: u32, places: &[u32]) -> bool
     ensures { result ≡ among place places.now }
 {

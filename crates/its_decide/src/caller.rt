@@ -12,9 +12,9 @@ use its_files::Files;
 use its_jobs::Jobs;
 use its_word::{Ask, Job, Word};
 
-/// The parts of a machine, lent: cores, jobs, the consoles and for each of them the slot of the job that holds it, files and
-/// drafts, the clock in thirtieths, for each slot the alarm of its job where it has one (its period and its next time), the
-/// version of the session text, and for each slot the symbols of its job.
+/// The parts of a machine, borrowed: cores, jobs, the consoles and for each of them the slot of the job that holds it, files and
+/// drafts, the clock in thirtieths, for each slot the alarm of its job if it has one (its period and its next time), the version of the
+/// session text, and for each slot the symbols of its job.
 #[derive(Clone, Copy, Drop)]
 pub struct Seen<'a> {
     pub core: &'a Core,

@@ -24,7 +24,7 @@ use its_word::{Ask, Channel, Job};
 /// The device of jobs, in SIXBIT.
 const USR: u64 = 0o656362000000;
 
-/// What the call of a slot's job comes to, whose registers these are.
+/// The decision of the call of a slot's job, which has these registers.
 #[tactic(auto, unfolding(its_plain::specs::CallStep::decision))]
 pub fn decide(seen: &Seen<'_>, slot: u8, job: &Job, ask: &Ask) -> Decision
     requires slot { slot < slots }
@@ -69,7 +69,7 @@ pub(crate) fn target(seen: &Seen<'_>, slot: u8, job: &Job, ask: &Ask) -> Option<
 }
 
 impl Caller<'_> {
-    /// What the call of the caller comes to, by its name. An error of its decoding comes first.
+    /// The decision of the call of the caller, by its name. An error of its decoding comes first.
     #[tactic(auto, unfolding(its_plain::specs::Decide::decided, its_plain::specs::View::view))]
     fn decided(&self) -> Decision
         requires fits { Fits self.now.seen.now }
@@ -143,7 +143,7 @@ impl Caller<'_> {
         })
     }
 
-    /// `.IOT` by what the channel is on; IOC where it is closed.
+    /// `.IOT` by what the channel is on; IOC if it is closed.
     #[tactic(auto, using(its_parts::proofs::NumberLaws::under), unfolding(its_plain::specs::CallDevice::iot_call, its_plain::specs::View::view))]
     fn iot(&self) -> Decision
         requires fail { self.now.ask.now.fail ≡ 0 }

@@ -23,7 +23,7 @@ const RING_BYTES: u32 = 64;
 const SHOWN: u64 = 0o177;
 
 impl Caller<'_> {
-    /// The number of the caller's console. A channel on a console is opened only where its job has one.
+    /// The number of the caller's console. A channel on a console is opened only if its job has one.
     fn console(&self) -> u8
         ensures { result ≡ unwrap_or self.now.job.now.console 0 }
     {
@@ -42,7 +42,7 @@ impl Caller<'_> {
         }
     }
 
-    /// The first byte of its input; 0 where there is none.
+    /// The first byte of its input; 0 if there is none.
     #[tactic(auto, unfolding(its_plain::specs::View::view))]
     fn first_typed(&self) -> Word
         ensures { result ≡ first_typed (looks self.now) (console_of (looks self.now)) }
@@ -114,7 +114,7 @@ impl Caller<'_> {
         }
     }
 
-    /// LISTEN channel: waits likewise, and gives the number of bytes of input. Errors 4, 5.
+    /// LISTEN channel: also waits, and gives the number of bytes of input. Errors 4, 5.
     #[tactic(auto, using(its_parts::proofs::NumberLaws::under), unfolding(its_plain::specs::CallTty::listen, its_plain::specs::View::view))]
     pub(crate) fn listen(&self) -> Decision
         ensures { result ≡ listen (looks self.now) self.now.ask.now }
@@ -137,8 +137,8 @@ impl Caller<'_> {
         self.finishes(self.output(Word::new(u64::from(self.waiting().0))))
     }
 
-    /// TTYLND job: the job becomes the holder of the caller's console. Errors 4, 5; 5 where the caller has no console; for
-    /// oneself 13 where a stranger holds it; for an inferior 5 where the caller does not hold it.
+    /// TTYLND job: the job becomes the holder of the caller's console. Errors 4, 5; 5 if the caller has no console; for oneself 13 if a
+    /// stranger holds it; for an inferior 5 if the caller does not hold it.
     #[tactic(auto, using(its_parts::proofs::NumberLaws::under), unfolding(its_plain::specs::CallTty::ttylnd, its_plain::specs::View::view))]
     pub(crate) fn ttylnd(&self) -> Decision
         ensures { result ≡ ttylnd (looks self.now) self.now.ask.now }
@@ -154,7 +154,7 @@ impl Caller<'_> {
         }
     }
 
-    /// Whether the caller can take its console for itself: nobody holds it, or the caller, or an inferior of it.
+    /// Whether the caller can take its console for itself: nobody holds it, or the caller, or one of its inferiors.
     #[tactic(auto, unfolding(its_plain::specs::View::view))]
     fn can_take(&self) -> bool
         ensures { result ≡ can_take (looks self.now) ((looks self.now).holders (console_of (looks self.now))) }
@@ -187,7 +187,7 @@ impl Caller<'_> {
         }
     }
 
-    /// A job becomes the holder of the caller's console, where it may.
+    /// A job becomes the holder of the caller's console, if it may.
     #[tactic(auto, unfolding(its_plain::specs::View::view))]
     fn lands(&self, may: bool, number: u8, holder: u8) -> Decision
         ensures { result ≡ lands (looks self.now) self.now.ask.now may number holder }
@@ -204,8 +204,7 @@ impl Caller<'_> {
         })
     }
 
-    /// OPEN channel, TTY: input, or output with control 1. Errors 4, 5 where the device is not TTY, 22, and 5 where the job has
-    /// no console.
+    /// OPEN channel, TTY: input, or output with control 1. Errors 4, 5 if the device is not TTY, 22, and 5 if the job has no console.
     #[tactic(auto, unfolding(its_plain::specs::CallTty::opens, its_plain::specs::View::view))]
     pub(crate) fn open_tty(&self) -> Decision
         ensures { result ≡ opens (looks self.now) self.now.ask.now }

@@ -73,7 +73,7 @@ impl Caller<'_> {
         }
     }
 
-    /// Channel n of the job of a slot; closed where the slot is empty.
+    /// Channel n of the job of a slot; closed if the slot is empty.
     fn channel_of(&self, slot: u8, n: usize) -> Channel
         ensures { result ≡ channel_at self.now.seen.now.jobs.now slot n }
     {
@@ -83,8 +83,8 @@ impl Caller<'_> {
         }
     }
 
-    /// CLOSE of a draft, which becomes the last file, in place of the one with its names. Errors 11 where a channel reads that
-    /// file, 7 where there is none and there are 256 files.
+    /// CLOSE of a draft, which becomes the last file, in place of the one with its names. Errors 11 if a channel reads that file, 7 if
+    /// there is none and there are 256 files.
     #[tactic(auto, using(its_files::proofs::EntryLaws::draft_stands, crate::proofs::FileLaws::writing, its_parts::proofs::SeenLaws::seen_count), unfolding(its_plain::specs::CallFile::closes_draft, its_plain::specs::View::view))]
     pub(crate) fn close_draft(&self, draft: u32) -> Decision
         requires on { channel_under self.now.job.now (input self.now.ask.now 0) ≡ Writing draft }
@@ -103,8 +103,8 @@ impl Caller<'_> {
         })
     }
 
-    /// Why a file is neither deleted nor renamed: error 5 where the device is not DSK, 6 where there is no such file, 11 where a
-    /// channel reads it.
+    /// Why a file is neither deleted nor renamed: error 5 if the device is not DSK, 6 if there is no such file, 11 if a channel reads
+    /// it.
     #[tactic(auto, unfolding(its_plain::specs::View::view))]
     fn error_of_file(&self, names: [Word; 3]) -> Option<u8>
         requires { Fits self.now.seen.now }
@@ -134,8 +134,8 @@ impl Caller<'_> {
         self.finishes_with(Change::Delete { d, x, y })
     }
 
-    /// RENAME device, name 1, name 2, directory, new name 1, new name 2. Errors 5, 6, 11, and 23 where a file of the directory
-    /// has the new names, itself included.
+    /// RENAME device, name 1, name 2, directory, new name 1, new name 2. Errors 5, 6, 11, and 23 if a file of the directory has the new
+    /// names, itself included.
     #[tactic(auto, unfolding(its_plain::specs::CallFile::rename, its_plain::specs::View::view))]
     pub(crate) fn rename(&self) -> Decision
         requires { Fits self.now.seen.now }

@@ -12,7 +12,7 @@ use its_frame::{Change, Decision, Exit, Held, Store};
 use its_word::{ADDRESSES, BYTE_HALF, Fault, IOC, Word};
 
 impl Caller<'_> {
-    /// The registers of the caller as they stand.
+    /// The registers of the caller as they are.
     fn registers(&self) -> Exit
         ensures { result ≡ exit_of self.now.job.now }
     {
@@ -40,7 +40,7 @@ impl Caller<'_> {
         }
     }
 
-    /// The store of a value into the output, where there is one.
+    /// The store of a value into the output, if there is one.
     pub(crate) fn output(&self, value: Word) -> ArrayVec<Store, 2>
         ensures { result ≡ record { items = out self.now.ask.now.outputs.items value } }
     {
@@ -61,7 +61,7 @@ impl Caller<'_> {
         ends(Some(change), ArrayVec::new(), self.past(2))
     }
 
-    /// The call fails: the number is stored at its error address, where it has one, and PC is past the call.
+    /// The call fails: the number is stored at its error address, if it has one, and PC is past the call.
     pub(crate) fn fails(&self, number: u8) -> Decision
         ensures { result ≡ Ends (record { items = [] }) (record { items = number_at self.now.ask.now.error number }) (exit_of (advanced 1 self.now.job.now)) }
     {
@@ -119,7 +119,7 @@ pub(crate) fn ends(change: Option<Change>, stores: ArrayVec<Store, 2>, exit: Exi
     }
 }
 
-/// A store of a word, where there is an address for it.
+/// A store of a word, if there is an address for it.
 pub(crate) fn store_at(place: Option<u32>, word: Word) -> ArrayVec<Store, 2>
     ensures { result ≡ record { items = number_at place word } }
 {

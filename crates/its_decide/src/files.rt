@@ -45,8 +45,8 @@ impl Caller<'_> {
         })
     }
 
-    /// ACCESS channel, position: the next word that a file gives, or that a channel on an inferior is at. Errors 4, 5, 22 where
-    /// the position is past the end.
+    /// ACCESS channel, position: the next word that a file gives, or that a channel on an inferior is at. Errors 4, 5, 22 if the
+    /// position is past the end.
     #[tactic(auto, using(its_parts::proofs::NumberLaws::under, crate::proofs::FileLaws::reading, its_parts::proofs::NumberLaws::usr_number), unfolding(its_plain::specs::CallFile::access, its_plain::specs::View::view))]
     pub(crate) fn access(&self) -> Decision
         requires { Fits self.now.seen.now }
@@ -60,7 +60,7 @@ impl Caller<'_> {
         }
     }
 
-    /// The position of a channel is set, which is at most this. Error 22 where it is above.
+    /// The position of a channel is set, which is at most this. Error 22 if it is above.
     #[tactic(auto, unfolding(its_plain::specs::View::view))]
     fn access_to(&self, most: u32) -> Decision
         requires { input self.now.ask.now 0 < 16 }
@@ -132,7 +132,7 @@ impl Caller<'_> {
         }
     }
 
-    /// `.IOT` to a draft: the word at E is appended. MPV by that word; IOC where there is no room.
+    /// `.IOT` to a draft: the word at E is appended. MPV by that word; IOC if there is no room.
     #[tactic(auto, using(crate::proofs::FileLaws::writing, crate::proofs::FileLaws::seen_full, its_files::proofs::EntryLaws::draft_stands), unfolding(its_plain::specs::View::view))]
     pub(crate) fn iot_writes(&self, draft: u32) -> Decision
         requires on { channel_under self.now.job.now (input self.now.ask.now 0) ≡ Writing draft }
@@ -163,7 +163,7 @@ impl Caller<'_> {
         }
     }
 
-    /// SIOT to a draft. Error 10 where there is no room.
+    /// SIOT to a draft. Error 10 if there is no room.
     #[tactic(auto, unfolding(its_plain::specs::View::view))]
     pub(crate) fn siot_writes(&self, draft: u32) -> Decision
         requires on { channel_under self.now.job.now (input self.now.ask.now 0) ≡ Writing draft }
@@ -176,7 +176,7 @@ impl Caller<'_> {
         }
     }
 
-    /// The same where no test of its arguments stops it.
+    /// The same if no test of its arguments stops it.
     #[tactic(auto, using(its_parts::proofs::StopLaws::loaded_fits, crate::proofs::FileLaws::writing, crate::proofs::FileLaws::seen_full, its_files::proofs::EntryLaws::draft_stands), unfolding(its_plain::specs::View::view))]
     fn siot_write(&self, next: Word, draft: u32) -> Decision
         requires on { channel_under self.now.job.now (input self.now.ask.now 0) ≡ Writing draft }

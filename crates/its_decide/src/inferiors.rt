@@ -24,9 +24,8 @@ use its_frame::{Change, Decision, Opened, error};
 use its_word::{ADDRESSES, Channel, Fault, SLOTS, Word};
 
 impl Caller<'_> {
-    /// OPEN channel, USR, user name, job name: the caller's inferior with these names, which is made with control 1 where there
-    /// is none. Errors 4, 22; 13 where they are those of another job, 12 for input where no job has them, 14 where all slots
-    /// below the limit have jobs.
+    /// OPEN channel, USR, user name, job name: the caller's inferior with these names, which is made with control 1 if there is none.
+    /// Errors 4, 22; 13 if they are those of another job, 12 for input if no job has them, 14 if all slots below the limit have jobs.
     #[tactic(auto, unfolding(its_plain::specs::CallUsr::opens_usr, its_plain::specs::View::view))]
     pub(crate) fn open_usr(&self) -> Decision
         requires { Fits self.now.seen.now }
@@ -120,7 +119,7 @@ impl Caller<'_> {
         }
     }
 
-    /// `.IOT` through a channel on an inferior: into it, where the channel has leave to write, else from it.
+    /// `.IOT` through a channel on an inferior: into it, if the channel has leave to write, else from it.
     #[tactic(auto, using(crate::proofs::InferiorLaws::targeted))]
     pub(crate) fn iot_through(&self, inferior: u8, write: bool, at: u32) -> Decision
         requires on { channel_under self.now.job.now (input self.now.ask.now 0) ≡ Usr inferior write at }
@@ -136,8 +135,8 @@ impl Caller<'_> {
         }
     }
 
-    /// `.IOT` from an inferior: the word at the channel's position, which is then one more; 777777000003 at the end. MPV or WRO
-    /// by the word at E; IOC where the inferior's word is absent.
+    /// `.IOT` from an inferior: the word at the channel's position, which is then one more; 777777000003 at the end. MPV or WRO by the
+    /// word at E; IOC if the inferior's word is absent.
     #[tactic(auto, using(crate::proofs::InferiorLaws::other_word), unfolding(its_plain::specs::View::view))]
     fn iot_from(&self, inferior: u8, at: u32) -> Decision
         requires { Targets self.now (input self.now.ask.now 0) inferior }
@@ -155,8 +154,8 @@ impl Caller<'_> {
         }
     }
 
-    /// `.IOT` into an inferior: the word at E is stored at the channel's position, which is then one more. MPV by the word at E;
-    /// IOC at the end, and where the inferior's word cannot be stored.
+    /// `.IOT` into an inferior: the word at E is stored at the channel's position, which is then one more. MPV by the word at E; IOC at
+    /// the end, and if the inferior's word cannot be stored.
     #[tactic(auto, using(crate::proofs::InferiorLaws::other_stored), unfolding(its_plain::specs::View::view))]
     fn iot_into(&self, inferior: u8, at: u32) -> Decision
         requires { Targets self.now (input self.now.ask.now 0) inferior }
@@ -189,7 +188,7 @@ impl Caller<'_> {
         ArrayVec::from([poke, self.moves_to(at + 1)])
     }
 
-    /// SIOT through a channel on an inferior: into it, where the channel has leave to write, else from it.
+    /// SIOT through a channel on an inferior: into it, if the channel has leave to write, else from it.
     #[tactic(auto, using(crate::proofs::InferiorLaws::targeted))]
     pub(crate) fn siot_through(&self, inferior: u8, write: bool, at: u32) -> Decision
         requires on { channel_under self.now.job.now (input self.now.ask.now 0) ≡ Usr inferior write at }
@@ -205,8 +204,7 @@ impl Caller<'_> {
         }
     }
 
-    /// SIOT from an inferior: the word at the channel's position is held, and stored by the next step. Error 16 where it is
-    /// absent.
+    /// SIOT from an inferior: the word at the channel's position is held, and stored by the next step. Error 16 if it is absent.
     #[tactic(auto, using(crate::proofs::InferiorLaws::other_word), unfolding(its_plain::specs::View::view))]
     fn siot_from(&self, inferior: u8, at: u32) -> Decision
         requires { Targets self.now (input self.now.ask.now 0) inferior }
@@ -218,7 +216,7 @@ impl Caller<'_> {
         }
     }
 
-    /// The same where no test of its arguments stops it.
+    /// The same if no test of its arguments stops it.
     #[tactic(auto, unfolding(its_plain::specs::View::view))]
     fn siot_peeks(&self, next: Word, at: u32, word: Option<Word>) -> Decision
         requires number { input self.now.ask.now 0 < 16 }
@@ -234,7 +232,7 @@ impl Caller<'_> {
         }
     }
 
-    /// SIOT into an inferior: the word is stored at the channel's position. Error 16 where it cannot be.
+    /// SIOT into an inferior: the word is stored at the channel's position. Error 16 if it cannot be.
     #[tactic(auto, unfolding(its_plain::specs::View::view))]
     fn siot_into(&self, inferior: u8, at: u32) -> Decision
         requires { Targets self.now (input self.now.ask.now 0) inferior }
@@ -246,7 +244,7 @@ impl Caller<'_> {
         }
     }
 
-    /// The same where no test of its arguments stops it.
+    /// The same if no test of its arguments stops it.
     #[tactic(auto, using(crate::proofs::InferiorLaws::other_stored, its_parts::proofs::StopLaws::loaded_fits), unfolding(its_plain::specs::View::view))]
     fn siot_pokes(&self, next: Word, inferior: u8, at: u32) -> Decision
         requires targets { Targets self.now (input self.now.ask.now 0) inferior }
@@ -270,8 +268,8 @@ impl Caller<'_> {
         }
     }
 
-    /// USRMEM channel, address, optional new word: the output gets the word of the inferior, and then the new one is stored.
-    /// Errors 4, 5, 22; 5 where the channel has no leave to write, 16 where the word is absent or cannot be stored.
+    /// USRMEM channel, address, optional new word: the output gets the word of the inferior, and then the new one is stored. Errors 4,
+    /// 5, 22; 5 if the channel has no leave to write, 16 if the word is absent or cannot be stored.
     #[tactic(auto, using(its_parts::proofs::NumberLaws::under, crate::proofs::InferiorLaws::targeted), unfolding(its_plain::specs::CallUsr::usrmem, its_plain::specs::View::view))]
     pub(crate) fn usrmem(&self) -> Decision
         requires fail { self.now.ask.now.fail ≡ 0 }

@@ -1,6 +1,6 @@
-//! What each call comes to (docs/CALLS.md), as the plain machine in running form decides it: a second writing beside that of the
-//! monitor. A decision is found from the machine as it stands, and changes nothing. A call is a method of its `Caller`: its
-//! tests in the order of the definitions, and then its end.
+//! The decision of each call (docs/CALLS.md), for the plain machine in running form: a second implementation beside that of the
+//! monitor. A decision is found from the machine as it is, and changes nothing. A call is a method of its `Caller`: its tests in the
+//! order of the definitions, and then its end.
 #![tactic(auto)]
 
 mod arguments;

@@ -8,7 +8,7 @@ use super::caller::Caller;
 use its_word::{Channel, Word};
 
 impl Caller<'_> {
-    /// The control argument; 0 where there is none.
+    /// The control argument; 0 if there is none.
     pub(crate) fn control(&self) -> u64
         ensures { result ≡ unwrap_or self.now.ask.now.control 0 }
     {

@@ -27,7 +27,7 @@ const WORD_BITS: u32 = 36;
 const BIT_0: u64 = 0o400000000000;
 
 impl Caller<'_> {
-    /// The pointer to the next byte of SIOT, where no test of its arguments stops it; or what the first that holds comes to.
+    /// The pointer to the next byte of SIOT, if no test of its arguments stops it; or the decision of the first test that holds.
     pub(crate) fn next_byte(&self, words: bool, at_end: bool) -> Result<Word, Decision>
         ensures next { IfOk result (λ p. (p ≡ next_pointer (input self.now.ask.now 1)) × (has_size p ≡ true)) }
         ensures left { IfOk result (λ p. at_end ≡ false) }
@@ -40,8 +40,8 @@ impl Caller<'_> {
         }
     }
 
-    /// What the first of SIOT's tests that holds comes to: errors 17, WRO, 21, 22, the end with count 0 or where its channel is
-    /// at its end (of a file or of an inferior's core), and error 20. `words` tells that the channel moves whole words alone.
+    /// The decision of the first of SIOT's tests that holds: errors 17, WRO, 21, 22, the end with count 0 or if its channel is at its
+    /// end (of a file or of an inferior's core), and error 20. `words` says that the channel moves only whole words.
     #[tactic(auto, unfolding(its_plain::specs::View::view))]
     fn stop(&self, words: bool, at_end: bool) -> Option<Decision>
         ensures { result ≡ first_of (siot_tests (looks self.now) self.now.ask.now (input self.now.ask.now 1) (input self.now.ask.now 2) words at_end) }
@@ -83,7 +83,7 @@ impl Caller<'_> {
     }
 }
 
-/// The pointer to the next byte; 0 where there is none.
+/// The pointer to the next byte; 0 if there is none.
 fn next_pointer(pointer: Word) -> Word
     ensures { result ≡ next_pointer pointer }
 {

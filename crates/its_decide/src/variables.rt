@@ -14,13 +14,13 @@ use super::ends::ends;
 use its_frame::{Change, Decision, Exit, Variable, error};
 use its_word::{Channel, Job, Word, pc_word};
 
-/// A word of ones, which stands for no number.
+/// A word of ones, which means that there is no number.
 const ONES: u64 = 0o777777777777;
 
 impl Caller<'_> {
-    /// USRVAR job, name, optional new value: the output gets the value before, and then the new value is set. Errors 4 where the
-    /// channel is closed, 5 where it is on no job, 22 where no variable has the name, 5 where the channel has no leave to
-    /// write, and 22 where the variable cannot be set so.
+    /// USRVAR job, name, optional new value: the output gets the value before, and then the new value is set. Errors 4 if the channel
+    /// is closed, 5 if it is on no job, 22 if no variable has the name, 5 if the channel has no leave to write, and 22 if the variable
+    /// cannot be set so.
     #[tactic(auto, using(its_parts::proofs::NumberLaws::under), unfolding(its_plain::specs::CallBasic::usrvar, its_plain::specs::View::view))]
     pub(crate) fn usrvar(&self) -> Decision
         ensures { result ≡ usrvar (looks self.now) self.now.ask.now }
@@ -54,7 +54,7 @@ impl Caller<'_> {
         }
     }
 
-    /// The registers of the caller whose call finishes and sets a variable of its own; None where it may not set that itself.
+    /// The registers of the caller whose call finishes and sets a variable of its own; None if it may not set that itself.
     #[tactic(auto, unfolding(its_plain::specs::Own::with_variable))]
     fn set(&self, variable: Variable, value: Word) -> Option<Exit>
         ensures { result ≡ (if by_oneself variable then Some (exit_of (with_variable variable value (advanced 2 self.now.job.now))) else None) }
@@ -121,7 +121,7 @@ fn by_superior(variable: Variable) -> bool
     }
 }
 
-/// A number, or ones where there is none.
+/// A number, or ones if there is none.
 fn number_or_ones(number: Option<u8>) -> Word
     ensures { result ≡ number_or_ones number }
 {

@@ -25,7 +25,7 @@ fn kind_of(w: Word) -> Kind
     }
 }
 
-/// A place where a word must be; Mpv where it is absent.
+/// A place that must have a word; Mpv if it is absent.
 #[tactic(auto, unfolding(its_plain::specs::Decode::held))]
 fn held(core: &Core, slot: u8, e: u32) -> Result<Location, Fault>
     requires slot { slot < slots }
@@ -38,7 +38,7 @@ fn held(core: &Core, slot: u8, e: u32) -> Result<Location, Fault>
     }
 }
 
-/// A place where a word can be stored; Mpv where it is absent, Wro where it is read only.
+/// A place at which a word can be stored; Mpv if it is absent, Wro if it is read only.
 #[tactic(auto, unfolding(its_plain::specs::Decode::storable))]
 fn storable(core: &Core, slot: u8, e: u32) -> Result<Location, Fault>
     requires slot { slot < slots }
@@ -69,8 +69,8 @@ fn argument_at(core: &Core, slot: u8, kind: Kind, e: u32) -> Result<Arg, Fault>
     }
 }
 
-/// The argument of an argument word, where so much of the budget of 64 indirect words is used. `reads`
-/// gets the places of the words that are read.
+/// The argument of an argument word, when so much of the budget of 64 indirect words is used. `reads` gets the places
+/// of the words that are read.
 #[tactic(auto, using(its_plain::proofs::TracedLaws::joined, its_plain::proofs::TracedLaws::ended, its_local::proofs::TracedLaws::unread), unfolding(its_plain::specs::Decode::argument, its_plain::specs::Traced::also, its_plain::specs::Traced::located))]
 fn argument(
     core: &Core,
@@ -89,7 +89,7 @@ fn argument(
 {
     let mut after = used;
     let Address { e, flags_word } = core.address(slot, w, &mut after, reads)?;
-    // for the proof alone: where nothing names this type, rattle's plan of the borrows does not find `Option`
+    // for the proof alone: if nothing names this type, rattle's plan of the borrows does not find `Option`
     let _last: Option<Word> = flags_word;
     let argument = argument_at(core, slot, kind_of(w), e)?;
     Ok(Placed {

@@ -26,8 +26,7 @@ fn row_named(name: Word) -> Option<CallRow>
     }
 }
 
-/// The error of a call: 1 where no call has the name, 2 where there are too few arguments, 3 where there
-/// are too many, else 0.
+/// The error of a call: 1 if no call has the name, 2 if there are too few arguments, 3 if there are too many, else 0.
 #[tactic(auto, unfolding(its_plain::specs::Decode::error_by))]
 fn error_by(row: Option<CallRow>, inputs: usize, outputs: usize, excess: bool) -> u8
     ensures { result ≡ error_by row inputs outputs excess }
@@ -113,9 +112,9 @@ fn note_block(e: u32, words: u32, decode: &mut ArrayVec<u32, 160>)
     }
 }
 
-/// What a call by a block asks for, where its block is read: its arguments are found one by one, and
-/// then their values are taken. The decode words are those of the site, those of the block, and those of
-/// the arguments' addresses. The fault is that of the first argument that has one.
+/// What a call by a block asks for, when its block is read: its arguments are found one by one, and then their values
+/// are taken. The decode words are those of the site, those of the block, and those of the arguments' addresses. The
+/// fault is that of the first argument that has one.
 #[tactic(auto, unfolding(its_plain::specs::Decode::fetched))]
 pub fn fetch_ask(core: &Core, slot: u8, site: &Site, block: &Block) -> Result<Ask, Fault>
     requires slot { slot < slots }

@@ -27,7 +27,7 @@ pub fn argument_type(w: Word) -> u32
     (w.value() >> 27 & 7) as u32
 }
 
-/// The word at an address modulo 2^18; Mpv where it is absent.
+/// The word at an address modulo 2^18; Mpv if it is absent.
 #[tactic(auto, unfolding(its_plain::specs::UnitPlan::read_of))]
 fn read(core: &Core, slot: u8, a: u32) -> Result<Word, Fault>
     requires { slot < slots }
@@ -55,7 +55,7 @@ fn read_words(core: &Core, slot: u8, a: u32, mut block: Block) -> Result<Block, 
     Ok(block)
 }
 
-/// The block at an address; Mpv where a word of it is absent.
+/// The block at an address; Mpv if one of its words is absent.
 #[tactic(auto, unfolding(its_plain::specs::Decode::block_at, its_plain::specs::Traced::also, its_plain::specs::Traced::word))]
 fn read_block(core: &Core, slot: u8, e: u32) -> Result<Block, Fault>
     requires slot { slot < slots }
@@ -85,9 +85,8 @@ fn is_legal(block: &[Word]) -> bool
     has_bit_0(block[0]) && have_types(&block[2..])
 }
 
-/// Reads the block of a call: its first word, its name, and argument words up to the first with bit 0
-/// on, at most 8. Mpv where a word of it is absent; else Ilo where bit 0 of the first word is off, or
-/// an argument has no type.
+/// Reads the block of a call: its first word, its name, and argument words up to the first with bit 0 on, at most 8.
+/// Mpv if one of its words is absent; else Ilo if bit 0 of the first word is off, or an argument has no type.
 #[tactic(auto, unfolding(its_plain::specs::Decode::parsed, its_plain::specs::Traced::also))]
 pub fn parse_block(core: &Core, slot: u8, site: &Site) -> Result<Block, Fault>
     requires slot { slot < slots }

@@ -1,5 +1,5 @@
-//! The decoding of calls: a call's block is read where it has one, its arguments are found one by
-//! one, and then their values are taken.
+//! The decoding of calls: a call's block is read if it has one, its arguments are found one by one, and then their
+//! values are taken.
 #![tactic(auto)]
 
 mod arguments;

@@ -92,7 +92,7 @@ fn operand(a: &Arg) -> Option<u32>
     }
 }
 
-/// Appends a value where there is one.
+/// Appends a value if there is one.
 fn push_some<T: Drop, const N: usize>(v: &mut ArrayVec<T, N>, x: Option<T>)
     requires { array_vec_len v.old < N }
     ensures items { v.new.items ≡ v.old.items ++ cons_option x [] }

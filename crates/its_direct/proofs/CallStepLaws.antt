@@ -25,13 +25,13 @@ use Rattle.its_frame.specs.declared.name.CallName.TheVariants.{Logout, Uclose}
 use Rattle.its_plain.specs.Arguments.{input}
 use Rattle.its_plain.specs.Ask.{ask}
 use Rattle.its_plain.specs.CallBasic.{channel_at as chan_at, is_oneself}
-use Rattle.its_plain.specs.CallStep.{Transition, acted, alone, by_ask, decision, faulted, step, transition}
+use Rattle.its_plain.specs.CallStep.{Transition, acted, alone, by_ask, decision, faulted, step, transition, is_made}
 use Rattle.its_plain.specs.Change.{channel_in, in_job, superiors, superior_in}
 use Rattle.its_plain.specs.Decide.{argument_of, call_named, inferior_on, listed, reach, reach_by, target, target_by, with_below}
 use Rattle.its_plain.specs.Footprint.{SiteFits, among}
 use Rattle.its_plain.specs.Job.{bit_of, with_pending}
 use Rattle.its_plain.specs.Machine.{Chan, On, Machine, Whole}
-use Rattle.its_plain.specs.Unrolled.{is_running}
+use Rattle.its_plain.specs.Turns.{is_running}
 use Rattle.its_plain.proofs.StepLaws.{step_by}
 use Rattle.its_local.proofs.FitsLaws.{site_fits}
 use Rattle.its_parts.specs.Across.{Across, channel_at, channel_by}
@@ -48,8 +48,9 @@ use Rattle.its_decide.specs.declared.caller.Seen.{Seen}
 use Rattle.its_direct.specs.Events.{Kept, SpotFits}
 use Rattle.its_direct.specs.Plain.{machine_of, is_touched, no_slots, Tidy, JobBecomes}
 use Rattle.its_direct.specs.Ready.{Ready}
-use Rattle.its_direct.specs.Steps.{Acts, CallsAt, Lent, LosesOnly, Makes, SteppedBy, Steps, is_made, marked_by, own_of}
+use Rattle.its_direct.specs.Steps.{Acts, CallsAt, Lent, LosesOnly, Makes, SteppedBy, Steps, marked_by, own_of}
 use Rattle.its_direct.specs.declared.plain.Plain.{Plain}
+use Rattle.its_direct.specs.declared.plain.Spot.TheVariants as spots
 use Rattle.its_direct.proofs.ReadyLaws.{plain_ready}
 use Rattle.its_direct.proofs.SlotLaws.{placed_at, slot_machine, slot_tidy, touched_machine, touched_tidy}
 use Rattle.its_direct.proofs.StepKeepsLaws.{step_loses}
@@ -304,21 +305,21 @@ module _ (p : Plain) (s : ℕ) (x : Site) (o : Option Transition) (c : CallsAt (
   }
 
 -- what a step keeps
-kept_by : (old new : Plain) (s : ℕ) → Kept old → SteppedBy old new (transition (machine_of old) s) → Tidy new → Kept new
-kept_by old new s kept h tidy = record {
+kept_by : (old new : Plain) (s : ℕ) → old.place ≡ spots.Plain → Kept old → SteppedBy old new (transition (machine_of old) s) → Tidy new → Kept new
+kept_by old new s outside kept h tidy = record {
   tidy = tidy;
   forest = forest_steps (machine_of old) (machine_of new) s kept.forest stepped;
   alarmed = step_alarmed (machine_of old) (machine_of new) s kept.forest kept.alarmed stepped;
   consoled = step_consoled (machine_of old) (machine_of new) s kept.consoled stepped;
-  placed = subst SpotFits (sym h.steps.place) kept.placed;
+  placed = subst (SpotFits (machine_of new)) (sym (h.steps.place ∙ outside)) tt;
 }
   where
     stepped : step (machine_of old) s ≡ Some (machine_of new)
     stepped = step_by (machine_of old) s (Some h.transition) h.is ∙ ap Some (sym h.steps.machine)
 
-pub kept_after : (old new : Plain) (s : ℕ) (b : Bool) → Kept old → Makes b (transition (machine_of old) s) old new → Tidy new → Kept new
-kept_after old new s true kept h tidy = kept_by old new s kept h tidy
-kept_after old new s false kept h tidy = subst Kept (sym h.1) kept
+pub kept_after : (old new : Plain) (s : ℕ) (b : Bool) → old.place ≡ spots.Plain → Kept old → Makes b (transition (machine_of old) s) old new → Tidy new → Kept new
+kept_after old new s true outside kept h tidy = kept_by old new s outside kept h tidy
+kept_after old new s false outside kept h tidy = subst Kept (sym h.1) kept
 
 pub place_stays : (old new : Plain) (o : Option Transition) (b : Bool) → Makes b o old new → new.place ≡ old.place
 place_stays old new o true h = h.steps.place

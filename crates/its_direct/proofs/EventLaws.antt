@@ -325,7 +325,7 @@ unfolding lined
 told_peek old new s (Ok u) done some refused = λ b at. let q = whole_of ((machine_of old).jobs s) some in record {
   comes = Peeks s;
   is = ap (peeked_at s) q.1;
-  obeys = (done.machine, done.touched, done.place);
+  obeys = (done.machine, done.touched, done.place, refl);
   leads = stands_at (events.Peek s) old new (settled (events.Peek s) refl refl refl) done.place;
 }
 told_peek old new s (Err z) done some refused = λ b at. ap (peeked_at s) refused.1 ∙ ap (λ (k : Refusal). Done (Refuses (reason_of k))) (sym refused.0)

@@ -2,6 +2,7 @@
 use Rattle.std.specs.Prelude.{if◌then◌else◌, ◌≡◌, ◌<◌, ◌+◌, ◌==◌, ℕ, Bool, true, false, Option, Some, None, IfSome, is_some, List, [], ◌∷◌, Result, Ok, Err, length, nat_lt, refl}
 use Rattle.std.proofs.Common.{sym, subst, arith}
 use Rattle.std.proofs.lemmas.Option.{IfSome_then}
+use Rattle.its_word.specs.Tree.{no_job}
 use Rattle.its_word.specs.Core.{Core, Page, can_store, page_of, word_at}
 use Rattle.its_word.specs.Limits.{most_symbols}
 use Rattle.its_word.specs.declared.jobs.Job.{Job}
@@ -112,10 +113,10 @@ files_consoled m (Err r) alone h = tt
 -- VERSION, and CLOCK
 version_consoled : (m : Machine) (v : ℕ) → Consoled m → Consoled (versioned m v)
 unfolding versioned
-version_consoled m v h = go (v == 2)
+version_consoled m v h = go (no_job m.jobs)
   where
-    go : (b : Bool) → Consoled (if b then record m { version = 2 } else m)
-    go true = jobs_consoled m (record m { version = 2 }) refl h
+    go : (b : Bool) → Consoled (if b then record m { version = v } else m)
+    go true = jobs_consoled m (record m { version = v }) refl h
     go false = h
 
 rung_housed : (c : ℕ) (b : Bool) (o : Option Whole) → HousedBy o → HousedBy (rung_if c b o)

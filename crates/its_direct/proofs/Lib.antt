@@ -27,3 +27,4 @@ pub mod HousedLaws
 pub mod ToldLaws
 pub mod ShownLaws
 pub mod SeriesLaws
+pub mod PlacedLaws

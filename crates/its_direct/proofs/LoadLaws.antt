@@ -1,20 +1,21 @@
 -- LOAD: a job is made, and becomes the holder of its console.
-use Rattle.std.specs.Prelude.{◌≡◌, ◌≢◌, ◌<◌, ◌^◌, ℕ, Option, Some, None, is_some, List, length, Ok, Err, slice_set, refl}
+use Rattle.std.specs.Prelude.{◌≡◌, ◌≢◌, ◌<◌, ◌^◌, ℕ, Option, Some, None, is_some, List, length, Ok, Err, slice_set, refl, []}
 use Rattle.std.proofs.Common.{ap, sym, subst, ◌∙◌, inl, inr, lit<}
 use Rattle.std.proofs.lemmas.Bool.{cases_eq}
 use Rattle.std.proofs.lemmas.List.{get_or-set_same, get_or-set_other}
+use Rattle.its_stepped.proofs.FrameLaws.{changed_same}
 use Rattle.its_word.specs.Core.{no_core}
 use Rattle.its_word.specs.Limits.{slots}
 use Rattle.its_word.specs.Only.{Only}
-use Rattle.its_word.specs.Tree.{least_free, fresh_job}
-use Rattle.its_word.proofs.FreeLaws.{least_alike, least_empty}
+use Rattle.its_word.specs.Tree.{least_free, fresh_job, no_job}
+use Rattle.its_word.proofs.FreeLaws.{least_alike, least_empty, no_job_alike}
 use Rattle.its_word.specs.declared.jobs.Job.{Job}
 use Rattle.its_word.specs.declared.session.Reason.TheVariants as reasons
 use Rattle.its_core.specs.Cores.{core_at, clear_at}
 use Rattle.its_files.specs.Files.{Store, directory}
 use Rattle.its_jobs.specs.Table.{job_at, superior_at}
 use Rattle.its_plain.specs.Change.{console_in, inferior}
-use Rattle.its_plain.specs.Machine.{Machine, whole, with_job, changed, limit}
+use Rattle.its_plain.specs.Machine.{Machine, whole, changed, limit, with_new}
 use Rattle.its_plain.specs.OperatorJobs.{loaded, loaded_in, new_job, held_by, with_holder}
 use Rattle.its_plain.specs.OperatorClock.{clock_end}
 use Rattle.its_plain.proofs.MachineLaws.{machine_is}
@@ -41,6 +42,10 @@ unfolding machine_of
 least_is p =
     ap (λ (n : ℕ). least_free n (machine_of p).jobs) (sym p.limited)
     ∙ least_alike p.jobs.limit (machine_of p).jobs (job_at p.jobs) (λ k. has_by p k (job_at p.jobs k))
+
+pub empty_is : (p : Plain) → no_job (machine_of p).jobs ≡ no_job (job_at p.jobs)
+unfolding machine_of
+empty_is p = no_job_alike (machine_of p).jobs (job_at p.jobs) (λ k. has_by p k (job_at p.jobs k))
 
 -- it begins at 0
 fresh_placed : (u j : ℕ) (console : Option ℕ) → (fresh_job u j console).pc < 2 ^ 18
@@ -79,12 +84,13 @@ module _ (old new : Plain) (s u j : ℕ) (above console : Option ℕ) (tidy : Ti
 
 pub made_machine : (old new : Plain) (s u j : ℕ) (above console : Option ℕ) → Tidy old → least_free old.jobs.limit (job_at old.jobs) ≡ Some s
     → Only (job_at old.jobs) (job_at new.jobs) s (Some (fresh_job u j console)) → Only (superior_at old.jobs) (superior_at new.jobs) s above
-    → new.core ≡ old.core → Aside old new → machine_of new ≡ with_job (machine_of old) s (whole no_core (fresh_job u j console) above)
+    → new.core ≡ old.core → Aside old new → machine_of new ≡ with_new (machine_of old) s (whole no_core (fresh_job u j console) above)
 unfolding machine_of
 made_machine old new s u j above console tidy least job superior core aside = machine_is _ _
     (made_jobs old new s u j above console tidy (least_empty old.jobs.limit (job_at old.jobs) s least) job superior core aside.files aside.alarms)
     (λ k. ap (λ l. console_at l.items k) aside.consoles) (λ k. ap (λ l. holder_at l k) aside.holders) (ap directory aside.files)
-    aside.clock aside.version (λ k. ap (λ l. symbols_at l.items k) aside.symbols)
+    aside.clock aside.version
+    (λ k. ap (λ l. symbols_at l.items k) aside.symbols ∙ changed_same (symbols_at old.symbols.items) s k [] (tidy.nameless s (least_empty old.jobs.limit (job_at old.jobs) s least)))
 
 pub made_tidy : (old new : Plain) (s u j : ℕ) (above console : Option ℕ) → Tidy old → least_free old.jobs.limit (job_at old.jobs) ≡ Some s
     → Only (job_at old.jobs) (job_at new.jobs) s (Some (fresh_job u j console)) → Only (superior_at old.jobs) (superior_at new.jobs) s above
@@ -176,7 +182,7 @@ placed_tidy p new x e h = subst Tidy (sym e) (placed_keeps p x h)
 
 -- all of it
 pub load_done : (old mid put at new : Plain) (s u j : ℕ) (console : Option ℕ) → s < slots → least_free (limit (machine_of old)) (machine_of old).jobs ≡ Some s
-    → machine_of mid ≡ with_job (machine_of old) s (new_job u j console) → machine_of put ≡ with_holder (machine_of mid) s console
+    → machine_of mid ≡ with_new (machine_of old) s (new_job u j console) → machine_of put ≡ with_holder (machine_of mid) s console
     → at ≡ record put { place = spots.Load s } → new ≡ record at { touched = one_slot s } → Loads old new s (loaded (machine_of old) u j console)
 unfolding loaded
 load_done old mid put at new s u j console l least made held placed e = record {
@@ -207,10 +213,10 @@ console_here p s = console_by p s (job_at p.jobs s)
 
 pub inferior_made : (old new : Plain) (maker s k u j : ℕ) (console : Option ℕ) → Tidy old → least_free (limit (machine_of old)) (machine_of old).jobs ≡ Some s → least_free old.jobs.limit (job_at old.jobs) ≡ Some k
     → console ≡ console_of (job_at old.jobs maker) → Only (job_at old.jobs) (job_at new.jobs) k (Some (fresh_job u j console)) → Only (superior_at old.jobs) (superior_at new.jobs) k (Some maker)
-    → new.core ≡ old.core → Aside old new → Becomes old new (with_job (machine_of old) s (inferior maker ((machine_of old).jobs maker) u j))
+    → new.core ≡ old.core → Aside old new → Becomes old new (with_new (machine_of old) s (inferior maker ((machine_of old).jobs maker) u j))
 inferior_made old new maker s k u j console tidy least free c job superior core aside = record {
   machine = made_machine old new k u j (Some maker) console tidy free job superior core aside
-      ∙ (λ t. with_job (machine_of old) (same_free old s k least free t) (whole no_core (fresh_job u j ((c ∙ sym (console_here old maker)) t)) (Some maker)));
+      ∙ (λ t. with_new (machine_of old) (same_free old s k least free t) (whole no_core (fresh_job u j ((c ∙ sym (console_here old maker)) t)) (Some maker)));
   place = aside.place;
   touched = aside.touched;
 }

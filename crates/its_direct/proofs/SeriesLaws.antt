@@ -1,7 +1,7 @@
 -- Units of a slot's job, one after another, are so many steps of its machine.
-use Rattle.std.specs.Prelude.{◌≡◌, ◌≢◌, ◌<◌, ◌≤◌, ◌^◌, is_some, ℕ, zero, suc, Bool, true, false, Option, Some, None, option_map, refl}
+use Rattle.std.specs.Prelude.{◌≡◌, ◌≢◌, ◌<◌, ◌≤◌, ◌^◌, is_some, ℕ, zero, suc, Bool, true, false, Option, Some, None, option_map, refl, not, ◌&&◌}
 use Rattle.std.proofs.Common.{arith, ap, sym, subst, ◌∙◌, inl, inr}
-use Rattle.std.proofs.lemmas.Bool.{cases_eq}
+use Rattle.std.proofs.lemmas.Bool.{cases_eq, and_right}
 use Rattle.its_word.specs.Core.{Core}
 use Rattle.its_word.specs.declared.jobs.Job.{Job}
 use Rattle.its_plain.specs.CallStep.{alone, becomes, faulted, step, transition}
@@ -23,20 +23,21 @@ use Rattle.its_jobs.specs.Table.{job_at, superior_at}
 use Rattle.its_parts.specs.Parts.{alarm_at}
 use Rattle.its_direct.specs.Plain.{machine_of, is_touched, no_slots, Tidy, SlotBecomes, CoreBecomes, JobBecomes}
 use Rattle.its_direct.specs.Events.{Kept, SpotFits}
-use Rattle.its_direct.specs.Series.{Series}
+use Rattle.its_direct.specs.Series.{Series, is_due, unit_due}
 use Rattle.its_direct.specs.Steps.{SteppedBy}
 use Rattle.pdp_exec.specs.Answer.{IsCalled}
 use Rattle.its_stepped.specs.Alarmed.{Alarmed}
 use Rattle.its_stepped.specs.Consoled.{Consoled}
 use Rattle.its_stepped.specs.Forest.{Forest}
 use Rattle.its_direct.specs.declared.plain.Plain.{Plain}
+use Rattle.its_direct.specs.declared.plain.Spot.TheVariants as spots
 use Rattle.its_stepped.proofs.FitLaws.{forest_steps}
 use Rattle.its_stepped.proofs.AlarmLaws.{step_alarmed}
 use Rattle.its_stepped.proofs.ConsoledLaws.{step_consoled}
 use Rattle.its_direct.proofs.ActLaws.{twice}
 use Rattle.its_direct.proofs.SlotLaws.{put_then, slot_machine, slot_tidy, touched_machine, touched_tidy}
 use Rattle.its_direct.proofs.TouchLaws.{or_none, slot_some}
-use Rattle.its_direct.proofs.UserLaws.{becomes_raw, own_is, own_of}
+use Rattle.its_direct.proofs.UserLaws.{becomes_raw, nobody_is, own_is, own_of}
 
 -- what is left of a job
 abbrev with_left : Left → Whole → Whole
@@ -122,7 +123,7 @@ then_series n m j q l r runs rest (Some k) is e =
     let one = unless_more m j q l k (deliverable l.job) runs refl is in
     let p = in_job m j (with_left k) in
     let more = rest p (with_left k q) k (runs_on m j q l k runs one.going) e in
-    (p, one.is, subst (Series n p j) (twice m j (with_left k) (with_left r)) more)
+    (p, one.is, slot_some m.jobs j (with_left k), subst (Series n p j) (twice m j (with_left k) (with_left r)) more)
 then_series n m j q l r runs rest None is e = let z = no_units n in absurd cc
 
 units_series : (n : ℕ) (m : Machine) (j : ℕ) (q : Whole) (l r : Left) → Runs m j q l → after_units n (Some l) ≡ Some r → Series n m j (in_job m j (with_left r))
@@ -166,8 +167,8 @@ one_stepped old new s n made one jobs touched place =
       transition = alone h.0;
       is = h.1;
       steps = record {
-        machine = h.2;
-        touched = λ k. touched (λ z. let w : 1 ≡ 0 = sym one ∙ z in absurd cc) k ∙ or_none false (machine_of old) h.0 k (ap (λ (m : Machine). is_some (m.jobs k)) (sym h.2) ∙ jobs k);
+        machine = h.3;
+        touched = λ k. touched (λ z. let w : 1 ≡ 0 = sym one ∙ z in absurd cc) k ∙ or_none false (machine_of old) h.0 k (h.2 k);
         place = place;
       };
     }
@@ -195,9 +196,40 @@ holds_on m n j h e = record { forest = forest_steps m n j h.forest e; alarmed = 
 
 holds_after : (j k : ℕ) (m o : Machine) → Series k m j o → Holds m → Holds o
 holds_after j zero m o e h = subst Holds (sym e) h
-holds_after j (suc k) m o s h = holds_after j k s.0 o s.2 (holds_on m s.0 j h (step_by m j (Some (alone s.0)) s.1))
+holds_after j (suc k) m o s h = holds_after j k s.0 o s.3 (holds_on m s.0 j h (step_by m j (Some (alone s.0)) s.1))
 
-pub series_kept : (old new : Plain) (s k : ℕ) → Kept old → Series k (machine_of old) s (machine_of new) → new.place ≡ old.place → Tidy new → Kept new
-series_kept old new s k kept made place tidy =
+pub series_kept : (old new : Plain) (s k : ℕ) → old.place ≡ spots.Plain → Kept old → Series k (machine_of old) s (machine_of new) → new.place ≡ old.place → Tidy new → Kept new
+series_kept old new s k outside kept made place tidy =
     let h = holds_after s k (machine_of old) (machine_of new) made (record { forest = kept.forest; alarmed = kept.alarmed; consoled = kept.consoled }) in
-    record { tidy = tidy; forest = h.forest; alarmed = h.alarmed; consoled = h.consoled; placed = subst SpotFits (sym place) kept.placed }
+    record { tidy = tidy; forest = h.forest; alarmed = h.alarmed; consoled = h.consoled; placed = subst (SpotFits (machine_of new)) (sym (place ∙ outside)) tt }
+
+-- where no other unit can be made, none is due
+outcome_none : (o : Outcome) (c : Core) (i : Job) → after_outcome o c i ≡ None → after_outcome (bare_outcome o) c (bare i) ≡ None
+outcome_none (Changed d k) c i e = absurd cc
+outcome_none (Faulted f) c i e = absurd cc
+outcome_none (Called x) c i e = refl
+
+none_bare : (b : Bool) (c : Core) (i : Job) → deliverable i ≡ b → unit_unless b (left c i) ≡ None → after_unit (Some (left c (bare i))) ≡ None
+none_bare true c i d e = ap (λ b. unit_unless b (left c (bare i))) (deliverable_bare i ∙ d)
+none_bare false c i d e =
+    ap (λ b. unit_unless b (left c (bare i))) (deliverable_bare i ∙ d) ∙ ap (λ o. after_outcome o c (bare i)) (unit_bare c i) ∙ outcome_none (unit c i) c i e
+
+due_none : (q : Whole) → after_unit (Some (left q.core q.job)) ≡ None → is_due (Some q) ≡ false
+due_none q e = ap (λ o. not q.job.stopped && is_some o) e ∙ and_right (not q.job.stopped) false refl
+
+pub due_spent : (p : Plain) (s : ℕ) (i : Job) → job_at p.jobs s ≡ Some i → after_unit (Some (left (core_at p.core s) i)) ≡ None → unit_due (machine_of p) s ≡ false
+unfolding unit_due
+due_spent p s i had none = ap is_due (own_is p s i had) ∙ due_none (own_of p s i) (none_bare (deliverable i) (core_at p.core s) i refl none)
+
+pub due_absent : (p : Plain) (s : ℕ) (o : Option Job) → o ≡ job_at p.jobs s → o ≡ None → unit_due (machine_of p) s ≡ false
+unfolding unit_due
+due_absent p s o is none = ap is_due (nobody_is p s (sym is ∙ none))
+
+pub due_stopped : (p : Plain) (s : ℕ) (i : Job) (o : Option Job) → o ≡ job_at p.jobs s → o ≡ Some i → i.stopped ≡ true → unit_due (machine_of p) s ≡ false
+unfolding unit_due
+due_stopped p s i o is some stopped = ap is_due (own_is p s i (sym is ∙ some)) ∙ ap (λ b. not b && is_some (after_unit (Some (left (core_at p.core s) (bare i))))) stopped
+
+-- the core and the registers that the units leave
+pub due_left : (old mid put new : Plain) (s : ℕ) (k : Job) (c : Core) → CoreBecomes old mid s c → JobBecomes mid put s k → new ≡ record put { touched = no_slots } → after_unit (Some (left c k)) ≡ None → unit_due (machine_of new) s ≡ false
+due_left old mid put new s k c a b e none =
+    ap (λ m. unit_due m s) (touched_machine put new no_slots e) ∙ due_spent put s k b.job.here (ap (λ (d : Core). after_unit (Some (left d k))) (b.core.here ∙ a.core.here) ∙ none)

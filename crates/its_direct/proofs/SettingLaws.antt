@@ -1,6 +1,8 @@
 -- The lines VERSION, RO, SYM and PEEK.
 use Rattle.std.specs.Prelude.{◌≡◌, ◌≢◌, ◌<◌, ◌++◌, ◌∷◌, [], ℕ, Bool, true, false, Option, Some, None, is_some, List, Ok, Err, length, nat_lt, refl}
 use Rattle.std.proofs.Common.{ap, sym, subst, ◌∙◌}
+use Rattle.its_direct.proofs.LoadLaws.{empty_is}
+use Rattle.its_word.specs.Tree.{no_job}
 use Rattle.its_word.specs.Core.{Page, page_of, with_page, marked}
 use Rattle.its_word.specs.Limits.{slots, most_symbols}
 use Rattle.its_word.specs.declared.jobs.Job.{Job}
@@ -19,7 +21,7 @@ use Rattle.its_parts.specs.Across.{channel_by, Across}
 use Rattle.its_parts.specs.Parts.{alarm_at, console_at, holder_at, symbols_at, raw_of, raw_at}
 use Rattle.its_parts.proofs.AcrossLaws.{across_table}
 use Rattle.its_parts.proofs.PartLaws.{changed_at}
-use Rattle.its_parts.proofs.VersionLaws.{second, same_version}
+use Rattle.its_parts.proofs.VersionLaws.{version_set, same_version}
 use Rattle.its_direct.specs.Plain.{machine_of, no_slots, Tidy, CoreBecomes}
 use Rattle.its_direct.specs.Lines.{one_slot, Operates, Stands, Keeps, SymbolsBecome, VersionBecomes}
 use Rattle.its_direct.specs.declared.plain.Plain.{Plain}
@@ -29,28 +31,29 @@ use Rattle.its_direct.proofs.TouchLaws.{none_touched}
 use Rattle.its_direct.proofs.UserLaws.{own_of, own_is, nobody_is}
 
 -- VERSION
-version_machine : (old new : Plain) → VersionBecomes old new 2 → machine_of new ≡ record (machine_of old) { version = 2 }
+version_machine : (old new : Plain) (v : ℕ) → VersionBecomes old new v → machine_of new ≡ record (machine_of old) { version = v }
 unfolding machine_of
-version_machine old new b = machine_is _ _
+version_machine old new v b = machine_is _ _
     (λ k t. raw_of (b.files t) (core_at (b.core t) k) (superior_in (b.superiors t) k) (alarm_at (b.alarms t).items k) (b.jobs.each k t))
     (λ k. ap (λ l. console_at l.items k) b.consoles) (λ k. ap (λ l. holder_at l k) b.holders) (ap directory b.files) b.clock b.version (λ k. ap (λ l. symbols_at l.items k) b.symbols)
 
-pub version_second : (old put new : Plain) (v : ℕ) → v ≡ 2 → VersionBecomes old put 2 → new ≡ record put { touched = no_slots } → Stands old new (versioned (machine_of old) v)
-version_second old put new v e b t = record {
-  machine = touched_machine put new no_slots t ∙ version_machine old put b ∙ sym (second (machine_of old) v e);
+pub version_put : (old put new : Plain) (v : ℕ) (b : Bool) → b ≡ no_job (job_at old.jobs) → b ≡ true → VersionBecomes old put v → new ≡ record put { touched = no_slots }
+    → Stands old new (versioned (machine_of old) v)
+version_put old put new v b is empty h t = record {
+  machine = touched_machine put new no_slots t ∙ version_machine old put v h ∙ sym (version_set (machine_of old) v (empty_is old ∙ sym is ∙ empty));
   touched = none_touched new.touched (ap (λ (p : Plain). p.touched) t);
-  place = ap (λ (p : Plain). p.place) t ∙ b.place;
+  place = ap (λ (p : Plain). p.place) t ∙ h.place;
 }
 
-pub version_stays : (old new : Plain) (v : ℕ) → v ≢ 2 → new ≡ record old { touched = no_slots } → Stands old new (versioned (machine_of old) v)
-version_stays old new v ne t = record {
-  machine = touched_machine old new no_slots t ∙ sym (same_version (machine_of old) v ne);
+pub version_stays : (old new : Plain) (v : ℕ) (b : Bool) → b ≡ no_job (job_at old.jobs) → b ≡ false → new ≡ record old { touched = no_slots } → Stands old new (versioned (machine_of old) v)
+version_stays old new v b is full t = record {
+  machine = touched_machine old new no_slots t ∙ sym (same_version (machine_of old) v (empty_is old ∙ sym is ∙ full));
   touched = none_touched new.touched (ap (λ (p : Plain). p.touched) t);
   place = ap (λ (p : Plain). p.place) t;
 }
 
-version_keeps : (old new : Plain) → VersionBecomes old new 2 → Tidy old → Tidy new
-version_keeps old new b tidy = record {
+version_keeps : (old new : Plain) (v : ℕ) → VersionBecomes old new v → Tidy old → Tidy new
+version_keeps old new v b tidy = record {
   unreserved = λ k. ap (λ m. clear_at m k) b.core ∙ tidy.unreserved k;
   unmarked = ap (λ (s : Store). s.mark) b.files ∙ tidy.unmarked;
   across = subst (λ (s : Store). Across s new.jobs) (sym b.files) (across_table old.files old.jobs new.jobs tidy.across (λ k n. ap (λ o. channel_by o n) (b.jobs.each k)));
@@ -61,8 +64,8 @@ version_keeps old new b tidy = record {
   timed = subst (λ t. t < clock_end) (sym b.clock) tidy.timed;
 }
 
-pub version_tidy : (old put new : Plain) → VersionBecomes old put 2 → new ≡ record put { touched = no_slots } → Tidy old → Tidy new
-version_tidy old put new b t tidy = touched_tidy put new no_slots t (version_keeps old put b tidy)
+pub version_tidy : (old put new : Plain) (v : ℕ) → VersionBecomes old put v → new ≡ record put { touched = no_slots } → Tidy old → Tidy new
+version_tidy old put new v b t tidy = touched_tidy put new no_slots t (version_keeps old put v b tidy)
 
 -- RO
 pub page_some : (o : Option Page) (m : Option Bool) → m ≡ mark_of o → is_some m ≡ is_some o

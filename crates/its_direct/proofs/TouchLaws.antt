@@ -3,13 +3,13 @@ use Rattle.std.specs.Prelude.{◌≡◌, ◌≢◌, ◌<◌, ◌||◌, ℕ, zero
 use Rattle.std.proofs.Common.{ap, sym, ◌∙◌, inl, inr, arith}
 use Rattle.std.proofs.lemmas.Bool.{cases_eq, eq-eqb, ne_eqb}
 use Rattle.std.proofs.lemmas.List.{get_or-set_same, get_or-set_other, length-replicate}
+use Rattle.its_plain.specs.CallStep.{is_made}
 use Rattle.its_word.specs.Limits.{slots}
 use Rattle.its_plain.specs.Change.{in_job, on_slot}
 use Rattle.its_plain.specs.Footprint.{among}
 use Rattle.its_plain.specs.Machine.{Whole, Machine}
 use Rattle.its_parts.proofs.PartLaws.{on_slot_here, on_slot_other}
 use Rattle.its_direct.specs.Plain.{no_slots}
-use Rattle.its_direct.specs.Steps.{is_made}
 
 -- a job that is changed is not made, and no other is
 made_not : {X : Type 0} (o p : Option X) → is_some p ≡ is_some o → (not (is_some o) && is_some p) ≡ false

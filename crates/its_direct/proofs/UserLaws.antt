@@ -11,7 +11,7 @@ use Rattle.its_word.specs.declared.jobs.Job.{Job}
 use Rattle.its_core.specs.Cores.{Cores, core_at}
 use Rattle.its_files.specs.Files.{Store}
 use Rattle.its_jobs.specs.Table.{IsTree, Table, job_at, superior_at, superior_in}
-use Rattle.its_plain.specs.CallStep.{alone, becomes, delivery, informs, informed_slots, transition, transition_of, unless_stopped}
+use Rattle.its_plain.specs.CallStep.{alone, becomes, delivery, informs, informed_slots, transition, transition_of, unless_stopped, is_made}
 use Rattle.its_plain.specs.Change.{effect, effects, in_job, on_slot, with_inf}
 use Rattle.its_plain.specs.Footprint.{among}
 use Rattle.its_plain.specs.Interrupt.{Delivered, deliverable, delivered}
@@ -25,7 +25,7 @@ use Rattle.its_parts.specs.Parts.{bare, alarm_at, chan_of}
 use Rattle.its_parts.proofs.BareLaws.{bare_delivered, bare_outcome, deliverable_bare, delivered_bare, delivered_channels, unit_bare}
 use Rattle.its_parts.proofs.PartLaws.{raw_job, raw_some, raw_none, on_slot_here, on_slot_other}
 use Rattle.its_direct.specs.Plain.{machine_of, is_touched, no_slots, Tidy, SlotBecomes, CoreBecomes, JobBecomes}
-use Rattle.its_direct.specs.Steps.{CallsAt, SteppedBy, is_made}
+use Rattle.its_direct.specs.Steps.{CallsAt, SteppedBy}
 pub use Rattle.its_direct.specs.Steps.{own_of}
 use Rattle.its_direct.specs.declared.plain.Plain.{Plain}
 use Rattle.its_direct.proofs.SlotLaws.{placed_at, put_then, slot_machine, slot_tidy, touched_machine, touched_tidy}

@@ -1,4 +1,5 @@
 -- The decoding of a call in one pass: what each part reads is noted as it is read, and the arguments are sorted as they are found.
+-- No promise rests on this.
 use Rattle.std.specs.Prelude.{◌≡◌, ℕ, ◌+◌, ◌++◌, [], ◌∷◌, List, Option, Some, None, Result, Ok, Err, length, slice_get}
 use Rattle.std.specs.List.{cons_option, filter_map}
 use Rattle.its_word.specs.ArrayVec.{ArrayVec}
@@ -11,7 +12,7 @@ use Rattle.its_plain.specs.Decode.{input_of, output_of, error_at_of, control_of,
 use Rattle.its_plain.specs.Traced.{Traced}
 use Rattle.its_direct.specs.declared.sorting.Parts.{Parts}
 
--- a part of a decoding is answered so, and the places that it reads are noted behind those noted before
+-- a part of a decoding has this answer, and the places that it reads are noted after those noted before
 pub record Reads {X : Type 0} (t : Traced X) (r : Result X Fault) (old new : List ℕ) : Type 0 where
   pub answer : r ≡ t.answer
   pub places : new ≡ old ++ t.reads

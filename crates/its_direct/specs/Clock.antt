@@ -1,4 +1,5 @@
--- What CLOCK comes to, in the machine in running form, whose alarms go slot after slot.
+-- The effect of CLOCK on the machine in running form, whose alarms go slot after slot.
+-- No promise rests on this.
 use Rattle.std.specs.Prelude.{◌≡◌, ◌==◌, ◌+◌, ◌&&◌, ◌||◌, ℕ, Bool, false, Option, IfSome, Result, Ok, nat_lt}
 use Rattle.its_word.specs.Only.{Only}
 use Rattle.its_word.specs.declared.session.Reason.{Reason}
@@ -34,8 +35,8 @@ pub record AlarmBecomes (old new : Plain) (s : ℕ) (a : Option (ℕ × ℕ)) : 
   pub place : new.place ≡ old.place
   pub touched : new.touched ≡ old.touched
 
--- the alarms that are due at clock c of the slots that pass a test have gone, these slots are touched besides, and nothing
--- else has changed
+-- the alarms that are due at clock c of the slots that pass a test have gone, these slots are also touched, and nothing else has
+-- changed
 pub record Rang (c : ℕ) (test : ℕ → Bool) (old new : Plain) : Type 0 where
   pub jobs : (k : ℕ) → (machine_of new).jobs k ≡ rung_if c (test k && is_due c (alarm_at old.alarms.items k)) ((machine_of old).jobs k)
   pub rest : machine_of new ≡ record (machine_of old) { jobs = (machine_of new).jobs }

@@ -1,4 +1,5 @@
 -- A byte that is typed and not kept is lost.
+-- No promise rests on this.
 use Rattle.std.specs.Prelude.{ℕ, Bool, true, false}
 
 abbrev pub lost_of : Bool → ℕ

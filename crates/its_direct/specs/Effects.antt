@@ -1,4 +1,5 @@
--- What a change of a call comes to, in the machine in running form.
+-- The effect of a change of a call on the machine in running form.
+-- No promise rests on this.
 use Rattle.std.specs.Prelude.{◌≡◌, ℕ, Option, Some, None}
 use Rattle.its_word.specs.Only.{Same}
 use Rattle.its_word.specs.declared.jobs.Channel.{Channel}
@@ -16,7 +17,7 @@ pub record Becomes (old new : Plain) (m : Machine) : Type 0 where
   pub place : new.place ≡ old.place
   pub touched : new.touched ≡ old.touched
 
--- of the job of slot s, where there is one, only channel n is another; and the store of files is t
+-- of the job of slot s, if there is one, only channel n is another; and the store of files is t
 pub record ChannelBecomes (old new : Plain) (s n : ℕ) (x : Channel) (t : Store) : Type 0 where
   pub jobs : OnlyChannel old.jobs new.jobs s n x
   pub core : Same (core_at old.core) (core_at new.core)
@@ -45,7 +46,7 @@ pub record OnlyStore (old new : Plain) (t : Store) : Type 0 where
   pub place : new.place ≡ old.place
   pub touched : new.touched ≡ old.touched
 
--- what a change comes to: the machine is this one, and no call is in progress
+-- the effect of a change: the machine is this one, and no call is in progress
 pub record Comes (old new : Plain) (m : Machine) : Type 0 where
   pub row : Becomes old new m
   pub tidy : Tidy new

@@ -1,5 +1,8 @@
--- What an event comes to, in the machine in running form: the operator's line exactly.
-use Rattle.std.specs.Prelude.{◌≡◌, ◌<◌, ℕ, false, None, List, [], ◌∷◌, Result, Ok, Err}
+-- The effect of an event on the machine in running form: the operator's line exactly.
+-- No promise rests on this.
+use Rattle.std.specs.Prelude.{◌≡◌, ◌<◌, ℕ, false, None, List, [], ◌∷◌, Result, Ok, Err, is_some, true}
+use Rattle.its_plain.specs.CallFile.{has_file}
+use Rattle.its_plain.specs.Machine.{Machine}
 use Rattle.its_word.specs.Limits.{slots}
 use Rattle.its_word.specs.declared.session.Event.{Event}
 use Rattle.its_word.specs.declared.session.Event.TheVariants as events
@@ -23,20 +26,20 @@ use Rattle.its_direct.specs.declared.plain.Spot.TheVariants as spots
 use Rattle.its_direct.specs.declared.events.Answer.{Answer}
 use Rattle.its_direct.specs.declared.events.Answer.TheVariants.{Nothing, Slot, Dropped, Drained}
 
--- a LOAD block is that of a slot that there is
-abbrev pub SpotFits : Spot → Type 0
-SpotFits (spots.Load s) = s < slots
-SpotFits spots.Plain = Unit {0}
-SpotFits (spots.File names) = Unit {0}
+-- a LOAD block is that of a job of the machine, in a slot that there is, and a FILE block that of a file
+abbrev pub SpotFits : Machine → Spot → Type 0
+SpotFits m (spots.Load s) = (s < slots) × (is_some (m.jobs s) ≡ true)
+SpotFits m spots.Plain = Unit {0}
+SpotFits m (spots.File names) = has_file names m.files ≡ true
 
 -- what holds between two events, and between two steps: what is tidy is so, the jobs of the machine are a forest, each alarm is to
--- come, the console of each job is one of eight, and the place is one that there is
+-- come, the console of each job is one of eight, and a block at whose lines the session stands is that of a job or of a file
 pub record Kept (p : Plain) : Type 0 where
   pub tidy : Tidy p
   pub forest : Forest (machine_of p)
   pub alarmed : Alarmed (machine_of p)
   pub consoled : Consoled (machine_of p)
-  pub placed : SpotFits p.place
+  pub placed : SpotFits (machine_of p) p.place
 
 -- the place of a line of a session, and what a block of lines speaks of there
 abbrev pub place_of : Spot → Place
@@ -49,14 +52,15 @@ Speaks spots.Plain b = Unit {0}
 Speaks (spots.Load s) b = b.slot ≡ s
 Speaks (spots.File names) b = b.file ≡ names
 
--- the events of which the machine is told: ticks, and the turns of RUN, are steps, and END ends all
+-- the events that the machine performs; the others are ticks and the turns of RUN, which are steps, and END, which
+-- ends all
 abbrev pub IsTold : Event → Type 0
 IsTold (events.Tick s n) = ⊥
 IsTold (events.Run n q) = ⊥
 IsTold events.End = ⊥
 IsTold _ = Unit {0}
 
--- an event may stand at a place; the version stands outside any block
+-- an event may occur at a place; the version is outside any block
 abbrev pub MayStand : Place → Event → Type 0
 MayStand place events.Nothing = Unit {0}
 MayStand place (events.Version v) = place ≡ places.Plain
@@ -78,10 +82,10 @@ Says (events.Drain c n) _ out = ⊥
 Says e Nothing out = out ≡ []
 Says e _ out = ⊥
 
--- an event that was obeyed came to this
+-- an event that was performed had this result
 abbrev pub Obeys : Event → Answer → Plain → Plain → Lined → Type 0
 Obeys e a old new (Done (Does n out disturbs after)) = (machine_of new ≡ n) × ((k : ℕ) → is_touched new k ≡ disturbs k) × Speaks new.place after × Says e a out
-Obeys e a old new (Peeks s) = (machine_of new ≡ machine_of old) × ((k : ℕ) → is_touched new k ≡ false) × (new.place ≡ old.place)
+Obeys e a old new (Peeks s) = (machine_of new ≡ machine_of old) × ((k : ℕ) → is_touched new k ≡ false) × (new.place ≡ old.place) × (a ≡ Nothing)
 Obeys e a old new _ = ⊥
 
 pub record Obeyed (e : Event) (a : Answer) (old new : Plain) (b : Block) : Type 0 where

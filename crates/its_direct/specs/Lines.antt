@@ -1,4 +1,5 @@
--- What a line of the operator comes to, in the machine in running form.
+-- The effect of a line of the operator on the machine in running form.
+-- No promise rests on this.
 use Rattle.std.specs.Prelude.{◌≡◌, ℕ, zero, suc, ◌+◌, ◌-◌, ◌/◌, Bool, true, false, List, IsOk, is_some, nat_lt, Result, Ok, slice_set}
 use Rattle.its_word.specs.Core.{Core, page_of}
 use Rattle.its_word.specs.Only.{Only, Same}
@@ -43,7 +44,7 @@ pub record Loads (old new : Plain) (s : ℕ) (r : Result (Machine × ℕ) Reason
   pub touched : (k : ℕ) → is_touched new k ≡ only s k
   pub place : new.place ≡ spots.Load s
 
--- a line that touches nobody, after which this machine stands
+-- a line that touches nobody, and leaves this machine
 pub record Stands (old new : Plain) (m : Machine) : Type 0 where
   pub machine : machine_of new ≡ m
   pub touched : (k : ℕ) → is_touched new k ≡ nobody k
@@ -107,7 +108,7 @@ pages_absent c k zero = 0
 pages_absent c k (suc n) = one_unless (is_some (page_of c k)) + pages_absent c (k + 1) n
 
 -- how many pages an a/ line makes for n words from address a on: the absent ones from that of its first word to that
--- of its last; none where all of them are accumulators
+-- of its last; none if all of them are accumulators
 abbrev pub pages_made_if : Core → ℕ → ℕ → Bool → ℕ
 pages_made_if c first last true = 0
 pages_made_if c first last false = pages_absent c (first / 1024) (last / 1024 + 1 - first / 1024)

@@ -1,4 +1,5 @@
--- The plain machine that a machine in running form stands for, and what holds of it at any time.
+-- The plain machine of a machine in running form, and what holds of it at any time.
+-- No promise rests on this.
 use Rattle.std.specs.Prelude.{◌≡◌, ◌<◌, ◌^◌, ℕ, Bool, false, Option, Some, None, IfSome, List, [], slice_index_or, replicate}
 use Rattle.its_word.specs.Core.{Core, no_core}
 use Rattle.its_word.specs.Limits.{slots}
@@ -12,7 +13,7 @@ use Rattle.its_parts.specs.Across.{Across}
 use Rattle.its_parts.specs.Parts.{alarm_at, symbols_at, raw_machine}
 use Rattle.its_direct.specs.declared.plain.Plain.{Plain}
 
--- the machine that its parts stand for
+-- the machine of its parts
 unfoldable pub machine_of : Plain → Machine
 machine_of p = raw_machine p.files p.core p.jobs p.alarms.items p.consoles.items p.holders p.clock p.version p.symbols.items
 
@@ -24,8 +25,8 @@ is_touched p k = slice_index_or p.touched k false
 unfoldable pub no_slots : List Bool
 no_slots = replicate slots false
 
--- no call is in progress: no page is reserved and no close is half made; the channels fit the files and drafts that stand; a
--- slot without a job has no page, no alarm and no symbol; the PC of each job is an address; and the clock is below its end
+-- no call is in progress: no page is reserved and no close is half made; the channels fit the files and drafts that exist; a slot
+-- without a job has no page, no alarm and no symbol; the PC of each job is an address; and the clock is below its end
 pub record Tidy (p : Plain) : Type 0 where
   pub unreserved : (k : ℕ) → clear_at p.core k ≡ None
   pub unmarked : p.files.mark ≡ None

@@ -1,4 +1,5 @@
 -- What a decision promises of the rest of its call: its changes, its stores and its registers can be carried out.
+-- No promise rests on this.
 use Rattle.std.specs.Prelude.{◌≡◌, ◌≤◌, ◌<◌, ◌^◌, ℕ, true, Option, Some, None, IfSome, List, [], ◌∷◌, length}
 use Rattle.its_word.specs.Byte.{has_size}
 use Rattle.its_word.specs.Core.{Core, can_store}
@@ -35,16 +36,16 @@ pub record GoesOn (c : Core) (a : Ask) (h : Option Held) (vs : List ℕ) : Type 
   pub read : length (debts (revalued a vs) (length vs)) ≡ length vs
   pub debts : first_fault (held_in c (revalued a vs) h) (debts (revalued a vs) (length vs)) ≡ None
 
--- the changes can be made, and slot j has a job behind them
+-- the changes are possible, and slot j has a job after them
 pub record Carries (m : Machine) (j : ℕ) (cs : List Change) : Type 0 where
   pub can : CanMakeAll cs j m
   pub job : HasJob (effects cs j m) j
 
--- the core of slot j behind changes of its call
+-- the core of slot j after changes of its call
 abbrev pub core_behind : Machine → ℕ → List Change → Core
 core_behind m j cs = core_of ((effects cs j m).jobs j)
 
--- the decision of slot j's call can be carried out: its changes, and behind them its stores and its registers
+-- the decision of slot j's call can be carried out: its changes, and after them its stores and its registers
 abbrev pub Ready : Machine → ℕ → Ask → Decision → Type 0
 Ready m j a (Waits r) = Unit {0}
 Ready m j a (Goes cs h vs) = Carries m j cs.items × GoesOn (core_behind m j cs.items) a h vs.items

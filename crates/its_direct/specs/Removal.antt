@@ -1,4 +1,5 @@
 -- What a removal does to each part of the machine in running form.
+-- No promise rests on this.
 use Rattle.std.specs.Prelude.{if◌then◌else◌, ◌≡◌, ◌≢◌, ◌≤◌, ◌<◌, ℕ, Bool, true, false, Option, None, [], option_map}
 use Rattle.its_word.specs.Core.{no_core}
 use Rattle.its_word.specs.Only.{Only}
@@ -66,7 +67,7 @@ pub record Leaves (gone : ℕ → Bool) (old new : Option Job) : Type 0 where
   pub bare : option_map bare new ≡ option_map bare old
   pub chans : (n : ℕ) → channel_by new n ≡ channel_left gone (channel_by old n)
 
--- slot k, where this is done; and slot k, where nothing is
+-- slot k, if this is done; and slot k, if nothing is
 pub record SlotSwept (gone : ℕ → Bool) (old new : Plain) (k : ℕ) : Type 0 where
   pub core : core_at new.core k ≡ (if gone k then no_core else core_at old.core k)
   pub alarm : alarm_at new.alarms.items k ≡ (if gone k then None else alarm_at old.alarms.items k)

@@ -1,11 +1,12 @@
--- What a step of a slot's job comes to, in the machine in running form.
+-- The effect of a step of a slot's job on the machine in running form.
+-- No promise rests on this.
 use Rattle.std.specs.Prelude.{◌≡◌, ◌⊎◌, ◌&&◌, ◌||◌, ℕ, Bool, true, false, not, Option, Some, None, List, is_some, slice_index_or}
 use Rattle.its_word.specs.declared.calls.Site.{Site}
 use Rattle.its_word.specs.declared.jobs.Job.{Job}
 use Rattle.its_core.specs.Cores.{core_at}
 use Rattle.its_jobs.specs.Table.{job_at, superior_at}
 use Rattle.its_plain.specs.Ask.{ask}
-use Rattle.its_plain.specs.CallStep.{Transition, among, by_ask}
+use Rattle.its_plain.specs.CallStep.{Transition, among, is_made, by_ask}
 use Rattle.its_plain.specs.Machine.{Whole, Machine}
 use Rattle.its_plain.specs.Unit.{Called, unit}
 use Rattle.its_parts.specs.Parts.{alarm_at, bare, chans_of}
@@ -16,15 +17,11 @@ use Rattle.its_direct.specs.declared.plain.Plain.{Plain}
 use Rattle.its_direct.specs.declared.users.Begun.{Begun}
 use Rattle.its_direct.specs.declared.users.Begun.TheVariants.{Still, Stepped, Calls}
 
--- a job stands in slot k of a machine, and none did before
-abbrev pub is_made : Machine → Machine → ℕ → Bool
-is_made m n k = not (is_some (m.jobs k)) && is_some (n.jobs k)
-
 -- a step from a machine disturbs the job of slot k, which is not its own, or makes it
 abbrev pub touches : Machine → Transition → ℕ → Bool
 touches m t k = among k t.disturbs || is_made m t.machine k
 
--- the step was made
+-- the step was taken
 pub record Steps (old new : Plain) (t : Transition) : Type 0 where
   pub machine : machine_of new ≡ t.machine
   pub touched : (k : ℕ) → is_touched new k ≡ touches (machine_of old) t k
@@ -49,7 +46,7 @@ StepBegins Still o old new j = (o ≡ None) × (new ≡ old)
 StepBegins Stepped o old new j = SteppedBy old new o
 StepBegins (Calls s) o old new j = CallsAt (machine_of old) j s o × (new ≡ old)
 
--- the job of a slot that has these registers, as it stands in the machine
+-- the job of a slot that has these registers, in the form that it has in the machine
 abbrev pub own_of : Plain → ℕ → Job → Whole
 own_of p s j = record {
   core = core_at p.core s;
@@ -59,7 +56,7 @@ own_of p s j = record {
   alarm = alarm_at p.alarms.items s;
 }
 
--- the parts of a machine, as they are lent
+-- the parts of a machine, borrowed
 pub record Lent (p : Plain) (s : Seen) : Type 0 where
   pub core : s.core.now ≡ p.core
   pub jobs : s.jobs.now ≡ p.jobs
@@ -71,19 +68,19 @@ pub record Lent (p : Plain) (s : Seen) : Type 0 where
   pub version : s.version ≡ p.version
   pub symbols : s.symbols.now ≡ p.symbols
 
--- the machine of a transition stands, before the slots that it touches are marked; or there is none, and nothing has changed
+-- the machine is that of a transition, before the slots that it touches are marked; or there is none, and nothing has changed
 abbrev pub Acts : Bool → Option Transition → Plain → Plain → Type 0
 Acts true (Some t) old new = Becomes old new t.machine
 Acts false None old new = new ≡ old
 Acts true None old new = ⊥
 Acts false (Some t) old new = ⊥
 
--- a slot is marked, where one list says that the step disturbs it, or where it has a job now and another says that it had none
+-- a slot is marked, if one list says that the step disturbs it, or if it has a job now and another says that it had none
 abbrev pub marked_by : List Bool → List Bool → Plain → ℕ → Bool
 marked_by disturbed stood p k =
     slice_index_or disturbed k false || (not (slice_index_or stood k false) && is_some (job_at p.jobs k))
 
--- a step is made, or there is none and nothing has changed
+-- a step is taken, or there is none and nothing has changed
 abbrev pub Makes : Bool → Option Transition → Plain → Plain → Type 0
 Makes true o old new = SteppedBy old new o
 Makes false o old new = (o ≡ None) × (new ≡ old)

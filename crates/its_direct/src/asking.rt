@@ -22,8 +22,8 @@ const ARGUMENTS: u32 = 8;
 type Places = ArrayVec<u32, 160>;
 
 impl Plain {
-    /// What a call at a site of a slot's core asks for, or the fault of its decoding: its block, then its arguments one by one,
-    /// each address and each value taken where the definition takes it.
+    /// What a call at a site of a slot's core asks for, or the fault of its decoding: its block, then its arguments one by one; each
+    /// address and each value is taken when the definition takes it.
     #[tactic(auto, unfolding(its_plain::specs::Decode::ask))]
     pub fn ask(&self, slot: u8, site: &Site) -> Result<Ask, Fault>
         requires slot { slot < slots }
@@ -89,7 +89,7 @@ fn block_ask(core: &Core, slot: u8, site: &Site) -> Result<Ask, Fault>
     }
 }
 
-/// The word at an address modulo 2^18, whose place is noted; Mpv where it is absent.
+/// The word at an address modulo 2^18, whose place is noted; Mpv if it is absent.
 #[tactic(auto, unfolding(its_plain::specs::Traced::word, its_plain::specs::UnitPlan::read_of))]
 fn word(core: &Core, slot: u8, a: u32, decode: &mut Places) -> Result<Word, Fault>
     requires slot { slot < slots }
@@ -135,7 +135,7 @@ fn argument_words(
     Ok(block)
 }
 
-/// The block at an address, whole; then Ilo where bit 0 of its first word is off, or an argument has no type.
+/// The block at an address, whole; then Ilo if bit 0 of its first word is off, or an argument has no type.
 fn legal_block(core: &Core, slot: u8, e: u32, decode: &mut Places) -> Result<Block, Fault>
     requires slot { slot < slots }
     requires address { e < 2 ^ 18 }
@@ -156,7 +156,7 @@ fn legal_block(core: &Core, slot: u8, e: u32, decode: &mut Places) -> Result<Blo
     }
 }
 
-/// The block at an address; Mpv where a word of it is absent.
+/// The block at an address; Mpv if one of its words is absent.
 fn read_block(core: &Core, slot: u8, e: u32, decode: &mut Places) -> Result<Block, Fault>
     requires slot { slot < slots }
     requires address { e < 2 ^ 18 }
@@ -260,7 +260,7 @@ fn sort_arguments(
     Ok(parts)
 }
 
-/// The argument of an argument word, where so much of the budget of 64 indirect words is used.
+/// The argument of an argument word, when so much of the budget of 64 indirect words is used.
 fn argument(core: &Core, slot: u8, w: Word, used: u32, decode: &mut Places) -> Result<Placed, Fault>
     requires slot { slot < slots }
     requires used { used ≤ budget }
@@ -349,7 +349,7 @@ fn row_named(name: Word) -> Option<CallRow>
     }
 }
 
-/// The error of a call: 1 where no call has the name, 2 where there are too few arguments, 3 where there are too many, else 0.
+/// The error of a call: 1 if no call has the name, 2 if there are too few arguments, 3 if there are too many, else 0.
 #[tactic(auto, unfolding(its_plain::specs::Decode::error_by))]
 fn error_by(row: Option<CallRow>, inputs: usize, outputs: usize, excess: bool) -> u8
     ensures { result ≡ error_by row inputs outputs excess }

@@ -18,8 +18,8 @@ use its_word::{ALR, Job, Refusal, SLOTS, Word};
 const CLOCK_END: u64 = 0o200000000000;
 
 impl Plain {
-    /// CLOCK: the clock gains n thirtieths, and the alarms that are then due go: ALR is set in their jobs, once, and each alarm has
-    /// its next time. Range where the clock would come to 2^34.
+    /// CLOCK: the clock gains n thirtieths, and the alarms that are then due go: ALR is set in their jobs, once, and each alarm has its
+    /// next time. Range if the clock would reach 2^34.
     #[tactic(auto, using(crate::proofs::ClockLaws::clock_done, crate::proofs::ClockLaws::clock_refused))]
     pub fn advance(&mut self, n: u64) -> Result<(), Refusal>
         requires alarmed { Alarmed (machine_of self.old) }
@@ -61,7 +61,7 @@ impl Plain {
         }
     }
 
-    /// The alarm of a slot's job goes, where it is due at a clock.
+    /// The alarm of a slot's job goes, if it is due at a clock.
     #[tactic(auto, using(crate::proofs::ClockLaws::still_none, crate::proofs::ClockLaws::still_some))]
     fn ring(&mut self, slot: u8, clock: u64)
         requires slot { slot < slots }

@@ -102,7 +102,7 @@ fn drain_all(console: &mut Console, n: u32) -> ArrayVec<u8, 64>
     bytes
 }
 
-/// Drains a byte of a console, where one waits.
+/// Drains a byte of a console, if one waits.
 fn drain_one(console: &mut Console, bytes: &mut ArrayVec<u8, 64>)
     requires { length bytes.old.items < 64 }
     ensures rest { console.new ≡ record console.old { output = drop 1 console.old.output } }

@@ -33,7 +33,7 @@ impl Plain {
         show_of(&self.files, id)
     }
 
-    /// SHOW: the number of the file with a directory and two names; None where there is none.
+    /// SHOW: the number of the file with a directory and two names; None if there is none.
     #[tactic(auto, using(crate::proofs::DirectoryLaws::found_file))]
     pub fn file(&self, d: Word, x: Word, y: Word) -> Option<u32>
         ensures found { option_map (file_of self.now.files) result ≡ file_named (names_of d x y) (machine_of self.now).files }

@@ -9,7 +9,7 @@ ghost use Rattle.its_word.specs.Stores.{first_fault, stored};
 ghost use Rattle.its_core.specs.Cores.{core_at, clear_at};
 ghost use Rattle.its_jobs.specs.Table.{job_at};
 ghost use Rattle.its_plain.specs.Change.{in_job, inferior, on_console, poke, protected, put_to, taken_from, with_alarm, with_inf, with_page_at};
-ghost use Rattle.its_plain.specs.Machine.{changed, core_of, limit, with_job};
+ghost use Rattle.its_plain.specs.Machine.{changed, core_of, limit, with_new};
 ghost use Rattle.its_plain.specs.Own.{leave, left_with, with_registers, with_stores, with_variable};
 ghost use Rattle.its_parts.specs.Can.{HasJob, HasPage, Maps, Pokes};
 ghost use Rattle.its_parts.specs.Parts.{console_at};
@@ -75,7 +75,7 @@ impl Plain {
         }
     }
 
-    /// Sets a variable of a slot's job, where it has one.
+    /// Sets a variable of a slot's job, if it has one.
     pub(crate) fn set(&mut self, slot: u8, variable: Variable, value: Word)
         requires slot { slot < slots }
         requires tidy { Tidy self.old }
@@ -87,7 +87,7 @@ impl Plain {
         }
     }
 
-    /// Sets INF in a slot's job, where it has one.
+    /// Sets INF in a slot's job, if it has one.
     pub(crate) fn tell(&mut self, slot: u8)
         requires slot { slot < slots }
         requires tidy { Tidy self.old }
@@ -119,7 +119,7 @@ impl Plain {
         self.take_byte(c);
     }
 
-    /// Puts a byte behind a console's output, which has room.
+    /// Puts a byte at the end of a console's output, which has room.
     #[tactic(auto, using(crate::proofs::ConsoleLaws::console_becomes))]
     fn put_byte(&mut self, c: u8, byte: u8)
         requires console { c < 8 }
@@ -179,7 +179,7 @@ impl Plain {
         requires job { HasJob (machine_of self.old) maker }
         requires free { least_free (limit (machine_of self.old)) (machine_of self.old).jobs ≡ Some slot }
         requires tidy { Tidy self.old }
-        ensures row { Becomes self.old self.new (with_job (machine_of self.old) slot (inferior maker ((machine_of self.old).jobs maker) u j)) }
+        ensures row { Becomes self.old self.new (with_new (machine_of self.old) slot (inferior maker ((machine_of self.old).jobs maker) u j)) }
         ensures tidy { Tidy self.new }
     {
         let console = self.console_of(maker);

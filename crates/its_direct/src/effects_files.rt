@@ -17,7 +17,7 @@ use its_frame::Opened;
 use its_word::{Channel, Job, Word};
 
 impl Plain {
-    /// What a channel of a slot's job is on; closed where the slot is empty.
+    /// What a channel of a slot's job is on; closed if the slot is empty.
     fn channel(&self, slot: u8, n: u8) -> Channel
         requires slot { slot < slots }
         requires channel { n < 16 }
@@ -29,7 +29,7 @@ impl Plain {
         }
     }
 
-    /// Writes a channel of a slot's job, where it has one.
+    /// Writes a channel of a slot's job, if it has one.
     #[tactic(auto, using(crate::proofs::ChannelLaws::channel_missing))]
     fn set_channel(&mut self, slot: u8, n: u8, channel: Channel)
         requires slot { slot < slots }

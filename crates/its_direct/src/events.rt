@@ -6,7 +6,7 @@ ghost use Rattle.its_word.specs.declared.session.Place.TheVariants as places;
 ghost use Rattle.its_session.specs.Events.{place_after};
 ghost use Rattle.its_session.specs.Fits.{EventFits};
 ghost use Rattle.its_plain.specs.Own.{names_of};
-ghost use Rattle.its_direct.specs.Plain.{Tidy};
+ghost use Rattle.its_direct.specs.Plain.{machine_of, Tidy};
 ghost use Rattle.its_direct.specs.declared.plain.Spot.TheVariants as spots;
 ghost use Rattle.its_direct.specs.Events.{answered, place_of, IsTold, JobsStay, Kept, MayStand, SpotFits, Told};
 
@@ -29,7 +29,7 @@ pub enum Answer {
 impl Plain {
     /// An event of a session other than ticks, turns of RUN and END: the operator's line exactly. A line that is refused
     /// changes nothing.
-    #[tactic(auto, using(crate::proofs::ToldLaws::told_kept, crate::proofs::ToldLaws::told_place, crate::proofs::ToldLaws::told_jobs))]
+    #[tactic(auto, using(crate::proofs::ToldLaws::told_kept, crate::proofs::ToldLaws::told_jobs))]
     pub fn event(&mut self, event: &Event) -> Result<Answer, Refusal>
         requires told { IsTold event.now }
         requires fits { EventFits 2 event.now }
@@ -100,7 +100,7 @@ impl Plain {
     /// An a/ line.
     fn tell_words(&mut self, a: u32, words: &ArrayVec<Word, 16>) -> Result<Answer, Refusal>
         requires place { place_of self.old.place ≡ places.Load }
-        requires placed { SpotFits self.old.place }
+        requires placed { SpotFits (machine_of self.old) self.old.place }
         requires some { 1 ≤ length words.now.items }
         requires end { a + length words.now.items ≤ 2 ^ 18 }
         requires tidy { Tidy self.old }
@@ -115,7 +115,7 @@ impl Plain {
     /// RO.
     fn tell_read_only(&mut self, page: u8) -> Result<Answer, Refusal>
         requires place { place_of self.old.place ≡ places.Load }
-        requires placed { SpotFits self.old.place }
+        requires placed { SpotFits (machine_of self.old) self.old.place }
         requires tidy { Tidy self.old }
         ensures told { Told (told.ReadOnly page) self.old self.new result }
         ensures same { OnErr result (self.new ≡ self.old) }
@@ -128,7 +128,7 @@ impl Plain {
     /// SYM.
     fn tell_symbol(&mut self, name: Word, a: u32) -> Result<Answer, Refusal>
         requires place { place_of self.old.place ≡ places.Load }
-        requires placed { SpotFits self.old.place }
+        requires placed { SpotFits (machine_of self.old) self.old.place }
         requires tidy { Tidy self.old }
         ensures told { Told (told.Symbol name a) self.old self.new result }
         ensures same { OnErr result (self.new ≡ self.old) }
@@ -191,7 +191,7 @@ impl Plain {
     #[tactic(auto, using(crate::proofs::LoadLaws::placed_tidy))]
     fn tell_go(&mut self, a: u32) -> Result<Answer, Refusal>
         requires place { place_of self.old.place ≡ places.Load }
-        requires placed { SpotFits self.old.place }
+        requires placed { SpotFits (machine_of self.old) self.old.place }
         requires address { a < 2 ^ 18 }
         requires tidy { Tidy self.old }
         ensures told { Told (told.Go a) self.old self.new result }
@@ -243,7 +243,7 @@ impl Plain {
         Ok(Answer::Nothing)
     }
 
-    /// SHOW; the words are read from the machine. NoFile where there is no such file.
+    /// SHOW; the words are read from the machine. NoFile if there is no such file.
     #[tactic(auto, using(crate::proofs::SlotLaws::touched_tidy))]
     fn tell_show(&mut self, d: Word, x: Word, y: Word) -> Result<Answer, Refusal>
         requires tidy { Tidy self.old }
@@ -260,10 +260,10 @@ impl Plain {
         }
     }
 
-    /// The slot of the job whose LOAD block the next line stands in.
+    /// The slot of the job whose LOAD block the next line is in.
     fn block_slot(&self) -> u8
         requires place { place_of self.now.place ≡ places.Load }
-        requires placed { SpotFits self.now.place }
+        requires placed { SpotFits (machine_of self.now) self.now.place }
         ensures place { self.now.place ≡ spots.Load result }
         ensures slot { result < slots }
     {
@@ -274,7 +274,7 @@ impl Plain {
         }
     }
 
-    /// The directory and the names of the file whose FILE block the next line stands in.
+    /// The directory and the names of the file whose FILE block the next line is in.
     fn block_file(&self) -> (Word, Word, Word)
         requires place { place_of self.now.place ≡ places.File }
         ensures { self.now.place ≡ spots.File (names_of result.0 result.1 result.2) }

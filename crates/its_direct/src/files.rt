@@ -16,8 +16,8 @@ use its_word::{Refusal, Word};
 const FILES: u32 = 256;
 
 impl Plain {
-    /// FILE: makes a file of no words, the last in order, whose FILE block begins. Exists where a file has these names; Full
-    /// where there are 256 files.
+    /// FILE: makes a file of no words, the last in order, whose FILE block begins. Exists if a file has these names; Full if there are
+    /// 256 files.
     #[tactic(auto, using(crate::proofs::FileLaws::file_exists, crate::proofs::FileLaws::file_full))]
     pub fn make_file(&mut self, d: Word, x: Word, y: Word) -> Result<(), Refusal>
         requires tidy { Tidy self.old }
@@ -38,8 +38,8 @@ impl Plain {
         Ok(())
     }
 
-    /// Words of a FILE block: words more at the end of the file with a directory and two names, where there is one. Full where they
-    /// need more blocks than are free; then none of them is added.
+    /// Words of a FILE block: more words at the end of the file with a directory and two names, if there is one. Full if they need more
+    /// blocks than are free; then none of them is added.
     #[tactic(auto, using(crate::proofs::FileLaws::appended_none))]
     pub fn append_words(&mut self, d: Word, x: Word, y: Word, words: &[Word]) -> Result<(), Refusal>
         requires tidy { Tidy self.old }
@@ -75,7 +75,7 @@ impl Plain {
         Ok(())
     }
 
-    /// Words more at the end of a file, in their order, where there is room for them.
+    /// More words at the end of a file, in their order, if there is room for them.
     #[tactic(auto, using(crate::proofs::FileLaws::adding_starts, crate::proofs::FileLaws::adding_ends))]
     fn add_words(&mut self, id: u32, words: &[Word])
         requires file { is_file (entry_at self.old.files id) ≡ true }
@@ -101,7 +101,7 @@ impl Plain {
         self.touch_none();
     }
 
-    /// Makes a file of no words, the last in order, where no file has its names.
+    /// Makes a file of no words, the last in order, if no file has its names.
     fn new_file(&mut self, d: Word, x: Word, y: Word)
         requires tidy { Tidy self.old }
         requires few { length self.old.files.order < most_files }
@@ -112,7 +112,7 @@ impl Plain {
         self.files.new_file(d, x, y);
     }
 
-    /// A word more at the end of a file, where there is room for it.
+    /// One more word at the end of a file, if there is room for it.
     #[tactic(auto, using(crate::proofs::FileLaws::added_names))]
     fn add_word(&mut self, id: u32, w: Word)
         requires file { is_file (entry_at self.old.files id) ≡ true }

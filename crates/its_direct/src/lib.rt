@@ -1,5 +1,5 @@
-//! The plain machine in running form, on which the checker of transcripts stands. It has no call in progress: a whole
-//! call is one step. It has its beginning, the step of a job, and the operator's lines, each also as an event of a session.
+//! The plain machine in running form, which the checker of transcripts uses. It has no call in progress: a whole call is one step. It
+//! has its beginning, the step of a job, and the operator's lines, each also as an event of a session.
 #![tactic(auto)]
 
 mod asking;

@@ -14,7 +14,7 @@ use super::plain::Plain;
 use its_word::{ADDRESSES, FATAL, Job, NoAccess, Refusal, Word};
 
 impl Plain {
-    /// GO: the job of a slot runs from an address, with no flags. NoJob where the slot is empty.
+    /// GO: the job of a slot runs from an address, with no flags. NoJob if the slot is empty.
     #[tactic(auto, using(crate::proofs::LineLaws::go_done, crate::proofs::LineLaws::registers_refused, crate::proofs::LineLaws::kept_placed))]
     pub fn go(&mut self, slot: u8, a: u32) -> Result<(), Refusal>
         requires slot { slot < slots }
@@ -33,7 +33,7 @@ impl Plain {
         Ok(())
     }
 
-    /// STOP: the job of a slot is stopped. NoJob where the slot is empty.
+    /// STOP: the job of a slot is stopped. NoJob if the slot is empty.
     #[tactic(auto, using(crate::proofs::LineLaws::stop_done, crate::proofs::LineLaws::registers_refused, crate::proofs::LineLaws::kept_placed))]
     pub fn stop(&mut self, slot: u8) -> Result<(), Refusal>
         requires slot { slot < slots }
@@ -51,7 +51,7 @@ impl Plain {
         Ok(())
     }
 
-    /// CONT: the job of a slot runs, with no fatal bit pending. NoJob where the slot is empty.
+    /// CONT: the job of a slot runs, with no fatal bit pending. NoJob if the slot is empty.
     #[tactic(auto, using(crate::proofs::LineLaws::cont_done, crate::proofs::LineLaws::registers_refused, crate::proofs::LineLaws::kept_placed))]
     pub fn cont(&mut self, slot: u8) -> Result<(), Refusal>
         requires slot { slot < slots }
@@ -69,7 +69,7 @@ impl Plain {
         Ok(())
     }
 
-    /// INT: bits are pending in the job of a slot, beside those that are. NoJob where the slot is empty.
+    /// INT: bits are pending in the job of a slot, in addition to those that were. NoJob if the slot is empty.
     #[tactic(auto, using(crate::proofs::LineLaws::interrupt_done, crate::proofs::LineLaws::registers_refused, crate::proofs::LineLaws::kept_placed))]
     pub fn interrupt(&mut self, slot: u8, v: Word, w: Word) -> Result<(), Refusal>
         requires slot { slot < slots }
@@ -87,7 +87,7 @@ impl Plain {
         Ok(())
     }
 
-    /// STATE: whether the job of a slot can be shown. NoJob where the slot is empty.
+    /// STATE: whether the job of a slot can be shown. NoJob if the slot is empty.
     #[tactic(auto, using(crate::proofs::LineLaws::state_done, crate::proofs::LineLaws::state_refused, crate::proofs::SlotLaws::touched_tidy))]
     pub fn state(&mut self, slot: u8) -> Result<(), Refusal>
         requires slot { slot < slots }
@@ -104,8 +104,8 @@ impl Plain {
         Ok(())
     }
 
-    /// EXAM and LIST: whether n words of a slot, from an address on, can be shown. NoJob where the slot is empty, NoPage where one of
-    /// their pages is absent.
+    /// EXAM and LIST: whether n words of a slot, from an address on, can be shown. NoJob if the slot is empty, NoPage if one of their
+    /// pages is absent.
     #[tactic(auto, using(crate::proofs::LineLaws::exam_done, crate::proofs::LineLaws::exam_absent, crate::proofs::LineLaws::exam_refused, crate::proofs::SlotLaws::touched_tidy))]
     pub fn exam(&mut self, slot: u8, a: u32, n: u32) -> Result<(), Refusal>
         requires slot { slot < slots }
@@ -128,8 +128,7 @@ impl Plain {
         }
     }
 
-    /// DEPOSIT: stores a word of a slot. NoJob where the slot is empty; NoPage where the page is absent, ReadOnly where it is
-    /// so.
+    /// DEPOSIT: stores a word of a slot. NoJob if the slot is empty; NoPage if the page is absent, ReadOnly if it is so.
     #[tactic(auto, using(crate::proofs::LineLaws::deposit_done, crate::proofs::LineLaws::deposit_barred, crate::proofs::LineLaws::deposit_refused, crate::proofs::LineLaws::deposit_tidy, crate::proofs::SlotLaws::core_becomes))]
     pub fn deposit(&mut self, slot: u8, a: u32, w: Word) -> Result<(), Refusal>
         requires slot { slot < slots }

@@ -2,7 +2,7 @@
 ghost use Rattle.std.specs.Prelude.{◌≡◌, ◌<◌, Some, None, Ok, Err, IfOk, IfSome, IfErr, OnErr, length, slice_set};
 ghost use Rattle.its_word.specs.Limits.{slots};
 ghost use Rattle.its_word.specs.Tree.{least_free};
-ghost use Rattle.its_plain.specs.Machine.{limit, with_job};
+ghost use Rattle.its_plain.specs.Machine.{limit, with_new};
 ghost use Rattle.its_plain.specs.OperatorJobs.{loaded, new_job, with_holder};
 ghost use Rattle.its_parts.specs.Parts.{holder_at};
 ghost use Rattle.its_direct.specs.Plain.{machine_of, Tidy};
@@ -14,9 +14,8 @@ use its_jobs::NoSlot;
 use its_word::{Refusal, Word};
 
 impl Plain {
-    /// LOAD: makes a stopped job with these names and this console in the least free slot, which it answers and whose LOAD
-    /// block begins. It becomes the holder of its console, where that has none. Full where all slots below the limit have a
-    /// job.
+    /// LOAD: makes a stopped job with these names and this console in the least empty slot, which it answers and whose LOAD block
+    /// begins. It becomes the holder of its console, if that has none. Full if all slots below the limit have a job.
     #[tactic(auto, using(crate::proofs::LoadLaws::load_full))]
     pub fn load(&mut self, u: Word, j: Word, console: Option<u8>) -> Result<u8, Refusal>
         requires console { IfSome console (λ c. c < 8) }
@@ -42,7 +41,7 @@ impl Plain {
     fn make(&mut self, u: Word, j: Word, console: Option<u8>) -> Result<u8, NoSlot>
         requires tidy { Tidy self.old }
         ensures slot { IfOk result (λ s. (least_free (limit (machine_of self.old)) (machine_of self.old).jobs ≡ Some s) × (s < slots)) }
-        ensures made { IfOk result (λ s. machine_of self.new ≡ with_job (machine_of self.old) s (new_job u j console)) }
+        ensures made { IfOk result (λ s. machine_of self.new ≡ with_new (machine_of self.old) s (new_job u j console)) }
         ensures full { OnErr result (least_free (limit (machine_of self.old)) (machine_of self.old).jobs ≡ None) }
         ensures same { OnErr result (self.new ≡ self.old) }
         ensures tidy { Tidy self.new }
@@ -53,7 +52,7 @@ impl Plain {
         }
     }
 
-    /// Makes the job of a slot the holder of its console, where that has none.
+    /// Makes the job of a slot the holder of its console, if that has none.
     #[tactic(auto, using(crate::proofs::LoadLaws::console_some, crate::proofs::LoadLaws::console_none))]
     fn hold_console(&mut self, slot: u8, console: Option<u8>)
         requires console { IfSome console (λ c. c < 8) }

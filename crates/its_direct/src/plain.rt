@@ -13,8 +13,8 @@ use std::alloc::Global;
 /// How many consoles there are.
 const CONSOLES: usize = 8;
 
-/// Where a line of a session stands: outside any block; in the LOAD block of the job of a slot; or in the FILE block of the
-/// file with a directory and two names.
+/// The place of a line of a session: outside any block; in the LOAD block of the job of a slot; or in the FILE block of the file with a
+/// directory and two names.
 #[derive(Clone, Copy, Debug, PartialEq, Eq)]
 pub enum Spot {
     Plain,
@@ -22,10 +22,10 @@ pub enum Spot {
     File { names: [Word; 3] },
 }
 
-/// The plain machine: cores, jobs, the consoles and for each of them the slot of the job that holds it, files and drafts, the
-/// clock in thirtieths, for each slot the alarm of its job where it has one (its period and its next time), the version of
-/// the session text, for each slot the symbols of its job, in the order in which they were kept, the place of the next line,
-/// and the slots whose jobs the last step or line disturbed or made.
+/// The plain machine: cores, jobs, the consoles and for each of them the slot of the job that holds it, files and drafts, the clock in
+/// thirtieths, for each slot the alarm of its job if it has one (its period and its next time), the version of the session text, for
+/// each slot the symbols of its job, in the order in which they were given, the place of the next line, and the slots whose jobs the
+/// last step or line disturbed or made.
 #[derive(Drop)]
 pub struct Plain {
     pub core: Core,

@@ -18,8 +18,8 @@ use its_word::{Channel, SLOTS};
 const CHANNELS: u8 = 16;
 
 impl Plain {
-    /// Removes the job of a slot with all jobs below it: their drafts are dropped, and every channel on one of them is
-    /// closed. A console that one of them holds passes to the superior of the job, where it has one, else to nobody.
+    /// Removes the job of a slot with all jobs below it: their drafts are dropped, and every channel on one of them
+    /// is closed. A console that one of them holds passes to the superior of the job, if it has one, else to nobody.
     pub(crate) fn remove(&mut self, root: u8)
         requires slot { root < slots }
         requires tidy { Tidy self.old }
@@ -139,7 +139,7 @@ fn leave_each(jobs: &Jobs, root: u8, channels: &mut [Channel])
     }
 }
 
-/// Passes the consoles that jobs of a tree hold to the superior of the root, or to nobody where it has none.
+/// Passes the consoles that jobs of a tree hold to the superior of the root, or to nobody if it has none.
 #[tactic(auto, using(crate::proofs::RemovalLaws::turning_start, crate::proofs::RemovalLaws::turning_more, crate::proofs::RemovalLaws::turning_end))]
 fn pass_on(jobs: &Jobs, root: u8, holders: &mut [Option<u8>])
     ensures { (c : ℕ) → slice_index_or holders.new c None ≡ passed_on (in_tree (superior_at jobs.now) root) (superior_at jobs.now root) (slice_index_or holders.old c None) }

@@ -6,20 +6,23 @@ ghost use Rattle.its_jobs.specs.Table.{job_at};
 ghost use Rattle.pdp_exec.specs.Units.{after_unit, left};
 ghost use Rattle.its_direct.specs.Plain.{machine_of, is_touched, Tidy};
 ghost use Rattle.its_direct.specs.Events.{Kept};
-ghost use Rattle.its_direct.specs.Series.{Series};
+ghost use Rattle.its_direct.specs.Series.{Series, unit_due};
 
-use super::plain::Plain;
+use super::plain::{Plain, Spot};
 use its_word::Job;
 use pdp_exec::run_units;
 
 impl Plain {
     /// As many units of a slot's job as can be made while no interrupt is deliverable and none is a call, n at most; how many. Each of them is
-    /// a step of the job alone. None is made where the slot is empty or its job is stopped; then nothing changes.
-    #[tactic(auto, using(crate::proofs::SlotLaws::placed_at, crate::proofs::SeriesLaws::series_kept))]
+    /// a step of the job alone, and where they are fewer than n, no other is due. None is made where the slot is empty or its job is stopped;
+    /// then nothing changes. The session stands outside any block of lines.
+    #[tactic(auto, using(crate::proofs::SlotLaws::placed_at, crate::proofs::SeriesLaws::series_kept, crate::proofs::SeriesLaws::due_absent, crate::proofs::SeriesLaws::due_stopped))]
     pub fn steps(&mut self, slot: u8, n: u32) -> u32
         requires slot { slot < slots }
+        requires outside { self.old.place ≡ Spot.Plain }
         requires kept { Kept self.old }
         ensures few { result ≤ n }
+        ensures most { result < n → unit_due (machine_of self.new) slot ≡ false }
         ensures series { Series result (machine_of self.old) slot (machine_of self.new) }
         ensures jobs { (k : ℕ) → is_some ((machine_of self.new).jobs k) ≡ is_some ((machine_of self.old).jobs k) }
         ensures touched { result ≢ 0 → (k : ℕ) → is_touched self.new k ≡ false }
@@ -36,8 +39,8 @@ impl Plain {
         self.units(slot, job, n)
     }
 
-    /// Makes up to n units of the running job of a slot, whose registers these are, as long as no interrupt is deliverable and
-    /// none is a call; how many were made. Where none was, nothing changes.
+    /// Executes up to n units of the running job of a slot, whose registers these are, as long as no interrupt is deliverable and none
+    /// is a call; how many were executed. If none was, nothing changes.
     pub(crate) fn units(&mut self, slot: u8, job: Job, n: u32) -> u32
         requires slot { slot < slots }
         requires job { job_at self.old.jobs slot ≡ Some job }
@@ -45,6 +48,7 @@ impl Plain {
         requires pc { job.pc < 2 ^ 18 }
         requires tidy { Tidy self.old }
         ensures few { result ≤ n }
+        ensures most { result < n → unit_due (machine_of self.new) slot ≡ false }
         ensures series { Series result (machine_of self.old) slot (machine_of self.new) }
         ensures jobs { (k : ℕ) → is_some ((machine_of self.new).jobs k) ≡ is_some ((machine_of self.old).jobs k) }
         ensures touched { result ≢ 0 → (k : ℕ) → is_touched self.new k ≡ false }

@@ -1,8 +1,9 @@
 //! The lines VERSION, RO, SYM and PEEK.
-ghost use Rattle.std.specs.Prelude.{◌≡◌, ◌<◌, ◌≤◌, ◌++◌, ◌∷◌, [], true, false, None, Err, OnOk, OnErr, IfErr, is_some, length, nat_lt};
+ghost use Rattle.std.specs.Prelude.{◌≡◌, ◌<◌, ◌≤◌, ◌++◌, ◌∷◌, [], ℕ, true, false, None, Err, OnOk, OnErr, IfErr, is_some, length, nat_lt};
 ghost use Rattle.its_word.specs.Core.{page_of};
 ghost use Rattle.its_word.specs.Limits.{slots, most_symbols};
 ghost use Rattle.its_core.specs.Cores.{core_at};
+ghost use Rattle.its_jobs.specs.Table.{job_at};
 ghost use Rattle.its_plain.specs.OperatorJobs.{page_protected};
 ghost use Rattle.its_plain.specs.OperatorSymbols.{symbol_kept};
 ghost use Rattle.its_plain.specs.OperatorVersion.{versioned};
@@ -12,37 +13,39 @@ ghost use Rattle.its_word.specs.Refusals.{reason_of};
 ghost use Rattle.its_direct.specs.Lines.{Operates, Stands, Keeps, SymbolsBecome, VersionBecomes};
 
 use super::plain::Plain;
-use its_word::{Refusal, SLOTS, Word};
+use its_jobs::limit_of;
+use its_word::{Refusal, Word};
 
 /// How many symbols a job has at most.
 const MOST_SYMBOLS: usize = 512;
 
 impl Plain {
-    /// VERSION: the machine becomes one of version 2, which can have 96 jobs, or stays as it is. It stands on line 1 alone.
-    #[tactic(auto, using(crate::proofs::SettingLaws::version_tidy))]
+    /// VERSION: where no slot has a job, the machine becomes one of this version, which can have 64 jobs, or 96 in version 2;
+    /// else it stays as it is.
+    #[tactic(auto, using(crate::proofs::SettingLaws::version_tidy, crate::proofs::SlotLaws::touched_tidy))]
     pub fn version(&mut self, v: u8)
         requires known { (1 ≤ v) × (v ≤ 2) }
         requires tidy { Tidy self.old }
         ensures done { Stands self.old self.new (versioned (machine_of self.old) v) }
         ensures tidy { Tidy self.new }
     {
-        if v == 2 {
-            self.second_version();
+        if self.jobs.is_empty() {
+            self.set_version(v);
         }
         self.touch_none();
     }
 
-    /// Makes the machine one of version 2.
-    #[tactic(auto, using(its_word::proofs::FreeLaws::limit_second))]
-    fn second_version(&mut self)
-        ensures { VersionBecomes self.old self.new 2 }
+    /// Makes the machine one of version 1 or 2. No slot has a job.
+    fn set_version(&mut self, v: u8)
+        requires known { (1 ≤ v) × (v ≤ 2) }
+        requires nobody { (k : ℕ) → job_at self.old.jobs k ≡ None }
+        ensures { VersionBecomes self.old self.new v }
     {
-        self.jobs.tree();
-        self.jobs.set_limit(SLOTS as u8);
-        self.version = 2;
+        self.jobs.set_limit(limit_of(v));
+        self.version = v;
     }
 
-    /// RO: a page of a slot's job becomes read only. NoJob where the slot is empty, NoPage where the page is absent.
+    /// RO: a page of a slot's job becomes read only. NoJob if the slot is empty, NoPage if the page is absent.
     #[tactic(auto, using(crate::proofs::SettingLaws::read_only_refused, crate::proofs::SettingLaws::read_only_absent))]
     pub fn read_only(&mut self, slot: u8, page: u8) -> Result<(), Refusal>
         requires slot { slot < slots }
@@ -73,8 +76,7 @@ impl Plain {
         self.core.page(slot, page).is_some()
     }
 
-    /// SYM: a slot's job keeps a symbol, the last. NoJob where the slot is empty, Full where the job has 512. The job is not
-    /// disturbed.
+    /// SYM: a slot's job keeps a symbol, the last. NoJob if the slot is empty, Full if the job has 512. The job is not disturbed.
     #[tactic(auto, using(crate::proofs::SettingLaws::symbol_refused, crate::proofs::SettingLaws::symbol_full, crate::proofs::SettingLaws::symbol_tidy))]
     pub fn symbol(&mut self, slot: u8, name: Word, a: u32) -> Result<(), Refusal>
         requires slot { slot < slots }
@@ -114,8 +116,8 @@ impl Plain {
         self.symbols[usize::from(slot)].push((name, a));
     }
 
-    /// PEEK: whether a slot has a job. Nobody is disturbed, and how far a job is inside a call is nothing that this machine
-    /// knows. NoJob where the slot is empty.
+    /// PEEK: whether a slot has a job. Nobody is disturbed, and this machine does not know how far a job is inside a call. NoJob if the
+    /// slot is empty.
     #[tactic(auto, using(crate::proofs::SettingLaws::peek_some, crate::proofs::SettingLaws::peek_none, crate::proofs::SlotLaws::touched_tidy))]
     pub fn peek(&mut self, slot: u8) -> Result<(), Refusal>
         requires slot { slot < slots }

@@ -16,8 +16,8 @@ use its_core::Core;
 use its_word::{ADDRESSES, Job, JobShow, Refusal, Word, pc_word};
 
 impl Plain {
-    /// EXAM and LIST: up to eight words of a slot, from an address on. NoJob where the slot is empty, NoPage where one of their
-    /// pages is absent.
+    /// EXAM and LIST: up to eight words of a slot, from an address on. NoJob if the slot is empty, NoPage if one of their pages is
+    /// absent.
     #[tactic(auto, using(crate::proofs::LineLaws::exam_refused, crate::proofs::ShownLaws::words_missing))]
     pub fn words(&self, slot: u8, a: u32, n: u32) -> Result<ArrayVec<Word, 8>, Refusal>
         requires slot { slot < slots }
@@ -35,7 +35,7 @@ impl Plain {
         }
     }
 
-    /// STATE: what is shown of a slot's job. NoJob where the slot is empty.
+    /// STATE: what is shown of a slot's job. NoJob if the slot is empty.
     #[tactic(auto, using(crate::proofs::LineLaws::state_refused, crate::proofs::ShownLaws::state_found))]
     pub fn shown(&self, slot: u8) -> Result<JobShow, Refusal>
         requires slot { slot < slots }
@@ -50,7 +50,7 @@ impl Plain {
         Ok(shown(&job, superior, symbol))
     }
 
-    /// The symbol of a slot's job that is nearest to a PC, and how far the PC lies behind it.
+    /// The symbol of a slot's job that is nearest to a PC, and how far the PC is past it.
     fn near(&self, slot: u8, pc: u32) -> Option<(Word, u32)>
         requires { slot < slots }
         ensures { result ≡ symbol_shown pc (symbols_at self.now.symbols.items slot) }
@@ -59,7 +59,7 @@ impl Plain {
     }
 }
 
-/// Up to eight words of a slot, from an address on; None where one of their pages is absent.
+/// Up to eight words of a slot, from an address on; None if one of their pages is absent.
 #[tactic(auto, using(crate::proofs::ShownLaws::gathering_starts, crate::proofs::ShownLaws::gathering_more, crate::proofs::ShownLaws::gathering_stops, crate::proofs::ShownLaws::gathering_ends))]
 fn words_from(core: &Core, slot: u8, a: u32, n: u32) -> Option<ArrayVec<Word, 8>>
     requires slot { slot < slots }
@@ -98,7 +98,7 @@ fn shown(job: &Job, superior: Option<u8>, symbol: Option<(Word, u32)>) -> JobSho
     }
 }
 
-/// The symbol of the greatest address at most a PC, of those with one address the last, and how far the PC lies behind it.
+/// The symbol of the greatest address at most a PC, of those with one address the last, and how far the PC is past it.
 #[tactic(auto, using(its_parts::proofs::SymbolLaws::near_start, its_parts::proofs::SymbolLaws::near_next, its_parts::proofs::SymbolLaws::near_some, its_parts::proofs::SymbolLaws::near_none))]
 fn nearest(symbols: &[(Word, u32)], pc: u32) -> Option<(Word, u32)>
     ensures { result ≡ symbol_shown pc symbols.now }

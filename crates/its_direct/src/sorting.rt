@@ -69,7 +69,7 @@ impl Parts {
         }
     }
 
-    /// The place of a word from which a value is taken, where there is one.
+    /// The place of the word from which a value is taken, if there is one.
     #[tactic(auto, using(crate::proofs::AskLaws::not_noted))]
     fn note(&mut self, place: Option<u32>)
         requires { length self.old.operand.items < 8 }

@@ -21,7 +21,7 @@ const PROGRAM: [(u32, u64); 9] = [
     (0o14, 0o405000_000000),
 ];
 
-/// Tells the machine an event that is obeyed.
+/// Has the machine perform an event, which is not refused.
 fn tell(rt: &impl Abort, p: &mut Plain, event: &Event)
     requires told { IsTold event.now }
     requires fits { EventFits 2 event.now }

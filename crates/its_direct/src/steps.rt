@@ -10,7 +10,7 @@ ghost use Rattle.its_plain.specs.Change.{effects, in_job};
 ghost use Rattle.its_plain.specs.Decide.{reach};
 ghost use Rattle.its_plain.specs.Footprint.{among};
 ghost use Rattle.its_plain.specs.Machine.{core_of};
-ghost use Rattle.its_plain.specs.Unrolled.{is_running};
+ghost use Rattle.its_plain.specs.Turns.{is_running};
 ghost use Rattle.its_parts.specs.Can.{HasJob};
 ghost use Rattle.its_decide.specs.Seen.{machine_seen, raw_with};
 ghost use Rattle.its_direct.specs.Effects.{Becomes};
@@ -19,7 +19,7 @@ ghost use Rattle.its_direct.specs.Plain.{machine_of, is_touched, Tidy};
 ghost use Rattle.its_direct.specs.Ready.{Carries, GoesOn, HeldFits, Ready, core_behind};
 ghost use Rattle.its_direct.specs.Steps.{Acts, CallsAt, Lent, LosesOnly, Makes, Steps, marked_by, own_of};
 
-use super::plain::Plain;
+use super::plain::{Plain, Spot};
 use super::users::Begun;
 use arrayvec::ArrayVec;
 use its_bytes::deposit;
@@ -45,10 +45,11 @@ impl Plain {
     }
 
     /// Makes the step of a slot's job: the delivery of an interrupt, a unit, or a whole call. Where there is none, as the slot
-    /// is empty, its job is stopped, or its call waits, nothing changes.
+    /// is empty, its job is stopped, or its call waits, nothing changes. The session stands outside any block of lines.
     #[tactic(auto, using(crate::proofs::CallStepLaws::loses_only, crate::proofs::CallStepLaws::place_stays, crate::proofs::CallStepLaws::kept_after))]
     pub fn step(&mut self, slot: u8) -> bool
         requires slot { slot < slots }
+        requires outside { self.old.place ≡ Spot.Plain }
         requires kept { Kept self.old }
         ensures row { Makes result (transition (machine_of self.old) slot) self.old self.new }
         ensures loses { LosesOnly self.old self.new slot }
@@ -58,7 +59,7 @@ impl Plain {
         self.make_step(slot)
     }
 
-    /// Makes the step of a slot's job, where there is one.
+    /// Performs the step of a slot's job, if there is one.
     fn make_step(&mut self, slot: u8) -> bool
         requires slot { slot < slots }
         requires kept { Kept self.old }
@@ -108,8 +109,7 @@ impl Plain {
         self.touch_none();
     }
 
-    /// Decides what a call of a slot's job asks for, which has these registers, and carries it out. A call that waits makes no
-    /// step.
+    /// Decides what a call of a slot's job asks for, which has these registers, and carries it out. A call that waits takes no step.
     fn act(&mut self, slot: u8, job: &Job, ask: &Ask) -> bool
         requires slot { slot < slots }
         requires job { job_at self.old.jobs slot ≡ Some job.now }
@@ -145,7 +145,7 @@ impl Plain {
         }
     }
 
-    /// What a call of a slot's job comes to, which has these registers.
+    /// The decision of a call of a slot's job, which has these registers.
     fn decided(&self, slot: u8, job: &Job, ask: &Ask) -> Decision
         requires slot { slot < slots }
         requires job { job_at self.now.jobs slot ≡ Some job.now }
@@ -177,7 +177,7 @@ impl Plain {
         marks
     }
 
-    /// Marks as touched the slots that a step disturbed, and those in which a job stands and none stood before.
+    /// Marks as touched the slots that a step disturbed, and those in which a job is and none was before.
     fn mark(&mut self, disturbed: &Marks, stood: &Marks)
         ensures same { self.new ≡ record self.old { touched = self.new.touched } }
         ensures touched { (k : ℕ) → is_touched self.new k ≡ marked_by disturbed.now stood.now self.old k }
@@ -279,7 +279,7 @@ fn deposited(core: &Core, slot: u8, pointer: Word, held: Held) -> Store
     }
 }
 
-/// The value of an input of a call whose last inputs have these new values; 0 where there is no such input.
+/// The value of an input of a call whose last inputs have these new values; 0 if there is no such input.
 fn new_input(ask: &Ask, values: &[Word], k: usize) -> Word
     ensures { result ≡ input (revalued ask.now values.now) k }
 {
@@ -309,7 +309,7 @@ fn new_values(ask: &Ask, values: &[Word]) -> ArrayVec<Store, 2>
     stores
 }
 
-/// Adds the store of a word, where it has a place.
+/// Adds the store of a word, if it has a place.
 fn push_store(stores: &mut ArrayVec<Store, 2>, place: Option<u32>, word: Word)
     requires room { length stores.old.items < 2 }
     ensures more { stores.new.items ≡ stores.old.items ++ store_of (record { value = word; place = place }) [] }

@@ -22,7 +22,7 @@ enum Line {
     Step,
 }
 
-/// What it comes to; of a call the address that it names.
+/// The result; for a call the address that it names.
 #[derive(Clone, Copy, Debug, PartialEq, Eq)]
 enum Came {
     Done,
@@ -68,12 +68,16 @@ fn run_line(rt: &impl Abort, p: &mut Plain, slot: u8, line: Line) -> Result<Came
     Ok(Came::Done)
 }
 
-/// A program in accumulators is run step by step, and each line is refused or done. MOVEI 1,5 stands at 2, and `.IOT 3,100` at 3,
-/// which then becomes an illegal word.
+/// A program in accumulators is run step by step, and each line is refused or done. MOVEI 1,5 is at 2, and `.IOT 3,100` at 3, which
+/// then becomes an illegal word.
 #[test]
 fn lines_and_steps(rt: HostRuntime) -> Result<(), Fail> {
     let mut p = Plain::open(rt.alloc())?;
     assert_eq!(&rt; run_line(&rt, &mut p, 0, Line::State), Err(Refusal::NoJob));
+    p.version(2);
+    assert_eq!(&rt; p.version, 2);
+    p.version(1);
+    assert_eq!(&rt; p.version, 1);
     assert_eq!(&rt; p.load(Word::new(0o42), Word::new(0o43), Some(3)), Ok(0));
     assert_eq!(&rt;
         (p.place, p.holders[3], p.touched[0], p.touched[1]),
@@ -121,11 +125,11 @@ fn lines_and_steps(rt: HostRuntime) -> Result<(), Fail> {
         );
     }
     p.version(2);
-    assert_eq!(&rt; p.version, 2);
+    assert_eq!(&rt; p.version, 1);
     Ok(())
 }
 
-/// A file is made, gains words, and is listed and shown; the clock does not come to its end.
+/// A file is made, gains words, and is listed and shown; the clock does not reach its end.
 #[test]
 #[tactic(auto, using(crate::proofs::ToldLaws::alarmed_open))]
 fn files_and_clock(rt: HostRuntime) -> Result<(), Fail> {

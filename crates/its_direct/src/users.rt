@@ -19,15 +19,14 @@ use pdp_exec::site;
 pub enum Begun {
     /// There is no job, or it is stopped: it has no step.
     Still,
-    /// The step was made: a delivery, or a unit.
+    /// The step was taken: a delivery, or a unit.
     Stepped,
     /// The step is that of a call of the monitor at this site, which is not decoded yet.
     Calls(Site),
 }
 
 impl Plain {
-    /// Makes the step of a slot's job, where that is a delivery or a unit. Where it is a call, or where there is none, nothing
-    /// changes.
+    /// Performs the step of a slot's job, if that is a delivery or a unit. If it is a call, or if there is none, nothing changes.
     #[tactic(auto, using(crate::proofs::UserLaws::absent, crate::proofs::UserLaws::stopped, crate::proofs::SlotLaws::placed_at))]
     pub fn begin(&mut self, slot: u8) -> Begun
         requires slot { slot < slots }
@@ -67,8 +66,8 @@ impl Plain {
         }
     }
 
-    /// The delivery of an interrupt to a slot's job that has these registers. Where a fatal bit stops the job, INF is set in
-    /// its superior, where it has one.
+    /// The delivery of an interrupt to a slot's job that has these registers. If a fatal bit stops the job, INF is set in its superior,
+    /// if it has one.
     fn deliver(&mut self, slot: u8, job: Job)
         requires slot { slot < slots }
         requires job { job_at self.old.jobs slot ≡ Some job }
@@ -88,7 +87,7 @@ impl Plain {
         }
     }
 
-    /// Sets INF in the superior of a slot's job, where it has one, which is then touched too.
+    /// Sets INF in the superior of a slot's job, if it has one, which is then also touched.
     fn inform_superior(&mut self, slot: u8)
         requires slot { slot < slots }
         requires touched { self.old.touched ≡ no_slots }
@@ -120,7 +119,7 @@ impl Plain {
     }
 }
 
-/// Registers with bits of pending word 1 set besides.
+/// Registers with more bits of pending word 1 set.
 pub(crate) fn with_bits(job: Job, bits: u32) -> Job
     ensures { result ≡ with_pending job bits }
 {

@@ -15,9 +15,9 @@ use its_core::Core;
 use its_word::{MAPPED_PAGES, NoAccess, Refusal, Word};
 
 impl Plain {
-    /// The words of an a/ line of the job of a slot, from an address on: absent pages are made, writable and of zeros. NoJob where the
-    /// slot is empty; ReadOnly where a word is on a page that is so; Full where more than 1024 pages would be mapped. A line that is
-    /// refused stores none of its words.
+    /// The words of an a/ line of the job of a slot, from an address on: absent pages are made, writable and of zeros. NoJob if the
+    /// slot is empty; ReadOnly if a word is on a read-only page; Full if more than 1024 pages would be mapped. A line that is refused
+    /// stores none of its words.
     pub fn load_words(&mut self, slot: u8, a: u32, words: &[Word]) -> Result<(), Refusal>
         requires slot { slot < slots }
         requires some { 1 ≤ length words.now }
@@ -43,7 +43,7 @@ impl Plain {
         Ok(())
     }
 
-    /// Stores words of a slot that has a job, from an address on, in their order, where there is room for the pages that they make.
+    /// Stores words of a slot that has a job, from an address on, in their order, if there is room for the pages that they make.
     #[tactic(auto, using(crate::proofs::LoadedLaws::storing_starts, crate::proofs::LoadedLaws::storing_ends))]
     fn store_words(&mut self, slot: u8, a: u32, words: &[Word])
         requires slot { slot < slots }
@@ -60,7 +60,7 @@ impl Plain {
         }
     }
 
-    /// One word of an a/ line of a slot that has a job, where there is room for it: an absent page is made, writable and of zeros.
+    /// One word of an a/ line of a slot that has a job, if there is room for it: an absent page is made, writable and of zeros.
     fn load_word(&mut self, slot: u8, a: u32, w: Word)
         requires slot { slot < slots }
         requires address { a < 2 ^ 18 }

@@ -14,7 +14,7 @@ use Rattle.its_files.specs.declared.entry.Parts.TheVariants.{Replace, Link, Free
 use Rattle.its_files.specs.declared.entry.Mark.{Mark}
 use Rattle.its_files.specs.Blocks.{Stored, text_at, given_up, numbers}
 use Rattle.its_files.specs.Files.{Store, entry_at, entry_in, is_file, is_draft, names_by, names_at, words_by, words_at, unlinked_old, with_file, with_draft, with_word, discarded, deleted, renamed, with_readers, marked_with, helped, marked_draft, unlinked, linked, freed, found, file_at, directory, plain_directory, readers_by, file_names_by, draft_file_by, is_marked, But, IsFiles}
-use Rattle.its_files.proofs.OrderLaws.{same_sym, same_refl, same_self}
+use Rattle.its_word.proofs.NamesLaws.{same_sym, same_refl, same_self}
 use Rattle.its_files.proofs.EntryLaws.{within, file_stands, draft_no_file, draft_stands, found_file, found_fresh, ordered, count_other}
 
 -- what follows from what holds at an Ok

@@ -16,7 +16,7 @@ use Rattle.its_files.specs.Blocks.{text_at, numbers, most_drafts}
 use Rattle.its_word.specs.Directory.{same_names}
 use Rattle.its_files.specs.Files.{entry_in, is_file, is_draft, names_by, readers_by, found_by, found_in, one_if, to_come, unlinked_old, marked_draft, after_link, Replaces, Gone, Links_to, Owes, Marked, IsFiles}
 use Rattle.its_files.proofs.ChainLaws.{count-at}
-use Rattle.its_files.proofs.OrderLaws.{same_sym, same_both}
+use Rattle.its_word.proofs.NamesLaws.{same_sym, same_both}
 use Rattle.its_word.specs.Table.{filled}
 use Rattle.its_word.proofs.TableLaws.{length-filled, get_or-filled}
 

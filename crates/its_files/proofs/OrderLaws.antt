@@ -1,13 +1,12 @@
 -- Numbers that stand in an order, and free ones.
-use Rattle.std.specs.Prelude.{◌≡◌, ◌≢◌, ◌<◌, ◌≤◌, ℕ, suc, ◌+◌, true, cond, ◌&&◌, eqb, Option, Some, None, is_some, List, [], ◌∷◌, ◌++◌, length, take, drop, count_by, slice_get, slice_index_or, refl}
+use Rattle.std.specs.Prelude.{◌≡◌, ◌≢◌, ◌<◌, ◌≤◌, ℕ, suc, ◌+◌, true, cond, Option, Some, None, is_some, List, [], ◌∷◌, ◌++◌, length, take, drop, count_by, slice_get, slice_index_or, refl}
 use Rattle.std.specs.List.{remove}
 use Rattle.std.proofs.Common.{sym, ◌∙◌, ap, inl, inr, arith}
-use Rattle.std.proofs.lemmas.Bool.{cases_lt, cases_Bool, both_ways, eqb-true, eq-eqb, and_parts, and_from}
+use Rattle.std.proofs.lemmas.Bool.{cases_lt}
 use Rattle.std.proofs.lemmas.List.{take_more, take_all}
 use Rattle.std.proofs.lemmas.List.Sums.{sum_by-cons}
 use Rattle.its_links.specs.Lists.{count, without}
 use Rattle.its_links.proofs.CountLaws.{hit_other, count-append, without_split}
-use Rattle.its_word.specs.Directory.{same_names}
 use Rattle.its_files.proofs.ChainLaws.{behind}
 
 pub count_none : (x : ℕ) (xs : List ℕ) → count x (take 0 xs) ≡ 0
@@ -42,59 +41,4 @@ pub some_free : {X : Type 0} (es : List (Option X)) (n : ℕ) → n ≤ length e
 some_free es n h each few = elim (cases_lt n (length es)) [
   | inl lt ↦ lt
   | inr ge ↦ let r = all_used es (λ k lt. each k (omega arith)) in absurd (omega arith)
-]
-
--- names that are the same
-pub record Alike (a b : List ℕ) : Type 0 where
-  pub directory : slice_index_or a 0 0 ≡ slice_index_or b 0 0
-  pub first : slice_index_or a 1 0 ≡ slice_index_or b 1 0
-  pub second : slice_index_or a 2 0 ≡ slice_index_or b 2 0
-
-pub alike : (a b : List ℕ) → same_names a b ≡ true → Alike a b
-unfolding same_names
-alike a b e =
-    let p = and_parts (eqb (slice_index_or a 0 0) (slice_index_or b 0 0)) (eqb (slice_index_or a 1 0) (slice_index_or b 1 0) && eqb (slice_index_or a 2 0) (slice_index_or b 2 0)) e in
-    let q = and_parts (eqb (slice_index_or a 1 0) (slice_index_or b 1 0)) (eqb (slice_index_or a 2 0) (slice_index_or b 2 0)) p.1 in
-    record {
-      directory = eqb-true (slice_index_or a 0 0) (slice_index_or b 0 0) p.0;
-      first = eqb-true (slice_index_or a 1 0) (slice_index_or b 1 0) q.0;
-      second = eqb-true (slice_index_or a 2 0) (slice_index_or b 2 0) q.1;
-    }
-
-same : (a b : List ℕ) → Alike a b → same_names a b ≡ true
-unfolding same_names
-same a b h =
-    and_from (eqb (slice_index_or a 0 0) (slice_index_or b 0 0)) (eqb (slice_index_or a 1 0) (slice_index_or b 1 0) && eqb (slice_index_or a 2 0) (slice_index_or b 2 0))
-    (eq-eqb (slice_index_or a 0 0) (slice_index_or b 0 0) h.directory)
-    (and_from (eqb (slice_index_or a 1 0) (slice_index_or b 1 0)) (eqb (slice_index_or a 2 0) (slice_index_or b 2 0)) (eq-eqb (slice_index_or a 1 0) (slice_index_or b 1 0) h.first) (eq-eqb (slice_index_or a 2 0) (slice_index_or b 2 0) h.second))
-
-pub same_three : (a b : List ℕ) → length a ≡ 3 → length b ≡ 3 → same_names a b ≡ true → b ≡ a
-same_three (a ∷ b ∷ c ∷ []) (x ∷ y ∷ z ∷ []) l m e = let p = alike (a ∷ b ∷ c ∷ []) (x ∷ y ∷ z ∷ []) e in λ i. sym p.directory i ∷ sym p.first i ∷ sym p.second i ∷ []
-same_three (a ∷ b ∷ c ∷ []) [] l m e = absurd (omega (arith, m))
-same_three (a ∷ b ∷ c ∷ []) (x ∷ []) l m e = absurd (omega (arith, m))
-same_three (a ∷ b ∷ c ∷ []) (x ∷ y ∷ []) l m e = absurd (omega (arith, m))
-same_three (a ∷ b ∷ c ∷ []) (x ∷ y ∷ z ∷ w ∷ ws) l m e = absurd (omega (arith, m))
-same_three _ b l m e = absurd (omega (arith, l))
-
-pub same_sym : (a b : List ℕ) → same_names a b ≡ true → same_names b a ≡ true
-same_sym a b e = let p = alike a b e in same b a (record { directory = sym p.directory; first = sym p.first; second = sym p.second })
-
--- two that are the same as a third
-pub same_both : (a b c : List ℕ) → same_names a b ≡ true → same_names a c ≡ true → same_names b c ≡ true
-same_both a b c e f =
-    let p = alike a b e in
-    let q = alike a c f in
-    same b c (record { directory = sym p.directory ∙ q.directory; first = sym p.first ∙ q.first; second = sym p.second ∙ q.second })
-
-pub same_refl : (a : List ℕ) → same_names a a ≡ true
-same_refl a = same a a (record { directory = refl; first = refl; second = refl })
-
--- names that are the same are so to all others
-pub same_self : (a b c : List ℕ) → same_names a b ≡ true → same_names a c ≡ same_names b c
-same_self a b c e = elim (cases_Bool (same_names a c)) [
-  | inl t ↦ t ∙ sym (same_both a b c e t)
-  | inr f ↦ elim (cases_Bool (same_names b c)) [
-    | inl t ↦ absurd (both_ways (same_names a c) f (same_both b a c (same_sym a b e) t))
-    | inr g ↦ f ∙ sym g
-  ]
 ]

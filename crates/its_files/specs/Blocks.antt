@@ -1,5 +1,6 @@
 -- How the words of files and drafts are kept: 2048 blocks of 128 words, a list of the free blocks, and for each number of a
 -- file or draft the list of its blocks, in the order of its words.
+-- No promise rests on this.
 use Rattle.std.specs.Prelude.{◌≡◌, ◌<◌, ◌≤◌, ℕ, ◌+◌, ◌-◌, ◌*◌, ◌/◌, ◌%◌, Bool, true, false, ◌&&◌, eqb, Option, Some, None, List, [], ◌∷◌, ◌++◌, length, take, replicate, sum_by, slice_set, slice_get, slice_index_or}
 use Rattle.its_links.specs.Lists.{Linked, list_at, rest}
 use Rattle.its_files.specs.declared.blocks.Place.{Place}
@@ -45,7 +46,7 @@ blocks_for n = (n + 127) / 128
 abbrev pub blocks_used : Stored → ℕ
 blocks_used s = sum_by (λ t. blocks_for (length t)) s.texts
 
--- whether a word behind n words needs a block
+-- whether a word after n words needs a block
 abbrev pub needs_block : ℕ → Bool
 needs_block n = eqb (n % 128) 0
 
@@ -57,7 +58,7 @@ is_full s id = needs_block (length (text_at s.texts id)) && eqb (blocks_used s) 
 abbrev pub words_left : ℕ → ℕ
 words_left n = (block_words - n % block_words) % block_words
 
--- for how many words more there is room behind a text: in its last block, and in all blocks that are not in use
+-- for how many more words there is room after a text: in its last block, and in all blocks that are not in use
 unfoldable pub room_behind : Stored → ℕ → ℕ
 room_behind s id = words_left (length (text_at s.texts id)) + block_words * (blocks - blocks_used s)
 

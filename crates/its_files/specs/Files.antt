@@ -1,5 +1,5 @@
--- The store of files as contracts see it: what stands under each number, the order of the files, the close that is half made,
--- and the words.
+-- The store of files as contracts see it: the entry of each number, the order of the files, the close that is half made, and the words.
+-- No promise rests on this.
 use Rattle.std.specs.Prelude.{◌≡◌, ◌<◌, ◌≤◌, ◌≢◌, ℕ, suc, zero, ◌+◌, Bool, true, false, cond, eqb, nat_lt, Option, Some, None, Result, Ok, Err, List, [], ◌∷◌, ◌++◌, length, map, count_by, slice_set, slice_index_or}
 use Rattle.its_links.specs.Lists.{count, without}
 use Rattle.its_word.specs.declared.calls.Owed.{Owed}
@@ -27,7 +27,7 @@ pub record Store : Type 0 where
   pub mark : Option Mark
   pub stored : Stored
 
--- what stands under a number
+-- the entry of a number
 abbrev pub entry_in : List (Option Entry) → ℕ → Option Entry
 entry_in entries id = slice_index_or entries id None
 
@@ -86,7 +86,7 @@ found_in entries names (id ∷ ids) = found_by (same_names names (names_by (entr
 abbrev pub found : Store → List ℕ → Option ℕ
 found s names = found_in s.entries names s.order
 
--- nothing stands
+-- no entry
 abbrev pub no_files : Store
 no_files = record { entries = filled numbers None; order = []; mark = None; stored = nothing_stored }
 
@@ -158,7 +158,7 @@ close_by None s slot id = close_new (nat_lt (length s.order) most_files) s slot 
 abbrev pub close : Store → ℕ → ℕ → Result Store CloseFault
 close s id slot = close_by (found s (names_at s id)) s slot id
 
--- the parts that are owed, in order
+-- the pending parts, in order
 abbrev pub parts_owed : Parts → List Owed
 parts_owed (Replace old draft) = Unlinks ∷ Links ∷ Frees ∷ []
 parts_owed (Link (Some old) draft) = Links ∷ Frees ∷ []
@@ -169,7 +169,7 @@ abbrev pub owed : Option Mark → List Owed
 owed None = []
 owed (Some m) = parts_owed m.parts
 
--- the old file is unlinked, where that is the first part that is owed
+-- the old file is unlinked, if that is the first pending part
 abbrev pub unlinked_by : Parts → ℕ → Store → Store
 unlinked_by (Replace old draft) owner s = record s {
   entries = slice_set s.entries old None;
@@ -186,7 +186,7 @@ unlinked_at (Some m) s = unlinked_by m.parts m.owner s
 abbrev pub unlinked : Store → Store
 unlinked s = unlinked_at s.mark s
 
--- the draft becomes the last file, where that is the first part that is owed
+-- the draft becomes the last file, if that is the first pending part
 abbrev pub after_link : Option ℕ → ℕ → Option Mark
 after_link None owner = None
 after_link (Some old) owner = Some (record { owner = owner; parts = Free old })
@@ -207,7 +207,7 @@ linked_at (Some m) s = linked_by m.parts m.owner s
 abbrev pub linked : Store → Store
 linked s = linked_at s.mark s
 
--- the blocks of the old file become free, where that is the first part that is owed
+-- the blocks of the old file become free, if that is the first pending part
 abbrev pub freed_by : Parts → Store → Store
 freed_by (Replace old draft) s = s
 freed_by (Link old draft) s = s
@@ -220,7 +220,7 @@ freed_at (Some m) s = freed_by m.parts s
 abbrev pub freed : Store → Store
 freed s = freed_at s.mark s
 
--- all parts that are owed are made
+-- all pending parts are performed
 abbrev pub helped : Store → Store
 helped s = freed (linked (unlinked s))
 
@@ -231,7 +231,7 @@ file_at s id = record { names = names_at s id; words = words_at s id }
 abbrev pub directory : Store → List PlainFile
 directory s = map (file_at s) s.order
 
--- the files as the plain machine has them: with all parts made that are owed
+-- the files as the plain machine has them: with all pending parts performed
 abbrev pub plain_directory : Store → List PlainFile
 plain_directory s = directory (helped s)
 

@@ -1,4 +1,5 @@
--- A store as it is made: every block is free, and no number has words.
+-- A store at its opening: every block is free, and no number has words.
+-- No promise rests on this.
 use Rattle.std.specs.Prelude.{◌+◌, ℕ, List, [], slice_set}
 use Rattle.std.specs.List.{range_with_len}
 use Rattle.its_links.specs.Lists.{no_lists}

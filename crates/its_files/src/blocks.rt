@@ -18,7 +18,7 @@ const BLOCK_WORDS: u32 = 128;
 /// each slot.
 pub(crate) const NUMBERS: u32 = 256 + 16 * SLOTS as u32;
 
-/// The list of the free blocks; that of a number stands behind it.
+/// The list of the free blocks; those of the numbers come after it.
 const FREE: u32 = 0;
 
 /// All blocks are in use.
@@ -73,8 +73,8 @@ fn all_free(alloc: Global, n: u32, heads: u32) -> Result<Links, NoMemory>
     Ok(links)
 }
 
-/// The block for the next word of a text: its last one, or where that has no room the first free one,
-/// which becomes its last.
+/// The block for the next word of a text: its last one, or if that has no room the first free one, which becomes its
+/// last.
 fn block_for(links: &mut Links, id: u32, count: u32, last: u32) -> Result<u32, Full>
     requires id { id < numbers }
     requires heads { length links.old.lists ≡ numbers + 1 }
@@ -93,8 +93,8 @@ fn block_for(links: &mut Links, id: u32, count: u32, last: u32) -> Result<u32, F
     Ok(block)
 }
 
-/// A place of a number from which the walk to a block goes on: the one that is kept, where that is on
-/// the way, else the first.
+/// A place of a number from which the walk to a block goes on: the one that is kept, if that is on the way, else the
+/// first.
 fn start(links: &Links, place: Option<Place>, id: u32, index: u32) -> Place
     requires number { id < numbers }
     requires heads { length links.now.lists ≡ numbers + 1 }
@@ -135,7 +135,7 @@ fn block_at(links: &Links, place: Option<Place>, id: u32, index: u32) -> u32
     block
 }
 
-/// Where a word of a block stands.
+/// The place of a word of a block.
 fn word_index(block: u32, k: u32) -> usize
     requires { block < blocks }
     ensures { result ≡ 128 * block + k % 128 }
@@ -143,7 +143,7 @@ fn word_index(block: u32, k: u32) -> usize
     (block * BLOCK_WORDS + k % BLOCK_WORDS) as usize
 }
 
-/// Puts a word into a block, whose words it makes ready where they are not.
+/// Puts a word into a block, whose words it makes ready if they are not.
 fn put_word(words: &mut ReadyWords, block: u32, k: u32, w: Word)
     requires block { block < blocks }
     requires most { words.old.most ≡ blocks * block_words }
@@ -217,7 +217,7 @@ impl Blocks {
         }
     }
 
-    /// A word more at the end of a number's words. Full where it needs a block and all are in use.
+    /// One more word at the end of a number's words. Full if it needs a block and all are in use.
     #[tactic(auto, using(crate::proofs::BlockLaws::length_is))]
     pub(crate) fn append(&mut self, id: u32, w: Word) -> Result<(), Full>
         requires { id < numbers }

@@ -9,7 +9,7 @@ use super::entry::{Entry, Mark, Parts};
 use arrayvec::ArrayVec;
 use its_word::{Owed, Word};
 
-/// What stands under a number.
+/// The entry of a number.
 pub(crate) fn entry_in(entries: &[Option<Entry>], id: u32) -> Option<Entry>
     ensures { result ≡ slice_index_or entries.now id None }
 {
@@ -39,7 +39,7 @@ pub(crate) fn directory_of(names: &[Word]) -> Word
     names[0]
 }
 
-/// Whether it is a file that stands.
+/// Whether it is a file.
 pub(crate) fn is_file(entry: Option<Entry>) -> bool
     ensures { result ≡ stands_as_file entry }
 {
@@ -72,7 +72,7 @@ pub(crate) fn readers_of(entry: Option<Entry>) -> u32
     }
 }
 
-/// What is owed of a slot's close once its draft is linked: the blocks of an old file are to be freed.
+/// What is pending of a slot's close once its draft is linked: the blocks of an old file are to be freed.
 pub(crate) fn after_link(old: Option<u32>, owner: u8) -> Option<Mark>
     ensures { result ≡ mark_after_link old owner }
 {
@@ -100,7 +100,7 @@ pub(crate) fn number_at(order: &[u32], k: u32) -> Option<u32>
 }
 
 /// The first of some numbers whose file has these names.
-#[tactic(auto, using(crate::proofs::OrderLaws::same_three))]
+#[tactic(auto, using(its_word::proofs::NamesLaws::same_three))]
 pub(crate) fn found_in(entries: &[Option<Entry>], order: &[u32], names: [Word; 3]) -> Option<u32>
     requires { (id : ℕ) → 0 < count id order.now → is_some (slice_index_or entries.now id None) ≡ true }
     ensures found { result ≡ first_found entries.now names order.now }
@@ -128,7 +128,7 @@ pub(crate) fn count_drafts(entries: &[Option<Entry>]) -> u32
     count
 }
 
-/// A number under which nothing stands.
+/// A number without an entry.
 #[tactic(auto, using(crate::proofs::OrderLaws::some_free))]
 pub(crate) fn free_number(entries: &[Option<Entry>]) -> u32
     requires some { count_by is_some entries.now < length entries.now }
@@ -157,7 +157,7 @@ fn place_of(order: &[u32], id: u32) -> Option<usize>
     None
 }
 
-/// Takes a number out of some, among which it stands once at most.
+/// Takes a number out of some, among which it occurs once at most.
 #[tactic(auto, using(crate::proofs::OrderLaws::removed, its_links::proofs::CountLaws::without_none))]
 pub(crate) fn take_out(order: &mut ArrayVec<u32, 256>, id: u32)
     requires { count id order.old.items ≤ 1 }
@@ -168,7 +168,7 @@ pub(crate) fn take_out(order: &mut ArrayVec<u32, 256>, id: u32)
     }
 }
 
-/// The parts that are owed, in order.
+/// The pending parts, in order.
 pub(crate) fn parts_owed(parts: Parts) -> ArrayVec<Owed, 3>
     ensures { result.items ≡ parts_owed parts }
 {

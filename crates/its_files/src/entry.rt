@@ -1,14 +1,14 @@
 use its_word::Word;
 
-/// A file that stands, or a draft: its directory and its two names, and how many channels read a file.
+/// A file, or a draft: its directory and its two names, and how many channels read a file.
 #[derive(Clone, Copy, Debug)]
 pub enum Entry {
     File { names: [Word; 3], readers: u32 },
     Draft { names: [Word; 3] },
 }
 
-/// The parts of a close that are still owed, with the number of the draft that becomes a file and
-/// that of the file that it replaces, where there is one.
+/// The pending parts of a close, with the number of the draft that becomes a file and that of the file that it
+/// replaces, if there is one.
 #[derive(Clone, Copy, Debug)]
 pub enum Parts {
     /// The old file is to be unlinked, the draft linked, and the old file's blocks freed.
@@ -19,7 +19,7 @@ pub enum Parts {
     Free { old: u32 },
 }
 
-/// A close that is half made: the slot that stands in it, and what is owed.
+/// A close that is half made: the slot that is in it, and what is pending.
 #[derive(Clone, Copy, Debug)]
 pub struct Mark {
     pub owner: u8,

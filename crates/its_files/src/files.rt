@@ -53,10 +53,9 @@ impl Files {
         })
     }
 
-    /// Does nothing, and says what holds of all files and drafts: each block is free or in use, each file
-    /// stands once in the order, no two files have the same names, and of a mark that its draft
-    /// stands, and that nobody reads the file that it replaces. `whole` is all that holds of entries, order,
-    /// mark and words together.
+    /// Does nothing, and says what holds of all files and drafts: each block is free or in use, each file is in the
+    /// order once, no two files have the same names, and for a mark, its draft exists, and nobody reads the file that
+    /// it replaces. `whole` is all that holds of entries, order, mark and words together.
     pub fn seen(&self)
         ensures blocks { length (free_blocks self.now.stored.chains) + blocks_used self.now.stored ≡ blocks }
         ensures files { length self.now.order ≤ most_files }
@@ -70,7 +69,7 @@ impl Files {
         self.blocks.seen();
     }
 
-    /// The number of the file with a directory and two names; None where there is none.
+    /// The number of the file with a directory and two names; None if there is none.
     pub fn find(&self, d: Word, x: Word, y: Word) -> Option<u32>
         ensures found { result ≡ found self.now (d ∷ x ∷ y ∷ []) }
         ensures file { IfSome result (λ id. is_file (entry_at self.now id) ≡ true) }
@@ -87,21 +86,21 @@ impl Files {
         number_at(self.order.as_slice(), k)
     }
 
-    /// Whether a file stands under a number.
+    /// Whether a file has a number.
     pub fn is_file(&self, id: u32) -> bool
         ensures { result ≡ is_file (entry_at self.now id) }
     {
         directory::is_file(entry_in(&self.entries, id))
     }
 
-    /// Whether a draft stands under a number.
+    /// Whether a draft has a number.
     pub fn is_draft(&self, id: u32) -> bool
         ensures { result ≡ is_draft (entry_at self.now id) }
     {
         directory::is_draft(entry_in(&self.entries, id))
     }
 
-    /// How many channels read a file; 0 where there is none.
+    /// How many channels read a file; 0 if there is none.
     pub fn readers(&self, id: u32) -> u32
         ensures { result ≡ readers_at self.now id }
     {
@@ -131,7 +130,7 @@ impl Files {
         self.blocks.length(id)
     }
 
-    /// The k-th word of a file or a draft, from 0; None past the last, and where there is none.
+    /// The k-th word of a file or a draft, from 0; None past the last, and if there is none.
     pub fn word_at(&self, id: u32, k: u32) -> Option<Word>
         ensures { result ≡ slice_get (words_at self.now id) k }
     {
@@ -147,7 +146,7 @@ impl Files {
         self.blocks.seek(id, k);
     }
 
-    /// The slot that stands in the close that is half made.
+    /// The slot that is in the close that is half made.
     pub fn owner(&self) -> Option<u8>
         ensures owner { result ≡ option_map (λ m. m.owner) self.now.mark }
         ensures unmarked { result ≡ None → self.now.mark ≡ None }
@@ -179,7 +178,7 @@ impl Files {
         self.order.len() as u32
     }
 
-    /// The parts of a half made close that are still owed, in order.
+    /// The pending parts of a half made close, in order.
     pub fn owed(&self) -> ArrayVec<Owed, 3>
         ensures { result.items ≡ owed self.now.mark }
     {
@@ -226,7 +225,7 @@ impl Files {
         id
     }
 
-    /// A word more at the end of a file or a draft. Full where it needs a block and all are in use.
+    /// One more word at the end of a file or a draft. Full if it needs a block and all are in use.
     pub fn append(&mut self, id: u32, w: Word) -> Result<(), Full>
         requires stands { is_some (entry_at self.old id) ≡ true }
         requires unmarked { self.old.mark ≡ None }
@@ -256,7 +255,7 @@ impl Files {
         self.blocks.give_up(id);
     }
 
-    /// Deletes a file. Locked where a channel reads it.
+    /// Deletes a file. Locked if a channel reads it.
     pub fn delete(&mut self, id: u32) -> Result<(), Locked>
         requires file { is_file (entry_at self.old id) ≡ true }
         requires unmarked { self.old.mark ≡ None }
@@ -276,8 +275,8 @@ impl Files {
         Ok(())
     }
 
-    /// Gives a file two other names in its directory, where it keeps its place. Locked where a channel
-    /// reads it, Exists where a file has these names.
+    /// Gives a file two other names in its directory; it keeps its place. Locked if a channel reads it, Exists if a
+    /// file has these names.
     pub fn rename(&mut self, id: u32, x: Word, y: Word) -> Result<(), RenameFault>
         requires file { is_file (entry_at self.old id) ≡ true }
         requires unmarked { self.old.mark ≡ None }
@@ -328,8 +327,8 @@ impl Files {
         self.entries[id as usize] = Some(Entry::File { names, readers });
     }
 
-    /// Marks the close of a draft by a slot. Locked where a channel reads the file that it would
-    /// replace, NoRoom where it replaces none and there are 256 files.
+    /// Marks the close of a draft by a slot. Locked if a channel reads the file that it would replace, NoRoom if it
+    /// replaces none and there are 256 files.
     pub fn begin_close(&mut self, id: u32, slot: u8) -> Result<(), CloseFault>
         requires draft { is_draft (entry_at self.old id) ≡ true }
         requires unmarked { self.old.mark ≡ None }
@@ -363,7 +362,7 @@ impl Files {
         Ok(())
     }
 
-    /// Unlinks the old file, where that is the first part that is owed.
+    /// Unlinks the old file, if that is the first pending part.
     #[tactic(auto, using(crate::proofs::DirectoryLaws::plain_unlinked_is))]
     pub fn unlink_old(&mut self)
         ensures made { self.new ≡ unlinked self.old }
@@ -385,7 +384,7 @@ impl Files {
         }
     }
 
-    /// Makes the draft the last file, where that is the first part that is owed.
+    /// Makes the draft the last file, if that is the first pending part.
     #[tactic(auto, using(crate::proofs::DirectoryLaws::plain_linked_is))]
     pub fn link_new(&mut self)
         ensures made { self.new ≡ linked self.old }
@@ -402,7 +401,7 @@ impl Files {
         }
     }
 
-    /// Frees the blocks of the old file, where that is the first part that is owed.
+    /// Frees the blocks of the old file, if that is the first pending part.
     #[tactic(auto, using(crate::proofs::DirectoryLaws::plain_freed_is))]
     pub fn free_old(&mut self)
         ensures made { self.new ≡ freed self.old }
@@ -417,7 +416,7 @@ impl Files {
         }
     }
 
-    /// Makes all parts that are owed.
+    /// Performs all pending parts.
     #[tactic(auto, using(crate::proofs::DirectoryLaws::helped_unmarked))]
     pub fn help(&mut self)
         ensures made { self.new ≡ helped self.old }

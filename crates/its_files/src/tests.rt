@@ -124,7 +124,7 @@ fn row(rt: &impl Abort, files: &Files, k: u32, want: Option<(u32, u32, u32)>) {
     }
 }
 
-/// The first two files in order, and none behind them where one of these is not there.
+/// The first two files in order, and none after them if one of these is not there.
 fn rows(rt: &impl Abort, files: &Files, want: [Option<(u32, u32, u32)>; 3]) {
     let [a, b, c] = want;
     row(rt, files, 0, a);

@@ -1,4 +1,5 @@
 -- The calls of the monitor, and what is asked of a call by its name alone (docs/CALLS.md, "The calls").
+-- A promise rests on this.
 use Rattle.std.specs.Prelude.{◌==◌, ℕ, true, false, List, [], ◌∷◌, Option, Some, None}
 use Rattle.std.specs.List.{find}
 use Rattle.its_frame.specs.declared.name.CallName.{CallName}

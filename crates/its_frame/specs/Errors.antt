@@ -1,4 +1,5 @@
 -- The error numbers of calls (docs/CALLS.md, "How a call ends").
+-- A promise rests on this.
 use Rattle.std.specs.Prelude.{ℕ}
 
 -- no such call

@@ -1,11 +1,12 @@
 -- How many steps of unwinding a frame is from user mode (docs/STEPS.md, "Unwinding").
+-- No promise rests on this.
 use Rattle.std.specs.Prelude.{◌≤◌, ℕ, ◌+◌, Bool, true, Option, Some, None, length, count_by}
 use Rattle.its_word.specs.declared.calls.Owed.{Owed}
 use Rattle.its_word.specs.declared.calls.Owed.TheVariants.{Store, GiveBack, Unlink, Link, Free, Leave}
 use Rattle.its_frame.specs.declared.frame.Frame.{Frame}
 use Rattle.its_frame.specs.declared.frame.Frame.TheVariants.{Entered, Parsed, Asked, Holding, Waiting, Moving, Ending}
 
--- a file step is still to be made only where the frame's file steps are owed; any other step always is
+-- a file step is still to be performed only if the frame's file steps are pending; any other step always is
 abbrev pub is_made_by : Bool → Owed → Bool
 is_made_by marked (Store a w) = true
 is_made_by marked GiveBack = true
@@ -29,7 +30,7 @@ left_of marked (Waiting f) = f.owes + 1
 left_of marked (Moving f) = 4
 left_of marked (Ending f) = count_by (is_made_by marked) f.owed.items
 
--- a frame that owes so little that four steps of unwinding are enough
+-- a frame whose pending steps are so few that four steps of unwinding are enough
 abbrev pub Few : Frame → Type 0
 Few (Entered f) = Unit {0}
 Few (Parsed f) = Unit {0}

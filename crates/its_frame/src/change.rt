@@ -47,7 +47,7 @@ pub enum Change {
     Take {
         console: u8,
     },
-    /// A byte is put behind a console's output.
+    /// A byte is put at the end of a console's output.
     Put {
         console: u8,
         byte: u8,

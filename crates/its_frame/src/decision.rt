@@ -14,7 +14,8 @@ pub enum Wait {
     Drained(u8),
 }
 
-/// A byte or word that was taken and is not yet stored, as it was taken, and the address of its word.
+/// A byte or word that was taken and is not yet stored, in the form in which it was taken, and the address of its
+/// word.
 #[derive(Clone, Copy, Debug, PartialEq, Eq)]
 pub struct Held {
     pub place: u32,

@@ -12,7 +12,7 @@ pub const BAD_CHANNEL: u8 = 0o4;
 pub const WRONG_DEVICE: u8 = 0o5;
 /// There is no such file.
 pub const NO_FILE: u8 = 0o6;
-/// As many files stand as there can be.
+/// There are as many files as there can be.
 pub const DIRECTORY_FULL: u8 = 0o7;
 /// There is no block for a word more.
 pub const DEVICE_FULL: u8 = 0o10;
@@ -22,7 +22,7 @@ pub const FILE_LOCKED: u8 = 0o11;
 pub const NO_JOB: u8 = 0o12;
 /// The job is no inferior of the caller.
 pub const NOT_INFERIOR: u8 = 0o13;
-/// No slot is free.
+/// No slot is empty.
 pub const NO_SLOT: u8 = 0o14;
 /// As many pages are there as there can be.
 pub const NO_CORE: u8 = 0o15;

@@ -51,7 +51,7 @@ pub struct Moving {
     pub byte: Word,
 }
 
-/// The call is decided, and these steps of it are owed, in order.
+/// The call is decided, and these steps are pending, in order.
 #[derive(Debug, PartialEq, Eq, Drop)]
 pub struct Ending {
     pub site: Site,
@@ -79,8 +79,8 @@ pub enum Standing {
 }
 
 impl Frame {
-    /// The number of unwinding steps to user mode, at most 4. `marked` says that the file steps of
-    /// this frame are still owed.
+    /// The number of unwinding steps to user mode, at most 4. `marked` says that the file steps of this frame are
+    /// still pending.
     pub fn left(&self, marked: bool) -> u8
         requires few { Few self.now }
         ensures value { result ≡ left_of marked self.now }
@@ -96,7 +96,7 @@ impl Frame {
     }
 }
 
-/// How many of these steps are owed: the file steps only where they are still owed.
+/// How many of these steps are pending: the file steps only if they are still pending.
 fn owed_left(owed: &[Owed], marked: bool) -> u8
     requires few { length owed.now ≤ 4 }
     ensures value { result ≡ count_by (is_made_by marked) owed.now }

@@ -7,11 +7,12 @@ use Rattle.std.proofs.lemmas.Bool.Decides.{nat_tests}
 use Rattle.std.proofs.lemmas.List.{length-append}
 use Rattle.std.proofs.lemmas.List.Elements.{All-append, All-cons, All-head, All-nil, All-tail}
 use Rattle.std.proofs.lemmas.List.Sums.{count_by-le-length}
+use Rattle.its_word.proofs.FreeLaws.{no_job_at_all}
 use Rattle.its_word.specs.Item.{Item, Read}
 use Rattle.its_word.specs.Limits.{limit_of, most_pages, most_symbols, slots}
 use Rattle.its_word.specs.Only.{Only}
 use Rattle.its_word.specs.Core.{Core, can_store, no_core, pages_mapped, pages_present, word_at}
-use Rattle.its_word.specs.Tree.{free_from, fresh_job, least_free}
+use Rattle.its_word.specs.Tree.{free_from, fresh_job, least_free, no_job}
 use Rattle.its_word.specs.declared.jobs.Job.{Job}
 use Rattle.its_word.specs.declared.session.Event.{Event}
 use Rattle.its_word.specs.declared.session.Event.TheVariants as events
@@ -19,13 +20,14 @@ use Rattle.its_word.specs.declared.session.Reason.{Reason}
 use Rattle.its_word.proofs.PageLaws.{pages_mapped-none, pages_mapped-only, pages_present-no_core}
 use Rattle.its_print.specs.Printing.{Line}
 use Rattle.its_print.specs.Printing as printed
-use Rattle.its_plain.specs.Machine.{Machine, Whole, changed, core_of, limit, mapped, no_machine, whole, with_job}
+use Rattle.its_plain.specs.Machine.{Machine, Whole, changed, core_of, limit, mapped, no_machine, whole, with_job, with_new}
 use Rattle.its_plain.specs.Operator.{Block, Does, Operated, Quits, and_then, no_block, nobody, only}
 use Rattle.its_plain.specs.OperatorJobs.{any_barred, is_barred, loaded, loaded_in, new_job, on_registers, started, stored, with_core, with_holder, word_loaded, words_loaded, words_loaded_if, words_stored}
 use Rattle.its_plain.specs.OperatorSymbols.{symbol_kept, symbol_kept_if}
 use Rattle.its_plain.specs.OperatorVersion.{versioned}
 use Rattle.its_plain.specs.OperatorLines.{Lined, Done, lined, operate}
-use Rattle.its_plain.specs.Transcript.{Ended, Fate, Shows, Transcript, Walk, at_start, end_line, next_line, obeyed_line, walk_after}
+use Rattle.its_plain.specs.Transcript.{Ended, Fate, Shows, Transcript, Walk, at_start, end_line, next_line, obeyed_line, walk_after, Turned, all_made}
+use Rattle.its_plain.specs.Turns.{highest, turns_asked, ticks_asked}
 use Rattle.its_plain.specs.Course.{Course, course, run_of}
 use Rattle.its_asm.specs.declared.assembly.Image.{Image}
 use Rattle.its_image.specs.Image.{CellFits, Fits, rises, rises_from}
@@ -37,8 +39,8 @@ use Rattle.its_image.proofs.SessionLaws.{session_whole}
 
 -- events that lead from one place of a session to another and show nothing
 record Ran (v w : Walk) (es : List Event) : Type 0 where
-  pub shows : (rest : List Item) (lines : List Line) (fate : Fate) → Shows w rest lines fate → Shows v (map Read es ++ rest) lines fate
-  pub last : (rest : List Item) (lines : List Line) → (course v.machine v.block (map Read es ++ rest) lines).last ≡ (course w.machine w.block rest lines).last
+  pub shows : (rest : List Item) (lines : List Line) (fate : Fate) → Shows w highest rest lines fate → Shows v highest (map Read es ++ rest) lines fate
+  pub last : (rest : List Item) (lines : List Line) → (course v highest (map Read es ++ rest) lines).last ≡ (course w highest rest lines).last
 
 ran_none : (v : Walk) → Ran v v []
 ran_none v = record { shows = λ rest lines fate s. s; last = λ rest lines. refl }
@@ -51,14 +53,17 @@ ran_then : (u v w : Walk) (a b : List Event) → Ran u v a → Ran v w b → Ran
 ran_then u v w a b r s =
     let e : (rest : List Item) → map Read a ++ (map Read b ++ rest) ≡ map Read (a ++ b) ++ rest = λ rest. sym (append_assoc (map Read a) (map Read b) rest) ∙ ap (λ x. x ++ rest) (sym (map_append Read a b)) in
     record {
-      shows = λ rest lines fate t. subst (λ x. Shows u x lines fate) (e rest) (r.shows (map Read b ++ rest) lines fate (s.shows rest lines fate t));
-      last = λ rest lines. ap (λ x. (course u.machine u.block x lines).last) (sym (e rest)) ∙ r.last (map Read b ++ rest) lines ∙ s.last rest lines;
+      shows = λ rest lines fate t. subst (λ x. Shows u highest x lines fate) (e rest) (r.shows (map Read b ++ rest) lines fate (s.shows rest lines fate t));
+      last = λ rest lines. ap (λ x. (course u highest x lines).last) (sym (e rest)) ∙ r.last (map Read b ++ rest) lines ∙ s.last rest lines;
     }
 
-ran_one : (v : Walk) (e : Event) (n : Machine) (touched : ℕ → Bool) (b : Block) → lined v.machine v.block e ≡ Done (Does n [] touched b) → Ran v (next_line (walk_after v n touched b)) (e ∷ [])
-ran_one v e n touched b h = record {
-  shows = λ rest lines fate s. obeyed_line h refl s;
-  last = λ rest lines. rw h refl;
+ran_one : (v : Walk) (e : Event) (n : Machine) (touched : ℕ → Bool) (b : Block) → turns_asked e ≡ 0 → lined v.machine v.block e ≡ Done (Does n [] touched b)
+    → Ran v (next_line (walk_after v n touched b)) (e ∷ [])
+ran_one v e n touched b none h = record {
+  shows = λ rest lines fate s.
+      (let w = next_line (walk_after v n touched b) in
+      obeyed_line h refl (subst (λ (k : ℕ). Turned (ticks_asked e) k w highest lines w highest lines) (sym none) all_made) s);
+  last = λ rest lines. rw (h, none) refl;
 }
 
 -- slot 0 has the job that is being loaded, and no other slot has one
@@ -191,7 +196,7 @@ row_led j symbols cells a ws v h l =
     let k = line_kept j symbols cells a ws v.machine h.holds l in (
       next_line (walk_after v k.machine (only v.block.slot) v.block),
       record { holds = k.holds; slot = h.slot },
-      ran_one v (events.Words a (record { items = ws })) k.machine (only v.block.slot) v.block (rw h.slot (rw k.is refl)),
+      ran_one v (events.Words a (record { items = ws })) k.machine (only v.block.slot) v.block refl (rw h.slot (rw k.is refl)),
     )
 
 -- all of them
@@ -277,7 +282,7 @@ symbol_led j symbols cells a x v h l =
         };
         slot = h.slot;
       },
-      ran_one v (events.Symbol x.0 x.1) n nobody v.block (rw (h.slot, h.holds.stage.here) (rw (ap (λ y. nat_lt (length y) most_symbols) h.holds.stage.symbols_are ∙ room) refl)),
+      ran_one v (events.Symbol x.0 x.1) n nobody v.block refl (rw (h.slot, h.holds.stage.here) (rw (ap (λ y. nat_lt (length y) most_symbols) h.holds.stage.symbols_are ∙ room) refl)),
     )
 
 symbols_led : (j : Job) (symbols cells more : List (ℕ × ℕ)) (a : ℕ) (v : Walk) → At j symbols cells a v → length symbols + length more ≤ 512 → Led j (symbols ++ more) cells v (symbol_lines more)
@@ -292,12 +297,19 @@ symbols_led j symbols cells (x ∷ more) a v h l =
 abbrev versioned_start : Walk
 versioned_start = next_line (walk_after at_start (record no_machine { version = 2 }) nobody no_block)
 
-version_ran : Ran at_start versioned_start (events.Version 2 ∷ [])
+empty_start : no_job no_machine.jobs ≡ true
+unfolding no_machine
+empty_start = no_job_at_all no_machine.jobs (λ k. refl)
+
+version_comes : lined at_start.machine at_start.block (events.Version 2) ≡ Done (Does (record no_machine { version = 2 }) [] nobody no_block)
 unfolding lined operate versioned
-version_ran = ran_one at_start (events.Version 2) (record no_machine { version = 2 }) nobody no_block refl
+version_comes = ap (λ b. Done (Does (if b then record no_machine { version = 2 } else no_machine) [] nobody no_block)) empty_start
+
+version_ran : Ran at_start versioned_start (events.Version 2 ∷ [])
+version_ran = ran_one at_start (events.Version 2) (record no_machine { version = 2 }) nobody no_block refl version_comes
 
 abbrev job_made : ℕ → ℕ → Option ℕ → Machine
-job_made u j con = with_holder (with_job (record no_machine { version = 2 }) 0 (new_job u j con)) 0 con
+job_made u j con = with_holder (with_new (record no_machine { version = 2 }) 0 (new_job u j con)) 0 con
 
 abbrev loaded_start : ℕ → ℕ → Option ℕ → Walk
 loaded_start u j con = next_line (walk_after versioned_start (job_made u j con) (only 0) (record no_block { slot = 0 }))
@@ -330,20 +342,20 @@ go_led j symbols cells a start v h =
         };
         slot = h.slot;
       },
-      ran_one v (events.Go start) n (only v.block.slot) v.block (rw h.slot (rw h.holds.stage.here refl)),
+      ran_one v (events.Go start) n (only v.block.slot) v.block refl (rw h.slot (rw h.holds.stage.here refl)),
     )
 
 -- the whole session
-end_shows : (v : Walk) → Shows v (Read events.End ∷ []) [] Ended
+end_shows : (v : Walk) → Shows v highest (Read events.End ∷ []) [] Ended
 unfolding lined operate
 end_shows v = end_line refl
 
-end_last : (v : Walk) (lines : List Line) → (course v.machine v.block (Read events.End ∷ []) lines).last ≡ v.machine
+end_last : (v : Walk) (lines : List Line) → (course v highest (Read events.End ∷ []) lines).last ≡ v.machine
 unfolding lined operate
 end_last v lines = refl
 
 load_last : (u j : ℕ) (con : Option ℕ) (es : List Item)
-    → (course versioned_start.machine versioned_start.block (Read (events.Load u j con) ∷ es) (printed.Loaded 0 ∷ [])).last ≡ (course (loaded_start u j con).machine (loaded_start u j con).block es []).last
+    → (course versioned_start highest (Read (events.Load u j con) ∷ es) (printed.Loaded 0 ∷ [])).last ≡ (course (loaded_start u j con) highest es []).last
 load_last u j con es = rw (load_comes u j con) refl
 
 record WholeSession (u j start : ℕ) (con : Option ℕ) (words symbols : List (ℕ × ℕ)) (es : List Event) : Type 0 where
@@ -368,9 +380,9 @@ whole_session u j start con words symbols f r few =
     let shown = inner.shows (Read events.End ∷ []) [] Ended (end_shows go.0) in
     let last = inner.last (Read events.End ∷ []) [] ∙ end_last go.0 [] in
     record {
-      shown = version_ran.shows (map Read (events.Load u j con ∷ lines)) (printed.Loaded 0 ∷ []) Ended (obeyed_line (load_comes u j con) refl (subst (λ x. Shows begin x [] Ended) tail shown));
+      shown = version_ran.shows (map Read (events.Load u j con ∷ lines)) (printed.Loaded 0 ∷ []) Ended (obeyed_line (load_comes u j con) refl all_made (subst (λ x. Shows begin highest x [] Ended) tail shown));
       core = go.1.holds.core;
-      stage = subst (λ m. Stage (started start made) go.1.holds.core symbols m) (sym (version_ran.last (map Read (events.Load u j con ∷ lines)) (printed.Loaded 0 ∷ []) ∙ load_last u j con (map Read lines) ∙ ap (λ x. (course begin.machine begin.block x []).last) (sym tail) ∙ last)) go.1.holds.stage;
+      stage = subst (λ m. Stage (started start made) go.1.holds.core symbols m) (sym (version_ran.last (map Read (events.Load u j con ∷ lines)) (printed.Loaded 0 ∷ []) ∙ load_last u j con (map Read lines) ∙ ap (λ x. (course begin highest x []).last) (sym tail) ∙ last)) go.1.holds.stage;
       has = go.1.holds.has;
     }
 

@@ -14,7 +14,8 @@ use Rattle.its_asm.specs.declared.layout.Stage.TheVariants.{After}
 use Rattle.its_asm.specs.Assembly.{Assembly, assembly, from_line, lines_of, nothing_made, onwards, with_line}
 use Rattle.its_asm.specs.declared.reason.AsmReason.{AsmReason}
 use Rattle.its_asm.specs.declared.reason.AsmReason.TheVariants.{Long}
-use Rattle.its_image.specs.Text.{Assembles, is_long, past_most, runs_past}
+use Rattle.its_image.specs.Past.{is_long, past_most, runs_past}
+use Rattle.its_image.specs.Text.{Assembles}
 
 -- a layout that is over
 abbrev over : Layout → Layout

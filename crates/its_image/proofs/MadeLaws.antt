@@ -14,7 +14,8 @@ use Rattle.its_image.specs.declared.source.Made.TheVariants as mades
 use Rattle.its_image.specs.declared.source.Unmade.{Unmade}
 use Rattle.its_image.specs.declared.source.Unmade.TheVariants as unmades
 use Rattle.its_image.specs.declared.text.Unread.TheVariants as unreads
-use Rattle.its_image.specs.Text.{Assembles, Gathered, StandsFor, runs_past}
+use Rattle.its_image.specs.Past.{runs_past}
+use Rattle.its_image.specs.Text.{Assembles, Gathered, StandsFor}
 use Rattle.its_image.specs.Made.{MadeFrom, EndsOf, IsSession, IsSessionOf, IsRefusal, MakesOf}
 use Rattle.its_image.specs.Written.{fault_line}
 
@@ -27,9 +28,9 @@ ends_by : (m : Result Made Unmade) (bytes text read : List ℕ) → MakesOf m (a
 ends_by (Ok (mades.Session t)) bytes text read m s =
     let session = subst (λ r. IsSession r t.items) s.1 m in (s.0, session, s.2 (assembles (assembly bytes) t.items session))
 ends_by (Ok (mades.Refusal l)) bytes text read m s = (s.0, subst (λ r. IsRefusal r l.items) s.1 m)
-ends_by (Err unmades.Failed) bytes text read m s = tt
+ends_by (Err unmades.Failed) bytes text read m s = absurd m
 ends_by (Err unmades.Beyond) bytes text read m s = absurd m
-ends_by (Err unmades.NoMemory) bytes text read m s = tt
+ends_by (Err unmades.NoMemory) bytes text read m s = s.0
 
 if_then : (left : Option (List ℕ)) (P Q : List ℕ → Type 0) → ((b : List ℕ) → P b → Q b) → IfSome left P → IfSome left Q
 if_then None P Q f h = tt
@@ -39,13 +40,13 @@ pub ends_made : (m : Result Made Unmade) (text : List ℕ) (left rest : Option (
 ends_made m text left rest g k = record { read = g.read; consumed = g.consumed; ends = if_then left _ _ (λ b s. ends_by m b text g.read k s) g.stands }
 
 pub ends_failed : (text : List ℕ) (left rest : Option (List ℕ)) → Gathered (Err unreads.Failed) text left rest → MadeFrom (Err unmades.Failed) left rest
-ends_failed text left rest g = record { read = g.read; consumed = g.consumed; ends = if_then left _ _ (λ b s. tt) g.stands }
+ends_failed text left rest g = record { read = g.read; consumed = g.consumed; ends = if_then left _ _ (λ b s. s) g.stands }
 
 pub ends_beyond : (text : List ℕ) (left rest : Option (List ℕ)) → Gathered (Err unreads.Beyond) text left rest → MadeFrom (Err unmades.Beyond) left rest
 ends_beyond text left rest g = record { read = g.read; consumed = g.consumed; ends = if_then left _ _ (λ b s. s) g.stands }
 
 pub ends_refused : (text : List ℕ) (left rest : Option (List ℕ)) → Gathered (Err unreads.NoMemory) text left rest → MadeFrom (Err unmades.NoMemory) left rest
-ends_refused text left rest g = record { read = g.read; consumed = g.consumed; ends = if_then left _ _ (λ b s. tt) g.stands }
+ends_refused text left rest g = record { read = g.read; consumed = g.consumed; ends = if_then left _ _ (λ b s. s) g.stands }
 
 -- what is made of an assembly
 pub makes_session : (i : Image) (t : Vec ℕ) (r : Result Image AsmFault) → r ≡ Ok i → IsSessionOf i t.items → MakesOf (Ok (mades.Session t)) r

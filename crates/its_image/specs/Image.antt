@@ -1,4 +1,5 @@
 -- What holds of each image: its numbers and names are such as lines of a session may have.
+-- No promise rests on this.
 use Rattle.std.specs.Prelude.{◌≡◌, ◌≤◌, ◌<◌, ◌^◌, ◌&&◌, ℕ, Bool, true, IfSome, List, [], ◌∷◌, All, length, nat_lt}
 use Rattle.its_asm.specs.declared.assembly.Image.{Image}
 use Rattle.its_session.specs.Fits.{IsNameWord}

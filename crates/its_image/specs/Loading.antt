@@ -1,4 +1,5 @@
 -- What the session of an image says, and the job that it makes (docs/ASM.md, "The command").
+-- A promise rests on this.
 use Rattle.std.specs.Prelude.{◌≡◌, ◌<◌, ◌/◌, ◌^◌, ◌&&◌, ◌||◌, ℕ, Bool, true, false, Option, Some, None, List, [], ◌∷◌, map, nat_eq, nat_le, nat_lt}
 use Rattle.std.specs.List.{list_any}
 use Rattle.std.specs.Map.{lookup}
@@ -14,7 +15,7 @@ use Rattle.its_plain.specs.Course.{run_of}
 use Rattle.its_asm.specs.declared.assembly.Image.{Image}
 use Rattle.its_image.specs.Written.{image_events, lines_text}
 
--- a word stands on this page; the accumulators stand on none
+-- a word is on this page; the accumulators are on none
 abbrev pub on_page : ℕ → ℕ × ℕ → Bool
 on_page k c = nat_le 16 c.0 && nat_eq k (c.0 / 1024)
 
@@ -22,7 +23,8 @@ on_page k c = nat_le 16 c.0 && nat_eq k (c.0 / 1024)
 abbrev pub has_page : List (ℕ × ℕ) → ℕ → Bool
 has_page cells k = list_any (on_page k) cells
 
--- what a core has at an address: the word that was given there, and else 0 in an accumulator and on a page on which words were given
+-- the contents of a core at an address: the word that was given there, and else 0 in an accumulator and on a page on which words were
+-- given
 abbrev pub word_by : Option ℕ → Bool → Option ℕ
 word_by (Some w) b = Some w
 word_by None true = Some 0

@@ -1,4 +1,5 @@
--- What the text of a source comes to (docs/ASM.md, "The command").
+-- The result of the text of a source (docs/ASM.md, "The command").
+-- No promise rests on this.
 use Rattle.std.specs.Prelude.{◌≡◌, ◌≤◌, ◌+◌, ◌^◌, ℕ, true, false, Option, IfSome, Result, Ok, Err, List, [], ◌∷◌, ◌++◌, All, length}
 use Rattle.std.specs.Io.KnownBytes.{Consumes}
 use Rattle.its_word.specs.declared.session.Event.{Event}
@@ -15,7 +16,8 @@ use Rattle.its_image.specs.declared.source.Made.{Made}
 use Rattle.its_image.specs.declared.source.Made.TheVariants as mades
 use Rattle.its_image.specs.declared.source.Unmade.{Unmade}
 use Rattle.its_image.specs.declared.source.Unmade.TheVariants as unmades
-use Rattle.its_image.specs.Text.{runs_past}
+use Rattle.its_reader.specs.Limits.{WithinLimits}
+use Rattle.its_image.specs.Past.{runs_past}
 use Rattle.its_image.specs.Written.{event_line, fault_line, image_events, lines_text, rows_from}
 
 -- an event's line is read as that event
@@ -36,13 +38,13 @@ pub record RowFits (row : Row) : Type 0 where
   pub few : length row.words.items ≤ 16
   pub within : row.start + length row.words.items ≤ 2 ^ 18
 
--- of the words behind those of a first row all but these were added, of which some stand in the row that is open
+-- of the words after those of a first row all but these were added, of which some are in the row that is open
 pub record RowsSo (first : Row) (all cells : List (ℕ × ℕ)) (row : Row) (old now : List ℕ) : Type 0 where
   pub done : List Event
   pub adds : Adds done old now
   pub whole : rows_from first.start first.words.items all ≡ done ++ rows_from row.start row.words.items cells
 
--- a word was added to the row that is open, which was added to the text where the word begins another one
+-- a word was added to the row that is open, which was added to the text if the word begins another one
 pub record AddsRow (row r : Row) (a w : ℕ) (old new : List ℕ) : Type 0 where
   pub done : List Event
   pub adds : Adds done old new
@@ -53,7 +55,7 @@ pub record IsSessionOf (i : Image) (text : List ℕ) : Type 0 where
   pub is : text ≡ lines_text (image_events i)
   pub reads : All ReadsBack (image_events i)
 
--- what an assembly comes to
+-- the result of an assembly
 abbrev pub IsSession : Result Image AsmFault → List ℕ → Type 0
 IsSession (Ok i) text = IsSessionOf i text
 IsSession (Err fault) text = ⊥
@@ -70,13 +72,13 @@ MakesOf (Err unmades.Failed) r = ⊥
 MakesOf (Err unmades.Beyond) r = ⊥
 MakesOf (Err unmades.NoMemory) r = Unit {0}
 
--- the text of these bytes comes to this, of which these were read
+-- the text of these bytes has this result, and these of the bytes were read
 abbrev pub EndsOf : Result Made Unmade → List ℕ → List ℕ → Type 0
 EndsOf (Ok (mades.Session text)) bytes read = (runs_past bytes ≡ false) × IsSession (assembly bytes) text.items × (read ≡ bytes)
 EndsOf (Ok (mades.Refusal line)) bytes read = (runs_past bytes ≡ false) × IsRefusal (assembly bytes) line.items
-EndsOf (Err unmades.Failed) bytes read = Unit {0}
+EndsOf (Err unmades.Failed) bytes read = WithinLimits read
 EndsOf (Err unmades.Beyond) bytes read = runs_past bytes ≡ true
-EndsOf (Err unmades.NoMemory) bytes read = Unit {0}
+EndsOf (Err unmades.NoMemory) bytes read = runs_past bytes ≡ false
 
 pub record MadeFrom (result : Result Made Unmade) (left rest : Option (List ℕ)) : Type 0 where
   pub read : List ℕ

@@ -1,4 +1,5 @@
 -- What is written of an assembled text: the session of its image, or the line that is refused (docs/ASM.md, "The command").
+-- A promise rests on this.
 use Rattle.std.specs.Prelude.{if◌then◌else◌, ◌==◌, ◌&&◌, ℕ, Bool, ◌+◌, Result, Ok, Err, List, [], ◌∷◌, ◌++◌, length, map, flat_map, nat_lt, codes}
 use Rattle.its_word.specs.Text.{digits_of, spaced}
 use Rattle.its_word.specs.declared.session.Event.{Event}
@@ -10,8 +11,8 @@ use Rattle.its_asm.specs.declared.reason.AsmFault.TheVariants.{Line, NoMemory}
 use Rattle.its_asm.specs.declared.reason.AsmReason.{AsmReason}
 use Rattle.its_asm.specs.declared.reason.AsmReason.TheVariants as reasons
 
--- the `a/` lines of words at rising addresses: each is as long as consecutive words allow, at most 16. Here the words ws from
--- address a on stand in the line that is open
+-- the `a/` lines of words at rising addresses: each is as long as consecutive words allow, at most 16. Here the words ws from address a
+-- on are in the line that is open
 abbrev pub goes_on : ℕ → List ℕ → ℕ → Bool
 goes_on a ws b = b == a + length ws && nat_lt (length ws) 16
 

@@ -1,5 +1,5 @@
-//! The command `asm` (docs/ASM.md, "The command"): an assembly text is read from a source to its end, and comes to the session of its
-//! image, or to the line that is refused.
+//! The command `asm` (docs/ASM.md, "The command"): an assembly text is read from a source to its end; the result is the session of its
+//! image, or the line that is refused.
 #![tactic(auto)]
 
 mod row;

@@ -1,4 +1,4 @@
-//! What the text of a source comes to.
+//! The result of the text of a source.
 ghost use Rattle.std.specs.Prelude.{◌≡◌, ◌≢◌, ◌≤◌, ◌^◌, [], length, Err, IfOk, IfErr, OnOk, OnErr};
 ghost use Rattle.its_io.specs.Bytes.{next_fault};
 ghost use Rattle.its_asm.specs.Assembly.{assembly};
@@ -13,7 +13,7 @@ use its_io::Source;
 use its_word::octal;
 use std::alloc::Global;
 
-/// What a text comes to.
+/// The result of a text.
 #[derive(Drop)]
 pub enum Made {
     /// It is assembled: the session of its image.
@@ -22,7 +22,7 @@ pub enum Made {
     Refusal(ArrayVec<u8, 64>),
 }
 
-/// Why a text comes to nothing.
+/// Why a text has no result.
 #[derive(Clone, Copy, Debug, PartialEq, Eq)]
 pub enum Unmade {
     /// The source failed.
@@ -49,7 +49,7 @@ pub fn assemble_source<S: Source>(alloc: Global, src: &mut S) -> Result<Made, Un
     }
 }
 
-/// What a text comes to.
+/// The result of a text.
 #[tactic(auto, using(crate::proofs::FitLaws::image_fits, crate::proofs::MadeLaws::makes_session, crate::proofs::MadeLaws::makes_refusal, crate::proofs::MadeLaws::makes_nothing))]
 fn assembled(alloc: Global, text: &[u8]) -> Result<Made, Unmade>
     requires few { length text.now ≤ 2 ^ 28 }

@@ -1,11 +1,11 @@
-//! Assembly texts with what they come to, over a source that cuts them and fails.
+//! Assembly texts with their results, over a source that cuts them and fails.
 
 use super::{Made, Unmade, assemble_source};
 use its_io::MemSource;
 use std::alloc::Global;
 use std::test::Fail;
 
-/// Texts, and what each comes to: a session, or the `?` line.
+/// Texts, and the result of each: a session, or the `?` line.
 static TEXTS: &str = "JOB U J -
 LOC 100
 MOVEI 1,5
@@ -125,7 +125,7 @@ GO 0
 ? 1 CUT
 ";
 
-/// What a text comes to, from a source that gives 7 bytes a read, and where these reads fail.
+/// The result of a text, from a source that gives 7 bytes a read, when these reads fail.
 fn shown(alloc: Global, text: &[u8], fails: &[u64]) -> Result<Vec<u8>, Fail> {
     let mut src = MemSource::open(alloc, text, 7, fails)?;
     match assemble_source(alloc, &mut src) {
@@ -148,7 +148,7 @@ fn texts(rt: HostRuntime) -> Result<(), Fail> {
     Ok(())
 }
 
-/// A source that fails at its first read, and at a later one; a long line before and behind what is refused.
+/// A source that fails at its first read, and at a later one; a long line before and after what is refused.
 #[test]
 fn ends(rt: HostRuntime) -> Result<(), Fail> {
     let alloc = rt.alloc();

@@ -1,12 +1,12 @@
 //! The text of a source.
-ghost use Rattle.std.specs.Prelude.{◌≡◌, ◌≤◌, ◌+◌, ◌-◌, ◌^◌, ◌∷◌, ◌++◌, [], length, replicate, ◌≢◌, Err, OnOk, IfErr};
+ghost use Rattle.std.specs.Prelude.{◌≡◌, ◌≤◌, ◌+◌, ◌-◌, ◌^◌, ◌∷◌, ◌++◌, [], true, length, replicate, ◌≢◌, Err, OnOk};
 ghost use Rattle.its_io.specs.Bytes.{next_fault};
-ghost use Rattle.its_image.specs.Text.{Gathered};
+ghost use Rattle.its_image.specs.Text.{Gathered, read_whole};
 
 use its_io::Source;
 use its_reader::{Lines, Next};
 
-/// What stands for a line of more than 255 bytes, of which no more is looked at.
+/// The placeholder of a line of more than 255 bytes, of which no more is looked at.
 const LONG: [u8; 256] = [b' '; 256];
 
 /// Why there is no text.
@@ -20,8 +20,9 @@ pub enum Unread {
     NoMemory,
 }
 
-/// Reads a text to its end, or to a line of more than 255 bytes: what is then kept is assembled as the text is.
-#[tactic(auto, using(crate::proofs::GatherLaws::gather_start, crate::proofs::GatherLaws::gather_next, crate::proofs::GatherLaws::gather_end, crate::proofs::GatherLaws::gather_blanks, crate::proofs::GatherLaws::gather_beyond, crate::proofs::GatherLaws::gather_failed, crate::proofs::GatherLaws::gather_refused, crate::proofs::GatherLaws::few_read, crate::proofs::GatherLaws::few_blanks))]
+/// Reads a text to its end, or to a line of more than 255 bytes: what is then kept is assembled as the text is. Where memory is refused,
+/// it is read on all the same, as it may have too many lines.
+#[tactic(auto, using(crate::proofs::GatherLaws::gather_start, crate::proofs::GatherLaws::gather_next, crate::proofs::GatherLaws::gather_end, crate::proofs::GatherLaws::gather_blanks, crate::proofs::GatherLaws::gather_beyond, crate::proofs::GatherLaws::gather_failed, crate::proofs::GatherLaws::few_read, crate::proofs::GatherLaws::few_blanks))]
 pub fn read_text<S: Source>(text: &mut Vec<u8>, src: &mut S) -> Result<(), Unread>
     requires empty { text.old.items ≡ [] }
     ensures gathered { Gathered result text.new.items (S.left src.old) (S.left src.new) }
@@ -30,44 +31,52 @@ pub fn read_text<S: Source>(text: &mut Vec<u8>, src: &mut S) -> Result<(), Unrea
     ensures failed { result ≡ Err Unread.Failed → S.faults src.new ≡ next_fault (S.faults src.old) }
 {
     let mut lines = Lines::new();
+    let mut kept = true;
     loop {
         match lines.next(src) {
-            Ok(Next::Line) => match keep_line(text, &lines.line) {
-                Ok(()) => {}
-                Err(e) => return Err(e),
-            },
-            Ok(Next::Long) => match keep_long(text) {
-                Ok(()) => return Ok(()),
-                Err(e) => return Err(e),
-            },
+            Ok(Next::Line) => kept = keep_line(kept, text, &lines.line),
+            Ok(Next::Long) => return read_whole(keep_long(kept, text)),
             Ok(Next::Beyond) => return Err(Unread::Beyond),
-            Ok(Next::End) => return Ok(()),
+            Ok(Next::End) => return read_whole(kept),
             Err(_) => return Err(Unread::Failed),
         }
     }
 }
 
-/// Adds a line and its LF.
-fn keep_line(text: &mut Vec<u8>, line: &[u8]) -> Result<(), Unread>
-    ensures kept { OnOk result (text.new.items ≡ text.old.items ++ (line.now ++ 10 ∷ [])) }
-    ensures refused { IfErr result (λ e. e ≡ Unread.NoMemory) }
+/// What the end of a text comes to: whether all of it is kept.
+fn read_whole(kept: bool) -> Result<(), Unread>
+    ensures { result ≡ read_whole kept }
 {
-    if text.extend_from_slice(line).is_err() {
-        return Err(Unread::NoMemory);
-    }
-    if text.push(b'\n').is_err() {
-        return Err(Unread::NoMemory);
-    }
-    Ok(())
+    if kept { Ok(()) } else { Err(Unread::NoMemory) }
 }
 
-/// Adds what stands for a line of more than 255 bytes.
-fn keep_long(text: &mut Vec<u8>) -> Result<(), Unread>
-    ensures kept { OnOk result (text.new.items ≡ text.old.items ++ replicate 256 32) }
-    ensures refused { IfErr result (λ e. e ≡ Unread.NoMemory) }
+/// Adds a line and its LF, where all before it is kept. Whether it is kept too.
+fn keep_line(kept: bool, text: &mut Vec<u8>, line: &[u8]) -> bool
+    ensures before { result ≡ true → kept ≡ true }
+    ensures kept { result ≡ true → text.new.items ≡ text.old.items ++ (line.now ++ 10 ∷ []) }
 {
-    if text.extend_from_slice(&LONG).is_err() {
-        return Err(Unread::NoMemory);
+    if !kept {
+        return false;
     }
-    Ok(())
+    if text.extend_from_slice(line).is_err() {
+        return false;
+    }
+    if text.push(b'\n').is_err() {
+        return false;
+    }
+    true
+}
+
+/// Adds what stands for a line of more than 255 bytes, where all before it is kept. Whether it is kept too.
+fn keep_long(kept: bool, text: &mut Vec<u8>) -> bool
+    ensures before { result ≡ true → kept ≡ true }
+    ensures kept { result ≡ true → text.new.items ≡ text.old.items ++ replicate 256 32 }
+{
+    if !kept {
+        return false;
+    }
+    if text.extend_from_slice(&LONG).is_err() {
+        return false;
+    }
+    true
 }

@@ -82,8 +82,8 @@ fn enter(job: &mut Job, entry: &TableEntry)
     job.flags = 0;
 }
 
-/// Delivers an interrupt to a job. Tells whether a fatal bit stopped the job; INF is then to be set in
-/// its superior, where it has one. A delivery that cannot be made sets TBL and changes nothing else.
+/// Delivers an interrupt to a job, and says whether a fatal bit stopped the job; INF is then to be set in its
+/// superior, if it has one. A delivery that is not possible sets TBL and changes nothing else.
 #[tactic(auto, unfolding(its_plain::specs::Interrupt::delivered))]
 pub fn deliver(core: &mut Core, slot: u8, job: &mut Job) -> bool
     requires slot { slot < slots }
@@ -109,8 +109,8 @@ pub fn deliver(core: &mut Core, slot: u8, job: &mut Job) -> bool
     false
 }
 
-/// The registers that DISMIS leaves a job with, from the five words that a delivery pushed below the
-/// stack pointer word at p. Mpv where one of the words is absent, else Wro where p is read only.
+/// The registers that DISMIS leaves a job with, from the five words that a delivery pushed below the stack pointer
+/// word at p. Mpv if one of the words is absent, else Wro if p is read only.
 #[tactic(auto, unfolding(its_plain::specs::Interrupt::dismissed))]
 pub fn dismiss(core: &Core, job: &Job, slot: u8, p: u32) -> Result<Exit, Fault>
     requires { slot < slots }

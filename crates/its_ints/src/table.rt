@@ -1,4 +1,4 @@
-//! The interrupt table of a job, whose length and place the word at 42 (octal) tells.
+//! The interrupt table of a job, whose length and place the word at 42 (octal) says.
 ghost use Rattle.std.specs.Prelude.{◌≡◌, ◌≤◌, ◌<◌, ◌+◌, ◌^◌, IfSome, MatchOption};
 ghost use Rattle.its_word.specs.Limits.{slots};
 ghost use Rattle.its_core.specs.Cores.{core_at};
@@ -91,7 +91,7 @@ fn is_met(job: &Job, entry: &TableEntry) -> bool
     enabled_1(job) & entry.mask1 != Word::ZERO || enabled_2(job) & entry.mask2 != Word::ZERO
 }
 
-/// The entry of five words from an address on; None where a word is absent.
+/// The entry of five words from an address on; None if a word is absent.
 #[tactic(auto, unfolding(its_plain::specs::Interrupt::entry_at, its_plain::specs::Machine::words_at))]
 fn entry_at(core: &Core, slot: u8, a: u32) -> Option<TableEntry>
     requires slot { slot < slots }
@@ -122,8 +122,8 @@ fn entries(word: Word) -> Option<u32>
     }
 }
 
-/// The first of so many entries from an address on that takes one of the enabled bits; None where
-/// none does, or where a word up to it is absent.
+/// The first of so many entries from an address on that takes one of the enabled bits; None if none does, or if a
+/// word up to it is absent.
 #[tactic(auto, using(crate::proofs::TableLaws::first_entry_turn, crate::proofs::TableLaws::first_entry_spent))]
 fn first_entry(core: &Core, slot: u8, job: &Job, count: u32, a: u32) -> Option<TableEntry>
     requires slot { slot < slots }
@@ -149,7 +149,7 @@ pub(crate) struct Found {
     pub(crate) pointer: Word,
 }
 
-/// Looks the table up; None where the delivery cannot be made, whatever can be stored.
+/// Looks the table up; None if the delivery is not possible, whatever can be stored.
 #[tactic(auto, unfolding(its_plain::specs::Interrupt::through_table))]
 pub(crate) fn look_up(core: &Core, slot: u8, job: &Job) -> Option<Found>
     requires { slot < slots }

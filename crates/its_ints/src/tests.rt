@@ -59,8 +59,8 @@ fn has(rt: &impl Abort, core: &Core, words: &[(u32, u64)]) {
     }
 }
 
-/// A core whose slot 0 has page 0, with a stack at 500 and a table of one entry, which takes bits 4 and
-/// 1000 and defers them; its handler is at 300. Page 2 is read only. These words stand there besides.
+/// A core whose slot 0 has page 0, with a stack at 500 and a table of one entry, which takes bits 4 and 1000 and
+/// defers them; its handler is at 300. Page 2 is read only. In addition the core has these words.
 fn core_with(rt: &impl Abort, alloc: Global, words: &[(u32, u64)]) -> Result<Core, Fail> {
     let mut core = Core::open(alloc)?;
     make_page(rt, &mut core, 0)?;
@@ -83,8 +83,8 @@ fn core_with(rt: &impl Abort, alloc: Global, words: &[(u32, u64)]) -> Result<Cor
     Ok(core)
 }
 
-/// Delivers an interrupt over a core with these words besides: the pending bits, the deferrals and the
-/// PC that are left, and some words afterwards.
+/// Delivers an interrupt over a core that also has these words: the pending bits, the deferrals and the PC that are
+/// left, and some words afterwards.
 fn delivers(
     rt: &impl Abort,
     alloc: Global,

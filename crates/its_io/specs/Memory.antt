@@ -1,4 +1,5 @@
 -- A source and a sink over memory, and what a call of them leaves.
+-- No promise rests on this.
 use Rattle.std.specs.Prelude.{ℕ, ◌+◌, ◌-◌, ◌^◌, min, List, ◌++◌, length, take, drop}
 use Rattle.its_io.specs.Bytes.{next_fault}
 

@@ -1,4 +1,4 @@
-//! A source and a sink over memory, whose calls fail where a test says so.
+//! A source and a sink over memory, whose calls fail if a test says so.
 ghost use Rattle.std.specs.Prelude.{◌≡◌, ◌≤◌, ◌<◌, ◌⊎◌, ◌↔◌, ℕ, [], ◌∷◌, ◌++◌, ◌+◌, ◌^◌, min, length, take, drop, Contains, IsTrue, IsErr, IfOk, OnErr};
 ghost use Rattle.std.specs.declared.option.Option.TheVariants.{Some};
 ghost use Rattle.std.specs.Io.{ReadsAtMost, WritesAtMost};
@@ -18,7 +18,7 @@ fn is_named(call: u128, fails: &[u64]) -> bool
     fails.iter().any(|number| u128::from(*number) == call)
 }
 
-/// The number of the next call; 2^64 where no more have one.
+/// The number of the next call; 2^64 if no more have one.
 fn call_after(call: u128) -> u128
     requires { call ≤ 2 ^ 64 }
     ensures { result ≡ next_call call }
@@ -44,8 +44,8 @@ pub(crate) fn copy_from(bytes: &[u8], at: usize, piece: usize, buf: &mut [u8]) -
     count
 }
 
-/// A source over memory. It gives at most `piece` bytes a read, and its calls, numbered from 0, fail
-/// where their number was named.
+/// A source over memory. It gives at most `piece` bytes a read, and its calls, numbered from 0, fail if their number
+/// was named.
 #[derive(Drop)]
 pub struct MemSource {
     bytes: Vec<u8>,
@@ -125,8 +125,7 @@ impl Source for MemSource {
     }
 }
 
-/// A sink over memory. It has room for `room` bytes, and its calls, numbered from 0, fail where their
-/// number was named.
+/// A sink over memory. It has room for `room` bytes, and its calls, numbered from 0, fail if their number was named.
 #[derive(Drop)]
 pub struct MemSink {
     bytes: Vec<u8>,

@@ -1,4 +1,4 @@
-//! Standard input and output. What the system gives and takes is trusted; no bytes are told.
+//! Standard input and output. What the system gives and takes is trusted; no contract mentions the bytes.
 ghost use Rattle.std.specs.Prelude.{◌≡◌};
 ghost use Rattle.std.specs.declared.option.Option.TheVariants.{None};
 

@@ -16,9 +16,9 @@ pub(crate) fn next_fault(faults: u64) -> u64
     faults.saturating_add(1)
 }
 
-/// Where bytes come from.
+/// A source of bytes.
 pub trait Source {
-    /// The bytes that are left, where that is told.
+    /// The bytes that are left, if the contract says so.
     ghost left: { Self → Option (List ℕ) };
 
     /// How often a read has failed, up to 2^64 - 1.
@@ -32,9 +32,9 @@ pub trait Source {
         ensures cause { HasCause (faults self.old) (faults self.new) result };
 }
 
-/// Where bytes go.
+/// A sink of bytes.
 pub trait Sink {
-    /// The bytes that were written, where that is told.
+    /// The bytes that were written, if the contract says so.
     ghost written: { Self → Option (List ℕ) };
 
     /// How often a write has failed, up to 2^64 - 1.
@@ -49,7 +49,7 @@ pub trait Sink {
         ensures cause { HasCause (faults self.old) (faults self.new) result };
 }
 
-/// Writes all the bytes by calls of `write`. Where one fails, the bytes written are the first of these.
+/// Writes all the bytes by calls of `write`. If one fails, the bytes written are the first of these.
 pub fn write_all<K: Sink>(out: &mut K, bytes: &[u8]) -> Result<(), Failed>
     ensures all { OnOk result (Appends (K.written out.old) (K.written out.new) bytes.now) }
     ensures begun { OnErr result ((wrote : List ℕ) × Wrote (K.written out.old) (K.written out.new) wrote bytes.now) }

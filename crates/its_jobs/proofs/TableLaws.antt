@@ -4,8 +4,9 @@ use Rattle.std.proofs.Common.{sym, ◌∙◌, ap, arith, inl, inr, length-set}
 use Rattle.std.proofs.lemmas.Bool.{cases_eq, cases_lt, eq-eqb, ne_eqb}
 use Rattle.std.proofs.lemmas.List.{get_or-set_same, get_or-set_other, get_or_past}
 use Rattle.its_word.specs.Limits.{slots}
-use Rattle.its_word.specs.Tree.{is_below, slots_below}
+use Rattle.its_word.specs.Tree.{no_job, is_below, slots_below}
 use Rattle.its_word.specs.declared.jobs.Job.{Job}
+use Rattle.its_word.proofs.FreeLaws.{no_job_there}
 use Rattle.its_word.proofs.TreeLaws.{below_superior, below_none, none_below}
 use Rattle.its_jobs.specs.Table.{IsTree, superior_in}
 use Rattle.its_word.proofs.ClimbLaws.{circle_cut}
@@ -54,6 +55,13 @@ removed jobs superiors s t h leaf =
       ];
       circle = circle_cut (superior_in superiors) (superior_in (slice_set superiors s None)) (λ k. k == s) (λ k. emptied_at superiors s k in_superiors) t.circle;
     }
+
+-- no slot has a job where none of the places has
+pub nobody : (jobs : List (Option Job)) (k : ℕ) → length jobs ≡ slots → no_job (λ i. slice_index_or jobs i None) ≡ true → slice_index_or jobs k None ≡ None
+nobody jobs k n h = elim (cases_lt k slots) [
+  | inl l ↦ no_job_there (λ i. slice_index_or jobs i None) k h l
+  | inr l ↦ get_or_past jobs k None (omega arith)
+]
 
 -- no job is below one that has no first below it
 pub none_at_all : (superiors : List (Option ℕ)) (s : ℕ) → length superiors ≡ slots → slice_get (slots_below (λ i. slice_index_or superiors i None) s) 0 ≡ None

@@ -1,5 +1,5 @@
--- What contracts see of the jobs: for each slot a job, where it has one, and its superior; and the limit below which jobs
--- are made.
+-- What contracts see of the jobs: for each slot a job, if it has one, and its superior; and the limit below which jobs are made.
+-- No promise rests on this.
 use Rattle.std.specs.Prelude.{if◌then◌else◌, ◌≡◌, ◌≤◌, ◌<◌, ◌==◌, ◌||◌, ℕ, Bool, true, false, Option, None, List, length, slice_index_or, is_some, IfSome}
 use Rattle.its_word.specs.Limits.{slots}
 use Rattle.its_word.specs.Tree.{climbs_to, is_below}
@@ -18,7 +18,7 @@ job_at t k = slice_index_or t.jobs k None
 abbrev pub superior_at : Table → ℕ → Option ℕ
 superior_at t k = slice_index_or t.superiors k None
 
--- the superior of each slot, as a list has it
+-- the superior of each slot, in the form of a list
 abbrev pub superior_in : List (Option ℕ) → ℕ → Option ℕ
 superior_in superiors k = slice_index_or superiors k None
 

@@ -6,4 +6,4 @@ mod table;
 mod tests;
 
 pub use its_word::{Channel, Job, NoMemory};
-pub use table::{Jobs, NoSlot};
+pub use table::{Jobs, NoSlot, limit_of};

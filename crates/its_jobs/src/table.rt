@@ -3,9 +3,9 @@ ghost use Rattle.std.specs.Option.{option_copied_mut};
 ghost use Rattle.std.specs.Borrow.{LendsIf, sem};
 ghost use Rattle.its_word.specs.contracts.jobs.Job.{the_row as job_row};
 ghost use Rattle.its_jobs.specs.contracts.table.Jobs.{the_row};
-ghost use Rattle.its_word.specs.Limits.{slots};
+ghost use Rattle.its_word.specs.Limits.{slots, limit_of};
 ghost use Rattle.its_word.specs.Only.{Only};
-ghost use Rattle.its_word.specs.Tree.{least_free, fresh_job, is_below, slots_below};
+ghost use Rattle.its_word.specs.Tree.{least_free, no_job, fresh_job, is_below, slots_below};
 ghost use Rattle.its_jobs.specs.Table.{job_at, superior_at, superior_in, in_tree, IsTree, Without, NoJobs};
 
 use its_word::{Channel, Job, NoMemory, SLOTS, Word};
@@ -22,8 +22,7 @@ const FIRST_LIMIT: u8 = 64;
 /// The number of places, as slots are counted.
 const PLACES: u8 = SLOTS as u8;
 
-/// The jobs by slot, each with its superior where it has one. There are 96 places, and jobs are made in the slots below a
-/// limit.
+/// The jobs by slot, each with its superior if it has one. There are 96 places, and jobs are made in the slots below a limit.
 #[derive(Drop)]
 pub struct Jobs {
     jobs: Vec<Option<Job>>,
@@ -66,7 +65,15 @@ impl Jobs {
         self.limit = n;
     }
 
-    /// The least free slot below the limit; None where all of them have a job.
+    /// Whether no slot has a job.
+    pub fn is_empty(&self) -> bool
+        ensures empty { result ≡ no_job (job_at self.now) }
+        ensures nobody { result ≡ true → (k : ℕ) → job_at self.now k ≡ None }
+    {
+        has_none(&self.jobs)
+    }
+
+    /// The least empty slot below the limit; None if all of them have a job.
     pub fn free(&self) -> Option<u8>
         ensures slot { result ≡ least_free self.now.limit (job_at self.now) }
         ensures below { IfSome result (λ s. s < slots) }
@@ -97,7 +104,7 @@ impl Jobs {
         Ok(slot)
     }
 
-    /// The job of a slot; None where it is empty, and past the last slot.
+    /// The job of a slot; None if it is empty, and past the last slot.
     pub fn job(&self, slot: u8) -> Option<&Job>
         ensures job { option_copied result ≡ job_at self.now slot }
         ensures within { IfSome result (λ j. slot < slots) }
@@ -167,8 +174,7 @@ impl Jobs {
         nth_below(&self.superiors, slot, k)
     }
 
-    /// The superior of a slot's job; None where the slot is empty or its job has none, and past the
-    /// last slot.
+    /// The superior of a slot's job; None if the slot is empty or its job has none, and past the last slot.
     pub fn superior(&self, slot: u8) -> Option<u8>
         ensures value { result ≡ superior_at self.now slot }
         ensures standing { IfSome result (λ s. (s < slots) × (is_some (job_at self.now s) ≡ true)) }
@@ -203,6 +209,29 @@ fn free_slot(jobs: &[Option<Job>], limit: u8) -> Option<u8>
         }
     }
     None
+}
+
+/// How many jobs there can be in a version of the session text: 64 in the first, and one for each place in the second.
+#[tactic(auto, unfolding(its_word::specs::Limits::limit_of))]
+pub fn limit_of(version: u8) -> u8
+    ensures number { result ≡ limit_of version }
+    ensures either { (result ≡ 64) ⊎ (result ≡ slots) }
+{
+    if version == 2 { PLACES } else { FIRST_LIMIT }
+}
+
+/// Whether none of the slots has a job.
+#[tactic(auto, using(its_word::proofs::TreeLaws::none_start, its_word::proofs::TreeLaws::none_full, its_word::proofs::TreeLaws::none_next, its_word::proofs::TreeLaws::none_end))]
+fn has_none(jobs: &[Option<Job>]) -> bool
+    requires { length jobs.now ≡ slots }
+    ensures { result ≡ no_job (λ k. slice_index_or jobs.now k None) }
+{
+    for slot in 0..PLACES {
+        if jobs[slot as usize].is_some() {
+            return false;
+        }
+    }
+    true
 }
 
 /// Whether the job of a slot is below that of another: it is climbed from job to superior, at most

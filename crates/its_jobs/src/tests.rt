@@ -1,9 +1,9 @@
-use super::{Job, Jobs, NoSlot};
+use super::{Job, Jobs, NoSlot, limit_of};
 use its_word::{Channel, SLOTS, Word};
 use std::process::Abort;
 use std::test::Fail;
 
-/// Makes a job, below another where one is given.
+/// Makes a job, below another if one is given.
 fn made(rt: &impl Abort, jobs: &mut Jobs, superior: Option<u8>) -> Result<u8, NoSlot> {
     if let Some(s) = superior {
         assert!(rt; usize::from(s) < SLOTS);
@@ -111,7 +111,10 @@ fn limits(rt: HostRuntime) -> Result<(), Fail> {
     let mut jobs = Jobs::open(rt.alloc())?;
     fill(&rt, &mut jobs, 64)?;
     let mut more = Jobs::open(rt.alloc())?;
+    assert_eq!(rt; (limit_of(1), limit_of(2)), (64, 96));
+    assert!(rt; more.is_empty());
     more.set_limit(96);
     fill(&rt, &mut more, 96)?;
+    assert!(rt; !more.is_empty());
     Ok(())
 }

@@ -1,4 +1,5 @@
 -- Lists of nodes by head, as contracts see them.
+-- No promise rests on this.
 use Rattle.std.specs.Prelude.{ℕ, ◌+◌, Bool, true, false, cond, eqb, Option, Some, None, List, [], ◌∷◌, slice_index_or, replicate}
 
 -- how many nodes there are, and the list of each head
@@ -10,16 +11,16 @@ pub record Linked : Type 0 where
 abbrev pub list_at : List (List ℕ) → ℕ → List ℕ
 list_at lists h = slice_index_or lists h []
 
--- 1 where two nodes are the same, else 0
+-- 1 if two nodes are the same, else 0
 unfoldable pub hit : ℕ → ℕ → ℕ
 hit x y = cond (eqb x y) 1 0
 
--- how often a node stands in a list
+-- how often a node is in a list
 abbrev pub count : ℕ → List ℕ → ℕ
 count x [] = 0
 count x (y ∷ ys) = hit x y + count x ys
 
--- how often a node stands in all lists together
+-- how often a node is in all lists together
 abbrev pub times : ℕ → List (List ℕ) → ℕ
 times x [] = 0
 times x (l ∷ ls) = count x l + times x ls
@@ -34,7 +35,7 @@ abbrev pub without : ℕ → List ℕ → List ℕ
 without x [] = []
 without x (y ∷ ys) = kept_before (eqb x y) y (without x ys)
 
--- the first node of a list, and those behind it
+-- the first node of a list, and those after it
 abbrev pub first : List ℕ → Option ℕ
 first [] = None
 first (x ∷ xs) = Some x

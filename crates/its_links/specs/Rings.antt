@@ -1,5 +1,6 @@
 -- How the lists are kept: the numbers below n are the nodes, those from there on the heads, and each number has one that
 -- follows it. From a head on they lead through its list and back.
+-- No promise rests on this.
 use Rattle.std.specs.Prelude.{◌≡◌, ◌≢◌, ◌<◌, ◌≤◌, ◌^◌, ℕ, zero, suc, ◌+◌, ◌-◌, Bool, true, false, eqb, List, [], ◌∷◌, length, map, slice_index_or}
 use Rattle.std.specs.List.{range_with_len}
 use Rattle.its_links.specs.Lists.{Linked, list_at, times}
@@ -8,7 +9,7 @@ use Rattle.its_links.specs.Lists.{Linked, list_at, times}
 abbrev pub link : List ℕ → ℕ → ℕ
 link next i = slice_index_or next i 0
 
--- n numbers, each followed by itself
+-- n numbers, each of which follows itself
 unfoldable pub alone : ℕ → List ℕ
 alone n = range_with_len 0 n
 

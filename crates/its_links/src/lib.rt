@@ -1,5 +1,4 @@
-//! Doubly linked lists by index: each of some heads has a list of nodes, and a node stands in at
-//! most one list.
+//! Doubly linked lists by index: each of some heads has a list of nodes, and a node is in at most one list.
 #![tactic(auto)]
 
 mod links;

@@ -28,7 +28,7 @@ impl Model for Links {
     ghost invariant = { λ l. IsLinks l.nodes l.rings };
 }
 
-/// The node that follows a node or head, where one does.
+/// The node that follows a node or head, if one does.
 fn node_after(rings: &Rings, nodes: u32, i: u32) -> Option<u32>
     requires { i < length rings.now }
     ensures some { link rings.now i < nodes → result ≡ Some (link rings.now i) }
@@ -50,7 +50,7 @@ impl Links {
         })
     }
 
-    /// Does nothing, and says what holds of all lists: a node stands once at most in all of them.
+    /// Does nothing, and says what holds of all lists: a node occurs once at most in all of them.
     pub fn seen(&self)
         ensures once { (x : ℕ) → times x self.now.lists ≤ 1 }
         ensures below { (x : ℕ) → 0 < times x self.now.lists → x < self.now.nodes }
@@ -59,7 +59,7 @@ impl Links {
         let _ = &self.nodes;
     }
 
-    /// The first node of a list; None where it is empty.
+    /// The first node of a list; None if it is empty.
     pub fn front(&self, head: u32) -> Option<u32>
         requires { head < length self.now.lists }
         ensures front { result ≡ first (list_at self.now.lists head) }
@@ -69,7 +69,7 @@ impl Links {
         node_after(&self.rings, self.nodes, self.nodes + head)
     }
 
-    /// The node behind a node of a list; None where the list ends.
+    /// The node after a node of a list; None if the list ends.
     pub fn next(&self, node: u32) -> Option<u32>
         requires { 0 < times node self.now.lists }
         ensures { (h : ℕ) (before after : List ℕ) → list_at self.now.lists h ≡ before ++ node ∷ after → result ≡ first after }
@@ -77,7 +77,7 @@ impl Links {
         node_after(&self.rings, self.nodes, node)
     }
 
-    /// Whether a node stands in a list.
+    /// Whether a node is in a list.
     pub fn linked(&self, node: u32) -> bool
         requires { node < self.now.nodes }
         ensures { IsTrue result ↔ (0 < times node self.now.lists) }
@@ -85,7 +85,7 @@ impl Links {
         self.rings.after(node) != node
     }
 
-    /// Puts a node that stands in no list at the end of a list.
+    /// Puts a node that is in no list at the end of a list.
     pub fn push_back(&mut self, head: u32, node: u32)
         requires head { head < length self.old.lists }
         requires node { node < self.old.nodes }
@@ -98,7 +98,7 @@ impl Links {
         self.rings.exchange(last, node);
     }
 
-    /// Takes a node out of the list in which it stands.
+    /// Takes a node out of the list in which it is.
     pub fn unlink(&mut self, node: u32)
         requires { 0 < times node self.old.lists }
         ensures lists { self.new ≡ record self.old { lists = map (without node) self.old.lists } }
@@ -111,7 +111,7 @@ impl Links {
         self.rings.exchange(before, node);
     }
 
-    /// Takes the first node out of a list; None where it is empty.
+    /// Takes the first node out of a list; None if it is empty.
     pub fn pop_front(&mut self, head: u32) -> Option<u32>
         requires { head < length self.old.lists }
         ensures front { result ≡ first (list_at self.old.lists head) }

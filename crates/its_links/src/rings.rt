@@ -5,7 +5,7 @@ use its_word::NoMemory;
 use std::alloc::Global;
 use std::marker::Model;
 
-/// Numbers that stand in rings: which one follows each. Contracts see what follows.
+/// Numbers that are in rings: which one follows each. Contracts see what follows.
 #[derive(Drop)]
 pub(crate) struct Rings {
     next: Vec<u32>,

@@ -64,7 +64,7 @@ fn nodes_leave(rt: HostRuntime) -> Result<(), Fail> {
 #[test]
 fn lists_are_joined(rt: HostRuntime) -> Result<(), Fail> {
     let mut links = some_lists(rt.alloc())?;
-    // an empty list behind another, and a list behind an empty one
+    // an empty list after another, and a list after an empty one
     links.splice(2, 1);
     assert_eq!(rt; links.front(1), Some(2));
     assert_eq!(rt; links.next(2), None);

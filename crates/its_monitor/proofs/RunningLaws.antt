@@ -4,7 +4,7 @@ use Rattle.std.proofs.Common.{sym, ap}
 use Rattle.its_word.specs.declared.jobs.Job.{Job}
 use Rattle.its_core.specs.Cores.{core_at}
 use Rattle.its_jobs.specs.Table.{job_at, superior_at}
-use Rattle.its_plain.specs.Unrolled.{is_running, runs}
+use Rattle.its_plain.specs.Turns.{is_running, runs}
 use Rattle.its_world.specs.World.{alarm_at, raw_of, state_of}
 use Rattle.its_world.specs.declared.world.World.{World}
 

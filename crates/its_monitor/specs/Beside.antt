@@ -1,4 +1,5 @@
 -- What a tick of one slot leaves of another.
+-- No promise rests on this.
 use Rattle.std.specs.Prelude.{◌≡◌, ◌≢◌, ℕ, true, false, Option, Some, None, IfSome}
 use Rattle.its_word.specs.declared.calls.Pace.{Pace}
 use Rattle.its_word.specs.declared.calls.Pace.TheVariants.{Step, Work, Wait, Off}
@@ -7,8 +8,8 @@ use Rattle.its_plain.specs.Machine.{Whole}
 use Rattle.its_stepped.specs.SlotSame.{SlotSame}
 use Rattle.its_stepped.specs.State.{State, plain}
 
--- a slot that the step of another disturbs is unwound first, so that it is in user mode and owes nothing, and is then what
--- the step of the plain machine makes of it
+-- a slot that the step of another disturbs is unwound first, so that it is in user mode with nothing pending, and is then what the step
+-- of the plain machine makes of it
 pub record Unwound (v : State) (k : ℕ) : Type 0 where
   pub frame : v.frames k ≡ None
   pub page : v.reserved k ≡ None
@@ -19,7 +20,7 @@ pub record Vacant (v : State) (j k : ℕ) : Type 0 where
   pub unwound : Unwound v k
   pub inferior : IfSome (v.raw.jobs k) (λ q. q.superior ≡ Some j)
 
--- a slot that the step of slot j does not disturb is wholly as it was, where it has a job
+-- a slot that the step of slot j does not disturb is wholly as it was, if it has a job
 abbrev pub Undisturbed : State → State → ℕ → ℕ → Option Whole → Type 0
 Undisturbed w v j k (Some q) = SlotSame w v k
 Undisturbed w v j k None = Vacant v j k

@@ -1,4 +1,5 @@
 -- Why LOAD is refused.
+-- No promise rests on this.
 use Rattle.std.specs.Prelude.{◌≡◌, ℕ, Bool, true, false, Option, Some, None, nat_le}
 use Rattle.its_word.specs.declared.session.Refusal.{Refusal}
 use Rattle.its_word.specs.declared.session.Refusal.TheVariants as refusals

@@ -1,5 +1,6 @@
--- In which frames pages stand after a tick, and which frames are free. No state tells it: two worlds that differ in it alone stand
--- for the same one.
+-- In which page frames pages are after a tick, and which page frames are free. No state says it: two worlds that differ in this alone
+-- have the same state.
+-- No promise rests on this.
 use Rattle.std.specs.Prelude.{if◌then◌else◌, ℕ, Bool, true, false, Option, Some, None, nat_lt}
 use Rattle.its_word.specs.declared.calls.Ask.{Ask}
 use Rattle.its_core.specs.Frames.{Frames, frames_reserve}
@@ -15,7 +16,7 @@ use Rattle.its_stepped.specs.Unwind.{all_unwound, unwind_one}
 use Rattle.its_world.specs.World.{frames_after}
 use Rattle.its_pclsr.specs.Pages.{pages_carried, pages_unwound}
 
--- a call is tried: those that it reaches are unwound, and what it comes to then is carried out
+-- a call is tried: those that it reaches are unwound, and its decision is then carried out
 abbrev pub pages_tried : State → ℕ → Whole → Ask → Frames → Frames
 pages_tried w j q a f =
     let v = helped_if (helps q a) (all_unwound (reach w.raw j q a) w) in pages_carried (decision v.raw j q a) j v (pages_unwound (reach w.raw j q a) w f)

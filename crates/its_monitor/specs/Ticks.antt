@@ -1,4 +1,5 @@
 -- What the parts of a tick do to a world.
+-- No promise rests on this.
 use Rattle.std.specs.Prelude.{if◌then◌else◌, ◌≡◌, ◌==◌, ◌<◌, ◌&&◌, ℕ, Bool, true, false, Option, Some, None, IfSome, List, [], ◌∷◌, ◌++◌}
 use Rattle.its_word.specs.Limits.{slots}
 use Rattle.its_word.specs.Tree.{slots_below}
@@ -27,7 +28,7 @@ use Rattle.its_world.specs.declared.world.World.{World}
 use Rattle.its_monitor.specs.declared.reach.Reach.{Reach}
 use Rattle.its_monitor.specs.declared.reach.Reach.TheVariants.{Nobody, Job as OneJob, Branch, Tree}
 
--- a tick that comes to this state and has this letter
+-- a tick that leads to this state and has this letter
 abbrev pub ticked : State → Pace → Ticked
 ticked w p = record { state = w; pace = p }
 
@@ -43,7 +44,7 @@ pub record Made (old new : World) (s : ℕ) (o : Job → Outcome) : Type 0 where
   pub is : after_outcome (o job) (core_at old.core s) job ≡ Some left
   pub becomes : Becomes old new s left.core (Some left.job) (frame_at old.frames.items s) (clear_at old.core s)
 
--- n units of the job of slot s are made, of k at most; where they are fewer, no other can be made
+-- n units of the job of slot s are executed, of k at most; if they are fewer, no other is possible
 pub record UnitsMade (old new : World) (s n k : ℕ) : Type 0 where
   pub job : Job
   pub left : Left
@@ -52,7 +53,7 @@ pub record UnitsMade (old new : World) (s n k : ℕ) : Type 0 where
   pub becomes : Becomes old new s left.core (Some left.job) (frame_at old.frames.items s) (clear_at old.core s)
   pub most : n < k → after_unit (Some left) ≡ None
 
--- whether the next tick of a slot makes a unit: its job runs in user mode, no interrupt is deliverable, and the unit is no call
+-- whether the next tick of a slot executes a unit: its job runs in user mode, no interrupt is deliverable, and the unit is no call
 abbrev pub is_made : Outcome → Bool
 is_made (Changed c k) = true
 is_made (Faulted f) = true
@@ -87,7 +88,7 @@ abbrev pub is_waiting : Option Frame → Bool
 is_waiting (Some (frames.Waiting f)) = true
 is_waiting _ = false
 
--- the call of slot s was found not ready, and the slot stands in a wait ring, whether it belongs there or not
+-- the call of slot s was found not ready, and the slot is on a wait list, whether it belongs there or not
 pub record InRing (w : World) (s : ℕ) : Type 0 where
   pub waits : is_waiting (frame_at w.frames.items s) ≡ true
   pub stands : Blocked w s

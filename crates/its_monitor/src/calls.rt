@@ -1,4 +1,4 @@
-//! Ticks of a job inside a call: its decoding in two steps, its preparation, its trials, and what it owes.
+//! Ticks of a job inside a call: its decoding in two steps, its preparation, its trials, and its pending steps.
 ghost use Rattle.std.specs.Prelude.{if◌then◌else◌, ◌≡◌, ◌≤◌, ◌<◌, ◌+◌, Some, None, IfSome, is_some, true, length};
 ghost use Rattle.its_word.specs.Limits.{slots};
 ghost use Rattle.its_core.specs.Cores.{clear_at};
@@ -55,7 +55,7 @@ pub fn in_call(w: &mut World, slot: u8) -> Pace
     }
 }
 
-/// One of the steps that a call owes.
+/// One of the pending steps of a call.
 #[tactic(auto, using(crate::proofs::CallLaws::tidy_of))]
 fn pay(w: &mut World, slot: u8) -> Pace
     requires slot { slot < slots }
@@ -261,8 +261,8 @@ fn attempt(w: &mut World, slot: u8) -> Pace
     pace
 }
 
-/// Makes the world ready for the call in the frame of a slot: the jobs that it reaches are unwound, and where it is one on
-/// files, the parts of a half made close are made that are still owed.
+/// Makes the world ready for the call in the frame of a slot: the jobs that it reaches are unwound, and if it is one on files, the
+/// pending parts of a half made close are performed.
 #[tactic(auto, using(crate::proofs::TrialLaws::stands_job, crate::proofs::TrialLaws::kept_forest))]
 fn make_ready(w: &mut World, slot: u8)
     requires slot { slot < slots }
@@ -277,7 +277,7 @@ fn make_ready(w: &mut World, slot: u8)
     help_first(w, slot);
 }
 
-/// Makes the parts of a half made close that are still owed, where the call in the frame of a slot is one on files.
+/// Performs the pending parts of a half made close, if the call in the frame of a slot is one on files.
 #[tactic(auto, using(crate::proofs::HelpLaws::helps_first, crate::proofs::HelpLaws::unhelped))]
 fn help_first(w: &mut World, slot: u8)
     requires slot { slot < slots }
@@ -292,7 +292,7 @@ fn help_first(w: &mut World, slot: u8)
     }
 }
 
-/// Makes the parts of a half made close that are still owed.
+/// Performs the pending parts of a half made close.
 #[tactic(auto, using(crate::proofs::HelpLaws::help_state))]
 fn help(w: &mut World)
     requires tidy { Tidy w.old }
@@ -317,7 +317,7 @@ fn helps_in(w: &World, slot: u8) -> bool
     }
 }
 
-/// What the call in the frame of a slot comes to.
+/// The decision of the call in the frame of a slot.
 fn decide_in(w: &World, slot: u8) -> Decision
     requires slot { slot < slots }
     requires job { is_some (job_at w.now.jobs slot) ≡ true }

@@ -14,7 +14,7 @@ ghost use Rattle.its_plain.specs.OperatorClock.{clocked, due_slots};
 ghost use Rattle.its_plain.specs.OperatorSymbols.{symbol_kept};
 ghost use Rattle.its_plain.specs.OperatorVersion.{versioned};
 ghost use Rattle.its_plain.specs.OperatorConsoles.{typed, drained};
-ghost use Rattle.its_plain.specs.Unrolled.{runs};
+ghost use Rattle.its_plain.specs.Turns.{runs};
 ghost use Rattle.its_stepped.specs.State.{plain, no_state};
 ghost use Rattle.its_stepped.specs.Unwind.{help, unwound};
 ghost use Rattle.its_plain.specs.Licence.{Licensed};
@@ -54,8 +54,8 @@ impl Monitor {
         Ok(Monitor { world })
     }
 
-    /// A tick of a slot, and its letter. Where the call of the slot was found not ready it is `w` exactly where the slot stands in a
-    /// wait ring. It may also be called where the slot stands there wrongly: then it is `w`, and nothing changes.
+    /// A tick of a slot, and its letter. If the call of the slot was found not ready it is `w` exactly if the slot is on a wait list.
+    /// It may also be called if the slot is there wrongly: then it is `w`, and nothing changes.
     #[tactic(auto, using(crate::proofs::OneByteLaws::tick_once))]
     pub fn tick(&mut self, slot: u8) -> Pace
         requires slot { slot < slots }
@@ -88,9 +88,9 @@ impl Monitor {
         ticks::steps(&mut self.world, slot, n)
     }
 
-    /// LOAD: makes a stopped job with these names and this console in the least free slot, which it
-    /// answers. It becomes the holder of its console, where that has none. NoConsole where the console is
-    /// above 7; else Full where as many jobs stand as there can be, 64, or 96 in version 2.
+    /// LOAD: makes a stopped job with these names and this console in the least empty slot, which it answers. It
+    /// becomes the holder of its console, if that has none. NoConsole if the console is above 7; else Full if there
+    /// are as many jobs as there can be, 64, or 96 in version 2.
     pub fn load_job(&mut self, u: Word, j: Word, console: Option<u8>) -> Result<u8, Refusal>
         requires kept { Kept self.old.world }
         ensures done { IfOk result (λ s. Loads (state_of self.old.world) (state_of self.new.world) (loaded (state_of self.old.world).raw u j console) s) }
@@ -108,8 +108,8 @@ impl Monitor {
         }
     }
 
-    /// One word of an a/ line: an absent page is made, writable and of zeros. Full where that is needed
-    /// and 1024 pages are mapped; ReadOnly where the page is read only.
+    /// One word of an a/ line: an absent page is made, writable and of zeros. Full if that is needed and 1024 pages
+    /// are mapped; ReadOnly if the page is read only.
     pub fn load_word(&mut self, slot: u8, a: u32, w: Word) -> Result<(), Refusal>
         requires slot { slot < slots }
         requires address { a < 2 ^ 18 }
@@ -124,8 +124,8 @@ impl Monitor {
         operator::load_word(&mut self.world, slot, a, w)
     }
 
-    /// Whether any of n words of a slot from an address on is on a read-only page: then an `a/` line of n words
-    /// there is ReadOnly, before any of them is loaded. False where the slot is empty.
+    /// Whether any of n words of a slot from an address on is on a read-only page: then an `a/` line of n words there
+    /// is ReadOnly, before any of them is loaded. False if the slot is empty.
     pub fn barred(&self, slot: u8, a: u32, n: u32) -> bool
         requires slot { slot < slots }
         requires end { a + n ≤ 2 ^ 18 }
@@ -136,7 +136,7 @@ impl Monitor {
         operator::barred(&self.world, slot, a, n)
     }
 
-    /// RO: a page of a slot becomes read only. NoPage where it is absent.
+    /// RO: a page of a slot becomes read only. NoPage if it is absent.
     pub fn read_only(&mut self, slot: u8, page: u8) -> Result<(), Refusal>
         requires slot { slot < slots }
         requires kept { Kept self.old.world }
@@ -150,7 +150,7 @@ impl Monitor {
         operator::read_only(&mut self.world, slot, page)
     }
 
-    /// SYM: a slot's job keeps a symbol, the last. Full where it has 512. The job is not disturbed.
+    /// SYM: a slot's job keeps a symbol, the last. Full if it has 512. The job is not disturbed.
     pub fn symbol(&mut self, slot: u8, name: Word, a: u32) -> Result<(), Refusal>
         requires slot { slot < slots }
         requires kept { Kept self.old.world }
@@ -164,7 +164,8 @@ impl Monitor {
         operator::symbol(&mut self.world, slot, name, a)
     }
 
-    /// VERSION: in version 2 there can be 96 jobs. It is called before a job is made.
+    /// VERSION: if no slot has a job, the machine becomes one of this version, which can have 64 jobs, or 96 in version 2;
+    /// else it stays as it is.
     pub fn version(&mut self, v: u8)
         requires known { (1 ≤ v) × (v ≤ 2) }
         requires kept { Kept self.old.world }
@@ -219,7 +220,7 @@ impl Monitor {
         operator::cont(&mut self.world, slot)
     }
 
-    /// INT: sets bits of the pending words of a slot's job besides those that are set.
+    /// INT: sets bits of the pending words of a slot's job in addition to those that are set.
     pub fn interrupt(&mut self, slot: u8, v: Word, w: Word) -> Result<(), Refusal>
         requires slot { slot < slots }
         requires kept { Kept self.old.world }
@@ -281,8 +282,8 @@ impl Monitor {
         operator::state(&mut self.world, slot)
     }
 
-    /// One byte of a TYPE line, typed at a console. False where 64 typed bytes wait; the byte is then
-    /// dropped. NoConsole where the console is above 7.
+    /// One byte of a TYPE line, typed at a console. False if 64 typed bytes wait; the byte is then dropped. NoConsole
+    /// if the console is above 7.
     pub fn type_in(&mut self, console: u8, b: u8) -> Result<bool, Refusal>
         requires kept { Kept self.old.world }
         ensures there { OnOk result (console < 8) }
@@ -300,8 +301,8 @@ impl Monitor {
         Ok(operator::type_in(&mut self.world, console, b))
     }
 
-    /// One byte of a DRAIN line: the byte of a console that was put out first; None where none waits.
-    /// NoConsole where the console is above 7.
+    /// One byte of a DRAIN line: the byte of a console that was put out first; None if none waits. NoConsole if the
+    /// console is above 7.
     pub fn drain(&mut self, console: u8) -> Result<Option<u8>, Refusal>
         requires kept { Kept self.old.world }
         ensures there { OnOk result (console < 8) }
@@ -331,7 +332,7 @@ impl Monitor {
     }
 
     /// Whether a slot has a job that is not stopped. It disturbs nobody: nothing changes.
-    #[tactic(auto, using(crate::proofs::RunningLaws::job_runs, crate::proofs::RunningLaws::empty_rests, its_stepped::proofs::UnrolledLaws::runs_plain))]
+    #[tactic(auto, using(crate::proofs::RunningLaws::job_runs, crate::proofs::RunningLaws::empty_rests, its_stepped::proofs::SessionLaws::runs_plain))]
     pub fn running(&self, slot: u8) -> bool
         requires slot { slot < slots }
         ensures raw { result ≡ runs (state_of self.now.world).raw slot }
@@ -356,7 +357,7 @@ impl Monitor {
         operator::dir(&mut self.world, d, k)
     }
 
-    /// The number of a file. NoFile where there is none.
+    /// The number of a file. NoFile if there is none.
     pub fn file(&mut self, d: Word, x: Word, y: Word) -> Result<u32, Refusal>
         requires kept { Kept self.old.world }
         ensures found { IfOk result (λ id. file_named (names_of d x y) (plain (state_of self.old.world)).files ≡ Some (file_at self.new.world.files id)) }
@@ -384,7 +385,7 @@ impl Monitor {
         operator::file_word(&mut self.world, id, k)
     }
 
-    /// How many words a file has; None where no file has this number.
+    /// How many words a file has; None if no file has this number.
     pub fn file_length(&mut self, id: u32) -> Option<u32>
         requires kept { Kept self.old.world }
         ensures length { result ≡ length_if (is_file (entry_at self.new.world.files id)) (words_at self.new.world.files id) }
@@ -397,7 +398,7 @@ impl Monitor {
         operator::file_length(&mut self.world, id)
     }
 
-    /// FILE: makes a file of no words, and answers its number. Exists where a file has these names; Full at 256 files.
+    /// FILE: makes a file of no words, and answers its number. Exists if a file has these names; Full at 256 files.
     pub fn file_new(&mut self, d: Word, x: Word, y: Word) -> Result<u32, Refusal>
         requires kept { Kept self.old.world }
         ensures done { OnOk result (Lands (help (state_of self.old.world)) (state_of self.new.world) (file_made (help (state_of self.old.world)).raw (names_of d x y))) }
@@ -414,7 +415,7 @@ impl Monitor {
         operator::file_new(&mut self.world, d, x, y)
     }
 
-    /// A word more at the end of a file. Full where it needs a block and 2048 are in use.
+    /// One more word at the end of a file. Full if it needs a block and 2048 are in use.
     pub fn file_add(&mut self, id: u32, w: Word) -> Result<(), Refusal>
         requires file { is_file (entry_at (helped self.old.world.files) id) ≡ true }
         requires kept { Kept self.old.world }
@@ -432,8 +433,8 @@ impl Monitor {
         operator::file_add(&mut self.world, id, w)
     }
 
-    /// CLOCK: the clock gains n thirtieths. The jobs whose alarm is due at the new clock are unwound, by slot number, and their
-    /// alarms go. Range where the clock would reach its end; then nothing changes.
+    /// CLOCK: the clock gains n thirtieths. The jobs whose alarm is due at the new clock are unwound, in the order of their slots, and
+    /// their alarms go. Range if the clock would reach its end; then nothing changes.
     pub fn advance(&mut self, n: u64) -> Result<(), Refusal>
         requires kept { Kept self.old.world }
         ensures done { OnOk result (Lands (roused (state_of self.old.world) n) (state_of self.new.world) (clocked (roused (state_of self.old.world) n).raw n)) }

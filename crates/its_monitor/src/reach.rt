@@ -95,7 +95,7 @@ fn unwind_tree(w: &mut World, slot: u8)
     }
 }
 
-/// Unwinds the job of a slot, where there is one and it is inside a call.
+/// Unwinds the job of a slot, if there is one and it is inside a call.
 #[tactic(auto, using(crate::proofs::FramesLaws::past_pages, crate::proofs::FramesLaws::still_pages, crate::proofs::ReachLaws::calm_past, crate::proofs::ReachLaws::calm_still))]
 pub fn calm(w: &mut World, slot: u8)
     requires sound { Sound (state_of w.old) }

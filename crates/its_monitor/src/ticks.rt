@@ -19,8 +19,8 @@ use its_ints::deliverable;
 use its_word::Pace;
 use its_world::World;
 
-/// A tick of a slot, and its letter. A slot whose call was found not ready and that stands in a wait ring waits on: its tick asks
-/// the ring alone.
+/// A tick of a slot, and its letter. A slot whose call was found not ready and that is on a wait list waits on: its tick asks the list
+/// alone.
 pub fn tick(w: &mut World, slot: u8) -> Pace
     requires slot { slot < slots }
     requires can { Kept w.old ⊎ InRing w.old slot }
@@ -39,7 +39,7 @@ pub fn tick(w: &mut World, slot: u8) -> Pace
     go_on(w, slot)
 }
 
-/// Whether the call of a slot was found not ready, and the slot stands in a wait ring.
+/// Whether the call of a slot was found not ready, and the slot is on a wait list.
 fn waits_on(w: &World, slot: u8) -> bool
     requires slot { slot < slots }
     requires can { Kept w.now ⊎ InRing w.now slot }
@@ -52,9 +52,8 @@ fn waits_on(w: &World, slot: u8) -> bool
     }
 }
 
-/// A tick of a slot that stands where it belongs, and its letter. In user mode an interrupt is delivered where one is deliverable,
-/// and else a unit is made; inside a call the next of its steps is made. Nothing is done where the slot is empty
-/// or its job is stopped (`Off`).
+/// A tick of a slot that is where it belongs, and its letter. In user mode an interrupt is delivered if one is deliverable, and else a
+/// unit is executed; inside a call its next step is performed. Nothing is done if the slot is empty or its job is stopped (`Off`).
 #[tactic(auto, using(crate::proofs::TickLaws::state_ticked, crate::proofs::TickLaws::pace_ticked, crate::proofs::TickLaws::tick_licensed, crate::proofs::BesideLaws::all_beside, crate::proofs::TickLaws::tick_kept))]
 fn go_on(w: &mut World, slot: u8) -> Pace
     requires slot { slot < slots }
@@ -96,9 +95,9 @@ fn turn(w: &mut World, slot: u8) -> Pace
     make_unit(w, slot)
 }
 
-/// As many units of a slot's job as can be made in user mode while nothing else is due, n at most; how many. The state is that
-/// of so many ticks, each letter `*`. None is made where the slot is empty, its job is stopped or inside a call, or an
-/// interrupt is deliverable.
+/// As many units of a slot's job as are possible in user mode while nothing else is due, n at most; how many. The state is that of so
+/// many ticks, each with the letter `*`. None is executed if the slot is empty, its job is stopped or inside a call, or an interrupt is
+/// deliverable.
 #[tactic(auto, using(crate::proofs::UserLaws::user_addressed, crate::proofs::StepsLaws::due_absent, crate::proofs::StepsLaws::due_stopped, crate::proofs::StepsLaws::due_framed))]
 pub fn steps(w: &mut World, slot: u8, n: u32) -> u32
     requires slot { slot < slots }

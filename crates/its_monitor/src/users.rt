@@ -45,7 +45,7 @@ pub fn deliver_to(w: &mut World, slot: u8, job: Job)
     put_back(w, slot, after);
 }
 
-/// Delivers on the core of a slot; tells whether a fatal bit stopped the job.
+/// Delivers on the core of a slot; says whether a fatal bit stopped the job.
 fn run_delivery(w: &mut World, slot: u8, job: &mut Job) -> bool
     requires slot { slot < slots }
     requires some { is_some (job_at w.old.jobs slot) ≡ true }
@@ -95,7 +95,7 @@ fn with_channels(now: Job, job: Job) -> Job
     }
 }
 
-/// Sets INF in the superior of a slot's job, where it has one. It is unwound first.
+/// Sets INF in the superior of a slot's job, if it has one. It is unwound first.
 #[tactic(auto, using(crate::proofs::FramesLaws::superior_frames, crate::proofs::FramesLaws::nobody_frames, crate::proofs::UserLaws::superior_told, crate::proofs::UserLaws::nobody_told))]
 fn tell_superior(w: &mut World, slot: u8)
     requires slot { slot < slots }
@@ -111,7 +111,7 @@ fn tell_superior(w: &mut World, slot: u8)
     }
 }
 
-/// The unit of a slot's job. Where it is a call of the monitor, the job enters it.
+/// The unit of a slot's job. If it is a call of the monitor, the job enters it.
 #[tactic(auto, using(crate::proofs::UserLaws::user_addressed, crate::proofs::UserLaws::unit_row))]
 pub fn make_unit(w: &mut World, slot: u8) -> Pace
     requires slot { slot < slots }
@@ -177,7 +177,7 @@ fn enter(w: &mut World, slot: u8)
     w.put_frame(slot, Frame::Entered(Entered { site }));
 }
 
-/// Where the job of a slot calls the monitor.
+/// The place at which the job of a slot calls the monitor.
 fn site_of(w: &World, slot: u8) -> Site
     requires slot { slot < slots }
     requires job { is_some (job_at w.now.jobs slot) ≡ true }

@@ -14,7 +14,7 @@ use Rattle.its_print.specs.Printing as printed
 use Rattle.its_core.specs.Cores.{Reserved, core_at, IsEmpty}
 use Rattle.its_jobs.specs.Table.{job_at, superior_at, NoJobs}
 use Rattle.its_files.specs.Files.{directory, no_files}
-use Rattle.its_plain.specs.Machine.{Machine, changed, with_job, no_machine, limit}
+use Rattle.its_plain.specs.Machine.{Machine, changed, with_job, no_machine, limit, with_new, Whole}
 use Rattle.its_plain.specs.Operator.{Block, no_block, Does, only, quietly}
 use Rattle.its_plain.specs.OperatorJobs.{new_job, held_by, with_holder, loaded_in, loaded}
 use Rattle.its_plain.specs.OperatorLines.{by_load, operate, Done, lined}
@@ -40,7 +40,7 @@ use Rattle.its_pclsr.proofs.ApartLaws.{tidy_alike}
 use Rattle.its_operator.specs.Kept.{Kept, Loads, Refused, Alters}
 use Rattle.its_operator.proofs.KeptLaws.{Made, made_sound, made_plain, made_forest, made_timed, made_alarmed, Lasts, kept_lasts, put_lasts}
 use Rattle.its_operator.proofs.RegisterLaws.{block_of}
-use Rattle.its_world.proofs.MadeLaws.{least_raw, made_state, made_tidy}
+use Rattle.its_world.proofs.MadeLaws.{least_raw, made_state, made_tidy, least_nameless}
 use Rattle.its_world.specs.Made.{JobMade}
 use Rattle.its_operator.proofs.WaitsLaws.{kept_is}
 
@@ -98,14 +98,18 @@ held_lasts : (m : Machine) (s : ℕ) (console : Option ℕ) → Lasts m → Last
 held_lasts m s (Some c) a = record { addressed = a.addressed; consoled = a.consoled }
 held_lasts m s None a = a
 
+-- a new job has no symbols besides
+new_lasts : (m : Machine) (s : ℕ) (q : Whole) → Lasts (with_job m s q) → Lasts (with_new m s q)
+new_lasts m s q a = record { addressed = a.addressed; consoled = a.consoled }
+
 -- LOAD
 module _ (old mid new : World) (s u j : ℕ) (console : Option ℕ) where
   blank_at : Kept old → least_free old.jobs.limit (job_at old.jobs) ≡ Some s → core_at old.core s ≡ no_core
   blank_at kept e = kept.tidy.blank s (least_empty old.jobs.limit (job_at old.jobs) s e)
 
   load_state : Kept old → least_free old.jobs.limit (job_at old.jobs) ≡ Some s → JobMade old mid s u j None console → Alters mid new (with_holder (state_of mid).raw s console)
-      → state_of new ≡ with_raw (state_of old) (with_holder (with_job (state_of old).raw s (new_job u j console)) s console)
-  load_state kept e f h = h.state ∙ ap (λ (v : State). with_raw v (with_holder v.raw s console)) (made_state old mid s u j None console f (blank_at kept e) (kept.tidy.quiet s (least_empty old.jobs.limit (job_at old.jobs) s e)))
+      → state_of new ≡ with_raw (state_of old) (with_holder (with_new (state_of old).raw s (new_job u j console)) s console)
+  load_state kept e f h = h.state ∙ ap (λ (v : State). with_raw v (with_holder v.raw s console)) (made_state old mid s u j None console f (blank_at kept e) (kept.tidy.quiet s (least_empty old.jobs.limit (job_at old.jobs) s e)) (least_nameless old s kept.tidy e))
 
   pub load_done : Kept old → least_free old.jobs.limit (job_at old.jobs) ≡ Some s → JobMade old mid s u j None console → Alters mid new (with_holder (state_of mid).raw s console)
       → Loads (state_of old) (state_of new) (loaded (state_of old).raw u j console) s
@@ -133,10 +137,10 @@ module _ (old mid new : World) (s u j : ℕ) (console : Option ℕ) where
       (made_plain (state_of old) (state_of new) no_block (events.Load u j console) kept.sound m)
 
   load_machine : Kept old → least_free old.jobs.limit (job_at old.jobs) ≡ Some s → JobMade old mid s u j None console → Alters mid new (with_holder (state_of mid).raw s console)
-      → with_holder (with_job (plain (state_of old)) s (new_job u j console)) s console ≡ plain (state_of new)
+      → with_holder (with_new (plain (state_of old)) s (new_job u j console)) s console ≡ plain (state_of new)
   unfolding loaded
   load_machine kept e f h =
-      first_is (with_holder (with_job (plain (state_of old)) s (new_job u j console)) s console) (plain (state_of new))
+      first_is (with_holder (with_new (plain (state_of old)) s (new_job u j console)) s console) (plain (state_of new))
       (loaded_in (plain (state_of old)) u j console (least_free (limit (plain (state_of old))) (plain (state_of old)).jobs))
       (ap (loaded_in (plain (state_of old)) u j console) (least_plain (state_of old) ∙ least_raw old ∙ e)) (load_plain kept e f h)
     where
@@ -155,7 +159,7 @@ module _ (old mid new : World) (s u j : ℕ) (console : Option ℕ) where
       → Lasts (plain (state_of new))
   load_lasts fits kept e f h =
       subst Lasts (load_machine kept e f h)
-      (held_lasts _ s console (put_lasts (plain (state_of old)) s (new_job u j console) fresh_pc (fresh_console fits) (kept_lasts old kept)))
+      (held_lasts _ s console (new_lasts (plain (state_of old)) s (new_job u j console) (put_lasts (plain (state_of old)) s (new_job u j console) fresh_pc (fresh_console fits) (kept_lasts old kept))))
 
   pub load_kept : IfSome console (λ c. c < 8) → Kept old → least_free old.jobs.limit (job_at old.jobs) ≡ Some s → JobMade old mid s u j None console → Alters mid new (with_holder (state_of mid).raw s console) → Kept new
   load_kept fits kept e f h =

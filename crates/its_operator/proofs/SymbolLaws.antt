@@ -2,6 +2,8 @@
 use Rattle.std.specs.Prelude.{◌≡◌, ◌≢◌, ◌<◌, ◌+◌, ◌-◌, ◌^◌, ℕ, Bool, true, false, Option, None, IfSome, List, [], ◌∷◌, ◌++◌, Ok, Err, is_some, length, nat_lt, slice_index_or, refl}
 use Rattle.std.proofs.Common.{sym, ◌∙◌, ap, subst, inl, inr}
 use Rattle.std.proofs.lemmas.Bool.{cases_eq}
+use Rattle.its_world.proofs.MadeLaws.{empty_raw}
+use Rattle.its_word.specs.Tree.{no_job}
 use Rattle.its_word.specs.Limits.{most_symbols}
 use Rattle.its_word.specs.declared.session.Event.TheVariants as events
 use Rattle.its_word.specs.declared.session.Refusal.{Refusal}
@@ -18,14 +20,14 @@ use Rattle.its_plain.specs.OperatorVersion.{versioned}
 use Rattle.its_plain.proofs.MachineLaws.{machine_is}
 use Rattle.its_stepped.specs.State.{State, plain}
 use Rattle.its_stepped.specs.Lines.{calmed, with_raw}
-use Rattle.its_stepped.proofs.LineLaws.{version_lifted}
+use Rattle.its_stepped.proofs.LineLaws.{empty_plain, version_lifted}
 use Rattle.its_stepped.proofs.RefusalLaws.{symbol_alike}
 use Rattle.its_plain.specs.OperatorClock.{clock_end}
 use Rattle.its_world.specs.Tidy.{channel_by, Across, Tidy}
 use Rattle.its_world.specs.World.{alarm_at, frame_at, console_at, holder_at, symbols_at, raw_of, raw_at, mark_of, state_of, SymbolsBecome, VersionBecomes}
 use Rattle.its_world.specs.declared.world.World.{World}
 use Rattle.its_parts.proofs.AcrossLaws.{across_table}
-use Rattle.its_parts.proofs.VersionLaws.{second, same_version}
+use Rattle.its_parts.proofs.VersionLaws.{version_set, same_version}
 use Rattle.its_world.proofs.StateLaws.{state_is, job_of, changed_at, raw_same}
 use Rattle.its_word.specs.Refusals.{reason_of}
 use Rattle.its_operator.specs.Kept.{Kept, Lands, Refused}
@@ -34,59 +36,62 @@ use Rattle.its_operator.proofs.RegisterLaws.{raw_is, raw_is_none, block_of}
 use Rattle.its_operator.proofs.StartLaws.{quiet_by}
 use Rattle.its_operator.proofs.WaitsLaws.{kept_is}
 
--- VERSION: the first changes nothing
-pub version_stays : (w : World) (v : ℕ) → v ≢ 2 → Lands (state_of w) (state_of w) (Ok (versioned (state_of w).raw v))
-version_stays w v ne = record { is = ap Ok (same_version (state_of w).raw v ne); rest = refl }
+-- VERSION: where a slot has a job, nothing changes
+pub version_stays : (w : World) (v : ℕ) (b : Bool) → b ≡ no_job (job_at w.jobs) → b ≡ false → Lands (state_of w) (state_of w) (Ok (versioned (state_of w).raw v))
+version_stays w v b e f = record { is = ap Ok (same_version (state_of w).raw v (empty_raw w ∙ sym e ∙ f)); rest = refl }
 
-pub version_same : (w : World) (v : ℕ) → v ≢ 2 → versioned (plain (state_of w)) v ≡ plain (state_of w)
-version_same w v ne = same_version (plain (state_of w)) v ne
+pub version_same : (w : World) (v : ℕ) (b : Bool) → b ≡ no_job (job_at w.jobs) → b ≡ false → versioned (plain (state_of w)) v ≡ plain (state_of w)
+version_same w v b e f = same_version (plain (state_of w)) v (empty_plain (state_of w) ∙ empty_raw w ∙ sym e ∙ f)
 
--- and the second sets the version
-version_raw : (old new : World) (k : ℕ) → VersionBecomes old new 2 → raw_at new.files new.core new.jobs new.alarms.items k ≡ raw_at old.files old.core old.jobs old.alarms.items k
-version_raw old new k b =
+-- and else the version is set
+version_raw : (old new : World) (v k : ℕ) → VersionBecomes old new v → raw_at new.files new.core new.jobs new.alarms.items k ≡ raw_at old.files old.core old.jobs old.alarms.items k
+version_raw old new v k b =
     ap (λ t. raw_of t (core_at new.core k) (superior_at new.jobs k) (alarm_at new.alarms.items k) (job_at new.jobs k)) b.files
     ∙ ap (λ t. raw_of old.files (core_at t k) (superior_at new.jobs k) (alarm_at new.alarms.items k) (job_at new.jobs k)) b.core
     ∙ ap (λ t. raw_of old.files (core_at old.core k) (slice_index_or t k None) (alarm_at new.alarms.items k) (job_at new.jobs k)) b.superiors
     ∙ ap (λ t. raw_of old.files (core_at old.core k) (superior_at old.jobs k) (alarm_at t.items k) (job_at new.jobs k)) b.alarms
     ∙ ap (raw_of old.files (core_at old.core k) (superior_at old.jobs k) (alarm_at old.alarms.items k)) (b.jobs.each k)
 
-version_state : (old new : World) → VersionBecomes old new 2 → state_of new ≡ with_raw (state_of old) (record (state_of old).raw { version = 2 })
+version_state : (old new : World) (v : ℕ) → VersionBecomes old new v → state_of new ≡ with_raw (state_of old) (record (state_of old).raw { version = v })
 unfolding state_of
-version_state old new b = state_is _ _
-    (machine_is _ _ (λ k. version_raw old new k b) (λ k. ap (λ l. console_at l.items k) b.consoles) (λ k. ap (λ l. holder_at l k) b.holders) (ap directory b.files) b.clock b.version
+version_state old new v b = state_is _ _
+    (machine_is _ _ (λ k. version_raw old new v k b) (λ k. ap (λ l. console_at l.items k) b.consoles) (λ k. ap (λ l. holder_at l k) b.holders) (ap directory b.files) b.clock b.version
     (λ k. ap (λ l. symbols_at l.items k) b.symbols))
     (λ k. ap (λ l. frame_at l.items k) b.frames) (λ k. ap (λ t. clear_at t k) b.core) (ap mark_of b.files)
 
-module _ (old new : World) (v : ℕ) where
-  pub version_done : v ≡ 2 → VersionBecomes old new 2 → Lands (state_of old) (state_of new) (Ok (versioned (state_of old).raw v))
-  version_done e b =
-      let is = version_state old new b in
+module _ (old new : World) (v : ℕ) (b : Bool) (test : b ≡ no_job (job_at old.jobs)) (empty : b ≡ true) where
+  none_raw : no_job (state_of old).raw.jobs ≡ true
+  none_raw = empty_raw old ∙ sym test ∙ empty
+
+  pub version_done : VersionBecomes old new v → Lands (state_of old) (state_of new) (Ok (versioned (state_of old).raw v))
+  version_done h =
+      let to = version_state old new v h in
       record {
-        is = ap Ok (second (state_of old).raw v e ∙ ap (λ (x : State). x.raw) (sym is));
-        rest = is ∙ ap (λ (x : State). with_raw (state_of old) x.raw) (sym is);
+        is = ap Ok (version_set (state_of old).raw v none_raw ∙ ap (λ (x : State). x.raw) (sym to));
+        rest = to ∙ ap (λ (x : State). with_raw (state_of old) x.raw) (sym to);
       }
 
-  version_made : v ≡ 2 → VersionBecomes old new 2 → Made (state_of old) (state_of new) no_block (events.Version v)
+  version_made : VersionBecomes old new v → Made (state_of old) (state_of new) no_block (events.Version v)
   unfolding calmed lined operate
-  version_made e b =
-      let is = version_state old new b in
+  version_made h =
+      let to = version_state old new v h in
       record {
         out = [];
         touched = nobody;
         block = no_block;
-        is = ap (λ m. Done (Does m [] nobody no_block)) (second (state_of old).raw v e ∙ ap (λ (x : State). x.raw) (sym is));
-        rest = (version_done e b).rest;
+        is = ap (λ m. Done (Does m [] nobody no_block)) (version_set (state_of old).raw v none_raw ∙ ap (λ (x : State). x.raw) (sym to));
+        rest = (version_done h).rest;
       }
 
-  pub version_plain : v ≡ 2 → VersionBecomes old new 2 → versioned (plain (state_of old)) v ≡ plain (state_of new)
-  version_plain e b =
-      version_lifted (state_of old) v ∙ ap (λ m. plain (with_raw (state_of old) m)) (second (state_of old).raw v e) ∙ ap plain (sym (version_state old new b))
+  pub version_plain : VersionBecomes old new v → versioned (plain (state_of old)) v ≡ plain (state_of new)
+  version_plain h =
+      version_lifted (state_of old) v ∙ ap (λ m. plain (with_raw (state_of old) m)) (version_set (state_of old).raw v none_raw) ∙ ap plain (sym (version_state old new v h))
 
-  version_jobs : v ≡ 2 → VersionBecomes old new 2 → (k : ℕ) → (plain (state_of new)).jobs k ≡ (plain (state_of old)).jobs k
+  version_jobs : VersionBecomes old new v → (k : ℕ) → (plain (state_of new)).jobs k ≡ (plain (state_of old)).jobs k
   unfolding plain
-  version_jobs e b k = ap (λ (x : State). (plain x).jobs k) (version_state old new b)
+  version_jobs h k = ap (λ (x : State). (plain x).jobs k) (version_state old new v h)
 
-  version_tidy : VersionBecomes old new 2 → Tidy old → Tidy new
+  version_tidy : VersionBecomes old new v → Tidy old → Tidy new
   version_tidy b tidy = record {
     blank = λ k h. ap (λ c. core_at c k) b.core ∙ tidy.blank k (sym (b.jobs.each k) ∙ h);
     quiet = λ k h. ap (λ l. alarm_at l.items k) b.alarms ∙ tidy.quiet k (sym (b.jobs.each k) ∙ h);
@@ -96,16 +101,16 @@ module _ (old new : World) (v : ℕ) where
     ringed = b.ringed tidy.ringed;
   }
 
-  pub version_kept : v ≡ 2 → Kept old → VersionBecomes old new 2 → Kept new
-  version_kept e kept b =
+  pub version_kept : Kept old → VersionBecomes old new v → Kept new
+  version_kept kept h =
       kept_is new
-      (made_sound (state_of old) (state_of new) no_block (events.Version v) kept.sound (version_made e b))
-      (made_forest (state_of old) (state_of new) no_block (events.Version v) kept.sound kept.forest (version_made e b))
-      (version_tidy b kept.tidy)
-      (λ k. subst (λ (o : Option Whole). IfSome o (λ q. q.job.pc < 2 ^ 18)) (sym (version_jobs e b k)) (kept.addressed k))
-      (λ k. subst (λ (o : Option Whole). IfSome o (λ q. IfSome q.job.console (λ c. c < 8))) (sym (version_jobs e b k)) (kept.consoled k))
-      (made_timed (state_of old) (state_of new) no_block (events.Version v) kept.sound kept.timed (version_made e b))
-      (made_alarmed (state_of old) (state_of new) no_block (events.Version v) kept.sound kept.forest kept.alarmed (version_made e b))
+      (made_sound (state_of old) (state_of new) no_block (events.Version v) kept.sound (version_made h))
+      (made_forest (state_of old) (state_of new) no_block (events.Version v) kept.sound kept.forest (version_made h))
+      (version_tidy h kept.tidy)
+      (λ k. subst (λ (o : Option Whole). IfSome o (λ q. q.job.pc < 2 ^ 18)) (sym (version_jobs h k)) (kept.addressed k))
+      (λ k. subst (λ (o : Option Whole). IfSome o (λ q. IfSome q.job.console (λ c. c < 8))) (sym (version_jobs h k)) (kept.consoled k))
+      (made_timed (state_of old) (state_of new) no_block (events.Version v) kept.sound kept.timed (version_made h))
+      (made_alarmed (state_of old) (state_of new) no_block (events.Version v) kept.sound kept.forest kept.alarmed (version_made h))
 
 -- SYM
 pub symbols_raw : (w : World) (s : ℕ) → (state_of w).raw.symbols s ≡ symbols_at w.symbols.items s

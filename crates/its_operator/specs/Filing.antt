@@ -1,4 +1,5 @@
 -- What is shown of a file that goes by its number, by whether a file has this number.
+-- No promise rests on this.
 use Rattle.std.specs.Prelude.{ℕ, Bool, true, false, Option, Some, None, List, length, slice_get}
 
 -- the k-th of its words, from 0

@@ -1,4 +1,5 @@
--- What holds of a world between two calls, and what a call of the operator makes of the state that a world stands for.
+-- What holds of a world between two calls, and the effect of a call of the operator on the state of a world.
+-- No promise rests on this.
 use Rattle.std.specs.Prelude.{if◌then◌else◌, ◌≡◌, ◌<◌, ◌^◌, ℕ, Bool, true, false, Option, Some, None, IfSome, Result, Ok, Err}
 use Rattle.its_word.specs.declared.session.Reason.{Reason}
 use Rattle.its_word.specs.declared.session.Refusal.{Refusal}
@@ -39,7 +40,7 @@ pub record Kept (w : World) : Type 0 where
   pub alarmed : Alarmed (plain (state_of w))
   pub rings : WaitRings w
 
--- state v after a line that comes to a raw machine: its frames, reserved pages and mark stay
+-- state v after a line that leads to a raw machine: its frames, reserved pages and mark are unchanged
 pub record Lands (v new : State) (r : Result Machine Reason) : Type 0 where
   pub is : r ≡ Ok new.raw
   pub rest : new ≡ with_raw v new.raw
@@ -56,8 +57,8 @@ pub record Refused {X : Type 0} (w v : State) (f : Machine → Result X Reason) 
   pub raw : f w.raw ≡ Err (reason_of e)
   pub calmed : f v.raw ≡ Err (reason_of e)
 
--- the same of a line that looks at files: of the plain machine, and of the raw machine once the owed parts of a close are
--- made, which they are also where the line is refused
+-- the same of a line that looks at files: of the plain machine, and of the raw machine once the pending parts of a close are performed,
+-- which they are even if the line is refused
 pub record FileRefused {X : Type 0} (w : State) (f : Machine → Result X Reason) (e : Refusal) : Type 0 where
   pub plain : f (plain w) ≡ Err (reason_of e)
   pub calmed : f (help w).raw ≡ Err (reason_of e)
@@ -97,12 +98,11 @@ pub record Alters (old new : World) (m : Machine) : Type 0 where
   pub alarms : new.alarms ≡ old.alarms
   pub ringed : Ringed old → Ringed new
 
--- of a world the owed parts of a close are made, and nothing else: jobs, cores, pages and the frames in which they stand are as they
--- were
+-- the pending parts of a close of a world are performed, and nothing else: jobs, cores, pages and their page frames are as they were
 abbrev pub CloseMade : World → World → Type 0
 CloseMade old new = OnlyStore old new (helped old.files)
 
--- the parts of a close that are still owed are made
+-- the pending parts of a close are performed
 pub record Helped (old new : World) : Type 0 where
   pub alone : CloseMade old new
   pub files : new.files ≡ helped old.files

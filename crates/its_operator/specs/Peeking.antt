@@ -1,4 +1,5 @@
 -- What PEEK shows of a job inside a call.
+-- No promise rests on this.
 use Rattle.std.specs.Prelude.{◌≡◌, Bool, Some}
 use Rattle.its_word.specs.Core.{Core}
 use Rattle.its_word.specs.declared.show.Peek.{Peek}

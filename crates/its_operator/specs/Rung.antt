@@ -1,4 +1,5 @@
 -- What CLOCK makes of a world: the jobs whose alarm is due at the new clock are unwound, and then the alarms go.
+-- No promise rests on this.
 use Rattle.std.specs.Prelude.{◌==◌, ◌≡◌, ◌+◌, ◌-◌, ◌&&◌, ℕ, Bool, filter, nat_lt}
 use Rattle.std.specs.List.{range_with_len}
 use Rattle.its_word.specs.Limits.{slots}
@@ -13,7 +14,7 @@ use Rattle.its_world.specs.World.{state_of}
 use Rattle.its_world.specs.declared.world.World.{World}
 use Rattle.its_pclsr.specs.Pages.{pages_unwound}
 
--- the state that CLOCK finds where the clock gains n
+-- the state that CLOCK finds if the clock gains n
 abbrev pub roused : State → ℕ → State
 roused w n = all_unwound (due_slots (w.raw.clock + n) w.raw.jobs) w
 

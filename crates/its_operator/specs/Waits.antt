@@ -1,4 +1,5 @@
--- What the lists of those that wait hold, in words of the plain machine (docs/STEPS.md, "Wait rings").
+-- What the wait lists hold, in terms of the plain machine (docs/STEPS.md, "Wait lists").
+-- No promise rests on this.
 use Rattle.std.specs.Prelude.{◌≡◌, ◌<◌, ◌≤◌, ◌+◌, ◌↔◌, ◌≢◌, ℕ, Option, Some, None, List}
 use Rattle.its_links.specs.Lists.{list_at, count}
 use Rattle.its_frame.specs.declared.decision.Decision.TheVariants.{Waits}
@@ -46,8 +47,8 @@ pub record HoldsJust (ks : List ℕ) (Holds : ℕ → Type 0) : Type 0 where
   pub once : (k : ℕ) → count k ks ≤ 1
   pub just : (k : ℕ) → (0 < count k ks) ↔ Holds k
 
--- the wait ring of each reason holds just the slots that wait for it, the Awake list of each console just those that wait there
--- and can go on, and a slot stands in one list at most
+-- the wait list of each reason holds exactly the slots that wait for it, the Awake list of each console exactly those that wait there
+-- and can go on, and a slot is on one list at most
 pub record WaitRings (w : World) : Type 0 where
   pub rings : (r : Wait) → console_in r < 8 → HoldsJust (list_at w.rings.lists (ring_of r)) (λ k. WaitsFor (state_of w) k r)
   pub awake : (c : ℕ) → c < 8 → HoldsJust (list_at w.rings.lists (26 + c)) (λ k. CanGoOn (state_of w) k c)

@@ -25,9 +25,9 @@ use its_world::World;
 /// The clock stays below this many thirtieths.
 const CLOCK_END: u64 = 0o200000000000;
 
-/// CLOCK: the clock gains n thirtieths. The jobs whose alarm is due at the new clock are unwound, by slot number; then ALR is
-/// set in each of them, once, and the next time of its alarm gains the least multiple of its period that brings it above
-/// the clock. Range where the clock would come to 2^34; then nothing changes.
+/// CLOCK: the clock gains n thirtieths. The jobs whose alarm is due at the new clock are unwound, in the order of their slots; then ALR
+/// is set in each of them, once, and the next time of its alarm gains the least multiple of its period that brings it above the clock.
+/// Range if the clock would reach 2^34; then nothing changes.
 #[tactic(auto, using(crate::proofs::ClockLaws::clock_refused))]
 pub fn advance(w: &mut World, n: u64) -> Result<(), Refusal>
     requires kept { Kept w.old }
@@ -113,7 +113,7 @@ fn ring(w: &mut World, clock: u64)
     }
 }
 
-/// The alarm of a slot's job goes, where it is due at a clock.
+/// The alarm of a slot's job goes, if it is due at a clock.
 #[tactic(auto, using(crate::proofs::RungLaws::still_none, crate::proofs::RungLaws::still_some))]
 fn ring_slot(w: &mut World, slot: u8, clock: u64)
     requires slot { slot < slots }

@@ -17,8 +17,8 @@ use its_world::World;
 /// How many files there are at most.
 const FILES: u32 = 256;
 
-/// One line of DIR: the k-th file of a directory, from 0, in the order of its files; None past the last. The parts of a
-/// close that are still owed are made first.
+/// One line of DIR: the k-th file of a directory, from 0, in the order of its files; None past the last. The pending parts of a close
+/// are performed first.
 #[tactic(auto, using(crate::proofs::DirLaws::dir_shown, crate::proofs::DirLaws::dir_past, crate::proofs::FileLaws::helped_plain))]
 pub fn dir(w: &mut World, d: Word, k: u32) -> Option<FileShow>
     requires kept { Kept w.old }
@@ -36,8 +36,7 @@ pub fn dir(w: &mut World, d: Word, k: u32) -> Option<FileShow>
     }
 }
 
-/// The number of the file with a directory and two names. NoFile where there is none. The parts of a close that are still
-/// owed are made first.
+/// The number of the file with a directory and two names. NoFile if there is none. The pending parts of a close are performed first.
 #[tactic(auto, using(crate::proofs::FileLaws::file_found, crate::proofs::FileLaws::file_absent, crate::proofs::FileLaws::helped_plain))]
 pub fn file(w: &mut World, d: Word, x: Word, y: Word) -> Result<u32, Refusal>
     requires kept { Kept w.old }
@@ -57,8 +56,8 @@ pub fn file(w: &mut World, d: Word, x: Word, y: Word) -> Result<u32, Refusal>
     }
 }
 
-/// The k-th word of a file, from 0; None past the last, and where no file has this number. The parts of a close that are
-/// still owed are made first.
+/// The k-th word of a file, from 0; None past the last, and if no file has this number. The pending parts of a close are performed
+/// first.
 #[tactic(auto, using(crate::proofs::FileLaws::helped_plain))]
 pub fn file_word(w: &mut World, id: u32, k: u32) -> Option<Word>
     requires kept { Kept w.old }
@@ -76,7 +75,7 @@ pub fn file_word(w: &mut World, id: u32, k: u32) -> Option<Word>
     w.files.word_at(id, k)
 }
 
-/// How many words a file has; None where no file has this number. The parts of a close that are still owed are made first.
+/// How many words a file has; None if no file has this number. The pending parts of a close are performed first.
 #[tactic(auto, using(crate::proofs::FileLaws::helped_plain))]
 pub fn file_length(w: &mut World, id: u32) -> Option<u32>
     requires kept { Kept w.old }
@@ -94,8 +93,8 @@ pub fn file_length(w: &mut World, id: u32) -> Option<u32>
     Some(w.files.length(id))
 }
 
-/// FILE: makes a file of no words, the last in order, and answers its number. Exists where a file has these names; Full
-/// where there are 256 files. The parts of a close that are still owed are made first.
+/// FILE: makes a file of no words, the last in order, and answers its number. Exists if a file has these names; Full if there are 256
+/// files. The pending parts of a close are performed first.
 #[tactic(auto, using(crate::proofs::FileLaws::new_done, crate::proofs::FileLaws::new_plain, crate::proofs::FileLaws::new_kept, crate::proofs::FileLaws::new_exists, crate::proofs::FileLaws::new_full, crate::proofs::FileLaws::helped_unmarked))]
 pub fn file_new(w: &mut World, d: Word, x: Word, y: Word) -> Result<u32, Refusal>
     requires kept { Kept w.old }
@@ -120,8 +119,8 @@ pub fn file_new(w: &mut World, d: Word, x: Word, y: Word) -> Result<u32, Refusal
     Ok(make_file(w, d, x, y))
 }
 
-/// One word of a `/` line: a word more at the end of a file. Full where it needs a block and 2048 are in use. The parts of
-/// a close that are still owed are made first.
+/// One word of a `/` line: one more word at the end of a file. Full if it needs a block and 2048 are in use. The pending parts of a
+/// close are performed first.
 #[tactic(auto, using(crate::proofs::FileLaws::more_done, crate::proofs::FileLaws::more_plain, crate::proofs::FileLaws::more_refused, crate::proofs::FileLaws::helped_unmarked))]
 pub fn file_add(w: &mut World, id: u32, word: Word) -> Result<(), Refusal>
     requires file { is_file (entry_at (helped w.old.files) id) ≡ true }
@@ -141,7 +140,7 @@ pub fn file_add(w: &mut World, id: u32, word: Word) -> Result<(), Refusal>
     add_word(w, id, word)
 }
 
-/// Makes the parts of a close that are still owed.
+/// Performs the pending parts of a close.
 #[tactic(auto, using(crate::proofs::FileLaws::helped_is))]
 fn help(w: &mut World)
     requires kept { Kept w.old }
@@ -203,7 +202,7 @@ fn show_of(w: &World, id: u32) -> FileShow
     }
 }
 
-/// Makes a file of no words, the last in order, where no file has its names.
+/// Makes a file of no words, the last in order, if no file has its names.
 #[tactic(auto, using(crate::proofs::FileLaws::made_stands, crate::proofs::FileLaws::made_names))]
 fn make_file(w: &mut World, d: Word, x: Word, y: Word) -> u32
     requires kept { Kept w.old }

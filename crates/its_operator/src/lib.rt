@@ -1,6 +1,6 @@
 //! The operator's calls: what the lines of a session do to the world, and what they show. A call that names a job
-//! leaves the world as it was where it is refused; else the job is unwound to user mode first, but by PEEK. A call
-//! on files first makes the parts of a close that are owed.
+//! leaves the world as it was if it is refused; else the job is first unwound to user mode, except by PEEK. A call on
+//! files first performs the pending parts of a close.
 #![tactic(auto)]
 
 mod clock;

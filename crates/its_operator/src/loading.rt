@@ -23,8 +23,8 @@ pub fn open(alloc: Global) -> Result<World, NoMemory>
     World::open(alloc)
 }
 
-/// LOAD: makes a stopped job with these names and this console in the least free slot, which it answers.
-/// It becomes the holder of its console, where that has none. Full where all slots below the limit have a job.
+/// LOAD: makes a stopped job with these names and this console in the least empty slot, which it answers. It becomes
+/// the holder of its console, if that has none. Full if all slots below the limit have a job.
 #[tactic(auto, using(crate::proofs::StartLaws::load_done, crate::proofs::StartLaws::load_plain, crate::proofs::StartLaws::load_kept, crate::proofs::StartLaws::load_full))]
 pub fn load_job(w: &mut World, u: Word, j: Word, console: Option<u8>) -> Result<u8, Refusal>
     requires console { IfSome console (λ c. c < 8) }
@@ -59,7 +59,7 @@ fn make(w: &mut World, u: Word, j: Word, console: Option<u8>) -> Result<u8, NoSl
     }
 }
 
-/// Makes the job of a slot the holder of its console, where that has none.
+/// Makes the job of a slot the holder of its console, if that has none.
 #[tactic(auto, using(crate::proofs::StartLaws::console_some, crate::proofs::StartLaws::console_none))]
 fn hold_console(w: &mut World, slot: u8, console: Option<u8>)
     requires console { IfSome console (λ c. c < 8) }

@@ -13,8 +13,7 @@ use super::words::{calm, present};
 use its_word::{Fault, Refusal};
 use its_world::World;
 
-/// RO: a page of a slot's job becomes read only. NoJob where the slot is empty, NoPage where the page is
-/// absent.
+/// RO: a page of a slot's job becomes read only. NoJob if the slot is empty, NoPage if the page is absent.
 #[tactic(auto, using(crate::proofs::ProtectLaws::read_only_done, crate::proofs::ProtectLaws::read_only_plain, crate::proofs::ProtectLaws::read_only_kept, crate::proofs::ProtectLaws::read_only_absent, crate::proofs::ProtectLaws::read_only_none, crate::proofs::ProtectLaws::page_there, crate::proofs::KeptLaws::stored_off))]
 pub fn read_only(w: &mut World, slot: u8, page: u8) -> Result<(), Refusal>
     requires slot { slot < slots }
@@ -35,8 +34,8 @@ pub fn read_only(w: &mut World, slot: u8, page: u8) -> Result<(), Refusal>
     Ok(())
 }
 
-/// Whether any of n words of a slot from an address on is on a read-only page: then an `a/` line of n words
-/// there is refused, before any of them is stored. False where the slot is empty.
+/// Whether any of n words of a slot from an address on is on a read-only page: then an `a/` line of n words there is
+/// refused, before any of them is stored. False if the slot is empty.
 #[tactic(auto, using(crate::proofs::ProtectLaws::calm_some, crate::proofs::ProtectLaws::calm_none, crate::proofs::ProtectLaws::plain_some, crate::proofs::ProtectLaws::plain_none))]
 pub fn barred(w: &World, slot: u8, a: u32, n: u32) -> bool
     requires slot { slot < slots }

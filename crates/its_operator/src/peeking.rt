@@ -18,7 +18,7 @@ use its_frame::{Ask, CallName, Frame};
 use its_word::{Peek, PeekState, Refusal, Site, Word};
 use its_world::World;
 
-/// PEEK: how far a slot's job is inside a call. NoJob where the slot is empty. Nothing is unwound.
+/// PEEK: how far a slot's job is inside a call. NoJob if the slot is empty. Nothing is unwound.
 #[tactic(auto, using(crate::proofs::PeekStateLaws::peek_absent, crate::proofs::PeekStateLaws::peek_some, crate::proofs::PeekStateLaws::peek_few, crate::proofs::PeekStateLaws::peek_user, crate::proofs::PeekStateLaws::peek_frame))]
 pub fn peek(w: &World, slot: u8) -> Result<Peek, Refusal>
     requires slot { slot < slots }
@@ -166,7 +166,7 @@ fn words_of(w: &World, slot: u8, ask: &Ask) -> (Option<Word>, Option<Word>)
     }
 }
 
-/// The word in core at the place of an input that is shown, where one is.
+/// The word in core at the place of an input that is shown, if one is.
 fn word_shown(w: &World, slot: u8, ask: &Ask, input: Option<usize>) -> Option<Word>
     requires slot { slot < slots }
     ensures { result ≡ word_of_input (core_at w.now.core slot) ask.now input }
@@ -177,7 +177,7 @@ fn word_shown(w: &World, slot: u8, ask: &Ask, input: Option<usize>) -> Option<Wo
     }
 }
 
-/// The word in core at the place of an input; None also where that is past the last address.
+/// The word in core at the place of an input; None also if the place is past the last address.
 #[tactic(auto, using(crate::proofs::PeekLaws::word_there, crate::proofs::PeekLaws::no_place))]
 fn word_of_input(w: &World, slot: u8, ask: &Ask, k: usize) -> Option<Word>
     requires slot { slot < slots }
@@ -189,7 +189,7 @@ fn word_of_input(w: &World, slot: u8, ask: &Ask, k: usize) -> Option<Word>
     }
 }
 
-/// The place of an input, where it has one.
+/// The place of an input, if it has one.
 fn place_of_input(ask: &Ask, k: usize) -> Option<u32>
     ensures { result ≡ place_of_input ask.now k }
 {

@@ -14,7 +14,7 @@ use its_pclsr::unwind;
 use its_word::{FATAL, Job, JobShow, Refusal, Word, pc_word};
 use its_world::World;
 
-/// GO: starts a slot's job at an address, with no flags. NoJob where the slot is empty.
+/// GO: starts a slot's job at an address, with no flags. NoJob if the slot is empty.
 #[tactic(auto, using(crate::proofs::RegisterLaws::go_done, crate::proofs::RegisterLaws::go_plain, crate::proofs::RegisterLaws::go_kept, crate::proofs::RegisterLaws::registers_refused, crate::proofs::KeptLaws::registers_off))]
 pub fn go(w: &mut World, slot: u8, a: u32) -> Result<(), Refusal>
     requires slot { slot < slots }
@@ -35,7 +35,7 @@ pub fn go(w: &mut World, slot: u8, a: u32) -> Result<(), Refusal>
     Ok(())
 }
 
-/// STOP: sets the stopped mark of a slot's job. NoJob where the slot is empty.
+/// STOP: sets the stopped mark of a slot's job. NoJob if the slot is empty.
 #[tactic(auto, using(crate::proofs::RegisterLaws::stop_done, crate::proofs::RegisterLaws::stop_plain, crate::proofs::RegisterLaws::stop_kept, crate::proofs::RegisterLaws::registers_refused, crate::proofs::KeptLaws::registers_off))]
 pub fn stop(w: &mut World, slot: u8) -> Result<(), Refusal>
     requires slot { slot < slots }
@@ -53,7 +53,7 @@ pub fn stop(w: &mut World, slot: u8) -> Result<(), Refusal>
     Ok(())
 }
 
-/// CONT: lets a slot's job run, with no fatal bit pending. NoJob where the slot is empty.
+/// CONT: lets a slot's job run, with no fatal bit pending. NoJob if the slot is empty.
 #[tactic(auto, using(crate::proofs::RegisterLaws::cont_done, crate::proofs::RegisterLaws::cont_plain, crate::proofs::RegisterLaws::cont_kept, crate::proofs::RegisterLaws::registers_refused, crate::proofs::KeptLaws::registers_off))]
 pub fn cont(w: &mut World, slot: u8) -> Result<(), Refusal>
     requires slot { slot < slots }
@@ -70,8 +70,7 @@ pub fn cont(w: &mut World, slot: u8) -> Result<(), Refusal>
     Ok(())
 }
 
-/// INT: sets bits of the pending words of a slot's job beside those that are set. NoJob where the slot is
-/// empty.
+/// INT: sets bits of the pending words of a slot's job in addition to those that are set. NoJob if the slot is empty.
 #[tactic(auto, using(crate::proofs::RegisterLaws::interrupt_done, crate::proofs::RegisterLaws::interrupt_plain, crate::proofs::RegisterLaws::interrupt_kept, crate::proofs::RegisterLaws::registers_refused, crate::proofs::KeptLaws::registers_off))]
 pub fn interrupt(w: &mut World, slot: u8, v: Word, x: Word) -> Result<(), Refusal>
     requires slot { slot < slots }
@@ -88,7 +87,7 @@ pub fn interrupt(w: &mut World, slot: u8, v: Word, x: Word) -> Result<(), Refusa
     Ok(())
 }
 
-/// STATE: what is shown of a slot's job. NoJob where the slot is empty.
+/// STATE: what is shown of a slot's job. NoJob if the slot is empty.
 #[tactic(auto, using(crate::proofs::RegisterLaws::state_found, crate::proofs::RegisterLaws::state_plain, crate::proofs::RegisterLaws::state_refused, crate::proofs::KeptLaws::calm_same, crate::proofs::KeptLaws::calm_off))]
 pub fn state(w: &mut World, slot: u8) -> Result<JobShow, Refusal>
     requires slot { slot < slots }
@@ -108,7 +107,7 @@ pub fn state(w: &mut World, slot: u8) -> Result<JobShow, Refusal>
     Ok(shown(&job, superior, symbol))
 }
 
-/// The registers of a slot's job, which is unwound first. NoJob where the slot is empty.
+/// The registers of a slot's job, which is unwound first. NoJob if the slot is empty.
 #[tactic(auto, using(crate::proofs::KeptLaws::unwound_kept, crate::proofs::KeptLaws::unwound_missing))]
 fn calmed(w: &mut World, slot: u8) -> Result<Job, Refusal>
     requires slot { slot < slots }

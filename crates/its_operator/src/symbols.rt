@@ -13,9 +13,9 @@ use its_world::World;
 /// How many symbols a job has at most.
 const MOST_SYMBOLS: usize = 512;
 
-/// VERSION: the machine becomes one of version 2, which can have 96 jobs, or stays as it is. It stands on
-/// line 1 alone.
-#[tactic(auto, using(crate::proofs::SymbolLaws::version_done, crate::proofs::SymbolLaws::version_plain, crate::proofs::SymbolLaws::version_kept, crate::proofs::SymbolLaws::version_stays, crate::proofs::SymbolLaws::version_same))]
+/// VERSION: if no slot has a job, the machine becomes one of this version, which can have 64 jobs, or 96 in version 2;
+/// else it stays as it is.
+#[tactic(auto, using(crate::proofs::SymbolLaws::version_plain, crate::proofs::SymbolLaws::version_kept, crate::proofs::SymbolLaws::version_stays, crate::proofs::SymbolLaws::version_same))]
 pub fn version(w: &mut World, v: u8)
     requires known { (1 ≤ v) × (v ≤ 2) }
     requires kept { Kept w.old }
@@ -24,13 +24,13 @@ pub fn version(w: &mut World, v: u8)
     ensures core { w.new.core ≡ w.old.core }
     ensures kept { Kept w.new }
 {
-    if v == 2 {
-        w.second_version();
+    if w.jobs.is_empty() {
+        w.set_version(v);
     }
 }
 
-/// SYM: a slot's job keeps a symbol, the last. NoJob where the slot is empty, Full where the job has 512.
-/// The job is not disturbed.
+/// SYM: a slot's job keeps a symbol, the last. NoJob if the slot is empty, Full if the job has 512. The job is not
+/// disturbed.
 #[tactic(auto, using(crate::proofs::SymbolLaws::symbol_done, crate::proofs::SymbolLaws::symbol_plain, crate::proofs::SymbolLaws::symbol_keeps, crate::proofs::SymbolLaws::symbol_full, crate::proofs::SymbolLaws::symbol_none))]
 pub fn symbol(w: &mut World, slot: u8, name: Word, a: u32) -> Result<(), Refusal>
     requires slot { slot < slots }
@@ -59,7 +59,7 @@ fn has_room(w: &World, slot: u8) -> bool
     w.symbols[usize::from(slot)].len() < MOST_SYMBOLS
 }
 
-/// The symbol of a slot's job that is nearest to a PC, and how far the PC lies behind it.
+/// The symbol of a slot's job that is nearest to a PC, and how far the PC is past it.
 pub fn near(w: &World, slot: u8, pc: u32) -> Option<(Word, u32)>
     requires { slot < slots }
     ensures { result ≡ symbol_shown pc (symbols_at w.now.symbols.items slot) }
@@ -67,8 +67,8 @@ pub fn near(w: &World, slot: u8, pc: u32) -> Option<(Word, u32)>
     nearest(w.symbols[usize::from(slot)].as_slice(), pc)
 }
 
-/// The symbol of the greatest address at most a PC, of those with one address the last, and how far the PC
-/// lies behind it.
+/// The symbol of the greatest address at most a PC, of those with one address the last, and how far the PC is past
+/// it.
 #[tactic(auto, using(its_parts::proofs::SymbolLaws::near_start, its_parts::proofs::SymbolLaws::near_next, its_parts::proofs::SymbolLaws::near_some, its_parts::proofs::SymbolLaws::near_none))]
 fn nearest(symbols: &[(Word, u32)], pc: u32) -> Option<(Word, u32)>
     ensures { result ≡ symbol_shown pc symbols.now }

@@ -12,7 +12,7 @@ use its_world::World;
 use std::process::Abort;
 use std::test::Fail;
 
-/// A line of the operator; where it names a slot, that stands beside it.
+/// A line of the operator, with the slot that it names, if any.
 #[derive(Clone, Copy, Debug)]
 enum Line {
     Load(Option<u8>),
@@ -48,6 +48,7 @@ enum Answer {
     State(JobShow),
     Peek(Peek),
     Waits(bool),
+    Version(u8),
     Barred(bool),
     Byte(Option<u8>),
     Length(Option<u32>),
@@ -71,7 +72,7 @@ fn known(rt: &impl Abort, console: Option<u8>) -> Option<u8>
     }
 }
 
-/// Makes the call of a line.
+/// Performs the call of a line.
 fn run_line(rt: &impl Abort, w: &mut World, slot: u8, line: Line) -> Result<Answer, Refusal>
     requires slot { slot < slots }
     requires kept { Kept w.old }
@@ -123,9 +124,10 @@ fn run_line(rt: &impl Abort, w: &mut World, slot: u8, line: Line) -> Result<Answ
             Ok(Answer::Peek(show))
         }
         Line::Version(v) => {
-            assert!(rt; v == 2);
+            assert!(rt; 1 <= v);
+            assert!(rt; v <= 2);
             version(w, v);
-            Ok(Answer::Done)
+            Ok(Answer::Version(w.version))
         }
         Line::ReadOnly(page) => {
             read_only(w, slot, page)?;
@@ -246,9 +248,12 @@ fn session(rt: HostRuntime) -> Result<(), Fail> {
     };
     let mut w = open(rt.alloc())?;
     for (slot, line, want) in [
-        (0, Line::Version(2), Ok(Answer::Done)),
+        (0, Line::Version(2), Ok(Answer::Version(2))),
+        (0, Line::Version(1), Ok(Answer::Version(1))),
+        (0, Line::Version(2), Ok(Answer::Version(2))),
         (0, Line::Go(0o2000), Err(Refusal::NoJob)),
         (0, Line::Load(Some(3)), Ok(Answer::Slot(0))),
+        (0, Line::Version(1), Ok(Answer::Version(2))),
         (0, Line::Load(None), Ok(Answer::Slot(1))),
         (0, Line::Load(Some(3)), Ok(Answer::Slot(2))),
         (0, Line::Type(3, 0o101), Ok(Answer::Waits(true))),

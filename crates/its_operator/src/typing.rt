@@ -7,7 +7,7 @@ ghost use Rattle.its_operator.specs.Kept.{Kept, Lands};
 
 use its_world::World;
 
-/// One byte of a TYPE line, typed at a console. False where 64 typed bytes wait; the byte is then dropped.
+/// One byte of a TYPE line, typed at a console. False if 64 typed bytes wait; the byte is then dropped.
 #[tactic(auto, using(crate::proofs::TypingLaws::type_room, crate::proofs::TypingLaws::type_lands, crate::proofs::TypingLaws::type_plain))]
 pub fn type_in(w: &mut World, console: u8, b: u8) -> bool
     requires console { console < 8 }
@@ -21,7 +21,7 @@ pub fn type_in(w: &mut World, console: u8, b: u8) -> bool
     w.type_in(console, b)
 }
 
-/// One byte of a DRAIN line: the byte of a console that was put out first; None where none waits.
+/// One byte of a DRAIN line: the byte of a console that was put out first; None if none waits.
 #[tactic(auto, using(crate::proofs::TypingLaws::drain_first, crate::proofs::TypingLaws::drain_lands, crate::proofs::TypingLaws::drain_plain, crate::proofs::TypingLaws::drain_kept))]
 pub fn drain(w: &mut World, console: u8) -> Option<u8>
     requires console { console < 8 }

@@ -17,7 +17,7 @@ use its_pclsr::unwind;
 use its_word::{Fault, MAPPED_PAGES, NoAccess, Refusal, Word};
 use its_world::World;
 
-/// EXAM: the word at an address of a slot. NoJob where the slot is empty, NoPage where the page is absent.
+/// EXAM: the word at an address of a slot. NoJob if the slot is empty, NoPage if the page is absent.
 #[tactic(auto, using(crate::proofs::WordLaws::exam_none, crate::proofs::WordLaws::exam_refused, crate::proofs::WordLaws::exam_there, crate::proofs::WordLaws::exam_found, crate::proofs::WordLaws::exam_plain, crate::proofs::KeptLaws::calmed_same, crate::proofs::KeptLaws::calmed_off))]
 pub fn exam(w: &mut World, slot: u8, a: u32) -> Result<Word, Refusal>
     requires slot { slot < slots }
@@ -44,8 +44,7 @@ pub fn exam(w: &mut World, slot: u8, a: u32) -> Result<Word, Refusal>
     }
 }
 
-/// DEPOSIT: stores a word of a slot. NoJob where the slot is empty; NoPage where the page is absent, ReadOnly
-/// where it is so.
+/// DEPOSIT: stores a word of a slot. NoJob if the slot is empty; NoPage if the page is absent, ReadOnly if it is so.
 #[tactic(auto, using(crate::proofs::WordLaws::deposit_none, crate::proofs::WordLaws::deposit_refused, crate::proofs::WordLaws::deposit_can, crate::proofs::WordLaws::deposit_done, crate::proofs::WordLaws::deposit_plain, crate::proofs::WordLaws::deposit_kept, crate::proofs::KeptLaws::stored_off))]
 pub fn deposit(w: &mut World, slot: u8, a: u32, word: Word) -> Result<(), Refusal>
     requires slot { slot < slots }
@@ -68,8 +67,8 @@ pub fn deposit(w: &mut World, slot: u8, a: u32, word: Word) -> Result<(), Refusa
     Ok(())
 }
 
-/// One word of an a/ line: an absent page is made, writable and of zeros. NoJob where the slot is empty;
-/// ReadOnly where the page is so; Full where a page is needed and 1024 pages are mapped.
+/// One word of an a/ line: an absent page is made, writable and of zeros. NoJob if the slot is empty; ReadOnly if the
+/// page is so; Full if a page is needed and 1024 pages are mapped.
 #[tactic(auto, using(crate::proofs::LoadLaws::load_none, crate::proofs::LoadLaws::load_refused, crate::proofs::LoadLaws::load_clear, crate::proofs::LoadLaws::load_writable, crate::proofs::LoadLaws::load_room, crate::proofs::LoadLaws::load_unreserved, crate::proofs::LoadLaws::load_stored, crate::proofs::LoadLaws::load_made, crate::proofs::LoadLaws::load_plain, crate::proofs::LoadLaws::load_kept))]
 pub fn load_word(w: &mut World, slot: u8, a: u32, word: Word) -> Result<(), Refusal>
     requires slot { slot < slots }
@@ -98,7 +97,7 @@ pub fn load_word(w: &mut World, slot: u8, a: u32, word: Word) -> Result<(), Refu
     }
 }
 
-/// Why a word cannot be deposited at an address of a slot that has a job, where it cannot.
+/// Why a word cannot be deposited at an address of a slot that has a job, if it cannot.
 #[tactic(auto, using(crate::proofs::WordLaws::bar_none, crate::proofs::WordLaws::bar_read_only, crate::proofs::WordLaws::bar_absent))]
 fn undepositable(w: &World, slot: u8, a: u32) -> Option<Refusal>
     requires slot { slot < slots }
@@ -112,7 +111,7 @@ fn undepositable(w: &World, slot: u8, a: u32) -> Option<Refusal>
     }
 }
 
-/// Why a word cannot be loaded at an address of a slot that has a job, where it cannot.
+/// Why a word cannot be loaded at an address of a slot that has a job, if it cannot.
 fn unloadable(w: &World, slot: u8, a: u32) -> Option<Refusal>
     requires slot { slot < slots }
     requires address { a < 2 ^ 18 }
@@ -171,7 +170,7 @@ pub fn calm(w: &mut World, slot: u8)
     unwind(w, slot);
 }
 
-/// NoJob where a slot is empty.
+/// NoJob if a slot is empty.
 pub fn present(w: &World, slot: u8) -> Result<(), Refusal>
     requires slot { slot < slots }
     ensures refused { IfErr result (λ e. (e ≡ Refusal.NoJob) × (job_at w.now.jobs slot ≡ None)) }

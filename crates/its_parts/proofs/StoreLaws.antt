@@ -4,7 +4,7 @@ use Rattle.std.proofs.Common.{sym, ◌∙◌, ap}
 use Rattle.std.proofs.lemmas.Bool.{both_ways}
 use Rattle.its_word.specs.Directory.{without_names, changed_if, with_changed, named}
 use Rattle.its_files.specs.Files.{Store, IsStore, entry_at, is_file, found_by, found_in, found, new_names, names_at, file_at, directory}
-use Rattle.its_files.proofs.OrderLaws.{alike, same_sym, same_both, same_refl, same_self}
+use Rattle.its_word.proofs.NamesLaws.{alike, same_sym, same_both, same_refl, same_self}
 use Rattle.its_files.proofs.EntryLaws.{found_file, found_fresh}
 use Rattle.its_files.proofs.DirectoryLaws.{without_same}
 use Rattle.its_plain.specs.Machine.{Names, File}

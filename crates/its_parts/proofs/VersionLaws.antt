@@ -1,14 +1,14 @@
--- VERSION: the second sets the version, and the first changes nothing.
-use Rattle.std.specs.Prelude.{if◌then◌else◌, ◌≡◌, ◌≢◌, ◌==◌, ℕ, refl}
+-- VERSION: where no slot has a job it sets the version, and else it changes nothing.
+use Rattle.std.specs.Prelude.{if◌then◌else◌, ◌≡◌, ℕ, true, false}
 use Rattle.std.proofs.Common.{ap}
-use Rattle.std.proofs.lemmas.Bool.{ne_eqb}
+use Rattle.its_word.specs.Tree.{no_job}
 use Rattle.its_plain.specs.Machine.{Machine}
 use Rattle.its_plain.specs.OperatorVersion.{versioned}
 
-pub second : (m : Machine) (v : ℕ) → v ≡ 2 → versioned m v ≡ record m { version = 2 }
+pub version_set : (m : Machine) (v : ℕ) → no_job m.jobs ≡ true → versioned m v ≡ record m { version = v }
 unfolding versioned
-second m v e = ap (λ (i : ℕ). if i == 2 then record m { version = 2 } else m) e
+version_set m v e = ap (λ b. if b then record m { version = v } else m) e
 
-pub same_version : (m : Machine) (v : ℕ) → v ≢ 2 → versioned m v ≡ m
+pub same_version : (m : Machine) (v : ℕ) → no_job m.jobs ≡ false → versioned m v ≡ m
 unfolding versioned
-same_version m v ne = rw (ne_eqb v 2 ne) refl
+same_version m v e = ap (λ b. if b then record m { version = v } else m) e

@@ -1,4 +1,5 @@
 -- What a call finds under the number of a channel, and what stops it, in the forms that code answers.
+-- No promise rests on this.
 use Rattle.std.specs.Prelude.{if◌then◌else◌, ℕ, not, Option, Some, None, List, [], ◌∷◌, nat_lt, slice_index_or}
 use Rattle.its_word.specs.Core.{Core, can_store}
 use Rattle.its_word.specs.declared.access.Fault.{Fault}
@@ -18,7 +19,7 @@ channel_under j n = if nat_lt n 16 then slice_index_or j.channels n Closed else 
 abbrev pub bar_of : Core → ℕ → Option Fault
 bar_of c p = if is_absent c p then Some Mpv else (if not (can_store c p) then Some Wro else None)
 
--- the first test that holds, where one does
+-- the first test that holds, if one does
 abbrev pub first_of : List Test → Option Decision
 first_of [] = None
 first_of (t ∷ ts) = if t.holds then Some t.stop else first_of ts

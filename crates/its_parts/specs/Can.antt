@@ -1,4 +1,5 @@
 -- What a decision promises: its changes, its stores and its registers can be carried out.
+-- No promise rests on this.
 use Rattle.std.specs.Prelude.{◌≡◌, ◌<◌, ◌^◌, ◌||◌, ℕ, true, false, Some, None, is_some, List, [], ◌∷◌, length, nat_lt}
 use Rattle.its_word.specs.Console.{most_waiting}
 use Rattle.its_word.specs.Core.{can_store, page_of}
@@ -31,7 +32,7 @@ abbrev pub HasRoom : Machine → Chan → Type 0
 HasRoom m (Writes f) = is_full m.files (channels_of m) f.words ≡ false
 HasRoom m _ = ⊥
 
--- a channel is on a draft that can become a file: in place of one that no channel reads, or of none where there are
+-- a channel is on a draft that can become a file: in place of one that no channel reads, or of none if there are
 -- fewer files than the most
 abbrev pub CanClose : Machine → Chan → Type 0
 CanClose m (Writes f) = Unread m f.names × ((has_file f.names m.files || nat_lt (length m.files) most_files) ≡ true)
@@ -62,10 +63,9 @@ pub record Maps (m : Machine) (s k : ℕ) : Type 0 where
   pub absent : page_of (core_of (m.jobs s)) k ≡ None
   pub room : mapped m < most_pages
 
--- a change of slot j's call can be made: channels and consoles are numbers that there are; a byte that is put out and
--- a word that is appended have room; files are ones that there are, and that no channel reads where they change; a
--- job is made in the least free slot; one that is removed is neither the caller nor above it; and a page is there, or
--- can be made
+-- a change of slot j's call is possible: channels and consoles are numbers that exist; a byte that is put out and a
+-- word that is appended have room; files are ones that exist, and that no channel reads if they change; a job is made
+-- in the least empty slot; one that is removed is neither the caller nor above it; and a page exists, or is possible
 abbrev pub CanMake : Change → ℕ → Machine → Type 0
 CanMake (changes.Open n on) j m = (n < 16) × HasJob m j × (chan_in m j n ≡ Shut) × CanOpen on m
 CanMake (changes.Shut n) j m = n < 16

@@ -1,4 +1,5 @@
 -- One channel of one job is another; and what a machine shows of files and channels.
+-- No promise rests on this.
 use Rattle.std.specs.Prelude.{◌≡◌, ◌≢◌, ℕ, true, is_some, option_map}
 use Rattle.its_word.specs.declared.jobs.Channel.{Channel}
 use Rattle.its_files.specs.Files.{Store, directory}
@@ -8,7 +9,7 @@ use Rattle.its_plain.specs.OperatorFiles.{channels_of}
 use Rattle.its_parts.specs.Across.{channel_at}
 use Rattle.its_parts.specs.Parts.{bare, chan_of}
 
--- of the jobs only that of slot s is another, where there is one, and of it only channel n
+-- of the jobs only that of slot s is another, if there is one, and of its channels only channel n
 pub record OnlyChannel (old new : Table) (s n : ℕ) (x : Channel) : Type 0 where
   pub here : is_some (job_at old s) ≡ true → channel_at new s n ≡ x
   pub row : (m : ℕ) → m ≢ n → channel_at new s m ≡ channel_at old s m

@@ -1,4 +1,5 @@
--- The plain machine that cores, jobs, consoles, files and the rest stand for.
+-- The plain machine of given cores, jobs, consoles, files and the rest.
+-- No promise rests on this.
 use Rattle.std.specs.Prelude.{ℕ, Option, Some, None, List, [], replicate, slice_index_or}
 use Rattle.its_word.specs.ArrayVec.{ArrayVec}
 use Rattle.its_word.specs.Console.{Console, quiet_console}
@@ -11,8 +12,8 @@ use Rattle.its_jobs.specs.Table.{Table, job_at, superior_at}
 use Rattle.its_files.specs.Files.{Store, names_at, file_at, directory}
 use Rattle.its_plain.specs.Machine.{Symbol, Chan, Shut, TtyIn, TtyOut, Reads, Writes, On, Whole, Machine}
 
--- what a channel of the plain machine is on, where files and drafts go by their names and words. (Their numbers are the
--- monitor's own, and never reach the machine)
+-- what a channel of the plain machine is on, with the names and words of files and drafts. (Their numbers are the monitor's own, and
+-- never reach the machine)
 abbrev pub chan_of : Store → Channel → Chan
 chan_of s channels.Closed = Shut
 chan_of s channels.TtyIn = TtyIn
@@ -21,7 +22,7 @@ chan_of s (channels.Reading f at) = Reads (names_at s f) at
 chan_of s (channels.Writing d) = Writes (file_at s d)
 chan_of s (channels.Usr k w at) = On k w at
 
--- the registers of the plain machine: its channels stand apart
+-- the registers of the plain machine: its channels are separate
 unfoldable pub closed_channels : List Channel
 closed_channels = replicate 16 channels.Closed
 

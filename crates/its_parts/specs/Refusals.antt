@@ -1,4 +1,5 @@
 -- Why a line of the operator is refused, as a session says it.
+-- No promise rests on this.
 use Rattle.its_word.specs.declared.access.NoAccess.{NoAccess}
 use Rattle.its_word.specs.declared.access.NoAccess.TheVariants.{Absent, ReadOnly}
 use Rattle.its_word.specs.declared.session.Refusal.{Refusal}

@@ -1,5 +1,5 @@
-//! The plain machine that cores, jobs, consoles and files stand for, as definitions in `specs/` and laws in `proofs/`; and what
-//! a machine, in either form, has at its beginning.
+//! The plain machine of given cores, jobs, consoles and files, as definitions in `specs/` and laws in `proofs/`; and what a machine, in
+//! either form, has at its beginning.
 #![tactic(auto)]
 
 mod opening;

@@ -18,7 +18,7 @@ use Rattle.its_frame.specs.declared.variable.Variable.{Variable}
 use Rattle.its_plain.specs.Change.{with_alarm, with_inf, taken_from, put_to, on_console, poke, console_in, with_page_at, protected, effect}
 use Rattle.its_plain.specs.Job.{INF, with_pending}
 use Rattle.its_plain.specs.Own.{with_registers, with_stores, with_variable}
-use Rattle.its_plain.specs.Machine.{Shut, Whole, whole, with_job, core_of, mapped, limit}
+use Rattle.its_plain.specs.Machine.{Shut, Whole, whole, with_new, core_of, mapped, limit}
 use Rattle.its_stepped.specs.Lines.{with_raw}
 use Rattle.its_stepped.specs.State.{State}
 use Rattle.its_stepped.specs.Commit.{effect_on, effects_on}
@@ -37,7 +37,7 @@ use Rattle.its_world.specs.World.{alarm_at, AlarmBecomes, state_of, bare, chan_o
 use Rattle.its_world.specs.declared.world.World.{World}
 use Rattle.its_world.proofs.MappedLaws.{core_raw, mapped_raw, mapped_state, mapped_tidy, frames_tidy}
 use Rattle.its_world.proofs.AlarmLaws.{alarm_tidy}
-use Rattle.its_world.proofs.MadeLaws.{made_state, made_tidy, least_raw, least_blank, least_quiet}
+use Rattle.its_world.proofs.MadeLaws.{made_state, made_tidy, least_raw, least_blank, least_nameless, least_quiet}
 use Rattle.its_world.proofs.StorageLaws.{chan_shut, has_job}
 use Rattle.its_world.proofs.StateLaws.{raw_job, job_of, changed_state, absent_state, console_state, frames_state}
 
@@ -208,8 +208,8 @@ module _ (old new : World) (j k u n : ℕ) (console : Option ℕ) (made : JobMad
   pub inferior_made : (s : ℕ) → least_free (limit (state_of old).raw) (state_of old).raw.jobs ≡ Some s → console ≡ console_in ((state_of old).raw.jobs j) → state_of new ≡ effect_on (changes.Make s u n) j (state_of old)
   unfolding effect_on effect
   inferior_made s e c =
-      made_state old new k u n (Some j) console made (least_blank old k tidy free) (least_quiet old k tidy free)
-      ∙ (λ t. with_raw (state_of old) (with_job (state_of old).raw (same_free old s k e free t) (whole no_core (fresh_job u n (c t)) (Some j))))
+      made_state old new k u n (Some j) console made (least_blank old k tidy free) (least_quiet old k tidy free) (least_nameless old k tidy free)
+      ∙ (λ t. with_raw (state_of old) (with_new (state_of old).raw (same_free old s k e free t) (whole no_core (fresh_job u n (c t)) (Some j))))
 
   pub inferior_tidy : Tidy new
   inferior_tidy = made_tidy old new k u n (Some j) console made (least_empty old.jobs.limit (job_at old.jobs) k free) tidy

@@ -1,4 +1,5 @@
 -- The cores of slots: what unwinding a slot leaves of all others, and of the frames of pages.
+-- No promise rests on this.
 use Rattle.std.specs.Prelude.{◌≡◌, ◌≢◌, ℕ, None}
 use Rattle.its_core.specs.Cores.{core_at, clear_at}
 use Rattle.its_world.specs.World.{frames_after}

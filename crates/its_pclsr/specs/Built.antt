@@ -1,4 +1,5 @@
 -- The changes that can be made.
+-- No promise rests on this.
 use Rattle.std.specs.Prelude.{◌≡◌, ◌<◌, ℕ, Bool, true, false, Some, None, List, [], ◌∷◌, length}
 use Rattle.its_word.specs.Console.{most_waiting}
 use Rattle.its_word.specs.Core.{page_of}
@@ -20,8 +21,8 @@ use Rattle.its_stepped.specs.Sound.{Sound}
 use Rattle.its_stepped.specs.State.{State}
 use Rattle.its_world.specs.Storage.{HasJob, chan_in, IsDraft, Unread, HasRoom, CanClose}
 
--- a closed channel of slot j's job can be opened: on a console or on another job, or where no close is half made on a file
--- that there is, or on a new draft
+-- a closed channel of slot j's job can be opened: on a console or on another job, or, if no close is half made, on a file that exists
+-- or on a new draft
 abbrev pub CanOpen : Opened → State → Type 0
 CanOpen opened.TtyIn w = Unit {0}
 CanOpen opened.TtyOut w = Unit {0}
@@ -43,9 +44,9 @@ pub record Maps (w : State) (j s k : ℕ) : Type 0 where
   pub absent : page_of (core_of (w.raw.jobs s)) k ≡ None
   pub room : mapped w.raw < most_pages
 
--- a change of slot j's call can be made: its channel and its console are numbers that there are, a byte that is put out or
--- a word that is appended has room, and no close is half made where it looks at the directory; a job is made in the least
--- free slot; a removed one and those below it are in user mode and are not the caller; and a page is there, or can be made
+-- a change of slot j's call is possible: its channel and its console are numbers that exist, a byte that is put out or a word that is
+-- appended has room, and no close is half made if it looks at the directory; a job is made in the least empty slot; a removed one and
+-- those below it are in user mode and are not the caller; and a page exists, or is possible
 abbrev pub CanMake : Change → ℕ → State → Type 0
 CanMake (changes.Open n on) j w = (n < 16) × HasJob w j × (chan_in w j n ≡ Shut) × CanOpen on w
 CanMake (changes.Shut n) j w = n < 16
@@ -73,7 +74,7 @@ abbrev pub CanMakeAll : List Change → ℕ → State → Type 0
 CanMakeAll [] j w = Unit {0}
 CanMakeAll (c ∷ cs) j w = CanMake c j w × CanMakeAll cs j (effect_on c j w)
 
--- the step of giving a page back, where one is reserved
+-- the step of giving a page back, if one is reserved
 abbrev pub backed : Bool → List Owed
 backed true = GiveBack ∷ []
 backed false = []

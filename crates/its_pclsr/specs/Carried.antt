@@ -1,4 +1,5 @@
 -- What has to hold of a decision that is carried out, and of the frame of its call.
+-- No promise rests on this.
 use Rattle.std.specs.Prelude.{◌≡◌, ◌≤◌, ◌+◌, ℕ, Option, Some, None, List, ◌++◌, length, take, drop, slice_set, slice_index_or}
 use Rattle.its_frame.specs.Left.{kept}
 use Rattle.its_frame.specs.declared.change.Change.TheVariants.{Remove}
@@ -22,7 +23,7 @@ standing_of (Some (frames.Holding f)) = Some f
 standing_of (Some (frames.Waiting f)) = Some (record { site = f.site; ask = f.ask; page = None; owes = f.owes })
 standing_of _ = None
 
--- what a call that ends owes has room in its frame, behind its changes
+-- there is room in its frame for what is pending of a call that ends, after its changes
 pub record Endable (w : State) (s : ℕ) (f : Holding) (stores : ℕ) : Type 0 where
   pub read : length (debts f.ask f.owes) ≡ f.owes
   pub few : length (owed_parts w.mark s) + kept (w.reserved s) + f.owes + stores ≤ 3
@@ -44,7 +45,7 @@ with_value a k v = record a { inputs = record { items = slice_set a.inputs.items
 abbrev pub with_values : Ask → ℕ → List ℕ → Ask
 with_values a kept vs = record a { inputs = record { items = take kept a.inputs.items ++ valued (drop kept a.inputs.items) vs } }
 
--- the letter of a trial that comes to a decision
+-- the letter of a trial with this decision
 abbrev pub pace_of : Decision → Pace
 pace_of (Waits r) = Wait
 pace_of (Goes cs h vs) = Step

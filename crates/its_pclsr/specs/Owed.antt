@@ -1,4 +1,5 @@
--- The head of a list of owed steps, and that of the parts of a close.
+-- The head of a list of pending steps, and that of the parts of a close.
+-- No promise rests on this.
 use Rattle.std.specs.Prelude.{◌≡◌, ℕ, Bool, true, false, Option, Some, None, List, [], ◌∷◌}
 use Rattle.its_word.specs.declared.calls.Owed.{Owed}
 use Rattle.its_word.specs.declared.calls.Owed.TheVariants.{Store, GiveBack, Unlink, Link, Free, Leave}
@@ -13,12 +14,12 @@ is_file (Store a w) = false
 is_file GiveBack = false
 is_file (Leave e) = false
 
--- the first owed step is one of a close
+-- the first pending step is one of a close
 abbrev pub begins_with_file : List Owed → Bool
 begins_with_file [] = false
 begins_with_file (o ∷ os) = is_file o
 
--- where a slot's call owns the mark, the owed steps have just the parts of the mark
+-- if a slot's call owns the mark, exactly the parts of the mark are among the pending steps
 abbrev pub Marks : Option Mark → ℕ → List Owed → Type 0
 Marks (Some m) j os = m.owner ≡ j → file_parts os ≡ m.parts
 Marks None j os = Unit {0}

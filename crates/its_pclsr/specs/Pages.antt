@@ -1,4 +1,5 @@
--- In which frames pages stand after the changes of a call, and which frames are free.
+-- In which page frames pages are after the changes of a call, and which page frames are free.
+-- No promise rests on this.
 use Rattle.std.specs.Prelude.{if◌then◌else◌, ℕ, zero, suc, Bool, None, List, [], ◌∷◌}
 use Rattle.its_word.specs.Limits.{slots}
 use Rattle.its_core.specs.Frames.{Frames, frames_map, frames_unmap, frames_drop_all}

@@ -1,4 +1,5 @@
 -- The next part of a marked close, made.
+-- No promise rests on this.
 use Rattle.std.specs.Prelude.{◌≡◌}
 use Rattle.its_stepped.specs.Unwind.{with_part}
 use Rattle.its_world.specs.World.{state_of}

@@ -1,4 +1,5 @@
 -- What a removal leaves of a slot.
+-- No promise rests on this.
 use Rattle.std.specs.Prelude.{if◌then◌else◌, ◌≡◌, ◌≢◌, ◌≤◌, ◌<◌, ℕ, Bool, true, false, None, option_map}
 use Rattle.its_word.specs.Core.{no_core}
 use Rattle.its_word.specs.declared.jobs.Channel.TheVariants as channels
@@ -52,7 +53,7 @@ pub record Empties (old new : World) (s : ℕ) : Type 0 where
   pub bare : Bare new s
   pub pages : new.core.frames ≡ frames_drop_all s old.core.frames
 
--- slot k, in which this is done where its job is to go; else its channels on jobs that go are closed
+-- slot k: this is done to it if its job is to go; else its channels on jobs that go are closed
 pub record SlotSwept (gone : ℕ → Bool) (old new : State) (k : ℕ) : Type 0 where
   pub job : gone k ≡ false → new.raw.jobs k ≡ option_map (shut_on gone) (old.raw.jobs k)
   pub frame : new.frames k ≡ (if gone k then None else old.frames k)

@@ -8,8 +8,8 @@ use super::owed::first_owed;
 use arrayvec::ArrayVec;
 use its_word::{Ask, Exit, Owed, Store};
 
-/// The steps that a call owes that has ended: the parts of its close; its reserved page, where it has one; the
-/// last `owes` of its arguments; its own stores; and its registers.
+/// The pending steps of a call that has ended: the parts of its close; its reserved page, if it has one; the last
+/// `owes` of its arguments; its own stores; and its registers.
 pub fn owed_steps(
     parts: &[Owed],
     reserved: bool,

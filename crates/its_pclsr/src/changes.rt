@@ -128,7 +128,7 @@ fn take(w: &mut World, console: u8)
     w.take(console);
 }
 
-/// Puts a byte behind a console's output, which has room.
+/// Puts a byte at the end of a console's output, which has room.
 #[tactic(auto, using(crate::proofs::ApartLaws::console_pages, crate::proofs::ChangeLaws::byte_put, crate::proofs::ChangeLaws::console_room, crate::proofs::ApartLaws::tidy_console))]
 fn put(w: &mut World, console: u8, byte: u8)
     requires console { console < 8 }
@@ -153,7 +153,7 @@ fn hold(w: &mut World, console: u8, slot: u8)
     w.hold(console, Some(slot));
 }
 
-/// Sets INF in a slot's job, where it has one.
+/// Sets INF in a slot's job, if it has one.
 #[tactic(auto, using(crate::proofs::ApartLaws::becomes_pages, crate::proofs::ChangeLaws::inf_set, crate::proofs::ChangeLaws::inf_missing))]
 fn inform(w: &mut World, slot: u8)
     requires tidy { Tidy w.old }
@@ -263,7 +263,7 @@ fn protect(w: &mut World, slot: u8, page: u8, writable: bool)
     w.core.protect(slot, page, writable);
 }
 
-/// Sets a variable of a slot's job, where it has one.
+/// Sets a variable of a slot's job, if it has one.
 #[tactic(auto, using(crate::proofs::ApartLaws::becomes_pages, crate::proofs::ChangeLaws::variable_set, crate::proofs::ChangeLaws::variable_missing))]
 fn set(w: &mut World, slot: u8, variable: Variable, value: Word)
     requires tidy { Tidy w.old }

@@ -22,8 +22,8 @@ use its_frame::{CallName, Decision, Ending, Frame, Held, Holding, Moving, Waitin
 use its_word::{Ask, Exit, Owed, Store, Word};
 use its_world::World;
 
-/// Carries out what the call of a slot's job comes to, which stands in its frame: the changes at once, and
-/// the rest as the frame that it leaves.
+/// Carries out the decision of the call of a slot's job, which is in its frame: the changes at once, and the rest as
+/// the frame that it leaves.
 pub fn carry_out(w: &mut World, slot: u8, decision: Decision)
     requires slot { slot < slots }
     requires job { is_some (job_at w.old.jobs slot) ≡ true }
@@ -103,7 +103,7 @@ fn wait(w: &mut World, slot: u8)
     );
 }
 
-/// A part of the call is done: its last arguments have new values, which it owes.
+/// A part of the call is done: its last arguments have new values, whose stores are pending.
 #[tactic(auto, using(crate::proofs::ApartLaws::tidy_kept, crate::proofs::ApartLaws::becomes_pages))]
 fn go_on(w: &mut World, slot: u8, held: Option<Held>, values: &[Word])
     requires slot { slot < slots }
@@ -174,7 +174,7 @@ fn set_value(ask: &mut Ask, k: usize, value: Word)
     ask.inputs[k].value = value;
 }
 
-/// The call ends: the parts of its close, its reserved page, its arguments, its stores and its registers are owed.
+/// The call ends: the parts of its close, its reserved page, its arguments, its stores and its registers are pending.
 #[tactic(auto, using(crate::proofs::ApartLaws::tidy_kept, crate::proofs::CommittingLaws::page_reserved, crate::proofs::ApartLaws::becomes_pages))]
 fn end(w: &mut World, slot: u8, stores: &[Store], exit: Exit)
     requires slot { slot < slots }
@@ -199,7 +199,7 @@ fn end(w: &mut World, slot: u8, stores: &[Store], exit: Exit)
     );
 }
 
-/// The parts of a close that a slot's call owes.
+/// The pending parts of the close of a slot's call.
 #[tactic(auto, using(crate::proofs::CommittingLaws::parts_mine, crate::proofs::CommittingLaws::parts_none))]
 fn owed_parts(w: &World, slot: u8) -> ArrayVec<Owed, 3>
     ensures { result.items ≡ owed_parts (state_of w.now).mark slot }

@@ -1,6 +1,6 @@
-//! Unwinding: a job that another one or the operator stops, examines or changes is brought to user mode
-//! first, one small step at a time. Nothing here can be refused. Beside it the parts of carrying a call's
-//! decision out: its changes, the steps that it owes, and the removal of a job with all below it.
+//! Unwinding: a job that another one or the operator stops, examines or changes is first brought to user mode, one
+//! small step at a time. Nothing here can be refused. Also the parts of carrying a call's decision out: its changes,
+//! its pending steps, and the removal of a job with all below it.
 #![tactic(auto)]
 
 mod carrying;

@@ -52,7 +52,7 @@ pub fn owns_mark(w: &World, slot: u8) -> bool
     }
 }
 
-/// The owed steps of a slot's call without the file steps at their head that were made already: those of a
+/// The pending steps of a slot's call without the file steps at their head that were performed already: those of a
 /// close that is marked no more.
 #[tactic(auto, using(crate::proofs::OwedLaws::due_whole))]
 pub fn pass_over(w: &World, slot: u8, owed: &mut ArrayVec<Owed, 4>)
@@ -63,7 +63,7 @@ pub fn pass_over(w: &World, slot: u8, owed: &mut ArrayVec<Owed, 4>)
     }
 }
 
-/// The owed steps without file steps at their head.
+/// The pending steps without file steps at their head.
 #[tactic(auto, using(crate::proofs::OwedLaws::due_over, crate::proofs::OwedLaws::due_more, crate::proofs::OwedLaws::some_first))]
 fn drop_parts(owed: &mut ArrayVec<Owed, 4>)
     ensures { owed.new.items ≡ due false owed.old.items }
@@ -73,7 +73,7 @@ fn drop_parts(owed: &mut ArrayVec<Owed, 4>)
     }
 }
 
-/// Whether the first owed step is one of a close.
+/// Whether the first pending step is one of a close.
 fn begins_with_file(owed: &[Owed]) -> bool
     ensures { result ≡ begins_with_file owed.now }
 {

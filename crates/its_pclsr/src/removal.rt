@@ -46,11 +46,10 @@ pub fn unwind_below(w: &mut World, slot: u8)
     }
 }
 
-/// Removes the job of a slot and all jobs below it: their drafts are dropped, their channels closed, and
-/// their pages and symbols given up; every channel on one of them is closed. A console that one of them holds passes to
-/// the superior of the job, where it has one, else to nobody. No INF is set. The jobs below have been
-/// unwound; what is left of a call of the job itself is dropped, but a page that it has reserved is given
-/// back before.
+/// Removes the job of a slot and all jobs below it: their drafts are dropped, their channels closed, and their pages and symbols given
+/// up; every channel on one of them is closed. A console that one of them holds passes to the superior of the job, if it has one, else
+/// to nobody. No INF is set. The jobs below have been unwound; what is left of a call of the job itself is dropped, but a page that it
+/// has reserved is given back before.
 pub fn remove_tree(w: &mut World, slot: u8)
     requires slot { slot < slots }
     requires job { is_some (job_at w.old.jobs slot) ≡ true }
@@ -162,7 +161,7 @@ fn shut_each(jobs: &Jobs, root: u8, channels: &mut [Channel])
     }
 }
 
-/// Passes the consoles that jobs of a tree hold to the superior of the root, or to nobody where it has none.
+/// Passes the consoles that jobs of a tree hold to the superior of the root, or to nobody if it has none.
 #[tactic(auto, using(its_parts::proofs::TurningLaws::turning_start, its_parts::proofs::TurningLaws::turning_more, its_parts::proofs::TurningLaws::turning_end))]
 fn pass_on(jobs: &Jobs, root: u8, holders: &mut [Option<u8>])
     ensures { (c : ℕ) → slice_index_or holders.new c None ≡ passed_on (in_tree (superior_at jobs.now) root) (superior_at jobs.now root) (slice_index_or holders.old c None) }

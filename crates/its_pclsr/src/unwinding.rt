@@ -66,8 +66,8 @@ fn step(w: &mut World, slot: u8)
     }
 }
 
-/// A call that has reserved a page gives it back, and stands as before it was prepared; one that owes words
-/// stores the first; else its frame is dropped.
+/// A call that has reserved a page gives it back, and is as before it was prepared; one with pending words stores the
+/// first; else its frame is dropped.
 #[tactic(auto, using(crate::proofs::ApartLaws::off_one, crate::proofs::ApartLaws::off_back, crate::proofs::ApartLaws::off_then, crate::proofs::RowLaws::holding_backed, crate::proofs::RowLaws::holding_dropped, crate::proofs::RowLaws::holding_paid))]
 fn unwind_holding(w: &mut World, slot: u8, mut f: Holding)
     requires slot { slot < slots }
@@ -99,7 +99,7 @@ fn unwind_holding(w: &mut World, slot: u8, mut f: Holding)
     w.put_frame(slot, Frame::Holding(f));
 }
 
-/// A waiting call that owes words stores the first; else its frame is dropped.
+/// A waiting call with pending words stores the first; else its frame is dropped.
 #[tactic(auto, using(crate::proofs::ApartLaws::off_one, crate::proofs::ApartLaws::off_then, crate::proofs::RowLaws::paid_none, crate::proofs::RowLaws::paid_some))]
 fn unwind_waiting(w: &mut World, slot: u8, mut f: Waiting)
     requires slot { slot < slots }
@@ -120,7 +120,7 @@ fn unwind_waiting(w: &mut World, slot: u8, mut f: Waiting)
     w.put_frame(slot, Frame::Waiting(f));
 }
 
-/// The held byte is stored in its word; the pointer and the count are owed then.
+/// The held byte is stored in its word; pointer and count are then pending.
 #[tactic(auto, using(crate::proofs::ApartLaws::off_one, crate::proofs::ApartLaws::off_then, crate::proofs::RowLaws::moved_turn))]
 fn unwind_moving(w: &mut World, slot: u8, f: Moving)
     requires slot { slot < slots }
@@ -160,7 +160,7 @@ fn store_held(w: &mut World, slot: u8, f: &Moving)
     }
 }
 
-/// The first step that is still owed is made.
+/// The first step that is still pending is performed.
 #[tactic(auto, using(crate::proofs::ApartLaws::off_one, crate::proofs::ApartLaws::off_back, crate::proofs::ApartLaws::off_alike, crate::proofs::ApartLaws::off_then, crate::proofs::RowLaws::settled_store, crate::proofs::RowLaws::settled_back))]
 fn unwind_ending(w: &mut World, slot: u8, mut f: Ending)
     requires slot { slot < slots }

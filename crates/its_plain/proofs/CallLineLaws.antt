@@ -5,14 +5,14 @@ use Rattle.std.proofs.Common.{sym, ◌∙◌, ap, subst, inl, inr, arith}
 use Rattle.std.proofs.lemmas.Bool.{cases_Bool, cases_eq, eq-eqb, ne_eqb, ltb-true}
 use Rattle.its_word.specs.Console.{most_waiting}
 use Rattle.its_word.specs.Core.{Core, Page, page_of, word_at, can_store}
-use Rattle.its_word.specs.Limits.{most_symbols}
-use Rattle.its_word.specs.Tree.{least_free}
+use Rattle.its_word.specs.Limits.{slots, most_symbols}
+use Rattle.its_word.specs.Tree.{least_free, no_job}
 use Rattle.its_word.specs.declared.jobs.Job.{Job}
 use Rattle.its_word.specs.declared.session.Event.{Event}
 use Rattle.its_word.specs.declared.session.Event.TheVariants as events
 use Rattle.its_word.specs.declared.session.Reason.{Reason}
 use Rattle.its_word.specs.declared.show.JobShow.{JobShow}
-use Rattle.its_word.proofs.FreeLaws.{least_empty, least_below}
+use Rattle.its_word.proofs.FreeLaws.{least_empty, least_below, no_job_there}
 use Rattle.its_plain.specs.Machine.{Names, File, Chan, Console, Whole, Machine, changed, with_job, mapped, limit}
 use Rattle.its_plain.specs.Operator.{Block, Refuses, Does, Ticks, Quits, and_then, disturbs, quietly}
 use Rattle.its_plain.specs.OperatorJobs.{new_job, held_by, loaded_in, loaded, stored, with_core, word_loaded_of, word_loaded, words_stored, words_barred, words_loaded_if, words_loaded, page_protected_in, page_protected, on_job, with_registers, on_registers, started, interrupted, stopped, continued, examined, state_shown, deposited_in, deposited}
@@ -59,13 +59,17 @@ pub data AlarmsKept (m n : Machine) : Type 0 where
   Same : n.clock ≡ m.clock → ((k : ℕ) → (alarm_in (n.jobs k) ≡ alarm_in (m.jobs k)) ⊎ (alarm_in (n.jobs k) ≡ None)) → AlarmsKept m n
   Went : (c : ℕ) → m.clock ≤ c → n ≡ at_clock c m → AlarmsKept m n
 
+-- one of the slots that there are
+abbrev pub IsSlot : ℕ → Type 0
+IsSlot k = k < slots
+
 pub record LineKeeps (m n : Machine) : Type 0 where
   pub slots : (k : ℕ) → SlotKept (m.jobs k) (n.jobs k)
   pub few : (k : ℕ) → limit m ≤ k → m.jobs k ≡ None → n.jobs k ≡ None
   pub consoles : (c : ℕ) → ConsoleKept (m.consoles c) (n.consoles c)
   pub holders : (c : ℕ) → HolderKept m n c
   pub clock : (n.clock ≡ m.clock) ⊎ (n.clock < clock_end)
-  pub version : (n.version ≡ m.version) ⊎ (n.version ≡ 2)
+  pub version : (n.version ≡ m.version) ⊎ ((k : ℕ) → IsSlot k → n.jobs k ≡ None)
   pub alarms : AlarmsKept m n
 
 abbrev pub LineKeepsBy : Machine → Lined → Type 0
@@ -218,17 +222,17 @@ quiet_keeps : (m : Machine) (b : Block) (r : Result Machine Reason) → AlikeBy 
 quiet_keeps m b (Ok n) h = alike_keeps m n h
 quiet_keeps m b (Err r) h = tt
 
--- VERSION changes the version alone, to the second
+-- VERSION changes the version alone, where no slot has a job
 version_keeps : (m : Machine) (v : ℕ) → LineKeeps m (versioned m v)
 unfolding versioned
-version_keeps m v = elim (cases_Bool (v == 2)) [
+version_keeps m v = elim (cases_Bool (no_job m.jobs)) [
   | inl is ↦ rw is (record {
     slots = λ k. Stays refl;
     few = λ k l e. e;
     consoles = λ c. Quiet refl;
     holders = λ c. Keeps refl;
     clock = inl refl;
-    version = inr refl;
+    version = inr (λ k l. no_job_there m.jobs k is l);
     alarms = Same refl (λ k. inl refl);
   })
   | inr is ↦ rw is (alike_keeps m m (alike_same m))

@@ -1,19 +1,38 @@
 -- The turns of a RUN are fair: whoever runs on is nearer than the slot that has just had its turn, and comes nearer with each turn
 -- of another.
-use Rattle.std.specs.Prelude.{◌≡◌, ◌≢◌, ◌<◌, ◌≤◌, ◌==◌, ℕ, zero, suc, Bool, true, false, Option, Some, None, List, [], ◌∷◌, ◌++◌, length, drop, map, refl}
-use Rattle.std.proofs.Common.{sym, ◌∙◌, ap, subst, arith, inl, inr}
-use Rattle.std.proofs.lemmas.Bool.{cases_eq}
+use Rattle.std.specs.Prelude.{◌≡◌, ◌≢◌, ◌<◌, ◌≤◌, ◌==◌, ℕ, zero, suc, ◌+◌, Bool, true, false, Option, Some, None, List, [], ◌∷◌, ◌++◌, length, drop, refl}
+use Rattle.std.proofs.Common.{sym, ◌∙◌, ap, subst, arith, inl, inr, append-nil}
+use Rattle.std.proofs.lemmas.Bool.{cases_eq, cases_order, eq-eqb, ne_eqb}
 use Rattle.its_robin.specs.Robin.{robin, between, IsNext}
 use Rattle.its_robin.proofs.RobinLaws.{robin_same, robin_next, way_on, as_far, farthest}
-use Rattle.its_word.specs.Item.{Item, Read, Unread, InTurn, Beyond}
+use Rattle.its_word.specs.Item.{Item, Read, Unread, Beyond}
 use Rattle.its_word.specs.Limits.{slots}
+use Rattle.its_word.specs.declared.calls.Pace.{Pace}
 use Rattle.its_word.specs.declared.session.Event.{Event}
 use Rattle.its_print.specs.Printing.{Line}
-use Rattle.its_plain.specs.Course.{letters}
-use Rattle.its_plain.specs.Machine.{Machine, no_machine}
-use Rattle.its_plain.specs.Operator.{Block, no_block}
-use Rattle.its_plain.specs.OperatorLines.{lined}
-use Rattle.its_plain.specs.Unrolled.{runs, turn_after, highest, turns_asked, ticks_asked, after_letters, Turn, chosen, turns, Stand, stand_after, Part, alone, part_by, machine_behind, last_behind, parts_from, parts, RunsAt, has_turn, Fair, AreFair, FairTurns}
+use Rattle.its_plain.specs.Course.{Course, onward, rests, Lines, Letter, Moment, machine_after, paced, letters, turned_by, turned, past, course, run_of}
+use Rattle.its_plain.specs.Course as courses
+use Rattle.its_plain.specs.Fair.{Turn, turn_at, turns_on, RunsAt, has_turn, Fair, FairTurns}
+use Rattle.its_plain.specs.Machine.{Machine}
+use Rattle.its_plain.specs.Operator.{Refuses, Does, Ticks, Quits}
+use Rattle.its_plain.specs.OperatorLines.{Lined, Done, Peeks, lined}
+use Rattle.its_plain.specs.Transcript.{Walk, at_start, after_letter, walk_after, next_line}
+use Rattle.its_plain.specs.Turns.{runs, turn_after, highest, turns_asked}
+
+-- the machine after some letters of slot i
+abbrev after_letters : Machine → ℕ → List Pace → Machine
+after_letters m i [] = m
+after_letters m i (p ∷ ps) = after_letters (machine_after m i p) i ps
+
+-- up to n turns from machine m on, where these lines are shown
+abbrev chosen : Machine → Option ℕ → (ℕ → List Turn) → List Turn
+chosen m (Some s) next = record { machine = m; slot = s } ∷ next s
+chosen m None next = []
+
+abbrev turns : ℕ → Machine → ℕ → List Line → List Turn
+turns zero m last lines = []
+turns (suc n) m last lines =
+    chosen m (turn_after m last) (λ s. turns n (after_letters m s (letters lines)) s (drop 1 lines))
 
 -- whose turn it is depends on who runs alone, and it is a slot
 pub turn_same : (m n : Machine) (last : ℕ) → last < slots → ((k : ℕ) → runs m k ≡ runs n k) → turn_after m last ≡ turn_after n last
@@ -106,17 +125,90 @@ fair_turns n last m lines l = record {
       has_one between_ after z a.slot k a.slot la lk la same (farthest slots a.slot k la lk ne) x.more run;
 }
 
--- the slot of the last turn is one
-chosen_within : (m : Machine) (last : ℕ) (o : Option ℕ) (next : ℕ → List Turn) → last < slots → turn_after m last ≡ o → ((s : ℕ) → s < slots → last_behind s (next s) < slots)
-    → last_behind last (chosen m o next) < slots
-chosen_within m last (Some s) next l e h = h s (robin_next slots last s (runs m) l e).within
-chosen_within m last None next l e h = l
+-- a run that begins with letters, or with turns, goes on from a walk whose line is the same
+record Leads (v w : Walk) (m : Machine) : Type 0 where
+  line : w.line ≡ v.line
+  machine : w.machine ≡ m
 
-last_within : (n last : ℕ) (m : Machine) (lines : List Line) → last < slots → last_behind last (turns n m last lines) < slots
-last_within zero last m lines l = l
-last_within (suc n) last m lines l =
-    chosen_within m last (turn_after m last) (λ s. turns n (after_letters m s (letters lines)) s (drop 1 lines)) l refl
-    (λ s i. last_within n s (after_letters m s (letters lines)) (drop 1 lines) i)
+letter_off : (b : Bool) (m : Machine) (i : ℕ) (p : Pace) (ts : List Turn) → turn_at b m (Letter i p) ts ≡ ts
+letter_off true m i p ts = refl
+letter_off false m i p ts = refl
+
+-- the turns among the moments of letters: none
+paced_turns : (k i : ℕ) (v : Walk) (ps : List Pace) (next : Walk → Course) (ts : List Turn)
+    → ((w : Walk) → Leads v w (after_letters v.machine i ps) → turns_on k (next w).moments ≡ ts) → turns_on k (paced v i ps next).moments ≡ ts
+paced_turns k i v [] next ts h = h v (record { line = refl; machine = refl })
+paced_turns k i v (p ∷ ps) next ts h =
+    let w = after_letter v i p (machine_after v.machine i p) in
+    letter_off (v.line == k) v.machine i p (turns_on k (paced w i ps next).moments) ∙ paced_turns k i w ps next ts (λ x l. h x (record { line = l.line; machine = l.machine }))
+
+-- the turns of this line, or none of another
+abbrev of_line : Bool → List Turn → List Turn
+of_line true ts = ts
+of_line false ts = []
+
+of_none : (b : Bool) → of_line b [] ≡ []
+of_none true = refl
+of_none false = refl
+
+turn_then : (b : Bool) (m : Machine) (s : ℕ) (ts us : List Turn) → turn_at b m (courses.Turns s) (of_line b ts ++ us) ≡ of_line b (record { machine = m; slot = s } ∷ ts) ++ us
+turn_then true m s ts us = refl
+turn_then false m s ts us = refl
+
+-- what goes on after some turns has the turns that it has, wherever it stands then
+abbrev Onward : Walk → (Walk → ℕ → List Line → Course) → ℕ → List Turn → Type 0
+Onward v next k us = (w : Walk) (l : ℕ) (rest : List Line) → w.line ≡ v.line → l < slots → turns_on k (next w l rest).moments ≡ us
+
+turn_moments : (k n last : ℕ) (v : Walk) (lines : List Line) (next : Walk → ℕ → List Line → Course) (us : List Turn) (o : Option ℕ) → last < slots → turn_after v.machine last ≡ o
+    → Onward v next k us
+    → ((w : Walk) (s : ℕ) (rest : List Line) → s < slots → w.line ≡ v.line → turns_on k (turned n w s rest next).moments ≡ of_line (v.line == k) (turns n w.machine s rest) ++ us)
+    → turns_on k (turned_by o v lines (λ w s rest. turned n w s rest next) (next v last lines)).moments
+    ≡ of_line (v.line == k) (chosen v.machine o (λ s. turns n (after_letters v.machine s (letters lines)) s (drop 1 lines))) ++ us
+turn_moments k n last v lines next us None l is done more = done v last lines refl l ∙ ap (λ ts. ts ++ us) (sym (of_none (v.line == k)))
+turn_moments k n last v lines next us (Some s) l is done more =
+    let rest = drop 1 lines in
+    let ts = turns n (after_letters v.machine s (letters lines)) s rest in
+    let at = turn_within v.machine last s l is in
+    ap (turn_at (v.line == k) v.machine (courses.Turns s))
+    (paced_turns k s v (letters lines) (λ w. turned n w s rest next) (of_line (v.line == k) ts ++ us)
+    (λ w leads. more w s rest at leads.line ∙ ap (λ m. of_line (v.line == k) (turns n m s rest) ++ us) leads.machine))
+    ∙ turn_then (v.line == k) v.machine s ts us
+
+turned_moments : (k n last : ℕ) (v : Walk) (lines : List Line) (next : Walk → ℕ → List Line → Course) (us : List Turn) → last < slots → Onward v next k us
+    → turns_on k (turned n v last lines next).moments ≡ of_line (v.line == k) (turns n v.machine last lines) ++ us
+turned_moments k zero last v lines next us l h = h v last lines refl l ∙ ap (λ ts. ts ++ us) (sym (of_none (v.line == k)))
+turned_moments k (suc n) last v lines next us l h =
+    turn_moments k n last v lines next us (turn_after v.machine last) l refl h
+    (λ w s rest at same.
+    turned_moments k n s w rest next us at (λ x i more is within. h x i more (is ∙ same) within)
+    ∙ ap (λ (i : ℕ). of_line (i == k) (turns n w.machine s rest) ++ us) same)
+
+-- what a line comes to leaves no turn of its own
+abbrev Follows : Walk → (Walk → List Line → Course) → ℕ → List Turn → Type 0
+Follows v next k us = (w : Walk) (rest : List Line) → w.line ≡ v.line → turns_on k (next w rest).moments ≡ us
+
+line_off : (b : Bool) (m : Machine) (e : Event) (ts : List Turn) → turn_at b m (Lines e) ts ≡ ts
+line_off true m e ts = refl
+line_off false m e ts = refl
+
+-- the turns of line k, from a line after it on
+past_none : (k : ℕ) (v : Walk) (e : Event) (l : Lined) (lines : List Line) (next : Walk → List Line → Course) → Follows v next k [] → turns_on k (past v e l lines next).moments ≡ []
+past_none k v e (Done (Refuses r)) lines next h = refl
+past_none k v e (Done (Does n out touched b)) lines next h = line_off (v.line == k) v.machine e _ ∙ h (walk_after v n touched b) (drop (length out) lines) refl
+past_none k v e (Done (Ticks s i)) lines next h = paced_turns k s v (letters lines) (λ w. next w (drop 1 lines)) [] (λ w leads. h w (drop 1 lines) leads.line)
+past_none k v e (Done Quits) lines next h = refl
+past_none k v e (Peeks s) lines next h = h v (drop 1 lines) refl
+
+later_none : (k last : ℕ) (v : Walk) (es : List Item) (lines : List Line) → last < slots → k < v.line → turns_on k (course v last es lines).moments ≡ []
+later_none k last v [] lines l after = refl
+later_none k last v (Read e ∷ es) lines l after =
+    past_none k v e (lined v.machine v.block e) lines _
+    (λ w rest same.
+    turned_moments k (turns_asked e) last w rest (λ x i more. course (next_line x) i es more) [] l
+    (λ x i more is within. (let to : x.line ≡ v.line = is ∙ same in later_none k i (next_line x) es more within (omega (arith, to, after))))
+    ∙ ap (λ b. of_line b (turns (turns_asked e) w.machine last rest) ++ []) (ne_eqb w.line k (λ (is : w.line ≡ k). omega (arith, is, same, after))))
+later_none k last v (Unread r ∷ es) lines l after = refl
+later_none k last v (Beyond ∷ es) lines l after = refl
 
 no_turns : (before : List Turn) (t : Turn) (ts : List Turn) → [] ≡ before ++ (t ∷ ts) → ⊥
 no_turns [] t ts h = cc
@@ -125,25 +217,64 @@ no_turns (x ∷ before) t ts h = cc
 none_fair : Fair []
 none_fair = record { each = λ before between_ after a z k is same lk ne run. absurd (no_turns before a (between_ ++ (z ∷ after)) is) }
 
-alone_fair : (es : List Item) → AreFair (map alone es)
-alone_fair [] = tt
-alone_fair (x ∷ es) = (none_fair, alone_fair es)
+-- letters, and turns of another line, with all that follows
+letters_fair : (k i : ℕ) (v : Walk) (ps : List Pace) (next : Walk → Course) → ((w : Walk) → w.line ≡ v.line → Fair (turns_on k (next w).moments))
+    → Fair (turns_on k (paced v i ps next).moments)
+letters_fair k i v [] next h = h v refl
+letters_fair k i v (p ∷ ps) next h =
+    let w = after_letter v i p (machine_after v.machine i p) in
+    subst Fair (sym (letter_off (v.line == k) v.machine i p (turns_on k (paced w i ps next).moments))) (letters_fair k i w ps next (λ x same. h x same))
 
-part_fair : (e : Event) (last : ℕ) (es : List Item) (o : Option Stand) (next : Stand → List Turn → List Part) → last < slots
-    → ((x : Stand) (ts : List Turn) → last_behind last ts < slots → AreFair (next x ts)) → AreFair (part_by e last es o next)
-part_fair e last es None next l h = alone_fair (Read e ∷ es)
-part_fair e last es (Some x) next l h =
-    (fair_turns (turns_asked e) last x.machine x.lines l, h x (turns (turns_asked e) x.machine last x.lines) (last_within (turns_asked e) last x.machine x.lines l))
+abbrev GoesOn : ℕ → (Walk → ℕ → List Line → Course) → Type 0
+GoesOn k next = (w : Walk) (l : ℕ) (rest : List Line) → l < slots → Fair (turns_on k (next w l rest).moments)
 
-parts_fair : (es : List Item) (m : Machine) (b : Block) (last : ℕ) (lines : List Line) → last < slots → AreFair (parts_from m b last es lines)
-parts_fair [] m b last lines l = tt
-parts_fair (Read e ∷ es) m b last lines l =
-    part_fair e last es (stand_after m b (lined m b e) lines) _ l
-    (λ x ts w. parts_fair es (machine_behind x.machine ts x.lines) x.block (last_behind last ts) (drop (length ts) x.lines) w)
-parts_fair (Unread r ∷ es) m b last lines l = alone_fair (Unread r ∷ es)
-parts_fair (InTurn s k ∷ es) m b last lines l = alone_fair (InTurn s k ∷ es)
-parts_fair (Beyond ∷ es) m b last lines l = alone_fair (Beyond ∷ es)
+turn_fair : (k n last : ℕ) (v : Walk) (lines : List Line) (next : Walk → ℕ → List Line → Course) (o : Option ℕ) → last < slots → turn_after v.machine last ≡ o → v.line ≢ k
+    → GoesOn k next
+    → ((w : Walk) (s : ℕ) (rest : List Line) → s < slots → w.line ≢ k → Fair (turns_on k (turned n w s rest next).moments))
+    → Fair (turns_on k (turned_by o v lines (λ w s rest. turned n w s rest next) (next v last lines)).moments)
+turn_fair k n last v lines next None l is ne done more = done v last lines l
+turn_fair k n last v lines next (Some s) l is ne done more =
+    let w = letters_fair k s v (letters lines) (λ w. turned n w s (drop 1 lines) next)
+    (λ w same. more w s (drop 1 lines) (turn_within v.machine last s l is) (λ e. ne (sym same ∙ e))) in
+    subst (λ b. Fair (turn_at b v.machine (courses.Turns s) (turns_on k (paced v s (letters lines) (λ w. turned n w s (drop 1 lines) next)).moments))) (sym (ne_eqb v.line k ne)) w
 
--- every RUN of every session is fair, whatever its lines are
+turned_fair : (k n last : ℕ) (v : Walk) (lines : List Line) (next : Walk → ℕ → List Line → Course) → last < slots → v.line ≢ k → GoesOn k next
+    → Fair (turns_on k (turned n v last lines next).moments)
+turned_fair k zero last v lines next l ne h = h v last lines l
+turned_fair k (suc n) last v lines next l ne h =
+    turn_fair k n last v lines next (turn_after v.machine last) l refl ne h (λ w s rest at other. turned_fair k n s w rest next at other h)
+
+-- a line whose turns, with all that follows, are fair
+past_fair : (k : ℕ) (v : Walk) (e : Event) (l : Lined) (lines : List Line) (next : Walk → List Line → Course)
+    → ((w : Walk) (rest : List Line) → w.line ≡ v.line → Fair (turns_on k (next w rest).moments)) → Fair (turns_on k (past v e l lines next).moments)
+past_fair k v e (Done (Refuses r)) lines next h = none_fair
+past_fair k v e (Done (Does n out touched b)) lines next h =
+    subst Fair (sym (line_off (v.line == k) v.machine e (turns_on k (next (walk_after v n touched b) (drop (length out) lines)).moments)))
+    (h (walk_after v n touched b) (drop (length out) lines) refl)
+past_fair k v e (Done (Ticks s i)) lines next h = letters_fair k s v (letters lines) (λ w. next w (drop 1 lines)) (λ w same. h w (drop 1 lines) same)
+past_fair k v e (Done Quits) lines next h = none_fair
+past_fair k v e (Peeks s) lines next h = h v (drop 1 lines) refl
+
+-- the turns of line k, from a line that is not after it on
+course_fair : (k last : ℕ) (v : Walk) (es : List Item) (lines : List Line) → last < slots → Fair (turns_on k (course v last es lines).moments)
+course_fair k last v [] lines l = none_fair
+course_fair k last v (Read e ∷ es) lines l =
+    past_fair k v e (lined v.machine v.block e) lines _
+    (λ w rest same.
+    elim (cases_order w.line k) [
+      | inl here ↦ (
+          let none = turned_moments k (turns_asked e) last w rest (λ x i more. course (next_line x) i es more) [] l
+          (λ x i more is within. later_none k i (next_line x) es more within (omega (arith, is, here))) in
+          subst Fair (sym (none ∙ ap (λ b. of_line b (turns (turns_asked e) w.machine last rest) ++ []) (eq-eqb w.line k here)
+          ∙ append-nil (turns (turns_asked e) w.machine last rest))) (fair_turns (turns_asked e) last w.machine rest l)
+          )
+      | inr apart ↦ turned_fair k (turns_asked e) last w rest (λ x i more. course (next_line x) i es more) l
+          (λ (is : w.line ≡ k). elim apart [ inl less ↦ omega (arith, is, less) | inr more ↦ omega (arith, is, more) ])
+          (λ x i more within. course_fair k i (next_line x) es more within)
+    ])
+course_fair k last v (Unread r ∷ es) lines l = none_fair
+course_fair k last v (Beyond ∷ es) lines l = none_fair
+
+-- the turns of each RUN of every session are fair, whatever its lines are
 pub fair_all : (es : List Item) (lines : List Line) → FairTurns es lines
-fair_all es lines = record { fair = parts_fair es no_machine no_block highest lines (omega arith) }
+fair_all es lines = record { fair = λ k. course_fair k highest at_start es lines (omega arith) }

@@ -8,7 +8,7 @@ pub mod RunLaws
 pub mod StepLaws
 pub mod TranscriptExamples
 pub mod FairLaws
-pub mod UnrolledLaws
 pub mod TargetLaws
 pub mod BarredLaws
 pub mod WhoRunsLaws
+pub mod PartsLaws

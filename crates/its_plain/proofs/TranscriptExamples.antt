@@ -11,18 +11,19 @@ use Rattle.its_print.specs.Printing as printed
 use Rattle.its_plain.specs.Machine.{no_machine}
 use Rattle.its_plain.specs.OperatorClock.{clocked}
 use Rattle.its_plain.specs.OperatorLines.{operate, lined}
-use Rattle.its_plain.specs.Transcript.{Fate, Ended, Open, Lost, at_start, next_line, none, letter, end_line, input_end, refused_line, obeyed_line, tick_line, Transcript}
+use Rattle.its_plain.specs.Transcript.{Fate, Ended, Open, Lost, at_start, next_line, none, letter, end_line, input_end, refused_line, obeyed_line, all_made, tick_line, Transcript}
+use Rattle.its_plain.specs.Turns.{highest}
 use Rattle.its_plain.proofs.RunLaws.{PacedOn, Run, shows_run}
 
 -- CLOCK shows nothing, and END ends the session
 clock : Transcript (Read (events.Clock 5) ∷ Read events.End ∷ []) [] Ended
 unfolding lined operate clocked no_machine
-clock = obeyed_line refl refl (end_line refl)
+clock = obeyed_line refl refl all_made (end_line refl)
 
 -- a slot without a job: PEEK is refused, and each tick has the letter `-`
 absent : Transcript (Read (events.Clock 5) ∷ Read (events.Peek 3) ∷ []) (printed.Refused 2 reasons.NoJob ∷ []) Lost
 unfolding lined operate clocked no_machine
-absent = obeyed_line refl refl (refused_line refl)
+absent = obeyed_line refl refl all_made (refused_line refl)
 
 off : Transcript (Read (events.Tick 0 2) ∷ []) (printed.Ticks 0 (Off ∷ Off ∷ []) ∷ []) Open
 unfolding lined operate no_machine
@@ -36,7 +37,7 @@ first_letters _ = []
 not_working : (fate : Fate) → Transcript (Read (events.Tick 0 1) ∷ []) (printed.Ticks 0 (Work ∷ []) ∷ []) fate → ⊥
 unfolding lined operate no_machine
 not_working fate t =
-    let run = shows_run at_start (Read (events.Tick 0 1) ∷ []) (printed.Ticks 0 (Work ∷ []) ∷ []) fate t in
+    let run = shows_run at_start highest (Read (events.Tick 0 1) ∷ []) (printed.Ticks 0 (Work ∷ []) ∷ []) fate t in
     let is : Work ∷ [] ≡ run.0 = ap first_letters run.2 in
-    let paced = subst (λ (ps : List Pace). PacedOn at_start 0 ps (λ w. Run (next_line w) [] run.1 fate)) (sym is) run.4 in
+    let paced = subst (λ (ps : List Pace). PacedOn at_start 0 ps (λ w. Run (next_line w) highest [] run.1 fate)) (sym is) run.4 in
     paced.1.0

@@ -6,7 +6,7 @@ use Rattle.its_robin.specs.Robin.{robin}
 use Rattle.its_robin.proofs.RobinLaws.{robin_same}
 use Rattle.its_word.specs.Limits.{slots}
 use Rattle.its_plain.specs.Machine.{Machine}
-use Rattle.its_plain.specs.Unrolled.{runs, turn_after}
+use Rattle.its_plain.specs.Turns.{runs, turn_after}
 use Rattle.its_plain.proofs.FairLaws.{turn_within}
 
 -- which of the first k slots have a job that runs

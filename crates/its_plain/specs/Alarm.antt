@@ -1,7 +1,8 @@
 -- Alarms of jobs (docs/CALLS.md, "REALT").
+-- A promise rests on this.
 use Rattle.std.specs.Prelude.{ℕ, ◌+◌, ◌-◌, ◌*◌, ◌/◌, Bool, false, Option, Some, None, nat_le, option_map}
 
--- an alarm is a pair: its period, and its next time, in thirtieths. It is due at a clock that has come to its next time
+-- an alarm is a pair: its period, and its next time, in thirtieths. It is due at a clock that has reached its next time
 abbrev pub is_due : ℕ → Option (ℕ × ℕ) → Bool
 is_due c (Some a) = nat_le a.1 c
 is_due c None = false

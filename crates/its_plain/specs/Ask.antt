@@ -1,4 +1,5 @@
 -- The decoding of a call in its two parts: the words of its block, then addresses and values. `.IOT` has no block.
+-- A promise rests on this.
 use Rattle.std.specs.Prelude.{ℕ, List, Result, Ok, Err}
 use Rattle.its_word.specs.ArrayVec.{ArrayVec}
 use Rattle.its_word.specs.Core.{Core}

@@ -1,4 +1,5 @@
 -- HANG, SLEEP, DISMIS, USRVAR, LOGOUT and REALT (docs/CALLS.md).
+-- A promise rests on this.
 use Rattle.std.specs.Prelude.{if◌then◌else◌, ◌==◌, ◌||◌, ◌&&◌, ℕ, ◌+◌, ◌-◌, ◌%◌, ◌^◌, Bool, true, false, not, Option, Some, None, List, [], ◌∷◌, Result, Ok, Err, nat_lt, nat_le}
 use Rattle.its_word.specs.Word.{left_of, right_of, pair_of}
 use Rattle.its_word.specs.Core.{Core, can_store}

@@ -1,4 +1,5 @@
 -- CORBLK: pages made and dropped, and who may store in them (docs/CALLS.md, "Core").
+-- A promise rests on this.
 use Rattle.std.specs.Prelude.{if◌then◌else◌, ◌==◌, ◌&&◌, ℕ, Bool, true, false, not, List, [], ◌∷◌, nat_lt, is_some}
 use Rattle.its_word.specs.Core.{Core, page_of}
 use Rattle.its_word.specs.Limits.{most_pages}

@@ -1,5 +1,6 @@
--- Calls on files and drafts: OPEN, CLOSE, `.IOT` and SIOT where their device is DSK; ACCESS, FILLEN, DELETE and RENAME
+-- Calls on files and drafts: OPEN, CLOSE, `.IOT` and SIOT if their device is DSK; ACCESS, FILLEN, DELETE and RENAME
 -- (docs/CALLS.md, "Files").
+-- A promise rests on this.
 use Rattle.std.specs.Prelude.{◌==◌, ◌&&◌, ℕ, ◌+◌, ◌-◌, ◌/◌, ◌%◌, Bool, true, false, not, Option, Some, None, List, [], ◌∷◌, ◌++◌, nat_lt, is_some, length, find, sum_by, slice_get, unwrap_or}
 use Rattle.std.specs.List.{list_any, range_with_len}
 use Rattle.its_word.specs.Word.{right_of}
@@ -63,7 +64,7 @@ blocks_of_files fs = sum_by (λ f. blocks_for (length f.words)) fs
 abbrev pub blocks_used : List File → Channels → ℕ
 blocks_used fs cs = blocks_of_files fs + blocks_of_drafts cs
 
--- there is no room for one word more behind these
+-- there is no room for one word more after these
 abbrev pub is_full : List File → Channels → List ℕ → Bool
 is_full fs cs words = needs_block (length words) && not (nat_lt (blocks_used fs cs) most_blocks)
 
@@ -81,7 +82,7 @@ reads n _ = false
 unfoldable pub is_read : Names → Channels → Bool
 is_read n cs = list_any (λ k. list_any (λ i. reads n (cs k i)) (range_with_len 0 16)) (range_with_len 0 slots)
 
--- its words; none where there is no such file
+-- its words; none if there is no such file
 abbrev pub words_by : Option File → List ℕ
 words_by (Some f) = f.words
 words_by None = []
@@ -89,7 +90,7 @@ words_by None = []
 abbrev pub words_of : View → Names → List ℕ
 words_of v n = words_by (file_named n v.files)
 
--- the names that stand from argument k on: name 1, name 2 and the directory
+-- the names from argument k on: name 1, name 2 and the directory
 abbrev pub names_from : Ask → ℕ → Names
 names_from a k = names_of (input a (k + 2)) (input a k) (input a (k + 1))
 
@@ -181,8 +182,8 @@ fillen_on v a _ = fails v a error.WRONG_DEVICE
 unfoldable pub fillen : View → Ask → Decision
 fillen v a = fillen_on v a (channel_at v.own.channels (input a 0))
 
--- DELETE device, name 1, name 2, directory, and RENAME with a new name 1 and name 2 behind them: of a file that no
--- channel reads. It keeps its place under its new names, which no file has in its directory
+-- DELETE device, name 1, name 2, directory, and RENAME, which has a new name 1 and name 2 after them, of a file that
+-- no channel reads. RENAME keeps the file's place; no file in its directory may have the new names
 abbrev pub file_tests : View → Ask → Names → List Test
 file_tests v a names =
     not (input a 0 == disk_device) ⇒ fails v a error.WRONG_DEVICE

@@ -1,7 +1,8 @@
--- One step of one job that may call the monitor: the delivery of an interrupt where one is deliverable, else a unit,
--- else the whole effect of its call where its decoding faults or it is ready. What it does is said at once, case by
--- case: the machine after it, the bytes that it moves, and the jobs that it disturbs.
-use Rattle.std.specs.Prelude.{ℕ, Bool, true, false, Option, Some, None, List, [], ◌∷◌, length, Result, Ok, Err, option_map, unwrap_or}
+-- One step of one job that may call the monitor: the delivery of an interrupt if one is deliverable, else a unit,
+-- else the whole effect of its call if its decoding faults or it is ready. One definition by cases says what it does:
+-- the machine after it, the bytes that it moves, and the jobs that it disturbs.
+-- A promise rests on this.
+use Rattle.std.specs.Prelude.{◌&&◌, ℕ, Bool, true, false, not, Option, Some, None, List, [], ◌∷◌, length, Result, Ok, Err, is_some, option_map, unwrap_or}
 use Rattle.its_word.specs.Byte.{deposit_of}
 use Rattle.its_word.specs.Core.{Core, word_at}
 use Rattle.its_word.specs.declared.access.Fault.{Fault}
@@ -49,8 +50,8 @@ pub record Transition : Type 0 where
 abbrev pub alone : Machine → Transition
 alone n = record { machine = n; moves = []; disturbs = []; part = false }
 
--- what a decision comes to, of a call that reaches the jobs of these slots: first its changes, then the stores into the
--- own core, then the registers. A call that waits has no step
+-- the result of a decision, for a call that reaches the jobs of these slots: first its changes, then the stores into the own core, then
+-- the registers. A call that waits has no step
 abbrev pub ended : List Store → (Whole → Whole) → Whole → Whole
 ended ss f q = f (with_stores ss q)
 
@@ -96,7 +97,7 @@ by_unit m j q (Changed c k) = Some (alone (in_job m j (becomes c k)))
 by_unit m j q (Faulted f) = Some (alone (in_job m j (faulted f)))
 by_unit m j q (Called s) = by_ask m j q (ask q.core s)
 
--- a delivery: where a fatal bit stops the job, INF is set in its superior
+-- a delivery: if a fatal bit stops the job, INF is set in its superior
 abbrev pub informed_slots : Bool → Option ℕ → List ℕ
 informed_slots true (Some s) = s ∷ []
 informed_slots true None = []
@@ -127,11 +128,11 @@ abbrev pub transition_of : Machine → ℕ → Option Whole → Option Transitio
 transition_of m j (Some q) = unless_stopped m j q q.job.stopped
 transition_of m j None = None
 
--- what a step of the job of a slot does; none where the slot is empty, its job is stopped, or its call cannot go on
+-- what a step of the job of a slot does; none if the slot is empty, its job is stopped, or its call cannot go on
 unfoldable pub transition : Machine → ℕ → Option Transition
 transition m j = transition_of m j (m.jobs j)
 
--- the machine after a step of the job of a slot, where it has one
+-- the machine after a step of the job of a slot, if it has one
 unfoldable pub step : Machine → ℕ → Option Machine
 step m j = option_map (λ (t : Transition). t.machine) (transition m j)
 
@@ -150,6 +151,18 @@ disturbs_in None = []
 
 unfoldable pub disturbed : Machine → ℕ → ℕ → Bool
 disturbed m j k = among k (disturbs_in (transition m j))
+
+-- a job stands in slot k of a machine, and none did before
+abbrev pub is_made : Machine → Machine → ℕ → Bool
+is_made m n k = not (is_some (m.jobs k)) && is_some (n.jobs k)
+
+-- a slot in which it makes a job
+abbrev pub makes_in : Machine → ℕ → Option Transition → Bool
+makes_in m k (Some t) = is_made m t.machine k
+makes_in m k None = false
+
+unfoldable pub makes : Machine → ℕ → ℕ → Bool
+makes m j k = makes_in m k (transition m j)
 
 -- it is a part of its call, after which PC stays, and not the call's end
 abbrev pub part_in : Option Transition → Bool

@@ -1,5 +1,6 @@
--- Calls on consoles: OPEN, `.IOT` and SIOT where they are on one; FINISH, LISTEN and TTYLND (docs/CALLS.md,
--- "Consoles"); and the tests of SIOT, whatever its channel is on.
+-- Calls on consoles: OPEN, `.IOT` and SIOT if they are on one; FINISH, LISTEN and TTYLND (docs/CALLS.md, "Consoles");
+-- and the tests of SIOT, whatever its channel is on.
+-- A promise rests on this.
 use Rattle.std.specs.Prelude.{if◌then◌else◌, ◌==◌, ◌||◌, ◌&&◌, ℕ, ◌-◌, ◌/◌, ◌%◌, ◌^◌, Bool, true, false, not, Option, Some, None, List, [], ◌∷◌, ◌++◌, nat_lt, is_some, length, slice_get, unwrap_or}
 use Rattle.its_word.specs.Word.{right_of}
 use Rattle.its_word.specs.Byte.{size, has_size, increment_of, load_of}
@@ -23,7 +24,7 @@ use Rattle.its_plain.specs.Arguments.{input, place_of_input, in_footprint}
 use Rattle.its_plain.specs.Tests.{Test, ◌⇒◌, first, finishes, fails, faults, goes, out}
 use Rattle.its_plain.specs.CallBasic.{is_negative, read_only, shared_place, channel_at, Party, Oneself, Nobody, Channel, party}
 
--- the console of a job. A channel on a console is opened only where its job has one
+-- the console of a job. A channel on a console is opened only if its job has one
 abbrev pub console_of : View → ℕ
 console_of v = unwrap_or v.own.job.console 0
 
@@ -79,7 +80,7 @@ opens v a =
     first (open_tests v a (input a 0) (input a 1) (unwrap_or a.control 0))
     (finishes v (changes.Open (input a 0) (opens_on (unwrap_or a.control 0)) ∷ []) [])
 
--- the words that a transfer stores to or reads: MPV where one is absent, WRO where it is to be stored and is read only
+-- the words that a transfer stores to or reads: MPV if one is absent, WRO if it is to be stored and is read only
 abbrev pub is_absent : Core → ℕ → Bool
 is_absent c p = not (is_some (word_at c p))
 
@@ -166,8 +167,8 @@ listen_on v a _ = fails v a error.WRONG_DEVICE
 unfoldable pub listen : View → Ask → Decision
 listen v a = listen_on v a (channel_at v.own.channels (input a 0))
 
--- TTYLND job: the job becomes the holder of the caller's console. Oneself may take it from nobody and from an inferior
--- of its own; it may give it to an inferior where it holds it
+-- TTYLND job: the job becomes the holder of the caller's console. The caller may take the console from nobody and
+-- from an inferior of its own; it may give it to an inferior if it holds it
 abbrev pub is_superior : ℕ → Option Outline → Bool
 is_superior j (Some o) = superior_is o.superior
   where

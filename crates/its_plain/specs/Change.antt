@@ -1,5 +1,6 @@
 -- What a change that a call makes outside its caller's own words and registers does to the plain machine
 -- (docs/CALLS.md).
+-- A promise rests on this.
 use Rattle.std.specs.Prelude.{if◌then◌else◌, ◌==◌, ◌||◌, ℕ, Bool, true, false, Option, Some, None, List, [], ◌∷◌, ◌++◌, option_map, slice_index_or}
 use Rattle.its_word.specs.Core.{Page, no_core, zero_page, page_of, with_page, marked}
 pub use Rattle.its_word.specs.Directory.{same_names}
@@ -9,17 +10,17 @@ use Rattle.its_word.specs.declared.plan.Store.{Store}
 use Rattle.its_frame.specs.declared.change.Change.{Change}
 use Rattle.its_frame.specs.declared.change.Change.TheVariants as changes
 use Rattle.its_plain.specs.Job.{INF, with_pending}
-use Rattle.its_plain.specs.Machine.{Symbol, Names, File, Chan, Shut, Writes, On, Whole, Console, Machine, changed, all_shut}
+use Rattle.its_plain.specs.Machine.{Symbol, Names, File, Chan, Shut, Writes, On, Whole, Console, Machine, changed, with_new, all_shut}
 use Rattle.its_plain.specs.Own.{with_stores, with_registers, names_of, opened_on, at_position, with_word, on_channel, with_variable}
 
--- the job of slot s changed, where there is one
+-- the job of slot s changed, if there is one
 abbrev pub on_slot : {X : Type 0} → (ℕ → Option X) → ℕ → (X → X) → ℕ → Option X
 on_slot jobs s f k = if k == s then option_map f (jobs k) else jobs k
 
 abbrev pub in_job : Machine → ℕ → (Whole → Whole) → Machine
 in_job m s f = record m { jobs = on_slot m.jobs s f }
 
--- the directory: files are told apart by their three names
+-- the directory: files are distinguished by their three names
 unfoldable pub without_file : Names → List File → List File
 without_file n fs = without_names n fs
 
@@ -92,7 +93,8 @@ removed sup r m = record m {
   symbols = λ k. symbols_left (is_gone sup r k) (m.symbols k);
 }
 
--- an inferior as OPEN makes it: stopped, with no page, closed channels and no alarm, and with its maker's console
+-- an inferior as OPEN makes it: stopped, with no page, closed channels, no alarm and no symbols, and with its maker's
+-- console
 abbrev pub console_in : Option Whole → Option ℕ
 console_in (Some q) = q.job.console
 console_in None = None
@@ -134,7 +136,7 @@ effect (changes.Set s v w) j m = in_job m s (with_registers (with_variable v w))
 effect (changes.Map s k) j m = in_job m s (with_page_at k (Some zero_page))
 effect (changes.Unmap s k) j m = in_job m s (with_page_at k None)
 effect (changes.Protect s k w) j m = in_job m s (protected k w)
-effect (changes.Make s u n) j m = record m { jobs = changed m.jobs s (Some (inferior j (m.jobs j) u n)) }
+effect (changes.Make s u n) j m = with_new m s (inferior j (m.jobs j) u n)
 effect (changes.Remove s) j m = removed (superiors m) s m
 effect (changes.Inform s) j m = in_job m s with_inf
 effect (changes.Arm alarm) j m = in_job m j (with_alarm alarm)

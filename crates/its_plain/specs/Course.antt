@@ -1,24 +1,34 @@
--- The one run of a session's lines along the plain machine (docs/MACHINE.md, "The ledger").
-use Rattle.std.specs.Prelude.{ℕ, List, [], ◌∷◌, length, drop, unwrap_or}
-use Rattle.its_word.specs.Item.{Item, Read, Unread, InTurn, Beyond}
+-- The one run of a session's lines along the plain machine, as the list of its moments (docs/MACHINE.md, "The ledger").
+-- A promise rests on this.
+use Rattle.std.specs.Prelude.{ℕ, zero, suc, Option, Some, None, List, [], ◌∷◌, length, drop, unwrap_or}
+use Rattle.its_word.specs.Item.{Item, Read, Unread, Beyond}
 use Rattle.its_word.specs.declared.calls.Pace.{Pace}
 use Rattle.its_word.specs.declared.calls.Pace.TheVariants.{Step, Work, Wait, Off}
 use Rattle.its_word.specs.declared.session.Event.{Event}
 use Rattle.its_print.specs.Printing.{Line}
 use Rattle.its_print.specs.Printing as printed
-use Rattle.its_plain.specs.Machine.{Machine, no_machine}
-use Rattle.its_plain.specs.Operator.{Block, no_block, Refuses, Does, Ticks, Quits}
 use Rattle.its_plain.specs.CallStep.{step}
+use Rattle.its_plain.specs.Licence.{Dots}
+use Rattle.its_plain.specs.Machine.{Machine}
+use Rattle.its_plain.specs.Operator.{Block, Refuses, Does, Ticks, Quits}
 use Rattle.its_plain.specs.OperatorLines.{Lined, Done, Peeks, lined}
+use Rattle.its_plain.specs.Transcript.{Walk, at_start, after_letter, walk_after, next_line}
+use Rattle.its_plain.specs.Turns.{turn_after, highest, turns_asked}
 
--- what happens at a moment of a run: a line of the session does something, or the job of a slot steps
+-- what happens at a moment of a run: a line of the session does something, a turn of RUN goes to a slot, or a slot has
+-- a tick with this letter
 pub data Deed : Type 0 where
   Lines : Event → Deed
-  Steps : ℕ → Deed
+  Turns : ℕ → Deed
+  Letter : ℕ → Pace → Deed
 
--- the machine that it finds, and what happens
+-- the machine that it finds, the dots of each slot, what a block of lines speaks of, the number of the line of the
+-- session, and what happens
 pub record Moment : Type 0 where
   pub machine : Machine
+  pub dots : Dots
+  pub block : Block
+  pub line : ℕ
   pub deed : Deed
 
 -- a run: its moments in their order, and the machine at its end
@@ -26,44 +36,63 @@ pub record Course : Type 0 where
   pub moments : List Moment
   pub last : Machine
 
-abbrev pub rests : Machine → Course
-rests m = record { moments = []; last = m }
+abbrev pub rests : Walk → Course
+rests v = record { moments = []; last = v.machine }
 
-abbrev pub onward : Machine → Deed → Course → Course
-onward m d u = record u { moments = record { machine = m; deed = d } ∷ u.moments }
+abbrev pub moment_at : Walk → Deed → Moment
+moment_at v d = record { machine = v.machine; dots = v.dots; block = v.block; line = v.line; deed = d }
 
--- a job steps exactly at each `*` of a `T` line
+abbrev pub onward : Walk → Deed → Course → Course
+onward v d u = record u { moments = moment_at v d ∷ u.moments }
+
+-- the machine after a letter of slot i: its job steps exactly at each `*`
 abbrev pub after_step : Machine → ℕ → Machine
 after_step m i = unwrap_or (step m i) m
 
-abbrev pub paced : Machine → ℕ → List Pace → (Machine → Course) → Course
-paced m i [] next = next m
-paced m i (Step ∷ ps) next = onward m (Steps i) (paced (after_step m i) i ps next)
-paced m i (Work ∷ ps) next = paced m i ps next
-paced m i (Wait ∷ ps) next = paced m i ps next
-paced m i (Off ∷ ps) next = paced m i ps next
+abbrev pub machine_after : Machine → ℕ → Pace → Machine
+machine_after m i Step = after_step m i
+machine_after m i Work = m
+machine_after m i Wait = m
+machine_after m i Off = m
+
+-- the letters of a `T` line of slot i
+abbrev pub paced : Walk → ℕ → List Pace → (Walk → Course) → Course
+paced v i [] next = next v
+paced v i (p ∷ ps) next = onward v (Letter i p) (paced (after_letter v i p (machine_after v.machine i p)) i ps next)
 
 -- the letters of the line that is shown next
 abbrev pub letters : List Line → List Pace
 letters (printed.Ticks s ps ∷ lines) = ps
 letters _ = []
 
--- a line of the session, where these lines are shown from it on
-abbrev pub past : Machine → Block → Event → Lined → List Line → (Machine → Block → List Line → Course) → Course
-past m b e (Done (Refuses r)) lines next = rests m
-past m b e (Done (Does n out touched b')) lines next = onward m (Lines e) (next n b' (drop (length out) lines))
-past m b e (Done (Ticks s k)) lines next = paced m s (letters lines) (λ n. next n b (drop 1 lines))
-past m b e (Done Quits) lines next = rests m
-past m b e (Peeks s) lines next = next m b (drop 1 lines)
+-- up to n turns, the first after a turn of slot `last`
+abbrev pub turned_by : Option ℕ → Walk → List Line → (Walk → ℕ → List Line → Course) → Course → Course
+turned_by (Some s) v lines more done = onward v (Turns s) (paced v s (letters lines) (λ w. more w s (drop 1 lines)))
+turned_by None v lines more done = done
 
--- the run of these events, which show these lines, from a machine on
-abbrev pub course : Machine → Block → List Item → List Line → Course
-course m b [] lines = rests m
-course m b (Read e ∷ es) lines = past m b e (lined m b e) lines (λ n b' rest. course n b' es rest)
-course m b (InTurn s k ∷ es) lines = paced m s (letters lines) (λ n. course n b es (drop 1 lines))
-course m b (Unread r ∷ es) lines = rests m
-course m b (Beyond ∷ es) lines = rests m
+abbrev pub turned : ℕ → Walk → ℕ → List Line → (Walk → ℕ → List Line → Course) → Course
+turned zero v last lines next = next v last lines
+turned (suc n) v last lines next =
+    turned_by (turn_after v.machine last) v lines (λ w s rest. turned n w s rest next) (next v last lines)
+
+-- a line of the session, from which on these lines are shown
+abbrev pub past : Walk → Event → Lined → List Line → (Walk → List Line → Course) → Course
+past v e (Done (Refuses r)) lines next = rests v
+past v e (Done (Does n out touched b)) lines next =
+    onward v (Lines e) (next (walk_after v n touched b) (drop (length out) lines))
+past v e (Done (Ticks s k)) lines next = paced v s (letters lines) (λ w. next w (drop 1 lines))
+past v e (Done Quits) lines next = rests v
+past v e (Peeks s) lines next = next v (drop 1 lines)
+
+-- the run of these events, which show these lines, from where a session stands on, after a turn of slot `last`
+abbrev pub course : Walk → ℕ → List Item → List Line → Course
+course v last [] lines = rests v
+course v last (Read e ∷ es) lines =
+    past v e (lined v.machine v.block e) lines
+    (λ w rest. turned (turns_asked e) w last rest (λ x l more. course (next_line x) l es more))
+course v last (Unread r ∷ es) lines = rests v
+course v last (Beyond ∷ es) lines = rests v
 
 -- the run of a session
 abbrev pub run_of : List Item → List Line → Course
-run_of es lines = course no_machine no_block es lines
+run_of es lines = course at_start highest es lines

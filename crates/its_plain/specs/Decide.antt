@@ -1,4 +1,5 @@
 -- Which call decides, and whom its commit disturbs.
+-- A promise rests on this.
 use Rattle.std.specs.Prelude.{if◌then◌else◌, ◌==◌, ℕ, Option, Some, None, List, [], ◌∷◌, ◌++◌}
 use Rattle.its_word.specs.Tree.{slots_below}
 use Rattle.its_word.specs.declared.calls.Ask.{Ask}

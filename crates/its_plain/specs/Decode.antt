@@ -1,4 +1,5 @@
 -- The decoding of a symbolic call (docs/CALLS.md, "Decoding"): its block, its arguments one by one, and what is asked.
+-- A promise rests on this.
 use Rattle.std.specs.Prelude.{if◌then◌else◌, ◌==◌, ◌||◌, ◌&&◌, ℕ, zero, suc, ◌+◌, ◌/◌, ◌%◌, ◌^◌, Bool, true, false, List, [], ◌∷◌, ◌++◌, length, map, drop, not, Option, Some, None, Result, Ok, Err, nat_lt, slice_get, slice_index, unwrap_or}
 use Rattle.std.specs.List.{filter_map, list_all, list_any, range_with_len}
 use Rattle.its_word.specs.ArrayVec.{ArrayVec}
@@ -25,7 +26,7 @@ use Rattle.its_frame.specs.Errors as error
 use Rattle.its_plain.specs.UnitPlan.{given}
 use Rattle.its_plain.specs.Traced.{Traced, gives, faults, also, word, located}
 
--- a place where a word must be, which is not read yet; MPV where it is absent
+-- a place that must have a word, which is not read yet; MPV if it is absent
 abbrev pub there : ℕ → Option ℕ → Result ℕ Fault
 there p (Some w) = Ok p
 there p None = Err Mpv
@@ -33,7 +34,7 @@ there p None = Err Mpv
 unfoldable pub held : Core → ℕ → Traced ℕ
 held c p = record { answer = there p (word_at c p); reads = []; tests = p ∷ [] }
 
--- a place where a word can be stored; MPV where it is absent, WRO where it is read only
+-- a place at which a word can be stored; MPV if it is absent, WRO if it is read only
 abbrev pub allowed : ℕ → Option Fault → Result ℕ Fault
 allowed p None = Ok p
 allowed p (Some f) = Err f
@@ -83,7 +84,7 @@ abbrev pub checked : Bool → ArrayVec ℕ → Traced (ArrayVec ℕ)
 checked true block = gives block
 checked false block = faults Ilo
 
--- the block of a call: it is read whole, and ILO where it is not legal
+-- the block of a call: it is read whole, and ILO if it is not legal
 unfoldable pub parsed : Core → ℕ → Traced (ArrayVec ℕ)
 parsed c e = also (block_at c e) (λ block. checked (is_legal block.items) block)
 
@@ -107,12 +108,12 @@ argument_at kinds.Control c e = also (held c e) (λ p. gives (Control (Held p)))
 argument_at kinds.ImmediateControl c e = gives (Control (Immediate (pair_of 0 e)))
 argument_at kinds.Other c e = faults Ilo
 
--- the argument of an argument word, where so much of the budget is used
+-- the argument of an argument word, when so much of the budget is used
 unfoldable pub argument : Core → ℕ → ℕ → Traced Placed
 argument c w used =
     also (located c w used) (λ f. also (argument_at (kind_of w) c f.at.e) (λ x. gives (record { argument = x; used = f.used })))
 
--- the arguments of argument words, one by one, behind those that are found already
+-- the arguments of argument words, one by one, after those that are found already
 unfoldable pub arguments : List ℕ → Core → ℕ → List Arg → Traced (ArrayVec Arg)
 arguments [] c used seen = gives (record { items = seen })
 arguments (w ∷ ws) c used seen = also (argument c w used) (λ x. arguments ws c x.used (seen ++ x.argument ∷ []))
@@ -127,7 +128,7 @@ shaped c s =
     also (parsed c s.e)
     (λ block. also (arguments (words_of block.items) c s.used []) (λ xs. gives (record { block = block.items; arguments = xs.items })))
 
--- the value that a source has, and the place of its word, where there is one
+-- the value that a source has, and the place of its word, if there is one
 abbrev pub value_of : Core → Source → ℕ
 value_of c (Held p) = unwrap_or (word_at c p) 0
 value_of c (Immediate v) = v
@@ -222,7 +223,7 @@ ask_by c s None = given (shaped c s).answer (λ h. Ok (ask_of c (s.decode.items 
 unfoldable pub ask : Core → Site → Result Ask Fault
 ask c s = ask_by c s s.channel
 
--- the second half of the decoding of a call by a block, where the block is read already: the places of its words are
+-- the second half of the decoding of a call by a block, when the block is read already: the places of its words are
 -- known
 abbrev pub block_places : ℕ → List ℕ → List ℕ
 block_places e block = map (λ k. k % 2 ^ 18) (range_with_len e (length block))

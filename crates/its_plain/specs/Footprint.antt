@@ -1,4 +1,5 @@
--- The words that a call depends on, and what it is that a call stands.
+-- The words that a call depends on, and what it means that a call is still there.
+-- A promise rests on this.
 use Rattle.std.specs.Prelude.{◌≡◌, ◌<◌, ◌≤◌, ◌==◌, ◌||◌, ℕ, ◌+◌, ◌*◌, ◌^◌, Bool, List, length, Some, Ok, count_by, nat_lt, IfSome}
 use Rattle.std.specs.List.{list_any}
 use Rattle.its_word.specs.Core.{Core}
@@ -10,7 +11,7 @@ use Rattle.its_word.specs.declared.jobs.Job.{Job}
 use Rattle.its_plain.specs.Unit.{Called, unit}
 use Rattle.its_plain.specs.Decode.{ask}
 
--- whether a place is one of some, and how often it stands there
+-- whether a place is one of some, and how often it is among them
 abbrev pub among : ℕ → List ℕ → Bool
 among p places = list_any (λ q. q == p) places
 

@@ -1,4 +1,5 @@
 -- Software interrupts and their delivery (docs/MACHINE.md, "Interrupts").
+-- A promise rests on this.
 use Rattle.std.specs.Prelude.{if◌then◌else◌, ◌==◌, ℕ, zero, suc, ◌+◌, ◌-◌, ◌/◌, ◌%◌, ◌^◌, Bool, true, false, not, ◌&&◌, ◌||◌, Option, Some, None, List, [], ◌∷◌, Result, Ok, Err, nat_le, bit_and, bit_or}
 use Rattle.its_word.specs.Word.{left_of, right_of, pair_of, complement_of}
 use Rattle.its_word.specs.Core.{Core, word_at, can_store}
@@ -38,7 +39,7 @@ abbrev pub entry_of : Option (List ℕ) → Option Entry
 entry_of (Some (a ∷ b ∷ c ∷ d ∷ h ∷ [])) = Some (record { mask1 = a; mask2 = b; defer1 = c; defer2 = d; handler = h })
 entry_of _ = None
 
--- the entry of five words at an address, where none is absent
+-- the entry of five words at an address, if none is absent
 unfoldable pub entry_at : Core → ℕ → Option Entry
 entry_at c a = entry_of (words_at c a 5)
 
@@ -56,8 +57,8 @@ abbrev pub chosen : Job → Option Entry → Option Entry → Option Entry
 chosen j (Some e) later = if meets j e then Some e else later
 chosen j None later = None
 
--- the first of k entries from an address on whose masks meet the enabled bits; none where none does,
--- or where a word up to it is absent
+-- the first of k entries from an address on whose masks meet the enabled bits; none if none does, or if a word up to
+-- it is absent
 unfoldable pub first_entry : Core → Job → ℕ → ℕ → Option Entry
 first_entry c j zero a = None
 first_entry c j (suc k) a = chosen j (entry_at c a) (first_entry c j k (a + 5))
@@ -96,7 +97,7 @@ at_handler j e = record j {
   flags = 0;
 }
 
--- what a delivery comes to: the core and the registers, and whether a fatal bit stopped the job
+-- the result of a delivery: the core and the registers, and whether a fatal bit stopped the job
 pub record Delivered : Type 0 where
   pub core : Core
   pub job : Job
@@ -163,6 +164,6 @@ dismissed_at c j p (Some s) =
     dismissed_by j (can_store c p) (word_at c (right_of s)) (word_at c (below s 1)) (word_at c (below s 2))
 dismissed_at c j p None = Err Mpv
 
--- DISMIS through the stack pointer word at p: MPV where a word is absent, else WRO where p is read only
+-- DISMIS through the stack pointer word at p: MPV if a word is absent, else WRO if p is read only
 unfoldable pub dismissed : Core → Job → ℕ → Result Exit Fault
 dismissed c j p = dismissed_at c j p (word_at c p)

@@ -1,14 +1,16 @@
 -- The ledger of the consoles: no byte is lost, doubled or out of its order (docs/MACHINE.md, "The ledger").
+-- A promise rests on this.
 use Rattle.std.specs.Prelude.{if◌then◌else◌, ◌≡◌, ◌==◌, ◌&&◌, ℕ, ◌-◌, Bool, true, false, List, [], ◌∷◌, ◌++◌, length, take, flat_map}
 use Rattle.its_word.specs.Console.{most_waiting}
 use Rattle.its_word.specs.Item.{Item}
+use Rattle.its_word.specs.declared.calls.Pace.TheVariants.{Step}
 use Rattle.its_word.specs.declared.session.Event.{Event}
 use Rattle.its_word.specs.declared.session.Event.TheVariants as events
 use Rattle.its_print.specs.Printing.{Line}
 use Rattle.its_print.specs.Printing as printed
 use Rattle.its_plain.specs.Machine.{Console, Machine}
 use Rattle.its_plain.specs.CallStep.{moves}
-use Rattle.its_plain.specs.Course.{Deed, Lines, Steps, Moment, Course, run_of}
+use Rattle.its_plain.specs.Course.{Deed, Lines, Letter, Moment, Course, run_of}
 use Rattle.its_plain.specs.Moves.{Way, Inward, Outward, Move}
 
 -- of the bytes of a TYPE line those that are not dropped
@@ -24,7 +26,7 @@ typed_at c t = typed_doing t.deed
   where
     typed_doing : Deed → List ℕ
     typed_doing (Lines e) = typed_by c t.machine e
-    typed_doing (Steps i) = []
+    typed_doing _ = []
 
 -- the bytes of the moves of a moment at a console, one way
 abbrev pub is_same : Way → Way → Bool
@@ -40,8 +42,8 @@ abbrev pub moved_at : ℕ → Way → Moment → List ℕ
 moved_at c way t = moved_doing t.deed
   where
     moved_doing : Deed → List ℕ
-    moved_doing (Lines e) = []
-    moved_doing (Steps i) = flat_map (byte_of c way) (moves t.machine i)
+    moved_doing (Letter i Step) = flat_map (byte_of c way) (moves t.machine i)
+    moved_doing _ = []
 
 -- the bytes that a line shows of a console's output
 abbrev pub drained_by : ℕ → Line → List ℕ

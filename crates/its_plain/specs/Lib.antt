@@ -42,4 +42,8 @@ pub mod OneByte
 pub mod Course
 pub mod Ledger
 pub mod Stretch
-pub mod Unrolled
+pub mod Turns
+pub mod FewDots
+pub mod Fair
+pub mod Integrity
+pub mod RunIntegrity

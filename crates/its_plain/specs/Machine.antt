@@ -1,5 +1,6 @@
 -- The plain machine: its jobs by slot, consoles with their holders, a directory and a clock. No part of
 -- it speaks of a call in progress.
+-- A promise rests on this.
 use Rattle.std.specs.Prelude.{if◌then◌else◌, ◌==◌, ℕ, zero, suc, ◌+◌, ◌%◌, ◌^◌, Bool, Option, Some, None, List, [], ◌∷◌}
 use Rattle.its_word.specs.Core.{Core, no_core, word_at, pages_mapped}
 use Rattle.its_word.specs.Limits.{limit_of}
@@ -25,8 +26,8 @@ pub data Chan : Type 0 where
 abbrev pub Symbol : Type 0
 Symbol = ℕ × ℕ
 
--- a job: its core, its registers, the slot of its superior where it has one, its 16 channels, and its alarm where it
--- has one, as a period and a next time. (The channels of its registers are the monitor's own, and are closed here)
+-- a job: its core, its registers, the slot of its superior if it has one, its 16 channels, and its alarm if it has
+-- one, as a period and a next time. (The channels of its registers are the monitor's own, and are closed here)
 pub record Whole : Type 0 where
   pub core : Core
   pub job : Job
@@ -74,6 +75,10 @@ changed f i x k = if k == i then x else f k
 abbrev pub with_job : Machine → ℕ → Whole → Machine
 with_job m s q = record m { jobs = changed m.jobs s (Some q) }
 
+-- the machine with a new job in a slot, which has no symbols
+abbrev pub with_new : Machine → ℕ → Whole → Machine
+with_new m s q = record m { jobs = changed m.jobs s (Some q); symbols = changed m.symbols s [] }
+
 -- the core of a slot; that of an empty slot has no pages
 abbrev pub core_of : Option Whole → Core
 core_of (Some q) = q.core
@@ -92,7 +97,7 @@ joined (Some w) (Some ws) = Some (w ∷ ws)
 joined (Some w) None = None
 joined None ws = None
 
--- n words of a core from an address on, modulo 2 ^ 18, or none where one is absent
+-- n words of a core from an address on, modulo 2 ^ 18, or none if one is absent
 unfoldable pub words_at : Core → ℕ → ℕ → Option (List ℕ)
 words_at c a zero = Some []
 words_at c a (suc n) = joined (word_at c (a % 2 ^ 18)) (words_at c (a + 1) n)

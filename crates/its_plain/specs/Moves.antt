@@ -1,4 +1,5 @@
 -- The bytes that the changes of a call move between a console and its job (docs/MACHINE.md, "The ledger").
+-- A promise rests on this.
 use Rattle.std.specs.Prelude.{ℕ, List, [], ◌∷◌, ◌++◌}
 use Rattle.its_frame.specs.declared.change.Change.{Change}
 use Rattle.its_frame.specs.declared.change.Change.TheVariants as changes
@@ -17,7 +18,7 @@ pub record Move : Type 0 where
   pub way : Way
   pub byte : ℕ
 
--- the byte that a change of slot j's call moves: the first of the input, where there is one, or the one that is put
+-- the byte that a change of slot j's call moves: the first of the input, if there is one, or the one that is put
 abbrev pub first_move : ℕ → ℕ → List ℕ → List Move
 first_move j c [] = []
 first_move j c (b ∷ bs) = record { slot = j; console = c; way = Inward; byte = b } ∷ []
@@ -27,7 +28,7 @@ moves_of (changes.Take c) j m = first_move j c (m.consoles c).input
 moves_of (changes.Put c b) j m = record { slot = j; console = c; way = Outward; byte = b } ∷ []
 moves_of _ j m = []
 
--- those of several changes, each where those before it are made
+-- those of several changes, each on the machine after those before it
 abbrev pub moves_of_all : List Change → ℕ → Machine → List Move
 moves_of_all [] j m = []
 moves_of_all (c ∷ cs) j m = moves_of c j m ++ moves_of_all cs j (effect c j m)

@@ -1,4 +1,5 @@
 -- Each byte once: what one step of a transfer does (docs/CALLS.md, "Each byte once").
+-- A promise rests on this.
 use Rattle.std.specs.Prelude.{◌≡◌, ◌≢◌, ℕ, ◌+◌, ◌-◌, true, false, Option, Some, None, IfSome, List, [], ◌∷◌, slice_get}
 use Rattle.its_word.specs.Word.{right_of}
 use Rattle.its_word.specs.Byte.{load_of, deposit_of}
@@ -29,7 +30,7 @@ abbrev pub ComesIn : ℕ → Option ℕ → Option Held → Type 0
 ComesIn pointer (Some b) h = h ≡ Some (record { place = right_of pointer; byte = b })
 ComesIn pointer None h = ⊥
 
--- a byte that came in stands in its word, which was there
+-- a byte that came in is in its word, which existed
 pub record Deposited (before after : Core) (pointer : ℕ) (b : Held) : Type 0 where
   pub word : ℕ
   pub was : word_at before b.place ≡ Some word
@@ -40,14 +41,14 @@ abbrev pub GoesOut : ℕ → Option ℕ → (ℕ → List Change) → List Chang
 GoesOut pointer (Some w) puts cs h = (cs ≡ puts (load_of pointer w)) × (h ≡ None)
 GoesOut pointer None puts cs h = ⊥
 
--- the word at a pointer, where it is there
+-- the word at a pointer, if it exists
 abbrev pub word_named : View → ℕ → Option ℕ
 word_named v pointer = word_at v.own.core (right_of pointer)
 
--- what is moved through channel n, by what that is on: from a console the first byte that waits, and from a file or
--- an inferior the word at the channel's position; to a console the low 7 bits of the byte at the pointer, to a draft
--- that byte, and into an inferior likewise, at the channel's position. A position is then one more. Nothing is moved
--- through a closed channel
+-- what is moved through channel n, by what the channel is on: from a console the first byte that waits, and from a
+-- file or an inferior the word at the channel's position; to a console the low 7 bits of the byte at the pointer, to
+-- a draft that byte, and into an inferior also that byte, at the channel's position. A position is then one more.
+-- Nothing is moved through a closed channel
 abbrev pub Bears : View → ℕ → ℕ → Chan → List Change → Option Held → Type 0
 Bears v pointer n TtyIn cs h =
     (cs ≡ changes.Take (console_of v) ∷ []) × ComesIn pointer (slice_get (v.consoles (console_of v)).input 0) h
@@ -69,10 +70,9 @@ new_arguments a = next_pointer (input a 1) ∷ (input a 2 - 1) ∷ []
 abbrev pub rest_of_transfer : Ask → Ask
 rest_of_transfer a = revalued a (new_arguments a)
 
--- one byte of the SIOT of job q in slot j, at this site and with these arguments, after which the machine is n: the
--- byte is moved at the pointer incremented; one that comes in stands there afterwards; and the job, whose registers are
--- as they were, stands at the same call on the rest. Machine n differs by the change that moves the byte, and by the
--- words of byte, pointer and count, and by nothing else
+-- one byte of the SIOT of job q in slot j, at this site and with these arguments, after which the machine is n: the byte is moved at
+-- the pointer incremented; one that comes in is there afterwards; and the job, whose registers are as they were, is at the same call
+-- with the rest. Machine n differs by the change that moves the byte, and by the words of byte, pointer and count, and by nothing else
 pub record OneByte (m : Machine) (j : ℕ) (q : Whole) (s : Site) (a : Ask) (cs : List Change) (h : Option Held) (n : Machine)
     : Type 0 where
   pub after : Whole
@@ -93,7 +93,7 @@ ByteBy m j q s a (Waits r) n = ⊥
 ByteBy m j q s a (Ends cs ss e) n = cs.items ≡ []
 ByteBy m j q s a (Gone cs) n = ⊥
 
--- a step of the job of slot j takes machine m to n: where the job stands at a SIOT, it is one byte or the end
+-- a step of the job of slot j takes machine m to n: if the job is at a SIOT, it is one byte or the end
 pub record EachByte (m : Machine) (j : ℕ) (n : Machine) : Type 0 where
   pub byte : (q : Whole) (s : Site) (a : Ask)
       → m.jobs j ≡ Some q → deliverable q.job ≡ false → Stands q.core q.job s a → call_named a.name ≡ Some Siot

@@ -1,4 +1,5 @@
--- What a line of a session comes to on the plain machine (docs/SESSION.md, "The lines").
+-- The effect of a line of a session on the plain machine (docs/SESSION.md, "The lines").
+-- A promise rests on this.
 use Rattle.std.specs.Prelude.{◌==◌, ℕ, Bool, false, List, [], Result, Ok, Err}
 use Rattle.its_print.specs.Printing.{Line}
 use Rattle.its_word.specs.declared.session.Reason.{Reason}
@@ -14,7 +15,7 @@ pub record Block : Type 0 where
 abbrev pub no_block : Block
 no_block = record { slot = 0; file = names_of 0 0 0 }
 
--- what a line comes to
+-- the effect of a line
 pub data Operated : Type 0 where
   -- it is refused, and the session ends
   Refuses : Reason → Operated

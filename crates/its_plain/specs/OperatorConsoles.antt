@@ -1,4 +1,5 @@
 -- The lines at a console: TYPE and DRAIN (docs/SESSION.md, "The lines").
+-- A promise rests on this.
 use Rattle.std.specs.Prelude.{ℕ, ◌-◌, List, ◌++◌, length, take, drop}
 use Rattle.its_word.specs.Console.{most_waiting}
 use Rattle.its_plain.specs.Machine.{Console, Machine}

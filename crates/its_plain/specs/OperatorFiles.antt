@@ -1,4 +1,5 @@
 -- The lines of a session on files: FILE with its words, DIR and SHOW (docs/SESSION.md, "The lines").
+-- A promise rests on this.
 use Rattle.std.specs.Prelude.{◌==◌, ℕ, zero, suc, ◌+◌, ◌/◌, Bool, true, false, Option, Some, None, List, [], ◌∷◌, ◌++◌, Result, Ok, Err, length, map, filter, take, drop, nat_lt, slice_index_or}
 use Rattle.its_word.specs.Directory.{with_changed, longer}
 use Rattle.its_word.specs.declared.session.Reason.{Reason}
@@ -28,7 +29,7 @@ file_made_if m n false false = Err Full
 unfoldable pub file_made : Machine → Names → Result Machine Reason
 file_made m n = file_made_if m n (has_file n m.files) (nat_lt (length m.files) most_files)
 
--- a word more behind those of the file with these names, where there is one
+-- one more word after those of the file with these names, if there is one
 abbrev pub word_added_if : Machine → Names → ℕ → Bool → Result Machine Reason
 word_added_if m n w true = Err Full
 word_added_if m n w false = Ok (with_files m (with_changed n (longer w) m.files))

@@ -1,5 +1,6 @@
 -- The lines that make or name a job: LOAD with its a/ lines, RO and GO, INT, EXAM, STATE, DEPOSIT, STOP and CONT
 -- (docs/SESSION.md, "The lines").
+-- A promise rests on this.
 use Rattle.std.specs.Prelude.{if◌then◌else◌, ℕ, zero, suc, ◌/◌, ◌+◌, ◌&&◌, ◌||◌, Bool, true, false, not, length, Option, Some, None, List, [], ◌∷◌, Result, Ok, Err, nat_lt, is_some, bit_and, bit_or}
 use Rattle.its_word.specs.Word.{complement_of}
 use Rattle.its_word.specs.Limits.{most_pages}
@@ -11,11 +12,11 @@ use Rattle.its_word.specs.declared.session.Reason.{Reason}
 use Rattle.its_word.specs.declared.session.Reason.TheVariants.{NoJob, NoPage, ReadOnly, Full}
 use Rattle.its_plain.specs.Job.{pc_word, FATAL}
 use Rattle.its_plain.specs.Change.{protected}
-use Rattle.its_plain.specs.Machine.{Symbol, Whole, Machine, whole, with_job, changed, mapped, limit, words_at}
+use Rattle.its_plain.specs.Machine.{Symbol, Whole, Machine, whole, with_job, with_new, changed, mapped, limit, words_at}
 use Rattle.its_plain.specs.Operator.{and_then}
 use Rattle.its_plain.specs.OperatorSymbols.{symbol_shown}
 
--- what a line does to the job that it names, or NOJOB where the slot is empty
+-- what a line does to the job that it names, or NOJOB if the slot is empty
 abbrev pub on_job : {X : Type 0} → Machine → ℕ → (Whole → Result X Reason) → Option Whole → Result X Reason
 on_job m s f (Some q) = f q
 on_job m s f None = Err NoJob
@@ -24,7 +25,7 @@ on_job m s f None = Err NoJob
 abbrev pub new_job : ℕ → ℕ → Option ℕ → Whole
 new_job u j console = whole no_core (fresh_job u j console) None
 
--- it becomes the holder of its console where that has none
+-- it becomes the holder of its console if that has none
 abbrev pub held_by : ℕ → Option ℕ → Option ℕ
 held_by s (Some h) = Some h
 held_by s None = Some s
@@ -34,13 +35,13 @@ with_holder m s (Some c) = record m { holders = changed m.holders c (held_by s (
 with_holder m s None = m
 
 abbrev pub loaded_in : Machine → ℕ → ℕ → Option ℕ → Option ℕ → Result (Machine × ℕ) Reason
-loaded_in m u j console (Some s) = Ok (with_holder (with_job m s (new_job u j console)) s console, s)
+loaded_in m u j console (Some s) = Ok (with_holder (with_new m s (new_job u j console)) s console, s)
 loaded_in m u j console None = Err Full
 
 unfoldable pub loaded : Machine → ℕ → ℕ → Option ℕ → Result (Machine × ℕ) Reason
 loaded m u j console = loaded_in m u j console (least_free (limit m) m.jobs)
 
--- one word of an a/ line: an absent page is made, writable and of zeros, where fewer than the most pages are mapped
+-- one word of an a/ line: an absent page is made, writable and of zeros, if fewer than the most pages are mapped
 abbrev pub stored_in : Core → ℕ → ℕ → Bool → Bool → Bool → Result Core Reason
 stored_in c a w can there room =
     if can then Ok (store c a w)

@@ -1,4 +1,5 @@
--- Each line of a session, and what it comes to on the plain machine (docs/SESSION.md, "The lines").
+-- Each line of a session, and its effect on the plain machine (docs/SESSION.md, "The lines").
+-- A promise rests on this.
 use Rattle.std.specs.Prelude.{ℕ, ◌+◌, Option, Some, None, List, [], ◌∷◌, Result, Ok, Err, take}
 use Rattle.its_word.specs.declared.session.Event.{Event}
 use Rattle.its_word.specs.declared.session.Event.TheVariants as events
@@ -46,9 +47,9 @@ abbrev pub by_clock : Machine → Block → ℕ → Result Machine Reason → Op
 by_clock m b n (Ok k) = Does k [] (due (m.clock + n) m.jobs) b
 by_clock m b n (Err r) = Refuses r
 
--- what each line comes to; a RUN line does nothing itself: its turns stand behind it. The lines of a LOAD block
--- disturb the job that LOAD has just made: no `.` came for it, so this says of a session no more than that LOAD
--- disturbs it. PEEK does nothing to the machine
+-- the effect of each line; a RUN line does nothing itself: its turns follow it. The lines of a LOAD block disturb the
+-- job that LOAD has just made: no `.` came for it, so for a session this says no more than that LOAD disturbs it.
+-- PEEK does nothing to the machine
 unfoldable pub operate : Machine → Block → Event → Operated
 operate m b Nothing = Does m [] nobody b
 operate m b (Version v) = Does (versioned m v) [] nobody b

@@ -1,5 +1,6 @@
 -- The symbols of a job: SYM keeps one, and STATE shows the one that is nearest to the PC (docs/SESSION.md, "The
 -- lines").
+-- A promise rests on this.
 use Rattle.std.specs.Prelude.{◌≤◌, ◌<◌, ℕ, ◌-◌, ◌&&◌, Bool, true, false, not, Option, Some, None, List, [], ◌∷◌, ◌++◌, Result, Ok, Err, cond, length, nat_lt}
 use Rattle.its_word.specs.Limits.{most_symbols}
 use Rattle.its_word.specs.declared.session.Reason.{Reason}
@@ -27,7 +28,7 @@ nearest_after pc best (s ∷ ss) = nearest_after pc (nearer pc best s) ss
 unfoldable pub nearest : ℕ → List Symbol → Option Symbol
 nearest pc ss = nearest_after pc None ss
 
--- its name, and how far the PC lies behind its address
+-- its name, and how far the PC is past its address
 abbrev pub with_distance : ℕ → Option Symbol → Option Symbol
 with_distance pc (Some s) = Some (s.0, pc - address_of s)
 with_distance pc None = None
@@ -35,7 +36,7 @@ with_distance pc None = None
 abbrev pub symbol_shown : ℕ → List Symbol → Option Symbol
 symbol_shown pc ss = with_distance pc (nearest pc ss)
 
--- SYM: the job keeps a symbol, the last, where it has fewer than the most
+-- SYM: the job keeps a symbol, the last, if it has fewer than the most
 abbrev pub with_symbol : Machine → ℕ → Symbol → Machine
 with_symbol m s x = record m { symbols = changed m.symbols s (m.symbols s ++ x ∷ []) }
 

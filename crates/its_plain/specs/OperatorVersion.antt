@@ -1,8 +1,10 @@
 -- The line VERSION (docs/SESSION.md, "The lines").
-use Rattle.std.specs.Prelude.{if◌then◌else◌, ◌==◌, ℕ}
+-- A promise rests on this.
+use Rattle.std.specs.Prelude.{if◌then◌else◌, ℕ}
+use Rattle.its_word.specs.Tree.{no_job}
 use Rattle.its_plain.specs.Machine.{Machine}
 
--- VERSION stands on line 1 alone, where the machine is that of the start, of version 1: it becomes one of version 2,
--- or stays as it is
+-- where no slot has a job, the machine becomes one of this version, 1 or 2; else it stays as it is. (In a session
+-- VERSION stands on line 1 alone, where there is no job and the version is 1)
 unfoldable pub versioned : Machine → ℕ → Machine
-versioned m v = if v == 2 then record m { version = 2 } else m
+versioned m v = if no_job m.jobs then record m { version = v } else m

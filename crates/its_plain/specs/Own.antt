@@ -1,4 +1,5 @@
 -- What happens to one job: stores into its core, its registers, its channels and its variables.
+-- A promise rests on this.
 use Rattle.std.specs.Prelude.{if◌then◌else◌, ◌==◌, ℕ, ◌+◌, ◌%◌, ◌^◌, not, Option, List, [], ◌∷◌, ◌++◌, unwrap_or}
 use Rattle.its_word.specs.Word.{right_of}
 use Rattle.its_word.specs.Core.{pages_present}
@@ -88,7 +89,7 @@ with_word w (On s write p) = On s write p
 abbrev pub on_channel : ℕ → (Chan → Chan) → Whole → Whole
 on_channel n f q = record q { channels = changed q.channels n (f (q.channels n)) }
 
--- a number, or ones where there is none
+-- a number, or ones if there is none
 abbrev pub number_or_ones : Option ℕ → ℕ
 number_or_ones o = unwrap_or o 0o777777777777
 

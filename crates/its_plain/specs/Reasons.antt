@@ -1,5 +1,6 @@
 -- Why a call can have to wait, and when it has to (docs/CALLS.md, "Waiting"). A call that can wait has one reason for
--- it, which its name, what its channel is on and its job's console tell, and nothing else.
+-- it. Its name, what its channel is on and its job's console determine the reason, and nothing else.
+-- No promise rests on this.
 use Rattle.std.specs.Prelude.{◌&&◌, ◌||◌, ℕ, ◌-◌, ◌^◌, Bool, true, not, Option, Some, None, nat_lt, length, unwrap_or}
 use Rattle.its_word.specs.Console.{most_waiting}
 use Rattle.its_word.specs.declared.calls.Ask.{Ask}

@@ -1,8 +1,10 @@
 -- Each byte once and in order, over a stretch of a session's run (docs/CALLS.md, "Each byte once").
+-- A promise rests on this.
 use Rattle.std.specs.Prelude.{◌≡◌, ◌==◌, ℕ, zero, suc, ◌+◌, Bool, true, false, Option, Some, None, List, [], ◌∷◌, ◌++◌}
 use Rattle.its_word.specs.Core.{word_at}
 use Rattle.its_word.specs.Item.{Item}
 use Rattle.its_word.specs.declared.calls.Ask.{Ask}
+use Rattle.its_word.specs.declared.calls.Pace.TheVariants.{Step}
 use Rattle.its_word.specs.declared.calls.Site.{Site}
 use Rattle.its_print.specs.Printing.{Line}
 use Rattle.its_frame.specs.declared.change.Change.{Change}
@@ -11,7 +13,7 @@ use Rattle.its_frame.specs.declared.name.CallName.TheVariants.{Siot}
 use Rattle.its_plain.specs.Arguments.{input, place_of_input}
 use Rattle.its_plain.specs.CallStep.{steps_on}
 use Rattle.its_plain.specs.CallTty.{next_pointer}
-use Rattle.its_plain.specs.Course.{Deed, Lines, Steps, Moment, Course, run_of}
+use Rattle.its_plain.specs.Course.{Deed, Letter, Moment, Course, run_of}
 use Rattle.its_plain.specs.Decide.{call_named}
 use Rattle.its_plain.specs.Footprint.{Stands}
 use Rattle.its_plain.specs.Machine.{Whole, Machine}
@@ -30,8 +32,8 @@ machine_at [] n = n
 
 -- a moment is a step of the job of slot j
 abbrev pub is_own : ℕ → Deed → Bool
-is_own j (Steps i) = i == j
-is_own j (Lines e) = false
+is_own j (Letter i Step) = i == j
+is_own j _ = false
 
 -- a stretch of a run: each moment is a step of the job of slot j that is a part of its call, or leaves its core and its
 -- PC as they are. Lines and steps of others may do what they like to all else
@@ -78,7 +80,7 @@ abbrev pub InOrder : ℕ → Site → List Moment → Machine → Ask → Type 0
 InOrder j s [] n a = Unit {0}
 InOrder j s (t ∷ ts) n a = InOrder_by (is_own j t.deed) t.machine j s a (machine_at ts n) (InOrder j s ts n)
 
--- the job stands at the call with these arguments, which are its words in core
+-- the job is at the call with these arguments, which are its words in core
 pub record StandsAt (m : Machine) (j : ℕ) (s : Site) (a : Ask) : Type 0 where
   pub job : Whole
   pub there : m.jobs j ≡ Some job
@@ -106,7 +108,7 @@ end_of u x = machine_at x.after u.last
 abbrev pub begin_of : (u : Course) → Section u → Machine
 begin_of u x = machine_at x.moments (end_of u x)
 
--- a stretch of a transfer of slot j's job: at its beginning the job stands at a SIOT
+-- a stretch of a transfer of slot j's job: at its beginning the job is at a SIOT
 pub record TransferStretch (u : Course) (j : ℕ) : Type 0 where
   pub section : Section u
   pub job : Whole

@@ -1,5 +1,6 @@
 -- How a call decides: its tests in their order, of which the first that holds stops it, and the ways in
 -- which a call ends (docs/CALLS.md, "How a call ends").
+-- A promise rests on this.
 use Rattle.std.specs.Prelude.{if◌then◌else◌, ℕ, Bool, Option, Some, None, List, [], ◌∷◌}
 use Rattle.its_word.specs.declared.access.Fault.{Fault}
 use Rattle.its_word.specs.declared.calls.Ask.{Ask}
@@ -12,7 +13,7 @@ use Rattle.its_plain.specs.Job.{bit_of, with_pending}
 use Rattle.its_plain.specs.Own.{exit_of, advanced}
 use Rattle.its_plain.specs.View.{View}
 
--- a test, and what a call comes to where it holds
+-- a test, and the decision of a call if it holds
 pub record Test : Type 0 where
   pub holds : Bool
   pub stop : Decision
@@ -21,7 +22,7 @@ infix 75 ◌⇒◌
 abbrev pub ◌⇒◌ : Bool → Decision → Test
 b ⇒ d = record { holds = b; stop = d }
 
--- the first test that holds decides; where none does, so it is
+-- the first test that holds decides; if none does, this decision
 abbrev pub first : List Test → Decision → Decision
 first [] d = d
 first (t ∷ ts) d = if t.holds then t.stop else first ts d
@@ -30,7 +31,7 @@ first (t ∷ ts) d = if t.holds then t.stop else first ts d
 abbrev pub finishes : View → List Change → List Store → Decision
 finishes v cs ss = Ends (record { items = cs }) (record { items = ss }) (exit_of (advanced 2 v.own.job))
 
--- it fails with a number, which is stored at the error address where there is one; PC gains 1
+-- it fails with a number, which is stored at the error address if there is one; PC gains 1
 abbrev pub number_at : Option ℕ → ℕ → List Store
 number_at (Some p) n = record { at = p; word = n } ∷ []
 number_at None n = []
@@ -46,7 +47,7 @@ faults v f = Ends (record { items = [] }) (record { items = [] }) (exit_of (with
 abbrev pub goes : List Change → Option Held → List ℕ → Decision
 goes cs h vs = Goes (record { items = cs }) h (record { items = vs })
 
--- the output of a call, where it has one
+-- the output of a call, if it has one
 abbrev pub out : List ℕ → ℕ → List Store
 out (p ∷ ps) w = record { at = p; word = w } ∷ []
 out [] w = []

@@ -1,4 +1,5 @@
 -- Parts of the decoding of an instruction or a call: what each gives, with the places of core that it looks at.
+-- A promise rests on this.
 use Rattle.std.specs.Prelude.{ℕ, List, [], ◌∷◌, ◌++◌, Result, Ok, Err}
 use Rattle.its_word.specs.Core.{Core}
 use Rattle.its_word.specs.Address.{address}
@@ -32,7 +33,7 @@ goes_on rs ts (Err f) rest = record { answer = Err f; reads = rs; tests = ts }
 unfoldable pub also : {X Y : Type 0} → Traced X → (X → Traced Y) → Traced Y
 also m rest = goes_on m.reads m.tests m.answer rest
 
--- the word at a place, which is read; MPV where it is absent
+-- the word at a place, which is read; MPV if it is absent
 unfoldable pub word : Core → ℕ → Traced ℕ
 word c p = record { answer = read_of c p; reads = p ∷ []; tests = [] }
 
@@ -45,7 +46,7 @@ abbrev pub located_by : Result Address Fault → ℕ → Result Located Fault
 located_by (Ok a) used = Ok (record { at = a; used = used })
 located_by (Err f) used = Err f
 
--- the effective address of an address word, where so much of the budget is used already
+-- the effective address of an address word, when so much of the budget is used already
 unfoldable pub located : Core → ℕ → ℕ → Traced Located
 located c w used =
     record { answer = located_by (address c w used).answer (address c w used).used; reads = (address c w used).reads; tests = [] }

@@ -1,5 +1,6 @@
 -- The unit: one instruction, one word of BLT, or one half of ILDB or IDPB (processor reference
 -- manual, "User operations"; docs/MACHINE.md, "Instructions").
+-- A promise rests on this.
 use Rattle.std.specs.Prelude.{if◌then◌else◌, ◌==◌, ◌||◌, ℕ, zero, suc, ◌+◌, ◌%◌, ◌^◌, Bool, true, false, List, [], Option, Some, None, Result, Ok, Err, nat_lt}
 use Rattle.its_word.specs.Core.{Core}
 use Rattle.its_word.specs.Stores.{first_fault, stored}
@@ -27,8 +28,8 @@ use Rattle.its_plain.specs.UnitJumps.{branch_row, stack_row}
 use Rattle.its_plain.specs.UnitTests.{compare_row, test_row}
 use Rattle.its_plain.specs.UnitBytes.{byte_row}
 
--- what a unit comes to: the core and the registers after it; a fault, at which nothing of it is done; or
--- a call of the monitor
+-- the result of a unit: the core and the registers after it; a fault, which leaves no part of it done; or a call of
+-- the monitor
 pub data Outcome : Type 0 where
   Changed : Core → Job → Outcome
   Faulted : Fault → Outcome
@@ -57,7 +58,7 @@ context_of j w e used = record {
   used = used;
 }
 
--- the target of an XCT, which counts against the budget; where nothing is left of it, that is ILO
+-- the target of an XCT, which counts against the budget; if nothing is left of the budget, that is ILO
 unfoldable pub target_of : Core → Context → Traced Turn
 target_of c x = if nat_lt x.used budget then also (word c x.e) (λ w. gives (Target w (x.used + 1))) else faults Ilo
 
@@ -120,8 +121,8 @@ abbrev pub outcome_of : Core → Job → Planned → Outcome
 outcome_of c j (Ok p) = made c j p (first_fault c p.stores.items)
 outcome_of c j (Err f) = Faulted f
 
--- where a job calls the monitor, with the places of the words that were read to come there. PC is that of the call,
--- or of the XCT that began the chain
+-- the place of a call of the monitor, with the places of the words that were read to reach it. PC is that of the
+-- call, or of the XCT that began the chain
 abbrev pub site_of : Context → Option ℕ → List ℕ → Site
 site_of x channel reads = record {
   pc = x.pc;

@@ -1,4 +1,5 @@
 -- Byte instructions (processor reference manual, "Byte manipulation").
+-- A promise rests on this.
 use Rattle.std.specs.Prelude.{if◌then◌else◌, ℕ, [], ◌∷◌, Result, Ok, Err, ok_or, bit_or}
 use Rattle.its_word.specs.Core.{Core}
 use Rattle.its_word.specs.Address.{address}

@@ -1,5 +1,6 @@
 -- Block transfer, jumps, the stack and subroutines (processor reference manual, "Full word data
 -- transmission", "Program control" and "Pushdown list").
+-- A promise rests on this.
 use Rattle.std.specs.Prelude.{if◌then◌else◌, ◌==◌, not, ℕ, ◌+◌, ◌*◌, ◌^◌, Bool, [], ◌∷◌, Option, Some, None, Ok, nat_le}
 use Rattle.its_word.specs.Word.{left_of, right_of, pair_of}
 use Rattle.its_word.specs.Core.{Core}
@@ -29,8 +30,8 @@ transferred x pointer w =
 abbrev pub is_negative : ℕ → Bool
 is_negative w = nat_le (2 ^ 35) w
 
--- the flags that JRST 2 takes, those of the last index register or indirect word; where neither was
--- used the flags stay, but for first part done
+-- the flags that JRST 2 takes, those of the last index register or indirect word; if neither was used the flags are
+-- unchanged, except first part done
 abbrev pub restored : Context → Option ℕ → ℕ
 restored x (Some w) = flags_of w
 restored x None = without x.flags BYTE_HALF
@@ -39,8 +40,8 @@ restored x None = without x.flags BYTE_HALF
 abbrev pub named_by : ℕ → ℕ
 named_by a = a * 2 ^ 14
 
--- 251 BLT; 252 AOBJP, 253 AOBJN: AC +1,,1, and a jump where it is then not negative, negative; 254 JRST,
--- with A = 2 the flags too; 255 JFCL: the named flags are cleared, and a jump where one was on
+-- 251 BLT; 252 AOBJP, 253 AOBJN: AC +1,,1, and a jump if it is then not negative, negative; 254 JRST, with A = 2 also
+-- the flags; 255 JFCL: the named flags are cleared, and a jump if one was on
 unfoldable pub branch_row : Core → Context → BranchOp → Planned
 branch_row c x Blt = given (read_of c (left_of (ac c x))) (λ w. Ok (transferred x (ac c x) w))
 branch_row c x Aobjp = Ok (jump x (to x.a (both_up (ac c x)) ∷ []) 0 (not (is_negative (both_up (ac c x)))))
@@ -50,13 +51,13 @@ branch_row c x Jrst =
 branch_row c x Jfcl =
     Ok (record (jump x [] 0 (is_on x.flags (named_by x.a))) { flags = without x.flags (named_by x.a + BYTE_HALF) })
 
--- the same with PDL set where the count in the left half came to an end
+-- the same with PDL set if the count in the left half ran out
 abbrev pub counted : ℕ → ℕ → Plan → Plan
 counted end pointer p = record p { pending = if left_of pointer == end then PDL else 0 }
 
--- 260 PUSHJ, 261 PUSH: AC +1,,1, then the word to C(right AC); PDL where AC's left half becomes 0. 262
--- POP, 263 POPJ: the word C(right AC), then AC -1,,1; PDL where AC's left half becomes 777777. AC is
--- stored before memory. 264 JSR, 265 JSP, 266 JSA, 267 JRA
+-- 260 PUSHJ, 261 PUSH: AC +1,,1, then the word to C(right AC); PDL if AC's left half becomes 0. 262 POP, 263 POPJ:
+-- the word C(right AC), then AC -1,,1; PDL if AC's left half becomes 777777. AC is stored before memory. 264 JSR, 265
+-- JSP, 266 JSA, 267 JRA
 unfoldable pub stack_row : Core → Context → StackOp → Planned
 stack_row c x Pushj =
     let p = both_up (ac c x) in

@@ -1,5 +1,6 @@
--- What the rows of the instruction tables share: reading, where the modes take and leave words, and
+-- What the rows of the instruction tables share: reading, from where the modes take words and to where they go, and
 -- what an instruction that completes does. A row gives a plan, or the first fault of what it reads.
+-- A promise rests on this.
 use Rattle.std.specs.Prelude.{if◌then◌else◌, ◌==◌, ◌<◌, ◌≤◌, ℕ, ◌+◌, ◌-◌, ◌^◌, ◌%◌, Bool, true, false, List, [], ◌∷◌, Result, Ok, Err, ok_or, bit_and, bit_or}
 use Rattle.its_word.specs.Word.{left_of, right_of, pair_of}
 use Rattle.its_word.specs.Core.{Core, word_at, acc_at}
@@ -22,7 +23,7 @@ abbrev pub given : {X Y : Type 0} → Result X Fault → (X → Result Y Fault) 
 given (Ok x) row = row x
 given (Err f) row = Err f
 
--- the word at an address, which faults where its page is absent
+-- the word at an address, which faults if its page is absent
 unfoldable pub read_of : Core → ℕ → Result ℕ Fault
 read_of c a = ok_or (word_at c a) Mpv
 
@@ -65,19 +66,19 @@ completes x stores set pc = record {
 abbrev pub next : Context → List Store → ℕ → Plan
 next x stores set = completes x stores set (x.pc + 1)
 
--- to E where a test holds, else on
+-- to E if a test holds, else on
 abbrev pub jump : Context → List Store → ℕ → Bool → Plan
 jump x stores set taken = completes x stores set (if taken then x.e else x.pc + 1)
 
--- over the next instruction where a test holds
+-- over the next instruction if a test holds
 abbrev pub skip : Context → List Store → ℕ → Bool → Plan
 skip x stores set taken = completes x stores set (if taken then x.pc + 2 else x.pc + 1)
 
--- to AC where A is not 0
+-- to AC if A is not 0
 abbrev pub to_ac_but_0 : Context → ℕ → List Store
 to_ac_but_0 x w = if x.a == 0 then [] else to x.a w ∷ []
 
--- moves and halves: the source, and where the result goes
+-- moves and halves: the source, and the destination
 unfoldable pub moved_from : Core → Context → Mode → Result ℕ Fault
 moved_from c x Basic = read_of c x.e
 moved_from c x Immediate = Ok (immediate x)
@@ -90,7 +91,7 @@ moved_to x Immediate w = to x.a w ∷ []
 moved_to x Memory w = to x.e w ∷ []
 moved_to x Both w = to x.e w ∷ to_ac_but_0 x w
 
--- arithmetic and Boolean functions: the source, and where the result goes
+-- arithmetic and Boolean functions: the source, and the destination
 unfoldable pub worked_from : Core → Context → Mode → Result ℕ Fault
 worked_from c x Basic = read_of c x.e
 worked_from c x Immediate = Ok (immediate x)

@@ -1,4 +1,5 @@
 -- The lines of a transcript and their text (docs/SESSION.md). Characters are their ASCII codes.
+-- A promise rests on this.
 use Rattle.std.specs.Prelude.{if◌then◌else◌, ℕ, ◌+◌, ◌==◌, Bool, true, false, Option, Some, None, List, [], ◌∷◌, ◌++◌, map, flat_map, codes}
 use Rattle.its_word.specs.Text.{octal12_of, octal6_of, digits_of, spaced}
 use Rattle.its_word.specs.declared.calls.Pace.{Pace}
@@ -18,7 +19,7 @@ pub data Line : Type 0 where
   Loaded : (s : ℕ) → Line
   -- what each tick of slot s did
   Ticks : (s : ℕ) (paces : List Pace) → Line
-  -- TYPE on console c, where some bytes were dropped
+  -- TYPE on console c, when some bytes were dropped
   Typed : (c dropped : ℕ) → Line
   -- the bytes that DRAIN took from console c
   Drained : (c : ℕ) (bytes : List ℕ) → Line
@@ -112,7 +113,7 @@ abbrev pub symbol_or_dashes : Option (ℕ × ℕ) → List (List ℕ)
 symbol_or_dashes (Some x) = octal12_of x.0 ∷ digits_of x.1 ∷ []
 symbol_or_dashes None = codes "-" ∷ codes "-" ∷ []
 
--- version 2 shows it, behind the other fields of a job
+-- version 2 shows it, after the other fields of a job
 abbrev pub symbol_fields : ℕ → Option (ℕ × ℕ) → List (List ℕ)
 symbol_fields v symbol = if v == 2 then symbol_or_dashes symbol else []
 

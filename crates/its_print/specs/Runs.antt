@@ -1,4 +1,5 @@
 -- The letters of ticks, as runs.
+-- No promise rests on this.
 use Rattle.std.specs.Prelude.{List, [], ◌∷◌, ◌++◌, replicate}
 use Rattle.its_word.specs.declared.calls.Pace.{Pace}
 use Rattle.its_print.specs.declared.runs.Run.{Run}

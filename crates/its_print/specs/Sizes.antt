@@ -1,4 +1,5 @@
 -- The sizes of the parts of a line that is printed.
+-- No promise rests on this.
 use Rattle.std.specs.Prelude.{ℕ, ◌<◌, ◌≤◌, ◌^◌, length, IfSome}
 use Rattle.std.specs.List.{AllByRecursion}
 use Rattle.its_print.specs.Printing.{Line, Loaded, Ticks, Typed, Drained, Words, Listed, State, Peeked, Dir, Filed, Shown, Row, Refused}

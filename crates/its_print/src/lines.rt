@@ -38,7 +38,7 @@ pub fn print_ticks(s: u8, runs: &[Run], out: &mut ArrayVec<u8, 2048>)
     out.push(b'\n');
 }
 
-/// `Y c k`: TYPE on console `c`, where `dropped` bytes found no room.
+/// `Y c k`: TYPE on console `c`, when `dropped` bytes found no room.
 #[tactic(auto, unfolding(crate::specs::Printing::text_of_line, its_word::specs::Text::spaced))]
 pub fn print_typed(c: u8, dropped: u32, out: &mut ArrayVec<u8, 2048>)
     requires { out.old.items ≡ [] }
@@ -90,8 +90,8 @@ pub fn print_listed(s: u8, a: u32, word: Word, out: &mut ArrayVec<u8, 2048>)
     out.push(b'\n');
 }
 
-/// `S s u j sup con run pc p1 p2 m1 m2 d1 d2`: what STATE shows of slot `s`. In version 2 the symbol stands behind it.
-pub fn print_state(version: u8, s: u8, show: &JobShow, out: &mut ArrayVec<u8, 2048>)
+/// `S s u j sup con run pc p1 p2 m1 m2 d1 d2`: what STATE shows of slot `s`. In version 2 the symbol follows it.
+pub fn print_state(s: u8, show: &JobShow, version: u8, out: &mut ArrayVec<u8, 2048>)
     requires { out.old.items ≡ [] }
     ensures { out.new.items ≡ text_of_line (State version s show.now) }
 {

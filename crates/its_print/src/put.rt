@@ -154,7 +154,7 @@ fn put_run(out: &mut ArrayVec<u8, 2048>, n: u32, letter: u8)
     out.push(letter);
 }
 
-/// The runs of equal letters of at most 512 ticks. Where runs with the same letter stand side by side, they are one.
+/// The runs of equal letters of at most 512 ticks. Adjacent runs with the same letter are one.
 #[tactic(auto, using(crate::proofs::PutLaws::runs_none, crate::proofs::PutLaws::runs_length))]
 pub fn put_runs(out: &mut ArrayVec<u8, 2048>, runs: &[Run])
     requires few { length (paces_in runs.now) ≤ 512 }

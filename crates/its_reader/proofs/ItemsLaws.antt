@@ -1,6 +1,6 @@
 -- The items of a session, one by one.
 use Rattle.std.specs.Prelude.{◌≡◌, ◌≤◌, ◌<◌, ◌+◌, ℕ, ◌⊎◌, Bool, true, false, Option, Some, None, IfSome, Result, Ok, Err, List, [], ◌∷◌, ◌++◌, length, nat_lt, nat_le, Contains, refl}
-use Rattle.std.proofs.Common.{sym, ◌∙◌, ap, subst, arith, inl, inr, append_assoc, append-nil}
+use Rattle.std.proofs.Common.{sym, ◌∙◌, ap, subst, arith, inl, inr, append_assoc, append-nil, length-append}
 use Rattle.std.proofs.lemmas.Bool.{cases_Bool}
 use Rattle.std.proofs.lemmas.Bool.Decides.{nat_tests}
 use Rattle.std.proofs.lemmas.List.Elements.{Contains-append_right}
@@ -24,9 +24,12 @@ use Rattle.its_reader.specs.declared.items.Items.{Items}
 use Rattle.its_reader.specs.declared.items.Found.{Found}
 use Rattle.its_reader.specs.declared.items.Found.TheVariants.{Line, Bad, Beyond, End}
 use Rattle.its_reader.specs.Bytes.{pending}
-use Rattle.its_reader.specs.Lines.{Ready, Facing, ahead, NextOf, Reads}
-use Rattle.its_reader.specs.Items.{found_of, place_found, version_found, end_found, is_last, is_end, items_ahead, last_items, FoundOf, Finds, FoundSoFar, ReadOut, AllFound, Ended, Behind}
-use Rattle.its_reader.proofs.LinesLaws.{facing}
+use Rattle.std.specs.List.{list_all}
+use Rattle.std.proofs.lemmas.List.Folds.{list_all-append}
+use Rattle.its_reader.specs.Limits.{is_short}
+use Rattle.its_reader.specs.Lines.{Opened, Ready, Facing, ahead, NextOf, Reads}
+use Rattle.its_reader.specs.Items.{found_of, place_found, version_found, end_found, is_last, is_end, items_ahead, last_items, FoundOf, LineOf, Finds, FoundSoFar, ReadOut, AllFound, Ended, Behind}
+use Rattle.its_reader.proofs.LinesLaws.{facing, limits_by}
 
 facing_map : (b : Bool) (P Q : Bool → List ℕ → Type 0) → ((whole : Bool) (more : List ℕ) → P whole more → Q whole more) → Facing b P → Facing b Q
 facing_map false P Q f p = λ whole more. f whole more (p whole more)
@@ -64,9 +67,14 @@ line_found (Err bad) old mid read l n h r = facing_whole mid.ended _ _ (λ whole
     ∙ one_line true mid.number old.place old.version mid.line.items (ahead true mid more) h
     ∙ ap (λ x. item_then x (λ e. items_from true (mid.number + 1) (place_after old.place e) (version_after old.version e) (ahead true mid more))) (sym l)) r
 
+line_of : (le : Result Event BadLine) (old mid : Lines) (read : List ℕ) → mid.number ≡ old.number + 1 → mid.number ≤ most_lines → length mid.line.items ≤ 255 → NextOf (Ok nexts.Line) old mid read
+    → LineOf (Ok (found_of le)) old mid read
+line_of (Ok e) old mid read n h short r = (r, short, n, h)
+line_of (Err bad) old mid read n h short r = tt
+
 pub finds_line : (f : Found) (line : List ℕ) (old new : Items) (mid : Lines) (left rest : Option (List ℕ)) → line ≡ mid.line.items → f ≡ found_of (line_event old.place old.version line) → new.place ≡ place_found old.place f → new.version ≡ version_found old.version f → new.lines ≡ mid
-    → mid.number ≡ old.lines.number + 1 → mid.number ≤ most_lines → Reads (Ok nexts.Line) old.lines mid left rest → Finds (Ok f) old new left rest
-finds_line f line old new mid left rest s e p v l n h r =
+    → mid.number ≡ old.lines.number + 1 → mid.number ≤ most_lines → length mid.line.items ≤ 255 → Reads (Ok nexts.Line) old.lines mid left rest → Finds (Ok f) old new left rest
+finds_line f line old new mid left rest s e p v l n h short r =
     let k : f ≡ found_of (line_event old.place old.version mid.line.items) = e ∙ ap (λ x. found_of (line_event old.place old.version x)) s in
     let at : record { lines = mid; place = place_found old.place (found_of (line_event old.place old.version mid.line.items)); version = version_found old.version (found_of (line_event old.place old.version mid.line.items)) } ≡ new = ap (λ x. record { lines = mid; place = place_found old.place x; version = version_found old.version x }) (sym k) ∙ ap (λ x. record { lines = mid; place = x; version = version_found old.version f }) (sym p) ∙ ap (λ x. record { lines = mid; place = new.place; version = x }) (sym v) ∙ ap (λ x. record { lines = x; place = new.place; version = new.version }) (sym l) in
     subst (λ x. Finds (Ok x) old new left rest) (sym k) (subst (λ x. Finds (Ok (found_of (line_event old.place old.version mid.line.items))) old x left rest) at (record {
@@ -74,6 +82,7 @@ finds_line f line old new mid left rest s e p v l n h r =
       consumed = r.consumed;
       over = r.over;
       found = line_found (line_event old.place old.version mid.line.items) old mid r.read refl n h r.next;
+      line = line_of (line_event old.place old.version mid.line.items) old.lines mid r.read n h short r.next;
     }))
 
 pub finds_long : (old : Items) (mid : Lines) (left rest : Option (List ℕ)) → mid.number ≡ old.lines.number + 1 → Reads (Ok nexts.Long) old.lines mid left rest
@@ -86,6 +95,7 @@ finds_long old mid left rest n r = record {
       ap (items_from true (old.lines.number + 1) old.place old.version) l.is
       ∙ one_line true (old.lines.number + 1) old.place old.version l.first l.behind (subst (λ k. k ≤ most_lines) n r.next.0)
       ∙ ap (λ x. item_then x (λ e. items_from true (old.lines.number + 1 + 1) (place_after old.place e) (version_after old.version e) l.behind)) (event_long old.place old.version l.first l.holds));
+  line = tt;
 }
 
 beyond : (n : ℕ) (place : Place) (v : ℕ) (line : List ℕ) (rest : List (List ℕ)) → most_lines < n → items_from true n place v (line ∷ rest) ≡ items.Beyond ∷ []
@@ -100,6 +110,7 @@ finds_beyond old mid left rest n r = record {
   found = facing mid.ended _ (λ whole more. let l = r.next.1 more in
       ap (items_from true (old.lines.number + 1) old.place old.version) l.is
       ∙ beyond (old.lines.number + 1) old.place old.version l.first l.behind (subst (λ k. most_lines < k) n r.next.0));
+  line = tt;
 }
 
 -- the end of the input
@@ -123,6 +134,12 @@ end_found_of places.Load old mid read e d a = over_at mid.ended (λ more. items_
 end_found_of places.File old mid read e d a = over_at mid.ended (λ more. items_ahead true old (read ++ more) ≡ Unread reasons.Cut ∷ []) d
     (ap (items_ahead true old) (append-nil read) ∙ ap (items_from true (old.lines.number + 1) old.place old.version) a ∙ ap (end_of true) (sym e))
 
+end_line : (place : Place) (old mid : Lines) (read : List ℕ) → LineOf (Ok (end_found place)) old mid read
+end_line places.First old mid read = tt
+end_line places.Plain old mid read = tt
+end_line places.Load old mid read = tt
+end_line places.File old mid read = tt
+
 pub finds_end : (f : Found) (old : Items) (mid : Lines) (left rest : Option (List ℕ)) → f ≡ end_found old.place → Reads (Ok nexts.End) old.lines mid left rest
     → Finds (Ok f) old (record { lines = mid; place = old.place; version = old.version }) left rest
 finds_end f old mid left rest e r = subst (λ x. Finds (Ok x) old (record { lines = mid; place = old.place; version = old.version }) left rest) (sym e) (record {
@@ -130,14 +147,17 @@ finds_end f old mid left rest e r = subst (λ x. Finds (Ok x) old (record { line
   consumed = r.consumed;
   over = r.over;
   found = end_found_of old.place old mid r.read refl r.next.0 r.next.1;
+  line = end_line old.place old.lines mid r.read;
 })
 
-pub finds_broken : (e : Failed) (old : Items) (mid : Lines) (left rest : Option (List ℕ)) → Reads (Err e) old.lines mid left rest → Finds (Err e) old (record { lines = mid; place = old.place; version = old.version }) left rest
-finds_broken e old mid left rest r = record {
+pub finds_broken : (e : Failed) (old : Items) (mid : Lines) (left rest : Option (List ℕ)) → mid.number ≡ old.lines.number + 1 → Reads (Err e) old.lines mid left rest
+    → Finds (Err e) old (record { lines = mid; place = old.place; version = old.version }) left rest
+finds_broken e old mid left rest n r = record {
   read = r.read;
   consumed = r.consumed;
   over = r.over;
-  found = (r.next.0, ap (items_from false (old.lines.number + 1) old.place old.version) r.next.1);
+  found = (r.next.0, ap (items_from false (old.lines.number + 1) old.place old.version) r.next.1, subst (Opened (ahead true old.lines r.read)) n r.next.2);
+  line = tt;
 }
 
 -- a session of which nothing was read
@@ -150,6 +170,11 @@ so_start r left n e p q v = record {
       ∙ ap (λ k. items_from whole (r.lines.number + 1) k 1 (lines_from whole [] more)) (sym q)
       ∙ ap (λ k. items_from whole (r.lines.number + 1) r.place k (lines_from whole [] more)) (sym v)
       ∙ ap (λ k. items_from whole (r.lines.number + 1) r.place r.version (lines_from whole [] (k ++ more))) (sym p));
+  lines = [];
+  lines_so = facing r.lines.ended _ (λ whole more. ap (λ k. lines_from whole [] (k ++ more)) (sym p));
+  short = refl;
+  number = sym n;
+  few = omega arith;
 }
 
 -- what was read before, and now
@@ -180,6 +205,12 @@ end_event : (e : Event) (rest : List Item) → is_end (Line e) ≡ true → item
 end_event events.End rest h = refl
 end_event _ rest h = cc
 
+-- a line more
+short_more : (lines : List (List ℕ)) (line : List ℕ) → list_all is_short lines ≡ true → length line ≤ 255 → list_all is_short (lines ++ line ∷ []) ≡ true
+short_more lines line short few =
+    let here : nat_le (length line) 255 ≡ true = grind (arith, nat_tests) in
+    rw (list_all-append is_short lines (line ∷ []), short, here) refl
+
 pub so_next : (es : List Item) (e : Event) (old new : Items) (left mid rest : Option (List ℕ)) → is_end (Line e) ≡ false → FoundSoFar es old left mid → Finds (Ok (Line e)) old new mid rest
     → FoundSoFar (es ++ Read e ∷ []) new left rest
 so_next es e old new left mid rest g s f = record {
@@ -190,6 +221,15 @@ so_next es e old new left mid rest g s f = record {
       (λ whole more. all_items whole ((s.read ++ f.read) ++ more) ≡ (es ++ Read e ∷ []) ++ items_ahead whole new more) f.read f.over
       (λ whole more p q. ap (all_items whole) (append_assoc s.read f.read more) ∙ p ∙ ap (λ x. es ++ x) (q ∙ on_event e (items_ahead whole new more) g) ∙ sym (append_assoc es (Read e ∷ []) (items_ahead whole new more)))
       s.so_far f.found;
+  lines = s.lines ++ new.lines.line.items ∷ [];
+  lines_so = step old.lines.ended new.lines.ended (λ whole more. lines_from whole [] (s.read ++ more) ≡ s.lines ++ ahead whole old.lines more)
+      (λ whole more. ahead whole old.lines (f.read ++ more) ≡ new.lines.line.items ∷ ahead whole new.lines more)
+      (λ whole more. lines_from whole [] ((s.read ++ f.read) ++ more) ≡ (s.lines ++ new.lines.line.items ∷ []) ++ ahead whole new.lines more) f.read f.over
+      (λ whole more p q. ap (lines_from whole []) (append_assoc s.read f.read more) ∙ p ∙ ap (λ x. s.lines ++ x) q ∙ sym (append_assoc s.lines (new.lines.line.items ∷ []) (ahead whole new.lines more)))
+      s.lines_so f.line.0;
+  short = short_more s.lines new.lines.line.items s.short f.line.1;
+  number = length-append s.lines (new.lines.line.items ∷ []) ∙ ap (λ k. k + 1) s.number ∙ sym f.line.2;
+  few = (let h = f.line.3 in let n = f.line.2 in omega (arith, length-append s.lines (new.lines.line.items ∷ []), s.number, h, n));
 }
 
 -- all of them
@@ -263,16 +303,20 @@ ended_by f es old new left mid rest g r s t =
     }
 
 -- the source failed
-unended : (b : Bool) (P : Bool → List ℕ → Type 0) (t : List ℕ) → b ≡ false → Facing b P → P false t
-unended true P t e p = cc
-unended false P t e p = p false t
+unended : (b whole : Bool) (P : Bool → List ℕ → Type 0) (t : List ℕ) → b ≡ false → Facing b P → P whole t
+unended true whole P t e p = cc
+unended false whole P t e p = p whole t
 
 broken_of : (x : Failed) (es : List Item) (old new : Items) (left mid rest : Option (List ℕ)) (s : FoundSoFar es old left mid) (t : Finds (Err x) old new mid rest) → IfSome left (λ bytes. AllFound (Err x) es bytes (s.read ++ t.read))
 unfolding whole_events_of
 broken_of x es old new None mid rest s t = tt
-broken_of x es old new (Some bytes) mid rest s t =
-    unended old.lines.ended (λ whole more. all_items whole (s.read ++ more) ≡ es ++ items_ahead whole old more) t.read t.found.0 s.so_far
-    ∙ ap (λ i. es ++ i) t.found.1 ∙ append-nil es
+broken_of x es old new (Some bytes) mid rest s t = (
+  unended old.lines.ended false (λ whole more. all_items whole (s.read ++ more) ≡ es ++ items_ahead whole old more) t.read t.found.0 s.so_far
+      ∙ ap (λ i. es ++ i) t.found.1 ∙ append-nil es,
+  limits_by s.lines (ahead true old.lines t.read) (s.read ++ t.read)
+      (unended old.lines.ended true (λ whole more. lines_from whole [] (s.read ++ more) ≡ s.lines ++ ahead whole old.lines more) t.read t.found.0 s.lines_so)
+      s.short s.few (subst (λ n. Opened (ahead true old.lines t.read) (n + 1)) (sym s.number) t.found.2),
+)
 
 pub ended_broken : (x : Failed) (es : List Item) (old new : Items) (left mid rest : Option (List ℕ)) → FoundSoFar es old left mid → Finds (Err x) old new mid rest → Ended (Err x) es left rest
 ended_broken x es old new left mid rest s t = record {

@@ -1,17 +1,20 @@
 -- The lines of a source, one by one.
-use Rattle.std.specs.Prelude.{◌≡◌, ◌≢◌, ◌==◌, ◌<◌, ℕ, Bool, true, false, Option, Some, None, Result, Ok, Err, List, [], ◌∷◌, ◌++◌, length, refl}
+use Rattle.std.specs.Prelude.{◌≡◌, ◌≢◌, ◌==◌, ◌<◌, ◌≤◌, ◌+◌, nat_le, ℕ, Bool, true, false, Option, Some, None, Result, Ok, Err, List, [], ◌∷◌, ◌++◌, length, refl}
 use Rattle.std.proofs.Common.{sym, ◌∙◌, ap, subst, arith, inl, inr, append_assoc, append-nil, length-append}
 use Rattle.std.proofs.lemmas.Bool.{cases_Bool}
 use Rattle.std.proofs.lemmas.Bool.Decides.{nat_tests}
 use Rattle.std.proofs.KnownBytes.{Consumes-nil, Consumes-trans, Consumes-kept}
 use Rattle.its_io.specs.declared.stream.Failed.{Failed}
-use Rattle.its_session.specs.Events.{last_line, lines_from}
+use Rattle.std.specs.List.{list_all}
+use Rattle.std.proofs.lemmas.List.Folds.{list_all-append}
+use Rattle.its_session.specs.Events.{last_line, lines_from, most_lines}
 use Rattle.its_reader.specs.declared.buffer.Buffer.{Buffer}
 use Rattle.its_reader.specs.declared.lines.Lines.{Lines}
 use Rattle.its_reader.specs.declared.lines.Next.{Next}
 use Rattle.its_reader.specs.declared.lines.Next.TheVariants.{Line, Long, Beyond, End}
 use Rattle.its_reader.specs.Bytes.{pending, Fits, Taken, Broke}
-use Rattle.its_reader.specs.Lines.{Ready, ahead, Facing, SomeLine, NextOf, Reads, Pushed, last_of, LineSo}
+use Rattle.its_reader.specs.Limits.{WithinLimits, is_short}
+use Rattle.its_reader.specs.Lines.{Opened, Ready, ahead, Facing, SomeLine, NextOf, Reads, Pushed, last_of, LineSo}
 
 pub facing : (b : Bool) (P : Bool → List ℕ → Type 0) → ((whole : Bool) (more : List ℕ) → P whole more) → Facing b P
 facing false P f = f
@@ -128,13 +131,38 @@ no_line : (line : List ℕ) → last_line false line ≡ []
 no_line [] = refl
 no_line (b ∷ bs) = refl
 
-pub reads_broken : (e : Failed) (old now new : Lines) (left mid rest : Option (List ℕ)) → old.ended ≡ false → LineSo old now left mid → Broke now.buffer new.buffer mid rest → Reads (Err e) old new left rest
-reads_broken e old now new left mid rest o s b = record {
+opened_last : (line : List ℕ) (n : ℕ) → length line ≤ 255 → (0 < length line → n ≤ most_lines) → Opened (last_line true line) n
+opened_last [] n short few = tt
+opened_last (b ∷ bs) n short few = (short, few (omega arith))
+
+pub reads_broken : (e : Failed) (old now new : Lines) (left mid rest : Option (List ℕ)) → old.ended ≡ false → length now.line.items ≤ 255 → (0 < length now.line.items → new.number ≤ most_lines) → LineSo old now left mid
+    → Broke now.buffer new.buffer mid rest → Reads (Err e) old new left rest
+reads_broken e old now new left mid rest o short few s b = record {
   read = s.read;
   consumed = Consumes-kept left mid rest s.read s.consumed b.kept;
   over = λ x. absurd (let k : false ≡ true = sym o ∙ x in cc);
-  next = (o, ap (ahead false old) (sym (append-nil s.read)) ∙ s.so_far false [] ∙ ap (λ x. lines_from false now.line.items (x ++ [])) b.none ∙ no_line now.line.items);
+  next = (
+    o,
+    ap (ahead false old) (sym (append-nil s.read)) ∙ s.so_far false [] ∙ ap (λ x. lines_from false now.line.items (x ++ [])) b.none ∙ no_line now.line.items,
+    subst (λ lines. Opened lines new.number)
+        (sym (ap (ahead true old) (sym (append-nil s.read)) ∙ s.so_far true [] ∙ ap (λ x. lines_from true now.line.items (x ++ [])) b.none))
+        (opened_last now.line.items new.number short few),
+  );
 }
+
+-- lines that were given, and at most one that has begun
+pub limits_by : (lines more : List (List ℕ)) (bytes : List ℕ) → lines_from true [] bytes ≡ lines ++ more → list_all is_short lines ≡ true → length lines ≤ most_lines → Opened more (length lines + 1) → WithinLimits bytes
+limits_by lines [] bytes is short few opened = record {
+  short = ap (list_all is_short) (is ∙ append-nil lines) ∙ short;
+  few = subst (λ (x : List (List ℕ)). length x ≤ most_lines) (sym (is ∙ append-nil lines)) few;
+}
+limits_by lines (line ∷ []) bytes is short few opened =
+    let here : nat_le (length line) 255 ≡ true = (let h : length line ≤ 255 = opened.0 in grind (arith, nat_tests)) in
+    record {
+      short = ap (list_all is_short) is ∙ rw (list_all-append is_short lines (line ∷ []), short, here) refl;
+      few = subst (λ (x : List (List ℕ)). length x ≤ most_lines) (sym is) (let h : length lines + 1 ≤ most_lines = opened.1 in omega (arith, length-append lines (line ∷ [])));
+    }
+limits_by lines (line ∷ (next ∷ more)) bytes is short few opened = absurd opened
 
 -- behind the end there is nothing
 pub reads_ended : (old new : Lines) (left : Option (List ℕ)) → Ready old left → old.ended ≡ true → new.ended ≡ true → Reads (Ok End) old new left left
@@ -150,7 +178,7 @@ by_start (Ok Line) old start new read e f n = subst (λ b. Facing new.ended (λ 
 by_start (Ok Long) old start new read e f n = (n.0, subst (λ b. (more : List ℕ) → SomeLine (lines_from true [] (pending b ++ (read ++ more))) (λ line. 255 < length line)) e n.1)
 by_start (Ok Beyond) old start new read e f n = (n.0, subst (λ b. (more : List ℕ) → SomeLine (lines_from true [] (pending b ++ (read ++ more))) (λ line. Unit {0})) e n.1)
 by_start (Ok End) old start new read e f n = (n.0, subst (λ b. lines_from true [] (pending b ++ read) ≡ []) e n.1)
-by_start (Err x) old start new read e f n = (sym f ∙ n.0, subst (λ b. lines_from false [] (pending b ++ read) ≡ []) e n.1)
+by_start (Err x) old start new read e f n = (sym f ∙ n.0, subst (λ b. lines_from false [] (pending b ++ read) ≡ []) e n.1, subst (λ b. Opened (lines_from true [] (pending b ++ read)) new.number) e n.2)
 
 pub reads_from : (result : Result Next Failed) (old start new : Lines) (left rest : Option (List ℕ)) → start.buffer ≡ old.buffer → start.ended ≡ old.ended → Reads result start new left rest → Reads result old new left rest
 reads_from result old start new left rest e f r = record {

@@ -13,7 +13,8 @@ use Rattle.its_reader.specs.declared.lines.Next.TheVariants.{Line, Long, Beyond,
 use Rattle.its_reader.specs.declared.texts.Texts.{Texts}
 use Rattle.its_reader.specs.Bytes.{pending, Fits, Taken, Broke}
 use Rattle.its_reader.specs.Lines.{Facing, SomeLine, last_of}
-use Rattle.its_reader.specs.Texts.{PushedText, ReadsText, ReadyTexts, TextOf, TextSo, is_inside, texts_ahead}
+use Rattle.its_session.specs.Events.{most_lines}
+use Rattle.its_reader.specs.Texts.{OpenedText, PushedText, ReadsText, ReadyTexts, TextOf, TextSo, is_inside, texts_ahead}
 use Rattle.its_reader.proofs.LinesLaws.{facing, nothing_left}
 
 -- bytes without LF before LF are a line with it
@@ -115,11 +116,13 @@ long_line most (c ∷ cs) rest b h other long =
 
 by_push : (next : Next) (old now new : Texts) (b : ℕ) (left mid rest : Option (List ℕ)) (s : TextSo old now left mid) (t : Taken (Some b) now.buffer new.buffer mid rest)
     → PushedText (Some next) new.number new.most now.text.items b new.text.items → TextOf (Ok next) old new (s.read ++ t.read)
-by_push Line old now new b left mid rest s t p =
-    facing new.ended _
-    (λ whole more.
-    byte old now new.buffer b left mid rest s t more ∙ ends now.text.items (pending new.buffer ++ more) b s.inside p.0
-    ∙ ap (λ x. x ∷ lines_in (pending new.buffer ++ more)) (sym p.1))
+by_push Line old now new b left mid rest s t p = (
+  facing new.ended _
+      (λ whole more.
+      byte old now new.buffer b left mid rest s t more ∙ ends now.text.items (pending new.buffer ++ more) b s.inside p.0
+      ∙ ap (λ x. x ∷ lines_in (pending new.buffer ++ more)) (sym p.1)),
+  λ on. record { before = now.text.items; is = p.1 ∙ ap (λ (x : ℕ). now.text.items ++ x ∷ []) p.0; inside = s.inside },
+)
 by_push Long old now new b left mid rest s t p = (
   p.2,
   λ more.
@@ -153,10 +156,12 @@ by_last : (text : List ℕ) (old new : Texts) (read : List ℕ) → new.ended �
     → texts_ahead old read ≡ lines_in text → TextOf (Ok (last_of text)) old new read
 unfolding lines_in
 by_last [] old new read e p l inside h = (e, h)
-by_last (c ∷ cs) old new read e p l inside h =
-    over_at new.ended e
-    (λ more. texts_ahead old (read ++ more) ≡ new.text.items ∷ texts_ahead new more)
-    (ap (texts_ahead old) (append-nil read) ∙ h ∙ only c cs inside ∙ ap (λ x. x ∷ []) (sym l) ∙ ap (λ x. new.text.items ∷ lines_in (x ++ [])) (sym p))
+by_last (c ∷ cs) old new read e p l inside h = (
+  over_at new.ended e
+      (λ more. texts_ahead old (read ++ more) ≡ new.text.items ∷ texts_ahead new more)
+      (ap (texts_ahead old) (append-nil read) ∙ h ∙ only c cs inside ∙ ap (λ x. x ∷ []) (sym l) ∙ ap (λ x. new.text.items ∷ lines_in (x ++ [])) (sym p)),
+  λ on. absurd (false≢true (sym on ∙ e)),
+)
 
 pub reads_last : (next : Next) (o : Option ℕ) (slice : List ℕ) (old now new : Texts) (left mid rest : Option (List ℕ)) → next ≡ last_of slice → slice ≡ new.text.items → o ≡ None
     → old.ended ≡ false → new.ended ≡ true → new.text.items ≡ now.text.items → TextSo old now left mid → Taken o now.buffer new.buffer mid rest → ReadsText (Ok next) old new left rest
@@ -175,13 +180,24 @@ reads_last next o slice old now new left mid rest e l n runs f k s t =
     })
 
 -- the source failed
-pub reads_broken : (e : Failed) (old now new : Texts) (left mid rest : Option (List ℕ)) → old.ended ≡ false → TextSo old now left mid → Broke now.buffer new.buffer mid rest → ReadsText (Err e) old new left rest
-reads_broken e old now new left mid rest runs s b = record {
-  read = s.read;
-  consumed = Consumes-kept left mid rest s.read s.consumed b.kept;
-  over = λ x. absurd (false≢true (sym runs ∙ x));
-  next = runs;
-}
+opened : (most n : ℕ) (text : List ℕ) → list_all is_inside text ≡ true → length text ≤ most → (0 < length text → n ≤ most_lines) → OpenedText most (lines_in text) n
+unfolding lines_in
+opened most n [] inside short few = tt
+opened most n (b ∷ bs) inside short few =
+    subst (λ lines. OpenedText most lines n) (sym (only b bs inside)) (inside, short, few (omega arith))
+
+pub reads_broken : (e : Failed) (old now new : Texts) (left mid rest : Option (List ℕ)) → old.ended ≡ false → length now.text.items ≤ new.most → (0 < length now.text.items → new.number ≤ most_lines)
+    → TextSo old now left mid → Broke now.buffer new.buffer mid rest → ReadsText (Err e) old new left rest
+reads_broken e old now new left mid rest runs short few s b =
+    let all : texts_ahead old s.read ≡ lines_in now.text.items =
+    ap (texts_ahead old) (sym (append-nil s.read)) ∙ s.so_far [] ∙ ap (λ x. lines_in (now.text.items ++ (x ++ []))) b.none
+    ∙ ap lines_in (append-nil now.text.items) in
+    record {
+      read = s.read;
+      consumed = Consumes-kept left mid rest s.read s.consumed b.kept;
+      over = λ x. absurd (false≢true (sym runs ∙ x));
+      next = (runs, subst (λ lines. OpenedText new.most lines new.number) (sym all) (opened new.most new.number now.text.items s.inside short few));
+    }
 
 -- behind the end there is nothing
 pub reads_ended : (old new : Texts) (left : Option (List ℕ)) → ReadyTexts old left → old.ended ≡ true → new.ended ≡ true → ReadsText (Ok End) old new left left
@@ -195,13 +211,13 @@ reads_ended old new left r e f = record {
 
 by_start : (result : Result Next Failed) (old start new : Texts) (read : List ℕ) → start.buffer ≡ old.buffer → start.ended ≡ old.ended → TextOf result start new read → TextOf result old new read
 by_start (Ok Line) old start new read e f n =
-    subst (λ (b : Buffer). Facing new.ended (λ whole more. lines_in (pending b ++ (read ++ more)) ≡ new.text.items ∷ texts_ahead new more)) e n
+    (subst (λ (b : Buffer). Facing new.ended (λ whole more. lines_in (pending b ++ (read ++ more)) ≡ new.text.items ∷ texts_ahead new more)) e n.0, n.1)
 by_start (Ok Long) old start new read e f n =
     (n.0, subst (λ (b : Buffer). (more : List ℕ) → SomeLine (lines_in (pending b ++ (read ++ more))) (λ line. new.most < length (before_lf line))) e n.1)
 by_start (Ok Beyond) old start new read e f n =
     (n.0, subst (λ (b : Buffer). (more : List ℕ) → SomeLine (lines_in (pending b ++ (read ++ more))) (λ line. Unit {0})) e n.1)
 by_start (Ok End) old start new read e f n = (n.0, subst (λ (b : Buffer). lines_in (pending b ++ read) ≡ []) e n.1)
-by_start (Err x) old start new read e f n = sym f ∙ n
+by_start (Err x) old start new read e f n = (sym f ∙ n.0, subst (λ (b : Buffer). OpenedText new.most (lines_in (pending b ++ read)) new.number) e n.1)
 
 pub reads_from : (result : Result Next Failed) (old start new : Texts) (left rest : Option (List ℕ)) → start.buffer ≡ old.buffer → start.ended ≡ old.ended → ReadsText result start new left rest
     → ReadsText result old new left rest

@@ -1,4 +1,5 @@
 -- The bytes of a source, one by one.
+-- No promise rests on this.
 use Rattle.std.specs.Prelude.{◌≡◌, ◌≤◌, ℕ, Option, Some, None, Result, Ok, Err, List, [], ◌∷◌, ◌++◌, length, take, drop}
 use Rattle.std.specs.Io.KnownBytes.{Consumes, Keeps, IsAtEnd}
 use Rattle.its_io.specs.declared.stream.Failed.{Failed}
@@ -11,12 +12,12 @@ pending b = drop b.start (take b.stop b.bytes)
 abbrev pub Fits : Buffer → Type 0
 Fits b = (b.start ≤ b.stop) × (b.stop ≤ length b.bytes) × (length b.bytes ≡ 512)
 
--- the first of some bytes, and those behind it; none where there is none
+-- the first of some bytes, and those after it; none if there is none
 abbrev pub Given : Option ℕ → List ℕ → List ℕ → Type 0
 Given (Some b) before after = before ≡ b ∷ after
 Given None before after = (before ≡ []) × (after ≡ [])
 
--- bytes were read behind those that were pending, and none only at the end of the source
+-- bytes were read after those that were pending, and none only at the end of the source
 pub record FilledOn (old new : Buffer) (left rest : Option (List ℕ)) : Type 0 where
   pub read : List ℕ
   pub consumed : Consumes left rest read
@@ -32,7 +33,7 @@ abbrev pub Filled : Result (Unit {0}) Failed → Buffer → Buffer → Option (L
 Filled (Ok x) old new left rest = FilledOn old new left rest
 Filled (Err e) old new left rest = Broke old new left rest
 
--- the next byte of the source, behind those that were pending; none only at its end
+-- the next byte of the source, after those that were pending; none only at its end
 pub record Taken (b : Option ℕ) (old new : Buffer) (left rest : Option (List ℕ)) : Type 0 where
   pub read : List ℕ
   pub consumed : Consumes left rest read

@@ -1,4 +1,5 @@
 pub mod Bytes
+pub mod Limits
 pub mod Lines
 pub mod Items
 pub mod TextLines

@@ -1,4 +1,5 @@
 -- The lines of bytes, each with the LF that ends it.
+-- A promise rests on this.
 use Rattle.std.specs.Prelude.{if◌then◌else◌, ◌==◌, ℕ, List, [], ◌∷◌}
 
 -- a byte in front of the lines of bytes: LF is a line of its own there, and any other byte begins the first line

@@ -39,7 +39,7 @@ impl Buffer {
         }
     }
 
-    /// Reads bytes, where all that were read are taken.
+    /// Reads bytes, if all that were read are taken.
     #[tactic(auto, using(crate::proofs::BufferLaws::filled_some, crate::proofs::BufferLaws::filled_read, crate::proofs::BufferLaws::none_pending))]
     fn fill<S: Source>(&mut self, src: &mut S) -> Result<(), Failed>
         requires fits { Fits self.old }
@@ -56,7 +56,7 @@ impl Buffer {
         Ok(())
     }
 
-    /// Takes the first of the bytes that were read; None where all are taken.
+    /// Takes the first of the bytes that were read; None if all are taken.
     #[tactic(auto, using(crate::proofs::BufferLaws::taken, crate::proofs::BufferLaws::none_pending))]
     fn take(&mut self) -> Option<u8>
         requires fits { Fits self.old }

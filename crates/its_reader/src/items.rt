@@ -53,7 +53,7 @@ impl Items {
     }
 
     /// What comes next; `lines.number` is then the number of its line. The end of the input inside a block is refused
-    /// as CUT. Nothing is to be asked for behind END or behind what is no line.
+    /// as CUT. Nothing is to be asked for after END or after what is no line.
     #[tactic(auto, using(crate::proofs::ItemsLaws::finds_line, crate::proofs::ItemsLaws::finds_long, crate::proofs::ItemsLaws::finds_beyond, crate::proofs::ItemsLaws::finds_end, crate::proofs::ItemsLaws::finds_broken))]
     pub fn next<S: Source>(&mut self, src: &mut S) -> Result<Found, Failed>
         requires ready { Ready self.old.lines (S.left src.old) }
@@ -75,7 +75,7 @@ impl Items {
         }
     }
 
-    /// What the line that was given last comes to.
+    /// The item of the line that was given last.
     fn read(&mut self) -> Found
         ensures read { result ≡ found_of (line_event self.old.place self.old.version self.old.lines.line.items) }
         ensures place { self.new.place ≡ place_found self.old.place result }
@@ -95,7 +95,7 @@ impl Items {
     }
 }
 
-/// What the end of the input comes to at a place: inside a block it is refused as CUT.
+/// What the end of the input means at a place: inside a block it is refused as CUT.
 fn at_end(place: Place) -> Found
     ensures { result ≡ end_found place }
 {
@@ -120,7 +120,7 @@ fn place_after(place: Place, event: &Event) -> Place
     }
 }
 
-/// The place behind a line that begins no block and ends none: line 1 is over.
+/// The place after a line that begins no block and ends none: line 1 is over.
 fn behind(place: Place) -> Place
     ensures { result ≡ place_after place Event.Nothing }
 {

@@ -1,5 +1,5 @@
-//! The lines of a source of bytes, one by one, and the items that the lines of a session come to. What reads lines
-//! shares this: it takes no memory, and a line is given as soon as its LF was read.
+//! The lines of a source of bytes, one by one, and the items of the lines of a session. What reads lines shares this:
+//! it takes no memory, and a line is given as soon as its LF was read.
 #![tactic(auto)]
 
 mod buffer;

@@ -33,7 +33,7 @@ pub struct Lines {
     pub line: ArrayVec<u8, 255>,
     /// Its number, from 1.
     pub number: u32,
-    /// Whether the source came to its end.
+    /// Whether the source has ended.
     pub ended: bool,
 }
 
@@ -53,8 +53,8 @@ impl Lines {
         }
     }
 
-    /// What comes next: where it is a line, this is `line`, and `number` is its number. LF ends a line, and so does the
-    /// end of the source, where a line has begun.
+    /// What comes next: if it is a line, this is `line`, and `number` is its number. LF ends a line, and so does the end of the source,
+    /// if a line has begun.
     #[tactic(auto, using(crate::proofs::LinesLaws::reads_ended, crate::proofs::LinesLaws::reads_from))]
     pub fn next<S: Source>(&mut self, src: &mut S) -> Result<Next, Failed>
         requires ready { Ready self.old (S.left src.old) }
@@ -105,7 +105,7 @@ impl Lines {
     }
 }
 
-/// What the end of the source comes to, where these bytes of a line were read.
+/// What the end of the source means, if these bytes of a line were read.
 pub(super) fn last(line: &[u8]) -> Next
     ensures { result ≡ last_of line.now }
 {
@@ -116,7 +116,7 @@ pub(super) fn last(line: &[u8]) -> Next
     }
 }
 
-/// Takes a byte of the line with this number: what it comes to where the line is over by it.
+/// Takes a byte of the line with this number; the result if the line is over with it.
 fn push(line: &mut ArrayVec<u8, 255>, number: u32, b: u8) -> Option<Next>
     requires short { length line.old.items ≤ 255 }
     ensures pushed { Pushed result number line.old.items b line.new.items }

@@ -22,12 +22,12 @@ pub struct Texts {
     pub number: u32,
     /// The most bytes of a line before its LF, from here on: 1543 at most.
     pub most: usize,
-    /// Whether the source came to its end.
+    /// Whether the source has ended.
     pub ended: bool,
 }
 
 impl Texts {
-    /// The lines of a source of which nothing was read, where each has so many bytes at most before its LF.
+    /// The lines of a source of which nothing was read, when each has so many bytes at most before its LF.
     pub fn new(most: usize) -> Texts
         ensures fits { Fits result.buffer }
         ensures pending { pending result.buffer ≡ [] }
@@ -44,8 +44,8 @@ impl Texts {
         }
     }
 
-    /// What comes next: where it is a line, this is `text`, and `number` is its number. It is too long as soon as one byte
-    /// too many was read and is no LF.
+    /// What comes next: if it is a line, this is `text`, and `number` is its number. It is too long as soon as one byte too many was
+    /// read and is no LF.
     #[tactic(auto, using(crate::proofs::TextsLaws::reads_ended, crate::proofs::TextsLaws::reads_from))]
     pub fn next<S: Source>(&mut self, src: &mut S) -> Result<Next, Failed>
         requires ready { ReadyTexts self.old (S.left src.old) }
@@ -100,7 +100,7 @@ impl Texts {
     }
 }
 
-/// Takes a byte of the line with this number: what it comes to where the line is over by it.
+/// Takes a byte of the line with this number; the result if the line is over with it.
 fn push(text: &mut ArrayVec<u8, 1544>, number: u32, most: usize, b: u8) -> Option<Next>
     requires short { length text.old.items ≤ most }
     requires most { most ≤ 1543 }

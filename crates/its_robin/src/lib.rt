@@ -7,9 +7,9 @@ mod tests;
 ghost use Rattle.std.specs.Prelude.{◌≡◌, ◌≤◌, ◌<◌, ◌-◌, ℕ, false, length, slice_index_or};
 ghost use Rattle.its_robin.specs.Robin.{Turn, first_running, robin};
 
-/// The slot whose turn it is: the first that runs of those behind slot `last`, around the circle of all of
-/// them, with `last` itself as the final one; None exactly where none runs. `runs` has an entry for each
-/// slot, 96 at most, which tells whether its job runs.
+/// The slot whose turn it is: the first that runs of those after slot `last`, around the circle of all of them, with
+/// `last` itself as the final one; None exactly if none runs. `runs` has an entry for each slot, 96 at most, which
+/// says whether its job runs.
 #[tactic(auto, using(crate::proofs::RobinLaws::turn_behind, crate::proofs::RobinLaws::turn_around, crate::proofs::RobinLaws::next_behind, crate::proofs::RobinLaws::around_is))]
 pub fn next(runs: &[bool], last: u8) -> Option<u8>
     requires few { length runs.now ≤ 96 }

@@ -1,4 +1,5 @@
 -- The events of a session's bytes (docs/SESSION.md).
+-- A promise rests on this.
 use Rattle.std.specs.Prelude.{if◌then◌else◌, ◌==◌, ℕ, ◌+◌, ◌^◌, Bool, true, false, Result, Ok, Err, List, [], ◌∷◌, ◌++◌, nat_lt}
 use Rattle.its_word.specs.Item.{Item, Read, Unread, Beyond}
 use Rattle.its_word.specs.declared.session.Event.{Event}
@@ -21,8 +22,8 @@ last_line whole [] = []
 last_line true (b ∷ bs) = (b ∷ bs) ∷ []
 last_line false (b ∷ bs) = []
 
--- the lines of bytes, which LF ends, where some bytes are kept of a line that has begun; `whole` tells
--- that the input ends with these bytes
+-- the lines of bytes, which LF ends, when some bytes are kept of a line that has begun; `whole` says that the input
+-- ends with these bytes
 abbrev pub lines_from : Bool → List ℕ → List ℕ → List (List ℕ)
 lines_from whole kept [] = last_line whole kept
 lines_from whole kept (b ∷ bs) = if b == 10 then kept ∷ lines_from whole [] bs else lines_from whole (kept ++ b ∷ []) bs
@@ -55,7 +56,7 @@ unread_reason bads.Syntax = reasons.Syntax
 unread_reason bads.Range = reasons.Range
 unread_reason bads.NoConsole = reasons.NoCons
 
--- a line, and what follows where it is read and does not end the session
+-- a line, and what follows if it is read and does not end the session
 abbrev pub item_then : Result Event Bad → (Event → List Item) → List Item
 item_then (Ok events.End) rest = Read events.End ∷ []
 item_then (Ok e) rest = Read e ∷ rest e

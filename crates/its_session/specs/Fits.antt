@@ -1,4 +1,5 @@
--- The events that lines stand for: their fields meet the table of lines (docs/SESSION.md).
+-- The events of lines that can be read: their fields agree with the table of lines (docs/SESSION.md).
+-- No promise rests on this.
 use Rattle.std.specs.Prelude.{◌≡◌, ℕ, ◌+◌, ◌<◌, ◌≤◌, ◌^◌, true, List, length, IsTrue, IfSome, All}
 use Rattle.its_word.specs.Text.{is_name, sixbit_of}
 use Rattle.its_word.specs.declared.session.Event.{Event}
@@ -46,7 +47,7 @@ EventFits v (events.Dir d) = IsNameWord d
 EventFits v (events.Show d x y) = IsNameWord d × IsNameWord x × IsNameWord y
 EventFits v events.End = Unit {0}
 
--- where an event's line stands; an empty line may stand anywhere
+-- where an event's line may occur; an empty line may occur anywhere
 abbrev pub place_of : Event → Place
 place_of (events.Version w) = places.First
 place_of (events.ReadOnly p) = places.Load
@@ -57,7 +58,7 @@ place_of (events.Append ws) = places.File
 place_of events.EndFile = places.File
 place_of _ = places.Plain
 
--- an event's line may stand at a place
+-- an event's line may occur at a place
 abbrev pub Stands : Place → Event → Type 0
 Stands place events.Nothing = Unit {0}
 Stands place e = is_at place (place_of e) ≡ true

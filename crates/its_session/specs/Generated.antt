@@ -1,5 +1,6 @@
 -- The generated session of `its gen` (docs/SESSION.md, "its gen"): eight jobs, each of which echoes what is typed at a
 -- console of its own. Numbers of the text are octal.
+-- No promise rests on this.
 use Rattle.std.specs.Prelude.{if◌then◌else◌, ℕ, zero, suc, ◌+◌, ◌*◌, ◌%◌, ◌==◌, Some, List, [], ◌∷◌, ◌++◌, codes}
 use Rattle.its_word.specs.Text.{sixbit_of}
 use Rattle.its_word.specs.declared.session.Event.{Event}
@@ -33,7 +34,7 @@ started c =
 abbrev pub letter : ℕ → ℕ → ℕ
 letter r c = 65 + (7 * r + c) % 26
 
--- `EXAM c 3 1`, where r + c is a multiple of 3
+-- `EXAM c 3 1`, if r + c is a multiple of 3
 abbrev pub looked_at : ℕ → ℕ → List Event
 looked_at r c = if (r + c) % 3 == 0 then events.Exam c 3 1 ∷ [] else []
 

@@ -1,5 +1,6 @@
 -- The lines of a session: which event each is at its place, or the first reason why it is none
 -- (docs/SESSION.md). Characters are their ASCII codes, numbers of the text are octal.
+-- A promise rests on this.
 use Rattle.std.specs.Prelude.{if◌then◌else◌, ℕ, ◌-◌, ◌^◌, Bool, true, false, ◌&&◌, Option, Some, None, Result, Ok, Err, List, [], ◌∷◌, length, map, take, slice_index, nat_le, ◌==◌, bytes_eq, codes}
 use Rattle.std.specs.List.{list_all}
 use Rattle.its_word.specs.Text.{is_code, is_octal, octal_value, is_name, sixbit_of, words_of}
@@ -79,7 +80,7 @@ console_of w = if is_dash w then None else Some (octal_value w)
 abbrev pub with_count : ℕ → List (List ℕ) → Result Event Bad → Result Event Bad
 with_count most ws line = if nat_le 1 (length ws) && nat_le (length ws) most then line else Err Syntax
 
--- The table of lines: what may follow each first word, a definition a row. The version v counts where a slot is named.
+-- The table of lines: what may follow each first word, a definition a row. The version v counts if a slot is named.
 
 -- `VERSION v`, 1 or 2
 unfoldable pub version_line : List (List ℕ) → Result Event Bad
@@ -227,7 +228,7 @@ kind_of w =
     else (if is_place w then Some kinds.Words
     else None))))))))))))))))))))))))
 
--- where each kind of line may stand: in line 1, after LOAD until GO, after FILE until EOF, or elsewhere
+-- where each kind of line may occur: in line 1, after LOAD until GO, after FILE until EOF, or elsewhere
 abbrev pub place_of_kind : Kind → Place
 place_of_kind kinds.Version = places.First
 place_of_kind kinds.Words = places.Load
@@ -238,7 +239,7 @@ place_of_kind kinds.Append = places.File
 place_of_kind kinds.EndFile = places.File
 place_of_kind _ = places.Plain
 
--- line 1 stands outside any block
+-- line 1 is outside any block
 abbrev pub is_at : Place → Place → Bool
 is_at places.First places.First = true
 is_at places.First places.Plain = true
@@ -255,7 +256,7 @@ version_of_kind kinds.Run = 2
 version_of_kind kinds.List = 2
 version_of_kind _ = 1
 
--- a line of this kind may stand at a place of a session of version v
+-- a line of this kind may occur at a place of a session of version v
 abbrev pub may_stand : Place → ℕ → Kind → Bool
 may_stand place v kind = is_at place (place_of_kind kind) && nat_le (version_of_kind kind) v
 
@@ -287,7 +288,7 @@ line_of_kind v kinds.Dir first ws = dir_line ws
 line_of_kind v kinds.Show first ws = show_line ws
 line_of_kind v kinds.End first ws = bare_line events.End ws
 
--- the line of a first word of this kind, where that kind may stand
+-- the line of a first word of this kind, if that kind may occur
 abbrev pub line_of_first : Place → ℕ → Option Kind → List ℕ → List (List ℕ) → Result Event Bad
 line_of_first place v None first ws = Err Syntax
 line_of_first place v (Some kind) first ws = if may_stand place v kind then line_of_kind v kind first ws else Err Syntax
@@ -296,7 +297,7 @@ line_of_first place v (Some kind) first ws = if may_stand place v kind then line
 abbrev pub is_comment : List ℕ → Bool
 is_comment w = slice_index w 0 == 59
 
--- a line without words is empty, as a comment is; either may stand anywhere
+-- a line without words is empty, and so is a comment; either may occur anywhere
 unfoldable pub event_of_words : Place → ℕ → List (List ℕ) → Result Event Bad
 event_of_words place v [] = Ok events.Nothing
 event_of_words place v (first ∷ ws) = if is_comment first then Ok events.Nothing else line_of_first place v (kind_of first) first ws

@@ -1,4 +1,5 @@
 -- What the steps of reading a line give.
+-- No promise rests on this.
 use Rattle.std.specs.Prelude.{if◌then◌else◌, ◌&&◌, ℕ, Option, Some, None, Result, Ok, Err, List, length, map, nat_le}
 use Rattle.std.specs.List.{list_all}
 use Rattle.arrayvec.specs.ArrayVec.{ArrayVec}

@@ -1,10 +1,11 @@
 -- The line that is written for an event.
+-- A promise rests on this.
 use Rattle.std.specs.Prelude.{if◌then◌else◌, ◌==◌, ℕ, zero, suc, ◌+◌, ◌*◌, ◌/◌, ◌%◌, ◌^◌, ◌<◌, Option, Some, None, List, [], ◌∷◌, ◌++◌, length, map, codes, slice_index}
 use Rattle.its_word.specs.Text.{digits_of, octal6_of, octal12_of, spaced}
 use Rattle.its_word.specs.declared.session.Event.{Event}
 use Rattle.its_word.specs.declared.session.Event.TheVariants as events
 
--- up to n characters of a name, which stand in the top of a word
+-- up to n characters of a name, which are in the top of a word
 unfoldable pub characters : ℕ → ℕ → List ℕ
 characters zero w = []
 characters (suc n) w = if w / 2 ^ 30 == 0 then [] else (32 + w / 2 ^ 30) ∷ characters n (w * 2 ^ 6 % 2 ^ 36)

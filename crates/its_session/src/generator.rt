@@ -120,7 +120,7 @@ fn placed(a: u32, values: &[u64]) -> Event
     Event::Words { a, words }
 }
 
-/// How many lines the rounds before round r have: three for each job, and one more for every third of them.
+/// How many lines the rounds before round r have: three for each job, and one more for every third of these jobs.
 fn lines_before(r: u64) -> u64
     requires { r < 2 ^ 32 }
     ensures { result ≡ (80 * r + 1) / 3 }

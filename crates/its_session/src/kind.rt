@@ -1,4 +1,4 @@
-//! The kinds of line, and where each may stand.
+//! The kinds of line, and where each may occur.
 ghost use Rattle.std.specs.Prelude.{◌≡◌, bytes_eq};
 ghost use Rattle.its_session.specs.Grammar.{before_slash, is_at, is_place, kind_of, may_stand, place_of_kind, version_of_kind};
 
@@ -122,7 +122,7 @@ pub fn before_slash(first: &[u8]) -> &[u8]
     }
 }
 
-/// Where a line of this kind stands.
+/// Where a line of this kind occurs.
 fn place_of_kind(kind: Kind) -> Place
     ensures { result ≡ place_of_kind kind }
 {
@@ -134,7 +134,7 @@ fn place_of_kind(kind: Kind) -> Place
     }
 }
 
-/// Whether one place is the other; line 1 stands outside any block.
+/// Whether one place is the other; line 1 is outside any block.
 fn is_at(place: Place, at: Place) -> bool
     ensures { result ≡ is_at place at }
 {
@@ -158,7 +158,7 @@ fn version_of_kind(kind: Kind) -> u8
     }
 }
 
-/// Whether a line of this kind may stand at this place of a session of this version.
+/// Whether a line of this kind may occur at this place of a session of this version.
 pub fn may_stand(kind: Kind, place: Place, version: u8) -> bool
     ensures { result ≡ may_stand place version kind }
 {

@@ -309,7 +309,7 @@ fn refuses_syntax(rt: HostRuntime) {
     }
 }
 
-/// Lines with a number outside its range, also where a console is above 7 too.
+/// Lines with a number outside its range, some of which also have a console above 7.
 const RANGE: &str = "TICK 100 1\n\
 TICK 0 0\n\
 TICK 0 1001\n\

@@ -26,7 +26,7 @@ use Rattle.its_plain.specs.Change.{in_job, is_gone, left_job, removed, superiors
 use Rattle.its_plain.specs.Decide.{call_named, decided_by, decided, target, reach}
 use Rattle.its_plain.specs.Interrupt as interrupt
 use Rattle.its_plain.specs.Interrupt.{delivered, dismissed, dismissed_at, below}
-use Rattle.its_plain.specs.Machine.{Chan, Shut, TtyIn, TtyOut, Reads, Writes, On, Whole, Machine, changed, no_machine}
+use Rattle.its_plain.specs.Machine.{Chan, Shut, TtyIn, TtyOut, Reads, Writes, On, Whole, Machine, changed, no_machine, with_new}
 use Rattle.its_plain.specs.Own.{on_channel, with_variable, advanced}
 use Rattle.its_plain.specs.Tests.{◌⇒◌, finishes, fails, out}
 use Rattle.its_plain.specs.Unit.{Changed, unit}
@@ -78,7 +78,7 @@ inferior_addressed : (j : ℕ) (o : Option Whole) (u n : ℕ) → (inferior j o 
 unfolding fresh_job
 inferior_addressed j o u n = omega arith
 
-made_addressed : (m : Machine) (j s u n : ℕ) → Addressed m → Addressed (record m { jobs = changed m.jobs s (Some (inferior j (m.jobs j) u n)) })
+made_addressed : (m : Machine) (j s u n : ℕ) → Addressed m → Addressed (with_new m s (inferior j (m.jobs j) u n))
 made_addressed m j s u n a = record { each = λ k. either_addressed (k == s) (Some (inferior j (m.jobs j) u n)) (m.jobs k) (inferior_addressed j (m.jobs j) u n) (a.each k) }
 
 -- a variable that is set

@@ -18,7 +18,7 @@ use Rattle.its_plain.specs.CallStep.{with_held, acted, decision, informs, step}
 use Rattle.its_plain.specs.Change.{in_job, is_gone, left_job, removed, superiors, inferior, with_alarm, effect, effects}
 use Rattle.its_plain.specs.Decide.{reach}
 use Rattle.its_plain.specs.Interrupt.{delivered}
-use Rattle.its_plain.specs.Machine.{Shut, Whole, Machine, changed, no_machine}
+use Rattle.its_plain.specs.Machine.{Shut, Whole, Machine, changed, no_machine, with_new}
 use Rattle.its_plain.specs.Operator.{Block, Does}
 use Rattle.its_plain.specs.OperatorLines.{Done, lined}
 use Rattle.its_plain.specs.Alarm.{is_due, time_after, renewed}
@@ -73,7 +73,7 @@ either_alarmed : (c : ℕ) (b : Bool) (p o : Option Whole) → AlarmedBy c p →
 either_alarmed c true p o x a = x
 either_alarmed c false p o x a = a
 
-made_alarmed : (m : Machine) (j s u n : ℕ) → Alarmed m → Alarmed (record m { jobs = changed m.jobs s (Some (inferior j (m.jobs j) u n)) })
+made_alarmed : (m : Machine) (j s u n : ℕ) → Alarmed m → Alarmed (with_new m s (inferior j (m.jobs j) u n))
 made_alarmed m j s u n a = record { each = λ k. either_alarmed m.clock (k == s) (Some (inferior j (m.jobs j) u n)) (m.jobs k) tt (a.each k) }
 
 -- a change

@@ -1,6 +1,7 @@
 -- The ways in which a call goes on or ends, and the one walk over what calls decide: what holds of each of these ways holds
 -- of every decision, where it holds of those that are walked apart.
-use Rattle.std.specs.Prelude.{if◌then◌else◌, ◌==◌, ◌≡◌, ◌&&◌, ◌||◌, ℕ, ◌+◌, ◌-◌, Bool, true, false, not, Option, Some, None, List, [], ◌∷◌, ◌++◌, nat_lt, is_some, length, slice_get, slice_index_or, unwrap_or, refl}
+use Rattle.std.specs.Prelude.{if◌then◌else◌, ◌==◌, ◌≡◌, ◌⊎◌, ◌&&◌, ◌||◌, ℕ, ◌+◌, ◌-◌, Bool, true, false, not, Option, Some, None, List, [], ◌∷◌, ◌++◌, nat_lt, is_some, length, slice_get, slice_index_or, unwrap_or, refl}
+use Rattle.std.proofs.Common.{sym, subst, inl, inr}
 use Rattle.std.proofs.lemmas.Bool.{not-false, or_parts}
 use Rattle.its_word.specs.Byte.{load_of}
 use Rattle.its_word.specs.Core.{Core, word_at, can_store}
@@ -21,8 +22,8 @@ use Rattle.its_frame.specs.declared.decision.Wait.TheVariants.{Hang, Clock, Inpu
 use Rattle.its_frame.specs.declared.name.CallName.{CallName}
 use Rattle.its_frame.specs.declared.name.CallName.TheVariants as calls
 use Rattle.its_plain.specs.Arguments.{input, has_input, place_of_input}
-use Rattle.its_plain.specs.CallBasic.{Party, Oneself, Nobody, Channel, party, channel_at, ioc, negated, is_negative, sleep_tests, sleep, dismiss, usrvar, logout, longest_period, alarm_of, realt}
-use Rattle.its_plain.specs.CallTty.{console_of, has_console, input_waits, output_waits, output_left, first_typed, shown_byte, opens_on, open_tests, opens, store_tests, read_tests, word_of, iot_ends, next_pointer, siot_tests, siot_in, siot_out, siot_by, finish_on, finish, listens, listen_on, listen, ttylnd}
+use Rattle.its_plain.specs.CallBasic.{Oneself, party_on, party, is_oneself, channel_at, ioc, negated, is_negative, sleep_tests, sleep, dismiss, usrvar, logout, longest_period, alarm_of, realt}
+use Rattle.its_plain.specs.CallTty.{is_other, console_of, has_console, input_waits, output_waits, output_left, first_typed, shown_byte, opens_on, open_tests, opens, store_tests, read_tests, word_of, iot_ends, next_pointer, siot_tests, siot_in, siot_out, siot_by, finish_on, finish, listens, listen_on, listen, ttylnd}
 use Rattle.its_plain.specs.CallFile.{disk_device, most_files, is_full, channels_in, has_file, is_read, words_of, names_from, is_output, opens_as, disk_tests, opens_disk, closes_draft, end_of_file, iot_read, siot_read, siot_write, end_of_core, access_to, access_on, access, fillen_on, fillen, file_tests, delete, rename}
 use Rattle.its_plain.specs.CallUsr.{usr_device, opens_usr, other_core, at_end, iot_peeks, iot_through, siot_peeks, siot_pokes, siot_through, set_word, usrmem_tests, usrmem_on, usrmem, uclose}
 use Rattle.its_plain.specs.CallCore.{page_changed, highest_operation, page_tests, pages_of, corblk_of, corblk}
@@ -34,23 +35,69 @@ use Rattle.its_plain.specs.Tests.{◌⇒◌, finishes, fails, faults, goes, out}
 use Rattle.its_plain.specs.View.{View}
 use Rattle.its_stepped.proofs.TestLaws.{first_holds}
 
--- a change that makes no job and removes none, opens no channel on one or on a console, gives none a console, and sets no alarm
+-- a change that makes no job and removes none, opens no channel on one or on a console, gives none a console, and sets no alarm;
+-- with what the call has found of it: it writes in a job through a channel with leave to write, or in its own core; it moves a byte
+-- at its own console, which nobody else holds; and the file of a name that goes is read by nobody
 abbrev pub OpensMildly : Opened → Type 0
 OpensMildly (opened.Reading d x y) = Unit {0}
 OpensMildly (opened.Writing d x y) = Unit {0}
 OpensMildly _ = ⊥
 
-abbrev pub Mild : Change → Type 0
-Mild (changes.Open n on) = OpensMildly on
-Mild (changes.Make s u n) = ⊥
-Mild (changes.Hold c s) = ⊥
-Mild (changes.Remove s) = ⊥
-Mild (changes.Arm alarm) = ⊥
-Mild _ = Unit {0}
+-- a channel that is on a console, through which a call can be found not ready
+abbrev pub OnConsole : Chan → Type 0
+OnConsole TtyIn = Unit {0}
+OnConsole TtyOut = Unit {0}
+OnConsole _ = ⊥
 
-abbrev pub AllMild : List Change → Type 0
-AllMild [] = Unit {0}
-AllMild (c ∷ cs) = Mild c × AllMild cs
+pub record Writable (x : View) (s : ℕ) : Type 0 where
+  pub channel : ℕ
+  pub position : ℕ
+  pub is : channel_at x.own.channels channel ≡ On s true position
+
+pub record AtConsole (x : View) (c : ℕ) : Type 0 where
+  pub channel : ℕ
+  pub is : OnConsole (channel_at x.own.channels channel)
+  pub own : c ≡ console_of x
+  pub free : is_other x.slot (x.holders c) ≡ false
+
+pub record Closable (x : View) (n : ℕ) : Type 0 where
+  pub file : File
+  pub is : channel_at x.own.channels n ≡ Writes file
+  pub unread : is_read file.names (channels_in x) ≡ false
+
+abbrev pub Mild : View → Change → Type 0
+Mild x (changes.Open n on) = OpensMildly on
+Mild x (changes.Make s u n) = ⊥
+Mild x (changes.Hold c s) = ⊥
+Mild x (changes.Remove s) = ⊥
+Mild x (changes.Arm alarm) = ⊥
+Mild x (changes.Inform s) = ⊥
+Mild x (changes.Set s v w) = ⊥
+Mild x (changes.Take c) = AtConsole x c
+Mild x (changes.Put c b) = AtConsole x c
+Mild x (changes.Poke s p w) = Writable x s
+Mild x (changes.Map s k) = (s ≡ x.slot) ⊎ Writable x s
+Mild x (changes.Unmap s k) = (s ≡ x.slot) ⊎ Writable x s
+Mild x (changes.Protect s k w) = (s ≡ x.slot) ⊎ Writable x s
+Mild x (changes.Close n) = Closable x n
+Mild x (changes.Delete d f g) = is_read (names_of d f g) (channels_in x) ≡ false
+Mild x (changes.Rename d f g u v) = (is_read (names_of d f g) (channels_in x) ≡ false) × (has_file (names_of d u v) x.files ≡ false)
+Mild x (changes.Shut n) = Unit {0}
+Mild x (changes.Move n at) = Unit {0}
+Mild x (changes.Append n w) = Unit {0}
+
+-- behind the first change the caller's channel may move, and nothing else happens
+abbrev pub Still : Change → Type 0
+Still (changes.Move n at) = Unit {0}
+Still _ = ⊥
+
+abbrev pub AllStill : List Change → Type 0
+AllStill [] = Unit {0}
+AllStill (c ∷ cs) = Still c × AllStill cs
+
+abbrev pub AllMild : View → List Change → Type 0
+AllMild x [] = Unit {0}
+AllMild x (c ∷ cs) = Mild x c × AllStill cs
 
 -- the ways of a call that is found ready: each of its changes is mild, or it opens a channel on the console that its job has, or it
 -- sets the job's alarm
@@ -60,9 +107,9 @@ pub record Ways (P : Decision → Type 0) (x : View) (a : Ask) : Type 0 where
   pub stuck : P (ioc x)
   pub opening : has_console x ≡ true → (b : Bool) → P (finishes x (changes.Open (input a 0) (if b then opened.TtyOut else opened.TtyIn) ∷ []) [])
   pub arming : (n : ℕ) → nat_lt longest_period n ≡ false → P (finishes x (changes.Arm (alarm_of x.clock n) ∷ []) [])
-  pub ending : (cs : List Change) (ss : List Store) → AllMild cs → P (finishes x cs ss)
-  pub moved : (cs : List Change) (ss : List Store) → AllMild cs → P (iot_ends x cs ss)
-  pub going : (cs : List Change) (h : Option Held) (vs : List ℕ) → AllMild cs → P (goes cs h vs)
+  pub ending : (cs : List Change) (ss : List Store) → AllMild x cs → P (finishes x cs ss)
+  pub moved : (cs : List Change) (ss : List Store) → AllMild x cs → P (iot_ends x cs ss)
+  pub going : (cs : List Change) (h : Option Held) (vs : List ℕ) → AllMild x cs → P (goes cs h vs)
 
 -- those of a call that changes nothing but the word of its output
 pub record Answering (P : Decision → Type 0) (x : View) (a : Ask) : Type 0 where
@@ -124,29 +171,23 @@ open_ways P x a w h = go (input a 1 == disk_device) (input a 1 == usr_device)
     go false false = opens_tty_ways P x a w
 
 -- CLOSE
-draft_ways : (P : Decision → Type 0) (x : View) (a : Ask) (f : File) → Ways P x a → P (closes_draft x a f)
+draft_ways : (P : Decision → Type 0) (x : View) (a : Ask) (f : File) → Ways P x a → channel_at x.own.channels (input a 0) ≡ Writes f → P (closes_draft x a f)
 unfolding closes_draft
-draft_ways P x a f w =
+draft_ways P x a f w on =
     first_holds P (is_read f.names (channels_in x) ⇒ fails x a 0o11 ∷ (not (has_file f.names x.files) && not (nat_lt (length x.files) most_files)) ⇒ fails x a 0o7 ∷ [])
-    (finishes x (changes.Close (input a 0) ∷ []) []) (λ t. w.failing 0o11, (λ t. w.failing 0o7, tt)) (λ t. w.ending (changes.Close (input a 0) ∷ []) [] (tt, tt))
+    (finishes x (changes.Close (input a 0) ∷ []) []) (λ t. w.failing 0o11, (λ t. w.failing 0o7, tt)) (λ t. w.ending (changes.Close (input a 0) ∷ []) [] (record { file = f; is = on; unread = t.0 }, tt))
 
 close_ways : (P : Decision → Type 0) (x : View) (a : Ask) → Ways P x a → P (close_call x a)
 unfolding close_call
-close_ways P x a w = go (channel_at x.own.channels (input a 0))
+close_ways P x a w = go (channel_at x.own.channels (input a 0)) refl
   where
     shut : P (shuts x a)
     shut = w.ending (changes.Shut (input a 0) ∷ []) [] (tt, tt)
 
-    go : (c : Chan) → P (close_on x a c)
-    go Shut = w.failing 0o4
-    go (Writes f) = draft_ways P x a f w
-    go _ = shut
-
--- a channel that is on a console, through which a call can be found not ready
-abbrev pub OnConsole : Chan → Type 0
-OnConsole TtyIn = Unit {0}
-OnConsole TtyOut = Unit {0}
-OnConsole _ = ⊥
+    go : (c : Chan) → channel_at x.own.channels (input a 0) ≡ c → P (close_on x a c)
+    go Shut on = w.failing 0o4
+    go (Writes f) on = draft_ways P x a f w on
+    go _ on = shut
 
 -- `.IOT`
 iot_read_ways : (P : Decision → Type 0) (x : View) (a : Ask) (e n at : ℕ) (o : Option ℕ) → Ways P x a → P (iot_read x e n at o)
@@ -158,33 +199,37 @@ iot_peeks_ways P x a e n at true o w = w.moved [] (record { at = e; word = end_o
 iot_peeks_ways P x a e n at false (Some i) w = w.moved (changes.Move n (at + 1) ∷ []) (record { at = e; word = i } ∷ []) (tt, tt)
 iot_peeks_ways P x a e n at false None w = w.stuck
 
-iot_through_ways : (P : Decision → Type 0) (x : View) (a : Ask) (e n s : ℕ) (write : Bool) (at : ℕ) → Ways P x a → P (iot_through x e n s write at)
-iot_through_ways P x a e n s false at w =
+iot_through_ways : (P : Decision → Type 0) (x : View) (a : Ask) (e n s : ℕ) (write : Bool) (at : ℕ) → Ways P x a → channel_at x.own.channels n ≡ On s write at → P (iot_through x e n s write at)
+iot_through_ways P x a e n s false at w on =
     let o = word_at (other_core x) at in
     first_holds P (store_tests x e) (iot_peeks x e n at (at_end at) o) (λ t. w.faulting Mpv, (λ t. w.faulting Wro, tt)) (λ t. iot_peeks_ways P x a e n at (at_end at) o w)
-iot_through_ways P x a e n s true at w =
+iot_through_ways P x a e n s true at w on =
     let cs = changes.Poke s at (word_of x e) ∷ changes.Move n (at + 1) ∷ [] in
     first_holds P (read_tests x e ++ (at_end at ⇒ ioc x ∷ not (can_store (other_core x) at) ⇒ ioc x ∷ [])) (iot_ends x cs [])
-    (λ t. w.faulting Mpv, (λ t. w.stuck, (λ t. w.stuck, tt))) (λ t. w.moved cs [] (tt, (tt, tt)))
+    (λ t. w.faulting Mpv, (λ t. w.stuck, (λ t. w.stuck, tt))) (λ t. w.moved cs [] (record { channel = n; position = at; is = on }, (tt, tt)))
 
-pub iot_ways : (P : Decision → Type 0) (x : View) (a : Ask) (e n : ℕ) (c : Chan) → Ways P x a → (OnConsole c → Waiting P) → P (iot_on x e n c)
-iot_ways P x a e n Shut w r = w.stuck
-iot_ways P x a e n TtyIn w r =
+-- a byte that is moved at the console of a job, whose channel n is on it
+moves_at : (x : View) (n : ℕ) (c : Chan) → channel_at x.own.channels n ≡ c → OnConsole c → is_other x.slot (x.holders (console_of x)) ≡ false → AtConsole x (console_of x)
+moves_at x n c on console free = record { channel = n; is = subst OnConsole (sym on) console; own = refl; free = free }
+
+pub iot_ways : (P : Decision → Type 0) (x : View) (a : Ask) (e n : ℕ) (c : Chan) → Ways P x a → channel_at x.own.channels n ≡ c → (OnConsole c → Waiting P) → P (iot_on x e n c)
+iot_ways P x a e n Shut w on r = w.stuck
+iot_ways P x a e n TtyIn w on r =
     let i = console_of x in
     first_holds P (store_tests x e ++ (input_waits x i ⇒ Waits (Input i) ∷ [])) (iot_ends x (changes.Take i ∷ []) (record { at = e; word = first_typed x i } ∷ []))
-    (λ t. w.faulting Mpv, (λ t. w.faulting Wro, (λ t. r tt (Input i), tt))) (λ t. w.moved (changes.Take i ∷ []) (record { at = e; word = first_typed x i } ∷ []) (tt, tt))
-iot_ways P x a e n TtyOut w r =
+    (λ t. w.faulting Mpv, (λ t. w.faulting Wro, (λ t. r tt (Input i), tt))) (λ t. w.moved (changes.Take i ∷ []) (record { at = e; word = first_typed x i } ∷ []) (moves_at x n TtyIn on tt (or_parts _ _ t.1.1.0).1, tt))
+iot_ways P x a e n TtyOut w on r =
     let i = console_of x in
     let change = changes.Put i (shown_byte (word_of x e)) in
     first_holds P (read_tests x e ++ (output_waits x i ⇒ Waits (Output i) ∷ [])) (iot_ends x (change ∷ []) []) (λ t. w.faulting Mpv, (λ t. r tt (Output i), tt))
-    (λ t. w.moved (change ∷ []) [] (tt, tt))
-iot_ways P x a e n (Reads f at) w r =
+    (λ t. w.moved (change ∷ []) [] (moves_at x n TtyOut on tt (or_parts _ _ t.1.0).1, tt))
+iot_ways P x a e n (Reads f at) w on r =
     let o = slice_get (words_of x f) at in
     first_holds P (store_tests x e) (iot_read x e n at o) (λ t. w.faulting Mpv, (λ t. w.faulting Wro, tt)) (λ t. iot_read_ways P x a e n at o w)
-iot_ways P x a e n (Writes f) w r =
+iot_ways P x a e n (Writes f) w on r =
     first_holds P (read_tests x e ++ (is_full x.files (channels_in x) f.words ⇒ ioc x ∷ [])) (iot_ends x (changes.Append n (word_of x e) ∷ []) [])
     (λ t. w.faulting Mpv, (λ t. w.stuck, tt)) (λ t. w.moved (changes.Append n (word_of x e) ∷ []) [] (tt, tt))
-iot_ways P x a e n (On s write at) w r = iot_through_ways P x a e n s write at w
+iot_ways P x a e n (On s write at) w on r = iot_through_ways P x a e n s write at w on
 
 -- SIOT
 siot_read_ways : (P : Decision → Type 0) (x : View) (a : Ask) (next k n at i : ℕ) → Ways P x a → P (siot_read x next k n at i)
@@ -207,11 +252,11 @@ siot_peeks_ways P x a next k n at (Some i) w =
 siot_peeks_ways P x a next k n at None w =
     first_holds P (store_tests x (right_of next)) (fails x a 0o16) (λ t. w.faulting Mpv, (λ t. w.faulting Wro, tt)) (λ t. w.failing 0o16)
 
-siot_pokes_ways : (P : Decision → Type 0) (x : View) (a : Ask) (next k n s at : ℕ) → Ways P x a → P (siot_pokes x a next k n s at)
-siot_pokes_ways P x a next k n s at w =
+siot_pokes_ways : (P : Decision → Type 0) (x : View) (a : Ask) (next k n s at : ℕ) → Ways P x a → channel_at x.own.channels n ≡ On s true at → P (siot_pokes x a next k n s at)
+siot_pokes_ways P x a next k n s at w on =
     let cs = changes.Poke s at (load_of next (word_of x (right_of next))) ∷ changes.Move n (at + 1) ∷ [] in
     first_holds P (read_tests x (right_of next) ++ (not (can_store (other_core x) at) ⇒ fails x a 0o16 ∷ [])) (goes cs None (next ∷ (k - 1) ∷ []))
-    (λ t. w.faulting Mpv, (λ t. w.failing 0o16, tt)) (λ t. w.going cs None (next ∷ (k - 1) ∷ []) (tt, (tt, tt)))
+    (λ t. w.faulting Mpv, (λ t. w.failing 0o16, tt)) (λ t. w.going cs None (next ∷ (k - 1) ∷ []) (record { channel = n; position = at; is = on }, (tt, tt)))
 
 -- the tests of its arguments, whatever the device
 pub siot_by_ways : (P : Decision → Type 0) (x : View) (a : Ask) (words ended : Bool) (d : Decision) → Ways P x a → P d → P (siot_by x a words ended d)
@@ -223,39 +268,39 @@ siot_by_ways P x a words ended d w h =
     )
     (λ t. h)
 
-siot_through_ways : (P : Decision → Type 0) (x : View) (a : Ask) (n s : ℕ) (write : Bool) (at : ℕ) → Ways P x a → P (siot_through x a n s write at)
-siot_through_ways P x a n s false at w =
+siot_through_ways : (P : Decision → Type 0) (x : View) (a : Ask) (n s : ℕ) (write : Bool) (at : ℕ) → Ways P x a → channel_at x.own.channels n ≡ On s write at → P (siot_through x a n s write at)
+siot_through_ways P x a n s false at w on =
     let next = next_pointer (input a 1) in
     let o = word_at (other_core x) at in
     siot_by_ways P x a true (at_end at) (siot_peeks x a next (input a 2) n at o) w (siot_peeks_ways P x a next (input a 2) n at o w)
-siot_through_ways P x a n s true at w =
+siot_through_ways P x a n s true at w on =
     let next = next_pointer (input a 1) in
-    siot_by_ways P x a true (at_end at) (siot_pokes x a next (input a 2) n s at) w (siot_pokes_ways P x a next (input a 2) n s at w)
+    siot_by_ways P x a true (at_end at) (siot_pokes x a next (input a 2) n s at) w (siot_pokes_ways P x a next (input a 2) n s at w on)
 
-pub siot_ways : (P : Decision → Type 0) (x : View) (a : Ask) (n : ℕ) (c : Chan) → Ways P x a → (OnConsole c → Waiting P) → P (siot_on x a n c)
-siot_ways P x a n Shut w r = w.failing 0o4
-siot_ways P x a n TtyIn w r =
+pub siot_ways : (P : Decision → Type 0) (x : View) (a : Ask) (n : ℕ) (c : Chan) → Ways P x a → channel_at x.own.channels n ≡ c → (OnConsole c → Waiting P) → P (siot_on x a n c)
+siot_ways P x a n Shut w on r = w.failing 0o4
+siot_ways P x a n TtyIn w on r =
     let next = next_pointer (input a 1) in
     let i = console_of x in
     let held = Some (record { place = right_of next; byte = first_typed x i }) in
     siot_by_ways P x a false false (siot_in x a next (input a 2) i) w
     (first_holds P (store_tests x (right_of next) ++ (input_waits x i ⇒ Waits (Input i) ∷ [])) (goes (changes.Take i ∷ []) held (next ∷ (input a 2 - 1) ∷ []))
-    (λ t. w.faulting Mpv, (λ t. w.faulting Wro, (λ t. r tt (Input i), tt))) (λ t. w.going (changes.Take i ∷ []) held (next ∷ (input a 2 - 1) ∷ []) (tt, tt)))
-siot_ways P x a n TtyOut w r =
+    (λ t. w.faulting Mpv, (λ t. w.faulting Wro, (λ t. r tt (Input i), tt))) (λ t. w.going (changes.Take i ∷ []) held (next ∷ (input a 2 - 1) ∷ []) (moves_at x n TtyIn on tt (or_parts _ _ t.1.1.0).1, tt)))
+siot_ways P x a n TtyOut w on r =
     let next = next_pointer (input a 1) in
     let i = console_of x in
     let change = changes.Put i (shown_byte (load_of next (word_of x (right_of next)))) in
     siot_by_ways P x a false false (siot_out x a next (input a 2) i) w
     (first_holds P (read_tests x (right_of next) ++ (output_waits x i ⇒ Waits (Output i) ∷ [])) (goes (change ∷ []) None (next ∷ (input a 2 - 1) ∷ []))
-    (λ t. w.faulting Mpv, (λ t. r tt (Output i), tt)) (λ t. w.going (change ∷ []) None (next ∷ (input a 2 - 1) ∷ []) (tt, tt)))
-siot_ways P x a n (Reads f at) w r =
+    (λ t. w.faulting Mpv, (λ t. r tt (Output i), tt)) (λ t. w.going (change ∷ []) None (next ∷ (input a 2 - 1) ∷ []) (moves_at x n TtyOut on tt (or_parts _ _ t.1.0).1, tt)))
+siot_ways P x a n (Reads f at) w on r =
     let next = next_pointer (input a 1) in
     let o = slice_get (words_of x f) at in
     siot_by_ways P x a true (not (is_some o)) (siot_read x next (input a 2) n at (unwrap_or o 0)) w (siot_read_ways P x a next (input a 2) n at (unwrap_or o 0) w)
-siot_ways P x a n (Writes f) w r =
+siot_ways P x a n (Writes f) w on r =
     let next = next_pointer (input a 1) in
     siot_by_ways P x a true false (siot_write x a next (input a 2) n f) w (siot_write_ways P x a next (input a 2) n f w)
-siot_ways P x a n (On s write at) w r = siot_through_ways P x a n s write at w
+siot_ways P x a n (On s write at) w on r = siot_through_ways P x a n s write at w on
 
 -- FINISH and LISTEN
 finish_ways : (P : Decision → Type 0) (x : View) (a : Ask) → Answering P x a → Waiting P → P (finish x a)
@@ -320,23 +365,24 @@ unfolding delete
 delete_ways P x a w =
     let change = changes.Delete (input a 3) (input a 1) (input a 2) in
     first_holds P (file_tests x a (names_from a 1)) (finishes x (change ∷ []) []) (λ t. w.failing 0o5, (λ t. w.failing 0o6, (λ t. w.failing 0o11, tt)))
-    (λ t. w.ending (change ∷ []) [] (tt, tt))
+    (λ t. w.ending (change ∷ []) [] (t.1.1.0, tt))
 
 rename_ways : (P : Decision → Type 0) (x : View) (a : Ask) → Ways P x a → P (rename x a)
 unfolding rename
 rename_ways P x a w =
     let change = changes.Rename (input a 3) (input a 1) (input a 2) (input a 4) (input a 5) in
     first_holds P (file_tests x a (names_from a 1) ++ (has_file (names_of (input a 3) (input a 4) (input a 5)) x.files ⇒ fails x a 0o23 ∷ [])) (finishes x (change ∷ []) [])
-    (λ t. w.failing 0o5, (λ t. w.failing 0o6, (λ t. w.failing 0o11, (λ t. w.failing 0o23, tt)))) (λ t. w.ending (change ∷ []) [] (tt, tt))
+    (λ t. w.failing 0o5, (λ t. w.failing 0o6, (λ t. w.failing 0o11, (λ t. w.failing 0o23, tt)))) (λ t. w.ending (change ∷ []) [] ((t.1.1.0, t.1.1.1.0), tt))
 
 -- USRMEM
-set_word_ways : (s p i : ℕ) (new : Bool) → AllMild (set_word s p i new)
-set_word_ways s p i true = (tt, tt)
-set_word_ways s p i false = tt
+set_word_ways : (x : View) (n s p i at : ℕ) (write new : Bool) → channel_at x.own.channels n ≡ On s write at → (new && not write) ≡ false → AllMild x (set_word s p i new)
+set_word_ways x n s p i at true true on leave = (record { channel = n; position = at; is = on }, tt)
+set_word_ways x n s p i at false true on leave = cc
+set_word_ways x n s p i at write false on leave = tt
 
 usrmem_ways : (P : Decision → Type 0) (x : View) (a : Ask) → Ways P x a → P (usrmem x a)
 unfolding usrmem
-usrmem_ways P x a w = go (channel_at x.own.channels (input a 0))
+usrmem_ways P x a w = go (channel_at x.own.channels (input a 0)) refl
   where
     p : ℕ
     p = input a 1
@@ -344,14 +390,14 @@ usrmem_ways P x a w = go (channel_at x.own.channels (input a 0))
     new : Bool
     new = has_input a 2
 
-    go : (c : Chan) → P (usrmem_on x a c)
-    go (On s write at) =
+    go : (c : Chan) → channel_at x.own.channels (input a 0) ≡ c → P (usrmem_on x a c)
+    go (On s write at) on =
         let ss = out a.outputs.items (unwrap_or (word_at (other_core x) p) 0) in
         first_holds P (usrmem_tests x a write p new) (finishes x (set_word s p (input a 2) new) ss)
         (λ t. w.failing 0o22, (λ t. w.failing 0o5, (λ t. w.failing 0o16, (λ t. w.failing 0o16, tt))))
-        (λ t. w.ending (set_word s p (input a 2) new) ss (set_word_ways s p (input a 2) new))
-    go Shut = w.failing 0o4
-    go _ = w.failing 0o5
+        (λ t. w.ending (set_word s p (input a 2) new) ss (set_word_ways x (input a 0) s p (input a 2) at write new on t.1.0))
+    go Shut on = w.failing 0o4
+    go _ on = w.failing 0o5
 
 -- CORBLK: a page is dropped, made by operation 1 alone, or protected
 pub page_by : (P : Change → Type 0) (op s k : ℕ) → P (changes.Unmap s k) → ((op == 1) ≡ true → P (changes.Map s k)) → P (changes.Protect s k (op == 3)) → P (page_changed op s k)
@@ -362,21 +408,26 @@ page_by P op s k drops makes protects = go (op == 0) (op == 1) makes
     go false true h = h refl
     go false false h = protects
 
-pages_ways : (P : Decision → Type 0) (x : View) (a : Ask) (op s k : ℕ) (c : Core) → Ways P x a → P (pages_of x a op s c k)
-pages_ways P x a op s k c w =
+pages_ways : (P : Decision → Type 0) (x : View) (a : Ask) (op s k : ℕ) (c : Core) → (s ≡ x.slot) ⊎ Writable x s → Ways P x a → P (pages_of x a op s c k)
+pages_ways P x a op s k c leave w =
     first_holds P (page_tests x a op c k) (finishes x (page_changed op s k ∷ []) []) (λ t. w.failing 0o22, (λ t. w.failing 0o16, (λ t. w.failing 0o15, tt)))
-    (λ t. w.ending (page_changed op s k ∷ []) [] (page_by Mild op s k tt (λ e. tt) tt, tt))
+    (λ t. w.ending (page_changed op s k ∷ []) [] (page_by (Mild x) op s k leave (λ e. leave) leave, tt))
 
 corblk_ways : (P : Decision → Type 0) (x : View) (a : Ask) → Ways P x a → P (corblk x a)
 unfolding corblk
 corblk_ways P x a w =
-    first_holds P (nat_lt highest_operation (input a 0) ⇒ fails x a 0o22 ∷ []) (corblk_of x a (party x (input a 1))) (λ t. w.failing 0o22, tt) (λ t. go (party x (input a 1)))
+    first_holds P (nat_lt highest_operation (input a 0) ⇒ fails x a 0o22 ∷ []) (corblk_of x a (party x (input a 1))) (λ t. w.failing 0o22, tt)
+    (λ t. go (is_oneself (input a 1)) (channel_at x.own.channels (input a 1)) refl)
   where
-    go : (p : Party) → P (corblk_of x a p)
-    go Oneself = pages_ways P x a (input a 0) x.slot (input a 2) x.own.core w
-    go Nobody = w.failing 0o4
-    go (Channel (On s true at)) = pages_ways P x a (input a 0) s (input a 2) (other_core x) w
-    go _ = w.failing 0o5
+    on_channel : (c : Chan) → channel_at x.own.channels (input a 1) ≡ c → P (corblk_of x a (party_on c))
+    on_channel Shut on = w.failing 0o4
+    on_channel (On s true at) on =
+        pages_ways P x a (input a 0) s (input a 2) (other_core x) (inr (record { channel = input a 1; position = at; is = on })) w
+    on_channel _ on = w.failing 0o5
+
+    go : (b : Bool) (c : Chan) → channel_at x.own.channels (input a 1) ≡ c → P (corblk_of x a (if b then Oneself else party_on c))
+    go true c on = pages_ways P x a (input a 0) x.slot (input a 2) x.own.core (inl refl) w
+    go false c on = on_channel c on
 
 -- REALT
 realt_ways : (P : Decision → Type 0) (x : View) (a : Ask) → Ways P x a → P (realt x a)
@@ -419,8 +470,8 @@ call_ways P x a (Some calls.Usrvar) w r p = p.usrvar
 call_ways P x a (Some calls.Logout) w r p = p.logout
 call_ways P x a (Some calls.Open) w r p = open_ways P x a w p.opens_usr
 call_ways P x a (Some calls.Close) w r p = close_ways P x a w
-call_ways P x a (Some calls.Iot) w r p = iot_ways P x a (slice_index_or a.outputs.items 0 0) (input a 0) (channel_at x.own.channels (input a 0)) w (λ k. r)
-call_ways P x a (Some calls.Siot) w r p = siot_ways P x a (input a 0) (channel_at x.own.channels (input a 0)) w (λ k. r)
+call_ways P x a (Some calls.Iot) w r p = iot_ways P x a (slice_index_or a.outputs.items 0 0) (input a 0) (channel_at x.own.channels (input a 0)) w refl (λ k. r)
+call_ways P x a (Some calls.Siot) w r p = siot_ways P x a (input a 0) (channel_at x.own.channels (input a 0)) w refl (λ k. r)
 call_ways P x a (Some calls.Ttylnd) w r p = p.ttylnd
 call_ways P x a (Some calls.Access) w r p = access_ways P x a w
 call_ways P x a (Some calls.Delete) w r p = delete_ways P x a w

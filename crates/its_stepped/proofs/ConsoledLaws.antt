@@ -28,7 +28,7 @@ use Rattle.its_plain.specs.Arguments.{revalued}
 use Rattle.its_plain.specs.CallStep.{with_held, acted, decision, informs, step}
 use Rattle.its_plain.specs.Change.{in_job, is_gone, left_job, removed, superiors, console_in, inferior, poke, effect, effects}
 use Rattle.its_plain.specs.Interrupt.{Entry, entries_of, first_entry, pushed, at_handler, by_stores, by_pointer, by_entry, by_length, by_table, through_table, unguarded, delivered}
-use Rattle.its_plain.specs.Machine.{Shut, Whole, Machine, changed, with_job, no_machine, limit}
+use Rattle.its_plain.specs.Machine.{Shut, Whole, Machine, changed, with_job, no_machine, limit, with_new}
 use Rattle.its_plain.specs.OperatorJobs.{new_job, with_holder, loaded_in, loaded}
 use Rattle.its_plain.specs.Own.{with_stores, leave, on_channel, with_variable}
 use Rattle.its_plain.specs.Unit.{Changed, unit}
@@ -88,7 +88,7 @@ LoadConsoled (Ok (n, s)) = Consoled n
 LoadConsoled (Err r) = Unit {0}
 
 load_consoled : (m : Machine) (u j : ℕ) (console o : Option ℕ) → Housed console → Consoled m → LoadConsoled (loaded_in m u j console o)
-load_consoled m u j console (Some s) h a = held_consoled (with_job m s (new_job u j console)) s console (put_consoled m s (new_job u j console) (fresh_housed u j console h) a)
+load_consoled m u j console (Some s) h a = held_consoled (with_new m s (new_job u j console)) s console (jobs_consoled (with_job m s (new_job u j console)) _ refl (put_consoled m s (new_job u j console) (fresh_housed u j console h) a))
 load_consoled m u j console None h a = tt
 
 pub loaded_consoled : (m n : Machine) (u j s : ℕ) (console : Option ℕ) → IfSome console (λ c. c < 8) → Consoled m → loaded m u j console ≡ Ok (n, s) → Consoled n
@@ -114,7 +114,7 @@ inferior_housed : (j : ℕ) (o : Option Whole) (u n : ℕ) → HousedBy o → Ho
 unfolding fresh_job
 inferior_housed j o u n a = console_housed o a
 
-made_consoled : (m : Machine) (j s u n : ℕ) → Consoled m → Consoled (record m { jobs = changed m.jobs s (Some (inferior j (m.jobs j) u n)) })
+made_consoled : (m : Machine) (j s u n : ℕ) → Consoled m → Consoled (with_new m s (inferior j (m.jobs j) u n))
 made_consoled m j s u n a = record { each = λ k. either_housed (k == s) (Some (inferior j (m.jobs j) u n)) (m.jobs k) (inferior_housed j (m.jobs j) u n (a.each j)) (a.each k) }
 
 -- a variable that is set

@@ -1,5 +1,5 @@
 -- The dots of a slot keep to the bound of its frame, and fewer than sixteen come in a row.
-use Rattle.std.specs.Prelude.{if◌then◌else◌, ◌≡◌, ◌≢◌, ◌<◌, ◌≤◌, ℕ, ◌+◌, ◌-◌, Bool, true, false, Option, Some, None, IfSome, List, [], ◌∷◌, length, Result, Ok, Err, nat_lt, refl}
+use Rattle.std.specs.Prelude.{if◌then◌else◌, ◌≡◌, ◌≢◌, ◌<◌, ◌≤◌, ℕ, ◌+◌, ◌-◌, Bool, true, false, Option, Some, None, IfSome, List, [], ◌∷◌, length, Result, Ok, Err, nat_lt, refl, ◌||◌}
 use Rattle.std.proofs.Common.{sym, ◌∙◌, ap, subst, inl, inr, arith}
 use Rattle.std.proofs.lemmas.Bool.{cases_eq, eq-eqb, ne_eqb}
 use Rattle.its_word.specs.Core.{Core}
@@ -17,7 +17,7 @@ use Rattle.its_frame.specs.declared.frame.Frame.{Frame}
 use Rattle.its_frame.specs.declared.frame.Frame.TheVariants.{Entered, Parsed, Asked, Holding, Waiting, Moving, Ending}
 use Rattle.its_plain.specs.Ask.{parse, fetch}
 use Rattle.its_plain.specs.Arguments.{debts}
-use Rattle.its_plain.specs.CallStep.{informs, informed_slots, decision, among, disturbed, Transition, acted, transition, disturbs_in}
+use Rattle.its_plain.specs.CallStep.{informs, informed_slots, decision, among, disturbed, Transition, acted, transition, disturbs_in, makes}
 use Rattle.its_plain.specs.Decide.{reach}
 use Rattle.its_plain.specs.Interrupt.{deliverable, delivered}
 use Rattle.its_plain.specs.Machine.{Whole, Machine, changed}
@@ -275,12 +275,13 @@ tick_dots w j sound g = slot_dots w j (w.raw.jobs j) sound g refl
 after_step : (m : Machine) (d : Dots) (j k b : ℕ) → (k ≢ j → disturbed m j k ≡ false → d k ≤ b) → dots_after m d j Step k ≤ b
 after_step m d j k b h = elim (cases_eq k j) [
   | inl e ↦ rw (eq-eqb k j e) (omega arith)
-  | inr ne ↦ rw (ne_eqb k j ne) (go (disturbed m j k) (h ne))
+  | inr ne ↦ rw (ne_eqb k j ne) (go (disturbed m j k) (makes m j k) (h ne))
 ]
   where
-    go : (t : Bool) → (t ≡ false → d k ≤ b) → (if t then 0 else d k) ≤ b
-    go true f = omega arith
-    go false f = f refl
+    go : (t u : Bool) → (t ≡ false → d k ≤ b) → (if t || u then 0 else d k) ≤ b
+    go true u f = omega arith
+    go false true f = omega arith
+    go false false f = f refl
 
 after_by : (w : State) (d : Dots) (j k : ℕ) (p : Pace) (v : State) → Dotted d w.frames → RowDots w j (record { state = v; pace = p }) → dots_after (plain w) d j p k ≤ bound (v.frames k)
 after_by w d j k Step v h r = after_step (plain w) d j k (bound (v.frames k)) (λ ne t. subst (λ (f : Option Frame). d k ≤ bound f) (sym (r.others k ne t)) (h.each k))

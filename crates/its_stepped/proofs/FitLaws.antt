@@ -31,7 +31,7 @@ use Rattle.its_stepped.specs.Alarmed.{Coming}
 use Rattle.its_stepped.specs.Forest.{OnInferior, Forest}
 use Rattle.its_stepped.proofs.TestLaws.{by_test, first_holds}
 use Rattle.its_stepped.proofs.ForestLaws.{CanOpen, MakesInferior, Fits, AllFit, FitsAll, channel_of, inferior_stands, made_inferior, steps_where}
-use Rattle.its_stepped.proofs.CallWays.{OpensMildly, Mild, AllMild, Ways, Apart, call_ways}
+use Rattle.its_stepped.proofs.CallWays.{OpensMildly, Mild, AllStill, AllMild, Ways, Apart, call_ways}
 
 dismissed_fits : (x : View) (p w j : ℕ) (m : Machine) (r : Result Exit Fault) → FitsAll (dismissed_by x p w r) j m
 dismissed_fits x p w j m (Ok e) = tt
@@ -85,17 +85,22 @@ opens_fit (opened.Reading d x y) j m h = tt
 opens_fit (opened.Writing d x y) j m h = tt
 opens_fit _ j m h = absurd h
 
-mild_fits : (c : Change) (j : ℕ) (m : Machine) → Mild c → Fits c j m
-mild_fits (changes.Open n on) j m h = opens_fit on j m h
-mild_fits (changes.Make s u n) j m h = absurd h
-mild_fits (changes.Hold c s) j m h = absurd h
-mild_fits (changes.Remove s) j m h = absurd h
-mild_fits (changes.Arm alarm) j m h = absurd h
-mild_fits _ j m h = tt
+mild_fits : (x : View) (c : Change) (j : ℕ) (m : Machine) → Mild x c → Fits c j m
+mild_fits x (changes.Open n on) j m h = opens_fit on j m h
+mild_fits x (changes.Make s u n) j m h = absurd h
+mild_fits x (changes.Hold c s) j m h = absurd h
+mild_fits x (changes.Remove s) j m h = absurd h
+mild_fits x (changes.Arm alarm) j m h = absurd h
+mild_fits x _ j m h = tt
 
-all_fit : (j : ℕ) (cs : List Change) (m : Machine) → AllMild cs → AllFit cs j m
-all_fit j [] m h = tt
-all_fit j (c ∷ cs) m h = (mild_fits c j m h.0, all_fit j cs (effect c j m) h.1)
+still_fit : (j : ℕ) (cs : List Change) (m : Machine) → AllStill cs → AllFit cs j m
+still_fit j [] m h = tt
+still_fit j (changes.Move n at ∷ cs) m h = (tt, still_fit j cs (effect (changes.Move n at) j m) h.1)
+still_fit j (c ∷ cs) m h = absurd h.0
+
+all_fit : (x : View) (j : ℕ) (cs : List Change) (m : Machine) → AllMild x cs → AllFit cs j m
+all_fit x j [] m h = tt
+all_fit x j (c ∷ cs) m h = (mild_fits x c j m h.0, still_fit j cs (effect c j m) h.1)
 
 -- what a call sees of the machine that it is in
 record Sees (x : View) (j : ℕ) (m : Machine) : Type 0 where
@@ -126,9 +131,9 @@ ways_fit x a j m see = record {
   stuck = tt;
   opening = λ h b. (opened_fits b j m (ap is_some (sym see.console) ∙ h), tt);
   arming = λ n h. (subst (λ (c : ℕ). IfSome (alarm_of x.clock n) (λ a. Coming c a)) see.clock (armed_fits x.clock n h), tt);
-  ending = λ cs ss h. all_fit j cs m h;
-  moved = λ cs ss h. all_fit j cs m h;
-  going = λ cs o vs h. all_fit j cs m h;
+  ending = λ cs ss h. all_fit x j cs m h;
+  moved = λ cs ss h. all_fit x j cs m h;
+  going = λ cs o vs h. all_fit x j cs m h;
 }
 
 -- TTYLND: a channel on a job is on an inferior, which is a job
@@ -175,7 +180,7 @@ superior_shown : (j u n : ℕ) (o : Option ℕ) (c : ℕ → Chan) → is_superi
 superior_shown j u n (Some s) c h = ap Some (eqb-true s j h)
 superior_shown j u n None c h = cc
 
-superior_outlined : (j : ℕ) (o : Option Whole) → is_superior j (option_map outline o) ≡ true → superior_in o ≡ Some j
+pub superior_outlined : (j : ℕ) (o : Option Whole) → is_superior j (option_map outline o) ≡ true → superior_in o ≡ Some j
 superior_outlined j (Some q) h = superior_shown j q.job.uname q.job.jname q.superior q.channels h
 superior_outlined j None h = cc
 

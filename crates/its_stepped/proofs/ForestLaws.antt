@@ -22,7 +22,7 @@ use Rattle.its_plain.specs.CallBasic.{told_superior, channel_at}
 use Rattle.its_plain.specs.CallStep.{with_held, acted, decision, informs, step}
 use Rattle.its_plain.specs.Change.{on_slot, in_job, is_gone, chan_left, shut_on, left_job, passed_on, removed, channel_in, superior_in, superiors, inferior, effect, effects, console_in, with_inf}
 use Rattle.its_plain.specs.Interrupt.{delivered}
-use Rattle.its_plain.specs.Machine.{Chan, Shut, TtyIn, TtyOut, Reads, Writes, On, Whole, Machine, changed, no_machine, limit}
+use Rattle.its_plain.specs.Machine.{Chan, Shut, TtyIn, TtyOut, Reads, Writes, On, Whole, Machine, changed, no_machine, limit, with_new}
 use Rattle.its_plain.specs.Own.{opened_on, at_position, with_word, on_channel}
 use Rattle.its_stepped.specs.Alarmed.{Coming}
 use Rattle.its_stepped.specs.Forest.{OnInferior, Forest, OnConsole}
@@ -429,7 +429,7 @@ module _ (m n : Machine) (s j : ℕ) (made : Made m n s j) (fits : MakesInferior
     holders = λ c. subst (λ (o : Option ℕ). IfSome o (λ i. is_some (n.jobs i) ≡ true)) (sym (made.holders c)) (IfSome_then (m.holders c) (d.holders c) (λ i h. still_job i h));
   }
 
-makes : (m : Machine) (s j u n : ℕ) → Made m (record m { jobs = changed m.jobs s (Some (inferior j (m.jobs j) u n)) }) s j
+makes : (m : Machine) (s j u n : ℕ) → Made m (with_new m s (inferior j (m.jobs j) u n)) s j
 makes m s j u n =
     let only = changed_only m.jobs s (Some (inferior j (m.jobs j) u n)) in
     record {

@@ -115,6 +115,13 @@ pub mapped_plain : (w : State) → mapped (plain w) ≡ mapped w.raw
 unfolding plain pages_mapped
 mapped_plain w = λ t. sum_by (λ k. core_pages (w.frames k) (w.raw.jobs k) t) (range_with_len 0 slots)
 
+-- what a function has already is no change
+pub changed_same : {X : Type 0} (f : ℕ → X) (s k : ℕ) (x : X) → f s ≡ x → f k ≡ changed f s x k
+changed_same f s k x e = elim (cases_eq k s) [
+  | inl is ↦ rw (is, eq-eqb s s refl) e
+  | inr ne ↦ rw (ne_eqb k s ne) refl
+]
+
 -- one slot of many
 pub changed_only : {X : Type 0} (f : ℕ → X) (i : ℕ) (x : X) → Only f (changed f i x) i x
 changed_only f i x = record { here = rw (eq-eqb i i refl); others = λ k ne. rw (ne_eqb k i ne) }

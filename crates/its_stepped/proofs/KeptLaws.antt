@@ -5,7 +5,7 @@ use Rattle.std.proofs.Common.{sym, ◌∙◌, ap, subst, inl, inr}
 use Rattle.std.proofs.lemmas.Bool.{cases_Bool, cases_eq, eq-eqb}
 use Rattle.its_word.specs.Core.{Core, Page, page_of, word_at, can_store}
 use Rattle.its_word.specs.Limits.{most_symbols}
-use Rattle.its_word.specs.Tree.{least_free}
+use Rattle.its_word.specs.Tree.{least_free, no_job}
 use Rattle.its_word.specs.declared.jobs.Job.{Job}
 use Rattle.its_word.specs.declared.session.Event.{Event}
 use Rattle.its_word.specs.declared.session.Event.TheVariants as events
@@ -14,7 +14,7 @@ use Rattle.its_word.specs.declared.show.JobShow.{JobShow}
 use Rattle.its_word.proofs.FreeLaws.{least_empty}
 use Rattle.its_frame.specs.declared.frame.Frame.{Frame}
 use Rattle.its_print.specs.Printing.{Line, listed}
-use Rattle.its_plain.specs.Machine.{File, Symbol, Whole, Machine, with_job, mapped, limit}
+use Rattle.its_plain.specs.Machine.{File, Symbol, Whole, Machine, with_job, mapped, limit, with_new}
 use Rattle.its_plain.specs.Operator.{Block, Refuses, Does, Ticks, Quits, nobody, only, and_then, disturbs, quietly}
 use Rattle.its_plain.specs.OperatorJobs.{new_job, with_holder, loaded_in, loaded, stored, with_core, word_loaded_of, word_loaded, words_stored, words_barred, words_loaded_if, words_loaded, page_protected_in, page_protected, on_job, with_registers, on_registers, started, interrupted, stopped, continued, examined, state_shown, deposited_in, deposited}
 use Rattle.its_plain.specs.OperatorLines.{by_load, by_exam, in_a_line, by_state, by_clock, operate, shows, Lined, Done, Peeks, peeked_at, lined}
@@ -162,13 +162,13 @@ show_kept w s b (Ok show) sound = one_kept w s (unwound w s).raw sound (same_off
 show_kept w s b (Err r) sound = tt
 
 -- a line that names none
-held_off : (m : Machine) (s : ℕ) (q : Whole) (console : Option ℕ) → Off m (with_holder (with_job m s q) s console) s
+held_off : (m : Machine) (s : ℕ) (q : Whole) (console : Option ℕ) → Off m (with_holder (with_new m s q) s console) s
 held_off m s q (Some c) = record { others = (put_off m s q).others }
-held_off m s q None = put_off m s q
+held_off m s q None = record { others = (put_off m s q).others }
 
 load_kept : (w : State) (b : Block) (u j : ℕ) (console o : Option ℕ) → Sound w → least_free (limit w.raw) w.raw.jobs ≡ o → KeptBy w w (Done (by_load b (loaded_in w.raw u j console o)))
 load_kept w b u j console (Some s) sound is = record {
-  sound = off_sound w (with_holder (with_job w.raw s (new_job u j console)) s console) s sound (free_frame w s sound (least_empty (limit w.raw) w.raw.jobs s is))
+  sound = off_sound w (with_holder (with_new w.raw s (new_job u j console)) s console) s sound (free_frame w s sound (least_empty (limit w.raw) w.raw.jobs s is))
       (held_off w.raw s (new_job u j console) console);
   spares = λ k h. refl;
 }
@@ -188,7 +188,7 @@ symbol_line_kept w b s name a sound = go (w.raw.jobs s)
 
 version_kept : (w : State) (v : ℕ) → Sound w → Kept w w (versioned w.raw v) nobody
 unfolding versioned
-version_kept w v sound = elim (cases_Bool (v == 2)) [
+version_kept w v sound = elim (cases_Bool (no_job w.raw.jobs)) [
   | inl is ↦ rw is (record { sound = record { each = sound.each; mark = sound.mark }; spares = λ k h. refl })
   | inr is ↦ rw is (record { sound = sound; spares = λ k h. refl })
 ]

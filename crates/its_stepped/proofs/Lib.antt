@@ -43,6 +43,7 @@ pub mod GivenLaws
 pub mod ForestLaws
 pub mod FitLaws
 pub mod WrittenLaws
+pub mod IntegrityLaws
 pub mod DecodingLaws
 pub mod CallLaws
 pub mod AddressLaws
@@ -51,7 +52,9 @@ pub mod UnseenLaws
 pub mod TriedLaws
 pub mod OneByteLaws
 pub mod PcLaws
+pub mod CourseLaws
 pub mod StretchLaws
+pub mod ReaderLaws
+pub mod RunIntegrityLaws
 pub mod WaitLaws
 pub mod AlarmLaws
-pub mod UnrolledLaws

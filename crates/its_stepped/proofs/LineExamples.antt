@@ -158,7 +158,7 @@ closing = record {
 inside : ℕ → Peek
 inside n = record { state = states.Ending; name = Some 0o435457634500; left = n; a = None; b = None; h = None }
 
-between : told 1 closing no_block (Read (events.Peek 0) ∷ Read (events.Dir 1) ∷ Read (events.Peek 0) ∷ []) ≡ record {
+between : told 1 closing no_block 95 (Read (events.Peek 0) ∷ Read (events.Dir 1) ∷ Read (events.Peek 0) ∷ []) ≡ record {
   lines = printed.Peeked 0 (inside 3)
       ∷ printed.Dir 1 2
       ∷ printed.Filed (record { x = 8; y = 3; length = 0 })

@@ -1,21 +1,21 @@
 -- A line of a session is the same on the stepped machine and on the plain one that it stands for (docs/STEPS.md,
 -- "Lines").
-use Rattle.std.specs.Prelude.{◌≡◌, ℕ, ◌+◌, ◌==◌, Bool, true, false, Option, Some, None, IfSome, List, [], ◌∷◌, ◌++◌, Result, Ok, Err, option_map, is_some, length, nat_lt, refl}
+use Rattle.std.specs.Prelude.{◌≡◌, ℕ, ◌+◌, ◌==◌, Bool, true, false, Option, Some, None, IfSome, List, [], ◌∷◌, ◌++◌, Result, Ok, Err, option_map, is_some, length, nat_lt, refl, if◌then◌else◌}
 use Rattle.std.proofs.Common.{sym, ◌∙◌, ap, subst, inl, inr}
 use Rattle.std.proofs.lemmas.Bool.{cases_Bool, cases_eq, eq-eqb, ne_eqb}
 use Rattle.its_word.specs.Core.{Core, Page, page_of, word_at, can_store}
 use Rattle.its_word.specs.Limits.{most_symbols}
 use Rattle.its_word.specs.Directory.{with_changed, longer}
-use Rattle.its_word.specs.Tree.{least_free}
+use Rattle.its_word.specs.Tree.{least_free, no_job}
 use Rattle.its_word.specs.declared.jobs.Job.{Job}
 use Rattle.its_word.specs.declared.session.Event.{Event}
 use Rattle.its_word.specs.declared.session.Event.TheVariants as events
 use Rattle.its_word.specs.declared.session.Reason.{Reason}
 use Rattle.its_word.specs.declared.show.JobShow.{JobShow}
-use Rattle.its_word.proofs.FreeLaws.{least_alike, least_empty}
+use Rattle.its_word.proofs.FreeLaws.{least_alike, least_empty, no_job_alike}
 use Rattle.its_frame.specs.declared.frame.Frame.{Frame}
 use Rattle.its_print.specs.Printing.{Line, listed}
-use Rattle.its_plain.specs.Machine.{Names, File, Symbol, Whole, Machine, changed, with_job, mapped, words_at, limit}
+use Rattle.its_plain.specs.Machine.{Names, File, Symbol, Whole, Machine, changed, with_job, mapped, words_at, limit, with_new}
 use Rattle.its_plain.specs.Operator.{Block, Does, nobody, and_then, disturbs, quietly}
 use Rattle.its_plain.specs.OperatorJobs.{new_job, with_holder, loaded_in, loaded, stored, with_core, word_loaded_of, word_loaded, words_stored, barred_in, words_barred, words_loaded_if, words_loaded, page_protected_in, page_protected, on_job, with_registers, on_registers, started, interrupted, stopped, continued, seen, examined, shown, state_shown, deposited_in, deposited}
 use Rattle.its_plain.specs.OperatorLines.{by_load, by_exam, in_a_line, by_state, by_clock, operate, shows, Done, peeked_at, lined}
@@ -153,9 +153,24 @@ unfolding symbol_kept plain
 symbol_lifted v s name a = symbol_lifted_of v s (name, a) (v.frames s) (v.raw.jobs s)
 
 -- VERSION
+some_alike : (f : Option Frame) (o : Option Whole) → is_some (option_map (state.seen f) o) ≡ is_some o
+some_alike f (Some q) = refl
+some_alike f None = refl
+
+pub empty_plain : (v : State) → no_job (plain v).jobs ≡ no_job v.raw.jobs
+unfolding plain
+empty_plain v = no_job_alike (plain v).jobs v.raw.jobs (λ k. some_alike (v.frames k) (v.raw.jobs k))
+
+version_by : (v : State) (n : ℕ) (b c : Bool) → b ≡ c → (if b then record (plain v) { version = n } else plain v) ≡ plain (with_raw v (if c then record v.raw { version = n } else v.raw))
+unfolding plain
+version_by v n true true e = refl
+version_by v n false false e = refl
+version_by v n true false e = cc
+version_by v n false true e = cc
+
 pub version_lifted : (v : State) (n : ℕ) → versioned (plain v) n ≡ plain (with_raw v (versioned v.raw n))
-unfolding versioned plain
-version_lifted v n = elim (cases_Bool (n == 2)) [ inl is ↦ rw is refl | inr is ↦ rw is refl ]
+unfolding versioned
+version_lifted v n = version_by v n (no_job (plain v).jobs) (no_job v.raw.jobs) (empty_plain v)
 
 -- what EXAM and STATE find
 pub examined_plain : (v : State) (s a n : ℕ) → v.frames s ≡ None → examined (plain v) s a n ≡ examined v.raw s a n
@@ -224,19 +239,15 @@ empty_frame f r h = h.0
 pub free_frame : (v : State) (s : ℕ) → Sound v → v.raw.jobs s ≡ None → v.frames s ≡ None
 free_frame v s sound e = empty_frame (v.frames s) (v.reserved s) (subst (λ (o : Option Whole). SoundBy o (v.frames s) (v.reserved s)) e (sound.each s).by)
 
-some_alike : (f : Option Frame) (o : Option Whole) → is_some (option_map (state.seen f) o) ≡ is_some o
-some_alike f (Some q) = refl
-some_alike f None = refl
-
 pub least_plain : (v : State) → least_free (limit (plain v)) (plain v).jobs ≡ least_free (limit v.raw) v.raw.jobs
 unfolding plain
 least_plain v = least_alike (limit v.raw) (plain v).jobs v.raw.jobs (λ k. some_alike (v.frames k) (v.raw.jobs k))
 
 held_plain : (v : State) (s : ℕ) (q : Whole) (console : Option ℕ) → v.frames s ≡ None
-    → plain (with_raw v (with_holder (with_job v.raw s q) s console)) ≡ with_holder (with_job (plain v) s q) s console
+    → plain (with_raw v (with_holder (with_new v.raw s q) s console)) ≡ with_holder (with_new (plain v) s q) s console
 unfolding plain
 held_plain v s q (Some c) e = jobs_are _ _ (λ k. job_put v s q k e) refl
-held_plain v s q None e = put_plain v s q e
+held_plain v s q None e = jobs_are _ _ (λ k. job_put v s q k e) refl
 
 load_lifted : (v : State) (b : Block) (u j : ℕ) (console o : Option ℕ) → Sound v → least_free (limit v.raw) v.raw.jobs ≡ o
     → by_load b (loaded_in (plain v) u j console o) ≡ lifted v (by_load b (loaded_in v.raw u j console o))

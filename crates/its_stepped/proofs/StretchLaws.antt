@@ -1,8 +1,8 @@
 -- Each byte once and in order, over a stretch of a session's run (docs/CALLS.md, "Each byte once").
-use Rattle.std.specs.Prelude.{◌≡◌, ◌≢◌, ℕ, suc, ◌+◌, Bool, true, false, Option, Some, None, is_some, unwrap_or, List, [], ◌∷◌, ◌++◌, drop, length, Result, Ok, Err, refl, option_map}
+use Rattle.std.specs.Prelude.{◌≡◌, ◌≢◌, ℕ, zero, suc, ◌+◌, Bool, true, false, Option, Some, None, is_some, unwrap_or, List, [], ◌∷◌, ◌++◌, drop, length, Result, Ok, Err, refl, option_map}
 use Rattle.std.proofs.Common.{sym, ◌∙◌, ap, subst, arith, inl, inr}
 use Rattle.std.proofs.lemmas.Bool.{cases_eq, eqb-true}
-use Rattle.its_word.specs.Item.{Item, Read, Unread, InTurn, Beyond}
+use Rattle.its_word.specs.Item.{Item, Read, Unread, Beyond}
 use Rattle.its_word.specs.declared.calls.Ask.{Ask}
 use Rattle.its_word.specs.declared.calls.Pace.{Pace}
 use Rattle.its_word.specs.declared.calls.Pace.TheVariants.{Step, Work, Wait, Off}
@@ -19,7 +19,9 @@ use Rattle.its_frame.specs.declared.name.CallName.TheVariants.{Siot}
 use Rattle.its_plain.specs.Arguments.{input}
 use Rattle.its_plain.specs.OperatorLines.{operate, Lined, Done, Peeks, lined, by_exam, in_a_line, by_state}
 use Rattle.its_plain.specs.CallStep.{acted, decision, step, Transition, by_delivery, unless_stopped, transition_of, transition, part_in, steps_on}
-use Rattle.its_plain.specs.Course.{Deed, Lines, Steps, Moment, Course, rests, onward, after_step, paced, letters, past, course, run_of}
+use Rattle.its_plain.specs.Course.{Deed, Lines, Turns, Letter, Moment, Course, rests, onward, after_step, machine_after, paced, letters, turned_by, turned, past, course, run_of}
+use Rattle.its_plain.specs.Transcript.{Walk, at_start, after_letter, walk_after, next_line}
+use Rattle.its_plain.specs.Turns.{turn_after, highest, turns_asked}
 use Rattle.its_plain.specs.Decide.{call_named, reach}
 use Rattle.its_plain.specs.Footprint.{Stands}
 use Rattle.its_plain.specs.Interrupt.{deliverable}
@@ -30,6 +32,7 @@ use Rattle.its_plain.specs.OperatorJobs.{interrupted, stopped, continued, on_job
 use Rattle.its_plain.specs.Stretch.{Untouched, machine_at, is_own, Fits, Stretch, counted, parts_in, incremented, rest_after, ByteOf, InOrder_by, InOrder, StandsAt, Transferred, end_of, begin_of, Stretches}
 use Rattle.its_stepped.specs.Forest.{Forest}
 use Rattle.its_stepped.proofs.DecodingLaws.{input_word, siot_inputs}
+use Rattle.its_stepped.proofs.CourseLaws.{Linked, EachMoment, run_course, linked_middle}
 use Rattle.its_stepped.proofs.FitLaws.{forest_steps}
 use Rattle.its_stepped.proofs.ForestLaws.{forest_starts}
 use Rattle.its_stepped.proofs.FrameLaws.{changed_only}
@@ -38,76 +41,22 @@ use Rattle.its_stepped.proofs.PcLaws.{stands_same}
 use Rattle.its_stepped.proofs.WrittenLaws.{line_forest}
 use Rattle.its_stepped.proofs.CallDuties.{named_same}
 
--- the moments of a run: each finds a forest of jobs, and one that is a step leads to the machine after the step
+-- the moments of a run: each finds a forest of jobs, and one that is a letter leads to the machine after the letter
 abbrev Leads : Deed → Machine → Machine → Type 0
-Leads (Steps i) m n = n ≡ after_step m i
+Leads (Letter i p) m n = n ≡ machine_after m i p
+Leads (Turns s) m n = Unit {0}
 Leads (Lines e) m n = Unit {0}
 
 record Leading (t : Moment) (n : Machine) : Type 0 where
   forest : Forest t.machine
   leads : Leads t.deed t.machine n
 
-abbrev Linked : List Moment → Machine → Type 0
-Linked [] n = Unit {0}
-Linked (t ∷ ts) n = Leading t (machine_at ts n) × Linked ts n
-
--- a run from a machine on
-record RunFrom (m : Machine) (u : Course) : Type 0 where
-  begins : machine_at u.moments u.last ≡ m
-  linked : Linked u.moments u.last
-
-run_rests : (m : Machine) → RunFrom m (rests m)
-run_rests m = record { begins = refl; linked = tt }
-
-run_onward : (m n : Machine) (d : Deed) (u : Course) → Forest m → Leads d m n → RunFrom n u → RunFrom m (onward m d u)
-run_onward m n d u forest leads h = record { begins = refl; linked = (record { forest = forest; leads = subst (Leads d m) (sym h.begins) leads }, h.linked) }
-
-forest_after : (m : Machine) (i : ℕ) → Forest m → Forest (after_step m i)
-forest_after m i forest = go (step m i) refl
-  where
-    go : (o : Option Machine) → step m i ≡ o → Forest (unwrap_or o m)
-    go (Some n) e = forest_steps m n i forest e
-    go None e = forest
-
-run_paced : (m : Machine) (i : ℕ) (ps : List Pace) (next : Machine → Course) → Forest m → ((n : Machine) → Forest n → RunFrom n (next n)) → RunFrom m (paced m i ps next)
-run_paced m i [] next forest h = h m forest
-run_paced m i (Step ∷ ps) next forest h =
-    run_onward m (after_step m i) (Steps i) (paced (after_step m i) i ps next) forest refl (run_paced (after_step m i) i ps next (forest_after m i forest) h)
-run_paced m i (Work ∷ ps) next forest h = run_paced m i ps next forest h
-run_paced m i (Wait ∷ ps) next forest h = run_paced m i ps next forest h
-run_paced m i (Off ∷ ps) next forest h = run_paced m i ps next forest h
-
-run_past : (m : Machine) (b : Block) (e : Event) (l : Lined) (lines : List Line) (next : Machine → Block → List Line → Course) → lined m b e ≡ l → Forest m
-    → ((n : Machine) (c : Block) (rest : List Line) → Forest n → RunFrom n (next n c rest)) → RunFrom m (past m b e l lines next)
-run_past m b e (Done (Refuses r)) lines next is forest h = run_rests m
-run_past m b e (Done (Does n out touched c)) lines next is forest h =
-    let rest = drop (length out) lines in
-    run_onward m n (Lines e) (next n c rest) forest tt (h n c rest (line_forest m n b c e out touched forest is))
-run_past m b e (Done (Ticks s k)) lines next is forest h = run_paced m s (letters lines) (λ n. next n b (drop 1 lines)) forest (λ n f. h n b (drop 1 lines) f)
-run_past m b e (Done Quits) lines next is forest h = run_rests m
-run_past m b e (Peeks s) lines next is forest h = h m b (drop 1 lines) forest
-
-run_course : (m : Machine) (b : Block) (es : List Item) (lines : List Line) → Forest m → RunFrom m (course m b es lines)
-run_course m b (Read e ∷ es) lines forest =
-    run_past m b e (lined m b e) lines (λ n c rest. course n c es rest) refl forest (λ n c rest f. run_course n c es rest f)
-run_course m b (InTurn s k ∷ es) lines forest = run_paced m s (letters lines) (λ n. course n b es (drop 1 lines)) forest (λ n f. run_course n b es (drop 1 lines) f)
-run_course m b _ lines forest = run_rests m
-
--- some of its moments, one behind the other
-at_joined : (xs ys : List Moment) (n : Machine) → machine_at (xs ++ ys) n ≡ machine_at xs (machine_at ys n)
-at_joined [] ys n = refl
-at_joined (x ∷ xs) ys n = refl
-
-linked_front : (xs ys : List Moment) (n : Machine) → Linked (xs ++ ys) n → Linked xs (machine_at ys n)
-linked_front [] ys n h = tt
-linked_front (x ∷ xs) ys n h = (subst (Leading x) (at_joined xs ys n) h.0, linked_front xs ys n h.1)
-
-linked_back : (xs ys : List Moment) (n : Machine) → Linked (xs ++ ys) n → Linked ys n
-linked_back [] ys n h = h
-linked_back (x ∷ xs) ys n h = linked_back xs ys n h.1
-
-linked_middle : (before ts after : List Moment) (n : Machine) → Linked (before ++ ts ++ after) n → Linked ts (machine_at after n)
-linked_middle before ts after n h = linked_back before ts (machine_at after n) (linked_front (before ++ ts) after n h)
+each_leads : EachMoment Leading
+each_leads = record {
+  letter = λ v i p forest. record { forest = forest; leads = refl };
+  turn = λ v s forest. record { forest = forest; leads = tt };
+  line = λ v e n out touched c forest is. record { forest = forest; leads = tt };
+}
 
 -- where the job stands at the call, its arguments are its words
 stands_at : (m : Machine) (j : ℕ) (q : Whole) (s : Site) (a : Ask) → m.jobs j ≡ Some q → Stands q.core q.job s a → StandsAt m j s a
@@ -206,10 +155,10 @@ moment_moves true m n last j s a k next forest leads st e fits h =
     (h rest (stands_at n j byte.byte.after s rest byte.byte.there byte.byte.stands) (ap call_named (named_same a _) ∙ e))
 
 own_leads : (d : Deed) (m n : Machine) (j : ℕ) → Leads d m n → is_own j d ≡ true → n ≡ after_step m j
-own_leads (Steps i) m n j h own = h ∙ ap (after_step m) (eqb-true i j own)
-own_leads (Lines e) m n j h own = cc
+own_leads (Letter i Step) m n j h own = h ∙ ap (after_step m) (eqb-true i j own)
+own_leads _ m n j h own = cc
 
-moments_move : (ts : List Moment) (n : Machine) (j : ℕ) (s : Site) (a : Ask) → Linked ts n → StandsAt (machine_at ts n) j s a → call_named a.name ≡ Some Siot → Stretch j ts n
+moments_move : (ts : List Moment) (n : Machine) (j : ℕ) (s : Site) (a : Ask) → Linked Leading ts n → StandsAt (machine_at ts n) j s a → call_named a.name ≡ Some Siot → Stretch j ts n
     → Moves j s a (parts_in j ts) n (InOrder j s ts n a)
 moments_move [] n j s a linked st e fits = record { each = tt; rest = st; pointer = refl; count = omega arith }
 moments_move (t ∷ ts) n j s a linked st e fits =
@@ -227,9 +176,9 @@ stretches es lines = record {
       let u = run_of es lines in
       let n = end_of u x.section in
       let ts = x.section.moments in
-      let linked = subst (λ (xs : List Moment). Linked xs u.last) x.section.whole (run_course _ no_block es lines forest_starts).linked in
+      let linked = subst (λ (xs : List Moment). Linked Leading xs u.last) x.section.whole (run_course each_leads at_start highest es lines forest_starts).linked in
       transferred ts n j x.site x.ask
-      (moments_move ts n j x.site x.ask (linked_middle x.section.before ts x.section.after u.last linked)
+      (moments_move ts n j x.site x.ask (linked_middle Leading x.section.before ts x.section.after u.last linked)
       (stands_at (begin_of u x.section) j x.job x.site x.ask x.there x.stands) x.siot x.stretch);
 }
 

@@ -53,11 +53,11 @@ goes_ways x a = record {
 -- a transfer whose channel is on no console never waits
 pub iot_ready : (x : View) (a : Ask) → (OnConsole (channel_at x.own.channels (input a 0)) → ⊥) → Goes_on (decided_by x a (Some Iot))
 unfolding iot_call
-iot_ready x a h = iot_ways Goes_on x a (slice_index_or a.outputs.items 0 0) (input a 0) (channel_at x.own.channels (input a 0)) (goes_ways x a) (λ k r. h k)
+iot_ready x a h = iot_ways Goes_on x a (slice_index_or a.outputs.items 0 0) (input a 0) (channel_at x.own.channels (input a 0)) (goes_ways x a) refl (λ k r. h k)
 
 pub siot_ready : (x : View) (a : Ask) → (OnConsole (channel_at x.own.channels (input a 0)) → ⊥) → Goes_on (decided_by x a (Some Siot))
 unfolding siot_call
-siot_ready x a h = siot_ways Goes_on x a (input a 0) (channel_at x.own.channels (input a 0)) (goes_ways x a) (λ k r. h k)
+siot_ready x a h = siot_ways Goes_on x a (input a 0) (channel_at x.own.channels (input a 0)) (goes_ways x a) refl (λ k r. h k)
 
 -- tests of which none waits
 abbrev pub AllGo : List Test → Type 0

@@ -1,8 +1,9 @@
 -- The lines that the monitor writes are a transcript of the plain machine, where the decoding of calls looks at what it
 -- has to.
-use Rattle.std.specs.Prelude.{◌≡◌, ◌≤◌, ◌⊎◌, ℕ, Bool, true, Option, Some, None, IfSome, List, option_map, is_some, refl}
+use Rattle.std.specs.Prelude.{◌≡◌, ◌≤◌, ◌⊎◌, ℕ, Bool, true, Option, Some, None, IfSome, List, option_map, is_some, refl, ◌<◌}
 use Rattle.std.proofs.Common.{sym, ◌∙◌, ap, subst, inl, inr, arith}
 use Rattle.std.proofs.lemmas.Option.{IfSome_then}
+use Rattle.std.proofs.lemmas.Bool.{cases_lt}
 use Rattle.its_word.specs.Item.{Item}
 use Rattle.its_word.specs.declared.session.Event.{Event}
 use Rattle.its_print.specs.Printing.{Line}
@@ -76,21 +77,20 @@ holder_kept m n c h (Keeps e) d =
     (IfSome_then (m.holders c) d (λ s x. slot_some (m.jobs s) (n.jobs s) (h.slots s) x))
 holder_kept m n c h (Takes s u j none free is e) d = subst (λ (o : Option ℕ). IfSome o (λ s. is_some (n.jobs s) ≡ true)) (sym e) (ap is_some is)
 
--- the number of jobs that there can be never falls
-limit_second : (k : ℕ) → limit_of 2 ≤ k → slots ≤ k
-unfolding limit_of
-limit_second k l = l
-
-limit_rises : (m n : Machine) (k : ℕ) → (n.version ≡ m.version) ⊎ (n.version ≡ 2) → limit n ≤ k → limit m ≤ k
-limit_rises m n k h l = elim h [
-  | inl same ↦ subst (λ (i : ℕ). limit_of i ≤ k) same l
-  | inr second ↦ let few = limit_few m.version in let top : slots ≤ k = limit_second k (subst (λ (i : ℕ). limit_of i ≤ k) second l) in omega arith
+-- no slot past the number of jobs that there can be has a job: where that number changes, no slot has one
+keeps_few : (m n : Machine) (k : ℕ) → LineKeeps m n → Forest m → limit n ≤ k → n.jobs k ≡ None
+keeps_few m n k h d l = elim h.version [
+  | inl same ↦ let past : limit m ≤ k = subst (λ (i : ℕ). limit_of i ≤ k) same l in h.few k past (d.few k past)
+  | inr nobody ↦ elim (cases_lt k slots) [
+    | inl below ↦ nobody k below
+    | inr above ↦ let few = limit_few m.version in let past : limit m ≤ k = omega arith in h.few k past (d.few k past)
+  ]
 ]
 
 keeps_forest : (m n : Machine) → LineKeeps m n → Forest m → Forest n
 keeps_forest m n h d = same_forest m n
     (record {
-      few = λ k l. let past : limit m ≤ k = limit_rises m n k h.version l in h.few k past (d.few k past);
+      few = λ k l. keeps_few m n k h d l;
       tree = λ k. slot_superior (m.jobs k) (n.jobs k) (h.slots k);
       jobs = λ k x. slot_some (m.jobs k) (n.jobs k) (h.slots k) x;
       channels = λ k i. slot_channel m k i (m.jobs k) (n.jobs k) (h.slots k) (d.channels k i);

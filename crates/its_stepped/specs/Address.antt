@@ -1,4 +1,5 @@
 -- The PC of each job of a machine is an address.
+-- No promise rests on this.
 use Rattle.std.specs.Prelude.{◌<◌, ℕ, ◌^◌, IfSome}
 use Rattle.its_plain.specs.Machine.{Machine}
 

@@ -1,4 +1,5 @@
 -- The alarms of the jobs of a machine (docs/STEPS.md, "Soundness").
+-- No promise rests on this.
 use Rattle.std.specs.Prelude.{◌≤◌, ◌<◌, ℕ, IfSome}
 use Rattle.its_plain.specs.CallBasic.{longest_period}
 use Rattle.its_plain.specs.Machine.{Machine}

@@ -1,5 +1,6 @@
 -- The commit of a call: its changes on the stepped machine, and the frame that it leaves (docs/STEPS.md,
 -- "Commit").
+-- No promise rests on this.
 use Rattle.std.specs.Prelude.{if◌then◌else◌, ◌==◌, ℕ, Bool, true, false, Option, Some, None, List, [], ◌∷◌, ◌++◌, map, length}
 use Rattle.its_word.specs.declared.calls.Ask.{Ask}
 use Rattle.its_word.specs.declared.calls.Exit.{Exit}
@@ -23,8 +24,8 @@ use Rattle.its_plain.specs.Arguments.{debts, revalued}
 use Rattle.its_plain.specs.Decide.{call_named}
 use Rattle.its_stepped.specs.State.{Part, UnlinkOld, LinkNew, FreeOld, Mark, State, mark_of_close, turn, same, holding, waiting, moving, ending}
 
--- a change on the stepped machine: a close is marked, and its parts are owed; a page that is made is the
--- reserved one; a removed job has no frame
+-- a change on the stepped machine: a close is marked, and its parts are pending; a page that is made is the reserved
+-- one; a removed job has no frame
 unfoldable pub effect_on : Change → ℕ → State → State
 effect_on (changes.Close n) j w =
     record w { raw = in_job w.raw j (on_channel n (λ c. Shut)); mark = mark_of_close j (channel_in (w.raw.jobs j) n) w.raw.files }
@@ -40,7 +41,7 @@ abbrev pub effects_on : List Change → ℕ → State → State
 effects_on [] j w = w
 effects_on (c ∷ cs) j w = effects_on cs j (effect_on c j w)
 
--- after a part of a call: a held byte is still to be stored; a sleeper waits; else the call stands again
+-- after a part of a call: a held byte is still to be stored; a sleeper waits; else the job is at the call again
 abbrev pub sleeps : Option CallName → Bool
 sleeps (Some Sleep) = true
 sleeps _ = false
@@ -53,7 +54,7 @@ abbrev pub gone_on : Site → Ask → ℕ → Option Held → Frame
 gone_on s a n (Some h) = moving s a h
 gone_on s a n None = stays (sleeps (call_named a.name)) s a n
 
--- what a call owes that ends: the parts of its close, its reserved page, the words of its arguments that are
+-- what is pending of a call that ends: the parts of its close, its reserved page, the words of its arguments that are
 -- not in core, its own stores, and its registers
 abbrev pub owed_part : Part → Owed
 owed_part UnlinkOld = Unlink
@@ -74,7 +75,7 @@ owed_store s = owed.Store s.at s.word
 abbrev pub owed_by : State → ℕ → List Store → Exit → List Owed
 owed_by v j ss e = owed_parts v.mark j ++ (given_up (v.reserved j) ++ (map owed_store ss ++ Leave e ∷ []))
 
--- a decision carried out, of a call that owes its last n arguments
+-- a decision carried out, of a call with its last n arguments pending
 unfoldable pub committed : State → ℕ → Site → Ask → ℕ → Decision → State
 committed w j s a n (Waits r) = turn w j same (Some (waiting s a n))
 committed w j s a n (Goes cs h vs) =

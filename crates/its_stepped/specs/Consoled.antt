@@ -1,4 +1,5 @@
 -- The console of each job of a machine is one of eight.
+-- No promise rests on this.
 use Rattle.std.specs.Prelude.{◌<◌, ℕ, IfSome}
 use Rattle.its_plain.specs.Machine.{Machine}
 

@@ -1,5 +1,6 @@
 -- What a call has to show of its decision. That its commit is the step of the plain machine, and that it keeps the
 -- state sound, follows from this alone (docs/STEPS.md, "Commit").
+-- No promise rests on this.
 use Rattle.std.specs.Prelude.{◌≡◌, ◌≢◌, ◌≤◌, ◌⊎◌, ℕ, ◌+◌, ◌%◌, ◌^◌, true, false, Option, Some, None, IfSome, List, [], ◌∷◌, length, nat_lt}
 use Rattle.its_word.specs.Byte.{has_size}
 use Rattle.its_word.specs.Core.{Core, can_store}
@@ -54,7 +55,7 @@ abbrev pub AllSpare : List Change → ℕ → State → Type 0
 AllSpare [] j w = Unit {0}
 AllSpare (c ∷ cs) j w = Spares c j w × AllSpare cs j (effect_on c j w)
 
--- how many parts the closes among some changes owe at most
+-- how many parts the closes among some changes have pending at most
 abbrev pub parts_in : List Change → ℕ
 parts_in [] = 0
 parts_in (changes.Close n ∷ cs) = 3 + parts_in cs
@@ -74,7 +75,8 @@ abbrev pub Within : List Store → List Store → Type 0
 Within [] news = Unit {0}
 Within (s ∷ olds) news = AtSome (place s) news × Within olds news
 
--- a byte that is held can be stored, apart from the words that are owed, and pointer and count are owed with it
+-- a byte that is held can be stored, its word is distinct from the pending ones, and pointer and count are pending
+-- with it
 pub record HeldFits (c : Core) (owed : List Store) (count : ℕ) (h : Held) : Type 0 where
   pub two : count ≡ 2
   pub placed : h.place % 2 ^ 18 ≡ h.place
@@ -86,7 +88,7 @@ pub record Waiting_by (v : State) (j : ℕ) (a : Ask) : Type 0 where
   pub page : v.reserved j ≡ None
   pub waitable : IsWaitable (call_named a.name)
 
--- a part of a call: its new words cover those that it owed, and the call stands behind them
+-- a part of a call: its new words include those that were pending, and the call is still there after they are stored
 pub record Going (v : State) (j : ℕ) (own : Whole) (s : Site) (a : Ask) (n : ℕ) (cs : List Change) (h : Option Held) (vs : List ℕ) : Type 0 where
   pub quiet : AllQuiet cs j v
   pub spare : AllSpare cs j v
@@ -100,8 +102,8 @@ pub record Going (v : State) (j : ℕ) (own : Whole) (s : Site) (a : Ask) (n : �
   pub debts : Debts own.core (revalued a vs) (length vs)
   pub stands : Stands (moved a h vs own).core own.job s (revalued a vs)
 
--- the end of a call: either it spares its own words but for stores that can be made, or it changes its own pages
--- and stores no word; and its owed steps are at most four with the last
+-- the end of a call: either it spares its own words except for stores that are possible, or it changes its own pages
+-- and stores no word; and its pending steps are at most four including the last
 pub record Ending_by (v : State) (j : ℕ) (own : Whole) (n : ℕ) (cs : List Change) (ss : List Store) : Type 0 where
   pub quiet : AllQuiet cs j v
   pub stores : (AllSpare cs j v × Stored own.core ss) ⊎ (AllRemain cs j v × (n ≡ 0) × (ss ≡ []))
@@ -113,8 +115,8 @@ pub record Leaving (v : State) (j : ℕ) (cs : List Change) : Type 0 where
   pub closes : parts_in cs ≡ 0
   pub page : v.reserved j ≡ None
 
--- the duty of the call with this site and ask, of job own in slot j, over the state that its commit finds, where its
--- last n arguments are owed
+-- the duty of the call with this site and ask, of job own in slot j, over the state that its commit finds, when its
+-- last n arguments are pending
 abbrev pub Duty : State → ℕ → Whole → Site → Ask → ℕ → Decision → Type 0
 Duty v j own s a n (Waits r) = Waiting_by v j a
 Duty v j own s a n (Goes cs h vs) = Going v j own s a n cs.items h vs.items
@@ -128,12 +130,12 @@ pub record Meets (w : State) (j : ℕ) (own : Whole) (s : Site) (a : Ask) (n : �
   pub page : reserves a ≡ true → w.reserved j ≡ Some quarters
   pub duty : Duty (prepared_for w j own a) j own s a n (decision (plain w) j own a)
 
--- a call that is held is tried where it has no page, or all quarters of it are clear
+-- a call that is held is tried if it has no page, or if all quarters of its page are clear
 abbrev pub IsTried : Option ℕ → Type 0
 IsTried None = Unit {0}
 IsTried (Some p) = nat_lt p quarters ≡ false
 
--- what the tick of a slot takes as given: the call does its duty where it is tried, and no job is its own superior
+-- what the tick of a slot takes as given: the call does its duty if it is tried, and no job is its own superior
 abbrev pub GivenBy : State → ℕ → Whole → Option Frame → Type 0
 GivenBy w j q None = q.superior ≢ Some j
 GivenBy w j q (Some (Holding f)) = IsTried f.page → Meets w j (seen (Some (Holding f)) q) f.site f.ask f.owes

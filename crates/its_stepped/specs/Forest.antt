@@ -1,4 +1,5 @@
 -- How the jobs of a machine lie to each other and to consoles (docs/STEPS.md, "Soundness").
+-- No promise rests on this.
 use Rattle.std.specs.Prelude.{◌≡◌, ◌≤◌, ℕ, true, false, Option, Some, None, IfSome, is_some}
 use Rattle.its_word.specs.Limits.{slots}
 use Rattle.its_word.specs.Tree.{climbs_to}

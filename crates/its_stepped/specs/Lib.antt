@@ -13,4 +13,3 @@ pub mod Lines
 pub mod Calling
 pub mod Address
 pub mod Consoled
-pub mod Turns

@@ -1,8 +1,9 @@
 -- The lines of a session over the stepped machine: what PEEK shows, the jobs that a line finds in user mode, and all
 -- lines that the monitor writes (docs/STEPS.md, "Lines").
+-- No promise rests on this.
 use Rattle.std.specs.Prelude.{Bool, true, false, ℕ, zero, suc, ◌+◌, Option, Some, None, List, [], ◌∷◌, ◌++◌, slice_get}
 use Rattle.its_word.specs.Core.{Core, word_at}
-use Rattle.its_word.specs.Item.{Item, Read, Unread, InTurn, Beyond}
+use Rattle.its_word.specs.Item.{Item, Read, Unread, Beyond}
 use Rattle.its_word.specs.declared.calls.Ask.{Ask}
 use Rattle.its_word.specs.declared.calls.Pace.{Pace}
 use Rattle.its_word.specs.declared.session.Event.{Event}
@@ -25,6 +26,7 @@ use Rattle.its_plain.specs.OperatorClock.{due_slots}
 use Rattle.its_plain.specs.Operator.{Block, no_block, Operated, Refuses, Does, Ticks, nobody, Quits}
 use Rattle.its_plain.specs.Transcript.{Fate, Ended, Open, Lost, TooLong}
 use Rattle.its_plain.specs.OperatorLines.{Lined, Done, Peeks, lined}
+use Rattle.its_plain.specs.Turns.{turn_after, highest, turns_asked, ticks_asked}
 use Rattle.its_stepped.specs.State.{State, plain, no_state}
 use Rattle.its_stepped.specs.Unwind.{left, unwound, all_unwound}
 use Rattle.its_stepped.specs.Tick.{helped_if, tick}
@@ -125,8 +127,8 @@ abbrev pub unwound_for : State → Block → Event → State
 unwound_for w b (events.Clock n) = all_unwound (due_slots (w.raw.clock + n) w.raw.jobs) w
 unwound_for w b e = unwound_at (called_on b e) w
 
--- a line that looks at the directory first makes the parts of a close that are still owed; the job that stands in the
--- close is not disturbed by it
+-- a line that looks at the directory first performs the pending parts of a close; the job that is in the close is not
+-- disturbed by it
 abbrev pub looks_at_files : Event → Bool
 looks_at_files (events.File d x y) = true
 looks_at_files (events.Append words) = true
@@ -154,7 +156,7 @@ state_after w v (Peeks s) = w
 unfoldable pub after_line : State → Block → Event → State
 after_line w b e = state_after (helped_if (looks_at_files e) w) (calmed w b e) (lined (calmed w b e).raw b e)
 
--- what a line of a state comes to, as a line of the plain machine that it stands for
+-- the effect of a line of a state, as a line of its plain machine
 abbrev pub lifted : State → Operated → Operated
 lifted v (Does m out touched b) = Does (plain (with_raw v m)) out touched b
 lifted v (Refuses r) = Refuses r
@@ -181,7 +183,7 @@ touched_by (Done (Ticks s k)) = nobody
 touched_by (Done Quits) = nobody
 touched_by (Peeks s) = nobody
 
--- why a line is refused, where it is
+-- why a line is refused, if it is
 abbrev pub refusal : Lined → Option Reason
 refusal (Done (Refuses r)) = Some r
 refusal (Done (Does m out touched b)) = None
@@ -206,7 +208,7 @@ pub record Told : Type 0 where
 abbrev pub telling : List Line → Told → Told
 telling out t = record { lines = out ++ t.lines; fate = t.fate }
 
--- line n, which comes to this in state v, and w is the state before it
+-- line n, which has this effect in state v, and w is the state before it
 abbrev pub told_by : ℕ → State → State → Block → Lined → (State → Block → Told) → Told
 told_by n w v b (Done (Refuses r)) next = record { lines = Refused n r ∷ []; fate = Lost }
 told_by n w v b (Done (Does m out touched b')) next = telling out (next (with_raw v m) b')
@@ -214,14 +216,28 @@ told_by n w v b (Done (Ticks s k)) next = telling (printed.Ticks s (paces_of w s
 told_by n w v b (Done Quits) next = record { lines = []; fate = Ended }
 told_by n w v b (Peeks s) next = telling (printed.Peeked s (peeked w s) ∷ []) (next w b)
 
--- the events from line number n on
-abbrev pub told : ℕ → State → Block → List Item → Told
-told n w b [] = record { lines = []; fate = Open }
-told n w b (Read e ∷ es) = told_by n w (calmed w b e) b (lined (calmed w b e).raw b e) (λ v b'. told (n + 1) v b' es)
-told n w b (InTurn s k ∷ es) = telling (printed.Ticks s (paces_of w s k) ∷ []) (told n (ticked w s k) b es)
-told n w b (Unread r ∷ es) = record { lines = Refused n r ∷ []; fate = Lost }
-told n w b (Beyond ∷ es) = record { lines = []; fate = TooLong }
+-- line n, and what follows it
+abbrev pub line_told : ℕ → State → Block → Event → (State → Block → Told) → Told
+line_told n w b e next = told_by n w (calmed w b e) b (lined (calmed w b e).raw b e) next
+
+-- up to n turns of q ticks, the first after a turn of slot `last`, and what follows them
+abbrev pub turned_by : Option ℕ → ℕ → State → (State → ℕ → Told) → Told → Told
+turned_by (Some s) q w more done = telling (printed.Ticks s (paces_of w s q) ∷ []) (more (ticked w s q) s)
+turned_by None q w more done = done
+
+abbrev pub turned : ℕ → ℕ → State → ℕ → (State → ℕ → Told) → Told
+turned zero q w last next = next w last
+turned (suc n) q w last next = turned_by (turn_after w.raw last) q w (λ v s. turned n q v s next) (next w last)
+
+-- the events from line number n on, after a turn of slot `last`
+abbrev pub told : ℕ → State → Block → ℕ → List Item → Told
+told n w b last [] = record { lines = []; fate = Open }
+told n w b last (Read e ∷ es) =
+    line_told n w b e
+    (λ v b'. turned (turns_asked e) (ticks_asked e) v last (λ x l. told (n + 1) x b' l es))
+told n w b last (Unread r ∷ es) = record { lines = Refused n r ∷ []; fate = Lost }
+told n w b last (Beyond ∷ es) = record { lines = []; fate = TooLong }
 
 -- the lines of a session of these events
 abbrev pub stepped : List Item → Told
-stepped es = told 1 (no_state no_machine) no_block es
+stepped es = told 1 (no_state no_machine) no_block highest es

@@ -1,6 +1,7 @@
--- When a change of a call in progress is the same on the stepped machine and on the plain one: what it reaches owes
--- nothing, no close is half made where it looks at the directory, and a page of zeros that it makes is the caller's
--- reserved one (docs/STEPS.md, "Commit").
+-- When a change of a call in progress is the same on the stepped machine and on the plain one: what it reaches has
+-- nothing pending, no close is half made if it looks at the directory, and a page of zeros that it makes is the
+-- caller's reserved one (docs/STEPS.md, "Commit").
+-- No promise rests on this.
 use Rattle.std.specs.Prelude.{◌≡◌, ◌≢◌, ℕ, true, Option, Some, None, List, [], ◌∷◌}
 use Rattle.its_frame.specs.declared.change.Change.{Change}
 use Rattle.its_frame.specs.declared.change.Change.TheVariants as changes
@@ -11,7 +12,7 @@ use Rattle.its_stepped.specs.State.{State}
 use Rattle.its_stepped.specs.Commit.{effect_on}
 use Rattle.its_stepped.specs.Tick.{quarters}
 
--- a frame that owes no word: the job is as it stands
+-- a frame with no pending word: the job is the raw one
 abbrev pub IsStill : Option Frame → Type 0
 IsStill None = Unit {0}
 IsStill (Some (Entered f)) = Unit {0}
@@ -22,7 +23,7 @@ IsStill (Some (Waiting f)) = f.owes ≡ 0
 IsStill (Some (Moving f)) = ⊥
 IsStill (Some (Ending f)) = ⊥
 
--- a job that the call of slot j reaches: it owes nothing, and another one than the caller is in user mode
+-- a job that the call of slot j reaches: it has nothing pending, and another one than the caller is in user mode
 pub record Reached (w : State) (j s : ℕ) : Type 0 where
   pub still : IsStill (w.frames s)
   pub other : s ≢ j → w.frames s ≡ None
@@ -54,7 +55,7 @@ Quiet (changes.Arm alarm) j w = Unit {0}
 Quiet (changes.Delete d x y) j w = w.mark ≡ None
 Quiet (changes.Rename d x y u v) j w = w.mark ≡ None
 
--- several, each where those before it are made
+-- several, each on the state after those before it
 abbrev pub AllQuiet : List Change → ℕ → State → Type 0
 AllQuiet [] j w = Unit {0}
 AllQuiet (c ∷ cs) j w = Quiet c j w × AllQuiet cs j (effect_on c j w)

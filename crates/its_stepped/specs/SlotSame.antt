@@ -1,4 +1,5 @@
 -- What a slot keeps.
+-- No promise rests on this.
 use Rattle.std.specs.Prelude.{◌≡◌, ℕ}
 use Rattle.its_stepped.specs.State.{State}
 

@@ -1,5 +1,6 @@
 -- What holds of a state between two calls of the monitor (docs/STEPS.md, "Soundness"). The facts of a slot speak
 -- of that slot alone: of its raw job, its frame and its reserved page.
+-- No promise rests on this.
 use Rattle.std.specs.Prelude.{◌≡◌, ◌≢◌, ◌≤◌, ◌<◌, ℕ, ◌+◌, ◌^◌, Bool, true, false, Option, Some, None, IfSome, List, [], ◌∷◌, is_some, length, Ok}
 use Rattle.its_word.specs.Byte.{has_size}
 use Rattle.its_word.specs.Core.{Core, can_store}
@@ -30,7 +31,7 @@ use Rattle.its_plain.specs.Decide.{call_row, call_named}
 use Rattle.its_stepped.specs.State.{Part, UnlinkOld, LinkNew, FreeOld, Mark, State, seen}
 use Rattle.its_stepped.specs.Tick.{reserves}
 
--- what a frame says of the job that its slot stands for
+-- what a frame says of the plain job of its slot
 abbrev pub Standing : Frame → Core → Job → Type 0
 Standing (Entered f) c j = unit c j ≡ Called f.site
 Standing (Parsed f) c j = (unit c j ≡ Called f.site) × (parse c f.site ≡ Ok f.block.items)
@@ -45,7 +46,7 @@ abbrev pub Stored : Core → List Store → Type 0
 Stored c [] = Unit {0}
 Stored c (s ∷ ss) = (can_store c (place s) ≡ true) × Stored c ss
 
--- how many of its arguments a call can owe: SIOT its pointer and its count, SLEEP its time
+-- how many arguments of a call can be pending: of SIOT its pointer and its count, of SLEEP its time
 abbrev pub most_owed_by : Option CallName → ℕ
 most_owed_by (Some n) = (call_row n).owes
 most_owed_by None = 0
@@ -59,7 +60,7 @@ pub record Debts (c : Core) (a : Ask) (n : ℕ) : Type 0 where
   pub read : length (debts a n) ≡ n
   pub stored : Stored c (debts a n)
 
--- only a call that reserves has a page, of which at most four quarters are clear; it owes no argument
+-- only a call that reserves has a page, of which at most four quarters are clear; none of its arguments is pending
 pub record Paged (a : Ask) (n clear : ℕ) : Type 0 where
   pub most : clear ≤ 4
   pub reserves : reserves a ≡ true
@@ -74,7 +75,7 @@ abbrev pub IsWaitable : Option CallName → Type 0
 IsWaitable (Some n) = Holds (call_row n).waits
 IsWaitable None = ⊥
 
--- the owed steps can be made, and Leave is the last of them
+-- the pending steps are possible, and Leave is the last of them
 abbrev pub Owes : Core → List Owed → Type 0
 Owes c [] = ⊥
 Owes c (Leave e ∷ []) = Unit {0}
@@ -85,7 +86,7 @@ Owes c (Unlink ∷ os) = Owes c os
 Owes c (Link ∷ os) = Owes c os
 Owes c (Free ∷ os) = Owes c os
 
--- the file steps among owed steps, as parts of a close
+-- the file steps among pending steps, as parts of a close
 abbrev pub file_parts : List Owed → List Part
 file_parts [] = []
 file_parts (Unlink ∷ os) = UnlinkOld ∷ file_parts os
@@ -95,7 +96,7 @@ file_parts (GiveBack ∷ os) = file_parts os
 file_parts (owed.Store a w ∷ os) = file_parts os
 file_parts (Leave e ∷ os) = file_parts os
 
--- the parts of a close come before all else that is owed
+-- the parts of a close come before all else that is pending
 abbrev pub FilesFirst : List Owed → Type 0
 FilesFirst [] = Unit {0}
 FilesFirst (Unlink ∷ os) = FilesFirst os
@@ -115,10 +116,10 @@ backs (Link ∷ os) = backs os
 backs (Free ∷ os) = backs os
 backs (Leave e ∷ os) = backs os
 
--- what a frame owes can be paid from the raw core; and the slot has a reserved page exactly where the frame says. A
--- call that is held has a page exactly where it reserves one: it got the page as it was prepared, and has it until it
--- ends or is unwound. So a page that a call makes is the one that it has reserved. (A call that waits or holds a byte
--- reserves none)
+-- the pending stores of a frame are possible in the raw core; and the slot has a reserved page exactly if the frame
+-- says so. A call that is held has a page exactly if it reserves one: it got the page when it was prepared, and has
+-- it until it ends or is unwound. So a page that a call makes is the one that it has reserved. (A call that waits or
+-- holds a byte reserves none)
 pub record HoldingPays (c : Core) (r : Option ℕ) (a : Ask) (page : Option ℕ) (n : ℕ) : Type 0 where
   pub debts : Debts c a n
   pub page_is : r ≡ page
@@ -188,7 +189,7 @@ abbrev pub parts_in_frame : Option Frame → List Part
 parts_in_frame (Some (Ending f)) = file_parts f.owed.items
 parts_in_frame _ = []
 
--- a marked close owes at least one part, and its owner's frame owes just these
+-- a marked close has at least one part pending, and its owner's frame has exactly these parts pending
 pub record MarkBy (m : Mark) (frames : ℕ → Option Frame) : Type 0 where
   pub some : m.parts ≢ []
   pub parts : parts_in_frame (frames m.owner) ≡ m.parts

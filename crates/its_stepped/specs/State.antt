@@ -1,5 +1,6 @@
--- The stepped machine: a raw machine, and beside it the frames of calls in progress, the pages that they
--- reserve, and a close that is half made (docs/STEPS.md). What it stands for is a plain machine.
+-- The stepped machine: a raw machine, and beside it the frames of calls in progress, the pages that they reserve, and
+-- a close that is half made (docs/STEPS.md). It has a plain machine.
+-- No promise rests on this.
 use Rattle.std.specs.Prelude.{◌==◌, ℕ, Bool, true, false, Option, Some, None, List, [], ◌∷◌, ◌++◌, option_map}
 use Rattle.its_word.specs.declared.calls.Ask.{Ask}
 use Rattle.its_word.specs.declared.calls.Owed.{Owed}
@@ -22,7 +23,7 @@ pub data Part : Type 0 where
   LinkNew : Part
   FreeOld : Part
 
--- a close that is half made: the slot that makes it, the draft, and the parts that are still owed
+-- a close that is half made: the slot that performs it, the draft, and the parts that are still pending
 pub record Mark : Type 0 where
   pub owner : ℕ
   pub draft : File
@@ -44,12 +45,12 @@ abbrev pub parts_made : File → List Part → List File → List File
 parts_made f [] fs = fs
 parts_made f (p ∷ ps) fs = parts_made f ps (part_made f p fs)
 
--- the directory with all owed parts made
+-- the directory with all pending parts performed
 unfoldable pub helped : Option Mark → List File → List File
 helped (Some m) fs = parts_made m.draft m.parts fs
 helped None fs = fs
 
--- the close of a channel is begun: what it owes depends on whether a file has the draft's names
+-- the close of a channel is begun: what is pending depends on whether a file has the draft's names
 abbrev pub parts_of : Bool → List Part
 parts_of true = UnlinkOld ∷ LinkNew ∷ FreeOld ∷ []
 parts_of false = LinkNew ∷ []
@@ -62,7 +63,7 @@ abbrev pub mine : Option Mark → ℕ → Bool
 mine (Some m) j = m.owner == j
 mine None j = false
 
--- what the owed steps of a call that has ended leave of its job
+-- what the pending steps of a call that has ended leave of its job
 abbrev pub owed_made : List Owed → Whole → Whole
 owed_made [] q = q
 owed_made (Store a w ∷ os) q = owed_made os (with_stores (poke a w ∷ []) q)
@@ -76,7 +77,7 @@ owed_made (Free ∷ os) q = owed_made os q
 abbrev pub held_at : ℕ → ℕ → Held
 held_at place byte = record { place = place; byte = byte }
 
--- the job that a raw job with a frame stands for: what the frame owes is made
+-- the plain job of a raw job with a frame: the pending steps of the frame are performed
 unfoldable pub seen : Option Frame → Whole → Whole
 seen None q = q
 seen (Some (Entered f)) q = q
@@ -90,7 +91,7 @@ seen (Some (Ending f)) q = owed_made f.owed.items q
 abbrev pub seen_jobs : (ℕ → Option Frame) → (ℕ → Option Whole) → ℕ → Option Whole
 seen_jobs frames jobs k = option_map (seen (frames k)) (jobs k)
 
--- the plain machine that a state stands for
+-- the plain machine of a state
 unfoldable pub plain : State → Machine
 plain w = record w.raw { jobs = seen_jobs w.frames w.raw.jobs; files = helped w.mark w.raw.files }
 

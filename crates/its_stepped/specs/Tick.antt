@@ -1,4 +1,5 @@
 -- A tick of a slot on the stepped machine, with its letter (docs/STEPS.md, "A tick").
+-- No promise rests on this.
 use Rattle.std.specs.Prelude.{if◌then◌else◌, ◌==◌, ◌&&◌, ℕ, ◌+◌, Bool, true, false, Option, Some, None, List, Result, Ok, Err, nat_lt}
 use Rattle.its_word.specs.declared.access.Fault.{Fault}
 use Rattle.its_word.specs.declared.calls.Ask.{Ask}
@@ -81,7 +82,7 @@ abbrev pub prepared_on : State → ℕ → Site → Ask → Bool → State
 prepared_on w j s a true = reserving (turn w j same (Some (holding s a (Some 0) 0))) j (Some 0)
 prepared_on w j s a false = turn w j same (Some (holding s a None 0))
 
--- a call on files, before whose commit the owed parts of a marked close are made
+-- a call on files, before whose commit the pending parts of a marked close are performed
 abbrev pub is_disk : Chan → Bool
 is_disk (Reads f at) = true
 is_disk (Writes f) = true

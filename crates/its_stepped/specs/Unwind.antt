@@ -1,5 +1,6 @@
 -- Unwinding a job to user mode, one step at a time (docs/STEPS.md, "Unwinding"; Bawden, "PCLSRing: Keeping
 -- Process State Modular").
+-- No promise rests on this.
 use Rattle.std.specs.Prelude.{ℕ, zero, suc, Bool, true, false, Option, Some, None, List, [], ◌∷◌}
 use Rattle.its_word.specs.declared.calls.Ask.{Ask}
 use Rattle.its_word.specs.declared.calls.Owed.{Owed}
@@ -15,7 +16,7 @@ use Rattle.its_plain.specs.Arguments.{debts}
 use Rattle.its_plain.specs.CallStep.{with_held}
 use Rattle.its_stepped.specs.State.{Part, Mark, State, part_made, mine, helped, held_at, turn, same, reserving, asked, holding, waiting, ending}
 
--- a standing call that owes words stores the first of them; one that owes none drops its frame
+-- a call with pending words that is still there stores the first of them; one without drops its frame
 abbrev pub first_debt : List stores.Store → List stores.Store
 first_debt (s ∷ ss) = s ∷ []
 first_debt [] = []
@@ -40,7 +41,7 @@ with_part (Some m) w = by_parts m.parts
     by_parts [] = w
 with_part None w = w
 
--- the steps that a call that has ended still owes: file steps that were helped are passed over
+-- the pending steps of a call that has ended: file steps that were helped are passed over
 abbrev pub due : Bool → List Owed → List Owed
 due helped [] = []
 due true os = os
@@ -58,7 +59,7 @@ settled w j s a (Link ∷ os) = with_part w.mark (turn w j same (Some (ending s 
 settled w j s a (Free ∷ os) = with_part w.mark (turn w j same (Some (ending s a os)))
 settled w j s a (Leave e ∷ os) = turn w j (leave e) None
 
--- a call that has reserved a page gives it back, and stands as before it was prepared
+-- a call that has reserved a page gives it back, and is as before it was prepared
 abbrev pub given_back : State → ℕ → Site → Ask → Option ℕ → ℕ → State
 given_back w j s a (Some p) n = reserving (turn w j same (Some (asked s a))) j None
 given_back w j s a None n = paid w j a n (holding s a None)
@@ -99,6 +100,6 @@ unfoldable pub all_unwound : List ℕ → State → State
 all_unwound [] w = w
 all_unwound (k ∷ ks) w = all_unwound ks (unwound w k)
 
--- the owed parts of a marked close made
+-- the pending parts of a marked close performed
 unfoldable pub help : State → State
 help w = record w { raw = record w.raw { files = helped w.mark w.raw.files }; mark = None }

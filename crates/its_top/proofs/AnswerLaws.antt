@@ -1,13 +1,12 @@
 -- From what an event comes to and what was written of it to the answer.
 use Rattle.std.specs.Prelude.{◌≡◌, ℕ, ◌+◌, Result, Ok, Err, Option, List, ◌∷◌, ◌++◌}
 use Rattle.std.proofs.Common.{sym, ◌∙◌, ap, subst, append_assoc}
-use Rattle.its_word.specs.Item.{Item, Read}
 use Rattle.its_word.specs.declared.calls.Pace.{Pace}
 use Rattle.its_word.specs.declared.session.Event.{Event}
 use Rattle.its_print.specs.Printing.{text}
 use Rattle.its_plain.specs.Operator.{Block}
 use Rattle.its_stepped.specs.State.{State}
-use Rattle.its_stepped.specs.Lines.{told}
+use Rattle.its_stepped.specs.Lines.{Told}
 use Rattle.its_world.specs.World.{state_of}
 use Rattle.its_world.specs.declared.world.World.{World}
 use Rattle.its_top.specs.declared.shown.Over.{Over}
@@ -15,35 +14,33 @@ use Rattle.its_top.specs.declared.shown.Over.TheVariants as overs
 use Rattle.its_top.specs.declared.shown.Shown.{Shown}
 use Rattle.its_top.specs.declared.turn.Turn.{Turn}
 use Rattle.its_top.specs.declared.turn.Turn.TheVariants as turns
-use Rattle.its_top.specs.Telling.{said, after, BeginsText, items_say, Answers}
+use Rattle.its_top.specs.Telling.{said, after, BeginsText, line_says, Answers}
 use Rattle.its_top.specs.Answer.{WroteFor, Tells, Answered}
 use Rattle.its_top.specs.Performing.{lines_shown, turn_of, told_behind, Performed}
 use Rattle.its_top.proofs.EventLaws.{said_telling}
 
 module _ (r : Result Shown Over) (n : ℕ) (v : State) (b : Block) (e : Event) (ps : List Pace) (w : World) (b' : Block) (p : Performed r v b e ps w b') where
-  says : (items : List Item) → items_say n v b (Read e ∷ items) ≡ after (text (lines_shown n r ps w)) (said (told_behind r (told (n + 1) (state_of w) b' items)))
-  unfolding items_say
-  says items = ap said (p.tells n items) ∙ said_telling (lines_shown n r ps w) (told_behind r (told (n + 1) (state_of w) b' items))
+  says : (next : State → Block → Told) → line_says n v b e next ≡ after (text (lines_shown n r ps w)) (said (told_behind r (next (state_of w) b')))
+  says next = ap said (p.tells n next) ∙ said_telling (lines_shown n r ps w) (told_behind r (next (state_of w) b'))
 
   -- a write that failed
-  begins : (wrote more : List ℕ) → text (lines_shown n r ps w) ≡ wrote ++ more → (items : List Item) → BeginsText (items_say n v b (Read e ∷ items)) wrote
-  begins wrote more h items =
-      let rest = (said (told_behind r (told (n + 1) (state_of w) b' items))).text in
-      record { more = more ++ rest; whole = ap (λ x. x.text) (says items) ∙ ap (λ x. x ++ rest) h ∙ append_assoc wrote more rest }
+  begins : (wrote more : List ℕ) → text (lines_shown n r ps w) ≡ wrote ++ more → (next : State → Block → Told) → BeginsText (line_says n v b e next) wrote
+  begins wrote more h next =
+      let rest = (said (told_behind r (next (state_of w) b'))).text in
+      record { more = more ++ rest; whole = ap (λ x. x.text) (says next) ∙ ap (λ x. x ++ rest) h ∙ append_assoc wrote more rest }
 
 pub answers : (r : Result Shown Over) (n : ℕ) (v : State) (b : Block) (e : Event) (ps : List Pace) (w : World) (b' : Block) → Performed r v b e ps w b'
     → Answers (turn_of r) n v b e (state_of w) b' (text (lines_shown n r ps w))
-unfolding items_say
-answers (Ok s) n v b e ps w b' p = (p.goes, says (Ok s) n v b e ps w b' p, p.stands)
-answers (Err overs.Ended) n v b e ps w b' p = (p.goes, λ items. ap said (p.tells n items))
-answers (Err (overs.Refused q)) n v b e ps w b' p = λ items. ap said (p.tells n items)
+answers (Ok s) n v b e ps w b' p = (p.goes, says (Ok s) n v b e ps w b' p)
+answers (Err overs.Ended) n v b e ps w b' p = (p.goes, λ next. ap said (p.tells n next))
+answers (Err (overs.Refused q)) n v b e ps w b' p = λ next. ap said (p.tells n next)
 
 -- what was to be written, or its beginning
 as_good : (turn good : Turn) (n : ℕ) (v v' : State) (b b' : Block) (e : Event) (l w : List ℕ) → Answers good n v b e v' b' l → turn ≡ good → l ≡ w → Answers turn n v b e v' b' w
 as_good turn good n v v' b b' e l w a h k = subst (λ t. Answers t n v b e v' b' w) (sym h) (subst (Answers good n v b e v' b') k a)
 
 by_turn : (turn good : Turn) (n : ℕ) (v v' : State) (b b' : Block) (e : Event) (l w : List ℕ) → Answers good n v b e v' b' l
-    → ((more : List ℕ) → l ≡ w ++ more → (items : List Item) → BeginsText (items_say n v b (Read e ∷ items)) w) → WroteFor turn good l w → Answers turn n v b e v' b' w
+    → ((more : List ℕ) → l ≡ w ++ more → (next : State → Block → Told) → BeginsText (line_says n v b e next) w) → WroteFor turn good l w → Answers turn n v b e v' b' w
 by_turn turns.Fault good n v v' b b' e l w a f c = f c.0 c.1
 by_turn turns.On good n v v' b b' e l w a f c = as_good turns.On good n v v' b b' e l w a c.0 c.1
 by_turn turns.Ended good n v v' b b' e l w a f c = as_good turns.Ended good n v v' b b' e l w a c.0 c.1

@@ -85,7 +85,7 @@ check_over c f n k r r' left mid rest e y s t h =
 told_fault : (x : Failed) (n : ℕ) (es : List Item) (left : Option (List ℕ)) (read : List ℕ) → ((behind : List Item) → checked (es ++ behind) ≡ checked_from n behind)
     → IfSome left (λ bytes. AllFound (Err x) es bytes read) → IfSome left (λ bytes. FoundIn (Err x) bytes read)
 told_fault x n es None read s a = tt
-told_fault x n es (Some bytes) read s a = subst GoesOn (sym (ap checked (a ∙ sym (append-nil es)) ∙ s [])) tt
+told_fault x n es (Some bytes) read s a = (subst GoesOn (sym (ap checked (a.0 ∙ sym (append-nil es)) ∙ s [])) tt, a.1)
 
 pub check_fault : (x y : Failed) (n : ℕ) (r r' : Items) (left mid rest : Option (List ℕ)) → CheckSoFar r n left mid → Finds (Err x) r r' mid rest → Finding (Err y) left rest
 check_fault x y n r r' left mid rest s t =
@@ -166,7 +166,7 @@ checks st c left rest old new f r = record {
 
 told_broken : (e : Failed) (left : Option (List ℕ)) (read : List ℕ) → IfSome left (λ bytes. FoundIn (Err e) bytes read) → IfSome left (λ bytes. CheckOf statuses.ReadFault bytes read [])
 told_broken e None read f = tt
-told_broken e (Some bytes) read f = (f, refl)
+told_broken e (Some bytes) read f = (f.0, f.1, refl)
 
 pub check_breaks : (e : Failed) (left rest out : Option (List ℕ)) → Finding (Err e) left rest → Check statuses.ReadFault left rest out out
 check_breaks e left rest out f = record {

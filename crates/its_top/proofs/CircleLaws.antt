@@ -2,41 +2,39 @@
 use Rattle.std.specs.Prelude.{◌≡◌, ◌<◌, ◌≤◌, ◌+◌, ◌-◌, ℕ, suc, true, false, Option, Some, None, List, [], ◌∷◌, ◌++◌, refl}
 use Rattle.std.proofs.Common.{sym, ◌∙◌, ap, subst, arith, append_assoc}
 use Rattle.std.proofs.KnownBytes.{Appends-nil, Appends-trans}
-use Rattle.its_word.specs.Item.{Item, Read, InTurn}
+use Rattle.its_word.specs.Item.{Item, Read}
 use Rattle.its_word.specs.declared.session.Event.{Event}
 use Rattle.its_word.specs.declared.session.Event.TheVariants as events
 use Rattle.its_print.specs.Printing.{text_of_line, text}
 use Rattle.its_print.specs.Printing as printed
 use Rattle.its_plain.specs.Operator.{Block}
 use Rattle.its_plain.specs.OperatorLines.{operate, lined}
-use Rattle.its_plain.specs.Unrolled.{runs, turn_after, turns_asked, ticks_asked}
+use Rattle.its_plain.specs.Turns.{runs, turn_after, turns_asked, ticks_asked}
 use Rattle.its_stepped.specs.State.{State}
-use Rattle.its_stepped.specs.Lines.{calmed, paces_of, ticked, told}
-use Rattle.its_stepped.specs.Turns.{turned, turns, Stand, stand_after, followed, turned_from}
+use Rattle.its_stepped.specs.Lines.{Told, calmed, paces_of, ticked, turned_by, turned, told}
 use Rattle.its_top.specs.declared.turn.Turn.{Turn}
 use Rattle.its_top.specs.declared.turn.Turn.TheVariants as outcomes
-use Rattle.its_top.specs.Telling.{Says, said, after, BeginsText, items_say, session_says, Answers, FollowsBy, CircledBy, goes_on}
+use Rattle.its_top.specs.Telling.{Says, said, after, BeginsText, line_says, session_says, Answers, FollowsBy, CircledBy, goes_on}
 use Rattle.its_top.specs.Answer.{WroteFor, Tells, Answered, Follows, Circled, CircleSo}
 use Rattle.its_top.proofs.EventLaws.{after_after, text_one, said_telling}
 use Rattle.its_top.proofs.ConclusionLaws.{on_of}
 
+-- the turns that a line asks for, and the lines after them
+abbrev then : ℕ → Event → ℕ → List Item → State → Block → Told
+then n e i items v b = turned (turns_asked e) (ticks_asked e) v i (λ x l. told (n + 1) x b l items)
+
 -- a line that asks for no turns
-followed_none : (e : Event) (i : ℕ) (items : List Item) (o : Option Stand) (v : State) (b : Block) → turns_asked e ≡ 0 → o ≡ Some (record { state = v; block = b })
-    → followed e i items o (λ w c l. turned_from w c l items) ≡ turned_from v b i items
-followed_none e i items o v b none is =
-    ap (λ x. followed e i items x (λ w c l. turned_from w c l items)) is ∙ ap (λ k. turns k (ticks_asked e) v i (λ w l. turned_from w b l items)) none
+then_none : (n : ℕ) (e : Event) (i : ℕ) (items : List Item) (v : State) (b : Block) → turns_asked e ≡ 0 → said (then n e i items v b) ≡ session_says (n + 1) v b i items
+unfolding session_says
+then_none n e i items v b none = ap (λ k. said (turned k (ticks_asked e) v i (λ x l. told (n + 1) x b l items))) none
 
 follows_by : (turn : Turn) (n : ℕ) (v v' : State) (b b' : Block) (i : ℕ) (e : Event) (w : List ℕ) → turns_asked e ≡ 0 → Answers turn n v b e v' b' w → FollowsBy turn n v b i e v' b' i w
 unfolding session_says
-follows_by outcomes.On n v v' b b' i e w none a = (
-  a.0,
-  λ items. a.1 (followed e i items (stand_after v (calmed v b e) b (lined (calmed v b e).raw b e)) (λ x c l. turned_from x c l items))
-      ∙ ap (λ xs. after w (items_say (n + 1) v' b' xs)) (followed_none e i items _ v' b' none a.2),
-)
-follows_by outcomes.Ended n v v' b b' i e w none a = (a.0, λ items. a.1 (followed e i items (stand_after v (calmed v b e) b (lined (calmed v b e).raw b e)) (λ x c l. turned_from x c l items)))
-follows_by outcomes.Refused n v v' b b' i e w none a = λ items. a (followed e i items (stand_after v (calmed v b e) b (lined (calmed v b e).raw b e)) (λ x c l. turned_from x c l items))
+follows_by outcomes.On n v v' b b' i e w none a = (a.0, λ items. a.1 (then n e i items) ∙ ap (after w) (then_none n e i items v' b' none))
+follows_by outcomes.Ended n v v' b b' i e w none a = (a.0, λ items. a.1 (then n e i items))
+follows_by outcomes.Refused n v v' b b' i e w none a = λ items. a (then n e i items)
 follows_by outcomes.Beyond n v v' b b' i e w none a = a
-follows_by outcomes.Fault n v v' b b' i e w none a = λ items. a (followed e i items (stand_after v (calmed v b e) b (lined (calmed v b e).raw b e)) (λ x c l. turned_from x c l items))
+follows_by outcomes.Fault n v v' b b' i e w none a = λ items. a (then n e i items)
 
 pub line_follows : (turn : Turn) (n : ℕ) (v v' : State) (b b' : Block) (i : ℕ) (e : Event) (old new : Option (List ℕ)) → turns_asked e ≡ 0 → Answered turn n v b e v' b' old new
     → Follows turn n v b i e v' b' i old new
@@ -44,14 +42,14 @@ line_follows turn n v v' b b' i e old new none a = record { wrote = a.wrote; app
 
 -- RUN, and its turns
 run_says : (n : ℕ) (v : State) (b : Block) (i k q : ℕ) (items : List Item)
-    → session_says n v b i (Read (events.Run k q) ∷ items) ≡ items_say (n + 1) v b (turns k q v i (λ w l. turned_from w b l items))
-unfolding session_says items_say calmed lined operate
+    → session_says n v b i (Read (events.Run k q) ∷ items) ≡ said (turned k q v i (λ x l. told (n + 1) x b l items))
+unfolding session_says calmed lined operate
 run_says n v b i k q items = refl
 
 run_by : (turn : Turn) (n : ℕ) (v v' : State) (b : Block) (i j k q : ℕ) (w : List ℕ) → CircledBy turn v i k q v' j w → FollowsBy turn n v b i (events.Run k q) v' b j w
 unfolding session_says
-run_by outcomes.On n v v' b i j k q w c = (refl, λ items. run_says n v b i k q items ∙ c (n + 1) b (λ x l. turned_from x b l items))
-run_by outcomes.Fault n v v' b i j k q w c = λ items. subst (λ s. BeginsText s w) (sym (run_says n v b i k q items)) (c (n + 1) b (λ x l. turned_from x b l items))
+run_by outcomes.On n v v' b i j k q w c = (refl, λ items. run_says n v b i k q items ∙ c (λ x l. told (n + 1) x b l items))
+run_by outcomes.Fault n v v' b i j k q w c = λ items. subst (λ s. BeginsText s w) (sym (run_says n v b i k q items)) (c (λ x l. told (n + 1) x b l items))
 run_by _ n v v' b i j k q w c = absurd c
 
 pub run_follows : (turn : Turn) (n : ℕ) (v v' : State) (b : Block) (i j k q : ℕ) (e : Event) (old new : Option (List ℕ)) → e ≡ events.Run k q → Circled turn v i k q v' j old new
@@ -64,27 +62,23 @@ pub circle_start : (v : State) (i n q : ℕ) (out : Option (List ℕ)) → Circl
 circle_start v i n q out = record {
   wrote = [];
   appended = Appends-nil out;
-  says = λ l b next. (let e : n ≡ n - 0 = omega arith in ap (λ k. items_say l v b (turns k q v i next)) e);
+  says = λ next. (let e : n ≡ n - 0 = omega arith in ap (λ k. said (turned k q v i next)) e);
 }
 
 -- a turn of slot s
-turn_says : (l : ℕ) (v : State) (b : Block) (s q : ℕ) (items : List Item)
-    → items_say l v b (InTurn s q ∷ items) ≡ after (text_of_line (printed.Ticks s (paces_of v s q))) (items_say l (ticked v s q) b items)
-unfolding items_say
-turn_says l v b s q items =
-    said_telling (printed.Ticks s (paces_of v s q) ∷ []) (told l (ticked v s q) b items)
-    ∙ ap (λ t. after t (said (told l (ticked v s q) b items))) (text_one (printed.Ticks s (paces_of v s q)))
+turn_says : (k q : ℕ) (v : State) (i s : ℕ) (next : State → ℕ → Told) → turn_after v.raw i ≡ Some s
+    → said (turned (suc k) q v i next) ≡ after (text_of_line (printed.Ticks s (paces_of v s q))) (said (turned k q (ticked v s q) s next))
+turn_says k q v i s next e =
+    let rest = turned k q (ticked v s q) s next in
+    ap (λ o. said (turned_by o q v (λ x l. turned k q x l next) (next v i))) e
+    ∙ said_telling (printed.Ticks s (paces_of v s q) ∷ []) rest
+    ∙ ap (λ t. after t (said rest)) (text_one (printed.Ticks s (paces_of v s q)))
 
-one_turn : (k q : ℕ) (v : State) (i s : ℕ) (next : State → ℕ → List Item) → turn_after v.raw i ≡ Some s → turns (suc k) q v i next ≡ InTurn s q ∷ turns k q (ticked v s q) s next
-one_turn k q v i s next e = ap (λ o. turned o (λ s. InTurn s q ∷ turns k q (ticked v s q) s next) (next v i)) e
-
-turns_left : (n k q : ℕ) (now : State) (j s : ℕ) (l : ℕ) (b : Block) (next : State → ℕ → List Item) → k < n → turn_after now.raw j ≡ Some s
-    → items_say l now b (turns (n - k) q now j next) ≡ after (text_of_line (printed.Ticks s (paces_of now s q))) (items_say l (ticked now s q) b (turns (n - (k + 1)) q (ticked now s q) s next))
-turns_left n k q now j s l b next below e =
+turns_left : (n k q : ℕ) (now : State) (j s : ℕ) (next : State → ℕ → Told) → k < n → turn_after now.raw j ≡ Some s
+    → said (turned (n - k) q now j next) ≡ after (text_of_line (printed.Ticks s (paces_of now s q))) (said (turned (n - (k + 1)) q (ticked now s q) s next))
+turns_left n k q now j s next below e =
     let one : n - k ≡ suc (n - (k + 1)) = omega arith in
-    ap (λ x. items_say l now b (turns x q now j next)) one
-    ∙ ap (items_say l now b) (one_turn (n - (k + 1)) q now j s next e)
-    ∙ turn_says l now b s q (turns (n - (k + 1)) q (ticked now s q) s next)
+    ap (λ x. said (turned x q now j next)) one ∙ turn_says (n - (k + 1)) q now j s next e
 
 pub circle_turn : (turn : Turn) (v now new : State) (i j s n k q : ℕ) (old mid out : Option (List ℕ)) → k < n → CircleSo v now i j n k q old mid → turn_after now.raw j ≡ Some s
     → new ≡ ticked now s q → goes_on turn ≡ true → Tells turn outcomes.On (text_of_line (printed.Ticks s (paces_of now s q))) mid out → CircleSo v new i s n (k + 1) q old out
@@ -94,13 +88,13 @@ circle_turn turn v now new i j s n k q old mid out below c e f g t =
     record {
       wrote = c.wrote ++ t.wrote;
       appended = Appends-trans old mid out c.wrote t.wrote c.appended t.appended;
-      says = λ l b next.
-          let rest = items_say l (ticked now s q) b (turns (n - (k + 1)) q (ticked now s q) s next) in
-          c.says l b next
-          ∙ ap (after c.wrote) (turns_left n k q now j s l b next below e)
+      says = λ next.
+          let rest = said (turned (n - (k + 1)) q (ticked now s q) s next) in
+          c.says next
+          ∙ ap (after c.wrote) (turns_left n k q now j s next below e)
           ∙ after_after c.wrote w rest
           ∙ ap (λ x. after (c.wrote ++ x) rest) told_all.1
-          ∙ ap (λ x. after (c.wrote ++ t.wrote) (items_say l x b (turns (n - (k + 1)) q x s next))) (sym f);
+          ∙ ap (λ x. after (c.wrote ++ t.wrote) (said (turned (n - (k + 1)) q x s next))) (sym f);
     }
 
 -- its line was not written
@@ -110,13 +104,14 @@ begun_by s t v w more e = record {
   whole = ap (λ (x : Says). x.text) e ∙ append_assoc v (w ++ more) t.text ∙ ap (λ x. v ++ x) (append_assoc w more t.text) ∙ sym (append_assoc v w (more ++ t.text));
 }
 
-circled_by : (turn : Turn) (v now new : State) (i j s n k q : ℕ) (wrote bytes part : List ℕ) → k < n → ((l : ℕ) (b : Block) (next : State → ℕ → List Item) → items_say l v b (turns n q v i next) ≡ after wrote (items_say l now b (turns (n - k) q now j next)))
+circled_by : (turn : Turn) (v now new : State) (i j s n k q : ℕ) (wrote bytes part : List ℕ) → k < n
+    → ((next : State → ℕ → Told) → said (turned n q v i next) ≡ after wrote (said (turned (n - k) q now j next)))
     → turn_after now.raw j ≡ Some s → goes_on turn ≡ false → bytes ≡ text_of_line (printed.Ticks s (paces_of now s q)) → WroteFor turn outcomes.On bytes part → CircledBy turn v i n q new s (wrote ++ part)
-circled_by outcomes.Fault v now new i j s n k q wrote bytes part below says e g h t = λ l b next.
+circled_by outcomes.Fault v now new i j s n k q wrote bytes part below says e g h t = λ next.
     let w = text_of_line (printed.Ticks s (paces_of now s q)) in
-    let rest = items_say l (ticked now s q) b (turns (n - (k + 1)) q (ticked now s q) s next) in
-    begun_by (items_say l v b (turns n q v i next)) rest wrote part t.0
-    (says l b next ∙ ap (after wrote) (turns_left n k q now j s l b next below e) ∙ after_after wrote w rest ∙ ap (λ x. after (wrote ++ x) rest) (sym h ∙ t.1))
+    let rest = said (turned (n - (k + 1)) q (ticked now s q) s next) in
+    begun_by (said (turned n q v i next)) rest wrote part t.0
+    (says next ∙ ap (after wrote) (turns_left n k q now j s next below e) ∙ after_after wrote w rest ∙ ap (λ x. after (wrote ++ x) rest) (sym h ∙ t.1))
 circled_by outcomes.On v now new i j s n k q wrote bytes part below says e g h t = cc
 circled_by outcomes.Ended v now new i j s n k q wrote bytes part below says e g h t = absurd (let x : outcomes.Ended ≡ outcomes.On = t.0 in cc)
 circled_by outcomes.Refused v now new i j s n k q wrote bytes part below says e g h t = absurd (let x : outcomes.Refused ≡ outcomes.On = t.0 in cc)
@@ -131,16 +126,16 @@ circle_fault turn v now new i j s n k q old mid out below c e g t = record {
 }
 
 -- no job runs
-no_turn : (k q : ℕ) (v : State) (i : ℕ) (next : State → ℕ → List Item) → turn_after v.raw i ≡ None → turns (suc k) q v i next ≡ next v i
-no_turn k q v i next e = ap (λ o. turned o (λ s. InTurn s q ∷ turns k q (ticked v s q) s next) (next v i)) e
+no_turn : (k q : ℕ) (v : State) (i : ℕ) (next : State → ℕ → Told) → turn_after v.raw i ≡ None → turned (suc k) q v i next ≡ next v i
+no_turn k q v i next e = ap (λ o. turned_by o q v (λ x l. turned k q x l next) (next v i)) e
 
 pub circle_none : (v now : State) (i j n k q : ℕ) (old out : Option (List ℕ)) → k < n → CircleSo v now i j n k q old out → turn_after now.raw j ≡ None → Circled outcomes.On v i n q now j old out
 circle_none v now i j n k q old out below c e = record {
   wrote = c.wrote;
   appended = c.appended;
-  circled = λ l b next.
+  circled = λ next.
       let one : n - k ≡ suc (n - (k + 1)) = omega arith in
-      c.says l b next ∙ ap (λ x. after c.wrote (items_say l now b (turns x q now j next))) one ∙ ap (λ xs. after c.wrote (items_say l now b xs)) (no_turn (n - (k + 1)) q now j next e);
+      c.says next ∙ ap (λ x. after c.wrote (said (turned x q now j next))) one ∙ ap (λ t. after c.wrote (said t)) (no_turn (n - (k + 1)) q now j next e);
 }
 
 -- all turns were made
@@ -148,7 +143,7 @@ pub circle_end : (v now : State) (i j n k q : ℕ) (old out : Option (List ℕ))
 circle_end v now i j n k q old out over c = record {
   wrote = c.wrote;
   appended = c.appended;
-  circled = λ l b next. (let none : n - k ≡ 0 = omega arith in c.says l b next ∙ ap (λ x. after c.wrote (items_say l now b (turns x q now j next))) none);
+  circled = λ next. (let none : n - k ≡ 0 = omega arith in c.says next ∙ ap (λ x. after c.wrote (said (turned x q now j next))) none);
 }
 
 -- RUN alone asks for turns

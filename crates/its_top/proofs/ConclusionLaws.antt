@@ -22,14 +22,13 @@ use Rattle.its_plain.specs.Operator.{Block}
 use Rattle.its_plain.specs.Own.{names_of}
 use Rattle.its_plain.specs.Transcript.{Fate, Ended, Open, Lost}
 use Rattle.its_stepped.specs.State.{State, no_state}
-use Rattle.its_plain.specs.Unrolled.{highest}
+use Rattle.its_plain.specs.Turns.{highest}
 use Rattle.its_stepped.specs.Lines.{stepped}
-use Rattle.its_stepped.specs.Turns.{with_turns}
 use Rattle.its_top.specs.declared.status.Status.{Status}
 use Rattle.its_top.specs.declared.status.Status.TheVariants as statuses
 use Rattle.its_top.specs.declared.turn.Turn.{Turn}
 use Rattle.its_top.specs.declared.turn.Turn.TheVariants as turns
-use Rattle.its_top.specs.Telling.{Says, said, after, saying, session_says, items_say, goes_on_after, FollowsBy, goes_on}
+use Rattle.its_top.specs.Telling.{Says, said, after, saying, session_says, goes_on_after, FollowsBy, goes_on}
 use Rattle.its_top.specs.Answer.{WroteFor, Tells, Follows, block_of}
 use Rattle.its_top.specs.Conclusion.{IsDone, Finished, Concluded, WasRun, Session, SoFar, status_of, Over, TakenBy, Takes}
 use Rattle.its_top.proofs.EventLaws.{after_after, text_one}
@@ -66,7 +65,7 @@ takes_line turn n v v' b b' i i' f e old new h a =
     subst (λ x. Takes turn n v b i x v' b' i' old new) (sym h) (record { wrote = a.wrote; appended = a.appended; taken = by_answer turn n v v' b b' i i' e a.wrote a.follows })
 
 says_bad : (n : ℕ) (v : State) (b : Block) (i : ℕ) (r : Reason) (behind : List Item) → session_says n v b i (Unread r ∷ behind) ≡ saying (text (Refused n r ∷ [])) Lost
-unfolding items_say session_says
+unfolding session_says
 says_bad n v b i r behind = refl
 
 by_refusal : (turn : Turn) (n : ℕ) (v v' : State) (b b' : Block) (i i' : ℕ) (r : Reason) (l w : List ℕ) → text (Refused n r ∷ []) ≡ l → WroteFor turn turns.Refused l w → TakenBy turn n v b i (founds.Bad r) v' b' i' w
@@ -83,12 +82,12 @@ takes_bad turn n v v' b b' i i' f r old new h t =
     (record { wrote = t.wrote; appended = t.appended; taken = by_refusal turn n v v' b b' i i' r (text_of_line (Refused n r)) t.wrote (text_one (Refused n r)) t.complete })
 
 pub takes_beyond : (n : ℕ) (v v' : State) (b b' : Block) (i i' : ℕ) (f : Found) (out : Option (List ℕ)) → f ≡ founds.Beyond → Takes turns.Beyond n v b i f v' b' i' out out
-unfolding items_say session_says text
+unfolding session_says text
 takes_beyond n v v' b b' i i' f out h =
     subst (λ x. Takes turns.Beyond n v b i x v' b' i' out out) (sym h) (record { wrote = []; appended = Appends-nil out; taken = λ behind l. (refl, refl) })
 
 says_nothing : (n : ℕ) (v : State) (b : Block) (i : ℕ) → session_says n v b i [] ≡ saying [] Open
-unfolding items_say session_says text
+unfolding session_says text
 says_nothing n v b i = refl
 
 pub takes_end : (n : ℕ) (v v' : State) (b b' : Block) (i i' : ℕ) (f : Found) (out : Option (List ℕ)) → f ≡ founds.End → Takes turns.Ended n v b i f v' b' i' out out
@@ -97,8 +96,8 @@ takes_end n v v' b b' i i' f out h =
     (record { wrote = []; appended = Appends-nil out; taken = (refl, λ behind l. saying_ends statuses.Done Open _ [] (ap (session_says n v b i) (l refl) ∙ says_nothing n v b i) (refl, tt)) })
 
 -- the start of a session
-says_all : (n : ℕ) (v : State) (i : ℕ) (behind : List Item) → n ≡ 1 → v ≡ no_state no_machine → i ≡ highest → said (stepped (with_turns behind)) ≡ session_says n v (block_of 0 (names_of 0 0 0)) i behind
-unfolding items_say session_says with_turns
+says_all : (n : ℕ) (v : State) (i : ℕ) (behind : List Item) → n ≡ 1 → v ≡ no_state no_machine → i ≡ highest → said (stepped behind) ≡ session_says n v (block_of 0 (names_of 0 0 0)) i behind
+unfolding session_says
 says_all n v i behind e h l =
     let b = block_of 0 (names_of 0 0 0) in
     ap (λ k. session_says k (no_state no_machine) b highest behind) (sym e) ∙ ap (λ k. session_says n k b highest behind) (sym h) ∙ ap (λ k. session_says n v b k behind) (sym l)
@@ -125,7 +124,7 @@ on_next f n v v' b b' i i' r r' left mid rest old out new s t k = record {
   found = found_on f s.items r r' left mid rest k.taken.0 s.found t;
   wrote = s.wrote ++ k.wrote;
   appended = Appends-trans old out new s.wrote k.wrote s.appended k.appended;
-  says = λ behind. ap (λ x. said (stepped (with_turns x))) (append_assoc s.items (last_items f) behind) ∙ s.says (last_items f ++ behind) ∙ ap (after s.wrote) (k.taken.1 behind)
+  says = λ behind. ap (λ x. said (stepped x)) (append_assoc s.items (last_items f) behind) ∙ s.says (last_items f ++ behind) ∙ ap (after s.wrote) (k.taken.1 behind)
       ∙ after_after s.wrote k.wrote (session_says (n + 1) v' b' i' behind);
 }
 
@@ -158,18 +157,18 @@ was_run turns.Refused = tt
 was_run turns.Beyond = tt
 was_run turns.Fault = tt
 
-as_concluded : (st : Status) (bytes read w : List ℕ) → Finished st (said (stepped (with_turns (events_of bytes)))) w → Concluded st bytes read w
+as_concluded : (st : Status) (bytes read w : List ℕ) → Finished st (said (stepped (events_of bytes))) w → Concluded st bytes read w
 as_concluded statuses.ReadFault bytes read w f = absurd f
 as_concluded statuses.Usage bytes read w f = absurd f
 as_concluded statuses.NoMemory bytes read w f = absurd f
 as_concluded _ bytes read w f = f
 
-told_over : (turn : Turn) (n : ℕ) (v : State) (b : Block) (i : ℕ) (f : Found) (es : List Item) (left : Option (List ℕ)) (read v1 w : List ℕ) → ((behind : List Item) → said (stepped (with_turns (es ++ behind))) ≡ after v1 (session_says n v b i behind))
+told_over : (turn : Turn) (n : ℕ) (v : State) (b : Block) (i : ℕ) (f : Found) (es : List Item) (left : Option (List ℕ)) (read v1 w : List ℕ) → ((behind : List Item) → said (stepped (es ++ behind)) ≡ after v1 (session_says n v b i behind))
     → Over turn n v b i f w → IfSome left (λ bytes. Behind f es bytes) → IfSome left (λ bytes. Concluded (status_of turn) bytes read (v1 ++ w))
 told_over turn n v b i f es None read v1 w s o h = tt
 told_over turn n v b i f es (Some bytes) read v1 w s o h =
     as_concluded (status_of turn) bytes read (v1 ++ w)
-    (finished_after (status_of turn) _ _ v1 w (ap (λ x. said (stepped (with_turns x))) h.all ∙ s (last_items f ++ h.tail)) (o h.tail h.last))
+    (finished_after (status_of turn) _ _ v1 w (ap (λ x. said (stepped x)) h.all ∙ s (last_items f ++ h.tail)) (o h.tail h.last))
 
 told_input : (turn : Turn) (n : ℕ) (v v' : State) (b b' : Block) (i i' : ℕ) (f : Found) (es : List Item) (w : List ℕ) (r r' : Items) (left mid rest : Option (List ℕ)) → goes_on turn ≡ false → TakenBy turn n v b i f v' b' i' w
     → Ready r'.lines rest → FoundSoFar es r left mid → Finds (Ok f) r r' mid rest → status_of turn ≡ statuses.Done → IfSome left (λ bytes. ReadOut bytes rest)
@@ -194,11 +193,13 @@ session_over st turn f n k v v' b b' i i' r r' left mid rest old out new h g e y
     subst (λ x. Session x left rest old new) (sym h) (over_by turn f n v v' b b' i i' r r' left mid rest old out new g y (subst (λ x. SoFar r x v b i left mid old out) e s) t w)
 
 -- the source failed
-told_fault : (x : Failed) (n : ℕ) (v : State) (b : Block) (i : ℕ) (es : List Item) (left : Option (List ℕ)) (read w : List ℕ) → ((behind : List Item) → said (stepped (with_turns (es ++ behind))) ≡ after w (session_says n v b i behind))
+told_fault : (x : Failed) (n : ℕ) (v : State) (b : Block) (i : ℕ) (es : List Item) (left : Option (List ℕ)) (read w : List ℕ) → ((behind : List Item) → said (stepped (es ++ behind)) ≡ after w (session_says n v b i behind))
     → IfSome left (λ bytes. AllFound (Err x) es bytes read) → IfSome left (λ bytes. Concluded statuses.ReadFault bytes read w)
 told_fault x n v b i es None read w s a = tt
-told_fault x n v b i es (Some bytes) read w s a =
-    ap (λ x. said (stepped (with_turns x))) (a ∙ sym (append-nil es)) ∙ s [] ∙ ap (after w) (says_nothing n v b i) ∙ ap (λ t. saying t Open) (append-nil w)
+told_fault x n v b i es (Some bytes) read w s a = (
+  ap (λ x. said (stepped x)) (a.0 ∙ sym (append-nil es)) ∙ s [] ∙ ap (after w) (says_nothing n v b i) ∙ ap (λ t. saying t Open) (append-nil w),
+  a.1,
+)
 
 pub session_fault : (x : Failed) (n : ℕ) (v : State) (b : Block) (i : ℕ) (r r' : Items) (left mid rest old out : Option (List ℕ)) → SoFar r n v b i left mid old out → Finds (Err x) r r' mid rest → Session statuses.ReadFault left rest old out
 session_fault x n v b i r r' left mid rest old out s t =

@@ -6,7 +6,7 @@ use Rattle.std.specs.List.{concat}
 use Rattle.its_word.specs.Item.{Item}
 use Rattle.its_session.specs.Events.{events_of, most_lines}
 use Rattle.its_plain.specs.Transcript.{at_start}
-use Rattle.its_plain.specs.Unrolled.{highest}
+use Rattle.its_plain.specs.Turns.{highest}
 use Rattle.its_reader.specs.TextLines.{in_front, lines_in}
 use Rattle.its_verify.specs.Accepted.{IsFirst}
 use Rattle.its_verify.specs.Judge.{Verdict, Yes, No, judged}
@@ -15,7 +15,8 @@ use Rattle.its_verify.proofs.BoundedLaws.{has_no, has_yes, long_past, no_has, pa
 use Rattle.its_verify.proofs.LinesLaws.{concat_lines}
 use Rattle.its_verify.proofs.PartsLaws.{both_whole, each_way}
 use Rattle.its_verify.proofs.VerdictLaws.{accepted_lines, lines_accepted}
-use Rattle.its_top.specs.Verifying.{IsCut, Why}
+use Rattle.its_top.specs.Promise.{IsCut}
+use Rattle.its_top.specs.Verifying.{Why}
 
 -- the lines behind the first one are those of the bytes behind it
 abbrev Behind : List (List ℕ) → Type 0

@@ -19,7 +19,7 @@ use Rattle.its_verify.specs.Lines.{is_last, is_whole}
 use Rattle.its_verify.specs.Verified.{Both, LongLine, NoEnd, TooMany, is_end_line, is_only, most_session_bytes, parts_from}
 use Rattle.its_verify.proofs.LinesLaws.{AllWhole, concat_lines}
 use Rattle.its_verify.proofs.PartsLaws.{IsSession}
-use Rattle.its_top.specs.Verifying.{EndsSession}
+use Rattle.its_top.specs.Promise.{EndsSession}
 
 -- a line that ends a session, or is refused
 abbrev Stops : Result Event Bad → Type 0

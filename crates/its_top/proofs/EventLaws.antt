@@ -2,7 +2,6 @@
 use Rattle.std.specs.Prelude.{◌≡◌, ◌≢◌, ℕ, ◌+◌, Bool, true, Some, Ok, Err, List, [], ◌∷◌, ◌++◌, refl}
 use Rattle.std.proofs.Common.{sym, ◌∙◌, ap, append_assoc, append-nil}
 use Rattle.std.proofs.lemmas.Grind.{flat_map-append}
-use Rattle.its_word.specs.Item.{Item, Read}
 use Rattle.its_word.specs.declared.calls.Pace.{Pace}
 use Rattle.its_word.specs.declared.session.Event.{Event}
 use Rattle.its_word.specs.declared.session.Event.TheVariants as events
@@ -14,8 +13,7 @@ use Rattle.its_plain.specs.Machine.{Machine}
 use Rattle.its_plain.specs.Operator.{Block, Does, Refuses, Ticks, Quits}
 use Rattle.its_plain.specs.OperatorLines.{Lined, Done, Peeks, operate, lined}
 use Rattle.its_stepped.specs.State.{State}
-use Rattle.its_stepped.specs.Lines.{Told, telling, calmed, with_raw, peeked, paces_of, ticked, told_by, told}
-use Rattle.its_stepped.specs.Turns.{stand_after}
+use Rattle.its_stepped.specs.Lines.{Told, telling, calmed, with_raw, peeked, paces_of, ticked, told_by, line_told}
 use Rattle.its_world.specs.World.{state_of}
 use Rattle.its_world.specs.declared.world.World.{World}
 use Rattle.its_word.specs.Refusals.{reason_of}
@@ -45,15 +43,8 @@ pub record Comes (v : State) (b : Block) (e : Event) (c : State) (o : Lined) : T
   pub calm : calmed v b e ≡ c
   pub is : lined c.raw b e ≡ o
 
-told_comes : (n : ℕ) (v c : State) (b : Block) (e : Event) (o : Lined) (items : List Item) → Comes v b e c o
-    → told n v b (Read e ∷ items) ≡ told_by n v c b o (λ v' b'. told (n + 1) v' b' items)
-told_comes n v c b e o items h =
-    ap (λ x. told_by n v x b (lined x.raw b e) (λ v' b'. told (n + 1) v' b' items)) h.calm
-    ∙ ap (λ x. told_by n v c b x (λ v' b'. told (n + 1) v' b' items)) h.is
-
--- where the stepped machine stands after it
-stands_by : (v c : State) (b : Block) (e : Event) (o : Lined) → Comes v b e c o → stand_after v (calmed v b e) b (lined (calmed v b e).raw b e) ≡ stand_after v c b o
-stands_by v c b e o h = ap (λ x. stand_after v x b (lined x.raw b e)) h.calm ∙ ap (stand_after v c b) h.is
+told_comes : (n : ℕ) (v c : State) (b : Block) (e : Event) (o : Lined) (next : State → Block → Told) → Comes v b e c o → line_told n v b e next ≡ told_by n v c b o next
+told_comes n v c b e o next h = ap (λ x. told_by n v x b (lined x.raw b e) next) h.calm ∙ ap (λ x. told_by n v c b x next) h.is
 
 -- only END ends
 end_goes : (m : Machine) (b : Block) → lined m b events.End ≡ Done Quits
@@ -73,33 +64,30 @@ pub does : (v c : State) (m : Machine) (b b' : Block) (e : Event) (s : Shown) (p
 does v c m b b' e s ps w touched h k f =
     let o : Lined = Done (Does m (lines_of s ps w) touched b') in
     record {
-      tells = λ n items. told_comes n v c b e o items h ∙ ap (λ x. telling (lines_of s ps w) (told (n + 1) x b' items)) (sym k);
+      tells = λ n next. told_comes n v c b e o next h ∙ ap (λ x. telling (lines_of s ps w) (next x b')) (sym k);
       goes = goes_unless c.raw b e (λ x. let l : Done (Does m (lines_of s ps w) touched b') ≡ Done Quits = sym h.is ∙ x in cc);
-      stands = stands_by v c b e o h ∙ ap (λ x. Some (record { state = x; block = b' })) (sym k);
       ready = f;
     }
 
 pub ticks : (v c : State) (b : Block) (e : Event) (s k : ℕ) (ps : List Pace) (w : World) → Comes v b e c (Done (Ticks s k)) → ps ≡ paces_of v s k → state_of w ≡ ticked v s k
     → Performed (Ok (shows.Line (replies.Ticks s))) v b e ps w b
 ticks v c b e s k ps w h f g = record {
-  tells = λ n items. told_comes n v c b e (Done (Ticks s k)) items h
-      ∙ ap (λ x. telling (printed.Ticks s x ∷ []) (told (n + 1) (ticked v s k) b items)) (sym f) ∙ ap (λ x. telling (printed.Ticks s ps ∷ []) (told (n + 1) x b items)) (sym g);
+  tells = λ n next. told_comes n v c b e (Done (Ticks s k)) next h
+      ∙ ap (λ x. telling (printed.Ticks s x ∷ []) (next (ticked v s k) b)) (sym f) ∙ ap (λ x. telling (printed.Ticks s ps ∷ []) (next x b)) (sym g);
   goes = goes_unless c.raw b e (λ x. let l : Done (Ticks s k) ≡ Done Quits = sym h.is ∙ x in cc);
-  stands = stands_by v c b e (Done (Ticks s k)) h ∙ ap (λ x. Some (record { state = x; block = b })) (sym g);
   ready = tt;
 }
 
 pub peeks : (w : World) (c : State) (b : Block) (e : Event) (s : ℕ) (p : Peek) (ps : List Pace) → Comes (state_of w) b e c (Peeks s) → p ≡ peeked (state_of w) s
     → Performed (Ok (shows.Line (replies.Peeked s p))) (state_of w) b e ps w b
 peeks w c b e s p ps h f = record {
-  tells = λ n items. told_comes n (state_of w) c b e (Peeks s) items h ∙ ap (λ x. telling (printed.Peeked s x ∷ []) (told (n + 1) (state_of w) b items)) (sym f);
+  tells = λ n next. told_comes n (state_of w) c b e (Peeks s) next h ∙ ap (λ x. telling (printed.Peeked s x ∷ []) (next (state_of w) b)) (sym f);
   goes = goes_unless c.raw b e (λ x. let l : Peeks s ≡ Done Quits = sym h.is ∙ x in cc);
-  stands = stands_by (state_of w) c b e (Peeks s) h;
   ready = tt;
 }
 
 pub refuses : (v c : State) (b b' : Block) (e : Event) (r : Refusal) (ps : List Pace) (w : World) → Comes v b e c (Done (Refuses (reason_of r))) → Performed (Err (overs.Refused r)) v b e ps w b'
-refuses v c b b' e r ps w h = record { tells = λ n items. told_comes n v c b e (Done (Refuses (reason_of r))) items h; goes = tt; stands = tt; ready = tt }
+refuses v c b b' e r ps w h = record { tells = λ n next. told_comes n v c b e (Done (Refuses (reason_of r))) next h; goes = tt; ready = tt }
 
 pub ends : (v : State) (b b' : Block) (ps : List Pace) (w : World) → Performed (Err overs.Ended) v b events.End ps w b'
-ends v b b' ps w = record { tells = λ n items. told_comes n v v b events.End (Done Quits) items (end_comes v b); goes = refl; stands = tt; ready = tt }
+ends v b b' ps w = record { tells = λ n next. told_comes n v v b events.End (Done Quits) next (end_comes v b); goes = refl; ready = tt }

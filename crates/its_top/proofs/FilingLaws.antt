@@ -16,7 +16,7 @@ use Rattle.its_print.specs.Printing.{Line, text_of_line, text}
 use Rattle.its_print.specs.Printing as printed
 use Rattle.its_files.specs.Files.{Store, entry_at, is_file, names_at, words_at, file_at, directory, helped}
 use Rattle.its_files.proofs.DirectoryLaws.{helped_unmarked}
-use Rattle.its_files.proofs.OrderLaws.{same_self}
+use Rattle.its_word.proofs.NamesLaws.{same_self}
 use Rattle.its_plain.specs.Own.{names_of}
 use Rattle.its_plain.specs.CallFile.{is_full, file_named}
 use Rattle.its_plain.specs.Machine.{Names, File, Machine}

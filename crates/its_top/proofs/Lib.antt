@@ -27,3 +27,5 @@ pub mod VerifyingLaws
 pub mod PeekedLaws
 pub mod EndingLaws
 pub mod VouchedLaws
+pub mod PromiseLaws
+pub mod ClauseLaws

@@ -6,7 +6,6 @@ use Rattle.its_print.specs.Printing.{text}
 use Rattle.its_session.specs.Events.{events_of}
 use Rattle.its_reader.specs.Items.{ReadOut}
 use Rattle.its_stepped.specs.Lines.{stepped}
-use Rattle.its_stepped.specs.Turns.{with_turns}
 use Rattle.its_top.specs.declared.status.Status.{Status}
 use Rattle.its_top.specs.declared.status.Status.TheVariants as statuses
 use Rattle.its_top.specs.declared.commands.Command.{Command}
@@ -17,23 +16,25 @@ use Rattle.its_top.specs.Conclusion.{IsDone, WasRun, Session}
 use Rattle.its_top.specs.Commands.{reads_input, keeps, IfGenerates}
 use Rattle.its_top.specs.Checking.{checked, checked_text, Passes, Fails, StatusFor, WroteText, CheckOf, Check}
 use Rattle.its_top.specs.Generating.{generated_text}
-use Rattle.its_top.specs.Assembling.{Asm}
+use Rattle.its_image.specs.Past.{runs_past}
+use Rattle.its_top.specs.Assembling.{Asm, AsmOf}
 use Rattle.its_top.specs.Verifying.{Verify}
-use Rattle.its_top.specs.Top.{Refrains, usage, Transcribed, Completes, Refuses, RunsOn, Breaks, Begins, CheckPasses, CheckFails, CheckRunsOn, CheckBreaks, DoneFor, Obeyed}
+use Rattle.its_top.specs.Outcomes.{Begins, CheckBreaks, CheckFails, CheckPasses, CheckRunsOn, usage}
+use Rattle.its_top.specs.Top.{DoneFor, Obeyed, Refrains}
 use Rattle.its_top.proofs.TopLaws.{session_done, session_refused, session_too_long, session_breaks, session_begins, session_written, session_transcribed, one_of, session_complete}
+
+pub if_all : (left : Option (List ℕ)) (P : List ℕ → Type 0) → ((b : List ℕ) → P b) → IfSome left P
+if_all None P f = tt
+if_all (Some b) P f = f b
+
+pub if_then : (left : Option (List ℕ)) (P Q : List ℕ → Type 0) → ((b : List ℕ) → P b → Q b) → IfSome left P → IfSome left Q
+if_then None P Q f h = tt
+if_then (Some b) P Q f h = f b h
 
 -- what the commands came to
 as_obeys : (c : Option Command) (st : Status) (left rest old new : Option (List ℕ)) → st ≢ statuses.NoMemory → DoneFor c st left rest old new → Obeyed c st left rest old new
 as_obeys c statuses.NoMemory left rest old new n d = absurd (n refl)
 as_obeys c _ left rest old new n d = record { obeys = d }
-
-pub not_obeyed : (c : Option Command) (left old : Option (List ℕ)) → Obeyed c statuses.NoMemory left left old old
-not_obeyed c left old = record { obeys = by c }
-  where
-    by : (d : Option Command) → Refrains d left left old old
-    by (Some commands.Verify) = refl
-    by (Some commands.Asm) = refl
-    by _ = (refl, refl)
 
 pub obeyed_run : (st : Status) (left rest old new : Option (List ℕ)) → (st ≢ statuses.NoMemory → Session st left rest old new) → (st ≡ statuses.NoMemory → (rest ≡ left) × (new ≡ old))
     → Obeyed (Some commands.Run) st left rest old new
@@ -58,7 +59,7 @@ obeyed_verify statuses.NoMemory left rest old new s = record { obeys = s.unwritt
 obeyed_verify st left rest old new s = as_obeys (Some commands.Verify) st left rest old new (λ k. cc) s
 
 pub obeyed_asm : (st : Status) (left rest old new : Option (List ℕ)) → Asm st left rest old new → Obeyed (Some commands.Asm) st left rest old new
-obeyed_asm statuses.NoMemory left rest old new s = record { obeys = s.unwritten refl }
+obeyed_asm statuses.NoMemory left rest old new s = record { obeys = (s.unwritten refl, if_then left (λ bytes. AsmOf statuses.NoMemory bytes s.read s.wrote) (λ bytes. runs_past bytes ≡ false) (λ bytes h. h.0) s.found) }
 obeyed_asm st left rest old new s = as_obeys (Some commands.Asm) st left rest old new (λ k. cc) s
 
 pub obeyed_by : (c d : Option Command) (st : Status) (left rest old new : Option (List ℕ)) → c ≡ d → Obeyed c st left rest old new → Obeyed d st left rest old new
@@ -75,63 +76,14 @@ done_for d c st left rest old new o e n = go st n (subst (λ x. Obeyed x st left
 kept_memory : (st good : Status) → st ≡ good → good ≢ statuses.NoMemory → st ≢ statuses.NoMemory
 kept_memory st good e n k = n (sym e ∙ k)
 
--- run
-pub run_done : (d : Option Command) (st : Status) (left rest old new : Option (List ℕ)) → Obeyed d st left rest old new → d ≡ Some commands.Run → st ≡ statuses.Done → IfSome left (λ bytes. Completes bytes old new)
-run_done d st left rest old new o c e = session_done st left rest old new e (done_for d (Some commands.Run) st left rest old new o c (λ k. cc))
-
-pub run_refused : (d : Option Command) (st : Status) (left rest old new : Option (List ℕ)) → Obeyed d st left rest old new → d ≡ Some commands.Run → st ≡ statuses.Refused → IfSome left (λ bytes. Refuses bytes old new)
-run_refused d st left rest old new o c e = session_refused st left rest old new e (done_for d (Some commands.Run) st left rest old new o c (λ k. cc))
-
-pub run_too_long : (d : Option Command) (st : Status) (left rest old new : Option (List ℕ)) → Obeyed d st left rest old new → d ≡ Some commands.Run → st ≡ statuses.TooLong → IfSome left (λ bytes. RunsOn bytes old new)
-run_too_long d st left rest old new o c e = session_too_long st left rest old new e (done_for d (Some commands.Run) st left rest old new o c (λ k. cc))
-
-pub run_breaks : (d : Option Command) (st : Status) (left rest old new : Option (List ℕ)) → Obeyed d st left rest old new → d ≡ Some commands.Run → st ≡ statuses.ReadFault → IfSome left (λ bytes. Breaks bytes rest old new)
-run_breaks d st left rest old new o c e = session_breaks st left rest old new e (done_for d (Some commands.Run) st left rest old new o c (λ k. cc))
-
-pub run_begins : (d : Option Command) (st : Status) (left rest old new : Option (List ℕ)) → Obeyed d st left rest old new → d ≡ Some commands.Run → st ≡ statuses.WriteFault
-    → IfSome left (λ bytes. Begins (text (stepped (with_turns (events_of bytes))).lines) old new)
-run_begins d st left rest old new o c e = session_begins st left rest old new e (done_for d (Some commands.Run) st left rest old new o c (λ k. cc))
-
-ended : (st : Status) → ((st ≡ statuses.Done) ⊎ (st ≡ statuses.Refused)) ⊎ (st ≡ statuses.TooLong) → st ≢ statuses.NoMemory
-ended st (inl (inl e)) k = cc
-ended st (inl (inr e)) k = cc
-ended st (inr e) k = cc
-
-pub run_written : (d : Option Command) (st : Status) (left rest old new : Option (List ℕ)) → Obeyed d st left rest old new → d ≡ Some commands.Run
-    → ((st ≡ statuses.Done) ⊎ (st ≡ statuses.Refused)) ⊎ (st ≡ statuses.TooLong) → IfSome left (λ bytes. Appends old new (text (stepped (with_turns (events_of bytes))).lines))
-run_written d st left rest old new o c e = session_written st left rest old new e (done_for d (Some commands.Run) st left rest old new o c (ended st e))
-
-pub run_transcribed : (d : Option Command) (st : Status) (left rest old new : Option (List ℕ)) → Obeyed d st left rest old new → d ≡ Some commands.Run
-    → ((st ≡ statuses.Done) ⊎ (st ≡ statuses.Refused)) ⊎ (st ≡ statuses.TooLong) → IfSome left (λ bytes. Transcribed st bytes old new)
-run_transcribed d st left rest old new o c e = session_transcribed st left rest old new e (done_for d (Some commands.Run) st left rest old new o c (ended st e))
-
-pub if_all : (left : Option (List ℕ)) (P : List ℕ → Type 0) → ((b : List ℕ) → P b) → IfSome left P
-if_all None P f = tt
-if_all (Some b) P f = f b
-
-pub if_then : (left : Option (List ℕ)) (P Q : List ℕ → Type 0) → ((b : List ℕ) → P b → Q b) → IfSome left P → IfSome left Q
-if_then None P Q f h = tt
-if_then (Some b) P Q f h = f b h
-
-pub unrisen : (a b : ℕ) → a ≡ b → a ≡ b + 1 → ⊥
-unrisen a b e f = omega arith
-
-pub run_complete : (d : Option Command) (st : Status) (left rest old new : Option (List ℕ)) (sf tf kf lf : ℕ) → Obeyed d st left rest old new → (st ≡ statuses.ReadFault → tf ≡ sf + 1) → (st ≡ statuses.WriteFault → lf ≡ kf + 1)
-    → d ≡ Some commands.Run → tf ≡ sf → lf ≡ kf → IfSome left (λ bytes. IsDone (stepped (with_turns (events_of bytes))).fate → (st ≡ statuses.Done) ⊎ (st ≡ statuses.NoMemory))
-run_complete d statuses.NoMemory left rest old new sf tf kf lf o r w c e f = if_all left _ (λ b i. inr refl)
-run_complete d st left rest old new sf tf kf lf o r w c e f =
-    if_then left (λ bytes. IsDone (stepped (with_turns (events_of bytes))).fate → st ≡ statuses.Done) _ (λ b h i. inl (h i))
-    (session_complete st left rest old new (λ k. unrisen tf sf e (r k)) (λ k. unrisen lf kf f (w k)) (done_for d (Some commands.Run) st left rest old new o c (λ k. cc)))
-
-pub run_answered : (d : Option Command) (st : Status) (left rest old new : Option (List ℕ)) (sf tf kf lf : ℕ) → Obeyed d st left rest old new → (st ≡ statuses.ReadFault → tf ≡ sf + 1) → (st ≡ statuses.WriteFault → lf ≡ kf + 1)
-    → d ≡ Some commands.Run → tf ≡ sf → lf ≡ kf → IfSome left (λ bytes. Transcribed st bytes old new ⊎ (st ≡ statuses.NoMemory))
-run_answered d statuses.NoMemory left rest old new sf tf kf lf o r w c e f = if_all left _ (λ b. inr refl)
-run_answered d st left rest old new sf tf kf lf o r w c e f =
-    let s = done_for d (Some commands.Run) st left rest old new o c (λ k. cc) in
-    if_then left (λ bytes. Transcribed st bytes old new) _ (λ b h. inl h)
-    (session_transcribed st left rest old new (one_of st left rest old new (λ k. unrisen tf sf e (r k)) (λ k. unrisen lf kf f (w k)) s) s)
-
 -- check
+check_as : (d : Option Command) (st : Status) (left rest old new : Option (List ℕ)) → Obeyed d st left rest old new → d ≡ Some commands.Check → Check st left rest old new
+check_as d st left rest old new o c = by st (subst (λ x. Obeyed x st left rest old new) c o)
+  where
+    by : (t : Status) → Obeyed (Some commands.Check) t left rest old new → Check t left rest old new
+    by statuses.NoMemory o = absurd o.obeys
+    by _ o = o.obeys
+
 check_of : (st good : Status) (left rest old new : Option (List ℕ)) → st ≡ good → Check st left rest old new → Check good left rest old new
 check_of st good left rest old new e c = subst (λ x. Check x left rest old new) e c
 
@@ -160,7 +112,7 @@ check_too_long d st left rest old new o c e =
 told_breaks : (left rest old new : Option (List ℕ)) (k : Check statuses.ReadFault left rest old new) → IfSome left (λ bytes. CheckBreaks bytes rest old new)
 told_breaks None rest old new k = tt
 told_breaks (Some bytes) rest old new k =
-    record { read = k.read; consumed = k.consumed; goes_on = k.found.0; wrote = subst (Appends old new) k.found.1 k.appended }
+    record { read = k.read; consumed = k.consumed; goes_on = k.found.0; limits = k.found.1; wrote = subst (Appends old new) k.found.2 k.appended }
 
 pub check_breaks : (d : Option Command) (st : Status) (left rest old new : Option (List ℕ)) → Obeyed d st left rest old new → d ≡ Some commands.Check → st ≡ statuses.ReadFault → IfSome left (λ bytes. CheckBreaks bytes rest old new)
 check_breaks d st left rest old new o c e = told_breaks left rest old new (found_as st statuses.ReadFault d left rest old new o c e (λ k. cc))
@@ -190,13 +142,17 @@ passing statuses.WriteFault bytes read w r k run f p = absurd (k refl)
 passing statuses.Usage bytes read w r k run f p = absurd run
 passing statuses.NoMemory bytes read w r k run f p = absurd run
 
-pub check_complete : (d : Option Command) (st : Status) (left rest old new : Option (List ℕ)) (sf tf kf lf : ℕ) → Obeyed d st left rest old new → (st ≡ statuses.ReadFault → tf ≡ sf + 1) → (st ≡ statuses.WriteFault → lf ≡ kf + 1)
-    → d ≡ Some commands.Check → tf ≡ sf → lf ≡ kf → IfSome left (λ bytes. Passes (checked (events_of bytes)) → (st ≡ statuses.Done) ⊎ (st ≡ statuses.NoMemory))
-check_complete d statuses.NoMemory left rest old new sf tf kf lf o r w c e f = if_all left _ (λ b i. inr refl)
-check_complete d st left rest old new sf tf kf lf o r w c e f =
-    let k : Check st left rest old new = done_for d (Some commands.Check) st left rest old new o c (λ k. cc) in
-    if_then left (λ bytes. CheckOf st bytes k.read k.wrote) _
-    (λ bytes h p. inl (passing st bytes k.read k.wrote (λ x. unrisen tf sf e (r x)) (λ x. unrisen lf kf f (w x)) k.ran h p)) k.found
+pub check_complete : (d : Option Command) (st : Status) (left rest old new : Option (List ℕ)) → Obeyed d st left rest old new → d ≡ Some commands.Check → st ≢ statuses.ReadFault → st ≢ statuses.WriteFault
+    → IfSome left (λ bytes. Passes (checked (events_of bytes)) → st ≡ statuses.Done)
+check_complete d st left rest old new o c r w =
+    let k : Check st left rest old new = check_as d st left rest old new o c in
+    if_then left (λ bytes. CheckOf st bytes k.read k.wrote) _ (λ bytes h p. passing st bytes k.read k.wrote r w k.ran h p) k.found
+
+pub check_read : (d : Option Command) (st : Status) (left rest old new : Option (List ℕ)) → Obeyed d st left rest old new → d ≡ Some commands.Check → st ≡ statuses.Done → IfSome left (λ bytes. ReadOut bytes rest)
+check_read d st left rest old new o c e = (check_as d st left rest old new o c).input e
+
+pub check_ran : (d : Option Command) (st : Status) (left rest old new : Option (List ℕ)) → Obeyed d st left rest old new → d ≡ Some commands.Check → WasRun st
+check_ran d st left rest old new o c = (check_as d st left rest old new o c).ran
 
 -- gen
 wrote_done : (st : Status) (bytes : List ℕ) (old new : Option (List ℕ)) → st ≡ statuses.Done → WroteText st statuses.Done bytes old new → Appends old new bytes
@@ -221,17 +177,13 @@ by_status statuses.WriteFault bytes w s n = absurd (n refl)
 by_status statuses.Done bytes w s n = refl
 by_status _ bytes w s n = s.0
 
-gen_ends : (st : Status) (n kf lf : ℕ) (left rest old new : Option (List ℕ)) → Obeyed (Some (commands.Gen n)) st left rest old new → (st ≡ statuses.WriteFault → lf ≡ kf + 1) → lf ≡ kf
-    → (st ≡ statuses.Done) ⊎ (st ≡ statuses.NoMemory)
-gen_ends statuses.NoMemory n kf lf left rest old new o w f = inr refl
-gen_ends st n kf lf left rest old new o w f =
+pub gen_ends : (st : Status) (n : ℕ) (left rest old new : Option (List ℕ)) → Obeyed (Some (commands.Gen n)) st left rest old new
+    → ((st ≡ statuses.Done) ⊎ (st ≡ statuses.WriteFault)) ⊎ (st ≡ statuses.NoMemory)
+gen_ends statuses.NoMemory n left rest old new o = inr refl
+gen_ends statuses.WriteFault n left rest old new o = inl (inr refl)
+gen_ends st n left rest old new o =
     let k = (done_for (Some (commands.Gen n)) (Some (commands.Gen n)) st left rest old new o refl (λ k. cc)).0 in
-    inl (by_status st (generated_text n) k.wrote k.complete (λ x. unrisen lf kf f (w x)))
-
-pub gen_complete : (d : Option Command) (st : Status) (left rest old new : Option (List ℕ)) (kf lf : ℕ) → Obeyed d st left rest old new → (st ≡ statuses.WriteFault → lf ≡ kf + 1)
-    → IfGenerates d (λ n. lf ≡ kf → (st ≡ statuses.Done) ⊎ (st ≡ statuses.NoMemory))
-gen_complete (Some (commands.Gen n)) st left rest old new kf lf o w = λ f. gen_ends st n kf lf left rest old new o w f
-gen_complete _ st left rest old new kf lf o w = tt
+    inl (inl (by_status st (generated_text n) k.wrote k.complete (λ k. cc)))
 
 -- words that are no command
 is_none : (d : Option Command) (st : Status) (left rest old new : Option (List ℕ)) → st ≡ statuses.Usage → Obeyed d st left rest old new → d ≡ None
@@ -255,14 +207,14 @@ usage_written d st left rest old new o e =
 pub usage_begins : (d : Option Command) (st : Status) (left rest old new : Option (List ℕ)) → Obeyed d st left rest old new → d ≡ None → st ≡ statuses.WriteFault → Begins usage old new
 usage_begins d st left rest old new o c e = wrote_fault st statuses.Usage usage old new e (done_for d None st left rest old new o c (λ k. cc)).0
 
-usage_ends : (st : Status) (left rest old new : Option (List ℕ)) → Obeyed None st left rest old new → ((st ≡ statuses.Usage) ⊎ (st ≡ statuses.WriteFault)) ⊎ (st ≡ statuses.NoMemory)
-usage_ends statuses.NoMemory left rest old new o = inr refl
-usage_ends statuses.WriteFault left rest old new o = inl (inr refl)
-usage_ends statuses.Usage left rest old new o = inl (inl refl)
-usage_ends _ left rest old new o = inl (inl o.obeys.0.complete.0)
+usage_ends : (st : Status) (left rest old new : Option (List ℕ)) → Obeyed None st left rest old new → (st ≡ statuses.Usage) ⊎ (st ≡ statuses.WriteFault)
+usage_ends statuses.NoMemory left rest old new o = absurd o.obeys
+usage_ends statuses.WriteFault left rest old new o = inr refl
+usage_ends statuses.Usage left rest old new o = inl refl
+usage_ends _ left rest old new o = inl o.obeys.0.complete.0
 
 pub none_obeyed : (d : Option Command) (st : Status) (left rest old new : Option (List ℕ)) → Obeyed d st left rest old new → d ≡ None
-    → ((st ≡ statuses.Usage) ⊎ (st ≡ statuses.WriteFault)) ⊎ (st ≡ statuses.NoMemory)
+    → (st ≡ statuses.Usage) ⊎ (st ≡ statuses.WriteFault)
 none_obeyed d st left rest old new o c = usage_ends st left rest old new (subst (λ x. Obeyed x st left rest old new) c o)
 
 -- a session that was read, and is done
@@ -296,11 +248,15 @@ left_alone _ st left rest old new r n o = cc
 unread_by : (d : Option Command) (left rest old new : Option (List ℕ)) → Refrains d left rest old new → keeps d ≡ false → rest ≡ left
 unread_by (Some commands.Verify) left rest old new m n = cc
 unread_by (Some commands.Asm) left rest old new m n = cc
+unread_by None left rest old new m n = absurd m
+unread_by (Some commands.Check) left rest old new m n = absurd m
 unread_by _ left rest old new m n = m.0
 
 unwritten_by : (d : Option Command) (left rest old new : Option (List ℕ)) → Refrains d left rest old new → new ≡ old
 unwritten_by (Some commands.Verify) left rest old new m = m
-unwritten_by (Some commands.Asm) left rest old new m = m
+unwritten_by (Some commands.Asm) left rest old new m = m.0
+unwritten_by (Some commands.Check) left rest old new m = absurd m
+unwritten_by None left rest old new m = absurd m
 unwritten_by _ left rest old new m = m.1
 
 none_kept : (d : Option Command) → reads_input d ≡ false → keeps d ≡ false

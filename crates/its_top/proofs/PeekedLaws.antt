@@ -1,9 +1,9 @@
 -- What the monitor writes of its peeks is short: their slots and their counts of steps are small numbers.
-use Rattle.std.proofs.Common.{◌≤◌, ◌<◌, ◌+◌, ◌/◌, ◌^◌, ℕ, zero, suc, Bool, true, false, Option, Some, None, Result, Ok, Err, List, [], ◌∷◌, ◌++◌, length, map, drop, ltb, leb, refl, inl, inr, arith}
+use Rattle.std.proofs.Common.{◌≡◌, ◌≤◌, ◌<◌, ◌+◌, ◌/◌, ◌^◌, ℕ, zero, suc, Bool, true, false, Option, Some, None, Result, Ok, Err, List, [], ◌∷◌, ◌++◌, length, map, drop, ltb, leb, refl, inl, inr, arith}
 use Rattle.std.specs.Prelude.{IfOk}
 use Rattle.std.specs.List.{AllByRecursion, list_all}
 use Rattle.std.proofs.lemmas.Bool.{cases_Bool}
-use Rattle.its_word.specs.Item.{Item, Read, Unread, InTurn, Beyond}
+use Rattle.its_word.specs.Item.{Item, Read, Unread, Beyond}
 use Rattle.its_word.specs.Text.{is_code, words_of}
 use Rattle.its_word.specs.declared.session.Bad.{Bad}
 use Rattle.its_word.specs.declared.session.Event.{Event}
@@ -25,15 +25,15 @@ use Rattle.its_plain.specs.Operator.{Block, no_block, Refuses, Does, Ticks, Quit
 use Rattle.its_plain.specs.CallFile.{file_named}
 use Rattle.its_plain.specs.OperatorFiles.{file_shown, filed_line, files_in, rows, shown_by}
 use Rattle.its_plain.specs.OperatorLines.{Lined, Done, Peeks, by_clock, by_exam, by_load, by_state, in_a_line, lined, operate, peeked_at, shows}
-use Rattle.its_plain.specs.Unrolled.{highest, turn_after}
+use Rattle.its_plain.specs.Turns.{highest, turn_after, turns_asked, ticks_asked}
+use Rattle.its_plain.proofs.FairLaws.{turn_within}
+use Rattle.its_word.specs.Limits.{slots}
 use Rattle.its_stepped.specs.Calling.{Decoding}
 use Rattle.its_stepped.specs.Forest.{Forest}
-use Rattle.its_stepped.specs.Lines.{calmed, peeked, stepped, ticked, told, told_by, with_raw}
+use Rattle.its_stepped.specs.Lines.{Told, calmed, peeked, stepped, ticked, turned_by, turned, told, told_by, with_raw}
 use Rattle.its_stepped.specs.Sound.{Sound}
 use Rattle.its_stepped.specs.State.{State, no_state}
 use Rattle.its_stepped.specs.Tick.{tick}
-use Rattle.its_stepped.specs.Turns.{Stand, followed, stand_after, turned, turned_from, with_turns}
-use Rattle.its_stepped.specs.Turns as made
 use Rattle.its_stepped.specs.Unwind.{left}
 use Rattle.its_stepped.proofs.SessionLaws.{HoldsAfter, Upkeep}
 use Rattle.its_stepped.proofs.UnwindLaws.{few_left}
@@ -114,31 +114,6 @@ items_fit whole n place v (line ∷ lines) =
 events_fit : (bytes : List ℕ) → AllFit (events_of bytes)
 unfolding events_of
 events_fit bytes = items_fit true 1 places.First 1 (lines_from true [] bytes)
-
--- the same with the turns of each RUN
-turned_fit : (o : Option ℕ) (turn : ℕ → List Item) (next : List Item) → ((s : ℕ) → AllFit (turn s)) → AllFit next → AllFit (turned o turn next)
-turned_fit (Some s) turn next h k = h s
-turned_fit None turn next h k = k
-
-turns_fit : (n q : ℕ) (w : State) (last : ℕ) (next : State → ℕ → List Item) → ((v : State) (l : ℕ) → AllFit (next v l)) → AllFit (made.turns n q w last next)
-turns_fit zero q w last next h = h w last
-turns_fit (suc n) q w last next h =
-    turned_fit (turn_after w.raw last) (λ s. InTurn s q ∷ made.turns n q (ticked w s q) s next) (next w last) (λ s. (tt, turns_fit n q (ticked w s q) s next h)) (h w last)
-
-followed_fit : (e : Event) (last : ℕ) (es : List Item) (o : Option Stand) (next : State → Block → ℕ → List Item) → AllFit es → ((v : State) (c : Block) (l : ℕ) → AllFit (next v c l))
-    → AllFit (followed e last es o next)
-followed_fit e last es None next h k = h
-followed_fit e last es (Some x) next h k = turns_fit _ _ x.state last (λ w l. next w x.block l) (λ v l. k v x.block l)
-
-turned_from_fit : (w : State) (b : Block) (last : ℕ) (es : List Item) → AllFit es → AllFit (turned_from w b last es)
-turned_from_fit w b last [] h = tt
-turned_from_fit w b last (Read e ∷ es) h =
-    (h.0, followed_fit e last es (stand_after w (calmed w b e) b (lined (calmed w b e).raw b e)) (λ v c l. turned_from v c l es) h.1 (λ v c l. turned_from_fit v c l es h.1))
-turned_from_fit w b last _ h = h
-
-with_turns_fit : (es : List Item) → AllFit es → AllFit (with_turns es)
-unfolding with_turns
-with_turns_fit es h = turned_from_fit (no_state no_machine) no_block highest es h
 
 -- what a line shows is no peek, and one that peeks does so at its slot
 abbrev Shown : Lined → Type 0
@@ -236,25 +211,39 @@ module _ (decoding : Decoding) where
   ticks_small w d i zero lines g h = h d g
   ticks_small w d i (suc k) lines g h = ticks_small (tick w i).state _ i k lines (u.ticks d w i g) h
 
-  line_small : (n : ℕ) (w v : State) (d : Dots) (b : Block) (l : Lined) (es : List Item) → Fine d w → HoldsAfter Fine d v l → Shown l
-      → ((w' : State) (f : Dots) (c : Block) → Fine f w' → AllSmall (told (n + 1) w' c es).lines)
-      → AllSmall (told_by n w v b l (λ w' c. told (n + 1) w' c es)).lines
-  line_small n w v d b (Done (Refuses r)) es g a s h = (tt, tt)
-  line_small n w v d b (Done (Does m out touched c)) es g a s h =
-      small_append out (told (n + 1) (with_raw v m) c es).lines s (h (with_raw v m) (dots_after_line d touched) c a)
-  line_small n w v d b (Done (Ticks i k)) es g a s h = (tt, ticks_small w d i k (λ x. (told (n + 1) x b es).lines) g (λ f good. h (ticked w i k) f b good))
-  line_small n w v d b (Done Quits) es g a s h = tt
-  line_small n w v d b (Peeks i) es g a s h = ((s, peek_small w i g.sound), h w d b g)
+  -- turns, and what follows them
+  abbrev Next : (State → ℕ → Told) → Type 0
+  Next next = (w' : State) (f : Dots) (l : ℕ) → Fine f w' → l < slots → AllSmall (next w' l).lines
 
-  told_small : (n : ℕ) (w : State) (d : Dots) (b : Block) (es : List Item) → Fine d w → AllFit es → AllSmall (told n w b es).lines
-  told_small n w d b [] g fit = tt
-  told_small n w d b (Read e ∷ es) g fit =
-      line_small n w (calmed w b e) d b (lined (calmed w b e).raw b e) es g (u.after d w b e g) (lined_shown (calmed w b e).raw b e fit.0)
-      (λ w' f c good. told_small (n + 1) w' f c es good fit.1)
-  told_small n w d b (InTurn i k ∷ es) g fit = (tt, ticks_small w d i k (λ x. (told n x b es).lines) g (λ f good. told_small n (ticked w i k) f b es good fit.1))
-  told_small n w d b (Unread r ∷ es) g fit = (tt, tt)
-  told_small n w d b (Beyond ∷ es) g fit = tt
+  turn_small : (q last : ℕ) (w : State) (d : Dots) (next : State → ℕ → Told) (done : Told) (o : Option ℕ) → last < slots → turn_after w.raw last ≡ o → Fine d w → Next next
+      → AllSmall done.lines → AllSmall (turned_by o q w next done).lines
+  turn_small q last w d next done None l is g h k = k
+  turn_small q last w d next done (Some s) l is g h k =
+      (tt, ticks_small w d s q (λ x. (next x s).lines) g (λ f good. h (ticked w s q) f s good (turn_within w.raw last s l is)))
+
+  turns_small : (n q last : ℕ) (w : State) (d : Dots) (next : State → ℕ → Told) → last < slots → Fine d w → Next next → AllSmall (turned n q w last next).lines
+  turns_small zero q last w d next l g h = h w d last g l
+  turns_small (suc n) q last w d next l g h =
+      turn_small q last w d (λ v s. turned n q v s next) (next w last) (turn_after w.raw last) l refl g (λ w' f s good at. turns_small n q s w' f next at good h) (h w d last g l)
+
+  line_small : (n : ℕ) (w v : State) (d : Dots) (b : Block) (l : Lined) (next : State → Block → Told) → Fine d w → HoldsAfter Fine d v l → Shown l
+      → ((w' : State) (f : Dots) (c : Block) → Fine f w' → AllSmall (next w' c).lines)
+      → AllSmall (told_by n w v b l next).lines
+  line_small n w v d b (Done (Refuses r)) next g a s h = (tt, tt)
+  line_small n w v d b (Done (Does m out touched c)) next g a s h =
+      small_append out (next (with_raw v m) c).lines s (h (with_raw v m) (dots_after_line d touched) c a)
+  line_small n w v d b (Done (Ticks i k)) next g a s h = (tt, ticks_small w d i k (λ x. (next x b).lines) g (λ f good. h (ticked w i k) f b good))
+  line_small n w v d b (Done Quits) next g a s h = tt
+  line_small n w v d b (Peeks i) next g a s h = ((s, peek_small w i g.sound), h w d b g)
+
+  told_small : (n : ℕ) (w : State) (d : Dots) (b : Block) (last : ℕ) (es : List Item) → last < slots → Fine d w → AllFit es → AllSmall (told n w b last es).lines
+  told_small n w d b last [] l g fit = tt
+  told_small n w d b last (Read e ∷ es) l g fit =
+      line_small n w (calmed w b e) d b (lined (calmed w b e).raw b e) _ g (u.after d w b e g) (lined_shown (calmed w b e).raw b e fit.0)
+      (λ w' f c good. turns_small (turns_asked e) (ticks_asked e) last w' f (λ x i. told (n + 1) x c i es) l good (λ x g i fine at. told_small (n + 1) x g c i es at fine fit.1))
+  told_small n w d b last (Unread r ∷ es) l g fit = (tt, tt)
+  told_small n w d b last (Beyond ∷ es) l g fit = tt
 
   -- the lines of a session
-  pub session_small : (bytes : List ℕ) → AllSmall (stepped (with_turns (events_of bytes))).lines
-  session_small bytes = told_small 1 (no_state no_machine) (λ k. 0) no_block (with_turns (events_of bytes)) u.starts (with_turns_fit (events_of bytes) (events_fit bytes))
+  pub session_small : (bytes : List ℕ) → AllSmall (stepped (events_of bytes)).lines
+  session_small bytes = told_small 1 (no_state no_machine) (λ k. 0) no_block highest (events_of bytes) (omega arith) u.starts (events_fit bytes)

@@ -8,7 +8,7 @@ use Rattle.std.proofs.lemmas.List.{length-take}
 use Rattle.its_word.specs.Console.{Console, most_waiting}
 use Rattle.its_word.specs.Core.{Core, Page, word_at, can_store, page_of}
 use Rattle.its_word.specs.Limits.{most_symbols}
-use Rattle.its_word.specs.Tree.{least_free}
+use Rattle.its_word.specs.Tree.{least_free, no_job}
 use Rattle.its_word.specs.declared.jobs.Job.{Job}
 use Rattle.its_word.specs.declared.session.Event.{Event}
 use Rattle.its_word.specs.declared.session.Event.TheVariants as events
@@ -135,9 +135,9 @@ symbol_same m s name a = go (m.jobs s)
 
 version_same : (m : Machine) (v : ℕ) → (versioned m v).consoles ≡ m.consoles
 unfolding versioned
-version_same m v = go (v == 2)
+version_same m v = go (no_job m.jobs)
   where
-    go : (b : Bool) → (if b then record m { version = 2 } else m).consoles ≡ m.consoles
+    go : (b : Bool) → (if b then record m { version = v } else m).consoles ≡ m.consoles
     go true = refl
     go false = refl
 

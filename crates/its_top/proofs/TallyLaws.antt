@@ -22,8 +22,9 @@ use Rattle.its_plain.specs.Machine.{File, no_machine}
 use Rattle.its_plain.specs.Own.{names_of}
 use Rattle.its_plain.specs.Operator.{Block, no_block}
 use Rattle.its_plain.specs.OperatorFiles.{files_in, filed_line, rows}
+use Rattle.its_plain.specs.Turns.{highest, turns_asked, ticks_asked}
 use Rattle.its_stepped.specs.State.{State, no_state}
-use Rattle.its_stepped.specs.Lines.{Told, told}
+use Rattle.its_stepped.specs.Lines.{Told, telling, turned, told}
 use Rattle.its_world.specs.World.{state_of}
 use Rattle.its_world.specs.declared.world.World.{World}
 use Rattle.its_word.specs.Refusals.{reason_of}
@@ -110,26 +111,33 @@ played_over play v e h = record {
 }
 
 going : (play : Play) (n : ℕ) (v : State) (es : List Event) (all : Tally) → play.over ≡ false → PlaySo play n v es all
-    → plus play.tally (tally (told n v (block_of play.progress.slot play.progress.file) (items_of es)).lines) ≡ all
+    → plus play.tally (tally (told n v (block_of play.progress.slot play.progress.file) highest (items_of es)).lines) ≡ all
 going play n v es all h so = subst (λ o. LeftOf o play.tally n v (block_of play.progress.slot play.progress.file) es all) h so.whole
 
-left_behind : (r : Result Shown Over) (t : Tally) (n : ℕ) (v : State) (b : Block) (es : List Event) (all : Tally) → plus t (tally (told_behind r (told n v b (items_of es))).lines) ≡ all → LeftOf (is_err r) t n v b es all
+left_behind : (r : Result Shown Over) (t : Tally) (n : ℕ) (v : State) (b : Block) (es : List Event) (all : Tally) → plus t (tally (told_behind r (told n v b highest (items_of es))).lines) ≡ all → LeftOf (is_err r) t n v b es all
 left_behind (Ok s) t n v b es all h = h
 left_behind (Err overs.Ended) t n v b es all h = sym (ap (plus t) tally_none ∙ plus_nothing t) ∙ h
 left_behind (Err (overs.Refused e)) t n v b es all h = sym (ap (plus t) tally_none ∙ plus_nothing t) ∙ h
 
-pub played : (r : Result Shown Over) (old new : Play) (v : State) (w : World) (e : Event) (ps : List Pace) (t : Tally) → old.over ≡ false → new.over ≡ is_err r → new.tally ≡ plus old.tally t → t ≡ counted r ps
+-- no event of a generated session asks for turns
+generated_asks : (e : Event) → IsGenerated e → turns_asked e ≡ 0
+generated_asks (events.Run n q) k = absurd k
+generated_asks _ k = refl
+
+pub played : (r : Result Shown Over) (old new : Play) (v : State) (w : World) (e : Event) (ps : List Pace) (t : Tally) → old.over ≡ false → new.over ≡ is_err r → new.tally ≡ plus old.tally t → t ≡ counted r ps → IsGenerated e
     → Performed r v (block_of old.progress.slot old.progress.file) e ps w (block_of new.progress.slot new.progress.file) → PlayedOn old new v (state_of w) e
-played r old new v w e ps t h k s c p = record {
+played r old new v w e ps t h k s c is p = record {
   on = λ n es all so. record {
     whole =
         let b' = block_of new.progress.slot new.progress.file in
-        let behind = told_behind r (told (n + 1) (state_of w) b' (items_of es)) in
+        let next : ℕ → State → Block → Told = λ i x b. turned i (ticks_asked e) x highest (λ y l. told (n + 1) y b l (items_of es)) in
+        let behind = told_behind r (told (n + 1) (state_of w) b' highest (items_of es)) in
         let sum : plus new.tally (tally behind.lines) ≡ all =
         ap (λ x. plus x (tally behind.lines)) (s ∙ ap (plus old.tally) c) ∙ sym (plus_assoc old.tally (counted r ps) (tally behind.lines))
         ∙ ap (λ x. plus old.tally (plus x (tally behind.lines))) (sym (counts_for n r ps w))
         ∙ ap (plus old.tally) (sym (tally_append (lines_shown n r ps w) behind.lines))
-        ∙ ap (λ (x : Told). plus old.tally (tally x.lines)) (sym (p.tells n (items_of es)))
+        ∙ ap (λ (i : ℕ). plus old.tally (tally (telling (lines_shown n r ps w) (told_behind r (next i (state_of w) b'))).lines)) (sym (generated_asks e is))
+        ∙ ap (λ (x : Told). plus old.tally (tally x.lines)) (sym (p.tells n (next (turns_asked e))))
         ∙ going old n v (e ∷ es) all h so in
         subst (λ o. LeftOf o new.tally (n + 1) (state_of w) b' es all) (sym k) (left_behind r new.tally (n + 1) (state_of w) b' es all sum);
   };
@@ -232,8 +240,8 @@ drop_past (y ∷ ys) (suc k) h = drop_past ys k (omega arith)
 pub play_start : (n k : ℕ) (v : State) → v ≡ no_state no_machine → PlaySo (record { progress = record { number = k; slot = 0; file = names_of 0 0 0 }; tally = nothing; over = false }) 1 v (generated_session n) (generated_tally n)
 unfolding generated_tally
 play_start n k v h = record {
-  whole = nothing_plus (tally (told 1 v no_block (items_of (generated_session n))).lines)
-      ∙ ap (λ x. tally (told 1 x no_block (items_of (generated_session n))).lines) h;
+  whole = nothing_plus (tally (told 1 v no_block highest (items_of (generated_session n))).lines)
+      ∙ ap (λ x. tally (told 1 x no_block highest (items_of (generated_session n))).lines) h;
 }
 
 pub play_next : (old new : Play) (v v' : State) (e : Event) (es : List Event) (k : ℕ) (all : Tally) → Some e ≡ slice_get es k → PlaySo old (k + 1) v (drop k es) all

@@ -1,29 +1,23 @@
 -- From how a session ended to the promises of the top call.
-use Rattle.std.specs.Prelude.{◌≡◌, ◌≢◌, ◌<◌, ◌-◌, ◌^◌, ◌⊎◌, ℕ, Option, Some, None, IfSome, List, refl}
-use Rattle.std.proofs.Common.{sym, ◌∙◌, ap, subst, arith, inl, inr}
+use Rattle.std.specs.Prelude.{◌≡◌, ◌≢◌, ◌⊎◌, ℕ, Option, Some, None, IfSome, List, refl}
+use Rattle.std.proofs.Common.{sym, ◌∙◌, ap, subst, inl, inr}
 use Rattle.std.specs.Io.KnownBytes.{Appends}
-use Rattle.its_io.specs.Bytes.{next_fault}
-use Rattle.its_print.specs.Printing.{text}
+use Rattle.its_print.specs.Printing.{Line, text}
 use Rattle.its_session.specs.Events.{events_of}
-use Rattle.its_plain.specs.Transcript.{Fate, Ended, Open, Lost, TooLong, Transcript}
-use Rattle.its_plain.specs.Ledger.{Ledger}
-use Rattle.its_plain.specs.Stretch.{Stretches}
-use Rattle.its_plain.specs.Unrolled.{unrolled}
+use Rattle.its_plain.specs.Transcript.{Fate, Ended, Open, Lost, TooLong}
 use Rattle.its_plain.proofs.FairLaws.{fair_all}
-use Rattle.its_plain.proofs.UnrolledLaws.{unrolled_without}
 use Rattle.its_stepped.specs.Lines.{stepped}
-use Rattle.its_stepped.specs.Turns.{with_turns}
 use Rattle.its_stepped.proofs.DecodingLaws.{decoding}
 use Rattle.its_stepped.proofs.StretchLaws.{stretches}
-use Rattle.its_stepped.proofs.UnrolledLaws.{session_unrolled}
+use Rattle.its_stepped.proofs.RunIntegrityLaws.{integrity}
 use Rattle.its_stepped.proofs.WrittenLaws.{written_transcript}
-use Rattle.its_top.specs.FewDots.{FewDots}
 use Rattle.its_top.proofs.FewDotsLaws.{few_dots}
 use Rattle.its_top.specs.declared.status.Status.{Status}
 use Rattle.its_top.specs.declared.status.Status.TheVariants as statuses
 use Rattle.its_top.specs.Telling.{Says}
 use Rattle.its_top.specs.Conclusion.{IsDone, Session}
-use Rattle.its_top.specs.Top.{answer_of, Transcribed, Completes, Refuses, RunsOn, Breaks, Begins}
+use Rattle.its_top.specs.Promise.{answer_of, Transcribed}
+use Rattle.its_top.specs.Outcomes.{Begins, Breaks, Completes, Refuses, RunsOn, Writes}
 use Rattle.its_top.proofs.LedgerLaws.{ledger}
 
 pub session_done : (st : Status) (left rest old new : Option (List ℕ)) → st ≡ statuses.Done → Session st left rest old new → IfSome left (λ bytes. Completes bytes old new)
@@ -55,12 +49,13 @@ session_breaks st (Some bytes) rest old new e s =
     record {
       read = t.read;
       consumed = t.consumed;
-      open_end = ap (λ (x : Says). x.fate) f;
-      wrote = subst (Appends old new) (sym (ap (λ (x : Says). x.text) f)) t.appended;
+      open_end = ap (λ (x : Says). x.fate) f.0;
+      limits = f.1;
+      wrote = subst (Appends old new) (sym (ap (λ (x : Says). x.text) f.0)) t.appended;
     }
 
 pub session_begins : (st : Status) (left rest old new : Option (List ℕ)) → st ≡ statuses.WriteFault → Session st left rest old new
-    → IfSome left (λ bytes. Begins (text (stepped (with_turns (events_of bytes))).lines) old new)
+    → IfSome left (λ bytes. Begins (text (stepped (events_of bytes)).lines) old new)
 session_begins st None rest old new e s = tt
 session_begins st (Some bytes) rest old new e s =
     let t = subst (λ x. Session x (Some bytes) rest old new) e s in
@@ -69,7 +64,7 @@ session_begins st (Some bytes) rest old new e s =
 
 -- a session that is done or refused, or runs on, wrote its lines, which are a transcript
 pub session_written : (st : Status) (left rest old new : Option (List ℕ)) → ((st ≡ statuses.Done) ⊎ (st ≡ statuses.Refused)) ⊎ (st ≡ statuses.TooLong) → Session st left rest old new
-    → IfSome left (λ bytes. Appends old new (text (stepped (with_turns (events_of bytes))).lines))
+    → IfSome left (λ bytes. Appends old new (text (stepped (events_of bytes)).lines))
 session_written st None rest old new e s = tt
 session_written st (Some bytes) rest old new (inl (inl e)) s = (session_done st (Some bytes) rest old new e s).wrote
 session_written st (Some bytes) rest old new (inl (inr e)) s = (session_refused st (Some bytes) rest old new e s).wrote
@@ -82,39 +77,44 @@ done_answer Lost d = absurd d
 done_answer TooLong d = absurd d
 
 answered : (st : Status) (bytes : List ℕ) (rest old new : Option (List ℕ)) → ((st ≡ statuses.Done) ⊎ (st ≡ statuses.Refused)) ⊎ (st ≡ statuses.TooLong) → Session st (Some bytes) rest old new
-    → st ≡ answer_of (stepped (with_turns (events_of bytes))).fate
+    → st ≡ answer_of (stepped (events_of bytes)).fate
 answered st bytes rest old new (inl (inl e)) s = e ∙ done_answer _ (session_done st (Some bytes) rest old new e s).done
 answered st bytes rest old new (inl (inr e)) s = e ∙ ap answer_of (sym (session_refused st (Some bytes) rest old new e s).lost)
 answered st bytes rest old new (inr e) s = e ∙ ap answer_of (sym (session_too_long st (Some bytes) rest old new e s).too_long)
 
-transcribed : (st : Status) (bytes : List ℕ) (old new : Option (List ℕ)) → st ≡ answer_of (stepped (with_turns (events_of bytes))).fate
-    → Appends old new (text (stepped (with_turns (events_of bytes))).lines) → Transcribed st bytes old new
-transcribed st bytes old new e a =
-    let events = events_of bytes in
-    let items = with_turns events in
-    let lines = (stepped items).lines in
-    let fate = (stepped items).fate in
-    let t = written_transcript decoding items in
-    let turns : unrolled events lines ≡ items = session_unrolled decoding events in
-    record {
-      lines = lines;
-      fate = fate;
-      transcript = subst (λ es. Transcript es lines fate) (sym turns) t;
-      answer = e;
-      ledger = subst (λ es. Ledger es lines) (sym turns) (ledger items lines fate t);
-      stretches = subst (λ es. Stretches es lines) (sym turns) (stretches items lines);
-      dots = subst (λ es. FewDots es lines) (sym turns) (few_dots decoding items);
-      fair = fair_all events lines;
-      turns = sym turns;
-      same = λ none. unrolled_without events lines none;
-      wrote = a;
-    }
+-- the lines that the stepped machine shows of a session
+abbrev shown : List ℕ → List Line
+shown bytes = (stepped (events_of bytes)).lines
+
+abbrev transcribed : (st : Status) (bytes : List ℕ) (old new : Option (List ℕ)) → st ≡ answer_of (stepped (events_of bytes)).fate → Appends old new (text (shown bytes)) → Transcribed st bytes old new
+transcribed st bytes old new e a = record {
+  lines = shown bytes;
+  wrote = a;
+  events = events_of bytes;
+  read = refl;
+  fate = (stepped (events_of bytes)).fate;
+  transcript = written_transcript decoding (events_of bytes);
+  answer = e;
+  ledger = ledger (events_of bytes) (shown bytes) (stepped (events_of bytes)).fate (written_transcript decoding (events_of bytes));
+  stretches = stretches (events_of bytes) (shown bytes);
+  dots = few_dots decoding (events_of bytes);
+  fair = fair_all (events_of bytes) (shown bytes);
+  integrity = integrity (events_of bytes) (shown bytes);
+}
 
 pub session_transcribed : (st : Status) (left rest old new : Option (List ℕ)) → ((st ≡ statuses.Done) ⊎ (st ≡ statuses.Refused)) ⊎ (st ≡ statuses.TooLong) → Session st left rest old new
     → IfSome left (λ bytes. Transcribed st bytes old new)
 session_transcribed st None rest old new e s = tt
 session_transcribed st (Some bytes) rest old new e s =
     transcribed st bytes old new (answered st bytes rest old new e s) (session_written st (Some bytes) rest old new e s)
+
+pub session_writes : (st : Status) (bytes : List ℕ) (rest old new : Option (List ℕ)) → ((st ≡ statuses.Done) ⊎ (st ≡ statuses.Refused)) ⊎ (st ≡ statuses.TooLong) → Session st (Some bytes) rest old new
+    → Writes st bytes old new
+session_writes st bytes rest old new e s = record {
+  transcribed = transcribed st bytes old new (answered st bytes rest old new e s) (session_written st (Some bytes) rest old new e s);
+  lines = refl;
+  wrote = session_written st (Some bytes) rest old new e s;
+}
 
 -- unless an object failed, it is one of the three
 pub one_of : (st : Status) (left rest old new : Option (List ℕ)) → st ≢ statuses.ReadFault → st ≢ statuses.WriteFault → Session st left rest old new
@@ -127,20 +127,12 @@ one_of statuses.WriteFault left rest old new r w s = absurd (w refl)
 one_of statuses.Usage left rest old new r w s = absurd s.ran
 one_of statuses.NoMemory left rest old new r w s = absurd s.ran
 
-unrisen : (a b : ℕ) → b < 2 ^ 64 - 1 → a ≡ b → a ≡ next_fault b → ⊥
-unrisen a b h e f = omega arith
-
-pub session_answered : (st : Status) (left rest old new : Option (List ℕ)) (sf tf kf lf : ℕ) → Session st left rest old new → (st ≡ statuses.ReadFault → tf ≡ next_fault sf) → (st ≡ statuses.WriteFault → lf ≡ next_fault kf)
-    → sf < 2 ^ 64 - 1 → kf < 2 ^ 64 - 1 → tf ≡ sf → lf ≡ kf → IfSome left (λ bytes. Transcribed st bytes old new)
-session_answered st left rest old new sf tf kf lf s r w a b e f =
-    session_transcribed st left rest old new (one_of st left rest old new (λ k. unrisen tf sf a e (r k)) (λ k. unrisen lf kf b f (w k)) s) s
-
 -- a session with nothing against it is done, unless an object failed
 no_fate : (f g : Fate) → IsDone f → f ≡ g → IsDone g
 no_fate f g d e = subst IsDone e d
 
 pub session_complete : (st : Status) (left rest old new : Option (List ℕ)) → st ≢ statuses.ReadFault → st ≢ statuses.WriteFault → Session st left rest old new
-    → IfSome left (λ bytes. IsDone (stepped (with_turns (events_of bytes))).fate → st ≡ statuses.Done)
+    → IfSome left (λ bytes. IsDone (stepped (events_of bytes)).fate → st ≡ statuses.Done)
 session_complete st None rest old new r w s = tt
 session_complete statuses.Done (Some bytes) rest old new r w s = λ d. refl
 session_complete statuses.Refused (Some bytes) rest old new r w s = λ d. absurd (no_fate _ Lost d (s.concluded.1))
@@ -149,7 +141,3 @@ session_complete statuses.ReadFault (Some bytes) rest old new r w s = absurd (r 
 session_complete statuses.WriteFault (Some bytes) rest old new r w s = absurd (w refl)
 session_complete statuses.Usage (Some bytes) rest old new r w s = absurd s.ran
 session_complete statuses.NoMemory (Some bytes) rest old new r w s = absurd s.ran
-
-pub session_finishes : (st : Status) (left rest old new : Option (List ℕ)) (sf tf kf lf : ℕ) → Session st left rest old new → (st ≡ statuses.ReadFault → tf ≡ next_fault sf) → (st ≡ statuses.WriteFault → lf ≡ next_fault kf)
-    → sf < 2 ^ 64 - 1 → kf < 2 ^ 64 - 1 → tf ≡ sf → lf ≡ kf → IfSome left (λ bytes. IsDone (stepped (with_turns (events_of bytes))).fate → st ≡ statuses.Done)
-session_finishes st left rest old new sf tf kf lf s r w a b e f = session_complete st left rest old new (λ k. unrisen tf sf a e (r k)) (λ k. unrisen lf kf b f (w k)) s

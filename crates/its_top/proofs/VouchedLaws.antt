@@ -6,12 +6,9 @@ use Rattle.its_word.specs.declared.show.Peek.{Peek}
 use Rattle.std.specs.Prelude.{bytes_eq}
 use Rattle.std.proofs.lemmas.Slice.Eq.{bytes_eq-Decides}
 use Rattle.its_session.specs.Events.{events_of, most_lines}
-use Rattle.its_plain.specs.Transcript.{Transcript}
 use Rattle.its_reader.specs.TextLines.{lines_in}
 use Rattle.its_stepped.specs.Lines.{stepped}
-use Rattle.its_stepped.specs.Turns.{with_turns}
 use Rattle.its_stepped.proofs.DecodingLaws.{decoding}
-use Rattle.its_stepped.proofs.UnrolledLaws.{session_unrolled}
 use Rattle.its_stepped.proofs.WrittenLaws.{written_transcript}
 use Rattle.its_verify.specs.Accepted.{Accepted}
 use Rattle.its_verify.specs.Lines.{Said, says}
@@ -19,7 +16,7 @@ use Rattle.its_verify.specs.Judge.{Yes}
 use Rattle.its_verify.specs.Verified.{Judged, verified}
 use Rattle.its_verify.proofs.PartsLaws.{session_parts}
 use Rattle.its_verify.proofs.PrintedLaws.{tells_text}
-use Rattle.its_top.specs.Verifying.{EndsSession}
+use Rattle.its_top.specs.Promise.{EndsSession}
 use Rattle.its_top.proofs.CutLaws.{answer_by}
 use Rattle.its_top.proofs.EndingLaws.{is_session, same_events}
 use Rattle.its_top.proofs.PeekedLaws.{AllSmall, Small, session_small}
@@ -53,23 +50,23 @@ texts_whole [] = refl
 texts_whole (l ∷ ls) = ap (λ xs. text_of_line l ++ xs) (texts_whole ls)
 
 -- the text of what a session writes is accepted
-pub run_accepted : (bytes : List ℕ) → Accepted (events_of bytes) (text (stepped (with_turns (events_of bytes))).lines)
+pub run_accepted : (bytes : List ℕ) → Accepted (events_of bytes) (text (stepped (events_of bytes)).lines)
 run_accepted bytes =
     let es = events_of bytes in
-    let told = stepped (with_turns es) in
+    let told = stepped es in
     record {
       lines = told.lines;
       fate = told.fate;
-      transcript = subst (λ items. Transcript items told.lines told.fate) (sym (session_unrolled decoding es)) (written_transcript decoding (with_turns es));
+      transcript = written_transcript decoding es;
       text = record { texts = map text_of_line told.lines; said = lines_said told.lines (session_small decoding bytes); whole = texts_whole told.lines };
     }
 
 -- behind a session with an END line, with which the bytes begin that were run, it is answered Yes
 pub run_verified : (bytes session rest : List ℕ) (count : ℕ) → session ++ rest ≡ bytes → EndsSession session count
-    → count + length (lines_in (text (stepped (with_turns (events_of bytes))).lines)) ≤ most_lines
-    → verified (session ++ text (stepped (with_turns (events_of bytes))).lines) ≡ Judged (Yes (length (lines_in (text (stepped (with_turns (events_of bytes))).lines))))
+    → count + length (lines_in (text (stepped (events_of bytes)).lines)) ≤ most_lines
+    → verified (session ++ text (stepped (events_of bytes)).lines) ≡ Judged (Yes (length (lines_in (text (stepped (events_of bytes)).lines))))
 run_verified bytes session rest count whole s few =
-    let transcript = text (stepped (with_turns (events_of bytes))).lines in
+    let transcript = text (stepped (events_of bytes)).lines in
     let events : events_of bytes ≡ events_of session = ap events_of (sym whole) ∙ same_events session rest count s in
     answer_by (session ++ transcript) (Judged (Yes (length (lines_in transcript))))
     (record {

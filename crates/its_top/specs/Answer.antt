@@ -1,4 +1,5 @@
 -- What the answer to an event gave the sink.
+-- No promise rests on this.
 use Rattle.std.specs.Prelude.{◌≡◌, ◌<◌, ◌+◌, ◌-◌, ℕ, true, is_some, Option, None, Result, Ok, Err, List, [], ◌++◌, take}
 use Rattle.std.specs.Io.KnownBytes.{Appends}
 use Rattle.its_word.specs.declared.session.Event.{Event}
@@ -11,7 +12,7 @@ use Rattle.its_plain.specs.OperatorConsoles.{typed, dropped, drained}
 use Rattle.its_plain.specs.OperatorFiles.{words_added}
 use Rattle.its_stepped.specs.State.{State}
 use Rattle.its_stepped.specs.Unwind.{unwound, help}
-use Rattle.its_stepped.specs.Lines.{with_raw, paces_of, ticked}
+use Rattle.its_stepped.specs.Lines.{Told, turned, with_raw, paces_of, ticked}
 use Rattle.its_word.specs.declared.session.Reason.{Reason}
 use Rattle.its_plain.specs.Operator.{Block}
 use Rattle.its_plain.specs.OperatorJobs.{words_stored, examined}
@@ -20,9 +21,7 @@ use Rattle.its_world.specs.World.{state_of}
 use Rattle.its_world.specs.declared.world.World.{World}
 use Rattle.its_top.specs.declared.turn.Turn.{Turn}
 use Rattle.its_top.specs.declared.turn.Turn.TheVariants as turns
-use Rattle.its_word.specs.Item.{Item}
-use Rattle.its_stepped.specs.Turns as made
-use Rattle.its_top.specs.Telling.{Answers, FollowsBy, CircledBy, after, items_say}
+use Rattle.its_top.specs.Telling.{Answers, FollowsBy, CircledBy, after, said}
 
 -- the block of the slot that the last LOAD line made, and of the file that the last FILE line made
 abbrev pub block_of : ℕ → Names → Block
@@ -55,11 +54,11 @@ pub record Circled (turn : Turn) (v : State) (i n q : ℕ) (v' : State) (j : ℕ
   pub appended : Appends old new wrote
   pub circled : CircledBy turn v i n q v' j wrote
 
--- k of n turns of q ticks were made
+-- k of n turns of q ticks were taken
 pub record CircleSo (v now : State) (i j n k q : ℕ) (old new : Option (List ℕ)) : Type 0 where
   pub wrote : List ℕ
   pub appended : Appends old new wrote
-  pub says : (l : ℕ) (b : Block) (next : State → ℕ → List Item) → items_say l v b (made.turns n q v i next) ≡ after wrote (items_say l now b (made.turns (n - k) q now j next))
+  pub says : (next : State → ℕ → Told) → said (turned n q v i next) ≡ after wrote (said (turned (n - k) q now j next))
 
 -- VERSION finds a machine without jobs
 abbrev pub FindsStart : Event → State → Type 0
@@ -82,24 +81,23 @@ pub record ExamSo (m : Machine) (s a n k : ℕ) (ws : List ℕ) : Type 0 where
   pub whole : examined m s a n ≡ behind ws (examined m s (a + k) (n - k))
   pub there : 0 < k → is_some (m.jobs s) ≡ true
 
--- after k calls that find the job of slot s in user mode, the state is now `now`, where v is the state with the job
--- unwound
+-- after k calls that find the job of slot s in user mode, the state is now `now`; v is the state with the job unwound
 pub record Calm (v now : State) (s k : ℕ) : Type 0 where
   pub found : unwound now s ≡ v
   pub reached : 0 < k → now ≡ v
 
--- after k calls that look at files, the parts of a close that were owed are made
+-- after k calls that look at files, the pending parts of a close are performed
 pub record Looked (old now : World) (k : ℕ) : Type 0 where
   pub found : help (state_of now) ≡ help (state_of old)
   pub reached : 0 < k → state_of now ≡ help (state_of old)
   pub unmarked : 0 < k → now.files.mark ≡ None
 
--- where no part of a close was owed, calls that look at files left the state and the files as they were
+-- if no part of a close was pending, calls that look at files left the state and the files as they were
 pub record Stood (old now : World) : Type 0 where
   pub state : state_of now ≡ state_of old
   pub files : now.files ≡ old.files
 
--- k of these words were added to the file with these names, where v is the state with the parts of a close made
+-- k of these words were added to the file with these names; v is the state with the parts of a close performed
 pub record AddSo (v now : State) (n : Names) (k : ℕ) (words rest : List ℕ) : Type 0 where
   pub raw : help now ≡ with_raw v (help now).raw
   pub reached : 0 < k → now ≡ help now
@@ -111,7 +109,7 @@ pub record WritesSo (lines rest : List Line) (old now : Option (List ℕ)) : Typ
   pub appended : Appends old now wrote
   pub whole : text lines ≡ wrote ++ text rest
 
--- k of these words were stored from an address on, where v is the state with the job of slot s unwound
+-- k of these words were stored from an address on; v is the state with the job of slot s unwound
 pub record LoadSo (v now : State) (s a k : ℕ) (words rest : List ℕ) : Type 0 where
   pub raw : unwound now s ≡ with_raw v (unwound now s).raw
   pub reached : 0 < k → now ≡ unwound now s

@@ -1,14 +1,16 @@
 -- What `its check` finds in a session: it looks at its lines by the grammar alone (docs/SESSION.md, "its check").
+-- No promise rests on this.
 use Rattle.std.specs.Prelude.{if◌then◌else◌, ◌≡◌, ℕ, ◌+◌, ◌-◌, true, false, Option, Some, None, IfSome, IfOk, Result, Ok, Err, List, [], ◌∷◌, ◌++◌, codes}
 use Rattle.std.specs.Io.KnownBytes.{Appends, Consumes}
 use Rattle.its_io.specs.declared.stream.Failed.{Failed}
-use Rattle.its_word.specs.Item.{Item, Read, Unread, InTurn}
+use Rattle.its_word.specs.Item.{Item, Read, Unread}
 use Rattle.its_word.specs.Item as items
 use Rattle.its_print.specs.Printing.{text_of_line}
 use Rattle.its_print.specs.Printing as printed
 use Rattle.its_session.specs.Events.{events_of, whole_events_of}
 use Rattle.its_reader.specs.declared.items.Found.{Found}
 use Rattle.its_reader.specs.declared.items.Items.{Items}
+use Rattle.its_reader.specs.Limits.{WithinLimits}
 use Rattle.its_reader.specs.Items.{is_last, last_items, FoundSoFar, ReadOut}
 use Rattle.its_top.specs.declared.checking.Checked.{Checked}
 use Rattle.its_top.specs.declared.checking.Checked.TheVariants.{Ended, Open, Refused, Beyond}
@@ -22,7 +24,6 @@ use Rattle.its_top.specs.Conclusion.{WasRun}
 abbrev pub checked_from : ℕ → List Item → Checked
 checked_from n [] = Open (n - 1)
 checked_from n (Read e ∷ es) = if goes_on_after e then checked_from (n + 1) es else Ended n
-checked_from n (InTurn s k ∷ es) = checked_from n es
 checked_from n (Unread r ∷ es) = Refused n r
 checked_from n (items.Beyond ∷ es) = Beyond
 
@@ -30,7 +31,7 @@ checked_from n (items.Beyond ∷ es) = Beyond
 unfoldable pub checked : List Item → Checked
 checked es = checked_from 1 es
 
--- what is written of it: `OK n` with the number of lines up to END, or `? n reason`
+-- what is written of a check: `OK n` with the number of lines up to END, or `? n reason`
 abbrev pub checked_text : Checked → List ℕ
 checked_text (Ended n) = count_line (codes "OK") n
 checked_text (Open n) = count_line (codes "OK") n
@@ -58,7 +59,7 @@ GoesOn (Ended n) = ⊥
 GoesOn (Refused n r) = ⊥
 GoesOn Beyond = ⊥
 
--- what was found comes to this: nothing yet, or the end of the check
+-- the result of what was found: nothing yet, or the end of the check
 abbrev pub CheckedBy : Option Checked → ℕ → Found → Type 0
 CheckedBy None n f = (is_last f ≡ false) × ((behind : List Item) → checked_from n (last_items f ++ behind) ≡ checked_from (n + 1) behind)
 CheckedBy (Some c) n f = (is_last f ≡ true) × (checked_from n (last_items f) ≡ c)
@@ -69,10 +70,10 @@ pub record CheckSoFar (r : Items) (n : ℕ) (left rest : Option (List ℕ)) : Ty
   pub found : FoundSoFar items r left rest
   pub checks : (behind : List Item) → checked (items ++ behind) ≡ checked_from n behind
 
--- what was found in the bytes of a source, or in those that were read before it failed
+-- what was found in the bytes of a source, or in those that were read before it failed, which decide nothing
 abbrev pub FoundIn : Result Checked Failed → List ℕ → List ℕ → Type 0
 FoundIn (Ok c) bytes read = checked (events_of bytes) ≡ c
-FoundIn (Err e) bytes read = GoesOn (checked (whole_events_of read))
+FoundIn (Err e) bytes read = GoesOn (checked (whole_events_of read)) × WithinLimits read
 
 pub record Finding (result : Result Checked Failed) (left rest : Option (List ℕ)) : Type 0 where
   pub read : List ℕ
@@ -108,7 +109,7 @@ pub record Reported (status : Status) (c : Checked) (old new : Option (List ℕ)
 
 -- a check of these bytes, of which some were read, has this status, and wrote w
 abbrev pub CheckOf : Status → List ℕ → List ℕ → List ℕ → Type 0
-CheckOf statuses.ReadFault bytes read w = GoesOn (checked (whole_events_of read)) × (w ≡ [])
+CheckOf statuses.ReadFault bytes read w = GoesOn (checked (whole_events_of read)) × WithinLimits read × (w ≡ [])
 CheckOf status bytes read w = CheckedAs status (checked (events_of bytes)) w
 
 -- how a check ended, from what its source had left and had left then, and from what its sink was given

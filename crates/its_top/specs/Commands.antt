@@ -1,10 +1,11 @@
 -- The commands of the program, by the words after its name (docs/SESSION.md, "The program").
-use Rattle.std.specs.Prelude.{if◌then◌else◌, ◌^◌, ◌==◌, ◌&&◌, ℕ, Bool, true, false, Option, Some, None, List, [], ◌∷◌, nat_le, bytes_eq, codes}
+-- No promise rests on this.
+use Rattle.std.specs.Prelude.{if◌then◌else◌, ◌^◌, ◌==◌, ◌&&◌, ℕ, Bool, true, false, Option, Some, None, List, [], ◌∷◌, map, nat_le, bytes_eq, codes, String, string_bytes}
 use Rattle.its_word.specs.Text.{is_octal, octal_value}
 use Rattle.its_top.specs.declared.commands.Command.{Command}
 use Rattle.its_top.specs.declared.commands.Command.TheVariants.{Run, Check, Gen, Verify, Asm}
 
--- `run`, `check`, `verify` and `asm` stand alone
+-- `run`, `check`, `verify` and `asm` are the only word
 abbrev pub bare_command : List ℕ → Option Command
 bare_command w =
     if bytes_eq w (codes "run") then Some Run
@@ -32,6 +33,10 @@ command_of (w ∷ []) = command_by w None
 command_of (w ∷ n ∷ []) = command_by w (Some n)
 command_of [] = None
 command_of (w ∷ n ∷ v ∷ ws) = None
+
+-- the command that is asked for by these words
+abbrev pub asked : {Z : Type 0} → List (String Z) → Option Command
+asked words = command_of (map string_bytes words)
 
 -- a word that begins with `-`
 abbrev pub is_option : List ℕ → Bool

@@ -1,16 +1,17 @@
 -- How a session ends, and what it has written then.
+-- No promise rests on this.
 use Rattle.std.specs.Prelude.{◌≡◌, ℕ, ◌+◌, true, false, Option, IfSome, List, [], ◌++◌}
 use Rattle.std.specs.Io.KnownBytes.{Appends, Consumes}
 use Rattle.its_word.specs.Item.{Item}
 use Rattle.its_session.specs.Events.{events_of, whole_events_of}
 use Rattle.its_reader.specs.declared.items.Found.{Found}
 use Rattle.its_reader.specs.declared.items.Items.{Items}
+use Rattle.its_reader.specs.Limits.{WithinLimits}
 use Rattle.its_reader.specs.Items.{is_last, is_end, last_items, FoundSoFar, ReadOut}
 use Rattle.its_plain.specs.Operator.{Block}
 use Rattle.its_plain.specs.Transcript.{Fate, Ended, Open, Lost, TooLong}
 use Rattle.its_stepped.specs.State.{State}
 use Rattle.its_stepped.specs.Lines.{stepped}
-use Rattle.its_stepped.specs.Turns.{with_turns}
 use Rattle.its_top.specs.declared.status.Status.{Status}
 use Rattle.its_top.specs.declared.status.Status.TheVariants as statuses
 use Rattle.its_top.specs.declared.turn.Turn.{Turn}
@@ -36,8 +37,8 @@ Finished statuses.NoMemory s w = ⊥
 
 -- a session of these bytes, of which some were read, has this status, and wrote w
 abbrev pub Concluded : Status → List ℕ → List ℕ → List ℕ → Type 0
-Concluded statuses.ReadFault bytes read w = said (stepped (with_turns (whole_events_of read))) ≡ saying w Open
-Concluded st bytes read w = Finished st (said (stepped (with_turns (events_of bytes)))) w
+Concluded statuses.ReadFault bytes read w = (said (stepped (whole_events_of read)) ≡ saying w Open) × WithinLimits read
+Concluded st bytes read w = Finished st (said (stepped (events_of bytes))) w
 
 -- a session was begun and ended so
 abbrev pub WasRun : Status → Type 0
@@ -66,7 +67,7 @@ pub record SoFar (r : Items) (n : ℕ) (v : State) (b : Block) (i : ℕ) (left r
   pub found : FoundSoFar items r left rest
   pub wrote : List ℕ
   pub appended : Appends old new wrote
-  pub says : (behind : List Item) → said (stepped (with_turns (items ++ behind))) ≡ after wrote (session_says n v b i behind)
+  pub says : (behind : List Item) → said (stepped (items ++ behind)) ≡ after wrote (session_says n v b i behind)
 
 abbrev pub status_of : Turn → Status
 status_of turns.On = statuses.Done
@@ -75,7 +76,7 @@ status_of turns.Refused = statuses.Refused
 status_of turns.Beyond = statuses.TooLong
 status_of turns.Fault = statuses.WriteFault
 
--- what was found ended the session, whatever comes behind it
+-- what was found ended the session, whatever follows
 abbrev pub Over : Turn → ℕ → State → Block → ℕ → Found → List ℕ → Type 0
 Over turn n v b i f w = (behind : List Item) → (is_last f ≡ true → behind ≡ []) → Finished (status_of turn) (session_says n v b i (last_items f ++ behind)) w
 

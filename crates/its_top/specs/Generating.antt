@@ -1,4 +1,5 @@
 -- What `its gen N` counts in a generated session, and what it writes of it (docs/SESSION.md, "its gen").
+-- No promise rests on this.
 use Rattle.std.specs.Prelude.{◌≡◌, ℕ, ◌+◌, Bool, true, false, Result, Ok, List, [], ◌∷◌, ◌++◌, map, length, codes}
 use Rattle.its_word.specs.Item.{Item, Read}
 use Rattle.its_word.specs.declared.calls.Pace.{Pace}
@@ -8,6 +9,7 @@ use Rattle.its_print.specs.Printing.{Line}
 use Rattle.its_print.specs.Printing as printed
 use Rattle.its_session.specs.Generated.{generated_session}
 use Rattle.its_plain.specs.Operator.{Block}
+use Rattle.its_plain.specs.Turns.{highest}
 use Rattle.its_stepped.specs.State.{State}
 use Rattle.its_stepped.specs.Lines.{told, stepped}
 use Rattle.its_top.specs.declared.generating.Tally.{Tally}
@@ -63,7 +65,7 @@ counts_text lines t = count_line (codes "LINES") lines ++ tally_text t
 unfoldable pub generated_text : ℕ → List ℕ
 generated_text n = counts_text (length (generated_session n)) (generated_tally n)
 
--- what an event counts for, by what it has come to and the letters of its ticks
+-- what an event counts for, by its result and the letters of its ticks
 abbrev pub counted : Result Shown Over → List Pace → Tally
 counted (Ok (shows.Line r)) ps = tally_of (line_of r ps)
 counted _ ps = nothing
@@ -71,7 +73,7 @@ counted _ ps = nothing
 -- what is counted so far, with what the events from line number n on count for, is all
 abbrev pub LeftOf : Bool → Tally → ℕ → State → Block → List Event → Tally → Type 0
 LeftOf true t n v b es all = t ≡ all
-LeftOf false t n v b es all = plus t (tally (told n v b (items_of es)).lines) ≡ all
+LeftOf false t n v b es all = plus t (tally (told n v b highest (items_of es)).lines) ≡ all
 
 pub record PlaySo (play : Play) (n : ℕ) (v : State) (es : List Event) (all : Tally) : Type 0 where
   pub whole : LeftOf play.over play.tally n v (block_of play.progress.slot play.progress.file) es all

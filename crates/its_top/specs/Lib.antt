@@ -8,6 +8,7 @@ pub mod Assembling
 pub mod Verifying
 pub mod Performing
 pub mod Generating
-pub mod FewDots
+pub mod Promise
+pub mod Outcomes
 pub mod Top
 pub mod Causes

@@ -1,7 +1,7 @@
--- What an event that was performed comes to: what it shows, and where the session then stands.
+-- The result of an event that was performed: what it shows, and the state of the session after it.
+-- No promise rests on this.
 use Rattle.std.specs.Prelude.{◌≡◌, ◌<◌, ◌^◌, ℕ, ◌+◌, true, false, Some, Result, Ok, Err, IfOk, OnOk, None, List, [], ◌∷◌, length}
 use Rattle.its_files.specs.Files.{entry_at, is_file, words_at}
-use Rattle.its_word.specs.Item.{Item, Read}
 use Rattle.its_word.specs.declared.calls.Pace.{Pace}
 use Rattle.its_word.specs.declared.session.Event.{Event}
 use Rattle.its_word.specs.declared.session.Refusal.{Refusal}
@@ -9,11 +9,9 @@ use Rattle.its_print.specs.Printing.{Line, Refused}
 use Rattle.its_print.specs.Printing as printed
 use Rattle.its_plain.specs.Operator.{Block}
 use Rattle.its_plain.specs.OperatorFiles.{files_in, listing, shown_lines}
-use Rattle.its_plain.specs.OperatorLines.{lined}
 use Rattle.its_plain.specs.Transcript.{Ended, Lost}
 use Rattle.its_stepped.specs.State.{State}
-use Rattle.its_stepped.specs.Lines.{Told, telling, told, calmed}
-use Rattle.its_stepped.specs.Turns.{stand_after}
+use Rattle.its_stepped.specs.Lines.{Told, telling, line_told}
 use Rattle.its_world.specs.World.{state_of}
 use Rattle.its_world.specs.declared.world.World.{World}
 use Rattle.its_word.specs.Refusals.{reason_of}
@@ -27,7 +25,7 @@ use Rattle.its_top.specs.declared.turn.Turn.{Turn}
 use Rattle.its_top.specs.declared.turn.Turn.TheVariants as turns
 use Rattle.its_top.specs.Telling.{goes_on_after}
 
--- a line, where these are the letters of the ticks
+-- a line, if these are the letters of the ticks
 abbrev pub line_of : Reply → List Pace → Line
 line_of (replies.Loaded s) ps = printed.Loaded s
 line_of (replies.Ticks s) ps = printed.Ticks s ps
@@ -45,14 +43,14 @@ lines_of (shows.Listed s a words) ps w = printed.listed s a words.items
 lines_of (shows.Files d n) ps w = listing d (files_in d (state_of w).raw.files)
 lines_of (shows.File id d x y) ps w = shown_lines d x y (words_at w.files id)
 
--- words that are typed out begin at an address; the files that are shown are there, and no part of a close is owed
+-- words that are typed out begin at an address; the files that are shown exist, and no part of a close is pending
 abbrev pub Ready : Shown → World → Type 0
 Ready (shows.Listed s a words) w = a < 2 ^ 18
 Ready (shows.Files d n) w = (w.files.mark ≡ None) × (n ≡ length (files_in d (state_of w).raw.files))
 Ready (shows.File id d x y) w = (w.files.mark ≡ None) × (is_file (entry_at w.files id) ≡ true)
 Ready s w = Unit {0}
 
--- the lines of line n of a session behind which it is over, and its turn
+-- the lines of line n of a session that ends with it, and its turn
 abbrev pub lines_over : ℕ → Over → List Line
 lines_over n overs.Ended = []
 lines_over n (overs.Refused e) = Refused n (reason_of e) ∷ []
@@ -61,7 +59,7 @@ abbrev pub turn_over : Over → Turn
 turn_over overs.Ended = turns.Ended
 turn_over (overs.Refused e) = turns.Refused
 
--- the lines of line n of a session, its turn, and what is told from it on
+-- the lines of line n of a session, its turn, and what the session shows from it on
 abbrev pub lines_shown : ℕ → Result Shown Over → List Pace → World → List Line
 lines_shown n (Ok s) ps w = lines_of s ps w
 lines_shown n (Err over) ps w = lines_over n over
@@ -81,14 +79,13 @@ GoesBy (Ok s) e = goes_on_after e ≡ true
 GoesBy (Err overs.Ended) e = goes_on_after e ≡ false
 GoesBy (Err (overs.Refused r)) e = Unit {0}
 
--- in state v an event came to this; world w and block b' are left, and these are the letters of the ticks
+-- in state v an event had this result; world w and block b' are left, and these are the letters of the ticks
 pub record Performed (r : Result Shown Over) (v : State) (b : Block) (e : Event) (ps : List Pace) (w : World) (b' : Block) : Type 0 where
-  pub tells : (n : ℕ) (items : List Item) → told n v b (Read e ∷ items) ≡ telling (lines_shown n r ps w) (told_behind r (told (n + 1) (state_of w) b' items))
+  pub tells : (n : ℕ) (next : State → Block → Told) → line_told n v b e next ≡ telling (lines_shown n r ps w) (told_behind r (next (state_of w) b'))
   pub goes : GoesBy r e
-  pub stands : OnOk r (stand_after v (calmed v b e) b (lined (calmed v b e).raw b e) ≡ Some (record { state = state_of w; block = b' }))
   pub ready : IfOk r (λ s. Ready s w)
 
--- what an event comes to whose call answers nothing
+-- the result of an event whose call answers nothing
 abbrev pub quiet : {T : Type 0} → Result T Refusal → Result Shown Over
 quiet (Ok x) = Ok shows.Nothing
 quiet (Err e) = Err (overs.Refused e)

@@ -1,4 +1,5 @@
 -- What a session writes from some point on, over its items.
+-- No promise rests on this.
 use Rattle.std.specs.Prelude.{◌≡◌, ℕ, ◌+◌, Bool, true, false, Some, List, ◌∷◌, ◌++◌}
 use Rattle.its_word.specs.Item.{Item, Read}
 use Rattle.its_word.specs.declared.session.Event.{Event}
@@ -7,10 +8,7 @@ use Rattle.its_print.specs.Printing.{text}
 use Rattle.its_plain.specs.Operator.{Block}
 use Rattle.its_plain.specs.Transcript.{Fate, Ended, Lost}
 use Rattle.its_stepped.specs.State.{State}
-use Rattle.its_plain.specs.OperatorLines.{lined}
-use Rattle.its_stepped.specs.Lines.{Told, told, calmed}
-use Rattle.its_stepped.specs.Turns.{stand_after, turned_from}
-use Rattle.its_stepped.specs.Turns as made
+use Rattle.its_stepped.specs.Lines.{Told, line_told, turned, told}
 use Rattle.its_top.specs.declared.turn.Turn.{Turn}
 use Rattle.its_top.specs.declared.turn.Turn.TheVariants as turns
 
@@ -34,13 +32,13 @@ pub record BeginsText (s : Says) (w : List ℕ) : Type 0 where
   pub more : List ℕ
   pub whole : s.text ≡ w ++ more
 
--- what is written from line number n on, for these items
-unfoldable pub items_say : ℕ → State → Block → List Item → Says
-items_say n v b items = said (told n v b items)
-
--- the same for the lines of a session, where the turns of each RUN follow it, and a slot had the last turn
+-- what is written from line number n on, for these items, after a turn of slot `last`
 unfoldable pub session_says : ℕ → State → Block → ℕ → List Item → Says
-session_says n v b last items = items_say n v b (turned_from v b last items)
+session_says n v b last items = said (told n v b last items)
+
+-- what is written of line n, and then of what follows it
+abbrev pub line_says : ℕ → State → Block → Event → (State → Block → Told) → Says
+line_says n v b e next = said (line_told n v b e next)
 
 -- an event other than END
 abbrev pub goes_on_after : Event → Bool
@@ -51,14 +49,13 @@ goes_on_after _ = true
 -- by END or by a refused line, or a write failed
 abbrev pub Answers : Turn → ℕ → State → Block → Event → State → Block → List ℕ → Type 0
 Answers turns.On n v b e v' b' w =
-    (goes_on_after e ≡ true) × ((items : List Item) → items_say n v b (Read e ∷ items) ≡ after w (items_say (n + 1) v' b' items))
-    × (stand_after v (calmed v b e) b (lined (calmed v b e).raw b e) ≡ Some (record { state = v'; block = b' }))
-Answers turns.Ended n v b e v' b' w = (goes_on_after e ≡ false) × ((items : List Item) → items_say n v b (Read e ∷ items) ≡ saying w Ended)
-Answers turns.Refused n v b e v' b' w = (items : List Item) → items_say n v b (Read e ∷ items) ≡ saying w Lost
+    (goes_on_after e ≡ true) × ((next : State → Block → Told) → line_says n v b e next ≡ after w (said (next v' b')))
+Answers turns.Ended n v b e v' b' w = (goes_on_after e ≡ false) × ((next : State → Block → Told) → line_says n v b e next ≡ saying w Ended)
+Answers turns.Refused n v b e v' b' w = (next : State → Block → Told) → line_says n v b e next ≡ saying w Lost
 Answers turns.Beyond n v b e v' b' w = ⊥
-Answers turns.Fault n v b e v' b' w = (items : List Item) → BeginsText (items_say n v b (Read e ∷ items)) w
+Answers turns.Fault n v b e v' b' w = (next : State → Block → Told) → BeginsText (line_says n v b e next) w
 
--- the same of a line with the turns that it asks for, where slot i had the last turn before them, and slot j has it
+-- the same of a line with the turns that it asks for, when slot i had the last turn before them, and slot j has it
 -- then
 abbrev pub FollowsBy : Turn → ℕ → State → Block → ℕ → Event → State → Block → ℕ → List ℕ → Type 0
 FollowsBy turns.On n v b i e v' b' j w =
@@ -68,11 +65,10 @@ FollowsBy turns.Refused n v b i e v' b' j w = (items : List Item) → session_sa
 FollowsBy turns.Beyond n v b i e v' b' j w = ⊥
 FollowsBy turns.Fault n v b i e v' b' j w = (items : List Item) → BeginsText (session_says n v b i (Read e ∷ items)) w
 
--- up to n turns of q ticks were made, whatever follows them: all of them, or a write failed
+-- up to n turns of q ticks were taken, whatever follows them: all of them, or a write failed
 abbrev pub CircledBy : Turn → State → ℕ → ℕ → ℕ → State → ℕ → List ℕ → Type 0
-CircledBy turns.On v i n q v' j w = (k : ℕ) (b : Block) (next : State → ℕ → List Item) → items_say k v b (made.turns n q v i next) ≡ after w (items_say k v' b (next v' j))
-CircledBy turns.Fault v i n q v' j w =
-    (k : ℕ) (b : Block) (next : State → ℕ → List Item) → BeginsText (items_say k v b (made.turns n q v i next)) w
+CircledBy turns.On v i n q v' j w = (next : State → ℕ → Told) → said (turned n q v i next) ≡ after w (said (next v' j))
+CircledBy turns.Fault v i n q v' j w = (next : State → ℕ → Told) → BeginsText (said (turned n q v i next)) w
 CircledBy turn v i n q v' j w = ⊥
 
 abbrev pub goes_on : Turn → Bool

@@ -1,29 +1,16 @@
--- What `its verify` comes to (docs/SESSION.md, "its verify").
+-- The result of `its verify` (docs/SESSION.md, "its verify").
+-- No promise rests on this.
 use Rattle.std.specs.Prelude.{◌≡◌, ◌≢◌, ◌≤◌, ◌<◌, ◌⊎◌, ℕ, ◌+◌, Option, Some, IfSome, List, [], ◌∷◌, ◌++◌, length}
 use Rattle.std.specs.Io.KnownBytes.{Appends}
 use Rattle.its_session.specs.Events.{events_of, most_lines}
 use Rattle.its_reader.specs.TextLines.{lines_in}
 use Rattle.its_verify.specs.Accepted.{Accepted, IsFirst}
+use Rattle.its_verify.specs.Finds.{Breaks}
 use Rattle.its_verify.specs.Judge.{Yes, No}
 use Rattle.its_verify.specs.Verified.{Answer, Judged, Long, Cut, TooLong, Both, LongLine, NoEnd, TooMany, parts_from, verified, answer_text}
+use Rattle.its_top.specs.Promise.{IsCut, Licensed}
 use Rattle.its_top.specs.declared.status.Status.{Status}
 use Rattle.its_top.specs.declared.status.Status.TheVariants as statuses
-
--- an input, cut behind its first END line: the bytes of the session, which are so many lines, and those of the
--- transcript
-pub record IsCut (bytes session : List ℕ) (count : ℕ) (transcript : List ℕ) : Type 0 where
-  pub whole : session ++ transcript ≡ bytes
-  pub parts : parts_from 1 [] (lines_in bytes) ≡ Both session count (lines_in transcript)
-
--- the transcript of n lines is one of the session, and there is room for both
-pub record Licensed (bytes : List ℕ) (n : ℕ) : Type 0 where
-  pub session : List ℕ
-  pub count : ℕ
-  pub transcript : List ℕ
-  pub cut : IsCut bytes session count transcript
-  pub accepted : Accepted (events_of session) transcript
-  pub lines : n ≡ length (lines_in transcript)
-  pub room : count + n ≤ most_lines
 
 -- line n of the transcript is the first that is not licensed, or that is missing, and there is room for all lines or
 -- for this one
@@ -44,12 +31,6 @@ pub record PastRoom (bytes : List ℕ) : Type 0 where
   pub more : most_lines < count + length (lines_in transcript)
   pub none : (n : ℕ) → IsFirst (events_of session) (lines_in transcript) n → most_lines < count + n
 
--- a session of so many lines that ends with its END line and the LF of that line
-pub record EndsSession (session : List ℕ) (count : ℕ) : Type 0 where
-  pub parts : parts_from 1 [] (lines_in session) ≡ Both session count []
-  pub before : List ℕ
-  pub last : session ≡ before ++ 10 ∷ []
-
 -- what of an input makes this its answer
 abbrev pub Why : List ℕ → Answer → Type 0
 Why bytes (Judged (Yes n)) = Licensed bytes n
@@ -66,7 +47,7 @@ status_of (Long n) = statuses.Refused
 status_of (Cut n) = statuses.Refused
 status_of TooLong = statuses.TooLong
 
--- an answer that was to be told has this status, and w was written
+-- an answer that was to be written has this status, and w was written
 abbrev pub ToldAs : Status → Answer → List ℕ → Type 0
 ToldAs statuses.WriteFault a w = (more : List ℕ) × (answer_text a ≡ w ++ more)
 ToldAs statuses.Usage a w = ⊥
@@ -79,17 +60,18 @@ pub record TellsAnswer (status : Status) (a : Answer) (old new : Option (List �
   pub appended : Appends old new wrote
   pub told : ToldAs status a wrote
 
--- a verification of these bytes has this status, and wrote w: nothing where the source failed or memory was refused
-abbrev pub VerifyOf : Status → List ℕ → List ℕ → Type 0
-VerifyOf statuses.ReadFault bytes w = w ≡ []
-VerifyOf statuses.NoMemory bytes w = w ≡ []
-VerifyOf status bytes w = ToldAs status (verified bytes) w
+-- a verification of these bytes has this status, and wrote w: nothing where the source failed, whose bytes that were read decide nothing, or
+-- where memory was refused
+abbrev pub VerifyOf : Status → List ℕ → Option (List ℕ) → List ℕ → Type 0
+VerifyOf statuses.ReadFault bytes rest w = Breaks bytes rest × (w ≡ [])
+VerifyOf statuses.NoMemory bytes rest w = w ≡ []
+VerifyOf status bytes rest w = ToldAs status (verified bytes) w
 
 -- how a verification ended, from what its source had left and had left then, and from what its sink was given
 pub record Verify (status : Status) (left rest old new : Option (List ℕ)) : Type 0 where
   pub wrote : List ℕ
   pub appended : Appends old new wrote
   pub ran : status ≢ statuses.Usage
-  pub found : IfSome left (λ bytes. VerifyOf status bytes wrote)
+  pub found : IfSome left (λ bytes. VerifyOf status bytes rest wrote)
   pub input : status ≡ statuses.Done → IfSome left (λ bytes. rest ≡ Some [])
   pub unwritten : (status ≡ statuses.NoMemory) ⊎ (status ≡ statuses.ReadFault) → new ≡ old

@@ -41,7 +41,7 @@ pub fn answer<K: Sink>(
     print(m, number, &performed, runs, out)
 }
 
-/// Ticks a slot n times, and writes the `T` line of the letters. What stood in the room for them is gone.
+/// Ticks a slot n times, and writes the `T` line of the letters. The room for the letters loses what it had before.
 #[tactic(auto, using(crate::proofs::WritingLaws::told_as))]
 pub fn tick_line<K: Sink>(m: &mut Monitor, s: u8, n: u32, runs: &mut Runs, out: &mut K) -> Turn
     requires sound { Kept m.old.world }

@@ -1,4 +1,4 @@
-//! The command `asm`: an assembly text comes to the session of its image, which is written once the whole text was read.
+//! The command `asm`: an assembly text becomes the session of its image, which is written once the whole text was read.
 ghost use Rattle.std.specs.Prelude.{◌≡◌, ◌≢◌};
 ghost use Rattle.its_io.specs.Bytes.{next_fault};
 ghost use Rattle.its_top.specs.Assembling.{Asm};

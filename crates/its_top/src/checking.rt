@@ -12,7 +12,7 @@ use its_print::print_refusal;
 use its_reader::{Found, Items};
 use its_word::{Event, Reason};
 
-/// What a session comes to, by the grammar alone.
+/// The result of a session, by the grammar alone.
 #[derive(Clone, Copy, Debug, PartialEq, Eq)]
 pub enum Checked {
     /// END is line number n.
@@ -25,7 +25,7 @@ pub enum Checked {
     Beyond,
 }
 
-/// What an item comes to, by the number of its line: None where the check goes on.
+/// The result of an item, by the number of its line: None if the check goes on.
 #[tactic(auto, using(crate::proofs::CheckingLaws::line_goes_on, crate::proofs::CheckingLaws::line_ends))]
 fn look_at(number: u32, found: &Found) -> Option<Checked>
     requires some { 1 ≤ number }

@@ -1,8 +1,8 @@
-//! RUN: turns in a circle of slots, behind its line.
+//! RUN: turns in a circle of slots, after its line.
 ghost use Rattle.std.specs.Prelude.{◌≡◌, ◌<◌, ◌≤◌, IfSome};
 ghost use Rattle.its_word.specs.Limits.{slots};
 ghost use Rattle.its_session.specs.Fits.{EventFits};
-ghost use Rattle.its_plain.specs.Unrolled.{turn_after};
+ghost use Rattle.its_plain.specs.Turns.{turn_after};
 ghost use Rattle.its_world.specs.World.{state_of};
 ghost use Rattle.its_operator.specs.Kept.{Kept};
 ghost use Rattle.its_top.specs.Causes.{TurnCause};
@@ -20,8 +20,8 @@ use its_word::{Event, SLOTS};
 /// The highest slot: before the first turn of a session it is the last one.
 pub const HIGHEST: u8 = SLOTS as u8 - 1;
 
-/// A line, and behind it the turns that it asks for, which RUN alone does. Slot `last` had the last turn before it, and has the
-/// slot of the last turn then.
+/// A line, and after it the turns that it asks for, which only RUN does. Slot `last` had the last turn before it, and has the slot of
+/// the last turn then.
 #[tactic(auto, using(crate::proofs::CircleLaws::line_follows, crate::proofs::CircleLaws::run_follows))]
 pub fn follow<K: Sink>(
     m: &mut Monitor,
@@ -49,7 +49,7 @@ pub fn follow<K: Sink>(
     }
 }
 
-/// Up to n turns of q ticks: each is of the slot whose turn it is, and writes its `T` line. They end early where no job runs.
+/// Up to n turns of q ticks: each is of the slot whose turn it is, and writes its `T` line. They end early if no job runs.
 #[tactic(auto, using(crate::proofs::CircleLaws::circle_start, crate::proofs::CircleLaws::circle_turn, crate::proofs::CircleLaws::circle_fault, crate::proofs::CircleLaws::circle_none, crate::proofs::CircleLaws::circle_end))]
 fn circle<K: Sink>(
     m: &mut Monitor,
@@ -80,7 +80,7 @@ fn circle<K: Sink>(
     Turn::On
 }
 
-/// The slot whose turn it is, after a turn of slot `last`; None where no job runs.
+/// The slot whose turn it is, after a turn of slot `last`; None if no job runs.
 #[tactic(auto, using(its_plain::proofs::WhoRunsLaws::turn_found, its_plain::proofs::WhoRunsLaws::turn_is_slot, its_plain::proofs::WhoRunsLaws::runs_start, its_plain::proofs::WhoRunsLaws::runs_next))]
 fn turn_after(m: &Monitor, last: u8) -> Option<u8>
     requires last { last < slots }

@@ -3,11 +3,11 @@ ghost use Rattle.std.specs.Prelude.{if◌then◌else◌, ◌^◌, nat_le, ◌≡
 ghost use Rattle.std.specs.List.{list_any};
 ghost use Rattle.clap.specs.Words.{first_value, found_of, kind_of};
 ghost use Rattle.clap.specs.declared.error.kind.ErrorKind.TheVariants as kinds;
-ghost use Rattle.its_top.specs.Commands.{bare_command, counted_command, command_from, command_of, is_option, IfGenerates};
+ghost use Rattle.its_top.specs.Commands.{bare_command, counted_command, command_from, command_of, is_option};
 
 use clap::error::ErrorKind;
 use clap::{Arg, ArgMatches, Error};
-use its_word::{NoMemory, read_octal};
+use its_word::read_octal;
 use std::alloc::Global;
 
 /// What the program is asked to do: to run a session, to check one, to generate one of so many rounds and
@@ -24,19 +24,18 @@ pub enum Command {
 /// The most rounds of a generated session.
 const MOST_ROUNDS: u64 = 0o10000;
 
-/// The command that the words are; None where they are none. A word that begins with `-` is refused before
-/// the words are parsed.
-#[tactic(auto, using(crate::proofs::CommandLaws::no_command, crate::proofs::CommandLaws::few_rounds))]
-pub fn read_command(alloc: Global, words: &[String]) -> Result<Option<Command>, NoMemory>
-    ensures command { IfOk result (λ c. c ≡ command_of (map string_bytes words.now)) }
-    ensures rounds { IfOk result (λ c. IfGenerates c (λ n. n ≤ 4096)) }
+/// The command that the words are; None if they are none. A word that begins with `-` is refused before the words are
+/// parsed.
+#[tactic(auto, using(crate::proofs::CommandLaws::no_command))]
+pub fn read_command(alloc: Global, words: &[String]) -> Option<Command>
+    ensures { result ≡ command_of (map string_bytes words.now) }
 {
     if has_option(words) {
-        return Ok(None);
+        return None;
     }
     match parsed(alloc, words) {
-        Ok(matches) => Ok(command_from(matches.get_str("command"), matches.get_str("number"))),
-        Err(e) => refused(&e),
+        Ok(matches) => command_from(matches.get_str("command"), matches.get_str("number")),
+        Err(e) => refused(&e, words),
     }
 }
 
@@ -63,7 +62,7 @@ fn is_option(word: &[u8]) -> bool
     }
 }
 
-/// The words, none of which begins with `-`, as one positional that is required and one that is not.
+/// The words, none of which begins with `-`, as one required positional and one optional one.
 fn parsed<'a>(alloc: Global, words: &'a [String]) -> Result<ArgMatches<'a>, Error>
     requires plain { list_any is_option (map string_bytes words.now) ≡ false }
     ensures found { IfOk result (λ m. command_from (first_value (found_of m) (codes "command")) (first_value (found_of m) (codes "number")) ≡ command_of (map string_bytes words.now)) }
@@ -80,13 +79,26 @@ fn parsed<'a>(alloc: Global, words: &'a [String]) -> Result<ArgMatches<'a>, Erro
     program.try_get_matches_from(words)
 }
 
-/// What an error of the parse comes to: the words are no command, unless memory was refused.
-fn refused(e: &Error) -> Result<Option<Command>, NoMemory>
-    ensures none { IfOk result (λ c. (c ≡ None) × (kind_of e.now ≢ kinds.OutOfMemory)) }
+/// What words come to that the parse refused: they are no command. Where it found no memory, they are looked at as they stand.
+fn refused(e: &Error, words: &[String]) -> Option<Command>
+    requires none { kind_of e.now ≢ kinds.OutOfMemory → command_of (map string_bytes words.now) ≡ None }
+    ensures { result ≡ command_of (map string_bytes words.now) }
 {
     match e.kind() {
-        ErrorKind::OutOfMemory => Err(NoMemory),
-        _ => Ok(None),
+        ErrorKind::OutOfMemory => command_in(words),
+        _ => None,
+    }
+}
+
+/// The command that the words are, with no memory taken.
+#[tactic(auto, unfolding(crate::specs::Commands::command_of))]
+fn command_in(words: &[String]) -> Option<Command>
+    ensures { result ≡ command_of (map string_bytes words.now) }
+{
+    match words {
+        [word] => bare_command(word),
+        [word, number] => counted_command(word, number),
+        _ => None,
     }
 }
 
@@ -127,7 +139,7 @@ fn counted_command(word: &str, number: &str) -> Option<Command>
     }
 }
 
-/// `gen` with so many rounds, where there may be so many.
+/// `gen` with so many rounds, if there may be so many.
 fn rounds(n: u64) -> Option<Command>
     ensures { result ≡ (if nat_le 1 n && nat_le n (2 ^ 12) then Some (Command.Gen n) else None) }
 {

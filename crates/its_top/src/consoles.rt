@@ -24,7 +24,7 @@ pub fn load_job(m: &mut Monitor, u: Word, j: Word, console: Option<u8>) -> Resul
     m.load_job(u, j, console)
 }
 
-/// One byte of a TYPE line. False where it finds no room.
+/// One byte of a TYPE line. False if it finds no room.
 pub fn type_in(m: &mut Monitor, console: u8, b: u8) -> bool
     requires sound { Kept m.old.world }
     requires console { console < 8 }
@@ -38,7 +38,7 @@ pub fn type_in(m: &mut Monitor, console: u8, b: u8) -> bool
     }
 }
 
-/// One byte of a DRAIN line. None where none waits.
+/// One byte of a DRAIN line. None if none waits.
 pub fn drain(m: &mut Monitor, console: u8) -> Option<u8>
     requires sound { Kept m.old.world }
     requires console { console < 8 }

@@ -67,7 +67,7 @@ pub fn add_words(m: &mut Monitor, names: [Word; 3], words: &[Word]) -> Result<()
     Ok(())
 }
 
-/// One of them, where there is a file with these names.
+/// One of them, if there is a file with these names.
 #[tactic(auto, using(crate::proofs::FilingLaws::adds_file, crate::proofs::FilingLaws::adds_done, crate::proofs::FilingLaws::adds_refused, crate::proofs::FilingLaws::adds_nothing))]
 fn add_word(m: &mut Monitor, names: [Word; 3], w: Word) -> Result<(), Refusal>
     requires sound { Kept m.old.world }
@@ -111,7 +111,7 @@ fn count_files(m: &mut Monitor, d: Word) -> u32
     MOST_FILES
 }
 
-/// The lines of a directory, where no part of a close is owed: how many files it has, and the files.
+/// The lines of a directory, when no part of a close is pending: how many files it has, and the files.
 #[tactic(auto, using(crate::proofs::FilingLaws::tells_then, crate::proofs::FilingLaws::tells_cut))]
 pub fn print_files<K: Sink>(m: &mut Monitor, d: Word, count: u32, out: &mut K) -> Turn
     requires sound { Kept m.old.world }
@@ -131,7 +131,7 @@ pub fn print_files<K: Sink>(m: &mut Monitor, d: Word, count: u32, out: &mut K) -
     print_each_file(m, d, count, out)
 }
 
-/// A line for each of the files of a directory, where no part of a close is owed.
+/// A line for each of the files of a directory, when no part of a close is pending.
 #[tactic(auto, using(crate::proofs::FilingLaws::listing_start, crate::proofs::FilingLaws::listing_end))]
 fn print_each_file<K: Sink>(m: &mut Monitor, d: Word, count: u32, out: &mut K) -> Turn
     requires sound { Kept m.old.world }
@@ -175,7 +175,7 @@ pub fn find_file(m: &mut Monitor, d: Word, x: Word, y: Word) -> Result<Shown, Ov
     }
 }
 
-/// The lines of the words of a file, where no part of a close is owed: its names and how many there are, and the words.
+/// The lines of the words of a file, when no part of a close is pending: its names and how many there are, and the words.
 #[tactic(auto, using(crate::proofs::FilingLaws::stood, crate::proofs::FilingLaws::tells_then, crate::proofs::FilingLaws::tells_cut))]
 pub fn print_words_of<K: Sink>(
     m: &mut Monitor,
@@ -203,7 +203,7 @@ pub fn print_words_of<K: Sink>(
     print_rows(m, id, count, out)
 }
 
-/// The lines of the words of a file, where no part of a close is owed.
+/// The lines of the words of a file, when no part of a close is pending.
 #[tactic(auto, using(crate::proofs::FilingLaws::standing_start, crate::proofs::FilingLaws::rows_start, crate::proofs::FilingLaws::rows_end))]
 fn print_rows<K: Sink>(m: &mut Monitor, id: u32, count: u32, out: &mut K) -> Turn
     requires sound { Kept m.old.world }
@@ -266,7 +266,7 @@ fn row_of(m: &mut Monitor, id: u32, from: u32, count: u32) -> ArrayVec<Word, 8>
     words
 }
 
-/// How many words the next row has, where so many are left.
+/// How many words the next row has, if so many are left.
 fn words_in_row(left: u32) -> u32
     ensures { result ≡ min 8 left }
 {

@@ -39,8 +39,8 @@ const NOTHING: Tally = Tally {
     drained: 0,
 };
 
-/// Where a generated session stands: what `run` keeps of one, of which the number is that of the lines so far; what is
-/// counted so far; and whether it is over.
+/// The state of a generated session: what `run` keeps of one, of which the number is that of the lines so far; what
+/// is counted so far; and whether it is over.
 #[derive(Clone, Copy, Debug, PartialEq, Eq)]
 pub struct Play {
     pub progress: Progress,
@@ -80,7 +80,7 @@ fn play_and_write<K: Sink>(m: &mut Monitor, n: u32, out: &mut K) -> Result<(), F
     write_counts(lines, tally, out)
 }
 
-/// Writes the three lines, each by itself.
+/// Writes the three lines, each by a call of its own.
 #[tactic(auto, using(crate::proofs::TallyLaws::wrote_then, crate::proofs::TallyLaws::begun_first, crate::proofs::TallyLaws::begun_then))]
 fn write_counts<K: Sink>(lines: u32, tally: Tally, out: &mut K) -> Result<(), Failed>
     ensures all { OnOk result (Appends (K.written out.old) (K.written out.new) (counts_text lines tally)) }
@@ -162,7 +162,7 @@ fn play_on(m: &mut Monitor, play: &mut Play, event: &Event, runs: &mut Runs)
     play.over = performed.is_err();
 }
 
-/// What counts of what an event has come to.
+/// What counts of the result of an event.
 fn counted(performed: &Result<Shown, Over>, runs: &Runs) -> Tally
     requires letters { length (paces_in runs.now.items) ≤ 512 }
     ensures counted { result ≡ counted performed.now (paces_in runs.now.items) }

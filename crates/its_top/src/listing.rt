@@ -12,7 +12,7 @@ use its_io::Sink;
 use its_print::print_listed;
 use its_word::Word;
 
-/// A line for each of some words, which stand in a slot from an address on.
+/// A line for each of some words, which are in a slot from an address on.
 #[tactic(auto, using(crate::proofs::FilingLaws::writes_start))]
 pub fn list_words<K: Sink>(s: u8, a: u32, words: &[Word], out: &mut K) -> Turn
     requires start { a < 2 ^ 18 }

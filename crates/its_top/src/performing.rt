@@ -27,7 +27,7 @@ use its_word::{Event, Pace, Refusal, Word};
 /// Room for the letters of a line, as runs. A session makes it once: to make it costs more than a line.
 pub type Runs = ArrayVec<Run, 512>;
 
-/// Performs an event, unless the session is over by it. The letters of its ticks then stand in the room for them, where nothing else is left.
+/// Performs an event, unless the event ends the session. The letters of its ticks are then in the room for them, and nothing else is.
 #[tactic(auto, using(crate::proofs::PerformLaws::nothing_performed, crate::proofs::PerformLaws::run_performed, crate::proofs::PerformLaws::end_performed, crate::proofs::PerformLaws::end_file_performed, crate::proofs::PerformLaws::append_performed, crate::proofs::PerformLaws::version_performed, crate::proofs::PerformLaws::go_performed, crate::proofs::PerformLaws::words_performed, crate::proofs::PerformLaws::read_only_performed, crate::proofs::PerformLaws::symbol_performed, crate::proofs::PerformLaws::ticks_performed, crate::proofs::PerformLaws::typed_performed, crate::proofs::PerformLaws::drained_performed, crate::proofs::PerformLaws::int_performed, crate::proofs::PerformLaws::deposit_performed, crate::proofs::PerformLaws::stop_performed, crate::proofs::PerformLaws::cont_performed, crate::proofs::PerformLaws::clock_performed, crate::proofs::PerformLaws::console_fits, crate::proofs::PaceLaws::no_letters), unfolding(its_session::specs::Grammar::last_slot))]
 pub fn perform(
     m: &mut Monitor,
@@ -272,8 +272,8 @@ fn is_step(pace: Pace) -> bool
     matches!(pace, Pace::Step)
 }
 
-/// The letters of the first ticks of a slot, n at most: of one; and where that is a step, and the tick before it was one too, of
-/// all steps that follow it in user mode. (Behind a call's one step the job is inside the call.)
+/// The letters of the first ticks of a slot, n at most: of one; and if that is a step, and the tick before it was also one, of all
+/// steps that follow it in user mode. (After a call's one step the job is inside the call.)
 #[tactic(auto, using(crate::proofs::PaceLaws::one_more, crate::proofs::PaceLaws::one_and_steps))]
 fn run_of(m: &mut Monitor, s: u8, n: u32, stepped: bool) -> Run
     requires sound { Kept m.old.world }

@@ -1,4 +1,4 @@
-//! What an event has come to is printed.
+//! The result of an event is printed.
 ghost use Rattle.std.specs.Prelude.{◌≡◌, ◌≤◌, ◌-◌, [], IfOk, length};
 ghost use Rattle.its_world.specs.World.{state_of};
 ghost use Rattle.its_operator.specs.Kept.{Kept};
@@ -22,7 +22,7 @@ use its_print::{
 };
 use its_word::Refusal;
 
-/// Writes the lines of what line `number` has come to. The monitor stays as it is, and files are read from it.
+/// Writes the lines of the result of line `number`. The monitor is unchanged, and files are read from it.
 #[tactic(auto, using(crate::proofs::WritingLaws::tells_nothing, crate::proofs::WritingLaws::tells_one))]
 pub fn print<K: Sink>(
     m: &mut Monitor,
@@ -45,7 +45,7 @@ pub fn print<K: Sink>(
     }
 }
 
-/// Writes the line of a refusal, where the session is over by one.
+/// Writes the line of a refusal, if a refusal ended the session.
 #[tactic(auto, using(crate::proofs::WritingLaws::tells_nothing, crate::proofs::WritingLaws::tells_one))]
 fn print_over<K: Sink>(over: Over, number: u32, out: &mut K) -> Turn
     ensures told { Tells result (turn_over over) (text (lines_over number over)) (K.written out.old) (K.written out.new) }
@@ -101,7 +101,7 @@ fn put_reply(reply: &Reply, runs: &Runs, line: &mut ArrayVec<u8, 2048>)
         Reply::Typed { c, dropped } => print_typed(*c, *dropped, line),
         Reply::Drained { c, bytes } => print_drained(*c, bytes, line),
         Reply::Words { s, a, words } => print_words(*s, *a, words, line),
-        Reply::State { version, s, show } => print_state(*version, *s, show, line),
+        Reply::State { version, s, show } => print_state(*s, show, *version, line),
         Reply::Peeked { s, peek } => print_peek(*s, peek, line),
     }
 }

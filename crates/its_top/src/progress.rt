@@ -1,7 +1,7 @@
 use its_word::Word;
 
-/// Where a session stands at a line: the number of the line, from 1; the slot of the job that the last LOAD line made;
-/// and the directory and the two names of the file that the last FILE line made.
+/// The state of a session at a line: the number of the line, from 1; the slot of the job that the last LOAD line
+/// made; and the directory and the two names of the file that the last FILE line made.
 #[derive(Clone, Copy, Debug, PartialEq, Eq)]
 pub struct Progress {
     pub number: u32,

@@ -1,20 +1,15 @@
 ghost use Rattle.std.specs.Prelude.{◌≡◌, ◌≢◌, ◌≤◌, ◌<◌, ◌-◌, ◌*◌, ◌^◌, ◌⊎◌, IfSome};
-ghost use Rattle.std.specs.Io.KnownBytes.{Appends};
 ghost use Rattle.its_io.specs.Bytes.{Rose, next_fault};
 ghost use Rattle.its_word.specs.Limits.{slots};
-ghost use Rattle.its_print.specs.Printing.{text};
-ghost use Rattle.its_session.specs.Events.{events_of};
 ghost use Rattle.its_plain.specs.Machine.{no_machine};
 ghost use Rattle.its_stepped.specs.State.{no_state};
-ghost use Rattle.its_stepped.specs.Lines.{stepped};
-ghost use Rattle.its_stepped.specs.Turns.{with_turns};
 ghost use Rattle.its_world.specs.World.{state_of};
 ghost use Rattle.its_operator.specs.Kept.{Kept};
-ghost use Rattle.its_reader.specs.Items.{found_fits, ReadOut};
+ghost use Rattle.its_reader.specs.Items.{found_fits};
 ghost use Rattle.its_top.specs.Causes.{TurnCause};
 ghost use Rattle.its_top.specs.Answer.{FoundStart, block_of};
-ghost use Rattle.its_top.specs.Conclusion.{IsDone, Session, Takes};
-ghost use Rattle.its_top.specs.Top.{Transcribed, Completes, Refuses, RunsOn, Breaks, Begins};
+ghost use Rattle.its_top.specs.Conclusion.{Session, Takes};
+ghost use Rattle.its_top.specs.Outcomes.{RunSays};
 
 use super::circle::{HIGHEST, follow};
 use super::performing::Runs;
@@ -30,21 +25,12 @@ use its_word::Word;
 
 /// Runs a session: takes its items one by one, and writes what each line shows before it looks at the next. It takes no memory. The monitor is as
 /// `Monitor::open` gives it.
-#[tactic(auto, using(crate::proofs::ConclusionLaws::ended_input, crate::proofs::TopLaws::session_transcribed, crate::proofs::TopLaws::session_written, crate::proofs::TopLaws::session_done, crate::proofs::TopLaws::session_refused, crate::proofs::TopLaws::session_too_long, crate::proofs::TopLaws::session_breaks, crate::proofs::TopLaws::session_begins, crate::proofs::TopLaws::session_finishes, crate::proofs::TopLaws::session_answered))]
+#[tactic(auto, using(crate::proofs::PromiseLaws::session_says))]
 pub fn session<S: Source, K: Sink>(m: &mut Monitor, src: &mut S, out: &mut K) -> Status
     requires machine { state_of m.old.world ≡ no_state no_machine }
     requires sound { Kept m.old.world }
     ensures ended { Session result (S.left src.old) (S.left src.new) (K.written out.old) (K.written out.new) }
-    ensures transcript { ((result ≡ Status.Done) ⊎ (result ≡ Status.Refused)) ⊎ (result ≡ Status.TooLong) → IfSome (S.left src.old) (λ bytes. Transcribed result bytes (K.written out.old) (K.written out.new)) }
-    ensures written { ((result ≡ Status.Done) ⊎ (result ≡ Status.Refused)) ⊎ (result ≡ Status.TooLong) → IfSome (S.left src.old) (λ bytes. Appends (K.written out.old) (K.written out.new) (text (stepped (with_turns (events_of bytes))).lines)) }
-    ensures done { result ≡ Status.Done → IfSome (S.left src.old) (λ bytes. Completes bytes (K.written out.old) (K.written out.new)) }
-    ensures input { result ≡ Status.Done → IfSome (S.left src.old) (λ bytes. ReadOut bytes (S.left src.new)) }
-    ensures refused { result ≡ Status.Refused → IfSome (S.left src.old) (λ bytes. Refuses bytes (K.written out.old) (K.written out.new)) }
-    ensures too_long { result ≡ Status.TooLong → IfSome (S.left src.old) (λ bytes. RunsOn bytes (K.written out.old) (K.written out.new)) }
-    ensures broken { result ≡ Status.ReadFault → IfSome (S.left src.old) (λ bytes. Breaks bytes (S.left src.new) (K.written out.old) (K.written out.new)) }
-    ensures begun { result ≡ Status.WriteFault → IfSome (S.left src.old) (λ bytes. Begins (text (stepped (with_turns (events_of bytes))).lines) (K.written out.old) (K.written out.new)) }
-    ensures complete { S.faults src.old < 2 ^ 64 - 1 → K.faults out.old < 2 ^ 64 - 1 → S.faults src.new ≡ S.faults src.old → K.faults out.new ≡ K.faults out.old → IfSome (S.left src.old) (λ bytes. IsDone (stepped (with_turns (events_of bytes))).fate → result ≡ Status.Done) }
-    ensures answered { S.faults src.old < 2 ^ 64 - 1 → K.faults out.old < 2 ^ 64 - 1 → S.faults src.new ≡ S.faults src.old → K.faults out.new ≡ K.faults out.old → IfSome (S.left src.old) (λ bytes. Transcribed result bytes (K.written out.old) (K.written out.new)) }
+    ensures says { IfSome (S.left src.old) (λ bytes. RunSays result bytes (S.left src.new) (K.written out.old) (K.written out.new)) }
     ensures read_fault { result ≡ Status.ReadFault → Rose (S.faults src.old) (S.faults src.new) }
     ensures write_fault { result ≡ Status.WriteFault → Rose (K.faults out.old) (K.faults out.new) }
     ensures read_later { S.faults src.old ≤ S.faults src.new }
@@ -93,7 +79,7 @@ fn run_items<S: Source, K: Sink>(m: &mut Monitor, src: &mut S, out: &mut K) -> S
     }
 }
 
-/// Takes what was found next of a session, where `p` has the number of its line, and slot `last` had the last turn of a RUN.
+/// Takes what was found next of a session; `p` has the number of its line, and slot `last` had the last turn of a RUN.
 #[tactic(auto, using(crate::proofs::ConclusionLaws::takes_line, crate::proofs::ConclusionLaws::takes_bad, crate::proofs::ConclusionLaws::takes_beyond, crate::proofs::ConclusionLaws::takes_end))]
 fn take<K: Sink>(
     m: &mut Monitor,

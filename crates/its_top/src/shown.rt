@@ -1,7 +1,7 @@
 use arrayvec::ArrayVec;
 use its_word::{JobShow, Peek, Refusal, Word};
 
-/// A line of the transcript. The letters of a `T` line stand in the room for them.
+/// A line of the transcript. The letters of a `T` line are in the room for them.
 #[derive(Debug, PartialEq, Eq, Drop)]
 pub enum Reply {
     Loaded {
@@ -34,7 +34,7 @@ pub enum Reply {
     },
 }
 
-/// What an event shows behind which the session goes on.
+/// What an event shows after which the session goes on.
 #[derive(Debug, PartialEq, Eq, Drop)]
 pub enum Shown {
     Nothing,
@@ -59,7 +59,7 @@ pub enum Shown {
     },
 }
 
-/// Why a session is over behind an event: by END, or since the monitor refuses it.
+/// Why a session is over after an event: by END, or since the monitor refuses it.
 #[derive(Clone, Copy, Debug, PartialEq, Eq)]
 pub enum Over {
     Ended,

@@ -691,8 +691,8 @@ two error addresses, two controls, and no end in eight words, behind which none 
 400000000000 504156470000 5000000001 5000000001 403000000010 = 4. 1* 2. 3* = 3 = RUN 10000000101 0
 400000000000 624556415545 0 0 0 0 0 0 5000000001 3000000010 407000000000 = 4. 1* 2. 3* = 3 = RUN 10000000101 0";
 
-/// The session of a row, before its block and behind it. The job goes on at 101 where the call fails, and at 102
-/// where it succeeds; names of variables stand from 140 on; page 1 is absent; word 11 is never changed.
+/// The session of a row, before its block and after it. The job goes on at 101 if the call fails, and at 102 if it
+/// succeeds; names of variables are from 140 on; page 1 is absent; word 11 is never changed.
 const BEFORE: &str = "LOAD U X -
 4/ 0 5 200000000001 200000000000 777 777 0 777777777777 2000 0 1
 100/ 43000000120 254000000101 254000000102
@@ -715,8 +715,8 @@ struct Outcome {
     is_left: bool,
 }
 
-/// Runs the program by words, before each of which a space stands, from a source that gives so many bytes a call, and where these calls of the
-/// source and of the sink fail.
+/// Runs the program by words, each with a space before it, from a source that gives so many bytes a call; these calls of the source and
+/// of the sink fail.
 fn tried(
     alloc: Global,
     words: &str,
@@ -756,7 +756,7 @@ fn vouched(alloc: Global, rt: &impl Abort, session: &str, transcript: &str) -> R
     Ok(())
 }
 
-/// A session has this transcript, and is refused exactly where that shows it. Where it is not, `verify` accepts the transcript.
+/// A session has this transcript, and is refused exactly if that shows it. If it is not, `verify` accepts the transcript.
 fn shows(alloc: Global, rt: &impl Abort, session: &str, transcript: &str) -> Result<(), Fail> {
     let got = tried(alloc, " run", session.as_bytes(), 512, (&[], &[]))?;
     assert_eq!(rt; got.wrote.as_slice(), transcript.as_bytes(), "in {session}");
@@ -932,7 +932,7 @@ fn chain(alloc: Global, memory: &str, rest: &str) -> Result<String, Fail> {
     Ok(session)
 }
 
-/// A program, the last word of its chain, and its transcript behind the first line.
+/// A program, the last word of its chain, and its transcript after the first line.
 static CHAINS: &str = "100/ 200060000200
 277/ 300
 TICK 0 1
@@ -1009,7 +1009,7 @@ fn moments(rt: HostRuntime) -> Result<(), Fail> {
 fn objects(rt: HostRuntime) -> Result<(), Fail> {
     let alloc = rt.alloc();
     let first = FIRST.as_bytes();
-    // however the source cuts the session, and where the source or the sink fails
+    // however the source cuts the session, and whenever the source or the sink fails
     for (piece, fails, transcript, status) in [
         (1, (&[][..], &[][..]), FIRST_OUT, Status::Done),
         (2, (&[][..], &[][..]), FIRST_OUT, Status::Done),

@@ -1,5 +1,5 @@
-//! The command `verify`: a session and its transcript, one behind the other, and one line that says whether the transcript is one of
-//! the session. It is written once all is decided.
+//! The command `verify`: a session and after it its transcript, and one line that says whether the transcript is valid for the session.
+//! It is written once all is decided.
 ghost use Rattle.std.specs.Prelude.{◌≡◌, ◌≢◌, ◌⊎◌};
 ghost use Rattle.its_io.specs.Bytes.{next_fault};
 ghost use Rattle.its_print.specs.Printing.{Refused, text_of_line};
@@ -17,8 +17,8 @@ use its_verify::{Broken, Finding, verify};
 use its_word::Reason;
 use std::alloc::Global;
 
-/// Judges the transcript that stands behind a session in what the source gives: writes `YES n` or `NO n`, or the `?` line of a session
-/// that has no END line or one that is too long.
+/// Judges the transcript that follows a session in what the source gives: writes `YES n` or `NO n`, or the `?` line of a session that
+/// has no END line or one that is too long.
 #[tactic(auto, using(crate::proofs::VerifyingLaws::verify_told, crate::proofs::VerifyingLaws::verify_failed, crate::proofs::VerifyingLaws::verify_unmade))]
 pub fn judge<S: Source, K: Sink>(alloc: Global, src: &mut S, out: &mut K) -> Status
     ensures verify { Verify result (S.left src.old) (S.left src.new) (K.written out.old) (K.written out.new) }

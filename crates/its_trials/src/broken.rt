@@ -28,8 +28,8 @@ SHOW D A B
 TICK 0 1
 ";
 
-/// What a run of these bytes comes to: it is done or refused, and where the check refuses them, the run is refused with the same
-/// last line. No session here has a line that a run alone refuses before one that the check refuses.
+/// The result of a run of these bytes: it is done or refused, and if the check refuses them, the run is refused with the same last
+/// line. No session here has a line that a run alone refuses before one that the check refuses.
 fn run_and_check(alloc: Global, rt: &impl Abort, session: &[u8]) -> Result<Outcome, Fail> {
     let ran = obey(alloc, "run", session, 512, (&[], &[]))?;
     let checked = obey(alloc, "check", session, 512, (&[], &[]))?;

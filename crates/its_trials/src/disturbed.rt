@@ -39,7 +39,8 @@ fn parted<'a>(rt: &impl Abort, row: &'a str) -> Session<'a> {
     }
 }
 
-/// Where a session is disturbed: after so many of the ticks of a line, which is a `TICK` line of this slot with so many ticks.
+/// The place at which a session is disturbed: after so many of the ticks of a line, which is a `TICK` line of this slot with so many
+/// ticks.
 #[derive(Clone, Copy)]
 struct Place<'a> {
     line: usize,
@@ -93,7 +94,7 @@ fn push_parted(alloc: Global, text: &mut String, at: &Place, lines: &str) -> Res
     Ok(())
 }
 
-/// The session with these lines put in at a place shows at its end what is wanted; or they are refused, as the job is gone there.
+/// The session with these lines put in at a place shows at its end what is wanted; or they are refused, because the job is gone there.
 fn shows(
     alloc: Global,
     rt: &impl Abort,

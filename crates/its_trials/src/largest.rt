@@ -1,4 +1,4 @@
-//! The most jobs of each version, all of which stand in HANG.
+//! The most jobs of each version, all of which are in HANG.
 
 use super::running::run;
 use its_top::Status;
@@ -6,7 +6,7 @@ use std::alloc::Global;
 use std::process::Abort;
 use std::test::Fail;
 
-/// So many jobs, behind this first line, are all that there can be; each of them waits in HANG, and goes on waiting.
+/// So many jobs, after this first line, are all that there can be; each of them waits in HANG, and goes on waiting.
 fn all_hang(alloc: Global, rt: &impl Abort, first: &str, jobs: u32) -> Result<(), Fail> {
     let mut session = String::new(alloc);
     let mut shown = String::new(alloc);

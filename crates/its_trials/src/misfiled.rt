@@ -58,7 +58,7 @@ fn last_of(m: &mut Monitor, slot: u8, n: u32) -> Pace
     pace
 }
 
-/// Puts a slot into the list of those that wait for input of console 0, wherever it stood.
+/// Puts a slot on the list of those that wait for input of console 0, wherever it was.
 #[tactic(auto, using(crate::proofs::MisfiledLaws::at_end))]
 fn put_in(rings: &mut Links, slot: u8)
     requires node { slot < rings.old.nodes }

@@ -16,8 +16,7 @@ pub struct Outcome {
     pub wrote: Vec<u8>,
 }
 
-/// Does a command over a session, from a source that gives so many bytes a call, where these calls of the source and of the
-/// sink fail.
+/// Performs a command over a session, from a source that gives so many bytes a call; these calls of the source and of the sink fail.
 pub fn obey(
     alloc: Global,
     command: &str,

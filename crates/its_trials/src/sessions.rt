@@ -1,5 +1,5 @@
-//! Sessions of jobs that make each call. A row has four parts: the jobs, the lines with their ticks, the last lines, and what these show.
-//! Each job ends in HANG or LOGOUT; where a call fails that should not, it comes to `.BREAK`, which stops it.
+//! Sessions of jobs that execute each call. A row has four parts: the jobs, the lines with their ticks, the last lines, and what these
+//! show. Each job ends in HANG or LOGOUT; if a call fails that should not, the job reaches `.BREAK`, which stops it.
 
 /// Calls on the clock, on registers and on consoles.
 pub static CONSOLES: &str = "; SLEEP

@@ -9,8 +9,8 @@ use std::test::Fail;
 /// Sessions, their transcripts with a letter for each tick, and what comes of each change of a byte, and then of each change of a
 /// letter: how many are accepted, how many are refused at the line that was changed, and how many at a later one.
 ///
-/// A change of a byte is accepted in a line of PEEK, behind its first word. A change of a letter is accepted where the other
-/// letter is licensed too and nothing shown later tells the two apart.
+/// A change of a byte is accepted in a line of PEEK, after its first word. A change of a letter is accepted if the other
+/// letter is also licensed and nothing shown later distinguishes the two.
 static ROWS: &str = "FILE D A B
 / 1 2
 EOF
@@ -212,7 +212,7 @@ fn printed(alloc: Global, rt: &impl Abort, lines: &str) -> Result<String, Fail> 
     Ok(text)
 }
 
-/// Changes each byte of a transcript, and puts an LF in behind it.
+/// Changes each byte of a transcript, and puts an LF in after it.
 fn change_bytes(
     alloc: Global,
     rt: &impl Abort,
@@ -255,7 +255,7 @@ fn change_letters(alloc: Global, rt: &impl Abort, of: Trial, lines: &str) -> Res
     Ok(counts)
 }
 
-/// Cuts a transcript before each of its lines, which is then missing; and puts a line behind it. It has as many lines as is answered.
+/// Cuts a transcript before each of its lines, which is then missing; and puts a line after it. It has as many lines as is answered.
 fn cut_lines(alloc: Global, rt: &impl Abort, session: &str, transcript: &str) -> Result<u32, Fail> {
     let mut cut = String::new(alloc);
     let mut before = 0u32;

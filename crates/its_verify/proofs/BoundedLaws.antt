@@ -4,7 +4,7 @@ use Rattle.std.proofs.Common.{◌≡◌, ◌<◌, ◌≤◌, ◌⊎◌, ℕ, leb
 use Rattle.std.proofs.lemmas.Bool.{cases_Bool, cases_lt, le-leb, lt-leb, leb-true}
 use Rattle.its_word.specs.Item.{Item}
 use Rattle.its_plain.specs.Transcript.{at_start}
-use Rattle.its_plain.specs.Unrolled.{highest}
+use Rattle.its_plain.specs.Turns.{highest}
 use Rattle.its_verify.specs.Accepted.{AcceptedLines, BeginsTranscript, IsFirst}
 use Rattle.its_verify.specs.Judge.{Verdict, Yes, No, judged}
 use Rattle.its_verify.specs.Verified.{Answer, Judged, TooLong, bounded, within}

@@ -11,7 +11,7 @@ use Rattle.its_plain.specs.Machine.{Whole, no_machine}
 use Rattle.its_plain.specs.OperatorJobs.{state_shown}
 use Rattle.its_plain.specs.OperatorLines.{lined, operate}
 use Rattle.its_plain.specs.Transcript.{Walk, at_start}
-use Rattle.its_plain.specs.Unrolled.{highest}
+use Rattle.its_plain.specs.Turns.{highest}
 use Rattle.its_reader.specs.TextLines.{lines_in}
 use Rattle.its_verify.specs.Lines.{is_peek}
 use Rattle.its_verify.specs.Judge.{Verdict, Yes, No, judged}

@@ -23,14 +23,15 @@ use Rattle.its_direct.specs.declared.events.Answer.TheVariants.{Nothing, Slot, D
 use Rattle.its_direct.specs.declared.plain.Spot.{Spot}
 use Rattle.its_direct.specs.declared.plain.Spot.TheVariants as spots
 use Rattle.its_verify.specs.Going.{LineSays, SaysEnd}
-use Rattle.its_verify.specs.Hearing.{Concludes, Says, Stays, cut}
+use Rattle.its_verify.specs.Hearing.{Concludes, Failing, Passed, Says, Stays, cut}
+use Rattle.its_verify.proofs.HearingLaws.{fails_as, passed_none}
 use Rattle.its_verify.specs.Sources.{texts_of}
 use Rattle.its_verify.specs.Judge.{Judge as AnyJudge, at_end, gone, led, peeking, expects}
 use Rattle.its_verify.specs.Judge.{expects as asked}
 use Rattle.its_verify.specs.Letters.{ticked}
 use Rattle.its_verify.specs.Showing.{IsThere, heard_of, is_peek_event, lines_of, shown_if}
 use Rattle.its_verify.specs.Standing.{Forgets, Sure, walk_of}
-use Rattle.its_verify.specs.Trial.{StaysTried}
+use Rattle.its_verify.specs.Trial.{StaysTried, TicksSay}
 use Rattle.its_verify.specs.declared.finding.Finding.{Finding}
 use Rattle.its_verify.specs.declared.hearing.Hearing.{Hearing}
 use Rattle.its_verify.specs.declared.judge.Judge.{Judge}
@@ -181,6 +182,7 @@ told_says e a (Ok None) old mid new left rest n h forgets hearing judge says = �
                 ∙ here.0
                 ∙ ap (λ (j : Judge). cut new.hearing.room new.hearing.passed (next (walk_of j so.after (n + 1))) (texts_of new.hearing.texts rest)) (sym judge),
             here.1,
+            subst (λ (x : Hearing). Passed x new.hearing left rest) hearing here.2,
           ));
     })
 told_says e a (Ok (Some f)) old mid new left rest n h forgets hearing judge says = λ b speaks next t.
@@ -188,16 +190,24 @@ told_says e a (Ok (Some f)) old mid new left rest n h forgets hearing judge says
     ap (λ (j : AnyJudge). cut old.hearing.room old.hearing.passed j (texts_of old.hearing.texts left)) (so.goes next)
     ∙ ap (λ (x : Hearing). cut x.room x.passed (heard_of e a (machine_of mid.judge.plain) (next (walk_of mid.judge so.after (n + 1)))) (texts_of x.texts left)) (sym hearing)
     ∙ says (next (walk_of mid.judge so.after (n + 1))) t)
-told_says e a (Err x) old mid new left rest n h forgets hearing judge says = tt
+told_says e a (Err x) old mid new left rest n h forgets hearing judge says = λ b speaks next forward t.
+    (let so = obeyed_so e a old.judge mid.judge b n h forgets speaks in
+    let behind = walk_of mid.judge so.after (n + 1) in
+    fails_as old.hearing left rest (gone (walk_of old.judge b n) (lined (machine_of old.judge.plain) b e) next) (heard_of e a (machine_of mid.judge.plain) (next behind))
+    (ap (λ (j : AnyJudge). cut old.hearing.room old.hearing.passed j (texts_of old.hearing.texts left)) (so.goes next))
+    (subst (λ (y : Hearing). Failing y left rest (heard_of e a (machine_of mid.judge.plain) (next behind))) hearing (says (next behind) (forward behind) t)))
 
 -- where it was refused
 pub told_refused : (e : Event) (x : Refusal) (r : Result (Option Finding) Failed) (old new : Trial) (mid : Judge) (h : Hearing) (left rest : Option (List ℕ)) (n : ℕ) → Told e old.judge.plain mid.plain (Err x)
-    → h ≡ old.hearing → SaysEnd r h left (expects (Refused n (reason_of x) ∷ []) at_end) → LineSays r old new left rest n e
+    → h ≡ old.hearing → SaysEnd r h left rest (expects (Refused n (reason_of x) ∷ []) at_end) → LineSays r old new left rest n e
 told_refused e x (Ok None) old new mid h left rest n expects hearing ends = absurd ends
 told_refused e x (Ok (Some f)) old new mid h left rest n expects hearing ends = λ b speaks next t.
     ap (λ (o : Lined). cut old.hearing.room old.hearing.passed (gone (walk_of old.judge b n) o next) (texts_of old.hearing.texts left)) (expects b speaks)
-    ∙ subst (λ (y : Hearing). Concludes (Ok f) y left (asked (Refused n (reason_of x) ∷ []) at_end)) hearing ends t
-told_refused e x (Err y) old new mid h left rest n expects hearing ends = tt
+    ∙ subst (λ (y : Hearing). Concludes (Ok f) y left rest (asked (Refused n (reason_of x) ∷ []) at_end)) hearing ends t
+told_refused e x (Err y) old new mid h left rest n expects hearing ends = λ b speaks next forward t.
+    fails_as old.hearing left rest (gone (walk_of old.judge b n) (lined (machine_of old.judge.plain) b e) next) (asked (Refused n (reason_of x) ∷ []) at_end)
+    (ap (λ (o : Lined). cut old.hearing.room old.hearing.passed (gone (walk_of old.judge b n) o next) (texts_of old.hearing.texts left)) (expects b speaks))
+    (subst (λ (z : Hearing). Failing z left rest (asked (Refused n (reason_of x) ∷ []) at_end)) hearing (ends t))
 
 -- TICK and END
 tick_lined : (m : Machine) (b : Block) (i k : ℕ) → lined m b (events.Tick i k) ≡ Done (Ticks i k)
@@ -209,19 +219,22 @@ unfolding lined operate
 end_lined m b = refl
 
 pub tick_says : (i k : ℕ) (r : Result (Option Finding) Failed) (old new : Trial) (left rest : Option (List ℕ)) (n : ℕ)
-    → ((b : Block) (l : ℕ) (next : Walk → AnyJudge) → Says r old.hearing new.hearing left rest (led (ticked (walk_of old.judge b l) i k) next) (next (walk_of new.judge b l)))
+    → TicksSay r old new left rest i k
     → new.judge.plain.place ≡ old.judge.plain.place → LineSays r old new left rest n (events.Tick i k)
 tick_says i k (Ok None) old new left rest n says place = λ b speaks. record {
   after = b;
   speaks = speaks_same old.judge.plain.place new.judge.plain.place b place speaks;
   goes = λ next t.
       (let here = says b n (λ w. next (next_line w)) t in
-      (ap (λ (o : Lined). cut old.hearing.room old.hearing.passed (gone (walk_of old.judge b n) o next) (texts_of old.hearing.texts left)) (tick_lined (machine_of old.judge.plain) b i k) ∙ here.0, here.1));
+      (ap (λ (o : Lined). cut old.hearing.room old.hearing.passed (gone (walk_of old.judge b n) o next) (texts_of old.hearing.texts left)) (tick_lined (machine_of old.judge.plain) b i k) ∙ here.0, here.1, here.2));
 }
 tick_says i k (Ok (Some f)) old new left rest n says place = λ b speaks next t.
     ap (λ (o : Lined). cut old.hearing.room old.hearing.passed (gone (walk_of old.judge b n) o next) (texts_of old.hearing.texts left)) (tick_lined (machine_of old.judge.plain) b i k)
     ∙ says b n (λ w. next (next_line w)) t
-tick_says i k (Err x) old new left rest n says place = tt
+tick_says i k (Err x) old new left rest n says place = λ b speaks next forward t.
+    fails_as old.hearing left rest (gone (walk_of old.judge b n) (lined (machine_of old.judge.plain) b (events.Tick i k)) next) (led (ticked (walk_of old.judge b n) i k) (λ w. next (next_line w)))
+    (ap (λ (o : Lined). cut old.hearing.room old.hearing.passed (gone (walk_of old.judge b n) o next) (texts_of old.hearing.texts left)) (tick_lined (machine_of old.judge.plain) b i k))
+    (says b n (λ w. next (next_line w)) (λ w. forward (next_line w)) t)
 
 run_lined : (m : Machine) (b : Block) (k q : ℕ) → lined m b (events.Run k q) ≡ Done (Does m [] nobody b)
 unfolding lined operate
@@ -232,25 +245,29 @@ run_says k q e old left n is = λ b speaks. record {
   after = b;
   speaks = speaks;
   goes = λ next expects.
-      (ap (λ (o : Lined). cut old.hearing.room old.hearing.passed (gone (walk_of old.judge b n) o next) (texts_of old.hearing.texts left)) (ap (lined (machine_of old.judge.plain) b) is ∙ run_lined (machine_of old.judge.plain) b k q), expects);
+      (ap (λ (o : Lined). cut old.hearing.room old.hearing.passed (gone (walk_of old.judge b n) o next) (texts_of old.hearing.texts left)) (ap (lined (machine_of old.judge.plain) b) is ∙ run_lined (machine_of old.judge.plain) b k q), expects, passed_none old.hearing left);
 }
 
-pub end_says : (r : Result (Option Finding) Failed) (e : Event) (old new : Trial) (left rest : Option (List ℕ)) (n : ℕ) → e ≡ events.End → SaysEnd r old.hearing left at_end → LineSays r old new left rest n e
+pub end_says : (r : Result (Option Finding) Failed) (e : Event) (old new : Trial) (left rest : Option (List ℕ)) (n : ℕ) → e ≡ events.End → SaysEnd r old.hearing left rest at_end → LineSays r old new left rest n e
 end_says (Ok None) e old new left rest n is ends = absurd ends
 end_says (Ok (Some f)) e old new left rest n is ends = λ b speaks next t.
     ap (λ (x : Event). cut old.hearing.room old.hearing.passed (gone (walk_of old.judge b n) (lined (machine_of old.judge.plain) b x) next) (texts_of old.hearing.texts left)) is
     ∙ ap (λ (o : Lined). cut old.hearing.room old.hearing.passed (gone (walk_of old.judge b n) o next) (texts_of old.hearing.texts left)) (end_lined (machine_of old.judge.plain) b) ∙ ends t
-end_says (Err x) e old new left rest n is ends = tt
+end_says (Err x) e old new left rest n is ends = λ b speaks next forward t.
+    fails_as old.hearing left rest (gone (walk_of old.judge b n) (lined (machine_of old.judge.plain) b e) next) at_end
+    (ap (λ (y : Event). cut old.hearing.room old.hearing.passed (gone (walk_of old.judge b n) (lined (machine_of old.judge.plain) b y) next) (texts_of old.hearing.texts left)) is
+    ∙ ap (λ (o : Lined). cut old.hearing.room old.hearing.passed (gone (walk_of old.judge b n) o next) (texts_of old.hearing.texts left)) (end_lined (machine_of old.judge.plain) b))
+    (ends t)
 
-pub end_stays : (r : Result (Option Finding) Failed) (old : Hearing) (left rest : Option (List ℕ)) (judge : AnyJudge) (new : Trial) → SaysEnd r old left judge → StaysTried r new rest
+pub end_stays : (r : Result (Option Finding) Failed) (old : Hearing) (left rest : Option (List ℕ)) (judge : AnyJudge) (new : Trial) → SaysEnd r old left rest judge → StaysTried r new rest
 end_stays (Ok None) old left rest judge new ends = absurd ends
 end_stays (Ok (Some f)) old left rest judge new ends = tt
 end_stays (Err x) old left rest judge new ends = tt
 
-pub never_on : {X : Type 0} (r : Result (Option Finding) Failed) (old : Hearing) (left : Option (List ℕ)) (judge : AnyJudge) → SaysEnd r old left judge → r ≡ Ok None → X
-never_on (Ok None) old left judge ends is = absurd ends
-never_on (Ok (Some f)) old left judge ends is = cc
-never_on (Err x) old left judge ends is = cc
+pub never_on : {X : Type 0} (r : Result (Option Finding) Failed) (old : Hearing) (left rest : Option (List ℕ)) (judge : AnyJudge) → SaysEnd r old left rest judge → r ≡ Ok None → X
+never_on (Ok None) old left rest judge ends is = absurd ends
+never_on (Ok (Some f)) old left rest judge ends is = cc
+never_on (Err x) old left rest judge ends is = cc
 
 -- PEEK, and any other line
 pub peek_shown : (e : Event) (a : Answer) (m : Machine) (r : Result (Option Finding) Failed) (old new : Hearing) (left rest : Option (List ℕ)) (b : Bool) → b ≡ is_peek_event e → b ≡ true

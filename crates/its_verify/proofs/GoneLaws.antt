@@ -19,38 +19,41 @@ use Rattle.its_reader.specs.declared.items.Items.{Items}
 use Rattle.its_reader.specs.Bytes.{pending}
 use Rattle.its_reader.specs.Items.{Finds, found_fits, found_stands, is_last, place_found}
 use Rattle.its_reader.specs.Lines.{Ready}
-use Rattle.its_plain.specs.Operator.{Block, no_block}
+use Rattle.its_plain.specs.Operator.{no_block}
 use Rattle.its_plain.specs.Transcript.{Walk}
-use Rattle.its_plain.specs.Unrolled.{ticks_asked, turns_asked}
+use Rattle.its_plain.specs.Turns.{ticks_asked, turns_asked}
 use Rattle.its_direct.specs.Events.{MayStand, Speaks}
 use Rattle.its_direct.specs.declared.plain.Spot.{Spot}
 use Rattle.its_direct.specs.declared.plain.Spot.TheVariants as spots
 use Rattle.its_verify.specs.Going.{FoundStands, GoneSo, ItemSays, LineSays, SaysEnd, Split, is_end, items_by, judge_from, machine_place}
-use Rattle.its_verify.specs.Hearing.{Concludes, Says, cut}
+use Rattle.its_verify.specs.Hearing.{Concludes, cut}
+use Rattle.its_verify.proofs.ForwardLaws.{judged_forward}
+use Rattle.its_verify.proofs.HearingLaws.{fails_then, passed_none, passed_then}
+use Rattle.its_verify.proofs.TrialLaws.{turned_forward}
 use Rattle.its_verify.specs.Judge.{Judge as AnyJudge, at_end, judged, expects, turned}
 use Rattle.its_verify.specs.Sources.{IsTold, items_of, texts_of}
 use Rattle.its_verify.specs.Standing.{walk_of}
-use Rattle.its_verify.specs.Trial.{StaysTried, Tried}
+use Rattle.its_verify.specs.Trial.{StaysTried, Tried, TurnsSay}
 use Rattle.its_verify.specs.declared.finding.Finding.{Finding}
 use Rattle.its_verify.specs.declared.trial.Trial.{Trial}
 use Rattle.its_verify.proofs.ItemLaws.{found_bad, found_beyond, found_end, found_line}
 
 -- an item that is the last
-pub bad_says : (reason : Reason) (r : Result (Option Finding) Failed) (old new : Trial) (left rest : Option (List ℕ)) (n : ℕ) → SaysEnd r old.hearing left (expects (Refused n reason ∷ []) at_end)
+pub bad_says : (reason : Reason) (r : Result (Option Finding) Failed) (old new : Trial) (left rest : Option (List ℕ)) (n : ℕ) → SaysEnd r old.hearing left rest (expects (Refused n reason ∷ []) at_end)
     → ItemSays r old new left rest n (Bad reason)
 bad_says reason (Ok None) old new left rest n ends = absurd ends
 bad_says reason (Ok (Some f)) old new left rest n ends = λ b speaks es. ends
-bad_says reason (Err x) old new left rest n ends = tt
+bad_says reason (Err x) old new left rest n ends = λ b speaks es. ends
 
-pub beyond_says : (r : Result (Option Finding) Failed) (old new : Trial) (left rest : Option (List ℕ)) (n : ℕ) → SaysEnd r old.hearing left at_end → ItemSays r old new left rest n Beyond
+pub beyond_says : (r : Result (Option Finding) Failed) (old new : Trial) (left rest : Option (List ℕ)) (n : ℕ) → SaysEnd r old.hearing left rest at_end → ItemSays r old new left rest n Beyond
 beyond_says (Ok None) old new left rest n ends = absurd ends
 beyond_says (Ok (Some f)) old new left rest n ends = λ b speaks es. ends
-beyond_says (Err x) old new left rest n ends = tt
+beyond_says (Err x) old new left rest n ends = λ b speaks es. ends
 
-pub last_says : (r : Result (Option Finding) Failed) (old new : Trial) (left rest : Option (List ℕ)) (n : ℕ) → SaysEnd r old.hearing left at_end → ItemSays r old new left rest n End
+pub last_says : (r : Result (Option Finding) Failed) (old new : Trial) (left rest : Option (List ℕ)) (n : ℕ) → SaysEnd r old.hearing left rest at_end → ItemSays r old new left rest n End
 last_says (Ok None) old new left rest n ends = absurd ends
 last_says (Ok (Some f)) old new left rest n ends = λ b speaks es. ends
-last_says (Err x) old new left rest n ends = tt
+last_says (Err x) old new left rest n ends = λ b speaks es. ends
 
 pub not_last : (e : Event) → is_end e ≡ false → is_last (Line e) ≡ false
 not_last events.End h = absurd (false≢true (sym h))
@@ -58,8 +61,7 @@ not_last e h = refl
 
 -- a line, and its turns
 pub obeyed_says : (r o : Result (Option Finding) Failed) (e : Event) (old mid new : Trial) (left between rest : Option (List ℕ)) (n : ℕ) → r ≡ Ok None → LineSays r old mid left between n e → mid.last ≡ old.last
-    → ((b : Block) (l : ℕ) (next : Walk → ℕ → AnyJudge)
-    → Says o mid.hearing new.hearing between rest (turned (turns_asked e) (ticks_asked e) (walk_of mid.judge b l) mid.last next) (next (walk_of new.judge b l) new.last))
+    → TurnsSay o mid new between rest (turns_asked e) (ticks_asked e)
     → new.judge.plain.place ≡ mid.judge.plain.place → ItemSays o old new left rest n (Line e)
 obeyed_says r (Ok None) e old mid new left between rest n is line last turns place = λ b speaks.
     (let led = subst (λ q. LineSays q old mid left between n e) is line b speaks in
@@ -74,6 +76,7 @@ obeyed_says r (Ok None) e old mid new left between rest n is line last turns pla
                 ∙ ap (λ (i : ℕ). cut mid.hearing.room mid.hearing.passed (turned (turns_asked e) (ticks_asked e) (walk_of mid.judge led.after (n + 1)) i next) (texts_of mid.hearing.texts between)) (sym last)
                 ∙ on.0,
             on.1,
+            passed_then old.hearing mid.hearing new.hearing left between rest here.2 on.2,
           ));
     })
 obeyed_says r (Ok (Some f)) e old mid new left between rest n is line last turns place = λ b speaks es t.
@@ -83,12 +86,25 @@ obeyed_says r (Ok (Some f)) e old mid new left between rest n is line last turns
     here.0
     ∙ ap (λ (i : ℕ). cut mid.hearing.room mid.hearing.passed (turned (turns_asked e) (ticks_asked e) (walk_of mid.judge led.after (n + 1)) i next) (texts_of mid.hearing.texts between)) (sym last)
     ∙ turns led.after (n + 1) next here.1)
-obeyed_says r (Err x) e old mid new left between rest n is line last turns place = tt
+obeyed_says r (Err x) e old mid new left between rest n is line last turns place = λ b speaks es t.
+    (let led = subst (λ q. LineSays q old mid left between n e) is line b speaks in
+    let next : Walk → ℕ → AnyJudge = λ x s. judged x s es in
+    let here = led.goes (λ w. turned (turns_asked e) (ticks_asked e) w old.last next) t in
+    fails_then old.hearing mid.hearing left between rest (judge_from old b n (items_by (Line e) es)) (turned (turns_asked e) (ticks_asked e) (walk_of mid.judge led.after (n + 1)) mid.last next)
+    (here.0
+    ∙ ap (λ (i : ℕ). cut mid.hearing.room mid.hearing.passed (turned (turns_asked e) (ticks_asked e) (walk_of mid.judge led.after (n + 1)) i next) (texts_of mid.hearing.texts between)) (sym last))
+    here.2 (turns led.after (n + 1) next (λ x s. judged_forward es x s) here.1))
 
 pub stopped_says : (r : Result (Option Finding) Failed) (f : Finding) (e : Event) (old mid new : Trial) (left between rest : Option (List ℕ)) (n : ℕ) → r ≡ Ok (Some f) → LineSays r old mid left between n e
     → ItemSays (Ok (Some f)) old new left rest n (Line e)
 stopped_says r f e old mid new left between rest n is line = λ b speaks es.
     subst (λ q. LineSays q old mid left between n e) is line b speaks (λ w. turned (turns_asked e) (ticks_asked e) w old.last (λ x s. judged x s es))
+
+pub failed_says : (r : Result (Option Finding) Failed) (x : Failed) (e : Event) (old mid new : Trial) (left rest : Option (List ℕ)) (n : ℕ) → r ≡ Err x → LineSays r old mid left rest n e
+    → ItemSays (Err x) old new left rest n (Line e)
+failed_says r x e old mid new left rest n is line = λ b speaks es.
+    subst (λ q. LineSays q old mid left rest n e) is line b speaks (λ w. turned (turns_asked e) (ticks_asked e) w old.last (λ x s. judged x s es))
+    (λ w. turned_forward (turns_asked e) (ticks_asked e) w old.last (λ x s. judged x s es) (λ x s. judged_forward es x s))
 
 -- places
 at_settled : (p q : Place) → machine_place q ≡ q → is_at p q ≡ true → machine_place p ≡ q
@@ -158,6 +174,7 @@ gone_start t r session left spot number empty place version = record {
     ap (λ (es : List Item). cut t.hearing.room t.hearing.passed (judge_from t no_block 1 es) (texts_of t.hearing.texts left)) (items_start r session number empty place version)
         ∙ ap (λ (n : ℕ). cut t.hearing.room t.hearing.passed (judge_from t no_block (n + 1) (items_of r (Some session))) (texts_of t.hearing.texts left)) (sym number),
     expects,
+    passed_none t.hearing left,
   );
 }
 
@@ -179,12 +196,13 @@ gone_next o f old now new judge r q session after left mid rest is so finds read
                 ∙ on.0
                 ∙ ap (λ (es : List Item). cut new.hearing.room new.hearing.passed (judge_from new item.after (q.lines.number + 1) es) (texts_of new.hearing.texts rest)) (split.on going),
             on.1,
+            passed_then old.hearing now.hearing new.hearing left mid rest here.2 on.2,
           ));
     }
 
 pub gone_over : (o : Result (Option Finding) Failed) (x : Finding) (f : Found) (old now new : Trial) (judge : AnyJudge) (r q : Items) (session after : List ℕ) (left mid rest : Option (List ℕ)) → o ≡ Ok (Some x)
     → GoneSo old now judge r (Some session) left mid → Finds (Ok f) r q (Some session) (Some after) → Ready q.lines (Some after) → q.lines.number ≡ r.lines.number + 1
-    → ItemSays o now new mid rest q.lines.number f → Concludes (Ok x) old.hearing left judge
+    → ItemSays o now new mid rest q.lines.number f → Concludes (Ok x) old.hearing left rest judge
 gone_over o x f old now new judge r q session after left mid rest is so finds ready number says t =
     let split = found_split f r q (Some session) (Some after) finds ready tt in
     let here = so.goes t in
@@ -193,6 +211,19 @@ gone_over o x f old now new judge r q session after left mid rest is so finds re
     ∙ ap (λ (es : List Item). cut now.hearing.room now.hearing.passed (judge_from now so.block (r.lines.number + 1) es) (texts_of now.hearing.texts mid)) split.is
     ∙ ap (λ (n : ℕ). cut now.hearing.room now.hearing.passed (judge_from now so.block n (items_by f split.behind)) (texts_of now.hearing.texts mid)) (sym number)
     ∙ ends here.1
+
+pub gone_fails : (o : Result (Option Finding) Failed) (x : Failed) (f : Found) (old now new : Trial) (judge : AnyJudge) (r q : Items) (session after : List ℕ) (left mid rest : Option (List ℕ)) → o ≡ Err x
+    → GoneSo old now judge r (Some session) left mid → Finds (Ok f) r q (Some session) (Some after) → Ready q.lines (Some after) → q.lines.number ≡ r.lines.number + 1
+    → ItemSays o now new mid rest q.lines.number f → Concludes (Err x) old.hearing left rest judge
+gone_fails o x f old now new judge r q session after left mid rest is so finds ready number says t =
+    let split = found_split f r q (Some session) (Some after) finds ready tt in
+    let here = so.goes t in
+    let fails = subst (λ y. ItemSays y now new mid rest q.lines.number f) is says so.block so.speaks split.behind in
+    fails_then old.hearing now.hearing left mid rest judge (judge_from now so.block q.lines.number (items_by f split.behind))
+    (here.0
+    ∙ ap (λ (es : List Item). cut now.hearing.room now.hearing.passed (judge_from now so.block (r.lines.number + 1) es) (texts_of now.hearing.texts mid)) split.is
+    ∙ ap (λ (n : ℕ). cut now.hearing.room now.hearing.passed (judge_from now so.block n (items_by f split.behind)) (texts_of now.hearing.texts mid)) (sym number))
+    here.2 (fails here.1)
 
 pub tried_by : (o : Result (Option Finding) Failed) (new : Trial) (rest : Option (List ℕ)) → o ≡ Ok None → StaysTried o new rest → Tried new rest
 tried_by o new rest is h = subst (λ x. StaysTried x new rest) is h

@@ -1,5 +1,5 @@
 -- A line of a transcript that is read, or lacks, and what the judge then says.
-use Rattle.std.proofs.Common.{◌≡◌, ◌<◌, ◌≤◌, ◌+◌, ◌-◌, ◌^◌, ◌==◌, ◌&&◌, ℕ, suc, Bool, true, false, Option, Some, None, Result, Ok, Err, List, [], ◌∷◌, ◌++◌, length, take, leb, refl, sym, ap, subst, ◌∙◌, inl, inr, arith, append-nil}
+use Rattle.std.proofs.Common.{◌≡◌, ◌<◌, ◌≤◌, ◌+◌, ◌-◌, ◌^◌, ◌==◌, ◌&&◌, ℕ, suc, Bool, true, false, Option, Some, None, Result, Ok, Err, List, [], ◌∷◌, ◌++◌, length, take, leb, refl, sym, ap, subst, ◌∙◌, inl, inr, arith, append-nil, length-append}
 use Rattle.std.proofs.lemmas.Bool.{and_parts, cases_Bool, cases_lt, le-leb, lt-leb, leb-true, false≢true}
 use Rattle.its_io.specs.declared.stream.Failed.{Failed}
 use Rattle.its_session.specs.Events.{most_lines}
@@ -11,11 +11,13 @@ use Rattle.its_reader.specs.Texts.{ReadsText, ReadyTexts, texts_ahead}
 use Rattle.std.specs.Prelude.{bytes_eq}
 use Rattle.std.proofs.lemmas.Slice.Eq.{bytes_eq-Decides}
 use Rattle.its_verify.specs.Sources.{bytes_of, texts_of}
-use Rattle.its_verify.proofs.SourceLaws.{faced, over, told_on}
+use Rattle.its_verify.specs.Sources.{IsTold}
+use Rattle.its_verify.specs.Went.{Fell, Went}
+use Rattle.its_verify.proofs.SourceLaws.{fell_by, line_told, told_on, went_line, went_none, went_then, over}
 use Rattle.its_verify.specs.Lines.{is_last, is_peek, is_whole, most_bytes}
-use Rattle.its_verify.specs.Judge.{Judge, No, at_end, led, peeking, expects}
+use Rattle.its_verify.specs.Judge.{Judge, Verdict, Yes, No, at_end, led, led_by, peeking, expects}
 use Rattle.its_verify.specs.Verified.{Judged, TooLong, within}
-use Rattle.its_verify.specs.Hearing.{Heard, Reads, ReadsOn, Lacks, cut, answer_of, Beside, Concludes, HearsOn, Ruled, Says, Stays, Strict, same_as}
+use Rattle.its_verify.specs.Hearing.{Failing, Forward, Later, Passed, SaidLater, Heard, Reads, ReadsOn, Lacks, cut, answer_of, Beside, Concludes, HearsOn, Ruled, Says, Stays, Strict, same_as}
 use Rattle.its_print.specs.Printing.{Refused, Ticks, text_of_line}
 use Rattle.its_print.proofs.LongestLine.{longest}
 use Rattle.its_word.specs.declared.calls.Pace.{Pace}
@@ -42,13 +44,14 @@ read_line old new left rest r ready number few most passed room heard = (
     few = (let c = heard.count in omega (arith, c, number, few, passed, room));
     bound = rw room heard.bound;
   },
-  λ t.
-      (let told = told_on left rest r.read t r.consumed in (
-        ap (texts_ahead old.texts) told.bytes
-            ∙ faced new.texts.ended (λ more. texts_ahead old.texts (r.read ++ more) ≡ new.texts.text.items ∷ texts_ahead new.texts more) (bytes_of rest) r.next (over new.texts rest ready),
-        told.told,
-      )),
+  λ t. (let next = line_told old.texts new.texts left rest r ready t in (next.0, next.1, went_line old.texts new.texts left rest r ready number t)),
 )
+
+-- the source failed
+pub read_fails : (e : Failed) (old : Hearing) (new : Texts) (left rest : Option (List ℕ)) → ReadsText (Err e) old.texts new left rest → new.number ≡ old.texts.number + 1 → new.most ≡ old.texts.most
+    → Heard old left → IsTold left → Fell most_bytes old.texts left rest
+read_fails e old new left rest r number same heard t =
+    fell_by e old.texts new left rest most_bytes r number (same ∙ heard.most) (number_few old left heard) t
 
 -- one that lacks
 pub read_long : (old new : Hearing) (left rest : Option (List ℕ)) (k : ℕ) → ReadsText (Ok nexts.Long) old.texts new.texts left rest
@@ -82,6 +85,88 @@ read_beyond old new left rest r number heard = λ t.
     let past = r.next.0 in
     let c = heard.count in
     (omega (arith, past, c, number), record { first = some.first; behind = some.behind; is = ap (texts_ahead old.texts) told.bytes ∙ some.is; holds = tt }))
+
+-- lines that were passed
+pub passed_none : (h : Hearing) (left : Option (List ℕ)) → Passed h h left left
+passed_none h left = record { lines = []; went = went_none h.texts left; passed = omega arith }
+
+pub passed_then : (old mid new : Hearing) (left between rest : Option (List ℕ)) → Passed old mid left between → Passed mid new between rest → Passed old new left rest
+passed_then old mid new left between rest p q = record {
+  lines = p.lines ++ q.lines;
+  went = went_then p.lines q.lines old.texts mid.texts new.texts left between rest p.went q.went;
+  passed = omega (arith, q.passed, p.passed, length-append p.lines q.lines);
+}
+
+-- nothing is said, and no line is asked for
+pub nothing_on : (h : Hearing) (left : Option (List ℕ)) (judge : Judge) → HearsOn h h left left judge judge
+nothing_on h left judge = λ t. (refl, t, passed_none h left)
+
+-- verdicts on lines that are still to come
+sooner : (n : ℕ) (v : Verdict) → Later (n + 1) v → Later n v
+sooner n (Yes k) h = omega (arith, h)
+sooner n (No k) h = omega (arith, h)
+
+pub led_forward : {X : Type 0} (reads : List ℕ → Option X) (next : X → Judge) → ((x : X) → Forward (next x)) → Forward (led reads next)
+led_forward {X} reads next h = record { later = λ n texts. by_texts n texts }
+  where
+    by_reads : (o : Option X) (n : ℕ) (texts : List (List ℕ)) → Later n (led_by o next n texts)
+    by_reads None n texts = omega arith
+    by_reads (Some x) n texts = sooner n (next x (n + 1) texts) ((h x).later (n + 1) texts)
+
+    by_texts : (n : ℕ) (texts : List (List ℕ)) → Later n (led reads next n texts)
+    by_texts n [] = omega arith
+    by_texts n (text ∷ texts) = by_reads (reads text) n texts
+
+pub end_forward : Forward at_end
+end_forward = record { later = λ n texts. by n texts }
+  where
+    by : (n : ℕ) (texts : List (List ℕ)) → Later n (at_end n texts)
+    by n [] = omega arith
+    by n (text ∷ texts) = omega arith
+
+within_later : (room n : ℕ) (v : Verdict) → Later n v → SaidLater n (within room v)
+within_later room n (Yes k) h = tt
+within_later room n (No k) h = elim (cases_Bool (leb k room)) [ inl e ↦ rw e h | inr e ↦ rw e tt ]
+
+pub cut_later : (room n : ℕ) (judge : Judge) (texts : List (List ℕ)) → Forward judge → SaidLater n (cut room n judge texts)
+cut_later room n judge texts f =
+    elim (cases_Bool (leb (n + length texts) room)) [
+      | inl fit ↦ rw fit (f.later n texts)
+      | inr past ↦ rw past (within_later room n (judge n (take (room - n) texts)) (f.later n (take (room - n) texts)))
+    ]
+
+-- the source failed where a line was asked for
+pub fails_here : (old : Hearing) (left rest : Option (List ℕ)) (judge : Judge) → (IsTold left → Fell most_bytes old.texts left rest) → Forward judge → IsTold left → Failing old left rest judge
+fails_here old left rest judge h f t = record {
+  at = old;
+  mid = left;
+  passed = passed_none old left;
+  fell = h t;
+  later = cut_later old.room old.passed judge (texts_of old.texts left) f;
+}
+
+-- or behind lines that were passed
+pub fails_then : (old mid : Hearing) (left between rest : Option (List ℕ)) (judge next : Judge) → cut old.room old.passed judge (texts_of old.texts left) ≡ cut mid.room mid.passed next (texts_of mid.texts between)
+    → Passed old mid left between → Failing mid between rest next → Failing old left rest judge
+fails_then old mid left between rest judge next same p f = record {
+  at = f.at;
+  mid = f.mid;
+  passed = passed_then old mid f.at left between f.mid p f.passed;
+  fell = f.fell;
+  later = subst (SaidLater f.at.passed) (sym same) f.later;
+}
+
+pub fails_as : (old : Hearing) (left rest : Option (List ℕ)) (judge same : Judge) → cut old.room old.passed judge (texts_of old.texts left) ≡ cut old.room old.passed same (texts_of old.texts left)
+    → Failing old left rest same → Failing old left rest judge
+fails_as old left rest judge same is f = fails_then old old left left rest judge same is (passed_none old left) f
+
+pub same_fails : (line : List ℕ) (e : Failed) (old new : Hearing) (left rest : Option (List ℕ)) → ReadsOn (Err e) old new left rest
+    → (next : Judge) → Says (Err e) old new left rest (led (same_as line) (λ t. next)) next
+same_fails line e old new left rest h next f = fails_here old left rest (led (same_as line) (λ t. next)) h (led_forward (same_as line) (λ t. next) (λ x. f))
+
+pub peek_fails : (e : Failed) (old new : Hearing) (left rest : Option (List ℕ)) → ReadsOn (Err e) old new left rest
+    → (next : Judge) → Says (Err e) old new left rest (led peeking (λ t. next)) next
+peek_fails e old new left rest h next f = fails_here old left rest (led peeking (λ t. next)) h (led_forward peeking (λ t. next) (λ x. f))
 
 -- where there is room for a line more
 take_one : (k : ℕ) (t : List ℕ) (ts : List (List ℕ)) → take (suc k) (t ∷ ts) ≡ t ∷ take k ts
@@ -158,6 +243,11 @@ read_says reads next x old mid new left rest h beside is texts room passed = λ 
           ∙ ap (λ (m : ℕ). cut new.room m (next x) (texts_of mid.texts rest)) (ap (λ (m : ℕ). m + 1) (sym beside.passed) ∙ sym passed)
           ∙ ap (λ (r : Texts). cut new.room new.passed (next x) (texts_of r rest)) (sym texts),
       at.1,
+      record {
+        lines = mid.texts.text.items ∷ [];
+        went = subst (λ (r : Texts). Went (mid.texts.text.items ∷ []) old.texts r left rest) (sym texts) at.2;
+        passed = omega (arith, passed, beside.passed);
+      },
     ))
 
 pub read_no : {X : Type 0} (reads : List ℕ → Option X) (next : X → Judge) (last : Judge) (f : Finding) (old mid new : Hearing) (left rest : Option (List ℕ)) → ReadsOn (Ok None) old mid left rest → Beside old mid
@@ -267,7 +357,7 @@ strict_ticks v i k slot few text long = go (ticks_in i k text) refl
 
 -- the end
 pub finish_end : (h new : Hearing) (left rest : Option (List ℕ)) → ReadsText (Ok nexts.End) h.texts new.texts left rest → ReadyTexts new.texts rest → Heard h left
-    → Concludes (Ok (findings.Yes h.passed)) h left at_end
+    → Concludes (Ok (findings.Yes h.passed)) h left rest at_end
 finish_end h new left rest r ready heard = λ t.
     (let told = told_on left rest r.read t r.consumed in
     let none : texts_of h.texts left ≡ [] = ap (texts_ahead h.texts) (told.bytes ∙ ap (λ (xs : List ℕ). r.read ++ xs) (over new.texts rest ready r.next.0) ∙ append-nil r.read) ∙ r.next.1 in
@@ -278,16 +368,14 @@ more_lines : (h : Hearing) (left : Option (List ℕ)) (k : ℕ) → k ≡ h.pass
 more_lines h left k is few some = rw some.is (cut_no h.room h.passed at_end some.first some.behind few (λ us. refl) ∙ ap (λ (m : ℕ). Judged (No m)) (sym is))
 
 pub finish_line : (h new : Hearing) (left rest : Option (List ℕ)) (k : ℕ) → ReadsText (Ok nexts.Line) h.texts new.texts left rest → ReadyTexts new.texts rest
-    → new.texts.number ≡ h.texts.number + 1 → new.texts.number ≤ most_lines → k ≡ h.passed + 1 → Heard h left → Concludes (Ok (findings.No k)) h left at_end
+    → new.texts.number ≡ h.texts.number + 1 → new.texts.number ≤ most_lines → k ≡ h.passed + 1 → Heard h left → Concludes (Ok (findings.No k)) h left rest at_end
 finish_line h new left rest k r ready number few is heard = λ t.
-    (let told = told_on left rest r.read t r.consumed in
-    let at = ap (texts_ahead h.texts) told.bytes
-    ∙ faced new.texts.ended (λ more. texts_ahead h.texts (r.read ++ more) ≡ new.texts.text.items ∷ texts_ahead new.texts more) (bytes_of rest) r.next (over new.texts rest ready) in
+    (let at = (line_told h.texts new.texts left rest r ready t).0 in
     let c = heard.count in
     more_lines h left k is (omega (arith, c, number, few)) (record { first = new.texts.text.items; behind = texts_of new.texts rest; is = at; holds = tt }))
 
 pub finish_long : (h new : Hearing) (left rest : Option (List ℕ)) (k : ℕ) → ReadsText (Ok nexts.Long) h.texts new.texts left rest
-    → new.texts.number ≡ h.texts.number + 1 → k ≡ h.passed + 1 → Heard h left → Concludes (Ok (findings.No k)) h left at_end
+    → new.texts.number ≡ h.texts.number + 1 → k ≡ h.passed + 1 → Heard h left → Concludes (Ok (findings.No k)) h left rest at_end
 finish_long h new left rest k r number is heard = λ t.
     (let told = told_on left rest r.read t r.consumed in
     let some = r.next.1 (bytes_of rest) in
@@ -296,7 +384,7 @@ finish_long h new left rest k r number is heard = λ t.
     more_lines h left k is (omega (arith, c, number, few)) (record { first = some.first; behind = some.behind; is = ap (texts_ahead h.texts) told.bytes ∙ some.is; holds = tt }))
 
 pub finish_beyond : (h new : Hearing) (left rest : Option (List ℕ)) → ReadsText (Ok nexts.Beyond) h.texts new.texts left rest
-    → new.texts.number ≡ h.texts.number + 1 → Heard h left → Concludes (Ok findings.Beyond) h left at_end
+    → new.texts.number ≡ h.texts.number + 1 → Heard h left → Concludes (Ok findings.Beyond) h left rest at_end
 finish_beyond h new left rest r number heard = λ t.
     (let told = told_on left rest r.read t r.consumed in
     let some = r.next.1 (bytes_of rest) in
@@ -305,18 +393,31 @@ finish_beyond h new left rest r number heard = λ t.
     let at : texts_of h.texts left ≡ some.first ∷ some.behind = ap (texts_ahead h.texts) told.bytes ∙ some.is in
     rw at (cut_full h.room h.passed at_end some.first some.behind heard.few (omega (arith, past, c, number)) refl))
 
+pub finish_fails : (e : Failed) (h : Hearing) (new : Texts) (left rest : Option (List ℕ)) → ReadsText (Err e) h.texts new left rest → new.number ≡ h.texts.number + 1 → new.most ≡ h.texts.most
+    → Heard h left → Concludes (Err e) h left rest at_end
+finish_fails e h new left rest r number same heard = fails_here h left rest at_end (read_fails e h new left rest r number same heard) end_forward
+
 -- a `?` line, and then the end
 pub refusal_short : (n : ℕ) (r : Reason) (line : List ℕ) → line ≡ text_of_line (Refused n r) → n < 2 ^ 32 → length line ≤ 1543
 refusal_short n r line is few = rw is (longest (Refused n r) few)
 
-pub refused_ends : (n : ℕ) (r : Reason) (line : List ℕ) (result : Result Finding Failed) (old mid : Hearing) (left rest : Option (List ℕ)) → line ≡ text_of_line (Refused n r)
-    → ((next : Judge) → Says (Ok None) old mid left rest (led (same_as line) (λ t. next)) next) → Concludes result mid rest at_end → Concludes result old left (expects (Refused n r ∷ []) at_end)
-refused_ends n r line (Ok f) old mid left rest is says ends = λ t.
+pub refused_ends : (n : ℕ) (r : Reason) (line : List ℕ) (result : Result Finding Failed) (old mid : Hearing) (left between rest : Option (List ℕ)) → line ≡ text_of_line (Refused n r)
+    → ((next : Judge) → Says (Ok None) old mid left between (led (same_as line) (λ t. next)) next) → Concludes result mid between rest at_end → Concludes result old left rest (expects (Refused n r ∷ []) at_end)
+refused_ends n r line (Ok f) old mid left between rest is says ends = λ t.
     (let here = says at_end t in
     ap (λ (xs : List ℕ). cut old.room old.passed (led (same_as xs) (λ t. at_end)) (texts_of old.texts left)) (sym is) ∙ here.0 ∙ ends here.1)
-refused_ends n r line (Err e) old mid left rest is says ends = tt
+refused_ends n r line (Err e) old mid left between rest is says ends = λ t.
+    (let here = says at_end t in
+    fails_then old mid left between rest (expects (Refused n r ∷ []) at_end) at_end
+    (ap (λ (xs : List ℕ). cut old.room old.passed (led (same_as xs) (λ t. at_end)) (texts_of old.texts left)) (sym is) ∙ here.0) here.2 (ends here.1))
+
+pub refused_fails : (n : ℕ) (r : Reason) (line : List ℕ) (e : Failed) (old mid : Hearing) (left rest : Option (List ℕ)) → line ≡ text_of_line (Refused n r)
+    → ((next : Judge) → Says (Err e) old mid left rest (led (same_as line) (λ t. next)) next) → Concludes (Err e) old left rest (expects (Refused n r ∷ []) at_end)
+refused_fails n r line e old mid left rest is says t =
+    fails_as old left rest (expects (Refused n r ∷ []) at_end) (led (same_as line) (λ t. at_end))
+    (ap (λ (xs : List ℕ). cut old.room old.passed (led (same_as xs) (λ t. at_end)) (texts_of old.texts left)) (sym is)) (says at_end end_forward t)
 
 pub refused_lacks : (n : ℕ) (r : Reason) (line : List ℕ) (f : Finding) (old mid : Hearing) (left rest : Option (List ℕ)) → line ≡ text_of_line (Refused n r)
-    → ((next : Judge) → Says (Ok (Some f)) old mid left rest (led (same_as line) (λ t. next)) next) → Concludes (Ok f) old left (expects (Refused n r ∷ []) at_end)
+    → ((next : Judge) → Says (Ok (Some f)) old mid left rest (led (same_as line) (λ t. next)) next) → Concludes (Ok f) old left rest (expects (Refused n r ∷ []) at_end)
 refused_lacks n r line f old mid left rest is says = λ t.
     ap (λ (xs : List ℕ). cut old.room old.passed (led (same_as xs) (λ t. at_end)) (texts_of old.texts left)) (sym is) ∙ says at_end t

@@ -1,7 +1,7 @@
 -- The judge is right about the lines that are a transcript from where the session stands on.
 use Rattle.std.proofs.Common.{◌≡◌, ℕ, zero, suc, Bool, true, Option, Some, None, List, [], ◌∷◌, ◌++◌, length, refl, subst}
 use Rattle.std.proofs.lemmas.Slice.Eq.{bytes_eq-Decides}
-use Rattle.its_word.specs.Item.{Item, Read, Unread, InTurn, Beyond}
+use Rattle.its_word.specs.Item.{Item, Read, Unread, Beyond}
 use Rattle.its_word.specs.declared.calls.Pace.{Pace}
 use Rattle.its_word.specs.declared.show.Peek.{Peek}
 use Rattle.its_word.specs.declared.show.PeekState.TheVariants.{User}
@@ -13,13 +13,12 @@ use Rattle.its_plain.specs.Machine.{Machine}
 use Rattle.its_plain.specs.Operator.{Block, Refuses, Does, Quits}
 use Rattle.its_plain.specs.Operator as operator
 use Rattle.its_plain.specs.Transcript.{Fate, Ended, Open, Lost, TooLong, Walk, walk_after, next_line}
-use Rattle.its_plain.specs.Unrolled.{turn_after, turns_asked, ticks_asked}
-use Rattle.its_plain.proofs.RunLaws.{PacedOn, LinedOn, Run}
+use Rattle.its_plain.specs.Turns.{turn_after, turns_asked, ticks_asked}
+use Rattle.its_plain.proofs.RunLaws.{PacedOn, TurnBy, TurnsOn, LinedOn, Run}
 use Rattle.its_verify.specs.Lines.{Said, is_peek, says}
 use Rattle.its_verify.specs.Letters.{paced, ticked, ticks_in}
-use Rattle.its_verify.specs.Judge.{Judge, at_end, gone, judged, led, peeking, saying, taken, expects, turned, turned_by}
+use Rattle.its_verify.specs.Judge.{Judge, at_end, gone, judged, led, peeking, saying, expects, turned, turned_by}
 use Rattle.its_verify.proofs.LicenceLaws.{any_letters, if_so_is, on_paced, paced_on, said_ticks, then_of, ticked_some}
-use Rattle.its_verify.proofs.TurnLaws.{SessionOn, TurnBy, TurnsOn}
 use Rattle.its_verify.proofs.RightLaws.{Finished, Led, LedBy, Right, led_on, right_as, right_at_end, right_led}
 
 -- a text that says a line
@@ -206,14 +205,6 @@ right_gone v (Done (operator.Ticks i k)) S judge next =
 right_gone v (Done Quits) S judge next = right_known [] (OnLined v (Done Quits) S) Ended (refl, refl) (λ lines f h. h.0)
 right_gone v (Peeks i) S judge next = right_peek v i S (judge (next_line v)) (next (next_line v))
 
--- items among which the turns stand
-right_taken : (es : List Item) (v : Walk) → Right (Along [] (Run v es)) (taken v es)
-right_taken [] v = right_known [] (Run v []) Open (refl, refl) (λ lines f h. h.0)
-right_taken (Read e ∷ es) v = right_gone v (lined v.machine v.block e) (λ w. Run w es) (λ w. taken w es) (λ w. right_taken es w)
-right_taken (InTurn i k ∷ es) v = right_ticks v i k (λ w. Run w es) (λ w. taken w es) (λ w. right_taken es w)
-right_taken (Unread r ∷ es) v = right_known (Refused v.line r ∷ []) (Run v (Unread r ∷ es)) Lost (refl, refl) (λ lines f h. h.0)
-right_taken (Beyond ∷ es) v = right_known [] (Run v (Beyond ∷ es)) TooLong (refl, refl) (λ lines f h. h.0)
-
 -- turns, and what follows them
 abbrev Turns : ℕ → ℕ → Walk → ℕ → (Walk → ℕ → List Line → Fate → Type 0) → List Line → Fate → Type 0
 Turns n q v last S lines fate = TurnsOn n q v last (λ w s rest. S w s rest fate) lines
@@ -234,13 +225,12 @@ right_turns (suc n) q v last S judge each =
 
 -- lines that are shown by a session from the walk on, after a turn of the last slot, and their texts
 abbrev pub From : Walk → ℕ → List Item → List (List ℕ) → Type 0
-From v last es texts = Along [] (SessionOn v last es) texts
+From v last es texts = Along [] (Run v last es) texts
 
 pub right_judged : (es : List Item) (v : Walk) (last : ℕ) → Right (From v last es) (judged v last es)
-right_judged [] v last = right_taken [] v
+right_judged [] v last = right_known [] (Run v last []) Open (refl, refl) (λ lines f h. h.0)
 right_judged (Read e ∷ es) v last =
-    right_gone v (lined v.machine v.block e) (λ w. Turns (turns_asked e) (ticks_asked e) w last (λ x s. SessionOn x s es)) (λ w. turned (turns_asked e) (ticks_asked e) w last (λ x s. judged x s es))
-    (λ w. right_turns (turns_asked e) (ticks_asked e) w last (λ x s. SessionOn x s es) (λ x s. judged x s es) (λ x s. right_judged es x s))
-right_judged (InTurn i k ∷ es) v last = right_taken (InTurn i k ∷ es) v
-right_judged (Unread r ∷ es) v last = right_taken (Unread r ∷ es) v
-right_judged (Beyond ∷ es) v last = right_taken (Beyond ∷ es) v
+    right_gone v (lined v.machine v.block e) (λ w. Turns (turns_asked e) (ticks_asked e) w last (λ x s. Run x s es)) (λ w. turned (turns_asked e) (ticks_asked e) w last (λ x s. judged x s es))
+    (λ w. right_turns (turns_asked e) (ticks_asked e) w last (λ x s. Run x s es) (λ x s. judged x s es) (λ x s. right_judged es x s))
+right_judged (Unread r ∷ es) v last = right_known (Refused v.line r ∷ []) (Run v last (Unread r ∷ es)) Lost (refl, refl) (λ lines f h. h.0)
+right_judged (Beyond ∷ es) v last = right_known [] (Run v last (Beyond ∷ es)) TooLong (refl, refl) (λ lines f h. h.0)

@@ -1,16 +1,21 @@
 -- The session of an input, line by line.
-use Rattle.std.proofs.Common.{◌≡◌, ◌≤◌, ◌<◌, ◌+◌, ℕ, Bool, true, false, Option, Ok, List, [], ◌∷◌, ◌++◌, length, refl, sym, ap, ◌∙◌, ltb, arith}
+use Rattle.std.proofs.Common.{◌≡◌, ◌≤◌, ◌<◌, ◌+◌, ℕ, Bool, true, false, Option, Ok, Err, List, [], ◌∷◌, ◌++◌, length, refl, sym, ap, ◌∙◌, ltb, arith}
 use Rattle.std.proofs.lemmas.Bool.Decides.{nat_tests}
+use Rattle.std.specs.List.{list_any}
+use Rattle.std.proofs.lemmas.List.Folds.{list_any-append}
+use Rattle.its_io.specs.declared.stream.Failed.{Failed}
 use Rattle.its_session.specs.Events.{most_lines}
 use Rattle.its_reader.specs.declared.lines.Next.TheVariants as nexts
 use Rattle.its_reader.specs.declared.texts.Texts.{Texts}
 use Rattle.its_reader.specs.TextLines.{before_lf}
 use Rattle.its_reader.specs.Texts.{ReadsText, ReadyTexts, texts_ahead}
-use Rattle.its_verify.specs.Keeping.{Keeps, KeptSo}
+use Rattle.its_verify.specs.Keeping.{Keeps, Kept, KeptSo}
+use Rattle.its_verify.specs.Went.{Went}
 use Rattle.its_verify.specs.Sources.{bytes_of, texts_of}
 use Rattle.its_verify.specs.Verified.{Both, LongLine, NoEnd, is_end_line, most_session_bytes, parts_from}
 use Rattle.its_verify.specs.declared.keeping.Part.TheVariants.{Session, Long, Cut, Beyond}
-use Rattle.its_verify.proofs.SourceLaws.{end_told, line_told, told_on}
+use Rattle.its_verify.specs.declared.keeping.Broken.TheVariants.{Source}
+use Rattle.its_verify.proofs.SourceLaws.{end_told, fell_by, line_told, told_on, went_line, went_none, went_then}
 
 few_lines : (n : ℕ) → n ≤ most_lines → ltb most_lines n ≡ false
 few_lines n few = grind (arith, nat_tests)
@@ -32,9 +37,21 @@ part_on : (n : ℕ) (session line : List ℕ) (lines : List (List ℕ)) → n �
     → parts_from n session (line ∷ lines) ≡ parts_from (n + 1) (session ++ line) lines
 part_on n session line lines few short end = rw (few_lines n few, short_line (length (before_lf line)) short, end) refl
 
+kept_then : (end : Bool) (old now new : Texts) (left mid rest : Option (List ℕ)) → Kept false old now left mid → Went (new.text.items ∷ []) now new mid rest → is_end_line new.text.items ≡ end
+    → Kept end old new left rest
+kept_then end old now new left mid rest k w is = record {
+  lines = k.lines ++ new.text.items ∷ [];
+  went = went_then k.lines (new.text.items ∷ []) old now new left mid rest k.went w;
+  ends = rw (list_any-append is_end_line k.lines (new.text.items ∷ []), k.ends) (last end is);
+}
+  where
+    last : (b : Bool) → is_end_line new.text.items ≡ b → list_any is_end_line (new.text.items ∷ []) ≡ b
+    last true h = rw h refl
+    last false h = rw h refl
+
 pub kept_start : (old : Texts) (session : List ℕ) (left : Option (List ℕ)) → old.number ≡ 0 → session ≡ [] → KeptSo old old session left left
 kept_start old session left number empty t =
-    (ap (λ (n : ℕ). parts_from (n + 1) [] (texts_of old left)) (sym number) ∙ ap (λ (xs : List ℕ). parts_from (old.number + 1) xs (texts_of old left)) (sym empty), t)
+    (ap (λ (n : ℕ). parts_from (n + 1) [] (texts_of old left)) (sym number) ∙ ap (λ (xs : List ℕ). parts_from (old.number + 1) xs (texts_of old left)) (sym empty), t, record { lines = []; went = went_none old left; ends = refl })
 
 pub kept_on : (old now new : Texts) (session after : List ℕ) (left mid rest : Option (List ℕ)) (b : Bool) → KeptSo old now session left mid → ReadsText (Ok nexts.Line) now new mid rest
     → ReadyTexts new rest → new.number ≡ now.number + 1 → new.number ≤ most_lines → length (before_lf new.text.items) ≤ 255 → b ≡ is_end_line new.text.items → b ≡ false
@@ -47,6 +64,7 @@ kept_on old now new session after left mid rest b so r ready number few short te
           ∙ ap (λ (n : ℕ). parts_from (n + 1) (session ++ new.text.items) (texts_of new rest)) (sym number)
           ∙ ap (λ (xs : List ℕ). parts_from (new.number + 1) xs (texts_of new rest)) (sym adds),
       next.1,
+      kept_then false old now new left mid rest before.2 (went_line now new mid rest r ready number before.1) (sym test ∙ is),
     )
 
 pub keeps_session : (old now new : Texts) (session after : List ℕ) (left mid rest : Option (List ℕ)) (b : Bool) → KeptSo old now session left mid → ReadsText (Ok nexts.Line) now new mid rest
@@ -60,6 +78,7 @@ keeps_session old now new session after left mid rest b so r ready number few sh
           ∙ ap (λ (n : ℕ). Both (session ++ new.text.items) n (texts_of new rest)) (sym number)
           ∙ ap (λ (xs : List ℕ). Both xs new.number (texts_of new rest)) (sym adds),
       next.1,
+      kept_then true old now new left mid rest before.2 (went_line now new mid rest r ready number before.1) (sym test ∙ is),
     )
 
 pub keeps_long : (old now new : Texts) (session : List ℕ) (left mid rest : Option (List ℕ)) (n : ℕ) → KeptSo old now session left mid → ReadsText (Ok nexts.Long) now new mid rest
@@ -72,6 +91,7 @@ keeps_long old now new session left mid rest n so r number most is t =
       before.0 ∙ ap (parts_from (now.number + 1) session) (ap (texts_ahead now) told.bytes ∙ long.is)
           ∙ rw (few_lines (now.number + 1) (omega (arith, number, few)), long_line (length (before_lf long.first)) (let h = long.holds in omega (arith, h, most))) (ap LongLine (sym number ∙ sym is)),
       told.told,
+      tt,
     )
 
 pub keeps_cut : (old now new : Texts) (session : List ℕ) (left mid rest : Option (List ℕ)) (n : ℕ) → KeptSo old now session left mid → ReadsText (Ok nexts.End) now new mid rest
@@ -79,7 +99,7 @@ pub keeps_cut : (old now new : Texts) (session : List ℕ) (left mid rest : Opti
 keeps_cut old now new session left mid rest n so r ready number is t =
     let before = so t in
     let end = end_told now new mid rest r ready before.1 in
-    (before.0 ∙ ap (parts_from (now.number + 1) session) end.0 ∙ ap NoEnd (sym number ∙ sym is), end.1)
+    (before.0 ∙ ap (parts_from (now.number + 1) session) end.0 ∙ ap NoEnd (sym number ∙ sym is), end.1, tt)
 
 pub keeps_beyond : (old now new : Texts) (session : List ℕ) (left mid rest : Option (List ℕ)) → KeptSo old now session left mid → ReadsText (Ok nexts.Beyond) now new mid rest
     → new.number ≡ now.number + 1 → Keeps (Ok Beyond) old new session left rest
@@ -88,4 +108,17 @@ keeps_beyond old now new session left mid rest so r number t =
     let told = told_on mid rest r.read before.1 r.consumed in
     let some = r.next.1 (bytes_of rest) in
     let past = r.next.0 in
-    (before.0 ∙ ap (parts_from (now.number + 1) session) (ap (texts_ahead now) told.bytes ∙ some.is) ∙ rw (past_lines (now.number + 1) (omega (arith, number, past))) refl, told.told)
+    (before.0 ∙ ap (parts_from (now.number + 1) session) (ap (texts_ahead now) told.bytes ∙ some.is) ∙ rw (past_lines (now.number + 1) (omega (arith, number, past))) refl, told.told, tt)
+
+pub keeps_failed : (e : Failed) (old now new : Texts) (session after : List ℕ) (left mid rest : Option (List ℕ)) → KeptSo old now session left mid → ReadsText (Err e) now new mid rest
+    → new.number ≡ now.number + 1 → new.most ≡ 255 → now.number ≤ most_lines → Keeps (Err Source) old new after left rest
+keeps_failed e old now new session after left mid rest so r number most few t =
+    let before = so t in
+    record {
+      at = now;
+      mid = mid;
+      session = session;
+      kept = before.2;
+      fell = fell_by e now new mid rest 255 r number most few before.1;
+      parts = before.0;
+    }

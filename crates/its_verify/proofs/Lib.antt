@@ -4,7 +4,6 @@ pub mod PrintedLaws
 pub mod PaceLaws
 pub mod LicenceLaws
 pub mod RightLaws
-pub mod TurnLaws
 pub mod JudgeLaws
 pub mod VerdictLaws
 pub mod BoundedLaws
@@ -22,6 +21,8 @@ pub mod LettersLaws
 pub mod TrialLaws
 pub mod ShowingLaws
 pub mod GoingLaws
+pub mod ErrLaws
+pub mod ForwardLaws
 pub mod GoneLaws
 pub mod OutLaws
 pub mod VerifyLaws

@@ -10,7 +10,7 @@ use Rattle.its_plain.specs.CallStep.{step}
 use Rattle.its_plain.specs.Licence.{IsRunning, IsOff, Licensed, most_dots}
 use Rattle.its_plain.specs.Machine.{Whole, Machine}
 use Rattle.its_plain.specs.Transcript.{Walk, after_letter}
-use Rattle.its_plain.specs.Unrolled.{is_running}
+use Rattle.its_plain.specs.Turns.{is_running}
 use Rattle.its_plain.proofs.RunLaws.{PacedOn}
 use Rattle.its_verify.specs.Lines.{says}
 use Rattle.its_verify.specs.Letters.{if_so, led_to, paces_from, paced, ticks_in, ticked}

@@ -12,9 +12,8 @@ use Rattle.its_reader.specs.declared.items.Items.{Items}
 use Rattle.its_reader.specs.Texts.{ReadsText, ReadyTexts}
 use Rattle.its_print.specs.Printing.{Line}
 use Rattle.its_plain.specs.Machine.{Machine}
-use Rattle.its_plain.specs.Operator.{Block}
 use Rattle.its_plain.specs.Transcript.{Walk}
-use Rattle.its_plain.specs.Unrolled.{turn_after}
+use Rattle.its_plain.specs.Turns.{turn_after}
 use Rattle.its_direct.specs.declared.events.Answer.{Answer}
 use Rattle.its_verify.specs.Finds.{ReadsOut, ReadsOutIf}
 use Rattle.its_verify.specs.Going.{GoneSo, LineSays}
@@ -25,6 +24,7 @@ use Rattle.its_verify.specs.Letters.{ticked}
 use Rattle.its_verify.specs.Showing.{heard_of, lines_of}
 use Rattle.its_verify.specs.Sources.{IsTold, texts_of}
 use Rattle.its_verify.specs.Standing.{walk_of}
+use Rattle.its_verify.specs.Trial.{TicksSay, TurnsSay}
 use Rattle.its_verify.specs.Verified.{Answer as Said, Judged, within}
 use Rattle.its_verify.specs.declared.finding.Finding.{Finding}
 use Rattle.its_verify.specs.declared.finding.Finding.TheVariants as findings
@@ -115,19 +115,19 @@ pub shown_out : (e : Event) (a : Answer) (m : Machine) (r : Result (Option Findi
     → ((next : Judge) → Says r old new left rest (heard_of e a m next) next) → ReadsOutIf r left rest
 shown_out e a m r old new left rest says = said_out r old new left rest (heard_of e a m never) never (heard_refuses e a m never never_refuses) (says never)
 
-pub tick_out : (i k : ℕ) (r : Result (Option Finding) Failed) (old new : Trial) (left rest : Option (List ℕ))
-    → ((b : Block) (l : ℕ) (next : Walk → Judge) → Says r old.hearing new.hearing left rest (led (ticked (walk_of old.judge b l) i k) next) (next (walk_of new.judge b l))) → ReadsOutIf r left rest
-tick_out i k r old new left rest says =
+pub tick_out : (i k : ℕ) (r : Result (Option Finding) Failed) (old new : Trial) (left rest : Option (List ℕ)) → TicksSay r old new left rest i k → ReadsOutIf r left rest
+tick_out i k (Ok o) old new left rest says =
     let b = block_at old.judge.plain.place in
-    said_out r old.hearing new.hearing left rest (led (ticked (walk_of old.judge b 0) i k) (λ w. never)) never
+    said_out (Ok o) old.hearing new.hearing left rest (led (ticked (walk_of old.judge b 0) i k) (λ w. never)) never
     (led_refuses (ticked (walk_of old.judge b 0) i k) (λ w. never) (λ w. never_refuses)) (says b 0 (λ w. never))
+tick_out i k (Err e) old new left rest says = tt
 
-pub turns_out : (n q : ℕ) (r : Result (Option Finding) Failed) (old new : Trial) (left rest : Option (List ℕ))
-    → ((b : Block) (l : ℕ) (next : Walk → ℕ → Judge) → Says r old.hearing new.hearing left rest (turned n q (walk_of old.judge b l) old.last next) (next (walk_of new.judge b l) new.last)) → ReadsOutIf r left rest
-turns_out n q r old new left rest says =
+pub turns_out : (n q : ℕ) (r : Result (Option Finding) Failed) (old new : Trial) (left rest : Option (List ℕ)) → TurnsSay r old new left rest n q → ReadsOutIf r left rest
+turns_out n q (Ok o) old new left rest says =
     let b = block_at old.judge.plain.place in
-    said_out r old.hearing new.hearing left rest (turned n q (walk_of old.judge b 0) old.last (λ w s. never)) never
+    said_out (Ok o) old.hearing new.hearing left rest (turned n q (walk_of old.judge b 0) old.last (λ w s. never)) never
     (turned_refuses n q (walk_of old.judge b 0) old.last (λ w s. never) (λ w s. never_refuses)) (says b 0 (λ w s. never))
+turns_out n q (Err e) old new left rest says = tt
 
 -- what was read before, where it went on
 pub out_behind : (f : Finding) (left mid rest : Option (List ℕ)) → (IsTold left → IsTold mid) → ReadsOut f mid rest → ReadsOut f left rest

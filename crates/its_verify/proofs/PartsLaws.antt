@@ -6,7 +6,6 @@ use Rattle.its_print.specs.Printing.{Line, text}
 use Rattle.its_print.specs.Sizes.{IsPrinted}
 use Rattle.its_session.specs.Events.{events_of, most_lines}
 use Rattle.its_plain.specs.Transcript.{Fate, Transcript}
-use Rattle.its_plain.specs.Unrolled.{unrolled}
 use Rattle.its_reader.specs.TextLines.{before_lf, lines_in}
 use Rattle.its_verify.specs.Verified.{Judged, Parts, Both, LongLine, TooMany, is_end_line, most_session_bytes, parts_from, verified}
 use Rattle.its_verify.specs.Judge.{Yes}
@@ -81,7 +80,7 @@ session_parts session rest count s =
 
 -- a transcript that is printed, behind its session, is answered Yes, where there is room for both
 pub session_verified : (session : List ℕ) (count : ℕ) (lines : List Line) (fate : Fate) → IsSession session count → AllByRecursion IsPrinted lines
-    → Transcript (unrolled (events_of session) lines) lines fate → count + length lines ≤ most_lines → verified (session ++ text lines) ≡ Judged (Yes (length lines))
+    → Transcript (events_of session) lines fate → count + length lines ≤ most_lines → verified (session ++ text lines) ≡ Judged (Yes (length lines))
 unfolding verified
 session_verified session count lines fate s printed h room =
     let es = events_of session in

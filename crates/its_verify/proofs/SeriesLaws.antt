@@ -1,23 +1,22 @@
 -- So many steps of one job alone are so many `*`.
-use Rattle.std.proofs.Common.{◌≡◌, ◌≢◌, ◌<◌, ◌==◌, ◌||◌, ℕ, zero, suc, Bool, true, false, if◌then◌else◌, is_some, Option, Some, None, List, ◌∷◌, ◌++◌, length, replicate, refl, sym, ap, subst, ◌∙◌, inl, inr, slice_set}
+use Rattle.std.proofs.Common.{◌≡◌, ◌≢◌, ◌<◌, ◌==◌, ◌||◌, ◌&&◌, not, ℕ, zero, suc, Bool, true, false, if◌then◌else◌, is_some, Option, Some, None, List, ◌∷◌, ◌++◌, length, replicate, refl, sym, ap, subst, ◌∙◌, inl, inr, slice_set}
 use Rattle.std.specs.Prelude.{option_and_then}
 use Rattle.std.proofs.lemmas.Bool.{cases_eq, eq-eqb, false≢true, ne_eqb}
 use Rattle.std.proofs.lemmas.List.{get_or-set_same, get_or-set_other}
 use Rattle.its_word.specs.declared.calls.Pace.{Pace}
 use Rattle.its_word.specs.declared.calls.Pace.TheVariants.{Step}
-use Rattle.its_plain.specs.CallStep.{alone, disturbed, transition}
+use Rattle.its_plain.specs.CallStep.{alone, disturbed, transition, makes}
 use Rattle.its_plain.specs.Licence.{Dots, dots_after}
 use Rattle.its_plain.specs.Machine.{Machine}
 use Rattle.its_plain.specs.Operator.{Block}
 use Rattle.its_plain.specs.Transcript.{Walk, after_letter}
-use Rattle.its_direct.specs.Events.{Kept}
 use Rattle.its_direct.specs.Plain.{machine_of}
 use Rattle.its_direct.specs.Series.{Series}
 use Rattle.its_direct.specs.declared.plain.Plain.{Plain}
 use Rattle.its_verify.specs.Letters.{paced}
-use Rattle.its_verify.specs.Standing.{RunLed, Sure, dots_of, walk_of}
+use Rattle.its_verify.specs.Standing.{RunLed, dots_of, walk_of}
 use Rattle.its_verify.specs.declared.judge.Judge.{Judge}
-use Rattle.its_verify.proofs.StandingLaws.{disturbed_is, same_dots, set_zero, step_is}
+use Rattle.its_verify.proofs.StandingLaws.{disturbed_is, makes_is, same_dots, step_is}
 
 -- none came for slot i, as after one or more `*` of it
 abbrev cleared : Dots → ℕ → Dots
@@ -35,26 +34,33 @@ cleared_again : (k : ℕ) (d : Dots) (i : ℕ) → cleared_by k (cleared d i) i 
 cleared_again zero d i = refl
 cleared_again (suc k) d i = same_dots (cleared (cleared d i) i) (cleared d i) (λ x. twice (x == i) (d x))
 
-or_false : (b c : Bool) (n : ℕ) → c ≡ false → (if b || c then 0 else n) ≡ (if b then 0 else n)
-or_false true c n h = refl
-or_false false c n h = rw h refl
+or_false : (b c e : Bool) (n : ℕ) → c ≡ false → e ≡ false → (if b || c || e then 0 else n) ≡ (if b then 0 else n)
+or_false true c e n h g = refl
+or_false false c e n h g = rw (h, g) refl
 
-alone_dots : (m p : Machine) (d : Dots) (i : ℕ) → transition m i ≡ Some (alone p) → dots_after m d i Step ≡ cleared d i
-alone_dots m p d i is = same_dots (dots_after m d i Step) (cleared d i) (λ x. or_false (x == i) (disturbed m i x) (d x) (disturbed_is m i x (alone p) is))
+-- no job is made where the same slots have jobs
+unmade : {X : Type 0} (o p : Option X) → is_some p ≡ is_some o → (not (is_some o) && is_some p) ≡ false
+unmade None None h = refl
+unmade None (Some x) h = absurd (false≢true (sym h))
+unmade (Some x) p h = refl
+
+alone_dots : (m p : Machine) (d : Dots) (i : ℕ) → transition m i ≡ Some (alone p) → ((k : ℕ) → is_some (p.jobs k) ≡ is_some (m.jobs k)) → dots_after m d i Step ≡ cleared d i
+alone_dots m p d i is jobs = same_dots (dots_after m d i Step) (cleared d i)
+    (λ x. or_false (x == i) (disturbed m i x) (makes m i x) (d x) (disturbed_is m i x (alone p) is) (makes_is m i x (alone p) is ∙ unmade (m.jobs x) (p.jobs x) (jobs x)))
 
 abbrev walk_at : Machine → Dots → Block → ℕ → Walk
 walk_at m d b n = record { machine = m; dots = d; block = b; line = n }
 
-one_paced : (m p : Machine) (d : Dots) (b : Block) (n i : ℕ) (ps : List Pace) → transition m i ≡ Some (alone p) → paced (walk_at m d b n) i (Step ∷ ps) ≡ paced (walk_at p (cleared d i) b n) i ps
-one_paced m p d b n i ps is =
+one_paced : (m p : Machine) (d : Dots) (b : Block) (n i : ℕ) (ps : List Pace) → transition m i ≡ Some (alone p) → ((k : ℕ) → is_some (p.jobs k) ≡ is_some (m.jobs k)) → paced (walk_at m d b n) i (Step ∷ ps) ≡ paced (walk_at p (cleared d i) b n) i ps
+one_paced m p d b n i ps is jobs =
     ap (option_and_then (λ (x : Machine). paced (after_letter (walk_at m d b n) i Step x) i ps)) (step_is m i (alone p) is)
-    ∙ ap (λ (e : Dots). paced (walk_at p e b n) i ps) (alone_dots m p d i is)
+    ∙ ap (λ (e : Dots). paced (walk_at p e b n) i ps) (alone_dots m p d i is jobs)
 
 series_paced : (k : ℕ) (m o : Machine) (d : Dots) (b : Block) (n i : ℕ) (ps : List Pace) → Series k m i o → paced (walk_at m d b n) i (replicate k Step ++ ps) ≡ paced (walk_at o (cleared_by k d i) b n) i ps
 series_paced zero m o d b n i ps s = ap (λ (x : Machine). paced (walk_at x d b n) i ps) (sym s)
 series_paced (suc k) m o d b n i ps s =
-    one_paced m s.0 d b n i (replicate k Step ++ ps) s.1
-    ∙ series_paced k s.0 o (cleared d i) b n i ps s.2
+    one_paced m s.0 d b n i (replicate k Step ++ ps) s.1 s.2
+    ∙ series_paced k s.0 o (cleared d i) b n i ps s.3
     ∙ ap (λ (e : Dots). paced (walk_at o e b n) i ps) (cleared_again k d i)
 
 set_cleared : (ds : List ℕ) (i : ℕ) → i < length ds → dots_of (slice_set ds i 0) ≡ cleared (dots_of ds) i
@@ -79,23 +85,3 @@ units_some old new i zero some s dots room b n ps = absurd (some refl)
 units_some old new i (suc k) some s dots room b n ps =
     series_paced (suc k) (machine_of old.plain) (machine_of new.plain) (dots_of old.dots) b n i ps s
     ∙ ap (λ (e : Dots). paced (walk_at (machine_of new.plain) e b n) i ps) (sym (ap dots_of dots ∙ set_cleared old.dots i room))
-
--- what the judge is sure of
-none_too : {X : Type 0} (o p : Option X) → is_some p ≡ is_some o → p ≡ None → o ≡ None
-none_too None p h e = refl
-none_too (Some x) p h e = let w : false ≡ true = sym (ap is_some e) ∙ h in absurd (false≢true w)
-
-pub units_sure : (old new : Judge) (i : ℕ) → Kept new.plain → ((k : ℕ) → is_some ((machine_of new.plain).jobs k) ≡ is_some ((machine_of old.plain).jobs k))
-    → new.dots ≡ slice_set old.dots i 0 → i < length old.dots → Sure old → Sure new
-units_sure old new i kept jobs dots room sure = record {
-  kept = kept;
-  dotless = λ k none.
-      ap (λ (ds : List ℕ). dots_of ds k) dots
-      ∙ set_zero old.dots i k room (sure.dotless k (none_too ((machine_of old.plain).jobs k) ((machine_of new.plain).jobs k) (jobs k) none));
-}
-
-pub still_sure : (old new : Judge) → new.plain ≡ old.plain → new.dots ≡ old.dots → Sure old → Sure new
-still_sure old new plain dots sure = record {
-  kept = subst Kept (sym plain) sure.kept;
-  dotless = λ k none. ap (λ (ds : List ℕ). dots_of ds k) dots ∙ sure.dotless k (ap (λ (p : Plain). (machine_of p).jobs k) (sym plain) ∙ none);
-}

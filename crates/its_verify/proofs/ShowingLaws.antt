@@ -25,7 +25,8 @@ use Rattle.its_direct.specs.Plain.{machine_of}
 use Rattle.its_direct.specs.declared.plain.Plain.{Plain}
 use Rattle.its_verify.specs.Sources.{texts_of}
 use Rattle.its_verify.specs.Verified.{Answer}
-use Rattle.its_verify.specs.Hearing.{Heard, Says, Stays, cut, same_as}
+use Rattle.its_verify.specs.Hearing.{Forward, Heard, Says, Stays, cut, same_as}
+use Rattle.its_verify.proofs.HearingLaws.{fails_then, led_forward, nothing_on, passed_none, passed_then}
 use Rattle.its_verify.specs.Judge.{Judge, led, saying, expects}
 use Rattle.its_verify.specs.Showing.{BitsSo, LinesSo, names_line, shown_if, text_lines}
 use Rattle.its_verify.specs.declared.finding.Finding.{Finding}
@@ -87,13 +88,17 @@ pub list_says : (s a : ℕ) (r : Result (List ℕ) Reason) (ws : List ℕ) (o : 
 list_says s a r ws o old new left rest there is says = shown_says (listed s a) r ws o old new left rest there is says
 
 -- several lines
+pub lines_forward : (lines : List Line) (next : Judge) → Forward next → Forward (expects lines next)
+lines_forward [] next h = h
+lines_forward (line ∷ lines) next h = led_forward (saying line) (λ text. expects lines next) (λ text. lines_forward lines next h)
+
 pub lines_start : (h : Hearing) (left : Option (List ℕ)) (lines : List Line) → LinesSo h h left left lines lines
-lines_start h left lines next t = (refl, t)
+lines_start h left lines next t = (refl, t, passed_none h left)
 
 pub lines_next : (r : Result (Option Finding) Failed) (old now new : Hearing) (left mid rest : Option (List ℕ)) (lines rests more : List Line) (l : Line) → r ≡ Ok None → rests ≡ l ∷ more → LinesSo old now left mid lines rests
     → ((next : Judge) → Says r now new mid rest (expects (l ∷ []) next) next) → LinesSo old new left rest lines more
 lines_next (Ok None) old now new left mid rest lines rests more l is split so says next =
-    λ t. (let here = subst (LinesSo old now left mid lines) split so next t in let on = says (expects more next) here.1 in (here.0 ∙ on.0, on.1))
+    λ t. (let here = subst (LinesSo old now left mid lines) split so next t in let on = says (expects more next) here.1 in (here.0 ∙ on.0, on.1, passed_then old now new left mid rest here.2 on.2))
 lines_next (Ok (Some f)) old now new left mid rest lines rests more l is split so says next = cc
 lines_next (Err e) old now new left mid rest lines rests more l is split so says next = cc
 
@@ -104,10 +109,17 @@ lines_stop r f old now new left mid rest lines rests more l is split so says nex
     let stop = subst (λ q. Says q now new mid rest (expects (l ∷ []) (expects more next)) (expects more next)) is (says (expects more next)) in
     here.0 ∙ stop here.1
 
+pub lines_fail : (r : Result (Option Finding) Failed) (e : Failed) (old now new : Hearing) (left mid rest : Option (List ℕ)) (lines rests more : List Line) (l : Line) → r ≡ Err e → rests ≡ l ∷ more → LinesSo old now left mid lines rests
+    → ((next : Judge) → Says r now new mid rest (expects (l ∷ []) next) next) → (next : Judge) → Says (Err e) old new left rest (expects lines next) next
+lines_fail r e old now new left mid rest lines rests more l is split so says next forward t =
+    let here = subst (LinesSo old now left mid lines) split so next t in
+    let fails = subst (λ q. Says q now new mid rest (expects (l ∷ []) (expects more next)) (expects more next)) is (says (expects more next)) in
+    fails_then old now left mid rest (expects lines next) (expects (l ∷ more) next) here.0 here.2 (fails (lines_forward more next forward) here.1)
+
 pub lines_end : (old now : Hearing) (left rest : Option (List ℕ)) (lines more : List Line) → more ≡ [] → LinesSo old now left rest lines more → (next : Judge) → Says (Ok None) old now left rest (expects lines next) next
 lines_end old now left rest lines more none so next t =
     let here = so next t in
-    (here.0 ∙ ap (λ (ls : List Line). cut_of ls) none, here.1)
+    (here.0 ∙ ap (λ (ls : List Line). cut_of ls) none, here.1, here.2)
   where
     cut_of : List Line → Answer
     cut_of ls = cut now.room now.passed (expects ls next) (texts_of now.texts rest)
@@ -147,15 +159,22 @@ pub then_says : (r o : Result (Option Finding) Failed) (old mid new : Hearing) (
     → (next : Judge) → Says o old new left rest (expects (l ∷ lines) next) next
 then_says r (Ok None) old mid new left between rest l lines is first more next = λ t.
     (let here = subst (λ q. Says q old mid left between (expects (l ∷ []) (expects lines next)) (expects lines next)) is (first (expects lines next)) t in
-    let on = more next here.1 in (here.0 ∙ on.0, on.1))
+    let on = more next here.1 in (here.0 ∙ on.0, on.1, passed_then old mid new left between rest here.2 on.2))
 then_says r (Ok (Some f)) old mid new left between rest l lines is first more next = λ t.
     (let here = subst (λ q. Says q old mid left between (expects (l ∷ []) (expects lines next)) (expects lines next)) is (first (expects lines next)) t in
     here.0 ∙ more next here.1)
-then_says r (Err e) old mid new left between rest l lines is first more next = tt
+then_says r (Err e) old mid new left between rest l lines is first more next = λ forward t.
+    (let here = subst (λ q. Says q old mid left between (expects (l ∷ []) (expects lines next)) (expects lines next)) is (first (expects lines next)) t in
+    fails_then old mid left between rest (expects (l ∷ lines) next) (expects lines next) here.0 here.2 (more next forward here.1))
 
 pub stop_says : (r : Result (Option Finding) Failed) (f : Finding) (old new : Hearing) (left rest : Option (List ℕ)) (l : Line) (lines : List Line) → r ≡ Ok (Some f)
     → ((next : Judge) → Says r old new left rest (expects (l ∷ []) next) next) → (next : Judge) → Says (Ok (Some f)) old new left rest (expects (l ∷ lines) next) next
 stop_says r f old new left rest l lines is first next = subst (λ q. Says q old new left rest (expects (l ∷ []) (expects lines next)) (expects lines next)) is (first (expects lines next))
+
+pub fail_says : (r : Result (Option Finding) Failed) (e : Failed) (old new : Hearing) (left rest : Option (List ℕ)) (l : Line) (lines : List Line) → r ≡ Err e
+    → ((next : Judge) → Says r old new left rest (expects (l ∷ []) next) next) → (next : Judge) → Says (Err e) old new left rest (expects (l ∷ lines) next) next
+fail_says r e old new left rest l lines is first next forward =
+    subst (λ q. Says q old new left rest (expects (l ∷ []) (expects lines next)) (expects lines next)) is (first (expects lines next)) (lines_forward lines next forward)
 
 pub same_says : (o : Result (Option Finding) Failed) (old new : Hearing) (left rest : Option (List ℕ)) (lines more : List Line) → lines ≡ more
     → ((next : Judge) → Says o old new left rest (expects lines next) next) → (next : Judge) → Says o old new left rest (expects more next) next
@@ -225,7 +244,7 @@ unfolding file_shown
 no_file_is m d x y is = ap (λ (o : Option File). shown_if (λ out. out) (shown_by d x y o)) is
 
 pub nothing_says : (h : Hearing) (left : Option (List ℕ)) (lines : List Line) → [] ≡ lines → (next : Judge) → Says (Ok None) h h left left (expects lines next) next
-nothing_says h left lines is next = subst (λ (ls : List Line). Says (Ok None) h h left left (expects ls next) next) is (λ t. (refl, t))
+nothing_says h left lines is next = subst (λ (ls : List Line). Says (Ok None) h h left left (expects ls next) next) is (nothing_on h left next)
 
 -- slots
 pub in_slots : (s : ℕ) → s ≤ last_slot 2 → s < slots

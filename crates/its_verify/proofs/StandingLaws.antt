@@ -6,16 +6,16 @@ use Rattle.std.proofs.lemmas.List.{get_or-set_same, get_or-set_other, get_or_def
 use Rattle.std.proofs.Math.ListN.{get_or-eq_default}
 use Rattle.its_word.specs.declared.calls.Pace.{Pace}
 use Rattle.its_word.specs.declared.calls.Pace.TheVariants.{Step, Work, Wait, Off}
-use Rattle.its_plain.specs.CallStep.{Transition, among, disturbed, disturbs_in, step, transition}
+use Rattle.its_plain.specs.CallStep.{Transition, among, disturbed, disturbs_in, step, transition, is_made, makes, makes_in}
 use Rattle.its_plain.proofs.StepLaws.{step_by}
 use Rattle.its_plain.specs.Licence.{Dots, dots_after, dots_after_line, most_dots}
 use Rattle.its_plain.specs.Machine.{Machine, Whole}
 use Rattle.its_plain.specs.Operator.{Block}
 use Rattle.its_plain.specs.Transcript.{Walk, walk_after, next_line}
-use Rattle.its_plain.specs.Unrolled.{is_running}
+use Rattle.its_plain.specs.Turns.{is_running}
 use Rattle.its_direct.specs.Plain.{machine_of, is_touched}
 use Rattle.its_direct.specs.Events.{JobsStay, Kept}
-use Rattle.its_direct.specs.Steps.{LosesOnly, Makes, is_made, touches}
+use Rattle.its_direct.specs.Steps.{LosesOnly, Makes, touches}
 use Rattle.its_direct.specs.declared.plain.Plain.{Plain}
 use Rattle.its_verify.specs.Letters.{led_to}
 use Rattle.its_verify.specs.Standing.{dots_of, walk_of, Sure, Forgets, ForgetsBelow, Led, LedIf, forgotten}
@@ -36,8 +36,11 @@ copies (suc n) (suc k) = copies n k
 pub no_dots : (ds : List ℕ) → ds ≡ replicate 96 0 → dots_of ds ≡ (λ k. 0)
 no_dots ds is = same_dots (dots_of ds) no_dot (λ k. ap (λ (xs : List ℕ). dots_of xs k) is ∙ copies 96 k)
 
-pub sure_start : (j : Judge) → Kept j.plain → j.dots ≡ replicate 96 0 → Sure j
-sure_start j kept is = record { kept = kept; dotless = λ k none. ap (λ (xs : List ℕ). dots_of xs k) is ∙ copies 96 k }
+pub sure_is : (new : Judge) (mid : Plain) → Kept mid → new.plain ≡ mid → Sure new
+sure_is new mid kept p = record { kept = subst Kept (sym p) kept }
+
+pub sure_still : (old new : Judge) → new.plain ≡ old.plain → Sure old → Sure new
+sure_still old new p sure = record { kept = subst Kept (sym p) sure.kept }
 
 -- slots that are touched, one by one
 pub forget_start : (p : Plain) (ds : List ℕ) → ForgetsBelow 0 p ds ds
@@ -94,23 +97,22 @@ pub disturbed_is : (m : Machine) (i k : ℕ) (t : Transition) → transition m i
 unfolding disturbed
 disturbed_is m i k t is = ap (λ (o : Option Transition). among k (disturbs_in o)) is
 
-made_none : {X : Type 0} (o p : Option X) → (not (is_some o) && is_some p) ≡ true → o ≡ None
-made_none None p h = refl
-made_none (Some x) p h = absurd (false≢true h)
+pub makes_is : (m : Machine) (i k : ℕ) (t : Transition) → transition m i ≡ Some t → makes m i k ≡ is_made m t.machine k
+unfolding makes
+makes_is m i k t is = ap (makes_in m k) is
 
 forgets_nothing : (b : Bool) (d : ℕ) → d ≡ 0 → forgotten b d ≡ d
 forgets_nothing true d is = sym is
 forgets_nothing false d is = refl
 
-other_dot : (a made : Bool) (d : ℕ) → (made ≡ true → d ≡ 0) → forgotten (a || made) d ≡ (if a then 0 else d)
-other_dot true made d h = refl
-other_dot false true d h = sym (h refl)
-other_dot false false d h = refl
+other_dot : (b : Bool) (d : ℕ) → forgotten b d ≡ (if b then 0 else d)
+other_dot true d = refl
+other_dot false d = refl
 
-after_step : (old : Judge) (mid : Plain) (i k : ℕ) (t : Transition) (ds : List ℕ) → Sure old → i < length old.dots → transition (machine_of old.plain) i ≡ Some t
+after_step : (old : Judge) (mid : Plain) (i k : ℕ) (t : Transition) (ds : List ℕ) → i < length old.dots → transition (machine_of old.plain) i ≡ Some t
     → is_touched mid k ≡ touches (machine_of old.plain) t k → dots_of ds k ≡ forgotten (is_touched mid k) (dots_of (slice_set old.dots i 0) k)
     → dots_of ds k ≡ dots_after (machine_of old.plain) (dots_of old.dots) i Step k
-after_step old mid i k t ds sure room is marks h =
+after_step old mid i k t ds room is marks h =
     elim (cases_eq k i) [
       | inl own ↦
           (let here : dots_of (slice_set old.dots i 0) k ≡ 0 = rw own (get_or-set_same old.dots i 0 0 room) in
@@ -120,21 +122,20 @@ after_step old mid i k t ds sure room is marks h =
           (let there : dots_of (slice_set old.dots i 0) k ≡ dots_of old.dots k = get_or-set_other old.dots i k 0 0 ne in
           let test : (k == i) ≡ false = ne_eqb k i ne in
           h ∙ ap (forgotten (is_touched mid k)) there ∙ ap (λ (b : Bool). forgotten b (dots_of old.dots k)) marks
-          ∙ other_dot (among k t.disturbs) (is_made (machine_of old.plain) t.machine k) (dots_of old.dots k)
-          (λ made. sure.dotless k (made_none ((machine_of old.plain).jobs k) (t.machine.jobs k) made))
-          ∙ sym (rw (test, disturbed_is (machine_of old.plain) i k t is) refl))
+          ∙ other_dot (touches (machine_of old.plain) t k) (dots_of old.dots k)
+          ∙ sym (rw (test, disturbed_is (machine_of old.plain) i k t is, makes_is (machine_of old.plain) i k t is) refl))
     ]
 
 pub step_led : (b : Bool) (old new : Judge) (mid : Plain) (i : ℕ) → b ≡ true → Makes b (transition (machine_of old.plain) i) old.plain mid → new.plain ≡ mid
-    → Forgets mid (slice_set old.dots i 0) new.dots → i < length old.dots → Sure old → Led old new i Step
-step_led false old new mid i is makes p f room sure = absurd (false≢true is)
-step_led true old new mid i is makes p f room sure =
+    → Forgets mid (slice_set old.dots i 0) new.dots → i < length old.dots → Led old new i Step
+step_led false old new mid i is makes p f room = absurd (false≢true is)
+step_led true old new mid i is makes p f room =
     let t = makes.transition in
     let to : Some t.machine ≡ Some (machine_of new.plain) = ap Some (sym makes.steps.machine ∙ ap machine_of (sym p)) in
     record {
       leads = λ b n. step_is (machine_of old.plain) i t makes.is ∙ to;
       dots = same_dots (dots_of new.dots) (dots_after (machine_of old.plain) (dots_of old.dots) i Step)
-          (λ k. after_step old mid i k t new.dots sure room makes.is (makes.steps.touched k) (f k));
+          (λ k. after_step old mid i k t new.dots room makes.is (makes.steps.touched k) (f k));
       place = ap (λ (q : Plain). q.place) p ∙ makes.steps.place;
     }
 
@@ -146,40 +147,6 @@ step_not_led false old mid i is makes c n = step_by (machine_of old.plain) i Non
 pub makes_place : (b : Bool) (o : Option Transition) (old new : Plain) → Makes b o old new → new.place ≡ old.place
 makes_place true o old new makes = makes.steps.place
 makes_place false o old new makes = ap (λ (q : Plain). q.place) makes.1
-
--- none came for a slot without a job
-touched_zero : (p : Plain) (old ds : List ℕ) (k : ℕ) → Forgets p old ds → is_touched p k ≡ true → dots_of ds k ≡ 0
-touched_zero p old ds k f h = f k ∙ rw h refl
-
-zero_stays : (p : Plain) (old ds : List ℕ) (k : ℕ) → Forgets p old ds → dots_of old k ≡ 0 → dots_of ds k ≡ 0
-zero_stays p old ds k f h = f k ∙ forgets_nothing (is_touched p k) (dots_of old k) h ∙ h
-
-pub set_zero : (ds : List ℕ) (i k : ℕ) → i < length ds → dots_of ds k ≡ 0 → dots_of (slice_set ds i 0) k ≡ 0
-set_zero ds i k room h =
-    elim (cases_eq k i) [
-      | inl own ↦ rw own (get_or-set_same ds i 0 0 room)
-      | inr ne ↦ get_or-set_other ds i k 0 0 ne ∙ h
-    ]
-
-pub sure_step : (old new : Judge) (mid : Plain) (i : ℕ) → Kept mid → LosesOnly old.plain mid i → new.plain ≡ mid → Forgets mid (slice_set old.dots i 0) new.dots
-    → i < length old.dots → Sure old → Sure new
-sure_step old new mid i kept keeps p f room sure = record {
-  kept = subst Kept (sym p) kept;
-  dotless = λ k none.
-      elim (keeps k (ap (λ (q : Plain). (machine_of q).jobs k) (sym p) ∙ none)) [
-        | inl before ↦ zero_stays mid (slice_set old.dots i 0) new.dots k f (set_zero old.dots i k room (sure.dotless k before))
-        | inr gone ↦ elim gone [
-          | inl own ↦ zero_stays mid (slice_set old.dots i 0) new.dots k f (rw own (get_or-set_same old.dots i 0 0 room))
-          | inr mark ↦ touched_zero mid (slice_set old.dots i 0) new.dots k f mark
-        ]
-      ];
-}
-
-pub sure_lines : (old new : Judge) (mid : Plain) → Kept mid → JobsStay old.plain mid → new.plain ≡ mid → Forgets mid old.dots new.dots → Sure old → Sure new
-sure_lines old new mid kept keeps p f sure = record {
-  kept = subst Kept (sym p) kept;
-  dotless = λ k none. zero_stays mid old.dots new.dots k f (sure.dotless k (keeps k (ap (λ (q : Plain). (machine_of q).jobs k) (sym p) ∙ none)));
-}
 
 -- `.`
 pub dot_led : (old new : Judge) (i d : ℕ) → d ≡ slice_index_or old.dots i d → is_running ((machine_of old.plain).jobs i) ≡ true → d < 16 → i < length old.dots
@@ -212,22 +179,6 @@ dot_not_led old i d at many room b n =
     let count : dots_of old.dots i ≡ d = get_or_default old.dots i 0 d room ∙ sym at in
     let far : ltb (dots_of old.dots i) most_dots ≡ false = grind (arith, nat_tests, count, many) in
     rw (far, and_right (is_running ((machine_of old.plain).jobs i)) false refl) refl
-
-runs_some : (o : Option Whole) → is_running o ≡ true → o ≡ None → ⊥
-runs_some None h is = absurd (false≢true h)
-runs_some (Some q) h is = cc
-
-pub sure_dot : (old new : Judge) (i x : ℕ) → is_running ((machine_of old.plain).jobs i) ≡ true → new.plain ≡ old.plain → new.dots ≡ slice_set old.dots i x → Sure old → Sure new
-sure_dot old new i x run p is sure = record {
-  kept = subst Kept (sym p) sure.kept;
-  dotless = λ k none.
-      (let before : (machine_of old.plain).jobs k ≡ None = ap (λ (q : Plain). (machine_of q).jobs k) (sym p) ∙ none in
-      ap (λ (xs : List ℕ). dots_of xs k) is
-      ∙ elim (cases_eq k i) [
-        | inl own ↦ absurd (runs_some ((machine_of old.plain).jobs i) run (ap (machine_of old.plain).jobs (sym own) ∙ before))
-        | inr ne ↦ get_or-set_other old.dots i k x 0 ne ∙ sure.dotless k before
-      ]);
-}
 
 -- `w` and `-`
 stays : (old new : Judge) (i : ℕ) (p : Pace) → new.plain ≡ old.plain → new.dots ≡ old.dots → ((b : Block) (n : ℕ) → led_to (walk_of old b n) i p ≡ Some (machine_of old.plain))

@@ -6,21 +6,21 @@ use Rattle.its_print.specs.Printing.{Line, text}
 use Rattle.its_print.specs.Sizes.{IsPrinted}
 use Rattle.std.proofs.lemmas.Bool.{cases_order}
 use Rattle.its_plain.specs.Transcript.{Fate, Transcript, at_start}
-use Rattle.its_plain.specs.Unrolled.{highest, unrolled}
+use Rattle.its_plain.specs.Turns.{highest}
+use Rattle.its_plain.proofs.RunLaws.{run_shows, shows_run}
 use Rattle.its_reader.specs.TextLines.{lines_in}
 use Rattle.its_verify.specs.Accepted.{Accepted, AcceptedLines, BeginsTranscript, IsFirst}
 use Rattle.its_verify.specs.Judge.{Verdict, Yes, No, verdict, judged}
 use Rattle.its_verify.proofs.LinesLaws.{concat_lines, lines_concat}
 use Rattle.its_verify.proofs.PrintedLaws.{said_whole, tells_text}
-use Rattle.its_verify.proofs.TurnLaws.{session_transcript, transcript_session}
 use Rattle.its_verify.proofs.JudgeLaws.{From, right_judged}
 use Rattle.its_verify.proofs.RightLaws.{Begun, Decided, First}
 
 pub from_lines : (es : List Item) (texts : List (List ℕ)) → From at_start highest es texts → AcceptedLines es texts
-from_lines es texts h = record { lines = h.rest; fate = h.fate; transcript = session_transcript es h.rest h.fate h.holds; said = h.said }
+from_lines es texts h = record { lines = h.rest; fate = h.fate; transcript = run_shows at_start highest es h.rest h.fate h.holds; said = h.said }
 
 pub lines_from : (es : List Item) (texts : List (List ℕ)) → AcceptedLines es texts → From at_start highest es texts
-lines_from es texts h = record { rest = h.lines; fate = h.fate; holds = transcript_session es h.lines h.fate h.transcript; said = h.said }
+lines_from es texts h = record { rest = h.lines; fate = h.fate; holds = shows_run at_start highest es h.lines h.fate h.transcript; said = h.said }
 
 -- bytes that are accepted, and their lines
 pub accepted_lines : (es : List Item) (bytes : List ℕ) → AcceptedLines es (lines_in bytes) → Accepted es bytes
@@ -92,7 +92,7 @@ unfolding verdict
 no_first es bytes n is = no_lines es (lines_in bytes) n is
 
 -- a transcript that is printed is accepted
-pub written_accepted : (es : List Item) (lines : List Line) (fate : Fate) → AllByRecursion IsPrinted lines → Transcript (unrolled es lines) lines fate → Accepted es (text lines)
+pub written_accepted : (es : List Item) (lines : List Line) (fate : Fate) → AllByRecursion IsPrinted lines → Transcript es lines fate → Accepted es (text lines)
 written_accepted es lines fate printed h = record { lines = lines; fate = fate; transcript = h; text = tells_text lines printed }
 
 -- there is one first line that is not licensed: the judge says No with it exactly where it is it

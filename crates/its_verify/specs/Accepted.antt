@@ -1,24 +1,23 @@
--- Which bytes are a transcript of a session of some events, whose RUN lines have their turns behind them as the
--- transcript itself shows them, and which line is the first that is not licensed.
+-- Which bytes are a transcript of a session of some events, and which line is the first that is not licensed.
+-- A promise rests on this.
 use Rattle.std.specs.Prelude.{◌≡◌, ◌≤◌, ℕ, ◌+◌, ◌⊎◌, List, ◌++◌, length, take}
 use Rattle.its_word.specs.Item.{Item}
 use Rattle.its_print.specs.Printing.{Line}
 use Rattle.its_plain.specs.Transcript.{Fate, Transcript}
-use Rattle.its_plain.specs.Unrolled.{unrolled}
 use Rattle.its_verify.specs.Lines.{Said, Tells}
 
--- there are lines that are a transcript of the events with their turns, and the bytes tell them
+-- there are lines that are a transcript of the events, and the bytes tell them
 pub record Accepted (es : List Item) (bytes : List ℕ) : Type 0 where
   pub lines : List Line
   pub fate : Fate
-  pub transcript : Transcript (unrolled es lines) lines fate
+  pub transcript : Transcript es lines fate
   pub text : Tells lines bytes
 
 -- the same of bytes that are cut into lines
 pub record AcceptedLines (es : List Item) (texts : List (List ℕ)) : Type 0 where
   pub lines : List Line
   pub fate : Fate
-  pub transcript : Transcript (unrolled es lines) lines fate
+  pub transcript : Transcript es lines fate
   pub said : Said lines texts
 
 -- these lines begin a transcript of the events

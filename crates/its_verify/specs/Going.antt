@@ -1,4 +1,5 @@
--- What a line of a session, and any item of it, comes to in a trial.
+-- The effect of a line of a session, and of any of its items, in a trial.
+-- No promise rests on this.
 use Rattle.std.specs.Prelude.{◌≡◌, ℕ, ◌+◌, Bool, true, false, Option, Some, None, Result, Ok, Err, List, [], ◌∷◌}
 use Rattle.its_io.specs.declared.stream.Failed.{Failed}
 use Rattle.its_word.specs.Item.{Item, Read, Unread}
@@ -16,19 +17,19 @@ use Rattle.its_plain.specs.OperatorLines.{lined}
 use Rattle.its_plain.specs.Transcript.{Walk}
 use Rattle.its_direct.specs.Plain.{machine_of}
 use Rattle.its_direct.specs.Events.{MayStand, Speaks}
-use Rattle.its_verify.specs.Hearing.{Concludes, HearsOn}
+use Rattle.its_verify.specs.Hearing.{Concludes, Failing, Forward, HearsOn}
 use Rattle.its_verify.specs.Judge.{Judge, gone, judged}
-use Rattle.its_verify.specs.Sources.{items_of}
+use Rattle.its_verify.specs.Sources.{IsTold, items_of}
 use Rattle.its_verify.specs.Standing.{walk_of}
 use Rattle.its_verify.specs.declared.finding.Finding.{Finding}
 use Rattle.its_verify.specs.declared.hearing.Hearing.{Hearing}
 use Rattle.its_verify.specs.declared.trial.Trial.{Trial}
 
--- what the judge says of line n, event e, where a block speaks of b, and how it goes on
+-- what the judge says of line n, event e, in block b, and how it goes on
 abbrev pub line_judge : Trial → Block → ℕ → Event → (Walk → Judge) → Judge
 line_judge t b n e next = gone (walk_of t.judge b n) (lined (machine_of t.judge.plain) b e) next
 
--- the line led on, to where a block speaks of another
+-- the line led on, to the next block
 pub record LedOn (old new : Trial) (left rest : Option (List ℕ)) (b : Block) (n : ℕ) (e : Event) : Type 0 where
   pub after : Block
   pub speaks : Speaks new.judge.plain.place after
@@ -40,34 +41,36 @@ abbrev pub LineSays : Result (Option Finding) Failed → Trial → Trial → Opt
 LineSays (Ok None) old new left rest n e = (b : Block) → Speaks old.judge.plain.place b → LedOn old new left rest b n e
 LineSays (Ok (Some f)) old new left rest n e =
     (b : Block) → Speaks old.judge.plain.place b
-    → (next : Walk → Judge) → Concludes (Ok f) old.hearing left (line_judge old b n e next)
-LineSays (Err x) old new left rest n e = Unit {0}
+    → (next : Walk → Judge) → Concludes (Ok f) old.hearing left rest (line_judge old b n e next)
+LineSays (Err x) old new left rest n e =
+    (b : Block) → Speaks old.judge.plain.place b
+    → (next : Walk → Judge) → ((w : Walk) → Forward (next w)) → IsTold left → Failing old.hearing left rest (line_judge old b n e next)
 
 -- all is said by a judge
-abbrev pub SaysEnd : Result (Option Finding) Failed → Hearing → Option (List ℕ) → Judge → Type 0
-SaysEnd (Ok None) old left judge = ⊥
-SaysEnd (Ok (Some f)) old left judge = Concludes (Ok f) old left judge
-SaysEnd (Err x) old left judge = Unit {0}
+abbrev pub SaysEnd : Result (Option Finding) Failed → Hearing → Option (List ℕ) → Option (List ℕ) → Judge → Type 0
+SaysEnd (Ok None) old left rest judge = ⊥
+SaysEnd (Ok (Some f)) old left rest judge = Concludes (Ok f) old left rest judge
+SaysEnd (Err x) old left rest judge = Concludes (Err x) old left rest judge
 
 abbrev pub is_end : Event → Bool
 is_end events.End = true
 is_end e = false
 
--- the place behind the first line, and so the place of the machine
+-- the place after the first line, and so the place of the machine
 abbrev pub machine_place : Place → Place
 machine_place places.First = places.Plain
 machine_place places.Plain = places.Plain
 machine_place places.Load = places.Load
 machine_place places.File = places.File
 
--- an item may stand at a place
+-- an item may occur at a place
 abbrev pub FoundStands : Place → Found → Type 0
 FoundStands place (Line e) = MayStand place e
 FoundStands place (Bad r) = Unit {0}
 FoundStands place Beyond = Unit {0}
 FoundStands place End = Unit {0}
 
--- where an item was found, and these stand behind it
+-- an item was found, and these follow it
 abbrev pub items_by : Found → List Item → List Item
 items_by (Line e) es = Read e ∷ es
 items_by (Bad r) es = Unread r ∷ es
@@ -90,8 +93,10 @@ abbrev pub ItemSays : Result (Option Finding) Failed → Trial → Trial → Opt
 ItemSays (Ok None) old new left rest n f = (b : Block) → Speaks old.judge.plain.place b → ItemLed old new left rest b n f
 ItemSays (Ok (Some x)) old new left rest n f =
     (b : Block) → Speaks old.judge.plain.place b
-    → (es : List Item) → Concludes (Ok x) old.hearing left (judge_from old b n (items_by f es))
-ItemSays (Err x) old new left rest n f = Unit {0}
+    → (es : List Item) → Concludes (Ok x) old.hearing left rest (judge_from old b n (items_by f es))
+ItemSays (Err x) old new left rest n f =
+    (b : Block) → Speaks old.judge.plain.place b
+    → (es : List Item) → Concludes (Err x) old.hearing left rest (judge_from old b n (items_by f es))
 
 -- so far: the items that were found led on
 pub record GoneSo (old now : Trial) (judge : Judge) (r : Items) (session left rest : Option (List ℕ)) : Type 0 where
@@ -100,8 +105,7 @@ pub record GoneSo (old now : Trial) (judge : Judge) (r : Items) (session left re
   pub goes :
       HearsOn old.hearing now.hearing left rest judge (judge_from now block (r.lines.number + 1) (items_of r session))
 
--- the items that are left, where this was found: it is the first of them, and others come behind it where it is not
--- the last
+-- the items that are left, if this was found: it is the first of them, and others come after it if it is not the last
 pub record Split (f : Found) (before : List Item) (after : List Item) : Type 0 where
   pub behind : List Item
   pub is : before ≡ items_by f behind

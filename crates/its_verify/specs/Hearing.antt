@@ -1,4 +1,5 @@
 -- What is said of the lines of a transcript that are left, line by line.
+-- No promise rests on this.
 use Rattle.std.specs.Prelude.{if◌then◌else◌, ◌≡◌, ◌≤◌, ◌<◌, ◌⊎◌, ℕ, ◌+◌, ◌-◌, Bool, true, false, Option, Some, None, Result, Ok, Err, List, [], ◌∷◌, length, take, nat_le, bytes_eq}
 use Rattle.its_io.specs.declared.stream.Failed.{Failed}
 use Rattle.its_session.specs.Events.{most_lines}
@@ -6,9 +7,10 @@ use Rattle.its_reader.specs.Lines.{SomeLine}
 use Rattle.its_reader.specs.TextLines.{before_lf}
 use Rattle.its_reader.specs.Texts.{ReadyTexts}
 use Rattle.its_verify.specs.Sources.{IsTold, texts_of}
+use Rattle.its_verify.specs.Went.{Fell, Went}
 use Rattle.its_verify.specs.Lines.{most_bytes}
 use Rattle.its_verify.specs.Letters.{if_so}
-use Rattle.its_verify.specs.Judge.{Judge, Yes, No}
+use Rattle.its_verify.specs.Judge.{Judge, Verdict, Yes, No}
 use Rattle.its_verify.specs.Verified.{Answer, Judged, Long, Cut, TooLong, within}
 use Rattle.its_verify.specs.declared.finding.Finding.{Finding}
 use Rattle.its_verify.specs.declared.finding.Finding.TheVariants as findings
@@ -21,7 +23,7 @@ answer_of (findings.Long n) = Long n
 answer_of (findings.Cut n) = Cut n
 answer_of findings.Beyond = TooLong
 
--- what a judge says of the lines that are left after n that are licensed, where there is room for so many in all
+-- what a judge says of the lines that are left after n that are licensed, if there is room for so many in all
 abbrev pub cut : ℕ → ℕ → Judge → List (List ℕ) → Answer
 cut room n judge texts =
     if nat_le (n + length texts) room then Judged (judge n texts)
@@ -43,7 +45,7 @@ pub record Heard (h : Hearing) (left : Option (List ℕ)) : Type 0 where
   pub few : h.passed ≤ h.room
   pub bound : h.room ≤ most_lines
 
--- the same where a line was read that is not judged yet
+-- the same when a line was read that is not judged yet
 pub record Reads (h : Hearing) (left : Option (List ℕ)) : Type 0 where
   pub ready : ReadyTexts h.texts left
   pub most : h.texts.most ≡ most_bytes
@@ -56,40 +58,77 @@ pub record Beside (old new : Hearing) : Type 0 where
   pub passed : new.passed ≡ old.passed
   pub room : new.room ≡ old.room
 
--- why no line is read where one is wanted: there is none, the next is too long, or there is no room for it
+-- why no line is read if one is wanted: there is none, the next is too long, or there is no room for it
 abbrev pub Lacks : Finding → ℕ → ℕ → List (List ℕ) → Type 0
 Lacks (findings.No k) room n texts = (k ≡ n + 1) × ((texts ≡ []) ⊎ ((n < room) × SomeLine texts (λ line. most_bytes < length (before_lf line))))
 Lacks findings.Beyond room n texts = (room ≤ n) × SomeLine texts (λ line. Unit {0})
 Lacks _ room n texts = ⊥
 
+-- some lines were read, and all are passed
+pub record Passed (old new : Hearing) (left rest : Option (List ℕ)) : Type 0 where
+  pub lines : List (List ℕ)
+  pub went : Went lines old.texts new.texts left rest
+  pub passed : new.passed ≡ old.passed + length lines
+
+-- a verdict that speaks of none of the first n lines
+abbrev pub Later : ℕ → Verdict → Type 0
+Later n (Yes k) = n ≤ k
+Later n (No k) = n < k
+
+abbrev pub SaidLater : ℕ → Answer → Type 0
+SaidLater n (Judged v) = Later n v
+SaidLater n TooLong = Unit {0}
+SaidLater n (Long k) = ⊥
+SaidLater n (Cut k) = ⊥
+
+-- a judge says nothing of lines that are licensed already
+pub record Forward (judge : Judge) : Type 0 where
+  pub later : (n : ℕ) (texts : List (List ℕ)) → Later n (judge n texts)
+
+-- the source failed behind lines that are passed: the answer speaks of none of them
+pub record Failing (old : Hearing) (left rest : Option (List ℕ)) (judge : Judge) : Type 0 where
+  pub at : Hearing
+  pub mid : Option (List ℕ)
+  pub passed : Passed old at left mid
+  pub fell : Fell most_bytes at.texts mid rest
+  pub later : SaidLater at.passed (cut old.room old.passed judge (texts_of old.texts left))
+
 -- the next line was read, or is lacking
 abbrev pub ReadsOn : Result (Option Finding) Failed → Hearing → Hearing → Option (List ℕ) → Option (List ℕ) → Type 0
-ReadsOn (Ok None) old new left rest = Reads new rest × (IsTold left → (texts_of old.texts left ≡ new.texts.text.items ∷ texts_of new.texts rest) × IsTold rest)
+ReadsOn (Ok None) old new left rest =
+    Reads new rest
+    × (IsTold left
+    → (texts_of old.texts left ≡ new.texts.text.items ∷ texts_of new.texts rest)
+    × IsTold rest
+    × Went (new.texts.text.items ∷ []) old.texts new.texts left rest)
 ReadsOn (Ok (Some f)) old new left rest = IsTold left → Lacks f old.room old.passed (texts_of old.texts left)
-ReadsOn (Err e) old new left rest = Unit {0}
+ReadsOn (Err e) old new left rest = IsTold left → Fell most_bytes old.texts left rest
 
 -- what a judge says of the lines that were left is what the next says of those that are left now, or all is said
 abbrev pub HearsOn : Hearing → Hearing → Option (List ℕ) → Option (List ℕ) → Judge → Judge → Type 0
 HearsOn old new left rest judge next =
-    IsTold left → (cut old.room old.passed judge (texts_of old.texts left) ≡ cut new.room new.passed next (texts_of new.texts rest)) × IsTold rest
+    IsTold left
+    → (cut old.room old.passed judge (texts_of old.texts left) ≡ cut new.room new.passed next (texts_of new.texts rest))
+    × IsTold rest
+    × Passed old new left rest
 
 abbrev pub Says : Result (Option Finding) Failed → Hearing → Hearing → Option (List ℕ) → Option (List ℕ) → Judge → Judge → Type 0
 Says (Ok None) old new left rest judge next = HearsOn old new left rest judge next
 Says (Ok (Some f)) old new left rest judge next = IsTold left → cut old.room old.passed judge (texts_of old.texts left) ≡ answer_of f
-Says (Err e) old new left rest judge next = Unit {0}
+Says (Err e) old new left rest judge next = Forward next → IsTold left → Failing old left rest judge
 
 -- all is said that a judge says of the lines that were left
-abbrev pub Concludes : Result Finding Failed → Hearing → Option (List ℕ) → Judge → Type 0
-Concludes (Ok f) old left judge = IsTold left → cut old.room old.passed judge (texts_of old.texts left) ≡ answer_of f
-Concludes (Err e) old left judge = Unit {0}
+abbrev pub Concludes : Result Finding Failed → Hearing → Option (List ℕ) → Option (List ℕ) → Judge → Type 0
+Concludes (Ok f) old left rest judge = IsTold left → cut old.room old.passed judge (texts_of old.texts left) ≡ answer_of f
+Concludes (Err e) old left rest judge = IsTold left → Failing old left rest judge
 
--- where it goes on, all holds together
+-- if it goes on, all holds together
 abbrev pub Stays : Result (Option Finding) Failed → Hearing → Option (List ℕ) → Type 0
 Stays (Ok None) new rest = Heard new rest
 Stays (Ok (Some f)) new rest = Unit {0}
 Stays (Err e) new rest = Unit {0}
 
--- whether a line that was read is licensed: it is passed then, and all is said where it is not
+-- whether a line that was read is licensed: it is passed then, and otherwise the verdict is known
 abbrev pub Ruled : Option Finding → Bool → Hearing → Hearing → Type 0
 Ruled None licensed old new = (licensed ≡ true) × (new ≡ record old { passed = old.passed + 1 })
 Ruled (Some f) licensed old new = (licensed ≡ false) × (f ≡ findings.No (old.passed + 1))

@@ -1,4 +1,5 @@
--- The letters of a `T` line, read back from its text, and where they lead.
+-- The letters of a `T` line, read back from its text, and the state to which they lead.
+-- A promise rests on this.
 use Rattle.std.specs.Prelude.{if◌then◌else◌, ℕ, ◌+◌, ◌-◌, ◌*◌, ◌==◌, ◌&&◌, Bool, true, false, not, min, Option, Some, None, List, [], ◌∷◌, ◌++◌, length, replicate, nat_lt, is_none, option_and_then}
 use Rattle.its_word.specs.Text.{is_code}
 use Rattle.its_word.specs.declared.calls.Pace.{Pace}
@@ -8,7 +9,7 @@ use Rattle.its_plain.specs.CallStep.{step}
 use Rattle.its_plain.specs.Licence.{most_dots}
 use Rattle.its_plain.specs.Machine.{Machine}
 use Rattle.its_plain.specs.Transcript.{Walk, after_letter}
-use Rattle.its_plain.specs.Unrolled.{is_running}
+use Rattle.its_plain.specs.Turns.{is_running}
 use Rattle.its_verify.specs.Lines.{says}
 
 -- the letter that a byte is, if it is one
@@ -20,7 +21,7 @@ letter_at c =
     else (if c == letter_of Off then Some Off
     else None)))
 
--- the number before a byte with the digit that the byte is, held below a bound; no number goes on behind any other byte
+-- the number before a byte with the digit that the byte is, held below a bound; no number goes on after any other byte
 abbrev pub counted : ℕ → ℕ → ℕ → ℕ
 counted most n c = if is_code 48 55 c then min (n * 8 + (c - 48)) most else 0
 
@@ -44,18 +45,18 @@ ticks_in i k text =
     let ps = paces_from k 0 text in
     if_so ((length ps == k) && says (Ticks i ps) text) ps
 
--- the machine to which a letter leads, where it is licensed and not a `.` too many
+-- the machine to which a letter leads, if it is licensed and not a `.` too many
 abbrev pub led_to : Walk → ℕ → Pace → Option Machine
 led_to v i Step = step v.machine i
 led_to v i Work = if_so (is_running (v.machine.jobs i) && nat_lt (v.dots i) most_dots) v.machine
 led_to v i Wait = if_so (is_running (v.machine.jobs i) && is_none (step v.machine i)) v.machine
 led_to v i Off = if_so (not (is_running (v.machine.jobs i))) v.machine
 
--- where the walk stands after some letters, where each is licensed in its turn
+-- the walk after some letters, if each is licensed in its turn
 abbrev pub paced : Walk → ℕ → List Pace → Option Walk
 paced v i [] = Some v
 paced v i (p ∷ ps) = option_and_then (λ n. paced (after_letter v i p n) i ps) (led_to v i p)
 
--- where it stands after the letters that a text says
+-- its state after the letters of a text
 abbrev pub ticked : Walk → ℕ → ℕ → List ℕ → Option Walk
 ticked v i k text = option_and_then (paced v i) (ticks_in i k text)

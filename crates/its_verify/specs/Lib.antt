@@ -4,7 +4,9 @@ pub mod Letters
 pub mod Reading
 pub mod Judge
 pub mod Verified
+pub mod Undecided
 pub mod Sources
+pub mod Went
 pub mod Keeping
 pub mod Hearing
 pub mod Standing

@@ -1,8 +1,9 @@
 -- What the steps of reading a line of a session or of a transcript give.
+-- No promise rests on this.
 use Rattle.std.specs.Prelude.{◌==◌, ◌&&◌, ℕ, Bool, true, false, List, [], ◌∷◌}
 use Rattle.std.specs.List.{list_all}
 
--- a word ends where these bytes follow
+-- a word ends if these bytes follow
 abbrev pub ends_word : List ℕ → Bool
 ends_word [] = true
 ends_word (b ∷ bs) = b == 32

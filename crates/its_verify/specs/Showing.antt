@@ -1,4 +1,5 @@
--- What a line of a session shows, as it is read from the machine after it.
+-- What a line of a session shows, read from the machine after it.
+-- No promise rests on this.
 use Rattle.std.specs.Prelude.{◌<◌, ◌^◌, ℕ, Bool, true, false, IsOk, Result, Ok, Err, List, [], ◌∷◌, slice_index_or}
 use Rattle.its_word.specs.declared.session.Event.{Event}
 use Rattle.its_word.specs.declared.session.Event.TheVariants as events
@@ -15,7 +16,7 @@ use Rattle.its_verify.specs.Judge.{Judge, led, peeking, expects}
 use Rattle.its_verify.specs.declared.hearing.Hearing.{Hearing}
 use Rattle.std.specs.declared.option.Option.{Option}
 
--- the lines that show a value, where there is one
+-- the lines that show a value, if there is one
 abbrev pub shown_if : {X E : Type 0} → (X → List Line) → Result X E → List Line
 shown_if show (Ok x) = show x
 shown_if show (Err e) = []

@@ -1,4 +1,5 @@
--- The lines that a source has left, where it tells its bytes.
+-- The lines that a source has left, if its bytes are known.
+-- No promise rests on this.
 use Rattle.std.specs.Prelude.{ℕ, true, Option, Some, None, List, []}
 use Rattle.its_word.specs.Item.{Item}
 use Rattle.its_reader.specs.declared.items.Items.{Items}
@@ -6,7 +7,7 @@ use Rattle.its_reader.specs.declared.texts.Texts.{Texts}
 use Rattle.its_reader.specs.Items.{items_ahead}
 use Rattle.its_reader.specs.Texts.{texts_ahead}
 
--- the source tells the bytes that it has left
+-- the contract says which bytes the source has left
 abbrev pub IsTold : Option (List ℕ) → Type 0
 IsTold (Some bytes) = Unit {0}
 IsTold None = ⊥

@@ -1,4 +1,5 @@
--- Where a judge stands: the walk along a session for which its machine and its counts stand.
+-- The state of a judge: the walk along a session that its machine and its counts represent.
+-- No promise rests on this.
 use Rattle.std.specs.Prelude.{◌≡◌, ◌&&◌, ℕ, Bool, true, false, Some, None, List, ◌++◌, nat_lt, slice_index_or}
 use Rattle.its_word.specs.declared.calls.Pace.{Pace}
 use Rattle.its_plain.specs.Licence.{Dots, dots_after}
@@ -14,16 +15,15 @@ use Rattle.its_verify.specs.declared.judge.Judge.{Judge}
 abbrev pub dots_of : List ℕ → Dots
 dots_of counts k = slice_index_or counts k 0
 
--- the walk, where a block of lines speaks of b and line n is to come
+-- the walk, when block b is open and line n is to come
 abbrev pub walk_of : Judge → Block → ℕ → Walk
 walk_of j b n = record { machine = machine_of j.plain; dots = dots_of j.dots; block = b; line = n }
 
--- the machine holds together, and no `.` came for a slot without a job
+-- the machine holds together
 pub record Sure (j : Judge) : Type 0 where
   pub kept : Kept j.plain
-  pub dotless : (k : ℕ) → (machine_of j.plain).jobs k ≡ None → dots_of j.dots k ≡ 0
 
--- a count, where the slot is touched or not
+-- a count, when the slot is touched or not
 abbrev pub forgotten : Bool → ℕ → ℕ
 forgotten true d = 0
 forgotten false d = d
@@ -42,17 +42,17 @@ pub record Led (old new : Judge) (i : ℕ) (p : Pace) : Type 0 where
   pub dots : dots_of new.dots ≡ dots_after (machine_of old.plain) (dots_of old.dots) i p
   pub place : new.plain.place ≡ old.plain.place
 
--- whether it did; it is not licensed where it did not
+-- whether it did; it is not licensed if it did not
 abbrev pub LedIf : Bool → Judge → Judge → ℕ → Pace → Type 0
 LedIf true old new i p = Led old new i p
 LedIf false old new i p = (b : Block) (n : ℕ) → led_to (walk_of old b n) i p ≡ None
 
--- so many letters of one kind, and then any others: where they lead
+-- so many letters of one kind, and then any others: to what they lead
 abbrev pub RunLed : Bool → Judge → Judge → ℕ → List Pace → Type 0
 RunLed true old new i run = (b : Block) (n : ℕ) (ps : List Pace) → paced (walk_of old b n) i (run ++ ps) ≡ paced (walk_of new b n) i ps
 RunLed false old new i run = (b : Block) (n : ℕ) (ps : List Pace) → paced (walk_of old b n) i (run ++ ps) ≡ None
 
--- where all letters lead
+-- to what all letters lead
 abbrev pub RunsLed : Bool → Judge → Judge → ℕ → List Pace → Type 0
 RunsLed true old new i ps = (b : Block) (n : ℕ) → paced (walk_of old b n) i ps ≡ Some (walk_of new b n)
 RunsLed false old new i ps = (b : Block) (n : ℕ) → paced (walk_of old b n) i ps ≡ None

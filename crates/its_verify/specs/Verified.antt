@@ -1,5 +1,6 @@
 -- What the judge of a session and a transcript in one input says. The session is all up to and with the first line
 -- whose only word is END, and the transcript is the rest.
+-- A promise rests on this.
 use Rattle.std.specs.Prelude.{if◌then◌else◌, ℕ, ◌+◌, ◌-◌, Bool, false, List, [], ◌∷◌, ◌++◌, length, take, nat_le, nat_lt, bytes_eq, codes}
 use Rattle.its_word.specs.Item.{Item}
 use Rattle.its_word.specs.Text.{digits_of, spaced, words_of}
@@ -7,7 +8,7 @@ use Rattle.its_word.specs.declared.session.Reason.TheVariants as reasons
 use Rattle.its_print.specs.Printing.{Refused, text_of_line}
 use Rattle.its_session.specs.Events.{events_of, most_lines}
 use Rattle.its_plain.specs.Transcript.{at_start}
-use Rattle.its_plain.specs.Unrolled.{highest}
+use Rattle.its_plain.specs.Turns.{highest}
 use Rattle.its_reader.specs.TextLines.{before_lf, lines_in}
 use Rattle.its_verify.specs.Judge.{Verdict, Yes, No, judged}
 
@@ -34,7 +35,7 @@ is_end_line line = is_only (codes "END") (words_of (before_lf line))
 abbrev pub most_session_bytes : ℕ
 most_session_bytes = 255
 
--- the input, cut behind its first END line
+-- the input, cut after its first END line
 pub data Parts : Type 0 where
   -- the bytes of the session, how many lines they are, and the lines of the transcript
   Both : List ℕ → ℕ → List (List ℕ) → Parts
@@ -42,7 +43,7 @@ pub data Parts : Type 0 where
   NoEnd : ℕ → Parts
   TooMany : Parts
 
--- these lines from line number n on, where the session begins with some bytes
+-- these lines from line number n on, if the session begins with some bytes
 abbrev pub parts_from : ℕ → List ℕ → List (List ℕ) → Parts
 parts_from n session [] = NoEnd n
 parts_from n session (line ∷ lines) =
@@ -51,7 +52,7 @@ parts_from n session (line ∷ lines) =
     else (if is_end_line line then Both (session ++ line) n lines
     else parts_from (n + 1) (session ++ line) lines))
 
--- a verdict on the first lines of a transcript that has more: it says something only where it names one of them
+-- a verdict on the first lines of a transcript that has more: it counts only if it names one of them
 abbrev pub within : ℕ → Verdict → Answer
 within room (Yes n) = TooLong
 within room (No n) = if nat_le n room then Judged (No n) else TooLong
@@ -72,7 +73,7 @@ by_parts TooMany = TooLong
 unfoldable pub verified : List ℕ → Answer
 verified bytes = by_parts (parts_from 1 [] (lines_in bytes))
 
--- the line that is written of it; where the input has too many lines, nothing is
+-- the line that is written for it; if the input has too many lines, nothing is
 abbrev pub answer_text : Answer → List ℕ
 answer_text (Judged (Yes n)) = spaced (codes "YES") (digits_of n ∷ []) ++ 10 ∷ []
 answer_text (Judged (No n)) = spaced (codes "NO") (digits_of n ∷ []) ++ 10 ∷ []

@@ -24,8 +24,8 @@ impl Hearing {
     ghost use Rattle.its_verify.specs.Hearing.{Beside, Concludes, Heard, Reads, ReadsOn, Ruled, Says, Stays, same_as};
     ghost use Rattle.its_verify.specs.Judge.{Judge, at_end, led, peeking, expects};
 
-    /// Reads the next line, where one is wanted. It is not judged yet.
-    #[tactic(auto, using(crate::proofs::HearingLaws::number_few, crate::proofs::HearingLaws::read_line, crate::proofs::HearingLaws::read_long, crate::proofs::HearingLaws::read_end, crate::proofs::HearingLaws::read_beyond))]
+    /// Reads the next line, if one is wanted. It is not judged yet.
+    #[tactic(auto, using(crate::proofs::HearingLaws::number_few, crate::proofs::HearingLaws::read_line, crate::proofs::HearingLaws::read_long, crate::proofs::HearingLaws::read_end, crate::proofs::HearingLaws::read_beyond, crate::proofs::HearingLaws::read_fails))]
     pub fn read<S: Source>(&mut self, src: &mut S) -> Result<Option<Finding>, Failed>
         requires heard { Heard self.old (S.left src.old) }
         ensures reads { ReadsOn result self.old self.new (S.left src.old) (S.left src.new) }
@@ -40,7 +40,7 @@ impl Hearing {
         }
     }
 
-    /// Passes the line that was read, where it is licensed; else it is the first that is not.
+    /// Passes the line that was read, if it is licensed; else it is the first that is not.
     pub fn rule(&mut self, licensed: bool) -> Option<Finding>
         requires few { self.old.passed < self.old.room }
         ensures { Ruled result licensed self.old self.new }
@@ -54,7 +54,7 @@ impl Hearing {
     }
 
     /// This line is next.
-    #[tactic(auto, using(crate::proofs::HearingLaws::same_lacks, crate::proofs::HearingLaws::same_ruled, crate::proofs::HearingLaws::ruled_stays))]
+    #[tactic(auto, using(crate::proofs::HearingLaws::same_lacks, crate::proofs::HearingLaws::same_fails, crate::proofs::HearingLaws::same_ruled, crate::proofs::HearingLaws::ruled_stays))]
     pub fn expect<S: Source>(&mut self, src: &mut S, line: &[u8]) -> Result<Option<Finding>, Failed>
         requires short { length line.now ≤ 1543 }
         requires heard { Heard self.old (S.left src.old) }
@@ -70,7 +70,7 @@ impl Hearing {
     }
 
     /// A line of PEEK is next.
-    #[tactic(auto, using(crate::proofs::HearingLaws::peek_lacks, crate::proofs::HearingLaws::peek_ruled, crate::proofs::HearingLaws::ruled_stays))]
+    #[tactic(auto, using(crate::proofs::HearingLaws::peek_lacks, crate::proofs::HearingLaws::peek_fails, crate::proofs::HearingLaws::peek_ruled, crate::proofs::HearingLaws::ruled_stays))]
     pub fn peek<S: Source>(&mut self, src: &mut S) -> Result<Option<Finding>, Failed>
         requires heard { Heard self.old (S.left src.old) }
         ensures says { (next : Judge) → Says result self.old self.new (S.left src.old) (S.left src.new) (led peeking (λ t. next)) next }
@@ -85,10 +85,10 @@ impl Hearing {
     }
 
     /// No line is next.
-    #[tactic(auto, using(crate::proofs::HearingLaws::number_few, crate::proofs::HearingLaws::finish_end, crate::proofs::HearingLaws::finish_line, crate::proofs::HearingLaws::finish_long, crate::proofs::HearingLaws::finish_beyond, crate::proofs::OutLaws::end_out))]
+    #[tactic(auto, using(crate::proofs::HearingLaws::number_few, crate::proofs::HearingLaws::finish_end, crate::proofs::HearingLaws::finish_line, crate::proofs::HearingLaws::finish_long, crate::proofs::HearingLaws::finish_beyond, crate::proofs::HearingLaws::finish_fails, crate::proofs::OutLaws::end_out))]
     pub fn finish<S: Source>(&mut self, src: &mut S) -> Result<Finding, Failed>
         requires heard { Heard self.old (S.left src.old) }
-        ensures ends { Concludes result self.old (S.left src.old) at_end }
+        ensures ends { Concludes result self.old (S.left src.old) (S.left src.new) at_end }
         ensures out { IfOk result (λ f. ReadsOut f (S.left src.old) (S.left src.new)) }
         ensures cause { HasCause (S.faults src.old) (S.faults src.new) result }
     {
@@ -101,7 +101,7 @@ impl Hearing {
     }
 
     /// The `?` line of a line of the session with this number is next, and is the last one.
-    #[tactic(auto, using(crate::proofs::HearingLaws::refusal_short))]
+    #[tactic(auto, using(crate::proofs::HearingLaws::refusal_short, crate::proofs::HearingLaws::refused_fails))]
     pub fn refused<S: Source>(
         &mut self,
         src: &mut S,
@@ -109,7 +109,7 @@ impl Hearing {
         reason: Reason,
     ) -> Result<Finding, Failed>
         requires heard { Heard self.old (S.left src.old) }
-        ensures ends { Concludes result self.old (S.left src.old) (expects (Refused number reason ∷ []) at_end) }
+        ensures ends { Concludes result self.old (S.left src.old) (S.left src.new) (expects (Refused number reason ∷ []) at_end) }
         ensures out { IfOk result (λ f. ReadsOut f (S.left src.old) (S.left src.new)) }
         ensures cause { HasCause (S.faults src.old) (S.faults src.new) result }
     {

@@ -7,7 +7,7 @@ ghost use Rattle.its_plain.specs.Machine.{no_machine};
 ghost use Rattle.its_direct.specs.Plain.{machine_of};
 ghost use Rattle.its_direct.specs.Events.{IsTold, MayStand, Told, place_of};
 ghost use Rattle.its_print.specs.Runs.{paces_in};
-ghost use Rattle.its_plain.specs.Unrolled.{is_running, turn_after};
+ghost use Rattle.its_plain.specs.Turns.{is_running, turn_after};
 ghost use Rattle.its_verify.specs.Standing.{AllLed, dots_of, Forgets, LedIf, RunLed, RunsLed, Sure};
 
 use super::ticks::read_ticks;
@@ -31,7 +31,7 @@ pub struct Judge {
 
 impl Judge {
     /// The judge at the start of a session. Takes all the memory that it needs.
-    #[tactic(auto, using(crate::proofs::StandingLaws::no_dots, crate::proofs::StandingLaws::sure_start))]
+    #[tactic(auto, using(crate::proofs::StandingLaws::no_dots))]
     pub fn open(alloc: Global) -> Result<Judge, NoMemory>
         ensures machine { IfOk result (λ j. machine_of j.plain ≡ no_machine) }
         ensures dots { IfOk result (λ j. dots_of j.dots ≡ (λ k. 0)) }
@@ -47,8 +47,8 @@ impl Judge {
         })
     }
 
-    /// What a line of a session other than TICK and END comes to: what it shows, or why it is refused, and then nothing changes.
-    #[tactic(auto, using(crate::proofs::StandingLaws::sure_lines))]
+    /// The result of a line of a session other than TICK and END: what it shows, or why it is refused, and then nothing changes.
+    #[tactic(auto, using(crate::proofs::StandingLaws::sure_is))]
     pub fn event(&mut self, event: &Event) -> Result<Answer, Refusal>
         requires going { self.old.ended ≡ false }
         requires told { IsTold event.now }
@@ -67,10 +67,11 @@ impl Judge {
         Ok(answer)
     }
 
-    /// Whether a letter of a slot is licensed: the machine moves as it says. Where it is not, nothing more is to be asked.
+    /// Whether a letter of a slot is licensed: the machine moves accordingly. If it is not, nothing more is to be asked.
     pub fn licensed(&mut self, slot: u8, pace: Pace) -> bool
         requires going { self.old.ended ≡ false }
         requires slot { slot < slots }
+        requires outside { self.old.plain.place ≡ Spot.Plain }
         requires sure { Sure self.old }
         ensures led { LedIf result self.old self.new slot pace }
         ensures ended { self.new.ended ≡ not result }
@@ -85,6 +86,7 @@ impl Judge {
     /// The same; whether it ended is not said.
     fn takes(&mut self, slot: u8, pace: Pace) -> bool
         requires slot { slot < slots }
+        requires outside { self.old.plain.place ≡ Spot.Plain }
         requires sure { Sure self.old }
         ensures led { LedIf result self.old self.new slot pace }
         ensures sure { result ≡ true → Sure self.new }
@@ -103,6 +105,7 @@ impl Judge {
     pub fn runs_licensed(&mut self, slot: u8, runs: &[Run]) -> bool
         requires going { self.old.ended ≡ false }
         requires slot { slot < slots }
+        requires outside { self.old.plain.place ≡ Spot.Plain }
         requires sure { Sure self.old }
         ensures led { RunsLed result self.old self.new slot (paces_in runs.now) }
         ensures ended { result ≡ true → self.new.ended ≡ false }
@@ -122,6 +125,7 @@ impl Judge {
     fn run_licensed(&mut self, slot: u8, run: Run) -> bool
         requires going { self.old.ended ≡ false }
         requires slot { slot < slots }
+        requires outside { self.old.plain.place ≡ Spot.Plain }
         requires sure { Sure self.old }
         ensures led { RunLed result self.old self.new slot (run.pace ∷ replicate run.more run.pace) }
         ensures ended { result ≡ true → self.new.ended ≡ false }
@@ -140,10 +144,11 @@ impl Judge {
         true
     }
 
-    /// Takes at once, of the letters of a run behind its first, as many `*` as are units of a slot's job in a row; how many.
+    /// Takes at once, of the letters of a run after its first, as many `*` as are units of a slot's job in a row; how many.
     fn taken(&mut self, slot: u8, run: Run) -> u32
         requires going { self.old.ended ≡ false }
         requires slot { slot < slots }
+        requires outside { self.old.plain.place ≡ Spot.Plain }
         requires sure { Sure self.old }
         ensures few { result ≤ run.more }
         ensures led { RunLed true self.old self.new slot (replicate result run.pace) }
@@ -158,10 +163,11 @@ impl Judge {
     }
 
     /// Takes as many `*` as are units of a slot's job in a row, n at most; how many.
-    #[tactic(auto, using(crate::proofs::SeriesLaws::units_none, crate::proofs::SeriesLaws::units_some, crate::proofs::SeriesLaws::units_sure, crate::proofs::SeriesLaws::still_sure))]
+    #[tactic(auto, using(crate::proofs::SeriesLaws::units_none, crate::proofs::SeriesLaws::units_some, crate::proofs::StandingLaws::sure_is, crate::proofs::StandingLaws::sure_still))]
     fn units(&mut self, slot: u8, n: u32) -> u32
         requires going { self.old.ended ≡ false }
         requires slot { slot < slots }
+        requires outside { self.old.plain.place ≡ Spot.Plain }
         requires sure { Sure self.old }
         ensures few { result ≤ n }
         ensures led { RunLed true self.old self.new slot (replicate result Pace.Step) }
@@ -183,6 +189,7 @@ impl Judge {
         requires going { self.old.ended ≡ false }
         requires slot { slot < slots }
         requires few { count ≤ 512 }
+        requires outside { self.old.plain.place ≡ Spot.Plain }
         requires sure { Sure self.old }
         ensures led { AllLed result self.old self.new line.now slot count }
         ensures place { self.new.plain.place ≡ self.old.plain.place }
@@ -193,7 +200,7 @@ impl Judge {
         }
     }
 
-    /// The slot whose turn it is, after a turn of slot `last`; None where no job runs.
+    /// The slot whose turn it is, after a turn of slot `last`; None if no job runs.
     #[tactic(auto, using(its_plain::proofs::WhoRunsLaws::turn_found, its_plain::proofs::WhoRunsLaws::turn_is_slot, its_plain::proofs::WhoRunsLaws::runs_start, its_plain::proofs::WhoRunsLaws::runs_next))]
     pub fn turn_after(&self, last: u8) -> Option<u8>
         requires last { last < slots }
@@ -207,10 +214,11 @@ impl Judge {
         next(&runs, last)
     }
 
-    /// `*`: the step of a slot's job, where it has one.
-    #[tactic(auto, using(crate::proofs::StandingLaws::step_led, crate::proofs::StandingLaws::step_not_led, crate::proofs::StandingLaws::sure_step, crate::proofs::StandingLaws::makes_place))]
+    /// `*`: the step of a slot's job, if it has one.
+    #[tactic(auto, using(crate::proofs::StandingLaws::step_led, crate::proofs::StandingLaws::step_not_led, crate::proofs::StandingLaws::sure_is, crate::proofs::StandingLaws::makes_place))]
     fn takes_step(&mut self, slot: u8) -> bool
         requires slot { slot < slots }
+        requires outside { self.old.plain.place ≡ Spot.Plain }
         requires sure { Sure self.old }
         ensures led { LedIf result self.old self.new slot Pace.Step }
         ensures sure { result ≡ true → Sure self.new }
@@ -224,8 +232,8 @@ impl Judge {
         true
     }
 
-    /// `.`: one more of a slot whose job runs, where fewer than 16 came.
-    #[tactic(auto, using(crate::proofs::StandingLaws::dot_led, crate::proofs::StandingLaws::dot_not_led, crate::proofs::StandingLaws::dot_still, crate::proofs::StandingLaws::sure_dot))]
+    /// `.`: one more of a slot whose job runs, if fewer than 16 came.
+    #[tactic(auto, using(crate::proofs::StandingLaws::dot_led, crate::proofs::StandingLaws::dot_not_led, crate::proofs::StandingLaws::dot_still, crate::proofs::StandingLaws::sure_still))]
     fn takes_dot(&mut self, slot: u8) -> bool
         requires slot { slot < slots }
         requires sure { Sure self.old }
@@ -248,6 +256,7 @@ impl Judge {
     #[tactic(auto, using(crate::proofs::StandingLaws::wait_led, crate::proofs::StandingLaws::wait_not_led, crate::proofs::StandingLaws::wait_still, crate::proofs::StandingLaws::makes_place))]
     fn waits(&mut self, slot: u8) -> bool
         requires slot { slot < slots }
+        requires outside { self.old.plain.place ≡ Spot.Plain }
         requires sure { Sure self.old }
         ensures led { LedIf result self.old self.new slot Pace.Wait }
         ensures sure { result ≡ true → Sure self.new }

@@ -59,14 +59,14 @@ fn is_end(line: &[u8]) -> bool
     false
 }
 
-/// Whether these bytes, of which the first is no space, are the word END, with spaces alone behind it.
+/// Whether these bytes, the first of which is no space, are the word END, with only spaces after it.
 fn is_end_word(first: u8, after: &[u8]) -> bool
     ensures { result ≡ ((first == 69) && ends_with_d after.now) }
 {
     first == b'E' && ends_with_d(after)
 }
 
-/// Whether these bytes are the rest of the word END, with spaces alone behind it.
+/// Whether these bytes are the rest of the word END, with only spaces after it.
 fn ends_with_d(after: &[u8]) -> bool
     ensures { result ≡ ends_with_d after.now }
 {
@@ -84,7 +84,7 @@ fn is_blank(bytes: &[u8]) -> bool
 }
 
 /// Reads a session, and adds its bytes to those that are kept. No line of it has more than 255 bytes before its LF.
-#[tactic(auto, using(crate::proofs::KeepLaws::kept_start, crate::proofs::KeepLaws::kept_on, crate::proofs::KeepLaws::keeps_session, crate::proofs::KeepLaws::keeps_long, crate::proofs::KeepLaws::keeps_cut, crate::proofs::KeepLaws::keeps_beyond))]
+#[tactic(auto, using(crate::proofs::KeepLaws::kept_start, crate::proofs::KeepLaws::kept_on, crate::proofs::KeepLaws::keeps_session, crate::proofs::KeepLaws::keeps_long, crate::proofs::KeepLaws::keeps_cut, crate::proofs::KeepLaws::keeps_beyond, crate::proofs::KeepLaws::keeps_failed))]
 pub fn keep<S: Source>(
     texts: &mut Texts,
     src: &mut S,

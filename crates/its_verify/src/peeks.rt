@@ -1,4 +1,4 @@
-//! The lines that may stand where PEEK shows a job.
+//! The lines that may occur when PEEK shows a job.
 ghost use Rattle.std.specs.Prelude.{◌≡◌, ◌==◌, ◌&&◌, codes, position};
 ghost use Rattle.its_word.specs.Text.{words_of};
 ghost use Rattle.its_verify.specs.Lines.{begins_with, is_peek};
@@ -7,8 +7,8 @@ ghost use Rattle.its_verify.specs.Reading.{ends_word};
 /// The most bytes of a line of a transcript before its LF.
 const MOST_BYTES: usize = 1543;
 
-/// Whether a line, which has its LF, may stand where PEEK shows a job: its first word is `P`, and no more than 1543 bytes stand before
-/// the LF, which stands nowhere else.
+/// Whether a line, which has its LF, may occur when PEEK shows a job: its first word is `P`, and no more than 1543 bytes are before the
+/// LF, which is nowhere else.
 #[tactic(auto, using(crate::proofs::PeekLaws::no_end, crate::proofs::PeekLaws::at_end, crate::proofs::PeekLaws::before_end, crate::proofs::PeekLaws::past_end))]
 pub fn is_peek(line: &[u8]) -> bool
     ensures { result ≡ is_peek line.now }
@@ -27,7 +27,7 @@ pub fn is_peek(line: &[u8]) -> bool
     }
 }
 
-/// Where the first LF is.
+/// The place of the first LF.
 pub(crate) fn line_end(line: &[u8]) -> Option<usize>
     ensures { result ≡ position (λ b. b == 10) line.now }
 {
@@ -56,7 +56,7 @@ fn is_p(first: u8, after: &[u8]) -> bool
     first == b'P' && ends_word(after)
 }
 
-/// Whether a word ends where these bytes follow.
+/// Whether a word ends if these bytes follow.
 fn ends_word(after: &[u8]) -> bool
     ensures { result ≡ ends_word after.now }
 {

@@ -31,6 +31,7 @@ const ROW_WORDS: u32 = 8;
 
 /// The lines that an event shows which was obeyed with this answer are next; what EXAM, LIST, STATE, DIR and SHOW show is read
 /// from the machine.
+#[tactic(auto, using(crate::proofs::HearingLaws::nothing_on))]
 pub(crate) fn show_event<S: Source>(
     hearing: &mut Hearing,
     src: &mut S,
@@ -59,7 +60,7 @@ pub(crate) fn show_event<S: Source>(
 }
 
 /// LOAD shows the slot.
-#[tactic(auto, using(crate::proofs::ShowingLaws::loaded_short, crate::proofs::ShowingLaws::printed_says))]
+#[tactic(auto, using(crate::proofs::ShowingLaws::loaded_short, crate::proofs::ShowingLaws::printed_says, crate::proofs::HearingLaws::nothing_on))]
 fn show_loaded<S: Source>(
     hearing: &mut Hearing,
     src: &mut S,
@@ -83,7 +84,7 @@ fn show_loaded<S: Source>(
 }
 
 /// TYPE shows how many bytes were dropped.
-#[tactic(auto, using(crate::proofs::ShowingLaws::typed_short, crate::proofs::ShowingLaws::printed_says))]
+#[tactic(auto, using(crate::proofs::ShowingLaws::typed_short, crate::proofs::ShowingLaws::printed_says, crate::proofs::HearingLaws::nothing_on))]
 fn show_typed<S: Source>(
     hearing: &mut Hearing,
     src: &mut S,
@@ -108,6 +109,7 @@ fn show_typed<S: Source>(
 }
 
 /// DRAIN shows the bytes.
+#[tactic(auto, using(crate::proofs::HearingLaws::nothing_on))]
 fn show_drained<S: Source>(
     hearing: &mut Hearing,
     src: &mut S,
@@ -182,7 +184,7 @@ fn show_words<S: Source>(
     show_line(hearing, src, s, a, words.as_slice())
 }
 
-/// The line of some words, which stand in a slot from an address on.
+/// The line of some words, which are in a slot from an address on.
 #[tactic(auto, using(crate::proofs::ShowingLaws::words_short, crate::proofs::ShowingLaws::printed_says))]
 fn show_line<S: Source>(
     hearing: &mut Hearing,
@@ -227,7 +229,7 @@ fn list_words<S: Source>(
     list_each(hearing, src, s, a, words.as_slice())
 }
 
-/// A line for each of some words, which stand in a slot from an address on.
+/// A line for each of some words, which are in a slot from an address on.
 #[tactic(auto, using(crate::proofs::ShowingLaws::lines_start))]
 fn list_each<S: Source>(
     hearing: &mut Hearing,
@@ -309,7 +311,7 @@ fn show_job<S: Source>(
 {
     few_bits(*show);
     let mut line = ArrayVec::new();
-    print_state(version, s, show, &mut line);
+    print_state(s, show, version, &mut line);
     hearing.expect(src, &line)
 }
 

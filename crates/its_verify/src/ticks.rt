@@ -8,8 +8,8 @@ use arrayvec::ArrayVec;
 use its_print::{Run, print_ticks};
 use its_word::Pace;
 
-/// The runs of letters that a line, which has its LF, says of `count` ticks of slot `slot`, of which there are at most 512; None where
-/// it is not the text of a `T` line of that slot with so many letters.
+/// The runs of letters in a line, which has its LF, for `count` ticks of slot `slot`, of which there are at most 512; None if it is not
+/// the text of a `T` line of that slot with so many letters.
 #[tactic(auto, using(crate::proofs::TickLaws::ticks_read, crate::proofs::TickLaws::ticks_other, crate::proofs::TickLaws::ticks_few))]
 pub fn read_ticks(line: &[u8], slot: u8, count: u32) -> Option<ArrayVec<Run, 512>>
     requires { count ≤ 512 }
@@ -79,7 +79,7 @@ fn letter_at(byte: u8) -> Option<Pace>
     }
 }
 
-/// The number before a byte with the digit that the byte is, at most `most`; 0 where it is no digit.
+/// The number before a byte with the digit that the byte is, at most `most`; 0 if it is no digit.
 fn counted(most: u32, number: u32, byte: u8) -> u32
     requires few { number ≤ most }
     requires most { most ≤ 512 }

@@ -16,7 +16,7 @@ use super::finding::Finding;
 use super::hearing::Hearing;
 use super::judge::Judge;
 use super::showing::show_event;
-use its_direct::Answer;
+use its_direct::{Answer, Spot};
 use its_io::{Failed, Source};
 use its_word::{Event, Reason};
 
@@ -37,10 +37,10 @@ impl Trial {
     ghost use Rattle.its_verify.specs.Showing.{IsThere, heard_of};
     ghost use Rattle.its_verify.specs.Letters.{ticked};
     ghost use Rattle.its_verify.specs.Standing.{walk_of};
-    ghost use Rattle.its_verify.specs.Trial.{StaysTried, Tried};
+    ghost use Rattle.its_verify.specs.Trial.{StaysTried, TicksSay, Tried, TurnsSay};
 
     /// A `T` line of so many letters of a slot is next, and each is licensed in its turn.
-    #[tactic(auto, using(crate::proofs::TrialLaws::ticks_lack, crate::proofs::TrialLaws::ticks_ruled, crate::proofs::TrialLaws::ticks_stay))]
+    #[tactic(auto, using(crate::proofs::TrialLaws::ticks_lack, crate::proofs::TrialLaws::ticks_fail, crate::proofs::TrialLaws::ticks_ruled, crate::proofs::TrialLaws::ticks_stay))]
     pub fn ticks<S: Source>(
         &mut self,
         src: &mut S,
@@ -49,8 +49,9 @@ impl Trial {
     ) -> Result<Option<Finding>, Failed>
         requires slot { slot < slots }
         requires few { count ≤ 512 }
+        requires outside { self.old.judge.plain.place ≡ Spot.Plain }
         requires tried { Tried self.old (S.left src.old) }
-        ensures says { (b : Block) (n : ℕ) (next : Walk → AnyJudge) → Says result self.old.hearing self.new.hearing (S.left src.old) (S.left src.new) (led (ticked (walk_of self.old.judge b n) slot count) next) (next (walk_of self.new.judge b n)) }
+        ensures says { TicksSay result self.old self.new (S.left src.old) (S.left src.new) slot count }
         ensures stays { StaysTried result self.new (S.left src.new) }
         ensures last { self.new.last ≡ self.old.last }
         ensures place { self.new.judge.plain.place ≡ self.old.judge.plain.place }
@@ -63,8 +64,8 @@ impl Trial {
         Ok(self.hearing.rule(licensed))
     }
 
-    /// The turns of a RUN line are next: up to n of them, each a `T` line of q letters of the slot whose turn it is. They end
-    /// early where no job runs.
+    /// The turns of a RUN line are next: up to n of them, each a `T` line of q letters of the slot whose turn it is. They end early if
+    /// no job runs.
     #[tactic(auto, using(crate::proofs::TrialLaws::turns_start))]
     pub fn turns<S: Source>(
         &mut self,
@@ -73,8 +74,9 @@ impl Trial {
         q: u32,
     ) -> Result<Option<Finding>, Failed>
         requires few { q ≤ 512 }
+        requires outside { self.old.judge.plain.place ≡ Spot.Plain }
         requires tried { Tried self.old (S.left src.old) }
-        ensures says { (b : Block) (l : ℕ) (next : Walk → ℕ → AnyJudge) → Says result self.old.hearing self.new.hearing (S.left src.old) (S.left src.new) (turned n q (walk_of self.old.judge b l) self.old.last next) (next (walk_of self.new.judge b l) self.new.last) }
+        ensures says { TurnsSay result self.old self.new (S.left src.old) (S.left src.new) n q }
         ensures stays { StaysTried result self.new (S.left src.new) }
         ensures place { self.new.judge.plain.place ≡ self.old.judge.plain.place }
         ensures cause { HasCause (S.faults src.old) (S.faults src.new) result }
@@ -91,7 +93,7 @@ impl Trial {
         Ok(None)
     }
 
-    /// A line of the session with this number. None where it led on; else all is said.
+    /// A line of the session with this number. None if it led on; else the verdict is known.
     #[tactic(auto, using(crate::proofs::GoingLaws::tick_says, crate::proofs::GoingLaws::run_says, crate::proofs::GoingLaws::end_says, crate::proofs::GoingLaws::end_stays, crate::proofs::GoingLaws::never_on))]
     pub fn line<S: Source>(
         &mut self,
@@ -121,7 +123,7 @@ impl Trial {
     /// END: no line is next, and all is said.
     pub(crate) fn finish<S: Source>(&mut self, src: &mut S) -> Result<Option<Finding>, Failed>
         requires tried { Tried self.old (S.left src.old) }
-        ensures ends { SaysEnd result self.old.hearing (S.left src.old) at_end }
+        ensures ends { SaysEnd result self.old.hearing (S.left src.old) (S.left src.new) at_end }
         ensures out { ReadsOutIf result (S.left src.old) (S.left src.new) }
         ensures last { self.new.last ≡ self.old.last }
         ensures cause { HasCause (S.faults src.old) (S.faults src.new) result }
@@ -137,7 +139,7 @@ impl Trial {
         reason: Reason,
     ) -> Result<Option<Finding>, Failed>
         requires tried { Tried self.old (S.left src.old) }
-        ensures ends { SaysEnd result self.old.hearing (S.left src.old) (expects (Refused number reason ∷ []) at_end) }
+        ensures ends { SaysEnd result self.old.hearing (S.left src.old) (S.left src.new) (expects (Refused number reason ∷ []) at_end) }
         ensures out { ReadsOutIf result (S.left src.old) (S.left src.new) }
         ensures last { self.new.last ≡ self.old.last }
         ensures cause { HasCause (S.faults src.old) (S.faults src.new) result }

@@ -7,7 +7,7 @@ ghost use Rattle.its_session.specs.Events.{events_of, most_lines, place_after};
 ghost use Rattle.its_session.specs.Fits.{EventFits};
 ghost use Rattle.its_plain.specs.Operator.{Block, no_block};
 ghost use Rattle.its_plain.specs.Transcript.{Walk};
-ghost use Rattle.its_plain.specs.Unrolled.{ticks_asked, turns_asked};
+ghost use Rattle.its_plain.specs.Turns.{ticks_asked, turns_asked};
 ghost use Rattle.its_direct.specs.Events.{MayStand, place_of};
 ghost use Rattle.its_verify.specs.Finds.{Found as IsFound, Judges, ReadsOut};
 
@@ -37,7 +37,7 @@ const HIGHEST: u8 = SLOTS as u8 - 1;
 /// transcript is not.
 #[tactic(auto, using(crate::proofs::VerifyLaws::finds_session, crate::proofs::VerifyLaws::finds_long, crate::proofs::VerifyLaws::finds_cut, crate::proofs::VerifyLaws::finds_beyond))]
 pub fn verify<S: Source>(alloc: Global, src: &mut S) -> Result<Finding, Broken>
-    ensures finds { IsFound result (S.left src.old) }
+    ensures finds { IsFound result (S.left src.old) (S.left src.new) }
     ensures input { IfOk result (λ f. ReadsOut f (S.left src.old) (S.left src.new)) }
     ensures unfailed { result ≢ Err Broken.Source → S.faults src.new ≡ S.faults src.old }
     ensures fault { result ≡ Err Broken.Source → S.faults src.new ≡ next_fault (S.faults src.old) }
@@ -52,8 +52,8 @@ pub fn verify<S: Source>(alloc: Global, src: &mut S) -> Result<Finding, Broken>
     }
 }
 
-/// What is said of the transcript that the source has left, where a session of these bytes was read.
-#[tactic(auto, using(crate::proofs::VerifyLaws::judges_so))]
+/// The verdict on the transcript that the source has left, when a session of these bytes was read.
+#[tactic(auto, using(crate::proofs::VerifyLaws::judges_so, crate::proofs::VerifyLaws::judges_fail))]
 fn judge_transcript<S: Source>(
     alloc: Global,
     src: &mut S,
@@ -62,7 +62,7 @@ fn judge_transcript<S: Source>(
 ) -> Result<Finding, Broken>
     requires ready { ReadyTexts texts (S.left src.old) }
     requires few { texts.number ≤ most_lines }
-    ensures judged { Judges result texts session.items (S.left src.old) }
+    ensures judged { Judges result texts session.items (S.left src.old) (S.left src.new) }
     ensures out { IfOk result (λ f. ReadsOut f (S.left src.old) (S.left src.new)) }
     ensures unfailed { result ≢ Err Broken.Source → S.faults src.new ≡ S.faults src.old }
     ensures fault { result ≡ Err Broken.Source → S.faults src.new ≡ next_fault (S.faults src.old) }
@@ -94,14 +94,14 @@ impl Trial {
     ghost use Rattle.its_verify.specs.Hearing.{Concludes, Says};
     ghost use Rattle.its_verify.specs.Judge.{Judge as AnyJudge, turned};
     ghost use Rattle.its_verify.specs.Standing.{walk_of};
-    ghost use Rattle.its_verify.specs.Trial.{StaysTried, Tried};
+    ghost use Rattle.its_verify.specs.Trial.{RunsOutside, StaysTried, Tried, TurnsSay};
 
     /// Takes the items of a session one by one, until all is said.
     #[tactic(auto, using(crate::proofs::GoneLaws::gone_start, crate::proofs::GoneLaws::stands_on, crate::proofs::GoneLaws::fits_on))]
     fn go<S: Source>(&mut self, src: &mut S, session: &mut SafeSource) -> Result<Finding, Failed>
         requires tried { Tried self.old (S.left src.old) }
         requires place { self.old.judge.plain.place ≡ Spot.Plain }
-        ensures ends { Concludes result self.old.hearing (S.left src.old) (judge_from self.old no_block 1 (events_of session.old)) }
+        ensures ends { Concludes result self.old.hearing (S.left src.old) (S.left src.new) (judge_from self.old no_block 1 (events_of session.old)) }
         ensures out { IfOk result (λ f. ReadsOut f (S.left src.old) (S.left src.new)) }
         ensures cause { HasCause (S.faults src.old) (S.faults src.new) result }
     {
@@ -116,7 +116,7 @@ impl Trial {
         }
     }
 
-    /// Takes an item of a session, whose line has this number. None where it led on; else all is said.
+    /// Takes an item of a session, whose line has this number. None if it led on; else the verdict is known.
     #[tactic(auto, using(crate::proofs::GoneLaws::bad_says, crate::proofs::GoneLaws::beyond_says, crate::proofs::GoneLaws::last_says, crate::proofs::GoneLaws::not_last, crate::proofs::GoingLaws::end_stays, crate::proofs::GoingLaws::never_on))]
     fn take<S: Source>(
         &mut self,
@@ -166,10 +166,12 @@ impl Trial {
     }
 
     /// The turns that a line asks for are next: those of RUN.
+    #[tactic(auto, using(crate::proofs::HearingLaws::nothing_on))]
     fn turns_of<S: Source>(&mut self, src: &mut S, event: &Event) -> Result<Option<Finding>, Failed>
         requires fits { EventFits 2 event.now }
+        requires outside { RunsOutside event.now self.old.judge.plain.place }
         requires tried { Tried self.old (S.left src.old) }
-        ensures says { (b : Block) (l : ℕ) (next : Walk → ℕ → AnyJudge) → Says result self.old.hearing self.new.hearing (S.left src.old) (S.left src.new) (turned (turns_asked event.now) (ticks_asked event.now) (walk_of self.old.judge b l) self.old.last next) (next (walk_of self.new.judge b l) self.new.last) }
+        ensures says { TurnsSay result self.old self.new (S.left src.old) (S.left src.new) (turns_asked event.now) (ticks_asked event.now) }
         ensures stays { StaysTried result self.new (S.left src.new) }
         ensures place { self.new.judge.plain.place ≡ self.old.judge.plain.place }
         ensures cause { HasCause (S.faults src.old) (S.faults src.new) result }

@@ -12,3 +12,4 @@ pub mod StoreLaws
 pub mod TableLaws
 pub mod ConstantLaws
 pub mod WordsLaws
+pub mod NamesLaws

@@ -4,7 +4,7 @@ use Rattle.std.specs.List.{range_with_len}
 use Rattle.std.proofs.Common.{◌∙◌, ap, arith, inl, inr, eq-eqb}
 use Rattle.std.proofs.lemmas.Bool.{cases_eq, ne_eqb}
 use Rattle.its_word.specs.Limits.{slots}
-use Rattle.its_word.specs.Tree.{free_from, least_free, climbs_to, is_below, slots_below}
+use Rattle.its_word.specs.Tree.{free_from, least_free, none_from, no_job, climbs_to, is_below, slots_below}
 
 -- before the first slot is looked at
 pub least_start : {X : Type 0} (jobs : ℕ → Option X) (limit : ℕ) → free_from jobs (limit - 0) 0 ≡ least_free limit jobs
@@ -35,6 +35,33 @@ least_found jobs limit k l h =
 pub least_end : {X : Type 0} (jobs : ℕ → Option X) (limit k : ℕ) → limit ≤ k → free_from jobs (limit - k) k ≡ None
 unfolding free_from
 least_end jobs limit k l = let e : limit - k ≡ 0 = omega arith in ap (λ n. free_from jobs n k) e
+
+-- whether no slot has a job: before the first is looked at, where slot k has one, where it has none, and at the end
+pub none_start : {X : Type 0} (jobs : ℕ → Option X) → none_from jobs (slots - 0) 0 ≡ no_job jobs
+unfolding no_job
+none_start jobs = let e : slots - 0 ≡ slots = omega arith in ap (λ n. none_from jobs n 0) e
+
+job_here : {X : Type 0} (jobs : ℕ → Option X) (n k : ℕ) → is_some (jobs k) ≡ true → none_from jobs (suc n) k ≡ false
+unfolding none_from
+job_here jobs n k h = rw h refl
+
+pub none_full : {X : Type 0} (jobs : ℕ → Option X) (k : ℕ) → k < slots → is_some (jobs k) ≡ true → none_from jobs (slots - k) k ≡ false
+none_full jobs k l h =
+    let e : slots - k ≡ suc (slots - (k + 1)) = omega arith in
+    ap (λ n. none_from jobs n k) e ∙ job_here jobs (slots - (k + 1)) k h
+
+none_here : {X : Type 0} (jobs : ℕ → Option X) (n k : ℕ) → is_some (jobs k) ≡ false → none_from jobs (suc n) k ≡ none_from jobs n (k + 1)
+unfolding none_from
+none_here jobs n k h = rw h refl
+
+pub none_next : {X : Type 0} (jobs : ℕ → Option X) (k : ℕ) → k < slots → is_some (jobs k) ≡ false → none_from jobs (slots - k) k ≡ none_from jobs (slots - (k + 1)) (k + 1)
+none_next jobs k l h =
+    let e : slots - k ≡ suc (slots - (k + 1)) = omega arith in
+    ap (λ n. none_from jobs n k) e ∙ none_here jobs (slots - (k + 1)) k h
+
+pub none_end : {X : Type 0} (jobs : ℕ → Option X) (k : ℕ) → slots ≤ k → none_from jobs (slots - k) k ≡ true
+unfolding none_from
+none_end jobs k l = let e : slots - k ≡ 0 = omega arith in ap (λ n. none_from jobs n k) e
 
 -- climbing from one job to its superior
 pub climb_spent : (superiors : ℕ → Option ℕ) (s n : ℕ) (o : Option ℕ) → n ≡ 0 → climbs_to superiors s n o ≡ false

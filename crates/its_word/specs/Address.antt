@@ -1,5 +1,6 @@
 -- The effective address of an address word: bit 13 is I, bits 14 to 17 are X, the right half is Y
 -- (processor reference manual, "Effective address calculation").
+-- A promise rests on this.
 use Rattle.std.specs.Prelude.{if◌then◌else◌, ℕ, zero, suc, ◌+◌, ◌-◌, ◌/◌, ◌%◌, ◌^◌, ◌==◌, Bool, Option, Some, None, Result, Ok, Err, List, [], ◌∷◌, ◌++◌}
 use Rattle.its_word.specs.Word.{right_of}
 use Rattle.its_word.specs.Core.{Core, word_at, acc_at}
@@ -23,11 +24,11 @@ is_indirect w = w / 2 ^ 22 % 2 == 1
 abbrev pub index_of : ℕ → ℕ
 index_of w = w / 2 ^ 18 % 16
 
--- Y, plus the right half of accumulator X where X is not 0, modulo 1000000 (octal)
+-- Y, plus the right half of accumulator X if X is not 0, modulo 1000000 (octal)
 unfoldable pub indexed : Core → ℕ → ℕ
 indexed c w = if index_of w == 0 then right_of w else (right_of w + right_of (acc_at c (index_of w))) % 2 ^ 18
 
--- the index register, where there is one
+-- the index register, if there is one
 unfoldable pub index_places : ℕ → List ℕ
 index_places w = if index_of w == 0 then [] else index_of w ∷ []
 
@@ -46,13 +47,13 @@ found n e last = record { answer = Ok (record { e = e; flags_word = last }); rea
 abbrev pub failed : ℕ → Fault → Addressed
 failed n f = record { answer = Err f; reads = []; used = budget - n }
 
--- what follows an indirect word, or MPV where it is absent
+-- what follows an indirect word, or MPV if it is absent
 abbrev pub followed : ℕ → (ℕ → Addressed) → Option ℕ → Addressed
 followed n rest (Some w) = rest w
 followed n rest None = failed n Mpv
 
--- the calculation from an address word on, with n of the budget left. Where I is 1, the word at the address is the
--- next address word; where nothing is left for it, that is ILO
+-- the calculation from an address word on, with n of the budget left. If I is 1, the word at the address is the next
+-- address word; if nothing is left for it, that is ILO
 unfoldable pub calculation : ℕ → Core → ℕ → Option ℕ → Addressed
 calculation zero c w last =
     reading (index_places w) (if is_indirect w then failed 0 Ilo else found 0 (indexed c w) (last_used c w last))
@@ -61,6 +62,6 @@ calculation (suc n) c w last =
     (if is_indirect w then reading (indexed c w ∷ []) (followed n (λ v. calculation n c v (Some v)) (word_at c (indexed c w)))
     else found (suc n) (indexed c w) (last_used c w last))
 
--- the effective address of an address word, where so much of the budget is used already
+-- the effective address of an address word, when so much of the budget is used already
 abbrev pub address : Core → ℕ → ℕ → Addressed
 address c w used = calculation (budget - used) c w None

@@ -1,5 +1,6 @@
 -- Integer arithmetic (processor reference manual, "Fixed point arithmetic" and "Arithmetic testing").
 -- a is AC and s the source of the row; both are words.
+-- A promise rests on this.
 use Rattle.std.specs.Prelude.{if◌then◌else◌, ◌==◌, ◌&&◌, ◌||◌, not, ℕ, ℤ, pos, negsuc, ◌+◌, ◌*◌, ◌/◌, ◌%◌, ◌^◌, ◌+ℤ◌, ◌*ℤ◌, Bool, true, false, Option, Some, None, [], ◌∷◌, nat_le, nat_lt, int_lt, int_div, int_rem, slice_index_or}
 use Rattle.std.specs.Ordering.{int_eq}
 use Rattle.its_word.specs.Flags.{CARRY_0, CARRY_1, OVERFLOW}
@@ -9,11 +10,11 @@ use Rattle.its_word.specs.Word.{complement_of, floor_div, modulo, signed_of, wor
 
 -- ADD, SUB, MOVN, MOVM; the sums of AOJ, AOS, SOJ and SOS are those of ADD
 
--- a carry leaves the leftmost of the k low bits where a, b and c are added
+-- a carry leaves the leftmost of the k low bits when a, b and c are added
 abbrev pub carries : ℕ → ℕ → ℕ → ℕ → Bool
 carries k a b c = nat_le (2 ^ k) (a % 2 ^ k + b % 2 ^ k + c)
 
--- the carries out of bits 0 and 1, and overflow where they differ
+-- the carries out of bits 0 and 1, and overflow if they differ
 abbrev pub carry_flags : Bool → Bool → ℕ
 carry_flags true true = CARRY_0 + CARRY_1
 carry_flags true false = OVERFLOW + CARRY_0
@@ -32,7 +33,7 @@ sub_of a s = sum_of a (complement_of s) 1
 unfoldable pub neg_of : ℕ → Result2
 neg_of s = sum_of 0 (complement_of s) 1
 
--- the word itself, or its negation where it is negative
+-- the word itself, or its negation if it is negative
 unfoldable pub magnitude_of : ℕ → Result2
 magnitude_of s = if int_lt (signed_of s) (pos 0) then neg_of s else one_word s 0
 
@@ -45,11 +46,11 @@ product_of a s = signed_of a *ℤ signed_of s
 unfoldable pub high_of : ℤ → ℕ
 high_of p = word_of (floor_div p (2 ^ 35))
 
--- the low 35 bits of a number, behind bit 0 of a word
+-- the low 35 bits of a number, after bit 0 of a word
 abbrev pub low_word_of : ℕ → ℕ → ℕ
 low_word_of first low = first / 2 ^ 35 * 2 ^ 35 + low % 2 ^ 35
 
--- the low word of a product: its low 35 bits, behind the sign of the high word
+-- the low word of a product: its low 35 bits, after the sign of the high word
 unfoldable pub low_of : ℤ → ℕ
 low_of p = low_word_of (high_of p) (modulo p (2 ^ 35))
 
@@ -66,14 +67,14 @@ abbrev pub fits : ℤ → Bool
 fits (pos n) = nat_lt n (2 ^ 35)
 fits (negsuc n) = nat_lt n (2 ^ 35)
 
--- the product; where it does not fit one word, overflow and the low word of MUL
+-- the product; if it does not fit one word, overflow and the low word of MUL
 unfoldable pub imul_of : ℕ → ℕ → Result2
 imul_of a s = if fits (product_of a s) then one_word (word_of (product_of a s)) 0 else one_word (low_of (product_of a s)) OVERFLOW
 
 -- IDIV, DIV: none means overflow and no divide, with no operand changed
 
--- the quotient towards 0, and the remainder with the dividend's sign; none where the divisor is 0 or
--- the quotient does not fit one word
+-- the quotient towards 0, and the remainder with the dividend's sign; none if the divisor is 0 or the quotient does
+-- not fit one word
 unfoldable pub divided : ℤ → ℤ → Option Result2
 divided n d =
     if int_eq d (pos 0) || not (fits (int_div n d)) then None

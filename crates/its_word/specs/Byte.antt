@@ -1,4 +1,5 @@
 -- Byte pointers: IBP, LDB, DPB, ILDB, IDPB (processor reference manual, "Byte manipulation").
+-- A promise rests on this.
 use Rattle.std.specs.Prelude.{if◌then◌else◌, ◌&&◌, ℕ, ◌+◌, ◌-◌, ◌*◌, ◌/◌, ◌%◌, ◌^◌, Bool, Option, Some, None, nat_le}
 use Rattle.its_word.specs.Word.{right_of}
 

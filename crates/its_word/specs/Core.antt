@@ -1,5 +1,6 @@
 -- A job's core: sixteen accumulators, at addresses 0 to 17 (octal), and 256 possible pages of 1024
 -- words (docs/MACHINE.md, "Core"). Addresses are below 2 ^ 18; past that nothing is there.
+-- A promise rests on this.
 use Rattle.std.specs.Prelude.{if◌then◌else◌, ◌≡◌, ℕ, ◌/◌, ◌%◌, Bool, length, true, false, Option, Some, None, List, nat_lt, replicate, sum_by, count_by, slice_get, slice_set, is_some, unwrap_or, Result, Ok, Err}
 use Rattle.std.specs.List.{range_with_len}
 use Rattle.its_word.specs.Limits.{slots}
@@ -21,7 +22,7 @@ present (Some (Some p)) = Some p
 present (Some None) = None
 present None = None
 
--- page number k, where it is present
+-- page number k, if it is present
 unfoldable pub page_of : Core → ℕ → Option Page
 page_of c k = present (slice_get c.pages k)
 
@@ -37,7 +38,7 @@ abbrev pub page_stored : Option Page → ℕ → ℕ → Option Page
 page_stored (Some p) k w = Some (record p { words = slice_set p.words k w })
 page_stored None k w = None
 
--- the word at an address, or none where its page is absent; addresses 0 to 17 are the accumulators
+-- the word at an address, or none if its page is absent; addresses 0 to 17 are the accumulators
 unfoldable pub word_at : Core → ℕ → Option ℕ
 word_at c a = if nat_lt a 16 then slice_get c.accs a else word_in (page_of c (a / 1024)) (a % 1024)
 
@@ -49,7 +50,7 @@ acc_at c a = unwrap_or (word_at c a) 0
 unfoldable pub can_store : Core → ℕ → Bool
 can_store c a = if nat_lt a 16 then is_some (slice_get c.accs a) else stores_in (page_of c (a / 1024)) (a % 1024)
 
--- the core after a store at an address where one can be made
+-- the core after a store at an address if the store is possible
 unfoldable pub store : Core → ℕ → ℕ → Core
 store c a w =
     if nat_lt a 16 then record c { accs = slice_set c.accs a w }

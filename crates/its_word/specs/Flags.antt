@@ -1,4 +1,5 @@
--- The flags of a PC word, and the bits of pending word 1 (docs/MACHINE.md, "The state" and "Interrupts").
+-- The flags of a PC word, and the bits of pending word 1 (docs/MACHINE.md, "Instructions" and "Interrupts").
+-- A promise rests on this.
 use Rattle.std.specs.Prelude.{ℕ, bit_and, bit_or}
 use Rattle.its_word.specs.Word.{left_of, pair_of}
 use Rattle.its_word.specs.declared.access.Fault.{Fault}

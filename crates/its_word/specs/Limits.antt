@@ -1,4 +1,5 @@
 -- How many there can be of each thing.
+-- A promise rests on this.
 use Rattle.std.specs.Prelude.{if◌then◌else◌, ◌==◌, ℕ}
 
 -- places for jobs; slots are the numbers below

@@ -1,5 +1,6 @@
 -- Boolean functions, half words and tests (processor reference manual, "Logic", "Half word data
 -- transmission" and "Logical testing and modification").
+-- A promise rests on this.
 use Rattle.std.specs.Prelude.{◌==◌, not, ℕ, ◌-◌, ◌*◌, ◌/◌, ◌^◌, Bool, true, false, List, [], ◌∷◌, bit_and, bit_or, bit_xor, slice_index, slice_index_or}
 use Rattle.its_word.specs.Word.{complement_of, left_of, pair_of, right_of}
 
@@ -63,8 +64,8 @@ half_table s d =
 unfoldable pub half_of : ℕ → ℕ → ℕ → ℕ
 half_of k s d = slice_index (half_table s d) k
 
--- TR, TL, TD, TS: whether a test of AC under a mask skips, before AC is changed: never; where all
--- masked bits are 0 (E); always (A); where not all are 0 (N)
+-- TR, TL, TD, TS: whether a test of AC under a mask skips, before AC is changed: never; if all masked bits are 0 (E);
+-- always (A); if not all are 0 (N)
 unfoldable pub tested_of : ℕ → ℕ → ℕ → Bool
 tested_of k a mask = slice_index_or (false ∷ all_zero ∷ true ∷ not all_zero ∷ []) k false
   where

@@ -1,4 +1,5 @@
 -- One value of many changes.
+-- No promise rests on this.
 use Rattle.std.specs.Prelude.{◌≡◌, ◌≢◌, ℕ}
 
 -- new is old, but for the value at i, which is x

@@ -1,4 +1,5 @@
 -- Words that are made ready from the first on.
+-- No promise rests on this.
 use Rattle.std.specs.Prelude.{ℕ, List}
 
 -- the words that are ready, and how many there may be

@@ -1,12 +1,13 @@
 -- Shifts and rotations (processor reference manual, "Logic" and "Fixed point arithmetic"), and the
 -- zeros that JFFO counts ("Program control"). e is the effective address, a is AC and b is AC+1.
+-- A promise rests on this.
 use Rattle.std.specs.Prelude.{if◌then◌else◌, ◌==◌, ℕ, ◌+◌, ◌-◌, ◌*◌, ◌/◌, ◌%◌, ◌^◌, Bool, nat_lt}
 use Rattle.std.specs.Int.Count.{count_leading_zeros}
 use Rattle.its_word.specs.Flags.{OVERFLOW}
 use Rattle.its_word.specs.declared.result2.Result2.{Result2}
 use Rattle.its_word.specs.Result2.{one_word}
 
--- the count is E as a signed number of 18 bits: to the left where it is not negative
+-- the count is E as a signed number of 18 bits: to the left if it is not negative
 abbrev pub is_left : ℕ → Bool
 is_left e = nat_lt e (2 ^ 17)
 
@@ -35,11 +36,11 @@ rotated_by n e w = rotated n w (if is_left e then places e else n - places e % n
 abbrev pub sign_copies : ℕ → ℕ → ℕ
 sign_copies s k = s * (2 ^ k - 1)
 
--- n bits m behind a sign bit s, which stays: zeros come in at the right, or copies of s at the left
+-- n bits m after a sign bit s, which is unchanged: zeros come in at the right, or copies of s at the left
 abbrev pub arithmetic : ℕ → ℕ → ℕ → ℕ → ℕ
 arithmetic n e s m = if is_left e then moved_left n m (places e) else moved_right (sign_copies s (places e) * 2 ^ n + m) (places e)
 
--- overflow, where a bit that leaves at the left differs from the sign bit
+-- overflow, if a bit that leaves at the left differs from the sign bit
 abbrev pub arithmetic_flags : ℕ → ℕ → ℕ → ℕ → ℕ
 arithmetic_flags n e s m = if is_left e then (if m * 2 ^ places e / 2 ^ n == sign_copies s (places e) then 0 else OVERFLOW) else 0
 
@@ -91,6 +92,6 @@ rotc_of e a b = two_words (rotated_by 72 e (double a b))
 unfoldable pub lshc_of : ℕ → ℕ → ℕ → Result2
 lshc_of e a b = two_words (shifted 72 e (double a b))
 
--- JFFO: the zeros before the first one; 0 where there is no one
+-- JFFO: the zeros before the first one; 0 if there is no one
 unfoldable pub zeros_of : ℕ → ℕ
 zeros_of a = if a == 0 then 0 else count_leading_zeros 36 a

@@ -1,4 +1,5 @@
 -- Stores of words in a core, in their order: all are checked before any is made.
+-- A promise rests on this.
 use Rattle.std.specs.Prelude.{ℕ, ◌%◌, ◌^◌, Bool, true, false, Option, Some, None, List, [], ◌∷◌}
 use Rattle.std.specs.Option.{option_or}
 use Rattle.its_word.specs.Core.{Core, word_at, can_store, store}
@@ -6,13 +7,13 @@ use Rattle.its_word.specs.declared.access.Fault.{Fault}
 use Rattle.its_word.specs.declared.access.Fault.TheVariants.{Mpv, Wro}
 use Rattle.its_word.specs.declared.plan.Store.{Store}
 
--- why a store cannot be made, where it cannot: by whether one can, and by the word that is there
+-- why a store is not possible, if it is not: by whether it is, and by the word that is there
 abbrev pub refusal : Bool → Option ℕ → Option Fault
 refusal true there = None
 refusal false None = Some Mpv
 refusal false (Some w) = Some Wro
 
--- why a word cannot be stored at an address, where it cannot
+-- why a word cannot be stored at an address, if it cannot
 abbrev pub refused : Core → ℕ → Option Fault
 refused c a = refusal (can_store c a) (word_at c a)
 

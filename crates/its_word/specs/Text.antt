@@ -1,4 +1,5 @@
 -- Numbers and names as text (docs/SESSION.md, "Numbers and names"). Characters are their ASCII codes.
+-- A promise rests on this.
 use Rattle.std.specs.Prelude.{if◌then◌else◌, ℕ, ◌+◌, ◌-◌, ◌*◌, ◌/◌, ◌%◌, ◌^◌, ◌==◌, Bool, ◌&&◌, not, List, [], ◌∷◌, ◌++◌, length, map, filter, fold, nat_le, nat_lt}
 use Rattle.std.specs.List.{range_with_len, list_all, slice_split}
 use Rattle.std.specs.Int.Digits as base

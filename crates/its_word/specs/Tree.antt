@@ -1,4 +1,5 @@
 -- Slots, and the tree of jobs.
+-- A promise rests on this.
 use Rattle.std.specs.Prelude.{ℕ, zero, suc, ◌+◌, ◌==◌, Bool, true, false, not, ◌&&◌, ◌||◌, Option, Some, None, List, filter, replicate, is_some, cond}
 use Rattle.std.specs.List.{range_with_len}
 use Rattle.its_word.specs.Limits.{slots}
@@ -10,9 +11,18 @@ unfoldable pub free_from : {X : Type 0} → (ℕ → Option X) → ℕ → ℕ �
 free_from jobs zero k = None
 free_from jobs (suc n) k = cond (is_some (jobs k)) (free_from jobs n (k + 1)) (Some k)
 
--- the least free slot below a limit, where there is one
+-- the least empty slot below a limit, if there is one
 unfoldable pub least_free : {X : Type 0} → ℕ → (ℕ → Option X) → Option ℕ
 least_free limit jobs = free_from jobs limit 0
+
+-- none of n slots from k on has a job
+unfoldable pub none_from : {X : Type 0} → (ℕ → Option X) → ℕ → ℕ → Bool
+none_from jobs zero k = true
+none_from jobs (suc n) k = cond (is_some (jobs k)) false (none_from jobs n (k + 1))
+
+-- no slot has a job
+unfoldable pub no_job : {X : Type 0} → (ℕ → Option X) → Bool
+no_job jobs = none_from jobs slots 0
 
 -- a job as it is made: stopped, with closed channels; its names and console are given, all else is 0
 unfoldable pub fresh_job : ℕ → ℕ → Option ℕ → Job

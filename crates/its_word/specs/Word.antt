@@ -1,4 +1,5 @@
 -- Words of 36 bits, as numbers below 2 ^ 36 (processor reference manual, "Number system").
+-- A promise rests on this.
 use Rattle.std.specs.Prelude.{if◌then◌else◌, ℕ, ℤ, pos, negsuc, ◌+◌, ◌-◌, ◌*◌, ◌/◌, ◌%◌, ◌^◌, ◌-ℤ◌, nat_lt}
 
 -- bits 0 to 17

@@ -23,7 +23,7 @@ pub enum Kind {
     Other,
 }
 
-/// Where a value comes from: a word of core, or the argument itself, `0,,E`.
+/// The source of a value: a word of core, or the argument itself, `0,,E`.
 #[derive(Clone, Copy, Debug, PartialEq, Eq)]
 pub enum Source {
     Held(Location),
@@ -54,7 +54,7 @@ pub struct Placed {
     pub used: u32,
 }
 
-/// An input argument of a call: its value, and the address of its word where it is no immediate.
+/// An input argument of a call: its value, and the address of its word if it is no immediate.
 #[derive(Clone, Copy, Debug, PartialEq, Eq)]
 pub struct Operand {
     pub value: Word,
@@ -86,9 +86,9 @@ pub struct Ask {
     pub operand: ArrayVec<u32, 16>,
 }
 
-/// Where a job enters the monitor: the PC of the call or of the XCT that began the chain, the
-/// effective address, the channel of `.IOT`, the budget of indirect words that is used, and the
-/// places of the decode words so far.
+/// The site at which a job enters the monitor: the PC of the call or of the XCT that began the chain, the effective
+/// address, the channel of `.IOT`, the budget of indirect words that is used, and the places of the decode words so
+/// far.
 #[derive(Debug, PartialEq, Eq, Drop)]
 pub struct Site {
     pub pc: u32,
@@ -111,7 +111,7 @@ pub struct Exit {
     pub defer2: Word,
 }
 
-/// A step that a call owes after its commit.
+/// A step of a call that is pending after its commit.
 #[derive(Clone, Copy, Debug, PartialEq, Eq)]
 pub enum Owed {
     Store(u32, Word),
@@ -130,8 +130,8 @@ impl Default for Owed {
     }
 }
 
-/// What a tick of a job did: a step of the plain machine (`*`), work that the plain machine does not
-/// see (`.`), a wait (`w`), or nothing, as the slot is empty or its job is stopped (`-`).
+/// What a tick of a job did: a step of the plain machine (`*`), work that the plain machine does not see (`.`), a
+/// wait (`w`), or nothing, because the slot is empty or its job is stopped (`-`).
 #[derive(Clone, Copy, Debug, PartialEq, Eq)]
 pub enum Pace {
     Step,

@@ -1,13 +1,13 @@
 //! Instructions by their families (processor reference manual, "User operations").
 
-/// Where an instruction of four opcodes in a row takes its source and leaves its result.
+/// The source of an instruction of four opcodes in a row, and the destination of its result.
 ///
 /// | Mode | Letter | Moves and halves | Arithmetic and Boolean functions |
 /// |---|---|---|---|
 /// | `Basic` | none | C(E), to AC | C(E), to AC |
 /// | `Immediate` | I | 0,,E, to AC | 0,,E, to AC |
 /// | `Memory` | M | AC, to C(E) | C(E), to C(E) only |
-/// | `Both` | S, or B | C(E), to C(E), and to AC where A is not 0 | C(E), to both |
+/// | `Both` | S, or B | C(E), to C(E), and to AC if A is not 0 | C(E), to both |
 #[derive(Clone, Copy, Debug, PartialEq, Eq)]
 pub enum Mode {
     Basic,

@@ -1,7 +1,7 @@
 use super::word::Word;
 
-/// What a channel of a job is on. `at` is a position in words; `file` and `draft` are the numbers of
-/// a file and of a draft; `slot` is that of an inferior, which may be written where `write` holds.
+/// What a channel of a job is on. `at` is a position in words; `file` and `draft` are the numbers of a file and of a
+/// draft; `slot` is that of an inferior, which may be written if `write` holds.
 #[derive(Clone, Copy, Debug, PartialEq, Eq)]
 pub enum Channel {
     Closed,
@@ -12,9 +12,9 @@ pub enum Channel {
     Usr { slot: u8, write: bool, at: u32 },
 }
 
-/// The registers of a job: PC, flags (bits of the left half of a PC word), the stopped mark, pending
-/// words, masks and deferrals of its interrupts, its two names in SIXBIT, its console and its
-/// channels. Its core and its place in the tree of jobs stand elsewhere.
+/// The registers of a job: PC, flags (bits of the left half of a PC word), the stopped mark, pending words, masks and
+/// deferrals of its interrupts, its two names in SIXBIT, its console and its channels. Its core and its place in the
+/// tree of jobs are elsewhere.
 #[derive(Clone, Copy, Debug, PartialEq, Eq)]
 pub struct Job {
     pub pc: u32,

@@ -1,3 +1,5 @@
+ghost use Rattle.std.specs.Prelude.{◌≡◌};
+
 use super::instruction::Instruction;
 use super::word::Word;
 use arrayvec::ArrayVec;
@@ -23,8 +25,8 @@ pub struct Reached {
     pub context: Context,
 }
 
-/// Where an instruction word leads: to its own instruction, or, where it is an XCT, to another word,
-/// with so much of the budget used.
+/// To what an instruction word leads: to its own instruction, or, if it is an XCT, to another word, with so much of
+/// the budget used.
 #[derive(Clone, Copy, Debug, PartialEq, Eq)]
 pub enum Turn {
     Found(Reached),
@@ -39,6 +41,8 @@ pub struct Store {
 }
 
 impl Default for Store {
+    ghost is_default = { λ s. s ≡ record { at = 0; word = 0 } };
+
     fn default() -> Store {
         Store {
             at: 0,

@@ -5,7 +5,7 @@ ghost use Rattle.its_word.specs.Text.{word_of_run, words_of};
 
 use arrayvec::ArrayVec;
 
-/// Where the first space is.
+/// The place of the first space.
 fn first_space(line: &[u8]) -> Option<usize>
     ensures { result ≡ position (λ b. b == 32) line.now }
 {

@@ -108,8 +108,8 @@ pub enum Event {
     End,
 }
 
-/// Where a line of a session stands: it is line 1, which may have the version; or outside any block,
-/// after LOAD and before its GO, or after FILE and before its EOF.
+/// The place of a line in a session: it is line 1, which may have the version; or outside any block, after LOAD and
+/// before its GO, or after FILE and before its EOF.
 #[derive(Clone, Copy, Debug, PartialEq, Eq)]
 pub enum Place {
     First,
@@ -118,8 +118,8 @@ pub enum Place {
     File,
 }
 
-/// Why a line is no event: it has more than 255 bytes, it is no line of the table or none that may
-/// stand at its place, one of its numbers is outside its range, or its console is above 7.
+/// Why a line is no event: it has more than 255 bytes, it is no line of the table or none that may occur at its
+/// place, one of its numbers is outside its range, or its console is above 7.
 #[derive(Clone, Copy, Debug, PartialEq, Eq)]
 pub enum Bad {
     Long,

@@ -1,8 +1,8 @@
 use super::word::Word;
 
-/// What STATE shows of a job: its names, superior and console, whether it runs, its PC word, its
-/// pending words, masks and deferrals; and of its symbols the one nearest to its PC, where there is one
-/// at an address at most the PC: its name, and how far the PC is past it.
+/// What STATE shows of a job: its names, superior and console, whether it runs, its PC word, its pending words, masks
+/// and deferrals; and of its symbols the one nearest to its PC, if there is one at an address at most the PC: its
+/// name, and how far the PC is past it.
 #[derive(Clone, Copy, Debug, PartialEq, Eq)]
 pub struct JobShow {
     pub u: Word,
@@ -28,7 +28,7 @@ pub struct FileShow {
     pub length: u32,
 }
 
-/// How far a job is inside a call; `User` where it is in none.
+/// How far a job is inside a call; `User` if it is in none.
 #[derive(Clone, Copy, Debug, PartialEq, Eq)]
 pub enum PeekState {
     User,

@@ -1,18 +1,18 @@
 -- A job that is made in an empty slot, whose core is that of no job: the state that the world then stands for, and that
 -- the world is tidy.
-use Rattle.std.specs.Prelude.{◌≡◌, ◌<◌, ◌≢◌, ℕ, Option, Some, None}
+use Rattle.std.specs.Prelude.{◌≡◌, ◌<◌, ◌≢◌, ℕ, Option, Some, None, []}
 use Rattle.std.proofs.Common.{sym, ◌∙◌, ap, subst, inl, inr}
 use Rattle.std.proofs.lemmas.Bool.{cases_eq}
 use Rattle.its_word.specs.Core.{no_core}
-use Rattle.its_word.specs.Tree.{least_free, fresh_job}
-use Rattle.its_word.proofs.FreeLaws.{least_alike, least_empty}
+use Rattle.its_word.specs.Tree.{least_free, fresh_job, no_job}
+use Rattle.its_word.proofs.FreeLaws.{least_alike, least_empty, no_job_alike}
 use Rattle.its_core.specs.Cores.{core_at, clear_at}
 use Rattle.its_files.specs.Files.{directory}
 use Rattle.its_jobs.specs.Table.{job_at, superior_at}
-use Rattle.its_plain.specs.Machine.{Whole, whole, changed, with_job, limit}
+use Rattle.its_plain.specs.Machine.{Whole, whole, changed, limit, with_new}
 use Rattle.its_plain.proofs.MachineLaws.{machine_is}
 use Rattle.its_stepped.specs.Lines.{with_raw}
-use Rattle.its_stepped.proofs.FrameLaws.{changed_only}
+use Rattle.its_stepped.proofs.FrameLaws.{changed_only, changed_same}
 use Rattle.its_world.specs.Made.{JobMade}
 use Rattle.its_plain.specs.OperatorClock.{clock_end}
 use Rattle.its_world.specs.Tidy.{channel_by, channel_at, Across, Tidy}
@@ -42,16 +42,17 @@ module _ (old new : World) (s u n : ℕ) (superior console : Option ℕ) (made :
       ∙ ap (λ l. raw_of old.files (core_at old.core k) (superior_at old.jobs k) (alarm_at l.items k) (job_at new.jobs k)) made.alarms
       ∙ ap (raw_of old.files (core_at old.core k) (superior_at old.jobs k) (alarm_at old.alarms.items k)) (made.job.others k ne)
 
-  pub made_state : core_at old.core s ≡ no_core → alarm_at old.alarms.items s ≡ None → state_of new ≡ with_raw (state_of old) (with_job (state_of old).raw s (whole no_core (fresh_job u n console) superior))
+  pub made_state : core_at old.core s ≡ no_core → alarm_at old.alarms.items s ≡ None → symbols_at old.symbols.items s ≡ [] → state_of new ≡ with_raw (state_of old) (with_new (state_of old).raw s (whole no_core (fresh_job u n console) superior))
   unfolding state_of
-  made_state blank quiet =
+  made_state blank quiet nameless =
       let q : Whole = whole no_core (fresh_job u n console) superior in
       let only = changed_only (raw_at old.files old.core old.jobs old.alarms.items) s (Some q) in
       state_is _ _
       (machine_is _ _ (λ k. elim (cases_eq k s) [
         | inl is ↦ ap (raw_at new.files new.core new.jobs new.alarms.items) is ∙ made_here blank quiet ∙ sym (ap (changed (raw_at old.files old.core old.jobs old.alarms.items) s (Some q)) is ∙ only.here)
         | inr ne ↦ made_other k ne ∙ sym (only.others k ne)
-      ]) (λ c. ap (λ l. console_at l.items c) made.consoles) (λ c. ap (λ l. holder_at l c) made.holders) (ap directory made.files) made.clock made.version (λ k. ap (λ l. symbols_at l.items k) made.symbols))
+      ]) (λ c. ap (λ l. console_at l.items c) made.consoles) (λ c. ap (λ l. holder_at l c) made.holders) (ap directory made.files) made.clock made.version
+      (λ k. ap (λ l. symbols_at l.items k) made.symbols ∙ changed_same (symbols_at old.symbols.items) s k [] nameless))
       (λ k. ap (λ v. frame_at v.items k) made.frames)
       (λ k. ap (λ c. clear_at c k) made.core)
       (ap mark_of made.files)
@@ -80,10 +81,14 @@ module _ (old new : World) (s u n : ℕ) (superior console : Option ℕ) (made :
     ];
   }
 
--- the jobs have the limit of the raw machine; its least free slot is that of the jobs; it is empty, and its core is that of no job
+-- the jobs have the limit of the raw machine; no slot has a job where none of the raw machine has; its least free slot is that of the jobs;
+-- it is empty, and its core is that of no job
 pub limit_raw : (w : World) → w.jobs.limit ≡ limit (state_of w).raw
 unfolding state_of
 limit_raw w = w.limited
+
+pub empty_raw : (w : World) → no_job (state_of w).raw.jobs ≡ no_job (job_at w.jobs)
+empty_raw w = no_job_alike (state_of w).raw.jobs (job_at w.jobs) (raw_has w)
 
 pub least_raw : (w : World) → least_free (limit (state_of w).raw) (state_of w).raw.jobs ≡ least_free w.jobs.limit (job_at w.jobs)
 least_raw w =
@@ -95,3 +100,6 @@ least_blank w s tidy e = tidy.blank s (least_empty w.jobs.limit (job_at w.jobs) 
 
 pub least_quiet : (w : World) (s : ℕ) → Tidy w → least_free w.jobs.limit (job_at w.jobs) ≡ Some s → alarm_at w.alarms.items s ≡ None
 least_quiet w s tidy e = tidy.quiet s (least_empty w.jobs.limit (job_at w.jobs) s e)
+
+pub least_nameless : (w : World) (s : ℕ) → Tidy w → least_free w.jobs.limit (job_at w.jobs) ≡ Some s → symbols_at w.symbols.items s ≡ []
+least_nameless w s tidy e = tidy.nameless s (least_empty w.jobs.limit (job_at w.jobs) s e)

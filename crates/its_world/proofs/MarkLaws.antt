@@ -10,7 +10,7 @@ use Rattle.its_files.specs.declared.entry.Mark.{Mark as FilesMark}
 use Rattle.its_files.specs.declared.entry.Parts.{Parts}
 use Rattle.its_files.specs.declared.entry.Parts.TheVariants.{Replace, Link, Free}
 use Rattle.std.proofs.lemmas.List.{get_or-set_same}
-use Rattle.its_files.proofs.OrderLaws.{same_sym}
+use Rattle.its_word.proofs.NamesLaws.{same_sym}
 use Rattle.its_files.proofs.EntryLaws.{within, draft_stands, draft_no_file, unlinked_files, linked_files, freed_files}
 use Rattle.its_files.proofs.DirectoryLaws.{words_stand, without_same, file_is, file_apart, texts_apart, directory_same, directory_more, directory_without, plain_unlinked_is, plain_linked_is, plain_freed_is, helped_unmarked}
 use Rattle.its_plain.specs.Machine.{File, Writes}

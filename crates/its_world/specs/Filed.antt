@@ -1,4 +1,5 @@
--- Where a slot of a world belongs among the lists of those that wait.
+-- The lists of slots that wait: to which of them a slot of a world belongs.
+-- No promise rests on this.
 use Rattle.std.specs.Prelude.{if◌then◌else◌, ◌≡◌, ◌≢◌, ◌<◌, ℕ, Bool, true, false, Option, Some, None, List, nat_lt, slice_index_or, unwrap_or, ◌⊎◌}
 use Rattle.its_links.specs.Lists.{list_at, count}
 use Rattle.its_word.specs.Only.{Only}
@@ -49,7 +50,7 @@ abbrev pub place_for : Doors → ℕ → ℕ → Option Wait → Option ℕ
 place_for d k n (Some r) = if_within (nat_lt (console_in r) 8) (place_at r (held_up d k n r))
 place_for d k n None = None
 
--- that of slot k: where its frame is Waiting that of its reason, else none
+-- that of slot k: if its frame is Waiting that of its reason, else none
 abbrev pub place_by : Doors → ℕ → Option Job → Option Frame → Option ℕ
 place_by d k o (Some (Waiting f)) = place_for d k (input f.ask 0) (wait_reason o f.ask)
 place_by d k o _ = None
@@ -60,11 +61,11 @@ doors_of w = record { consoles = console_at w.consoles.items; holders = holder_a
 unfoldable pub place_of : World → ℕ → Option ℕ
 place_of w k = place_by (doors_of w) k (job_at w.jobs k) (frame_at w.frames.items k)
 
--- each slot stands in the list in which it belongs, once, and in no other
+-- each slot is on the list to which it belongs, once, and on no other
 abbrev pub Ringed : World → Type 0
 Ringed w = Filed w.rings.lists (place_of w)
 
--- the Awake list of the console at which slot k waits, where it waits at one
+-- the Awake list of the console at which slot k waits, if it waits at one
 abbrev pub awake_for : Option Wait → Option ℕ
 awake_for (Some r) = if_within (nat_lt (console_in r) 8) (awake_of r)
 awake_for None = None
@@ -76,7 +77,7 @@ awake_by o _ = None
 unfoldable pub awake_at : World → ℕ → Option ℕ
 awake_at w k = awake_by (job_at w.jobs k) (frame_at w.frames.items k)
 
--- it stands in a wait ring
+-- it is on a wait list
 pub record Blocked (w : World) (k : ℕ) : Type 0 where
   pub ring : ℕ
   pub within : ring < wait_rings
@@ -95,13 +96,13 @@ pub record OnlyRings (old new : World) : Type 0 where
   pub symbols : new.symbols ≡ old.symbols
   pub alarms : new.alarms ≡ old.alarms
 
--- slot s was put where it belongs
+-- slot s was put on the list to which it belongs
 pub record Refiled (old new : World) (s : ℕ) : Type 0 where
   pub rest : OnlyRings old new
   pub here : StandsIn new.rings.lists s (place_of new s)
   pub others : (k : ℕ) → k ≢ s → (h : ℕ) → count k (list_at new.rings.lists h) ≡ count k (list_at old.rings.lists h)
 
--- each slot that stood in one of these lists was put where it belongs. (Others stand where they stood, or where they belong)
+-- each slot that was on one of these lists was put where it belongs. (Others are where they were, or where they belong)
 pub record Resettled (old new : World) (hs : List ℕ) : Type 0 where
   pub rest : OnlyRings old new
   pub each : (k : ℕ) → StandsIn new.rings.lists k (place_of new k) ⊎ (AwayFrom old.rings.lists k hs × ((h : ℕ) → count k (list_at new.rings.lists h) ≡ count k (list_at old.rings.lists h)))

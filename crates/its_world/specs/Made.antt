@@ -1,4 +1,5 @@
 -- A job that is made.
+-- No promise rests on this.
 use Rattle.std.specs.Prelude.{◌≡◌, ℕ, Option, Some}
 use Rattle.its_word.specs.Only.{Only}
 use Rattle.its_word.specs.Tree.{fresh_job}

@@ -1,4 +1,5 @@
 -- A page that is mapped.
+-- No promise rests on this.
 use Rattle.std.specs.Prelude.{◌≡◌, ℕ, None}
 use Rattle.its_word.specs.Core.{Core}
 use Rattle.its_word.specs.Only.{Only}

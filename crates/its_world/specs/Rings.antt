@@ -1,5 +1,6 @@
--- The lists in which slots stand whose calls wait: a ring for each reason to wait, and for each console a list of those that
--- wait there and can go on (docs/STEPS.md, "Wait rings").
+-- The lists of the slots whose calls wait: a ring for each reason to wait, and for each console a list of those that
+-- wait there and can go on (docs/STEPS.md, "Wait lists").
+-- No promise rests on this.
 use Rattle.std.specs.Prelude.{◌≡◌, ◌≢◌, ◌<◌, ℕ, ◌+◌, Bool, true, false, Option, Some, None, List, [], ◌∷◌, ◌++◌, length, zero, suc}
 use Rattle.its_links.specs.Lists.{Linked, list_at, count, hit, first}
 use Rattle.its_frame.specs.declared.decision.Wait.{Wait}
@@ -20,7 +21,7 @@ ring_of (Input c) = 2 + c
 ring_of (Output c) = 10 + c
 ring_of (Drained c) = 18 + c
 
--- the Awake list of the console; a sleeper whose time has come stands in no list
+-- the Awake list of the console; a sleeper whose time has come is on no list
 abbrev pub awake_of : Wait → Option ℕ
 awake_of Hang = None
 awake_of Clock = None
@@ -40,7 +41,7 @@ abbrev pub place_at : Wait → Bool → Option ℕ
 place_at r true = Some (ring_of r)
 place_at r false = awake_of r
 
--- a slot stands once in the list of this head and in no other, or in none
+-- a slot is once on the list of this head and on no other, or on none
 abbrev pub mark : Option ℕ → ℕ → ℕ
 mark (Some g) h = hit h g
 mark None h = 0
@@ -48,12 +49,12 @@ mark None h = 0
 pub record StandsIn (lists : List (List ℕ)) (k : ℕ) (p : Option ℕ) : Type 0 where
   pub at : (h : ℕ) → count k (list_at lists h) ≡ mark p h
 
--- it stands in the list of this head, where one is given
+-- it is on the list of this head, if one is given
 abbrev pub IsIn : List (List ℕ) → ℕ → Option ℕ → Type 0
 IsIn lists k (Some h) = 0 < count k (list_at lists h)
 IsIn lists k None = ⊥
 
--- a list was looked through for slot s up to its place i, where `at` stands, and the slot was not found
+-- a list was searched for slot s up to its place i, if `at` is given, and the slot was not found
 pub record Looked (lists : List (List ℕ)) (h s : ℕ) (at : Option ℕ) (i : ℕ) : Type 0 where
   pub before : List ℕ
   pub after : List ℕ
@@ -62,18 +63,18 @@ pub record Looked (lists : List (List ℕ)) (h s : ℕ) (at : Option ℕ) (i : �
   pub none : count s before ≡ 0
   pub long : length before ≡ i
 
--- each slot stands in the list in which it belongs
+-- each slot is on the list to which it belongs
 pub record Filed (lists : List (List ℕ)) (place : ℕ → Option ℕ) : Type 0 where
   pub each : (k : ℕ) → StandsIn lists k (place k)
 
--- slot s was put into the list of this head, or into none, and the others stand where they stood
+-- slot s was put on the list of this head, or on none, and the others are where they were
 pub record Put (old new : Linked) (s : ℕ) (p : Option ℕ) : Type 0 where
   pub nodes : new.nodes ≡ old.nodes
   pub heads : length new.lists ≡ length old.lists
   pub here : StandsIn new.lists s p
   pub others : (k : ℕ) → k ≢ s → (h : ℕ) → count k (list_at new.lists h) ≡ count k (list_at old.lists h)
 
--- a slot stands in none of these lists
+-- a slot is on none of these lists
 abbrev pub AwayFrom : List (List ℕ) → ℕ → List ℕ → Type 0
 AwayFrom lists k [] = Unit {0}
 AwayFrom lists k (h ∷ hs) = (count k (list_at lists h) ≡ 0) × AwayFrom lists k hs

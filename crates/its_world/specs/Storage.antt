@@ -1,4 +1,5 @@
 -- What a change of a channel, a draft or a file needs of the state.
+-- No promise rests on this.
 use Rattle.std.specs.Prelude.{◌≡◌, ◌||◌, ℕ, true, false, is_some, length, nat_lt}
 use Rattle.its_word.specs.Only.{Same}
 use Rattle.its_word.specs.declared.jobs.Channel.{Channel}
@@ -37,14 +38,13 @@ abbrev pub HasRoom : State → Chan → Type 0
 HasRoom w (Writes f) = is_full w.raw.files (channels_of w.raw) f.words ≡ false
 HasRoom w _ = Unit {0}
 
--- the draft of a channel can become a file: in place of one that no channel reads, or of none where there are fewer files
--- than the most
+-- the draft of a channel can become a file: in place of one that no channel reads, or of none if there are fewer files than the most
 abbrev pub CanClose : State → Chan → Type 0
 CanClose w (Writes f) =
     Unread w f.names × ((has_file f.names w.raw.files || nat_lt (length w.raw.files) most_files) ≡ true)
 CanClose w _ = Unit {0}
 
--- of the world only channel n of slot s's job changes, where it has one, and the store is t
+-- of the world only channel n of slot s's job changes, if it has one, and the store is t
 pub record ChannelBecomes (old new : World) (s n : ℕ) (x : Channel) (t : Store) : Type 0 where
   pub jobs : OnlyChannel old.jobs new.jobs s n x
   pub core : Same (core_at old.core) (core_at new.core)

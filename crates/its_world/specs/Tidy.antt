@@ -1,4 +1,5 @@
--- What holds of a world whatever state it stands for: facts on numbers of files and drafts, and on slots without a job.
+-- What holds of a world whatever its state is: facts on numbers of files and drafts, and on slots without a job.
+-- No promise rests on this.
 use Rattle.std.specs.Prelude.{◌≡◌, ◌<◌, ℕ, None, []}
 use Rattle.its_word.specs.Core.{no_core}
 use Rattle.its_core.specs.Cores.{core_at}
@@ -9,8 +10,8 @@ use Rattle.its_plain.specs.OperatorClock.{clock_end}
 use Rattle.its_world.specs.World.{alarm_at, symbols_at}
 use Rattle.its_world.specs.declared.world.World.{World}
 
--- the core of a slot without a job is that of no job, and it has no symbols and no alarm; the clock is below its end; the
--- channels fit the files and drafts that stand; and each slot stands in the list of those that wait in which it belongs
+-- the core of a slot without a job is that of no job, and it has no symbols and no alarm; the clock is below its end; the channels fit
+-- the files and drafts that exist; and each slot is on the wait list to which it belongs
 pub record Tidy (w : World) : Type 0 where
   pub blank : (k : ℕ) → job_at w.jobs k ≡ None → core_at w.core k ≡ no_core
   pub quiet : (k : ℕ) → job_at w.jobs k ≡ None → alarm_at w.alarms.items k ≡ None

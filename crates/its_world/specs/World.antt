@@ -1,4 +1,5 @@
--- The state of the stepped machine that a world stands for.
+-- The state of the stepped machine of a world.
+-- No promise rests on this.
 use Rattle.std.specs.Prelude.{◌≡◌, ℕ, Option, Some, None, List, [], ◌∷◌, ◌++◌, take, drop, unwrap_or}
 use Rattle.std.specs.List.{last_or}
 use Rattle.its_word.specs.Only.{Only, Same}
@@ -21,7 +22,7 @@ pub use Rattle.its_world.specs.Filed.{frame_at, console_at, holder_at}
 use Rattle.its_world.specs.Filed.{Ringed}
 use Rattle.its_world.specs.declared.world.World.{World}
 
--- a close that is half made: its draft becomes the last file; where that is done, it is the last file
+-- a close that is half made: its draft becomes the last file; if that is done, it is the last file
 abbrev pub no_file : File
 no_file = record { names = []; words = [] }
 
@@ -46,7 +47,7 @@ marking s None = None
 unfoldable pub mark_of : Store → Option Mark
 mark_of s = marking s s.mark
 
--- the state that a world stands for
+-- the state of a world
 unfoldable pub state_of : World → State
 state_of w = record {
   raw = raw_machine w.files w.core w.jobs w.alarms.items w.consoles.items w.holders w.clock w.version w.symbols.items;
@@ -67,13 +68,13 @@ frames_after (Some n) None s f = frames_give_back s f
 frames_after None None s f = f
 frames_after (Some n) (Some k) s f = f
 
--- a world whose pages stand in other frames
+-- a world whose pages are in other page frames
 abbrev pub with_frames : World → Frames → World
 with_frames w f = record w { core = record w.core { frames = f } }
 
--- of the world only slot s changes: its core, its job with the same superior, its frame, and how many quarters of its
--- reserved page are clear. Consoles, their holders, files, alarms, the version and symbols stay, and each page stays in its
--- frame. Where each slot stood in the list in which it belongs, it does so again
+-- of the world only slot s changes: its core, its job with the same superior, its frame, and how many quarters of its reserved page are
+-- clear. Consoles, their holders, files, alarms, the version and symbols are unchanged, and each page stays in its page frame. If each
+-- slot was on the list to which it belonged, it is again
 pub record Becomes (old new : World) (s : ℕ) (c : Core) (j : Option Job) (f : Option Frame) (r : Option ℕ) : Type 0 where
   pub core : Only (core_at old.core) (core_at new.core) s c
   pub job : Only (job_at old.jobs) (job_at new.jobs) s j
@@ -90,7 +91,7 @@ pub record Becomes (old new : World) (s : ℕ) (c : Core) (j : Option Job) (f : 
   pub symbols : new.symbols ≡ old.symbols
   pub alarms : new.alarms ≡ old.alarms
 
--- the same, where only its core, only its registers, or only its frame is written
+-- the same, if only its core, only its registers, or only its frame is written
 abbrev pub CoreBecomes : World → World → ℕ → Core → Type 0
 CoreBecomes old new s c = Becomes old new s c (job_at old.jobs s) (frame_at old.frames.items s) (clear_at old.core s)
 
@@ -173,7 +174,7 @@ pub record VersionBecomes (old new : World) (v : ℕ) : Type 0 where
   pub alarms : new.alarms ≡ old.alarms
   pub ringed : Ringed old → Ringed new
 
--- a console at which a byte was typed, where it has room, and one that a byte was drained from
+-- a console at which a byte was typed, if it has room, and one that a byte was drained from
 abbrev pub typed_at : ℕ → Console → Console
 typed_at b x = record x { input = take most_waiting (x.input ++ b ∷ []) }
 

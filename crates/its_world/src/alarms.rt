@@ -7,7 +7,7 @@ ghost use Rattle.its_world.specs.World.{alarm_at, AlarmBecomes};
 use super::world::World;
 
 impl World {
-    /// The alarm of a slot's job, where it has one: its period and its next time, in thirtieths.
+    /// The alarm of a slot's job, if it has one: its period and its next time, in thirtieths.
     pub fn alarm(&self, slot: u8) -> Option<(u64, u64)>
         requires { slot < slots }
         ensures { result ≡ alarm_at self.now.alarms.items slot }

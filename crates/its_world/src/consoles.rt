@@ -7,7 +7,7 @@ use its_console::Console;
 /// How many typed bytes wait at most at a console.
 const MOST_WAITING: u32 = 64;
 
-/// A byte is typed at this console, where it has room.
+/// A byte is typed at this console, if it has room.
 #[tactic(auto, using(crate::proofs::WorldLaws::typed_room, crate::proofs::WorldLaws::typed_full))]
 pub fn type_at(console: &mut Console, b: u8) -> bool
     ensures kept { IsTrue result ↔ (length console.old.input < most_waiting) }

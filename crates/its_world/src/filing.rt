@@ -1,5 +1,5 @@
-//! Slots whose calls wait stand in the list of their reason: each write of the world puts those whose place it can change where
-//! they belong.
+//! Slots whose calls wait are on the list of their reason: each write of the world puts those whose place it can change where they
+//! belong.
 
 ghost use Rattle.std.specs.Prelude.{◌≡◌, ◌<◌, ◌∷◌, ◌↔◌, ◌⊎◌, [], IsTrue, length};
 ghost use Rattle.its_word.specs.Limits.{slots};
@@ -21,7 +21,7 @@ const MOST_WAITING: u32 = 64;
 /// How many values a word has.
 const WORDS: u64 = 0o1000000000000;
 
-/// The first input of a call; 0 where it has none.
+/// The first input of a call; 0 if it has none.
 fn first_input(ask: &Ask) -> u64
     ensures { result ≡ input ask.now 0 }
 {
@@ -42,7 +42,7 @@ fn channel_of(job: &Job, n: u64) -> Channel
     }
 }
 
-/// The Awake list of the console of a reason, where it is at one of the eight.
+/// The Awake list of the console of a reason, if the reason is at one of the eight.
 fn awake_for(reason: Option<Wait>) -> Option<u32>
     ensures { result ≡ awake_for reason }
 {
@@ -118,7 +118,7 @@ impl World {
         }
     }
 
-    /// The list in which a slot belongs: none where its frame is not Waiting.
+    /// The list to which a slot belongs: none if its frame is not Waiting.
     #[tactic(auto, unfolding(crate::specs::Filed::place_of))]
     fn place_of(&self, slot: u8) -> Option<u32>
         requires { slot < slots }
@@ -132,7 +132,7 @@ impl World {
         }
     }
 
-    /// The Awake list of the console at which the call of a slot waits, where it waits at one.
+    /// The Awake list of the console at which the call of a slot waits, if it waits at one.
     #[tactic(auto, unfolding(crate::specs::Filed::awake_at))]
     fn awake_at(&self, slot: u8) -> Option<u32>
         requires { slot < slots }
@@ -144,7 +144,7 @@ impl World {
         }
     }
 
-    /// Whether a slot stands in the Awake list of the console at which its call waits.
+    /// Whether a slot is on the Awake list of the console at which its call waits.
     fn is_awake(&self, slot: u8) -> bool
         requires { slot < slots }
         ensures { IsTrue result ↔ IsIn self.now.rings.lists slot (awake_at self.now slot) }
@@ -155,7 +155,7 @@ impl World {
         }
     }
 
-    /// Whether a slot stands in a wait ring, as in a list that is not the Awake list of its console.
+    /// Whether a slot is on a wait list, that is, on a list that is not the Awake list of its console.
     pub fn is_blocked(&self, slot: u8) -> bool
         requires slot { slot < slots }
         requires stands { Blocked self.now slot ⊎ StandsIn self.now.rings.lists slot (place_of self.now slot) }
@@ -165,7 +165,7 @@ impl World {
         self.rings.linked(u32::from(slot)) && !self.is_awake(slot)
     }
 
-    /// Puts a slot into the list in which it belongs, wherever it stood.
+    /// Puts a slot on the list to which it belongs, wherever it was.
     pub fn refile(&mut self, slot: u8)
         requires { slot < slots }
         ensures { Refiled self.old self.new slot }
@@ -185,7 +185,7 @@ impl World {
         }
     }
 
-    /// Puts each slot that stands in a list of a console where it belongs.
+    /// Puts each slot that is on a list of a console where it belongs.
     pub fn resettle(&mut self, console: u8)
         requires { console < 8 }
         ensures { Resettled self.old self.new (lists_at console) }

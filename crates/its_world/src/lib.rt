@@ -1,5 +1,5 @@
-//! The whole state of the monitor: cores, jobs, frames of calls in progress, consoles with their holders, files
-//! and drafts, the clock, and alarms. What it stands for is a state of the stepped machine.
+//! The whole state of the monitor: cores, jobs, frames of calls in progress, consoles with their holders, files and
+//! drafts, the clock, and alarms. It has a state of the stepped machine.
 #![tactic(auto)]
 
 mod alarms;

@@ -17,7 +17,7 @@ pub const HEADS: u32 = 34;
 /// The list of those that wait for a time.
 pub const CLOCK_RING: u32 = 1;
 
-/// Takes a slot out of the list in which it stands, where it stands in one.
+/// Takes a slot off the list that it is on, at its place there.
 fn take_out(rings: &mut Links, slot: u8)
     requires { slot < rings.old.nodes }
     ensures { Put rings.old rings.new slot None }
@@ -27,7 +27,7 @@ fn take_out(rings: &mut Links, slot: u8)
     }
 }
 
-/// Puts a slot at the end of the list of a head, or into none, wherever it stood.
+/// Puts a slot at the end of the list of a head, or on none, wherever it was.
 #[tactic(auto, using(crate::proofs::RingLaws::is_out))]
 pub fn put(rings: &mut Links, slot: u8, place: Option<u32>)
     requires slot { slot < rings.old.nodes }
@@ -40,7 +40,7 @@ pub fn put(rings: &mut Links, slot: u8, place: Option<u32>)
     }
 }
 
-/// Whether a slot stands in the list of a head.
+/// Whether a slot is on the list of a head.
 #[tactic(auto, using(crate::proofs::RingLaws::looked_in))]
 pub fn stands_in(rings: &Links, head: u32, slot: u8) -> bool
     requires head { head < length rings.now.lists }
@@ -87,7 +87,7 @@ pub fn awake_of(reason: Wait) -> Option<u32>
     }
 }
 
-/// The console of a reason; 0 where it is at none.
+/// The console of a reason; 0 if it is at none.
 pub fn console_in(reason: Wait) -> u8
     ensures { result ≡ console_in reason }
 {

@@ -16,7 +16,7 @@ use super::world::World;
 use its_word::{Channel, Job, Word};
 
 impl World {
-    /// What a channel of a slot's job is on; closed where the slot is empty.
+    /// What a channel of a slot's job is on; closed if the slot is empty.
     pub fn channel(&self, slot: u8, n: u8) -> Channel
         requires slot { slot < slots }
         requires channel { n < 16 }
@@ -28,7 +28,7 @@ impl World {
         }
     }
 
-    /// Writes a channel of a slot's job, where it has one.
+    /// Writes a channel of a slot's job, if it has one.
     #[tactic(auto, using(crate::proofs::StorageLaws::channel_becomes, crate::proofs::StorageLaws::channel_missing))]
     fn set_channel(&mut self, slot: u8, n: u8, channel: Channel)
         requires slot { slot < slots }
@@ -40,7 +40,7 @@ impl World {
         }
     }
 
-    /// Sets a channel of a slot's job, where it has one, which is on no file and no draft, to what is on none either.
+    /// Sets a channel of a slot's job, if it has one, which is on no file and no draft, to what is on none either.
     pub fn put_channel(&mut self, slot: u8, n: u8, channel: Channel)
         requires slot { slot < slots }
         requires channel { n < 16 }
@@ -132,7 +132,7 @@ impl World {
         }
     }
 
-    /// Appends a word to the draft of a channel of a slot's job, where it is on one.
+    /// Appends a word to the draft of a channel of a slot's job, if it is on one.
     pub fn append(&mut self, slot: u8, n: u8, word: Word)
         requires slot { slot < slots }
         requires channel { n < 16 }
@@ -174,7 +174,7 @@ impl World {
         }
     }
 
-    /// Deletes a file, where there is one with these names.
+    /// Deletes a file, if there is one with these names.
     pub fn delete_file(&mut self, d: Word, x: Word, y: Word)
         requires unread { Unread (state_of self.old) (names_of d x y) }
         requires unmarked { (state_of self.old).mark ≡ None }
@@ -192,7 +192,7 @@ impl World {
         }
     }
 
-    /// Gives a file other names in its directory, where there is one with these names.
+    /// Gives a file other names in its directory, if there is one with these names.
     pub fn rename_file(&mut self, d: Word, x: Word, y: Word, new_x: Word, new_y: Word)
         requires unread { Unread (state_of self.old) (names_of d x y) }
         requires fresh { has_file (names_of d new_x new_y) (state_of self.old).raw.files ≡ false }

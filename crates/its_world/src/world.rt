@@ -10,7 +10,7 @@ use its_console::Console;
 use its_core::Core;
 use its_files::Files;
 use its_frame::Frame;
-use its_jobs::Jobs;
+use its_jobs::{Jobs, limit_of};
 use its_links::Links;
 use its_parts::{no_alarms, no_symbols, quiet_consoles};
 use its_word::{Job, NoAccess, NoMemory, SLOTS, Word};
@@ -19,11 +19,10 @@ use std::alloc::Global;
 /// How many consoles there are.
 pub(crate) const CONSOLES: usize = 8;
 
-/// The whole state: cores, jobs, for each slot the frame of its call in progress where it is in one, the
-/// consoles, for each of them the slot of the job that holds it, the files and drafts, the clock in thirtieths,
-/// the lists of those that wait, the version of the session text, on which it depends how many jobs there can be,
-/// for each slot the symbols of its job, in the order in which they were kept, and the alarm of its job where it
-/// has one: its period and its next time.
+/// The whole state: cores, jobs, for each slot the frame of its call in progress if it is in one, the consoles, for
+/// each of them the slot of the job that holds it, the files and drafts, the clock in thirtieths, the wait lists, the
+/// version of the session text, which determines how many jobs there can be, for each slot the symbols of its job, in
+/// the order in which they were given, and the alarm of its job if it has one: its period and its next time.
 #[derive(Drop)]
 pub struct World {
     pub core: Core,
@@ -103,7 +102,7 @@ impl World {
         self.jobs.job(slot).copied()
     }
 
-    /// Writes the registers of a slot's job, which stays where it stands among those that wait.
+    /// Writes the registers of a slot's job, which keeps its place on the wait lists.
     #[tactic(auto, using(crate::proofs::WorldLaws::job_written))]
     fn write_registers(&mut self, slot: u8, job: Job)
         requires slot { slot < slots }
@@ -125,7 +124,7 @@ impl World {
         self.refile(slot);
     }
 
-    /// Stores a word of a slot: Absent or ReadOnly where its page is so.
+    /// Stores a word of a slot: Absent or ReadOnly if its page is so.
     #[tactic(auto, using(crate::proofs::WorldLaws::core_becomes))]
     pub fn put_word(&mut self, slot: u8, a: u32, w: Word) -> Result<(), NoAccess>
         requires slot { slot < slots }
@@ -173,7 +172,7 @@ impl World {
         self.frames[usize::from(slot)].is_some()
     }
 
-    /// Takes the frame of a slot, which stays where it stands among those that wait.
+    /// Takes the frame of a slot, which keeps its place on the wait lists.
     #[tactic(auto, using(crate::proofs::WorldLaws::frame_written))]
     fn lift_frame(&mut self, slot: u8) -> Option<Frame>
         requires { slot < slots }
@@ -194,7 +193,7 @@ impl World {
         frame
     }
 
-    /// Writes the frame of a slot, which stays where it stands among those that wait.
+    /// Writes the frame of a slot, which keeps its place on the wait lists.
     #[tactic(auto, using(crate::proofs::WorldLaws::frame_written))]
     fn write_frame(&mut self, slot: u8, frame: Frame)
         requires { slot < slots }
@@ -212,7 +211,7 @@ impl World {
         self.refile(slot);
     }
 
-    /// A byte is typed at a console. False where 64 typed bytes wait; the byte is then lost.
+    /// A byte is typed at a console. False if 64 typed bytes wait; the byte is then lost.
     #[tactic(auto, using(crate::proofs::WorldLaws::console_becomes))]
     pub fn type_in(&mut self, console: u8, b: u8) -> bool
         requires { console < 8 }
@@ -224,7 +223,7 @@ impl World {
         kept
     }
 
-    /// Types a byte; those that wait stay where they stand.
+    /// Types a byte; those that wait keep their places.
     #[tactic(auto, using(crate::proofs::WorldLaws::console_written))]
     fn write_typed(&mut self, console: u8, b: u8) -> bool
         requires { console < 8 }
@@ -234,7 +233,7 @@ impl World {
         type_at(&mut self.consoles[usize::from(console)], b)
     }
 
-    /// Takes the typed byte that has waited longest at a console; None where none waits.
+    /// Takes the typed byte that has waited longest at a console; None if none waits.
     #[tactic(auto, using(crate::proofs::WorldLaws::console_becomes))]
     pub fn take(&mut self, console: u8) -> Option<u8>
         requires { console < 8 }
@@ -246,7 +245,7 @@ impl World {
         byte
     }
 
-    /// Takes a byte; those that wait stay where they stand.
+    /// Takes a byte; those that wait keep their places.
     #[tactic(auto, using(crate::proofs::WorldLaws::console_written, crate::proofs::WorldLaws::rest_is))]
     fn write_taken(&mut self, console: u8) -> Option<u8>
         requires { console < 8 }
@@ -256,7 +255,7 @@ impl World {
         self.consoles[usize::from(console)].take()
     }
 
-    /// Puts a byte out at a console. False where 64 bytes wait to be drained; then nothing is put.
+    /// Puts a byte out at a console. False if 64 bytes wait to be drained; then nothing is put.
     #[tactic(auto, using(crate::proofs::WorldLaws::console_becomes))]
     pub fn put(&mut self, console: u8, b: u8) -> bool
         requires { console < 8 }
@@ -272,7 +271,7 @@ impl World {
         }
     }
 
-    /// Puts a byte out; those that wait stay where they stand.
+    /// Puts a byte out; those that wait keep their places.
     #[tactic(auto, using(crate::proofs::WorldLaws::console_written))]
     fn write_put(&mut self, console: u8, b: u8) -> bool
         requires { console < 8 }
@@ -283,7 +282,7 @@ impl World {
         self.consoles[usize::from(console)].put(b)
     }
 
-    /// Drains the byte of a console that was put out first; None where none waits.
+    /// Drains the byte of a console that was put out first; None if none waits.
     #[tactic(auto, using(crate::proofs::WorldLaws::console_becomes))]
     pub fn drain(&mut self, console: u8) -> Option<u8>
         requires { console < 8 }
@@ -295,7 +294,7 @@ impl World {
         byte
     }
 
-    /// Drains a byte; those that wait stay where they stand.
+    /// Drains a byte; those that wait keep their places.
     #[tactic(auto, using(crate::proofs::WorldLaws::console_written))]
     fn write_drained(&mut self, console: u8) -> Option<u8>
         requires { console < 8 }
@@ -314,14 +313,14 @@ impl World {
         self.symbols[usize::from(slot)].push((name, a));
     }
 
-    /// Makes the world one of version 2, in which there can be 96 jobs.
-    #[tactic(auto, using(its_word::proofs::FreeLaws::limit_second))]
-    pub fn second_version(&mut self)
-        ensures { VersionBecomes self.old self.new 2 }
+    /// Makes the world one of version 1, in which there can be 64 jobs, or of version 2, with 96. No slot has a job.
+    pub fn set_version(&mut self, v: u8)
+        requires known { (1 ≤ v) × (v ≤ 2) }
+        requires nobody { (k : ℕ) → job_at self.old.jobs k ≡ None }
+        ensures { VersionBecomes self.old self.new v }
     {
-        self.jobs.tree();
-        self.jobs.set_limit(SLOTS as u8);
-        self.version = 2;
+        self.jobs.set_limit(limit_of(v));
+        self.version = v;
     }
 
     /// Gives a console another holder, or none.
@@ -334,7 +333,7 @@ impl World {
         self.resettle(console);
     }
 
-    /// Writes the holder of a console; those that wait stay where they stand.
+    /// Writes the holder of a console; those that wait keep their places.
     #[tactic(auto, using(crate::proofs::WorldLaws::holder_written))]
     fn write_holder(&mut self, console: u8, holder: Option<u8>)
         requires { console < 8 }
@@ -352,7 +351,7 @@ impl World {
         self.resettle_clock();
     }
 
-    /// Writes the clock; those that wait stay where they stand.
+    /// Writes the clock; those that wait keep their places.
     fn write_clock(&mut self, clock: u64)
         ensures { ClockWritten self.old self.new clock }
     {

@@ -34,7 +34,7 @@ fn low_35(product: i128) -> u64
     product.rem_euclid(1 << 35) as u64
 }
 
-/// The low 35 bits of a number, behind bit 0 of a word.
+/// The low 35 bits of a number, after bit 0 of a word.
 fn behind_sign(first: Word, low: u64) -> Word
     ensures { result ≡ low_word_of first low }
 {
@@ -63,7 +63,7 @@ pub(crate) fn as_word(z: i128) -> Option<Word>
     }
 }
 
-/// MUL: both words of the product of AC and the source; overflow where both are -2^35.
+/// MUL: both words of the product of AC and the source; overflow if both are -2^35.
 #[tactic(auto, unfolding(its_word::specs::Arith::mul_of))]
 pub fn mul(a: Word, s: Word) -> Result2
     ensures { result ≡ mul_of a s }
@@ -77,7 +77,7 @@ pub fn mul(a: Word, s: Word) -> Result2
     }
 }
 
-/// IMUL: the product of AC and the source; where it does not fit, overflow and the low word of MUL.
+/// IMUL: the product of AC and the source; if it does not fit, overflow and the low word of MUL.
 #[tactic(auto, unfolding(its_word::specs::Arith::imul_of))]
 pub fn imul(a: Word, s: Word) -> Result2
     ensures { result ≡ imul_of a s }

@@ -25,7 +25,7 @@ fn remainder(dividend: i128, divisor: i128) -> i64
     (dividend % divisor) as i64
 }
 
-/// Quotient and remainder; none where the divisor is 0 or the quotient does not fit a word.
+/// Quotient and remainder; none if the divisor is 0 or the quotient does not fit a word.
 #[tactic(auto, unfolding(its_word::specs::Arith::divided))]
 fn divided(dividend: i128, divisor: i128) -> Option<Result2>
     requires dividend_fits { unsigned_abs dividend ≤ 2 ^ 70 }
@@ -43,7 +43,7 @@ fn divided(dividend: i128, divisor: i128) -> Option<Result2>
     })
 }
 
-/// AC, and the low 35 bits of AC+1 behind it, as one number.
+/// AC, and the low 35 bits of AC+1 after it, as one number.
 #[tactic(auto, unfolding(its_word::specs::Arith::dividend_of))]
 fn dividend(a: Word, low: Word) -> i128
     ensures value { result ≡ dividend_of a low }
@@ -52,8 +52,8 @@ fn dividend(a: Word, low: Word) -> i128
     i128::from(a.signed()) * (1 << 35) + i128::from(low.value() & LOW_35)
 }
 
-/// IDIV: the quotient of AC by the source towards 0, and the remainder with the sign of AC. None,
-/// which stands for overflow and no divide, where the source is 0 or the quotient does not fit.
+/// IDIV: the quotient of AC by the source towards 0, and the remainder with the sign of AC. None, which means
+/// overflow and no divide, if the source is 0 or the quotient does not fit.
 #[tactic(auto, unfolding(its_word::specs::Arith::idiv_of))]
 pub fn idiv(a: Word, s: Word) -> Option<Result2>
     ensures { result ≡ idiv_of a s }

@@ -5,8 +5,7 @@ ghost use Rattle.its_word.specs.Arith.{add_of, magnitude_of, neg_of, sub_of, sum
 use crate::LOW_35;
 use its_word::{CARRY_0, CARRY_1, OVERFLOW, Result2, Word};
 
-/// The sum of two words and a carry, with the carries out of bits 0 and 1, and overflow where these
-/// differ.
+/// The sum of two words and a carry, with the carries out of bits 0 and 1, and overflow if these differ.
 fn sum(a: Word, b: Word, carry: u64) -> Result2
     requires { carry ≤ 1 }
     ensures { result ≡ sum_of a b carry }
@@ -48,7 +47,7 @@ pub fn neg(s: Word) -> Result2
     sum(Word::ZERO, !s, 1)
 }
 
-/// MOVM: the source, negated with the flags of that where it is negative.
+/// MOVM: the source, negated with the flags of the negation if it is negative.
 #[tactic(auto, unfolding(its_word::specs::Arith::magnitude_of))]
 pub fn magnitude(s: Word) -> Result2
     ensures { result ≡ magnitude_of s }

@@ -1,6 +1,6 @@
-//! Results that a simulator of the PDP-10 gave, where it agrees with the instruction tables. Rows are
-//! parted by `;`, and all numbers are octal: the arguments of a call, `=`, and its result: the
-//! first and the second word and the flags, `refused`, or whether it is true.
+//! Results that a simulator of the PDP-10 gave and that agree with the instruction tables. Rows are separated by `;`,
+//! and all numbers are octal: the arguments of a call, `=`, and its result: the first and the second word and the
+//! flags, `refused`, or whether it is true.
 use super::*;
 use its_word::{Result2, Word};
 use std::process::Abort;
@@ -325,7 +325,7 @@ static COMPARES: &str =
 5 370737734571 777777777777 = true; 5 415741075456 400000000001 = true; 5 230617426033 101 = true;
 0 643543675346 225465422552 = false; 6 777777777776 754422155224 = true";
 
-/// The word that an octal number writes; 0 where there is none.
+/// The word that an octal number writes; 0 if there is none.
 fn word(rt: &impl Abort, text: Option<&str>) -> Word {
     match text {
         Some(text) => Word::new(u64::from_str_radix(text, 8).expect(rt, "an octal number")),

@@ -1,4 +1,5 @@
 -- What the answer of a unit says.
+-- No promise rests on this.
 use Rattle.std.specs.Prelude.{◌≡◌, ◌≢◌, ◌<◌, ◌^◌, ℕ}
 use Rattle.its_word.specs.Core.{Core}
 use Rattle.its_word.specs.declared.access.Fault.{Fault}
@@ -17,7 +18,7 @@ pub record FaultsWith (o : Outcome) (b : ℕ) : Type 0 where
   pub is : o ≡ Faulted fault
   pub bit : b ≡ bit_of fault
 
--- a unit that is answered so comes to o, with this core and these registers after it
+-- a unit with this answer results in o, with this core and these registers after it
 abbrev pub Answers : Answer → Outcome → Core → Job → Type 0
 Answers Done o c j = o ≡ Changed c j
 Answers (FaultBit b) o c j = FaultsWith o b

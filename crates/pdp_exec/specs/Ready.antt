@@ -1,4 +1,5 @@
 -- The ranges that the tables need of what is reached, and which instructions are calls or lead on.
+-- No promise rests on this.
 use Rattle.std.specs.Prelude.{◌≡◌, ◌≤◌, ◌+◌, ◌*◌, ℕ, Bool, true, false}
 use Rattle.its_word.specs.Core.{Core}
 use Rattle.its_word.specs.Limits.{budget}
@@ -35,7 +36,7 @@ leads_on Xct = true
 leads_on _ = false
 
 -- the word at the PC of a job has this opcode, and its row finds this: so its unit does what the row of the opcode
--- plans, where that is no call and leads to no other word; and it is a call where its row is one
+-- plans, if that is no call and leads to no other word; and it is a call if its row is one
 pub record Stands (c : Core) (j : Job) (opcode : ℕ) (x : Context) : Type 0 where
   pub does : (i : Instruction) → instruction_of opcode ≡ i → has_row i x.a ≡ true → leads_on i ≡ false → is_call i ≡ false → outcome_of c j (row_of c x i) ≡ unit c j
   pub calls : (i : Instruction) → instruction_of opcode ≡ i → has_row i x.a ≡ true → leads_on i ≡ false → is_call i ≡ true → IsCalled (unit c j)

@@ -1,4 +1,5 @@
 -- The stores of a unit as a list.
+-- No promise rests on this.
 use Rattle.std.specs.Prelude.{List, [], ◌∷◌}
 use Rattle.its_word.specs.declared.plan.Store.{Store}
 use Rattle.pdp_exec.specs.declared.stores.Stores.{Stores}

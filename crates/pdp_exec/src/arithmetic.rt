@@ -31,7 +31,7 @@ fn source(core: &Core, slot: u8, x: &Context, mode: Mode) -> Result<Word, Fault>
     }
 }
 
-/// Where its one result goes.
+/// The destination of its one result.
 #[inline(always)]
 #[tactic(auto, unfolding(its_plain::specs::UnitPlan::worked_to))]
 fn stores(x: &Context, mode: Mode, w: Word) -> Stores
@@ -45,7 +45,7 @@ fn stores(x: &Context, mode: Mode, w: Word) -> Stores
     }
 }
 
-/// Where its two results go.
+/// The destinations of its two results.
 #[inline(always)]
 #[tactic(auto, unfolding(its_plain::specs::UnitPlan::two_to))]
 fn stores_of_two(x: &Context, mode: Mode, w: Word, v: Word) -> Stores
@@ -77,7 +77,7 @@ fn two_words(x: &Context, mode: Mode, r: &Result2) -> Draft
     next(x, stores_of_two(x, mode, r.first, r.second), r.flags)
 }
 
-/// What a refused division stores: C(E) as it was, where its mode stores there.
+/// What a refused division stores: C(E) as it was, if its mode stores there.
 #[tactic(auto, unfolding(its_plain::specs::UnitArith::refused_to))]
 fn refused(x: &Context, mode: Mode, s: Word) -> Stores
     ensures { list_of result ≡ refused_to x.now mode s }

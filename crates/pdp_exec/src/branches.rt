@@ -104,7 +104,7 @@ pub fn branches(core: &Core, slot: u8, x: &Context, op: BranchOp) -> Result<Draf
     }
 }
 
-/// A plan with PDL set where the count in the left half of a stack pointer came to its end.
+/// A plan with PDL set if the count in the left half of a stack pointer ran out.
 #[inline(always)]
 fn count(end: u32, pointer: Word, plan: Draft) -> Draft
     ensures { result ≡ counted end pointer plan }

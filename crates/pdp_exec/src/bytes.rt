@@ -13,7 +13,7 @@ use its_bytes::{deposit, has_size, increment, load};
 use its_core::Core;
 use its_word::{Address, BYTE_HALF, ByteOp, Context, Fault, Word};
 
-/// The pointer to the next byte; Ilo where its size is none of 1 to 36.
+/// The pointer to the next byte; Ilo if its size is none of 1 to 36.
 #[inline(always)]
 #[tactic(auto, unfolding(its_plain::specs::UnitBytes::incremented))]
 fn step(p: Word) -> Result<Word, Fault>
@@ -22,8 +22,7 @@ fn step(p: Word) -> Result<Word, Fault>
     increment(p).ok_or(Fault::Ilo)
 }
 
-/// The address of a pointer's word, under what is left of the budget; Ilo where its size is none of 1
-/// to 36.
+/// The address of a pointer's word, under what is left of the budget; Ilo if its size is none of 1 to 36.
 #[inline(always)]
 #[tactic(auto, unfolding(its_plain::specs::UnitBytes::pointed_to))]
 fn target(core: &Core, slot: u8, x: &Context, p: Word) -> Result<u32, Fault>

@@ -51,7 +51,7 @@ fn is_legal(i: Instruction, a: u32) -> bool
     }
 }
 
-/// The instruction of a word; Ilo where the tables have none.
+/// The instruction of a word; Ilo if it is not in the tables.
 #[inline(always)]
 #[tactic(auto, unfolding(its_plain::specs::Unit::decoded))]
 fn instruction(w: Word) -> Result<Instruction, Fault>
@@ -73,15 +73,15 @@ fn is_indirect(w: Word) -> bool
     w.value() >> 22 & 1 == 1
 }
 
-/// What stands at a PC: the opcode of its word, and what the row of the word finds.
+/// What is at a PC: the opcode of its word, and what the row of the word finds.
 #[derive(Clone, Copy, Debug, PartialEq, Eq)]
 pub struct AtHand {
     pub opcode: u32,
     pub context: Context,
 }
 
-/// What stands at the PC of a job; then no place that is read has to be noted. None at a fault, and
-/// where its address is indirect.
+/// What is at the PC of a job; then no place that is read has to be noted. None at a fault, and if its address is
+/// indirect.
 #[inline(always)]
 #[tactic(auto, using(crate::proofs::ChainLaws::stands_at))]
 pub fn at_hand(core: &Core, slot: u8, job: &Job) -> Option<AtHand>
@@ -109,7 +109,7 @@ pub fn at_hand(core: &Core, slot: u8, job: &Job) -> Option<AtHand>
     })
 }
 
-/// The word at an address, which is noted; Mpv where its page is absent.
+/// The word at an address, which is noted; Mpv if its page is absent.
 #[tactic(auto, unfolding(its_plain::specs::Traced::word))]
 fn noted(core: &Core, slot: u8, a: u32, reads: &mut Places) -> Result<Word, Fault>
     requires slot { slot < slots }
@@ -123,7 +123,7 @@ fn noted(core: &Core, slot: u8, a: u32, reads: &mut Places) -> Result<Word, Faul
     read(core, slot, a)
 }
 
-/// The target of an XCT; Ilo where the budget is at its end.
+/// The target of an XCT; Ilo if the budget is at its end.
 #[tactic(auto, using(its_plain::proofs::TracedLaws::joined, its_plain::proofs::TracedLaws::ended), unfolding(its_plain::specs::Unit::target_of, its_plain::specs::Traced::also))]
 fn target(core: &Core, slot: u8, x: &Context, reads: &mut Places) -> Result<Turn, Fault>
     requires slot { slot < slots }
@@ -143,7 +143,7 @@ fn target(core: &Core, slot: u8, x: &Context, reads: &mut Places) -> Result<Turn
     })
 }
 
-/// Where an instruction goes on: at the target of an XCT, else at itself.
+/// The place at which an instruction goes on: at the target of an XCT, else at itself.
 #[tactic(auto, using(its_plain::proofs::TracedLaws::ended), unfolding(its_plain::specs::Unit::turn_at))]
 fn turn_by(
     core: &Core,
@@ -170,7 +170,7 @@ fn turn_by(
     }
 }
 
-/// Where an instruction word leads, under what is left of the budget.
+/// The place to which an instruction word leads, under what is left of the budget.
 #[tactic(auto, using(its_plain::proofs::TracedLaws::joined, its_plain::proofs::TracedLaws::ended), unfolding(its_plain::specs::Unit::turn, its_plain::specs::Traced::also, its_plain::specs::Traced::located))]
 fn turn(
     core: &Core,

@@ -16,7 +16,7 @@ use its_word::{CompareOp, Context, Fault, MaskOp, Result2, Word};
 use pdp_arith::{add, compares};
 use pdp_logic::{changed, tested};
 
-/// A sum to AC, and a jump where it compares so with 0.
+/// A sum to AC, and a jump if it compares so with 0.
 #[inline(always)]
 fn count_and_jump(x: &Context, k: u32, r: &Result2) -> Draft
     requires fits { Fits x.now }
@@ -31,7 +31,7 @@ fn count_and_jump(x: &Context, k: u32, r: &Result2) -> Draft
     )
 }
 
-/// A sum to C(E), and to AC where A is not 0, and a skip where it compares so with 0.
+/// A sum to C(E), and to AC if A is not 0, and a skip if it compares so with 0.
 #[inline(always)]
 fn count_and_skip(x: &Context, k: u32, r: &Result2) -> Draft
     requires fits { Fits x.now }

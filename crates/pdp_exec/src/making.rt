@@ -14,7 +14,7 @@ use super::stores::Stores;
 use its_core::Core;
 use its_word::{ADDRESSES, Fault, Job, NAMED_FLAGS, NoAccess, Store};
 
-/// Makes one store, where it can be made.
+/// Performs one store, if it is possible.
 #[inline(always)]
 #[tactic(auto, using(crate::proofs::MakingLaws::refused_absent, crate::proofs::MakingLaws::refused_read_only, crate::proofs::MakingLaws::not_refused), unfolding(its_word::specs::Stores::first_fault, its_word::specs::Stores::stored))]
 fn make_one(core: &mut Core, slot: u8, s: Store) -> Result<(), Fault>

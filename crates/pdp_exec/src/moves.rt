@@ -31,7 +31,7 @@ fn source(core: &Core, slot: u8, x: &Context, mode: Mode) -> Result<Word, Fault>
     }
 }
 
-/// Where the result of a move or a half move goes.
+/// The destination of the result of a move or a half move.
 #[inline(always)]
 #[tactic(auto, unfolding(its_plain::specs::UnitPlan::moved_to))]
 fn stores(x: &Context, mode: Mode, w: Word) -> Stores

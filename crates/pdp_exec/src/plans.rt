@@ -117,7 +117,7 @@ pub fn next(x: &Context, stores: Stores, set: u32) -> Draft
     complete(x, stores, set, x.pc + 1)
 }
 
-/// The same, to E where a jump is taken.
+/// The same, to E if a jump is taken.
 #[inline(always)]
 pub fn jump(x: &Context, stores: Stores, set: u32, taken: bool) -> Draft
     requires { Fits x.now }
@@ -126,7 +126,7 @@ pub fn jump(x: &Context, stores: Stores, set: u32, taken: bool) -> Draft
     complete_or(x, stores, set, taken, x.e)
 }
 
-/// The same, over the next instruction where a skip is taken.
+/// The same, over the next instruction if a skip is taken.
 #[inline(always)]
 pub fn skip(x: &Context, stores: Stores, set: u32, taken: bool) -> Draft
     requires { Fits x.now }
@@ -165,7 +165,7 @@ pub fn with_pending(plan: Draft, pending: Word) -> Draft
     Draft { pending, ..plan }
 }
 
-/// A word for AC, where A is not 0.
+/// A word for AC, if A is not 0.
 #[inline(always)]
 pub fn ac_but_0(x: &Context, w: Word) -> Stores
     ensures { list_of result ≡ to_ac_but_0 x.now w }

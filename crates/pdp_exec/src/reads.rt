@@ -8,7 +8,7 @@ ghost use Rattle.its_plain.specs.UnitPlan.{Fits, ac, next_ac, read_of};
 use its_core::Core;
 use its_word::{Context, Fault, Word};
 
-/// The word at an address; Mpv where its page is absent.
+/// The word at an address; Mpv if its page is absent.
 #[inline(always)]
 #[tactic(auto, unfolding(its_plain::specs::UnitPlan::read_of))]
 pub fn read(core: &Core, slot: u8, a: u32) -> Result<Word, Fault>

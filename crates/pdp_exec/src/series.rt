@@ -10,8 +10,8 @@ use its_core::Core;
 use its_ints::deliverable;
 use its_word::{Job, Word};
 
-/// Makes up to n units of a slot's job on its core and its registers in place, as long as no interrupt is deliverable and
-/// none is a call; how many were made. It is not inlined: its loop is the one place in which every unit stands.
+/// Executes up to n units of a slot's job on its core and its registers in place, as long as no interrupt is deliverable and none is a
+/// call; how many were executed. It is not inlined: its loop is the one place in which every unit is.
 #[inline(never)]
 #[tactic(auto, using(crate::proofs::SeriesLaws::units_start, crate::proofs::SeriesLaws::none_left))]
 pub fn run_units(core: &mut Core, slot: u8, job: &mut Job, n: u32) -> u32

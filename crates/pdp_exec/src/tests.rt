@@ -1,7 +1,7 @@
-//! Whole units, most of them such as a simulator of the processor gave them, where it agrees with the
-//! instruction tables. Rows are parted by `;` and all numbers are octal: PC and flags | accumulators |
-//! words | pages that are read only | units | PC, flags and pending word 1 after them | accumulators
-//! and words that changed. All other accumulators are 0, and only the pages of these words are there.
+//! Whole units, most of them with the results that a simulator of the processor gave and that agree with the
+//! instruction tables. Rows are separated by `;` and all numbers are octal: PC and flags | accumulators | words |
+//! pages that are read only | units | PC, flags and pending word 1 after them | accumulators and words that changed.
+//! All other accumulators are 0, and only the pages of these words exist.
 ghost use Rattle.std.specs.Prelude.{◌≡◌, ◌<◌, ◌^◌, None, slice_index_or};
 ghost use Rattle.its_word.specs.Limits.{slots};
 
@@ -675,7 +675,7 @@ fn make_page(core: &mut Core, slot: u8, page: u8)
 }
 
 impl Bench {
-    /// Stores words in a slot, whose pages are made where they are absent.
+    /// Stores words in a slot, whose pages are made if they are absent.
     fn load(&mut self, rt: &impl Abort, slot: u8, list: &str)
         requires { slot < slots }
     {
@@ -709,7 +709,7 @@ impl Bench {
         }
     }
 
-    /// Makes the call of a row.
+    /// Performs the call of a row.
     fn call(&mut self, rt: &impl Abort, row: &str) {
         self.core.drop_all(0);
         let mut fields = row.split('|');

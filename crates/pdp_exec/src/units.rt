@@ -22,8 +22,8 @@ use super::stores::none;
 use its_core::Core;
 use its_word::{BRK, Context, Fault, ILO, Instruction, Job, MPV, Reached, Site, Turn, WRO, Word};
 
-/// What a unit comes to: it is done; or a fault, with its bit of pending word 1, at which nothing of
-/// it is done; or a call of the monitor.
+/// The result of a unit: it is done; or a fault, with its bit of pending word 1, which leaves no part of it done; or
+/// a call of the monitor.
 #[derive(Debug, PartialEq, Eq, Drop)]
 pub enum Outcome {
     Done,
@@ -94,8 +94,8 @@ fn act(core: &mut Core, slot: u8, job: &mut Job, r: &Reached) -> Result<(), Faul
     carry_out(core, slot, job, &plan)
 }
 
-/// What a unit comes to: it is done; or a fault, with its bit of pending word 1; or a call of the
-/// monitor, whose site `site` tells.
+/// The result of a unit: it is done; or a fault, with its bit of pending word 1; or a call of the monitor, whose site
+/// `site` gives.
 #[derive(Clone, Copy, Debug, PartialEq, Eq)]
 pub enum Ended {
     Done,
@@ -110,7 +110,7 @@ fn is_call(i: Instruction) -> bool
     matches!(i, Instruction::Iot | Instruction::Call)
 }
 
-/// The unit of a job, whichever instruction it has, and wherever that stands.
+/// The unit of a job, whichever instruction it has, and wherever the instruction is.
 #[inline(never)]
 #[tactic(auto, using(crate::proofs::ChainLaws::unit_by, crate::proofs::ChainLaws::unit_lost, crate::proofs::ChainLaws::is_called))]
 pub fn rarely(core: &mut Core, slot: u8, job: &mut Job) -> Ended
@@ -160,7 +160,7 @@ fn site_at(x: &Context, channel: Option<u8>, decode: Places) -> Site
     }
 }
 
-/// Where a job calls the monitor, whose unit is a call.
+/// The site at which a job calls the monitor, whose unit is a call.
 #[tactic(auto, using(crate::proofs::ChainLaws::unit_iot, crate::proofs::ChainLaws::unit_call, crate::proofs::ChainLaws::no_other, crate::proofs::ChainLaws::no_fault))]
 pub fn site(core: &Core, slot: u8, job: &Job) -> Site
     requires slot { slot < slots }

@@ -17,7 +17,7 @@ fn copies(sign: u128, k: u32) -> u128
     sign * ((1 << k) - 1)
 }
 
-/// The n bits behind a sign bit, k places to the right, with copies of the sign coming in.
+/// The n bits after a sign bit, k places to the right, with copies of the sign coming in.
 #[tactic(auto, using(crate::proofs::SignLaws::right_in, crate::proofs::SignLaws::right_past))]
 fn right(n: u32, sign: u128, m: u128, k: u32) -> u128
     requires width { n ≤ 72 }
@@ -33,7 +33,7 @@ fn right(n: u32, sign: u128, m: u128, k: u32) -> u128
     }
 }
 
-/// Whether a bit that differs from the sign leaves at the left, where the n bits behind it go k places.
+/// Whether a bit that differs from the sign leaves at the left, when the n bits after it go k places.
 #[tactic(auto, using(crate::proofs::SignLaws::lost, crate::proofs::SignLaws::lost_past))]
 fn loses_bits(n: u32, sign: u128, m: u128, k: u32) -> bool
     requires width { n ≤ 72 }
@@ -48,7 +48,7 @@ fn loses_bits(n: u32, sign: u128, m: u128, k: u32) -> bool
     }
 }
 
-/// The n bits behind a sign bit shifted by the count of an effective address, and the flags.
+/// The n bits after a sign bit shifted by the count of an effective address, and the flags.
 fn shift(n: u32, e: u32, sign: u128, m: u128) -> (u128, u32)
     requires width { n ≤ 72 }
     requires address { e < 2 ^ 18 }
@@ -98,8 +98,8 @@ fn signed(sign: u128, m: u128) -> Word
     Word::new((sign << 35 | m) as u64)
 }
 
-/// ASH: bits 1 to 35 of AC shifted by the count that E gives, behind bit 0, which stays. Overflow,
-/// where a bit that differs from bit 0 leaves at the left.
+/// ASH: bits 1 to 35 of AC shifted by the count that E gives; bit 0 is unchanged. Overflow, if a bit that differs
+/// from bit 0 leaves at the left.
 #[tactic(auto, unfolding(its_word::specs::Shift::ash_of))]
 pub fn ash(e: u32, a: Word) -> Result2
     requires { e < 2 ^ 18 }
@@ -109,8 +109,8 @@ pub fn ash(e: u32, a: Word) -> Result2
     Result2::one_word(signed(sign(a), m), flags)
 }
 
-/// ASHC: bits 1 to 35 of AC and of AC+1 shifted as by ASH, behind bit 0 of AC, which goes to bit 0 of
-/// AC+1 too. A count of 0 changes nothing.
+/// ASHC: bits 1 to 35 of AC and of AC+1 shifted as by ASH; bit 0 of AC is unchanged, and goes also to bit 0 of AC+1.
+/// A count of 0 changes nothing.
 #[tactic(auto, unfolding(its_word::specs::Shift::ashc_of))]
 pub fn ashc(e: u32, a: Word, b: Word) -> Result2
     requires { e < 2 ^ 18 }

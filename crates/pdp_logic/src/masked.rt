@@ -5,8 +5,8 @@ ghost use Rattle.its_word.specs.Result2.{one_word};
 
 use its_word::{Result2, Word};
 
-/// Whether TR, TL, TD or TS skips, before AC is changed, by the condition k: 0 never, 1 (E) where all
-/// masked bits of AC are 0, 2 (A) always, 3 (N) where not all are 0.
+/// Whether TR, TL, TD or TS skips, before AC is changed, by the condition k: 0 never, 1 (E) if all masked bits of AC
+/// are 0, 2 (A) always, 3 (N) if not all are 0.
 #[tactic(auto, unfolding(its_word::specs::Logic::tested_of))]
 pub fn tested(k: u32, a: Word, mask: Word) -> bool
     requires { k < 4 }

@@ -102,7 +102,7 @@ fn split(bits: u128) -> Result2
     }
 }
 
-/// LSH: AC shifted by the count that E gives, to the left where it is positive. No flags.
+/// LSH: AC shifted by the count that E gives, to the left if it is positive. No flags.
 #[tactic(auto, unfolding(its_word::specs::Shift::lsh_of))]
 pub fn lsh(e: u32, a: Word) -> Result2
     requires { e < 2 ^ 18 }
@@ -138,7 +138,7 @@ pub fn rotc(e: u32, a: Word, b: Word) -> Result2
     split(rotate_by(72, e, join(a, b)))
 }
 
-/// JFFO: how many zeros stand before the first one of AC; 0 where there is no one.
+/// JFFO: how many zeros are before the first one of AC; 0 if there is no one.
 #[tactic(auto, using(crate::proofs::CountLaws::leading_in_64), unfolding(its_word::specs::Shift::zeros_of))]
 pub fn zeros(a: Word) -> u32
     ensures { result ≡ zeros_of a }

@@ -1,6 +1,6 @@
-//! Results that a simulator of the PDP-10 gave, where it agrees with the instruction tables. Rows are
-//! parted by `;`, and all numbers are octal: the arguments of a call, `=`, and its result: the
-//! first and the second word and the flags, a number, or whether it is true.
+//! Results that a simulator of the PDP-10 gave and that agree with the instruction tables. Rows are separated by `;`,
+//! and all numbers are octal: the arguments of a call, `=`, and its result: the first and the second word and the
+//! flags, a number, or whether it is true.
 use super::*;
 use its_word::{Result2, Word};
 use std::process::Abort;
@@ -336,7 +336,7 @@ static ZEROS: &str =
 415723550225 = 0; 347151071703 = 1; 572242074246 = 0; 777777777777 = 0; 766727647671 = 0;
 27314247321 = 4; 60652220565 = 3; 312604650260 = 1";
 
-/// The word that an octal number writes; 0 where there is none.
+/// The word that an octal number writes; 0 if there is none.
 fn word(rt: &impl Abort, text: Option<&str>) -> Word {
     match text {
         Some(text) => Word::new(u64::from_str_radix(text, 8).expect(rt, "an octal number")),

@@ -7,8 +7,7 @@ use super::*;
 use crate::tests::clear_page;
 use std::test::Fail;
 
-/// The frame behind a frame, in whichever list that stands; None where it ends a list or stands in
-/// none.
+/// The page frame after a page frame, in whichever list that is; None if it ends a list or is in none.
 fn behind(core: &Core, frame: u32) -> Option<u32>
     requires { frame < all_frames }
 {
@@ -19,7 +18,7 @@ fn behind(core: &Core, frame: u32) -> Option<u32>
     }
 }
 
-/// Makes an absent page of a slot that has none reserved, where it can.
+/// Makes an absent page of a slot that has none reserved, if it can.
 fn add_page(core: &mut Core, slot: u8, page: u8)
     requires slot { slot < slots }
     requires none { reserved_at core.old slot ≡ None }

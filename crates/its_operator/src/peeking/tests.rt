@@ -9,7 +9,7 @@ use its_word::{Ask, Operand, Owed, Peek, PeekState, Site, Word};
 use std::process::Abort;
 use std::test::Fail;
 
-/// A site at 100, of `.IOT` where there is a channel.
+/// A site at 100: the site of an `.IOT` if there is a channel.
 fn site(channel: Option<u8>) -> Site {
     Site {
         pc: 0o100,
@@ -50,7 +50,7 @@ fn block(name: Word) -> ArrayVec<Word, 10> {
     block
 }
 
-/// Steps that an ending call owes: two file steps, which are not counted, and a page to be given back.
+/// The pending steps of an ending call: two file steps, which are not counted, and a page to be given back.
 fn owed() -> ArrayVec<Owed, 4>
     ensures { length result.items ≤ 4 }
 {
@@ -61,8 +61,8 @@ fn owed() -> ArrayVec<Owed, 4>
     owed
 }
 
-/// A frame of a call in this state. One that holds has a page and owes nothing; one that waits owes two
-/// arguments.
+/// A frame of a call in this state. One that holds has a page and nothing pending; one that waits has two arguments
+/// pending.
 fn frame(state: PeekState, channel: Option<u8>, ask: Ask) -> Frame
     ensures { Few result }
 {

@@ -76,7 +76,7 @@ fn opened(job: Job, slot: u8) -> Job
     changed
 }
 
-/// The first channel of a slot's job, where there is one.
+/// The first channel of a slot's job, if there is one.
 fn first(job: Option<&Job>) -> Option<Channel> {
     job.map(|j| j.channels[0])
 }

@@ -1,7 +1,7 @@
 //! Sessions of jobs that use consoles, with their transcripts.
 
-/// Sessions and transcripts, parted as those of the other calls. In each job 140 holds the name TTY, and where an
-/// OPEN fails the job comes to a 0, which stops it.
+/// Sessions and transcripts, divided like those of the other calls. In each job 140 holds the name TTY, and if an
+/// OPEN fails the job reaches a 0, which stops it.
 pub(super) static CONSOLES: &str =
     "; SIOT from the console, looked at after its first byte is taken: it is stored, and the rest goes on
 LOAD U X 0

@@ -793,10 +793,10 @@ SHOW D B A
 ? 4 NOFILE
 ";
 
-/// Blocks of calls that a job makes one after the other, each with what nine ticks of it are and the word at 10
-/// afterwards, which was 777; a call that fails is followed by two instructions, and skips one where it finishes. Channel 1
-/// reads the file D A B of two words, channel 2 is on a draft with the same names, channel 3 on the console, channel 4 is
-/// closed. Lines without such a row are titles.
+/// Blocks of calls that a job executes one after the other, each with what nine ticks of it are and the word at 10 afterwards, which
+/// was 777; a call that fails is followed by two instructions, and skips one if it finishes. Channel 1 reads the file D A B of two
+/// words, channel 2 is on a draft with the same names, channel 3 on the console, channel 4 is closed. Lines without such a row are
+/// titles.
 static ERRORS: &str = "OPEN: an open channel, and one past 17
 400000000000 576045560000 1000000001 150 151 152 153 403000000010 = 4. 1* 2. 2* = 4
 400000000000 576045560000 1000000020 150 151 152 153 403000000010 = 4. 1* 2. 2* = 4
@@ -880,9 +880,9 @@ LOAD U X 0
 150/ 446353000000 410000000000 420000000000 440000000000 430000000000 646471000000 656362000000 560000000000 440700001000 2 444400001000 777777777777 444400000161 444420001000
 ";
 
-/// Calls that a second job makes while the first one owes all four steps of a CLOSE: the instruction, what it finds behind
-/// it, the letters of five ticks, and how many steps the first job owes then: one where the call has made the parts of the
-/// close. Channel 1 of the second job reads a file, channel 2 is on a draft, channel 3 on a console, channel 4 is closed.
+/// Calls that a second job executes while the first one has all four steps of a CLOSE pending: the instruction, what it finds after it,
+/// the letters of five ticks, and how many steps the first job has pending then: one if the call has performed the parts of the close.
+/// Channel 1 of the second job reads a file, channel 2 is on a draft, channel 3 on a console, channel 4 is closed.
 static HELPERS: &str =
     "43000000200 400000000000 576045560000 1000000004 150 154 154 400000000153 = 4. 1* = 1
 43000000200 400000000000 576045560000 1000000004 150 154 157 400000000153 = 4. 1* = 1
@@ -976,7 +976,7 @@ fn errors(rt: HostRuntime) -> Result<(), Fail> {
     Ok(())
 }
 
-/// Which calls make the parts of a close that another job owes.
+/// Which calls perform the pending parts of another job's close.
 #[test]
 fn helpers(rt: HostRuntime) -> Result<(), Fail> {
     let alloc = rt.alloc();
@@ -1004,8 +1004,7 @@ fn helpers(rt: HostRuntime) -> Result<(), Fail> {
     Ok(())
 }
 
-/// A job that writes a draft of one word and closes it, again and again. Where CLOSE fails it deletes a file, and tries
-/// it again.
+/// A job that writes a draft of one word and closes it, again and again. If CLOSE fails it deletes a file, and tries it again.
 const LAST: &str = "LOAD U X -
 100/ 43000000120 0 40040000210 43000000140 43000000160 254000000100 254000000103
 120/ 400000000000 576045560000 5000000001 1000000001 150 151 152 400000000153

@@ -124,8 +124,8 @@ T 0 4. 1* 6. 1* 2.
 E 0 000010 000000000005 000000000005
 ";
 
-/// A job that makes an inferior in slot 1 with page 0, moves words from 400 on into it from 100 on, and starts it there;
-/// 246 holds how many words. A row goes on at 114. Where a call fails the job comes to a 0 or to `.BREAK`, which stop it.
+/// A job that makes an inferior in slot 1 with page 0, moves words from 400 on into it from 100 on, and starts it there; 246 holds how
+/// many words. A row goes on at 114. If a call fails the job reaches a 0 or `.BREAK`, which stop it.
 pub(super) const MAKER: &str = "LOAD U X 0
 100/ 43000000200 45700000000 43000000207 45700000000 43000000214 45700000000 43000000220 45700000000 43000000225 45700000000 43000000232 45700000000
 200/ 400000000000 576045560000 5000000001 1000000001 240 241 400000000242
@@ -137,7 +137,7 @@ pub(super) const MAKER: &str = "LOAD U X 0
 240/ 656362000000 650000000000 530000000000 656043000000 656364600000 444400000400
 ";
 
-/// The rest of the sessions of such a job, each with its transcript behind the line of its LOAD.
+/// The rest of the sessions of such a job, each with its transcript after the line of its LOAD.
 static MADE: &str =
     "; an inferior that reads a file is removed: the file is then read by nobody, and can be deleted
 114/ 43000000300 43000000320 0 43000000300 0 0
@@ -412,7 +412,7 @@ P 1 WAITING 504156470000 1 - - -
 S 1 560000000000 560000000000 - - RUN 010000000000 000000000000 000000000000 000000000000 000000000000 000000000000 000000000000
 ";
 
-/// Each session behind a text that it begins with, and each transcript behind the line of its LOAD.
+/// Each session after a text that it begins with, and each transcript after the line of its LOAD.
 pub(super) fn compare_after(
     alloc: Global,
     rt: &impl Abort,

@@ -87,7 +87,7 @@ an output, an error address and an input there
 43000000150 400000000000 635157640000 1000000001 142 400000000143 = 4. 1* 1. 1* 1- = STOP 10000000104 10
 43000000150 400000000000 445163555163 400000002004 = 4. 1* 1. 1* 1- = STOP 10000000104 10";
 
-/// The session of a row, before its instruction and behind its block.
+/// The session of a row, before its instruction and after its block.
 const BEFORE: &str = "LOAD U X 0
 105/ 255000000000 255000000000 255000000000 255000000000 255000000000 255000000000 255000000000
 120/ 400000000000 435762425453 1000000002 1000777777 401000000001
@@ -265,7 +265,7 @@ E 0 000010 000000000016
 S 0 650000000000 700000000000 - 0 RUN 010000000103 000000000000 000000000000 000000000000 000000000000 000000000000 000000000000
 ";
 
-/// A superior and the last page of its inferior, in sessions behind those that make one.
+/// A superior and the last page of its inferior, in sessions that follow those that make one.
 static LAST_PAGE: &str =
     "; SIOT stores in the last word, and finishes there; once the page is read only, SIOT and USRMEM fail, .IOT is stopped
 114/ 43000000300 0 43000000305 0 43000000311 0 43000000305 0 43000000316 0 43000000323 43000000331 43000000337 0 40040000360

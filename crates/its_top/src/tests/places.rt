@@ -6,9 +6,9 @@ use std::alloc::Global;
 use std::process::Abort;
 use std::test::Fail;
 
-/// Where an inferior stands in a SIOT of two bytes from its console: the bytes that are typed, how many ticks bring it there,
-/// their letters, and what PEEK shows. Then what it is left with: the words of its pointer and its count, that of the
-/// bytes, and its PC word.
+/// How an inferior reaches a place in a SIOT of two bytes from its console: the bytes that are typed, how many ticks bring it there,
+/// their letters, and what PEEK shows. Then what it is left with: the words of its pointer and its count, that of the bytes, and its PC
+/// word.
 static PLACES: &str = "- = 7 4. 1* 2. = ENTERED - 1 - - - = 440700000130 2 0 10000000102
 - = 10 4. 1* 3. = PARSED 635157640000 1 - - - = 440700000130 2 0 10000000102
 - = 11 4. 1* 4. = ASKED 635157640000 1 440700000130 000000000002 - = 440700000130 2 0 10000000102
@@ -21,10 +21,9 @@ static PLACES: &str = "- = 7 4. 1* 2. = ENTERED - 1 - - - = 440700000130 2 0 100
 101 102 = 17 4. 1* 5. 1* 1. 1* 1. 1* = ENDING 635157640000 3 440700000130 000000000002 - = 260700000130 0 406040000000 10000000104
 101 102 = 20 4. 1* 5. 1* 1. 1* 1. 1* 1. = ENDING 635157640000 2 260700000130 000000000002 - = 260700000130 0 406040000000 10000000104";
 
-/// Calls that the superior then makes, each at its fifth tick: the instruction, its block, what the word at 10 holds
-/// behind it, and what the inferior's count does: one of the words that the inferior is left with, or a number. They are
-/// `.IOT`, SIOT and USRMEM that read the word of the bytes, USRVAR that reads UPC, and `.IOT`, SIOT and USRMEM that store 5 in
-/// the count's word.
+/// Calls that the superior then executes, each at its fifth tick: the instruction, its block, what the word at 10 holds after it, and
+/// what the inferior's count does: one of the words that the inferior is left with, or a number. They are `.IOT`, SIOT and USRMEM that
+/// read the word of the bytes, USRVAR that reads UPC, and `.IOT`, SIOT and USRMEM that store 5 in the count's word.
 static CALLS: &str = "40100000010 0 = bytes count
 43000000300 400000000000 635157640000 1000000002 310 400000000311 = bytes count
 43000000300 400000000000 656362554555 1000000001 1000000130 402000000010 = bytes count
@@ -33,7 +32,7 @@ static CALLS: &str = "40100000010 0 = bytes count
 43000000300 400000000000 635157640000 1000000001 312 400000000313 = 777 5
 43000000300 400000000000 656362554555 1000000001 1000000123 1000000005 402000000010 = count 5";
 
-/// Behind the maker of the inferior: it is opened for input, channel 1 is put to the word of its count and channel 2 to that of its
+/// After the maker of the inferior: it is opened for input, channel 1 is put to the word of its count and channel 2 to that of its
 /// bytes, and it gets the console.
 const READY: &str = "10/ 777 5
 114/ 43000000250 0 43000000256 0 43000000262 0 43000000266 0
@@ -51,7 +50,7 @@ const READY_OUT: &str = "J 0
 T 0 4. 1* 11. 1* 5. 1* 5. 25* 7. 1* 5. 1* 5. 1* 5. 1* 5. 1* 5. 1* 1.
 ";
 
-/// The session up to the place of the inferior, before the superior makes this call; and its transcript.
+/// The session up to the place of the inferior, before the superior executes this call; and its transcript.
 fn placed(
     alloc: Global,
     rt: &impl Abort,
@@ -93,7 +92,7 @@ fn named<'a>(rt: &impl Abort, left: &'a str, name: &'a str) -> &'a str {
     }
 }
 
-/// What is shown behind the call: the inferior in user mode, and the words that it is left with.
+/// What is shown after the call: the inferior in user mode, and the words that it is left with.
 fn left(
     alloc: Global,
     rt: &impl Abort,
@@ -121,7 +120,7 @@ fn left(
     )
 }
 
-/// Each of these calls finds the inferior in user mode, wherever it stood.
+/// Each of these calls finds the inferior in user mode, wherever it was.
 #[test]
 fn places(rt: HostRuntime) -> Result<(), Fail> {
     let alloc = rt.alloc();
@@ -139,7 +138,7 @@ fn places(rt: HostRuntime) -> Result<(), Fail> {
     Ok(())
 }
 
-/// UCLOSE removes the inferior, wherever it stood: its slot is empty, and the next job gets it.
+/// UCLOSE removes the inferior, wherever it was: its slot is empty, and the next job gets it.
 #[test]
 fn places_removed(rt: HostRuntime) -> Result<(), Fail> {
     let alloc = rt.alloc();
@@ -153,9 +152,9 @@ fn places_removed(rt: HostRuntime) -> Result<(), Fail> {
     Ok(())
 }
 
-/// Calls of the superior while the inferior waits for its first byte: the instruction, its block, ticks and their letters, and
-/// where the inferior stands then. A call with error 1, 2 or 3, one that faults in its decoding, and one that looks at no job
-/// disturbs nobody; any other that has its channel on the inferior disturbs it, also where it fails.
+/// Calls of the superior while the inferior waits for its first byte: the instruction, its block, ticks and their letters, and the
+/// state of the inferior then. A call with error 1, 2 or 3, one that faults in its decoding, and one that looks at no job disturbs
+/// nobody; any other that has its channel on the inferior disturbs it, even if it fails.
 static REACHED: &str =
     "SIOT, USRMEM, USRVAR, UCLOSE and CORBLK with errors 2 and 3, the name IOT, and an absent output
 43000000300 400000000000 635157640000 1000000001 400000000310 = 5 4. 1* = WAITING
@@ -240,7 +239,7 @@ const TREE: &str = "LOAD U X -
 GO 100
 ";
 
-/// The last job finds no slot free, and is stopped; another stands in a call. Then all are removed from the top.
+/// The last job finds no empty slot, and is stopped; another is in a call. Then all are removed from the top.
 const FELLED: &str = "TICK 77 12
 EXAM 77 120 1
 STATE 76

@@ -1,4 +1,4 @@
-//! What calls on inferiors come to, and whom they disturb.
+//! The results of calls on inferiors, and whom they disturb.
 
 use super::inferiors::MAKER;
 use super::{line, registers, shows, word};
@@ -147,7 +147,7 @@ the same of the inferior; UPC sets flags too, and USTP starts it and stops it
 400000000000 656362664162 1000000001 615 1000000005 402000000010 = gives 0
 400000000000 656362664162 1000000002 615 402000000010 = gives 5";
 
-/// The session of these rows, before the calls and their blocks. Names of variables stand from 600 on.
+/// The session of these rows, before the calls and their blocks. Names of variables are from 600 on.
 pub(super) const CALLER: &str = "LOAD U X 0
 10/ 777
 100/ 43000000120 45700000000 43000000130 45700000000 43000000140 45700000000 254000001000
@@ -160,14 +160,14 @@ pub(super) const CALLER: &str = "LOAD U X 0
 610/ 605162614300 514660516200 554163530000 556353220000 444621000000 444622000000
 ";
 
-/// The rest of it, before the rows are made; another job stands in slot 1.
+/// The rest of it, before the rows run; another job is in slot 1.
 const STARTED: &str = "GO 100
 LOAD B X -
 GO 0
 TICK 0 23
 ";
 
-/// How many ticks a row has, and their letters: those of the call, those of one or two instructions behind it, and the
+/// How many ticks a row has, and their letters: those of the call, those of one or two instructions after it, and the
 /// first of the next call.
 fn ending(kind: &str) -> (&str, &str) {
     match kind.as_bytes() {
@@ -179,7 +179,7 @@ fn ending(kind: &str) -> (&str, &str) {
     }
 }
 
-/// A job makes the calls of these rows one after another, and each ends as its row says.
+/// A job executes the calls of these rows one after another, and each ends as its row says.
 pub(super) fn compare_ends(alloc: Global, rt: &impl Abort, rows: &str) -> Result<(), Fail> {
     let mut session = String::new(alloc);
     let mut ticks = String::new(alloc);
@@ -245,7 +245,7 @@ static TRANSFERS: &str = "200 0 0 40040000010 = 4. 1* 1. 5* = 777 777 0 0 = RUN 
 2000 444400004000 1 43000000320 = 4. 1* 1. 1* 4- = 777 0 444400004000 1 = STOP 10000000122 4
 1000000 444400004000 1 43000000320 = 4. 1* 1. 5* = 777 0 444400004000 1 = RUN 10000000131 0";
 
-/// Behind the maker of an inferior without words: it is opened for input, and both channels are put to the position at 247.
+/// After the maker of an inferior without words: it is opened for input, and both channels are put to the position at 247.
 const POSITIONED: &str = "10/ 777
 114/ 43000000250 0 43000000256 0 43000000262 0
 123/ 255000000000 255000000000 255000000000 255000000000 255000000000 255000000000 255000000000

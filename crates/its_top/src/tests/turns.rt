@@ -1,4 +1,4 @@
-//! Turns in a circle: who has them, where they end, and what is written where an object fails among them.
+//! Turns in a circle: who has them, when they end, and what is written if an object fails among them.
 
 use super::super::Status;
 use super::{compare, line, shows, tried};
@@ -148,8 +148,8 @@ const LINES: [(&str, &str); 6] = [
     ("RUN 1 1\n", "T 0 1*\n"),
 ];
 
-/// The read behind any byte of the session fails: its whole lines were answered. The write of any line fails: those before it
-/// were written.
+/// The read after any byte of the session fails: its whole lines were answered. The write of any line fails: those before it were
+/// written.
 fn cut_anywhere(alloc: Global, rt: &impl Abort) -> Result<(), Fail> {
     let mut session = String::new(alloc);
     let mut transcript = String::new(alloc);

@@ -203,7 +203,7 @@ L 0 000200 WORD 777777,,777742
 P 0 USER - 0 - - -
 ";
 
-/// 96 jobs that all stand in HANG, and one more.
+/// 96 jobs that are all in HANG, and one more.
 fn many_jobs(alloc: Global, rt: &impl Abort) -> Result<(), Fail> {
     let mut session = String::new(alloc);
     let mut transcript = String::new(alloc);

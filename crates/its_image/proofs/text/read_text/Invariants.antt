@@ -8,7 +8,7 @@ abbrev pub invariant-loop-text : goal.invariant-loop-text
 invariant-loop-text g l = record {
   few : l.lines.number ≤ most_lines;
   ready : Ready l.lines (g.S.Source.left l.src);
-  so_far : LinesSo l.text.items l.lines (g.S.Source.left l.fn.src) (g.S.Source.left l.src);
+  so_far : LinesSo l.kept l.text.items l.lines (g.S.Source.left l.fn.src) (g.S.Source.left l.src);
   unfailed : g.S.Source.faults l.src ≡ g.S.Source.faults l.fn.src;
 }
 

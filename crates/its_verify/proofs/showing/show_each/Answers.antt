@@ -1,8 +1,9 @@
 use Rattle.std.proofs.Common.{◌≡◌, ◌+◌, None, Ok, ap, drop, map, slice_index_or, ◌∙◌}
 use Rattle.its_files.specs.Files.{file_at as file_of}
 use Rattle.its_plain.specs.OperatorFiles.{filed_line}
-use Rattle.its_verify.proofs.ShowingLaws.{heard_by, lines_end, lines_next, lines_stop, filed_end, filed_more}
+use Rattle.its_verify.proofs.ShowingLaws.{heard_by, lines_end, lines_fail, lines_next, lines_stop, filed_end, filed_more}
 use Rattle.its_verify.proofs.TrialLaws.{unfailed_by}
+use Rattle.its_verify.proofs.ErrLaws.{err_says}
 use Rattle.its_verify.proofs.showing.show_each.Goals as goal
 
 pub returns-in-Some-clause-says : goal.returns-in-Some-clause-says
@@ -27,3 +28,10 @@ pub returns-clause-says : goal.returns-clause-says
 returns-clause-says g c =
     lines_end c.args.hearing.now c.loop-id.hearing (g.S.Source.left c.args.src.now) (g.S.Source.left c.loop-id.src) (map filed_line (map (file_of c.args.plain.now.files) c.args.ids.now)) (map filed_line (map (file_of c.args.plain.now.files) (drop c.loop-id.id-index c.args.ids.now)))
     (filed_end c.args.plain.now.files c.args.ids.now c.loop-id.id-index c.loop-id-test.false) c.loop-id.invariant.so_far
+
+pub returns-in_err-finding-clause-says : goal.returns-in_err-finding-clause-says
+returns-in_err-finding-clause-says g c = λ next.
+    err_says _ c.in_err-finding.field-0.0 _ _ _ _ _ _ c.from_residual.ensures.0
+    (lines_fail c.show_entry.result c.in_err-finding.field-0.0 c.args.hearing.now c.loop-id.hearing c.show_entry.new.hearing (g.S.Source.left c.args.src.now) (g.S.Source.left c.loop-id.src) (g.S.Source.left c.show_entry.new.src)
+    (map filed_line (map (file_of c.args.plain.now.files) c.args.ids.now)) (map filed_line (map (file_of c.args.plain.now.files) (drop c.loop-id.id-index c.args.ids.now))) (map filed_line (map (file_of c.args.plain.now.files) (drop (c.loop-id.id-index + 1) c.args.ids.now))) (filed_line (file_of c.args.plain.now.files (slice_index_or c.args.ids.now c.loop-id.id-index 0)))
+    c.in_err-finding.was (filed_more c.args.plain.now.files c.args.ids.now c.loop-id.id-index 0 c.loop-id-test.true) c.loop-id.invariant.so_far c.show_entry.ensures.says next)

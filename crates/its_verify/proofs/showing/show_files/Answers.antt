@@ -1,9 +1,10 @@
-use Rattle.std.proofs.Common.{◌∷◌, ℕ, List, Ok, Some, ap, length, map, sym, ◌∙◌}
+use Rattle.std.proofs.Common.{◌∷◌, ℕ, List, Ok, Err, Some, ap, length, map, sym, ◌∙◌}
 use Rattle.its_files.specs.Files.{file_at as file_of}
 use Rattle.its_print.specs.Printing.{Dir}
 use Rattle.its_plain.specs.OperatorFiles.{filed_line, files_in, listing}
 use Rattle.its_direct.specs.Plain.{machine_of}
-use Rattle.its_verify.proofs.ShowingLaws.{listing_is, same_says, stop_says, then_says}
+use Rattle.its_verify.proofs.ShowingLaws.{listing_is, same_says, fail_says, stop_says, then_says}
+use Rattle.its_verify.proofs.ErrLaws.{err_says}
 use Rattle.its_verify.proofs.showing.show_files.Goals as goal
 
 pub returns-clause-says : goal.returns-clause-says
@@ -25,3 +26,14 @@ returns-in-Some-clause-says g c =
     (listing_is files c.args.d c.len.result ids (files_in c.args.d (machine_of c.args.plain.now).files) c.listed-ids.ensures.files c.len.ensures.value)
     (stop_says c.show_count.result c.in-Some.finding c.args.hearing.now c.show_count.new.hearing (g.S.Source.left c.args.src.now) (g.S.Source.left c.show_count.new.src)
     (Dir c.args.d c.len.result) lines (c.in_ok-finding.was ∙ ap Ok c.in-Some.is) c.show_count.ensures.says)
+
+pub returns-in_err-finding-clause-says : goal.returns-in_err-finding-clause-says
+returns-in_err-finding-clause-says g c = λ next.
+    (let files = c.args.plain.now.files in
+    let ids = c.listed-ids.result.items in
+    let lines = map filed_line (map (file_of files) ids) in
+    err_says _ c.in_err-finding.field-0.0 _ _ _ _ _ _ c.from_residual.ensures.0
+    (same_says (Err c.in_err-finding.field-0.0) c.args.hearing.now c.show_count.new.hearing (g.S.Source.left c.args.src.now) (g.S.Source.left c.show_count.new.src) (Dir c.args.d c.len.result ∷ lines) (listing c.args.d (files_in c.args.d (machine_of c.args.plain.now).files))
+    (listing_is files c.args.d c.len.result ids (files_in c.args.d (machine_of c.args.plain.now).files) c.listed-ids.ensures.files c.len.ensures.value)
+    (fail_says c.show_count.result c.in_err-finding.field-0.0 c.args.hearing.now c.show_count.new.hearing (g.S.Source.left c.args.src.now) (g.S.Source.left c.show_count.new.src)
+    (Dir c.args.d c.len.result) lines c.in_err-finding.was c.show_count.ensures.says) next))

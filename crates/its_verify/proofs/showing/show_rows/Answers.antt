@@ -2,8 +2,9 @@ use Rattle.std.proofs.Common.{◌≡◌, ◌+◌, ◌-◌, ◌*◌, ◌/◌, Non
 use Rattle.its_files.specs.Files.{words_at}
 use Rattle.its_print.specs.Printing.{Row}
 use Rattle.its_plain.specs.OperatorFiles.{rows}
-use Rattle.its_verify.proofs.ShowingLaws.{heard_by, lines_end, lines_next, lines_stop, rows_end, rows_more}
+use Rattle.its_verify.proofs.ShowingLaws.{heard_by, lines_end, lines_fail, lines_next, lines_stop, rows_end, rows_more}
 use Rattle.its_verify.proofs.TrialLaws.{unfailed_by}
+use Rattle.its_verify.proofs.ErrLaws.{err_says}
 use Rattle.its_verify.proofs.showing.show_rows.Goals as goal
 
 pub returns-in-Some-clause-says : goal.returns-in-Some-clause-says
@@ -28,3 +29,10 @@ pub returns-clause-says : goal.returns-clause-says
 returns-clause-says g c =
     lines_end c.args.hearing.now c.loop-k.hearing (g.S.Source.left c.args.src.now) (g.S.Source.left c.loop-k.src) (rows ((c.args.count + 7) / 8) (words_at c.args.plain.now.files c.args.id)) (rows (((c.args.count + 7) / 8) - c.loop-k.k) (drop (8 * c.loop-k.k) (words_at c.args.plain.now.files c.args.id)))
     (rows_end ((c.args.count + 7) / 8) c.loop-k.k (words_at c.args.plain.now.files c.args.id) (search rules)) c.loop-k.invariant.so_far
+
+pub returns-in_err-finding-clause-says : goal.returns-in_err-finding-clause-says
+returns-in_err-finding-clause-says g c = λ next.
+    err_says _ c.in_err-finding.field-0.0 _ _ _ _ _ _ c.from_residual.ensures.0
+    (lines_fail c.show_row.result c.in_err-finding.field-0.0 c.args.hearing.now c.loop-k.hearing c.show_row.new.hearing (g.S.Source.left c.args.src.now) (g.S.Source.left c.loop-k.src) (g.S.Source.left c.show_row.new.src)
+    (rows ((c.args.count + 7) / 8) (words_at c.args.plain.now.files c.args.id)) (rows (((c.args.count + 7) / 8) - c.loop-k.k) (drop (8 * c.loop-k.k) (words_at c.args.plain.now.files c.args.id))) (rows (((c.args.count + 7) / 8) - (c.loop-k.k + 1)) (drop (8 * (c.loop-k.k + 1)) (words_at c.args.plain.now.files c.args.id))) (Row (take 8 (drop (8 * c.loop-k.k) (words_at c.args.plain.now.files c.args.id))))
+    c.in_err-finding.was (rows_more ((c.args.count + 7) / 8) c.loop-k.k (words_at c.args.plain.now.files c.args.id) (search rules)) c.loop-k.invariant.so_far c.show_row.ensures.says next)

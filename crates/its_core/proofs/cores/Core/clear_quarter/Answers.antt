@@ -1,5 +1,6 @@
-use Rattle.std.proofs.Common.{◌≡◌, ◌*◌, Some, None, slice_index_or, arith, ◌∙◌}
+use Rattle.std.proofs.Common.{◌≡◌, ◌*◌, ◌+◌, Some, None, slice_index_or, arith, ◌∙◌}
 use Rattle.its_core.specs.Cores.{reserved_at}
+use Rattle.its_core.proofs.ListLaws.{length-zeroed}
 use Rattle.its_core.proofs.ReadLaws.{held_words}
 use Rattle.its_core.proofs.HeldLaws.{held_is_some, clear_quarter_only, clear_quarter_pool, clear_cores, clear_only, cleared_clear, quarter_frames}
 use Rattle.its_core.proofs.cores.Core.clear_quarter.Goals as goal
@@ -36,4 +37,6 @@ returns-clause-cores c =
 pub returns-clause-frames : goal.returns-clause-frames
 returns-clause-frames c =
     let e : slice_index_or c.self.inside.held.items c.args.slot None ≡ Some c.held_in-h.result = cc in
-    rw (c.from.ensures, ← c.self.view_is) (quarter_frames _ _ _ _ _ _ c.self.invariant.0 _ c.args.slot _ c.held_in-h.result e)
+    let a = held_words _ _ _ _ _ _ c.self.invariant.0 c.args.slot c.held_in-h.result e in
+    rw (c.from.ensures, c.clear_frame_quarter.ensures.words, ← c.self.view_is)
+    (quarter_frames _ _ _ _ _ _ c.self.invariant.0 _ c.args.slot _ c.held_in-h.result (length-zeroed (1024 * c.held_in-h.result.frame + 256 * c.args.q) 256 c.self.inside.words.words (omega arith)) e)

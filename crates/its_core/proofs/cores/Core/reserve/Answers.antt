@@ -2,7 +2,7 @@ use Rattle.std.proofs.Common.{◌≡◌, Some, None, slice_index_or, arith, ◌�
 use Rattle.its_links.specs.Lists.{first, list_at}
 use Rattle.its_core.specs.Pool.{frame_words}
 use Rattle.its_core.proofs.ReadLaws.{listed_seen}
-use Rattle.its_core.proofs.HeldLaws.{reserve_pool, reserve_frames, held_none, some_free, some_seen, first_below, ready_only, ready_cores, clear_only}
+use Rattle.its_core.proofs.HeldLaws.{reserve_pool, reserve_frames, held_none, some_free, some_seen, first_below, ready_end, ready_only, ready_cores, clear_only}
 use Rattle.its_core.proofs.cores.Core.reserve.Goals as goal
 
 pub unwrap-frame-requires : goal.unwrap-frame-requires
@@ -21,7 +21,7 @@ pub invariant_of-self : goal.invariant_of-self
 invariant_of-self c =
     let none : slice_index_or c.self.inside.held.items c.args.slot None ≡ None = held_none _ _ _ _ _ _ c.self.invariant.0 c.args.slot (rw c.self.view_is c.requires.none) in
     let e : first (list_at c.self.inside.lists.lists 0) ≡ Some c.unwrap-frame.result = cc in (
-      rw (c.from.ensures, c.pop_front.ensures.lists, c.make_ready.ensures.words) (reserve_pool _ _ _ _ _ _ c.self.invariant.0 _ c.args.slot c.unwrap-frame.result c.requires.slot none e (omega arith)),
+      rw (c.from.ensures, c.pop_front.ensures.lists, c.make_ready.ensures.words) (reserve_pool _ _ _ _ _ _ c.self.invariant.0 _ c.args.slot c.unwrap-frame.result c.requires.slot none e (ready_end _ _ _ c.frame_end.ensures)),
       c.make_ready.ensures.most ∙ c.self.invariant.1,
     )
 
@@ -46,7 +46,7 @@ returns-clause-first c =
 pub returns-clause-frames : goal.returns-clause-frames
 returns-clause-frames c =
     let e : first (list_at c.self.inside.lists.lists 0) ≡ Some c.unwrap-frame.result = cc in
-    rw (c.from.ensures, c.pop_front.ensures.lists, ← c.self.view_is) (reserve_frames _ _ _ _ _ _ c.self.invariant.0 _ c.args.slot c.unwrap-frame.result e)
+    rw (c.from.ensures, c.pop_front.ensures.lists, c.make_ready.ensures.words, ← c.self.view_is) (reserve_frames _ _ _ _ _ _ c.self.invariant.0 _ c.args.slot c.unwrap-frame.result e (ready_end _ _ _ c.frame_end.ensures))
 
 pub returns-clause-listed : goal.returns-clause-listed
 returns-clause-listed c = listed_seen _ _ _ _ _ _ (invariant_of-self c).0

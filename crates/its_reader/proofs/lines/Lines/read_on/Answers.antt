@@ -3,7 +3,7 @@ use Rattle.its_reader.proofs.LinesLaws.{reads_broken, reads_last_by, reads_push_
 use Rattle.its_reader.proofs.lines.Lines.read_on.Goals as goal
 
 pub returns-in-Err-clause-reads : goal.returns-in-Err-clause-reads
-returns-in-Err-clause-reads g c = reads_broken _ _ c.loop-e.self _ _ _ _ c.requires.open c.loop-e.invariant.so_far c.in-Err.ensures.took
+returns-in-Err-clause-reads g c = reads_broken _ _ c.loop-e.self _ _ _ _ c.requires.open c.loop-e.invariant.short c.loop-e.invariant.begun c.loop-e.invariant.so_far c.in-Err.ensures.took
 
 pub returns-in-Ok-None-clause-reads : goal.returns-in-Ok-None-clause-reads
 returns-in-Ok-None-clause-reads g c =

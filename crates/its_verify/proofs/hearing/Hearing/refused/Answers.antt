@@ -2,13 +2,15 @@ use Rattle.std.proofs.Common.{Option, Some, Ok, subst, rules}
 use Rattle.its_verify.specs.Hearing.{Says, same_as}
 use Rattle.its_verify.specs.Judge.{at_end, led}
 use Rattle.its_verify.specs.declared.finding.Finding.{Finding}
-use Rattle.its_verify.proofs.HearingLaws.{refused_ends, refused_lacks}
+use Rattle.its_verify.proofs.ErrLaws.{err_concludes}
+use Rattle.its_verify.proofs.HearingLaws.{refused_ends, refused_fails, refused_lacks}
 use Rattle.its_verify.proofs.OutLaws.{line_out, out_ok_behind}
 use Rattle.its_verify.proofs.hearing.Hearing.refused.Goals as goal
 
 pub returns-clause-ends : goal.returns-clause-ends
 returns-clause-ends g c =
-    refused_ends c.args.number c.args.reason c.deref.result.now c.finish.result c.args.self.now c.expect.new.self _ _ (search rules)
+    refused_ends c.args.number c.args.reason c.deref.result.now c.finish.result c.args.self.now c.expect.new.self
+    (g.S.Source.left c.args.src.now) (g.S.Source.left c.expect.new.src) (g.S.Source.left c.finish.new.src) (search rules)
     (λ next.
     subst (λ (o : Option Finding). Says (Ok o) c.args.self.now c.expect.new.self (g.S.Source.left c.args.src.now) (g.S.Source.left c.expect.new.src) (led (same_as c.deref.result.now) (λ t. next)) next)
     c.in_default.is (c.in_ok-finding.ensures.says next))
@@ -35,3 +37,9 @@ returns-in-Some-clause-out g c =
     (λ next.
     subst (λ (o : Option Finding). Says (Ok o) c.args.self.now c.expect.new.self (g.S.Source.left c.args.src.now) (g.S.Source.left c.expect.new.src) (led (same_as c.deref.result.now) (λ t. next)) next)
     c.in-Some.is (c.in_ok-finding.ensures.says next))
+
+pub returns-in_err-finding-clause-ends : goal.returns-in_err-finding-clause-ends
+returns-in_err-finding-clause-ends g c =
+    err_concludes _ c.in_err-finding.field-0.0 c.args.self.now _ _ _ c.from_residual.ensures.0
+    (refused_fails c.args.number c.args.reason c.deref.result.now c.in_err-finding.field-0.0 c.args.self.now c.expect.new.self (g.S.Source.left c.args.src.now) (g.S.Source.left c.expect.new.src) (search rules)
+    c.in_err-finding.ensures.says)

@@ -10,4 +10,4 @@ pub returns-clause-led : goal.returns-clause-led
 returns-clause-led c =
     step_led c.step.result c.args.self.now c.forget_touched.new.self c.step.new.self c.args.slot (search rules) c.step.ensures.row (search rules)
     (subst (λ (i : ℕ). Forgets c.step.new.self (slice_set c.args.self.now.dots i 0) c.forget_touched.new.self.dots) c.from.ensures c.forget_touched.ensures.dots)
-    (search rules) c.requires.sure
+    (search rules)

@@ -3,7 +3,8 @@ use Rattle.its_session.specs.Events.{events_of}
 use Rattle.its_plain.specs.Operator.{no_block}
 use Rattle.its_direct.specs.Events.{place_of}
 use Rattle.its_verify.specs.Going.{judge_from}
-use Rattle.its_verify.proofs.GoneLaws.{gone_next, gone_over, place_on, tried_by}
+use Rattle.its_verify.proofs.ErrLaws.{err_concludes}
+use Rattle.its_verify.proofs.GoneLaws.{gone_fails, gone_next, gone_over, place_on, tried_by}
 use Rattle.its_verify.proofs.TrialLaws.{unfailed_by}
 use Rattle.its_verify.proofs.OutLaws.{gone_out}
 use Rattle.its_verify.proofs.trial.Trial.go.Goals as goal
@@ -37,3 +38,10 @@ returns-in-Some-clause-out g c =
     gone_out c.take.result c.in-Some.finding c.args.self.now c.loop-found.self (judge_from c.args.self.now no_block 1 (events_of c.args.session.now)) c.loop-found.items
     (Some c.loop-found.session) (g.S.Source.left c.args.src.now) (g.S.Source.left c.loop-found.src) (g.S.Source.left c.take.new.src)
     (c.in_ok-finding.was ∙ ap Ok c.in-Some.is) c.loop-found.invariant.so_far c.take.ensures.out
+
+pub returns-in_err-finding-clause-ends : goal.returns-in_err-finding-clause-ends
+returns-in_err-finding-clause-ends g c =
+    err_concludes _ c.in_err-finding.field-0.0 _ _ _ _ c.from_residual.ensures.0
+    (gone_fails c.take.result c.in_err-finding.field-0.0 c.in-Ok.found c.args.self.now c.loop-found.self c.take.new.self (judge_from c.args.self.now no_block 1 (events_of c.args.session.now)) c.loop-found.items c.next.new.self
+    c.loop-found.session c.next.new.src (g.S.Source.left c.args.src.now) (g.S.Source.left c.loop-found.src) (g.S.Source.left c.take.new.src)
+    c.in_err-finding.was c.loop-found.invariant.so_far c.in-Ok.ensures.finds c.in-Ok.ensures.ready c.in-Ok.ensures.number c.take.ensures.says)

@@ -1,0 +1,714 @@
+-- A step changes what it may, and nothing else (docs/MACHINE.md, "Who may touch what").
+use Rattle.std.specs.Prelude.{if◌then◌else◌, ◌==◌, ◌&&◌, ◌||◌, ◌≡◌, ◌≢◌, ◌⊎◌, ℕ, zero, suc, Bool, true, false, not, Option, Some, None, IfSome, List, [], ◌∷◌, is_some, nat_lt, option_map, unwrap_or, Result, Ok, Err, refl}
+use Rattle.std.proofs.Common.{sym, ◌∙◌, ap, subst, inl, inr}
+use Rattle.std.proofs.lemmas.Bool.{cases_Bool, cases_eq, eq-eqb, ne_eqb, eqb-true, or_parts, and_parts, not-false}
+use Rattle.its_word.specs.Console.{Console}
+use Rattle.its_word.specs.Limits.{slots}
+use Rattle.its_word.specs.Tree.{climbs_to, is_below, least_free}
+use Rattle.its_word.specs.declared.access.Fault.{Fault}
+use Rattle.its_word.specs.declared.calls.Ask.{Ask}
+use Rattle.its_word.specs.declared.calls.Exit.{Exit}
+use Rattle.its_word.proofs.FreeLaws.{least_empty}
+use Rattle.its_frame.specs.Variables.{variable_named}
+use Rattle.its_frame.specs.declared.change.Change.{Change}
+use Rattle.its_frame.specs.declared.change.Change.TheVariants as changes
+use Rattle.its_frame.specs.declared.change.Opened.{Opened}
+use Rattle.its_frame.specs.declared.change.Opened.TheVariants as opened
+use Rattle.its_frame.specs.declared.decision.Held.{Held}
+use Rattle.its_frame.specs.declared.decision.Wait.{Wait}
+use Rattle.its_word.specs.declared.plan.Store.{Store}
+use Rattle.its_frame.specs.declared.decision.Decision.{Decision}
+use Rattle.its_frame.specs.declared.decision.Decision.TheVariants.{Waits, Goes, Ends, Gone}
+use Rattle.its_frame.specs.declared.variable.Variable.{Variable}
+use Rattle.its_plain.specs.Arguments.{input, has_input, place_of_input}
+use Rattle.its_plain.specs.CallBasic.{ioc, dismissed_by, dismiss_at, dismiss, Oneself, Nobody, Channel, by_oneself, by_superior, set_own, own_variable, set_other, value_of_other, other_variable, usrvar_of, party_on, is_oneself, usrvar, logout, told_superior, channel_at, alarm_of}
+use Rattle.its_plain.specs.CallFile.{Channels, channels_in, channels_by, is_read}
+use Rattle.its_plain.specs.CallStep.{acted, decision, Transition, alone, becomes, informs, delivery, step}
+use Rattle.its_plain.specs.CallTty.{iot_ends, console_of, has_console, can_take, is_superior, is_holder, lands, ttylnd_of, ttylnd}
+use Rattle.its_plain.specs.CallUsr.{any_named, inferior_named, makes_job, opens_job, usr_tests, opens_usr, uclose_on, uclose}
+use Rattle.its_plain.specs.Change.{on_slot, in_job, channel_in, superior_in, superiors, console_in, filed, taken_from, put_to, on_console, is_gone, chan_left, shut_on, left_job, passed_on, symbols_left, removed, inferior, with_inf, effect, effects}
+use Rattle.its_plain.specs.Decide.{call_named, decided_by, decided, target, reach}
+use Rattle.its_plain.specs.Integrity.{MayWrite, Written, word_stored, variable_set, page_set, page_marked, RemovesTree, by_logout, by_uclose, Removes, JobMay, job_same, job_written, job_removed, superior_informed, superior_left, job_made, Uses, ConsoleMay, bytes_same, byte_taken, byte_put, CanTake, from_nobody, from_itself, from_inferior, HolderMay, holder_same, console_taken, console_given, console_passed, FilesMay, files_same, draft_closed, file_deleted, file_renamed, SymbolsMay, symbols_same, symbols_gone, symbols_none, MayStep}
+use Rattle.its_plain.specs.Interrupt.{dismissed, delivered}
+use Rattle.its_plain.specs.Machine.{Chan, Shut, TtyIn, TtyOut, Reads, Writes, On, Whole, Machine, changed, all_shut}
+use Rattle.its_plain.specs.OperatorFiles.{channels_of}
+use Rattle.its_plain.specs.Tests.{◌⇒◌, finishes, fails, faults, goes, out}
+use Rattle.its_plain.specs.View.{View, Outline, outline, view}
+use Rattle.its_plain.proofs.StepLaws.{AllOf, EachCase, step_has}
+use Rattle.its_stepped.specs.Forest.{OnInferior, OnConsole, Forest}
+use Rattle.its_stepped.proofs.CallWays.{Writable, AtConsole, Closable, Mild, AllStill, AllMild, Ways, Apart, call_ways}
+use Rattle.its_stepped.proofs.CallWays as ways
+use Rattle.its_stepped.proofs.FitLaws.{superior_outlined}
+use Rattle.its_stepped.proofs.ForestLaws.{channel_of, on_inferior, forest_below}
+use Rattle.its_stepped.proofs.TestLaws.{by_test, first_holds}
+
+-- what a step may do to others it may do with a change of the own job after it
+slot_other : (jobs : ℕ → Option Whole) (s k : ℕ) (f : Whole → Whole) → k ≢ s → on_slot jobs s f k ≡ jobs k
+slot_other jobs s k f ne = rw (ne_eqb k s ne) refl
+
+none_stays : (jobs : ℕ → Option Whole) (s k : ℕ) (f : Whole → Whole) → jobs k ≡ None → on_slot jobs s f k ≡ None
+none_stays jobs s k f h = elim (cases_Bool (k == s)) [ inl t ↦ rw (t, h) refl | inr e ↦ rw (e, h) refl ]
+
+job_then : (m n : Machine) (j s k : ℕ) (f : Whole → Whole) → k ≢ s → JobMay m n j k → JobMay m (in_job n s f) j k
+job_then m n j s k f ne (job_same e) = job_same (slot_other n.jobs s k f ne ∙ e)
+job_then m n j s k f ne (job_written q r leave is at w) = job_written q r leave is (slot_other n.jobs s k f ne ∙ at) w
+job_then m n j s k f ne (job_removed r e) = job_removed r (slot_other n.jobs s k f ne ∙ e)
+job_then m n j s k f ne (superior_informed q up is at) = superior_informed q up is (slot_other n.jobs s k f ne ∙ at)
+job_then m n j s k f ne (superior_left q up is gone at) = superior_left q up is (none_stays n.jobs s j f gone) (slot_other n.jobs s k f ne ∙ at)
+job_then m n j s k f ne (job_made u x none at) = job_made u x none (slot_other n.jobs s k f ne ∙ at)
+
+console_then : (m n : Machine) (j c : ℕ) (f : Whole → Whole) → ConsoleMay m n j c → ConsoleMay m (in_job n j f) j c
+console_then m n j c f (bytes_same e) = bytes_same e
+console_then m n j c f (byte_taken u e) = byte_taken u e
+console_then m n j c f (byte_put b u e) = byte_put b u e
+
+holder_then : (m n : Machine) (j s c : ℕ) (f : Whole → Whole) → HolderMay m n j c → HolderMay m (in_job n s f) j c
+holder_then m n j s c f (holder_same e) = holder_same e
+holder_then m n j s c f (console_taken own take e) = console_taken own take e
+holder_then m n j s c f (console_given i own has up e) = console_given i own has up e
+holder_then m n j s c f (console_passed r h tree has below e) = console_passed r h tree has below e
+
+files_then : (m n : Machine) (j : ℕ) (f : Whole → Whole) → FilesMay m n j → FilesMay m (in_job n j f) j
+files_then m n j f (files_same e) = files_same e
+files_then m n j f (draft_closed i d is unread e) = draft_closed i d is unread e
+files_then m n j f (file_deleted x unread e) = file_deleted x unread e
+files_then m n j f (file_renamed d x y u v unread free e) = file_renamed d x y u v unread free e
+
+symbols_then : (m n : Machine) (j s k : ℕ) (f : Whole → Whole) → SymbolsMay m n j k → SymbolsMay m (in_job n s f) j k
+symbols_then m n j s k f (symbols_same e) = symbols_same e
+symbols_then m n j s k f (symbols_gone r e) = symbols_gone r e
+symbols_then m n j s k f (symbols_none none e) = symbols_none none e
+
+then_own : (m n : Machine) (j : ℕ) (f : Whole → Whole) → MayStep m j n → MayStep m j (in_job n j f)
+then_own m n j f h = record {
+  jobs = λ k ne. job_then m n j j k f ne (h.jobs k ne);
+  consoles = λ c. console_then m n j c f (h.consoles c);
+  holders = λ c. holder_then m n j j c f (h.holders c);
+  files = files_then m n j f h.files;
+  symbols = λ k. symbols_then m n j j k f (h.symbols k);
+  clock = h.clock;
+  version = h.version;
+}
+
+pub nothing : (m : Machine) (j : ℕ) → MayStep m j m
+nothing m j = record {
+  jobs = λ k ne. job_same refl;
+  consoles = λ c. bytes_same refl;
+  holders = λ c. holder_same refl;
+  files = files_same refl;
+  symbols = λ k. symbols_same refl;
+  clock = refl;
+  version = refl;
+}
+
+own : (m : Machine) (j : ℕ) (f : Whole → Whole) → MayStep m j (in_job m j f)
+own m j f = then_own m m j f (nothing m j)
+
+-- a step that changes the jobs alone
+jobs_alone : (m : Machine) (j : ℕ) (jobs : ℕ → Option Whole) → ((k : ℕ) → k ≢ j → JobMay m (record m { jobs = jobs }) j k) → MayStep m j (record m { jobs = jobs })
+jobs_alone m j jobs h = record {
+  jobs = h;
+  consoles = λ c. bytes_same refl;
+  holders = λ c. holder_same refl;
+  files = files_same refl;
+  symbols = λ k. symbols_same refl;
+  clock = refl;
+  version = refl;
+}
+
+-- it writes in the job of slot s
+option_changed : (o : Option Whole) (f : Whole → Whole) → (o ≡ None) ⊎ ((q : Whole) × (o ≡ Some q))
+option_changed None f = inl refl
+option_changed (Some q) f = inr (q, refl)
+
+here : (jobs : ℕ → Option Whole) (s k : ℕ) (f : Whole → Whole) → k ≡ s → on_slot jobs s f k ≡ option_map f (jobs k)
+here jobs s k f e = rw (eq-eqb k s e) refl
+
+writes : (m : Machine) (j s : ℕ) (f : Whole → Whole) → MayWrite m j s → ((q : Whole) → Written q (f q)) → MayStep m j (in_job m s f)
+writes m j s f leave w = jobs_alone m j (on_slot m.jobs s f) (λ k ne.
+    elim (cases_eq k s) [
+      | inl at ↦ elim (option_changed (m.jobs k) f) [
+        | inl none ↦ job_same (here m.jobs s k f at ∙ ap (option_map f) none ∙ sym none)
+        | inr some ↦ job_written some.0 (f some.0) (subst (MayWrite m j) (sym at) leave) some.1 (here m.jobs s k f at ∙ ap (option_map f) some.1) (w some.0)
+      ]
+      | inr other ↦ job_same (slot_other m.jobs s k f other)
+    ])
+
+writes_or_own : (m : Machine) (j s : ℕ) (f : Whole → Whole) → (s ≡ j) ⊎ MayWrite m j s → ((q : Whole) → Written q (f q)) → MayStep m j (in_job m s f)
+writes_or_own m j s f (inl same) w = subst (λ (i : ℕ). MayStep m j (in_job m i f)) (sym same) (own m j f)
+writes_or_own m j s f (inr leave) w = writes m j s f leave w
+
+-- a byte at its own console
+bytes_alone : (m : Machine) (j c : ℕ) (f : Console → Console) → ConsoleMay m (on_console m c f) j c → MayStep m j (on_console m c f)
+bytes_alone m j c f h = record {
+  jobs = λ k ne. job_same refl;
+  consoles = λ d. elim (cases_eq d c) [
+    | inl at ↦ subst (ConsoleMay m (on_console m c f) j) (sym at) h
+    | inr other ↦ bytes_same (rw (ne_eqb d c other) refl)
+  ];
+  holders = λ d. holder_same refl;
+  files = files_same refl;
+  symbols = λ k. symbols_same refl;
+  clock = refl;
+  version = refl;
+}
+
+console_here : (m : Machine) (c : ℕ) (f : Console → Console) → (on_console m c f).consoles c ≡ f (m.consoles c)
+console_here m c f = rw (eq-eqb c c refl) refl
+
+-- the directory
+files_alone : (m : Machine) (j : ℕ) (n : Machine) → n ≡ record m { files = n.files } → FilesMay m n j → MayStep m j n
+files_alone m j n e h = record {
+  jobs = λ k ne. job_same (ap (λ (x : Machine). x.jobs k) e);
+  consoles = λ d. bytes_same (ap (λ (x : Machine). x.consoles d) e);
+  holders = λ d. holder_same (ap (λ (x : Machine). x.holders d) e);
+  files = h;
+  symbols = λ k. symbols_same (ap (λ (x : Machine). x.symbols k) e);
+  clock = ap (λ (x : Machine). x.clock) e;
+  version = ap (λ (x : Machine). x.version) e;
+}
+
+-- what a call sees of channels is so in its machine
+channels_seen_at : (o : Option Whole) (n : ℕ) → channels_by (option_map outline o) n ≡ channel_in o n
+channels_seen_at (Some q) n = refl
+channels_seen_at None n = refl
+
+channels_seen : (m : Machine) (j : ℕ) (q : Whole) (t : Option ℕ) → channels_in (view m j q t) ≡ channels_of m
+unfolding view
+channels_seen m j q t = λ i. λ k. λ n. channels_seen_at (m.jobs k) n i
+
+unread_seen : (m : Machine) (j : ℕ) (q : Whole) (t : Option ℕ) (names : List ℕ) → is_read names (channels_in (view m j q t)) ≡ false → is_read names (channels_of m) ≡ false
+unread_seen m j q t names h = ap (is_read names) (sym (channels_seen m j q t)) ∙ h
+
+at_open : (channels : ℕ → Chan) (n : ℕ) (c : Chan) → channel_at channels n ≡ c → c ≢ Shut → channels n ≡ c
+at_open channels n c h open_ = go (nat_lt n 16) h
+  where
+    go : (b : Bool) → (if b then channels n else Shut) ≡ c → channels n ≡ c
+    go true e = e
+    go false e = absurd (open_ (sym e))
+
+own_channel : (m : Machine) (j : ℕ) (q : Whole) (n : ℕ) (c : Chan) → m.jobs j ≡ Some q → channel_at q.channels n ≡ c → c ≢ Shut → channel_in (m.jobs j) n ≡ c
+own_channel m j q n c is h open_ = ap (λ (o : Option Whole). channel_in o n) is ∙ at_open q.channels n c h open_
+
+may_write : (m : Machine) (j : ℕ) (q : Whole) (t : Option ℕ) (s : ℕ) → m.jobs j ≡ Some q → Writable (view m j q t) s → MayWrite m j s
+unfolding view
+may_write m j q t s is w = record { channel = w.channel; position = w.position; is = own_channel m j q w.channel (On s true w.position) is w.is (λ e. cc) }
+
+console_some : (o : Option ℕ) → is_some o ≡ true → o ≡ Some (unwrap_or o 0)
+console_some (Some c) h = refl
+console_some None h = cc
+
+on_console_open : (o : Option ℕ) (channels : ℕ → Chan) (n : ℕ) → ways.OnConsole (channel_at channels n) → ((i : ℕ) → OnConsole o (channels i)) → is_some o ≡ true
+on_console_open o channels n h each = go (nat_lt n 16) h
+  where
+    on : (c : Chan) → ways.OnConsole c → OnConsole o c → is_some o ≡ true
+    on TtyIn h e = e
+    on TtyOut h e = e
+    on Shut h e = absurd h
+    on (Reads f at) h e = absurd h
+    on (Writes f) h e = absurd h
+    on (On s write at) h e = absurd h
+
+    go : (b : Bool) → ways.OnConsole (if b then channels n else Shut) → is_some o ≡ true
+    go true h = on (channels n) h (each n)
+    go false h = absurd h
+
+each_console : (m : Machine) (j : ℕ) (q : Whole) → Forest m → m.jobs j ≡ Some q → (i : ℕ) → OnConsole q.job.console (q.channels i)
+each_console m j q d is i = subst (λ (o : Option Whole). OnConsole (console_in o) (channel_in o i)) is (d.consoles j i)
+
+uses : (m : Machine) (j : ℕ) (q : Whole) (t : Option ℕ) (c : ℕ) → Forest m → m.jobs j ≡ Some q → AtConsole (view m j q t) c → Uses m j c
+unfolding view
+uses m j q t c d is h = record {
+  own = ap console_in is ∙ console_some q.job.console (on_console_open q.job.console q.channels h.channel h.is (each_console m j q d is)) ∙ ap Some (sym h.own);
+  free = h.free;
+}
+
+-- a mild change
+module _ (m : Machine) (j : ℕ) (q : Whole) (t : Option ℕ) (d : Forest m) (is : m.jobs j ≡ Some q) where
+  own_or : (s : ℕ) → (s ≡ (view m j q t).slot) ⊎ Writable (view m j q t) s → (s ≡ j) ⊎ MayWrite m j s
+  unfolding view
+  own_or s (inl same) = inl same
+  own_or s (inr w) = inr (may_write m j q t s is w)
+
+  closes_may : (n : ℕ) → Closable (view m j q t) n → MayStep m j (effect (changes.Close n) j m)
+  unfolding effect view
+  closes_may n h =
+      let at = own_channel m j q n (Writes h.file) is h.is (λ e. cc) in
+      record {
+        jobs = λ k ne. job_same (slot_other m.jobs j k _ ne);
+        consoles = λ c. bytes_same refl;
+        holders = λ c. holder_same refl;
+        files = draft_closed n h.file at (unread_seen m j q t h.file.names h.unread) (rw at refl);
+        symbols = λ k. symbols_same refl;
+        clock = refl;
+        version = refl;
+      }
+
+  renames_may : (e x y u v : ℕ) → Mild (view m j q t) (changes.Rename e x y u v) → MayStep m j (effect (changes.Rename e x y u v) j m)
+  unfolding effect view
+  renames_may e x y u v h = files_alone m j _ refl (file_renamed e x y u v (unread_seen m j q t _ h.0) h.1 refl)
+
+  mild_may : (c : Change) → Mild (view m j q t) c → MayStep m j (effect c j m)
+  unfolding effect
+  mild_may (changes.Open n on) h = own m j _
+  mild_may (changes.Shut n) h = own m j _
+  mild_may (changes.Move n at) h = own m j _
+  mild_may (changes.Append n w) h = own m j _
+  mild_may (changes.Close n) h = closes_may n h
+  mild_may (changes.Take c) h = bytes_alone m j c taken_from (byte_taken (uses m j q t c d is h) (console_here m c taken_from))
+  mild_may (changes.Put c b) h = bytes_alone m j c (put_to b) (byte_put b (uses m j q t c d is h) (console_here m c (put_to b)))
+  mild_may (changes.Poke s p w) h = writes m j s _ (may_write m j q t s is h) (λ r. word_stored p w)
+  mild_may (changes.Map s k) h = writes_or_own m j s _ (own_or s h) (λ r. page_set k _)
+  mild_may (changes.Unmap s k) h = writes_or_own m j s _ (own_or s h) (λ r. page_set k _)
+  mild_may (changes.Protect s k w) h = writes_or_own m j s _ (own_or s h) (λ r. page_marked k w)
+  mild_may (changes.Delete e x y) h = files_alone m j _ refl (file_deleted _ (unread_seen m j q t _ h) refl)
+  mild_may (changes.Rename e x y u v) h = renames_may e x y u v h
+  mild_may _ h = absurd h
+
+still_may : (m n : Machine) (j : ℕ) (cs : List Change) → AllStill cs → MayStep m j n → MayStep m j (effects cs j n)
+unfolding effect
+still_may m n j [] h may = may
+still_may m n j (changes.Move i at ∷ cs) h may = still_may m (effect (changes.Move i at) j n) j cs h.1 (then_own m n j _ may)
+still_may m n j (c ∷ cs) h may = absurd h.0
+
+all_may : (m : Machine) (j : ℕ) (q : Whole) (t : Option ℕ) (cs : List Change) → Forest m → m.jobs j ≡ Some q → AllMild (view m j q t) cs → MayStep m j (effects cs j m)
+all_may m j q t [] d is h = nothing m j
+all_may m j q t (c ∷ cs) d is h = still_may m (effect c j m) j cs h.1 (mild_may m j q t d is c h.0)
+
+-- what a decision may do, of whatever call
+abbrev Permitted : Machine → ℕ → Decision → Type 0
+Permitted m j d = (a : Ask) (ks : List ℕ) → AllOf (λ (t : Transition). MayStep m j t.machine) (acted m j a ks d)
+
+module _ (m : Machine) (j : ℕ) where
+  ends_may : (x : View) (a : Ask) (k : ℕ) → Permitted m j (fails x a k)
+  unfolding acted
+  ends_may x a k = λ b ks. own m j _
+
+  faults_may : (x : View) (f : Fault) → Permitted m j (faults x f)
+  unfolding acted
+  faults_may x f = λ b ks. own m j _
+
+  stuck_may : (x : View) → Permitted m j (ioc x)
+  unfolding acted
+  stuck_may x = λ b ks. own m j _
+
+  finish_may : (x : View) (cs : List Change) (ss : List Store) → MayStep m j (effects cs j m) → Permitted m j (finishes x cs ss)
+  unfolding acted
+  finish_may x cs ss h = λ b ks. then_own m (effects cs j m) j _ h
+
+  moved_may : (x : View) (cs : List Change) (ss : List Store) → MayStep m j (effects cs j m) → Permitted m j (iot_ends x cs ss)
+  unfolding acted
+  moved_may x cs ss h = λ b ks. then_own m (effects cs j m) j _ h
+
+  going_may : (cs : List Change) (o : Option Held) (vs : List ℕ) → MayStep m j (effects cs j m) → Permitted m j (goes cs o vs)
+  unfolding acted
+  going_may cs o vs h = λ b ks. then_own m (effects cs j m) j _ h
+
+  left_may : (ss : List Store) (e : Exit) → Permitted m j (Ends (record { items = [] }) (record { items = ss }) e)
+  unfolding acted
+  left_may ss e = λ b ks. own m j _
+
+  waits_may : (r : Wait) → Permitted m j (Waits r)
+  unfolding acted
+  waits_may r = λ b ks. tt
+
+  opened_may : (n : ℕ) (on : Opened) → MayStep m j (effects (changes.Open n on ∷ []) j m)
+  unfolding effect
+  opened_may n on = own m j _
+
+  armed_may : (o : Option (ℕ × ℕ)) → MayStep m j (effects (changes.Arm o ∷ []) j m)
+  unfolding effect
+  armed_may o = own m j _
+
+-- removals
+climb_more : (sup : ℕ → Option ℕ) (s n : ℕ) (o : Option ℕ) → climbs_to sup s n o ≡ true → climbs_to sup s (suc n) o ≡ true
+unfolding climbs_to
+climb_more sup s zero o h = cc
+climb_more sup s (suc n) None h = cc
+climb_more sup s (suc n) (Some k) h = elim (cases_Bool (k == s)) [
+  | inl t ↦ rw t refl
+  | inr f ↦ rw f (climb_more sup s n (sup k) (sym (ap (λ b. b || climbs_to sup s n (sup k)) f) ∙ h))
+]
+
+climb_from : (sup : ℕ → Option ℕ) (s n k : ℕ) → (k == s) ≡ false → climbs_to sup s (suc n) (Some k) ≡ true → climbs_to sup s n (sup k) ≡ true
+unfolding climbs_to
+climb_from sup s n k apart h = sym (ap (λ b. b || climbs_to sup s n (sup k)) apart) ∙ h
+
+below_climbs : (sup : ℕ → Option ℕ) (r s : ℕ) → is_below sup r s ≡ true → climbs_to sup r slots (sup s) ≡ true
+unfolding is_below
+below_climbs sup r s h = (and_parts (not (s == r)) (climbs_to sup r slots (sup s)) h).1
+
+climbs_below : (sup : ℕ → Option ℕ) (r k : ℕ) → (k == r) ≡ false → climbs_to sup r slots (sup k) ≡ true → is_gone sup r k ≡ true
+unfolding is_below
+climbs_below sup r k apart h = rw (apart, h) refl
+
+-- an inferior of a job that stays stays, but for the root itself
+stays_below : (sup : ℕ → Option ℕ) (r s k : ℕ) → sup s ≡ Some k → is_gone sup r k ≡ false → sup r ≢ Some k → is_gone sup r s ≡ false
+stays_below sup r s k up stays root = elim (cases_Bool (is_gone sup r s)) [
+  | inr f ↦ f
+  | inl t ↦ absurd (
+      elim (cases_eq s r) [
+        | inl at ↦ root (ap sup (sym at) ∙ up)
+        | inr apart ↦ (
+            let both = or_parts (k == r) (is_below sup r k) stays in
+            let below : is_below sup r s ≡ true = sym (ap (λ b. b || is_below sup r s) (ne_eqb s r apart)) ∙ t in
+            let climbs : climbs_to sup r slots (Some k) ≡ true = sym (ap (climbs_to sup r slots) up) ∙ below_climbs sup r s below in
+            let more = climb_more sup r 95 (sup k) (climb_from sup r 95 k both.0 climbs) in
+            let no : false ≡ true = sym stays ∙ climbs_below sup r k both.0 more in
+            cc
+            )
+      ])
+]
+
+channel_stays : (m : Machine) (r k : ℕ) (c : Chan) → OnInferior m k c → is_gone (superiors m) r k ≡ false → superiors m r ≢ Some k → chan_left (is_gone (superiors m) r) c ≡ c
+channel_stays m r k (On s write at) h stays root = rw (stays_below (superiors m) r s k h stays root) refl
+channel_stays m r k Shut h stays root = refl
+channel_stays m r k TtyIn h stays root = refl
+channel_stays m r k TtyOut h stays root = refl
+channel_stays m r k (Reads f at) h stays root = refl
+channel_stays m r k (Writes f) h stays root = refl
+
+shut_same : (gone : ℕ → Bool) (q : Whole) → ((n : ℕ) → chan_left gone (q.channels n) ≡ q.channels n) → shut_on gone q ≡ q
+shut_same gone q h = λ i. record q { channels = λ n. h n i }
+
+left_same : (m : Machine) (r k : ℕ) (o : Option Whole) → m.jobs k ≡ o → Forest m → is_gone (superiors m) r k ≡ false → superiors m r ≢ Some k
+    → left_job (is_gone (superiors m) r) false o ≡ o
+left_same m r k None is d stays root = refl
+left_same m r k (Some q) is d stays root =
+    ap Some (shut_same (is_gone (superiors m) r) q (λ n. channel_stays m r k (q.channels n) (subst (λ (o : Option Whole). OnInferior m k (channel_in o n)) is (d.channels k n)) stays root))
+
+module _ (m : Machine) (j r : ℕ) (tree : RemovesTree m j r) (d : Forest m) where
+  gone : ℕ → Bool
+  gone k = is_gone (superiors m) r k
+
+  job_of_removed : (k : ℕ) → superiors m r ≢ Some k → JobMay m (removed (superiors m) r m) j k
+  unfolding removed
+  job_of_removed k root = elim (cases_Bool (is_gone (superiors m) r k)) [
+    | inl t ↦ job_removed (record { root = r; tree = tree; below = t }) (rw t refl)
+    | inr f ↦ job_same (ap (λ b. left_job (is_gone (superiors m) r) b (m.jobs k)) f ∙ left_same m r k (m.jobs k) refl d f root)
+  ]
+
+  holder_of_removed : (c : ℕ) (o : Option ℕ) → m.holders c ≡ o → HolderMay m (removed (superiors m) r m) j c
+  unfolding removed
+  holder_of_removed c None is = holder_same (rw is refl)
+  holder_of_removed c (Some h) is = elim (cases_Bool (is_gone (superiors m) r h)) [
+    | inl t ↦ console_passed r h tree is t (rw (is, t) refl)
+    | inr f ↦ holder_same (rw (is, f) refl)
+  ]
+
+  symbols_of_removed : (k : ℕ) → SymbolsMay m (removed (superiors m) r m) j k
+  unfolding removed
+  symbols_of_removed k = elim (cases_Bool (is_gone (superiors m) r k)) [
+    | inl t ↦ symbols_gone (record { root = r; tree = tree; below = t }) (rw t refl)
+    | inr f ↦ symbols_same (rw f refl)
+  ]
+
+  removed_may : ((k : ℕ) → k ≢ j → superiors m r ≢ Some k) → MayStep m j (removed (superiors m) r m)
+  unfolding removed
+  removed_may apart = record {
+    jobs = λ k ne. job_of_removed k (apart k ne);
+    consoles = λ c. bytes_same refl;
+    holders = λ c. holder_of_removed c (m.holders c) refl;
+    files = files_same refl;
+    symbols = λ k. symbols_of_removed k;
+    clock = refl;
+    version = refl;
+  }
+
+-- LOGOUT, whose superior is told
+itself_gone : (sup : ℕ → Option ℕ) (j : ℕ) → is_gone sup j j ≡ true
+itself_gone sup j = rw (eq-eqb j j refl) refl
+
+own_gone : (m : Machine) (j : ℕ) → (removed (superiors m) j m).jobs j ≡ None
+unfolding removed
+own_gone m j = rw (itself_gone (superiors m) j) refl
+
+stands : (o : Option Whole) → is_some o ≡ true → (q : Whole) × (o ≡ Some q)
+stands (Some q) h = (q, refl)
+stands None h = cc
+
+superior_job : (m : Machine) (j s : ℕ) → Forest m → superiors m j ≡ Some s → (q : Whole) × (m.jobs s ≡ Some q)
+superior_job m j s d up = stands (m.jobs s) (subst (λ (o : Option ℕ). IfSome o (λ i. is_some (m.jobs i) ≡ true)) up (d.standing j))
+
+superior_of_gone : (m : Machine) (j s : ℕ) (q : Whole) → Forest m → superiors m j ≡ Some s → m.jobs s ≡ Some q
+    → (removed (superiors m) j m).jobs s ≡ Some (shut_on (is_gone (superiors m) j) q)
+unfolding removed
+superior_of_gone m j s q d up is = rw (forest_below m j s d up, is) refl
+
+told_may : (m : Machine) (j : ℕ) (o : Option ℕ) → Forest m → superiors m j ≡ o → MayStep m j (effects (told_superior o) j (removed (superiors m) j m))
+unfolding effect removed
+told_may m j None d up = removed_may m j j by_logout d (λ k ne e. (let no : None ≡ Some k = sym up ∙ e in cc))
+told_may m j (Some s) d up =
+    let n = removed (superiors m) j m in
+    let q = superior_job m j s d up in
+    record {
+      jobs = λ k ne. elim (cases_eq k s) [
+        | inl at ↦ superior_left q.0 (up ∙ ap Some (sym at)) (ap m.jobs at ∙ q.1) (none_stays n.jobs s j with_inf (own_gone m j))
+            (here n.jobs s k with_inf at ∙ ap (λ (i : ℕ). option_map with_inf (n.jobs i)) at ∙ ap (option_map with_inf) (superior_of_gone m j s q.0 d up q.1))
+        | inr other ↦ job_then m n j s k with_inf other (job_of_removed m j j by_logout d k (λ e. other (same_Some_of k s (sym e ∙ up))))
+      ];
+      consoles = λ c. bytes_same refl;
+      holders = λ c. holder_then m n j s c with_inf (holder_of_removed m j j by_logout d c (m.holders c) refl);
+      files = files_same refl;
+      symbols = λ k. symbols_then m n j s k with_inf (symbols_of_removed m j j by_logout d k);
+      clock = refl;
+      version = refl;
+    }
+  where
+    same_Some_of : (k s : ℕ) → Some k ≡ Some s → k ≡ s
+    same_Some_of k s e = cc
+
+-- DISMIS
+dismissed_may : (m : Machine) (j : ℕ) (x : View) (p w : ℕ) (r : Result Exit Fault) → Permitted m j (dismissed_by x p w r)
+dismissed_may m j x p w (Ok e) = left_may m j _ e
+dismissed_may m j x p w (Err f) = faults_may m j x f
+
+dismiss_may : (m : Machine) (j : ℕ) (x : View) (a : Ask) → Permitted m j (dismiss x a)
+unfolding dismiss
+dismiss_may m j x a = go (place_of_input a 0)
+  where
+    go : (o : Option ℕ) → Permitted m j (dismiss_at x a o)
+    go (Some p) = dismissed_may m j x p (input a 0) (dismissed x.own.core x.own.job p)
+    go None = ends_may m j x a 0o17
+
+-- USRVAR
+own_variable_may : (m : Machine) (j : ℕ) (x : View) (a : Ask) (o : Option Variable) → Permitted m j (own_variable x a o)
+own_variable_may m j x a None = ends_may m j x a 0o22
+own_variable_may m j x a (Some y) =
+    by_test (Permitted m j) (has_input a 2 && not (by_oneself y)) (fails x a 0o22) (set_own x a y (has_input a 2)) (λ t. ends_may m j x a 0o22) (λ t. go (has_input a 2))
+  where
+    go : (b : Bool) → Permitted m j (set_own x a y b)
+    go true = left_may m j _ _
+    go false = finish_may m j x [] _ (nothing m j)
+
+set_may : (m : Machine) (j s : ℕ) (y : Variable) (w : ℕ) (new write : Bool) → (write ≡ true → MayWrite m j s) → (new && not write) ≡ false → (new && not (by_superior y)) ≡ false
+    → MayStep m j (effects (set_other s y w new) j m)
+unfolding effect
+set_may m j s y w false write leave may can = nothing m j
+set_may m j s y w true true leave may can = writes m j s _ (leave refl) (λ r. variable_set y w (not-false (by_superior y) can))
+set_may m j s y w true false leave may can = cc
+
+other_variable_may : (m : Machine) (j s : ℕ) (x : View) (a : Ask) (write : Bool) (o : Option Variable) → (write ≡ true → MayWrite m j s) → Permitted m j (other_variable x a s write o)
+other_variable_may m j s x a write None leave = ends_may m j x a 0o22
+other_variable_may m j s x a write (Some y) leave =
+    let cs = set_other s y (input a 2) (has_input a 2) in
+    first_holds (Permitted m j)
+    (((has_input a 2 && not write) ⇒ fails x a 0o5) ∷ ((has_input a 2 && not (by_superior y)) ⇒ fails x a 0o22) ∷ [])
+    (finishes x cs (out a.outputs.items (value_of_other s y x.other)))
+    (λ t. ends_may m j x a 0o5, (λ t. ends_may m j x a 0o22, tt))
+    (λ t. finish_may m j x cs _ (set_may m j s y (input a 2) (has_input a 2) write leave t.0 t.1.0))
+
+-- a channel of the caller
+leave_of : (m : Machine) (j : ℕ) (q : Whole) (n s at : ℕ) (write : Bool) → m.jobs j ≡ Some q → channel_at q.channels n ≡ On s write at → write ≡ true → MayWrite m j s
+leave_of m j q n s at write is on w = record { channel = n; position = at; is = own_channel m j q n (On s true at) is (on ∙ ap (λ b. On s b at) w) (λ e. cc) }
+
+uclosed_may : (m : Machine) (j s channel at : ℕ) (write : Bool) → Forest m → channel_in (m.jobs j) channel ≡ On s write at → superiors m s ≡ Some j
+    → MayStep m j (effects (changes.Remove s ∷ []) j m)
+unfolding effect
+uclosed_may m j s channel at write d on up = removed_may m j s (by_uclose channel s at write on) d (λ k ne e. ne (same k j (sym e ∙ up)))
+  where
+    same : (k j : ℕ) → Some k ≡ Some j → k ≡ j
+    same k j e = cc
+
+module _ (m : Machine) (j : ℕ) (q : Whole) (t : Option ℕ) (a : Ask) (d : Forest m) (is : m.jobs j ≡ Some q) where
+  abbrev x : View
+  x = view m j q t
+
+  usrvar_may : Permitted m j (usrvar x a)
+  unfolding usrvar view
+  usrvar_may = go (is_oneself (input a 0)) (channel_at q.channels (input a 0)) refl
+    where
+      on_channel : (c : Chan) → channel_at q.channels (input a 0) ≡ c → Permitted m j (usrvar_of x a (party_on c))
+      on_channel Shut on = ends_may m j x a 0o4
+      on_channel (On s write at) on = other_variable_may m j s x a write (variable_named (input a 1)) (leave_of m j q (input a 0) s at write is on)
+      on_channel _ on = ends_may m j x a 0o5
+
+      go : (b : Bool) (c : Chan) → channel_at q.channels (input a 0) ≡ c → Permitted m j (usrvar_of x a (if b then Oneself else party_on c))
+      go true c on = own_variable_may m j x a (variable_named (input a 1))
+      go false c on = on_channel c on
+
+  logout_may : Permitted m j (logout x)
+  unfolding acted effect view
+  logout_may = λ b ks. told_may m j q.superior d (ap superior_in is)
+
+  -- OPEN of an inferior
+  no_outline : (o : Option Whole) → option_map outline o ≡ None → o ≡ None
+  no_outline None h = refl
+  no_outline (Some p) h = cc
+
+  made_may : (s u y : ℕ) → m.jobs s ≡ None → MayStep m j (effect (changes.Make s u y) j m)
+  unfolding effect
+  made_may s u y none = record {
+    jobs = λ k ne. elim (cases_eq k s) [
+      | inl at ↦ job_made u y (ap m.jobs at ∙ none) (rw (eq-eqb k s at) refl)
+      | inr other ↦ job_same (rw (ne_eqb k s other) refl)
+    ];
+    consoles = λ c. bytes_same refl;
+    holders = λ c. holder_same refl;
+    files = files_same refl;
+    symbols = λ k. elim (cases_eq k s) [
+      | inl at ↦ symbols_none (ap m.jobs at ∙ none) (rw (eq-eqb k s at) refl)
+      | inr other ↦ symbols_same (rw (ne_eqb k s other) refl)
+    ];
+    clock = refl;
+    version = refl;
+  }
+
+  makes_may : (n u y : ℕ) (o : Option ℕ) → least_free x.limit x.outlines ≡ o → Permitted m j (makes_job x a n u y o)
+  unfolding effect view
+  makes_may n u y (Some s) e =
+      finish_may m j x (changes.Make s u y ∷ changes.Open n (opened.Usr s true) ∷ []) []
+      (then_own m (effect (changes.Make s u y) j m) j _ (made_may s u y (no_outline (m.jobs s) (least_empty x.limit x.outlines s e))))
+  makes_may n u y None e = ends_may m j x a 0o14
+
+  opens_may : (n u y : ℕ) (write : Bool) (o : Option ℕ) → Permitted m j (opens_job x a n u y write o)
+  opens_may n u y write (Some s) = finish_may m j x (changes.Open n (opened.Usr s write) ∷ []) [] (opened_may m j n (opened.Usr s write))
+  opens_may n u y write None =
+      first_holds (Permitted m j) (any_named x u y ⇒ fails x a 0o13 ∷ not write ⇒ fails x a 0o12 ∷ []) (makes_job x a n u y (least_free x.limit x.outlines))
+      (λ e. ends_may m j x a 0o13, (λ e. ends_may m j x a 0o12, tt)) (λ e. makes_may n u y (least_free x.limit x.outlines) refl)
+
+  opens_usr_may : Permitted m j (opens_usr x a)
+  unfolding opens_usr
+  opens_usr_may =
+      let control = unwrap_or a.control 0 in
+      let named = inferior_named x (input a 2) (input a 3) in
+      first_holds (Permitted m j) (usr_tests x a (input a 0) control) (opens_job x a (input a 0) (input a 2) (input a 3) (control == 1) named)
+      (λ e. ends_may m j x a 0o4, (λ e. ends_may m j x a 0o22, tt)) (λ e. opens_may (input a 0) (input a 2) (input a 3) (control == 1) named)
+
+  -- TTYLND
+  holds_may : (c s : ℕ) → HolderMay m (effect (changes.Hold c s) j m) j c → MayStep m j (effects (changes.Hold c s ∷ []) j m)
+  unfolding effect
+  holds_may c s h = record {
+    jobs = λ k ne. job_same refl;
+    consoles = λ i. bytes_same refl;
+    holders = λ i. elim (cases_eq i c) [
+      | inl at ↦ subst (HolderMay m (record m { holders = changed m.holders c (Some s) }) j) (sym at) h
+      | inr other ↦ holder_same (rw (ne_eqb i c other) refl)
+    ];
+    files = files_same refl;
+    symbols = λ k. symbols_same refl;
+    clock = refl;
+    version = refl;
+  }
+
+  held_here : (c s : ℕ) → (effect (changes.Hold c s) j m).holders c ≡ Some s
+  unfolding effect
+  held_here c s = rw (eq-eqb c c refl) refl
+
+  own_console : has_console x ≡ true → console_in (m.jobs j) ≡ Some (console_of x)
+  unfolding view
+  own_console h = ap console_in is ∙ console_some q.job.console h
+
+  lands_may : (may : Bool) (number s : ℕ) → (has_console x ≡ true → may ≡ true → HolderMay m (effect (changes.Hold (console_of x) s) j m) j (console_of x)) → Permitted m j (lands x a may number s)
+  lands_may may number s h =
+      first_holds (Permitted m j) (not (has_console x) ⇒ fails x a 0o5 ∷ not may ⇒ fails x a number ∷ []) (finishes x (changes.Hold (console_of x) s ∷ []) [])
+      (λ e. ends_may m j x a 0o5, (λ e. ends_may m j x a number, tt))
+      (λ e. finish_may m j x (changes.Hold (console_of x) s ∷ []) [] (holds_may (console_of x) s (h (not-false (has_console x) e.0) (not-false may e.1.0))))
+
+  takes : (c : ℕ) (o : Option ℕ) → m.holders c ≡ o → can_take x o ≡ true → CanTake m j c
+  unfolding view
+  takes c None held h = from_nobody held
+  takes c (Some i) held h = go (i == j) refl
+    where
+      outlined : (i : ℕ) (o : Option Whole) → m.jobs i ≡ o → is_superior j (option_map outline o) ≡ true → superiors m i ≡ Some j
+      outlined i o at up = ap superior_in at ∙ superior_outlined j o up
+
+      go : (b : Bool) → (i == j) ≡ b → CanTake m j c
+      go true e = from_itself (held ∙ ap Some (eqb-true i j e))
+      go false e = from_inferior i held (outlined i (m.jobs i) refl (sym (ap (λ b. b || is_superior j (option_map outline (m.jobs i))) e) ∙ h))
+
+  holder_is : (c : ℕ) (o : Option ℕ) → m.holders c ≡ o → is_holder x o ≡ true → m.holders c ≡ Some j
+  unfolding view
+  holder_is c (Some i) held h = held ∙ ap Some (eqb-true i j h)
+  holder_is c None held h = cc
+
+  ttylnd_may : Permitted m j (ttylnd x a)
+  unfolding ttylnd view
+  ttylnd_may = go (is_oneself (input a 0)) (channel_at q.channels (input a 0)) refl
+    where
+      c : ℕ
+      c = console_of x
+
+      on_channel : (k : Chan) → channel_at q.channels (input a 0) ≡ k → Permitted m j (ttylnd_of x a (party_on k))
+      on_channel Shut on = ends_may m j x a 0o4
+      on_channel (On s write at) on =
+          lands_may (is_holder x (x.holders c)) 0o5 s
+          (λ has may. console_given s (own_console has) (holder_is c (m.holders c) refl may) (on_inferior m j q (input a 0) s at write d is on) (held_here c s))
+      on_channel _ on = ends_may m j x a 0o5
+
+      go : (b : Bool) (k : Chan) → channel_at q.channels (input a 0) ≡ k → Permitted m j (ttylnd_of x a (if b then Oneself else party_on k))
+      go true k on =
+          lands_may (can_take x (x.holders c)) 0o13 x.slot
+          (λ has may. console_taken (own_console has) (takes c (m.holders c) refl may) (held_here c x.slot))
+      go false k on = on_channel k on
+
+  -- UCLOSE
+  uclose_may : Permitted m j (uclose x a)
+  unfolding uclose view
+  uclose_may = go (channel_at q.channels (input a 0)) refl
+    where
+      goes_may : (s : ℕ) (write : Bool) (at : ℕ) → channel_at q.channels (input a 0) ≡ On s write at → MayStep m j (effects (changes.Remove s ∷ []) j m)
+      goes_may s write at on = uclosed_may m j s (input a 0) at write d (own_channel m j q (input a 0) (On s write at) is on (λ e. cc)) (on_inferior m j q (input a 0) s at write d is on)
+
+      go : (c : Chan) → channel_at q.channels (input a 0) ≡ c → Permitted m j (uclose_on x a c)
+      go (On s write at) on = finish_may m j x (changes.Remove s ∷ []) [] (goes_may s write at on)
+      go Shut on = ends_may m j x a 0o4
+      go _ on = ends_may m j x a 0o5
+
+  -- every call
+  ways_may : Ways (Permitted m j) x a
+  ways_may = record {
+    failing = λ k. ends_may m j x a k;
+    faulting = λ f. faults_may m j x f;
+    stuck = stuck_may m j x;
+    opening = λ h b. finish_may m j x (changes.Open (input a 0) (if b then opened.TtyOut else opened.TtyIn) ∷ []) [] (opened_may m j (input a 0) (if b then opened.TtyOut else opened.TtyIn));
+    arming = λ n h. finish_may m j x (changes.Arm (alarm_of x.clock n) ∷ []) [] (armed_may m j (alarm_of x.clock n));
+    ending = λ cs ss h. finish_may m j x cs ss (all_may m j q t cs d is h);
+    moved = λ cs ss h. moved_may m j x cs ss (all_may m j q t cs d is h);
+    going = λ cs o vs h. going_may m j cs o vs (all_may m j q t cs d is h);
+  }
+
+  apart_may : Apart (Permitted m j) x a
+  apart_may = record {
+    dismiss = dismiss_may m j x a;
+    usrvar = usrvar_may;
+    logout = logout_may;
+    opens_usr = opens_usr_may;
+    ttylnd = ttylnd_may;
+    uclose = uclose_may;
+  }
+
+  decided_may : Permitted m j (decided x a)
+  unfolding decided
+  decided_may =
+      let o = call_named a.name in
+      by_test (Permitted m j) (a.fail == 0) (decided_by x a o) (fails x a a.fail) (λ e. call_ways (Permitted m j) x a o ways_may (waits_may m j) apart_may) (λ e. ends_may m j x a a.fail)
+
+decision_may : (m : Machine) (j : ℕ) (q : Whole) (a : Ask) → Forest m → m.jobs j ≡ Some q → Permitted m j (decision m j q a)
+unfolding decision
+decision_may m j q a d is = decided_may m j q (target q a) a d is
+
+-- a delivery, which may stop the job
+informs_may : (m : Machine) (j : ℕ) (b : Bool) (o : Option ℕ) → Forest m → superiors m j ≡ o → MayStep m j (effects (informs b o) j m)
+unfolding effect
+informs_may m j false o d up = nothing m j
+informs_may m j true None d up = nothing m j
+informs_may m j true (Some s) d up =
+    let q = superior_job m j s d up in
+    jobs_alone m j (on_slot m.jobs s with_inf) (λ k ne.
+    elim (cases_eq k s) [
+      | inl at ↦ superior_informed q.0 (up ∙ ap Some (sym at)) (ap m.jobs at ∙ q.1) (here m.jobs s k with_inf at ∙ ap (option_map with_inf) (ap m.jobs at ∙ q.1))
+      | inr other ↦ job_same (slot_other m.jobs s k with_inf other)
+    ])
+
+each_may : (m : Machine) (j : ℕ) (q : Whole) → Forest m → m.jobs j ≡ Some q → EachCase (λ (t : Transition). MayStep m j t.machine) m j q
+each_may m j q d is = record {
+  delivers = (let e = delivered q.core q.job in then_own m (effects (informs e.stops q.superior) j m) j _ (informs_may m j e.stops q.superior d (ap superior_in is)));
+  changes = λ c k e. own m j _;
+  faults = λ f. own m j _;
+  calls = λ a. decision_may m j q a d is a (reach m j q a);
+}
+
+-- a step changes what it may
+pub step_may : (m n : Machine) (j : ℕ) → Forest m → step m j ≡ Some n → MayStep m j n
+step_may m n j d e = step_has (λ (x : Machine). MayStep m j x) m n j (λ q is. each_may m j q d is) e

@@ -1,0 +1,245 @@
+"""Sessions: wrong transcripts, disturbed sessions, long sessions, and the recorded cases."""
+
+import glob
+import os
+import subprocess
+import sys
+import tempfile
+import unittest
+
+HERE = os.path.dirname(os.path.abspath(__file__))
+sys.path.insert(0, os.path.dirname(HERE))
+
+from itslib.cutting import count_of_ticks, ticks_of                                 # noqa: E402
+from itslib.moments import MOST, count_of_moments, moments_of                       # noqa: E402
+from itslib.program import TOP, at_hand, run_all, run_each                          # noqa: E402
+from itslib.session import Transcript, Wrong, exchanges, lines_of, unrolled         # noqa: E402
+from itslib.telling import tell                                                     # noqa: E402
+from itslib.unlicensed import runs_of, unlicensed                                   # noqa: E402
+
+LOOP = "LOAD U J 0\n100/ 254000000100\nGO 100\n"
+
+
+def text_of(name):
+    """A file of the repository."""
+    with open(os.path.join(TOP, name), encoding="latin-1") as file:
+        return file.read()
+
+
+def told_of(session, transcript):
+    """The lines of a session with their answers."""
+    return exchanges("the session", lines_of(session), Transcript("the transcript", transcript))
+
+
+def tool(name, *words):
+    """Runs a tool: its status, what it writes, and what it says."""
+    done = subprocess.run([os.path.join(TOP, "tools", name), *words], stdout=subprocess.PIPE, stderr=subprocess.PIPE, universal_newlines=True)
+    return done.returncode, done.stdout, done.stderr
+
+
+class Misfits(unittest.TestCase):
+    """A transcript that does not fit is complained of with file and line."""
+
+    def test_place(self):
+        for session, transcript, said in (
+                (LOOP, "T 0 1*\n", r"the session, line 1 \(octal 1\): the transcript, line 1 \(octal 1\): here is 'T 0 1\*'"),
+                (LOOP + "TICK 0 1\n", "J 0\n", r"the session, line 4 \(octal 4\): the transcript, line 2 \(octal 2\): here is the end"),
+                ("END\n", "J 0\n", r"the transcript, line 1 \(octal 1\): nothing in the session asks for this line")):
+            with self.assertRaisesRegex(Wrong, said):
+                told_of(session, transcript)
+
+    def test_letters(self):
+        with self.assertRaisesRegex(Wrong, r"the session, line 4 \(octal 4\): 'T 0 2\*' does not answer 'TICK 0 1'"):
+            list(tell("the session", told_of(LOOP + "TICK 0 1\n", "J 0\nT 0 2*\n")))
+
+
+@unittest.skipUnless(at_hand(), "the program is not at hand")
+class Unlicensed(unittest.TestCase):
+    """What is said of a transcript that the program does not accept."""
+
+    def said(self, name, old, new):
+        """What is said of the transcript of an example in which something is changed."""
+        transcript = text_of("sessions/%s.out" % name)
+        self.assertIn(old, transcript)
+        return "\n".join(unlicensed("S", text_of("sessions/%s.its" % name).encode(), "T", transcript.replace(old, new, 1)))
+
+    def test_accepted(self):
+        self.assertEqual(self.said("first", "J 0", "J 0"), "")
+
+    def test_letter(self):
+        said = self.said("first", "T 0 2*", "T 0 2-")
+        self.assertIn("T, line 2 (octal 2): NO 2: this is no transcript of S", said)
+        self.assertIn("of S: TICK 0 2", said)
+        self.assertIn("tick 1 of this line is wrong: found `-`, licensed `*` or `.`", said)
+        self.assertIn("`-` is licensed exactly if the slot is empty or its job is stopped", said)
+
+    def test_count(self):
+        self.assertIn("licensed: a line 'T 0' with 2 letters; this one has 3", self.said("first", "T 0 2*", "T 0 3*"))
+
+    def test_words(self):
+        said = self.said("first", "000000000005", "000000000006")
+        self.assertIn("licensed, as the program writes it: 'E 0 000200 000000000005'", said)
+
+    def test_words_behind_other_letters(self):
+        said = self.said("tour-moving", "2* 4. 1*\n", "2* 5.\n")
+        self.assertIn("licensed, as the program writes it: 'E 0 001000 000000000000'", said)
+        self.assertIn("rule: EXAM shows the words that the job has after these steps", said)
+
+    def test_end(self):
+        said = self.said("first", "E 0 000200 000000000005\n", "")
+        self.assertIn("found: the end", said)
+        self.assertIn("licensed, as the program writes it: 'E 0 000200 000000000005'", said)
+
+    def test_more(self):
+        said = self.said("first", "E 0 000200 000000000005\n", "E 0 000200 000000000005\nJ 1\n")
+        self.assertIn("no line of the session asks for it", said)
+
+    def test_refusal(self):
+        said = "\n".join(unlicensed("S", b"LOAD U J -\nGO 8\nTICK 0 1\n", "T", "J 0\nT 0 1*\n"))
+        self.assertIn("it answers line 2 (octal 2) of S: GO 8", said)
+        self.assertIn("licensed, as the program writes it: '? 2 SYNTAX'", said)
+
+    def test_cut(self):
+        self.assertEqual(unlicensed("S", b"FILE D A B\n", "T", "? 2 CUT\n"), [])
+
+
+class Runs(unittest.TestCase):
+    """Letters as runs."""
+
+    def test_runs(self):
+        self.assertEqual(runs_of("....*" + "w" * 9), "4. 1* 11w")
+
+
+@unittest.skipUnless(at_hand(), "the program is not at hand")
+class Disturbed(unittest.TestCase):
+    """tools/disturb."""
+
+    def disturb(self, session, *words):
+        """Runs the tool on a session."""
+        with tempfile.NamedTemporaryFile("w", suffix=".its") as file:
+            file.write(session)
+            file.flush()
+            return tool("disturb", *words, file.name)
+
+    def test_break(self):
+        session = "LOAD U J -\n100/ 201040000005 45700000000 201040000006 254000000103\nGO 100\nTICK 0 2\nEXAM 0 1 1\nEND\n"
+        status, written, _ = self.disturb(session, "--by", "stop")
+        self.assertEqual(status, 0, written)
+        self.assertIn("yes, with BRK set again after CONT, which clears it", written)
+
+    def test_range(self):
+        session = LOOP + "TICK 0 20\nEXAM 0 100 1\nEND\n"
+        status, written, _ = self.disturb(session, "--from", "3", "--to", "5")
+        self.assertIn("16 ticks, 3 of them disturbed by EXAM: 3 the same, 0 not", written)
+        self.assertIn("20 ticks, 0 of them", self.disturb(session.replace("20", "24"), "--slot", "1")[1])
+
+    def test_too_many(self):
+        status, written, said = self.disturb(LOOP + "TICK 0 1000\n" * 9 + "EXAM 0 100 1\nEND\n")
+        self.assertEqual((status, written), (1, ""))
+        self.assertIn("4608 ticks would be disturbed, and 4096 may be: narrow them by --from, --to or --slot", said)
+
+
+class Long(unittest.TestCase):
+    """Long sessions."""
+
+    def test_ticks(self):
+        for path in glob.glob(os.path.join(TOP, "sessions", "*.its")):
+            with open(path, encoding="ascii") as file:
+                told = told_of(file.read(), text_of("sessions/%s.out" % os.path.basename(path)[:-4]))
+            ticks = list(ticks_of(told))
+            self.assertEqual([tick.number for tick in ticks], list(range(1, count_of_ticks(told) + 1)))
+            some = [tick for tick in ticks if 3 <= tick.number <= 9 and tick.slot == 0]
+            self.assertEqual(list(ticks_of(told, 3, 9, 0)), some)
+            self.assertEqual(count_of_ticks(told, 3, 9, 0), len(some))
+            self.assertEqual(len(moments_of(unrolled(told))), count_of_moments(unrolled(told)))
+
+    def test_ten_million_ticks(self):
+        count = 20000
+        told = told_of(LOOP + "TICK 0 1000\n" * count, "J 0\n" + "T 0 1000*\n" * count)
+        with self.assertRaisesRegex(Wrong, "a page has at most %d moments, and this session has 10240002" % MOST):
+            moments_of(told)
+
+    def test_moments_share_their_lines(self):
+        told = told_of(LOOP + "EXAM 0 100 1\n" * 4000, "J 0\n" + "E 0 000100 254000000100\n" * 4000)
+        moments = moments_of(told)
+        self.assertTrue(all(moment.lines is moments[0].lines for moment in moments))
+        self.assertEqual(moments[2].session(["PEEK 0"]).decode(), LOOP + "EXAM 0 100 1\nPEEK 0\n")
+
+    def peak(self, name, *words):
+        """Runs a tool: its status, and the most memory that it has had, in KB."""
+        with open(os.devnull, "wb") as nowhere:
+            process = subprocess.Popen([os.path.join(TOP, "tools", name), *words], stdout=nowhere, stderr=nowhere)
+        _, status, usage = os.wait4(process.pid, 0)
+        process.returncode = status
+        return status, usage.ru_maxrss
+
+    def test_memory(self):
+        count = 100000
+        with tempfile.TemporaryDirectory() as folder:
+            paths = [os.path.join(folder, name) for name in ("long.its", "long.out")]
+            for path, text in zip(paths, (LOOP + "TICK 0 1\nEXAM 0 100 1\n" * count, "J 0\n" + "T 0 1*\nE 0 000100 254000000100\n" * count)):
+                with open(path, "w", encoding="ascii") as file:
+                    file.write(text)
+            for words in (["explain"], ["timeline", "--lines", "100-200"]):
+                status, most = self.peak(*words, *paths)
+                self.assertEqual(status, 0)
+                self.assertLess(most, 200 * 1024, words)
+            self.assertIn("narrow it by --lines A-B", tool("timeline", *paths)[2])
+
+
+@unittest.skipUnless(at_hand(), "the program is not at hand")
+class Recorded(unittest.TestCase):
+    """The recorded cases of sessions/recorded."""
+
+    def test_cases(self):
+        for command, ending in (("run", ".its"), ("asm", ".asm"), ("verify", ".txt")):
+            paths = sorted(glob.glob(os.path.join(TOP, "sessions", "recorded", "*" + ending)))
+            self.assertTrue(paths)
+            given = [text_of(os.path.relpath(path, TOP)).encode("latin-1") for path in paths]
+            for path, outcome in zip(paths, run_each(given, command)):
+                with self.subTest(path=path):
+                    self.assertEqual(outcome.transcript, text_of(os.path.relpath(path[:-4] + ".out", TOP)))
+
+
+@unittest.skipUnless(at_hand(), "the program is not at hand")
+class Jobs(unittest.TestCase):
+    """tools/job, tools/listing and tools/explain on assembly texts."""
+
+    def job(self, tail, *words):
+        """Runs tools/job with a tail."""
+        with tempfile.NamedTemporaryFile("w", suffix=".its") as file:
+            file.write(tail)
+            file.flush()
+            return tool("job", *words, os.path.join(TOP, "sessions", "first.asm"), file.name)
+
+    def test_symbols(self):
+        status, written, said = self.job("TICK 0 2\nEXAM 0 X 1\nLIST 0 START+1 1\n")
+        self.assertEqual((status, said), (0, ""))
+        for line in ("EXAM 0 X 1", "= EXAM 0 200 1", "E 0 000200 000000000005", "= LIST 0 101 1", "000101 (START+1): MOVEM 1,X"):
+            self.assertIn(line, written)
+
+    def test_session(self):
+        status, written, _ = self.job("VERSION 2\nTICK 0 2\nEXAM 0 X 1\n", "--session")
+        self.assertEqual(status, 0)
+        self.assertTrue(written.endswith("\nGO 000100\n; VERSION 2\nTICK 0 2\nEXAM 0 200 1\nEND\n"), written)
+        self.assertEqual(run_all([written.encode()])[0].transcript, "J 0\nT 0 2*\nE 0 000200 000000000005\n")
+
+    def test_refused(self):
+        status, written, _ = self.job("EXAM 0 X 0\n")
+        self.assertEqual(status, 1)
+        self.assertIn("line 1 (octal 1), column 12, is refused as RANGE", written)
+
+    def test_no_tail(self):
+        status, written, _ = tool("job", os.path.join(TOP, "sessions", "echo.asm"))
+        self.assertEqual(status, 0)
+        self.assertIn("T 0 4. 1* 5. 1* 5. 760w", written)
+
+    def test_listings(self):
+        for path in glob.glob(os.path.join(TOP, "sessions", "*.asm")):
+            status, written, said = tool("listing", path)
+            self.assertEqual((status, said), (0, ""), path)
+        self.assertIn("000100  201040000005         6 (6)  START:  MOVEI 1,5", tool("listing", os.path.join(TOP, "sessions", "first.asm"))[1])
+
+
+if __name__ == "__main__":
+    unittest.main()
