@@ -107,7 +107,7 @@ def wrong_word(text: str, column: int) -> Optional[Cause]:
     if text and DIGITS.issuperset(text):
         return Cause("a number of %d digits: a word has 12" % len(text), column + 12) if len(text) > 12 else None
     if known({}, text, 0) is not None or re.fullmatch(r"[A-Z0-9.+-]+", text) and wrong_expression(text, column) is None:
-        return Cause("a whole word is digits alone: an expression is a half of it, as 0,,%s" % text, column)
+        return Cause("a whole word is digits alone: an expression is half a word, as 0,,%s" % text, column)
     return wrong_expression(text, column) or Cause("'%s' is no word: it is 1 to 12 octal digits, or two halves as 1,,2" % text, column)
 
 

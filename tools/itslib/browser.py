@@ -18,7 +18,7 @@ from .session import Wrong
 NAMES = ("chromium", "chromium-browser", "google-chrome", "chrome")
 FLAGS = ["--headless=new", "--no-sandbox", "--disable-gpu", "--hide-scrollbars", "--no-first-run", "--disable-extensions",
          "--disable-background-networking", "--disable-component-update", "--remote-debugging-port=0"]
-PATIENCE = 180.0     # seconds; a machine may have much else to do
+PATIENCE = 900.0     # seconds until something is taken to have failed: a machine may have much else to do
 
 
 class Socket:

@@ -54,7 +54,7 @@ def bad_byte(text: str) -> Optional[Cause]:
     """The first byte that may stand in no line."""
     for at, c in enumerate(text, 1):
         if text.startswith("\xef\xbb\xbf") and at == 1:
-            return Cause("a byte order mark stands before the text: tail -c +4 FILE > NEW takes it away", 1)
+            return Cause("a byte order mark is before the text: tail -c +4 FILE > NEW takes it away", 1)
         if c == "\r":
             return Cause("a carriage return: lines end with LF alone, and not with CR and LF; tr -d '\\r' < FILE > NEW converts it", at)
         if c == "\t":
@@ -81,7 +81,7 @@ def wrong_place(line: Line) -> Optional[Cause]:
     if line.kind not in LINES and line.kind not in inside:
         return None
     if line.kind == "VERSION" and line.number > 1:
-        return Cause("not allowed here: VERSION stands in line 1 alone", starts(line)[0])
+        return Cause("not allowed here: VERSION is allowed in line 1 alone", starts(line)[0])
     if line.kind in ("RO", "SYM", "RUN", "LIST") and line.version == 1:
         return Cause("%s lines are of version 2 of the session text: line 1 has to be VERSION 2" % line.kind, starts(line)[0])
     wanted = inside.get(line.kind, "")
@@ -89,21 +89,21 @@ def wrong_place(line: Line) -> Optional[Cause]:
         return None
     if line.block:
         loads = "a/, RO and SYM lines" if line.version == 2 else "a/ lines"
-        return Cause("not allowed here: the block of %s is open since %s, and up to its %s only %s may stand in it" % (
+        return Cause("not allowed here: the block of %s is open since %s, and up to its %s only %s are allowed in it" % (
             line.block, at_line(line.since), CLOSES[line.block], loads if line.block == "LOAD" else "/ lines"), starts(line)[0])
     if line.kind == CLOSES[wanted]:
         return Cause("not allowed here: %s closes the block of %s, and none is open" % (line.kind, wanted), starts(line)[0])
-    return Cause("not allowed here: %s lines stand only behind a %s line, up to its %s" % (
+    return Cause("not allowed here: %s lines are allowed only after a %s line, up to its %s" % (
         line.kind, wanted, CLOSES[wanted]), starts(line)[0])
 
 
 def remark(line: Line) -> Optional[Cause]:
-    """A comment behind a line."""
+    """A comment after a line."""
     form = FORMS.get(line.kind, "").split()
     for at, word in enumerate(line.words):
         name_fits = 0 < at <= len(form) and form[at - 1] == "name"
         if ";" in word and not name_fits:
-            return Cause("a comment behind a line: a comment needs a line of its own", starts(line)[at] + word.index(";"))
+            return Cause("a comment after a line: a comment needs a line of its own", starts(line)[at] + word.index(";"))
     return None
 
 
@@ -115,7 +115,7 @@ def unknown(line: Line) -> Optional[Cause]:
     if first.upper() in LINES:
         return Cause("lower case: write %s" % first.upper(), starts(line)[0])
     if "/" in first or line.words[1:2] == ["/"] or line.words[1:] and line.words[1].startswith("/"):
-        return Cause("an address and its / are one word, and a space stands behind it: 100/ 1", starts(line)[0])
+        return Cause("an address and its / are one word, with a space after it: 100/ 1", starts(line)[0])
     if first[0] in "#*-/":
         return Cause("no line begins with %s; a comment begins with ;" % first, starts(line)[0])
     if first[0].isdigit():
@@ -142,7 +142,7 @@ def no_name(word: str, column: int) -> Optional[Cause]:
         if c.islower():
             return Cause("lower case in the name '%s': write %s" % (word, word.upper()), column + at)
         if not "!" <= c <= "_":
-            return Cause("'%s' may not stand in a name" % c, column + at)
+            return Cause("'%s' may not occur in a name" % c, column + at)
     if len(word) > 6:
         return Cause("a name of %d letters: it may have 6" % len(word), column + 6)
     return None
@@ -248,7 +248,7 @@ def no_job(line: Line, known: Known) -> Cause:
         else "has made none"), starts(line)[1])
 
 
-FULL = {"SYM": "the job has 512 symbols, the most that it can have", "FILE": "256 files stand, the most that there can be",
+FULL = {"SYM": "the job has 512 symbols, the most that it can have", "FILE": "there are 256 files, the most that there can be",
         "a/": "1024 pages are mapped, the most that there can be", "/": "all 2048 blocks of files are in use"}
 
 
@@ -278,10 +278,10 @@ def cause_of(exchange: Exchange, known: Known) -> Cause:
     if reason == "NOFILE":
         return Cause("no file has these names: directory, name 1, name 2", columns[1])
     if reason == "EXISTS":
-        return Cause("a file with these names stands already", columns[1])
+        return Cause("there is already a file with these names", columns[1])
     if reason == "FULL" and line.kind == "LOAD":
         most = 96 if line.version == 2 else 64
-        return Cause("%d jobs stand, the most that there can be in version %d" % (most, line.version), columns[0])
+        return Cause("there are %d jobs, the most that there can be in version %d" % (most, line.version), columns[0])
     if reason == "FULL":
         return Cause(FULL.get(line.kind, "there is no room"), columns[0])
     return Cause("docs/SESSION.md, \"Refusals\", has the reasons")

@@ -10,10 +10,12 @@ import signal
 import struct
 import termios
 import time
-from typing import List, Optional, Tuple
+from typing import Callable, List, Optional, Tuple
 
 PATIENCE = 300            # seconds until something is taken to have failed: machines may be busy
 SEQUENCE = re.compile(rb"\x1b(?:\[([?]?[0-9;]*)([A-Za-z@])|[()][AB0]|([78=>M]))")
+STATUS = re.compile(rb"\x1b7(.*?)\x1b8", re.DOTALL)      # what is drawn elsewhere on the screen: the status line
+BEGUN = re.compile(rb"\x1b[^A-Za-z@78]*\Z")               # a command that is not whole yet
 
 
 class Glass:
@@ -110,15 +112,33 @@ class Missing(Exception):
     """What was waited for did not come."""
 
 
+def texts(seen: bytes) -> str:
+    """What came, without commands of the terminal and without status lines. What is not whole yet is left out, so that a longer text begins
+    with a shorter one."""
+    begun = seen.rfind(b"\x1b7")
+    if begun >= 0 and seen.find(b"\x1b8", begun) < 0:
+        seen = seen[:begun]
+    return SEQUENCE.sub(b"", STATUS.sub(b"", BEGUN.sub(b"", seen))).decode("latin-1")
+
+
+def state_of_process(process: int) -> str:
+    """Whether a process runs (R), sleeps (S) or has ended (Z), as the system says."""
+    with open("/proc/%d/stat" % process) as file:
+        return file.read().rsplit(")", 1)[1].split()[0]
+
+
 class Person:
     """Somebody at a terminal of their own, at which a command runs."""
 
-    def __init__(self, command: List[str], columns: int = 80, rows: int = 24, term: str = "xterm"):
+    def __init__(self, command: List[str], columns: int = 80, rows: int = 24, term: str = "xterm", errors: bool = True):
+        """Errors: whether what the command writes on standard error reaches the terminal."""
         self.glass, self.seen = Glass(max(columns, 1), max(rows, 1)), b""
         self.child, self.master = pty.fork()
         if self.child == 0:
             os.environ["TERM"] = term
             os.environ["INPUTRC"] = os.devnull
+            if not errors:
+                os.dup2(os.open(os.devnull, os.O_WRONLY), 2)
             self.size(0, columns, rows)
             os.execvp(command[0], command)
         self.status: Optional[int] = None
@@ -154,31 +174,51 @@ class Person:
         return bool(data)
 
     def text(self) -> str:
-        """All that came, without commands of the terminal."""
-        return SEQUENCE.sub(b"", self.seen).decode("latin-1")
+        """All that came, as text."""
+        return texts(self.seen)
+
+    def wait_until(self, holds: Callable[[], bool], missing: Callable[[], str]) -> None:
+        """Waits until something holds; what is missing if it does not."""
+        until = time.monotonic() + PATIENCE
+        while not holds():
+            if time.monotonic() > until or not self.read(max(until - time.monotonic(), 0)):
+                raise Missing(missing())
 
     def wait(self, wanted: str, since: int = 0) -> int:
         """Waits until a text comes after a place in what came: the place after it."""
-        until = time.monotonic() + PATIENCE
-        while True:
-            at = self.text().find(wanted, since)
-            if at >= 0:
-                return at + len(wanted)
-            if time.monotonic() > until or not self.read(max(until - time.monotonic(), 0)):
-                raise Missing("%r does not come; what came ends with %r" % (wanted, self.text()[-300:]))
+        self.wait_until(lambda: wanted in self.text()[since:],
+                        lambda: "%r does not come; what came ends with %r" % (wanted, self.text()[-300:]))
+        return self.text().index(wanted, since) + len(wanted)
 
     def wait_glass(self, row: int, wanted: str) -> str:
         """Waits until a row of the screen has a text: the row."""
-        until = time.monotonic() + PATIENCE
-        while wanted not in self.glass.lines()[row]:
-            if time.monotonic() > until or not self.read(max(until - time.monotonic(), 0)):
-                raise Missing("row %d has not %r: %r" % (row, wanted, self.glass.lines()))
+        self.wait_until(lambda: wanted in self.glass.lines()[row], lambda: "row %d has not %r: %r" % (row, wanted, self.glass.lines()))
         return self.glass.lines()[row]
 
-    def settle(self, seconds: float = 0.3) -> None:
-        """Waits until nothing comes for a while."""
-        while self.read(seconds):
-            pass
+    def wait_shown(self, wanted: str) -> None:
+        """Waits until some row of the screen has a text."""
+        self.wait_until(lambda: any(wanted in row for row in self.glass.lines()), lambda: "no row has %r: %r" % (wanted, self.glass.lines()))
+
+    def bytes_until(self, place: int) -> int:
+        """How many bytes had come as soon as what came was so long as a text."""
+        few, many = 0, len(self.seen)
+        while few < many:
+            middle = (few + many) // 2
+            few, many = (few, middle) if len(texts(self.seen[:middle])) >= place else (middle + 1, many)
+        return few
+
+    def wait_status(self, wanted: str, since: int) -> None:
+        """Waits until a status line that has a text is drawn after so many bytes."""
+        self.wait_until(lambda: any(wanted.encode() in found.group(1) for found in STATUS.finditer(self.seen, since)),
+                        lambda: "no status line has %r: %r" % (wanted, self.seen[since:]))
+
+    def wait_asleep(self) -> None:
+        """Waits until the command sleeps: what it has shown was the last that it did, and it waits for a key."""
+        until = time.monotonic() + PATIENCE
+        while state_of_process(self.child) != "S":
+            if time.monotonic() > until:
+                raise Missing("the command does not come to rest")
+            self.read(0.01)
 
     def hang_up(self) -> None:
         """The terminal is gone."""

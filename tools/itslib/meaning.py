@@ -6,11 +6,11 @@ from typing import Callable, Dict, List, Set
 
 from .session import Exchange, peek_of, runs_of, state_of, turns_of
 from .symbols import Symbols
-from .words import (CALLS, DIGITS, ERRORS, FATAL, LETTERS, PENDING, STATES, ascii_of, byte_pointer, call_name, character,
+from .words import (CALLS, DIGITS, ERRORS, FATAL, LETTERS, PENDING, STATES, WAITS, ascii_of, byte_pointer, call_name, character,
                     flags_of, held, number, pc_of, pc_word, pending, short, signed, sixbit, typed)
 
 # Words that stand for themselves: devices, and the variables of USRVAR
-NAMES = {"TTY", "DSK", "USR", "UNAME", "JNAME", "UIND", "SUPPRO", "CNSL", "PAGES", "UPC", "USTP", "PIRQC", "IFPIR",
+NAMES = {"TTY", "DSK", "USR", "LNK", "UNAME", "JNAME", "UIND", "SUPPRO", "CNSL", "PAGES", "UPC", "USTP", "PIRQC", "IFPIR",
          "MASK", "MSK2", "DF1", "DF2"}
 END_OF_FILE = "777777000003"
 RUNS = 5                  # up to so many runs of a T line are told one by one
@@ -61,7 +61,7 @@ def reading(word: str) -> str:
     if word in CALLS or name in NAMES:
         return "the name " + CALLS.get(word, name)
     if word == END_OF_FILE:
-        return "what .IOT gives at the end of a file"
+        return "what .IOT gives at the end of a file, an inferior or a link"
     if word == "400000000000":
         return "bit 0 alone"
     if abs(value) <= 0o777777:
@@ -176,7 +176,7 @@ def says_type(exchange: Exchange, known: Known) -> List[str]:
     """TYPE c and bytes"""
     line, dropped = exchange.line, number(exchange.words[2])
     said = "console %s gets %s" % (line.words[1], typed(line.words[2:]))
-    return [said + ("" if dropped == 0 else "; %s dropped, as it keeps 64 at most" % count_of(dropped, "byte is", "bytes are"))]
+    return [said + ("" if dropped == 0 else "; %s dropped, because it keeps 64 at most" % count_of(dropped, "byte is", "bytes are"))]
 
 
 def says_drain(exchange: Exchange, known: Known) -> List[str]:
@@ -188,7 +188,7 @@ def says_drain(exchange: Exchange, known: Known) -> List[str]:
 def says_clock(exchange: Exchange, known: Known) -> List[str]:
     """CLOCK n"""
     known.clock += number(exchange.line.words[1])
-    return ["the clock comes to %o thirtieths of a second, %s seconds in decimal" % (known.clock, round(known.clock / 30, 2))]
+    return ["the clock reaches %o thirtieths of a second, %s seconds in decimal" % (known.clock, round(known.clock / 30, 2))]
 
 
 def says_interrupt(exchange: Exchange, known: Known) -> List[str]:
@@ -277,15 +277,16 @@ def frame(words: List[str]) -> List[str]:
     peek = peek_of(words)
     if peek.state == "USER":
         return ["in user mode, in no call"]
-    call = "" if peek.call == "-" else call_name(peek.call) + ": "
-    said = ["%s%s (%s); %s to user mode" % (call, STATES.get(peek.state, "?"), peek.state, count_of(peek.left, "step"))]
     name = call_name(peek.call)
+    call = "" if peek.call == "-" else name + ": "
+    waits = " " + WAITS[name] if peek.state == "WAITING" and name in WAITS else ""
+    said = ["%s%s%s (%s); %s to user mode" % (call, STATES.get(peek.state, "?"), waits, peek.state, count_of(peek.left, "step"))]
     if name == "SIOT" and peek.a != "-":
         pointer = byte_pointer(peek.a)
-        said.append("in core stand the pointer %s%s and the count %s" % (peek.a, " (%s)" % pointer if pointer else "", short(peek.b)))
+        said.append("core has the pointer %s%s and the count %s" % (peek.a, " (%s)" % pointer if pointer else "", short(peek.b)))
     elif peek.a != "-":
         told = reading(peek.a)
-        said.append("in core stands the argument %s%s" % (peek.a, " (%s)" % told if told else ""))
+        said.append("core has the argument %s%s" % (peek.a, " (%s)" % told if told else ""))
     if peek.held != "-":
         what = held(peek.held, peek.a)
         said.append("it holds the word " + what if what[0] in DIGITS else "it holds the byte %s (%s)" % (what, short(peek.held)))

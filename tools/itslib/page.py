@@ -16,7 +16,7 @@ from .picture import BROKEN, ENDED, KINDS, LETTERS, MANY, NOTES, PATTERNS, STYLE
 from .program import TOP
 from .session import LINES, Wrong
 from .symbols import IMMEDIATE
-from .words import CALLS, ERRORS, FATAL, FLAGS, PENDING, STATES
+from .words import CALLS, ERRORS, FATAL, FLAGS, PENDING, STATES, WAITS
 from .words import LETTERS as TICKS
 
 FOLDER = os.path.join(TOP, "tools", "page")
@@ -28,7 +28,7 @@ ITEM = '<script type="application/json" id="%s">\n%s\n</script>'
 
 def tables() -> dict:
     """The tables of itslib that the scripts of the page use, too."""
-    return {"calls": CALLS, "states": STATES, "errors": {"%o" % number: words for number, words in ERRORS.items()},
+    return {"calls": CALLS, "states": STATES, "waits": WAITS, "errors": {"%o" % number: words for number, words in ERRORS.items()},
             "pending": [["%o" % bit, *names] for bit, names in PENDING.items()], "lastFatal": "%o" % (FATAL + 1 >> 1),
             "flags": [["%o" % bit, name] for bit, name in FLAGS.items()], "ticks": TICKS, "lines": LINES, "forms": FORMS,
             "written": WRITTEN, "ranges": RANGES, "full": FULL, "inputs": INPUTS, "immediate": sorted(IMMEDIATE), "letters": LETTERS, "kinds": KINDS,

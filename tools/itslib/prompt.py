@@ -13,7 +13,7 @@ from .words import number
 PROMPT = "its> "
 GO, QUIT, STAY = "go", "quit", "stay"
 HELP = """\
-Return       makes one tick of the job, and shows where it is and its next instruction
+Return       gives the job one tick, and shows where it is and its next instruction
 go           the job goes on, and the terminal is its console again
 slot S       sits down at the console of the job in slot S
 save FILE    keeps the session so far in FILE, and its transcript beside it

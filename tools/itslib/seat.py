@@ -203,7 +203,7 @@ class Seat:
         tried = {slot: letter for slot, letter in letters.items() if in_transfer(peeks[slot])}
         consoles = {slot: state["console"] for slot, state in states.items()}
         return (frame_of(peeks.get(self.slot), states.get(self.slot)),
-                holder_of(consoles, tried, self.runner.console, self.slot))
+                holder_of(consoles, tried, self.runner.console, self.slot, self.sitting.has_links))
 
 
 def in_transfer(peek: Peek) -> bool:
@@ -219,4 +219,4 @@ def frame_of(peek: Optional[Peek], state: Optional[Dict[str, str]]) -> str:
     if peek.state == "USER":
         return "USER" + stopped
     call = "" if peek.call == "-" else " in " + call_name(peek.call)
-    return "%s%s, %o owed%s" % (peek.state, call, peek.left, stopped)
+    return "%s%s, %o left%s" % (peek.state, call, peek.left, stopped)

@@ -6,8 +6,10 @@ transcript that the program wrote for it, and where the two do not fit that is s
 
 import sys
 from dataclasses import dataclass
+from itertools import islice
 from typing import Dict, List, Optional, Tuple
 
+from .shares import Taker, shares
 from .words import number
 
 
@@ -165,7 +167,7 @@ class Transcript:
         words = self.words()
         if not words or words[0] != letter:
             found = "'%s'" % self.lines[self.at] if words else "the end"
-            raise Wrong("%s: here is %s, where the session asks for a line %s" % (self.place(), found, letter))
+            raise Wrong("%s: here is %s, but the session asks for a line %s" % (self.place(), found, letter))
         self.at += 1
         return words
 
@@ -173,11 +175,20 @@ class Transcript:
         """How many of the next lines may be turns of a RUN line."""
         most, ticks, count = number(line.words[1]), number(line.words[2]), 0
         for one in self.lines[self.at:self.at + most]:
-            words = one.split(" ")
-            if words[0] != "T" or len(words) < 3 or words[2][-1] == "-" or sum(number(run[:-1]) for run in words[2:]) != ticks:
+            if ticks_of(one) != ticks:
                 break
             count += 1
         return count
+
+    def turns_ahead(self) -> Tuple[List[Optional[int]], str]:
+        """The ticks of each T line from here to the next line of another kind, and the number of the line of the session that is refused
+        there, as it is written, else nothing."""
+        until = self.at
+        while until < len(self.lines) and self.lines[until].startswith("T "):
+            until += 1
+        words = self.lines[until].split(" ") if until < len(self.lines) else []
+        refused = words[1] if len(words) == 3 and words[0] == "?" else ""
+        return [ticks_of(one) for one in self.lines[self.at:until]], refused
 
     def refusal(self, line_number: int) -> str:
         """The reason, where the line of this number is refused here, else nothing."""
@@ -205,47 +216,62 @@ def take_answer(transcript: Transcript, line: Line) -> None:
             transcript.take("/")
 
 
+def ticks_of(answer: str) -> Optional[int]:
+    """How many ticks a T line has, where it can be a turn of RUN: then the job ran at its beginning."""
+    words = answer.split(" ")
+    if words[0] != "T" or len(words) < 3 or words[2].endswith("-"):
+        return None
+    try:
+        return sum(number(run[:-1]) for run in words[2:])
+    except ValueError:
+        return None
+
+
 def exchanges(name: str, lines: List[Line], transcript: Transcript) -> List[Exchange]:
     """Each line of the session up to its END, its end or the line that is refused, with its answer. A RUN may end early, which
     the transcript does not say: its turns are as many as may be, so that all lines fit."""
     told: List[Exchange] = []
-    fewer: List[Tuple[int, int]] = []       # RUN lines that may have had fewer turns: their places in `told`, and how many
-    complaint, turns = None, None
-    while True:
-        try:
-            match(name, lines, transcript, told, fewer, turns)
-            return told
-        except Wrong as problem:
-            complaint = complaint or problem
-            if not fewer:
-                raise complaint
-            place, turns = fewer.pop()
-            transcript.at = told[place].at
-            del told[place:]
-
-
-def match(name: str, lines: List[Line], transcript: Transcript, told: List[Exchange], fewer: List[Tuple[int, int]],
-          turns: Optional[int]) -> None:
-    """Goes on with the lines behind those that are told. The first, where it is a RUN that is tried again, has so many turns."""
-    for line in lines[len(told):]:
+    planned: Dict[int, Optional[int]] = {}      # how many turns RUN lines have, by their numbers; None if the lines do not fit
+    for at, line in enumerate(lines):
         start = transcript.at
         try:
             reason = transcript.refusal(line.number)
             if not reason and line.kind not in ("", "a/", "/"):
                 take_answer(transcript, line)
             if not reason and line.kind == "RUN":
-                turns = transcript.turns(line) if turns is None else turns
-                if turns:
-                    fewer.append((len(told), turns - 1))
-                transcript.at += turns
+                if line.number not in planned:
+                    planned = turns_planned(lines, at, transcript)
+                turns = planned.get(line.number)
+                transcript.at += transcript.turns(line) if turns is None else turns
         except (Wrong, ValueError, IndexError) as problem:
             raise misfit(name, line, problem)
         told.append(Exchange(line, transcript.lines, reason, start, transcript.at))
-        turns = None
         if reason or line.kind == "END":
             break
     if transcript.words():
         raise Wrong("%s: nothing in %s asks for this line" % (transcript.place(), name))
+    return told
+
+
+def turns_planned(lines: List[Line], at: int, transcript: Transcript) -> Dict[int, Optional[int]]:
+    """How many turns this RUN line has, and each RUN line behind it that is answered before the next line of the transcript that is no T
+    line: these T lines are shared out among them and the TICK lines between them."""
+    ticks, refused = transcript.turns_ahead()
+    takers: List[Taker] = []
+    numbers: List[int] = []                     # of each taker that is a RUN; else 0
+    for line in islice(lines, at, None):
+        letter = LINES.get(line.kind, (0, ""))[1]
+        if "%o" % line.number == refused or line.kind == "END" or letter not in ("", "T"):
+            break
+        words = line.words
+        if line.kind == "RUN" and len(words) == 3 and not set(words[1] + words[2]) - set("01234567"):
+            takers.append((int(words[1], 8), int(words[2], 8)))
+            numbers.append(line.number)
+        elif letter == "T":
+            takers.append((1, None))
+            numbers.append(0)
+    shared = shares(takers, ticks)
+    return dict(zip(numbers, shared)) if shared else dict.fromkeys(numbers)
 
 
 def turns_of(exchange: Exchange) -> List[Exchange]:

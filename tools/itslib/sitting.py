@@ -10,11 +10,13 @@ from typing import Callable, List, Optional, Tuple
 
 from .meaning import Known, meaning
 from .program import run
-from .session import Exchange, Places, Transcript, Wrong, exchanges, kind_of, lines_of, split, state_of
+from .session import Exchange, Places, Transcript, Wrong, at_line, exchanges, kind_of, lines_of, split, state_of
+from .words import as_sixbit
 
 MOST = 0o4000000 - 0o10000        # lines of a session that is still added to: it may have 4000000
 AT_ONCE = 4096                    # so many bytes go into a pipe at once
 QUIET = ("", "TICK", "RUN", "TYPE", "DRAIN")      # lines that need not be kept in mind to explain later ones
+LNK = as_sixbit("LNK").encode()                   # the device of links
 
 
 class Over(Exception):
@@ -134,7 +136,7 @@ def start_of(program: str, name: str, text: str) -> Start:
     told = exchanges(name, lines_of(text), Transcript("its transcript", outcome.transcript))
     refused = next((one for one in told if one.reason), None)
     if refused:
-        raise Wrong("%s: line %d is refused as %s; tools/explain says why" % (name, refused.line.number, refused.reason))
+        raise Wrong("%s: %s is refused as %s; tools/explain says why" % (name, at_line(refused.line.number), refused.reason))
     return Start(text, told, len(split(outcome.transcript)))
 
 
@@ -154,6 +156,11 @@ class Sitting:
     def version(self) -> int:
         """The version of the session text."""
         return self.places.version
+
+    @property
+    def has_links(self) -> bool:
+        """Whether the lines so far name the device of links, so that jobs may wait at one."""
+        return LNK in self.text
 
     def give(self, texts: List[str]) -> None:
         """Gives lines to the program. They are kept first."""

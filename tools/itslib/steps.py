@@ -1,9 +1,10 @@
 """Steps through a session in the page docs/its.html as a reader does, and compares what the page shows with what the program answered it, and
 that with the session's transcript."""
 
+import time
 from typing import Dict, List
 
-from .browser import Browser
+from .browser import PATIENCE, Browser
 from .session import Exchange, Transcript, Wrong, exchanges, lines_of, runs_of, unrolled
 from .words import call_name, number
 
@@ -28,11 +29,11 @@ SHOWN = """(() => {
   };
 })()"""
 
-# Waits until a condition holds; gives whether it does
+# Waits for a while until a condition holds; gives whether it does
 SETTLED = """new Promise(resolve => {
   const begun = performance.now(), look = () => {
     const holds = %s;
-    if (holds || performance.now() - begun > 170000) resolve(Boolean(holds)); else setTimeout(look, 10);
+    if (holds || performance.now() - begun > 20000) resolve(Boolean(holds)); else setTimeout(look, 10);
   };
   look();
 })"""
@@ -55,8 +56,11 @@ KEYS = (("ArrowRight", False, "tick"), ("ArrowLeft", False, "tick-back"), ("Arro
 
 
 def wait(browser: Browser, condition: str, what: str) -> None:
-    """Waits until a condition holds in the page."""
-    if not browser.value(SETTLED % condition):
+    """Waits until a condition holds in the page. A machine may have much else to do."""
+    until = time.monotonic() + PATIENCE
+    while not browser.value(SETTLED % condition):
+        if time.monotonic() < until:
+            continue
         raise Wrong("%s does not come about: %s; the page says: %s" % (what, condition, browser.value("byId('alert').textContent")))
 
 

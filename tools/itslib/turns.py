@@ -105,13 +105,16 @@ def next_move(runner: Runner, most: int, guess: int) -> Optional[int]:
     return late
 
 
-def holder_of(consoles: Dict[int, str], letters: Dict[int, str], console: int, slot: int) -> str:
+def holder_of(consoles: Dict[int, str], letters: Dict[int, str], console: int, slot: int, linked: bool = False) -> str:
     """Who holds a console, as far as a try on a copy shows: each job that waits for a byte or for room there was given one, and made a
-    tick. A job that waits still does so because another job holds the console."""
+    tick. A job that waits still does so because another job holds the console; or it waits at a link, if there may be one (`linked`),
+    and then nothing is known."""
     here = {one: letter for one, letter in letters.items() if consoles.get(one) == "%o" % console}
     barred = sorted(one for one, letter in here.items() if letter == "w")
     served = sorted(one for one, letter in here.items() if letter != "w")
     name = "console %o" % console
+    if barred and linked:
+        return name
     if len(served) == 1 and barred:
         return "%s held by %o" % (name, served[0])
     if slot in barred:

@@ -20,7 +20,7 @@ ERRORS = {0o1: "no such call", 0o2: "too few arguments", 0o3: "too many argument
           0o11: "file locked", 0o12: "no such job", 0o13: "not your inferior", 0o14: "no free slot", 0o15: "no core",
           0o16: "page there, not there or read only", 0o17: "argument must be a word",
           0o20: "the byte's word is one that the call reads", 0o21: "bad byte pointer", 0o22: "number out of range",
-          0o23: "file exists"}
+          0o23: "file exists", 0o24: "link end in use", 0o25: "no free link", 0o26: "nobody reads"}
 
 # Bits of pending word 1, and of its mask and deferral; those up to 40 are fatal
 PENDING = {0o1: ("BRK", "a .BREAK"), 0o2: ("ILO", "an illegal operation"), 0o4: ("MPV", "an absent page"),
@@ -36,7 +36,11 @@ FLAGS = {0o400000: "overflow", 0o200000: "carry 0", 0o100000: "carry 1", 0o04000
 # Where a job stands in a call, by docs/SESSION.md
 STATES = {"USER": "in user mode", "ENTERED": "the call was entered", "PARSED": "its block is read",
           "ASKED": "its arguments are found", "HOLDING": "it is ready to be tried", "WAITING": "it waits",
-          "MOVING": "a byte or word is taken and not stored yet", "ENDING": "it is decided, and owes its end"}
+          "MOVING": "a byte or word is taken and not stored yet", "ENDING": "it is decided, and its end is pending"}
+
+# What each call that can wait waits for
+WAITS = {"HANG": "for ever", "SLEEP": "until its time has come", ".IOT": "for its console or its link", "SIOT": "for its console or its link",
+         "FINISH": "until its console has no output", "LISTEN": "until its console has no output"}
 
 # What a tick of each letter is, one and several
 LETTERS = {"*": ("step", "steps"), ".": ("tick of the monitor's work", "ticks of the monitor's work"),
@@ -139,7 +143,7 @@ def byte_pointer(word: str) -> Optional[str]:
 
 
 def held(word: str, pointer: str) -> str:
-    """What a MOVING job holds, by its pointer: a byte as a character, a word of a file or an inferior without leading zeros."""
+    """What a MOVING job holds, by its pointer: a byte as a character, any other word without leading zeros."""
     return short(word) if pointer[2:4] == "44" or number(word) > 127 else character(number(word))
 
 

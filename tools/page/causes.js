@@ -18,7 +18,7 @@ function starts(line) {
 // The first byte that may be in no line. A text of the page has characters, and each that is no ASCII has several bytes.
 function badByte(text) {
   if (text.startsWith("\ufeff") || text.startsWith("\xef\xbb\xbf")) {
-    return cause("a byte order mark stands before the text: tail -c +4 FILE > NEW takes it away", 1);
+    return cause("a byte order mark is before the text: tail -c +4 FILE > NEW takes it away", 1);
   }
   for (let at = 0; at < text.length; at += 1) {
     const one = text[at], code = text.charCodeAt(at);
@@ -44,7 +44,7 @@ function foreign(rest) {
 function wrongPlace(line) {
   const inside = {"a/": "LOAD", RO: "LOAD", SYM: "LOAD", GO: "LOAD", "/": "FILE", EOF: "FILE"}, column = starts(line)[0];
   if (!TABLES.lines[line.kind] && !inside[line.kind]) return null;
-  if (line.kind === "VERSION" && line.number > 1) return cause("not allowed here: VERSION stands in line 1 alone", column);
+  if (line.kind === "VERSION" && line.number > 1) return cause("not allowed here: VERSION is allowed in line 1 alone", column);
   if (["RO", "SYM", "RUN", "LIST"].includes(line.kind) && line.version === 1) {
     return cause(line.kind + " lines are of version 2 of the session text: line 1 has to be VERSION 2", column);
   }
@@ -53,23 +53,23 @@ function wrongPlace(line) {
   if (line.block) {
     const loads = line.version === 2 ? "a/, RO and SYM lines" : "a/ lines";
     return cause("not allowed here: the block of " + line.block + " is open since " + atLine(line.since) + ", and up to its " +
-                 CLOSES[line.block] + " only " + (line.block === "LOAD" ? loads : "/ lines") + " may stand in it", column);
+                 CLOSES[line.block] + " only " + (line.block === "LOAD" ? loads : "/ lines") + " are allowed in it", column);
   }
   if (line.kind === CLOSES[wanted]) {
     return cause("not allowed here: " + line.kind + " closes the block of " + wanted + ", and none is open", column);
   }
-  return cause("not allowed here: " + line.kind + " lines stand only behind a " + wanted + " line, up to its " + CLOSES[wanted], column);
+  return cause("not allowed here: " + line.kind + " lines are allowed only after a " + wanted + " line, up to its " + CLOSES[wanted], column);
 }
 
 function formOf(line) { return (TABLES.forms[line.kind] || "").split(" ").filter(Boolean); }
 
-// A comment behind a line.
+// A comment after a line.
 function remark(line) {
   const form = formOf(line);
   for (let at = 0; at < line.words.length; at += 1) {
     const word = line.words[at], nameFits = 0 < at && at <= form.length && form[at - 1] === "name";
     if (word.includes(";") && !nameFits) {
-      return cause("a comment behind a line: a comment needs a line of its own", starts(line)[at] + word.indexOf(";"));
+      return cause("a comment after a line: a comment needs a line of its own", starts(line)[at] + word.indexOf(";"));
     }
   }
   return null;
@@ -81,7 +81,7 @@ function unknown(line) {
   if (TABLES.lines[line.kind] || line.kind === "a/" || line.kind === "/") return null;
   if (TABLES.lines[first.toUpperCase()]) return cause("lower case: write " + first.toUpperCase(), column);
   if (first.includes("/") || second.startsWith("/")) {
-    return cause("an address and its / are one word, and a space stands behind it: 100/ 1", column);
+    return cause("an address and its / are one word, with a space after it: 100/ 1", column);
   }
   if ("#*-/".includes(first[0])) return cause("no line begins with " + first + "; a comment begins with ;", column);
   if (/^\d/.test(first)) return cause("no line begins with " + first + "; words are loaded by a line as 100/ 1", column);
@@ -126,7 +126,7 @@ function noName(word, column) {
   for (let at = 0; at < word.length; at += 1) {
     const one = word[at];
     if (one >= "a" && one <= "z") return cause("lower case in the name '" + word + "': write " + word.toUpperCase(), column + at);
-    if (one < "!" || one > "_") return cause("'" + one + "' may not stand in a name", column + at);
+    if (one < "!" || one > "_") return cause("'" + one + "' may not occur in a name", column + at);
   }
   return word.length > 6 ? cause("a name of " + word.length + " letters: it may have 6", column + 6) : null;
 }
@@ -239,10 +239,10 @@ function causeOf(exchange, known) {
     case "READONLY": return kind === "a/" ? cause("a word of this line lies on a page that is read only", columns[0]) :
       cause("the page of this word is read only", columns[2]);
     case "NOFILE": return cause("no file has these names: directory, name 1, name 2", columns[1]);
-    case "EXISTS": return cause("a file with these names stands already", columns[1]);
+    case "EXISTS": return cause("there is already a file with these names", columns[1]);
     case "FULL": {
       const most = line.version === 2 ? 96 : 64;
-      return cause(kind === "LOAD" ? most + " jobs stand, the most that there can be in version " + line.version :
+      return cause(kind === "LOAD" ? "there are " + most + " jobs, the most that there can be in version " + line.version :
                    TABLES.full[kind] || "there is no room", columns[0]);
     }
     default: return cause('docs/SESSION.md, "Refusals", has the reasons');

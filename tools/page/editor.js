@@ -25,7 +25,7 @@ function listLines(line) {
   listed.current = null;
   byId("lines").replaceChildren(...listed.items.values());
   byId("paging").hidden = lines.length <= CHUNK;
-  byId("which").textContent = "lines " + (listed.from + 1) + " to " + (listed.from + some.length) + " of " + lines.length;
+  byId("which").textContent = atLine(listed.from + 1) + " to " + atLine(listed.from + some.length) + " of " + lines.length;
   byId("earlier").disabled = listed.from === 0;
   byId("later").disabled = listed.from >= last;
 }
@@ -137,7 +137,7 @@ async function runOnce(text) {
 // Says why nothing is stepped through, and what to narrow.
 function tooMany(answer) {
   byId("where").textContent = "One steps through " + answer.most + " moments at most, and this session has up to " + answer.moments +
-    ": let its TICK and RUN lines make fewer ticks, or take a part of its lines.";
+    ": let its TICK and RUN lines make fewer ticks, or take a part of its lines (tools/player --from --to).";
 }
 
 // Finds the moments of the session that was run, and shows the one at which the reader is.

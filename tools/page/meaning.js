@@ -2,7 +2,7 @@
 "use strict";
 
 // Words that are names of devices and of the variables of USRVAR
-const NAMES = new Set(["TTY", "DSK", "USR", "UNAME", "JNAME", "UIND", "SUPPRO", "CNSL", "PAGES", "UPC", "USTP", "PIRQC", "IFPIR",
+const NAMES = new Set(["TTY", "DSK", "USR", "LNK", "UNAME", "JNAME", "UIND", "SUPPRO", "CNSL", "PAGES", "UPC", "USTP", "PIRQC", "IFPIR",
                        "MASK", "MSK2", "DF1", "DF2"]);
 const END_OF_FILE = "777777000003";
 const RUNS = 5;                  // up to so many runs of a T line are told one by one
@@ -65,7 +65,7 @@ function callText(word) {
 function reading(word) {
   const name = sixbit(word), whole = signed(word);
   if (TABLES.calls[word] || NAMES.has(name)) return "the name " + (TABLES.calls[word] || name);
-  if (word === END_OF_FILE) return "what .IOT gives at the end of a file";
+  if (word === END_OF_FILE) return "what .IOT gives at the end of a file, an inferior or a link";
   if (word === "400000000000") return "bit 0 alone";
   if (Math.abs(whole) <= 0o777777) return small(whole);
   const isPointer = ["07", "44"].includes(word.slice(2, 4)) && word.slice(4, 6) === "00", pointer = isPointer && bytePointer(word);
@@ -165,7 +165,7 @@ function saysRun(exchange) {
 function saysType(exchange) {
   const words = exchange.line.words, dropped = number(wordsOf(exchange)[2]);
   const said = "console " + words[1] + " gets " + typed(words.slice(2));
-  return [said + (dropped ? "; " + countOf(dropped, "byte is", "bytes are") + " dropped, as it keeps 64 at most" : "")];
+  return [said + (dropped ? "; " + countOf(dropped, "byte is", "bytes are") + " dropped, because it keeps 64 at most" : "")];
 }
 
 function saysDrain(exchange) {
@@ -175,7 +175,7 @@ function saysDrain(exchange) {
 
 function saysClock(exchange, known) {
   known.clock += number(exchange.line.words[1]);
-  return ["the clock comes to " + octal(known.clock) + " thirtieths of a second, " + decimal(known.clock / 30) + " seconds in decimal"];
+  return ["the clock reaches " + octal(known.clock) + " thirtieths of a second, " + decimal(known.clock / 30) + " seconds in decimal"];
 }
 
 // A number with at most two decimals, and with one at least.
@@ -255,14 +255,15 @@ function saysCont(exchange) {
 function saysFrame(words) {
   const peek = peekOf(words);
   if (peek.state === "USER") return ["in user mode, in no call"];
-  const call = peek.call === "-" ? "" : callName(peek.call) + ": ";
-  const said = [call + (TABLES.states[peek.state] || "?") + " (" + peek.state + "); " + countOf(peek.left, "step") + " to user mode"];
-  if (callName(peek.call) === "SIOT" && peek.a !== "-") {
+  const name = callName(peek.call), call = peek.call === "-" ? "" : name + ": ";
+  const waits = peek.state === "WAITING" && TABLES.waits[name] ? " " + TABLES.waits[name] : "";
+  const said = [call + (TABLES.states[peek.state] || "?") + waits + " (" + peek.state + "); " + countOf(peek.left, "step") + " to user mode"];
+  if (name === "SIOT" && peek.a !== "-") {
     const pointer = bytePointer(peek.a);
-    said.push("in core stand the pointer " + peek.a + (pointer ? " (" + pointer + ")" : "") + " and the count " + short(peek.b));
+    said.push("core has the pointer " + peek.a + (pointer ? " (" + pointer + ")" : "") + " and the count " + short(peek.b));
   } else if (peek.a !== "-") {
     const told = reading(peek.a);
-    said.push("in core stands the argument " + peek.a + (told ? " (" + told + ")" : ""));
+    said.push("core has the argument " + peek.a + (told ? " (" + told + ")" : ""));
   }
   if (peek.held !== "-") {
     const what = held(peek.held, peek.a);

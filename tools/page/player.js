@@ -257,7 +257,7 @@ function placeElement(slot, job) {
   const symbol = symbolAt(slot, at) || isPc && symbolOf(job.state), line = sourceLine(slot, at);
   const words = [octal(at) + (symbol ? " (" + symbol + ")" : ""), isPc && job.instruction].filter(Boolean).join(": ");
   const place = element("span", "place-in", words);
-  if (line) place.append(" ", element("span", "note", "line " + line.line + " of its text: "), element("code", "", line.text));
+  if (line) place.append(" ", element("span", "note", atLine(line.line) + " of its text: "), element("code", "", line.text));
   return [place];
 }
 

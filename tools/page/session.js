@@ -52,7 +52,7 @@ class Transcript {
     const words = this.words();
     if (words[0] !== letter) {
       const found = words.length ? "'" + this.lines[this.at] + "'" : "the end";
-      throw new Wrong(this.place() + ": here is " + found + ", where the session asks for a line " + letter);
+      throw new Wrong(this.place() + ": here is " + found + ", but the session asks for a line " + letter);
     }
     this.at += 1;
     return words;

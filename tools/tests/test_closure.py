@@ -64,6 +64,45 @@ class Checks(unittest.TestCase):
         self.refused(top, clause, "    ensures more { True }\n" * 3 + clause, "its has 15 clauses")
         self.refused(top, clause, clause + " " * 140, "its has a line of ")
 
+    def test_splits(self):
+        fair, highest = os.path.join("crates", "its_plain", "specs", "Fair.antt"), "abbrev pub highest : ℕ"
+        turns = os.path.join("crates", "its_plain", "specs", "Turns.antt")
+        lines = os.path.join("crates", "its_stepped", "specs", "Lines.antt")
+        checking = os.path.join("crates", "its_top", "specs", "Checking.antt")
+        no_place = ": more takes %s apart, and is no place for it (tools/itslib/splits.py)"
+        more = "more : Event → ℕ\nmore (events.Run n q) = n\nmore e = 0\n"
+        with open(os.path.join(TOP, turns), encoding="utf-8") as file:
+            place = file.read().splitlines().index(highest) + 2
+        self.split(turns, highest, more + highest, "%s:%d%s" % (turns, place, no_place % "the kinds of line"))
+        more = "more : Lined → ℕ\nmore (Peeks s) = s\nmore _ = 0\n"
+        self.split(lines, "abbrev pub refusal", more + "abbrev pub refusal", no_place % "what a line does")
+        more = "more : List Item → ℕ\nmore [] = 0\nmore (Read e ∷ es) = more es + 1\n"
+        self.split(checking, "abbrev pub checked_text", more + "abbrev pub checked_text", no_place % "a session")
+        more = "data More : List Item → Type 0 where\n  rule : {e : Event} → More (Unread r ∷ [])\n\n"
+        self.split(checking, "abbrev pub checked_text", more + "abbrev pub checked_text", ": More takes a session apart")
+        self.split(turns, "turns_asked", "turns_wanted", "turns_wanted takes the kinds of line apart", "says that turns_asked takes")
+        more = "use Rattle.its_word.specs.Item.{Read as Seen}\nmore : List Item → ℕ\nmore (Seen e ∷ es) = 1\nmore es = 0\n"
+        with changed(fair, "\n\n", "\n" + more + "\n"):
+            self.assertIn(no_place % "a session", " ".join(REAL.complaints(self.parts)))
+
+    def split(self, name, old, new, *words):
+        """Where a file has `new` for `old`, these are the complaints about the places where events are taken apart."""
+        with changed(name, old, new):
+            found = list(REAL.wrong_splits(REAL.all_splits(), {part.name for part in self.parts}))
+        self.assertEqual(len(found), len(words), found)
+        for one, word in zip(found, words):
+            self.assertIn(word, one)
+
+    def test_tables(self):
+        found, inside = REAL.all_splits(), {part.name for part in self.parts}
+        course = os.path.join("crates", "its_plain", "specs", "Course.antt")
+        wrong = list(REAL.wrong_splits(found, inside - {course}))
+        self.assertEqual(wrong, ["%s: tools/itslib/splits.py has it in the wrong table" % course])
+
+    def test_counts(self):
+        words = "docs/PROVED.md: of the definitions that take events apart"
+        self.refused(os.path.join("docs", "PROVED.md"), "of them walk a session", "walk", words)
+
 
 if __name__ == "__main__":
     unittest.main()

@@ -464,7 +464,7 @@ class Text(unittest.TestCase):
     def test_keeps_labels_and_comments(self):
         text = made("; A remark.\nS:\tMOVEI\t1,5\t; five\n\n\tJRST\tS\n\tEND\tS\n").text
         self.assertEqual(text.splitlines()[1:], [
-            "        JOB U TEST 0", "; A remark.", "        LOC 100                 ; where a text without LOC begins",
+            "        JOB U TEST 0", "; A remark.", "        LOC 100                 ; a text without LOC begins here",
             "S:      MOVEI 1,5               ; five", "", "        JRST S", "        GO S"])
 
     def test_the_manual_quotes_what_is_written(self):

@@ -1,22 +1,29 @@
 """Sessions: wrong transcripts, disturbed sessions, long sessions, and the recorded cases."""
 
 import glob
+import json
 import os
+import re
 import subprocess
 import sys
 import tempfile
+import time
 import unittest
 
 HERE = os.path.dirname(os.path.abspath(__file__))
 sys.path.insert(0, os.path.dirname(HERE))
 
 from itslib.cutting import count_of_ticks, ticks_of                                 # noqa: E402
+from itslib.meaning import NAMES, frame                                             # noqa: E402
 from itslib.moments import MOST, count_of_moments, moments_of                       # noqa: E402
+from itslib.page import tables                                                      # noqa: E402
 from itslib.program import TOP, at_hand, run_all, run_each                          # noqa: E402
 from itslib.session import Transcript, Wrong, exchanges, lines_of, unrolled         # noqa: E402
 from itslib.telling import tell                                                     # noqa: E402
 from itslib.unlicensed import runs_of, unlicensed                                   # noqa: E402
+from itslib.words import WAITS                                                      # noqa: E402
 
+SECONDS = 1.0             # of processor time, for many lines
 LOOP = "LOAD U J 0\n100/ 254000000100\nGO 100\n"
 
 
@@ -51,6 +58,93 @@ class Misfits(unittest.TestCase):
     def test_letters(self):
         with self.assertRaisesRegex(Wrong, r"the session, line 4 \(octal 4\): 'T 0 2\*' does not answer 'TICK 0 1'"):
             list(tell("the session", told_of(LOOP + "TICK 0 1\n", "J 0\nT 0 2*\n")))
+
+
+class Links(unittest.TestCase):
+    """What is said of links: their device, errors and waits. The transcript is written by hand."""
+
+    SESSION = ("LOAD U J -\n120/ 400000000000 576045560000 001000000001 000000000150 000000000151 403000000220\n150/ 545653000000\n"
+               "220/ 24 25 26\nGO 100\nEXAM 0 220 1\nPEEK 0\nEXAM 0 210 1\n")
+    TRANSCRIPT = ("J 0\nE 0 000220 0000000000%o\nP 0 WAITING 635157640000 1 444400001000 000000000005 -\nE 0 000210 777777000003\n")
+
+    def test_told(self):
+        for number, words in ((0o24, "link end in use"), (0o25, "no free link"), (0o26, "nobody reads")):
+            told = "\n".join(line for one in tell("the session", told_of(self.SESSION, self.TRANSCRIPT % number)) for line in one.means)
+            for said in ("150: the name LNK", "as an error number: " + words, "SIOT: it waits for its console or its link (WAITING)",
+                         "what .IOT gives at the end of a file, an inferior or a link"):
+                self.assertIn(said, told)
+
+    def test_waits(self):
+        for name, word in (("HANG", "504156470000"), (".IOT", "515764000000"), ("LISTEN", "545163644556")):
+            said = frame(["P", "0", "WAITING", word, "1", "-", "-", "-"])[0]
+            self.assertEqual(said, "%s: it waits %s (WAITING); 1 step to user mode" % (name, WAITS[name]))
+
+    def test_the_page_knows_the_same_names(self):
+        text = text_of("tools/page/meaning.js")
+        names = text[text.index("const NAMES"):text.index("]);")]
+        self.assertEqual(set(re.findall('"([A-Z0-9]+)"', names)), NAMES)
+        self.assertEqual(tables()["waits"], WAITS)
+        self.assertEqual([tables()["errors"]["%o" % number] for number in (0o24, 0o26)], ["link end in use", "nobody reads"])
+
+
+class Parts(unittest.TestCase):
+    """The part of a session that tools/player takes."""
+
+    def setUp(self):
+        folder = tempfile.TemporaryDirectory()
+        self.addCleanup(folder.cleanup)
+        self.path = os.path.join(folder.name, "long.its")
+        with open(self.path, "w", encoding="ascii") as file:
+            file.write("VERSION 2\n" + LOOP + "TICK 0 1000\n" * 100 + "END\n")
+
+    def packed(self, *words):
+        """The session in the page, or what is said."""
+        _, page, said = tool("player", *words, self.path)
+        return json.loads(page.split('id="packed">\n', 1)[1].split("\n", 1)[0])["text"] if page else said.split(": ", 2)[2].strip()
+
+    def test_part(self):
+        self.assertEqual(self.packed("--to", "5"), "VERSION 2\n" + LOOP + "TICK 0 1000\n")
+        self.assertEqual(self.packed("--from", "2", "--to", "5"), "VERSION 2\n" + LOOP + "TICK 0 1000\n")
+        self.assertEqual(self.packed("--from", "104"), "VERSION 2\nTICK 0 1000\nEND\n")
+
+    def test_refused(self):
+        self.assertIn("51203, more than that from line 44 (octal 54) on", self.packed())
+        self.assertIn("smaller part", self.packed("--to", "50"))
+        self.assertEqual(self.packed("--to", "2"), "the part ends inside the block of LOAD that line 2 (octal 2) opens")
+        self.assertEqual(self.packed("--from", "3"), "the part begins inside the block of LOAD that line 2 (octal 2) opens")
+        for words in (("--from", "0"), ("--from", "106"), ("--from", "9", "--to", "8")):
+            self.assertEqual(self.packed(*words), "--from and --to take a first and a last line, and its lines are 1 to 105")
+
+
+class Turns(unittest.TestCase):
+    """The turns of RUN lines, whose number the session does not say."""
+
+    def counts(self, session, transcript):
+        """How many turns each RUN line has."""
+        return [len(one.answer) for one in told_of("VERSION 2\n" + session, transcript) if one.line.kind == "RUN"]
+
+    def test_the_first_lines_have_as_many_as_may_be(self):
+        turn = "T 0 1*\n"
+        self.assertEqual(self.counts("RUN 3 1\nRUN 3 1\n", turn * 4), [3, 1])
+        self.assertEqual(self.counts("RUN 3 1\nTICK 0 1\nRUN 3 1\n", turn * 3), [2, 0])
+        self.assertEqual(self.counts("RUN 3 1\nRUN 3 2\nRUN 1 1\n", turn * 2 + "T 0 2*\n" + turn), [2, 1, 1])
+        self.assertEqual(self.counts("RUN 3 1\nTICK 0 1\nPEEK 0\nRUN 3 1\n", turn + "P 0 USER - 0 - - -\n" + turn), [0, 1])
+        self.assertEqual(self.counts("RUN 2 1\nRUN 2 1\nSTATE 0\nRUN 2 1\n", turn * 3 + "? 4 NOJOB\n"), [2, 1])
+        self.assertEqual(self.counts("RUN 2 1\nTICK 0 1\n", turn + "T 0 1-\n"), [1])
+
+    def test_turns_that_do_not_fit(self):
+        for session, transcript in (("RUN 1 1\n", "T 0 1*\n" * 2), ("RUN 2 1\nTICK 0 1\n", ""), ("RUN 2 1\nEXAM 0 1 1\n", "T 0 1*\n")):
+            with self.assertRaises(Wrong):
+                self.counts(session, transcript)
+
+    def test_many_lines_that_do_not_fit(self):
+        """Each of the lines may have many turns, and one turn is left."""
+        begun = time.process_time()
+        with self.assertRaisesRegex(Wrong, "nothing in the session asks for this line"):
+            self.counts("RUN 10 1\n" * 3000, "T 0 1*\n" * (8 * 3000 + 1))
+        with self.assertRaisesRegex(Wrong, "but the session asks for a line E"):
+            self.counts("RUN 10 1\nTICK 0 1\n" * 2000 + "RUN 10 1\nEXAM 0 1 1\n", "T 0 1*\n" * 12000 + "T 0 2*\n" * 9)
+        self.assertLess(time.process_time() - begun, SECONDS)
 
 
 @unittest.skipUnless(at_hand(), "the program is not at hand")

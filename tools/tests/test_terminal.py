@@ -7,7 +7,7 @@ import unittest
 
 sys.path.insert(0, os.path.dirname(os.path.dirname(os.path.abspath(__file__))))
 
-from itslib.glass import Glass
+from itslib.glass import Glass, texts
 from itslib.screen import caret, key_name, key_of, visible
 from itslib.seat import frame_of, in_transfer
 from itslib.session import Places, Wrong, peek_of
@@ -127,6 +127,9 @@ class Running(unittest.TestCase):
         self.assertEqual(holder_of(consoles, {0: "w"}, 0, 0), "console 0 held by another")
         self.assertEqual(holder_of(consoles, {0: "*"}, 0, 0), "console 0 free")
         self.assertEqual(holder_of(consoles, {}, 0, 0), "console 0")
+        self.assertEqual(holder_of(consoles, {0: "*"}, 0, 0, linked=True), "console 0 free")
+        for letters in ({0: "w"}, {0: "w", 1: "*"}):            # slot 0 may wait at a link
+            self.assertEqual(holder_of(consoles, letters, 0, 0, linked=True), "console 0")
 
 
 class Frames(unittest.TestCase):
@@ -136,8 +139,8 @@ class Frames(unittest.TestCase):
         waiting = peek_of("P 0 WAITING 515764000000 1 - - -".split(" "))
         entered = peek_of("P 0 ENTERED - 1 - - -".split(" "))
         user = peek_of("P 0 USER - 0 - - -".split(" "))
-        self.assertEqual(frame_of(waiting, {"run": "RUN"}), "WAITING in .IOT, 1 owed")
-        self.assertEqual(frame_of(entered, {"run": "RUN"}), "ENTERED, 1 owed")
+        self.assertEqual(frame_of(waiting, {"run": "RUN"}), "WAITING in .IOT, 1 left")
+        self.assertEqual(frame_of(entered, {"run": "RUN"}), "ENTERED, 1 left")
         self.assertEqual(frame_of(user, {"run": "STOP"}), "USER, stopped")
         self.assertEqual(frame_of(None, None), "no job")
         self.assertEqual([in_transfer(peek) for peek in (waiting, entered, user)], [True, False, False])
@@ -176,6 +179,15 @@ class Glasses(unittest.TestCase):
         glass.feed(b"\x1b[1;3r\x1b7\x1b[4;1H\x1b[7mstatus\x1b(B\x1b[m\x1b8a\r\nb\r\nc\r\nd")
         self.assertEqual(glass.lines(), ["b", "c", "d", "status"])
         self.assertTrue(glass.reverse[3][0] and not glass.reverse[2][0])
+
+    def test_text_without_commands_and_status_lines(self):
+        seen = b"\x1b[1mab\x1b7\x1b[24;1H\x1b[7m slot 0 \x1b(B\x1b[m\x1b8c\r\n"
+        self.assertEqual(texts(seen), "abc\r\n")
+        longest = ""
+        for at in range(len(seen) + 1):
+            text = texts(seen[:at])
+            self.assertTrue(text.startswith(longest), (at, text))      # what is not whole yet is left out
+            longest = text
 
     def test_a_command_may_come_in_parts(self):
         glass = Glass(10, 2)

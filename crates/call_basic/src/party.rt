@@ -1,9 +1,11 @@
 //! Whom a job argument names.
 ghost use Rattle.std.specs.Prelude.{◌≡◌};
-ghost use Rattle.its_plain.specs.CallBasic.{is_oneself};
+ghost use Rattle.its_plain.specs.CallBasic.{is_oneself, is_superior};
 ghost use Rattle.its_parts.specs.Called.{channel_under};
+ghost use Rattle.call_basic.specs.Seen.{outline_at};
 
 use its_word::{Channel, Job, Word};
+use its_world::World;
 
 /// Whether an argument names the caller itself.
 pub fn is_oneself(party: Word) -> bool
@@ -20,5 +22,15 @@ pub fn channel(job: &Job, number: Word) -> Channel
         job.channels[number.value() as usize]
     } else {
         Channel::Closed
+    }
+}
+
+/// Whether a job is the superior of the job of a slot.
+pub fn is_superior(w: &World, slot: u8, inferior: u8) -> bool
+    ensures { result ≡ is_superior slot (outline_at w.now inferior) }
+{
+    match w.jobs.job(inferior) {
+        Some(_) => w.jobs.superior(inferior) == Some(slot),
+        None => false,
     }
 }

@@ -18,13 +18,14 @@ ghost use Rattle.call_basic.specs.Seen.{raw_with, seen_by};
 use arrayvec::ArrayVec;
 use call_basic::{channel, fails, finishes_with, input, ioc};
 use call_file::{close_draft, iot_reads, iot_writes, is_disk, open_disk, siot_reads, siot_writes};
+use call_link::{close_end, iot_link, is_link, open_link, siot_link};
 use call_tty::{iot_in, iot_out, open_tty, siot_in, siot_out};
 use call_usr::{iot_through, is_usr, open_usr, siot_through};
 use its_frame::{Change, Decision, error};
 use its_word::{Ask, Channel, Job};
 use its_world::World;
 
-/// OPEN by its device: any but DSK and USR has to be TTY.
+/// OPEN by its device: any but DSK, USR and LNK has to be TTY.
 #[tactic(auto, unfolding(its_plain::specs::CallDevice::open_call))]
 pub(crate) fn open(w: &World, slot: u8, job: &Job, ask: &Ask) -> Decision
     requires { slot < slots }
@@ -34,12 +35,15 @@ pub(crate) fn open(w: &World, slot: u8, job: &Job, ask: &Ask) -> Decision
         open_disk(w, slot, job, ask)
     } else if is_usr(ask) {
         open_usr(w, slot, job, ask)
+    } else if is_link(ask) {
+        open_link(w, slot, job, ask)
     } else {
         open_tty(w, slot, job, ask)
     }
 }
 
-/// CLOSE by what the channel is on: a draft becomes a file, any other channel is closed alone. Error 4, and those of a draft.
+/// CLOSE by what the channel is on: a draft becomes a file, an end of a link is closed, any other channel is closed alone. Error 4, and
+/// those of a draft.
 #[tactic(auto, using(call_file::proofs::HeldLaws::reading, call_file::proofs::HeldLaws::writing, its_parts::proofs::NumberLaws::numbers), unfolding(its_plain::specs::CallDevice::close_call, its_plain::specs::View::view, its_world::specs::World::state_of))]
 pub(crate) fn close(w: &World, slot: u8, job: &Job, ask: &Ask) -> Decision
     requires slot { slot < slots }
@@ -54,6 +58,7 @@ pub(crate) fn close(w: &World, slot: u8, job: &Job, ask: &Ask) -> Decision
         Channel::Reading { .. } => shut(job, ask),
         Channel::Writing { draft } => close_draft(w, slot, job, ask, draft),
         Channel::Usr { .. } => shut(job, ask),
+        Channel::Link { link, write } => close_end(job, ask, link, write),
     }
 }
 
@@ -91,6 +96,7 @@ pub(crate) fn iot(w: &World, slot: u8, job: &Job, ask: &Ask) -> Decision
             write,
             at,
         } => iot_through(w, slot, job, ask, inferior, write, at),
+        Channel::Link { link, write } => iot_link(w, slot, job, ask, link, write),
     }
 }
 
@@ -117,5 +123,6 @@ pub(crate) fn siot(w: &World, slot: u8, job: &Job, ask: &Ask) -> Decision
             write,
             at,
         } => siot_through(w, slot, job, ask, inferior, write, at),
+        Channel::Link { link, write } => siot_link(w, slot, job, ask, link, write),
     }
 }

@@ -36,7 +36,7 @@ pub seen_read : (w : World) (s : ℕ) (j : Job) (a : Ask) (names : Names) → Ti
     → is_read names (channels_in (seen_by w s j a)) ≡ has_readers w.files (found w.files names)
 seen_read w s j a names t whole = ap (is_read names) (seen_channels w s j a) ∙ read_by w names (found w.files names) t whole refl
 
--- whether there is no room for a word more, where no close is marked
+-- whether there is no room for a word more, if no close is marked
 pub seen_full : (w : World) (s : ℕ) (j : Job) (a : Ask) (d : ℕ) → Tidy w → IsStore w.files → length (free_blocks w.files.stored.chains) + blocks_used w.files.stored ≡ blocks → w.files.mark ≡ None
     → is_full w.files.stored d ≡ has_no_room (directory w.files) (channels_in (seen_by w s j a)) (words_at w.files d)
 seen_full w s j a d t whole sum none =

@@ -13,8 +13,7 @@ ghost use Rattle.call_basic.specs.Seen.{seen_by};
 
 use super::directory::{has_file, is_read, names_from};
 use arrayvec::ArrayVec;
-use call_basic::{channel, fails, finishes, finishes_with, input, store_at};
-use call_tty::{control, is_free};
+use call_basic::{channel, control, fails, finishes, finishes_with, input, is_free, store_at};
 use its_frame::{Change, Decision, Opened, error};
 use its_word::{ADDRESSES, Ask, Channel, Job, Word};
 use its_world::World;
@@ -26,7 +25,7 @@ const END_OF_CORE: u32 = ADDRESSES;
 const FILES: u32 = 256;
 
 /// OPEN channel, DSK, name 1, name 2, directory: a file for input, or a new draft with control 1. Errors 4, 22, 6.
-#[tactic(auto, using(call_tty::proofs::ChannelLaws::free), unfolding(its_plain::specs::CallFile::opens_disk, its_plain::specs::View::view, its_world::specs::World::state_of))]
+#[tactic(auto, using(call_basic::proofs::ChannelLaws::free), unfolding(its_plain::specs::CallFile::opens_disk, its_plain::specs::View::view, its_world::specs::World::state_of))]
 pub fn open_disk(w: &World, slot: u8, job: &Job, ask: &Ask) -> Decision
     ensures { result ≡ opens_disk (seen_by w.now slot job.now ask.now) ask.now }
 {

@@ -5,13 +5,12 @@ ghost use Rattle.its_word.specs.Limits.{slots};
 ghost use Rattle.its_files.specs.Files.{directory, entry_at, file_at, is_draft, is_file, names_at};
 ghost use Rattle.its_plain.specs.Arguments.{input};
 ghost use Rattle.its_plain.specs.CallFile.{file_named, iot_reads, iot_writes, siot_read, siot_reads, siot_write, siot_writes, words_by, words_of};
-ghost use Rattle.its_plain.specs.CallTty.{next_pointer};
+ghost use Rattle.its_plain.specs.Transfer.{next_pointer};
 ghost use Rattle.its_world.specs.Tidy.{Tidy};
 ghost use Rattle.call_basic.specs.Seen.{seen_by};
 
 use arrayvec::ArrayVec;
-use call_basic::{fails, faults, input, ioc};
-use call_tty::{bar_of_store, iot_ends, moves, next_pointer, stopped};
+use call_basic::{bar_of_store, fails, faults, input, ioc, iot_ends, moves, next_pointer, stopped};
 use its_bytes::load;
 use its_frame::{Change, Decision, Held, Store, error};
 use its_word::{Ask, Fault, Job, Word};

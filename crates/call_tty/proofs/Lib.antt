@@ -1,2 +1,1 @@
 pub mod HoldLaws
-pub mod ChannelLaws

@@ -1,14 +1,9 @@
 -- Who may hold a console, in the forms that code answers.
 -- No promise rests on this.
-use Rattle.std.specs.Prelude.{◌==◌, ◌||◌, ℕ, Bool, true, false, Option, Some, None, option_map}
-use Rattle.its_plain.specs.CallTty.{is_superior}
-use Rattle.its_plain.specs.View.{Outline, outline}
-use Rattle.its_world.specs.World.{raw_at}
+use Rattle.std.specs.Prelude.{◌==◌, ◌||◌, ℕ, Bool, true, false, Option, Some, None}
+use Rattle.its_plain.specs.CallBasic.{is_superior}
 use Rattle.its_world.specs.declared.world.World.{World}
-
--- what all calls see of a slot's job
-abbrev pub outline_at : World → ℕ → Option Outline
-outline_at w k = option_map outline (raw_at w.files w.core w.jobs w.alarms.items k)
+use Rattle.call_basic.specs.Seen.{outline_at}
 
 -- whether job j may take a console for itself
 abbrev pub may_take : World → ℕ → Option ℕ → Bool

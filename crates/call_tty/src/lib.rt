@@ -1,5 +1,8 @@
 //! The decisions of the calls on consoles: OPEN, `.IOT` and SIOT if they are on one, FINISH, LISTEN and TTYLND
 //! (docs/CALLS.md, "Consoles"). A decision is found from the world as it is, and changes nothing.
+//!
+//! Proved: OPEN of TTY, `.IOT` and SIOT on consoles, FINISH, LISTEN and TTYLND decide by their definitions, with every
+//! error, fault and wait in their order.
 #![tactic(auto)]
 
 mod consoles;
@@ -9,9 +12,6 @@ mod tests;
 mod transfer;
 mod waiting;
 
-pub use open::{control, is_free, open_tty};
-pub use transfer::{
-    bar_of_store, iot_ends, iot_in, iot_out, moves, moves_with, next_pointer, siot_in, siot_out,
-    stopped,
-};
-pub use waiting::{finish, is_superior, listen, ttylnd};
+pub use open::open_tty;
+pub use transfer::{iot_in, iot_out, siot_in, siot_out};
+pub use waiting::{finish, listen, ttylnd};

@@ -1,13 +1,12 @@
-ghost use Rattle.std.specs.Prelude.{◌≡◌, ◌<◌, ◌∷◌, [], not, unwrap_or};
+ghost use Rattle.std.specs.Prelude.{◌≡◌, ◌<◌};
 ghost use Rattle.its_word.specs.Limits.{slots};
 ghost use Rattle.its_plain.specs.CallTty.{opens, opens_on};
 ghost use Rattle.call_basic.specs.Seen.{seen_by};
-ghost use Rattle.call_tty.specs.Channels.{is_closed, is_free};
 
 use arrayvec::ArrayVec;
-use call_basic::{channel, fails, finishes_with, input};
+use call_basic::{control, fails, finishes_with, input, is_free};
 use its_frame::{Change, Decision, Opened, error};
-use its_word::{Ask, Channel, Job, Word};
+use its_word::{Ask, Job};
 use its_world::World;
 
 /// The device of consoles, in SIXBIT.
@@ -15,7 +14,7 @@ const TTY: u64 = 0o646471000000;
 
 /// OPEN channel, device: input, or output with control 1. Errors 4, 5 if the device is not TTY, 22, and 5 if the job
 /// has no console.
-#[tactic(auto, using(crate::proofs::ChannelLaws::free), unfolding(its_plain::specs::CallTty::opens, its_plain::specs::View::view, its_world::specs::World::state_of))]
+#[tactic(auto, using(call_basic::proofs::ChannelLaws::free), unfolding(its_plain::specs::CallTty::opens, its_plain::specs::View::view, its_world::specs::World::state_of))]
 pub fn open_tty(w: &World, slot: u8, job: &Job, ask: &Ask) -> Decision
     requires { slot < slots }
     ensures { result ≡ opens (seen_by w.now slot job.now ask.now) ask.now }
@@ -41,16 +40,6 @@ pub fn open_tty(w: &World, slot: u8, job: &Job, ask: &Ask) -> Decision
     finishes_with(job, change, ArrayVec::new())
 }
 
-/// The control argument; 0 if there is none.
-pub fn control(ask: &Ask) -> u64
-    ensures { result ≡ unwrap_or ask.now.control 0 }
-{
-    match ask.control {
-        Some(word) => word.value(),
-        None => 0,
-    }
-}
-
 /// What the control argument opens a console for.
 fn opened(control: u64) -> Opened
     ensures { result ≡ opens_on control }
@@ -60,18 +49,4 @@ fn opened(control: u64) -> Opened
     } else {
         Opened::TtyIn
     }
-}
-
-/// Whether a number is that of a closed channel.
-pub fn is_free(job: &Job, number: Word) -> bool
-    ensures { result ≡ is_free job.now number }
-{
-    number.value() < 16 && is_closed(channel(job, number))
-}
-
-/// Whether a channel is closed.
-fn is_closed(channel: Channel) -> bool
-    ensures { result ≡ is_closed channel }
-{
-    matches!(channel, Channel::Closed)
 }

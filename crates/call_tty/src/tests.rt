@@ -160,7 +160,7 @@ fn jobs(rt: &impl Abort, jobs: &mut Jobs) -> Result<(), Fail>
     Ok(())
 }
 
-/// A world of these.
+/// A world with these cores and jobs.
 fn world(rt: &impl Abort, alloc: Global) -> Result<World, Fail> {
     let mut w = World::open(alloc)?;
     w.core = cores(rt, alloc)?;

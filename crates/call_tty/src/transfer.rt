@@ -1,38 +1,18 @@
-ghost use Rattle.std.specs.Prelude.{◌≡◌, ◌==◌, ◌<◌, ◌∷◌, ◌-◌, [], true, false, slice_index_or, unwrap_or};
-ghost use Rattle.std.specs.Option.{option_to_list};
-ghost use Rattle.its_word.specs.Byte.{has_size, size};
-ghost use Rattle.its_frame.specs.declared.decision.Decision.TheVariants.{Ends, Goes};
-ghost use Rattle.its_plain.specs.Own.{advanced, exit_of};
-ghost use Rattle.its_plain.specs.Tests.{goes};
+ghost use Rattle.std.specs.Prelude.{◌≡◌, ◌<◌, true, false, slice_index_or, unwrap_or};
+ghost use Rattle.its_word.specs.Byte.{has_size};
 ghost use Rattle.its_word.specs.Limits.{slots};
-ghost use Rattle.its_core.specs.Cores.{core_at};
 ghost use Rattle.its_plain.specs.Arguments.{input};
-ghost use Rattle.its_plain.specs.CallTty.{iot_in, iot_out, is_indexed, next_pointer, shown_byte, siot_by, siot_in, siot_out, siot_tests, word_bits};
-ghost use Rattle.its_parts.specs.Called.{bar_of, first_of};
+ghost use Rattle.its_plain.specs.CallTty.{iot_in, iot_out, shown_byte, siot_in, siot_out};
+ghost use Rattle.its_plain.specs.Transfer.{next_pointer, siot_by};
 ghost use Rattle.call_basic.specs.Seen.{seen_by};
 
 use super::consoles::{console_of, first_typed, input_waits, output_waits};
 use arrayvec::ArrayVec;
-use call_basic::{
-    exit_after, fails, faults, finishes, input, is_negative, is_read_only, is_shared_place,
-    place_of_input,
-};
-use its_bytes::{has_size, increment, load};
-use its_frame::{Change, Decision, Held, Store, Wait, error};
+use call_basic::{bar_of_store, faults, input, iot_ends, moves, next_pointer, stopped};
+use its_bytes::load;
+use its_frame::{Change, Decision, Held, Store, Wait};
 use its_word::{Ask, Fault, Job, Word};
 use its_world::World;
-
-/// Bits 13 to 17 of a word are the low five bits of its left half: I and X of a byte pointer.
-const INDEXED: u32 = 0o40;
-
-/// S of a byte pointer, bits 6 to 11, is in its left half from this bit on.
-const SIZE: u32 = 0o100;
-
-/// How many values S has.
-const SIZES: u32 = 0o100;
-
-/// S of a pointer to whole words.
-const WORD_BITS: u32 = 36;
 
 /// The bits of a byte that a console shows.
 const SHOWN: u64 = 0o177;
@@ -77,40 +57,11 @@ pub fn iot_out(w: &World, slot: u8, job: &Job, ask: &Ask) -> Decision
     iot_ends(job, Some(Change::Put { console, byte }), ArrayVec::new())
 }
 
-/// `.IOT` is done: at most one thing changes outside its job's words and registers, and PC is past it.
-pub fn iot_ends(job: &Job, change: Option<Change>, stores: ArrayVec<Store, 2>) -> Decision
-    ensures { result ≡ Ends (record { items = option_to_list change }) stores (exit_of (advanced 1 job.now)) }
-{
-    let mut changes = ArrayVec::new();
-    if let Some(change) = change {
-        changes.push(change);
-    }
-    Decision::Ends {
-        changes,
-        stores,
-        exit: exit_after(job, 1),
-    }
-}
-
 /// What a console shows of a byte.
 fn shown(word: Word) -> u8
     ensures { result ≡ shown_byte word }
 {
     (word.value() & SHOWN) as u8
-}
-
-/// Why a word cannot be stored.
-pub fn bar_of_store(w: &World, slot: u8, at: u32) -> Option<Fault>
-    requires { slot < slots }
-    ensures { result ≡ bar_of (core_at w.now.core slot) at }
-{
-    if w.core.word(slot, at).is_none() {
-        return Some(Fault::Mpv);
-    }
-    if !w.core.is_storable(slot, at) {
-        return Some(Fault::Wro);
-    }
-    None
 }
 
 /// SIOT from a console: one byte, which is held and stored by the next step; pointer and count become those of the rest.
@@ -132,95 +83,6 @@ pub fn siot_out(w: &World, slot: u8, job: &Job, ask: &Ask) -> Decision
     match stopped(w, slot, job, ask, false, false) {
         Some(decision) => decision,
         None => puts_byte(w, slot, job, ask),
-    }
-}
-
-/// The first of SIOT's tests that holds: errors 17, WRO, 21, 22, the end with count 0 or if `ended` says that the channel is at its end
-/// (of a file or of an inferior's core), and error 20. `words` says that its device moves only whole words.
-#[tactic(auto, unfolding(its_plain::specs::View::view, its_world::specs::World::state_of))]
-pub fn stopped(
-    w: &World,
-    slot: u8,
-    job: &Job,
-    ask: &Ask,
-    words: bool,
-    ended: bool,
-) -> Option<Decision>
-    requires { slot < slots }
-    ensures { result ≡ first_of (siot_tests (seen_by w.now slot job.now ask.now) ask.now (input ask.now 1) (input ask.now 2) words ended) }
-{
-    let (pointer, count) = (input(ask, 1), input(ask, 2));
-    let (p, k) = (place_of_input(ask, 1), place_of_input(ask, 2));
-    if is_shared_place(ask, p) || is_shared_place(ask, k) {
-        return Some(fails(job, ask, error::NO_WORD));
-    }
-    if is_read_only(w, slot, p) || is_read_only(w, slot, k) {
-        return Some(faults(job, Fault::Wro));
-    }
-    if !has_size(pointer) || is_indexed(pointer) {
-        return Some(fails(job, ask, error::BAD_POINTER));
-    }
-    if words && !is_word_sized(pointer) {
-        return Some(fails(job, ask, error::BAD_POINTER));
-    }
-    if is_negative(count.value()) {
-        return Some(fails(job, ask, error::OUT_OF_RANGE));
-    }
-    if count == Word::ZERO || ended {
-        return Some(finishes(job, ArrayVec::new()));
-    }
-    if call_basic::in_footprint(next_pointer(pointer).right(), ask) {
-        return Some(fails(job, ask, error::WORD_IN_USE));
-    }
-    None
-}
-
-/// Whether the byte of a pointer has the 36 bits of a word.
-fn is_word_sized(pointer: Word) -> bool
-    ensures { result ≡ (size pointer == word_bits) }
-{
-    pointer.left() / SIZE % SIZES == WORD_BITS
-}
-
-/// Whether I or X of a byte pointer is not 0.
-fn is_indexed(pointer: Word) -> bool
-    ensures { result ≡ is_indexed pointer }
-{
-    pointer.left() % INDEXED != 0
-}
-
-/// The pointer to the next byte.
-pub fn next_pointer(pointer: Word) -> Word
-    ensures { result ≡ next_pointer pointer }
-{
-    increment(pointer).unwrap_or(Word::ZERO)
-}
-
-/// A byte is moved: one thing changes, a byte may be held, and pointer and count become those of the rest.
-pub fn moves(change: Change, held: Option<Held>, next: Word, count: Word) -> Decision
-    ensures { result ≡ goes (change ∷ []) held (next ∷ (count - 1) ∷ []) }
-{
-    let mut changes = ArrayVec::new();
-    changes.push(change);
-    moves_with(changes, held, next, count)
-}
-
-/// The same with several changes.
-pub fn moves_with(
-    changes: ArrayVec<Change, 2>,
-    held: Option<Held>,
-    next: Word,
-    count: Word,
-) -> Decision
-    ensures { result ≡ Goes changes held (record { items = next ∷ (count - 1) ∷ [] }) }
-{
-    let mut values = ArrayVec::new();
-    values.push(next);
-    values.push(Word::new(count.value().saturating_sub(1)));
-    Decision::Goes {
-        changes,
-        held,
-        values,
     }
 }
 

@@ -1,13 +1,15 @@
 ghost use Rattle.std.specs.Prelude.{◌≡◌, ◌<◌, unwrap_or};
 ghost use Rattle.its_word.specs.Limits.{slots};
-ghost use Rattle.its_plain.specs.CallTty.{finish, is_superior, lands, listen, listens, ttylnd};
+ghost use Rattle.its_plain.specs.CallTty.{finish, lands, listen, listens, ttylnd};
 ghost use Rattle.its_world.specs.World.{holder_at};
 ghost use Rattle.call_basic.specs.Seen.{seen_by};
-ghost use Rattle.call_tty.specs.Holding.{holds, may_take, outline_at};
+ghost use Rattle.call_tty.specs.Holding.{holds, may_take};
 
 use super::consoles::{console_of, holder, output_left, typed};
 use arrayvec::ArrayVec;
-use call_basic::{channel, fails, finishes, finishes_with, input, is_oneself, store_at};
+use call_basic::{
+    channel, fails, finishes, finishes_with, input, is_oneself, is_superior, store_at,
+};
 use its_frame::{Change, Decision, Wait, error};
 use its_word::{Ask, Channel, Job, Word};
 use its_world::World;
@@ -89,16 +91,6 @@ fn can_take(w: &World, slot: u8, console: u8) -> bool
     match holder(w, console) {
         None => true,
         Some(h) => h == slot || is_superior(w, slot, h),
-    }
-}
-
-/// Whether a job is the superior of the job of a slot.
-pub fn is_superior(w: &World, slot: u8, inferior: u8) -> bool
-    ensures { result ≡ is_superior slot (outline_at w.now inferior) }
-{
-    match w.jobs.job(inferior) {
-        Some(_) => w.jobs.superior(inferior) == Some(slot),
-        None => false,
     }
 }
 

@@ -1,4 +1,4 @@
--- OPEN of an inferior: where none of its tests stops it, and the least free slot.
+-- OPEN of an inferior, if none of its tests stops it, and the least free slot.
 use Rattle.std.specs.Prelude.{◌≡◌, ◌≤◌, ◌==◌, ◌&&◌, ℕ, true, None, nat_lt, unwrap_or, refl}
 use Rattle.std.proofs.Common.{sym, ◌∙◌, ap, subst}
 use Rattle.std.proofs.lemmas.Bool.{le-ltb}
@@ -7,16 +7,15 @@ use Rattle.its_word.specs.declared.calls.Ask.{Ask}
 use Rattle.its_word.specs.declared.jobs.Job.{Job}
 use Rattle.its_jobs.specs.Table.{job_at}
 use Rattle.its_plain.specs.Arguments.{input}
-use Rattle.its_plain.specs.CallBasic.{channel_at}
-use Rattle.its_plain.specs.CallTty.{is_shut}
+use Rattle.its_plain.specs.CallBasic.{channel_at, is_shut}
 use Rattle.its_plain.specs.CallUsr.{inferior_named, opens_job, opens_usr, usr_tests}
 use Rattle.its_plain.specs.View.{View, view}
 use Rattle.its_world.specs.World.{state_of}
 use Rattle.its_world.specs.declared.world.World.{World}
 use Rattle.its_parts.specs.Called.{first_of}
 use Rattle.call_basic.specs.Seen.{seen_by}
-use Rattle.call_tty.specs.Channels.{is_free}
-use Rattle.call_tty.proofs.ChannelLaws.{free}
+use Rattle.call_basic.specs.Channels.{is_free}
+use Rattle.call_basic.proofs.ChannelLaws.{free}
 use Rattle.its_parts.proofs.SeenLaws.{free_seen}
 use Rattle.its_parts.proofs.StopLaws.{unstopped}
 

@@ -6,22 +6,20 @@ ghost use Rattle.its_frame.specs.declared.change.Change.TheVariants.{Make, Open}
 ghost use Rattle.its_frame.specs.declared.change.Opened.TheVariants.{Usr};
 ghost use Rattle.its_frame.specs.declared.decision.Decision.TheVariants.{Ends};
 ghost use Rattle.its_plain.specs.Arguments.{input};
-ghost use Rattle.its_plain.specs.CallTty.{is_superior};
+ghost use Rattle.its_plain.specs.CallBasic.{is_superior};
 ghost use Rattle.its_plain.specs.CallUsr.{any_named, has_names, inferior_named, makes_job, opens_job, opens_usr, usr_device};
 ghost use Rattle.its_plain.specs.Own.{advanced, exit_of};
-ghost use Rattle.call_basic.specs.Seen.{seen_by};
-ghost use Rattle.call_tty.specs.Holding.{outline_at};
+ghost use Rattle.call_basic.specs.Seen.{seen_by, outline_at};
 
 use arrayvec::ArrayVec;
-use call_basic::{exit_after, fails, finishes_with, input};
-use call_tty::{control, is_free, is_superior};
+use call_basic::{control, exit_after, fails, finishes_with, input, is_free, is_superior};
 use its_frame::{Change, Decision, Opened, error};
 use its_word::{Ask, Job, SLOTS, Word};
 use its_world::World;
 
 /// OPEN channel, USR, user name, job name: the caller's inferior with these names. Errors 4, 22; 13 if they are those of another job,
 /// 12 for input if no job has them, 14 if all slots below the limit have jobs.
-#[tactic(auto, using(call_tty::proofs::ChannelLaws::free), unfolding(its_plain::specs::CallUsr::opens_usr, its_plain::specs::View::view, its_world::specs::World::state_of))]
+#[tactic(auto, using(call_basic::proofs::ChannelLaws::free), unfolding(its_plain::specs::CallUsr::opens_usr, its_plain::specs::View::view, its_world::specs::World::state_of))]
 pub fn open_usr(w: &World, slot: u8, job: &Job, ask: &Ask) -> Decision
     requires { slot < slots }
     ensures { result ≡ opens_usr (seen_by w.now slot job.now ask.now) ask.now }

@@ -4,14 +4,16 @@ ghost use Rattle.its_word.specs.Byte.{has_size};
 ghost use Rattle.its_word.specs.Limits.{slots};
 ghost use Rattle.its_frame.specs.declared.change.Change.TheVariants.{Move, Poke};
 ghost use Rattle.its_plain.specs.Arguments.{input};
-ghost use Rattle.its_plain.specs.CallTty.{next_pointer};
+ghost use Rattle.its_plain.specs.Transfer.{next_pointer};
 ghost use Rattle.its_plain.specs.CallUsr.{at_end, iot_from, iot_into, iot_through, siot_from, siot_into, siot_peeks, siot_pokes, siot_through};
 ghost use Rattle.call_basic.specs.Seen.{seen_by};
 ghost use Rattle.call_usr.specs.Targets.{Targets};
 
 use arrayvec::ArrayVec;
-use call_basic::{exit_after, fails, faults, input, ioc, store_at};
-use call_tty::{bar_of_store, iot_ends, moves, moves_with, next_pointer, stopped};
+use call_basic::{
+    bar_of_store, exit_after, fails, faults, input, ioc, iot_ends, moves, moves_with, next_pointer,
+    stopped, store_at,
+};
 use its_bytes::load;
 use its_frame::{Change, Decision, Held, error};
 use its_word::{ADDRESSES, Ask, Fault, Job, Word};

@@ -1,5 +1,7 @@
 //! The program `its`: hands its words, standard input and standard output to the top call, and makes
 //! an exit status of the answer.
+//!
+//! Proved: `exit_status` is the status of each answer. No clause says which words `main` passes on.
 #![tactic(auto)]
 
 ghost use Rattle.std.specs.Prelude.{◌≡◌};

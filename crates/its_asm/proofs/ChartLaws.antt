@@ -15,7 +15,7 @@ use Rattle.its_asm.specs.Reading.{cell_of, first_named}
 pub chart_length : length CHART.now ≡ 3136
 chart_length = refl
 
--- the names of a chart, seven bytes each with the blanks behind them
+-- the names of a chart, seven bytes each with the blanks after them
 abbrev cells : List ℕ → List (List ℕ)
 cells (a ∷ b ∷ c ∷ d ∷ e ∷ f ∷ g ∷ rest) = up_to (codes " ") (a ∷ b ∷ c ∷ d ∷ e ∷ f ∷ g ∷ []) ∷ cells rest
 cells short = []
@@ -109,7 +109,7 @@ pub names_at : (k : ℕ) → k < 512 → slice_get names k ≡ Some (mnemonic_of
 unfolding names
 names_at k h = get-table 512 mnemonic_of k h
 
--- where the first element that passes stands
+-- the place of the first element that passes
 passes_here : {X : Type 0} (p : X → Bool) (xs : List X) (k : ℕ) (x : X) → slice_get xs k ≡ Some x → p x ≡ true → k ≤ position_or_len p xs → position_or_len p xs ≡ k
 passes_here p [] k x e t h = cc
 passes_here p (y ∷ ys) zero x e t h =

@@ -50,7 +50,7 @@ cut_found marks text k found =
       | inr past ↦ (let e : None ≡ Some k = rw past at found in cc)
     ]
 
--- what stands before and behind the first mark are the first run and the others; the mark is the first one
+-- what is before and after the first mark is the first run and the others; the mark is the first one
 abbrev Split : List ℕ → List ℕ → List ℕ × ℕ × List ℕ → Type 0
 Split marks text q = (pieces marks text ≡ q.0 ∷ pieces marks q.2) × (filter (is_mark marks) text ≡ q.1 ∷ filter (is_mark marks) q.2)
 

@@ -19,6 +19,6 @@ goes_last (s ∷ ss) name value none =
 pub defines : (symbols : List (ℕ × ℕ)) (name value : ℕ) → lookup (nat_eq name) symbols ≡ None → insert_entry nat_eq symbols name value ≡ defined symbols name value
 defines symbols name value none = goes_last symbols name value none ∙ sym (rw none refl)
 
--- a name that stands keeps its value
+-- a name that has a value keeps it
 pub keeps : (symbols : List (ℕ × ℕ)) (name value old : ℕ) → lookup (nat_eq name) symbols ≡ Some old → defined symbols name value ≡ symbols
 keeps symbols name value old some = rw some refl

@@ -35,7 +35,7 @@ is_other n = bytes_eq n (codes "LOC") || (bytes_eq n (codes "GO") || (bytes_eq n
 abbrev is_op : List ℕ → Bool
 is_op n = (nat_le 1 (length n) && nat_le (length n) 7) && (list_all is_letter n && not (is_other n))
 
--- a name that stands only at its own place
+-- a name that occurs at its own place alone
 abbrev stands_by : List (Option (List ℕ)) → ℕ → Option (Option (List ℕ)) → Bool
 stands_by ns k (Some (Some n)) = is_op n && nat_eq (position_or_len (is_named n) ns) k
 stands_by ns k other = true
@@ -105,7 +105,7 @@ two_words n t some more h k =
     let last : words_of t ≡ t ∷ [] = words_one t (record { some = more; visible = all_imp is_operand (is_code 33 126) operand_visible t k }) in
     words_plain (n ++ 32 ∷ t) plain ∙ first ∙ ap (λ ws. n ∷ ws) last
 
--- such a line by itself
+-- such a line on its own
 read_line : (n t : List ℕ) (w : ℕ) → 1 ≤ length n → length n ≤ 7 → 1 ≤ length t → length t ≤ 40 → list_all is_letter n ≡ true → list_all is_operand t ≡ true
     → with_one no_names no_names n t ≡ Some (Gives (Ok (alone w))) → statement_of (n ++ 32 ∷ t) ≡ Some w
 unfolding statement_of body

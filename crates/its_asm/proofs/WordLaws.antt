@@ -46,7 +46,7 @@ place_number s n (d ∷ ds) h k =
     let one : expression s (d ∷ ds) ≡ Ok n = expression_number s n (d ∷ ds) h k in
     rw (bracket, one) refl
 
--- an address behind its `@`
+-- an address after its `@`
 indexed_number : (s : Scope) (i y x : ℕ) → y < 2 ^ 18 → x < 16 → indexed s i (digits_of y ++ typed_index x) ≡ Ok (alone (i * 2 ^ 22 + x * 2 ^ 18 + y))
 indexed_number s i y x hy hx =
     let ny = digits_number y hy in

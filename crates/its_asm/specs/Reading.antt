@@ -15,7 +15,7 @@ scope_of n = record { symbols = option_map_or (λ s. s.now) n.symbols []; here =
 unfoldable pub first_named : List ℕ → ℕ
 first_named text = position_or_len (is_named text) names
 
--- what a chart has for a name: `-` where there is none
+-- the entry of a chart for a name: `-` if there is none
 abbrev pub cell_of : Option (List ℕ) → List ℕ
 cell_of None = codes "-"
 cell_of (Some name) = name

@@ -1,5 +1,7 @@
 //! Byte pointers of the PDP-10: P in bits 0 to 5, S in bits 6 to 11, an address word in bits 13 to 35
 //! (processor reference manual, "Byte manipulation").
+//!
+//! Proved: each function is exactly the definition of byte pointers.
 #![tactic(auto)]
 
 ghost use Rattle.std.specs.Prelude.{◌≡◌, ◌<◌, ◌≤◌, ◌+◌, ◌*◌, ◌/◌, ◌%◌, ◌^◌, IsTrue};

@@ -10,7 +10,7 @@ use Rattle.its_word.specs.Limits.{slots}
 use Rattle.its_core.specs.Frames.{Frames, Listed, free, mapped_by, page_frame, reserved_frame, is_frame, standing, row, emptied, as_list, without_frame, all_frames, frames_reserve, frames_give_back, frames_map, frames_unmap, frames_drop_all}
 use Rattle.its_core.proofs.ListLaws.{part_set, part_set_before, part_set_past}
 
--- how often a frame stands
+-- how often a frame occurs
 pub standing-set : (x : ℕ) (os : List (Option ℕ)) (i : ℕ) (o : Option ℕ) → i < length os → standing x (slice_set os i o) + is_frame x (slice_index_or os i None) ≡ standing x os + is_frame x o
 standing-set x [] i o lt = absurd (omega arith)
 standing-set x (p ∷ ps) zero o lt = omega arith
@@ -159,7 +159,7 @@ module _ (f : Frames) (l : Listed f) where
     | inr ge ↦ let e = l.none x ge in absurd (omega arith)
   ]
 
-  -- a page's frame stands in the list of its slot
+  -- a page's frame is in the list of its slot
   pub page_in_list : (s k x : ℕ) → s < slots → k < 256 → page_frame f s k ≡ Some x → 1 ≤ count x (mapped_by f s)
   page_in_list s k x lt h e = let m = l.mapped s x lt in let r = standing_at x (row f.pages s) k (get_or-row f.pages s k h ∙ e) in omega arith
 
@@ -225,7 +225,7 @@ module _ (f : Frames) (l : Listed f) where
     | inr ne ↦ let r = standing_two x f.reserved s t ne e d in let m = standing_most x in absurd (omega arith)
   ]
 
-  -- what stays of the lists where each frame stands as often as before
+  -- what stays of the lists if each frame occurs as often as before
   relisted : (g : Frames) → ((x : ℕ) → times x g.lists + standing x g.reserved ≡ times x f.lists + standing x f.reserved) → ((s x : ℕ) → s < slots → count x (mapped_by g s) ≡ standing x (row g.pages s)) → Listed g
   relisted g same m = record { mapped = m; each = λ x lt. same x ∙ l.each x lt; none = λ x ge. same x ∙ l.none x ge }
 
@@ -360,7 +360,7 @@ at_most : (b : Bool) → cond {A = ℕ} b 1 0 ≤ 1
 at_most true = omega arith
 at_most false = omega arith
 
--- where one is missing, there are fewer than there could be
+-- if one is missing, there are fewer than there could be
 pub count_missing : {X : Type 0} (xs : List (Option X)) (i : ℕ) → i < length xs → slice_index_or xs i None ≡ None → count_by is_some xs < length xs
 count_missing [] i h e = absurd (omega arith)
 count_missing (x ∷ xs) zero h e =

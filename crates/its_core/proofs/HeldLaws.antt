@@ -37,7 +37,7 @@ held_number : (accs : List ℕ) (places : List (Option Mapped)) (held gelt : Lis
 unfolding core_at cores_in
 held_number accs places held gelt words links minks = refl
 
--- the reserved pages, where one slot's is another and the others have the same words
+-- the reserved pages, if one slot's is another and the others have the same words
 pub reserved_only : (accs : List ℕ) (places qlaces : List (Option Mapped)) (held : List (Option Held)) (words vords : List ℕ) (links minks : Linked) (s : ℕ) (o : Option Held) → s < length held
     → ((k : ℕ) → k ≢ s → reserved_in vords (slice_index_or held k None) ≡ reserved_in words (slice_index_or held k None))
     → Only (reserved_at (cores_in accs places held words links)) (reserved_at (cores_in accs qlaces (slice_set held s o) vords minks)) s (reserved_in vords o)
@@ -72,7 +72,7 @@ clear_has m s = go (reserved_at m s)
 pub held_clear : (accs : List ℕ) (places : List (Option Mapped)) (held : List (Option Held)) (words : List ℕ) (links : Linked) (s : ℕ) → is_some (slice_index_or held s None) ≡ is_some (clear_at (cores_in accs places held words links) s)
 held_clear accs places held words links s = held_has accs places held words links s ∙ clear_has (cores_in accs places held words links) s
 
--- how many words are ready once those below e are, where frame x ends
+-- how many words are ready once those below e, the end of frame x, are
 pub ready_end : (n e x : ℕ) → e ≡ 1024 * x + 1024 → n + (e - n) ≡ max n (1024 * x + 1024)
 ready_end n e x is = omega arith
 
@@ -101,7 +101,7 @@ module _ (accs : List ℕ) (places : List (Option Mapped)) (held : List (Option 
   unfolding cores_in
   some_seen s lt e = some_free s lt e
 
-  -- the quarters of a new list of reserved pages are clear where those of the new one are
+  -- the quarters of a new list of reserved pages are clear if those of the new one are
   clear_set : (s : ℕ) (o : Option Held) (vords : List ℕ) → s < length held → ((h : Held) → o ≡ Some h → IsClear vords h)
       → ((k : ℕ) (h : Held) → k ≢ s → slice_index_or held k None ≡ Some h → IsClear vords h)
       → (k : ℕ) (h : Held) → slice_index_or (slice_set held s o) k None ≡ Some h → IsClear vords h
@@ -248,7 +248,7 @@ module _ (accs : List ℕ) (places : List (Option Mapped)) (held : List (Option 
       let hl = pool.held_long in
       reserved_only accs places places held words (words ++ replicate n 0) links minks s o (omega arith) (λ k ne. reserved_kept (words ++ replicate n 0) k (held_ready n k))
 
-  -- a free frame is ready, but for the one that is taken
+  -- a free frame is ready, except for the one that is taken
   still_ready : (n y x : ℕ) → first (list_at links.lists 0) ≡ Some y → 1024 * y + 1024 ≤ length words + n → x < all_frames → length (words ++ replicate n 0) < 1024 * x + 1024 → 0 < count x (list_at taken.lists 0)
   still_ready n y x is long below less =
       let a = length-append words (replicate n 0) in

@@ -18,7 +18,7 @@ pub get_or-frame_words : (words : List ℕ) (f k d : ℕ) → k < 1024 → slice
 unfolding frame_words
 get_or-frame_words words f k d h = get_or-take 1024 (drop (1024 * f) words) k d h ∙ get_or-drop (1024 * f) words k d
 
--- it is the same where words follow
+-- it is the same if words follow
 pub frame_words_more : (words more : List ℕ) (f : ℕ) → 1024 * f + 1024 ≤ length words → frame_words (words ++ more) f ≡ frame_words words f
 frame_words_more words more f h =
     let a = length-append words more in
@@ -117,7 +117,7 @@ accs_other accs s t a w h ne = elim (cases_order t s) [
   ]
 ]
 
--- two lists that a map gives are alike where it gives the same at each element
+-- two lists that a map gives are alike if it gives the same at each element
 pub map_alike : {X Y : Type 0} (f g : X → Y) (xs : List X) (d : X) → ((k : ℕ) → k < length xs → g (slice_index_or xs k d) ≡ f (slice_index_or xs k d)) → map g xs ≡ map f xs
 map_alike f g [] d h = refl
 map_alike f g (x ∷ xs) d h =

@@ -225,7 +225,7 @@ module _ (accs : List ℕ) (places : List (Option Mapped)) (held : List (Option 
         count = pool.count;
       }
 
-  -- a page is present where its core says so
+  -- a page is present if its core says so
   pub place_is_some : (s k : ℕ) → s < slots → k < 256 → is_some (page_of (core_at (cores_in accs places held words links) s) k) ≡ true → is_some (slice_index_or places (256 * s + k) None) ≡ true
   place_is_some s k lt h r = go (slice_index_or places (256 * s + k) None) (sym (ap is_some (page_at accs places held words links mapped pool s k lt h)) ∙ r)
     where

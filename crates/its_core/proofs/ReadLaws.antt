@@ -1,4 +1,4 @@
--- The cores that a pool stands for, word by word and page by page.
+-- The cores of a pool, word by word and page by page.
 use Rattle.std.specs.Prelude.{if◌then◌else◌, ◌≡◌, ◌<◌, ◌≤◌, ◌^◌, ℕ, ◌+◌, ◌-◌, ◌*◌, ◌/◌, ◌%◌, Bool, true, false, Option, Some, None, List, [], ◌∷◌, zero, suc, length, map, take, drop, slice_get, slice_index_or, is_some, refl}
 use Rattle.std.proofs.Common.{sym, ◌∙◌, ap, inl, inr, arith}
 use Rattle.std.proofs.lemmas.Bool.{cases_lt, lt-ltb, le-ltb}
@@ -129,7 +129,7 @@ module _ (accs : List ℕ) (places : List (Option Mapped)) (held : List (Option 
       ∙ ap (λ i. slice_index_or (frames_in places held) i None) (omega arith)
       ∙ e
 
-  -- each frame stands at one place
+  -- each frame occurs at one place
   pub apart : (p q f : ℕ) → slice_index_or (frames_in places held) p None ≡ Some f → slice_index_or (frames_in places held) q None ≡ Some f → p ≡ q
   apart p q f e d = elim (cases_lt p all_places) [
     | inl lp ↦ elim (cases_lt q all_places) [

@@ -40,7 +40,7 @@ store_past accs places held words lists s a lt h =
     ∙ ap (λ c. stores_in (page_of c (a / 1024)) (a % 1024)) (core_at_is accs places held words lists s lt)
     ∙ ap (λ p. stores_in p (a % 1024)) (page_past accs places words s (a / 1024) (omega arith))
 
--- a slot's pages are present where the map has a frame
+-- a slot's pages are present if the map has a frame
 is_some-page_in : (words : List ℕ) (o : Option Mapped) → is_some (page_in words o) ≡ is_some o
 is_some-page_in words (Some m) = refl
 is_some-page_in words None = refl

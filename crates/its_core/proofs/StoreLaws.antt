@@ -20,7 +20,7 @@ use Rattle.its_core.proofs.ReadLaws.{apart, core_at_is, core_at_past, page_of_is
 use Rattle.its_word.specs.Table.{table}
 use Rattle.its_word.proofs.TableLaws.{table_alike, table_set}
 
--- cores of two pools that are alike but for one slot
+-- cores of two pools that are alike except for one slot
 pub only_in : (accs brrs : List ℕ) (places qlaces : List (Option Mapped)) (held gelt : List (Option Held)) (words vords : List ℕ) (links minks : Linked) (s : ℕ) (x : Core) → s < slots
     → core_in brrs qlaces vords s ≡ x
     → ((t : ℕ) → t ≢ s → core_in brrs qlaces vords t ≡ core_in accs places words t)
@@ -52,7 +52,7 @@ module _ (accs : List ℕ) (places : List (Option Mapped)) (held : List (Option 
       (acc_here accs places words s a w h ∙ ap (λ c. store c a w) (sym (core_at_is accs places held words links s lt)))
       (λ t ne. acc_others accs places words s t a w h ne)
 
-  -- the number of pages stays where one core has as many as before
+  -- the number of pages stays if one core has as many as before
   pub number_only : (m : Cores) (s : ℕ) (x : Core) → s < slots → Only (core_at (cores_in accs places held words links)) (core_at m) s x → pages_present x ≡ pages_present (core_at (cores_in accs places held words links) s) → mapped ≡ pages_mapped (core_at m)
   number_only m s x lt o e =
       let n = pages_mapped-only (core_at (cores_in accs places held words links)) (core_at m) s x o lt in

@@ -1,5 +1,5 @@
--- Which page frame each page has, and the lists in which the frames stand: one of the free frames, and one for each slot of
--- the frames of its pages, in the order in which they were mapped; and how many of their words are ready.
+-- Which page frame each page has, and the lists of the frames: one of the free frames, and one for each slot of the
+-- frames of its pages, in the order in which they were mapped; and how many of their words are ready.
 -- No promise rests on this.
 use Rattle.std.specs.Prelude.{◌≡◌, ◌<◌, ◌≤◌, ℕ, ◌+◌, ◌*◌, Option, Some, None, List, [], ◌∷◌, ◌++◌, max, take, drop, replicate, slice_set, slice_index_or}
 use Rattle.std.specs.List.{range_with_len}

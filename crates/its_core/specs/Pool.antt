@@ -1,6 +1,6 @@
 -- How the cores of all slots are kept: a pool of page frames of 1024 words, a map from each page of each slot to its
--- page frame, the page frames of reserved pages, and the lists of the page frames. A page frame has its words from
--- the time when it is first reserved: then the words are made ready, up to its last, and until then it is free.
+-- page frame, the page frames of reserved pages, and the lists of the page frames. The words of a page frame are made
+-- ready, up to its last, when it is first reserved. Until then it is a free page frame.
 -- No promise rests on this.
 use Rattle.std.specs.Prelude.{◌≡◌, ◌<◌, ◌≤◌, ℕ, ◌+◌, ◌*◌, Option, Some, None, List, ◌++◌, length, map, take, drop, slice_index_or, option_map, is_some, count_by}
 use Rattle.its_word.specs.Core.{Core, Page, pages_mapped}

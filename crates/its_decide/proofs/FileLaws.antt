@@ -33,7 +33,7 @@ module _ (c : Caller) where
   pub file_of_channel : (k n f at : ℕ) → Fits c.seen.now → channel_at c.seen.now.jobs.now k n ≡ Reading f at → is_some (entry_at files f) ≡ true
   file_of_channel k n f at fits e = file_stands (entry_at files f) (stands.reading_file files c.seen.now.jobs.now fits.across k n f at e)
 
-  -- what a channel of the caller is on stands
+  -- what a channel of the caller is on exists
   pub reading_file : (n f at : ℕ) → Fits c.seen.now → channel_under c.job.now n ≡ Reading f at → is_file (entry_at files f) ≡ true
   reading_file n f at fits e = stands.reading_file files c.seen.now.jobs.now fits.across c.slot n f at (held c.seen.now.jobs.now c.slot n c.job.now (Reading f at) c.stands e (λ z. cc))
 

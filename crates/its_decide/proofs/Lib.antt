@@ -2,3 +2,4 @@ pub mod FileLaws
 pub mod InferiorLaws
 pub mod PageLaws
 pub mod ReachLaws
+pub mod LinkLaws

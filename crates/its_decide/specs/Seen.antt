@@ -9,7 +9,7 @@ use Rattle.its_parts.specs.Parts.{alarm_at, bare, chans_of, raw_machine}
 use Rattle.its_decide.specs.declared.caller.Seen.{Seen}
 
 abbrev pub machine_seen : Seen → Machine
-machine_seen s = raw_machine s.files.now s.core.now s.jobs.now s.alarms.now.items s.consoles.now.items s.holders.now s.clock s.version s.symbols.now.items
+machine_seen s = raw_machine s.files.now s.core.now s.jobs.now s.alarms.now.items s.consoles.now.items s.holders.now s.clock s.version s.symbols.now.items s.pipes.now
 
 -- the raw job of a slot with these registers
 abbrev pub raw_with : Seen → ℕ → Job → Whole

@@ -10,11 +10,12 @@ use its_console::Console;
 use its_core::Core;
 use its_files::Files;
 use its_jobs::Jobs;
+use its_pipes::Pipes;
 use its_word::{Ask, Job, Word};
 
 /// The parts of a machine, borrowed: cores, jobs, the consoles and for each of them the slot of the job that holds it, files and
 /// drafts, the clock in thirtieths, for each slot the alarm of its job if it has one (its period and its next time), the version of the
-/// session text, and for each slot the symbols of its job.
+/// session text, for each slot the symbols of its job, and the links between jobs with their words.
 #[derive(Clone, Copy, Drop)]
 pub struct Seen<'a> {
     pub core: &'a Core,
@@ -26,6 +27,7 @@ pub struct Seen<'a> {
     pub alarms: &'a Vec<Option<(u64, u64)>>,
     pub version: u8,
     pub symbols: &'a Vec<ArrayVec<(Word, u32), 512>>,
+    pub pipes: &'a Pipes,
 }
 
 /// A job at a call: the machine that it looks at, its slot, its registers, what it asks for, and the slot of the job into which

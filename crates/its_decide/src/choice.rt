@@ -18,6 +18,7 @@ ghost use Rattle.its_decide.specs.Seen.{machine_seen, raw_with};
 use super::arguments::{channel, input, is_oneself};
 use super::caller::{Caller, Seen};
 use super::directory::DSK;
+use super::links::LNK;
 use its_frame::{CallName, Change, Decision, Wait, error};
 use its_word::{Ask, Channel, Job};
 
@@ -104,7 +105,7 @@ impl Caller<'_> {
         }
     }
 
-    /// OPEN by its device: any but DSK and USR has to be TTY.
+    /// OPEN by its device: any but DSK, USR and LNK has to be TTY.
     #[tactic(auto, unfolding(its_plain::specs::CallDevice::open_call))]
     fn open(&self) -> Decision
         requires { Fits self.now.seen.now }
@@ -113,11 +114,13 @@ impl Caller<'_> {
         match self.input(1).value() {
             DSK => self.open_disk(),
             USR => self.open_usr(),
+            LNK => self.open_link(),
             _ => self.open_tty(),
         }
     }
 
-    /// CLOSE by what the channel is on: a draft becomes a file, any other channel is closed alone. Error 4, and those of a draft.
+    /// CLOSE by what the channel is on: a draft becomes a file, an end of a link is closed, any other channel is closed alone. Error 4,
+    /// and those of a draft.
     #[tactic(auto, using(its_parts::proofs::NumberLaws::under, its_parts::proofs::NumberLaws::numbers), unfolding(its_plain::specs::CallDevice::close_call, its_plain::specs::View::view))]
     fn close(&self) -> Decision
         requires { Fits self.now.seen.now }
@@ -130,6 +133,7 @@ impl Caller<'_> {
             Channel::TtyOut => self.shut(),
             Channel::Reading { .. } => self.shut(),
             Channel::Usr { .. } => self.shut(),
+            Channel::Link { link, write } => self.close_end(link, write),
         }
     }
 
@@ -158,6 +162,8 @@ impl Caller<'_> {
             Channel::Reading { file, at } => self.iot_reads(file, at),
             Channel::Writing { draft } => self.iot_writes(draft),
             Channel::Usr { slot, write, at } => self.iot_through(slot, write, at),
+            Channel::Link { link, write: true } => self.iot_sends(link),
+            Channel::Link { link, write: false } => self.iot_receives(link),
         }
     }
 
@@ -176,6 +182,8 @@ impl Caller<'_> {
             Channel::Reading { file, at } => self.siot_reads(file, at),
             Channel::Writing { draft } => self.siot_writes(draft),
             Channel::Usr { slot, write, at } => self.siot_through(slot, write, at),
+            Channel::Link { link, write: true } => self.siot_sends(link),
+            Channel::Link { link, write: false } => self.siot_receives(link),
         }
     }
 }

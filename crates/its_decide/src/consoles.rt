@@ -2,7 +2,9 @@
 ghost use Rattle.std.specs.Prelude.{◌≡◌, ◌==◌, false, true, length, not, slice_get, slice_index_or, unwrap_or};
 ghost use Rattle.its_word.specs.Byte.{has_size};
 ghost use Rattle.its_plain.specs.Arguments.{input};
-ghost use Rattle.its_plain.specs.CallTty.{can_take, console_of, finish, first_typed, input_waits, iot_in, iot_out, is_holder, is_other, is_superior, lands, listen, listens, next_pointer, opens, output_left, output_waits, shown_byte, siot_by, siot_in, siot_out, ttylnd};
+ghost use Rattle.its_plain.specs.CallTty.{can_take, console_of, finish, first_typed, input_waits, iot_in, iot_out, is_holder, is_other, lands, listen, listens, opens, output_left, output_waits, shown_byte, siot_in, siot_out, ttylnd};
+ghost use Rattle.its_plain.specs.CallBasic.{is_superior};
+ghost use Rattle.its_plain.specs.Transfer.{next_pointer, siot_by};
 ghost use Rattle.its_decide.specs.Called.{looks};
 
 use super::arguments::is_oneself;

@@ -6,7 +6,7 @@ ghost use Rattle.its_word.specs.declared.jobs.Channel.TheVariants.{Usr};
 ghost use Rattle.its_frame.specs.declared.change.Change.TheVariants.{Move, Poke};
 ghost use Rattle.its_frame.specs.declared.name.CallName.TheVariants.{Iot, Siot, Usrmem};
 ghost use Rattle.its_plain.specs.Arguments.{input};
-ghost use Rattle.its_plain.specs.CallTty.{is_superior};
+ghost use Rattle.its_plain.specs.CallBasic.{is_superior};
 ghost use Rattle.its_plain.specs.CallUsr.{any_named, has_names, inferior_named, iot_from, iot_into, iot_through, opens_usr, siot_from, siot_into, siot_peeks, siot_pokes, siot_through, uclose, usrmem, usrmem_on};
 ghost use Rattle.its_plain.specs.Decide.{call_named};
 ghost use Rattle.its_plain.specs.Machine.{On};

@@ -1,6 +1,9 @@
 //! The decision of each call (docs/CALLS.md), for the plain machine in running form: a second implementation beside that of the
 //! monitor. A decision is found from the machine as it is, and changes nothing. A call is a method of its `Caller`: its tests in the
 //! order of the definitions, and then its end.
+//!
+//! Proved: `decide` is exactly the definition's decision of any call, if the parts of the machine fit each other
+//! (`Fits`), and `disturbs` says whom its commit disturbs.
 #![tactic(auto)]
 
 mod arguments;
@@ -12,6 +15,7 @@ mod directory;
 mod ends;
 mod files;
 mod inferiors;
+mod links;
 mod opening;
 mod pages;
 mod reach;

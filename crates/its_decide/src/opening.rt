@@ -1,7 +1,6 @@
 //! What all calls OPEN test, whatever their device.
 ghost use Rattle.std.specs.Prelude.{◌≡◌, ◌&&◌, nat_lt, unwrap_or};
-ghost use Rattle.its_plain.specs.CallBasic.{channel_at};
-ghost use Rattle.its_plain.specs.CallTty.{is_shut};
+ghost use Rattle.its_plain.specs.CallBasic.{channel_at, is_shut};
 ghost use Rattle.its_decide.specs.Called.{looks};
 
 use super::caller::Caller;

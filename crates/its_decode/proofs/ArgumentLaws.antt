@@ -50,7 +50,7 @@ finding_more c words used reads i now w found seen new x f is l h n =
           ∙ f.places;
     }
 
--- where it ends
+-- how the loop over the argument words ends
 pub record Found (c : Core) (words : List ℕ) (used : ℕ) (reads : List ℕ) (answer : Result (ArrayVec Arg) Fault) (new : List ℕ) : Type 0 where
   pub answer_is : answer ≡ (arguments words c used []).answer
   pub reads_is : new ≡ reads ++ (arguments words c used []).reads

@@ -3,7 +3,8 @@ ghost use Rattle.std.specs.Prelude.{◌≡◌, ◌==◌, ◌<◌, ◌≤◌, ◌
 ghost use Rattle.std.specs.List.{list_any, range_with_len};
 ghost use Rattle.its_core.specs.Cores.{core_at};
 ghost use Rattle.its_word.specs.Limits.{slots};
-ghost use Rattle.its_plain.specs.Decode.{ask, ask_of, block_places, error_by, exceeds, fetch_of, fetched, has_bit_0, iot_ask, name_of, parse_of, row_named, words_of};
+ghost use Rattle.its_plain.specs.Decode.{ask, ask_of, error_by, exceeds, has_bit_0, iot_ask, name_of, row_named, words_of};
+ghost use Rattle.its_stepped.specs.TwoParts.{block_places, fetch_of, fetched, parse_of};
 ghost use Rattle.its_plain.specs.Footprint.{SiteFits};
 
 use super::arguments::find_arguments;
@@ -115,7 +116,7 @@ fn note_block(e: u32, words: u32, decode: &mut ArrayVec<u32, 160>)
 /// What a call by a block asks for, when its block is read: its arguments are found one by one, and then their values
 /// are taken. The decode words are those of the site, those of the block, and those of the arguments' addresses. The
 /// fault is that of the first argument that has one.
-#[tactic(auto, unfolding(its_plain::specs::Decode::fetched))]
+#[tactic(auto, unfolding(its_stepped::specs::TwoParts::fetched))]
 pub fn fetch_ask(core: &Core, slot: u8, site: &Site, block: &Block) -> Result<Ask, Fault>
     requires slot { slot < slots }
     requires fits { SiteFits site.now }
@@ -153,7 +154,7 @@ fn iot_ask(site: &Site, channel: u8) -> Ask
 }
 
 /// The first part of a call's decoding: its block is read. `.IOT` has none. A fault of it is that of the decoding.
-#[tactic(auto, unfolding(its_plain::specs::Decode::parse_of), using(its_local::proofs::TwoLaws::ask_unparsed))]
+#[tactic(auto, unfolding(its_stepped::specs::TwoParts::parse_of), using(its_stepped::proofs::TwoLaws::ask_unparsed))]
 pub fn parse_site(core: &Core, slot: u8, site: &Site) -> Result<Block, Fault>
     requires slot { slot < slots }
     requires address { site.now.e < 2 ^ 18 }
@@ -168,7 +169,7 @@ pub fn parse_site(core: &Core, slot: u8, site: &Site) -> Result<Block, Fault>
 
 /// The second part: the arguments of a call whose block is read are found, and their values are taken. Of the block that
 /// the first part has read this is the whole decoding.
-#[tactic(auto, unfolding(its_plain::specs::Decode::fetch_of))]
+#[tactic(auto, unfolding(its_stepped::specs::TwoParts::fetch_of))]
 pub fn fetch_site(core: &Core, slot: u8, site: &Site, block: &Block) -> Result<Ask, Fault>
     requires slot { slot < slots }
     requires fits { SiteFits site.now }

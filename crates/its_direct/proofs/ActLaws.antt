@@ -1,4 +1,4 @@
--- The changes of a call, one after another, and what comes behind them.
+-- The changes of a call, one after another, and what comes after them.
 use Rattle.std.specs.Prelude.{◌≡◌, ◌<◌, ◌≤◌, ℕ, suc, ◌+◌, Option, Some, None, is_some, option_map, List, ◌∷◌, length, slice_index_or, refl}
 use Rattle.std.proofs.Common.{sym, ap, ◌∙◌, subst, arith, drop, drop-cons, inl, inr}
 use Rattle.std.proofs.lemmas.Bool.{cases_eq}
@@ -54,7 +54,7 @@ applying_end cs j old now i le a = record {
   touched = a.touched;
 }
 
--- behind them
+-- after them
 pub becomes_then : (old mid new : Plain) (m n : Machine) (f : Machine → Machine) → Becomes old mid m → Becomes mid new (f (machine_of mid)) → f m ≡ n → Becomes old new n
 becomes_then old mid new m n f a b e = record { machine = b.machine ∙ ap f a.machine ∙ e; place = b.place ∙ a.place; touched = b.touched ∙ a.touched }
 
@@ -64,7 +64,7 @@ twice m s f g = machine_is _ _ (λ k. elim (cases_eq k s) [
       ap (on_slot (on_slot m.jobs s f) s g) e ∙ on_slot_here (on_slot m.jobs s f) s g ∙ ap (option_map g) (on_slot_here m.jobs s f) ∙ map_twice (m.jobs s)
       ∙ sym (ap (on_slot m.jobs s (λ q. g (f q))) e ∙ on_slot_here m.jobs s (λ q. g (f q)))
   | inr ne ↦ on_slot_other (on_slot m.jobs s f) s k g ne ∙ on_slot_other m.jobs s k f ne ∙ sym (on_slot_other m.jobs s k (λ q. g (f q)) ne)
-]) (λ k. refl) (λ k. refl) refl refl refl (λ k. refl)
+]) (λ k. refl) (λ k. refl) refl refl refl (λ k. refl) (λ k. refl)
   where
     map_twice : (o : Option Whole) → option_map g (option_map f o) ≡ option_map (λ q. g (f q)) o
     map_twice (Some q) = refl

@@ -14,7 +14,6 @@ use Rattle.its_word.specs.declared.access.Fault.TheVariants.{Ilo}
 use Rattle.its_word.specs.declared.calls.Arg.{Arg}
 use Rattle.its_word.specs.declared.calls.Arg.TheVariants.{Input, Output, ErrorAt, Control}
 use Rattle.its_word.specs.declared.calls.Ask.{Ask}
-use Rattle.its_word.specs.declared.calls.Kind.TheVariants as kinds
 use Rattle.its_word.specs.declared.calls.Placed.{Placed}
 use Rattle.its_word.specs.declared.calls.Site.{Site}
 use Rattle.its_plain.specs.UnitPlan.{given}
@@ -24,7 +23,7 @@ use Rattle.its_local.proofs.TracedLaws.{also_err, also_ok, unread}
 use Rattle.its_direct.specs.Asking.{Reads, Sorts, ask_from, first_error, no_parts, parts_of, sorted_by, with_argument}
 use Rattle.its_direct.specs.declared.sorting.Parts.{Parts}
 
--- what is left of a reading, behind what was read so far
+-- what is left of a reading, after what was read so far
 pub record Left {X : Type 0} (rest whole : Traced X) (seen start : List ℕ) : Type 0 where
   pub answer : rest.answer ≡ whole.answer
   pub places : seen ++ rest.reads ≡ start ++ whole.reads
@@ -167,7 +166,7 @@ block_legal c e block start new x is = checked_answer c e block true (Ok block) 
 pub block_illegal : (c : Core) (e : ℕ) (block : ArrayVec ℕ) (start new : List ℕ) → Reads (block_at c e) (Ok block) start new → is_legal block.items ≡ false → Reads (parsed c e) (Err Ilo) start new
 block_illegal c e block start new x is = checked_answer c e block false (Err Ilo) start new x is refl
 
--- an argument: where its address is found, nothing more is read
+-- an argument: if its address is found, nothing more is read
 located_ok : (c : Core) (w used : ℕ) (a : Address) (after : ℕ) (old mid : List ℕ) → Ok a ≡ (address c w used).answer → mid ≡ old ++ (address c w used).reads → after ≡ (address c w used).used
     → Reads (located c w used) (Ok (record { at = a; used = after })) old mid
 unfolding located

@@ -1,4 +1,4 @@
--- The whole step of a slot's job: what its call sees, what it comes to, whom it touches, and what it leaves.
+-- The whole step of a slot's job: what its call sees, its result, whom it touches, and what it leaves.
 use Rattle.std.specs.Prelude.{◌≡◌, ◌≢◌, ◌<◌, ◌≤◌, ◌==◌, ◌^◌, ◌&&◌, ◌||◌, if◌then◌else◌, ℕ, ◌+◌, Bool, true, false, not, Option, Some, None, IfSome, is_some, option_map, List, [], ◌∷◌, ◌++◌, length, slice_index_or, slice_set, Result, Ok, Err, refl}
 use Rattle.std.specs.List.{range_with_len}
 use Rattle.std.proofs.Common.{sym, ap, ◌∙◌, subst, arith, inl, inr}
@@ -23,7 +23,7 @@ use Rattle.its_frame.specs.declared.decision.Decision.TheVariants.{Waits, Goes, 
 use Rattle.its_frame.specs.declared.name.CallName.{CallName}
 use Rattle.its_frame.specs.declared.name.CallName.TheVariants.{Logout, Uclose}
 use Rattle.its_plain.specs.Arguments.{input}
-use Rattle.its_plain.specs.Ask.{ask}
+use Rattle.its_plain.specs.Decode.{ask}
 use Rattle.its_plain.specs.CallBasic.{channel_at as chan_at, is_oneself}
 use Rattle.its_plain.specs.CallStep.{Transition, acted, alone, by_ask, decision, faulted, step, transition, is_made}
 use Rattle.its_plain.specs.Change.{channel_in, in_job, superiors, superior_in}
@@ -67,7 +67,7 @@ idle p s o is none = ap is_running (nobody_is p s (sym is ∙ none))
 -- a machine whose parts are lent
 pub lent_machine : (p : Plain) (s : Seen) → Lent p s → machine_seen s ≡ machine_of p
 unfolding machine_of
-lent_machine p s h = λ t. raw_machine (h.files t) (h.core t) (h.jobs t) (h.alarms t).items (h.consoles t).items (h.holders t) (h.clock t) (h.version t) (h.symbols t).items
+lent_machine p s h = λ t. raw_machine (h.files t) (h.core t) (h.jobs t) (h.alarms t).items (h.consoles t).items (h.holders t) (h.clock t) (h.version t) (h.symbols t).items (h.pipes t)
 
 pub lent_own : (p : Plain) (s : Seen) (k : ℕ) (j : Job) → Lent p s → raw_with s k j ≡ own_of p k j
 lent_own p s k j h = λ t. record {
@@ -78,7 +78,7 @@ lent_own p s k j h = λ t. record {
   alarm = alarm_at (h.alarms t).items k;
 }
 
--- a slot has a job in the machine where it has one in the table
+-- a slot has a job in the machine if it has one in the table
 pub job_there : (p : Plain) (k : ℕ) → is_some ((machine_of p).jobs k) ≡ is_some (job_at p.jobs k)
 unfolding machine_of
 job_there p k = go (job_at p.jobs k)
@@ -94,7 +94,7 @@ none_there p k h = go (job_at p.jobs k) (sym (job_there p k) ∙ ap is_some h)
     go (Some j) e = cc
     go None e = refl
 
--- each channel on a job is on one that stands
+-- each channel on a job is on one that exists
 on_job : (p : Plain) (k : ℕ) (c : Channel) → OnInferior (machine_of p) k (chan_of p.files c) → OnJob p.jobs c
 on_job p k (channels.Usr s w at) h = sym (job_there p s) ∙ inferior_stands (machine_of p) s k h
 on_job p k _ h = tt

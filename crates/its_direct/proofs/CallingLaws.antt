@@ -1,5 +1,5 @@
--- The state in which a call of the plain machine is carried out, where the laws of decisions speak of it: no close is half made, and the
--- jobs that the call reaches are in no call.
+-- The state in which a call of the plain machine is carried out, in the terms of the laws of decisions: no close is
+-- half made, and the jobs that the call reaches are in no call.
 use Rattle.std.specs.Prelude.{◌≡◌, ℕ, Bool, true, false, Option, Some, None, IfSome, List, [], ◌∷◌, length, refl}
 use Rattle.std.proofs.Common.{sym, ap, subst, arith}
 use Rattle.its_word.specs.Core.{zero_page}
@@ -12,7 +12,7 @@ use Rattle.its_frame.specs.declared.frame.Frame.{Frame}
 use Rattle.its_plain.specs.Change.{superior_in, left_job, is_gone, on_slot, inferior, poke, protected, removed, with_alarm, with_inf, with_page_at, effect, effects}
 use Rattle.its_plain.specs.Decide.{reach}
 use Rattle.its_plain.specs.Footprint.{Stands, among}
-use Rattle.its_plain.specs.Machine.{Shut, Whole, Machine, changed}
+use Rattle.its_plain.specs.Machine.{Shut, Linked, Whole, Machine, changed}
 use Rattle.its_plain.specs.Own.{at_position, on_channel, opened_on, with_registers, with_stores, with_variable, with_word}
 use Rattle.its_stepped.specs.Calling.{Calling}
 use Rattle.its_stepped.specs.Commit.{effect_on, effects_on}
@@ -25,7 +25,8 @@ use Rattle.its_stepped.proofs.DebtLaws.{debts_none}
 use Rattle.its_stepped.proofs.DecodingLaws.{decoding}
 use Rattle.its_stepped.proofs.GivenLaws.{reach_apart}
 
--- the state in which slot j's call is carried out, with these other calls in progress: it has a clear page where it makes one
+-- the state in which slot j's call is carried out, with these other calls in progress: it has a clear page if it makes
+-- one
 abbrev pub page_for : Bool → Option ℕ
 page_for true = Some quarters
 page_for false = None
@@ -41,7 +42,7 @@ page_paged : (a : Ask) (b : Bool) → reserves a ≡ b → IfSome (page_for b) (
 page_paged a true e = record { most = omega arith; reserves = e; owes = refl }
 page_paged a false e = tt
 
--- the jobs that it reaches are in no call, and its own owes nothing
+-- the jobs that it reaches are in no call, and its own has nothing pending
 pub calling : (m : Machine) (j : ℕ) (q : Whole) (s : Site) (a : Ask) (frames : ℕ → Option Frame) → Forest m → m.jobs j ≡ Some q → Stands q.core q.job s a → IsStill (frames j)
     → ((k : ℕ) → among k (reach m j q a) ≡ true → frames k ≡ None) → ((k : ℕ) → m.jobs k ≡ None → frames k ≡ None) → Calling m (beginning m frames (page_for (reserves a))) j q s a 0
 calling m j q s a frames forest here st still reached empty = record {
@@ -64,7 +65,7 @@ calling m j q s a frames forest here st still reached empty = record {
   unmarked = λ h. refl;
 }
 
--- the jobs behind changes are those of the machine
+-- the jobs after changes are those of the machine
 slot_alike : (jobs others : ℕ → Option Whole) (s : ℕ) (f : Whole → Whole) → jobs ≡ others → on_slot jobs s f ≡ on_slot others s f
 slot_alike jobs others s f e = ap (λ (xs : ℕ → Option Whole). on_slot xs s f) e
 
@@ -84,6 +85,8 @@ jobs_alike (changes.Make s u n) j w m e = ap (λ (jobs : ℕ → Option Whole). 
 jobs_alike (changes.Remove s) j w m e = λ t k. left_job (is_gone (λ i. superior_in (e t i)) s) (is_gone (λ i. superior_in (e t i)) s k) (e t k)
 jobs_alike (changes.Inform s) j w m e = slot_alike w.raw.jobs m.jobs s with_inf e
 jobs_alike (changes.Arm alarm) j w m e = slot_alike w.raw.jobs m.jobs j (with_alarm alarm) e
+jobs_alike (changes.Join n l write x y) j w m e = slot_alike w.raw.jobs m.jobs j (on_channel n (λ c. Linked l write)) e
+jobs_alike (changes.Part n l write) j w m e = slot_alike w.raw.jobs m.jobs j (on_channel n (λ c. Shut)) e
 jobs_alike _ j w m e = e
 
 pub all_alike : (cs : List Change) (j : ℕ) (w : State) (m : Machine) → w.raw.jobs ≡ m.jobs → (effects_on cs j w).raw.jobs ≡ (effects cs j m).jobs

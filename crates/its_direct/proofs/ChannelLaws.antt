@@ -1,4 +1,5 @@
--- A channel of a job set, with the store that it is on; and the store alone: the machine that then stands, and what holds of it.
+-- A channel of a job is set, with the store that it is on; and the store alone: the machine after it, and what holds of
+-- that machine.
 use Rattle.std.specs.Prelude.{◌≡◌, ◌≢◌, ◌<◌, ◌≤◌, ◌^◌, ℕ, ◌+◌, ◌-◌, Bool, true, false, Option, Some, None, is_some, option_map, Ok, Err, List, [], ◌∷◌, ◌++◌, length, slice_set, refl}
 use Rattle.std.proofs.Common.{sym, ◌∙◌, ap, subst, inl, inr}
 use Rattle.std.proofs.lemmas.Bool.{cases_eq}
@@ -15,6 +16,7 @@ use Rattle.its_files.specs.declared.entry.CloseFault.{CloseFault}
 use Rattle.its_files.specs.declared.entry.Entry.TheVariants.{File, Draft}
 use Rattle.its_jobs.specs.Table.{job_at, superior_at}
 use Rattle.its_frame.specs.declared.change.Opened.TheVariants as opened
+use Rattle.its_pipes.specs.Pipes.{piped}
 use Rattle.its_plain.specs.Change.{files_closed, in_job, renamed, without_file}
 use Rattle.its_plain.specs.Machine.{Chan, Machine, Shut, Reads, Writes}
 use Rattle.its_plain.specs.OperatorClock.{clock_end}
@@ -49,6 +51,7 @@ channel_becomes old new s n x o j has some lt b = record {
   alarms = b.aside.alarms;
   version = b.aside.version;
   symbols = b.aside.symbols;
+  pipes = b.aside.pipes;
   place = b.aside.place;
   touched = b.aside.touched;
 }
@@ -65,12 +68,13 @@ channel_still old new s n t o = record {
   alarms = o.alarms;
   version = o.version;
   symbols = o.symbols;
+  pipes = o.pipes;
   place = o.place;
   touched = o.touched;
 }
 
 pub no_store : (p : Plain) → OnlyStore p p p.files
-no_store p = record { core = refl; jobs = refl; consoles = refl; holders = refl; files = refl; clock = refl; alarms = refl; version = refl; symbols = refl; place = refl; touched = refl }
+no_store p = record { core = refl; jobs = refl; consoles = refl; holders = refl; files = refl; clock = refl; alarms = refl; version = refl; symbols = refl; pipes = refl; place = refl; touched = refl }
 
 pub channel_missing : (p : Plain) (s n : ℕ) (x : Channel) (o : Option Job) → o ≡ job_at p.jobs s → o ≡ None → ChannelBecomes p p s n x p.files
 channel_missing p s n x o has none = record {
@@ -84,11 +88,12 @@ channel_missing p s n x o has none = record {
   alarms = refl;
   version = refl;
   symbols = refl;
+  pipes = refl;
   place = refl;
   touched = refl;
 }
 
--- a channel is set behind the store
+-- a channel is set after the store
 pub store_first : (old mid new : Plain) (s n : ℕ) (x : Channel) (t : Store) → OnlyStore old mid t → ChannelBecomes mid new s n x mid.files → ChannelBecomes old new s n x t
 store_first old mid new s n x t o b = record {
   jobs = subst (λ j. OnlyChannel j new.jobs s n x) o.jobs b.jobs;
@@ -101,6 +106,7 @@ store_first old mid new s n x t o b = record {
   alarms = b.alarms ∙ o.alarms;
   version = b.version ∙ o.version;
   symbols = b.symbols ∙ o.symbols;
+  pipes = b.pipes ∙ o.pipes;
   place = b.place ∙ o.place;
   touched = b.touched ∙ o.touched;
 }
@@ -111,14 +117,14 @@ placed_bare (Some i) None e h = cc
 placed_bare None j e h = tt
 
 module _ (old new : Plain) (s n : ℕ) (x : Channel) (t : Store) (b : ChannelBecomes old new s n x t) where
-  -- the machine, where all other channels are on what they were on
+  -- the machine, if all other channels are on what they were on
   pub filed_machine : (g : Chan → Chan) → ((k m : ℕ) → (k ≡ s → m ≢ n) → chan_of t (channel_at new.jobs k m) ≡ chan_of old.files (channel_at old.jobs k m))
       → (is_some (job_at old.jobs s) ≡ true → chan_of t x ≡ g (chan_of old.files (channel_at old.jobs s n)))
       → machine_of new ≡ record (in_job (machine_of old) s (on_channel n g)) { files = directory t }
   unfolding machine_of
   filed_machine g others here = machine_is _ _
       (λ k. (λ i. raw_at (b.files i) new.core new.jobs (b.alarms i).items k) ∙ raw_channel old.jobs new.jobs s n x b.jobs old.files t old.core new.core old.alarms.items g b.core others here k)
-      (λ k. ap (λ l. console_at l.items k) b.consoles) (λ k. ap (λ l. holder_at l k) b.holders) (ap directory b.files) b.clock b.version (λ k. ap (λ l. symbols_at l.items k) b.symbols)
+      (λ k. ap (λ l. console_at l.items k) b.consoles) (λ k. ap (λ l. holder_at l k) b.holders) (ap directory b.files) b.clock b.version (λ k. ap (λ l. symbols_at l.items k) b.symbols) (λ k. ap (λ l. piped l k) b.pipes)
 
   placed_still : (k : ℕ) → IsPlaced (job_at old.jobs k) → IsPlaced (job_at new.jobs k)
   placed_still k h = elim (cases_eq k s) [
@@ -173,7 +179,7 @@ shows p = record { files = files_are p; chans = chans_are p }
 pub chan_shut : (p : Plain) (s n : ℕ) → chan_in (machine_of p) s n ≡ Shut → channel_at p.jobs s n ≡ Closed
 chan_shut p s n e = shut_by p.files (channel_at p.jobs s n) (sym (chan_is p s n) ∙ e)
 
--- a channel of a job, where the files of the machine are the same
+-- a channel of a job, if the files of the machine are the same
 module _ (old new : Plain) (s n : ℕ) (ls : s < slots) (ln : n < 16) (tidy : Tidy old) where
   channel_comes : (x : Channel) (t : Store) → ChannelBecomes old new s n x t → Kept old.files t old.jobs new.jobs s n → (g : Chan → Chan) → directory t ≡ directory old.files → t.mark ≡ old.files.mark
       → (is_some (job_at old.jobs s) ≡ true → chan_of t x ≡ g (chan_of old.files (channel_at old.jobs s n)))
@@ -200,7 +206,7 @@ module _ (old new : Plain) (s n : ℕ) (ls : s < slots) (ln : n < 16) (tidy : Ti
       (drafted_kept old.files t old.jobs new.jobs s n k tidy.across ls ln (d ∷ x ∷ y ∷ []) [] (chan_shut old s n shut) (one_channel old.jobs new.jobs s n (Writing k) b.jobs (has_job old s job)) tidy.unmarked free made entry words)
       (λ c. opened_on (opened.Writing d x y)) files (ap (λ (w : Store). w.mark) made) (λ some. λ i. Writes (record { names = ap names_by entry.here i; words = words.here i }))
 
-  -- closed, where it read a file, where it wrote a draft, and where it was on neither
+  -- closed, if it read a file, if it wrote a draft, and if it was on neither
   pub shut_file_comes : (t : Store) (f at : ℕ) → ChannelBecomes old new s n Closed t → Reading f at ≡ channel_at old.jobs s n → t ≡ with_readers old.files f (readers_at old.files f - 1)
       → directory t ≡ directory old.files → Only (entry_at old.files) (entry_at t) f (Some (File (names_at old.files f) (readers_at old.files f - 1))) → Same (words_at old.files) (words_at t)
       → Comes old new (in_job (machine_of old) s (on_channel n (λ c. Shut)))
@@ -263,7 +269,7 @@ module _ (old new : Plain) (s n : ℕ) (ls : s < slots) (ln : n < 16) (tidy : Ti
   pub begin_can : (k : ℕ) → Writing k ≡ channel_at old.jobs s n → IsStore old.files → CanClose (machine_of old) (chan_in (machine_of old) s n) → (e : CloseFault) → close old.files k s ≡ Err e → ⊥
   begin_can k was whole closes = close_can (machine_of old) old.files old.jobs (shows old) whole tidy.across k s (subst (CanClose (machine_of old)) (on_draft k was) closes)
 
--- nothing is set, where a channel is on nothing of the kind
+-- nothing is set, if a channel is on nothing of the kind
 pub move_other_comes : (p : Plain) (s n : ℕ) → Tidy p → (at : ℕ) (c : Channel) → c ≡ channel_at p.jobs s n → ((f q : ℕ) → c ≡ Reading f q → ⊥) → ((k : ℕ) (write : Bool) (q : ℕ) → c ≡ Usr k write q → ⊥)
     → Comes p p (in_job (machine_of p) s (on_channel n (at_position at)))
 move_other_comes p s n tidy at c was read usr = filed_comes p p s n (channel_at p.jobs s n) p.files (channel_still p p s n p.files (no_store p)) tidy tidy.unmarked
@@ -273,7 +279,7 @@ move_other_comes p s n tidy at c was read usr = filed_comes p p s n (channel_at 
 pub closed_elsewhere : (p : Plain) (s n : ℕ) → chan_in (machine_of p) s n ≡ Shut → IsElsewhere (channel_at p.jobs s n)
 closed_elsewhere p s n e = subst IsElsewhere (sym (chan_shut p s n e)) tt
 
--- a channel is on a draft where the machine says so
+-- a channel is on a draft if the machine says so
 room_draft : (m : Machine) (x : Store) (c : Channel) → ((d : ℕ) → c ≡ Writing d → ⊥) → HasRoom m (chan_of x c) → ⊥
 room_draft m x (Writing d) written h = written d refl
 room_draft m x _ written h = h
@@ -294,7 +300,7 @@ unfolding machine_of
 store_machine old new t o stays = machine_is _ _
     (λ k. (λ i. raw_at (o.files i) (o.core i) (o.jobs i) (o.alarms i).items k)
     ∙ raw_alike old.files t (core_at old.core k) (superior_at old.jobs k) (alarm_at old.alarms.items k) (job_at old.jobs k) (stays.chans k))
-    (λ k. ap (λ l. console_at l.items k) o.consoles) (λ k. ap (λ l. holder_at l k) o.holders) (ap directory o.files) o.clock o.version (λ k. ap (λ l. symbols_at l.items k) o.symbols)
+    (λ k. ap (λ l. console_at l.items k) o.consoles) (λ k. ap (λ l. holder_at l k) o.holders) (ap directory o.files) o.clock o.version (λ k. ap (λ l. symbols_at l.items k) o.symbols) (λ k. ap (λ l. piped l k) o.pipes)
 
 store_tidy : (old new : Plain) (t : Store) → OnlyStore old new t → Stays old.files t old.jobs → t.mark ≡ None → Tidy old → Tidy new
 store_tidy old new t o stays unmarked tidy = record {

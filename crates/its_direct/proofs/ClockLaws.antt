@@ -1,5 +1,5 @@
 -- CLOCK: the alarms that are due go, slot after slot.
-use Rattle.std.specs.Prelude.{◌==◌, ◌≡◌, ◌≢◌, ◌≤◌, ◌<◌, ◌+◌, ◌-◌, ◌&&◌, ◌||◌, ℕ, Bool, true, false, Option, Some, None, IfSome, is_some, List, option_map, Ok, Err, length, nat_lt, slice_set, slice_index_or, refl}
+use Rattle.std.specs.Prelude.{◌==◌, ◌≡◌, ◌≢◌, ◌≤◌, ◌<◌, ◌+◌, ◌&&◌, ◌||◌, ℕ, Bool, true, false, Option, Some, None, IfSome, is_some, List, option_map, Ok, Err, length, nat_lt, slice_set, slice_index_or, refl}
 use Rattle.std.proofs.Common.{sym, ◌∙◌, ap, subst, inl, inr, arith}
 use Rattle.std.proofs.lemmas.Bool.{cases_eq, eq-eqb, eqb-true, ne_eqb, lt-ltb, le-ltb, le-leb, lt-leb}
 use Rattle.std.proofs.lemmas.List.{get_or-set_same, get_or-set_other}
@@ -9,6 +9,7 @@ use Rattle.its_word.specs.declared.session.Reason.TheVariants as reasons
 use Rattle.its_core.specs.Cores.{core_at, clear_at}
 use Rattle.its_files.specs.Files.{Store, directory}
 use Rattle.its_jobs.specs.Table.{job_at, superior_at}
+use Rattle.its_pipes.specs.Pipes.{piped}
 use Rattle.its_plain.specs.Alarm.{is_due, time_after}
 use Rattle.its_plain.specs.Change.{in_job, with_alarm}
 use Rattle.its_plain.specs.Job.{ALR, with_pending}
@@ -52,7 +53,7 @@ alarm_machine old new s a b = machine_is _ _
     (slot_at _ _ s (with_alarm a)
     ((λ t. raw_of (b.files t) (core_at (b.core t) s) (superior_at (b.jobs t) s) (b.alarms.here t) (job_at (b.jobs t) s)) ∙ alarmed_as old.files old s a (job_at old.jobs s))
     (λ k ne t. raw_of (b.files t) (core_at (b.core t) k) (superior_at (b.jobs t) k) (b.alarms.others k ne t) (job_at (b.jobs t) k)))
-    (λ k. ap (λ l. console_at l.items k) b.consoles) (λ k. ap (λ l. holder_at l k) b.holders) (ap directory b.files) b.clock b.version (λ k. ap (λ l. symbols_at l.items k) b.symbols)
+    (λ k. ap (λ l. console_at l.items k) b.consoles) (λ k. ap (λ l. holder_at l k) b.holders) (ap directory b.files) b.clock b.version (λ k. ap (λ l. symbols_at l.items k) b.symbols) (λ k. ap (λ l. piped l k) b.pipes)
 
 pub alarm_tidy : (old new : Plain) (s : ℕ) (a : Option (ℕ × ℕ)) → is_some (job_at old.jobs s) ≡ true → AlarmBecomes old new s a → Tidy old → Tidy new
 alarm_tidy old new s a some b tidy = record {

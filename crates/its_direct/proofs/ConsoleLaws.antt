@@ -9,6 +9,7 @@ use Rattle.its_word.specs.Only.{Only}
 use Rattle.its_files.specs.Files.{Store, directory}
 use Rattle.its_core.specs.Cores.{core_at, clear_at}
 use Rattle.its_jobs.specs.Table.{job_at}
+use Rattle.its_pipes.specs.Pipes.{piped}
 use Rattle.its_plain.specs.Change.{on_console}
 use Rattle.its_plain.specs.Machine.{Console}
 use Rattle.its_plain.specs.OperatorClock.{clock_end}
@@ -25,9 +26,9 @@ use Rattle.its_direct.proofs.SlotLaws.{IsPlaced, touched_machine, touched_tidy}
 use Rattle.its_direct.proofs.TouchLaws.{none_touched}
 
 pub console_becomes : (old new : Plain) (c : ℕ) (x : Console) → Only (console_at old.consoles.items) (console_at new.consoles.items) c x → new.core ≡ old.core → new.jobs ≡ old.jobs
-    → new.holders ≡ old.holders → new.files ≡ old.files → new.clock ≡ old.clock → new.alarms ≡ old.alarms → new.version ≡ old.version → new.symbols ≡ old.symbols → new.place ≡ old.place
+    → new.holders ≡ old.holders → new.files ≡ old.files → new.clock ≡ old.clock → new.alarms ≡ old.alarms → new.version ≡ old.version → new.symbols ≡ old.symbols → new.pipes ≡ old.pipes → new.place ≡ old.place
     → new.touched ≡ old.touched → ConsoleBecomes old new c x
-console_becomes old new c x consoles core jobs holders files clock alarms version symbols place touched = record {
+console_becomes old new c x consoles core jobs holders files clock alarms version symbols pipes place touched = record {
   consoles = consoles;
   core = core;
   jobs = jobs;
@@ -37,6 +38,7 @@ console_becomes old new c x consoles core jobs holders files clock alarms versio
   alarms = alarms;
   version = version;
   symbols = symbols;
+  pipes = pipes;
   place = place;
   touched = touched;
 }
@@ -45,7 +47,7 @@ pub console_machine : (old new : Plain) (c : ℕ) (f : Console → Console) → 
 unfolding machine_of
 console_machine old new c f b = machine_is _ _
     (λ k t. raw_at (b.files t) (b.core t) (b.jobs t) (b.alarms t).items k) (changed_at _ _ c _ b.consoles.here b.consoles.others)
-    (λ k. ap (λ l. holder_at l k) b.holders) (ap directory b.files) b.clock b.version (λ k. ap (λ l. symbols_at l.items k) b.symbols)
+    (λ k. ap (λ l. holder_at l k) b.holders) (ap directory b.files) b.clock b.version (λ k. ap (λ l. symbols_at l.items k) b.symbols) (λ k. ap (λ l. piped l k) b.pipes)
 
 pub console_tidy : (old new : Plain) (c : ℕ) (x : Console) → ConsoleBecomes old new c x → Tidy old → Tidy new
 console_tidy old new c x b tidy = record {

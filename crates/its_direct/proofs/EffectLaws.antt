@@ -50,7 +50,7 @@ has_own p s h = some_of (job_at p.jobs s) (has_by p s (job_at p.jobs s) h)
 
 pub nobody_here : (p : Plain) (s : ℕ) (h : Whole → Whole) (o : Option Job) → o ≡ job_at p.jobs s → o ≡ None → Becomes p p (in_job (machine_of p) s h)
 nobody_here p s h o is none = record {
-  machine = machine_is _ _ (slot_at _ _ s h (nobody_is p s e ∙ sym (ap (option_map h) (nobody_is p s e))) (λ k ne. refl)) (λ k. refl) (λ k. refl) refl refl refl (λ k. refl);
+  machine = machine_is _ _ (slot_at _ _ s h (nobody_is p s e ∙ sym (ap (option_map h) (nobody_is p s e))) (λ k ne. refl)) (λ k. refl) (λ k. refl) refl refl refl (λ k. refl) (λ k. refl);
   place = refl;
   touched = refl;
 }
@@ -162,7 +162,7 @@ given_holders hs c s k l = changed_at (holder_at (slice_set hs c (Some s))) (hol
 
 given_machine : (p : Plain) (c s : ℕ) → c < length p.holders → machine_of (record p { holders = slice_set p.holders c (Some s) }) ≡ record (machine_of p) { holders = changed (machine_of p).holders c (Some s) }
 unfolding machine_of
-given_machine p c s l = machine_is _ _ (λ k. refl) (λ k. refl) (λ k. given_holders p.holders c s k l) refl refl refl (λ k. refl)
+given_machine p c s l = machine_is _ _ (λ k. refl) (λ k. refl) (λ k. given_holders p.holders c s k l) refl refl refl (λ k. refl) (λ k. refl)
 
 pub console_given : (old new : Plain) (c s : ℕ) → c < length old.holders → new ≡ record old { holders = slice_set old.holders c (Some s) }
     → Becomes old new (record (machine_of old) { holders = changed (machine_of old).holders c (Some s) })
@@ -249,7 +249,7 @@ clearing_ends old now s q ge le b = let e : q ≡ 4 = omega arith in subst (Clea
 pub reserved_clear : (old mid new : Cores) (s : ℕ) → Only (clear_at old) (clear_at mid) s (Some 0) → Only (clear_at mid) (clear_at new) s (Some 4) → Only (clear_at old) (clear_at new) s (Some 4)
 reserved_clear old mid new s a b = record { here = b.here; others = λ k ne. b.others k ne ∙ a.others k ne }
 
--- the new page of a core, where all other cores are as they were
+-- the new page of a core, if all other cores are as they were
 pub absent_still : (c d : Cores) (s k : ℕ) → d.cores ≡ c.cores → page_of (core_at c s) k ≡ None → page_of (core_at d s) k ≡ None
 absent_still c d s k e h = ap (λ (x : Core). page_of x k) (same_core c d s e) ∙ h
 

@@ -1,4 +1,4 @@
--- Each event of a session comes to its line.
+-- Each event of a session has the effect of its line.
 use Rattle.std.specs.Prelude.{◌≡◌, ◌+◌, ℕ, true, false, Option, Some, None, is_some, IsOk, List, [], ◌∷◌, take, Result, Ok, Err, OnOk, IfErr, refl}
 use Rattle.std.proofs.Common.{ap, sym, subst, ◌∙◌}
 use Rattle.its_word.specs.ArrayVec.{ArrayVec}
@@ -38,7 +38,7 @@ use Rattle.its_direct.proofs.FileLaws.{placed_machine}
 use Rattle.its_direct.proofs.SlotLaws.{touched_machine}
 use Rattle.its_direct.proofs.TouchLaws.{none_touched}
 
--- lines after which the next one stands at the same place
+-- lines after which the next one is at the same place
 abbrev Settled : Event → Type 0
 Settled e = (x : Spot) → place_after (place_of x) e ≡ place_of x
 
@@ -72,7 +72,7 @@ told_keeps e old new r (Ok u) line says at_place done refused = λ b at. record 
 }
 told_keeps e old new r (Err z) line says at_place done refused = λ b at. line b at ∙ ap (λ y. Done (quietly b y)) refused
 
--- what a line comes to that has no answer of its own is what the machine said of it
+-- the result of a line that has no answer of its own is what the machine said of it
 pub told_as : (e f : Event) (old new : Plain) (x : Result (Unit {0}) Refusal) (r : Result Answer Refusal) → e ≡ f → r ≡ answered x → Told f old new (answered x) → Told e old new r
 told_as e f old new x r is so h = subst (λ g. Told g old new r) (sym is) (subst (Told f old new) (sym so) h)
 

@@ -20,6 +20,7 @@ use Rattle.its_files.proofs.DirectoryLaws.{with_word_file}
 use Rattle.its_files.proofs.EntryLaws.{within, file_stands}
 use Rattle.its_files.proofs.RoomBehindLaws.{no_room, most_appended, room_appended}
 use Rattle.its_jobs.specs.Table.{Table, job_at, superior_at}
+use Rattle.its_pipes.specs.Pipes.{piped}
 use Rattle.its_plain.specs.CallFile.{most_files, is_full, file_named, has_file}
 use Rattle.its_plain.specs.Change.{channel_in}
 use Rattle.its_plain.specs.Machine.{Names, File, Machine}
@@ -46,7 +47,8 @@ use Rattle.its_direct.proofs.RoomLaws.{Within, within_ok, within_full}
 use Rattle.its_direct.proofs.SlotLaws.{IsPlaced, touched_machine, touched_tidy}
 use Rattle.its_direct.proofs.TouchLaws.{none_touched}
 
--- what the channels are on stays, where only what stands under one number is another: that is no draft, and a file keeps its names
+-- what the channels are on is unchanged, if only the entry under one number is another: that is no draft, and a file
+-- keeps its names
 module _ (s u : Store) (t : Table) (across : Across s t) (id : ℕ) (entry : (k : ℕ) → k ≢ id → entry_at u k ≡ entry_at s k) (words : (k : ℕ) → k ≢ id → words_at u k ≡ words_at s k)
     (undrafted : is_draft (entry_at s id) ≡ false) (named : is_file (entry_at s id) ≡ true → names_at u id ≡ names_at s id) where
   names_stay : (f : ℕ) → is_file (entry_at s f) ≡ true → names_at u f ≡ names_at s f
@@ -90,7 +92,7 @@ module _ (old new : Plain) (x : Store) (b : FilesBecome old new x) (stays : (k n
   unfolding machine_of
   files_machine = machine_is _ _
       (λ k. (λ t. raw_of (b.files t) (core_at (b.core t) k) (superior_at (b.jobs t) k) (alarm_at (b.alarms t).items k) (job_at (b.jobs t) k)) ∙ raw_stays k (job_at old.jobs k) refl)
-      (λ k. ap (λ l. console_at l.items k) b.consoles) (λ k. ap (λ l. holder_at l k) b.holders) (ap directory b.files) b.clock b.version (λ k. ap (λ l. symbols_at l.items k) b.symbols)
+      (λ k. ap (λ l. console_at l.items k) b.consoles) (λ k. ap (λ l. holder_at l k) b.holders) (ap directory b.files) b.clock b.version (λ k. ap (λ l. symbols_at l.items k) b.symbols) (λ k. ap (λ l. piped l k) b.pipes)
 
   pub files_tidy : x.mark ≡ None → Across x old.jobs → Tidy old → Tidy new
   files_tidy unmarked across tidy = record {
@@ -289,7 +291,7 @@ abbrev with_longer : Plain → ℕ → ℕ → Plain
 with_longer p id w = record p { files = with_word p.files id w }
 
 longer_only : (p : Plain) (id w : ℕ) → FilesBecome p (with_longer p id w) (with_word p.files id w)
-longer_only p id w = record { files = refl; core = refl; jobs = refl; consoles = refl; holders = refl; clock = refl; alarms = refl; version = refl; symbols = refl; place = refl; touched = refl }
+longer_only p id w = record { files = refl; core = refl; jobs = refl; consoles = refl; holders = refl; clock = refl; alarms = refl; version = refl; symbols = refl; pipes = refl; place = refl; touched = refl }
 
 room_for : (p : Plain) (id : ℕ) (ws : List ℕ) → IsStore p.files → Tidy p → is_file (entry_at p.files id) ≡ true → blocks_used p.files.stored ≤ 2048
     → Within (room_behind p.files.stored id) (length ws) (words_added (machine_of p) (names_at p.files id) ws)
@@ -363,7 +365,7 @@ adding_more old now new id k w d ws h l is made file names place tidy = record {
 pub adding_ends : (old now : Plain) (id k n : ℕ) (ws : List ℕ) → Adding old now id ws k → n ≡ length ws → n ≤ k → words_added (machine_of old) (names_at old.files id) ws ≡ Ok (machine_of now)
 adding_ends old now id k n ws h is l = sym h.rest ∙ ap (words_added (machine_of now) (names_at old.files id)) (drop_of_length-le ws (omega arith))
 
--- the line, where there is such a file, and where there is none
+-- the line, if there is such a file, and if there is none
 pub appended : (old put new : Plain) (n : Names) (ws : List ℕ) → words_added (machine_of old) n ws ≡ Ok (machine_of put) → put.place ≡ old.place → new ≡ record put { touched = no_slots }
     → Keeps old new (words_added (machine_of old) n ws)
 appended old put new n ws made place e = record {

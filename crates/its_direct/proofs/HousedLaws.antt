@@ -1,5 +1,5 @@
 -- The console of each job stays one of eight through the lines of a session.
-use Rattle.std.specs.Prelude.{if◌then◌else◌, ◌≡◌, ◌<◌, ◌+◌, ◌==◌, ℕ, Bool, true, false, Option, Some, None, IfSome, is_some, List, [], ◌∷◌, Result, Ok, Err, length, nat_lt, refl}
+use Rattle.std.specs.Prelude.{if◌then◌else◌, ◌≡◌, ◌<◌, ◌+◌, ℕ, Bool, true, false, Option, Some, None, IfSome, is_some, List, [], ◌∷◌, Result, Ok, Err, length, nat_lt, refl}
 use Rattle.std.proofs.Common.{sym, subst, arith}
 use Rattle.std.proofs.lemmas.Option.{IfSome_then}
 use Rattle.its_word.specs.Tree.{no_job}
@@ -128,7 +128,7 @@ clock_consoled : (m : Machine) (n : ℕ) (fits : Bool) → Consoled m → Consol
 clock_consoled m n true h = record { each = λ k. rung_housed (m.clock + n) (due (m.clock + n) m.jobs k) (m.jobs k) (h.each k) }
 clock_consoled m n false h = tt
 
--- what a line comes to
+-- the result of a line
 abbrev LinedConsoled : Lined → Type 0
 LinedConsoled (Done (Does n out touched b)) = Consoled n
 LinedConsoled (Done (Refuses r)) = Unit {0}

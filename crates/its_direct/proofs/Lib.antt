@@ -4,6 +4,7 @@ pub mod TouchLaws
 pub mod UserLaws
 pub mod WordLaws
 pub mod LineLaws
+pub mod LinkLaws
 pub mod LoadLaws
 pub mod AskLaws
 pub mod ConsoleLaws

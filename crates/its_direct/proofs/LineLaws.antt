@@ -35,7 +35,7 @@ put_slot m s q h is = machine_is _ _ (λ k. elim (cases_eq k s) [
       ap (on_slot m.jobs s h) e ∙ on_slot_here m.jobs s h ∙ ap (option_map h) is
       ∙ sym (ap (changed m.jobs s (Some (h q))) e ∙ (changed_only m.jobs s (Some (h q))).here)
   | inr ne ↦ on_slot_other m.jobs s k h ne ∙ sym ((changed_only m.jobs s (Some (h q))).others k ne)
-]) (λ k. refl) (λ k. refl) refl refl refl (λ k. refl)
+]) (λ k. refl) (λ k. refl) refl refl refl (λ k. refl) (λ k. refl)
 
 -- one slot is touched
 among_only : (s k : ℕ) → among k (s ∷ []) ≡ only s k
@@ -60,7 +60,7 @@ rewritten old put new s i k l had same b e = record {
 pub rewritten_tidy : (old put new : Plain) (s : ℕ) (i k : Job) → job_at old.jobs s ≡ Some i → k.channels ≡ i.channels → k.pc < 2 ^ 18 → JobBecomes old put s k → new ≡ record put { touched = one_slot s } → Tidy old → Tidy new
 rewritten_tidy old put new s i k had same placed b e tidy = touched_tidy put new (one_slot s) e (slot_tidy old put s (core_at old.core s) i k b had same placed tidy)
 
--- PC, where it is kept
+-- PC, if it is kept
 pub kept_placed : (p : Plain) (s : ℕ) (i k : Job) (o : Option Job) → o ≡ job_at p.jobs s → o ≡ Some i → k.pc ≡ i.pc → Tidy p → k.pc < 2 ^ 18
 kept_placed p s i k o is some e tidy = subst (λ (n : ℕ). n < 2 ^ 18) (sym e) (placed_at p s o i is some tidy)
 

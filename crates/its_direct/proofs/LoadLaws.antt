@@ -3,6 +3,7 @@ use Rattle.std.specs.Prelude.{◌≡◌, ◌≢◌, ◌<◌, ◌^◌, ℕ, Optio
 use Rattle.std.proofs.Common.{ap, sym, subst, ◌∙◌, inl, inr, lit<}
 use Rattle.std.proofs.lemmas.Bool.{cases_eq}
 use Rattle.std.proofs.lemmas.List.{get_or-set_same, get_or-set_other}
+use Rattle.its_pipes.specs.Pipes.{piped}
 use Rattle.its_stepped.proofs.FrameLaws.{changed_same}
 use Rattle.its_word.specs.Core.{no_core}
 use Rattle.its_word.specs.Limits.{slots}
@@ -91,6 +92,7 @@ made_machine old new s u j above console tidy least job superior core aside = ma
     (λ k. ap (λ l. console_at l.items k) aside.consoles) (λ k. ap (λ l. holder_at l k) aside.holders) (ap directory aside.files)
     aside.clock aside.version
     (λ k. ap (λ l. symbols_at l.items k) aside.symbols ∙ changed_same (symbols_at old.symbols.items) s k [] (tidy.nameless s (least_empty old.jobs.limit (job_at old.jobs) s least)))
+    (λ k. ap (λ l. piped l k) aside.pipes)
 
 pub made_tidy : (old new : Plain) (s u j : ℕ) (above console : Option ℕ) → Tidy old → least_free old.jobs.limit (job_at old.jobs) ≡ Some s
     → Only (job_at old.jobs) (job_at new.jobs) s (Some (fresh_job u j console)) → Only (superior_at old.jobs) (superior_at new.jobs) s above
@@ -121,7 +123,7 @@ same_holder holders c s h k e = elim (cases_eq k c) [
 
 pub held_keeps : (p : Plain) (s c h : ℕ) (o : Option ℕ) → o ≡ holder_at p.holders c → o ≡ Some h → machine_of p ≡ with_holder (machine_of p) s (Some c)
 unfolding machine_of
-held_keeps p s c h o is some = machine_is _ _ (λ k. refl) (λ k. refl) (λ k. same_holder (holder_at p.holders) c s h k (sym is ∙ some)) refl refl refl (λ k. refl)
+held_keeps p s c h o is some = machine_is _ _ (λ k. refl) (λ k. refl) (λ k. same_holder (holder_at p.holders) c s h k (sym is ∙ some)) refl refl refl (λ k. refl) (λ k. refl)
 
 given_by : (hs : List (Option ℕ)) (s c k : ℕ) → c < length hs → holder_at hs c ≡ None → holder_at (slice_set hs c (Some s)) k ≡ changed (holder_at hs) c (held_by s (holder_at hs c)) k
 given_by hs s c k l none = elim (cases_eq k c) [
@@ -133,7 +135,7 @@ given_by hs s c k l none = elim (cases_eq k c) [
 
 given_machine : (p : Plain) (s c : ℕ) → c < length p.holders → holder_at p.holders c ≡ None → machine_of (record p { holders = slice_set p.holders c (Some s) }) ≡ with_holder (machine_of p) s (Some c)
 unfolding machine_of
-given_machine p s c l none = machine_is _ _ (λ k. refl) (λ k. refl) (λ k. given_by p.holders s c k l none) refl refl refl (λ k. refl)
+given_machine p s c l none = machine_is _ _ (λ k. refl) (λ k. refl) (λ k. given_by p.holders s c k l none) refl refl refl (λ k. refl) (λ k. refl)
 
 pub held_given : (p new : Plain) (s c : ℕ) (o : Option ℕ) → o ≡ holder_at p.holders c → o ≡ None → c < length p.holders → new ≡ record p { holders = slice_set p.holders c (Some s) }
     → machine_of new ≡ with_holder (machine_of p) s (Some c)

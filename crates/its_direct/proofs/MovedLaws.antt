@@ -186,7 +186,7 @@ same_here : (m : Machine) (s : ℕ) (f g : Whole → Whole) → ((q : Whole) →
 same_here m s f g h = machine_is _ _ (λ k. elim (cases_eq k s) [
   | inl e ↦ ap (on_slot m.jobs s f) e ∙ on_slot_here m.jobs s f ∙ go (m.jobs s) refl ∙ sym (ap (on_slot m.jobs s g) e ∙ on_slot_here m.jobs s g)
   | inr ne ↦ on_slot_other m.jobs s k f ne ∙ sym (on_slot_other m.jobs s k g ne)
-]) (λ k. refl) (λ k. refl) refl refl refl (λ k. refl)
+]) (λ k. refl) (λ k. refl) refl refl refl (λ k. refl) (λ k. refl)
   where
     go : (o : Option Whole) → m.jobs s ≡ o → option_map f o ≡ option_map g o
     go (Some q) e = ap Some (h q e)
@@ -218,7 +218,7 @@ held_put old new s pointer a o h x tidy some by is b = record {
 pub held_fits : (mid : Plain) (n : Machine) (s : ℕ) (a : Ask) (h : Option Held) → machine_of mid ≡ n → IfSome h (HeldFits (core_of (n.jobs s)) a) → IfSome h (HeldFits (core_of ((machine_of mid).jobs s)) a)
 held_fits mid n s a h e fits = subst (λ (m : Machine). IfSome h (HeldFits (core_of (m.jobs s)) a)) (sym e) fits
 
--- the core behind it
+-- the core after it
 held_core : (m : Machine) (s : ℕ) (a : Ask) (h : Option Held) → HasJob m s → core_of ((in_job m s (with_held a h)).jobs s) ≡ held_in (core_of (m.jobs s)) a h
 held_core m s a h job = ap core_of (on_slot_here m.jobs s (with_held a h)) ∙ go (m.jobs s) h job
   where

@@ -1,4 +1,4 @@
--- The block at whose lines a session stands is that of a job, or of a file, whatever line has come.
+-- The open block of a session is that of a job or of a file, after any line.
 use Rattle.std.specs.Prelude.{◌≡◌, ◌<◌, ℕ, Bool, true, false, cond, Option, Some, None, is_some, List, [], ◌∷◌, ◌++◌, Result, Ok, Err, length, nat_lt, refl}
 use Rattle.std.proofs.Common.{ap, sym, subst, ◌∙◌, arith, eq-eqb}
 use Rattle.its_word.specs.Directory.{changed_if, longer, same_names, with_changed}
@@ -31,7 +31,7 @@ Placed m b places.File = has_file b.file m.files ≡ true
 Placed m b places.First = Unit {0}
 Placed m b places.Plain = Unit {0}
 
--- the same after what a line comes to
+-- the same after the result of a line
 abbrev pub PlacedBy : Place → Lined → Type 0
 PlacedBy p (Done (Does n out touched c)) = Placed n c p
 PlacedBy p (Done (Refuses r)) = Unit {0}

@@ -1,4 +1,4 @@
--- What a call decides can be carried out: its changes can be made, and behind them its stores and its registers.
+-- What a call decides can be carried out: its changes can be made, and after them its stores and its registers.
 use Rattle.std.specs.Prelude.{◌≡◌, ◌≤◌, ◌<◌, ◌-◌, ◌^◌, ℕ, suc, true, Option, Some, None, IfSome, is_some, List, [], ◌∷◌, Ok, drop, length, refl}
 use Rattle.std.proofs.Common.{sym, ◌∙◌, ap, subst, inl, inr, arith}
 use Rattle.std.proofs.lemmas.List.{length-drop}
@@ -19,7 +19,7 @@ use Rattle.its_frame.specs.declared.decision.Decision.TheVariants.{Waits, Goes, 
 use Rattle.its_frame.specs.declared.decision.Held.{Held}
 use Rattle.its_jobs.specs.Table.{job_at}
 use Rattle.its_plain.specs.Arguments.{input, store_of, stores_of, debts, revalued}
-use Rattle.its_plain.specs.Ask.{ask}
+use Rattle.its_plain.specs.Decode.{ask}
 use Rattle.its_plain.specs.CallStep.{Transition, decision, deposited}
 use Rattle.its_plain.specs.Change.{effect, effects}
 use Rattle.its_plain.specs.Footprint.{Stands}
@@ -68,7 +68,7 @@ held_fault c a (Some b) ss e =
     let s : Store = deposited c (input a 1) b in
     ap (λ (d : Core). first_fault d ss) (stored_one c s) ∙ fault_stored c (place s) s.word ss ∙ e
 
--- as many arguments as are owed
+-- as many arguments as are pending
 stores_few : (os : List Operand) → length (stores_of os) ≤ length os
 stores_few [] = omega arith
 stores_few (o ∷ os) = by o.place o.value (stores_few os)
@@ -104,7 +104,7 @@ goes_on v j q s a n cs h vs g = record {
   debts = held_fault q.core (revalued a vs) h (debts (revalued a vs) (length vs)) (none_refused q.core (debts (revalued a vs) (length vs)) g.debts.stored);
 }
 
--- the caller's job behind the changes
+-- the caller's job after the changes
 module _ (m : Machine) (r : Option ℕ) (j : ℕ) (q : Whole) (cs : List Change) (here : m.jobs j ≡ Some q) where
   behind : (effects_on cs j (beginning m nobody r)).raw.jobs j ≡ (effects cs j m).jobs j
   behind = ap (λ (jobs : ℕ → Option Whole). jobs j) (all_alike cs j (beginning m nobody r) m refl)

@@ -13,7 +13,8 @@ use Rattle.its_core.specs.Cores.{core_at, clear_at}
 use Rattle.its_files.specs.Files.{Store, directory}
 use Rattle.its_jobs.specs.Table.{job_at, superior_at, in_tree, IsTree, Without}
 use Rattle.its_jobs.proofs.TreeLaws.{past_none}
-use Rattle.its_plain.specs.Change.{channel_in, in_job, left_job, on_slot, passed_on, removed, shut_on, superiors, symbols_left}
+use Rattle.its_pipes.specs.Pipes.{piped}
+use Rattle.its_plain.specs.Change.{channel_in, ends_left, in_job, left_job, on_slot, passed_on, removed, shut_on, superiors, symbols_left}
 use Rattle.its_plain.specs.Machine.{Machine, Shut, Symbol, Whole}
 use Rattle.its_plain.specs.OperatorClock.{clock_end}
 use Rattle.its_plain.specs.Own.{on_channel}
@@ -161,6 +162,7 @@ bares_is old one two new s core reserved jobs aside a b = record {
     files = b.files ∙ a.files ∙ aside.files;
     clock = b.clock ∙ a.clock ∙ aside.clock;
     version = b.version ∙ a.version ∙ aside.version;
+    pipes = b.pipes ∙ a.pipes ∙ aside.pipes;
     place = b.place ∙ a.place ∙ aside.place;
     touched = b.touched ∙ a.touched ∙ aside.touched;
   };
@@ -193,6 +195,7 @@ one_sweep gone old new s i cs had f turned b = record {
     files = b.aside.files;
     clock = b.aside.clock;
     version = b.aside.version;
+    pipes = b.aside.pipes;
     place = b.aside.place;
     touched = b.aside.touched;
   };
@@ -215,7 +218,7 @@ none_sweep gone p s none f = record {
     job = λ g. none_left gone (job_at p.jobs s) none;
   };
   others = λ k ne. record { core = refl; alarm = refl; symbols = refl; job = refl };
-  shares = record { superiors = refl; reserved = λ k. refl; consoles = refl; holders = refl; files = refl; clock = refl; version = refl; place = refl; touched = refl };
+  shares = record { superiors = refl; reserved = λ k. refl; consoles = refl; holders = refl; files = refl; clock = refl; version = refl; pipes = refl; place = refl; touched = refl };
 }
 
 pub empty_sweep : (p : Plain) (r s : ℕ) (o : Option Job) → o ≡ job_at p.jobs s → o ≡ None → in_tree (superior_at p.jobs) r s ≡ false → Sweeps (in_tree (superior_at p.jobs) r) p p s
@@ -223,7 +226,7 @@ empty_sweep p r s o is none f = none_sweep (in_tree (superior_at p.jobs) r) p s 
 
 -- slot after slot
 shares_same : (p : Plain) → Shares p p
-shares_same p = record { superiors = refl; reserved = λ k. refl; consoles = refl; holders = refl; files = refl; clock = refl; version = refl; place = refl; touched = refl }
+shares_same p = record { superiors = refl; reserved = λ k. refl; consoles = refl; holders = refl; files = refl; clock = refl; version = refl; pipes = refl; place = refl; touched = refl }
 
 shares_then : (old now new : Plain) → Shares old now → Shares now new → Shares old new
 shares_then old now new a b = record {
@@ -234,6 +237,7 @@ shares_then old now new a b = record {
   files = b.files ∙ a.files;
   clock = b.clock ∙ a.clock;
   version = b.version ∙ a.version;
+  pipes = b.pipes ∙ a.pipes;
   place = b.place ∙ a.place;
   touched = b.touched ∙ a.touched;
 }
@@ -305,7 +309,7 @@ symbols_if : (b : Bool) (ss : List Symbol) → (if b then [] else ss) ≡ symbol
 symbols_if true ss = refl
 symbols_if false ss = refl
 
--- the jobs are removed behind a sweep
+-- the jobs are removed after a sweep
 pub record Removes (old mid new : Plain) (r : ℕ) : Type 0 where
   pub swept : Swept (in_tree (superior_at old.jobs) r) old mid slots
   pub jobs : Without (in_tree (superior_at mid.jobs) r) (job_at mid.jobs) (job_at new.jobs)
@@ -318,6 +322,7 @@ pub record Removes (old mid new : Plain) (r : ℕ) : Type 0 where
   pub files : new.files ≡ mid.files
   pub clock : new.clock ≡ mid.clock
   pub version : new.version ≡ mid.version
+  pub links : (l : ℕ) → piped new.pipes l ≡ ends_left (in_tree (superior_at mid.jobs) r) (piped mid.pipes l)
   pub place : new.place ≡ mid.place
   pub touched : new.touched ≡ mid.touched
 
@@ -325,8 +330,8 @@ pub removes : (old mid new : Plain) (r : ℕ) → Swept (in_tree (superior_at ol
     → Without (in_tree (superior_at mid.jobs) r) (superior_at mid.jobs) (superior_at new.jobs)
     → ((c : ℕ) → holder_at new.holders c ≡ passed_on (in_tree (superior_at mid.jobs) r) (superior_at mid.jobs r) (holder_at mid.holders c))
     → new.core ≡ mid.core → new.alarms ≡ mid.alarms → new.symbols ≡ mid.symbols → new.consoles ≡ mid.consoles → new.files ≡ mid.files → new.clock ≡ mid.clock → new.version ≡ mid.version
-    → new.place ≡ mid.place → new.touched ≡ mid.touched → Removes old mid new r
-removes old mid new r swept jobs superiors holders core alarms symbols consoles files clock version place touched = record {
+    → ((l : ℕ) → piped new.pipes l ≡ ends_left (in_tree (superior_at mid.jobs) r) (piped mid.pipes l)) → new.place ≡ mid.place → new.touched ≡ mid.touched → Removes old mid new r
+removes old mid new r swept jobs superiors holders core alarms symbols consoles files clock version links place touched = record {
   swept = swept;
   jobs = jobs;
   superiors = superiors;
@@ -338,6 +343,7 @@ removes old mid new r swept jobs superiors holders core alarms symbols consoles 
   files = files;
   clock = clock;
   version = version;
+  links = links;
   place = place;
   touched = touched;
 }
@@ -399,11 +405,14 @@ module _ (old mid new : Plain) (r : ℕ) (low : r < slots) (tree : IsTree old.jo
       b.holders c
       ∙ (λ t. passed_on (same_tree t) (slice_index_or (b.swept.shares.superiors t) r None) (holder_at (b.swept.shares.holders t) c))
 
+  links_new : (l : ℕ) → piped new.pipes l ≡ ends_left (in_tree (superior_at old.jobs) r) (piped old.pipes l)
+  links_new l = b.links l ∙ (λ t. ends_left (same_tree t) (piped (b.swept.shares.pipes t) l))
+
   stripped_machine : machine_of new ≡ removed (superior_at old.jobs) r (machine_of old)
   unfolding machine_of removed
   stripped_machine = machine_is _ _ (λ k. new_raw k (in_tree (superior_at old.jobs) r k) refl)
       (λ k. ap (λ l. console_at l.items k) (b.consoles ∙ b.swept.shares.consoles)) holders_new (ap directory files_new)
-      (b.clock ∙ b.swept.shares.clock) (b.version ∙ b.swept.shares.version) (λ k. symbols_new k ∙ symbols_if (in_tree (superior_at old.jobs) r k) (symbols_at old.symbols.items k))
+      (b.clock ∙ b.swept.shares.clock) (b.version ∙ b.swept.shares.version) (λ k. symbols_new k ∙ symbols_if (in_tree (superior_at old.jobs) r k) (symbols_at old.symbols.items k)) links_new
 
   pub stripped_row : Becomes old new (removed (superior_at old.jobs) r (machine_of old))
   stripped_row = record { machine = stripped_machine; place = b.place ∙ b.swept.shares.place; touched = b.touched ∙ b.swept.shares.touched }
@@ -454,6 +463,7 @@ removed_along sup r m n rest kept =
       jobs = λ k. left_along (in_tree sup r) (in_tree sup r k) (m.jobs k) (n.jobs k) (kept k) t;
       holders = λ c. passed_on (in_tree sup r) (sup r) (m.holders c);
       symbols = λ k. symbols_left (in_tree sup r k) (m.symbols k);
+      links = λ l. ends_left (in_tree sup r) (m.links l);
     })
 
 module _ (old mid : Plain) (r : ℕ) (low : r < slots) (tree : IsTree old.jobs.jobs old.jobs.superiors) (c : ClosesTree (in_tree (superior_at old.jobs) r) old mid slots) where

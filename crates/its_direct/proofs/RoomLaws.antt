@@ -1,4 +1,4 @@
--- The words of an a/ line are stored exactly where the pages that they make can be mapped.
+-- The words of an a/ line are stored exactly if the pages that they make can be mapped.
 use Rattle.std.specs.Prelude.{◌≡◌, ◌≢◌, ◌<◌, ◌≤◌, ◌^◌, ℕ, zero, suc, ◌+◌, ◌-◌, ◌/◌, ◌%◌, ◌||◌, ◌&&◌, not, ◌⊎◌, Bool, true, false, Option, Some, None, is_some, IsOk, List, [], ◌∷◌, Result, Ok, Err, nat_lt, length, slice_get, refl}
 use Rattle.std.proofs.Common.{sym, ◌∙◌, ap, subst, arith, inl, inr}
 use Rattle.std.proofs.lemmas.Bool.{cases_Bool, cases_eq, cases_lt, both_ways, or_parts, lt-ltb, le-ltb, ltb-true, ltb-false}
@@ -16,7 +16,7 @@ use Rattle.its_plain.specs.OperatorJobs.{with_core, stored_in, stored, word_load
 use Rattle.its_parts.proofs.PartLaws.{changed_only}
 use Rattle.its_direct.specs.Lines.{one_unless, pages_absent, pages_made_if, pages_made}
 
--- a line is obeyed where what it needs is at most what there can be, or it is refused as Full where it needs more
+-- a line is obeyed if what it needs is at most what there can be, or it is refused as Full if it needs more
 abbrev pub Within : ℕ → ℕ → Result Machine Reason → Type 0
 Within most needed (Ok m) = needed ≤ most
 Within most needed (Err r) = (r ≡ Full) × (most < needed)
@@ -130,7 +130,7 @@ made_acc c d a (suc n) h same = elim (cases_Bool (nat_lt (a + suc n) 16)) [
       ∙ sym (made_past d (a + 1) n (omega arith) ∙ ap (λ k. pages_absent d k ((a + 1 + n) / 1024 + 1 - (a + 1) / 1024)) e ∙ ap (pages_absent d (a / 1024)) f)
 ]
 
--- a word on a page makes that page, where it is absent
+-- a word on a page makes that page, if it is absent
 made_page : (c d : Core) (a n : ℕ) → 16 ≤ a → is_there d (a / 1024) ≡ true → ((j : ℕ) → j ≢ a / 1024 → is_there d j ≡ is_there c j)
     → pages_made c a (suc n) ≡ one_unless (is_there c (a / 1024)) + pages_made d (a + 1) n
 made_page c d a zero h here others =
@@ -163,7 +163,7 @@ made_page c d a (suc n) h here others =
           ap (λ j. pages_absent d j ((a + 1 + n) / 1024 + 1 - (a + 1) / 1024)) s ∙ ap (pages_absent d (a / 1024 + 1)) f
     ]
 
--- a word can be stored exactly where there is one: in an accumulator, or on a page that is present
+-- a word can be stored exactly if there is one: in an accumulator, or on a page that is present
 abbrev has : Core → ℕ → Bool
 has c x = nat_lt x 16 || is_there c (x / 1024)
 
@@ -269,7 +269,7 @@ module _ (m : Machine) (s : ℕ) (q : Whole) (is : m.jobs s ≡ Some q) (slot : 
       let g : pages_present (paged q.core k) + one_if {X = Page} None ≡ pages_present q.core + 1 = sym (ap (λ o. pages_present (paged q.core k) + one_if o) none) ∙ pages_present-with_page q.core k (Some zero_page) (omega arith) in
       omega arith
 
-  -- what a word comes to
+  -- the result of a word
   loaded_here : (a w : ℕ) → can_store q.core a ≡ true → word_loaded m s a w ≡ Ok (with_core_of m s q (store q.core a w))
   unfolding word_loaded stored
   loaded_here a w t =

@@ -50,12 +50,12 @@ record Runs (m : Machine) (j : ℕ) (q : Whole) (l : Left) : Type 0 where
   job : q.job ≡ bare l.job
   going : l.job.stopped ≡ false
 
--- nothing is written where it is what there is
+-- nothing is written if the value is the one that is there
 written_same : (m : Machine) (j : ℕ) (q : Whole) (f : Whole → Whole) → m.jobs j ≡ Some q → f q ≡ q → in_job m j f ≡ m
 written_same m j q f had e = machine_is _ _ (λ k. elim (cases_eq k j) [
   | inl h ↦ ap (on_slot m.jobs j f) h ∙ on_slot_here m.jobs j f ∙ ap (option_map f) had ∙ ap Some e ∙ sym (ap m.jobs h ∙ had)
   | inr ne ↦ on_slot_other m.jobs j k f ne
-]) (λ k. refl) (λ k. refl) refl refl refl (λ k. refl)
+]) (λ k. refl) (λ k. refl) refl refl refl (λ k. refl) (λ k. refl)
 
 -- two ways to write the same
 written_alike : (m : Machine) (j : ℕ) (q : Whole) (f g : Whole → Whole) → m.jobs j ≡ Some q → f q ≡ g q → in_job m j f ≡ in_job m j g
@@ -64,7 +64,7 @@ written_alike m j q f g had e = machine_is _ _ (λ k. elim (cases_eq k j) [
       ap (on_slot m.jobs j f) h ∙ on_slot_here m.jobs j f ∙ ap (option_map f) had ∙ ap Some e
       ∙ sym (ap (on_slot m.jobs j g) h ∙ on_slot_here m.jobs j g ∙ ap (option_map g) had)
   | inr ne ↦ on_slot_other m.jobs j k f ne ∙ sym (on_slot_other m.jobs j k g ne)
-]) (λ k. refl) (λ k. refl) refl refl refl (λ k. refl)
+]) (λ k. refl) (λ k. refl) refl refl refl (λ k. refl) (λ k. refl)
 
 own_here : (m : Machine) (j : ℕ) (q : Whole) (l : Left) → Runs m j q l → with_left l q ≡ q
 own_here m j q l r = λ t. record q { core = sym r.core t; job = sym r.job t }
@@ -176,7 +176,7 @@ one_stepped old new s n made one jobs touched place =
 pub none_made : (n : ℕ) → n ≤ 1 → n ≢ 1 → n ≡ 0
 none_made n few ne = omega (arith, few, ne)
 
--- where none is made, the unit is a call
+-- if none is made, the unit is a call
 outcome_called : (o : Outcome) (c : Core) (i : Job) → after_outcome o c i ≡ None → IsCalled o
 outcome_called (Changed d k) c i e = absurd cc
 outcome_called (Faulted f) c i e = absurd cc
@@ -203,7 +203,7 @@ series_kept old new s k outside kept made place tidy =
     let h = holds_after s k (machine_of old) (machine_of new) made (record { forest = kept.forest; alarmed = kept.alarmed; consoled = kept.consoled }) in
     record { tidy = tidy; forest = h.forest; alarmed = h.alarmed; consoled = h.consoled; placed = subst (SpotFits (machine_of new)) (sym (place ∙ outside)) tt }
 
--- where no other unit can be made, none is due
+-- if no other unit can be made, none is due
 outcome_none : (o : Outcome) (c : Core) (i : Job) → after_outcome o c i ≡ None → after_outcome (bare_outcome o) c (bare i) ≡ None
 outcome_none (Changed d k) c i e = absurd cc
 outcome_none (Faulted f) c i e = absurd cc

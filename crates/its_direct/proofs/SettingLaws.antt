@@ -1,6 +1,7 @@
 -- The lines VERSION, RO, SYM and PEEK.
 use Rattle.std.specs.Prelude.{◌≡◌, ◌≢◌, ◌<◌, ◌++◌, ◌∷◌, [], ℕ, Bool, true, false, Option, Some, None, is_some, List, Ok, Err, length, nat_lt, refl}
 use Rattle.std.proofs.Common.{ap, sym, subst, ◌∙◌}
+use Rattle.its_pipes.specs.Pipes.{piped}
 use Rattle.its_direct.proofs.LoadLaws.{empty_is}
 use Rattle.its_word.specs.Tree.{no_job}
 use Rattle.its_word.specs.Core.{Page, page_of, with_page, marked}
@@ -35,7 +36,7 @@ version_machine : (old new : Plain) (v : ℕ) → VersionBecomes old new v → m
 unfolding machine_of
 version_machine old new v b = machine_is _ _
     (λ k t. raw_of (b.files t) (core_at (b.core t) k) (superior_in (b.superiors t) k) (alarm_at (b.alarms t).items k) (b.jobs.each k t))
-    (λ k. ap (λ l. console_at l.items k) b.consoles) (λ k. ap (λ l. holder_at l k) b.holders) (ap directory b.files) b.clock b.version (λ k. ap (λ l. symbols_at l.items k) b.symbols)
+    (λ k. ap (λ l. console_at l.items k) b.consoles) (λ k. ap (λ l. holder_at l k) b.holders) (ap directory b.files) b.clock b.version (λ k. ap (λ l. symbols_at l.items k) b.symbols) (λ k. ap (λ l. piped l k) b.pipes)
 
 pub version_put : (old put new : Plain) (v : ℕ) (b : Bool) → b ≡ no_job (job_at old.jobs) → b ≡ true → VersionBecomes old put v → new ≡ record put { touched = no_slots }
     → Stands old new (versioned (machine_of old) v)
@@ -116,6 +117,7 @@ unfolding machine_of
 symbols_machine old new s x b = machine_is _ _
     (λ k t. raw_at (b.files t) (b.core t) (b.jobs t) (b.alarms t).items k) (λ k. ap (λ l. console_at l.items k) b.consoles)
     (λ k. ap (λ l. holder_at l k) b.holders) (ap directory b.files) b.clock b.version (changed_at _ _ s _ b.symbols.here b.symbols.others)
+    (λ k. ap (λ l. piped l k) b.pipes)
 
 symbol_own : (p : Plain) (s name a : ℕ) (i : Job) → job_at p.jobs s ≡ Some i → symbol_kept (machine_of p) s name a ≡ symbol_kept_if (machine_of p) s (name, a) (nat_lt (length (symbols_at p.symbols.items s)) most_symbols)
 unfolding symbol_kept

@@ -11,7 +11,7 @@ use Rattle.its_jobs.specs.Table.{job_at, superior_at}
 use Rattle.its_parts.specs.Parts.{symbols_at}
 use Rattle.its_plain.specs.Machine.{Symbol, joined, words_at}
 use Rattle.its_plain.specs.OperatorJobs.{on_job, seen, examined, shown, state_shown}
-use Rattle.its_plain.specs.OperatorSymbols.{nearest, symbol_shown}
+use Rattle.its_plain.specs.OperatorSymbols.{symbol_shown}
 use Rattle.its_direct.specs.Plain.{machine_of}
 use Rattle.its_direct.specs.declared.plain.Plain.{Plain}
 use Rattle.its_direct.proofs.LineLaws.{examined_own}
@@ -89,7 +89,7 @@ state_found p s i j u x is had superior symbol =
     ∙ ap (λ (ss : List Symbol). Ok (shown i (superior_at p.jobs s) (symbol_shown i.pc ss))) (symbols_of p s)
     ∙ ap (λ y. Ok (shown i (superior_at p.jobs s) y)) (sym symbol) ∙ ap (λ y. Ok (shown i y x)) (sym superior)
 
--- STATE shows what its version has
+-- STATE shows the fields of its version
 pub version_of : (p : Plain) → (machine_of p).version ≡ p.version
 unfolding machine_of
 version_of p = refl

@@ -1,4 +1,4 @@
--- The core and the registers of one slot are written: the machine that then stands, and what holds of it.
+-- The core and the registers of one slot are written: the machine after it, and what holds of that machine.
 use Rattle.std.specs.Prelude.{◌≡◌, ◌≢◌, ◌<◌, ◌≤◌, ◌^◌, ℕ, Bool, Option, Some, None, IfSome, List, option_map, slice_index_or, vec_len, refl}
 use Rattle.std.proofs.Common.{ap, sym, subst, ◌∙◌, inl, inr}
 use Rattle.std.proofs.lemmas.Bool.{cases_eq}
@@ -12,6 +12,7 @@ use Rattle.its_word.specs.declared.jobs.Job.{Job}
 use Rattle.its_core.specs.Cores.{Cores, core_at, clear_at}
 use Rattle.its_files.specs.Files.{Store, directory}
 use Rattle.its_jobs.specs.Table.{job_at, superior_at}
+use Rattle.its_pipes.specs.Pipes.{piped}
 use Rattle.its_plain.specs.Change.{in_job}
 use Rattle.its_plain.specs.Machine.{Whole}
 use Rattle.its_plain.specs.OperatorClock.{clock_end}
@@ -61,6 +62,7 @@ aside_then old mid new a b = record {
   alarms = b.alarms ∙ a.alarms;
   version = b.version ∙ a.version;
   symbols = b.symbols ∙ a.symbols;
+  pipes = b.pipes ∙ a.pipes;
   place = b.place ∙ a.place;
   touched = b.touched ∙ a.touched;
 }
@@ -74,7 +76,7 @@ put_then old mid new s c j a b = record {
   aside = aside_then old mid new a.aside b.aside;
 }
 
--- the machine that then stands
+-- the machine after it
 module _ (old new : Plain) (s : ℕ) (c : Core) (j : Option Job) (b : SlotBecomes old new s c j) where
   raw_other : (k : ℕ) → k ≢ s → raw_at new.files new.core new.jobs new.alarms.items k ≡ raw_at old.files old.core old.jobs old.alarms.items k
   raw_other k ne = λ t. raw_of (b.aside.files t) (b.core.others k ne t) (slice_index_or (b.superiors t) k None) (alarm_at (b.aside.alarms t).items k) (b.job.others k ne t)
@@ -91,7 +93,7 @@ slot_machine old new s c i k h b had e = machine_is _ _
     (raw_here old new s c (Some k) b ∙ ap Some (sym e) ∙ sym (ap (option_map h) (raw_some old.files old.core old.jobs old.alarms.items s i had)))
     (raw_other old new s c (Some k) b))
     (λ x. ap (λ l. console_at l.items x) b.aside.consoles) (λ x. ap (λ l. holder_at l x) b.aside.holders) (ap directory b.aside.files)
-    b.aside.clock b.aside.version (λ x. ap (λ l. symbols_at l.items x) b.aside.symbols)
+    b.aside.clock b.aside.version (λ x. ap (λ l. symbols_at l.items x) b.aside.symbols) (λ x. ap (λ l. piped l x) b.aside.pipes)
 
 -- the PC of a job is an address
 abbrev pub IsPlaced : Option Job → Type 0
@@ -100,7 +102,7 @@ IsPlaced o = IfSome o (λ j. j.pc < 2 ^ 18)
 pub placed_at : (p : Plain) (s : ℕ) (o : Option Job) (j : Job) → o ≡ job_at p.jobs s → o ≡ Some j → Tidy p → j.pc < 2 ^ 18
 placed_at p s o j is some tidy = subst IsPlaced (sym is ∙ some) (tidy.addressed s)
 
--- what holds of it, where the job keeps its channels
+-- what holds of that machine, if the job keeps its channels
 pub slot_tidy : (old new : Plain) (s : ℕ) (c : Core) (i k : Job) → SlotBecomes old new s c (Some k) → job_at old.jobs s ≡ Some i → k.channels ≡ i.channels → k.pc < 2 ^ 18 → Tidy old → Tidy new
 slot_tidy old new s c i k b had same placed tidy = record {
   unreserved = λ n. b.reserved.each n ∙ tidy.unreserved n;

@@ -1,4 +1,4 @@
--- No slot loses its job by a step but the one that makes the step and those that it disturbs.
+-- No slot loses its job by a step, except the slot that takes the step and those that the step disturbs.
 use Rattle.std.specs.Prelude.{if◌then◌else◌, ◌==◌, ◌≡◌, ◌≢◌, ◌⊎◌, ℕ, Bool, true, false, Option, Some, None, is_some, List, [], ◌∷◌, Result, Ok, Err, refl}
 use Rattle.std.proofs.Common.{sym, ◌∙◌, ap, subst, inl, inr}
 use Rattle.std.proofs.lemmas.Bool.{cases_Bool, cases_eq}
@@ -10,7 +10,7 @@ use Rattle.its_frame.specs.declared.change.Change.TheVariants as changes
 use Rattle.its_frame.specs.declared.decision.Decision.{Decision}
 use Rattle.its_frame.specs.declared.decision.Decision.TheVariants.{Waits, Goes, Ends, Gone}
 use Rattle.its_frame.specs.declared.frame.Frame.{Frame}
-use Rattle.its_plain.specs.Ask.{ask}
+use Rattle.its_plain.specs.Decode.{ask}
 use Rattle.its_plain.specs.CallStep.{Transition, acted, among, becomes, by_ask, by_delivery, by_unit, decision, ended, faulted, informs, moved, transition, transition_of, unless_stopped}
 use Rattle.its_plain.specs.Change.{effect, effects, is_gone, removed, superiors}
 use Rattle.its_plain.specs.Decide.{reach}
@@ -32,8 +32,8 @@ use Rattle.its_stepped.proofs.GivenLaws.{decision_duty}
 use Rattle.its_direct.proofs.CallingLaws.{all_alike, beginning, calling, page_for}
 use Rattle.its_direct.proofs.TouchLaws.{slot_some}
 
--- a call does its duty wherever other jobs are in calls, but for those that it reaches. Here all the others are: so it removes
--- none of them
+-- a call does its duty wherever other jobs are in calls, except for those that it reaches. Here all the others are: so
+-- it removes none of them
 abbrev crowd_by : Site → Bool → Option Whole → Option Frame
 crowd_by s false (Some q) = Some (entered s)
 crowd_by s false None = None
@@ -92,6 +92,8 @@ stays_one (changes.Remove s) j k w f quiet ne h =
 stays_one (changes.Inform s) j k w f quiet ne h = record { job = slot_some w.raw.jobs s _ k ∙ h.job; frame = h.frame }
 stays_one (changes.Delete d x y) j k w f quiet ne h = record { job = h.job; frame = h.frame }
 stays_one (changes.Rename d x y u v) j k w f quiet ne h = record { job = h.job; frame = h.frame }
+stays_one (changes.Send l x) j k w f quiet ne h = record { job = h.job; frame = h.frame }
+stays_one (changes.Receive l) j k w f quiet ne h = record { job = h.job; frame = h.frame }
 stays_one _ j k w f quiet ne h = record { job = slot_some w.raw.jobs j _ k ∙ h.job; frame = h.frame }
 
 stays : (cs : List Change) (j k : ℕ) (w : State) (f : Frame) → AllQuiet cs j w → k ≢ j → Stays w k f → is_some ((effects_on cs j w).raw.jobs k) ≡ true
@@ -160,7 +162,7 @@ slot_keeps : (m : Machine) (j k : ℕ) (o : Option Whole) → Forest m → m.job
 slot_keeps m j k (Some q) forest here = running_keeps m j k q forest here q.job.stopped
 slot_keeps m j k None forest here = tt
 
--- a job stays that the step does not disturb, and that is not the one which makes the step
+-- a job stays if the step does not disturb it and it is not the one that takes the step
 pub step_keeps : (m : Machine) (j k : ℕ) (t : Transition) → Forest m → transition m j ≡ Some t → is_some (m.jobs k) ≡ true → k ≢ j → among k t.disturbs ≡ false → is_some (t.machine.jobs k) ≡ true
 unfolding transition
 step_keeps m j k t forest e = subst (AllOf (Keeps m j k)) e (slot_keeps m j k (m.jobs j) forest refl)

@@ -1,23 +1,13 @@
 -- What an event that was obeyed leaves: what holds between two events, the place of the next line, and the jobs that there were.
-use Rattle.std.specs.Prelude.{◌≡◌, ◌<◌, ℕ, Option, Some, None, IfOk, OnErr, List, Result, Ok, Err, refl}
-use Rattle.std.proofs.Common.{ap, sym, subst, ◌∙◌, arith}
-use Rattle.its_word.specs.Limits.{slots}
-use Rattle.its_word.specs.Tree.{least_free}
+use Rattle.std.specs.Prelude.{◌≡◌, Option, Some, None, IfOk, OnErr, Result, Ok, Err, refl}
+use Rattle.std.proofs.Common.{ap, sym, subst, ◌∙◌}
 use Rattle.its_word.specs.declared.session.Event.{Event}
-use Rattle.its_word.specs.declared.session.Event.TheVariants as events
-use Rattle.its_word.specs.declared.session.Reason.{Reason}
 use Rattle.its_word.specs.declared.session.Refusal.{Refusal}
-use Rattle.its_word.specs.declared.show.JobShow.{JobShow}
-use Rattle.its_word.proofs.FreeLaws.{least_below, limit_few}
-use Rattle.its_print.specs.Printing.{Line}
 use Rattle.its_session.specs.Events.{place_after}
 use Rattle.its_session.specs.Fits.{EventFits}
-use Rattle.its_plain.specs.Machine.{Whole, Machine, no_machine, limit}
-use Rattle.its_plain.specs.Operator.{Block, no_block, Does, Refuses, Ticks, Quits, disturbs, quietly}
-use Rattle.its_plain.specs.OperatorFiles.{file_shown}
-use Rattle.its_plain.specs.OperatorClock.{clocked}
-use Rattle.its_plain.specs.OperatorJobs.{loaded_in, loaded}
-use Rattle.its_plain.specs.OperatorLines.{operate, Lined, Done, Peeks, peeked_at, lined, by_load, by_exam, by_state, by_clock, shows}
+use Rattle.its_plain.specs.Machine.{Whole, Machine, no_machine}
+use Rattle.its_plain.specs.Operator.{Block, no_block, Does, Refuses, Ticks, Quits}
+use Rattle.its_plain.specs.OperatorLines.{Lined, Done, Peeks, lined}
 use Rattle.its_plain.proofs.CallLineLaws.{SlotKept, Stays, Made, LineKeepsBy, line_keeps}
 use Rattle.its_stepped.specs.Alarmed.{Alarmed}
 use Rattle.its_stepped.specs.Consoled.{Consoled}

@@ -87,7 +87,7 @@ calls_at p c s i x had runs quiet same u = record {
       (unit_is p s i (Called x) (ap (λ (k : Cores). unit (core_at k s) i) (sym same) ∙ u));
 }
 
--- a delivery: the machine after it, before a superior is told
+-- a delivery: the machine after it, before a superior gets its report
 module _ (old mid put new : Plain) (s : ℕ) (i k : Job) (had : job_at old.jobs s ≡ Some i) (a : CoreBecomes old mid s (delivered (core_at old.core s) i).core)
     (b : JobBecomes mid put s k) (is : k ≡ (delivered (core_at old.core s) i).job) (e : new ≡ record put { touched = no_slots }) where
   abbrev came : Delivered
@@ -152,7 +152,7 @@ unfolding climbs_to
 superior_apart t s tree e =
     both_ways (climbs_to (superior_in t.superiors) s slots (Some s)) (ap (climbs_to (superior_in t.superiors) s slots) (sym e) ∙ tree.circle s) (rw (eq-eqb s s refl) refl)
 
--- telling it, and what the job itself becomes, in either order
+-- the report to the superior, and what the job itself becomes, in either order
 told_apart : (m : Machine) (s u : ℕ) (f : Whole → Whole) → u ≢ s → in_job (in_job m s f) u with_inf ≡ in_job (in_job m u with_inf) s f
 told_apart m s u f ne = machine_is _ _ (λ k. elim (cases_eq k s) [
   | inl e ↦ at_own k e
@@ -162,7 +162,7 @@ told_apart m s u f ne = machine_is _ _ (λ k. elim (cases_eq k s) [
         on_slot_other (on_slot m.jobs s f) u k with_inf other ∙ on_slot_other m.jobs s k f apart
         ∙ sym (on_slot_other (on_slot m.jobs u with_inf) s k f apart ∙ on_slot_other m.jobs u k with_inf other)
   ]
-]) (λ k. refl) (λ k. refl) refl refl refl (λ k. refl)
+]) (λ k. refl) (λ k. refl) refl refl refl (λ k. refl) (λ k. refl)
   where
     at_own : (k : ℕ) → k ≡ s → on_slot (on_slot m.jobs s f) u with_inf k ≡ on_slot (on_slot m.jobs u with_inf) s f k
     at_own k e =

@@ -8,7 +8,7 @@ joined_some : (w : ℕ) (o : Option (List ℕ)) → is_some (joined (Some w) o) 
 joined_some w (Some ws) = refl
 joined_some w None = refl
 
--- whether n words from an address on are there is told word by word
+-- whether n words from an address on are present is decided word by word
 pub seen_start : (c : Core) (a n : ℕ) → is_some (words_at c (a + 0) (n - 0)) ≡ is_some (words_at c a n)
 seen_start c a n =
     let d : a + 0 ≡ a = omega arith in

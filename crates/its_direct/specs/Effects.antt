@@ -1,12 +1,13 @@
 -- The effect of a change of a call on the machine in running form.
 -- No promise rests on this.
 use Rattle.std.specs.Prelude.{◌≡◌, ℕ, Option, Some, None}
-use Rattle.its_word.specs.Only.{Same}
+use Rattle.its_word.specs.Only.{Only, Same}
 use Rattle.its_word.specs.declared.jobs.Channel.{Channel}
 use Rattle.its_word.specs.declared.jobs.Job.{Job}
 use Rattle.its_core.specs.Cores.{core_at, clear_at}
 use Rattle.its_files.specs.Files.{Store}
-use Rattle.its_plain.specs.Machine.{Machine}
+use Rattle.its_pipes.specs.Pipes.{piped}
+use Rattle.its_plain.specs.Machine.{Pipe, Machine}
 use Rattle.its_parts.specs.Channels.{OnlyChannel}
 use Rattle.its_direct.specs.Plain.{machine_of, Tidy}
 use Rattle.its_direct.specs.declared.plain.Plain.{Plain}
@@ -29,6 +30,7 @@ pub record ChannelBecomes (old new : Plain) (s n : ℕ) (x : Channel) (t : Store
   pub alarms : new.alarms ≡ old.alarms
   pub version : new.version ≡ old.version
   pub symbols : new.symbols ≡ old.symbols
+  pub pipes : new.pipes ≡ old.pipes
   pub place : new.place ≡ old.place
   pub touched : new.touched ≡ old.touched
 
@@ -39,6 +41,22 @@ pub record OnlyStore (old new : Plain) (t : Store) : Type 0 where
   pub consoles : new.consoles ≡ old.consoles
   pub holders : new.holders ≡ old.holders
   pub files : new.files ≡ t
+  pub clock : new.clock ≡ old.clock
+  pub alarms : new.alarms ≡ old.alarms
+  pub version : new.version ≡ old.version
+  pub symbols : new.symbols ≡ old.symbols
+  pub pipes : new.pipes ≡ old.pipes
+  pub place : new.place ≡ old.place
+  pub touched : new.touched ≡ old.touched
+
+-- only the link of this number is another
+pub record LinkBecomes (old new : Plain) (l : ℕ) (o : Option Pipe) : Type 0 where
+  pub links : Only (piped old.pipes) (piped new.pipes) l o
+  pub core : new.core ≡ old.core
+  pub jobs : new.jobs ≡ old.jobs
+  pub consoles : new.consoles ≡ old.consoles
+  pub holders : new.holders ≡ old.holders
+  pub files : new.files ≡ old.files
   pub clock : new.clock ≡ old.clock
   pub alarms : new.alarms ≡ old.alarms
   pub version : new.version ≡ old.version

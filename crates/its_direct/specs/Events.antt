@@ -32,8 +32,9 @@ SpotFits m (spots.Load s) = (s < slots) × (is_some (m.jobs s) ≡ true)
 SpotFits m spots.Plain = Unit {0}
 SpotFits m (spots.File names) = has_file names m.files ≡ true
 
--- what holds between two events, and between two steps: what is tidy is so, the jobs of the machine are a forest, each alarm is to
--- come, the console of each job is one of eight, and a block at whose lines the session stands is that of a job or of a file
+-- what holds between two events, and between two steps: the machine is tidy, its jobs are a forest, the next time of
+-- each alarm is after the clock, the console of each job is one of eight, and the open block of lines is that of a job
+-- or of a file
 pub record Kept (p : Plain) : Type 0 where
   pub tidy : Tidy p
   pub forest : Forest (machine_of p)
@@ -41,7 +42,7 @@ pub record Kept (p : Plain) : Type 0 where
   pub consoled : Consoled (machine_of p)
   pub placed : SpotFits (machine_of p) p.place
 
--- the place of a line of a session, and what a block of lines speaks of there
+-- the place of a line of a session, and what a block of lines is about there
 abbrev pub place_of : Spot → Place
 place_of spots.Plain = places.Plain
 place_of (spots.Load s) = places.Load

@@ -26,5 +26,6 @@ pub record FilesBecome (old new : Plain) (x : Store) : Type 0 where
   pub alarms : new.alarms ≡ old.alarms
   pub version : new.version ≡ old.version
   pub symbols : new.symbols ≡ old.symbols
+  pub pipes : new.pipes ≡ old.pipes
   pub place : new.place ≡ old.place
   pub touched : new.touched ≡ old.touched

@@ -67,6 +67,7 @@ pub record ConsoleBecomes (old new : Plain) (c : ℕ) (x : Console) : Type 0 whe
   pub alarms : new.alarms ≡ old.alarms
   pub version : new.version ≡ old.version
   pub symbols : new.symbols ≡ old.symbols
+  pub pipes : new.pipes ≡ old.pipes
   pub place : new.place ≡ old.place
   pub touched : new.touched ≡ old.touched
 
@@ -81,6 +82,7 @@ pub record SymbolsBecome (old new : Plain) (s : ℕ) (ss : List Symbol) : Type 0
   pub clock : new.clock ≡ old.clock
   pub alarms : new.alarms ≡ old.alarms
   pub version : new.version ≡ old.version
+  pub pipes : new.pipes ≡ old.pipes
   pub place : new.place ≡ old.place
   pub touched : new.touched ≡ old.touched
 
@@ -96,6 +98,7 @@ pub record VersionBecomes (old new : Plain) (v : ℕ) : Type 0 where
   pub clock : new.clock ≡ old.clock
   pub alarms : new.alarms ≡ old.alarms
   pub symbols : new.symbols ≡ old.symbols
+  pub pipes : new.pipes ≡ old.pipes
   pub place : new.place ≡ old.place
 
 -- how many of n pages of a core, from page k on, are absent

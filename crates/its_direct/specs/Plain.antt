@@ -15,7 +15,7 @@ use Rattle.its_direct.specs.declared.plain.Plain.{Plain}
 
 -- the machine of its parts
 unfoldable pub machine_of : Plain → Machine
-machine_of p = raw_machine p.files p.core p.jobs p.alarms.items p.consoles.items p.holders p.clock p.version p.symbols.items
+machine_of p = raw_machine p.files p.core p.jobs p.alarms.items p.consoles.items p.holders p.clock p.version p.symbols.items p.pipes
 
 -- whether a slot is marked as touched
 abbrev pub is_touched : Plain → ℕ → Bool
@@ -46,6 +46,7 @@ pub record Aside (old new : Plain) : Type 0 where
   pub alarms : new.alarms ≡ old.alarms
   pub version : new.version ≡ old.version
   pub symbols : new.symbols ≡ old.symbols
+  pub pipes : new.pipes ≡ old.pipes
   pub place : new.place ≡ old.place
   pub touched : new.touched ≡ old.touched
 

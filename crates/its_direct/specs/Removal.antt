@@ -23,6 +23,7 @@ channel_left gone channels.TtyIn = channels.TtyIn
 channel_left gone channels.TtyOut = channels.TtyOut
 channel_left gone (channels.Reading f at) = channels.Reading f at
 channel_left gone (channels.Writing d) = channels.Writing d
+channel_left gone (channels.Link l w) = channels.Link l w
 
 -- the channels of slot s below m are closed: of the machine all jobs but its job, and all but jobs, is as it was
 pub record Closes (old new : Plain) (s m : ℕ) : Type 0 where
@@ -51,6 +52,7 @@ pub record Shares (old new : Plain) : Type 0 where
   pub files : new.files ≡ old.files
   pub clock : new.clock ≡ old.clock
   pub version : new.version ≡ old.version
+  pub pipes : new.pipes ≡ old.pipes
   pub place : new.place ≡ old.place
   pub touched : new.touched ≡ old.touched
 

@@ -5,7 +5,7 @@ use Rattle.its_word.specs.declared.calls.Site.{Site}
 use Rattle.its_word.specs.declared.jobs.Job.{Job}
 use Rattle.its_core.specs.Cores.{core_at}
 use Rattle.its_jobs.specs.Table.{job_at, superior_at}
-use Rattle.its_plain.specs.Ask.{ask}
+use Rattle.its_plain.specs.Decode.{ask}
 use Rattle.its_plain.specs.CallStep.{Transition, among, is_made, by_ask}
 use Rattle.its_plain.specs.Machine.{Whole, Machine}
 use Rattle.its_plain.specs.Unit.{Called, unit}
@@ -67,6 +67,7 @@ pub record Lent (p : Plain) (s : Seen) : Type 0 where
   pub alarms : s.alarms.now ≡ p.alarms
   pub version : s.version ≡ p.version
   pub symbols : s.symbols.now ≡ p.symbols
+  pub pipes : s.pipes.now ≡ p.pipes
 
 -- the machine is that of a transition, before the slots that it touches are marked; or there is none, and nothing has changed
 abbrev pub Acts : Bool → Option Transition → Plain → Plain → Type 0

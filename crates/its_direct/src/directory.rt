@@ -42,7 +42,7 @@ impl Plain {
         self.files.find(d, x, y)
     }
 
-    /// SHOW: row k of a file, from 0: its words from 8k on, up to eight of them.
+    /// SHOW: row k of a file, from 0: up to eight words, from word 8k on.
     pub fn row(&self, id: u32, k: u32) -> ArrayVec<Word, 8>
         requires few { 8 * k + 8 ≤ 2 ^ 32 }
         ensures { result.items ≡ take 8 (drop (8 * k) (words_at self.now.files id)) }

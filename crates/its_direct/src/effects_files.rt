@@ -42,7 +42,7 @@ impl Plain {
     }
 
     /// Sets a channel that is on no file and no draft to what is on none either.
-    fn put_channel(&mut self, slot: u8, n: u8, channel: Channel)
+    pub(crate) fn put_channel(&mut self, slot: u8, n: u8, channel: Channel)
         requires slot { slot < slots }
         requires channel { n < 16 }
         requires old { IsElsewhere (channel_at self.old.jobs slot n) }

@@ -128,7 +128,8 @@ impl Plain {
         }
     }
 
-    /// DEPOSIT: stores a word of a slot. NoJob if the slot is empty; NoPage if the page is absent, ReadOnly if it is so.
+    /// DEPOSIT: stores a word of a slot. NoJob if the slot is empty; NoPage if the page is absent, ReadOnly if it is
+    /// read only.
     #[tactic(auto, using(crate::proofs::LineLaws::deposit_done, crate::proofs::LineLaws::deposit_barred, crate::proofs::LineLaws::deposit_refused, crate::proofs::LineLaws::deposit_tidy, crate::proofs::SlotLaws::core_becomes))]
     pub fn deposit(&mut self, slot: u8, a: u32, w: Word) -> Result<(), Refusal>
         requires slot { slot < slots }

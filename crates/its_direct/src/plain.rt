@@ -7,6 +7,7 @@ use its_core::Core;
 use its_files::Files;
 use its_jobs::Jobs;
 use its_parts::{no_alarms, no_symbols, quiet_consoles};
+use its_pipes::Pipes;
 use its_word::{Job, NoMemory, SLOTS, Word};
 use std::alloc::Global;
 
@@ -24,8 +25,8 @@ pub enum Spot {
 
 /// The plain machine: cores, jobs, the consoles and for each of them the slot of the job that holds it, files and drafts, the clock in
 /// thirtieths, for each slot the alarm of its job if it has one (its period and its next time), the version of the session text, for
-/// each slot the symbols of its job, in the order in which they were given, the place of the next line, and the slots whose jobs the
-/// last step or line disturbed or made.
+/// each slot the symbols of its job, in the order in which they were given, the links between jobs with their words, the place of the
+/// next line, and the slots whose jobs the last step or line disturbed or made.
 #[derive(Drop)]
 pub struct Plain {
     pub core: Core,
@@ -37,6 +38,7 @@ pub struct Plain {
     pub alarms: Vec<Option<(u64, u64)>>,
     pub version: u8,
     pub symbols: Vec<ArrayVec<(Word, u32), 512>>,
+    pub pipes: Pipes,
     pub place: Spot,
     pub touched: [bool; 96],
     ghost consoles_count: { vec_len consoles ≡ 8 },
@@ -67,6 +69,7 @@ impl Plain {
         let files = Files::open(alloc)?;
         let alarms = no_alarms(alloc, SLOTS)?;
         let symbols = no_symbols(alloc, SLOTS)?;
+        let pipes = Pipes::open(alloc)?;
         Ok(Plain {
             core,
             jobs,
@@ -77,6 +80,7 @@ impl Plain {
             alarms,
             version: 1,
             symbols,
+            pipes,
             place: Spot::Plain,
             touched: [false; SLOTS],
         })

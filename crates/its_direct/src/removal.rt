@@ -1,4 +1,4 @@
-//! The removal of a job with all jobs below it: their channels, pages, alarms, symbols and consoles go with them.
+//! The removal of a job with all jobs below it: their channels, ends of links, pages, alarms, symbols and consoles go with them.
 ghost use Rattle.std.specs.Prelude.{◌≡◌, ◌<◌, [], ℕ, true, false, None, slice_index_or};
 ghost use Rattle.its_word.specs.Limits.{slots};
 ghost use Rattle.its_word.specs.declared.jobs.Channel.TheVariants.{Closed};
@@ -19,7 +19,8 @@ const CHANNELS: u8 = 16;
 
 impl Plain {
     /// Removes the job of a slot with all jobs below it: their drafts are dropped, and every channel on one of them
-    /// is closed. A console that one of them holds passes to the superior of the job, if it has one, else to nobody.
+    /// is closed, and so is each end of a link at one of them. A console that one of them holds passes to the superior of the job, if
+    /// it has one, else to nobody.
     pub(crate) fn remove(&mut self, root: u8)
         requires slot { root < slots }
         requires tidy { Tidy self.old }
@@ -70,6 +71,7 @@ impl Plain {
         self.jobs.tree();
         self.sweep(root);
         pass_on(&self.jobs, root, &mut self.holders);
+        self.pipes.leave_links(&self.jobs, root);
         self.jobs.remove_tree(root);
     }
 

@@ -13,9 +13,9 @@ use its_word::Job;
 use pdp_exec::run_units;
 
 impl Plain {
-    /// As many units of a slot's job as can be made while no interrupt is deliverable and none is a call, n at most; how many. Each of them is
-    /// a step of the job alone, and where they are fewer than n, no other is due. None is made where the slot is empty or its job is stopped;
-    /// then nothing changes. The session stands outside any block of lines.
+    /// Executes units of a slot's job, n at most, as long as no interrupt is deliverable and none is a call, and gives
+    /// their number. Each is a step of the job alone, and if they are fewer than n, no other is due. None is executed
+    /// if the slot is empty or its job is stopped; then nothing changes. No block of lines may be open.
     #[tactic(auto, using(crate::proofs::SlotLaws::placed_at, crate::proofs::SeriesLaws::series_kept, crate::proofs::SeriesLaws::due_absent, crate::proofs::SeriesLaws::due_stopped))]
     pub fn steps(&mut self, slot: u8, n: u32) -> u32
         requires slot { slot < slots }

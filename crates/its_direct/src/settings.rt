@@ -20,8 +20,8 @@ use its_word::{Refusal, Word};
 const MOST_SYMBOLS: usize = 512;
 
 impl Plain {
-    /// VERSION: where no slot has a job, the machine becomes one of this version, which can have 64 jobs, or 96 in version 2;
-    /// else it stays as it is.
+    /// VERSION: if no slot has a job, the machine becomes one of this version, which can have 64 jobs, or 96 in version
+    /// 2; else it is unchanged.
     #[tactic(auto, using(crate::proofs::SettingLaws::version_tidy, crate::proofs::SlotLaws::touched_tidy))]
     pub fn version(&mut self, v: u8)
         requires known { (1 ≤ v) × (v ≤ 2) }

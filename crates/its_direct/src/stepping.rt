@@ -65,6 +65,20 @@ impl Plain {
             Change::Remove { slot: s } => self.remove(*s),
             Change::Inform { slot: s } => self.tell(*s),
             Change::Arm { alarm } => self.arm(slot, *alarm),
+            Change::Join {
+                channel,
+                link,
+                write,
+                x,
+                y,
+            } => self.join(slot, *channel, *link, *write, *x, *y),
+            Change::Part {
+                channel,
+                link,
+                write,
+            } => self.part(slot, *channel, *link, *write),
+            Change::Send { link, word } => self.send(*link, *word),
+            Change::Receive { link } => self.receive(*link),
             Change::Delete { d, x, y } => self.delete(*d, *x, *y),
             Change::Rename {
                 d,

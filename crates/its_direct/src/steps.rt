@@ -28,7 +28,7 @@ use its_decide::{Seen, decide, disturbs};
 use its_frame::{Change, Decision, Held};
 use its_word::{Ask, Fault, Job, SLOTS, Site, Store, Word};
 
-/// For each slot whether something holds of it.
+/// For each slot whether something holds.
 type Marks = [bool; 96];
 
 impl Plain {
@@ -44,8 +44,9 @@ impl Plain {
         }
     }
 
-    /// Makes the step of a slot's job: the delivery of an interrupt, a unit, or a whole call. Where there is none, as the slot
-    /// is empty, its job is stopped, or its call waits, nothing changes. The session stands outside any block of lines.
+    /// Performs the step of a slot's job: the delivery of an interrupt, a unit, or a whole call. If there is none,
+    /// because the slot is empty, its job is stopped, or its call waits, nothing changes. No block of lines may be
+    /// open.
     #[tactic(auto, using(crate::proofs::CallStepLaws::loses_only, crate::proofs::CallStepLaws::place_stays, crate::proofs::CallStepLaws::kept_after))]
     pub fn step(&mut self, slot: u8) -> bool
         requires slot { slot < slots }
@@ -142,6 +143,7 @@ impl Plain {
             alarms: &self.alarms,
             version: self.version,
             symbols: &self.symbols,
+            pipes: &self.pipes,
         }
     }
 

@@ -44,7 +44,7 @@ pub record Grown (ls ms : List (List ℕ)) (id n b : ℕ) : Type 0 where
   pub others : (k : ℕ) → k ≢ id → blocks_of ms k ≡ blocks_of ls k
   pub free : length (free_blocks ms) + blocks_for (n + 1) ≡ length (free_blocks ls) + blocks_for n
 
--- where no block is needed
+-- if no block is needed
 pub grown_same : (ls : List (List ℕ)) (id n b : ℕ) → length ls ≡ numbers + 1 → needs_block n ≡ false → length (blocks_of ls id) ≡ blocks_for n → slice_get (blocks_of ls id) (length (blocks_of ls id) - 1) ≡ Some b → Grown ls ls id n b
 grown_same ls id n b heads need long at =
     let some : n % 128 ≢ 0 = eqb-false (n % 128) 0 need in
@@ -58,7 +58,7 @@ grown_same ls id n b heads need long at =
       free = omega arith;
     }
 
--- where one is
+-- if one is needed
 pub grown_new : (ls ms : List (List ℕ)) (id n b : ℕ) → length ls ≡ numbers + 1 → id < numbers → needs_block n ≡ true → length (blocks_of ls id) ≡ blocks_for n → first (free_blocks ls) ≡ Some b → ms ≡ with_block ls id → Grown ls ms id n b
 unfolding with_block
 grown_new ls ms id n b heads lt need long at e =
@@ -251,7 +251,7 @@ module _ (words : List ℕ) (most : ℕ) (lengths lasts : List ℕ) (free : ℕ)
       ∙ ap (λ xs. grown_by (needs_block (length (text_at (stored_in words ls lengths).texts id))) xs id) (sym (chains_are words ls lengths)) in
       λ i. record { texts = appended_texts i; chains = c i }
 
--- the same, where the words of the block are made ready first
+-- the same, if the words of the block are made ready first
 module _ (words vs : List ℕ) (most room : ℕ) (lengths lasts : List ℕ) (free : ℕ) (place : Option Place) (nodes knots : ℕ) (ls ms : List (List ℕ)) (id n b w : ℕ) (h : IsBlocks words most lengths lasts free place (record { nodes = nodes; lists = ls })) (room_is : room ≡ most) (knots_are : knots ≡ nodes) (lt : id < numbers) (n_is : n ≡ slice_index_or lengths id 0) (g : Grown ls ms id n b) (once : (x : ℕ) → times x ms ≤ 1) (vs_are : vs ≡ slice_set (block_ready words b) (128 * b + n % 128) w) where
   made_ready : 128 * b + 128 ≤ length (block_ready words b)
   made_ready =

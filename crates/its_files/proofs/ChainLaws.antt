@@ -1,4 +1,4 @@
--- A block stands at one place in the lists at most.
+-- A block occurs at one place in the lists at most.
 use Rattle.std.specs.Prelude.{◌≡◌, ◌<◌, ◌≤◌, ℕ, zero, suc, ◌+◌, Option, Some, List, [], ◌∷◌, ◌++◌, length, take, drop, slice_get, refl}
 use Rattle.std.proofs.Common.{sym, ◌∙◌, ap, inl, inr, arith}
 use Rattle.std.proofs.lemmas.Bool.{cases_eq}
@@ -37,7 +37,7 @@ apart ls x h g i j once e f = elim (cases_eq h g) [
 pub standing : (ls : List (List ℕ)) (x h i : ℕ) → slice_get (list_at ls h) i ≡ Some x → 0 < times x ls
 standing ls x h i e = let a = count-at x (list_at ls h) i e in let c = count-le-times x ls h in omega arith
 
--- what stands behind an element
+-- what follows an element
 pub behind : (xs : List ℕ) (k x : ℕ) → slice_get xs k ≡ Some x → xs ≡ take k xs ++ x ∷ drop (suc k) xs
 behind [] k x e = cc
 behind (y ∷ ys) zero x e = let h : y ≡ x = cc in rw h refl

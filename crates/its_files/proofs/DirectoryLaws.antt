@@ -91,7 +91,7 @@ module _ (s : Store) (h : IsFiles s.entries s.order s.mark s.stored.texts) where
   own : (id k : ℕ) → is_file (entry_at s id) ≡ true → 0 < count k s.order → k ≢ id → same_names (names_at s id) (names_at s k) ≡ false
   own id k f some ne = false_from_ne_true (same_names (names_at s id) (names_at s k)) (λ e. ne (sym (h.unique id k f (listed_file k some) e)))
 
-  -- the store as it is but for one number
+  -- the store as it is except for one number
   pub directory_same : (t : Store) → t.order ≡ s.order → ((k : ℕ) → is_file (entry_at s k) ≡ true → file_at t k ≡ file_at s k) → directory t ≡ directory s
   directory_same t o e = ap (λ ks. map (file_at t) ks) o ∙ files_alike s t s.order (λ k some. e k (listed_file k some))
 
@@ -289,7 +289,7 @@ helped_done es order st (Some m) = go m.owner m.parts
 pub helped_unmarked : (s t : Store) → t ≡ helped s → t.mark ≡ None
 helped_unmarked s t e = ap (λ x. x.mark) e ∙ helped_done s.entries s.order s.stored s.mark
 
--- a number that is given up or read less is in no directory that the mark comes to
+-- a number that is given up or read less is in no directory that results from the mark
 agree_set : {X Y : Type 0} (f : X → Y) (xs ys : List X) (i k : ℕ) (v d : X) → length xs ≡ length ys → f (slice_index_or xs k d) ≡ f (slice_index_or ys k d) → f (slice_index_or (slice_set xs i v) k d) ≡ f (slice_index_or (slice_set ys i v) k d)
 agree_set f xs ys i k v d l e = elim (cases_eq k i) [
   | inl s ↦ elim (cases_lt i (length xs)) [

@@ -1,4 +1,4 @@
--- What stands under the numbers, after a change at one.
+-- The entries of the numbers, after a change of one entry.
 use Rattle.std.specs.Prelude.{◌≡◌, ◌≢◌, ◌<◌, ◌≤◌, ℕ, ◌+◌, ◌*◌, Bool, true, false, cond, ◌⊎◌, Option, Some, None, is_some, List, [], ◌∷◌, ◌++◌, length, count_by, slice_set, slice_get, IfSome, refl}
 use Rattle.std.proofs.Common.{sym, ◌∙◌, ap, subst, inl, inr, arith, length-set, length-append}
 use Rattle.std.proofs.lemmas.Bool.{cases_eq, cases_lt, cases_Bool, both_ways, false_from_ne_true}
@@ -20,7 +20,7 @@ use Rattle.its_word.proofs.NamesLaws.{same_sym, same_both}
 use Rattle.its_word.specs.Table.{filled}
 use Rattle.its_word.proofs.TableLaws.{length-filled, get_or-filled}
 
--- where something stands, the number is one of all
+-- if there is an entry, its number is one of all
 pub within : (es : List (Option Entry)) (id : ℕ) → is_some (entry_in es id) ≡ true → id < length es
 within es id h = elim (cases_lt id (length es)) [
   | inl lt ↦ lt
@@ -58,7 +58,7 @@ pub listed_file : (b : Bool) (n : ℕ) → n ≡ one_if b → 0 < n → b ≡ tr
 listed_file true n e h = refl
 listed_file false n e h = absurd (omega arith)
 
--- files and drafts are all that stands
+-- the entries are files and drafts alone
 pub stand_or : (es : List (Option Entry)) → count_by is_some es ≡ count_by is_file es + count_by is_draft es
 stand_or [] = refl
 stand_or (e ∷ es) =
@@ -199,7 +199,7 @@ module _ (es : List (Option Entry)) (order : List ℕ) (mark : Option Mark) (tex
     | inr f ↦ let c = count_other id f in omega arith
   ]
 
-  -- there is a free number where there are few files or few drafts
+  -- there is a free number if there are few files or few drafts
   pub room : mark ≡ None → (length order < 256) ⊎ (count_by is_draft es < most_drafts) → count_by is_some es < length es
   room none few =
       let s = stand_or es in
@@ -236,7 +236,7 @@ module _ (es : List (Option Entry)) (order : List ℕ) (mark : Option Mark) (tex
     | inr ge ↦ get_or_past (slice_set texts id []) id [] (let l = length-set texts id [] in omega arith)
   ]
 
-  -- what holds of the mark stays where another entry changes
+  -- what holds of the mark stays if another entry changes
   gone_stays : (id : ℕ) (e : Option Entry) (old : Option ℕ) → is_some (entry_in es id) ≡ true → Gone es old → Gone (slice_set es id e) old
   gone_stays id e None s g = tt
   gone_stays id e (Some old) s g = (g.0, get_or-set_other es id old e None (λ same. let f : is_some (entry_in es old) ≡ true = ap (λ j. is_some (entry_in es j)) same ∙ s in let n : is_some (entry_in es old) ≡ false = ap is_some g.1 in absurd (both_ways (is_some (entry_in es old)) n f)) ∙ g.1)
@@ -376,7 +376,7 @@ module _ (es : List (Option Entry)) (order : List ℕ) (mark : Option Mark) (tex
   opened_files id names n f none e =
       file_changed id names n f (λ k nk g. ap (λ ns. same_names ns (names_by (entry_in es k))) e ∙ own_names id k f nk g) (subst (λ m. Marked (slice_set es id (Some (File names n))) m) (sym none) tt)
 
-  -- a file is read less: what holds of the mark stays, as none of its files or drafts is read
+  -- a file is read less: what holds of the mark is unchanged, because none of its files or drafts is read
   module _ (id : ℕ) (names : List ℕ) (n : ℕ) (read : 0 < readers_by (entry_in es id)) (e : names ≡ names_by (entry_in es id)) where
     unread_other : (k : ℕ) → readers_by (entry_in es k) ≡ 0 → entry_in (slice_set es id (Some (File names n))) k ≡ entry_in es k
     unread_other k z = get_or-set_other es id k (Some (File names n)) None (λ s. let t = ap (λ j. readers_by (entry_in es j)) s in absurd (omega arith))

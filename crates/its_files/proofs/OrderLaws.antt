@@ -1,4 +1,4 @@
--- Numbers that stand in an order, and free ones.
+-- Numbers in an order, and free ones.
 use Rattle.std.specs.Prelude.{◌≡◌, ◌≢◌, ◌<◌, ◌≤◌, ℕ, suc, ◌+◌, true, cond, Option, Some, None, is_some, List, [], ◌∷◌, ◌++◌, length, take, drop, count_by, slice_get, slice_index_or, refl}
 use Rattle.std.specs.List.{remove}
 use Rattle.std.proofs.Common.{sym, ◌∙◌, ap, inl, inr, arith}
@@ -22,14 +22,14 @@ count_more x k d xs lt ne e =
 pub count_end : (x k : ℕ) (xs : List ℕ) → length xs ≤ k → count x (take k xs) ≡ 0 → count x xs ≡ 0
 count_end x k xs le e = sym (ap (λ ys. count x ys) (take_all k xs le)) ∙ e
 
--- a number that stands once is taken out at its place
+-- a number that occurs once is taken out at its place
 pub removed : (x k : ℕ) (xs : List ℕ) → count x xs ≤ 1 → slice_get xs k ≡ Some x → remove xs k ≡ without x xs
 removed x k xs once at =
     let b = behind xs k x at in
     let c : count x (take k xs ++ x ∷ drop (suc k) xs) ≤ 1 = rw (← b) once in
     sym (ap (λ ys. without x ys) b ∙ without_split x (take k xs) (drop (suc k) xs) c)
 
--- where not all numbers are in use, some number is free
+-- if not all numbers are in use, some number is free
 all_used : {X : Type 0} (es : List (Option X)) → ((k : ℕ) → k < length es → is_some (slice_index_or es k None) ≡ true) → count_by is_some es ≡ length es
 all_used [] h = refl
 all_used (e ∷ es) h =

@@ -1,5 +1,5 @@
--- The room behind a text, whatever the other texts are: it is one less after each word that is appended, and none is
--- left where the text is full.
+-- The room at the end of a text, whatever the other texts are: it is one less after each word that is appended, and
+-- none is left if the text is full.
 use Rattle.std.specs.Prelude.{◌≡◌, ◌≢◌, ◌<◌, ◌≤◌, ℕ, ◌+◌, ◌%◌, false, eqb, [], ◌∷◌, ◌++◌, length}
 use Rattle.std.proofs.Common.{sym, ◌∙◌, ap, inl, inr, arith}
 use Rattle.std.proofs.lemmas.Bool.{cases_Bool, eqb-true, eqb-false, eq-eqb, ne_eqb, and_from, and_left, and_right}
@@ -7,7 +7,7 @@ use Rattle.std.proofs.lemmas.List.{get_or-set_same, length_push}
 use Rattle.std.proofs.lemmas.List.Sums.{sum_by-set}
 use Rattle.its_files.specs.Blocks.{Stored, text_at, blocks_for, blocks_used, needs_block, is_full, room_behind, appended, blocks}
 
--- a text is full exactly where there is no room
+-- a text is full exactly if there is no room
 pub no_room : (s : Stored) (id : ℕ) → blocks_used s ≤ blocks → is_full s id ≡ eqb (room_behind s id) 0
 unfolding room_behind
 no_room s id most = elim (cases_Bool (needs_block (length (text_at s.texts id)))) [

@@ -60,7 +60,7 @@ sum_hits w x (k ∷ ks) =
           a ∙ rw (p, q, r) (grind arith)
     ]
 
--- each number stands once among those from a on
+-- each number occurs once among those from a on
 count_before : (x a n : ℕ) → x < a → count x (range_with_len a n) ≡ 0
 count_before x a zero lt = refl
 count_before x a (suc n) lt = let h = hit_other x a (λ e. omega arith) in let r = count_before x (a + 1) n (omega arith) in omega arith
@@ -118,7 +118,7 @@ sum_texts f texts n e =
     let at : slice_index_or (range_with_len 0 n) k 0 ≡ k = omega arith in
     ap (λ j. f (text_at texts j)) (sym at))
 
--- the blocks of what stands under a number, where it is a draft, and those of all drafts
+-- the blocks of the text under a number, if it is a draft, and those of all drafts
 abbrev pub if_draft : Option Entry → ℕ → ℕ
 if_draft None n = 0
 if_draft (Some (File names readers)) n = 0
@@ -140,7 +140,7 @@ bare_words None ws h = h refl
 bare_words (Some e) ws h = refl
 
 module _ (s : Store) (whole : IsStore s) (unmarked : s.mark ≡ None) where
-  -- words stand under numbers of files and drafts alone
+  -- only the numbers of files and drafts have words
   pub words_are : (id : ℕ) → text_at s.stored.texts id ≡ words_at s id
   words_are id = bare_words (entry_at s id) (text_at s.stored.texts id) (λ e. whole.bare id e (λ u. let v : None ≡ Some id = sym (ap unlinked_old unmarked) ∙ u in cc))
 

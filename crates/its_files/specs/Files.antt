@@ -329,7 +329,7 @@ is_marked_by (Some draft) id = eqb draft id
 abbrev pub is_marked : Store → ℕ → Bool
 is_marked s id = is_marked_by (marked_draft s.mark) id
 
--- one store is another but for one number
+-- one store is another except for one number
 pub record But (s t : Store) (id : ℕ) : Type 0 where
   pub names : Only (file_names s) (file_names t) id (file_names t id)
   pub readers : Only (readers_at s) (readers_at t) id (readers_at t id)

@@ -77,3 +77,15 @@ OUT_OF_RANGE = 0o22
 -- file exists
 abbrev pub FILE_EXISTS : ℕ
 FILE_EXISTS = 0o23
+
+-- link end in use
+abbrev pub LINK_IN_USE : ℕ
+LINK_IN_USE = 0o24
+
+-- no free link
+abbrev pub NO_LINK : ℕ
+NO_LINK = 0o25
+
+-- nobody reads
+abbrev pub NOBODY_READS : ℕ
+NOBODY_READS = 0o26

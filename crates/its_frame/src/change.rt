@@ -17,7 +17,7 @@ pub enum Opened {
 }
 
 /// One small thing that a call does outside its caller's own words and registers. Channels are the
-/// caller's, by number; files go by their names, jobs by slot, consoles by number.
+/// caller's, by number; files go by their names, jobs by slot, consoles and links by number.
 #[derive(Clone, Copy, Debug, PartialEq, Eq)]
 pub enum Change {
     /// A closed channel is opened.
@@ -102,6 +102,30 @@ pub enum Change {
     /// The caller has this alarm from now on, or none: its period and its next time, in thirtieths.
     Arm {
         alarm: Option<(u64, u64)>,
+    },
+    /// An end of a link is opened at a closed channel: the writing end or the reading end of the link of this number,
+    /// which is made with these names if there is none.
+    Join {
+        channel: u8,
+        link: u8,
+        write: bool,
+        x: Word,
+        y: Word,
+    },
+    /// A channel on an end of a link is closed, and the end with it. A link without an open end is gone with its words.
+    Part {
+        channel: u8,
+        link: u8,
+        write: bool,
+    },
+    /// A word is put at the end of a link.
+    Send {
+        link: u8,
+        word: Word,
+    },
+    /// The first word of a link is taken.
+    Receive {
+        link: u8,
     },
     /// A file is deleted.
     Delete {

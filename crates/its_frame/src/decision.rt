@@ -3,8 +3,8 @@ use arrayvec::ArrayVec;
 use its_word::{Exit, Store, Word};
 
 /// Why a call cannot go on: it is HANG; its time has not come; the input of a console is empty or
-/// held by another; 64 bytes wait in its output, or another holds it; or output bytes wait that have
-/// to be taken first.
+/// held by another; 64 bytes wait in its output, or another holds it; output bytes wait that have
+/// to be taken first; or a link has no word to be read, or no room for one more.
 #[derive(Clone, Copy, Debug, PartialEq, Eq)]
 pub enum Wait {
     Hang,
@@ -12,6 +12,8 @@ pub enum Wait {
     Input(u8),
     Output(u8),
     Drained(u8),
+    Empty(u8),
+    Room(u8),
 }
 
 /// A byte or word that was taken and is not yet stored, in the form in which it was taken, and the address of its

@@ -38,3 +38,9 @@ pub const BAD_POINTER: u8 = 0o21;
 pub const OUT_OF_RANGE: u8 = 0o22;
 /// A file has these names.
 pub const FILE_EXISTS: u8 = 0o23;
+/// The end of the link is open, or was open.
+pub const LINK_IN_USE: u8 = 0o24;
+/// As many links are there as there can be.
+pub const NO_LINK: u8 = 0o25;
+/// The reading end of the link is closed.
+pub const NOBODY_READS: u8 = 0o26;

@@ -1,6 +1,10 @@
 //! Calls in progress as data: the frames that a job goes through inside a call of the monitor, what a
 //! call does at its commit, and the small changes that it makes outside its own words and registers;
 //! and the names of calls and of variables.
+//!
+//! Proved: `left` is the number of unwinding steps of a frame, at most 4. `CallName::row` is the table of calls;
+//! `CallName::named` gives the call of a name, and `Variable::named` the variable of a name. The error numbers are
+//! those of the definitions (the law `errors_are`).
 #![tactic(auto)]
 
 mod change;

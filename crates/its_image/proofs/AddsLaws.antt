@@ -20,7 +20,7 @@ lines_one : (e : Event) → lines_text (e ∷ []) ≡ event_line e
 unfolding lines_text
 lines_one e = append-nil (event_line e)
 
--- some lines, and those behind them
+-- some lines, and those after them
 pub then_adds : (a b : List Event) (old mid new : List ℕ) → Adds a old mid → Adds b mid new → Adds (a ++ b) old new
 then_adds a b old mid new f s = record {
   text = s.text ∙ ap (λ x. x ++ lines_text b) f.text ∙ append_assoc old (lines_text a) (lines_text b) ∙ ap (λ x. old ++ x) (sym (lines_append a b));

@@ -14,7 +14,7 @@ use Rattle.its_word.proofs.PageLaws.{can_store-no_core, can_store-with_page_acc,
 use Rattle.its_plain.specs.OperatorJobs.{stored, stored_in}
 use Rattle.its_image.specs.Loading.{has_page, image_word, on_page, word_by}
 
--- a core that has some words, where also the pages of `has` are there
+-- a core that has some words, if also the pages of `has` are there
 pub record CoreIs (has : ℕ → Bool) (cells : List (ℕ × ℕ)) (c : Core) : Type 0 where
   pub long : length c.pages ≡ 256
   pub words : (b : ℕ) → b < 2 ^ 18 → word_at c b ≡ word_by (lookup (nat_eq b) cells) (nat_lt b 16 || has (b / 1024))
@@ -67,7 +67,7 @@ lookup_other b a w cells h = by (lookup (nat_eq b) cells) refl
     by None e = lookup_last b a w cells e ∙ ap (λ t. cond t (Some w) None) h
     by (Some v) e = lookup_first b a w v cells e
 
--- one word more, where one can be stored
+-- one word more, if one can be stored
 is_kept : (o : Option ℕ) (b : Bool) → is_some (word_by o b) ≡ true → o ≡ None → b ≡ true
 is_kept (Some v) b h e = cc
 is_kept None true h e = refl

@@ -165,7 +165,7 @@ pub gather_blanks : (k b : Bool) (text then : List ℕ) (old new : Lines) (left 
 gather_blanks k b text then old new left mid rest s r ready n before t =
     gather_long k b text then (replicate 256 32) old new left mid rest s r ready n before t refl refl
 
--- by what the end comes to
+-- by the result at the end
 pub gathered_by : (b : Bool) (o : Result (Unit {0}) Unread) (text : List ℕ) (left rest : Option (List ℕ)) → o ≡ read_whole b → Gathered (read_whole b) text left rest → Gathered o text left rest
 gathered_by b o text left rest is g = subst (λ x. Gathered x text left rest) (sym is) g
 

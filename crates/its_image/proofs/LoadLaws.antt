@@ -96,7 +96,7 @@ abbrev pairs : ℕ → List ℕ → List (ℕ × ℕ)
 pairs a [] = []
 pairs a (w ∷ ws) = (a, w) ∷ pairs (a + 1) ws
 
--- no word stands from an address on
+-- there is no word from an address on
 abbrev Below : ℕ → List (ℕ × ℕ) → Type 0
 Below a cells = All (λ c. c.0 < a) cells
 

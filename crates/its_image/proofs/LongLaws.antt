@@ -1,4 +1,4 @@
--- A line of more than 255 bytes ends a text: neither what stands in it nor what stands behind it counts.
+-- A line of more than 255 bytes ends a text: neither what is in it nor what follows it counts.
 use Rattle.std.specs.Prelude.{◌≡◌, ◌≤◌, ◌<◌, ◌+◌, ◌&&◌, ℕ, Bool, true, false, Result, Ok, Err, List, [], ◌∷◌, ◌++◌, length, fold, nat_le, nat_lt, refl}
 use Rattle.std.proofs.Common.{sym, ◌∙◌, ap, arith, inl, inr}
 use Rattle.std.specs.List.{list_all, position_or_len}
@@ -104,7 +104,7 @@ none_assembled b ls x behind h f m =
     subst_lines : lines_of b ≡ ls ++ x ∷ behind → Assembles (from_line (laid_out before_all (lines_of b)) 1 nothing_made (lines_of b)) → Assembles (from_line (laid_out before_all (ls ++ x ∷ behind)) 1 nothing_made (ls ++ x ∷ behind))
     subst_lines e m = rw e at m
 
--- how many lines stand before the first that is long
+-- how many lines are before the first one that is long
 abbrev pub all_short : List (List ℕ) → Bool
 all_short ls = list_all (λ line. nat_le (length line) 255) ls
 

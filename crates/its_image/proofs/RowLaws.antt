@@ -15,7 +15,7 @@ use Rattle.its_image.specs.Written.{goes_on, rows_from, rows, symbol_lines}
 use Rattle.its_image.specs.Made.{Adds, AddsRow, RowFits, RowsSo, row_line}
 use Rattle.its_image.proofs.AddsLaws.{as_added, none_added, then_adds}
 
--- what stands behind i of some cells
+-- what follows i of some cells
 front : (rest : List (ℕ × ℕ)) (i : ℕ) (d : ℕ × ℕ) → i < length rest → drop i rest ≡ get_or rest i d ∷ drop (i + 1) rest
 front rest i d h = rw add-one (drop-cons rest i d h)
 
@@ -70,7 +70,7 @@ all_taken [] (suc k) h = refl
 all_taken (x ∷ xs) zero h = absurd (omega arith)
 all_taken (x ∷ xs) (suc k) h = ap (λ y. x ∷ y) (all_taken xs k (omega arith))
 
--- the first of some words, and those behind it
+-- the first of some words, and those after it
 behind_first : (c : ℕ × ℕ) (cells : List (ℕ × ℕ)) → take (length (c ∷ cells) - 1) (drop 1 (c ∷ cells)) ≡ cells
 behind_first c cells = all_taken cells (length (c ∷ cells) - 1) (omega arith)
 

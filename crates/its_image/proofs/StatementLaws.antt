@@ -147,7 +147,7 @@ job_fits (first ∷ u ∷ j ∷ c ∷ []) = choose IsJob (bytes_eq first (codes 
     by (Some k) h = choose IsJob (is_name u) _ None (λ a. choose IsJob (is_name j) _ None (λ b. record { uname = named u a; jname = named j b; console = h }) (λ f. tt)) (λ f. tt)
 job_fits _ = tt
 
--- a statement that may stand at a stage
+-- a statement that is allowed at a stage
 abbrev pub StatementFits : Stage → Statement → Type 0
 StatementFits Begin s = IsJob s
 StatementFits Body s = BodyFits s

@@ -74,7 +74,7 @@ pub same_lines : (bytes : List ℕ) → lines_from true [] bytes ≡ lines_of by
 unfolding lines_of
 same_lines bytes = lines_are [] bytes ∙ ap whole_lines (fronted_none (runs bytes))
 
--- no LF stands in a line
+-- a line contains no LF
 abbrev pub clean : List ℕ → Bool
 clean line = list_all (λ b. not (b == 10)) line
 
@@ -130,7 +130,7 @@ joined_from (l ∷ ls) h =
 pub joined_lines : (ls : List (List ℕ)) → all_clean ls ≡ true → lines_of (joined ls) ≡ ls
 joined_lines ls h = sym (same_lines (joined ls)) ∙ joined_from ls h
 
--- and one behind them, without its LF
+-- and one after them, without its LF
 one_line : (kept line : List ℕ) → clean line ≡ true → 1 ≤ length line → lines_from true kept line ≡ (kept ++ line) ∷ []
 one_line kept [] h some = absurd (omega arith)
 one_line kept (b ∷ []) h some =

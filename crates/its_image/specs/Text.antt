@@ -23,7 +23,7 @@ Assembles (Err fault) = ⊥
 unfoldable pub joined : List (List ℕ) → List ℕ
 joined lines = flat_map (λ line. line ++ 10 ∷ []) lines
 
--- the lines of a text so far, none of which is long; and their text, where memory was found for it
+-- the lines of a text so far, none of which is long; and their text, if memory was found for it
 pub record LinesSo (kept : Bool) (text : List ℕ) (r : Lines) (left rest : Option (List ℕ)) : Type 0 where
   pub lines : List (List ℕ)
   pub read : List ℕ
@@ -39,8 +39,8 @@ abbrev pub read_whole : Bool → Result (Unit {0}) Unread
 read_whole true = Ok tt
 read_whole false = Err unreads.NoMemory
 
--- the text that was kept of what was read stands for the bytes of the source: it is assembled as they are, and where it is, all were read.
--- Where the source failed, what was read decides nothing; and want of memory does not hide that there are too many lines
+-- the text that was kept is assembled as the bytes of the source are; if the result is an image, all bytes were read.
+-- If the source failed, what was read decides nothing. Want of memory does not hide that there are too many lines
 abbrev pub StandsFor : Result (Unit {0}) Unread → List ℕ → List ℕ → List ℕ → Type 0
 StandsFor (Ok x) bytes text read = (runs_past bytes ≡ false) × (assembly text ≡ assembly bytes) × (Assembles (assembly bytes) → read ≡ bytes)
 StandsFor (Err unreads.Beyond) bytes text read = runs_past bytes ≡ true

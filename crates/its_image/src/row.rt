@@ -5,7 +5,7 @@ ghost use Rattle.its_image.specs.Written.{goes_on};
 use arrayvec::ArrayVec;
 use its_word::Word;
 
-/// Consecutive words from an address on, 1 to 16 of them.
+/// Consecutive words from an address on, 1 to 16.
 #[derive(Debug, Drop)]
 pub struct Row {
     pub start: u32,

@@ -6,7 +6,7 @@ ghost use Rattle.its_image.specs.Text.{Gathered, read_whole};
 use its_io::Source;
 use its_reader::{Lines, Next};
 
-/// The placeholder of a line of more than 255 bytes, of which no more is looked at.
+/// The placeholder of a line of more than 255 bytes, the rest of which is not looked at.
 const LONG: [u8; 256] = [b' '; 256];
 
 /// Why there is no text.
@@ -20,8 +20,8 @@ pub enum Unread {
     NoMemory,
 }
 
-/// Reads a text to its end, or to a line of more than 255 bytes: what is then kept is assembled as the text is. Where memory is refused,
-/// it is read on all the same, as it may have too many lines.
+/// Reads a text to its end, or to a line of more than 255 bytes: what is then kept is assembled as the text is. If
+/// memory is refused, the text is still read on, because it may have too many lines.
 #[tactic(auto, using(crate::proofs::GatherLaws::gather_start, crate::proofs::GatherLaws::gather_next, crate::proofs::GatherLaws::gather_end, crate::proofs::GatherLaws::gather_blanks, crate::proofs::GatherLaws::gather_beyond, crate::proofs::GatherLaws::gather_failed, crate::proofs::GatherLaws::few_read, crate::proofs::GatherLaws::few_blanks))]
 pub fn read_text<S: Source>(text: &mut Vec<u8>, src: &mut S) -> Result<(), Unread>
     requires empty { text.old.items ≡ [] }
@@ -43,14 +43,14 @@ pub fn read_text<S: Source>(text: &mut Vec<u8>, src: &mut S) -> Result<(), Unrea
     }
 }
 
-/// What the end of a text comes to: whether all of it is kept.
+/// The result at the end of a text, by whether all of it is kept.
 fn read_whole(kept: bool) -> Result<(), Unread>
     ensures { result ≡ read_whole kept }
 {
     if kept { Ok(()) } else { Err(Unread::NoMemory) }
 }
 
-/// Adds a line and its LF, where all before it is kept. Whether it is kept too.
+/// Adds a line and its LF, if all before it is kept; whether it is also kept.
 fn keep_line(kept: bool, text: &mut Vec<u8>, line: &[u8]) -> bool
     ensures before { result ≡ true → kept ≡ true }
     ensures kept { result ≡ true → text.new.items ≡ text.old.items ++ (line.now ++ 10 ∷ []) }
@@ -67,7 +67,7 @@ fn keep_line(kept: bool, text: &mut Vec<u8>, line: &[u8]) -> bool
     true
 }
 
-/// Adds what stands for a line of more than 255 bytes, where all before it is kept. Whether it is kept too.
+/// Adds 256 blanks for a line of more than 255 bytes, if all before it is kept; whether they are also kept.
 fn keep_long(kept: bool, text: &mut Vec<u8>) -> bool
     ensures before { result ≡ true → kept ≡ true }
     ensures kept { result ≡ true → text.new.items ≡ text.old.items ++ replicate 256 32 }

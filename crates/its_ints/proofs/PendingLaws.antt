@@ -1,4 +1,4 @@
--- Where nothing is pending, nothing can be delivered.
+-- If nothing is pending, nothing can be delivered.
 use Rattle.std.specs.Prelude.{◌≡◌, ◌==◌, ◌||◌, not, ℕ, false, bit_and}
 use Rattle.std.specs.Int.Bits.{and_zero_l}
 use Rattle.std.proofs.Common.{◌∙◌, ap}

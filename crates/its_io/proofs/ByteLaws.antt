@@ -6,7 +6,7 @@ use Rattle.std.proofs.KnownBytes.{Appends-trans}
 use Rattle.std.specs.declared.option.Option.{Option}
 use Rattle.std.specs.Io.KnownBytes.{Appends}
 
--- these bytes were written, but for the rest
+-- these bytes were written, except for the rest
 pub record Writing (old new : Option (List ℕ)) (bytes rest : List ℕ) : Type 0 where
   pub wrote : List ℕ
   pub appended : Appends old new wrote
@@ -21,7 +21,7 @@ wrote_more a b c bytes rest n w more = record {
   parts = w.parts ∙ ap (λ l. w.wrote ++ l) (sym (take-append-drop n rest) ∙ ap (λ l. take n rest ++ l) (sym (take_rest rest n))) ∙ sym (append_assoc w.wrote (take n rest) _);
 }
 
--- what is left stands in two parts, those that are given and those that stay
+-- what is left has two parts: the bytes that are given and those that stay
 pub left_in_parts : (xs : List ℕ) (at n : ℕ) → take n (drop at xs) ++ drop (at + n) xs ≡ drop at xs
 left_in_parts xs at n = grind (arith, common_steps, take-append-drop n (drop at xs))
 

@@ -46,8 +46,8 @@ impl Source for RealSource {
     }
 }
 
-/// Standard output, flushed after each write, with a count of the writes that failed. A write that
-/// took none of some bytes, and a flush that failed, count as faults; contracts see the count.
+/// Standard output, which keeps no bytes back, with a count of the writes that failed. A write that
+/// took none of some bytes counts as a fault; contracts see the count.
 #[derive(Drop)]
 pub struct RealSink {
     stdout: Stdout,
@@ -77,10 +77,8 @@ impl Sink for RealSink {
     ghost faults = { λ s. s };
 
     fn write(&mut self, bytes: &[u8]) -> Result<usize, Failed> {
-        let written = self.stdout.write(bytes);
-        let flushed = self.stdout.flush().is_ok();
-        match written {
-            Ok(count) if flushed && (count > 0 || bytes.is_empty()) => Ok(count),
+        match self.stdout.write(bytes) {
+            Ok(count) if count > 0 || bytes.is_empty() => Ok(count),
             _ => {
                 self.faults = next_fault(self.faults);
                 Err(Failed)

@@ -49,7 +49,7 @@ pub trait Sink {
         ensures cause { HasCause (faults self.old) (faults self.new) result };
 }
 
-/// Writes all the bytes by calls of `write`. If one fails, the bytes written are the first of these.
+/// Writes all the bytes by calls of `write`. If one fails, the bytes written are the first part of the bytes.
 pub fn write_all<K: Sink>(out: &mut K, bytes: &[u8]) -> Result<(), Failed>
     ensures all { OnOk result (Appends (K.written out.old) (K.written out.new) bytes.now) }
     ensures begun { OnErr result ((wrote : List ℕ) × Wrote (K.written out.old) (K.written out.new) wrote bytes.now) }

@@ -63,6 +63,8 @@ fn safe(rt: HostRuntime) -> Result<(), Fail> {
 fn real(rt: HostRuntime) -> Result<(), Fail> {
     let mut source = RealSource::new(rt.stdin());
     assert_eq!(rt; read_some(&mut source, &mut [0; 8], 8)?, 0);
-    write_all(&mut RealSink::new(rt.stdout()), b"its\n")?;
+    let mut sink = RealSink::new(rt.stdout());
+    write_all(&mut sink, b"its\n")?;
+    assert_eq!(rt; sink.write(b""), Ok(0));
     Ok(())
 }

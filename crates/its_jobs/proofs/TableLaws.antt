@@ -56,7 +56,7 @@ removed jobs superiors s t h leaf =
       circle = circle_cut (superior_in superiors) (superior_in (slice_set superiors s None)) (λ k. k == s) (λ k. emptied_at superiors s k in_superiors) t.circle;
     }
 
--- no slot has a job where none of the places has
+-- no slot has a job if none of the places has
 pub nobody : (jobs : List (Option Job)) (k : ℕ) → length jobs ≡ slots → no_job (λ i. slice_index_or jobs i None) ≡ true → slice_index_or jobs k None ≡ None
 nobody jobs k n h = elim (cases_lt k slots) [
   | inl l ↦ no_job_there (λ i. slice_index_or jobs i None) k h l

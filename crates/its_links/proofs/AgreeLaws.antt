@@ -21,7 +21,7 @@ walk_set g n lists h l lt w others k less = elim (cases_eq k h) [
 ]
 
 module _ (n : ℕ) (f : ℕ → ℕ) (lists : List (List ℕ)) (a : Agrees n f lists) where
-  -- what is no node stands in no list
+  -- what is no node is in no list
   pub gone : (y : ℕ) → n ≤ y → times y lists ≡ 0
   gone y ge = elim (cases_lt 0 (times y lists)) [
     | inl lt ↦ let b = a.below y lt in absurd (omega arith)
@@ -84,7 +84,7 @@ module _ (n : ℕ) (f : ℕ → ℕ) (lists : List (List ℕ)) (a : Agrees n f l
       walk_same f g (n + k) (list_at lists k) (n + k) (a.walks k lt)
       (λ y less. x.others y (λ e. let c = ap (λ z. count z ((n + k) ∷ list_at lists k)) e in omega arith) (λ e. let c = ap (λ z. count z ((n + k) ∷ list_at lists k)) e in omega arith))
 
-  -- what leads to a number is what stands before it
+  -- what leads to a number is the element before it
   pub last_is : (h m p : ℕ) → h < length lists → n + h < m → n ≤ m → ((r : ℕ) → r < m → f r ≡ n + h → r ≡ p) → last (n + h) (list_at lists h) ≡ p
   last_is h m p lt less le only =
       only (last (n + h) (list_at lists h)) (last_below h m (list_at lists h) less le (λ y some. some)) (walk_last f (n + h) (list_at lists h) (n + h) (a.walks h lt))
@@ -183,7 +183,7 @@ module _ (n : ℕ) (f : ℕ → ℕ) (lists : List (List ℕ)) (a : Agrees n f l
         ];
       }
 
-  -- one list behind another
+  -- one list after another
   pub spliced_counts : (s t y : ℕ) → s < length lists → t < length lists → s ≢ t → times y (slice_set (slice_set lists t (list_at lists t ++ list_at lists s)) s []) ≡ times y lists
   spliced_counts s t y ls lt ne =
       let u = times-set y lists t (list_at lists t ++ list_at lists s) lt in
@@ -253,7 +253,7 @@ module _ (n : ℕ) (f : ℕ → ℕ) (lists : List (List ℕ)) (a : Agrees n f l
       let b = a.below x some in
       follows x p.back (n + s.head) w.1 (λ e. omega arith) (omega arith)
 
-  -- what follows a node is a node just where a list goes on
+  -- what follows a node is a node exactly if a list goes on
   pub first_is : (y : ℕ) (xs : List ℕ) (b : ℕ) (r : Option ℕ) → Walk f y xs b → n ≤ b → ((z : ℕ) → 0 < count z xs → z < n) → (f y < n → r ≡ Some (f y)) → (n ≤ f y → r ≡ None) → r ≡ first xs
   first_is y [] b r w le below some none = none (omega arith)
   first_is y (x ∷ xs) b r w le below some none = let h = hit_same x in let l = below x (omega arith) in let e = w.0 in some (omega arith) ∙ ap Some e

@@ -127,7 +127,7 @@ module _ (n : ℕ) (next : List ℕ) (v : Linked) (o : Opened n next v) where
   pub short_lists : (h : ℕ) → length (list_at v.lists h) ≤ v.nodes
   short_lists h = let f = few n (link next) v.lists o.agrees h in let k = o.nodes in omega arith
 
--- a node that begins a list stands in it
+-- a node that begins a list is in it
 pub first_times : (ls : List (List ℕ)) (h x : ℕ) → first (list_at ls h) ≡ Some x → 0 < times x ls
 first_times ls h x e = let c = count-le-times x ls h in let s = hit_same x in let f = count_first x x (list_at ls h) e in omega arith
 

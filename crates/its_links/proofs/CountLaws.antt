@@ -1,4 +1,4 @@
--- How often a node stands in lists that are set, joined or cut.
+-- How often a node is in lists that are set, joined or cut.
 use Rattle.std.specs.Prelude.{◌≡◌, ◌≢◌, ◌<◌, ◌≤◌, ℕ, zero, suc, ◌+◌, cond, Some, List, [], ◌∷◌, ◌++◌, length, map, slice_set, refl}
 use Rattle.std.proofs.Common.{sym, ◌∙◌, ap, inl, inr, arith, length-set}
 use Rattle.std.proofs.lemmas.Bool.{cases_eq, cases_lt, eq-eqb, ne_eqb}
@@ -23,7 +23,7 @@ pub count-append : (x : ℕ) (xs ys : List ℕ) → count x (xs ++ ys) ≡ count
 count-append x [] ys = omega arith
 count-append x (z ∷ zs) ys = let r = count-append x zs ys in omega arith
 
--- where a node stands in a list
+-- the place of a node in a list
 pub record Split (x : ℕ) (l : List ℕ) : Type 0 where
   pub front : List ℕ
   pub back : List ℕ
@@ -39,7 +39,7 @@ split x (y ∷ ys) h = elim (cases_eq x y) [
       record { front = y ∷ r.front; back = r.back; is = ap (λ zs. y ∷ zs) r.is }
 ]
 
--- which list a node stands in
+-- which list a node is in
 pub record Stands (x : ℕ) (ls : List (List ℕ)) : Type 0 where
   pub head : ℕ
   pub within : head < length ls
@@ -122,7 +122,7 @@ pub times-without_other : (x z : ℕ) (ls : List (List ℕ)) → z ≢ x → tim
 times-without_other x z [] ne = refl
 times-without_other x z (l ∷ ls) ne = let a = count-without_other x z l ne in let r = times-without_other x z ls ne in omega arith
 
--- where only one list has a node, to take it out of all is to take it out of that one
+-- if only one list has a node, to take it out of all is to take it out of that one
 pub without_one : (x : ℕ) (ls : List (List ℕ)) (h : ℕ) → h < length ls → ((k : ℕ) → k ≢ h → count x (list_at ls k) ≡ 0) → map (without x) ls ≡ slice_set ls h (without x (list_at ls h))
 without_one x ls h lt others =
     let l = without x (list_at ls h) in
@@ -133,7 +133,7 @@ without_one x ls h lt others =
       | inr ne ↦ without_none x (list_at ls k) (others k ne) ∙ sym (get_or-set_other ls h k l [] ne)
     ])
 
--- a node that stands once leaves a list
+-- a node that occurs once leaves a list
 pub count-without : (x y : ℕ) (ys : List ℕ) → count y ys ≡ 1 → count x (without y ys) + hit x y ≡ count x ys
 count-without x y ys once = elim (cases_eq x y) [
   | inl e ↦

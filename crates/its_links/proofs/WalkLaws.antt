@@ -7,7 +7,7 @@ use Rattle.its_links.specs.Lists.{count, hit}
 use Rattle.its_links.specs.Rings.{Walk, walked, Exchanged}
 use Rattle.its_links.proofs.CountLaws.{hit_same, count-append}
 
--- the last of a and a list behind it
+-- the last of a and a list after it
 abbrev pub last : ℕ → List ℕ → ℕ
 last a [] = a
 last a (x ∷ xs) = last x xs

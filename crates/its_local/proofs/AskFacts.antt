@@ -156,7 +156,7 @@ error_stores : (c : Core) (x : Arg) → Fine c x → IfSome (error_at_of x) (Sto
 error_stores c (ErrorAt p) f = f
 error_stores c _ f = tt
 
--- 1, 2 or 3 where the decoding has an error
+-- 1, 2 or 3 if the decoding has an error
 error_few : (o : Option CallRow) (i n : ℕ) (b : Bool) → error_by o i n b ≤ 3
 unfolding error_by
 error_few None i n b = omega arith

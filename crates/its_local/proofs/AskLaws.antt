@@ -35,7 +35,7 @@ pub ask_of_is : (c : Core) (decode : List ℕ) (h : Shape) → ask_of c decode h
 unfolding ask_of ask_with
 ask_of_is c decode h = refl
 
--- what a block's call comes to, where it is decoded
+-- the result of a block's call, if it is decoded
 pub record Decoded (c : Core) (s : Site) (k : Ask) : Type 0 where
   pub shape : Shape
   pub shaped_is : (shaped c s).answer ≡ Ok shape
@@ -78,7 +78,7 @@ pub decode_iot : (s : Site) (n : ℕ) → (iot_ask s n).decode.items ≡ s.decod
 unfolding iot_ask
 decode_iot s n = refl
 
--- values are the same where the operand words are
+-- values are the same if the operand words are
 word_here : (q : ℕ) (ps : List ℕ) (a b : Core) → Words (q ∷ ps) a b → word_at b q ≡ word_at a q
 word_here q ps a b w = w.same q (0, omega arith, refl)
 

@@ -71,7 +71,7 @@ calculation_reaches (suc n) c w last a h e = elim (cases_Bool (is_indirect w)) [
         let x = ap (λ r. r.answer) (sym d) ∙ e in
         cc
 
--- the same, where so much of the budget is used already
+-- the same, if so much of the budget is used already
 pub record Finds (t : Traced Located) (f : Located) (used : ℕ) : Type 0 where
   pub below : f.at.e < 2 ^ 18
   pub more : used ≤ f.used
@@ -233,7 +233,7 @@ pub site_fits : (c : Core) (j : Job) (s : Site) → j.pc < 2 ^ 18 → unit c j �
 unfolding unit
 site_fits c j s p e = outcome_fits c j (reached c j).reads (reached c j).answer s (λ q h. reached_ends c j q h) p e
 
--- the budget that a call has used, wherever its instruction stands
+-- the budget that a call has used, wherever its instruction is
 done_used : (c : Core) (j : Job) (reads : List ℕ) (x : Context) (i : Instruction) (s : Site) → EndsUnit j reads x → done_by c j reads x i ≡ Called s → s.used ≤ budget
 unfolding done_by
 done_used c j reads x Iot s h e = let is : site_of x (Some x.a) reads ≡ s = cc in subst (λ (t : Site). t.used ≤ budget) is h.most

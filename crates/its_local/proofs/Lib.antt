@@ -5,7 +5,6 @@ pub mod AskLaws
 pub mod StandLaws
 pub mod TransferLaws
 pub mod TracedLaws
-pub mod TwoLaws
 pub mod FitsLaws
 pub mod AskFacts
 pub mod Examples

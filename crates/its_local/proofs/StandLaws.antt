@@ -1,5 +1,5 @@
--- What a store leaves of a call that stands. At the word of an input that is no other word of the call it renews the value of that
--- input; outside the footprint it leaves the call as it is.
+-- What a store leaves of a call that is still there. At the word of an input that is no other word of the call it
+-- renews the value of that input; outside the footprint it leaves the call as it is.
 use Rattle.std.proofs.Common.{◌≡◌, ◌≢◌, ◌<◌, ◌≤◌, ◌+◌, ◌==◌, ℕ, zero, suc, cond, Bool, true, false, List, [], ◌∷◌, ◌++◌, length, map, Option, Some, None, Ok, refl, sym, ◌∙◌, ap, inl, inr, slice_index_or, unwrap_or, arith}
 use Rattle.std.specs.List.{Contains, count_by, filter_map}
 use Rattle.std.proofs.lemmas.Bool.{cases_Bool, eqb-true, eq-eqb}
@@ -52,7 +52,7 @@ pub times_append : (p : ℕ) (xs ys : List ℕ) → times p (xs ++ ys) ≡ times
 unfolding times
 times_append p xs ys = sum_by-append (λ q. cond (q == p) 1 0) xs ys
 
--- an input whose value is renewed where its word is at p
+-- an input whose value is renewed if its word is at p
 abbrev pub renewed_value : ℕ → ℕ → ℕ → Option ℕ → ℕ
 renewed_value p v old (Some q) = cond (q == p) v old
 renewed_value p v old None = old
@@ -77,7 +77,7 @@ pub record Once (p : ℕ) (k : Ask) : Type 0 where
   pub decode : times p k.decode.items ≡ 0
   pub operand : times p k.operand.items ≡ 1
 
--- a place that does not stand in a list
+-- a place that is not in a list
 pub not_first : (p q : ℕ) (qs : List ℕ) → times p (q ∷ qs) ≡ 0 → (q ≢ p) × (times p qs ≡ 0)
 not_first p q qs t =
     let c = times_cons p q qs in
@@ -259,7 +259,7 @@ ask_stored c s k p v a can f = go s.channel refl
         let e = iot_of c s ch k n a in
         asked_by_iot (store c p v) s ch n ∙ ap Ok (iot_renewed s ch p v ∙ ap (renewed p v) e)
 
--- a store at the word of an input, where it is no other word of the call
+-- a store at the word of an input, if it is no other word of the call
 pub stands_stored : (c : Core) (j : Job) (s : Site) (k : Ask) (p v : ℕ) → Stands c j s k → can_store c p ≡ true → Free p k → Stands (store c p v) j s (renewed p v k)
 stands_stored c j s k p v h can f = record {
   unit_is = site_same c (store c p v) j s h.unit_is (stored_words c p v s.decode.items (site_words c s k p h.ask_is f.decode));

@@ -1,4 +1,4 @@
--- How a part and then another come to a value, and what reads nothing.
+-- How a part and then another result in a value, and what reads nothing.
 use Rattle.std.proofs.Common.{◌≡◌, ◌++◌, ℕ, [], Result, Ok, Err, refl, sym, ◌∙◌, ap}
 use Rattle.its_word.specs.Core.{Core}
 use Rattle.its_word.specs.declared.access.Fault.{Fault}

@@ -1,4 +1,4 @@
--- The stores of a transfer and of SLEEP: the call stands after them, with the new values of its inputs.
+-- The stores of a transfer and of SLEEP: the call is still there after them, with the new values of its inputs.
 use Rattle.std.proofs.Common.{◌≡◌, ◌≤◌, ◌+◌, ◌==◌, ◌||◌, ℕ, cond, Bool, true, false, List, [], ◌∷◌, ◌++◌, map, Option, Some, None, Ok, refl, ◌∙◌, ap, subst, nat_lt, arith}
 use Rattle.std.proofs.lemmas.Bool.{eq-eqb}
 use Rattle.std.proofs.lemmas.Bool.Decides.{nat_tests}
@@ -45,7 +45,7 @@ once_from c s k p a i h =
     let m = at_most_one (times p k.operand.items) t.1 in
     record { decode = among_none p k.decode.items t.0; operand = omega arith }
 
--- a variable stands among the inputs
+-- a variable is among the inputs
 pub first_at : (p v : ℕ) (xs : List Operand) → inputs_at p (variable v p ∷ xs) ≡ 1 + inputs_at p xs
 first_at p v xs = let e : (p == p) ≡ true = eq-eqb p p refl in let c = inputs_at_cons p (variable v p) xs in rw e at c
 

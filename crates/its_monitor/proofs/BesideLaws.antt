@@ -17,11 +17,11 @@ use Rattle.its_frame.specs.declared.decision.Decision.TheVariants.{Waits, Goes, 
 use Rattle.its_frame.specs.declared.frame.Frame.{Frame}
 use Rattle.its_frame.specs.declared.frame.Frame.TheVariants.{Entered, Parsed, Asked, Holding, Waiting, Moving, Ending}
 use Rattle.its_plain.specs.Arguments.{debts}
-use Rattle.its_plain.specs.Ask.{items_of, parse, fetch}
+use Rattle.its_stepped.specs.TwoParts.{items_of, parse, fetch, parse_by}
 use Rattle.its_plain.specs.CallStep.{becomes, faulted, informs, informed_slots, decision, among, disturbed}
 use Rattle.its_plain.specs.Change.{superiors, with_inf, effect}
 use Rattle.its_plain.specs.Decide.{reach}
-use Rattle.its_plain.specs.Decode.{Shape, shaped, ask, ask_of, ask_by, parse_by, parse_of}
+use Rattle.its_plain.specs.Decode.{Shape, shaped, ask, ask_of, ask_by}
 use Rattle.its_plain.specs.Decode as decode
 use Rattle.its_plain.specs.Interrupt.{deliverable, delivered}
 use Rattle.its_plain.specs.Machine.{Whole, Machine}
@@ -200,7 +200,7 @@ prepared_beside : (w : State) (j k : ℕ) (s : Site) (a : Ask) (b : Bool) → k 
 prepared_beside w j k s a true ne = page_others w j k same (Some (holding s a (Some 0) 0)) (Some 0) ne
 prepared_beside w j k s a false ne = turn_others w j k same (Some (holding s a None 0)) ne
 
--- a call does its duty in every state that it can find. In this one all jobs are inside a call but for those that it
+-- a call does its duty in every state that it can find. In this one all jobs are inside a call except for those that it
 -- reaches: so it changes none but these
 abbrev crowd_by : Site → Bool → Option Whole → Option Frame
 crowd_by s false (Some q) = Some (entered s)
@@ -210,7 +210,7 @@ crowd_by s true o = None
 abbrev crowd : Machine → List ℕ → Site → ℕ → Option Frame
 crowd m ks s i = crowd_by s (among i ks) (m.jobs i)
 
--- a page is reserved where the call reserves one
+-- a page is reserved if the call reserves one
 abbrev crowd_page : Bool → Option ℕ
 crowd_page true = Some quarters
 crowd_page false = None
@@ -260,8 +260,8 @@ calling_crowded w j q s a n sound forest t m here =
       full = λ e. ap crowd_page e;
     }
 
--- the changes of a call, on slot k that its commit finds in v as it is in w where it is not disturbed: one with a job has a
--- frame in u then, which has the same raw machine
+-- the changes of a call, on slot k that its commit finds in v as it is in w if it is not disturbed: one with a job has
+-- a frame in u then, which has the same raw machine
 record Finds (w v u : State) (j k : ℕ) (s : Site) : Type 0 where
   same : disturbed (plain w) j k ≡ false → SlotSame w v k
   inside : disturbed (plain w) j k ≡ false → (q : Whole) → w.raw.jobs k ≡ Some q → u.frames k ≡ Some (entered s)

@@ -16,10 +16,9 @@ use Rattle.its_frame.specs.declared.frame.Asked as askeds
 use Rattle.its_frame.specs.declared.frame.Entered as entereds
 use Rattle.its_frame.specs.declared.frame.Holding as holdings
 use Rattle.its_frame.specs.declared.frame.Parsed as parseds
-use Rattle.its_frame.specs.declared.frame.Frame.TheVariants.{Entered, Parsed, Asked, Holding, Waiting, Moving, Ending}
-use Rattle.its_plain.specs.Ask.{items_of, parse, fetch}
+use Rattle.its_frame.specs.declared.frame.Frame.TheVariants.{Entered, Parsed, Asked, Holding}
+use Rattle.its_stepped.specs.TwoParts.{items_of, parse, fetch, parse_of, fetch_of}
 use Rattle.its_plain.specs.CallStep.{faulted}
-use Rattle.its_plain.specs.Decode.{parse_of, fetch_of}
 use Rattle.its_plain.specs.Footprint.{SiteFits}
 use Rattle.its_plain.specs.Job.{bit_of, with_pending}
 use Rattle.its_plain.specs.Machine.{Whole}
@@ -37,7 +36,7 @@ use Rattle.its_monitor.specs.Ticks.{ticked, page_held}
 use Rattle.its_pclsr.proofs.RowLaws.{paged_becomes}
 use Rattle.std.proofs.lemmas.Bool.{lt-ltb}
 
--- a fact of the job of a slot, where there is one
+-- a fact of the job of a slot, if there is one
 with_some : {X : Type 0} (o : Option X) (P Q : X → Type 0) → ((x : X) → P x → Q x) → IfSome o P → IfSome o Q
 with_some (Some x) P Q h p = h x p
 with_some None P Q h p = tt

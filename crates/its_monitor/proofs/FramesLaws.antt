@@ -1,4 +1,4 @@
--- In which frames pages stand after each step of a tick.
+-- In which frames the pages are after each step of a tick.
 use Rattle.std.specs.Prelude.{if◌then◌else◌, ◌≡◌, ◌≤◌, ℕ, Bool, true, false, Option, Some, None, IfSome, List, [], ◌∷◌, ◌++◌, is_some, length, nat_lt, slice_index_or, refl}
 use Rattle.std.proofs.Common.{sym, ◌∙◌, ap, subst}
 use Rattle.std.proofs.lemmas.List.{get_or_past}

@@ -1,4 +1,4 @@
--- The parts of a half made close that are still owed are made in the store of a world, where a call on files is tried.
+-- The pending parts of a half made close are performed in the store of a world, if a call on files is tried.
 use Rattle.std.specs.Prelude.{◌≡◌, Bool, true, false, Option, Some, None, IfSome}
 use Rattle.std.proofs.Common.{sym, ◌∙◌, ap}
 use Rattle.its_files.specs.Files.{IsStore, helped, directory}
@@ -17,7 +17,7 @@ use Rattle.its_pclsr.proofs.PartLaws.{store_state, store_tidy}
 use Rattle.its_world.proofs.StorageLaws.{files_are, marks_are}
 
 module _ (old new : World) (whole : IsStore old.files) (tidy : Tidy old) (files : new.files ≡ helped old.files) (core : new.core ≡ old.core) (jobs : new.jobs ≡ old.jobs)
-    (clock : new.clock ≡ old.clock) (alarms : new.alarms ≡ old.alarms) (symbols : new.symbols ≡ old.symbols) where
+    (clock : new.clock ≡ old.clock) (alarms : new.alarms ≡ old.alarms) (symbols : new.symbols ≡ old.symbols) (pipes : new.pipes ≡ old.pipes) where
   stays : Stays old.files new.files old.jobs
   stays = helped_stays old.files new.files old.jobs whole tidy.across files
 
@@ -26,7 +26,7 @@ module _ (old new : World) (whole : IsStore old.files) (tidy : Tidy old) (files 
 
   pub help_state : new.frames ≡ old.frames → new.consoles ≡ old.consoles → new.holders ≡ old.holders → new.version ≡ old.version → state_of new ≡ help (state_of old)
   help_state frames consoles holders version =
-      store_state old new stays core jobs frames consoles holders clock alarms version symbols
+      store_state old new stays core jobs frames consoles holders clock alarms version symbols pipes
       ∙ ap (λ t. record (state_of old) { raw = record (state_of old).raw { files = directory t }; mark = mark_of t }) files
       ∙ sym (help_step old.files whole (state_of old) (marks_are old) (files_are old))
 

@@ -11,7 +11,7 @@ pub console_there : (console : Option ℕ) → no_console console ≡ false → 
 console_there (Some c) h = leb-false 8 c h
 console_there None h = tt
 
--- where the console of a LOAD is there, only the machine refuses it
+-- if the console of a LOAD is there, only the machine refuses it
 there : (console : Option ℕ) → IfSome console (λ c. c < 8) → no_console console ≡ false
 there (Some c) h = lt-leb 8 c h
 there None h = refl

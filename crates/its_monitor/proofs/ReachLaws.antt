@@ -159,7 +159,7 @@ pub target_few : (w : World) (j : ℕ) (a : Ask) (o : Option ℕ) (k : ℕ) → 
 target_few w j a o k forest some h is =
     target_below (state_of w).raw j a o k (raw_at w.files w.core w.jobs w.alarms.items j) forest (raw_is w j) (ap is_some (sym (raw_is w j)) ∙ raw_has w j ∙ some) h is
 
--- a call's jobs are unwound where those of its reach are
+-- a call's jobs are unwound if those of its reach are
 unwound_by : (p : Option Whole) (ks : List ℕ) (w v : State) (j : ℕ) (a : Ask) → v ≡ all_unwound ks w → IfSome p (λ q. ks ≡ reach w.raw j q a) → IfSome p (λ q. v ≡ all_unwound (reach w.raw j q a) w)
 unwound_by (Some q) ks w v j a e h = e ∙ ap (λ (ks : List ℕ). all_unwound ks w) h
 unwound_by None ks w v j a e h = tt

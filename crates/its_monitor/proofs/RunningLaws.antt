@@ -1,4 +1,4 @@
--- Whether the job of a slot runs: its raw registers tell.
+-- Whether the job of a slot runs: its raw registers say so.
 use Rattle.std.specs.Prelude.{◌≡◌, ℕ, not, false, Option, Some, None}
 use Rattle.std.proofs.Common.{sym, ap}
 use Rattle.its_word.specs.declared.jobs.Job.{Job}

@@ -11,7 +11,7 @@ use Rattle.its_frame.specs.declared.change.Change.TheVariants as changes
 use Rattle.its_frame.specs.declared.frame.Frame.{Frame}
 use Rattle.its_plain.specs.CallBasic.{told_superior}
 use Rattle.its_plain.specs.Change.{on_slot, in_job, channel_in, chan_left, shut_on, left_job, is_gone, superiors, inferior, with_page_at, protected, poke, with_alarm, with_inf, removed, effect}
-use Rattle.its_plain.specs.Machine.{Chan, Shut, TtyIn, TtyOut, Reads, Writes, On, Whole, Machine, changed}
+use Rattle.its_plain.specs.Machine.{Chan, Shut, On, Whole, Machine, changed}
 use Rattle.its_plain.specs.Own.{with_stores, with_registers, on_channel, with_variable}
 use Rattle.its_stepped.specs.Commit.{effect_on, effects_on}
 use Rattle.its_stepped.specs.Forest.{OnInferior, Forest}
@@ -21,7 +21,7 @@ use Rattle.its_stepped.proofs.EffectLaws.{superiors_plain, effect_plain, effect_
 use Rattle.its_stepped.proofs.ForestLaws.{Fits, AllFit, forest_raw, effect_forest, gone_forest}
 use Rattle.its_stepped.proofs.FrameLaws.{changed_only, on_slot_other}
 
--- the superior of a job that is removed is removed too, but for that of the root
+-- the superior of a job that is removed is removed too, except for that of the root
 climb_on : (sup : ℕ → Option ℕ) (r n k : ℕ) → climbs_to sup r (suc n) (Some k) ≡ ((k == r) || climbs_to sup r n (sup k))
 unfolding climbs_to
 climb_on sup r n k = refl
@@ -83,6 +83,8 @@ unfolding effect_on effect
 effect_same (changes.Take c) j u v k f h fits forest e ne fr = refl
 effect_same (changes.Put c b) j u v k f h fits forest e ne fr = refl
 effect_same (changes.Hold c s) j u v k f h fits forest e ne fr = refl
+effect_same (changes.Send l x) j u v k f h fits forest e ne fr = refl
+effect_same (changes.Receive l) j u v k f h fits forest e ne fr = refl
 effect_same (changes.Poke s a x) j u v k f h fits forest e ne fr = on_slot_other v.raw.jobs s k (with_stores (poke a x ∷ [])) (reached_other u j s k f h ne fr)
 effect_same (changes.Set s y x) j u v k f h fits forest e ne fr = on_slot_other v.raw.jobs s k (with_registers (with_variable y x)) (reached_other u j s k f h ne fr)
 effect_same (changes.Map s p) j u v k f h fits forest e ne fr = on_slot_other v.raw.jobs s k _ (reached_other u j s k f h.reached ne fr)
@@ -163,6 +165,8 @@ unfolding effect_on effect removed
 effect_inferior (changes.Take c) j v k x = x
 effect_inferior (changes.Put c b) j v k x = x
 effect_inferior (changes.Hold c s) j v k x = x
+effect_inferior (changes.Send l w) j v k x = x
+effect_inferior (changes.Receive l) j v k x = x
 effect_inferior (changes.Poke s a w) j v k x = slot_inferior v.raw.jobs j s k _ (λ q. refl) x
 effect_inferior (changes.Set s y w) j v k x = slot_inferior v.raw.jobs j s k _ (λ q. refl) x
 effect_inferior (changes.Map s p) j v k x = slot_inferior v.raw.jobs j s k _ (λ q. refl) x

@@ -55,7 +55,7 @@ latest false x y z = refl
 
 turn_then : (w : State) (s : ℕ) (h g : Whole → Whole) (f e : Option Frame) → turn (turn w s h f) s g e ≡ turn w s (λ q. g (h q)) e
 turn_then w s h g f e = state_is _ _
-    (machine_is _ _ (λ k. twice (k == s) (w.raw.jobs k) h g) (λ k. refl) (λ k. refl) refl refl refl (λ k. refl))
+    (machine_is _ _ (λ k. twice (k == s) (w.raw.jobs k) h g) (λ k. refl) (λ k. refl) refl refl refl (λ k. refl) (λ k. refl))
     (λ k. latest (k == s) e f (w.frames k))
     (λ k. refl)
     refl
@@ -70,7 +70,7 @@ turn_alike w s q h g f is e = state_is _ _
       | inl t ↦ let n : k ≡ s = grind (arith, nat_tests) in rw t (mapped_here (w.raw.jobs k) q h g (ap w.raw.jobs n ∙ is) e)
       | inr t ↦ rw t refl
     ])
-    (λ k. refl) (λ k. refl) refl refl refl (λ k. refl))
+    (λ k. refl) (λ k. refl) refl refl refl (λ k. refl) (λ k. refl))
     (λ k. refl)
     (λ k. refl)
     refl
@@ -82,7 +82,7 @@ turn_nothing w s q h f is e free = state_is _ _
       | inl t ↦ let n : k ≡ s = grind (arith, nat_tests) in rw t (ap w.raw.jobs n ∙ is ∙ sym (ap (option_map h) (ap w.raw.jobs n ∙ is) ∙ ap Some e))
       | inr t ↦ rw t refl
     ])
-    (λ k. refl) (λ k. refl) refl refl refl (λ k. refl))
+    (λ k. refl) (λ k. refl) refl refl refl (λ k. refl) (λ k. refl))
     (λ k. elim (cases_Bool (k == s)) [
       | inl t ↦ let n : k ≡ s = grind (arith, nat_tests) in rw t (ap w.frames n ∙ free)
       | inr t ↦ rw t refl
@@ -169,8 +169,8 @@ units_in w s c i j named places size count nodes heads_are limit number n k none
   had = had;
   is = is;
   becomes = put_then w (record w { core = c }) _ s (core_at c s) j
-      (core_becomes w (record w { core = c }) s (core_at c s) (record { here = refl; others = others }) reserved pages refl refl refl refl refl refl refl refl refl refl)
-      (user_becomes (record w { core = c }) _ s j none (job_put w.jobs s i j had) refl refl refl refl refl refl refl refl refl refl refl);
+      (core_becomes w (record w { core = c }) s (core_at c s) (record { here = refl; others = others }) reserved pages refl refl refl refl refl refl refl refl refl refl refl)
+      (user_becomes (record w { core = c }) _ s j none (job_put w.jobs s i j had) refl refl refl refl refl refl refl refl refl refl refl refl);
   most = most;
 }
 
@@ -179,7 +179,7 @@ pub units_same : (w : World) (s : ℕ) (c : Cores) (i j : Job) (named : vec_len 
     → record w { core = c; jobs = record w.jobs { jobs = slice_set w.jobs.jobs s (Some j) }; lists = named; alarm_places = places; slots = size; consoles_count = count; ring_nodes = nodes; ring_lists = heads_are; limited = limit; numbered = number } ≡ w
 units_same w s c i j named places size count nodes heads_are limit number had e = put_same w s c i j named places size count nodes heads_are limit number had e.0 e.1
 
--- one unit, where no interrupt is deliverable
+-- one unit, if no interrupt is deliverable
 quiet_of : (o : Option Job) (j : Job) → o ≡ Some j → IfSome o (λ i. deliverable i ≡ false) → deliverable j ≡ false
 quiet_of o j is h = subst (λ (x : Option Job). IfSome x (λ i. deliverable i ≡ false)) is h
 
@@ -205,7 +205,7 @@ unit_of_units old new s (suc zero) quiet few same m = record {
 }
 unit_of_units old new s (suc (suc n)) quiet few same m = absurd (omega (arith, few))
 
--- where no other unit can be made, none is due
+-- if no other unit can be made, none is due
 outcome_due : (l : Left) (o : Outcome) → after_outcome o l.core l.job ≡ None → is_made (bare_outcome o) ≡ false
 outcome_due l (Changed d k) e = absurd cc
 outcome_due l (Faulted f) e = absurd cc

@@ -79,7 +79,7 @@ pub turn_call : (old new : World) (s : ℕ) (j : Job) (p : Pace) → job_at old.
     → tick (state_of old) s ≡ ticked (state_of new) p
 turn_call old new s j p is runs row = runs_by old s j (frame_at old.frames.items s) (ticked (state_of new) p) is runs refl row
 
--- in user mode an interrupt is delivered, or a unit is made
+-- in user mode an interrupt is delivered, or a unit is executed
 deliverable_raw : (s : Store) (c : Core) (j : Job) (o : Option ℕ) (a : Option (ℕ × ℕ)) → deliverable (raw_job s c j o a).job ≡ deliverable j
 deliverable_raw s c j o a = deliverable_bare j
 

@@ -48,7 +48,7 @@ there : {X : Type 0} (o : Option X) → is_some o ≡ true → (x : X) × (o ≡
 there (Some x) h = (x, refl)
 there None h = cc
 
--- a slot whose call stands has a job
+-- a slot whose call is still there has a job
 sound_some : (o : Option Whole) (f : Option Frame) (r : Option ℕ) → SoundBy o f r → is_some (standing_of f) ≡ true → (q : Whole) × (o ≡ Some q)
 sound_some (Some q) f r h e = (q, refl)
 sound_some None f r h e = let none : is_some (standing_of f) ≡ false = ap (λ (g : Option Frame). is_some (standing_of g)) h.0 in cc
@@ -92,7 +92,7 @@ on_call w s P h q c x =
 abbrev pub Reaches : World → World → ℕ → Type 0
 Reaches old mid s = OnCall old s (λ f q. state_of mid ≡ all_unwound (reach (state_of old).raw s q f.ask) (state_of old))
 
--- the parts of a half made close are made that are still owed, where it is one on files
+-- the pending parts of a half made close are performed, if the call is one on files
 abbrev pub Helps : World → World → ℕ → Type 0
 Helps mid new s = OnCall mid s (λ f q. state_of new ≡ helped_if (helps q f.ask) (state_of mid))
 

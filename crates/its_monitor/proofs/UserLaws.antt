@@ -1,4 +1,4 @@
--- A tick in user mode: what a unit or a delivery makes of a world is its row on the state that the world stands for.
+-- A tick in user mode: what a unit or a delivery makes of a world is its row on the state of the world.
 use Rattle.std.specs.Prelude.{◌≡◌, ◌≢◌, ◌<◌, ◌≤◌, ◌^◌, ◌⊎◌, ℕ, Bool, true, false, Option, Some, None, IfSome, is_some, List, [], ◌∷◌, length, slice_index_or, slice_set, vec_len, refl}
 use Rattle.std.proofs.Common.{sym, ◌∙◌, ap, subst, inl, inr}
 use Rattle.std.proofs.Math.Bridge.{le_prop}
@@ -24,6 +24,7 @@ use Rattle.its_plain.specs.Interrupt.{Delivered, delivered}
 use Rattle.its_plain.specs.Job.{bit_of, with_pending}
 use Rattle.its_plain.specs.Machine.{Whole}
 use Rattle.its_plain.specs.Unit.{Outcome, Changed, Faulted, Called, unit}
+use Rattle.its_pipes.specs.Pipes.{piped}
 use Rattle.its_plain.proofs.MachineLaws.{machine_is}
 use Rattle.its_stepped.specs.Commit.{effect_on, effects_on}
 use Rattle.its_stepped.specs.Duty.{GivenBy}
@@ -83,9 +84,9 @@ put_then old mid new s c j a b = then_becomes old mid new s c c (job_at old.jobs
 
 -- a job that is in no call is written, and waits in no list
 pub user_becomes : (old new : World) (s : ℕ) (j : Job) → frame_at old.frames.items s ≡ None → Only (job_at old.jobs) (job_at new.jobs) s (Some j) → new.jobs.superiors ≡ old.jobs.superiors
-    → new.core ≡ old.core → new.frames ≡ old.frames → new.consoles ≡ old.consoles → new.holders ≡ old.holders → new.files ≡ old.files → new.clock ≡ old.clock → new.version ≡ old.version → new.symbols ≡ old.symbols → new.alarms ≡ old.alarms → new.rings ≡ old.rings
+    → new.core ≡ old.core → new.frames ≡ old.frames → new.consoles ≡ old.consoles → new.holders ≡ old.holders → new.files ≡ old.files → new.clock ≡ old.clock → new.version ≡ old.version → new.symbols ≡ old.symbols → new.pipes ≡ old.pipes → new.alarms ≡ old.alarms → new.rings ≡ old.rings
     → JobBecomes old new s j
-user_becomes old new s j none job superiors core frames consoles holders files clock version symbols alarms rings = record {
+user_becomes old new s j none job superiors core frames consoles holders files clock version symbols pipes alarms rings = record {
   core = alike _ _ s (λ k. ap (λ t. core_at t k) core);
   job = job;
   superiors = superiors;
@@ -98,8 +99,9 @@ user_becomes old new s j none job superiors core frames consoles holders files c
   clock = clock;
   version = version;
   symbols = symbols;
+  pipes = pipes;
   alarms = alarms;
-  ringed = user_ringed old new s job.others none frames consoles holders clock rings;
+  ringed = user_ringed old new s job.others none frames consoles holders clock pipes rings;
 }
 
 -- a unit, on the core and the registers in place
@@ -251,7 +253,7 @@ core_same old mid s c b e =
     let jobs : (k : ℕ) → job_at mid.jobs k ≡ job_at old.jobs k = all_same (job_at old.jobs) (job_at mid.jobs) s b.job in
     state_is _ _
     (machine_is _ _ (λ k t. raw_of (b.files t) (cores k t) (slice_index_or (b.superiors t) k None) (alarm_at (b.alarms t).items k) (jobs k t)) (λ c. ap (λ l. console_at l.items c) b.consoles) (λ c. ap (λ l. holder_at l c) b.holders)
-    (ap directory b.files) b.clock b.version (λ k. ap (λ l. symbols_at l.items k) b.symbols))
+    (ap directory b.files) b.clock b.version (λ k. ap (λ l. symbols_at l.items k) b.symbols) (λ k. ap (λ p. piped p k) b.pipes))
     (all_same (frame_at old.frames.items) (frame_at mid.frames.items) s b.frame)
     (all_same (clear_at old.core) (clear_at mid.core) s b.reserved)
     (ap mark_of b.files)
@@ -262,7 +264,7 @@ stop_same old mid s i b stops = core_same old mid s (delivered (core_at old.core
 pub stop_sound : (old mid : World) (s : ℕ) (i : Job) → CoreBecomes old mid s (delivered (core_at old.core s) i).core → (delivered (core_at old.core s) i).stops ≡ true → Kept old → Sound (state_of mid)
 stop_sound old mid s i b stops kept = subst Sound (sym (stop_same old mid s i b stops)) kept.sound
 
--- telling the superior
+-- the report to the superior
 abbrev told_on : State → ℕ → Option ℕ → State
 told_on w s superior = effects_on (informs true superior) s (all_unwound (informed_slots true superior) w)
 
@@ -316,7 +318,7 @@ still : (w : World) (s : ℕ) (q : Whole) → (state_of w).raw.jobs s ≡ Some q
 unfolding state_of
 still w s q is = still_by w s q (job_at w.jobs s) refl is
 
--- a job that was stopped, after its superior was told
+-- a job that was stopped, after this was reported to its superior
 record StillAt (old after : World) (s : ℕ) (i : Job) : Type 0 where
   still : Still after s (raw_job old.files (core_at old.core s) i (superior_at old.jobs s) (alarm_at old.alarms.items s))
   frame : frame_at after.frames.items s ≡ None
@@ -345,8 +347,8 @@ pub stop_stands : (old mid after : World) (s : ℕ) (i : Job) → job_at old.job
     → is_some (job_at after.jobs s) ≡ true
 stop_stands old mid after s i had none kept b stops row = let h = stop_still old mid after s i had none kept b stops row in some_is _ _ h.still.had
 
--- its registers are written then. (Files have no numbers in a state, so what unwinding says of a state does not tell that its
--- channels have the same ones: they are those that the world has)
+-- its registers are written then. (Files have no numbers in a state, so what unwinding says of a state does not say
+-- that its channels have the same ones: they are those of the world)
 still_becomes : (w : World) (s : ℕ) (q : Whole) (d : Delivered) (h : Still w s q) → d.core ≡ q.core
     → becomes d.core (bare d.job) (raw_job w.files (core_at w.core s) h.job (superior_at w.jobs s) (alarm_at w.alarms.items s))
     ≡ raw_job w.files (core_at w.core s) (with_channels h.job.channels d.job) (superior_at w.jobs s) (alarm_at w.alarms.items s)

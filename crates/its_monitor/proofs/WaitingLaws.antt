@@ -1,5 +1,5 @@
--- The tick of a slot that stands in a wait ring: `w`, and nothing changes; and a slot whose call was found not ready has this letter
--- nowhere else.
+-- The tick of a slot that is on a wait list: `w`, and nothing changes; and a slot whose call was found not ready has
+-- this letter in no other case.
 use Rattle.std.specs.Prelude.{if◌then◌else◌, ◌≡◌, ◌<◌, ◌==◌, ℕ, Bool, true, false, Option, Some, None, IfSome, List, [], refl}
 use Rattle.std.proofs.Common.{sym, ◌∙◌, ap, subst}
 use Rattle.its_word.specs.declared.calls.Ask.{Ask}
@@ -10,7 +10,7 @@ use Rattle.its_core.specs.Cores.{core_at}
 use Rattle.its_core.specs.Frames.{Frames}
 use Rattle.its_jobs.specs.Table.{job_at, superior_at}
 use Rattle.its_frame.specs.declared.decision.Decision.{Decision}
-use Rattle.its_frame.specs.declared.decision.Decision.TheVariants.{Waits, Goes, Ends, Gone}
+use Rattle.its_frame.specs.declared.decision.Decision.TheVariants.{Waits}
 use Rattle.its_frame.specs.declared.decision.Wait.{Wait}
 use Rattle.its_frame.specs.declared.frame.Frame.{Frame}
 use Rattle.its_frame.specs.declared.frame.Frame.TheVariants as frames
@@ -66,7 +66,7 @@ waiting_of : (o : Option Frame) → is_waiting o ≡ true → IsWaiting o
 waiting_of (Some (frames.Waiting f)) h = record { frame = f; is = refl }
 waiting_of _ h = absurd cc
 
--- a call that waits reaches no job, and its tick leaves the pages where they are
+-- a call that waits reaches no job, and its tick leaves the pages in their frames
 no_target : (m : Machine) (j : ℕ) (q : Whole) (a : Ask) (r : Wait) (o : Option ℕ) → IsWaitable (call_named a.name) → decision m j q a ≡ Waits r → target q a ≡ o → o ≡ None
 no_target m j q a r None w d e = refl
 no_target m j q a r (Some s) w d e = absurd (subst Goes_on d (waits_unreached m j q a s e w))
@@ -100,7 +100,7 @@ pages_waits w j q f g r sound forest is housed fr e =
     let none : reach w.raw j q f.ask ≡ [] = sym (reach_plain w j (Some (frames.Waiting f)) q f.ask) ∙ reach_none (plain w) j (seen (Some (frames.Waiting f)) q) f.ask r k.pays.waitable e in
     ap (λ (x : Decision). pages_carried x j v (pages_unwound (reach w.raw j q f.ask) w g)) d ∙ ap (λ ks. pages_unwound ks w g) none
 
--- a slot that stands in a wait ring
+-- a slot that is on a wait list
 record Rung (w : World) (s : ℕ) : Type 0 where
   job : Job
   frame : Waiting
@@ -113,7 +113,7 @@ record Rung (w : World) (s : ℕ) : Type 0 where
 rung : (w : World) (s : ℕ) → Kept w → Blocked w s → Rung w s
 rung w s kept b =
     let x : Placed w s b.ring = placed w s b.ring kept.sound (stands_there w.rings.lists s b.ring (place_of w s) (kept.tidy.ringed.each s) b.here) in
-    let h = held_place x.reason (held_up (doors_of w) s (input x.frame.ask 0) x.reason) b.ring x.at b.within in
+    let h = held_place x.reason (held_up (doors_of w) s (input x.frame.ask 0) x.reason) b.ring x.within x.at b.within in
     let q : Whole = raw_job w.files (core_at w.core s) x.job (superior_at w.jobs s) (alarm_at w.alarms.items s) in
     let k = sound_at (state_of w) s q (frames.Waiting x.frame) kept.sound (raw_is w s x.job x.in_job) (frame_is w s ∙ x.in_frame) in
     record {
@@ -144,7 +144,7 @@ pages_blocked w s kept b =
     (subst (λ (o : Option Whole). IfSome o (λ p. w.core.frames ≡ pages_in (state_of w) s p (Some (frames.Waiting x.frame)) w.core.frames)) (sym (raw_some w s x.job x.in_job))
     (sym (pages_waits (state_of w) s q x.frame w.core.frames x.reason kept.sound kept.forest (raw_is w s x.job x.in_job) (raw_consoled (state_of w) s q (record { each = kept.consoled }) (raw_is w s x.job x.in_job)) (frame_is w s ∙ x.in_frame) x.waits))))
 
--- a call that was found not ready, and waits again, stands in the ring of its reason
+-- a call that was found not ready, and waits again, is on the list of its reason
 tried_waits : (w v : State) (j : ℕ) (s : Site) (a : Ask) (n : ℕ) (d : Decision) → (tried w v j s a n d).pace ≡ Waited → (r : Wait) × (d ≡ Waits r)
 tried_waits w v j s a n (Waits r) e = (r, refl)
 tried_waits w v j s a n _ e = absurd cc
@@ -158,13 +158,13 @@ waits_by w s f (Some j) kept job fr e =
     runs_by w s j (Some (frames.Waiting f)) (tick_in (state_of w) s q (Some (frames.Waiting f))) job k.runs fr
     (subst (λ (o : Option Whole). IfSome o (λ p. tick_in (state_of w) s p (Some (frames.Waiting f)) ≡ tick_in (state_of w) s q (Some (frames.Waiting f)))) (sym (raw_some w s j job)) refl) in
     let d = tried_waits (state_of w) (prepared_for (state_of w) s own f.ask) s f.site f.ask f.owes (decision (plain (state_of w)) s own f.ask) (ap (λ t. t.pace) (sym row) ∙ e) in
-    let p = waits_place w s j f d.0 kept.sound job fr d.1 (housed_at w s j kept.consoled job) in
+    let p = waits_place w s j f d.0 kept.sound kept.forest job fr d.1 (housed_at w s j kept.consoled job) in
     record { ring = ring_of d.0; within = ring_within d.0 p.1; here = stands_here w.rings.lists s (ring_of d.0) (place_of w s) (kept.tidy.ringed.each s) p.0 }
 waits_by w s f None kept job fr e = let n = sym (frame_none w s kept.sound job) ∙ fr in absurd cc
 
 pub waits_blocked : (w : World) (s : ℕ) → Kept w → is_waiting (frame_at w.frames.items s) ≡ true → (tick (state_of w) s).pace ≡ Waited → Blocked w s
 waits_blocked w s kept h e = let f = waiting_of (frame_at w.frames.items s) h in waits_by w s f.frame (job_at w.jobs s) kept refl f.is e
 
--- a slot that stands in a wait ring of a kept world waits
+-- a slot that is on a wait list of a kept world waits
 pub blocked_waits : (w : World) (s : ℕ) → Kept w → Blocked w s → is_waiting (frame_at w.frames.items s) ≡ true
 blocked_waits w s kept b = ap is_waiting (rung w s kept b).in_frame

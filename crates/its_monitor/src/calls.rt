@@ -7,7 +7,7 @@ ghost use Rattle.its_world.specs.Tidy.{Tidy};
 ghost use Rattle.its_pclsr.specs.Carried.{standing_of};
 ghost use Rattle.its_pclsr.specs.Pages.{pages_unwound};
 ghost use Rattle.its_core.specs.Frames.{frames_reserve};
-ghost use Rattle.its_plain.specs.Ask.{fetch as fetched_by, parse as parsed_by};
+ghost use Rattle.its_stepped.specs.TwoParts.{fetch as fetched_by, parse as parsed_by};
 ghost use Rattle.its_plain.specs.CallStep.{decision, faulted};
 ghost use Rattle.its_plain.specs.Decide.{reach};
 ghost use Rattle.its_plain.specs.Footprint.{SiteFits};
@@ -143,7 +143,7 @@ fn fetch(w: &mut World, slot: u8, f: Parsed) -> Pace
     }
 }
 
-/// The call is made ready to be tried: one that makes a page reserves it.
+/// Prepares the call to be tried: one that makes a page reserves it.
 #[tactic(auto, using(crate::proofs::CallLaws::page_prepared, crate::proofs::CallLaws::none_prepared, its_pclsr::proofs::ApartLaws::tidy_kept, its_pclsr::proofs::ApartLaws::tidy_backed))]
 fn prepare(w: &mut World, slot: u8, f: Asked) -> Pace
     requires slot { slot < slots }
@@ -263,7 +263,7 @@ fn attempt(w: &mut World, slot: u8) -> Pace
 
 /// Makes the world ready for the call in the frame of a slot: the jobs that it reaches are unwound, and if it is one on files, the
 /// pending parts of a half made close are performed.
-#[tactic(auto, using(crate::proofs::TrialLaws::stands_job, crate::proofs::TrialLaws::kept_forest))]
+#[tactic(auto, using(crate::proofs::TrialLaws::stands_job))]
 fn make_ready(w: &mut World, slot: u8)
     requires slot { slot < slots }
     requires kept { Kept w.old }

@@ -52,8 +52,9 @@ fn waits_on(w: &World, slot: u8) -> bool
     }
 }
 
-/// A tick of a slot that is where it belongs, and its letter. In user mode an interrupt is delivered if one is deliverable, and else a
-/// unit is executed; inside a call its next step is performed. Nothing is done if the slot is empty or its job is stopped (`Off`).
+/// A tick of a slot that is on the wait list to which it belongs, if any, and its letter. In user mode an interrupt
+/// is delivered if one is deliverable, and else a unit is executed; inside a call its next step is performed. Nothing
+/// is done if the slot is empty or its job is stopped (`Off`).
 #[tactic(auto, using(crate::proofs::TickLaws::state_ticked, crate::proofs::TickLaws::pace_ticked, crate::proofs::TickLaws::tick_licensed, crate::proofs::BesideLaws::all_beside, crate::proofs::TickLaws::tick_kept))]
 fn go_on(w: &mut World, slot: u8) -> Pace
     requires slot { slot < slots }

@@ -59,7 +59,7 @@ fn run_delivery(w: &mut World, slot: u8, job: &mut Job) -> bool
     deliver(&mut w.core, slot, job)
 }
 
-/// Writes the registers of a slot's job but for its channels.
+/// Writes the registers of a slot's job except its channels.
 #[tactic(auto, using(its_pclsr::proofs::ApartLaws::becomes_pages, crate::proofs::UserLaws::written_back))]
 fn put_back(w: &mut World, slot: u8, job: Job)
     requires slot { slot < slots }

@@ -106,7 +106,7 @@ module _ (old new : World) (n : ℕ) (b : Bool) (kept : Kept old) (fits : b ≡ 
       (made_timed (state_of old) (state_of new) no_block (events.Clock n) kept.sound kept.timed clock_line)
       (made_alarmed (state_of old) (state_of new) no_block (events.Clock n) kept.sound kept.forest kept.alarmed clock_line)
 
--- the clock would come to its end
+-- the clock would reach its end
 pub clock_refused : (w : World) (n : ℕ) (b : Bool) → Kept w → b ≡ nat_lt (w.clock + n) clock_end → b ≡ false
     → Refused (state_of w) (roused (state_of w) n) (λ m. clocked m n) refusals.Range
 clock_refused w n b kept h f = record {

@@ -12,7 +12,7 @@ use Rattle.its_world.specs.declared.world.World.{World}
 use Rattle.its_operator.specs.Kept.{Helped}
 use Rattle.its_operator.proofs.FileLaws.{helped_files}
 
--- what is found behind the first left of them is what was asked
+-- what is found after the first left of them is what was asked
 abbrev pub IsLeft : Store → ℕ → ℕ → ℕ → ℕ → Type 0
 IsLeft s d k i left = slice_get (rest_in s d i) left ≡ slice_get (files_in d (directory s)) k
 

@@ -1,4 +1,5 @@
--- FILE and its words: the parts of a close that are owed are made first, and then a file is made, or is longer by a word.
+-- FILE and its words: the pending parts of a close are performed first, and then a file is made, or is longer by a
+-- word.
 use Rattle.std.specs.Prelude.{◌≡◌, ◌<◌, ◌≤◌, ◌^◌, ℕ, Bool, true, false, Option, Some, None, IfSome, List, [], ◌∷◌, ◌++◌, Result, Ok, Err, OnOk, OnErr, is_some, option_map, length, nat_lt, refl}
 use Rattle.std.proofs.Common.{sym, ◌∙◌, ap, subst}
 use Rattle.std.proofs.lemmas.Bool.{lt-ltb, le-ltb}
@@ -48,22 +49,22 @@ use Rattle.its_operator.proofs.LoadLaws.{and_ok}
 use Rattle.its_operator.proofs.StartLaws.{quiet_by}
 use Rattle.its_operator.proofs.WaitsLaws.{kept_is}
 
--- the owed parts of a close are made
+-- the pending parts of a close are performed
 module _ (old new : World) (whole : IsStore old.files) (kept : Kept old) (files : new.files ≡ helped old.files) (core : new.core ≡ old.core) (jobs : new.jobs ≡ old.jobs) where
   stays : Stays old.files new.files old.jobs
   stays = helped_stays old.files new.files old.jobs whole kept.tidy.across files
 
-  pub helped_is : new.frames ≡ old.frames → new.consoles ≡ old.consoles → new.holders ≡ old.holders → new.clock ≡ old.clock → new.alarms ≡ old.alarms → new.version ≡ old.version → new.symbols ≡ old.symbols → new.rings ≡ old.rings → Helped old new
-  helped_is frames consoles holders clock alarms version symbols rings =
+  pub helped_is : new.frames ≡ old.frames → new.consoles ≡ old.consoles → new.holders ≡ old.holders → new.clock ≡ old.clock → new.alarms ≡ old.alarms → new.version ≡ old.version → new.symbols ≡ old.symbols → new.pipes ≡ old.pipes → new.rings ≡ old.rings → Helped old new
+  helped_is frames consoles holders clock alarms version symbols pipes rings =
       let state : state_of new ≡ help (state_of old) =
-      store_state old new stays core jobs frames consoles holders clock alarms version symbols
+      store_state old new stays core jobs frames consoles holders clock alarms version symbols pipes
       ∙ ap (λ t. record (state_of old) { raw = record (state_of old).raw { files = directory t }; mark = mark_of t }) files
       ∙ sym (help_step old.files whole (state_of old) (marks_are old) (files_are old)) in
       record {
-        alone = record { core = core; jobs = jobs; frames = frames; consoles = consoles; holders = holders; clock = clock; alarms = alarms; version = version; symbols = symbols; rings = rings; files = files };
+        alone = record { core = core; jobs = jobs; frames = frames; consoles = consoles; holders = holders; clock = clock; alarms = alarms; version = version; symbols = symbols; pipes = pipes; rings = rings; files = files };
         files = files;
         state = state;
-        kept = alike_kept old new kept (ap plain state ∙ help_plain (state_of old)) (subst Sound (sym state) (help_sound (state_of old) kept.sound)) (store_tidy old new stays core jobs alarms clock symbols (ringed_alike old new jobs frames consoles holders clock rings) kept.tidy);
+        kept = alike_kept old new kept (ap plain state ∙ help_plain (state_of old)) (subst Sound (sym state) (help_sound (state_of old) kept.sound)) (store_tidy old new stays core jobs alarms clock symbols (ringed_alike old new jobs frames consoles holders clock pipes rings) kept.tidy);
       }
 
 -- the plain machine is the same then, and no close is half made
@@ -81,7 +82,7 @@ module _ (old new : World) (h : Helped old new) where
   unfolding plain
   helped_files = sym (ap (λ (m : Machine). m.files) helped_plain) ∙ unmarked_files (state_of new) (marks_are new ∙ helped_whole) ∙ files_are new
 
--- a file stands then, and also where the parts were to be made again
+-- a file exists then, and also if the parts were to be performed again
 pub stands_still : (old new : World) (id : ℕ) → state_of new ≡ help (state_of old) → is_file (entry_at new.files id) ≡ true → is_file (entry_at (helped new.files) id) ≡ true
 stands_still old new id is file =
     let none = mark_none new.files (sym (marks_are new) ∙ ap (λ (v : State). v.mark) is ∙ help_unmarked (state_of old)) in
@@ -106,19 +107,19 @@ file_refused f w x alike h = record {
   calmed = h;
 }
 
--- other files in the store, where no close is half made: of the raw machine only the files are others
+-- other files in the store, if no close is half made: of the raw machine only the files are others
 record Filed (old new : World) (fs : List File) : Type 0 where
   state : state_of new ≡ with_raw (state_of old) (with_files (state_of old).raw fs)
   tidy : Tidy new
 
 module _ (old new : World) (fs : List File) (core : new.core ≡ old.core) (jobs : new.jobs ≡ old.jobs) (frames : new.frames ≡ old.frames)
-    (consoles : new.consoles ≡ old.consoles) (holders : new.holders ≡ old.holders) (clock : new.clock ≡ old.clock) (alarms : new.alarms ≡ old.alarms) (version : new.version ≡ old.version) (symbols : new.symbols ≡ old.symbols) (rings : new.rings ≡ old.rings) where
+    (consoles : new.consoles ≡ old.consoles) (holders : new.holders ≡ old.holders) (clock : new.clock ≡ old.clock) (alarms : new.alarms ≡ old.alarms) (version : new.version ≡ old.version) (symbols : new.symbols ≡ old.symbols) (pipes : new.pipes ≡ old.pipes) (rings : new.rings ≡ old.rings) where
   filed : Tidy old → Stays old.files new.files old.jobs → old.files.mark ≡ None → new.files.mark ≡ None → directory new.files ≡ fs → Filed old new fs
   filed tidy stays none still files =
       let m : mark_of new.files ≡ (state_of old).mark = none_marked new.files still ∙ sym (marks_are old ∙ none_marked old.files none) in
       record {
-        state = store_state old new stays core jobs frames consoles holders clock alarms version symbols ∙ (λ i. record (state_of old) { raw = record (state_of old).raw { files = files i }; mark = m i });
-        tidy = store_tidy old new stays core jobs alarms clock symbols (ringed_alike old new jobs frames consoles holders clock rings) tidy;
+        state = store_state old new stays core jobs frames consoles holders clock alarms version symbols pipes ∙ (λ i. record (state_of old) { raw = record (state_of old).raw { files = files i }; mark = m i });
+        tidy = store_tidy old new stays core jobs alarms clock symbols (ringed_alike old new jobs frames consoles holders clock pipes rings) tidy;
       }
 
 filed_lands : (old new : World) (fs : List File) (r : Result Machine Reason) → Filed old new fs → r ≡ Ok (with_files (state_of old).raw fs) → Lands (state_of old) (state_of new) r
@@ -127,7 +128,7 @@ filed_lands old new fs r f is = record {
   rest = f.state ∙ ap (λ (v : State). with_raw (state_of old) v.raw) (sym f.state);
 }
 
--- where only the files change, a line keeps what holds between calls
+-- if only the files change, a line keeps what holds between calls
 files_kept : (e : Event) (b : Block) (old new : World) → Kept old → Made (state_of old) (state_of new) b e → plain (state_of new) ≡ with_files (plain (state_of old)) (plain (state_of new)).files → Tidy new → Kept new
 files_kept e b old new kept made is tidy =
     kept_is new
@@ -157,10 +158,10 @@ module _ (old new : World) (id d x y : ℕ) (kept : Kept old) (none : old.files.
     (free : entry_at old.files id ≡ None) (made : new.files ≡ with_file old.files id (names_of d x y)) (entry : Only (entry_at old.files) (entry_at new.files) id (Some (Standing (names_of d x y) 0)))
     (words : Only (words_at old.files) (words_at new.files) id []) (files : directory new.files ≡ directory old.files ++ new_file (names_of d x y) ∷ [])
     (core : new.core ≡ old.core) (jobs : new.jobs ≡ old.jobs) (frames : new.frames ≡ old.frames)
-    (consoles : new.consoles ≡ old.consoles) (holders : new.holders ≡ old.holders) (clock : new.clock ≡ old.clock) (alarms : new.alarms ≡ old.alarms) (version : new.version ≡ old.version) (symbols : new.symbols ≡ old.symbols) (rings : new.rings ≡ old.rings) where
+    (consoles : new.consoles ≡ old.consoles) (holders : new.holders ≡ old.holders) (clock : new.clock ≡ old.clock) (alarms : new.alarms ≡ old.alarms) (version : new.version ≡ old.version) (symbols : new.symbols ≡ old.symbols) (pipes : new.pipes ≡ old.pipes) (rings : new.rings ≡ old.rings) where
   made_filed : Filed old new (directory old.files ++ new_file (names_of d x y) ∷ [])
   made_filed =
-      filed old new (directory old.files ++ new_file (names_of d x y) ∷ []) core jobs frames consoles holders clock alarms version symbols rings kept.tidy
+      filed old new (directory old.files ++ new_file (names_of d x y) ∷ []) core jobs frames consoles holders clock alarms version symbols pipes rings kept.tidy
       (made_stays old.files new.files old.jobs id kept.tidy.across (names_of d x y) [] free made entry words) none (ap (λ (s : Store). s.mark) made ∙ none) files
 
   pub made_lands : Lands (state_of old) (state_of new) (file_made (state_of old).raw (names_of d x y))
@@ -239,10 +240,10 @@ module _ (w : World) (whole : IsStore w.files) (kept : Kept w) (none : w.files.m
   module _ (new : World) (x : ℕ) (made : new.files ≡ with_word w.files id x) (entry : Same (entry_at w.files) (entry_at new.files))
       (words : Only (words_at w.files) (words_at new.files) id (words_at w.files id ++ x ∷ [])) (files : directory new.files ≡ with_changed (names_at w.files id) (longer x) (directory w.files))
       (core : new.core ≡ w.core) (jobs : new.jobs ≡ w.jobs) (frames : new.frames ≡ w.frames)
-      (consoles : new.consoles ≡ w.consoles) (holders : new.holders ≡ w.holders) (clock : new.clock ≡ w.clock) (alarms : new.alarms ≡ w.alarms) (version : new.version ≡ w.version) (symbols : new.symbols ≡ w.symbols) (rings : new.rings ≡ w.rings) where
+      (consoles : new.consoles ≡ w.consoles) (holders : new.holders ≡ w.holders) (clock : new.clock ≡ w.clock) (alarms : new.alarms ≡ w.alarms) (version : new.version ≡ w.version) (symbols : new.symbols ≡ w.symbols) (pipes : new.pipes ≡ w.pipes) (rings : new.rings ≡ w.rings) where
     added_filed : Filed w new (with_changed (names_at w.files id) (longer x) (directory w.files))
     added_filed =
-        filed w new (with_changed (names_at w.files id) (longer x) (directory w.files)) core jobs frames consoles holders clock alarms version symbols rings kept.tidy
+        filed w new (with_changed (names_at w.files id) (longer x) (directory w.files)) core jobs frames consoles holders clock alarms version symbols pipes rings kept.tidy
         (lengthened_stays w.files new.files w.jobs id kept.tidy.across x (words_at w.files id ++ x ∷ []) file made entry words) none (ap (λ (s : Store). s.mark) made ∙ none) files
 
     pub added_lands : store_is_full w.files.stored id ≡ false → Lands (state_of w) (state_of new) (word_added (state_of w).raw (names_at w.files id) x)

@@ -88,7 +88,7 @@ calm_same old mid s j kept c = unwound_same old mid s kept c.unwinds
 pub calmed_same : (old mid : World) (s : ℕ) → Kept old → Calmed old mid s → plain (state_of mid) ≡ plain (state_of old)
 calmed_same old mid s kept c = calm_same old mid s c.job kept c.calm
 
--- the cores of all others, and the frames of pages, where a slot was unwound and then written
+-- the cores of all others, and the frames of pages, if a slot was unwound and then written
 pub calm_off : (old mid : World) (s : ℕ) (j : Job) → Calm old mid s j → CoresOff old mid s
 calm_off old mid s j c = c.cores
 
@@ -101,7 +101,7 @@ registers_off old mid new s j i c b = off_then old mid new s c.cores (off_one mi
 pub stored_off : (old mid new : World) (s : ℕ) (d : Core) → Calmed old mid s → CoreBecomes mid new s d → CoresOff old new s
 stored_off old mid new s d c b = off_then old mid new s c.calm.cores (off_one mid new s _ _ _ b)
 
--- the frames in which pages stand do not matter to it
+-- the frames of pages do not matter to it
 pub frames_kept : (w : World) (f : Frames) → Kept (with_frames w f) → Kept w
 frames_kept w f k =
     let e = frames_state w f in

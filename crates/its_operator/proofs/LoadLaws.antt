@@ -1,4 +1,4 @@
--- The words of a LOAD block: a word is stored, where its page is absent into a page of zeros that is made.
+-- The words of a LOAD block: a word is stored; if its page is absent, a page of zeros is made first.
 use Rattle.std.specs.Prelude.{◌≡◌, ◌<◌, ◌≤◌, ◌/◌, ◌&&◌, ◌||◌, not, ℕ, Bool, true, false, Option, Some, None, [], ◌∷◌, Result, Ok, Err, is_some, nat_lt, refl}
 use Rattle.std.proofs.Common.{sym, ◌∙◌, ap, subst, arith, inl, inr}
 use Rattle.std.proofs.lemmas.Bool.{cases_Bool}
@@ -222,7 +222,7 @@ module _ (old mid new : World) (s a x : ℕ) where
   load_kept d kept c r l = core_kept (events.Words a (record { items = x ∷ [] })) (block_of s) old mid new s c.job d kept c.calm r (load_line l)
       (loaded_lasts (plain (state_of old)) (plain (state_of new)) s a x (load_plain kept l) (kept_lasts old kept))
 
--- the same where its page was made
+-- the same if its page was made
 pub made_kept : (old mid new : World) (s a x : ℕ) (d : Core) → Kept old → Calmed old mid s → CoreBecomes mid (with_frames new mid.core.frames) s d
     → Lands (unwound (state_of old) s) (state_of new) (word_loaded (unwound (state_of old) s).raw s a x) → Kept new
 made_kept old mid new s a x d kept c r l =

@@ -10,12 +10,12 @@ use Rattle.its_world.specs.World.{frame_at, with_frames, CoreBecomes}
 use Rattle.its_world.specs.declared.world.World.{World}
 use Rattle.its_world.proofs.WorldLaws.{alike, frames_still}
 
--- where the frames of pages were as they are, the core of its slot alone would be another
+-- if the frames of pages are unchanged, the core of its slot alone would be another
 pub page_becomes : (old new : World) (s : ℕ) (c : Core) → Only (core_at old.core) (core_at new.core) s c → Same (clear_at old.core) (clear_at new.core)
-    → new.jobs ≡ old.jobs → new.frames ≡ old.frames → new.consoles ≡ old.consoles → new.holders ≡ old.holders → new.files ≡ old.files → new.clock ≡ old.clock → new.alarms ≡ old.alarms → new.version ≡ old.version → new.symbols ≡ old.symbols → new.rings ≡ old.rings
+    → new.jobs ≡ old.jobs → new.frames ≡ old.frames → new.consoles ≡ old.consoles → new.holders ≡ old.holders → new.files ≡ old.files → new.clock ≡ old.clock → new.alarms ≡ old.alarms → new.version ≡ old.version → new.symbols ≡ old.symbols → new.pipes ≡ old.pipes → new.rings ≡ old.rings
     → CoreBecomes old (with_frames new old.core.frames) s c
 unfolding core_at reserved_at
-page_becomes old new s c core reserved jobs frames consoles holders files clock alarms version symbols rings = record {
+page_becomes old new s c core reserved jobs frames consoles holders files clock alarms version symbols pipes rings = record {
   core = core;
   job = alike _ _ s (λ k. ap (λ t. job_at t k) jobs);
   superiors = ap (λ t. t.superiors) jobs;
@@ -29,7 +29,8 @@ page_becomes old new s c core reserved jobs frames consoles holders files clock 
   alarms = alarms;
   version = version;
   symbols = symbols;
-  ringed = ringed_alike old (with_frames new old.core.frames) jobs frames consoles holders clock rings;
+  pipes = pipes;
+  ringed = ringed_alike old (with_frames new old.core.frames) jobs frames consoles holders clock pipes rings;
 }
 
 pub page_then_store : (old mid new : World) (s a x : ℕ) (c : Core) → CoreBecomes old (with_frames mid old.core.frames) s c → CoreBecomes mid new s (store (core_at mid.core s) a x)
@@ -49,7 +50,8 @@ page_then_store old mid new s a x c h t = record {
   alarms = t.alarms ∙ h.alarms;
   version = t.version ∙ h.version;
   symbols = t.symbols ∙ h.symbols;
+  pipes = t.pipes ∙ h.pipes;
   ringed = λ r.
-      ringed_alike new (with_frames new old.core.frames) refl refl refl refl refl refl
-      (t.ringed (ringed_alike (with_frames mid old.core.frames) mid refl refl refl refl refl refl (h.ringed r)));
+      ringed_alike new (with_frames new old.core.frames) refl refl refl refl refl refl refl
+      (t.ringed (ringed_alike (with_frames mid old.core.frames) mid refl refl refl refl refl refl refl (h.ringed r)));
 }

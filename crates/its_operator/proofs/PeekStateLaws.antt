@@ -1,4 +1,4 @@
--- PEEK of a world is that of the state that it stands for.
+-- PEEK of a world is that of its state.
 use Rattle.std.specs.Prelude.{◌≡◌, ◌<◌, ℕ, true, false, Option, Some, None, slice_index_or, is_some}
 use Rattle.std.proofs.Common.{sym, ◌∙◌, ap}
 use Rattle.std.proofs.lemmas.List.{get_or_read_under}

@@ -1,5 +1,5 @@
 -- RO, and the words of a LOAD block that are on read-only pages.
-use Rattle.std.specs.Prelude.{◌≡◌, ◌≢◌, ◌-◌, ◌&&◌, not, ℕ, Bool, true, false, Option, Some, None, [], Ok, Err, is_some, refl}
+use Rattle.std.specs.Prelude.{◌≡◌, ◌≢◌, ◌&&◌, not, ℕ, Bool, true, false, Option, Some, None, [], Ok, Err, is_some, refl}
 use Rattle.std.proofs.Common.{sym, ◌∙◌, ap}
 use Rattle.its_word.specs.Core.{Core, Page, word_at, can_store, page_of, with_page, marked}
 use Rattle.its_word.specs.Stores.{refusal, refused}

@@ -55,9 +55,9 @@ in_place m s k q h e = elim (cases_eq k s) [
 ]
 
 pub job_placed : (m : Machine) (s : ℕ) (q : Whole) (h : Whole → Whole) → m.jobs s ≡ Some q → in_job m s h ≡ with_job m s (h q)
-job_placed m s q h e = machine_is _ _ (λ k. in_place m s k q h e) (λ k. refl) (λ k. refl) refl refl refl (λ k. refl)
+job_placed m s q h e = machine_is _ _ (λ k. in_place m s k q h e) (λ k. refl) (λ k. refl) refl refl refl (λ k. refl) (λ k. refl)
 
--- a state in which the job of a slot is changed by h lands where that job is put
+-- a change of a slot's job by h results in the state in which that job is put
 pub placed_lands : (v new : State) (s : ℕ) (q : Whole) (h : Whole → Whole) (r : Result Machine Reason) → v.raw.jobs s ≡ Some q → new ≡ in_raw v s h → r ≡ Ok (with_job v.raw s (h q)) → Lands v new r
 placed_lands v new s q h r job e is = record {
   is = is ∙ ap Ok (sym (job_placed v.raw s q h job)) ∙ ap (λ (x : State). Ok x.raw) (sym e);
@@ -77,7 +77,7 @@ registers_land f old mid new s j fits c b =
 pub put_as : (mid new : World) (s : ℕ) (i j : Job) → i ≡ j → JobBecomes mid new s i → JobBecomes mid new s j
 put_as mid new s i j e b = subst (λ (k : Job). JobBecomes mid new s k) e b
 
--- what a line that disturbs its slot comes to
+-- the result of a line that disturbs its slot
 pub disturbed : (s : ℕ) (b : Block) (r : Result Machine Reason) (n : Machine) (out : List _) (touched : ℕ → Bool) (c : Block) → Done (disturbs s b r) ≡ Done (Does n out touched c) → r ≡ Ok n
 disturbed s b (Ok m) n out touched c h = let is : m ≡ n = cc in ap Ok is
 disturbed s b (Err x) n out touched c h = absurd cc
@@ -95,7 +95,7 @@ registers_lasts m n s f is keeps same a = go (m.jobs s) refl is
         (subst (λ (o : Option ℕ). IfSome o (λ c. c < 8)) (sym (same q.job)) (lasts_console m s q at a)) a)
     go None at h = absurd cc
 
--- what is kept where a line writes the registers of its slot
+-- what is kept if a line writes the registers of its slot
 registers_kept : (f : Job → Job) (e : Event) (b : Block) (old mid new : World) (s : ℕ) (j : Job) → Kept old → Calm old mid s j → JobBecomes mid new s (f j)
     → Made (state_of old) (state_of new) b e → on_registers (plain (state_of old)) s f ≡ Ok (plain (state_of new)) → ((i : Job) → i.pc < 2 ^ 18 → (f i).pc < 2 ^ 18)
     → ((i : Job) → (f i).console ≡ i.console) → ((i : Job) → (f i).channels ≡ i.channels) → Kept new

@@ -187,9 +187,10 @@ clock_state old new c b =
     let clock = b.clock in
     let version = b.version in
     let symbols = b.symbols in
+    let pipes = b.pipes in
     let frames = b.frames in
     λ t. record {
-      raw = raw_machine (files t) (core t) (jobs t) (alarms t).items (consoles t).items (holders t) (clock t) (version t) (symbols t).items;
+      raw = raw_machine (files t) (core t) (jobs t) (alarms t).items (consoles t).items (holders t) (clock t) (version t) (symbols t).items (pipes t);
       frames = frame_at (frames t).items;
       reserved = clear_at (core t);
       mark = mark_of (files t);

@@ -19,6 +19,7 @@ use Rattle.its_plain.specs.Operator.{Block, no_block, Does, only, quietly}
 use Rattle.its_plain.specs.OperatorJobs.{new_job, held_by, with_holder, loaded_in, loaded}
 use Rattle.its_plain.specs.OperatorLines.{by_load, operate, Done, lined}
 use Rattle.its_plain.specs.OperatorClock.{clock_end}
+use Rattle.its_pipes.specs.Pipes.{piped}
 use Rattle.its_plain.proofs.MachineLaws.{machine_is}
 use Rattle.its_stepped.specs.State.{State, plain, no_state}
 use Rattle.its_stepped.specs.Sound.{Sound}
@@ -62,13 +63,14 @@ same_holder holders c s h k e = elim (cases_eq k c) [
 pub console_held : (w : World) (c s h : ℕ) (o : Option ℕ) → o ≡ holder_at w.holders c → o ≡ Some h → Alters w w (with_holder (state_of w).raw s (Some c))
 unfolding state_of
 console_held w c s h o i f = record {
-  state = state_is _ _ (machine_is _ _ (λ k. refl) (λ k. refl) (λ k. same_holder (holder_at w.holders) c s h k (sym i ∙ f)) refl refl refl (λ k. refl)) (λ k. refl) (λ k. refl) refl;
+  state = state_is _ _ (machine_is _ _ (λ k. refl) (λ k. refl) (λ k. same_holder (holder_at w.holders) c s h k (sym i ∙ f)) refl refl refl (λ k. refl) (λ k. refl)) (λ k. refl) (λ k. refl) refl;
   core = refl;
   jobs = refl;
   files = refl;
   clock = refl;
   alarms = refl;
   symbols = refl;
+  pipes = refl;
   ringed = λ r. r;
 }
 
@@ -83,6 +85,7 @@ console_given old new c s o i f b = record {
   clock = b.clock;
   alarms = b.alarms;
   symbols = b.symbols;
+  pipes = b.pipes;
   ringed = b.ringed;
 }
 
@@ -92,13 +95,13 @@ console_some old new s c console e h = subst (λ (o : Option ℕ). Alters old ne
 
 pub console_none : (w : World) (s : ℕ) (console : Option ℕ) → console ≡ None → Alters w w (with_holder (state_of w).raw s console)
 console_none w s console e =
-    subst (λ (o : Option ℕ). Alters w w (with_holder (state_of w).raw s o)) (sym e) (record { state = refl; core = refl; jobs = refl; files = refl; clock = refl; alarms = refl; symbols = refl; ringed = λ r. r })
+    subst (λ (o : Option ℕ). Alters w w (with_holder (state_of w).raw s o)) (sym e) (record { state = refl; core = refl; jobs = refl; files = refl; clock = refl; alarms = refl; symbols = refl; pipes = refl; ringed = λ r. r })
 
 held_lasts : (m : Machine) (s : ℕ) (console : Option ℕ) → Lasts m → Lasts (with_holder m s console)
 held_lasts m s (Some c) a = record { addressed = a.addressed; consoled = a.consoled }
 held_lasts m s None a = a
 
--- a new job has no symbols besides
+-- a new job also has no symbols
 new_lasts : (m : Machine) (s : ℕ) (q : Whole) → Lasts (with_job m s q) → Lasts (with_new m s q)
 new_lasts m s q a = record { addressed = a.addressed; consoled = a.consoled }
 
@@ -191,17 +194,17 @@ unfolding mark_of
 nothing_marked = refl
 
 pub open_state : (w : World) → IsEmpty w.core → NoJobs w.jobs → ((k : ℕ) → frame_at w.frames.items k ≡ None)
-    → ((c : ℕ) → console_at w.consoles.items c ≡ quiet_console) → ((c : ℕ) → holder_at w.holders c ≡ None) → w.files ≡ no_files → w.clock ≡ 0 → w.version ≡ 1 → ((k : ℕ) → symbols_at w.symbols.items k ≡ []) → state_of w ≡ no_state no_machine
+    → ((c : ℕ) → console_at w.consoles.items c ≡ quiet_console) → ((c : ℕ) → holder_at w.holders c ≡ None) → w.files ≡ no_files → w.clock ≡ 0 → w.version ≡ 1 → ((k : ℕ) → symbols_at w.symbols.items k ≡ []) → ((l : ℕ) → piped w.pipes l ≡ None) → state_of w ≡ no_state no_machine
 unfolding state_of no_state no_machine
-open_state w e n f consoles holders files c v symbols = state_is _ _
-    (machine_is _ _ (λ k. ap (raw_of w.files (core_at w.core k) (superior_at w.jobs k) (alarm_at w.alarms.items k)) (n.jobs k)) consoles holders (ap directory files) c v symbols)
+open_state w e n f consoles holders files c v symbols links = state_is _ _
+    (machine_is _ _ (λ k. ap (raw_of w.files (core_at w.core k) (superior_at w.jobs k) (alarm_at w.alarms.items k)) (n.jobs k)) consoles holders (ap directory files) c v symbols links)
     f (λ k. ap (option_map (λ (r : Reserved). r.clear)) (e.reserved k)) (ap mark_of files ∙ nothing_marked)
 
 pub open_kept : (w : World) → IsEmpty w.core → NoJobs w.jobs → ((k : ℕ) → frame_at w.frames.items k ≡ None)
-    → ((c : ℕ) → console_at w.consoles.items c ≡ quiet_console) → ((c : ℕ) → holder_at w.holders c ≡ None) → w.files ≡ no_files → w.clock ≡ 0 → ((k : ℕ) → alarm_at w.alarms.items k ≡ None) → w.version ≡ 1 → ((k : ℕ) → symbols_at w.symbols.items k ≡ []) → Ringed w → Kept w
+    → ((c : ℕ) → console_at w.consoles.items c ≡ quiet_console) → ((c : ℕ) → holder_at w.holders c ≡ None) → w.files ≡ no_files → w.clock ≡ 0 → ((k : ℕ) → alarm_at w.alarms.items k ≡ None) → w.version ≡ 1 → ((k : ℕ) → symbols_at w.symbols.items k ≡ []) → ((l : ℕ) → piped w.pipes l ≡ None) → Ringed w → Kept w
 unfolding no_machine
-open_kept w e n f consoles holders files c alarms v symbols ringed =
-    let is = open_state w e n f consoles holders files c v symbols in
+open_kept w e n f consoles holders files c alarms v symbols links ringed =
+    let is = open_state w e n f consoles holders files c v symbols links in
     let machine : plain (state_of w) ≡ no_machine = ap plain is ∙ no_state_plain no_machine in
     kept_is w
     (subst Sound (sym is) no_state_sound)

@@ -1,5 +1,5 @@
 -- VERSION and SYM.
-use Rattle.std.specs.Prelude.{◌≡◌, ◌≢◌, ◌<◌, ◌+◌, ◌-◌, ◌^◌, ℕ, Bool, true, false, Option, None, IfSome, List, [], ◌∷◌, ◌++◌, Ok, Err, is_some, length, nat_lt, slice_index_or, refl}
+use Rattle.std.specs.Prelude.{◌≡◌, ◌<◌, ◌^◌, ℕ, Bool, true, false, Option, None, IfSome, List, [], ◌∷◌, ◌++◌, Ok, Err, is_some, length, nat_lt, slice_index_or, refl}
 use Rattle.std.proofs.Common.{sym, ◌∙◌, ap, subst, inl, inr}
 use Rattle.std.proofs.lemmas.Bool.{cases_eq}
 use Rattle.its_world.proofs.MadeLaws.{empty_raw}
@@ -17,6 +17,7 @@ use Rattle.its_plain.specs.OperatorLines.{operate, Done, lined}
 use Rattle.its_plain.specs.OperatorClock.{clock_end}
 use Rattle.its_plain.specs.OperatorSymbols.{with_symbol, symbol_kept_if, symbol_kept_of, symbol_kept}
 use Rattle.its_plain.specs.OperatorVersion.{versioned}
+use Rattle.its_pipes.specs.Pipes.{piped}
 use Rattle.its_plain.proofs.MachineLaws.{machine_is}
 use Rattle.its_stepped.specs.State.{State, plain}
 use Rattle.its_stepped.specs.Lines.{calmed, with_raw}
@@ -36,7 +37,7 @@ use Rattle.its_operator.proofs.RegisterLaws.{raw_is, raw_is_none, block_of}
 use Rattle.its_operator.proofs.StartLaws.{quiet_by}
 use Rattle.its_operator.proofs.WaitsLaws.{kept_is}
 
--- VERSION: where a slot has a job, nothing changes
+-- VERSION: if a slot has a job, nothing changes
 pub version_stays : (w : World) (v : ℕ) (b : Bool) → b ≡ no_job (job_at w.jobs) → b ≡ false → Lands (state_of w) (state_of w) (Ok (versioned (state_of w).raw v))
 version_stays w v b e f = record { is = ap Ok (same_version (state_of w).raw v (empty_raw w ∙ sym e ∙ f)); rest = refl }
 
@@ -56,7 +57,7 @@ version_state : (old new : World) (v : ℕ) → VersionBecomes old new v → sta
 unfolding state_of
 version_state old new v b = state_is _ _
     (machine_is _ _ (λ k. version_raw old new v k b) (λ k. ap (λ l. console_at l.items k) b.consoles) (λ k. ap (λ l. holder_at l k) b.holders) (ap directory b.files) b.clock b.version
-    (λ k. ap (λ l. symbols_at l.items k) b.symbols))
+    (λ k. ap (λ l. symbols_at l.items k) b.symbols) (λ k. ap (λ p. piped p k) b.pipes))
     (λ k. ap (λ l. frame_at l.items k) b.frames) (λ k. ap (λ t. clear_at t k) b.core) (ap mark_of b.files)
 
 module _ (old new : World) (v : ℕ) (b : Bool) (test : b ≡ no_job (job_at old.jobs)) (empty : b ≡ true) where
@@ -122,7 +123,7 @@ unfolding state_of
 symbols_state old new s x b = state_is _ _
     (machine_is _ _ (raw_same old new b.files b.core b.jobs b.alarms)
     (λ k. ap (λ l. console_at l.items k) b.consoles) (λ k. ap (λ l. holder_at l k) b.holders) (ap directory b.files) b.clock b.version
-    (changed_at _ _ s _ b.symbols.here b.symbols.others))
+    (changed_at _ _ s _ b.symbols.here b.symbols.others) (λ k. ap (λ p. piped p k) b.pipes))
     (λ k. ap (λ l. frame_at l.items k) b.frames) (λ k. ap (λ t. clear_at t k) b.core) (ap mark_of b.files)
 
 symbol_on : (w : World) (s : ℕ) (x : Symbol) (b : Bool) → is_some (job_at w.jobs s) ≡ true → b ≡ nat_lt (length (symbols_at w.symbols.items s)) most_symbols

@@ -1,4 +1,4 @@
--- EXAM, DEPOSIT and the words of a LOAD block: a word of a job that was unwound is read or stored, where it can be.
+-- EXAM, DEPOSIT and the words of a LOAD block: a word of a job that was unwound is read or stored, if it can be.
 use Rattle.std.specs.Prelude.{◌≡◌, ◌≢◌, ℕ, Bool, true, false, Option, Some, None, [], Result, Ok, Err, option_map, is_some, refl}
 use Rattle.std.proofs.Common.{sym, ◌∙◌, ap, subst}
 use Rattle.its_word.specs.Core.{Core, word_at, can_store, store, got, get}

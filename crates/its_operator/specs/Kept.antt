@@ -94,6 +94,7 @@ pub record Alters (old new : World) (m : Machine) : Type 0 where
   pub jobs : new.jobs ≡ old.jobs
   pub files : new.files ≡ old.files
   pub symbols : new.symbols ≡ old.symbols
+  pub pipes : new.pipes ≡ old.pipes
   pub clock : new.clock ≡ old.clock
   pub alarms : new.alarms ≡ old.alarms
   pub ringed : Ringed old → Ringed new

@@ -1,17 +1,18 @@
 -- What the wait lists hold, in terms of the plain machine (docs/STEPS.md, "Wait lists").
 -- No promise rests on this.
-use Rattle.std.specs.Prelude.{◌≡◌, ◌<◌, ◌≤◌, ◌+◌, ◌↔◌, ◌≢◌, ℕ, Option, Some, None, List}
+use Rattle.std.specs.Prelude.{◌≡◌, ◌<◌, ◌≤◌, ◌↔◌, ◌≢◌, ℕ, Some, List}
 use Rattle.its_links.specs.Lists.{list_at, count}
 use Rattle.its_frame.specs.declared.decision.Decision.TheVariants.{Waits}
 use Rattle.its_frame.specs.declared.decision.Wait.{Wait}
-use Rattle.its_frame.specs.declared.decision.Wait.TheVariants.{Hang, Clock, Input, Output, Drained}
 use Rattle.its_frame.specs.declared.frame.Frame.TheVariants as frames
 use Rattle.its_frame.specs.declared.frame.Waiting.{Waiting}
 use Rattle.its_plain.specs.CallStep.{decision}
 use Rattle.its_plain.specs.Machine.{Whole}
 use Rattle.its_plain.specs.Reasons.{reason_in}
 use Rattle.its_stepped.specs.State.{State, plain}
-use Rattle.its_world.specs.Rings.{ring_of, console_in}
+use Rattle.its_word.specs.Links.{most_links}
+use Rattle.its_plain.specs.Moves.{Device, AtConsole, AtLink}
+use Rattle.its_world.specs.Rings.{ring_of, post_of, awake_head, Within}
 use Rattle.its_world.specs.World.{state_of}
 use Rattle.its_world.specs.declared.world.World.{World}
 
@@ -23,23 +24,15 @@ pub record WaitsFor (w : State) (k : ℕ) (r : Wait) : Type 0 where
   pub there : (plain w).jobs k ≡ Some job
   pub waits : decision (plain w) k job frame.ask ≡ Waits r
 
--- the console of a reason that is at one
-abbrev pub console_of : Wait → Option ℕ
-console_of Hang = None
-console_of Clock = None
-console_of (Input c) = Some c
-console_of (Output c) = Some c
-console_of (Drained c) = Some c
-
--- slot k waits at console c, and in the plain machine its call is ready
-pub record CanGoOn (w : State) (k c : ℕ) : Type 0 where
+-- slot k waits at a console or a link, and in the plain machine its call is ready
+pub record CanGoOn (w : State) (k : ℕ) (d : Device) : Type 0 where
   pub frame : Waiting
   pub job : Whole
   pub in_frame : w.frames k ≡ Some (frames.Waiting frame)
   pub there : (plain w).jobs k ≡ Some job
   pub reason : Wait
   pub can_wait : reason_in job frame.ask ≡ Some reason
-  pub at_console : console_of reason ≡ Some c
+  pub here : post_of reason ≡ Some d
   pub ready : (r : Wait) → decision (plain w) k job frame.ask ≢ Waits r
 
 -- a list holds just the slots of which this holds, each once
@@ -47,9 +40,10 @@ pub record HoldsJust (ks : List ℕ) (Holds : ℕ → Type 0) : Type 0 where
   pub once : (k : ℕ) → count k ks ≤ 1
   pub just : (k : ℕ) → (0 < count k ks) ↔ Holds k
 
--- the wait list of each reason holds exactly the slots that wait for it, the Awake list of each console exactly those that wait there
--- and can go on, and a slot is on one list at most
+-- the wait list of each reason holds exactly the slots that wait for it, the Awake list of each console and of each link exactly those
+-- that wait there and can go on, and a slot is on one list at most
 pub record WaitRings (w : World) : Type 0 where
-  pub rings : (r : Wait) → console_in r < 8 → HoldsJust (list_at w.rings.lists (ring_of r)) (λ k. WaitsFor (state_of w) k r)
-  pub awake : (c : ℕ) → c < 8 → HoldsJust (list_at w.rings.lists (26 + c)) (λ k. CanGoOn (state_of w) k c)
+  pub rings : (r : Wait) → Within r → HoldsJust (list_at w.rings.lists (ring_of r)) (λ k. WaitsFor (state_of w) k r)
+  pub at_consoles : (c : ℕ) → c < 8 → HoldsJust (list_at w.rings.lists (awake_head (AtConsole c))) (λ k. CanGoOn (state_of w) k (AtConsole c))
+  pub at_links : (l : ℕ) → l < most_links → HoldsJust (list_at w.rings.lists (awake_head (AtLink l))) (λ k. CanGoOn (state_of w) k (AtLink l))
   pub one : (k g h : ℕ) → 0 < count k (list_at w.rings.lists g) → 0 < count k (list_at w.rings.lists h) → g ≡ h

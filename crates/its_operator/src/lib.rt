@@ -1,6 +1,23 @@
 //! The operator's calls: what the lines of a session do to the world, and what they show. A call that names a job
 //! leaves the world as it was if it is refused; else the job is first unwound to user mode, except by PEEK. A call on
 //! files first performs the pending parts of a close.
+//!
+//! Proved over the whole state:
+//! - `open`, `load_job`, `load_word`, `go`, `stop`, `cont`, `interrupt`, `exam`, `deposit`, `state`, `advance`,
+//!   `version`, `read_only`, `symbol`, and `type_in` and `drain` of one byte: each is the operator's definition on the
+//!   plain machine (`plain`) and its exact row on the stepped machine (`done`, `shown`, `word`, `unwinds`). Its
+//!   refusals are those of the definition, and then nothing changes (`refused`, `same`). What holds between two calls
+//!   is kept (`kept`).
+//! - `exam` and `state` leave the plain machine unchanged (`leaves`).
+//! - Each page stays in its page frame, except that an unwound slot gives its reserved page back (`cores`, `core`),
+//!   that `load_word` maps an absent page, and that `advance` unwinds the jobs whose alarm is due (`pages`).
+//! - `peek` shows `peeked` of the state (`shown`), or is NoJob exactly if the slot is empty (`some`, `refused`).
+//! - `dir`, `file`, `file_length`, `file_word`, `file_new` and `file_add` first perform the pending parts of a close
+//!   (`state`). `dir` and `file` show the files of the plain machine (`shown`, `found`), `file_length` and `file_word`
+//!   the words of a file number (`length`, `word`); these four leave the plain machine unchanged (`plain`). `file_new`
+//!   and `file_add` are the operator's definitions on the plain machine, with exactly their refusals (`plain`,
+//!   `refused`). The first four change no more of the world than the files, by these parts, and so do the other two if
+//!   they are refused (`alone`).
 #![tactic(auto)]
 
 mod clock;

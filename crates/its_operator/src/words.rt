@@ -44,7 +44,8 @@ pub fn exam(w: &mut World, slot: u8, a: u32) -> Result<Word, Refusal>
     }
 }
 
-/// DEPOSIT: stores a word of a slot. NoJob if the slot is empty; NoPage if the page is absent, ReadOnly if it is so.
+/// DEPOSIT: stores a word of a slot. NoJob if the slot is empty; NoPage if the page is absent, ReadOnly if it is read
+/// only.
 #[tactic(auto, using(crate::proofs::WordLaws::deposit_none, crate::proofs::WordLaws::deposit_refused, crate::proofs::WordLaws::deposit_can, crate::proofs::WordLaws::deposit_done, crate::proofs::WordLaws::deposit_plain, crate::proofs::WordLaws::deposit_kept, crate::proofs::KeptLaws::stored_off))]
 pub fn deposit(w: &mut World, slot: u8, a: u32, word: Word) -> Result<(), Refusal>
     requires slot { slot < slots }
@@ -68,7 +69,7 @@ pub fn deposit(w: &mut World, slot: u8, a: u32, word: Word) -> Result<(), Refusa
 }
 
 /// One word of an a/ line: an absent page is made, writable and of zeros. NoJob if the slot is empty; ReadOnly if the
-/// page is so; Full if a page is needed and 1024 pages are mapped.
+/// page is read only; Full if a page is needed and 1024 pages are mapped.
 #[tactic(auto, using(crate::proofs::LoadLaws::load_none, crate::proofs::LoadLaws::load_refused, crate::proofs::LoadLaws::load_clear, crate::proofs::LoadLaws::load_writable, crate::proofs::LoadLaws::load_room, crate::proofs::LoadLaws::load_unreserved, crate::proofs::LoadLaws::load_stored, crate::proofs::LoadLaws::load_made, crate::proofs::LoadLaws::load_plain, crate::proofs::LoadLaws::load_kept))]
 pub fn load_word(w: &mut World, slot: u8, a: u32, word: Word) -> Result<(), Refusal>
     requires slot { slot < slots }

@@ -1,4 +1,4 @@
--- When the numbers in channels fit the files and drafts: where the channels weigh the same, and where none is open.
+-- When the numbers in channels fit the files and drafts: if the channels weigh the same, and if none is open.
 use Rattle.std.specs.Prelude.{◌≡◌, ℕ, false, None}
 use Rattle.std.proofs.Common.{sym, ◌∙◌, ap}
 use Rattle.its_word.proofs.TableLaws.{get_or-filled}
@@ -10,7 +10,7 @@ use Rattle.its_files.specs.Files.{Store, readers_by, no_files}
 use Rattle.its_parts.specs.Across.{channel_by, channel_at, tally, reads_file, writes_draft, writers, Across}
 use Rattle.its_parts.proofs.TallyLaws.{tally_alike, tally_same, tally_none}
 
--- a channel that weighs no other than another one for each file and draft, and is closed where that one is
+-- a channel that weighs no other than another one for each file and draft, and is closed if that one is
 pub record Alike (c d : Channel) : Type 0 where
   pub closed : c ≡ Closed → d ≡ Closed
   pub read : (f : ℕ) → reads_file f d ≡ reads_file f c
@@ -30,7 +30,7 @@ across_alike s t v a h = record {
 pub across_table : (s : Store) (t v : Table) → Across s t → ((k n : ℕ) → channel_at v k n ≡ channel_at t k n) → Across s v
 across_table s t v a same = across_alike s t v a (λ k n. same_alike (channel_at t k n) (channel_at v k n) (same k n))
 
--- no channel is open, and no file and no draft stands
+-- no channel is open, and there is no file and no draft
 nothing_read : (f : ℕ) → tally (reads_file f) (λ k n. Closed) ≡ 0
 unfolding tally
 nothing_read f = tally_none (λ k n. Closed)

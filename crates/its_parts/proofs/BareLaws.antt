@@ -78,7 +78,7 @@ table_bare : (c : Core) (j : Job) (o : Option ℕ) → by_table c (bare j) o ≡
 table_bare c j (Some w) = length_bare c j (right_of w) (entries_of w)
 table_bare c j None = refl
 
--- a delivery, where the test of a fatal bit has a value
+-- a delivery, if the test of a fatal bit has a value
 abbrev delivered_by : Core → Job → Bool → Delivered
 delivered_by c j b = if b then through_table c j else record { core = c; job = record j { stopped = true }; stops = true }
 
@@ -198,7 +198,7 @@ unfolding with_variable
 set_bare Upc w j = refl
 set_bare x w j = refl
 
--- a variable is one of the registers but for the channels
+-- a variable is one of the registers except for the channels
 pub variable_bare : (x : Variable) (v : ℕ) (j : Job) → with_variable x v (bare j) ≡ bare (with_variable x v j)
 unfolding with_variable
 variable_bare Upc v j = refl

@@ -1,9 +1,11 @@
 -- What a call decides can be made, in a forest of jobs whose consoles are among the eight.
-use Rattle.std.specs.Prelude.{◌==◌, ◌≡◌, ◌<◌, ℕ, Bool, true, false, Some, Option, IfSome, is_some, refl}
+use Rattle.std.specs.Prelude.{◌==◌, ◌≡◌, ◌<◌, ℕ, Bool, true, false, Some, Option, None, IfSome, is_some, refl}
 use Rattle.std.proofs.Common.{sym, ◌∙◌, ap, subst}
 use Rattle.std.proofs.lemmas.Bool.{eqb-true}
 use Rattle.std.proofs.lemmas.Option.{IfSome_then}
 use Rattle.its_word.specs.Limits.{slots}
+use Rattle.its_word.specs.Links.{most_links}
+use Rattle.its_word.specs.declared.link.End.TheVariants.{Opened}
 use Rattle.its_word.specs.declared.calls.Ask.{Ask}
 use Rattle.its_frame.specs.declared.change.Change.TheVariants as changes
 use Rattle.its_frame.specs.declared.name.CallName.{CallName}
@@ -13,14 +15,15 @@ use Rattle.its_plain.specs.CallBasic.{channel_at}
 use Rattle.its_plain.specs.CallStep.{decision}
 use Rattle.its_plain.specs.Change.{superiors, superior_in}
 use Rattle.its_plain.specs.Decide.{call_named, decided, target, reaching}
-use Rattle.its_plain.specs.Machine.{On, Whole, Machine, core_of}
+use Rattle.its_plain.specs.Machine.{On, Linked, Pipe, Whole, Machine, core_of}
 use Rattle.its_plain.specs.View.{View, view, job_at}
-use Rattle.its_stepped.specs.Forest.{Forest}
+use Rattle.its_stepped.specs.Forest.{end_at, Forest}
 use Rattle.its_stepped.specs.Tick.{helps_by, helps, reserves}
 use Rattle.its_stepped.proofs.CoreDuty.{makes_reserves}
+use Rattle.its_stepped.proofs.JoinedLaws.{linked_at}
 use Rattle.its_stepped.proofs.ForestLaws.{job_few, forest_below, on_inferior, inferior_stands}
 use Rattle.its_plain.proofs.TargetLaws.{target_on}
-use Rattle.its_parts.specs.Can.{HasJob, CanMake}
+use Rattle.its_parts.specs.Can.{HasJob, chan_in, CanMake}
 use Rattle.its_parts.proofs.CanLaws.{Beside, DecisionCan, Can, Sees}
 use Rattle.its_parts.proofs.UsrCanLaws.{Aim, Finds}
 use Rattle.its_parts.proofs.CoreCanLaws.{FindsPages}
@@ -42,6 +45,12 @@ pub record Grants (v : Beside) (q : Whole) (a : Ask) : Type 0 where
   pub files : helps q a ≡ true → v.files
   pub page : reserves a ≡ true → v.page
   pub tree : a.fail ≡ 0 → call_named a.name ≡ Some Uclose → (s at : ℕ) (write : Bool) → channel_at q.channels (input a 0) ≡ On s write at → v.tree s
+
+-- a link with an open end stands
+end_stands : (o : Option Pipe) (write : Bool) (k n : ℕ) → end_at write o ≡ Opened k n → is_some o ≡ true
+end_stands (Some p) write k n h = refl
+end_stands None true k n h = cc
+end_stands None false k n h = cc
 
 module _ (v : Beside) (m : Machine) (j : ℕ) (q : Whole) (a : Ask) (forest : Forest m) (here : m.jobs j ≡ Some q) (grants : Grants v q a) where
   -- an inferior that it reaches is there
@@ -85,8 +94,11 @@ module _ (v : Beside) (m : Machine) (j : ℕ) (q : Whole) (a : Ask) (forest : Fo
   superior_few : IfSome q.superior (λ s. s < slots)
   superior_few = IfSome_then q.superior (subst (λ (o : Option Whole). IfSome (superior_in o) (λ s. is_some (m.jobs s) ≡ true)) here (forest.standing j)) (λ s h. job_few m forest s h)
 
+  link_stands : (n l : ℕ) (write : Bool) → chan_in m j n ≡ Linked l write → (l < most_links) × (is_some (m.links l) ≡ true)
+  link_stands n l write is = let on = linked_at m j n l write forest.links is in (on.0, end_stands (m.links l) write j n on.1)
+
   pub decision_can : IfSome q.job.console (λ c. c < 8) → DecisionCan v (decision m j q a) j m
   unfolding decision view finds finds_pages
   decision_can housed =
       decided_can v j m (view m j q (target q a)) a (a.fail == 0) refl
-      (record { consoles = refl; own = housed; job = here; files = refl; outlines = refl; limit = refl; superior = superior_few }) grants.files finds finds_pages
+      (record { consoles = refl; own = housed; job = here; files = refl; outlines = refl; limit = refl; superior = superior_few; links = refl; linked = link_stands }) grants.files finds finds_pages

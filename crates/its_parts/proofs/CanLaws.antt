@@ -2,9 +2,12 @@
 use Rattle.std.specs.Prelude.{if◌then◌else◌, ◌||◌, ◌&&◌, ◌==◌, ◌≡◌, ◌<◌, ℕ, ◌+◌, ◌-◌, Bool, true, false, not, Option, Some, None, IfSome, is_some, List, [], option_map, ◌∷◌, ◌++◌, length, unwrap_or, Result, Ok, Err, nat_lt, refl}
 use Rattle.std.proofs.Common.{sym, ◌∙◌, ap, subst, arith}
 use Rattle.std.proofs.lemmas.Bool.{ltb-true}
+use Rattle.its_word.proofs.FreeLaws.{least_below}
 use Rattle.its_word.specs.Byte.{load_of}
 use Rattle.its_word.specs.Console.{most_waiting}
 use Rattle.its_word.specs.Limits.{slots}
+use Rattle.its_word.specs.Links.{most_links, most_linked}
+use Rattle.its_word.specs.Tree.{least_free}
 use Rattle.its_word.specs.Word.{right_of}
 use Rattle.its_word.specs.declared.access.Fault.{Fault}
 use Rattle.its_word.specs.declared.calls.Ask.{Ask}
@@ -15,21 +18,24 @@ use Rattle.its_frame.specs.declared.change.Opened.{Opened}
 use Rattle.its_frame.specs.declared.change.Opened.TheVariants as opened
 use Rattle.its_frame.specs.declared.decision.Decision.{Decision}
 use Rattle.its_frame.specs.declared.decision.Decision.TheVariants.{Waits, Goes, Ends, Gone}
-use Rattle.its_frame.specs.declared.decision.Wait.TheVariants.{Input, Output}
+use Rattle.its_frame.specs.declared.decision.Wait.TheVariants.{Input, Output, Empty, Room}
 use Rattle.its_frame.specs.declared.variable.Variable.{Variable}
 use Rattle.its_plain.specs.Arguments.{input, has_input, place_of_input}
 use Rattle.its_frame.specs.Variables.{variable_named}
-use Rattle.its_plain.specs.CallBasic.{negated, sleep_tests, sleep, dismissed_by, dismiss_at, dismiss, Party, Oneself, Nobody, Channel, by_oneself, by_superior, channel_at, is_oneself, party_on, party, set_own, own_variable, set_other, value_of_other, other_variable, usrvar_of, usrvar, told_superior, is_negative, longest_period, alarm_of, realt}
-use Rattle.its_plain.specs.CallTty.{console_of, has_console, is_other, input_waits, output_waits, first_typed, shown_byte, is_shut, opens_on, open_tests, opens, store_tests, read_tests, word_of, iot_ends, iot_in, iot_out, siot_tests, siot_in, siot_out, siot_by, can_take, is_holder, lands, ttylnd_of, ttylnd}
+use Rattle.its_plain.specs.CallBasic.{negated, sleep_tests, sleep, dismissed_by, dismiss_at, dismiss, Party, Oneself, Nobody, Channel, by_oneself, by_superior, channel_at, is_oneself, party_on, party, set_own, own_variable, set_other, value_of_other, other_variable, usrvar_of, usrvar, told_superior, is_negative, longest_period, alarm_of, realt, is_shut, ioc}
+use Rattle.its_plain.specs.CallTty.{console_of, has_console, is_other, input_waits, output_waits, first_typed, shown_byte, opens_on, open_tests, opens, iot_in, iot_out, siot_in, siot_out, can_take, is_holder, lands, ttylnd_of, ttylnd}
+use Rattle.its_plain.specs.CallLink.{words_in, is_end_closed, is_dry, is_ended, is_crowded, is_unread, link_named, can_open, joins, makes_link, opens_end, link_tests, opens_link, closes_end, iot_receive, iot_receives, iot_sends, iot_linked, siot_receive, siot_receives, siot_send, siot_sends, siot_linked, first_word}
+use Rattle.its_plain.specs.Transfer.{store_tests, read_tests, word_of, iot_ends, siot_tests, siot_by, next_pointer}
 use Rattle.its_plain.specs.Change.{channel_in, effect}
 use Rattle.its_plain.specs.Interrupt.{dismissed}
-use Rattle.its_plain.specs.Machine.{Names, File, Chan, Shut, TtyIn, TtyOut, Reads, Writes, On, Console, Whole, Machine, limit}
+use Rattle.its_plain.specs.Machine.{Names, File, Chan, Shut, TtyIn, TtyOut, Reads, Writes, On, Linked, Console, Pipe, Whole, Machine, limit}
 use Rattle.its_plain.specs.Own.{names_of}
 use Rattle.its_plain.specs.CallFile.{most_files, channels_by, channels_in, is_full, has_file, is_read, words_of, names_from, is_output, opens_as, disk_tests, opens_disk, closes_draft, iot_read, siot_read, siot_write, access_on, access, file_tests, delete, rename, access_to, end_of_core}
 use Rattle.its_plain.specs.OperatorFiles.{channels_of}
 use Rattle.its_plain.specs.Tests.{◌⇒◌, finishes, fails, goes, out}
 use Rattle.its_plain.specs.View.{View, outline, Outline}
 use Rattle.its_stepped.proofs.CallWays.{Answering}
+use Rattle.its_stepped.proofs.ChannelLaws.{named_link}
 use Rattle.its_stepped.proofs.TestLaws.{by_test, first_holds}
 use Rattle.its_parts.specs.Can.{HasJob, chan_in, Unread, HasRoom, CanClose, CanOpen, CanMake, CanMakeAll}
 
@@ -103,8 +109,8 @@ opened_needs : (b : Bool) (v : Beside) (n : ℕ) → Needs v (changes.Open n (if
 opened_needs true v n = tt
 opened_needs false v n = tt
 
--- the view of the call of slot j's job in which its consoles, files and outlines are those of a machine, and its job's
--- console is one of eight, and its superior has a slot that there is
+-- the view of the call of slot j's job in which its consoles, files, outlines and links are those of a machine, and its
+-- job's console is one of eight, its superior has a slot that there is, and its channels are on links that stand
 pub record Sees (x : View) (m : Machine) (j : ℕ) : Type 0 where
   pub consoles : x.consoles ≡ m.consoles
   pub own : IfSome x.own.job.console (λ c. c < 8)
@@ -113,6 +119,8 @@ pub record Sees (x : View) (m : Machine) (j : ℕ) : Type 0 where
   pub outlines : x.outlines ≡ (λ k. option_map outline (m.jobs k))
   pub limit : x.limit ≡ limit m
   pub superior : IfSome x.own.superior (λ s. s < slots)
+  pub links : x.links ≡ m.links
+  pub linked : (n l : ℕ) (write : Bool) → chan_in m j n ≡ Linked l write → (l < most_links) × (is_some (m.links l) ≡ true)
 
 -- the channels that a call sees are those of the machine
 channels_seen_by : (o : Option Whole) → channels_by (option_map outline o) ≡ channel_in o
@@ -386,3 +394,85 @@ rename_can v j m x a s u =
     first_holds (Can v j m) (file_tests x a (names_from a 1) ++ (has_file fresh x.files ⇒ fails x a 0o23 ∷ []))
     (finishes x (changes.Rename (input a 3) (input a 1) (input a 2) (input a 4) (input a 5) ∷ []) []) (λ t. tt, (λ t. tt, (λ t. tt, (λ t. tt, tt))))
     (λ t. ((file_is x m j (names_from a 1) s t.1.0, unread_is x m j (names_from a 1) s t.1.1.0, ap (has_file fresh) (sym s.files) ∙ t.1.1.1.0), u))
+
+-- the calls on links: a channel is on a link that stands; the number of one that is opened is below 16
+pub on_link : (x : View) (m : Machine) (j n l : ℕ) (write : Bool) → Sees x m j → channel_at x.own.channels n ≡ Linked l write → chan_in m j n ≡ Linked l write
+on_link x m j n l write s e = chan_is x m j n (Linked l write) s (open_true x.own.channels n (Linked l write) e tt) e
+
+link_there : (x : View) (m : Machine) (j n l : ℕ) (write : Bool) → Sees x m j → channel_at x.own.channels n ≡ Linked l write → (l < most_links) × (is_some (m.links l) ≡ true)
+link_there x m j n l write s e = s.linked n l write (on_link x m j n l write s e)
+
+joining : (v : Beside) (x : View) (m : Machine) (j n l : ℕ) (write : Bool) (y z : ℕ) → Sees x m j → not (nat_lt n 16 && is_shut (channel_at x.own.channels n)) ≡ false → l < most_links
+    → Can v j m (joins x n l write y z)
+joining v x m j n l write y z s t few = let o = opening x m j n opened.TtyIn s t tt in ((o.0, few, o.1, o.2), tt)
+
+makes_link_can : (v : Beside) (j : ℕ) (m : Machine) (x : View) (a : Ask) (n : ℕ) (write : Bool) (y z : ℕ) (o : Option ℕ) → Sees x m j
+    → not (nat_lt n 16 && is_shut (channel_at x.own.channels n)) ≡ false → least_free most_links x.links ≡ o → Can v j m (makes_link x a n write y z o)
+makes_link_can v j m x a n write y z (Some l) s t e = joining v x m j n l write y z s t (least_below most_links x.links l e)
+makes_link_can v j m x a n write y z None s t e = tt
+
+opens_end_can : (v : Beside) (j : ℕ) (m : Machine) (x : View) (a : Ask) (n : ℕ) (write : Bool) (y z : ℕ) (o : Option ℕ) → Sees x m j
+    → not (nat_lt n 16 && is_shut (channel_at x.own.channels n)) ≡ false → link_named x.links y z ≡ o → Can v j m (opens_end x a n write y z o)
+opens_end_can v j m x a n write y z (Some l) s t e =
+    first_holds (Can v j m) (not (can_open write (x.links l)) ⇒ fails x a 0o24 ∷ []) (joins x n l write y z) (λ t. tt, tt)
+    (λ k. joining v x m j n l write y z s t (named_link x.links y z l e).1)
+opens_end_can v j m x a n write y z None s t e = makes_link_can v j m x a n write y z (least_free most_links x.links) s t refl
+
+pub opens_link_can : (v : Beside) (j : ℕ) (m : Machine) (x : View) (a : Ask) → Sees x m j → Can v j m (opens_link x a)
+unfolding opens_link
+opens_link_can v j m x a s =
+    let n = input a 0 in
+    let control = unwrap_or a.control 0 in
+    let named = link_named x.links (input a 2) (input a 3) in
+    first_holds (Can v j m) (link_tests x a n control) (opens_end x a n (control == 1) (input a 2) (input a 3) named) (λ t. tt, (λ t. tt, tt))
+    (λ t. opens_end_can v j m x a n (control == 1) (input a 2) (input a 3) named s t.0 refl)
+
+pub closes_end_can : (v : Beside) (j : ℕ) (m : Machine) (x : View) (a : Ask) (l : ℕ) (write : Bool) → Sees x m j → channel_at x.own.channels (input a 0) ≡ Linked l write → Can v j m (closes_end x a l write)
+closes_end_can v j m x a l write s e =
+    let n = input a 0 in
+    ((open_number x.own.channels n (Linked l write) e tt, (link_there x m j n l write s e).0, on_link x m j n l write s e), tt)
+
+-- one that is read and not crowded has room
+room_by : (b c : Bool) → (not b && not c) ≡ false → c ≡ false → b ≡ true
+room_by b true h e = cc
+room_by true false h e = refl
+room_by false false h e = cc
+
+sending : (v : Beside) (x : View) (m : Machine) (j n l : ℕ) → Sees x m j → channel_at x.own.channels n ≡ Linked l true → is_unread (x.links l) ≡ false → is_crowded (x.links l) ≡ false → (w : ℕ)
+    → CanAll v (changes.Send l w ∷ []) j m
+sending v x m j n l s e read room w =
+    let there = link_there x m j n l true s e in
+    let few = room_by (nat_lt (length (words_in (x.links l))) most_linked) (is_end_closed false (x.links l)) room read in
+    ((there.0, there.1, subst (λ (links : ℕ → Option Pipe). length (words_in (links l)) < most_linked) s.links (ltb-true (length (words_in (x.links l))) most_linked few)), tt)
+
+iot_receive_can : (v : Beside) (j : ℕ) (m : Machine) (x : View) (e l : ℕ) (ws : List ℕ) → l < most_links → Can v j m (iot_receive x e l ws)
+iot_receive_can v j m x e l (w ∷ ws) few = (few, tt)
+iot_receive_can v j m x e l [] few = tt
+
+pub iot_linked_can : (v : Beside) (j : ℕ) (m : Machine) (x : View) (e n l : ℕ) (write : Bool) → Sees x m j → channel_at x.own.channels n ≡ Linked l write → Can v j m (iot_linked x e l write)
+iot_linked_can v j m x e n l false s is =
+    first_holds (Can v j m) (store_tests x e ++ (is_dry (x.links l) ⇒ Waits (Empty l) ∷ [])) (iot_receive x e l (words_in (x.links l)))
+    (λ t. tt, (λ t. tt, (λ t. tt, tt))) (λ t. iot_receive_can v j m x e l (words_in (x.links l)) (link_there x m j n l false s is).0)
+iot_linked_can v j m x e n l true s is =
+    first_holds (Can v j m) (read_tests x e ++ (is_unread (x.links l) ⇒ ioc x ∷ is_crowded (x.links l) ⇒ Waits (Room l) ∷ [])) (iot_ends x (changes.Send l (word_of x e) ∷ []) [])
+    (λ t. tt, (λ t. tt, (λ t. tt, tt))) (λ t. sending v x m j n l s is t.1.0 t.1.1.0 (word_of x e))
+
+siot_receive_can : (v : Beside) (j : ℕ) (m : Machine) (x : View) (next k l : ℕ) → l < most_links → Can v j m (siot_receive x next k l)
+siot_receive_can v j m x next k l few =
+    first_holds (Can v j m) (store_tests x (right_of next) ++ (is_dry (x.links l) ⇒ Waits (Empty l) ∷ []))
+    (goes (changes.Receive l ∷ []) (Some (record { place = right_of next; byte = first_word x l })) (next ∷ (k - 1) ∷ []))
+    (λ t. tt, (λ t. tt, (λ t. tt, tt))) (λ t. (few, tt))
+
+siot_send_can : (v : Beside) (j : ℕ) (m : Machine) (x : View) (a : Ask) (next k n l : ℕ) → Sees x m j → channel_at x.own.channels n ≡ Linked l true → Can v j m (siot_send x a next k l)
+siot_send_can v j m x a next k n l s is =
+    first_holds (Can v j m) (read_tests x (right_of next) ++ (is_unread (x.links l) ⇒ fails x a 0o26 ∷ is_crowded (x.links l) ⇒ Waits (Room l) ∷ []))
+    (goes (changes.Send l (load_of next (word_of x (right_of next))) ∷ []) None (next ∷ (k - 1) ∷ []))
+    (λ t. tt, (λ t. tt, (λ t. tt, tt))) (λ t. sending v x m j n l s is t.1.0 t.1.1.0 (load_of next (word_of x (right_of next))))
+
+pub siot_linked_can : (v : Beside) (j : ℕ) (m : Machine) (x : View) (a : Ask) (n l : ℕ) (write : Bool) → Sees x m j → channel_at x.own.channels n ≡ Linked l write → Can v j m (siot_linked x a l write)
+siot_linked_can v j m x a n l false s is =
+    let next = next_pointer (input a 1) in
+    siot_by_can v j m x a false (is_ended (x.links l)) (siot_receive x next (input a 2) l) (λ e. siot_receive_can v j m x next (input a 2) l (link_there x m j n l false s is).0)
+siot_linked_can v j m x a n l true s is =
+    let next = next_pointer (input a 1) in
+    siot_by_can v j m x a false false (siot_send x a next (input a 2) l) (λ e. siot_send_can v j m x a next (input a 2) n l s is)

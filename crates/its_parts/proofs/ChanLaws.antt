@@ -1,4 +1,4 @@
--- Channels of the plain machine by those of jobs: where files and drafts are the same to them, and where one channel is set.
+-- Channels of the plain machine by those of jobs: if files and drafts are the same to them, and if one channel is set.
 use Rattle.std.specs.Prelude.{◌≡◌, ◌≢◌, ℕ, zero, suc, Bool, true, false, nat_lt, Option, Some, None, is_some, option_map, Ok, Err, length, refl}
 use Rattle.std.proofs.Common.{sym, ◌∙◌, ap}
 use Rattle.its_word.specs.Core.{Core}
@@ -57,7 +57,7 @@ elsewhere_of (Reading f at) read written = read f at refl
 elsewhere_of (Writing d) read written = written d refl
 elsewhere_of _ read written = tt
 
--- a position that is set, and a word that is appended, where a channel is on nothing of the kind
+-- a position that is set, and a word that is appended, if a channel is on nothing of the kind
 pub still_moved : (s : Store) (at : ℕ) (c : Channel) → ((f p : ℕ) → c ≡ Reading f p → ⊥) → ((k : ℕ) (write : Bool) (p : ℕ) → c ≡ Usr k write p → ⊥) → chan_of s c ≡ at_position at (chan_of s c)
 still_moved s at (Reading f p) read usr = absurd (read f p refl)
 still_moved s at (Usr k write p) read usr = absurd (usr k write p refl)

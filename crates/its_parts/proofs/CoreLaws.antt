@@ -1,4 +1,4 @@
--- Cores that are the same, where their lists are.
+-- Cores that are the same, if their lists are.
 use Rattle.std.specs.Prelude.{◌≡◌, ℕ, Option, option_map, slice_index_or}
 use Rattle.std.proofs.Common.{ap}
 use Rattle.its_word.specs.Core.{no_core}

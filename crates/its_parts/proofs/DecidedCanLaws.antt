@@ -10,24 +10,27 @@ use Rattle.its_plain.specs.Arguments.{input}
 use Rattle.its_plain.specs.CallBasic.{channel_at, ioc}
 use Rattle.its_plain.specs.CallDevice.{open_by, open_call, shuts, close_on, close_call, iot_on, iot_call, siot_on, siot_call}
 use Rattle.its_plain.specs.CallFile.{disk_device, channels_in, is_full, words_of, iot_read, siot_read, siot_write}
-use Rattle.its_plain.specs.CallTty.{console_of, store_tests, read_tests, word_of, iot_ends, next_pointer, siot_in, siot_out}
+use Rattle.its_plain.specs.CallLink.{link_device}
+use Rattle.its_plain.specs.CallTty.{console_of, siot_in, siot_out}
+use Rattle.its_plain.specs.Transfer.{store_tests, read_tests, word_of, iot_ends, next_pointer}
 use Rattle.its_plain.specs.CallUsr.{usr_device, other_core, at_end, siot_peeks, siot_pokes}
 use Rattle.its_plain.specs.Change.{effect}
 use Rattle.its_plain.specs.Decide.{decided_by}
-use Rattle.its_plain.specs.Machine.{Chan, Shut, TtyIn, TtyOut, Reads, Writes, On, Machine}
+use Rattle.its_plain.specs.Machine.{Chan, Shut, TtyIn, TtyOut, Reads, Writes, On, Linked, Machine}
 use Rattle.its_plain.specs.Tests.{◌⇒◌}
 use Rattle.its_plain.specs.View.{View}
 use Rattle.its_stepped.specs.Tick.{is_disk, helps_by}
 use Rattle.its_stepped.proofs.CallWays.{answer_ways}
 use Rattle.its_stepped.proofs.TestLaws.{first_holds}
-use Rattle.its_parts.proofs.CanLaws.{Beside, nothing, IsOpen, open_number, Sees, Can, console_below, opens_can, opens_disk_can, closes_draft_can, iot_in_can, iot_out_can, iot_read_can, roomy, siot_by_can, siot_in_can, siot_out_can, siot_read_can, siot_write_can, sleep_can, realt_can, dismiss_can, OnSlot, usrvar_can, told_can, ttylnd_can, answering_can, access_can, delete_can, rename_can}
+use Rattle.its_parts.proofs.CanLaws.{Beside, nothing, IsOpen, open_number, Sees, Can, console_below, opens_can, opens_disk_can, closes_draft_can, iot_in_can, iot_out_can, iot_read_can, roomy, siot_by_can, siot_in_can, siot_out_can, siot_read_can, siot_write_can, sleep_can, realt_can, dismiss_can, OnSlot, usrvar_can, told_can, ttylnd_can, answering_can, access_can, delete_can, rename_can, opens_link_can, closes_end_can, iot_linked_can, siot_linked_can}
 use Rattle.its_parts.proofs.UsrCanLaws.{Finds, opens_usr_can, iot_from_can, iot_into_can, siot_peeks_can, siot_pokes_can, usrmem_can, uclose_can}
 use Rattle.its_parts.proofs.CoreCanLaws.{FindsPages, corblk_can}
 
-open_by_can : (v : Beside) (j : ℕ) (m : Machine) (x : View) (a : Ask) (disk usr : Bool) → Sees x m j → (disk ≡ true → v.files) → Can v j m (open_by x a disk usr)
-open_by_can v j m x a true usr s u = opens_disk_can v j m x a s (u refl)
-open_by_can v j m x a false true s u = opens_usr_can v j m x a s
-open_by_can v j m x a false false s u = opens_can v j m x a s
+open_by_can : (v : Beside) (j : ℕ) (m : Machine) (x : View) (a : Ask) (disk usr link : Bool) → Sees x m j → (disk ≡ true → v.files) → Can v j m (open_by x a disk usr link)
+open_by_can v j m x a true usr link s u = opens_disk_can v j m x a s (u refl)
+open_by_can v j m x a false true link s u = opens_usr_can v j m x a s
+open_by_can v j m x a false false true s u = opens_link_can v j m x a s
+open_by_can v j m x a false false false s u = opens_can v j m x a s
 
 shuts_can : (v : Beside) (j : ℕ) (m : Machine) (x : View) (a : Ask) (c : Chan) → channel_at x.own.channels (input a 0) ≡ c → IsOpen c → Can v j m (shuts x a)
 shuts_can v j m x a c e h = (open_number x.own.channels (input a 0) c e h, tt)
@@ -39,6 +42,7 @@ close_on_can v j m x a TtyOut s u e = shuts_can v j m x a TtyOut e tt
 close_on_can v j m x a (Reads f at) s u e = shuts_can v j m x a (Reads f at) e tt
 close_on_can v j m x a (Writes f) s u e = closes_draft_can v j m x a f s (u refl) e
 close_on_can v j m x a (On k write at) s u e = shuts_can v j m x a (On k write at) e tt
+close_on_can v j m x a (Linked l write) s u e = closes_end_can v j m x a l write s e
 
 iot_on_can : (v : Beside) (j : ℕ) (m : Machine) (x : View) (a : Ask) (e : ℕ) (c : Chan) → Sees x m j → (is_disk c ≡ true → v.files) → Finds v x m j a (Some Iot) → channel_at x.own.channels (input a 0) ≡ c
     → Can v j m (iot_on x e (input a 0) c)
@@ -56,6 +60,7 @@ iot_on_can v j m x a e (Writes d) s u f is =
 iot_on_can v j m x a e (On k true at) s u f is =
     iot_into_can v j m x e (input a 0) k at (open_number x.own.channels (input a 0) (On k true at) is tt) (f.inferior Iot refl refl k at true is)
 iot_on_can v j m x a e (On k false at) s u f is = iot_from_can v j m x e (input a 0) at (open_number x.own.channels (input a 0) (On k false at) is tt)
+iot_on_can v j m x a e (Linked l write) s u f is = iot_linked_can v j m x e (input a 0) l write s is
 
 siot_on_can : (v : Beside) (j : ℕ) (m : Machine) (x : View) (a : Ask) (c : Chan) → Sees x m j → (is_disk c ≡ true → v.files) → Finds v x m j a (Some Siot) → channel_at x.own.channels (input a 0) ≡ c
     → Can v j m (siot_on x a (input a 0) c)
@@ -85,6 +90,7 @@ siot_on_can v j m x a (On k false at) s u f is =
     let next = next_pointer (input a 1) in
     siot_by_can v j m x a true (at_end at) (siot_peeks x a next (input a 2) n at (word_at (other_core x) at))
     (λ t. siot_peeks_can v j m x a next (input a 2) n at (word_at (other_core x) at) (open_number x.own.channels n (On k false at) is tt))
+siot_on_can v j m x a (Linked l write) s u f is = siot_linked_can v j m x a (input a 0) l write s is
 
 -- the job that a channel is on which USRVAR names
 channel_slot : (v : Beside) (j : ℕ) (m : Machine) (x : View) (a : Ask) (c : Chan) → Finds v x m j a (Some Usrvar) → channel_at x.own.channels (input a 0) ≡ c → OnSlot c
@@ -100,7 +106,7 @@ call_can v j m x a (Some Sleep) s u f g = sleep_can v j m x a
 call_can v j m x a (Some Dismis) s u f g = dismiss_can v j m x a
 call_can v j m x a (Some Usrvar) s u f g = usrvar_can v j m x a (channel_slot v j m x a (channel_at x.own.channels (input a 0)) f refl)
 call_can v j m x a (Some Logout) s u f g = told_can nothing j (effect (changes.Remove j) j m) x.own.superior s.superior
-call_can v j m x a (Some Open) s u f g = open_by_can v j m x a (input a 1 == disk_device) (input a 1 == usr_device) s u
+call_can v j m x a (Some Open) s u f g = open_by_can v j m x a (input a 1 == disk_device) (input a 1 == usr_device) (input a 1 == link_device) s u
 call_can v j m x a (Some Close) s u f g = close_on_can v j m x a (channel_at x.own.channels (input a 0)) s u refl
 call_can v j m x a (Some Iot) s u f g = iot_on_can v j m x a (slice_index_or a.outputs.items 0 0) (channel_at x.own.channels (input a 0)) s u f refl
 call_can v j m x a (Some Siot) s u f g = siot_on_can v j m x a (channel_at x.own.channels (input a 0)) s u f refl

@@ -23,7 +23,7 @@ use Rattle.its_parts.proofs.MarkLaws.{marks, unlinked_whole, linked_whole}
 use Rattle.its_parts.proofs.TallyLaws.{OneChannel, tally_one, reads_here, reads_other, writes_here, writes_other}
 use Rattle.its_parts.proofs.StandLaws.{unmarked_all, file_writers, marked_writers, draft_writers, read_by_none, written_by_none, reading_stands, writing_stands, writing_alone, write_stands}
 
--- what a channel is on, where the file that it reads keeps its names, and the draft that it writes its names and words
+-- what a channel is on, if the file that it reads keeps its names, and the draft that it writes its names and words
 pub chan_stays : (s u : Store) (c : Channel) → ((f : ℕ) → reads_file f c ≢ 0 → names_at u f ≡ names_at s f)
     → ((d : ℕ) → writes_draft d c ≢ 0 → (names_at u d ≡ names_at s d) × (words_at u d ≡ words_at s d)) → chan_of u c ≡ chan_of s c
 chan_stays s u (Reading f at) names drafts = ap (λ ns. Chan.Reads ns at) (names f (λ z. let o = reads_here f at in omega arith))
@@ -45,7 +45,7 @@ across_one s u t v j n x a o lj ln read written = record {
   written = λ d. let h = tally_one (writes_draft d) (channel_at t) (channel_at v) j n x o lj ln in let r = a.written d in let b = written d in omega arith;
 }
 
--- where no channel is another
+-- if no channel is another
 pub across_store : (s u : Store) (t : Table) → Across s t → ((f : ℕ) → readers_at u f ≡ readers_at s f)
     → ((d : ℕ) → writers (entry_at u d) (is_marked u d) ≡ writers (entry_at s d) (is_marked s d)) → Across u t
 across_store s u t a read written = record {
@@ -55,7 +55,7 @@ across_store s u t a read written = record {
   written = λ d. a.written d ∙ sym (written d);
 }
 
--- what stands under one number is another, with the channel that was on it or is
+-- the entry under one number is another, with the channel that was on it or is
 record OnNumber (s u : Store) (id : ℕ) (e : Option Entry) (c x : Channel) : Type 0 where
   entry : Only (entry_at s) (entry_at u) id e
   marks : (d : ℕ) → d ≢ id → is_marked u d ≡ is_marked s d
@@ -96,7 +96,7 @@ across_number s u t v j n id e c x a o lj ln was h = across_one s u t v j n x a 
           omega arith
     ])
 
--- the same where no channel is another
+-- the same if no channel is another
 number_store : (s u : Store) (t : Table) (id : ℕ) (e : Option Entry) → Across s t → Only (entry_at s) (entry_at u) id e → ((d : ℕ) → d ≢ id → is_marked u d ≡ is_marked s d)
     → readers_by e ≡ readers_at s id → writers e (is_marked u id) ≡ writers (entry_at s id) (is_marked s id) → Across u t
 number_store s u t id e a entry marks read written = across_store s u t a
@@ -126,7 +126,7 @@ others_of cs ds j n x o k m apart = elim (cases_eq k j) [
   | inr ne ↦ o.rows k ne m
 ]
 
--- where a number keeps its names, all do
+-- if a number keeps its names, all do
 names_alike : (s u : Store) (id : ℕ) (e : Option Entry) → Only (entry_at s) (entry_at u) id e → names_by e ≡ names_at s id → (k : ℕ) → names_at u k ≡ names_at s k
 names_alike s u id e o names k = elim (cases_eq k id) [
   | inl same ↦ ap (names_at u) same ∙ ap names_by o.here ∙ names ∙ sym (ap (names_at s) same)
@@ -264,7 +264,7 @@ moved_kept s t v j n c x a lj ln was o read written = record {
   chans = λ k m apart. ap (chan_of s) (others_of (channel_at t) (channel_at v) j n x o k m apart);
 }
 
--- what stands under a number that no channel names is another
+-- the entry under a number that no channel names is another
 number_stays : (s u : Store) (t : Table) (id : ℕ) (e : Option Entry) → Across s t → Only (entry_at s) (entry_at u) id e → ((k : ℕ) → k ≢ id → words_at u k ≡ words_at s k)
     → ((k : ℕ) → k ≢ id → is_marked u k ≡ is_marked s k) → readers_at s id ≡ 0 → writers (entry_at s id) (is_marked s id) ≡ 0 → readers_by e ≡ 0 → writers e (is_marked u id) ≡ 0 → Stays s u t
 number_stays s u t id e a entry words marks unread unwritten no_reader no_writer = record {
@@ -320,7 +320,7 @@ module _ (s u : Store) (t : Table) (f : ℕ) (a : Across s t) where
         ));
   }
 
--- the parts of a close that are owed
+-- the pending parts of a close
 stays_same : (s u : Store) (t : Table) → Across s t → u ≡ s → Stays s u t
 stays_same s u t a e = subst (λ x. Stays s x t) (sym e) (record { across = a; chans = λ k m. refl })
 

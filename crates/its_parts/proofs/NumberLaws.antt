@@ -3,12 +3,12 @@ use Rattle.std.specs.Prelude.{if◌then◌else◌, ◌≡◌, ◌≢◌, ◌<◌
 use Rattle.std.proofs.Common.{sym, ◌∙◌, ap}
 use Rattle.std.proofs.lemmas.Bool.{ltb-true}
 use Rattle.its_word.specs.declared.jobs.Channel.{Channel}
-use Rattle.its_word.specs.declared.jobs.Channel.TheVariants.{Closed, Reading, Writing, TtyIn, TtyOut, Usr}
+use Rattle.its_word.specs.declared.jobs.Channel.TheVariants.{Closed, Reading, Writing, TtyIn, TtyOut, Usr, Link}
 use Rattle.its_word.specs.declared.jobs.Job.{Job}
 use Rattle.its_files.specs.Files.{Store}
 use Rattle.its_jobs.specs.Table.{Table, job_at}
 use Rattle.its_plain.specs.CallBasic.{channel_at}
-use Rattle.its_plain.specs.Machine.{Shut, On}
+use Rattle.its_plain.specs.Machine.{Shut, On, Linked}
 use Rattle.its_parts.specs.Across.{channel_by, channel_at as channel_of}
 use Rattle.its_parts.specs.Called.{channel_under}
 use Rattle.its_parts.specs.Parts.{chan_of, chans_of}
@@ -22,6 +22,9 @@ under s j n = under_by s j n (nat_lt n 16)
 
 pub usr_on : (s : Store) (j : Job) (n k at : ℕ) (b : Bool) → channel_under j n ≡ Usr k b at → channel_at (chans_of s j) n ≡ On k b at
 usr_on s j n k at b e = sym (under s j n) ∙ ap (chan_of s) e
+
+pub link_on : (s : Store) (j : Job) (n l : ℕ) (b : Bool) → channel_under j n ≡ Link l b → channel_at (chans_of s j) n ≡ Linked l b
+link_on s j n l b e = sym (under s j n) ∙ ap (chan_of s) e
 
 -- an open channel has a number below 16, and is one of those of its job
 record Open (j : Job) (n : ℕ) (c : Channel) : Type 0 where
@@ -53,5 +56,8 @@ shown_number j n e = (is_open j n TtyOut e (λ z. cc)).below
 pub usr_number : (j : Job) (n k at : ℕ) (b : Bool) → channel_under j n ≡ Usr k b at → n < 16
 usr_number j n k at b e = (is_open j n (Usr k b at) e (λ z. cc)).below
 
+pub linked_number : (j : Job) (n l : ℕ) (b : Bool) → channel_under j n ≡ Link l b → n < 16
+linked_number j n l b e = (is_open j n (Link l b) e (λ z. cc)).below
+
 -- the number of an open channel
-pub ruleset numbers = (reading_number, writing_number, typed_number, shown_number, usr_number)
+pub ruleset numbers = (reading_number, writing_number, typed_number, shown_number, usr_number, linked_number)

@@ -4,7 +4,7 @@ use Rattle.std.proofs.Common.{sym, ◌∙◌, ap, arith}
 use Rattle.std.proofs.lemmas.Bool.Decides.{nat_tests}
 use Rattle.std.proofs.lemmas.List.{get_or_past}
 use Rattle.its_word.specs.declared.jobs.Channel.{Channel}
-use Rattle.its_word.specs.declared.jobs.Channel.TheVariants.{Closed, TtyIn, TtyOut, Reading, Writing, Usr}
+use Rattle.its_word.specs.declared.jobs.Channel.TheVariants.{Closed, TtyIn, TtyOut, Reading, Writing, Usr, Link}
 use Rattle.its_jobs.specs.Table.{Table}
 use Rattle.its_files.specs.Blocks.{text_at, blocks_for, needs_block, blocks_used, is_full, numbers, blocks}
 use Rattle.its_files.specs.Opening.{up_to}
@@ -33,6 +33,7 @@ blocks_written s TtyOut = refl
 blocks_written s (Reading f at) = refl
 blocks_written s (Writing d) = refl
 blocks_written s (Usr k w at) = refl
+blocks_written s (Link l w) = refl
 
 tallied : (s : Store) (cs : ℕ → ℕ → Channel) → blocks_of_drafts (λ k n. chan_of s (cs k n)) ≡ tally (λ c. blocks_on (chan_of s c)) cs
 unfolding blocks_of_drafts tally

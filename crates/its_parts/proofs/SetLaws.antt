@@ -33,7 +33,7 @@ only_same f g s o = record {
   ];
 }
 
--- a channel set, where there is a job, and where there is none; and one that is as it was
+-- a channel set, if there is a job, and if there is none; and one that is as it was
 pub channel_put : (old new : Table) (s n : ℕ) (x : Channel) (j : Job) → job_at old s ≡ Some j → n < length j.channels → Only (job_at old) (job_at new) s (Some (record j { channels = slice_set j.channels n x }))
     → new.superiors ≡ old.superiors → OnlyChannel old new s n x
 channel_put old new s n x j was lt b superiors = record {
@@ -71,7 +71,7 @@ no_job (Some i) None e h = cc
 no_job (Some i) (Some j) e h = cc
 
 module _ (old new : Table) (s n : ℕ) (x : Channel) (b : OnlyChannel old new s n x) where
-  -- the channels, where the slot has a job, and where the channel is as it was
+  -- the channels, if the slot has a job, and if the channel is as it was
   pub one_channel : is_some (job_at old s) ≡ true → OneChannel (channel_at old) (channel_at new) s n x
   one_channel some = record { here = b.here some; row = b.row; rows = λ k ne m. ap (λ o. channel_by o m) (b.rows k ne) }
 
@@ -96,7 +96,7 @@ module _ (old new : Table) (s n : ℕ) (x : Channel) (b : OnlyChannel old new s 
     | inr ne ↦ sym (b.rows k ne) ∙ none
   ]
 
-  -- the jobs of the machine, where all other channels are on what they were on
+  -- the jobs of the machine, if all other channels are on what they were on
   pub raw_channel : (f u : Store) (c d : Cores) (alarms : List (Option (ℕ × ℕ))) (g : Chan → Chan) → Same (core_at c) (core_at d)
       → ((k m : ℕ) → (k ≡ s → m ≢ n) → chan_of u (channel_at new k m) ≡ chan_of f (channel_at old k m)) → (is_some (job_at old s) ≡ true → chan_of u x ≡ g (chan_of f (channel_at old s n)))
       → (k : ℕ) → raw_at u d new alarms k ≡ on_slot (raw_at f c old alarms) s (on_channel n g) k
@@ -110,7 +110,7 @@ module _ (old new : Table) (s n : ℕ) (x : Channel) (b : OnlyChannel old new s 
       parts_are : (k : ℕ) → raw_at u d new alarms k ≡ raw_of u (core_at c k) (superior_at old k) (alarm_at alarms k) (job_at new k)
       parts_are k = λ i. raw_of u (cores.each k i) (slice_index_or (b.superiors i) k None) (alarm_at alarms k) (job_at new k)
 
-  -- the facts on numbers, where the channel weighs as before
+  -- the facts on numbers, if the channel weighs as before
   module _ (f : Store) (across : Across f old) (ls : s < slots) (ln : n < 16) where
     pub set_kept : ((i : ℕ) → reads_file i (channel_at old s n) ≡ reads_file i x) → ((d : ℕ) → writes_draft d (channel_at old s n) ≡ writes_draft d x) → Kept f f old new s n
     set_kept read written = by_job (is_some (job_at old s)) refl

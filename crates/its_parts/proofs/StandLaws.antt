@@ -72,7 +72,7 @@ module _ (s : Store) (t : Table) (a : Across s t) where
     | inr ge ↦ absurd (some (ap w (a.past_slots k n ge) ∙ none))
   ]
 
-  -- a channel that reads is on a file that stands and counts it
+  -- a channel that reads is on a file that exists and counts it
   pub read_stands : (k n f : ℕ) → reads_file f (channel_at t k n) ≢ 0 → 0 < readers_at s f
   read_stands k n f some =
       let p = among (reads_file f) k n refl some in
@@ -92,7 +92,7 @@ module _ (s : Store) (t : Table) (a : Across s t) where
   pub readers_few : (f : ℕ) → readers_at s f ≤ 16 * slots
   readers_few f = let r = a.read f in let l = tally_few (reads_file f) (channel_at t) (reads_few f) in omega arith
 
-  -- one that writes is on a draft that stands and is not marked, and no other channel is on it
+  -- one that writes is on a draft that exists and is not marked, and no other channel is on it
   pub write_stands : (k n d : ℕ) → writes_draft d (channel_at t k n) ≢ 0 → IsOpen s d
   write_stands k n d some =
       let p = among (writes_draft d) k n refl some in
@@ -197,7 +197,7 @@ module _ (s : Store) (t : Table) (whole : IsStore s) (a : Across s t) (names : N
     | inr some ↦ absurd (both_ways (is_read names chans) e (found_reader f is (omega arith)))
   ]
 
--- how many drafts there are, where no close is marked: fewer than channels
+-- how many drafts there are, if no close is marked: fewer than channels
 counted : (p : Option Entry → Bool) (es : List (Option Entry)) → sum_by (λ d. one_if (p (entry_in es d))) (up_to (length es)) ≡ count_by p es
 unfolding up_to
 counted p es =

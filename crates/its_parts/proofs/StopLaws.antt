@@ -7,13 +7,13 @@ use Rattle.its_word.specs.Byte.{has_size, load_of, position, size}
 use Rattle.its_word.specs.declared.calls.Ask.{Ask}
 use Rattle.its_frame.specs.declared.decision.Decision.{Decision}
 use Rattle.its_plain.specs.Arguments.{input}
-use Rattle.its_plain.specs.CallTty.{is_indexed, next_pointer, siot_by, siot_tests}
+use Rattle.its_plain.specs.Transfer.{is_indexed, next_pointer, siot_by, siot_tests}
 use Rattle.its_plain.proofs.SizeLaws.{next_sized}
 use Rattle.its_plain.specs.Tests.{Test, first}
 use Rattle.its_plain.specs.View.{View}
 use Rattle.its_parts.specs.Called.{first_of}
 
--- the test behind so many
+-- the test after so many
 abbrev held_at : List Test → ℕ → Bool
 held_at [] k = false
 held_at (t ∷ ts) zero = t.holds
@@ -45,7 +45,7 @@ pub unstopped : (ts : List Test) (e : Decision) → first_of ts ≡ None → e �
 unstopped [] e h = refl
 unstopped (t ∷ ts) e h = unstopped_by t ts e t.holds (unstopped ts e) h
 
--- the end of a file is where there is no word
+-- a file is at its end exactly if there is no word
 pub ended : (o : Option ℕ) (b : Bool) → is_some o ≡ not b → b ≡ not (is_some o)
 ended (Some w) true h = cc
 ended (Some w) false h = refl
@@ -64,13 +64,13 @@ pub few_left : (v : View) (a : Ask) (at : ℕ) (o : Option ℕ) (b : Bool) → i
     → IfSome o (λ w. at < 2 ^ 18) → at < 2 ^ 18
 few_left v a at o b e h few = few_by o at b e (not_ended v a true b h) few
 
--- the pointer to the next byte has a size where no test stops it
+-- the pointer to the next byte has a size if no test stops it
 pub next_left : (v : View) (a : Ask) (words b : Bool) → first_of (siot_tests v a (input a 1) (input a 2) words b) ≡ None → has_size (next_pointer (input a 1)) ≡ true
 next_left v a words b h =
     let p = input a 1 in
     next_sized p (not-false (has_size p) (or_parts (not (has_size p)) (is_indexed p) (none_held (siot_tests v a p (input a 2) words b) 2 h)).0)
 
--- what SIOT comes to where a test stops it, and where none does
+-- the result of SIOT if a test stops it, and if none does
 module _ (v : View) (a : Ask) (words at_end b : Bool) (moves : Decision) (e : b ≡ at_end) where
   abbrev tests : Bool → List Test
   tests end = siot_tests v a (input a 1) (input a 2) words end

@@ -8,7 +8,7 @@ use Rattle.std.proofs.lemmas.List.FromFn.{length-range_with_len, get_or-range_wi
 use Rattle.std.proofs.lemmas.List.Sums.{sum_by-cons, sum_by-set, sum_by-le, get_or-le-sum_by, sum-map}
 use Rattle.its_word.specs.Limits.{slots}
 use Rattle.its_word.specs.declared.jobs.Channel.{Channel}
-use Rattle.its_word.specs.declared.jobs.Channel.TheVariants.{Closed, TtyIn, TtyOut, Reading, Writing, Usr}
+use Rattle.its_word.specs.declared.jobs.Channel.TheVariants.{Closed, TtyIn, TtyOut, Reading, Writing, Usr, Link}
 use Rattle.its_files.specs.Opening.{up_to}
 use Rattle.its_files.proofs.RoomLaws.{sum_same, sum_plus, sum_times, sum_nothing, sum_one, sum_none}
 use Rattle.its_parts.specs.Across.{of_slot, tally, reads_file, writes_draft}
@@ -196,7 +196,7 @@ no_other w cs j n k m none lj ln lk lm apart all =
     let v = ap w e in
     omega arith
 
--- where a channel weighs nothing, the tally is less than the most that it may be
+-- if a channel weighs nothing, the tally is less than the most that it may be
 pub tally_below : (w : Channel → ℕ) (cs : ℕ → ℕ → Channel) (j n : ℕ) → ((c : Channel) → w c ≤ 1) → j < slots → n < 16 → w (cs j n) ≡ 0 → tally w cs < 16 * slots
 tally_below w cs j n few lj ln none =
     let all = tally_few (λ c. w c + (1 - w c)) cs (λ c. let h = few c in omega arith) in
@@ -221,6 +221,7 @@ reads_few f TtyIn = omega arith
 reads_few f TtyOut = omega arith
 reads_few f (Writing d) = omega arith
 reads_few f (Usr k write at) = omega arith
+reads_few f (Link l write) = omega arith
 
 pub reads_number : (f : ℕ) (c : Channel) → reads_file f c ≢ 0 → (at : ℕ) × (c ≡ Reading f at)
 reads_number f (Reading g at) h = elim (cases_eq g f) [
@@ -232,6 +233,7 @@ reads_number f TtyIn h = absurd (h refl)
 reads_number f TtyOut h = absurd (h refl)
 reads_number f (Writing d) h = absurd (h refl)
 reads_number f (Usr k write at) h = absurd (h refl)
+reads_number f (Link l write) h = absurd (h refl)
 
 pub writes_here : (d : ℕ) → writes_draft d (Writing d) ≡ 1
 writes_here d = let e = eq-eqb d d refl in rw e refl
@@ -247,6 +249,7 @@ of_draft v TtyOut = 0
 of_draft v (Reading f at) = 0
 of_draft v (Writing d) = v d
 of_draft v (Usr k write at) = 0
+of_draft v (Link l write) = 0
 
 no_draft : (v : ℕ → ℕ) (xs : List ℕ) → sum_by (λ d. 0 * v d) xs ≡ 0
 no_draft v xs = (λ i. sum_by (λ d. none (v d) i) xs) ∙ sum_nothing xs
@@ -264,6 +267,7 @@ by_draft v n past (Writing e) = elim (cases_lt e n) [
   | inr ge ↦ sum_none v e n (past e ge)
 ]
 by_draft v n past (Usr k write at) = no_draft v (up_to n)
+by_draft v n past (Link l write) = no_draft v (up_to n)
 
 pub tally_drafts : (v : ℕ → ℕ) (n : ℕ) (cs : ℕ → ℕ → Channel) → ((d : ℕ) → n ≤ d → v d ≡ 0) → tally (of_draft v) cs ≡ sum_by (λ d. tally (writes_draft d) cs * v d) (up_to n)
 tally_drafts v n cs past =

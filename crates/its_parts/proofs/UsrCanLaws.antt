@@ -15,9 +15,9 @@ use Rattle.its_frame.specs.declared.change.Opened.TheVariants as opened
 use Rattle.its_frame.specs.declared.name.CallName.{CallName}
 use Rattle.its_frame.specs.declared.name.CallName.TheVariants.{Usrmem, Uclose}
 use Rattle.its_plain.specs.Arguments.{input, has_input}
-use Rattle.its_plain.specs.CallBasic.{channel_at, ioc}
+use Rattle.its_plain.specs.CallBasic.{channel_at, ioc, is_shut}
 use Rattle.its_plain.specs.CallFile.{end_of_core}
-use Rattle.its_plain.specs.CallTty.{is_shut, store_tests, read_tests, word_of, iot_ends}
+use Rattle.its_plain.specs.Transfer.{store_tests, read_tests, word_of, iot_ends}
 use Rattle.its_plain.specs.CallUsr.{inferior_named, any_named, makes_job, opens_job, usr_tests, opens_usr, other_core, at_end, iot_peeks, iot_from, iot_into, siot_peeks, siot_pokes, set_word, highest_address, usrmem_tests, usrmem_on, usrmem, uclose_on, uclose}
 use Rattle.its_plain.specs.Change.{channel_in, inferior, effect}
 use Rattle.its_plain.specs.Decide.{reaching}
@@ -35,7 +35,7 @@ pub record Aim (x : View) (m : Machine) (s : ℕ) : Type 0 where
   pub job : HasJob m s
   pub other : x.other ≡ m.jobs s
 
--- what the call with this name finds at the channel that its first argument names, where that is on an inferior
+-- what the call with this name finds at the channel that its first argument names, if that is on an inferior
 pub record Finds (v : Beside) (x : View) (m : Machine) (j : ℕ) (a : Ask) (o : Option CallName) : Type 0 where
   pub inferior : (c : CallName) → o ≡ Some c → reaching c ≡ Some 0 → (s at : ℕ) (write : Bool) → channel_at x.own.channels (input a 0) ≡ On s write at → Aim x m s
   pub tree : o ≡ Some Uclose → (s at : ℕ) (write : Bool) → channel_at x.own.channels (input a 0) ≡ On s write at → CanMake (changes.Remove s) j m × v.tree s

@@ -1,4 +1,4 @@
--- VERSION: where no slot has a job it sets the version, and else it changes nothing.
+-- VERSION: if no slot has a job it sets the version, and else it changes nothing.
 use Rattle.std.specs.Prelude.{if◌then◌else◌, ◌≡◌, ℕ, true, false}
 use Rattle.std.proofs.Common.{ap}
 use Rattle.its_word.specs.Tree.{no_job}

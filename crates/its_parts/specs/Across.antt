@@ -4,7 +4,7 @@ use Rattle.std.specs.Prelude.{if◌then◌else◌, ◌≡◌, ◌==◌, ◌≤�
 use Rattle.std.specs.List.{range_with_len}
 use Rattle.its_word.specs.Limits.{slots}
 use Rattle.its_word.specs.declared.jobs.Channel.{Channel}
-use Rattle.its_word.specs.declared.jobs.Channel.TheVariants.{Closed, TtyIn, TtyOut, Reading, Writing, Usr}
+use Rattle.its_word.specs.declared.jobs.Channel.TheVariants.{Closed, TtyIn, TtyOut, Reading, Writing, Usr, Link}
 use Rattle.its_word.specs.declared.jobs.Job.{Job}
 use Rattle.its_jobs.specs.Table.{Table, job_at}
 use Rattle.its_files.specs.Files.{Store, entry_at, readers_at, is_marked}
@@ -41,6 +41,7 @@ IsElsewhere Closed = Unit {0}
 IsElsewhere TtyIn = Unit {0}
 IsElsewhere TtyOut = Unit {0}
 IsElsewhere (Usr s write at) = Unit {0}
+IsElsewhere (Link l write) = Unit {0}
 IsElsewhere (Reading f at) = ⊥
 IsElsewhere (Writing d) = ⊥
 
@@ -68,3 +69,4 @@ channel_left gone TtyIn = TtyIn
 channel_left gone TtyOut = TtyOut
 channel_left gone (Reading f at) = Reading f at
 channel_left gone (Writing d) = Writing d
+channel_left gone (Link l w) = Link l w

@@ -8,7 +8,7 @@ use Rattle.its_word.specs.declared.jobs.Channel.{Channel}
 use Rattle.its_word.specs.declared.jobs.Channel.TheVariants.{Closed}
 use Rattle.its_word.specs.declared.jobs.Job.{Job}
 use Rattle.its_frame.specs.declared.decision.Decision.{Decision}
-use Rattle.its_plain.specs.CallTty.{is_absent}
+use Rattle.its_plain.specs.Transfer.{is_absent}
 use Rattle.its_plain.specs.Tests.{Test}
 
 -- the channel of some registers under a number; above 17 (octal) there is none that is open

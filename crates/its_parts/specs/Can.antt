@@ -4,14 +4,16 @@ use Rattle.std.specs.Prelude.{◌≡◌, ◌<◌, ◌^◌, ◌||◌, ℕ, true, 
 use Rattle.its_word.specs.Console.{most_waiting}
 use Rattle.its_word.specs.Core.{can_store, page_of}
 use Rattle.its_word.specs.Limits.{slots, most_pages}
+use Rattle.its_word.specs.Links.{most_links, most_linked}
 use Rattle.its_word.specs.Tree.{least_free}
 use Rattle.its_frame.specs.declared.change.Change.{Change}
 use Rattle.its_frame.specs.declared.change.Change.TheVariants as changes
 use Rattle.its_frame.specs.declared.change.Opened.{Opened}
 use Rattle.its_frame.specs.declared.change.Opened.TheVariants as opened
 use Rattle.its_plain.specs.CallFile.{most_files, is_full, has_file, is_read}
+use Rattle.its_plain.specs.CallLink.{words_in}
 use Rattle.its_plain.specs.Change.{channel_in, effect, is_gone, superiors}
-use Rattle.its_plain.specs.Machine.{Names, Chan, Shut, Writes, Machine, core_of, limit, mapped}
+use Rattle.its_plain.specs.Machine.{Names, Chan, Shut, Writes, Linked, Machine, core_of, limit, mapped}
 use Rattle.its_plain.specs.OperatorFiles.{channels_of}
 use Rattle.its_plain.specs.Own.{names_of}
 
@@ -63,9 +65,10 @@ pub record Maps (m : Machine) (s k : ℕ) : Type 0 where
   pub absent : page_of (core_of (m.jobs s)) k ≡ None
   pub room : mapped m < most_pages
 
--- a change of slot j's call is possible: channels and consoles are numbers that exist; a byte that is put out and a
--- word that is appended have room; files are ones that exist, and that no channel reads if they change; a job is made
--- in the least empty slot; one that is removed is neither the caller nor above it; and a page exists, or is possible
+-- a change of slot j's call is possible: channels, consoles and links are numbers that exist; a byte that is put out, a
+-- word that is appended and one that is sent have room; files are ones that exist, and that no channel reads if they
+-- change; a job is made in the least empty slot; one that is removed is neither the caller nor above it; a page exists, or
+-- is possible; and an end of a link is opened at a closed channel, and closed with the channel that is on it
 abbrev pub CanMake : Change → ℕ → Machine → Type 0
 CanMake (changes.Open n on) j m = (n < 16) × HasJob m j × (chan_in m j n ≡ Shut) × CanOpen on m
 CanMake (changes.Shut n) j m = n < 16
@@ -87,6 +90,10 @@ CanMake (changes.Arm alarm) j m = Unit {0}
 CanMake (changes.Delete d x y) j m = (has_file (names_of d x y) m.files ≡ true) × Unread m (names_of d x y)
 CanMake (changes.Rename d x y u v) j m =
     (has_file (names_of d x y) m.files ≡ true) × Unread m (names_of d x y) × (has_file (names_of d u v) m.files ≡ false)
+CanMake (changes.Join n l write x y) j m = (n < 16) × (l < most_links) × HasJob m j × (chan_in m j n ≡ Shut)
+CanMake (changes.Part n l write) j m = (n < 16) × (l < most_links) × (chan_in m j n ≡ Linked l write)
+CanMake (changes.Send l w) j m = (l < most_links) × (is_some (m.links l) ≡ true) × (length (words_in (m.links l)) < most_linked)
+CanMake (changes.Receive l) j m = l < most_links
 
 -- each of several can be made, after those before it
 abbrev pub CanMakeAll : List Change → ℕ → Machine → Type 0

@@ -10,7 +10,8 @@ use Rattle.its_word.specs.declared.jobs.Job.{Job}
 use Rattle.its_core.specs.Cores.{Cores, core_at}
 use Rattle.its_jobs.specs.Table.{Table, job_at, superior_at}
 use Rattle.its_files.specs.Files.{Store, names_at, file_at, directory}
-use Rattle.its_plain.specs.Machine.{Symbol, Chan, Shut, TtyIn, TtyOut, Reads, Writes, On, Whole, Machine}
+use Rattle.its_pipes.specs.Pipes.{Piping, piped}
+use Rattle.its_plain.specs.Machine.{Symbol, Chan, Shut, TtyIn, TtyOut, Reads, Writes, On, Linked, Whole, Machine}
 
 -- what a channel of the plain machine is on, with the names and words of files and drafts. (Their numbers are the monitor's own, and
 -- never reach the machine)
@@ -21,6 +22,7 @@ chan_of s channels.TtyOut = TtyOut
 chan_of s (channels.Reading f at) = Reads (names_at s f) at
 chan_of s (channels.Writing d) = Writes (file_at s d)
 chan_of s (channels.Usr k w at) = On k w at
+chan_of s (channels.Link l w) = Linked l w
 
 -- the registers of the plain machine: its channels are separate
 unfoldable pub closed_channels : List Channel
@@ -58,8 +60,8 @@ no_symbols = record { items = [] }
 abbrev pub symbols_at : List (ArrayVec Symbol) → ℕ → List Symbol
 symbols_at symbols k = (slice_index_or symbols k no_symbols).items
 
-abbrev pub raw_machine : Store → Cores → Table → List (Option (ℕ × ℕ)) → List Console → List (Option ℕ) → ℕ → ℕ → List (ArrayVec Symbol) → Machine
-raw_machine s cores table alarms consoles holders clock version symbols = record {
+abbrev pub raw_machine : Store → Cores → Table → List (Option (ℕ × ℕ)) → List Console → List (Option ℕ) → ℕ → ℕ → List (ArrayVec Symbol) → Piping → Machine
+raw_machine s cores table alarms consoles holders clock version symbols pipes = record {
   jobs = raw_at s cores table alarms;
   consoles = console_at consoles;
   holders = holder_at holders;
@@ -67,4 +69,5 @@ raw_machine s cores table alarms consoles holders clock version symbols = record
   clock = clock;
   version = version;
   symbols = symbols_at symbols;
+  links = piped pipes;
 }

@@ -1,5 +1,12 @@
-//! The plain machine of given cores, jobs, consoles and files, as definitions in `specs/` and laws in `proofs/`; and what a machine, in
-//! either form, has at its beginning.
+//! The plain machine of given cores, jobs, consoles, files and links, as definitions in `specs/` and laws in `proofs/`; and
+//! the contents of a machine, in either form, at its beginning.
+//!
+//! Proved:
+//! - The contents of either form of the machine at its beginning.
+//! - What a call decides is possible (`CallCanLaws`).
+//! - A delivery and a unit do the same to registers with and without their channels (`delivered_bare`, `unit_bare`).
+//! - A channel is on a file or a draft that exists (`reading_file`, `writing_draft`), a file is the one with its names
+//!   (`named_self`), and the room for words is that of the machine (`full_on`).
 #![tactic(auto)]
 
 mod opening;

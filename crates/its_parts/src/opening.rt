@@ -1,4 +1,4 @@
-//! What a machine has at its beginning.
+//! The contents of a machine at its beginning.
 ghost use Rattle.std.specs.Prelude.{◌≡◌, ℕ, [], None, vec_len, slice_index_or, IfOk};
 ghost use Rattle.its_word.specs.Console.{quiet_console};
 ghost use Rattle.its_parts.specs.Parts.{symbols_at};

@@ -1,4 +1,4 @@
--- The cores of other slots through several changes of one slot; and what holds of a world whatever state it stands for.
+-- The cores of other slots through several changes of one slot; and what holds of a world whatever its state is.
 use Rattle.std.specs.Prelude.{◌≡◌, ◌<◌, ℕ, true, Option, Some, None, is_some, slice_index_or, refl}
 use Rattle.std.proofs.Common.{◌∙◌, sym, ap, subst, inl, inr}
 use Rattle.std.proofs.lemmas.Bool.{cases_eq}
@@ -12,11 +12,12 @@ use Rattle.its_core.specs.Frames.{Frames}
 use Rattle.its_files.specs.Files.{Store}
 use Rattle.its_jobs.specs.Table.{Table, job_at}
 use Rattle.its_word.specs.declared.calls.Exit.{Exit}
+use Rattle.its_plain.specs.Machine.{Pipe}
 use Rattle.its_plain.specs.Own.{left_with}
 use Rattle.its_plain.specs.OperatorClock.{clock_end}
 use Rattle.its_world.specs.Filed.{Ringed}
 use Rattle.its_world.specs.Tidy.{channel_by, channel_at, Across, Tidy}
-use Rattle.its_world.specs.World.{alarm_at, frame_at, symbols_at, frames_after, Becomes, CoreBecomes, JobBecomes, FrameBecomes, PageBecomes, ConsoleBecomes, HolderBecomes}
+use Rattle.its_world.specs.World.{alarm_at, frame_at, symbols_at, frames_after, Becomes, CoreBecomes, JobBecomes, FrameBecomes, PageBecomes, ConsoleBecomes, HolderBecomes, LinkBecomes}
 use Rattle.its_world.specs.declared.world.World.{World}
 use Rattle.its_parts.proofs.AcrossLaws.{across_table}
 use Rattle.its_world.proofs.WorldLaws.{frames_still}
@@ -25,12 +26,15 @@ use Rattle.its_pclsr.specs.Apart.{CoresOff}
 pub off_same : (w : World) (s : ℕ) → CoresOff w w s
 off_same w s = record { others = λ k n. refl; unreserved = λ h. h; pages = sym (frames_still (clear_at w.core s) s w.core.frames) }
 
--- each page stays in its frame where no page is reserved and none given back
+-- each page stays in its frame if no page is reserved and none given back
 pub becomes_pages : (old new : World) (s : ℕ) (c : Core) (j : Option Job) (f : Option Frame) → Becomes old new s c j f (clear_at old.core s) → new.core.frames ≡ old.core.frames
 becomes_pages old new s c j f b = b.pages ∙ frames_still (clear_at old.core s) s old.core.frames
 
 pub console_pages : (old new : World) (c : ℕ) (x : Console) → ConsoleBecomes old new c x → new.core.frames ≡ old.core.frames
 console_pages old new c x b = ap (λ k. k.frames) b.core
+
+pub link_pages : (old new : World) (l : ℕ) (p : Option Pipe) → LinkBecomes old new l p → new.core.frames ≡ old.core.frames
+link_pages old new l p b = ap (λ k. k.frames) b.core
 
 pub holder_pages : (old new : World) (c : ℕ) (h : Option ℕ) → HolderBecomes old new c h → new.core.frames ≡ old.core.frames
 holder_pages old new c h b = ap (λ k. k.frames) b.core
@@ -73,7 +77,7 @@ off_then old mid new s a b = record {
       ∙ frames_then (clear_at old.core s) (clear_at mid.core s) (clear_at new.core s) s old.core.frames a.unreserved b.unreserved;
 }
 
--- one slot is written, whose job keeps its channels; where it has no job then, its core is that of none
+-- one slot is written, whose job keeps its channels; if it has no job then, its core is that of none
 pub tidy_becomes : (old new : World) (s : ℕ) (c : Core) (o : Option Job) (f : Option Frame) (r : Option ℕ) → Becomes old new s c o f r
     → (o ≡ None → c ≡ no_core) → (o ≡ None → job_at old.jobs s ≡ None) → ((n : ℕ) → channel_by o n ≡ channel_at old.jobs s n) → Tidy old → Tidy new
 tidy_becomes old new s c o f r b bare empty kept tidy = record {

@@ -1,9 +1,10 @@
 -- Each change in code is its effect on the state.
-use Rattle.std.specs.Prelude.{◌≡◌, ◌<◌, ◌+◌, ◌%◌, ◌^◌, ℕ, suc, Bool, true, false, length, Option, Some, None, IsSome, is_some, List, [], ◌∷◌, ◌++◌, slice_index_or, refl}
+use Rattle.std.specs.Prelude.{◌≡◌, ◌<◌, ◌+◌, ◌%◌, ◌^◌, ℕ, suc, Bool, true, false, length, Option, Some, None, IsSome, is_some, List, [], ◌∷◌, ◌++◌, option_map, slice_index_or, refl}
 use Rattle.std.proofs.Common.{sym, ap, ◌∙◌, subst, arith, drop, drop-cons}
 use Rattle.its_word.specs.Console.{most_waiting}
 use Rattle.its_word.specs.Core.{Core, no_core, zero_page, page_of, with_page, marked, can_store, store, pages_mapped}
 use Rattle.its_word.specs.Limits.{most_pages}
+use Rattle.its_word.specs.Links.{most_linked}
 use Rattle.its_word.specs.Stores.{stored}
 use Rattle.its_word.specs.Tree.{least_free, fresh_job}
 use Rattle.its_word.specs.declared.jobs.Channel.TheVariants as channels
@@ -15,7 +16,9 @@ use Rattle.its_jobs.specs.Table.{job_at, superior_at}
 use Rattle.its_frame.specs.declared.change.Change.{Change}
 use Rattle.its_frame.specs.declared.change.Change.TheVariants as changes
 use Rattle.its_frame.specs.declared.variable.Variable.{Variable}
-use Rattle.its_plain.specs.Change.{with_alarm, with_inf, taken_from, put_to, on_console, poke, console_in, with_page_at, protected, effect}
+use Rattle.its_pipes.specs.Pipes.{piped}
+use Rattle.its_plain.specs.CallLink.{words_in}
+use Rattle.its_plain.specs.Change.{with_alarm, with_inf, taken_from, put_to, on_console, on_link, with_sent, with_received, poke, console_in, with_page_at, protected, effect}
 use Rattle.its_plain.specs.Job.{INF, with_pending}
 use Rattle.its_plain.specs.Own.{with_registers, with_stores, with_variable}
 use Rattle.its_plain.specs.Machine.{Shut, Whole, whole, with_new, core_of, mapped, limit}
@@ -33,13 +36,13 @@ use Rattle.its_world.specs.Made.{JobMade}
 use Rattle.its_world.specs.Mapped.{PageMapped}
 use Rattle.its_world.specs.Storage.{HasJob, chan_in, IsElsewhere}
 use Rattle.its_world.specs.Tidy.{channel_at, Tidy}
-use Rattle.its_world.specs.World.{alarm_at, AlarmBecomes, state_of, bare, chan_of, raw_of, frame_at, in_raw, console_at, with_frames, Becomes, CoreBecomes, JobBecomes, ConsoleBecomes}
+use Rattle.its_world.specs.World.{alarm_at, AlarmBecomes, state_of, bare, chan_of, raw_of, frame_at, in_raw, console_at, with_frames, Becomes, CoreBecomes, JobBecomes, ConsoleBecomes, LinkBecomes}
 use Rattle.its_world.specs.declared.world.World.{World}
 use Rattle.its_world.proofs.MappedLaws.{core_raw, mapped_raw, mapped_state, mapped_tidy, frames_tidy}
 use Rattle.its_world.proofs.AlarmLaws.{alarm_tidy}
 use Rattle.its_world.proofs.MadeLaws.{made_state, made_tidy, least_raw, least_blank, least_nameless, least_quiet}
 use Rattle.its_world.proofs.StorageLaws.{chan_shut, has_job}
-use Rattle.its_world.proofs.StateLaws.{raw_job, job_of, changed_state, absent_state, console_state, frames_state}
+use Rattle.its_world.proofs.StateLaws.{raw_job, job_of, changed_state, absent_state, console_state, link_state, frames_state}
 
 pub inf_set : (old new : World) (s : ℕ) (j : Job) (o : Option Job) → o ≡ job_at old.jobs s → o ≡ Some j → JobBecomes old new s (with_pending j INF)
     → state_of new ≡ in_raw (state_of old) s with_inf
@@ -128,6 +131,23 @@ byte_put old new c x b = console_state old new c (put_to x) b
 pub console_room : (w : World) (c : ℕ) → length ((state_of w).raw.consoles c).output < most_waiting → length (console_at w.consoles.items c).output < most_waiting
 unfolding state_of
 console_room w c h = h
+
+-- links
+pub word_sent : (old new : World) (l x : ℕ) → LinkBecomes old new l (option_map (with_sent x) (piped old.pipes l))
+    → state_of new ≡ with_raw (state_of old) (on_link (state_of old).raw l (option_map (with_sent x)))
+word_sent old new l x b = link_state old new l (option_map (with_sent x)) b
+
+pub word_received : (old new : World) (l : ℕ) → LinkBecomes old new l (option_map with_received (piped old.pipes l))
+    → state_of new ≡ with_raw (state_of old) (on_link (state_of old).raw l (option_map with_received))
+word_received old new l b = link_state old new l (option_map with_received) b
+
+pub link_there : (w : World) (l : ℕ) → is_some ((state_of w).raw.links l) ≡ true → is_some (piped w.pipes l) ≡ true
+unfolding state_of
+link_there w l h = h
+
+pub link_room : (w : World) (l : ℕ) → length (words_in ((state_of w).raw.links l)) < most_linked → length (words_in (piped w.pipes l)) < most_linked
+unfolding state_of
+link_room w l h = h
 
 -- a word of a job, and a page
 core_written : (old new : World) (s : ℕ) (c : Core) (h : Whole → Whole) → HasJob (state_of old) s → CoreBecomes old new s c

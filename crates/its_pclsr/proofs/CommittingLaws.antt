@@ -63,6 +63,8 @@ one_mild (changes.Set s v x) j w b = record { job = λ h. slot_some _ (j == s) (
 one_mild (changes.Take n) j w b = record { job = λ h. h; frame = refl; page = at_most refl }
 one_mild (changes.Put n x) j w b = record { job = λ h. h; frame = refl; page = at_most refl }
 one_mild (changes.Hold n s) j w b = record { job = λ h. h; frame = refl; page = at_most refl }
+one_mild (changes.Send l x) j w b = record { job = λ h. h; frame = refl; page = at_most refl }
+one_mild (changes.Receive l) j w b = record { job = λ h. h; frame = refl; page = at_most refl }
 one_mild (changes.Poke s at x) j w b = record { job = λ h. slot_some _ (j == s) (w.raw.jobs j) h; frame = refl; page = at_most refl }
 one_mild (changes.Map s k) j w b = record { job = λ h. slot_some _ (j == s) (w.raw.jobs j) h; frame = refl; page = taken_page w.reserved j }
 one_mild (changes.Unmap s k) j w b = record { job = λ h. slot_some _ (j == s) (w.raw.jobs j) h; frame = refl; page = at_most refl }
@@ -171,7 +173,7 @@ backed_is None = refl
 owed_is : (v : State) (s : ℕ) (ss : List Store) (e : Exit) → owed_by v s ss e ≡ owed_parts v.mark s ++ (backed (is_some (v.reserved s)) ++ (map owed_store ss ++ Leave e ∷ []))
 owed_is v s ss e = ap (λ os. owed_parts v.mark s ++ (os ++ (map owed_store ss ++ Leave e ∷ []))) (backed_is (v.reserved s))
 
--- what a call owes that has ended
+-- what is pending of a call that has ended
 abbrev pub owed_at : State → ℕ → List Store → Exit → Holding → List Owed
 owed_at v s ss e f = owed_parts v.mark s ++ (backed (is_some (v.reserved s)) ++ (map owed_store (debts f.ask f.owes ++ ss) ++ Leave e ∷ []))
 
@@ -209,7 +211,7 @@ pub gone_can : (old mid : World) (s : ℕ) (cs : List Change) → state_of mid �
     → CanMakeAll cs s (state_of mid)
 gone_can old mid s cs e h = subst (CanMakeAll cs s) (sym e) h
 
--- what it owes has room
+-- there is room for what is pending
 one_page : (b : Bool) (o : Option ℕ) → b ≡ is_some o → (if b then 1 else 0) ≡ kept o
 one_page b (Some k) e = rw e refl
 one_page b None e = rw e refl
@@ -230,7 +232,7 @@ pub page_reserved : (w : World) (s : ℕ) (b : Bool) → b ≡ is_some (clear_at
 unfolding state_of
 page_reserved w s b e = e
 
--- the parts of a close that a call owes
+-- the pending parts of the close of a call
 parts_are : (p : Parts) → map owed_part (parts_left p) ≡ parts_owed p
 parts_are (Replace old draft) = refl
 parts_are (Link (Some old) draft) = refl

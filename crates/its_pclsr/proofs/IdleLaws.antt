@@ -10,7 +10,7 @@ use Rattle.its_word.specs.Only.{Only}
 use Rattle.its_word.specs.declared.jobs.Job.{Job}
 use Rattle.its_word.specs.Tree.{least_free, fresh_job, is_below}
 use Rattle.its_word.specs.declared.jobs.Channel.{Channel}
-use Rattle.its_word.specs.declared.jobs.Channel.TheVariants.{Closed, TtyIn, TtyOut, Reading, Writing, Usr}
+use Rattle.its_word.specs.declared.jobs.Channel.TheVariants.{Closed, Reading, Writing}
 use Rattle.its_core.specs.Cores.{IsEmpty, Reserved, core_at, clear_at}
 use Rattle.its_files.specs.Blocks.{numbers}
 use Rattle.its_files.specs.Files.{Store, no_files, readers_by, entry_at, is_marked}

@@ -1,10 +1,9 @@
--- The words that a call owes, as stores.
+-- The pending words of a call, as stores.
 use Rattle.std.specs.Prelude.{◌≡◌, ◌<◌, ◌≤◌, ℕ, suc, ◌-◌, ◌%◌, ◌^◌, ◌==◌, Bool, true, false, Option, Some, None, option_map, List, [], ◌∷◌, length, drop, slice_index_or, refl}
 use Rattle.std.specs.List.{remove}
 use Rattle.std.proofs.Common.{arith, sym, ap, ◌∙◌, length-drop, drop-cons}
 use Rattle.its_word.specs.declared.calls.Owed.{Owed}
-use Rattle.its_word.specs.declared.calls.Owed.TheVariants as owed
-use Rattle.its_word.specs.declared.calls.Owed.TheVariants.{GiveBack, Unlink, Link, Free, Leave}
+use Rattle.its_word.specs.declared.calls.Owed.TheVariants.{Unlink, Link, Free}
 use Rattle.its_pclsr.specs.Owed.{begins_with_file}
 use Rattle.its_word.specs.Core.{Core, store}
 use Rattle.its_word.specs.declared.calls.Ask.{Ask}
@@ -50,7 +49,7 @@ stores_few (o ∷ os) = go o.place (stores_few os)
     go (Some p) h = omega arith
     go None h = omega arith
 
--- the owed arguments are among the arguments
+-- the pending arguments are among the arguments
 pub enough : (a : Ask) (n : ℕ) → length (debts a n) ≡ n → n ≤ length a.inputs.items
 unfolding debts
 enough a n h =
@@ -113,7 +112,7 @@ pub some_first : (os : List Owed) → begins_with_file os ≡ true → 0 < lengt
 some_first [] h = cc
 some_first (o ∷ os) h = omega arith
 
--- nothing is passed over where the close is marked
+-- nothing is passed over if the close is marked
 pub due_all : (os : List Owed) → due true os ≡ os
 due_all [] = refl
 due_all (o ∷ os) = refl

@@ -19,10 +19,10 @@ use Rattle.its_pclsr.specs.Parts.{NextMade}
 
 -- another store that shows the same to all channels
 pub store_state : (old new : World) → Stays old.files new.files old.jobs → new.core ≡ old.core → new.jobs ≡ old.jobs → new.frames ≡ old.frames
-    → new.consoles ≡ old.consoles → new.holders ≡ old.holders → new.clock ≡ old.clock → new.alarms ≡ old.alarms → new.version ≡ old.version → new.symbols ≡ old.symbols
+    → new.consoles ≡ old.consoles → new.holders ≡ old.holders → new.clock ≡ old.clock → new.alarms ≡ old.alarms → new.version ≡ old.version → new.symbols ≡ old.symbols → new.pipes ≡ old.pipes
     → state_of new ≡ record (state_of old) { raw = record (state_of old).raw { files = directory new.files }; mark = mark_of new.files }
-store_state old new stays core jobs frames consoles holders clock alarms version symbols =
-    stored_state old new new.files core jobs frames consoles holders clock alarms version symbols refl stays
+store_state old new stays core jobs frames consoles holders clock alarms version symbols pipes =
+    stored_state old new new.files core jobs frames consoles holders clock alarms version symbols pipes refl stays
 
 -- nothing is marked
 none_made : (p : Part) (s : Store) → s.mark ≡ None → made p s ≡ s
@@ -52,15 +52,16 @@ next_state w s p (Some m) whole files marked e next =
     sym (part_step s whole w m p ps.0 marked files e ps.1)
 
 pub next_made : (old new : World) (p : Part) → IsStore old.files → IsNext (state_of old).mark p → new.files ≡ made p old.files → Stays old.files new.files old.jobs
-    → new.core ≡ old.core → new.jobs ≡ old.jobs → new.frames ≡ old.frames → new.consoles ≡ old.consoles → new.holders ≡ old.holders → new.clock ≡ old.clock → new.alarms ≡ old.alarms → new.version ≡ old.version → new.symbols ≡ old.symbols → NextMade old new
-next_made old new p whole next files stays core jobs frames consoles holders clock alarms version symbols = record {
+    → new.core ≡ old.core → new.jobs ≡ old.jobs → new.frames ≡ old.frames → new.consoles ≡ old.consoles → new.holders ≡ old.holders → new.clock ≡ old.clock → new.alarms ≡ old.alarms → new.version ≡ old.version → new.symbols ≡ old.symbols → new.pipes ≡ old.pipes → NextMade old new
+next_made old new p whole next files stays core jobs frames consoles holders clock alarms version symbols pipes = record {
   row =
-      store_state old new stays core jobs frames consoles holders clock alarms version symbols
+      store_state old new stays core jobs frames consoles holders clock alarms version symbols pipes
       ∙ ap (λ t. record (state_of old) { raw = record (state_of old).raw { files = directory t }; mark = mark_of t }) files
       ∙ next_state (state_of old) old.files p (mark_of old.files) whole (files_are old) (marks_are old) refl (subst (λ m. IsNext m p) (marks_are old) next);
   core = core;
   jobs = jobs;
   symbols = symbols;
+  pipes = pipes;
 }
 
 -- and the world stays tidy

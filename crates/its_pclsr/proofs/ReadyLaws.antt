@@ -131,7 +131,8 @@ or_true false = refl
 below_gone : (sup : ℕ → Option ℕ) (j k : ℕ) → is_below sup j k ≡ true → is_gone sup j k ≡ true
 below_gone sup j k h = ap (λ (b : Bool). (k == j) || b) h ∙ or_true (k == j)
 
--- the parts of a close that a slot owes behind some changes are at most those of these changes, where it owed none before
+-- the pending parts of a slot's close after some changes are at most those of these changes, if none were pending
+-- before
 no_parts : (o : Option Frame) (h : Holding) → standing_of o ≡ Some h → parts_in_frame o ≡ []
 no_parts (Some (frames.Ending f)) h e = cc
 no_parts _ h e = refl

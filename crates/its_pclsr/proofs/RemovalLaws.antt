@@ -1,5 +1,5 @@
 -- A tree of jobs that is swept slot by slot, and then removed, is the removal of the plain machine.
-use Rattle.std.specs.Prelude.{if◌then◌else◌, ◌≡◌, ◌≤◌, ◌<◌, ◌+◌, ◌==◌, ℕ, suc, Bool, true, false, Option, Some, None, List, [], is_some, is_none, option_map, slice_index_or, refl}
+use Rattle.std.specs.Prelude.{if◌then◌else◌, ◌≡◌, ◌≤◌, ◌<◌, ◌+◌, ◌==◌, ℕ, suc, Bool, true, false, Option, Some, None, List, [], ◌++◌, is_some, is_none, option_map, slice_index_or, refl}
 use Rattle.its_word.specs.Console.{Console}
 use Rattle.std.proofs.Common.{sym, ◌∙◌, ap, subst, arith, inl, inr}
 use Rattle.std.proofs.lemmas.Bool.{cases_Bool, cases_eq, cases_lt, ne_eqb}
@@ -7,6 +7,7 @@ use Rattle.std.proofs.lemmas.List.{get_or_past}
 use Rattle.its_word.specs.ArrayVec.{ArrayVec}
 use Rattle.its_word.specs.Core.{Core, no_core}
 use Rattle.its_word.specs.Limits.{slots}
+use Rattle.its_word.specs.Links.{most_links}
 use Rattle.its_word.specs.Tree.{is_below}
 use Rattle.its_word.specs.declared.jobs.Channel.TheVariants as channels
 use Rattle.its_word.specs.declared.jobs.Job.{Job}
@@ -19,9 +20,10 @@ use Rattle.its_frame.specs.declared.change.Change.TheVariants as changes
 use Rattle.its_frame.specs.declared.frame.Frame.{Frame}
 use Rattle.its_jobs.specs.Table.{Table, job_at, superior_at, in_tree, IsTree, Without}
 use Rattle.its_jobs.proofs.TreeLaws.{past_none}
-use Rattle.its_plain.specs.Machine.{Shut, Symbol, Whole}
+use Rattle.its_pipes.specs.Pipes.{piped}
+use Rattle.its_plain.specs.Machine.{Shut, Symbol, Pipe, Whole}
 use Rattle.its_plain.specs.Own.{on_channel}
-use Rattle.its_plain.specs.Change.{with_alarm, on_slot, channel_in, shut_on, left_job, superior_in, superiors, is_gone, passed_on, symbols_left, removed, effect}
+use Rattle.its_plain.specs.Change.{with_alarm, on_slot, channel_in, shut_on, left_job, superior_in, superiors, is_gone, passed_on, symbols_left, ends_left, removed, effect}
 use Rattle.its_plain.specs.OperatorClock.{alarm_in, clock_end}
 use Rattle.its_plain.proofs.MachineLaws.{machine_is}
 use Rattle.its_stepped.specs.Commit.{effect_on}
@@ -32,7 +34,7 @@ use Rattle.its_stepped.proofs.FrameLaws.{on_slot_here, on_slot_other}
 use Rattle.its_stepped.proofs.UnwindLaws.{slot_same, slot_then}
 use Rattle.its_pclsr.specs.Removal.{channel_left, Shared, Alone, Closes, Bare, Empties, SlotSwept, Sweeps, Swept}
 use Rattle.its_pclsr.proofs.ApartLaws.{tidy_becomes}
-use Rattle.its_world.specs.Rings.{lists_to}
+use Rattle.its_world.specs.Rings.{lists_to, link_lists_to}
 use Rattle.its_world.specs.Filed.{Ringed, Resettled}
 use Rattle.its_world.proofs.PlaceLaws.{removed_ringed}
 use Rattle.its_world.specs.Storage.{chan_in}
@@ -63,7 +65,7 @@ tree_gone w r t = ap (λ sup. in_tree sup r) (sym (superiors_are w t))
 
 -- what slots share, and what one slot alone does
 shared_same : (w : State) → Shared w w
-shared_same w = record { superiors = λ k. refl; consoles = refl; holders = refl; files = refl; clock = refl; version = refl; symbols = refl; mark = refl }
+shared_same w = record { superiors = λ k. refl; consoles = refl; holders = refl; files = refl; clock = refl; version = refl; symbols = refl; links = refl; mark = refl }
 
 shared_then : (w v u : State) → Shared w v → Shared v u → Shared w u
 shared_then w v u a b = record {
@@ -74,6 +76,7 @@ shared_then w v u a b = record {
   clock = b.clock ∙ a.clock;
   version = b.version ∙ a.version;
   symbols = b.symbols ∙ a.symbols;
+  links = b.links ∙ a.links;
   mark = b.mark ∙ a.mark;
 }
 
@@ -107,6 +110,7 @@ in_raw_alone w s h same = record {
     clock = refl;
     version = refl;
     symbols = refl;
+    links = refl;
     mark = refl;
   };
 }
@@ -139,6 +143,7 @@ becomes_alone old new s c j f b some = record {
     clock = b.clock;
     version = b.version;
     symbols = ap (λ l k. symbols_at l.items k) b.symbols;
+    links = ap (λ p l. piped p l) b.pipes;
     mark = ap mark_of b.files;
   };
 }
@@ -429,11 +434,12 @@ module _ (old mid : World) (r : ℕ) (low : r < slots) (tree : IsTree old.jobs.j
     job_left : (k : ℕ) → is_gone (superiors (state_of old).raw) r k ≡ false → job_at new.jobs k ≡ job_at mid.jobs k
     job_left k g = job.each k ∙ ap (λ (b : Bool). if b then None else job_at mid.jobs k) (ap (λ (f : ℕ → Bool). f k) gone_same ∙ g)
 
-    -- the jobs that are gone have no frame; so where consoles have other holders, all that wait are put where they belong
+    -- the jobs that are gone have no frame; so if consoles have other holders, and links other ends, all slots that wait
+    -- are put on the lists to which they belong
     frame_gone : (k : ℕ) → is_gone (superiors (state_of old).raw) r k ≡ true → frame_at mid.frames.items k ≡ None
     frame_gone k g = sym (frame_is mid k) ∙ (all_swept k).frame ∙ ap (λ (b : Bool). if b then None else (state_of old).frames k) g
 
-    pub ringed_removed : (low : World) → new.jobs ≡ low.jobs → low.frames ≡ mid.frames → low.consoles ≡ mid.consoles → low.clock ≡ mid.clock → low.rings ≡ mid.rings → Resettled low new (lists_to 8)
+    pub ringed_removed : (low : World) → new.jobs ≡ low.jobs → low.frames ≡ mid.frames → low.consoles ≡ mid.consoles → low.clock ≡ mid.clock → low.rings ≡ mid.rings → Resettled low new (lists_to 8 ++ link_lists_to most_links)
         → Ringed mid → Ringed new
     ringed_removed low jobs frames consoles clock rings settled =
         removed_ringed mid low new (λ k. elim (cases_Bool (is_gone (superiors (state_of old).raw) r k)) [
@@ -492,10 +498,11 @@ module _ (old mid : World) (r : ℕ) (low : r < slots) (tree : IsTree old.jobs.j
           ∙ (all_swept k).job g
 
       pub tree_removed : new.frames ≡ mid.frames → new.consoles ≡ mid.consoles
-          → ((c : ℕ) → holder_at new.holders c ≡ passed_on (in_tree (superior_at mid.jobs) r) (superior_at mid.jobs r) (holder_at mid.holders c)) → new.clock ≡ mid.clock → new.version ≡ mid.version → Forgotten new.jobs mid.symbols.items new.symbols.items → Tidy mid
+          → ((c : ℕ) → holder_at new.holders c ≡ passed_on (in_tree (superior_at mid.jobs) r) (superior_at mid.jobs r) (holder_at mid.holders c)) → new.clock ≡ mid.clock → new.version ≡ mid.version → Forgotten new.jobs mid.symbols.items new.symbols.items
+          → ((l : ℕ) → piped new.pipes l ≡ ends_left (in_tree (superior_at mid.jobs) r) (piped mid.pipes l)) → Tidy mid
           → (j : ℕ) → state_of new ≡ effect_on (changes.Remove r) j (state_of old)
       unfolding state_of effect_on effect removed
-      tree_removed frames consoles holders clock version forgets tidy j = state_is _ _
+      tree_removed frames consoles holders clock version forgets links tidy j = state_is _ _
           (machine_is _ _ (λ k. raw_left k (is_gone (superiors (state_of old).raw) r k) refl)
           (λ c. ap (λ l. console_at l.items c) consoles ∙ ap (λ (f : ℕ → Console). f c) swept.shared.consoles)
           (λ c.
@@ -503,7 +510,11 @@ module _ (old mid : World) (r : ℕ) (low : r < slots) (tree : IsTree old.jobs.j
           ∙ (λ i. passed_on (gone_same i) (heir_same i) (holder_at mid.holders c))
           ∙ ap (λ (f : ℕ → Option ℕ). passed_on (is_gone (superiors (state_of old).raw) r) (superiors (state_of old).raw r) (f c)) swept.shared.holders)
           (ap directory files ∙ swept.shared.files) (clock ∙ swept.shared.clock) (version ∙ swept.shared.version)
-          (λ k. symbols_gone forgets tidy k ∙ ap (λ (f : ℕ → List Symbol). symbols_left (is_gone (superiors (state_of old).raw) r k) (f k)) swept.shared.symbols))
+          (λ k. symbols_gone forgets tidy k ∙ ap (λ (f : ℕ → List Symbol). symbols_left (is_gone (superiors (state_of old).raw) r k) (f k)) swept.shared.symbols)
+          (λ l.
+          links l
+          ∙ ap (λ (g : ℕ → Bool). ends_left g (piped mid.pipes l)) gone_same
+          ∙ ap (λ (f : ℕ → Option Pipe). ends_left (is_gone (superiors (state_of old).raw) r) (f l)) swept.shared.links))
           (λ k. ap (λ f. frame_at f.items k) frames ∙ (all_swept k).frame)
           (λ k. ap (λ c. clear_at c k) core ∙ (all_swept k).page)
           (ap mark_of files ∙ swept.shared.mark)

@@ -53,7 +53,7 @@ paged_becomes old mid new s r f a b = then_becomes old mid new s (core_at old.co
     (subst (λ x. Becomes mid new s (core_at mid.core s) x f r) a.job.here
     (subst (λ x. Becomes mid new s (core_at mid.core s) (job_at mid.jobs s) f x) a.reserved.here b)))
 
--- the first owed argument is stored
+-- the first pending argument is stored
 pub paid_some : (old mid new : World) (s n : ℕ) (a : Ask) (t : Store) (f : ℕ → Frame) → is_some (job_at old.jobs s) ≡ true → n ≢ 0 → first_debt (debts a n) ≡ t ∷ []
     → CoreBecomes old mid s (stored (core_at old.core s) (t ∷ [])) → FrameBecomes mid new s (Some (f (n - 1))) → state_of new ≡ paid (state_of old) s a n f
 paid_some old mid new s zero a t f j some first core frame = absurd (some refl)
@@ -62,7 +62,7 @@ paid_some old mid new s (suc n) a t f j some first core frame =
     stored_turn old new s (t ∷ []) (Some (f n)) j (paid_becomes old mid new s _ _ core (subst (λ k. FrameBecomes mid new s (Some (f k))) e frame))
     ∙ ap (λ ss. turn (state_of old) s (with_stores ss) (Some (f n))) (sym first)
 
--- nothing is owed: the frame, which was taken out, is dropped
+-- nothing is pending: the frame, which was taken out, is dropped
 nothing_first : (a : Ask) → first_debt (debts a 0) ≡ []
 unfolding debts
 nothing_first a =
@@ -85,6 +85,7 @@ unmoved w s none = record {
   alarms = refl;
   version = refl;
   symbols = refl;
+  pipes = refl;
   ringed = λ r. r;
 }
 
@@ -122,7 +123,7 @@ moved_turn old mid new s a place byte f h core frame =
     turned_state old new s _ j.0 j.0 f (with_held a (Some (held_at place byte)))
     (subst (λ o. Becomes old new s (stored (core_at old.core s) (deposited (core_at old.core s) (input a 1) (held_at place byte) ∷ [])) o f (clear_at old.core s)) j.1 (paid_becomes old mid new s _ f core frame)) j.1 refl
 
--- the first owed step is made
+-- the first pending step is performed
 pub settled_store : (old mid new : World) (s : ℕ) (t : Site) (a : Ask) (at w : ℕ) (os : List Owed) → is_some (job_at old.jobs s) ≡ true
     → CoreBecomes old mid s (stored (core_at old.core s) (poke at w ∷ [])) → FrameBecomes mid new s (Some (ending t a os))
     → state_of new ≡ settled (state_of old) s t a (owed.Store at w ∷ os)

@@ -1,5 +1,5 @@
--- A call that is tried: its decision on the raw machine is that on the plain one, it can be carried out, and then the tick is
--- made.
+-- A call that is tried: its decision on the raw machine is that on the plain one, it can be carried out, and then the
+-- tick is done.
 use Rattle.std.specs.Prelude.{◌≡◌, ◌<◌, ℕ, Bool, true, false, Option, Some, None, IfSome, is_some, List, refl}
 use Rattle.std.proofs.Common.{sym, ◌∙◌, ap, subst}
 use Rattle.its_word.specs.Core.{Core}
@@ -10,7 +10,7 @@ use Rattle.its_core.specs.Cores.{core_at}
 use Rattle.its_jobs.specs.Table.{job_at, superior_at}
 use Rattle.its_files.specs.Files.{Store}
 use Rattle.its_frame.specs.declared.decision.Decision.{Decision}
-use Rattle.its_frame.specs.declared.decision.Decision.TheVariants.{Waits, Goes, Ends, Gone}
+use Rattle.its_frame.specs.declared.decision.Decision.TheVariants.{Waits}
 use Rattle.its_frame.specs.declared.frame.Frame.{Frame}
 use Rattle.its_frame.specs.declared.frame.Frame.TheVariants as frames
 use Rattle.its_frame.specs.declared.frame.Holding.{Holding}
@@ -73,7 +73,7 @@ waiting_by w j q a (Waits r) true e h g = λ wait. absurd (h refl wait)
 waiting_by w j q a (Waits r) false e h g = λ wait. waits_still w j q a r (target q a) refl g wait
 waiting_by w j q a _ z e h g = tt
 
--- a call that stands in the frame of its slot, and is to be tried
+-- a call that is in the frame of its slot, and is to be tried
 record Stood (w : State) (j : ℕ) (q : Whole) (h : Holding) : Type 0 where
   stands : standing_of (w.frames j) ≡ Some h
   standing : Stands (seen (w.frames j) q).core (seen (w.frames j) q).job h.site h.ask
@@ -83,8 +83,8 @@ record Stood (w : State) (j : ℕ) (q : Whole) (h : Holding) : Type 0 where
   meets : Meets w j (seen (w.frames j) q) h.site h.ask h.owes
   row : tick_in w j q (w.frames j) ≡ tried_by w j (seen (w.frames j) q) h.site h.ask h.owes
 
--- the jobs that the call of a slot reaches are unwound, a half made close is helped where it is one on files, and its own slot
--- is as it was
+-- the jobs that the call of a slot reaches are unwound, a half made close is helped if it is one on files, and its own
+-- slot is as it was
 pub record Cleared (w v : State) (j : ℕ) (q : Whole) (h : Holding) : Type 0 where
   pub job : v.raw.jobs j ≡ Some q
   pub frame : v.frames j ≡ w.frames j
@@ -95,7 +95,7 @@ pub record Cleared (w v : State) (j : ℕ) (q : Whole) (h : Holding) : Type 0 wh
   pub free : (k : ℕ) → among k (reach v.raw j q h.ask) ≡ true → v.frames k ≡ None
   pub shows : plain v ≡ plain w
 
--- states that stand for one machine have the same reach
+-- states of one plain machine have the same reach
 same_reach : (w v : State) (j : ℕ) (q : Whole) (a : Ask) → plain v ≡ plain w → reach v.raw j q a ≡ reach w.raw j q a
 same_reach w v j q a e = sym (reach_plain v j None q a) ∙ ap (λ (m : Machine). reach m j (seen None q) a) e ∙ reach_plain w j None q a
 
@@ -118,7 +118,7 @@ found_cleared w j q h sound is s =
       shows = shows;
     }
 
--- what the tick of a slot comes to whose call is tried: v is the state in which it is carried out, and d its decision
+-- the result of the tick of a slot whose call is tried: v is the state in which it is carried out, and d its decision
 pub record Tries (w v : State) (j : ℕ) (q : Whole) (h : Holding) (d : Decision) : Type 0 where
   pub cleared : Cleared w v j q h
   pub decides : decision (plain w) j (seen (w.frames j) q) h.ask ≡ d
@@ -165,7 +165,7 @@ found_tries w j q h sound forest is housed s =
       ticks = running_tick w j q is s.runs ∙ row;
     }
 
--- a call that is held is tried where it has no page, or all quarters of it are clear
+-- a call that is held is tried if it has no page, or all quarters of it are clear
 held_tried : (w : State) (j : ℕ) (own : Whole) (s : Site) (a : Ask) (page : Option ℕ) (n : ℕ) → IsTried page → held_on w j own s a page n ≡ tried_by w j own s a n
 held_tried w j own s a None n t = refl
 held_tried w j own s a (Some p) n t = rw t refl
@@ -228,7 +228,7 @@ tries w v j q h d sound forest is housed stands tried e f =
     subst (Tries w v j q h) (sym f) (subst (λ (x : State). Tries w x j q h (decision x.raw j q h.ask)) (sym e) t)
 
 -- the same of worlds: the job of the slot is there, its call is decided by its raw job, it can be carried out, and then
--- the tick is made
+-- the tick is done
 some_job : (s : Store) (c : Core) (o : Option ℕ) (a : Option (ℕ × ℕ)) (j : Option Job) (q : Whole) → raw_of s c o a j ≡ Some q → is_some j ≡ true
 some_job s c o a (Some x) q e = refl
 some_job s c o a None q e = cc

@@ -199,7 +199,7 @@ all_others old new s e k n = subst (λ w. SlotSame (state_of old) w k) (sym e) (
 pub all_few : (old : World) (s : ℕ) → Sound (state_of old) → left (state_of old) s ≤ 4
 all_few old s sound = few_left (state_of old) s sound
 
--- a job in user mode is seen as it stands
+-- a job in user mode is seen as it is
 user_seen : (v : State) (s : ℕ) (f : Option Frame) → v.frames s ≡ f → f ≡ None → (plain v).jobs s ≡ v.raw.jobs s
 unfolding plain seen
 user_seen v s f e n = ap (λ (g : Option Frame). option_map (seen g) (v.raw.jobs s)) (e ∙ n) ∙ go (v.raw.jobs s)

@@ -1,9 +1,10 @@
 -- The changes that can be made.
 -- No promise rests on this.
-use Rattle.std.specs.Prelude.{◌≡◌, ◌<◌, ℕ, Bool, true, false, Some, None, List, [], ◌∷◌, length}
+use Rattle.std.specs.Prelude.{◌≡◌, ◌<◌, ℕ, Bool, true, false, Some, None, is_some, List, [], ◌∷◌, length}
 use Rattle.its_word.specs.Console.{most_waiting}
 use Rattle.its_word.specs.Core.{page_of}
 use Rattle.its_word.specs.Limits.{slots, most_pages}
+use Rattle.its_word.specs.Links.{most_links, most_linked}
 use Rattle.its_word.specs.Tree.{least_free, is_below}
 use Rattle.its_word.specs.declared.calls.Owed.{Owed}
 use Rattle.its_word.specs.declared.calls.Owed.TheVariants.{GiveBack}
@@ -12,8 +13,9 @@ use Rattle.its_frame.specs.declared.change.Change.TheVariants as changes
 use Rattle.its_frame.specs.declared.change.Opened.{Opened}
 use Rattle.its_frame.specs.declared.change.Opened.TheVariants as opened
 use Rattle.its_plain.specs.CallFile.{has_file}
+use Rattle.its_plain.specs.CallLink.{words_in}
 use Rattle.its_plain.specs.Change.{superiors, is_gone}
-use Rattle.its_plain.specs.Machine.{Shut, core_of, mapped, limit}
+use Rattle.its_plain.specs.Machine.{Shut, Linked, core_of, mapped, limit}
 use Rattle.its_plain.specs.Own.{names_of}
 use Rattle.its_parts.specs.Can.{Pokes, HasPage}
 use Rattle.its_stepped.specs.Commit.{effect_on}
@@ -44,9 +46,10 @@ pub record Maps (w : State) (j s k : ℕ) : Type 0 where
   pub absent : page_of (core_of (w.raw.jobs s)) k ≡ None
   pub room : mapped w.raw < most_pages
 
--- a change of slot j's call is possible: its channel and its console are numbers that exist, a byte that is put out or a word that is
--- appended has room, and no close is half made if it looks at the directory; a job is made in the least empty slot; a removed one and
--- those below it are in user mode and are not the caller; and a page exists, or is possible
+-- a change of slot j's call is possible: its channel, its console and its link are numbers that exist, a byte that is put out or a word
+-- that is appended or sent has room, an end of a link is opened at a closed channel, and closed with the channel that is on it, and no
+-- close is half made if it looks at the directory; a job is made in the least empty slot; a removed one and those below it are in user
+-- mode and are not the caller; and a page exists, or is possible
 abbrev pub CanMake : Change → ℕ → State → Type 0
 CanMake (changes.Open n on) j w = (n < 16) × HasJob w j × (chan_in w j n ≡ Shut) × CanOpen on w
 CanMake (changes.Shut n) j w = n < 16
@@ -61,6 +64,10 @@ CanMake (changes.Put c b) j w = (c < 8) × (length (w.raw.consoles c).output < m
 CanMake (changes.Hold c s) j w = c < 8
 CanMake (changes.Inform s) j w = Unit {0}
 CanMake (changes.Arm alarm) j w = Unit {0}
+CanMake (changes.Join n l write x y) j w = (n < 16) × (l < most_links) × HasJob w j × (chan_in w j n ≡ Shut)
+CanMake (changes.Part n l write) j w = (n < 16) × (l < most_links) × (chan_in w j n ≡ Linked l write)
+CanMake (changes.Send l x) j w = (l < most_links) × (is_some (w.raw.links l) ≡ true) × (length (words_in (w.raw.links l)) < most_linked)
+CanMake (changes.Receive l) j w = l < most_links
 CanMake (changes.Set s v x) j w = Unit {0}
 CanMake (changes.Poke s a x) j w = Pokes w.raw s a
 CanMake (changes.Make s u n) j w = HasJob w j × (least_free (limit w.raw) w.raw.jobs ≡ Some s)

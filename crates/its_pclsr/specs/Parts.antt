@@ -10,3 +10,4 @@ pub record NextMade (old new : World) : Type 0 where
   pub core : new.core ≡ old.core
   pub jobs : new.jobs ≡ old.jobs
   pub symbols : new.symbols ≡ old.symbols
+  pub pipes : new.pipes ≡ old.pipes

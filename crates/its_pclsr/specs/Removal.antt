@@ -27,6 +27,7 @@ pub record Shared (old new : State) : Type 0 where
   pub clock : new.raw.clock ≡ old.raw.clock
   pub version : new.raw.version ≡ old.raw.version
   pub symbols : new.raw.symbols ≡ old.raw.symbols
+  pub links : new.raw.links ≡ old.raw.links
   pub mark : new.mark ≡ old.mark
 
 -- nothing but slot s changes, and it keeps its page

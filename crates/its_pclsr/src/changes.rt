@@ -1,10 +1,12 @@
-ghost use Rattle.std.specs.Prelude.{◌≡◌, ◌<◌, ◌^◌, true, None, Some, [], ◌∷◌, length};
+ghost use Rattle.std.specs.Prelude.{◌≡◌, ◌<◌, ◌^◌, true, None, Some, [], ◌∷◌, is_some, length, option_map};
 ghost use Rattle.its_word.specs.Console.{most_waiting};
 ghost use Rattle.its_word.specs.Limits.{slots};
+ghost use Rattle.its_word.specs.Links.{most_links, most_linked};
 ghost use Rattle.its_word.specs.Core.{can_store};
 ghost use Rattle.its_word.specs.Tree.{least_free};
 ghost use Rattle.its_core.specs.Frames.{frames_map, frames_unmap};
-ghost use Rattle.its_plain.specs.Change.{console_in, on_console, poke, protected, put_to, taken_from, with_alarm, with_inf, with_page_at};
+ghost use Rattle.its_plain.specs.CallLink.{words_in};
+ghost use Rattle.its_plain.specs.Change.{console_in, on_console, on_link, poke, protected, put_to, taken_from, with_alarm, with_inf, with_page_at, with_received, with_sent};
 ghost use Rattle.its_frame.specs.declared.change.Change.TheVariants.{Make, Map, Open};
 ghost use Rattle.its_plain.specs.Machine.{Shut, changed, core_of, limit};
 ghost use Rattle.its_plain.specs.Own.{with_registers, with_stores, with_variable};
@@ -68,6 +70,20 @@ fn apply_one(w: &mut World, slot: u8, change: &Change)
         Change::Hold { console, slot: s } => hold(w, *console, *s),
         Change::Inform { slot: s } => inform(w, *s),
         Change::Arm { alarm } => arm(w, slot, *alarm),
+        Change::Join {
+            channel,
+            link,
+            write,
+            x,
+            y,
+        } => w.join(slot, *channel, *link, *write, *x, *y),
+        Change::Part {
+            channel,
+            link,
+            write,
+        } => w.part(slot, *channel, *link, *write),
+        Change::Send { link, word } => send(w, *link, *word),
+        Change::Receive { link } => receive(w, *link),
         Change::Set {
             slot: s,
             variable,
@@ -139,6 +155,32 @@ fn put(w: &mut World, console: u8, byte: u8)
     ensures tidy { Tidy w.new }
 {
     w.put(console, byte);
+}
+
+/// Puts a word at the end of a link, which has room.
+#[tactic(auto, using(crate::proofs::ApartLaws::link_pages, crate::proofs::ChangeLaws::link_there, crate::proofs::ChangeLaws::link_room, crate::proofs::ChangeLaws::word_sent, its_world::proofs::LinkLaws::link_tidy))]
+fn send(w: &mut World, link: u8, word: Word)
+    requires link { link < most_links }
+    requires stands { is_some ((state_of w.old).raw.links link) ≡ true }
+    requires room { length (words_in ((state_of w.old).raw.links link)) < most_linked }
+    requires tidy { Tidy w.old }
+    ensures row { state_of w.new ≡ with_raw (state_of w.old) (on_link (state_of w.old).raw link (option_map (with_sent word))) }
+    ensures pages { w.new.core.frames ≡ w.old.core.frames }
+    ensures tidy { Tidy w.new }
+{
+    w.send(link, word);
+}
+
+/// Takes the first word of a link.
+#[tactic(auto, using(crate::proofs::ApartLaws::link_pages, crate::proofs::ChangeLaws::word_received, its_world::proofs::LinkLaws::link_tidy))]
+fn receive(w: &mut World, link: u8)
+    requires link { link < most_links }
+    requires tidy { Tidy w.old }
+    ensures row { state_of w.new ≡ with_raw (state_of w.old) (on_link (state_of w.old).raw link (option_map with_received)) }
+    ensures pages { w.new.core.frames ≡ w.old.core.frames }
+    ensures tidy { Tidy w.new }
+{
+    w.receive(link);
 }
 
 /// Makes a slot's job the holder of a console.

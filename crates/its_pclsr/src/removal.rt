@@ -47,9 +47,9 @@ pub fn unwind_below(w: &mut World, slot: u8)
 }
 
 /// Removes the job of a slot and all jobs below it: their drafts are dropped, their channels closed, and their pages and symbols given
-/// up; every channel on one of them is closed. A console that one of them holds passes to the superior of the job, if it has one, else
-/// to nobody. No INF is set. The jobs below have been unwound; what is left of a call of the job itself is dropped, but a page that it
-/// has reserved is given back before.
+/// up; every channel on one of them is closed, and so is each end of a link at one of them. A console that one of them holds passes to
+/// the superior of the job, if it has one, else to nobody. No INF is set. The jobs below have been unwound; what is left of a call of
+/// the job itself is dropped, but a page that it has reserved is given back before.
 pub fn remove_tree(w: &mut World, slot: u8)
     requires slot { slot < slots }
     requires job { is_some (job_at w.old.jobs slot) ≡ true }
@@ -67,9 +67,10 @@ pub fn remove_tree(w: &mut World, slot: u8)
     sweep(w, slot);
     w.jobs.tree();
     pass_on(&w.jobs, slot, &mut w.holders);
+    w.pipes.leave_links(&w.jobs, slot);
     w.jobs.remove_tree(slot);
     forget_removed(&mut w.symbols, &w.jobs);
-    w.settle_consoles();
+    w.settle_posts();
 }
 
 /// Gives up what the jobs of a tree have, and closes the channels on them.

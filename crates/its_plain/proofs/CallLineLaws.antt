@@ -1,6 +1,6 @@
 -- What the lines of a session leave of the plain machine: names, superiors and channels, and how consoles and
 -- their holders change. What holds of these alone is kept by every line.
-use Rattle.std.specs.Prelude.{◌≡◌, ◌≢◌, ◌<◌, ◌≤◌, ◌⊎◌, ℕ, ◌+◌, ◌==◌, Bool, true, false, Option, Some, None, List, [], ◌∷◌, ◌++◌, Result, Ok, Err, option_map, is_some, nat_lt, length, take, drop, refl}
+use Rattle.std.specs.Prelude.{◌≡◌, ◌≢◌, ◌<◌, ◌≤◌, ◌⊎◌, ℕ, ◌+◌, Bool, true, false, Option, Some, None, List, [], ◌∷◌, ◌++◌, Result, Ok, Err, option_map, is_some, nat_lt, length, take, drop, refl}
 use Rattle.std.proofs.Common.{sym, ◌∙◌, ap, subst, inl, inr, arith}
 use Rattle.std.proofs.lemmas.Bool.{cases_Bool, cases_eq, eq-eqb, ne_eqb, ltb-true}
 use Rattle.its_word.specs.Console.{most_waiting}
@@ -38,7 +38,7 @@ pub record Face : Type 0 where
 abbrev pub face : Whole → Face
 face q = record { uname = q.job.uname; jname = q.job.jname; console = q.job.console; superior = q.superior; channels = q.channels }
 
--- a slot is as it was, but for words and registers; or LOAD made a job there
+-- a slot is as it was, except for words and registers; or LOAD made a job there
 pub data SlotKept (o p : Option Whole) : Type 0 where
   Stays : option_map face p ≡ option_map face o → SlotKept o p
   Made : (u j : ℕ) (console : Option ℕ) → o ≡ None → p ≡ Some (new_job u j console) → SlotKept o p
@@ -71,6 +71,7 @@ pub record LineKeeps (m n : Machine) : Type 0 where
   pub clock : (n.clock ≡ m.clock) ⊎ (n.clock < clock_end)
   pub version : (n.version ≡ m.version) ⊎ ((k : ℕ) → IsSlot k → n.jobs k ≡ None)
   pub alarms : AlarmsKept m n
+  pub links : n.links ≡ m.links
 
 abbrev pub LineKeepsBy : Machine → Lined → Type 0
 LineKeepsBy m (Done (Does n out touched b)) = LineKeeps m n
@@ -79,7 +80,7 @@ LineKeepsBy m (Done (Ticks s k)) = Unit {0}
 LineKeepsBy m (Done Quits) = Unit {0}
 LineKeepsBy m (Peeks s) = Unit {0}
 
--- the same, but for words and registers
+-- the same, except for words and registers
 pub record Alike (m n : Machine) : Type 0 where
   pub slots : (k : ℕ) → option_map face (n.jobs k) ≡ option_map face (m.jobs k)
   pub alarms : (k : ℕ) → alarm_in (n.jobs k) ≡ alarm_in (m.jobs k)
@@ -88,6 +89,7 @@ pub record Alike (m n : Machine) : Type 0 where
   pub files : n.files ≡ m.files
   pub clock : n.clock ≡ m.clock
   pub version : n.version ≡ m.version
+  pub links : n.links ≡ m.links
 
 -- an empty slot has no face
 faceless : (p o : Option Whole) → option_map face p ≡ option_map face o → o ≡ None → p ≡ None
@@ -103,10 +105,20 @@ alike_keeps m n h = record {
   clock = inl h.clock;
   version = inl h.version;
   alarms = Same h.clock (λ k. inl (h.alarms k));
+  links = h.links;
 }
 
 alike_same : (m : Machine) → Alike m m
-alike_same m = record { slots = λ k. refl; alarms = λ k. refl; consoles = refl; holders = refl; files = refl; clock = refl; version = refl }
+alike_same m = record {
+  slots = λ k. refl;
+  alarms = λ k. refl;
+  consoles = refl;
+  holders = refl;
+  files = refl;
+  clock = refl;
+  version = refl;
+  links = refl;
+}
 
 alike_then : (m n l : Machine) → Alike m n → Alike n l → Alike m l
 alike_then m n l a b = record {
@@ -117,6 +129,7 @@ alike_then m n l a b = record {
   files = b.files ∙ a.files;
   clock = b.clock ∙ a.clock;
   version = b.version ∙ a.version;
+  links = b.links ∙ a.links;
 }
 
 put_alike : (m : Machine) (s : ℕ) (q p : Whole) → m.jobs s ≡ Some q → face p ≡ face q → p.alarm ≡ q.alarm → Alike m (with_job m s p)
@@ -134,6 +147,7 @@ put_alike m s q p is e alarm = record {
   files = refl;
   clock = refl;
   version = refl;
+  links = refl;
 }
 
 abbrev AlikeBy : Machine → Result Machine Reason → Type 0
@@ -206,14 +220,23 @@ unfolding symbol_kept
 symbol_alike m s name a = go (m.jobs s)
   where
     put : (room : Bool) → AlikeBy m (symbol_kept_if m s (name, a) room)
-    put true = record { slots = λ k. refl; alarms = λ k. refl; consoles = refl; holders = refl; files = refl; clock = refl; version = refl }
+    put true = record {
+      slots = λ k. refl;
+      alarms = λ k. refl;
+      consoles = refl;
+      holders = refl;
+      files = refl;
+      clock = refl;
+      version = refl;
+      links = refl;
+    }
     put false = tt
 
     go : (o : Option Whole) → AlikeBy m (symbol_kept_of m s (name, a) o)
     go (Some q) = put (nat_lt (length (m.symbols s)) most_symbols)
     go None = tt
 
--- what a result comes to
+-- the outcome of a result
 disturbs_keeps : (m : Machine) (s : ℕ) (b : Block) (r : Result Machine Reason) → AlikeBy m r → LineKeepsBy m (Done (disturbs s b r))
 disturbs_keeps m s b (Ok n) h = alike_keeps m n h
 disturbs_keeps m s b (Err r) h = tt
@@ -222,7 +245,7 @@ quiet_keeps : (m : Machine) (b : Block) (r : Result Machine Reason) → AlikeBy 
 quiet_keeps m b (Ok n) h = alike_keeps m n h
 quiet_keeps m b (Err r) h = tt
 
--- VERSION changes the version alone, where no slot has a job
+-- VERSION changes the version alone, if no slot has a job
 version_keeps : (m : Machine) (v : ℕ) → LineKeeps m (versioned m v)
 unfolding versioned
 version_keeps m v = elim (cases_Bool (no_job m.jobs)) [
@@ -234,6 +257,7 @@ version_keeps m v = elim (cases_Bool (no_job m.jobs)) [
     clock = inl refl;
     version = inr (λ k l. no_job_there m.jobs k is l);
     alarms = Same refl (λ k. inl refl);
+    links = refl;
   })
   | inr is ↦ rw is (alike_keeps m m (alike_same m))
 ]
@@ -290,6 +314,7 @@ load_keeps m b u j (Some c) (Some s) is = record {
   clock = inl refl;
   version = inl refl;
   alarms = Same refl (λ k. made_alarms m u j (Some c) s k);
+  links = refl;
 }
 load_keeps m b u j None (Some s) is = record {
   slots = λ k. made_slots m u j None s k is;
@@ -299,6 +324,7 @@ load_keeps m b u j None (Some s) is = record {
   clock = inl refl;
   version = inl refl;
   alarms = Same refl (λ k. made_alarms m u j None s k);
+  links = refl;
 }
 load_keeps m b u j console None is = tt
 
@@ -318,6 +344,7 @@ typed_keeps m c bytes = record {
   clock = inl refl;
   version = inl refl;
   alarms = Same refl (λ k. inl refl);
+  links = refl;
 }
 
 drained_keeps : (m : Machine) (c n : ℕ) → LineKeeps m (drained c n m)
@@ -329,6 +356,7 @@ drained_keeps m c n = record {
   clock = inl refl;
   version = inl refl;
   alarms = Same refl (λ k. inl refl);
+  links = refl;
 }
 
 -- CLOCK: ALR and a next time are no part of the face of a job
@@ -350,6 +378,7 @@ clock_keeps m b n true is = record {
   clock = inr (ltb-true (m.clock + n) clock_end is);
   version = inl refl;
   alarms = Went (m.clock + n) (omega arith) refl;
+  links = refl;
 }
 clock_keeps m b n false is = tt
 
@@ -363,6 +392,7 @@ files_keep m fs = record {
   clock = inl refl;
   version = inl refl;
   alarms = Same refl (λ k. inl refl);
+  links = refl;
 }
 
 abbrev pub FilesAlone : Machine → Result Machine Reason → Type 0

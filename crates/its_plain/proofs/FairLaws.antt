@@ -1,5 +1,5 @@
--- The turns of a RUN are fair: whoever runs on is nearer than the slot that has just had its turn, and comes nearer with each turn
--- of another.
+-- The turns of a RUN are fair: any slot that runs on is nearer than the slot that has just had its turn, and becomes
+-- nearer with each turn of another slot.
 use Rattle.std.specs.Prelude.{◌≡◌, ◌≢◌, ◌<◌, ◌≤◌, ◌==◌, ℕ, zero, suc, ◌+◌, Bool, true, false, Option, Some, None, List, [], ◌∷◌, ◌++◌, length, drop, refl}
 use Rattle.std.proofs.Common.{sym, ◌∙◌, ap, subst, arith, inl, inr, append-nil}
 use Rattle.std.proofs.lemmas.Bool.{cases_eq, cases_order, eq-eqb, ne_eqb}
@@ -24,7 +24,7 @@ abbrev after_letters : Machine → ℕ → List Pace → Machine
 after_letters m i [] = m
 after_letters m i (p ∷ ps) = after_letters (machine_after m i p) i ps
 
--- up to n turns from machine m on, where these lines are shown
+-- up to n turns from machine m on, if these lines are shown
 abbrev chosen : Machine → Option ℕ → (ℕ → List Turn) → List Turn
 chosen m (Some s) next = record { machine = m; slot = s } ∷ next s
 chosen m None next = []
@@ -41,14 +41,14 @@ turn_same m n last l h = robin_same slots last (runs m) (runs n) l (λ k b. h k)
 pub turn_within : (m : Machine) (last s : ℕ) → last < slots → turn_after m last ≡ Some s → s < slots
 turn_within m last s l h = (robin_next slots last s (runs m) l h).within
 
--- turns that a RUN makes, behind a turn of the last slot
+-- turns of a RUN, after a turn of the last slot
 record From (last : ℕ) (ts : List Turn) : Type 0 where
   count : ℕ
   machine : Machine
   lines : List Line
   is : ts ≡ turns count machine last lines
 
--- the first of them, and the others
+-- the first turn, and the others
 record First (last : ℕ) (t : Turn) (ts : List Turn) : Type 0 where
   nearest : IsNext slots (runs t.machine) last t.slot
   more : From t.slot ts
@@ -75,7 +75,7 @@ first_of (suc n) last m lines t ts l h = first_by n last m lines t ts (turn_afte
 first : (last : ℕ) (t : Turn) (ts : List Turn) → last < slots → From last (t ∷ ts) → First last t ts
 first last t ts l f = first_of f.count last f.machine f.lines t ts l f.is
 
--- those behind some of them
+-- those after some turns
 record Behind (ts : List Turn) : Type 0 where
   last : ℕ
   within : last < slots
@@ -85,7 +85,7 @@ behind : (before ts : List Turn) (last : ℕ) → last < slots → From last (be
 behind [] ts last l f = record { last = last; within = l; from = f }
 behind (t ∷ before) ts last l f = let x = first last t (before ++ ts) l f in behind before ts t.slot x.nearest.within x.more
 
--- slot k runs on and is nearer than slot s, which has a turn behind these: it has one of these
+-- slot k runs on and is nearer than slot s, which has a turn after these: slot k has one of these turns
 has_one : (between_ after : List Turn) (z : Turn) (last k s : ℕ) → last < slots → k < slots → s < slots → z.slot ≡ s → between slots last k < between slots last s
     → From last (between_ ++ z ∷ after) → RunsAt k (between_ ++ z ∷ []) → has_turn k between_ ≡ true
 has_one [] after z last k s l lk ls e h f r =
@@ -155,7 +155,7 @@ turn_then : (b : Bool) (m : Machine) (s : ℕ) (ts us : List Turn) → turn_at b
 turn_then true m s ts us = refl
 turn_then false m s ts us = refl
 
--- what goes on after some turns has the turns that it has, wherever it stands then
+-- what goes on after some turns has the turns that it has, whatever its state is then
 abbrev Onward : Walk → (Walk → ℕ → List Line → Course) → ℕ → List Turn → Type 0
 Onward v next k us = (w : Walk) (l : ℕ) (rest : List Line) → w.line ≡ v.line → l < slots → turns_on k (next w l rest).moments ≡ us
 
@@ -183,7 +183,7 @@ turned_moments k (suc n) last v lines next us l h =
     turned_moments k n s w rest next us at (λ x i more is within. h x i more (is ∙ same) within)
     ∙ ap (λ (i : ℕ). of_line (i == k) (turns n w.machine s rest) ++ us) same)
 
--- what a line comes to leaves no turn of its own
+-- the result of a line contains no turn of its own
 abbrev Follows : Walk → (Walk → List Line → Course) → ℕ → List Turn → Type 0
 Follows v next k us = (w : Walk) (rest : List Line) → w.line ≡ v.line → turns_on k (next w rest).moments ≡ us
 

@@ -16,26 +16,30 @@ use Rattle.its_plain.specs.CallFile.{most_files, is_full, file_named, has_file}
 use Rattle.its_plain.specs.Change.{protected}
 use Rattle.its_plain.specs.Integrity.{Parts, no_part, job_part, console_part, file_part, touched, OnlyParts}
 use Rattle.its_plain.specs.Machine.{Names, File, Console, Whole, Machine, changed, with_job, mapped, limit}
-use Rattle.its_plain.specs.Operator.{Block, Operated, Refuses, Does, Ticks, Quits, and_then, disturbs, quietly}
-use Rattle.its_plain.specs.OperatorClock.{due, rung_if, at_clock, clock_end, clocked_if, clocked}
-use Rattle.its_plain.specs.OperatorConsoles.{typed, drained}
+use Rattle.its_plain.specs.Operator.{Block, Does, and_then, disturbs, quietly}
+use Rattle.its_plain.specs.OperatorClock.{clock_end, clocked_if, clocked}
 use Rattle.its_plain.specs.OperatorFiles.{channels_of, with_files, file_made_if, file_made, word_added_if, word_added_to, word_added, words_added, file_shown}
-use Rattle.its_plain.specs.OperatorJobs.{held_by, new_job, loaded_in, loaded, stored, with_core, word_loaded_of, word_loaded, words_stored, words_barred, words_loaded_if, words_loaded, page_protected_in, page_protected, on_job, with_registers, on_registers, started, interrupted, stopped, continued, examined, state_shown, deposited_in, deposited}
-use Rattle.its_plain.specs.OperatorLines.{by_load, by_exam, in_a_line, by_state, by_clock, operate, shows, Lined, Done, Peeks, peeked_at, lined}
+use Rattle.its_plain.specs.OperatorJobs.{held_by, loaded_in, loaded, stored, with_core, word_loaded_of, word_loaded, words_stored, words_barred, words_loaded_if, words_loaded, page_protected_in, page_protected, on_job, with_registers, on_registers, started, interrupted, stopped, continued, examined, state_shown, deposited_in, deposited}
+use Rattle.its_plain.specs.OperatorLines.{by_load, by_exam, in_a_line, by_state, by_clock, operate, shows, Lined, Done, peeked_at, lined}
 use Rattle.its_plain.specs.OperatorSymbols.{symbol_kept_if, symbol_kept_of, symbol_kept}
 use Rattle.its_plain.specs.OperatorVersion.{versioned}
 use Rattle.its_plain.specs.Own.{names_of}
 
-only_same : (p : Parts) (m : Machine) → OnlyParts p m m
-only_same p m = record {
-  jobs = λ k e. refl;
+-- a line that changes the jobs alone
+jobs_alone : (p : Parts) (m : Machine) (jobs : ℕ → Option Whole) → ((k : ℕ) → p.jobs k ≡ false → jobs k ≡ m.jobs k) → OnlyParts p m (record m { jobs = jobs })
+jobs_alone p m jobs h = record {
+  jobs = h;
   consoles = λ c e. refl;
   holders = λ c e. refl;
   files = λ e. refl;
   symbols = λ k e. refl;
   clock = λ e. refl;
   version = λ e. refl;
+  links = refl;
 }
+
+only_same : (p : Parts) (m : Machine) → OnlyParts p m m
+only_same p m = jobs_alone p m m.jobs (λ k e. refl)
 
 only_then : (p : Parts) (m n l : Machine) → OnlyParts p m n → OnlyParts p n l → OnlyParts p m l
 only_then p m n l a b = record {
@@ -46,6 +50,7 @@ only_then p m n l a b = record {
   symbols = λ k e. b.symbols k e ∙ a.symbols k e;
   clock = λ e. b.clock e ∙ a.clock e;
   version = λ e. b.version e ∙ a.version e;
+  links = b.links ∙ a.links;
 }
 
 -- what a result, and what a line, leaves
@@ -74,15 +79,7 @@ apart k s e at = let no : false ≡ true = sym e ∙ eq-eqb k s at in cc
 
 -- one job
 one_job : (m : Machine) (s : ℕ) (q : Whole) → OnlyParts (job_part s) m (with_job m s q)
-one_job m s q = record {
-  jobs = λ k e. rw e refl;
-  consoles = λ c e. refl;
-  holders = λ c e. refl;
-  files = λ e. refl;
-  symbols = λ k e. refl;
-  clock = λ e. refl;
-  version = λ e. refl;
-}
+one_job m s q = jobs_alone (job_part s) m (with_job m s q).jobs (λ k e. rw e refl)
 
 core_parts : (m : Machine) (s : ℕ) (q : Whole) (r : Result Core Reason) → PartsBy (job_part s) m (with_core m s q r)
 core_parts m s q (Ok c) = one_job m s (record q { core = c })
@@ -152,6 +149,7 @@ load_parts m b u j (Some c) (Some s) is = record {
   symbols = λ k e. rw (ne_eqb k s (empty_apart m k s (least_empty (limit m) m.jobs s is) e)) refl;
   clock = λ e. refl;
   version = λ e. refl;
+  links = refl;
 }
 load_parts m b u j None (Some s) is = record {
   jobs = λ k e. rw (ne_eqb k s (empty_apart m k s (least_empty (limit m) m.jobs s is) e)) refl;
@@ -161,6 +159,7 @@ load_parts m b u j None (Some s) is = record {
   symbols = λ k e. rw (ne_eqb k s (empty_apart m k s (least_empty (limit m) m.jobs s is) e)) refl;
   clock = λ e. refl;
   version = λ e. refl;
+  links = refl;
 }
 load_parts m b u j console None is = tt
 
@@ -168,7 +167,16 @@ load_parts m b u j console None is = tt
 version_parts : (m : Machine) (b : Block) (v : ℕ) → OnlyParts (touched m b (events.Version v)) m (versioned m v)
 unfolding versioned
 version_parts m b v = elim (cases_Bool (no_job m.jobs)) [
-  | inl is ↦ rw is (record { jobs = λ k e. refl; consoles = λ c e. refl; holders = λ c e. refl; files = λ e. refl; symbols = λ k e. refl; clock = λ e. refl; version = λ e. cc })
+  | inl is ↦ rw is (record {
+    jobs = λ k e. refl;
+    consoles = λ c e. refl;
+    holders = λ c e. refl;
+    files = λ e. refl;
+    symbols = λ k e. refl;
+    clock = λ e. refl;
+    version = λ e. cc;
+    links = refl;
+  })
   | inr is ↦ rw is (only_same _ m)
 ]
 
@@ -177,7 +185,16 @@ unfolding symbol_kept
 symbol_parts m b s name a = go (m.jobs s)
   where
     put : (room : Bool) → PartsBy (record no_part { symbols = λ k. k == s }) m (symbol_kept_if m s (name, a) room)
-    put true = record { jobs = λ k e. refl; consoles = λ c e. refl; holders = λ c e. refl; files = λ e. refl; symbols = λ k e. rw e refl; clock = λ e. refl; version = λ e. refl }
+    put true = record {
+      jobs = λ k e. refl;
+      consoles = λ c e. refl;
+      holders = λ c e. refl;
+      files = λ e. refl;
+      symbols = λ k e. rw e refl;
+      clock = λ e. refl;
+      version = λ e. refl;
+      links = refl;
+    }
     put false = tt
 
     go : (o : Option Whole) → PartsBy (record no_part { symbols = λ k. k == s }) m (symbol_kept_of m s (name, a) o)
@@ -185,7 +202,16 @@ symbol_parts m b s name a = go (m.jobs s)
     go None = tt
 
 files_parts : (m : Machine) (fs : List File) → OnlyParts file_part m (with_files m fs)
-files_parts m fs = record { jobs = λ k e. refl; consoles = λ c e. refl; holders = λ c e. refl; files = λ e. cc; symbols = λ k e. refl; clock = λ e. refl; version = λ e. refl }
+files_parts m fs = record {
+  jobs = λ k e. refl;
+  consoles = λ c e. refl;
+  holders = λ c e. refl;
+  files = λ e. cc;
+  symbols = λ k e. refl;
+  clock = λ e. refl;
+  version = λ e. refl;
+  links = refl;
+}
 
 made_parts : (m : Machine) (n : Names) → PartsBy file_part m (file_made m n)
 unfolding file_made
@@ -213,14 +239,32 @@ words_parts [] m n = only_same file_part m
 words_parts (w ∷ ws) m n = then_parts file_part m (word_added m n w) _ (added_parts m n w) (λ k. words_parts ws k n)
 
 one_console : (m : Machine) (c : ℕ) (y : Console) → OnlyParts (console_part c) m (record m { consoles = changed m.consoles c y })
-one_console m c y = record { jobs = λ k e. refl; consoles = λ d e. rw e refl; holders = λ d e. refl; files = λ e. refl; symbols = λ k e. refl; clock = λ e. refl; version = λ e. refl }
+one_console m c y = record {
+  jobs = λ k e. refl;
+  consoles = λ d e. rw e refl;
+  holders = λ d e. refl;
+  files = λ e. refl;
+  symbols = λ k e. refl;
+  clock = λ e. refl;
+  version = λ e. refl;
+  links = refl;
+}
 
 clock_parts : (m : Machine) (b : Block) (n : ℕ) → PartsOf (touched m b (events.Clock n)) m (Done (by_clock m b n (clocked m n)))
 unfolding clocked
 clock_parts m b n = go (nat_lt (m.clock + n) clock_end)
   where
     go : (before : Bool) → PartsOf (touched m b (events.Clock n)) m (Done (by_clock m b n (clocked_if m n before)))
-    go true = record { jobs = λ k e. rw e refl; consoles = λ c e. refl; holders = λ c e. refl; files = λ e. refl; symbols = λ k e. refl; clock = λ e. cc; version = λ e. refl }
+    go true = record {
+      jobs = λ k e. rw e refl;
+      consoles = λ c e. refl;
+      holders = λ c e. refl;
+      files = λ e. refl;
+      symbols = λ k e. refl;
+      clock = λ e. cc;
+      version = λ e. refl;
+      links = refl;
+    }
     go false = tt
 
 -- lines that only show something

@@ -1,5 +1,5 @@
--- A transcript as a walk that takes the rest of the session as a continuation: a form for proofs, which says the same as
--- the rules of `Transcript`, both ways. It computes by the events, the letters, the turns and what a line comes to.
+-- A transcript as a walk that takes the rest of the session as a continuation: a form for proofs, which says the same
+-- as the rules of `Transcript`, both ways. It computes by the events, the letters, the turns and the result of a line.
 use Rattle.std.specs.Prelude.{◌≡◌, ◌<◌, ℕ, zero, suc, ◌+◌, Option, Some, None, List, [], ◌∷◌, ◌++◌, length, refl}
 use Rattle.std.proofs.Common.{sym, ap, subst}
 use Rattle.its_word.specs.Item.{Item, Read, Unread, Beyond}
@@ -31,7 +31,7 @@ abbrev pub TurnsOn : ℕ → ℕ → Walk → ℕ → (Walk → ℕ → List Lin
 TurnsOn zero q v last next lines = next v last lines
 TurnsOn (suc n) q v last next lines = TurnBy q v (turn_after v.machine last) (λ w s rest. TurnsOn n q w s next rest) (next v last lines) lines
 
--- a line that comes to this
+-- a line with this result
 abbrev pub LinedOn : Walk → Lined → (Walk → List Line → Type 0) → List Line → Fate → Type 0
 LinedOn v (Done (Refuses r)) next lines fate = (lines ≡ Refused v.line r ∷ []) × (fate ≡ Lost)
 LinedOn v (Done (Does n out touched b)) next lines fate = (rest : List Line) × (lines ≡ out ++ rest) × next (next_line (walk_after v n touched b)) rest

@@ -3,7 +3,7 @@ use Rattle.std.specs.Prelude.{if◌then◌else◌, ◌≡◌, ◌<◌, ◌+◌, 
 use Rattle.std.proofs.Common.{◌∙◌, ap, arith}
 use Rattle.its_word.specs.Byte.{position, size, middle, pointer, has_size, increment_of}
 use Rattle.its_word.specs.Word.{right_of}
-use Rattle.its_plain.specs.CallTty.{next_pointer}
+use Rattle.its_plain.specs.Transfer.{next_pointer}
 
 sized_at : (p at y : ℕ) → y < 2 ^ 18 → size (pointer at (middle p) y) ≡ size p
 sized_at p at y l = omega arith

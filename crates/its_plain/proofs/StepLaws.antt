@@ -1,4 +1,4 @@
--- A step by its cases: what each case has, every step has; and what the step of a job is whose case is known.
+-- A step by its cases: what holds of each case holds of every step; and the step of a job whose case is known.
 use Rattle.std.specs.Prelude.{◌≡◌, ℕ, Bool, true, false, Option, Some, None, Result, Ok, Err, option_map, refl}
 use Rattle.std.proofs.Common.{◌∙◌, ap, subst}
 use Rattle.std.proofs.lemmas.Option.{same_Some}
@@ -7,7 +7,7 @@ use Rattle.its_word.specs.declared.access.Fault.{Fault}
 use Rattle.its_word.specs.declared.calls.Ask.{Ask}
 use Rattle.its_word.specs.declared.calls.Site.{Site}
 use Rattle.its_word.specs.declared.jobs.Job.{Job}
-use Rattle.its_plain.specs.Ask.{ask}
+use Rattle.its_plain.specs.Decode.{ask}
 use Rattle.its_plain.specs.CallStep.{Transition, alone, acted, decision, faulted, by_ask, becomes, by_unit, delivery, by_delivery, unless_stopped, transition_of, transition, step}
 use Rattle.its_plain.specs.Change.{in_job}
 use Rattle.its_plain.specs.Decide.{reach}
@@ -15,7 +15,7 @@ use Rattle.its_plain.specs.Interrupt.{deliverable, delivered}
 use Rattle.its_plain.specs.Machine.{Whole, Machine}
 use Rattle.its_plain.specs.Unit.{Outcome, Changed, Faulted, Called, unit}
 
--- this holds of a step, where there is one
+-- this holds of a step, if there is one
 abbrev pub AllOf : (Transition → Type 0) → Option Transition → Type 0
 AllOf P (Some t) = P t
 AllOf P None = Unit {0}

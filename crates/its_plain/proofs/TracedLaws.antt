@@ -1,4 +1,4 @@
--- What a read gives, and the places that it has read, one behind the other.
+-- What a read gives, and the places that it has read, one after the other.
 use Rattle.std.specs.Prelude.{◌≡◌, ℕ, List, [], ◌++◌, Err}
 use Rattle.std.proofs.Common.{sym, ap, append_assoc}
 use Rattle.std.proofs.lemmas.List.{append-nil}

@@ -18,7 +18,7 @@ use Rattle.its_plain.specs.UnitPlan.{Planned}
 use Rattle.its_word.specs.Stores.{first_fault, place, stored}
 use Rattle.its_plain.specs.Unit.{Outcome, Changed, Faulted, Called, left_by, made, outcome_of, outcome_at, done_by, reached, row_of, unit}
 
--- whether a page can be stored to, where it is present
+-- whether a page can be stored to, if it is present
 abbrev pub mark_at : Core → ℕ → Option Bool
 mark_at c n = option_map (λ p. p.writable) (page_of c n)
 
@@ -29,7 +29,7 @@ pub record SamePages (old new : Core) : Type 0 where
   pub marks : (n : ℕ) → mark_at new n ≡ mark_at old n
   pub count : pages_present new ≡ pages_present old
 
--- a job whose registers, but for PC, flags and pending word 1, are those of another
+-- a job whose registers, except for PC, flags and pending word 1, are those of another
 pub record SameRegisters (old new : Job) : Type 0 where
   pub stopped : new.stopped ≡ old.stopped
   pub pend2 : new.pend2 ≡ old.pend2
@@ -108,7 +108,7 @@ plan_keeps c j p = record {
   flags = named_twice p.flags;
 }
 
--- an outcome keeps what a unit keeps, where it is a change
+-- an outcome keeps what a unit keeps, if it is a change
 abbrev pub IsKept : Core → Job → Outcome → Type 0
 IsKept c j (Changed d k) = Keeps c j d k
 IsKept c j (Faulted f) = Unit {0}

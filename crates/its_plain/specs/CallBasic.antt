@@ -20,7 +20,7 @@ use Rattle.its_plain.specs.Interrupt.{dismissed}
 use Rattle.its_plain.specs.Job.{IOC, with_pending}
 use Rattle.its_plain.specs.Machine.{Chan, Shut, On, Whole}
 use Rattle.its_plain.specs.Own.{exit_of, advanced, variable_of, with_variable}
-use Rattle.its_plain.specs.View.{View}
+use Rattle.its_plain.specs.View.{View, Outline}
 use Rattle.its_plain.specs.Arguments.{input, has_input, place_of_input, is_shared}
 use Rattle.its_plain.specs.Tests.{Test, ◌⇒◌, first, finishes, fails, faults, goes, out}
 
@@ -63,7 +63,7 @@ sleep_tests v a n p =
 unfoldable pub sleep : View → Ask → Decision
 sleep v a = first (sleep_tests v a (input a 0) (place_of_input a 0)) (goes [] None (negated (v.clock + input a 0) ∷ []))
 
--- DISMIS p. PC, flags and deferrals come from the stack below the word at p, from each half of which 5 is taken
+-- DISMIS p. PC, flags and deferrals come from the stack below the word at p; 5 is taken from each half of that word
 abbrev pub popped : ℕ → ℕ
 popped w = pair_of (left_of w + (2 ^ 18 - 5)) (right_of w + (2 ^ 18 - 5))
 
@@ -89,6 +89,20 @@ is_oneself w = (w == 0o777777) || (w == 0o777777777777)
 
 abbrev pub channel_at : (ℕ → Chan) → ℕ → Chan
 channel_at channels n = if nat_lt n 16 then channels n else Shut
+
+-- whether a channel is closed
+abbrev pub is_shut : Chan → Bool
+is_shut Shut = true
+is_shut _ = false
+
+-- whether there is an outline, and job j is the superior of its job
+abbrev pub is_superior : ℕ → Option Outline → Bool
+is_superior j (Some o) = superior_is o.superior
+  where
+    superior_is : Option ℕ → Bool
+    superior_is (Some s) = s == j
+    superior_is None = false
+is_superior j None = false
 
 abbrev pub party_on : Chan → Party
 party_on Shut = Nobody

@@ -18,8 +18,8 @@ use Rattle.its_plain.specs.Change.{same_names}
 use Rattle.its_plain.specs.View.{View, Outline}
 use Rattle.its_plain.specs.Arguments.{input}
 use Rattle.its_plain.specs.Tests.{Test, ◌⇒◌, first, finishes, fails, goes, out}
-use Rattle.its_plain.specs.CallBasic.{channel_at, ioc}
-use Rattle.its_plain.specs.CallTty.{is_shut, iot_ends, store_tests, read_tests, word_of, siot_by, next_pointer}
+use Rattle.its_plain.specs.CallBasic.{channel_at, ioc, is_shut}
+use Rattle.its_plain.specs.Transfer.{iot_ends, store_tests, read_tests, word_of, siot_by, next_pointer}
 
 -- the device of files
 abbrev pub disk_device : ℕ

@@ -22,7 +22,7 @@ use Rattle.its_plain.specs.Own.{with_stores, with_registers, leave}
 use Rattle.its_plain.specs.Change.{in_job, effects}
 use Rattle.its_plain.specs.Moves.{Move, moves_of_all}
 use Rattle.its_plain.specs.Arguments.{input, debts, revalued}
-use Rattle.its_plain.specs.Ask.{ask}
+use Rattle.its_plain.specs.Decode.{ask}
 use Rattle.its_plain.specs.View.{view}
 use Rattle.its_plain.specs.Decide.{decided, target, reach}
 pub use Rattle.its_plain.specs.Footprint.{among}
@@ -152,7 +152,7 @@ disturbs_in None = []
 unfoldable pub disturbed : Machine → ℕ → ℕ → Bool
 disturbed m j k = among k (disturbs_in (transition m j))
 
--- a job stands in slot k of a machine, and none did before
+-- slot k has a job in the second machine, and had none in the first
 abbrev pub is_made : Machine → Machine → ℕ → Bool
 is_made m n k = not (is_some (m.jobs k)) && is_some (n.jobs k)
 

@@ -1,28 +1,23 @@
--- Calls on consoles: OPEN, `.IOT` and SIOT if they are on one; FINISH, LISTEN and TTYLND (docs/CALLS.md, "Consoles");
--- and the tests of SIOT, whatever its channel is on.
+-- Calls on consoles: OPEN, `.IOT` and SIOT if they are on one; FINISH, LISTEN and TTYLND (docs/CALLS.md, "Consoles").
 -- A promise rests on this.
-use Rattle.std.specs.Prelude.{if◌then◌else◌, ◌==◌, ◌||◌, ◌&&◌, ℕ, ◌-◌, ◌/◌, ◌%◌, ◌^◌, Bool, true, false, not, Option, Some, None, List, [], ◌∷◌, ◌++◌, nat_lt, is_some, length, slice_get, unwrap_or}
+use Rattle.std.specs.Prelude.{if◌then◌else◌, ◌==◌, ◌||◌, ◌&&◌, ℕ, ◌-◌, ◌%◌, ◌^◌, Bool, true, false, not, Option, Some, None, List, [], ◌∷◌, ◌++◌, nat_lt, is_some, length, slice_get, unwrap_or}
 use Rattle.its_word.specs.Word.{right_of}
-use Rattle.its_word.specs.Byte.{size, has_size, increment_of, load_of}
+use Rattle.its_word.specs.Byte.{load_of}
 use Rattle.its_word.specs.Console.{most_waiting}
-use Rattle.its_word.specs.Core.{Core, word_at, can_store}
-use Rattle.its_word.specs.declared.access.Fault.TheVariants.{Mpv, Wro}
 use Rattle.its_word.specs.declared.calls.Ask.{Ask}
-use Rattle.its_word.specs.declared.plan.Store.{Store}
-use Rattle.its_frame.specs.declared.change.Change.{Change}
 use Rattle.its_frame.specs.declared.change.Change.TheVariants as changes
 use Rattle.its_frame.specs.declared.change.Opened.{Opened}
 use Rattle.its_frame.specs.declared.change.Opened.TheVariants as opened
 use Rattle.its_frame.specs.declared.decision.Decision.{Decision}
-use Rattle.its_frame.specs.declared.decision.Decision.TheVariants.{Waits, Ends}
+use Rattle.its_frame.specs.declared.decision.Decision.TheVariants.{Waits}
 use Rattle.its_frame.specs.declared.decision.Wait.TheVariants.{Input, Output, Drained}
 use Rattle.its_frame.specs.Errors as error
 use Rattle.its_plain.specs.Machine.{Chan, Shut, TtyIn, TtyOut, On}
-use Rattle.its_plain.specs.Own.{exit_of, advanced}
-use Rattle.its_plain.specs.View.{View, Outline}
-use Rattle.its_plain.specs.Arguments.{input, place_of_input, in_footprint}
-use Rattle.its_plain.specs.Tests.{Test, ◌⇒◌, first, finishes, fails, faults, goes, out}
-use Rattle.its_plain.specs.CallBasic.{is_negative, read_only, shared_place, channel_at, Party, Oneself, Nobody, Channel, party}
+use Rattle.its_plain.specs.View.{View}
+use Rattle.its_plain.specs.Arguments.{input}
+use Rattle.its_plain.specs.Tests.{Test, ◌⇒◌, first, finishes, fails, goes, out}
+use Rattle.its_plain.specs.CallBasic.{channel_at, is_shut, is_superior, Party, Oneself, Nobody, Channel, party}
+use Rattle.its_plain.specs.Transfer.{iot_ends, read_tests, store_tests, word_of}
 
 -- the console of a job. A channel on a console is opened only if its job has one
 abbrev pub console_of : View → ℕ
@@ -60,10 +55,6 @@ shown_byte w = w % 2 ^ 7
 abbrev pub tty_device : ℕ
 tty_device = 0o646471000000
 
-abbrev pub is_shut : Chan → Bool
-is_shut Shut = true
-is_shut _ = false
-
 abbrev pub opens_on : ℕ → Opened
 opens_on control = if control == 1 then opened.TtyOut else opened.TtyIn
 
@@ -80,23 +71,7 @@ opens v a =
     first (open_tests v a (input a 0) (input a 1) (unwrap_or a.control 0))
     (finishes v (changes.Open (input a 0) (opens_on (unwrap_or a.control 0)) ∷ []) [])
 
--- the words that a transfer stores to or reads: MPV if one is absent, WRO if it is to be stored and is read only
-abbrev pub is_absent : Core → ℕ → Bool
-is_absent c p = not (is_some (word_at c p))
-
-abbrev pub store_tests : View → ℕ → List Test
-store_tests v p = is_absent v.own.core p ⇒ faults v Mpv ∷ not (can_store v.own.core p) ⇒ faults v Wro ∷ []
-
-abbrev pub read_tests : View → ℕ → List Test
-read_tests v p = is_absent v.own.core p ⇒ faults v Mpv ∷ []
-
-abbrev pub word_of : View → ℕ → ℕ
-word_of v p = unwrap_or (word_at v.own.core p) 0
-
--- `.IOT` of the word at E: one byte, right-justified. PC gains 1
-abbrev pub iot_ends : View → List Change → List Store → Decision
-iot_ends v cs ss = Ends (record { items = cs }) (record { items = ss }) (exit_of (advanced 1 v.own.job))
-
+-- `.IOT` of the word at E: one byte, right-justified
 abbrev pub iot_in : View → ℕ → ℕ → Decision
 iot_in v e c =
     first (store_tests v e ++ (input_waits v c ⇒ Waits (Input c) ∷ []))
@@ -107,31 +82,7 @@ iot_out v e c =
     first (read_tests v e ++ (output_waits v c ⇒ Waits (Output c) ∷ []))
     (iot_ends v (changes.Put c (shown_byte (word_of v e)) ∷ []) [])
 
--- SIOT channel, pointer, count: one byte; pointer and count become those of the rest. I and X, bits 13 to 17 of the
--- pointer, have to be 0
-abbrev pub is_indexed : ℕ → Bool
-is_indexed p = not (p / 2 ^ 18 % 2 ^ 5 == 0)
-
-abbrev pub next_pointer : ℕ → ℕ
-next_pointer p = unwrap_or (increment_of p) 0
-
--- a console moves bytes of any size; a file, a draft or an inferior moves whole words, of 36 bits; a file and an
--- inferior may be at their end
-abbrev pub word_bits : ℕ
-word_bits = 36
-
-abbrev pub siot_tests : View → Ask → ℕ → ℕ → Bool → Bool → List Test
-siot_tests v a p k words ended =
-    (shared_place a (place_of_input a 1) || shared_place a (place_of_input a 2)) ⇒ fails v a error.NO_WORD
-    ∷ (read_only v.own.core (place_of_input a 1) || read_only v.own.core (place_of_input a 2)) ⇒ faults v Wro
-    ∷ (not (has_size p) || is_indexed p) ⇒ fails v a error.BAD_POINTER
-    ∷ (words && not (size p == word_bits)) ⇒ fails v a error.BAD_POINTER
-    ∷ is_negative k ⇒ fails v a error.OUT_OF_RANGE
-    ∷ (k == 0) ⇒ finishes v [] []
-    ∷ ended ⇒ finishes v [] []
-    ∷ in_footprint (right_of (next_pointer p)) a ⇒ fails v a error.WORD_IN_USE
-    ∷ []
-
+-- SIOT channel, pointer, count: one byte
 abbrev pub siot_in : View → Ask → ℕ → ℕ → ℕ → Decision
 siot_in v a next k c =
     first (store_tests v (right_of next) ++ (input_waits v c ⇒ Waits (Input c) ∷ []))
@@ -141,9 +92,6 @@ abbrev pub siot_out : View → Ask → ℕ → ℕ → ℕ → Decision
 siot_out v a next k c =
     first (read_tests v (right_of next) ++ (output_waits v c ⇒ Waits (Output c) ∷ []))
     (goes (changes.Put c (shown_byte (load_of next (word_of v (right_of next)))) ∷ []) None (next ∷ (k - 1) ∷ []))
-
-abbrev pub siot_by : View → Ask → Bool → Bool → Decision → Decision
-siot_by v a words ended moves = first (siot_tests v a (input a 1) (input a 2) words ended) moves
 
 -- FINISH channel, and LISTEN channel: they wait until all output is drained; LISTEN gives the number of input bytes
 abbrev pub finish_on : View → Ask → Chan → Decision
@@ -169,14 +117,6 @@ listen v a = listen_on v a (channel_at v.own.channels (input a 0))
 
 -- TTYLND job: the job becomes the holder of the caller's console. The caller may take the console from nobody and
 -- from an inferior of its own; it may give it to an inferior if it holds it
-abbrev pub is_superior : ℕ → Option Outline → Bool
-is_superior j (Some o) = superior_is o.superior
-  where
-    superior_is : Option ℕ → Bool
-    superior_is (Some s) = s == j
-    superior_is None = false
-is_superior j None = false
-
 abbrev pub can_take : View → Option ℕ → Bool
 can_take v None = true
 can_take v (Some h) = (h == v.slot) || is_superior v.slot (v.outlines h)

@@ -18,8 +18,8 @@ use Rattle.its_plain.specs.Machine.{Chan, Shut, On, core_of}
 use Rattle.its_plain.specs.View.{View, Outline}
 use Rattle.its_plain.specs.Arguments.{input, has_input}
 use Rattle.its_plain.specs.Tests.{Test, ◌⇒◌, first, finishes, fails, goes, out}
-use Rattle.its_plain.specs.CallBasic.{channel_at, ioc}
-use Rattle.its_plain.specs.CallTty.{is_shut, is_superior, is_absent, iot_ends, store_tests, read_tests, word_of, siot_by, next_pointer}
+use Rattle.its_plain.specs.CallBasic.{channel_at, ioc, is_shut, is_superior}
+use Rattle.its_plain.specs.Transfer.{is_absent, iot_ends, store_tests, read_tests, word_of, siot_by, next_pointer}
 use Rattle.its_plain.specs.CallFile.{end_of_file, end_of_core}
 
 -- the device of inferiors

@@ -5,12 +5,14 @@ use Rattle.std.specs.Prelude.{if◌then◌else◌, ◌==◌, ◌||◌, ℕ, Bool
 use Rattle.its_word.specs.Core.{Page, no_core, zero_page, page_of, with_page, marked}
 pub use Rattle.its_word.specs.Directory.{same_names}
 use Rattle.its_word.specs.Directory.{without_names, with_changed, named}
+use Rattle.its_word.specs.Links.{with_end, is_alive, new_link, link_left}
+use Rattle.its_word.specs.declared.link.End.TheVariants.{Opened, Closed}
 use Rattle.its_word.specs.Tree.{fresh_job, is_below}
 use Rattle.its_word.specs.declared.plan.Store.{Store}
 use Rattle.its_frame.specs.declared.change.Change.{Change}
 use Rattle.its_frame.specs.declared.change.Change.TheVariants as changes
 use Rattle.its_plain.specs.Job.{INF, with_pending}
-use Rattle.its_plain.specs.Machine.{Symbol, Names, File, Chan, Shut, Writes, On, Whole, Console, Machine, changed, with_new, all_shut}
+use Rattle.its_plain.specs.Machine.{Symbol, Names, File, Pipe, Chan, Shut, Writes, On, Linked, Whole, Console, Machine, changed, with_new, all_shut}
 use Rattle.its_plain.specs.Own.{with_stores, with_registers, names_of, opened_on, at_position, with_word, on_channel, with_variable}
 
 -- the job of slot s changed, if there is one
@@ -54,6 +56,35 @@ put_to b c = record c { output = c.output ++ b ∷ [] }
 abbrev pub on_console : Machine → ℕ → (Console → Console) → Machine
 on_console m c f = record m { consoles = changed m.consoles c (f (m.consoles c)) }
 
+-- links: an end is opened, of the link that is there or else of a new one; an end is closed; a word is added, or the first
+-- is taken. A link stands as long as one of its ends is open, and is gone with its words after that
+abbrev pub link_or_new : ℕ → ℕ → Option Pipe → Pipe
+link_or_new x y (Some p) = p
+link_or_new x y None = record { link = new_link x y; words = [] }
+
+abbrev pub with_end_opened : Bool → ℕ → ℕ → Pipe → Pipe
+with_end_opened write j n p = record p { link = with_end write (Opened j n) p.link }
+
+abbrev pub standing_if : Bool → Pipe → Option Pipe
+standing_if true p = Some p
+standing_if false p = None
+
+abbrev pub if_alive : Pipe → Option Pipe
+if_alive p = standing_if (is_alive p.link) p
+
+abbrev pub end_closed : Bool → Option Pipe → Option Pipe
+end_closed write (Some p) = if_alive (record p { link = with_end write Closed p.link })
+end_closed write None = None
+
+abbrev pub with_sent : ℕ → Pipe → Pipe
+with_sent w p = record p { words = p.words ++ w ∷ [] }
+
+abbrev pub with_received : Pipe → Pipe
+with_received p = record p { words = rest_of p.words }
+
+abbrev pub on_link : Machine → ℕ → (Option Pipe → Option Pipe) → Machine
+on_link m l f = record m { links = changed m.links l (f (m.links l)) }
+
 -- the slot of the superior of each job
 abbrev pub superior_in : Option Whole → Option ℕ
 superior_in (Some q) = q.superior
@@ -63,7 +94,8 @@ abbrev pub superiors : Machine → ℕ → Option ℕ
 superiors m k = superior_in (m.jobs k)
 
 -- a removal: a job and all below it are gone, and their symbols with them; channels on them are closed; a console
--- that one of them held passes to the nearest superior that is not removed, else to nobody
+-- that one of them held passes to the nearest superior that is not removed, else to nobody; an end of a link that was
+-- open at one of them is closed
 abbrev pub is_gone : (ℕ → Option ℕ) → ℕ → ℕ → Bool
 is_gone sup r k = (k == r) || is_below sup r k
 
@@ -86,11 +118,16 @@ abbrev pub symbols_left : Bool → List Symbol → List Symbol
 symbols_left true ss = []
 symbols_left false ss = ss
 
+abbrev pub ends_left : (ℕ → Bool) → Option Pipe → Option Pipe
+ends_left gone (Some p) = if_alive (record p { link = link_left gone p.link })
+ends_left gone None = None
+
 unfoldable pub removed : (ℕ → Option ℕ) → ℕ → Machine → Machine
 removed sup r m = record m {
   jobs = λ k. left_job (is_gone sup r) (is_gone sup r k) (m.jobs k);
   holders = λ c. passed_on (is_gone sup r) (sup r) (m.holders c);
   symbols = λ k. symbols_left (is_gone sup r k) (m.symbols k);
+  links = λ l. ends_left (is_gone sup r) (m.links l);
 }
 
 -- an inferior as OPEN makes it: stopped, with no page, closed channels, no alarm and no symbols, and with its maker's
@@ -140,6 +177,11 @@ effect (changes.Make s u n) j m = with_new m s (inferior j (m.jobs j) u n)
 effect (changes.Remove s) j m = removed (superiors m) s m
 effect (changes.Inform s) j m = in_job m s with_inf
 effect (changes.Arm alarm) j m = in_job m j (with_alarm alarm)
+effect (changes.Join n l write x y) j m =
+    on_link (in_job m j (on_channel n (λ c. Linked l write))) l (λ o. Some (with_end_opened write j n (link_or_new x y o)))
+effect (changes.Part n l write) j m = on_link (in_job m j (on_channel n (λ c. Shut))) l (end_closed write)
+effect (changes.Send l w) j m = on_link m l (option_map (with_sent w))
+effect (changes.Receive l) j m = on_link m l (option_map with_received)
 effect (changes.Delete d x y) j m = record m { files = without_file (names_of d x y) m.files }
 effect (changes.Rename d x y u v) j m = record m { files = renamed (names_of d x y) u v m.files }
 

@@ -22,7 +22,7 @@ pub data Deed : Type 0 where
   Turns : ℕ → Deed
   Letter : ℕ → Pace → Deed
 
--- the machine that it finds, the dots of each slot, what a block of lines speaks of, the number of the line of the
+-- the machine that it finds, the dots of each slot, what a block of lines is about, the number of the line of the
 -- session, and what happens
 pub record Moment : Type 0 where
   pub machine : Machine
@@ -75,7 +75,7 @@ turned zero v last lines next = next v last lines
 turned (suc n) v last lines next =
     turned_by (turn_after v.machine last) v lines (λ w s rest. turned n w s rest next) (next v last lines)
 
--- a line of the session, from which on these lines are shown
+-- the run from a line of the session on, if these lines are shown from it on
 abbrev pub past : Walk → Event → Lined → List Line → (Walk → List Line → Course) → Course
 past v e (Done (Refuses r)) lines next = rests v
 past v e (Done (Does n out touched b)) lines next =
@@ -84,7 +84,7 @@ past v e (Done (Ticks s k)) lines next = paced v s (letters lines) (λ w. next w
 past v e (Done Quits) lines next = rests v
 past v e (Peeks s) lines next = next v (drop 1 lines)
 
--- the run of these events, which show these lines, from where a session stands on, after a turn of slot `last`
+-- the run of these events, which show these lines, from this state of a session on, after a turn of slot `last`
 abbrev pub course : Walk → ℕ → List Item → List Line → Course
 course v last [] lines = rests v
 course v last (Read e ∷ es) lines =

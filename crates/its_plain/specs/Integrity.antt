@@ -1,8 +1,8 @@
 -- Who may touch what: all that one step of the job of slot j can change (docs/MACHINE.md, "Who may touch what"). The
 -- policy is the tree of jobs: a job changes itself, and an inferior on which it has a channel with leave to write. What is
--- named nowhere below stays as it is.
+-- not named below is unchanged.
 -- A promise rests on this.
-use Rattle.std.specs.Prelude.{◌≡◌, ◌≢◌, ◌+◌, ◌==◌, ℕ, Bool, true, false, Option, Some, None, is_none, List, [], ◌∷◌}
+use Rattle.std.specs.Prelude.{◌≡◌, ◌≢◌, ◌+◌, ◌==◌, ℕ, Bool, true, false, Option, Some, None, is_none, option_map, [], ◌∷◌}
 use Rattle.its_word.specs.Core.{Page}
 use Rattle.its_word.specs.Tree.{is_below}
 use Rattle.its_word.specs.declared.session.Event.{Event}
@@ -10,15 +10,16 @@ use Rattle.its_word.specs.declared.session.Event.TheVariants as events
 use Rattle.its_frame.specs.declared.variable.Variable.{Variable}
 use Rattle.its_plain.specs.CallBasic.{by_superior}
 use Rattle.its_plain.specs.CallFile.{has_file, is_read}
+use Rattle.its_plain.specs.CallLink.{has_link_names, can_open}
 use Rattle.its_plain.specs.CallTty.{is_other}
-use Rattle.its_plain.specs.Change.{channel_in, superiors, console_in, filed, without_file, renamed, taken_from, put_to, is_gone, shut_on, inferior, with_page_at, protected, poke, with_inf}
-use Rattle.its_plain.specs.Machine.{Symbol, Names, File, Chan, Writes, On, Whole, Machine}
+use Rattle.its_plain.specs.Change.{channel_in, superiors, console_in, filed, without_file, renamed, taken_from, put_to, is_gone, shut_on, inferior, with_page_at, protected, poke, with_inf, link_or_new, with_end_opened, end_closed, with_sent, with_received, ends_left}
+use Rattle.its_plain.specs.Machine.{Names, File, Pipe, Shut, Writes, On, Linked, Whole, Machine}
 use Rattle.its_plain.specs.Operator.{Block}
 use Rattle.its_plain.specs.OperatorClock.{due}
 use Rattle.its_plain.specs.OperatorFiles.{channels_of}
 use Rattle.its_plain.specs.Own.{names_of, with_stores, with_registers, with_variable}
 
--- job j has leave to write in job k: it has a channel on it that was opened so
+-- job j has leave to write in job k: it has a channel on it that was opened with leave to write
 pub record MayWrite (m : Machine) (j k : ℕ) : Type 0 where
   pub channel : ℕ
   pub position : ℕ
@@ -51,9 +52,9 @@ pub data JobMay (m n : Machine) (j k : ℕ) : Type 0 where
   job_written : (q r : Whole) → MayWrite m j k → m.jobs k ≡ Some q → n.jobs k ≡ Some r → Written q r → JobMay m n j k
   -- j removes it
   job_removed : Removes m j k → n.jobs k ≡ None → JobMay m n j k
-  -- it is the superior of j, and INF is set in it, as j is stopped by a fatal bit
+  -- it is the superior of j, and INF is set in it, because j is stopped by a fatal bit
   superior_informed : (q : Whole) → superiors m j ≡ Some k → m.jobs k ≡ Some q → n.jobs k ≡ Some (with_inf q) → JobMay m n j k
-  -- it is the superior of j, and j is gone by LOGOUT: INF is set, and its channels on j are closed
+  -- it is the superior of j, and j logs out: INF is set in it, and its channels on j are closed
   superior_left : (q : Whole) → superiors m j ≡ Some k → m.jobs k ≡ Some q → n.jobs j ≡ None
       → n.jobs k ≡ Some (with_inf (shut_on (is_gone (superiors m) j) q)) → JobMay m n j k
   -- there was no job, and it is a new inferior of j, as OPEN makes one
@@ -76,7 +77,7 @@ pub data CanTake (m : Machine) (j c : ℕ) : Type 0 where
   from_itself : m.holders c ≡ Some j → CanTake m j c
   from_inferior : (h : ℕ) → m.holders c ≡ Some h → superiors m h ≡ Some j → CanTake m j c
 
--- what may become of the holder of a console, which changes by TTYLND or as its job is removed
+-- what may become of the holder of a console, which changes by TTYLND or when its job is removed
 pub data HolderMay (m n : Machine) (j c : ℕ) : Type 0 where
   holder_same : n.holders c ≡ m.holders c → HolderMay m n j c
   console_taken : console_in (m.jobs j) ≡ Some c → CanTake m j c → n.holders c ≡ Some j → HolderMay m n j c
@@ -96,6 +97,23 @@ pub data FilesMay (m n : Machine) (j : ℕ) : Type 0 where
   file_deleted : (x : Names) → IsUnread m x → n.files ≡ without_file x m.files → FilesMay m n j
   file_renamed : (d x y u v : ℕ) → IsUnread m (names_of d x y) → has_file (names_of d u v) m.files ≡ false → n.files ≡ renamed (names_of d x y) u v m.files → FilesMay m n j
 
+-- the link, if there is one, has these names
+abbrev pub IsNamed : ℕ → ℕ → Option Pipe → Type 0
+IsNamed x y (Some p) = has_link_names x y (Some p) ≡ true
+IsNamed x y None = Unit {0}
+
+-- what may become of link l: j opens an end of it that nobody has opened, at a channel of its that was closed, and makes the
+-- link if there is none; sends a word or receives the first, through its own channel on that end; closes its own end; or
+-- removes jobs at which ends of it are open
+pub data LinkMay (m n : Machine) (j l : ℕ) : Type 0 where
+  link_same : n.links l ≡ m.links l → LinkMay m n j l
+  end_opened : (channel x y : ℕ) (write : Bool) → channel_in (m.jobs j) channel ≡ Shut → can_open write (m.links l) ≡ true → IsNamed x y (m.links l)
+      → n.links l ≡ Some (with_end_opened write j channel (link_or_new x y (m.links l))) → LinkMay m n j l
+  word_sent : (channel w : ℕ) → channel_in (m.jobs j) channel ≡ Linked l true → n.links l ≡ option_map (with_sent w) (m.links l) → LinkMay m n j l
+  word_received : (channel : ℕ) → channel_in (m.jobs j) channel ≡ Linked l false → n.links l ≡ option_map with_received (m.links l) → LinkMay m n j l
+  end_shut : (channel : ℕ) (write : Bool) → channel_in (m.jobs j) channel ≡ Linked l write → n.links l ≡ end_closed write (m.links l) → LinkMay m n j l
+  ends_gone : (r : ℕ) → RemovesTree m j r → n.links l ≡ ends_left (is_gone (superiors m) r) (m.links l) → LinkMay m n j l
+
 -- the symbols of a job go with it, and a new job has none
 pub data SymbolsMay (m n : Machine) (j k : ℕ) : Type 0 where
   symbols_same : n.symbols k ≡ m.symbols k → SymbolsMay m n j k
@@ -109,6 +127,7 @@ pub record MayStep (m : Machine) (j : ℕ) (n : Machine) : Type 0 where
   pub holders : (c : ℕ) → HolderMay m n j c
   pub files : FilesMay m n j
   pub symbols : (k : ℕ) → SymbolsMay m n j k
+  pub links : (l : ℕ) → LinkMay m n j l
   pub clock : n.clock ≡ m.clock
   pub version : n.version ≡ m.version
 
@@ -117,8 +136,8 @@ pub record ReachesNobody (m : Machine) (j : ℕ) : Type 0 where
   pub channels : (n s position : ℕ) (write : Bool) → channel_in (m.jobs j) n ≢ On s write position
   pub inferiors : (k : ℕ) → is_below (superiors m) j k ≡ false
 
--- what such a job may do to another job k: nothing, but that its superior gets INF, and loses its channels on it as it
--- is gone; and a slot that has no job may get one
+-- what such a job may do to another job k: nothing, except that its superior gets INF, and loses its channels on the
+-- job when it is gone; and a slot that has no job may get one
 pub data OnlyTells (m n : Machine) (j k : ℕ) : Type 0 where
   tells_nothing : n.jobs k ≡ m.jobs k → OnlyTells m n j k
   tells_stop : (q : Whole) → superiors m j ≡ Some k → m.jobs k ≡ Some q → n.jobs k ≡ Some (with_inf q) → OnlyTells m n j k
@@ -178,7 +197,7 @@ touched m b (events.Stop s) = job_part s
 touched m b (events.Cont s) = job_part s
 touched m b _ = no_part
 
--- machine n is machine m but for these parts
+-- machine n is machine m except for these parts. No line changes a link
 pub record OnlyParts (p : Parts) (m n : Machine) : Type 0 where
   pub jobs : (k : ℕ) → p.jobs k ≡ false → n.jobs k ≡ m.jobs k
   pub consoles : (c : ℕ) → p.consoles c ≡ false → n.consoles c ≡ m.consoles c
@@ -187,3 +206,4 @@ pub record OnlyParts (p : Parts) (m n : Machine) : Type 0 where
   pub symbols : (k : ℕ) → p.symbols k ≡ false → n.symbols k ≡ m.symbols k
   pub clock : p.clock ≡ false → n.clock ≡ m.clock
   pub version : p.version ≡ false → n.version ≡ m.version
+  pub links : n.links ≡ m.links

@@ -11,7 +11,7 @@ use Rattle.its_print.specs.Printing as printed
 use Rattle.its_plain.specs.Machine.{Console, Machine}
 use Rattle.its_plain.specs.CallStep.{moves}
 use Rattle.its_plain.specs.Course.{Deed, Lines, Letter, Moment, Course, run_of}
-use Rattle.its_plain.specs.Moves.{Way, Inward, Outward, Move}
+use Rattle.its_plain.specs.Moves.{Way, Inward, Outward, Device, AtConsole, AtLink, Move}
 
 -- of the bytes of a TYPE line those that are not dropped
 abbrev pub taken_in : Console → List ℕ → List ℕ
@@ -29,6 +29,10 @@ typed_at c t = typed_doing t.deed
     typed_doing _ = []
 
 -- the bytes of the moves of a moment at a console, one way
+abbrev pub is_console : ℕ → Device → Bool
+is_console c (AtConsole d) = d == c
+is_console c (AtLink l) = false
+
 abbrev pub is_same : Way → Way → Bool
 is_same Inward Inward = true
 is_same Inward Outward = false
@@ -36,7 +40,7 @@ is_same Outward Inward = false
 is_same Outward Outward = true
 
 abbrev pub byte_of : ℕ → Way → Move → List ℕ
-byte_of c way v = if (v.console == c) && is_same v.way way then v.byte ∷ [] else []
+byte_of c way v = if is_console c v.device && is_same v.way way then v.byte ∷ [] else []
 
 abbrev pub moved_at : ℕ → Way → Moment → List ℕ
 moved_at c way t = moved_doing t.deed

@@ -14,15 +14,16 @@ pub mod Footprint
 pub mod Interrupt
 pub mod Own
 pub mod Change
-pub mod Ask
 pub mod Arguments
 pub mod View
 pub mod Tests
 pub mod CallBasic
 pub mod Decide
+pub mod Transfer
 pub mod CallTty
 pub mod CallFile
 pub mod CallUsr
+pub mod CallLink
 pub mod CallCore
 pub mod Moves
 pub mod CallDevice
@@ -42,6 +43,7 @@ pub mod OneByte
 pub mod Course
 pub mod Ledger
 pub mod Stretch
+pub mod LinkLedger
 pub mod Turns
 pub mod FewDots
 pub mod Fair

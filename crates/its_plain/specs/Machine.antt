@@ -1,5 +1,5 @@
--- The plain machine: its jobs by slot, consoles with their holders, a directory and a clock. No part of
--- it speaks of a call in progress.
+-- The plain machine: its jobs by slot, consoles with their holders, a directory, links and a clock. No part is about a
+-- call in progress.
 -- A promise rests on this.
 use Rattle.std.specs.Prelude.{if◌then◌else◌, ◌==◌, ℕ, zero, suc, ◌+◌, ◌%◌, ◌^◌, Bool, Option, Some, None, List, [], ◌∷◌}
 use Rattle.its_word.specs.Core.{Core, no_core, word_at, pages_mapped}
@@ -8,12 +8,14 @@ use Rattle.its_word.specs.declared.jobs.Job.{Job}
 pub use Rattle.its_word.specs.Console.{Console}
 -- the names of a file: its directory, name 1 and name 2, in this order. A file or a draft has its names and its words
 pub use Rattle.its_word.specs.Directory.{File}
+use Rattle.its_word.specs.declared.link.Link.{Link}
 
 abbrev pub Names : Type 0
 Names = List ℕ
 
 -- what a channel is on. One that reads has the names of its file and a position; one that writes has the draft
--- itself; one on an inferior has its slot, whether it may be written, and a position
+-- itself; one on an inferior has its slot, whether it may be written, and a position; one on a link has its number and
+-- whether it is at the writing end
 pub data Chan : Type 0 where
   Shut : Chan
   TtyIn : Chan
@@ -21,10 +23,16 @@ pub data Chan : Type 0 where
   Reads : Names → ℕ → Chan
   Writes : File → Chan
   On : ℕ → Bool → ℕ → Chan
+  Linked : ℕ → Bool → Chan
 
 -- a symbol: its name and its address
 abbrev pub Symbol : Type 0
 Symbol = ℕ × ℕ
+
+-- a link and the words that were sent through it and not received, in the order in which they came
+pub record Pipe : Type 0 where
+  pub link : Link
+  pub words : List ℕ
 
 -- a job: its core, its registers, the slot of its superior if it has one, its 16 channels, and its alarm if it has
 -- one, as a period and a next time. (The channels of its registers are the monitor's own, and are closed here)
@@ -36,8 +44,8 @@ pub record Whole : Type 0 where
   pub alarm : Option (ℕ × ℕ)
 
 -- jobs by slot, consoles and their holders by number, files in their order, the clock in thirtieths, the version of
--- the session text, 1 or 2, on which it depends how many jobs there can be, and the symbols of the job of each slot,
--- in the order in which they were kept
+-- the session text, 1 or 2, which determines how many jobs there can be, the symbols of the job of each slot, in the
+-- order in which they were kept, and the links by number
 pub record Machine : Type 0 where
   pub jobs : ℕ → Option Whole
   pub consoles : ℕ → Console
@@ -46,6 +54,7 @@ pub record Machine : Type 0 where
   pub clock : ℕ
   pub version : ℕ
   pub symbols : ℕ → List Symbol
+  pub links : ℕ → Option Pipe
 
 -- no channel is open
 abbrev pub all_shut : ℕ → Chan
@@ -61,7 +70,7 @@ whole c j superior = record { core = c; job = j; superior = superior; channels =
 -- a machine with these jobs, and else as at the start of a session
 abbrev pub with_jobs : (ℕ → Option Whole) → Machine
 with_jobs jobs =
-    record { jobs = jobs; consoles = λ _. no_bytes; holders = λ _. None; files = []; clock = 0; version = 1; symbols = λ _. [] }
+    record { jobs = jobs; consoles = λ _. no_bytes; holders = λ _. None; files = []; clock = 0; version = 1; symbols = λ _. []; links = λ _. None }
 
 -- the machine at the start of a session
 unfoldable pub no_machine : Machine

@@ -13,22 +13,26 @@ use Rattle.its_frame.specs.declared.decision.Decision.TheVariants.{Waits, Goes, 
 use Rattle.its_frame.specs.declared.decision.Held.{Held}
 use Rattle.its_frame.specs.declared.name.CallName.TheVariants.{Siot}
 use Rattle.its_plain.specs.Interrupt.{deliverable}
-use Rattle.its_plain.specs.Machine.{Chan, Shut, TtyIn, TtyOut, Reads, Writes, On, Whole, Machine}
+use Rattle.its_plain.specs.Machine.{Chan, Shut, TtyIn, TtyOut, Reads, Writes, On, Linked, Whole, Machine}
 use Rattle.its_plain.specs.Change.{in_job, effects}
 use Rattle.its_plain.specs.Arguments.{input, revalued}
 use Rattle.its_plain.specs.Footprint.{Stands}
 use Rattle.its_plain.specs.View.{View, view}
 use Rattle.its_plain.specs.CallBasic.{channel_at}
-use Rattle.its_plain.specs.CallTty.{console_of, shown_byte, next_pointer}
+use Rattle.its_plain.specs.CallTty.{console_of, shown_byte}
+use Rattle.its_plain.specs.Transfer.{next_pointer}
 use Rattle.its_plain.specs.CallFile.{words_of}
 use Rattle.its_plain.specs.CallUsr.{other_core}
+use Rattle.its_plain.specs.CallLink.{words_in}
 use Rattle.its_plain.specs.Decide.{call_named, target}
 use Rattle.its_plain.specs.CallStep.{moved, decision}
 
--- a byte or word that comes in: there is one, and it is for the word that the pointer names
-abbrev pub ComesIn : ℕ → Option ℕ → Option Held → Type 0
-ComesIn pointer (Some b) h = h ≡ Some (record { place = right_of pointer; byte = b })
-ComesIn pointer None h = ⊥
+-- a byte or word that comes in: there is one, these changes take it, and it is for the word that the pointer names
+pub record ComesIn (pointer : ℕ) (first : Option ℕ) (takes cs : List Change) (h : Option Held) : Type 0 where
+  pub byte : ℕ
+  pub there : first ≡ Some byte
+  pub taken : cs ≡ takes
+  pub held : h ≡ Some (record { place = right_of pointer; byte = byte })
 
 -- a byte that came in is in its word, which existed
 pub record Deposited (before after : Core) (pointer : ℕ) (b : Held) : Type 0 where
@@ -37,9 +41,11 @@ pub record Deposited (before after : Core) (pointer : ℕ) (b : Held) : Type 0 w
   pub is : word_at after b.place ≡ Some (deposit_of pointer word b.byte)
 
 -- a byte that goes out: the word that the pointer names is there, and these changes put the byte at the pointer in it
-abbrev pub GoesOut : ℕ → Option ℕ → (ℕ → List Change) → List Change → Option Held → Type 0
-GoesOut pointer (Some w) puts cs h = (cs ≡ puts (load_of pointer w)) × (h ≡ None)
-GoesOut pointer None puts cs h = ⊥
+pub record GoesOut (pointer : ℕ) (named : Option ℕ) (puts : ℕ → List Change) (cs : List Change) (h : Option Held) : Type 0 where
+  pub word : ℕ
+  pub there : named ≡ Some word
+  pub put : cs ≡ puts (load_of pointer word)
+  pub none_held : h ≡ None
 
 -- the word at a pointer, if it exists
 abbrev pub word_named : View → ℕ → Option ℕ
@@ -47,20 +53,23 @@ word_named v pointer = word_at v.own.core (right_of pointer)
 
 -- what is moved through channel n, by what the channel is on: from a console the first byte that waits, and from a
 -- file or an inferior the word at the channel's position; to a console the low 7 bits of the byte at the pointer, to
--- a draft that byte, and into an inferior also that byte, at the channel's position. A position is then one more.
--- Nothing is moved through a closed channel
+-- a draft that byte, and into an inferior also that byte, at the channel's position. A position is then one more. From a
+-- link the first of its words, and to a link the byte at the pointer. Nothing is moved through a closed channel
 abbrev pub Bears : View → ℕ → ℕ → Chan → List Change → Option Held → Type 0
 Bears v pointer n TtyIn cs h =
-    (cs ≡ changes.Take (console_of v) ∷ []) × ComesIn pointer (slice_get (v.consoles (console_of v)).input 0) h
+    ComesIn pointer (slice_get (v.consoles (console_of v)).input 0) (changes.Take (console_of v) ∷ []) cs h
 Bears v pointer n TtyOut cs h =
     GoesOut pointer (word_named v pointer) (λ b. changes.Put (console_of v) (shown_byte b) ∷ []) cs h
 Bears v pointer n (Reads names at) cs h =
-    (cs ≡ changes.Move n (at + 1) ∷ []) × ComesIn pointer (slice_get (words_of v names) at) h
+    ComesIn pointer (slice_get (words_of v names) at) (changes.Move n (at + 1) ∷ []) cs h
 Bears v pointer n (Writes f) cs h = GoesOut pointer (word_named v pointer) (λ b. changes.Append n b ∷ []) cs h
 Bears v pointer n (On s false at) cs h =
-    (cs ≡ changes.Move n (at + 1) ∷ []) × ComesIn pointer (word_at (other_core v) at) h
+    ComesIn pointer (word_at (other_core v) at) (changes.Move n (at + 1) ∷ []) cs h
 Bears v pointer n (On s true at) cs h =
     GoesOut pointer (word_named v pointer) (λ b. changes.Poke s at b ∷ changes.Move n (at + 1) ∷ []) cs h
+Bears v pointer n (Linked l false) cs h =
+    ComesIn pointer (slice_get (words_in (v.links l)) 0) (changes.Receive l ∷ []) cs h
+Bears v pointer n (Linked l true) cs h = GoesOut pointer (word_named v pointer) (λ b. changes.Send l b ∷ []) cs h
 Bears v pointer n Shut cs h = ⊥
 
 -- the rest of a transfer: its pointer is incremented, and its count is one less

@@ -6,7 +6,7 @@ use Rattle.its_word.specs.declared.session.Reason.{Reason}
 use Rattle.its_plain.specs.Machine.{Names, Machine}
 use Rattle.its_plain.specs.Own.{names_of}
 
--- what a block of lines speaks of: the slot of the job that the last LOAD line made, and the names of the file that the
+-- what a block of lines is about: the slot of the job that the last LOAD line made, and the names of the file that the
 -- last FILE line made
 pub record Block : Type 0 where
   pub slot : ℕ

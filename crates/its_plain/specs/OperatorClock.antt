@@ -33,7 +33,7 @@ rung_if c false o = o
 abbrev pub at_clock : ℕ → Machine → Machine
 at_clock c m = record m { jobs = λ k. rung_if c (due c m.jobs k) (m.jobs k); clock = c }
 
--- CLOCK: the clock gains n, and stays below 2 ^ 34
+-- CLOCK: the clock gains n, and remains below 2 ^ 34
 abbrev pub clock_end : ℕ
 clock_end = 0o200000000000
 

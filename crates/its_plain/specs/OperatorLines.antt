@@ -79,7 +79,7 @@ operate m b (Dir d) = Does m (listing d (files_in d m.files)) nobody b
 operate m b (Show d x y) = shows m b (file_shown m d x y)
 operate m b End = Quits
 
--- PEEK shows how far a job is inside a call, of which the plain machine knows nothing: it is passed over
+-- PEEK shows how far a job is inside a call. The plain machine has no calls in progress, so the line is passed over
 pub data Lined : Type 0 where
   Done : Operated → Lined
   Peeks : ℕ → Lined

@@ -12,7 +12,7 @@ use Rattle.its_frame.specs.declared.change.Opened.TheVariants as opened
 use Rattle.its_frame.specs.declared.variable.Variable.{Variable}
 use Rattle.its_frame.specs.declared.variable.Variable.TheVariants.{Uname, Jname, Uind, Suppro, Cnsl, Pages, Upc, Ustp, Pirqc, Ifpir, Mask, Msk2, Df1, Df2}
 use Rattle.its_plain.specs.Job.{pc_word, flags_of}
-use Rattle.its_plain.specs.Machine.{Names, Chan, Shut, TtyIn, TtyOut, Reads, Writes, On, Whole, changed}
+use Rattle.its_plain.specs.Machine.{Names, Chan, Shut, TtyIn, TtyOut, Reads, Writes, On, Linked, Whole, changed}
 use Rattle.its_word.specs.Stores.{stored}
 use Rattle.its_plain.specs.UnitPlan.{without}
 
@@ -76,6 +76,7 @@ at_position at Shut = Shut
 at_position at TtyIn = TtyIn
 at_position at TtyOut = TtyOut
 at_position at (Writes f) = Writes f
+at_position at (Linked l write) = Linked l write
 
 -- a draft with one more word
 abbrev pub with_word : ℕ → Chan → Chan
@@ -85,6 +86,7 @@ with_word w TtyIn = TtyIn
 with_word w TtyOut = TtyOut
 with_word w (Reads f p) = Reads f p
 with_word w (On s write p) = On s write p
+with_word w (Linked l write) = Linked l write
 
 abbrev pub on_channel : ℕ → (Chan → Chan) → Whole → Whole
 on_channel n f q = record q { channels = changed q.channels n (f (q.channels n)) }

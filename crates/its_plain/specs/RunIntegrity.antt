@@ -17,7 +17,7 @@ use Rattle.its_plain.specs.Stretch.{machine_at, Section, end_of, begin_of}
 
 -- what happens at a moment of a run leads from machine m to machine n, and changes only what it may: a `*` what a step
 -- may, a line what a line may, a turn and any other letter nothing. The step of a job that reaches nobody changes no other
--- job, but for what it tells its superior
+-- job, except what it reports to its superior
 pub record OwnStep (m : Machine) (j : ℕ) (n : Machine) : Type 0 where
   pub may : MayStep m j n
   pub stranger : ReachesNobody m j → (k : ℕ) → k ≢ j → OnlyTells m n j k
@@ -41,8 +41,8 @@ abbrev pub ReadsOn : ℕ → ℕ → Names → List Moment → Type 0
 ReadsOn k n names [] = Unit {0}
 ReadsOn k n names (t ∷ ts) = IsReader t.machine k n names × ReadsOn k n names ts
 
--- and the operator adds no words to it by a `/` line. (In a session such lines come only behind the FILE line that made the
--- file, before any job has a turn)
+-- and the operator adds no words to it by a `/` line. (In a session such lines come only after the FILE line that made
+-- the file, before any job has a turn)
 abbrev pub IsSpared : Names → Block → Deed → Type 0
 IsSpared names b (Lines (events.Append words)) = same_names names b.file ≡ false
 IsSpared names b _ = Unit {0}

@@ -12,7 +12,7 @@ use Rattle.its_frame.specs.declared.decision.Held.{Held}
 use Rattle.its_frame.specs.declared.name.CallName.TheVariants.{Siot}
 use Rattle.its_plain.specs.Arguments.{input, place_of_input}
 use Rattle.its_plain.specs.CallStep.{steps_on}
-use Rattle.its_plain.specs.CallTty.{next_pointer}
+use Rattle.its_plain.specs.Transfer.{next_pointer}
 use Rattle.its_plain.specs.Course.{Deed, Letter, Moment, Course, run_of}
 use Rattle.its_plain.specs.Decide.{call_named}
 use Rattle.its_plain.specs.Footprint.{Stands}
@@ -36,7 +36,7 @@ is_own j (Letter i Step) = i == j
 is_own j _ = false
 
 -- a stretch of a run: each moment is a step of the job of slot j that is a part of its call, or leaves its core and its
--- PC as they are. Lines and steps of others may do what they like to all else
+-- PC as they are. Lines and steps of others may change everything else
 abbrev pub Fits : Bool → ℕ → Machine → Machine → Type 0
 Fits true j m n = steps_on m j ≡ true
 Fits false j m n = Untouched (m.jobs j) (n.jobs j)

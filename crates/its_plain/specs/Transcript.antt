@@ -1,4 +1,4 @@
--- The transcript of a session: which lines the plain machine shows of which events, by one rule for each kind of event
+-- The transcript of a session: which lines the plain machine shows for which events, by one rule for each kind of event
 -- (docs/MACHINE.md, "The transcript").
 -- A promise rests on this.
 use Rattle.std.specs.Prelude.{◌≡◌, ◌<◌, ℕ, suc, ◌+◌, Bool, Some, None, List, [], ◌∷◌, ◌++◌, length}
@@ -74,8 +74,8 @@ pub data Turned (q : ℕ) : ℕ → Walk → ℕ → List Line → Walk → ℕ 
 abbrev pub Comes : Walk → Event → Lined → Type 0
 Comes v e o = lined v.machine v.block e ≡ o
 
--- from where a session stands on, after a turn of slot `last`: these events show these lines, no more and no fewer, and
--- the session ends so
+-- from this state of a session on, after a turn of slot `last`: these events show these lines, no more and no fewer,
+-- and this is the end of the session
 pub data Shows : Walk → ℕ → List Item → List Line → Fate → Type 0 where
   -- END
   end_line : {v : Walk} {last : ℕ} {e : Event} {es : List Item}
@@ -113,6 +113,6 @@ pub data Shows : Walk → ℕ → List Item → List Line → Fate → Type 0 wh
       → Shows (next_line v) last es rest fate
       → Shows v last (Read e ∷ es) (printed.Peeked i peek ∷ rest) fate
 
--- these lines are a transcript of a session of these events, which ends so
+-- these lines are a transcript of a session of these events, which has this end
 abbrev pub Transcript : List Item → List Line → Fate → Type 0
 Transcript es lines fate = Shows at_start highest es lines fate

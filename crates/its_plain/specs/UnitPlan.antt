@@ -1,5 +1,5 @@
--- What the rows of the instruction tables share: reading, from where the modes take words and to where they go, and
--- what an instruction that completes does. A row gives a plan, or the first fault of what it reads.
+-- What the rows of the instruction tables share: reading, the sources and destinations of the modes, and what an
+-- instruction that completes does. A row gives a plan, or the first fault of what it reads.
 -- A promise rests on this.
 use Rattle.std.specs.Prelude.{if◌then◌else◌, ◌==◌, ◌<◌, ◌≤◌, ℕ, ◌+◌, ◌-◌, ◌^◌, ◌%◌, Bool, true, false, List, [], ◌∷◌, Result, Ok, Err, ok_or, bit_and, bit_or}
 use Rattle.its_word.specs.Word.{left_of, right_of, pair_of}

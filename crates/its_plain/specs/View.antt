@@ -2,7 +2,7 @@
 -- superiors and channels, what all jobs share, and how many jobs there can be.
 -- A promise rests on this.
 use Rattle.std.specs.Prelude.{ℕ, Option, Some, None, List, option_map}
-use Rattle.its_plain.specs.Machine.{Chan, File, Console, Whole, Machine, mapped, limit}
+use Rattle.its_plain.specs.Machine.{Chan, File, Console, Pipe, Whole, Machine, mapped, limit}
 
 pub record Outline : Type 0 where
   pub uname : ℕ
@@ -21,6 +21,7 @@ pub record View : Type 0 where
   pub files : List File
   pub clock : ℕ
   pub limit : ℕ
+  pub links : ℕ → Option Pipe
 
 abbrev pub outline : Whole → Outline
 outline q = record { uname = q.job.uname; jname = q.job.jname; superior = q.superior; channels = q.channels }
@@ -42,4 +43,5 @@ view m j q target = record {
   files = m.files;
   clock = m.clock;
   limit = limit m;
+  links = m.links;
 }

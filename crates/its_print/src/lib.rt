@@ -1,5 +1,7 @@
 //! The lines of a transcript (docs/SESSION.md): each call writes one line with its LF into an empty
 //! `out`, which always has room. None takes memory.
+//!
+//! Proved: each call writes exactly its line, and no line has more than 1543 bytes (`longest_line`).
 #![tactic(auto)]
 
 mod lines;

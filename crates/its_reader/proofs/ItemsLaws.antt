@@ -35,7 +35,7 @@ facing_map : (b : Bool) (P Q : Bool → List ℕ → Type 0) → ((whole : Bool)
 facing_map false P Q f p = λ whole more. f whole more (p whole more)
 facing_map true P Q f p = f true [] p
 
--- what holds where the bytes are all of the source
+-- what holds if the bytes are all of the source
 facing_whole : (b : Bool) (P Q : Bool → List ℕ → Type 0) → ((whole : Bool) (more : List ℕ) → P true more → Q whole more) → Facing b P → Facing b Q
 facing_whole false P Q f p = λ whole more. f whole more (p true more)
 facing_whole true P Q f p = f true [] p
@@ -326,7 +326,7 @@ ended_broken x es old new left mid rest s t = record {
   out = tt;
 }
 
--- whatever was found, what comes behind it is all that is left
+-- whatever was found, what comes after it is all that is left
 last_behind : (f : Found) (es : List Item) (left : Option (List ℕ)) (read : List ℕ) → IfSome left (λ bytes. AllFound (Ok f) es bytes read) → IfSome left (λ bytes. Behind f es bytes)
 last_behind f es None read a = tt
 last_behind f es (Some bytes) read a = record { tail = []; all = a ∙ ap (λ x. es ++ x) (sym (append-nil (last_items f))); last = λ e. refl }

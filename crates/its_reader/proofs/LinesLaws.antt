@@ -59,7 +59,7 @@ some line (c ∷ cs) b = elim (cases_Bool (b == 10)) [
 pub so_start : (r : Lines) (left : Option (List ℕ)) → r.line.items ≡ [] → LineSo r r left left
 so_start r left e = record { read = []; consumed = Consumes-nil left; so_far = λ whole more. ap (λ l. lines_from whole l (pending r.buffer ++ more)) (sym e) }
 
--- a byte behind it
+-- a byte after it
 byte : (old now : Lines) (buffer : Buffer) (b : ℕ) (left mid rest : Option (List ℕ)) (s : LineSo old now left mid) (t : Taken (Some b) now.buffer buffer mid rest) (whole : Bool) (more : List ℕ)
     → ahead whole old ((s.read ++ t.read) ++ more) ≡ lines_from whole now.line.items (b ∷ (pending buffer ++ more))
 byte old now buffer b left mid rest s t whole more =
@@ -164,7 +164,7 @@ limits_by lines (line ∷ []) bytes is short few opened =
     }
 limits_by lines (line ∷ (next ∷ more)) bytes is short few opened = absurd opened
 
--- behind the end there is nothing
+-- after the end there is nothing
 pub reads_ended : (old new : Lines) (left : Option (List ℕ)) → Ready old left → old.ended ≡ true → new.ended ≡ true → Reads (Ok End) old new left left
 reads_ended old new left r e f = record {
   read = [];
@@ -188,7 +188,7 @@ reads_from result old start new left rest e f r = record {
   next = by_start result old start new r.read e f r.next;
 }
 
--- the loop stands ready where it leaves
+-- the loop leaves its state ready
 pub ready_open : (r : Lines) (left : Option (List ℕ)) → Fits r.buffer → r.ended ≡ false → Ready r left
 ready_open r left f e = record { fits = f; over = λ x. absurd (let k : false ≡ true = sym e ∙ x in cc) }
 

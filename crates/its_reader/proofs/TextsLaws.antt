@@ -30,7 +30,7 @@ ends (c ∷ cs) rest b h is =
     let other : (c == 10) ≡ false = not-true (c == 10) both.0 in
     rw (ends cs rest b both.1 is, other) refl
 
--- some bytes without LF are a line, where none follow
+-- some bytes without LF are a line, if none follow
 only : (c : ℕ) (cs : List ℕ) → list_all is_inside (c ∷ cs) ≡ true → lines_in (c ∷ cs) ≡ (c ∷ cs) ∷ []
 unfolding lines_in
 only c [] h = refl
@@ -82,7 +82,7 @@ so_start r left e = record {
   inside = rw e refl;
 }
 
--- a byte behind it
+-- a byte after it
 byte : (old now : Texts) (buffer : Buffer) (b : ℕ) (left mid rest : Option (List ℕ)) (s : TextSo old now left mid) (t : Taken (Some b) now.buffer buffer mid rest) (more : List ℕ)
     → texts_ahead old ((s.read ++ t.read) ++ more) ≡ lines_in (now.text.items ++ b ∷ (pending buffer ++ more))
 byte old now buffer b left mid rest s t more =
@@ -199,7 +199,7 @@ reads_broken e old now new left mid rest runs short few s b =
       next = (runs, subst (λ lines. OpenedText new.most lines new.number) (sym all) (opened new.most new.number now.text.items s.inside short few));
     }
 
--- behind the end there is nothing
+-- after the end there is nothing
 pub reads_ended : (old new : Texts) (left : Option (List ℕ)) → ReadyTexts old left → old.ended ≡ true → new.ended ≡ true → ReadsText (Ok End) old new left left
 unfolding lines_in
 reads_ended old new left r e f = record {
@@ -228,7 +228,7 @@ reads_from result old start new left rest e f r = record {
   next = by_start result old start new r.read e f r.next;
 }
 
--- the loop stands ready where it leaves
+-- the loop leaves its state ready
 pub ready_open : (r : Texts) (left : Option (List ℕ)) → Fits r.buffer → r.ended ≡ false → ReadyTexts r left
 ready_open r left f e = record { fits = f; over = λ x. absurd (false≢true (sym e ∙ x)) }
 

@@ -68,7 +68,7 @@ unfolding first_running
 first_none runs zero k h i a b = absurd (omega arith)
 first_none runs (suc n) k h i a b = none_by runs n k (runs k) refl h (first_none runs n (k + 1)) i a b
 
--- the turn: of a slot behind the last one, where one runs
+-- the turn: of a slot after the last one, if one runs
 pub turn_behind : (runs : ℕ → Bool) (n last s : ℕ) → first_running runs (n - (last + 1)) (last + 1) ≡ Some s → robin n runs last ≡ Some s
 unfolding robin
 turn_behind runs n last s h = rw h refl
@@ -78,7 +78,7 @@ pub turn_around : (runs : ℕ → Bool) (n last : ℕ) → first_running runs (n
 unfolding robin
 turn_around runs n last h = rw h refl
 
--- the way to a slot behind the last one, and to one up to it
+-- the way to a slot after the last one, and to one up to it
 between_behind : (n last s : ℕ) → last < s → between n last s ≡ s - (last + 1)
 between_behind n last s l = rw (lt-ltb last s l) refl
 
@@ -132,7 +132,7 @@ all_rest xs last behind around k = elim (cases_lt k (length xs)) [
   ]
 ]
 
--- the turn where none behind the last one runs
+-- the turn if none after the last one runs
 pub around_is : (xs : List Bool) (last m : ℕ) (o : Option ℕ) → last < length xs → m ≡ last + 1
     → first_running (λ k. slice_index_or xs k false) (length xs - (last + 1)) (last + 1) ≡ None
     → o ≡ first_running (λ k. slice_index_or xs k false) m 0 → Turn (length xs) (λ k. slice_index_or xs k false) last o

@@ -1,4 +1,7 @@
 //! Turns in a circle of slots: whose turn comes after that of the last slot.
+//!
+//! Proved: `next` is the first slot that runs after the slot of the last turn, around the circle (`turn`). This is the
+//! nearest one on that way, and it is None exactly if no slot runs (`nearest`).
 #![tactic(auto)]
 
 #[cfg(test)]

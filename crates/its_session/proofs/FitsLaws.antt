@@ -71,12 +71,12 @@ met fields d e h = go (list_all (λ f. f.formed) fields) (list_all (λ f. f.rang
     go true false c x y z h = cc
     go false b c x y z h = cc
 
--- an event that was read fits the table, and its line stands at a place
+-- an event that was read fits the table, and its line is allowed at its place
 record ReadAt (v : ℕ) (place : Place) (e : Event) : Type 0 where
   pub fits : EventFits v e
   pub at : place_of e ≡ place
 
--- an event fits where its fields are met
+-- an event fits if its fields are met
 fits_by : (v : ℕ) (fields : List Field) (d e : Event) → (AllMet fields → EventFits v d) → with_fields fields d ≡ Ok e → ReadAt v (place_of d) e
 fits_by v fields d e fits h = let m = met fields d e h in subst (ReadAt v (place_of d)) m.1 (record { fits = fits m.0; at = refl })
 
@@ -272,7 +272,7 @@ unfolding symbol_line
 symbol_fits v (x ∷ a ∷ []) e h = fits_by v (name x ∷ address a ∷ []) (events.Symbol (sixbit_of x) (octal_value a)) e (λ f. (is_name_word x f.0, is_address a f.1.0)) h
 symbol_fits v _ e h = cc
 
--- an event whose place is this one stands there
+-- an event whose place is this one is allowed there
 stands_by : (place : Place) (e : Event) → is_at place (place_of e) ≡ true → Stands place e
 stands_by place events.Nothing h = tt
 stands_by place _ h = h

@@ -71,7 +71,7 @@ word_reads w below =
       short = omega (arith, length-octal12 w);
     }
 
--- the digits of an address are the last six of its word, before which stand zeros
+-- the digits of an address are the last six of its word, before which are zeros
 length-octal6 : (a : ℕ) → length (octal6_of a) ≡ 6
 unfolding octal6_of
 length-octal6 a = refl

@@ -47,7 +47,7 @@ EventFits v (events.Dir d) = IsNameWord d
 EventFits v (events.Show d x y) = IsNameWord d × IsNameWord x × IsNameWord y
 EventFits v events.End = Unit {0}
 
--- where an event's line may occur; an empty line may occur anywhere
+-- the place in which an event's line may occur; an empty line may occur anywhere
 abbrev pub place_of : Event → Place
 place_of (events.Version w) = places.First
 place_of (events.ReadOnly p) = places.Load

@@ -228,7 +228,7 @@ kind_of w =
     else (if is_place w then Some kinds.Words
     else None))))))))))))))))))))))))
 
--- where each kind of line may occur: in line 1, after LOAD until GO, after FILE until EOF, or elsewhere
+-- the place in which each kind of line may occur: line 1, after LOAD until GO, after FILE until EOF, or elsewhere
 abbrev pub place_of_kind : Kind → Place
 place_of_kind kinds.Version = places.First
 place_of_kind kinds.Words = places.Load

@@ -1,4 +1,4 @@
-//! The kinds of line, and where each may occur.
+//! The kinds of line, and the place in which each may occur.
 ghost use Rattle.std.specs.Prelude.{◌≡◌, bytes_eq};
 ghost use Rattle.its_session.specs.Grammar.{before_slash, is_at, is_place, kind_of, may_stand, place_of_kind, version_of_kind};
 
@@ -122,7 +122,7 @@ pub fn before_slash(first: &[u8]) -> &[u8]
     }
 }
 
-/// Where a line of this kind occurs.
+/// The place in which a line of this kind occurs.
 fn place_of_kind(kind: Kind) -> Place
     ensures { result ≡ place_of_kind kind }
 {

@@ -15,10 +15,10 @@ use Rattle.its_frame.specs.declared.decision.Decision.{Decision}
 use Rattle.its_frame.specs.declared.decision.Decision.TheVariants.{Waits, Goes, Ends, Gone}
 use Rattle.its_frame.specs.declared.decision.Held.{Held}
 use Rattle.its_frame.specs.declared.variable.Variable.{Variable}
-use Rattle.its_frame.specs.declared.variable.Variable.TheVariants.{Uname, Jname, Uind, Suppro, Cnsl, Pages, Upc, Ustp, Pirqc, Ifpir, Mask, Msk2, Df1, Df2}
+use Rattle.its_frame.specs.declared.variable.Variable.TheVariants.{Upc}
 use Rattle.its_plain.specs.Arguments.{input, has_input, place_of_input, revalued}
 use Rattle.its_frame.specs.Variables.{variable_named}
-use Rattle.its_plain.specs.CallBasic.{dismissed_by, dismiss_at, dismiss, Party, Oneself, Nobody, Channel, by_oneself, by_superior, set_own, own_variable, set_other, value_of_other, other_variable, usrvar_of, channel_at, party, usrvar}
+use Rattle.its_plain.specs.CallBasic.{dismissed_by, dismiss_at, dismiss, Party, Oneself, Channel, by_oneself, by_superior, set_own, own_variable, set_other, value_of_other, other_variable, usrvar_of, channel_at, party, usrvar}
 use Rattle.its_plain.specs.CallTty.{console_of, has_console, can_take, is_holder, lands, ttylnd_of, ttylnd}
 use Rattle.its_plain.specs.CallStep.{with_held, acted, decision, informs, step}
 use Rattle.its_plain.specs.CallUsr.{inferior_named, any_named, makes_job, opens_job, usr_tests, opens_usr, uclose_on, uclose}
@@ -26,7 +26,7 @@ use Rattle.its_plain.specs.Change.{in_job, is_gone, left_job, removed, superiors
 use Rattle.its_plain.specs.Decide.{call_named, decided_by, decided, target, reach}
 use Rattle.its_plain.specs.Interrupt as interrupt
 use Rattle.its_plain.specs.Interrupt.{delivered, dismissed, dismissed_at, below}
-use Rattle.its_plain.specs.Machine.{Chan, Shut, TtyIn, TtyOut, Reads, Writes, On, Whole, Machine, changed, no_machine, with_new}
+use Rattle.its_plain.specs.Machine.{Chan, Shut, On, Linked, Whole, Machine, no_machine, with_new}
 use Rattle.its_plain.specs.Own.{on_channel, with_variable, advanced}
 use Rattle.its_plain.specs.Tests.{◌⇒◌, finishes, fails, out}
 use Rattle.its_plain.specs.Unit.{Changed, unit}
@@ -102,6 +102,11 @@ effect_addressed (changes.Protect s k on) j m a = job_addressed m s _ (λ q x. x
 effect_addressed (changes.Make s u n) j m a = made_addressed m j s u n a
 effect_addressed (changes.Remove s) j m a = removed_addressed (superiors m) s m a
 effect_addressed (changes.Inform s) j m a = job_addressed m s _ (λ q x. x) a
+effect_addressed (changes.Join n l write x y) j m a =
+    jobs_addressed (in_job m j (on_channel n (λ c. Linked l write))) _ refl (job_addressed m j _ (λ q x. x) a)
+effect_addressed (changes.Part n l write) j m a = jobs_addressed (in_job m j (on_channel n (λ c. Shut))) _ refl (job_addressed m j _ (λ q x. x) a)
+effect_addressed (changes.Send l w) j m a = jobs_addressed m _ refl a
+effect_addressed (changes.Receive l) j m a = jobs_addressed m _ refl a
 effect_addressed (changes.Delete x y z) j m a = jobs_addressed m _ refl a
 effect_addressed (changes.Rename x y z u v) j m a = jobs_addressed m _ refl a
 effect_addressed _ j m a = job_addressed m j _ (λ q x. x) a
@@ -185,7 +190,7 @@ ways_leave x a h = record {
   failing = λ k. advanced_addressed 1 x.own.job;
   faulting = λ f. h;
   stuck = advanced_addressed 1 x.own.job;
-  opening = λ t b. advanced_addressed 2 x.own.job;
+  opening = λ t f b. advanced_addressed 2 x.own.job;
   arming = λ n t. advanced_addressed 2 x.own.job;
   ending = λ cs ss t. advanced_addressed 2 x.own.job;
   moved = λ cs ss t. advanced_addressed 1 x.own.job;

@@ -18,7 +18,7 @@ use Rattle.its_plain.specs.CallStep.{with_held, acted, decision, informs, step}
 use Rattle.its_plain.specs.Change.{in_job, is_gone, left_job, removed, superiors, inferior, with_alarm, effect, effects}
 use Rattle.its_plain.specs.Decide.{reach}
 use Rattle.its_plain.specs.Interrupt.{delivered}
-use Rattle.its_plain.specs.Machine.{Shut, Whole, Machine, changed, no_machine, with_new}
+use Rattle.its_plain.specs.Machine.{Shut, Linked, Whole, Machine, no_machine, with_new}
 use Rattle.its_plain.specs.Operator.{Block, Does}
 use Rattle.its_plain.specs.OperatorLines.{Done, lined}
 use Rattle.its_plain.specs.Alarm.{is_due, time_after, renewed}
@@ -93,6 +93,9 @@ effect_alarmed (changes.Make s u n) j m f a = made_alarmed m j s u n a
 effect_alarmed (changes.Remove s) j m f a = removed_alarmed (superiors m) s m a
 effect_alarmed (changes.Inform s) j m f a = job_alarmed m s _ (λ q. refl) a
 effect_alarmed (changes.Arm alarm) j m f a = changed_alarmed m j (with_alarm alarm) (λ q x. f) a
+effect_alarmed (changes.Join n l write x y) j m f a =
+    jobs_alarmed (in_job m j (on_channel n (λ c. Linked l write))) _ refl refl (job_alarmed m j _ (λ q. refl) a)
+effect_alarmed (changes.Part n l write) j m f a = jobs_alarmed (in_job m j (on_channel n (λ c. Shut))) _ refl refl (job_alarmed m j _ (λ q. refl) a)
 effect_alarmed _ j m f a = jobs_alarmed m _ refl refl a
 
 effects_alarmed : (cs : List Change) (j : ℕ) (m : Machine) → AllFit cs j m → Alarmed m → Alarmed (effects cs j m)

@@ -41,7 +41,7 @@ named_waits o c e h = subst IsWaitable (sym e) h
 pub hang_duty : (m : Machine) (v : State) (j : ℕ) (x : View) (s : Site) (a : Ask) (n : ℕ) → Calling m v j x.own s a n → call_named a.name ≡ Some Hang → Duty v j x.own s a n hang
 hang_duty m v j x s a n c e = waits_duty m v j x.own s a n c (named_page a Hang e refl) (named_waits (call_named a.name) Hang e tt)
 
--- SLEEP: what it owes is its time, also after its partial step
+-- SLEEP: its time alone is pending, also after its partial step
 one_debt : (a : Ask) (v p : ℕ) → a.inputs.items ≡ record { value = v; place = Some p } ∷ [] → debts a 1 ≡ record { at = p; word = v } ∷ []
 unfolding debts
 one_debt a v p e = ap (λ xs. stores_of (drop (length xs - 1) xs)) e
@@ -59,7 +59,7 @@ pub named_same : (a : Ask) (vs : List ℕ) → (revalued a vs).name ≡ a.name
 unfolding revalued
 named_same a vs = refl
 
--- it owes one word at most
+-- one word at most is pending
 sleeper_owes : (a : Ask) → call_named a.name ≡ Some Sleep → most_owed a ≡ 1
 unfolding most_owed
 sleeper_owes a e = ap most_owed_by e

@@ -1,6 +1,6 @@
--- A call that owes words decides the same on its raw job as on the job behind the stores of these words. SLEEP asks
--- of its core only whether its word can be stored, which stores do not change; so does SIOT, but for its byte's word,
--- which is outside the footprint where it asks for it; the other calls owe nothing.
+-- A call with pending words decides the same on its raw job as on the job after the stores of these words. SLEEP asks
+-- of its core only whether its word can be stored, which stores do not change; so does SIOT, except for its byte's
+-- word, which is outside the footprint if it asks for it; the other calls have no pending words.
 use Rattle.std.specs.Prelude.{◌≡◌, ◌≤◌, ℕ, Bool, true, false, not, Option, Some, None, List, [], ◌∷◌, slice_get, is_some, unwrap_or, refl}
 use Rattle.std.proofs.Common.{sym, ◌∙◌, ap, inl, inr, arith}
 use Rattle.std.proofs.lemmas.Bool.{cases_Bool}
@@ -17,12 +17,14 @@ use Rattle.its_frame.specs.declared.name.CallName.TheVariants.{Sleep, Siot}
 use Rattle.its_plain.specs.Arguments.{input, in_footprint, debts}
 use Rattle.its_plain.specs.CallBasic.{channel_at, read_only, sleep}
 use Rattle.its_plain.specs.CallStep.{decision}
-use Rattle.its_plain.specs.CallTty.{console_of, next_pointer, siot_in, siot_out, siot_by}
+use Rattle.its_plain.specs.CallTty.{console_of, siot_in, siot_out}
+use Rattle.its_plain.specs.Transfer.{next_pointer, siot_by}
 use Rattle.its_plain.specs.CallFile.{words_of, siot_read, siot_write}
+use Rattle.its_plain.specs.CallLink.{is_ended, siot_receive, siot_send}
 use Rattle.its_plain.specs.CallUsr.{other_core, at_end, siot_peeks, siot_pokes, siot_through}
 use Rattle.its_plain.specs.CallDevice.{siot_on, siot_call}
 use Rattle.its_plain.specs.Decide.{call_named, decided_by, decided, target}
-use Rattle.its_plain.specs.Machine.{File, Chan, Shut, TtyIn, TtyOut, Reads, Writes, On, Whole, Machine}
+use Rattle.its_plain.specs.Machine.{File, Chan, Shut, TtyIn, TtyOut, Reads, Writes, On, Linked, Whole, Machine}
 use Rattle.its_plain.specs.Own.{with_stores}
 use Rattle.its_word.specs.Stores.{place, stored}
 use Rattle.its_plain.specs.View.{View, view}
@@ -80,6 +82,18 @@ siot_pokes_stored : (m : Machine) (j : ℕ) (q : Whole) (t : Option ℕ) (a : As
 unfolding view
 siot_pokes_stored m j q t a ss w k i s at e = simp e
 
+siot_receive_stored : (m : Machine) (j : ℕ) (q : Whole) (t : Option ℕ) (ss : List Store) (w k l : ℕ)
+    → word_at (stored q.core ss) (right_of w) ≡ word_at q.core (right_of w)
+    → siot_receive (view m j (with_stores ss q) t) w k l ≡ siot_receive (view m j q t) w k l
+unfolding view
+siot_receive_stored m j q t ss w k l e = simp (e, can_stored)
+
+siot_send_stored : (m : Machine) (j : ℕ) (q : Whole) (t : Option ℕ) (a : Ask) (ss : List Store) (w k l : ℕ)
+    → word_at (stored q.core ss) (right_of w) ≡ word_at q.core (right_of w)
+    → siot_send (view m j (with_stores ss q) t) a w k l ≡ siot_send (view m j q t) a w k l
+unfolding view
+siot_send_stored m j q t a ss w k l e = simp e
+
 -- the tests of its arguments, whatever the device
 tests_stored : (m : Machine) (j : ℕ) (q : Whole) (t : Option ℕ) (a : Ask) (ss : List Store) (words ended : Bool) (d : Decision)
     → siot_by (view m j (with_stores ss q) t) a words ended d ≡ siot_by (view m j q t) a words ended d
@@ -123,6 +137,11 @@ siot_on_stored m j q t a n i c (Reads r at) f =
     siot_by_stored m j q t a n true (not (is_some o)) c _ _ f (λ e. siot_read_stored m j q t (debts a n) (next_pointer (input a 1)) (input a 2) i at (unwrap_or o 0) e)
 siot_on_stored m j q t a n i c (Writes r) f =
     siot_by_stored m j q t a n true false c _ _ f (λ e. siot_write_stored m j q t a (debts a n) (next_pointer (input a 1)) (input a 2) i r e)
+siot_on_stored m j q t a n i c (Linked l true) f =
+    siot_by_stored m j q t a n false false c _ _ f (λ e. siot_send_stored m j q t a (debts a n) (next_pointer (input a 1)) (input a 2) l e)
+siot_on_stored m j q t a n i c (Linked l false) f =
+    siot_by_stored m j q t a n false (is_ended (m.links l)) c _ _ f
+    (λ e. siot_receive_stored m j q t (debts a n) (next_pointer (input a 1)) (input a 2) l e)
 siot_on_stored m j q t a n i c (On s write at) f = siot_through_stored m j q t a n i s write at c f
 
 siot_stored : (m : Machine) (j : ℕ) (q : Whole) (t : Option ℕ) (a : Ask) (n : ℕ) (c : Core) → Fetched c a
@@ -130,7 +149,7 @@ siot_stored : (m : Machine) (j : ℕ) (q : Whole) (t : Option ℕ) (a : Ask) (n 
 unfolding siot_call view
 siot_stored m j q t a n c f = siot_on_stored m j q t a n (input a 0) c (channel_at q.channels (input a 0)) f
 
--- a call that owes nothing
+-- a call with nothing pending
 no_stores : (a : Ask) (n : ℕ) (q : Whole) → n ≤ 0 → with_stores (debts a n) q ≡ q
 unfolding stored
 no_stores a n q h = let e : n ≡ 0 = omega arith in ap (λ k. with_stores (debts a k) q) e ∙ ap (λ ss. with_stores ss q) (debts_none a)
@@ -151,7 +170,7 @@ decided_behind : (m : Machine) (j : ℕ) (q : Whole) (t : Option ℕ) (a : Ask) 
 unfolding decided view most_owed
 decided_behind m j q t a n c f h = rw (by_name m j q t a n c (call_named a.name) f h) refl
 
--- whatever the core, the job and the site by which the call stands
+-- whatever the core, the job and the site of the call are
 pub decision_behind : (m : Machine) (j : ℕ) (q : Whole) (c : Core) (i : Job) (s : Site) (a : Ask) (n : ℕ) → Stands c i s a → n ≤ most_owed a
     → decision m j (with_stores (debts a n) q) a ≡ decision m j q a
 unfolding decision

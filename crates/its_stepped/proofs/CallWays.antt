@@ -1,15 +1,18 @@
--- The ways in which a call goes on or ends, and the one walk over what calls decide: what holds of each of these ways holds
--- of every decision, where it holds of those that are walked apart.
-use Rattle.std.specs.Prelude.{if◌then◌else◌, ◌==◌, ◌≡◌, ◌⊎◌, ◌&&◌, ◌||◌, ℕ, ◌+◌, ◌-◌, Bool, true, false, not, Option, Some, None, List, [], ◌∷◌, ◌++◌, nat_lt, is_some, length, slice_get, slice_index_or, unwrap_or, refl}
+-- The ways in which a call goes on or ends, and the one walk over what calls decide: what holds of each of these ways
+-- holds of every decision, if it holds of those that are walked separately.
+use Rattle.std.specs.Prelude.{if◌then◌else◌, ◌==◌, ◌≡◌, ◌≢◌, ◌<◌, ◌⊎◌, ◌&&◌, ◌||◌, ℕ, ◌+◌, ◌-◌, Bool, true, false, not, Option, Some, None, List, [], ◌∷◌, ◌++◌, nat_lt, is_some, length, slice_get, slice_index_or, unwrap_or, refl}
 use Rattle.std.proofs.Common.{sym, subst, inl, inr}
 use Rattle.std.proofs.lemmas.Bool.{not-false, or_parts}
 use Rattle.its_word.specs.Byte.{load_of}
 use Rattle.its_word.specs.Core.{Core, word_at, can_store}
+use Rattle.its_word.specs.Links.{most_links}
+use Rattle.its_word.specs.Tree.{least_free}
 use Rattle.its_word.specs.Word.{right_of}
 use Rattle.its_word.specs.declared.access.Fault.{Fault}
 use Rattle.its_word.specs.declared.access.Fault.TheVariants.{Mpv, Wro}
 use Rattle.its_word.specs.declared.calls.Ask.{Ask}
 use Rattle.its_word.specs.declared.plan.Store.{Store}
+use Rattle.its_word.proofs.FreeLaws.{least_empty, least_below}
 use Rattle.its_frame.specs.declared.change.Change.{Change}
 use Rattle.its_frame.specs.declared.change.Change.TheVariants as changes
 use Rattle.its_frame.specs.declared.change.Opened.{Opened}
@@ -18,36 +21,49 @@ use Rattle.its_frame.specs.declared.decision.Decision.{Decision}
 use Rattle.its_frame.specs.declared.decision.Decision.TheVariants.{Waits}
 use Rattle.its_frame.specs.declared.decision.Held.{Held}
 use Rattle.its_frame.specs.declared.decision.Wait.{Wait}
-use Rattle.its_frame.specs.declared.decision.Wait.TheVariants.{Hang, Clock, Input, Output, Drained}
+use Rattle.its_frame.specs.declared.decision.Wait.TheVariants.{Hang, Clock, Input, Output, Drained, Empty, Room}
 use Rattle.its_frame.specs.declared.name.CallName.{CallName}
 use Rattle.its_frame.specs.declared.name.CallName.TheVariants as calls
 use Rattle.its_plain.specs.Arguments.{input, has_input, place_of_input}
 use Rattle.its_plain.specs.CallBasic.{Oneself, party_on, party, is_oneself, channel_at, ioc, negated, is_negative, sleep_tests, sleep, dismiss, usrvar, logout, longest_period, alarm_of, realt}
-use Rattle.its_plain.specs.CallTty.{is_other, console_of, has_console, input_waits, output_waits, output_left, first_typed, shown_byte, opens_on, open_tests, opens, store_tests, read_tests, word_of, iot_ends, next_pointer, siot_tests, siot_in, siot_out, siot_by, finish_on, finish, listens, listen_on, listen, ttylnd}
+use Rattle.its_plain.specs.CallTty.{is_other, console_of, has_console, input_waits, output_waits, output_left, first_typed, shown_byte, opens_on, open_tests, opens, siot_in, siot_out, finish_on, finish, listens, listen_on, listen, ttylnd}
+use Rattle.its_plain.specs.Transfer.{store_tests, read_tests, word_of, iot_ends, next_pointer, siot_tests, siot_by}
 use Rattle.its_plain.specs.CallFile.{disk_device, most_files, is_full, channels_in, has_file, is_read, words_of, names_from, is_output, opens_as, disk_tests, opens_disk, closes_draft, end_of_file, iot_read, siot_read, siot_write, end_of_core, access_to, access_on, access, fillen_on, fillen, file_tests, delete, rename}
 use Rattle.its_plain.specs.CallUsr.{usr_device, opens_usr, other_core, at_end, iot_peeks, iot_through, siot_peeks, siot_pokes, siot_through, set_word, usrmem_tests, usrmem_on, usrmem, uclose}
+use Rattle.its_plain.specs.CallLink.{link_device, words_in, is_dry, is_ended, is_crowded, is_unread, can_open, link_named, joins, makes_link, opens_end, link_tests, opens_link, first_word, iot_receive, siot_receive, siot_send}
 use Rattle.its_plain.specs.CallCore.{page_changed, highest_operation, page_tests, pages_of, corblk_of, corblk}
 use Rattle.its_plain.specs.CallDevice.{open_by, open_call, shuts, close_on, close_call, iot_on, iot_call, siot_on, siot_call}
 use Rattle.its_plain.specs.Decide.{call_row, decided_by}
-use Rattle.its_plain.specs.Machine.{File, Chan, Shut, TtyIn, TtyOut, Reads, Writes, On}
+use Rattle.its_plain.specs.Integrity.{IsNamed}
+use Rattle.its_plain.specs.Machine.{File, Chan, Shut, TtyIn, TtyOut, Reads, Writes, On, Linked}
 use Rattle.its_plain.specs.Own.{names_of}
 use Rattle.its_plain.specs.Tests.{◌⇒◌, finishes, fails, faults, goes, out}
 use Rattle.its_plain.specs.View.{View}
+use Rattle.its_stepped.proofs.ChannelLaws.{at_open, free_channel, named_link, absent_named, absent_opens}
+use Rattle.its_stepped.proofs.JoinedLaws.{IsUnlinked}
 use Rattle.its_stepped.proofs.TestLaws.{first_holds}
 
--- a change that makes no job and removes none, opens no channel on one or on a console, gives none a console, and sets no alarm;
--- with what the call has found of it: it writes in a job through a channel with leave to write, or in its own core; it moves a byte
--- at its own console, which nobody else holds; and the file of a name that goes is read by nobody
+-- a change that makes no job and removes none, opens no channel on one or on a console, gives none a console, and sets
+-- no alarm; with what the call has found: it writes in a job through a channel with leave to write, or in its own core;
+-- it moves a byte at its own console, which nobody else holds, or a word through its own end of a link; the file of a
+-- name that goes is read by nobody; it opens an end of a link that nobody has opened, or closes its own end
 abbrev pub OpensMildly : Opened → Type 0
 OpensMildly (opened.Reading d x y) = Unit {0}
 OpensMildly (opened.Writing d x y) = Unit {0}
 OpensMildly _ = ⊥
 
--- a channel that is on a console, through which a call can be found not ready
+-- a channel that is on a console
 abbrev pub OnConsole : Chan → Type 0
 OnConsole TtyIn = Unit {0}
 OnConsole TtyOut = Unit {0}
 OnConsole _ = ⊥
+
+-- a channel through which a call can be found not ready: it is on a console or on a link
+abbrev pub CanWait : Chan → Type 0
+CanWait TtyIn = Unit {0}
+CanWait TtyOut = Unit {0}
+CanWait (Linked l write) = Unit {0}
+CanWait _ = ⊥
 
 pub record Writable (x : View) (s : ℕ) : Type 0 where
   pub channel : ℕ
@@ -65,8 +81,18 @@ pub record Closable (x : View) (n : ℕ) : Type 0 where
   pub is : channel_at x.own.channels n ≡ Writes file
   pub unread : is_read file.names (channels_in x) ≡ false
 
+pub record AtLink (x : View) (l : ℕ) (write : Bool) : Type 0 where
+  pub channel : ℕ
+  pub is : x.own.channels channel ≡ Linked l write
+
+pub record Joinable (x : View) (n l : ℕ) (write : Bool) (u y : ℕ) : Type 0 where
+  pub shut : x.own.channels n ≡ Shut
+  pub few : l < most_links
+  pub unopened : can_open write (x.links l) ≡ true
+  pub named : IsNamed u y (x.links l)
+
 abbrev pub Mild : View → Change → Type 0
-Mild x (changes.Open n on) = OpensMildly on
+Mild x (changes.Open n on) = OpensMildly on × (x.own.channels n ≡ Shut)
 Mild x (changes.Make s u n) = ⊥
 Mild x (changes.Hold c s) = ⊥
 Mild x (changes.Remove s) = ⊥
@@ -82,11 +108,15 @@ Mild x (changes.Protect s k w) = (s ≡ x.slot) ⊎ Writable x s
 Mild x (changes.Close n) = Closable x n
 Mild x (changes.Delete d f g) = is_read (names_of d f g) (channels_in x) ≡ false
 Mild x (changes.Rename d f g u v) = (is_read (names_of d f g) (channels_in x) ≡ false) × (has_file (names_of d u v) x.files ≡ false)
-Mild x (changes.Shut n) = Unit {0}
+Mild x (changes.Shut n) = IsUnlinked (x.own.channels n)
 Mild x (changes.Move n at) = Unit {0}
 Mild x (changes.Append n w) = Unit {0}
+Mild x (changes.Join n l write u y) = Joinable x n l write u y
+Mild x (changes.Part n l write) = x.own.channels n ≡ Linked l write
+Mild x (changes.Send l w) = AtLink x l true
+Mild x (changes.Receive l) = AtLink x l false
 
--- behind the first change the caller's channel may move, and nothing else happens
+-- after the first change the caller's channel may move, and nothing else happens
 abbrev pub Still : Change → Type 0
 Still (changes.Move n at) = Unit {0}
 Still _ = ⊥
@@ -99,13 +129,14 @@ abbrev pub AllMild : View → List Change → Type 0
 AllMild x [] = Unit {0}
 AllMild x (c ∷ cs) = Mild x c × AllStill cs
 
--- the ways of a call that is found ready: each of its changes is mild, or it opens a channel on the console that its job has, or it
--- sets the job's alarm
+-- the ways of a call that is found ready: each of its changes is mild, or it opens a closed channel on the console that its job
+-- has, or it sets the job's alarm
 pub record Ways (P : Decision → Type 0) (x : View) (a : Ask) : Type 0 where
   pub failing : (k : ℕ) → P (fails x a k)
   pub faulting : (f : Fault) → P (faults x f)
   pub stuck : P (ioc x)
-  pub opening : has_console x ≡ true → (b : Bool) → P (finishes x (changes.Open (input a 0) (if b then opened.TtyOut else opened.TtyIn) ∷ []) [])
+  pub opening : has_console x ≡ true → x.own.channels (input a 0) ≡ Shut → (b : Bool)
+      → P (finishes x (changes.Open (input a 0) (if b then opened.TtyOut else opened.TtyIn) ∷ []) [])
   pub arming : (n : ℕ) → nat_lt longest_period n ≡ false → P (finishes x (changes.Arm (alarm_of x.clock n) ∷ []) [])
   pub ending : (cs : List Change) (ss : List Store) → AllMild x cs → P (finishes x cs ss)
   pub moved : (cs : List Change) (ss : List Store) → AllMild x cs → P (iot_ends x cs ss)
@@ -147,7 +178,7 @@ opens_tty_ways P x a w =
     let control = unwrap_or a.control 0 in
     first_holds P (open_tests x a (input a 0) (input a 1) control) (finishes x (changes.Open (input a 0) (opens_on control) ∷ []) [])
     (λ t. w.failing 0o4, (λ t. w.failing 0o5, (λ t. w.failing 0o22, (λ t. w.failing 0o5, tt))))
-    (λ t. w.opening (not-false (has_console x) t.1.1.1.0) (control == 1))
+    (λ t. w.opening (not-false (has_console x) t.1.1.1.0) (free_channel x.own.channels (input a 0) t.0) (control == 1))
 
 opens_file : (b : Bool) (d x y : ℕ) → OpensMildly (opens_as b d x y)
 opens_file true d x y = tt
@@ -159,16 +190,54 @@ opens_disk_ways P x a w =
     let control = unwrap_or a.control 0 in
     let change = changes.Open (input a 0) (opens_as (is_output control) (input a 4) (input a 2) (input a 3)) in
     first_holds P (disk_tests x a (input a 0) control) (finishes x (change ∷ []) []) (λ t. w.failing 0o4, (λ t. w.failing 0o22, (λ t. w.failing 0o6, tt)))
-    (λ t. w.ending (change ∷ []) [] (opens_file (is_output control) (input a 4) (input a 2) (input a 3), tt))
+    (λ t. w.ending (change ∷ []) []
+    ((opens_file (is_output control) (input a 4) (input a 2) (input a 3), free_channel x.own.channels (input a 0) t.0), tt))
+
+joins_ways : (P : Decision → Type 0) (x : View) (a : Ask) (n l : ℕ) (write : Bool) (u y : ℕ) → Ways P x a → Joinable x n l write u y
+    → P (joins x n l write u y)
+joins_ways P x a n l write u y w can = w.ending (changes.Join n l write u y ∷ []) [] (can, tt)
+
+makes_link_ways : (P : Decision → Type 0) (x : View) (a : Ask) (n : ℕ) (write : Bool) (u y : ℕ) (o : Option ℕ) → Ways P x a → x.own.channels n ≡ Shut
+    → least_free most_links x.links ≡ o → P (makes_link x a n write u y o)
+makes_link_ways P x a n write u y (Some l) w shut is =
+    let none = least_empty most_links x.links l is in
+    joins_ways P x a n l write u y w
+    (record {
+      shut = shut;
+      few = least_below most_links x.links l is;
+      unopened = absent_opens write (x.links l) none;
+      named = absent_named u y (x.links l) none;
+    })
+makes_link_ways P x a n write u y None w shut is = w.failing 0o25
+
+opens_end_ways : (P : Decision → Type 0) (x : View) (a : Ask) (n : ℕ) (write : Bool) (u y : ℕ) (o : Option ℕ) → Ways P x a → x.own.channels n ≡ Shut
+    → link_named x.links u y ≡ o → P (opens_end x a n write u y o)
+opens_end_ways P x a n write u y (Some l) w shut is =
+    let named = named_link x.links u y l is in
+    first_holds P (not (can_open write (x.links l)) ⇒ fails x a 0o24 ∷ []) (joins x n l write u y) (λ t. w.failing 0o24, tt)
+    (λ t. joins_ways P x a n l write u y w
+    (record { shut = shut; few = named.1; unopened = not-false (can_open write (x.links l)) t.0; named = named.0 }))
+opens_end_ways P x a n write u y None w shut is = makes_link_ways P x a n write u y (least_free most_links x.links) w shut refl
+
+opens_link_ways : (P : Decision → Type 0) (x : View) (a : Ask) → Ways P x a → P (opens_link x a)
+unfolding opens_link
+opens_link_ways P x a w =
+    let control = unwrap_or a.control 0 in
+    first_holds P (link_tests x a (input a 0) control)
+    (opens_end x a (input a 0) (control == 1) (input a 2) (input a 3) (link_named x.links (input a 2) (input a 3)))
+    (λ t. w.failing 0o4, (λ t. w.failing 0o22, tt))
+    (λ t. opens_end_ways P x a (input a 0) (control == 1) (input a 2) (input a 3) (link_named x.links (input a 2) (input a 3)) w
+    (free_channel x.own.channels (input a 0) t.0) refl)
 
 open_ways : (P : Decision → Type 0) (x : View) (a : Ask) → Ways P x a → P (opens_usr x a) → P (open_call x a)
 unfolding open_call
-open_ways P x a w h = go (input a 1 == disk_device) (input a 1 == usr_device)
+open_ways P x a w h = go (input a 1 == disk_device) (input a 1 == usr_device) (input a 1 == link_device)
   where
-    go : (disk usr : Bool) → P (open_by x a disk usr)
-    go true usr = opens_disk_ways P x a w
-    go false true = h
-    go false false = opens_tty_ways P x a w
+    go : (disk usr link : Bool) → P (open_by x a disk usr link)
+    go true usr link = opens_disk_ways P x a w
+    go false true link = h
+    go false false true = opens_link_ways P x a w
+    go false false false = opens_tty_ways P x a w
 
 -- CLOSE
 draft_ways : (P : Decision → Type 0) (x : View) (a : Ask) (f : File) → Ways P x a → channel_at x.own.channels (input a 0) ≡ Writes f → P (closes_draft x a f)
@@ -181,13 +250,19 @@ close_ways : (P : Decision → Type 0) (x : View) (a : Ask) → Ways P x a → P
 unfolding close_call
 close_ways P x a w = go (channel_at x.own.channels (input a 0)) refl
   where
-    shut : P (shuts x a)
-    shut = w.ending (changes.Shut (input a 0) ∷ []) [] (tt, tt)
+    shut : (c : Chan) → channel_at x.own.channels (input a 0) ≡ c → c ≢ Shut → IsUnlinked c → P (shuts x a)
+    shut c on open_ free =
+        w.ending (changes.Shut (input a 0) ∷ []) [] (subst IsUnlinked (sym (at_open x.own.channels (input a 0) c on open_)) free, tt)
 
     go : (c : Chan) → channel_at x.own.channels (input a 0) ≡ c → P (close_on x a c)
     go Shut on = w.failing 0o4
     go (Writes f) on = draft_ways P x a f w on
-    go _ on = shut
+    go (Linked l write) on =
+        w.ending (changes.Part (input a 0) l write ∷ []) [] (at_open x.own.channels (input a 0) (Linked l write) on (λ e. cc), tt)
+    go TtyIn on = shut TtyIn on (λ e. cc) tt
+    go TtyOut on = shut TtyOut on (λ e. cc) tt
+    go (Reads f at) on = shut (Reads f at) on (λ e. cc) tt
+    go (On s write at) on = shut (On s write at) on (λ e. cc) tt
 
 -- `.IOT`
 iot_read_ways : (P : Decision → Type 0) (x : View) (a : Ask) (e n at : ℕ) (o : Option ℕ) → Ways P x a → P (iot_read x e n at o)
@@ -212,7 +287,16 @@ iot_through_ways P x a e n s true at w on =
 moves_at : (x : View) (n : ℕ) (c : Chan) → channel_at x.own.channels n ≡ c → OnConsole c → is_other x.slot (x.holders (console_of x)) ≡ false → AtConsole x (console_of x)
 moves_at x n c on console free = record { channel = n; is = subst OnConsole (sym on) console; own = refl; free = free }
 
-pub iot_ways : (P : Decision → Type 0) (x : View) (a : Ask) (e n : ℕ) (c : Chan) → Ways P x a → channel_at x.own.channels n ≡ c → (OnConsole c → Waiting P) → P (iot_on x e n c)
+-- a word that is moved through the caller's end of a link
+at_link : (x : View) (n l : ℕ) (write : Bool) → channel_at x.own.channels n ≡ Linked l write → AtLink x l write
+at_link x n l write on = record { channel = n; is = at_open x.own.channels n (Linked l write) on (λ e. cc) }
+
+iot_receive_ways : (P : Decision → Type 0) (x : View) (a : Ask) (e l : ℕ) (ws : List ℕ) → Ways P x a → AtLink x l false → P (iot_receive x e l ws)
+iot_receive_ways P x a e l (i ∷ is) w at = w.moved (changes.Receive l ∷ []) (record { at = e; word = i } ∷ []) (at, tt)
+iot_receive_ways P x a e l [] w at = w.moved [] (record { at = e; word = end_of_file } ∷ []) tt
+
+pub iot_ways : (P : Decision → Type 0) (x : View) (a : Ask) (e n : ℕ) (c : Chan) → Ways P x a → channel_at x.own.channels n ≡ c
+    → (CanWait c → Waiting P) → P (iot_on x e n c)
 iot_ways P x a e n Shut w on r = w.stuck
 iot_ways P x a e n TtyIn w on r =
     let i = console_of x in
@@ -230,6 +314,14 @@ iot_ways P x a e n (Writes f) w on r =
     first_holds P (read_tests x e ++ (is_full x.files (channels_in x) f.words ⇒ ioc x ∷ [])) (iot_ends x (changes.Append n (word_of x e) ∷ []) [])
     (λ t. w.faulting Mpv, (λ t. w.stuck, tt)) (λ t. w.moved (changes.Append n (word_of x e) ∷ []) [] (tt, tt))
 iot_ways P x a e n (On s write at) w on r = iot_through_ways P x a e n s write at w on
+iot_ways P x a e n (Linked l true) w on r =
+    let change = changes.Send l (word_of x e) in
+    first_holds P (read_tests x e ++ (is_unread (x.links l) ⇒ ioc x ∷ is_crowded (x.links l) ⇒ Waits (Room l) ∷ [])) (iot_ends x (change ∷ []) [])
+    (λ t. w.faulting Mpv, (λ t. w.stuck, (λ t. r tt (Room l), tt))) (λ t. w.moved (change ∷ []) [] (at_link x n l true on, tt))
+iot_ways P x a e n (Linked l false) w on r =
+    first_holds P (store_tests x e ++ (is_dry (x.links l) ⇒ Waits (Empty l) ∷ [])) (iot_receive x e l (words_in (x.links l)))
+    (λ t. w.faulting Mpv, (λ t. w.faulting Wro, (λ t. r tt (Empty l), tt)))
+    (λ t. iot_receive_ways P x a e l (words_in (x.links l)) w (at_link x n l false on))
 
 -- SIOT
 siot_read_ways : (P : Decision → Type 0) (x : View) (a : Ask) (next k n at i : ℕ) → Ways P x a → P (siot_read x next k n at i)
@@ -277,7 +369,8 @@ siot_through_ways P x a n s true at w on =
     let next = next_pointer (input a 1) in
     siot_by_ways P x a true (at_end at) (siot_pokes x a next (input a 2) n s at) w (siot_pokes_ways P x a next (input a 2) n s at w on)
 
-pub siot_ways : (P : Decision → Type 0) (x : View) (a : Ask) (n : ℕ) (c : Chan) → Ways P x a → channel_at x.own.channels n ≡ c → (OnConsole c → Waiting P) → P (siot_on x a n c)
+pub siot_ways : (P : Decision → Type 0) (x : View) (a : Ask) (n : ℕ) (c : Chan) → Ways P x a → channel_at x.own.channels n ≡ c
+    → (CanWait c → Waiting P) → P (siot_on x a n c)
 siot_ways P x a n Shut w on r = w.failing 0o4
 siot_ways P x a n TtyIn w on r =
     let next = next_pointer (input a 1) in
@@ -301,6 +394,22 @@ siot_ways P x a n (Writes f) w on r =
     let next = next_pointer (input a 1) in
     siot_by_ways P x a true false (siot_write x a next (input a 2) n f) w (siot_write_ways P x a next (input a 2) n f w)
 siot_ways P x a n (On s write at) w on r = siot_through_ways P x a n s write at w on
+siot_ways P x a n (Linked l true) w on r =
+    let next = next_pointer (input a 1) in
+    let change = changes.Send l (load_of next (word_of x (right_of next))) in
+    siot_by_ways P x a false false (siot_send x a next (input a 2) l) w
+    (first_holds P (read_tests x (right_of next) ++ (is_unread (x.links l) ⇒ fails x a 0o26 ∷ is_crowded (x.links l) ⇒ Waits (Room l) ∷ []))
+    (goes (change ∷ []) None (next ∷ (input a 2 - 1) ∷ []))
+    (λ t. w.faulting Mpv, (λ t. w.failing 0o26, (λ t. r tt (Room l), tt)))
+    (λ t. w.going (change ∷ []) None (next ∷ (input a 2 - 1) ∷ []) (at_link x n l true on, tt)))
+siot_ways P x a n (Linked l false) w on r =
+    let next = next_pointer (input a 1) in
+    let held = Some (record { place = right_of next; byte = first_word x l }) in
+    siot_by_ways P x a false (is_ended (x.links l)) (siot_receive x next (input a 2) l) w
+    (first_holds P (store_tests x (right_of next) ++ (is_dry (x.links l) ⇒ Waits (Empty l) ∷ []))
+    (goes (changes.Receive l ∷ []) held (next ∷ (input a 2 - 1) ∷ []))
+    (λ t. w.faulting Mpv, (λ t. w.faulting Wro, (λ t. r tt (Empty l), tt)))
+    (λ t. w.going (changes.Receive l ∷ []) held (next ∷ (input a 2 - 1) ∷ []) (at_link x n l false on, tt)))
 
 -- FINISH and LISTEN
 finish_ways : (P : Decision → Type 0) (x : View) (a : Ask) → Answering P x a → Waiting P → P (finish x a)

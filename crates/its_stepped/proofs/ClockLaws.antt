@@ -39,6 +39,10 @@ effect_clock (changes.Make s u n) j m = refl
 effect_clock (changes.Remove s) j m = refl
 effect_clock (changes.Inform s) j m = refl
 effect_clock (changes.Arm alarm) j m = refl
+effect_clock (changes.Join n l write x y) j m = refl
+effect_clock (changes.Part n l write) j m = refl
+effect_clock (changes.Send l w) j m = refl
+effect_clock (changes.Receive l) j m = refl
 effect_clock (changes.Delete x y z) j m = refl
 effect_clock (changes.Rename x y z u v) j m = refl
 

@@ -35,7 +35,7 @@ use Rattle.its_stepped.proofs.OwnLaws.{all_remain, frames_kept}
 use Rattle.its_stepped.proofs.EffectLaws.{effects_plain}
 use Rattle.its_stepped.proofs.RowLaws.{same_job}
 
--- a job in a slot whose call can be tried: its last n arguments are owed
+-- a job in a slot whose call can be tried: its last n arguments are pending
 pub record Here (v : State) (j : ℕ) (q : Whole) (a : Ask) (n : ℕ) : Type 0 where
   pub job_is : v.raw.jobs j ≡ Some q
   pub seen_is : (p : Whole) → seen (v.frames j) p ≡ with_stores (debts a n) p
@@ -50,7 +50,7 @@ pub waits_plain : (w : State) (j : ℕ) (s : Site) (a : Ask) (n : ℕ) → ((p :
 unfolding seen
 waits_plain w j s a n is = turned w j same same (Some (waiting s a n)) (λ p e. sym (is p)) ∙ same_job (plain w) j
 
--- a part of a call: the frame after it shows its new words over those that were owed
+-- a part of a call: the frame after it shows its new words over those that were pending
 pub stays_seen : (b : Bool) (s : Site) (a : Ask) (n : ℕ) (p : Whole) → seen (Some (stays b s a n)) p ≡ with_stores (debts a n) p
 unfolding seen
 stays_seen true s a n p = refl
@@ -97,7 +97,7 @@ goes_plain v j own s a n cs b vs is g =
     ∙ ap (moved a b vs) (sym (ap (λ (o : Option Frame). seen o p) frames ∙ is p)))
     ∙ ap (λ (m : Machine). in_job m j (moved a b vs)) (effects_plain cs j v g.quiet)
 
--- the end of a call: the steps that it owes make its own words and its registers
+-- the end of a call: its pending steps write its own words and its registers
 parts_made_none : (ps : List Part) (os : List Owed) (p : Whole) → owed_made (map owed_part ps ++ os) p ≡ owed_made os p
 parts_made_none [] os p = refl
 parts_made_none (UnlinkOld ∷ ps) os p = parts_made_none ps os p

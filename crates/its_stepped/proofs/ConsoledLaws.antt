@@ -21,14 +21,14 @@ use Rattle.its_frame.specs.declared.decision.Decision.{Decision}
 use Rattle.its_frame.specs.declared.decision.Decision.TheVariants.{Waits, Goes, Ends, Gone}
 use Rattle.its_frame.specs.declared.decision.Held.{Held}
 use Rattle.its_frame.specs.declared.frame.Frame.{Frame}
-use Rattle.its_frame.specs.declared.frame.Frame.TheVariants.{Entered, Parsed, Asked, Holding, Waiting, Moving, Ending}
+use Rattle.its_frame.specs.declared.frame.Frame.TheVariants.{Ending}
 use Rattle.its_frame.specs.declared.variable.Variable.{Variable}
 use Rattle.its_frame.specs.declared.variable.Variable.TheVariants.{Uname, Jname, Uind, Suppro, Cnsl, Pages, Upc, Ustp, Pirqc, Ifpir, Mask, Msk2, Df1, Df2}
 use Rattle.its_plain.specs.Arguments.{revalued}
 use Rattle.its_plain.specs.CallStep.{with_held, acted, decision, informs, step}
 use Rattle.its_plain.specs.Change.{in_job, is_gone, left_job, removed, superiors, console_in, inferior, poke, effect, effects}
 use Rattle.its_plain.specs.Interrupt.{Entry, entries_of, first_entry, pushed, at_handler, by_stores, by_pointer, by_entry, by_length, by_table, through_table, unguarded, delivered}
-use Rattle.its_plain.specs.Machine.{Shut, Whole, Machine, changed, with_job, no_machine, limit, with_new}
+use Rattle.its_plain.specs.Machine.{Shut, Linked, Whole, Machine, with_job, no_machine, limit, with_new}
 use Rattle.its_plain.specs.OperatorJobs.{new_job, with_holder, loaded_in, loaded}
 use Rattle.its_plain.specs.Own.{with_stores, leave, on_channel, with_variable}
 use Rattle.its_plain.specs.Unit.{Changed, unit}
@@ -150,6 +150,11 @@ effect_consoled (changes.Protect s k on) j m a = job_consoled m s _ (λ q. refl)
 effect_consoled (changes.Make s u n) j m a = made_consoled m j s u n a
 effect_consoled (changes.Remove s) j m a = removed_consoled (superiors m) s m a
 effect_consoled (changes.Inform s) j m a = job_consoled m s _ (λ q. refl) a
+effect_consoled (changes.Join n l write x y) j m a =
+    jobs_consoled (in_job m j (on_channel n (λ c. Linked l write))) _ refl (job_consoled m j _ (λ q. refl) a)
+effect_consoled (changes.Part n l write) j m a = jobs_consoled (in_job m j (on_channel n (λ c. Shut))) _ refl (job_consoled m j _ (λ q. refl) a)
+effect_consoled (changes.Send l w) j m a = jobs_consoled m _ refl a
+effect_consoled (changes.Receive l) j m a = jobs_consoled m _ refl a
 effect_consoled (changes.Delete x y z) j m a = jobs_consoled m _ refl a
 effect_consoled (changes.Rename x y z u v) j m a = jobs_consoled m _ refl a
 effect_consoled _ j m a = job_consoled m j _ (λ q. refl) a
@@ -214,7 +219,7 @@ step_consoled m n j h e = step_has Consoled m n j (λ q is.
       calls = λ a. acted_consoled m j a (reach m j q a) (decision m j q a) h;
     }) e
 
--- a raw job has the console of the job that it stands for
+-- a raw job has the console of its plain job
 owed_console : (os : List Owed) (q : Whole) → (owed_made os q).job.console ≡ q.job.console
 owed_console [] q = refl
 owed_console (owed.Store a w ∷ os) q = owed_console os (with_stores (poke a w ∷ []) q)

@@ -25,7 +25,7 @@ use Rattle.its_stepped.proofs.TargetLaws.{aimed_reached, aimed_on}
 use Rattle.its_stepped.proofs.TestLaws.{first_holds, room, fails_duty}
 use Rattle.its_stepped.proofs.CallWays.{page_by}
 
--- it owes no argument
+-- no argument is pending
 most_none : (a : Ask) → call_named a.name ≡ Some Corblk → most_owed a ≡ 0
 unfolding most_owed
 most_none a e = ap most_owed_by e
@@ -61,7 +61,7 @@ pages_duty m v j x s a n t p c e z h =
           omega arith;
     })
 
--- its own pages, where no change reaches another job
+-- its own pages, if no change reaches another job
 oneself_reached : (m : Machine) (v : State) (j : ℕ) (x : View) (s : Site) (a : Ask) (n : ℕ) → Calling m v j x.own s a n → call_named a.name ≡ Some Corblk → Reached v j j
 oneself_reached m v j x s a n c e = record { still = c.still (owes_none m v j x s a n c e); other = λ ne. absurd (ne refl) }
 

@@ -1,4 +1,4 @@
--- The words that a call in progress owes: the first of them, and the rest once it is stored.
+-- The pending words of a call in progress: the first one, and the rest once it is stored.
 use Rattle.std.specs.Prelude.{◌≡◌, ◌≤◌, ℕ, suc, ◌+◌, ◌-◌, Option, Some, None, List, [], ◌∷◌, length, drop, refl}
 use Rattle.std.proofs.Common.{sym, ◌∙◌, ap, arith, get_or}
 use Rattle.std.proofs.lemmas.List.{drop_more, length-drop}
@@ -21,7 +21,7 @@ stores_few (o ∷ os) = by o.place o.value (stores_few os)
     by (Some p) v h = omega arith
     by None v h = omega arith
 
--- where each argument of a list has its word, the first word is that of the first argument
+-- if each argument of a list has its word, the first word is that of the first argument
 pub record FirstOwed (ss rest : List Store) : Type 0 where
   pub first : Store
   pub is : ss ≡ first ∷ rest
@@ -31,7 +31,7 @@ first_of_stores : (p : Option ℕ) (v : ℕ) (os : List Operand) → length (sto
 first_of_stores (Some p) v os e = record { first = record { at = p; word = v }; is = refl }
 first_of_stores None v os e = absurd (let few = stores_few os in omega arith)
 
--- what is owed after the first word
+-- what is pending after the first word
 pub record NextOwed (a : Ask) (n : ℕ) : Type 0 where
   pub first : Store
   pub is : debts a (suc n) ≡ first ∷ debts a n

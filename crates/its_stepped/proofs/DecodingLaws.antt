@@ -1,4 +1,4 @@
--- What the decoding of a call that stands has looked at.
+-- What the decoding of a call that is still there has looked at.
 use Rattle.std.specs.Prelude.{◌≡◌, ◌≢◌, ◌≤◌, ◌<◌, ◌==◌, ◌||◌, ℕ, zero, suc, ◌+◌, ◌%◌, ◌^◌, Bool, true, false, Option, Some, None, IfSome, List, [], ◌∷◌, length, slice_get, slice_index_or, Result, Ok, Err, refl}
 use Rattle.std.specs.List.{All}
 use Rattle.std.proofs.Common.{cond, arith, sym, ap, ◌∙◌, subst}
@@ -60,7 +60,7 @@ by_block c s a n e = go s.channel refl
     go (Some k) h = absurd (n (iot_named c s a k h e))
     go None h = h
 
--- places of inputs are addresses, at which their values stand
+-- places of inputs are addresses, and contain their values
 abbrev WordAt : Core → ℕ → ℕ → Type 0
 WordAt c p v = (p < 2 ^ 18) × (word_at c p ≡ Some v)
 

@@ -9,10 +9,11 @@ use Rattle.its_plain.specs.Arguments.{input}
 use Rattle.its_plain.specs.CallBasic.{channel_at}
 use Rattle.its_plain.specs.CallDevice.{open_by, open_call, shuts, close_on, close_call, iot_on, iot_call, siot_on, siot_call}
 use Rattle.its_plain.specs.CallFile.{disk_device, words_of}
+use Rattle.its_plain.specs.CallLink.{link_device}
 use Rattle.its_plain.specs.CallTty.{console_of}
 use Rattle.its_plain.specs.CallUsr.{usr_device}
 use Rattle.its_plain.specs.Decide.{call_named}
-use Rattle.its_plain.specs.Machine.{Chan, Shut, TtyIn, TtyOut, Reads, Writes, On, Machine}
+use Rattle.its_plain.specs.Machine.{Chan, Shut, TtyIn, TtyOut, Reads, Writes, On, Linked, Machine}
 use Rattle.its_plain.specs.View.{View}
 use Rattle.its_stepped.specs.State.{State}
 use Rattle.its_stepped.specs.Tick.{is_disk}
@@ -23,18 +24,21 @@ use Rattle.its_stepped.proofs.TargetLaws.{Aimed, aimed_on}
 use Rattle.its_stepped.proofs.TtyDuty.{opens_duty, iot_in_duty, iot_out_duty}
 use Rattle.its_stepped.proofs.FileDuty.{unmarked, opens_disk_duty, closes_draft_duty, iot_reads_duty, iot_writes_duty}
 use Rattle.its_stepped.proofs.SiotDuty.{siot_in_duty, siot_out_duty, siot_reads_duty, siot_writes_duty}
+use Rattle.its_stepped.proofs.LinkDuty.{opens_link_duty, closes_end_duty, iot_receives_duty, iot_sends_duty, siot_receives_duty, siot_sends_duty}
 use Rattle.its_stepped.proofs.UsrDuty.{Outlined, opens_usr_duty, iot_from_duty, iot_into_duty, siot_from_duty, siot_into_duty}
 
 -- OPEN
-open_by_duty : (m : Machine) (v : State) (j : ℕ) (x : View) (s : Site) (a : Ask) (n : ℕ) (disk usr : Bool) → Calling m v j x.own s a n → Outlined m x
-    → Duty v j x.own s a n (open_by x a disk usr)
-open_by_duty m v j x s a n true usr c same = opens_disk_duty m v j x s a n c
-open_by_duty m v j x s a n false true c same = opens_usr_duty m v j x s a n c same
-open_by_duty m v j x s a n false false c same = opens_duty m v j x s a n c
+open_by_duty : (m : Machine) (v : State) (j : ℕ) (x : View) (s : Site) (a : Ask) (n : ℕ) (disk usr link : Bool) → Calling m v j x.own s a n
+    → Outlined m x
+    → Duty v j x.own s a n (open_by x a disk usr link)
+open_by_duty m v j x s a n true usr link c same = opens_disk_duty m v j x s a n c
+open_by_duty m v j x s a n false true link c same = opens_usr_duty m v j x s a n c same
+open_by_duty m v j x s a n false false true c same = opens_link_duty m v j x s a n c
+open_by_duty m v j x s a n false false false c same = opens_duty m v j x s a n c
 
 pub open_duty : (m : Machine) (v : State) (j : ℕ) (x : View) (s : Site) (a : Ask) (n : ℕ) → Calling m v j x.own s a n → Outlined m x → Duty v j x.own s a n (open_call x a)
 unfolding open_call
-open_duty m v j x s a n c same = open_by_duty m v j x s a n (input a 1 == disk_device) (input a 1 == usr_device) c same
+open_duty m v j x s a n c same = open_by_duty m v j x s a n (input a 1 == disk_device) (input a 1 == usr_device) (input a 1 == link_device) c same
 
 -- CLOSE
 shuts_duty : (m : Machine) (v : State) (j : ℕ) (x : View) (s : Site) (a : Ask) (n : ℕ) → Calling m v j x.own s a n → Duty v j x.own s a n (shuts x a)
@@ -44,6 +48,7 @@ close_on_duty : (m : Machine) (v : State) (j : ℕ) (x : View) (s : Site) (a : A
     → (is_disk h ≡ true → v.mark ≡ None) → Duty v j x.own s a n (close_on x a h)
 close_on_duty m v j x s a n Shut c e u = fails_duty m v j x s a n 0o4 c
 close_on_duty m v j x s a n (Writes f) c e u = closes_draft_duty m v j x s a n f c e (u refl)
+close_on_duty m v j x s a n (Linked l write) c e u = closes_end_duty m v j x s a n l write c
 close_on_duty m v j x s a n _ c e u = shuts_duty m v j x s a n c
 
 pub close_duty : (m : Machine) (v : State) (j : ℕ) (x : View) (s : Site) (a : Ask) (n : ℕ) → Calling m v j x.own s a n → call_named a.name ≡ Some Close → a.fail ≡ 0
@@ -61,6 +66,8 @@ iot_on_duty m v j x s a n e i (Reads f at) c is here t = iot_reads_duty m v j x 
 iot_on_duty m v j x s a n e i (Writes f) c is here t = iot_writes_duty m v j x s a n e i f c
 iot_on_duty m v j x s a n e i (On k true at) c is here t = iot_into_duty m v j x s a n e i k at c (t k at true refl)
 iot_on_duty m v j x s a n e i (On k false at) c is here t = iot_from_duty m v j x s a n e i at c here
+iot_on_duty m v j x s a n e i (Linked l true) c is here t = iot_sends_duty m v j x s a n e l c is
+iot_on_duty m v j x s a n e i (Linked l false) c is here t = iot_receives_duty m v j x s a n e l c is here
 
 pub iot_duty : (m : Machine) (v : State) (j : ℕ) (x : View) (s : Site) (a : Ask) (n : ℕ) → Calling m v j x.own s a n → call_named a.name ≡ Some Iot → a.fail ≡ 0
     → Duty v j x.own s a n (iot_call x a)
@@ -79,6 +86,8 @@ siot_on_duty d m v j x s a n i (Reads f at) c e z t = siot_reads_duty d m v j x 
 siot_on_duty d m v j x s a n i (Writes f) c e z t = siot_writes_duty d m v j x s a n i f c e z
 siot_on_duty d m v j x s a n i (On k true at) c e z t = siot_into_duty d m v j x s a n i k at c e z (t k at true refl)
 siot_on_duty d m v j x s a n i (On k false at) c e z t = siot_from_duty d m v j x s a n i at c e z
+siot_on_duty d m v j x s a n i (Linked l true) c e z t = siot_sends_duty d m v j x s a n l c e z
+siot_on_duty d m v j x s a n i (Linked l false) c e z t = siot_receives_duty d m v j x s a n l c e z
 
 pub siot_duty : (d : Decoding) (m : Machine) (v : State) (j : ℕ) (x : View) (s : Site) (a : Ask) (n : ℕ) → Calling m v j x.own s a n → call_named a.name ≡ Some Siot → a.fail ≡ 0
     → Duty v j x.own s a n (siot_call x a)

@@ -15,7 +15,7 @@ use Rattle.its_frame.specs.declared.decision.Decision.{Decision}
 use Rattle.its_frame.specs.declared.decision.Decision.TheVariants.{Waits, Goes, Ends, Gone}
 use Rattle.its_frame.specs.declared.frame.Frame.{Frame}
 use Rattle.its_frame.specs.declared.frame.Frame.TheVariants.{Entered, Parsed, Asked, Holding, Waiting, Moving, Ending}
-use Rattle.its_plain.specs.Ask.{parse, fetch}
+use Rattle.its_stepped.specs.TwoParts.{parse, fetch}
 use Rattle.its_plain.specs.Arguments.{debts}
 use Rattle.its_plain.specs.CallStep.{informs, informed_slots, decision, among, disturbed, Transition, acted, transition, disturbs_in, makes}
 use Rattle.its_plain.specs.Decide.{reach}
@@ -38,8 +38,8 @@ use Rattle.its_stepped.proofs.TickLaws.{told_quiet, seen_at, seen_none, Trying, 
 use Rattle.its_plain.proofs.StepLaws.{transition_delivers}
 use Rattle.its_stepped.proofs.CommitLaws.{Acts}
 
--- a call that has ended owes four steps at most; then come entry, block, arguments, preparation, and the four quarters
--- of a page. After a part of a call the count begins anew
+-- a call that has ended has four pending steps at most; then come entry, block, arguments, preparation, and the four
+-- quarters of a page. After a part of a call the count begins anew
 abbrev pub cleared : Option ℕ → ℕ
 cleared (Some p) = p
 cleared None = 0
@@ -177,7 +177,7 @@ held_dots w j q s a (Some p) n t m is few = go (nat_lt p quarters) m
     go true m = turn_works w _ j (Some (holding s a (Some p) n)) (Some (holding s a (Some (p + 1)) n)) refl is (omega arith)
     go false m = tried_dots w j q s a n t (m refl) few
 
--- unwinding: a call that has ended owes fewer steps
+-- unwinding: a call that has ended has fewer pending steps
 due_few : (b : Bool) (os : List Owed) → length (due b os) ≤ length os
 due_few true [] = omega arith
 due_few false [] = omega arith
@@ -301,6 +301,6 @@ after_by w d j k Off v h r = elim (cases_eq k j) [
 pub tick_dotted : (w : State) (d : Dots) (j : ℕ) → Sound w → Given w j → Dotted d w.frames → Dotted (dots_after (plain w) d j (tick w j).pace) (tick w j).state.frames
 tick_dotted w d j sound g h = record { each = λ k. after_by w d j k (tick w j).pace (tick w j).state h (tick_dots w j sound g) }
 
--- a `.` comes only where fewer than the most came
+-- a `.` comes only if fewer than the most came
 pub tick_few : (w : State) (d : Dots) (j : ℕ) → Sound w → Dotted d w.frames → d j < most_dots
 tick_few w d j sound h = let a = h.each j in let b = bound_few w j sound in omega arith

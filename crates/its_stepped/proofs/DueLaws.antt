@@ -18,7 +18,7 @@ use Rattle.its_stepped.specs.Lines.{with_raw}
 use Rattle.its_stepped.proofs.FrameLaws.{seen_alike}
 use Rattle.its_stepped.proofs.UnwindLaws.{filtered_out, among_filter, among_range, all_unwound_plain, all_unwound_none, all_unwound_others}
 
--- a frame owes no alarm
+-- a frame has no pending alarm
 pub seen_alarm : (f : Option Frame) (q : Whole) → (seen f q).alarm ≡ q.alarm
 seen_alarm f q = seen_alike (λ p. p.alarm) (λ s p. refl) (λ e p. refl) f q
 

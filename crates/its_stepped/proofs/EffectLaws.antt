@@ -12,10 +12,10 @@ use Rattle.its_word.specs.declared.plan.Store.{Store}
 use Rattle.its_frame.specs.declared.change.Change.{Change}
 use Rattle.its_frame.specs.declared.change.Change.TheVariants as changes
 use Rattle.its_frame.specs.declared.frame.Frame.{Frame}
-use Rattle.its_frame.specs.declared.frame.Frame.TheVariants.{Entered, Parsed, Asked, Holding, Waiting, Moving, Ending}
-use Rattle.its_plain.specs.Machine.{Names, File, Chan, Shut, TtyIn, TtyOut, Reads, Writes, On, Whole, whole, changed}
+use Rattle.its_frame.specs.declared.frame.Frame.TheVariants.{Holding, Waiting, Moving, Ending}
+use Rattle.its_plain.specs.Machine.{Names, File, Pipe, Chan, Shut, Writes, Linked, Whole, Machine, whole, changed}
 use Rattle.its_plain.specs.Own.{with_stores, leave, with_registers, names_of, opened_on, at_position, with_word, on_channel, with_variable}
-use Rattle.its_plain.specs.Change.{on_slot, in_job, same_names, without_file, filed, renamed, channel_in, files_closed, superior_in, superiors, is_gone, shut_on, left_job, removed, console_in, inferior, with_page_at, protected, poke, with_inf, with_alarm, effect, effects}
+use Rattle.its_plain.specs.Change.{on_slot, in_job, same_names, without_file, filed, renamed, channel_in, files_closed, superior_in, superiors, is_gone, shut_on, left_job, removed, console_in, inferior, with_page_at, protected, poke, with_inf, with_alarm, end_closed, with_sent, with_received, on_link, effect, effects}
 use Rattle.its_plain.specs.Arguments.{input, debts}
 use Rattle.its_plain.specs.CallStep.{deposited}
 use Rattle.its_plain.proofs.MachineLaws.{machine_is, jobs_are}
@@ -27,8 +27,10 @@ use Rattle.its_stepped.specs.Quiet.{IsStill, Reached, MakesPage, Quiet, AllQuiet
 use Rattle.its_stepped.proofs.WaitLaws.{stuck_shut}
 use Rattle.its_stepped.proofs.FrameLaws.{stores_none, seen_superior, seen_channels, seen_names, changed_only, on_slot_here, on_slot_other, jobs_is}
 use Rattle.its_stepped.proofs.DebtLaws.{debts_none}
+use Rattle.its_stepped.proofs.JoinedLaws.{opened_link}
 
--- a change of a job that looks at no core and no registers, and leaves them, is the same before and after what a frame owes
+-- a change of a job that looks at no core and no registers, and leaves them, is the same before and after the pending
+-- steps of a frame
 module _ (h : Whole → Whole) (core : (q : Whole) → (h q).core ≡ q.core) (stores : (ss : List Store) (q : Whole) → with_stores ss (h q) ≡ h (with_stores ss q))
     (leaves : (e : Exit) (q : Whole) → leave e (h q) ≡ h (leave e q)) where
   owed_moves : (os : List Owed) (q : Whole) → owed_made os (h q) ≡ h (owed_made os q)
@@ -60,7 +62,7 @@ seen_shut_on gone f q = frame_moves (shut_on gone) (λ p. refl) (λ ss p. refl) 
 pub seen_armed : (alarm : Option (ℕ × ℕ)) (f : Option Frame) (q : Whole) → seen f (with_alarm alarm q) ≡ with_alarm alarm (seen f q)
 seen_armed alarm f q = frame_moves (with_alarm alarm) (λ p. refl) (λ ss p. refl) (λ e p. refl) f q
 
--- a frame that owes nothing
+-- a frame with nothing pending
 pub still_seen : (f : Option Frame) (q : Whole) → IsStill f → seen f q ≡ q
 unfolding seen
 still_seen (Some (Holding f)) q h = ap (λ n. with_stores (debts f.ask n) q) h ∙ ap (λ ss. with_stores ss q) (debts_none f.ask) ∙ stores_none q
@@ -145,7 +147,7 @@ close_plain n j w e =
     (closed_helps j (channel_in (w.raw.jobs j) n) w.raw.files
     ∙ ap (λ c. files_closed c w.raw.files) (sym (channel_seen (w.frames j) (w.raw.jobs j) n))
     ∙ ap (files_closed (channel_in (option_map (seen (w.frames j)) (w.raw.jobs j)) n)) (sym (unmarked_files w e)))
-    refl refl (λ k. refl)
+    refl refl (λ k. refl) (λ k. refl)
 
 made_job : (f : Option Frame) (o : Option Whole) (g : Option Frame) (j u n : ℕ) → g ≡ None
     → option_map (seen g) (Some (inferior j o u n)) ≡ Some (inferior j (option_map (seen f) o) u n)
@@ -165,7 +167,7 @@ make_plain s u n j w e =
       | inr ne ↦ ap (option_map (seen (w.frames k))) ((changed_only w.raw.jobs s (Some (inferior j (w.raw.jobs j) u n))).others k ne)
           ∙ sym ((changed_only (seen_jobs w.frames w.raw.jobs) s (Some (inferior j (option_map (seen (w.frames j)) (w.raw.jobs j)) u n))).others k ne)
     ])
-    (λ k. refl) (λ k. refl) refl refl refl (λ k. refl)
+    (λ k. refl) (λ k. refl) refl refl refl (λ k. refl) (λ k. refl)
 
 shut_seen : (gone : ℕ → Bool) (f : Option Frame) (o : Option Whole) → option_map (seen f) (option_map (shut_on gone) o) ≡ option_map (shut_on gone) (option_map (seen f) o)
 shut_seen gone f None = refl
@@ -181,14 +183,16 @@ unfolding effect_on effect plain removed
 remove_plain s j w =
     let sup = superiors w.raw in
     let p : plain (effect_on (changes.Remove s) j w) ≡ removed sup s (plain w) =
-    machine_is _ _ (λ k. left_seen (is_gone sup s) (is_gone sup s k) (w.frames k) (w.raw.jobs k)) (λ k. refl) (λ k. refl) refl refl refl (λ k. refl) in
+    machine_is _ _ (λ k. left_seen (is_gone sup s) (is_gone sup s k) (w.frames k) (w.raw.jobs k)) (λ k. refl) (λ k. refl) refl refl refl (λ k. refl)
+    (λ k. refl) in
     p ∙ ap (λ f. removed f s (plain w)) (sym (superiors_plain w))
 
 pub files_plain : (w : State) (g : List File → List File) → w.mark ≡ None
     → plain (record w { raw = record w.raw { files = g w.raw.files } }) ≡ record (plain w) { files = g (plain w).files }
 unfolding plain helped
 files_plain w g e =
-    machine_is _ _ (λ k. refl) (λ k. refl) (λ k. refl) (ap (λ o. helped o (g w.raw.files)) e ∙ ap (λ o. g (helped o w.raw.files)) (sym e)) refl refl (λ k. refl)
+    machine_is _ _ (λ k. refl) (λ k. refl) (λ k. refl) (ap (λ o. helped o (g w.raw.files)) e ∙ ap (λ o. g (helped o w.raw.files)) (sym e)) refl refl
+    (λ k. refl) (λ k. refl)
 
 -- consoles and holders, which no frame touches; a page, whose reservation the plain machine has not
 take_plain : (c j : ℕ) (w : State) → plain (effect_on (changes.Take c) j w) ≡ effect (changes.Take c) j (plain w)
@@ -213,6 +217,16 @@ map_plain s k j w h =
     unreserved_plain (record w { raw = in_job w.raw s (with_page_at k (Some zero_page)) }) (changed w.reserved j None)
     ∙ reached_plain w j s (with_page_at k (Some zero_page)) h.reached
 
+-- links, which no frame touches either
+linked_plain : (w : State) (l : ℕ) (f : Option Pipe → Option Pipe) → plain (record w { raw = on_link w.raw l f }) ≡ on_link (plain w) l f
+unfolding plain
+linked_plain w l f = refl
+
+ends_plain : (w : State) (j l : ℕ) (h : Whole → Whole) (f : Option Pipe → Option Pipe)
+    → ((q : Whole) → seen (w.frames j) (h q) ≡ h (seen (w.frames j) q))
+    → plain (record w { raw = on_link (in_job w.raw j h) l f }) ≡ on_link (in_job (plain w) j h) l f
+ends_plain w j l h f e = linked_plain (record w { raw = in_job w.raw j h }) l f ∙ ap (λ (m : Machine). on_link m l f) (in_job_plain w j h e)
+
 pub effect_plain : (c : Change) (j : ℕ) (w : State) → Quiet c j w → plain (effect_on c j w) ≡ effect c j (plain w)
 unfolding effect_on effect
 effect_plain (changes.Open n on) j w h = in_job_plain w j (on_channel n (λ c. opened_on on)) (seen_channel n (λ c. opened_on on) (w.frames j))
@@ -232,6 +246,11 @@ effect_plain (changes.Make s u n) j w h = make_plain s u n j w h
 effect_plain (changes.Remove s) j w h = remove_plain s j w
 effect_plain (changes.Inform s) j w h = reached_plain w j s with_inf h
 effect_plain (changes.Arm alarm) j w h = in_job_plain w j (with_alarm alarm) (seen_armed alarm (w.frames j))
+effect_plain (changes.Join n l write x y) j w h =
+    ends_plain w j l (on_channel n (λ c. Linked l write)) (opened_link write j n x y) (seen_channel n (λ c. Linked l write) (w.frames j))
+effect_plain (changes.Part n l write) j w h = ends_plain w j l (on_channel n (λ c. Shut)) (end_closed write) (seen_channel n (λ c. Shut) (w.frames j))
+effect_plain (changes.Send l x) j w h = linked_plain w l (option_map (with_sent x))
+effect_plain (changes.Receive l) j w h = linked_plain w l (option_map with_received)
 effect_plain (changes.Delete d x y) j w h = files_plain w (without_file (names_of d x y)) h
 effect_plain (changes.Rename d x y u v) j w h = files_plain w (renamed (names_of d x y) u v) h
 
@@ -327,6 +346,8 @@ effect_sound (changes.Remove i) j w k h ne s =
     slot_left (is_gone (superiors w.raw) i) (is_gone (superiors w.raw) i k) (w.raw.jobs k) (w.frames k) (w.reserved k) (λ gone. h k gone ne) s
 effect_sound (changes.Inform i) j w k h ne s = slot_reached w j i k with_inf h ne s
 effect_sound (changes.Arm alarm) j w k h ne s = slot_own w j k (with_alarm alarm) ne s
+effect_sound (changes.Join n l write x y) j w k h ne s = slot_own w j k (on_channel n (λ c. Linked l write)) ne s
+effect_sound (changes.Part n l write) j w k h ne s = slot_own w j k (on_channel n (λ c. Shut)) ne s
 effect_sound _ j w k h ne s = s
 
 pub effects_sound : (cs : List Change) (j : ℕ) (w : State) (k : ℕ) → AllQuiet cs j w → k ≢ j → SoundSlot (w.raw.jobs k) (w.frames k) (w.reserved k)

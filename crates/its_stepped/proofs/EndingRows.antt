@@ -1,4 +1,4 @@
--- The row of a call that has ended: its next owed step.
+-- The row of a call that has ended: its next pending step.
 use Rattle.std.specs.Prelude.{◌==◌, ◌≡◌, ◌≤◌, ℕ, suc, ◌+◌, Bool, true, false, cond, Option, Some, None, IfSome, List, [], ◌∷◌, count_by, length, refl}
 use Rattle.std.proofs.Common.{sym, ◌∙◌, ap, subst, arith}
 use Rattle.std.proofs.lemmas.Bool.{eqb-true}
@@ -39,7 +39,7 @@ owes_behind c b w (Unlink ∷ os) h = owes_behind c b w os h
 owes_behind c b w (Link ∷ os) h = owes_behind c b w os h
 owes_behind c b w (Free ∷ os) h = owes_behind c b w os h
 
--- the steps that are due, of those that are owed
+-- the steps that are due, of those that are pending
 abbrev pub HeadDue : Bool → List Owed → Type 0
 HeadDue b [] = Unit {0}
 HeadDue b (o ∷ os) = is_made_by b o ≡ true
@@ -148,7 +148,15 @@ part_row w j q s a os ys owner draft p ps mark own files at made fits count =
       jobs = job_only w.raw.jobs j q same at.job;
       frames = o;
       pages = record { here = refl; others = λ k ne. refl };
-      shares = record { consoles = refl; holders = refl; clock = refl; version = refl; symbols = refl; files = rw mark (helped_rest owner draft p ps w.raw.files) };
+      shares = record {
+        consoles = refl;
+        holders = refl;
+        clock = refl;
+        version = refl;
+        symbols = refl;
+        links = refl;
+        files = rw mark (helped_rest owner draft p ps w.raw.files);
+      };
       seen_as = rw (at.job, at.frame) (ap Some made);
       fits = fits;
       mark = mark_rest owner draft p ps (changed w.frames j f) (ap (λ k. parts_in_frame (changed w.frames j f k)) (eqb-true owner j own) ∙ ap parts_in_frame o.here ∙ files);

@@ -1,5 +1,5 @@
--- OPEN, CLOSE and `.IOT` where their device is DSK, ACCESS, FILLEN, DELETE and RENAME do their duty: no close is half made
--- where one of them changes the directory.
+-- OPEN, CLOSE and `.IOT` if their device is DSK, ACCESS, FILLEN, DELETE and RENAME do their duty: no close is half made
+-- if one of them changes the directory.
 use Rattle.std.specs.Prelude.{◌≡◌, ℕ, ◌+◌, ◌%◌, ◌^◌, ◌&&◌, true, not, Option, Some, None, [], ◌∷◌, ◌++◌, nat_lt, length, slice_get, unwrap_or, refl}
 use Rattle.std.proofs.Common.{◌∙◌, ap, arith, inl}
 use Rattle.std.proofs.lemmas.Bool.{eq-eqb, not-false}
@@ -14,7 +14,7 @@ use Rattle.its_frame.specs.declared.name.CallName.{CallName}
 use Rattle.its_frame.specs.declared.name.CallName.TheVariants.{Close, Delete, Rename}
 use Rattle.its_plain.specs.Arguments.{input}
 use Rattle.its_plain.specs.CallBasic.{channel_at, ioc}
-use Rattle.its_plain.specs.CallTty.{store_tests, read_tests, word_of, iot_ends}
+use Rattle.its_plain.specs.Transfer.{store_tests, read_tests, word_of, iot_ends}
 use Rattle.its_plain.specs.CallFile.{most_files, is_full, channels_in, has_file, is_read, words_of, names_from, is_output, opens_as, disk_tests, opens_disk, closes_draft, end_of_file, iot_read, iot_reads, iot_writes, end_of_core, access_to, access_on, access, file_tests, delete, rename}
 use Rattle.its_plain.specs.Decide.{call_named}
 use Rattle.its_plain.specs.Machine.{Names, File, Chan, Shut, TtyIn, TtyOut, Reads, Writes, On, Whole, Machine}
@@ -52,7 +52,7 @@ opens_disk_duty m v j x s a n c =
     first_holds (Duty v j x.own s a n) (disk_tests x a (input a 0) control) (finishes x (change ∷ []) [])
     (λ t. fails_duty m v j x s a n 0o4 c, (λ t. fails_duty m v j x s a n 0o22 c, (λ t. fails_duty m v j x s a n 0o6 c, tt))) (λ t. changes_duty m v j x s a n change c tt tt refl)
 
--- CLOSE: the parts of the close of a draft are owed, and nothing else
+-- CLOSE: the parts of the close of a draft are pending, and nothing else
 closing_duty : (m : Machine) (v : State) (j : ℕ) (x : View) (s : Site) (a : Ask) (n i : ℕ) → Calling m v j x.own s a n → call_named a.name ≡ Some Close → v.mark ≡ None
     → Ending_by v j x.own n (changes.Close i ∷ []) []
 unfolding most_owed

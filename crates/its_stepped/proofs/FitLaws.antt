@@ -1,14 +1,17 @@
 -- Every call keeps how jobs lie to each other: OPEN makes inferiors of the caller and opens channels on them alone, UCLOSE removes
 -- one of them, and TTYLND gives a console to the caller or to one of them.
-use Rattle.std.specs.Prelude.{if◌then◌else◌, ◌==◌, ◌&&◌, ◌≡◌, ℕ, Bool, true, false, not, Option, Some, None, IfSome, List, [], ◌∷◌, find, cond, option_map, is_some, ◌<◌, ◌≤◌, nat_lt, refl, unwrap_or, Result, Ok, Err}
+use Rattle.std.specs.Prelude.{if◌then◌else◌, ◌==◌, ◌&&◌, ◌≡◌, ◌≢◌, ℕ, Bool, true, false, not, Option, Some, None, IfSome, List, [], ◌∷◌, find, cond, option_map, is_some, ◌<◌, ◌≤◌, nat_lt, refl, unwrap_or, Result, Ok, Err}
 use Rattle.std.specs.List.{range_with_len}
 use Rattle.std.proofs.Common.{sym, ◌∙◌, ap, subst, inl, inr, arith, subst}
 use Rattle.std.proofs.lemmas.Bool.{and_parts, cases_eq, eq-eqb, eqb-true, ltb-false, ne_eqb}
 use Rattle.its_word.specs.Limits.{slots}
+use Rattle.its_word.specs.Links.{link_end, is_unopened}
 use Rattle.its_word.specs.Tree.{least_free}
 use Rattle.its_word.specs.declared.access.Fault.{Fault}
 use Rattle.its_word.specs.declared.calls.Ask.{Ask}
 use Rattle.its_word.specs.declared.calls.Exit.{Exit}
+use Rattle.its_word.specs.declared.link.End.{End}
+use Rattle.its_word.specs.declared.link.End.TheVariants as ends
 use Rattle.its_word.proofs.FreeLaws.{least_empty, least_below}
 use Rattle.its_frame.specs.declared.change.Change.{Change}
 use Rattle.its_frame.specs.declared.change.Change.TheVariants as changes
@@ -17,21 +20,25 @@ use Rattle.its_frame.specs.declared.change.Opened.TheVariants as opened
 use Rattle.its_frame.specs.declared.variable.Variable.{Variable}
 use Rattle.its_plain.specs.Arguments.{input, has_input, place_of_input}
 use Rattle.its_frame.specs.Variables.{variable_named}
-use Rattle.its_plain.specs.CallBasic.{dismissed_by, dismiss_at, dismiss, Party, Oneself, Nobody, Channel, by_oneself, by_superior, set_own, own_variable, set_other, value_of_other, other_variable, usrvar_of, party_on, party, is_oneself, usrvar, told_superior, channel_at, longest_period, alarm_of}
-use Rattle.its_plain.specs.CallTty.{console_of, has_console, can_take, is_superior, is_holder, lands, ttylnd_of, ttylnd}
+use Rattle.its_plain.specs.CallBasic.{dismissed_by, dismiss_at, dismiss, Party, Oneself, Nobody, Channel, by_oneself, by_superior, set_own, own_variable, set_other, value_of_other, other_variable, usrvar_of, party_on, party, is_oneself, usrvar, told_superior, channel_at, longest_period, alarm_of, is_superior}
+use Rattle.its_plain.specs.CallLink.{can_open}
+use Rattle.its_plain.specs.CallTty.{console_of, has_console, can_take, is_holder, lands, ttylnd_of, ttylnd}
 use Rattle.its_plain.specs.CallUsr.{has_names, inferior_named, any_named, makes_job, opens_job, usr_tests, opens_usr, uclose_on, uclose}
-use Rattle.its_plain.specs.Change.{superior_in, superiors, console_in, effect}
+use Rattle.its_plain.specs.Change.{channel_in, superior_in, superiors, console_in, inferior, effect}
 use Rattle.its_plain.specs.CallStep.{step, decision}
 use Rattle.its_plain.specs.Decide.{call_named, decided_by, decided, target}
 use Rattle.its_plain.specs.Interrupt.{dismissed}
-use Rattle.its_plain.specs.Machine.{Chan, Shut, TtyIn, TtyOut, Reads, Writes, On, Whole, Machine, limit}
+use Rattle.its_plain.specs.Machine.{Chan, Shut, Writes, On, Pipe, Whole, Machine, limit}
 use Rattle.its_plain.specs.Tests.{◌⇒◌, finishes, fails, out}
 use Rattle.its_plain.specs.View.{View, Outline, outline, view}
 use Rattle.its_stepped.specs.Alarmed.{Coming}
-use Rattle.its_stepped.specs.Forest.{OnInferior, Forest}
+use Rattle.its_stepped.specs.Forest.{OnInferior, end_at, Forest}
+use Rattle.its_stepped.proofs.ChannelLaws.{at_open, free_channel}
+use Rattle.its_stepped.proofs.FrameLaws.{changed_only}
+use Rattle.its_stepped.proofs.JoinedLaws.{IsUnlinked, Opens}
 use Rattle.its_stepped.proofs.TestLaws.{by_test, first_holds}
 use Rattle.its_stepped.proofs.ForestLaws.{CanOpen, MakesInferior, Fits, AllFit, FitsAll, channel_of, inferior_stands, made_inferior, steps_where}
-use Rattle.its_stepped.proofs.CallWays.{OpensMildly, Mild, AllStill, AllMild, Ways, Apart, call_ways}
+use Rattle.its_stepped.proofs.CallWays.{OpensMildly, Joinable, Mild, AllStill, AllMild, Ways, Apart, call_ways}
 
 dismissed_fits : (x : View) (p w j : ℕ) (m : Machine) (r : Result Exit Fault) → FitsAll (dismissed_by x p w r) j m
 dismissed_fits x p w j m (Ok e) = tt
@@ -79,29 +86,6 @@ told_fits : (o : Option ℕ) (j : ℕ) (m : Machine) → AllFit (told_superior o
 told_fits (Some k) j m = (tt, tt)
 told_fits None j m = tt
 
--- a mild change
-opens_fit : (on : Opened) (j : ℕ) (m : Machine) → OpensMildly on → CanOpen on j m
-opens_fit (opened.Reading d x y) j m h = tt
-opens_fit (opened.Writing d x y) j m h = tt
-opens_fit _ j m h = absurd h
-
-mild_fits : (x : View) (c : Change) (j : ℕ) (m : Machine) → Mild x c → Fits c j m
-mild_fits x (changes.Open n on) j m h = opens_fit on j m h
-mild_fits x (changes.Make s u n) j m h = absurd h
-mild_fits x (changes.Hold c s) j m h = absurd h
-mild_fits x (changes.Remove s) j m h = absurd h
-mild_fits x (changes.Arm alarm) j m h = absurd h
-mild_fits x _ j m h = tt
-
-still_fit : (j : ℕ) (cs : List Change) (m : Machine) → AllStill cs → AllFit cs j m
-still_fit j [] m h = tt
-still_fit j (changes.Move n at ∷ cs) m h = (tt, still_fit j cs (effect (changes.Move n at) j m) h.1)
-still_fit j (c ∷ cs) m h = absurd h.0
-
-all_fit : (x : View) (j : ℕ) (cs : List Change) (m : Machine) → AllMild x cs → AllFit cs j m
-all_fit x j [] m h = tt
-all_fit x j (c ∷ cs) m h = (mild_fits x c j m h.0, still_fit j cs (effect c j m) h.1)
-
 -- what a call sees of the machine that it is in
 record Sees (x : View) (j : ℕ) (m : Machine) : Type 0 where
   slot : x.slot ≡ j
@@ -112,6 +96,56 @@ record Sees (x : View) (j : ℕ) (m : Machine) : Type 0 where
   superior : superiors m j ≡ x.own.superior
   console : x.own.job.console ≡ console_in (m.jobs j)
   clock : x.clock ≡ m.clock
+  own : (n : ℕ) → x.own.channels n ≡ channel_in (m.jobs j) n
+  links : (l : ℕ) → x.links l ≡ m.links l
+
+-- a mild change
+opens_fit : (on : Opened) (j : ℕ) (m : Machine) → OpensMildly on → CanOpen on j m
+opens_fit (opened.Reading d x y) j m h = tt
+opens_fit (opened.Writing d x y) j m h = tt
+opens_fit _ j m h = absurd h
+
+-- a channel that is closed, or that is on something else, is on no link
+free_fits : (x : View) (n j : ℕ) (m : Machine) (c : Chan) → Sees x j m → x.own.channels n ≡ c → IsUnlinked c → IsUnlinked (channel_in (m.jobs j) n)
+free_fits x n j m c see is h = subst IsUnlinked (sym is ∙ see.own n) h
+
+not_opened_by : (write : Bool) (o : Option Pipe) → can_open write o ≡ true → end_at write o ≡ ends.Unopened
+not_opened_by write (Some p) h = go (link_end write p.link) h
+  where
+    go : (e : End) → is_unopened e ≡ true → e ≡ ends.Unopened
+    go ends.Unopened h = refl
+    go (ends.Opened k i) h = cc
+    go ends.Closed h = cc
+not_opened_by write None h = refl
+
+join_fits : (x : View) (n l j : ℕ) (write : Bool) (u y : ℕ) (m : Machine) → Sees x j m → Joinable x n l write u y → Opens l n j write m
+join_fits x n l j write u y m see h = record {
+  few = h.few;
+  maker = see.job;
+  free = free_fits x n j m Shut see h.shut tt;
+  unopened = not_opened_by write (m.links l) (ap (can_open write) (sym (see.links l)) ∙ h.unopened);
+}
+
+mild_fits : (x : View) (c : Change) (j : ℕ) (m : Machine) → Sees x j m → Mild x c → Fits c j m
+mild_fits x (changes.Open n on) j m see h = (opens_fit on j m h.0, free_fits x n j m Shut see h.1 tt)
+mild_fits x (changes.Shut n) j m see h = free_fits x n j m (x.own.channels n) see refl h
+mild_fits x (changes.Close n) j m see h = free_fits x n j m (Writes h.file) see (at_open x.own.channels n (Writes h.file) h.is (λ e. cc)) tt
+mild_fits x (changes.Join n l write u y) j m see h = join_fits x n l j write u y m see h
+mild_fits x (changes.Part n l write) j m see h = sym (see.own n) ∙ h
+mild_fits x (changes.Make s u n) j m see h = absurd h
+mild_fits x (changes.Hold c s) j m see h = absurd h
+mild_fits x (changes.Remove s) j m see h = absurd h
+mild_fits x (changes.Arm alarm) j m see h = absurd h
+mild_fits x _ j m see h = tt
+
+still_fit : (j : ℕ) (cs : List Change) (m : Machine) → AllStill cs → AllFit cs j m
+still_fit j [] m h = tt
+still_fit j (changes.Move n at ∷ cs) m h = (tt, still_fit j cs (effect (changes.Move n at) j m) h.1)
+still_fit j (c ∷ cs) m h = absurd h.0
+
+all_fit : (x : View) (j : ℕ) (cs : List Change) (m : Machine) → Sees x j m → AllMild x cs → AllFit cs j m
+all_fit x j [] m see h = tt
+all_fit x j (c ∷ cs) m see h = (mild_fits x c j m see h.0, still_fit j cs (effect c j m) h.1)
 
 opened_fits : (b : Bool) (j : ℕ) (m : Machine) → is_some (console_in (m.jobs j)) ≡ true → CanOpen (if b then opened.TtyOut else opened.TtyIn) j m
 opened_fits true j m h = h
@@ -129,11 +163,11 @@ ways_fit x a j m see = record {
   failing = λ k. tt;
   faulting = λ f. tt;
   stuck = tt;
-  opening = λ h b. (opened_fits b j m (ap is_some (sym see.console) ∙ h), tt);
+  opening = λ h f b. ((opened_fits b j m (ap is_some (sym see.console) ∙ h), free_fits x (input a 0) j m Shut see f tt), tt);
   arming = λ n h. (subst (λ (c : ℕ). IfSome (alarm_of x.clock n) (λ a. Coming c a)) see.clock (armed_fits x.clock n h), tt);
-  ending = λ cs ss h. all_fit x j cs m h;
-  moved = λ cs ss h. all_fit x j cs m h;
-  going = λ cs o vs h. all_fit x j cs m h;
+  ending = λ cs ss h. all_fit x j cs m see h;
+  moved = λ cs ss h. all_fit x j cs m see h;
+  going = λ cs o vs h. all_fit x j cs m see h;
 }
 
 -- TTYLND: a channel on a job is on an inferior, which is a job
@@ -201,15 +235,28 @@ least_fits x s j m see h = record {
   maker = see.job;
 }
 
-makes_fits : (x : View) (a : Ask) (n u y j : ℕ) (m : Machine) → Sees x j m → (o : Option ℕ) → least_free x.limit x.outlines ≡ o → FitsAll (makes_job x a n u y o) j m
-makes_fits x a n u y j m see (Some s) is = (least_fits x s j m see is, (made_inferior m s j u y, tt))
-makes_fits x a n u y j m see None is = tt
+-- a job that is made leaves the channels of its maker
+made_apart : (j s u y n : ℕ) (m : Machine) → MakesInferior s j m → channel_in ((effect (changes.Make s u y) j m).jobs j) n ≡ channel_in (m.jobs j) n
+unfolding effect
+made_apart j s u y n m fits =
+    let apart : j ≢ s = λ e. (let no : false ≡ true = ap is_some (sym fits.free) ∙ ap (λ (i : ℕ). is_some (m.jobs i)) (sym e) ∙ fits.maker in cc) in
+    ap (λ (o : Option Whole). channel_in o n) ((changed_only m.jobs s (Some (inferior j (m.jobs j) u y))).others j apart)
 
-job_fits : (x : View) (a : Ask) (n u y j : ℕ) (m : Machine) (write : Bool) → Sees x j m → (o : Option ℕ) → inferior_named x u y ≡ o → FitsAll (opens_job x a n u y write o) j m
-job_fits x a n u y j m write see (Some s) is = (named_inferior x j u y s m see.slot see.outlines is, tt)
-job_fits x a n u y j m write see None is =
+makes_fits : (x : View) (a : Ask) (n u y j : ℕ) (m : Machine) → Sees x j m → x.own.channels n ≡ Shut → (o : Option ℕ)
+    → least_free x.limit x.outlines ≡ o → FitsAll (makes_job x a n u y o) j m
+makes_fits x a n u y j m see free (Some s) is =
+    let fits = least_fits x s j m see is in
+    let still : IsUnlinked (channel_in ((effect (changes.Make s u y) j m).jobs j) n) =
+    subst IsUnlinked (sym (made_apart j s u y n m fits)) (free_fits x n j m Shut see free tt) in
+    (fits, ((made_inferior m s j u y, still), tt))
+makes_fits x a n u y j m see free None is = tt
+
+job_fits : (x : View) (a : Ask) (n u y j : ℕ) (m : Machine) (write : Bool) → Sees x j m → x.own.channels n ≡ Shut → (o : Option ℕ)
+    → inferior_named x u y ≡ o → FitsAll (opens_job x a n u y write o) j m
+job_fits x a n u y j m write see free (Some s) is = ((named_inferior x j u y s m see.slot see.outlines is, free_fits x n j m Shut see free tt), tt)
+job_fits x a n u y j m write see free None is =
     first_holds (λ d. FitsAll d j m) (any_named x u y ⇒ fails x a 0o13 ∷ not write ⇒ fails x a 0o12 ∷ []) (makes_job x a n u y (least_free x.limit x.outlines))
-    (λ t. tt, (λ t. tt, tt)) (λ t. makes_fits x a n u y j m see (least_free x.limit x.outlines) refl)
+    (λ t. tt, (λ t. tt, tt)) (λ t. makes_fits x a n u y j m see free (least_free x.limit x.outlines) refl)
 
 opens_usr_fits : (x : View) (a : Ask) (j : ℕ) (m : Machine) → Sees x j m → FitsAll (opens_usr x a) j m
 unfolding opens_usr
@@ -217,7 +264,8 @@ opens_usr_fits x a j m see =
     let control = unwrap_or a.control 0 in
     let named = inferior_named x (input a 2) (input a 3) in
     first_holds (λ d. FitsAll d j m) (usr_tests x a (input a 0) control) (opens_job x a (input a 0) (input a 2) (input a 3) (control == 1) named)
-    (λ t. tt, (λ t. tt, tt)) (λ t. job_fits x a (input a 0) (input a 2) (input a 3) j m (control == 1) see named refl)
+    (λ t. tt, (λ t. tt, tt))
+    (λ t. job_fits x a (input a 0) (input a 2) (input a 3) j m (control == 1) see (free_channel x.own.channels (input a 0) t.0) named refl)
 
 -- UCLOSE
 uclose_fits : (x : View) (a : Ask) (j : ℕ) (m : Machine) → Sees x j m → FitsAll (uclose x a) j m
@@ -256,6 +304,8 @@ sees m j q t d is = record {
   superior = ap superior_in is;
   console = sym (ap console_in is);
   clock = refl;
+  own = λ n. sym (ap (λ (o : Option Whole). channel_in o n) is);
+  links = λ l. refl;
 }
 
 pub decision_fits : (m : Machine) (j : ℕ) (q : Whole) (a : Ask) → Forest m → m.jobs j ≡ Some q → FitsAll (decision m j q a) j m

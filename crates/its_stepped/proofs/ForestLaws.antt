@@ -20,15 +20,16 @@ use Rattle.its_frame.specs.declared.frame.Frame.{Frame}
 use Rattle.its_plain.specs.Arguments.{revalued}
 use Rattle.its_plain.specs.CallBasic.{told_superior, channel_at}
 use Rattle.its_plain.specs.CallStep.{with_held, acted, decision, informs, step}
-use Rattle.its_plain.specs.Change.{on_slot, in_job, is_gone, chan_left, shut_on, left_job, passed_on, removed, channel_in, superior_in, superiors, inferior, effect, effects, console_in, with_inf}
+use Rattle.its_plain.specs.Change.{on_slot, in_job, is_gone, chan_left, shut_on, left_job, passed_on, removed, channel_in, superior_in, superiors, inferior, effect, effects, console_in, with_inf, with_sent, with_received}
 use Rattle.its_plain.specs.Interrupt.{delivered}
-use Rattle.its_plain.specs.Machine.{Chan, Shut, TtyIn, TtyOut, Reads, Writes, On, Whole, Machine, changed, no_machine, limit, with_new}
+use Rattle.its_plain.specs.Machine.{Chan, Shut, TtyIn, TtyOut, Reads, Writes, On, Linked, Pipe, Whole, Machine, changed, no_machine, limit, with_new}
 use Rattle.its_plain.specs.Own.{opened_on, at_position, with_word, on_channel}
 use Rattle.its_stepped.specs.Alarmed.{Coming}
-use Rattle.its_stepped.specs.Forest.{OnInferior, Forest, OnConsole}
+use Rattle.its_stepped.specs.Forest.{OnInferior, Forest, OnConsole, end_at, Joined}
 use Rattle.its_stepped.specs.State.{State, seen, plain}
 use Rattle.its_stepped.proofs.FrameLaws.{changed_only, on_slot_here, on_slot_other}
 use Rattle.its_stepped.proofs.EffectLaws.{channel_seen, superiors_plain, console_seen}
+use Rattle.its_stepped.proofs.JoinedLaws.{IsUnlinked, SameLink, same_link, unlinked, joined_same, job_joined, joined_starts, words_joined, Opens, join_joined, part_joined, removed_joined}
 use Rattle.its_plain.proofs.StepLaws.{AllOf, step_has}
 use Rattle.its_plain.specs.Decide.{reach}
 use Rattle.its_stepped.proofs.ConsoledLaws.{variable_console, held_console, unit_console, delivered_console}
@@ -124,10 +125,11 @@ forest_starts = record {
   channels = λ k n. tt;
   consoles = λ k n. tt;
   holders = λ c. tt;
+  links = joined_starts;
 }
 
 -- a machine with the superiors of another and with all its jobs, whose channels are on inferiors and on the consoles of their
--- jobs, and whose holders are jobs
+-- jobs, whose holders are jobs, and whose links and channels agree
 pub record SameTree (m n : Machine) : Type 0 where
   pub few : (k : ℕ) → limit n ≤ k → n.jobs k ≡ None
   pub tree : (k : ℕ) → superiors n k ≡ superiors m k
@@ -135,6 +137,7 @@ pub record SameTree (m n : Machine) : Type 0 where
   pub channels : (k i : ℕ) → OnInferior m k (channel_in (n.jobs k) i)
   pub consoles : (k i : ℕ) → OnConsole (console_in (n.jobs k)) (channel_in (n.jobs k) i)
   pub holders : (c : ℕ) → IfSome (n.holders c) (λ s. is_some (n.jobs s) ≡ true)
+  pub links : Joined n
 
 on_alike : (m n : Machine) (k : ℕ) (c : Chan) → ((s : ℕ) → superiors m s ≡ Some k → superiors n s ≡ Some k) → OnInferior m k c → OnInferior n k c
 on_alike m n k (On s write at) h o = h s o
@@ -148,11 +151,12 @@ same_forest m n h d = record {
   channels = λ k i. on_alike m n k (channel_in (n.jobs k) i) (λ s e. h.tree s ∙ e) (h.channels k i);
   consoles = h.consoles;
   holders = h.holders;
+  links = h.links;
 }
 
--- another machine with the same jobs and holders
-jobs_forest : (m n : Machine) → n.jobs ≡ m.jobs → n.holders ≡ m.holders → n.version ≡ m.version → Forest m → Forest n
-jobs_forest m n e f v d = same_forest m n
+-- another machine with the same jobs, holders and links
+jobs_forest : (m n : Machine) → n.jobs ≡ m.jobs → n.holders ≡ m.holders → n.version ≡ m.version → n.links ≡ m.links → Forest m → Forest n
+jobs_forest m n e f v g d = same_forest m n
     (record {
       few = λ k l. ap (λ (jobs : ℕ → Option Whole). jobs k) e ∙ d.few k (subst (λ (i : ℕ). limit_of i ≤ k) v l);
       tree = λ k. ap (λ (jobs : ℕ → Option Whole). superior_in (jobs k)) e;
@@ -161,6 +165,8 @@ jobs_forest m n e f v d = same_forest m n
       consoles = λ k i. subst (λ (jobs : ℕ → Option Whole). OnConsole (console_in (jobs k)) (channel_in (jobs k) i)) (sym e) (d.consoles k i);
       holders = λ c. subst (λ (o : Option ℕ). IfSome o (λ s. is_some (n.jobs s) ≡ true)) (sym (ap (λ (h : ℕ → Option ℕ). h c) f))
           (IfSome_then (m.holders c) (d.holders c) (λ s h. ap (λ (jobs : ℕ → Option Whole). is_some (jobs s)) e ∙ h));
+      links = joined_same m n (λ k i. same_link _ _ (ap (λ (jobs : ℕ → Option Whole). channel_in (jobs k) i) e))
+          (λ l write. ap (λ (ls : ℕ → Option Pipe). end_at write (ls l)) g) d.links;
     })
     d
 
@@ -187,14 +193,20 @@ forest_raw w d = same_forest (plain w) w.raw
       channels = λ k i. subst (OnInferior (plain w) k) (channel_seen (w.frames k) (w.raw.jobs k) i) (d.channels k i);
       consoles = λ k i. on_console (console_seen (w.frames k) (w.raw.jobs k)) (channel_seen (w.frames k) (w.raw.jobs k) i) (d.consoles k i);
       holders = λ c. IfSome_then (w.raw.holders c) (d.holders c) (λ s h. seen_some (w.frames s) (w.raw.jobs s) h);
+      links = joined_same (plain w) w.raw (λ k i. same_link _ _ (sym (channel_seen (w.frames k) (w.raw.jobs k) i))) (λ l write. refl) d.links;
     })
     d
 
 -- one job changed: its superior stays, and its channels are on inferiors and on its console
-record Keeps (m : Machine) (s : ℕ) (f : Whole → Whole) : Type 0 where
+record Lies (m : Machine) (s : ℕ) (f : Whole → Whole) : Type 0 where
   superior : (q : Whole) → (f q).superior ≡ q.superior
   channels : (q : Whole) → ((i : ℕ) → OnInferior m s (q.channels i)) → (i : ℕ) → OnInferior m s ((f q).channels i)
   consoles : (q : Whole) → m.jobs s ≡ Some q → ((i : ℕ) → OnConsole q.job.console (q.channels i)) → (i : ℕ) → OnConsole (f q).job.console ((f q).channels i)
+
+-- and its channels are on the links that they were on
+record Keeps (m : Machine) (s : ℕ) (f : Whole → Whole) : Type 0 where
+  lies : Lies m s f
+  links : (q : Whole) → m.jobs s ≡ Some q → (i : ℕ) → SameLink (q.channels i) ((f q).channels i)
 
 slot_few : (jobs : ℕ → Option Whole) (s k : ℕ) (f : Whole → Whole) → jobs k ≡ None → on_slot jobs s f k ≡ None
 slot_few jobs s k f h = elim (cases_eq k s) [
@@ -212,31 +224,37 @@ slot_some f true (Some q) h = refl
 slot_some f true None h = h
 slot_some f false o h = h
 
-job_channels : (m : Machine) (s : ℕ) (f : Whole → Whole) → Keeps m s f → (o : Option Whole) → ((i : ℕ) → OnInferior m s (channel_in o i)) → (i : ℕ) → OnInferior m s (channel_in (option_map f o) i)
+job_channels : (m : Machine) (s : ℕ) (f : Whole → Whole) → Lies m s f → (o : Option Whole) → ((i : ℕ) → OnInferior m s (channel_in o i)) → (i : ℕ)
+    → OnInferior m s (channel_in (option_map f o) i)
 job_channels m s f h (Some q) on i = h.channels q on i
 job_channels m s f h None on i = tt
 
-slot_channels : (m : Machine) (s k i : ℕ) (f : Whole → Whole) → Keeps m s f → Forest m → OnInferior m k (channel_in (on_slot m.jobs s f k) i)
+slot_channels : (m : Machine) (s k i : ℕ) (f : Whole → Whole) → Lies m s f → Forest m → OnInferior m k (channel_in (on_slot m.jobs s f k) i)
 slot_channels m s k i f h d = elim (cases_eq k s) [
   | inl e ↦ subst (λ (x : ℕ). OnInferior m x (channel_in (on_slot m.jobs s f x) i)) (sym e)
       (subst (λ (o : Option Whole). OnInferior m s (channel_in o i)) (sym (on_slot_here m.jobs s f)) (job_channels m s f h (m.jobs s) (d.channels s) i))
   | inr ne ↦ subst (λ (o : Option Whole). OnInferior m k (channel_in o i)) (sym (on_slot_other m.jobs s k f ne)) (d.channels k i)
 ]
 
-job_consoles : (m : Machine) (s : ℕ) (f : Whole → Whole) → Keeps m s f → (o : Option Whole) → m.jobs s ≡ o → ((i : ℕ) → OnConsole (console_in o) (channel_in o i))
+job_consoles : (m : Machine) (s : ℕ) (f : Whole → Whole) → Lies m s f → (o : Option Whole) → m.jobs s ≡ o
+    → ((i : ℕ) → OnConsole (console_in o) (channel_in o i))
     → (i : ℕ) → OnConsole (console_in (option_map f o)) (channel_in (option_map f o) i)
 job_consoles m s f h (Some q) is on i = h.consoles q is on i
 job_consoles m s f h None is on i = tt
 
-slot_consoles : (m : Machine) (s k i : ℕ) (f : Whole → Whole) → Keeps m s f → Forest m → OnConsole (console_in (on_slot m.jobs s f k)) (channel_in (on_slot m.jobs s f k) i)
+slot_consoles : (m : Machine) (s k i : ℕ) (f : Whole → Whole) → Lies m s f → Forest m
+    → OnConsole (console_in (on_slot m.jobs s f k)) (channel_in (on_slot m.jobs s f k) i)
 slot_consoles m s k i f h d = elim (cases_eq k s) [
   | inl e ↦ subst (λ (x : ℕ). OnConsole (console_in (on_slot m.jobs s f x)) (channel_in (on_slot m.jobs s f x) i)) (sym e)
       (subst (λ (o : Option Whole). OnConsole (console_in o) (channel_in o i)) (sym (on_slot_here m.jobs s f)) (job_consoles m s f h (m.jobs s) refl (d.consoles s) i))
   | inr ne ↦ subst (λ (o : Option Whole). OnConsole (console_in o) (channel_in o i)) (sym (on_slot_other m.jobs s k f ne)) (d.consoles k i)
 ]
 
-job_forest : (m : Machine) (s : ℕ) (f : Whole → Whole) → Keeps m s f → Forest m → Forest (in_job m s f)
-job_forest m s f h d = same_forest m (in_job m s f)
+-- the links may be others, if they agree with its channels
+placed_forest : (m : Machine) (s : ℕ) (f : Whole → Whole) (ls : ℕ → Option Pipe) → Lies m s f → Joined (record (in_job m s f) { links = ls })
+    → Forest m
+    → Forest (record (in_job m s f) { links = ls })
+placed_forest m s f ls h joined d = same_forest m (record (in_job m s f) { links = ls })
     (record {
       few = λ k l. slot_few m.jobs s k f (d.few k l);
       tree = λ k. slot_superior f (k == s) (m.jobs k) h.superior;
@@ -244,16 +262,28 @@ job_forest m s f h d = same_forest m (in_job m s f)
       channels = λ k i. slot_channels m s k i f h d;
       consoles = λ k i. slot_consoles m s k i f h d;
       holders = λ c. IfSome_then (m.holders c) (d.holders c) (λ i x. slot_some f (i == s) (m.jobs i) x);
+      links = joined;
     })
     d
+
+job_forest : (m : Machine) (s : ℕ) (f : Whole → Whole) → Keeps m s f → Forest m → Forest (in_job m s f)
+job_forest m s f h d = placed_forest m s f m.links h.lies (job_joined m s f h.links d.links) d
+
+-- the links alone changed
+links_forest : (m : Machine) (ls : ℕ → Option Pipe) → Joined (record m { links = ls }) → Forest m → Forest (record m { links = ls })
+links_forest m ls joined d = same_forest m (record m { links = ls })
+    (record { few = d.few; tree = λ k. refl; jobs = λ k x. x; channels = d.channels; consoles = d.consoles; holders = d.holders; links = joined }) d
 
 -- the same superior, channels and console
 calm : (m : Machine) (s : ℕ) (f : Whole → Whole) → ((q : Whole) → (f q).superior ≡ q.superior) → ((q : Whole) → (f q).channels ≡ q.channels)
     → ((q : Whole) → m.jobs s ≡ Some q → (f q).job.console ≡ q.job.console) → Keeps m s f
 calm m s f e g h = record {
-  superior = e;
-  channels = λ q on i. subst (λ (c : ℕ → Chan). OnInferior m s (c i)) (sym (g q)) (on i);
-  consoles = λ q is on i. on_console (sym (h q is)) (ap (λ (c : ℕ → Chan). c i) (sym (g q))) (on i);
+  lies = record {
+    superior = e;
+    channels = λ q on i. subst (λ (c : ℕ → Chan). OnInferior m s (c i)) (sym (g q)) (on i);
+    consoles = λ q is on i. on_console (sym (h q is)) (ap (λ (c : ℕ → Chan). c i) (sym (g q))) (on i);
+  };
+  links = λ q is i. same_link _ _ (ap (λ (c : ℕ → Chan). c i) (g q));
 }
 
 -- a channel
@@ -269,20 +299,36 @@ either_console : (o : Option ℕ) (b : Bool) (c e : Chan) → OnConsole o c → 
 either_console o true c e x y = x
 either_console o false c e x y = y
 
-channel_keeps : (m : Machine) (j n : ℕ) (g : Chan → Chan) → KeepsOn m j g → Keeps m j (on_channel n g)
-channel_keeps m j n g h = record {
+channel_lies : (m : Machine) (j n : ℕ) (g : Chan → Chan) → KeepsOn m j g → Lies m j (on_channel n g)
+channel_lies m j n g h = record {
   superior = λ q. refl;
   channels = λ q on i. either_on m j (i == n) (g (q.channels n)) (q.channels i) (h.inferior (q.channels n) (on n)) (on i);
   consoles = λ q is on i. either_console q.job.console (i == n) (g (q.channels n)) (q.channels i)
       (subst (λ (o : Option Whole). OnConsole (console_in o) (q.channels n) → OnConsole (console_in o) (g (q.channels n))) is (h.console (q.channels n)) (on n)) (on i);
 }
 
+-- and on links
+either_link : (i n : ℕ) (c e : Chan) (cs : ℕ → Chan) → cs n ≡ c → SameLink c e → SameLink (cs i) (if i == n then e else cs i)
+either_link i n c e cs is h = elim (cases_eq i n) [
+  | inl at ↦ rw (at, eq-eqb n n refl) (subst (λ (x : Chan). SameLink x e) (sym is) h)
+  | inr ne ↦ rw (ne_eqb i n ne) (same_link _ _ refl)
+]
+
+channel_keeps : (m : Machine) (j n : ℕ) (g : Chan → Chan) → KeepsOn m j g → SameLink (channel_in (m.jobs j) n) (g (channel_in (m.jobs j) n))
+    → Keeps m j (on_channel n g)
+channel_keeps m j n g h k = record {
+  lies = channel_lies m j n g h;
+  links = λ q is i. either_link i n (q.channels n) (g (q.channels n)) q.channels refl
+      (subst (λ (o : Option Whole). SameLink (channel_in o n) (g (channel_in o n))) is k);
+}
+
 shut_keeps : (m : Machine) (j : ℕ) → KeepsOn m j (λ c. Shut)
 shut_keeps m j = record { inferior = λ c h. tt; console = λ c h. tt }
 
--- a change that keeps jobs as they lie: a channel on a job is opened on an inferior, one on a console where the job has one, a
--- job that exists makes another in a free slot, an inferior is removed, and a console is held by a job; and an alarm that is set is
--- to come
+-- a change that keeps jobs as they lie: a channel on a job is opened on an inferior, one on a console if the job has
+-- one, a job that exists makes another in a free slot, an inferior is removed, and a console is held by a job; a channel
+-- that is opened or closed is on no link; an end of a link is opened that nobody has opened, and one is closed with its
+-- channel; and an alarm that is set is to come
 abbrev pub CanOpen : Opened → ℕ → Machine → Type 0
 CanOpen (opened.Usr s write) j m = superiors m s ≡ Some j
 CanOpen opened.TtyIn j m = is_some (console_in (m.jobs j)) ≡ true
@@ -295,7 +341,11 @@ pub record MakesInferior (s j : ℕ) (m : Machine) : Type 0 where
   pub maker : is_some (m.jobs j) ≡ true
 
 abbrev pub Fits : Change → ℕ → Machine → Type 0
-Fits (changes.Open n on) j m = CanOpen on j m
+Fits (changes.Open n on) j m = CanOpen on j m × IsUnlinked (channel_in (m.jobs j) n)
+Fits (changes.Shut n) j m = IsUnlinked (channel_in (m.jobs j) n)
+Fits (changes.Close n) j m = IsUnlinked (channel_in (m.jobs j) n)
+Fits (changes.Join n l write x y) j m = Opens l n j write m
+Fits (changes.Part n l write) j m = channel_in (m.jobs j) n ≡ Linked l write
 Fits (changes.Make s u n) j m = MakesInferior s j m
 Fits (changes.Remove s) j m = superiors m s ≡ Some j
 Fits (changes.Hold c s) j m = is_some (m.jobs s) ≡ true
@@ -312,6 +362,34 @@ opened_keeps m j opened.TtyOut f = record { inferior = λ c h. tt; console = λ 
 opened_keeps m j (opened.Reading d x y) f = record { inferior = λ c h. tt; console = λ c h. tt }
 opened_keeps m j (opened.Writing d x y) f = record { inferior = λ c h. tt; console = λ c h. tt }
 opened_keeps m j (opened.Usr s write) f = record { inferior = λ c h. f; console = λ c h. tt }
+
+opened_free : (on : Opened) → IsUnlinked (opened_on on)
+opened_free opened.TtyIn = tt
+opened_free opened.TtyOut = tt
+opened_free (opened.Reading d x y) = tt
+opened_free (opened.Writing d x y) = tt
+opened_free (opened.Usr s write) = tt
+
+linked_keeps : (m : Machine) (j l : ℕ) (write : Bool) → KeepsOn m j (λ c. Linked l write)
+linked_keeps m j l write = record { inferior = λ c h. tt; console = λ c h. tt }
+
+moved_link : (at : ℕ) (c : Chan) → SameLink c (at_position at c)
+moved_link at (Reads f p) = unlinked _ _ tt tt
+moved_link at (On k w p) = unlinked _ _ tt tt
+moved_link at Shut = same_link _ _ refl
+moved_link at TtyIn = same_link _ _ refl
+moved_link at TtyOut = same_link _ _ refl
+moved_link at (Writes f) = same_link _ _ refl
+moved_link at (Linked l write) = same_link _ _ refl
+
+word_link : (x : ℕ) (c : Chan) → SameLink c (with_word x c)
+word_link x (Writes f) = unlinked _ _ tt tt
+word_link x (Reads f p) = same_link _ _ refl
+word_link x (On k w p) = same_link _ _ refl
+word_link x Shut = same_link _ _ refl
+word_link x TtyIn = same_link _ _ refl
+word_link x TtyOut = same_link _ _ refl
+word_link x (Linked l write) = same_link _ _ refl
 
 moved_keeps : (m : Machine) (j at : ℕ) → KeepsOn m j (at_position at)
 moved_keeps m j at = record { inferior = inferior; console = console }
@@ -351,6 +429,7 @@ held_forest m c s h d = same_forest m _
       channels = d.channels;
       consoles = d.consoles;
       holders = λ k. either_some (k == c) s (m.holders k) (λ i. is_some (m.jobs i) ≡ true) h (d.holders k);
+      links = joined_same m _ (λ k i. same_link _ _ refl) (λ l write. refl) d.links;
     })
     d
 
@@ -362,6 +441,7 @@ record Made (m n : Machine) (s j : ℕ) : Type 0 where
   others : (k : ℕ) → k ≢ s → n.jobs k ≡ m.jobs k
   holders : (c : ℕ) → n.holders c ≡ m.holders c
   version : n.version ≡ m.version
+  links : n.links ≡ m.links
 
 module _ (m n : Machine) (s j : ℕ) (made : Made m n s j) (fits : MakesInferior s j m) (d : Forest m) where
   other_slot : (k : ℕ) → is_some (m.jobs k) ≡ true → k ≢ s
@@ -417,6 +497,13 @@ module _ (m n : Machine) (s j : ℕ) (made : Made m n s j) (fits : MakesInferior
     | inr ne ↦ subst (λ (o : Option Whole). OnConsole (console_in o) (channel_in o i)) (sym (made.others k ne)) (d.consoles k i)
   ]
 
+  made_same : (k i : ℕ) → channel_in (n.jobs k) i ≡ channel_in (m.jobs k) i
+  made_same k i = elim (cases_eq k s) [
+    | inl at ↦ ap (λ (x : ℕ). channel_in (n.jobs x) i) at ∙ made.shut i
+        ∙ sym (ap (λ (x : ℕ). channel_in (m.jobs x) i) at ∙ ap (λ (o : Option Whole). channel_in o i) fits.free)
+    | inr ne ↦ ap (λ (o : Option Whole). channel_in o i) (made.others k ne)
+  ]
+
   made_forest : Forest n
   made_forest = record {
     few = λ k l.
@@ -427,6 +514,7 @@ module _ (m n : Machine) (s j : ℕ) (made : Made m n s j) (fits : MakesInferior
     channels = made_channels;
     consoles = made_consoles;
     holders = λ c. subst (λ (o : Option ℕ). IfSome o (λ i. is_some (n.jobs i) ≡ true)) (sym (made.holders c)) (IfSome_then (m.holders c) (d.holders c) (λ i h. still_job i h));
+    links = joined_same m n (λ k i. same_link _ _ (made_same k i)) (λ l write. ap (λ (ls : ℕ → Option Pipe). end_at write (ls l)) made.links) d.links;
   }
 
 makes : (m : Machine) (s j u n : ℕ) → Made m (with_new m s (inferior j (m.jobs j) u n)) s j
@@ -439,6 +527,7 @@ makes m s j u n =
       others = only.others;
       holders = λ c. refl;
       version = refl;
+      links = refl;
     }
 
 -- what OPEN makes is an inferior of the caller
@@ -543,17 +632,20 @@ module _ (m : Machine) (r : ℕ) (d : Forest m) where
     channels = λ k i. left_channel k i (is_gone (superiors m) r k) (m.jobs k) (d.channels k i);
     consoles = λ k i. left_console i (is_gone (superiors m) r k) (m.jobs k) (d.consoles k i);
     holders = λ c. left_holder (m.holders c) (d.holders c);
+    links = removed_joined m r d.links;
   }
 
 -- a change
 pub effect_forest : (c : Change) (j : ℕ) (m : Machine) → Fits c j m → Forest m → Forest (effect c j m)
 unfolding effect
-effect_forest (changes.Open n on) j m f d = job_forest m j _ (channel_keeps m j n (λ c. opened_on on) (opened_keeps m j on f)) d
-effect_forest (changes.Shut n) j m f d = job_forest m j _ (channel_keeps m j n (λ c. Shut) (shut_keeps m j)) d
-effect_forest (changes.Move n at) j m f d = job_forest m j _ (channel_keeps m j n (at_position at) (moved_keeps m j at)) d
-effect_forest (changes.Append n x) j m f d = job_forest m j _ (channel_keeps m j n (with_word x) (word_keeps m j x)) d
+effect_forest (changes.Open n on) j m f d =
+    job_forest m j _ (channel_keeps m j n (λ c. opened_on on) (opened_keeps m j on f.0) (unlinked _ _ f.1 (opened_free on))) d
+effect_forest (changes.Shut n) j m f d = job_forest m j _ (channel_keeps m j n (λ c. Shut) (shut_keeps m j) (unlinked _ _ f tt)) d
+effect_forest (changes.Move n at) j m f d = job_forest m j _ (channel_keeps m j n (at_position at) (moved_keeps m j at) (moved_link at _)) d
+effect_forest (changes.Append n x) j m f d = job_forest m j _ (channel_keeps m j n (with_word x) (word_keeps m j x) (word_link x _)) d
 effect_forest (changes.Close n) j m f d =
-    jobs_forest (in_job m j (on_channel n (λ c. Shut))) _ refl refl refl (job_forest m j _ (channel_keeps m j n (λ c. Shut) (shut_keeps m j)) d)
+    jobs_forest (in_job m j (on_channel n (λ c. Shut))) _ refl refl refl refl
+    (job_forest m j _ (channel_keeps m j n (λ c. Shut) (shut_keeps m j) (unlinked _ _ f tt)) d)
 effect_forest (changes.Hold c s) j m f d = held_forest m c s f d
 effect_forest (changes.Poke s a x) j m f d = job_forest m s _ (calm m s _ (λ q. refl) (λ q. refl) (λ q is. refl)) d
 effect_forest (changes.Set s v x) j m f d = job_forest m s _ (calm m s _ (λ q. refl) (λ q. refl) (λ q is. variable_console v x q.job)) d
@@ -564,7 +656,14 @@ effect_forest (changes.Make s u n) j m f d = made_forest m _ s j (makes m s j u 
 effect_forest (changes.Remove s) j m f d = removed_forest m s d
 effect_forest (changes.Inform s) j m f d = job_forest m s _ (calm m s _ (λ q. refl) (λ q. refl) (λ q is. refl)) d
 effect_forest (changes.Arm alarm) j m f d = job_forest m j _ (calm m j _ (λ q. refl) (λ q. refl) (λ q is. refl)) d
-effect_forest _ j m f d = jobs_forest m _ refl refl refl d
+effect_forest (changes.Join n l write x y) j m f d =
+    placed_forest m j (on_channel n (λ c. Linked l write)) _ (channel_lies m j n (λ c. Linked l write) (linked_keeps m j l write))
+    (join_joined m l n j x y write f d.links) d
+effect_forest (changes.Part n l write) j m f d =
+    placed_forest m j (on_channel n (λ c. Shut)) _ (channel_lies m j n (λ c. Shut) (shut_keeps m j)) (part_joined m l n j write f d.links) d
+effect_forest (changes.Send l x) j m f d = links_forest m _ (words_joined m l (with_sent x) (λ p. refl) d.links) d
+effect_forest (changes.Receive l) j m f d = links_forest m _ (words_joined m l with_received (λ p. refl) d.links) d
+effect_forest _ j m f d = jobs_forest m _ refl refl refl refl d
 
 effects_forest : (cs : List Change) (j : ℕ) (m : Machine) → AllFit cs j m → Forest m → Forest (effects cs j m)
 effects_forest [] j m f d = d
@@ -574,7 +673,7 @@ pub gone_forest : (m : Machine) (s j : ℕ) → Forest m → Forest (effect (cha
 unfolding effect
 gone_forest m s j d = removed_forest m s d
 
--- a decision whose changes keep jobs as they lie; a job that goes tells its superior
+-- a decision whose changes keep jobs as they lie; a job that goes reports to its superior
 abbrev pub FitsAll : Decision → ℕ → Machine → Type 0
 FitsAll (Waits r) j m = Unit {0}
 FitsAll (Goes cs h vs) j m = AllFit cs.items j m
@@ -617,7 +716,7 @@ informs_console true (Some s) j k m = slot_console with_inf (k == s) (m.jobs k) 
 informs_console true None j k m = refl
 informs_console false o j k m = refl
 
--- where each decision keeps jobs as they lie, so does a step
+-- if each decision keeps jobs as they lie, so does a step
 pub steps_where : ((m : Machine) (j : ℕ) (q : Whole) (a : Ask) → Forest m → m.jobs j ≡ Some q → FitsAll (decision m j q a) j m)
     → (m n : Machine) (j : ℕ) → Forest m → step m j ≡ Some n → Forest n
 steps_where fits m n j h e = step_has Forest m n j (λ q is.

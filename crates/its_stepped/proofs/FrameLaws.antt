@@ -35,7 +35,7 @@ pub stores_cons : (s : Store) (ss : List Store) (q : Whole) → with_stores (s �
 unfolding stored
 stores_cons s ss q = refl
 
--- what no single store and no leaving of a call touches is the same in the raw job and the job that it stands for
+-- what no single store and no leaving of a call touches is the same in the raw job and in its plain job
 module _ {X : Type 0} (g : Whole → X) (stores : (s : Store) (q : Whole) → g (with_stores (s ∷ []) q) ≡ g q) (leaves : (e : Exit) (q : Whole) → g (leave e q) ≡ g q) where
   stores_alike : (ss : List Store) (q : Whole) → g (with_stores ss q) ≡ g q
   stores_alike [] q = ap g (stores_none q)
@@ -115,7 +115,7 @@ pub mapped_plain : (w : State) → mapped (plain w) ≡ mapped w.raw
 unfolding plain pages_mapped
 mapped_plain w = λ t. sum_by (λ k. core_pages (w.frames k) (w.raw.jobs k) t) (range_with_len 0 slots)
 
--- what a function has already is no change
+-- to give a function a value that it has changes nothing
 pub changed_same : {X : Type 0} (f : ℕ → X) (s k : ℕ) (x : X) → f s ≡ x → f k ≡ changed f s x k
 changed_same f s k x e = elim (cases_eq k s) [
   | inl is ↦ rw (is, eq-eqb s s refl) e
@@ -140,7 +140,7 @@ on_slot_same jobs s k = go (k == s) (jobs k)
     go true None = refl
     go false o = refl
 
--- jobs through their frames, where one job and its frame are changed
+-- jobs through their frames, if one job and its frame are changed
 seen_here : (f f' : Option Frame) (h g : Whole → Whole) (o : Option Whole) → ((q : Whole) → o ≡ Some q → seen f' (h q) ≡ g (seen f q))
     → option_map (seen f') (option_map h o) ≡ option_map g (option_map (seen f) o)
 seen_here f f' h g None e = refl

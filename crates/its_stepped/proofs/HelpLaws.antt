@@ -1,4 +1,4 @@
--- The owed parts of a marked close, made by another call: the plain machine has them already.
+-- The pending parts of a marked close, performed by another call: the plain machine has them already.
 use Rattle.std.specs.Prelude.{◌≡◌, ℕ, Bool, true, false, None, refl}
 use Rattle.its_stepped.specs.State.{State, helped, plain}
 use Rattle.its_stepped.specs.Unwind.{help}
@@ -23,13 +23,13 @@ help_others w k = record { job = refl; frame = refl; page = refl }
 
 pub help_shared : (w : State) → Shares w (help w)
 unfolding help helped
-help_shared w = record { consoles = refl; holders = refl; clock = refl; version = refl; symbols = refl; files = refl }
+help_shared w = record { consoles = refl; holders = refl; clock = refl; version = refl; symbols = refl; links = refl; files = refl }
 
 pub help_unmarked : (w : State) → (help w).mark ≡ None
 unfolding help
 help_unmarked w = refl
 
--- the same where help is given or not
+-- the same whether help is given or not
 pub helped_if_plain : (b : Bool) (w : State) → plain (helped_if b w) ≡ plain w
 helped_if_plain true w = help_plain w
 helped_if_plain false w = refl

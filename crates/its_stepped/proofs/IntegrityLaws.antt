@@ -18,28 +18,32 @@ use Rattle.its_frame.specs.declared.decision.Held.{Held}
 use Rattle.its_frame.specs.declared.decision.Wait.{Wait}
 use Rattle.its_word.specs.declared.plan.Store.{Store}
 use Rattle.its_frame.specs.declared.decision.Decision.{Decision}
-use Rattle.its_frame.specs.declared.decision.Decision.TheVariants.{Waits, Goes, Ends, Gone}
+use Rattle.its_frame.specs.declared.decision.Decision.TheVariants.{Waits, Ends}
 use Rattle.its_frame.specs.declared.variable.Variable.{Variable}
 use Rattle.its_plain.specs.Arguments.{input, has_input, place_of_input}
-use Rattle.its_plain.specs.CallBasic.{ioc, dismissed_by, dismiss_at, dismiss, Oneself, Nobody, Channel, by_oneself, by_superior, set_own, own_variable, set_other, value_of_other, other_variable, usrvar_of, party_on, is_oneself, usrvar, logout, told_superior, channel_at, alarm_of}
-use Rattle.its_plain.specs.CallFile.{Channels, channels_in, channels_by, is_read}
-use Rattle.its_plain.specs.CallStep.{acted, decision, Transition, alone, becomes, informs, delivery, step}
-use Rattle.its_plain.specs.CallTty.{iot_ends, console_of, has_console, can_take, is_superior, is_holder, lands, ttylnd_of, ttylnd}
+use Rattle.its_plain.specs.CallBasic.{ioc, dismissed_by, dismiss_at, dismiss, Oneself, by_oneself, by_superior, set_own, own_variable, set_other, value_of_other, other_variable, usrvar_of, party_on, is_oneself, usrvar, logout, told_superior, channel_at, alarm_of, is_superior}
+use Rattle.its_plain.specs.CallFile.{channels_in, channels_by, is_read}
+use Rattle.its_plain.specs.CallStep.{acted, decision, Transition, informs, step}
+use Rattle.its_plain.specs.CallTty.{console_of, has_console, can_take, is_holder, lands, ttylnd_of, ttylnd}
+use Rattle.its_plain.specs.Transfer.{iot_ends}
 use Rattle.its_plain.specs.CallUsr.{any_named, inferior_named, makes_job, opens_job, usr_tests, opens_usr, uclose_on, uclose}
-use Rattle.its_plain.specs.Change.{on_slot, in_job, channel_in, superior_in, superiors, console_in, filed, taken_from, put_to, on_console, is_gone, chan_left, shut_on, left_job, passed_on, symbols_left, removed, inferior, with_inf, effect, effects}
+use Rattle.its_plain.specs.Change.{on_slot, in_job, channel_in, superior_in, superiors, console_in, taken_from, put_to, on_console, is_gone, chan_left, shut_on, left_job, removed, with_inf, end_closed, with_sent, with_received, on_link, effect, effects}
 use Rattle.its_plain.specs.Decide.{call_named, decided_by, decided, target, reach}
-use Rattle.its_plain.specs.Integrity.{MayWrite, Written, word_stored, variable_set, page_set, page_marked, RemovesTree, by_logout, by_uclose, Removes, JobMay, job_same, job_written, job_removed, superior_informed, superior_left, job_made, Uses, ConsoleMay, bytes_same, byte_taken, byte_put, CanTake, from_nobody, from_itself, from_inferior, HolderMay, holder_same, console_taken, console_given, console_passed, FilesMay, files_same, draft_closed, file_deleted, file_renamed, SymbolsMay, symbols_same, symbols_gone, symbols_none, MayStep}
+use Rattle.its_plain.specs.Integrity.{MayWrite, Written, word_stored, variable_set, page_set, page_marked, RemovesTree, by_logout, by_uclose, JobMay, job_same, job_written, job_removed, superior_informed, superior_left, job_made, Uses, ConsoleMay, bytes_same, byte_taken, byte_put, CanTake, from_nobody, from_itself, from_inferior, HolderMay, holder_same, console_taken, console_given, console_passed, FilesMay, files_same, draft_closed, file_deleted, file_renamed, SymbolsMay, symbols_same, symbols_gone, symbols_none, MayStep, LinkMay, link_same, end_opened, word_sent, word_received, end_shut, ends_gone}
 use Rattle.its_plain.specs.Interrupt.{dismissed, delivered}
-use Rattle.its_plain.specs.Machine.{Chan, Shut, TtyIn, TtyOut, Reads, Writes, On, Whole, Machine, changed, all_shut}
+use Rattle.its_plain.specs.Machine.{Chan, Shut, TtyIn, TtyOut, Reads, Writes, On, Linked, Pipe, Whole, Machine, changed}
 use Rattle.its_plain.specs.OperatorFiles.{channels_of}
+use Rattle.its_plain.specs.Own.{on_channel}
 use Rattle.its_plain.specs.Tests.{◌⇒◌, finishes, fails, faults, goes, out}
-use Rattle.its_plain.specs.View.{View, Outline, outline, view}
+use Rattle.its_plain.specs.View.{View, outline, view}
 use Rattle.its_plain.proofs.StepLaws.{AllOf, EachCase, step_has}
 use Rattle.its_stepped.specs.Forest.{OnInferior, OnConsole, Forest}
-use Rattle.its_stepped.proofs.CallWays.{Writable, AtConsole, Closable, Mild, AllStill, AllMild, Ways, Apart, call_ways}
+use Rattle.its_stepped.proofs.ChannelLaws.{at_open}
+use Rattle.its_stepped.proofs.JoinedLaws.{opened_link}
+use Rattle.its_stepped.proofs.CallWays.{Writable, AtConsole, Closable, AtLink, Joinable, Mild, AllStill, AllMild, Ways, Apart, call_ways}
 use Rattle.its_stepped.proofs.CallWays as ways
 use Rattle.its_stepped.proofs.FitLaws.{superior_outlined}
-use Rattle.its_stepped.proofs.ForestLaws.{channel_of, on_inferior, forest_below}
+use Rattle.its_stepped.proofs.ForestLaws.{on_inferior, forest_below}
 use Rattle.its_stepped.proofs.TestLaws.{by_test, first_holds}
 
 -- what a step may do to others it may do with a change of the own job after it
@@ -79,6 +83,14 @@ symbols_then m n j s k f (symbols_same e) = symbols_same e
 symbols_then m n j s k f (symbols_gone r e) = symbols_gone r e
 symbols_then m n j s k f (symbols_none none e) = symbols_none none e
 
+link_then : (m n : Machine) (j s l : ℕ) (f : Whole → Whole) → LinkMay m n j l → LinkMay m (in_job n s f) j l
+link_then m n j s l f (link_same e) = link_same e
+link_then m n j s l f (end_opened i x y write shut free named e) = end_opened i x y write shut free named e
+link_then m n j s l f (word_sent i w on e) = word_sent i w on e
+link_then m n j s l f (word_received i on e) = word_received i on e
+link_then m n j s l f (end_shut i write on e) = end_shut i write on e
+link_then m n j s l f (ends_gone r tree e) = ends_gone r tree e
+
 then_own : (m n : Machine) (j : ℕ) (f : Whole → Whole) → MayStep m j n → MayStep m j (in_job n j f)
 then_own m n j f h = record {
   jobs = λ k ne. job_then m n j j k f ne (h.jobs k ne);
@@ -86,23 +98,10 @@ then_own m n j f h = record {
   holders = λ c. holder_then m n j j c f (h.holders c);
   files = files_then m n j f h.files;
   symbols = λ k. symbols_then m n j j k f (h.symbols k);
+  links = λ l. link_then m n j j l f (h.links l);
   clock = h.clock;
   version = h.version;
 }
-
-pub nothing : (m : Machine) (j : ℕ) → MayStep m j m
-nothing m j = record {
-  jobs = λ k ne. job_same refl;
-  consoles = λ c. bytes_same refl;
-  holders = λ c. holder_same refl;
-  files = files_same refl;
-  symbols = λ k. symbols_same refl;
-  clock = refl;
-  version = refl;
-}
-
-own : (m : Machine) (j : ℕ) (f : Whole → Whole) → MayStep m j (in_job m j f)
-own m j f = then_own m m j f (nothing m j)
 
 -- a step that changes the jobs alone
 jobs_alone : (m : Machine) (j : ℕ) (jobs : ℕ → Option Whole) → ((k : ℕ) → k ≢ j → JobMay m (record m { jobs = jobs }) j k) → MayStep m j (record m { jobs = jobs })
@@ -112,9 +111,16 @@ jobs_alone m j jobs h = record {
   holders = λ c. holder_same refl;
   files = files_same refl;
   symbols = λ k. symbols_same refl;
+  links = λ l. link_same refl;
   clock = refl;
   version = refl;
 }
+
+pub nothing : (m : Machine) (j : ℕ) → MayStep m j m
+nothing m j = jobs_alone m j m.jobs (λ k ne. job_same refl)
+
+own : (m : Machine) (j : ℕ) (f : Whole → Whole) → MayStep m j (in_job m j f)
+own m j f = then_own m m j f (nothing m j)
 
 -- it writes in the job of slot s
 option_changed : (o : Option Whole) (f : Whole → Whole) → (o ≡ None) ⊎ ((q : Whole) × (o ≡ Some q))
@@ -149,6 +155,7 @@ bytes_alone m j c f h = record {
   holders = λ d. holder_same refl;
   files = files_same refl;
   symbols = λ k. symbols_same refl;
+  links = λ l. link_same refl;
   clock = refl;
   version = refl;
 }
@@ -164,9 +171,33 @@ files_alone m j n e h = record {
   holders = λ d. holder_same (ap (λ (x : Machine). x.holders d) e);
   files = h;
   symbols = λ k. symbols_same (ap (λ (x : Machine). x.symbols k) e);
+  links = λ l. link_same (ap (λ (x : Machine). x.links l) e);
   clock = ap (λ (x : Machine). x.clock) e;
   version = ap (λ (x : Machine). x.version) e;
 }
+
+-- one link, and a channel of its own
+link_here : (m : Machine) (l : ℕ) (f : Option Pipe → Option Pipe) → (on_link m l f).links l ≡ f (m.links l)
+link_here m l f = rw (eq-eqb l l refl) refl
+
+words_alone : (m : Machine) (j l : ℕ) (f : Option Pipe → Option Pipe) → LinkMay m (on_link m l f) j l → MayStep m j (on_link m l f)
+words_alone m j l f h = record {
+  jobs = λ k ne. job_same refl;
+  consoles = λ d. bytes_same refl;
+  holders = λ d. holder_same refl;
+  files = files_same refl;
+  symbols = λ k. symbols_same refl;
+  links = λ r. elim (cases_eq r l) [
+    | inl at ↦ subst (LinkMay m (on_link m l f) j) (sym at) h
+    | inr other ↦ link_same (rw (ne_eqb r l other) refl)
+  ];
+  clock = refl;
+  version = refl;
+}
+
+link_alone : (m : Machine) (j l : ℕ) (g : Whole → Whole) (f : Option Pipe → Option Pipe) → LinkMay m (on_link m l f) j l
+    → MayStep m j (on_link (in_job m j g) l f)
+link_alone m j l g f h = then_own m (on_link m l f) j g (words_alone m j l f h)
 
 -- what a call sees of channels is so in its machine
 channels_seen_at : (o : Option Whole) (n : ℕ) → channels_by (option_map outline o) n ≡ channel_in o n
@@ -179,13 +210,6 @@ channels_seen m j q t = λ i. λ k. λ n. channels_seen_at (m.jobs k) n i
 
 unread_seen : (m : Machine) (j : ℕ) (q : Whole) (t : Option ℕ) (names : List ℕ) → is_read names (channels_in (view m j q t)) ≡ false → is_read names (channels_of m) ≡ false
 unread_seen m j q t names h = ap (is_read names) (sym (channels_seen m j q t)) ∙ h
-
-at_open : (channels : ℕ → Chan) (n : ℕ) (c : Chan) → channel_at channels n ≡ c → c ≢ Shut → channels n ≡ c
-at_open channels n c h open_ = go (nat_lt n 16) h
-  where
-    go : (b : Bool) → (if b then channels n else Shut) ≡ c → channels n ≡ c
-    go true e = e
-    go false e = absurd (open_ (sym e))
 
 own_channel : (m : Machine) (j : ℕ) (q : Whole) (n : ℕ) (c : Chan) → m.jobs j ≡ Some q → channel_at q.channels n ≡ c → c ≢ Shut → channel_in (m.jobs j) n ≡ c
 own_channel m j q n c is h open_ = ap (λ (o : Option Whole). channel_in o n) is ∙ at_open q.channels n c h open_
@@ -208,6 +232,7 @@ on_console_open o channels n h each = go (nat_lt n 16) h
     on (Reads f at) h e = absurd h
     on (Writes f) h e = absurd h
     on (On s write at) h e = absurd h
+    on (Linked l write) h e = absurd h
 
     go : (b : Bool) → ways.OnConsole (if b then channels n else Shut) → is_some o ≡ true
     go true h = on (channels n) h (each n)
@@ -240,6 +265,7 @@ module _ (m : Machine) (j : ℕ) (q : Whole) (t : Option ℕ) (d : Forest m) (is
         holders = λ c. holder_same refl;
         files = draft_closed n h.file at (unread_seen m j q t h.file.names h.unread) (rw at refl);
         symbols = λ k. symbols_same refl;
+        links = λ l. link_same refl;
         clock = refl;
         version = refl;
       }
@@ -247,6 +273,34 @@ module _ (m : Machine) (j : ℕ) (q : Whole) (t : Option ℕ) (d : Forest m) (is
   renames_may : (e x y u v : ℕ) → Mild (view m j q t) (changes.Rename e x y u v) → MayStep m j (effect (changes.Rename e x y u v) j m)
   unfolding effect view
   renames_may e x y u v h = files_alone m j _ refl (file_renamed e x y u v (unread_seen m j q t _ h.0) h.1 refl)
+
+  -- links
+  own_link : (n : ℕ) (c : Chan) → q.channels n ≡ c → channel_in (m.jobs j) n ≡ c
+  own_link n c on = ap (λ (o : Option Whole). channel_in o n) is ∙ on
+
+  joins_may : (n l : ℕ) (write : Bool) (x y : ℕ) → Joinable (view m j q t) n l write x y → MayStep m j (effect (changes.Join n l write x y) j m)
+  unfolding effect view
+  joins_may n l write x y h =
+      link_alone m j l (on_channel n (λ c. Linked l write)) (opened_link write j n x y)
+      (end_opened n x y write (own_link n Shut h.shut) h.unopened h.named (link_here m l (opened_link write j n x y)))
+
+  parts_may : (n l : ℕ) (write : Bool) → Mild (view m j q t) (changes.Part n l write) → MayStep m j (effect (changes.Part n l write) j m)
+  unfolding effect view
+  parts_may n l write h =
+      link_alone m j l (on_channel n (λ c. Shut)) (end_closed write)
+      (end_shut n write (own_link n (Linked l write) h) (link_here m l (end_closed write)))
+
+  sends_may : (l w : ℕ) → AtLink (view m j q t) l true → MayStep m j (effect (changes.Send l w) j m)
+  unfolding effect view
+  sends_may l w h =
+      words_alone m j l (option_map (with_sent w))
+      (word_sent h.channel w (own_link h.channel (Linked l true) h.is) (link_here m l (option_map (with_sent w))))
+
+  receives_may : (l : ℕ) → AtLink (view m j q t) l false → MayStep m j (effect (changes.Receive l) j m)
+  unfolding effect view
+  receives_may l h =
+      words_alone m j l (option_map with_received)
+      (word_received h.channel (own_link h.channel (Linked l false) h.is) (link_here m l (option_map with_received)))
 
   mild_may : (c : Change) → Mild (view m j q t) c → MayStep m j (effect c j m)
   unfolding effect
@@ -263,6 +317,10 @@ module _ (m : Machine) (j : ℕ) (q : Whole) (t : Option ℕ) (d : Forest m) (is
   mild_may (changes.Protect s k w) h = writes_or_own m j s _ (own_or s h) (λ r. page_marked k w)
   mild_may (changes.Delete e x y) h = files_alone m j _ refl (file_deleted _ (unread_seen m j q t _ h) refl)
   mild_may (changes.Rename e x y u v) h = renames_may e x y u v h
+  mild_may (changes.Join n l write x y) h = joins_may n l write x y h
+  mild_may (changes.Part n l write) h = parts_may n l write h
+  mild_may (changes.Send l w) h = sends_may l w h
+  mild_may (changes.Receive l) h = receives_may l h
   mild_may _ h = absurd h
 
 still_may : (m n : Machine) (j : ℕ) (cs : List Change) → AllStill cs → MayStep m j n → MayStep m j (effects cs j n)
@@ -342,7 +400,7 @@ climbs_below : (sup : ℕ → Option ℕ) (r k : ℕ) → (k == r) ≡ false →
 unfolding is_below
 climbs_below sup r k apart h = rw (apart, h) refl
 
--- an inferior of a job that stays stays, but for the root itself
+-- an inferior of a job that stays stays, except for the root itself
 stays_below : (sup : ℕ → Option ℕ) (r s k : ℕ) → sup s ≡ Some k → is_gone sup r k ≡ false → sup r ≢ Some k → is_gone sup r s ≡ false
 stays_below sup r s k up stays root = elim (cases_Bool (is_gone sup r s)) [
   | inr f ↦ f
@@ -367,6 +425,7 @@ channel_stays m r k TtyIn h stays root = refl
 channel_stays m r k TtyOut h stays root = refl
 channel_stays m r k (Reads f at) h stays root = refl
 channel_stays m r k (Writes f) h stays root = refl
+channel_stays m r k (Linked l write) h stays root = refl
 
 shut_same : (gone : ℕ → Bool) (q : Whole) → ((n : ℕ) → chan_left gone (q.channels n) ≡ q.channels n) → shut_on gone q ≡ q
 shut_same gone q h = λ i. record q { channels = λ n. h n i }
@@ -403,6 +462,10 @@ module _ (m : Machine) (j r : ℕ) (tree : RemovesTree m j r) (d : Forest m) whe
     | inr f ↦ symbols_same (rw f refl)
   ]
 
+  links_of_removed : (l : ℕ) → LinkMay m (removed (superiors m) r m) j l
+  unfolding removed
+  links_of_removed l = ends_gone r tree refl
+
   removed_may : ((k : ℕ) → k ≢ j → superiors m r ≢ Some k) → MayStep m j (removed (superiors m) r m)
   unfolding removed
   removed_may apart = record {
@@ -411,11 +474,12 @@ module _ (m : Machine) (j r : ℕ) (tree : RemovesTree m j r) (d : Forest m) whe
     holders = λ c. holder_of_removed c (m.holders c) refl;
     files = files_same refl;
     symbols = λ k. symbols_of_removed k;
+    links = λ l. links_of_removed l;
     clock = refl;
     version = refl;
   }
 
--- LOGOUT, whose superior is told
+-- LOGOUT, which is reported to the superior
 itself_gone : (sup : ℕ → Option ℕ) (j : ℕ) → is_gone sup j j ≡ true
 itself_gone sup j = rw (eq-eqb j j refl) refl
 
@@ -451,6 +515,7 @@ told_may m j (Some s) d up =
       holders = λ c. holder_then m n j s c with_inf (holder_of_removed m j j by_logout d c (m.holders c) refl);
       files = files_same refl;
       symbols = λ k. symbols_then m n j s k with_inf (symbols_of_removed m j j by_logout d k);
+      links = λ l. link_then m n j s l with_inf (links_of_removed m j j by_logout d l);
       clock = refl;
       version = refl;
     }
@@ -550,6 +615,7 @@ module _ (m : Machine) (j : ℕ) (q : Whole) (t : Option ℕ) (a : Ask) (d : For
       | inl at ↦ symbols_none (ap m.jobs at ∙ none) (rw (eq-eqb k s at) refl)
       | inr other ↦ symbols_same (rw (ne_eqb k s other) refl)
     ];
+    links = λ l. link_same refl;
     clock = refl;
     version = refl;
   }
@@ -587,6 +653,7 @@ module _ (m : Machine) (j : ℕ) (q : Whole) (t : Option ℕ) (a : Ask) (d : For
     ];
     files = files_same refl;
     symbols = λ k. symbols_same refl;
+    links = λ l. link_same refl;
     clock = refl;
     version = refl;
   }
@@ -661,7 +728,8 @@ module _ (m : Machine) (j : ℕ) (q : Whole) (t : Option ℕ) (a : Ask) (d : For
     failing = λ k. ends_may m j x a k;
     faulting = λ f. faults_may m j x f;
     stuck = stuck_may m j x;
-    opening = λ h b. finish_may m j x (changes.Open (input a 0) (if b then opened.TtyOut else opened.TtyIn) ∷ []) [] (opened_may m j (input a 0) (if b then opened.TtyOut else opened.TtyIn));
+    opening = λ h f b. finish_may m j x (changes.Open (input a 0) (if b then opened.TtyOut else opened.TtyIn) ∷ []) []
+        (opened_may m j (input a 0) (if b then opened.TtyOut else opened.TtyIn));
     arming = λ n h. finish_may m j x (changes.Arm (alarm_of x.clock n) ∷ []) [] (armed_may m j (alarm_of x.clock n));
     ending = λ cs ss h. finish_may m j x cs ss (all_may m j q t cs d is h);
     moved = λ cs ss h. moved_may m j x cs ss (all_may m j q t cs d is h);

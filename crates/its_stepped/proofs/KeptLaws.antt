@@ -124,7 +124,7 @@ page_off m s k = go (m.jobs s)
     go (Some q) = put q (page_of q.core k)
     go None = tt
 
--- what a line leaves that comes to machine m in state v, and w is the state before it
+-- what a line leaves that leads to machine m in state v, and w is the state before it
 pub record Kept (w v : State) (m : Machine) (touched : ℕ → Bool) : Type 0 where
   pub sound : Sound (with_raw v m)
   pub spares : (k : ℕ) → touched k ≡ false → v.frames k ≡ w.frames k

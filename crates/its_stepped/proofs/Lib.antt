@@ -11,6 +11,7 @@ pub mod OverLaws
 pub mod OwnLaws
 pub mod OwedLaws
 pub mod MarkLaws
+pub mod JoinedLaws
 pub mod EffectLaws
 pub mod ViewLaws
 pub mod StartLaws
@@ -28,6 +29,7 @@ pub mod RefusalLaws
 pub mod AfterLaws
 pub mod LineExamples
 pub mod TestLaws
+pub mod ChannelLaws
 pub mod CallWays
 pub mod CallDuties
 pub mod TargetLaws
@@ -37,6 +39,7 @@ pub mod TtyDuty
 pub mod FileDuty
 pub mod SiotDuty
 pub mod UsrDuty
+pub mod LinkDuty
 pub mod DeviceDuty
 pub mod CoreDuty
 pub mod GivenLaws
@@ -54,7 +57,9 @@ pub mod OneByteLaws
 pub mod PcLaws
 pub mod CourseLaws
 pub mod StretchLaws
+pub mod LinkMovesLaws
 pub mod ReaderLaws
 pub mod RunIntegrityLaws
 pub mod WaitLaws
 pub mod AlarmLaws
+pub mod TwoLaws

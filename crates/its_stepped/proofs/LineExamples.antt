@@ -133,7 +133,7 @@ iot : peeked (standing (parsed (site (Some 3)) [])) 0 ≡ record { state = state
 unfolding peeked standing site sixbit left
 iot = refl
 
--- a file of two words, as it stands in its directory and by itself; a second one with its names is refused
+-- a file of two words, as it is in its directory and on its own; a second one with its names is refused
 filed : stepped (Read (events.File 1 2 3) ∷ Read (events.Append (record { items = 4 ∷ 5 ∷ [] })) ∷ Read events.EndFile ∷ Read (events.Dir 1) ∷ Read (events.Show 1 2 3)
     ∷ Read (events.File 1 2 3) ∷ []) ≡ record {
       lines = printed.Dir 1 1 ∷ printed.Filed (record { x = 2; y = 3; length = 2 }) ∷ printed.Shown 1 2 3 2 ∷ printed.Row (4 ∷ 5 ∷ []) ∷ printed.Refused 6 reasons.Exists ∷ [];
@@ -142,8 +142,8 @@ filed : stepped (Read (events.File 1 2 3) ∷ Read (events.Append (record { item
 unfolding lined operate calmed help helped file_made word_added blocks_of_drafts same_names files_in file_shown no_state no_machine
 filed = refl
 
--- a job that is inside a CLOSE: the old file left the directory, and the draft is still to become its last file. DIR shows the
--- directory whole, and the job, which it does not disturb, owes its registers alone
+-- a job that is inside a CLOSE: the old file left the directory, and the draft is still to become its last file. DIR
+-- shows the directory whole; of the job, which it does not disturb, the registers alone are pending
 file_of : ℕ → List ℕ → File
 file_of x words = record { names = names_of 1 x 3; words = words }
 

@@ -1,5 +1,4 @@
--- A line of a session is the same on the stepped machine and on the plain one that it stands for (docs/STEPS.md,
--- "Lines").
+-- A line of a session is the same on the stepped machine and on its plain machine (docs/STEPS.md, "Lines").
 use Rattle.std.specs.Prelude.{◌≡◌, ℕ, ◌+◌, ◌==◌, Bool, true, false, Option, Some, None, IfSome, List, [], ◌∷◌, ◌++◌, Result, Ok, Err, option_map, is_some, length, nat_lt, refl, if◌then◌else◌}
 use Rattle.std.proofs.Common.{sym, ◌∙◌, ap, subst, inl, inr}
 use Rattle.std.proofs.lemmas.Bool.{cases_Bool, cases_eq, eq-eqb, ne_eqb}
@@ -60,7 +59,7 @@ pub put_plain : (v : State) (s : ℕ) (q : Whole) → v.frames s ≡ None → pl
 unfolding plain
 put_plain v s q e = jobs_are _ _ (λ k. job_put v s q k e) refl
 
--- a machine or a refusal, as the plain machine has it
+-- a machine or a refusal, on the plain machine
 abbrev pub lift : State → Result Machine Reason → Result Machine Reason
 lift v (Ok m) = Ok (plain (with_raw v m))
 lift v (Err r) = Err r
@@ -101,7 +100,7 @@ lift_again : (v : State) (n : Machine) (r : Result Machine Reason) → lift (wit
 lift_again v n (Ok m) = refl
 lift_again v n (Err r) = refl
 
--- what goes on behind a result
+-- what goes on after a result
 then_lifted : (v : State) (r : Result Machine Reason) (f : Machine → Result Machine Reason) → ((n : Machine) → f (plain (with_raw v n)) ≡ lift (with_raw v n) (f n))
     → and_then (lift v r) f ≡ lift v (and_then r f)
 then_lifted v (Ok n) f h = h n ∙ lift_again v n (f n)
@@ -191,7 +190,7 @@ state_plain v s e = ap (on_job (plain v) s (λ q. Ok (shown q.job q.superior (sy
     go (Some q) = refl
     go None = refl
 
--- lines on files, where no close is half made
+-- lines on files, if no close is half made
 pub channels_plain : (v : State) → channels_of (plain v) ≡ channels_of v.raw
 unfolding plain
 channels_plain v = λ t k n. channel_seen (v.frames k) (v.raw.jobs k) n t
@@ -232,7 +231,7 @@ pub shown_plain : (v : State) (d x y : ℕ) → v.mark ≡ None → file_shown (
 unfolding file_shown
 shown_plain v d x y e = ap (λ fs. shown_by d x y (file_named (names_of d x y) fs)) (unmarked_files v e)
 
--- LOAD: the same slot is free, and no frame stands there
+-- LOAD: the same slot is free, and has no frame
 empty_frame : (f : Option Frame) (r : Option ℕ) → SoundBy None f r → f ≡ None
 empty_frame f r h = h.0
 
@@ -255,7 +254,7 @@ load_lifted v b u j console (Some s) sound is =
     ap (λ m. by_load b (Ok (m, s))) (sym (held_plain v s (new_job u j console) console (free_frame v s sound (least_empty (limit v.raw) v.raw.jobs s is))))
 load_lifted v b u j console None sound is = refl
 
--- what a result comes to
+-- the outcome of a result
 disturbs_lifted : (v : State) (s : ℕ) (b : Block) (r : Result Machine Reason) → disturbs s b (lift v r) ≡ lifted v (disturbs s b r)
 disturbs_lifted v s b (Ok m) = refl
 disturbs_lifted v s b (Err r) = refl
@@ -280,7 +279,7 @@ shows_lifted : (v : State) (b : Block) (r : Result (List Line) Reason) → shows
 shows_lifted v b (Ok out) = refl
 shows_lifted v b (Err r) = refl
 
--- CLOCK, where the jobs whose alarm is due are in user mode
+-- CLOCK, if the jobs whose alarm is due are in user mode
 clock_lifted : (v : State) (b : Block) (n : ℕ) (fits : Bool) → Hushed (v.raw.clock + n) v
     → by_clock (plain v) b n (clocked_if (plain v) n fits) ≡ lifted v (by_clock v.raw b n (clocked_if v.raw n fits))
 unfolding plain

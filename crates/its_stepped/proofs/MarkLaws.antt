@@ -10,7 +10,7 @@ use Rattle.its_word.specs.declared.plan.Store.{Store}
 use Rattle.its_frame.specs.declared.change.Change.{Change}
 use Rattle.its_frame.specs.declared.change.Change.TheVariants as changes
 use Rattle.its_frame.specs.declared.frame.Frame.{Frame}
-use Rattle.its_plain.specs.Machine.{File, Chan, Shut, TtyIn, TtyOut, Reads, Writes, On, changed}
+use Rattle.its_plain.specs.Machine.{File, Chan, Shut, TtyIn, TtyOut, Reads, Writes, On, Linked, changed}
 use Rattle.its_plain.specs.Change.{is_gone, superiors, channel_in}
 use Rattle.its_plain.specs.CallFile.{has_file}
 use Rattle.its_stepped.specs.State.{Part, Mark, State, parts_of, mark_of_close, ending}
@@ -21,8 +21,8 @@ use Rattle.its_stepped.specs.Duty.{parts_in}
 use Rattle.its_stepped.proofs.FrameLaws.{changed_only}
 use Rattle.its_stepped.proofs.OwedLaws.{parts_owned, owed_files}
 
--- while changes are made a mark is the caller's and owes a part, or it is another's, whose frame has its parts; and
--- the caller owes at most so many parts
+-- while changes are made a mark is the caller's and has a pending part, or it is another's, whose frame has its parts;
+-- and at most so many parts are pending for the caller
 abbrev pub MarkedAt : ℕ → (ℕ → Option Frame) → Mark → Type 0
 MarkedAt j frames m = ((m.owner ≡ j) × (m.parts ≢ [])) ⊎ ((m.owner ≢ j) × MarkBy m frames)
 
@@ -62,12 +62,13 @@ closing j frames TtyIn fs most = record { at = tt; few = omega arith }
 closing j frames TtyOut fs most = record { at = tt; few = omega arith }
 closing j frames (Reads f at) fs most = record { at = tt; few = omega arith }
 closing j frames (On s w at) fs most = record { at = tt; few = omega arith }
+closing j frames (Linked l write) fs most = record { at = tt; few = omega arith }
 closing j frames (Writes f) fs most = record {
   at = inl (refl, parts_of_some (has_file f.names fs));
   few = let k = closing_few j (record { owner = j; draft = f; parts = parts_of (has_file f.names fs) }) (has_file f.names fs) refl refl in omega arith;
 }
 
--- where frames of gone jobs are dropped, no owner of a mark is among them
+-- if frames of gone jobs are dropped, no owner of a mark is among them
 removing_at : (j : ℕ) (frames : ℕ → Option Frame) (gone : ℕ → Bool) (m : Mark) → ((k : ℕ) → gone k ≡ true → k ≢ j → frames k ≡ None) → MarkedAt j frames m
     → MarkedAt j (λ k. if gone k then None else frames k) m
 removing_at j frames gone m h (inl x) = inl x
@@ -103,7 +104,7 @@ marking_all (c ∷ cs) j w most q m =
     marking_within j _ _ (parts_in cs + (parts_in (c ∷ []) + most)) (parts_in (c ∷ cs) + most) (omega arith)
     (marking_all cs j (effect_on c j w) (parts_in (c ∷ []) + most) q.1 (marking_one c j w most q.0 m))
 
--- as a commit ends: the frame that the caller then has, owes the parts of its own close
+-- as a commit ends: the parts of its own close are pending in the frame that the caller then has
 other_marked : (j : ℕ) (frames : ℕ → Option Frame) (f : Option Frame) (m : Mark) → m.owner ≢ j → MarkBy m frames → MarkBy m (changed frames j f)
 other_marked j frames f m ne h = record { some = h.some; parts = ap parts_in_frame ((changed_only frames j f).others m.owner ne) ∙ h.parts }
 
@@ -121,7 +122,7 @@ mark_ended v j most s a ss e (Some k) is m = elim m.at [
   | inr x ↦ other_marked j v.frames _ k x.0 x.1
 ]
 
--- one that owes no part leaves the marks of others
+-- one with no pending part leaves the marks of others
 part_some : (m : Mark) (j : ℕ) (ps : List Part) → m.owner ≡ j → m.parts ≡ ps → length (owed_parts (Some m) j) ≤ 0 → ps ≡ []
 part_some m j [] e p h = refl
 part_some m j (x ∷ ps) e p h =

@@ -1,5 +1,5 @@
--- Each step of a SIOT moves one byte and leaves the call standing on the rest, or ends the call and moves none.
-use Rattle.std.specs.Prelude.{if◌then◌else◌, ◌==◌, ◌≡◌, ◌≢◌, ℕ, ◌+◌, ◌-◌, ◌%◌, ◌^◌, Bool, true, false, Option, Some, None, IfSome, not, is_some, List, [], ◌∷◌, ◌++◌, length, take, drop, slice_get, unwrap_or, refl, option_map, Ok}
+-- Each step of a SIOT moves one byte and leaves the call at the rest, or ends the call and moves none.
+use Rattle.std.specs.Prelude.{if◌then◌else◌, ◌==◌, ◌&&◌, ◌≡◌, ◌≢◌, ℕ, ◌+◌, ◌-◌, ◌%◌, ◌^◌, Bool, true, false, Option, Some, None, IfSome, not, is_some, List, [], ◌∷◌, ◌++◌, length, take, drop, slice_get, unwrap_or, refl, option_map, Ok}
 use Rattle.std.proofs.lemmas.Bool.{cases_eq, ne_eqb, not-false, or_parts}
 use Rattle.std.proofs.lemmas.Option.{same_Some}
 use Rattle.std.proofs.Common.{◌∙◌, ap, subst, sym, arith, inl, inr}
@@ -17,20 +17,22 @@ use Rattle.its_frame.specs.declared.change.Change.TheVariants as changes
 use Rattle.its_frame.specs.declared.decision.Decision.{Decision}
 use Rattle.its_frame.specs.declared.decision.Decision.TheVariants.{Waits}
 use Rattle.its_frame.specs.declared.decision.Held.{Held}
-use Rattle.its_frame.specs.declared.decision.Wait.TheVariants.{Input, Output}
+use Rattle.its_frame.specs.declared.decision.Wait.TheVariants.{Input, Output, Empty, Room}
 use Rattle.its_frame.specs.declared.name.CallName.{CallName}
 use Rattle.its_frame.specs.declared.name.CallName.TheVariants.{Siot}
 use Rattle.its_plain.specs.Arguments.{value_in, valued, input, debts, revalued}
 use Rattle.its_plain.specs.CallBasic.{channel_at}
 use Rattle.its_plain.specs.CallFile.{is_full, channels_in, words_of, siot_read, siot_reads, siot_write}
 use Rattle.its_plain.specs.CallStep.{with_held, moved, acted, decision, unless_stopped, step, Transition, transition_of, transition}
-use Rattle.its_plain.specs.CallTty.{console_of, is_empty, is_other, input_waits, output_waits, first_typed, shown_byte, store_tests, read_tests, next_pointer, siot_tests, siot_in, siot_out, siot_by}
+use Rattle.its_plain.specs.CallLink.{words_in, is_end_closed, is_dry, is_ended, is_crowded, is_unread, first_word, siot_receive, siot_send}
+use Rattle.its_plain.specs.CallTty.{console_of, is_empty, is_other, input_waits, output_waits, first_typed, shown_byte, siot_in, siot_out}
+use Rattle.its_plain.specs.Transfer.{store_tests, read_tests, next_pointer, siot_tests, siot_by}
 use Rattle.its_plain.specs.CallDevice.{siot_on, siot_call}
 use Rattle.its_plain.specs.Change.{in_job, poke, effect, effects}
 use Rattle.its_plain.specs.Decide.{call_named, decided_by, decided, target, reach}
 use Rattle.its_plain.specs.Footprint.{Stands, in_footprint}
 use Rattle.its_plain.specs.Interrupt.{deliverable}
-use Rattle.its_plain.specs.Machine.{Names, File, Chan, Shut, TtyIn, TtyOut, Reads, Writes, On, Whole, Machine, changed}
+use Rattle.its_plain.specs.Machine.{Names, File, Chan, Shut, TtyIn, TtyOut, Reads, Writes, On, Linked, Whole, Machine, changed}
 use Rattle.its_plain.specs.OneByte.{ComesIn, GoesOut, word_named, Bears, new_arguments, rest_of_transfer, ByteBy, EachByte, Deposited}
 use Rattle.its_plain.specs.CallUsr.{other_core, at_end, siot_peeks, siot_pokes}
 use Rattle.its_plain.specs.Own.{with_stores, at_position, with_word, on_channel}
@@ -69,7 +71,7 @@ pub rest_count : (a : Ask) → length a.inputs.items ≡ 3 → input (rest_of_tr
 unfolding revalued
 rest_count a l = (rest_of a.inputs.items (next_pointer (input a 1)) (input a 2 - 1) l).1
 
--- a byte that came in stands in its word, which is apart from the words of pointer and count
+-- a byte that came in is in its word, which is apart from the words of pointer and count
 stored_byte : (c : Core) (b w : ℕ) → b % 2 ^ 18 ≡ b → can_store c b ≡ true → word_at (stored c (record { at = b; word = w } ∷ [])) b ≡ Some w
 unfolding stored
 stored_byte c b w at can = ap (λ (i : ℕ). word_at (store c i w) b) at ∙ word_at-store_same c b w can
@@ -102,11 +104,11 @@ moved_is : (a : Ask) (h : Option Held) (vs : List ℕ) (q : Whole) (cs : ℕ →
 moved_is a None vs q cs = refl
 moved_is a (Some b) vs q cs = refl
 
--- what a decision comes to is machine n
+-- the result of a decision is machine n
 abbrev Acted : Machine → Machine → ℕ → Ask → List ℕ → Decision → Type 0
 Acted m n j a ks d = option_map (λ (t : Transition). t.machine) (acted m j a ks d) ≡ Some n
 
--- what is to be shown of a decision that does its duty, and whose step comes to machine n
+-- what is to be shown of a decision that does its duty, and whose step leads to machine n
 abbrev Moved : Machine → Machine → ℕ → Whole → Site → Ask → Decision → Type 0
 Moved m n j q s a d = Duty (no_state m) j q s a 0 d → Acted m n j a (reach m j q a) d → ByteBy m j q s a d n
 
@@ -138,16 +140,16 @@ goes_on m n j q s a cs h to t has borne g r =
     }
 
 -- the byte that comes in is there
-comes_in : (pointer : ℕ) (o : Option ℕ) → is_some o ≡ true → ComesIn pointer o (Some (record { place = right_of pointer; byte = unwrap_or o 0 }))
-comes_in pointer (Some b) h = refl
-comes_in pointer None h = absurd cc
+comes_in : (pointer : ℕ) (o : Option ℕ) (cs : List Change) → is_some o ≡ true → ComesIn pointer o cs cs (Some (record { place = right_of pointer; byte = unwrap_or o 0 }))
+comes_in pointer (Some b) cs h = record { byte = b; there = refl; taken = refl; held = refl }
+comes_in pointer None cs h = absurd cc
 
 -- a byte that goes out is that of a word that is there
 abbrev byte_at : View → ℕ → ℕ
 byte_at v pointer = load_of pointer (unwrap_or (word_named v pointer) 0)
 
 goes_out : (pointer : ℕ) (o : Option ℕ) (puts : ℕ → List Change) → not (is_some o) ≡ false → GoesOut pointer o puts (puts (load_of pointer (unwrap_or o 0))) None
-goes_out pointer (Some w) puts h = (refl, refl)
+goes_out pointer (Some w) puts h = record { word = w; there = refl; put = refl; none_held = refl }
 goes_out pointer None puts h = absurd cc
 
 first_waits : (bs : List ℕ) → is_empty bs ≡ false → is_some (slice_get bs 0) ≡ true
@@ -169,7 +171,7 @@ in_moved m n j q s a is on t =
     (λ p.
     let there = first_waits (x.consoles i).input (or_parts (is_empty (x.consoles i).input) (is_other x.slot (x.holders i)) p.1.1.0).0 in
     goes_on m n j q s a (c ∷ []) (Some b) q.channels t (λ spare. is)
-    (subst (λ (k : Chan). Bears x w (input a 0) k (c ∷ []) (Some b)) (sym on) (refl, comes_in w (slice_get (x.consoles i).input 0) there)))
+    (subst (λ (k : Chan). Bears x w (input a 0) k (c ∷ []) (Some b)) (sym on) (comes_in w (slice_get (x.consoles i).input 0) (c ∷ []) there)))
 
 out_moved : (m n : Machine) (j : ℕ) (q : Whole) (s : Site) (a : Ask) → m.jobs j ≡ Some q → channel_at q.channels (input a 0) ≡ TtyOut → Ready a
     → Moved m n j q s a (siot_out (view m j q (target q a)) a (next_pointer (input a 1)) (input a 2) (console_of (view m j q (target q a))))
@@ -181,6 +183,45 @@ out_moved m n j q s a is on t =
     let puts : ℕ → List Change = λ b. changes.Put i (shown_byte b) ∷ [] in
     first_holds (Moved m n j q s a) (read_tests x (right_of w) ++ (output_waits x i ⇒ Waits (Output i) ∷ [])) (goes (puts (byte_at x w)) None (new_arguments a))
     (λ t d r. refl, (λ t d r. absurd cc, tt))
+    (λ p. goes_on m n j q s a (puts (byte_at x w)) None q.channels t (λ spare. is)
+    (subst (λ (k : Chan). Bears x w (input a 0) k (puts (byte_at x w)) None) (sym on) (goes_out w (word_named x w) puts p.0)))
+
+-- a word comes from a link, or goes to one
+not_empty : (b c : Bool) → (b && not c) ≡ false → (b && c) ≡ false → b ≡ false
+not_empty false c h e = refl
+not_empty true true h e = cc
+not_empty true false h e = cc
+
+receive_moved : (m n : Machine) (j : ℕ) (q : Whole) (s : Site) (a : Ask) (l : ℕ) → m.jobs j ≡ Some q
+    → channel_at q.channels (input a 0) ≡ Linked l false → is_ended ((view m j q (target q a)).links l) ≡ false → Ready a
+    → Moved m n j q s a (siot_receive (view m j q (target q a)) (next_pointer (input a 1)) (input a 2) l)
+unfolding acted effect
+receive_moved m n j q s a l is on more t =
+    let x : View = view m j q (target q a) in
+    let w : ℕ = next_pointer (input a 1) in
+    let c : Change = changes.Receive l in
+    let b : Held = record { place = right_of w; byte = first_word x l } in
+    let o : Option ℕ = slice_get (words_in (x.links l)) 0 in
+    first_holds (Moved m n j q s a) (store_tests x (right_of w) ++ (is_dry (x.links l) ⇒ Waits (Empty l) ∷ []))
+    (goes (c ∷ []) (Some b) (new_arguments a))
+    (λ t d r. refl, (λ t d r. refl, (λ t d r. absurd cc, tt)))
+    (λ p.
+    let there = first_waits (words_in (x.links l)) (not_empty (is_empty (words_in (x.links l))) (is_end_closed true (x.links l)) p.1.1.0 more) in
+    goes_on m n j q s a (c ∷ []) (Some b) q.channels t (λ spare. is)
+    (subst (λ (k : Chan). Bears x w (input a 0) k (c ∷ []) (Some b)) (sym on) (comes_in w o (c ∷ []) there)))
+
+send_moved : (m n : Machine) (j : ℕ) (q : Whole) (s : Site) (a : Ask) (l : ℕ) → m.jobs j ≡ Some q
+    → channel_at q.channels (input a 0) ≡ Linked l true → Ready a
+    → Moved m n j q s a (siot_send (view m j q (target q a)) a (next_pointer (input a 1)) (input a 2) l)
+unfolding acted effect
+send_moved m n j q s a l is on t =
+    let x : View = view m j q (target q a) in
+    let w : ℕ = next_pointer (input a 1) in
+    let puts : ℕ → List Change = λ b. changes.Send l b ∷ [] in
+    first_holds (Moved m n j q s a)
+    (read_tests x (right_of w) ++ (is_unread (x.links l) ⇒ fails x a 0o26 ∷ is_crowded (x.links l) ⇒ Waits (Room l) ∷ []))
+    (goes (puts (byte_at x w)) None (new_arguments a))
+    (λ t d r. refl, (λ t d r. refl, (λ t d r. absurd cc, tt)))
     (λ p. goes_on m n j q s a (puts (byte_at x w)) None q.channels t (λ spare. is)
     (subst (λ (k : Chan). Bears x w (input a 0) k (puts (byte_at x w)) None) (sym on) (goes_out w (word_named x w) puts p.0)))
 
@@ -220,7 +261,8 @@ peeks_moved : (m n : Machine) (j : ℕ) (q : Whole) (s : Site) (a : Ask) (k at :
     → Moved m n j q s a (siot_peeks (view m j q (target q a)) a (next_pointer (input a 1)) (input a 2) (input a 0) at o)
 peeks_moved m n j q s a k at (Some word) is on got t =
     let w : ℕ = next_pointer (input a 1) in
-    read_moved m n j q s a (On k false at) at word is on (refl, subst (λ (o : Option ℕ). ComesIn w o (Some (record { place = right_of w; byte = word }))) (sym got) refl) t
+    read_moved m n j q s a (On k false at) at word is on (subst (λ (o : Option ℕ). ComesIn w o (changes.Move (input a 0) (at + 1) ∷ []) (changes.Move (input a 0) (at + 1) ∷ []) (Some (record { place = right_of w; byte = word }))) (sym got)
+    (comes_in w (Some word) (changes.Move (input a 0) (at + 1) ∷ []) refl)) t
 peeks_moved m n j q s a k at None is on got t =
     let x : View = view m j q (target q a) in
     let w : ℕ = next_pointer (input a 1) in
@@ -247,7 +289,7 @@ poke_moved m n j q s a k at is on t =
     (λ p. goes_on m n j q s a cs None (next_position q i at) t (λ spare. poked_there m j k at (byte_at x w) i q is spare.0)
     (subst (λ (h : Chan). Bears x w i h cs None) (sym on) (goes_out w (word_named x w) puts p.0)))
 
--- behind the tests of SIOT
+-- after the tests of SIOT
 by_moved : (m n : Machine) (j : ℕ) (q : Whole) (s : Site) (a : Ask) (words ended : Bool) (d : Decision) → length a.inputs.items ≡ 3
     → (ended ≡ false → Ready a → Moved m n j q s a d) → Moved m n j q s a (siot_by (view m j q (target q a)) a words ended d)
 by_moved m n j q s a words ended d three h =
@@ -267,7 +309,8 @@ reads_moved m n j q s a names at o is on got three =
     let b : Held = record { place = right_of w; byte = unwrap_or o 0 } in
     by_moved m n j q s a true (not (is_some o)) (siot_read x w (input a 2) (input a 0) at (unwrap_or o 0)) three
     (λ l. read_moved m n j q s a (Reads names at) at (unwrap_or o 0) is on
-    (refl, subst (λ (k : Option ℕ). ComesIn w k (Some b)) (sym got) (comes_in w o (not-false (is_some o) l))))
+    (subst (λ (k : Option ℕ). ComesIn w k (changes.Move (input a 0) (at + 1) ∷ []) (changes.Move (input a 0) (at + 1) ∷ []) (Some b)) (sym got)
+    (comes_in w o (changes.Move (input a 0) (at + 1) ∷ []) (not-false (is_some o) l))))
 
 -- whatever its channel is on
 on_moved : (m n : Machine) (j : ℕ) (q : Whole) (s : Site) (a : Ask) (h : Chan) → m.jobs j ≡ Some q → channel_at q.channels (input a 0) ≡ h → length a.inputs.items ≡ 3
@@ -284,6 +327,13 @@ on_moved m n j q s a (Reads names at) is on three =
 on_moved m n j q s a (Writes file) is on three =
     let x : View = view m j q (target q a) in
     by_moved m n j q s a true false (siot_write x a (next_pointer (input a 1)) (input a 2) (input a 0) file) three (λ l. write_moved m n j q s a file is on)
+on_moved m n j q s a (Linked l true) is on three =
+    let x : View = view m j q (target q a) in
+    by_moved m n j q s a false false (siot_send x a (next_pointer (input a 1)) (input a 2) l) three (λ e. send_moved m n j q s a l is on)
+on_moved m n j q s a (Linked l false) is on three =
+    let x : View = view m j q (target q a) in
+    by_moved m n j q s a false (is_ended (x.links l)) (siot_receive x (next_pointer (input a 1)) (input a 2) l) three
+    (λ e. receive_moved m n j q s a l is on e)
 on_moved m n j q s a (On k true at) is on three =
     let x : View = view m j q (target q a) in
     by_moved m n j q s a true (at_end at) (siot_pokes x a (next_pointer (input a 1)) (input a 2) (input a 0) k at) three (λ l. poke_moved m n j q s a k at is on)
@@ -292,7 +342,7 @@ on_moved m n j q s a (On k false at) is on three =
     let o : Option ℕ = word_at (other_core x) at in
     by_moved m n j q s a true (at_end at) (siot_peeks x a (next_pointer (input a 1)) (input a 2) (input a 0) at o) three (λ l. peeks_moved m n j q s a k at o is on refl)
 
--- where no call is in progress, a call that reserves no page may rely on all that its commit has
+-- if no call is in progress, a call that reserves no page may rely on all that holds at its commit
 calling : (m : Machine) (j : ℕ) (q : Whole) (s : Site) (a : Ask) → Forest m → m.jobs j ≡ Some q → Stands q.core q.job s a → reserves a ≡ false → Calling m (no_state m) j q s a 0
 unfolding no_state
 calling m j q s a forest is st none = record {
@@ -344,7 +394,7 @@ decided_moved m n j q s a forest is st e r = elim (cases_eq a.fail 0) [
   | inr ne ↦ subst (λ (k : Decision). ByteBy m j q s a k n) (sym (decides_error m j q a ne)) refl
 ]
 
--- the step of a running job that stands at a call
+-- the step of a running job that is at a call
 pub stands_acts : (m : Machine) (j : ℕ) (q : Whole) (s : Site) (a : Ask) → m.jobs j ≡ Some q → q.job.stopped ≡ false → deliverable q.job ≡ false → Stands q.core q.job s a
     → transition m j ≡ acted m j a (reach m j q a) (decision m j q a)
 stands_acts m j q s a is runs d st = transition_called m j q s (Ok a) is runs d st.unit_is st.ask_is

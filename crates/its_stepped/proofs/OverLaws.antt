@@ -1,4 +1,4 @@
--- Stores behind stores: the words that a call owes, and those that come over them.
+-- Stores after stores: the pending words of a call, and those that come over them.
 use Rattle.std.specs.Prelude.{◌≡◌, ℕ, List, [], ◌∷◌, ◌++◌, refl}
 use Rattle.std.proofs.Common.{sym, ◌∙◌, ap, subst, inl, inr}
 use Rattle.std.proofs.lemmas.Bool.{cases_eq}

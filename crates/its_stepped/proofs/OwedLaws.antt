@@ -1,5 +1,5 @@
--- What a call that has ended owes: at most four steps, its own words among them, Leave as the last, and the parts of
--- its close before all else.
+-- What is pending of a call that has ended: at most four steps, its own words among them, Leave as the last, and the
+-- parts of its close before all else.
 use Rattle.std.specs.Prelude.{if◌then◌else◌, ◌==◌, ◌≡◌, ℕ, ◌+◌, Bool, true, false, Option, Some, None, List, [], ◌∷◌, ◌++◌, map, length, refl}
 use Rattle.std.proofs.Common.{◌∙◌, ap, arith}
 use Rattle.std.proofs.lemmas.Bool.{eq-eqb}
@@ -14,7 +14,7 @@ use Rattle.its_stepped.specs.State.{Part, UnlinkOld, LinkNew, FreeOld, Mark, Sta
 use Rattle.its_stepped.specs.Commit.{owed_part, owed_parts, given_up, owed_store, owed_by}
 use Rattle.its_stepped.specs.Sound.{Stored, Owes, backs, file_parts, FilesFirst}
 
--- what is owed in front of the own words
+-- what is pending in front of the own words
 len_append : (xs ys : List Owed) → length (xs ++ ys) ≡ length xs + length ys
 len_append [] ys = omega arith
 len_append (x ∷ xs) ys = let h = len_append xs ys in omega arith
@@ -61,7 +61,7 @@ mark_owes c (Some m) j os h = go (m.owner == j)
 pub owed_owes : (c : Core) (v : State) (j : ℕ) (ss : List Store) (e : Exit) → Stored c ss → Owes c (owed_by v j ss e)
 owed_owes c v j ss e h = mark_owes c v.mark j _ (given_owes c (v.reserved j) _ (own_owes c ss e h))
 
--- a page is given back where one is reserved
+-- a page is given back if one is reserved
 own_backs : (ss : List Store) (e : Exit) → backs (map owed_store ss ++ Leave e ∷ []) ≡ 0
 own_backs [] e = refl
 own_backs (s ∷ ss) e = own_backs ss e
@@ -112,7 +112,7 @@ owed_files v j m ss e is own =
     ∙ ap (λ (ps : List Owed). file_parts (ps ++ rest)) (parts_owned m j own)
     ∙ parts_file m.parts rest (given_files (v.reserved j) _ ∙ own_files ss e)
 
--- they come before all else that it owes
+-- they come before all else that is pending
 pub none_first : (os : List Owed) → file_parts os ≡ [] → FilesFirst os
 none_first [] h = tt
 none_first (Unlink ∷ os) h = absurd cc

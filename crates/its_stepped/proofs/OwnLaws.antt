@@ -1,4 +1,4 @@
--- The caller's own slot while the changes of its call are made.
+-- The caller's own slot during the changes of its call.
 use Rattle.std.specs.Prelude.{if◌then◌else◌, ◌==◌, ◌≡◌, ◌≤◌, ◌⊎◌, ℕ, Bool, true, false, Option, Some, None, List, [], ◌∷◌, option_map, refl}
 use Rattle.std.proofs.Common.{sym, ◌∙◌, ap, inl, inr, arith}
 use Rattle.std.proofs.lemmas.Bool.{cases_eq}
@@ -53,6 +53,8 @@ spared_one (changes.Protect s k on) j w q h e = sees_it own_of _ q (on_slot_othe
 spared_one (changes.Make s u n) j w q h e = sees_it own_of _ q ((changed_only w.raw.jobs s _).others j (λ t. h (sym t)) ∙ e)
 spared_one (changes.Remove s) j w q h e = sees_left own_of (is_gone (superiors w.raw) s) _ _ q (λ p. refl) h e
 spared_one (changes.Inform s) j w q h e = sees_it own_of _ q (on_slot_other w.raw.jobs s j _ (λ t. h (sym t)) ∙ e)
+spared_one (changes.Send l x) j w q h e = sees_it own_of _ q e
+spared_one (changes.Receive l) j w q h e = sees_it own_of _ q e
 spared_one (changes.Delete d x y) j w q h e = sees_it own_of _ q e
 spared_one (changes.Rename d x y u v) j w q h e = sees_it own_of _ q e
 spared_one _ j w q h e = sees_slot own_of w.raw.jobs j j _ q (λ p. refl) e
@@ -81,6 +83,8 @@ kept_one (changes.Protect s k on) j w q h e = sees_slot job_of w.raw.jobs s j _ 
 kept_one (changes.Make s u n) j w q h e = sees_it job_of _ q ((changed_only w.raw.jobs s _).others j (λ t. h (sym t)) ∙ e)
 kept_one (changes.Remove s) j w q h e = sees_left job_of (is_gone (superiors w.raw) s) _ _ q (λ p. refl) h e
 kept_one (changes.Inform s) j w q h e = sees_it job_of _ q (on_slot_other w.raw.jobs s j _ (λ t. h (sym t)) ∙ e)
+kept_one (changes.Send l x) j w q h e = sees_it job_of _ q e
+kept_one (changes.Receive l) j w q h e = sees_it job_of _ q e
 kept_one (changes.Delete d x y) j w q h e = sees_it job_of _ q e
 kept_one (changes.Rename d x y u v) j w q h e = sees_it job_of _ q e
 kept_one _ j w q h e = sees_slot job_of w.raw.jobs j j _ q (λ p. refl) e

@@ -1,5 +1,5 @@
--- Which calls reserve a page: one that owes no argument and is never found not ready. Where it is tried, all quarters of
--- its page are clear.
+-- Which calls reserve a page: a call with no pending argument that is never found not ready. If it is tried, all
+-- quarters of its page are clear.
 use Rattle.std.specs.Prelude.{◌==◌, ◌&&◌, ◌≡◌, ◌≤◌, ℕ, ◌-◌, Bool, true, false, Option, Some, None, IfSome, List, [], ◌∷◌, ◌++◌, is_some, length, take, drop, refl}
 use Rattle.std.proofs.Common.{◌∙◌, ap, arith}
 use Rattle.std.proofs.lemmas.Bool.{ltb-false}
@@ -27,7 +27,7 @@ waitable_none _ i h = refl
 pub waits_reserves_none : (a : Ask) → IsWaitable (call_named a.name) → reserves a ≡ false
 waits_reserves_none a h = reserves_none a (waitable_none (call_named a.name) (input a 0) h)
 
--- a call that owes an argument
+-- a call with a pending argument
 owing_none : (o : Option CallName) (i n : ℕ) → 1 ≤ n → n ≤ most_owed_by o → makes_page o i ≡ false
 owing_none (Some Corblk) i n some few = absurd (omega arith)
 owing_none _ i n some few = refl

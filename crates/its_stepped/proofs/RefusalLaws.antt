@@ -165,7 +165,7 @@ unfolding state_shown plain
 shown_alike w s =
     on_job_alike (plain w) w.raw s (λ q. Ok (shown q.job q.superior (symbol_shown q.job.pc (w.raw.symbols s)))) (λ q. Ok (shown q.job q.superior (symbol_shown q.job.pc (w.raw.symbols s)))) (w.frames s) (w.raw.jobs s) (λ q. refl)
 
--- what a result comes to
+-- the outcome of a result
 disturbs_alike : (s : ℕ) (b : Block) (r x : Result Machine Reason) → error_of r ≡ error_of x → refusal (Done (disturbs s b r)) ≡ refusal (Done (disturbs s b x))
 disturbs_alike s b (Ok m) (Ok n) e = refl
 disturbs_alike s b (Ok m) (Err y) e = e
@@ -212,7 +212,7 @@ lift_alike v (Err r) = refl
 pub symbol_alike : (w : State) (s name a : ℕ) → error_of (symbol_kept (plain w) s name a) ≡ error_of (symbol_kept w.raw s name a)
 symbol_alike w s name a = ap error_of (symbol_lifted w s name a) ∙ lift_alike w (symbol_kept w.raw s name a)
 
--- lines on files, where no close is half made
+-- lines on files, if no close is half made
 pub made_alike : (v : State) (n : Names) → v.mark ≡ None → error_of (file_made (plain v) n) ≡ error_of (file_made v.raw n)
 made_alike v n e = ap error_of (made_lifted v n e) ∙ lift_alike v (file_made v.raw n)
 
@@ -266,7 +266,7 @@ refusal_lifted v (Done (Ticks s k)) = refl
 refusal_lifted v (Done Quits) = refl
 refusal_lifted v (Peeks s) = refl
 
--- a line is refused before anything is unwound exactly where it is refused afterwards, and for the same reason; one that
+-- a line is refused before anything is unwound exactly if it is refused afterwards, and for the same reason; one that
 -- looks at files, once the parts of a close are made
 pub refused_calmed : (w : State) (b : Block) (e : Event) → Sound w → refusal (lined (plain w) b e) ≡ refusal (lined (calmed w b e).raw b e)
 refused_calmed w b e sound = ap refusal (line_plain w b e sound) ∙ refusal_lifted (calmed w b e) (lined (calmed w b e).raw b e)

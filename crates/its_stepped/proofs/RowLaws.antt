@@ -1,5 +1,5 @@
--- A row of unwinding, whole: what the slot has afterwards, that it stands for the same job, that it is sound, and
--- that user mode is one step nearer.
+-- A row of unwinding, whole: what the slot has afterwards, that its plain job is the same, that it is sound, and that
+-- user mode is one step nearer.
 use Rattle.std.specs.Prelude.{◌==◌, ◌≡◌, ℕ, ◌+◌, true, Option, Some, None, IfSome, option_map, refl}
 use Rattle.std.proofs.Common.{sym, ◌∙◌, ap, inl, inr}
 use Rattle.std.proofs.lemmas.Bool.{cases_eq, eq-eqb}
@@ -14,13 +14,14 @@ use Rattle.its_stepped.specs.Sound.{MarkBy, SoundBy, parts_in_frame}
 use Rattle.its_stepped.specs.OneChange.{OneChange, FrameAlone, OnePage}
 use Rattle.its_stepped.proofs.FrameLaws.{changed_only, on_slot_here, on_slot_other, on_slot_same}
 
--- what all slots share is the same, but for a file part that was owed
+-- what all slots share is the same, except for a file part that was pending
 pub record Shares (w v : State) : Type 0 where
   pub consoles : v.raw.consoles ≡ w.raw.consoles
   pub holders : v.raw.holders ≡ w.raw.holders
   pub clock : v.raw.clock ≡ w.raw.clock
   pub version : v.raw.version ≡ w.raw.version
   pub symbols : v.raw.symbols ≡ w.raw.symbols
+  pub links : v.raw.links ≡ w.raw.links
   pub files : helped v.mark v.raw.files ≡ helped w.mark w.raw.files
 
 pub record Rowed (w v : State) (j : ℕ) : Type 0 where
@@ -44,7 +45,7 @@ job_only jobs j q h is = record { here = on_slot_here jobs j h ∙ ap (option_ma
 pub same_job : (m : Machine) (j : ℕ) → in_job m j same ≡ m
 same_job m j = jobs_are _ _ (on_slot_same m.jobs j) refl
 
--- two changes of a job that are alike at the job that stands there
+-- two changes of a job that are alike at the job of this slot
 pub alike_at : (h g : Whole → Whole) (o : Option Whole) → ((q : Whole) → o ≡ Some q → h q ≡ g q) → option_map h o ≡ option_map g o
 alike_at h g None e = refl
 alike_at h g (Some q) e = ap Some (e q refl)
@@ -55,7 +56,7 @@ job_alike m j h g e = jobs_are _ _ (λ k. elim (cases_eq k j) [
   | inr ne ↦ on_slot_other m.jobs j k h ne ∙ sym (on_slot_other m.jobs j k g ne)
 ]) refl
 
--- a mark stays true where the frame of its owner owes the same parts
+-- a mark stays true if the frame of its owner has the same pending parts
 marked_frames : (m : Mark) (frames after : ℕ → Option Frame) (j : ℕ) (f : Option Frame) → Only frames after j f
     → ((m.owner == j) ≡ true → parts_in_frame f ≡ parts_in_frame (frames j)) → MarkBy m frames → MarkBy m after
 marked_frames m frames after j f o e h = record {
@@ -82,7 +83,7 @@ turn_row w j q h f is alike fits mark parts fewer one = record {
   jobs = job_only w.raw.jobs j q h is;
   frames = changed_only w.frames j f;
   pages = record { here = refl; others = λ k ne. refl };
-  shares = record { consoles = refl; holders = refl; clock = refl; version = refl; symbols = refl; files = refl };
+  shares = record { consoles = refl; holders = refl; clock = refl; version = refl; symbols = refl; links = refl; files = refl };
   seen_as = ap (option_map (seen (w.frames j))) is ∙ ap Some alike;
   fits = fits;
   mark = mark_kept w.mark w.frames (changed w.frames j f) j f (changed_only w.frames j f) parts mark;
@@ -110,7 +111,7 @@ page_row w j q f is alike fits mark parts fewer = record {
   jobs = job_only w.raw.jobs j q same is;
   frames = changed_only w.frames j f;
   pages = changed_only w.reserved j None;
-  shares = record { consoles = refl; holders = refl; clock = refl; version = refl; symbols = refl; files = refl };
+  shares = record { consoles = refl; holders = refl; clock = refl; version = refl; symbols = refl; links = refl; files = refl };
   seen_as = ap (option_map (seen (w.frames j))) is ∙ ap Some alike;
   fits = fits;
   mark = mark_kept w.mark w.frames (changed w.frames j f) j f (changed_only w.frames j f) parts mark;

@@ -28,8 +28,8 @@ HoldsAfter Good d v (Done (Ticks s k)) = Unit {0}
 HoldsAfter Good d v (Done Quits) = Unit {0}
 HoldsAfter Good d v (Peeks s) = Unit {0}
 
--- a predicate that holds at the start and that ticks and lines keep; where it holds, the letter of a tick is licensed,
--- and a line is that of the plain machine
+-- a predicate that holds at the start and that ticks and lines keep; if it holds, the letter of a tick is licensed, and
+-- a line is that of the plain machine
 pub record Upkeep (Good : Dots → State → Type 0) : Type 0 where
   pub starts : Good (λ _. 0) (no_state no_machine)
   pub paced : (d : Dots) (w : State) (j : ℕ) → Good d w → Licensed (plain w) j (tick w j).pace (plain (tick w j).state)
@@ -54,7 +54,7 @@ paces_length : (w : State) (i n : ℕ) → length (paces_of w i n) ≡ n
 paces_length w i zero = refl
 paces_length w i (suc n) = ap suc (paces_length (tick w i).state i n)
 
--- the walk that stands where the stepped machine stands
+-- the walk in the state of the stepped machine
 abbrev walk : ℕ → State → Dots → Block → Walk
 walk n w d b = record { machine = plain w; dots = d; block = b; line = n }
 
@@ -97,7 +97,7 @@ module _ {Good : Dots → State → Type 0} (u : Upkeep Good) where
       (sym (turn_plain w last l))
       (turn_runs n k q w d b last next S (turn_after w.raw last) l refl g h (λ w' f s good at. turns_run n k q w' f b s next S at good h))
 
-  -- a line, where the lines after it go on
+  -- a line, if the lines after it go on
   line_runs : (n : ℕ) (w v : State) (d : Dots) (b : Block) (l : Lined) (next : State → Block → Told) (S : Walk → List Line → Fate → Type 0) → Good d w → HoldsAfter Good d v l
       → ((w' : State) (d' : Dots) (b' : Block) → Good d' w' → S (walk (n + 1) w' d' b') (next w' b').lines (next w' b').fate)
       → let t = told_by n w v b l next in LinedOn (walk n w d b) (lifted_line v l) (λ x rest. S x rest t.fate) t.lines t.fate

@@ -1,4 +1,4 @@
--- SIOT does its duty: pointer and count are owed with each byte, and the byte's word is outside the footprint.
+-- SIOT does its duty: pointer and count are pending with each byte, and the byte's word is outside the footprint.
 use Rattle.std.specs.Prelude.{◌||◌, ◌≡◌, ◌≤◌, ℕ, zero, suc, ◌+◌, ◌-◌, ◌%◌, ◌^◌, Bool, true, false, not, Option, Some, None, IfSome, List, [], ◌∷◌, ◌++◌, length, take, drop, slice_get, is_some, unwrap_or, refl}
 use Rattle.std.proofs.Common.{◌∙◌, ap, subst, sym, arith, inl, inr}
 use Rattle.std.proofs.lemmas.Bool.{cases_eq, not-false, or_parts}
@@ -22,7 +22,8 @@ use Rattle.its_frame.specs.declared.name.CallName.TheVariants.{Siot}
 use Rattle.its_plain.specs.Arguments.{store_of, stores_of, valued, input, place_in, place_of_input, in_footprint, is_shared, debts, revalued}
 use Rattle.its_plain.specs.CallBasic.{shared_place, read_only}
 use Rattle.its_plain.specs.CallStep.{with_held}
-use Rattle.its_plain.specs.CallTty.{console_of, input_waits, output_waits, first_typed, shown_byte, store_tests, read_tests, word_of, is_indexed, next_pointer, siot_tests, siot_in, siot_out, siot_by}
+use Rattle.its_plain.specs.CallTty.{console_of, input_waits, output_waits, first_typed, shown_byte, siot_in, siot_out}
+use Rattle.its_plain.specs.Transfer.{store_tests, read_tests, word_of, is_indexed, next_pointer, siot_tests, siot_by}
 use Rattle.its_plain.specs.CallFile.{is_full, channels_in, siot_read, siot_reads, siot_write, siot_writes}
 use Rattle.its_plain.specs.Decide.{call_named}
 use Rattle.its_plain.specs.Footprint.{variable, with_inputs}
@@ -42,7 +43,7 @@ use Rattle.its_stepped.proofs.TtyDuty.{named_waits}
 use Rattle.its_stepped.proofs.CallDuties.{named_same}
 use Rattle.its_plain.proofs.SizeLaws.{next_sized}
 
--- a word outside the footprint is apart from the words that are owed
+-- a word outside the footprint is apart from the words that are pending
 abbrev KnownIn : Ask → List Operand → Type 0
 KnownIn a os = (k p : ℕ) → place_in (slice_get os k) ≡ Some p → (p % 2 ^ 18 ≡ p) × (in_footprint p a ≡ true)
 
@@ -66,7 +67,7 @@ debts_apart c a n b f out =
     let i = length a.inputs.items - n in
     apart_of a b (drop i a.inputs.items) out (known_dropped a i a.inputs.items (λ k p e. (f.input k p e, f.known k p e)))
 
--- pointer and count as they are owed
+-- pointer and count as they are pending
 abbrev two : ℕ → ℕ → ℕ → ℕ → List Store
 two p v q k = record { at = p; word = v } ∷ record { at = q; word = k } ∷ []
 
@@ -102,7 +103,7 @@ stored_two : (c : Core) (p v q k : ℕ) → p % 2 ^ 18 ≡ p → q % 2 ^ 18 ≡ 
 unfolding stored
 stored_two c p v q k e f = ap (λ (i : ℕ). store (store c i v) (q % 2 ^ 18) k) e ∙ ap (λ (i : ℕ). store (store c p v) i k) f
 
--- what its tests say of pointer and count, where its decoding gave no error
+-- what its tests say of pointer and count, if its decoding gave no error
 pub record Moving (c : Core) (a : Ask) : Type 0 where
   p : ℕ
   q : ℕ
@@ -209,7 +210,7 @@ siot_goes d m v j x s a n cs h w i c e t quiet spare parts o sized =
     outside_of None k = tt
     outside_of (Some b) k = k.outside
 
--- a byte is stored behind the tests of its word and those of its device, or is loaded behind them
+-- a byte is stored after the tests of its word and those of its device, or is loaded after them
 pub siot_stores : (d : Decoding) (m : Machine) (v : State) (j : ℕ) (x : View) (s : Site) (a : Ask) (n : ℕ) (ts : List Test) (cs : List Change) (w b i : ℕ) → Calling m v j x.own s a n
     → call_named a.name ≡ Some Siot → Moving x.own.core a → has_size w ≡ true → in_footprint (right_of w) a ≡ false → AllQuiet cs j v → AllSpare cs j v → parts_in cs ≡ 0
     → EachStops (Duty v j x.own s a n) ts
@@ -227,7 +228,8 @@ siot_loads d m v j x s a n ts cs w i c e t sized quiet spare parts each =
     first_holds (Duty v j x.own s a n) (read_tests x (right_of w) ++ ts) (goes cs None (w ∷ i ∷ [])) (λ t. faults_duty m v j x s a n Mpv c, each)
     (λ r. siot_goes d m v j x s a n cs None w i c e t quiet spare parts tt sized)
 
--- behind the tests of its arguments: whether words alone are moved, and whether there is none left, is the device's
+-- after the tests of its arguments: whether words alone are moved, and whether there is none left, depends on the
+-- device
 pub siot_by_duty : (m : Machine) (v : State) (j : ℕ) (x : View) (s : Site) (a : Ask) (n : ℕ) (words ended : Bool) (moves : Decision) → Calling m v j x.own s a n
     → call_named a.name ≡ Some Siot → a.fail ≡ 0
     → (Moving x.own.core a → has_size (next_pointer (input a 1)) ≡ true → in_footprint (right_of (next_pointer (input a 1))) a ≡ false → Duty v j x.own s a n moves)

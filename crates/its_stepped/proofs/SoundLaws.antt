@@ -11,7 +11,7 @@ use Rattle.its_frame.specs.declared.decision.Decision.{Decision}
 use Rattle.its_frame.specs.declared.decision.Decision.TheVariants.{Waits, Goes, Ends, Gone}
 use Rattle.its_frame.specs.declared.frame.Frame.{Frame}
 use Rattle.its_frame.specs.declared.frame.Frame.TheVariants.{Entered, Parsed, Asked, Holding, Waiting, Moving, Ending}
-use Rattle.its_plain.specs.Ask.{parse, fetch}
+use Rattle.its_stepped.specs.TwoParts.{parse, fetch}
 use Rattle.its_plain.specs.Arguments.{debts}
 use Rattle.its_plain.specs.CallStep.{becomes, faulted, informs, informed_slots, decision}
 use Rattle.its_plain.specs.Interrupt.{Delivered, deliverable, delivered}

@@ -58,11 +58,11 @@ each_leads = record {
   line = λ v e n out touched c forest is. record { forest = forest; leads = tt };
 }
 
--- where the job stands at the call, its arguments are its words
+-- if the job is at the call, its arguments are its words
 stands_at : (m : Machine) (j : ℕ) (q : Whole) (s : Site) (a : Ask) → m.jobs j ≡ Some q → Stands q.core q.job s a → StandsAt m j s a
 stands_at m j q s a is st = record { job = q; there = is; stands = st; words = λ k p e. input_word q.core q.job s a k p st e }
 
--- and it stands there still where its core and its PC are as they were
+-- and it is still there if its core and its PC are as they were
 untouched : (m n : Machine) (j : ℕ) (s : Site) (a : Ask) → StandsAt m j s a → Untouched (m.jobs j) (n.jobs j) → StandsAt n j s a
 untouched m n j s a st h = go (n.jobs j) refl (subst (λ (o : Option Whole). Untouched o (n.jobs j)) st.there h)
   where
@@ -125,7 +125,7 @@ part_fine m j q a h = elim (cases_eq a.fail 0) [
   | inr ne ↦ absurd (let no : false ≡ true = ap is_part (sym (decides_error m j q a ne)) ∙ h in cc)
 ]
 
--- what moments have moved: this of each, and then the job stands on the rest of k bytes more
+-- what moments have moved: this of each, and then the job is at the rest of k bytes more
 record Moves (j : ℕ) (s : Site) (a : Ask) (k : ℕ) (n : Machine) (Each : Type 0) : Type 0 where
   each : Each
   rest : StandsAt n j s (rest_after k a)
@@ -141,7 +141,7 @@ one_more j s a k n One Each three one some h = record {
   count = let c = h.count in let r = rest_count a three in omega arith;
 }
 
--- a moment, and those behind it
+-- a moment, and those after it
 moment_moves : (b : Bool) (m n last : Machine) (j : ℕ) (s : Site) (a : Ask) (k : ℕ) (next : Ask → Type 0) → Forest m → (b ≡ true → n ≡ after_step m j) → StandsAt m j s a
     → call_named a.name ≡ Some Siot → Fits b j m n → ((r : Ask) → StandsAt n j s r → call_named r.name ≡ Some Siot → Moves j s r k last (next r))
     → Moves j s a (counted b k) last (InOrder_by b m j s a n next)

@@ -23,7 +23,7 @@ use Rattle.its_stepped.specs.Calling.{Calling}
 use Rattle.its_stepped.proofs.PageLaws.{reserves_none}
 use Rattle.its_stepped.proofs.UnwindLaws.{most_few}
 
--- the first test that holds: what each stop shows where its test holds, and the rest where each test fails
+-- the first test that holds: what each stop shows if its test holds, and the rest if each test fails
 abbrev pub EachStops : (Decision → Type 0) → List Test → Type 0
 EachStops P [] = Unit {0}
 EachStops P (t ∷ ts) = (t.holds ≡ true → P t.stop) × EachStops P ts
@@ -53,7 +53,7 @@ pub waits_duty : (m : Machine) (v : State) (j : ℕ) (own : Whole) (s : Site) (a
     → IsWaitable (call_named a.name) → Waiting_by v j a
 waits_duty m v j own s a n c e w = record { page = no_page m v j own s a n c e; waitable = w }
 
--- a reserved page and the words that are owed leave room for a store and the last step
+-- a reserved page and the pending words leave room for a store and the last step
 room_by : (a : Ask) (n : ℕ) (r : Option ℕ) → n ≤ most_owed a → IfSome r (Paged a n) → kept r + n ≤ 2
 room_by a n None few h = let m = most_few a in omega arith
 room_by a n (Some p) few h = let z = h.owes in omega arith

@@ -12,7 +12,8 @@ use Rattle.its_frame.specs.declared.frame.Frame.{Frame}
 use Rattle.its_frame.specs.declared.frame.Holding
 use Rattle.its_frame.specs.declared.frame.Waiting
 use Rattle.its_frame.specs.declared.frame.Frame.TheVariants.{Entered, Parsed, Asked, Holding, Waiting, Moving, Ending}
-use Rattle.its_plain.specs.Ask.{parse, fetch, ask}
+use Rattle.its_stepped.specs.TwoParts.{parse, fetch}
+use Rattle.its_plain.specs.Decode.{ask}
 use Rattle.its_plain.specs.Arguments.{debts}
 use Rattle.its_plain.specs.CallStep.{becomes, faulted, informs, informed_slots, delivery, acted, decision, step, among, Transition, transition}
 use Rattle.its_plain.specs.Change.{in_job, effects}
@@ -24,7 +25,7 @@ use Rattle.its_plain.specs.Licence.{IsRunning, IsOff, Licensed}
 use Rattle.its_plain.specs.Unit.{Outcome, Changed, Faulted, Called, unit}
 use Rattle.its_word.specs.Stores.{stored}
 use Rattle.its_plain.specs.UnitPlan.{given}
-use Rattle.its_local.proofs.TwoLaws.{in_two}
+use Rattle.its_stepped.proofs.TwoLaws.{in_two}
 use Rattle.its_stepped.specs.State.{State, plain, seen, turn, same, reserving, entered, parsed, asked, holding, waiting}
 use Rattle.its_stepped.specs.Unwind.{all_unwound, unwind_one}
 use Rattle.its_stepped.specs.Commit.{effects_on, committed}
@@ -69,7 +70,7 @@ plain_empty w j is = subst IsOff (sym (ap (option_map (seen (w.frames j))) is)) 
 still : (w : State) (j : ℕ) (f : Option Frame) → ((p : Whole) → seen f p ≡ seen (w.frames j) p) → plain (turn w j same f) ≡ plain w
 still w j f h = turned w j same same f (λ p e. h p) ∙ same_job (plain w) j
 
--- a job whose frame owes nothing is seen as it is
+-- a job whose frame has nothing pending is seen as it is
 abbrev pub AsIs : State → ℕ → Type 0
 AsIs w j = (p : Whole) → seen (w.frames j) p ≡ p
 
@@ -118,7 +119,7 @@ reserving_plain : (w : State) (j : ℕ) (r : Option ℕ) → plain (reserving w 
 unfolding plain
 reserving_plain w j r = refl
 
--- a delivery: the superior that is told is unwound first
+-- a delivery: the superior that gets the report is unwound first
 informs_quiet : (v : State) (j : ℕ) (b : Bool) (o : Option ℕ) → ((s : ℕ) → among s (informed_slots b o) ≡ true → v.frames s ≡ None) → AllQuiet (informs b o) j v
 informs_quiet v j true (Some s) h = (record { still = subst IsStill (sym (h s (among_first s []))) tt; other = λ ne. h s (among_first s []) }, tt)
 informs_quiet v j true None h = tt
@@ -196,7 +197,7 @@ found w j own a sound apart =
       slot = slot_then w u (helped_if (helps own a) u) j (all_unwound_others ks w j apart) (helped_if_others (helps own a) u j);
     }
 
--- a call that can be tried: it is here, and stands
+-- a call that can be tried: it is in the frame of its slot, and is still there
 pub record Trying (w : State) (j : ℕ) (q : Whole) (s : Site) (a : Ask) (n : ℕ) : Type 0 where
   pub here : Here w j q a n
   pub stands : Stands (stored q.core (debts a n)) q.job s a
@@ -244,7 +245,7 @@ trying_waiting w j q f is fr h = record {
   stands = h.standing;
 }
 
--- the step of a job whose call is tried is what its decision comes to
+-- the step of a job whose call is tried is the result of its decision
 pub trying_acts : (w : State) (j : ℕ) (q : Whole) (s : Site) (a : Ask) (n : ℕ) (d : Decision) → Trying w j q s a n → decision (plain w) j (with_stores (debts a n) q) a ≡ d
     → transition (plain w) j ≡ acted (plain w) j a (reach (plain w) j (with_stores (debts a n) q) a) d
 trying_acts w j q s a n d t e =

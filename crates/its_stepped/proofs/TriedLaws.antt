@@ -5,7 +5,7 @@ use Rattle.std.proofs.Common.{◌∙◌, ap}
 use Rattle.its_word.specs.declared.calls.Ask.{Ask}
 use Rattle.its_frame.specs.declared.name.CallName.{CallName}
 use Rattle.its_frame.specs.declared.name.CallName.TheVariants.{Hang, Sleep, Iot, Siot, Finish, Listen}
-use Rattle.its_plain.specs.Machine.{Chan, TtyIn, TtyOut, Whole, Machine}
+use Rattle.its_plain.specs.Machine.{Chan, TtyIn, TtyOut, Linked, Whole, Machine}
 use Rattle.its_plain.specs.Arguments.{input}
 use Rattle.its_plain.specs.View.{View, view}
 use Rattle.its_plain.specs.CallBasic.{is_oneself, channel_at}
@@ -15,7 +15,7 @@ use Rattle.its_stepped.specs.Sound.{IsWaitable}
 use Rattle.its_stepped.specs.State.{State, plain, seen}
 use Rattle.its_stepped.specs.Unwind.{all_unwound}
 use Rattle.its_stepped.specs.Tick.{is_disk, helps_by, helps, helped_if, prepared_for}
-use Rattle.its_stepped.proofs.CallWays.{OnConsole}
+use Rattle.its_stepped.proofs.CallWays.{CanWait}
 use Rattle.its_stepped.proofs.WaitLaws.{Goes_on, iot_ready, siot_ready}
 use Rattle.its_stepped.proofs.ViewLaws.{StillAt, decision_plain, view_plain, reach_plain, helps_seen}
 use Rattle.its_stepped.proofs.UnseenLaws.{files_unseen}
@@ -40,15 +40,17 @@ decision_by w j own a false still e h = decision_unhelped w j own a still e
 pub decision_helped : (w : State) (j : ℕ) (own : Whole) (a : Ask) → StillAt w (target own a) → (helps own a ≡ true → w.mark ≡ None) → decision (plain w) j own a ≡ decision w.raw j own a
 decision_helped w j own a still h = decision_by w j own a (helps own a) still refl h
 
--- no call on files, on an inferior or on pages is found not ready: its channel is on no console
-disk_off : (c : Chan) → is_disk c ≡ true → OnConsole c → ⊥
+-- no call on files, on an inferior or on pages is found not ready: its channel is on no console and on no link
+disk_off : (c : Chan) → is_disk c ≡ true → CanWait c → ⊥
 disk_off TtyIn h k = cc
 disk_off TtyOut h k = cc
+disk_off (Linked l write) h k = cc
 disk_off _ h k = k
 
-inferior_off : (c : Chan) (s : ℕ) → inferior_on c ≡ Some s → OnConsole c → ⊥
+inferior_off : (c : Chan) (s : ℕ) → inferior_on c ≡ Some s → CanWait c → ⊥
 inferior_off TtyIn s h k = cc
 inferior_off TtyOut s h k = cc
+inferior_off (Linked l write) s h k = cc
 inferior_off _ s h k = k
 
 named_goes : (x : View) (a : Ask) (o : Option CallName) → helps_by x.own a o ≡ true → IsWaitable o → Goes_on (decided_by x a o)
@@ -67,16 +69,16 @@ goes_by x a true z h w =
     rw z (named_goes x a (call_named a.name) (e ∙ h) w)
 goes_by x a false z h w = rw z tt
 
--- where a call is found not ready, it is none on files
+-- if a call is found not ready, it is none on files
 pub waits_unhelped : (m : Machine) (j : ℕ) (q : Whole) (a : Ask) → helps q a ≡ true → IsWaitable (call_named a.name) → Goes_on (decision m j q a)
 unfolding decision view
 waits_unhelped m j q a h w = goes_by (view m j q (target q a)) a (a.fail == 0) refl h w
 
 -- nor does it reach into another job
-reached_off : (q : Whole) (w s : ℕ) → reached_by q w ≡ Some s → OnConsole (channel_at q.channels w) → ⊥
+reached_off : (q : Whole) (w s : ℕ) → reached_by q w ≡ Some s → CanWait (channel_at q.channels w) → ⊥
 reached_off q w s h = go (is_oneself w) h
   where
-    go : (b : Bool) → (if b then None else inferior_on (channel_at q.channels w)) ≡ Some s → OnConsole (channel_at q.channels w) → ⊥
+    go : (b : Bool) → (if b then None else inferior_on (channel_at q.channels w)) ≡ Some s → CanWait (channel_at q.channels w) → ⊥
     go true h = absurd cc
     go false h = inferior_off (channel_at q.channels w) s h
 

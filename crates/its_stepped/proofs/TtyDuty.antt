@@ -13,7 +13,8 @@ use Rattle.its_frame.specs.declared.name.CallName.{CallName}
 use Rattle.its_frame.specs.declared.name.CallName.TheVariants.{Iot}
 use Rattle.its_plain.specs.Arguments.{input}
 use Rattle.its_plain.specs.CallBasic.{Party, Oneself, Nobody, Channel, party}
-use Rattle.its_plain.specs.CallTty.{console_of, has_console, input_waits, output_waits, first_typed, shown_byte, opens_on, open_tests, opens, store_tests, read_tests, word_of, iot_ends, iot_in, iot_out, can_take, is_holder, lands, ttylnd_of, ttylnd}
+use Rattle.its_plain.specs.CallTty.{console_of, has_console, input_waits, output_waits, first_typed, shown_byte, opens_on, open_tests, opens, iot_in, iot_out, can_take, is_holder, lands, ttylnd_of, ttylnd}
+use Rattle.its_plain.specs.Transfer.{store_tests, read_tests, word_of, iot_ends}
 use Rattle.its_plain.specs.Decide.{call_named}
 use Rattle.its_plain.specs.Machine.{Shut, TtyIn, TtyOut, Reads, Writes, On, Machine}
 use Rattle.its_plain.specs.Tests.{◌⇒◌, finishes, fails}

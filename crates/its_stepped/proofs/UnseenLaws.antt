@@ -11,6 +11,7 @@ use Rattle.its_plain.specs.CallBasic.{channel_at, sleep, dismiss, usrvar, realt}
 use Rattle.its_plain.specs.CallTty.{opens, finish, listen, ttylnd}
 use Rattle.its_plain.specs.CallFile.{disk_device}
 use Rattle.its_plain.specs.CallUsr.{usr_device, opens_usr, usrmem, uclose}
+use Rattle.its_plain.specs.CallLink.{link_device, opens_link}
 use Rattle.its_plain.specs.CallCore.{corblk}
 use Rattle.its_plain.specs.CallDevice.{open_by, open_call, close_on, close_call, iot_on, iot_call, siot_on, siot_call}
 use Rattle.its_plain.specs.Decide.{call_named, decided_by, decided}
@@ -20,11 +21,13 @@ use Rattle.its_stepped.specs.Tick.{is_disk, helps_by, helps}
 abbrev pub with_files : View → List File → View
 with_files v fs = record v { files = fs }
 
-open_unseen : (v : View) (fs : List File) (a : Ask) (disk usr : Bool) → disk ≡ false → open_by (with_files v fs) a disk usr ≡ open_by v a disk usr
-unfolding opens opens_usr
-open_unseen v fs a false true h = refl
-open_unseen v fs a false false h = refl
-open_unseen v fs a true usr h = absurd cc
+open_unseen : (v : View) (fs : List File) (a : Ask) (disk usr link : Bool) → disk ≡ false
+    → open_by (with_files v fs) a disk usr link ≡ open_by v a disk usr link
+unfolding opens opens_usr opens_link
+open_unseen v fs a false true link h = refl
+open_unseen v fs a false false true h = refl
+open_unseen v fs a false false false h = refl
+open_unseen v fs a true usr link h = absurd cc
 
 close_unseen : (v : View) (fs : List File) (a : Ask) (c : Chan) → is_disk c ≡ false → close_on (with_files v fs) a c ≡ close_on v a c
 close_unseen v fs a (Reads f at) h = absurd cc
@@ -43,7 +46,7 @@ siot_unseen v fs a n _ h = refl
 
 named_unseen : (v : View) (fs : List File) (a : Ask) (o : Option CallName) → helps_by v.own a o ≡ false → decided_by (with_files v fs) a o ≡ decided_by v a o
 unfolding open_call close_call iot_call siot_call sleep dismiss usrvar realt finish listen ttylnd usrmem uclose corblk
-named_unseen v fs a (Some Open) h = open_unseen v fs a (input a 1 == disk_device) (input a 1 == usr_device) h
+named_unseen v fs a (Some Open) h = open_unseen v fs a (input a 1 == disk_device) (input a 1 == usr_device) (input a 1 == link_device) h
 named_unseen v fs a (Some Close) h = close_unseen v fs a (channel_at v.own.channels (input a 0)) h
 named_unseen v fs a (Some Iot) h = iot_unseen v fs (slice_index_or a.outputs.items 0 0) (input a 0) (channel_at v.own.channels (input a 0)) h
 named_unseen v fs a (Some Siot) h = siot_unseen v fs a (input a 0) (channel_at v.own.channels (input a 0)) h

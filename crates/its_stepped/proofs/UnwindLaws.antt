@@ -75,7 +75,7 @@ row_plain : (w v : State) (j : ℕ) → Rowed w v j → plain v ≡ plain w
 unfolding plain
 row_plain w v j r =
     machine_is _ _ (plain_at w v j r) (λ k. ap (λ f. f k) r.shares.consoles) (λ k. ap (λ f. f k) r.shares.holders) r.shares.files r.shares.clock r.shares.version
-    (λ k. ap (λ f. f k) r.shares.symbols)
+    (λ k. ap (λ f. f k) r.shares.symbols) (λ k. ap (λ f. f k) r.shares.links)
 
 slot_is : (o p : Option Whole) (f g : Option Frame) (r t : Option ℕ) → o ≡ p → f ≡ g → r ≡ t → SoundSlot p g t → SoundSlot o f r
 slot_is o p f g r t job frame page s = rw (job, frame, page) s
@@ -173,10 +173,19 @@ pub slot_then : (w v u : State) (k : ℕ) → SlotSame w v k → SlotSame v u k 
 slot_then w v u k a b = record { job = b.job ∙ a.job; frame = b.frame ∙ a.frame; page = b.page ∙ a.page }
 
 pub shares_same : (w : State) → Shares w w
-shares_same w = record { consoles = refl; holders = refl; clock = refl; version = refl; symbols = refl; files = refl }
+shares_same w = record { consoles = refl; holders = refl; clock = refl; version = refl; symbols = refl; links = refl; files = refl }
 
 pub shares_then : (w v u : State) → Shares w v → Shares v u → Shares w u
-shares_then w v u a b = record { consoles = b.consoles ∙ a.consoles; holders = b.holders ∙ a.holders; clock = b.clock ∙ a.clock; version = b.version ∙ a.version; symbols = b.symbols ∙ a.symbols; files = b.files ∙ a.files }
+shares_then w v u a b =
+    record {
+      consoles = b.consoles ∙ a.consoles;
+      holders = b.holders ∙ a.holders;
+      clock = b.clock ∙ a.clock;
+      version = b.version ∙ a.version;
+      symbols = b.symbols ∙ a.symbols;
+      links = b.links ∙ a.links;
+      files = b.files ∙ a.files;
+    }
 
 pub record Beside (w v : State) (j : ℕ) : Type 0 where
   pub slots : (k : ℕ) → k ≢ j → SlotSame w v k
@@ -189,7 +198,7 @@ beside_same w j = record { slots = λ k ne. slot_same w k; shares = shares_same 
 beside_turn : (w : State) (j : ℕ) (h : Whole → Whole) (f : Option Frame) → Beside w (turn w j h f) j
 beside_turn w j h f = record {
   slots = λ k ne. record { job = on_slot_other w.raw.jobs j k h ne; frame = (changed_only w.frames j f).others k ne; page = refl };
-  shares = record { consoles = refl; holders = refl; clock = refl; version = refl; symbols = refl; files = refl };
+  shares = record { consoles = refl; holders = refl; clock = refl; version = refl; symbols = refl; links = refl; files = refl };
   unmarked = λ e. e;
 }
 
@@ -200,7 +209,7 @@ beside_page w j f = record {
     frame = (changed_only w.frames j f).others k ne;
     page = (changed_only w.reserved j None).others k ne;
   };
-  shares = record { consoles = refl; holders = refl; clock = refl; version = refl; symbols = refl; files = refl };
+  shares = record { consoles = refl; holders = refl; clock = refl; version = refl; symbols = refl; links = refl; files = refl };
   unmarked = λ e. e;
 }
 
@@ -215,6 +224,7 @@ parted w v j m (p ∷ []) mark still b = record {
     clock = b.shares.clock;
     version = b.shares.version;
     symbols = b.shares.symbols;
+    links = b.shares.links;
     files = sym (ap (λ o. helped o v.raw.files) (still ∙ mark)) ∙ b.shares.files;
   };
   unmarked = λ e. refl;
@@ -227,6 +237,7 @@ parted w v j m (p ∷ x ∷ ps) mark still b = record {
     clock = b.shares.clock;
     version = b.shares.version;
     symbols = b.shares.symbols;
+    links = b.shares.links;
     files = sym (ap (λ o. helped o v.raw.files) (still ∙ mark)) ∙ b.shares.files;
   };
   unmarked = λ e. cc;
@@ -433,7 +444,7 @@ unfolding all_unwound
 all_unwound_unmarked [] w e = e
 all_unwound_unmarked (k ∷ ks) w e = all_unwound_unmarked ks (unwound w k) (unwound_unmarked w k e)
 
--- where all of these are in user mode, nothing is done
+-- if all of these are in user mode, nothing is done
 pub all_unwound_still : (ks : List ℕ) (w : State) → ((k : ℕ) → among k ks ≡ true → w.frames k ≡ None) → all_unwound ks w ≡ w
 unfolding all_unwound
 all_unwound_still [] w h = refl

@@ -36,7 +36,7 @@ unfolding seen
 dropped_row w j q f at sees page parts one =
     frame_row w j q None at.job (rw at.frame (sees q)) page at.mark (λ mine. rw at.frame (sym parts)) (rw at.frame (sym one))
 
--- the first word that a standing call owes is stored
+-- the first pending word of a call that is still there is stored
 paid_none : (w : State) (j : ℕ) (a : Ask) (mk : ℕ → Frame) → paid w j a 0 mk ≡ turn w j same None
 paid_none w j a mk =
     let p : in_job w.raw j (with_stores (first_debt (debts a 0))) ≡ in_job w.raw j same =

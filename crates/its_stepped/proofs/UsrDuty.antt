@@ -1,4 +1,4 @@
--- The calls on inferiors do their duty: OPEN of USR; `.IOT` and SIOT where the channel is on one; USRMEM and UCLOSE.
+-- The calls on inferiors do their duty: OPEN of USR; `.IOT` and SIOT if the channel is on one; USRMEM and UCLOSE.
 use Rattle.std.specs.Prelude.{◌≡◌, ◌≢◌, ◌==◌, ℕ, ◌+◌, ◌-◌, ◌%◌, ◌^◌, Bool, true, false, not, Option, Some, None, [], ◌∷◌, ◌++◌, option_map, unwrap_or, refl}
 use Rattle.std.proofs.Common.{sym, ◌∙◌, ap, subst, inl, inr, arith}
 use Rattle.std.proofs.lemmas.Bool.{cases_eq, not-false}
@@ -17,7 +17,7 @@ use Rattle.its_frame.specs.declared.name.CallName.TheVariants.{Iot, Siot, Usrmem
 use Rattle.its_plain.specs.Arguments.{input, has_input, in_footprint}
 use Rattle.its_plain.specs.CallBasic.{channel_at, ioc}
 use Rattle.its_plain.specs.CallStep.{among}
-use Rattle.its_plain.specs.CallTty.{store_tests, read_tests, word_of, iot_ends, next_pointer}
+use Rattle.its_plain.specs.Transfer.{store_tests, read_tests, word_of, iot_ends, next_pointer}
 use Rattle.its_plain.specs.CallUsr.{inferior_named, any_named, makes_job, opens_job, usr_tests, opens_usr, other_core, at_end, iot_peeks, iot_from, iot_into, siot_peeks, siot_from, siot_pokes, siot_into, set_word, usrmem_tests, usrmem_on, usrmem, uclose_on, uclose}
 use Rattle.its_plain.specs.Change.{superiors, is_gone}
 use Rattle.its_plain.specs.Decide.{call_named, with_below, reach}
@@ -37,7 +37,7 @@ use Rattle.its_stepped.proofs.LogoutDuty.{among_left, among_right, among_below, 
 use Rattle.its_stepped.proofs.FileDuty.{changes_duty, iot_read_duty}
 use Rattle.its_stepped.proofs.SiotDuty.{Moving, siot_stores, siot_loads, siot_by_duty}
 
--- there is none where nothing is seen of it
+-- there is none if nothing is seen of it
 pub unmapped : {X Y : Type 0} (g : X → Y) (o : Option X) → option_map g o ≡ None → o ≡ None
 unmapped g None e = refl
 unmapped g (Some x) e = cc
@@ -46,7 +46,7 @@ unmapped g (Some x) e = cc
 abbrev pub Outlined : Machine → View → Type 0
 Outlined m x = x.outlines ≡ (λ k. option_map outline (m.jobs k))
 
--- OPEN: an inferior that is made gets an empty slot, where no call is in progress
+-- OPEN: an inferior that is made gets an empty slot, if no call is in progress
 vacant : (m : Machine) (v : State) (j : ℕ) (x : View) (s : Site) (a : Ask) (n k : ℕ) → Calling m v j x.own s a n → Outlined m x → least_free x.limit x.outlines ≡ Some k → Aimed v j k
 vacant m v j x s a n k c same is =
     let none : m.jobs k ≡ None = unmapped outline (m.jobs k) (ap (λ (f : ℕ → Option Outline). f k) (sym same) ∙ least_empty x.limit x.outlines k is) in

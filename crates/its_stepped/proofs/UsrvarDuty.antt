@@ -9,7 +9,7 @@ use Rattle.its_plain.specs.Arguments.{input, has_input}
 use Rattle.its_frame.specs.Variables.{variable_named}
 use Rattle.its_plain.specs.CallBasic.{Oneself, is_oneself, channel_at, party_on, by_oneself, by_superior, set_own, own_variable, set_other, value_of_other, other_variable, usrvar_of, usrvar}
 use Rattle.its_plain.specs.Decide.{call_named}
-use Rattle.its_plain.specs.Machine.{Chan, Shut, TtyIn, TtyOut, Reads, Writes, On, Machine}
+use Rattle.its_plain.specs.Machine.{Chan, Shut, TtyIn, TtyOut, Reads, Writes, On, Linked, Machine}
 use Rattle.its_plain.specs.Own.{variable_of}
 use Rattle.its_plain.specs.Tests.{◌⇒◌, finishes, fails, out}
 use Rattle.its_plain.specs.View.{View}
@@ -65,6 +65,7 @@ channel_duty m v j x s a n TtyIn c e z is = fails_duty m v j x s a n 0o5 c
 channel_duty m v j x s a n TtyOut c e z is = fails_duty m v j x s a n 0o5 c
 channel_duty m v j x s a n (Reads f at) c e z is = fails_duty m v j x s a n 0o5 c
 channel_duty m v j x s a n (Writes f) c e z is = fails_duty m v j x s a n 0o5 c
+channel_duty m v j x s a n (Linked l write) c e z is = fails_duty m v j x s a n 0o5 c
 channel_duty m v j x s a n (On k write at) c e z is =
     other_variable_duty m v j x s a n k write (variable_named (input a 1)) c (λ t. named_apart (call_named a.name) e t)
     (aimed_on m v j x.own s a n Usrvar 0 k at write c e z refl refl is)

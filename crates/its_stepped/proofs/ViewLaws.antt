@@ -1,5 +1,5 @@
--- What a call looks at is the same on the raw machine and on the plain one, where the job that it reaches into is in
--- user mode and no close is half made. So it may be decided on raw jobs.
+-- What a call looks at is the same on the raw machine and on the plain one, if the job that it reaches into is in user
+-- mode and no close is half made. So it may be decided on raw jobs.
 use Rattle.std.specs.Prelude.{if◌then◌else◌, ◌==◌, ◌≡◌, ℕ, false, Option, Some, None, [], ◌∷◌, ◌++◌, option_map, refl}
 use Rattle.std.proofs.Common.{◌∙◌, ap}
 use Rattle.its_word.specs.Tree.{slots_below}
@@ -22,7 +22,7 @@ use Rattle.its_stepped.specs.Quiet.{IsStill}
 use Rattle.its_stepped.proofs.FrameLaws.{seen_superior, seen_channels, seen_names, SameNames, mapped_plain}
 use Rattle.its_stepped.proofs.EffectLaws.{still_seen, superiors_plain, unmarked_files}
 
--- the job that a call reaches into owes nothing
+-- nothing is pending for the job that a call reaches into
 abbrev pub StillAt : State → Option ℕ → Type 0
 StillAt w (Some s) = IsStill (w.frames s)
 StillAt w None = Unit {0}
@@ -43,7 +43,7 @@ outline_seen : (f : Option Frame) (o : Option Whole) → option_map outline (opt
 outline_seen f None = refl
 outline_seen f (Some q) = ap Some (outline_alike (seen f q) q (seen_names f q) (seen_superior f q) (seen_channels f q))
 
--- but for the directory, which has the owed parts of a marked close
+-- except for the directory, which has the pending parts of a marked close
 pub view_plain : (w : State) (j : ℕ) (own : Whole) (t : Option ℕ) → StillAt w t → view (plain w) j own t ≡ record (view w.raw j own t) { files = (plain w).files }
 unfolding view plain
 view_plain w j own t h = λ i. record {
@@ -57,6 +57,7 @@ view_plain w j own t h = λ i. record {
   files = helped w.mark w.raw.files;
   clock = w.raw.clock;
   limit = limit w.raw;
+  links = w.raw.links;
 }
 
 pub view_unmarked : (w : State) (j : ℕ) (own : Whole) (t : Option ℕ) → StillAt w t → w.mark ≡ None → view (plain w) j own t ≡ view w.raw j own t

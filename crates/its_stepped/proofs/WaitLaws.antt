@@ -1,6 +1,6 @@
--- A call that is found not ready: it has the one reason that its name, its channel and its console tell, it passes its other
--- tests, and it passes them whatever consoles and the clock do.
-use Rattle.std.specs.Prelude.{if◌then◌else◌, ◌≡◌, ◌==◌, ◌&&◌, ◌^◌, ◌+◌, ◌-◌, ℕ, Bool, true, false, Option, Some, None, List, [], ◌∷◌, ◌++◌, nat_lt, length, slice_index_or, unwrap_or, refl}
+-- A call that is found not ready: it has the one reason that its name, its channel and its console determine, it passes
+-- its other tests, and it passes them whatever consoles, links and the clock do.
+use Rattle.std.specs.Prelude.{if◌then◌else◌, ◌≡◌, ◌==◌, ◌&&◌, ◌^◌, ◌+◌, ◌-◌, ℕ, Bool, true, false, not, Option, Some, None, List, [], ◌∷◌, ◌++◌, nat_lt, length, slice_index_or, unwrap_or, refl}
 use Rattle.std.proofs.Common.{sym, ◌∙◌, ap, subst, inl, inr, arith}
 use Rattle.std.proofs.lemmas.Bool.{cases_Bool}
 use Rattle.std.proofs.lemmas.Bool.Decides.{nat_tests}
@@ -18,18 +18,21 @@ use Rattle.its_frame.specs.declared.decision.Wait.TheVariants as waits
 use Rattle.its_frame.specs.declared.name.CallName.{CallName}
 use Rattle.its_frame.specs.declared.name.CallName.TheVariants.{Hang, Sleep, Iot, Siot, Finish, Listen}
 use Rattle.its_plain.specs.Arguments.{input, place_of_input}
-use Rattle.its_plain.specs.CallBasic.{channel_at, is_negative, negated, longest_sleep, shared_place, read_only, sleep}
-use Rattle.its_plain.specs.CallTty.{console_of, store_tests, read_tests, iot_ends, input_waits, output_waits, output_left, siot_tests, siot_in, siot_out, siot_by, next_pointer, iot_in, iot_out, first_typed, shown_byte, word_of, finish_on, finish, listens, listen_on, listen}
+use Rattle.its_word.specs.Links.{most_linked}
+use Rattle.its_plain.specs.CallBasic.{channel_at, ioc, is_negative, negated, longest_sleep, shared_place, read_only, sleep}
+use Rattle.its_plain.specs.CallLink.{words_in, is_end_closed, is_dry, is_ended, is_crowded, is_unread, first_word, iot_receive, iot_receives, iot_sends, siot_receive, siot_receives, siot_send, siot_sends}
+use Rattle.its_plain.specs.CallTty.{is_empty, console_of, input_waits, output_waits, output_left, siot_in, siot_out, iot_in, iot_out, first_typed, shown_byte, finish_on, finish, listens, listen_on, listen}
+use Rattle.its_plain.specs.Transfer.{store_tests, read_tests, iot_ends, siot_tests, siot_by, next_pointer, word_of}
 use Rattle.its_plain.specs.CallDevice.{iot_on, iot_call, siot_on, siot_call}
 use Rattle.its_plain.specs.CallStep.{decision}
 use Rattle.its_plain.specs.Change.{chan_left, shut_on}
 use Rattle.its_plain.specs.Decide.{call_named, decided_by, decided, target}
-use Rattle.its_plain.specs.Machine.{Chan, Shut, TtyIn, TtyOut, Reads, Writes, On, Whole, Machine}
+use Rattle.its_plain.specs.Machine.{Chan, Shut, TtyIn, TtyOut, Reads, Writes, On, Linked, Pipe, Whole, Machine}
 use Rattle.its_plain.specs.Reasons.{Doors, doors, held_up, of_transfer, of_finish, of_listen, reason_by, reason_in}
 use Rattle.its_plain.specs.Tests.{Test, ◌⇒◌, first, goes, finishes, fails, faults, out}
 use Rattle.its_plain.specs.View.{View, view}
 use Rattle.its_stepped.specs.Sound.{IsWaitable, Stuck}
-use Rattle.its_stepped.proofs.CallWays.{Ways, OnConsole, iot_ways, siot_ways}
+use Rattle.its_stepped.proofs.CallWays.{Ways, CanWait, iot_ways, siot_ways}
 
 -- a decision that does not wait
 abbrev pub Goes_on : Decision → Type 0
@@ -43,19 +46,19 @@ goes_ways x a = record {
   failing = λ k. tt;
   faulting = λ f. tt;
   stuck = tt;
-  opening = λ h b. tt;
+  opening = λ h f b. tt;
   arming = λ n h. tt;
   ending = λ cs ss h. tt;
   moved = λ cs ss h. tt;
   going = λ cs b vs h. tt;
 }
 
--- a transfer whose channel is on no console never waits
-pub iot_ready : (x : View) (a : Ask) → (OnConsole (channel_at x.own.channels (input a 0)) → ⊥) → Goes_on (decided_by x a (Some Iot))
+-- a transfer whose channel is on no console and on no link never waits
+pub iot_ready : (x : View) (a : Ask) → (CanWait (channel_at x.own.channels (input a 0)) → ⊥) → Goes_on (decided_by x a (Some Iot))
 unfolding iot_call
 iot_ready x a h = iot_ways Goes_on x a (slice_index_or a.outputs.items 0 0) (input a 0) (channel_at x.own.channels (input a 0)) (goes_ways x a) refl (λ k r. h k)
 
-pub siot_ready : (x : View) (a : Ask) → (OnConsole (channel_at x.own.channels (input a 0)) → ⊥) → Goes_on (decided_by x a (Some Siot))
+pub siot_ready : (x : View) (a : Ask) → (CanWait (channel_at x.own.channels (input a 0)) → ⊥) → Goes_on (decided_by x a (Some Siot))
 unfolding siot_call
 siot_ready x a h = siot_ways Goes_on x a (input a 0) (channel_at x.own.channels (input a 0)) (goes_ways x a) refl (λ k r. h k)
 
@@ -68,7 +71,7 @@ goes_not : (d : Decision) (r : Wait) → Goes_on d → d ≡ Waits r → ⊥
 goes_not (Waits s) r h e = h
 goes_not _ r h e = cc
 
--- they are passed where the rest waits
+-- they are passed if the rest waits
 pass_by : (b : Bool) (c d : Decision) (r : Wait) → Goes_on c → (if b then c else d) ≡ Waits r → b ≡ false
 pass_by true c d r h e = absurd (goes_not c r h e)
 pass_by false c d r h e = refl
@@ -100,7 +103,7 @@ last_waits (t ∷ ts) b r s d h g is =
 
 -- what a call sees that waits: its doors, and its reason
 abbrev pub doors_seen : View → Doors
-doors_seen v = record { consoles = v.consoles; holders = v.holders; clock = v.clock }
+doors_seen v = record { consoles = v.consoles; holders = v.holders; clock = v.clock; links = v.links }
 
 abbrev pub reason_seen : View → Ask → Option CallName → Option Wait
 reason_seen v a o = reason_by (unwrap_or v.own.job.console 0) (channel_at v.own.channels (input a 0)) o
@@ -163,13 +166,52 @@ sleep_again v a r e =
 -- a byte from a console or to one
 in_on : (v u : View) (a : Ask) (e i : ℕ) (c : Chan) (same : i ≡ console_of v) → of_transfer i c ≡ Some (waits.Input i) → iot_in u e (console_of u) ≡ Waits (waits.Input i) → iot_on u e (input a 0) c ≡ Waits (waits.Input i)
 in_on v u a e i TtyIn same o is = is
+in_on v u a e i (Linked l true) same o is = absurd (cc)
+in_on v u a e i (Linked l false) same o is = absurd (cc)
 in_on v u a e i _ same o is = absurd (cc)
 
 out_on : (v u : View) (a : Ask) (e i : ℕ) (c : Chan) → of_transfer i c ≡ Some (waits.Output i) → iot_out u e (console_of u) ≡ Waits (waits.Output i) → iot_on u e (input a 0) c ≡ Waits (waits.Output i)
 out_on v u a e i TtyOut o is = is
+out_on v u a e i (Linked l true) o is = absurd (cc)
+out_on v u a e i (Linked l false) o is = absurd (cc)
 out_on v u a e i _ o is = absurd (cc)
 
-iot_by : (v : View) (a : Ask) (r : Wait) (c : Chan) → channel_at v.own.channels (input a 0) ≡ c → ((OnConsole c → ⊥) → Goes_on (decided_by v a (Some Iot)))
+-- a word from a link or to one
+empty_on : (u : View) (a : Ask) (e i l : ℕ) (c : Chan) → of_transfer i c ≡ Some (waits.Empty l) → iot_receives u e l ≡ Waits (waits.Empty l)
+    → iot_on u e (input a 0) c ≡ Waits (waits.Empty l)
+empty_on u a e i l (Linked k false) o is = let same : k ≡ l = cc in ap (iot_receives u e) same ∙ is
+empty_on u a e i l (Linked k true) o is = absurd (cc)
+empty_on u a e i l _ o is = absurd (cc)
+
+room_on : (u : View) (a : Ask) (e i l : ℕ) (c : Chan) → of_transfer i c ≡ Some (waits.Room l) → iot_sends u e l ≡ Waits (waits.Room l)
+    → iot_on u e (input a 0) c ≡ Waits (waits.Room l)
+room_on u a e i l (Linked k true) o is = let same : k ≡ l = cc in ap (iot_sends u e) same ∙ is
+room_on u a e i l (Linked k false) o is = absurd (cc)
+room_on u a e i l _ o is = absurd (cc)
+
+-- a link that can still get a word is not at its end, and one that can still lose one is read
+dry_by : (b c : Bool) → (b && not c) ≡ true → (b && c) ≡ false
+dry_by true false h = refl
+dry_by true true h = cc
+dry_by false c h = cc
+
+dry_goes : (o : Option Pipe) → is_dry o ≡ true → is_ended o ≡ false
+dry_goes o h = dry_by (is_empty (words_in o)) (is_end_closed true o) h
+
+crowded_by : (b c : Bool) → (b && not c) ≡ true → c ≡ false
+crowded_by true false h = refl
+crowded_by true true h = cc
+crowded_by false c h = cc
+
+crowded_read : (o : Option Pipe) → is_crowded o ≡ true → is_unread o ≡ false
+crowded_read o h = crowded_by (not (nat_lt (length (words_in o)) most_linked)) (is_end_closed false o) h
+
+received : (v : View) (e l : ℕ) (ws : List ℕ) → Goes_on (iot_receive v e l ws)
+received v e l (w ∷ ws) = tt
+received v e l [] = tt
+
+iot_by : (v : View) (a : Ask) (r : Wait) (c : Chan) → channel_at v.own.channels (input a 0) ≡ c
+    → ((CanWait c → ⊥) → Goes_on (decided_by v a (Some Iot)))
     → iot_on v (slice_index_or a.outputs.items 0 0) (input a 0) c ≡ Waits r → decided_by v a (Some Iot) ≡ Waits r → Again v a (Some Iot) r
 unfolding iot_call
 iot_by v a r TtyIn is ready e d =
@@ -192,6 +234,33 @@ iot_by v a r TtyOut is ready e d =
       again = λ u same held. out_on v (own_as v u) a p i (channel_at u.own.channels (input a 0)) same
           (w.again (output_waits (own_as v u) i) (iot_ends (own_as v u) (changes.Put i (shown_byte (word_of (own_as v u) p)) ∷ []) []) held);
     })
+iot_by v a r (Linked l false) is ready e d =
+    let p = slice_index_or a.outputs.items 0 0 in
+    let i = console_of v in
+    let w = last_waits (store_tests v p) (is_dry (v.links l)) (waits.Empty l) r (iot_receive v p l (words_in (v.links l))) (tt, (tt, tt))
+    (received v p l (words_in (v.links l))) e in
+    subst (Again v a (Some Iot)) w.same (record {
+      reason = ap (of_transfer i) is;
+      holds = w.holds;
+      again = λ u same held. empty_on (own_as v u) a p i l (channel_at u.own.channels (input a 0)) same
+          (w.again (is_dry (u.links l)) (iot_receive (own_as v u) p l (words_in (u.links l))) held);
+    })
+iot_by v a r (Linked l true) is ready e d =
+    let p = slice_index_or a.outputs.items 0 0 in
+    let i = console_of v in
+    let w = last_waits (read_tests v p ++ (is_unread (v.links l) ⇒ ioc v ∷ [])) (is_crowded (v.links l)) (waits.Room l) r
+    (iot_ends v (changes.Send l (word_of v p) ∷ []) []) (tt, (tt, tt)) tt e in
+    subst (Again v a (Some Iot)) w.same (record {
+      reason = ap (of_transfer i) is;
+      holds = w.holds;
+      again = λ u same held.
+          let x = own_as v u in
+          let read : is_unread (u.links l) ≡ is_unread (v.links l) = crowded_read (u.links l) held ∙ sym (crowded_read (v.links l) w.holds) in
+          let sends = iot_ends x (changes.Send l (word_of x p) ∷ []) [] in
+          room_on x a p i l (channel_at u.own.channels (input a 0)) same
+          (ap (λ (b : Bool). first (read_tests x p ++ (b ⇒ ioc x ∷ is_crowded (u.links l) ⇒ Waits (waits.Room l) ∷ [])) sends) read
+          ∙ w.again (is_crowded (u.links l)) sends held);
+    })
 iot_by v a r _ is ready e d = absurd (goes_not (decided_by v a (Some Iot)) r (ready (λ k. k)) d)
 
 iot_again : (v : View) (a : Ask) (r : Wait) → decided_by v a (Some Iot) ≡ Waits r → Again v a (Some Iot) r
@@ -201,13 +270,30 @@ iot_again v a r e = iot_by v a r (channel_at v.own.channels (input a 0)) refl (i
 -- SIOT
 siot_in_on : (u : View) (a : Ask) (i : ℕ) (c : Chan) → of_transfer i c ≡ Some (waits.Input i) → siot_by u a false false (siot_in u a (next_pointer (input a 1)) (input a 2) (console_of u)) ≡ Waits (waits.Input i) → siot_on u a (input a 0) c ≡ Waits (waits.Input i)
 siot_in_on u a i TtyIn o is = is
+siot_in_on u a i (Linked l true) o is = absurd cc
+siot_in_on u a i (Linked l false) o is = absurd cc
 siot_in_on u a i _ o is = absurd cc
 
 siot_out_on : (u : View) (a : Ask) (i : ℕ) (c : Chan) → of_transfer i c ≡ Some (waits.Output i) → siot_by u a false false (siot_out u a (next_pointer (input a 1)) (input a 2) (console_of u)) ≡ Waits (waits.Output i) → siot_on u a (input a 0) c ≡ Waits (waits.Output i)
 siot_out_on u a i TtyOut o is = is
+siot_out_on u a i (Linked l true) o is = absurd cc
+siot_out_on u a i (Linked l false) o is = absurd cc
 siot_out_on u a i _ o is = absurd cc
 
-siot_by_channel : (v : View) (a : Ask) (r : Wait) (c : Chan) → channel_at v.own.channels (input a 0) ≡ c → ((OnConsole c → ⊥) → Goes_on (decided_by v a (Some Siot)))
+siot_empty_on : (u : View) (a : Ask) (i l : ℕ) (c : Chan) → of_transfer i c ≡ Some (waits.Empty l) → siot_receives u a l ≡ Waits (waits.Empty l)
+    → siot_on u a (input a 0) c ≡ Waits (waits.Empty l)
+siot_empty_on u a i l (Linked k false) o is = let same : k ≡ l = cc in ap (siot_receives u a) same ∙ is
+siot_empty_on u a i l (Linked k true) o is = absurd cc
+siot_empty_on u a i l _ o is = absurd cc
+
+siot_room_on : (u : View) (a : Ask) (i l : ℕ) (c : Chan) → of_transfer i c ≡ Some (waits.Room l) → siot_sends u a l ≡ Waits (waits.Room l)
+    → siot_on u a (input a 0) c ≡ Waits (waits.Room l)
+siot_room_on u a i l (Linked k true) o is = let same : k ≡ l = cc in ap (siot_sends u a) same ∙ is
+siot_room_on u a i l (Linked k false) o is = absurd cc
+siot_room_on u a i l _ o is = absurd cc
+
+siot_by_channel : (v : View) (a : Ask) (r : Wait) (c : Chan) → channel_at v.own.channels (input a 0) ≡ c
+    → ((CanWait c → ⊥) → Goes_on (decided_by v a (Some Siot)))
     → siot_on v a (input a 0) c ≡ Waits r → decided_by v a (Some Siot) ≡ Waits r → Again v a (Some Siot) r
 unfolding siot_call
 siot_by_channel v a r TtyIn is ready e d =
@@ -237,6 +323,50 @@ siot_by_channel v a r TtyOut is ready e d =
       again = λ u same held. siot_out_on (own_as v u) a i (channel_at u.own.channels (input a 0)) same
           (past (siot_out (own_as v u) a n (input a 2) i)
           ∙ w.again (output_waits (own_as v u) i) (goes (changes.Put i (shown_byte (load_of n (word_of (own_as v u) (right_of n)))) ∷ []) None (n ∷ (input a 2 - 1) ∷ [])) held);
+    })
+siot_by_channel v a r (Linked l false) is ready e d =
+    let n = next_pointer (input a 1) in
+    let i = console_of v in
+    let ts = siot_tests v a (input a 1) (input a 2) false (is_ended (v.links l)) in
+    let moves = siot_receive v n (input a 2) l in
+    let past = passed ts moves r (tt, (tt, (tt, (tt, (tt, (tt, (tt, (tt, tt)))))))) e in
+    let w = last_waits (store_tests v (right_of n)) (is_dry (v.links l)) (waits.Empty l) r
+    (goes (changes.Receive l ∷ []) (Some (record { place = right_of n; byte = first_word v l })) (n ∷ (input a 2 - 1) ∷ [])) (tt, (tt, tt)) tt
+    (sym (past moves) ∙ e) in
+    subst (Again v a (Some Siot)) w.same (record {
+      reason = ap (of_transfer i) is;
+      holds = w.holds;
+      again = λ u same held.
+          let x = own_as v u in
+          let more = siot_receive x n (input a 2) l in
+          let ended : is_ended (u.links l) ≡ is_ended (v.links l) = dry_goes (u.links l) held ∙ sym (dry_goes (v.links l) w.holds) in
+          siot_empty_on x a i l (channel_at u.own.channels (input a 0)) same
+          (ap (λ (b : Bool). siot_by x a false b more) ended
+          ∙ past more
+          ∙ w.again (is_dry (u.links l))
+          (goes (changes.Receive l ∷ []) (Some (record { place = right_of n; byte = first_word x l })) (n ∷ (input a 2 - 1) ∷ [])) held);
+    })
+siot_by_channel v a r (Linked l true) is ready e d =
+    let n = next_pointer (input a 1) in
+    let i = console_of v in
+    let ts = siot_tests v a (input a 1) (input a 2) false false in
+    let moves = siot_send v a n (input a 2) l in
+    let past = passed ts moves r (tt, (tt, (tt, (tt, (tt, (tt, (tt, (tt, tt)))))))) e in
+    let w = last_waits (read_tests v (right_of n) ++ (is_unread (v.links l) ⇒ fails v a error.NOBODY_READS ∷ [])) (is_crowded (v.links l))
+    (waits.Room l) r (goes (changes.Send l (load_of n (word_of v (right_of n))) ∷ []) None (n ∷ (input a 2 - 1) ∷ [])) (tt, (tt, tt)) tt
+    (sym (past moves) ∙ e) in
+    subst (Again v a (Some Siot)) w.same (record {
+      reason = ap (of_transfer i) is;
+      holds = w.holds;
+      again = λ u same held.
+          let x = own_as v u in
+          let read : is_unread (u.links l) ≡ is_unread (v.links l) = crowded_read (u.links l) held ∙ sym (crowded_read (v.links l) w.holds) in
+          let sends = goes (changes.Send l (load_of n (word_of x (right_of n))) ∷ []) None (n ∷ (input a 2 - 1) ∷ []) in
+          siot_room_on x a i l (channel_at u.own.channels (input a 0)) same
+          (past (siot_send x a n (input a 2) l)
+          ∙ ap (λ (b : Bool). first
+          (read_tests x (right_of n) ++ (b ⇒ fails x a error.NOBODY_READS ∷ is_crowded (u.links l) ⇒ Waits (waits.Room l) ∷ [])) sends) read
+          ∙ w.again (is_crowded (u.links l)) sends held);
     })
 siot_by_channel v a r _ is ready e d = absurd (goes_not (decided_by v a (Some Siot)) r (ready (λ k. k)) d)
 
@@ -384,6 +514,7 @@ shut_chan gone i TtyIn o = refl
 shut_chan gone i TtyOut o = refl
 shut_chan gone i (Reads ns at) o = refl
 shut_chan gone i (Writes f) o = refl
+shut_chan gone i (Linked l write) o = refl
 shut_chan gone i (On k w at) o = shut_on_by (gone k) o
   where
     named : (c d : Chan) (n : CallName) → of_transfer i c ≡ of_transfer i d → of_finish i c ≡ of_finish i d → of_listen i c ≡ of_listen i d → reason_by i c (Some n) ≡ reason_by i d (Some n)

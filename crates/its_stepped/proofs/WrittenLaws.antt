@@ -1,6 +1,6 @@
--- The lines that the monitor writes are a transcript of the plain machine, where the decoding of calls looks at what it
+-- The lines that the monitor writes are a transcript of the plain machine, if the decoding of calls looks at what it
 -- has to.
-use Rattle.std.specs.Prelude.{◌≡◌, ◌≤◌, ◌⊎◌, ℕ, Bool, true, Option, Some, None, IfSome, List, option_map, is_some, refl, ◌<◌}
+use Rattle.std.specs.Prelude.{◌≡◌, ◌≤◌, ℕ, Bool, true, Option, Some, None, IfSome, List, option_map, is_some, refl}
 use Rattle.std.proofs.Common.{sym, ◌∙◌, ap, subst, inl, inr, arith}
 use Rattle.std.proofs.lemmas.Option.{IfSome_then}
 use Rattle.std.proofs.lemmas.Bool.{cases_lt}
@@ -8,17 +8,18 @@ use Rattle.its_word.specs.Item.{Item}
 use Rattle.its_word.specs.declared.session.Event.{Event}
 use Rattle.its_print.specs.Printing.{Line}
 use Rattle.its_plain.specs.Change.{channel_in, superior_in, console_in}
-use Rattle.its_plain.specs.Machine.{Chan, Shut, Whole, Machine, limit}
+use Rattle.its_plain.specs.Machine.{Chan, Shut, Pipe, Whole, Machine, limit}
 use Rattle.its_plain.specs.OperatorLines.{Done, lined}
 use Rattle.its_plain.specs.Transcript.{Transcript}
 use Rattle.its_plain.specs.Operator.{Block, Does}
 use Rattle.its_plain.proofs.CallLineLaws.{Face, face, SlotKept, Stays, Made, HolderKept, Keeps, Takes, LineKeeps, LineKeepsBy, line_keeps}
 use Rattle.its_stepped.specs.Calling.{Decoding}
-use Rattle.its_stepped.specs.Forest.{OnInferior, OnConsole, Forest}
+use Rattle.its_stepped.specs.Forest.{OnInferior, OnConsole, end_at, Forest}
 use Rattle.its_stepped.specs.Lines.{stepped}
 use Rattle.its_stepped.proofs.ForestLaws.{forest_starts, same_forest}
 use Rattle.its_stepped.proofs.FitLaws.{forest_steps}
 use Rattle.its_stepped.proofs.GivenLaws.{given}
+use Rattle.its_stepped.proofs.JoinedLaws.{same_link, joined_same}
 use Rattle.its_stepped.proofs.UpkeepLaws.{Lasting, session_transcript}
 use Rattle.its_word.specs.Limits.{slots, limit_of}
 use Rattle.its_word.proofs.FreeLaws.{limit_few}
@@ -70,6 +71,11 @@ slot_console i o p (Stays e) h =
     (subst (λ (c : Option ℕ). OnConsole c (channel_in o i)) (console_faced o ∙ sym (ap face_console e) ∙ sym (console_faced p)) h)
 slot_console i o p (Made u j console none is) h = subst (λ (x : Option Whole). OnConsole (console_in x) (channel_in x i)) (sym is) tt
 
+-- each channel is on what it was on
+slot_same : (i : ℕ) (o p : Option Whole) → SlotKept o p → channel_in p i ≡ channel_in o i
+slot_same i o p (Stays e) = channel_faced p i ∙ ap (λ (f : Option Face). face_channel f i) e ∙ sym (channel_faced o i)
+slot_same i o p (Made u j console none is) = ap (λ (x : Option Whole). channel_in x i) is ∙ sym (ap (λ (x : Option Whole). channel_in x i) none)
+
 -- and a job that it makes may hold its console
 holder_kept : (m n : Machine) (c : ℕ) → LineKeeps m n → HolderKept m n c → IfSome (m.holders c) (λ s. is_some (m.jobs s) ≡ true) → IfSome (n.holders c) (λ s. is_some (n.jobs s) ≡ true)
 holder_kept m n c h (Keeps e) d =
@@ -77,7 +83,7 @@ holder_kept m n c h (Keeps e) d =
     (IfSome_then (m.holders c) d (λ s x. slot_some (m.jobs s) (n.jobs s) (h.slots s) x))
 holder_kept m n c h (Takes s u j none free is e) d = subst (λ (o : Option ℕ). IfSome o (λ s. is_some (n.jobs s) ≡ true)) (sym e) (ap is_some is)
 
--- no slot past the number of jobs that there can be has a job: where that number changes, no slot has one
+-- no slot past the number of jobs that there can be has a job: if that number changes, no slot has one
 keeps_few : (m n : Machine) (k : ℕ) → LineKeeps m n → Forest m → limit n ≤ k → n.jobs k ≡ None
 keeps_few m n k h d l = elim h.version [
   | inl same ↦ let past : limit m ≤ k = subst (λ (i : ℕ). limit_of i ≤ k) same l in h.few k past (d.few k past)
@@ -96,6 +102,8 @@ keeps_forest m n h d = same_forest m n
       channels = λ k i. slot_channel m k i (m.jobs k) (n.jobs k) (h.slots k) (d.channels k i);
       consoles = λ k i. slot_console i (m.jobs k) (n.jobs k) (h.slots k) (d.consoles k i);
       holders = λ c. holder_kept m n c h (h.holders c) (d.holders c);
+      links = joined_same m n (λ k i. same_link _ _ (slot_same i (m.jobs k) (n.jobs k) (h.slots k)))
+          (λ l write. ap (λ (ls : ℕ → Option Pipe). end_at write (ls l)) h.links) d.links;
     })
     d
 

@@ -28,7 +28,7 @@ pub record Transfer (a : Ask) (p q : ℕ) : Type 0 where
   pub count : ℕ
   pub inputs : a.inputs.items ≡ channel ∷ variable pointer p ∷ variable count q ∷ []
 
--- what the decoding has looked at: the error address and, except for `.IOT`, the output address allow a store; places
+-- what the decoding has checked: the error address and, except for `.IOT`, the output address allow a store; places
 -- are addresses, and those of inputs are words of the footprint; SLEEP has one argument, and SIOT three
 pub record Fetched (c : Core) (a : Ask) : Type 0 where
   pub error : (w : ℕ) → Stored c (number_at a.error w)

@@ -13,3 +13,4 @@ pub mod Lines
 pub mod Calling
 pub mod Address
 pub mod Consoled
+pub mod TwoParts

@@ -144,8 +144,8 @@ calmed w b e = helped_if (looks_at_files e) (unwound_for w b e)
 abbrev pub with_raw : State → Machine → State
 with_raw v m = record v { raw = m }
 
--- the state after a line. A line that is refused tests that first, and leaves the state as it was, but for the parts
--- of a close that it has made to look at the directory
+-- the state after a line. A line tests first whether it is refused. If it is, it leaves the state as it was, except for
+-- the parts of a close that it has performed to look at the directory
 abbrev pub state_after : State → State → Lined → State
 state_after w v (Done (Does m out touched b)) = with_raw v m
 state_after w v (Done (Refuses r)) = w

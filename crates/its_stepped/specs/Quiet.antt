@@ -52,6 +52,10 @@ Quiet (changes.Make s u n) j w = w.frames s ≡ None
 Quiet (changes.Remove s) j w = (k : ℕ) → is_gone (superiors w.raw) s k ≡ true → k ≢ j → w.frames k ≡ None
 Quiet (changes.Inform s) j w = Reached w j s
 Quiet (changes.Arm alarm) j w = Unit {0}
+Quiet (changes.Join n l write x y) j w = Unit {0}
+Quiet (changes.Part n l write) j w = Unit {0}
+Quiet (changes.Send l x) j w = Unit {0}
+Quiet (changes.Receive l) j w = Unit {0}
 Quiet (changes.Delete d x y) j w = w.mark ≡ None
 Quiet (changes.Rename d x y u v) j w = w.mark ≡ None
 

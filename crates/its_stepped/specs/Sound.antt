@@ -25,7 +25,7 @@ use Rattle.its_plain.specs.CallStep.{decision}
 use Rattle.its_plain.specs.Reasons.{doors, held_up, reason_in}
 use Rattle.its_plain.specs.Change.{poke}
 use Rattle.its_plain.specs.Arguments.{input, in_footprint, debts}
-use Rattle.its_plain.specs.Ask.{parse}
+use Rattle.its_stepped.specs.TwoParts.{parse}
 pub use Rattle.its_plain.specs.Footprint.{Stands}
 use Rattle.its_plain.specs.Decide.{call_row, call_named}
 use Rattle.its_stepped.specs.State.{Part, UnlinkOld, LinkNew, FreeOld, Mark, State, seen}

@@ -16,7 +16,7 @@ use Rattle.its_frame.specs.declared.name.OnFiles.TheVariants.{Never, ByDevice, B
 use Rattle.its_plain.specs.Interrupt.{Delivered, deliverable, delivered}
 use Rattle.its_plain.specs.Unit.{Outcome, Changed, Faulted, Called, unit}
 use Rattle.its_plain.specs.Machine.{Chan, Reads, Writes, Whole}
-use Rattle.its_plain.specs.Ask.{parse, fetch}
+use Rattle.its_stepped.specs.TwoParts.{parse, fetch}
 use Rattle.its_plain.specs.Arguments.{input}
 use Rattle.its_plain.specs.CallBasic.{channel_at}
 use Rattle.its_plain.specs.CallFile.{disk_device}

@@ -16,7 +16,7 @@ use Rattle.its_plain.specs.Arguments.{debts}
 use Rattle.its_plain.specs.CallStep.{with_held}
 use Rattle.its_stepped.specs.State.{Part, Mark, State, part_made, mine, helped, held_at, turn, same, reserving, asked, holding, waiting, ending}
 
--- a call with pending words that is still there stores the first of them; one without drops its frame
+-- a call with pending words that is still there stores the first one; a call without any drops its frame
 abbrev pub first_debt : List stores.Store → List stores.Store
 first_debt (s ∷ ss) = s ∷ []
 first_debt [] = []

@@ -1,4 +1,4 @@
--- From what an event comes to and what was written of it to the answer.
+-- From the result of an event and what was written for it to the answer.
 use Rattle.std.specs.Prelude.{◌≡◌, ℕ, ◌+◌, Result, Ok, Err, Option, List, ◌∷◌, ◌++◌}
 use Rattle.std.proofs.Common.{sym, ◌∙◌, ap, subst, append_assoc}
 use Rattle.its_word.specs.declared.calls.Pace.{Pace}

@@ -207,7 +207,7 @@ answers statuses.WriteFault bytes read w r k f = absurd (k refl)
 answers statuses.NoMemory bytes read w r k f = within statuses.NoMemory bytes f.0 (inr refl)
 answers statuses.Usage bytes read w r k f = absurd f
 
--- what it came to, or nothing for want of memory
+-- its result, or nothing for want of memory
 asm_of : (st : Status) (bytes : List ℕ) (rest old new : Option (List ℕ)) → Obeyed (Some commands.Asm) st (Some bytes) rest old new → st ≢ statuses.ReadFault → st ≢ statuses.WriteFault → AsmAnswers st bytes
 asm_of statuses.NoMemory bytes rest old new o r k = within statuses.NoMemory bytes o.obeys.1 (inr refl)
 asm_of statuses.Done bytes rest old new o r k = answers statuses.Done bytes o.obeys.read o.obeys.wrote r k o.obeys.found

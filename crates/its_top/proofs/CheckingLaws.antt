@@ -26,7 +26,7 @@ use Rattle.its_top.specs.declared.status.Status.TheVariants as statuses
 use Rattle.its_top.specs.Telling.{goes_on_after}
 use Rattle.its_top.specs.Conclusion.{WasRun}
 
--- what each item comes to
+-- the result of each item
 pub line_goes_on : (n : ℕ) (f : Found) (e : Event) → f ≡ Line e → goes_on_after e ≡ true → CheckedBy None n f
 line_goes_on n f e h g = subst (CheckedBy None n) (sym h) (by e g)
   where

@@ -1,4 +1,5 @@
--- What follows at once from the promises of the top call: what its answers say where no object failed, and of all commands together.
+-- What follows at once from the promises of the top call: what its answers say if no object failed, and of all commands
+-- together.
 use Rattle.std.specs.Prelude.{◌≡◌, ◌≢◌, ◌⊎◌, ◌<◌, ◌+◌, ℕ, true, false, Option, Some, None, IfSome, List, [], refl}
 use Rattle.std.proofs.Common.{sym, ◌∙◌, subst, append-nil, arith, inl, inr}
 use Rattle.std.specs.Io.KnownBytes.{Appends, Consumes}
@@ -124,7 +125,7 @@ unread_fault (Some (commands.Gen n)) st left rest old new a r = gen_reads st a.g
 unread_fault None st left rest old new a r = none_reads st (a.none refl).ends
 unread_fault _ st left rest old new a r = λ e. cc
 
--- where memory was refused, a command that keeps nothing has read nothing
+-- if memory was refused, a command that keeps nothing has read nothing
 none_memory : (st : Status) → (st ≡ statuses.Usage) ⊎ (st ≡ statuses.WriteFault) → st ≢ statuses.NoMemory
 none_memory st (inl u) e = cc
 none_memory st (inr w) e = cc

@@ -121,7 +121,7 @@ no_kind : (e : Error) → HasKind [] e → kind_of e ≢ kinds.OutOfMemory → �
 no_kind e (inl o) g = g o
 no_kind e (inr b) g = b
 
--- one that fails, but for want of memory, is of words that are none
+-- one that fails, except for want of memory, is of words that are none
 pub parse_refused : (ws : List Text) (e : Error) → list_any is_option ws ≡ false → HasKind (fault_of program ws) e → kind_of e ≢ kinds.OutOfMemory → command_of ws ≡ None
 unfolding command_of
 parse_refused [] e h f g = refl

@@ -37,12 +37,12 @@ console_here m c f = changed_here m.consoles c (f (m.consoles c))
 on_then : (m : Machine) (c : ℕ) (f g h : Console → Console) → ((x : Console) → g (f x) ≡ h x) → on_console (on_console m c f) c g ≡ on_console m c h
 on_then m c f g h e = machine_is _ _ (λ k. refl)
     (λ k. changed_twice m.consoles c _ _ k ∙ ap (λ x. changed m.consoles c (g x) k) (console_here m c f) ∙ ap (λ x. changed m.consoles c x k) (e (m.consoles c)))
-    (λ k. refl) refl refl refl (λ k. refl)
+    (λ k. refl) refl refl refl (λ k. refl) (λ k. refl)
 
 on_same : (m : Machine) (c : ℕ) → on_console m c (λ x. x) ≡ m
-on_same m c = machine_is _ _ (λ k. refl) (λ k. changed_not m.consoles c k) (λ k. refl) refl refl refl (λ k. refl)
+on_same m c = machine_is _ _ (λ k. refl) (λ k. changed_not m.consoles c k) (λ k. refl) refl refl refl (λ k. refl) (λ k. refl)
 
--- the state stays that of v, but for its raw machine
+-- the state stays that of v, except for its raw machine
 still : (v now next : State) (m : Machine) → now ≡ with_raw v now.raw → Lands now next (Ok m) → next ≡ with_raw v next.raw
 still v now next m e h = h.rest ∙ ap (λ x. with_raw x next.raw) e
 
@@ -59,7 +59,7 @@ typed_then : (m : Machine) (c : ℕ) (xs ys : List ℕ) → typed c ys (typed c 
 typed_then m c xs ys =
     on_then m c (typed_by xs) (typed_by ys) (typed_by (xs ++ ys)) (λ x. ap (λ bs. record x { input = bs }) (take_front most_waiting (x.input ++ xs) ys ∙ ap (take most_waiting) (append_assoc x.input xs ys)))
 
--- how many bytes wait after one more, and what is dropped of those behind it
+-- how many bytes wait after one more, and what is dropped of those after it
 waits_room : (x : Console) (b : ℕ) → length x.input < most_waiting → length (take most_waiting (x.input ++ b ∷ [])) ≡ length x.input + 1
 waits_room x b h =
     let s = length-append x.input (b ∷ []) in

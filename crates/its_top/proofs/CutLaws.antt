@@ -18,7 +18,7 @@ use Rattle.its_verify.proofs.VerdictLaws.{accepted_lines, lines_accepted}
 use Rattle.its_top.specs.Promise.{IsCut}
 use Rattle.its_top.specs.Verifying.{Why}
 
--- the lines behind the first one are those of the bytes behind it
+-- the lines after the first one are those of the bytes after it
 abbrev Behind : List (List ℕ) → Type 0
 Behind [] = Unit {0}
 Behind (line ∷ lines) = lines_in (concat lines) ≡ lines

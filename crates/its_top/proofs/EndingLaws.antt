@@ -59,7 +59,7 @@ end_event place v line h =
       | inr longer ↦ rw longer tt
     ]
 
--- lines behind that of END change no item
+-- lines after that of END change no item
 ends_items : (n : ℕ) (session : List ℕ) (lines : List (List ℕ)) (s : List ℕ) (count : ℕ) → parts_from n session lines ≡ Both s count [] → (place : Place) (v : ℕ) (more : List (List ℕ))
     → items_from true n place v (map before_lf lines ++ more) ≡ items_from true n place v (map before_lf lines)
 ends_items n session [] s count is place v more = absurd (let none : NoEnd n ≡ Both s count [] = is in cc)
@@ -128,7 +128,7 @@ session_whole session count s = all_whole (lines_in session) (subst (λ (xs : Li
 pub is_session : (session : List ℕ) (count : ℕ) → EndsSession session count → IsSession session count
 is_session session count s = record { ends = s.parts; whole = session_whole session count s }
 
--- the events of a session, and of bytes behind it
+-- the events of a session, and of bytes after it
 front_events : (session rest : List ℕ) (count : ℕ) → EndsSession session count → events_of (session ++ rest) ≡ items_from true 1 places.First 1 (map before_lf (lines_in session))
 unfolding events_of
 front_events session rest count s =

@@ -1,4 +1,4 @@
--- What one event comes to.
+-- The result of one event.
 use Rattle.std.specs.Prelude.{◌≡◌, ◌≢◌, ℕ, ◌+◌, Bool, true, Some, Ok, Err, List, [], ◌∷◌, ◌++◌, refl}
 use Rattle.std.proofs.Common.{sym, ◌∙◌, ap, append_assoc, append-nil}
 use Rattle.std.proofs.lemmas.Grind.{flat_map-append}
@@ -38,7 +38,7 @@ after_after v w s = let e : v ++ (w ++ s.text) ≡ (v ++ w) ++ s.text = sym (app
 pub said_telling : (out : List Line) (t : Told) → said (telling out t) ≡ after (text out) (said t)
 said_telling out t = ap (λ x. saying x t.fate) (text_append out t.lines)
 
--- an event that finds state c, and there comes to o
+-- an event that finds state c, and there has result o
 pub record Comes (v : State) (b : Block) (e : Event) (c : State) (o : Lined) : Type 0 where
   pub calm : calmed v b e ≡ c
   pub is : lined c.raw b e ≡ o

@@ -25,7 +25,7 @@ exam_start m s a n = record {
   there = λ h. absurd (omega arith);
 }
 
--- one word of a core, and the words behind it
+-- one word of a core, and the words after it
 joined_some : (v : ℕ) (o : Option (List ℕ)) → seen (joined (Some v) o) ≡ behind (v ∷ []) (seen o)
 joined_some v (Some ws) = refl
 joined_some v None = refl
@@ -105,7 +105,7 @@ exam_end m s a n k ws h f so =
     let e : n - k ≡ 0 = omega arith in
     so.whole ∙ ap (λ x. behind ws (examined m s (a + k) x)) e ∙ ap (behind ws) (end_word m s (a + k) (so.there (omega arith))) ∙ ap Ok (append-nil ws)
 
--- the first call brings the job to user mode, where the later ones find it
+-- the first call brings the job to user mode, in which the later calls find it
 pub calm_start : (v : State) (s : ℕ) → Calm (unwound v s) v s 0
 calm_start v s = record { found = refl; reached = λ h. absurd (omega arith) }
 

@@ -47,7 +47,7 @@ few_at d i Off h = tt
 abbrev Few : List Moment → Type 0
 Few ts = AllByRecursion (λ (t : Moment). FewAt t.dots t.deed) ts
 
--- a walk where the stepped machine stands, at line k
+-- a walk in the state of the stepped machine, at line k
 abbrev at : ℕ → State → Dots → Block → Walk
 at k w d b = record { machine = plain w; dots = d; block = b; line = k }
 
@@ -81,7 +81,7 @@ module _ (decoding : Decoding) where
             (ticks_few k (tick w i).state (dots_after (plain w) d i p) b i q next (u.ticks d w i g) h),
       )
 
-  -- turns, where what follows them goes on
+  -- turns, if what follows them goes on
   abbrev Follows : ℕ → Block → (State → ℕ → Told) → (Walk → ℕ → List Line → Course) → Type 0
   Follows k b next more = (w : State) (d : Dots) (l : ℕ) → Fine d w → l < slots → Few (more (at k w d b) l (next w l).lines).moments
 
@@ -104,7 +104,7 @@ module _ (decoding : Decoding) where
       subst (λ o. Few (courses.turned_by o (at k w d b) lines (λ x s rest. courses.turned n x s rest more) (more (at k w d b) last lines)).moments) (sym (turn_plain w last l))
       (turn_few k n q last w d b next more (turn_after w.raw last) l refl g h (λ w' f s good is. turns_few k n q s w' f b next more is good h))
 
-  -- a line, where the lines after it go on
+  -- a line, if the lines after it go on
   line_few : (k n : ℕ) (w v : State) (d : Dots) (b : Block) (e : Event) (l : Lined) (next : State → Block → Told) (more : Walk → List Line → Course) → Fine d w → HoldsAfter Fine d v l
       → ((w' : State) (f : Dots) (c : Block) → Fine f w' → Few (more (at k w' f c) (next w' c).lines).moments)
       → Few (past (at k w d b) e (lifted_line v l) (told_by n w v b l next).lines more).moments

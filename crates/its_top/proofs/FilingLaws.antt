@@ -40,7 +40,7 @@ use Rattle.its_top.specs.Answer.{WroteFor, Tells, Looked, Stood, AddSo, WritesSo
 use Rattle.its_top.proofs.LoadingLaws.{front}
 use Rattle.its_world.proofs.StorageLaws.{files_are}
 
--- a state in which no part of a close is owed stays as it is
+-- a state in which no part of a close is pending stays as it is
 still_helped : (v : State) → v.mark ≡ None → help v ≡ v
 unfolding help state.helped
 still_helped v e = λ i. record v { raw = record v.raw { files = state.helped (e i) v.raw.files }; mark = sym e i }
@@ -295,7 +295,7 @@ row_end ws us from count n k h e f g =
     let same : count - from ≡ length (drop from ws) = omega (arith, l, h) in
     g ∙ ap (λ j. take j (drop from ws)) (f ∙ e ∙ ap (min 8) same) ∙ take_min 8 (drop from ws)
 
--- a word and the length of a file that stands
+-- a word and the length of a file that exists
 word_found : (b : Bool) (ws : List ℕ) (k : ℕ) → b ≡ true → word_if b ws k ≡ slice_get ws k
 word_found true ws k h = refl
 word_found false ws k h = cc
@@ -314,7 +314,7 @@ pub length_stood : (old now : World) (id n : ℕ) (o : Option ℕ) → Stood old
 length_stood old now id n o s h e f =
     f ∙ ap (λ x. unwrap_or x 0) (e ∙ ap (λ t. length_if (is_file (entry_at t id)) (words_at t id)) s.files) ∙ length_found (is_file (entry_at old.files id)) (words_at old.files id) h
 
--- words that are added one after another: the first call makes the parts of a close that are owed
+-- words that are added one after another: the first call performs the pending parts of a close
 help_lands : (v then : State) (m : Machine) → then ≡ with_raw (help v) m → help then ≡ then
 unfolding help state.helped
 help_lands v then m e = ap help e ∙ sym e
@@ -384,7 +384,7 @@ module _ (old mid : World) (e : state_of mid ≡ help (state_of old)) (files : m
   mid_helped : help (state_of mid) ≡ help (state_of old)
   mid_helped = ap help e ∙ twice_helped (state_of old)
 
-  -- the file still stands
+  -- the file still exists
   pub adds_file : (id : ℕ) → is_file (entry_at mid.files id) ≡ true → is_file (entry_at (helped mid.files) id) ≡ true
   adds_file id h = ap (λ s. is_file (entry_at s id)) mid_same ∙ h
 
@@ -408,7 +408,7 @@ module _ (old mid : World) (e : state_of mid ≡ help (state_of old)) (files : m
   adds_refused (Ok x) n id w h f = tt
   adds_refused (Err r) n id w h f = sym (adds_same n id w h) ∙ f.calmed
 
-  -- where there is no file with these names, nothing is added
+  -- if there is no file with these names, nothing is added
   pub adds_nothing : (n : Names) (w : ℕ) → file_named n (plain (state_of old)).files ≡ None → Lands (help (state_of old)) (state_of mid) (word_added (help (state_of old)).raw n w)
   unfolding word_added
   adds_nothing n w h = record {

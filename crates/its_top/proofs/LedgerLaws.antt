@@ -106,7 +106,7 @@ from_letters c i k v (Off ∷ ps) next walk lines few t h =
     let f = subst (λ l. From c l (paced (after_letter (at k v) i Off l) i ps walk) lines) t.1.1 more in
     record { input = f.input; output = f.output }
 
--- turns, where what follows them goes on
+-- turns, if what follows them goes on
 abbrev GoesOn : ℕ → ℕ → (Walk → ℕ → List Line → Type 0) → (Walk → ℕ → List Line → Course) → Type 0
 GoesOn c k next more = (w : Walk) (l : ℕ) (rest : List Line) → Few c w.machine → next w l rest → From c w.machine (more (at k w) l rest) rest
 
@@ -128,7 +128,7 @@ from_turns c k (suc n) q last v next more lines few h t =
     from_turn c k q last v (turn_after v.machine last) (λ w s rest. TurnsOn n q w s next rest) (next v last lines) (λ w s rest. turned n w s rest more) (more (at k v) last lines) lines few
     (λ w s rest few' x. from_turns c k n q s w next more rest few' h x) (λ x. h v last lines few x) t
 
--- a line, where the lines after it go on
+-- a line, if the lines after it go on
 from_lined : (c k : ℕ) (v : Walk) (e : Event) (lines : List Line) (fate : Fate) (l : Lined) (next : Walk → List Line → Type 0) (more : Walk → List Line → Course)
     → Few c v.machine → ShowsBy c v.machine e l
     → LinedOn v l next lines fate

@@ -1,4 +1,4 @@
--- What a step of a job moves: each console is as it was, but for the bytes that are taken from it and put to it
+-- What a step of a job moves: each console is as it was, except for the bytes that are taken from it and put to it
 -- (docs/MACHINE.md, "The ledger").
 use Rattle.std.specs.Prelude.{◌≡◌, ◌≢◌, ◌==◌, ℕ, Bool, true, false, Option, Some, None, List, [], ◌∷◌, ◌++◌, flat_map, refl, option_map}
 use Rattle.std.proofs.Common.{sym, ◌∙◌, ap, subst, inl, inr, append_assoc, append-nil}
@@ -15,7 +15,8 @@ use Rattle.its_plain.specs.Change.{rest_of, taken_from, put_to, removed, effect,
 use Rattle.its_plain.specs.Interrupt.{delivered}
 use Rattle.its_plain.specs.Ledger.{byte_of}
 use Rattle.its_plain.specs.Machine.{Whole, Machine, changed}
-use Rattle.its_plain.specs.Moves.{Inward, Outward, Move, first_move, moves_of, moves_of_all}
+use Rattle.its_plain.specs.CallLink.{words_in}
+use Rattle.its_plain.specs.Moves.{Inward, Outward, AtConsole, AtLink, Move, first_move, moves_of, moves_of_all}
 use Rattle.its_plain.specs.Decide.{reach}
 use Rattle.its_plain.proofs.StepLaws.{AllOf, EachCase, transition_has}
 use Rattle.std.proofs.lemmas.Option.{same_Some}
@@ -39,31 +40,31 @@ passes_then x y z vs ws c a b = record {
 }
 
 -- the byte that is taken from console d, seen at console c
-first_here : (j c : ℕ) (bs : List ℕ) → bs ≡ flat_map (byte_of c Inward) (first_move j c bs) ++ rest_of bs
+first_here : (j c : ℕ) (bs : List ℕ) → bs ≡ flat_map (byte_of c Inward) (first_move j (AtConsole c) bs) ++ rest_of bs
 first_here j c [] = refl
 first_here j c (b ∷ bs) = rw (eq-eqb c c refl) refl
 
-first_out : (j d c : ℕ) (bs : List ℕ) → flat_map (byte_of c Outward) (first_move j d bs) ≡ []
+first_out : (j d c : ℕ) (bs : List ℕ) → flat_map (byte_of c Outward) (first_move j (AtConsole d) bs) ≡ []
 first_out j d c [] = refl
 first_out j d c (b ∷ bs) = elim (cases_Bool (d == c)) [ inl t ↦ rw t refl | inr t ↦ rw t refl ]
 
-first_there : (j d c : ℕ) (bs : List ℕ) → d ≢ c → flat_map (byte_of c Inward) (first_move j d bs) ≡ []
+first_there : (j d c : ℕ) (bs : List ℕ) → d ≢ c → flat_map (byte_of c Inward) (first_move j (AtConsole d) bs) ≡ []
 first_there j d c [] ne = refl
 first_there j d c (b ∷ bs) ne = rw (ne_eqb d c ne) refl
 
-taken_here : (j c : ℕ) (x : Console) → Passes x (taken_from x) (first_move j c x.input) c
+taken_here : (j c : ℕ) (x : Console) → Passes x (taken_from x) (first_move j (AtConsole c) x.input) c
 taken_here j c x = record {
   input = first_here j c x.input;
   output = sym (append-nil x.output) ∙ ap (λ l. x.output ++ l) (sym (first_out j c c x.input));
 }
 
-taken_there : (j d c : ℕ) (x : Console) (bs : List ℕ) → d ≢ c → Passes x x (first_move j d bs) c
+taken_there : (j d c : ℕ) (x : Console) (bs : List ℕ) → d ≢ c → Passes x x (first_move j (AtConsole d) bs) c
 taken_there j d c x bs ne = record {
   input = ap (λ l. l ++ x.input) (sym (first_there j d c bs ne));
   output = sym (append-nil x.output) ∙ ap (λ l. x.output ++ l) (sym (first_out j d c bs));
 }
 
-taken_passes : (consoles : ℕ → Console) (j d c : ℕ) → Passes (consoles c) (changed consoles d (taken_from (consoles d)) c) (first_move j d (consoles d).input) c
+taken_passes : (consoles : ℕ → Console) (j d c : ℕ) → Passes (consoles c) (changed consoles d (taken_from (consoles d)) c) (first_move j (AtConsole d) (consoles d).input) c
 taken_passes consoles j d c = elim (cases_eq d c) [
   | inl at ↦ rw (at, eq-eqb c c refl) (taken_here j c (consoles c))
   | inr ne ↦ rw (ne_eqb c d (λ e. ne (sym e))) (taken_there j d c (consoles c) (consoles d).input ne)
@@ -71,7 +72,7 @@ taken_passes consoles j d c = elim (cases_eq d c) [
 
 -- the byte that is put to console d
 abbrev put_byte : ℕ → ℕ → ℕ → Move
-put_byte j d b = record { slot = j; console = d; way = Outward; byte = b }
+put_byte j d b = record { slot = j; device = AtConsole d; way = Outward; byte = b }
 
 put_here : (j c b : ℕ) (x : Console) → Passes x (put_to b x) (put_byte j c b ∷ []) c
 put_here j c b x = record { input = rw (eq-eqb c c refl) refl; output = rw (eq-eqb c c refl) refl }
@@ -85,11 +86,18 @@ put_passes consoles j d c b = elim (cases_eq d c) [
   | inr ne ↦ rw (ne_eqb c d (λ e. ne (sym e))) (put_there j d c b (consoles c) ne)
 ]
 
+-- a word that is moved through a link moves no byte at a console
+link_passes : (x : Console) (j l c : ℕ) (ws : List ℕ) → Passes x x (first_move j (AtLink l) ws) c
+link_passes x j l c [] = passes_still x c
+link_passes x j l c (w ∷ ws) = record { input = refl; output = sym (append-nil x.output) }
+
 -- a change, and several
 change_passes : (h : Change) (j : ℕ) (m : Machine) (c : ℕ) → Passes (m.consoles c) ((effect h j m).consoles c) (moves_of h j m) c
 unfolding effect removed
 change_passes (changes.Take d) j m c = taken_passes m.consoles j d c
 change_passes (changes.Put d b) j m c = put_passes m.consoles j d c b
+change_passes (changes.Receive l) j m c = link_passes (m.consoles c) j l c (words_in (m.links l))
+change_passes (changes.Send l w) j m c = record { input = refl; output = sym (append-nil (m.consoles c).output) }
 change_passes _ j m c = passes_still (m.consoles c) c
 
 changes_pass : (hs : List Change) (j : ℕ) (m : Machine) (c : ℕ) → Passes (m.consoles c) ((effects hs j m).consoles c) (moves_of_all hs j m) c

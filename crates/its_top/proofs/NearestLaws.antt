@@ -1,5 +1,5 @@
--- The nearest symbol in other words: it is one of the symbols, its address is at most the PC, and no symbol has an address at most the
--- PC that is greater, or equal and kept later. Where there is none, all addresses are above the PC.
+-- The nearest symbol in other words: it is one of the symbols, its address is at most the PC, and no symbol has an
+-- address at most the PC that is greater, or equal and kept later. If there is none, all addresses are above the PC.
 use Rattle.std.specs.Prelude.{◌≡◌, ◌≤◌, ◌<◌, ◌&&◌, not, ℕ, Bool, true, false, Option, Some, None, List, [], ◌∷◌, ◌++◌, nat_lt, cond, refl}
 use Rattle.std.proofs.Common.{sym, ap, subst, arith}
 use Rattle.std.proofs.lemmas.Bool.{ltb-false, ltb-true}
@@ -31,7 +31,7 @@ abbrev pub IsNearest : ℕ → List Symbol → Option Symbol → Type 0
 IsNearest pc ss (Some s) = Nearest pc ss s
 IsNearest pc ss None = Above pc ss
 
--- behind a best one: it stays, or one of the symbols takes its place
+-- after a best one: it stays, or one of the symbols takes its place
 data Behind (pc : ℕ) (best : Symbol) (ss : List Symbol) (o : Option Symbol) : Type 0 where
   Keeps : o ≡ Some best → Below pc (address_of best) ss → Behind pc best ss o
   Gives : (s : Symbol) → o ≡ Some s → address_of best ≤ address_of s → Nearest pc ss s → Behind pc best ss o

@@ -31,7 +31,7 @@ pub if_then : (left : Option (List ℕ)) (P Q : List ℕ → Type 0) → ((b : L
 if_then None P Q f h = tt
 if_then (Some b) P Q f h = f b h
 
--- what the commands came to
+-- the result of the commands
 as_obeys : (c : Option Command) (st : Status) (left rest old new : Option (List ℕ)) → st ≢ statuses.NoMemory → DoneFor c st left rest old new → Obeyed c st left rest old new
 as_obeys c statuses.NoMemory left rest old new n d = absurd (n refl)
 as_obeys c _ left rest old new n d = record { obeys = d }

@@ -60,7 +60,7 @@ pub runs_length : (k : ℕ) (rs qs : List Run) (r : Run) → length (paces_in rs
 runs_length k rs qs r h g =
     ap (λ xs. length (paces_in xs)) g ∙ ap length (runs_more rs r) ∙ length-append (paces_in rs) (paces_in (r ∷ [])) ∙ (λ t. h t + run_length r t)
 
--- one tick, and steps behind it
+-- one tick, and steps after it
 pub one_more : (m next : State) (s : ℕ) (p : Pace) → next ≡ (tick m s).state → p ≡ (tick m s).pace
     → (next ≡ ticked m s (1 + 0)) × (paces_in (record { pace = p; more = 0 } ∷ []) ≡ paces_of m s (1 + 0))
 one_more m next s p e f = (e, ap (λ x. x ∷ []) f)

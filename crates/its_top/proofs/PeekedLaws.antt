@@ -40,7 +40,7 @@ use Rattle.its_stepped.proofs.UnwindLaws.{few_left}
 use Rattle.its_stepped.proofs.UpkeepLaws.{Good, upkeep}
 use Rattle.its_stepped.proofs.WrittenLaws.{lasting}
 
--- a line that is short where it is a peek
+-- a line that is short if it is a peek
 abbrev pub Small : Line → Type 0
 Small (Peeked s peek) = (s < 2 ^ 8) × (peek.left < 2 ^ 8)
 Small _ = Unit {0}

@@ -1,4 +1,4 @@
--- From what the monitor answered to what the event has come to.
+-- From what the monitor answered to the result of the event.
 use Rattle.std.specs.Prelude.{◌≡◌, ◌<◌, ◌≤◌, ◌+◌, ◌^◌, ℕ, Bool, true, Option, Some, None, IfSome, is_some, Result, Ok, Err, OnOk, IfErr, List, [], ◌∷◌, length, take, refl}
 use Rattle.std.proofs.Common.{sym, ◌∙◌, ap, subst, arith}
 use Rattle.its_files.specs.Files.{entry_at, is_file, file_at}
@@ -194,7 +194,7 @@ unfolding lined operate calmed
 list_refused v b b' s a k r ps w h =
     refuses v (unwound v s) b b' (events.List s a k) r ps w (record { calm = refl; is = ap (λ x. Done (by_exam (unwound v s).raw b s (printed.listed s a) x)) h })
 
--- the version of a world is that of the machine that it stands for
+-- the version of a world is that of its plain machine
 version_shown : (w : World) → w.version ≡ (state_of w).raw.version
 unfolding state_of
 version_shown w = refl
@@ -268,7 +268,7 @@ dir_performed v b d n ps w e h k =
     (record { calm = refl; is = ap (λ (x : State). Done (Does (help v).raw (listing d (files_in d x.raw.files)) nobody b)) (sym e) }) e
     (k, h ∙ ap (λ (x : State). length (files_in d x.raw.files)) (sym e))
 
--- what SHOW finds, as the plain machine has it
+-- what SHOW finds, on the plain machine
 shown_found : (v : State) (d x y : ℕ) (o : Option File) → file_named (names_of d x y) (plain v).files ≡ o → file_shown (help v).raw d x y ≡ shown_by d x y o
 unfolding file_shown plain help
 shown_found v d x y o h = ap (shown_by d x y) h

@@ -141,7 +141,7 @@ version_same m v = go (no_job m.jobs)
     go true = refl
     go false = refl
 
--- what a result comes to
+-- the outcome of a result
 disturbs_shows : (c : ℕ) (m : Machine) (e : Event) (s : ℕ) (b : Block) (r : Result Machine Reason) → Few c m → typed_by c m e ≡ [] → SameBy m r
     → ShowsBy c m e (Done (disturbs s b r))
 disturbs_shows c m e s b (Ok n) few none h = shows_still c m n e [] few h none refl

@@ -29,7 +29,7 @@ pub found_start : (p : Place) (f : Found) (v : State) → found_stands p f → (
 found_start p (founds.Line e) v h s = event_start p e v h s
 found_start p _ v h s = tt
 
--- behind a line the start is over
+-- after a line the start is over
 not_first : (p : Place) (e : Event) → place_after p e ≡ places.First → ⊥
 not_first places.First (events.Load u j c) h = cc
 not_first places.First (events.Go a) h = cc

@@ -88,7 +88,7 @@ tally_listed : (s a : ℕ) (ws : List ℕ) → tally (printed.listed s a ws) ≡
 tally_listed s a [] = tally_none
 tally_listed s a (w ∷ ws) = tally_zero (printed.Listed s a w) (printed.listed s (a + 1) ws) refl (tally_listed s (a + 1) ws)
 
--- what an event has come to counts for its lines
+-- the result of an event counts for its lines
 counts_for : (n : ℕ) (r : Result Shown Over) (ps : List Pace) (w : World) → tally (lines_shown n r ps w) ≡ counted r ps
 counts_for n (Ok shown.Nothing) ps w = tally_none
 counts_for n (Ok (shown.Line l)) ps w = tally_one (line_of l ps)
@@ -258,7 +258,7 @@ play_end play v es k all h so =
     let b = block_of play.progress.slot play.progress.file in
     ended play.over play.tally (k + 1) v b all (subst (λ x. LeftOf play.over play.tally (k + 1) v b x all) (drop_past es k (none_past es k h)) so.whole)
 
--- the three lines, each written by itself
+-- the three lines, each written on its own
 pub text_of_counts : (n lines : ℕ) (t : Tally) → lines ≡ length (generated_session n) → t ≡ generated_tally n → counts_text lines t ≡ generated_text n
 unfolding generated_text
 text_of_counts n lines t h e = ap₂ counts_text h e

@@ -18,6 +18,7 @@ use Rattle.its_top.specs.Telling.{Says}
 use Rattle.its_top.specs.Conclusion.{IsDone, Session}
 use Rattle.its_top.specs.Promise.{answer_of, Transcribed}
 use Rattle.its_top.specs.Outcomes.{Begins, Breaks, Completes, Refuses, RunsOn, Writes}
+use Rattle.its_stepped.proofs.LinkMovesLaws.{link_ledger}
 use Rattle.its_top.proofs.LedgerLaws.{ledger}
 
 pub session_done : (st : Status) (left rest old new : Option (List ℕ)) → st ≡ statuses.Done → Session st left rest old new → IfSome left (λ bytes. Completes bytes old new)
@@ -96,6 +97,7 @@ transcribed st bytes old new e a = record {
   transcript = written_transcript decoding (events_of bytes);
   answer = e;
   ledger = ledger (events_of bytes) (shown bytes) (stepped (events_of bytes)).fate (written_transcript decoding (events_of bytes));
+  links = link_ledger (events_of bytes) (shown bytes);
   stretches = stretches (events_of bytes) (shown bytes);
   dots = few_dots decoding (events_of bytes);
   fair = fair_all (events_of bytes) (shown bytes);

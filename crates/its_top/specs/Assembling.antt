@@ -14,8 +14,8 @@ use Rattle.its_image.specs.Made.{IsRefusal, IsSession}
 use Rattle.its_top.specs.declared.status.Status.{Status}
 use Rattle.its_top.specs.declared.status.Status.TheVariants as statuses
 
--- an assembly of the text of these bytes, of which some were read, has this status, and wrote w. Where the source failed, they decide
--- nothing; and want of memory does not hide that the text is too long
+-- an assembly of the text of these bytes, of which some were read, has this status, and wrote w. If the source failed,
+-- the bytes that were read decide nothing. Want of memory does not hide that the text is too long
 abbrev pub AsmOf : Status → List ℕ → List ℕ → List ℕ → Type 0
 AsmOf statuses.Done bytes read w = (runs_past bytes ≡ false) × IsSession (assembly bytes) w × (read ≡ bytes)
 AsmOf statuses.Refused bytes read w = (runs_past bytes ≡ false) × IsRefusal (assembly bytes) w

@@ -66,7 +66,7 @@ keeps (Some Check) = false
 keeps (Some (Gen n)) = false
 keeps None = false
 
--- the command is `gen` with a number of rounds, of which this holds
+-- the command is `gen` with a number of rounds, and this holds of the number
 abbrev pub IfGenerates : Option Command → (ℕ → Type 0) → Type 0
 IfGenerates (Some (Gen n)) p = p n
 IfGenerates (Some Run) p = Unit {0}

@@ -31,7 +31,7 @@ use Rattle.its_top.specs.Promise.{Assembled, Licensed, Transcribed, Vouched}
 abbrev pub usage : List ℕ
 usage = codes "usage: its run | its check | its gen N | its verify | its asm\n"
 
--- an answer behind which nothing was left to be written
+-- an answer with which nothing is left to be written
 abbrev pub WroteAll : Status → Type 0
 WroteAll statuses.Done = Unit {0}
 WroteAll statuses.Refused = Unit {0}
@@ -44,7 +44,8 @@ Unfailed statuses.ReadFault = ⊥
 Unfailed statuses.WriteFault = ⊥
 Unfailed _ = Unit {0}
 
--- an answer of a fault comes where the object's count of faults rose by one, and no other one where it rose
+-- an object's count of faults rose by one if the answer is the fault of this object, and is unchanged with any other
+-- answer
 pub record Faults (fault status : Status) (before now : ℕ) : Type 0 where
   pub once : status ≡ fault → now ≡ before + 1
   pub unfailed : status ≢ fault → now ≡ before
@@ -77,8 +78,8 @@ pub record RunsOn (bytes : List ℕ) (old new : Option (List ℕ)) : Type 0 wher
   pub too_long : (stepped (events_of bytes)).fate ≡ TooLong
   pub wrote : Appends old new (text (stepped (events_of bytes)).lines)
 
--- the source failed: what the whole lines show that were read was written, none of which is END or refused. No line that was read is too
--- long or past the most, also not the one that had begun
+-- the source failed: what was written is what the whole lines that were read show. None of them is END or refused. No
+-- line that was read is too long or past the most, not even the one that had begun
 pub record Breaks (bytes : List ℕ) (rest old new : Option (List ℕ)) : Type 0 where
   pub read : List ℕ
   pub consumed : Consumes (Some bytes) rest read
@@ -86,7 +87,7 @@ pub record Breaks (bytes : List ℕ) (rest old new : Option (List ℕ)) : Type 0
   pub limits : WithinLimits read
   pub wrote : Appends old new (text (stepped (whole_events_of read)).lines)
 
--- of `run`, where the source tells its bytes
+-- of `run`, if the bytes of the source are known
 pub record RunSays (status : Status) (bytes : List ℕ) (rest old new : Option (List ℕ)) : Type 0 where
   pub transcript : WroteAll status → Transcribed status bytes old new
   pub written : WroteAll status → Writes status bytes old new
@@ -99,7 +100,7 @@ pub record RunSays (status : Status) (bytes : List ℕ) (rest old new : Option (
   pub begun : status ≡ statuses.WriteFault → Begins (text (stepped (events_of bytes)).lines) old new
   pub complete : Unfailed status → IsDone (stepped (events_of bytes)).fate → (status ≡ statuses.Done) ⊎ (status ≡ statuses.NoMemory)
 
--- of `run`; where memory was refused, nothing was read
+-- of `run`; if memory was refused, nothing was read
 pub record OfRun (status : Status) (left rest old new : Option (List ℕ)) : Type 0 where
   pub says : IfSome left (λ bytes. RunSays status bytes rest old new)
   pub command : status ≢ statuses.Usage
@@ -120,8 +121,8 @@ pub record CheckRunsOn (bytes : List ℕ) (old new : Option (List ℕ)) : Type 0
   pub beyond : checked (events_of bytes) ≡ Beyond
   pub wrote : Appends old new []
 
--- the source failed: no whole line that was read is END or refused, no line is too long or past the most, also not the one that had begun,
--- and nothing was written
+-- the source failed: no whole line that was read is END or refused, no line is too long or past the most, not even the
+-- one that had begun, and nothing was written
 pub record CheckBreaks (bytes : List ℕ) (rest old new : Option (List ℕ)) : Type 0 where
   pub read : List ℕ
   pub consumed : Consumes (Some bytes) rest read
@@ -129,7 +130,7 @@ pub record CheckBreaks (bytes : List ℕ) (rest old new : Option (List ℕ)) : T
   pub limits : WithinLimits read
   pub wrote : Appends old new []
 
--- of `check`, where the source tells its bytes
+-- of `check`, if the bytes of the source are known
 pub record CheckSays (status : Status) (bytes : List ℕ) (rest old new : Option (List ℕ)) : Type 0 where
   pub done : status ≡ statuses.Done → CheckPasses bytes old new
   pub input : status ≡ statuses.Done → ReadOut bytes rest
@@ -152,7 +153,7 @@ pub record OfGen (n : ℕ) (status : Status) (left rest old new : Option (List �
   pub ends : ((status ≡ statuses.Done) ⊎ (status ≡ statuses.WriteFault)) ⊎ (status ≡ statuses.NoMemory)
   pub unread : rest ≡ left
 
--- of words that are no command, of which nothing is read and for which no memory is needed
+-- of words that are no command: nothing is read for them, and they need no memory
 pub record OfNoCommand (status : Status) (left rest old new : Option (List ℕ)) : Type 0 where
   pub done : status ≡ statuses.Usage → Appends old new usage
   pub begun : status ≡ statuses.WriteFault → Begins usage old new
@@ -190,7 +191,7 @@ pub record VerifyBreaks (bytes : List ℕ) (rest old new : Option (List ℕ)) : 
 pub record VerifyAnswers (status : Status) (bytes : List ℕ) : Type 0 where
   pub answers : (a : Answer) → Why bytes a → (status ≡ status_of a) ⊎ (status ≡ statuses.NoMemory)
 
--- of `verify`, where the source tells its bytes
+-- of `verify`, if the bytes of the source are known
 pub record VerifySays (status : Status) (bytes : List ℕ) (rest old new : Option (List ℕ)) : Type 0 where
   pub done : status ≡ statuses.Done → Verifies bytes rest old new
   pub refused : status ≡ statuses.Refused → VerifyRefuses bytes old new
@@ -218,24 +219,26 @@ pub record AsmRunsOn (bytes : List ℕ) (old new : Option (List ℕ)) : Type 0 w
   pub beyond : runs_past bytes ≡ true
   pub wrote : Appends old new []
 
--- the sink failed: what was written begins the text of what the assembly comes to, which is not too long
+-- the sink failed: what was written begins the text of the assembly's result, and the text of the source is not too
+-- long
 pub record AsmBegins (bytes : List ℕ) (old new : Option (List ℕ)) : Type 0 where
   pub few : runs_past bytes ≡ false
   pub begins : Begins (assembly_text (assembly bytes)) old new
 
--- a text that is too long is TooLong, also where memory was refused; any other one has its answer, or memory was refused
+-- a text that is too long is TooLong, even if memory was refused; any other one has its answer, or memory was refused
 pub record AsmAnswers (status : Status) (bytes : List ℕ) : Type 0 where
   pub past : runs_past bytes ≡ true → status ≡ statuses.TooLong
   pub within : runs_past bytes ≡ false → (status ≡ answer_to (assembly bytes)) ⊎ (status ≡ statuses.NoMemory)
 
--- the source failed: no line that was read is too long or past the most, also not the one that had begun, and nothing was written
+-- the source failed: no line that was read is too long or past the most, not even the one that had begun, and nothing
+-- was written
 pub record AsmBreaks (bytes : List ℕ) (rest old new : Option (List ℕ)) : Type 0 where
   pub read : List ℕ
   pub consumed : Consumes (Some bytes) rest read
   pub limits : WithinLimits read
   pub wrote : Appends old new []
 
--- of `asm`, where the source tells its bytes
+-- of `asm`, if the bytes of the source are known
 pub record AsmSays (status : Status) (bytes : List ℕ) (rest old new : Option (List ℕ)) : Type 0 where
   pub done : status ≡ statuses.Done → Assembled bytes rest old new
   pub refused : status ≡ statuses.Refused → AsmRefuses bytes old new

@@ -1,6 +1,6 @@
 -- What the program promises, for a reader who opens one file: of `run`, that what it writes is a transcript of its session
 -- (`Transcribed`), and that `verify` accepts it (`Vouched`); what YES of `verify` means (`Licensed`), and what Done of `asm` means
--- (`Assembled`). What each answer says besides, and which text is written, is in Outcomes.
+-- (`Assembled`). What else each answer says, and which text is written, is in Outcomes.
 -- A promise rests on this.
 use Rattle.std.specs.Prelude.{◌≡◌, ◌≤◌, ℕ, ◌+◌, length, false, Option, Some, Ok, List, [], ◌∷◌, ◌++◌}
 use Rattle.std.specs.Io.KnownBytes.{Appends}
@@ -11,6 +11,7 @@ use Rattle.its_session.specs.Events.{events_of, most_lines}
 use Rattle.its_reader.specs.TextLines.{lines_in}
 use Rattle.its_plain.specs.Transcript.{Fate, Open, Lost, TooLong, Transcript, Ended}
 use Rattle.its_plain.specs.Ledger.{Ledger}
+use Rattle.its_plain.specs.LinkLedger.{LinkLedger}
 use Rattle.its_plain.specs.Stretch.{Stretches}
 use Rattle.its_plain.specs.Fair.{FairTurns}
 use Rattle.its_plain.specs.FewDots.{FewDots}
@@ -26,14 +27,14 @@ use Rattle.its_image.specs.Loading.{IsWhole}
 use Rattle.its_top.specs.declared.status.Status.{Status}
 use Rattle.its_top.specs.declared.status.Status.TheVariants as statuses
 
--- the answer to a session that ends so
+-- the answer of the program to a session with this end
 abbrev pub answer_of : Fate → Status
 answer_of Ended = statuses.Done
 answer_of Open = statuses.Done
 answer_of Lost = statuses.Refused
 answer_of TooLong = statuses.TooLong
 
--- what `its run` wrote of the session that these bytes are, where its answer is Done, Refused or TooLong
+-- what `its run` wrote of the session that these bytes are, if its answer is Done, Refused or TooLong
 pub record Transcribed (status : Status) (bytes : List ℕ) (old new : Option (List ℕ)) : Type 0 where
   -- Lines were written.
   pub lines : List Line
@@ -43,7 +44,7 @@ pub record Transcribed (status : Status) (bytes : List ℕ) (old new : Option (L
   pub events : List Item
   -- They are those of its bytes.
   pub read : events ≡ events_of bytes
-  -- The session comes to an end.
+  -- The session has an end.
   pub fate : Fate
   -- The lines are those that the plain machine shows of these events, up to this end.
   pub transcript : Transcript events lines fate
@@ -51,18 +52,20 @@ pub record Transcribed (status : Status) (bytes : List ℕ) (old new : Option (L
   pub answer : status ≡ answer_of fate
   -- No byte between a console and the jobs is lost, doubled or put out of its order.
   pub ledger : Ledger events lines
+  -- No word that goes through a link is lost, doubled or put out of its order, as long as the link stands.
+  pub links : LinkLedger events lines
   -- Each stretch of a transfer moves its bytes once and in their order.
   pub stretches : Stretches events lines
   -- At most twelve `.` come between two `*` of a job that is not disturbed.
   pub dots : FewDots events lines
   -- The turns of each RUN line are fair.
   pub fair : FairTurns events lines
-  -- Each step and each line changes only what it may, and what a reader reads stays.
+  -- Each step and each line changes only what it may, and what a reader reads is unchanged.
   pub integrity : Integrity events lines
 
 -- these bytes are a session of so many lines, the last of which is its only END line, with its LF
 pub record EndsSession (session : List ℕ) (count : ℕ) : Type 0 where
-  -- Cut behind its first END line, nothing is left of it.
+  -- Its first END line is its last line.
   pub parts : parts_from 1 [] (lines_in session) ≡ Both session count []
   -- There are bytes before its last one.
   pub before : List ℕ
@@ -79,13 +82,13 @@ pub record Vouched (bytes : List ℕ) (old new : Option (List ℕ)) : Type 0 whe
   pub count : ℕ
   -- That is their number.
   pub counted : count ≡ length (lines_in written)
-  -- Where the input begins with a session up to its END line, and there is room for the lines of both, `verify` says YES of this session
-  -- with what was written behind it.
+  -- If the input begins with a session up to its END line, and there is room for the lines of both, `verify` says YES
+  -- of this session followed by what was written.
   pub vouched : (session rest : List ℕ) (lines : ℕ)
       → session ++ rest ≡ bytes → EndsSession session lines → lines + count ≤ most_lines
       → verified (session ++ written) ≡ Judged (Yes count)
 
--- an input, cut behind its first END line: the bytes of the session, which are so many lines, and those of the
+-- an input, cut after its first END line: the bytes of the session, which are so many lines, and those of the
 -- transcript
 pub record IsCut (bytes session : List ℕ) (count : ℕ) (transcript : List ℕ) : Type 0 where
   -- The input is the one and then the other.
@@ -101,7 +104,7 @@ pub record Licensed (bytes : List ℕ) (n : ℕ) : Type 0 where
   pub count : ℕ
   -- There is a transcript.
   pub transcript : List ℕ
-  -- The input is this session and behind it this transcript.
+  -- The input is this session followed by this transcript.
   pub cut : IsCut bytes session count transcript
   -- These bytes are the text of a transcript of the session's events.
   pub accepted : Accepted (events_of session) transcript
@@ -110,7 +113,7 @@ pub record Licensed (bytes : List ℕ) (n : ℕ) : Type 0 where
   -- There is room for the lines of both.
   pub room : count + n ≤ most_lines
 
--- what `its asm` wrote of the text that these bytes are, where its answer is Done
+-- what `its asm` wrote of the text that these bytes are, if its answer is Done
 pub record Assembled (bytes : List ℕ) (rest old new : Option (List ℕ)) : Type 0 where
   -- The text was read to its end.
   pub over : rest ≡ Some []

@@ -60,8 +60,8 @@ pub record TellsAnswer (status : Status) (a : Answer) (old new : Option (List �
   pub appended : Appends old new wrote
   pub told : ToldAs status a wrote
 
--- a verification of these bytes has this status, and wrote w: nothing where the source failed, whose bytes that were read decide nothing, or
--- where memory was refused
+-- a verification of these bytes has this status, and wrote w. If the source failed, what was read decides nothing, and
+-- nothing was written; if memory was refused, nothing was written
 abbrev pub VerifyOf : Status → List ℕ → Option (List ℕ) → List ℕ → Type 0
 VerifyOf statuses.ReadFault bytes rest w = Breaks bytes rest × (w ≡ [])
 VerifyOf statuses.NoMemory bytes rest w = w ≡ []

@@ -79,7 +79,8 @@ fn parsed<'a>(alloc: Global, words: &'a [String]) -> Result<ArgMatches<'a>, Erro
     program.try_get_matches_from(words)
 }
 
-/// What words come to that the parse refused: they are no command. Where it found no memory, they are looked at as they stand.
+/// The command of words that the parse refused: there is none. If the parse found no memory, the words themselves are
+/// looked at.
 fn refused(e: &Error, words: &[String]) -> Option<Command>
     requires none { kind_of e.now ≢ kinds.OutOfMemory → command_of (map string_bytes words.now) ≡ None }
     ensures { result ≡ command_of (map string_bytes words.now) }

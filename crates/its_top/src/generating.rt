@@ -66,7 +66,7 @@ pub fn generate<K: Sink>(m: &mut Monitor, n: u32, out: &mut K) -> Status
     }
 }
 
-/// The same, as a write that may fail.
+/// As `generate`, with a write that fails as its error.
 #[tactic(auto, using(crate::proofs::TallyLaws::text_of_counts))]
 fn play_and_write<K: Sink>(m: &mut Monitor, n: u32, out: &mut K) -> Result<(), Failed>
     requires machine { state_of m.old.world ≡ no_state no_machine }
@@ -93,7 +93,7 @@ fn write_counts<K: Sink>(lines: u32, tally: Tally, out: &mut K) -> Result<(), Fa
     }
 }
 
-/// Writes the last two of them.
+/// Writes the last two of the three lines.
 #[tactic(auto, using(crate::proofs::TallyLaws::wrote_then, crate::proofs::TallyLaws::begun_first, crate::proofs::TallyLaws::begun_then))]
 fn write_tally<K: Sink>(tally: Tally, out: &mut K) -> Result<(), Failed>
     ensures all { OnOk result (Appends (K.written out.old) (K.written out.new) (tally_text tally)) }

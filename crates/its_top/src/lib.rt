@@ -1,4 +1,7 @@
 //! The commands of the program: the loop over a session, the check of its lines and the generated session; and the top call.
+//!
+//! Proved: the promise of `its`, and the causes of its answers (docs/PROVED.md). `session` has the same promise for a
+//! monitor that is open; it takes no memory, and keeps what holds of the monitor between two calls (`sound`).
 #![tactic(auto)]
 
 mod answer;

@@ -1,6 +1,6 @@
--- A slot that was put at the end of a wait ring stands there.
+-- A slot that was put at the end of a wait list is there.
 use Rattle.std.specs.Prelude.{◌≡◌, ◌<◌, ◌+◌, ℕ, true, List, [], ◌∷◌, ◌++◌, length, slice_set}
-use Rattle.std.proofs.Common.{sym, subst, arith}
+use Rattle.std.proofs.Common.{sym, subst, arith, inl}
 use Rattle.std.proofs.lemmas.List.{get_or-set_same}
 use Rattle.its_links.specs.Lists.{list_at, count}
 use Rattle.its_links.proofs.CountLaws.{hit_same, count-append}
@@ -14,4 +14,4 @@ at_end old s long =
     (let c = count-append s (list_at old 2) (s ∷ []) in let h = hit_same s in omega arith)
 
 pub in_ring : (w : World) (s : ℕ) → 0 < count s (list_at w.rings.lists 2) → is_waiting (frame_at w.frames.items s) ≡ true → InRing w s
-in_ring w s here waits = record { waits = waits; stands = record { ring = 2; within = omega arith; here = here } }
+in_ring w s here waits = record { waits = waits; stands = record { ring = 2; within = inl (omega arith); here = here } }

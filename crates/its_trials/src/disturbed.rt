@@ -1,7 +1,7 @@
 //! Calls that are disturbed at each tick: the job ends as it does undisturbed.
 
 use super::running::{number, run};
-use super::sessions::{CONSOLES, FILES, INFERIORS};
+use super::sessions::{CONSOLES, FILES, INFERIORS, LINKS};
 use its_top::Status;
 use std::alloc::Global;
 use std::process::Abort;
@@ -172,6 +172,11 @@ fn calls_on_consoles(rt: HostRuntime) -> Result<(), Fail> {
 #[test]
 fn calls_on_files(rt: HostRuntime) -> Result<(), Fail> {
     disturb_each(rt.alloc(), &rt, FILES)
+}
+
+#[test]
+fn calls_on_links(rt: HostRuntime) -> Result<(), Fail> {
+    disturb_each(rt.alloc(), &rt, LINKS)
 }
 
 #[test]

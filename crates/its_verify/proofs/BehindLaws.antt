@@ -1,4 +1,4 @@
--- Words behind a first one, each after a space.
+-- Words after a first one, each after a space.
 use Rattle.std.proofs.Common.{◌≡◌, ℕ, List, [], ◌∷◌, ◌++◌, refl, append_assoc}
 use Rattle.its_word.specs.Text.{spaced}
 use Rattle.its_word.proofs.SpacedLaws.{spaced_cons, spaced_none}

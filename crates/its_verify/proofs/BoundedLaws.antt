@@ -1,5 +1,5 @@
--- What is said where there is room for so many lines: the verdict, where the lines are no more, or where it names one of those for
--- which there is room.
+-- What is said if there is room for so many lines: the verdict, if the lines are no more, or if the verdict names a
+-- line for which there is room.
 use Rattle.std.proofs.Common.{◌≡◌, ◌<◌, ◌≤◌, ◌⊎◌, ℕ, leb, List, length, take, refl, sym, ap, subst, ◌∙◌, inl, inr, arith, take-take, length-take}
 use Rattle.std.proofs.lemmas.Bool.{cases_Bool, cases_lt, le-leb, lt-leb, leb-true}
 use Rattle.its_word.specs.Item.{Item}
@@ -53,7 +53,7 @@ front_of_first es texts room n more few f =
           ];
     }
 
--- where there is room for all lines
+-- if there is room for all lines
 all_fit : (room : ℕ) (es : List Item) (texts : List (List ℕ)) → length texts ≤ room → bounded room es texts ≡ Judged (judged at_start highest es 0 texts)
 unfolding bounded
 all_fit room es texts few = rw (le-leb (length texts) room few) refl
@@ -79,7 +79,7 @@ within_names room (No m) w h =
       | inr past ↦ (let is : TooLong ≡ Judged w = rw past at h in absurd (long_judged w is))
     ]
 
--- Yes exactly where the lines are accepted and there is room for them
+-- Yes exactly if the lines are accepted and there is room for them
 pub record Room (room : ℕ) (es : List Item) (texts : List (List ℕ)) (k : ℕ) : Type 0 where
   pub few : length texts ≤ room
   pub many : k ≡ length texts
@@ -100,7 +100,7 @@ yes_has room es texts k h =
 pub has_yes : (room : ℕ) (es : List Item) (texts : List (List ℕ)) → length texts ≤ room → AcceptedLines es texts → bounded room es texts ≡ Judged (Yes (length texts))
 has_yes room es texts few h = all_fit room es texts few ∙ ap Judged (lines_yes es texts h)
 
--- No exactly with the first line that is not licensed, where there is room for all lines or for this one
+-- No exactly with the first line that is not licensed, if there is room for all lines or for this one
 pub record NotYet (room : ℕ) (es : List Item) (texts : List (List ℕ)) (n : ℕ) : Type 0 where
   pub room_for : (length texts ≤ room) ⊎ (n ≤ room)
   pub first : IsFirst es texts n

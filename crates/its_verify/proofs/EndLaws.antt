@@ -33,7 +33,7 @@ split_more : (c : ℕ) (runs : List (List ℕ)) (word : List ℕ) → first_only
 split_more c [] word = more_words c [] [] word
 split_more c (run ∷ runs) word = more_words c run runs word
 
--- spaces alone behind a word
+-- spaces alone after a word
 blank_behind : (word rest : List ℕ) → first_only word (words_of rest) ≡ (bytes_eq word (codes "END") && list_all is_space rest)
 unfolding words_of
 blank_behind word [] = sym (and_true (bytes_eq word (codes "END")))

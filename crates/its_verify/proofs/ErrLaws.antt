@@ -1,4 +1,4 @@
--- What is said where the source failed does not depend on the failure.
+-- What is said if the source failed does not depend on the failure.
 use Rattle.std.proofs.Common.{ℕ, Option, Result, Ok, Err, List}
 use Rattle.std.specs.Prelude.{IsErr}
 use Rattle.std.proofs.lemmas.Bool.{false≢true}

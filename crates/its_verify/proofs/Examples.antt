@@ -59,7 +59,7 @@ cuts : map verified inputs ≡ Cut 2 ∷ Cut 1 ∷ Cut 2 ∷ Long 1 ∷ Judged (
 unfolding verified bounded is_end_line lines_in events_of line_event event_of_words kind_of bare_line words_of lined operate
 cuts = refl
 
--- PEEK of a job, whichever it is: a line is passed over where its first word is `P`
+-- PEEK of any job: a line is passed over if its first word is `P`
 abbrev with_job : Whole → Walk
 with_job q = record at_start { machine = record no_machine { jobs = λ k. Some q } }
 
@@ -70,8 +70,8 @@ peeked : (q : Whole) → map (λ text. judged (with_job q) highest (Read (events
 unfolding lined lines_in is_peek words_of
 peeked q = refl
 
--- RUN where a job runs in each slot: the turns in their order; one that is missing, of another slot, with a letter that is not licensed,
--- and one too many
+-- RUN if a job runs in each slot: the turns in their order; one that is missing, of another slot, with a letter that is
+-- not licensed, and one too many
 abbrev running : Whole → Walk
 running q = with_job (record q { job = record q.job { stopped = false } })
 
@@ -92,12 +92,12 @@ run_turns : (q : Whole) → map (λ text. judged (running q) highest (Read (even
 unfolding lined operate lines_in ticks_in text_of_line runs_of spaced digits_of robin first_running
 run_turns q = refl
 
--- the next RUN goes on behind the last turn
+-- the next RUN goes on after the last turn
 next_turns : (q : Whole) → map (λ text. judged (running q) highest (Read (events.Run 1 1) ∷ Read (events.Run 1 1) ∷ []) 0 (lines_in text)) turns ≡ turn_answers
 unfolding lined operate lines_in ticks_in text_of_line runs_of spaced digits_of robin first_running
 next_turns q = refl
 
--- where no job runs, RUN shows nothing
+-- if no job runs, RUN shows nothing
 no_turns : map (λ text. judged at_start highest (Read (events.Run 2 1) ∷ []) 0 (lines_in text)) ([] ∷ line (codes "T 0 1-") ∷ []) ≡ Yes 0 ∷ No 1 ∷ []
 unfolding lined operate lines_in no_machine robin first_running
 no_turns = refl

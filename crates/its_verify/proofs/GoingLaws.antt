@@ -1,4 +1,4 @@
--- What a line of a session comes to in a trial.
+-- The result of a line of a session in a trial.
 use Rattle.std.proofs.Common.{◌≡◌, ◌<◌, ◌+◌, ℕ, Bool, true, false, Option, Some, None, Result, Ok, Err, IsOk, List, [], ◌∷◌, refl, sym, ap, subst, ◌∙◌}
 use Rattle.std.proofs.lemmas.Bool.{false≢true}
 use Rattle.its_io.specs.declared.stream.Failed.{Failed}
@@ -38,7 +38,7 @@ use Rattle.its_verify.specs.declared.judge.Judge.{Judge}
 use Rattle.its_verify.specs.declared.trial.Trial.{Trial}
 use Rattle.its_verify.proofs.StandingLaws.{line_walk}
 
--- a line that shows something came to this
+-- a line that shows something had this result
 does_same : (m n : Machine) (out mine : List Line) (d g : ℕ → Bool) (b c : Block) → Done (Does m mine g b) ≡ Done (Does n out d c) → (n ≡ m) × (out ≡ mine)
 does_same m n out mine d g b c is = (let a : m ≡ n = cc in sym a, let l : mine ≡ out = cc in sym l)
 
@@ -95,7 +95,7 @@ line_shown m n b c (events.Peek s) a out d is says = absurd (peek_does s (m.jobs
 line_shown m n b c e Nothing out d is says = (by_lines e Nothing n out says, tt)
 line_shown m n b c _ _ out d is says = absurd says
 
--- a line that was obeyed: what is heard of it, and where the walk stands behind it
+-- a line that was obeyed: what is heard for it, and the state of the walk after it
 pub record ObeyedSo (e : Event) (a : Answer) (old new : Judge) (b : Block) (n : ℕ) : Type 0 where
   pub after : Block
   pub speaks : Speaks new.plain.place after
@@ -166,7 +166,7 @@ speaks_at (spots.File names) = refl
 pub told_there : (e : Event) (a : Answer) (old new : Judge) → Told e old.plain new.plain (Ok a) → Forgets new.plain old.dots new.dots → IsThere e (machine_of new.plain)
 told_there e a old new h forgets = (obeyed_so e a old new (block_at old.plain.place) 0 h forgets (speaks_at old.plain.place)).there
 
--- what a line comes to, where it was obeyed and is heard
+-- the result of a line, if it was obeyed and is heard
 pub told_says : (e : Event) (a : Answer) (r : Result (Option Finding) Failed) (old mid new : Trial) (left rest : Option (List ℕ)) (n : ℕ) → Told e old.judge.plain mid.judge.plain (Ok a)
     → Forgets mid.judge.plain old.judge.dots mid.judge.dots → mid.hearing ≡ old.hearing → new.judge ≡ mid.judge
     → ((next : AnyJudge) → Says r mid.hearing new.hearing left rest (heard_of e a (machine_of mid.judge.plain) next) next) → LineSays r old new left rest n e
@@ -197,7 +197,7 @@ told_says e a (Err x) old mid new left rest n h forgets hearing judge says = λ 
     (ap (λ (j : AnyJudge). cut old.hearing.room old.hearing.passed j (texts_of old.hearing.texts left)) (so.goes next))
     (subst (λ (y : Hearing). Failing y left rest (heard_of e a (machine_of mid.judge.plain) (next behind))) hearing (says (next behind) (forward behind) t)))
 
--- where it was refused
+-- if it was refused
 pub told_refused : (e : Event) (x : Refusal) (r : Result (Option Finding) Failed) (old new : Trial) (mid : Judge) (h : Hearing) (left rest : Option (List ℕ)) (n : ℕ) → Told e old.judge.plain mid.plain (Err x)
     → h ≡ old.hearing → SaysEnd r h left rest (expects (Refused n (reason_of x) ∷ []) at_end) → LineSays r old new left rest n e
 told_refused e x (Ok None) old new mid h left rest n expects hearing ends = absurd ends

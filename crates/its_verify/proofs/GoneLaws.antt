@@ -19,7 +19,7 @@ use Rattle.its_reader.specs.declared.items.Items.{Items}
 use Rattle.its_reader.specs.Bytes.{pending}
 use Rattle.its_reader.specs.Items.{Finds, found_fits, found_stands, is_last, place_found}
 use Rattle.its_reader.specs.Lines.{Ready}
-use Rattle.its_plain.specs.Operator.{no_block}
+use Rattle.its_plain.specs.Operator.{Block, no_block}
 use Rattle.its_plain.specs.Transcript.{Walk}
 use Rattle.its_plain.specs.Turns.{ticks_asked, turns_asked}
 use Rattle.its_direct.specs.Events.{MayStand, Speaks}
@@ -178,6 +178,12 @@ gone_start t r session left spot number empty place version = record {
   );
 }
 
+-- the items of the lines that are left, by the item that was found and the number of its line
+found_next : (now : Trial) (b : Block) (n k : ℕ) (es fs : List Item) (mid : Option (List ℕ)) → es ≡ fs → k ≡ n + 1
+    → cut now.hearing.room now.hearing.passed (judge_from now b (n + 1) es) (texts_of now.hearing.texts mid)
+    ≡ cut now.hearing.room now.hearing.passed (judge_from now b k fs) (texts_of now.hearing.texts mid)
+found_next now b n k es fs mid is number = rw (is, number) refl
+
 pub gone_next : (o : Result (Option Finding) Failed) (f : Found) (old now new : Trial) (judge : AnyJudge) (r q : Items) (session after : List ℕ) (left mid rest : Option (List ℕ)) → o ≡ Ok None
     → GoneSo old now judge r (Some session) left mid → Finds (Ok f) r q (Some session) (Some after) → Ready q.lines (Some after) → q.lines.number ≡ r.lines.number + 1 → is_last f ≡ false
     → ItemSays o now new mid rest q.lines.number f → GoneSo old new judge q (Some after) left rest
@@ -191,8 +197,7 @@ gone_next o f old now new judge r q session after left mid rest is so finds read
           (let here = so.goes t in
           let on = item.goes split.behind here.1 in (
             here.0
-                ∙ ap (λ (es : List Item). cut now.hearing.room now.hearing.passed (judge_from now so.block (r.lines.number + 1) es) (texts_of now.hearing.texts mid)) split.is
-                ∙ ap (λ (n : ℕ). cut now.hearing.room now.hearing.passed (judge_from now so.block n (items_by f split.behind)) (texts_of now.hearing.texts mid)) (sym number)
+                ∙ found_next now so.block r.lines.number q.lines.number _ _ mid split.is number
                 ∙ on.0
                 ∙ ap (λ (es : List Item). cut new.hearing.room new.hearing.passed (judge_from new item.after (q.lines.number + 1) es) (texts_of new.hearing.texts rest)) (split.on going),
             on.1,
@@ -208,8 +213,7 @@ gone_over o x f old now new judge r q session after left mid rest is so finds re
     let here = so.goes t in
     let ends = subst (λ y. ItemSays y now new mid rest q.lines.number f) is says so.block so.speaks split.behind in
     here.0
-    ∙ ap (λ (es : List Item). cut now.hearing.room now.hearing.passed (judge_from now so.block (r.lines.number + 1) es) (texts_of now.hearing.texts mid)) split.is
-    ∙ ap (λ (n : ℕ). cut now.hearing.room now.hearing.passed (judge_from now so.block n (items_by f split.behind)) (texts_of now.hearing.texts mid)) (sym number)
+    ∙ found_next now so.block r.lines.number q.lines.number _ _ mid split.is number
     ∙ ends here.1
 
 pub gone_fails : (o : Result (Option Finding) Failed) (x : Failed) (f : Found) (old now new : Trial) (judge : AnyJudge) (r q : Items) (session after : List ℕ) (left mid rest : Option (List ℕ)) → o ≡ Err x
@@ -221,8 +225,7 @@ gone_fails o x f old now new judge r q session after left mid rest is so finds r
     let fails = subst (λ y. ItemSays y now new mid rest q.lines.number f) is says so.block so.speaks split.behind in
     fails_then old.hearing now.hearing left mid rest judge (judge_from now so.block q.lines.number (items_by f split.behind))
     (here.0
-    ∙ ap (λ (es : List Item). cut now.hearing.room now.hearing.passed (judge_from now so.block (r.lines.number + 1) es) (texts_of now.hearing.texts mid)) split.is
-    ∙ ap (λ (n : ℕ). cut now.hearing.room now.hearing.passed (judge_from now so.block n (items_by f split.behind)) (texts_of now.hearing.texts mid)) (sym number))
+    ∙ found_next now so.block r.lines.number q.lines.number _ _ mid split.is number)
     here.2 (fails here.1)
 
 pub tried_by : (o : Result (Option Finding) Failed) (new : Trial) (rest : Option (List ℕ)) → o ≡ Ok None → StaysTried o new rest → Tried new rest

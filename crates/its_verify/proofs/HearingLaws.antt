@@ -135,7 +135,7 @@ cut_later room n judge texts f =
       | inr past ↦ rw past (within_later room n (judge n (take (room - n) texts)) (f.later n (take (room - n) texts)))
     ]
 
--- the source failed where a line was asked for
+-- the source failed when a line was asked for
 pub fails_here : (old : Hearing) (left rest : Option (List ℕ)) (judge : Judge) → (IsTold left → Fell most_bytes old.texts left rest) → Forward judge → IsTold left → Failing old left rest judge
 fails_here old left rest judge h f t = record {
   at = old;
@@ -145,7 +145,7 @@ fails_here old left rest judge h f t = record {
   later = cut_later old.room old.passed judge (texts_of old.texts left) f;
 }
 
--- or behind lines that were passed
+-- or after lines that were passed
 pub fails_then : (old mid : Hearing) (left between rest : Option (List ℕ)) (judge next : Judge) → cut old.room old.passed judge (texts_of old.texts left) ≡ cut mid.room mid.passed next (texts_of mid.texts between)
     → Passed old mid left between → Failing mid between rest next → Failing old left rest judge
 fails_then old mid left between rest judge next same p f = record {
@@ -168,7 +168,7 @@ pub peek_fails : (e : Failed) (old new : Hearing) (left rest : Option (List ℕ)
     → (next : Judge) → Says (Err e) old new left rest (led peeking (λ t. next)) next
 peek_fails e old new left rest h next f = fails_here old left rest (led peeking (λ t. next)) h (led_forward peeking (λ t. next) (λ x. f))
 
--- where there is room for a line more
+-- if there is room for a line more
 take_one : (k : ℕ) (t : List ℕ) (ts : List (List ℕ)) → take (suc k) (t ∷ ts) ≡ t ∷ take k ts
 take_one k t ts = refl
 
@@ -214,7 +214,7 @@ no_past room n full =
     let far : leb (n + 1) room ≡ false = lt-leb (n + 1) room (omega arith) in
     rw far refl
 
--- where a line lacks
+-- if a line is missing
 pub led_lacks : {X : Type 0} (reads : List ℕ → Option X) (next : X → Judge) (f : Finding) (room n : ℕ) (texts : List (List ℕ)) → Strict reads → n ≤ room
     → Lacks f room n texts → cut room n (led reads next) texts ≡ answer_of f
 led_lacks reads next (findings.No k) room n texts strict few h =
@@ -231,7 +231,7 @@ pub lacks_says : {X : Type 0} (reads : List ℕ → Option X) (next : X → Judg
     → ReadsOn (Ok (Some f)) old new left rest → Says (Ok (Some f)) old new left rest (led reads next) last
 lacks_says reads next last f old new left rest strict heard h = λ t. led_lacks reads next f old.room old.passed (texts_of old.texts left) strict heard.few (h t)
 
--- where one was read
+-- if one was read
 pub read_says : {X : Type 0} (reads : List ℕ → Option X) (next : X → Judge) (x : X) (old mid new : Hearing) (left rest : Option (List ℕ)) → ReadsOn (Ok None) old mid left rest → Beside old mid
     → reads mid.texts.text.items ≡ Some x → new.texts ≡ mid.texts → new.room ≡ mid.room → new.passed ≡ mid.passed + 1 → HearsOn old new left rest (led reads next) (next x)
 read_says reads next x old mid new left rest h beside is texts room passed = λ t.

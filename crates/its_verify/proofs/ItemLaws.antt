@@ -1,4 +1,4 @@
--- The items of a session, where its source tells its bytes.
+-- The items of a session, if the bytes of its source are known.
 use Rattle.std.proofs.Common.{◌≡◌, ℕ, Bool, true, false, Option, Ok, List, [], ◌∷◌, ◌++◌, refl, sym, ap, subst, ◌∙◌}
 use Rattle.its_word.specs.Item.{Unread}
 use Rattle.its_word.specs.Item as items

@@ -1,4 +1,4 @@
--- The judge is right about the lines that are a transcript from where the session stands on.
+-- The judge is right about the lines that are a transcript from a state of the session on.
 use Rattle.std.proofs.Common.{◌≡◌, ℕ, zero, suc, Bool, true, Option, Some, None, List, [], ◌∷◌, ◌++◌, length, refl, subst}
 use Rattle.std.proofs.lemmas.Slice.Eq.{bytes_eq-Decides}
 use Rattle.its_word.specs.Item.{Item, Read, Unread, Beyond}
@@ -97,7 +97,7 @@ said_told [] (t ∷ ts) h = h
 said_told (l ∷ ls) [] h = h
 said_told (l ∷ ls) (t ∷ ts) h = led_on (saying l) (λ text. Told ls Finished) t t ts (said_led l t h.0) (said_told ls ts h.1)
 
--- what is shown from where a session stands on
+-- what is shown from a state of a session on
 abbrev pub Next : Type 1
 Next = Walk → List Line → Fate → Type 0
 
@@ -123,7 +123,7 @@ right_does v n out touched b S judge next =
     (record { rest = a.holds.0; fate = a.fate; holds = a.holds.2; said = subst (λ (ls : List Line). Said ls ts) a.holds.1 a.said }))
     (right_told out (Along [] (S w)) judge next)
 
--- ticks of a line, or of a turn: where the session stands behind its letters
+-- ticks of a line, or of a turn: the state of the session after its letters
 abbrev TicksOn : Walk → ℕ → ℕ → Next → List Line → Fate → Type 0
 TicksOn v i k S lines fate = (ps : List Pace) × (rest : List Line) × (lines ≡ Ticks i ps ∷ rest) × (length ps ≡ k) × PacedOn v i ps (λ w. S w rest fate)
 
@@ -195,7 +195,7 @@ right_peek v i S judge next =
     (λ ts a. to_peek v i S ts a.holds.0 a.holds.1 a.fate a.holds.3 (subst (λ (ls : List Line). Said ls ts) a.holds.2 a.said))
     (right_led peeking (λ text. Along [] (S (next_line v))) (λ text. judge) p_line p_line (rw short_peek refl) (λ text. next))
 
--- a line of the session that comes to l
+-- a line of the session with result l
 right_gone : (v : Walk) (l : Lined) (S : Next) (judge : Walk → Judge) → ((w : Walk) → Right (Along [] (S w)) (judge w)) → Right (Along [] (OnLined v l S)) (gone v l judge)
 right_gone v (Done (Refuses r)) S judge next = right_known (Refused v.line r ∷ []) (OnLined v (Done (Refuses r)) S) Lost (refl, refl) (λ lines f h. h.0)
 right_gone v (Done (Does n out touched b)) S judge next =

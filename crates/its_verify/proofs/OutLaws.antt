@@ -1,4 +1,4 @@
--- Where the transcript is accepted, the source was read to its end: only at the end of a session is anything accepted.
+-- If the transcript is accepted, the source was read to its end: only at the end of a session is anything accepted.
 use Rattle.std.proofs.Common.{◌≡◌, ◌+◌, ◌-◌, ℕ, zero, suc, Option, Some, None, IfSome, Result, Ok, Err, List, [], ◌∷◌, length, take, leb, ap, subst, inl, inr}
 use Rattle.std.proofs.lemmas.Bool.{cases_Bool}
 use Rattle.std.specs.Io.KnownBytes.{Consumes, IsAtEnd}
@@ -105,7 +105,7 @@ said_out (Ok (Some (findings.Yes n))) old new (Some bytes) rest judge next refus
 said_out (Ok (Some f)) old new left rest judge next refuses says = tt
 said_out (Err e) old new left rest judge next refuses says = tt
 
--- where lines are still to come, nothing is accepted
+-- if lines are still to come, nothing is accepted
 pub line_out : (line : List ℕ) (r : Result (Option Finding) Failed) (old new : Hearing) (left rest : Option (List ℕ))
     → ((next : Judge) → Says r old new left rest (led (same_as line) (λ t. next)) next) → ReadsOutIf r left rest
 line_out line r old new left rest says =
@@ -129,7 +129,7 @@ turns_out n q (Ok o) old new left rest says =
     (turned_refuses n q (walk_of old.judge b 0) old.last (λ w s. never) (λ w s. never_refuses)) (says b 0 (λ w s. never))
 turns_out n q (Err e) old new left rest says = tt
 
--- what was read before, where it went on
+-- what was read before, if it went on
 pub out_behind : (f : Finding) (left mid rest : Option (List ℕ)) → (IsTold left → IsTold mid) → ReadsOut f mid rest → ReadsOut f left rest
 out_behind (findings.Yes n) None mid rest t out = tt
 out_behind (findings.Yes n) (Some bytes) None rest t out = absurd (t tt)

@@ -1,4 +1,5 @@
--- The input in two parts: they are all of it; and a session with its END line, and a transcript behind it, are those parts.
+-- The input in two parts: together they are the whole input; and a session with its END line, and a transcript after
+-- it, are those parts.
 use Rattle.std.proofs.Common.{◌≡◌, ◌≤◌, ◌+◌, ◌-◌, ℕ, false, ltb, List, [], ◌∷◌, ◌++◌, length, refl, sym, ap, subst, ◌∙◌, inl, inr, arith, append_assoc}
 use Rattle.std.proofs.lemmas.Bool.{cases_Bool}
 use Rattle.std.specs.List.{AllByRecursion, concat}
@@ -14,8 +15,8 @@ use Rattle.its_verify.proofs.LinesLaws.{AllWhole, concat_lines, first_line}
 use Rattle.its_verify.proofs.PrintedLaws.{text_lines}
 use Rattle.its_verify.proofs.VerdictLaws.{lines_accepted, written_accepted}
 
--- what holds of each of the ways in which a line goes holds of it: of the parts of some lines, and of others in the place of those
--- behind it
+-- what holds of each of the ways in which a line goes holds of the line: of the parts of some lines, and of others in
+-- the place of those after it
 pub each_way : (P : Parts → Parts → Type 0) (n : ℕ) (session line : List ℕ) (lines others : List (List ℕ)) → P TooMany TooMany → P (LongLine n) (LongLine n)
     → (ltb most_lines n ≡ false → P (Both (session ++ line) n lines) (Both (session ++ line) n others))
     → P (parts_from (n + 1) (session ++ line) lines) (parts_from (n + 1) (session ++ line) others) → P (parts_from n session (line ∷ lines)) (parts_from n session (line ∷ others))
@@ -33,7 +34,7 @@ each_way P n session line lines others many long end more =
           ]
     ]
 
--- where both parts are found, they are all of the bytes
+-- if both parts are found, they are all of the bytes
 abbrev AllOf : List ℕ → Parts → Type 0
 AllOf bytes (Both session count texts) = session ++ concat texts ≡ bytes
 AllOf bytes _ = Unit {0}
@@ -47,7 +48,7 @@ all_of n session (line ∷ lines) =
 pub both_whole : (bytes session : List ℕ) (count : ℕ) (texts : List (List ℕ)) → parts_from 1 [] (lines_in bytes) ≡ Both session count texts → session ++ concat texts ≡ bytes
 both_whole bytes session count texts is = subst (AllOf bytes) is (subst (λ (bs : List ℕ). AllOf bs (parts_from 1 [] (lines_in bytes))) (concat_lines bytes) (all_of 1 [] (lines_in bytes)))
 
--- a session that ends with its END line, and some lines behind it
+-- a session that ends with its END line, and some lines after it
 abbrev Behind : List (List ℕ) → Parts → Parts → Type 0
 Behind more (Both session count []) p = p ≡ Both session count more
 Behind more _ p = Unit {0}
@@ -61,7 +62,7 @@ behind n session [] more = tt
 behind n session (line ∷ lines) more =
     each_way (Behind more) n session line lines (lines ++ more) tt tt (λ few. at_end_line (session ++ line) n lines more) (behind (n + 1) (session ++ line) lines more)
 
--- the lines of bytes whose lines all have their LF, and of bytes behind them
+-- the lines of bytes whose lines all have their LF, and of bytes after them
 lines_behind : (texts : List (List ℕ)) (rest : List ℕ) → AllWhole texts → lines_in (concat texts ++ rest) ≡ texts ++ lines_in rest
 lines_behind [] rest h = refl
 lines_behind (text ∷ texts) rest h =
@@ -78,7 +79,7 @@ session_parts session rest count s =
     ap (λ bs. lines_in (bs ++ rest)) (sym (concat_lines session)) ∙ lines_behind (lines_in session) rest s.whole in
     rw is (subst (λ (p : Parts). Behind (lines_in rest) p (parts_from 1 [] (lines_in session ++ lines_in rest))) s.ends (behind 1 [] (lines_in session) (lines_in rest)))
 
--- a transcript that is printed, behind its session, is answered Yes, where there is room for both
+-- a printed transcript, after its session, is answered Yes, if there is room for both
 pub session_verified : (session : List ℕ) (count : ℕ) (lines : List Line) (fate : Fate) → IsSession session count → AllByRecursion IsPrinted lines
     → Transcript (events_of session) lines fate → count + length lines ≤ most_lines → verified (session ++ text lines) ≡ Judged (Yes (length lines))
 unfolding verified

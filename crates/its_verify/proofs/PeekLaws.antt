@@ -1,4 +1,4 @@
--- Whether a line may stand where PEEK shows a job, by its first LF and its first word.
+-- Whether a line may occur when PEEK shows a job, by its first LF and its first word.
 use Rattle.std.proofs.Common.{◌≡◌, ◌≢◌, ◌<◌, ◌≤◌, ◌+◌, ◌==◌, ◌&&◌, ℕ, suc, true, false, not, leb, ltb, Some, None, List, [], ◌∷◌, length, take, refl, sym, ap, ◌∙◌, inl, inr, arith, position, filter}
 use Rattle.std.proofs.lemmas.Bool.{cases_Bool, and_left, and_right, eq-eqb, le-leb, lt-leb, ltb-false, ltb-true, ne_eqb}
 use Rattle.std.proofs.lemmas.Bool.Decides.{nat_tests}

@@ -273,7 +273,7 @@ unfolding text
 concat_texts [] = refl
 concat_texts (l ∷ ls) = ap (λ xs. text_of_line l ++ xs) (concat_texts ls)
 
--- the text of lines that are printed tells them
+-- the text of lines that are printed says these lines
 pub tells_text : (lines : List Line) → AllByRecursion IsPrinted lines → Tells lines (text lines)
 tells_text lines h = record { texts = map text_of_line lines; said = said_texts lines h; whole = concat_texts lines }
 

@@ -66,7 +66,7 @@ at_end_decided n (text ∷ texts) =
 pub right_at_end : Right Finished at_end
 right_at_end = record { going = record { more = []; whole = tt }; decides = at_end_decided }
 
--- a line, whose text tells how it goes on
+-- a line, whose text says how it goes on
 abbrev pub LedBy : {X : Type 0} → Option X → (X → List (List ℕ) → Type 0) → List (List ℕ) → Type 0
 LedBy None R texts = ⊥
 LedBy (Some x) R texts = R x texts
@@ -84,7 +84,7 @@ led_off reads R text x ts is h = rw is at h
 none_led : {X : Type 0} (reads : List ℕ → Option X) (R : X → List (List ℕ) → Type 0) (text : List ℕ) (ts : List (List ℕ)) → reads text ≡ None → Led reads R (text ∷ ts) → ⊥
 none_led reads R text ts is h = rw is at h
 
--- where the first line is licensed, what is said of the others is said of all
+-- if the first line is licensed, what is said of the others is said of all
 led_decided : {X : Type 0} (reads : List ℕ → Option X) (R : X → List (List ℕ) → Type 0) (text : List ℕ) (x : X) (n : ℕ) (texts : List (List ℕ)) (v : Verdict)
     → reads text ≡ Some x → Decided (R x) (n + 1) texts v → Decided (Led reads R) n (text ∷ texts) v
 led_decided reads R text x n texts (Yes k) is h = (omega (arith, h.0), led_on reads R text x texts is h.1)
@@ -103,7 +103,7 @@ led_decided reads R text x n texts (No k) is h = (
   λ s. h.1 (led_off reads R text x texts is s),
 )
 
--- the first line, whatever it tells
+-- the first line, whatever it says
 first_decided : {X : Type 0} (reads : List ℕ → Option X) (R : X → List (List ℕ) → Type 0) (judge : X → Judge) → Begun (Led reads R) [] → ((y : X) → Right (R y) (judge y))
     → (n : ℕ) (t : List ℕ) (ts : List (List ℕ)) (o : Option X) → reads t ≡ o → Decided (Led reads R) n (t ∷ ts) (led_by o judge n ts)
 first_decided reads R judge going each n t ts None none =

@@ -38,7 +38,7 @@ or_false : (b c e : Bool) (n : ℕ) → c ≡ false → e ≡ false → (if b ||
 or_false true c e n h g = refl
 or_false false c e n h g = rw (h, g) refl
 
--- no job is made where the same slots have jobs
+-- no job is made if the same slots have jobs
 unmade : {X : Type 0} (o p : Option X) → is_some p ≡ is_some o → (not (is_some o) && is_some p) ≡ false
 unmade None None h = refl
 unmade None (Some x) h = absurd (false≢true (sym h))

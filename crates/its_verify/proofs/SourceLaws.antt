@@ -1,4 +1,4 @@
--- What a source has left, where it tells its bytes.
+-- What a source has left, if its bytes are known.
 use Rattle.std.proofs.Common.{◌≡◌, ◌≤◌, ◌==◌, ◌+◌, ℕ, Bool, true, false, Option, Some, None, Err, List, [], ◌∷◌, ◌++◌, length, refl, sym, ap, subst, ◌∙◌, arith, append_assoc, append-nil, length-append}
 use Rattle.std.specs.List.{concat, list_all}
 use Rattle.std.proofs.lemmas.Bool.{and_parts, false≢true, not-true}
@@ -17,7 +17,7 @@ use Rattle.its_verify.specs.Sources.{IsTold, bytes_of, texts_of}
 use Rattle.its_verify.specs.Went.{Fell, Went}
 use Rattle.its_verify.proofs.LinesLaws.{concat_lines}
 
--- a source that tells its bytes
+-- a source whose bytes are known
 pub record Told (left rest : Option (List ℕ)) (read : List ℕ) : Type 0 where
   pub bytes : bytes_of left ≡ read ++ bytes_of rest
   pub told : IsTold rest

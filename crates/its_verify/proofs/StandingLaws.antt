@@ -1,4 +1,4 @@
--- Where a judge stands after a letter or a line.
+-- The state of a judge after a letter or a line.
 use Rattle.std.proofs.Common.{◌≡◌, ◌≢◌, ◌<◌, ◌≤◌, ◌+◌, ◌==◌, ◌&&◌, ◌||◌, ℕ, zero, suc, Bool, true, false, not, ltb, if◌then◌else◌, is_some, Option, Some, None, List, length, refl, sym, ap, subst, ◌∙◌, inl, inr, arith, replicate, slice_index_or, slice_set}
 use Rattle.std.proofs.lemmas.Bool.{cases_Bool, cases_eq, and_right, eq-eqb, ne_eqb, lt-ltb, false≢true}
 use Rattle.std.proofs.lemmas.Bool.Decides.{nat_tests}
@@ -215,7 +215,7 @@ pub off_led : (b : Bool) (old : Judge) (i : ℕ) → is_running ((machine_of old
 off_led true old i is = λ c n. rw is refl
 off_led false old i is = stays old old i Off refl refl (λ b n. rw is refl) (λ k. refl)
 
--- where the walk stands after a line
+-- the state of the walk after a line
 by_touch : (touched marked : Bool) (d : ℕ) → touched ≡ marked → forgotten touched d ≡ (if marked then 0 else d)
 by_touch touched true d is = rw is refl
 by_touch touched false d is = rw is refl
@@ -230,7 +230,7 @@ line_walk old new b after n m disturbs is marks f =
     after_with : Machine → Dots → Walk
     after_with x d = record { machine = x; dots = d; block = after; line = n + 1 }
 
--- where nothing changed but whether it ended
+-- if nothing changed but whether it ended
 pub led_beside : (b : Bool) (old mid new : Judge) (i : ℕ) (p : Pace) → new.plain ≡ mid.plain → new.dots ≡ mid.dots → LedIf b old mid i p → LedIf b old new i p
 led_beside false old mid new i p plain ds led = led
 led_beside true old mid new i p plain ds led = record {

@@ -12,7 +12,7 @@ use Rattle.its_print.specs.Runs.{paces_in}
 use Rattle.its_print.specs.Printing.{Ticks, text_of_line}
 use Rattle.its_verify.specs.Letters.{counted, letter_at, paces_from, run_of, ticks_in}
 
--- a run behind others
+-- a run after others
 paces_behind : (rs : List Run) (r : Run) → paces_in (rs ++ r ∷ []) ≡ paces_in rs ++ replicate (suc r.more) r.pace
 paces_behind [] r = ap (λ (ps : List Pace). r.pace ∷ ps) (append-nil (replicate r.more r.pace))
 paces_behind (q ∷ rs) r =

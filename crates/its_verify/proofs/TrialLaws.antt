@@ -28,7 +28,7 @@ use Rattle.its_verify.specs.declared.judge.Judge.{Judge}
 use Rattle.its_verify.specs.declared.trial.Trial.{Trial}
 use Rattle.its_verify.proofs.HearingLaws.{fails_here, fails_then, heard_on, lacks_says, led_forward, passed_none, passed_then, read_no, read_says, strict_ticks}
 
--- TICK and RUN stand outside any block of lines
+-- TICK and RUN are outside any block of lines
 plain_spot : (x : Spot) → place_of x ≡ places.Plain → x ≡ spots.Plain
 plain_spot spots.Plain e = refl
 plain_spot (spots.Load s) e = cc
@@ -146,7 +146,7 @@ turns_end old now n k q left rest past so b l next told =
     let here = so b l next told in
     (here.0 ∙ ap (λ (m : ℕ). cut now.hearing.room now.hearing.passed (turned m q (walk_of now.judge b l) now.last next) (texts_of now.hearing.texts rest)) none, here.1, here.2)
 
--- the same, where a `T` line came to a result
+-- the same, if a `T` line had a result
 pub turns_next_by : (r : Result (Option Finding) Failed) (old now t : Trial) (n k q s : ℕ) (left mid rest : Option (List ℕ)) → r ≡ Ok None → k < n → TurnsSo old now n k q left mid
     → turn_after (machine_of now.judge.plain) now.last ≡ Some s
     → TicksSay r now t mid rest s q → TurnsSo old (record t { last = s }) n (k + 1) q left rest

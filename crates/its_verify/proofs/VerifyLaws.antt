@@ -84,7 +84,7 @@ judges_fail e t texts session left rest machine dots last room passed same buffe
           (subst (SaidLater f.at.passed) (sym (said_same t texts session left machine dots last room passed same)) f.later);
     }
 
--- a failure, where the answer speaks of a line that was not read whole
+-- a failure, if the answer is about a line that was not read whole
 told_consumes : (bytes read : List ℕ) (rest : Option (List ℕ)) → IsTold rest → bytes ≡ read ++ bytes_of rest → Consumes (Some bytes) rest read
 told_consumes bytes read (Some ys) t is = is
 told_consumes bytes read None t is = absurd t

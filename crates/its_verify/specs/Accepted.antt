@@ -6,7 +6,8 @@ use Rattle.its_print.specs.Printing.{Line}
 use Rattle.its_plain.specs.Transcript.{Fate, Transcript}
 use Rattle.its_verify.specs.Lines.{Said, Tells}
 
--- there are lines that are a transcript of the events, and the bytes tell them
+-- there are lines that are a transcript of the events, and the bytes are their text; a `P` line may have any text that
+-- may occur there
 pub record Accepted (es : List Item) (bytes : List ℕ) : Type 0 where
   pub lines : List Line
   pub fate : Fate

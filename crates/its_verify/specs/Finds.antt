@@ -35,7 +35,7 @@ Found (Err Memory) left rest = Unit {0}
 abbrev pub said_of : Texts → List ℕ → Option (List ℕ) → Answer
 said_of texts session left = cut (most_lines - texts.number) 0 (judged at_start highest (events_of session)) (texts_of texts left)
 
--- the source failed behind lines of the transcript of which the answer does not speak
+-- the source failed after lines of the transcript, and the answer is about none of these lines
 pub record JudgeFails (texts : Texts) (session : List ℕ) (left rest : Option (List ℕ)) : Type 0 where
   pub at : Texts
   pub mid : Option (List ℕ)

@@ -105,7 +105,7 @@ pub record GoneSo (old now : Trial) (judge : Judge) (r : Items) (session left re
   pub goes :
       HearsOn old.hearing now.hearing left rest judge (judge_from now block (r.lines.number + 1) (items_of r session))
 
--- the items that are left, if this was found: it is the first of them, and others come after it if it is not the last
+-- the items that are left, if this was found: it is the first one, and others come after it if it is not the last
 pub record Split (f : Found) (before : List Item) (after : List Item) : Type 0 where
   pub behind : List Item
   pub is : before ≡ items_by f behind

@@ -70,7 +70,7 @@ pub record Passed (old new : Hearing) (left rest : Option (List ℕ)) : Type 0 w
   pub went : Went lines old.texts new.texts left rest
   pub passed : new.passed ≡ old.passed + length lines
 
--- a verdict that speaks of none of the first n lines
+-- a verdict that is about none of the first n lines
 abbrev pub Later : ℕ → Verdict → Type 0
 Later n (Yes k) = n ≤ k
 Later n (No k) = n < k
@@ -85,7 +85,7 @@ SaidLater n (Cut k) = ⊥
 pub record Forward (judge : Judge) : Type 0 where
   pub later : (n : ℕ) (texts : List (List ℕ)) → Later n (judge n texts)
 
--- the source failed behind lines that are passed: the answer speaks of none of them
+-- the source failed after lines that are passed: the answer is about none of these lines
 pub record Failing (old : Hearing) (left rest : Option (List ℕ)) (judge : Judge) : Type 0 where
   pub at : Hearing
   pub mid : Option (List ℕ)

@@ -24,7 +24,7 @@ pub record Kept (end : Bool) (old new : Texts) (left rest : Option (List ℕ)) :
   pub went : Went lines old new left rest
   pub ends : list_any is_end_line lines ≡ end
 
--- where the first part is a session, one of them is
+-- if the first part is a session, one of the lines that were read is an END line
 abbrev pub KeptAll : Part → Texts → Texts → Option (List ℕ) → Option (List ℕ) → Type 0
 KeptAll Session old new left rest = Kept true old new left rest
 KeptAll part old new left rest = Unit {0}

@@ -1,4 +1,4 @@
--- What had been read of an input where its source failed: it decides nothing.
+-- What had been read of an input when its source failed: it decides nothing.
 -- No promise rests on this.
 use Rattle.std.specs.Prelude.{◌≡◌, ◌≤◌, ◌<◌, ◌==◌, ℕ, ◌+◌, Bool, true, false, not, List, [], ◌++◌, length}
 use Rattle.std.specs.List.{concat, list_all, list_any}
@@ -8,15 +8,15 @@ use Rattle.its_verify.specs.Judge.{Yes, No}
 use Rattle.its_verify.specs.Lines.{is_whole, most_bytes}
 use Rattle.its_verify.specs.Verified.{Answer, Judged, Long, Cut, TooLong, Parts, Both, LongLine, NoEnd, TooMany, is_end_line, most_session_bytes, parts_from, verified}
 
--- how many lines of an input its session has, where there is an END line
+-- how many lines of an input its session has, if there is an END line
 abbrev pub count_in : Parts → ℕ
 count_in (Both session count texts) = count
 count_in (LongLine n) = 0
 count_in (NoEnd n) = 0
 count_in TooMany = 0
 
--- the line of an input that an answer speaks of: the one that is not licensed or is too long, the first one past the
--- most, or the one that would be next where the input ends
+-- the line of an input that an answer is about: the one that is not licensed or is too long, the first one past the
+-- most, or the one that would be next at the end of the input
 abbrev pub decisive : ℕ → Answer → ℕ
 decisive count (Judged (Yes n)) = count + (n + 1)
 decisive count (Judged (No n)) = count + n
@@ -24,13 +24,14 @@ decisive count (Long n) = n
 decisive count (Cut n) = n
 decisive count TooLong = most_lines + 1
 
--- the most bytes of a line before its LF, where an END line stands before it or not
+-- the most bytes of a line before its LF, by whether an END line is before it
 abbrev pub most_behind : Bool → ℕ
 most_behind false = most_session_bytes
 most_behind true = most_bytes
 
 -- of an input of these bytes, those that were read are some whole lines, and perhaps bytes of a line that had begun. The
--- line that the answer speaks of is none of the whole ones. That had begun is not too long, and not past the most
+-- line that the answer is about is none of the whole ones. The line that had begun is not too long, and not past the
+-- most
 pub record Undecided (bytes read : List ℕ) : Type 0 where
   pub lines : List (List ℕ)
   pub begun : List ℕ

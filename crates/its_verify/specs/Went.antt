@@ -1,4 +1,5 @@
--- What a reader has read of a source that tells its bytes: whole lines, and perhaps bytes of a line that had begun.
+-- The bytes that a reader took from a source whose bytes are known: whole lines, and perhaps bytes of a line that had
+-- begun.
 -- No promise rests on this.
 use Rattle.std.specs.Prelude.{◌≡◌, ◌≤◌, ◌<◌, ℕ, ◌+◌, true, false, Option, List, ◌++◌, length}
 use Rattle.std.specs.List.{concat, list_all}
@@ -16,7 +17,7 @@ pub record Went (lines : List (List ℕ)) (old new : Texts) (left rest : Option 
   pub over : old.ended ≡ true → new.ended ≡ true
   pub whole : new.ended ≡ false → list_all is_whole lines ≡ true
 
--- the source failed, where a line of so many bytes at most was asked for
+-- the source failed when a line of at most so many bytes was asked for
 pub record Fell (most : ℕ) (r : Texts) (left rest : Option (List ℕ)) : Type 0 where
   pub told : IsTold rest
   pub runs : r.ended ≡ false

@@ -64,8 +64,8 @@ impl Trial {
         Ok(self.hearing.rule(licensed))
     }
 
-    /// The turns of a RUN line are next: up to n of them, each a `T` line of q letters of the slot whose turn it is. They end early if
-    /// no job runs.
+    /// The turns of a RUN line are next: up to n turns, each a `T` line of q letters of the slot whose turn it is. They
+    /// end early if no job runs.
     #[tactic(auto, using(crate::proofs::TrialLaws::turns_start))]
     pub fn turns<S: Source>(
         &mut self,

@@ -16,7 +16,7 @@ unfolding calculation
 calculation_direct zero c w last h = rw h refl
 calculation_direct (suc n) c w last h = rw h refl
 
--- the whole calculation, where I of its first word is 0
+-- the whole calculation, if I of its first word is 0
 pub direct_answer : (c : Core) (w used : ℕ) → is_indirect w ≡ false → (address c w used).answer ≡ Ok (record { e = indexed c w; flags_word = last_used c w None })
 direct_answer c w used h = ap (λ r. r.answer) (calculation_direct (budget - used) c w None h)
 
@@ -89,7 +89,7 @@ along_more c w used reads now word last seen v a i ne e =
     joined : (xs ys : List ℕ) (z : ℕ) (zs : List ℕ) → xs ++ (ys ++ (z ∷ [] ++ zs)) ≡ xs ++ ys ++ z ∷ [] ++ zs
     joined xs ys z zs = sym (append_assoc (xs ++ ys) (z ∷ []) zs ∙ append_assoc xs ys (z ∷ [] ++ zs))
 
--- where the calculation ends
+-- the end of the calculation
 pub record Ended (c : Core) (w used : ℕ) (reads : List ℕ) (answer : Result Address Fault) (now : ℕ) (seen : List ℕ) : Type 0 where
   pub answer_is : answer ≡ (address c w used).answer
   pub used_is : now ≡ (address c w used).used

@@ -1,4 +1,5 @@
--- Climbing from a job to its superior, and so on: what a removal leaves of it, and that as many steps as there are slots are enough.
+-- Climbing from a job to its superior, and so on: what a removal leaves, and that as many steps as there are slots are
+-- enough.
 use Rattle.std.specs.Prelude.{if◌then◌else◌, ◌≡◌, ◌≢◌, ◌≤◌, ◌<◌, ◌+◌, ◌==◌, ◌||◌, ◌&&◌, not, ℕ, zero, suc, Bool, true, false, Option, Some, None, IfSome, refl}
 use Rattle.std.proofs.Common.{sym, ◌∙◌, ap, subst, arith, inl, inr, eq-eqb}
 use Rattle.std.proofs.lemmas.Bool.{cases_Bool, cases_eq, ne_eqb}
@@ -14,7 +15,7 @@ pub or_second : (a b : Bool) → (a || b) ≡ true → a ≡ false → b ≡ tru
 or_second true b h e = cc
 or_second false b h e = h
 
--- a job that is not reached is not reached where superiors are taken away
+-- a job that is not reached is not reached if superiors are taken away
 pub cut : (sup new : ℕ → Option ℕ) (gone : ℕ → Bool) (s n : ℕ) (o : Option ℕ) → ((k : ℕ) → new k ≡ (if gone k then None else sup k))
     → climbs_to sup s n o ≡ false → climbs_to new s n o ≡ false
 unfolding climbs_to
@@ -54,7 +55,7 @@ unpassed old new s t (suc n) (Some k) others none ne =
     let away : k ≢ s = λ e. ne (ap Some e) in
     ap (λ x. (k == t) || climbs_to new t n x) (others k away) ∙ ap (λ b. (k == t) || b) (unpassed old new s t n (old k) others none (none k))
 
--- where a job is reached in n steps, it is in one more
+-- if a job is reached in n steps, it is in one more
 pub more : (sup : ℕ → Option ℕ) (r n : ℕ) (o : Option ℕ) → climbs_to sup r n o ≡ true → climbs_to sup r (suc n) o ≡ true
 unfolding climbs_to
 more sup r zero o h = cc

@@ -132,7 +132,7 @@ word_at-store_same c a w h = elim (cases_Bool (nat_lt a 16)) [
   | inr t ↦ in_page (store c a w) a t ∙ ap (λ p. word_in p (a % 1024)) (page_of_store c a w t) ∙ word_stored_same (page_of c (a / 1024)) (a % 1024) w (sym (stores_page c a t) ∙ h)
 ]
 
--- what a page has at another address, after a store
+-- the word of a page at another address, after a store
 page_other : (c : Core) (a b w : ℕ) → b ≢ a → nat_lt b 16 ≡ false
     → word_in (page_of (store c a w) (b / 1024)) (b % 1024) ≡ word_in (page_of c (b / 1024)) (b % 1024)
 page_other c a b w ne t = elim (cases_Bool (nat_lt a 16)) [
@@ -180,14 +180,14 @@ is_some-store c a b w = elim (cases_Bool (nat_lt b 16)) [
   | inr t ↦ ap is_some (in_page (store c a w) b t) ∙ page_alike (λ p. is_some (word_in p (b % 1024))) (λ p i v. some_stored p i (b % 1024) v) c a w (b / 1024) ∙ sym (ap is_some (in_page c b t))
 ]
 
--- a store changes nothing of where words can be stored
+-- a store does not change at which addresses words can be stored
 pub can_store-store : (c : Core) (a b w : ℕ) → can_store (store c a w) b ≡ can_store c b
 can_store-store c a b w = elim (cases_Bool (nat_lt b 16)) [
   | inl t ↦ stores_acc (store c a w) b t ∙ some_accs c a b w ∙ sym (stores_acc c b t)
   | inr t ↦ stores_page (store c a w) b t ∙ page_alike (λ p. stores_in p (b % 1024)) (λ p i v. stores_stored p i (b % 1024) v) c a w (b / 1024) ∙ sym (stores_page c b t)
 ]
 
--- where a word can be stored there is one
+-- if a word can be stored there is one
 pub word_at-can_store : (c : Core) (a : ℕ) → can_store c a ≡ true → is_some (word_at c a) ≡ true
 word_at-can_store c a h = elim (cases_Bool (nat_lt a 16)) [
   | inl t ↦ ap is_some (in_accs c a t) ∙ sym (stores_acc c a t) ∙ h

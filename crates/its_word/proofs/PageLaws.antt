@@ -31,12 +31,12 @@ pub page_of-with_page_other : (c : Core) (k j : ℕ) (p : Option Page) → j ≢
 unfolding page_of with_page
 page_of-with_page_other c k j p ne = ap present (get_set_other c.pages k j p ne)
 
--- where there is a place for it
+-- if there is a place for it
 pub page_of-with_page : (c : Core) (k : ℕ) (p : Option Page) → k < length c.pages → page_of (with_page c k p) k ≡ p
 unfolding page_of with_page
 page_of-with_page c k p h = present-slice_get (slice_set c.pages k p) k ∙ get_or-set_same c.pages k p None h
 
--- and in any case where it is present before, or is to be absent
+-- and in any case if it is present before, or is to be absent
 pub page_of-with_page_present : (c : Core) (k : ℕ) (p : Option Page) → is_some (page_of c k) ≡ true → page_of (with_page c k p) k ≡ p
 unfolding page_of
 page_of-with_page_present c k p h = page_of-with_page c k p (within c.pages k h)
@@ -68,7 +68,7 @@ pub can_store-with_page_acc : (c : Core) (k a : ℕ) (p : Option Page) → a < 1
 unfolding with_page
 can_store-with_page_acc c k a p h = let t = lt-ltb a 16 h in stores_acc (with_page c k p) a t ∙ sym (stores_acc c a t)
 
--- 1 where there is something
+-- 1 if there is something
 abbrev pub one_if : {X : Type 0} → Option X → ℕ
 one_if p = cond (is_some p) 1 0
 
@@ -122,7 +122,7 @@ sum_only f g i a (suc n) lo hi h =
           omega arith
     ]
 
--- the pages of all slots, where one slot's core is another
+-- the pages of all slots, if one slot's core is another
 pub pages_mapped-only : (old new : ℕ → Core) (i : ℕ) (x : Core) → Only old new i x → i < slots → pages_mapped new + pages_present (old i) ≡ pages_mapped old + pages_present x
 unfolding pages_mapped
 pages_mapped-only old new i x o h =

@@ -68,7 +68,7 @@ fault_stored c a w (s ∷ ss) =
     ∙ ap (λ r. option_or (refused c (place s)) r) (fault_stored c a w ss)
     ∙ sym (fault_of_cons c s ss)
 
--- where nothing is refused, the first store can be made, and the rest is not refused
+-- if nothing is refused, the first store can be made, and the rest is not refused
 can_by : (b : Bool) (x : Option ℕ) (r : Option Fault) → option_or (refusal b x) r ≡ None → (b ≡ true) × (r ≡ None)
 can_by true x r h = (refl, h)
 can_by false None r h = cc
@@ -110,7 +110,7 @@ making_ends old now slot all i m h = record {
   others = m.others;
 }
 
--- a word can be stored exactly where nothing is said against it
+-- a word can be stored exactly if nothing is said against it
 none_of : (b : Bool) (x : Option ℕ) → is_none (refusal b x) ≡ b
 none_of true x = refl
 none_of false None = refl

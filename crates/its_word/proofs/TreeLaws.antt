@@ -36,7 +36,7 @@ pub least_end : {X : Type 0} (jobs : ℕ → Option X) (limit k : ℕ) → limit
 unfolding free_from
 least_end jobs limit k l = let e : limit - k ≡ 0 = omega arith in ap (λ n. free_from jobs n k) e
 
--- whether no slot has a job: before the first is looked at, where slot k has one, where it has none, and at the end
+-- whether no slot has a job: before the first is looked at, if slot k has one, if it has none, and at the end
 pub none_start : {X : Type 0} (jobs : ℕ → Option X) → none_from jobs (slots - 0) 0 ≡ no_job jobs
 unfolding no_job
 none_start jobs = let e : slots - 0 ≡ slots = omega arith in ap (λ n. none_from jobs n 0) e
@@ -139,7 +139,7 @@ pub nth_end : (superiors : ℕ → Option ℕ) (s i n : ℕ) → slots ≤ i →
 unfolding rest_below
 nth_end superiors s i n l = let e : slots - i ≡ 0 = omega arith in ap (λ m. slice_get (filter (is_below superiors s) (range_with_len i m)) n) e
 
--- none is below s where there is no first
+-- none is below s if there is no first
 none_in : (p : ℕ → Bool) (a n j : ℕ) → slice_get (filter p (range_with_len a n)) 0 ≡ None → a ≤ j → j < a + n → p j ≡ false
 none_in p a zero j h l m = absurd (omega arith)
 none_in p a (suc n) j h l m =

@@ -15,7 +15,7 @@ abbrev pub kept_file : Bool → File → List File → List File
 kept_file true f fs = fs
 kept_file false f fs = f ∷ fs
 
--- the files but for the one with these names
+-- the files except the one with these names
 abbrev pub without_names : List ℕ → List File → List File
 without_names names [] = []
 without_names names (f ∷ fs) = kept_file (same_names names f.names) f (without_names names fs)

@@ -3,6 +3,7 @@ pub mod Word
 pub mod Text
 pub mod Item
 pub mod Limits
+pub mod Links
 pub mod Only
 pub mod Core
 pub mod Tree

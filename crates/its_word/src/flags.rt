@@ -19,7 +19,7 @@ pub const USER: u32 = 0o010000;
 /// No divide.
 pub const NO_DIVIDE: u32 = 0o000040;
 
-/// The flags that a PC word names, but for user.
+/// The flags that a PC word names, except user.
 pub const NAMED_FLAGS: u32 = 0o760040;
 
 /// The PC word of flags and a PC; user is always on.

@@ -1,7 +1,8 @@
 use super::word::Word;
 
 /// What a channel of a job is on. `at` is a position in words; `file` and `draft` are the numbers of a file and of a
-/// draft; `slot` is that of an inferior, which may be written if `write` holds.
+/// draft; `slot` is that of an inferior, which may be written if `write` holds; `link` is the number of a link, to whose
+/// writing end the channel belongs if `write` holds, else to its reading end.
 #[derive(Clone, Copy, Debug, PartialEq, Eq)]
 pub enum Channel {
     Closed,
@@ -10,6 +11,7 @@ pub enum Channel {
     Reading { file: u32, at: u32 },
     Writing { draft: u32 },
     Usr { slot: u8, write: bool, at: u32 },
+    Link { link: u8, write: bool },
 }
 
 /// The registers of a job: PC, flags (bits of the left half of a PC word), the stopped mark, pending words, masks and

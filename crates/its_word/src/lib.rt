@@ -1,5 +1,13 @@
 //! Words of 36 bits, the text of numbers and names, the records that the other crates share, and
 //! the definitions of the instruction tables (in `specs/`).
+//!
+//! Proved, each by its definition:
+//! - words: `Word::new`, `value`, `left`, `right`, `pair`, `signed`, `from_signed` and `octal12`;
+//! - numbers and names in text: `read_octal` and `read_sixbit` accept exactly the texts that they should; a number that
+//!   was printed is read back (`digits_read_back`);
+//! - the words of a line (`words`), the opcode table (`decode`), and the reason of a refusal (`Refusal::reason`).
+//!
+//! `ReadyWords` makes words ready from the first on; only its `open` takes memory.
 #![tactic(auto)]
 
 mod access;
@@ -10,6 +18,7 @@ mod flags;
 mod instruction;
 mod jobs;
 mod limits;
+mod link;
 mod location;
 mod memory;
 mod opcode;
@@ -38,6 +47,7 @@ pub use instruction::{
 };
 pub use jobs::{Channel, Job};
 pub use limits::{ADDRESSES, BUDGET, MAPPED_PAGES, SLOTS};
+pub use link::{End, LINK_WORDS, LINKS, Link};
 pub use location::Location;
 pub use memory::NoMemory;
 pub use opcode::decode;

@@ -1,4 +1,4 @@
--- An alarm that is written: the state that the world then stands for, and that the world is tidy.
+-- An alarm that is written: the state of the world after it, and that the world is tidy.
 use Rattle.std.specs.Prelude.{◌≡◌, ◌<◌, ℕ, Option, Some, None, option_map, refl}
 use Rattle.std.proofs.Common.{sym, ◌∙◌, ap, subst, inl, inr}
 use Rattle.std.proofs.lemmas.Bool.{cases_eq}
@@ -12,6 +12,7 @@ use Rattle.its_plain.proofs.MachineLaws.{machine_is}
 use Rattle.its_plain.specs.OperatorClock.{clock_end}
 use Rattle.its_world.specs.Tidy.{Across, Tidy}
 use Rattle.its_world.specs.World.{alarm_at, raw_of, raw_at, frame_at, console_at, holder_at, mark_of, state_of, in_raw, symbols_at, AlarmBecomes}
+use Rattle.its_pipes.specs.Pipes.{piped}
 use Rattle.its_world.specs.declared.world.World.{World}
 use Rattle.its_world.proofs.StateLaws.{state_is, slot_at}
 
@@ -21,7 +22,7 @@ realarmed x c u a b (Some i) = refl
 realarmed x c u a b None = refl
 
 module _ (old new : World) (s : ℕ) (a : Option (ℕ × ℕ)) (b : AlarmBecomes old new s a) where
-  -- but for alarms all is as it was
+  -- except for alarms all is as it was
   alike : (k : ℕ) → raw_at new.files new.core new.jobs new.alarms.items k ≡ raw_at old.files old.core old.jobs new.alarms.items k
   alike k =
       ap (λ t. raw_at t new.core new.jobs new.alarms.items k) b.files
@@ -35,7 +36,7 @@ module _ (old new : World) (s : ℕ) (a : Option (ℕ × ℕ)) (b : AlarmBecomes
       (alike s ∙ ap (λ x. raw_of old.files (core_at old.core s) (superior_at old.jobs s) x (job_at old.jobs s)) b.alarms.here
       ∙ realarmed old.files (core_at old.core s) (superior_at old.jobs s) (alarm_at old.alarms.items s) a (job_at old.jobs s))
       (λ k ne. alike k ∙ ap (λ x. raw_of old.files (core_at old.core k) (superior_at old.jobs k) x (job_at old.jobs k)) (b.alarms.others k ne)))
-      (λ k. ap (λ l. console_at l.items k) b.consoles) (λ k. ap (λ l. holder_at l k) b.holders) (ap directory b.files) b.clock b.version (λ k. ap (λ l. symbols_at l.items k) b.symbols))
+      (λ k. ap (λ l. console_at l.items k) b.consoles) (λ k. ap (λ l. holder_at l k) b.holders) (ap directory b.files) b.clock b.version (λ k. ap (λ l. symbols_at l.items k) b.symbols) (λ k. ap (λ p. piped p k) b.pipes))
       (λ k. ap (λ l. frame_at l.items k) b.frames) (λ k. ap (λ t. clear_at t k) b.core) (ap mark_of b.files)
 
   -- a slot that gets an alarm has a job

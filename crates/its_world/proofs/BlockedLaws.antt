@@ -1,4 +1,4 @@
--- A slot stands in a wait ring where it stands in a list, and not in the Awake list of its console.
+-- A slot is on a wait list if it is on a list, and not on the Awake list of its console or link.
 use Rattle.std.specs.Prelude.{◌≡◌, ◌<◌, ◌≤◌, ◌↔◌, ◌⊎◌, ◌+◌, ℕ, Bool, true, false, IsTrue, not, Option, Some, None, List, length, nat_lt, refl}
 use Rattle.std.proofs.Common.{sym, ◌∙◌, ap, subst, inl, inr, arith}
 use Rattle.std.proofs.lemmas.Bool.{cases_Bool, both_ways}
@@ -8,34 +8,38 @@ use Rattle.its_links.proofs.CountLaws.{hit_same, count-le-times, two-le-times}
 use Rattle.its_word.specs.declared.jobs.Job.{Job}
 use Rattle.its_jobs.specs.Table.{job_at}
 use Rattle.its_frame.specs.declared.decision.Wait.{Wait}
-use Rattle.its_frame.specs.declared.decision.Wait.TheVariants.{Hang, Clock, Input, Output, Drained}
+use Rattle.its_frame.specs.declared.decision.Wait.TheVariants.{Hang, Clock, Input, Output, Drained, Empty, Room}
 use Rattle.its_frame.specs.declared.frame.Frame.{Frame}
 use Rattle.its_frame.specs.declared.frame.Frame.TheVariants.{Entered, Parsed, Asked, Holding, Waiting, Moving, Ending}
+use Rattle.its_word.specs.Links.{most_links}
 use Rattle.its_plain.specs.Arguments.{input}
 use Rattle.its_plain.specs.Reasons.{Doors, held_up}
-use Rattle.its_world.specs.Rings.{wait_rings, awake_of, console_in, place_at, StandsIn, IsIn}
+use Rattle.its_world.specs.Rings.{heads, IsWaitRing, awake_of, is_within, Within, place_at, StandsIn, IsIn}
 use Rattle.its_world.specs.Filed.{frame_at, wait_reason, if_within, place_for, place_by, doors_of, place_of, awake_for, awake_by, awake_at, Blocked}
+use Rattle.its_world.proofs.PlaceLaws.{within_is}
 use Rattle.its_world.proofs.RingLaws.{times_none}
 use Rattle.its_world.specs.declared.world.World.{World}
 
--- where a slot can belong: in no list, in a wait ring, or in the Awake list of its console
+-- the lists to which a slot can belong: none, a wait list, or the Awake list of its console or link
 abbrev pub Belongs : Option ℕ → Option ℕ → Type 0
-Belongs p awake = (p ≡ None) ⊎ (((g : ℕ) × ((p ≡ Some g) × (g < wait_rings))) ⊎ (p ≡ awake))
+Belongs p awake = (p ≡ None) ⊎ (((g : ℕ) × ((p ≡ Some g) × IsWaitRing g)) ⊎ (p ≡ awake))
 
-belongs_at : (r : Wait) (b : Bool) → console_in r < 8 → Belongs (place_at r b) (awake_of r)
-belongs_at Hang true l = inr (inl (0, (refl, omega arith)))
-belongs_at Clock true l = inr (inl (1, (refl, omega arith)))
-belongs_at (Input c) true l = inr (inl (2 + c, (refl, omega arith)))
-belongs_at (Output c) true l = inr (inl (10 + c, (refl, omega arith)))
-belongs_at (Drained c) true l = inr (inl (18 + c, (refl, omega arith)))
+belongs_at : (r : Wait) (b : Bool) → Within r → Belongs (place_at r b) (awake_of r)
+belongs_at Hang true l = inr (inl (0, (refl, inl (omega arith))))
+belongs_at Clock true l = inr (inl (1, (refl, inl (omega arith))))
+belongs_at (Input c) true l = inr (inl (2 + c, (refl, inl (omega arith))))
+belongs_at (Output c) true l = inr (inl (10 + c, (refl, inl (omega arith))))
+belongs_at (Drained c) true l = inr (inl (18 + c, (refl, inl (omega arith))))
+belongs_at (Empty n) true l = inr (inl (34 + n, (refl, inr (omega arith, omega arith))))
+belongs_at (Room n) true l = inr (inl (50 + n, (refl, inr (omega arith, omega arith))))
 belongs_at r false l = inr (inr refl)
 
-belongs_if : (r : Wait) (b t : Bool) → (t ≡ true → console_in r < 8) → Belongs (if_within t (place_at r b)) (if_within t (awake_of r))
+belongs_if : (r : Wait) (b t : Bool) → (t ≡ true → Within r) → Belongs (if_within t (place_at r b)) (if_within t (awake_of r))
 belongs_if r b true l = belongs_at r b (l refl)
 belongs_if r b false l = inl refl
 
 belongs_for : (d : Doors) (k n : ℕ) (o : Option Wait) → Belongs (place_for d k n o) (awake_for o)
-belongs_for d k n (Some r) = belongs_if r (held_up d k n r) (nat_lt (console_in r) 8) (λ t. let l : console_in r < 8 = grind (arith, nat_tests) in l)
+belongs_for d k n (Some r) = belongs_if r (held_up d k n r) (is_within r) (within_is r)
 belongs_for d k n None = inl refl
 
 belongs_by : (d : Doors) (k : ℕ) (o : Option Job) (f : Option Frame) → Belongs (place_by d k o f) (awake_by o f)
@@ -46,54 +50,54 @@ pub belongs : (w : World) (k : ℕ) → Belongs (place_of w k) (awake_at w k)
 unfolding place_of awake_at
 belongs w k = belongs_by (doors_of w) k (job_at w.jobs k) (frame_at w.frames.items k)
 
--- an Awake list is no wait ring
-awake_past : (r : Wait) (h : ℕ) → awake_of r ≡ Some h → wait_rings ≤ h
-awake_past Hang h e = cc
-awake_past Clock h e = cc
-awake_past (Input c) h e = let q : 26 + c ≡ h = cc in omega arith
-awake_past (Output c) h e = let q : 26 + c ≡ h = cc in omega arith
-awake_past (Drained c) h e = let q : 26 + c ≡ h = cc in omega arith
+-- an Awake list is no wait ring, and is one of the lists
+record IsAwakeList (h : ℕ) : Type 0 where
+  no_ring : IsWaitRing h → ⊥
+  below : h < heads
 
-past_if : (r : Wait) (t : Bool) (h : ℕ) → if_within t (awake_of r) ≡ Some h → wait_rings ≤ h
-past_if r true h e = awake_past r h e
-past_if r false h e = cc
+console_list : (c h : ℕ) → Some (26 + c) ≡ Some h → c < 8 → IsAwakeList h
+console_list c h e l =
+    let q : 26 + c ≡ h = cc in
+    record { no_ring = λ r. elim r [ inl low ↦ omega arith | inr high ↦ let a = high.0 in omega arith ]; below = omega arith }
 
-past_for : (o : Option Wait) (h : ℕ) → awake_for o ≡ Some h → wait_rings ≤ h
-past_for (Some r) h e = past_if r (nat_lt (console_in r) 8) h e
-past_for None h e = cc
+link_list : (l h : ℕ) → Some (66 + l) ≡ Some h → l < most_links → IsAwakeList h
+link_list l h e lt =
+    let q : 66 + l ≡ h = cc in
+    record { no_ring = λ r. elim r [ inl low ↦ omega arith | inr high ↦ let a = high.1 in omega arith ]; below = omega arith }
 
-past_by : (o : Option Job) (f : Option Frame) (h : ℕ) → awake_by o f ≡ Some h → wait_rings ≤ h
-past_by o (Some (Waiting f)) h e = past_for (wait_reason o f.ask) h e
-past_by o _ h e = cc
+awake_list : (r : Wait) (h : ℕ) → Within r → awake_of r ≡ Some h → IsAwakeList h
+awake_list Hang h l e = cc
+awake_list Clock h l e = cc
+awake_list (Input c) h l e = console_list c h e l
+awake_list (Output c) h l e = console_list c h e l
+awake_list (Drained c) h l e = console_list c h e l
+awake_list (Empty n) h l e = link_list n h e l
+awake_list (Room n) h l e = link_list n h e l
 
-pub awake_ring : (w : World) (k h : ℕ) → awake_at w k ≡ Some h → wait_rings ≤ h
+list_if : (r : Wait) (t : Bool) (h : ℕ) → (t ≡ true → Within r) → if_within t (awake_of r) ≡ Some h → IsAwakeList h
+list_if r true h l e = awake_list r h (l refl) e
+list_if r false h l e = cc
+
+list_for : (o : Option Wait) (h : ℕ) → awake_for o ≡ Some h → IsAwakeList h
+list_for (Some r) h e = list_if r (is_within r) h (within_is r) e
+list_for None h e = cc
+
+list_by : (o : Option Job) (f : Option Frame) (h : ℕ) → awake_by o f ≡ Some h → IsAwakeList h
+list_by o (Some (Waiting f)) h e = list_for (wait_reason o f.ask) h e
+list_by o _ h e = cc
+
+awake_ring : (w : World) (k h : ℕ) → awake_at w k ≡ Some h → IsWaitRing h → ⊥
 unfolding awake_at
-awake_ring w k h e = past_by (job_at w.jobs k) (frame_at w.frames.items k) h e
-
-awake_heads : (r : Wait) (t : Bool) (h : ℕ) → (t ≡ true → console_in r < 8) → if_within t (awake_of r) ≡ Some h → h < 34
-awake_heads Hang true h l e = cc
-awake_heads Clock true h l e = cc
-awake_heads (Input c) true h l e = let q : 26 + c ≡ h = cc in let b = l refl in omega arith
-awake_heads (Output c) true h l e = let q : 26 + c ≡ h = cc in let b = l refl in omega arith
-awake_heads (Drained c) true h l e = let q : 26 + c ≡ h = cc in let b = l refl in omega arith
-awake_heads r false h l e = cc
-
-heads_for : (o : Option Wait) (h : ℕ) → awake_for o ≡ Some h → h < 34
-heads_for (Some r) h e = awake_heads r (nat_lt (console_in r) 8) h (λ t. let l : console_in r < 8 = grind (arith, nat_tests) in l) e
-heads_for None h e = cc
-
-heads_by : (o : Option Job) (f : Option Frame) (h : ℕ) → awake_by o f ≡ Some h → h < 34
-heads_by o (Some (Waiting f)) h e = heads_for (wait_reason o f.ask) h e
-heads_by o _ h e = cc
+awake_ring w k h e = (list_by (job_at w.jobs k) (frame_at w.frames.items k) h e).no_ring
 
 pub awake_within : (w : World) (k h : ℕ) (p : Option ℕ) → p ≡ awake_at w k → p ≡ Some h → h < length w.rings.lists
 unfolding awake_at
-awake_within w k h p e q = let l = w.ring_lists in let b = heads_by (job_at w.jobs k) (frame_at w.frames.items k) h (sym e ∙ q) in omega arith
+awake_within w k h p e q = let l = w.ring_lists in let b = (list_by (job_at w.jobs k) (frame_at w.frames.items k) h (sym e ∙ q)).below in omega arith
 
--- standing in a ring and in its Awake list at once would be standing twice
-in_two : (lists : List (List ℕ)) (k g : ℕ) (p : Option ℕ) → times k lists ≤ 1 → g < wait_rings → 0 < count k (list_at lists g) → ((h : ℕ) → p ≡ Some h → wait_rings ≤ h) → IsIn lists k p → ⊥
+-- a slot on a wait list and on its Awake list at once would be on two lists
+in_two : (lists : List (List ℕ)) (k g : ℕ) (p : Option ℕ) → times k lists ≤ 1 → IsWaitRing g → 0 < count k (list_at lists g) → ((h : ℕ) → p ≡ Some h → IsWaitRing h → ⊥) → IsIn lists k p → ⊥
 in_two lists k g None once less here past is = is
-in_two lists k g (Some h) once less here past is = let p = past h refl in let t = two-le-times k lists g h (λ e. let q : g ≡ h = e in absurd (omega arith)) in omega arith
+in_two lists k g (Some h) once less here past is = let t = two-le-times k lists g h (λ e. past h refl (subst IsWaitRing e less)) in omega arith
 
 in_mark : (lists : List (List ℕ)) (k : ℕ) (p : Option ℕ) → StandsIn lists k p → 0 < times k lists → IsIn lists k p
 in_mark lists k None s some = let z = times_none k lists s.at in absurd (omega arith)

@@ -1,4 +1,4 @@
--- What each change of a channel, a draft or a file comes to: the state is that after the change, and the world is tidy.
+-- The result of each change of a channel, a draft or a file: the state is that after the change, and the world is tidy.
 use Rattle.std.specs.Prelude.{◌≡◌, ◌≢◌, ◌<◌, ◌≤◌, ℕ, ◌+◌, ◌-◌, Bool, true, false, Some, None, is_some, Ok, Err, List, [], ◌∷◌, ◌++◌, refl}
 use Rattle.std.proofs.Common.{sym, ◌∙◌, ap, subst, inl, inr}
 use Rattle.std.proofs.lemmas.Bool.{cases_eq}
@@ -36,7 +36,7 @@ use Rattle.its_parts.proofs.ShowLaws.{draft_room, close_can}
 use Rattle.its_parts.proofs.KeptLaws.{Kept, Stays, opened_kept, closed_kept, drafted_kept, discarded_kept, appended_kept, closing_kept, deleted_stays, renamed_stays, delete_is, rename_is}
 use Rattle.its_world.proofs.StorageLaws.{Comes, channel_comes, still_unmarked, store_tidy, filed_state, filed_tidy, channel_still, still_state, store_state, has_job, chan_is, chan_shut, store_unmarked, files_are, shows}
 
--- a channel of the state is on a draft where that of the world is
+-- a channel of the state is on a draft if that of the world is
 draft_by : (s : Store) (c : Channel) → ((d : ℕ) → c ≡ Writing d → ⊥) → IsDraft (chan_of s c) → ⊥
 draft_by s (Writing d) written h = written d refl
 draft_by s _ written h = h
@@ -202,7 +202,7 @@ module _ (old new : World) (s n : ℕ) (ls : s < slots) (ln : n < 16) (tidy : Ti
   pub begin_close_can : (k : ℕ) → Writing k ≡ channel_at old.jobs s n → IsStore old.files → CanClose (state_of old) (chan_in (state_of old) s n) → (e : CloseFault) → close old.files k s ≡ Err e → ⊥
   begin_close_can k was whole closes = close_can (state_of old).raw old.files old.jobs (shows old) whole tidy.across k s (subst (CanClose (state_of old)) (on_draft k was) closes)
 
--- a file is deleted or renamed, where there is one that no channel reads
+-- a file is deleted or renamed, if there is one that no channel reads
 absent : (w : World) (names : Names) → found w.files names ≡ None → has_file names (state_of w).raw.files ≡ false
 absent w names none = ap (has_file names) (files_are w) ∙ has_named w.files names ∙ ap is_some none
 

@@ -1,11 +1,11 @@
--- What putting slots where they belong comes to.
+-- The result of putting slots on the lists to which they belong.
 use Rattle.std.specs.Prelude.{◌≡◌, ◌<◌, ◌+◌, ℕ, Option, Some, None, List, [], ◌∷◌, ◌++◌, length, slice_set, refl}
 use Rattle.std.proofs.Common.{sym, ◌∙◌, ap, subst, inl, inr, arith, add-one}
 use Rattle.std.proofs.lemmas.Bool.{cases_eq}
 use Rattle.std.proofs.lemmas.List.{get_or-set_same, get_or-set_other}
 use Rattle.its_links.specs.Lists.{list_at, count, hit, first, rest}
 use Rattle.its_links.proofs.CountLaws.{hit_other, count_first}
-use Rattle.its_world.specs.Rings.{heads, StandsIn, Put, AwayFrom, lists_at, lists_to}
+use Rattle.its_world.specs.Rings.{heads, StandsIn, Put, AwayFrom, lists_at, lists_to, link_lists, link_lists_to}
 use Rattle.its_world.specs.Filed.{place_of, OnlyRings, Refiled, Resettled}
 use Rattle.its_world.proofs.PlaceLaws.{place_rings, stands_on}
 use Rattle.its_world.specs.declared.world.World.{World}
@@ -28,6 +28,7 @@ only_then old mid new a b = record {
   clock = b.clock ∙ a.clock;
   version = b.version ∙ a.version;
   symbols = b.symbols ∙ a.symbols;
+  pipes = b.pipes ∙ a.pipes;
   alarms = b.alarms ∙ a.alarms;
 }
 
@@ -45,7 +46,7 @@ settled_none old new h o same e = record {
   each = λ k. inr ((count_none k (list_at old.rings.lists h) e, tt), λ g. ap (λ l. count k (list_at l.lists g)) same);
 }
 
--- a slot of the list is taken out, the rest of the list is settled, and the slot is put where it belongs
+-- a slot of the list is taken out, the rest of the list is settled, and the slot is put on the list to which it belongs
 pub settled_some : (old mid last new : World) (h n s : ℕ) → OnlyRings old mid → h < length old.rings.lists → first (list_at old.rings.lists h) ≡ Some n
     → mid.rings ≡ record old.rings { lists = slice_set old.rings.lists h (rest (list_at old.rings.lists h)) } → s ≡ n
     → Resettled mid last (h ∷ []) → Refiled last new s → Resettled old new (h ∷ [])
@@ -100,11 +101,19 @@ settled_console a b c d e x i is p q r s = subst (λ j. Resettled a e (lists_at 
     (settled_then b c e ((10 + i) ∷ []) ((18 + i) ∷ (26 + i) ∷ []) q
     (settled_then c d e ((18 + i) ∷ []) ((26 + i) ∷ []) r s)))
 
-pub settled_start : (w : World) → Resettled w w (lists_to 0)
+pub settled_link : (a b c d : World) (x i : ℕ) → i ≡ x → Resettled a b ((34 + i) ∷ []) → Resettled b c ((50 + i) ∷ []) → Resettled c d ((66 + i) ∷ []) → Resettled a d (link_lists x)
+settled_link a b c d x i is p q r = subst (λ j. Resettled a d (link_lists j)) is
+    (settled_then a b d ((34 + i) ∷ []) ((50 + i) ∷ (66 + i) ∷ []) p
+    (settled_then b c d ((50 + i) ∷ []) ((66 + i) ∷ []) q r))
+
+pub settled_start : (w : World) → Resettled w w []
 settled_start w = record {
-  rest = record { core = refl; jobs = refl; frames = refl; consoles = refl; holders = refl; files = refl; clock = refl; version = refl; symbols = refl; alarms = refl };
+  rest = record { core = refl; jobs = refl; frames = refl; consoles = refl; holders = refl; files = refl; clock = refl; version = refl; symbols = refl; pipes = refl; alarms = refl };
   each = λ k. inr (tt, λ h. refl);
 }
 
 pub settled_more : (old mid new : World) (c : ℕ) → Resettled old mid (lists_to c) → Resettled mid new (lists_at c) → Resettled old new (lists_to (c + 1))
 settled_more old mid new c x y = subst (λ n. Resettled old new (lists_to n)) (sym (add-one c)) (settled_then old mid new (lists_to c) (lists_at c) x y)
+
+pub settled_more_links : (old mid new : World) (l : ℕ) → Resettled old mid (link_lists_to l) → Resettled mid new (link_lists l) → Resettled old new (link_lists_to (l + 1))
+settled_more_links old mid new l x y = subst (λ n. Resettled old new (link_lists_to n)) (sym (add-one l)) (settled_then old mid new (link_lists_to l) (link_lists l) x y)

@@ -12,3 +12,4 @@ pub mod FilingLaws
 pub mod BlockedLaws
 pub mod SymbolLaws
 pub mod AlarmLaws
+pub mod LinkLaws

@@ -1,5 +1,5 @@
--- A job that is made in an empty slot, whose core is that of no job: the state that the world then stands for, and that
--- the world is tidy.
+-- A job that is made in an empty slot, whose core is that of no job: the state of the world after it, and that the
+-- world is tidy.
 use Rattle.std.specs.Prelude.{◌≡◌, ◌<◌, ◌≢◌, ℕ, Option, Some, None, []}
 use Rattle.std.proofs.Common.{sym, ◌∙◌, ap, subst, inl, inr}
 use Rattle.std.proofs.lemmas.Bool.{cases_eq}
@@ -17,6 +17,7 @@ use Rattle.its_world.specs.Made.{JobMade}
 use Rattle.its_plain.specs.OperatorClock.{clock_end}
 use Rattle.its_world.specs.Tidy.{channel_by, channel_at, Across, Tidy}
 use Rattle.its_world.specs.World.{alarm_at, raw_of, raw_at, frame_at, console_at, holder_at, mark_of, state_of, symbols_at}
+use Rattle.its_pipes.specs.Pipes.{piped}
 use Rattle.its_world.specs.declared.world.World.{World}
 use Rattle.its_parts.proofs.AcrossLaws.{across_table}
 use Rattle.its_parts.proofs.PartLaws.{fresh_closed, fresh_raw}
@@ -52,7 +53,8 @@ module _ (old new : World) (s u n : ℕ) (superior console : Option ℕ) (made :
         | inl is ↦ ap (raw_at new.files new.core new.jobs new.alarms.items) is ∙ made_here blank quiet ∙ sym (ap (changed (raw_at old.files old.core old.jobs old.alarms.items) s (Some q)) is ∙ only.here)
         | inr ne ↦ made_other k ne ∙ sym (only.others k ne)
       ]) (λ c. ap (λ l. console_at l.items c) made.consoles) (λ c. ap (λ l. holder_at l c) made.holders) (ap directory made.files) made.clock made.version
-      (λ k. ap (λ l. symbols_at l.items k) made.symbols ∙ changed_same (symbols_at old.symbols.items) s k [] nameless))
+      (λ k. ap (λ l. symbols_at l.items k) made.symbols ∙ changed_same (symbols_at old.symbols.items) s k [] nameless)
+      (λ k. ap (λ p. piped p k) made.pipes))
       (λ k. ap (λ v. frame_at v.items k) made.frames)
       (λ k. ap (λ c. clear_at c k) made.core)
       (ap mark_of made.files)
@@ -74,15 +76,15 @@ module _ (old new : World) (s u n : ℕ) (superior console : Option ℕ) (made :
           ∙ sym (ap (λ x. channel_at old.jobs x i) is ∙ ap (λ o. channel_by o i) none)
       | inr ne ↦ ap (λ o. channel_by o i) (made.job.others k ne)
     ]));
-    ringed = made_ringed old new s u n console none made.job made.frames made.consoles made.holders made.clock made.rings tidy.ringed;
+    ringed = made_ringed old new s u n console none made.job made.frames made.consoles made.holders made.clock made.pipes made.rings tidy.ringed;
     nameless = λ k h. ap (λ l. symbols_at l.items k) made.symbols ∙ elim (cases_eq k s) [
       | inl is ↦ let wrong : None ≡ Some (fresh_job u n console) = sym h ∙ ap (job_at new.jobs) is ∙ made.job.here in absurd cc
       | inr ne ↦ tidy.nameless k (sym (made.job.others k ne) ∙ h)
     ];
   }
 
--- the jobs have the limit of the raw machine; no slot has a job where none of the raw machine has; its least free slot is that of the jobs;
--- it is empty, and its core is that of no job
+-- the jobs have the limit of the raw machine; no slot has a job if none of the raw machine has; its least free slot is
+-- that of the jobs; it is empty, and its core is that of no job
 pub limit_raw : (w : World) → w.jobs.limit ≡ limit (state_of w).raw
 unfolding state_of
 limit_raw w = w.limited

@@ -1,5 +1,5 @@
--- The pages of all jobs: those of the raw machine are those of the cores; and the state that a world stands for in which
--- a reserved page was mapped.
+-- The pages of all jobs: those of the raw machine are those of the cores; and the state of a world in which a reserved
+-- page was mapped.
 use Rattle.std.specs.Prelude.{◌≡◌, ◌<◌, ℕ, true, Option, Some, None, is_some, option_map, refl}
 use Rattle.std.proofs.Common.{sym, ◌∙◌, ap, subst, inl, inr}
 use Rattle.std.proofs.lemmas.Bool.{cases_eq}
@@ -17,6 +17,7 @@ use Rattle.its_world.specs.Mapped.{PageMapped}
 use Rattle.its_plain.specs.OperatorClock.{clock_end}
 use Rattle.its_world.specs.Tidy.{Across, Tidy}
 use Rattle.its_world.specs.World.{mark_of, alarm_at, raw_of, raw_at, frame_at, console_at, holder_at, state_of, in_raw, with_frames, symbols_at}
+use Rattle.its_pipes.specs.Pipes.{piped}
 use Rattle.its_world.specs.declared.world.World.{World}
 use Rattle.its_world.proofs.PlaceLaws.{ringed_alike}
 use Rattle.its_world.proofs.StateLaws.{state_is, raw_job, changed_at, slot_at}
@@ -33,10 +34,10 @@ core_raw w k tidy = core_by w.files (core_at w.core k) (superior_at w.jobs k) (a
 pub mapped_raw : (w : World) → Tidy w → mapped (state_of w).raw ≡ pages_mapped (core_at w.core)
 mapped_raw w tidy = pages_mapped-same (core_at w.core) (λ k. core_of ((state_of w).raw.jobs k)) (record { each = λ k. core_raw w k tidy })
 
--- nor do they matter to what holds of the world besides
+-- nor do they matter to what else holds of the world
 pub frames_tidy : (w : World) (f : Frames) → Tidy (with_frames w f) → Tidy w
 unfolding core_at
-frames_tidy w f tidy = record { blank = tidy.blank; quiet = tidy.quiet; timed = tidy.timed; across = tidy.across; ringed = ringed_alike (with_frames w f) w refl refl refl refl refl refl tidy.ringed; nameless = tidy.nameless }
+frames_tidy w f tidy = record { blank = tidy.blank; quiet = tidy.quiet; timed = tidy.timed; across = tidy.across; ringed = ringed_alike (with_frames w f) w refl refl refl refl refl refl refl tidy.ringed; nameless = tidy.nameless }
 
 -- a job with another core
 recored : (x : Store) (b c : Core) (u : Option ℕ) (a : Option (ℕ × ℕ)) (h : Whole → Whole) (o : Option Job) → ((i : Job) → h (raw_job x b i u a) ≡ raw_job x c i u a)
@@ -46,8 +47,8 @@ recored x b c u a h None e = refl
 
 pub mapped_becomes : (old new : World) (s t k : ℕ) (c : Core) → Only (core_at old.core) (core_at new.core) t c → Only (clear_at old.core) (clear_at new.core) s None
     → new.core.frames ≡ frames_map s t k old.core.frames
-    → new.jobs ≡ old.jobs → new.frames ≡ old.frames → new.consoles ≡ old.consoles → new.holders ≡ old.holders → new.files ≡ old.files → new.clock ≡ old.clock → new.rings ≡ old.rings → new.version ≡ old.version → new.symbols ≡ old.symbols → new.alarms ≡ old.alarms → PageMapped old new s t k c
-mapped_becomes old new s t k c core reserved pages jobs frames consoles holders files clock rings version symbols alarms = record {
+    → new.jobs ≡ old.jobs → new.frames ≡ old.frames → new.consoles ≡ old.consoles → new.holders ≡ old.holders → new.files ≡ old.files → new.clock ≡ old.clock → new.rings ≡ old.rings → new.version ≡ old.version → new.symbols ≡ old.symbols → new.pipes ≡ old.pipes → new.alarms ≡ old.alarms → PageMapped old new s t k c
+mapped_becomes old new s t k c core reserved pages jobs frames consoles holders files clock rings version symbols pipes alarms = record {
   core = core;
   reserved = reserved;
   pages = pages;
@@ -60,6 +61,7 @@ mapped_becomes old new s t k c core reserved pages jobs frames consoles holders 
   rings = rings;
   version = version;
   symbols = symbols;
+  pipes = pipes;
   alarms = alarms;
 }
 
@@ -77,7 +79,7 @@ module _ (old new : World) (s t n : ℕ) (c : Core) (page : PageMapped old new s
       (machine_is _ _ (slot_at _ _ t h
       (raw_alike t ∙ ap (λ d. raw_of old.files d (superior_at old.jobs t) (alarm_at old.alarms.items t) (job_at old.jobs t)) page.core.here ∙ recored old.files (core_at old.core t) c (superior_at old.jobs t) (alarm_at old.alarms.items t) h (job_at old.jobs t) e)
       (λ k ne. raw_alike k ∙ ap (λ d. raw_of old.files d (superior_at old.jobs k) (alarm_at old.alarms.items k) (job_at old.jobs k)) (page.core.others k ne)))
-      (λ k. ap (λ l. console_at l.items k) page.consoles) (λ k. ap (λ l. holder_at l k) page.holders) (ap directory page.files) page.clock page.version (λ k. ap (λ l. symbols_at l.items k) page.symbols))
+      (λ k. ap (λ l. console_at l.items k) page.consoles) (λ k. ap (λ l. holder_at l k) page.holders) (ap directory page.files) page.clock page.version (λ k. ap (λ l. symbols_at l.items k) page.symbols) (λ k. ap (λ p. piped p k) page.pipes))
       (λ k. ap (λ l. frame_at l.items k) page.frames)
       (changed_at _ _ s None page.reserved.here page.reserved.others)
       (ap mark_of page.files)
@@ -91,6 +93,6 @@ module _ (old new : World) (s t n : ℕ) (c : Core) (page : PageMapped old new s
     quiet = λ k none. ap (λ l. alarm_at l.items k) page.alarms ∙ tidy.quiet k (sym (ap (λ (u : Table). job_at u k) page.jobs) ∙ none);
     timed = subst (λ t. t < clock_end) (sym page.clock) tidy.timed;
     across = subst (λ (x : Store). Across x new.jobs) (sym page.files) (subst (Across old.files) (sym page.jobs) tidy.across);
-    ringed = ringed_alike old new page.jobs page.frames page.consoles page.holders page.clock page.rings tidy.ringed;
+    ringed = ringed_alike old new page.jobs page.frames page.consoles page.holders page.clock page.pipes page.rings tidy.ringed;
     nameless = λ k none. ap (λ l. symbols_at l.items k) page.symbols ∙ tidy.nameless k (sym (ap (λ (u : Table). job_at u k) page.jobs) ∙ none);
   }

@@ -81,7 +81,7 @@ pub record PartMade (s t : Store) (m : Mark) (p : Part) (ps : List Part) : Type 
   pub files : directory t ≡ part_made m.draft p (directory s)
   pub mark : mark_of t ≡ rest_marked m ps
 
--- the parts behind the link of a draft
+-- the parts after the link of a draft
 abbrev pub parts_behind : Option ℕ → List Part
 parts_behind None = []
 parts_behind (Some old) = FreeOld ∷ []
@@ -190,7 +190,7 @@ module _ (s : Store) (whole : IsStore s) where
     pub freed_part : PartMade s (freed s) (record { owner = owner; draft = last_file s; parts = FreeOld ∷ [] }) FreeOld []
     freed_part = record { files = freed_directory; mark = none_marked (freed s) (ap (λ t. t.mark) freed_is) }
 
--- the first part that is owed, whichever it is
+-- the first pending part, whichever it is
 moved : (s : Store) (k m : Mark) (q p : Part) (qs ps : List Part) → PartMade s (made q s) k q qs → k ≡ m → q ∷ qs ≡ p ∷ ps → PartMade s (made p s) m p ps
 moved s k m q p qs ps h e f =
     let a : q ≡ p = cc in
@@ -228,7 +228,7 @@ part_step s whole w m p ps marked files e f =
     ∙ (λ i. with_part (Some (record m { parts = f i })) w)
     ∙ sym (λ i. record w { raw = record w.raw { files = k i }; mark = r i })
 
--- all that is owed
+-- all that is pending
 rest_helped : (m : Mark) (ps : List Part) (fs : List File) → helped (rest_marked m ps) fs ≡ parts_made m.draft ps fs
 unfolding helped
 rest_helped m [] fs = refl

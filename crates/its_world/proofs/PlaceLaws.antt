@@ -1,8 +1,8 @@
--- Where slots belong among the lists of those that wait, as parts of a world are written; all else keeps each slot in the
--- list in which it belongs. No other file reasons on places.
+-- The lists to which slots belong, as parts of a world are written; all else keeps each slot on the list to which it
+-- belongs. No other file reasons on places.
 use Rattle.std.specs.Prelude.{◌≡◌, ◌≢◌, ◌<◌, ◌⊎◌, ◌&&◌, ◌+◌, ℕ, zero, suc, Bool, true, false, Option, Some, None, IfSome, List, [], ◌∷◌, ◌++◌, length, nat_lt, unwrap_or, refl}
 use Rattle.std.proofs.Common.{sym, ◌∙◌, ap, subst, inl, inr, arith}
-use Rattle.std.proofs.lemmas.Bool.{cases_eq, cases_Bool}
+use Rattle.std.proofs.lemmas.Bool.{cases_eq, cases_Bool, ltb-true, lt-ltb}
 use Rattle.std.proofs.lemmas.Bool.Decides.{nat_tests}
 use Rattle.its_links.specs.Lists.{list_at, count}
 use Rattle.its_links.proofs.CountLaws.{hit_same}
@@ -13,17 +13,21 @@ use Rattle.its_word.specs.declared.jobs.Channel.TheVariants as channels
 use Rattle.its_word.specs.declared.jobs.Job.{Job}
 use Rattle.its_jobs.specs.Table.{job_at}
 use Rattle.its_frame.specs.declared.decision.Wait.{Wait}
-use Rattle.its_frame.specs.declared.decision.Wait.TheVariants.{Hang, Clock, Input, Output, Drained}
+use Rattle.its_frame.specs.declared.decision.Wait.TheVariants.{Hang, Clock, Input, Output, Drained, Empty, Room}
 use Rattle.its_frame.specs.declared.frame.Frame.{Frame}
 use Rattle.its_frame.specs.declared.name.CallName.{CallName}
 use Rattle.its_frame.specs.declared.name.CallName.TheVariants as calls
+use Rattle.its_plain.specs.CallLink.{is_dry, is_crowded}
 use Rattle.its_plain.specs.Machine.{Shut}
+use Rattle.its_plain.specs.Moves.{Device, AtConsole, AtLink}
 use Rattle.its_plain.specs.Decide.{call_named}
 use Rattle.its_frame.specs.declared.frame.Frame.TheVariants.{Entered, Parsed, Asked, Holding, Waiting, Moving, Ending}
 use Rattle.its_plain.specs.Arguments.{input}
 use Rattle.its_plain.specs.Reasons.{Doors, held_up, reason_by}
+use Rattle.its_word.specs.Links.{most_links}
+use Rattle.its_pipes.specs.Pipes.{piped}
 use Rattle.its_parts.proofs.PartLaws.{all_closed}
-use Rattle.its_world.specs.Rings.{heads, awake_of, console_in, place_at, mark, StandsIn, AwayFrom, lists_at, lists_to}
+use Rattle.its_world.specs.Rings.{heads, awake_of, post_of, is_within, Within, place_at, mark, StandsIn, AwayFrom, lists_at, lists_to, link_lists, link_lists_to, lists_of}
 use Rattle.its_world.specs.Filed.{frame_at, console_at, holder_at, kind_of, channel_of, wait_reason, if_within, place_for, place_by, doors_of, place_of, Ringed, OnlyRings, Refiled, Resettled, SlotWritten, DoorsWritten}
 use Rattle.its_world.specs.declared.world.World.{World}
 
@@ -35,17 +39,17 @@ place_none w k none = ap (place_by (doors_of w) k (job_at w.jobs k)) none
 -- what a place looks at
 pub place_alike : (old new : World) (k : ℕ) → job_at new.jobs k ≡ job_at old.jobs k → frame_at new.frames.items k ≡ frame_at old.frames.items k
     → ((c : ℕ) → console_at new.consoles.items c ≡ console_at old.consoles.items c) → ((c : ℕ) → holder_at new.holders c ≡ holder_at old.holders c)
-    → new.clock ≡ old.clock → place_of new k ≡ place_of old k
+    → new.clock ≡ old.clock → ((l : ℕ) → piped new.pipes l ≡ piped old.pipes l) → place_of new k ≡ place_of old k
 unfolding place_of
-place_alike old new k job frame consoles holders clock =
-    λ t. place_by (record { consoles = λ c. consoles c t; holders = λ c. holders c t; clock = clock t }) k (job t) (frame t)
+place_alike old new k job frame consoles holders clock links =
+    λ t. place_by (record { consoles = λ c. consoles c t; holders = λ c. holders c t; clock = clock t; links = λ l. links l t }) k (job t) (frame t)
 
 pub place_rings : (old new : World) → OnlyRings old new → (k : ℕ) → place_of new k ≡ place_of old k
 place_rings old new o k =
-    place_alike old new k (ap (λ t. job_at t k) o.jobs) (ap (λ f. frame_at f.items k) o.frames) (λ c. ap (λ l. console_at l.items c) o.consoles) (λ c. ap (λ l. holder_at l c) o.holders) o.clock
+    place_alike old new k (ap (λ t. job_at t k) o.jobs) (ap (λ f. frame_at f.items k) o.frames) (λ c. ap (λ l. console_at l.items c) o.consoles) (λ c. ap (λ l. holder_at l c) o.holders) o.clock (λ l. ap (λ p. piped p l) o.pipes)
 
 -- a place is the head of a list
-within_at : (r : Wait) (b : Bool) → console_in r < 8 → IfSome (place_at r b) (λ h. h < heads)
+within_at : (r : Wait) (b : Bool) → Within r → IfSome (place_at r b) (λ h. h < heads)
 within_at Hang true l = omega arith
 within_at Hang false l = tt
 within_at Clock true l = omega arith
@@ -56,13 +60,36 @@ within_at (Output c) true l = omega arith
 within_at (Output c) false l = omega arith
 within_at (Drained c) true l = omega arith
 within_at (Drained c) false l = omega arith
+within_at (Empty n) true l = omega arith
+within_at (Empty n) false l = omega arith
+within_at (Room n) true l = omega arith
+within_at (Room n) false l = omega arith
+
+-- a reason is at a console or a link that there is
+pub within_is : (r : Wait) → is_within r ≡ true → Within r
+within_is Hang h = tt
+within_is Clock h = tt
+within_is (Input c) h = ltb-true c 8 h
+within_is (Output c) h = ltb-true c 8 h
+within_is (Drained c) h = ltb-true c 8 h
+within_is (Empty l) h = ltb-true l most_links h
+within_is (Room l) h = ltb-true l most_links h
+
+pub is_within_so : (r : Wait) → Within r → is_within r ≡ true
+is_within_so Hang h = refl
+is_within_so Clock h = refl
+is_within_so (Input c) h = lt-ltb c 8 h
+is_within_so (Output c) h = lt-ltb c 8 h
+is_within_so (Drained c) h = lt-ltb c 8 h
+is_within_so (Empty l) h = lt-ltb l most_links h
+is_within_so (Room l) h = lt-ltb l most_links h
 
 within_if : (b : Bool) (p : Option ℕ) → (b ≡ true → IfSome p (λ h. h < heads)) → IfSome (if_within b p) (λ h. h < heads)
 within_if true p h = h refl
 within_if false p h = tt
 
 within_for : (d : Doors) (k n : ℕ) (r : Option Wait) → IfSome (place_for d k n r) (λ h. h < heads)
-within_for d k n (Some r) = within_if (nat_lt (console_in r) 8) (place_at r (held_up d k n r)) (λ t. let l : console_in r < 8 = grind (arith, nat_tests) in within_at r (held_up d k n r) l)
+within_for d k n (Some r) = within_if (is_within r) (place_at r (held_up d k n r)) (λ t. within_at r (held_up d k n r) (within_is r t))
 within_for d k n None = tt
 
 within_by : (d : Doors) (k : ℕ) (o : Option Job) (f : Option Frame) → IfSome (place_by d k o f) (λ h. h < heads)
@@ -76,21 +103,21 @@ place_within w k = within_by (doors_of w) k (job_at w.jobs k) (frame_at w.frames
 pub place_lists : (w : World) (k : ℕ) (p : Option ℕ) → p ≡ place_of w k → IfSome p (λ h. h < length w.rings.lists)
 place_lists w k p e = subst (λ o. IfSome o (λ h. h < length w.rings.lists)) (sym e) (subst (λ n. IfSome (place_of w k) (λ h. h < n)) (sym w.ring_lists) (place_within w k))
 
--- a slot that stands as it stood
+-- a slot at the same place as before
 pub stands_on : (old new : List (List ℕ)) (k : ℕ) (p q : Option ℕ) → ((h : ℕ) → count k (list_at new h) ≡ count k (list_at old h)) → q ≡ p → StandsIn old k p → StandsIn new k q
 stands_on old new k p q same e s = record { at = λ h. same h ∙ s.at h ∙ ap (λ o. mark o h) (sym e) }
 
 -- nothing that a place looks at is written
-pub ringed_alike : (old new : World) → new.jobs ≡ old.jobs → new.frames ≡ old.frames → new.consoles ≡ old.consoles → new.holders ≡ old.holders → new.clock ≡ old.clock → new.rings ≡ old.rings
+pub ringed_alike : (old new : World) → new.jobs ≡ old.jobs → new.frames ≡ old.frames → new.consoles ≡ old.consoles → new.holders ≡ old.holders → new.clock ≡ old.clock → new.pipes ≡ old.pipes → new.rings ≡ old.rings
     → Ringed old → Ringed new
-ringed_alike old new jobs frames consoles holders clock rings r = record {
+ringed_alike old new jobs frames consoles holders clock pipes rings r = record {
   each = λ k. stands_on old.rings.lists new.rings.lists k (place_of old k) (place_of new k)
       (λ h. ap (λ l. count k (list_at l.lists h)) rings)
-      (place_alike old new k (ap (λ t. job_at t k) jobs) (ap (λ f. frame_at f.items k) frames) (λ c. ap (λ l. console_at l.items c) consoles) (λ c. ap (λ l. holder_at l c) holders) clock)
+      (place_alike old new k (ap (λ t. job_at t k) jobs) (ap (λ f. frame_at f.items k) frames) (λ c. ap (λ l. console_at l.items c) consoles) (λ c. ap (λ l. holder_at l c) holders) clock (λ l. ap (λ p. piped p l) pipes))
       (r.each k);
 }
 
--- no job waits where none has a frame
+-- no job waits if none has a frame
 pub idle_ringed : (old new : World) → Ringed old → ((k : ℕ) → frame_at old.frames.items k ≡ None) → new.frames ≡ old.frames → new.rings ≡ old.rings → Ringed new
 idle_ringed old new r none frames rings = record {
   each = λ k. stands_on old.rings.lists new.rings.lists k (place_of old k) (place_of new k) (λ h. ap (λ l. count k (list_at l.lists h)) rings)
@@ -98,16 +125,16 @@ idle_ringed old new r none frames rings = record {
 }
 
 -- the table of jobs is another, with the same jobs
-pub ringed_jobs : (old new : World) → Same (job_at old.jobs) (job_at new.jobs) → new.frames ≡ old.frames → new.consoles ≡ old.consoles → new.holders ≡ old.holders → new.clock ≡ old.clock → new.rings ≡ old.rings
+pub ringed_jobs : (old new : World) → Same (job_at old.jobs) (job_at new.jobs) → new.frames ≡ old.frames → new.consoles ≡ old.consoles → new.holders ≡ old.holders → new.clock ≡ old.clock → new.pipes ≡ old.pipes → new.rings ≡ old.rings
     → Ringed old → Ringed new
-ringed_jobs old new jobs frames consoles holders clock rings r = record {
+ringed_jobs old new jobs frames consoles holders clock pipes rings r = record {
   each = λ k. stands_on old.rings.lists new.rings.lists k (place_of old k) (place_of new k)
       (λ h. ap (λ l. count k (list_at l.lists h)) rings)
-      (place_alike old new k (jobs.each k) (ap (λ f. frame_at f.items k) frames) (λ c. ap (λ l. console_at l.items c) consoles) (λ c. ap (λ l. holder_at l c) holders) clock)
+      (place_alike old new k (jobs.each k) (ap (λ f. frame_at f.items k) frames) (λ c. ap (λ l. console_at l.items c) consoles) (λ c. ap (λ l. holder_at l c) holders) clock (λ l. ap (λ p. piped p l) pipes))
       (r.each k);
 }
 
--- the job or the frame of one slot is written, and the slot is put where it belongs
+-- the job or the frame of one slot is written, and the slot is put on the list to which it belongs
 pub slot_ringed : (old mid new : World) (s : ℕ) (j : Option Job) (f : Option Frame) → SlotWritten old mid s j f → Refiled mid new s → Ringed old → Ringed new
 slot_ringed old mid new s j f w filed r = record {
   each = λ k. elim (cases_eq k s) [
@@ -115,18 +142,18 @@ slot_ringed old mid new s j f w filed r = record {
     | inr ne ↦ stands_on old.rings.lists new.rings.lists k (place_of old k) (place_of new k)
         (λ h. filed.others k ne h ∙ ap (λ l. count k (list_at l.lists h)) w.rings)
         (place_rings mid new filed.rest k
-        ∙ place_alike old mid k (w.job.others k ne) (w.frame.others k ne) (λ c. ap (λ l. console_at l.items c) w.consoles) (λ c. ap (λ l. holder_at l c) w.holders) w.clock)
+        ∙ place_alike old mid k (w.job.others k ne) (w.frame.others k ne) (λ c. ap (λ l. console_at l.items c) w.consoles) (λ c. ap (λ l. holder_at l c) w.holders) w.clock (λ l. ap (λ p. piped p l) w.pipes))
         (r.each k)
   ];
 }
 
 -- the job of a slot without a frame is written
 pub user_ringed : (old new : World) (s : ℕ) → ((k : ℕ) → k ≢ s → job_at new.jobs k ≡ job_at old.jobs k) → frame_at old.frames.items s ≡ None
-    → new.frames ≡ old.frames → new.consoles ≡ old.consoles → new.holders ≡ old.holders → new.clock ≡ old.clock → new.rings ≡ old.rings → Ringed old → Ringed new
-user_ringed old new s others none frames consoles holders clock rings r = record {
+    → new.frames ≡ old.frames → new.consoles ≡ old.consoles → new.holders ≡ old.holders → new.clock ≡ old.clock → new.pipes ≡ old.pipes → new.rings ≡ old.rings → Ringed old → Ringed new
+user_ringed old new s others none frames consoles holders clock pipes rings r = record {
   each = λ k. stands_on old.rings.lists new.rings.lists k (place_of old k) (place_of new k) (λ h. ap (λ l. count k (list_at l.lists h)) rings) (elim (cases_eq k s) [
     | inl e ↦ place_none new k (ap (λ f. frame_at f.items k) frames ∙ ap (frame_at old.frames.items) e ∙ none) ∙ sym (place_none old k (ap (frame_at old.frames.items) e ∙ none))
-    | inr ne ↦ place_alike old new k (others k ne) (ap (λ f. frame_at f.items k) frames) (λ c. ap (λ l. console_at l.items c) consoles) (λ c. ap (λ l. holder_at l c) holders) clock
+    | inr ne ↦ place_alike old new k (others k ne) (ap (λ f. frame_at f.items k) frames) (λ c. ap (λ l. console_at l.items c) consoles) (λ c. ap (λ l. holder_at l c) holders) clock (λ l. ap (λ p. piped p l) pipes)
   ]) (r.each k);
 }
 
@@ -153,10 +180,10 @@ fresh_place d k u n console (Some (Waiting f)) = ap (place_for d k (input f.ask 
 fresh_place d k u n console _ = refl
 
 pub made_ringed : (old new : World) (s u n : ℕ) (console : Option ℕ) → job_at old.jobs s ≡ None → Only (job_at old.jobs) (job_at new.jobs) s (Some (fresh_job u n console))
-    → new.frames ≡ old.frames → new.consoles ≡ old.consoles → new.holders ≡ old.holders → new.clock ≡ old.clock → new.rings ≡ old.rings → Ringed old → Ringed new
+    → new.frames ≡ old.frames → new.consoles ≡ old.consoles → new.holders ≡ old.holders → new.clock ≡ old.clock → new.pipes ≡ old.pipes → new.rings ≡ old.rings → Ringed old → Ringed new
 unfolding place_of
-made_ringed old new s u n console none job frames consoles holders clock rings r =
-    let doors : doors_of new ≡ doors_of old = λ t. record { consoles = console_at (consoles t).items; holders = holder_at (holders t); clock = clock t } in
+made_ringed old new s u n console none job frames consoles holders clock pipes rings r =
+    let doors : doors_of new ≡ doors_of old = λ t. record { consoles = console_at (consoles t).items; holders = holder_at (holders t); clock = clock t; links = piped (pipes t) } in
     record {
       each = λ k. stands_on old.rings.lists new.rings.lists k (place_of old k) (place_of new k) (λ h. ap (λ l. count k (list_at l.lists h)) rings) (elim (cases_eq k s) [
         | inl e ↦
@@ -166,23 +193,32 @@ made_ringed old new s u n console none job frames consoles holders clock rings r
             ∙ ap (λ d. place_by d k None (frame_at new.frames.items k)) doors
             ∙ ap (λ f. place_by (doors_of old) k None (frame_at f.items k)) frames
             ∙ ap (λ o. place_by (doors_of old) k o (frame_at old.frames.items k)) (sym (ap (job_at old.jobs) e ∙ none))
-        | inr ne ↦ place_alike old new k (job.others k ne) (ap (λ f. frame_at f.items k) frames) (λ c. ap (λ l. console_at l.items c) consoles) (λ c. ap (λ l. holder_at l c) holders) clock
+        | inr ne ↦ place_alike old new k (job.others k ne) (ap (λ f. frame_at f.items k) frames) (λ c. ap (λ l. console_at l.items c) consoles) (λ c. ap (λ l. holder_at l c) holders) clock (λ l. ap (λ p. piped p l) pipes)
       ]) (r.each k);
     }
 
--- what a slot that stands away from some lists cannot belong in
+-- a slot that is not on a list does not belong to it
 away : (lists : List (List ℕ)) (k g : ℕ) → StandsIn lists k (Some g) → count k (list_at lists g) ≡ 0 → ⊥
 away lists k g s none = let a = s.at g in let b = hit_same g in omega arith
 
-away_at : (lists : List (List ℕ)) (k c : ℕ) (r : Wait) (b : Bool) → console_in r ≡ c → (awake_of r ≡ Some (26 + c)) → AwayFrom lists k (lists_at c) → StandsIn lists k (place_at r b) → ⊥
-away_at lists k c Hang b e at none s = cc
-away_at lists k c Clock b e at none s = cc
-away_at lists k c (Input x) true e at none s = away lists k (2 + c) (subst (λ i. StandsIn lists k (Some (2 + i))) e s) none.0
-away_at lists k c (Output x) true e at none s = away lists k (10 + c) (subst (λ i. StandsIn lists k (Some (10 + i))) e s) none.1.0
-away_at lists k c (Drained x) true e at none s = away lists k (18 + c) (subst (λ i. StandsIn lists k (Some (18 + i))) e s) none.1.1.0
-away_at lists k c _ false e at none s = away lists k (26 + c) (subst (λ i. StandsIn lists k (Some (26 + i))) e s) none.1.1.1.0
+same_post : (lists : List (List ℕ)) (k : ℕ) (q p : Device) → Some q ≡ Some p → AwayFrom lists k (lists_of p) → AwayFrom lists k (lists_of q)
+same_post lists k q p e none = let same : q ≡ p = cc in subst (λ d. AwayFrom lists k (lists_of d)) (sym same) none
 
--- a slot keeps its place that is held up as before, or cannot have stood there
+away_at : (lists : List (List ℕ)) (k : ℕ) (p : Device) (r : Wait) (b : Bool) → post_of r ≡ Some p → AwayFrom lists k (lists_of p) → StandsIn lists k (place_at r b) → ⊥
+away_at lists k p Hang b e none s = cc
+away_at lists k p Clock b e none s = cc
+away_at lists k p (Input c) true e none s = away lists k (2 + c) s (same_post lists k (AtConsole c) p e none).0
+away_at lists k p (Output c) true e none s = away lists k (10 + c) s (same_post lists k (AtConsole c) p e none).1.0
+away_at lists k p (Drained c) true e none s = away lists k (18 + c) s (same_post lists k (AtConsole c) p e none).1.1.0
+away_at lists k p (Empty l) true e none s = away lists k (34 + l) s (same_post lists k (AtLink l) p e none).0
+away_at lists k p (Room l) true e none s = away lists k (50 + l) s (same_post lists k (AtLink l) p e none).1.0
+away_at lists k p (Input c) false e none s = away lists k (26 + c) s (same_post lists k (AtConsole c) p e none).1.1.1.0
+away_at lists k p (Output c) false e none s = away lists k (26 + c) s (same_post lists k (AtConsole c) p e none).1.1.1.0
+away_at lists k p (Drained c) false e none s = away lists k (26 + c) s (same_post lists k (AtConsole c) p e none).1.1.1.0
+away_at lists k p (Empty l) false e none s = away lists k (66 + l) s (same_post lists k (AtLink l) p e none).1.1.0
+away_at lists k p (Room l) false e none s = away lists k (66 + l) s (same_post lists k (AtLink l) p e none).1.1.0
+
+-- a slot keeps its place: it is held up as before, or it cannot have been at the place that it had before
 abbrev pub Keeps : Doors → Doors → List (List ℕ) → ℕ → ℕ → Wait → Type 0
 Keeps d e lists k n r = (held_up e k n r ≡ held_up d k n r) ⊎ (StandsIn lists k (place_at r (held_up d k n r)) → ⊥)
 
@@ -191,17 +227,18 @@ kept_if : (d e : Doors) (lists : List (List ℕ)) (k n : ℕ) (r : Wait) (b : Bo
 kept_if d e lists k n r true keeps s = elim (keeps refl) [ inl same ↦ ap (place_at r) same | inr wrong ↦ absurd (wrong s) ]
 kept_if d e lists k n r false keeps s = refl
 
-kept_for : (d e : Doors) (lists : List (List ℕ)) (k n : ℕ) (o : Option Wait) → ((r : Wait) → console_in r < 8 → Keeps d e lists k n r) → StandsIn lists k (place_for d k n o) → place_for e k n o ≡ place_for d k n o
-kept_for d e lists k n (Some r) keeps s = kept_if d e lists k n r (nat_lt (console_in r) 8) (λ t. keeps r (let l : console_in r < 8 = grind (arith, nat_tests) in l)) s
+kept_for : (d e : Doors) (lists : List (List ℕ)) (k n : ℕ) (o : Option Wait) → ((r : Wait) → Within r → Keeps d e lists k n r) → StandsIn lists k (place_for d k n o) → place_for e k n o ≡ place_for d k n o
+kept_for d e lists k n (Some r) keeps s = kept_if d e lists k n r (is_within r) (λ t. keeps r (within_is r t)) s
 kept_for d e lists k n None keeps s = refl
 
-kept_by : (d e : Doors) (lists : List (List ℕ)) (k : ℕ) (o : Option Job) (f : Option Frame) → ((n : ℕ) (r : Wait) → console_in r < 8 → Keeps d e lists k n r) → StandsIn lists k (place_by d k o f) → place_by e k o f ≡ place_by d k o f
+kept_by : (d e : Doors) (lists : List (List ℕ)) (k : ℕ) (o : Option Job) (f : Option Frame) → ((n : ℕ) (r : Wait) → Within r → Keeps d e lists k n r) → StandsIn lists k (place_by d k o f) → place_by e k o f ≡ place_by d k o f
 kept_by d e lists k o (Some (Waiting f)) keeps s = kept_for d e lists k (input f.ask 0) (wait_reason o f.ask) (keeps (input f.ask 0)) s
 kept_by d e lists k o _ keeps s = refl
 
--- consoles, holders or the clock are written, jobs without frames too, and each slot of these lists is put where it belongs
+-- consoles, holders, links or the clock are written, jobs without frames too, and each slot of these lists is put on the list
+-- to which it belongs
 settled_ringed : (old mid new : World) (hs : List ℕ) → ((k : ℕ) → (job_at mid.jobs k ≡ job_at old.jobs k) ⊎ (frame_at old.frames.items k ≡ None)) → mid.frames ≡ old.frames → mid.rings ≡ old.rings
-    → ((k n : ℕ) (r : Wait) → console_in r < 8 → AwayFrom old.rings.lists k hs → Keeps (doors_of old) (doors_of mid) old.rings.lists k n r)
+    → ((k n : ℕ) (r : Wait) → Within r → AwayFrom old.rings.lists k hs → Keeps (doors_of old) (doors_of mid) old.rings.lists k n r)
     → Resettled mid new hs → Ringed old → Ringed new
 unfolding place_of
 settled_ringed old mid new hs jobs frames rings keeps settled r = record {
@@ -219,44 +256,55 @@ settled_ringed old mid new hs jobs frames rings keeps settled r = record {
   ];
 }
 
--- of one console
-pub door_ringed : (old mid new : World) (c : ℕ) → ((k : ℕ) → k ≢ c → console_at mid.consoles.items k ≡ console_at old.consoles.items k) → ((k : ℕ) → k ≢ c → holder_at mid.holders k ≡ holder_at old.holders k) → DoorsWritten old mid
-    → Resettled mid new (lists_at c) → Ringed old → Ringed new
-door_ringed old mid new c consoles holders w = settled_ringed old mid new (lists_at c) (λ k. inl (ap (λ t. job_at t k) w.jobs)) w.frames w.rings keeps
+-- two posts are the same or not
+cases_post : (p q : Device) → (p ≡ q) ⊎ (p ≢ q)
+cases_post (AtConsole c) (AtConsole d) = elim (cases_eq c d) [ inl e ↦ inl (ap AtConsole e) | inr ne ↦ inr (λ h. ne cc) ]
+cases_post (AtLink l) (AtLink m) = elim (cases_eq l m) [ inl e ↦ inl (ap AtLink e) | inr ne ↦ inr (λ h. ne cc) ]
+cases_post (AtConsole c) (AtLink l) = inr (λ h. cc)
+cases_post (AtLink l) (AtConsole c) = inr (λ h. cc)
+
+-- of one console or one link
+pub post_ringed : (old mid new : World) (p : Device) → ((c : ℕ) → AtConsole c ≢ p → console_at mid.consoles.items c ≡ console_at old.consoles.items c) → ((c : ℕ) → AtConsole c ≢ p → holder_at mid.holders c ≡ holder_at old.holders c)
+    → ((l : ℕ) → AtLink l ≢ p → piped mid.pipes l ≡ piped old.pipes l) → DoorsWritten old mid → Resettled mid new (lists_of p) → Ringed old → Ringed new
+post_ringed old mid new p consoles holders links w = settled_ringed old mid new (lists_of p) (λ k. inl (ap (λ t. job_at t k) w.jobs)) w.frames w.rings keeps
   where
-    at_console : (k n : ℕ) (r : Wait) (i : ℕ) → console_in r ≡ i → awake_of r ≡ Some (26 + i) → (i ≢ c → held_up (doors_of mid) k n r ≡ held_up (doors_of old) k n r) → AwayFrom old.rings.lists k (lists_at c)
+    at_post : (k n : ℕ) (r : Wait) (q : Device) → post_of r ≡ Some q → (q ≢ p → held_up (doors_of mid) k n r ≡ held_up (doors_of old) k n r) → AwayFrom old.rings.lists k (lists_of p)
         → Keeps (doors_of old) (doors_of mid) old.rings.lists k n r
-    at_console k n r i is at same none = elim (cases_eq i c) [
-      | inl e ↦ inr (away_at old.rings.lists k c r (held_up (doors_of old) k n r) (is ∙ e) (at ∙ ap (λ j. Some (26 + j)) e) none)
+    at_post k n r q is same none = elim (cases_post q p) [
+      | inl e ↦ inr (away_at old.rings.lists k p r (held_up (doors_of old) k n r) (is ∙ ap Some e) none)
       | inr ne ↦ inl (same ne)
     ]
 
-    keeps : (k n : ℕ) (r : Wait) → console_in r < 8 → AwayFrom old.rings.lists k (lists_at c) → Keeps (doors_of old) (doors_of mid) old.rings.lists k n r
+    keeps : (k n : ℕ) (r : Wait) → Within r → AwayFrom old.rings.lists k (lists_of p) → Keeps (doors_of old) (doors_of mid) old.rings.lists k n r
     keeps k n Hang l none = inl refl
     keeps k n Clock l none = inl (ap (λ t. held_up (record (doors_of old) { clock = t }) k n Clock) w.clock)
-    keeps k n (Input i) l none = at_console k n (Input i) i refl refl (λ ne. λ t. held_up (record { consoles = λ _. consoles i ne t; holders = λ _. holders i ne t; clock = 0 }) k n (Input 0)) none
-    keeps k n (Output i) l none = at_console k n (Output i) i refl refl (λ ne. λ t. held_up (record { consoles = λ _. consoles i ne t; holders = λ _. holders i ne t; clock = 0 }) k n (Output 0)) none
-    keeps k n (Drained i) l none = at_console k n (Drained i) i refl refl (λ ne. λ t. held_up (record { consoles = λ _. consoles i ne t; holders = λ _. holders i ne t; clock = 0 }) k n (Drained 0)) none
+    keeps k n (Input i) l none = at_post k n (Input i) (AtConsole i) refl (λ ne. λ t. held_up (record { consoles = λ _. consoles i ne t; holders = λ _. holders i ne t; clock = 0; links = λ _. None }) k n (Input 0)) none
+    keeps k n (Output i) l none = at_post k n (Output i) (AtConsole i) refl (λ ne. λ t. held_up (record { consoles = λ _. consoles i ne t; holders = λ _. holders i ne t; clock = 0; links = λ _. None }) k n (Output 0)) none
+    keeps k n (Drained i) l none = at_post k n (Drained i) (AtConsole i) refl (λ ne. λ t. held_up (record { consoles = λ _. consoles i ne t; holders = λ _. holders i ne t; clock = 0; links = λ _. None }) k n (Drained 0)) none
+    keeps k n (Empty i) l none = at_post k n (Empty i) (AtLink i) refl (λ ne. ap is_dry (links i ne)) none
+    keeps k n (Room i) l none = at_post k n (Room i) (AtLink i) refl (λ ne. ap is_crowded (links i ne)) none
 
--- the clock, which gains: a sleeper whose time has come stands in no list
+-- the clock, which gains: a sleeper whose time has come is on no list
 later_up : (a : Bool) (c m t : ℕ) → (a && nat_lt c t) ≡ false → (a && nat_lt (c + m) t) ≡ false
 later_up false c m t h = refl
 later_up true c m t h = grind (arith, nat_tests)
 
-pub clock_ringed : (old mid new : World) (m : ℕ) → mid.clock ≡ old.clock + m → mid.jobs ≡ old.jobs → mid.frames ≡ old.frames → mid.consoles ≡ old.consoles → mid.holders ≡ old.holders → mid.rings ≡ old.rings
+pub clock_ringed : (old mid new : World) (m : ℕ) → mid.clock ≡ old.clock + m → mid.jobs ≡ old.jobs → mid.frames ≡ old.frames → mid.consoles ≡ old.consoles → mid.holders ≡ old.holders → mid.pipes ≡ old.pipes → mid.rings ≡ old.rings
     → Resettled mid new (1 ∷ []) → Ringed old → Ringed new
-clock_ringed old mid new m clock jobs frames consoles holders rings = settled_ringed old mid new (1 ∷ []) (λ k. inl (ap (λ t. job_at t k) jobs)) frames rings keeps
+clock_ringed old mid new m clock jobs frames consoles holders pipes rings = settled_ringed old mid new (1 ∷ []) (λ k. inl (ap (λ t. job_at t k) jobs)) frames rings keeps
   where
     sleeper : (k n : ℕ) (b : Bool) → held_up (doors_of old) k n Clock ≡ b → count k (list_at old.rings.lists 1) ≡ 0 → Keeps (doors_of old) (doors_of mid) old.rings.lists k n Clock
     sleeper k n true e none = inr (λ s. away old.rings.lists k 1 (subst (λ b. StandsIn old.rings.lists k (place_at Clock b)) e s) none)
     sleeper k n false e none = inl (ap (λ t. held_up (record (doors_of old) { clock = t }) k n Clock) clock ∙ later_up _ old.clock m _ e ∙ sym e)
 
-    keeps : (k n : ℕ) (r : Wait) → console_in r < 8 → AwayFrom old.rings.lists k (1 ∷ []) → Keeps (doors_of old) (doors_of mid) old.rings.lists k n r
+    keeps : (k n : ℕ) (r : Wait) → Within r → AwayFrom old.rings.lists k (1 ∷ []) → Keeps (doors_of old) (doors_of mid) old.rings.lists k n r
     keeps k n Hang l none = inl refl
     keeps k n Clock l none = sleeper k n (held_up (doors_of old) k n Clock) refl none.0
-    keeps k n (Input i) l none = inl (λ t. held_up (record { consoles = console_at (consoles t).items; holders = holder_at (holders t); clock = 0 }) k n (Input i))
-    keeps k n (Output i) l none = inl (λ t. held_up (record { consoles = console_at (consoles t).items; holders = holder_at (holders t); clock = 0 }) k n (Output i))
-    keeps k n (Drained i) l none = inl (λ t. held_up (record { consoles = console_at (consoles t).items; holders = holder_at (holders t); clock = 0 }) k n (Drained i))
+    keeps k n (Input i) l none = inl (λ t. held_up (record { consoles = console_at (consoles t).items; holders = holder_at (holders t); clock = 0; links = λ _. None }) k n (Input i))
+    keeps k n (Output i) l none = inl (λ t. held_up (record { consoles = console_at (consoles t).items; holders = holder_at (holders t); clock = 0; links = λ _. None }) k n (Output i))
+    keeps k n (Drained i) l none = inl (λ t. held_up (record { consoles = console_at (consoles t).items; holders = holder_at (holders t); clock = 0; links = λ _. None }) k n (Drained i))
+    keeps k n (Empty i) l none = inl (ap (λ p. is_dry (piped p i)) pipes)
+    keeps k n (Room i) l none = inl (ap (λ p. is_crowded (piped p i)) pipes)
 
 -- of all consoles
 away_append : (lists : List (List ℕ)) (k : ℕ) (a b : List ℕ) → AwayFrom lists k (a ++ b) → AwayFrom lists k a × AwayFrom lists k b
@@ -272,14 +320,31 @@ away_to lists k (suc n) c l none =
       | inr ne ↦ away_to lists k n c (omega arith) p.0
     ]
 
--- some jobs without frames are gone, and consoles have other holders
+away_link : (lists : List (List ℕ)) (k n l : ℕ) → l < n → AwayFrom lists k (link_lists_to n) → AwayFrom lists k (link_lists l)
+away_link lists k zero l lt none = absurd (omega arith)
+away_link lists k (suc n) l lt none =
+    let p = away_append lists k (link_lists_to n) (link_lists n) none in
+    elim (cases_eq l n) [
+      | inl e ↦ subst (λ i. AwayFrom lists k (link_lists i)) (sym e) p.1
+      | inr ne ↦ away_link lists k n l (omega arith) p.0
+    ]
+
+-- some jobs without frames are gone, consoles have other holders, and links have other ends or are gone
 pub removed_ringed : (old mid new : World) → ((k : ℕ) → (job_at mid.jobs k ≡ job_at old.jobs k) ⊎ (frame_at old.frames.items k ≡ None)) → mid.frames ≡ old.frames → mid.consoles ≡ old.consoles → mid.clock ≡ old.clock → mid.rings ≡ old.rings
-    → Resettled mid new (lists_to 8) → Ringed old → Ringed new
-removed_ringed old mid new jobs frames consoles clock rings = settled_ringed old mid new (lists_to 8) jobs frames rings keeps
+    → Resettled mid new (lists_to 8 ++ link_lists_to most_links) → Ringed old → Ringed new
+removed_ringed old mid new jobs frames consoles clock rings = settled_ringed old mid new (lists_to 8 ++ link_lists_to most_links) jobs frames rings keeps
   where
-    keeps : (k n : ℕ) (r : Wait) → console_in r < 8 → AwayFrom old.rings.lists k (lists_to 8) → Keeps (doors_of old) (doors_of mid) old.rings.lists k n r
+    at_console : (k c : ℕ) → c < 8 → AwayFrom old.rings.lists k (lists_to 8 ++ link_lists_to most_links) → AwayFrom old.rings.lists k (lists_at c)
+    at_console k c l none = away_to old.rings.lists k 8 c l (away_append old.rings.lists k (lists_to 8) (link_lists_to most_links) none).0
+
+    at_link : (k l : ℕ) → l < most_links → AwayFrom old.rings.lists k (lists_to 8 ++ link_lists_to most_links) → AwayFrom old.rings.lists k (link_lists l)
+    at_link k l lt none = away_link old.rings.lists k most_links l lt (away_append old.rings.lists k (lists_to 8) (link_lists_to most_links) none).1
+
+    keeps : (k n : ℕ) (r : Wait) → Within r → AwayFrom old.rings.lists k (lists_to 8 ++ link_lists_to most_links) → Keeps (doors_of old) (doors_of mid) old.rings.lists k n r
     keeps k n Hang l none = inl refl
     keeps k n Clock l none = inl (ap (λ t. held_up (record (doors_of old) { clock = t }) k n Clock) clock)
-    keeps k n (Input i) l none = inr (away_at old.rings.lists k i (Input i) (held_up (doors_of old) k n (Input i)) refl refl (away_to old.rings.lists k 8 i l none))
-    keeps k n (Output i) l none = inr (away_at old.rings.lists k i (Output i) (held_up (doors_of old) k n (Output i)) refl refl (away_to old.rings.lists k 8 i l none))
-    keeps k n (Drained i) l none = inr (away_at old.rings.lists k i (Drained i) (held_up (doors_of old) k n (Drained i)) refl refl (away_to old.rings.lists k 8 i l none))
+    keeps k n (Input i) l none = inr (away_at old.rings.lists k (AtConsole i) (Input i) (held_up (doors_of old) k n (Input i)) refl (at_console k i l none))
+    keeps k n (Output i) l none = inr (away_at old.rings.lists k (AtConsole i) (Output i) (held_up (doors_of old) k n (Output i)) refl (at_console k i l none))
+    keeps k n (Drained i) l none = inr (away_at old.rings.lists k (AtConsole i) (Drained i) (held_up (doors_of old) k n (Drained i)) refl (at_console k i l none))
+    keeps k n (Empty i) l none = inr (away_at old.rings.lists k (AtLink i) (Empty i) (held_up (doors_of old) k n (Empty i)) refl (at_link k i l none))
+    keeps k n (Room i) l none = inr (away_at old.rings.lists k (AtLink i) (Room i) (held_up (doors_of old) k n (Room i)) refl (at_link k i l none))

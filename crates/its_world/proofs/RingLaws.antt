@@ -1,4 +1,4 @@
--- A slot that is put into a list, or taken out of the one in which it stands.
+-- A slot that is put on a list, or taken out of the list in which it is.
 use Rattle.std.specs.Prelude.{◌≡◌, ◌≢◌, ◌<◌, ◌≤◌, ◌↔◌, ℕ, ◌+◌, Bool, false, IsTrue, IfSome, Option, Some, None, List, [], ◌∷◌, ◌++◌, length, map, slice_set, refl}
 use Rattle.std.proofs.Common.{sym, ◌∙◌, ap, subst, inl, inr, arith, length-set, append_assoc}
 use Rattle.std.proofs.lemmas.Bool.{cases_eq, cases_lt, both_ways}
@@ -8,7 +8,7 @@ use Rattle.its_links.specs.Lists.{Linked, list_at, hit, count, times, without, f
 use Rattle.its_links.proofs.CountLaws.{list_at-no_lists, length-no_lists, hit_same, hit_other, count-append, count-le-times, stands, count-without_same, count-without_other, list_at-without}
 use Rattle.its_world.specs.Rings.{heads, mark, Filed, Looked, Put}
 
--- a slot that stands in no list
+-- a slot that is on no list
 pub times_none : (x : ℕ) (ls : List (List ℕ)) → ((h : ℕ) → count x (list_at ls h) ≡ 0) → times x ls ≡ 0
 times_none x ls none = elim (cases_lt 0 (times x ls)) [
   | inl lt ↦ let s = stands x ls lt in let h = s.here in let n = none s.head in absurd (omega arith)
@@ -80,7 +80,7 @@ put_some old mid new i s g p same is out lt e =
     subst (λ o. Put old new s o) (sym is) (subst (λ n. Put old new n (Some g)) same
     (put_node old mid new i g (subst (λ n. Put old mid n None) (sym same) out) (subst (λ o. IfSome o (λ h. h < length old.lists)) is lt) e))
 
--- at the start no slot stands in a list
+-- at the start no slot is on a list
 pub opened_lists : (l : Linked) (n : ℕ) → l ≡ record { nodes = n; lists = no_lists heads } → length l.lists ≡ heads
 opened_lists l n e = ap (λ (x : Linked). length x.lists) e ∙ length-no_lists heads
 
@@ -93,7 +93,7 @@ opened_filed l n place e none = record {
 pub looked_start : (lists : List (List ℕ)) (h s : ℕ) (at : Option ℕ) → at ≡ first (list_at lists h) → Looked lists h s at 0
 looked_start lists h s at e = record { before = []; after = list_at lists h; is = refl; at_is = e; none = refl; long = refl }
 
--- what is behind its first
+-- what is after its first
 first_is : (n : ℕ) (xs : List ℕ) → first xs ≡ Some n → (ys : List ℕ) × (xs ≡ n ∷ ys)
 first_is n [] e = absurd (cc)
 first_is n (x ∷ xs) e = (xs, ap (λ i. i ∷ xs) (let q : x ≡ n = cc in q))

@@ -1,4 +1,4 @@
--- What a change of one slot of a world does to the state that it stands for.
+-- What a change of one slot of a world does to its state.
 use Rattle.std.specs.Prelude.{if◌then◌else◌, ◌≡◌, ◌≢◌, ◌==◌, ℕ, Bool, true, false, Option, Some, None, option_map, refl, is_some, slice_index_or, List}
 use Rattle.std.proofs.Common.{sym, ◌∙◌, ap, subst, arith, inl, inr}
 use Rattle.std.proofs.lemmas.Bool.{cases_Bool}
@@ -15,12 +15,13 @@ use Rattle.its_word.specs.Stores.{stored}
 use Rattle.its_files.specs.Files.{directory}
 use Rattle.its_jobs.specs.Table.{job_at, superior_at}
 use Rattle.its_frame.specs.declared.frame.Frame.{Frame}
-use Rattle.its_plain.specs.Machine.{Whole, changed}
-use Rattle.its_plain.specs.Change.{on_console}
+use Rattle.its_plain.specs.Machine.{Pipe, Whole, changed}
+use Rattle.its_plain.specs.Change.{on_console, on_link}
 use Rattle.its_plain.proofs.MachineLaws.{machine_is}
 use Rattle.its_stepped.specs.Lines.{with_raw}
 use Rattle.its_stepped.specs.State.{State, turn, same, reserving}
-use Rattle.its_world.specs.World.{mark_of, alarm_at, raw_of, raw_at, frame_at, console_at, holder_at, state_of, in_raw, with_frames, Becomes, FrameBecomes, ConsoleBecomes, HolderBecomes, symbols_at}
+use Rattle.its_world.specs.World.{mark_of, alarm_at, raw_of, raw_at, frame_at, console_at, holder_at, state_of, in_raw, with_frames, Becomes, FrameBecomes, ConsoleBecomes, HolderBecomes, LinkBecomes, symbols_at}
+use Rattle.its_pipes.specs.Pipes.{piped}
 use Rattle.its_world.specs.declared.world.World.{World}
 pub use Rattle.its_parts.proofs.PartLaws.{raw_job, changed_at, slot_at}
 
@@ -65,7 +66,7 @@ pub written_state : (old new : World) (s : ℕ) (c : Core) (i j : Job) (f : Opti
     → state_of new ≡ reserving (turn (state_of old) s h f) s r
 unfolding state_of
 written_state old new s c i j f r h b job e = state_is _ _
-    (machine_is _ _ (slot_at _ _ s h (raw_here old new s c i j f r h b job e) (raw_others old new s c (Some i) f r b)) (λ k. ap (λ l. console_at l.items k) b.consoles) (λ k. ap (λ l. holder_at l k) b.holders) (ap directory b.files) b.clock b.version (λ k. ap (λ l. symbols_at l.items k) b.symbols))
+    (machine_is _ _ (slot_at _ _ s h (raw_here old new s c i j f r h b job e) (raw_others old new s c (Some i) f r b)) (λ k. ap (λ l. console_at l.items k) b.consoles) (λ k. ap (λ l. holder_at l k) b.holders) (ap directory b.files) b.clock b.version (λ k. ap (λ l. symbols_at l.items k) b.symbols) (λ k. ap (λ p. piped p k) b.pipes))
     (changed_at _ _ s f b.frame.here b.frame.others)
     (changed_at _ _ s r b.reserved.here b.reserved.others)
     (ap mark_of b.files)
@@ -75,7 +76,7 @@ pub turned_state : (old new : World) (s : ℕ) (c : Core) (i j : Job) (f : Optio
     → state_of new ≡ turn (state_of old) s h f
 unfolding state_of
 turned_state old new s c i j f h b job e = state_is _ _
-    (machine_is _ _ (slot_at _ _ s h (raw_here old new s c i j f _ h b job e) (raw_others old new s c (Some i) f _ b)) (λ k. ap (λ l. console_at l.items k) b.consoles) (λ k. ap (λ l. holder_at l k) b.holders) (ap directory b.files) b.clock b.version (λ k. ap (λ l. symbols_at l.items k) b.symbols))
+    (machine_is _ _ (slot_at _ _ s h (raw_here old new s c i j f _ h b job e) (raw_others old new s c (Some i) f _ b)) (λ k. ap (λ l. console_at l.items k) b.consoles) (λ k. ap (λ l. holder_at l k) b.holders) (ap directory b.files) b.clock b.version (λ k. ap (λ l. symbols_at l.items k) b.symbols) (λ k. ap (λ p. piped p k) b.pipes))
     (changed_at _ _ s f b.frame.here b.frame.others)
     (λ k. elim (cases_Bool (k == s)) [
       | inl t ↦ let n : k ≡ s = grind (arith, nat_tests) in ap (clear_at new.core) n ∙ b.reserved.here ∙ ap (clear_at old.core) (sym n)
@@ -83,7 +84,7 @@ turned_state old new s c i j f h b job e = state_is _ _
     ])
     (ap mark_of b.files)
 
--- the frames in which pages stand are no part of the state
+-- the frames of pages are no part of the state
 pub frames_state : (w : World) (f : Frames) → state_of (with_frames w f) ≡ state_of w
 unfolding state_of core_at reserved_at
 frames_state w f = refl
@@ -121,7 +122,7 @@ left_turn old new s j e f h b = turned_state old new s (core_at old.core s) (lef
 
 -- a frame that was taken out and another put in its place
 pub retaken : (w : State) (s : ℕ) (f g : Option Frame) (h : Whole → Whole) → turn (turn w s same f) s h g ≡ turn w s h g
-retaken w s f g h = state_is _ _ (machine_is _ _ (λ k. twice (k == s) (w.raw.jobs k)) (λ k. refl) (λ k. refl) refl refl refl (λ k. refl)) (λ k. over (k == s) (w.frames k)) (λ k. refl) refl
+retaken w s f g h = state_is _ _ (machine_is _ _ (λ k. twice (k == s) (w.raw.jobs k)) (λ k. refl) (λ k. refl) refl refl refl (λ k. refl) (λ k. refl)) (λ k. over (k == s) (w.frames k)) (λ k. refl) refl
   where
     twice : (b : Bool) (o : Option Whole) → (if b then option_map h (if b then option_map same o else o) else (if b then option_map same o else o)) ≡ (if b then option_map h o else o)
     twice true (Some q) = refl
@@ -154,7 +155,7 @@ absent_state w s h none = state_is _ _
           let e : raw_at w.files w.core w.jobs w.alarms.items k ≡ None = ap (raw_at w.files w.core w.jobs w.alarms.items) n ∙ raw_none w s none in
           rw t (e ∙ ap (option_map h) (sym e))
       | inr t ↦ rw t refl
-    ]) (λ k. refl) (λ k. refl) refl refl refl (λ k. refl))
+    ]) (λ k. refl) (λ k. refl) refl refl refl (λ k. refl) (λ k. refl))
     (λ k. refl) (λ k. refl) refl
 
 -- the same store, cores, jobs and alarms
@@ -166,17 +167,25 @@ raw_same old new files core jobs alarms k =
     ∙ ap (λ t. raw_at old.files old.core t new.alarms.items k) jobs
     ∙ ap (λ t. raw_at old.files old.core old.jobs t.items k) alarms
 
--- a console changed, and another holder of one
+-- a console changed, another holder of one, and a link changed
 pub console_state : (old new : World) (c : ℕ) (f : Console → Console) → ConsoleBecomes old new c (f (console_at old.consoles.items c))
     → state_of new ≡ with_raw (state_of old) (on_console (state_of old).raw c f)
 unfolding state_of
 console_state old new c f b = state_is _ _
-    (machine_is _ _ (raw_same old new b.files b.core b.jobs b.alarms) (changed_at _ _ c _ b.consoles.here b.consoles.others) (λ k. ap (λ l. holder_at l k) b.holders) (ap directory b.files) b.clock b.version (λ k. ap (λ l. symbols_at l.items k) b.symbols))
+    (machine_is _ _ (raw_same old new b.files b.core b.jobs b.alarms) (changed_at _ _ c _ b.consoles.here b.consoles.others) (λ k. ap (λ l. holder_at l k) b.holders) (ap directory b.files) b.clock b.version (λ k. ap (λ l. symbols_at l.items k) b.symbols) (λ k. ap (λ p. piped p k) b.pipes))
     (λ k. ap (λ l. frame_at l.items k) b.frames) (λ k. ap (λ t. clear_at t k) b.core) (ap mark_of b.files)
 
 pub holder_state : (old new : World) (c : ℕ) (h : Option ℕ) → HolderBecomes old new c h
     → state_of new ≡ with_raw (state_of old) (record (state_of old).raw { holders = changed (state_of old).raw.holders c h })
 unfolding state_of
 holder_state old new c h b = state_is _ _
-    (machine_is _ _ (raw_same old new b.files b.core b.jobs b.alarms) (λ k. ap (λ l. console_at l.items k) b.consoles) (changed_at _ _ c _ b.holders.here b.holders.others) (ap directory b.files) b.clock b.version (λ k. ap (λ l. symbols_at l.items k) b.symbols))
+    (machine_is _ _ (raw_same old new b.files b.core b.jobs b.alarms) (λ k. ap (λ l. console_at l.items k) b.consoles) (changed_at _ _ c _ b.holders.here b.holders.others) (ap directory b.files) b.clock b.version (λ k. ap (λ l. symbols_at l.items k) b.symbols) (λ k. ap (λ p. piped p k) b.pipes))
+    (λ k. ap (λ l. frame_at l.items k) b.frames) (λ k. ap (λ t. clear_at t k) b.core) (ap mark_of b.files)
+
+pub link_state : (old new : World) (l : ℕ) (f : Option Pipe → Option Pipe) → LinkBecomes old new l (f (piped old.pipes l))
+    → state_of new ≡ with_raw (state_of old) (on_link (state_of old).raw l f)
+unfolding state_of
+link_state old new l f b = state_is _ _
+    (machine_is _ _ (raw_same old new b.files b.core b.jobs b.alarms) (λ k. ap (λ l. console_at l.items k) b.consoles) (λ k. ap (λ l. holder_at l k) b.holders) (ap directory b.files) b.clock b.version (λ k. ap (λ l. symbols_at l.items k) b.symbols)
+    (changed_at _ _ l _ b.links.here b.links.others))
     (λ k. ap (λ l. frame_at l.items k) b.frames) (λ k. ap (λ t. clear_at t k) b.core) (ap mark_of b.files)

@@ -17,6 +17,7 @@ use Rattle.its_world.specs.World.{chan_of, alarm_at, raw_at, frame_at, console_a
 use Rattle.its_plain.specs.OperatorClock.{clock_end}
 use Rattle.its_world.specs.Tidy.{channel_at, Across, Tidy}
 use Rattle.its_world.specs.Storage.{HasJob, chan_in, ChannelBecomes, OnlyStore}
+use Rattle.its_pipes.specs.Pipes.{piped}
 use Rattle.its_world.specs.declared.world.World.{World}
 use Rattle.its_parts.specs.Channels.{OnlyChannel, Shows}
 use Rattle.its_parts.proofs.ChanLaws.{raw_alike, job_by, chan_by, shut_by}
@@ -41,6 +42,7 @@ channel_becomes old new s n x j was lt b = record {
   clock = b.clock;
   version = b.version;
   symbols = b.symbols;
+  pipes = b.pipes;
   alarms = b.alarms;
   files = b.files;
   ringed = b.ringed;
@@ -58,12 +60,13 @@ channel_missing w s n x none = record {
   clock = refl;
   version = refl;
   symbols = refl;
+  pipes = refl;
   alarms = refl;
   files = refl;
   ringed = λ r. r;
 }
 
--- a channel is set behind the store, or left as it is
+-- a channel is set after the store, or left as it is
 pub store_first : (old mid new : World) (s n : ℕ) (x : Channel) (t : Store) → OnlyStore old mid t → ChannelBecomes mid new s n x t → ChannelBecomes old new s n x t
 store_first old mid new s n x t o b = record {
   jobs = subst (λ j. OnlyChannel j new.jobs s n x) o.jobs b.jobs;
@@ -76,9 +79,10 @@ store_first old mid new s n x t o b = record {
   clock = b.clock ∙ o.clock;
   version = b.version ∙ o.version;
   symbols = b.symbols ∙ o.symbols;
+  pipes = b.pipes ∙ o.pipes;
   alarms = b.alarms ∙ o.alarms;
   files = b.files;
-  ringed = λ r. b.ringed (ringed_alike old mid o.jobs o.frames o.consoles o.holders o.clock o.rings r);
+  ringed = λ r. b.ringed (ringed_alike old mid o.jobs o.frames o.consoles o.holders o.clock o.pipes o.rings r);
 }
 
 pub channel_still : (old new : World) (s n : ℕ) (t : Store) → OnlyStore old new t → ChannelBecomes old new s n (channel_at old.jobs s n) t
@@ -93,13 +97,14 @@ channel_still old new s n t o = record {
   clock = o.clock;
   version = o.version;
   symbols = o.symbols;
+  pipes = o.pipes;
   alarms = o.alarms;
   files = o.files;
-  ringed = ringed_alike old new o.jobs o.frames o.consoles o.holders o.clock o.rings;
+  ringed = ringed_alike old new o.jobs o.frames o.consoles o.holders o.clock o.pipes o.rings;
 }
 
 module _ (old new : World) (s n : ℕ) (x : Channel) (t : Store) (b : ChannelBecomes old new s n x t) where
-  -- the state, where all other channels are on what they were on
+  -- the state, if all other channels are on what they were on
   pub filed_state : (g : Chan → Chan) → ((k m : ℕ) → (k ≡ s → m ≢ n) → chan_of t (channel_at new.jobs k m) ≡ chan_of old.files (channel_at old.jobs k m))
       → (is_some (job_at old.jobs s) ≡ true → chan_of t x ≡ g (chan_of old.files (channel_at old.jobs s n)))
       → state_of new ≡ record (state_of old) { raw = record (in_job (state_of old).raw s (on_channel n g)) { files = directory t }; mark = mark_of t }
@@ -107,10 +112,10 @@ module _ (old new : World) (s n : ℕ) (x : Channel) (t : Store) (b : ChannelBec
   filed_state g others here = state_is _ _
       (machine_is _ _
       (λ k. (λ i. raw_at (b.files i) new.core new.jobs (b.alarms i).items k) ∙ raw_channel old.jobs new.jobs s n x b.jobs old.files t old.core new.core old.alarms.items g b.core others here k)
-      (λ k. ap (λ l. console_at l.items k) b.consoles) (λ k. ap (λ l. holder_at l k) b.holders) (ap directory b.files) b.clock b.version (λ k. ap (λ l. symbols_at l.items k) b.symbols))
+      (λ k. ap (λ l. console_at l.items k) b.consoles) (λ k. ap (λ l. holder_at l k) b.holders) (ap directory b.files) b.clock b.version (λ k. ap (λ l. symbols_at l.items k) b.symbols) (λ k. ap (λ p. piped p k) b.pipes))
       (λ k. b.frames.each k) (λ k. b.reserved.each k) (ap mark_of b.files)
 
-  -- and where the directory and the mark are the same
+  -- and if the directory and the mark are the same
   pub channel_state : (g : Chan → Chan) → ((k m : ℕ) → (k ≡ s → m ≢ n) → chan_of t (channel_at new.jobs k m) ≡ chan_of old.files (channel_at old.jobs k m))
       → (is_some (job_at old.jobs s) ≡ true → chan_of t x ≡ g (chan_of old.files (channel_at old.jobs s n)))
       → directory t ≡ directory old.files → mark_of t ≡ mark_of old.files → state_of new ≡ in_raw (state_of old) s (on_channel n g)
@@ -129,7 +134,7 @@ module _ (old new : World) (s n : ℕ) (x : Channel) (t : Store) (b : ChannelBec
     nameless = λ k none. ap (λ l. symbols_at l.items k) b.symbols ∙ tidy.nameless k (none_before old.jobs new.jobs s n x b.jobs k none);
   }
 
--- what a world comes to: a state, and it is tidy
+-- the result for a world: its state, and that it is tidy
 pub record Comes (new : World) (w : State) : Type 0 where
   pub row : state_of new ≡ w
   pub tidy : Tidy new
@@ -144,25 +149,25 @@ channel_comes old new s n x t b tidy kept g here files mark = record {
 
 pub still_state : (w : World) (s n : ℕ) (g : Chan → Chan) → chan_of w.files (channel_at w.jobs s n) ≡ g (chan_of w.files (channel_at w.jobs s n)) → state_of w ≡ in_raw (state_of w) s (on_channel n g)
 still_state w s n g e =
-    let b = channel_still w w s n w.files (record { core = refl; jobs = refl; frames = refl; consoles = refl; holders = refl; clock = refl; version = refl; symbols = refl; alarms = refl; files = refl; rings = refl }) in
+    let b = channel_still w w s n w.files (record { core = refl; jobs = refl; frames = refl; consoles = refl; holders = refl; clock = refl; version = refl; symbols = refl; pipes = refl; alarms = refl; files = refl; rings = refl }) in
     channel_state w w s n (channel_at w.jobs s n) w.files b g (λ k m apart. refl) (λ some. e) refl refl
 
 -- a store that shows the same to all channels
 pub stored_state : (old new : World) (t : Store) → new.core ≡ old.core → new.jobs ≡ old.jobs → new.frames ≡ old.frames → new.consoles ≡ old.consoles → new.holders ≡ old.holders → new.clock ≡ old.clock
-    → new.alarms ≡ old.alarms → new.version ≡ old.version → new.symbols ≡ old.symbols → new.files ≡ t → Stays old.files t old.jobs
+    → new.alarms ≡ old.alarms → new.version ≡ old.version → new.symbols ≡ old.symbols → new.pipes ≡ old.pipes → new.files ≡ t → Stays old.files t old.jobs
     → state_of new ≡ record (state_of old) { raw = record (state_of old).raw { files = directory t }; mark = mark_of t }
 unfolding state_of
-stored_state old new t core jobs frames consoles holders clock alarms version symbols files stays = state_is _ _
+stored_state old new t core jobs frames consoles holders clock alarms version symbols pipes files stays = state_is _ _
     (machine_is _ _
     (λ k. ap (λ f. raw_at f new.core new.jobs new.alarms.items k) files ∙ ap (λ c. raw_at t c new.jobs new.alarms.items k) core
     ∙ ap (λ j. raw_at t old.core j new.alarms.items k) jobs ∙ ap (λ l. raw_at t old.core old.jobs l.items k) alarms
     ∙ raw_alike old.files t (core_at old.core k) (superior_at old.jobs k) (alarm_at old.alarms.items k) (job_at old.jobs k) (stays.chans k))
-    (λ k. ap (λ l. console_at l.items k) consoles) (λ k. ap (λ l. holder_at l k) holders) (ap directory files) clock version (λ k. ap (λ l. symbols_at l.items k) symbols))
+    (λ k. ap (λ l. console_at l.items k) consoles) (λ k. ap (λ l. holder_at l k) holders) (ap directory files) clock version (λ k. ap (λ l. symbols_at l.items k) symbols) (λ k. ap (λ p. piped p k) pipes))
     (λ k. ap (λ l. frame_at l.items k) frames) (λ k. ap (λ c. clear_at c k) core) (ap mark_of files)
 
 pub store_state : (old new : World) (t : Store) → OnlyStore old new t → Stays old.files t old.jobs
     → state_of new ≡ record (state_of old) { raw = record (state_of old).raw { files = directory t }; mark = mark_of t }
-store_state old new t o stays = stored_state old new t o.core o.jobs o.frames o.consoles o.holders o.clock o.alarms o.version o.symbols o.files stays
+store_state old new t o stays = stored_state old new t o.core o.jobs o.frames o.consoles o.holders o.clock o.alarms o.version o.symbols o.pipes o.files stays
 
 pub store_tidy : (old new : World) (t : Store) → OnlyStore old new t → Stays old.files t old.jobs → Tidy old → Tidy new
 store_tidy old new t o stays tidy = record {
@@ -170,7 +175,7 @@ store_tidy old new t o stays tidy = record {
   quiet = λ k none. ap (λ l. alarm_at l.items k) o.alarms ∙ tidy.quiet k (sym (ap (λ j. job_at j k) o.jobs) ∙ none);
   timed = subst (λ t. t < clock_end) (sym o.clock) tidy.timed;
   across = subst (λ f. Across f new.jobs) (sym o.files) (subst (λ j. Across t j) (sym o.jobs) stays.across);
-  ringed = ringed_alike old new o.jobs o.frames o.consoles o.holders o.clock o.rings tidy.ringed;
+  ringed = ringed_alike old new o.jobs o.frames o.consoles o.holders o.clock o.pipes o.rings tidy.ringed;
   nameless = λ k none. ap (λ l. symbols_at l.items k) o.symbols ∙ tidy.nameless k (sym (ap (λ j. job_at j k) o.jobs) ∙ none);
 }
 

@@ -26,8 +26,8 @@ list_gains xs s i x y b l is e more =
     (list_here xs s y (symbols_at xs s ++ b ∷ []) l (more ∙ ap (λ (bs : List Symbol). bs ++ b ∷ []) (list_had xs s x l (e ∙ ap (λ (k : ℕ). slice_index_or xs k x) is))))
 
 pub version_becomes : (old new : World) (v : ℕ) → new.version ≡ v → Same (job_at old.jobs) (job_at new.jobs) → new.jobs.superiors ≡ old.jobs.superiors
-    → new.core ≡ old.core → new.frames ≡ old.frames → new.consoles ≡ old.consoles → new.holders ≡ old.holders → new.files ≡ old.files → new.clock ≡ old.clock → new.symbols ≡ old.symbols → new.alarms ≡ old.alarms → new.rings ≡ old.rings → VersionBecomes old new v
-version_becomes old new v version jobs superiors core frames consoles holders files clock symbols alarms rings = record {
+    → new.core ≡ old.core → new.frames ≡ old.frames → new.consoles ≡ old.consoles → new.holders ≡ old.holders → new.files ≡ old.files → new.clock ≡ old.clock → new.symbols ≡ old.symbols → new.pipes ≡ old.pipes → new.alarms ≡ old.alarms → new.rings ≡ old.rings → VersionBecomes old new v
+version_becomes old new v version jobs superiors core frames consoles holders files clock symbols pipes alarms rings = record {
   version = version;
   jobs = jobs;
   superiors = superiors;
@@ -38,8 +38,9 @@ version_becomes old new v version jobs superiors core frames consoles holders fi
   files = files;
   clock = clock;
   symbols = symbols;
+  pipes = pipes;
   alarms = alarms;
-  ringed = ringed_jobs old new jobs frames consoles holders clock rings;
+  ringed = ringed_jobs old new jobs frames consoles holders clock pipes rings;
 }
 
 -- the lists below n are done

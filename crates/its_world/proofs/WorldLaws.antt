@@ -1,4 +1,4 @@
--- What a world keeps where one part of it is written.
+-- What a world keeps if one part is written.
 use Rattle.std.specs.Prelude.{◌≡◌, ◌<◌, ◌≤◌, ◌-◌, ℕ, true, Option, Some, None, IsSome, is_some, List, [], ◌∷◌, ◌++◌, length, drop, option_map, refl}
 use Rattle.std.proofs.Common.{ap, sym, arith, ◌∙◌}
 use Rattle.std.proofs.lemmas.List.{length-append, take-append-le, take_all}
@@ -10,10 +10,14 @@ use Rattle.its_frame.specs.declared.frame.Frame.{Frame}
 use Rattle.its_jobs.specs.Table.{job_at}
 use Rattle.its_plain.specs.Change.{rest_of}
 use Rattle.its_parts.proofs.CoreLaws.{same_core, same_clear}
-use Rattle.its_world.specs.World.{frame_at, console_at, holder_at, frames_after, with_frames, Becomes, CoreBecomes, PageBecomes, ConsoleBecomes, HolderBecomes, ClockBecomes, typed_at}
-use Rattle.its_world.specs.Rings.{lists_at}
-use Rattle.its_world.specs.Filed.{SlotWritten, ConsoleWritten, HolderWritten, ClockWritten, Refiled, Resettled}
-use Rattle.its_world.proofs.PlaceLaws.{ringed_alike, slot_ringed, door_ringed, clock_ringed}
+use Rattle.its_world.specs.World.{frame_at, console_at, holder_at, frames_after, with_frames, Becomes, CoreBecomes, PageBecomes, ConsoleBecomes, HolderBecomes, LinkBecomes, ClockBecomes, typed_at}
+use Rattle.its_word.specs.Links.{most_links}
+use Rattle.its_plain.specs.Machine.{Pipe}
+use Rattle.its_plain.specs.Moves.{AtConsole, AtLink}
+use Rattle.its_pipes.specs.Pipes.{piped}
+use Rattle.its_world.specs.Rings.{lists_at, link_lists}
+use Rattle.its_world.specs.Filed.{SlotWritten, ConsoleWritten, HolderWritten, LinkWritten, ClockWritten, Refiled, Resettled}
+use Rattle.its_world.proofs.PlaceLaws.{ringed_alike, slot_ringed, post_ringed, clock_ringed}
 use Rattle.its_world.specs.declared.world.World.{World}
 use Rattle.its_core.specs.Cores.{Cores, Reserved, core_at, reserved_at, clear_at}
 use Rattle.its_core.specs.Frames.{Frames, frames_give_back}
@@ -29,7 +33,7 @@ only_along f g h s x o e = record { here = e s ∙ o.here; others = λ k ne. e k
 pub alike : {X : Type 0} → (f g : ℕ → X) (s : ℕ) → ((k : ℕ) → g k ≡ f k) → Only f g s (f s)
 alike f g s h = record { here = h s; others = λ k n. h k }
 
--- the frames of pages stay where no page is reserved and none given back
+-- the frames of pages stay if no page is reserved and none given back
 pub frames_still : (o : Option ℕ) (s : ℕ) (f : Frames) → frames_after o o s f ≡ f
 frames_still None s f = refl
 frames_still (Some n) s f = refl
@@ -39,8 +43,8 @@ frames_backed (Some n) s f h = refl
 frames_backed None s f h = cc
 
 pub core_becomes : (old new : World) (s : ℕ) (c : Core) → Only (core_at old.core) (core_at new.core) s c → new.core.reserved ≡ old.core.reserved → new.core.frames ≡ old.core.frames
-    → new.jobs ≡ old.jobs → new.frames ≡ old.frames → new.consoles ≡ old.consoles → new.holders ≡ old.holders → new.files ≡ old.files → new.clock ≡ old.clock → new.rings ≡ old.rings → new.version ≡ old.version → new.symbols ≡ old.symbols → new.alarms ≡ old.alarms → CoreBecomes old new s c
-core_becomes old new s c core reserved pages jobs frames consoles holders files clock rings version symbols alarms = record {
+    → new.jobs ≡ old.jobs → new.frames ≡ old.frames → new.consoles ≡ old.consoles → new.holders ≡ old.holders → new.files ≡ old.files → new.clock ≡ old.clock → new.rings ≡ old.rings → new.version ≡ old.version → new.symbols ≡ old.symbols → new.pipes ≡ old.pipes → new.alarms ≡ old.alarms → CoreBecomes old new s c
+core_becomes old new s c core reserved pages jobs frames consoles holders files clock rings version symbols pipes alarms = record {
   core = core;
   job = alike _ _ s (λ k. ap (λ t. job_at t k) jobs);
   superiors = ap (λ t. t.superiors) jobs;
@@ -51,13 +55,14 @@ core_becomes old new s c core reserved pages jobs frames consoles holders files 
   holders = holders;
   files = files;
   clock = clock;
-  ringed = ringed_alike old new jobs frames consoles holders clock rings;
+  ringed = ringed_alike old new jobs frames consoles holders clock pipes rings;
   version = version;
   symbols = symbols;
+  pipes = pipes;
   alarms = alarms;
 }
 
--- the job or the frame of a slot is written, and the slot is put where it belongs
+-- the job or the frame of a slot is written, and the slot is put on the list to which it belongs
 pub slot_becomes : (old mid new : World) (s : ℕ) (j : Option Job) (f : Option Frame) → SlotWritten old mid s j f → Refiled mid new s → Becomes old new s (core_at old.core s) j f (clear_at old.core s)
 slot_becomes old mid new s j f w r = record {
   core = alike _ _ s (λ k. ap (λ t. core_at t k) (r.rest.core ∙ w.core));
@@ -73,13 +78,14 @@ slot_becomes old mid new s j f w r = record {
   ringed = slot_ringed old mid new s j f w r;
   version = r.rest.version ∙ w.version;
   symbols = r.rest.symbols ∙ w.symbols;
+  pipes = r.rest.pipes ∙ w.pipes;
   alarms = r.rest.alarms ∙ w.alarms;
 }
 
 pub job_written : (old new : World) (s : ℕ) (j : Job) → Only (job_at old.jobs) (job_at new.jobs) s (Some j) → new.jobs.superiors ≡ old.jobs.superiors
-    → new.core ≡ old.core → new.frames ≡ old.frames → new.consoles ≡ old.consoles → new.holders ≡ old.holders → new.files ≡ old.files → new.clock ≡ old.clock → new.version ≡ old.version → new.symbols ≡ old.symbols → new.alarms ≡ old.alarms → new.rings ≡ old.rings
+    → new.core ≡ old.core → new.frames ≡ old.frames → new.consoles ≡ old.consoles → new.holders ≡ old.holders → new.files ≡ old.files → new.clock ≡ old.clock → new.version ≡ old.version → new.symbols ≡ old.symbols → new.pipes ≡ old.pipes → new.alarms ≡ old.alarms → new.rings ≡ old.rings
     → SlotWritten old new s (Some j) (frame_at old.frames.items s)
-job_written old new s j job superiors core frames consoles holders files clock version symbols alarms rings = record {
+job_written old new s j job superiors core frames consoles holders files clock version symbols pipes alarms rings = record {
   job = job;
   superiors = superiors;
   frame = alike _ _ s (λ k. ap (λ t. frame_at t.items k) frames);
@@ -91,13 +97,14 @@ job_written old new s j job superiors core frames consoles holders files clock v
   rings = rings;
   version = version;
   symbols = symbols;
+  pipes = pipes;
   alarms = alarms;
 }
 
 pub frame_written : (old new : World) (s : ℕ) (f : Option Frame) → Only (frame_at old.frames.items) (frame_at new.frames.items) s f
-    → new.core ≡ old.core → new.jobs ≡ old.jobs → new.consoles ≡ old.consoles → new.holders ≡ old.holders → new.files ≡ old.files → new.clock ≡ old.clock → new.version ≡ old.version → new.symbols ≡ old.symbols → new.alarms ≡ old.alarms → new.rings ≡ old.rings
+    → new.core ≡ old.core → new.jobs ≡ old.jobs → new.consoles ≡ old.consoles → new.holders ≡ old.holders → new.files ≡ old.files → new.clock ≡ old.clock → new.version ≡ old.version → new.symbols ≡ old.symbols → new.pipes ≡ old.pipes → new.alarms ≡ old.alarms → new.rings ≡ old.rings
     → SlotWritten old new s (job_at old.jobs s) f
-frame_written old new s f frame core jobs consoles holders files clock version symbols alarms rings = record {
+frame_written old new s f frame core jobs consoles holders files clock version symbols pipes alarms rings = record {
   job = alike _ _ s (λ k. ap (λ t. job_at t k) jobs);
   superiors = ap (λ t. t.superiors) jobs;
   frame = frame;
@@ -109,16 +116,17 @@ frame_written old new s f frame core jobs consoles holders files clock version s
   rings = rings;
   version = version;
   symbols = symbols;
+  pipes = pipes;
   alarms = alarms;
 }
 
--- a core is written, and its pages stand in other frames then
+-- a core is written, and its pages are in other frames then
 pub framed_becomes : (old new : World) (s : ℕ) (c : Core) → Only (core_at old.core) (core_at new.core) s c → new.core.reserved ≡ old.core.reserved
-    → new.jobs ≡ old.jobs → new.frames ≡ old.frames → new.consoles ≡ old.consoles → new.holders ≡ old.holders → new.files ≡ old.files → new.clock ≡ old.clock → new.rings ≡ old.rings → new.version ≡ old.version → new.symbols ≡ old.symbols → new.alarms ≡ old.alarms
+    → new.jobs ≡ old.jobs → new.frames ≡ old.frames → new.consoles ≡ old.consoles → new.holders ≡ old.holders → new.files ≡ old.files → new.clock ≡ old.clock → new.rings ≡ old.rings → new.version ≡ old.version → new.symbols ≡ old.symbols → new.pipes ≡ old.pipes → new.alarms ≡ old.alarms
     → CoreBecomes old (with_frames new old.core.frames) s c
 unfolding core_at reserved_at
-framed_becomes old new s c core reserved jobs frames consoles holders files clock rings version symbols alarms =
-    core_becomes old (with_frames new old.core.frames) s c core reserved refl jobs frames consoles holders files clock rings version symbols alarms
+framed_becomes old new s c core reserved jobs frames consoles holders files clock rings version symbols pipes alarms =
+    core_becomes old (with_frames new old.core.frames) s c core reserved refl jobs frames consoles holders files clock rings version symbols pipes alarms
 
 -- two changes of one slot, one after the other, of which the second reserves no page and gives none back
 only_then : {X : Type 0} → (f g h : ℕ → X) (s : ℕ) (x y : X) → Only f g s x → Only g h s y → Only f h s y
@@ -140,12 +148,13 @@ then_becomes old mid new s c d i j f g r a b = record {
   ringed = λ r. b.ringed (a.ringed r);
   version = b.version ∙ a.version;
   symbols = b.symbols ∙ a.symbols;
+  pipes = b.pipes ∙ a.pipes;
   alarms = b.alarms ∙ a.alarms;
 }
 
 pub page_becomes : (old new : World) (s : ℕ) (r : Option ℕ) → Only (clear_at old.core) (clear_at new.core) s r → new.core.cores ≡ old.core.cores
-    → new.core.frames ≡ frames_after (clear_at old.core s) r s old.core.frames → new.jobs ≡ old.jobs → new.frames ≡ old.frames → new.consoles ≡ old.consoles → new.holders ≡ old.holders → new.files ≡ old.files → new.clock ≡ old.clock → new.rings ≡ old.rings → new.version ≡ old.version → new.symbols ≡ old.symbols → new.alarms ≡ old.alarms → PageBecomes old new s r
-page_becomes old new s r page cores pages jobs frames consoles holders files clock rings version symbols alarms = record {
+    → new.core.frames ≡ frames_after (clear_at old.core s) r s old.core.frames → new.jobs ≡ old.jobs → new.frames ≡ old.frames → new.consoles ≡ old.consoles → new.holders ≡ old.holders → new.files ≡ old.files → new.clock ≡ old.clock → new.rings ≡ old.rings → new.version ≡ old.version → new.symbols ≡ old.symbols → new.pipes ≡ old.pipes → new.alarms ≡ old.alarms → PageBecomes old new s r
+page_becomes old new s r page cores pages jobs frames consoles holders files clock rings version symbols pipes alarms = record {
   core = alike _ _ s (λ k. same_core old.core new.core k cores);
   job = alike _ _ s (λ k. ap (λ t. job_at t k) jobs);
   superiors = ap (λ t. t.superiors) jobs;
@@ -156,9 +165,10 @@ page_becomes old new s r page cores pages jobs frames consoles holders files clo
   holders = holders;
   files = files;
   clock = clock;
-  ringed = ringed_alike old new jobs frames consoles holders clock rings;
+  ringed = ringed_alike old new jobs frames consoles holders clock pipes rings;
   version = version;
   symbols = symbols;
+  pipes = pipes;
   alarms = alarms;
 }
 
@@ -169,7 +179,8 @@ some_by None h = cc
 pub reserved_some : (c : Cores) (s : ℕ) → is_some (clear_at c s) ≡ true → IsSome (reserved_at c s)
 reserved_some c s h = some_by (reserved_at c s) h
 
--- a console, its holder or the clock is written, and the slots that it can move are put where they belong
+-- a console, its holder, a link or the clock is written, and the slots that it can move are put on the lists to which they
+-- belong
 pub console_becomes : (old mid new : World) (c : ℕ) (x : Console) → ConsoleWritten old mid c x → Resettled mid new (lists_at c) → ConsoleBecomes old new c x
 console_becomes old mid new c x w r = record {
   consoles = only_along _ _ _ c x w.consoles (λ k. ap (λ l. console_at l.items k) r.rest.consoles);
@@ -179,9 +190,10 @@ console_becomes old mid new c x w r = record {
   frames = r.rest.frames ∙ w.rest.frames;
   files = r.rest.files ∙ w.rest.files;
   clock = r.rest.clock ∙ w.rest.clock;
-  ringed = door_ringed old mid new c (λ k ne. w.consoles.others k ne) (λ k ne. ap (λ l. holder_at l k) w.holders) w.rest r;
+  ringed = post_ringed old mid new (AtConsole c) (λ k ne. w.consoles.others k (λ e. ne (ap AtConsole e))) (λ k ne. ap (λ l. holder_at l k) w.holders) (λ k ne. ap (λ p. piped p k) w.pipes) w.rest r;
   version = r.rest.version ∙ w.rest.version;
   symbols = r.rest.symbols ∙ w.rest.symbols;
+  pipes = r.rest.pipes ∙ w.pipes;
   alarms = r.rest.alarms ∙ w.rest.alarms;
 }
 
@@ -194,7 +206,24 @@ holder_becomes old mid new c h w r = record {
   frames = r.rest.frames ∙ w.rest.frames;
   files = r.rest.files ∙ w.rest.files;
   clock = r.rest.clock ∙ w.rest.clock;
-  ringed = door_ringed old mid new c (λ k ne. ap (λ l. console_at l.items k) w.consoles) (λ k ne. w.holders.others k ne) w.rest r;
+  ringed = post_ringed old mid new (AtConsole c) (λ k ne. ap (λ l. console_at l.items k) w.consoles) (λ k ne. w.holders.others k (λ e. ne (ap AtConsole e))) (λ k ne. ap (λ p. piped p k) w.pipes) w.rest r;
+  version = r.rest.version ∙ w.rest.version;
+  symbols = r.rest.symbols ∙ w.rest.symbols;
+  pipes = r.rest.pipes ∙ w.pipes;
+  alarms = r.rest.alarms ∙ w.rest.alarms;
+}
+
+pub link_becomes : (old mid new : World) (l : ℕ) (p : Option Pipe) → LinkWritten old mid l p → Resettled mid new (link_lists l) → LinkBecomes old new l p
+link_becomes old mid new l p w r = record {
+  links = only_along _ _ _ l p w.links (λ k. ap (λ q. piped q k) r.rest.pipes);
+  consoles = r.rest.consoles ∙ w.consoles;
+  holders = r.rest.holders ∙ w.holders;
+  core = r.rest.core ∙ w.rest.core;
+  jobs = r.rest.jobs ∙ w.rest.jobs;
+  frames = r.rest.frames ∙ w.rest.frames;
+  files = r.rest.files ∙ w.rest.files;
+  clock = r.rest.clock ∙ w.rest.clock;
+  ringed = post_ringed old mid new (AtLink l) (λ k ne. ap (λ x. console_at x.items k) w.consoles) (λ k ne. ap (λ x. holder_at x k) w.holders) (λ k ne. w.links.others k (λ e. ne (ap AtLink e))) w.rest r;
   version = r.rest.version ∙ w.rest.version;
   symbols = r.rest.symbols ∙ w.rest.symbols;
   alarms = r.rest.alarms ∙ w.rest.alarms;
@@ -209,25 +238,37 @@ clock_becomes old mid new c later w r = record {
   consoles = r.rest.consoles ∙ w.consoles;
   holders = r.rest.holders ∙ w.holders;
   files = r.rest.files ∙ w.files;
-  ringed = clock_ringed old mid new (c - old.clock) (w.clock ∙ omega arith) w.jobs w.frames w.consoles w.holders w.rings r;
+  ringed = clock_ringed old mid new (c - old.clock) (w.clock ∙ omega arith) w.jobs w.frames w.consoles w.holders w.pipes w.rings r;
   version = r.rest.version ∙ w.version;
   symbols = r.rest.symbols ∙ w.symbols;
+  pipes = r.rest.pipes ∙ w.pipes;
   alarms = r.rest.alarms ∙ w.alarms;
 }
 
 pub console_written : (old new : World) (c : ℕ) (x : Console) → Only (console_at old.consoles.items) (console_at new.consoles.items) c x
-    → new.holders ≡ old.holders → new.core ≡ old.core → new.jobs ≡ old.jobs → new.frames ≡ old.frames → new.files ≡ old.files → new.clock ≡ old.clock → new.version ≡ old.version → new.symbols ≡ old.symbols → new.alarms ≡ old.alarms → new.rings ≡ old.rings → ConsoleWritten old new c x
-console_written old new c x consoles holders core jobs frames files clock version symbols alarms rings = record {
+    → new.holders ≡ old.holders → new.core ≡ old.core → new.jobs ≡ old.jobs → new.frames ≡ old.frames → new.files ≡ old.files → new.clock ≡ old.clock → new.version ≡ old.version → new.symbols ≡ old.symbols → new.pipes ≡ old.pipes → new.alarms ≡ old.alarms → new.rings ≡ old.rings → ConsoleWritten old new c x
+console_written old new c x consoles holders core jobs frames files clock version symbols pipes alarms rings = record {
   consoles = consoles;
   holders = holders;
+  pipes = pipes;
   rest = record { core = core; jobs = jobs; frames = frames; files = files; clock = clock; rings = rings; version = version; symbols = symbols; alarms = alarms };
 }
 
 pub holder_written : (old new : World) (c : ℕ) (h : Option ℕ) → Only (holder_at old.holders) (holder_at new.holders) c h
-    → new.consoles ≡ old.consoles → new.core ≡ old.core → new.jobs ≡ old.jobs → new.frames ≡ old.frames → new.files ≡ old.files → new.clock ≡ old.clock → new.version ≡ old.version → new.symbols ≡ old.symbols → new.alarms ≡ old.alarms → new.rings ≡ old.rings → HolderWritten old new c h
-holder_written old new c h holders consoles core jobs frames files clock version symbols alarms rings = record {
+    → new.consoles ≡ old.consoles → new.core ≡ old.core → new.jobs ≡ old.jobs → new.frames ≡ old.frames → new.files ≡ old.files → new.clock ≡ old.clock → new.version ≡ old.version → new.symbols ≡ old.symbols → new.pipes ≡ old.pipes → new.alarms ≡ old.alarms → new.rings ≡ old.rings → HolderWritten old new c h
+holder_written old new c h holders consoles core jobs frames files clock version symbols pipes alarms rings = record {
   holders = holders;
   consoles = consoles;
+  pipes = pipes;
+  rest = record { core = core; jobs = jobs; frames = frames; files = files; clock = clock; rings = rings; version = version; symbols = symbols; alarms = alarms };
+}
+
+pub link_written : (old new : World) (l : ℕ) (p : Option Pipe) → Only (piped old.pipes) (piped new.pipes) l p
+    → new.consoles ≡ old.consoles → new.holders ≡ old.holders → new.core ≡ old.core → new.jobs ≡ old.jobs → new.frames ≡ old.frames → new.files ≡ old.files → new.clock ≡ old.clock → new.version ≡ old.version → new.symbols ≡ old.symbols → new.alarms ≡ old.alarms → new.rings ≡ old.rings → LinkWritten old new l p
+link_written old new l p links consoles holders core jobs frames files clock version symbols alarms rings = record {
+  links = links;
+  consoles = consoles;
+  holders = holders;
   rest = record { core = core; jobs = jobs; frames = frames; files = files; clock = clock; rings = rings; version = version; symbols = symbols; alarms = alarms };
 }
 

@@ -11,13 +11,14 @@ use Rattle.its_jobs.specs.Table.{job_at}
 use Rattle.its_frame.specs.declared.decision.Wait.{Wait}
 use Rattle.its_frame.specs.declared.frame.Frame.{Frame}
 use Rattle.its_frame.specs.declared.frame.Frame.TheVariants.{Waiting}
-use Rattle.its_plain.specs.Machine.{Chan, Shut, TtyIn, TtyOut}
+use Rattle.its_plain.specs.Machine.{Chan, Shut, TtyIn, TtyOut, Linked, Pipe}
 use Rattle.its_plain.specs.Arguments.{input}
 use Rattle.its_plain.specs.Decide.{call_named}
 use Rattle.its_plain.specs.Reasons.{Doors, held_up, reason_by}
+use Rattle.its_pipes.specs.Pipes.{piped}
 use Rattle.its_word.specs.Console.{Console}
 pub use Rattle.its_parts.specs.Parts.{console_at, holder_at}
-use Rattle.its_world.specs.Rings.{wait_rings, awake_of, place_at, console_in, StandsIn, Filed, AwayFrom}
+use Rattle.its_world.specs.Rings.{IsWaitRing, awake_of, place_at, is_within, StandsIn, Filed, AwayFrom}
 use Rattle.its_world.specs.declared.world.World.{World}
 
 -- the frame of a slot
@@ -32,6 +33,7 @@ kind_of channels.TtyOut = TtyOut
 kind_of (channels.Reading f at) = Shut
 kind_of (channels.Writing d) = Shut
 kind_of (channels.Usr k w at) = Shut
+kind_of (channels.Link l w) = Linked l w
 
 abbrev pub channel_of : Job → ℕ → Channel
 channel_of j n = if nat_lt n 16 then slice_index_or j.channels n channels.Closed else channels.Closed
@@ -41,13 +43,13 @@ abbrev pub wait_reason : Option Job → Ask → Option Wait
 wait_reason (Some j) a = reason_by (unwrap_or j.console 0) (kind_of (channel_of j (input a 0))) (call_named a.name)
 wait_reason None a = reason_by 0 Shut (call_named a.name)
 
--- the list in which the call of slot k belongs, whose first argument is n; none for a console that there is not
+-- the list in which the call of slot k belongs, whose first argument is n; none for a console or a link that there is not
 abbrev pub if_within : Bool → Option ℕ → Option ℕ
 if_within true p = p
 if_within false p = None
 
 abbrev pub place_for : Doors → ℕ → ℕ → Option Wait → Option ℕ
-place_for d k n (Some r) = if_within (nat_lt (console_in r) 8) (place_at r (held_up d k n r))
+place_for d k n (Some r) = if_within (is_within r) (place_at r (held_up d k n r))
 place_for d k n None = None
 
 -- that of slot k: if its frame is Waiting that of its reason, else none
@@ -56,7 +58,7 @@ place_by d k o (Some (Waiting f)) = place_for d k (input f.ask 0) (wait_reason o
 place_by d k o _ = None
 
 abbrev pub doors_of : World → Doors
-doors_of w = record { consoles = console_at w.consoles.items; holders = holder_at w.holders; clock = w.clock }
+doors_of w = record { consoles = console_at w.consoles.items; holders = holder_at w.holders; clock = w.clock; links = piped w.pipes }
 
 unfoldable pub place_of : World → ℕ → Option ℕ
 place_of w k = place_by (doors_of w) k (job_at w.jobs k) (frame_at w.frames.items k)
@@ -65,9 +67,9 @@ place_of w k = place_by (doors_of w) k (job_at w.jobs k) (frame_at w.frames.item
 abbrev pub Ringed : World → Type 0
 Ringed w = Filed w.rings.lists (place_of w)
 
--- the Awake list of the console at which slot k waits, if it waits at one
+-- the Awake list of the console or the link at which slot k waits, if it waits at one
 abbrev pub awake_for : Option Wait → Option ℕ
-awake_for (Some r) = if_within (nat_lt (console_in r) 8) (awake_of r)
+awake_for (Some r) = if_within (is_within r) (awake_of r)
 awake_for None = None
 
 abbrev pub awake_by : Option Job → Option Frame → Option ℕ
@@ -80,7 +82,7 @@ awake_at w k = awake_by (job_at w.jobs k) (frame_at w.frames.items k)
 -- it is on a wait list
 pub record Blocked (w : World) (k : ℕ) : Type 0 where
   pub ring : ℕ
-  pub within : ring < wait_rings
+  pub within : IsWaitRing ring
   pub here : 0 < count k (list_at w.rings.lists ring)
 
 -- of a world only the lists are others
@@ -94,6 +96,7 @@ pub record OnlyRings (old new : World) : Type 0 where
   pub clock : new.clock ≡ old.clock
   pub version : new.version ≡ old.version
   pub symbols : new.symbols ≡ old.symbols
+  pub pipes : new.pipes ≡ old.pipes
   pub alarms : new.alarms ≡ old.alarms
 
 -- slot s was put on the list to which it belongs
@@ -102,7 +105,8 @@ pub record Refiled (old new : World) (s : ℕ) : Type 0 where
   pub here : StandsIn new.rings.lists s (place_of new s)
   pub others : (k : ℕ) → k ≢ s → (h : ℕ) → count k (list_at new.rings.lists h) ≡ count k (list_at old.rings.lists h)
 
--- each slot that was on one of these lists was put where it belongs. (Others are where they were, or where they belong)
+-- each slot that was on one of these lists was put on the list to which it belongs. (The other slots are on the same
+-- lists as before, or on those to which they belong)
 pub record Resettled (old new : World) (hs : List ℕ) : Type 0 where
   pub rest : OnlyRings old new
   pub each : (k : ℕ) → StandsIn new.rings.lists k (place_of new k) ⊎ (AwayFrom old.rings.lists k hs × ((h : ℕ) → count k (list_at new.rings.lists h) ≡ count k (list_at old.rings.lists h)))
@@ -120,9 +124,10 @@ pub record SlotWritten (old new : World) (s : ℕ) (j : Option Job) (f : Option 
   pub rings : new.rings ≡ old.rings
   pub version : new.version ≡ old.version
   pub symbols : new.symbols ≡ old.symbols
+  pub pipes : new.pipes ≡ old.pipes
   pub alarms : new.alarms ≡ old.alarms
 
--- the consoles or their holders are others, and all else, the lists too, is as it was
+-- the consoles, their holders or the links are others, and all else, the lists too, is as it was
 pub record DoorsWritten (old new : World) : Type 0 where
   pub core : new.core ≡ old.core
   pub jobs : new.jobs ≡ old.jobs
@@ -134,15 +139,23 @@ pub record DoorsWritten (old new : World) : Type 0 where
   pub symbols : new.symbols ≡ old.symbols
   pub alarms : new.alarms ≡ old.alarms
 
--- console c alone was written; or its holder; or the clock
+-- console c alone was written; or its holder; or link l; or the clock
 pub record ConsoleWritten (old new : World) (c : ℕ) (x : Console) : Type 0 where
   pub consoles : Only (console_at old.consoles.items) (console_at new.consoles.items) c x
   pub holders : new.holders ≡ old.holders
+  pub pipes : new.pipes ≡ old.pipes
   pub rest : DoorsWritten old new
 
 pub record HolderWritten (old new : World) (c : ℕ) (h : Option ℕ) : Type 0 where
   pub holders : Only (holder_at old.holders) (holder_at new.holders) c h
   pub consoles : new.consoles ≡ old.consoles
+  pub pipes : new.pipes ≡ old.pipes
+  pub rest : DoorsWritten old new
+
+pub record LinkWritten (old new : World) (l : ℕ) (p : Option Pipe) : Type 0 where
+  pub links : Only (piped old.pipes) (piped new.pipes) l p
+  pub consoles : new.consoles ≡ old.consoles
+  pub holders : new.holders ≡ old.holders
   pub rest : DoorsWritten old new
 
 pub record ClockWritten (old new : World) (c : ℕ) : Type 0 where
@@ -156,4 +169,5 @@ pub record ClockWritten (old new : World) (c : ℕ) : Type 0 where
   pub rings : new.rings ≡ old.rings
   pub version : new.version ≡ old.version
   pub symbols : new.symbols ≡ old.symbols
+  pub pipes : new.pipes ≡ old.pipes
   pub alarms : new.alarms ≡ old.alarms

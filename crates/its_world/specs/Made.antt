@@ -19,4 +19,5 @@ pub record JobMade (old new : World) (s u n : ℕ) (above console : Option ℕ) 
   pub rings : new.rings ≡ old.rings
   pub version : new.version ≡ old.version
   pub symbols : new.symbols ≡ old.symbols
+  pub pipes : new.pipes ≡ old.pipes
   pub alarms : new.alarms ≡ old.alarms

@@ -22,4 +22,5 @@ pub record PageMapped (old new : World) (s t k : ℕ) (c : Core) : Type 0 where
   pub rings : new.rings ≡ old.rings
   pub version : new.version ≡ old.version
   pub symbols : new.symbols ≡ old.symbols
+  pub pipes : new.pipes ≡ old.pipes
   pub alarms : new.alarms ≡ old.alarms

@@ -1,18 +1,21 @@
--- The lists of the slots whose calls wait: a ring for each reason to wait, and for each console a list of those that
--- wait there and can go on (docs/STEPS.md, "Wait lists").
+-- The lists of the slots whose calls wait: a ring for each reason to wait, and for each console and each link a list of
+-- those that wait there and can go on (docs/STEPS.md, "Wait lists").
 -- No promise rests on this.
-use Rattle.std.specs.Prelude.{◌≡◌, ◌≢◌, ◌<◌, ℕ, ◌+◌, Bool, true, false, Option, Some, None, List, [], ◌∷◌, ◌++◌, length, zero, suc}
+use Rattle.std.specs.Prelude.{◌≡◌, ◌≢◌, ◌<◌, ◌≤◌, ◌⊎◌, ℕ, ◌+◌, Bool, true, false, Option, Some, None, List, [], ◌∷◌, ◌++◌, length, nat_lt, zero, suc}
 use Rattle.its_links.specs.Lists.{Linked, list_at, count, hit, first}
 use Rattle.its_frame.specs.declared.decision.Wait.{Wait}
-use Rattle.its_frame.specs.declared.decision.Wait.TheVariants.{Hang, Clock, Input, Output, Drained}
+use Rattle.its_frame.specs.declared.decision.Wait.TheVariants.{Hang, Clock, Input, Output, Drained, Empty, Room}
+use Rattle.its_plain.specs.Moves.{Device, AtConsole, AtLink}
+use Rattle.its_word.specs.Links.{most_links}
 
--- one list for HANG, one for CLOCK, and of each of the eight consoles one each for Input, Output and Drained, and its
--- Awake list. The first 26 are the wait rings
+-- one list for HANG, one for CLOCK, of each of the eight consoles one each for Input, Output and Drained, and its Awake
+-- list, and of each of the sixteen links one each for Empty and Room, and its Awake list. All but the Awake lists are wait
+-- rings
 abbrev pub heads : ℕ
-heads = 34
+heads = 82
 
-abbrev pub wait_rings : ℕ
-wait_rings = 26
+abbrev pub IsWaitRing : ℕ → Type 0
+IsWaitRing h = (h < 26) ⊎ ((34 ≤ h) × (h < 66))
 
 abbrev pub ring_of : Wait → ℕ
 ring_of Hang = 0
@@ -20,21 +23,51 @@ ring_of Clock = 1
 ring_of (Input c) = 2 + c
 ring_of (Output c) = 10 + c
 ring_of (Drained c) = 18 + c
+ring_of (Empty l) = 34 + l
+ring_of (Room l) = 50 + l
 
--- the Awake list of the console; a sleeper whose time has come is on no list
+-- the Awake list of the console or the link; a sleeper whose time has come is on no list
 abbrev pub awake_of : Wait → Option ℕ
 awake_of Hang = None
 awake_of Clock = None
 awake_of (Input c) = Some (26 + c)
 awake_of (Output c) = Some (26 + c)
 awake_of (Drained c) = Some (26 + c)
+awake_of (Empty l) = Some (66 + l)
+awake_of (Room l) = Some (66 + l)
 
-abbrev pub console_in : Wait → ℕ
-console_in Hang = 0
-console_in Clock = 0
-console_in (Input c) = c
-console_in (Output c) = c
-console_in (Drained c) = c
+-- where a call waits: at a console, at a link, or at neither
+abbrev pub post_of : Wait → Option Device
+post_of Hang = None
+post_of Clock = None
+post_of (Input c) = Some (AtConsole c)
+post_of (Output c) = Some (AtConsole c)
+post_of (Drained c) = Some (AtConsole c)
+post_of (Empty l) = Some (AtLink l)
+post_of (Room l) = Some (AtLink l)
+
+abbrev pub awake_head : Device → ℕ
+awake_head (AtConsole c) = 26 + c
+awake_head (AtLink l) = 66 + l
+
+-- the console of a reason is one of the eight, or its link one of the sixteen, if it is at one
+abbrev pub is_within : Wait → Bool
+is_within Hang = true
+is_within Clock = true
+is_within (Input c) = nat_lt c 8
+is_within (Output c) = nat_lt c 8
+is_within (Drained c) = nat_lt c 8
+is_within (Empty l) = nat_lt l most_links
+is_within (Room l) = nat_lt l most_links
+
+abbrev pub Within : Wait → Type 0
+Within Hang = Unit {0}
+Within Clock = Unit {0}
+Within (Input c) = c < 8
+Within (Output c) = c < 8
+Within (Drained c) = c < 8
+Within (Empty l) = l < most_links
+Within (Room l) = l < most_links
 
 -- the list in which a slot belongs that waits for this reason, by whether it is held up
 abbrev pub place_at : Wait → Bool → Option ℕ
@@ -67,7 +100,7 @@ pub record Looked (lists : List (List ℕ)) (h s : ℕ) (at : Option ℕ) (i : �
 pub record Filed (lists : List (List ℕ)) (place : ℕ → Option ℕ) : Type 0 where
   pub each : (k : ℕ) → StandsIn lists k (place k)
 
--- slot s was put on the list of this head, or on none, and the others are where they were
+-- slot s was put on the list of this head, or on none, and the others are on the same lists as before
 pub record Put (old new : Linked) (s : ℕ) (p : Option ℕ) : Type 0 where
   pub nodes : new.nodes ≡ old.nodes
   pub heads : length new.lists ≡ length old.lists
@@ -86,3 +119,16 @@ lists_at c = (2 + c) ∷ (10 + c) ∷ (18 + c) ∷ (26 + c) ∷ []
 abbrev pub lists_to : ℕ → List ℕ
 lists_to zero = []
 lists_to (suc n) = lists_to n ++ lists_at n
+
+-- the lists of link l, and those of the links below n
+abbrev pub link_lists : ℕ → List ℕ
+link_lists l = (34 + l) ∷ (50 + l) ∷ (66 + l) ∷ []
+
+abbrev pub link_lists_to : ℕ → List ℕ
+link_lists_to zero = []
+link_lists_to (suc n) = link_lists_to n ++ link_lists n
+
+-- those of a console or a link
+abbrev pub lists_of : Device → List ℕ
+lists_of (AtConsole c) = lists_at c
+lists_of (AtLink l) = link_lists l

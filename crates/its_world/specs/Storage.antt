@@ -56,6 +56,7 @@ pub record ChannelBecomes (old new : World) (s n : ℕ) (x : Channel) (t : Store
   pub clock : new.clock ≡ old.clock
   pub version : new.version ≡ old.version
   pub symbols : new.symbols ≡ old.symbols
+  pub pipes : new.pipes ≡ old.pipes
   pub alarms : new.alarms ≡ old.alarms
   pub files : new.files ≡ t
   pub ringed : Ringed old → Ringed new
@@ -70,6 +71,7 @@ pub record OnlyStore (old new : World) (t : Store) : Type 0 where
   pub clock : new.clock ≡ old.clock
   pub version : new.version ≡ old.version
   pub symbols : new.symbols ≡ old.symbols
+  pub pipes : new.pipes ≡ old.pipes
   pub alarms : new.alarms ≡ old.alarms
   pub files : new.files ≡ t
   pub rings : new.rings ≡ old.rings

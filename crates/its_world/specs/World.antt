@@ -14,10 +14,11 @@ use Rattle.its_files.specs.declared.entry.Mark.{Mark as FilesMark}
 use Rattle.its_files.specs.declared.entry.Parts.{Parts}
 use Rattle.its_files.specs.declared.entry.Parts.TheVariants.{Replace, Link, Free}
 use Rattle.its_frame.specs.declared.frame.Frame.{Frame}
-use Rattle.its_plain.specs.Machine.{Symbol, File, Whole}
+use Rattle.its_plain.specs.Machine.{Symbol, File, Pipe, Whole}
 use Rattle.its_plain.specs.Change.{in_job}
 use Rattle.its_stepped.specs.State.{Part, UnlinkOld, LinkNew, FreeOld, Mark, State}
 pub use Rattle.its_parts.specs.Parts.{chan_of, closed_channels, bare, chans_of, raw_of, alarm_at, raw_at, no_symbols, symbols_at, raw_machine}
+use Rattle.its_pipes.specs.Pipes.{piped}
 pub use Rattle.its_world.specs.Filed.{frame_at, console_at, holder_at}
 use Rattle.its_world.specs.Filed.{Ringed}
 use Rattle.its_world.specs.declared.world.World.{World}
@@ -50,7 +51,7 @@ mark_of s = marking s s.mark
 -- the state of a world
 unfoldable pub state_of : World → State
 state_of w = record {
-  raw = raw_machine w.files w.core w.jobs w.alarms.items w.consoles.items w.holders w.clock w.version w.symbols.items;
+  raw = raw_machine w.files w.core w.jobs w.alarms.items w.consoles.items w.holders w.clock w.version w.symbols.items w.pipes;
   frames = frame_at w.frames.items;
   reserved = clear_at w.core;
   mark = mark_of w.files;
@@ -73,7 +74,7 @@ abbrev pub with_frames : World → Frames → World
 with_frames w f = record w { core = record w.core { frames = f } }
 
 -- of the world only slot s changes: its core, its job with the same superior, its frame, and how many quarters of its reserved page are
--- clear. Consoles, their holders, files, alarms, the version and symbols are unchanged, and each page stays in its page frame. If each
+-- clear. Consoles, their holders, files, alarms, the version, symbols and links are unchanged, and each page stays in its page frame. If each
 -- slot was on the list to which it belonged, it is again
 pub record Becomes (old new : World) (s : ℕ) (c : Core) (j : Option Job) (f : Option Frame) (r : Option ℕ) : Type 0 where
   pub core : Only (core_at old.core) (core_at new.core) s c
@@ -89,6 +90,7 @@ pub record Becomes (old new : World) (s : ℕ) (c : Core) (j : Option Job) (f : 
   pub ringed : Ringed old → Ringed new
   pub version : new.version ≡ old.version
   pub symbols : new.symbols ≡ old.symbols
+  pub pipes : new.pipes ≡ old.pipes
   pub alarms : new.alarms ≡ old.alarms
 
 -- the same, if only its core, only its registers, or only its frame is written
@@ -104,7 +106,7 @@ FrameBecomes old new s f = Becomes old new s (core_at old.core s) (job_at old.jo
 abbrev pub PageBecomes : World → World → ℕ → Option ℕ → Type 0
 PageBecomes old new s r = Becomes old new s (core_at old.core s) (job_at old.jobs s) (frame_at old.frames.items s) r
 
--- of the world only console c changes, or only its holder
+-- of the world only console c changes, or only its holder, or only link l with its words
 pub record ConsoleBecomes (old new : World) (c : ℕ) (x : Console) : Type 0 where
   pub consoles : Only (console_at old.consoles.items) (console_at new.consoles.items) c x
   pub holders : new.holders ≡ old.holders
@@ -116,11 +118,27 @@ pub record ConsoleBecomes (old new : World) (c : ℕ) (x : Console) : Type 0 whe
   pub ringed : Ringed old → Ringed new
   pub version : new.version ≡ old.version
   pub symbols : new.symbols ≡ old.symbols
+  pub pipes : new.pipes ≡ old.pipes
   pub alarms : new.alarms ≡ old.alarms
 
 pub record HolderBecomes (old new : World) (c : ℕ) (h : Option ℕ) : Type 0 where
   pub holders : Only (holder_at old.holders) (holder_at new.holders) c h
   pub consoles : new.consoles ≡ old.consoles
+  pub core : new.core ≡ old.core
+  pub jobs : new.jobs ≡ old.jobs
+  pub frames : new.frames ≡ old.frames
+  pub files : new.files ≡ old.files
+  pub clock : new.clock ≡ old.clock
+  pub ringed : Ringed old → Ringed new
+  pub version : new.version ≡ old.version
+  pub symbols : new.symbols ≡ old.symbols
+  pub pipes : new.pipes ≡ old.pipes
+  pub alarms : new.alarms ≡ old.alarms
+
+pub record LinkBecomes (old new : World) (l : ℕ) (p : Option Pipe) : Type 0 where
+  pub links : Only (piped old.pipes) (piped new.pipes) l p
+  pub consoles : new.consoles ≡ old.consoles
+  pub holders : new.holders ≡ old.holders
   pub core : new.core ≡ old.core
   pub jobs : new.jobs ≡ old.jobs
   pub frames : new.frames ≡ old.frames
@@ -143,11 +161,13 @@ pub record ClockBecomes (old new : World) (c : ℕ) : Type 0 where
   pub ringed : Ringed old → Ringed new
   pub version : new.version ≡ old.version
   pub symbols : new.symbols ≡ old.symbols
+  pub pipes : new.pipes ≡ old.pipes
   pub alarms : new.alarms ≡ old.alarms
 
 -- of the world only the symbols of slot s change
 pub record SymbolsBecome (old new : World) (s : ℕ) (ss : List Symbol) : Type 0 where
   pub symbols : Only (symbols_at old.symbols.items) (symbols_at new.symbols.items) s ss
+  pub pipes : new.pipes ≡ old.pipes
   pub core : new.core ≡ old.core
   pub jobs : new.jobs ≡ old.jobs
   pub frames : new.frames ≡ old.frames
@@ -171,6 +191,7 @@ pub record VersionBecomes (old new : World) (v : ℕ) : Type 0 where
   pub files : new.files ≡ old.files
   pub clock : new.clock ≡ old.clock
   pub symbols : new.symbols ≡ old.symbols
+  pub pipes : new.pipes ≡ old.pipes
   pub alarms : new.alarms ≡ old.alarms
   pub ringed : Ringed old → Ringed new
 
@@ -193,4 +214,5 @@ pub record AlarmBecomes (old new : World) (s : ℕ) (a : Option (ℕ × ℕ)) : 
   pub clock : new.clock ≡ old.clock
   pub version : new.version ≡ old.version
   pub symbols : new.symbols ≡ old.symbols
+  pub pipes : new.pipes ≡ old.pipes
   pub ringed : Ringed old → Ringed new

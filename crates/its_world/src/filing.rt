@@ -1,19 +1,20 @@
-//! Slots whose calls wait are on the list of their reason: each write of the world puts those whose place it can change where they
-//! belong.
+//! Slots whose calls wait are on the list of their reason: each write of the world puts the slots whose place it can
+//! change on the lists to which they belong.
 
-ghost use Rattle.std.specs.Prelude.{◌≡◌, ◌<◌, ◌∷◌, ◌↔◌, ◌⊎◌, [], IsTrue, length};
+ghost use Rattle.std.specs.Prelude.{◌≡◌, ◌<◌, ◌∷◌, ◌++◌, ◌↔◌, ◌⊎◌, [], IsTrue, length};
 ghost use Rattle.its_word.specs.Limits.{slots};
+ghost use Rattle.its_word.specs.Links.{most_links};
 ghost use Rattle.its_jobs.specs.Table.{job_at};
 ghost use Rattle.its_plain.specs.Arguments.{input};
 ghost use Rattle.its_plain.specs.CallTty.{is_other};
 ghost use Rattle.its_plain.specs.Reasons.{held_up};
-ghost use Rattle.its_world.specs.Rings.{heads, lists_at, lists_to, IsIn, StandsIn};
+ghost use Rattle.its_world.specs.Rings.{heads, lists_at, lists_to, link_lists, link_lists_to, IsIn, StandsIn};
 ghost use Rattle.its_world.specs.Filed.{console_at, holder_at, channel_of, wait_reason, place_for, place_of, awake_for, awake_at, doors_of, Blocked, Refiled, Resettled};
 
-use super::rings::{CLOCK_RING, awake_of, console_in, put, reason_by, ring_of, stands_in};
+use super::rings::{CLOCK_RING, awake_of, is_within, put, reason_by, ring_of, stands_in};
 use super::world::{CONSOLES, World};
 use its_frame::{CallName, Frame, Wait};
-use its_word::{Ask, Channel, Job, Word};
+use its_word::{Ask, Channel, Job, LINKS, Word};
 
 /// How many bytes wait at most at a console, in one direction.
 const MOST_WAITING: u32 = 64;
@@ -42,12 +43,13 @@ fn channel_of(job: &Job, n: u64) -> Channel
     }
 }
 
-/// The Awake list of the console of a reason, if the reason is at one of the eight.
+/// The Awake list of the console of a reason, if the reason is at one of the eight, or of its link, if it is at one of the
+/// sixteen.
 fn awake_for(reason: Option<Wait>) -> Option<u32>
     ensures { result ≡ awake_for reason }
 {
     let reason = reason?;
-    if console_in(reason) >= 8 {
+    if !is_within(reason) {
         return None;
     }
     awake_of(reason)
@@ -85,6 +87,8 @@ impl World {
             Wait::Input(c) => self.waiting_at(c).0 == 0 || self.is_anothers(slot, c),
             Wait::Output(c) => self.waiting_at(c).1 >= MOST_WAITING || self.is_anothers(slot, c),
             Wait::Drained(c) => self.waiting_at(c).1 != 0,
+            Wait::Empty(l) => self.pipes.is_dry(l),
+            Wait::Room(l) => self.pipes.is_crowded(l),
         }
     }
 
@@ -108,7 +112,7 @@ impl World {
         ensures { result ≡ place_for (doors_of self.now) slot n reason }
     {
         let reason = reason?;
-        if console_in(reason) >= 8 {
+        if !is_within(reason) {
             return None;
         }
         if self.is_held_up(slot, n, reason) {
@@ -132,7 +136,7 @@ impl World {
         }
     }
 
-    /// The Awake list of the console at which the call of a slot waits, if it waits at one.
+    /// The Awake list of the console or link at which the call of a slot waits, if it waits at one.
     #[tactic(auto, unfolding(crate::specs::Filed::awake_at))]
     fn awake_at(&self, slot: u8) -> Option<u32>
         requires { slot < slots }
@@ -144,7 +148,7 @@ impl World {
         }
     }
 
-    /// Whether a slot is on the Awake list of the console at which its call waits.
+    /// Whether a slot is on the Awake list of the console or link at which its call waits.
     fn is_awake(&self, slot: u8) -> bool
         requires { slot < slots }
         ensures { IsTrue result ↔ IsIn self.now.rings.lists slot (awake_at self.now slot) }
@@ -155,7 +159,8 @@ impl World {
         }
     }
 
-    /// Whether a slot is on a wait list, that is, on a list that is not the Awake list of its console.
+    /// Whether a slot is on a wait list, that is, on a list that is not the Awake list of its console or
+    /// link.
     pub fn is_blocked(&self, slot: u8) -> bool
         requires slot { slot < slots }
         requires stands { Blocked self.now slot ⊎ StandsIn self.now.rings.lists slot (place_of self.now slot) }
@@ -174,7 +179,7 @@ impl World {
         put(&mut self.rings, slot, place);
     }
 
-    /// Puts each slot of a list where it belongs.
+    /// Puts each slot of a list on the list to which it belongs.
     fn settle(&mut self, head: u32)
         requires { head < heads }
         ensures { Resettled self.old self.new (head ∷ []) }
@@ -185,7 +190,7 @@ impl World {
         }
     }
 
-    /// Puts each slot that is on a list of a console where it belongs.
+    /// Puts each slot that is on a list of a console on the list to which it belongs.
     pub fn resettle(&mut self, console: u8)
         requires { console < 8 }
         ensures { Resettled self.old self.new (lists_at console) }
@@ -197,8 +202,27 @@ impl World {
         self.settle(26 + c);
     }
 
+    /// Puts each slot that is on a list of a link where it belongs.
+    pub fn resettle_link(&mut self, link: u8)
+        requires { link < most_links }
+        ensures { Resettled self.old self.new (link_lists link) }
+    {
+        let l = u32::from(link);
+        self.settle(34 + l);
+        self.settle(50 + l);
+        self.settle(66 + l);
+    }
+
+    /// The same of all consoles and links.
+    pub fn settle_posts(&mut self)
+        ensures { Resettled self.old self.new (lists_to 8 ++ link_lists_to most_links) }
+    {
+        self.settle_consoles();
+        self.settle_links();
+    }
+
     /// The same of all consoles.
-    pub fn settle_consoles(&mut self)
+    fn settle_consoles(&mut self)
         ensures { Resettled self.old self.new (lists_to 8) }
     {
         for c in 0..CONSOLES as u8 {
@@ -206,7 +230,16 @@ impl World {
         }
     }
 
-    /// Puts each slot that waits for a time where it belongs.
+    /// The same of all links.
+    fn settle_links(&mut self)
+        ensures { Resettled self.old self.new (link_lists_to most_links) }
+    {
+        for l in 0..LINKS as u8 {
+            self.resettle_link(l);
+        }
+    }
+
+    /// Puts each slot that waits for a time on the list to which it belongs.
     pub fn resettle_clock(&mut self)
         ensures { Resettled self.old self.new (1 ∷ []) }
     {

@@ -1,18 +1,20 @@
 //! The lists of slots whose calls wait, and the reasons to wait.
 ghost use Rattle.std.specs.Prelude.{◌≡◌, ◌<◌, ◌≤◌, ◌↔◌, ℕ, None, Some, IfSome, IsTrue, length};
 ghost use Rattle.its_word.specs.Limits.{slots};
-ghost use Rattle.its_links.specs.Lists.{Linked, list_at, count};
+ghost use Rattle.its_links.specs.Lists.{list_at, count};
+ghost use Rattle.its_plain.specs.Machine.{Linked};
 ghost use Rattle.its_plain.specs.Reasons.{of_transfer, of_finish, of_listen, reason_by};
-ghost use Rattle.its_world.specs.Rings.{Put, ring_of, awake_of, console_in};
+ghost use Rattle.its_world.specs.Rings.{Put, ring_of, awake_of, is_within};
 ghost use Rattle.its_world.specs.Filed.{kind_of};
 
 use its_frame::{CallName, Wait};
 use its_links::Links;
 use its_word::{Channel, SLOTS};
 
-/// How many lists there are: one for HANG, one for CLOCK, and of each console one each for input, output and
-/// drained output, and one of those that wait there and can go on.
-pub const HEADS: u32 = 34;
+/// How many lists there are: one for HANG, one for CLOCK, of each console one each for input, output and drained output,
+/// and one of those that wait there and can go on; and of each link one each for those that wait for a word and for room,
+/// and one of those that wait there and can go on.
+pub const HEADS: u32 = 82;
 
 /// The list of those that wait for a time.
 pub const CLOCK_RING: u32 = 1;
@@ -71,10 +73,12 @@ pub fn ring_of(reason: Wait) -> u32
         Wait::Input(c) => 2 + u32::from(c),
         Wait::Output(c) => 10 + u32::from(c),
         Wait::Drained(c) => 18 + u32::from(c),
+        Wait::Empty(l) => 34 + u32::from(l),
+        Wait::Room(l) => 50 + u32::from(l),
     }
 }
 
-/// The list of those at the console of a reason that can go on.
+/// The list of those at the console or link of a reason that can go on.
 pub fn awake_of(reason: Wait) -> Option<u32>
     ensures { result ≡ awake_of reason }
 {
@@ -84,19 +88,23 @@ pub fn awake_of(reason: Wait) -> Option<u32>
         Wait::Input(c) => Some(26 + u32::from(c)),
         Wait::Output(c) => Some(26 + u32::from(c)),
         Wait::Drained(c) => Some(26 + u32::from(c)),
+        Wait::Empty(l) => Some(66 + u32::from(l)),
+        Wait::Room(l) => Some(66 + u32::from(l)),
     }
 }
 
-/// The console of a reason; 0 if it is at none.
-pub fn console_in(reason: Wait) -> u8
-    ensures { result ≡ console_in reason }
+/// Whether the console of a reason is one of the eight, or its link one of the sixteen. A reason that is at neither is.
+pub fn is_within(reason: Wait) -> bool
+    ensures { result ≡ is_within reason }
 {
     match reason {
-        Wait::Hang => 0,
-        Wait::Clock => 0,
-        Wait::Input(c) => c,
-        Wait::Output(c) => c,
-        Wait::Drained(c) => c,
+        Wait::Hang => true,
+        Wait::Clock => true,
+        Wait::Input(c) => c < 8,
+        Wait::Output(c) => c < 8,
+        Wait::Drained(c) => c < 8,
+        Wait::Empty(l) => l < 16,
+        Wait::Room(l) => l < 16,
     }
 }
 
@@ -115,14 +123,26 @@ pub fn reason_by(console: u8, channel: Channel, name: Option<CallName>) -> Optio
     }
 }
 
-/// That of a byte that is moved from or to a console.
+/// That of a byte or word that is moved from or to a console or a link.
 fn of_transfer(console: u8, channel: Channel) -> Option<Wait>
     ensures { result ≡ of_transfer console (kind_of channel) }
 {
     match channel {
         Channel::TtyIn => Some(Wait::Input(console)),
         Channel::TtyOut => Some(Wait::Output(console)),
+        Channel::Link { link, write } => Some(of_link(link, write)),
         _ => None,
+    }
+}
+
+/// That of a word that is sent through a link, or received.
+fn of_link(link: u8, write: bool) -> Wait
+    ensures { Some result ≡ of_transfer 0 (Linked link write) }
+{
+    if write {
+        Wait::Room(link)
+    } else {
+        Wait::Empty(link)
     }
 }
 

@@ -13,6 +13,7 @@ use its_frame::Frame;
 use its_jobs::{Jobs, limit_of};
 use its_links::Links;
 use its_parts::{no_alarms, no_symbols, quiet_consoles};
+use its_pipes::Pipes;
 use its_word::{Job, NoAccess, NoMemory, SLOTS, Word};
 use std::alloc::Global;
 
@@ -22,7 +23,8 @@ pub(crate) const CONSOLES: usize = 8;
 /// The whole state: cores, jobs, for each slot the frame of its call in progress if it is in one, the consoles, for
 /// each of them the slot of the job that holds it, the files and drafts, the clock in thirtieths, the wait lists, the
 /// version of the session text, which determines how many jobs there can be, for each slot the symbols of its job, in
-/// the order in which they were given, and the alarm of its job if it has one: its period and its next time.
+/// the order in which they were given, the alarm of its job if it has one: its period and its next time, and the links
+/// between jobs with their words.
 #[derive(Drop)]
 pub struct World {
     pub core: Core,
@@ -36,6 +38,7 @@ pub struct World {
     pub version: u8,
     pub symbols: Vec<ArrayVec<(Word, u32), 512>>,
     pub alarms: Vec<Option<(u64, u64)>>,
+    pub pipes: Pipes,
     ghost lists: { vec_len symbols ≡ slots },
     ghost alarm_places: { vec_len alarms ≡ slots },
     ghost slots: { vec_len frames ≡ slots },
@@ -53,10 +56,11 @@ impl World {
     ghost use Rattle.its_world.specs.World.{frame_at, console_at, holder_at, alarm_at, CoreBecomes, JobBecomes, FrameBecomes, PageBecomes, ConsoleBecomes, HolderBecomes, ClockBecomes, symbols_at, SymbolsBecome, VersionBecomes, typed_at, drained_at};
     ghost use Rattle.its_plain.specs.Change.{taken_from, put_to};
     ghost use Rattle.its_files.specs.Files.{no_files};
+    ghost use Rattle.its_pipes.specs.Pipes.{piped};
     ghost use Rattle.its_world.specs.Filed.{Ringed, SlotWritten, ConsoleWritten, HolderWritten, ClockWritten};
 
     /// The world at the start of a session: no job, no page, no frame, nothing that waits at a console, no
-    /// holder of one, clock 0, version 1, no symbol, no alarm. Takes all the memory that it needs.
+    /// holder of one, clock 0, version 1, no symbol, no alarm, no link. Takes all the memory that it needs.
     #[tactic(auto, using(its_word::proofs::FreeLaws::limit_first))]
     pub fn open(alloc: Global) -> Result<World, NoMemory>
         ensures cores { IfOk result (λ w. IsEmpty w.core) }
@@ -70,6 +74,7 @@ impl World {
         ensures version { IfOk result (λ w. w.version ≡ 1) }
         ensures symbols { IfOk result (λ w. (k : ℕ) → symbols_at w.symbols.items k ≡ []) }
         ensures alarms { IfOk result (λ w. (k : ℕ) → alarm_at w.alarms.items k ≡ None) }
+        ensures links { IfOk result (λ w. (l : ℕ) → piped w.pipes l ≡ None) }
     {
         let core = Core::open(alloc)?;
         let jobs = Jobs::open(alloc)?;
@@ -79,6 +84,7 @@ impl World {
         let rings = Links::open(alloc, SLOTS as u32, HEADS)?;
         let symbols = no_symbols(alloc, SLOTS)?;
         let alarms = no_alarms(alloc, SLOTS)?;
+        let pipes = Pipes::open(alloc)?;
         Ok(World {
             core,
             jobs,
@@ -91,6 +97,7 @@ impl World {
             version: 1,
             symbols,
             alarms,
+            pipes,
         })
     }
 
@@ -124,7 +131,7 @@ impl World {
         self.refile(slot);
     }
 
-    /// Stores a word of a slot: Absent or ReadOnly if its page is so.
+    /// Stores a word of a slot: Absent if its page is absent, ReadOnly if it is read only.
     #[tactic(auto, using(crate::proofs::WorldLaws::core_becomes))]
     pub fn put_word(&mut self, slot: u8, a: u32, w: Word) -> Result<(), NoAccess>
         requires slot { slot < slots }

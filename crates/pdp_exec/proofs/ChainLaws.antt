@@ -126,7 +126,7 @@ along_over c j i w used seen a h =
       places_is = sym (append-nil seen) ∙ ap (λ r. seen ++ r) (sym (ap (λ m. m.reads) t)) ∙ a.places;
     }
 
--- an instruction that is no XCT is found where it stands
+-- an instruction that is no XCT is found in its own place
 turn_plain : (c : Core) (i : Instruction) (x : Context) → leads_on i ≡ false → turn_at c i x ≡ gives (Found (record { instruction = i; context = x }))
 unfolding turn_at
 turn_plain c Xct x h = cc
@@ -156,17 +156,17 @@ pub unit_by : (c : Core) (j : Job) (r : Reached) (o : Outcome) → (reached c j)
 unfolding unit
 unit_by c j r o e h p = ap (outcome_at c j (reached c j).reads) e ∙ planned_by c j (reached c j).reads r.context r.instruction h ∙ p
 
--- what stands at the PC
+-- what is at the PC
 is_decoded : (w : ℕ) (i : Instruction) → instruction_of (opcode_of w) ≡ i → has_row i (ac_of w) ≡ true → decoded w ≡ Ok i
 unfolding decoded
 is_decoded w i e h = rw (e, h) refl
 
--- the unit, where the way to its instruction is known
+-- the unit, if the way to its instruction is known
 unit_at : (c : Core) (j : Job) (a : Result Reached Fault) (reads : List ℕ) → a ≡ (reached c j).answer → reads ≡ (reached c j).reads → unit c j ≡ outcome_at c j reads a
 unfolding unit
 unit_at c j a reads e f = ap (λ b. outcome_at c j (reached c j).reads b) (sym e) ∙ ap (λ r. outcome_at c j r a) (sym f)
 
--- a call, with the site that the walk to its instruction tells
+-- a call, with the site that the walk to its instruction gives
 pub unit_iot : (c : Core) (j : Job) (a : Result Reached Fault) (r : Reached) (reads : List ℕ) → a ≡ (reached c j).answer → reads ≡ (reached c j).reads → a ≡ Ok r → r.instruction ≡ Iot
     → unit c j ≡ Called (site_of r.context (Some r.context.a) reads)
 unfolding done_by
@@ -180,7 +180,7 @@ unit_call c j a r reads e f g h = unit_at c j a reads e f ∙ ap (outcome_at c j
 pub unit_lost : (c : Core) (j : Job) (a : Result Reached Fault) (g : Fault) → a ≡ (reached c j).answer → a ≡ Err g → unit c j ≡ Faulted g
 unit_lost c j a g e h = unit_at c j a (reached c j).reads e refl ∙ ap (outcome_at c j (reached c j).reads) h
 
--- a unit is a call exactly where its instruction is one
+-- a unit is a call exactly if its instruction is one
 pub is_called : (c : Core) (j : Job) (r : Reached) → (reached c j).answer ≡ Ok r → is_call r.instruction ≡ true → IsCalled (unit c j)
 unfolding unit done_by
 is_called c j r e h = subst IsCalled (sym (ap (outcome_at c j (reached c j).reads) e)) (go r.instruction h)
@@ -190,7 +190,7 @@ is_called c j r e h = subst IsCalled (sym (ap (outcome_at c j (reached c j).read
     go Call h = tt
     go _ h = cc
 
--- what stands at the PC: its unit
+-- what is at the PC: its unit
 pub stands_at : (c : Core) (j : Job) (w : ℕ) (e : Address) → read_of c j.pc ≡ Ok w → (address c w 0).answer ≡ Ok e
     → Stands c j (opcode_of w) (context_of j w e (address c w 0).used)
 stands_at c j w e r a = record {

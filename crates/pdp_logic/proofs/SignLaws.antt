@@ -1,4 +1,4 @@
--- Bits that move behind a sign bit.
+-- Bits that move below a sign bit.
 use Rattle.std.proofs.Common.{◌≡◌, ◌<◌, ◌≤◌, ◌+◌, ◌-◌, ◌*◌, ◌/◌, ◌%◌, ◌^◌, ◌∙◌, ◌==◌, ◌&&◌, ℕ, zero, suc, ap, bit_or, arith}
 use Rattle.std.proofs.Math.Nat.{mul-add-div_right, mul-div-mul_right, div-eq_of_lt, div-eq_of_lt-le, pow-le-pow_right}
 use Rattle.std.proofs.lemmas.Bool.Decides.{nat_tests}
@@ -31,7 +31,7 @@ even_copies (suc (suc s)) m h p bit some more = absurd (omega arith)
 regrouped : (m h n : ℕ) → m * (h * 2 * n) ≡ m * h * 2 * n
 regrouped m h n = omega arith
 
--- where more places go than there are, all bits leave and zeros after them
+-- if more places go than there are, all bits leave and zeros after them
 pub lost_past : (n s m k : ℕ) → s ≤ 1 → m < 2 ^ n → n < k → (m * 2 ^ k / 2 ^ n == s * (2 ^ k - 1)) ≡ ((s == 0) && (m == 0))
 lost_past n s m k bit below past =
     let whole : 2 ^ k ≡ 2 ^ (k - n) * 2 ^ n = powers k n (omega arith) in
@@ -43,7 +43,7 @@ lost_past n s m k bit below past =
 factored : (c a k m : ℕ) → c * (a * k) + m ≡ c * a * k + m
 factored c a k m = omega arith
 
--- bits that move to the right behind a sign, and the copies of it that come in
+-- bits that move to the right below a sign, and the copies of the sign that come in
 pub right_in : (n s m k : ℕ) → s ≤ 1 → m < 2 ^ n → k ≤ n → n ≤ 72
     → (bit_or (s * (2 ^ k - 1) * 2 ^ (n - k) % 2 ^ 128) (m / 2 ^ k) ≡ (s * (2 ^ k - 1) * 2 ^ n + m) / 2 ^ k) × ((s * (2 ^ k - 1) * 2 ^ n + m) / 2 ^ k < 2 ^ n)
 right_in n s m k bit below within few =

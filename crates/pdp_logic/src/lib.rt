@@ -1,6 +1,8 @@
 //! Boolean functions, half words, tests, shifts and rotations of the PDP-10, each family by its row of
 //! the instruction tables (processor reference manual, "Logic", "Half word data transmission",
 //! "Logical testing and modification" and "Fixed point arithmetic").
+//!
+//! Proved: each function gives exactly the result of its family's definition in the instruction tables.
 #![tactic(auto)]
 
 mod arithmetic;

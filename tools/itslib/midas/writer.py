@@ -116,7 +116,7 @@ class Writer:
         asks = not statement or statement.labels or statement.kind not in ("TITLE", "REMARK", "NOTHING", "EQUALS") or (
             statement.kind == "EQUALS" and HERE.search(statement.source))
         if asks and not self.begun and not (statement and statement.kind == "LOC" and not statement.labels):
-            self.line([], "LOC %o" % START, "; where a text without LOC begins")
+            self.line([], "LOC %o" % START, "; a text without LOC begins here")
         self.begun = self.begun or bool(asks)
 
     def comment(self, phrase: Phrase, source: str, comment: str) -> str:

@@ -7,7 +7,7 @@ use super::*;
 use crate::tests::clear_page;
 use std::test::Fail;
 
-/// The page frame after a page frame, in whichever list that is; None if it ends a list or is in none.
+/// The page frame after a page frame in its list; None if it ends a list or is in none.
 fn behind(core: &Core, frame: u32) -> Option<u32>
     requires { frame < all_frames }
 {

@@ -3,7 +3,7 @@ use Rattle.std.specs.Prelude.{true, not, is_some, unwrap_or}
 use Rattle.std.proofs.Common.{sym, ◌∙◌, ap}
 use Rattle.its_plain.specs.Arguments.{input}
 use Rattle.its_plain.specs.CallFile.{siot_reads, siot_read}
-use Rattle.its_plain.specs.CallTty.{next_pointer}
+use Rattle.its_plain.specs.Transfer.{next_pointer}
 use Rattle.its_plain.specs.View.{view}
 use Rattle.its_world.specs.World.{state_of}
 use Rattle.call_basic.specs.Seen.{seen_by}

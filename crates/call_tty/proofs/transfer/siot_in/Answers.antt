@@ -2,7 +2,8 @@
 use Rattle.std.specs.Prelude.{false, unwrap_or, refl}
 use Rattle.std.proofs.Common.{sym, ◌∙◌}
 use Rattle.its_plain.specs.Arguments.{input}
-use Rattle.its_plain.specs.CallTty.{next_pointer, siot_in}
+use Rattle.its_plain.specs.CallTty.{siot_in}
+use Rattle.its_plain.specs.Transfer.{next_pointer}
 use Rattle.call_basic.specs.Seen.{seen_by}
 use Rattle.its_parts.proofs.StopLaws.{siot_goes, siot_stops}
 use Rattle.call_tty.proofs.transfer.siot_in.Goals as goal

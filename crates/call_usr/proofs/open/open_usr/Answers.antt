@@ -1,6 +1,6 @@
 -- No test stops it.
 use Rattle.std.proofs.Common.{sym, ◌∙◌, ap}
-use Rattle.call_tty.specs.Channels.{is_free}
+use Rattle.call_basic.specs.Channels.{is_free}
 use Rattle.call_usr.proofs.NameLaws.{opens_goes}
 use Rattle.call_usr.proofs.open.open_usr.Goals as goal
 

@@ -3,7 +3,7 @@ use Rattle.std.specs.Prelude.{true}
 use Rattle.std.proofs.Common.{sym, ◌∙◌, ap}
 use Rattle.its_word.specs.Core.{word_at}
 use Rattle.its_plain.specs.Arguments.{input}
-use Rattle.its_plain.specs.CallTty.{next_pointer}
+use Rattle.its_plain.specs.Transfer.{next_pointer}
 use Rattle.its_plain.specs.CallUsr.{at_end, other_core, siot_peeks}
 use Rattle.call_basic.specs.Seen.{seen_by}
 use Rattle.its_parts.proofs.StopLaws.{siot_goes, siot_stops}

@@ -2,7 +2,7 @@
 use Rattle.std.specs.Prelude.{true}
 use Rattle.std.proofs.Common.{sym, ◌∙◌}
 use Rattle.its_plain.specs.Arguments.{input}
-use Rattle.its_plain.specs.CallTty.{next_pointer}
+use Rattle.its_plain.specs.Transfer.{next_pointer}
 use Rattle.its_plain.specs.CallUsr.{at_end, siot_pokes}
 use Rattle.call_basic.specs.Seen.{seen_by}
 use Rattle.its_parts.proofs.StopLaws.{siot_stops}

@@ -1,7 +1,7 @@
 use Rattle.std.proofs.Common.{◌∙◌, ap, sym, Ok}
 use Rattle.its_core.specs.Cores.{core_at}
-use Rattle.its_plain.specs.Decode.{fetch_by, fetch_of}
-use Rattle.its_local.proofs.TwoLaws.{ask_fetched}
+use Rattle.its_stepped.specs.TwoParts.{fetch_by, fetch_of}
+use Rattle.its_stepped.proofs.TwoLaws.{ask_fetched}
 use Rattle.its_decode.proofs.asking.fetch_site.Goals as goal
 
 pub returns-in-Some-clause-asks : goal.returns-in-Some-clause-asks

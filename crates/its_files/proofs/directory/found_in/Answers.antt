@@ -1,4 +1,4 @@
--- each number of the order stands
+-- each number of the order has an entry
 use Rattle.std.proofs.Common.{ap, ◌∙◌, is_some, slice_index_or}
 use Rattle.std.proofs.lemmas.Option.{slice_get-get_or}
 use Rattle.its_files.proofs.ChainLaws.{count-at}

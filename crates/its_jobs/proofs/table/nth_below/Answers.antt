@@ -1,4 +1,4 @@
--- none is below where the loop found no first
+-- none is below if the loop found no first
 use Rattle.std.proofs.Common.{sym, ◌∙◌}
 use Rattle.its_word.proofs.TreeLaws.{nth_end}
 use Rattle.its_jobs.proofs.TableLaws.{none_at_all}

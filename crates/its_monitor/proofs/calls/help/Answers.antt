@@ -4,4 +4,4 @@ use Rattle.its_monitor.proofs.HelpLaws.{help_tidy}
 use Rattle.its_monitor.proofs.calls.help.Goals as goal
 
 pub returns-clause-tidy : goal.returns-clause-tidy
-returns-clause-tidy c = help_tidy c.args.w.now _ c.seen.ensures.whole c.requires.tidy c.help.ensures.made refl refl refl refl refl (ringed_alike _ _ refl refl refl refl refl refl)
+returns-clause-tidy c = help_tidy c.args.w.now _ c.seen.ensures.whole c.requires.tidy c.help.ensures.made refl refl refl refl refl refl (ringed_alike _ _ refl refl refl refl refl refl refl)

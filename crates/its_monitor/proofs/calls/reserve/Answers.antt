@@ -7,4 +7,4 @@ use Rattle.its_monitor.proofs.calls.reserve.Goals as goal
 
 pub returns : goal.returns
 returns c = page_becomes c.args.w.now _ c.args.slot (Some 0) c.reserve.ensures.quarters c.reserve.ensures.cores
-    (c.reserve.ensures.frames ∙ sym (frames_reserved _ 0 _ _ c.requires.none)) refl refl refl refl refl refl refl refl refl refl
+    (c.reserve.ensures.frames ∙ sym (frames_reserved _ 0 _ _ c.requires.none)) refl refl refl refl refl refl refl refl refl refl refl

@@ -5,7 +5,7 @@ use Rattle.its_monitor.proofs.TickLaws.{state_ticked, pace_ticked, tick_licensed
 use Rattle.its_monitor.proofs.WaitingLaws.{tick_blocked, pages_blocked, waits_blocked}
 use Rattle.its_monitor.proofs.ticks.tick.Goals as goal
 
--- a slot that stands in a wait ring
+-- a slot that is on a wait list
 stands : (c : goal.Then-waits_on) → Blocked c.args.w.now c.args.slot
 stands c = (c.waits_on.ensures.yes c.if-waits_on.true).stands
 

@@ -25,6 +25,7 @@ returns-clause-row c =
       alarms = refl;
       version = refl;
       symbols = refl;
+      pipes = refl;
     })
     c.in-Ok.ensures.slot c.requires.tidy c.args.slot c.requires.free c.console_of-console.ensures
 
@@ -44,5 +45,6 @@ returns-clause-tidy c =
       alarms = refl;
       version = refl;
       symbols = refl;
+      pipes = refl;
     })
     c.in-Ok.ensures.slot c.requires.tidy

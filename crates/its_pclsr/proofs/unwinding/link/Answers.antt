@@ -7,7 +7,7 @@ use Rattle.its_pclsr.proofs.unwinding.link.Goals as goal
 
 pub returns-clause-part : goal.returns-clause-part
 returns-clause-part c =
-    next_made c.args.w.now _ LinkNew c.seen.ensures.whole c.requires.next c.link_new.ensures.made (linked_stays _ _ c.seen.ensures.whole c.requires.tidy.across _ c.link_new.ensures.made) refl refl refl refl refl refl refl refl refl
+    next_made c.args.w.now _ LinkNew c.seen.ensures.whole c.requires.next c.link_new.ensures.made (linked_stays _ _ c.seen.ensures.whole c.requires.tidy.across _ c.link_new.ensures.made) refl refl refl refl refl refl refl refl refl refl
 
 pub returns-clause-tidy : goal.returns-clause-tidy
-returns-clause-tidy c = store_tidy c.args.w.now _ (linked_stays _ _ c.seen.ensures.whole c.requires.tidy.across _ c.link_new.ensures.made) refl refl refl refl refl (ringed_alike _ _ refl refl refl refl refl refl) c.requires.tidy
+returns-clause-tidy c = store_tidy c.args.w.now _ (linked_stays _ _ c.seen.ensures.whole c.requires.tidy.across _ c.link_new.ensures.made) refl refl refl refl refl (ringed_alike _ _ refl refl refl refl refl refl refl) c.requires.tidy

@@ -2,7 +2,7 @@
 use Rattle.std.proofs.Common.{sym, ◌∙◌, ap}
 use Rattle.its_word.specs.Byte.{has_size}
 use Rattle.its_plain.specs.Arguments.{input}
-use Rattle.its_plain.specs.CallTty.{next_pointer, siot_tests}
+use Rattle.its_plain.specs.Transfer.{next_pointer, siot_tests}
 use Rattle.its_decide.specs.Called.{looks}
 use Rattle.its_parts.proofs.StopLaws.{next_left, not_ended, stopped, unstopped}
 use Rattle.its_decide.proofs.caller.Caller.next_byte.Goals as goal

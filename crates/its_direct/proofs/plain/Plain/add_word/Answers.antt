@@ -7,7 +7,7 @@ returns-clause-row c =
     let h = c.in-Ok.ensures in
     let b = c.seen.ensures.blocks in
     added_row c.args.self.now c.seen.ensures.whole c.requires.tidy c.args.id c.requires.file (omega arith) _ c.args.w
-    (record { files = h.ok; core = refl; jobs = refl; consoles = refl; holders = refl; clock = refl; alarms = refl; version = refl; symbols = refl; place = refl; touched = refl }) h.entry h.words (h.file c.requires.file)
+    (record { files = h.ok; core = refl; jobs = refl; consoles = refl; holders = refl; clock = refl; alarms = refl; version = refl; symbols = refl; pipes = refl; place = refl; touched = refl }) h.entry h.words (h.file c.requires.file)
     (sym h.full)
 
 pub returns-clause-tidy : goal.returns-clause-tidy
@@ -15,7 +15,7 @@ returns-clause-tidy c =
     let h = c.in-Ok.ensures in
     let b = c.seen.ensures.blocks in
     added_tidy c.args.self.now c.seen.ensures.whole c.requires.tidy c.args.id c.requires.file (omega arith) _ c.args.w
-    (record { files = h.ok; core = refl; jobs = refl; consoles = refl; holders = refl; clock = refl; alarms = refl; version = refl; symbols = refl; place = refl; touched = refl }) h.entry h.words (h.file c.requires.file)
+    (record { files = h.ok; core = refl; jobs = refl; consoles = refl; holders = refl; clock = refl; alarms = refl; version = refl; symbols = refl; pipes = refl; place = refl; touched = refl }) h.entry h.words (h.file c.requires.file)
 
 pub unreachable-requires : goal.unreachable-requires
 unreachable-requires c =

@@ -7,11 +7,11 @@ returns-clause-row c =
     let r = c.requires in
     let t = c.remove_tree.ensures in
     stripped_row c.args.self.now c.sweep.new.self _ c.args.root r.slot c.tree.ensures r.closed r.tidy
-    (removes c.args.self.now c.sweep.new.self _ c.args.root c.sweep.ensures t.job t.superior c.pass_on.ensures refl refl refl refl refl refl refl refl refl)
+    (removes c.args.self.now c.sweep.new.self _ c.args.root c.sweep.ensures t.job t.superior c.pass_on.ensures refl refl refl refl refl refl refl c.leave_links.ensures refl refl)
 
 pub returns-clause-tidy : goal.returns-clause-tidy
 returns-clause-tidy c =
     let r = c.requires in
     let t = c.remove_tree.ensures in
     stripped_tidy c.args.self.now c.sweep.new.self _ c.args.root r.slot c.tree.ensures r.closed r.tidy
-    (removes c.args.self.now c.sweep.new.self _ c.args.root c.sweep.ensures t.job t.superior c.pass_on.ensures refl refl refl refl refl refl refl refl refl)
+    (removes c.args.self.now c.sweep.new.self _ c.args.root c.sweep.ensures t.job t.superior c.pass_on.ensures refl refl refl refl refl refl refl c.leave_links.ensures refl refl)

@@ -1,4 +1,4 @@
--- What the lines come to that have no answer of their own.
+-- The results of the lines that have no answer of their own.
 use Rattle.its_direct.proofs.EventLaws.{told_as, told_clock, told_cont, told_deposit, told_exam, told_file, told_int, told_list, told_peek, told_state, told_stop}
 use Rattle.its_direct.proofs.plain.Plain.tell_event.Goals as goal
 

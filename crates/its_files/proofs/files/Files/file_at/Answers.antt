@@ -1,4 +1,4 @@
--- what stands in the order is a file
+-- what is in the order is a file
 use Rattle.std.proofs.Common.{ap, ◌∙◌, true, ◌≡◌, subst}
 use Rattle.std.specs.Prelude.{IfSome, slice_get}
 use Rattle.its_files.specs.Files.{entry_at, is_file}

@@ -1,4 +1,4 @@
--- nothing stands
+-- there is no entry
 use Rattle.std.proofs.Common.{ap}
 use Rattle.its_files.proofs.EntryLaws.{opened_store}
 use Rattle.its_files.proofs.files.Files.open.Goals as goal

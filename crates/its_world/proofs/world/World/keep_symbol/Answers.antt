@@ -15,6 +15,7 @@ returns c =
     list_gains lists c.args.slot c.from.result c.index_mut.result.now c.push.new.self (c.args.name, c.args.a) (omega arith) c.from.ensures c.index_mut.ensures.value c.push.ensures.items in
     record {
       symbols = search;
+      pipes = refl;
       core = refl;
       jobs = refl;
       frames = refl;
@@ -24,5 +25,5 @@ returns c =
       clock = refl;
       version = refl;
       alarms = refl;
-      ringed = ringed_alike c.args.self.now _ refl refl refl refl refl refl;
+      ringed = ringed_alike c.args.self.now _ refl refl refl refl refl refl refl;
     }

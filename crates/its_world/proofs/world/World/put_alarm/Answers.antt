@@ -14,5 +14,6 @@ returns c = record {
   clock = refl;
   version = refl;
   symbols = refl;
-  ringed = ringed_alike c.args.self.now _ refl refl refl refl refl refl;
+  pipes = refl;
+  ringed = ringed_alike c.args.self.now _ refl refl refl refl refl refl refl;
 }

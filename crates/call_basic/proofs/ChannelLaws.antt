@@ -1,16 +1,15 @@
--- A channel is closed where it is shut on the plain machine.
+-- A channel is closed if it is shut on the plain machine.
 use Rattle.std.specs.Prelude.{◌≡◌, ◌&&◌, ℕ, nat_lt, refl}
 use Rattle.std.proofs.Common.{ap, ◌∙◌}
 use Rattle.its_word.specs.declared.jobs.Channel.{Channel}
 use Rattle.its_word.specs.declared.jobs.Channel.TheVariants.{Closed}
 use Rattle.its_word.specs.declared.jobs.Job.{Job}
 use Rattle.its_files.specs.Files.{Store}
-use Rattle.its_plain.specs.CallBasic.{channel_at}
-use Rattle.its_plain.specs.CallTty.{is_shut}
+use Rattle.its_plain.specs.CallBasic.{channel_at, is_shut}
 use Rattle.its_world.specs.World.{chan_of, chans_of}
 use Rattle.its_parts.specs.Called.{channel_under}
 use Rattle.its_parts.proofs.NumberLaws.{under}
-use Rattle.call_tty.specs.Channels.{is_closed, is_free}
+use Rattle.call_basic.specs.Channels.{is_closed, is_free}
 
 closed_by : (s : Store) (c : Channel) → is_closed c ≡ is_shut (chan_of s c)
 closed_by s Closed = refl

@@ -8,14 +8,14 @@ use Rattle.its_word.specs.declared.access.Fault.{Fault}
 use Rattle.its_word.specs.declared.calls.Arg.{Arg}
 use Rattle.its_word.specs.declared.calls.Ask.{Ask}
 use Rattle.its_word.specs.declared.calls.Site.{Site}
-use Rattle.its_plain.specs.Ask.{items_of as block_of, parse, fetch}
+use Rattle.its_stepped.specs.TwoParts.{items_of as block_of, parse, fetch, block_places, fetch_by, fetch_of, fetched, fetched_by, parse_by, parse_of}
 use Rattle.its_plain.specs.UnitPlan.{given}
 use Rattle.its_plain.specs.Traced.{Traced, also, gives, word}
 use Rattle.its_local.proofs.AskLaws.{asked_by_iot}
 use Rattle.its_local.proofs.TracedLaws.{also_err, also_ok, went}
-use Rattle.its_plain.specs.Decode.{Shape, argument_words, arguments, ask, ask_by, ask_of, block_at, block_places, checked, fetch_by, fetch_of, fetched, fetched_by, has_bit_0, is_legal, parse_by, parse_of, parsed, shaped, up_to_last, words_of}
+use Rattle.its_plain.specs.Decode.{Shape, argument_words, arguments, ask, ask_by, ask_of, block_at, checked, has_bit_0, is_legal, parsed, shaped, up_to_last, words_of}
 
--- the words of a block that is read from an address on, behind some that were read already
+-- the words of a block that is read from an address on, after some that were read already
 record Read (t : Traced (ArrayVec ℕ)) (a seen : ℕ) (block : ArrayVec ℕ) : Type 0 where
   pub number : ℕ
   pub long : length block.items ≡ seen + number
@@ -151,14 +151,14 @@ ask_in_parts c s = go s.channel refl
     go None n = ask_in_two c s n ∙ sym (ap (λ o. given (parse_by c s o) (λ b. fetch_by c s b o)) n)
     go (Some ch) n = asked_by_iot c s ch n ∙ sym (ap (λ o. given (parse_by c s o) (λ b. fetch_by c s b o)) n)
 
--- what follows the first part, where it is done
+-- what follows the first part, if it is done
 pub ask_after_parse : (c : Core) (s : Site) (b : ArrayVec ℕ) → parse_of c s ≡ Ok b → ask c s ≡ fetch_of c s b
 ask_after_parse c s b h = ask_in_parts c s ∙ ap (λ r. given r (λ b. fetch_of c s b)) h
 
 pub ask_fetched : (c : Core) (s : Site) (b : ArrayVec ℕ) (r : Result Ask Fault) → r ≡ fetch_of c s b → parse_of c s ≡ Ok b → r ≡ ask c s
 ask_fetched c s b r e h = e ∙ sym (ask_after_parse c s b h)
 
--- and where it ends with a fault
+-- and if it ends with a fault
 pub ask_unparsed : (c : Core) (s : Site) (r : Result (ArrayVec ℕ) Fault) (f : Fault) → r ≡ parse_of c s → r ≡ Err f → ask c s ≡ Err f
 ask_unparsed c s r f e h = ask_in_parts c s ∙ ap (λ r. given r (λ b. fetch_of c s b)) (sym e ∙ h)
 

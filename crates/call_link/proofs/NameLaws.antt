@@ -1,0 +1,35 @@
+-- OPEN of an end of a link, if none of its tests stops it.
+use Rattle.std.specs.Prelude.{◌≡◌, ◌≤◌, ◌==◌, ◌&&◌, ℕ, true, None, nat_lt, unwrap_or, refl}
+use Rattle.std.proofs.Common.{sym, ◌∙◌, ap, subst}
+use Rattle.std.proofs.lemmas.Bool.{le-ltb}
+use Rattle.its_word.specs.declared.calls.Ask.{Ask}
+use Rattle.its_word.specs.declared.jobs.Job.{Job}
+use Rattle.its_plain.specs.Arguments.{input}
+use Rattle.its_plain.specs.CallBasic.{channel_at, is_shut}
+use Rattle.its_plain.specs.CallLink.{link_named, link_tests, opens_end, opens_link}
+use Rattle.its_plain.specs.View.{View, view}
+use Rattle.its_world.specs.declared.world.World.{World}
+use Rattle.its_parts.specs.Called.{first_of}
+use Rattle.call_basic.specs.Seen.{seen_by}
+use Rattle.call_basic.specs.Channels.{is_free}
+use Rattle.call_basic.proofs.ChannelLaws.{free}
+use Rattle.its_parts.proofs.StopLaws.{unstopped}
+
+-- the channel is free, and the control argument is 0 or 1
+seen_free : (w : World) (s : ℕ) (j : Job) (a : Ask) (n : ℕ) → is_free j n ≡ (nat_lt n 16 && is_shut (channel_at (seen_by w s j a).own.channels n))
+unfolding view
+seen_free w s j a n = free w.files j n
+
+no_test : (v : View) (a : Ask) (n control : ℕ) → (nat_lt n 16 && is_shut (channel_at v.own.channels n)) ≡ true → control ≤ 1 → first_of (link_tests v a n control) ≡ None
+no_test v a n control f l = let low = le-ltb 1 control l in rw (f, low) refl
+
+pub opens_goes : (w : World) (s : ℕ) (j : Job) (a : Ask) (n control : ℕ) → n ≡ input a 0 → control ≡ unwrap_or a.control 0 → is_free j (input a 0) ≡ true → control ≤ 1
+    → opens_end (seen_by w s j a) a n (control == 1) (input a 2) (input a 3) (link_named (seen_by w s j a).links (input a 2) (input a 3)) ≡ opens_link (seen_by w s j a) a
+unfolding opens_link
+opens_goes w s j a n control en ec f l =
+    let v = seen_by w s j a in
+    let named = link_named v.links (input a 2) (input a 3) in
+    ap (λ i. opens_end v a i (control == 1) (input a 2) (input a 3) named) en
+    ∙ ap (λ (c : ℕ). opens_end v a (input a 0) (c == 1) (input a 2) (input a 3) named) ec
+    ∙ unstopped (link_tests v a (input a 0) (unwrap_or a.control 0)) (opens_end v a (input a 0) (unwrap_or a.control 0 == 1) (input a 2) (input a 3) named)
+    (no_test v a (input a 0) (unwrap_or a.control 0) (sym (seen_free w s j a (input a 0)) ∙ f) (subst (λ (c : ℕ). c ≤ 1) ec l))

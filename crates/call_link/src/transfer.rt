@@ -1,0 +1,148 @@
+//! `.IOT` and SIOT on links: whole words, or bytes that become words.
+ghost use Rattle.std.specs.Prelude.{◌≡◌, ◌<◌, true, slice_index_or};
+ghost use Rattle.its_word.specs.Byte.{has_size};
+ghost use Rattle.its_word.specs.Limits.{slots};
+ghost use Rattle.its_plain.specs.Arguments.{input};
+ghost use Rattle.its_plain.specs.CallLink.{iot_linked, iot_receives, iot_sends, siot_linked, siot_receive, siot_receives, siot_send, siot_sends};
+ghost use Rattle.its_plain.specs.Transfer.{next_pointer};
+ghost use Rattle.call_basic.specs.Seen.{seen_by};
+
+use arrayvec::ArrayVec;
+use call_basic::{
+    bar_of_store, fails, faults, input, ioc, iot_ends, moves, next_pointer, stopped, store_at,
+};
+use its_bytes::load;
+use its_frame::{Change, Decision, Held, Wait, error};
+use its_word::{Ask, Fault, Job, Word};
+use its_world::World;
+
+/// What `.IOT` gets at the end of a link.
+const END_OF_LINK: u64 = 0o777777000003;
+
+/// `.IOT` through a channel on a link: to it, if the channel is on the writing end, else from it.
+pub fn iot_link(w: &World, slot: u8, job: &Job, ask: &Ask, link: u8, write: bool) -> Decision
+    requires { slot < slots }
+    ensures { result ≡ iot_linked (seen_by w.now slot job.now ask.now) (slice_index_or ask.now.outputs.items 0 0) link write }
+{
+    if write {
+        iot_sends(w, slot, job, ask, link)
+    } else {
+        iot_receives(w, slot, job, ask, link)
+    }
+}
+
+/// `.IOT` from a link: its first word; 777777000003 at its end. MPV or WRO by the word at E.
+#[tactic(auto, unfolding(its_plain::specs::View::view, its_world::specs::World::state_of))]
+fn iot_receives(w: &World, slot: u8, job: &Job, ask: &Ask, link: u8) -> Decision
+    requires { slot < slots }
+    ensures { result ≡ iot_receives (seen_by w.now slot job.now ask.now) (slice_index_or ask.now.outputs.items 0 0) link }
+{
+    let e = ask.outputs.first().copied().unwrap_or(0);
+    if let Some(fault) = bar_of_store(w, slot, e) {
+        return faults(job, fault);
+    }
+    if w.pipes.is_dry(link) {
+        return Decision::Waits(Wait::Empty(link));
+    }
+    match w.pipes.first_word(link) {
+        Some(word) => iot_ends(job, Some(Change::Receive { link }), store_at(Some(e), word)),
+        None => iot_ends(job, None, store_at(Some(e), Word::new(END_OF_LINK))),
+    }
+}
+
+/// `.IOT` to a link: the word at E is sent. MPV by that word; IOC if the reading end is closed.
+#[tactic(auto, unfolding(its_plain::specs::View::view, its_world::specs::World::state_of))]
+fn iot_sends(w: &World, slot: u8, job: &Job, ask: &Ask, link: u8) -> Decision
+    requires { slot < slots }
+    ensures { result ≡ iot_sends (seen_by w.now slot job.now ask.now) (slice_index_or ask.now.outputs.items 0 0) link }
+{
+    let e = ask.outputs.first().copied().unwrap_or(0);
+    let Some(word) = w.core.word(slot, e) else {
+        return faults(job, Fault::Mpv);
+    };
+    if w.pipes.is_unread(link) {
+        return ioc(job);
+    }
+    if w.pipes.is_crowded(link) {
+        return Decision::Waits(Wait::Room(link));
+    }
+    iot_ends(job, Some(Change::Send { link, word }), ArrayVec::new())
+}
+
+/// SIOT through a channel on a link: to it, if the channel is on the writing end, else from it.
+pub fn siot_link(w: &World, slot: u8, job: &Job, ask: &Ask, link: u8, write: bool) -> Decision
+    requires { slot < slots }
+    ensures { result ≡ siot_linked (seen_by w.now slot job.now ask.now) ask.now link write }
+{
+    if write {
+        siot_sends(w, slot, job, ask, link)
+    } else {
+        siot_receives(w, slot, job, ask, link)
+    }
+}
+
+/// SIOT from a link: its first word is held, and its low bits stored by the next step. At the end of the link it finishes.
+#[tactic(auto, unfolding(its_plain::specs::View::view, its_world::specs::World::state_of))]
+fn siot_receives(w: &World, slot: u8, job: &Job, ask: &Ask, link: u8) -> Decision
+    requires { slot < slots }
+    ensures { result ≡ siot_receives (seen_by w.now slot job.now ask.now) ask.now link }
+{
+    match stopped(w, slot, job, ask, false, w.pipes.is_ended(link)) {
+        Some(decision) => decision,
+        None => siot_receive(w, slot, job, ask, link),
+    }
+}
+
+/// The same if no test of its arguments stops it.
+#[tactic(auto, unfolding(its_plain::specs::View::view, its_world::specs::World::state_of))]
+fn siot_receive(w: &World, slot: u8, job: &Job, ask: &Ask, link: u8) -> Decision
+    requires { slot < slots }
+    ensures { result ≡ siot_receive (seen_by w.now slot job.now ask.now) (next_pointer (input ask.now 1)) (input ask.now 2) link }
+{
+    let next = next_pointer(input(ask, 1));
+    let place = next.right();
+    if let Some(fault) = bar_of_store(w, slot, place) {
+        return faults(job, fault);
+    }
+    if w.pipes.is_dry(link) {
+        return Decision::Waits(Wait::Empty(link));
+    }
+    let held = Held {
+        place,
+        byte: w.pipes.first_word(link).unwrap_or(Word::ZERO),
+    };
+    moves(Change::Receive { link }, Some(held), next, input(ask, 2))
+}
+
+/// SIOT to a link: the byte becomes a word, which is sent. Error 26 if the reading end is closed.
+#[tactic(auto, using(its_plain::proofs::SizeLaws::next_sized), unfolding(its_plain::specs::View::view, its_world::specs::World::state_of))]
+fn siot_sends(w: &World, slot: u8, job: &Job, ask: &Ask, link: u8) -> Decision
+    requires { slot < slots }
+    ensures { result ≡ siot_sends (seen_by w.now slot job.now ask.now) ask.now link }
+{
+    match stopped(w, slot, job, ask, false, false) {
+        Some(decision) => decision,
+        None => siot_send(w, slot, job, ask, link),
+    }
+}
+
+/// The same if no test of its arguments stops it.
+#[tactic(auto, using(its_parts::proofs::StopLaws::loaded_fits), unfolding(its_plain::specs::View::view, its_world::specs::World::state_of))]
+fn siot_send(w: &World, slot: u8, job: &Job, ask: &Ask, link: u8) -> Decision
+    requires slot { slot < slots }
+    requires size { has_size (next_pointer (input ask.now 1)) ≡ true }
+    ensures { result ≡ siot_send (seen_by w.now slot job.now ask.now) ask.now (next_pointer (input ask.now 1)) (input ask.now 2) link }
+{
+    let next = next_pointer(input(ask, 1));
+    let Some(word) = w.core.word(slot, next.right()) else {
+        return faults(job, Fault::Mpv);
+    };
+    if w.pipes.is_unread(link) {
+        return fails(job, ask, error::NOBODY_READS);
+    }
+    if w.pipes.is_crowded(link) {
+        return Decision::Waits(Wait::Room(link));
+    }
+    let word = Word::new(load(next, word));
+    moves(Change::Send { link, word }, None, next, input(ask, 2))
+}

@@ -1,0 +1,92 @@
+-- Ends of links opened and closed, and words sent and received: the machine after it, and what holds of that machine.
+use Rattle.std.specs.Prelude.{◌≡◌, ◌<◌, ℕ, Bool, true, Option, Some, is_some, length, option_map}
+use Rattle.std.proofs.Common.{ap, sym, subst, ◌∙◌}
+use Rattle.its_word.specs.Links.{most_linked}
+use Rattle.its_word.specs.declared.jobs.Channel.{Channel}
+use Rattle.its_word.specs.declared.jobs.Channel.TheVariants.{Link}
+use Rattle.its_frame.specs.declared.change.Change.TheVariants as changes
+use Rattle.its_core.specs.Cores.{core_at, clear_at}
+use Rattle.its_files.specs.Files.{Store, directory}
+use Rattle.its_jobs.specs.Table.{job_at}
+use Rattle.its_pipes.specs.Pipes.{piped}
+use Rattle.its_plain.specs.CallLink.{words_in}
+use Rattle.its_plain.specs.Change.{effect, end_closed, in_job, link_or_new, on_link, with_end_opened, with_received, with_sent}
+use Rattle.its_plain.specs.Machine.{Linked, Pipe, Shut, Machine}
+use Rattle.its_plain.specs.OperatorClock.{clock_end}
+use Rattle.its_plain.specs.Own.{on_channel}
+use Rattle.its_plain.proofs.MachineLaws.{machine_is}
+use Rattle.its_parts.specs.Across.{channel_at, Across, IsElsewhere}
+use Rattle.its_parts.specs.Can.{chan_in}
+use Rattle.its_parts.specs.Parts.{alarm_at, chan_of, console_at, holder_at, raw_at, symbols_at}
+use Rattle.its_parts.proofs.PartLaws.{changed_at}
+use Rattle.its_direct.specs.Effects.{Becomes, LinkBecomes}
+use Rattle.its_direct.specs.Plain.{machine_of, Tidy}
+use Rattle.its_direct.specs.declared.plain.Plain.{Plain}
+use Rattle.its_direct.proofs.ChannelLaws.{chan_is, chan_shut}
+use Rattle.its_direct.proofs.SlotLaws.{IsPlaced}
+
+link_machine : (old new : Plain) (l : ℕ) (f : Option Pipe → Option Pipe) → LinkBecomes old new l (f (piped old.pipes l)) → machine_of new ≡ on_link (machine_of old) l f
+unfolding machine_of
+link_machine old new l f b = machine_is _ _
+    (λ k t. raw_at (b.files t) (b.core t) (b.jobs t) (b.alarms t).items k) (λ k. ap (λ c. console_at c.items k) b.consoles)
+    (λ k. ap (λ h. holder_at h k) b.holders) (ap directory b.files) b.clock b.version (λ k. ap (λ s. symbols_at s.items k) b.symbols)
+    (changed_at _ _ l _ b.links.here b.links.others)
+
+pub link_tidy : (old new : Plain) (l : ℕ) (o : Option Pipe) → LinkBecomes old new l o → Tidy old → Tidy new
+link_tidy old new l o b tidy = record {
+  unreserved = λ k. ap (λ m. clear_at m k) b.core ∙ tidy.unreserved k;
+  unmarked = ap (λ (s : Store). s.mark) b.files ∙ tidy.unmarked;
+  across = subst (λ (s : Store). Across s new.jobs) (sym b.files) (subst (Across old.files) (sym b.jobs) tidy.across);
+  blank = λ k h. ap (λ m. core_at m k) b.core ∙ tidy.blank k (sym (ap (λ t. job_at t k) b.jobs) ∙ h);
+  quiet = λ k h. ap (λ a. alarm_at a.items k) b.alarms ∙ tidy.quiet k (sym (ap (λ t. job_at t k) b.jobs) ∙ h);
+  nameless = λ k h. ap (λ s. symbols_at s.items k) b.symbols ∙ tidy.nameless k (sym (ap (λ t. job_at t k) b.jobs) ∙ h);
+  addressed = λ k. subst IsPlaced (sym (ap (λ t. job_at t k) b.jobs)) (tidy.addressed k);
+  timed = subst (λ t. t < clock_end) (sym b.clock) tidy.timed;
+}
+
+-- words
+link_changed : (old new : Plain) (l : ℕ) (f : Option Pipe → Option Pipe) → LinkBecomes old new l (f (piped old.pipes l)) → Becomes old new (on_link (machine_of old) l f)
+link_changed old new l f b = record { machine = link_machine old new l f b; place = b.place; touched = b.touched }
+
+pub word_sent : (old new : Plain) (l w : ℕ) → LinkBecomes old new l (option_map (with_sent w) (piped old.pipes l)) → Becomes old new (on_link (machine_of old) l (option_map (with_sent w)))
+word_sent old new l w b = link_changed old new l (option_map (with_sent w)) b
+
+pub word_received : (old new : Plain) (l : ℕ) → LinkBecomes old new l (option_map with_received (piped old.pipes l)) → Becomes old new (on_link (machine_of old) l (option_map with_received))
+word_received old new l b = link_changed old new l (option_map with_received) b
+
+pub link_there : (p : Plain) (l : ℕ) → is_some ((machine_of p).links l) ≡ true → is_some (piped p.pipes l) ≡ true
+unfolding machine_of
+link_there p l h = h
+
+pub link_room : (p : Plain) (l : ℕ) → length (words_in ((machine_of p).links l)) < most_linked → length (words_in (piped p.pipes l)) < most_linked
+unfolding machine_of
+link_room p l h = h
+
+-- ends, with the channels on them
+pub still_closed : (old mid : Plain) (s n l : ℕ) (o : Option Pipe) → LinkBecomes old mid l o → chan_in (machine_of old) s n ≡ Shut → IsElsewhere (channel_at mid.jobs s n)
+still_closed old mid s n l o b e = subst IsElsewhere (sym (ap (λ t. channel_at t s n) b.jobs ∙ chan_shut old s n e)) tt
+
+linked_elsewhere : (x : Store) (l : ℕ) (write : Bool) (c : Channel) → chan_of x c ≡ Linked l write → IsElsewhere c
+linked_elsewhere x l write (Link k w) e = tt
+linked_elsewhere x l write c e = cc
+
+pub still_linked : (old mid : Plain) (s n l k : ℕ) (write : Bool) (o : Option Pipe) → LinkBecomes old mid l o → chan_in (machine_of old) s n ≡ Linked k write → IsElsewhere (channel_at mid.jobs s n)
+still_linked old mid s n l k write o b e = subst IsElsewhere (sym (ap (λ t. channel_at t s n) b.jobs)) (linked_elsewhere old.files k write (channel_at old.jobs s n) (sym (chan_is old s n) ∙ e))
+
+pub joined_row : (old mid new : Plain) (s n l x y : ℕ) (write : Bool) → LinkBecomes old mid l (Some (with_end_opened write s n (link_or_new x y (piped old.pipes l))))
+    → Becomes mid new (in_job (machine_of mid) s (on_channel n (λ c. Linked l write))) → Becomes old new (effect (changes.Join n l write x y) s (machine_of old))
+unfolding effect
+joined_row old mid new s n l x y write b c = record {
+  machine = c.machine ∙ ap (λ (m : Machine). in_job m s (on_channel n (λ c. Linked l write))) (link_machine old mid l (λ o. Some (with_end_opened write s n (link_or_new x y o))) b);
+  place = c.place ∙ b.place;
+  touched = c.touched ∙ b.touched;
+}
+
+pub parted_row : (old mid new : Plain) (s n l : ℕ) (write : Bool) → LinkBecomes old mid l (end_closed write (piped old.pipes l))
+    → Becomes mid new (in_job (machine_of mid) s (on_channel n (λ c. Shut))) → Becomes old new (effect (changes.Part n l write) s (machine_of old))
+unfolding effect
+parted_row old mid new s n l write b c = record {
+  machine = c.machine ∙ ap (λ (m : Machine). in_job m s (on_channel n (λ c. Shut))) (link_machine old mid l (end_closed write) b);
+  place = c.place ∙ b.place;
+  touched = c.touched ∙ b.touched;
+}

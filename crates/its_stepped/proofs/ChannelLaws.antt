@@ -1,0 +1,57 @@
+-- What the tests of a call say of its channel, and what a search for a link finds.
+use Rattle.std.specs.Prelude.{if◌then◌else◌, ◌≡◌, ◌≢◌, ◌<◌, ◌+◌, ◌&&◌, ℕ, zero, suc, Bool, true, false, not, Option, Some, None, cond, find, nat_lt, refl}
+use Rattle.std.specs.List.{range_with_len}
+use Rattle.std.proofs.Common.{sym, ◌∙◌, ap, subst, arith}
+use Rattle.std.proofs.lemmas.Bool.{not-false}
+use Rattle.its_word.specs.Links.{most_links}
+use Rattle.its_plain.specs.CallBasic.{channel_at, is_shut}
+use Rattle.its_plain.specs.CallLink.{has_link_names, link_named, can_open}
+use Rattle.its_plain.specs.Integrity.{IsNamed}
+use Rattle.its_plain.specs.Machine.{Chan, Shut, Pipe}
+
+-- a channel that is open has one of the 16 numbers
+pub at_open : (channels : ℕ → Chan) (n : ℕ) (c : Chan) → channel_at channels n ≡ c → c ≢ Shut → channels n ≡ c
+at_open channels n c h open_ = go (nat_lt n 16) h
+  where
+    go : (b : Bool) → (if b then channels n else Shut) ≡ c → channels n ≡ c
+    go true e = e
+    go false e = absurd (open_ (sym e))
+
+-- one that passes the test of error 4 of OPEN is closed
+shut_is : (c : Chan) → is_shut c ≡ true → c ≡ Shut
+shut_is Shut h = refl
+shut_is _ h = cc
+
+pub free_channel : (channels : ℕ → Chan) (n : ℕ) → not (nat_lt n 16 && is_shut (channel_at channels n)) ≡ false → channels n ≡ Shut
+free_channel channels n h = go (nat_lt n 16) (not-false _ h)
+  where
+    go : (b : Bool) → (b && is_shut (if b then channels n else Shut)) ≡ true → channels n ≡ Shut
+    go true e = shut_is (channels n) e
+    go false e = cc
+
+-- what a search among numbers finds has what is looked for, and is one of the numbers
+pub found_in_range : (p : ℕ → Bool) (k n s : ℕ) → find p (range_with_len k n) ≡ Some s → (p s ≡ true) × (s < k + n)
+found_in_range p k zero s h = cc
+found_in_range p k (suc n) s h = go (p k) refl h (λ later. found_in_range p (k + 1) n s later)
+  where
+    go : (b : Bool) → p k ≡ b → cond b (Some k) (find p (range_with_len (k + 1) n)) ≡ Some s
+        → (find p (range_with_len (k + 1) n) ≡ Some s → (p s ≡ true) × (s < k + 1 + n)) → (p s ≡ true) × (s < k + suc n)
+    go true e here later = let same : k ≡ s = cc in (ap p (sym same) ∙ e, omega arith)
+    go false e here later = let more = later here in (more.0, let l = more.1 in omega arith)
+
+-- the link of some names
+named_is : (x y : ℕ) (o : Option Pipe) → has_link_names x y o ≡ true → IsNamed x y o
+named_is x y (Some p) h = h
+named_is x y None h = tt
+
+pub named_link : (ls : ℕ → Option Pipe) (x y l : ℕ) → link_named ls x y ≡ Some l → IsNamed x y (ls l) × (l < most_links)
+named_link ls x y l h =
+    let found = found_in_range (λ k. has_link_names x y (ls k)) 0 most_links l h in
+    (named_is x y (ls l) found.0, found.1)
+
+-- a link that is not there can be opened under any names
+pub absent_named : (x y : ℕ) (o : Option Pipe) → o ≡ None → IsNamed x y o
+absent_named x y o e = subst (IsNamed x y) (sym e) tt
+
+pub absent_opens : (write : Bool) (o : Option Pipe) → o ≡ None → can_open write o ≡ true
+absent_opens write o e = ap (can_open write) e

@@ -1,0 +1,6 @@
+use Rattle.its_world.proofs.FilingLaws.{settled_link}
+use Rattle.its_world.proofs.world.World.resettle_link.Goals as goal
+
+pub returns : goal.returns
+returns c = settled_link c.args.self.now c.settle.new.self c.settle-2.new.self c.settle-3.new.self c.args.link c.from-l.result c.from-l.ensures
+    c.settle.ensures c.settle-2.ensures c.settle-3.ensures

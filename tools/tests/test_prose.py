@@ -1,0 +1,93 @@
+"""tools/prose: the words, links and headings that it refuses."""
+
+import importlib.machinery
+import importlib.util
+import os
+import sys
+import unittest
+from typing import Dict, List
+
+TOOLS = os.path.dirname(os.path.dirname(os.path.abspath(__file__)))
+sys.path.insert(0, TOOLS)
+
+from itslib.links import Document, anchor, citations_in, document_of, faults_in    # noqa: E402
+from itslib.program import TOP                                                     # noqa: E402
+
+REAL = importlib.util.module_from_spec(importlib.util.spec_from_loader(
+    "prose", importlib.machinery.SourceFileLoader("prose", os.path.join(TOOLS, "prose"))))
+REAL.__spec__.loader.exec_module(REAL)
+
+CALLS = "# Calls\n\n## `.IOT` of a word\n\n## Files\n\n## Files\n\n```\n# no heading\n```\n"
+
+
+def known() -> Dict[str, Document]:
+    """The headings of two documents."""
+    return {"README.md": document_of("# its\n"), "docs/CALLS.md": document_of(CALLS)}
+
+
+class Words(unittest.TestCase):
+    """Private uses of words."""
+
+    def found(self, text: str) -> List[str]:
+        """The words that are refused in this text."""
+        return [words for _, words, _ in REAL.uses_in("README.md", text)]
+
+    def test_use(self) -> None:
+        self.assertEqual(self.found("It stands behind it."), ["behind", "stands"])
+
+    def test_code_is_passed_over(self) -> None:
+        self.assertEqual(self.found("The clause `stands` of `behind`."), [])
+
+    def test_line(self) -> None:
+        self.assertEqual([line for line, _, _ in REAL.uses_in("README.md", "One.\n\nTwo is\nbehind it.\n")], [4])
+
+
+class Links(unittest.TestCase):
+    """Links and citations that lead nowhere."""
+
+    def wrong(self, text: str) -> List[str]:
+        """What is wrong with the links of this text, which is README.md."""
+        return [fault.wrong for fault in faults_in("README.md", text, known(), TOP)]
+
+    def test_anchor(self) -> None:
+        self.assertEqual(anchor("LOAD, `a/` and GO: a job"), "load-a-and-go-a-job")
+
+    def test_headings(self) -> None:
+        document = document_of(CALLS)
+        self.assertEqual(document.headings, {"Calls", ".IOT of a word", "Files"})
+        self.assertEqual(document.anchors, {"calls", "iot-of-a-word", "files", "files-1"})
+
+    def test_right(self) -> None:
+        self.assertEqual(self.wrong('See [CALLS](docs/CALLS.md), "Files" and "`.IOT` of\na word", and [there](docs/CALLS.md#files-1).'), [])
+
+    def test_page_and_network(self) -> None:
+        self.assertEqual(self.wrong("[the page](docs/its.html#example=first.its), [a site](https://example.com/none)"), [])
+
+    def test_no_file(self) -> None:
+        self.assertEqual(self.wrong("![a picture](docs/none.png)"), ["there is no docs/none.png"])
+
+    def test_no_anchor(self) -> None:
+        self.assertEqual(self.wrong("[there](docs/CALLS.md#core)"), ["there is no anchor docs/CALLS.md#core"])
+        self.assertEqual(self.wrong("[here](#none)"), ["there is no anchor #none"])
+
+    def test_no_heading(self) -> None:
+        self.assertEqual(self.wrong('[CALLS](docs/CALLS.md), "Core"'), ['docs/CALLS.md has no heading "Core"'])
+
+    def test_line(self) -> None:
+        self.assertEqual([fault.line for fault in faults_in("README.md", "One.\n\n[two](none.md)\n", known(), TOP)], [3])
+
+    def test_comments(self) -> None:
+        self.assertEqual(list(citations_in('-- Calls on files (docs/CALLS.md,\n-- "Files").\n', known())), [])
+        self.assertEqual(list(citations_in('//! Calls (docs/CALLS.md, "Core").\n', known())), ['docs/CALLS.md has no heading "Core"'])
+        self.assertEqual(list(citations_in('# docs/NONE.md, "Files"\n', known())), ["there is no docs/NONE.md"])
+
+
+class Repository(unittest.TestCase):
+    """The documents as they are."""
+
+    def test_nothing_is_refused(self) -> None:
+        self.assertEqual(list(REAL.faults()), [])
+
+
+if __name__ == "__main__":
+    unittest.main()
