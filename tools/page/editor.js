@@ -306,10 +306,11 @@ const REASONS = {LONG: "it has more than 255 bytes", SYNTAX: "it is no statement
 
 const assembly = {text: "", session: "", names: "", asked: 0};
 
-// Assembles the text, and shows the session of its image.
+// Assembles the text, and shows the session of its image. Until it is assembled, there is no image to take.
 async function assembleText() {
   const text = byId("source").value, result = byId("source-result"), asked = assembly.asked += 1;
   numberLines(byId("source"), byId("source-gutter"));
+  byId("take").disabled = true;
   const answer = text.trim() ? await program.ask("assemble", {text}, "Assembling the text") : null;
   if (asked !== assembly.asked) return;
   assembly.session = answer && answer.session || "";

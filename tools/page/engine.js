@@ -238,6 +238,9 @@ class Answers {
     return {outline: this.moments.outline()};
   }
 
+  // What the lines of another session mean; the one that is stepped through stays.
+  look({name, text}) { return {told: toldLines(name, runSession(this.engine, name, text).told)}; }
+
   view({at, watch}) { return this.moments.view(at, watch); }
   command({words, input}) { return this.engine.call(words, input); }
   assemble({text}) { return assembled(this.engine, text); }

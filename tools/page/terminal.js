@@ -4,7 +4,7 @@
 const SECOND = "36";                     // thirtieths, in octal
 const WHY = {waits: "All jobs wait.", idle: "No job runs.", long: "The jobs still run after many turns; a key goes on.",
              refused: "A line is refused: "};
-const terminal = {text: "", console: "0", slot: null, queue: [], isBusy: false, begun: false};
+const terminal = {text: "", console: "0", slot: null, queue: [], isBusy: false, isStale: false, begun: false};
 
 // The text of a session without its END and what is behind it, as version 2, which has RUN.
 function openText(text) {
@@ -30,13 +30,15 @@ function beginTerminal() {
   terminal.console = byId("terminal-console").value;
   terminal.slot = octal(Math.max(0, loads.findIndex(console => console !== "-" && octal(value(console)) === terminal.console)));
   terminal.begun = true;
+  terminal.isStale = terminal.isBusy;
   terminal.queue = [];
   byId("screen-text").textContent = "";
   byId("terminal-look").hidden = true;
   typeLines([]);
 }
 
-// Puts lines behind the session and goes on, one call after the other.
+// Puts lines behind the session and goes on, one call after the other. If another session was begun meanwhile, an answer is of the one
+// before, and is not shown.
 async function typeLines(lines) {
   terminal.queue.push(...lines);
   if (terminal.isBusy) return;
@@ -44,17 +46,22 @@ async function typeLines(lines) {
   try {
     do {
       const added = terminal.queue.splice(0);
-      const {bytes, why, reason, whole} = await program.ask("terminal", {text: terminal.text, lines: added, console: terminal.console},
-                                                            "Running the jobs");
-      if (why !== "refused") terminal.text = whole;
-      print(bytes);
-      byId("terminal-said").textContent = WHY[why] + (why === "refused" ? reason + "." : "");
-    } while (terminal.queue.length);
+      terminal.isStale = false;
+      const answer = await program.ask("terminal", {text: terminal.text, lines: added, console: terminal.console}, "Running the jobs");
+      if (!terminal.isStale) showGone(answer);
+    } while (terminal.isStale || terminal.queue.length);
   } catch (problem) {
     alertOf(problem);
   } finally {
     terminal.isBusy = false;
   }
+}
+
+// Shows how far the session went on.
+function showGone({bytes, why, reason, whole}) {
+  if (why !== "refused") terminal.text = whole;
+  print(bytes);
+  byId("terminal-said").textContent = WHY[why] + (why === "refused" ? reason + "." : "");
 }
 
 // Shows bytes that the console put out. A carriage return goes to the next line, unless a line feed follows, which does.
@@ -96,23 +103,32 @@ function fieldKey(event) {
   event.target.value = "";
 }
 
-// Stops the job of the console, and shows what STATE and PEEK say of it.
+// Stops the job of the console, and shows what STATE and PEEK say of it. Keys that are typed meanwhile follow.
 async function stopAndLook() {
   if (!terminal.begun || terminal.isBusy) return;
   const lines = ["PEEK " + terminal.slot, "STOP " + terminal.slot, "STATE " + terminal.slot];
   const text = terminal.text + lines.map(line => line + "\n").join("");
+  terminal.isBusy = true;
   try {
-    const answer = await program.ask("run", {name: "the session at the terminal", text}, "Looking");
-    const own = answer.told.slice(-lines.length), last = answer.told[answer.told.length - 1];
-    byId("terminal-look").hidden = false;
-    byId("terminal-look").textContent = own.map(one => [one.text, ...one.answer.map(said => "  " + said),
-      ...one.means.map(said => "      " + said)].join("\n")).join("\n");
-    if (last.refused) byId("terminal-said").textContent = "There is no job in slot " + terminal.slot + " now.";
-    else {
-      terminal.text = text;
-      byId("terminal-said").textContent = "The job in slot " + terminal.slot + " is stopped, in user mode. Continue lets it run on.";
-    }
+    const {told} = await program.ask("look", {name: "the session at the terminal", text}, "Looking");
+    if (!terminal.isStale) showLook(text, told, lines.length);
   } catch (problem) {
     alertOf(problem);
+  } finally {
+    terminal.isBusy = false;
+  }
+  if (terminal.isStale || terminal.queue.length) typeLines([]);
+}
+
+// Shows what the last lines of a session say of the job, and goes on with that session if they are taken.
+function showLook(text, told, count) {
+  const last = told[told.length - 1];
+  byId("terminal-look").hidden = false;
+  byId("terminal-look").textContent = told.slice(-count).map(one => [one.text, ...one.answer.map(said => "  " + said),
+    ...one.means.map(said => "      " + said)].join("\n")).join("\n");
+  if (last.refused) byId("terminal-said").textContent = "There is no job in slot " + terminal.slot + " now.";
+  else {
+    terminal.text = text;
+    byId("terminal-said").textContent = "The job in slot " + terminal.slot + " is stopped, in user mode. Continue lets it run on.";
   }
 }
