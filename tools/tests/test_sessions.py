@@ -296,6 +296,28 @@ class Recorded(unittest.TestCase):
 
 
 @unittest.skipUnless(at_hand(), "the program is not at hand")
+class Removed(unittest.TestCase):
+    """A job at an end of a link is removed after each number of its ticks: in each state, `verify` accepts what then follows."""
+
+    STATES = {"USER", "ENTERED", "PARSED", "ASKED", "HOLDING", "WAITING", "MOVING", "ENDING"}
+    PLACES = (("30-removed-with-a-word-in-hand", "TICK 1 14\n", 12), ("30-removed-with-a-word-in-hand", "TICK 1 1\nPEEK 1\n", 12),
+              ("31-removed-while-it-waits", "TICK 1 120\n", 80))
+
+    def test_in_each_state(self):
+        sessions = []
+        for name, line, most in self.PLACES:
+            before, after = text_of("sessions/links/%s.its" % name).split(line, 1)
+            sessions += ["%sTICK 1 %o\nPEEK 1\n%sEND\n" % (before, ticks, after) for ticks in range(1, most + 1)]
+        ended = run_all([session.encode() for session in sessions])
+        judged = run_all([(session + one.transcript).encode() for session, one in zip(sessions, ended)], "verify")
+        for session, one, answer in zip(sessions, ended, judged):
+            self.assertEqual(one.status, 0, session)
+            self.assertIn("\nT 1 1-\n", one.transcript, session)          # its slot is empty
+            self.assertTrue(answer.transcript.startswith("YES "), session)
+        self.assertEqual({state for one in ended for state in re.findall(r"^P 1 (\w+)", one.transcript, re.M)}, self.STATES)
+
+
+@unittest.skipUnless(at_hand(), "the program is not at hand")
 class Jobs(unittest.TestCase):
     """tools/job, tools/listing and tools/explain on assembly texts."""
 
