@@ -5,13 +5,13 @@ ghost use Rattle.its_jobs.specs.Table.{job_at};
 ghost use Rattle.its_plain.specs.Decide.{target as target_of};
 ghost use Rattle.its_decide.specs.Seen.{raw_with};
 
-use arrayvec::ArrayVec;
 use its_console::Console;
 use its_core::Core;
 use its_files::Files;
 use its_jobs::Jobs;
+use its_parts::SymbolTable;
 use its_pipes::Pipes;
-use its_word::{Ask, Job, Word};
+use its_word::{Ask, Job};
 
 /// The parts of a machine, borrowed: cores, jobs, the consoles and for each of them the slot of the job that holds it, files and
 /// drafts, the clock in thirtieths, for each slot the alarm of its job if it has one (its period and its next time), the version of the
@@ -26,7 +26,7 @@ pub struct Seen<'a> {
     pub clock: u64,
     pub alarms: &'a Vec<Option<(u64, u64)>>,
     pub version: u8,
-    pub symbols: &'a Vec<ArrayVec<(Word, u32), 512>>,
+    pub symbols: &'a Vec<SymbolTable>,
     pub pipes: &'a Pipes,
 }
 

@@ -1,19 +1,18 @@
 //! What a call asks for.
-ghost use Rattle.std.specs.Prelude.{◌≡◌, ◌==◌, ◌<◌, ◌≤◌, ◌+◌, ◌*◌, ◌%◌, ◌^◌, ◌++◌, length, map, not, slice_index, drop, Ok, Err, IfErr};
+ghost use Rattle.std.specs.Prelude.{◌≡◌, ◌==◌, ◌<◌, ◌≤◌, ◌+◌, ◌*◌, ◌%◌, ◌^◌, ◌++◌, [], length, map, not, None, Ok, Err, IfErr, OnOk};
 ghost use Rattle.std.specs.List.{list_any, range_with_len};
 ghost use Rattle.its_core.specs.Cores.{core_at};
 ghost use Rattle.its_word.specs.Limits.{slots};
-ghost use Rattle.its_plain.specs.Decode.{ask, ask_of, error_by, exceeds, has_bit_0, iot_ask, name_of, row_named, words_of};
-ghost use Rattle.its_stepped.specs.TwoParts.{block_places, fetch_of, fetched, parse_of};
+ghost use Rattle.its_plain.specs.Decode.{ask as asked, error_by, exceeds, has_bit_0, iot_ask, row_named};
+ghost use Rattle.its_stepped.specs.TwoParts.{fetch_of, fetched, parse_of};
 ghost use Rattle.its_plain.specs.Footprint.{SiteFits};
 
-use super::arguments::find_arguments;
-use super::block::{has_bit_0, parse_block};
-use super::sorting::sort;
+use super::arguments::fetch_arguments;
+use super::block::{has_bit_0, name_of, parse_block, words_of};
 use arrayvec::ArrayVec;
 use its_core::Core;
 use its_frame::{CallName, CallRow, error};
-use its_word::{ADDRESSES, Arg, Ask, Block, Fault, Operand, Site, Word};
+use its_word::{ADDRESSES, Ask, Block, Fault, Operand, Site, Word};
 
 /// The row of a call that a block can name: any but `.IOT`, which has none.
 #[tactic(auto, unfolding(its_plain::specs::Decode::row_named))]
@@ -59,44 +58,31 @@ fn exceeds(errors: usize, controls: usize, words: &[Word]) -> bool
     errors > 1 || controls > 1 || !have_end(words)
 }
 
-/// What a call asks for whose arguments are found: their values are taken now.
-#[tactic(auto, unfolding(its_plain::specs::Decode::ask_of))]
-fn asked(
-    core: &Core,
-    slot: u8,
-    block: &[Word],
-    arguments: &[Arg],
-    decode: ArrayVec<u32, 160>,
-) -> Ask
-    requires slot { slot < slots }
-    requires words { 2 ≤ length block.now }
-    requires few { length arguments.now ≤ 8 }
-    ensures { result ≡ ask_of (core_at core.now slot) decode.items (record { block = block.now; arguments = arguments.now }) }
+/// Writes a list of places over another.
+fn copy_places(from: &ArrayVec<u32, 160>, to: &mut ArrayVec<u32, 160>)
+    ensures { to.new.items ≡ from.now.items }
 {
-    let s = sort(core, slot, arguments);
-    let excess = exceeds(s.errors.len(), s.controls.len(), &block[2..]);
-    let fail = error_by(row_named(block[1]), s.inputs.len(), s.outputs.len(), excess);
-    Ask {
-        name: block[1],
-        fail,
-        error: s.errors.first().copied(),
-        control: s.controls.first().copied(),
-        inputs: s.inputs,
-        outputs: s.outputs,
-        decode,
-        operand: s.operand,
+    to.clear();
+    for p in from.iter() {
+        to.push(*p);
     }
 }
 
-/// The decode words of a site.
-fn site_words(site: &Site) -> ArrayVec<u32, 160>
-    ensures { result.items ≡ site.now.decode.items }
+/// Begins what a call asks for: no argument is found, and the decode words are those of its site.
+fn begin(site: &Site, ask: &mut Ask)
+    ensures inputs { ask.new.inputs.items ≡ [] }
+    ensures outputs { ask.new.outputs.items ≡ [] }
+    ensures error { ask.new.error ≡ None }
+    ensures control { ask.new.control ≡ None }
+    ensures decode { ask.new.decode.items ≡ site.now.decode.items }
+    ensures operand { ask.new.operand.items ≡ [] }
 {
-    let mut decode = ArrayVec::new();
-    for p in site.decode.iter() {
-        decode.push(*p);
-    }
-    decode
+    ask.inputs.clear();
+    ask.outputs.clear();
+    ask.error = None;
+    ask.control = None;
+    ask.operand.clear();
+    copy_places(&site.decode, &mut ask.decode);
 }
 
 /// Notes the places of the words of a block.
@@ -113,72 +99,88 @@ fn note_block(e: u32, words: u32, decode: &mut ArrayVec<u32, 160>)
     }
 }
 
-/// What a call by a block asks for, when its block is read: its arguments are found one by one, and then their values
-/// are taken. The decode words are those of the site, those of the block, and those of the arguments' addresses. The
-/// fault is that of the first argument that has one.
-#[tactic(auto, unfolding(its_stepped::specs::TwoParts::fetched))]
-pub fn fetch_ask(core: &Core, slot: u8, site: &Site, block: &Block) -> Result<Ask, Fault>
+/// What a call by a block asks for, when its block is read. The decode words are those of the site, those of the block,
+/// and those of the arguments' addresses. The fault is that of the first argument that has one.
+fn fetch_ask(core: &Core, slot: u8, site: &Site, block: &Block, ask: &mut Ask) -> Result<(), Fault>
     requires slot { slot < slots }
     requires fits { SiteFits site.now }
     requires words { 2 ≤ length block.now.items }
-    ensures { result ≡ fetched (core_at core.now slot) site.now block.now }
+    ensures fetched { OnOk result (fetched (core_at core.now slot) site.now block.now ≡ Ok ask.new) }
+    ensures fault { IfErr result (λ f. fetched (core_at core.now slot) site.now block.now ≡ Err f) }
 {
-    let mut decode = site_words(site);
-    note_block(site.e, block.len() as u32, &mut decode);
-    let arguments = find_arguments(core, slot, &block[2..], site.used, &mut decode)?;
-    Ok(asked(core, slot, block, &arguments, decode))
+    begin(site, ask);
+    note_block(site.e, block.len() as u32, &mut ask.decode);
+    let words = words_of(block);
+    let found = fetch_arguments(core, slot, words, site.used, ask)?;
+    let excess = exceeds(found.errors, found.controls, words);
+    let name = name_of(block);
+    ask.name = name;
+    ask.fail = error_by(row_named(name), ask.inputs.len(), ask.outputs.len(), excess);
+    Ok(())
 }
 
 /// What `.IOT` asks for: its channel is its one input, and E its one output address.
 #[tactic(auto, unfolding(its_plain::specs::Decode::iot_ask))]
-fn iot_ask(site: &Site, channel: u8) -> Ask
-    ensures { result ≡ iot_ask site.now channel }
+fn ask_iot(site: &Site, channel: u8, ask: &mut Ask)
+    ensures { ask.new ≡ iot_ask site.now channel }
 {
-    let mut inputs = ArrayVec::new();
-    inputs.push(Operand {
+    begin(site, ask);
+    ask.name = CallName::Iot.word();
+    ask.fail = 0;
+    ask.inputs.push(Operand {
         value: Word::new(u64::from(channel)),
         place: None,
     });
-    let mut outputs = ArrayVec::new();
-    outputs.push(site.e);
-    Ask {
-        name: CallName::Iot.word(),
-        fail: 0,
-        inputs,
-        outputs,
-        error: None,
-        control: None,
-        decode: site_words(site),
-        operand: ArrayVec::new(),
-    }
+    ask.outputs.push(site.e);
 }
 
-/// The first part of a call's decoding: its block is read. `.IOT` has none. A fault of it is that of the decoding.
-#[tactic(auto, unfolding(its_stepped::specs::TwoParts::parse_of), using(its_stepped::proofs::TwoLaws::ask_unparsed))]
-pub fn parse_site(core: &Core, slot: u8, site: &Site) -> Result<Block, Fault>
+/// The first part of a call's decoding: its block is read into `block`. `.IOT` has none. A fault of the first part is
+/// that of the decoding.
+#[tactic(auto, unfolding(its_stepped::specs::TwoParts::parse_of), using(crate::proofs::AskLaws::unparsed))]
+pub fn parse_site(core: &Core, slot: u8, site: &Site, block: &mut Block) -> Result<(), Fault>
     requires slot { slot < slots }
     requires address { site.now.e < 2 ^ 18 }
-    ensures block { result ≡ parse_of (core_at core.now slot) site.now }
-    ensures fault { IfErr result (λ f. ask (core_at core.now slot) site.now ≡ Err f) }
+    ensures block { OnOk result (parse_of (core_at core.now slot) site.now ≡ Ok block.new) }
+    ensures fault { IfErr result (λ f. parse_of (core_at core.now slot) site.now ≡ Err f) }
+    ensures ask { IfErr result (λ f. asked (core_at core.now slot) site.now ≡ Err f) }
 {
     match site.channel {
-        Some(_) => Ok(ArrayVec::new()),
-        None => parse_block(core, slot, site),
+        Some(_) => {
+            block.clear();
+            Ok(())
+        }
+        None => {
+            parse_block(core, slot, site.e, block)?;
+            Ok(())
+        }
     }
 }
 
-/// The second part: the arguments of a call whose block is read are found, and their values are taken. Of the block that
-/// the first part has read this is the whole decoding.
-#[tactic(auto, unfolding(its_stepped::specs::TwoParts::fetch_of))]
-pub fn fetch_site(core: &Core, slot: u8, site: &Site, block: &Block) -> Result<Ask, Fault>
+/// The second part: the arguments of a call whose block is read are found, and what it asks for is written to `ask`. Of
+/// the block that the first part has read this is the whole decoding. After a fault `ask` is unspecified.
+#[tactic(auto, unfolding(its_stepped::specs::TwoParts::fetch_of), using(crate::proofs::AskLaws::both_parts))]
+pub fn fetch_site(
+    core: &Core,
+    slot: u8,
+    site: &Site,
+    block: &Block,
+    ask: &mut Ask,
+) -> Result<(), Fault>
     requires slot { slot < slots }
     requires fits { SiteFits site.now }
     requires words { site.now.channel ≡ None → 2 ≤ length block.now.items }
-    ensures fetched { result ≡ fetch_of (core_at core.now slot) site.now block.now }
-    ensures asks { parse_of (core_at core.now slot) site.now ≡ Ok block.now → result ≡ ask (core_at core.now slot) site.now }
+    ensures fetched { OnOk result (fetch_of (core_at core.now slot) site.now block.now ≡ Ok ask.new) }
+    ensures fault { IfErr result (λ f. fetch_of (core_at core.now slot) site.now block.now ≡ Err f) }
+    ensures asks { OnOk result (parse_of (core_at core.now slot) site.now ≡ Ok block.now → asked (core_at core.now slot) site.now ≡ Ok ask.new) }
 {
     match site.channel {
-        Some(channel) => Ok(iot_ask(site, channel)),
-        None => fetch_ask(core, slot, site, block),
+        Some(channel) => {
+            ask_iot(site, channel, ask);
+            Ok(())
+        }
+        None => {
+            fetch_ask(core, slot, site, block, ask)?;
+            Ok(())
+        }
     }
 }

@@ -1,14 +1,13 @@
 //! The block of a call.
-ghost use Rattle.std.specs.Prelude.{◌≡◌, ◌+◌, ◌%◌, ◌^◌, ◌<◌, ◌≤◌, ◌&&◌, length, nat_lt, drop, IfOk};
+ghost use Rattle.std.specs.Prelude.{◌≡◌, ◌+◌, ◌%◌, ◌^◌, ◌<◌, ◌≤◌, ◌&&◌, length, nat_lt, Ok, Err, IfErr, OnOk};
 ghost use Rattle.std.specs.List.{list_all};
 ghost use Rattle.its_core.specs.Cores.{core_at};
 ghost use Rattle.its_word.specs.Limits.{slots};
 ghost use Rattle.its_plain.specs.UnitPlan.{read_of};
-ghost use Rattle.its_plain.specs.Decode.{argument_words, block_at, checked, has_bit_0, is_legal, parsed, type_of, words_of};
+ghost use Rattle.its_plain.specs.Decode.{argument_words, block_at, checked, has_bit_0, is_legal, name_of, parsed, type_of, words_of};
 
-use arrayvec::ArrayVec;
 use its_core::Core;
-use its_word::{ADDRESSES, Block, Fault, Site, Word};
+use its_word::{ADDRESSES, Block, Fault, Word};
 
 /// How many argument words of a block are read.
 const ARGUMENTS: u32 = 8;
@@ -27,6 +26,22 @@ pub fn argument_type(w: Word) -> u32
     (w.value() >> 27 & 7) as u32
 }
 
+/// The name of the call of a block.
+pub fn name_of(block: &[Word]) -> Word
+    requires { 2 ≤ length block.now }
+    ensures { result ≡ name_of block.now }
+{
+    block[1]
+}
+
+/// The argument words of a block.
+pub fn words_of(block: &[Word]) -> &[Word]
+    requires { 2 ≤ length block.now }
+    ensures { result.now ≡ words_of block.now }
+{
+    &block[2..]
+}
+
 /// The word at an address modulo 2^18; Mpv if it is absent.
 #[tactic(auto, unfolding(its_plain::specs::UnitPlan::read_of))]
 fn read(core: &Core, slot: u8, a: u32) -> Result<Word, Fault>
@@ -36,37 +51,41 @@ fn read(core: &Core, slot: u8, a: u32) -> Result<Word, Fault>
     core.get(slot, a % ADDRESSES).map_err(|_| Fault::Mpv)
 }
 
-/// A block with its argument words, which begin at an address.
+/// Appends the argument words of a block, which begin at an address, up to the first with bit 0 on, at most 8. Mpv if
+/// one of them is absent.
 #[tactic(auto, using(crate::proofs::BlockLaws::words_more, crate::proofs::BlockLaws::words_last, crate::proofs::BlockLaws::words_absent, crate::proofs::BlockLaws::words_over))]
-fn read_words(core: &Core, slot: u8, a: u32, mut block: Block) -> Result<Block, Fault>
+fn read_words(core: &Core, slot: u8, a: u32, block: &mut Block) -> Result<(), Fault>
     requires slot { slot < slots }
     requires address { a < 2 ^ 19 }
-    requires room { length block.items ≤ 2 }
-    ensures words { result ≡ (argument_words 8 (core_at core.now slot) a block.items).answer }
-    ensures more { IfOk result (λ b. length block.items ≤ length b.items) }
+    requires room { length block.old.items ≤ 2 }
+    ensures words { OnOk result ((argument_words 8 (core_at core.now slot) a block.old.items).answer ≡ Ok block.new) }
+    ensures fault { IfErr result (λ f. (argument_words 8 (core_at core.now slot) a block.old.items).answer ≡ Err f) }
+    ensures more { OnOk result (length block.old.items ≤ length block.new.items) }
 {
     for k in 0..ARGUMENTS {
         let w = read(core, slot, a + k)?;
         block.push(w);
         if has_bit_0(w) {
-            return Ok(block);
+            return Ok(());
         }
     }
-    Ok(block)
+    Ok(())
 }
 
-/// The block at an address; Mpv if one of its words is absent.
+/// Reads the block at an address, whether it is legal or not. Mpv if one of its words is absent.
 #[tactic(auto, unfolding(its_plain::specs::Decode::block_at, its_plain::specs::Traced::also, its_plain::specs::Traced::word))]
-fn read_block(core: &Core, slot: u8, e: u32) -> Result<Block, Fault>
+fn read_block(core: &Core, slot: u8, e: u32, block: &mut Block) -> Result<(), Fault>
     requires slot { slot < slots }
     requires address { e < 2 ^ 18 }
-    ensures block { result ≡ (block_at (core_at core.now slot) e).answer }
-    ensures words { IfOk result (λ b. 2 ≤ length b.items) }
+    ensures block { OnOk result ((block_at (core_at core.now slot) e).answer ≡ Ok block.new) }
+    ensures fault { IfErr result (λ f. (block_at (core_at core.now slot) e).answer ≡ Err f) }
+    ensures words { OnOk result (2 ≤ length block.new.items) }
 {
-    let mut block = ArrayVec::new();
+    block.clear();
     block.push(read(core, slot, e)?);
     block.push(read(core, slot, e + 1)?);
-    read_words(core, slot, e + 2, block)
+    read_words(core, slot, e + 2, block)?;
+    Ok(())
 }
 
 /// Whether all of these argument words have a type.
@@ -82,21 +101,21 @@ fn is_legal(block: &[Word]) -> bool
     requires { 2 ≤ length block.now }
     ensures { result ≡ is_legal block.now }
 {
-    has_bit_0(block[0]) && have_types(&block[2..])
+    has_bit_0(block[0]) && have_types(words_of(block))
 }
 
-/// Reads the block of a call: its first word, its name, and argument words up to the first with bit 0 on, at most 8.
-/// Mpv if one of its words is absent; else Ilo if bit 0 of the first word is off, or an argument has no type.
+/// Reads the block of a call at an address: its first word, its name, and argument words up to the first with bit 0 on,
+/// at most 8. Mpv if one of its words is absent; else Ilo if bit 0 of the first word is off, or an argument has no type.
 #[tactic(auto, unfolding(its_plain::specs::Decode::parsed, its_plain::specs::Traced::also))]
-pub fn parse_block(core: &Core, slot: u8, site: &Site) -> Result<Block, Fault>
+pub fn parse_block(core: &Core, slot: u8, e: u32, block: &mut Block) -> Result<(), Fault>
     requires slot { slot < slots }
-    requires address { site.now.e < 2 ^ 18 }
-    ensures parsed { result ≡ (parsed (core_at core.now slot) site.now.e).answer }
-    ensures words { IfOk result (λ b. 2 ≤ length b.items) }
+    requires address { e < 2 ^ 18 }
+    ensures parsed { OnOk result ((parsed (core_at core.now slot) e).answer ≡ Ok block.new) }
+    ensures fault { IfErr result (λ f. (parsed (core_at core.now slot) e).answer ≡ Err f) }
 {
-    let block = read_block(core, slot, site.e)?;
-    if is_legal(&block) {
-        Ok(block)
+    read_block(core, slot, e, block)?;
+    if is_legal(block.as_slice()) {
+        Ok(())
     } else {
         Err(Fault::Ilo)
     }

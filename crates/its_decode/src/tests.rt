@@ -1,8 +1,11 @@
 //! Blocks at 0, which are in the accumulators, and what comes of their decoding. Numbers are octal.
+ghost use Rattle.std.specs.Prelude.{◌<◌, ◌^◌, IfSome};
+ghost use Rattle.its_plain.specs.Footprint.{SiteFits};
+
 use super::*;
 use arrayvec::ArrayVec;
 use its_core::Core;
-use its_word::{Ask, Fault, Operand, Site, Word, read_octal};
+use its_word::{Ask, Block, Fault, Operand, Site, Word, read_octal};
 use std::process::Abort;
 use std::test::Fail;
 
@@ -33,19 +36,54 @@ fn load(rt: &impl Abort, core: &mut Core, words: &str) {
     }
 }
 
-/// A call at 17 whose block is at 0, decoded.
-fn decoded(core: &Core) -> Result<Ask, Fault> {
+/// The site of a call at 17.
+fn site_at(e: u32, channel: Option<u8>) -> Site
+    requires address { e < 2 ^ 18 }
+    requires channel { IfSome channel (λ n. n < 16) }
+    ensures { SiteFits result }
+{
     let mut decode = ArrayVec::new();
     decode.push(0o17);
-    let site = Site {
+    Site {
         pc: 0o17,
-        e: 0,
-        channel: None,
+        e,
+        channel,
         used: 0,
         decode,
+    }
+}
+
+/// A block and an ask that another call has left.
+fn left_over() -> (Block, Ask) {
+    let mut block = ArrayVec::new();
+    block.push(Word::new(7));
+    let mut places = ArrayVec::new();
+    places.push(9);
+    let ask = Ask {
+        name: Word::new(7),
+        fail: 3,
+        inputs: ArrayVec::new(),
+        outputs: ArrayVec::new(),
+        error: Some(8),
+        control: Some(Word::new(8)),
+        decode: places,
+        operand: ArrayVec::new(),
     };
-    let block = parse_block(core, 0, &site)?;
-    fetch_ask(core, 0, &site, &block)
+    (block, ask)
+}
+
+/// A call, decoded in both parts.
+fn decoded(core: &Core, site: &Site) -> Result<Ask, Fault>
+    requires { SiteFits site.now }
+{
+    let (mut block, mut ask) = left_over();
+    parse_site(core, 0, site, &mut block)?;
+    // for the proof alone: no clause of `parse_site` says that a block has two words
+    if site.channel.is_none() && block.len() < 2 {
+        return Err(Fault::Ilo);
+    }
+    fetch_site(core, 0, site, &block, &mut ask)?;
+    Ok(ask)
 }
 
 #[test]
@@ -54,7 +92,7 @@ fn blocks(rt: HostRuntime) -> Result<(), Fail> {
     for row in BLOCKS.split(';') {
         let mut fields = row.split('=');
         load(&rt, &mut core, fields.next().expect(&rt, "words"));
-        let told = match decoded(&core) {
+        let told = match decoded(&core, &site_at(0, None)) {
             Ok(ask) => number(&rt, fields.next().expect(&rt, "an error").trim())
                 == Word::new(u64::from(ask.fail)),
             Err(Fault::Mpv) => fields.next().expect(&rt, "a fault").trim() == "MPV",
@@ -74,7 +112,7 @@ fn a_transfer(rt: HostRuntime) -> Result<(), Fail> {
         &mut core,
         "400000000000 635157640000 1000000001 5 400000000006 440700001000 3",
     );
-    let ask = decoded(&core).expect(&rt, "an ask");
+    let ask = decoded(&core, &site_at(0, None)).expect(&rt, "an ask");
     let pointer = Operand {
         value: Word::new(0o440700001000),
         place: Some(5),
@@ -90,17 +128,10 @@ fn a_transfer(rt: HostRuntime) -> Result<(), Fail> {
 #[test]
 fn an_iot(rt: HostRuntime) -> Result<(), Fail> {
     let core = Core::open(rt.alloc())?;
-    let mut decode = ArrayVec::new();
-    decode.push(0o17);
-    let site = Site {
-        pc: 0o17,
-        e: 3,
-        channel: Some(4),
-        used: 0,
-        decode,
-    };
-    let block = parse_site(&core, 0, &site).expect(&rt, "no block");
-    let ask = fetch_site(&core, 0, &site, &block).expect(&rt, "an ask");
+    let ask = decoded(&core, &site_at(3, Some(4))).expect(&rt, "an ask");
+    assert_eq!(rt; ask.fail, 0);
+    assert_eq!(rt; ask.error, None);
+    assert_eq!(rt; ask.control, None);
     assert_eq!(rt; ask.inputs.len(), 1);
     assert_eq!(rt; ask.outputs.as_slice(), [3].as_slice());
     assert_eq!(rt; ask.decode.as_slice(), [0o17].as_slice());

@@ -19,7 +19,7 @@ use Rattle.its_word.specs.declared.calls.Site.{Site}
 use Rattle.its_plain.specs.UnitPlan.{given}
 use Rattle.its_plain.specs.Traced.{Traced, Located, also, gives, located, located_by, word}
 use Rattle.its_plain.specs.Decode.{Shape, argument, argument_at, argument_words, arguments, ask, ask_by, ask_of, block_at, checked, control_of, error_at_of, has_bit_0, input_of, is_legal, kind_of, operand_of, output_of, parsed, place_of, shaped, up_to_last, value_of, words_of}
-use Rattle.its_local.proofs.TracedLaws.{also_err, also_ok, unread}
+use Rattle.its_plain.proofs.ReadLaws.{also_err, also_ok, unread}
 use Rattle.its_direct.specs.Asking.{Reads, Sorts, ask_from, first_error, no_parts, parts_of, sorted_by, with_argument}
 use Rattle.its_direct.specs.declared.sorting.Parts.{Parts}
 

@@ -1,12 +1,11 @@
 ghost use Rattle.std.specs.Prelude.{◌≡◌, ◌<◌, ◌≤◌, true, false, None, Some, IfOk, vec_len, slice_set, is_some};
 ghost use Rattle.its_word.specs.Limits.{slots, limit_of};
 
-use arrayvec::ArrayVec;
 use its_console::Console;
 use its_core::Core;
 use its_files::Files;
 use its_jobs::Jobs;
-use its_parts::{no_alarms, no_symbols, quiet_consoles};
+use its_parts::{SymbolTable, no_alarms, no_symbols, quiet_consoles};
 use its_pipes::Pipes;
 use its_word::{Job, NoMemory, SLOTS, Word};
 use std::alloc::Global;
@@ -37,7 +36,7 @@ pub struct Plain {
     pub clock: u64,
     pub alarms: Vec<Option<(u64, u64)>>,
     pub version: u8,
-    pub symbols: Vec<ArrayVec<(Word, u32), 512>>,
+    pub symbols: Vec<SymbolTable>,
     pub pipes: Pipes,
     pub place: Spot,
     pub touched: [bool; 96],

@@ -14,10 +14,8 @@ ghost use Rattle.its_direct.specs.Lines.{Operates, Stands, Keeps, SymbolsBecome,
 
 use super::plain::Plain;
 use its_jobs::limit_of;
+use its_parts::MOST_SYMBOLS;
 use its_word::{Refusal, Word};
-
-/// How many symbols a job has at most.
-const MOST_SYMBOLS: usize = 512;
 
 impl Plain {
     /// VERSION: if no slot has a job, the machine becomes one of this version, which can have 64 jobs, or 96 in version

@@ -5,7 +5,7 @@ ghost use Rattle.its_core.specs.Cores.{core_at};
 ghost use Rattle.its_plain.specs.Job.{pc_word};
 ghost use Rattle.its_plain.specs.Machine.{words_at};
 ghost use Rattle.its_plain.specs.OperatorJobs.{examined, shown, state_shown};
-ghost use Rattle.its_plain.specs.OperatorSymbols.{nearer, symbol_shown};
+ghost use Rattle.its_plain.specs.OperatorSymbols.{symbol_shown};
 ghost use Rattle.its_parts.specs.Parts.{symbols_at};
 ghost use Rattle.its_direct.specs.Plain.{machine_of};
 ghost use Rattle.its_word.specs.Refusals.{reason_of};
@@ -13,6 +13,7 @@ ghost use Rattle.its_word.specs.Refusals.{reason_of};
 use super::plain::Plain;
 use arrayvec::ArrayVec;
 use its_core::Core;
+use its_parts::nearest;
 use its_word::{ADDRESSES, Job, JobShow, Refusal, Word, pc_word};
 
 impl Plain {
@@ -96,31 +97,4 @@ fn shown(job: &Job, superior: Option<u8>, symbol: Option<(Word, u32)>) -> JobSho
         d2: job.defer2,
         symbol,
     }
-}
-
-/// The symbol of the greatest address at most a PC, of those with one address the last, and how far the PC is past it.
-#[tactic(auto, using(its_parts::proofs::SymbolLaws::near_start, its_parts::proofs::SymbolLaws::near_next, its_parts::proofs::SymbolLaws::near_some, its_parts::proofs::SymbolLaws::near_none))]
-fn nearest(symbols: &[(Word, u32)], pc: u32) -> Option<(Word, u32)>
-    ensures { result ≡ symbol_shown pc symbols.now }
-{
-    let mut best = None;
-    for symbol in symbols {
-        best = nearer(pc, best, *symbol);
-    }
-    match best {
-        Some((name, a)) => Some((name, pc - a)),
-        None => None,
-    }
-}
-
-/// The nearer of two symbols to a PC; of two with one address the second.
-fn nearer(pc: u32, best: Option<(Word, u32)>, symbol: (Word, u32)) -> Option<(Word, u32)>
-    ensures { result ≡ nearer pc best symbol }
-{
-    let (_, a) = symbol;
-    let is_nearer = match best {
-        Some((_, b)) => a <= pc && b <= a,
-        None => a <= pc,
-    };
-    if is_nearer { Some(symbol) } else { best }
 }

@@ -3,6 +3,7 @@ ghost use Rattle.its_direct.specs.Plain.{Tidy};
 ghost use Rattle.std.specs.Prelude.{◌<◌};
 
 use super::{Begun, Plain, Spot};
+use its_parts::{MOST_SYMBOLS, SymbolTable};
 use its_word::{Event, ILO, Refusal, Word};
 use std::process::Abort;
 use std::test::Fail;
@@ -169,5 +170,30 @@ fn events(rt: HostRuntime) -> Result<(), Fail> {
     assert_eq!(&rt; p.clock, 5);
     let mut q = Plain::open(rt.alloc())?;
     assert_eq!(&rt; q.event(&Event::State { s: 0 }).is_ok(), false);
+    Ok(())
+}
+
+/// A table takes 512 symbols, in the order in which they are given, and is empty after `clear`; then it takes one again.
+#[test]
+fn symbols_in_order(rt: HostRuntime) -> Result<(), Fail> {
+    let mut table = SymbolTable::open(rt.alloc())?;
+    for a in 0..512_u32 {
+        assert!(&rt; table.len() < MOST_SYMBOLS);
+        table.push((Word::new(u64::from(a)), a));
+    }
+    assert_eq!(&rt; table.len(), 512);
+    for a in 0..512_u32 {
+        assert_eq!(&rt;
+            table.as_slice().get(a as usize).copied(),
+            Some((Word::new(u64::from(a)), a))
+        );
+    }
+    table.clear();
+    assert_eq!(&rt; table.len(), 0);
+    table.push((Word::new(0o123), 2));
+    assert_eq!(&rt;
+        table.as_slice().first().copied(),
+        Some((Word::new(0o123), 2))
+    );
     Ok(())
 }

@@ -1,34 +1,10 @@
 -- The call of a name: its row has that name, and no other row.
-use Rattle.std.proofs.Common.{◌≡◌, ◌<◌, ◌≤◌, ◌+◌, ◌==◌, ℕ, true, false, cond, List, [], ◌∷◌, length, drop, slice_index_or, Option, Some, None, refl, sym, ◌∙◌, ap, Bool}
+use Rattle.std.proofs.Common.{◌≡◌, ◌≢◌, ◌==◌, ℕ, true, false, cond, List, [], ◌∷◌, Option, Some, None, refl, sym, ◌∙◌, ap, Bool}
 use Rattle.std.specs.List.{find}
 use Rattle.std.proofs.lemmas.Bool.{eqb-true}
-use Rattle.std.proofs.lemmas.List.{drop_more}
-use Rattle.std.proofs.Math.ListN.{drop_of_length-le}
 use Rattle.its_frame.specs.declared.name.CallName.{CallName}
 use Rattle.its_frame.specs.declared.name.CallName.TheVariants.{Hang}
-use Rattle.its_frame.specs.Calls.{sixbit, calls, call_named}
-
--- the table is searched row by row
-further : (name : ℕ) (ns : List CallName) (i : ℕ) (d : CallName) → i < length ns
-    → find (λ n. sixbit n == name) (drop i ns)
-    ≡ cond (sixbit (slice_index_or ns i d) == name) (Some (slice_index_or ns i d)) (find (λ n. sixbit n == name) (drop (i + 1) ns))
-further name ns i d l = ap (find (λ n. sixbit n == name)) (drop_more ns i d l)
-
-pub found_here : (name : ℕ) (ns : List CallName) (i : ℕ) (d : CallName) → i < length ns → (sixbit (slice_index_or ns i d) == name) ≡ true
-    → find (λ n. sixbit n == name) (drop i ns) ≡ Some (slice_index_or ns i d)
-found_here name ns i d l e =
-    further name ns i d l
-    ∙ ap (λ b. cond b (Some (slice_index_or ns i d)) (find (λ n. sixbit n == name) (drop (i + 1) ns))) e
-
-pub found_further : (name : ℕ) (ns : List CallName) (i : ℕ) (d : CallName) → i < length ns → (sixbit (slice_index_or ns i d) == name) ≡ false
-    → find (λ n. sixbit n == name) (drop (i + 1) ns) ≡ find (λ n. sixbit n == name) (drop i ns)
-found_further name ns i d l ne =
-    sym
-    (further name ns i d l
-    ∙ ap (λ b. cond b (Some (slice_index_or ns i d)) (find (λ n. sixbit n == name) (drop (i + 1) ns))) ne)
-
-pub found_nowhere : (name : ℕ) (ns : List CallName) (i : ℕ) → length ns ≤ i → find (λ n. sixbit n == name) (drop i ns) ≡ None
-found_nowhere name ns i l = ap (find (λ n. sixbit n == name)) (drop_of_length-le ns l)
+use Rattle.its_frame.specs.Calls.{sixbit, calls, call_named, call_row}
 
 -- a name that is found is that of the row
 found_by : (w : ℕ) (x n : CallName) (o : Option CallName) (b : Bool) → (sixbit x == w) ≡ b → (o ≡ Some n → sixbit n ≡ w) → cond b (Some x) o ≡ Some n
@@ -49,3 +25,26 @@ pub named : (n : CallName) → call_named (sixbit n) ≡ Some n
 unfolding call_named sixbit
 named Hang = refl
 named _ = refl
+
+-- a number that is the name of a row, and one that is that of none
+pub named_is : (w v : ℕ) (n : CallName) → v ≡ w → v ≡ (call_row n).name → Some n ≡ call_named w
+unfolding sixbit
+named_is w v n a b = sym (ap call_named (sym a ∙ b) ∙ named n)
+
+-- no row of some has the name w
+abbrev pub Unnamed : ℕ → List CallName → Type 0
+Unnamed w [] = Unit {0}
+Unnamed w (n ∷ ns) = ((call_row n).name ≢ w) × Unnamed w ns
+
+none_by : (w : ℕ) (x : CallName) (o : Option CallName) (b : Bool) → (sixbit x == w) ≡ b → (sixbit x ≢ w) → o ≡ None → cond b (Some x) o ≡ None
+none_by w x o true t ne h = absurd (ne (eqb-true (sixbit x) w t))
+none_by w x o false t ne h = h
+
+none_found : (w : ℕ) (ns : List CallName) → Unnamed w ns → find (λ n. sixbit n == w) ns ≡ None
+unfolding sixbit
+none_found w [] h = refl
+none_found w (x ∷ ns) h = none_by w x (find (λ n. sixbit n == w) ns) (sixbit x == w) refl h.0 (none_found w ns h.1)
+
+pub unnamed : (w : ℕ) → Unnamed w calls → None ≡ call_named w
+unfolding call_named
+unnamed w h = sym (none_found w calls h)

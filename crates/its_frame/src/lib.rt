@@ -2,9 +2,8 @@
 //! call does at its commit, and the small changes that it makes outside its own words and registers;
 //! and the names of calls and of variables.
 //!
-//! Proved: `left` is the number of unwinding steps of a frame, at most 4. `CallName::row` is the table of calls;
-//! `CallName::named` gives the call of a name, and `Variable::named` the variable of a name. The error numbers are
-//! those of the definitions (the law `errors_are`).
+//! Proved: `CallName::row` is the table of calls; `CallName::named` gives the call of a name, and `Variable::named` the
+//! variable of a name. The error numbers are those of the definitions (the law `errors_are`).
 #![tactic(auto)]
 
 mod change;
@@ -16,7 +15,7 @@ mod variable;
 
 pub use change::{Change, Opened};
 pub use decision::{Decision, Held, Wait};
-pub use frame::{Asked, Ending, Entered, Frame, Holding, Moving, Parsed, Standing, Waiting};
+pub use frame::{Asked, Ending, Entered, Frame, Holding, Moving, Parsed, Waiting};
 pub use its_word::{Ask, Exit, Owed, Site, Store};
 pub use name::{CallName, CallRow, OnFiles};
 pub use variable::Variable;

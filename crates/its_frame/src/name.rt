@@ -1,6 +1,5 @@
 //! The calls of the monitor by their names, and what is asked of a call by its name alone.
-ghost use Rattle.std.specs.Prelude.{◌≡◌, ◌==◌};
-ghost use Rattle.std.specs.List.{find};
+ghost use Rattle.std.specs.Prelude.{◌≡◌};
 ghost use Rattle.its_frame.specs.Calls.{call_named, call_row, sixbit, takes};
 
 use its_word::Word;
@@ -88,30 +87,6 @@ const fn takes(name: u64, inputs: (usize, usize), outputs: (usize, usize)) -> Ca
         reserves: false,
     }
 }
-
-/// All calls.
-const CALLS: [CallName; 20] = [
-    CallName::Hang,
-    CallName::Sleep,
-    CallName::Dismis,
-    CallName::Usrvar,
-    CallName::Logout,
-    CallName::Open,
-    CallName::Close,
-    CallName::Iot,
-    CallName::Siot,
-    CallName::Finish,
-    CallName::Listen,
-    CallName::Ttylnd,
-    CallName::Access,
-    CallName::Fillen,
-    CallName::Delete,
-    CallName::Rename,
-    CallName::Usrmem,
-    CallName::Uclose,
-    CallName::Corblk,
-    CallName::Realt,
-];
 
 impl CallName {
     /// The call's row in the table of calls.
@@ -209,22 +184,31 @@ impl CallName {
     }
 
     /// The call of a name.
-    #[tactic(auto, unfolding(crate::specs::Calls::call_named))]
     pub fn named(name: Word) -> Option<CallName>
         ensures { result ≡ call_named name }
     {
-        named_among(&CALLS, name)
-    }
-}
-
-/// The first of some calls that has a name.
-fn named_among(calls: &[CallName], name: Word) -> Option<CallName>
-    ensures { result ≡ find (λ n. sixbit n == name) calls.now }
-{
-    for call in calls {
-        if call.word() == name {
-            return Some(*call);
+        match name.value() {
+            0o504156470000 => Some(CallName::Hang),
+            0o635445456000 => Some(CallName::Sleep),
+            0o445163555163 => Some(CallName::Dismis),
+            0o656362664162 => Some(CallName::Usrvar),
+            0o545747576564 => Some(CallName::Logout),
+            0o576045560000 => Some(CallName::Open),
+            0o435457634500 => Some(CallName::Close),
+            0o515764000000 => Some(CallName::Iot),
+            0o635157640000 => Some(CallName::Siot),
+            0o465156516350 => Some(CallName::Finish),
+            0o545163644556 => Some(CallName::Listen),
+            0o646471545644 => Some(CallName::Ttylnd),
+            0o414343456363 => Some(CallName::Access),
+            0o465154544556 => Some(CallName::Fillen),
+            0o444554456445 => Some(CallName::Delete),
+            0o624556415545 => Some(CallName::Rename),
+            0o656362554555 => Some(CallName::Usrmem),
+            0o654354576345 => Some(CallName::Uclose),
+            0o435762425453 => Some(CallName::Corblk),
+            0o624541546400 => Some(CallName::Realt),
+            _ => None,
         }
     }
-    None
 }

@@ -12,9 +12,7 @@ use Rattle.its_core.specs.Frames.{Frames, frames_reserve}
 use Rattle.its_jobs.specs.Table.{job_at, superior_at}
 use Rattle.its_frame.specs.declared.frame.Frame.{Frame}
 use Rattle.its_frame.specs.declared.frame.Asked as askeds
-use Rattle.its_frame.specs.declared.frame.Entered as entereds
 use Rattle.its_frame.specs.declared.frame.Holding.{Holding}
-use Rattle.its_frame.specs.declared.frame.Parsed as parseds
 use Rattle.its_frame.specs.declared.frame.Frame.TheVariants as frames
 use Rattle.its_plain.specs.CallStep.{informed_slots}
 use Rattle.its_plain.specs.Change.{superiors}
@@ -101,16 +99,10 @@ tried_pages w j q (Some (frames.Holding g)) h f e t = ap (λ (x : Holding). page
 tried_pages w j q (Some (frames.Waiting g)) h f e t = ap (λ (a : Ask). pages_tried w j q a f) (let is : (let x : Holding = record { site = g.site; ask = g.ask; page = None; owes = g.owes } in x) ≡ h = cc in ap (λ (x : Holding). x.ask) is)
 tried_pages w j q _ h f e t = cc
 
--- the decoding, and a quarter of a page cleared
+-- a call that is prepared, and a quarter of its page cleared
 all_of : (p : Option Whole) (P : Whole → Type 0) → ((q : Whole) → P q) → IfSome p P
 all_of (Some q) P h = h q
 all_of None P h = tt
-
-pub entered_pages : (p : Option Whole) (w : State) (j : ℕ) (o : Option Frame) (x : entereds.Entered) (f g : Frames) → o ≡ Some (frames.Entered x) → g ≡ f → IfSome p (λ q. g ≡ pages_in w j q o f)
-entered_pages p w j o x f g e h = all_of p (λ q. g ≡ pages_in w j q o f) (λ q. h ∙ ap (λ (y : Option Frame). pages_in w j q y f) (sym e))
-
-pub parsed_pages : (p : Option Whole) (w : State) (j : ℕ) (o : Option Frame) (x : parseds.Parsed) (f g : Frames) → o ≡ Some (frames.Parsed x) → g ≡ f → IfSome p (λ q. g ≡ pages_in w j q o f)
-parsed_pages p w j o x f g e h = all_of p (λ q. g ≡ pages_in w j q o f) (λ q. h ∙ ap (λ (y : Option Frame). pages_in w j q y f) (sym e))
 
 pub asked_pages : (p : Option Whole) (w : State) (j : ℕ) (o : Option Frame) (x : askeds.Asked) (f g : Frames) → o ≡ Some (frames.Asked x)
     → g ≡ (if reserves x.ask then frames_reserve j f else f) → IfSome p (λ q. g ≡ pages_in w j q o f)
@@ -135,10 +127,8 @@ cleared_by : (o : Option ℕ) (p n s : ℕ) (f : Frames) → o ≡ Some p → fr
 cleared_by (Some k) p n s f h = refl
 cleared_by None p n s f h = cc
 
-pub quarter_frames : (old mid low new : World) (s p n : ℕ) (g : Option Frame) → FrameBecomes old mid s None → clear_at mid.core s ≡ Some p → PageBecomes mid low s (Some n) → FrameBecomes low new s g
-    → new.core.frames ≡ old.core.frames
-quarter_frames old mid low new s p n g a c b d =
-    becomes_pages low new s _ _ g d ∙ b.pages ∙ cleared_by (clear_at mid.core s) p n s mid.core.frames c ∙ becomes_pages old mid s _ _ None a
+pub quarter_frames : (old mid new : World) (s p n : ℕ) (g : Option Frame) → clear_at old.core s ≡ Some p → PageBecomes old mid s (Some n) → FrameBecomes mid new s g → new.core.frames ≡ old.core.frames
+quarter_frames old mid new s p n g c b d = becomes_pages mid new s _ _ g d ∙ b.pages ∙ cleared_by (clear_at old.core s) p n s old.core.frames c
 
 quarter_in : (w : State) (j : ℕ) (q : Whole) (o : Option Frame) (h : Holding) (p : ℕ) (f : Frames) → o ≡ Some (frames.Holding h) → h.page ≡ Some p → nat_lt p quarters ≡ true → f ≡ pages_in w j q o f
 quarter_in w j q o h p f e page less =

@@ -1,5 +1,6 @@
 pub mod TickLaws
 pub mod ReachLaws
+pub mod NeedsLaws
 pub mod HelpLaws
 pub mod TrialLaws
 pub mod PageLaws

@@ -1,12 +1,11 @@
 -- A call that is tried.
-use Rattle.std.specs.Prelude.{◌≡◌, ℕ, true, false, Option, Some, None, IfSome, is_some, refl}
+use Rattle.std.specs.Prelude.{◌≡◌, ℕ, Bool, true, false, Option, Some, None, IfSome, is_some, List, refl}
 use Rattle.std.proofs.Common.{sym, ◌∙◌, ap, subst}
 use Rattle.its_word.specs.declared.calls.Pace.{Pace}
 use Rattle.its_jobs.specs.Table.{job_at}
 use Rattle.its_frame.specs.declared.decision.Decision.{Decision}
 use Rattle.its_frame.specs.declared.frame.Frame.{Frame}
 use Rattle.its_frame.specs.declared.frame.Holding.{Holding}
-use Rattle.its_core.specs.Cores.{Cores}
 use Rattle.its_pclsr.specs.Pages.{pages_carried, pages_unwound}
 use Rattle.its_monitor.specs.Pages.{pages_tried, pages_in}
 use Rattle.its_monitor.proofs.FramesLaws.{tried_pages}
@@ -17,14 +16,12 @@ use Rattle.its_plain.specs.Decide.{reach}
 use Rattle.its_plain.specs.Machine.{Whole}
 use Rattle.its_stepped.specs.Commit.{committed}
 use Rattle.its_stepped.specs.Forest.{Forest}
-use Rattle.its_stepped.specs.SlotSame.{SlotSame}
 use Rattle.its_stepped.specs.Sound.{SoundBy, Sound}
 use Rattle.its_stepped.specs.State.{State}
 use Rattle.its_stepped.specs.Tick.{helps, helped_if, tick_in}
 use Rattle.its_stepped.specs.Unwind.{all_unwound}
 use Rattle.its_stepped.proofs.ConsoledLaws.{raw_consoled}
 use Rattle.its_stepped.proofs.ForestLaws.{forest_raw}
-use Rattle.its_stepped.proofs.HelpLaws.{helped_if_others}
 use Rattle.its_world.specs.World.{state_of, raw_at, frame_at}
 use Rattle.its_world.specs.declared.world.World.{World}
 use Rattle.its_world.proofs.MarkLaws.{mark_none}
@@ -88,53 +85,27 @@ unfolding state_of
 on_call w s P h q c x =
     subst (λ (o : Option Holding). IfSome o (λ f. IfSome (raw_at w.files w.core w.jobs w.alarms.items s) (λ q. P f q))) (sym c.stands) (subst (λ (o : Option Whole). IfSome o (P h)) (sym c.raw) x)
 
--- the jobs are unwound that it reaches
-abbrev pub Reaches : World → World → ℕ → Type 0
-Reaches old mid s = OnCall old s (λ f q. state_of mid ≡ all_unwound (reach (state_of old).raw s q f.ask) (state_of old))
-
--- the pending parts of a half made close are performed, if the call is one on files
-abbrev pub Helps : World → World → ℕ → Type 0
-Helps mid new s = OnCall mid s (λ f q. state_of new ≡ helped_if (helps q f.ask) (state_of mid))
-
--- the frames of pages then
-abbrev pub ReachPages : World → World → ℕ → Type 0
-ReachPages old mid s = OnCall old s (λ f q. mid.core.frames ≡ pages_unwound (reach (state_of old).raw s q f.ask) (state_of old) old.core.frames)
-
-pub ready_pages : (old mid new : World) (s : ℕ) → new.core ≡ mid.core → ReachPages old mid s → ReachPages old new s
-ready_pages old mid new s e h = subst (λ (k : Cores). OnCall old s (λ f q. k.frames ≡ pages_unwound (reach (state_of old).raw s q f.ask) (state_of old) old.core.frames)) (sym e) h
-
--- both: what its commit finds
+-- the world is made ready: the jobs are unwound that it reaches, and if it is one on files, the pending parts of a half made close
+-- are performed. What its commit finds, and the frames of pages before
 abbrev pub Readies : World → World → ℕ → Type 0
 Readies old new s = OnCall old s (λ f q. state_of new ≡ prepared (state_of old) s q f.ask)
 
--- the call is the same once the jobs are unwound
-reached_calls : (old mid : World) (s : ℕ) (h : Holding) (q : Whole) → Kept old → Calls old s h q → Clear old s → Reaches old mid s → Calls mid s h q
-reached_calls old mid s h q kept c clear row =
-    let w : State = state_of old in
-    let u : State = all_unwound (reach w.raw s q h.ask) w in
-    let all = cleared w (prepared w s q h.ask) s q h kept.sound kept.forest c.raw c.stands (clear_call old s h q c clear) refl in
-    let later : SlotSame u (prepared w s q h.ask) s = helped_if_others (helps q h.ask) u s in
-    let is : state_of mid ≡ u = of_call old s (λ f q. state_of mid ≡ all_unwound (reach w.raw s q f.ask) w) h q c row in
-    record {
-      stands = ap (λ (v : State). standing_of (v.frames s)) is ∙ ap standing_of (sym later.frame) ∙ all.stands;
-      raw = ap (λ (v : State). v.raw.jobs s) is ∙ sym later.job ∙ all.job;
-    }
+abbrev pub ReachPages : World → World → ℕ → Type 0
+ReachPages old mid s = OnCall old s (λ f q. mid.core.frames ≡ pages_unwound (reach (state_of old).raw s q f.ask) (state_of old) old.core.frames)
 
-module _ (old mid : World) (s : ℕ) (kept : Kept old) (e : is_some (standing_of (frame_at old.frames.items s)) ≡ true) (clear : Clear old s) (row : Reaches old mid s) where
-  reached : (c : Caller old s) → Calls mid s c.call c.job
-  reached c = reached_calls old mid s c.call c.job kept c.calls clear row
+-- a fact of the two that follows from two others
+on_both : (o : Option Holding) (p : Option Whole) (P Q R : Holding → Whole → Type 0) → ((f : Holding) (q : Whole) → P f q → Q f q → R f q)
+    → IfSome o (λ f. IfSome p (λ q. P f q)) → IfSome o (λ f. IfSome p (λ q. Q f q)) → IfSome o (λ f. IfSome p (λ q. R f q))
+on_both (Some f) (Some q) P Q R h a b = h f q a b
+on_both (Some f) None P Q R h a b = tt
+on_both None p P Q R h a b = tt
 
-  pub reach_stands : is_some (standing_of (frame_at mid.frames.items s)) ≡ true
-  reach_stands =
-      let c = caller old s kept.sound e in
-      ap (λ (g : Option Frame). is_some (standing_of g)) (sym (frame_is mid s)) ∙ ap is_some (reached c).stands
-
-  pub made_ready : (new : World) → Helps mid new s → Readies old new s
-  made_ready new helped =
-      let c = caller old s kept.sound e in
-      on_call old s (λ f q. state_of new ≡ prepared (state_of old) s q f.ask) c.call c.job c.calls
-      (of_call mid s (λ f q. state_of new ≡ helped_if (helps q f.ask) (state_of mid)) c.call c.job (reached c) helped
-      ∙ ap (helped_if (helps c.job c.call.ask)) (of_call old s (λ f q. state_of mid ≡ all_unwound (reach (state_of old).raw s q f.ask) (state_of old)) c.call c.job c.calls row))
+pub made_ready : (old mid new : World) (s : ℕ) (ks : List ℕ) (b : Bool) → OnCall old s (λ f q. ks ≡ reach (state_of old).raw s q f.ask) → OnCall old s (λ f q. b ≡ helps q f.ask)
+    → state_of mid ≡ all_unwound ks (state_of old) → state_of new ≡ helped_if b (state_of mid) → Readies old new s
+made_ready old mid new s ks b reached helped row help =
+    on_both (standing_of (frame_at old.frames.items s)) (raw_at old.files old.core old.jobs old.alarms.items s)
+    (λ f q. ks ≡ reach (state_of old).raw s q f.ask) (λ f q. b ≡ helps q f.ask) (λ f q. state_of new ≡ prepared (state_of old) s q f.ask)
+    (λ f q r h. help ∙ (λ t. helped_if (h t) (row t)) ∙ ap (λ (ls : List ℕ). helped_if (helps q f.ask) (all_unwound ls (state_of old))) r) reached helped
 
 -- it is decided, and can be carried out
 abbrev pub Decides : World → ℕ → Decision → Type 0

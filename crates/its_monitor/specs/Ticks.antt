@@ -1,12 +1,14 @@
 -- What the parts of a tick do to a world.
 -- No promise rests on this.
-use Rattle.std.specs.Prelude.{if◌then◌else◌, ◌≡◌, ◌==◌, ◌<◌, ◌&&◌, ℕ, Bool, true, false, Option, Some, None, IfSome, List, [], ◌∷◌, ◌++◌}
+use Rattle.std.specs.Prelude.{if◌then◌else◌, ◌≡◌, ◌==◌, ◌<◌, ℕ, Bool, true, false, Option, Some, None, IfSome, Result, Ok, Err, List, [], ◌∷◌, ◌++◌}
 use Rattle.its_word.specs.Limits.{slots}
 use Rattle.its_word.specs.Tree.{slots_below}
+use Rattle.its_word.specs.declared.access.Fault.{Fault}
 use Rattle.its_word.specs.declared.jobs.Channel.{Channel}
 use Rattle.its_word.specs.declared.jobs.Job.{Job}
 use Rattle.its_word.specs.declared.calls.Ask.{Ask}
 use Rattle.its_word.specs.declared.calls.Pace.{Pace}
+use Rattle.its_word.specs.declared.calls.Pace.TheVariants.{Step, Work}
 use Rattle.its_core.specs.Cores.{core_at, clear_at}
 use Rattle.its_jobs.specs.Table.{job_at}
 use Rattle.its_frame.specs.declared.frame.Frame.{Frame}
@@ -15,12 +17,13 @@ pub use Rattle.its_pclsr.specs.Carried.{pace_of}
 pub use Rattle.pdp_exec.specs.Units.{Left, left, after_outcome, unit_unless, after_unit, after_units}
 use Rattle.its_frame.specs.declared.name.CallName.{CallName}
 use Rattle.its_frame.specs.declared.name.CallName.TheVariants.{Logout, Uclose}
+use Rattle.its_plain.specs.CallStep.{faulted}
 use Rattle.its_plain.specs.Change.{superiors}
 use Rattle.its_plain.specs.Decide.{call_named, listed, with_below}
 use Rattle.its_plain.specs.Machine.{Machine, Whole}
 use Rattle.its_plain.specs.Interrupt.{deliverable}
 use Rattle.its_plain.specs.Unit.{Outcome, Changed, Faulted, Called, unit}
-use Rattle.its_stepped.specs.State.{State}
+use Rattle.its_stepped.specs.State.{State, turn}
 use Rattle.its_stepped.specs.Tick.{Ticked}
 use Rattle.its_world.specs.Filed.{Blocked}
 use Rattle.its_world.specs.World.{frame_at, Becomes}
@@ -76,12 +79,19 @@ abbrev pub UnitIn : World → World → ℕ → (Job → Outcome) → Bool → T
 UnitIn old new s o true = Made old new s o
 UnitIn old new s o false = Called_in old new s o
 
--- a frame of a call that is still decoded
-abbrev pub is_decoded : Option Frame → Bool
-is_decoded (Some (frames.Entered f)) = true
-is_decoded (Some (frames.Parsed f)) = true
-is_decoded (Some (frames.Asked f)) = true
-is_decoded _ = false
+-- what a call asks for that is to be prepared
+abbrev pub asked_in : Option Frame → Option Ask
+asked_in (Some (frames.Asked f)) = Some f.ask
+asked_in _ = None
+
+-- a part of the decoding, whose frame is there: at a fault its bit is set
+abbrev pub state_decoded : State → ℕ → Result (Unit {0}) Fault → State
+state_decoded w s (Ok u) = w
+state_decoded w s (Err f) = turn w s (faulted f) None
+
+abbrev pub pace_decoded : Result (Unit {0}) Fault → Pace
+pace_decoded (Ok u) = Work
+pace_decoded (Err f) = Step
 
 -- a frame of a call that was found not ready
 abbrev pub is_waiting : Option Frame → Bool
@@ -93,10 +103,10 @@ pub record InRing (w : World) (s : ℕ) : Type 0 where
   pub waits : is_waiting (frame_at w.frames.items s) ≡ true
   pub stands : Blocked w s
 
--- how many quarters are clear of the page of a call that is held
-abbrev pub page_held : Option Frame → Option ℕ
-page_held (Some (frames.Holding f)) = f.page
-page_held _ = None
+-- a call that is held has so many quarters of its page clear, and so many pending words
+abbrev pub IsClearing : Option Frame → ℕ → ℕ → Type 0
+IsClearing (Some (frames.Holding f)) clear owes = (f.page ≡ Some clear) × (f.owes ≡ owes)
+IsClearing _ clear owes = ⊥
 
 -- the slots that a call reaches, whose caller has slot j and this superior
 abbrev pub slots_in : Reach → Machine → ℕ → Option ℕ → List ℕ
@@ -110,15 +120,15 @@ abbrev pub RootFits : Reach → Type 0
 RootFits (Branch s) = s < slots
 RootFits _ = Unit {0}
 
--- a call that is UCLOSE
-abbrev pub closes_job : Option CallName → Bool
-closes_job (Some Uclose) = true
+-- the call that is asked for; none if its decoding gave an error
+abbrev pub call_asked : Ask → Option CallName
+call_asked a = if a.fail == 0 then call_named a.name else None
+
+-- a call that is UCLOSE, and one that is LOGOUT
+abbrev pub closes_job : CallName → Bool
+closes_job Uclose = true
 closes_job _ = false
 
--- a call that is LOGOUT, and whose decoding gave no error
-abbrev pub outs : Option CallName → Bool
-outs (Some Logout) = true
-outs _ = false
-
-abbrev pub logs_out : Ask → Bool
-logs_out a = (a.fail == 0) && outs (call_named a.name)
+abbrev pub logs_out : CallName → Bool
+logs_out Logout = true
+logs_out _ = false

@@ -20,6 +20,7 @@
 mod calls;
 mod monitor;
 mod reach;
+mod ready;
 mod ticks;
 mod users;
 

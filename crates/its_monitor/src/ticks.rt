@@ -14,7 +14,7 @@ ghost use Rattle.its_monitor.specs.Ticks.{InRing, is_waiting, ticked, unit_due};
 
 use super::calls::in_call;
 use super::users::{deliver_to, make_unit, units_in_place};
-use its_frame::Frame;
+use its_calls::View;
 use its_ints::deliverable;
 use its_word::Pace;
 use its_world::World;
@@ -46,8 +46,8 @@ fn waits_on(w: &World, slot: u8) -> bool
     ensures yes { IsTrue result → InRing w.now slot }
     ensures no { result ≡ false → InRing w.now slot → ⊥ }
 {
-    match &w.frames[usize::from(slot)] {
-        Some(Frame::Waiting(_)) => w.is_blocked(slot),
+    match w.frame(slot) {
+        View::Waiting { .. } => w.is_blocked(slot),
         _ => false,
     }
 }

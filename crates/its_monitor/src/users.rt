@@ -19,10 +19,10 @@ ghost use Rattle.its_monitor.specs.Ticks.{ticked, with_channels, UnitIn, UnitsMa
 
 use super::reach::calm;
 use its_core::Core;
-use its_frame::{Change, Entered, Frame, Site};
+use its_frame::Change;
 use its_ints::{deliver, deliverable};
 use its_pclsr::apply;
-use its_word::{Job, Pace, Word};
+use its_word::{Job, Pace, Site};
 use its_world::World;
 use pdp_exec::{run_units, site};
 
@@ -174,7 +174,7 @@ fn enter(w: &mut World, slot: u8)
     ensures tidy { Tidy w.new }
 {
     let site = site_of(w, slot);
-    w.put_frame(slot, Frame::Entered(Entered { site }));
+    w.enter(slot, site);
 }
 
 /// The place at which the job of a slot calls the monitor.

@@ -1,10 +1,9 @@
 -- PEEK of a world is that of its state.
-use Rattle.std.specs.Prelude.{◌≡◌, ◌<◌, ℕ, true, false, Option, Some, None, slice_index_or, is_some}
+use Rattle.std.specs.Prelude.{◌≡◌, ◌<◌, ℕ, true, false, Option, Some, None, IfSome, slice_index_or, is_some, refl}
 use Rattle.std.proofs.Common.{sym, ◌∙◌, ap}
 use Rattle.std.proofs.lemmas.List.{get_or_read_under}
 use Rattle.its_word.specs.Core.{Core}
 use Rattle.its_word.specs.declared.show.Peek.{Peek}
-use Rattle.its_word.specs.declared.show.PeekState.TheVariants.{User}
 use Rattle.its_frame.specs.Left.{Few}
 use Rattle.its_frame.specs.declared.frame.Frame.{Frame}
 use Rattle.its_core.specs.Cores.{core_at}
@@ -34,9 +33,13 @@ peek_some w s h = raw_has w s ∙ h
 frame_read : (w : World) (s : ℕ) (x o : Option Frame) → x ≡ slice_index_or w.frames.items s x → s < slots → x ≡ o → frame_at w.frames.items s ≡ o
 frame_read w s x o read lt is = sym (get_or_read_under w.frames.items s slots x None read lt (sym w.slots ∙ w.frames.ok.0)) ∙ is
 
-pub peek_few : (w : World) (s : ℕ) (x : Option Frame) (f : Frame) → Kept w → x ≡ slice_index_or w.frames.items s x → s < slots → x ≡ Some f → Few f
+pub peek_few : (w : World) (s : ℕ) (x : Option Frame) → Kept w → x ≡ slice_index_or w.frames.items s x → s < slots → IfSome x Few
 unfolding state_of
-peek_few w s x f kept read lt is = few_frame (state_of w) s f kept.sound (frame_read w s x (Some f) read lt is)
+peek_few w s x kept read lt = go x (frame_read w s x x read lt refl)
+  where
+    go : (o : Option Frame) → frame_at w.frames.items s ≡ o → IfSome o Few
+    go (Some f) e = few_frame (state_of w) s f kept.sound e
+    go None e = tt
 
 -- the parts of what is shown
 peek_is : (w : World) (s : ℕ) (o : Option Frame) (c : Core) (p : Peek) → frame_at w.frames.items s ≡ o → core_of (raw_at w.files w.core w.jobs w.alarms.items s) ≡ c
@@ -55,11 +58,7 @@ peek_is w s o c p f k is = is ∙ (λ t. record {
 core_there : (w : World) (s : ℕ) → is_some (job_at w.jobs s) ≡ true → core_of (raw_at w.files w.core w.jobs w.alarms.items s) ≡ core_at w.core s
 core_there w s some = let j = job_of (job_at w.jobs s) some in ap core_of (raw_some w s j.0 j.1)
 
-pub peek_user : (w : World) (s : ℕ) (x : Option Frame) (p : Peek) → is_some (job_at w.jobs s) ≡ true → x ≡ slice_index_or w.frames.items s x → s < slots → x ≡ None
-    → p ≡ record { state = User; name = None; left = 0; a = None; b = None; h = None } → p ≡ peeked (state_of w) s
-peek_user w s x p some read lt is shown = peek_is w s None (core_at w.core s) p (frame_read w s x None read lt is) (core_there w s some) shown
-
-pub peek_frame : (w : World) (s : ℕ) (x : Option Frame) (f : Frame) (p : Peek) → is_some (job_at w.jobs s) ≡ true → x ≡ slice_index_or w.frames.items s x → s < slots → x ≡ Some f
-    → Shows (core_at w.core s) (mine (state_of w).mark s) f p → p ≡ peeked (state_of w) s
-peek_frame w s x f p some read lt is m = peek_is w s (Some f) (core_at w.core s) p (frame_read w s x (Some f) read lt is) (core_there w s some)
-    (λ t. record { state = m.state t; name = m.name t; left = m.left t; a = m.a t; b = m.b t; h = m.h t })
+pub peek_call : (w : World) (s n : ℕ) (x : Option Frame) (p : Peek) → is_some (job_at w.jobs s) ≡ true → x ≡ slice_index_or w.frames.items s x → s < slots
+    → n ≡ left_by (mine (state_of w).mark s) x → Shows (core_at w.core s) n x p → p ≡ peeked (state_of w) s
+peek_call w s n x p some read lt e m = peek_is w s x (core_at w.core s) p (frame_read w s x x read lt refl) (core_there w s some)
+    (λ t. record { state = m.state t; name = m.name t; left = (m.left_is ∙ e) t; a = m.a t; b = m.b t; h = m.h t })

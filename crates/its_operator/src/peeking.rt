@@ -1,8 +1,7 @@
 ghost use Rattle.std.specs.Prelude.{◌≡◌, ◌<◌, true, Some, None, IfOk, OnOk, IfErr, is_some};
 ghost use Rattle.its_word.specs.Limits.{slots};
-ghost use Rattle.its_word.specs.declared.show.PeekState.TheVariants.{User};
+ghost use Rattle.its_calls.specs.Calls.{frame_seen};
 ghost use Rattle.its_core.specs.Cores.{core_at};
-ghost use Rattle.its_frame.specs.Left.{Few};
 ghost use Rattle.its_plain.specs.Arguments.{place_of_input};
 ghost use Rattle.its_plain.specs.Decide.{call_named};
 ghost use Rattle.its_stepped.specs.State.{mine, plain};
@@ -14,12 +13,13 @@ ghost use Rattle.its_operator.specs.Peeking.{Shows};
 #[cfg(test)]
 mod tests;
 
-use its_frame::{Ask, CallName, Frame};
-use its_word::{Peek, PeekState, Refusal, Site, Word};
+use its_calls::View;
+use its_frame::CallName;
+use its_word::{Ask, Peek, PeekState, Refusal, Site, Word};
 use its_world::World;
 
 /// PEEK: how far a slot's job is inside a call. NoJob if the slot is empty. Nothing is unwound.
-#[tactic(auto, using(crate::proofs::PeekStateLaws::peek_absent, crate::proofs::PeekStateLaws::peek_some, crate::proofs::PeekStateLaws::peek_few, crate::proofs::PeekStateLaws::peek_user, crate::proofs::PeekStateLaws::peek_frame))]
+#[tactic(auto, using(crate::proofs::PeekStateLaws::peek_absent, crate::proofs::PeekStateLaws::peek_some, crate::proofs::PeekStateLaws::peek_few, crate::proofs::PeekStateLaws::peek_call))]
 pub fn peek(w: &World, slot: u8) -> Result<Peek, Refusal>
     requires slot { slot < slots }
     requires kept { Kept w.now }
@@ -30,37 +30,21 @@ pub fn peek(w: &World, slot: u8) -> Result<Peek, Refusal>
     if w.registers(slot).is_none() {
         return Err(Refusal::NoJob);
     }
-    match &w.frames[usize::from(slot)] {
-        None => Ok(in_user_mode()),
-        Some(frame) => Ok(inside(w, slot, frame)),
-    }
+    let call = &w.frames[usize::from(slot)];
+    let left = call.left(owns_mark(w, slot));
+    Ok(peek_of(w, slot, &call.view(), left))
 }
 
-/// What is shown of a job in user mode.
-fn in_user_mode() -> Peek
-    ensures { result ≡ record { state = User; name = None; left = 0; a = None; b = None; h = None } }
-{
-    Peek {
-        state: PeekState::User,
-        name: None,
-        left: 0,
-        a: None,
-        b: None,
-        h: None,
-    }
-}
-
-/// What is shown of a job that is inside a call.
-fn inside(w: &World, slot: u8, frame: &Frame) -> Peek
+/// What is shown of a job with this frame, which so many unwinding steps bring to user mode.
+fn peek_of(w: &World, slot: u8, frame: &View<'_>, left: u8) -> Peek
     requires slot { slot < slots }
-    requires few { Few frame.now }
-    ensures { Shows (core_at w.now.core slot) (mine (state_of w.now).mark slot) frame.now result }
+    ensures { Shows (core_at w.now.core slot) left (frame_seen frame.now) result }
 {
     let (a, b) = words_shown(w, slot, frame);
     Peek {
         state: state_shown(frame),
         name: name_shown(frame),
-        left: frame.left(owns_mark(w, slot)),
+        left,
         a,
         b,
         h: byte_shown(frame),
@@ -79,32 +63,34 @@ fn owns_mark(w: &World, slot: u8) -> bool
 }
 
 /// The state that is shown of a frame.
-fn state_shown(frame: &Frame) -> PeekState
-    ensures { result ≡ state_shown (Some frame.now) }
+fn state_shown(frame: &View<'_>) -> PeekState
+    ensures { result ≡ state_shown (frame_seen frame.now) }
 {
-    match frame {
-        Frame::Entered(_) => PeekState::Entered,
-        Frame::Parsed(_) => PeekState::Parsed,
-        Frame::Asked(_) => PeekState::Asked,
-        Frame::Holding(_) => PeekState::Holding,
-        Frame::Waiting(_) => PeekState::Waiting,
-        Frame::Moving(_) => PeekState::Moving,
-        Frame::Ending(_) => PeekState::Ending,
+    match *frame {
+        View::User => PeekState::User,
+        View::Entered { .. } => PeekState::Entered,
+        View::Parsed { .. } => PeekState::Parsed,
+        View::Asked { .. } => PeekState::Asked,
+        View::Holding { .. } => PeekState::Holding,
+        View::Waiting { .. } => PeekState::Waiting,
+        View::Moving { .. } => PeekState::Moving,
+        View::Ending { .. } => PeekState::Ending,
     }
 }
 
 /// The name of a frame's call, once it is read.
-fn name_shown(frame: &Frame) -> Option<Word>
-    ensures { result ≡ name_shown (Some frame.now) }
+fn name_shown(frame: &View<'_>) -> Option<Word>
+    ensures { result ≡ name_shown (frame_seen frame.now) }
 {
-    match frame {
-        Frame::Entered(_) => None,
-        Frame::Parsed(f) => name_read(&f.site, &f.block),
-        Frame::Asked(f) => Some(f.ask.name),
-        Frame::Holding(f) => Some(f.ask.name),
-        Frame::Waiting(f) => Some(f.ask.name),
-        Frame::Moving(f) => Some(f.ask.name),
-        Frame::Ending(f) => Some(f.ask.name),
+    match *frame {
+        View::User => None,
+        View::Entered { .. } => None,
+        View::Parsed { site, block } => name_read(site, block),
+        View::Asked { ask, .. } => Some(ask.name),
+        View::Holding { ask, .. } => Some(ask.name),
+        View::Waiting { ask, .. } => Some(ask.name),
+        View::Moving { ask, .. } => Some(ask.name),
+        View::Ending { ask, .. } => Some(ask.name),
     }
 }
 
@@ -119,34 +105,36 @@ fn name_read(site: &Site, block: &[Word]) -> Option<Word>
 }
 
 /// The byte or word that a frame holds.
-fn byte_shown(frame: &Frame) -> Option<Word>
-    ensures { result ≡ byte_shown (Some frame.now) }
+fn byte_shown(frame: &View<'_>) -> Option<Word>
+    ensures { result ≡ byte_shown (frame_seen frame.now) }
 {
-    match frame {
-        Frame::Moving(f) => Some(f.byte),
-        Frame::Entered(_) => None,
-        Frame::Parsed(_) => None,
-        Frame::Asked(_) => None,
-        Frame::Holding(_) => None,
-        Frame::Waiting(_) => None,
-        Frame::Ending(_) => None,
+    match *frame {
+        View::Moving { byte, .. } => Some(byte),
+        View::User => None,
+        View::Entered { .. } => None,
+        View::Parsed { .. } => None,
+        View::Asked { .. } => None,
+        View::Holding { .. } => None,
+        View::Waiting { .. } => None,
+        View::Ending { .. } => None,
     }
 }
 
 /// The words in core that are shown of a frame's call.
-fn words_shown(w: &World, slot: u8, frame: &Frame) -> (Option<Word>, Option<Word>)
+fn words_shown(w: &World, slot: u8, frame: &View<'_>) -> (Option<Word>, Option<Word>)
     requires slot { slot < slots }
-    ensures a { result.0 ≡ word_shown (core_at w.now.core slot) first_shown (ask_in (Some frame.now)) }
-    ensures b { result.1 ≡ word_shown (core_at w.now.core slot) second_shown (ask_in (Some frame.now)) }
+    ensures a { result.0 ≡ word_shown (core_at w.now.core slot) first_shown (ask_in (frame_seen frame.now)) }
+    ensures b { result.1 ≡ word_shown (core_at w.now.core slot) second_shown (ask_in (frame_seen frame.now)) }
 {
-    match frame {
-        Frame::Entered(_) => (None, None),
-        Frame::Parsed(_) => (None, None),
-        Frame::Asked(f) => words_of(w, slot, &f.ask),
-        Frame::Holding(f) => words_of(w, slot, &f.ask),
-        Frame::Waiting(f) => words_of(w, slot, &f.ask),
-        Frame::Moving(f) => words_of(w, slot, &f.ask),
-        Frame::Ending(f) => words_of(w, slot, &f.ask),
+    match *frame {
+        View::User => (None, None),
+        View::Entered { .. } => (None, None),
+        View::Parsed { .. } => (None, None),
+        View::Asked { ask, .. } => words_of(w, slot, ask),
+        View::Holding { ask, .. } => words_of(w, slot, ask),
+        View::Waiting { ask, .. } => words_of(w, slot, ask),
+        View::Moving { ask, .. } => words_of(w, slot, ask),
+        View::Ending { ask, .. } => words_of(w, slot, ask),
     }
 }
 

@@ -1,17 +1,15 @@
 ghost use Rattle.std.specs.Prelude.{◌≡◌, ◌<◌, ◌≤◌, Ok, IfOk, OnOk, OnErr, IfErr, nat_lt, length};
 ghost use Rattle.its_word.specs.Limits.{slots, most_symbols};
-ghost use Rattle.its_plain.specs.OperatorSymbols.{nearer, symbol_shown, symbol_kept};
+ghost use Rattle.its_plain.specs.OperatorSymbols.{symbol_shown, symbol_kept};
 ghost use Rattle.its_plain.specs.OperatorVersion.{versioned};
 ghost use Rattle.its_stepped.specs.State.{plain};
 ghost use Rattle.its_world.specs.World.{state_of, symbols_at};
 ghost use Rattle.its_operator.specs.Kept.{Kept, Lands, Refused};
 
 use super::words::present;
+use its_parts::{MOST_SYMBOLS, nearest};
 use its_word::{Refusal, Word};
 use its_world::World;
-
-/// How many symbols a job has at most.
-const MOST_SYMBOLS: usize = 512;
 
 /// VERSION: if no slot has a job, the machine becomes one of this version, which can have 64 jobs, or 96 in version 2;
 /// else it stays as it is.
@@ -65,32 +63,4 @@ pub fn near(w: &World, slot: u8, pc: u32) -> Option<(Word, u32)>
     ensures { result ≡ symbol_shown pc (symbols_at w.now.symbols.items slot) }
 {
     nearest(w.symbols[usize::from(slot)].as_slice(), pc)
-}
-
-/// The symbol of the greatest address at most a PC, of those with one address the last, and how far the PC is past
-/// it.
-#[tactic(auto, using(its_parts::proofs::SymbolLaws::near_start, its_parts::proofs::SymbolLaws::near_next, its_parts::proofs::SymbolLaws::near_some, its_parts::proofs::SymbolLaws::near_none))]
-fn nearest(symbols: &[(Word, u32)], pc: u32) -> Option<(Word, u32)>
-    ensures { result ≡ symbol_shown pc symbols.now }
-{
-    let mut best = None;
-    for symbol in symbols {
-        best = nearer(pc, best, *symbol);
-    }
-    match best {
-        Some((name, a)) => Some((name, pc - a)),
-        None => None,
-    }
-}
-
-/// The nearer of two symbols to a PC; of two with one address the second.
-fn nearer(pc: u32, best: Option<(Word, u32)>, symbol: (Word, u32)) -> Option<(Word, u32)>
-    ensures { result ≡ nearer pc best symbol }
-{
-    let (_, a) = symbol;
-    let is_nearer = match best {
-        Some((_, b)) => a <= pc && b <= a,
-        None => a <= pc,
-    };
-    if is_nearer { Some(symbol) } else { best }
 }

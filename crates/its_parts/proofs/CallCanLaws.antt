@@ -46,7 +46,7 @@ pub record Grants (v : Beside) (q : Whole) (a : Ask) : Type 0 where
   pub page : reserves a ≡ true → v.page
   pub tree : a.fail ≡ 0 → call_named a.name ≡ Some Uclose → (s at : ℕ) (write : Bool) → channel_at q.channels (input a 0) ≡ On s write at → v.tree s
 
--- a link with an open end stands
+-- a link with an open end exists
 end_stands : (o : Option Pipe) (write : Bool) (k n : ℕ) → end_at write o ≡ Opened k n → is_some o ≡ true
 end_stands (Some p) write k n h = refl
 end_stands None true k n h = cc

@@ -110,7 +110,7 @@ opened_needs true v n = tt
 opened_needs false v n = tt
 
 -- the view of the call of slot j's job in which its consoles, files, outlines and links are those of a machine, and its
--- job's console is one of eight, its superior has a slot that there is, and its channels are on links that stand
+-- job's console is one of eight, its superior has a slot that there is, and its channels are on links that exist
 pub record Sees (x : View) (m : Machine) (j : ℕ) : Type 0 where
   pub consoles : x.consoles ≡ m.consoles
   pub own : IfSome x.own.job.console (λ c. c < 8)
@@ -395,7 +395,7 @@ rename_can v j m x a s u =
     (finishes x (changes.Rename (input a 3) (input a 1) (input a 2) (input a 4) (input a 5) ∷ []) []) (λ t. tt, (λ t. tt, (λ t. tt, (λ t. tt, tt))))
     (λ t. ((file_is x m j (names_from a 1) s t.1.0, unread_is x m j (names_from a 1) s t.1.1.0, ap (has_file fresh) (sym s.files) ∙ t.1.1.1.0), u))
 
--- the calls on links: a channel is on a link that stands; the number of one that is opened is below 16
+-- the calls on links: a channel is on a link that exists; the number of one that is opened is below 16
 pub on_link : (x : View) (m : Machine) (j n l : ℕ) (write : Bool) → Sees x m j → channel_at x.own.channels n ≡ Linked l write → chan_in m j n ≡ Linked l write
 on_link x m j n l write s e = chan_is x m j n (Linked l write) s (open_true x.own.channels n (Linked l write) e tt) e
 

@@ -3,9 +3,9 @@ ghost use Rattle.std.specs.Prelude.{◌≡◌, ℕ, [], None, vec_len, slice_ind
 ghost use Rattle.its_word.specs.Console.{quiet_console};
 ghost use Rattle.its_parts.specs.Parts.{symbols_at};
 
-use arrayvec::ArrayVec;
+use super::symbols::SymbolTable;
 use its_console::Console;
-use its_word::{NoMemory, Word};
+use its_word::NoMemory;
 use std::alloc::Global;
 
 /// So many consoles at which nothing waits.
@@ -34,15 +34,15 @@ pub fn no_alarms(alloc: Global, n: usize) -> Result<Vec<Option<(u64, u64)>>, NoM
     Ok(v)
 }
 
-/// So many lists without a symbol.
+/// So many tables without a symbol.
 #[tactic(auto, using(crate::proofs::OpenLaws::symbols_more))]
-pub fn no_symbols(alloc: Global, n: usize) -> Result<Vec<ArrayVec<(Word, u32), 512>>, NoMemory>
+pub fn no_symbols(alloc: Global, n: usize) -> Result<Vec<SymbolTable>, NoMemory>
     ensures length { IfOk result (λ v. vec_len v ≡ n) }
     ensures none { IfOk result (λ v. (k : ℕ) → symbols_at v.items k ≡ []) }
 {
     let mut v = Vec::with_capacity(alloc, n).map_err(|_| NoMemory)?;
     for _k in 0..n {
-        v.push(ArrayVec::new()).map_err(|_| NoMemory)?;
+        v.push(SymbolTable::open(alloc)?).map_err(|_| NoMemory)?;
     }
     Ok(v)
 }

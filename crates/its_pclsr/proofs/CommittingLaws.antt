@@ -3,6 +3,7 @@ use Rattle.std.specs.Prelude.{if◌then◌else◌, ◌≡◌, ◌==◌, ◌≤�
 use Rattle.std.proofs.Common.{sym, ap, ◌∙◌, subst, arith}
 use Rattle.std.proofs.lemmas.Bool.{eq-eqb}
 use Rattle.its_core.specs.Cores.{clear_at}
+use Rattle.its_word.specs.declared.calls.Ask.{Ask}
 use Rattle.its_word.specs.declared.calls.Exit.{Exit}
 use Rattle.its_word.specs.declared.calls.Owed.{Owed}
 use Rattle.its_word.specs.declared.calls.Owed.TheVariants.{Leave}
@@ -216,16 +217,19 @@ one_page : (b : Bool) (o : Option ℕ) → b ≡ is_some o → (if b then 1 else
 one_page b (Some k) e = rw e refl
 one_page b None e = rw e refl
 
-pub end_few : (o : Option Holding) (w : State) (s n : ℕ) (f : Holding) (ps os : List Owed) (b : Bool) → o ≡ Some f → IfSome o (λ f. Endable w s f n) → ps ≡ os → os ≡ owed_parts w.mark s
-    → b ≡ is_some (w.reserved s) → length ps + (if b then 1 else 0) + f.owes + n ≤ 3
-end_few (Some g) w s n f ps os b e h p q i =
-    let same : g ≡ f = cc in
-    let r : Endable w s f n = subst (λ (x : Holding). Endable w s x n) same h in
-    let few = r.few in
+pub end_read : (o : Option Holding) (w : State) (s n k : ℕ) (a : Ask) → is_some o ≡ true → IfSome o (λ f. (a ≡ f.ask) × (k ≡ f.owes)) → IfSome o (λ f. Endable w s f n) → length (debts a k) ≡ k
+end_read (Some f) w s n k a i is h = (λ t. length (debts (is.0 t) (is.1 t))) ∙ h.read ∙ sym is.1
+end_read None w s n k a i is h = cc
+
+pub end_few : (o : Option Holding) (w : State) (s n k : ℕ) (a : Ask) (ps os : List Owed) (b : Bool) → is_some o ≡ true → IfSome o (λ f. (a ≡ f.ask) × (k ≡ f.owes)) → IfSome o (λ f. Endable w s f n) → ps ≡ os → os ≡ owed_parts w.mark s
+    → b ≡ is_some (w.reserved s) → length ps + (if b then 1 else 0) + k + n ≤ 3
+end_few (Some f) w s n k a ps os b j is h p q i =
+    let few = h.few in
+    let owes : k ≡ f.owes = is.1 in
     let parts : length ps ≡ length (owed_parts w.mark s) = ap (λ (xs : List Owed). length xs) (p ∙ q) in
     let page : (if b then 1 else 0) ≡ kept (w.reserved s) = one_page b (w.reserved s) i in
     omega arith
-end_few None w s n f ps os b e h p q i = cc
+end_few None w s n k a ps os b j is h p q i = cc
 
 -- whether a slot has reserved a page
 pub page_reserved : (w : World) (s : ℕ) (b : Bool) → b ≡ is_some (clear_at w.core s) → b ≡ is_some ((state_of w).reserved s)

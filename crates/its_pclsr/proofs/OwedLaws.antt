@@ -1,17 +1,13 @@
 -- The pending words of a call, as stores.
-use Rattle.std.specs.Prelude.{◌≡◌, ◌<◌, ◌≤◌, ℕ, suc, ◌-◌, ◌%◌, ◌^◌, ◌==◌, Bool, true, false, Option, Some, None, option_map, List, [], ◌∷◌, length, drop, slice_index_or, refl}
-use Rattle.std.specs.List.{remove}
+use Rattle.std.specs.Prelude.{◌≡◌, ◌<◌, ◌≤◌, ℕ, suc, ◌-◌, ◌%◌, ◌^◌, ◌==◌, false, Option, Some, None, option_map, List, [], ◌∷◌, length, drop, slice_index_or, refl}
 use Rattle.std.proofs.Common.{arith, sym, ap, ◌∙◌, length-drop, drop-cons}
-use Rattle.its_word.specs.declared.calls.Owed.{Owed}
-use Rattle.its_word.specs.declared.calls.Owed.TheVariants.{Unlink, Link, Free}
-use Rattle.its_pclsr.specs.Owed.{begins_with_file}
 use Rattle.its_word.specs.Core.{Core, store}
 use Rattle.its_word.specs.declared.calls.Ask.{Ask}
 use Rattle.its_word.specs.declared.calls.Operand.{Operand}
 use Rattle.its_word.specs.declared.plan.Store as stores
 use Rattle.its_plain.specs.Arguments.{stores_of, debts}
 use Rattle.its_word.specs.Stores.{place, stored}
-use Rattle.its_stepped.specs.Unwind.{first_debt, due}
+use Rattle.its_stepped.specs.Unwind.{first_debt}
 use Rattle.its_files.specs.Files.{Store}
 use Rattle.its_files.specs.declared.entry.Mark.{Mark as FilesMark}
 use Rattle.its_stepped.specs.State.{mine}
@@ -94,29 +90,3 @@ never_none a n k o some read at here place =
     let d = length-drop (suc (length a.inputs.items - n)) a.inputs.items in
     let s = ap (λ os. length (stores_of os)) e in
     omega arith
-
--- file steps at the head are passed over
-pub due_more : (os : List Owed) → begins_with_file os ≡ true → due false (remove os 0) ≡ due false os
-due_more (Unlink ∷ os) h = refl
-due_more (Link ∷ os) h = refl
-due_more (Free ∷ os) h = refl
-due_more _ h = cc
-
-pub due_over : (os : List Owed) → begins_with_file os ≡ false → due false os ≡ os
-due_over (Unlink ∷ os) h = cc
-due_over (Link ∷ os) h = cc
-due_over (Free ∷ os) h = cc
-due_over _ h = refl
-
-pub some_first : (os : List Owed) → begins_with_file os ≡ true → 0 < length os
-some_first [] h = cc
-some_first (o ∷ os) h = omega arith
-
--- nothing is passed over if the close is marked
-pub due_all : (os : List Owed) → due true os ≡ os
-due_all [] = refl
-due_all (o ∷ os) = refl
-
-pub due_whole : (b : Bool) (os : List Owed) → true ≡ b → os ≡ due b os
-due_whole true os e = sym (due_all os)
-due_whole false os e = cc

@@ -1,137 +1,159 @@
 -- One step of unwinding of a world, and all of them.
-use Rattle.std.specs.Prelude.{◌≡◌, ◌≢◌, ◌<◌, ◌≤◌, ℕ, ◌+◌, true, false, Option, Some, None, is_some, IfSome, option_map, List, [], ◌∷◌, refl}
+use Rattle.std.specs.Prelude.{◌≡◌, ◌≢◌, ◌<◌, ◌≤◌, ℕ, ◌+◌, ◌-◌, true, false, Option, Some, None, is_some, IfSome, option_map, List, [], ◌∷◌, refl}
+use Rattle.std.specs.Borrow.{Bor}
 use Rattle.std.proofs.Common.{arith, sym, ap, ◌∙◌, subst}
+use Rattle.its_word.specs.ArrayVec.{ArrayVec}
 use Rattle.its_word.specs.Core.{Core}
+use Rattle.its_word.specs.Stores.{stored}
 use Rattle.its_word.specs.declared.calls.Ask.{Ask}
 use Rattle.its_word.specs.declared.calls.Owed.{Owed}
-use Rattle.its_word.specs.declared.calls.Owed.TheVariants as owed
-use Rattle.its_word.specs.declared.calls.Owed.TheVariants.{GiveBack, Unlink, Link, Free, Leave}
 use Rattle.its_word.specs.declared.calls.Site.{Site}
 use Rattle.its_word.specs.declared.jobs.Job.{Job}
+use Rattle.its_word.specs.declared.plan.Store as stores
 use Rattle.its_core.specs.Cores.{core_at, clear_at}
-use Rattle.its_files.specs.Files.{Store}
+use Rattle.its_files.specs.Files.{Store as Files}
 use Rattle.its_jobs.specs.Table.{job_at, superior_at}
 use Rattle.its_frame.specs.declared.frame.Frame.{Frame}
-use Rattle.its_frame.specs.declared.frame.Asked as askeds
-use Rattle.its_frame.specs.declared.frame.Ending as endings
-use Rattle.its_frame.specs.declared.frame.Entered as entereds
-use Rattle.its_frame.specs.declared.frame.Holding as holdings
-use Rattle.its_frame.specs.declared.frame.Moving as movings
-use Rattle.its_frame.specs.declared.frame.Parsed as parseds
-use Rattle.its_frame.specs.declared.frame.Waiting as waitings
-use Rattle.its_frame.specs.declared.frame.Frame.TheVariants.{Entered, Parsed, Asked, Holding, Waiting, Moving, Ending}
-use Rattle.its_plain.specs.Change.{poke}
-use Rattle.its_plain.specs.CallStep.{with_held}
-use Rattle.its_plain.specs.Own.{with_stores, leave}
-use Rattle.its_plain.specs.Arguments.{debts}
-use Rattle.its_stepped.specs.State.{State, Mark, mine, plain, seen, held_at, turn, same, reserving, asked, holding, waiting, ending}
+use Rattle.its_plain.specs.Arguments.{input, debts}
+use Rattle.its_plain.specs.CallStep.{deposited}
+use Rattle.its_stepped.specs.State.{State, plain, seen, held_at, turn, same, entered, parsed, asked, holding, waiting, moving}
 use Rattle.its_plain.specs.Machine.{Whole, Machine}
-use Rattle.its_stepped.specs.Unwind.{first_debt, less, paid, due, with_part, settled, given_back, unwind_by, unwind_one, left, unwind_times, unwound}
+use Rattle.its_stepped.specs.Unwind.{first_debt, given_back, unwind_by, unwind_one, left, unwind_times, unwound}
 use Rattle.its_stepped.specs.OneChange.{OneChange}
-use Rattle.its_stepped.specs.Sound.{Pays, SoundBy, MarkBy, Sound, parts_in_frame}
+use Rattle.its_stepped.specs.Sound.{Pays, HoldingPays, WaitingPays, MovingPays, SoundBy, Sound}
 use Rattle.its_stepped.specs.SlotSame.{SlotSame}
 use Rattle.its_stepped.proofs.UnwindLaws.{unwind_fewer, left_none, unwind_plain, unwind_sound, one_change, few_left, unwound_turn, unwound_plain, unwound_sound, unwound_none, unwound_others}
 use Rattle.its_stepped.proofs.KeptLaws.{user_page}
-use Rattle.its_pclsr.specs.Apart.{CoresOff}
-use Rattle.its_pclsr.specs.Owed.{Marks}
-use Rattle.its_world.specs.World.{state_of, mark_of, alarm_at, raw_of, raw_at, frame_at, frames_after, FrameBecomes}
+use Rattle.its_calls.specs.Calls.{ending_in, frame_seen, request_in}
+use Rattle.its_calls.specs.declared.call.View.{View}
+use Rattle.its_calls.specs.declared.call.View.TheVariants as views
+use Rattle.its_world.specs.World.{state_of, alarm_at, raw_of, raw_at, frame_at, frames_after, Becomes, FrameBecomes}
 use Rattle.its_world.specs.declared.world.World.{World}
-use Rattle.its_world.proofs.StateLaws.{kept_turn, retaken}
-
--- the rows look at the raw job and at the frame alone: it is no matter that the frame was taken out
-given_taken : (w : State) (s : ℕ) (t : Site) (a : Ask) (page : Option ℕ) (n : ℕ) → given_back (turn w s same None) s t a page n ≡ given_back w s t a page n
-given_taken w s t a (Some p) n = ap (λ (x : State). reserving x s None) (retaken w s None (Some (asked t a)) same)
-given_taken w s t a None n = retaken w s None (less n (holding t a None)) (with_stores (first_debt (debts a n)))
-
-settled_taken : (w : State) (s : ℕ) (t : Site) (a : Ask) (os : List Owed) → settled (turn w s same None) s t a os ≡ settled w s t a os
-settled_taken w s t a [] = retaken w s None None same
-settled_taken w s t a (owed.Store p v ∷ os) = retaken w s None (Some (ending t a os)) (with_stores (poke p v ∷ []))
-settled_taken w s t a (GiveBack ∷ os) = ap (λ (x : State). reserving x s None) (retaken w s None (Some (ending t a os)) same)
-settled_taken w s t a (Unlink ∷ os) = ap (with_part w.mark) (retaken w s None (Some (ending t a os)) same)
-settled_taken w s t a (Link ∷ os) = ap (with_part w.mark) (retaken w s None (Some (ending t a os)) same)
-settled_taken w s t a (Free ∷ os) = ap (with_part w.mark) (retaken w s None (Some (ending t a os)) same)
-settled_taken w s t a (Leave e ∷ os) = retaken w s None None (leave e)
+use Rattle.its_world.proofs.StateLaws.{kept_state, kept_turn, stored_turn}
+use Rattle.its_pclsr.specs.Apart.{CoresOff}
+use Rattle.its_pclsr.proofs.RowLaws.{page_backed, none_backed, some_paid, none_paid, moved_turn}
 
 -- a slot with a frame has a job, and its frame can be paid
-by_job : (t : Store) (c : Core) (sup : Option ℕ) (a : Option (ℕ × ℕ)) (o : Option Job) (f : Frame) (r : Option ℕ) → SoundBy (raw_of t c sup a o) (Some f) r → (is_some o ≡ true) × Pays f c r
+by_job : (t : Files) (c : Core) (sup : Option ℕ) (a : Option (ℕ × ℕ)) (o : Option Job) (f : Frame) (r : Option ℕ) → SoundBy (raw_of t c sup a o) (Some f) r → (is_some o ≡ true) × Pays f c r
 by_job t c sup a (Some j) f r h = (refl, h.pays)
 by_job t c sup a None f r h = cc (h.0)
 
-by_frame : (t : Store) (c : Core) (sup : Option ℕ) (a : Option (ℕ × ℕ)) (o : Option Job) (f : Option Frame) (g : Frame) (r : Option ℕ) → f ≡ Some g → SoundBy (raw_of t c sup a o) f r → (is_some o ≡ true) × Pays g c r
+by_frame : (t : Files) (c : Core) (sup : Option ℕ) (a : Option (ℕ × ℕ)) (o : Option Job) (f : Option Frame) (g : Frame) (r : Option ℕ) → f ≡ Some g → SoundBy (raw_of t c sup a o) f r → (is_some o ≡ true) × Pays g c r
 by_frame t c sup a o f g r e h = by_job t c sup a o g r (subst (λ x. SoundBy (raw_of t c sup a o) x r) e h)
 
 pub stands_at : (w : World) (s : ℕ) (f : Frame) → Sound (state_of w) → frame_at w.frames.items s ≡ Some f → (is_some (job_at w.jobs s) ≡ true) × Pays f (core_at w.core s) (clear_at w.core s)
 unfolding state_of
 stands_at w s f sound e = by_frame w.files (core_at w.core s) (superior_at w.jobs s) (alarm_at w.alarms.items s) (job_at w.jobs s) (frame_at w.frames.items s) f (clear_at w.core s) e (sound.each s).by
 
--- the same once the frame is taken out
-pub job_taken : (old mid : World) (s : ℕ) (f : Frame) (o : Option Frame) → o ≡ frame_at old.frames.items s → o ≡ Some f → FrameBecomes old mid s None → Sound (state_of old)
-    → is_some (job_at mid.jobs s) ≡ true
-job_taken old mid s f o e i b sound = ap is_some b.job.here ∙ (stands_at old s f sound (sym e ∙ i)).0
-
-pub pays_taken : (old mid : World) (s : ℕ) (f : Frame) (o : Option Frame) → o ≡ frame_at old.frames.items s → o ≡ Some f → FrameBecomes old mid s None → Sound (state_of old)
-    → Pays f (core_at mid.core s) (clear_at mid.core s)
-pays_taken old mid s f o e i b sound =
-    subst (λ c. Pays f c (clear_at mid.core s)) (sym b.core.here) (subst (Pays f (core_at old.core s)) (sym b.reserved.here) (stands_at old s f sound (sym e ∙ i)).1)
-
--- the owner of the mark has the parts of the mark in its frame
-marks_by : (m : Option Mark) (frames : ℕ → Option Frame) (s : ℕ) (f : endings.Ending) → IfSome m (λ k. MarkBy k frames) → frames s ≡ Some (Ending f) → Marks m s f.owed.items
-marks_by None frames s f h e = tt
-marks_by (Some m) frames s f h e = λ is. sym (ap (λ k. parts_in_frame (frames k)) is ∙ ap parts_in_frame e) ∙ h.parts
-
-pub marks_taken : (old mid : World) (s : ℕ) (f : endings.Ending) (o : Option Frame) → o ≡ frame_at old.frames.items s → o ≡ Some (Ending f) → FrameBecomes old mid s None
-    → Sound (state_of old) → Marks (state_of mid).mark s f.owed.items
-unfolding state_of
-marks_taken old mid s f o e i b sound =
-    subst (λ t. Marks (mark_of t) s f.owed.items) (sym b.files) (marks_by (mark_of old.files) (frame_at old.frames.items) s f sound.mark (sym e ∙ i))
+-- a page that a frame has is reserved
+pub page_kept : (r page : Option ℕ) → r ≡ page → is_some page ≡ true → is_some r ≡ true
+page_kept r page e h = ap is_some e ∙ h
 
 -- one step is the row of its frame
-row_of : (old mid : World) (s : ℕ) (f : Frame) (o : Option Frame) → o ≡ frame_at old.frames.items s → o ≡ Some f → FrameBecomes old mid s None → Sound (state_of old)
-    → unwind_one (state_of old) s ≡ unwind_by (state_of old) s (Some f)
+pub row_at : (w : World) (s : ℕ) (f : Frame) → frame_at w.frames.items s ≡ Some f → unwind_one (state_of w) s ≡ unwind_by (state_of w) s (Some f)
 unfolding unwind_one state_of
-row_of old mid s f o e i b sound = ap (unwind_by (state_of old) s) (sym e ∙ i)
+row_at w s f e = ap (unwind_by (state_of w) s) e
 
-taken_state : (old mid : World) (s : ℕ) (f : Frame) (o : Option Frame) → o ≡ frame_at old.frames.items s → o ≡ Some f → FrameBecomes old mid s None → Sound (state_of old)
-    → state_of mid ≡ turn (state_of old) s same None
-taken_state old mid s f o e i b sound = kept_turn old mid s None (stands_at old s f sound (sym e ∙ i)).0 b
+-- the frame that was looked at
+pub user_row : (w : World) (s : ℕ) (x : View) → frame_seen x ≡ frame_at w.frames.items s → x ≡ views.User → state_of w ≡ unwind_one (state_of w) s
+unfolding unwind_one state_of
+user_row w s x e i = ap (unwind_by (state_of w) s) (sym (ap frame_seen i) ∙ e)
 
--- the rows of unwinding
-module _ (old mid new : World) (s : ℕ) (o : Option Frame) (e : o ≡ frame_at old.frames.items s) (b : FrameBecomes old mid s None) (sound : Sound (state_of old)) where
-  pub holding_row : (f : holdings.Holding) → o ≡ Some (Holding f) → state_of new ≡ given_back (state_of mid) s f.site f.ask f.page f.owes → state_of new ≡ unwind_one (state_of old) s
-  holding_row f i h =
-      h ∙ ap (λ w. given_back w s f.site f.ask f.page f.owes) (taken_state old mid s (Holding f) o e i b sound) ∙ given_taken (state_of old) s f.site f.ask f.page f.owes
-      ∙ sym (row_of old mid s (Holding f) o e i b sound)
+module _ (old : World) (s : ℕ) (x : View) (e : frame_seen x ≡ frame_at old.frames.items s) (sound : Sound (state_of old)) where
+  at : (y : View) → x ≡ y → frame_at old.frames.items s ≡ frame_seen y
+  at y i = sym e ∙ ap frame_seen i
 
-  pub waiting_row : (f : waitings.Waiting) → o ≡ Some (Waiting f) → state_of new ≡ paid (state_of mid) s f.ask f.owes (waiting f.site f.ask) → state_of new ≡ unwind_one (state_of old) s
-  waiting_row f i h =
-      h ∙ ap (λ w. paid w s f.ask f.owes (waiting f.site f.ask)) (taken_state old mid s (Waiting f) o e i b sound)
-      ∙ retaken (state_of old) s None (less f.owes (waiting f.site f.ask)) (with_stores (first_debt (debts f.ask f.owes)))
-      ∙ sym (row_of old mid s (Waiting f) o e i b sound)
+  pub request_there : (y : View) → x ≡ y → is_some (request_in (frame_seen y)) ≡ true → is_some (request_in (frame_at old.frames.items s)) ≡ true
+  request_there y i h = ap (λ (o : Option Frame). is_some (request_in o)) (at y i) ∙ h
 
-  pub moving_row : (f : movings.Moving) → o ≡ Some (Moving f)
-      → state_of new ≡ turn (state_of mid) s (with_held f.ask (Some (held_at f.place f.byte))) (Some (holding f.site f.ask None 2)) → state_of new ≡ unwind_one (state_of old) s
-  moving_row f i h =
-      h ∙ ap (λ w. turn w s (with_held f.ask (Some (held_at f.place f.byte))) (Some (holding f.site f.ask None 2))) (taken_state old mid s (Moving f) o e i b sound)
-      ∙ retaken (state_of old) s None (Some (holding f.site f.ask None 2)) (with_held f.ask (Some (held_at f.place f.byte)))
-      ∙ sym (row_of old mid s (Moving f) o e i b sound)
+  pub ending_there : (t : Bor Site) (a : Bor Ask) (os : Bor (ArrayVec Owed)) → x ≡ views.Ending t a os → is_some (ending_in (frame_at old.frames.items s)) ≡ true
+  ending_there t a os i = ap (λ (o : Option Frame). is_some (ending_in o)) (at (views.Ending t a os) i)
 
-  pub ending_row : (f : endings.Ending) → o ≡ Some (Ending f) → state_of new ≡ settled (state_of mid) s f.site f.ask (due (mine (state_of mid).mark s) f.owed.items) → state_of new ≡ unwind_one (state_of old) s
-  ending_row f i h =
-      h ∙ ap (λ w. settled w s f.site f.ask (due (mine w.mark s) f.owed.items)) (taken_state old mid s (Ending f) o e i b sound)
-      ∙ settled_taken (state_of old) s f.site f.ask (due (mine (state_of old).mark s) f.owed.items)
-      ∙ sym (row_of old mid s (Ending f) o e i b sound)
+  pub job_there : (f : Frame) (y : View) → x ≡ y → frame_seen y ≡ Some f → is_some (job_at old.jobs s) ≡ true
+  job_there f y i h = (stands_at old s f sound (at y i ∙ h)).0
 
-pub entered_row : (old mid : World) (s : ℕ) (f : entereds.Entered) (o : Option Frame) → o ≡ frame_at old.frames.items s → o ≡ Some (Entered f) → FrameBecomes old mid s None → Sound (state_of old)
-    → state_of mid ≡ unwind_one (state_of old) s
-entered_row old mid s f o e i b sound = taken_state old mid s (Entered f) o e i b sound ∙ sym (row_of old mid s (Entered f) o e i b sound)
+  pub holding_pays : (t : Bor Site) (a : Bor Ask) (page : Option ℕ) (n : ℕ) → x ≡ views.Holding t a page n → HoldingPays (core_at old.core s) (clear_at old.core s) a.now page n
+  holding_pays t a page n i = (stands_at old s (holding t.now a.now page n) sound (at (views.Holding t a page n) i)).1
 
-pub parsed_row : (old mid : World) (s : ℕ) (f : parseds.Parsed) (o : Option Frame) → o ≡ frame_at old.frames.items s → o ≡ Some (Parsed f) → FrameBecomes old mid s None → Sound (state_of old)
-    → state_of mid ≡ unwind_one (state_of old) s
-parsed_row old mid s f o e i b sound = taken_state old mid s (Parsed f) o e i b sound ∙ sym (row_of old mid s (Parsed f) o e i b sound)
+  pub waiting_pays : (t : Bor Site) (a : Bor Ask) (n : ℕ) → x ≡ views.Waiting t a n → WaitingPays (core_at old.core s) (clear_at old.core s) a.now n
+  waiting_pays t a n i = (stands_at old s (waiting t.now a.now n) sound (at (views.Waiting t a n) i)).1
 
-pub asked_row : (old mid : World) (s : ℕ) (f : askeds.Asked) (o : Option Frame) → o ≡ frame_at old.frames.items s → o ≡ Some (Asked f) → FrameBecomes old mid s None → Sound (state_of old)
-    → state_of mid ≡ unwind_one (state_of old) s
-asked_row old mid s f o e i b sound = taken_state old mid s (Asked f) o e i b sound ∙ sym (row_of old mid s (Asked f) o e i b sound)
+  pub moving_pays : (t : Bor Site) (a : Bor Ask) (place byte : ℕ) → x ≡ views.Moving t a place byte → MovingPays (core_at old.core s) (clear_at old.core s) a.now place
+  moving_pays t a place byte i = (stands_at old s (moving t.now a.now (held_at place byte)) sound (at (views.Moving t a place byte) i)).1
+
+  -- the row of what was looked at
+  dropped : (new : World) (f : Frame) (y : View) → x ≡ y → frame_seen y ≡ Some f → FrameBecomes old new s None → state_of new ≡ turn (state_of old) s same None
+  dropped new f y i h b = kept_turn old new s None (job_there f y i h) b
+
+  pub entered_row : (new : World) (t : Bor Site) → x ≡ views.Entered t → FrameBecomes old new s None → state_of new ≡ unwind_one (state_of old) s
+  entered_row new t i b = dropped new (entered t.now) (views.Entered t) i refl b ∙ sym (row_at old s (entered t.now) (at (views.Entered t) i))
+
+  pub parsed_row : (new : World) (t : Bor Site) (b : Bor (ArrayVec ℕ)) → x ≡ views.Parsed t b → FrameBecomes old new s None → state_of new ≡ unwind_one (state_of old) s
+  parsed_row new t b i h = dropped new (parsed t.now b.now.items) (views.Parsed t b) i refl h ∙ sym (row_at old s (parsed t.now b.now.items) (at (views.Parsed t b) i))
+
+  pub asked_row : (new : World) (t : Bor Site) (a : Bor Ask) → x ≡ views.Asked t a → FrameBecomes old new s None → state_of new ≡ unwind_one (state_of old) s
+  asked_row new t a i b = dropped new (asked t.now a.now) (views.Asked t a) i refl b ∙ sym (row_at old s (asked t.now a.now) (at (views.Asked t a) i))
+
+  module _ (t : Bor Site) (a : Bor Ask) (page : Option ℕ) (n : ℕ) (i : x ≡ views.Holding t a page n) where
+    there : frame_at old.frames.items s ≡ Some (holding t.now a.now page n)
+    there = at (views.Holding t a page n) i
+
+    given : given_back (state_of old) s t.now a.now page n ≡ unwind_one (state_of old) s
+    given = sym (row_at old s (holding t.now a.now page n) there)
+
+    pub holding_backed : (new : World) → is_some page ≡ true
+        → IfSome (request_in (frame_at old.frames.items s)) (λ r. Becomes old new s (core_at old.core s) (job_at old.jobs s) (Some (asked r.site r.ask)) None)
+        → state_of new ≡ unwind_one (state_of old) s
+    holding_backed new some b =
+        let here : Becomes old new s (core_at old.core s) (job_at old.jobs s) (Some (asked t.now a.now)) None =
+        subst (λ (o : Option Frame). IfSome (request_in o) (λ r. Becomes old new s (core_at old.core s) (job_at old.jobs s) (Some (asked r.site r.ask)) None)) there b in
+        kept_state old new s (Some (asked t.now a.now)) None (stands_at old s (holding t.now a.now page n) sound there).0 here
+        ∙ page_backed (state_of old) s n t.now a.now page some ∙ given
+
+    pub holding_dropped : (new : World) → is_some page ≡ false → n ≡ 0 → FrameBecomes old new s None → state_of new ≡ unwind_one (state_of old) s
+    holding_dropped new bare z b =
+        none_paid old new s n a.now (holding t.now a.now None) (stands_at old s (holding t.now a.now page n) sound there).0 z b
+        ∙ none_backed (state_of old) s n t.now a.now page bare ∙ given
+
+    pub holding_paid : (new : World) (d : stores.Store) → is_some page ≡ false → n ≢ 0 → first_debt (debts a.now n) ≡ d ∷ []
+        → IfSome (request_in (frame_at old.frames.items s)) (λ r. Becomes old new s (stored (core_at old.core s) (d ∷ [])) (job_at old.jobs s) (Some (holding r.site r.ask None (n - 1))) (clear_at old.core s))
+        → state_of new ≡ unwind_one (state_of old) s
+    holding_paid new d bare some first b =
+        let here : Becomes old new s (stored (core_at old.core s) (d ∷ [])) (job_at old.jobs s) (Some (holding t.now a.now None (n - 1))) (clear_at old.core s) =
+        subst (λ (o : Option Frame). IfSome (request_in o) (λ r. Becomes old new s (stored (core_at old.core s) (d ∷ [])) (job_at old.jobs s) (Some (holding r.site r.ask None (n - 1))) (clear_at old.core s))) there b in
+        stored_turn old new s (d ∷ []) (Some (holding t.now a.now None (n - 1))) (stands_at old s (holding t.now a.now page n) sound there).0 here
+        ∙ some_paid (state_of old) s n a.now d (holding t.now a.now None) some first
+        ∙ none_backed (state_of old) s n t.now a.now page bare ∙ given
+
+  module _ (t : Bor Site) (a : Bor Ask) (n : ℕ) (i : x ≡ views.Waiting t a n) where
+    stands : frame_at old.frames.items s ≡ Some (waiting t.now a.now n)
+    stands = at (views.Waiting t a n) i
+
+    pub waiting_dropped : (new : World) → n ≡ 0 → FrameBecomes old new s None → state_of new ≡ unwind_one (state_of old) s
+    waiting_dropped new z b =
+        none_paid old new s n a.now (waiting t.now a.now) (stands_at old s (waiting t.now a.now n) sound stands).0 z b
+        ∙ sym (row_at old s (waiting t.now a.now n) stands)
+
+    pub waiting_paid : (new : World) (d : stores.Store) → n ≢ 0 → first_debt (debts a.now n) ≡ d ∷ []
+        → IfSome (request_in (frame_at old.frames.items s)) (λ r. Becomes old new s (stored (core_at old.core s) (d ∷ [])) (job_at old.jobs s) (Some (waiting r.site r.ask (n - 1))) (clear_at old.core s))
+        → state_of new ≡ unwind_one (state_of old) s
+    waiting_paid new d some first b =
+        let here : Becomes old new s (stored (core_at old.core s) (d ∷ [])) (job_at old.jobs s) (Some (waiting t.now a.now (n - 1))) (clear_at old.core s) =
+        subst (λ (o : Option Frame). IfSome (request_in o) (λ r. Becomes old new s (stored (core_at old.core s) (d ∷ [])) (job_at old.jobs s) (Some (waiting r.site r.ask (n - 1))) (clear_at old.core s))) stands b in
+        stored_turn old new s (d ∷ []) (Some (waiting t.now a.now (n - 1))) (stands_at old s (waiting t.now a.now n) sound stands).0 here
+        ∙ some_paid (state_of old) s n a.now d (waiting t.now a.now) some first
+        ∙ sym (row_at old s (waiting t.now a.now n) stands)
+
+  pub moving_row : (new : World) (t : Bor Site) (a : Bor Ask) (place byte : ℕ) (d : stores.Store) → x ≡ views.Moving t a place byte → d ≡ deposited (core_at old.core s) (input a.now 1) (held_at place byte)
+      → IfSome (request_in (frame_at old.frames.items s)) (λ r. Becomes old new s (stored (core_at old.core s) (d ∷ [])) (job_at old.jobs s) (Some (holding r.site r.ask None 2)) (clear_at old.core s))
+      → state_of new ≡ unwind_one (state_of old) s
+  moving_row new t a place byte d i is b =
+      let there : frame_at old.frames.items s ≡ Some (moving t.now a.now (held_at place byte)) = at (views.Moving t a place byte) i in
+      let here : Becomes old new s (stored (core_at old.core s) (d ∷ [])) (job_at old.jobs s) (Some (holding t.now a.now None 2)) (clear_at old.core s) =
+      subst (λ (o : Option Frame). IfSome (request_in o) (λ r. Becomes old new s (stored (core_at old.core s) (d ∷ [])) (job_at old.jobs s) (Some (holding r.site r.ask None 2)) (clear_at old.core s))) there b in
+      moved_turn old new s a.now place byte (Some (holding t.now a.now None 2)) (stands_at old s (moving t.now a.now (held_at place byte)) sound there).0
+      (subst (λ (y : stores.Store). Becomes old new s (stored (core_at old.core s) (y ∷ [])) (job_at old.jobs s) (Some (holding t.now a.now None 2)) (clear_at old.core s)) is here)
+      ∙ sym (row_at old s (moving t.now a.now (held_at place byte)) there)
 
 -- the loop of unwinding
 pub some_of : (o : Option Frame) → is_some o ≡ true → (f : Frame) × (o ≡ Some f)

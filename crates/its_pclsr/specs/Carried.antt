@@ -1,20 +1,23 @@
 -- What has to hold of a decision that is carried out, and of the frame of its call.
 -- No promise rests on this.
-use Rattle.std.specs.Prelude.{◌≡◌, ◌≤◌, ◌+◌, ℕ, Option, Some, None, List, ◌++◌, length, take, drop, slice_set, slice_index_or}
+use Rattle.std.specs.Prelude.{◌≡◌, ◌≤◌, ◌+◌, ℕ, Bool, true, false, Option, Some, None, length}
 use Rattle.its_frame.specs.Left.{kept}
 use Rattle.its_frame.specs.declared.change.Change.TheVariants.{Remove}
 use Rattle.its_frame.specs.declared.decision.Decision.{Decision}
 use Rattle.its_frame.specs.declared.decision.Decision.TheVariants.{Waits, Goes, Ends, Gone}
+use Rattle.its_frame.specs.declared.decision.Held.{Held}
 use Rattle.its_frame.specs.declared.frame.Frame.{Frame}
 use Rattle.its_frame.specs.declared.frame.Frame.TheVariants as frames
 use Rattle.its_frame.specs.declared.frame.Holding.{Holding}
-use Rattle.its_plain.specs.Arguments.{debts, valued}
+use Rattle.its_plain.specs.Arguments.{debts}
+use Rattle.its_plain.specs.Decide.{call_named}
 use Rattle.its_word.specs.declared.calls.Ask.{Ask}
-use Rattle.its_word.specs.declared.calls.Operand.{Operand}
 use Rattle.its_word.specs.declared.calls.Pace.{Pace}
 use Rattle.its_word.specs.declared.calls.Pace.TheVariants.{Step, Wait}
-use Rattle.its_stepped.specs.Commit.{effect_on, effects_on, owed_parts}
+use Rattle.its_stepped.specs.Commit.{effect_on, effects_on, owed_parts, sleeps}
 use Rattle.its_stepped.specs.State.{State}
+use Rattle.its_calls.specs.declared.call.Next.{Next}
+use Rattle.its_calls.specs.declared.call.Next.TheVariants as next
 use Rattle.its_pclsr.specs.Built.{CanMakeAll, Removable}
 
 -- the call of a frame from which it can be committed; a call that waits holds no page
@@ -35,15 +38,14 @@ Ready w s f (Goes cs h vs) = CanMakeAll cs.items s w
 Ready w s f (Ends cs ss e) = CanMakeAll cs.items s w × Endable (effects_on cs.items s w) s f (length ss.items)
 Ready w s f (Gone cs) = CanMakeAll cs.items s (effect_on (Remove s) s w) × Removable w s
 
--- an input with a new value; the inputs from one on with new values
-abbrev pub no_operand : Operand
-no_operand = record { value = 0; place = None }
+-- the next stage of a call of which a part is done
+abbrev pub next_stays : Bool → ℕ → Next
+next_stays true n = next.Waiting n
+next_stays false n = next.Holding None n
 
-abbrev pub with_value : Ask → ℕ → ℕ → Ask
-with_value a k v = record a { inputs = record { items = slice_set a.inputs.items k (record (slice_index_or a.inputs.items k no_operand) { value = v }) } }
-
-abbrev pub with_values : Ask → ℕ → List ℕ → Ask
-with_values a kept vs = record a { inputs = record { items = take kept a.inputs.items ++ valued (drop kept a.inputs.items) vs } }
+abbrev pub next_of : Ask → ℕ → Option Held → Next
+next_of a n (Some h) = next.Moving h
+next_of a n None = next_stays (sleeps (call_named a.name)) n
 
 -- the letter of a trial with this decision
 abbrev pub pace_of : Decision → Pace

@@ -1,23 +1,9 @@
--- The head of a list of pending steps, and that of the parts of a close.
+-- The head of the parts of a close.
 -- No promise rests on this.
-use Rattle.std.specs.Prelude.{◌≡◌, ℕ, Bool, true, false, Option, Some, None, List, [], ◌∷◌}
+use Rattle.std.specs.Prelude.{◌≡◌, ℕ, Option, Some, None, List, [], ◌∷◌}
 use Rattle.its_word.specs.declared.calls.Owed.{Owed}
-use Rattle.its_word.specs.declared.calls.Owed.TheVariants.{Store, GiveBack, Unlink, Link, Free, Leave}
 use Rattle.its_stepped.specs.Sound.{file_parts}
 use Rattle.its_stepped.specs.State.{Part, Mark}
-
-abbrev pub is_file : Owed → Bool
-is_file Unlink = true
-is_file Link = true
-is_file Free = true
-is_file (Store a w) = false
-is_file GiveBack = false
-is_file (Leave e) = false
-
--- the first pending step is one of a close
-abbrev pub begins_with_file : List Owed → Bool
-begins_with_file [] = false
-begins_with_file (o ∷ os) = is_file o
 
 -- if a slot's call owns the mark, exactly the parts of the mark are among the pending steps
 abbrev pub Marks : Option Mark → ℕ → List Owed → Type 0

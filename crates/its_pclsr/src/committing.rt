@@ -1,5 +1,5 @@
 //! The decision of a call carried out.
-ghost use Rattle.std.specs.Prelude.{◌≡◌, ◌<◌, ◌≤◌, ◌++◌, ◌∷◌, [], true, Some, None, is_some, IfSome, length, map};
+ghost use Rattle.std.specs.Prelude.{◌≡◌, ◌<◌, ◌≤◌, ◌++◌, ◌∷◌, [], true, Some, is_some, IfSome, length, map};
 ghost use Rattle.its_word.specs.declared.calls.Owed.TheVariants.{Leave};
 ghost use Rattle.its_word.specs.Limits.{slots};
 ghost use Rattle.its_jobs.specs.Table.{job_at};
@@ -10,7 +10,7 @@ ghost use Rattle.its_stepped.specs.State.{ending, waiting};
 ghost use Rattle.its_world.specs.Tidy.{Tidy};
 ghost use Rattle.its_pclsr.specs.Built.{backed};
 ghost use Rattle.its_pclsr.specs.Pages.{pages_carried};
-ghost use Rattle.its_pclsr.specs.Carried.{standing_of, with_value, Ready, Endable};
+ghost use Rattle.its_pclsr.specs.Carried.{standing_of, next_of, Ready, Endable};
 ghost use Rattle.its_world.specs.World.{state_of, frame_at, FrameBecomes};
 
 use super::carrying::owed_steps;
@@ -18,7 +18,8 @@ use super::changes::apply;
 use super::owed::owns_mark;
 use super::removal::remove_tree;
 use arrayvec::ArrayVec;
-use its_frame::{CallName, Decision, Ending, Frame, Held, Holding, Moving, Waiting};
+use its_calls::{Next, View};
+use its_frame::{CallName, Decision, Held};
 use its_word::{Ask, Exit, Owed, Store, Word};
 use its_world::World;
 
@@ -59,31 +60,22 @@ pub fn carry_out(w: &mut World, slot: u8, decision: Decision)
     }
 }
 
-/// Takes the call of a slot out of its frame.
-#[tactic(auto, using(crate::proofs::ApartLaws::tidy_kept, crate::proofs::ApartLaws::becomes_pages))]
-fn take_call(w: &mut World, slot: u8) -> Holding
+/// The call of a slot that can be committed: what it asks for, and how many of its last arguments are pending.
+#[tactic(auto, using(crate::proofs::StandingLaws::stands_holding, crate::proofs::StandingLaws::stands_waiting))]
+pub fn standing(w: &World, slot: u8) -> (&Ask, u8)
     requires slot { slot < slots }
-    requires stands { is_some (standing_of (frame_at w.old.frames.items slot)) ≡ true }
-    requires tidy { Tidy w.old }
-    ensures call { standing_of (frame_at w.old.frames.items slot) ≡ Some result }
-    ensures taken { FrameBecomes w.old w.new slot None }
-    ensures pages { w.new.core.frames ≡ w.old.core.frames }
-    ensures tidy { Tidy w.new }
+    requires stands { is_some (standing_of (frame_at w.now.frames.items slot)) ≡ true }
+    ensures { IfSome (standing_of (frame_at w.now.frames.items slot)) (λ f. (result.0.now ≡ f.ask) × (result.1 ≡ f.owes)) }
 {
-    match w.take_frame(slot) {
-        Some(Frame::Holding(f)) => f,
-        Some(Frame::Waiting(f)) => Holding {
-            site: f.site,
-            ask: f.ask,
-            page: None,
-            owes: f.owes,
-        },
+    match w.frame(slot) {
+        View::Holding { ask, owes, .. } => (ask, owes),
+        View::Waiting { ask, owes, .. } => (ask, owes),
         _ => unreachable!(),
     }
 }
 
 /// The call waits.
-#[tactic(auto, using(crate::proofs::ApartLaws::tidy_kept, crate::proofs::ApartLaws::becomes_pages))]
+#[tactic(auto, using(crate::proofs::ApartLaws::becomes_pages))]
 fn wait(w: &mut World, slot: u8)
     requires slot { slot < slots }
     requires stands { is_some (standing_of (frame_at w.old.frames.items slot)) ≡ true }
@@ -92,19 +84,12 @@ fn wait(w: &mut World, slot: u8)
     ensures pages { w.new.core.frames ≡ w.old.core.frames }
     ensures tidy { Tidy w.new }
 {
-    let f = take_call(w, slot);
-    w.put_frame(
-        slot,
-        Frame::Waiting(Waiting {
-            site: f.site,
-            ask: f.ask,
-            owes: f.owes,
-        }),
-    );
+    let (_, owes) = standing(w, slot);
+    w.go_to(slot, Next::Waiting { owes });
 }
 
 /// A part of the call is done: its last arguments have new values, whose stores are pending.
-#[tactic(auto, using(crate::proofs::ApartLaws::tidy_kept, crate::proofs::ApartLaws::becomes_pages))]
+#[tactic(auto, using(crate::proofs::ApartLaws::becomes_pages))]
 fn go_on(w: &mut World, slot: u8, held: Option<Held>, values: &[Word])
     requires slot { slot < slots }
     requires stands { is_some (standing_of (frame_at w.old.frames.items slot)) ≡ true }
@@ -114,37 +99,22 @@ fn go_on(w: &mut World, slot: u8, held: Option<Held>, values: &[Word])
     ensures pages { w.new.core.frames ≡ w.old.core.frames }
     ensures tidy { Tidy w.new }
 {
-    let mut f = take_call(w, slot);
-    revalue(&mut f.ask, values);
-    let owes = values.len() as u8;
-    w.put_frame(slot, gone_on(f, owes, held));
+    let (ask, _) = standing(w, slot);
+    let next = next_of(ask, values.len() as u8, held);
+    w.go_on(slot, values, next);
 }
 
-/// The frame of a call of which a part is done.
-fn gone_on(f: Holding, owes: u8, held: Option<Held>) -> Frame
-    ensures { result ≡ gone_on f.site f.ask owes held }
+/// The next stage of a call of which a part is done.
+fn next_of(ask: &Ask, owes: u8, held: Option<Held>) -> Next
+    ensures { result ≡ next_of ask.now owes held }
 {
     if let Some(held) = held {
-        return Frame::Moving(Moving {
-            site: f.site,
-            ask: f.ask,
-            place: held.place,
-            byte: held.byte,
-        });
+        return Next::Moving(held);
     }
-    if is_sleep(&f.ask) {
-        return Frame::Waiting(Waiting {
-            site: f.site,
-            ask: f.ask,
-            owes,
-        });
+    if is_sleep(ask) {
+        return Next::Waiting { owes };
     }
-    Frame::Holding(Holding {
-        site: f.site,
-        ask: f.ask,
-        page: None,
-        owes,
-    })
+    Next::Holding { page: None, owes }
 }
 
 /// Whether a call is SLEEP, whose part that is done leaves it waiting.
@@ -154,28 +124,8 @@ fn is_sleep(ask: &Ask) -> bool
     matches!(CallName::named(ask.name), Some(CallName::Sleep))
 }
 
-/// Gives the last inputs of a call new values.
-fn revalue(ask: &mut Ask, values: &[Word])
-    ensures { ask.new ≡ revalued ask.old values.now }
-{
-    let kept = ask.inputs.len().saturating_sub(values.len());
-    for k in 0..values.len() {
-        if kept + k < ask.inputs.len() {
-            set_value(ask, kept + k, values[k]);
-        }
-    }
-}
-
-/// Gives one input of a call a new value.
-fn set_value(ask: &mut Ask, k: usize, value: Word)
-    requires { k < length ask.old.inputs.items }
-    ensures { ask.new ≡ with_value ask.old k value }
-{
-    ask.inputs[k].value = value;
-}
-
 /// The call ends: the parts of its close, its reserved page, its arguments, its stores and its registers are pending.
-#[tactic(auto, using(crate::proofs::ApartLaws::tidy_kept, crate::proofs::CommittingLaws::page_reserved, crate::proofs::ApartLaws::becomes_pages))]
+#[tactic(auto, using(crate::proofs::CommittingLaws::page_reserved, crate::proofs::ApartLaws::becomes_pages))]
 fn end(w: &mut World, slot: u8, stores: &[Store], exit: Exit)
     requires slot { slot < slots }
     requires stands { is_some (standing_of (frame_at w.old.frames.items slot)) ≡ true }
@@ -187,16 +137,9 @@ fn end(w: &mut World, slot: u8, stores: &[Store], exit: Exit)
 {
     let parts = owed_parts(w, slot);
     let reserved = w.core.has_reserved(slot);
-    let f = take_call(w, slot);
-    let owed = owed_steps(&parts, reserved, &f.ask, f.owes, stores, exit);
-    w.put_frame(
-        slot,
-        Frame::Ending(Ending {
-            site: f.site,
-            ask: f.ask,
-            owed,
-        }),
-    );
+    let (ask, owes) = standing(w, slot);
+    let owed = owed_steps(&parts, reserved, ask, owes, stores, exit);
+    w.end(slot, owed);
 }
 
 /// The pending parts of the close of a slot's call.

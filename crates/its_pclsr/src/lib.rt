@@ -26,6 +26,6 @@ mod unwinding;
 
 pub use carrying::owed_steps;
 pub use changes::apply;
-pub use committing::carry_out;
+pub use committing::{carry_out, standing};
 pub use removal::{remove_tree, unwind_below};
 pub use unwinding::{unwind, unwind_one};

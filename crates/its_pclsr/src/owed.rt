@@ -1,16 +1,14 @@
-ghost use Rattle.std.specs.Prelude.{◌≡◌, ◌<◌, ◌≤◌, ◌∷◌, [], ℕ, true, false, Some, None, length};
+ghost use Rattle.std.specs.Prelude.{◌≡◌, ◌<◌, ◌∷◌, [], true, length};
 ghost use Rattle.its_word.specs.Limits.{slots};
 ghost use Rattle.its_core.specs.Cores.{core_at};
 ghost use Rattle.its_plain.specs.Arguments.{debts};
 ghost use Rattle.its_word.specs.Stores.{place, stored};
-ghost use Rattle.its_stepped.specs.Unwind.{first_debt, due};
+ghost use Rattle.its_stepped.specs.Unwind.{first_debt};
 ghost use Rattle.its_stepped.specs.State.{mine};
-ghost use Rattle.its_pclsr.specs.Owed.{begins_with_file};
 ghost use Rattle.its_word.specs.Core.{can_store};
 ghost use Rattle.its_world.specs.World.{state_of, CoreBecomes};
 
-use arrayvec::ArrayVec;
-use its_word::{ADDRESSES, Ask, Owed, Store};
+use its_word::{ADDRESSES, Ask, Store};
 use its_world::World;
 
 /// Makes a store that can be made. Its address is taken modulo 1000000 (octal).
@@ -49,38 +47,5 @@ pub fn owns_mark(w: &World, slot: u8) -> bool
     match w.files.owner() {
         Some(owner) => owner == slot,
         None => false,
-    }
-}
-
-/// The pending steps of a slot's call without the file steps at their head that were performed already: those of a
-/// close that is marked no more.
-#[tactic(auto, using(crate::proofs::OwedLaws::due_whole))]
-pub fn pass_over(w: &World, slot: u8, owed: &mut ArrayVec<Owed, 4>)
-    ensures { owed.new.items ≡ due (mine (state_of w.now).mark slot) owed.old.items }
-{
-    if !owns_mark(w, slot) {
-        drop_parts(owed);
-    }
-}
-
-/// The pending steps without file steps at their head.
-#[tactic(auto, using(crate::proofs::OwedLaws::due_over, crate::proofs::OwedLaws::due_more, crate::proofs::OwedLaws::some_first))]
-fn drop_parts(owed: &mut ArrayVec<Owed, 4>)
-    ensures { owed.new.items ≡ due false owed.old.items }
-{
-    while begins_with_file(owed) {
-        owed.remove(0);
-    }
-}
-
-/// Whether the first pending step is one of a close.
-fn begins_with_file(owed: &[Owed]) -> bool
-    ensures { result ≡ begins_with_file owed.now }
-{
-    match owed {
-        [Owed::Unlink, ..] => true,
-        [Owed::Link, ..] => true,
-        [Owed::Free, ..] => true,
-        _ => false,
     }
 }

@@ -110,7 +110,7 @@ fn empty(w: &mut World, slot: u8)
 {
     shut_all(w, slot);
     drop_core(w, slot);
-    w.take_frame(slot);
+    w.leave_call(slot);
     w.put_alarm(slot, None);
 }
 

@@ -1,26 +1,29 @@
-ghost use Rattle.std.specs.Prelude.{◌≡◌, ◌≢◌, ◌<◌, ◌≤◌, ◌+◌, ◌∷◌, [], ℕ, true, false, Some, None, is_some, length, IfSome, option_map};
+ghost use Rattle.std.specs.Prelude.{◌≡◌, ◌≢◌, ◌<◌, ◌≤◌, ◌+◌, ◌∷◌, [], ℕ, true, Some, None, is_some, IfSome, option_map};
 ghost use Rattle.its_word.specs.Limits.{slots};
 ghost use Rattle.its_core.specs.Cores.{core_at, clear_at};
 ghost use Rattle.its_jobs.specs.Table.{job_at};
 ghost use Rattle.its_plain.specs.Arguments.{input};
-ghost use Rattle.its_plain.specs.CallStep.{deposited, with_held};
+ghost use Rattle.its_plain.specs.CallStep.{deposited};
+ghost use Rattle.its_calls.specs.Calls.{ending_in, gone_to, request_in};
 ghost use Rattle.its_plain.specs.Own.{left_with};
-ghost use Rattle.its_word.specs.Stores.{stored};
-ghost use Rattle.its_stepped.specs.State.{UnlinkOld, LinkNew, FreeOld, held_at, holding, mine, plain, seen, turn, waiting};
-ghost use Rattle.its_stepped.specs.Unwind.{given_back, paid, settled, due, left, unwind_one as unwind_one_of, unwound};
+ghost use Rattle.its_word.specs.Core.{can_store};
+ghost use Rattle.its_word.specs.Stores.{place, stored};
+ghost use Rattle.its_stepped.specs.State.{UnlinkOld, LinkNew, FreeOld, asked, held_at, plain, seen};
+ghost use Rattle.its_stepped.specs.Unwind.{left, unwind_one as unwind_one_of, unwound};
 ghost use Rattle.its_stepped.specs.OneChange.{OneChange};
 ghost use Rattle.its_stepped.specs.SlotSame.{SlotSame};
-ghost use Rattle.its_stepped.specs.Sound.{HoldingPays, WaitingPays, MovingPays, EndingPays, Sound};
-ghost use Rattle.its_world.specs.World.{state_of, frame_at, frames_after, CoreBecomes, JobBecomes};
+ghost use Rattle.its_stepped.specs.Sound.{MovingPays, Sound};
+ghost use Rattle.its_world.specs.World.{state_of, frame_at, frames_after, Becomes, JobBecomes};
 ghost use Rattle.its_pclsr.specs.Apart.{CoresOff};
-ghost use Rattle.its_pclsr.specs.Owed.{Marks, IsNext};
-ghost use Rattle.its_pclsr.specs.Parts.{NextMade};
+ghost use Rattle.its_pclsr.specs.Owed.{IsNext};
+ghost use Rattle.its_pclsr.specs.Parts.{NextMade, Taken};
 ghost use Rattle.its_world.specs.Tidy.{Tidy};
 
-use super::owed::{first_owed, make, pass_over};
+use super::owed::{first_owed, make, owns_mark};
 use its_bytes::deposit;
-use its_frame::{Asked, Ending, Frame, Holding, Moving, Waiting};
-use its_word::{Exit, Job, Owed, Store};
+use its_calls::{Next, View};
+use its_core::Core;
+use its_word::{Ask, Exit, Job, Owed, Store, Word};
 use its_world::World;
 
 /// One step of unwinding of a slot's job, which is inside a call: at most one word of core, one page's
@@ -44,7 +47,7 @@ pub fn unwind_one(w: &mut World, slot: u8)
 }
 
 /// The row of a frame.
-#[tactic(auto, using(crate::proofs::ApartLaws::off_one, crate::proofs::ApartLaws::off_then))]
+#[tactic(auto, using(crate::proofs::ApartLaws::off_one, crate::proofs::ApartLaws::off_same))]
 fn step(w: &mut World, slot: u8)
     requires slot { slot < slots }
     requires frame { is_some (frame_at w.old.frames.items slot) ≡ true }
@@ -54,149 +57,137 @@ fn step(w: &mut World, slot: u8)
     ensures cores { CoresOff w.old w.new slot }
     ensures tidy { Tidy w.new }
 {
-    match w.take_frame(slot) {
-        Some(Frame::Holding(f)) => unwind_holding(w, slot, f),
-        Some(Frame::Waiting(f)) => unwind_waiting(w, slot, f),
-        Some(Frame::Moving(f)) => unwind_moving(w, slot, f),
-        Some(Frame::Ending(f)) => unwind_ending(w, slot, f),
-        Some(Frame::Entered(_)) => {}
-        Some(Frame::Parsed(_)) => {}
-        Some(Frame::Asked(_)) => {}
-        None => {}
-    }
-}
-
-/// A call that has reserved a page gives it back, and is as before it was prepared; one with pending words stores the
-/// first; else its frame is dropped.
-#[tactic(auto, using(crate::proofs::ApartLaws::off_one, crate::proofs::ApartLaws::off_back, crate::proofs::ApartLaws::off_then, crate::proofs::RowLaws::holding_backed, crate::proofs::RowLaws::holding_dropped, crate::proofs::RowLaws::holding_paid))]
-fn unwind_holding(w: &mut World, slot: u8, mut f: Holding)
-    requires slot { slot < slots }
-    requires job { is_some (job_at w.old.jobs slot) ≡ true }
-    requires frame { frame_at w.old.frames.items slot ≡ None }
-    requires pays { HoldingPays (core_at w.old.core slot) (clear_at w.old.core slot) f.ask f.page f.owes }
-    requires tidy { Tidy w.old }
-    ensures row { state_of w.new ≡ given_back (state_of w.old) slot f.site f.ask f.page f.owes }
-    ensures cores { CoresOff w.old w.new slot }
-    ensures tidy { Tidy w.new }
-{
-    if f.page.is_some() {
-        w.give_back(slot);
-        w.put_frame(
-            slot,
-            Frame::Asked(Asked {
-                site: f.site,
-                ask: f.ask,
-            }),
-        );
-        return;
-    }
-    if f.owes == 0 {
-        return;
-    }
-    let store = first_owed(&f.ask, f.owes);
-    make(w, slot, store);
-    f.owes -= 1;
-    w.put_frame(slot, Frame::Holding(f));
-}
-
-/// A waiting call with pending words stores the first; else its frame is dropped.
-#[tactic(auto, using(crate::proofs::ApartLaws::off_one, crate::proofs::ApartLaws::off_then, crate::proofs::RowLaws::paid_none, crate::proofs::RowLaws::paid_some))]
-fn unwind_waiting(w: &mut World, slot: u8, mut f: Waiting)
-    requires slot { slot < slots }
-    requires job { is_some (job_at w.old.jobs slot) ≡ true }
-    requires frame { frame_at w.old.frames.items slot ≡ None }
-    requires pays { WaitingPays (core_at w.old.core slot) (clear_at w.old.core slot) f.ask f.owes }
-    requires tidy { Tidy w.old }
-    ensures row { state_of w.new ≡ paid (state_of w.old) slot f.ask f.owes (waiting f.site f.ask) }
-    ensures cores { CoresOff w.old w.new slot }
-    ensures tidy { Tidy w.new }
-{
-    if f.owes == 0 {
-        return;
-    }
-    let store = first_owed(&f.ask, f.owes);
-    make(w, slot, store);
-    f.owes -= 1;
-    w.put_frame(slot, Frame::Waiting(f));
-}
-
-/// The held byte is stored in its word; pointer and count are then pending.
-#[tactic(auto, using(crate::proofs::ApartLaws::off_one, crate::proofs::ApartLaws::off_then, crate::proofs::RowLaws::moved_turn))]
-fn unwind_moving(w: &mut World, slot: u8, f: Moving)
-    requires slot { slot < slots }
-    requires job { is_some (job_at w.old.jobs slot) ≡ true }
-    requires frame { frame_at w.old.frames.items slot ≡ None }
-    requires pays { MovingPays (core_at w.old.core slot) (clear_at w.old.core slot) f.ask f.place }
-    requires tidy { Tidy w.old }
-    ensures row { state_of w.new ≡ turn (state_of w.old) slot (with_held f.ask (Some (held_at f.place f.byte))) (Some (holding f.site f.ask None 2)) }
-    ensures cores { CoresOff w.old w.new slot }
-    ensures tidy { Tidy w.new }
-{
-    store_held(w, slot, &f);
-    w.put_frame(
-        slot,
-        Frame::Holding(Holding {
-            site: f.site,
-            ask: f.ask,
-            page: None,
-            owes: 2,
-        }),
-    );
-}
-
-/// Stores the held byte in its word.
-fn store_held(w: &mut World, slot: u8, f: &Moving)
-    requires slot { slot < slots }
-    requires pays { MovingPays (core_at w.old.core slot) (clear_at w.old.core slot) f.now.ask f.now.place }
-    ensures { CoreBecomes w.old w.new slot (stored (core_at w.old.core slot) (deposited (core_at w.old.core slot) (input f.now.ask 1) (held_at f.now.place f.now.byte) ∷ [])) }
-{
-    let pointer = f.ask.inputs[1].value;
-    match w.core.get(slot, f.place) {
-        Ok(word) => {
-            let word = deposit(pointer, word, f.byte.value());
-            make(w, slot, Store { at: f.place, word });
+    match w.frame(slot) {
+        View::User => {}
+        View::Entered { .. } => w.leave_call(slot),
+        View::Parsed { .. } => w.leave_call(slot),
+        View::Asked { .. } => w.leave_call(slot),
+        View::Holding {
+            ask,
+            page,
+            owes,
+            ..
+        } => {
+            if page.is_some() {
+                back(w, slot);
+            } else if owes == 0 {
+                w.leave_call(slot);
+            } else {
+                let store = first_owed(ask, owes);
+                let next = Next::Holding {
+                    page: None,
+                    owes: owes - 1,
+                };
+                pay(w, slot, store, next);
+            }
         }
+        View::Waiting { ask, owes, .. } => {
+            if owes == 0 {
+                w.leave_call(slot);
+            } else {
+                let store = first_owed(ask, owes);
+                pay(w, slot, store, Next::Waiting { owes: owes - 1 });
+            }
+        }
+        View::Moving {
+            ask,
+            place,
+            byte,
+            ..
+        } => {
+            let store = held_store(&w.core, slot, ask, place, byte);
+            let next = Next::Holding {
+                page: None,
+                owes: 2,
+            };
+            pay(w, slot, store, next);
+        }
+        View::Ending { .. } => unwind_ending(w, slot),
+    }
+}
+
+/// A call gives back the page that it has reserved, and is as before it was prepared.
+#[tactic(auto, using(crate::proofs::ApartLaws::off_back))]
+fn back(w: &mut World, slot: u8)
+    requires slot { slot < slots }
+    requires request { is_some (request_in (frame_at w.old.frames.items slot)) ≡ true }
+    requires page { is_some (clear_at w.old.core slot) ≡ true }
+    requires tidy { Tidy w.old }
+    ensures row { IfSome (request_in (frame_at w.old.frames.items slot)) (λ r. Becomes w.old w.new slot (core_at w.old.core slot) (job_at w.old.jobs slot) (Some (asked r.site r.ask)) None) }
+    ensures cores { CoresOff w.old w.new slot }
+    ensures tidy { Tidy w.new }
+{
+    w.give_back(slot);
+    w.go_to(slot, Next::Asked);
+}
+
+/// A store is performed for a call, and the call goes on.
+#[tactic(auto, using(crate::proofs::ApartLaws::off_one))]
+fn pay(w: &mut World, slot: u8, store: Store, next: Next)
+    requires slot { slot < slots }
+    requires job { is_some (job_at w.old.jobs slot) ≡ true }
+    requires request { is_some (request_in (frame_at w.old.frames.items slot)) ≡ true }
+    requires can { can_store (core_at w.old.core slot) (place store) ≡ true }
+    requires tidy { Tidy w.old }
+    ensures row { IfSome (request_in (frame_at w.old.frames.items slot)) (λ r. Becomes w.old w.new slot (stored (core_at w.old.core slot) (store ∷ [])) (job_at w.old.jobs slot) (Some (gone_to next r)) (clear_at w.old.core slot)) }
+    ensures cores { CoresOff w.old w.new slot }
+    ensures tidy { Tidy w.new }
+{
+    make(w, slot, store);
+    w.go_to(slot, next);
+}
+
+/// A held byte in its word, as a store.
+fn held_store(core: &Core, slot: u8, ask: &Ask, at: u32, byte: Word) -> Store
+    requires slot { slot < slots }
+    requires pays { MovingPays (core_at core.now slot) (clear_at core.now slot) ask.now at }
+    ensures { result ≡ deposited (core_at core.now slot) (input ask.now 1) (held_at at byte) }
+{
+    let pointer = ask.inputs[1].value;
+    match core.get(slot, at) {
+        Ok(word) => Store {
+            at,
+            word: deposit(pointer, word, byte.value()),
+        },
         Err(_) => unreachable!(),
     }
 }
 
-/// The first step that is still pending is performed.
-#[tactic(auto, using(crate::proofs::ApartLaws::off_one, crate::proofs::ApartLaws::off_back, crate::proofs::ApartLaws::off_alike, crate::proofs::ApartLaws::off_then, crate::proofs::RowLaws::settled_store, crate::proofs::RowLaws::settled_back))]
-fn unwind_ending(w: &mut World, slot: u8, mut f: Ending)
+/// The first step that is still pending of a call that has ended is performed.
+#[tactic(auto, using(crate::proofs::ApartLaws::off_one, crate::proofs::ApartLaws::off_back, crate::proofs::ApartLaws::off_alike, crate::proofs::ApartLaws::off_then))]
+fn unwind_ending(w: &mut World, slot: u8)
     requires slot { slot < slots }
-    requires job { is_some (job_at w.old.jobs slot) ≡ true }
-    requires frame { frame_at w.old.frames.items slot ≡ None }
-    requires pays { EndingPays (core_at w.old.core slot) (clear_at w.old.core slot) f.owed.items }
-    requires marks { Marks (state_of w.old).mark slot f.owed.items }
+    requires ending { is_some (ending_in (frame_at w.old.frames.items slot)) ≡ true }
+    requires sound { Sound (state_of w.old) }
     requires tidy { Tidy w.old }
-    ensures row { state_of w.new ≡ settled (state_of w.old) slot f.site f.ask (due (mine (state_of w.old).mark slot) f.owed.items) }
+    ensures row { state_of w.new ≡ unwind_one_of (state_of w.old) slot }
     ensures cores { CoresOff w.old w.new slot }
     ensures tidy { Tidy w.new }
 {
-    pass_over(w, slot, &mut f.owed);
-    match f.owed.remove(0) {
-        Owed::Store(at, word) => {
-            make(w, slot, Store { at, word });
-            w.put_frame(slot, Frame::Ending(f));
+    match take_step(w, slot) {
+        Owed::Store(at, word) => make(w, slot, Store { at, word }),
+        Owed::GiveBack => w.give_back(slot),
+        Owed::Leave(exit) => {
+            w.leave_call(slot);
+            leave(w, slot, exit);
         }
-        Owed::GiveBack => {
-            w.give_back(slot);
-            w.put_frame(slot, Frame::Ending(f));
-        }
-        Owed::Leave(exit) => leave(w, slot, exit),
-        Owed::Unlink => {
-            unlink(w);
-            w.put_frame(slot, Frame::Ending(f));
-        }
-        Owed::Link => {
-            link(w);
-            w.put_frame(slot, Frame::Ending(f));
-        }
-        Owed::Free => {
-            free(w);
-            w.put_frame(slot, Frame::Ending(f));
-        }
+        Owed::Unlink => unlink(w),
+        Owed::Link => link(w),
+        Owed::Free => free(w),
     }
+}
+
+/// Takes the first step that is still pending.
+fn take_step(w: &mut World, slot: u8) -> Owed
+    requires slot { slot < slots }
+    requires ending { is_some (ending_in (frame_at w.old.frames.items slot)) ≡ true }
+    requires sound { Sound (state_of w.old) }
+    requires tidy { Tidy w.old }
+    ensures taken { Taken w.old w.new slot result }
+    ensures tidy { Tidy w.new }
+{
+    let mine = owns_mark(w, slot);
+    w.next_step(slot, mine)
 }
 
 /// The old file of a close leaves the directory.

@@ -1,4 +1,4 @@
--- What the links and queues of the store stand for.
+-- What the links and queues of the store mean.
 use Rattle.std.specs.Prelude.{◌≡◌, ◌≤◌, ℕ, Option, Some, None, List, [], length, refl}
 use Rattle.std.proofs.Common.{ap, sym, arith}
 use Rattle.std.proofs.lemmas.List.{get_or_past}

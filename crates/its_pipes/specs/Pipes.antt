@@ -24,7 +24,7 @@ queue_at queues l = slice_index_or queues l no_queue
 abbrev pub link_in : Piping → ℕ → Option Link
 link_in p l = link_at p.links l
 
--- the link of a number with its words, as the plain machine has it
+-- the link of a number with its words, in the form of the plain machine
 abbrev pub pipe_by : Option Link → List ℕ → Option Pipe
 pipe_by (Some k) ws = Some (record { link = k; words = ws })
 pipe_by None ws = None

@@ -7,7 +7,7 @@
 //!   one number, and that every other number stays (`Only`).
 //! - `join` opens an end, of the link that is there or of a new one, and leaves the words. `part` closes an end; a link is gone with
 //!   its words exactly if no end of it is open after that.
-//! - `send` puts a word behind all others, and `receive` takes the first. `send` asks that the link is there and has room.
+//! - `send` puts a word after all others, and `receive` takes the first. `send` asks that the link is there and has room.
 //! - `is_dry`, `is_ended`, `is_crowded` and `is_unread` are the tests of the calls on links, in every case.
 //! - `link_named` is the least number whose link has the names, and `free_link` the least without a link; each is None exactly if
 //!   there is none below 16.

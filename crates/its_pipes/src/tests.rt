@@ -84,7 +84,7 @@ fn words(rt: HostRuntime) -> Result<(), Fail> {
     Ok(())
 }
 
-/// A link stands as long as one of its ends is open, and its words are gone with it; those of another link remain.
+/// A link exists as long as one of its ends is open, and its words are gone with it; those of another link remain.
 #[test]
 fn parts(rt: HostRuntime) -> Result<(), Fail> {
     let mut pipes = Pipes::open(rt.alloc())?;

@@ -12,3 +12,13 @@ pub mod TargetLaws
 pub mod BarredLaws
 pub mod WhoRunsLaws
 pub mod PartsLaws
+pub mod Locality
+pub mod DecodeLocality
+pub mod SiteLaws
+pub mod AskLaws
+pub mod StandLaws
+pub mod TransferLaws
+pub mod ReadLaws
+pub mod FitsLaws
+pub mod AskFacts
+pub mod LocalExamples

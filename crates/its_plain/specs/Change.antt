@@ -57,7 +57,7 @@ abbrev pub on_console : Machine → ℕ → (Console → Console) → Machine
 on_console m c f = record m { consoles = changed m.consoles c (f (m.consoles c)) }
 
 -- links: an end is opened, of the link that is there or else of a new one; an end is closed; a word is added, or the first
--- is taken. A link stands as long as one of its ends is open, and is gone with its words after that
+-- is taken. A link exists as long as one of its ends is open, and is gone with its words after that
 abbrev pub link_or_new : ℕ → ℕ → Option Pipe → Pipe
 link_or_new x y (Some p) = p
 link_or_new x y None = record { link = new_link x y; words = [] }

@@ -27,7 +27,7 @@ linked_at l way t = linked_doing t.deed
     linked_doing (Letter i Step) = flat_map (word_moved l way) (moves t.machine i)
     linked_doing _ = []
 
--- some moments of a run that follow each other, after each of which link l stands. The first of them may be the step that
+-- some moments of a run that follow each other, after each of which link l exists. The first of them may be the step that
 -- makes the link
 abbrev pub StandsAfter : ℕ → List Moment → Machine → Type 0
 StandsAfter l [] n = Unit {0}

@@ -22,12 +22,12 @@ use Rattle.its_plain.specs.Decode.{ask, iot_ask, row_by, row_named}
 use Rattle.its_plain.specs.Footprint.{among, times, in_footprint, variable, Stands}
 use Rattle.its_plain.specs.Tests.{number_at, out}
 use Rattle.its_plain.specs.Unit.{Called, done_by, outcome_at, reached, row_of, site_of, unit}
-use Rattle.its_local.proofs.AskFacts.{Storable, HasWord, AskFits, ask_fits, ask_counts}
-use Rattle.its_local.proofs.AskLaws.{iot_of}
-use Rattle.its_local.proofs.FitsLaws.{reached_ends, site_used}
-use Rattle.its_local.proofs.SiteLaws.{never_planned}
-use Rattle.its_local.proofs.StandLaws.{inputs_at, inputs_at_cons, inputs_few, is_at, stands_outside, times_cons, times_none}
-use Rattle.its_local.proofs.TransferLaws.{among_inputs, counted_stands, first_at, more_at, once_from, outside_from, sleep_stands}
+use Rattle.its_plain.proofs.AskFacts.{Storable, HasWord, AskFits, ask_fits, ask_counts}
+use Rattle.its_plain.proofs.AskLaws.{iot_of}
+use Rattle.its_plain.proofs.FitsLaws.{reached_ends, site_used}
+use Rattle.its_plain.proofs.SiteLaws.{never_planned}
+use Rattle.its_plain.proofs.StandLaws.{inputs_at, inputs_at_cons, inputs_few, is_at, stands_outside, times_cons, times_none}
+use Rattle.its_plain.proofs.TransferLaws.{among_inputs, counted_stands, first_at, more_at, once_from, outside_from, sleep_stands}
 use Rattle.its_stepped.specs.Sound.{Stored}
 use Rattle.its_stepped.specs.Calling.{Transfer, Decoding}
 

@@ -1,5 +1,5 @@
 -- Links and channels agree: an end is open at a slot and channel exactly if that channel is on that link in that direction. What a
--- change leaves of it: opening an end, closing one, words that come and go, and a removal.
+-- change leaves of that: opening an end, closing one, words that come and go, and a removal.
 use Rattle.std.specs.Prelude.{if◌then◌else◌, ◌≡◌, ◌≢◌, ◌<◌, ◌⊎◌, ℕ, Bool, true, false, Option, Some, None, option_map, is_some, refl}
 use Rattle.std.proofs.Common.{sym, ◌∙◌, ap, subst, inl, inr}
 use Rattle.std.proofs.lemmas.Bool.{cases_eq, eq-eqb, ne_eqb, or_parts}
@@ -58,7 +58,7 @@ not_opened e k i h is = let no : false ≡ true = sym h ∙ ap is_open is in cc
 neither : (x y : End) → is_open x ≡ false → is_open y ≡ false → SameEnd x y
 neither x y h g = record { to = λ k i is. absurd (not_opened x k i h is); from = λ k i is. absurd (not_opened y k i g is) }
 
--- the link that a channel of a call is on is one of those that there can be, and stands
+-- the link that a channel of a call is on is one of those that there can be, and exists
 stands_by : (write : Bool) (o : Option Pipe) (k i : ℕ) → end_at write o ≡ Opened k i → is_some o ≡ true
 stands_by write (Some p) k i h = refl
 stands_by write None k i h = absurd (not_opened Unopened k i refl h)

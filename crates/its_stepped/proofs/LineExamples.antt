@@ -133,7 +133,7 @@ iot : peeked (standing (parsed (site (Some 3)) [])) 0 ≡ record { state = state
 unfolding peeked standing site sixbit left
 iot = refl
 
--- a file of two words, as it is in its directory and on its own; a second one with its names is refused
+-- a file of two words, seen in its directory and on its own; a second one with its names is refused
 filed : stepped (Read (events.File 1 2 3) ∷ Read (events.Append (record { items = 4 ∷ 5 ∷ [] })) ∷ Read events.EndFile ∷ Read (events.Dir 1) ∷ Read (events.Show 1 2 3)
     ∷ Read (events.File 1 2 3) ∷ []) ≡ record {
       lines = printed.Dir 1 1 ∷ printed.Filed (record { x = 2; y = 3; length = 2 }) ∷ printed.Shown 1 2 3 2 ∷ printed.Row (4 ∷ 5 ∷ []) ∷ printed.Refused 6 reasons.Exists ∷ [];

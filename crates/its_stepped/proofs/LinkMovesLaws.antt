@@ -77,7 +77,7 @@ links_elsewhere ls f d l ne = rw (ne_eqb l d (λ e. ne (sym e))) refl
 link_there : (ls : ℕ → Option Pipe) (f : Option Pipe → Option Pipe) (l : ℕ) → changed ls l (f (ls l)) l ≡ f (ls l)
 link_there ls f l = rw (eq-eqb l l refl) refl
 
--- a word that is sent through a link that stands, and the first that is received
+-- a word that is sent through a link that exists, and the first that is received
 sent_here : (j l w : ℕ) (o : Option Pipe) → is_some (option_map (with_sent w) o) ≡ true
     → LinkPasses o (option_map (with_sent w) o) (record { slot = j; device = AtLink l; way = Outward; byte = w } ∷ []) l
 sent_here j l w (Some p) h = record { words = rw (eq-eqb l l refl) refl }
@@ -92,7 +92,7 @@ received_here : (j l : ℕ) (o : Option Pipe) → LinkPasses o (option_map with_
 received_here j l (Some p) = record { words = received_words j l p.words }
 received_here j l None = record { words = refl }
 
--- an end that is opened or closed, and a removal, leave the words of a link that stands
+-- an end that is opened or closed, and a removal, leave the words of a link that exists
 opened_words : (write : Bool) (j n x y : ℕ) (o : Option Pipe) → words_in (opened_link write j n x y o) ≡ words_in o
 opened_words write j n x y (Some p) = refl
 opened_words write j n x y None = refl
@@ -375,7 +375,7 @@ each_links m j l q = record {
   calls = λ a. acted_links m j a (reach m j q a) (decision m j q a) l (decision_first m j q a);
 }
 
--- a step leads each link that stands after it on by the words that it moves
+-- a step takes each link that exists after it on by the words that it moves
 pub step_links : (m n : Machine) (j l : ℕ) → step m j ≡ Some n → is_some (n.links l) ≡ true → LinkPasses (m.links l) (n.links l) (moves m j) l
 unfolding step moves
 step_links m n j l h = go (transition m j) (transition_has (StepLinks m l) m j (λ q is. each_links m j l q)) h
@@ -419,7 +419,7 @@ each_balances = record {
       append-nil (words_in (v.machine.links l)) ∙ ap (λ (ls : ℕ → Option Pipe). words_in (ls l)) (sym same);
 }
 
--- several moments, after each of which the link stands
+-- several moments, after each of which the link exists
 balanced : (ts : List Moment) (n : Machine) (l : ℕ) → Linked Balances ts n → StandsAfter l ts n
     → words_in ((machine_at ts n).links l) ++ flat_map (linked_at l Outward) ts ≡ flat_map (linked_at l Inward) ts ++ words_in (n.links l)
 balanced [] n l linked stands = append-nil (words_in (n.links l))

@@ -18,7 +18,7 @@ use Rattle.its_word.specs.declared.plan.Turn.TheVariants.{Found, Target}
 use Rattle.its_plain.specs.Footprint.{Stands}
 use Rattle.its_plain.specs.Traced.{Traced, goes_on, also, plainly, gives, word, located}
 use Rattle.its_plain.specs.Unit.{Called, decoded, context_of, target_of, turn_at, turn, followed, chain, reached, row_of, done_by, outcome_at, unit}
-use Rattle.its_local.proofs.SiteLaws.{never_planned}
+use Rattle.its_plain.proofs.SiteLaws.{never_planned}
 
 -- what a part finds, under a function
 abbrev answered : {X Y : Type 0} → (X → Y) → Result X Fault → Result Y Fault

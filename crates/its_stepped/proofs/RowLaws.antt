@@ -1,4 +1,4 @@
--- A row of unwinding, whole: what the slot has afterwards, that its plain job is the same, that it is sound, and that
+-- A row of unwinding, whole: the contents of the slot afterwards, that its plain job is the same, that it is sound, and that
 -- user mode is one step nearer.
 use Rattle.std.specs.Prelude.{◌==◌, ◌≡◌, ℕ, ◌+◌, true, Option, Some, None, IfSome, option_map, refl}
 use Rattle.std.proofs.Common.{sym, ◌∙◌, ap, inl, inr}

@@ -11,8 +11,8 @@ use Rattle.its_word.specs.declared.calls.Site.{Site}
 use Rattle.its_stepped.specs.TwoParts.{items_of as block_of, parse, fetch, block_places, fetch_by, fetch_of, fetched, fetched_by, parse_by, parse_of}
 use Rattle.its_plain.specs.UnitPlan.{given}
 use Rattle.its_plain.specs.Traced.{Traced, also, gives, word}
-use Rattle.its_local.proofs.AskLaws.{asked_by_iot}
-use Rattle.its_local.proofs.TracedLaws.{also_err, also_ok, went}
+use Rattle.its_plain.proofs.AskLaws.{asked_by_iot}
+use Rattle.its_plain.proofs.ReadLaws.{also_err, also_ok, went}
 use Rattle.its_plain.specs.Decode.{Shape, argument_words, arguments, ask, ask_by, ask_of, block_at, checked, has_bit_0, is_legal, parsed, shaped, up_to_last, words_of}
 
 -- the words of a block that is read from an address on, after some that were read already

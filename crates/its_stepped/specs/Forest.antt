@@ -20,7 +20,7 @@ OnConsole console TtyIn = is_some console ≡ true
 OnConsole console TtyOut = is_some console ≡ true
 OnConsole console _ = Unit {0}
 
--- an end of a link, if it stands
+-- an end of a link, if the link exists
 abbrev pub end_at : Bool → Option Pipe → End
 end_at write (Some p) = link_end write p.link
 end_at write None = Unopened

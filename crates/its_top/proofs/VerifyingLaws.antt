@@ -7,11 +7,11 @@ use Rattle.its_word.specs.declared.session.Reason.TheVariants as reasons
 use Rattle.its_print.specs.Printing.{Refused, text, text_of_line}
 use Rattle.its_verify.specs.Finds.{Breaks, Found, ReadsOut}
 use Rattle.its_verify.specs.declared.keeping.Broken.TheVariants.{Source}
-use Rattle.its_verify.specs.Hearing.{answer_of}
+use Rattle.its_verify.specs.TranscriptReader.{answer_of}
 use Rattle.its_verify.specs.Judge.{Yes, No}
 use Rattle.its_verify.specs.Verified.{Answer, Judged, Long, Cut, TooLong, answer_text, verified}
-use Rattle.its_verify.specs.declared.finding.Finding.{Finding}
-use Rattle.its_verify.specs.declared.finding.Finding.TheVariants as findings
+use Rattle.its_verify.specs.declared.outcome.Outcome.{Outcome}
+use Rattle.its_verify.specs.declared.outcome.Outcome.TheVariants as outcomes
 use Rattle.its_top.specs.declared.commands.Command.{Command}
 use Rattle.its_top.specs.declared.commands.Command.TheVariants as commands
 use Rattle.its_top.specs.declared.status.Status.{Status}
@@ -63,22 +63,22 @@ tells : (st good : Status) (a : Answer) (bytes : List ℕ) (old new : Option (Li
 tells st good a bytes old new g e t = record { wrote = t.wrote; appended = t.appended; told = told_as st good a bytes t.wrote g e t.complete }
 
 pub tells_yes : (st : Status) (n : ℕ) (bytes : List ℕ) (old new : Option (List ℕ)) → bytes ≡ count_line (codes "YES") n → WroteText st statuses.Done bytes old new
-    → TellsAnswer st (answer_of (findings.Yes n)) old new
+    → TellsAnswer st (answer_of (outcomes.Yes n)) old new
 tells_yes st n bytes old new e t = tells st statuses.Done (Judged (Yes n)) bytes old new refl e t
 
 pub tells_no : (st : Status) (n : ℕ) (bytes : List ℕ) (old new : Option (List ℕ)) → bytes ≡ count_line (codes "NO") n → WroteText st statuses.Refused bytes old new
-    → TellsAnswer st (answer_of (findings.No n)) old new
+    → TellsAnswer st (answer_of (outcomes.No n)) old new
 tells_no st n bytes old new e t = tells st statuses.Refused (Judged (No n)) bytes old new refl e t
 
 pub tells_long : (st : Status) (n : ℕ) (old new : Option (List ℕ)) → WroteText st statuses.Refused (text_of_line (Refused n reasons.Long)) old new
-    → TellsAnswer st (answer_of (findings.Long n)) old new
+    → TellsAnswer st (answer_of (outcomes.Long n)) old new
 tells_long st n old new t = tells st statuses.Refused (Long n) (text_of_line (Refused n reasons.Long)) old new refl refl t
 
 pub tells_cut : (st : Status) (n : ℕ) (old new : Option (List ℕ)) → WroteText st statuses.Refused (text_of_line (Refused n reasons.Cut)) old new
-    → TellsAnswer st (answer_of (findings.Cut n)) old new
+    → TellsAnswer st (answer_of (outcomes.Cut n)) old new
 tells_cut st n old new t = tells st statuses.Refused (Cut n) (text_of_line (Refused n reasons.Cut)) old new refl refl t
 
-pub tells_nothing : (out : Option (List ℕ)) → TellsAnswer statuses.TooLong (answer_of findings.Beyond) out out
+pub tells_nothing : (out : Option (List ℕ)) → TellsAnswer statuses.TooLong (answer_of outcomes.Beyond) out out
 tells_nothing out = record { wrote = []; appended = Appends-nil out; told = (refl, refl) }
 
 -- the end of a verification
@@ -89,7 +89,7 @@ verified_as statuses.Refused a bytes rest w e t = subst (λ x. ToldAs statuses.R
 verified_as statuses.TooLong a bytes rest w e t = subst (λ x. ToldAs statuses.TooLong x w) (sym e) t
 verified_as _ a bytes rest w e t = absurd t
 
-found_as : (st : Status) (f : Finding) (left rest : Option (List ℕ)) (w : List ℕ) → Found (Ok f) left rest → ToldAs st (answer_of f) w → IfSome left (λ bytes. VerifyOf st bytes rest w)
+found_as : (st : Status) (f : Outcome) (left rest : Option (List ℕ)) (w : List ℕ) → Found (Ok f) left rest → ToldAs st (answer_of f) w → IfSome left (λ bytes. VerifyOf st bytes rest w)
 found_as st f None rest w h t = tt
 found_as st f (Some bytes) rest w h t = verified_as st (answer_of f) bytes rest w h t
 
@@ -103,15 +103,15 @@ told_well statuses.ReadFault a w t e = t
 told_well st a w t (inl e) = cc
 told_well st a w t (inr e) = cc
 
-read_out : (st : Status) (f : Finding) (left rest : Option (List ℕ)) (w : List ℕ) → ReadsOut f left rest → ToldAs st (answer_of f) w → st ≡ statuses.Done → IfSome left (λ bytes. rest ≡ Some [])
-read_out statuses.Done (findings.Yes n) left rest w h t e = h
-read_out statuses.Done (findings.No n) left rest w h t e = absurd (let k : statuses.Done ≡ statuses.Refused = t.0 in cc)
-read_out statuses.Done (findings.Long n) left rest w h t e = absurd (let k : statuses.Done ≡ statuses.Refused = t.0 in cc)
-read_out statuses.Done (findings.Cut n) left rest w h t e = absurd (let k : statuses.Done ≡ statuses.Refused = t.0 in cc)
-read_out statuses.Done findings.Beyond left rest w h t e = absurd (let k : statuses.Done ≡ statuses.TooLong = t.0 in cc)
+read_out : (st : Status) (f : Outcome) (left rest : Option (List ℕ)) (w : List ℕ) → ReadsOut f left rest → ToldAs st (answer_of f) w → st ≡ statuses.Done → IfSome left (λ bytes. rest ≡ Some [])
+read_out statuses.Done (outcomes.Yes n) left rest w h t e = h
+read_out statuses.Done (outcomes.No n) left rest w h t e = absurd (let k : statuses.Done ≡ statuses.Refused = t.0 in cc)
+read_out statuses.Done (outcomes.Long n) left rest w h t e = absurd (let k : statuses.Done ≡ statuses.Refused = t.0 in cc)
+read_out statuses.Done (outcomes.Cut n) left rest w h t e = absurd (let k : statuses.Done ≡ statuses.Refused = t.0 in cc)
+read_out statuses.Done outcomes.Beyond left rest w h t e = absurd (let k : statuses.Done ≡ statuses.TooLong = t.0 in cc)
 read_out st f left rest w h t e = cc
 
-pub verify_told : (st : Status) (f : Finding) (left rest old new : Option (List ℕ)) → Found (Ok f) left rest → ReadsOut f left rest → TellsAnswer st (answer_of f) old new → Verify st left rest old new
+pub verify_told : (st : Status) (f : Outcome) (left rest old new : Option (List ℕ)) → Found (Ok f) left rest → ReadsOut f left rest → TellsAnswer st (answer_of f) old new → Verify st left rest old new
 verify_told st f left rest old new h r t = record {
   wrote = t.wrote;
   appended = t.appended;

@@ -52,7 +52,7 @@ pub record Transcribed (status : Status) (bytes : List ℕ) (old new : Option (L
   pub answer : status ≡ answer_of fate
   -- No byte between a console and the jobs is lost, doubled or put out of its order.
   pub ledger : Ledger events lines
-  -- No word that goes through a link is lost, doubled or put out of its order, as long as the link stands.
+  -- No word that goes through a link is lost, doubled or put out of its order, as long as the link exists.
   pub links : LinkLedger events lines
   -- Each stretch of a transfer moves its bytes once and in their order.
   pub stretches : Stretches events lines

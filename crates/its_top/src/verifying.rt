@@ -3,7 +3,7 @@
 ghost use Rattle.std.specs.Prelude.{◌≡◌, ◌≢◌, ◌⊎◌};
 ghost use Rattle.its_io.specs.Bytes.{next_fault};
 ghost use Rattle.its_print.specs.Printing.{Refused, text_of_line};
-ghost use Rattle.its_verify.specs.Hearing.{answer_of};
+ghost use Rattle.its_verify.specs.TranscriptReader.{answer_of};
 ghost use Rattle.its_top.specs.Checking.{WroteText};
 ghost use Rattle.its_top.specs.Verifying.{TellsAnswer, Verify};
 
@@ -13,7 +13,7 @@ use super::status::Status;
 use arrayvec::ArrayVec;
 use its_io::{Sink, Source};
 use its_print::print_refusal;
-use its_verify::{Broken, Finding, verify};
+use its_verify::{Broken, Outcome, verify};
 use its_word::Reason;
 use std::alloc::Global;
 
@@ -28,7 +28,7 @@ pub fn judge<S: Source, K: Sink>(alloc: Global, src: &mut S, out: &mut K) -> Sta
     ensures write_unfailed { result ≢ Status.WriteFault → K.faults out.new ≡ K.faults out.old }
 {
     match verify(alloc, src) {
-        Ok(finding) => tell(finding, out),
+        Ok(outcome) => tell(outcome, out),
         Err(Broken::Source) => Status::ReadFault,
         Err(Broken::Memory) => Status::NoMemory,
     }
@@ -36,18 +36,18 @@ pub fn judge<S: Source, K: Sink>(alloc: Global, src: &mut S, out: &mut K) -> Sta
 
 /// Writes what was found.
 #[tactic(auto, using(crate::proofs::VerifyingLaws::tells_yes, crate::proofs::VerifyingLaws::tells_no, crate::proofs::VerifyingLaws::tells_long, crate::proofs::VerifyingLaws::tells_cut, crate::proofs::VerifyingLaws::tells_nothing))]
-fn tell<K: Sink>(finding: Finding, out: &mut K) -> Status
-    ensures tells { TellsAnswer result (answer_of finding) (K.written out.old) (K.written out.new) }
+fn tell<K: Sink>(outcome: Outcome, out: &mut K) -> Status
+    ensures tells { TellsAnswer result (answer_of outcome) (K.written out.old) (K.written out.new) }
     ensures once { result ≡ Status.WriteFault → K.faults out.new ≡ next_fault (K.faults out.old) }
     ensures unfailed { result ≢ Status.WriteFault → K.faults out.new ≡ K.faults out.old }
     ensures source { result ≢ Status.ReadFault }
 {
-    match finding {
-        Finding::Yes(n) => write_text(out, &count_line(b"YES", u64::from(n)), Status::Done),
-        Finding::No(n) => write_text(out, &count_line(b"NO", u64::from(n)), Status::Refused),
-        Finding::Long(n) => refuse(n, Reason::Long, out),
-        Finding::Cut(n) => refuse(n, Reason::Cut, out),
-        Finding::Beyond => Status::TooLong,
+    match outcome {
+        Outcome::Yes(n) => write_text(out, &count_line(b"YES", u64::from(n)), Status::Done),
+        Outcome::No(n) => write_text(out, &count_line(b"NO", u64::from(n)), Status::Refused),
+        Outcome::Long(n) => refuse(n, Reason::Long, out),
+        Outcome::Cut(n) => refuse(n, Reason::Cut, out),
+        Outcome::Beyond => Status::TooLong,
     }
 }
 

@@ -7,7 +7,7 @@ use std::process::Abort;
 use std::test::Fail;
 
 /// A CLOSE that replaces a file, with each line on files.
-static CLOSE: &str = "FILE D A B
+pub static CLOSE: &str = "FILE D A B
 / 1 2
 EOF
 LOAD U X 0
@@ -55,7 +55,7 @@ fn cut_after_each_byte(rt: HostRuntime) -> Result<(), Fail> {
 }
 
 /// An echo as a user types it.
-static ECHO: &str = "LOAD U X 0
+pub static ECHO: &str = "LOAD U X 0
 1000/ 43000001020 45700000000 43000001030 45700000000 40040000003 40100000003 254000001004
 1020/ 400000000000 576045560000 1000000001 400000001050
 1030/ 400000000000 576045560000 5000000001 1000000002 400000001050

@@ -7,7 +7,7 @@ ghost use Rattle.its_operator.specs.Kept.{Kept};
 ghost use Rattle.its_world.specs.World.{frame_at};
 ghost use Rattle.its_monitor.specs.Ticks.{InRing, is_waiting};
 
-use its_frame::Frame;
+use its_calls::View;
 use its_links::Links;
 use its_monitor::Monitor;
 use its_word::{Pace, Refusal, Word};
@@ -79,7 +79,7 @@ fn waits(w: &World, slot: u8) -> bool
     requires { slot < slots }
     ensures { IsTrue result → is_waiting (frame_at w.now.frames.items slot) ≡ true }
 {
-    matches!(w.frames[usize::from(slot)], Some(Frame::Waiting(_)))
+    matches!(w.frame(slot), View::Waiting { .. })
 }
 
 /// Puts a slot back into the list of those that wait for input of console 0; whether its call was found not ready.

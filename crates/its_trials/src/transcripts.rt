@@ -1,51 +1,14 @@
 //! What `verify` says of transcripts that a run wrote, and of changed ones: in each byte, in each letter, and cut before each line.
 
+use super::broken::{CLOSE, ECHO};
 use super::running::{number, obey};
 use its_top::Status;
 use std::alloc::Global;
 use std::process::Abort;
 use std::test::Fail;
 
-/// Sessions, their transcripts with a letter for each tick, and what comes of each change of a byte, and then of each change of a
-/// letter: how many are accepted, how many are refused at the line that was changed, and how many at a later one.
-///
-/// A change of a byte is accepted in a line of PEEK, after its first word. A change of a letter is accepted if the other
-/// letter is also licensed and nothing shown later distinguishes the two.
-static ROWS: &str = "FILE D A B
-/ 1 2
-EOF
-LOAD U X 0
-100/ 43000000120 45700000000 40040000210 43000000140 45700000000 45700000000
-120/ 400000000000 576045560000 5000000001 1000000001 150 151 152 400000000153
-140/ 400000000000 435457634500 401000000001
-150/ 446353000000 410000000000 420000000000 440000000000
-210/ 123
-GO 100
-TICK 0 14
-TICK 0 4
-DIR D
-TICK 0 1
-PEEK 0
-DIR D
-PEEK 0
-SHOW D A B
-TICK 0 1
-END
-=J 0
-T 0 ....*.....*.
-T 0 ....
-R 440000000000 1
-F 410000000000 420000000000 2
-T 0 *
-P 0 ENDING 435457634500 4 - - -
-R 440000000000 1
-F 410000000000 420000000000 1
-P 0 ENDING 435457634500 1 - - -
-W 440000000000 410000000000 420000000000 1
-/ 000000000123
-T 0 .
-=71 388 89, 1 36 17
-#LOAD U X 0
+/// A job that makes an inferior, moves words into it, starts it and reads it.
+static STARTER: &str = "LOAD U X 0
 100/ 43000000200 45700000000 43000000210 45700000000 43000000220 45700000000
 106/ 43000000230 45700000000 43000000240 45700000000 43000000250 45700000000
 114/ 43000000260 45700000000 45700000000
@@ -65,26 +28,37 @@ TICK 1 6
 TICK 0 7
 TICK 1 6
 EXAM 0 5 1
-END
-=J 0
+";
+
+/// What the sessions show, with a letter for each tick, and what becomes of each change of a byte, and then of each change of a
+/// letter: how many are accepted, how many are refused at the line that was changed, and how many at a later one.
+///
+/// A change of a byte is accepted in a line of PEEK, after its first word. A change of a letter is accepted if the other
+/// letter is also licensed and nothing shown later distinguishes the two.
+static CLOSE_SHOWS: &str = "J 0
+T 0 ....*.....*.
+T 0 ....
+R 440000000000 1
+F 410000000000 420000000000 2
+T 0 *
+P 0 ENDING 435457634500 4 - - -
+R 440000000000 1
+F 410000000000 420000000000 1
+P 0 ENDING 435457634500 1 - - -
+W 440000000000 410000000000 420000000000 1
+/ 000000000123
+T 0 .
+=71 388 89, 1 36 17";
+
+static STARTER_SHOWS: &str = "J 0
 T 0 ....*.........*.....*.....******.......*.....*.
 T 1 ....ww
 T 0 ....*..
 T 1 ....ww
 E 0 000005 043000000102
-=0 238 12, 54 132 12
-#LOAD U X 0
-1000/ 43000001020 45700000000 43000001030 45700000000 40040000003 40100000003 254000001004
-1020/ 400000000000 576045560000 1000000001 400000001050
-1030/ 400000000000 576045560000 5000000001 1000000002 400000001050
-1050/ 646471000000
-GO 1000
-TICK 0 22
-TYPE 0 141
-TICK 0 14
-DRAIN 0 100
-END
-=J 0
+=0 238 12, 54 132 12";
+
+static ECHO_SHOWS: &str = "J 0
 T 0 ....*.....*.....ww
 Y 0 0
 T 0 *......*.*..
@@ -284,26 +258,34 @@ fn cut_lines(alloc: Global, rt: &impl Abort, session: &str, transcript: &str) ->
     Ok(before)
 }
 
+/// Changes the transcript of a session that ends there.
+fn change(alloc: Global, rt: &impl Abort, session: &str, row: &str) -> Result<(), Fail> {
+    let session = format!(in alloc; "{session}END\n")?;
+    let (letters, wanted) = row.split_once("=").expect(rt, "counts");
+    let transcript = printed(alloc, rt, letters)?;
+    let ran = obey(alloc, "run", session.as_bytes(), 512, (&[], &[]))?;
+    assert_eq!(rt; ran.wrote.as_slice(), transcript.as_bytes(), "of {session}");
+    let lines = cut_lines(alloc, rt, &session, &transcript)?;
+    let of = Trial {
+        session: &session,
+        lines,
+    };
+    let b = change_bytes(alloc, rt, of, &transcript)?;
+    let l = change_letters(alloc, rt, of, letters)?;
+    let counts = format!(in alloc;
+        "{} {} {}, {} {} {}",
+        b.accepted, b.here, b.later, l.accepted, l.here, l.later
+    )?;
+    assert_eq!(rt; counts.as_str(), wanted, "of {session}");
+    Ok(())
+}
+
 #[test]
 fn changed_transcripts(rt: HostRuntime) -> Result<(), Fail> {
     let alloc = rt.alloc();
-    for row in ROWS.split('#') {
-        let (session, rest) = row.split_once("=").expect(&rt, "a transcript");
-        let (letters, wanted) = rest.split_once("=").expect(&rt, "counts");
-        let transcript = printed(alloc, &rt, letters)?;
-        let ran = obey(alloc, "run", session.as_bytes(), 512, (&[], &[]))?;
-        assert_eq!(rt; ran.wrote.as_slice(), transcript.as_bytes(), "of {session}");
-        let lines = cut_lines(alloc, &rt, session, &transcript)?;
-        let of = Trial { session, lines };
-        let b = change_bytes(alloc, &rt, of, &transcript)?;
-        let l = change_letters(alloc, &rt, of, letters)?;
-        let counts = format!(in alloc;
-            "{} {} {}, {} {} {}",
-            b.accepted, b.here, b.later, l.accepted, l.here, l.later
-        )?;
-        assert_eq!(rt; counts.as_str(), wanted.trim_end(), "of {session}");
-    }
-    Ok(())
+    change(alloc, &rt, CLOSE, CLOSE_SHOWS)?;
+    change(alloc, &rt, STARTER, STARTER_SHOWS)?;
+    change(alloc, &rt, ECHO, ECHO_SHOWS)
 }
 
 /// Inputs, and what is said of each: a session ends at its first END line, whatever place it has and whatever follows.

@@ -6,12 +6,12 @@ use Rattle.its_plain.specs.Operator.{Does, Quits, Refuses, Ticks}
 use Rattle.its_plain.specs.OperatorLines.{Done, Lined, Peeks, lined}
 use Rattle.its_plain.specs.Transcript.{Walk, next_line, walk_after}
 use Rattle.its_plain.specs.Turns.{ticks_asked, turns_asked}
-use Rattle.its_verify.specs.Hearing.{Forward}
+use Rattle.its_verify.specs.TranscriptReader.{Forward}
 use Rattle.its_verify.specs.Judge.{Judge, at_end, gone, judged, peeking, turned}
 use Rattle.its_verify.specs.Letters.{ticked}
-use Rattle.its_verify.proofs.HearingLaws.{end_forward, led_forward}
+use Rattle.its_verify.proofs.TranscriptReaderLaws.{end_forward, led_forward}
 use Rattle.its_verify.proofs.ShowingLaws.{lines_forward}
-use Rattle.its_verify.proofs.TrialLaws.{turned_forward}
+use Rattle.its_verify.proofs.VerifierLaws.{turned_forward}
 
 gone_forward : (v : Walk) (o : Lined) (next : Walk → Judge) → ((w : Walk) → Forward (next w)) → Forward (gone v o next)
 gone_forward v (Done (Refuses r)) next h = lines_forward (Refused v.line r ∷ []) at_end end_forward

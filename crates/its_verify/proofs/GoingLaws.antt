@@ -1,4 +1,4 @@
--- The result of a line of a session in a trial.
+-- The result of a line of a session for a verifier.
 use Rattle.std.proofs.Common.{◌≡◌, ◌<◌, ◌+◌, ℕ, Bool, true, false, Option, Some, None, Result, Ok, Err, IsOk, List, [], ◌∷◌, refl, sym, ap, subst, ◌∙◌}
 use Rattle.std.proofs.lemmas.Bool.{false≢true}
 use Rattle.its_io.specs.declared.stream.Failed.{Failed}
@@ -22,21 +22,19 @@ use Rattle.its_direct.specs.declared.events.Answer.{Answer}
 use Rattle.its_direct.specs.declared.events.Answer.TheVariants.{Nothing, Slot, Dropped, Drained}
 use Rattle.its_direct.specs.declared.plain.Spot.{Spot}
 use Rattle.its_direct.specs.declared.plain.Spot.TheVariants as spots
-use Rattle.its_verify.specs.Going.{LineSays, SaysEnd}
-use Rattle.its_verify.specs.Hearing.{Concludes, Failing, Passed, Says, Stays, cut}
-use Rattle.its_verify.proofs.HearingLaws.{fails_as, passed_none}
-use Rattle.its_verify.specs.Sources.{texts_of}
+use Rattle.its_verify.specs.Going.{LineSays, SaysEnd, line_judge}
+use Rattle.its_verify.specs.TranscriptReader.{Concludes, PassesOn, Says, Stays}
+use Rattle.its_verify.proofs.TranscriptReaderLaws.{nothing_on}
 use Rattle.its_verify.specs.Judge.{Judge as AnyJudge, at_end, gone, led, peeking, expects}
-use Rattle.its_verify.specs.Judge.{expects as asked}
 use Rattle.its_verify.specs.Letters.{ticked}
-use Rattle.its_verify.specs.Showing.{IsThere, heard_of, is_peek_event, lines_of, shown_if}
-use Rattle.its_verify.specs.Standing.{Forgets, Sure, walk_of}
-use Rattle.its_verify.specs.Trial.{StaysTried, TicksSay}
-use Rattle.its_verify.specs.declared.finding.Finding.{Finding}
-use Rattle.its_verify.specs.declared.hearing.Hearing.{Hearing}
+use Rattle.its_verify.specs.Showing.{IsThere, shown_judge, is_peek_event, lines_of, shown_if}
+use Rattle.its_verify.specs.JudgeState.{Forgets, Sure, walk_of}
+use Rattle.its_verify.specs.Verifier.{StaysAtItem, TicksSay}
+use Rattle.its_verify.specs.declared.outcome.Outcome.{Outcome}
+use Rattle.its_verify.specs.declared.transcript_reader.TranscriptReader.{TranscriptReader}
 use Rattle.its_verify.specs.declared.judge.Judge.{Judge}
-use Rattle.its_verify.specs.declared.trial.Trial.{Trial}
-use Rattle.its_verify.proofs.StandingLaws.{line_walk}
+use Rattle.its_verify.specs.declared.verifier.Verifier.{Verifier}
+use Rattle.its_verify.proofs.JudgeStateLaws.{line_walk}
 
 -- a line that shows something had this result
 does_same : (m n : Machine) (out mine : List Line) (d g : ℕ → Bool) (b c : Block) → Done (Does m mine g b) ≡ Done (Does n out d c) → (n ≡ m) × (out ≡ mine)
@@ -61,9 +59,9 @@ peek_does : (s : ℕ) (o : Option Whole) (n : Machine) (out : List Line) (d : �
 peek_does s None n out d c is = cc
 peek_does s (Some q) n out d c is = cc
 
--- what is heard of a line is what it shows
+-- what is expected for a line is what it shows
 abbrev Shown : Event → Answer → Machine → List Line → Type 0
-Shown e a n out = ((next : AnyJudge) → heard_of e a n next ≡ expects out next) × IsThere e n
+Shown e a n out = ((next : AnyJudge) → shown_judge e a n next ≡ expects out next) × IsThere e n
 
 by_lines : (e : Event) (a : Answer) (n : Machine) (out : List Line) → out ≡ lines_of e a n → (next : AnyJudge) → expects (lines_of e a n) next ≡ expects out next
 by_lines e a n out is next = ap (λ (ls : List Line). expects ls next) (sym is)
@@ -95,12 +93,12 @@ line_shown m n b c (events.Peek s) a out d is says = absurd (peek_does s (m.jobs
 line_shown m n b c e Nothing out d is says = (by_lines e Nothing n out says, tt)
 line_shown m n b c _ _ out d is says = absurd says
 
--- a line that was obeyed: what is heard for it, and the state of the walk after it
+-- a line that was obeyed: what is expected for it, and the state of the walk after it
 pub record ObeyedSo (e : Event) (a : Answer) (old new : Judge) (b : Block) (n : ℕ) : Type 0 where
   pub after : Block
   pub speaks : Speaks new.plain.place after
   pub there : IsThere e (machine_of new.plain)
-  pub goes : (next : Walk → AnyJudge) → gone (walk_of old b n) (lined (machine_of old.plain) b e) next ≡ heard_of e a (machine_of new.plain) (next (walk_of new after (n + 1)))
+  pub goes : (next : Walk → AnyJudge) → gone (walk_of old b n) (lined (machine_of old.plain) b e) next ≡ shown_judge e a (machine_of new.plain) (next (walk_of new after (n + 1)))
 
 speaks_same : (p q : Spot) (b : Block) → q ≡ p → Speaks p b → Speaks q b
 speaks_same p q b is h = subst (λ (s : Spot). Speaks s b) (sym is) h
@@ -123,7 +121,7 @@ peek_so e a old new b n s event forgets is same none place speaks = record {
   goes = λ next.
       ap (λ (o : Lined). gone (walk_of old b n) o next) is
       ∙ ap (λ (w : Walk). led peeking (λ text. next w)) (line_walk old new b b n (machine_of old.plain) (λ k. false) same none forgets)
-      ∙ sym (ap (λ (x : Event). heard_of x a (machine_of new.plain) (next (walk_of new b (n + 1)))) event);
+      ∙ sym (ap (λ (x : Event). shown_judge x a (machine_of new.plain) (next (walk_of new b (n + 1)))) event);
 }
 
 does_so : (e : Event) (a : Answer) (old new : Judge) (b : Block) (n : ℕ) (m : Machine) (out : List Line) (d : ℕ → Bool) (after : Block) → Forgets new.plain old.dots new.dots
@@ -166,48 +164,46 @@ speaks_at (spots.File names) = refl
 pub told_there : (e : Event) (a : Answer) (old new : Judge) → Told e old.plain new.plain (Ok a) → Forgets new.plain old.dots new.dots → IsThere e (machine_of new.plain)
 told_there e a old new h forgets = (obeyed_so e a old new (block_at old.plain.place) 0 h forgets (speaks_at old.plain.place)).there
 
--- the result of a line, if it was obeyed and is heard
-pub told_says : (e : Event) (a : Answer) (r : Result (Option Finding) Failed) (old mid new : Trial) (left rest : Option (List ℕ)) (n : ℕ) → Told e old.judge.plain mid.judge.plain (Ok a)
-    → Forgets mid.judge.plain old.judge.dots mid.judge.dots → mid.hearing ≡ old.hearing → new.judge ≡ mid.judge
-    → ((next : AnyJudge) → Says r mid.hearing new.hearing left rest (heard_of e a (machine_of mid.judge.plain) next) next) → LineSays r old new left rest n e
-told_says e a (Ok None) old mid new left rest n h forgets hearing judge says = λ b speaks.
+-- the result of a line, if it was obeyed and its lines are read
+says_told : (e : Event) (a : Answer) (r : Result (Option Outcome) Failed) (old mid new : Verifier) (left rest : Option (List ℕ)) (b : Block) (n : ℕ) (so : ObeyedSo e a old.judge mid.judge b n) → mid.reader ≡ old.reader
+    → new.judge ≡ mid.judge → ((next : AnyJudge) → Says r mid.reader new.reader left rest (shown_judge e a (machine_of mid.judge.plain) next) next)
+    → (next : Walk → AnyJudge) → Says r old.reader new.reader left rest (line_judge old b n e next) (next (walk_of new.judge so.after (n + 1)))
+says_told e a r old mid new left rest b n so reader judge says next =
+    let on : AnyJudge = next (walk_of mid.judge so.after (n + 1)) in
+    subst (λ (j : Judge). Says r old.reader new.reader left rest (line_judge old b n e next) (next (walk_of j so.after (n + 1)))) (sym judge)
+    (subst (λ (h : TranscriptReader). Says r h new.reader left rest (line_judge old b n e next) on) reader
+    (subst (λ (j : AnyJudge). Says r mid.reader new.reader left rest j on) (sym (so.goes next)) (says on)))
+
+pub told_says : (e : Event) (a : Answer) (r : Result (Option Outcome) Failed) (old mid new : Verifier) (left rest : Option (List ℕ)) (n : ℕ) → Told e old.judge.plain mid.judge.plain (Ok a)
+    → Forgets mid.judge.plain old.judge.dots mid.judge.dots → mid.reader ≡ old.reader → new.judge ≡ mid.judge
+    → ((next : AnyJudge) → Says r mid.reader new.reader left rest (shown_judge e a (machine_of mid.judge.plain) next) next) → LineSays r old new left rest n e
+told_says e a (Ok None) old mid new left rest n h forgets reader judge says = λ b speaks.
     (let so = obeyed_so e a old.judge mid.judge b n h forgets speaks in
     record {
       after = so.after;
       speaks = subst (λ (j : Judge). Speaks j.plain.place so.after) (sym judge) so.speaks;
-      goes = λ next t.
-          (let here = says (next (walk_of mid.judge so.after (n + 1))) t in (
-            ap (λ (j : AnyJudge). cut old.hearing.room old.hearing.passed j (texts_of old.hearing.texts left)) (so.goes next)
-                ∙ ap (λ (x : Hearing). cut x.room x.passed (heard_of e a (machine_of mid.judge.plain) (next (walk_of mid.judge so.after (n + 1)))) (texts_of x.texts left)) (sym hearing)
-                ∙ here.0
-                ∙ ap (λ (j : Judge). cut new.hearing.room new.hearing.passed (next (walk_of j so.after (n + 1))) (texts_of new.hearing.texts rest)) (sym judge),
-            here.1,
-            subst (λ (x : Hearing). Passed x new.hearing left rest) hearing here.2,
-          ));
+      goes = says_told e a (Ok None) old mid new left rest b n so reader judge says;
     })
-told_says e a (Ok (Some f)) old mid new left rest n h forgets hearing judge says = λ b speaks next t.
+told_says e a (Ok (Some f)) old mid new left rest n h forgets reader judge says = λ b speaks.
+    says_told e a (Ok (Some f)) old mid new left rest b n (obeyed_so e a old.judge mid.judge b n h forgets speaks) reader judge says
+told_says e a (Err x) old mid new left rest n h forgets reader judge says = λ b speaks next forward.
     (let so = obeyed_so e a old.judge mid.judge b n h forgets speaks in
-    ap (λ (j : AnyJudge). cut old.hearing.room old.hearing.passed j (texts_of old.hearing.texts left)) (so.goes next)
-    ∙ ap (λ (x : Hearing). cut x.room x.passed (heard_of e a (machine_of mid.judge.plain) (next (walk_of mid.judge so.after (n + 1)))) (texts_of x.texts left)) (sym hearing)
-    ∙ says (next (walk_of mid.judge so.after (n + 1))) t)
-told_says e a (Err x) old mid new left rest n h forgets hearing judge says = λ b speaks next forward t.
-    (let so = obeyed_so e a old.judge mid.judge b n h forgets speaks in
-    let behind = walk_of mid.judge so.after (n + 1) in
-    fails_as old.hearing left rest (gone (walk_of old.judge b n) (lined (machine_of old.judge.plain) b e) next) (heard_of e a (machine_of mid.judge.plain) (next behind))
-    (ap (λ (j : AnyJudge). cut old.hearing.room old.hearing.passed j (texts_of old.hearing.texts left)) (so.goes next))
-    (subst (λ (y : Hearing). Failing y left rest (heard_of e a (machine_of mid.judge.plain) (next behind))) hearing (says (next behind) (forward behind) t)))
+    says_told e a (Err x) old mid new left rest b n so reader judge says next (forward (walk_of new.judge so.after (n + 1))))
+
+-- if all is said with a line
+ends_says : (r : Result (Option Outcome) Failed) (e : Event) (old new : Verifier) (left rest : Option (List ℕ)) (n : ℕ) (judge : AnyJudge)
+    → ((b : Block) → Speaks old.judge.plain.place b → (next : Walk → AnyJudge) → line_judge old b n e next ≡ judge) → SaysEnd r old.reader left rest judge → LineSays r old new left rest n e
+ends_says (Ok None) e old new left rest n judge is ends = absurd ends
+ends_says (Ok (Some f)) e old new left rest n judge is ends = λ b speaks next. subst (λ (j : AnyJudge). Concludes (Ok f) old.reader left rest j) (sym (is b speaks next)) ends
+ends_says (Err x) e old new left rest n judge is ends = λ b speaks next forward. subst (λ (j : AnyJudge). Concludes (Err x) old.reader left rest j) (sym (is b speaks next)) ends
 
 -- if it was refused
-pub told_refused : (e : Event) (x : Refusal) (r : Result (Option Finding) Failed) (old new : Trial) (mid : Judge) (h : Hearing) (left rest : Option (List ℕ)) (n : ℕ) → Told e old.judge.plain mid.plain (Err x)
-    → h ≡ old.hearing → SaysEnd r h left rest (expects (Refused n (reason_of x) ∷ []) at_end) → LineSays r old new left rest n e
-told_refused e x (Ok None) old new mid h left rest n expects hearing ends = absurd ends
-told_refused e x (Ok (Some f)) old new mid h left rest n expects hearing ends = λ b speaks next t.
-    ap (λ (o : Lined). cut old.hearing.room old.hearing.passed (gone (walk_of old.judge b n) o next) (texts_of old.hearing.texts left)) (expects b speaks)
-    ∙ subst (λ (y : Hearing). Concludes (Ok f) y left rest (asked (Refused n (reason_of x) ∷ []) at_end)) hearing ends t
-told_refused e x (Err y) old new mid h left rest n expects hearing ends = λ b speaks next forward t.
-    fails_as old.hearing left rest (gone (walk_of old.judge b n) (lined (machine_of old.judge.plain) b e) next) (asked (Refused n (reason_of x) ∷ []) at_end)
-    (ap (λ (o : Lined). cut old.hearing.room old.hearing.passed (gone (walk_of old.judge b n) o next) (texts_of old.hearing.texts left)) (expects b speaks))
-    (subst (λ (z : Hearing). Failing z left rest (asked (Refused n (reason_of x) ∷ []) at_end)) hearing (ends t))
+pub told_refused : (e : Event) (x : Refusal) (r : Result (Option Outcome) Failed) (old new : Verifier) (mid : Judge) (h : TranscriptReader) (left rest : Option (List ℕ)) (n : ℕ) → Told e old.judge.plain mid.plain (Err x)
+    → h ≡ old.reader → SaysEnd r h left rest (expects (Refused n (reason_of x) ∷ []) at_end) → LineSays r old new left rest n e
+told_refused e x r old new mid h left rest n refuses reader ends =
+    ends_says r e old new left rest n (expects (Refused n (reason_of x) ∷ []) at_end)
+    (λ b speaks next. ap (λ (o : Lined). gone (walk_of old.judge b n) o next) (refuses b speaks))
+    (subst (λ (y : TranscriptReader). SaysEnd r y left rest (expects (Refused n (reason_of x) ∷ []) at_end)) reader ends)
 
 -- TICK and END
 tick_lined : (m : Machine) (b : Block) (i k : ℕ) → lined m b (events.Tick i k) ≡ Done (Ticks i k)
@@ -218,69 +214,65 @@ end_lined : (m : Machine) (b : Block) → lined m b events.End ≡ Done Quits
 unfolding lined operate
 end_lined m b = refl
 
-pub tick_says : (i k : ℕ) (r : Result (Option Finding) Failed) (old new : Trial) (left rest : Option (List ℕ)) (n : ℕ)
+says_tick : (i k : ℕ) (r : Result (Option Outcome) Failed) (old new : Verifier) (left rest : Option (List ℕ)) (b : Block) (n : ℕ) (next : Walk → AnyJudge)
+    → Says r old.reader new.reader left rest (led (ticked (walk_of old.judge b n) i k) (λ w. next (next_line w))) (next (walk_of new.judge b (n + 1)))
+    → Says r old.reader new.reader left rest (line_judge old b n (events.Tick i k) next) (next (walk_of new.judge b (n + 1)))
+says_tick i k r old new left rest b n next =
+    subst (λ (o : Lined). Says r old.reader new.reader left rest (gone (walk_of old.judge b n) o next) (next (walk_of new.judge b (n + 1)))) (sym (tick_lined (machine_of old.judge.plain) b i k))
+
+pub tick_says : (i k : ℕ) (r : Result (Option Outcome) Failed) (old new : Verifier) (left rest : Option (List ℕ)) (n : ℕ)
     → TicksSay r old new left rest i k
     → new.judge.plain.place ≡ old.judge.plain.place → LineSays r old new left rest n (events.Tick i k)
 tick_says i k (Ok None) old new left rest n says place = λ b speaks. record {
   after = b;
   speaks = speaks_same old.judge.plain.place new.judge.plain.place b place speaks;
-  goes = λ next t.
-      (let here = says b n (λ w. next (next_line w)) t in
-      (ap (λ (o : Lined). cut old.hearing.room old.hearing.passed (gone (walk_of old.judge b n) o next) (texts_of old.hearing.texts left)) (tick_lined (machine_of old.judge.plain) b i k) ∙ here.0, here.1, here.2));
+  goes = λ next. says_tick i k (Ok None) old new left rest b n next (says b n (λ w. next (next_line w)));
 }
-tick_says i k (Ok (Some f)) old new left rest n says place = λ b speaks next t.
-    ap (λ (o : Lined). cut old.hearing.room old.hearing.passed (gone (walk_of old.judge b n) o next) (texts_of old.hearing.texts left)) (tick_lined (machine_of old.judge.plain) b i k)
-    ∙ says b n (λ w. next (next_line w)) t
-tick_says i k (Err x) old new left rest n says place = λ b speaks next forward t.
-    fails_as old.hearing left rest (gone (walk_of old.judge b n) (lined (machine_of old.judge.plain) b (events.Tick i k)) next) (led (ticked (walk_of old.judge b n) i k) (λ w. next (next_line w)))
-    (ap (λ (o : Lined). cut old.hearing.room old.hearing.passed (gone (walk_of old.judge b n) o next) (texts_of old.hearing.texts left)) (tick_lined (machine_of old.judge.plain) b i k))
-    (says b n (λ w. next (next_line w)) (λ w. forward (next_line w)) t)
+tick_says i k (Ok (Some f)) old new left rest n says place = λ b speaks next. says_tick i k (Ok (Some f)) old new left rest b n next (says b n (λ w. next (next_line w)))
+tick_says i k (Err x) old new left rest n says place = λ b speaks next forward.
+    says_tick i k (Err x) old new left rest b n next (λ on. says b n (λ w. next (next_line w)) (λ w. forward (next_line w))) (forward (walk_of new.judge b (n + 1)))
 
 run_lined : (m : Machine) (b : Block) (k q : ℕ) → lined m b (events.Run k q) ≡ Done (Does m [] nobody b)
 unfolding lined operate
 run_lined m b k q = refl
 
-pub run_says : (k q : ℕ) (e : Event) (old : Trial) (left : Option (List ℕ)) (n : ℕ) → e ≡ events.Run k q → LineSays (Ok None) old old left left n e
+pub run_says : (k q : ℕ) (e : Event) (old : Verifier) (left : Option (List ℕ)) (n : ℕ) → e ≡ events.Run k q → LineSays (Ok None) old old left left n e
 run_says k q e old left n is = λ b speaks. record {
   after = b;
   speaks = speaks;
-  goes = λ next expects.
-      (ap (λ (o : Lined). cut old.hearing.room old.hearing.passed (gone (walk_of old.judge b n) o next) (texts_of old.hearing.texts left)) (ap (lined (machine_of old.judge.plain) b) is ∙ run_lined (machine_of old.judge.plain) b k q), expects, passed_none old.hearing left);
+  goes = λ next.
+      (let on : AnyJudge = next (walk_of old.judge b (n + 1)) in
+      subst (λ (o : Lined). PassesOn old.reader old.reader left left (gone (walk_of old.judge b n) o next) on) (sym (ap (lined (machine_of old.judge.plain) b) is ∙ run_lined (machine_of old.judge.plain) b k q))
+      (nothing_on old.reader left on));
 }
 
-pub end_says : (r : Result (Option Finding) Failed) (e : Event) (old new : Trial) (left rest : Option (List ℕ)) (n : ℕ) → e ≡ events.End → SaysEnd r old.hearing left rest at_end → LineSays r old new left rest n e
-end_says (Ok None) e old new left rest n is ends = absurd ends
-end_says (Ok (Some f)) e old new left rest n is ends = λ b speaks next t.
-    ap (λ (x : Event). cut old.hearing.room old.hearing.passed (gone (walk_of old.judge b n) (lined (machine_of old.judge.plain) b x) next) (texts_of old.hearing.texts left)) is
-    ∙ ap (λ (o : Lined). cut old.hearing.room old.hearing.passed (gone (walk_of old.judge b n) o next) (texts_of old.hearing.texts left)) (end_lined (machine_of old.judge.plain) b) ∙ ends t
-end_says (Err x) e old new left rest n is ends = λ b speaks next forward t.
-    fails_as old.hearing left rest (gone (walk_of old.judge b n) (lined (machine_of old.judge.plain) b e) next) at_end
-    (ap (λ (y : Event). cut old.hearing.room old.hearing.passed (gone (walk_of old.judge b n) (lined (machine_of old.judge.plain) b y) next) (texts_of old.hearing.texts left)) is
-    ∙ ap (λ (o : Lined). cut old.hearing.room old.hearing.passed (gone (walk_of old.judge b n) o next) (texts_of old.hearing.texts left)) (end_lined (machine_of old.judge.plain) b))
-    (ends t)
+pub end_says : (r : Result (Option Outcome) Failed) (e : Event) (old new : Verifier) (left rest : Option (List ℕ)) (n : ℕ) → e ≡ events.End → SaysEnd r old.reader left rest at_end → LineSays r old new left rest n e
+end_says r e old new left rest n is ends =
+    ends_says r e old new left rest n at_end
+    (λ b speaks next. ap (λ (o : Lined). gone (walk_of old.judge b n) o next) (ap (lined (machine_of old.judge.plain) b) is ∙ end_lined (machine_of old.judge.plain) b)) ends
 
-pub end_stays : (r : Result (Option Finding) Failed) (old : Hearing) (left rest : Option (List ℕ)) (judge : AnyJudge) (new : Trial) → SaysEnd r old left rest judge → StaysTried r new rest
+pub end_stays : (r : Result (Option Outcome) Failed) (old : TranscriptReader) (left rest : Option (List ℕ)) (judge : AnyJudge) (new : Verifier) → SaysEnd r old left rest judge → StaysAtItem r new rest
 end_stays (Ok None) old left rest judge new ends = absurd ends
 end_stays (Ok (Some f)) old left rest judge new ends = tt
 end_stays (Err x) old left rest judge new ends = tt
 
-pub never_on : {X : Type 0} (r : Result (Option Finding) Failed) (old : Hearing) (left rest : Option (List ℕ)) (judge : AnyJudge) → SaysEnd r old left rest judge → r ≡ Ok None → X
+pub never_on : {X : Type 0} (r : Result (Option Outcome) Failed) (old : TranscriptReader) (left rest : Option (List ℕ)) (judge : AnyJudge) → SaysEnd r old left rest judge → r ≡ Ok None → X
 never_on (Ok None) old left rest judge ends is = absurd ends
 never_on (Ok (Some f)) old left rest judge ends is = cc
 never_on (Err x) old left rest judge ends is = cc
 
 -- PEEK, and any other line
-pub peek_shown : (e : Event) (a : Answer) (m : Machine) (r : Result (Option Finding) Failed) (old new : Hearing) (left rest : Option (List ℕ)) (b : Bool) → b ≡ is_peek_event e → b ≡ true
-    → ((next : AnyJudge) → Says r old new left rest (led peeking (λ t. next)) next) → (next : AnyJudge) → Says r old new left rest (heard_of e a m next) next
+pub peek_shown : (e : Event) (a : Answer) (m : Machine) (r : Result (Option Outcome) Failed) (old new : TranscriptReader) (left rest : Option (List ℕ)) (b : Bool) → b ≡ is_peek_event e → b ≡ true
+    → ((next : AnyJudge) → Says r old new left rest (led peeking (λ t. next)) next) → (next : AnyJudge) → Says r old new left rest (shown_judge e a m next) next
 peek_shown (events.Peek s) a m r old new left rest b test is says = says
 peek_shown e a m r old new left rest b test is says = absurd (false≢true (sym test ∙ is))
 
-pub lines_shown : (e : Event) (a : Answer) (m : Machine) (r : Result (Option Finding) Failed) (old new : Hearing) (left rest : Option (List ℕ)) (b : Bool) → b ≡ is_peek_event e → b ≡ false
-    → ((next : AnyJudge) → Says r old new left rest (expects (lines_of e a m) next) next) → (next : AnyJudge) → Says r old new left rest (heard_of e a m next) next
+pub lines_shown : (e : Event) (a : Answer) (m : Machine) (r : Result (Option Outcome) Failed) (old new : TranscriptReader) (left rest : Option (List ℕ)) (b : Bool) → b ≡ is_peek_event e → b ≡ false
+    → ((next : AnyJudge) → Says r old new left rest (expects (lines_of e a m) next) next) → (next : AnyJudge) → Says r old new left rest (shown_judge e a m next) next
 lines_shown (events.Peek s) a m r old new left rest b test is says = absurd (false≢true (sym is ∙ test))
 lines_shown e a m r old new left rest b test is says = says
 
-pub tried_on : (r : Result (Option Finding) Failed) (new : Trial) (rest : Option (List ℕ)) → Stays r new.hearing rest → Sure new.judge → new.judge.ended ≡ false → new.last < slots → StaysTried r new rest
-tried_on (Ok None) new rest h sure going last = record { heard = h; sure = sure; going = going; last = last }
-tried_on (Ok (Some f)) new rest h sure going last = tt
-tried_on (Err x) new rest h sure going last = tt
+pub at_item_on : (r : Result (Option Outcome) Failed) (new : Verifier) (rest : Option (List ℕ)) → Stays r new.reader rest → Sure new.judge → new.judge.ended ≡ false → new.last < slots → StaysAtItem r new rest
+at_item_on (Ok None) new rest h sure going last = record { at_line = h; sure = sure; going = going; last = last }
+at_item_on (Ok (Some f)) new rest h sure going last = tt
+at_item_on (Err x) new rest h sure going last = tt

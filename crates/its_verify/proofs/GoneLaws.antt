@@ -25,32 +25,32 @@ use Rattle.its_plain.specs.Turns.{ticks_asked, turns_asked}
 use Rattle.its_direct.specs.Events.{MayStand, Speaks}
 use Rattle.its_direct.specs.declared.plain.Spot.{Spot}
 use Rattle.its_direct.specs.declared.plain.Spot.TheVariants as spots
-use Rattle.its_verify.specs.Going.{FoundStands, GoneSo, ItemSays, LineSays, SaysEnd, Split, is_end, items_by, judge_from, machine_place}
-use Rattle.its_verify.specs.Hearing.{Concludes, cut}
+use Rattle.its_verify.specs.Going.{FoundStands, GoneSo, ItemSays, LedOn, LineSays, SaysEnd, Split, is_end, items_by, judge_from, machine_place}
+use Rattle.its_verify.specs.TranscriptReader.{Concludes, PassesOn, Says}
 use Rattle.its_verify.proofs.ForwardLaws.{judged_forward}
-use Rattle.its_verify.proofs.HearingLaws.{fails_then, passed_none, passed_then}
-use Rattle.its_verify.proofs.TrialLaws.{turned_forward}
+use Rattle.its_verify.proofs.TranscriptReaderLaws.{concludes_then, end_forward, nothing_on, says_then}
+use Rattle.its_verify.proofs.VerifierLaws.{turned_forward}
 use Rattle.its_verify.specs.Judge.{Judge as AnyJudge, at_end, judged, expects, turned}
-use Rattle.its_verify.specs.Sources.{IsTold, items_of, texts_of}
-use Rattle.its_verify.specs.Standing.{walk_of}
-use Rattle.its_verify.specs.Trial.{StaysTried, Tried, TurnsSay}
-use Rattle.its_verify.specs.declared.finding.Finding.{Finding}
-use Rattle.its_verify.specs.declared.trial.Trial.{Trial}
+use Rattle.its_verify.specs.Sources.{IsTold, items_of}
+use Rattle.its_verify.specs.JudgeState.{walk_of}
+use Rattle.its_verify.specs.Verifier.{StaysAtItem, AtItem, TurnsSay}
+use Rattle.its_verify.specs.declared.outcome.Outcome.{Outcome}
+use Rattle.its_verify.specs.declared.verifier.Verifier.{Verifier}
 use Rattle.its_verify.proofs.ItemLaws.{found_bad, found_beyond, found_end, found_line}
 
 -- an item that is the last
-pub bad_says : (reason : Reason) (r : Result (Option Finding) Failed) (old new : Trial) (left rest : Option (List ℕ)) (n : ℕ) → SaysEnd r old.hearing left rest (expects (Refused n reason ∷ []) at_end)
+pub bad_says : (reason : Reason) (r : Result (Option Outcome) Failed) (old new : Verifier) (left rest : Option (List ℕ)) (n : ℕ) → SaysEnd r old.reader left rest (expects (Refused n reason ∷ []) at_end)
     → ItemSays r old new left rest n (Bad reason)
 bad_says reason (Ok None) old new left rest n ends = absurd ends
 bad_says reason (Ok (Some f)) old new left rest n ends = λ b speaks es. ends
 bad_says reason (Err x) old new left rest n ends = λ b speaks es. ends
 
-pub beyond_says : (r : Result (Option Finding) Failed) (old new : Trial) (left rest : Option (List ℕ)) (n : ℕ) → SaysEnd r old.hearing left rest at_end → ItemSays r old new left rest n Beyond
+pub beyond_says : (r : Result (Option Outcome) Failed) (old new : Verifier) (left rest : Option (List ℕ)) (n : ℕ) → SaysEnd r old.reader left rest at_end → ItemSays r old new left rest n Beyond
 beyond_says (Ok None) old new left rest n ends = absurd ends
 beyond_says (Ok (Some f)) old new left rest n ends = λ b speaks es. ends
 beyond_says (Err x) old new left rest n ends = λ b speaks es. ends
 
-pub last_says : (r : Result (Option Finding) Failed) (old new : Trial) (left rest : Option (List ℕ)) (n : ℕ) → SaysEnd r old.hearing left rest at_end → ItemSays r old new left rest n End
+pub last_says : (r : Result (Option Outcome) Failed) (old new : Verifier) (left rest : Option (List ℕ)) (n : ℕ) → SaysEnd r old.reader left rest at_end → ItemSays r old new left rest n End
 last_says (Ok None) old new left rest n ends = absurd ends
 last_says (Ok (Some f)) old new left rest n ends = λ b speaks es. ends
 last_says (Err x) old new left rest n ends = λ b speaks es. ends
@@ -60,7 +60,16 @@ not_last events.End h = absurd (false≢true (sym h))
 not_last e h = refl
 
 -- a line, and its turns
-pub obeyed_says : (r o : Result (Option Finding) Failed) (e : Event) (old mid new : Trial) (left between rest : Option (List ℕ)) (n : ℕ) → r ≡ Ok None → LineSays r old mid left between n e → mid.last ≡ old.last
+obeyed_then : (r : Result (Option Outcome) Failed) (e : Event) (old mid new : Verifier) (left between rest : Option (List ℕ)) (b : Block) (n : ℕ) (es : List Item) (last : AnyJudge) (line : LedOn old mid left between b n e) → mid.last ≡ old.last
+    → Says r mid.reader new.reader between rest (turned (turns_asked e) (ticks_asked e) (walk_of mid.judge line.after (n + 1)) mid.last (λ x s. judged x s es)) last
+    → Says r old.reader new.reader left rest (judge_from old b n (items_by (Line e) es)) last
+obeyed_then r e old mid new left between rest b n es last line same says =
+    let on : ℕ → AnyJudge = λ i. turned (turns_asked e) (ticks_asked e) (walk_of mid.judge line.after (n + 1)) i (λ x s. judged x s es) in
+    says_then r old.reader mid.reader new.reader left between rest (judge_from old b n (items_by (Line e) es)) (on old.last) last
+    (line.goes (λ w. turned (turns_asked e) (ticks_asked e) w old.last (λ x s. judged x s es)))
+    (subst (λ (i : ℕ). Says r mid.reader new.reader between rest (on i) last) same says)
+
+pub obeyed_says : (r o : Result (Option Outcome) Failed) (e : Event) (old mid new : Verifier) (left between rest : Option (List ℕ)) (n : ℕ) → r ≡ Ok None → LineSays r old mid left between n e → mid.last ≡ old.last
     → TurnsSay o mid new between rest (turns_asked e) (ticks_asked e)
     → new.judge.plain.place ≡ mid.judge.plain.place → ItemSays o old new left rest n (Line e)
 obeyed_says r (Ok None) e old mid new left between rest n is line last turns place = λ b speaks.
@@ -68,39 +77,22 @@ obeyed_says r (Ok None) e old mid new left between rest n is line last turns pla
     record {
       after = led.after;
       speaks = subst (λ (s : Spot). Speaks s led.after) (sym place) led.speaks;
-      goes = λ es t.
-          (let next : Walk → ℕ → AnyJudge = λ x s. judged x s es in
-          let here = led.goes (λ w. turned (turns_asked e) (ticks_asked e) w old.last next) t in
-          let on = turns led.after (n + 1) next here.1 in (
-            here.0
-                ∙ ap (λ (i : ℕ). cut mid.hearing.room mid.hearing.passed (turned (turns_asked e) (ticks_asked e) (walk_of mid.judge led.after (n + 1)) i next) (texts_of mid.hearing.texts between)) (sym last)
-                ∙ on.0,
-            on.1,
-            passed_then old.hearing mid.hearing new.hearing left between rest here.2 on.2,
-          ));
+      goes = λ es.
+          obeyed_then (Ok None) e old mid new left between rest b n es (judge_from new led.after (n + 1) es) led last (turns led.after (n + 1) (λ x s. judged x s es));
     })
-obeyed_says r (Ok (Some f)) e old mid new left between rest n is line last turns place = λ b speaks es t.
+obeyed_says r (Ok (Some f)) e old mid new left between rest n is line last turns place = λ b speaks es.
     (let led = subst (λ q. LineSays q old mid left between n e) is line b speaks in
-    let next : Walk → ℕ → AnyJudge = λ x s. judged x s es in
-    let here = led.goes (λ w. turned (turns_asked e) (ticks_asked e) w old.last next) t in
-    here.0
-    ∙ ap (λ (i : ℕ). cut mid.hearing.room mid.hearing.passed (turned (turns_asked e) (ticks_asked e) (walk_of mid.judge led.after (n + 1)) i next) (texts_of mid.hearing.texts between)) (sym last)
-    ∙ turns led.after (n + 1) next here.1)
-obeyed_says r (Err x) e old mid new left between rest n is line last turns place = λ b speaks es t.
+    obeyed_then (Ok (Some f)) e old mid new left between rest b n es (judge_from new led.after (n + 1) es) led last (turns led.after (n + 1) (λ x s. judged x s es)))
+obeyed_says r (Err x) e old mid new left between rest n is line last turns place = λ b speaks es.
     (let led = subst (λ q. LineSays q old mid left between n e) is line b speaks in
-    let next : Walk → ℕ → AnyJudge = λ x s. judged x s es in
-    let here = led.goes (λ w. turned (turns_asked e) (ticks_asked e) w old.last next) t in
-    fails_then old.hearing mid.hearing left between rest (judge_from old b n (items_by (Line e) es)) (turned (turns_asked e) (ticks_asked e) (walk_of mid.judge led.after (n + 1)) mid.last next)
-    (here.0
-    ∙ ap (λ (i : ℕ). cut mid.hearing.room mid.hearing.passed (turned (turns_asked e) (ticks_asked e) (walk_of mid.judge led.after (n + 1)) i next) (texts_of mid.hearing.texts between)) (sym last))
-    here.2 (turns led.after (n + 1) next (λ x s. judged_forward es x s) here.1))
+    obeyed_then (Err x) e old mid new left between rest b n es at_end led last (λ on. turns led.after (n + 1) (λ x s. judged x s es) (λ x s. judged_forward es x s)) end_forward)
 
-pub stopped_says : (r : Result (Option Finding) Failed) (f : Finding) (e : Event) (old mid new : Trial) (left between rest : Option (List ℕ)) (n : ℕ) → r ≡ Ok (Some f) → LineSays r old mid left between n e
+pub stopped_says : (r : Result (Option Outcome) Failed) (f : Outcome) (e : Event) (old mid new : Verifier) (left between rest : Option (List ℕ)) (n : ℕ) → r ≡ Ok (Some f) → LineSays r old mid left between n e
     → ItemSays (Ok (Some f)) old new left rest n (Line e)
 stopped_says r f e old mid new left between rest n is line = λ b speaks es.
     subst (λ q. LineSays q old mid left between n e) is line b speaks (λ w. turned (turns_asked e) (ticks_asked e) w old.last (λ x s. judged x s es))
 
-pub failed_says : (r : Result (Option Finding) Failed) (x : Failed) (e : Event) (old mid new : Trial) (left rest : Option (List ℕ)) (n : ℕ) → r ≡ Err x → LineSays r old mid left rest n e
+pub failed_says : (r : Result (Option Outcome) Failed) (x : Failed) (e : Event) (old mid new : Verifier) (left rest : Option (List ℕ)) (n : ℕ) → r ≡ Err x → LineSays r old mid left rest n e
     → ItemSays (Err x) old new left rest n (Line e)
 failed_says r x e old mid new left rest n is line = λ b speaks es.
     subst (λ q. LineSays q old mid left rest n e) is line b speaks (λ w. turned (turns_asked e) (ticks_asked e) w old.last (λ x s. judged x s es))
@@ -165,68 +157,60 @@ items_start : (r : Items) (bytes : List ℕ) → r.lines.number ≡ 0 → pendin
 unfolding events_of
 items_start r bytes number empty place version = rw (number, empty, place, version) refl
 
-pub gone_start : (t : Trial) (r : Items) (session : List ℕ) (left : Option (List ℕ)) → t.judge.plain.place ≡ spots.Plain → r.lines.number ≡ 0 → pending r.lines.buffer ≡ [] → r.place ≡ places.First → r.version ≡ 1
+pub gone_start : (t : Verifier) (r : Items) (session : List ℕ) (left : Option (List ℕ)) → t.judge.plain.place ≡ spots.Plain → r.lines.number ≡ 0 → pending r.lines.buffer ≡ [] → r.place ≡ places.First → r.version ≡ 1
     → GoneSo t t (judge_from t no_block 1 (events_of session)) r (Some session) left left
-gone_start t r session left spot number empty place version = record {
-  block = no_block;
-  speaks = subst (λ (s : Spot). Speaks s no_block) (sym spot) tt;
-  goes = λ expects. (
-    ap (λ (es : List Item). cut t.hearing.room t.hearing.passed (judge_from t no_block 1 es) (texts_of t.hearing.texts left)) (items_start r session number empty place version)
-        ∙ ap (λ (n : ℕ). cut t.hearing.room t.hearing.passed (judge_from t no_block (n + 1) (items_of r (Some session))) (texts_of t.hearing.texts left)) (sym number),
-    expects,
-    passed_none t.hearing left,
-  );
-}
+gone_start t r session left spot number empty place version =
+    let first : AnyJudge = judge_from t no_block 1 (events_of session) in
+    record {
+      block = no_block;
+      speaks = subst (λ (s : Spot). Speaks s no_block) (sym spot) tt;
+      goes =
+          subst (λ (j : AnyJudge). PassesOn t.reader t.reader left left first j)
+          (ap (judge_from t no_block 1) (items_start r session number empty place version) ∙ ap (λ (n : ℕ). judge_from t no_block (n + 1) (items_of r (Some session))) (sym number))
+          (nothing_on t.reader left first);
+    }
 
--- the items of the lines that are left, by the item that was found and the number of its line
-found_next : (now : Trial) (b : Block) (n k : ℕ) (es fs : List Item) (mid : Option (List ℕ)) → es ≡ fs → k ≡ n + 1
-    → cut now.hearing.room now.hearing.passed (judge_from now b (n + 1) es) (texts_of now.hearing.texts mid)
-    ≡ cut now.hearing.room now.hearing.passed (judge_from now b k fs) (texts_of now.hearing.texts mid)
-found_next now b n k es fs mid is number = rw (is, number) refl
+-- the items that are left, by the item that was found and the number of its line
+found_next : (now : Verifier) (b : Block) (n k : ℕ) (es fs : List Item) → es ≡ fs → k ≡ n + 1 → judge_from now b (n + 1) es ≡ judge_from now b k fs
+found_next now b n k es fs is number = rw (is, number) refl
 
-pub gone_next : (o : Result (Option Finding) Failed) (f : Found) (old now new : Trial) (judge : AnyJudge) (r q : Items) (session after : List ℕ) (left mid rest : Option (List ℕ)) → o ≡ Ok None
+gone_then : (f : Found) (old now : Verifier) (judge : AnyJudge) (r q : Items) (session after : List ℕ) (left mid : Option (List ℕ)) (so : GoneSo old now judge r (Some session) left mid)
+    (split : Split f (items_of r (Some session)) (items_of q (Some after))) → q.lines.number ≡ r.lines.number + 1
+    → PassesOn old.reader now.reader left mid judge (judge_from now so.block q.lines.number (items_by f split.behind))
+gone_then f old now judge r q session after left mid so split number =
+    subst (λ (j : AnyJudge). PassesOn old.reader now.reader left mid judge j) (found_next now so.block r.lines.number q.lines.number _ _ split.is number) so.goes
+
+pub gone_next : (o : Result (Option Outcome) Failed) (f : Found) (old now new : Verifier) (judge : AnyJudge) (r q : Items) (session after : List ℕ) (left mid rest : Option (List ℕ)) → o ≡ Ok None
     → GoneSo old now judge r (Some session) left mid → Finds (Ok f) r q (Some session) (Some after) → Ready q.lines (Some after) → q.lines.number ≡ r.lines.number + 1 → is_last f ≡ false
     → ItemSays o now new mid rest q.lines.number f → GoneSo old new judge q (Some after) left rest
 gone_next o f old now new judge r q session after left mid rest is so finds ready number going says =
     let split = found_split f r q (Some session) (Some after) finds ready tt in
     let item = subst (λ x. ItemSays x now new mid rest q.lines.number f) is says so.block so.speaks in
+    let here = judge_from now so.block q.lines.number (items_by f split.behind) in
     record {
       block = item.after;
       speaks = item.speaks;
-      goes = λ t.
-          (let here = so.goes t in
-          let on = item.goes split.behind here.1 in (
-            here.0
-                ∙ found_next now so.block r.lines.number q.lines.number _ _ mid split.is number
-                ∙ on.0
-                ∙ ap (λ (es : List Item). cut new.hearing.room new.hearing.passed (judge_from new item.after (q.lines.number + 1) es) (texts_of new.hearing.texts rest)) (split.on going),
-            on.1,
-            passed_then old.hearing now.hearing new.hearing left mid rest here.2 on.2,
-          ));
+      goes =
+          subst (λ (es : List Item). PassesOn old.reader new.reader left rest judge (judge_from new item.after (q.lines.number + 1) es)) (split.on going)
+          (says_then (Ok None) old.reader now.reader new.reader left mid rest judge here (judge_from new item.after (q.lines.number + 1) split.behind)
+          (gone_then f old now judge r q session after left mid so split number) (item.goes split.behind));
     }
 
-pub gone_over : (o : Result (Option Finding) Failed) (x : Finding) (f : Found) (old now new : Trial) (judge : AnyJudge) (r q : Items) (session after : List ℕ) (left mid rest : Option (List ℕ)) → o ≡ Ok (Some x)
+pub gone_over : (o : Result (Option Outcome) Failed) (x : Outcome) (f : Found) (old now new : Verifier) (judge : AnyJudge) (r q : Items) (session after : List ℕ) (left mid rest : Option (List ℕ)) → o ≡ Ok (Some x)
     → GoneSo old now judge r (Some session) left mid → Finds (Ok f) r q (Some session) (Some after) → Ready q.lines (Some after) → q.lines.number ≡ r.lines.number + 1
-    → ItemSays o now new mid rest q.lines.number f → Concludes (Ok x) old.hearing left rest judge
-gone_over o x f old now new judge r q session after left mid rest is so finds ready number says t =
+    → ItemSays o now new mid rest q.lines.number f → Concludes (Ok x) old.reader left rest judge
+gone_over o x f old now new judge r q session after left mid rest is so finds ready number says =
     let split = found_split f r q (Some session) (Some after) finds ready tt in
-    let here = so.goes t in
-    let ends = subst (λ y. ItemSays y now new mid rest q.lines.number f) is says so.block so.speaks split.behind in
-    here.0
-    ∙ found_next now so.block r.lines.number q.lines.number _ _ mid split.is number
-    ∙ ends here.1
+    concludes_then (Ok x) old.reader now.reader left mid rest judge (judge_from now so.block q.lines.number (items_by f split.behind)) (gone_then f old now judge r q session after left mid so split number)
+    (subst (λ y. ItemSays y now new mid rest q.lines.number f) is says so.block so.speaks split.behind)
 
-pub gone_fails : (o : Result (Option Finding) Failed) (x : Failed) (f : Found) (old now new : Trial) (judge : AnyJudge) (r q : Items) (session after : List ℕ) (left mid rest : Option (List ℕ)) → o ≡ Err x
+pub gone_fails : (o : Result (Option Outcome) Failed) (x : Failed) (f : Found) (old now new : Verifier) (judge : AnyJudge) (r q : Items) (session after : List ℕ) (left mid rest : Option (List ℕ)) → o ≡ Err x
     → GoneSo old now judge r (Some session) left mid → Finds (Ok f) r q (Some session) (Some after) → Ready q.lines (Some after) → q.lines.number ≡ r.lines.number + 1
-    → ItemSays o now new mid rest q.lines.number f → Concludes (Err x) old.hearing left rest judge
-gone_fails o x f old now new judge r q session after left mid rest is so finds ready number says t =
+    → ItemSays o now new mid rest q.lines.number f → Concludes (Err x) old.reader left rest judge
+gone_fails o x f old now new judge r q session after left mid rest is so finds ready number says =
     let split = found_split f r q (Some session) (Some after) finds ready tt in
-    let here = so.goes t in
-    let fails = subst (λ y. ItemSays y now new mid rest q.lines.number f) is says so.block so.speaks split.behind in
-    fails_then old.hearing now.hearing left mid rest judge (judge_from now so.block q.lines.number (items_by f split.behind))
-    (here.0
-    ∙ found_next now so.block r.lines.number q.lines.number _ _ mid split.is number)
-    here.2 (fails here.1)
+    concludes_then (Err x) old.reader now.reader left mid rest judge (judge_from now so.block q.lines.number (items_by f split.behind)) (gone_then f old now judge r q session after left mid so split number)
+    (subst (λ y. ItemSays y now new mid rest q.lines.number f) is says so.block so.speaks split.behind)
 
-pub tried_by : (o : Result (Option Finding) Failed) (new : Trial) (rest : Option (List ℕ)) → o ≡ Ok None → StaysTried o new rest → Tried new rest
-tried_by o new rest is h = subst (λ x. StaysTried x new rest) is h
+pub at_item_by : (o : Result (Option Outcome) Failed) (new : Verifier) (rest : Option (List ℕ)) → o ≡ Ok None → StaysAtItem o new rest → AtItem new rest
+at_item_by o new rest is h = subst (λ x. StaysAtItem x new rest) is h

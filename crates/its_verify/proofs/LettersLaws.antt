@@ -13,7 +13,7 @@ use Rattle.its_plain.specs.Operator.{Block}
 use Rattle.its_plain.specs.Transcript.{after_letter}
 use Rattle.its_direct.specs.Plain.{machine_of}
 use Rattle.its_verify.specs.Letters.{led_to, paced, ticks_in}
-use Rattle.its_verify.specs.Standing.{AllLed, walk_of, Sure, Led, LedIf, RunLed, RunOn, RunsLed, LeadsOn}
+use Rattle.its_verify.specs.JudgeState.{AllLed, walk_of, Sure, Led, LedIf, RunLed, RunOn, RunsLed, LeadsOn}
 use Rattle.its_verify.specs.declared.judge.Judge.{Judge}
 
 -- one letter

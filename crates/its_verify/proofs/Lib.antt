@@ -13,12 +13,12 @@ pub mod TickLaws
 pub mod EndLaws
 pub mod SourceLaws
 pub mod KeepLaws
-pub mod HearingLaws
+pub mod TranscriptReaderLaws
 pub mod ItemLaws
 pub mod WholeLaws
-pub mod StandingLaws
+pub mod JudgeStateLaws
 pub mod LettersLaws
-pub mod TrialLaws
+pub mod VerifierLaws
 pub mod ShowingLaws
 pub mod GoingLaws
 pub mod ErrLaws

@@ -1,7 +1,7 @@
 -- The lines of bytes put together again are the bytes, and the lines of texts that end with LF, one after another, are the texts.
-use Rattle.std.proofs.Common.{◌≡◌, ◌==◌, ℕ, true, List, [], ◌∷◌, ◌++◌, refl, ap, ◌∙◌, inl, inr}
-use Rattle.std.proofs.lemmas.Bool.{cases_Bool, false≢true}
-use Rattle.std.specs.List.{concat}
+use Rattle.std.proofs.Common.{◌≡◌, ◌≤◌, ◌==◌, ℕ, true, List, [], ◌∷◌, ◌++◌, length, refl, ap, ◌∙◌, inl, inr, arith}
+use Rattle.std.proofs.lemmas.Bool.{and_parts, cases_Bool, false≢true}
+use Rattle.std.specs.List.{concat, list_all}
 use Rattle.its_reader.specs.TextLines.{in_front, lines_in}
 use Rattle.its_verify.specs.Lines.{is_last, is_whole}
 
@@ -38,7 +38,16 @@ abbrev pub AllWhole : List (List ℕ) → Type 0
 AllWhole [] = Unit {0}
 AllWhole (text ∷ texts) = (is_whole text ≡ true) × AllWhole texts
 
+pub all_whole : (texts : List (List ℕ)) → list_all is_whole texts ≡ true → AllWhole texts
+all_whole [] h = tt
+all_whole (text ∷ texts) h = (let both = and_parts (is_whole text) (list_all is_whole texts) h in (both.0, all_whole texts both.1))
+
 pub lines_concat : (texts : List (List ℕ)) → AllWhole texts → lines_in (concat texts) ≡ texts
 unfolding lines_in
 lines_concat [] h = refl
 lines_concat (text ∷ texts) h = first_line text (concat texts) h.0 ∙ ap (λ ts. text ∷ ts) (lines_concat texts h.1)
+
+-- nothing is left
+pub none_left : {X : Type 0} (xs : List X) → length xs ≤ 0 → xs ≡ []
+none_left [] few = refl
+none_left (x ∷ xs) few = absurd (omega (arith, few))

@@ -17,24 +17,24 @@ use Rattle.its_plain.specs.Turns.{turn_after}
 use Rattle.its_direct.specs.declared.events.Answer.{Answer}
 use Rattle.its_verify.specs.Finds.{ReadsOut, ReadsOutIf}
 use Rattle.its_verify.specs.Going.{GoneSo, LineSays}
-use Rattle.its_verify.specs.Hearing.{Says, cut, same_as}
+use Rattle.its_verify.specs.TranscriptReader.{Says, cut, same_as}
 use Rattle.its_verify.specs.Judge.{Judge, Verdict, Yes, No, at_end, led, led_by, saying, peeking, expects, turned, turned_by}
 use Rattle.its_verify.specs.Keeping.{Keeps}
 use Rattle.its_verify.specs.Letters.{ticked}
-use Rattle.its_verify.specs.Showing.{heard_of, lines_of}
+use Rattle.its_verify.specs.Showing.{shown_judge, lines_of}
 use Rattle.its_verify.specs.Sources.{IsTold, texts_of}
-use Rattle.its_verify.specs.Standing.{walk_of}
-use Rattle.its_verify.specs.Trial.{TicksSay, TurnsSay}
+use Rattle.its_verify.specs.JudgeState.{walk_of}
+use Rattle.its_verify.specs.Verifier.{TicksSay, TurnsSay}
 use Rattle.its_verify.specs.Verified.{Answer as Said, Judged, within}
-use Rattle.its_verify.specs.declared.finding.Finding.{Finding}
-use Rattle.its_verify.specs.declared.finding.Finding.TheVariants as findings
-use Rattle.its_verify.specs.declared.hearing.Hearing.{Hearing}
+use Rattle.its_verify.specs.declared.outcome.Outcome.{Outcome}
+use Rattle.its_verify.specs.declared.outcome.Outcome.TheVariants as outcomes
+use Rattle.its_verify.specs.declared.transcript_reader.TranscriptReader.{TranscriptReader}
 use Rattle.its_verify.specs.declared.keeping.Part.TheVariants.{Session}
-use Rattle.its_verify.specs.declared.trial.Trial.{Trial}
+use Rattle.its_verify.specs.declared.verifier.Verifier.{Verifier}
 use Rattle.its_verify.proofs.GoingLaws.{block_at, speaks_at}
 
 -- the end
-pub end_out : (k : ℕ) (old new : Texts) (left rest : Option (List ℕ)) → ReadsText (Ok nexts.End) old new left rest → ReadyTexts new rest → ReadsOut (findings.Yes k) left rest
+pub end_out : (k : ℕ) (old new : Texts) (left rest : Option (List ℕ)) → ReadsText (Ok nexts.End) old new left rest → ReadyTexts new rest → ReadsOut (outcomes.Yes k) left rest
 end_out k old new left rest r ready = at_end_of left rest r.consumed (ready.over r.next.0).1
   where
     at_end_of : (l m : Option (List ℕ)) → Consumes l m r.read → IsAtEnd m → IfSome l (λ bytes. m ≡ Some [])
@@ -81,9 +81,9 @@ turned_refuses zero q v last next h = h v last
 turned_refuses (suc n) q v last next h =
     turn_refuses q v (turn_after v.machine last) (λ w s. turned n q w s next) (next v last) (λ w s. turned_refuses n q w s next h) (h v last)
 
-heard_refuses : (e : Event) (a : Answer) (m : Machine) (next : Judge) → Refuses next → Refuses (heard_of e a m next)
-heard_refuses (events.Peek s) a m next h = led_refuses peeking (λ text. next) (λ text. h)
-heard_refuses e a m next h = told_refuses (lines_of e a m) next h
+shown_refuses : (e : Event) (a : Answer) (m : Machine) (next : Judge) → Refuses next → Refuses (shown_judge e a m next)
+shown_refuses (events.Peek s) a m next h = led_refuses peeking (λ text. next) (λ text. h)
+shown_refuses e a m next h = told_refuses (lines_of e a m) next h
 
 within_other : (room : ℕ) (v : Verdict) → IsOther (within room v)
 within_other room (Yes n) = tt
@@ -97,66 +97,66 @@ cut_other room n judge texts h =
     ]
 
 -- what it says is no reason to have read on
-said_out : (r : Result (Option Finding) Failed) (old new : Hearing) (left rest : Option (List ℕ)) (judge next : Judge) → Refuses judge → Says r old new left rest judge next → ReadsOutIf r left rest
+said_out : (r : Result (Option Outcome) Failed) (old new : TranscriptReader) (left rest : Option (List ℕ)) (judge next : Judge) → Refuses judge → Says r old new left rest judge next → ReadsOutIf r left rest
 said_out (Ok None) old new left rest judge next refuses says = tt
-said_out (Ok (Some (findings.Yes n))) old new None rest judge next refuses says = tt
-said_out (Ok (Some (findings.Yes n))) old new (Some bytes) rest judge next refuses says =
+said_out (Ok (Some (outcomes.Yes n))) old new None rest judge next refuses says = tt
+said_out (Ok (Some (outcomes.Yes n))) old new (Some bytes) rest judge next refuses says =
     absurd (subst IsOther (says tt) (cut_other old.room old.passed judge (texts_of old.texts (Some bytes)) refuses))
 said_out (Ok (Some f)) old new left rest judge next refuses says = tt
 said_out (Err e) old new left rest judge next refuses says = tt
 
 -- if lines are still to come, nothing is accepted
-pub line_out : (line : List ℕ) (r : Result (Option Finding) Failed) (old new : Hearing) (left rest : Option (List ℕ))
+pub line_out : (line : List ℕ) (r : Result (Option Outcome) Failed) (old new : TranscriptReader) (left rest : Option (List ℕ))
     → ((next : Judge) → Says r old new left rest (led (same_as line) (λ t. next)) next) → ReadsOutIf r left rest
 line_out line r old new left rest says =
     said_out r old new left rest (led (same_as line) (λ t. never)) never (led_refuses (same_as line) (λ t. never) (λ t. never_refuses)) (says never)
 
-pub shown_out : (e : Event) (a : Answer) (m : Machine) (r : Result (Option Finding) Failed) (old new : Hearing) (left rest : Option (List ℕ))
-    → ((next : Judge) → Says r old new left rest (heard_of e a m next) next) → ReadsOutIf r left rest
-shown_out e a m r old new left rest says = said_out r old new left rest (heard_of e a m never) never (heard_refuses e a m never never_refuses) (says never)
+pub shown_out : (e : Event) (a : Answer) (m : Machine) (r : Result (Option Outcome) Failed) (old new : TranscriptReader) (left rest : Option (List ℕ))
+    → ((next : Judge) → Says r old new left rest (shown_judge e a m next) next) → ReadsOutIf r left rest
+shown_out e a m r old new left rest says = said_out r old new left rest (shown_judge e a m never) never (shown_refuses e a m never never_refuses) (says never)
 
-pub tick_out : (i k : ℕ) (r : Result (Option Finding) Failed) (old new : Trial) (left rest : Option (List ℕ)) → TicksSay r old new left rest i k → ReadsOutIf r left rest
+pub tick_out : (i k : ℕ) (r : Result (Option Outcome) Failed) (old new : Verifier) (left rest : Option (List ℕ)) → TicksSay r old new left rest i k → ReadsOutIf r left rest
 tick_out i k (Ok o) old new left rest says =
     let b = block_at old.judge.plain.place in
-    said_out (Ok o) old.hearing new.hearing left rest (led (ticked (walk_of old.judge b 0) i k) (λ w. never)) never
+    said_out (Ok o) old.reader new.reader left rest (led (ticked (walk_of old.judge b 0) i k) (λ w. never)) never
     (led_refuses (ticked (walk_of old.judge b 0) i k) (λ w. never) (λ w. never_refuses)) (says b 0 (λ w. never))
 tick_out i k (Err e) old new left rest says = tt
 
-pub turns_out : (n q : ℕ) (r : Result (Option Finding) Failed) (old new : Trial) (left rest : Option (List ℕ)) → TurnsSay r old new left rest n q → ReadsOutIf r left rest
+pub turns_out : (n q : ℕ) (r : Result (Option Outcome) Failed) (old new : Verifier) (left rest : Option (List ℕ)) → TurnsSay r old new left rest n q → ReadsOutIf r left rest
 turns_out n q (Ok o) old new left rest says =
     let b = block_at old.judge.plain.place in
-    said_out (Ok o) old.hearing new.hearing left rest (turned n q (walk_of old.judge b 0) old.last (λ w s. never)) never
+    said_out (Ok o) old.reader new.reader left rest (turned n q (walk_of old.judge b 0) old.last (λ w s. never)) never
     (turned_refuses n q (walk_of old.judge b 0) old.last (λ w s. never) (λ w s. never_refuses)) (says b 0 (λ w s. never))
 turns_out n q (Err e) old new left rest says = tt
 
 -- what was read before, if it went on
-pub out_behind : (f : Finding) (left mid rest : Option (List ℕ)) → (IsTold left → IsTold mid) → ReadsOut f mid rest → ReadsOut f left rest
-out_behind (findings.Yes n) None mid rest t out = tt
-out_behind (findings.Yes n) (Some bytes) None rest t out = absurd (t tt)
-out_behind (findings.Yes n) (Some bytes) (Some xs) rest t out = out
+pub out_behind : (f : Outcome) (left mid rest : Option (List ℕ)) → (IsTold left → IsTold mid) → ReadsOut f mid rest → ReadsOut f left rest
+out_behind (outcomes.Yes n) None mid rest t out = tt
+out_behind (outcomes.Yes n) (Some bytes) None rest t out = absurd (t tt)
+out_behind (outcomes.Yes n) (Some bytes) (Some xs) rest t out = out
 out_behind f left mid rest t out = tt
 
-pub out_if_behind : (r : Result (Option Finding) Failed) (left mid rest : Option (List ℕ)) → (IsTold left → IsTold mid) → ReadsOutIf r mid rest → ReadsOutIf r left rest
+pub out_if_behind : (r : Result (Option Outcome) Failed) (left mid rest : Option (List ℕ)) → (IsTold left → IsTold mid) → ReadsOutIf r mid rest → ReadsOutIf r left rest
 out_if_behind (Ok None) left mid rest t out = tt
 out_if_behind (Ok (Some f)) left mid rest t out = out_behind f left mid rest t out
 out_if_behind (Err e) left mid rest t out = tt
 
-pub out_ok_behind : (r : Result Finding Failed) (left mid rest : Option (List ℕ)) → (IsTold left → IsTold mid) → IfOk r (λ f. ReadsOut f mid rest) → IfOk r (λ f. ReadsOut f left rest)
+pub out_ok_behind : (r : Result Outcome Failed) (left mid rest : Option (List ℕ)) → (IsTold left → IsTold mid) → IfOk r (λ f. ReadsOut f mid rest) → IfOk r (λ f. ReadsOut f left rest)
 out_ok_behind (Ok f) left mid rest t out = out_behind f left mid rest t out
 out_ok_behind (Err e) left mid rest t out = tt
 
-pub told_by : (r : Result (Option Finding) Failed) (e : Event) (old mid : Trial) (left between : Option (List ℕ)) (n : ℕ) → r ≡ Ok None → LineSays r old mid left between n e
+pub told_by : (r : Result (Option Outcome) Failed) (e : Event) (old mid : Verifier) (left between : Option (List ℕ)) (n : ℕ) → r ≡ Ok None → LineSays r old mid left between n e
     → IsTold left → IsTold between
 told_by r e old mid left between n is line t =
     let led = subst (λ q. LineSays q old mid left between n e) is line (block_at old.judge.plain.place) (speaks_at old.judge.plain.place) in
-    (led.goes (λ w. at_end) t).1
+    (led.goes (λ w. at_end) t).0
 
-pub gone_out : (r : Result (Option Finding) Failed) (f : Finding) (old now : Trial) (judge : Judge) (items : Items) (session left mid rest : Option (List ℕ)) → r ≡ Ok (Some f)
+pub gone_out : (r : Result (Option Outcome) Failed) (f : Outcome) (old now : Verifier) (judge : Judge) (items : Items) (session left mid rest : Option (List ℕ)) → r ≡ Ok (Some f)
     → GoneSo old now judge items session left mid → ReadsOutIf r mid rest → ReadsOut f left rest
-gone_out r f old now judge items session left mid rest is so out = out_behind f left mid rest (λ t. (so.goes t).1) (subst (λ x. ReadsOutIf x mid rest) is out)
+gone_out r f old now judge items session left mid rest is so out = out_behind f left mid rest (λ t. (so.goes t).0) (subst (λ x. ReadsOutIf x mid rest) is out)
 
 -- a session was read before
-pub kept_out : {E : Type 0} (r : Result Finding E) (old new : Texts) (session : List ℕ) (left mid rest : Option (List ℕ)) → Keeps (Ok Session) old new session left mid
+pub kept_out : {E : Type 0} (r : Result Outcome E) (old new : Texts) (session : List ℕ) (left mid rest : Option (List ℕ)) → Keeps (Ok Session) old new session left mid
     → IfOk r (λ f. ReadsOut f mid rest) → IfOk r (λ f. ReadsOut f left rest)
 kept_out (Ok f) old new session left mid rest keeps out = out_behind f left mid rest (λ t. (keeps t).1) out
 kept_out (Err e) old new session left mid rest keeps out = tt

@@ -1,17 +1,17 @@
 -- The input in two parts: together they are the whole input; and a session with its END line, and a transcript after
 -- it, are those parts.
-use Rattle.std.proofs.Common.{◌≡◌, ◌≤◌, ◌+◌, ◌-◌, ℕ, false, ltb, List, [], ◌∷◌, ◌++◌, length, refl, sym, ap, subst, ◌∙◌, inl, inr, arith, append_assoc}
-use Rattle.std.proofs.lemmas.Bool.{cases_Bool}
-use Rattle.std.specs.List.{AllByRecursion, concat}
+use Rattle.std.proofs.Common.{◌≡◌, ◌≤◌, ◌+◌, ◌-◌, ℕ, true, false, ltb, List, [], ◌∷◌, ◌++◌, length, refl, sym, ap, subst, ◌∙◌, inl, inr, arith, append_assoc}
+use Rattle.std.proofs.lemmas.Bool.{cases_Bool, false≢true}
+use Rattle.std.specs.List.{AllByRecursion, concat, list_any}
 use Rattle.its_print.specs.Printing.{Line, text}
 use Rattle.its_print.specs.Sizes.{IsPrinted}
 use Rattle.its_session.specs.Events.{events_of, most_lines}
 use Rattle.its_plain.specs.Transcript.{Fate, Transcript}
 use Rattle.its_reader.specs.TextLines.{before_lf, lines_in}
-use Rattle.its_verify.specs.Verified.{Judged, Parts, Both, LongLine, TooMany, is_end_line, most_session_bytes, parts_from, verified}
+use Rattle.its_verify.specs.Verified.{IsYes, Judged, Parts, Both, LongLine, TooMany, by_parts, is_end_line, most_session_bytes, parts_from, verified}
 use Rattle.its_verify.specs.Judge.{Yes}
 use Rattle.its_verify.proofs.BoundedLaws.{has_yes}
-use Rattle.its_verify.proofs.LinesLaws.{AllWhole, concat_lines, first_line}
+use Rattle.its_verify.proofs.LinesLaws.{AllWhole, concat_lines, first_line, none_left}
 use Rattle.its_verify.proofs.PrintedLaws.{text_lines}
 use Rattle.its_verify.proofs.VerdictLaws.{lines_accepted, written_accepted}
 
@@ -62,8 +62,59 @@ behind n session [] more = tt
 behind n session (line ∷ lines) more =
     each_way (Behind more) n session line lines (lines ++ more) tt tt (λ few. at_end_line (session ++ line) n lines more) (behind (n + 1) (session ++ line) lines more)
 
+-- a session of so many lines, and other lines in the place of those after it
+abbrev AtLeast : ℕ → Parts → Type 0
+AtLeast n (Both session count texts) = n ≤ count
+AtLeast n _ = Unit {0}
+
+at_least : (n : ℕ) (session : List ℕ) (lines : List (List ℕ)) → AtLeast n (parts_from n session lines)
+at_least n session [] = tt
+at_least n session (line ∷ lines) =
+    each_way (λ p q. AtLeast n p) n session line lines lines tt tt (λ few. omega arith) (sooner (parts_from (n + 1) (session ++ line) lines) (at_least (n + 1) (session ++ line) lines))
+  where
+    sooner : (p : Parts) → AtLeast (n + 1) p → AtLeast n p
+    sooner (Both s count texts) h = omega (arith, h)
+    sooner _ h = tt
+
+abbrev Moved : ℕ → List (List ℕ) → Parts → Parts → Type 0
+Moved k others (Both session count texts) p = count ≡ k → p ≡ Both session count others
+Moved k others _ p = Unit {0}
+
+no_line : (n k : ℕ) (others : List (List ℕ)) (p q : Parts) → AtLeast n p → k + 1 ≡ n + 0 → Moved k others p q
+no_line n k others (Both s c ts) q most count = λ is. absurd (omega (arith, most, is, count))
+no_line n k others _ q most count = tt
+
+moved : (n k : ℕ) (session : List ℕ) (lines texts others : List (List ℕ)) → k + 1 ≡ n + length lines → Moved k others (parts_from n session (lines ++ texts)) (parts_from n session (lines ++ others))
+moved n k session [] texts others count = no_line n k others (parts_from n session texts) (parts_from n session others) (at_least n session texts) count
+moved n k session (line ∷ lines) texts others count =
+    each_way (Moved k others) n session line (lines ++ texts) (lines ++ others) tt tt
+    (λ few is. ap (λ (ls : List (List ℕ)). Both (session ++ line) n (ls ++ others)) (none_left lines (omega (arith, is, count))))
+    (moved (n + 1) k (session ++ line) lines texts others (omega (arith, count)))
+
+pub other_transcript : (k : ℕ) (session : List ℕ) (lines texts others : List (List ℕ)) → k ≡ length lines → parts_from 1 [] (lines ++ texts) ≡ Both session k texts
+    → parts_from 1 [] (lines ++ others) ≡ Both session k others
+other_transcript k session lines texts others count is =
+    subst (λ (p : Parts). Moved k others p (parts_from 1 [] (lines ++ others))) is (moved 1 k [] lines texts others (omega (arith, count))) refl
+
+-- lines none of which is an END line are no session
+pub no_session : (n : ℕ) (session : List ℕ) (lines : List (List ℕ)) → list_any is_end_line lines ≡ false → IsYes (by_parts (parts_from n session lines)) → ⊥
+no_session n session [] none = λ said. said
+no_session n session (line ∷ lines) none =
+    elim (cases_Bool (ltb most_lines n)) [
+      | inl past ↦ rw past (λ said. said)
+      | inr few ↦
+          elim (cases_Bool (ltb most_session_bytes (length (before_lf line)))) [
+            | inl longer ↦ rw (few, longer) (λ said. said)
+            | inr short ↦
+                elim (cases_Bool (is_end_line line)) [
+                  | inl last ↦ (let some : list_any is_end_line (line ∷ lines) ≡ true = rw last refl in absurd (false≢true (sym none ∙ some)))
+                  | inr other ↦ (let more : list_any is_end_line lines ≡ false = rw other at none in rw (few, short, other) (no_session (n + 1) (session ++ line) lines more))
+                ]
+          ]
+    ]
+
 -- the lines of bytes whose lines all have their LF, and of bytes after them
-lines_behind : (texts : List (List ℕ)) (rest : List ℕ) → AllWhole texts → lines_in (concat texts ++ rest) ≡ texts ++ lines_in rest
+pub lines_behind : (texts : List (List ℕ)) (rest : List ℕ) → AllWhole texts → lines_in (concat texts ++ rest) ≡ texts ++ lines_in rest
 lines_behind [] rest h = refl
 lines_behind (text ∷ texts) rest h =
     rw (append_assoc text (concat texts) rest) (first_line text (concat texts ++ rest) h.0 ∙ ap (λ ts. text ∷ ts) (lines_behind texts rest h.1))

@@ -14,9 +14,9 @@ use Rattle.its_direct.specs.Plain.{machine_of}
 use Rattle.its_direct.specs.Series.{Series}
 use Rattle.its_direct.specs.declared.plain.Plain.{Plain}
 use Rattle.its_verify.specs.Letters.{paced}
-use Rattle.its_verify.specs.Standing.{RunLed, dots_of, walk_of}
+use Rattle.its_verify.specs.JudgeState.{RunLed, dots_of, walk_of}
 use Rattle.its_verify.specs.declared.judge.Judge.{Judge}
-use Rattle.its_verify.proofs.StandingLaws.{disturbed_is, makes_is, same_dots, step_is}
+use Rattle.its_verify.proofs.JudgeStateLaws.{disturbed_is, makes_is, same_dots, step_is}
 
 -- none came for slot i, as after one or more `*` of it
 abbrev cleared : Dots → ℕ → Dots

@@ -1,4 +1,4 @@
--- Lines that an event shows, which are printed and then heard.
+-- Lines that an event shows, which are printed and then expected.
 use Rattle.std.proofs.Common.{◌≡◌, ◌<◌, ◌≤◌, ◌+◌, ◌*◌, ◌/◌, ◌%◌, ◌-◌, ◌^◌, ℕ, suc, Option, Some, None, Result, Ok, Err, IsOk, IfOk, IfSome, List, [], ◌∷◌, length, map, take, drop, min, slice_index_or, refl, add-one, sym, ap, subst, ◌∙◌, inl, inr, arith}
 use Rattle.std.proofs.Math.Seq.{drop-cons}
 use Rattle.std.proofs.Math.ListN.{drop_of_length-le}
@@ -23,14 +23,12 @@ use Rattle.its_plain.specs.OperatorFiles.{file_shown, filed_line, listing, rows,
 use Rattle.its_plain.specs.OperatorLines.{in_a_line}
 use Rattle.its_direct.specs.Plain.{machine_of}
 use Rattle.its_direct.specs.declared.plain.Plain.{Plain}
-use Rattle.its_verify.specs.Sources.{texts_of}
-use Rattle.its_verify.specs.Verified.{Answer}
-use Rattle.its_verify.specs.Hearing.{Forward, Heard, Says, Stays, cut, same_as}
-use Rattle.its_verify.proofs.HearingLaws.{fails_then, led_forward, nothing_on, passed_none, passed_then}
+use Rattle.its_verify.specs.TranscriptReader.{Forward, AtLine, Says, Stays, same_as}
+use Rattle.its_verify.proofs.TranscriptReaderLaws.{led_forward, nothing_on, says_then}
 use Rattle.its_verify.specs.Judge.{Judge, led, saying, expects}
 use Rattle.its_verify.specs.Showing.{BitsSo, LinesSo, names_line, shown_if, text_lines}
-use Rattle.its_verify.specs.declared.finding.Finding.{Finding}
-use Rattle.its_verify.specs.declared.hearing.Hearing.{Hearing}
+use Rattle.its_verify.specs.declared.outcome.Outcome.{Outcome}
+use Rattle.its_verify.specs.declared.transcript_reader.TranscriptReader.{TranscriptReader}
 
 -- one line
 pub printed_short : (l : Line) (xs : List ℕ) → xs ≡ text_of_line l → IsPrinted l → length xs ≤ 1543
@@ -66,23 +64,23 @@ names_short d x y k xs is count = printed_short (Shown d x y k) xs is count
 pub row_short : (ws xs : List ℕ) → xs ≡ text_of_line (Row ws) → length ws ≤ 8 → length xs ≤ 1543
 row_short ws xs is few = printed_short (Row ws) xs is few
 
-pub printed_says : (l : Line) (xs : List ℕ) (o : Result (Option Finding) Failed) (old new : Hearing) (left rest : Option (List ℕ)) → xs ≡ text_of_line l → saying l ≡ same_as (text_of_line l)
+pub printed_says : (l : Line) (xs : List ℕ) (o : Result (Option Outcome) Failed) (old new : TranscriptReader) (left rest : Option (List ℕ)) → xs ≡ text_of_line l → saying l ≡ same_as (text_of_line l)
     → ((next : Judge) → Says o old new left rest (led (same_as xs) (λ t. next)) next) → (next : Judge) → Says o old new left rest (expects (l ∷ []) next) next
 printed_says l xs o old new left rest is same says next =
     subst (λ (f : List ℕ → Option (List ℕ)). Says o old new left rest (led f (λ t. next)) next) (ap same_as is ∙ sym same) (says next)
 
 -- lines that show a value that is there
-pub shown_says : {X E : Type 0} (show : X → List Line) (r : Result X E) (x : X) (o : Result (Option Finding) Failed) (old new : Hearing) (left rest : Option (List ℕ)) → IsOk r → IfOk r (λ y. x ≡ y)
+pub shown_says : {X E : Type 0} (show : X → List Line) (r : Result X E) (x : X) (o : Result (Option Outcome) Failed) (old new : TranscriptReader) (left rest : Option (List ℕ)) → IsOk r → IfOk r (λ y. x ≡ y)
     → ((next : Judge) → Says o old new left rest (expects (show x) next) next) → (next : Judge) → Says o old new left rest (expects (shown_if show r) next) next
 shown_says show (Ok y) x o old new left rest there is says next = subst (λ z. Says o old new left rest (expects (show z) next) next) is (says next)
 shown_says show (Err e) x o old new left rest there is says next = absurd (false≢true there)
 
-pub words_say : (s a : ℕ) (r : Result (List ℕ) Reason) (ws : List ℕ) (o : Result (Option Finding) Failed) (old new : Hearing) (left rest : Option (List ℕ)) → IsOk r → IfOk r (λ y. ws ≡ y)
+pub words_say : (s a : ℕ) (r : Result (List ℕ) Reason) (ws : List ℕ) (o : Result (Option Outcome) Failed) (old new : TranscriptReader) (left rest : Option (List ℕ)) → IsOk r → IfOk r (λ y. ws ≡ y)
     → ((next : Judge) → Says o old new left rest (expects (in_a_line s a ws) next) next)
     → (next : Judge) → Says o old new left rest (expects (shown_if (in_a_line s a) r) next) next
 words_say s a r ws o old new left rest there is says = shown_says (in_a_line s a) r ws o old new left rest there is says
 
-pub list_says : (s a : ℕ) (r : Result (List ℕ) Reason) (ws : List ℕ) (o : Result (Option Finding) Failed) (old new : Hearing) (left rest : Option (List ℕ)) → IsOk r → IfOk r (λ y. ws ≡ y)
+pub list_says : (s a : ℕ) (r : Result (List ℕ) Reason) (ws : List ℕ) (o : Result (Option Outcome) Failed) (old new : TranscriptReader) (left rest : Option (List ℕ)) → IsOk r → IfOk r (λ y. ws ≡ y)
     → ((next : Judge) → Says o old new left rest (expects (listed s a ws) next) next)
     → (next : Judge) → Says o old new left rest (expects (shown_if (listed s a) r) next) next
 list_says s a r ws o old new left rest there is says = shown_says (listed s a) r ws o old new left rest there is says
@@ -92,47 +90,40 @@ pub lines_forward : (lines : List Line) (next : Judge) → Forward next → Forw
 lines_forward [] next h = h
 lines_forward (line ∷ lines) next h = led_forward (saying line) (λ text. expects lines next) (λ text. lines_forward lines next h)
 
-pub lines_start : (h : Hearing) (left : Option (List ℕ)) (lines : List Line) → LinesSo h h left left lines lines
-lines_start h left lines next t = (refl, t, passed_none h left)
+pub lines_start : (h : TranscriptReader) (left : Option (List ℕ)) (lines : List Line) → LinesSo h h left left lines lines
+lines_start h left lines next = nothing_on h left (expects lines next)
 
-pub lines_next : (r : Result (Option Finding) Failed) (old now new : Hearing) (left mid rest : Option (List ℕ)) (lines rests more : List Line) (l : Line) → r ≡ Ok None → rests ≡ l ∷ more → LinesSo old now left mid lines rests
+lines_then : (r o : Result (Option Outcome) Failed) (old now new : TranscriptReader) (left mid rest : Option (List ℕ)) (lines rests more : List Line) (l : Line) → r ≡ o → rests ≡ l ∷ more → LinesSo old now left mid lines rests
+    → ((next : Judge) → Says r now new mid rest (expects (l ∷ []) next) next) → (next : Judge) → Says o old new left rest (expects lines next) (expects more next)
+lines_then r o old now new left mid rest lines rests more l is split so says next =
+    says_then o old now new left mid rest (expects lines next) (expects (l ∷ more) next) (expects more next) (subst (LinesSo old now left mid lines) split so next)
+    (subst (λ q. Says q now new mid rest (expects (l ∷ []) (expects more next)) (expects more next)) is (says (expects more next)))
+
+pub lines_next : (r : Result (Option Outcome) Failed) (old now new : TranscriptReader) (left mid rest : Option (List ℕ)) (lines rests more : List Line) (l : Line) → r ≡ Ok None → rests ≡ l ∷ more → LinesSo old now left mid lines rests
     → ((next : Judge) → Says r now new mid rest (expects (l ∷ []) next) next) → LinesSo old new left rest lines more
-lines_next (Ok None) old now new left mid rest lines rests more l is split so says next =
-    λ t. (let here = subst (LinesSo old now left mid lines) split so next t in let on = says (expects more next) here.1 in (here.0 ∙ on.0, on.1, passed_then old now new left mid rest here.2 on.2))
-lines_next (Ok (Some f)) old now new left mid rest lines rests more l is split so says next = cc
-lines_next (Err e) old now new left mid rest lines rests more l is split so says next = cc
+lines_next r old now new left mid rest lines rests more l is split so says next = lines_then r (Ok None) old now new left mid rest lines rests more l is split so says next
 
-pub lines_stop : (r : Result (Option Finding) Failed) (f : Finding) (old now new : Hearing) (left mid rest : Option (List ℕ)) (lines rests more : List Line) (l : Line) → r ≡ Ok (Some f) → rests ≡ l ∷ more → LinesSo old now left mid lines rests
+pub lines_stop : (r : Result (Option Outcome) Failed) (f : Outcome) (old now new : TranscriptReader) (left mid rest : Option (List ℕ)) (lines rests more : List Line) (l : Line) → r ≡ Ok (Some f) → rests ≡ l ∷ more → LinesSo old now left mid lines rests
     → ((next : Judge) → Says r now new mid rest (expects (l ∷ []) next) next) → (next : Judge) → Says (Ok (Some f)) old new left rest (expects lines next) next
-lines_stop r f old now new left mid rest lines rests more l is split so says next t =
-    let here = subst (LinesSo old now left mid lines) split so next t in
-    let stop = subst (λ q. Says q now new mid rest (expects (l ∷ []) (expects more next)) (expects more next)) is (says (expects more next)) in
-    here.0 ∙ stop here.1
+lines_stop r f old now new left mid rest lines rests more l is split so says next = lines_then r (Ok (Some f)) old now new left mid rest lines rests more l is split so says next
 
-pub lines_fail : (r : Result (Option Finding) Failed) (e : Failed) (old now new : Hearing) (left mid rest : Option (List ℕ)) (lines rests more : List Line) (l : Line) → r ≡ Err e → rests ≡ l ∷ more → LinesSo old now left mid lines rests
+pub lines_fail : (r : Result (Option Outcome) Failed) (e : Failed) (old now new : TranscriptReader) (left mid rest : Option (List ℕ)) (lines rests more : List Line) (l : Line) → r ≡ Err e → rests ≡ l ∷ more → LinesSo old now left mid lines rests
     → ((next : Judge) → Says r now new mid rest (expects (l ∷ []) next) next) → (next : Judge) → Says (Err e) old new left rest (expects lines next) next
-lines_fail r e old now new left mid rest lines rests more l is split so says next forward t =
-    let here = subst (LinesSo old now left mid lines) split so next t in
-    let fails = subst (λ q. Says q now new mid rest (expects (l ∷ []) (expects more next)) (expects more next)) is (says (expects more next)) in
-    fails_then old now left mid rest (expects lines next) (expects (l ∷ more) next) here.0 here.2 (fails (lines_forward more next forward) here.1)
+lines_fail r e old now new left mid rest lines rests more l is split so says next forward =
+    lines_then r (Err e) old now new left mid rest lines rests more l is split so says next (lines_forward more next forward)
 
-pub lines_end : (old now : Hearing) (left rest : Option (List ℕ)) (lines more : List Line) → more ≡ [] → LinesSo old now left rest lines more → (next : Judge) → Says (Ok None) old now left rest (expects lines next) next
-lines_end old now left rest lines more none so next t =
-    let here = so next t in
-    (here.0 ∙ ap (λ (ls : List Line). cut_of ls) none, here.1, here.2)
-  where
-    cut_of : List Line → Answer
-    cut_of ls = cut now.room now.passed (expects ls next) (texts_of now.texts rest)
+pub lines_end : (old now : TranscriptReader) (left rest : Option (List ℕ)) (lines more : List Line) → more ≡ [] → LinesSo old now left rest lines more → (next : Judge) → Says (Ok None) old now left rest (expects lines next) next
+lines_end old now left rest lines more none so next = subst (LinesSo old now left rest lines) none so next
 
-pub heard_by : (r : Result (Option Finding) Failed) (new : Hearing) (rest : Option (List ℕ)) → r ≡ Ok None → Stays r new rest → Heard new rest
-heard_by r new rest is h = subst (λ q. Stays q new rest) is h
+pub at_line_by : (r : Result (Option Outcome) Failed) (new : TranscriptReader) (rest : Option (List ℕ)) → r ≡ Ok None → Stays r new rest → AtLine new rest
+at_line_by r new rest is h = subst (λ q. Stays q new rest) is h
 
 -- a line for each of some words
 pub listed_more : (s p k : ℕ) (ws : List ℕ) (w : ℕ) → k < length ws → w ≡ slice_index_or ws k w → listed s p (drop k ws) ≡ Listed s p w ∷ listed s (p + 1) (drop (k + 1) ws)
 listed_more s p k ws w below at = rw (drop-cons ws k w below, add-one k, sym at) refl
 
 -- a job
-pub state_says : (v w s : ℕ) (r : Result JobShow Reason) (x : JobShow) (o : Result (Option Finding) Failed) (old new : Hearing) (left rest : Option (List ℕ)) → IsOk r → IfOk r (λ y. Some x ≡ Some y) → w ≡ v
+pub state_says : (v w s : ℕ) (r : Result JobShow Reason) (x : JobShow) (o : Result (Option Outcome) Failed) (old new : TranscriptReader) (left rest : Option (List ℕ)) → IsOk r → IfOk r (λ y. Some x ≡ Some y) → w ≡ v
     → ((next : Judge) → Says o old new left rest (expects (State w s x ∷ []) next) next)
     → (next : Judge) → Says o old new left rest (expects (shown_if (λ show. State v s show ∷ []) r) next) next
 state_says v w s (Ok y) x o old new left rest there is same says next =
@@ -145,38 +136,32 @@ unfolding machine_of
 version_is p = refl
 
 -- files
-pub filed_says : (f : File) (show : FileShow) (o : Result (Option Finding) Failed) (old new : Hearing) (left rest : Option (List ℕ)) → show ≡ show_of f
+pub filed_says : (f : File) (show : FileShow) (o : Result (Option Outcome) Failed) (old new : TranscriptReader) (left rest : Option (List ℕ)) → show ≡ show_of f
     → ((next : Judge) → Says o old new left rest (expects (Filed show ∷ []) next) next) → (next : Judge) → Says o old new left rest (expects (filed_line f ∷ []) next) next
 filed_says f show o old new left rest is says next = subst (λ (x : FileShow). Says o old new left rest (expects (Filed x ∷ []) next) next) is (says next)
 
-pub row_says : (ws row : List ℕ) (o : Result (Option Finding) Failed) (old new : Hearing) (left rest : Option (List ℕ)) → row ≡ ws
+pub row_says : (ws row : List ℕ) (o : Result (Option Outcome) Failed) (old new : TranscriptReader) (left rest : Option (List ℕ)) → row ≡ ws
     → ((next : Judge) → Says o old new left rest (expects (Row row ∷ []) next) next) → (next : Judge) → Says o old new left rest (expects (Row ws ∷ []) next) next
 row_says ws row o old new left rest is says next = subst (λ (x : List ℕ). Says o old new left rest (expects (Row x ∷ []) next) next) is (says next)
 
 -- two parts of what is shown
-pub then_says : (r o : Result (Option Finding) Failed) (old mid new : Hearing) (left between rest : Option (List ℕ)) (l : Line) (lines : List Line) → r ≡ Ok None
+pub then_says : (r o : Result (Option Outcome) Failed) (old mid new : TranscriptReader) (left between rest : Option (List ℕ)) (l : Line) (lines : List Line) → r ≡ Ok None
     → ((next : Judge) → Says r old mid left between (expects (l ∷ []) next) next) → ((next : Judge) → Says o mid new between rest (expects lines next) next)
     → (next : Judge) → Says o old new left rest (expects (l ∷ lines) next) next
-then_says r (Ok None) old mid new left between rest l lines is first more next = λ t.
-    (let here = subst (λ q. Says q old mid left between (expects (l ∷ []) (expects lines next)) (expects lines next)) is (first (expects lines next)) t in
-    let on = more next here.1 in (here.0 ∙ on.0, on.1, passed_then old mid new left between rest here.2 on.2))
-then_says r (Ok (Some f)) old mid new left between rest l lines is first more next = λ t.
-    (let here = subst (λ q. Says q old mid left between (expects (l ∷ []) (expects lines next)) (expects lines next)) is (first (expects lines next)) t in
-    here.0 ∙ more next here.1)
-then_says r (Err e) old mid new left between rest l lines is first more next = λ forward t.
-    (let here = subst (λ q. Says q old mid left between (expects (l ∷ []) (expects lines next)) (expects lines next)) is (first (expects lines next)) t in
-    fails_then old mid left between rest (expects (l ∷ lines) next) (expects lines next) here.0 here.2 (more next forward here.1))
+then_says r o old mid new left between rest l lines is first more next =
+    says_then o old mid new left between rest (expects (l ∷ lines) next) (expects lines next) next
+    (subst (λ q. Says q old mid left between (expects (l ∷ []) (expects lines next)) (expects lines next)) is (first (expects lines next))) (more next)
 
-pub stop_says : (r : Result (Option Finding) Failed) (f : Finding) (old new : Hearing) (left rest : Option (List ℕ)) (l : Line) (lines : List Line) → r ≡ Ok (Some f)
+pub stop_says : (r : Result (Option Outcome) Failed) (f : Outcome) (old new : TranscriptReader) (left rest : Option (List ℕ)) (l : Line) (lines : List Line) → r ≡ Ok (Some f)
     → ((next : Judge) → Says r old new left rest (expects (l ∷ []) next) next) → (next : Judge) → Says (Ok (Some f)) old new left rest (expects (l ∷ lines) next) next
 stop_says r f old new left rest l lines is first next = subst (λ q. Says q old new left rest (expects (l ∷ []) (expects lines next)) (expects lines next)) is (first (expects lines next))
 
-pub fail_says : (r : Result (Option Finding) Failed) (e : Failed) (old new : Hearing) (left rest : Option (List ℕ)) (l : Line) (lines : List Line) → r ≡ Err e
+pub fail_says : (r : Result (Option Outcome) Failed) (e : Failed) (old new : TranscriptReader) (left rest : Option (List ℕ)) (l : Line) (lines : List Line) → r ≡ Err e
     → ((next : Judge) → Says r old new left rest (expects (l ∷ []) next) next) → (next : Judge) → Says (Err e) old new left rest (expects (l ∷ lines) next) next
 fail_says r e old new left rest l lines is first next forward =
     subst (λ q. Says q old new left rest (expects (l ∷ []) (expects lines next)) (expects lines next)) is (first (expects lines next)) (lines_forward lines next forward)
 
-pub same_says : (o : Result (Option Finding) Failed) (old new : Hearing) (left rest : Option (List ℕ)) (lines more : List Line) → lines ≡ more
+pub same_says : (o : Result (Option Outcome) Failed) (old new : TranscriptReader) (left rest : Option (List ℕ)) (lines more : List Line) → lines ≡ more
     → ((next : Judge) → Says o old new left rest (expects lines next) next) → (next : Judge) → Says o old new left rest (expects more next) next
 same_says o old new left rest lines more is says next = subst (λ (ls : List Line). Says o old new left rest (expects ls next) next) is (says next)
 
@@ -243,7 +228,7 @@ pub no_file_is : (m : Machine) (d x y : ℕ) → None ≡ file_named (names_of d
 unfolding file_shown
 no_file_is m d x y is = ap (λ (o : Option File). shown_if (λ out. out) (shown_by d x y o)) is
 
-pub nothing_says : (h : Hearing) (left : Option (List ℕ)) (lines : List Line) → [] ≡ lines → (next : Judge) → Says (Ok None) h h left left (expects lines next) next
+pub nothing_says : (h : TranscriptReader) (left : Option (List ℕ)) (lines : List Line) → [] ≡ lines → (next : Judge) → Says (Ok None) h h left left (expects lines next) next
 nothing_says h left lines is next = subst (λ (ls : List Line). Says (Ok None) h h left left (expects ls next) next) is (nothing_on h left next)
 
 -- slots

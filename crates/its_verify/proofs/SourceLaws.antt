@@ -81,7 +81,7 @@ went_line old new left rest r ready number t = record {
 pub went_none : (r : Texts) (left : Option (List ℕ)) → Went [] r r left left
 went_none r left = record { bytes = refl; number = omega arith; over = λ e. e; whole = λ on. refl }
 
-still_open : (b c : Bool) → (b ≡ true → c ≡ true) → c ≡ false → b ≡ false
+pub still_open : (b c : Bool) → (b ≡ true → c ≡ true) → c ≡ false → b ≡ false
 still_open true c over on = absurd (false≢true (sym on ∙ over refl))
 still_open false c over on = refl
 

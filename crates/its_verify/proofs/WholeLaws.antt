@@ -4,7 +4,7 @@ use Rattle.its_session.specs.Events.{events_of, most_lines}
 use Rattle.its_reader.specs.TextLines.{lines_in}
 use Rattle.its_plain.specs.Transcript.{at_start}
 use Rattle.its_plain.specs.Turns.{highest}
-use Rattle.its_verify.specs.Hearing.{cut}
+use Rattle.its_verify.specs.TranscriptReader.{cut}
 use Rattle.its_verify.specs.Judge.{Judge, judged}
 use Rattle.its_verify.specs.Verified.{Both, LongLine, NoEnd, TooMany, Judged, Long, Cut, TooLong, bounded, within, by_parts, parts_from, verified}
 

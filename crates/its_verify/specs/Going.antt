@@ -1,4 +1,4 @@
--- The effect of a line of a session, and of any of its items, in a trial.
+-- The effect of a line of a session, and of any of its items, on a verifier.
 -- No promise rests on this.
 use Rattle.std.specs.Prelude.{◌≡◌, ℕ, ◌+◌, Bool, true, false, Option, Some, None, Result, Ok, Err, List, [], ◌∷◌}
 use Rattle.its_io.specs.declared.stream.Failed.{Failed}
@@ -17,37 +17,37 @@ use Rattle.its_plain.specs.OperatorLines.{lined}
 use Rattle.its_plain.specs.Transcript.{Walk}
 use Rattle.its_direct.specs.Plain.{machine_of}
 use Rattle.its_direct.specs.Events.{MayStand, Speaks}
-use Rattle.its_verify.specs.Hearing.{Concludes, Failing, Forward, HearsOn}
+use Rattle.its_verify.specs.TranscriptReader.{Concludes, Failing, Forward, PassesOn}
 use Rattle.its_verify.specs.Judge.{Judge, gone, judged}
 use Rattle.its_verify.specs.Sources.{IsTold, items_of}
-use Rattle.its_verify.specs.Standing.{walk_of}
-use Rattle.its_verify.specs.declared.finding.Finding.{Finding}
-use Rattle.its_verify.specs.declared.hearing.Hearing.{Hearing}
-use Rattle.its_verify.specs.declared.trial.Trial.{Trial}
+use Rattle.its_verify.specs.JudgeState.{walk_of}
+use Rattle.its_verify.specs.declared.outcome.Outcome.{Outcome}
+use Rattle.its_verify.specs.declared.transcript_reader.TranscriptReader.{TranscriptReader}
+use Rattle.its_verify.specs.declared.verifier.Verifier.{Verifier}
 
 -- what the judge says of line n, event e, in block b, and how it goes on
-abbrev pub line_judge : Trial → Block → ℕ → Event → (Walk → Judge) → Judge
+abbrev pub line_judge : Verifier → Block → ℕ → Event → (Walk → Judge) → Judge
 line_judge t b n e next = gone (walk_of t.judge b n) (lined (machine_of t.judge.plain) b e) next
 
 -- the line led on, to the next block
-pub record LedOn (old new : Trial) (left rest : Option (List ℕ)) (b : Block) (n : ℕ) (e : Event) : Type 0 where
+pub record LedOn (old new : Verifier) (left rest : Option (List ℕ)) (b : Block) (n : ℕ) (e : Event) : Type 0 where
   pub after : Block
   pub speaks : Speaks new.judge.plain.place after
   pub goes : (next : Walk → Judge)
-      → HearsOn old.hearing new.hearing left rest (line_judge old b n e next) (next (walk_of new.judge after (n + 1)))
+      → PassesOn old.reader new.reader left rest (line_judge old b n e next) (next (walk_of new.judge after (n + 1)))
 
 -- line n led on, or all is said
-abbrev pub LineSays : Result (Option Finding) Failed → Trial → Trial → Option (List ℕ) → Option (List ℕ) → ℕ → Event → Type 0
+abbrev pub LineSays : Result (Option Outcome) Failed → Verifier → Verifier → Option (List ℕ) → Option (List ℕ) → ℕ → Event → Type 0
 LineSays (Ok None) old new left rest n e = (b : Block) → Speaks old.judge.plain.place b → LedOn old new left rest b n e
 LineSays (Ok (Some f)) old new left rest n e =
     (b : Block) → Speaks old.judge.plain.place b
-    → (next : Walk → Judge) → Concludes (Ok f) old.hearing left rest (line_judge old b n e next)
+    → (next : Walk → Judge) → Concludes (Ok f) old.reader left rest (line_judge old b n e next)
 LineSays (Err x) old new left rest n e =
     (b : Block) → Speaks old.judge.plain.place b
-    → (next : Walk → Judge) → ((w : Walk) → Forward (next w)) → IsTold left → Failing old.hearing left rest (line_judge old b n e next)
+    → (next : Walk → Judge) → ((w : Walk) → Forward (next w)) → IsTold left → Failing old.reader left rest (line_judge old b n e next)
 
 -- all is said by a judge
-abbrev pub SaysEnd : Result (Option Finding) Failed → Hearing → Option (List ℕ) → Option (List ℕ) → Judge → Type 0
+abbrev pub SaysEnd : Result (Option Outcome) Failed → TranscriptReader → Option (List ℕ) → Option (List ℕ) → Judge → Type 0
 SaysEnd (Ok None) old left rest judge = ⊥
 SaysEnd (Ok (Some f)) old left rest judge = Concludes (Ok f) old left rest judge
 SaysEnd (Err x) old left rest judge = Concludes (Err x) old left rest judge
@@ -78,32 +78,32 @@ items_by Beyond es = items.Beyond ∷ es
 items_by End es = []
 
 -- what the judge says from line n on
-abbrev pub judge_from : Trial → Block → ℕ → List Item → Judge
+abbrev pub judge_from : Verifier → Block → ℕ → List Item → Judge
 judge_from t b n es = judged (walk_of t.judge b n) t.last es
 
 -- an item led on
-pub record ItemLed (old new : Trial) (left rest : Option (List ℕ)) (b : Block) (n : ℕ) (f : Found) : Type 0 where
+pub record ItemLed (old new : Verifier) (left rest : Option (List ℕ)) (b : Block) (n : ℕ) (f : Found) : Type 0 where
   pub after : Block
   pub speaks : Speaks new.judge.plain.place after
   pub goes : (es : List Item)
-      → HearsOn old.hearing new.hearing left rest (judge_from old b n (items_by f es)) (judge_from new after (n + 1) es)
+      → PassesOn old.reader new.reader left rest (judge_from old b n (items_by f es)) (judge_from new after (n + 1) es)
 
 -- it led on, or all is said
-abbrev pub ItemSays : Result (Option Finding) Failed → Trial → Trial → Option (List ℕ) → Option (List ℕ) → ℕ → Found → Type 0
+abbrev pub ItemSays : Result (Option Outcome) Failed → Verifier → Verifier → Option (List ℕ) → Option (List ℕ) → ℕ → Found → Type 0
 ItemSays (Ok None) old new left rest n f = (b : Block) → Speaks old.judge.plain.place b → ItemLed old new left rest b n f
 ItemSays (Ok (Some x)) old new left rest n f =
     (b : Block) → Speaks old.judge.plain.place b
-    → (es : List Item) → Concludes (Ok x) old.hearing left rest (judge_from old b n (items_by f es))
+    → (es : List Item) → Concludes (Ok x) old.reader left rest (judge_from old b n (items_by f es))
 ItemSays (Err x) old new left rest n f =
     (b : Block) → Speaks old.judge.plain.place b
-    → (es : List Item) → Concludes (Err x) old.hearing left rest (judge_from old b n (items_by f es))
+    → (es : List Item) → Concludes (Err x) old.reader left rest (judge_from old b n (items_by f es))
 
 -- so far: the items that were found led on
-pub record GoneSo (old now : Trial) (judge : Judge) (r : Items) (session left rest : Option (List ℕ)) : Type 0 where
+pub record GoneSo (old now : Verifier) (judge : Judge) (r : Items) (session left rest : Option (List ℕ)) : Type 0 where
   pub block : Block
   pub speaks : Speaks now.judge.plain.place block
   pub goes :
-      HearsOn old.hearing now.hearing left rest judge (judge_from now block (r.lines.number + 1) (items_of r session))
+      PassesOn old.reader now.reader left rest judge (judge_from now block (r.lines.number + 1) (items_of r session))
 
 -- the items that are left, if this was found: it is the first one, and others come after it if it is not the last
 pub record Split (f : Found) (before : List Item) (after : List Item) : Type 0 where

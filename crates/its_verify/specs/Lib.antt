@@ -8,9 +8,9 @@ pub mod Undecided
 pub mod Sources
 pub mod Went
 pub mod Keeping
-pub mod Hearing
-pub mod Standing
-pub mod Trial
+pub mod TranscriptReader
+pub mod JudgeState
+pub mod Verifier
 pub mod Showing
 pub mod Going
 pub mod Finds

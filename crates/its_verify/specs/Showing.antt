@@ -11,9 +11,9 @@ use Rattle.its_plain.specs.OperatorJobs.{examined, state_shown}
 use Rattle.its_plain.specs.OperatorLines.{in_a_line}
 use Rattle.its_direct.specs.declared.events.Answer.{Answer}
 use Rattle.its_direct.specs.declared.events.Answer.TheVariants.{Nothing, Slot, Dropped, Drained}
-use Rattle.its_verify.specs.Hearing.{HearsOn}
+use Rattle.its_verify.specs.TranscriptReader.{PassesOn}
 use Rattle.its_verify.specs.Judge.{Judge, led, peeking, expects}
-use Rattle.its_verify.specs.declared.hearing.Hearing.{Hearing}
+use Rattle.its_verify.specs.declared.transcript_reader.TranscriptReader.{TranscriptReader}
 use Rattle.std.specs.declared.option.Option.{Option}
 
 -- the lines that show a value, if there is one
@@ -51,10 +51,10 @@ lines_of (events.Dir d) a m = listing d (files_in d m.files)
 lines_of (events.Show d x y) a m = shown_if (λ out. out) (file_shown m d x y)
 lines_of e a m = []
 
--- what the judge says where these lines are to come, or a line of PEEK, and then others
-abbrev pub heard_of : Event → Answer → Machine → Judge → Judge
-heard_of (events.Peek s) a m next = led peeking (λ text. next)
-heard_of e a m next = expects (lines_of e a m) next
+-- what the judge says if these lines are to come, or a line of PEEK, and then others
+abbrev pub shown_judge : Event → Answer → Machine → Judge → Judge
+shown_judge (events.Peek s) a m next = led peeking (λ text. next)
+shown_judge e a m next = expects (lines_of e a m) next
 
 abbrev pub is_peek_event : Event → Bool
 is_peek_event (events.Peek s) = true
@@ -75,9 +75,9 @@ abbrev pub text_lines : Names → List ℕ → List Line
 text_lines n ws = shown_lines (name_in n 0) (name_in n 1) (name_in n 2) ws
 
 -- some lines were shown, and these are still to come
-abbrev pub LinesSo : Hearing → Hearing → Option (List ℕ) → Option (List ℕ) → List Line → List Line → Type 0
+abbrev pub LinesSo : TranscriptReader → TranscriptReader → Option (List ℕ) → Option (List ℕ) → List Line → List Line → Type 0
 LinesSo old now left rest lines more =
-    (next : Judge) → HearsOn old now left rest (expects lines next) (expects more next)
+    (next : Judge) → PassesOn old now left rest (expects lines next) (expects more next)
 
 -- each of the first k bytes has eight bits
 abbrev pub BitsSo : ℕ → List ℕ → Type 0

@@ -6,7 +6,7 @@ use Rattle.its_session.specs.Events.{most_lines}
 use Rattle.its_reader.specs.TextLines.{lines_in}
 use Rattle.its_verify.specs.Judge.{Yes, No}
 use Rattle.its_verify.specs.Lines.{is_whole, most_bytes}
-use Rattle.its_verify.specs.Verified.{Answer, Judged, Long, Cut, TooLong, Parts, Both, LongLine, NoEnd, TooMany, is_end_line, most_session_bytes, parts_from, verified}
+use Rattle.its_verify.specs.Verified.{Answer, Judged, Long, Cut, TooLong, Parts, Both, LongLine, NoEnd, TooMany, IsYes, is_end_line, most_session_bytes, parts_from, verified}
 
 -- how many lines of an input its session has, if there is an END line
 abbrev pub count_in : Parts → ℕ
@@ -31,7 +31,7 @@ most_behind true = most_bytes
 
 -- of an input of these bytes, those that were read are some whole lines, and perhaps bytes of a line that had begun. The
 -- line that the answer is about is none of the whole ones. The line that had begun is not too long, and not past the
--- most
+-- most. If the whole lines are a session and all of its transcript, no line had begun: one byte more decides
 pub record Undecided (bytes read : List ℕ) : Type 0 where
   pub lines : List (List ℕ)
   pub begun : List ℕ
@@ -41,3 +41,4 @@ pub record Undecided (bytes read : List ℕ) : Type 0 where
   pub undecided : length lines < decisive (count_in (parts_from 1 [] (lines_in bytes))) (verified bytes)
   pub short : length begun ≤ most_behind (list_any is_end_line lines)
   pub few : 0 < length begun → length lines < most_lines
+  pub ended : IsYes (verified (concat lines)) → begun ≡ []

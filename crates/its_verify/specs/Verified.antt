@@ -23,6 +23,11 @@ pub data Answer : Type 0 where
   -- a line past the most that an input may have begins, and nothing is said before
   TooLong : Answer
 
+-- the lines of the transcript are all that the session has, and are licensed
+abbrev pub IsYes : Answer → Type 0
+IsYes (Judged (Yes n)) = Unit {0}
+IsYes _ = ⊥
+
 -- the only word of a line is END
 abbrev pub is_only : List ℕ → List (List ℕ) → Bool
 is_only word (first ∷ []) = bytes_eq first word

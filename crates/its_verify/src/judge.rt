@@ -8,7 +8,7 @@ ghost use Rattle.its_direct.specs.Plain.{machine_of};
 ghost use Rattle.its_direct.specs.Events.{IsTold, MayStand, Told, place_of};
 ghost use Rattle.its_print.specs.Runs.{paces_in};
 ghost use Rattle.its_plain.specs.Turns.{is_running, turn_after};
-ghost use Rattle.its_verify.specs.Standing.{AllLed, dots_of, Forgets, LedIf, RunLed, RunsLed, Sure};
+ghost use Rattle.its_verify.specs.JudgeState.{AllLed, dots_of, Forgets, LedIf, RunLed, RunsLed, Sure};
 
 use super::ticks::read_ticks;
 use its_direct::{Answer, NoMemory, Plain, Spot};
@@ -31,7 +31,7 @@ pub struct Judge {
 
 impl Judge {
     /// The judge at the start of a session. Takes all the memory that it needs.
-    #[tactic(auto, using(crate::proofs::StandingLaws::no_dots))]
+    #[tactic(auto, using(crate::proofs::JudgeStateLaws::no_dots))]
     pub fn open(alloc: Global) -> Result<Judge, NoMemory>
         ensures machine { IfOk result (λ j. machine_of j.plain ≡ no_machine) }
         ensures dots { IfOk result (λ j. dots_of j.dots ≡ (λ k. 0)) }
@@ -48,7 +48,7 @@ impl Judge {
     }
 
     /// The result of a line of a session other than TICK and END: what it shows, or why it is refused, and then nothing changes.
-    #[tactic(auto, using(crate::proofs::StandingLaws::sure_is))]
+    #[tactic(auto, using(crate::proofs::JudgeStateLaws::sure_is))]
     pub fn event(&mut self, event: &Event) -> Result<Answer, Refusal>
         requires going { self.old.ended ≡ false }
         requires told { IsTold event.now }
@@ -163,7 +163,7 @@ impl Judge {
     }
 
     /// Takes as many `*` as are units of a slot's job in a row, n at most; how many.
-    #[tactic(auto, using(crate::proofs::SeriesLaws::units_none, crate::proofs::SeriesLaws::units_some, crate::proofs::StandingLaws::sure_is, crate::proofs::StandingLaws::sure_still))]
+    #[tactic(auto, using(crate::proofs::SeriesLaws::units_none, crate::proofs::SeriesLaws::units_some, crate::proofs::JudgeStateLaws::sure_is, crate::proofs::JudgeStateLaws::sure_still))]
     fn units(&mut self, slot: u8, n: u32) -> u32
         requires going { self.old.ended ≡ false }
         requires slot { slot < slots }
@@ -215,7 +215,7 @@ impl Judge {
     }
 
     /// `*`: the step of a slot's job, if it has one.
-    #[tactic(auto, using(crate::proofs::StandingLaws::step_led, crate::proofs::StandingLaws::step_not_led, crate::proofs::StandingLaws::sure_is, crate::proofs::StandingLaws::makes_place))]
+    #[tactic(auto, using(crate::proofs::JudgeStateLaws::step_led, crate::proofs::JudgeStateLaws::step_not_led, crate::proofs::JudgeStateLaws::sure_is, crate::proofs::JudgeStateLaws::makes_place))]
     fn takes_step(&mut self, slot: u8) -> bool
         requires slot { slot < slots }
         requires outside { self.old.plain.place ≡ Spot.Plain }
@@ -233,7 +233,7 @@ impl Judge {
     }
 
     /// `.`: one more of a slot whose job runs, if fewer than 16 came.
-    #[tactic(auto, using(crate::proofs::StandingLaws::dot_led, crate::proofs::StandingLaws::dot_not_led, crate::proofs::StandingLaws::dot_still, crate::proofs::StandingLaws::sure_still))]
+    #[tactic(auto, using(crate::proofs::JudgeStateLaws::dot_led, crate::proofs::JudgeStateLaws::dot_not_led, crate::proofs::JudgeStateLaws::dot_still, crate::proofs::JudgeStateLaws::sure_still))]
     fn takes_dot(&mut self, slot: u8) -> bool
         requires slot { slot < slots }
         requires sure { Sure self.old }
@@ -253,7 +253,7 @@ impl Judge {
     }
 
     /// `w`: a slot's job runs, and has no step.
-    #[tactic(auto, using(crate::proofs::StandingLaws::wait_led, crate::proofs::StandingLaws::wait_not_led, crate::proofs::StandingLaws::wait_still, crate::proofs::StandingLaws::makes_place))]
+    #[tactic(auto, using(crate::proofs::JudgeStateLaws::wait_led, crate::proofs::JudgeStateLaws::wait_not_led, crate::proofs::JudgeStateLaws::wait_still, crate::proofs::JudgeStateLaws::makes_place))]
     fn waits(&mut self, slot: u8) -> bool
         requires slot { slot < slots }
         requires outside { self.old.plain.place ≡ Spot.Plain }
@@ -269,7 +269,7 @@ impl Judge {
     }
 
     /// `-`: a slot has no job, or its job is stopped.
-    #[tactic(auto, using(crate::proofs::StandingLaws::off_led))]
+    #[tactic(auto, using(crate::proofs::JudgeStateLaws::off_led))]
     fn is_off(&mut self, slot: u8) -> bool
         requires slot { slot < slots }
         requires sure { Sure self.old }
@@ -289,7 +289,7 @@ impl Judge {
     }
 
     /// No `.` came since for the slots that were touched.
-    #[tactic(auto, using(crate::proofs::StandingLaws::forget_start, crate::proofs::StandingLaws::forget_one, crate::proofs::StandingLaws::forget_none, crate::proofs::StandingLaws::forget_end))]
+    #[tactic(auto, using(crate::proofs::JudgeStateLaws::forget_start, crate::proofs::JudgeStateLaws::forget_one, crate::proofs::JudgeStateLaws::forget_none, crate::proofs::JudgeStateLaws::forget_end))]
     fn forget_touched(&mut self)
         ensures dots { Forgets self.old.plain self.old.dots self.new.dots }
         ensures plain { self.new.plain ≡ self.old.plain }

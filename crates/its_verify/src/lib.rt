@@ -10,7 +10,7 @@
 //! - `read_ticks` reads the letters of a `T` line, and `is_peek` recognizes a line of PEEK, exactly by the definition.
 //! - `keep` reads the session of an input up to its END line, or says which line is too long or that there is no END
 //!   line, exactly by the parts of an input (`keeps`, for a source whose bytes are known).
-//! - `Hearing` reads a transcript line by line. Of the lines that are left, `expect` finds what a judge finds who wants
+//! - `TranscriptReader` reads a transcript line by line. Of the lines that are left, `expect` finds what a judge finds who wants
 //!   this line; `peek` one who wants a line of PEEK; `refused` one who wants the `?` line of a refusal as the last
 //! line;   `finish` one who wants no line. Lines that are too long or too many are included (`says`, `ends`).
 //! - `Judge::licensed` is the licence of a letter, false exactly if the letter is not licensed, and `Judge::event` is the
@@ -19,23 +19,23 @@
 //!   except for want of memory and faults of the source).
 #![tactic(auto)]
 
-mod finding;
-mod hearing;
 mod judge;
 mod keeping;
+mod outcome;
 mod peeks;
 mod showing;
 #[cfg(test)]
 mod tests;
 mod ticks;
-mod trial;
+mod transcript_reader;
+mod verifier;
 mod walk;
 
-pub use finding::Finding;
-pub use hearing::Hearing;
 pub use judge::Judge;
 pub use keeping::{Broken, Part, is_end_line, keep};
+pub use outcome::Outcome;
 pub use peeks::is_peek;
 pub use ticks::read_ticks;
-pub use trial::Trial;
+pub use transcript_reader::TranscriptReader;
+pub use verifier::Verifier;
 pub use walk::verify;

@@ -11,12 +11,12 @@ ghost use Rattle.its_plain.specs.OperatorFiles.{files_in, file_shown, filed_line
 ghost use Rattle.its_plain.specs.OperatorJobs.{examined, state_shown};
 ghost use Rattle.its_plain.specs.OperatorLines.{in_a_line};
 ghost use Rattle.its_direct.specs.Plain.{machine_of};
-ghost use Rattle.its_verify.specs.Hearing.{Heard, Says, Stays};
+ghost use Rattle.its_verify.specs.TranscriptReader.{AtLine, Says, Stays};
 ghost use Rattle.its_verify.specs.Judge.{Judge, expects};
 ghost use Rattle.its_verify.specs.Showing.{IsThere, drained_lines, lines_of, loaded_lines, names_line, shown_if, text_lines, typed_lines};
 
-use super::finding::Finding;
-use super::hearing::Hearing;
+use super::outcome::Outcome;
+use super::transcript_reader::TranscriptReader;
 use arrayvec::ArrayVec;
 use its_direct::{Answer, Plain};
 use its_io::{Failed, Source};
@@ -31,51 +31,51 @@ const ROW_WORDS: u32 = 8;
 
 /// The lines that an event shows which was obeyed with this answer are next; what EXAM, LIST, STATE, DIR and SHOW show is read
 /// from the machine.
-#[tactic(auto, using(crate::proofs::HearingLaws::nothing_on))]
+#[tactic(auto, using(crate::proofs::ShowingLaws::nothing_says))]
 pub(crate) fn show_event<S: Source>(
-    hearing: &mut Hearing,
+    reader: &mut TranscriptReader,
     src: &mut S,
     plain: &Plain,
     event: &Event,
     answer: &Answer,
-) -> Result<Option<Finding>, Failed>
+) -> Result<Option<Outcome>, Failed>
     requires fits { EventFits 2 event.now }
     requires there { IsThere event.now (machine_of plain.now) }
-    requires heard { Heard hearing.old (S.left src.old) }
-    ensures says { (next : Judge) → Says result hearing.old hearing.new (S.left src.old) (S.left src.new) (expects (lines_of event.now answer.now (machine_of plain.now)) next) next }
-    ensures stays { Stays result hearing.new (S.left src.new) }
+    requires at_line { AtLine reader.old (S.left src.old) }
+    ensures says { (next : Judge) → Says result reader.old reader.new (S.left src.old) (S.left src.new) (expects (lines_of event.now answer.now (machine_of plain.now)) next) next }
+    ensures stays { Stays result reader.new (S.left src.new) }
     ensures cause { HasCause (S.faults src.old) (S.faults src.new) result }
 {
     match event {
-        Event::Load { .. } => show_loaded(hearing, src, answer),
-        Event::TypeIn { c, .. } => show_typed(hearing, src, *c, answer),
-        Event::Drain { c, .. } => show_drained(hearing, src, *c, answer),
-        Event::Exam { s, a, n } => show_words(hearing, src, plain, *s, *a, *n),
-        Event::List { s, a, n } => list_words(hearing, src, plain, *s, *a, *n),
-        Event::State { s } => show_state(hearing, src, plain, *s),
-        Event::Dir { d } => show_files(hearing, src, plain, *d),
-        Event::Show { d, x, y } => show_file(hearing, src, plain, *d, *x, *y),
+        Event::Load { .. } => show_loaded(reader, src, answer),
+        Event::TypeIn { c, .. } => show_typed(reader, src, *c, answer),
+        Event::Drain { c, .. } => show_drained(reader, src, *c, answer),
+        Event::Exam { s, a, n } => show_words(reader, src, plain, *s, *a, *n),
+        Event::List { s, a, n } => list_words(reader, src, plain, *s, *a, *n),
+        Event::State { s } => show_state(reader, src, plain, *s),
+        Event::Dir { d } => show_files(reader, src, plain, *d),
+        Event::Show { d, x, y } => show_file(reader, src, plain, *d, *x, *y),
         _ => Ok(None),
     }
 }
 
 /// LOAD shows the slot.
-#[tactic(auto, using(crate::proofs::ShowingLaws::loaded_short, crate::proofs::ShowingLaws::printed_says, crate::proofs::HearingLaws::nothing_on))]
+#[tactic(auto, using(crate::proofs::ShowingLaws::loaded_short, crate::proofs::ShowingLaws::printed_says, crate::proofs::TranscriptReaderLaws::nothing_on))]
 fn show_loaded<S: Source>(
-    hearing: &mut Hearing,
+    reader: &mut TranscriptReader,
     src: &mut S,
     answer: &Answer,
-) -> Result<Option<Finding>, Failed>
-    requires heard { Heard hearing.old (S.left src.old) }
-    ensures says { (next : Judge) → Says result hearing.old hearing.new (S.left src.old) (S.left src.new) (expects (loaded_lines answer.now) next) next }
-    ensures stays { Stays result hearing.new (S.left src.new) }
+) -> Result<Option<Outcome>, Failed>
+    requires at_line { AtLine reader.old (S.left src.old) }
+    ensures says { (next : Judge) → Says result reader.old reader.new (S.left src.old) (S.left src.new) (expects (loaded_lines answer.now) next) next }
+    ensures stays { Stays result reader.new (S.left src.new) }
     ensures cause { HasCause (S.faults src.old) (S.faults src.new) result }
 {
     match answer {
         Answer::Slot(s) => {
             let mut line = ArrayVec::new();
             print_loaded(*s, &mut line);
-            hearing.expect(src, &line)
+            reader.expect(src, &line)
         }
         Answer::Nothing => Ok(None),
         Answer::Dropped(_) => Ok(None),
@@ -84,23 +84,23 @@ fn show_loaded<S: Source>(
 }
 
 /// TYPE shows how many bytes were dropped.
-#[tactic(auto, using(crate::proofs::ShowingLaws::typed_short, crate::proofs::ShowingLaws::printed_says, crate::proofs::HearingLaws::nothing_on))]
+#[tactic(auto, using(crate::proofs::ShowingLaws::typed_short, crate::proofs::ShowingLaws::printed_says, crate::proofs::TranscriptReaderLaws::nothing_on))]
 fn show_typed<S: Source>(
-    hearing: &mut Hearing,
+    reader: &mut TranscriptReader,
     src: &mut S,
     c: u8,
     answer: &Answer,
-) -> Result<Option<Finding>, Failed>
-    requires heard { Heard hearing.old (S.left src.old) }
-    ensures says { (next : Judge) → Says result hearing.old hearing.new (S.left src.old) (S.left src.new) (expects (typed_lines c answer.now) next) next }
-    ensures stays { Stays result hearing.new (S.left src.new) }
+) -> Result<Option<Outcome>, Failed>
+    requires at_line { AtLine reader.old (S.left src.old) }
+    ensures says { (next : Judge) → Says result reader.old reader.new (S.left src.old) (S.left src.new) (expects (typed_lines c answer.now) next) next }
+    ensures stays { Stays result reader.new (S.left src.new) }
     ensures cause { HasCause (S.faults src.old) (S.faults src.new) result }
 {
     match answer {
         Answer::Dropped(n) => {
             let mut line = ArrayVec::new();
             print_typed(c, *n, &mut line);
-            hearing.expect(src, &line)
+            reader.expect(src, &line)
         }
         Answer::Nothing => Ok(None),
         Answer::Slot(_) => Ok(None),
@@ -109,20 +109,20 @@ fn show_typed<S: Source>(
 }
 
 /// DRAIN shows the bytes.
-#[tactic(auto, using(crate::proofs::HearingLaws::nothing_on))]
+#[tactic(auto, using(crate::proofs::TranscriptReaderLaws::nothing_on))]
 fn show_drained<S: Source>(
-    hearing: &mut Hearing,
+    reader: &mut TranscriptReader,
     src: &mut S,
     c: u8,
     answer: &Answer,
-) -> Result<Option<Finding>, Failed>
-    requires heard { Heard hearing.old (S.left src.old) }
-    ensures says { (next : Judge) → Says result hearing.old hearing.new (S.left src.old) (S.left src.new) (expects (drained_lines c answer.now) next) next }
-    ensures stays { Stays result hearing.new (S.left src.new) }
+) -> Result<Option<Outcome>, Failed>
+    requires at_line { AtLine reader.old (S.left src.old) }
+    ensures says { (next : Judge) → Says result reader.old reader.new (S.left src.old) (S.left src.new) (expects (drained_lines c answer.now) next) next }
+    ensures stays { Stays result reader.new (S.left src.new) }
     ensures cause { HasCause (S.faults src.old) (S.faults src.new) result }
 {
     match answer {
-        Answer::Drained(bytes) => show_bytes(hearing, src, c, bytes.as_slice()),
+        Answer::Drained(bytes) => show_bytes(reader, src, c, bytes.as_slice()),
         Answer::Nothing => Ok(None),
         Answer::Slot(_) => Ok(None),
         Answer::Dropped(_) => Ok(None),
@@ -132,21 +132,21 @@ fn show_drained<S: Source>(
 /// The line of some bytes.
 #[tactic(auto, using(crate::proofs::ShowingLaws::drained_short, crate::proofs::ShowingLaws::printed_says))]
 fn show_bytes<S: Source>(
-    hearing: &mut Hearing,
+    reader: &mut TranscriptReader,
     src: &mut S,
     c: u8,
     bytes: &[u8],
-) -> Result<Option<Finding>, Failed>
+) -> Result<Option<Outcome>, Failed>
     requires few { length bytes.now ≤ 64 }
-    requires heard { Heard hearing.old (S.left src.old) }
-    ensures says { (next : Judge) → Says result hearing.old hearing.new (S.left src.old) (S.left src.new) (expects (Drained c bytes.now ∷ []) next) next }
-    ensures stays { Stays result hearing.new (S.left src.new) }
+    requires at_line { AtLine reader.old (S.left src.old) }
+    ensures says { (next : Judge) → Says result reader.old reader.new (S.left src.old) (S.left src.new) (expects (Drained c bytes.now ∷ []) next) next }
+    ensures stays { Stays result reader.new (S.left src.new) }
     ensures cause { HasCause (S.faults src.old) (S.faults src.new) result }
 {
     eight_bits(bytes);
     let mut line = ArrayVec::new();
     print_drained(c, bytes, &mut line);
-    hearing.expect(src, &line)
+    reader.expect(src, &line)
 }
 
 /// Each of some bytes has eight bits.
@@ -162,93 +162,93 @@ fn eight_bits(bytes: &[u8])
 /// EXAM shows words in one line.
 #[tactic(auto, using(crate::proofs::ShowingLaws::words_say))]
 fn show_words<S: Source>(
-    hearing: &mut Hearing,
+    reader: &mut TranscriptReader,
     src: &mut S,
     plain: &Plain,
     s: u8,
     a: u32,
     n: u32,
-) -> Result<Option<Finding>, Failed>
+) -> Result<Option<Outcome>, Failed>
     requires slot { s < slots }
     requires address { a < 2 ^ 18 }
     requires few { n ≤ 8 }
     requires there { IsOk (examined (machine_of plain.now) s a n) }
-    requires heard { Heard hearing.old (S.left src.old) }
-    ensures says { (next : Judge) → Says result hearing.old hearing.new (S.left src.old) (S.left src.new) (expects (shown_if (in_a_line s a) (examined (machine_of plain.now) s a n)) next) next }
-    ensures stays { Stays result hearing.new (S.left src.new) }
+    requires at_line { AtLine reader.old (S.left src.old) }
+    ensures says { (next : Judge) → Says result reader.old reader.new (S.left src.old) (S.left src.new) (expects (shown_if (in_a_line s a) (examined (machine_of plain.now) s a n)) next) next }
+    ensures stays { Stays result reader.new (S.left src.new) }
     ensures cause { HasCause (S.faults src.old) (S.faults src.new) result }
 {
     let Ok(words) = plain.words(s, a, n) else {
         unreachable!()
     };
-    show_line(hearing, src, s, a, words.as_slice())
+    show_line(reader, src, s, a, words.as_slice())
 }
 
 /// The line of some words, which are in a slot from an address on.
 #[tactic(auto, using(crate::proofs::ShowingLaws::words_short, crate::proofs::ShowingLaws::printed_says))]
 fn show_line<S: Source>(
-    hearing: &mut Hearing,
+    reader: &mut TranscriptReader,
     src: &mut S,
     s: u8,
     a: u32,
     words: &[Word],
-) -> Result<Option<Finding>, Failed>
+) -> Result<Option<Outcome>, Failed>
     requires few { length words.now ≤ 8 }
-    requires heard { Heard hearing.old (S.left src.old) }
-    ensures says { (next : Judge) → Says result hearing.old hearing.new (S.left src.old) (S.left src.new) (expects (in_a_line s a words.now) next) next }
-    ensures stays { Stays result hearing.new (S.left src.new) }
+    requires at_line { AtLine reader.old (S.left src.old) }
+    ensures says { (next : Judge) → Says result reader.old reader.new (S.left src.old) (S.left src.new) (expects (in_a_line s a words.now) next) next }
+    ensures stays { Stays result reader.new (S.left src.new) }
     ensures cause { HasCause (S.faults src.old) (S.faults src.new) result }
 {
     let mut line = ArrayVec::new();
     print_words(s, a, words, &mut line);
-    hearing.expect(src, &line)
+    reader.expect(src, &line)
 }
 
 /// LIST shows words typed out, each in a line of its own.
 #[tactic(auto, using(crate::proofs::ShowingLaws::list_says))]
 fn list_words<S: Source>(
-    hearing: &mut Hearing,
+    reader: &mut TranscriptReader,
     src: &mut S,
     plain: &Plain,
     s: u8,
     a: u32,
     n: u32,
-) -> Result<Option<Finding>, Failed>
+) -> Result<Option<Outcome>, Failed>
     requires slot { s < slots }
     requires address { a < 2 ^ 18 }
     requires few { n ≤ 8 }
     requires there { IsOk (examined (machine_of plain.now) s a n) }
-    requires heard { Heard hearing.old (S.left src.old) }
-    ensures says { (next : Judge) → Says result hearing.old hearing.new (S.left src.old) (S.left src.new) (expects (shown_if (listed s a) (examined (machine_of plain.now) s a n)) next) next }
-    ensures stays { Stays result hearing.new (S.left src.new) }
+    requires at_line { AtLine reader.old (S.left src.old) }
+    ensures says { (next : Judge) → Says result reader.old reader.new (S.left src.old) (S.left src.new) (expects (shown_if (listed s a) (examined (machine_of plain.now) s a n)) next) next }
+    ensures stays { Stays result reader.new (S.left src.new) }
     ensures cause { HasCause (S.faults src.old) (S.faults src.new) result }
 {
     let Ok(words) = plain.words(s, a, n) else {
         unreachable!()
     };
-    list_each(hearing, src, s, a, words.as_slice())
+    list_each(reader, src, s, a, words.as_slice())
 }
 
 /// A line for each of some words, which are in a slot from an address on.
 #[tactic(auto, using(crate::proofs::ShowingLaws::lines_start))]
 fn list_each<S: Source>(
-    hearing: &mut Hearing,
+    reader: &mut TranscriptReader,
     src: &mut S,
     s: u8,
     a: u32,
     words: &[Word],
-) -> Result<Option<Finding>, Failed>
+) -> Result<Option<Outcome>, Failed>
     requires address { a < 2 ^ 18 }
     requires few { length words.now ≤ 8 }
-    requires heard { Heard hearing.old (S.left src.old) }
-    ensures says { (next : Judge) → Says result hearing.old hearing.new (S.left src.old) (S.left src.new) (expects (listed s a words.now) next) next }
-    ensures stays { Stays result hearing.new (S.left src.new) }
+    requires at_line { AtLine reader.old (S.left src.old) }
+    ensures says { (next : Judge) → Says result reader.old reader.new (S.left src.old) (S.left src.new) (expects (listed s a words.now) next) next }
+    ensures stays { Stays result reader.new (S.left src.new) }
     ensures cause { HasCause (S.faults src.old) (S.faults src.new) result }
 {
     let mut place = a;
     for w in words {
-        if let Some(finding) = list_word(hearing, src, s, place, *w)? {
-            return Ok(Some(finding));
+        if let Some(outcome) = list_word(reader, src, s, place, *w)? {
+            return Ok(Some(outcome));
         }
         place += 1;
     }
@@ -258,39 +258,39 @@ fn list_each<S: Source>(
 /// One of them.
 #[tactic(auto, using(crate::proofs::ShowingLaws::listed_short, crate::proofs::ShowingLaws::printed_says))]
 fn list_word<S: Source>(
-    hearing: &mut Hearing,
+    reader: &mut TranscriptReader,
     src: &mut S,
     s: u8,
     a: u32,
     word: Word,
-) -> Result<Option<Finding>, Failed>
-    requires heard { Heard hearing.old (S.left src.old) }
-    ensures says { (next : Judge) → Says result hearing.old hearing.new (S.left src.old) (S.left src.new) (expects (listed s a (word ∷ [])) next) next }
-    ensures stays { Stays result hearing.new (S.left src.new) }
+) -> Result<Option<Outcome>, Failed>
+    requires at_line { AtLine reader.old (S.left src.old) }
+    ensures says { (next : Judge) → Says result reader.old reader.new (S.left src.old) (S.left src.new) (expects (listed s a (word ∷ [])) next) next }
+    ensures stays { Stays result reader.new (S.left src.new) }
     ensures cause { HasCause (S.faults src.old) (S.faults src.new) result }
 {
     let mut line = ArrayVec::new();
     print_listed(s, a, word, &mut line);
-    hearing.expect(src, &line)
+    reader.expect(src, &line)
 }
 
 /// STATE shows a job.
 #[tactic(auto, using(crate::proofs::ShowingLaws::printed_short, crate::proofs::ShowingLaws::state_says))]
 fn show_state<S: Source>(
-    hearing: &mut Hearing,
+    reader: &mut TranscriptReader,
     src: &mut S,
     plain: &Plain,
     s: u8,
-) -> Result<Option<Finding>, Failed>
+) -> Result<Option<Outcome>, Failed>
     requires slot { s < slots }
     requires there { IsOk (state_shown (machine_of plain.now) s) }
-    requires heard { Heard hearing.old (S.left src.old) }
-    ensures says { (next : Judge) → Says result hearing.old hearing.new (S.left src.old) (S.left src.new) (expects (shown_if (λ show. State (machine_of plain.now).version s show ∷ []) (state_shown (machine_of plain.now) s)) next) next }
-    ensures stays { Stays result hearing.new (S.left src.new) }
+    requires at_line { AtLine reader.old (S.left src.old) }
+    ensures says { (next : Judge) → Says result reader.old reader.new (S.left src.old) (S.left src.new) (expects (shown_if (λ show. State (machine_of plain.now).version s show ∷ []) (state_shown (machine_of plain.now) s)) next) next }
+    ensures stays { Stays result reader.new (S.left src.new) }
     ensures cause { HasCause (S.faults src.old) (S.faults src.new) result }
 {
     match plain.shown(s) {
-        Ok(show) => show_job(hearing, src, plain.version, s, &show),
+        Ok(show) => show_job(reader, src, plain.version, s, &show),
         Err(_) => unreachable!(),
     }
 }
@@ -298,21 +298,21 @@ fn show_state<S: Source>(
 /// The line of a job.
 #[tactic(auto, using(crate::proofs::ShowingLaws::state_short, crate::proofs::ShowingLaws::printed_says))]
 fn show_job<S: Source>(
-    hearing: &mut Hearing,
+    reader: &mut TranscriptReader,
     src: &mut S,
     version: u8,
     s: u8,
     show: &JobShow,
-) -> Result<Option<Finding>, Failed>
-    requires heard { Heard hearing.old (S.left src.old) }
-    ensures says { (next : Judge) → Says result hearing.old hearing.new (S.left src.old) (S.left src.new) (expects (State version s show.now ∷ []) next) next }
-    ensures stays { Stays result hearing.new (S.left src.new) }
+) -> Result<Option<Outcome>, Failed>
+    requires at_line { AtLine reader.old (S.left src.old) }
+    ensures says { (next : Judge) → Says result reader.old reader.new (S.left src.old) (S.left src.new) (expects (State version s show.now ∷ []) next) next }
+    ensures stays { Stays result reader.new (S.left src.new) }
     ensures cause { HasCause (S.faults src.old) (S.faults src.new) result }
 {
     few_bits(*show);
     let mut line = ArrayVec::new();
     print_state(s, show, version, &mut line);
-    hearing.expect(src, &line)
+    reader.expect(src, &line)
 }
 
 /// The numbers of a job that is shown have few bits.
@@ -324,58 +324,58 @@ fn few_bits(show: JobShow)
 
 /// DIR shows how many files a directory has, and each of them.
 fn show_files<S: Source>(
-    hearing: &mut Hearing,
+    reader: &mut TranscriptReader,
     src: &mut S,
     plain: &Plain,
     d: Word,
-) -> Result<Option<Finding>, Failed>
-    requires heard { Heard hearing.old (S.left src.old) }
-    ensures says { (next : Judge) → Says result hearing.old hearing.new (S.left src.old) (S.left src.new) (expects (listing d (files_in d (machine_of plain.now).files)) next) next }
-    ensures stays { Stays result hearing.new (S.left src.new) }
+) -> Result<Option<Outcome>, Failed>
+    requires at_line { AtLine reader.old (S.left src.old) }
+    ensures says { (next : Judge) → Says result reader.old reader.new (S.left src.old) (S.left src.new) (expects (listing d (files_in d (machine_of plain.now).files)) next) next }
+    ensures stays { Stays result reader.new (S.left src.new) }
     ensures cause { HasCause (S.faults src.old) (S.faults src.new) result }
 {
     let ids = plain.listed(d);
-    if let Some(finding) = show_count(hearing, src, d, ids.len() as u32)? {
-        return Ok(Some(finding));
+    if let Some(outcome) = show_count(reader, src, d, ids.len() as u32)? {
+        return Ok(Some(outcome));
     }
-    show_each(hearing, src, plain, ids.as_slice())
+    show_each(reader, src, plain, ids.as_slice())
 }
 
 /// The line of a directory.
 #[tactic(auto, using(crate::proofs::ShowingLaws::dir_short, crate::proofs::ShowingLaws::printed_says))]
 fn show_count<S: Source>(
-    hearing: &mut Hearing,
+    reader: &mut TranscriptReader,
     src: &mut S,
     d: Word,
     count: u32,
-) -> Result<Option<Finding>, Failed>
-    requires heard { Heard hearing.old (S.left src.old) }
-    ensures says { (next : Judge) → Says result hearing.old hearing.new (S.left src.old) (S.left src.new) (expects (Dir d count ∷ []) next) next }
-    ensures stays { Stays result hearing.new (S.left src.new) }
+) -> Result<Option<Outcome>, Failed>
+    requires at_line { AtLine reader.old (S.left src.old) }
+    ensures says { (next : Judge) → Says result reader.old reader.new (S.left src.old) (S.left src.new) (expects (Dir d count ∷ []) next) next }
+    ensures stays { Stays result reader.new (S.left src.new) }
     ensures cause { HasCause (S.faults src.old) (S.faults src.new) result }
 {
     let mut line = ArrayVec::new();
     print_dir(d, count, &mut line);
-    hearing.expect(src, &line)
+    reader.expect(src, &line)
 }
 
 /// A line for each of some files.
 #[tactic(auto, using(crate::proofs::ShowingLaws::lines_start))]
 fn show_each<S: Source>(
-    hearing: &mut Hearing,
+    reader: &mut TranscriptReader,
     src: &mut S,
     plain: &Plain,
     ids: &[u32],
-) -> Result<Option<Finding>, Failed>
+) -> Result<Option<Outcome>, Failed>
     requires each { list_all (λ id. is_file (entry_at plain.now.files id)) ids.now ≡ true }
-    requires heard { Heard hearing.old (S.left src.old) }
-    ensures says { (next : Judge) → Says result hearing.old hearing.new (S.left src.old) (S.left src.new) (expects (map filed_line (map (file_of plain.now.files) ids.now)) next) next }
-    ensures stays { Stays result hearing.new (S.left src.new) }
+    requires at_line { AtLine reader.old (S.left src.old) }
+    ensures says { (next : Judge) → Says result reader.old reader.new (S.left src.old) (S.left src.new) (expects (map filed_line (map (file_of plain.now.files) ids.now)) next) next }
+    ensures stays { Stays result reader.new (S.left src.new) }
     ensures cause { HasCause (S.faults src.old) (S.faults src.new) result }
 {
     for id in ids {
-        if let Some(finding) = show_entry(hearing, src, plain, *id)? {
-            return Ok(Some(finding));
+        if let Some(outcome) = show_entry(reader, src, plain, *id)? {
+            return Ok(Some(outcome));
         }
     }
     Ok(None)
@@ -384,116 +384,116 @@ fn show_each<S: Source>(
 /// The line of a file.
 #[tactic(auto, using(crate::proofs::ShowingLaws::filed_says))]
 fn show_entry<S: Source>(
-    hearing: &mut Hearing,
+    reader: &mut TranscriptReader,
     src: &mut S,
     plain: &Plain,
     id: u32,
-) -> Result<Option<Finding>, Failed>
+) -> Result<Option<Outcome>, Failed>
     requires file { is_file (entry_at plain.now.files id) ≡ true }
-    requires heard { Heard hearing.old (S.left src.old) }
-    ensures says { (next : Judge) → Says result hearing.old hearing.new (S.left src.old) (S.left src.new) (expects (filed_line (file_of plain.now.files id) ∷ []) next) next }
-    ensures stays { Stays result hearing.new (S.left src.new) }
+    requires at_line { AtLine reader.old (S.left src.old) }
+    ensures says { (next : Judge) → Says result reader.old reader.new (S.left src.old) (S.left src.new) (expects (filed_line (file_of plain.now.files id) ∷ []) next) next }
+    ensures stays { Stays result reader.new (S.left src.new) }
     ensures cause { HasCause (S.faults src.old) (S.faults src.new) result }
 {
     let show = plain.show(id);
-    show_filed(hearing, src, show)
+    show_filed(reader, src, show)
 }
 
 /// The line of a file of which this is shown.
 #[tactic(auto, using(crate::proofs::ShowingLaws::filed_short, crate::proofs::ShowingLaws::printed_says))]
 fn show_filed<S: Source>(
-    hearing: &mut Hearing,
+    reader: &mut TranscriptReader,
     src: &mut S,
     show: FileShow,
-) -> Result<Option<Finding>, Failed>
-    requires heard { Heard hearing.old (S.left src.old) }
-    ensures says { (next : Judge) → Says result hearing.old hearing.new (S.left src.old) (S.left src.new) (expects (Filed show ∷ []) next) next }
-    ensures stays { Stays result hearing.new (S.left src.new) }
+) -> Result<Option<Outcome>, Failed>
+    requires at_line { AtLine reader.old (S.left src.old) }
+    ensures says { (next : Judge) → Says result reader.old reader.new (S.left src.old) (S.left src.new) (expects (Filed show ∷ []) next) next }
+    ensures stays { Stays result reader.new (S.left src.new) }
     ensures cause { HasCause (S.faults src.old) (S.faults src.new) result }
 {
     let mut line = ArrayVec::new();
     print_file(&show, &mut line);
-    hearing.expect(src, &line)
+    reader.expect(src, &line)
 }
 
 /// SHOW shows how many words a file has, and the words.
 fn show_file<S: Source>(
-    hearing: &mut Hearing,
+    reader: &mut TranscriptReader,
     src: &mut S,
     plain: &Plain,
     d: Word,
     x: Word,
     y: Word,
-) -> Result<Option<Finding>, Failed>
-    requires heard { Heard hearing.old (S.left src.old) }
-    ensures says { (next : Judge) → Says result hearing.old hearing.new (S.left src.old) (S.left src.new) (expects (shown_if (λ out. out) (file_shown (machine_of plain.now) d x y)) next) next }
-    ensures stays { Stays result hearing.new (S.left src.new) }
+) -> Result<Option<Outcome>, Failed>
+    requires at_line { AtLine reader.old (S.left src.old) }
+    ensures says { (next : Judge) → Says result reader.old reader.new (S.left src.old) (S.left src.new) (expects (shown_if (λ out. out) (file_shown (machine_of plain.now) d x y)) next) next }
+    ensures stays { Stays result reader.new (S.left src.new) }
     ensures cause { HasCause (S.faults src.old) (S.faults src.new) result }
 {
     match plain.file(d, x, y) {
-        Some(id) => show_text(hearing, src, plain, id, [d, x, y]),
+        Some(id) => show_text(reader, src, plain, id, [d, x, y]),
         None => Ok(None),
     }
 }
 
 /// The lines of a file with these names.
 fn show_text<S: Source>(
-    hearing: &mut Hearing,
+    reader: &mut TranscriptReader,
     src: &mut S,
     plain: &Plain,
     id: u32,
     names: [Word; 3],
-) -> Result<Option<Finding>, Failed>
+) -> Result<Option<Outcome>, Failed>
     requires file { is_file (entry_at plain.now.files id) ≡ true }
-    requires heard { Heard hearing.old (S.left src.old) }
-    ensures says { (next : Judge) → Says result hearing.old hearing.new (S.left src.old) (S.left src.new) (expects (text_lines names (words_at plain.now.files id)) next) next }
-    ensures stays { Stays result hearing.new (S.left src.new) }
+    requires at_line { AtLine reader.old (S.left src.old) }
+    ensures says { (next : Judge) → Says result reader.old reader.new (S.left src.old) (S.left src.new) (expects (text_lines names (words_at plain.now.files id)) next) next }
+    ensures stays { Stays result reader.new (S.left src.new) }
     ensures cause { HasCause (S.faults src.old) (S.faults src.new) result }
 {
     let count = plain.show(id).length;
-    if let Some(finding) = show_names(hearing, src, names, count)? {
-        return Ok(Some(finding));
+    if let Some(outcome) = show_names(reader, src, names, count)? {
+        return Ok(Some(outcome));
     }
-    show_rows(hearing, src, plain, id, count)
+    show_rows(reader, src, plain, id, count)
 }
 
 /// The line of the names of a file and of how many words it has.
 #[tactic(auto, using(crate::proofs::ShowingLaws::names_short, crate::proofs::ShowingLaws::printed_says))]
 fn show_names<S: Source>(
-    hearing: &mut Hearing,
+    reader: &mut TranscriptReader,
     src: &mut S,
     names: [Word; 3],
     count: u32,
-) -> Result<Option<Finding>, Failed>
-    requires heard { Heard hearing.old (S.left src.old) }
-    ensures says { (next : Judge) → Says result hearing.old hearing.new (S.left src.old) (S.left src.new) (expects (names_line names count ∷ []) next) next }
-    ensures stays { Stays result hearing.new (S.left src.new) }
+) -> Result<Option<Outcome>, Failed>
+    requires at_line { AtLine reader.old (S.left src.old) }
+    ensures says { (next : Judge) → Says result reader.old reader.new (S.left src.old) (S.left src.new) (expects (names_line names count ∷ []) next) next }
+    ensures stays { Stays result reader.new (S.left src.new) }
     ensures cause { HasCause (S.faults src.old) (S.faults src.new) result }
 {
     let [d, x, y] = names;
     let mut line = ArrayVec::new();
     print_show(d, x, y, count, &mut line);
-    hearing.expect(src, &line)
+    reader.expect(src, &line)
 }
 
 /// The words of a file, eight in a line.
 #[tactic(auto, using(crate::proofs::ShowingLaws::lines_start))]
 fn show_rows<S: Source>(
-    hearing: &mut Hearing,
+    reader: &mut TranscriptReader,
     src: &mut S,
     plain: &Plain,
     id: u32,
     count: u32,
-) -> Result<Option<Finding>, Failed>
-    requires heard { Heard hearing.old (S.left src.old) }
-    ensures says { (next : Judge) → Says result hearing.old hearing.new (S.left src.old) (S.left src.new) (expects (rows ((count + 7) / 8) (words_at plain.now.files id)) next) next }
-    ensures stays { Stays result hearing.new (S.left src.new) }
+) -> Result<Option<Outcome>, Failed>
+    requires at_line { AtLine reader.old (S.left src.old) }
+    ensures says { (next : Judge) → Says result reader.old reader.new (S.left src.old) (S.left src.new) (expects (rows ((count + 7) / 8) (words_at plain.now.files id)) next) next }
+    ensures stays { Stays result reader.new (S.left src.new) }
     ensures cause { HasCause (S.faults src.old) (S.faults src.new) result }
 {
     let lines = row_count(count);
     for k in 0..lines {
-        if let Some(finding) = show_row(hearing, src, plain, id, k)? {
-            return Ok(Some(finding));
+        if let Some(outcome) = show_row(reader, src, plain, id, k)? {
+            return Ok(Some(outcome));
         }
     }
     Ok(None)
@@ -510,36 +510,36 @@ fn row_count(words: u32) -> u32
 /// One of these lines.
 #[tactic(auto, using(crate::proofs::ShowingLaws::row_says))]
 fn show_row<S: Source>(
-    hearing: &mut Hearing,
+    reader: &mut TranscriptReader,
     src: &mut S,
     plain: &Plain,
     id: u32,
     k: u32,
-) -> Result<Option<Finding>, Failed>
+) -> Result<Option<Outcome>, Failed>
     requires few { 8 * k + 8 ≤ 2 ^ 32 }
-    requires heard { Heard hearing.old (S.left src.old) }
-    ensures says { (next : Judge) → Says result hearing.old hearing.new (S.left src.old) (S.left src.new) (expects (Row (take 8 (drop (8 * k) (words_at plain.now.files id))) ∷ []) next) next }
-    ensures stays { Stays result hearing.new (S.left src.new) }
+    requires at_line { AtLine reader.old (S.left src.old) }
+    ensures says { (next : Judge) → Says result reader.old reader.new (S.left src.old) (S.left src.new) (expects (Row (take 8 (drop (8 * k) (words_at plain.now.files id))) ∷ []) next) next }
+    ensures stays { Stays result reader.new (S.left src.new) }
     ensures cause { HasCause (S.faults src.old) (S.faults src.new) result }
 {
     let words = plain.row(id, k);
-    show_some(hearing, src, words.as_slice())
+    show_some(reader, src, words.as_slice())
 }
 
 /// The line of some words.
 #[tactic(auto, using(crate::proofs::ShowingLaws::row_short, crate::proofs::ShowingLaws::printed_says))]
 fn show_some<S: Source>(
-    hearing: &mut Hearing,
+    reader: &mut TranscriptReader,
     src: &mut S,
     words: &[Word],
-) -> Result<Option<Finding>, Failed>
+) -> Result<Option<Outcome>, Failed>
     requires few { length words.now ≤ 8 }
-    requires heard { Heard hearing.old (S.left src.old) }
-    ensures says { (next : Judge) → Says result hearing.old hearing.new (S.left src.old) (S.left src.new) (expects (Row words.now ∷ []) next) next }
-    ensures stays { Stays result hearing.new (S.left src.new) }
+    requires at_line { AtLine reader.old (S.left src.old) }
+    ensures says { (next : Judge) → Says result reader.old reader.new (S.left src.old) (S.left src.new) (expects (Row words.now ∷ []) next) next }
+    ensures stays { Stays result reader.new (S.left src.new) }
     ensures cause { HasCause (S.faults src.old) (S.faults src.new) result }
 {
     let mut line = ArrayVec::new();
     print_row(words, &mut line);
-    hearing.expect(src, &line)
+    reader.expect(src, &line)
 }

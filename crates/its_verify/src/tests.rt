@@ -90,6 +90,24 @@ fn ends_of_sessions(rt: HostRuntime) {
     }
 }
 
+/// If all lines that the session has are licensed, the next byte decides, and that the source then fails changes nothing. If there is no
+/// such byte, or a line lacks its LF, nothing is decided.
+#[test]
+fn one_byte_past_the_end(rt: HostRuntime) -> Result<(), Fail> {
+    for (input, found) in [
+        (b"END\nx".as_slice(), Ok(Outcome::No(1))),
+        (b"END\n\n".as_slice(), Ok(Outcome::No(1))),
+        (b"STATE 0\nEND\n? 1 NOJOB\n?".as_slice(), Ok(Outcome::No(2))),
+        (b"END\n".as_slice(), Err(Broken::Source)),
+        (b"STATE 0\nEND\n? 1 NOJOB".as_slice(), Err(Broken::Source)),
+        (b"STATE 0\nEND\n? 1 NOJOB\n".as_slice(), Err(Broken::Source)),
+    ] {
+        let mut src = MemSource::open(rt.alloc(), input, 512, &[1]).map_err(|_| "no memory")?;
+        assert_eq!(rt; verify(rt.alloc(), &mut src), found, "at {input:?}");
+    }
+    Ok(())
+}
+
 /// Two lines are kept, and the transcript is left.
 #[test]
 fn a_session_is_kept(rt: HostRuntime) -> Result<(), Fail> {

@@ -11,11 +11,11 @@ ghost use Rattle.its_plain.specs.Turns.{ticks_asked, turns_asked};
 ghost use Rattle.its_direct.specs.Events.{MayStand, place_of};
 ghost use Rattle.its_verify.specs.Finds.{Found as IsFound, Judges, ReadsOut};
 
-use super::finding::Finding;
-use super::hearing::Hearing;
 use super::judge::Judge;
 use super::keeping::{Broken, Part, keep};
-use super::trial::Trial;
+use super::outcome::Outcome;
+use super::transcript_reader::TranscriptReader;
+use super::verifier::Verifier;
 use its_direct::Spot;
 use its_io::{Failed, SafeSource, Source};
 use its_reader::{Found, Items, Texts};
@@ -36,7 +36,7 @@ const HIGHEST: u8 = SLOTS as u8 - 1;
 /// What is said of a session and its transcript, which a source gives one after the other. The session is kept in memory; the
 /// transcript is not.
 #[tactic(auto, using(crate::proofs::VerifyLaws::finds_session, crate::proofs::VerifyLaws::finds_long, crate::proofs::VerifyLaws::finds_cut, crate::proofs::VerifyLaws::finds_beyond))]
-pub fn verify<S: Source>(alloc: Global, src: &mut S) -> Result<Finding, Broken>
+pub fn verify<S: Source>(alloc: Global, src: &mut S) -> Result<Outcome, Broken>
     ensures finds { IsFound result (S.left src.old) (S.left src.new) }
     ensures input { IfOk result (λ f. ReadsOut f (S.left src.old) (S.left src.new)) }
     ensures unfailed { result ≢ Err Broken.Source → S.faults src.new ≡ S.faults src.old }
@@ -46,9 +46,9 @@ pub fn verify<S: Source>(alloc: Global, src: &mut S) -> Result<Finding, Broken>
     let mut session = Vec::new(alloc);
     match keep(&mut texts, src, &mut session)? {
         Part::Session => judge_transcript(alloc, src, texts, session),
-        Part::Long(n) => Ok(Finding::Long(n)),
-        Part::Cut(n) => Ok(Finding::Cut(n)),
-        Part::Beyond => Ok(Finding::Beyond),
+        Part::Long(n) => Ok(Outcome::Long(n)),
+        Part::Cut(n) => Ok(Outcome::Cut(n)),
+        Part::Beyond => Ok(Outcome::Beyond),
     }
 }
 
@@ -59,7 +59,7 @@ fn judge_transcript<S: Source>(
     src: &mut S,
     mut texts: Texts,
     session: Vec<u8>,
-) -> Result<Finding, Broken>
+) -> Result<Outcome, Broken>
     requires ready { ReadyTexts texts (S.left src.old) }
     requires few { texts.number ≤ most_lines }
     ensures judged { Judges result texts session.items (S.left src.old) (S.left src.new) }
@@ -72,9 +72,9 @@ fn judge_transcript<S: Source>(
     };
     let room = MOST_LINES - texts.number;
     texts.most = TRANSCRIPT_BYTES;
-    let mut trial = Trial {
+    let mut verifier = Verifier {
         judge,
-        hearing: Hearing {
+        reader: TranscriptReader {
             texts,
             passed: 0,
             room,
@@ -82,26 +82,26 @@ fn judge_transcript<S: Source>(
         last: HIGHEST,
     };
     let mut session = SafeSource::of(session);
-    match trial.go(src, &mut session) {
-        Ok(finding) => Ok(finding),
+    match verifier.go(src, &mut session) {
+        Ok(outcome) => Ok(outcome),
         Err(_) => Err(Broken::Source),
     }
 }
 
-impl Trial {
+impl Verifier {
     ghost use Rattle.its_verify.specs.Finds.{ReadsOutIf};
     ghost use Rattle.its_verify.specs.Going.{FoundStands, ItemSays, is_end, judge_from};
-    ghost use Rattle.its_verify.specs.Hearing.{Concludes, Says};
+    ghost use Rattle.its_verify.specs.TranscriptReader.{Concludes, Says};
     ghost use Rattle.its_verify.specs.Judge.{Judge as AnyJudge, turned};
-    ghost use Rattle.its_verify.specs.Standing.{walk_of};
-    ghost use Rattle.its_verify.specs.Trial.{RunsOutside, StaysTried, Tried, TurnsSay};
+    ghost use Rattle.its_verify.specs.JudgeState.{walk_of};
+    ghost use Rattle.its_verify.specs.Verifier.{RunsOutside, StaysAtItem, AtItem, TurnsSay};
 
     /// Takes the items of a session one by one, until all is said.
     #[tactic(auto, using(crate::proofs::GoneLaws::gone_start, crate::proofs::GoneLaws::stands_on, crate::proofs::GoneLaws::fits_on))]
-    fn go<S: Source>(&mut self, src: &mut S, session: &mut SafeSource) -> Result<Finding, Failed>
-        requires tried { Tried self.old (S.left src.old) }
+    fn go<S: Source>(&mut self, src: &mut S, session: &mut SafeSource) -> Result<Outcome, Failed>
+        requires at_item { AtItem self.old (S.left src.old) }
         requires place { self.old.judge.plain.place ≡ Spot.Plain }
-        ensures ends { Concludes result self.old.hearing (S.left src.old) (S.left src.new) (judge_from self.old no_block 1 (events_of session.old)) }
+        ensures ends { Concludes result self.old.reader (S.left src.old) (S.left src.new) (judge_from self.old no_block 1 (events_of session.old)) }
         ensures out { IfOk result (λ f. ReadsOut f (S.left src.old) (S.left src.new)) }
         ensures cause { HasCause (S.faults src.old) (S.faults src.new) result }
     {
@@ -110,8 +110,8 @@ impl Trial {
             let Ok(found) = items.next(session) else {
                 unreachable!()
             };
-            if let Some(finding) = self.take(src, items.lines.number, &found)? {
-                return Ok(finding);
+            if let Some(outcome) = self.take(src, items.lines.number, &found)? {
+                return Ok(outcome);
             }
         }
     }
@@ -123,13 +123,13 @@ impl Trial {
         src: &mut S,
         number: u32,
         found: &Found,
-    ) -> Result<Option<Finding>, Failed>
+    ) -> Result<Option<Outcome>, Failed>
         requires fits { found_fits 2 found.now }
         requires stands { FoundStands (place_of self.old.judge.plain.place) found.now }
-        requires tried { Tried self.old (S.left src.old) }
+        requires at_item { AtItem self.old (S.left src.old) }
         ensures says { ItemSays result self.old self.new (S.left src.old) (S.left src.new) number found.now }
         ensures out { ReadsOutIf result (S.left src.old) (S.left src.new) }
-        ensures stays { StaysTried result self.new (S.left src.new) }
+        ensures stays { StaysAtItem result self.new (S.left src.new) }
         ensures place { result ≡ Ok None → place_of self.new.judge.plain.place ≡ place_found (place_of self.old.judge.plain.place) found.now }
         ensures going { result ≡ Ok None → is_last found.now ≡ false }
         ensures cause { HasCause (S.faults src.old) (S.faults src.new) result }
@@ -148,31 +148,31 @@ impl Trial {
         src: &mut S,
         number: u32,
         event: &Event,
-    ) -> Result<Option<Finding>, Failed>
+    ) -> Result<Option<Outcome>, Failed>
         requires fits { EventFits 2 event.now }
         requires stands { MayStand (place_of self.old.judge.plain.place) event.now }
-        requires tried { Tried self.old (S.left src.old) }
+        requires at_item { AtItem self.old (S.left src.old) }
         ensures says { ItemSays result self.old self.new (S.left src.old) (S.left src.new) number (Found.Line event.now) }
         ensures out { ReadsOutIf result (S.left src.old) (S.left src.new) }
-        ensures stays { StaysTried result self.new (S.left src.new) }
+        ensures stays { StaysAtItem result self.new (S.left src.new) }
         ensures place { result ≡ Ok None → place_of self.new.judge.plain.place ≡ place_after (place_of self.old.judge.plain.place) event.now }
         ensures going { result ≡ Ok None → is_end event.now ≡ false }
         ensures cause { HasCause (S.faults src.old) (S.faults src.new) result }
     {
-        if let Some(finding) = self.line(src, number, event)? {
-            return Ok(Some(finding));
+        if let Some(outcome) = self.line(src, number, event)? {
+            return Ok(Some(outcome));
         }
         self.turns_of(src, event)
     }
 
     /// The turns that a line asks for are next: those of RUN.
-    #[tactic(auto, using(crate::proofs::HearingLaws::nothing_on))]
-    fn turns_of<S: Source>(&mut self, src: &mut S, event: &Event) -> Result<Option<Finding>, Failed>
+    #[tactic(auto, using(crate::proofs::VerifierLaws::no_turns))]
+    fn turns_of<S: Source>(&mut self, src: &mut S, event: &Event) -> Result<Option<Outcome>, Failed>
         requires fits { EventFits 2 event.now }
         requires outside { RunsOutside event.now self.old.judge.plain.place }
-        requires tried { Tried self.old (S.left src.old) }
+        requires at_item { AtItem self.old (S.left src.old) }
         ensures says { TurnsSay result self.old self.new (S.left src.old) (S.left src.new) (turns_asked event.now) (ticks_asked event.now) }
-        ensures stays { StaysTried result self.new (S.left src.new) }
+        ensures stays { StaysAtItem result self.new (S.left src.new) }
         ensures place { self.new.judge.plain.place ≡ self.old.judge.plain.place }
         ensures cause { HasCause (S.faults src.old) (S.faults src.new) result }
     {

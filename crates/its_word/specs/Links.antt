@@ -37,7 +37,7 @@ is_closed Unopened = false
 is_closed (Opened s n) = false
 is_closed Closed = true
 
--- a link stands as long as one of its ends is open
+-- a link exists as long as one of its ends is open
 abbrev pub is_alive : Link → Bool
 is_alive k = is_open k.reader || is_open k.writer
 

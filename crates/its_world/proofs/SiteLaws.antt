@@ -9,7 +9,7 @@ use Rattle.its_word.specs.declared.calls.Site.{Site}
 use Rattle.its_stepped.specs.TwoParts.{items_of, parse, parse_by, parse_of}
 use Rattle.its_plain.specs.Decode.{argument_words, block_at, checked, has_bit_0, is_legal, parsed, up_to_last}
 use Rattle.its_plain.specs.Traced.{Traced, also, goes_on, word}
-pub use Rattle.its_local.proofs.FitsLaws.{site_fits}
+pub use Rattle.its_plain.proofs.FitsLaws.{site_fits}
 
 -- what holds of the value of a second part, whatever the first gives
 then_ok : {X Y : Type 0} (P : Y → Type 0) (rs ts : List ℕ) (r : Result X Fault) (rest : X → Traced Y) → ((x : X) → IfOk (rest x).answer P)

@@ -1,5 +1,5 @@
 -- What a world keeps if one part is written.
-use Rattle.std.specs.Prelude.{◌≡◌, ◌<◌, ◌≤◌, ◌-◌, ℕ, true, Option, Some, None, IsSome, is_some, List, [], ◌∷◌, ◌++◌, length, drop, option_map, refl}
+use Rattle.std.specs.Prelude.{◌≡◌, ◌<◌, ◌≤◌, ◌-◌, ℕ, true, Option, Some, None, IsSome, IfSome, is_some, List, [], ◌∷◌, ◌++◌, length, drop, option_map, refl}
 use Rattle.std.proofs.Common.{ap, sym, arith, ◌∙◌}
 use Rattle.std.proofs.lemmas.List.{length-append, take-append-le, take_all}
 use Rattle.its_word.specs.Only.{Only}
@@ -81,6 +81,12 @@ slot_becomes old mid new s j f w r = record {
   pipes = r.rest.pipes ∙ w.pipes;
   alarms = r.rest.alarms ∙ w.alarms;
 }
+
+-- the same of a frame that depends on what was there
+pub if_becomes : {X : Type 0} → (o : Option X) (old mid new : World) (s : ℕ) (j : Option Job) (f : X → Option Frame) → IfSome o (λ x. SlotWritten old mid s j (f x)) → Refiled mid new s
+    → IfSome o (λ x. Becomes old new s (core_at old.core s) j (f x) (clear_at old.core s))
+if_becomes (Some x) old mid new s j f w r = slot_becomes old mid new s j (f x) w r
+if_becomes None old mid new s j f w r = w
 
 pub job_written : (old new : World) (s : ℕ) (j : Job) → Only (job_at old.jobs) (job_at new.jobs) s (Some j) → new.jobs.superiors ≡ old.jobs.superiors
     → new.core ≡ old.core → new.frames ≡ old.frames → new.consoles ≡ old.consoles → new.holders ≡ old.holders → new.files ≡ old.files → new.clock ≡ old.clock → new.version ≡ old.version → new.symbols ≡ old.symbols → new.pipes ≡ old.pipes → new.alarms ≡ old.alarms → new.rings ≡ old.rings

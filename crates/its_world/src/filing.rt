@@ -13,7 +13,8 @@ ghost use Rattle.its_world.specs.Filed.{console_at, holder_at, channel_of, wait_
 
 use super::rings::{CLOCK_RING, awake_of, is_within, put, reason_by, ring_of, stands_in};
 use super::world::{CONSOLES, World};
-use its_frame::{CallName, Frame, Wait};
+use its_calls::View;
+use its_frame::{CallName, Wait};
 use its_word::{Ask, Channel, Job, LINKS, Word};
 
 /// How many bytes wait at most at a console, in one direction.
@@ -128,9 +129,9 @@ impl World {
         requires { slot < slots }
         ensures { result ≡ place_of self.now slot }
     {
-        match &self.frames[usize::from(slot)] {
-            Some(Frame::Waiting(f)) => {
-                self.place_for(slot, first_input(&f.ask), self.wait_reason(slot, &f.ask))
+        match self.frame(slot) {
+            View::Waiting { ask, .. } => {
+                self.place_for(slot, first_input(ask), self.wait_reason(slot, ask))
             }
             _ => None,
         }
@@ -142,8 +143,8 @@ impl World {
         requires { slot < slots }
         ensures { result ≡ awake_at self.now slot }
     {
-        match &self.frames[usize::from(slot)] {
-            Some(Frame::Waiting(f)) => awake_for(self.wait_reason(slot, &f.ask)),
+        match self.frame(slot) {
+            View::Waiting { ask, .. } => awake_for(self.wait_reason(slot, ask)),
             _ => None,
         }
     }

@@ -13,6 +13,7 @@
 #![tactic(auto)]
 
 mod alarms;
+mod calls;
 mod consoles;
 mod filing;
 mod pipes;

@@ -4,13 +4,13 @@ ghost use Rattle.its_jobs.specs.Table.{job_at};
 ghost use Rattle.its_plain.specs.Change.{symbols_left};
 ghost use Rattle.its_world.specs.World.{symbols_at};
 
-use arrayvec::ArrayVec;
 use its_jobs::Jobs;
-use its_word::{SLOTS, Word};
+use its_parts::SymbolTable;
+use its_word::SLOTS;
 
 /// Takes the symbols from the slots that have no job.
 #[tactic(auto, using(crate::proofs::SymbolLaws::forget_start, crate::proofs::SymbolLaws::forget_gone, crate::proofs::SymbolLaws::forget_kept, crate::proofs::SymbolLaws::forget_end))]
-pub fn forget_removed(lists: &mut Vec<ArrayVec<(Word, u32), 512>>, jobs: &Jobs)
+pub fn forget_removed(lists: &mut Vec<SymbolTable>, jobs: &Jobs)
     requires length { vec_len lists.old ≡ slots }
     ensures length { vec_len lists.new ≡ slots }
     ensures left { (k : ℕ) → symbols_at lists.new.items k ≡ symbols_left (is_none (job_at jobs.now k)) (symbols_at lists.old.items k) }

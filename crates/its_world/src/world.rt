@@ -5,14 +5,13 @@ ghost use Rattle.its_world.specs.Rings.{heads};
 
 use super::consoles::type_at;
 use super::rings::HEADS;
-use arrayvec::ArrayVec;
+use its_calls::Call;
 use its_console::Console;
 use its_core::Core;
 use its_files::Files;
-use its_frame::Frame;
 use its_jobs::{Jobs, limit_of};
 use its_links::Links;
-use its_parts::{no_alarms, no_symbols, quiet_consoles};
+use its_parts::{SymbolTable, no_alarms, no_symbols, quiet_consoles};
 use its_pipes::Pipes;
 use its_word::{Job, NoAccess, NoMemory, SLOTS, Word};
 use std::alloc::Global;
@@ -20,7 +19,7 @@ use std::alloc::Global;
 /// How many consoles there are.
 pub(crate) const CONSOLES: usize = 8;
 
-/// The whole state: cores, jobs, for each slot the frame of its call in progress if it is in one, the consoles, for
+/// The whole state: cores, jobs, for each slot its call in progress, if it is in one, the consoles, for
 /// each of them the slot of the job that holds it, the files and drafts, the clock in thirtieths, the wait lists, the
 /// version of the session text, which determines how many jobs there can be, for each slot the symbols of its job, in
 /// the order in which they were given, the alarm of its job if it has one: its period and its next time, and the links
@@ -29,14 +28,14 @@ pub(crate) const CONSOLES: usize = 8;
 pub struct World {
     pub core: Core,
     pub jobs: Jobs,
-    pub frames: Vec<Option<Frame>>,
+    pub frames: Vec<Call>,
     pub consoles: Vec<Console>,
     pub holders: [Option<u8>; 8],
     pub files: Files,
     pub clock: u64,
     pub rings: Links,
     pub version: u8,
-    pub symbols: Vec<ArrayVec<(Word, u32), 512>>,
+    pub symbols: Vec<SymbolTable>,
     pub alarms: Vec<Option<(u64, u64)>>,
     pub pipes: Pipes,
     ghost lists: { vec_len symbols ≡ slots },
@@ -177,45 +176,6 @@ impl World {
         ensures { result ≡ is_some (frame_at self.now.frames.items slot) }
     {
         self.frames[usize::from(slot)].is_some()
-    }
-
-    /// Takes the frame of a slot, which keeps its place on the wait lists.
-    #[tactic(auto, using(crate::proofs::WorldLaws::frame_written))]
-    fn lift_frame(&mut self, slot: u8) -> Option<Frame>
-        requires { slot < slots }
-        ensures frame { result ≡ frame_at self.old.frames.items slot }
-        ensures written { SlotWritten self.old self.new slot (job_at self.old.jobs slot) None }
-    {
-        self.frames[usize::from(slot)].take()
-    }
-
-    /// Takes the frame of a slot out of the world, which is then without it.
-    pub fn take_frame(&mut self, slot: u8) -> Option<Frame>
-        requires { slot < slots }
-        ensures frame { result ≡ frame_at self.old.frames.items slot }
-        ensures taken { FrameBecomes self.old self.new slot None }
-    {
-        let frame = self.lift_frame(slot);
-        self.refile(slot);
-        frame
-    }
-
-    /// Writes the frame of a slot, which keeps its place on the wait lists.
-    #[tactic(auto, using(crate::proofs::WorldLaws::frame_written))]
-    fn write_frame(&mut self, slot: u8, frame: Frame)
-        requires { slot < slots }
-        ensures { SlotWritten self.old self.new slot (job_at self.old.jobs slot) (Some frame) }
-    {
-        self.frames[usize::from(slot)] = Some(frame);
-    }
-
-    /// Puts a frame in the place of a slot.
-    pub fn put_frame(&mut self, slot: u8, frame: Frame)
-        requires { slot < slots }
-        ensures { FrameBecomes self.old self.new slot (Some frame) }
-    {
-        self.write_frame(slot, frame);
-        self.refile(slot);
     }
 
     /// A byte is typed at a console. False if 64 typed bytes wait; the byte is then lost.
@@ -366,15 +326,15 @@ impl World {
     }
 }
 
-/// So many places without a frame.
+/// So many places for calls, of jobs in user mode.
 #[tactic(auto, using(its_parts::proofs::OpenLaws::none_more))]
-fn no_frames(alloc: Global, n: usize) -> Result<Vec<Option<Frame>>, NoMemory>
+fn no_frames(alloc: Global, n: usize) -> Result<Vec<Call>, NoMemory>
     ensures length { IfOk result (λ v. vec_len v ≡ n) }
     ensures none { IfOk result (λ v. (k : ℕ) → slice_index_or v.items k None ≡ None) }
 {
     let mut v = Vec::with_capacity(alloc, n).map_err(|_| NoMemory)?;
     for _k in 0..n {
-        v.push(None).map_err(|_| NoMemory)?;
+        v.push(Call::none()).map_err(|_| NoMemory)?;
     }
     Ok(v)
 }

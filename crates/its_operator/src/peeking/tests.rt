@@ -1,11 +1,9 @@
-ghost use Rattle.std.specs.Prelude.{◌≤◌, length};
-ghost use Rattle.its_frame.specs.Left.{Few};
-
-use super::inside;
+use super::peek_of;
 use crate::{load_job, load_word, open};
 use arrayvec::ArrayVec;
-use its_frame::{Asked, CallName, Ending, Entered, Frame, Holding, Moving, Parsed, Waiting};
-use its_word::{Ask, Operand, Owed, Peek, PeekState, Site, Word};
+use its_calls::View;
+use its_frame::CallName;
+use its_word::{Ask, Block, Operand, Owed, Peek, PeekState, Site, Word};
 use std::process::Abort;
 use std::test::Fail;
 
@@ -43,17 +41,15 @@ fn ask(rt: &impl Abort, name: CallName, places: [Option<u32>; 3]) -> Ask {
 }
 
 /// The block of a call of this name.
-fn block(name: Word) -> ArrayVec<Word, 10> {
+fn block(name: Word) -> Block {
     let mut block = ArrayVec::new();
     block.push(Word::new(0o400000000000));
     block.push(name);
     block
 }
 
-/// The pending steps of an ending call: two file steps, which are not counted, and a page to be given back.
-fn owed() -> ArrayVec<Owed, 4>
-    ensures { length result.items ≤ 4 }
-{
+/// The pending steps of an ending call.
+fn owed() -> ArrayVec<Owed, 4> {
     let mut owed = ArrayVec::new();
     owed.push(Owed::Unlink);
     owed.push(Owed::GiveBack);
@@ -61,38 +57,45 @@ fn owed() -> ArrayVec<Owed, 4>
     owed
 }
 
-/// A frame of a call in this state. One that holds has a page and nothing pending; one that waits has two arguments
-/// pending.
-fn frame(state: PeekState, channel: Option<u8>, ask: Ask) -> Frame
-    ensures { Few result }
-{
-    let site = site(channel);
+/// The parts of a call, of which a frame shows some.
+#[derive(Drop)]
+struct Parts {
+    site: Site,
+    block: Block,
+    ask: Ask,
+    owed: ArrayVec<Owed, 4>,
+}
+
+/// A frame of a call in this state.
+fn frame(state: PeekState, parts: &Parts) -> View<'_> {
+    let site = &parts.site;
+    let ask = &parts.ask;
     match state {
-        PeekState::User => Frame::Entered(Entered { site }),
-        PeekState::Entered => Frame::Entered(Entered { site }),
-        PeekState::Parsed => Frame::Parsed(Parsed {
+        PeekState::User => View::User,
+        PeekState::Entered => View::Entered { site },
+        PeekState::Parsed => View::Parsed {
             site,
-            block: block(ask.name),
-        }),
-        PeekState::Asked => Frame::Asked(Asked { site, ask }),
-        PeekState::Holding => Frame::Holding(Holding {
+            block: &parts.block,
+        },
+        PeekState::Asked => View::Asked { site, ask },
+        PeekState::Holding => View::Holding {
             site,
             ask,
             page: Some(2),
             owes: 0,
-        }),
-        PeekState::Waiting => Frame::Waiting(Waiting { site, ask, owes: 2 }),
-        PeekState::Moving => Frame::Moving(Moving {
+        },
+        PeekState::Waiting => View::Waiting { site, ask, owes: 2 },
+        PeekState::Moving => View::Moving {
             site,
             ask,
             place: 0o2000,
             byte: Word::new(0o101),
-        }),
-        PeekState::Ending => Frame::Ending(Ending {
+        },
+        PeekState::Ending => View::Ending {
             site,
             ask,
-            owed: owed(),
-        }),
+            owed: &parts.owed,
+        },
     }
 }
 
@@ -205,7 +208,12 @@ fn frames(rt: HostRuntime) -> Result<(), Fail> {
             None,
         ),
     ] {
-        let frame = frame(state, channel, ask(&rt, name, places));
+        let parts = Parts {
+            site: site(channel),
+            block: block(name.word()),
+            ask: ask(&rt, name, places),
+            owed: owed(),
+        };
         let wanted = Peek {
             state,
             name: want.map(CallName::word),
@@ -214,7 +222,7 @@ fn frames(rt: HostRuntime) -> Result<(), Fail> {
             b: shown[1].map(Word::new),
             h: h.map(Word::new),
         };
-        assert_eq!(rt; inside(&w, 0, &frame), wanted);
+        assert_eq!(rt; peek_of(&w, 0, &frame(state, &parts), left), wanted);
     }
     Ok(())
 }

@@ -30,7 +30,7 @@ static NO_COMMANDS: &str = "
  gen 1 1
  gen 0000000000001";
 
-/// Words, a session and what is written.
+/// Words, a session and what is written. `@` is the first session.
 static COMMANDS: &str = " run = TICK 0 1
 = T 0 1-
 # gen 1 = TICK 0 1
@@ -40,13 +40,7 @@ DRAINED 10
 # gen 000000000001 = END= LINES 134
 STEPS 50
 DRAINED 10
-# check = LOAD U J -
-100/ 201040000005 202040000200
-GO 100
-TICK 0 2
-EXAM 0 200 1
-END
-= OK 6
+# check = @= OK 6
 # check = = OK 0
 # check = STATE 0
 PEEK 77
@@ -62,52 +56,22 @@ TYPE 10 200
 = ? 2 RANGE
 # check = LOAD U J -
 100/ 2010= ? 3 CUT
-# verify = LOAD U J -
-100/ 201040000005 202040000200
-GO 100
-TICK 0 2
-EXAM 0 200 1
-END
-J 0
+# verify = @J 0
 T 0 2*
 E 0 000200 000000000005
 = YES 3
-# verify = LOAD U J -
-100/ 201040000005 202040000200
-GO 100
-TICK 0 2
-EXAM 0 200 1
-END
-J 0
+# verify = @J 0
 T 0 2-
 E 0 000200 000000000005
 = NO 2
-# verify = LOAD U J -
-100/ 201040000005 202040000200
-GO 100
-TICK 0 2
-EXAM 0 200 1
-END
-J 0
+# verify = @J 0
 T 0 2.
 E 0 000200 000000000005
 = NO 3
-# verify = LOAD U J -
-100/ 201040000005 202040000200
-GO 100
-TICK 0 2
-EXAM 0 200 1
-END
-J 0
+# verify = @J 0
 T 0 2*
 = NO 3
-# verify = LOAD U J -
-100/ 201040000005 202040000200
-GO 100
-TICK 0 2
-EXAM 0 200 1
-END
-J 0
+# verify = @J 0
 T 0 2*
 E 0 000200 000000000005= NO 3
 # verify = LOAD U J -
@@ -168,10 +132,14 @@ fn no_commands(rt: HostRuntime) -> Result<(), Fail> {
 
 #[test]
 fn commands(rt: HostRuntime) -> Result<(), Fail> {
+    let alloc = rt.alloc();
     for row in COMMANDS.split('#') {
         let (words, rest) = row.split_once(" = ").expect(&rt, "a session");
         let (session, wanted) = rest.split_once("= ").expect(&rt, "what is written");
-        let got = tried(rt.alloc(), words, session.as_bytes(), 512, (&[], &[]))?;
+        let first = if session.starts_with("@") { FIRST } else { "" };
+        let rest = session.strip_prefix("@").unwrap_or(session);
+        let session = format!(in alloc; "{first}{rest}")?;
+        let got = tried(alloc, words, session.as_bytes(), 512, (&[], &[]))?;
         assert_eq!(rt; got.wrote.as_slice(), wanted.as_bytes(), "at {row}");
         let refused = wanted.contains('?') || wanted.starts_with("NO");
         assert_eq!(rt; got.status == Status::Refused, refused, "at {row}");
@@ -262,6 +230,13 @@ fn faults(rt: HostRuntime) -> Result<(), Fail> {
         (" check", first, (&[2][..], &[][..]), "", Status::ReadFault),
         (" check", first, (&[][..], &[0][..]), "", Status::WriteFault),
         (" verify", first, (&[2][..], &[][..]), "", Status::ReadFault),
+        (
+            " verify",
+            &b"END\nx"[..],
+            (&[1][..], &[][..]),
+            "NO 1\n",
+            Status::Refused,
+        ),
         (
             " verify",
             first,

@@ -1,7 +1,7 @@
 //! Jobs that a superior disturbs at each place inside a call, those that it does not, and a tree of jobs that it removes.
 
 use super::inferiors::MAKER;
-use super::{line, shows, word};
+use super::rows::{line, show_row, times, word};
 use std::alloc::Global;
 use std::process::Abort;
 use std::test::Fail;
@@ -24,58 +24,51 @@ static PLACES: &str = "- = 7 4. 1* 2. = ENTERED - 1 - - - = 440700000130 2 0 100
 /// Calls that the superior then executes, each at its fifth tick: the instruction, its block, what the word at 10 holds after it, and
 /// what the inferior's count does: one of the words that the inferior is left with, or a number. They are `.IOT`, SIOT and USRMEM that
 /// read the word of the bytes, USRVAR that reads UPC, and `.IOT`, SIOT and USRMEM that store 5 in the count's word.
-static CALLS: &str = "40100000010 0 = bytes count
-43000000300 400000000000 635157640000 1000000002 310 400000000311 = bytes count
-43000000300 400000000000 656362554555 1000000001 1000000130 402000000010 = bytes count
-43000000300 400000000000 656362664162 1000000002 243 402000000010 = pc count
-40040000011 0 = 777 5
-43000000300 400000000000 635157640000 1000000001 312 400000000313 = 777 5
-43000000300 400000000000 656362554555 1000000001 1000000123 1000000005 402000000010 = count 5";
+static CALLS: &str = ".IOT 2,10 | 0 = bytes count
+.CALL 300 | SETZ | SIXBIT SIOT | 1000,,2 | 310 | SETZ 311 = bytes count
+.CALL 300 | SETZ | SIXBIT USRMEM | 1000,,1 | 1000,,130 | 402000,,10 = bytes count
+.CALL 300 | SETZ | SIXBIT USRVAR | 1000,,2 | 243 | 402000,,10 = pc count
+.IOT 1,11 | 0 = 777 5
+.CALL 300 | SETZ | SIXBIT SIOT | 1000,,1 | 312 | SETZ 313 = 777 5
+.CALL 300 | SETZ | SIXBIT USRMEM | 1000,,1 | 1000,,123 | 1000,,5 | 402000,,10 = count 5";
 
 /// After the maker of the inferior: it is opened for input, channel 1 is put to the word of its count and channel 2 to that of its
 /// bytes, and it gets the console.
 const READY: &str = "10/ 777 5
-114/ 43000000250 0 43000000256 0 43000000262 0 43000000266 0
+114: .CALL 250 | 0 | .CALL 256 | 0 | .CALL 262 | 0 | .CALL 266 | 0
 246/ 24
-250/ 400000000000 576045560000 1000000002 240 241 400000000242
-256/ 400000000000 414343456363 1000000001 401000000123
-262/ 400000000000 414343456363 1000000002 401000000130
-266/ 400000000000 646471545644 401000000001
+250: SETZ | SIXBIT OPEN | 1000,,2 | 240 | 241 | SETZ 242
+256: SETZ | SIXBIT ACCESS | 1000,,1 | 401000,,123
+262: SETZ | SIXBIT ACCESS | 1000,,2 | 401000,,130
+266: SETZ | SIXBIT TTYLND | 401000,,1
 310/ 444400000010 1 444400000011 1
-400/ 43000000110 0 43000000114 0 0 0 0 0 400000000000 576045560000 1000000001 400000000121 400000000000 635157640000 1000000001 122
-420/ 400000000123 646471000000 440700000130 2
+400: .CALL 110 | 0 | .CALL 114 | 0 | 0 | 0 | 0 | 0 | SETZ | SIXBIT OPEN | 1000,,1 | SETZ 121 | SETZ | SIXBIT SIOT | 1000,,1 | 122
+420: SETZ 123 | SIXBIT TTY | 440700,,130 | 2
 ";
 
-const READY_OUT: &str = "J 0
-T 0 4. 1* 11. 1* 5. 1* 5. 25* 7. 1* 5. 1* 5. 1* 5. 1* 5. 1* 5. 1* 1.
-";
+const PLACED: &str =
+    "GO 100\nTICK 0 126 = T 0 4. 1* 11. 1* 5. 1* 5. 25* 7. 1* 5. 1* 5. 1* 5. 1* 5. 1* 5. 1* 1.\n";
 
-/// The session up to the place of the inferior, before the superior executes this call; and its transcript.
-fn placed(
-    alloc: Global,
-    rt: &impl Abort,
-    call: &str,
-    place: &str,
-) -> Result<(String, String), Fail> {
+/// Appends the line that types these bytes, if there are any.
+fn type_bytes(row: &mut String, typed: &str) -> Result<(), Fail> {
+    if typed != "-" {
+        times(row, "TYPE 0 ", typed, 1, " = Y 0 0\n")?;
+    }
+    Ok(())
+}
+
+/// The row up to the place of the inferior, before the superior executes this call.
+fn placed(alloc: Global, rt: &impl Abort, call: &str, place: &str) -> Result<String, Fail> {
     let (typed, told) = place.split_once(" = ").expect(rt, "ticks");
     let (ticks, told) = told.split_once(" = ").expect(rt, "a place");
     let (peek, _) = told.split_once(" = ").expect(rt, "words");
     let (count, letters) = ticks.split_once(" ").expect(rt, "letters");
-    let (at, block) = call.split_once(" ").expect(rt, "a block");
-    let mut session = format!(in alloc;
-        "{MAKER}{READY}124/ {at}\n300/ {block}\nGO 100\nTICK 0 126\n"
-    )?;
-    let mut shown = format!(in alloc; "{READY_OUT}")?;
-    if typed != "-" {
-        session.push_str("TYPE 0 ")?;
-        line(&mut session, typed)?;
-        line(&mut shown, "Y 0 0")?;
-    }
-    let ticks = format!(in alloc; "TICK 1 {count}\nPEEK 1")?;
-    line(&mut session, &ticks)?;
-    let told = format!(in alloc; "T 1 {letters}\nP 1 {peek}")?;
-    line(&mut shown, &told)?;
-    Ok((session, shown))
+    let (at, block) = call.split_once(" | ").expect(rt, "a block");
+    let mut row = format!(in alloc; "{MAKER}{READY}124: {at}\n300: {block}\n{PLACED}")?;
+    type_bytes(&mut row, typed)?;
+    let told = format!(in alloc; "TICK 1 {count} = T 1 {letters}\nPEEK 1 = P 1 {peek}")?;
+    line(&mut row, &told)?;
+    Ok(row)
 }
 
 /// One of the words that an inferior is left with, by its name, or a number.
@@ -92,32 +85,23 @@ fn named<'a>(rt: &impl Abort, left: &'a str, name: &'a str) -> &'a str {
     }
 }
 
-/// What is shown after the call: the inferior in user mode, and the words that it is left with.
-fn left(
-    alloc: Global,
-    rt: &impl Abort,
-    shown: &mut String,
-    place: &str,
-    told: &str,
-) -> Result<(), Fail> {
-    let (_, behind) = place.split_once(" = ").expect(rt, "ticks");
-    let (_, behind) = behind.split_once(" = ").expect(rt, "a place");
-    let (_, words) = behind.split_once(" = ").expect(rt, "words");
+/// Appends what is shown after the call: the inferior in user mode, and the words that it is left with.
+fn left(rt: &impl Abort, row: &mut String, place: &str, told: &str) -> Result<(), Fail> {
+    let (_, words) = place.rsplit_once(" = ").expect(rt, "words");
     let (ten, count) = told.split_once(" ").expect(rt, "a count");
     let (pointer, _) = words.split_once(" ").expect(rt, "a pointer");
-    shown.push_str("T 0 4. 1*\nP 1 USER - 0 - - -\nE 0 000010 ")?;
-    word(shown, named(rt, words, ten))?;
-    let told = format!(in alloc; "\nE 1 000122 {pointer} ")?;
-    shown.push_str(&told)?;
-    word(shown, named(rt, words, count))?;
-    shown.push_str("\nE 1 000130 ")?;
-    word(shown, named(rt, words, "bytes"))?;
-    shown.push_str("\nS 1 650000000000 530000000000 0 0 RUN ")?;
-    word(shown, named(rt, words, "pc"))?;
-    line(
-        shown,
-        " 000000000000 000000000000 000000000000 000000000000 000000000000 000000000000",
-    )
+    row.push_str("TICK 0 5 = T 0 4. 1*\nPEEK 1 = P 1 USER - 0 - - -\n")?;
+    row.push_str("EXAM 0 10 1 = E 0 000010 ")?;
+    word(row, named(rt, words, ten))?;
+    row.push_str("\nEXAM 1 122 2 = E 1 000122 ")?;
+    row.push_str(pointer)?;
+    row.push(' ')?;
+    word(row, named(rt, words, count))?;
+    row.push_str("\nEXAM 1 130 1 = E 1 000130 ")?;
+    word(row, named(rt, words, "bytes"))?;
+    row.push_str("\nSTATE 1 = S 1 650000000000 530000000000 0 0 RUN ")?;
+    word(row, named(rt, words, "pc"))?;
+    times(row, "", " 000000000000", 6, "\n")
 }
 
 /// Each of these calls finds the inferior in user mode, wherever it was.
@@ -127,27 +111,32 @@ fn places(rt: HostRuntime) -> Result<(), Fail> {
     for row in CALLS.split('\n') {
         let (call, told) = row.split_once(" = ").expect(&rt, "words");
         for place in PLACES.split('\n') {
-            let (mut session, mut shown) = placed(alloc, &rt, call, place)?;
-            session.push_str(
-                "TICK 0 5\nPEEK 1\nEXAM 0 10 1\nEXAM 1 122 2\nEXAM 1 130 1\nSTATE 1\n",
-            )?;
-            left(alloc, &rt, &mut shown, place, told)?;
-            shows(alloc, &rt, &session, &shown)?;
+            let mut row = placed(alloc, &rt, call, place)?;
+            left(&rt, &mut row, place, told)?;
+            show_row(alloc, &rt, &row)?;
         }
     }
     Ok(())
 }
 
-/// UCLOSE removes the inferior, wherever it was: its slot is empty, and the next job gets it.
+/// What UCLOSE shows, and then the next job, which gets the slot.
+const REMOVED: &str = "TICK 0 5 = T 0 4. 1*
+TICK 1 1 = T 1 1-
+TICK 0 1 = T 0 1.
+LOAD N N - = J 1
+GO 0
+PEEK 1 = P 1 USER - 0 - - -
+";
+
+/// UCLOSE removes the inferior, wherever it was.
 #[test]
 fn places_removed(rt: HostRuntime) -> Result<(), Fail> {
     let alloc = rt.alloc();
     for place in PLACES.split('\n') {
-        let call = "43000000300 400000000000 654354576345 401000000001";
-        let (mut session, mut shown) = placed(alloc, &rt, call, place)?;
-        session.push_str("TICK 0 5\nTICK 1 1\nTICK 0 1\nLOAD N N -\nGO 0\nPEEK 1\n")?;
-        shown.push_str("T 0 4. 1*\nT 1 1-\nT 0 1.\nJ 1\nP 1 USER - 0 - - -\n")?;
-        shows(alloc, &rt, &session, &shown)?;
+        let call = ".CALL 300 | SETZ | SIXBIT UCLOSE | 401000,,1";
+        let mut row = placed(alloc, &rt, call, place)?;
+        row.push_str(REMOVED)?;
+        show_row(alloc, &rt, &row)?;
     }
     Ok(())
 }
@@ -157,47 +146,47 @@ fn places_removed(rt: HostRuntime) -> Result<(), Fail> {
 /// nobody; any other that has its channel on the inferior disturbs it, even if it fails.
 static REACHED: &str =
     "SIOT, USRMEM, USRVAR, UCLOSE and CORBLK with errors 2 and 3, the name IOT, and an absent output
-43000000300 400000000000 635157640000 1000000001 400000000310 = 5 4. 1* = WAITING
-43000000300 400000000000 635157640000 1000000001 310 311 402000000010 = 5 4. 1* = WAITING
-43000000300 400000000000 656362554555 401000000001 = 5 4. 1* = WAITING
-43000000300 400000000000 656362664162 1000000001 243 0 400000000000 = 5 4. 1* = WAITING
-43000000300 400000000000 654354576345 1000000001 401000000001 = 5 4. 1* = WAITING
-43000000300 400000000000 435762425453 1000000000 401000000001 = 5 4. 1* = WAITING
-43000000300 400000000000 435762425453 1000000001 1000000001 1000000001 401000000000 = 5 4. 1* = WAITING
-43000000300 400000000000 515764000000 401000000001 = 5 4. 1* = WAITING
-43000000300 400000000000 656362554555 1000000001 1000000130 402000002000 = 5 2. 2* 1- = WAITING
+.CALL 300 | SETZ | SIXBIT SIOT | 1000,,1 | SETZ 310 = 5 4. 1* = WAITING
+.CALL 300 | SETZ | SIXBIT SIOT | 1000,,1 | 310 | 311 | 402000,,10 = 5 4. 1* = WAITING
+.CALL 300 | SETZ | SIXBIT USRMEM | 401000,,1 = 5 4. 1* = WAITING
+.CALL 300 | SETZ | SIXBIT USRVAR | 1000,,1 | 243 | 0 | SETZ = 5 4. 1* = WAITING
+.CALL 300 | SETZ | SIXBIT UCLOSE | 1000,,1 | 401000,,1 = 5 4. 1* = WAITING
+.CALL 300 | SETZ | SIXBIT CORBLK | 1000,,0 | 401000,,1 = 5 4. 1* = WAITING
+.CALL 300 | SETZ | SIXBIT CORBLK | 1000,,1 | 1000,,1 | 1000,,1 | 401000,,0 = 5 4. 1* = WAITING
+.CALL 300 | SETZ | SIXBIT IOT | 401000,,1 = 5 4. 1* = WAITING
+.CALL 300 | SETZ | SIXBIT USRMEM | 1000,,1 | 1000,,130 | 402000,,2000 = 5 2. 2* 1- = WAITING
 OPEN, CLOSE, ACCESS, FILLEN, LISTEN, FINISH and TTYLND, whatever becomes of them, and calls on oneself or on a closed channel
-43000000300 400000000000 576045560000 1000000003 240 241 400000000242 = 5 4. 1* = WAITING
-43000000300 400000000000 435457634500 401000000001 = 5 4. 1* = WAITING
-43000000300 400000000000 414343456363 1000000001 401000000000 = 5 4. 1* = WAITING
-43000000300 400000000000 465154544556 1000000001 402000000010 = 5 4. 1* = WAITING
-43000000300 400000000000 545163644556 1000000001 402000000010 = 5 4. 1* = WAITING
-43000000300 400000000000 465156516350 401000000001 = 5 4. 1* = WAITING
-43000000300 400000000000 646471545644 401000000001 = 5 4. 1* = WAITING
-43000000300 400000000000 646471545644 401000777777 = 5 4. 1* = WAITING
-43000000300 400000000000 656362664162 1000777777 400000000243 = 5 4. 1* = WAITING
-43000000300 400000000000 435762425453 1000000002 1000777777 401000000000 = 5 4. 1* = WAITING
-43000000300 400000000000 656362554555 1000000004 401000000130 = 5 4. 1* = WAITING
+.CALL 300 | SETZ | SIXBIT OPEN | 1000,,3 | 240 | 241 | SETZ 242 = 5 4. 1* = WAITING
+.CALL 300 | SETZ | SIXBIT CLOSE | 401000,,1 = 5 4. 1* = WAITING
+.CALL 300 | SETZ | SIXBIT ACCESS | 1000,,1 | 401000,,0 = 5 4. 1* = WAITING
+.CALL 300 | SETZ | SIXBIT FILLEN | 1000,,1 | 402000,,10 = 5 4. 1* = WAITING
+.CALL 300 | SETZ | SIXBIT LISTEN | 1000,,1 | 402000,,10 = 5 4. 1* = WAITING
+.CALL 300 | SETZ | SIXBIT FINISH | 401000,,1 = 5 4. 1* = WAITING
+.CALL 300 | SETZ | SIXBIT TTYLND | 401000,,1 = 5 4. 1* = WAITING
+.CALL 300 | SETZ | SIXBIT TTYLND | 401000,,777777 = 5 4. 1* = WAITING
+.CALL 300 | SETZ | SIXBIT USRVAR | 1000,,777777 | SETZ 243 = 5 4. 1* = WAITING
+.CALL 300 | SETZ | SIXBIT CORBLK | 1000,,2 | 1000,,777777 | 401000,,0 = 5 4. 1* = WAITING
+.CALL 300 | SETZ | SIXBIT USRMEM | 1000,,4 | 401000,,130 = 5 4. 1* = WAITING
 calls that are prepared and not tried yet
-43000000300 400000000000 656362554555 1000000001 401000000130 = 4 4. = WAITING
-43000000300 400000000000 435762425453 1000000001 1000000001 401000000000 = 10 10. = WAITING
+.CALL 300 | SETZ | SIXBIT USRMEM | 1000,,1 | 401000,,130 = 4 4. = WAITING
+.CALL 300 | SETZ | SIXBIT CORBLK | 1000,,1 | 1000,,1 | 401000,,0 = 10 10. = WAITING
 SIOT with errors 17 and 21 and with the count 0, .IOT that faults, USRMEM with 22, 16 and 5, USRVAR with 22 and 5
-43000000300 400000000000 635157640000 1000000001 1000000310 400000000311 = 5 4. 1* = USER
-43000000300 400000000000 635157640000 1000000001 311 400000000310 = 5 4. 1* = USER
-43000000300 400000000000 635157640000 1000000002 310 400000000314 = 5 4. 1* = USER
-40040004000 0 = 5 4. 1* = USER
-40100004000 0 = 5 4. 1* = USER
-43000000300 400000000000 656362554555 1000000001 400000000310 = 5 4. 1* = USER
-43000000300 400000000000 656362554555 1000000001 401000002000 = 5 4. 1* = USER
-43000000300 400000000000 656362554555 1000000002 1000000130 401000000000 = 5 4. 1* = USER
-43000000300 400000000000 656362664162 1000000001 400000000240 = 5 4. 1* = USER
-43000000300 400000000000 656362664162 1000000002 243 401000000000 = 5 4. 1* = USER
+.CALL 300 | SETZ | SIXBIT SIOT | 1000,,1 | 1000,,310 | SETZ 311 = 5 4. 1* = USER
+.CALL 300 | SETZ | SIXBIT SIOT | 1000,,1 | 311 | SETZ 310 = 5 4. 1* = USER
+.CALL 300 | SETZ | SIXBIT SIOT | 1000,,2 | 310 | SETZ 314 = 5 4. 1* = USER
+.IOT 1,4000 | 0 = 5 4. 1* = USER
+.IOT 2,4000 | 0 = 5 4. 1* = USER
+.CALL 300 | SETZ | SIXBIT USRMEM | 1000,,1 | SETZ 310 = 5 4. 1* = USER
+.CALL 300 | SETZ | SIXBIT USRMEM | 1000,,1 | 401000,,2000 = 5 4. 1* = USER
+.CALL 300 | SETZ | SIXBIT USRMEM | 1000,,2 | 1000,,130 | 401000,,0 = 5 4. 1* = USER
+.CALL 300 | SETZ | SIXBIT USRVAR | 1000,,1 | SETZ 240 = 5 4. 1* = USER
+.CALL 300 | SETZ | SIXBIT USRVAR | 1000,,2 | 243 | 401000,,0 = 5 4. 1* = USER
 CORBLK with 22 for its operation, 5, 22 for its page, 16, and without an error
-43000000300 400000000000 435762425453 1000000004 1000000001 401000000000 = 5 4. 1* = USER
-43000000300 400000000000 435762425453 1000000000 1000000002 401000000000 = 5 4. 1* = USER
-43000000300 400000000000 435762425453 1000000000 1000000001 401000000400 = 5 4. 1* = USER
-43000000300 400000000000 435762425453 1000000001 1000000001 401000000000 = 11 10. 1* = USER
-43000000300 400000000000 435762425453 1000000003 1000000001 401000000000 = 5 4. 1* = USER";
+.CALL 300 | SETZ | SIXBIT CORBLK | 1000,,4 | 1000,,1 | 401000,,0 = 5 4. 1* = USER
+.CALL 300 | SETZ | SIXBIT CORBLK | 1000,,0 | 1000,,2 | 401000,,0 = 5 4. 1* = USER
+.CALL 300 | SETZ | SIXBIT CORBLK | 1000,,0 | 1000,,1 | 401000,,400 = 5 4. 1* = USER
+.CALL 300 | SETZ | SIXBIT CORBLK | 1000,,1 | 1000,,1 | 401000,,0 = 11 10. 1* = USER
+.CALL 300 | SETZ | SIXBIT CORBLK | 1000,,3 | 1000,,1 | 401000,,0 = 5 4. 1* = USER";
 
 #[test]
 fn reached(rt: HostRuntime) -> Result<(), Fail> {
@@ -207,17 +196,15 @@ fn reached(rt: HostRuntime) -> Result<(), Fail> {
         if let Some((call, told)) = row.split_once(" = ") {
             let (ticks, state) = told.split_once(" = ").expect(&rt, "a place");
             let (count, letters) = ticks.split_once(" ").expect(&rt, "letters");
-            let (mut session, mut shown) = placed(alloc, &rt, call, place)?;
-            let ticks = format!(in alloc; "TICK 0 {count}\nPEEK 1")?;
-            line(&mut session, &ticks)?;
             let peek = if state == "USER" {
                 "USER - 0 - - -"
             } else {
                 "WAITING 635157640000 1 440700000130 000000000002 -"
             };
-            let told = format!(in alloc; "T 0 {letters}\nP 1 {peek}")?;
-            line(&mut shown, &told)?;
-            shows(alloc, &rt, &session, &shown)?;
+            let mut row = placed(alloc, &rt, call, place)?;
+            let told = format!(in alloc; "TICK 0 {count} = T 0 {letters}\nPEEK 1 = P 1 {peek}")?;
+            line(&mut row, &told)?;
+            show_row(alloc, &rt, &row)?;
         }
     }
     Ok(())
@@ -225,65 +212,44 @@ fn reached(rt: HostRuntime) -> Result<(), Fail> {
 
 /// A job that makes an inferior, counts up the name at 156 for it, copies its own words from 100 to 177 into it by `.IOT`,
 /// and starts it; then it removes it. Each inferior does the same.
-const TREE: &str = "LOAD U X -
-100/ 43000000130 45700000000 43000000140 45700000000 350000000156 43000000145 45700000000 200140000153
-110/ 40043000000 253140000110 43000000157 45700000000 43000000164 45700000000 43000000171 45700000000
-130/ 400000000000 576045560000 5000000001 1000000001 154 155 156 403000000120
-140/ 400000000000 435762425453 1000000001 1000000001 401000000000
-145/ 400000000000 414343456363 1000000001 401000000100
-153/ 777700000100 656362000000 650000000000 420000000000
-157/ 400000000000 656362664162 1000000001 176 401000000100
-164/ 400000000000 656362664162 1000000001 177 401000000000
-171/ 400000000000 654354576345 401000000001
-176/ 656043000000 656364600000
+const TREE: &str = "LOAD U X - = J 0
+100: .CALL 130 | .BREAK 16, | .CALL 140 | .BREAK 16, | AOS 156 | .CALL 145 | .BREAK 16, | MOVE 3,153
+110: .IOT 1,0(3) | AOBJN 3,110 | .CALL 157 | .BREAK 16, | .CALL 164 | .BREAK 16, | .CALL 171 | .BREAK 16,
+130: SETZ | SIXBIT OPEN | 5000,,1 | 1000,,1 | 154 | 155 | 156 | 403000,,120
+140: SETZ | SIXBIT CORBLK | 1000,,1 | 1000,,1 | 401000,,0
+145: SETZ | SIXBIT ACCESS | 1000,,1 | 401000,,100
+153: 777700,,100 | SIXBIT USR | SIXBIT U | SIXBIT B
+157: SETZ | SIXBIT USRVAR | 1000,,1 | 176 | 401000,,100
+164: SETZ | SIXBIT USRVAR | 1000,,1 | 177 | 401000,,0
+171: SETZ | SIXBIT UCLOSE | 401000,,1
+176: SIXBIT UPC | SIXBIT USTP
 GO 100
 ";
 
 /// The last job finds no empty slot, and is stopped; another is in a call. Then all are removed from the top.
-const FELLED: &str = "TICK 77 12
-EXAM 77 120 1
-STATE 76
-TICK 40 3
-TICK 0 6
-TICK 1 1
-TICK 40 1
-TICK 77 1
-LOAD A X -
+const FELLED: &str = "TICK 77 12 = T 77 4. 1* 2. 2* 1-
+EXAM 77 120 1 = E 77 000120 000000000014
+STATE 76 = S 76 650000000000 420000000075 75 - RUN 010000000116 000000000200 000000000000 000000000000 000000000000 000000000000 000000000000
+TICK 40 3 = T 40 3.
+TICK 0 6 = T 0 4. 1* 1.
+TICK 1 1 = T 1 1-
+TICK 40 1 = T 40 1-
+TICK 77 1 = T 77 1-
+LOAD A X - = J 1
 GO 0
-STATE 0
-";
-
-const FELLED_OUT: &str = "T 77 4. 1* 2. 2* 1-
-E 77 000120 000000000014
-S 76 650000000000 420000000075 75 - RUN 010000000116 000000000200 000000000000 000000000000 000000000000 000000000000 000000000000
-T 40 3.
-T 0 4. 1* 1.
-T 1 1-
-T 40 1-
-T 77 1-
-J 1
-S 0 650000000000 700000000000 - - RUN 010000000120 000000000000 000000000000 000000000000 000000000000 000000000000 000000000000
+STATE 0 = S 0 650000000000 700000000000 - - RUN 010000000120 000000000000 000000000000 000000000000 000000000000 000000000000 000000000000
 ";
 
 /// A tree of 64 jobs, each the inferior of the one before, is removed from its top.
 #[test]
 fn deep_tree(rt: HostRuntime) -> Result<(), Fail> {
     let alloc = rt.alloc();
-    let mut session = String::new(alloc);
-    let mut shown = String::new(alloc);
-    session.push_str(TREE)?;
-    shown.push_str("J 0\n")?;
+    let mut row = TREE.to_string(alloc)?;
     for slot in 0..63u32 {
-        let ticks = format!(in alloc; "TICK {slot:o} 744")?;
-        line(&mut session, &ticks)?;
-        let told = format!(in alloc; "T {slot:o} 4. 1* 11. 1* 1. 1* 4. 1* 1. 1*")?;
-        shown.push_str(&told)?;
-        for _ in 0..64u32 {
-            shown.push_str(" 4. 1* 1. 1*")?;
-        }
-        line(&mut shown, " 4. 1* 5. 1* 1.")?;
+        let made = "4. 1* 11. 1* 1. 1* 4. 1* 1. 1*";
+        let first = format!(in alloc; "TICK {slot:o} 744 = T {slot:o} {made}")?;
+        times(&mut row, &first, " 4. 1* 1. 1*", 64, " 4. 1* 5. 1* 1.\n")?;
     }
-    session.push_str(FELLED)?;
-    shown.push_str(FELLED_OUT)?;
-    shows(alloc, &rt, &session, &shown)
+    row.push_str(FELLED)?;
+    show_row(alloc, &rt, &row)
 }

@@ -1,12 +1,23 @@
-use Rattle.its_pclsr.proofs.ApartLaws.{tidy_kept}
-use Rattle.its_monitor.proofs.CallLaws.{fetch_done, fetch_faults}
+use Rattle.its_monitor.proofs.CallLaws.{parsed_fits, parsed_words, fetch_part, part_job, part_none, part_tidy, part_row, part_pages}
 use Rattle.its_monitor.proofs.calls.fetch.Goals as goal
 
-pub returns-in-Ok-clause-row : goal.returns-in-Ok-clause-row
-returns-in-Ok-clause-row c = fetch_done _ _ _ c.args.f.site c.args.f.block _ c.in-Ok.ask c.requires.job c.fetch_site.ensures.fetched c.in-Ok.is c.put_frame.ensures
+pub fetch-answer-requires-clause-fits : goal.fetch-answer-requires-clause-fits
+fetch-answer-requires-clause-fits c = parsed_fits c.args.w.now c.args.slot c.requires.kept
 
-pub returns-in-Err-clause-row : goal.returns-in-Err-clause-row
-returns-in-Err-clause-row c = fetch_faults _ _ _ c.args.f.site c.args.f.block _ c.in-Err.fault c.requires.job c.fetch_site.ensures.fetched c.in-Err.is c.set_fault.ensures.row
+pub fetch-answer-requires-clause-words : goal.fetch-answer-requires-clause-words
+fetch-answer-requires-clause-words c = parsed_words c.args.w.now c.args.slot c.requires.kept
 
-pub returns-in-Ok-clause-tidy : goal.returns-in-Ok-clause-tidy
-returns-in-Ok-clause-tidy c = tidy_kept _ _ _ _ _ c.put_frame.ensures c.requires.tidy
+pub decoded-requires-clause-job : goal.decoded-requires-clause-job
+decoded-requires-clause-job c = part_job _ _ _ _ (fetch_part c.args.w.now c.fetch-answer.new.self c.args.slot c.fetch-answer.result c.requires.kept c.requires.frame c.fetch-answer.ensures.written c.fetch-answer.ensures.fault)
+
+pub decoded-requires-clause-frame : goal.decoded-requires-clause-frame
+decoded-requires-clause-frame c = part_none _ _ _ _ (fetch_part c.args.w.now c.fetch-answer.new.self c.args.slot c.fetch-answer.result c.requires.kept c.requires.frame c.fetch-answer.ensures.written c.fetch-answer.ensures.fault)
+
+pub decoded-requires-clause-tidy : goal.decoded-requires-clause-tidy
+decoded-requires-clause-tidy c = part_tidy _ _ _ _ (fetch_part c.args.w.now c.fetch-answer.new.self c.args.slot c.fetch-answer.result c.requires.kept c.requires.frame c.fetch-answer.ensures.written c.fetch-answer.ensures.fault) c.requires.kept.tidy
+
+pub returns-clause-row : goal.returns-clause-row
+returns-clause-row c = part_row _ _ _ _ (fetch_part c.args.w.now c.fetch-answer.new.self c.args.slot c.fetch-answer.result c.requires.kept c.requires.frame c.fetch-answer.ensures.written c.fetch-answer.ensures.fault) c.decoded.new.w c.decoded.result c.decoded.ensures.row c.decoded.ensures.pace
+
+pub returns-clause-pages : goal.returns-clause-pages
+returns-clause-pages c = part_pages _ _ _ _ (fetch_part c.args.w.now c.fetch-answer.new.self c.args.slot c.fetch-answer.result c.requires.kept c.requires.frame c.fetch-answer.ensures.written c.fetch-answer.ensures.fault) c.decoded.new.w c.decoded.ensures.pages

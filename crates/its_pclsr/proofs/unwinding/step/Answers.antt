@@ -1,74 +1,84 @@
-use Rattle.std.proofs.Common.{Some, ap, ◌∙◌}
-use Rattle.its_frame.specs.declared.frame.Frame.TheVariants.{Holding, Waiting, Moving, Ending}
+use Rattle.std.proofs.Common.{refl, sym, ◌∙◌}
 use Rattle.its_pclsr.proofs.ApartLaws.{tidy_kept}
-use Rattle.its_pclsr.proofs.UnwindingLaws.{marks_taken, job_taken, pays_taken, holding_row, waiting_row, moving_row, ending_row, entered_row, parsed_row, asked_row}
+use Rattle.its_pclsr.proofs.RowLaws.{first_can, moving_can}
+use Rattle.its_pclsr.proofs.UnwindingLaws.{job_there, holding_pays, waiting_pays, moving_pays, entered_row, parsed_row, asked_row, holding_backed, holding_dropped, holding_paid, waiting_dropped, waiting_paid, moving_row, page_kept}
 use Rattle.its_pclsr.proofs.unwinding.step.Goals as goal
 
-pub unwind_holding-requires-clause-job : goal.unwind_holding-requires-clause-job
-unwind_holding-requires-clause-job c = job_taken _ _ _ (Holding c.in-Some-Holding.f) _ c.take_frame.ensures.frame (c.in-Some-Holding.is ∙ ap Some c.in-Some-Holding.field-0-is) c.take_frame.ensures.taken c.requires.sound
+pub returns-in-Entered-clause-row : goal.returns-in-Entered-clause-row
+returns-in-Entered-clause-row c = entered_row _ _ _ c.frame.ensures c.requires.sound _ _ c.in-Entered.is c.leave_call.ensures
 
-pub unwind_holding-requires-clause-pays : goal.unwind_holding-requires-clause-pays
-unwind_holding-requires-clause-pays c = pays_taken _ _ _ (Holding c.in-Some-Holding.f) _ c.take_frame.ensures.frame (c.in-Some-Holding.is ∙ ap Some c.in-Some-Holding.field-0-is) c.take_frame.ensures.taken c.requires.sound
+pub returns-in-Entered-clause-tidy : goal.returns-in-Entered-clause-tidy
+returns-in-Entered-clause-tidy c = tidy_kept _ _ _ _ _ c.leave_call.ensures c.requires.tidy
 
-pub returns-in-Some-Holding-clause-row : goal.returns-in-Some-Holding-clause-row
-returns-in-Some-Holding-clause-row c = holding_row _ _ _ _ _ c.take_frame.ensures.frame c.take_frame.ensures.taken c.requires.sound c.in-Some-Holding.f (c.in-Some-Holding.is ∙ ap Some c.in-Some-Holding.field-0-is) c.unwind_holding.ensures.row
+pub returns-in-Parsed-clause-row : goal.returns-in-Parsed-clause-row
+returns-in-Parsed-clause-row c = parsed_row _ _ _ c.frame.ensures c.requires.sound _ _ _ c.in-Parsed.is c.leave_call-in-Parsed.ensures
 
-pub unwind_waiting-requires-clause-job : goal.unwind_waiting-requires-clause-job
-unwind_waiting-requires-clause-job c = job_taken _ _ _ (Waiting c.in-Some-Waiting.f) _ c.take_frame.ensures.frame (c.in-Some-Waiting.is ∙ ap Some c.in-Some-Waiting.field-0-is) c.take_frame.ensures.taken c.requires.sound
+pub returns-in-Parsed-clause-tidy : goal.returns-in-Parsed-clause-tidy
+returns-in-Parsed-clause-tidy c = tidy_kept _ _ _ _ _ c.leave_call-in-Parsed.ensures c.requires.tidy
 
-pub unwind_waiting-requires-clause-pays : goal.unwind_waiting-requires-clause-pays
-unwind_waiting-requires-clause-pays c = pays_taken _ _ _ (Waiting c.in-Some-Waiting.f) _ c.take_frame.ensures.frame (c.in-Some-Waiting.is ∙ ap Some c.in-Some-Waiting.field-0-is) c.take_frame.ensures.taken c.requires.sound
+pub returns-in-Asked-clause-row : goal.returns-in-Asked-clause-row
+returns-in-Asked-clause-row c = asked_row _ _ _ c.frame.ensures c.requires.sound _ _ _ c.in-Asked.is c.leave_call-in-Asked.ensures
 
-pub returns-in-Some-Waiting-clause-row : goal.returns-in-Some-Waiting-clause-row
-returns-in-Some-Waiting-clause-row c = waiting_row _ _ _ _ _ c.take_frame.ensures.frame c.take_frame.ensures.taken c.requires.sound c.in-Some-Waiting.f (c.in-Some-Waiting.is ∙ ap Some c.in-Some-Waiting.field-0-is) c.unwind_waiting.ensures.row
+pub returns-in-Asked-clause-tidy : goal.returns-in-Asked-clause-tidy
+returns-in-Asked-clause-tidy c = tidy_kept _ _ _ _ _ c.leave_call-in-Asked.ensures c.requires.tidy
 
-pub unwind_moving-requires-clause-job : goal.unwind_moving-requires-clause-job
-unwind_moving-requires-clause-job c = job_taken _ _ _ (Moving c.in-Some-Moving.f) _ c.take_frame.ensures.frame (c.in-Some-Moving.is ∙ ap Some c.in-Some-Moving.field-0-is) c.take_frame.ensures.taken c.requires.sound
+pub back-requires-clause-page : goal.back-requires-clause-page
+back-requires-clause-page c =
+    page_kept _ _ (holding_pays _ _ _ c.frame.ensures c.requires.sound _ _ _ _ c.in-Holding.is).page_is (sym c.is_some.ensures ∙ c.if-is_some.true)
 
-pub unwind_moving-requires-clause-pays : goal.unwind_moving-requires-clause-pays
-unwind_moving-requires-clause-pays c = pays_taken _ _ _ (Moving c.in-Some-Moving.f) _ c.take_frame.ensures.frame (c.in-Some-Moving.is ∙ ap Some c.in-Some-Moving.field-0-is) c.take_frame.ensures.taken c.requires.sound
+pub returns-then-is_some-clause-row : goal.returns-then-is_some-clause-row
+returns-then-is_some-clause-row c =
+    holding_backed _ _ _ c.frame.ensures c.requires.sound _ _ _ _ c.in-Holding.is _ (sym c.is_some.ensures ∙ c.if-is_some.true) c.back.ensures.row
 
-pub returns-in-Some-Moving-clause-row : goal.returns-in-Some-Moving-clause-row
-returns-in-Some-Moving-clause-row c = moving_row _ _ _ _ _ c.take_frame.ensures.frame c.take_frame.ensures.taken c.requires.sound c.in-Some-Moving.f (c.in-Some-Moving.is ∙ ap Some c.in-Some-Moving.field-0-is) c.unwind_moving.ensures.row
+pub returns-then-owes-eq0-clause-row : goal.returns-then-owes-eq0-clause-row
+returns-then-owes-eq0-clause-row c =
+    holding_dropped _ _ _ c.frame.ensures c.requires.sound _ _ _ _ c.in-Holding.is _ (sym c.is_some.ensures ∙ c.if-is_some.false) c.if-owes-eq0.true c.leave_call-then-owes-eq0.ensures
 
-pub unwind_ending-requires-clause-job : goal.unwind_ending-requires-clause-job
-unwind_ending-requires-clause-job c = job_taken _ _ _ (Ending c.in-Some-Ending.f) _ c.take_frame.ensures.frame (c.in-Some-Ending.is ∙ ap Some c.in-Some-Ending.field-0-is) c.take_frame.ensures.taken c.requires.sound
+pub returns-then-owes-eq0-clause-tidy : goal.returns-then-owes-eq0-clause-tidy
+returns-then-owes-eq0-clause-tidy c = tidy_kept _ _ _ _ _ c.leave_call-then-owes-eq0.ensures c.requires.tidy
 
-pub unwind_ending-requires-clause-pays : goal.unwind_ending-requires-clause-pays
-unwind_ending-requires-clause-pays c = pays_taken _ _ _ (Ending c.in-Some-Ending.f) _ c.take_frame.ensures.frame (c.in-Some-Ending.is ∙ ap Some c.in-Some-Ending.field-0-is) c.take_frame.ensures.taken c.requires.sound
+pub first_owed-store-requires-clause-read : goal.first_owed-store-requires-clause-read
+first_owed-store-requires-clause-read c = (holding_pays _ _ _ c.frame.ensures c.requires.sound _ _ _ _ c.in-Holding.is).debts.read
 
-pub returns-in-Some-Ending-clause-row : goal.returns-in-Some-Ending-clause-row
-returns-in-Some-Ending-clause-row c = ending_row _ _ _ _ _ c.take_frame.ensures.frame c.take_frame.ensures.taken c.requires.sound c.in-Some-Ending.f (c.in-Some-Ending.is ∙ ap Some c.in-Some-Ending.field-0-is) c.unwind_ending.ensures.row
+pub pay-requires-clause-job : goal.pay-requires-clause-job
+pay-requires-clause-job c = job_there _ _ _ c.frame.ensures c.requires.sound _ _ c.in-Holding.is refl
 
-pub returns-in-Some-Entered-clause-row : goal.returns-in-Some-Entered-clause-row
-returns-in-Some-Entered-clause-row c = entered_row _ _ _ _ _ c.take_frame.ensures.frame (c.in-Some-Entered.is ∙ ap Some c.in-Some-Entered.field-0-is) c.take_frame.ensures.taken c.requires.sound
+pub pay-requires-clause-can : goal.pay-requires-clause-can
+pay-requires-clause-can c = first_can _ _ _ (holding_pays _ _ _ c.frame.ensures c.requires.sound _ _ _ _ c.in-Holding.is).debts.stored c.first_owed-store.ensures
 
-pub returns-in-Some-Parsed-clause-row : goal.returns-in-Some-Parsed-clause-row
-returns-in-Some-Parsed-clause-row c = parsed_row _ _ _ _ _ c.take_frame.ensures.frame (c.in-Some-Parsed.is ∙ ap Some c.in-Some-Parsed.field-0-is) c.take_frame.ensures.taken c.requires.sound
+pub returns-else-owes-eq0-clause-row : goal.returns-else-owes-eq0-clause-row
+returns-else-owes-eq0-clause-row c =
+    holding_paid _ _ _ c.frame.ensures c.requires.sound _ _ _ _ c.in-Holding.is _ _ (sym c.is_some.ensures ∙ c.if-is_some.false) c.if-owes-eq0.false c.first_owed-store.ensures c.pay.ensures.row
 
-pub returns-in-Some-Asked-clause-row : goal.returns-in-Some-Asked-clause-row
-returns-in-Some-Asked-clause-row c = asked_row _ _ _ _ _ c.take_frame.ensures.frame (c.in-Some-Asked.is ∙ ap Some c.in-Some-Asked.field-0-is) c.take_frame.ensures.taken c.requires.sound
+pub returns-then-owes-eq0-2-clause-row : goal.returns-then-owes-eq0-2-clause-row
+returns-then-owes-eq0-2-clause-row c = waiting_dropped _ _ _ c.frame.ensures c.requires.sound _ _ _ c.in-Waiting.is _ c.if-owes-eq0-2.true c.leave_call-then-owes-eq0-2.ensures
 
-pub unwind_ending-requires-clause-marks : goal.unwind_ending-requires-clause-marks
-unwind_ending-requires-clause-marks c = marks_taken _ _ _ c.in-Some-Ending.f _ c.take_frame.ensures.frame (c.in-Some-Ending.is ∙ ap Some c.in-Some-Ending.field-0-is) c.take_frame.ensures.taken c.requires.sound
+pub returns-then-owes-eq0-2-clause-tidy : goal.returns-then-owes-eq0-2-clause-tidy
+returns-then-owes-eq0-2-clause-tidy c = tidy_kept _ _ _ _ _ c.leave_call-then-owes-eq0-2.ensures c.requires.tidy
 
-pub unwind_holding-requires-clause-tidy : goal.unwind_holding-requires-clause-tidy
-unwind_holding-requires-clause-tidy c = tidy_kept _ _ _ _ _ c.take_frame.ensures.taken c.requires.tidy
+pub first_owed-store-requires-else-owes-eq0-2-clause-read : goal.first_owed-store-requires-else-owes-eq0-2-clause-read
+first_owed-store-requires-else-owes-eq0-2-clause-read c = (waiting_pays _ _ _ c.frame.ensures c.requires.sound _ _ _ c.in-Waiting.is).debts.read
 
-pub unwind_waiting-requires-clause-tidy : goal.unwind_waiting-requires-clause-tidy
-unwind_waiting-requires-clause-tidy c = tidy_kept _ _ _ _ _ c.take_frame.ensures.taken c.requires.tidy
+pub pay-requires-else-owes-eq0-2-clause-job : goal.pay-requires-else-owes-eq0-2-clause-job
+pay-requires-else-owes-eq0-2-clause-job c = job_there _ _ _ c.frame.ensures c.requires.sound _ _ c.in-Waiting.is refl
 
-pub unwind_moving-requires-clause-tidy : goal.unwind_moving-requires-clause-tidy
-unwind_moving-requires-clause-tidy c = tidy_kept _ _ _ _ _ c.take_frame.ensures.taken c.requires.tidy
+pub pay-requires-else-owes-eq0-2-clause-can : goal.pay-requires-else-owes-eq0-2-clause-can
+pay-requires-else-owes-eq0-2-clause-can c =
+    first_can _ _ _ (waiting_pays _ _ _ c.frame.ensures c.requires.sound _ _ _ c.in-Waiting.is).debts.stored c.first_owed-store-else-owes-eq0-2.ensures
 
-pub unwind_ending-requires-clause-tidy : goal.unwind_ending-requires-clause-tidy
-unwind_ending-requires-clause-tidy c = tidy_kept _ _ _ _ _ c.take_frame.ensures.taken c.requires.tidy
+pub returns-else-owes-eq0-2-clause-row : goal.returns-else-owes-eq0-2-clause-row
+returns-else-owes-eq0-2-clause-row c =
+    waiting_paid _ _ _ c.frame.ensures c.requires.sound _ _ _ c.in-Waiting.is _ _ c.if-owes-eq0-2.false c.first_owed-store-else-owes-eq0-2.ensures c.pay-else-owes-eq0-2.ensures.row
 
-pub returns-in-Some-Entered-clause-tidy : goal.returns-in-Some-Entered-clause-tidy
-returns-in-Some-Entered-clause-tidy c = tidy_kept _ _ _ _ _ c.take_frame.ensures.taken c.requires.tidy
+pub held_store-store-requires-clause-pays : goal.held_store-store-requires-clause-pays
+held_store-store-requires-clause-pays c = moving_pays _ _ _ c.frame.ensures c.requires.sound _ _ _ _ c.in-Moving.is
 
-pub returns-in-Some-Parsed-clause-tidy : goal.returns-in-Some-Parsed-clause-tidy
-returns-in-Some-Parsed-clause-tidy c = tidy_kept _ _ _ _ _ c.take_frame.ensures.taken c.requires.tidy
+pub pay-requires-in-Moving-clause-job : goal.pay-requires-in-Moving-clause-job
+pay-requires-in-Moving-clause-job c = job_there _ _ _ c.frame.ensures c.requires.sound _ _ c.in-Moving.is refl
 
-pub returns-in-Some-Asked-clause-tidy : goal.returns-in-Some-Asked-clause-tidy
-returns-in-Some-Asked-clause-tidy c = tidy_kept _ _ _ _ _ c.take_frame.ensures.taken c.requires.tidy
+pub pay-requires-in-Moving-clause-can : goal.pay-requires-in-Moving-clause-can
+pay-requires-in-Moving-clause-can c =
+    moving_can _ _ _ _ _ _ (moving_pays _ _ _ c.frame.ensures c.requires.sound _ _ _ _ c.in-Moving.is) c.held_store-store.ensures
+
+pub returns-in-Moving-clause-row : goal.returns-in-Moving-clause-row
+returns-in-Moving-clause-row c = moving_row _ _ _ c.frame.ensures c.requires.sound _ _ _ _ _ _ c.in-Moving.is c.held_store-store.ensures c.pay-in-Moving.ensures.row

@@ -1,13 +1,13 @@
 use Rattle.std.proofs.Common.{◌≡◌, ◌+◌, drop}
 use Rattle.its_print.specs.Printing.{listed}
-use Rattle.its_verify.specs.Hearing.{Heard}
+use Rattle.its_verify.specs.TranscriptReader.{AtLine}
 use Rattle.its_verify.specs.Showing.{LinesSo}
 use Rattle.its_verify.proofs.showing.list_each.Given as goal
 
 abbrev pub invariant-loop-w : goal.invariant-loop-w
 invariant-loop-w g l = record {
-  heard : Heard l.hearing (g.S.Source.left l.src);
+  at_line : AtLine l.reader (g.S.Source.left l.src);
   at : l.place ≡ l.a + l.w-index;
   unfailed : g.S.Source.faults l.src ≡ g.S.Source.faults l.fn.src;
-  so_far : LinesSo l.fn.hearing l.hearing (g.S.Source.left l.fn.src) (g.S.Source.left l.src) (listed l.s l.a l.words) (listed l.s l.place (drop l.w-index l.words));
+  so_far : LinesSo l.fn.reader l.reader (g.S.Source.left l.fn.src) (g.S.Source.left l.src) (listed l.s l.a l.words) (listed l.s l.place (drop l.w-index l.words));
 }

@@ -1,15 +1,15 @@
 use Rattle.std.proofs.Common.{◌≡◌, ◌+◌, ◌-◌, ◌*◌, ◌/◌, drop}
 use Rattle.its_files.specs.Files.{words_at}
 use Rattle.its_plain.specs.OperatorFiles.{rows}
-use Rattle.its_verify.specs.Hearing.{Heard}
+use Rattle.its_verify.specs.TranscriptReader.{AtLine}
 use Rattle.its_verify.specs.Showing.{LinesSo}
 use Rattle.its_verify.proofs.showing.show_rows.Given as goal
 
 abbrev pub invariant-loop-k : goal.invariant-loop-k
 invariant-loop-k g l = record {
-  heard : Heard l.hearing (g.S.Source.left l.src);
+  at_line : AtLine l.reader (g.S.Source.left l.src);
   unfailed : g.S.Source.faults l.src ≡ g.S.Source.faults l.fn.src;
   so_far :
-      LinesSo l.fn.hearing l.hearing (g.S.Source.left l.fn.src) (g.S.Source.left l.src) (rows ((l.count + 7) / 8) (words_at l.plain.files l.id))
+      LinesSo l.fn.reader l.reader (g.S.Source.left l.fn.src) (g.S.Source.left l.src) (rows ((l.count + 7) / 8) (words_at l.plain.files l.id))
       (rows ((l.count + 7) / 8 - l.k) (drop (8 * l.k) (words_at l.plain.files l.id)));
 }

@@ -1,5 +1,5 @@
 use Rattle.std.proofs.Common.{◌≡◌}
-use Rattle.its_verify.specs.Standing.{ForgetsBelow}
+use Rattle.its_verify.specs.JudgeState.{ForgetsBelow}
 use Rattle.its_verify.proofs.judge.Judge.forget_touched.Given as goal
 
 abbrev pub invariant-loop-slot : goal.invariant-loop-slot

@@ -1,5 +1,5 @@
 use Rattle.std.proofs.Common.{not, refl}
-use Rattle.its_verify.proofs.StandingLaws.{led_beside}
+use Rattle.its_verify.proofs.JudgeStateLaws.{led_beside}
 use Rattle.its_verify.proofs.judge.Judge.licensed.Goals as goal
 
 pub returns-clause-led : goal.returns-clause-led

@@ -1,6 +1,6 @@
 use Rattle.std.proofs.Common.{false, refl, replicate}
 use Rattle.its_direct.proofs.ToldLaws.{kept_starts}
-use Rattle.its_verify.proofs.StandingLaws.{no_dots, sure_is}
+use Rattle.its_verify.proofs.JudgeStateLaws.{no_dots, sure_is}
 use Rattle.its_verify.proofs.judge.Judge.open.Goals as goal
 
 pub returns-clause-dots : goal.returns-clause-dots

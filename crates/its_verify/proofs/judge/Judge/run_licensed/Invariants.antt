@@ -1,5 +1,5 @@
 use Rattle.std.proofs.Common.{◌≡◌, ◌∷◌, ◌-◌, false, replicate}
-use Rattle.its_verify.specs.Standing.{Sure, RunOn}
+use Rattle.its_verify.specs.JudgeState.{Sure, RunOn}
 use Rattle.its_verify.proofs.judge.Judge.run_licensed.Given as goal
 
 abbrev pub invariant-loop-k : goal.invariant-loop-k

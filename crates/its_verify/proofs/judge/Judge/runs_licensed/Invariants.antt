@@ -1,6 +1,6 @@
 use Rattle.std.proofs.Common.{◌≡◌, false, drop}
 use Rattle.its_print.specs.Runs.{paces_in}
-use Rattle.its_verify.specs.Standing.{Sure, LeadsOn}
+use Rattle.its_verify.specs.JudgeState.{Sure, LeadsOn}
 use Rattle.its_verify.proofs.judge.Judge.runs_licensed.Given as goal
 
 abbrev pub invariant-loop-run : goal.invariant-loop-run

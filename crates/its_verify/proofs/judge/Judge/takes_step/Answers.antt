@@ -1,6 +1,6 @@
 use Rattle.std.proofs.Common.{ℕ, slice_set, subst, rules}
-use Rattle.its_verify.specs.Standing.{Forgets}
-use Rattle.its_verify.proofs.StandingLaws.{step_led, step_not_led}
+use Rattle.its_verify.specs.JudgeState.{Forgets}
+use Rattle.its_verify.proofs.JudgeStateLaws.{step_led, step_not_led}
 use Rattle.its_verify.proofs.judge.Judge.takes_step.Goals as goal
 
 pub returns-then-not-step-clause-led : goal.returns-then-not-step-clause-led

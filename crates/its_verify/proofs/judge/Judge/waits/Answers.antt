@@ -1,5 +1,5 @@
 use Rattle.std.proofs.Common.{refl, rules}
-use Rattle.its_verify.proofs.StandingLaws.{waited}
+use Rattle.its_verify.proofs.JudgeStateLaws.{waited}
 use Rattle.its_verify.proofs.judge.Judge.waits.Goals as goal
 
 pub returns-clause-led : goal.returns-clause-led

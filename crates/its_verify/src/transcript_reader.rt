@@ -1,0 +1,124 @@
+//! The reader of a transcript: its lines, one by one, and whether each is licensed.
+ghost use Rattle.std.specs.Prelude.{◌<◌, ◌≤◌, ◌∷◌, [], IfOk, length};
+ghost use Rattle.its_io.specs.Bytes.{HasCause};
+ghost use Rattle.its_print.specs.Printing.{Refused};
+
+use super::outcome::Outcome;
+use super::peeks::is_peek;
+use arrayvec::ArrayVec;
+use its_io::{Failed, Source};
+use its_print::print_refusal;
+use its_reader::{Next, Texts};
+use its_word::Reason;
+
+/// The lines of a transcript, how many of them are licensed, and for how many there is room.
+#[derive(Drop)]
+pub struct TranscriptReader {
+    pub texts: Texts,
+    pub passed: u32,
+    pub room: u32,
+}
+
+impl TranscriptReader {
+    ghost use Rattle.its_verify.specs.Finds.{ReadsOut};
+    ghost use Rattle.its_verify.specs.TranscriptReader.{Beside, Concludes, AtLine, Reads, ReadsOn, PassedIf, Says, Stays, same_as};
+    ghost use Rattle.its_verify.specs.Judge.{Judge, at_end, led, peeking, expects};
+
+    /// Reads the next line, if one is wanted. It is not judged yet.
+    #[tactic(auto, using(crate::proofs::TranscriptReaderLaws::number_few, crate::proofs::TranscriptReaderLaws::read_line, crate::proofs::TranscriptReaderLaws::read_long, crate::proofs::TranscriptReaderLaws::read_end, crate::proofs::TranscriptReaderLaws::read_beyond, crate::proofs::TranscriptReaderLaws::read_fails))]
+    pub fn read<S: Source>(&mut self, src: &mut S) -> Result<Option<Outcome>, Failed>
+        requires at_line { AtLine self.old (S.left src.old) }
+        ensures reads { ReadsOn result self.old self.new (S.left src.old) (S.left src.new) }
+        ensures beside { Beside self.old self.new }
+        ensures cause { HasCause (S.faults src.old) (S.faults src.new) result }
+    {
+        match self.texts.next(src)? {
+            Next::Line => Ok(None),
+            Next::Long => Ok(Some(Outcome::No(self.passed + 1))),
+            Next::End => Ok(Some(Outcome::No(self.passed + 1))),
+            Next::Beyond => Ok(Some(Outcome::Beyond)),
+        }
+    }
+
+    /// Passes the line that was read, if it is licensed; else it is the first that is not.
+    pub fn pass_if(&mut self, licensed: bool) -> Option<Outcome>
+        requires few { self.old.passed < self.old.room }
+        ensures { PassedIf result licensed self.old self.new }
+    {
+        if licensed {
+            self.passed += 1;
+            None
+        } else {
+            Some(Outcome::No(self.passed + 1))
+        }
+    }
+
+    /// This line is next.
+    #[tactic(auto, using(crate::proofs::TranscriptReaderLaws::same_lacks, crate::proofs::TranscriptReaderLaws::same_fails, crate::proofs::TranscriptReaderLaws::same_passed, crate::proofs::TranscriptReaderLaws::passed_stays))]
+    pub fn expect<S: Source>(&mut self, src: &mut S, line: &[u8]) -> Result<Option<Outcome>, Failed>
+        requires short { length line.now ≤ 1543 }
+        requires at_line { AtLine self.old (S.left src.old) }
+        ensures says { (next : Judge) → Says result self.old self.new (S.left src.old) (S.left src.new) (led (same_as line.now) (λ t. next)) next }
+        ensures stays { Stays result self.new (S.left src.new) }
+        ensures cause { HasCause (S.faults src.old) (S.faults src.new) result }
+    {
+        if let Some(outcome) = self.read(src)? {
+            return Ok(Some(outcome));
+        }
+        let same = self.texts.text.as_slice() == line;
+        Ok(self.pass_if(same))
+    }
+
+    /// A line of PEEK is next.
+    #[tactic(auto, using(crate::proofs::TranscriptReaderLaws::peek_lacks, crate::proofs::TranscriptReaderLaws::peek_fails, crate::proofs::TranscriptReaderLaws::peek_passed, crate::proofs::TranscriptReaderLaws::passed_stays))]
+    pub fn peek<S: Source>(&mut self, src: &mut S) -> Result<Option<Outcome>, Failed>
+        requires at_line { AtLine self.old (S.left src.old) }
+        ensures says { (next : Judge) → Says result self.old self.new (S.left src.old) (S.left src.new) (led peeking (λ t. next)) next }
+        ensures stays { Stays result self.new (S.left src.new) }
+        ensures cause { HasCause (S.faults src.old) (S.faults src.new) result }
+    {
+        if let Some(outcome) = self.read(src)? {
+            return Ok(Some(outcome));
+        }
+        let may_stand = is_peek(&self.texts.text);
+        Ok(self.pass_if(may_stand))
+    }
+
+    /// No line is next: one byte more is a line too many.
+    #[tactic(auto, using(crate::proofs::TranscriptReaderLaws::number_few, crate::proofs::TranscriptReaderLaws::finish_end, crate::proofs::TranscriptReaderLaws::finish_line, crate::proofs::TranscriptReaderLaws::finish_long, crate::proofs::TranscriptReaderLaws::finish_beyond, crate::proofs::TranscriptReaderLaws::finish_fails, crate::proofs::OutLaws::end_out))]
+    pub fn finish<S: Source>(&mut self, src: &mut S) -> Result<Outcome, Failed>
+        requires at_line { AtLine self.old (S.left src.old) }
+        ensures ends { Concludes result self.old (S.left src.old) (S.left src.new) at_end }
+        ensures out { IfOk result (λ f. ReadsOut f (S.left src.old) (S.left src.new)) }
+        ensures cause { HasCause (S.faults src.old) (S.faults src.new) result }
+    {
+        self.texts.most = 0;
+        match self.texts.next(src)? {
+            Next::End => Ok(Outcome::Yes(self.passed)),
+            Next::Line => Ok(Outcome::No(self.passed + 1)),
+            Next::Long => Ok(Outcome::No(self.passed + 1)),
+            Next::Beyond => Ok(Outcome::Beyond),
+        }
+    }
+
+    /// The `?` line of a line of the session with this number is next, and is the last one.
+    #[tactic(auto, using(crate::proofs::TranscriptReaderLaws::refusal_short, crate::proofs::TranscriptReaderLaws::refused_fails))]
+    pub fn refused<S: Source>(
+        &mut self,
+        src: &mut S,
+        number: u32,
+        reason: Reason,
+    ) -> Result<Outcome, Failed>
+        requires at_line { AtLine self.old (S.left src.old) }
+        ensures ends { Concludes result self.old (S.left src.old) (S.left src.new) (expects (Refused number reason ∷ []) at_end) }
+        ensures out { IfOk result (λ f. ReadsOut f (S.left src.old) (S.left src.new)) }
+        ensures cause { HasCause (S.faults src.old) (S.faults src.new) result }
+    {
+        let mut line = ArrayVec::new();
+        print_refusal(number, reason, &mut line);
+        if let Some(outcome) = self.expect(src, &line)? {
+            return Ok(outcome);
+        }
+        self.finish(src)
+    }
+}

@@ -1,0 +1,208 @@
+//! A verifier: a judge and the lines of a transcript together, along a session.
+ghost use Rattle.std.specs.Prelude.{◌≡◌, ◌<◌, ◌≤◌, ◌∷◌, ℕ, [], false, None, Ok};
+ghost use Rattle.its_io.specs.Bytes.{HasCause};
+ghost use Rattle.its_word.specs.Limits.{slots};
+ghost use Rattle.its_print.specs.Printing.{Refused};
+ghost use Rattle.its_session.specs.Events.{place_after};
+ghost use Rattle.its_session.specs.Fits.{EventFits};
+ghost use Rattle.its_plain.specs.Operator.{Block};
+ghost use Rattle.its_plain.specs.Transcript.{Walk};
+ghost use Rattle.its_direct.specs.Plain.{machine_of};
+ghost use Rattle.its_direct.specs.Events.{IsTold, MayStand, place_of};
+ghost use Rattle.its_verify.specs.Going.{is_end};
+ghost use Rattle.its_verify.specs.Showing.{is_peek_event};
+
+use super::judge::Judge;
+use super::outcome::Outcome;
+use super::showing::show_event;
+use super::transcript_reader::TranscriptReader;
+use its_direct::{Answer, Spot};
+use its_io::{Failed, Source};
+use its_word::{Event, Reason};
+
+/// The judge of a session, the lines of its transcript, and the slot of the last turn of a RUN line (before the first one the
+/// highest slot).
+#[derive(Drop)]
+pub struct Verifier {
+    pub judge: Judge,
+    pub reader: TranscriptReader,
+    pub last: u8,
+}
+
+impl Verifier {
+    ghost use Rattle.its_verify.specs.Finds.{ReadsOutIf};
+    ghost use Rattle.its_verify.specs.TranscriptReader.{Says};
+    ghost use Rattle.its_verify.specs.Judge.{Judge as AnyJudge, at_end, led, turned, expects};
+    ghost use Rattle.its_verify.specs.Going.{LineSays, SaysEnd};
+    ghost use Rattle.its_verify.specs.Showing.{IsThere, shown_judge};
+    ghost use Rattle.its_verify.specs.Letters.{ticked};
+    ghost use Rattle.its_verify.specs.JudgeState.{walk_of};
+    ghost use Rattle.its_verify.specs.Verifier.{StaysAtItem, TicksSay, AtItem, TurnsSay};
+
+    /// A `T` line of so many letters of a slot is next, and each is licensed in its turn.
+    #[tactic(auto, using(crate::proofs::VerifierLaws::ticks_lack, crate::proofs::VerifierLaws::ticks_fail, crate::proofs::VerifierLaws::ticks_passed, crate::proofs::VerifierLaws::ticks_stay))]
+    pub fn ticks<S: Source>(
+        &mut self,
+        src: &mut S,
+        slot: u8,
+        count: u32,
+    ) -> Result<Option<Outcome>, Failed>
+        requires slot { slot < slots }
+        requires few { count ≤ 512 }
+        requires outside { self.old.judge.plain.place ≡ Spot.Plain }
+        requires at_item { AtItem self.old (S.left src.old) }
+        ensures says { TicksSay result self.old self.new (S.left src.old) (S.left src.new) slot count }
+        ensures stays { StaysAtItem result self.new (S.left src.new) }
+        ensures last { self.new.last ≡ self.old.last }
+        ensures place { self.new.judge.plain.place ≡ self.old.judge.plain.place }
+        ensures cause { HasCause (S.faults src.old) (S.faults src.new) result }
+    {
+        if let Some(outcome) = self.reader.read(src)? {
+            return Ok(Some(outcome));
+        }
+        let licensed = self.judge.says_ticks(&self.reader.texts.text, slot, count);
+        Ok(self.reader.pass_if(licensed))
+    }
+
+    /// The turns of a RUN line are next: up to n turns, each a `T` line of q letters of the slot whose turn it is. They
+    /// end early if no job runs.
+    #[tactic(auto, using(crate::proofs::VerifierLaws::turns_start))]
+    pub fn turns<S: Source>(
+        &mut self,
+        src: &mut S,
+        n: u32,
+        q: u32,
+    ) -> Result<Option<Outcome>, Failed>
+        requires few { q ≤ 512 }
+        requires outside { self.old.judge.plain.place ≡ Spot.Plain }
+        requires at_item { AtItem self.old (S.left src.old) }
+        ensures says { TurnsSay result self.old self.new (S.left src.old) (S.left src.new) n q }
+        ensures stays { StaysAtItem result self.new (S.left src.new) }
+        ensures place { self.new.judge.plain.place ≡ self.old.judge.plain.place }
+        ensures cause { HasCause (S.faults src.old) (S.faults src.new) result }
+    {
+        for _k in 0..n {
+            let Some(slot) = self.judge.turn_after(self.last) else {
+                return Ok(None);
+            };
+            if let Some(outcome) = self.ticks(src, slot, q)? {
+                return Ok(Some(outcome));
+            }
+            self.last = slot;
+        }
+        Ok(None)
+    }
+
+    /// A line of the session with this number. None if it led on; else the verdict is known.
+    #[tactic(auto, using(crate::proofs::GoingLaws::tick_says, crate::proofs::GoingLaws::run_says, crate::proofs::GoingLaws::end_says, crate::proofs::GoingLaws::end_stays, crate::proofs::GoingLaws::never_on))]
+    pub fn line<S: Source>(
+        &mut self,
+        src: &mut S,
+        number: u32,
+        event: &Event,
+    ) -> Result<Option<Outcome>, Failed>
+        requires fits { EventFits 2 event.now }
+        requires stands { MayStand (place_of self.old.judge.plain.place) event.now }
+        requires at_item { AtItem self.old (S.left src.old) }
+        ensures says { LineSays result self.old self.new (S.left src.old) (S.left src.new) number event.now }
+        ensures out { ReadsOutIf result (S.left src.old) (S.left src.new) }
+        ensures stays { StaysAtItem result self.new (S.left src.new) }
+        ensures last { self.new.last ≡ self.old.last }
+        ensures place { result ≡ Ok None → place_of self.new.judge.plain.place ≡ place_after (place_of self.old.judge.plain.place) event.now }
+        ensures going { result ≡ Ok None → is_end event.now ≡ false }
+        ensures cause { HasCause (S.faults src.old) (S.faults src.new) result }
+    {
+        match event {
+            Event::Tick { s, n } => self.ticks(src, *s, *n),
+            Event::Run { .. } => Ok(None),
+            Event::End => self.finish(src),
+            _ => self.told(src, number, event),
+        }
+    }
+
+    /// END: no line is next, and all is said.
+    pub(crate) fn finish<S: Source>(&mut self, src: &mut S) -> Result<Option<Outcome>, Failed>
+        requires at_item { AtItem self.old (S.left src.old) }
+        ensures ends { SaysEnd result self.old.reader (S.left src.old) (S.left src.new) at_end }
+        ensures out { ReadsOutIf result (S.left src.old) (S.left src.new) }
+        ensures last { self.new.last ≡ self.old.last }
+        ensures cause { HasCause (S.faults src.old) (S.faults src.new) result }
+    {
+        Ok(Some(self.reader.finish(src)?))
+    }
+
+    /// The `?` line of a line of the session is next, and all is said.
+    pub(crate) fn refused<S: Source>(
+        &mut self,
+        src: &mut S,
+        number: u32,
+        reason: Reason,
+    ) -> Result<Option<Outcome>, Failed>
+        requires at_item { AtItem self.old (S.left src.old) }
+        ensures ends { SaysEnd result self.old.reader (S.left src.old) (S.left src.new) (expects (Refused number reason ∷ []) at_end) }
+        ensures out { ReadsOutIf result (S.left src.old) (S.left src.new) }
+        ensures last { self.new.last ≡ self.old.last }
+        ensures cause { HasCause (S.faults src.old) (S.faults src.new) result }
+    {
+        Ok(Some(self.reader.refused(src, number, reason)?))
+    }
+
+    /// A line other than TICK and END.
+    #[tactic(auto, using(crate::proofs::GoingLaws::told_says, crate::proofs::GoingLaws::told_refused, crate::proofs::GoingLaws::told_there, crate::proofs::GoingLaws::end_stays, crate::proofs::GoingLaws::never_on))]
+    fn told<S: Source>(
+        &mut self,
+        src: &mut S,
+        number: u32,
+        event: &Event,
+    ) -> Result<Option<Outcome>, Failed>
+        requires told { IsTold event.now }
+        requires fits { EventFits 2 event.now }
+        requires stands { MayStand (place_of self.old.judge.plain.place) event.now }
+        requires at_item { AtItem self.old (S.left src.old) }
+        ensures says { LineSays result self.old self.new (S.left src.old) (S.left src.new) number event.now }
+        ensures out { ReadsOutIf result (S.left src.old) (S.left src.new) }
+        ensures stays { StaysAtItem result self.new (S.left src.new) }
+        ensures last { self.new.last ≡ self.old.last }
+        ensures place { result ≡ Ok None → place_of self.new.judge.plain.place ≡ place_after (place_of self.old.judge.plain.place) event.now }
+        ensures cause { HasCause (S.faults src.old) (S.faults src.new) result }
+    {
+        match self.judge.event(event) {
+            Ok(answer) => self.shown(src, event, &answer),
+            Err(e) => self.refused(src, number, e.reason()),
+        }
+    }
+
+    /// What a line shows that was obeyed with this answer is next.
+    #[tactic(auto, using(crate::proofs::GoingLaws::peek_shown, crate::proofs::GoingLaws::lines_shown, crate::proofs::GoingLaws::at_item_on))]
+    fn shown<S: Source>(
+        &mut self,
+        src: &mut S,
+        event: &Event,
+        answer: &Answer,
+    ) -> Result<Option<Outcome>, Failed>
+        requires fits { EventFits 2 event.now }
+        requires there { IsThere event.now (machine_of self.old.judge.plain) }
+        requires at_item { AtItem self.old (S.left src.old) }
+        ensures says { (next : AnyJudge) → Says result self.old.reader self.new.reader (S.left src.old) (S.left src.new) (shown_judge event.now answer.now (machine_of self.old.judge.plain) next) next }
+        ensures stays { StaysAtItem result self.new (S.left src.new) }
+        ensures judge { self.new.judge ≡ self.old.judge }
+        ensures last { self.new.last ≡ self.old.last }
+        ensures cause { HasCause (S.faults src.old) (S.faults src.new) result }
+    {
+        if is_peek_event(event) {
+            self.reader.peek(src)
+        } else {
+            show_event(&mut self.reader, src, &self.judge.plain, event, answer)
+        }
+    }
+}
+
+/// Whether a line is PEEK.
+fn is_peek_event(event: &Event) -> bool
+    ensures { result ≡ is_peek_event event.now }
+{
+    match event {
+        Event::Peek { .. } => true,
+        _ => false,
+    }
+}

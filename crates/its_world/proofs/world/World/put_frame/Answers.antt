@@ -1,5 +1,0 @@
-use Rattle.its_world.proofs.WorldLaws.{slot_becomes}
-use Rattle.its_world.proofs.world.World.put_frame.Goals as goal
-
-pub returns : goal.returns
-returns c = slot_becomes c.args.self.now _ c.refile.new.self c.args.slot _ _ c.write_frame.ensures c.refile.ensures
